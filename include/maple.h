@@ -9,8 +9,8 @@
  * What the contracts of crates/mt_c promise holds of each call that keeps these few things, which nothing checks:
  *   - a struct maple_tree is zeroed before its first call (= {0}), and then read and written by these calls alone: not copied, not
  *     changed;
- *   - a tree stays in the thread that opened it: that it may go to another is not proved. Trees share nothing, so threads may each
- *     have their own;
+ *   - one call at a time works on a tree: it may go from thread to thread, handed over by a lock, a join or the start of a thread. Trees
+ *     share nothing, so calls on different trees may run at the same time;
  *   - pointers are not null, are valid for what their type says, and are of different objects;
  *   - no call is made from a signal handler, or in a child that was forked from a process with threads;
  *   - malloc, realloc and free are of one allocator, and align a block to each power of two up to 16 that divides its size.

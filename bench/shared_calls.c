@@ -1,0 +1,277 @@
+/* Every call of include/maple_shared.h against a sorted array that this program keeps by itself: shared_calls STEPS SEED.
+ * One thread has all users of a tree, and takes one after another at random, so that each answer can be told beforehand: what is told
+ * of the history too. It says what differed first and exits with 1, or prints how many answers it compared.
+ * bench/shared_threads.c has the same calls in threads. */
+#include "c_array.h"
+#include "maple_shared.h"
+
+#define USERS 4 /* places; the last is taken and left again and again */
+
+static uint64_t made; /* calls so far */
+static struct maple_user users[USERS];
+
+static struct maple_user *any(void) { return users + draw(USERS - 1); }
+
+/* ---- comparing */
+
+static void same_read(uint32_t status, const struct maple_read *got, const struct maple_range *want, int line) {
+    struct maple_range range = {got->first, got->last, got->entry};
+    same_found(status, &range, want, line);
+    answers++;
+    if (got->lo != made || got->hi != made) fail("the window of a read", line);
+}
+
+/* A call that was made tells its number, a word and a range. */
+static void same_done(const struct maple_done *got, uint64_t word, const struct maple_range *was, int line) {
+    struct maple_range range = {got->first, got->last, got->entry};
+    answers += 2;
+    if (got->call != ++made) fail("the number of a call", line);
+    if (got->word != word) fail("the word of a call", line);
+    same_range(&range, was ? was : &none, line);
+}
+
+/* Where none was made it tells zeros. */
+static void none_done(const struct maple_done *got, int line) {
+    answers++;
+    if (got->call | got->word | got->first | got->last | got->entry) fail("what is told of no call", line);
+}
+
+static void none_read(const struct maple_read *got, int line) {
+    answers++;
+    if (got->lo | got->hi | got->first | got->last | got->entry) fail("what is told of no read", line);
+}
+
+/* ---- reads and walks */
+
+static void ask(struct maple_user *u) {
+    uint64_t index = draw(SPAN + 9), other = draw(SPAN + 9);
+    struct maple_read got;
+    uint32_t status = maple_shared_load(u, index, &got);
+    same_read(status, &got, load(index), __LINE__);
+    status = maple_shared_find(u, index, other, &got);
+    same_read(status, &got, find(index, other), __LINE__);
+    status = maple_shared_next(u, index, other, &got);
+    same_read(status, &got, next(index, other), __LINE__);
+    status = maple_shared_rfind(u, index, other, &got);
+    same_read(status, &got, rfind(index, other), __LINE__);
+    status = maple_shared_prev(u, index, other, &got);
+    same_read(status, &got, prev(index, other), __LINE__);
+}
+
+/* Two walks of one user, of which the other goes on now and then, with a query of the user and a store of another between. */
+static void walks(struct maple_user *u) {
+    struct maple_walk walk = {.next = draw(SPAN)}, other = {0}, kept;
+    struct maple_read got;
+    struct maple_done done;
+    size_t at = from(walk.next), behind = 0;
+    for (; at < count; at++) {
+        uint32_t status = maple_shared_step(u, &walk, &got);
+        same_read(status, &got, list + at, __LINE__);
+        if (draw(30) == 0) {
+            status = maple_shared_step(u, &other, &got);
+            same_read(status, &got, behind < count ? list + behind : 0, __LINE__);
+            behind++;
+        }
+        if (draw(30) == 0) {
+            SAME("a store between", maple_try_store(any(), list[at].first, list[at].last, list[at].entry, &done), 0);
+            same_done(&done, list[at].entry, 0, __LINE__);
+        }
+        if (draw(30) == 0) SAME("a query between", maple_shared_load(u, list[at].first, &got), 0);
+    }
+    same_read(maple_shared_step(u, &walk, &got), &got, 0, __LINE__);
+    SAME("it has ended", walk.ended, 1);
+    kept = walk;
+    same_read(maple_shared_step(u, &walk, &got), &got, 0, __LINE__);
+    SAME("it stays so", memcmp(&kept, &walk, sizeof walk), 0);
+    walk = (struct maple_walk){.next = UINT64_MAX};
+    same_read(maple_shared_step(u, &walk, &got), &got, 0, __LINE__);
+}
+
+/* ---- calls, of which half are those that would wait */
+
+#define EITHER(name, ...) (draw(2) ? maple_try_##name(__VA_ARGS__) : maple_shared_##name(__VA_ARGS__))
+
+static void store(struct maple_user *u, uint64_t first, uint64_t last, uint64_t entry) {
+    int bad = first > last || is_reserved(entry);
+    struct maple_done done;
+    uint32_t status = draw(2) ? EITHER(store, u, first, last, entry, &done) : EITHER(store_pre, u, first, last, entry, &done);
+    SAME("a store", status, bad ? EINVAL : 0);
+    same_done(&done, bad ? 0 : over(first, last, entry), 0, __LINE__);
+}
+
+static void insert(struct maple_user *u, uint64_t first, uint64_t last, uint64_t entry) {
+    int bad = first > last || is_reserved(entry) || entry == 0;
+    struct maple_done done;
+    uint32_t status = EITHER(insert, u, first, last, entry, &done);
+    SAME("an insert", status, bad ? EINVAL : held(first, last) ? EEXIST : 0);
+    same_done(&done, 0, 0, __LINE__);
+    if (!status) over(first, last, entry);
+}
+
+static void erase(struct maple_user *u, uint64_t index) {
+    const struct maple_range *was = load(index);
+    struct maple_done done;
+    SAME("an erase", EITHER(erase, u, index, &done), was ? 0 : ENOENT);
+    same_done(&done, 0, was, __LINE__);
+    if (was) drop(was - list);
+}
+
+static void find_room(struct maple_user *u, int rooms, uint64_t entry) {
+    uint64_t size = 1 + draw(9), min = draw(SPAN), max = min + draw(200), start = 0;
+    int high = draw(2), stores = draw(2), bad = !rooms || max - min < size - 1 || (stores && (entry == 0 || is_reserved(entry)));
+    uint32_t want = bad ? EINVAL : room(size, min, max, high, &start) ? 0 : EBUSY, status;
+    struct maple_done done;
+    if (stores)
+        status = high ? EITHER(ralloc, u, size, min, max, entry, &done) : EITHER(alloc, u, size, min, max, entry, &done);
+    else
+        status = high ? EITHER(rgap, u, size, min, max, &done) : EITHER(gap, u, size, min, max, &done);
+    SAME("room", status, want);
+    same_done(&done, status ? 0 : start, 0, __LINE__);
+    if (!status && stores) over(start, start + size - 1, entry);
+}
+
+static void act(struct maple_user *u, uint32_t kind) {
+    uint64_t first = draw(SPAN), last = first + draw(12), entry = draw(5) ? draw(9000) : 0;
+    if (draw(60) == 0) { uint64_t x = first; first = last + 1; last = x; }
+    switch (draw(8)) {
+    case 0: case 1: case 2: store(u, first, last, entry); break;
+    case 3: insert(u, first, last, entry); break;
+    case 4: case 5: erase(u, first); break;
+    default: find_room(u, kind % 2, entry);
+    }
+}
+
+/* ---- users */
+
+/* What each has seen can be learnt, and no more; and they meet. */
+static void meet(void) {
+    uint64_t calls = 7, places = 7;
+    for (int i = 0; i < USERS - 1; i++) {
+        if (draw(2)) SAME("all is learnt", maple_learn(users + i, made), 0);
+        SAME("no more", maple_learn(users + i, made + 1), EAGAIN);
+        SAME("in step", maple_sync(users + i, &calls), 0);
+        SAME("so many calls", calls, made);
+    }
+    SAME("settled", maple_settle(any(), &calls, &places), 0);
+    SAME("so many calls", calls, made);
+    SAME("one free place", places, 1);
+}
+
+/* One more user comes to the last place, and goes. */
+static void come_and_go(void) {
+    struct maple_user *last = users + USERS - 1, more = {0};
+    struct maple_walk walk = {0};
+    struct maple_read got;
+    uint64_t calls = 7, places = 7;
+    SAME("comes", maple_share(any(), last), 0);
+    SAME("is there", maple_share(any(), last), EBUSY);
+    SAME("no more places", maple_share(any(), &more), EUSERS);
+    SAME("is none", maple_shared_load(&more, 1, &got), EINVAL); none_read(&got, __LINE__);
+    SAME("settled", maple_settle(last, &calls, &places), 0);
+    SAME("so many calls", calls, made);
+    SAME("no free place", places, 0);
+    same_read(maple_shared_step(last, &walk, &got), &got, count ? list : 0, __LINE__);
+    SAME("goes", maple_leave(last), 0);
+    SAME("has gone", maple_leave(last), EINVAL);
+}
+
+static void closed(struct maple_user *u) {
+    struct maple_read r = {7, 7, 7, 7, 7};
+    struct maple_done d = {7, 7, 7, 7, 7};
+    struct maple_user other = {0};
+    struct maple_walk walk = {5, 0};
+    uint64_t calls = 7, places = 7;
+#define CLOSED(made_by) SAME("closed", made_by, EINVAL)
+#define NO_READ(made_by) CLOSED(made_by); none_read(&r, __LINE__); r.hi = 7
+#define NO_CALL(made_by) CLOSED(made_by); none_done(&d, __LINE__); d.call = 7
+    NO_READ(maple_shared_load(u, 1, &r)); NO_READ(maple_shared_find(u, 1, 9, &r)); NO_READ(maple_shared_next(u, 1, 9, &r));
+    NO_READ(maple_shared_prev(u, 1, 0, &r)); NO_READ(maple_shared_rfind(u, 1, 0, &r)); NO_READ(maple_shared_step(u, &walk, &r));
+    SAME("the walk as it was", walk.next, 5); SAME("not ended", walk.ended, 0);
+    NO_CALL(maple_try_store(u, 1, 2, 3, &d)); NO_CALL(maple_try_store_pre(u, 1, 2, 3, &d)); NO_CALL(maple_try_insert(u, 1, 2, 3, &d));
+    NO_CALL(maple_try_erase(u, 1, &d)); NO_CALL(maple_try_alloc(u, 1, 0, 9, 4, &d)); NO_CALL(maple_try_ralloc(u, 1, 0, 9, 4, &d));
+    NO_CALL(maple_try_gap(u, 1, 0, 9, &d)); NO_CALL(maple_try_rgap(u, 1, 0, 9, &d)); NO_CALL(maple_try_clear(u, &d));
+    NO_CALL(maple_shared_store(u, 1, 2, 3, &d)); NO_CALL(maple_shared_clear(u, &d));
+    CLOSED(maple_share(u, &other)); CLOSED(maple_leave(&other)); CLOSED(maple_leave(u)); CLOSED(maple_learn(u, 0));
+    CLOSED(maple_sync(u, &calls)); SAME("no calls", calls, 0); calls = 7;
+    CLOSED(maple_settle(u, &calls, &places)); SAME("no calls", calls, 0); SAME("no places", places, 0);
+    maple_shared_close(u);
+}
+
+static void opens(void) {
+    struct maple_user u = {0}, other = {0};
+    struct maple_read read;
+    struct maple_done done;
+    uint64_t calls;
+    closed(&u);
+    SAME("no kind", maple_shared_open(&u, 4, 100, 1, 9), EINVAL); closed(&u);
+    SAME("too few rows", maple_shared_open(&u, MAPLE_RANGE, 3, 1, 9), EINVAL);
+    SAME("too many", maple_shared_open(&u, MAPLE_RANGE, MAPLE_MOST_ROWS + 1, 1, 9), EINVAL);
+    SAME("no users", maple_shared_open(&u, MAPLE_RANGE, 100, 0, 9), EINVAL);
+    SAME("too many", maple_shared_open(&u, MAPLE_RANGE, 100, MAPLE_MOST_USERS + 1, 9), EINVAL);
+    SAME("no calls", maple_shared_open(&u, MAPLE_RANGE, 100, 1, 0), EINVAL);
+    SAME("too many", maple_shared_open(&u, MAPLE_RANGE, 100, 1, MAPLE_MOST_CALLS + 1), EINVAL); closed(&u);
+    SAME("open", maple_shared_open(&u, MAPLE_RANGE32, 100, MAPLE_MOST_USERS, 4), 0);
+    SAME("open twice", maple_shared_open(&u, MAPLE_RANGE, 100, 1, 9), EBUSY);
+    SAME("another", maple_share(&u, &other), 0);
+    /* indexes of 32 bits, and four calls in all */
+    SAME("above 32 bits", maple_try_store(&u, 0, (uint64_t)UINT32_MAX + 1, 4, &done), EINVAL); SAME("a call", done.call, 1);
+    SAME("to the top", maple_try_store(&u, 7, UINT32_MAX, 4, &done), 0); SAME("a call", done.call, 2);
+    SAME("learnt", maple_learn(&other, done.call), 0);
+    SAME("at the top", maple_shared_load(&other, UINT32_MAX, &read), 0); SAME("its last", read.last, UINT32_MAX);
+    SAME("none", maple_try_erase(&other, 6, &done), ENOENT); SAME("a call", done.call, 3);
+    SAME("clear", maple_try_clear(&u, &done), 0); SAME("a call", done.call, 4);
+    SAME("worn", maple_shared_store(&other, 1, 1, 4, &done), EOVERFLOW); none_done(&done, __LINE__);
+    SAME("none left", maple_shared_next(&other, 0, UINT32_MAX, &read), ENOENT); SAME("seen", read.lo, 4);
+    SAME("in step", maple_sync(&u, &calls), 0); SAME("so many", calls, 4);
+    /* the first goes first, and the other has the tree still */
+    maple_shared_close(&u); closed(&u);
+    SAME("still there", maple_shared_load(&other, 7, &read), ENOENT);
+    SAME("the last goes", maple_leave(&other), 0); closed(&other);
+}
+
+/* A walk that is not gone on with holds the rows of its leaf, and so at last all that die: till its user does something else. */
+static void holds(void) {
+    struct maple_user u = {0}, other = {0};
+    struct maple_walk walk = {0};
+    struct maple_read read;
+    struct maple_done done;
+    uint32_t status = 0;
+    uint64_t i;
+    SAME("a small tree", maple_shared_open(&u, MAPLE_RANGE, 12, 2, 1000), 0);
+    SAME("another user", maple_share(&u, &other), 0);
+    for (i = 0; i < 8; i++) SAME("a store", maple_try_store(&u, 10 * i, 10 * i + 4, 8, &done), 0);
+    SAME("a step", maple_shared_step(&other, &walk, &read), 0);
+    for (i = 0; i < 100 && !status; i++) status = maple_try_store_pre(&u, 10 * (i % 8) + 1, 10 * (i % 8) + 2, 4 * (i % 2) + 8, &done);
+    SAME("too few rows", status, ENOMEM);
+    SAME("a call all the same", done.call, 8 + i);
+    SAME("something else", maple_shared_load(&other, 1, &read), 0);
+    SAME("rows again", maple_try_store_pre(&u, 1, 2, 4, &done), 0);
+    maple_shared_close(&other);
+    maple_shared_close(&u);
+}
+
+int main(int argc, char **argv) {
+    uint64_t steps = argc > 1 ? strtoull(argv[1], 0, 10) : 20000;
+    state = argc > 2 ? strtoull(argv[2], 0, 10) : 1;
+    opens();
+    holds();
+    for (uint32_t kind = 0; kind < 4; kind++) {
+        struct maple_done done;
+        count = made = 0;
+        SAME("open", maple_shared_open(users, kind, 4096, USERS, MAPLE_MOST_CALLS), 0);
+        for (int i = 1; i < USERS - 1; i++) SAME("another user", maple_share(users + draw(i), users + i), 0);
+        for (uint64_t step = 0; step < steps; step++) {
+            act(any(), kind);
+            if (step % 4 == 0) ask(any());
+            if (step % 100 == 99) meet();
+            if (step % 300 == 299) come_and_go();
+            if (step % 1000 == 999) walks(any());
+        }
+        SAME("clear", EITHER(clear, any(), &done), 0); same_done(&done, 0, 0, __LINE__);
+        count = 0;
+        walks(any());
+        for (int i = 0; i < USERS - 1; i++) { maple_shared_close(users + i); closed(users + i); }
+    }
+    printf("%" PRIu64 " answers are those of a sorted array\n", answers);
+    return 0;
+}

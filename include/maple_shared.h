@@ -1,0 +1,163 @@
+/* Maple trees that threads share, for C programs: proved as the calls of maple.h are, and linked with the same two archives.
+ *
+ * Each thread has a user of the tree, and calls on different users may run at the same time. A tree has one history of calls, numbered
+ * from 1, in which each call of each user stands once. A user has seen a beginning of it, which only grows.
+ *   - A read takes no lock and waits for nobody. What it tells is true of the tree after some number of calls from lo to hi, which is no
+ *     less than its user had seen before.
+ *   - A call is made under the tree's lock: maple_try_store, .. make it where the lock is free, and else answer EAGAIN and change
+ *     nothing. maple_shared_store, .. are the same words, and yield the processor and try again.
+ *
+ * Who owns what. A user owns a share of its tree: maple_shared_open makes a tree and its first user, maple_share another. Who has opened
+ * a user owes it a maple_leave that answers 0, or a maple_shared_close. No user owns another: they are closed in any order and in any
+ * thread, and with the last one the tree's memory is given back.
+ *
+ * Memory. maple_shared_open takes that of the whole tree, once for all calls; maple_share takes that of a user, and maple_leave may take
+ * some. No other call takes any.
+ *
+ * What a program keeps, which nothing checks, beside what maple.h says of pointers, signals, forks and malloc:
+ *   - a struct maple_user is zeroed before its first call (= {0}), and then read and written by these calls alone: not copied, not
+ *     changed;
+ *   - one call at a time works on a user. It may go from thread to thread, handed over by a lock, a join or the start of a thread: what
+ *     the one did stands before what the other does;
+ *   - no thread is cancelled, ends or jumps away while it is in a call: it could keep the lock for good.
+ *
+ * What is not promised: that a try ever gets the lock, and so how long a maple_shared_store waits; how often a next, prev or rfind is
+ * given up before it is answered; that memory does not run out where a call takes some.
+ *
+ * Every call answers a number of errno.h, and 0 where it was done; EINVAL too where the user is closed, which stays closed. What it
+ * tells beside goes to its last pointers, which it always writes: zeros where there is nothing to tell.
+ */
+#ifndef MAPLE_SHARED_H
+#define MAPLE_SHARED_H
+
+#include "maple.h"
+#include <errno.h>
+#include <sched.h>
+
+#ifdef __cplusplus
+extern "C" {
+#endif
+
+/* A user of a shared tree. Zeroed it is closed. */
+struct maple_user {
+    void *at;
+    uint64_t open;
+};
+
+/* A read: after some number of calls from lo to hi the tree had this range. Where it had none, the last three are zeros. */
+struct maple_read {
+    uint64_t lo, hi, first, last, entry;
+};
+
+/* A call: its number in the tree's history, which it has also where it was refused, and what it was answered: in word the entry that a
+ * store met, or the start of an allocation or a gap; in the other three the range that was erased. Zeros where no call was made. */
+struct maple_done {
+    uint64_t call, word, first, last, entry;
+};
+
+/* A shared tree has so many users at a time, and so many calls in its life, at the most. It has 4 rows at the least. */
+#define MAPLE_MOST_USERS 62
+#define MAPLE_MOST_CALLS ((UINT64_C(1) << 62) - 1)
+
+/* ---- users that come and go */
+
+/* Opens an empty tree of a kind, in so many rows, for so many users at a time and so many calls, and its first user.
+ * 0; EBUSY: the user is open, and stays as it was; EINVAL: no such kind, rows, users or calls; ENOMEM. */
+uint32_t maple_shared_open(struct maple_user *user, uint32_t kind, uint64_t rows, uint32_t users, uint64_t calls);
+
+/* Opens another user of the same tree, at a place that none has. Any user may, and stays as it was.
+ * 0; EBUSY: the other is open; EUSERS: no place is free; EAGAIN: another user is just at the places, try again; EINVAL: the user is
+ * closed; ENOMEM. The other stays as it was but for 0. */
+uint32_t maple_share(struct maple_user *user, struct maple_user *other);
+
+/* Closes a user, and frees its place for another.
+ * 0; EAGAIN: another user is just at the places, try again; ENOMEM; EINVAL: it is closed already. It stays open but for 0. */
+uint32_t maple_leave(struct maple_user *user);
+
+/* Closes a user at once, whose place is then lost to others. A closed one stays closed. */
+void maple_shared_close(struct maple_user *user);
+
+/* ---- reads. None takes the lock, or memory. ENOENT: there is no such range. */
+
+/* The range that holds index. */
+uint32_t maple_shared_load(struct maple_user *user, uint64_t index, struct maple_read *read);
+
+/* The first range that ends at index or above and begins at max or below. */
+uint32_t maple_shared_find(struct maple_user *user, uint64_t index, uint64_t max, struct maple_read *read);
+
+/* The first range that begins above index, and at max or below; the last that ends below index, and at min or above; the last that
+ * begins at index or below and ends at min or above. EAGAIN: the leaf of index was replaced meanwhile and the read given up: lo calls
+ * had ended before it, and hi, which is more, have begun. Try again. */
+uint32_t maple_shared_next(struct maple_user *user, uint64_t index, uint64_t max, struct maple_read *read);
+uint32_t maple_shared_prev(struct maple_user *user, uint64_t index, uint64_t min, struct maple_read *read);
+uint32_t maple_shared_rfind(struct maple_user *user, uint64_t index, uint64_t min, struct maple_read *read);
+
+/* The next range of a walk, which goes on behind it: a find from where the walk stands. Any words are a walk, as in maple.h, and each
+ * step is a read with a window of its own. The user keeps the leaf that its last step was in until it is asked anything else, steps
+ * another walk, or the walk ends: till then the rows that die are not free for calls. So end a walk, or go on with something else. */
+uint32_t maple_shared_step(struct maple_user *user, struct maple_walk *walk, struct maple_read *read);
+
+/* ---- calls, as maple_store, .. of maple.h. None takes memory.
+ *
+ * EEXIST, ENOENT, EBUSY: as there. EINVAL: the call means nothing, as there, and has a number all the same; or the user is closed, and no
+ * call was made. EAGAIN: another user has the lock, and no call was made. EOVERFLOW: the tree had all its calls, and no call was made.
+ * ENOMEM: too few rows are free, as those are not in which a read of another user may still be. Where a call answers anything but 0,
+ * no index holds another entry than before. */
+uint32_t maple_try_store(struct maple_user *user, uint64_t first, uint64_t last, uint64_t entry, struct maple_done *done);
+uint32_t maple_try_store_pre(struct maple_user *user, uint64_t first, uint64_t last, uint64_t entry, struct maple_done *done);
+uint32_t maple_try_insert(struct maple_user *user, uint64_t first, uint64_t last, uint64_t entry, struct maple_done *done);
+uint32_t maple_try_erase(struct maple_user *user, uint64_t index, struct maple_done *done);
+uint32_t maple_try_alloc(struct maple_user *user, uint64_t size, uint64_t min, uint64_t max, uint64_t entry, struct maple_done *done);
+uint32_t maple_try_ralloc(struct maple_user *user, uint64_t size, uint64_t min, uint64_t max, uint64_t entry, struct maple_done *done);
+uint32_t maple_try_gap(struct maple_user *user, uint64_t size, uint64_t min, uint64_t max, struct maple_done *done);
+uint32_t maple_try_rgap(struct maple_user *user, uint64_t size, uint64_t min, uint64_t max, struct maple_done *done);
+uint32_t maple_try_clear(struct maple_user *user, struct maple_done *done);
+
+/* ---- what a user has seen */
+
+/* The user has then seen the first so many calls at least: its reads are of no earlier moment. Takes no lock. What another user has seen
+ * is told by hi of its last read, or call of its last done: handed over, such a number is what this user is to learn.
+ * 0; EAGAIN: it does not see so many yet, as while a call that has begun has not ended. */
+uint32_t maple_learn(struct maple_user *user, uint64_t calls);
+
+/* The user has then seen the whole history, of so many calls: those of whom this tells the same number have seen the same history.
+ * 0; EAGAIN: another user has the lock. */
+uint32_t maple_sync(struct maple_user *user, uint64_t *calls);
+
+/* The same of the user and of all places that no user has: so many besides have then seen one history, of so many calls. Where they
+ * are all others that the tree was opened for, each call is of one of them.
+ * 0; EAGAIN: another user has the lock, or is just at the places. */
+uint32_t maple_settle(struct maple_user *user, uint64_t *calls, uint64_t *places);
+
+/* ---- calls that wait: as maple_try_store, .., yielding the processor and trying again while another user has the lock. */
+
+#define MAPLE_WAITS(name, params, args)                                                       \
+    static inline uint32_t maple_shared_##name params                                         \
+    {                                                                                         \
+        uint32_t status = maple_try_##name args;                                              \
+        while (status == EAGAIN) {                                                            \
+            sched_yield();                                                                    \
+            status = maple_try_##name args;                                                   \
+        }                                                                                     \
+        return status;                                                                        \
+    }
+#define MAPLE_AT struct maple_user *user, uint64_t first, uint64_t last, uint64_t entry
+#define MAPLE_IN struct maple_user *user, uint64_t size, uint64_t min, uint64_t max
+MAPLE_WAITS(store, (MAPLE_AT, struct maple_done *done), (user, first, last, entry, done))
+MAPLE_WAITS(store_pre, (MAPLE_AT, struct maple_done *done), (user, first, last, entry, done))
+MAPLE_WAITS(insert, (MAPLE_AT, struct maple_done *done), (user, first, last, entry, done))
+MAPLE_WAITS(erase, (struct maple_user *user, uint64_t index, struct maple_done *done), (user, index, done))
+MAPLE_WAITS(alloc, (MAPLE_IN, uint64_t entry, struct maple_done *done), (user, size, min, max, entry, done))
+MAPLE_WAITS(ralloc, (MAPLE_IN, uint64_t entry, struct maple_done *done), (user, size, min, max, entry, done))
+MAPLE_WAITS(gap, (MAPLE_IN, struct maple_done *done), (user, size, min, max, done))
+MAPLE_WAITS(rgap, (MAPLE_IN, struct maple_done *done), (user, size, min, max, done))
+MAPLE_WAITS(clear, (struct maple_user *user, struct maple_done *done), (user, done))
+#undef MAPLE_WAITS
+#undef MAPLE_AT
+#undef MAPLE_IN
+
+#ifdef __cplusplus
+}
+#endif
+
+#endif
