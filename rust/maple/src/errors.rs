@@ -5,6 +5,7 @@ use std::fmt::{Display, Formatter, Result};
 
 pub(crate) const ENOENT: u32 = 2;
 pub(crate) const E2BIG: u32 = 7;
+pub(crate) const EAGAIN: u32 = 11;
 pub(crate) const ENOMEM: u32 = 12;
 pub(crate) const EBUSY: u32 = 16;
 pub(crate) const EEXIST: u32 = 17;
@@ -12,6 +13,7 @@ pub(crate) const EINVAL: u32 = 22;
 pub(crate) const EDOM: u32 = 33;
 pub(crate) const ERANGE: u32 = 34;
 pub(crate) const EBADMSG: u32 = 74;
+pub(crate) const EUSERS: u32 = 87;
 
 /// Why a call was not done. Nothing was changed.
 #[derive(Clone, Copy, Debug, PartialEq, Eq)]
@@ -28,6 +30,8 @@ pub enum Error {
     NoRoom,
     /// The tree had all its calls, 2^62 - 1.
     Worn,
+    /// Another thread had the lock of the shared tree, and the call was to try once.
+    Locked,
 }
 
 impl Display for Error {
@@ -38,6 +42,7 @@ impl Display for Error {
             Error::Exists => "some index is held already",
             Error::NoRoom => "no hole has room",
             Error::Worn => "the tree had all its calls",
+            Error::Locked => "another thread had the lock",
         })
     }
 }
@@ -52,30 +57,37 @@ pub(crate) fn done(status: u32) -> std::result::Result<(), Error> {
         EBUSY => Err(Error::NoRoom),
         EEXIST => Err(Error::Exists),
         EINVAL => Err(Error::Invalid),
+        EAGAIN => Err(Error::Locked),
         _ => Err(Error::Worn),
     }
 }
 
-/// Why no tree was made.
+/// Why no tree was made, or no reader or writer of one.
 #[derive(Clone, Copy, Debug, PartialEq, Eq)]
 pub enum OpenError {
     /// There are more rows than a tree may have, or fewer than this one needs.
     Rows,
+    /// A shared tree has 61 readers and writers at a time at the most.
+    Users,
     /// There is no memory.
     NoMemory,
     /// The bytes are no image.
     NoImage,
     /// The range of this number, from 0, is none of the tree's kind, or does not stand above the one before it.
     Range(usize),
+    /// The shared tree has as many readers and writers as it was made for.
+    NoPlace,
 }
 
 impl Display for OpenError {
     fn fmt(&self, f: &mut Formatter<'_>) -> Result {
         match self {
             OpenError::Rows => f.write_str("a tree has no such number of rows"),
+            OpenError::Users => f.write_str("a shared tree has 61 readers and writers at the most"),
             OpenError::NoMemory => f.write_str("there is no memory"),
             OpenError::NoImage => f.write_str("the bytes are no image"),
             OpenError::Range(number) => write!(f, "range {number} is none, or does not stand above the one before it"),
+            OpenError::NoPlace => f.write_str("the shared tree has all its readers and writers"),
         }
     }
 }
@@ -88,6 +100,7 @@ pub(crate) fn opened(status: u32) -> std::result::Result<(), OpenError> {
         0 => Ok(()),
         EINVAL | EDOM => Err(OpenError::Rows),
         EBADMSG => Err(OpenError::NoImage),
+        EUSERS => Err(OpenError::NoPlace),
         _ => Err(OpenError::NoMemory),
     }
 }

@@ -1,7 +1,7 @@
-//! Maps of ranges on the proved maple tree: `include/maple.h` in safe Rust.
+//! Maps of ranges on the proved maple tree: `include/maple.h` and `include/maple_shared.h` in safe Rust.
 //!
-//! A map has disjoint ranges of indexes, of 64 or of 32 bits, each with an entry that is not 0. A [`Tree`] is a map of one
-//! thread.
+//! A map has disjoint ranges of indexes, of 64 or of 32 bits, each with an entry that is not 0. [`Tree`] is a map of one
+//! thread, [`Shared`] one that threads share, whose readers take no lock.
 //!
 //! ```
 //! use maple::{Kind, Range, Tree};
@@ -24,10 +24,12 @@
 mod errors;
 mod logs;
 mod raw;
+mod shared;
 mod tree;
 
 pub use errors::{CheckError, Error, LogError, OpenError};
 pub use logs::{replay, verify};
+pub use shared::{Lock, Reader, Shared, Steps, Writer};
 pub use tree::{Ranges, Tree};
 
 use std::num::NonZeroU64;

@@ -1,4 +1,4 @@
-//! The calls of include/maple.h.
+//! The calls of include/maple.h and of include/maple_shared.h.
 
 use crate::Range;
 use std::ffi::c_void;
@@ -11,8 +11,25 @@ pub struct RawTree {
     open: u64,
 }
 
+// SAFETY: nothing behind the handle is a thread's own: that what it keeps is `Send` is proved (`Kept` in crates/mt_c).
+unsafe impl Send for RawTree {}
+
 impl RawTree {
     pub const CLOSED: RawTree = RawTree { at: std::ptr::null_mut(), open: 0 };
+}
+
+/// `struct maple_user`. Zeroed it is closed.
+#[repr(C)]
+pub struct RawUser {
+    at: *mut c_void,
+    open: u64,
+}
+
+// SAFETY: as of a `RawTree` (`KeptUser` in crates/mt_c).
+unsafe impl Send for RawUser {}
+
+impl RawUser {
+    pub const CLOSED: RawUser = RawUser { at: std::ptr::null_mut(), open: 0 };
 }
 
 /// `struct maple_range`, or three zeros.
@@ -49,7 +66,26 @@ pub struct RawForm {
     pub ranges: u64,
 }
 
+/// `struct maple_read`.
+#[repr(C)]
+#[derive(Clone, Copy, Default)]
+pub struct RawRead {
+    pub lo: u64,
+    pub hi: u64,
+    pub found: RawRange,
+}
+
+/// `struct maple_done`.
+#[repr(C)]
+#[derive(Clone, Copy, Default)]
+pub struct RawDone {
+    pub call: u64,
+    pub word: u64,
+    pub was: RawRange,
+}
+
 type Tree = *mut RawTree;
+type User = *mut RawUser;
 type Bytes = *const u8;
 
 extern "C" {
@@ -89,4 +125,26 @@ extern "C" {
         calls: *mut u64,
         reads: *mut u64,
     ) -> u32;
+
+    pub fn maple_shared_open(user: User, kind: u32, rows: u64, users: u32, calls: u64) -> u32;
+    pub fn maple_share(user: User, other: User) -> u32;
+    pub fn maple_leave(user: User) -> u32;
+    pub fn maple_shared_close(user: User);
+    pub fn maple_shared_load(user: User, index: u64, read: *mut RawRead) -> u32;
+    pub fn maple_shared_find(user: User, index: u64, max: u64, read: *mut RawRead) -> u32;
+    pub fn maple_shared_next(user: User, index: u64, max: u64, read: *mut RawRead) -> u32;
+    pub fn maple_shared_prev(user: User, index: u64, min: u64, read: *mut RawRead) -> u32;
+    pub fn maple_shared_rfind(user: User, index: u64, min: u64, read: *mut RawRead) -> u32;
+    pub fn maple_shared_step(user: User, walk: *mut RawWalk, read: *mut RawRead) -> u32;
+    pub fn maple_try_store(user: User, first: u64, last: u64, entry: u64, done: *mut RawDone) -> u32;
+    pub fn maple_try_insert(user: User, first: u64, last: u64, entry: u64, done: *mut RawDone) -> u32;
+    pub fn maple_try_erase(user: User, index: u64, done: *mut RawDone) -> u32;
+    pub fn maple_try_alloc(user: User, size: u64, min: u64, max: u64, entry: u64, done: *mut RawDone) -> u32;
+    pub fn maple_try_ralloc(user: User, size: u64, min: u64, max: u64, entry: u64, done: *mut RawDone) -> u32;
+    pub fn maple_try_gap(user: User, size: u64, min: u64, max: u64, done: *mut RawDone) -> u32;
+    pub fn maple_try_rgap(user: User, size: u64, min: u64, max: u64, done: *mut RawDone) -> u32;
+    pub fn maple_try_clear(user: User, done: *mut RawDone) -> u32;
+    pub fn maple_learn(user: User, calls: u64) -> u32;
+    pub fn maple_sync(user: User, calls: *mut u64) -> u32;
+    pub fn maple_settle(user: User, calls: *mut u64, places: *mut u64) -> u32;
 }

@@ -9,11 +9,17 @@ use std::iter::FusedIterator;
 use std::num::NonZeroU64;
 use std::ops::RangeInclusive;
 
-/// A map of ranges, in rows whose memory is taken once: no call takes any. It stays in the thread that made it.
+/// A map of ranges, in rows whose memory is taken once: no call takes any. It may go to another thread, and one at a time
+/// uses it.
 ///
-/// ```compile_fail
+/// ```
 /// fn may_go<T: Send>() {}
 /// may_go::<maple::Tree>();
+/// ```
+///
+/// ```compile_fail
+/// fn may_be_shared<T: Sync>() {}
+/// may_be_shared::<maple::Tree>();
 /// ```
 pub struct Tree {
     raw: RefCell<RawTree>,

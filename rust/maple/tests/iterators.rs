@@ -1,6 +1,6 @@
 //! What iterators give, from either end, on trees of each kind.
 
-use maple::{Kind, Range, Tree};
+use maple::{Kind, Lock, Range, Reader, Shared, Tree};
 use std::num::NonZeroU64;
 
 const KINDS: [Kind; 4] = [Kind::Range, Kind::Alloc, Kind::Range32, Kind::Alloc32];
@@ -72,4 +72,47 @@ fn copies_and_images_have_the_same_ranges() {
         assert_eq!(read.erase(7), Ok(Some(ranges[1])));
         assert!(tree.iter().eq(ranges.iter().copied()));
     }
+}
+
+#[test]
+fn a_shared_tree_is_read_as_it_was_written() {
+    for kind in KINDS {
+        let ranges = ranges_of(kind);
+        let shared = Shared::new(kind, 5000, 2).unwrap();
+        let mut writer = shared.writer(Lock::Waits).unwrap();
+        let mut reader = shared.reader().unwrap();
+        drop(shared);
+        ranges.iter().for_each(|range| writer.insert(range.indexes(), range.entry).unwrap());
+        assert!(reader.learn(writer.number()));
+        assert!(reader.iter().eq(ranges.iter().copied()));
+        assert_eq!(reader.window(), 2001..=2001);
+        assert!(reader.iter().rev().eq(ranges.iter().rev().copied()));
+        assert!(reader.range(100..=9000).rev().eq(ranges
+            .iter()
+            .rev()
+            .copied()
+            .filter(|r| r.first <= 9000 && r.last >= 100)));
+        assert!(meets_in_the_middle(&mut reader, &ranges));
+        assert_eq!(reader.range(100..=9000).count(), tree_count(&ranges, 100, 9000));
+        assert_eq!(reader.last_in(0..=6), Some(ranges[0]));
+        assert_eq!(reader.prev_in(0..=7), Some(ranges[0]));
+        assert_eq!(reader.next_in(0..=u64::MAX), Some(ranges[1]));
+        assert_eq!(writer.reader().first_in(5..=u64::MAX), Some(ranges[1]));
+    }
+}
+
+fn tree_count(ranges: &[Range], from: u64, to: u64) -> usize {
+    ranges.iter().filter(|r| r.first <= to && r.last >= from).count()
+}
+
+/// Steps from either end give each range once.
+fn meets_in_the_middle(reader: &mut Reader, ranges: &[Range]) -> bool {
+    let mut steps = reader.iter();
+    let (mut low, mut high) = (Vec::new(), Vec::new());
+    while let Some(range) = steps.next() {
+        low.push(range);
+        high.extend(steps.next_back());
+    }
+    low.extend(high.into_iter().rev());
+    low == ranges
 }

@@ -1,6 +1,6 @@
 //! What each refusal is, and what it leaves.
 
-use maple::{Error, Kind, OpenError, Range, Tree};
+use maple::{Error, Kind, Lock, OpenError, Range, Shared, Tree};
 use std::num::NonZeroU64;
 
 fn entry(value: u64) -> NonZeroU64 {
@@ -39,4 +39,23 @@ fn a_tree_that_cannot_be_made_says_why() {
     assert!(Tree::build(Kind::Range, 100, &ranges[..2]).is_ok());
     assert_eq!(Tree::build(Kind::Range, 70_000, &ranges[..2]).err(), Some(OpenError::Rows));
     assert_eq!(Tree::new(Kind::Range, 100).unwrap().copy(70_000).err(), Some(OpenError::Rows));
+    assert_eq!(Shared::new(Kind::Range, 3, 1).err(), Some(OpenError::Rows));
+    assert_eq!(Shared::new(Kind::Range, 65_505, 1).err(), Some(OpenError::Rows));
+    assert_eq!(Shared::new(Kind::Range, 100, u32::MAX).err(), Some(OpenError::Users));
+}
+
+#[test]
+fn a_writer_is_refused_as_a_tree_is_and_each_call_has_a_number() {
+    let shared = Shared::new(Kind::Alloc, 100, 1).unwrap();
+    let mut writer = shared.writer(Lock::Tries).unwrap();
+    assert_eq!(writer.number(), 0);
+    assert_eq!(writer.insert(10..=19, entry(4)), Ok(()));
+    assert_eq!(writer.insert(19..=30, entry(8)), Err(Error::Exists));
+    assert_eq!(writer.alloc(11, 10..=29, entry(8)), Err(Error::NoRoom));
+    assert_eq!(writer.store(0..=3, Some(entry(2))), Err(Error::Invalid));
+    assert_eq!(writer.erase(9), Ok(None));
+    assert_eq!(writer.number(), 5);
+    assert_eq!(writer.erase(12), Ok(Some(Range { first: 10, last: 19, entry: entry(4) })));
+    assert_eq!(writer.reader().iter().count(), 0);
+    assert_eq!(writer.reader().sync(), 6);
 }

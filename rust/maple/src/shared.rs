@@ -1,0 +1,482 @@
+//! Trees that threads share.
+
+use crate::errors::{done, opened, EAGAIN, ENOENT};
+use crate::raw::{self, RawDone, RawRead, RawUser, RawWalk};
+use crate::{Error, Kind, OpenError, Range};
+use std::fmt;
+use std::iter::FusedIterator;
+use std::num::NonZeroU64;
+use std::ops::RangeInclusive;
+use std::sync::{Mutex, MutexGuard, PoisonError};
+use std::thread;
+
+/// So many calls are made on a tree at the most.
+const MOST_CALLS: u64 = (1 << 62) - 1;
+
+/// So many readers and writers has a tree at a time at the most: one place is the tree's own.
+const MOST_USERS: u32 = 61;
+
+/// A map of ranges that threads share: each has a [`Reader`] or a [`Writer`] of its own. The tree has one history of calls,
+/// numbered from 1, and each of them sees a beginning of it, which only grows. Reads take no lock.
+///
+/// The tree lives until it and all its readers and writers are gone, in any order. The place of one that is gone is free for
+/// another.
+///
+/// ```
+/// use maple::{Kind, Lock, Shared};
+/// use std::num::NonZeroU64;
+///
+/// let shared = Shared::new(Kind::Range, 1000, 2)?;
+/// let mut writer = shared.writer(Lock::Waits)?;
+/// let mut reader = shared.reader()?;
+/// let entry = NonZeroU64::new(8).unwrap();
+/// std::thread::scope(|scope| {
+///     scope.spawn(move || (0..500).for_each(|n| writer.insert(10 * n..=10 * n + 4, entry).unwrap()));
+///     scope.spawn(move || {
+///         let mut before = 0;
+///         while before < 500 {
+///             let now = reader.iter().count();
+///             assert!(now >= before);
+///             before = now;
+///         }
+///     });
+/// });
+/// # Ok::<(), maple::OpenError>(())
+/// ```
+pub struct Shared {
+    /// The first user, which opens all others.
+    first: Mutex<RawUser>,
+}
+
+impl Shared {
+    /// An empty tree in so many rows, 4 to 65,504, for so many readers and writers at a time, 61 at the most.
+    ///
+    /// ```
+    /// use maple::{Kind, OpenError, Shared};
+    /// let shared = Shared::new(Kind::Alloc, 100, 1)?;
+    /// let reader = shared.reader()?;
+    /// assert_eq!(shared.reader().err(), Some(OpenError::NoPlace));
+    /// drop(reader);
+    /// assert!(shared.reader().is_ok());
+    /// assert_eq!(Shared::new(Kind::Alloc, 3, 1).err(), Some(OpenError::Rows));
+    /// assert_eq!(Shared::new(Kind::Alloc, 100, 62).err(), Some(OpenError::Users));
+    /// # Ok::<(), OpenError>(())
+    /// ```
+    pub fn new(kind: Kind, rows: u64, users: u32) -> Result<Shared, OpenError> {
+        if users > MOST_USERS {
+            return Err(OpenError::Users);
+        }
+        let mut first = RawUser::CLOSED;
+        // SAFETY: the user is closed.
+        opened(unsafe { raw::maple_shared_open(&mut first, kind as u32, rows, users + 1, MOST_CALLS) })?;
+        Ok(Shared { first: Mutex::new(first) })
+    }
+
+    /// The first user. What a panic elsewhere left of it is as good as before.
+    fn first(&self) -> MutexGuard<'_, RawUser> {
+        self.first.lock().unwrap_or_else(PoisonError::into_inner)
+    }
+
+    /// A reader, which may go to another thread.
+    pub fn reader(&self) -> Result<Reader, OpenError> {
+        let (mut first, mut user) = (self.first(), RawUser::CLOSED);
+        loop {
+            // SAFETY: the first user is open, the other closed, and nobody else uses them now.
+            match unsafe { raw::maple_share(&mut *first, &mut user) } {
+                EAGAIN => thread::yield_now(),
+                status => return opened(status).map(|()| Reader { user, window: 0..=0 }),
+            }
+        }
+    }
+
+    /// A writer, which may go to another thread, and what its calls do where another thread has the lock.
+    pub fn writer(&self, lock: Lock) -> Result<Writer, OpenError> {
+        Ok(Writer { reader: self.reader()?, lock, number: 0 })
+    }
+
+    /// Sees the whole history, under the lock as soon as that is free, and so do all places that no reader or writer has: so
+    /// many calls, and so many places. Where these are as many as the tree was made for, no reader or writer is left, and
+    /// each call of the history was made by one that is gone.
+    ///
+    /// ```
+    /// use maple::{Kind, Lock, Shared};
+    /// use std::num::NonZeroU64;
+    /// let shared = Shared::new(Kind::Range, 100, 2)?;
+    /// let (mut writer, reader) = (shared.writer(Lock::Waits)?, shared.reader()?);
+    /// writer.store(0..=9, NonZeroU64::new(4)).unwrap();
+    /// drop(writer);
+    /// assert_eq!(shared.settle(), (1, 1));
+    /// drop(reader);
+    /// assert_eq!(shared.settle(), (1, 2));
+    /// # Ok::<(), maple::OpenError>(())
+    /// ```
+    pub fn settle(&self) -> (u64, u64) {
+        let (mut first, mut calls, mut places) = (self.first(), 0, 0);
+        // SAFETY: the user is open, the pointers are of three objects, and nobody else uses them now.
+        while unsafe { raw::maple_settle(&mut *first, &mut calls, &mut places) } == EAGAIN {
+            thread::yield_now();
+        }
+        (calls, places)
+    }
+}
+
+impl Drop for Shared {
+    fn drop(&mut self) {
+        let first = self.first.get_mut().unwrap_or_else(PoisonError::into_inner);
+        // SAFETY: the user is open, and not used after.
+        unsafe { raw::maple_shared_close(first) }
+    }
+}
+
+impl fmt::Debug for Shared {
+    fn fmt(&self, f: &mut fmt::Formatter<'_>) -> fmt::Result {
+        f.debug_struct("Shared").finish_non_exhaustive()
+    }
+}
+
+/// A thread's way to read a shared tree, without the lock. What it reads is of no earlier moment than what it read before.
+///
+/// It may go to another thread; one at a time uses it:
+///
+/// ```
+/// fn may_go<T: Send>() {}
+/// may_go::<(maple::Shared, maple::Reader, maple::Writer)>();
+/// ```
+pub struct Reader {
+    user: RawUser,
+    window: RangeInclusive<u64>,
+}
+
+impl Reader {
+    /// A read, again and again while it is given up as the leaf of its place was replaced.
+    fn ask(&mut self, mut read: impl FnMut(&mut RawUser, &mut RawRead) -> u32) -> Option<Range> {
+        let mut told = RawRead::default();
+        while read(&mut self.user, &mut told) == EAGAIN {
+            thread::yield_now();
+        }
+        self.window = told.lo..=told.hi;
+        told.found.shown()
+    }
+
+    /// The numbers of calls of which the last read may be told: its answer was that of the tree after one of them.
+    pub fn window(&self) -> RangeInclusive<u64> {
+        self.window.clone()
+    }
+
+    /// The range that holds an index.
+    ///
+    /// ```
+    /// use maple::{Kind, Lock, Shared};
+    /// use std::num::NonZeroU64;
+    /// let shared = Shared::new(Kind::Range, 100, 2)?;
+    /// let (mut writer, mut reader) = (shared.writer(Lock::Waits)?, shared.reader()?);
+    /// writer.store(10..=19, NonZeroU64::new(4)).unwrap();
+    /// assert!(reader.learn(writer.number()));
+    /// assert_eq!(reader.load(12).unwrap().indexes(), 10..=19);
+    /// assert_eq!(reader.window(), 1..=1);
+    /// # Ok::<(), maple::OpenError>(())
+    /// ```
+    pub fn load(&mut self, index: u64) -> Option<Range> {
+        // SAFETY: the user is open, and the pointers are of two objects that nobody else uses now.
+        self.ask(|user, read| unsafe { raw::maple_shared_load(user, index, read) })
+    }
+
+    /// The first range that has an index of the window.
+    pub fn first_in(&mut self, window: RangeInclusive<u64>) -> Option<Range> {
+        // SAFETY: as of `load`.
+        self.ask(|user, read| unsafe { raw::maple_shared_find(user, *window.start(), *window.end(), read) })
+    }
+
+    /// The last range that has an index of the window. Where the leaf of its place is replaced meanwhile it reads again, and
+    /// no bound is known of how often; so do `next_in` and `prev_in`.
+    pub fn last_in(&mut self, window: RangeInclusive<u64>) -> Option<Range> {
+        // SAFETY: as of `load`.
+        self.ask(|user, read| unsafe { raw::maple_shared_rfind(user, *window.end(), *window.start(), read) })
+    }
+
+    /// The first range that begins in the window, behind its first index.
+    pub fn next_in(&mut self, window: RangeInclusive<u64>) -> Option<Range> {
+        // SAFETY: as of `load`.
+        self.ask(|user, read| unsafe { raw::maple_shared_next(user, *window.start(), *window.end(), read) })
+    }
+
+    /// The last range that ends in the window, before its last index.
+    pub fn prev_in(&mut self, window: RangeInclusive<u64>) -> Option<Range> {
+        // SAFETY: as of `load`.
+        self.ask(|user, read| unsafe { raw::maple_shared_prev(user, *window.end(), *window.start(), read) })
+    }
+
+    /// The ranges that have an index of the window, in rising order, and from the back in falling order; each is a read of
+    /// its own. A step in rising order keeps its leaf, and rows that die meanwhile are not free for calls before the
+    /// iterator is gone.
+    ///
+    /// ```
+    /// use maple::{Kind, Lock, Shared};
+    /// use std::num::NonZeroU64;
+    /// let shared = Shared::new(Kind::Range, 100, 1)?;
+    /// let mut writer = shared.writer(Lock::Waits)?;
+    /// for first in [0, 10, 20] {
+    ///     writer.store(first..=first + 4, NonZeroU64::new(4 * first + 4)).unwrap();
+    /// }
+    /// let entries: Vec<u64> = writer.reader().range(3..=12).map(|range| range.entry.get()).collect();
+    /// assert_eq!(entries, [4, 44]);
+    /// assert_eq!(writer.reader().range(0..=99).next_back().unwrap().first, 20);
+    /// # Ok::<(), maple::OpenError>(())
+    /// ```
+    pub fn range(&mut self, window: RangeInclusive<u64>) -> Steps<'_> {
+        let walk = RawWalk { next: *window.start(), ended: 0 };
+        Steps { reader: self, walk, end: *window.end(), is_done: window.is_empty() }
+    }
+
+    /// All ranges, in rising order.
+    pub fn iter(&mut self) -> Steps<'_> {
+        self.range(0..=u64::MAX)
+    }
+
+    /// Whether it has seen the first so many calls now: what it reads is then of no earlier moment. Takes no lock. The
+    /// number is that of another thread's call, or the end of the window of its read, handed over. False: a call that had
+    /// begun has not ended yet.
+    pub fn learn(&mut self, calls: u64) -> bool {
+        // SAFETY: the user is open, and nobody else uses it now.
+        unsafe { raw::maple_learn(&mut self.user, calls) == 0 }
+    }
+
+    /// Sees the whole history, of so many calls, under the lock as soon as it is free. Readers and writers of which this
+    /// tells the same number have seen the same history.
+    pub fn sync(&mut self) -> u64 {
+        let mut calls = 0;
+        // SAFETY: the user is open, and the pointers are of two objects that nobody else uses now.
+        while unsafe { raw::maple_sync(&mut self.user, &mut calls) } == EAGAIN {
+            thread::yield_now();
+        }
+        calls
+    }
+}
+
+impl Drop for Reader {
+    /// Its place is then free for another, but where there is no memory to note that.
+    fn drop(&mut self) {
+        // SAFETY: the user is open, and not used after it is closed.
+        while unsafe { raw::maple_leave(&mut self.user) } == EAGAIN {
+            thread::yield_now();
+        }
+        // SAFETY: as above; and a closed user stays closed.
+        unsafe { raw::maple_shared_close(&mut self.user) }
+    }
+}
+
+impl fmt::Debug for Reader {
+    fn fmt(&self, f: &mut fmt::Formatter<'_>) -> fmt::Result {
+        f.debug_struct("Reader").field("window", &self.window).finish_non_exhaustive()
+    }
+}
+
+impl<'a> IntoIterator for &'a mut Reader {
+    type Item = Range;
+    type IntoIter = Steps<'a>;
+
+    fn into_iter(self) -> Steps<'a> {
+        self.iter()
+    }
+}
+
+/// The ranges of a window of a shared tree that were not yet given: those that have an index from where the walk goes on to
+/// `end`.
+pub struct Steps<'a> {
+    reader: &'a mut Reader,
+    walk: RawWalk,
+    end: u64,
+    is_done: bool,
+}
+
+impl Steps<'_> {
+    /// As [`Reader::window`], of the last step.
+    pub fn window(&self) -> RangeInclusive<u64> {
+        self.reader.window()
+    }
+}
+
+impl Iterator for Steps<'_> {
+    type Item = Range;
+
+    fn next(&mut self) -> Option<Range> {
+        if self.is_done {
+            return None;
+        }
+        let walk = &mut self.walk;
+        // SAFETY: the user is open, and the pointers are of three objects that nobody else uses now.
+        let found = self.reader.ask(|user, read| unsafe { raw::maple_shared_step(user, walk, read) });
+        let range = found.filter(|range| range.first <= self.end);
+        self.is_done = self.walk.ended != 0 || range.is_none_or(|range| range.last >= self.end);
+        range
+    }
+}
+
+impl DoubleEndedIterator for Steps<'_> {
+    fn next_back(&mut self) -> Option<Range> {
+        if self.is_done {
+            return None;
+        }
+        let range = self.reader.last_in(self.walk.next..=self.end);
+        match range {
+            Some(range) if range.first > self.walk.next => self.end = range.first - 1,
+            _ => self.is_done = true,
+        }
+        range
+    }
+}
+
+impl FusedIterator for Steps<'_> {}
+
+impl Drop for Steps<'_> {
+    fn drop(&mut self) {
+        // Any other read gives up the leaf that the reader keeps, and this one tells nothing.
+        let (mut told, user) = (RawRead::default(), &mut self.reader.user);
+        // SAFETY: the user is open, and the pointers are of two objects that nobody else uses now.
+        unsafe { raw::maple_shared_load(user, 0, &mut told) };
+    }
+}
+
+impl fmt::Debug for Steps<'_> {
+    fn fmt(&self, f: &mut fmt::Formatter<'_>) -> fmt::Result {
+        f.debug_struct("Steps").field("next", &self.walk.next).field("end", &self.end).finish_non_exhaustive()
+    }
+}
+
+/// What a call does where another thread has the tree's lock.
+#[derive(Clone, Copy, Debug, PartialEq, Eq)]
+pub enum Lock {
+    /// It yields and tries again. No bound is known for how long.
+    Waits,
+    /// It answers [`Error::Locked`], and nothing was changed.
+    Tries,
+}
+
+/// A thread's way to make calls on a shared tree, and by its [`reader`](Writer::reader) to read it. Its calls answer as those
+/// of a [`Tree`](crate::Tree) do; `number` tells where each stands in the history.
+///
+/// ```
+/// use maple::{Error, Kind, Lock, Shared};
+/// use std::num::NonZeroU64;
+///
+/// let shared = Shared::new(Kind::Alloc, 1000, 2)?;
+/// let entry = NonZeroU64::new(8).unwrap();
+/// let mut waits = shared.writer(Lock::Waits)?;
+/// let mut tries = shared.writer(Lock::Tries)?;
+/// assert_eq!(waits.alloc(20, 0..=99, entry), Ok(0));
+/// let start = loop {
+///     match tries.alloc(1, 0..=99, entry) {
+///         Err(Error::Locked) => continue, // or something else meanwhile
+///         answer => break answer,
+///     }
+/// };
+/// assert_eq!(start, Ok(20));
+/// assert_eq!((waits.number(), tries.number()), (1, 2));
+/// assert_eq!(tries.reader().load(25), None);
+/// # Ok::<(), maple::OpenError>(())
+/// ```
+pub struct Writer {
+    reader: Reader,
+    lock: Lock,
+    number: u64,
+}
+
+impl Writer {
+    fn call(&mut self, mut call: impl FnMut(&mut RawUser, &mut RawDone) -> u32) -> (u32, RawDone) {
+        let mut told = RawDone::default();
+        loop {
+            match call(&mut self.reader.user, &mut told) {
+                EAGAIN if self.lock == Lock::Waits => thread::yield_now(),
+                status => {
+                    self.number = self.number.max(told.call);
+                    return (status, told);
+                }
+            }
+        }
+    }
+
+    fn word(&mut self, call: impl FnMut(&mut RawUser, &mut RawDone) -> u32) -> Result<u64, Error> {
+        let (status, told) = self.call(call);
+        done(status).map(|()| told.word)
+    }
+
+    /// The number of its last call in the tree's history, refused or not; 0 before the first. A call that found the lock
+    /// taken has none.
+    pub fn number(&self) -> u64 {
+        self.number
+    }
+
+    /// Its way to read, which has seen its calls.
+    pub fn reader(&mut self) -> &mut Reader {
+        &mut self.reader
+    }
+
+    /// What its calls do from now on where another thread has the lock.
+    pub fn set_lock(&mut self, lock: Lock) {
+        self.lock = lock;
+    }
+
+    /// Stores an entry over a range, or makes a hole there, and gives the entry of the first range that it met.
+    pub fn store(&mut self, at: RangeInclusive<u64>, entry: Option<NonZeroU64>) -> Result<Option<NonZeroU64>, Error> {
+        let (first, last, entry) = (*at.start(), *at.end(), entry.map_or(0, NonZeroU64::get));
+        // SAFETY: the user is open, and the pointers are of two objects that nobody else uses now.
+        self.word(|user, done| unsafe { raw::maple_try_store(user, first, last, entry, done) }).map(NonZeroU64::new)
+    }
+
+    /// Stores an entry over a range where no index of it is held.
+    pub fn insert(&mut self, at: RangeInclusive<u64>, entry: NonZeroU64) -> Result<(), Error> {
+        let (first, last, entry) = (*at.start(), *at.end(), entry.get());
+        // SAFETY: as of `store`.
+        self.word(|user, done| unsafe { raw::maple_try_insert(user, first, last, entry, done) }).map(|_| ())
+    }
+
+    /// Removes the whole range that holds an index, and gives it; none where none does.
+    pub fn erase(&mut self, index: u64) -> Result<Option<Range>, Error> {
+        // SAFETY: as of `store`.
+        let (status, told) = self.call(|user, done| unsafe { raw::maple_try_erase(user, index, done) });
+        match status {
+            ENOENT => Ok(None),
+            status => done(status).map(|()| told.was.shown()),
+        }
+    }
+
+    /// Stores an entry over so many indexes at the lowest start at which they lie in one hole of the window, and gives it.
+    pub fn alloc(&mut self, size: u64, window: RangeInclusive<u64>, entry: NonZeroU64) -> Result<u64, Error> {
+        let (min, max, entry) = (*window.start(), *window.end(), entry.get());
+        // SAFETY: as of `store`.
+        self.word(|user, done| unsafe { raw::maple_try_alloc(user, size, min, max, entry, done) })
+    }
+
+    /// The same at the highest start.
+    pub fn alloc_highest(&mut self, size: u64, window: RangeInclusive<u64>, entry: NonZeroU64) -> Result<u64, Error> {
+        let (min, max, entry) = (*window.start(), *window.end(), entry.get());
+        // SAFETY: as of `store`.
+        self.word(|user, done| unsafe { raw::maple_try_ralloc(user, size, min, max, entry, done) })
+    }
+
+    /// The lowest start at which so many indexes lie in one hole of the window.
+    pub fn gap(&mut self, size: u64, window: RangeInclusive<u64>) -> Result<u64, Error> {
+        let (min, max) = (*window.start(), *window.end());
+        // SAFETY: as of `store`.
+        self.word(|user, done| unsafe { raw::maple_try_gap(user, size, min, max, done) })
+    }
+
+    /// The highest.
+    pub fn gap_highest(&mut self, size: u64, window: RangeInclusive<u64>) -> Result<u64, Error> {
+        let (min, max) = (*window.start(), *window.end());
+        // SAFETY: as of `store`.
+        self.word(|user, done| unsafe { raw::maple_try_rgap(user, size, min, max, done) })
+    }
+
+    /// Removes every range.
+    pub fn clear(&mut self) -> Result<(), Error> {
+        // SAFETY: as of `store`.
+        self.word(|user, done| unsafe { raw::maple_try_clear(user, done) }).map(|_| ())
+    }
+}
+
+impl fmt::Debug for Writer {
+    fn fmt(&self, f: &mut fmt::Formatter<'_>) -> fmt::Result {
+        f.debug_struct("Writer").field("lock", &self.lock).field("number", &self.number).finish_non_exhaustive()
+    }
+}
