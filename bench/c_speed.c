@@ -1,11 +1,14 @@
-/* Times the works of mt_bench through the library for C: c_speed WORK N.
+/* Times the works of mt_bench through the library for C: c_speed WORK N [READERS].
  *
  * It prints `WORK N NANOSECONDS`, the time of one operation on one thread. The works, their draws and seeds are those of mt_bench:
- * r or a before the name is the kind of the tree. */
+ * r or a before the name is the kind of the tree, and t before that a tree that threads share, of which one user makes each call.
+ * `rreaders` and `rconc` (`areaders`, `aconc`) have so many threads load from one shared tree, 4,000,000 times each, rconc beside
+ * one that erases and stores ranges until all are done; they print `WORK N readers R reads_mops X writes_mops Y`. */
 #define _POSIX_C_SOURCE 200809L
-#include "maple.h"
+#include "maple_shared.h"
 #include <errno.h>
 #include <inttypes.h>
+#include <pthread.h>
 #include <stdio.h>
 #include <stdlib.h>
 #include <string.h>
@@ -38,7 +41,7 @@ static void must(uint32_t status)
     }
 }
 
-/* ---- the works */
+/* ---- the works, once for a tree of one's own and once for a user of a shared one */
 
 #define ALLOCATED 4096
 #define HIGHEST ((UINT64_C(1) << 48) - 1)
@@ -135,17 +138,22 @@ static void must(uint32_t status)
     }
 
 #define OWN(call) maple_##call
+#define SHARED(call) maple_shared_##call
 struct own_erased { struct maple_range it; };
+struct shared_erased { struct maple_done it; };
 WORKS(own_, struct maple_tree, OWN, u64 answer, struct maple_range read, answer)
+WORKS(shared_, struct maple_user, SHARED, struct maple_done answer, struct maple_read read, answer.word)
 
 /* A work: what stands before it, untimed, and whether it is done `times` times or once for each range. */
 #define WORK(name, before, for_each) \
-    {#name, for_each, own_##before, own_##name}
+    {#name, for_each, own_##before, own_##name, shared_##before, shared_##name}
 static void own_nothing(struct maple_tree *tree) { (void)tree; }
+static void shared_nothing(struct maple_user *user) { (void)user; }
 static const struct work {
     const char *name;
     int for_each;
-    void (*before)(struct maple_tree *), (*work)(struct maple_tree *);
+    void (*own_before)(struct maple_tree *), (*own_work)(struct maple_tree *);
+    void (*shared_before)(struct maple_user *), (*shared_work)(struct maple_user *);
 } works[] = {
     WORK(load, store_rand, 0), WORK(iter, store_rand, 0), WORK(overwrite, store_rand, 0),
     WORK(store_seq, nothing, 1), WORK(store_rand, nothing, 1), WORK(erase, store_rand, 1),
@@ -159,25 +167,116 @@ static double own_round(const struct work *work, uint32_t kind)
     double start, took;
 
     must(maple_open(&tree, kind, MAPLE_MOST_ROWS));
-    work->before(&tree);
+    work->own_before(&tree);
     start = now();
-    work->work(&tree);
+    work->own_work(&tree);
     took = now() - start;
     maple_close(&tree);
     return took;
 }
 
-static double time_of(const struct work *work, uint32_t kind)
+#define MOST_CALLS (UINT64_C(1) << 60)
+
+static double shared_round(const struct work *work, uint32_t kind)
+{
+    struct maple_user user = {0};
+    double start, took;
+
+    must(maple_shared_open(&user, kind, MAPLE_MOST_ROWS, 1, MOST_CALLS));
+    work->shared_before(&user);
+    start = now();
+    work->shared_work(&user);
+    took = now() - start;
+    maple_shared_close(&user);
+    return took;
+}
+
+static double time_of(const struct work *work, uint32_t kind, int shared)
 {
     u64 rounds = work->for_each && ranges < 100000 ? 100000 / ranges : 1;
     double sum = 0;
 
     for (u64 i = 0; i <= rounds; i++) {
-        double took = own_round(work, kind);
+        double took = shared ? shared_round(work, kind) : own_round(work, kind);
         if (i)
             sum += took;
     }
     return sum / rounds / (work->for_each ? ranges : times);
+}
+
+/* ---- threads */
+
+#define LOADS 4000000u
+#define MOST_READERS 60
+
+static int go, at_work;
+
+struct reader {
+    struct maple_user user;
+    u64 seed, sum;
+    pthread_t thread;
+};
+
+static void *read_on(void *arg)
+{
+    struct reader *reader = arg;
+
+    __atomic_add_fetch(&at_work, 1, __ATOMIC_SEQ_CST);
+    while (!__atomic_load_n(&go, __ATOMIC_ACQUIRE))
+        ;
+    reader->sum = shared_loads(&reader->user, reader->seed, LOADS);
+    __atomic_sub_fetch(&at_work, 1, __ATOMIC_SEQ_CST);
+    return NULL;
+}
+
+/* Erases ranges that are there and stores those that are not, until no reader is at work; how often. */
+static u64 write_on(struct maple_user *user)
+{
+    char *stored = malloc(ranges);
+    u64 x = 9, done = 0;
+
+    if (!stored)
+        must(ENOMEM);
+    memset(stored, 1, ranges);
+    while (__atomic_load_n(&at_work, __ATOMIC_RELAXED) > 0) {
+        u64 i = draw(&x, ranges);
+        if (stored[i])
+            shared_erase_at(user, 16 * i + 5);
+        else
+            shared_store(user, i, 4096 + 8 * i);
+        stored[i] = !stored[i];
+        done++;
+    }
+    free(stored);
+    return done;
+}
+
+static void together(const char *name, uint32_t kind, int readers, int writes)
+{
+    static struct reader all[MOST_READERS];
+    struct maple_user writer = {0};
+    u64 done = 0;
+
+    must(maple_shared_open(&writer, kind, MAPLE_MOST_ROWS, readers + 1, MOST_CALLS));
+    shared_store_rand(&writer);
+    for (int i = 0; i < readers; i++) {
+        all[i].seed = 100 + i;
+        must(maple_share(&writer, &all[i].user));
+        must(pthread_create(&all[i].thread, NULL, read_on, &all[i]));
+    }
+    while (__atomic_load_n(&at_work, __ATOMIC_SEQ_CST) < readers)
+        ;
+    double start = now();
+    __atomic_store_n(&go, 1, __ATOMIC_SEQ_CST);
+    if (writes)
+        done = write_on(&writer);
+    for (int i = 0; i < readers; i++)
+        pthread_join(all[i].thread, NULL);
+    double took = now() - start;
+    for (int i = 0; i < readers; i++)
+        maple_shared_close(&all[i].user);
+    maple_shared_close(&writer);
+    printf("%s %" PRIu64 " readers %d reads_mops %.2f writes_mops %.3f\n", name, ranges, readers, readers * (LOADS / took) * 1e3, done / took * 1e3);
 }
 
 static void shuffle(void)
@@ -195,17 +294,18 @@ static void shuffle(void)
 
 static int usage(void)
 {
-    fprintf(stderr, "usage: c_speed [ra]{load,iter,store_seq,store_rand,overwrite,erase} N, a{alloc,ralloc,holes,churn} N\n");
+    fprintf(stderr, "usage: c_speed [t][ra]{load,iter,store_seq,store_rand,overwrite,erase} N, [t]a{alloc,ralloc,holes,churn} N, [ra]{readers,conc} N READERS\n");
     return 2;
 }
 
 int main(int argc, char **argv)
 {
     const char *name = argc > 1 ? argv[1] : "";
-    uint32_t kind = name[0] == 'a' ? MAPLE_ALLOC : MAPLE_RANGE;
+    int shared = name[0] == 't', readers = argc > 3 ? atoi(argv[3]) : 0;
+    uint32_t kind = name[shared] == 'a' ? MAPLE_ALLOC : MAPLE_RANGE;
 
     ranges = argc > 2 ? strtoull(argv[2], NULL, 10) : 0;
-    if (ranges < 1 || ranges > 1000000 || !strchr("ra", name[0]) || !name[0])
+    if (ranges < 1 || ranges > 1000000 || readers < 0 || readers > MOST_READERS || !strchr("ra", name[shared]) || !name[0])
         return usage();
     times = ranges > 1000000 ? ranges : 1000000;
     order = malloc(ranges * sizeof *order);
@@ -213,10 +313,14 @@ int main(int argc, char **argv)
     if (!order || !starts)
         must(ENOMEM);
     shuffle();
-    name++;
+    name += shared + 1;
+    if (!strcmp(name, "readers") || !strcmp(name, "conc")) {
+        together(argv[1], kind, readers, name[0] == 'c');
+        return 0;
+    }
     for (size_t i = 0; i < sizeof works / sizeof works[0]; i++)
         if (!strcmp(name, works[i].name)) {
-            printf("%s %" PRIu64 " %.1f\n", argv[1], ranges, time_of(&works[i], kind));
+            printf("%s %" PRIu64 " %.1f\n", argv[1], ranges, time_of(&works[i], kind, shared));
             return 0;
         }
     return usage();
