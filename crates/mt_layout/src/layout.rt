@@ -58,6 +58,7 @@ impl<const SLOTS: usize, const GAPS: usize> Layout<SLOTS, GAPS> {
     }
 
     /// Writes the words of a row with these items and this parent word, each once. What is unused is 0.
+    #[inline(always)]
     pub fn words_of(items: &[Item], parent: u64, words: &mut [u64])
         requires layout { IsLayout (length words.old) SLOTS GAPS }
         requires fit { length items.now ≤ SLOTS }

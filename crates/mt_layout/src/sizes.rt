@@ -86,6 +86,7 @@ pub fn items_of(width: Width, kind: RowKind, words: &[u64], max: u64) -> ArrayVe
 }
 
 /// Writes the words of a row of this width and kind with these items and this parent word. What is unused is 0.
+#[inline(always)]
 pub fn words_of(width: Width, kind: RowKind, items: &[Item], parent: u64, words: &mut [u64])
     requires words { length words.old ≡ columns width }
     requires fit { length items.now ≤ slots_of width kind }
