@@ -54,8 +54,11 @@ pub(crate) fn copy_row<R: Rows, L: Ledger>(
     ensures steps { steps.new ≡ steps.old + length (names_from (R.sheet src.old).tree.table way.depth way.word) }
     ensures rest { OnlyReads (R.sheet src.old) (R.sheet src.new) }
 {
-    let (Some(row), Some(kind)) = (row_of(way.word), kind_of(way.word)) else {
+    let Some(kind) = kind_of(way.word) else {
         return 0;
+    };
+    let Some(row) = row_of(way.word) else {
+        unreachable!()
     };
     steps.tick();
     let pair = Pair {

@@ -79,19 +79,19 @@ copy_children-loop-slot-preserved g t c =
     going_next s d b pair depth begins s₂ d₁ b₁ slot c.args.steps.now c.loop-slot.steps going inside (g.R.Rows.sheet c.copy_row-name.new.src) d₂ c.copy_row-name.new.book c.copy_row-name.new.steps c.load.result c.parent_word.result c.copy_row-name.result word c.parent_word.ensures
     c.copy_row-name.ensures.rest c.copy_row-name.ensures.copy c.copy_row-name.ensures.taken c.copy_row-name.ensures.written c.copy_row-name.ensures.steps d₃ c.write.ensures.written here
 
-pub copy_row-returns-in_default-2-clause-copy : goal.copy_row-returns-in_default-2-clause-copy
-copy_row-returns-in_default-2-clause-copy g t c =
+pub copy_row-returns-in_default-clause-copy : goal.copy_row-returns-in_default-clause-copy
+copy_row-returns-in_default-clause-copy g t c =
     let none : named_kind c.args.way.word ≡ None = search rules in
     none_copied (g.R.Rows.sheet c.args.src.now).tree.table (sheet_in c.args.dst.now).tree.table (next_row c.args.book.now) c.args.way (g.R.Rows.sheet c.args.src.now).tree none c.requires.may
 
-pub copy_row-returns-in_default-2-clause-taken : goal.copy_row-returns-in_default-2-clause-taken
-copy_row-returns-in_default-2-clause-taken g t c =
+pub copy_row-returns-in_default-clause-taken : goal.copy_row-returns-in_default-clause-taken
+copy_row-returns-in_default-clause-taken g t c =
     let none : named_kind c.args.way.word ≡ None = search rules in
     let empty = names_none (g.R.Rows.sheet c.args.src.now).tree.table c.args.way.depth c.args.way.word none in
     rw empty (none_taken c.args.book.now c.requires.open.filling)
 
-pub copy_row-returns-in_default-2-clause-steps : goal.copy_row-returns-in_default-2-clause-steps
-copy_row-returns-in_default-2-clause-steps g t c =
+pub copy_row-returns-in_default-clause-steps : goal.copy_row-returns-in_default-clause-steps
+copy_row-returns-in_default-clause-steps g t c =
     let none : named_kind c.args.way.word ≡ None = search rules in
     let empty = names_none (g.R.Rows.sheet c.args.src.now).tree.table c.args.way.depth c.args.way.word none in
     rw empty (omega arith)
@@ -99,30 +99,30 @@ copy_row-returns-in_default-2-clause-steps g t c =
 pub copy_row-take_next-requires-clause-some : goal.copy_row-take_next-requires-clause-some
 copy_row-take_next-requires-clause-some g t c =
     let s = g.R.Rows.sheet c.args.src.now in
-    let pair : Pair = record { kind = c.in-Some-Some.kind; row = c.in-Some-Some.row; to = next_row c.args.book.now } in
-    let row = row_named c.args.way.word c.in-Some-Some.row c.in-Some-Some.kind c.in-Some-Some.ensures.row c.in-Some-Some.ensures'.kind in
+    let pair : Pair = record { kind = c.in-Some.kind; row = c.in-Some-row_of.row; to = next_row c.args.book.now } in
+    let row = row_named c.args.way.word c.in-Some-row_of.row c.in-Some.kind c.in-Some-row_of.ensures.row c.in-Some.ensures.kind in
     let room = c.requires.room in
-    omega (arith, length_is s c.args.book.now c.args.way pair (g.met.R.Rows.whole c.args.src.now) (sym c.in-Some-Some.ensures'.kind) row refl c.requires.may)
+    omega (arith, length_is s c.args.book.now c.args.way pair (g.met.R.Rows.whole c.args.src.now) (sym c.in-Some.ensures.kind) row refl c.requires.may)
 
 pub copy_row-copy_own-requires-clause-row : goal.copy_row-copy_own-requires-clause-row
 copy_row-copy_own-requires-clause-row g t c =
     let s = g.R.Rows.sheet c.args.src.now in
-    let pair : Pair = record { kind = c.in-Some-Some.kind; row = c.in-Some-Some.row; to = c.take_next.result } in
-    let row = row_named c.args.way.word c.in-Some-Some.row c.in-Some-Some.kind c.in-Some-Some.ensures.row c.in-Some-Some.ensures'.kind in
-    row_place s c.args.book.now c.args.way pair (g.met.R.Rows.whole c.args.src.now) (sym c.in-Some-Some.ensures'.kind) row c.take_next.ensures.row c.requires.may
+    let pair : Pair = record { kind = c.in-Some.kind; row = c.in-Some-row_of.row; to = c.take_next.result } in
+    let row = row_named c.args.way.word c.in-Some-row_of.row c.in-Some.kind c.in-Some-row_of.ensures.row c.in-Some.ensures.kind in
+    row_place s c.args.book.now c.args.way pair (g.met.R.Rows.whole c.args.src.now) (sym c.in-Some.ensures.kind) row c.take_next.ensures.row c.requires.may
 
 pub copy_row-copy_children-requires : goal.copy_row-copy_children-requires
 copy_row-copy_children-requires g t c κs within =
     let s = g.R.Rows.sheet c.args.src.now in
-    let pair : Pair = record { kind = c.in-Some-Some.kind; row = c.in-Some-Some.row; to = c.take_next.result } in
-    let row = row_named c.args.way.word c.in-Some-Some.row c.in-Some-Some.kind c.in-Some-Some.ensures.row c.in-Some-Some.ensures'.kind in
+    let pair : Pair = record { kind = c.in-Some.kind; row = c.in-Some-row_of.row; to = c.take_next.result } in
+    let row = row_named c.args.way.word c.in-Some-row_of.row c.in-Some.kind c.in-Some-row_of.ensures.row c.in-Some.ensures.kind in
     let falls = c.decreases in (
       omega arith,
       (
         within.0,
         (
           within.1,
-          children_asked s c.args.book.now c.args.way pair (g.met.R.Rows.whole c.args.src.now) (sym c.in-Some-Some.ensures'.kind) row c.take_next.ensures.row c.requires.may
+          children_asked s c.args.book.now c.args.way pair (g.met.R.Rows.whole c.args.src.now) (sym c.in-Some.ensures.kind) row c.take_next.ensures.row c.requires.may
               (g.R.Rows.sheet c.copy_own.new.src) (sheet_in c.args.dst.now) (sheet_in c.copy_own.new.dst) c.take_next.new.book c.copy_own.ensures.rest c.requires.open c.take_next.ensures.taken c.copy_own.ensures.written c.requires.room c.requires.width,
         ),
       ),
@@ -133,33 +133,33 @@ copy_row-returns-clause-copy g t c =
     let s = g.R.Rows.sheet c.args.src.now in
     let s₁ = g.R.Rows.sheet c.copy_own.new.src in
     let d₂ = sheet_in c.copy_children.new.dst in
-    let pair : Pair = record { kind = c.in-Some-Some.kind; row = c.in-Some-Some.row; to = c.take_next.result } in
-    let row = row_named c.args.way.word c.in-Some-Some.row c.in-Some-Some.kind c.in-Some-Some.ensures.row c.in-Some-Some.ensures'.kind in
+    let pair : Pair = record { kind = c.in-Some.kind; row = c.in-Some-row_of.row; to = c.take_next.result } in
+    let row = row_named c.args.way.word c.in-Some-row_of.row c.in-Some.kind c.in-Some-row_of.ensures.row c.in-Some.ensures.kind in
     let children : LeavesChildren s.tree.table d₂.tree.table (next_row c.take_next.new.book) c.args.way.depth pair =
     subst (λ (r : Rooted). LeavesChildren r.table d₂.tree.table (next_row c.take_next.new.book) c.args.way.depth pair) (same_tree s s₁ c.copy_own.ensures.rest) c.copy_children.ensures.children in
     let d₁ = sheet_in c.copy_own.new.dst in
     let wide₁ : d₁.tree.table.width ≡ s.tree.table.width = written_width pair.to (pair.to + 1) (sheet_in c.args.dst.now) d₁ c.copy_own.ensures.written ∙ c.requires.width in
     let wide₂ : d₂.tree.table.width ≡ s.tree.table.width = written_width pair.to (next_row c.copy_children.new.book) d₁ d₂ c.copy_children.ensures.written ∙ wide₁ in
     subst (LeavesCopy s.tree.table d₂.tree.table (next_row c.args.book.now) c.args.way) (sym (c.word.ensures.word ∙ c.name_of.ensures))
-    (row_copied s c.args.book.now c.args.way pair (g.met.R.Rows.whole c.args.src.now) (sym c.in-Some-Some.ensures'.kind) row c.take_next.ensures.row c.requires.may
+    (row_copied s c.args.book.now c.args.way pair (g.met.R.Rows.whole c.args.src.now) (sym c.in-Some.ensures.kind) row c.take_next.ensures.row c.requires.may
     (sheet_in c.args.dst.now) (sheet_in c.copy_own.new.dst) d₂ c.take_next.new.book c.copy_children.new.book c.requires.open c.take_next.ensures.taken c.copy_own.ensures.own children c.copy_children.ensures.own wide₁ wide₂)
 
 pub copy_row-returns-clause-taken : goal.copy_row-returns-clause-taken
 copy_row-returns-clause-taken g t c =
     let s = g.R.Rows.sheet c.args.src.now in
     let s₁ = g.R.Rows.sheet c.copy_own.new.src in
-    let pair : Pair = record { kind = c.in-Some-Some.kind; row = c.in-Some-Some.row; to = c.take_next.result } in
-    let row = row_named c.args.way.word c.in-Some-Some.row c.in-Some-Some.kind c.in-Some-Some.ensures.row c.in-Some-Some.ensures'.kind in
+    let pair : Pair = record { kind = c.in-Some.kind; row = c.in-Some-row_of.row; to = c.take_next.result } in
+    let row = row_named c.args.way.word c.in-Some-row_of.row c.in-Some.kind c.in-Some-row_of.ensures.row c.in-Some.ensures.kind in
     let below : HasTaken (length (names_below s.tree.table c.args.way.depth pair)) c.take_next.new.book c.copy_children.new.book =
     subst (λ (r : Rooted). HasTaken (length (names_below r.table c.args.way.depth pair)) c.take_next.new.book c.copy_children.new.book) (same_tree s s₁ c.copy_own.ensures.rest) c.copy_children.ensures.taken in
     taken_more 1 (length (names_below s.tree.table c.args.way.depth pair)) (length (names_from s.tree.table c.args.way.depth c.args.way.word)) c.args.book.now c.take_next.new.book c.copy_children.new.book
-    (length_is s c.args.book.now c.args.way pair (g.met.R.Rows.whole c.args.src.now) (sym c.in-Some-Some.ensures'.kind) row c.take_next.ensures.row c.requires.may) c.take_next.ensures.taken below
+    (length_is s c.args.book.now c.args.way pair (g.met.R.Rows.whole c.args.src.now) (sym c.in-Some.ensures.kind) row c.take_next.ensures.row c.requires.may) c.take_next.ensures.taken below
 
 pub copy_row-returns-clause-steps : goal.copy_row-returns-clause-steps
 copy_row-returns-clause-steps g t c =
     let s = g.R.Rows.sheet c.args.src.now in
     let s₁ = g.R.Rows.sheet c.copy_own.new.src in
-    let pair : Pair = record { kind = c.in-Some-Some.kind; row = c.in-Some-Some.row; to = c.take_next.result } in
-    let row = row_named c.args.way.word c.in-Some-Some.row c.in-Some-Some.kind c.in-Some-Some.ensures.row c.in-Some-Some.ensures'.kind in
+    let pair : Pair = record { kind = c.in-Some.kind; row = c.in-Some-row_of.row; to = c.take_next.result } in
+    let row = row_named c.args.way.word c.in-Some-row_of.row c.in-Some.kind c.in-Some-row_of.ensures.row c.in-Some.ensures.kind in
     let below = ap (λ (r : Rooted). c.tick.new.self + length (names_below r.table c.args.way.depth pair)) (same_tree s s₁ c.copy_own.ensures.rest) in
-    omega (arith, c.copy_children.ensures.steps, below, c.tick.ensures, length_is s c.args.book.now c.args.way pair (g.met.R.Rows.whole c.args.src.now) (sym c.in-Some-Some.ensures'.kind) row c.take_next.ensures.row c.requires.may)
+    omega (arith, c.copy_children.ensures.steps, below, c.tick.ensures, length_is s c.args.book.now c.args.way pair (g.met.R.Rows.whole c.args.src.now) (sym c.in-Some.ensures.kind) row c.take_next.ensures.row c.requires.may)
