@@ -13,6 +13,7 @@ mod sections;
 mod table;
 mod turn;
 mod views;
+mod wide;
 mod writes;
 
 pub use busy::Busy;
@@ -23,3 +24,4 @@ pub use places::RowAt;
 pub use table::{MOST_CALLS, MOST_PASSES, MtTable, opening_words};
 pub use turn::{OfTable, Taken, Turn};
 pub use views::{Moment, NotePart, PassPart, PenPart, SectionWord, Shape, Told, TurnView, View};
+pub use wide::{LongRows, OfWidth, ShortRows};

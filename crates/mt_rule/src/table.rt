@@ -12,9 +12,10 @@ use crate::passes::Pass;
 use crate::pens::Pen;
 use crate::rule::{Deals, Ruled};
 use crate::views::{Told, View};
+use crate::wide::OfWidth;
 use atomic_table::{Badge, Table};
-use mt_base::{Kind, NoMemory, Width, width_of};
-use mt_rows::{PlainRows, RowWidth, Rows};
+use mt_base::{Kind, NoMemory, Width, cols, width_of};
+use mt_rows::{PlainRows, Rows};
 use std::alloc::Global;
 use std::snapshot::Snapshot;
 
@@ -53,7 +54,7 @@ pub(crate) fn section_index(pass: u32) -> usize
 #[derive(Drop)]
 pub struct MtTable {
     pub(crate) table: Table<(), View, Told, Ruled, Global>,
-    width: RowWidth,
+    width: Width,
     passes: u32,
     rows: u64,
     ghost many: { passes ≡ table.shared.key.passes },
@@ -75,12 +76,13 @@ impl MtTable {
     ghost use Rattle.mt_rule.specs.Tokens.{identity_of, MayOpen, shape_opened, IsPassOf, pass_in, pen_in, IsPenOf, IsAlone};
 
     /// Where a column of a row stands.
-    pub(crate) fn column_index(&self, row: u32, col: u32) -> usize
+    pub(crate) fn column_index<K: OfWidth>(&self, row: u32, col: u32) -> usize
+        requires wide { K.wide ≡ kind_width (identity_of self.now).shape.kind }
         requires row { row < first_row + most_rows }
         requires column { col < columns self.now.width }
         ensures { result ≡ column_at self.now.width row col }
     {
-        self.width.place_of(row, col)
+        cols(K::width()) as usize * row as usize + col as usize
     }
 
     /// How many passes the tree has.
@@ -101,7 +103,7 @@ impl MtTable {
     pub fn width(&self) -> Width
         ensures { result ≡ kind_width (identity_of self.now).shape.kind }
     {
-        self.width.width()
+        self.width
     }
 
     /// A table of the words of these rows, for a tree that opens with them; its pen, and its passes, numbered from 0. Rows that
@@ -184,7 +186,7 @@ impl MtTable {
         let (table, seat) = Table::of_words(alloc, words, &told)?;
         let table = MtTable {
             table,
-            width: RowWidth::of_width(width_of(kind)),
+            width: width_of(kind),
             passes,
             rows,
         };

@@ -1,6 +1,7 @@
 //! The steps of the pen, with which a call of the joined pass works on the rows.
 
 ghost use Rattle.std.specs.Prelude.{◌≡◌, ◌+◌, ◌-◌, ◌^◌, ◌<◌, false, if◌then◌else◌};
+ghost use Rattle.mt_base.specs.Width.{kind_width};
 ghost use Rattle.mt_rows.specs.Publish.{MayPublish, Published};
 ghost use Rattle.mt_rows.specs.Sheet.{IsFree, IsPlace, IsWhole, MayBury, MayTend, life_of};
 ghost use Rattle.mt_rule.specs.Ends.{MayEnd};
@@ -15,6 +16,7 @@ use crate::rule::{
     LooksAtRoot, Publishes, Tends,
 };
 use crate::table::{BEGUN, COMMITS, MtTable, ROOT, section_index};
+use crate::wide::OfWidth;
 use mt_base::{Call, Reply};
 use mt_layout::parent_word;
 use mt_rows::Place;
@@ -23,7 +25,8 @@ use std::marker::Brand;
 /// Loads, which change nothing but what the pen knows of sections.
 impl MtTable {
     /// The word at a place, which may be any column of a row.
-    pub fn load_word(&self, pen: &mut Pen, at: Place) -> u64
+    pub fn load_word<K: OfWidth>(&self, pen: &mut Pen, at: Place) -> u64
+        requires wide { K.wide ≡ kind_width (identity_of self.now).shape.kind }
         requires pen { IsPenOf (identity_of self.now) pen.old }
         requires joined { IsJoined pen.old }
         requires place { IsWordPlace (rooted_in (pen_in pen.old)) at }
@@ -34,7 +37,7 @@ impl MtTable {
         match at {
             Place::Root => self.table.shared.load::<LooksAtRoot>(&mut pen.seat, ROOT),
             Place::Slot { row, col } => {
-                let word = self.column_index(row, col);
+                let word = self.column_index::<K>(row, col);
                 self.table.shared.load::<Looks>(&mut pen.seat, word)
             }
         }
@@ -90,7 +93,8 @@ impl MtTable {
 
     /// Writes a column of a row that no reader can be at. The row is then a draft. A column that holds the word already is only
     /// loaded, which is quicker.
-    pub fn draft(&self, pen: &mut Pen, row: u32, col: u32, word: u64)
+    pub fn draft<K: OfWidth>(&self, pen: &mut Pen, row: u32, col: u32, word: u64)
+        requires wide { K.wide ≡ kind_width (identity_of self.now).shape.kind }
         requires pen { IsPenOf (identity_of self.now) pen.old }
         requires joined { IsJoined pen.old }
         requires place { IsPlace (rooted_in (pen_in pen.old)) row col }
@@ -98,13 +102,20 @@ impl MtTable {
         ensures on { GoesOn (identity_of self.now) pen.old pen.new }
         ensures pen { pen_in pen.new ≡ pen_drafted row col word (pen_in pen.old) }
     {
-        if !self.finds_drafted::<Brand>(pen, row, col, word) {
-            self.draft_at::<Brand>(pen, row, col, word);
+        if !self.finds_drafted::<Brand, K>(pen, row, col, word) {
+            self.draft_at::<Brand, K>(pen, row, col, word);
         }
     }
 
     /// Whether a column of a row that no reader can be at holds a word already. Where it does, the row is then a draft.
-    fn finds_drafted<M: Announced>(&self, pen: &mut Pen, row: u32, col: u32, word: u64) -> bool
+    fn finds_drafted<M: Announced, K: OfWidth>(
+        &self,
+        pen: &mut Pen,
+        row: u32,
+        col: u32,
+        word: u64,
+    ) -> bool
+        requires wide { K.wide ≡ kind_width (identity_of self.now).shape.kind }
         requires pen { IsPenOf (identity_of self.now) pen.old }
         requires joined { IsJoined pen.old }
         requires place { IsPlace (rooted_in (pen_in pen.old)) row col }
@@ -113,12 +124,13 @@ impl MtTable {
         ensures on { GoesOn (identity_of self.now) pen.old pen.new }
         ensures pen { pen_in pen.new ≡ (if result then pen_drafted row col word (pen_in pen.old) else pen_in pen.old) }
     {
-        let at = self.column_index(row, col);
+        let at = self.column_index::<K>(row, col);
         let found = self.table.shared.load::<FindsDrafted<M>>(&mut pen.seat, at);
         found == word
     }
 
-    fn draft_at<M: Announced>(&self, pen: &mut Pen, row: u32, col: u32, word: u64)
+    fn draft_at<M: Announced, K: OfWidth>(&self, pen: &mut Pen, row: u32, col: u32, word: u64)
+        requires wide { K.wide ≡ kind_width (identity_of self.now).shape.kind }
         requires pen { IsPenOf (identity_of self.now) pen.old }
         requires joined { IsJoined pen.old }
         requires place { IsPlace (rooted_in (pen_in pen.old)) row col }
@@ -127,24 +139,26 @@ impl MtTable {
         ensures on { GoesOn (identity_of self.now) pen.old pen.new }
         ensures pen { pen_in pen.new ≡ pen_drafted row col word (pen_in pen.old) }
     {
-        let at = self.column_index(row, col);
+        let at = self.column_index::<K>(row, col);
         self.table
             .shared
             .store::<Drafts<M>>(&mut pen.seat, at, word);
     }
 
     /// Stores the dead mark of a live row that the call in flight replaces.
-    pub fn bury(&self, pen: &mut Pen, row: u32)
+    pub fn bury<K: OfWidth>(&self, pen: &mut Pen, row: u32)
+        requires wide { K.wide ≡ kind_width (identity_of self.now).shape.kind }
         requires pen { IsPenOf (identity_of self.now) pen.old }
         requires joined { IsJoined pen.old }
         requires may { MayBury (sheet_of (pen_in pen.old)) row }
         ensures on { GoesOn (identity_of self.now) pen.old pen.new }
         ensures pen { pen_in pen.new ≡ pen_buried row (pen_in pen.old) }
     {
-        self.bury_at::<Brand>(pen, row);
+        self.bury_at::<Brand, K>(pen, row);
     }
 
-    fn bury_at<M: Announced>(&self, pen: &mut Pen, row: u32)
+    fn bury_at<M: Announced, K: OfWidth>(&self, pen: &mut Pen, row: u32)
+        requires wide { K.wide ≡ kind_width (identity_of self.now).shape.kind }
         requires pen { IsPenOf (identity_of self.now) pen.old }
         requires joined { IsJoined pen.old }
         requires may { MayBury (sheet_of (pen_in pen.old)) row }
@@ -152,7 +166,7 @@ impl MtTable {
         ensures on { GoesOn (identity_of self.now) pen.old pen.new }
         ensures pen { pen_in pen.new ≡ pen_buried row (pen_in pen.old) }
     {
-        let at = self.column_index(row, 0);
+        let at = self.column_index::<K>(row, 0);
         self.table
             .shared
             .store::<Buries<M>>(&mut pen.seat, at, parent_word(row, 0));
@@ -160,19 +174,21 @@ impl MtTable {
 
     /// Writes the parent word of a live row, or the longest hole below one of its items. A column that holds the word already is
     /// only loaded.
-    pub fn tend(&self, pen: &mut Pen, row: u32, col: u32, word: u64)
+    pub fn tend<K: OfWidth>(&self, pen: &mut Pen, row: u32, col: u32, word: u64)
+        requires wide { K.wide ≡ kind_width (identity_of self.now).shape.kind }
         requires pen { IsPenOf (identity_of self.now) pen.old }
         requires joined { IsJoined pen.old }
         requires may { MayTend (sheet_of (pen_in pen.old)) row col word }
         ensures on { GoesOn (identity_of self.now) pen.old pen.new }
         ensures pen { pen_in pen.new ≡ pen_tended row col word (pen_in pen.old) }
     {
-        if self.load_word(pen, Place::Slot { row, col }) != word {
-            self.tend_at::<Brand>(pen, row, col, word);
+        if self.load_word::<K>(pen, Place::Slot { row, col }) != word {
+            self.tend_at::<Brand, K>(pen, row, col, word);
         }
     }
 
-    fn tend_at<M: Announced>(&self, pen: &mut Pen, row: u32, col: u32, word: u64)
+    fn tend_at<M: Announced, K: OfWidth>(&self, pen: &mut Pen, row: u32, col: u32, word: u64)
+        requires wide { K.wide ≡ kind_width (identity_of self.now).shape.kind }
         requires pen { IsPenOf (identity_of self.now) pen.old }
         requires joined { IsJoined pen.old }
         requires may { MayTend (sheet_of (pen_in pen.old)) row col word }
@@ -180,12 +196,20 @@ impl MtTable {
         ensures on { GoesOn (identity_of self.now) pen.old pen.new }
         ensures pen { pen_in pen.new ≡ pen_tended row col word (pen_in pen.old) }
     {
-        let at = self.column_index(row, col);
+        let at = self.column_index::<K>(row, col);
         self.table.shared.store::<Tends<M>>(&mut pen.seat, at, word);
     }
 
     /// Stores a word at a place, which is the event of the call in flight: it is the next of the history.
-    pub fn publish(&self, pen: &mut Pen, place: Place, word: u64, call: &Call, reply: &Reply)
+    pub fn publish<K: OfWidth>(
+        &self,
+        pen: &mut Pen,
+        place: Place,
+        word: u64,
+        call: &Call,
+        reply: &Reply,
+    )
+        requires wide { K.wide ≡ kind_width (identity_of self.now).shape.kind }
         requires pen { IsPenOf (identity_of self.now) pen.old }
         requires joined { IsJoined pen.old }
         requires may { MayPublish (pen_in pen.old).shape.kind (sheet_of (pen_in pen.old)) place word call.now reply.now }
@@ -196,10 +220,10 @@ impl MtTable {
         ensures recorded { WasPublished call.now reply.now (pen_in pen.old) (joined_part pen.old) (pen_in pen.new) (joined_part pen.new) }
         ensures turn { joined_turn pen.new ≡ joined_turn pen.old }
     {
-        self.publish_announced::<Brand>(pen, place, word, call, reply);
+        self.publish_announced::<Brand, K>(pen, place, word, call, reply);
     }
 
-    fn publish_announced<M: Announced>(
+    fn publish_announced<M: Announced, K: OfWidth>(
         &self,
         pen: &mut Pen,
         place: Place,
@@ -207,6 +231,7 @@ impl MtTable {
         call: &Call,
         reply: &Reply,
     )
+        requires wide { K.wide ≡ kind_width (identity_of self.now).shape.kind }
         requires pen { IsPenOf (identity_of self.now) pen.old }
         requires joined { IsJoined pen.old }
         requires may { MayPublish (pen_in pen.old).shape.kind (sheet_of (pen_in pen.old)) place word call.now reply.now }
@@ -220,7 +245,7 @@ impl MtTable {
     {
         let at = match place {
             Place::Root => ROOT,
-            Place::Slot { row, col } => self.column_index(row, col),
+            Place::Slot { row, col } => self.column_index::<K>(row, col),
         };
         self.table
             .shared

@@ -1,9 +1,9 @@
 -- What a call under the lock is to who draws numbers from the tree.
-use Rattle.std.proofs.Common.{◌≡◌, ◌≢◌, ◌⊎◌, ℕ, zero, suc, ◌+◌, ◌-◌, ◌<◌, ◌≤◌, ◌==◌, Bool, true, false, List, [], ◌∷◌, ◌++◌, Option, Some, None, IfSome, length, fold, inl, inr, refl, sym, ap, ◌∙◌, subst, arith, length-append}
-use Rattle.std.specs.Prelude.{◌↔◌, IsSome, nat_eq, slice_get}
-use Rattle.std.specs.List.{AllByRecursion, range_with_len}
+use Rattle.std.proofs.Common.{◌≡◌, ◌≢◌, ℕ, zero, suc, ◌+◌, ◌-◌, ◌<◌, ◌≤◌, true, false, List, [], ◌∷◌, ◌++◌, Option, Some, None, IfSome, length, fold, inl, inr, refl, sym, ap, ◌∙◌, subst, arith, length-append}
+use Rattle.std.specs.Prelude.{◌↔◌, IsSome, slice_get}
+use Rattle.std.specs.List.{AllByRecursion}
 use Rattle.std.specs.Option.{option_map}
-use Rattle.std.proofs.lemmas.List.{append-nil, append_assoc}
+use Rattle.std.proofs.lemmas.List.{append-nil}
 use Rattle.std.proofs.lemmas.Bool.{cond_both, eqb-true}
 use Rattle.std.proofs.lemmas.List.Sums.{fold-append}
 use Rattle.mt_base.specs.declared.calls.Call.{Call}
@@ -17,10 +17,9 @@ use Rattle.mt_base.specs.declared.replies.Shortage.{Shortage}
 use Rattle.mt_base.specs.Call.{acted, is_bad_area, placed}
 use Rattle.mt_base.specs.Holes.{low}
 use Rattle.mt_base.specs.History.{AreLegalFrom, History, IsAnswered, IsLegal, Record, last_map, limits_after, map_after}
-use Rattle.mt_base.specs.Nodes.{IsRefused}
 use Rattle.mt_base.specs.Passes as known
 use Rattle.mt_base.specs.Passes.{Saw, Wrote, holder_of, with_records}
-use Rattle.mt_ids.specs.Allocation.{Allocation, IsCalled, Made, recorded}
+use Rattle.mt_ids.specs.Allocation.{IsCalled}
 use Rattle.mt_tree.specs.declared.shapes.Worn.{Worn}
 use Rattle.mt_tree.specs.declared.trees.Tree.{Tree}
 use Rattle.mt_tree.specs.Allocations.{allocation_of, is_alone, last_made}

@@ -20,7 +20,7 @@ use Rattle.mt_rule.proofs.Moving.{shown_with}
 use Rattle.mt_tree.specs.declared.trees.Tree.{Tree}
 use Rattle.mt_tree.specs.Behind.{Behind, after_show}
 use Rattle.mt_tree.specs.Meeting.{Shown, AreShown, HaveMet}
-use Rattle.mt_tree.specs.Trees.{opened, place_of, passes_of, seen_by, IsPassOf, AreAll}
+use Rattle.mt_tree.specs.Trees.{opened, passes_of, seen_by, IsPassOf, AreAll}
 use Rattle.mt_tree.proofs.Lists.{some_same, get_set, from_map}
 
 -- the passes below n have seen the history, and what the others know is as before

@@ -1,5 +1,5 @@
 -- A pass that was joined with the pen and parted from it knows what the pen showed it.
-use Rattle.std.proofs.Common.{◌≡◌, ℕ, ◌≤◌, ◌<◌, List, sym, ap, ◌∙◌, subst, arith}
+use Rattle.std.proofs.Common.{◌≡◌, ◌<◌, List, sym, ap, ◌∙◌, subst, arith}
 use Rattle.std.specs.List.{AllByRecursion}
 use Rattle.mt_base.proofs.Lists.{all_map}
 use Rattle.mt_base.specs.History.{History, Record}

@@ -13,10 +13,10 @@ ghost use Rattle.mt_tree.specs.Trees.{opened, limit_of, map_seen, passes_of, pla
 
 use crate::shapes::{Done, Read, Worn};
 use crate::trees::Tree;
-use crate::works;
-use mt_base::{Call, NoMemory, Query, Range, Shortage};
+use crate::works::{act, ask, by_width, list, preallocate, store_prealloc};
+use mt_base::{Call, NoMemory, Query, Range, Shortage, Width};
 use mt_free::RowBook;
-use mt_rule::{OfTable, Pass, Pen};
+use mt_rule::{LongRows, OfTable, Pass, Pen, ShortRows};
 use std::alloc::Global;
 use std::marker::{Brand, Model};
 use std::mem;
@@ -109,7 +109,7 @@ impl WriterState {
             self.show(tree, pass);
             return Err(Worn { calls });
         }
-        let reply = works::act::<Brand>(&mut self.tools, tree, pass, call);
+        let reply = by_width!(tree, act(&mut self.tools, tree, pass, call));
         Ok(Done {
             call: calls + 1,
             reply,
@@ -143,7 +143,10 @@ impl WriterState {
             self.show(tree, pass);
             return Err(Worn { calls });
         }
-        let reply = works::store_prealloc::<Brand>(&mut self.tools, tree, pass, first, last, entry);
+        let reply = by_width!(
+            tree,
+            store_prealloc(&mut self.tools, tree, pass, first, last, entry)
+        );
         Ok(Done {
             call: calls + 1,
             reply,
@@ -165,7 +168,7 @@ impl WriterState {
         Read {
             lo: calls,
             hi: calls,
-            value: works::ask::<Brand>(&mut self.tools, tree, pass, query),
+            value: by_width!(tree, ask(&mut self.tools, tree, pass, query)),
         }
     }
 
@@ -180,7 +183,7 @@ impl WriterState {
         ensures ready { IsOk result ↔ IsReady self.new.parts }
         ensures short { IfErr result (λ shortage. IsShortNow tree.now (pass_in pass.new) self.old self.new shortage) }
     {
-        works::preallocate::<Brand>(&mut self.tools, tree, pass)
+        by_width!(tree, preallocate(&mut self.tools, tree, pass))
     }
 
     /// Copies the ranges out.
@@ -198,7 +201,7 @@ impl WriterState {
         ensures saw { known.Saw (opened tree.now) (pass_in pass.old) (pass_in pass.new) }
         ensures items { IfOk result (λ ranges. ranges.items ≡ map_seen tree.now (pass_in pass.new)) }
     {
-        works::list::<Brand>(&mut self.tools, tree, pass, alloc)
+        by_width!(tree, list(&mut self.tools, tree, pass, alloc))
     }
 
     /// Whether a store may be made for which rows were found free.

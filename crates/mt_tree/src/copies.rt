@@ -25,15 +25,15 @@ ghost use Rattle.mt_tree.specs.Works.{IsWorker};
 use crate::behind::{Tools, WriterState};
 use crate::shapes::{DupError, Shape};
 use crate::trees::Tree;
-use crate::works::{begin, end};
-use mt_base::{Kind, NoMemory, Steps};
+use crate::works::{begin, by_width, end};
+use mt_base::{Kind, NoMemory, Steps, Width};
 use mt_check::{Form, form_of};
 use mt_dup::copy_rows;
 use mt_engine::Engine;
 use mt_free::RowBook;
 use mt_pen::Writer;
 use mt_rows::{PlainRows, Rows};
-use mt_rule::Pass;
+use mt_rule::{LongRows, OfWidth, Pass, ShortRows};
 use std::alloc::Global;
 use std::marker::Brand;
 use std::sync::Wait;
@@ -71,8 +71,13 @@ fn copy_out<R: Rows>(src: &mut R, live: u64, dst: &mut PlainRows, book: &mut Row
 }
 
 /// The form of the tree's words.
-fn check_at_work<W: Writer>(tools: &mut Option<Tools>, tree: &Tree, pass: &mut Pass) -> Form
-    requires { IsWorker tree.now tools.old pass.old W.table W.turn }
+fn check_at_work<W: Writer, K: OfWidth>(
+    tools: &mut Option<Tools>,
+    tree: &Tree,
+    pass: &mut Pass,
+) -> Form
+    requires worker { IsWorker tree.now tools.old pass.old W.table W.turn }
+    requires wide { K.wide ≡ kind_width W.table.shape.kind }
     ensures rest { IsAtRest tools.new }
     ensures read { IsRead (behind_of tools.old) (behind_of tools.new) }
     ensures of { IsPassOf tree.now pass.new }
@@ -80,7 +85,7 @@ fn check_at_work<W: Writer>(tools: &mut Option<Tools>, tree: &Tree, pass: &mut P
     ensures words { AreWordsOf (opened tree.now).kind (opened tree.now).rows (map_seen tree.now (pass_in pass.new)) (behind_of tools.old).parts.sheet.tree }
     ensures form { result ≡ form_of (tree_as (opened tree.now).kind (behind_of tools.old).parts.sheet.tree) }
 {
-    let engine = begin::<W>(tools, tree, pass);
+    let engine = begin::<W, K>(tools, tree, pass);
     let height = engine.height();
     let (mut rows, book) = engine.parts();
     let form = form_of(&mut rows, tree.shape.kind);
@@ -90,7 +95,7 @@ fn check_at_work<W: Writer>(tools: &mut Option<Tools>, tree: &Tree, pass: &mut P
 }
 
 /// Copies the tree into new rows, where they are as many as it has in use. Answers how many it has.
-fn copy_at_work<W: Writer>(
+fn copy_at_work<W: Writer, K: OfWidth>(
     tools: &mut Option<Tools>,
     tree: &Tree,
     pass: &mut Pass,
@@ -98,6 +103,7 @@ fn copy_at_work<W: Writer>(
     own: &mut RowBook,
 ) -> u64
     requires worker { IsWorker tree.now tools.old pass.old W.table W.turn }
+    requires wide { K.wide ≡ kind_width W.table.shape.kind }
     requires rows { sheet_in dst.old ≡ new_sheet (kind_width (opened tree.now).kind) own.old.rows }
     requires book { own.old ≡ new_book own.old.rows }
     ensures rest { IsAtRest tools.new }
@@ -109,7 +115,7 @@ fn copy_at_work<W: Writer>(
     ensures within { result ≤ (opened tree.now).rows }
     ensures copy { result ≤ own.old.rows → IsReadyToOpen (opened tree.now).kind own.old.rows (map_seen tree.now (pass_in pass.new)) (sheet_in dst.new) own.new }
 {
-    let engine = begin::<W>(tools, tree, pass);
+    let engine = begin::<W, K>(tools, tree, pass);
     let height = engine.height();
     let (mut rows, book) = engine.parts();
     let live = book.live();
@@ -204,7 +210,7 @@ impl WriterState {
         ensures words { AreWordsOf (opened tree.now).kind (opened tree.now).rows (map_seen tree.now (pass_in pass.new)) self.old.parts.sheet.tree }
         ensures form { result ≡ form_of (tree_as (opened tree.now).kind self.old.parts.sheet.tree) }
     {
-        check_at_work::<Brand>(&mut self.tools, tree, pass)
+        by_width!(tree, check_at_work(&mut self.tools, tree, pass))
     }
 
     /// Copies the tree into new rows, where they are as many as it has in use. Answers how many it has.
@@ -221,7 +227,7 @@ impl WriterState {
         ensures within { result ≤ (opened tree.now).rows }
         ensures copy { result ≤ own.old.rows → IsReadyToOpen (opened tree.now).kind own.old.rows (map_seen tree.now (pass_in pass.new)) (sheet_in dst.new) own.new }
     {
-        copy_at_work::<Brand>(&mut self.tools, tree, pass, dst, own)
+        by_width!(tree, copy_at_work(&mut self.tools, tree, pass, dst, own))
     }
 }
 

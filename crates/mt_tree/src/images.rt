@@ -2,6 +2,7 @@
 
 ghost use Rattle.std.specs.Prelude.{◌≡◌, IfOk};
 ghost use Rattle.mt_base.specs.Passes.{Saw};
+ghost use Rattle.mt_base.specs.Width.{kind_width};
 ghost use Rattle.mt_image.specs.Images.{IsImageOf, IsImageOfMap};
 ghost use Rattle.mt_rule.specs.Tokens.{pass_in};
 ghost use Rattle.mt_tree.specs.Behind.{behind_of, IsAtRest, IsRead};
@@ -11,24 +12,25 @@ ghost use Rattle.mt_tree.specs.Works.{IsWorker};
 
 use crate::behind::{Tools, WriterState};
 use crate::trees::Tree;
-use crate::works::{begin, end};
-use mt_base::NoMemory;
+use crate::works::{begin, by_width, end};
+use mt_base::{NoMemory, Width};
 use mt_engine::Engine;
 use mt_image::write_image;
 use mt_pen::Writer;
-use mt_rule::Pass;
+use mt_rule::{LongRows, OfWidth, Pass, ShortRows};
 use std::alloc::Global;
 use std::marker::Brand;
 use std::sync::Wait;
 
 /// The image of the tree's words.
-fn image_at_work<W: Writer>(
+fn image_at_work<W: Writer, K: OfWidth>(
     tools: &mut Option<Tools>,
     tree: &Tree,
     pass: &mut Pass,
     alloc: Global,
 ) -> Result<Vec<u8>, NoMemory>
-    requires { IsWorker tree.now tools.old pass.old W.table W.turn }
+    requires worker { IsWorker tree.now tools.old pass.old W.table W.turn }
+    requires wide { K.wide ≡ kind_width W.table.shape.kind }
     ensures rest { IsAtRest tools.new }
     ensures read { IsRead (behind_of tools.old) (behind_of tools.new) }
     ensures of { IsPassOf tree.now pass.new }
@@ -36,7 +38,7 @@ fn image_at_work<W: Writer>(
     ensures words { AreWordsOf (opened tree.now).kind (opened tree.now).rows (map_seen tree.now (pass_in pass.new)) (behind_of tools.old).parts.sheet.tree }
     ensures image { IfOk result (λ bytes. IsImageOf (opened tree.now).kind (behind_of tools.old).parts.sheet.tree bytes.items) }
 {
-    let engine = begin::<W>(tools, tree, pass);
+    let engine = begin::<W, K>(tools, tree, pass);
     let height = engine.height();
     let (mut rows, book) = engine.parts();
     let image = write_image(alloc, &mut rows, tree.shape.kind);
@@ -56,7 +58,7 @@ impl WriterState {
         ensures words { AreWordsOf (opened tree.now).kind (opened tree.now).rows (map_seen tree.now (pass_in pass.new)) self.old.parts.sheet.tree }
         ensures image { IfOk result (λ bytes. IsImageOf (opened tree.now).kind self.old.parts.sheet.tree bytes.items) }
     {
-        image_at_work::<Brand>(&mut self.tools, tree, pass, alloc)
+        by_width!(tree, image_at_work(&mut self.tools, tree, pass, alloc))
     }
 }
 

@@ -4,6 +4,7 @@ ghost use Rattle.std.specs.Prelude.{◌≡◌, ◌↔◌, ◌+◌, ◌-◌, ◌^
 ghost use Rattle.std.specs.List.{AllByRecursion};
 ghost use Rattle.mt_base.specs.declared.calls.Call.TheVariants.{StorePre};
 ghost use Rattle.mt_base.specs.Passes as known;
+ghost use Rattle.mt_base.specs.Width.{kind_width};
 ghost use Rattle.mt_engine.specs.Engine.{is_refusal, IsApplied};
 ghost use Rattle.mt_rule.specs.Seats.{records_of};
 ghost use Rattle.mt_rule.specs.Tokens.{pass_in, turn_seat, WasShown};
@@ -18,17 +19,30 @@ use mt_base::{Call, NoMemory, Query, Range, Reply, Shortage};
 use mt_engine::Engine;
 use mt_pen::{PenRows, Writer};
 use mt_rows::Rows;
-use mt_rule::Pass;
+use mt_rule::{OfWidth, Pass};
 use std::alloc::Global;
 use std::mem;
 
+/// A work on the rows of a tree, once for each width.
+macro_rules! by_width {
+    ($tree:expr, $work:ident($($arg:expr),*)) => {
+        match $tree.table.width() {
+            Width::Long => $work::<Brand, LongRows>($($arg),*),
+            Width::Short => $work::<Brand, ShortRows>($($arg),*),
+        }
+    };
+}
+
+pub(crate) use by_width;
+
 /// Takes the tools, for a call of the pass, which is then away.
-pub(crate) fn begin<'a, W: Writer>(
+pub(crate) fn begin<'a, W: Writer, K: OfWidth>(
     tools: &mut Option<Tools>,
     tree: &'a Tree,
     pass: &mut Pass,
-) -> Engine<PenRows<'a, W>>
-    requires { IsWorker tree.now tools.old pass.old W.table W.turn }
+) -> Engine<PenRows<'a, W, K>>
+    requires worker { IsWorker tree.now tools.old pass.old W.table W.turn }
+    requires wide { K.wide ≡ kind_width W.table.shape.kind }
     ensures away { tools.new ≡ None }
     ensures kind { result.kind ≡ (behind_of tools.old).parts.kind }
     ensures book { result.book ≡ (behind_of tools.old).parts.book }
@@ -43,10 +57,10 @@ pub(crate) fn begin<'a, W: Writer>(
 }
 
 /// Puts the tools back, and gives the pass what it knows then.
-pub(crate) fn end<W: Writer>(
+pub(crate) fn end<W: Writer, K: OfWidth>(
     tools: &mut Option<Tools>,
     tree: &Tree,
-    engine: Engine<PenRows<W>>,
+    engine: Engine<PenRows<W, K>>,
     pass: &mut Pass,
 )
     requires table { W.table ≡ place_of tree.now }
@@ -74,13 +88,14 @@ fn applied<R: Rows>(engine: Engine<R>, call: &Call) -> (Engine<R>, Reply)
 }
 
 /// Makes one call.
-pub(crate) fn act<W: Writer>(
+pub(crate) fn act<W: Writer, K: OfWidth>(
     tools: &mut Option<Tools>,
     tree: &Tree,
     pass: &mut Pass,
     call: &Call,
 ) -> Reply
     requires worker { IsWorker tree.now tools.old pass.old W.table W.turn }
+    requires wide { K.wide ≡ kind_width W.table.shape.kind }
     requires room { length (behind_of tools.old).pen.history < limit_of tree.now }
     ensures rest { IsAtRest tools.new }
     ensures table { (behind_of tools.new).table ≡ place_of tree.now }
@@ -92,14 +107,14 @@ pub(crate) fn act<W: Writer>(
     ensures kept { is_refusal result ≡ true → (behind_of tools.new).parts.sheet.tree ≡ (behind_of tools.old).parts.sheet.tree }
     ensures answered { WasAnsweredBy tree.now (pass_in pass.new) (behind_of tools.old) (behind_of tools.new) call.now (record { call = length (behind_of tools.old).pen.history + 1; reply = result }) }
 {
-    let engine = begin::<W>(tools, tree, pass);
+    let engine = begin::<W, K>(tools, tree, pass);
     let (engine, reply) = applied(engine, call);
     end(tools, tree, engine, pass);
     reply
 }
 
 /// Makes a store for which rows were found free.
-pub(crate) fn store_prealloc<W: Writer>(
+pub(crate) fn store_prealloc<W: Writer, K: OfWidth>(
     tools: &mut Option<Tools>,
     tree: &Tree,
     pass: &mut Pass,
@@ -108,6 +123,7 @@ pub(crate) fn store_prealloc<W: Writer>(
     entry: u64,
 ) -> Reply
     requires worker { IsWorker tree.now tools.old pass.old W.table W.turn }
+    requires wide { K.wide ≡ kind_width W.table.shape.kind }
     requires room { length (behind_of tools.old).pen.history < limit_of tree.now }
     requires ready { IsReady (behind_of tools.old).parts }
     ensures rest { IsAtRest tools.new }
@@ -120,20 +136,21 @@ pub(crate) fn store_prealloc<W: Writer>(
     ensures kept { is_refusal result ≡ true → (behind_of tools.new).parts.sheet.tree ≡ (behind_of tools.old).parts.sheet.tree }
     ensures unscanned { (behind_of tools.new).pen.sections ≡ [] }
 {
-    let mut engine = begin::<W>(tools, tree, pass);
+    let mut engine = begin::<W, K>(tools, tree, pass);
     let reply = engine.store_prealloc(first, last, entry);
     end(tools, tree, engine, pass);
     reply
 }
 
 /// Answers one query.
-pub(crate) fn ask<W: Writer>(
+pub(crate) fn ask<W: Writer, K: OfWidth>(
     tools: &mut Option<Tools>,
     tree: &Tree,
     pass: &mut Pass,
     query: &Query,
 ) -> Option<Range>
-    requires { IsWorker tree.now tools.old pass.old W.table W.turn }
+    requires worker { IsWorker tree.now tools.old pass.old W.table W.turn }
+    requires wide { K.wide ≡ kind_width W.table.shape.kind }
     ensures rest { IsAtRest tools.new }
     ensures read { IsRead (behind_of tools.old) (behind_of tools.new) }
     ensures of { IsPassOf tree.now pass.new }
@@ -141,19 +158,20 @@ pub(crate) fn ask<W: Writer>(
     ensures saw { known.Saw (opened tree.now) (pass_in pass.old) (pass_in pass.new) }
     ensures asked { known.Read (opened tree.now) (pass_in pass.old) (length (behind_of tools.old).pen.history) (length (behind_of tools.old).pen.history) (length (behind_of tools.old).pen.history) query.now result (pass_in pass.new) }
 {
-    let mut engine = begin::<W>(tools, tree, pass);
+    let mut engine = begin::<W, K>(tools, tree, pass);
     let range = engine.ask(query);
     end(tools, tree, engine, pass);
     range
 }
 
 /// Makes the tree ready for a store.
-pub(crate) fn preallocate<W: Writer>(
+pub(crate) fn preallocate<W: Writer, K: OfWidth>(
     tools: &mut Option<Tools>,
     tree: &Tree,
     pass: &mut Pass,
 ) -> Result<(), Shortage>
-    requires { IsWorker tree.now tools.old pass.old W.table W.turn }
+    requires worker { IsWorker tree.now tools.old pass.old W.table W.turn }
+    requires wide { K.wide ≡ kind_width W.table.shape.kind }
     ensures rest { IsAtRest tools.new }
     ensures prepared { WasPrepared tree.now (behind_of tools.old) (behind_of tools.new) }
     ensures of { IsPassOf tree.now pass.new }
@@ -162,20 +180,21 @@ pub(crate) fn preallocate<W: Writer>(
     ensures ready { IsOk result ↔ IsReady (behind_of tools.new).parts }
     ensures short { IfErr result (λ shortage. IsShortNow tree.now (pass_in pass.new) (behind_of tools.old) (behind_of tools.new) shortage) }
 {
-    let mut engine = begin::<W>(tools, tree, pass);
+    let mut engine = begin::<W, K>(tools, tree, pass);
     let made = engine.preallocate();
     end(tools, tree, engine, pass);
     made
 }
 
 /// Copies the ranges out.
-pub(crate) fn list<W: Writer>(
+pub(crate) fn list<W: Writer, K: OfWidth>(
     tools: &mut Option<Tools>,
     tree: &Tree,
     pass: &mut Pass,
     alloc: Global,
 ) -> Result<Vec<Range>, NoMemory>
-    requires { IsWorker tree.now tools.old pass.old W.table W.turn }
+    requires worker { IsWorker tree.now tools.old pass.old W.table W.turn }
+    requires wide { K.wide ≡ kind_width W.table.shape.kind }
     ensures rest { IsAtRest tools.new }
     ensures read { IsRead (behind_of tools.old) (behind_of tools.new) }
     ensures of { IsPassOf tree.now pass.new }
@@ -183,7 +202,7 @@ pub(crate) fn list<W: Writer>(
     ensures saw { known.Saw (opened tree.now) (pass_in pass.old) (pass_in pass.new) }
     ensures items { IfOk result (λ ranges. ranges.items ≡ map_seen tree.now (pass_in pass.new)) }
 {
-    let mut engine = begin::<W>(tools, tree, pass);
+    let mut engine = begin::<W, K>(tools, tree, pass);
     let ranges = engine.list(alloc);
     end(tools, tree, engine, pass);
     ranges

@@ -10,10 +10,10 @@ ghost use Rattle.mt_rule.specs.Tokens.{identity_of, shape_opened, turn_seat, IsP
 ghost use Rattle.mt_pen.specs.Works.{OpensSmall};
 
 use crate::asserts::{KINDS, same};
-use mt_base::{Call, Holder, Kind, NoMemory, Reply, Steps, cols, width_of};
+use mt_base::{Call, Holder, Kind, NoMemory, Reply, Steps, Width, cols, width_of};
 use mt_pen::{PenRows, Writer};
 use mt_rows::{PlainRows, Rows, Scan};
-use mt_rule::{MtTable, Pass, Pen};
+use mt_rule::{LongRows, MtTable, OfWidth, Pass, Pen, ShortRows};
 use std::alloc::Global;
 use std::marker::Brand;
 use std::process::Abort;
@@ -45,7 +45,8 @@ fn last_pass(table: &MtTable, passes: &mut Vec<Pass>) -> Result<Pass, Fail>
 }
 
 /// Works on new rows: a call that drafts a word and changes nothing, and another that does not even that.
-fn work<W: Writer>(rt: &impl Abort, table: &MtTable, kind: Kind, pen: Pen, pass: Pass)
+fn work<W: Writer, K: OfWidth>(rt: &impl Abort, table: &MtTable, kind: Kind, pen: Pen, pass: Pass)
+    requires wide { K.wide ≡ kind_width kind }
     requires table { identity_of table.now ≡ W.table }
     requires turn { turn_seat pass ≡ W.turn }
     requires shape { (identity_of table.now).shape ≡ shape_opened kind (new_sheet (kind_width kind) 3) 1 8 }
@@ -54,7 +55,7 @@ fn work<W: Writer>(rt: &impl Abort, table: &MtTable, kind: Kind, pen: Pen, pass:
     requires new { pen_in pen ≡ record (new_pen (identity_of table.now).shape (new_sheet (kind_width kind) 3).tree) { dealt = 1 } }
     requires pass { IsPassOf (identity_of table.now) pass }
 {
-    let mut rows: PenRows<'_, W> = PenRows::new(table, pen, pass);
+    let mut rows: PenRows<'_, W, K> = PenRows::new(table, pen, pass);
     same(rt, rows.size(), 3, "the size");
     same(rt, rows.width(), width_of(kind), "the width");
     let last = cols(rows.width()) - 1;
@@ -73,7 +74,10 @@ fn work<W: Writer>(rt: &impl Abort, table: &MtTable, kind: Kind, pen: Pen, pass:
 fn work_on_rows(rt: &impl Abort, alloc: Global, kind: Kind) -> Result<(), Fail> {
     let (table, pen, mut passes) = table_of(alloc, kind, 1)?;
     let pass = last_pass(&table, &mut passes)?;
-    work::<Brand>(rt, &table, kind, pen, pass);
+    match width_of(kind) {
+        Width::Long => work::<Brand, LongRows>(rt, &table, kind, pen, pass),
+        Width::Short => work::<Brand, ShortRows>(rt, &table, kind, pen, pass),
+    }
     Ok(())
 }
 
@@ -110,10 +114,11 @@ fn close<L: Ledger>(blank: Blank, table: &MtTable, pass: &mut Pass)
 }
 
 /// A scan, with the pen and the pass that made it.
-fn scanned<W: Writer>(table: &MtTable, pen: Pen, pass: Pass) -> (Scan, Pen, Pass)
+fn scanned<W: Writer, K: OfWidth>(table: &MtTable, pen: Pen, pass: Pass) -> (Scan, Pen, Pass)
     requires table { identity_of table.now ≡ W.table }
     requires turn { turn_seat pass ≡ W.turn }
     requires opens { OpensSmall (identity_of table.now).shape }
+    requires wide { K.wide ≡ kind_width (identity_of table.now).shape.kind }
     requires pen { IsPenOf (identity_of table.now) pen }
     requires alone { IsAlone pen }
     requires idle { (pen_in pen).in_flight ≡ false }
@@ -125,7 +130,7 @@ fn scanned<W: Writer>(table: &MtTable, pen: Pen, pass: Pass) -> (Scan, Pen, Pass
     ensures dealt { (pen_in result.1).dealt ≡ (identity_of table.now).shape.passes }
     ensures pass { IsPassOf (identity_of table.now) result.2 }
 {
-    let mut rows: PenRows<'_, W> = PenRows::new(table, pen, pass);
+    let mut rows: PenRows<'_, W, K> = PenRows::new(table, pen, pass);
     let scan = rows.scan();
     let (pen, pass) = rows.end();
     (scan, pen, pass)
@@ -146,14 +151,14 @@ fn a_scan_finds_who_reads(rt: HostRuntime) -> Result<(), Fail> {
     let mut middle = last_pass(&table, &mut passes)?;
     let pass = last_pass(&table, &mut passes)?;
     open::<Brand>(Blank::new(1), &table, &mut last);
-    let (scan, pen, pass) = scanned::<Brand>(&table, pen, pass);
+    let (scan, pen, pass) = scanned::<Brand, ShortRows>(&table, pen, pass);
     same(&rt, scan, held_by(2), "one reads");
     open::<Brand>(Blank::new(1), &table, &mut middle);
-    let (scan, pen, pass) = scanned::<Brand>(&table, pen, pass);
+    let (scan, pen, pass) = scanned::<Brand, ShortRows>(&table, pen, pass);
     same(&rt, scan, held_by(1), "two read");
     close::<Brand>(Blank::new(1), &table, &mut middle);
     close::<Brand>(Blank::new(1), &table, &mut last);
-    let (scan, ..) = scanned::<Brand>(&table, pen, pass);
+    let (scan, ..) = scanned::<Brand, ShortRows>(&table, pen, pass);
     let (least, by) = (u64::MAX, None);
     same(&rt, scan, Scan { least, by }, "nobody reads");
     Ok(())

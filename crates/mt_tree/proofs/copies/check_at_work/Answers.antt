@@ -7,30 +7,30 @@ use Rattle.mt_tree.proofs.copies.check_at_work.Goals as goal
 
 pub form_of-form-requires : goal.form_of-form-requires
 form_of-form-requires g c =
-    let w = at_work c.args.tree.now c.args.tools.now c.args.pass.now g.W.Writer.table g.W.Writer.turn c.begin-engine.result c.requires c.begin-engine.ensures.kind c.begin-engine.ensures.book c.begin-engine.ensures.sheet c.begin-engine.ensures.shown in
+    let w = at_work c.args.tree.now c.args.tools.now c.args.pass.now g.W.Writer.table g.W.Writer.turn c.begin-engine.result c.requires.worker c.begin-engine.ensures.kind c.begin-engine.ensures.book c.begin-engine.ensures.sheet c.begin-engine.ensures.shown in
     let kind = kind_still _ _ _ _ _ w ∙ sym c.args.tree.now.kind in
     lawful_as _ _ _ _ _ c.parts-rows.ensures.rows kind c.parts-rows.ensures.idle
 
 pub of_height-engine-requires-clause-idle : goal.of_height-engine-requires-clause-idle
 of_height-engine-requires-clause-idle g c =
-    let w = at_work c.args.tree.now c.args.tools.now c.args.pass.now g.W.Writer.table g.W.Writer.turn c.begin-engine.result c.requires c.begin-engine.ensures.kind c.begin-engine.ensures.book c.begin-engine.ensures.sheet c.begin-engine.ensures.shown in
+    let w = at_work c.args.tree.now c.args.tools.now c.args.pass.now g.W.Writer.table g.W.Writer.turn c.begin-engine.result c.requires.worker c.begin-engine.ensures.kind c.begin-engine.ensures.book c.begin-engine.ensures.sheet c.begin-engine.ensures.shown in
     let kind = kind_still _ _ _ _ _ w ∙ sym c.args.tree.now.kind in
     idle_as _ _ _ _ _ _ c.parts-rows.ensures.rows kind c.form_of-form.ensures.rest c.parts-rows.ensures.idle
 
 pub of_height-engine-requires-clause-height : goal.of_height-engine-requires-clause-height
 of_height-engine-requires-clause-height g c =
-    let w = at_work c.args.tree.now c.args.tools.now c.args.pass.now g.W.Writer.table g.W.Writer.turn c.begin-engine.result c.requires c.begin-engine.ensures.kind c.begin-engine.ensures.book c.begin-engine.ensures.sheet c.begin-engine.ensures.shown in
+    let w = at_work c.args.tree.now c.args.tools.now c.args.pass.now g.W.Writer.table g.W.Writer.turn c.begin-engine.result c.requires.worker c.begin-engine.ensures.kind c.begin-engine.ensures.book c.begin-engine.ensures.sheet c.begin-engine.ensures.shown in
     high_as _ _ _ c.height-height.result c.parts-rows.ensures.rows c.form_of-form.ensures.rest c.height-height.ensures
 
 pub end-requires-clause-few : goal.end-requires-clause-few
 end-requires-clause-few g c =
-    let w = at_work c.args.tree.now c.args.tools.now c.args.pass.now g.W.Writer.table g.W.Writer.turn c.begin-engine.result c.requires c.begin-engine.ensures.kind c.begin-engine.ensures.book c.begin-engine.ensures.sheet c.begin-engine.ensures.shown in
+    let w = at_work c.args.tree.now c.args.tools.now c.args.pass.now g.W.Writer.table g.W.Writer.turn c.begin-engine.result c.requires.worker c.begin-engine.ensures.kind c.begin-engine.ensures.book c.begin-engine.ensures.sheet c.begin-engine.ensures.shown in
     let reads = reads_through _ _ _ _ c.parts-rows.ensures.rows c.form_of-form.ensures.rest c.of_height-engine.ensures.sheet in
     still_few _ _ _ _ _ w c.of_height-engine.result (ap (λ (s : Sheet). s.told) reads)
 
 pub returns-clause-read : goal.returns-clause-read
 returns-clause-read g c =
-    let w = at_work c.args.tree.now c.args.tools.now c.args.pass.now g.W.Writer.table g.W.Writer.turn c.begin-engine.result c.requires c.begin-engine.ensures.kind c.begin-engine.ensures.book c.begin-engine.ensures.sheet c.begin-engine.ensures.shown in
+    let w = at_work c.args.tree.now c.args.tools.now c.args.pass.now g.W.Writer.table g.W.Writer.turn c.begin-engine.result c.requires.worker c.begin-engine.ensures.kind c.begin-engine.ensures.book c.begin-engine.ensures.sheet c.begin-engine.ensures.shown in
     let kind = kind_still _ _ _ _ _ w ∙ sym c.args.tree.now.kind in
     let reads = reads_through _ _ _ _ c.parts-rows.ensures.rows c.form_of-form.ensures.rest c.of_height-engine.ensures.sheet in
     let book = c.of_height-engine.ensures.book ∙ c.parts-rows.ensures.book in
@@ -39,7 +39,7 @@ returns-clause-read g c =
 
 pub returns-clause-saw : goal.returns-clause-saw
 returns-clause-saw g c =
-    let w = at_work c.args.tree.now c.args.tools.now c.args.pass.now g.W.Writer.table g.W.Writer.turn c.begin-engine.result c.requires c.begin-engine.ensures.kind c.begin-engine.ensures.book c.begin-engine.ensures.sheet c.begin-engine.ensures.shown in
+    let w = at_work c.args.tree.now c.args.tools.now c.args.pass.now g.W.Writer.table g.W.Writer.turn c.begin-engine.result c.requires.worker c.begin-engine.ensures.kind c.begin-engine.ensures.book c.begin-engine.ensures.sheet c.begin-engine.ensures.shown in
     let kind = kind_still _ _ _ _ _ w ∙ sym c.args.tree.now.kind in
     let reads = reads_through _ _ _ _ c.parts-rows.ensures.rows c.form_of-form.ensures.rest c.of_height-engine.ensures.sheet in
     let book = c.of_height-engine.ensures.book ∙ c.parts-rows.ensures.book in
@@ -48,7 +48,7 @@ returns-clause-saw g c =
 
 pub returns-clause-words : goal.returns-clause-words
 returns-clause-words g c =
-    let w = at_work c.args.tree.now c.args.tools.now c.args.pass.now g.W.Writer.table g.W.Writer.turn c.begin-engine.result c.requires c.begin-engine.ensures.kind c.begin-engine.ensures.book c.begin-engine.ensures.sheet c.begin-engine.ensures.shown in
+    let w = at_work c.args.tree.now c.args.tools.now c.args.pass.now g.W.Writer.table g.W.Writer.turn c.begin-engine.result c.requires.worker c.begin-engine.ensures.kind c.begin-engine.ensures.book c.begin-engine.ensures.sheet c.begin-engine.ensures.shown in
     let kind = kind_still _ _ _ _ _ w ∙ sym c.args.tree.now.kind in
     let reads = reads_through _ _ _ _ c.parts-rows.ensures.rows c.form_of-form.ensures.rest c.of_height-engine.ensures.sheet in
     let book = c.of_height-engine.ensures.book ∙ c.parts-rows.ensures.book in
@@ -57,5 +57,5 @@ returns-clause-words g c =
 
 pub returns-clause-form : goal.returns-clause-form
 returns-clause-form g c =
-    let w = at_work c.args.tree.now c.args.tools.now c.args.pass.now g.W.Writer.table g.W.Writer.turn c.begin-engine.result c.requires c.begin-engine.ensures.kind c.begin-engine.ensures.book c.begin-engine.ensures.sheet c.begin-engine.ensures.shown in
+    let w = at_work c.args.tree.now c.args.tools.now c.args.pass.now g.W.Writer.table g.W.Writer.turn c.begin-engine.result c.requires.worker c.begin-engine.ensures.kind c.begin-engine.ensures.book c.begin-engine.ensures.sheet c.begin-engine.ensures.shown in
     form_behind _ _ _ _ _ w _ c.parts-rows.ensures.rows _ c.form_of-form.result c.args.tree.now.kind c.form_of-form.ensures.form

@@ -8,30 +8,30 @@ use Rattle.mt_tree.proofs.images.image_at_work.Goals as goal
 
 pub write_image-image-requires : goal.write_image-image-requires
 write_image-image-requires g c =
-    let w = at_work c.args.tree.now c.args.tools.now c.args.pass.now g.W.Writer.table g.W.Writer.turn c.begin-engine.result c.requires c.begin-engine.ensures.kind c.begin-engine.ensures.book c.begin-engine.ensures.sheet c.begin-engine.ensures.shown in
+    let w = at_work c.args.tree.now c.args.tools.now c.args.pass.now g.W.Writer.table g.W.Writer.turn c.begin-engine.result c.requires.worker c.begin-engine.ensures.kind c.begin-engine.ensures.book c.begin-engine.ensures.sheet c.begin-engine.ensures.shown in
     let kind = kind_still _ _ _ _ _ w ∙ sym c.args.tree.now.kind in
     lawful_as _ _ _ _ _ c.parts-rows.ensures.rows kind c.parts-rows.ensures.idle
 
 pub of_height-engine-requires-clause-idle : goal.of_height-engine-requires-clause-idle
 of_height-engine-requires-clause-idle g c =
-    let w = at_work c.args.tree.now c.args.tools.now c.args.pass.now g.W.Writer.table g.W.Writer.turn c.begin-engine.result c.requires c.begin-engine.ensures.kind c.begin-engine.ensures.book c.begin-engine.ensures.sheet c.begin-engine.ensures.shown in
+    let w = at_work c.args.tree.now c.args.tools.now c.args.pass.now g.W.Writer.table g.W.Writer.turn c.begin-engine.result c.requires.worker c.begin-engine.ensures.kind c.begin-engine.ensures.book c.begin-engine.ensures.sheet c.begin-engine.ensures.shown in
     let kind = kind_still _ _ _ _ _ w ∙ sym c.args.tree.now.kind in
     idle_as _ _ _ _ _ _ c.parts-rows.ensures.rows kind c.write_image-image.ensures.rest c.parts-rows.ensures.idle
 
 pub of_height-engine-requires-clause-height : goal.of_height-engine-requires-clause-height
 of_height-engine-requires-clause-height g c =
-    let w = at_work c.args.tree.now c.args.tools.now c.args.pass.now g.W.Writer.table g.W.Writer.turn c.begin-engine.result c.requires c.begin-engine.ensures.kind c.begin-engine.ensures.book c.begin-engine.ensures.sheet c.begin-engine.ensures.shown in
+    let w = at_work c.args.tree.now c.args.tools.now c.args.pass.now g.W.Writer.table g.W.Writer.turn c.begin-engine.result c.requires.worker c.begin-engine.ensures.kind c.begin-engine.ensures.book c.begin-engine.ensures.sheet c.begin-engine.ensures.shown in
     high_as _ _ _ c.height-height.result c.parts-rows.ensures.rows c.write_image-image.ensures.rest c.height-height.ensures
 
 pub end-requires-clause-few : goal.end-requires-clause-few
 end-requires-clause-few g c =
-    let w = at_work c.args.tree.now c.args.tools.now c.args.pass.now g.W.Writer.table g.W.Writer.turn c.begin-engine.result c.requires c.begin-engine.ensures.kind c.begin-engine.ensures.book c.begin-engine.ensures.sheet c.begin-engine.ensures.shown in
+    let w = at_work c.args.tree.now c.args.tools.now c.args.pass.now g.W.Writer.table g.W.Writer.turn c.begin-engine.result c.requires.worker c.begin-engine.ensures.kind c.begin-engine.ensures.book c.begin-engine.ensures.sheet c.begin-engine.ensures.shown in
     let reads = reads_through _ _ _ _ c.parts-rows.ensures.rows c.write_image-image.ensures.rest c.of_height-engine.ensures.sheet in
     still_few _ _ _ _ _ w c.of_height-engine.result (ap (λ (s : Sheet). s.told) reads)
 
 pub returns-clause-read : goal.returns-clause-read
 returns-clause-read g c =
-    let w = at_work c.args.tree.now c.args.tools.now c.args.pass.now g.W.Writer.table g.W.Writer.turn c.begin-engine.result c.requires c.begin-engine.ensures.kind c.begin-engine.ensures.book c.begin-engine.ensures.sheet c.begin-engine.ensures.shown in
+    let w = at_work c.args.tree.now c.args.tools.now c.args.pass.now g.W.Writer.table g.W.Writer.turn c.begin-engine.result c.requires.worker c.begin-engine.ensures.kind c.begin-engine.ensures.book c.begin-engine.ensures.sheet c.begin-engine.ensures.shown in
     let kind = kind_still _ _ _ _ _ w ∙ sym c.args.tree.now.kind in
     let reads = reads_through _ _ _ _ c.parts-rows.ensures.rows c.write_image-image.ensures.rest c.of_height-engine.ensures.sheet in
     let book = c.of_height-engine.ensures.book ∙ c.parts-rows.ensures.book in
@@ -40,7 +40,7 @@ returns-clause-read g c =
 
 pub returns-clause-saw : goal.returns-clause-saw
 returns-clause-saw g c =
-    let w = at_work c.args.tree.now c.args.tools.now c.args.pass.now g.W.Writer.table g.W.Writer.turn c.begin-engine.result c.requires c.begin-engine.ensures.kind c.begin-engine.ensures.book c.begin-engine.ensures.sheet c.begin-engine.ensures.shown in
+    let w = at_work c.args.tree.now c.args.tools.now c.args.pass.now g.W.Writer.table g.W.Writer.turn c.begin-engine.result c.requires.worker c.begin-engine.ensures.kind c.begin-engine.ensures.book c.begin-engine.ensures.sheet c.begin-engine.ensures.shown in
     let kind = kind_still _ _ _ _ _ w ∙ sym c.args.tree.now.kind in
     let reads = reads_through _ _ _ _ c.parts-rows.ensures.rows c.write_image-image.ensures.rest c.of_height-engine.ensures.sheet in
     let book = c.of_height-engine.ensures.book ∙ c.parts-rows.ensures.book in
@@ -49,7 +49,7 @@ returns-clause-saw g c =
 
 pub returns-clause-words : goal.returns-clause-words
 returns-clause-words g c =
-    let w = at_work c.args.tree.now c.args.tools.now c.args.pass.now g.W.Writer.table g.W.Writer.turn c.begin-engine.result c.requires c.begin-engine.ensures.kind c.begin-engine.ensures.book c.begin-engine.ensures.sheet c.begin-engine.ensures.shown in
+    let w = at_work c.args.tree.now c.args.tools.now c.args.pass.now g.W.Writer.table g.W.Writer.turn c.begin-engine.result c.requires.worker c.begin-engine.ensures.kind c.begin-engine.ensures.book c.begin-engine.ensures.sheet c.begin-engine.ensures.shown in
     let kind = kind_still _ _ _ _ _ w ∙ sym c.args.tree.now.kind in
     let reads = reads_through _ _ _ _ c.parts-rows.ensures.rows c.write_image-image.ensures.rest c.of_height-engine.ensures.sheet in
     let book = c.of_height-engine.ensures.book ∙ c.parts-rows.ensures.book in
@@ -58,5 +58,5 @@ returns-clause-words g c =
 
 pub returns-clause-image : goal.returns-clause-image
 returns-clause-image g c =
-    let w = at_work c.args.tree.now c.args.tools.now c.args.pass.now g.W.Writer.table g.W.Writer.turn c.begin-engine.result c.requires c.begin-engine.ensures.kind c.begin-engine.ensures.book c.begin-engine.ensures.sheet c.begin-engine.ensures.shown in
+    let w = at_work c.args.tree.now c.args.tools.now c.args.pass.now g.W.Writer.table g.W.Writer.turn c.begin-engine.result c.requires.worker c.begin-engine.ensures.kind c.begin-engine.ensures.book c.begin-engine.ensures.sheet c.begin-engine.ensures.shown in
     IfOk-weaker c.write_image-image.result _ _ (λ bytes image. image_behind _ _ _ _ _ w _ c.parts-rows.ensures.rows _ bytes.items c.args.tree.now.kind image) c.write_image-image.ensures.image

@@ -4,4 +4,4 @@ use Rattle.mt_rows.specs.declared.rows.Place.TheVariants.{Root}
 use Rattle.mt_rule.proofs.table.MtTable.bury.Given as goal
 
 abbrev pub ghosts-bury_at : goal.ghosts-bury_at
-ghosts-bury_at a = record { call = calls.Clear; reply = replies.Ok; place = Root; number = a.row; column = 0; word = 0 }
+ghosts-bury_at g a = record { call = calls.Clear; reply = replies.Ok; place = Root; number = a.row; column = 0; word = 0 }

@@ -4,4 +4,4 @@ use Rattle.mt_rows.specs.declared.rows.Place.TheVariants.{Root}
 use Rattle.mt_rule.proofs.table.MtTable.tend.Given as goal
 
 abbrev pub ghosts-tend_at : goal.ghosts-tend_at
-ghosts-tend_at a = record { call = calls.Clear; reply = replies.Ok; place = Root; number = a.row; column = a.col; word = 0 }
+ghosts-tend_at g a = record { call = calls.Clear; reply = replies.Ok; place = Root; number = a.row; column = a.col; word = 0 }

@@ -4,6 +4,10 @@ use Rattle.mt_tree.specs.Behind.{Behind}
 use Rattle.mt_tree.specs.Trees.{opened}
 use Rattle.mt_tree.proofs.behind.WriterState.image.Goals as goal
 
-pub returns-clause-image : goal.returns-clause-image
-returns-clause-image c =
+pub returns-in-Long-clause-image : goal.returns-in-Long-clause-image
+returns-in-Long-clause-image c =
     subst (λ (b : Behind). IfOk c.image_at_work.result (λ bytes. IsImageOf (opened c.args.tree.now).kind b.parts.sheet.tree bytes.items)) c.self.view_is c.image_at_work.ensures.image
+
+pub returns-in-Short-clause-image : goal.returns-in-Short-clause-image
+returns-in-Short-clause-image c =
+    subst (λ (b : Behind). IfOk c.image_at_work-in-Short.result (λ bytes. IsImageOf (opened c.args.tree.now).kind b.parts.sheet.tree bytes.items)) c.self.view_is c.image_at_work-in-Short.ensures.image
