@@ -15,13 +15,15 @@ use Rattle.mt_tree.specs.declared.shapes.Field.{Field}
 use Rattle.mt_tree.specs.declared.shapes.Shape.{Shape}
 use Rattle.mt_tree.specs.Shapes.{first_bad}
 use Rattle.mt_tree.specs.declared.shapes.Read.{Read}
+use Rattle.mt_keep.specs.declared.keep.Given.{Given}
+use Rattle.mt_tree.specs.declared.trees.Tree.{Tree}
+use Rattle.mt_c.specs.declared.purse.Purse.{Purse}
 use Rattle.mt_c.specs.declared.user.User.{User}
-use Rattle.mt_c.specs.declared.user_acts.Settling.{Settling}
 use Rattle.mt_c.specs.declared.user_opens.Unchanged.{Unchanged}
 use Rattle.mt_c.specs.declared.shared_told.Outcome.{Outcome}
 use Rattle.mt_c.specs.declared.steps.OutWalk.{OutWalk}
 use Rattle.mt_c.specs.declared.shared_told.Window.{Window}
-use Rattle.mt_c.specs.Shared.{IsFirst, IsSettled, IsShape, IsSynced, IsWhy, OnUser, SharedAsked, SharedLearned, SharedLeft, SharedNew, SharedOpened, SharedSettled, SharedStepped, SharedSynced, SharedTried, SharedWith, answer_status, calls_told, common_of, known_to, no_outcome, no_window, outcome_of, paused, settled_status, settled_told, synced_status, tree_of, tried_status, unchanged_status, went_on, window_of}
+use Rattle.mt_c.specs.Shared.{HasLeft, IsFirst, IsOfPurse, IsSettled, Settled, IsShape, IsSynced, IsWhy, OnUser, SharedAsked, SharedLearned, SharedLeft, SharedNew, SharedOpened, SharedSettled, SharedStepped, SharedSynced, SharedTried, SharedWith, answer_status, calls_told, common_of, known_to, no_outcome, no_window, outcome_of, paused, rested, settled_status, settled_told, synced_status, tree_of, tried_status, unchanged_status, went_on, window_of}
 use Rattle.mt_c.specs.Walkers.{Answer, GoesOn, IsAnswer, IsAtRest, IsTried, Tried, top}
 use Rattle.mt_c.specs.Walking.{index_of}
 use Rattle.mt_read.specs.Cursors.{query_at}
@@ -118,8 +120,9 @@ module _ (before after other other' : Option User) (status : ℕ) where
   pub with_busy : (u o : User) → before ≡ Some u → after ≡ Some u → other ≡ Some o → other' ≡ Some o → status ≡ 16 → SharedWith before after other other' status
   with_busy u o was is held still number = rw (was, is, held) (refl, still, number)
 
-  pub with_made : (u v w : User) → before ≡ Some u → after ≡ Some v → other ≡ None → other' ≡ Some w → status ≡ 0 → tree_of v ≡ tree_of u → known_to v ≡ known_to u → v.walker.walk ≡ u.walker.walk → tree_of w ≡ tree_of u → SharedWith before after other other' status
-  with_made u v w was is none made number tree known walk of = rw (was, is, none, made) (number, record { tree = tree; known = known; walk = walk }, of)
+  pub with_made : (u v w : User) → before ≡ Some u → after ≡ Some v → other ≡ None → other' ≡ Some w → status ≡ 0 → tree_of v ≡ tree_of u → known_to v ≡ known_to u → v.walker.walk ≡ u.walker.walk → tree_of w ≡ tree_of u
+      → (given : Given Purse Tree) → IsOfPurse (common_of u) w given → SharedWith before after other other' status
+  with_made u v w was is none made number tree known walk of given last = rw (was, is, none, made) (number, record { tree = tree; known = known; walk = walk }, of, given, last)
 
   pub with_none : (u v : User) (why : Unchanged) → before ≡ Some u → after ≡ Some v → other ≡ None → other' ≡ None → status ≡ unchanged_status why → tree_of v ≡ tree_of u → known_to v ≡ known_to u → v.walker.walk ≡ u.walker.walk → IsWhy (common_of u) why
       → SharedWith before after other other' status
@@ -130,8 +133,8 @@ module _ (before after other other' : Option User) (status : ℕ) where
 pub left_closed : (before after : Option User) (status : ℕ) → before ≡ None → after ≡ None → status ≡ 22 → SharedLeft before after status
 left_closed before after status was is number = rw was (is, number)
 
-pub left_done : (before after : Option User) (status : ℕ) (u : User) → before ≡ Some u → after ≡ None → status ≡ 0 → SharedLeft before after status
-left_done before after status u was is number = rw (was, is) number
+pub left_done : (before after : Option User) (status : ℕ) (u : User) (given : Given Purse Tree) → before ≡ Some u → after ≡ None → status ≡ 0 → HasLeft (common_of u) (rested u) given → SharedLeft before after status
+left_done before after status u given was is number left = rw (was, is) (number, given, left)
 
 pub left_open : (before after : Option User) (status : ℕ) (u v : User) (why : Unchanged) → before ≡ Some u → after ≡ Some v → tree_of v ≡ tree_of u → known_to v ≡ paused u → IsWhy (common_of u) why → status ≡ unchanged_status why
     → SharedLeft before after status
@@ -139,7 +142,7 @@ left_open before after status u v why was is tree known told number = rw (was, i
 
 -- ---- settling
 
-pub settled_open : (before after : Option User) (u v : User) (settled : Result (ℕ × ℕ) Settling) (status calls passes : ℕ) → before ≡ Some u → after ≡ Some v → tree_of v ≡ tree_of u
+pub settled_open : (before after : Option User) (u v : User) (settled : Settled) (status calls passes : ℕ) → before ≡ Some u → after ≡ Some v → tree_of v ≡ tree_of u
     → IsSettled (common_of u) (paused u) settled (known_to v) → status ≡ settled_status settled → calls ≡ (settled_told settled).0 → passes ≡ (settled_told settled).1 → SharedSettled before after status calls passes
 settled_open before after u v settled status calls passes was is tree said number told met = on_open before after u v status _ _ was is tree (settled, said, number, told, met)
 

@@ -1,8 +1,9 @@
 -- What a user of a shared tree does: which section stands open is no part of what a read says, and where a walk goes on.
-use Rattle.std.proofs.Common.{◌≡◌, ◌∙◌, ℕ, List, [], ◌∷◌, ◌++◌, ◌<◌, ◌^◌, length, map, refl, sym, ap, subst, arith, Bool, Option, Some, None}
+use Rattle.std.proofs.Common.{◌≡◌, ◌∙◌, ℕ, suc, get_or, List, [], ◌∷◌, ◌++◌, ◌<◌, ◌^◌, length, map, refl, sym, ap, subst, arith, Bool, Option, Some, None}
 use Rattle.std.proofs.lemmas.Bool.{le-leb}
 use Rattle.std.proofs.lemmas.List.{length-map, map-append}
-use Rattle.std.specs.Prelude.{◌↔◌, Ok, Err, Result, IfOk, IfErr, IfSome, if◌then◌else◌}
+use Rattle.std.proofs.lemmas.Option.{slice_get-get_or, slice_get-map}
+use Rattle.std.specs.Prelude.{◌↔◌, All, Ok, Err, Result, IfOk, IfErr, IfSome, if◌then◌else◌, option_map, slice_get}
 use Rattle.atomic_table.specs.declared.badge.Badge.{Badge}
 use Rattle.mt_base.specs.declared.calls.Call.{Call}
 use Rattle.mt_base.specs.declared.calls.Query.{Query}
@@ -14,7 +15,9 @@ use Rattle.mt_read.specs.declared.cursor.KeptLeaf.{KeptLeaf}
 use Rattle.mt_read.specs.Cursors.{IsKept, place_behind, place_from, query_at}
 use Rattle.mt_read.specs.Neighbours.{WasMoved}
 use Rattle.mt_read.specs.Windows.{HasRead}
+use Rattle.mt_keep.specs.declared.keep.Given.{Given}
 use Rattle.mt_keep.specs.declared.keep.Sight.{Sight}
+use Rattle.mt_rule.specs.declared.busy.Busy.{Busy}
 use Rattle.mt_rule.specs.Tokens.{part_of}
 use Rattle.mt_tree.specs.declared.shapes.Read.{Read}
 use Rattle.mt_tree.specs.declared.trees.Tree.{Tree}
@@ -29,9 +32,11 @@ use Rattle.mt_tree.specs.declared.shapes.MakeError.TheVariants as make_error
 use Rattle.mt_tree.specs.declared.shapes.Shape.{Shape}
 use Rattle.mt_tree.specs.Shapes.{first_bad}
 use Rattle.mt_c.specs.declared.purse.Common.{Common}
+use Rattle.mt_c.specs.declared.purse.Purse.{Purse}
 use Rattle.mt_c.specs.declared.user.User.{User}
 use Rattle.mt_c.specs.declared.walker.Walker.{Walker}
-use Rattle.mt_c.specs.Purses.{IsSeatedAt}
+use Rattle.mt_c.specs.Purses.{IsSeatedAt, WasGiven}
+use Rattle.mt_c.specs.Spares.{IsSpare}
 use Rattle.mt_c.specs.KeptWalks.{IsKeptWalk, top}
 use Rattle.mt_c.specs.Users.{IsFirst, IsSettled, IsSynced, tree_of}
 use Rattle.mt_c.specs.Walkers.{Answer, GoesOn, HasSeen, IsAnswer, IsTried, KnowsAs, Tried, closed_by, knows}
@@ -151,8 +156,51 @@ tried_made t p a b call (Err why) was done busy kept = (busy, ap pass_in kept �
 pub synced : (t : Tree) (p q : known.Pass) (ps qs : List known.Pass) (calls : ℕ) → HaveMet t (p ∷ ps) (q ∷ qs) calls → IsSynced t p (Ok calls) q
 synced t p q ps qs calls met = let mine = met.each 0 p q refl refl in (mine.0, ap length mine.1 ∙ met.all)
 
-pub settled : (c : Common) (p q : known.Pass) (others others' : List Pass) (calls passes : ℕ) → HaveMet c.tree (p ∷ map pass_in others) (q ∷ map pass_in others') calls → passes ≡ length others' → IsSettled c p (Ok (calls, passes)) q
-settled c p q others others' calls passes met many = (map pass_in others, map pass_in others', met, many ∙ sym (length-map others' pass_in))
+pub settled : (c : Common) (p q : known.Pass) (others others' : List Pass) (calls passes : ℕ) (before after : List known.Pass) (given : Given Purse Tree) → HaveMet c.tree (p ∷ map pass_in others) (q ∷ map pass_in others') calls → passes ≡ length others'
+    → WasGiven c before after given → before ≡ map pass_in others → after ≡ map pass_in others' → IsSettled c p (Ok (calls, passes, given)) q
+settled c p q others others' calls passes before after given met many back took gave =
+    (map pass_in others, map pass_in others', met, many ∙ sym (length-map others' pass_in), record { at = back.at; took = back.took ∙ took; gave = back.gave ∙ gave })
+
+-- ---- passes that no user has
+
+pub spares_of : (t : Tree) (ps : List Pass) → All (IsSpare t) ps → All (IsPassOf t) ps
+spares_of t ps spare = λ k d lt. (spare k d lt).of
+
+-- those that have met a pass under the lock are still at rest
+met_spare : (t : Tree) (p q : known.Pass) (ps qs : List Pass) (calls : ℕ) → HaveMet t (p ∷ map pass_in ps) (q ∷ map pass_in qs) calls → All (IsSpare t) ps → All (IsPassOf t) qs → All (IsSpare t) qs
+met_spare t p q ps qs calls met spare of k d lt =
+    let few : k < length ps = let a = met.count in let b = length-map ps pass_in in let c = length-map qs pass_in in omega arith in
+    let before = spare k d few in
+    let p_at = slice_get-map pass_in ps k ∙ ap (option_map pass_in) (slice_get-get_or ps k d few) in
+    let q_at = slice_get-map pass_in qs k ∙ ap (option_map pass_in) (slice_get-get_or qs k d lt) in
+    record { of = of k d lt; rests = ap (λ (z : known.Pass). z.standing) (met.each (suc k) (pass_in (get_or ps k d)) (pass_in (get_or qs k d)) p_at q_at).0.pass ∙ before.rests }
+
+pub spare_still : (t : Tree) (p q : Pass) (ps qs : List Pass) (met : Result ℕ Busy) → IfOk met (HaveMet t (pass_in p ∷ map pass_in ps) (pass_in q ∷ map pass_in qs)) → IfErr met (λ _. (q ≡ p) × (qs ≡ ps)) → All (IsSpare t) ps → All (IsPassOf t) qs → All (IsSpare t) qs
+spare_still t p q ps qs (Ok calls) met kept spare of = met_spare t (pass_in p) (pass_in q) ps qs calls met spare of
+spare_still t p q ps qs (Err busy) met kept spare of = subst (All (IsSpare t)) (sym kept.1) spare
+
+-- those of a new tree are at rest
+pub new_spare : (t : Tree) (ps : List Pass) (numbers : List ℕ) → All (IsPassOf t) ps → map pass_in ps ≡ map known.new_pass numbers → All (IsSpare t) ps
+new_spare t ps numbers of new k d lt =
+    let at : slice_get (map pass_in ps) k ≡ Some (pass_in (get_or ps k d)) = slice_get-map pass_in ps k ∙ ap (option_map pass_in) (slice_get-get_or ps k d lt) in
+    record { of = of k d lt; rests = at_rest (slice_get numbers k) (pass_in (get_or ps k d)) (sym (slice_get-map known.new_pass numbers k) ∙ (ap (λ (l : List known.Pass). slice_get l k) (sym new) ∙ at)) }
+  where
+    standing_in : Option known.Pass → Option ℕ
+    standing_in None = None
+    standing_in (Some p) = p.standing
+
+    at_rest : (o : Option ℕ) (p : known.Pass) → option_map known.new_pass o ≡ Some p → p.standing ≡ None
+    at_rest None p e = sym (ap standing_in e)
+    at_rest (Some n) p e = sym (ap standing_in e)
+
+-- what was taken and given back empty
+pub given_empty : (c : Common) (given : Given Purse Tree) (took gave : List known.Pass) → WasGiven c took gave given → took ≡ gave → gave ≡ [] → WasGiven c [] [] given
+given_empty c given took gave was same none = record { at = was.at; took = was.took ∙ (same ∙ none); gave = was.gave ∙ none }
+
+-- a section that is closed twice is closed
+pub rested_halted : (walk : Option Cursor) (p q : known.Pass) → q ≡ closed_by walk p → ◌≡◌ {A = known.Pass} (record q { standing = None }) (record p { standing = None })
+rested_halted None p q is = ap (λ (z : known.Pass). record z { standing = None }) is
+rested_halted (Some w) p q is = ap (λ (z : known.Pass). record z { standing = None }) is
 
 -- ---- what is owned together
 
@@ -161,7 +209,7 @@ pub on : {x c : Common} {p : Pass} → x ≡ c → IsPassOf c.tree p → IsPassO
 on {x} {c} {p} same of = subst (λ (y : Common). IsPassOf y.tree p) (sym same) of
 
 -- and so is a chair at its purse
-pub at : {x c : Common} {chair : Badge (Sight Tree)} → x ≡ c → IsSeatedAt c chair → IsSeatedAt x chair
+pub at : {x c : Common} {chair : Badge (Sight Purse Tree)} → x ≡ c → IsSeatedAt c chair → IsSeatedAt x chair
 at {x} {c} {chair} same seated = subst (λ (y : Common). IsSeatedAt y chair) (sym same) seated
 
 -- ---- new trees

@@ -10,6 +10,7 @@ pub mod Images
 pub mod Building
 pub mod KeptWalks
 pub mod Walkers
+pub mod Spares
 pub mod Purses
 pub mod Users
 pub mod Shared

@@ -1,16 +1,38 @@
--- The purse of a tree that users own together: who has a chair at it, and what is told where it is taken.
+-- The purse of a tree that users own together: who has a chair at it, who has taken it, and what is told where it is taken, and where it
+-- was given back.
 -- Source: this project's own; the kernel's spin_trylock.
+use Rattle.std.specs.Prelude.{◌≡◌, List, Option, map}
+use Rattle.std.specs.declared.snapshot.Snapshot.{Snapshot}
 use Rattle.atomic_table.specs.declared.badge.Badge.{Badge}
+use Rattle.atomic_table.specs.declared.shared.Seat.{Seat}
+use Rattle.mt_base.specs.Passes as known
 use Rattle.mt_keep.specs.declared.keep.Busy.{Busy}
+use Rattle.mt_keep.specs.declared.keep.Given.{Given}
 use Rattle.mt_keep.specs.declared.keep.Sight.{Sight}
 use Rattle.mt_keep.specs.Keeping as keep
 use Rattle.mt_tree.specs.declared.trees.Tree.{Tree}
+use Rattle.mt_tree.specs.Trees.{pass_in}
 use Rattle.mt_c.specs.declared.purse.Common.{Common}
+use Rattle.mt_c.specs.declared.purse.Purse.{Purse}
 
 -- the chair is at the purse
-abbrev pub IsSeatedAt : Common → Badge (Sight Tree) → Type 0
+abbrev pub IsSeatedAt : Common → Badge (Sight Purse Tree) → Type 0
 IsSeatedAt c chair = keep.IsSeatedAt c.purse.table.shared.table_id c.purse.table.shared.key chair
 
+-- the seat has the purse, which was this when it took it
+abbrev pub IsTakenOf : Common → Snapshot Purse → Seat (Option Purse) (Sight Purse Tree) → Type 0
+IsTakenOf c took seat = keep.IsTakenOf c.purse.table.shared.table_id c.purse.table.shared.key took seat
+
 -- it tells that the purse was found taken
-abbrev pub IsBusyAt : Common → Busy Tree → Type 0
+abbrev pub IsBusyAt : Common → Busy Purse Tree → Type 0
 IsBusyAt c busy = keep.IsBusyAt c.purse.table.shared.table_id c.purse.table.shared.key busy
+
+-- what the passes of a purse know
+abbrev pub known_in : Purse → List known.Pass
+known_in purse = map pass_in purse.passes.items
+
+-- It tells that the purse was taken with passes that knew the one, and given back with passes that know the other.
+pub record WasGiven (c : Common) (found left : List known.Pass) (given : Given Purse Tree) : Type 0 where
+  pub at : keep.IsGivenAt c.purse.table.shared.table_id c.purse.table.shared.key given
+  pub took : known_in given.took.value ≡ found
+  pub gave : known_in given.gave.value ≡ left

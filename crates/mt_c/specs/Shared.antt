@@ -6,12 +6,15 @@ use Rattle.mt_base.specs.declared.calls.Call.{Call}
 use Rattle.mt_base.specs.declared.calls.Query.{Query}
 use Rattle.mt_base.specs.declared.calls.Query.TheVariants.{Load}
 use Rattle.mt_image.specs.Bytes.{kind_code}
+use Rattle.mt_keep.specs.declared.keep.Given.{Given}
 use Rattle.mt_rule.specs.declared.busy.Busy.{Busy}
 use Rattle.mt_tree.specs.declared.shapes.Done.{Done}
 use Rattle.mt_tree.specs.declared.shapes.Read.{Read}
 use Rattle.mt_tree.specs.declared.shapes.Shape.{Shape}
+use Rattle.mt_tree.specs.declared.trees.Tree.{Tree}
 use Rattle.mt_tree.specs.Shapes.{first_bad}
 use Rattle.mt_read.specs.Cursors.{place_behind, query_at}
+use Rattle.mt_c.specs.declared.purse.Purse.{Purse}
 use Rattle.mt_c.specs.declared.steps.OutWalk.{OutWalk}
 use Rattle.mt_c.specs.declared.user.User.{User}
 use Rattle.mt_c.specs.declared.told.OutRange.{OutRange}
@@ -22,7 +25,7 @@ use Rattle.mt_c.specs.declared.shared_told.Outcome.{Outcome}
 use Rattle.mt_c.specs.declared.shared_told.Window.{Window}
 use Rattle.mt_c.specs.Calls.{found_status, no_range, out_of, range_of, status_of, word_of}
 use Rattle.mt_c.specs.KeptWalks.{top}
-pub use Rattle.mt_c.specs.Users.{IsFirst, IsSame, IsSettled, IsSynced, IsWhy, common_of, known_to, paused, tree_of}
+pub use Rattle.mt_c.specs.Users.{HasLeft, IsFirst, IsOfPurse, IsSame, IsSettled, IsSynced, IsWhy, common_of, known_to, paused, rested, tree_of}
 use Rattle.mt_c.specs.Walkers.{Answer, GoesOn, IsAnswer, IsAtRest, Tried, IsTried}
 use Rattle.mt_c.specs.Walking.{index_of, walk_from}
 
@@ -122,21 +125,21 @@ SharedOpened code rows passes calls None after status = SharedNew code rows pass
 -- Why no user was opened, or none has left: another had the purse (EAGAIN), it was empty (EUSERS), or memory ran out (ENOMEM).
 abbrev pub unchanged_status : Unchanged → ℕ
 unchanged_status (unchanged.Busy busy) = 11
-unchanged_status unchanged.NoPlace = 87
+unchanged_status (unchanged.NoPlace given) = 87
 unchanged_status unchanged.NoMemory = 12
 
--- One user is opened beside another, of the same tree. It stays as it was where it is open, and where none is opened.
+-- One user is opened beside another, of the same tree, with a pass of its purse. It stays as it was where it is open, and where none is opened.
 abbrev pub SharedWith : Option User → Option User → Option User → Option User → ℕ → Type 0
 SharedWith None after other other' status = (after ≡ None) × (other' ≡ other) × (status ≡ 22)
 SharedWith (Some u) None other other' status = ⊥
 SharedWith (Some u) (Some v) (Some o) other' status = (v ≡ u) × (other' ≡ Some o) × (status ≡ 16)
-SharedWith (Some u) (Some v) None (Some w) status = (status ≡ 0) × IsSame u v × (tree_of w ≡ tree_of u)
+SharedWith (Some u) (Some v) None (Some w) status = (status ≡ 0) × IsSame u v × (tree_of w ≡ tree_of u) × (given : Given Purse Tree) × IsOfPurse (common_of u) w given
 SharedWith (Some u) (Some v) None None status = IsSame u v × (why : Unchanged) × IsWhy (common_of u) why × (status ≡ unchanged_status why)
 
--- A user has left its pass to users to come, and is closed; or it is open as it was, but for its walk, which is paused.
+-- A user has left its pass in the purse, no section of it standing open, and is closed; or it is open as it was, but for its walk, which is paused.
 abbrev pub SharedLeft : Option User → Option User → ℕ → Type 0
 SharedLeft None after status = (after ≡ None) × (status ≡ 22)
-SharedLeft (Some u) None status = status ≡ 0
+SharedLeft (Some u) None status = (status ≡ 0) × (given : Given Purse Tree) × HasLeft (common_of u) (rested u) given
 SharedLeft (Some u) (Some v) status = (tree_of v ≡ tree_of u) × (known_to v ≡ paused u) × (why : Unchanged) × IsWhy (common_of u) why × (status ≡ unchanged_status why)
 
 abbrev pub synced_status : Result ℕ Busy → ℕ
@@ -151,14 +154,17 @@ abbrev pub SharedSynced : Option User → Option User → ℕ → ℕ → Type 0
 SharedSynced before after status calls =
     OnUser before after status (calls ≡ 0) (λ u v. (synced : Result ℕ Busy) × IsSynced (tree_of u) (paused u) synced (known_to v) × (status ≡ synced_status synced) × (calls ≡ calls_told synced))
 
-abbrev pub settled_status : Result (ℕ × ℕ) Settling → ℕ
+abbrev pub Settled : Type 0
+Settled = Result (ℕ × ℕ × Given Purse Tree) Settling
+
+abbrev pub settled_status : Settled → ℕ
 settled_status (Ok r) = 0
 settled_status (Err why) = 11
 
-abbrev pub settled_told : Result (ℕ × ℕ) Settling → ℕ × ℕ
-settled_told (Ok r) = r
+abbrev pub settled_told : Settled → ℕ × ℕ
+settled_told (Ok r) = (r.0, r.1)
 settled_told (Err why) = (0, 0)
 
 abbrev pub SharedSettled : Option User → Option User → ℕ → ℕ → ℕ → Type 0
 SharedSettled before after status calls passes =
-    OnUser before after status ((calls ≡ 0) × (passes ≡ 0)) (λ u v. (settled : Result (ℕ × ℕ) Settling) × IsSettled (common_of u) (paused u) settled (known_to v) × (status ≡ settled_status settled) × (calls ≡ (settled_told settled).0) × (passes ≡ (settled_told settled).1))
+    OnUser before after status ((calls ≡ 0) × (passes ≡ 0)) (λ u v. (settled : Settled) × IsSettled (common_of u) (paused u) settled (known_to v) × (status ≡ settled_status settled) × (calls ≡ (settled_told settled).0) × (passes ≡ (settled_told settled).1))

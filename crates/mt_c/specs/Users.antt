@@ -4,6 +4,7 @@ use Rattle.std.specs.Prelude.{◌≡◌, ℕ, List, [], ◌∷◌, None, map, �
 use Rattle.std.specs.Arc.{arc_value}
 use Rattle.std.specs.List.{range_with_len}
 use Rattle.mt_base.specs.Passes as known
+use Rattle.mt_keep.specs.declared.keep.Given.{Given}
 use Rattle.mt_rule.specs.declared.busy.Busy.{Busy}
 use Rattle.mt_tree.specs.declared.trees.Tree.{Tree}
 use Rattle.mt_tree.specs.declared.shapes.Shape.{Shape}
@@ -11,13 +12,14 @@ use Rattle.mt_tree.specs.Meeting.{HaveMet}
 use Rattle.mt_tree.specs.Trees.{opened, limit_of}
 use Rattle.mt_tree.specs.Tries.{IsBusyOf}
 use Rattle.mt_c.specs.declared.purse.Common.{Common}
+use Rattle.mt_c.specs.declared.purse.Purse.{Purse}
 use Rattle.mt_c.specs.declared.user.User.{User}
 use Rattle.mt_c.specs.declared.user_acts.Settling.{Settling}
 use Rattle.mt_c.specs.declared.user_acts.Settling.TheVariants as settling
 use Rattle.mt_c.specs.declared.user_opens.Unchanged.{Unchanged}
 use Rattle.mt_c.specs.declared.user_opens.Unchanged.TheVariants as unchanged
-use Rattle.mt_c.specs.Purses.{IsBusyAt}
-use Rattle.mt_c.specs.Walkers.{halted, knows}
+use Rattle.mt_c.specs.Purses.{IsBusyAt, WasGiven}
+use Rattle.mt_c.specs.Walkers.{IsAtRest, halted, knows}
 
 -- what the users of a tree own together
 abbrev pub common_of : User → Common
@@ -35,6 +37,10 @@ known_to u = knows u.walker
 abbrev pub paused : User → known.Pass
 paused u = halted u.walker
 
+-- what it knows when no section of it stands open
+abbrev pub rested : User → known.Pass
+rested u = record (known_to u) { standing = None }
+
 -- ---- users that come and go
 
 -- The first user of an empty tree of this shape. Its pass and those in the purse are all that the tree has, and have seen nothing.
@@ -51,10 +57,20 @@ pub record IsSame (u v : User) : Type 0 where
   pub known : known_to v ≡ known_to u
   pub walk : v.walker.walk ≡ u.walker.walk
 
--- That another had the purse was found at the purse of this tree.
+-- The user has the pass that was the last in the purse, and is at rest: the others were given back.
+pub record IsOfPurse (c : Common) (u : User) (given : Given Purse Tree) : Type 0 where
+  pub others : List known.Pass
+  pub out : WasGiven c (others ++ known_to u ∷ []) others given
+  pub rests : IsAtRest u.walker
+
+-- A pass that knows this was put into the purse, behind those that were there.
+abbrev pub HasLeft : Common → known.Pass → Given Purse Tree → Type 0
+HasLeft c p given = (others : List known.Pass) × WasGiven c others (others ++ p ∷ []) given
+
+-- That another had the purse was found at the purse of this tree; that it was empty, by who took it and gave it back.
 abbrev pub IsWhy : Common → Unchanged → Type 0
 IsWhy c (unchanged.Busy busy) = IsBusyAt c busy
-IsWhy c unchanged.NoPlace = Unit {0}
+IsWhy c (unchanged.NoPlace given) = WasGiven c [] [] given
 IsWhy c unchanged.NoMemory = Unit {0}
 
 -- ---- under the lock
@@ -64,8 +80,8 @@ abbrev pub IsSynced : Tree → known.Pass → Result ℕ Busy → known.Pass →
 IsSynced t p (Ok calls) q = known.Saw (opened t) p q × (length q.seen ≡ calls)
 IsSynced t p (Err busy) q = IsBusyOf t busy × (q ≡ p)
 
--- A user and the passes in the purse have met under the lock, so many; or the purse or the lock was found taken.
-abbrev pub IsSettled : Common → known.Pass → Result (ℕ × ℕ) Settling → known.Pass → Type 0
-IsSettled c p (Ok r) q = (before : List known.Pass) × (after : List known.Pass) × HaveMet c.tree (p ∷ before) (q ∷ after) r.0 × (r.1 ≡ length after)
+-- A user and all passes in the purse have met under the lock, so many; or the purse or the lock was found taken.
+abbrev pub IsSettled : Common → known.Pass → Result (ℕ × ℕ × Given Purse Tree) Settling → known.Pass → Type 0
+IsSettled c p (Ok r) q = (before : List known.Pass) × (after : List known.Pass) × HaveMet c.tree (p ∷ before) (q ∷ after) r.0 × (r.1 ≡ length after) × WasGiven c before after r.2
 IsSettled c p (Err (settling.Unpursed busy)) q = IsBusyAt c busy × (q ≡ p)
 IsSettled c p (Err (settling.Locked busy)) q = IsBusyOf c.tree busy × (q ≡ p)

@@ -5,7 +5,7 @@ ghost use Rattle.std.specs.Prelude.{◌≡◌};
 use mt_keep::{Keep, Placed};
 use mt_tree::{Pass, Tree};
 
-/// Passes of one tree, for users to come.
+/// Passes of one tree, for users to come. No section of them stands open.
 #[derive(Drop)]
 pub struct Purse {
     pub passes: Vec<Pass>,
@@ -13,9 +13,9 @@ pub struct Purse {
 
 impl Placed<Tree> for Purse {
     ghost use Rattle.std.specs.Prelude.{All};
-    ghost use Rattle.mt_tree.specs.Trees.{IsPassOf};
+    ghost use Rattle.mt_c.specs.Spares.{IsSpare};
 
-    ghost fits = { λ tree purse. All (IsPassOf tree) purse.passes.items };
+    ghost fits = { λ tree purse. All (IsSpare tree) purse.passes.items };
 }
 
 /// A tree and the purse of its passes.

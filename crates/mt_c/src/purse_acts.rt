@@ -1,31 +1,35 @@
 //! What is done with a purse.
 
-ghost use Rattle.std.specs.Prelude.{All, IfErr, IfOk};
-ghost use Rattle.mt_keep.specs.Keeping.{IsTakenOf};
-ghost use Rattle.mt_tree.specs.Trees.{IsPassOf};
-ghost use Rattle.mt_c.specs.Purses.{IsBusyAt, IsSeatedAt};
+ghost use Rattle.std.specs.Prelude.{◌≡◌, All, IfErr, IfOk};
+ghost use Rattle.mt_c.specs.Purses.{IsBusyAt, IsSeatedAt, IsTakenOf, WasGiven, known_in};
+ghost use Rattle.mt_c.specs.Spares.{IsSpare};
 
 use crate::purse::{Common, Purse};
-use mt_keep::{Busy, Chair, Taken};
+use mt_keep::{Busy, Chair, Given, Taken};
 use mt_tree::Tree;
 
 impl Common {
     /// Takes the purse, if no other has it.
-    pub fn take(&self, chair: &mut Chair<Tree>) -> Result<Taken<Purse, Tree>, Busy<Tree>>
+    pub fn take(
+        &self,
+        chair: &mut Chair<Purse, Tree>,
+    ) -> Result<Taken<Purse, Tree>, Busy<Purse, Tree>>
         requires { IsSeatedAt self.now chair.old }
         ensures chair { IsSeatedAt self.now chair.new }
-        ensures passes { IfOk result (λ taken. All (IsPassOf self.now.tree) taken.value.passes.items) }
-        ensures taken { IfOk result (λ taken. IsTakenOf self.now.purse.table.shared.table_id self.now.purse.table.shared.key taken.seat) }
+        ensures passes { IfOk result (λ taken. All (IsSpare self.now.tree) taken.value.passes.items) }
+        ensures taken { IfOk result (λ taken. IsTakenOf self.now taken.took taken.seat) }
+        ensures took { IfOk result (λ taken. known_in taken.took.value ≡ known_in taken.value) }
         ensures busy { IfErr result (IsBusyAt self.now) }
     {
         self.purse.try_take(chair)
     }
 
     /// Gives the purse back.
-    pub fn give(&self, taken: Taken<Purse, Tree>)
-        requires taken { IsTakenOf self.now.purse.table.shared.table_id self.now.purse.table.shared.key taken.seat }
-        requires passes { All (IsPassOf self.now.tree) taken.value.passes.items }
+    pub fn give(&self, taken: Taken<Purse, Tree>) -> Given<Purse, Tree>
+        requires taken { IsTakenOf self.now taken.took taken.seat }
+        requires passes { All (IsSpare self.now.tree) taken.value.passes.items }
+        ensures { WasGiven self.now (known_in taken.took.value) (known_in taken.value) result }
     {
-        self.purse.give(taken);
+        self.purse.give(taken)
     }
 }

@@ -76,7 +76,7 @@ fn unchanged_told(why: Unchanged) -> u32
 {
     match why {
         Unchanged::Busy { .. } => EAGAIN,
-        Unchanged::NoPlace => EUSERS,
+        Unchanged::NoPlace { .. } => EUSERS,
         Unchanged::NoMemory => ENOMEM,
     }
 }
@@ -98,7 +98,7 @@ pub extern "C" fn maple_share(alloc: Global, user: &mut UserHandle, other: &mut 
     let made = whole.share(alloc);
     *user = UserHandle::of(whole);
     match made {
-        Ok(made) => {
+        Ok((made, _)) => {
             *other = UserHandle::of(made);
             0
         }
@@ -116,7 +116,7 @@ pub extern "C" fn maple_leave(alloc: Global, user: &mut UserHandle) -> u32
         return EINVAL;
     };
     match User::leave(whole) {
-        Ok(()) => 0,
+        Ok(_) => 0,
         Err((whole, why)) => {
             *user = UserHandle::of(whole);
             unchanged_told(why)

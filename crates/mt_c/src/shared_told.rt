@@ -5,10 +5,12 @@ ghost use Rattle.mt_read.specs.Cursors as cursors;
 ghost use Rattle.mt_c.specs.Shared as defined;
 ghost use Rattle.mt_c.specs.Walkers.{top};
 
+use crate::purse::Purse;
 use crate::told::{EOVERFLOW, OutRange, found_status, no_range, out_of, told_of};
 use crate::user_acts::Settling;
 use mt_base::Range;
-use mt_tree::{Busy, Done, Moved, Read, Worn};
+use mt_keep::Given;
+use mt_tree::{Busy, Done, Moved, Read, Tree, Worn};
 
 /// Another user has the lock, or the leaf of a search for a neighbour was replaced: it may be tried again.
 pub const EAGAIN: u32 = 11;
@@ -130,13 +132,13 @@ pub fn synced_told(synced: Result<u64, Busy>) -> (u64, u32)
 }
 
 /// What C is told of a settling.
-pub fn settled_told(settled: Result<(u64, u64), Settling>) -> (u64, u64, u32)
+pub fn settled_told(settled: Result<(u64, u64, Given<Purse, Tree>), Settling>) -> (u64, u64, u32)
     ensures calls { result.0 ≡ (defined.settled_told settled).0 }
     ensures passes { result.1 ≡ (defined.settled_told settled).1 }
     ensures status { result.2 ≡ defined.settled_status settled }
 {
     match settled {
-        Ok((calls, passes)) => (calls, passes, 0),
+        Ok((calls, passes, _)) => (calls, passes, 0),
         Err(_) => (0, 0, EAGAIN),
     }
 }

@@ -4,7 +4,7 @@ ghost use Rattle.std.specs.Arc.{arc_value};
 ghost use Rattle.mt_tree.specs.Trees.{IsPassOf};
 ghost use Rattle.mt_c.specs.Purses.{IsSeatedAt};
 
-use crate::purse::Common;
+use crate::purse::{Common, Purse};
 use crate::walker::Walker;
 use mt_keep::Chair;
 use mt_tree::Tree;
@@ -15,7 +15,7 @@ use std::sync::Arc;
 pub struct User {
     pub common: Arc<Common>,
     pub walker: Walker,
-    pub chair: Chair<Tree>,
+    pub chair: Chair<Purse, Tree>,
     ghost of: { IsPassOf (arc_value common).tree walker.pass },
     ghost seated: { IsSeatedAt (arc_value common) chair },
 }

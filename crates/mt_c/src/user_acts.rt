@@ -9,18 +9,18 @@ ghost use Rattle.mt_c.specs.Purses.{IsSeatedAt};
 ghost use Rattle.mt_c.specs.Users.{IsSettled, IsSynced, common_of, known_to, paused, tree_of};
 ghost use Rattle.mt_c.specs.Walkers.{GoesOn, IsAnswer, IsAtRest, IsTried, halted, knows};
 
-use crate::purse::Common;
+use crate::purse::{Common, Purse};
 use crate::user::User;
 use crate::walker::Walker;
 use mt_base::{Call, Query, Range};
-use mt_keep::Chair;
+use mt_keep::{Chair, Given};
 use mt_tree::{Busy, Done, Moved, Read, Tree, Worn};
 
 /// Why a user and the purse did not see the whole history.
 #[derive(Drop)]
 pub enum Settling {
     /// Another user has the purse.
-    Unpursed { busy: mt_keep::Busy<Tree> },
+    Unpursed { busy: mt_keep::Busy<Purse, Tree> },
     /// The lock was found taken.
     Locked { busy: Busy },
 }
@@ -31,8 +31,8 @@ impl Common {
     pub fn settle(
         &self,
         walker: &mut Walker,
-        chair: &mut Chair<Tree>,
-    ) -> Result<(u64, u64), Settling>
+        chair: &mut Chair<Purse, Tree>,
+    ) -> Result<(u64, u64, Given<Purse, Tree>), Settling>
         requires of { IsPassOf self.now.tree walker.old.pass }
         requires seated { IsSeatedAt self.now chair.old }
         ensures of { IsPassOf self.now.tree walker.new.pass }
@@ -46,9 +46,9 @@ impl Common {
         };
         let met = walker.meet(&self.tree, taken.value.passes.as_mut_slice());
         let passes = taken.value.passes.len() as u64;
-        self.give(taken);
+        let given = self.give(taken);
         match met {
-            Ok(calls) => Ok((calls, passes)),
+            Ok(calls) => Ok((calls, passes, given)),
             Err(busy) => Err(Settling::Locked { busy }),
         }
     }
@@ -110,7 +110,7 @@ impl User {
 
     /// With all passes of the purse it sees the whole history, if neither the purse nor the lock is taken. Answers how many calls
     /// that has, and how many passes of the purse have then seen it.
-    pub fn settle(&mut self) -> Result<(u64, u64), Settling>
+    pub fn settle(&mut self) -> Result<(u64, u64, Given<Purse, Tree>), Settling>
         ensures tree { tree_of self.new ≡ tree_of self.old }
         ensures settled { IsSettled (common_of self.old) (paused self.old) result (known_to self.new) }
     {

@@ -2,20 +2,21 @@
 
 ghost use Rattle.std.specs.Prelude.{◌≡◌, ◌+◌, ◌<◌, ◌≤◌, ◌∷◌, ◌++◌, All, Err, IfErr, IfOk, List, None, Some, []};
 ghost use Rattle.std.specs.Vec.{vec_capacity, vec_len};
-ghost use Rattle.mt_keep.specs.Keeping.{IsTakenOf};
 ghost use Rattle.mt_tree.specs.Shapes.{first_bad};
-ghost use Rattle.mt_tree.specs.Trees.{IsPassOf, Pass};
+ghost use Rattle.mt_tree.specs.Trees.{IsPassOf, Pass, pass_in};
 ghost use Rattle.mt_tree.specs.declared.shapes.Field.{Field};
 ghost use Rattle.mt_tree.specs.declared.shapes.MakeError.TheVariants as make_error;
 ghost use Rattle.std.specs.Arc.{arc_value};
-ghost use Rattle.mt_c.specs.Purses.{IsSeatedAt};
-ghost use Rattle.mt_c.specs.Users.{IsFirst, IsWhy, common_of, known_to, paused, tree_of};
+ghost use Rattle.mt_c.specs.Purses.{IsSeatedAt, IsTakenOf, WasGiven, known_in};
+ghost use Rattle.mt_c.specs.Spares.{IsSpare};
+ghost use Rattle.mt_c.specs.Users.{HasLeft, IsFirst, IsOfPurse, IsWhy, common_of, known_to, paused, rested, tree_of};
+ghost use Rattle.mt_c.specs.Walkers.{IsAtRest};
 
 use crate::purse::{Common, Purse};
 use crate::user::User;
 use crate::walker::Walker;
-use mt_keep::{Busy, Chair, Keep, Taken};
-use mt_tree::{MakeError, NoMemory, Pass, Shape, Tree};
+use mt_keep::{Busy, Chair, Given, Keep, Taken};
+use mt_tree::{MakeError, NoMemory, Pass, Shape, Tree, Walk};
 use std::alloc::{AllocFailed, Global};
 use std::sync::Arc;
 
@@ -23,9 +24,9 @@ use std::sync::Arc;
 #[derive(Drop)]
 pub enum Unchanged {
     /// Another user has the purse.
-    Busy { busy: Busy<Tree> },
-    /// The purse is empty.
-    NoPlace,
+    Busy { busy: Busy<Purse, Tree> },
+    /// The purse was found empty, and given back so.
+    NoPlace { given: Given<Purse, Tree> },
     NoMemory,
 }
 
@@ -34,8 +35,8 @@ fn shared(
     alloc: Global,
     tree: Tree,
     passes: Vec<Pass>,
-) -> Result<(Arc<Common>, Chair<Tree>), NoMemory>
-    requires { All (IsPassOf tree) passes.items }
+) -> Result<(Arc<Common>, Chair<Purse, Tree>), NoMemory>
+    requires { All (IsSpare tree) passes.items }
     ensures tree { IfOk result (λ r. (arc_value r.0).tree ≡ tree) }
     ensures seated { IfOk result (λ r. IsSeatedAt (arc_value r.0) r.1) }
 {
@@ -48,21 +49,24 @@ fn shared(
 }
 
 impl Purse {
-    /// A user with a pass that is taken out. Where there is none, or no memory, the purse is as it was.
+    /// A user with the last pass, which is taken out. Where there is no memory it is put back.
     fn open_user(
         &mut self,
         alloc: Global,
         common: Arc<Common>,
-        chair: Chair<Tree>,
-    ) -> Result<Box<User>, Unchanged>
+        chair: Chair<Purse, Tree>,
+    ) -> Result<Box<User>, NoMemory>
+        requires some { 0 < vec_len self.old.passes }
         requires seated { IsSeatedAt (arc_value common) chair }
-        requires passes { All (IsPassOf (arc_value common).tree) self.old.passes.items }
-        ensures passes { All (IsPassOf (arc_value common).tree) self.new.passes.items }
+        requires passes { All (IsSpare (arc_value common).tree) self.old.passes.items }
+        ensures passes { All (IsSpare (arc_value common).tree) self.new.passes.items }
         ensures other { IfOk result (λ other. common_of other.value ≡ arc_value common) }
-        ensures why { IfErr result (IsWhy (arc_value common)) }
+        ensures rests { IfOk result (λ other. IsAtRest other.value.walker) }
+        ensures out { IfOk result (λ other. known_in self.old ≡ known_in self.new ++ known_to other.value ∷ []) }
+        ensures back { IfErr result (λ _. known_in self.new ≡ known_in self.old) }
     {
         let Some(pass) = self.passes.pop() else {
-            return Err(Unchanged::NoPlace);
+            unreachable!()
         };
         let user = User {
             common,
@@ -75,7 +79,7 @@ impl Purse {
                 let User { walker, .. } = value;
                 let Walker { pass, .. } = walker;
                 self.passes.push_reserved(pass);
-                Err(Unchanged::NoMemory)
+                Err(NoMemory)
             }
         }
     }
@@ -87,12 +91,13 @@ impl Common {
         &self,
         alloc: Global,
         common: Arc<Common>,
-        chair: &mut Chair<Tree>,
-    ) -> Result<Box<User>, Unchanged>
+        chair: &mut Chair<Purse, Tree>,
+    ) -> Result<(Box<User>, Given<Purse, Tree>), Unchanged>
         requires same { arc_value common ≡ self.now }
         requires seated { IsSeatedAt self.now chair.old }
         ensures seated { IsSeatedAt self.now chair.new }
-        ensures other { IfOk result (λ other. common_of other.value ≡ self.now) }
+        ensures other { IfOk result (λ r. common_of r.0.value ≡ self.now) }
+        ensures pass { IfOk result (λ r. IsOfPurse self.now r.0.value r.1) }
         ensures why { IfErr result (IsWhy self.now) }
     {
         let other_chair = self.purse.chair(chair);
@@ -100,17 +105,26 @@ impl Common {
             Ok(taken) => taken,
             Err(busy) => return Err(Unchanged::Busy { busy }),
         };
+        if taken.value.passes.is_empty() {
+            return Err(Unchanged::NoPlace {
+                given: self.give(taken),
+            });
+        }
         let other = taken.value.open_user(alloc, common, other_chair);
-        self.give(taken);
-        other
+        let given = self.give(taken);
+        match other {
+            Ok(other) => Ok((other, given)),
+            Err(_) => Err(Unchanged::NoMemory),
+        }
     }
 
     /// Takes the purse, with room for one more pass.
-    fn take_room(&self, chair: &mut Chair<Tree>) -> Result<Taken<Purse, Tree>, Unchanged>
+    fn take_room(&self, chair: &mut Chair<Purse, Tree>) -> Result<Taken<Purse, Tree>, Unchanged>
         requires { IsSeatedAt self.now chair.old }
         ensures seated { IsSeatedAt self.now chair.new }
-        ensures taken { IfOk result (λ taken. IsTakenOf self.now.purse.table.shared.table_id self.now.purse.table.shared.key taken.seat) }
-        ensures passes { IfOk result (λ taken. All (IsPassOf self.now.tree) taken.value.passes.items) }
+        ensures taken { IfOk result (λ taken. IsTakenOf self.now taken.took taken.seat) }
+        ensures took { IfOk result (λ taken. known_in taken.took.value ≡ known_in taken.value) }
+        ensures passes { IfOk result (λ taken. All (IsSpare self.now.tree) taken.value.passes.items) }
         ensures room { IfOk result (λ taken. vec_len taken.value.passes + 1 ≤ vec_capacity taken.value.passes) }
         ensures why { IfErr result (IsWhy self.now) }
     {
@@ -125,21 +139,24 @@ impl Common {
         Ok(taken)
     }
 
-    /// Puts a pass into the purse and gives that back.
-    fn leave(&self, mut taken: Taken<Purse, Tree>, pass: Pass)
-        requires taken { IsTakenOf self.now.purse.table.shared.table_id self.now.purse.table.shared.key taken.seat }
-        requires passes { All (IsPassOf self.now.tree) taken.value.passes.items }
+    /// Puts a pass into the purse, no section of it standing open, and gives that back.
+    fn leave(&self, mut taken: Taken<Purse, Tree>, mut pass: Pass) -> Given<Purse, Tree>
+        requires taken { IsTakenOf self.now taken.took taken.seat }
+        requires took { known_in taken.took.value ≡ known_in taken.value }
+        requires passes { All (IsSpare self.now.tree) taken.value.passes.items }
         requires room { vec_len taken.value.passes + 1 ≤ vec_capacity taken.value.passes }
         requires pass { IsPassOf self.now.tree pass }
+        ensures { HasLeft self.now (record (pass_in pass) { standing = None }) result }
     {
+        self.tree.halt(&mut pass, &mut Walk::new(0, 0));
         taken.value.passes.push_reserved(pass);
-        self.give(taken);
+        self.give(taken)
     }
 }
 
 /// A user with the last of these passes of a new tree. The others are in the purse.
 fn first(alloc: Global, tree: Tree, passes: Vec<Pass>) -> Result<User, NoMemory>
-    requires passes { All (IsPassOf tree) passes.items }
+    requires passes { All (IsSpare tree) passes.items }
     requires some { 0 < vec_len passes }
     ensures tree { IfOk result (λ user. tree_of user ≡ tree) }
     ensures passes { IfOk result (λ user. (others : List Pass) × (passes.items ≡ others ++ user.walker.pass ∷ [])) }
@@ -183,11 +200,12 @@ impl User {
     /// # Errors
     ///
     /// `Busy` where another user has the purse; `NoPlace` where it is empty; `NoMemory` where memory ran out.
-    pub fn share(&mut self, alloc: Global) -> Result<Box<User>, Unchanged>
+    pub fn share(&mut self, alloc: Global) -> Result<(Box<User>, Given<Purse, Tree>), Unchanged>
         ensures tree { tree_of self.new ≡ tree_of self.old }
         ensures known { known_to self.new ≡ known_to self.old }
         ensures walk { self.new.walker.walk ≡ self.old.walker.walk }
-        ensures other { IfOk result (λ other. tree_of other.value ≡ tree_of self.old) }
+        ensures other { IfOk result (λ r. tree_of r.0.value ≡ tree_of self.old) }
+        ensures pass { IfOk result (λ r. IsOfPurse (common_of self.old) r.0.value r.1) }
         ensures why { IfErr result (IsWhy (common_of self.old)) }
     {
         let Ok(common) = Arc::try_clone(&self.common) else {
@@ -205,8 +223,9 @@ impl User {
         ensures common { common_of self.new ≡ common_of self.old }
         ensures known { known_to self.new ≡ known_to self.old }
         ensures walk { self.new.walker.walk ≡ self.old.walker.walk }
-        ensures taken { IfOk result (λ taken. IsTakenOf (common_of self.old).purse.table.shared.table_id (common_of self.old).purse.table.shared.key taken.seat) }
-        ensures passes { IfOk result (λ taken. All (IsPassOf (common_of self.old).tree) taken.value.passes.items) }
+        ensures taken { IfOk result (λ taken. IsTakenOf (common_of self.old) taken.took taken.seat) }
+        ensures took { IfOk result (λ taken. known_in taken.took.value ≡ known_in taken.value) }
+        ensures passes { IfOk result (λ taken. All (IsSpare (common_of self.old).tree) taken.value.passes.items) }
         ensures room { IfOk result (λ taken. vec_len taken.value.passes + 1 ≤ vec_capacity taken.value.passes) }
         ensures why { IfErr result (IsWhy (common_of self.old)) }
     {
@@ -214,14 +233,16 @@ impl User {
     }
 
     /// Leaves its pass in the purse.
-    fn leave_to(self, taken: Taken<Purse, Tree>)
-        requires taken { IsTakenOf (common_of self).purse.table.shared.table_id (common_of self).purse.table.shared.key taken.seat }
-        requires passes { All (IsPassOf (common_of self).tree) taken.value.passes.items }
+    fn leave_to(self, taken: Taken<Purse, Tree>) -> Given<Purse, Tree>
+        requires taken { IsTakenOf (common_of self) taken.took taken.seat }
+        requires took { known_in taken.took.value ≡ known_in taken.value }
+        requires passes { All (IsSpare (common_of self).tree) taken.value.passes.items }
         requires room { vec_len taken.value.passes + 1 ≤ vec_capacity taken.value.passes }
+        ensures { HasLeft (common_of self) (rested self) result }
     {
         let User { common, walker, .. } = self;
         let Walker { pass, .. } = walker;
-        common.leave(taken, pass);
+        common.leave(taken, pass)
     }
 
     /// Closes a user, and leaves its pass in the purse.
@@ -229,7 +250,8 @@ impl User {
     /// # Errors
     ///
     /// `Busy` where another user has the purse; `NoMemory` where memory ran out. The user is handed back, its walk paused.
-    pub fn leave(user: Box<User>) -> Result<(), (Box<User>, Unchanged)>
+    pub fn leave(user: Box<User>) -> Result<Given<Purse, Tree>, (Box<User>, Unchanged)>
+        ensures left { IfOk result (HasLeft (common_of user.value) (rested user.value)) }
         ensures tree { IfErr result (λ r. tree_of r.0.value ≡ tree_of user.value) }
         ensures known { IfErr result (λ r. known_to r.0.value ≡ paused user.value) }
         ensures why { IfErr result (λ r. IsWhy (common_of user.value) r.1) }
@@ -237,10 +259,7 @@ impl User {
         let mut user = user;
         user.pause();
         match user.take_purse() {
-            Ok(taken) => {
-                Box::into_inner(user).leave_to(taken);
-                Ok(())
-            }
+            Ok(taken) => Ok(Box::into_inner(user).leave_to(taken)),
             Err(why) => Err((user, why)),
         }
     }

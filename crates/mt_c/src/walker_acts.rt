@@ -7,6 +7,7 @@ ghost use Rattle.mt_tree.specs.Meeting.{HaveMet};
 ghost use Rattle.mt_tree.specs.Trees.{IsPassOf, pass_in};
 ghost use Rattle.mt_tree.specs.Tries.{IsBusyOf};
 ghost use Rattle.mt_c.specs.KeptWalks.{IsKeptWalk, top};
+ghost use Rattle.mt_c.specs.Spares.{IsSpare};
 ghost use Rattle.mt_c.specs.Walkers.{GoesOn, IsAnswer, IsAtRest, IsTried, KnowsAs, halted, knows};
 
 use crate::walker::Walker;
@@ -124,12 +125,12 @@ impl Walker {
         tree.try_act(&mut self.pass, call)
     }
 
-    /// With other passes of the tree it sees the whole history, if the lock is free. Answers how many calls that has.
+    /// With passes that no user has it sees the whole history, if the lock is free. Answers how many calls that has.
     pub fn meet(&mut self, tree: &Tree, others: &mut [Pass]) -> Result<u64, Busy>
         requires of { IsPassOf tree.now self.old.pass }
-        requires others { All (IsPassOf tree.now) others.old }
+        requires others { All (IsSpare tree.now) others.old }
         ensures of { IsPassOf tree.now self.new.pass }
-        ensures others { All (IsPassOf tree.now) others.new }
+        ensures others { All (IsSpare tree.now) others.new }
         ensures met { IfOk result (HaveMet tree.now (halted self.old ∷ map pass_in others.old) (knows self.new ∷ map pass_in others.new)) }
         ensures busy { IfErr result (IsBusyOf tree.now) }
         ensures kept { IfErr result (λ _. (knows self.new ≡ halted self.old) × (others.new ≡ others.old)) }

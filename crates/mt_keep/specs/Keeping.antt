@@ -1,6 +1,7 @@
--- The rule of a keep: one seat at most has the value, which is of the place of the keep.
+-- The rule of a keep: one seat at most has the value, which is of the place of the keep; and each visit of its history took what the one
+-- before had given back.
 -- Source: this project's own; the kernel's spin_trylock.
-use Rattle.std.specs.Prelude.{◌≡◌, ◌≢◌, ℕ, [], ◌∷◌, Bool, true, false, List, Option, Some}
+use Rattle.std.specs.Prelude.{◌≡◌, ◌≢◌, ℕ, [], ◌∷◌, Bool, true, false, List, Option, Some, None}
 use mathlib.Core.Option.{some, none}
 use mathlib.Core.Option as maybe
 use lib.ListN.{get_elem?}
@@ -10,84 +11,116 @@ use Rattle.atomic_table.specs.declared.badge.Badge.{Badge}
 use Rattle.atomic_table.specs.declared.shared.Seat.{Seat}
 use Rattle.std.specs.declared.snapshot.Snapshot.{Snapshot}
 use Rattle.mt_keep.specs.declared.keep.Busy.{Busy}
+use Rattle.mt_keep.specs.declared.keep.Given.{Given}
 use Rattle.mt_keep.specs.declared.keep.Sight.{Sight}
 
-module _ {K : Type 0} where
-  abbrev pub waiting : Snapshot K → Sight K
-  waiting key = record { holds = false; held = false; refused = false; of = key }
+module _ {C K : Type 0} where
+  abbrev pub waiting : Snapshot K → Sight C K
+  waiting key = record { holds = false; held = false; refused = false; took = None; gave = None; of = key }
 
-  abbrev pub holding : Snapshot K → Sight K
-  holding key = record { holds = true; held = true; refused = false; of = key }
+  -- it has taken this value
+  abbrev pub holding : Snapshot K → Snapshot C → Sight C K
+  holding key took = record { holds = true; held = true; refused = false; took = Some took; gave = None; of = key }
 
-  -- it has given the value back
-  abbrev pub given_back : Snapshot K → Sight K
-  given_back key = record { holds = false; held = true; refused = false; of = key }
+  -- it has taken one value and given another back
+  abbrev pub given_back : Snapshot K → Snapshot C → Snapshot C → Sight C K
+  given_back key took gave = record { holds = false; held = true; refused = false; took = Some took; gave = Some gave; of = key }
 
   -- it has found the value away
-  abbrev pub refused : Snapshot K → Sight K
-  refused key = record { holds = false; held = false; refused = true; of = key }
+  abbrev pub refused : Snapshot K → Sight C K
+  refused key = record { holds = false; held = false; refused = true; took = None; gave = None; of = key }
 
   -- The chair is at this keep.
-  pub record IsSeatedAt (keep : TableId) (key : Snapshot K) (chair : Badge (Sight K)) : Type 0 where
+  pub record IsSeatedAt (keep : TableId) (key : Snapshot K) (chair : Badge (Sight C K)) : Type 0 where
     pub table : chair.table_id ≡ keep
     pub views : chair.views ≡ waiting key ∷ []
 
-  -- The seat has the value of this keep.
-  pub record IsTakenOf {S : Type 0} (keep : TableId) (key : Snapshot K) (seat : Seat S (Sight K)) : Type 0 where
+  -- The seat has the value of this keep, which was this when it took it.
+  pub record IsTakenOf {S : Type 0} (keep : TableId) (key : Snapshot K) (took : Snapshot C) (seat : Seat S (Sight C K)) : Type 0 where
     pub table : seat.table_id ≡ keep
-    pub view : seat.me.0 ≡ holding key
+    pub view : seat.me.0 ≡ holding key took
 
   -- It is of a seat that has found the value of this keep away.
-  pub record IsBusyAt (keep : TableId) (key : Snapshot K) (busy : Busy K) : Type 0 where
+  pub record IsBusyAt (keep : TableId) (key : Snapshot K) (busy : Busy C K) : Type 0 where
     pub table : busy.seat.table_id ≡ keep
     pub views : busy.seat.views ≡ refused key ∷ []
 
+  -- It is of a seat that has taken the value from this keep, and given one back, as it tells.
+  pub record IsGivenAt (keep : TableId) (key : Snapshot K) (given : Given C K) : Type 0 where
+    pub table : given.seat.table_id ≡ keep
+    pub views : given.seat.views ≡ given_back key given.took given.gave ∷ []
+
   -- this seat has had the value
-  abbrev pub HasHeld : List (Sight K) → ℕ → Type 0
-  HasHeld views j = (v : Sight K) × (get_elem? views j ≡ some v) × (v.held ≡ true)
+  abbrev pub HasHeld : List (Sight C K) → ℕ → Type 0
+  HasHeld views j = (v : Sight C K) × (get_elem? views j ≡ some v) × (v.held ≡ true)
+
+-- ---- visits
+
+-- A seat took the value, and gave one back.
+pub record Visit (C : Type 0) : Type 0 where
+  pub by : ℕ
+  pub took : Snapshot C
+  pub gave : Snapshot C
+
+module _ {C : Type 0} where
+  -- The value that is there, or that was there last. The last visit stands first.
+  abbrev pub last_of : Snapshot C → List (Visit C) → Snapshot C
+  last_of first [] = first
+  last_of first (v ∷ before) = v.gave
+
+  -- each visit took what the one before it had given back, and the earliest the first value
+  abbrev pub Follow : Snapshot C → List (Visit C) → Type 0
+  Follow first [] = Unit {0}
+  Follow first (v ∷ before) = (v.took ≡ last_of first before) × Follow first before
 
 -- the word is 0 while the value is in the slot
 abbrev pub taken_bit : {X : Type 0} → maybe.Option X → ℕ
 taken_bit none = 1
 taken_bit (some x) = 0
 
-module _ {K C : Type 0} (fits : K → C → Type 0) where
+module _ {C K : Type 0} (fits : K → C → Type 0) where
   -- a value that is there and is of this place
   abbrev pub BelongsTo : K → Option C → Type 0
   BelongsTo place slot = (value : C) × (slot ≡ Some value) × fits place value
 
   -- A seat knows the place. The one that has the value is the holder, and then the slot is away. One has found the value away
-  -- only where it was ever taken.
-  pub record SeatFits (key : Snapshot K) (holder : ℕ) (home : maybe.Option (Option C)) (ever : Bool) (by : ℕ) (v : Sight K) : Type 0 where
+  -- only where it was ever taken. One that gave the value back has made a visit, which took and gave the values that it knows.
+  pub record SeatFits (key : Snapshot K) (holder : ℕ) (home : maybe.Option (Option C)) (ever : Bool) (visits : List (Visit C)) (by : ℕ) (v : Sight C K) : Type 0 where
     pub of : v.of ≡ key
     pub holds : v.holds ≡ true → (by ≡ holder) × (home ≡ none)
     pub refused : v.refused ≡ true → ever ≡ true
+    pub gave : (gave : Snapshot C) → v.gave ≡ Some gave → (n : ℕ) × (took : Snapshot C) × (v.took ≡ Some took) × (get_elem? visits n ≡ some (record { by = by; took = took; gave = gave }))
 
   -- While the slot is away one seat says that it has the value: it goes on saying so until the slot is home and the word 0.
-  -- Where the value was ever taken, the seat that took it last says that it has had it.
-  pub record IsKept (key : Snapshot K) (s : State (Option C) (Sight K)) : Type 0 where
+  -- Where the value was ever taken, the seat that took it last says that it has had it. Each visit is of a seat that says so.
+  pub record IsKept (key : Snapshot K) (s : State (Option C) (Sight C K)) : Type 0 where
     pub holder : ℕ
     pub home : maybe.Option (Option C)
     pub ever : Bool
+    pub first : Snapshot C
+    pub visits : List (Visit C)
     pub words : s.words ≡ taken_bit home ∷ []
     pub homes : s.homes ≡ home ∷ []
     pub value : (slot : Option C) → home ≡ some slot → BelongsTo key.value slot
-    pub away : home ≡ none → get_elem? s.views holder ≡ some (holding key)
+    pub last : (slot : Option C) → home ≡ some slot → slot ≡ Some (last_of first visits).value
+    pub away : home ≡ none → get_elem? s.views holder ≡ some (holding key (last_of first visits))
     pub taken : ever ≡ true → HasHeld s.views holder
-    pub each : (by : ℕ) (v : Sight K) → get_elem? s.views by ≡ some v → SeatFits key holder home ever by v
+    pub follow : Follow first visits
+    pub made : (n : ℕ) (v : Visit C) → get_elem? visits n ≡ some v → get_elem? s.views v.by ≡ some (given_back key v.took v.gave)
+    pub each : (by : ℕ) (v : Sight C K) → get_elem? s.views by ≡ some v → SeatFits key holder home ever visits by v
 
   -- A swap of 1 into the word: where it was 0, the seat then has the value; else it has found it away.
-  pub record Grabbed (me : Me (Option C) (Sight K)) (found : ℕ) (me' : Me (Option C) (Sight K)) : Type 0 where
-    pub free : found ≡ 0 → (value : C) × (me' ≡ (holding me.0.of, (0, Some value) ∷ me.1)) × fits me.0.of.value value
+  pub record Grabbed (me : Me (Option C) (Sight C K)) (found : ℕ) (me' : Me (Option C) (Sight C K)) : Type 0 where
+    pub free : found ≡ 0 → (took : Snapshot C) × (me' ≡ (holding me.0.of took, (0, Some took.value) ∷ me.1)) × fits me.0.of.value took.value
     pub taken : found ≢ 0 → me' ≡ (refused me.0.of, me.1)
 
   -- the value has just been grabbed, and its slot is away with this seat
-  abbrev pub HasGrabbed : Snapshot K → Me (Option C) (Sight K) → Type 0
-  HasGrabbed key me = (value : C) × (me ≡ (holding key, (0, Some value) ∷ [])) × fits key.value value
+  abbrev pub HasGrabbed : Snapshot K → Me (Option C) (Sight C K) → Type 0
+  HasGrabbed key me = (took : Snapshot C) × (me ≡ (holding key took, (0, Some took.value) ∷ [])) × fits key.value took.value
 
-  abbrev pub grabs : Step (Option C) → Me (Option C) (Sight K) → ℕ → Me (Option C) (Sight K) → Type 0
+  abbrev pub grabs : Step (Option C) → Me (Option C) (Sight C K) → ℕ → Me (Option C) (Sight C K) → Type 0
   grabs step me found me' = Grabbed me found me'
 
--- the store of 0: the seat has given the value back, and no slot is away with it
-abbrev pub releases : {K C : Type 0} → Step (Option C) → Me (Option C) (Sight K) → ℕ → Me (Option C) (Sight K) → Type 0
-releases step me stored me' = me' ≡ (given_back me.0.of, [])
+-- the store of 0: the seat that took the one value has given the other back, and no slot is away with it
+abbrev pub releases : {C K : Type 0} → Step (Option C) → Me (Option C) (Sight C K) → ℕ → Me (Option C) (Sight C K) → Type 0
+releases {C} step me stored me' = (took gave : Snapshot C) → me ≡ (holding me.0.of took, (0, Some gave.value) ∷ []) → me' ≡ (given_back me.0.of took gave, [])

@@ -1,7 +1,7 @@
 //! A lock whose value is of a place, for those who do not wait.
 
 ghost use Rattle.std.specs.Prelude.{◌≡◌, IfOk, IfErr, None, true, false, [], ◌∷◌};
-ghost use Rattle.mt_keep.specs.Keeping.{HasGrabbed, IsBusyAt, IsSeatedAt, IsTakenOf, refused, waiting};
+ghost use Rattle.mt_keep.specs.Keeping.{HasGrabbed, IsBusyAt, IsGivenAt, IsSeatedAt, IsTakenOf, refused, waiting};
 
 use atomic_table::{Badge, Play, Seat, Split, Table, TableRule};
 use mt_base::NoMemory;
@@ -15,29 +15,41 @@ pub trait Placed<K> {
 }
 
 /// What a seat knows. None is made when the program runs.
-pub struct Sight<K> {
+pub struct Sight<C, K> {
     /// Whether it has the value, and whether it has had it.
     pub holds: bool,
     pub held: bool,
     /// Whether it has found the value away.
     pub refused: bool,
+    /// The value as it took it, and as it gave it back.
+    pub took: Option<Snapshot<C>>,
+    pub gave: Option<Snapshot<C>>,
     /// The place that the value is of.
     pub of: Snapshot<K>,
 }
 
 /// Whoever has one may take the value. It has no bytes.
-pub type Chair<K> = Badge<Sight<K>>;
+pub type Chair<C, K> = Badge<Sight<C, K>>;
 
 /// What is told by who has found a keep's value away. Only a step at the keep makes one: it has no bytes.
 #[derive(Drop)]
-pub struct Busy<K> {
-    seat: Badge<Sight<K>>,
+pub struct Busy<C, K> {
+    seat: Badge<Sight<C, K>>,
+}
+
+/// What is told by who has given a keep's value back: what it was when he took it, and what it is now. Only a step at the keep makes
+/// one: it has no bytes.
+#[derive(Drop)]
+pub struct Given<C, K> {
+    took: Snapshot<C>,
+    gave: Snapshot<C>,
+    seat: Badge<Sight<C, K>>,
 }
 
 /// The value is with one seat, or in the slot.
 pub struct Kept;
 
-impl<C: Placed<K>, K> TableRule<Option<C>, Sight<K>, Snapshot<K>> for Kept {
+impl<C: Placed<K>, K> TableRule<Option<C>, Sight<C, K>, Snapshot<K>> for Kept {
     ghost use Rattle.mt_keep.specs.Keeping.{IsKept, waiting};
 
     ghost holds = { IsKept C.fits };
@@ -48,7 +60,7 @@ impl<C: Placed<K>, K> TableRule<Option<C>, Sight<K>, Snapshot<K>> for Kept {
 /// Takes the value, where it is in the slot.
 struct Grabs;
 
-impl<C: Placed<K>, K> Play<Option<C>, Sight<K>> for Grabs {
+impl<C: Placed<K>, K> Play<Option<C>, Sight<C, K>> for Grabs {
     ghost use Rattle.mt_keep.specs.Keeping.{grabs};
 
     ghost then = { grabs C.fits };
@@ -57,7 +69,7 @@ impl<C: Placed<K>, K> Play<Option<C>, Sight<K>> for Grabs {
 /// Gives the value back.
 struct Releases;
 
-impl<C: Placed<K>, K> Play<Option<C>, Sight<K>> for Releases {
+impl<C: Placed<K>, K> Play<Option<C>, Sight<C, K>> for Releases {
     ghost use Rattle.mt_keep.specs.Keeping.{releases};
 
     ghost then = { releases };
@@ -66,7 +78,7 @@ impl<C: Placed<K>, K> Play<Option<C>, Sight<K>> for Releases {
 /// A seat beside another.
 struct Sits;
 
-impl<K> Split<Sight<K>> for Sits {
+impl<C, K> Split<Sight<C, K>> for Sits {
     ghost left = { λ v. v };
 
     ghost right = { λ v. v };
@@ -75,14 +87,16 @@ impl<K> Split<Sight<K>> for Sits {
 /// A value of one place. Whoever takes it has it until he gives it back; nobody waits for it.
 #[derive(Drop)]
 pub struct Keep<C: Placed<K>, K> {
-    table: Table<Option<C>, Sight<K>, Snapshot<K>, Kept, Global>,
+    table: Table<Option<C>, Sight<C, K>, Snapshot<K>, Kept, Global>,
     ghost one: { (table.shared.table_id.words ≡ 1) × (table.shared.table_id.slots ≡ 1) },
 }
 
 /// The value while it is taken. It cannot be dropped: whoever takes it gives it back, by [`Keep::give`].
 pub struct Taken<C: Placed<K>, K> {
     pub value: C,
-    seat: Seat<Option<C>, Sight<K>>,
+    /// The value as it was taken.
+    took: Snapshot<C>,
+    seat: Seat<Option<C>, Sight<C, K>>,
     ghost held: { seat.me.1 ≡ (0, None) ∷ [] },
 }
 
@@ -92,7 +106,7 @@ impl<C: Placed<K> + Drop, K> Keep<C, K> {
     /// # Errors
     ///
     /// `NoMemory` where memory ran out.
-    pub fn make(alloc: Global, place: &K, value: C) -> Result<(Keep<C, K>, Chair<K>), NoMemory>
+    pub fn make(alloc: Global, place: &K, value: C) -> Result<(Keep<C, K>, Chair<C, K>), NoMemory>
         requires { C.fits place.now value }
         ensures place { IfOk result (λ r. r.0.table.shared.key.value ≡ place.now) }
         ensures chair { IfOk result (λ r. IsSeatedAt r.0.table.shared.table_id r.0.table.shared.key r.1) }
@@ -109,7 +123,7 @@ impl<C: Placed<K> + Drop, K> Keep<C, K> {
 
 impl<C: Placed<K>, K> Keep<C, K> {
     /// A seat beside a chair.
-    fn seat(&self, chair: &mut Chair<K>) -> Seat<Option<C>, Sight<K>>
+    fn seat(&self, chair: &mut Chair<C, K>) -> Seat<Option<C>, Sight<C, K>>
         requires { IsSeatedAt self.now.table.shared.table_id self.now.table.shared.key chair.old }
         ensures chair { IsSeatedAt self.now.table.shared.table_id self.now.table.shared.key chair.new }
         ensures table { result.table_id ≡ self.now.table.shared.table_id }
@@ -123,7 +137,7 @@ impl<C: Placed<K>, K> Keep<C, K> {
     }
 
     /// Another chair.
-    pub fn chair(&self, chair: &mut Chair<K>) -> Chair<K>
+    pub fn chair(&self, chair: &mut Chair<C, K>) -> Chair<C, K>
         requires { IsSeatedAt self.now.table.shared.table_id self.now.table.shared.key chair.old }
         ensures chair { IsSeatedAt self.now.table.shared.table_id self.now.table.shared.key chair.new }
         ensures other { IsSeatedAt self.now.table.shared.table_id self.now.table.shared.key result }
@@ -137,11 +151,12 @@ impl<C: Placed<K>, K> Keep<C, K> {
     ///
     /// `Busy` where the swap found it away. Only a seat that has found it away says so, and none has before the value was ever
     /// taken: so that no answer is `Busy` but by a step at the keep.
-    pub fn try_take(&self, chair: &mut Chair<K>) -> Result<Taken<C, K>, Busy<K>>
+    pub fn try_take(&self, chair: &mut Chair<C, K>) -> Result<Taken<C, K>, Busy<C, K>>
         requires { IsSeatedAt self.now.table.shared.table_id self.now.table.shared.key chair.old }
         ensures chair { IsSeatedAt self.now.table.shared.table_id self.now.table.shared.key chair.new }
         ensures value { IfOk result (λ taken. C.fits self.now.table.shared.key.value taken.value) }
-        ensures taken { IfOk result (λ taken. IsTakenOf self.now.table.shared.table_id self.now.table.shared.key taken.seat) }
+        ensures taken { IfOk result (λ taken. IsTakenOf self.now.table.shared.table_id self.now.table.shared.key taken.took taken.seat) }
+        ensures took { IfOk result (λ taken. taken.took.value ≡ taken.value) }
         ensures busy { IfErr result (IsBusyAt self.now.table.shared.table_id self.now.table.shared.key) }
     {
         let mut seat = self.seat(chair);
@@ -154,7 +169,7 @@ impl<C: Placed<K>, K> Keep<C, K> {
     }
 
     /// Swaps 1 into the word. Where the value was in its slot, that is then away with the seat; else the seat has found it away.
-    fn grab(&self, seat: &mut Seat<Option<C>, Sight<K>>) -> bool
+    fn grab(&self, seat: &mut Seat<Option<C>, Sight<C, K>>) -> bool
         requires table { seat.old.table_id ≡ self.now.table.shared.table_id }
         requires idle { seat.old.me ≡ (waiting self.now.table.shared.key, []) }
         ensures table { seat.new.table_id ≡ seat.old.table_id }
@@ -165,24 +180,39 @@ impl<C: Placed<K>, K> Keep<C, K> {
     }
 
     /// Takes the value out of the slot, which is away with the seat.
-    fn grabbed(&self, mut seat: Seat<Option<C>, Sight<K>>) -> Taken<C, K>
+    fn grabbed(&self, mut seat: Seat<Option<C>, Sight<C, K>>) -> Taken<C, K>
         requires table { seat.table_id ≡ self.now.table.shared.table_id }
         requires away { HasGrabbed C.fits self.now.table.shared.key seat.me }
         ensures value { C.fits self.now.table.shared.key.value result.value }
-        ensures taken { IsTakenOf self.now.table.shared.table_id self.now.table.shared.key result.seat }
+        ensures taken { IsTakenOf self.now.table.shared.table_id self.now.table.shared.key result.took result.seat }
+        ensures took { result.took.value ≡ result.value }
     {
         let value = self.table.shared.exchange(&mut seat, 0, None).unwrap();
-        Taken { value, seat }
+        let took = Snapshot::of(&value);
+        Taken { value, took, seat }
     }
 
-    /// Gives the value back.
-    pub fn give(&self, taken: Taken<C, K>)
-        requires taken { IsTakenOf self.now.table.shared.table_id self.now.table.shared.key taken.seat }
+    /// Gives the value back, and tells what it was and what it is now: the next who takes it finds that.
+    pub fn give(&self, taken: Taken<C, K>) -> Given<C, K>
+        requires taken { IsTakenOf self.now.table.shared.table_id self.now.table.shared.key taken.took taken.seat }
         requires value { C.fits self.now.table.shared.key.value taken.value }
+        ensures given { IsGivenAt self.now.table.shared.table_id self.now.table.shared.key result }
+        ensures took { result.took ≡ taken.took }
+        ensures gave { result.gave.value ≡ taken.value }
     {
-        let Taken { value, mut seat } = taken;
+        let Taken {
+            value,
+            took,
+            mut seat,
+        } = taken;
+        let gave = Snapshot::of(&value);
         let empty = self.table.shared.exchange(&mut seat, 0, Some(value));
         let None = empty else { unreachable!() };
         self.table.shared.store::<Releases>(&mut seat, 0, 0);
+        Given {
+            took,
+            gave,
+            seat: seat.into_badge(),
+        }
     }
 }

@@ -3,4 +3,4 @@
 
 mod keep;
 
-pub use keep::{Busy, Chair, Keep, Placed, Sight, Taken};
+pub use keep::{Busy, Chair, Given, Keep, Placed, Sight, Taken};

@@ -1,9 +1,18 @@
-use Rattle.std.proofs.Common.{All, ap, subst, sym, ◌∙◌}
-use Rattle.mt_tree.specs.Trees.{IsPassOf}
+use Rattle.std.proofs.Common.{rules, ◌≡◌, All, ap, subst, sym, ◌∙◌}
+use Rattle.mt_base.specs.Passes as known
 use Rattle.mt_c.specs.declared.purse.Common.{Common}
-use Rattle.mt_c.specs.Users.{common_of}
+use Rattle.mt_c.specs.Spares.{IsSpare}
+use Rattle.mt_c.specs.Users.{HasLeft, common_of, known_to, paused, rested}
+use Rattle.mt_c.proofs.Using.{rested_halted}
 use Rattle.mt_c.proofs.user.User.leave.Goals as goal
 
 pub leave_to-requires-clause-passes : goal.leave_to-requires-clause-passes
 leave_to-requires-clause-passes c =
-    subst (λ (x : Common). All (IsPassOf x.tree) c.in-Ok.taken.value.passes.items) (sym (ap common_of c.into_inner.ensures ∙ c.take_purse.ensures.common)) c.in-Ok.ensures.passes
+    subst (λ (x : Common). All (IsSpare x.tree) c.in-Ok.taken.value.passes.items) (sym (ap common_of c.into_inner.ensures ∙ c.take_purse.ensures.common)) c.in-Ok.ensures.passes
+
+pub returns-in-Ok-clause-left : goal.returns-in-Ok-clause-left
+returns-in-Ok-clause-left c =
+    let common : common_of c.into_inner.result ≡ common_of c.args.user.value = search rules in
+    let knows : known_to c.into_inner.result ≡ paused c.args.user.value = search rules in
+    let rests : rested c.into_inner.result ≡ rested c.args.user.value = rested_halted c.args.user.value.walker.walk (known_to c.args.user.value) (known_to c.into_inner.result) knows in
+    subst (λ (x : Common × known.Pass). HasLeft x.0 x.1 c.leave_to.result) (λ i. (common i, rests i)) c.leave_to.ensures

@@ -1,7 +1,10 @@
 use Rattle.std.proofs.Common.{Err, ap, refl, ◌≡◌}
 use Rattle.mt_tree.specs.declared.shapes.MakeError.TheVariants as make_error
-use Rattle.mt_c.proofs.Using.{is_first, none_bad}
+use Rattle.mt_c.proofs.Using.{is_first, new_spare, none_bad}
 use Rattle.mt_c.proofs.user.User.open.Goals as goal
+
+pub first-requires-clause-passes : goal.first-requires-clause-passes
+first-requires-clause-passes c = new_spare c.in-Ok.made.0 c.in-Ok.made.1.items _ c.in-Ok.ensures.new.all.of c.in-Ok.ensures.new.passes
 
 pub returns-in-Err-clause-bad : goal.returns-in-Err-clause-bad
 returns-in-Err-clause-bad c = λ field e. let why : c.in-Err.why ≡ make_error.BadShape field = cc in (c.in-Err.ensures.bad field).0 (ap Err why)

@@ -1,6 +1,15 @@
-use Rattle.std.proofs.Common.{rules}
-use Rattle.mt_keep.proofs.Taking.{releases_value}
+use Rattle.std.proofs.Common.{rules, ap, ◌∙◌, ◌∷◌, []}
+use Rattle.mt_keep.proofs.Taking.{released, releases_value}
 use Rattle.mt_keep.proofs.keep.Keep.give.Goals as goal
 
 pub store-requires : goal.store-requires
-store-requires g c = (search rules, search rules, releases_value g.C.Placed.fits c.args.self.now.table.shared.key _ c.exchange-empty.new.seat.id c.exchange-empty.new.seat.me c.args.taken.value (search rules) c.requires.value)
+store-requires g c = (search rules, search rules, releases_value g.C.Placed.fits c.args.self.now.table.shared.key _ c.exchange-empty.new.seat.id c.exchange-empty.new.seat.me c.args.taken.took c.of-gave.result (search rules) (search rules))
+
+pub into_badge-requires : goal.into_badge-requires
+into_badge-requires g c =
+    ap (λ m. m.1) (released c.args.self.now.table.shared.key c.exchange-empty.new.seat.me c.store.new.seat.me c.args.taken.took c.of-gave.result (search rules) c.store.ensures.2)
+
+pub returns-clause-given : goal.returns-clause-given
+returns-clause-given g c =
+    let done = released c.args.self.now.table.shared.key c.exchange-empty.new.seat.me c.store.new.seat.me c.args.taken.took c.of-gave.result (search rules) c.store.ensures.2 in
+    record { table = search rules; views = c.into_badge.ensures.2 ∙ ap (λ m. m.0 ∷ []) done }
