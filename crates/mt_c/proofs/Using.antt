@@ -3,10 +3,11 @@ use Rattle.std.proofs.Common.{◌≡◌, ◌∙◌, ℕ, suc, get_or, List, [], 
 use Rattle.std.proofs.lemmas.Bool.{le-leb}
 use Rattle.std.proofs.lemmas.List.{length-map, map-append}
 use Rattle.std.proofs.lemmas.Option.{slice_get-get_or, slice_get-map}
-use Rattle.std.specs.Prelude.{◌↔◌, All, Ok, Err, Result, IfOk, IfErr, IfSome, if◌then◌else◌, option_map, slice_get}
+use Rattle.std.specs.Prelude.{◌↔◌, All, Ok, Err, Result, IfOk, IfErr, IfSome, IsSome, if◌then◌else◌, option_map, slice_get}
 use Rattle.atomic_table.specs.declared.badge.Badge.{Badge}
 use Rattle.mt_base.specs.declared.calls.Call.{Call}
 use Rattle.mt_base.specs.declared.calls.Query.{Query}
+use Rattle.mt_base.specs.declared.calls.Query.TheVariants.{Load}
 use Rattle.mt_base.specs.declared.ranges.Range.{Range}
 use Rattle.mt_base.specs.History.{History}
 use Rattle.mt_base.specs.Passes as known
@@ -39,7 +40,7 @@ use Rattle.mt_c.specs.Purses.{IsSeatedAt, WasGiven}
 use Rattle.mt_c.specs.Spares.{IsSpare}
 use Rattle.mt_c.specs.KeptWalks.{IsKeptWalk, top}
 use Rattle.mt_c.specs.Users.{IsFirst, IsSettled, IsSynced, tree_of}
-use Rattle.mt_c.specs.Walkers.{Answer, GoesOn, HasSeen, IsAnswer, IsTried, KnowsAs, Tried, closed_by, knows}
+use Rattle.mt_c.specs.Walkers.{Answer, GoesOn, HasSeen, IsAnswer, IsOnAt, IsTried, KnowsAs, Tried, closed_by, halted, knows}
 
 -- ---- which section stands open is no part of what a read says
 
@@ -48,6 +49,10 @@ halted_knows p q is = record { same = ap (λ (z : known.Pass). record z { standi
 
 pub same_knows : (p q : known.Pass) → q ≡ p → KnowsAs p q
 same_knows p q is = record { same = ap (λ (z : known.Pass). record z { standing = None }) (sym is) }
+
+closed_knows : (walk : Option Cursor) (p q : known.Pass) → q ≡ closed_by walk p → KnowsAs p q
+closed_knows None p q is = same_knows p q is
+closed_knows (Some w) p q is = halted_knows p q is
 
 module _ (tree : History) (lo hi k : ℕ) (query : Query) (value : Option Range) where
   into_closed : (p q : known.Pass) → known.Read tree p lo hi k query value q → known.Read tree (record p { standing = None }) lo hi k query value (record q { standing = None })
@@ -109,17 +114,45 @@ answer_made t query walk p q before (Err m) was read section moved given near =
     answered_before t query (Err m) walk p q (subst (λ (x : known.Pass). WasMoved (opened t) x m.lo m.begun q) was moved, near, given.window)
 
 -- no section stands open behind a read
+pub read_rests : (lo hi : ℕ) (p q : known.Pass) → HasRead lo hi p q → q.standing ≡ None
+read_rests lo hi p q read = ap (λ (x : known.Pass). x.standing) read.pass
+
 pub rested : (answer : Answer) (p q : known.Pass) → IfOk answer (λ r. HasRead r.lo r.hi p q) → IfErr answer (λ m. HasRead m.lo m.begun p q) → q.standing ≡ None
-rested (Ok r) p q section given = ap (λ (x : known.Pass). x.standing) section.pass
-rested (Err m) p q section given = ap (λ (x : known.Pass). x.standing) given.pass
+rested (Ok r) p q section given = read_rests r.lo r.hi p q section
+rested (Err m) p q section given = read_rests m.lo m.begun p q given
+
+-- the same of a load, which is never given up
+pub load_made : (t : Tree) (index : ℕ) (walk : Option Cursor) (p q : known.Pass) (before : Pass) (r : Read (Option Range)) → pass_in before ≡ closed_by walk p
+    → (k : ℕ) × known.Read (opened t) (pass_in before) r.lo r.hi k (Load index) r.value q → HasRead r.lo r.hi (pass_in before) q → IsAnswer t p (Load index) (Ok r) q
+load_made t index walk p q before r was read section = answer_made t (Load index) walk p q before (Ok r) was read section tt tt tt
 
 -- ---- walks
 
-pub kept_on : (v : Walker) (found : Option Range) (range : Range) (walk : Cursor) → found ≡ Some range → v.walk ≡ Some walk → walk.at ≡ place_behind found top → GoesOn found v
-kept_on v found range walk is kept at = subst (λ (o : Option Range). GoesOn o v) (sym is) (walk, kept, at ∙ ap (λ (o : Option Range). place_behind o top) is)
+at_walk : (walk : Option Cursor) (place : Option ℕ) → IsOnAt walk place → (w : Cursor) × (walk ≡ Some w) × (w.at ≡ place)
+at_walk None place at = elim at [ ]
+at_walk (Some w) place at = (w, refl, at)
 
-pub forgotten : (v : Walker) (found : Option Range) → found ≡ None → v.walk ≡ None → (knows v).standing ≡ None → GoesOn found v
-forgotten v found is none closed = subst (λ (o : Option Range). GoesOn o v) (sym is) (none, closed)
+pub is_on : (walk : Option Cursor) (place : Option ℕ) → IsOnAt walk place → IsSome walk
+is_on None place at = elim at [ ]
+is_on (Some w) place at = refl
+
+pub stands_at : (walk : Option Cursor) (w : Cursor) (place : Option ℕ) → walk ≡ Some w → w.at ≡ place → IsOnAt walk place
+stands_at walk w place is at = subst (λ (o : Option Cursor). IsOnAt o place) (sym is) at
+
+pub keeps_walk : (v : Walker) (found : Option Range) (range : Range) → found ≡ Some range → IsOnAt v.walk (place_behind found top) → GoesOn found v
+keeps_walk v found range is at = subst (λ (o : Option Range). GoesOn o v) (sym is) (at_walk v.walk (place_behind (Some range) top) (subst (λ (o : Option Range). IsOnAt v.walk (place_behind o top)) is at))
+
+-- one that is paused is on none
+closed_rests : (walk : Option Cursor) (place : Option ℕ) (p : known.Pass) → IsOnAt walk place → (closed_by walk p).standing ≡ None
+closed_rests None place p at = elim at [ ]
+closed_rests (Some w) place p at = refl
+
+pub ends_walk : (v v' : Walker) (found : Option Range) → found ≡ None → IsOnAt v.walk (place_behind found top) → knows v' ≡ halted v → v'.walk ≡ None → GoesOn found v'
+ends_walk v v' found is at closed none =
+    subst (λ (o : Option Range). GoesOn o v') (sym is) (none, ap (λ (x : known.Pass). x.standing) closed ∙ closed_rests v.walk (place_behind found top) (knows v) at)
+
+pub paused_knows : (v v' : Walker) → knows v' ≡ halted v → KnowsAs (knows v) (knows v')
+paused_knows v v' is = closed_knows v.walk (knows v) (knows v') is
 
 pub from_any : (from : ℕ) → from < 2 ^ 64 → place_from from top ≡ Some from
 from_any from few = ap (λ (b : Bool). if b then Some from else None) (le-leb from top (omega arith))
@@ -137,13 +170,23 @@ begins_walk p w leaf epoch max = record {
 pub goes_on : (t : Tree) (r : Read (Option Range)) (p q : Pass) (w w' : Cursor) → IsKeptWalk p w → HasWalked t p w r q w' → IsWalkOf q w' → IsKeptWalk q w'
 goes_on t r p q w w' kept walked of = record { of = of; max = walked.max ∙ kept.max }
 
--- a step of a walk at this index answers the find from there
-pub walked_answer : (t : Tree) (from : ℕ) (r : Read (Option Range)) (p : known.Pass) (p1 p2 : Pass) (q : known.Pass) (w w' : Cursor) → KnowsAs p (pass_in p1) → w.at ≡ Some from → IsKeptWalk p1 w → HasWalked t p1 w r p2 w'
-    → KnowsAs (pass_in p2) q → IsAnswer t p (query_at (Some from) top) (Ok r) q
-walked_answer t from r p p1 p2 q w w' before at kept walked after =
-    let read : (k : ℕ) × known.Read (opened t) (pass_in p1) r.lo r.hi k (query_at (Some from) top) r.value (pass_in p2) =
-    subst (λ (x : Option ℕ × ℕ). (k : ℕ) × known.Read (opened t) (pass_in p1) r.lo r.hi k (query_at x.0 x.1) r.value (pass_in p2)) (λ i. (at i, kept.max i)) walked.read in
-    read_as t (query_at (Some from) top) r p (pass_in p1) q (pass_in p2) before after read walked.section.window
+-- a step of a walk answers the find from its place
+pub on_answer : (t : Tree) (r : Read (Option Range)) (p q : Pass) (walk : Option Cursor) (w w' : Cursor) → walk ≡ Some w → IsKeptWalk p w → HasWalked t p w r q w'
+    → IfSome walk (λ v. IsAnswer t (pass_in p) (query_at v.at top) (Ok r) (pass_in q))
+on_answer t r p q walk w w' is kept walked =
+    let read : (k : ℕ) × known.Read (opened t) (pass_in p) r.lo r.hi k (query_at w.at top) r.value (pass_in q) =
+    subst (λ (m : ℕ). (k : ℕ) × known.Read (opened t) (pass_in p) r.lo r.hi k (query_at w.at m) r.value (pass_in q)) kept.max walked.read in
+    subst (λ (o : Option Cursor). IfSome o (λ v. IsAnswer t (pass_in p) (query_at v.at top) (Ok r) (pass_in q))) (sym is) (read, walked.section.window)
+
+pub on_place : (t : Tree) (r : Read (Option Range)) (p q : Pass) (walk : Option Cursor) (w w' : Cursor) → walk ≡ Some w' → IsKeptWalk p w → HasWalked t p w r q w' → IsOnAt walk (place_behind r.value top)
+on_place t r p q walk w w' is kept walked = stands_at walk w' (place_behind r.value top) is (walked.at ∙ ap (place_behind r.value) kept.max)
+
+pub step_answer : (t : Tree) (walk : Option Cursor) (from : ℕ) (r : Read (Option Range)) (p p' q q' : known.Pass) → IsOnAt walk (Some from) → KnowsAs p p' → KnowsAs q' q
+    → IfSome walk (λ v. IsAnswer t p' (query_at v.at top) (Ok r) q') → IsAnswer t p (query_at (Some from) top) (Ok r) q
+step_answer t None from r p p' q q' at before after said = elim at [ ]
+step_answer t (Some w) from r p p' q q' at before after said =
+    let is : IsAnswer t p' (query_at (Some from) top) (Ok r) q' = subst (λ (o : Option ℕ). IsAnswer t p' (query_at o top) (Ok r) q') at said in
+    read_as t (query_at (Some from) top) r p p' q q' before after is.0 is.1
 
 -- ---- calls
 

@@ -49,14 +49,21 @@ pub stepped_closed : (walk walk' : OutWalk) (before after : Option OwnTree) (sta
 stepped_closed walk walk' before after status out was is number shown stays =
     subst (λ (x : Option OwnTree × Option OwnTree). Stepped walk x.0 x.1 status out walk') (λ i. (sym was i, sym is i)) (refl, number, shown, stays)
 
--- a step of a tree, whose fields stand for `inside`
-pub stepped : (inside t : OwnTree) (e' : Parts) (place place' : RangeWalk) (index : Option ℕ) (found : Option Range) → inside ≡ t → place.next ≡ start_in (top_of inside) index → (inside.place.next ≡ index → place ≡ inside.place)
-    → IsAsked inside.engine e' → found ≡ found_from (map_by inside.engine.sheet.tree) (top_of inside) place.next → place'.next ≡ index_behind (top_of inside) found → IfSome found (λ _. StepsWithin place inside.engine.sheet e'.sheet)
+-- what the engine tells of a step of a tree
+abbrev Steps : OwnTree → Parts → RangeWalk → Option Range → Type 0
+Steps m e' place' found =
+    IsAsked m.engine e' × (found ≡ found_from (map_by m.engine.sheet.tree) (top_of m) m.place.next) × (place'.next ≡ index_behind (top_of m) found) × IfSome found (λ _. StepsWithin m.place m.engine.sheet e'.sheet)
+
+-- a step of a tree that stands at the index then, whose fields stand for `inside`
+pub stepped : (inside m t : OwnTree) (e' : Parts) (place' : RangeWalk) (index : Option ℕ) (found : Option Range) → inside ≡ m → m.engine ≡ t.engine → m.place.next ≡ start_in (top_of t) index → (t.place.next ≡ index → m.place ≡ t.place)
+    → IsAsked inside.engine e' → found ≡ found_from (map_by inside.engine.sheet.tree) (top_of inside) inside.place.next → place'.next ≡ index_behind (top_of inside) found → IfSome found (λ _. StepsWithin inside.place inside.engine.sheet e'.sheet)
     → IsStepped t (record { engine = e'; place = place' }) index found
-stepped inside t e' place place' index found same start kept asked range behind near =
-    subst (λ (x : OwnTree). IsStepped x (record { engine = e'; place = place' }) index found) same (record {
-      rest = asked;
-      range = range ∙ ap (found_from (map_by inside.engine.sheet.tree) (top_of inside)) start;
-      place = behind;
-      near = stepped_near inside.engine.sheet e'.sheet inside.place place index found kept near;
-    })
+stepped inside m t e' place' index found is same start kept asked range behind near =
+    let of_m : Steps m e' place' found = subst (λ (x : OwnTree). Steps x e' place' found) is (asked, range, behind, near) in
+    let of_t : Steps (record { engine = t.engine; place = m.place }) e' place' found = subst (λ (e : Parts). Steps (record { engine = e; place = m.place }) e' place' found) same of_m in
+    record {
+      rest = of_t.0;
+      range = of_t.1 ∙ ap (found_from (map_by t.engine.sheet.tree) (top_of t)) start;
+      place = of_t.2;
+      near = stepped_near t.engine.sheet e'.sheet t.place m.place index found kept of_t.3;
+    }

@@ -57,6 +57,11 @@ IsAnswer t p query (Err m) q = WasMoved (opened t) p m.lo m.begun q × IsForNeig
 abbrev pub IsAtRest : Walker → Type 0
 IsAtRest w = (w.walk ≡ None) × ((knows w).standing ≡ None)
 
+-- It is on a walk, which stands at this place.
+abbrev pub IsOnAt : Option Cursor → Option ℕ → Type 0
+IsOnAt None place = ⊥
+IsOnAt (Some walk) place = walk.at ≡ place
+
 -- A walk that has found a range is kept, and stands behind it; one that has found none is forgotten.
 abbrev pub GoesOn : Option Range → Walker → Type 0
 GoesOn (Some range) w = (walk : Cursor) × (w.walk ≡ Some walk) × (walk.at ≡ place_behind (Some range) top)

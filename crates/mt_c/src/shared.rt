@@ -1,5 +1,6 @@
 //! Queries, steps and calls of what C keeps of a shared tree.
 
+ghost use Rattle.mt_base.specs.declared.calls.Query.TheVariants.{Load};
 ghost use Rattle.mt_c.specs.Shared.{SharedAsked, SharedLearned, SharedSettled, SharedStepped, SharedSynced, SharedTried};
 
 use crate::shared_told::{
@@ -24,6 +25,22 @@ pub fn ask(alloc: Global, user: &mut UserHandle, query: &Query, out: &mut Window
     let answer = whole.ask(query);
     *user = UserHandle::of(whole);
     let (window, status) = answer_told(answer);
+    *out = window;
+    status
+}
+
+/// Tells the range that an index lies in.
+#[tactic(auto, using(crate::proofs::Sharing::asked_open, crate::proofs::Sharing::asked_closed))]
+pub fn load(alloc: Global, user: &mut UserHandle, index: u64, out: &mut Window) -> u32
+    ensures { SharedAsked (Load index) user.old.kept.value user.new.kept.value result out.new }
+{
+    let Some(mut whole) = user.take(alloc) else {
+        *out = seen(0, 0, no_range());
+        return EINVAL;
+    };
+    let read = whole.load(index);
+    *user = UserHandle::of(whole);
+    let (window, status) = answer_told(Ok(read));
     *out = window;
     status
 }

@@ -4,7 +4,7 @@ ghost use Rattle.mt_base.specs.declared.calls.Call.TheVariants.{Store, StorePre,
 ghost use Rattle.mt_base.specs.declared.calls.Query.TheVariants.{Load, Find, Next, Prev, Rfind};
 ghost use Rattle.mt_c.specs.Shared.{SharedAsked, SharedLearned, SharedSettled, SharedStepped, SharedSynced, SharedTried};
 
-use crate::shared::{ask, learn, settle, step, sync, try_call};
+use crate::shared::{ask, learn, load, settle, step, sync, try_call};
 use crate::shared_told::{Outcome, Window};
 use crate::steps::OutWalk;
 use crate::user_handle::UserHandle;
@@ -21,7 +21,7 @@ pub extern "C" fn maple_shared_load(
 ) -> u32
     ensures { SharedAsked (Load index) user.old.kept.value user.new.kept.value result read.new }
 {
-    ask(alloc, user, &Query::Load { index }, read)
+    load(alloc, user, index, read)
 }
 
 /// The first range that ends at `index` or above and begins at `max` or below, where `index` is at most `max`.

@@ -5,7 +5,7 @@ ghost use Rattle.mt_base.specs.Width.{greatest};
 ghost use Rattle.mt_rows.specs.Sheet.{Rooted};
 ghost use Rattle.mt_engine.specs.RangeWalks.{WalksFrom};
 ghost use Rattle.mt_c.specs.Walking as defined;
-ghost use Rattle.mt_c.specs.Walking.{IsStepped, Stepped, index_of, start_in, walk_from};
+ghost use Rattle.mt_c.specs.Walking.{IsStepped, Stepped, index_of, start_in, top_of, walk_from};
 
 use crate::handle::Handle;
 use crate::own_tree::OwnTree;
@@ -57,17 +57,11 @@ pub fn ended() -> RangeWalk
     }
 }
 
-/// The place from which a walk goes on: the one that is kept, where it is this, or else one whose leaf is not known.
-#[tactic(auto, using(crate::proofs::Walking::kept_start))]
-fn place_for(engine: &Engine<PlainRows>, kept: &RangeWalk, index: Option<u64>) -> RangeWalk
-    requires { WalksFrom engine.now.sheet.tree kept.now }
+/// The place from which a walk goes on whose leaf is not known.
+fn place_at(engine: &Engine<PlainRows>, index: Option<u64>) -> RangeWalk
     ensures walk { WalksFrom engine.now.sheet.tree result }
     ensures next { result.next ≡ start_in (greatest engine.now.sheet.tree.table.width) index }
-    ensures kept { kept.now.next ≡ index → result ≡ kept.now }
 {
-    if kept.next == index {
-        return *kept;
-    }
     match index {
         Some(index) => engine.walk_from(index),
         None => ended(),
@@ -75,11 +69,24 @@ fn place_for(engine: &Engine<PlainRows>, kept: &RangeWalk, index: Option<u64>) -
 }
 
 impl OwnTree {
+    /// The tree keeps the place of an index from then on: it stays where that is the one that is kept, leaf and all.
+    #[tactic(auto, using(crate::proofs::Walking::kept_start))]
+    fn stand_at(&mut self, index: Option<u64>)
+        ensures engine { self.new.engine ≡ self.old.engine }
+        ensures next { self.new.place.next ≡ start_in (top_of self.old) index }
+        ensures kept { self.old.place.next ≡ index → self.new.place ≡ self.old.place }
+    {
+        if self.place.next == index {
+            return;
+        }
+        self.place = place_at(&self.engine, index);
+    }
+
     /// The first range that ends at an index or above, from behind which a walk goes on then.
     fn step(&mut self, index: Option<u64>) -> Option<Range>
         ensures { IsStepped self.old self.new index result }
     {
-        self.place = place_for(&self.engine, &self.place, index);
+        self.stand_at(index);
         self.engine.next_range(&mut self.place)
     }
 

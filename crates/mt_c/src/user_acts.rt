@@ -73,6 +73,15 @@ impl User {
         self.walker.ask(&self.common.tree, query)
     }
 
+    /// The range that an index lies in, without the lock.
+    pub fn load(&mut self, index: u64) -> Read<Option<Range>>
+        ensures tree { tree_of self.new ≡ tree_of self.old }
+        ensures answer { IsAnswer (tree_of self.old) (known_to self.old) (Load index) (Ok result) (known_to self.new) }
+        ensures rests { IsAtRest self.new.walker }
+    {
+        self.walker.load(&self.common.tree, index)
+    }
+
     /// The first range that ends at a place or above, as `Walker::step_from` tells it: the leaf that it is in is kept.
     pub fn step_from(&mut self, place: Option<u64>) -> Read<Option<Range>>
         ensures tree { tree_of self.new ≡ tree_of self.old }

@@ -1,18 +1,41 @@
 //! What a pass of a shared tree does on its walk and off it.
 
-ghost use Rattle.std.specs.Prelude.{◌≡◌, All, IfErr, IfOk, MatchOption, None, Ok, Some, map, ◌∷◌};
+ghost use Rattle.std.specs.Prelude.{◌≡◌, ◌<◌, ℕ, All, IfErr, IfOk, IfSome, IsSome, MatchOption, None, Ok, Some, map, ◌∷◌};
 ghost use Rattle.mt_base.specs.declared.calls.Query.TheVariants.{Load};
-ghost use Rattle.mt_read.specs.Cursors.{query_at};
+ghost use Rattle.mt_base.specs.Passes as known;
+ghost use Rattle.mt_read.specs.Cursors.{place_behind, query_at};
+ghost use Rattle.mt_read.specs.Windows.{HasRead};
 ghost use Rattle.mt_tree.specs.Meeting.{HaveMet};
-ghost use Rattle.mt_tree.specs.Trees.{IsPassOf, pass_in};
+ghost use Rattle.mt_tree.specs.Trees.{IsPassOf, opened, pass_in};
 ghost use Rattle.mt_tree.specs.Tries.{IsBusyOf};
-ghost use Rattle.mt_c.specs.KeptWalks.{IsKeptWalk, top};
+ghost use Rattle.mt_c.specs.KeptWalks.{top};
 ghost use Rattle.mt_c.specs.Spares.{IsSpare};
-ghost use Rattle.mt_c.specs.Walkers.{GoesOn, IsAnswer, IsAtRest, IsTried, KnowsAs, halted, knows};
+ghost use Rattle.mt_c.specs.Walkers.{GoesOn, IsAnswer, IsAtRest, IsOnAt, IsTried, KnowsAs, halted, knows};
 
 use crate::walker::Walker;
-use mt_base::{Call, Query, Range};
+use mt_base::{Call, Query, Range, Steps};
 use mt_tree::{Busy, Done, Moved, Pass, Read, Tree, Walk, Worn};
+use std::marker::Brand;
+use std::sync::ledger::{Blank, Ledger};
+
+/// The range that an index lies in, in a number of steps that is counted.
+fn load_range<L: Ledger>(
+    tree: &Tree,
+    pass: &mut Pass,
+    index: u64,
+    blank: Blank,
+) -> Read<Option<Range>>
+    requires of { IsPassOf tree.now pass.old }
+    requires name { blank.name ≡ L.name }
+    requires parts { blank.parts ≡ L.parts }
+    requires some { 0 < blank.parts }
+    ensures of { IsPassOf tree.now pass.new }
+    ensures read { (k : ℕ) × known.Read (opened tree.now) (pass_in pass.old) result.lo result.hi k (Load index) result.value (pass_in pass.new) }
+    ensures section { HasRead result.lo result.hi (pass_in pass.old) (pass_in pass.new) }
+{
+    let mut steps = Steps::<L>::new(blank);
+    tree.load_range(pass, index, &mut steps)
+}
 
 impl Walker {
     /// A pass that is on no walk.
@@ -23,8 +46,9 @@ impl Walker {
         Walker { pass, walk: None }
     }
 
-    /// Closes the section of its walk, if it has one, and forgets the walk.
-    pub fn pause(&mut self, tree: &Tree)
+    /// Closes the section of its walk and forgets the walk. It is apart from `pause`, so that a pass on no walk makes no room for one.
+    #[inline(never)]
+    fn forget(&mut self, tree: &Tree)
         requires { IsPassOf tree.now self.old.pass }
         ensures of { IsPassOf tree.now self.new.pass }
         ensures known { knows self.new ≡ halted self.old }
@@ -34,6 +58,18 @@ impl Walker {
             return;
         };
         tree.halt(&mut self.pass, &mut walk);
+    }
+
+    /// Closes the section of its walk, if it has one, and forgets the walk.
+    pub fn pause(&mut self, tree: &Tree)
+        requires { IsPassOf tree.now self.old.pass }
+        ensures of { IsPassOf tree.now self.new.pass }
+        ensures known { knows self.new ≡ halted self.old }
+        ensures walk { self.new.walk ≡ None }
+    {
+        if self.walk.is_some() {
+            self.forget(tree);
+        }
     }
 
     /// Asks one query, without the lock.
@@ -48,39 +84,64 @@ impl Walker {
         tree.ask(&mut self.pass, query)
     }
 
-    /// Goes on with its walk, where that stands at this index, and else begins another there.
-    #[tactic(auto, using(crate::proofs::Using::from_any, crate::proofs::Using::begins_walk, crate::proofs::Using::halted_knows, crate::proofs::Using::same_knows))]
-    fn take_walk(&mut self, tree: &Tree, from: u64) -> Walk
+    /// The range that an index lies in, without the lock.
+    #[tactic(auto, using(crate::proofs::Using::load_made, crate::proofs::Using::read_rests))]
+    pub fn load(&mut self, tree: &Tree, index: u64) -> Read<Option<Range>>
         requires { IsPassOf tree.now self.old.pass }
         ensures of { IsPassOf tree.now self.new.pass }
-        ensures none { self.new.walk ≡ None }
-        ensures walk { IsKeptWalk self.new.pass result }
-        ensures at { result.at ≡ Some from }
+        ensures answer { IsAnswer tree.now (knows self.old) (Load index) (Ok result) (knows self.new) }
+        ensures rests { IsAtRest self.new }
+    {
+        self.pause(tree);
+        load_range::<Brand>(tree, &mut self.pass, index, Blank::new(1))
+    }
+
+    /// It is on a walk that stands at this index then: on the one that it was on, where that does.
+    #[tactic(auto, using(crate::proofs::Using::from_any, crate::proofs::Using::begins_walk, crate::proofs::Using::stands_at, crate::proofs::Using::paused_knows, crate::proofs::Using::same_knows))]
+    fn walk_at(&mut self, tree: &Tree, from: u64)
+        requires { IsPassOf tree.now self.old.pass }
+        ensures of { IsPassOf tree.now self.new.pass }
+        ensures at { IsOnAt self.new.walk (Some from) }
         ensures known { KnowsAs (knows self.old) (knows self.new) }
     {
-        if let Some(mut walk) = self.walk.take() {
+        if let Some(walk) = &self.walk {
             if walk.at() == Some(from) {
-                return walk;
+                return;
             }
-            tree.halt(&mut self.pass, &mut walk);
         }
-        Walk::new(from, u64::MAX)
+        self.pause(tree);
+        self.walk = Some(Walk::new(from, u64::MAX));
+    }
+
+    /// The next range of the walk that it is on.
+    #[tactic(auto, using(crate::proofs::Using::on_answer, crate::proofs::Using::on_place, crate::proofs::Using::goes_on))]
+    fn walk_on(&mut self, tree: &Tree) -> Read<Option<Range>>
+        requires of { IsPassOf tree.now self.old.pass }
+        requires walk { IsSome self.old.walk }
+        ensures of { IsPassOf tree.now self.new.pass }
+        ensures answer { IfSome self.old.walk (λ walk. IsAnswer tree.now (knows self.old) (query_at walk.at top) (Ok result) (knows self.new)) }
+        ensures at { IsOnAt self.new.walk (place_behind result.value top) }
+    {
+        let Some(walk) = &mut self.walk else {
+            unreachable!()
+        };
+        tree.advance(&mut self.pass, walk)
     }
 
     /// The first range that ends at an index or above, without the lock. The leaf that it is in is kept, and its section stands
     /// open, until the walk ends or the pass is used for something else.
-    #[tactic(auto, using(crate::proofs::Using::walked_answer, crate::proofs::Using::goes_on, crate::proofs::Using::kept_on, crate::proofs::Using::forgotten, crate::proofs::Using::halted_knows, crate::proofs::Using::same_knows))]
+    #[tactic(auto, using(crate::proofs::Using::step_answer, crate::proofs::Using::is_on, crate::proofs::Using::keeps_walk, crate::proofs::Using::ends_walk, crate::proofs::Using::paused_knows, crate::proofs::Using::same_knows))]
     fn step(&mut self, tree: &Tree, from: u64) -> Read<Option<Range>>
         requires { IsPassOf tree.now self.old.pass }
         ensures of { IsPassOf tree.now self.new.pass }
         ensures answer { IsAnswer tree.now (knows self.old) (query_at (Some from) top) (Ok result) (knows self.new) }
         ensures going { GoesOn result.value self.new }
     {
-        let mut walk = self.take_walk(tree, from);
-        let read = tree.advance(&mut self.pass, &mut walk);
+        self.walk_at(tree, from);
+        let read = self.walk_on(tree);
         match read.value {
-            Some(_) => self.walk = Some(walk),
-            None => tree.halt(&mut self.pass, &mut walk),
+            Some(_) => {}
+            None => self.pause(tree),
         }
         read
     }
@@ -108,10 +169,7 @@ impl Walker {
         ensures answer { IsAnswer tree.now (knows self.old) (Load 0) (Ok result) (knows self.new) }
         ensures rests { IsAtRest self.new }
     {
-        let Ok(read) = self.ask(tree, &Query::Load { index: 0 }) else {
-            unreachable!()
-        };
-        read
+        self.load(tree, 0)
     }
 
     /// Makes one call, if the lock is free.

@@ -4,6 +4,6 @@ use Rattle.mt_c.proofs.own_tree.OwnTree.step.Goals as goal
 
 pub returns : goal.returns
 returns c =
-    stepped (own_of c.self.inside) c.args.self.now c.next_range.new.self c.place_for-self-inside.result c.next_range.new.walk c.args.index c.next_range.result c.self.view_is
-    c.place_for-self-inside.ensures.next c.place_for-self-inside.ensures.kept (record { rest = c.next_range.ensures.rest; book = c.next_range.ensures.book; kind = c.next_range.ensures.kind })
+    stepped (own_of c.self.inside) c.stand_at.new.self c.args.self.now c.next_range.new.self c.next_range.new.walk c.args.index c.next_range.result c.self.view_is
+    c.stand_at.ensures.engine c.stand_at.ensures.next c.stand_at.ensures.kept (record { rest = c.next_range.ensures.rest; book = c.next_range.ensures.book; kind = c.next_range.ensures.kind })
     c.next_range.ensures.range c.next_range.ensures.next c.next_range.ensures.near

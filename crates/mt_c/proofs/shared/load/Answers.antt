@@ -1,0 +1,8 @@
+use Rattle.std.proofs.Common.{◌∙◌, Ok, Some, ap, sym}
+use Rattle.mt_c.proofs.Sharing.{asked_open}
+use Rattle.mt_c.proofs.shared.load.Goals as goal
+
+pub returns : goal.returns
+returns c =
+    asked_open _ _ _ _ _ (Ok c.load-read.result) _ _ (c.in-Some.ensures.user ∙ ap Some (sym c.deref_mut.ensures.value)) c.of.ensures
+    c.load-read.ensures.tree c.load-read.ensures.answer c.load-read.ensures.rests c.answer_told-status.ensures.status c.answer_told-status.ensures.window
