@@ -4,12 +4,12 @@ ghost use Rattle.std.specs.Prelude.{◌≡◌, None, Option};
 ghost use Rattle.mt_base.specs.Width.{greatest};
 ghost use Rattle.mt_rows.specs.Sheet.{Rooted};
 ghost use Rattle.mt_engine.specs.RangeWalks.{WalksFrom};
-ghost use Rattle.mt_c.specs.Walking as defined;
+ghost use Rattle.mt_c.specs.Calls.{found_status, out_of};
 ghost use Rattle.mt_c.specs.Walking.{IsStepped, Stepped, index_of, start_in, top_of, walk_from};
 
 use crate::handle::Handle;
 use crate::own_tree::OwnTree;
-use crate::told::{EINVAL, OutRange, found_status, no_range, out_of};
+use crate::told::{EINVAL, ENOENT, OutRange, no_range};
 use mt_base::Range;
 use mt_engine::{Engine, RangeWalk};
 use mt_rows::PlainRows;
@@ -98,6 +98,22 @@ impl OwnTree {
     }
 }
 
+/// Tells C what a step found, and the place behind it, and the number that it gets.
+fn tell(found: Option<Range>, behind: Option<u64>, range: &mut OutRange, walk: &mut OutWalk) -> u32
+    ensures status { result ≡ found_status found }
+    ensures range { range.new ≡ out_of found }
+    ensures walk { walk.new ≡ walk_from behind }
+{
+    let Some(Range { first, last, entry }) = found else {
+        *range = no_range();
+        *walk = OutWalk::from_index(behind);
+        return ENOENT;
+    };
+    *range = OutRange { first, last, entry };
+    *walk = OutWalk::from_index(behind);
+    0
+}
+
 /// Tells the next range of a walk, which goes on behind it. What the tree keeps of the walk that went last is used where this is that
 /// one, and so a call between two steps does no harm.
 #[tactic(auto, using(crate::proofs::Walking::stepped_open, crate::proofs::Walking::stepped_closed))]
@@ -117,7 +133,5 @@ pub extern "C" fn maple_step(
     let found = whole.step(walk.index());
     let behind = whole.behind();
     *tree = Handle::of(whole);
-    *range = out_of(found);
-    *walk = OutWalk::from_index(behind);
-    found_status(found)
+    tell(found, behind, range, walk)
 }

@@ -4,5 +4,5 @@ use Rattle.mt_c.proofs.steps.maple_step.Goals as goal
 
 pub returns : goal.returns
 returns c =
-    stepped_open c.args.walk.now c.from_index.result _ _ c.deref_mut.result.now c.step-found.new.self c.index.result c.behind-behind.result c.step-found.result c.found_status.result c.out_of.result
-    (search rules) (search rules) c.index.ensures c.step-found.ensures (search rules) c.found_status.ensures c.out_of.ensures c.from_index.ensures
+    stepped_open c.args.walk.now c.tell.new.walk _ _ c.deref_mut.result.now c.step-found.new.self c.index.result c.behind-behind.result c.step-found.result c.tell.result c.tell.new.range
+    (search rules) (search rules) c.index.ensures c.step-found.ensures (search rules) c.tell.ensures.status c.tell.ensures.range c.tell.ensures.walk
