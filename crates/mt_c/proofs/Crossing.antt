@@ -1,10 +1,14 @@
--- A tree of one thread may go to another thread: nothing that it owns names the thread. Source: this project's own.
+-- A tree of one thread may go to another thread, and so may a user of one that threads share: nothing that they own names the thread.
+-- Source: this project's own.
 use denote.Param.Send.{IsSend, view_send, sendable}
 use denote.Param.SendFields.{declared_send}
 use Rattle.std.proofs.Crossing.{crosses}
+use Rattle.atomic_table.proofs.badge.Badge.TheSendSync as Badge
 use Rattle.mt_base.proofs.kinds.Kind.TheSendSync as Kind
 use Rattle.mt_engine.proofs.engine.Engine.TheSendSync as Engine
 use Rattle.mt_engine.proofs.range_walk.RangeWalk.TheSendSync as RangeWalk
+use Rattle.mt_keep.proofs.keep.Busy.TheSendSync as Unpursed
+use Rattle.mt_keep.specs.contracts.keep.Given as given
 use Rattle.mt_rows.proofs.plain.Fate.TheSendSync as Fate
 use Rattle.mt_rows.proofs.row_widths.RowWidth.TheSendSync as RowWidth
 use Rattle.mt_rows.proofs.rows.Scan.TheSendSync as Scan
@@ -12,8 +16,15 @@ use Rattle.mt_rows.proofs.words.Words.TheSendSync as Words
 use Rattle.mt_rows.specs.contracts.plain.PlainRows as rows
 use Rattle.mt_rows.specs.contracts.plain.State as state
 use Rattle.mt_rows.specs.contracts.reads.Reads as counted
+use Rattle.mt_rule.proofs.busy.Busy.TheSendSync as Locked
+use Rattle.mt_tree.specs.contracts.trees.Tree as shared
+use Rattle.mt_c.proofs.purse.Common.TheSendSync as Common
+use Rattle.mt_c.proofs.walker.Walker.TheSendSync as Walker
 use Rattle.mt_c.specs.contracts.own_tree.OwnTree as tree
 use Rattle.mt_c.specs.contracts.own_tree.OwnTree.TheInside as inside
+use Rattle.mt_c.specs.contracts.purse.Purse as purse
+use Rattle.mt_c.specs.contracts.receipts.Receipts as receipts
+use Rattle.mt_c.specs.contracts.user.User as user
 
 -- The count of reads stands over a `Snapshot`, whose `Send` is in `crosses` alone, where no check of a struct's fields looks. So
 -- what stands over that count is shown here, up to the tree.
@@ -28,3 +39,13 @@ rows_sent = declared_send rows.the_type (state_sent, tt)
 
 pub tree_sent : IsSend tree.the_row
 tree_sent = view_send _ _ _ _ _ (declared_send inside.the_type (search (sendable, crosses, Engine.the_send, rows_sent, Kind.the_send, RangeWalk.the_send) depth 20))
+
+-- A receipt of who gave the purse back stands over two snapshots, and so the same is shown up to the user.
+given_sent : IsSend (given.the_row purse.the_row shared.the_row)
+given_sent = declared_send (given.the_type purse.the_row shared.the_row) (search (sendable, crosses, Badge.the_send) depth 20)
+
+receipts_sent : IsSend receipts.the_row
+receipts_sent = declared_send receipts.the_type (search (sendable, crosses, Locked.the_send, Unpursed.the_send, given_sent) depth 20)
+
+pub user_sent : IsSend user.the_row
+user_sent = declared_send user.the_type (search (sendable, crosses, Common.the_send, Common.the_sync, Walker.the_send, Badge.the_send, receipts_sent) depth 20)

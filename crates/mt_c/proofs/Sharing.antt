@@ -23,7 +23,8 @@ use Rattle.mt_c.specs.declared.user_opens.Unchanged.{Unchanged}
 use Rattle.mt_c.specs.declared.shared_told.Outcome.{Outcome}
 use Rattle.mt_c.specs.declared.steps.OutWalk.{OutWalk}
 use Rattle.mt_c.specs.declared.shared_told.Window.{Window}
-use Rattle.mt_c.specs.Shared.{HasLeft, IsFirst, IsOfPurse, IsSettled, Settled, IsShape, IsSynced, IsWhy, OnUser, SharedAsked, SharedLearned, SharedLeft, SharedNew, SharedOpened, SharedSettled, SharedStepped, SharedSynced, SharedTried, SharedWith, answer_status, calls_told, common_of, known_to, no_outcome, no_window, outcome_of, paused, rested, settled_status, settled_told, synced_status, tree_of, tried_status, unchanged_status, went_on, window_of}
+use Rattle.mt_c.specs.Receipts.{when_given, when_settled, when_synced, when_tried, when_unchanged}
+use Rattle.mt_c.specs.Shared.{HasLeft, HasSettled, HasShared, HasSynced, HasTried, IsFirst, IsUnchanged, IsOfPurse, IsSettled, Settled, IsShape, IsSynced, IsWhy, OnUser, SharedAsked, SharedLearned, SharedLeft, SharedNew, SharedOpened, SharedSettled, SharedStepped, SharedSynced, SharedTried, SharedWith, answer_status, calls_told, common_of, known_to, no_outcome, no_window, outcome_of, paused, rested, settled_status, settled_told, synced_status, tree_of, tried_status, unchanged_status, went_on, window_of}
 use Rattle.mt_c.specs.Walkers.{Answer, GoesOn, IsAnswer, IsAtRest, IsTried, Tried, top}
 use Rattle.mt_c.specs.Walking.{index_of}
 use Rattle.mt_read.specs.Cursors.{query_at}
@@ -41,9 +42,12 @@ asked_open query before after u v answer status out was is tree said rests numbe
 pub asked_closed : (query : Query) (before after : Option User) (status : ℕ) (out : Window) → before ≡ None → after ≡ None → status ≡ 22 → out ≡ no_window → SharedAsked query before after status out
 asked_closed query before after status out was is number shown = on_closed before after status _ _ was is number shown
 
-pub tried_open : (call : Call) (before after : Option User) (u v : User) (tried : Tried) (status : ℕ) (out : Outcome) → before ≡ Some u → after ≡ Some v → tree_of v ≡ tree_of u
-    → IsTried (tree_of u) (paused u) call tried (known_to v) → status ≡ tried_status tried → out ≡ outcome_of tried → SharedTried call before after status out
-tried_open call before after u v tried status out was is tree said number shown = on_open before after u v status _ _ was is tree (tried, said, number, shown)
+pub has_tried : (call : Call) (u v : User) (tried : Tried) (status : ℕ) (out : Outcome) → IsTried (tree_of u) (paused u) call tried (known_to v) → v.receipts ≡ when_tried tried u.receipts → status ≡ tried_status tried → out ≡ outcome_of tried
+    → HasTried call status out u v
+has_tried call u v tried status out said kept number shown = (tried, said, kept, number, shown)
+
+pub tried_open : (call : Call) (before after : Option User) (u v : User) (status : ℕ) (out : Outcome) → before ≡ Some u → after ≡ Some v → tree_of v ≡ tree_of u → HasTried call status out u v → SharedTried call before after status out
+tried_open call before after u v status out was is tree has = on_open before after u v status _ _ was is tree has
 
 pub tried_closed : (call : Call) (before after : Option User) (status : ℕ) (out : Outcome) → before ≡ None → after ≡ None → status ≡ 22 → out ≡ no_outcome → SharedTried call before after status out
 tried_closed call before after status out was is number shown = on_closed before after status _ _ was is number shown
@@ -74,9 +78,12 @@ learned_no calls before after u v r status was is tree said rests few number = l
 pub learned_closed : (calls : ℕ) (before after : Option User) (status : ℕ) → before ≡ None → after ≡ None → status ≡ 22 → SharedLearned calls before after status
 learned_closed calls before after status was is number = on_closed before after status _ _ was is number tt
 
-pub synced_open : (before after : Option User) (u v : User) (synced : Result ℕ Busy) (status calls : ℕ) → before ≡ Some u → after ≡ Some v → tree_of v ≡ tree_of u
-    → IsSynced (tree_of u) (paused u) synced (known_to v) → status ≡ synced_status synced → calls ≡ calls_told synced → SharedSynced before after status calls
-synced_open before after u v synced status calls was is tree said number told = on_open before after u v status _ _ was is tree (synced, said, number, told)
+pub has_synced : (u v : User) (synced : Result ℕ Busy) (status calls : ℕ) → IsSynced (tree_of u) (paused u) synced (known_to v) → v.receipts ≡ when_synced synced u.receipts → status ≡ synced_status synced → calls ≡ calls_told synced
+    → HasSynced status calls u v
+has_synced u v synced status calls said kept number told = (synced, said, kept, number, told)
+
+pub synced_open : (before after : Option User) (u v : User) (status calls : ℕ) → before ≡ Some u → after ≡ Some v → tree_of v ≡ tree_of u → HasSynced status calls u v → SharedSynced before after status calls
+synced_open before after u v status calls was is tree has = on_open before after u v status _ _ was is tree has
 
 pub synced_closed : (before after : Option User) (status calls : ℕ) → before ≡ None → after ≡ None → status ≡ 22 → calls ≡ 0 → SharedSynced before after status calls
 synced_closed before after status calls was is number none = on_closed before after status _ _ was is number none
@@ -113,6 +120,12 @@ opened_new code rows passes calls before after status was new = rw was new
 
 -- ---- sharing
 
+pub has_shared : (u v w : User) (given : Given Purse Tree) → IsOfPurse (common_of u) w given → v.receipts ≡ when_given given u.receipts → HasShared u v w
+has_shared u v w given of kept = (given, of, kept)
+
+pub is_unchanged : (u v : User) (status : ℕ) (why : Unchanged) → IsWhy (common_of u) why → v.receipts ≡ when_unchanged why u.receipts → status ≡ unchanged_status why → IsUnchanged u v status
+is_unchanged u v status why told kept number = (why, told, kept, number)
+
 module _ (before after other other' : Option User) (status : ℕ) where
   pub with_closed : before ≡ None → after ≡ None → other' ≡ other → status ≡ 22 → SharedWith before after other other' status
   with_closed was is same number = rw was (is, same, number)
@@ -121,12 +134,12 @@ module _ (before after other other' : Option User) (status : ℕ) where
   with_busy u o was is held still number = rw (was, is, held) (refl, still, number)
 
   pub with_made : (u v w : User) → before ≡ Some u → after ≡ Some v → other ≡ None → other' ≡ Some w → status ≡ 0 → tree_of v ≡ tree_of u → known_to v ≡ known_to u → v.walker.walk ≡ u.walker.walk → tree_of w ≡ tree_of u
-      → (given : Given Purse Tree) → IsOfPurse (common_of u) w given → SharedWith before after other other' status
-  with_made u v w was is none made number tree known walk of given last = rw (was, is, none, made) (number, record { tree = tree; known = known; walk = walk }, of, given, last)
+      → HasShared u v w → SharedWith before after other other' status
+  with_made u v w was is none made number tree known walk of shared = rw (was, is, none, made) (number, record { tree = tree; known = known; walk = walk }, of, shared)
 
-  pub with_none : (u v : User) (why : Unchanged) → before ≡ Some u → after ≡ Some v → other ≡ None → other' ≡ None → status ≡ unchanged_status why → tree_of v ≡ tree_of u → known_to v ≡ known_to u → v.walker.walk ≡ u.walker.walk → IsWhy (common_of u) why
+  pub with_none : (u v : User) → before ≡ Some u → after ≡ Some v → other ≡ None → other' ≡ None → tree_of v ≡ tree_of u → known_to v ≡ known_to u → v.walker.walk ≡ u.walker.walk → IsUnchanged u v status
       → SharedWith before after other other' status
-  with_none u v why was is none still number tree known walk told = rw (was, is, none, still) (record { tree = tree; known = known; walk = walk }, why, told, number)
+  with_none u v was is none still tree known walk unchanged = rw (was, is, none, still) (record { tree = tree; known = known; walk = walk }, unchanged)
 
 -- ---- leaving
 
@@ -136,15 +149,18 @@ left_closed before after status was is number = rw was (is, number)
 pub left_done : (before after : Option User) (status : ℕ) (u : User) (given : Given Purse Tree) → before ≡ Some u → after ≡ None → status ≡ 0 → HasLeft (common_of u) (rested u) given → SharedLeft before after status
 left_done before after status u given was is number left = rw (was, is) (number, given, left)
 
-pub left_open : (before after : Option User) (status : ℕ) (u v : User) (why : Unchanged) → before ≡ Some u → after ≡ Some v → tree_of v ≡ tree_of u → known_to v ≡ paused u → IsWhy (common_of u) why → status ≡ unchanged_status why
-    → SharedLeft before after status
-left_open before after status u v why was is tree known told number = rw (was, is) (tree, known, why, told, number)
+pub left_open : (before after : Option User) (status : ℕ) (u v : User) (why : Unchanged) → before ≡ Some u → after ≡ Some v → tree_of v ≡ tree_of u → known_to v ≡ paused u → IsWhy (common_of u) why → v.receipts ≡ when_unchanged why u.receipts
+    → status ≡ unchanged_status why → SharedLeft before after status
+left_open before after status u v why was is tree known told kept number = rw (was, is) (tree, known, (why, told, kept, number))
 
 -- ---- settling
 
-pub settled_open : (before after : Option User) (u v : User) (settled : Settled) (status calls passes : ℕ) → before ≡ Some u → after ≡ Some v → tree_of v ≡ tree_of u
-    → IsSettled (common_of u) (paused u) settled (known_to v) → status ≡ settled_status settled → calls ≡ (settled_told settled).0 → passes ≡ (settled_told settled).1 → SharedSettled before after status calls passes
-settled_open before after u v settled status calls passes was is tree said number told met = on_open before after u v status _ _ was is tree (settled, said, number, told, met)
+pub has_settled : (u v : User) (settled : Settled) (status calls passes : ℕ) → IsSettled (common_of u) (paused u) settled (known_to v) → v.receipts ≡ when_settled settled u.receipts
+    → status ≡ settled_status settled → calls ≡ (settled_told settled).0 → passes ≡ (settled_told settled).1 → HasSettled status calls passes u v
+has_settled u v settled status calls passes said kept number told met = (settled, said, kept, number, told, met)
+
+pub settled_open : (before after : Option User) (u v : User) (status calls passes : ℕ) → before ≡ Some u → after ≡ Some v → tree_of v ≡ tree_of u → HasSettled status calls passes u v → SharedSettled before after status calls passes
+settled_open before after u v status calls passes was is tree has = on_open before after u v status _ _ was is tree has
 
 pub settled_closed : (before after : Option User) (status calls passes : ℕ) → before ≡ None → after ≡ None → status ≡ 22 → calls ≡ 0 → passes ≡ 0 → SharedSettled before after status calls passes
 settled_closed before after status calls passes was is number none zero = on_closed before after status _ _ was is number (none, zero)

@@ -37,6 +37,7 @@ use Rattle.mt_c.specs.declared.purse.Purse.{Purse}
 use Rattle.mt_c.specs.declared.user.User.{User}
 use Rattle.mt_c.specs.declared.walker.Walker.{Walker}
 use Rattle.mt_c.specs.Purses.{IsSeatedAt, WasGiven}
+use Rattle.mt_c.specs.Receipts.{no_receipts}
 use Rattle.mt_c.specs.Spares.{IsSpare}
 use Rattle.mt_c.specs.KeptWalks.{IsKeptWalk, top}
 use Rattle.mt_c.specs.Users.{IsFirst, IsSettled, IsSynced, tree_of}
@@ -265,11 +266,12 @@ none_bad shape r a bad ok = by_case (first_bad shape) refl
     by_case None is = is
     by_case (Some field) is = let e : r ≡ Err (make_error.BadShape field) = (bad field).1 is in cc
 
-pub is_first : (shape : Shape) (t : Tree) (ps : List Pass) (u : User) → IsNew shape [] t ps → tree_of u ≡ t → (others : List Pass) × (ps ≡ others ++ u.walker.pass ∷ []) → u.walker.walk ≡ None → IsFirst shape u
-is_first shape t ps u new tree last walk = record {
+pub is_first : (shape : Shape) (t : Tree) (ps : List Pass) (u : User) → IsNew shape [] t ps → tree_of u ≡ t → (others : List Pass) × (ps ≡ others ++ u.walker.pass ∷ []) → u.walker.walk ≡ None → u.receipts ≡ no_receipts → IsFirst shape u
+is_first shape t ps u new tree last walk none = record {
   tree = ap opened tree ∙ new.tree;
   calls = ap limit_of tree ∙ new.calls;
   others = map pass_in last.0;
   passes = sym (ap (map pass_in) last.1 ∙ map-append pass_in last.0 (u.walker.pass ∷ [])) ∙ new.passes;
   walk = walk;
+  none = none;
 }

@@ -12,5 +12,6 @@ pub mod KeptWalks
 pub mod Walkers
 pub mod Spares
 pub mod Purses
+pub mod Receipts
 pub mod Users
 pub mod Shared

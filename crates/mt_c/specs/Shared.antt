@@ -25,6 +25,7 @@ use Rattle.mt_c.specs.declared.shared_told.Outcome.{Outcome}
 use Rattle.mt_c.specs.declared.shared_told.Window.{Window}
 use Rattle.mt_c.specs.Calls.{found_status, no_range, out_of, range_of, status_of, word_of}
 use Rattle.mt_c.specs.KeptWalks.{top}
+use Rattle.mt_c.specs.Receipts.{when_given, when_settled, when_synced, when_tried, when_unchanged}
 pub use Rattle.mt_c.specs.Users.{HasLeft, IsFirst, IsOfPurse, IsSame, IsSettled, IsSynced, IsWhy, common_of, known_to, paused, rested, tree_of}
 use Rattle.mt_c.specs.Walkers.{Answer, GoesOn, IsAnswer, IsAtRest, Tried, IsTried}
 use Rattle.mt_c.specs.Walking.{index_of, walk_from}
@@ -101,10 +102,12 @@ outcome_of (Ok (Ok d)) = done_outcome d
 outcome_of (Ok (Err w)) = no_outcome
 outcome_of (Err busy) = no_outcome
 
--- A call of a user of a shared tree, made under the tree's lock if that is free.
+-- A call of a user, made under the tree's lock if that is free. That this was found taken is what the user then has.
+abbrev pub HasTried : Call → ℕ → Outcome → User → User → Type 0
+HasTried call status out u v = (tried : Tried) × IsTried (tree_of u) (paused u) call tried (known_to v) × (v.receipts ≡ when_tried tried u.receipts) × (status ≡ tried_status tried) × (out ≡ outcome_of tried)
+
 abbrev pub SharedTried : Call → Option User → Option User → ℕ → Outcome → Type 0
-SharedTried call before after status out =
-    OnUser before after status (out ≡ no_outcome) (λ u v. (tried : Tried) × IsTried (tree_of u) (paused u) call tried (known_to v) × (status ≡ tried_status tried) × (out ≡ outcome_of tried))
+SharedTried call before after status out = OnUser before after status (out ≡ no_outcome) (HasTried call status out)
 
 -- ---- users that come and go
 
@@ -128,19 +131,27 @@ unchanged_status (unchanged.Busy busy) = 11
 unchanged_status (unchanged.NoPlace given) = 87
 unchanged_status unchanged.NoMemory = 12
 
+-- By this number no user was opened, or none has left, and the user has what it found at the purse.
+abbrev pub IsUnchanged : User → User → ℕ → Type 0
+IsUnchanged u v status = (why : Unchanged) × IsWhy (common_of u) why × (v.receipts ≡ when_unchanged why u.receipts) × (status ≡ unchanged_status why)
+
+-- The user has taken the purse and given it back, and this is the one that was opened of it.
+abbrev pub HasShared : User → User → User → Type 0
+HasShared u v w = (given : Given Purse Tree) × IsOfPurse (common_of u) w given × (v.receipts ≡ when_given given u.receipts)
+
 -- One user is opened beside another, of the same tree, with a pass of its purse. It stays as it was where it is open, and where none is opened.
 abbrev pub SharedWith : Option User → Option User → Option User → Option User → ℕ → Type 0
 SharedWith None after other other' status = (after ≡ None) × (other' ≡ other) × (status ≡ 22)
 SharedWith (Some u) None other other' status = ⊥
 SharedWith (Some u) (Some v) (Some o) other' status = (v ≡ u) × (other' ≡ Some o) × (status ≡ 16)
-SharedWith (Some u) (Some v) None (Some w) status = (status ≡ 0) × IsSame u v × (tree_of w ≡ tree_of u) × (given : Given Purse Tree) × IsOfPurse (common_of u) w given
-SharedWith (Some u) (Some v) None None status = IsSame u v × (why : Unchanged) × IsWhy (common_of u) why × (status ≡ unchanged_status why)
+SharedWith (Some u) (Some v) None (Some w) status = (status ≡ 0) × IsSame u v × (tree_of w ≡ tree_of u) × HasShared u v w
+SharedWith (Some u) (Some v) None None status = IsSame u v × IsUnchanged u v status
 
 -- A user has left its pass in the purse, no section of it standing open, and is closed; or it is open as it was, but for its walk, which is paused.
 abbrev pub SharedLeft : Option User → Option User → ℕ → Type 0
 SharedLeft None after status = (after ≡ None) × (status ≡ 22)
 SharedLeft (Some u) None status = (status ≡ 0) × (given : Given Purse Tree) × HasLeft (common_of u) (rested u) given
-SharedLeft (Some u) (Some v) status = (tree_of v ≡ tree_of u) × (known_to v ≡ paused u) × (why : Unchanged) × IsWhy (common_of u) why × (status ≡ unchanged_status why)
+SharedLeft (Some u) (Some v) status = (tree_of v ≡ tree_of u) × (known_to v ≡ paused u) × IsUnchanged u v status
 
 abbrev pub synced_status : Result ℕ Busy → ℕ
 synced_status (Ok calls) = 0
@@ -150,9 +161,11 @@ abbrev pub calls_told : Result ℕ Busy → ℕ
 calls_told (Ok calls) = calls
 calls_told (Err busy) = 0
 
+abbrev pub HasSynced : ℕ → ℕ → User → User → Type 0
+HasSynced status calls u v = (synced : Result ℕ Busy) × IsSynced (tree_of u) (paused u) synced (known_to v) × (v.receipts ≡ when_synced synced u.receipts) × (status ≡ synced_status synced) × (calls ≡ calls_told synced)
+
 abbrev pub SharedSynced : Option User → Option User → ℕ → ℕ → Type 0
-SharedSynced before after status calls =
-    OnUser before after status (calls ≡ 0) (λ u v. (synced : Result ℕ Busy) × IsSynced (tree_of u) (paused u) synced (known_to v) × (status ≡ synced_status synced) × (calls ≡ calls_told synced))
+SharedSynced before after status calls = OnUser before after status (calls ≡ 0) (HasSynced status calls)
 
 abbrev pub Settled : Type 0
 Settled = Result (ℕ × ℕ × Given Purse Tree) Settling
@@ -165,6 +178,9 @@ abbrev pub settled_told : Settled → ℕ × ℕ
 settled_told (Ok r) = (r.0, r.1)
 settled_told (Err why) = (0, 0)
 
+abbrev pub HasSettled : ℕ → ℕ → ℕ → User → User → Type 0
+HasSettled status calls passes u v =
+    (settled : Settled) × IsSettled (common_of u) (paused u) settled (known_to v) × (v.receipts ≡ when_settled settled u.receipts) × (status ≡ settled_status settled) × (calls ≡ (settled_told settled).0) × (passes ≡ (settled_told settled).1)
+
 abbrev pub SharedSettled : Option User → Option User → ℕ → ℕ → ℕ → Type 0
-SharedSettled before after status calls passes =
-    OnUser before after status ((calls ≡ 0) × (passes ≡ 0)) (λ u v. (settled : Settled) × IsSettled (common_of u) (paused u) settled (known_to v) × (status ≡ settled_status settled) × (calls ≡ (settled_told settled).0) × (passes ≡ (settled_told settled).1))
+SharedSettled before after status calls passes = OnUser before after status ((calls ≡ 0) × (passes ≡ 0)) (HasSettled status calls passes)

@@ -19,6 +19,7 @@ use Rattle.mt_c.specs.declared.user_acts.Settling.TheVariants as settling
 use Rattle.mt_c.specs.declared.user_opens.Unchanged.{Unchanged}
 use Rattle.mt_c.specs.declared.user_opens.Unchanged.TheVariants as unchanged
 use Rattle.mt_c.specs.Purses.{IsBusyAt, WasGiven}
+use Rattle.mt_c.specs.Receipts.{no_receipts}
 use Rattle.mt_c.specs.Walkers.{IsAtRest, halted, knows}
 
 -- what the users of a tree own together
@@ -43,13 +44,15 @@ rested u = record (known_to u) { standing = None }
 
 -- ---- users that come and go
 
--- The first user of an empty tree of this shape. Its pass and those in the purse are all that the tree has, and have seen nothing.
+-- The first user of an empty tree of this shape. Its pass and those in the purse are all that the tree has, and have seen nothing;
+-- nor has it found anything at the lock or the purse.
 pub record IsFirst (shape : Shape) (u : User) : Type 0 where
   pub tree : opened (tree_of u) ≡ record { kind = shape.kind; rows = shape.rows; opening = []; records = [] }
   pub calls : limit_of (tree_of u) ≡ shape.calls
   pub others : List known.Pass
   pub passes : others ++ known_to u ∷ [] ≡ map known.new_pass (range_with_len 0 shape.passes)
   pub walk : u.walker.walk ≡ None
+  pub none : u.receipts ≡ no_receipts
 
 -- A user is as it was: it knows no more, and its walk goes on.
 pub record IsSame (u v : User) : Type 0 where
@@ -57,11 +60,12 @@ pub record IsSame (u v : User) : Type 0 where
   pub known : known_to v ≡ known_to u
   pub walk : v.walker.walk ≡ u.walker.walk
 
--- The user has the pass that was the last in the purse, and is at rest: the others were given back.
+-- The user has the pass that was the last in the purse, and is at rest: the others were given back. It has found nothing yet.
 pub record IsOfPurse (c : Common) (u : User) (given : Given Purse Tree) : Type 0 where
   pub others : List known.Pass
   pub out : WasGiven c (others ++ known_to u ∷ []) others given
   pub rests : IsAtRest u.walker
+  pub none : u.receipts ≡ no_receipts
 
 -- A pass that knows this was put into the purse, behind those that were there.
 abbrev pub HasLeft : Common → known.Pass → Given Purse Tree → Type 0

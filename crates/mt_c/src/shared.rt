@@ -3,10 +3,7 @@
 ghost use Rattle.mt_base.specs.declared.calls.Query.TheVariants.{Load};
 ghost use Rattle.mt_c.specs.Shared.{SharedAsked, SharedLearned, SharedSettled, SharedStepped, SharedSynced, SharedTried};
 
-use crate::shared_told::{
-    EAGAIN, Outcome, Window, answer_told, no_outcome, place_behind, seen, settled_told,
-    synced_told, tried_told,
-};
+use crate::shared_told::{EAGAIN, Outcome, Window, answer_told, no_outcome, place_behind, seen};
 use crate::steps::OutWalk;
 use crate::told::{EINVAL, no_range};
 use crate::user_handle::UserHandle;
@@ -84,9 +81,8 @@ pub fn sync(alloc: Global, user: &mut UserHandle, calls: &mut u64) -> u32
         *calls = 0;
         return EINVAL;
     };
-    let synced = whole.sync();
+    let (told, status) = whole.sync_told();
     *user = UserHandle::of(whole);
-    let (told, status) = synced_told(synced);
     *calls = told;
     status
 }
@@ -101,9 +97,8 @@ pub fn settle(alloc: Global, user: &mut UserHandle, calls: &mut u64, passes: &mu
         *passes = 0;
         return EINVAL;
     };
-    let settled = whole.settle();
+    let (told, met, status) = whole.settle_told();
     *user = UserHandle::of(whole);
-    let (told, met, status) = settled_told(settled);
     *calls = told;
     *passes = met;
     status
@@ -118,9 +113,8 @@ pub fn try_call(alloc: Global, user: &mut UserHandle, call: &Call, out: &mut Out
         *out = no_outcome();
         return EINVAL;
     };
-    let tried = whole.try_act(call);
+    let (outcome, status) = whole.try_told(call);
     *user = UserHandle::of(whole);
-    let (outcome, status) = tried_told(tried);
     *out = outcome;
     status
 }

@@ -4,14 +4,12 @@ ghost use Rattle.std.specs.Prelude.{◌≡◌, Err, None, Some, IfOk};
 ghost use Rattle.mt_tree.specs.Shapes.{first_bad};
 ghost use Rattle.mt_tree.specs.declared.shapes.Field.{Field};
 ghost use Rattle.mt_tree.specs.declared.shapes.MakeError.TheVariants as make_error;
-ghost use Rattle.mt_c.specs.Shared.{IsFirst, SharedLeft, SharedNew, SharedOpened, SharedWith, unchanged_status};
+ghost use Rattle.mt_c.specs.Shared.{IsFirst, SharedLeft, SharedNew, SharedOpened, SharedWith};
 
 use crate::opens::kind_of;
-use crate::shared_told::{EAGAIN, EUSERS};
 use crate::told::{EBUSY, EINVAL, ENOMEM};
 use crate::user::User;
 use crate::user_handle::UserHandle;
-use crate::user_opens::Unchanged;
 use mt_tree::{MakeError, Shape};
 use std::alloc::Global;
 
@@ -70,17 +68,6 @@ pub extern "C" fn maple_shared_open(
     status
 }
 
-/// The number that C gets where no user was opened, or none has left.
-fn unchanged_told(why: Unchanged) -> u32
-    ensures { result ≡ unchanged_status why }
-{
-    match why {
-        Unchanged::Busy { .. } => EAGAIN,
-        Unchanged::NoPlace { .. } => EUSERS,
-        Unchanged::NoMemory => ENOMEM,
-    }
-}
-
 /// Opens another user of the same tree.
 #[tactic(auto, using(crate::proofs::Sharing::with_closed, crate::proofs::Sharing::with_busy, crate::proofs::Sharing::with_made, crate::proofs::Sharing::with_none))]
 #[unsafe(no_mangle)]
@@ -95,14 +82,14 @@ pub extern "C" fn maple_share(alloc: Global, user: &mut UserHandle, other: &mut 
         *user = UserHandle::of(whole);
         return EBUSY;
     }
-    let made = whole.share(alloc);
+    let made = whole.share_told(alloc);
     *user = UserHandle::of(whole);
     match made {
-        Ok((made, _)) => {
+        Ok(made) => {
             *other = UserHandle::of(made);
             0
         }
-        Err(why) => unchanged_told(why),
+        Err(status) => status,
     }
 }
 
@@ -117,9 +104,10 @@ pub extern "C" fn maple_leave(alloc: Global, user: &mut UserHandle) -> u32
     };
     match User::leave(whole) {
         Ok(_) => 0,
-        Err((whole, why)) => {
+        Err((mut whole, why)) => {
+            let status = whole.refused(why);
             *user = UserHandle::of(whole);
-            unchanged_told(why)
+            status
         }
     }
 }

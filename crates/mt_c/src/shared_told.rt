@@ -2,12 +2,15 @@
 
 ghost use Rattle.std.specs.Prelude.{◌≡◌};
 ghost use Rattle.mt_read.specs.Cursors as cursors;
+ghost use Rattle.mt_c.specs.Receipts.{when_settled, when_synced, when_tried, when_unchanged};
 ghost use Rattle.mt_c.specs.Shared as defined;
 ghost use Rattle.mt_c.specs.Walkers.{top};
 
 use crate::purse::Purse;
-use crate::told::{EOVERFLOW, OutRange, found_status, no_range, out_of, told_of};
+use crate::receipts::Receipts;
+use crate::told::{ENOMEM, EOVERFLOW, OutRange, found_status, no_range, out_of, told_of};
 use crate::user_acts::Settling;
+use crate::user_opens::Unchanged;
 use mt_base::Range;
 use mt_keep::Given;
 use mt_tree::{Busy, Done, Moved, Read, Tree, Worn};
@@ -108,37 +111,80 @@ fn done_told(done: Done) -> (Outcome, u32)
     (outcome, told.status)
 }
 
-/// What C is told of a try.
-pub fn tried_told(tried: Result<Result<Done, Worn>, Busy>) -> (Outcome, u32)
+/// What C is told of a try. That the lock was found taken is kept.
+pub fn tried_told(
+    tried: Result<Result<Done, Worn>, Busy>,
+    receipts: &mut Receipts,
+) -> (Outcome, u32)
     ensures outcome { result.0 ≡ defined.outcome_of tried }
     ensures status { result.1 ≡ defined.tried_status tried }
+    ensures kept { receipts.new ≡ when_tried tried receipts.old }
 {
     match tried {
         Ok(Ok(done)) => done_told(done),
         Ok(Err(_)) => (no_outcome(), EOVERFLOW),
-        Err(_) => (no_outcome(), EAGAIN),
+        Err(busy) => {
+            receipts.locked = Some(busy);
+            (no_outcome(), EAGAIN)
+        }
     }
 }
 
-/// What C is told of a look under the lock.
-pub fn synced_told(synced: Result<u64, Busy>) -> (u64, u32)
+/// What C is told of a look under the lock. That this was found taken is kept.
+pub fn synced_told(synced: Result<u64, Busy>, receipts: &mut Receipts) -> (u64, u32)
     ensures calls { result.0 ≡ defined.calls_told synced }
     ensures status { result.1 ≡ defined.synced_status synced }
+    ensures kept { receipts.new ≡ when_synced synced receipts.old }
 {
     match synced {
         Ok(calls) => (calls, 0),
-        Err(_) => (0, EAGAIN),
+        Err(busy) => {
+            receipts.locked = Some(busy);
+            (0, EAGAIN)
+        }
     }
 }
 
-/// What C is told of a settling.
-pub fn settled_told(settled: Result<(u64, u64, Given<Purse, Tree>), Settling>) -> (u64, u64, u32)
+/// What C is told of a settling. What was found at the purse or at the lock is kept.
+pub fn settled_told(
+    settled: Result<(u64, u64, Given<Purse, Tree>), Settling>,
+    receipts: &mut Receipts,
+) -> (u64, u64, u32)
     ensures calls { result.0 ≡ (defined.settled_told settled).0 }
     ensures passes { result.1 ≡ (defined.settled_told settled).1 }
     ensures status { result.2 ≡ defined.settled_status settled }
+    ensures kept { receipts.new ≡ when_settled settled receipts.old }
 {
     match settled {
-        Ok((calls, passes, _)) => (calls, passes, 0),
-        Err(_) => (0, 0, EAGAIN),
+        Ok((calls, passes, given)) => {
+            receipts.given = Some(given);
+            (calls, passes, 0)
+        }
+        Err(Settling::Unpursed { busy }) => {
+            receipts.unpursed = Some(busy);
+            (0, 0, EAGAIN)
+        }
+        Err(Settling::Locked { busy }) => {
+            receipts.locked = Some(busy);
+            (0, 0, EAGAIN)
+        }
+    }
+}
+
+/// The number that C gets where no user was opened, or none has left. What was found at the purse is kept.
+pub fn unchanged_told(why: Unchanged, receipts: &mut Receipts) -> u32
+    ensures status { result ≡ defined.unchanged_status why }
+    ensures kept { receipts.new ≡ when_unchanged why receipts.old }
+{
+    match why {
+        Unchanged::Busy { busy } => {
+            receipts.unpursed = Some(busy);
+            EAGAIN
+        }
+        Unchanged::NoPlace { given } => {
+            receipts.given = Some(given);
+            EUSERS
+        }
+        Unchanged::NoMemory => ENOMEM,
     }
 }

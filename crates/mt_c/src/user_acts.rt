@@ -60,6 +60,7 @@ impl User {
         ensures common { common_of self.new ≡ common_of self.old }
         ensures known { known_to self.new ≡ paused self.old }
         ensures walk { self.new.walker.walk ≡ None }
+        ensures receipts { self.new.receipts ≡ self.old.receipts }
     {
         self.walker.pause(&self.common.tree);
     }
@@ -104,6 +105,7 @@ impl User {
     pub fn try_act(&mut self, call: &Call) -> Result<Result<Done, Worn>, Busy>
         ensures tree { tree_of self.new ≡ tree_of self.old }
         ensures tried { IsTried (tree_of self.old) (paused self.old) call.now result (known_to self.new) }
+        ensures receipts { self.new.receipts ≡ self.old.receipts }
     {
         self.walker.try_act(&self.common.tree, call)
     }
@@ -113,6 +115,7 @@ impl User {
     pub fn sync(&mut self) -> Result<u64, Busy>
         ensures tree { tree_of self.new ≡ tree_of self.old }
         ensures synced { IsSynced (tree_of self.old) (paused self.old) result (known_to self.new) }
+        ensures receipts { self.new.receipts ≡ self.old.receipts }
     {
         self.walker.meet(&self.common.tree, &mut [])
     }
@@ -122,6 +125,7 @@ impl User {
     pub fn settle(&mut self) -> Result<(u64, u64, Given<Purse, Tree>), Settling>
         ensures tree { tree_of self.new ≡ tree_of self.old }
         ensures settled { IsSettled (common_of self.old) (paused self.old) result (known_to self.new) }
+        ensures receipts { self.new.receipts ≡ self.old.receipts }
     {
         self.common.settle(&mut self.walker, &mut self.chair)
     }

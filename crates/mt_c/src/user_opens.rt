@@ -8,11 +8,13 @@ ghost use Rattle.mt_tree.specs.declared.shapes.Field.{Field};
 ghost use Rattle.mt_tree.specs.declared.shapes.MakeError.TheVariants as make_error;
 ghost use Rattle.std.specs.Arc.{arc_value};
 ghost use Rattle.mt_c.specs.Purses.{IsSeatedAt, IsTakenOf, WasGiven, known_in};
+ghost use Rattle.mt_c.specs.Receipts.{no_receipts};
 ghost use Rattle.mt_c.specs.Spares.{IsSpare};
 ghost use Rattle.mt_c.specs.Users.{HasLeft, IsFirst, IsOfPurse, IsWhy, common_of, known_to, paused, rested, tree_of};
 ghost use Rattle.mt_c.specs.Walkers.{IsAtRest};
 
 use crate::purse::{Common, Purse};
+use crate::receipts::Receipts;
 use crate::user::User;
 use crate::walker::Walker;
 use mt_keep::{Busy, Chair, Given, Keep, Taken};
@@ -62,6 +64,7 @@ impl Purse {
         ensures passes { All (IsSpare (arc_value common).tree) self.new.passes.items }
         ensures other { IfOk result (λ other. common_of other.value ≡ arc_value common) }
         ensures rests { IfOk result (λ other. IsAtRest other.value.walker) }
+        ensures none { IfOk result (λ other. other.value.receipts ≡ no_receipts) }
         ensures out { IfOk result (λ other. known_in self.old ≡ known_in self.new ++ known_to other.value ∷ []) }
         ensures back { IfErr result (λ _. known_in self.new ≡ known_in self.old) }
     {
@@ -72,6 +75,7 @@ impl Purse {
             common,
             walker: Walker::new(pass),
             chair,
+            receipts: Receipts::none(),
         };
         match Box::new(alloc, user) {
             Ok(other) => Ok(other),
@@ -161,6 +165,7 @@ fn first(alloc: Global, tree: Tree, passes: Vec<Pass>) -> Result<User, NoMemory>
     ensures tree { IfOk result (λ user. tree_of user ≡ tree) }
     ensures passes { IfOk result (λ user. (others : List Pass) × (passes.items ≡ others ++ user.walker.pass ∷ [])) }
     ensures walk { IfOk result (λ user. user.walker.walk ≡ None) }
+    ensures none { IfOk result (λ user. user.receipts ≡ no_receipts) }
 {
     let mut passes = passes;
     let Some(pass) = passes.pop() else {
@@ -171,6 +176,7 @@ fn first(alloc: Global, tree: Tree, passes: Vec<Pass>) -> Result<User, NoMemory>
         common,
         walker: Walker::new(pass),
         chair,
+        receipts: Receipts::none(),
     })
 }
 
@@ -204,6 +210,7 @@ impl User {
         ensures tree { tree_of self.new ≡ tree_of self.old }
         ensures known { known_to self.new ≡ known_to self.old }
         ensures walk { self.new.walker.walk ≡ self.old.walker.walk }
+        ensures receipts { self.new.receipts ≡ self.old.receipts }
         ensures other { IfOk result (λ r. tree_of r.0.value ≡ tree_of self.old) }
         ensures pass { IfOk result (λ r. IsOfPurse (common_of self.old) r.0.value r.1) }
         ensures why { IfErr result (IsWhy (common_of self.old)) }
@@ -223,6 +230,7 @@ impl User {
         ensures common { common_of self.new ≡ common_of self.old }
         ensures known { known_to self.new ≡ known_to self.old }
         ensures walk { self.new.walker.walk ≡ self.old.walker.walk }
+        ensures receipts { self.new.receipts ≡ self.old.receipts }
         ensures taken { IfOk result (λ taken. IsTakenOf (common_of self.old) taken.took taken.seat) }
         ensures took { IfOk result (λ taken. known_in taken.took.value ≡ known_in taken.value) }
         ensures passes { IfOk result (λ taken. All (IsSpare (common_of self.old).tree) taken.value.passes.items) }
@@ -254,6 +262,7 @@ impl User {
         ensures left { IfOk result (HasLeft (common_of user.value) (rested user.value)) }
         ensures tree { IfErr result (λ r. tree_of r.0.value ≡ tree_of user.value) }
         ensures known { IfErr result (λ r. known_to r.0.value ≡ paused user.value) }
+        ensures receipts { IfErr result (λ r. r.0.value.receipts ≡ user.value.receipts) }
         ensures why { IfErr result (λ r. IsWhy (common_of user.value) r.1) }
     {
         let mut user = user;

@@ -11,12 +11,12 @@ use Rattle.std_alloc.proofs.SendSync.{quiet, lies}
 use Rattle.mt_c.specs.Owned.{kept_owns}
 use Rattle.mt_c.specs.declared.user.User.{User}
 use Rattle.mt_c.specs.contracts.user.User as user
-use Rattle.mt_c.proofs.user.User.TheSendSync.{the_send as crosses}
+use Rattle.mt_c.proofs.Crossing.{user_sent}
 use Rattle.mt_c.specs.contracts.kept_user.KeptUser.{the_row, the_type}
 
 owned : (p : Ptr) (v : Option User) → Keyless (kept_owns user.the_row p v)
 owned p None = tt
-owned p (Some x) = (lies user.the_row crosses p x, heap.frees.frees (record { memory = record { seal = tt } }) (raw (lone user.the_row.mir)) p)
+owned p (Some x) = (lies user.the_row user_sent p x, heap.frees.frees (record { memory = record { seal = tt } }) (raw (lone user.the_row.mir)) p)
 
 pub send : IsSend the_row
 send =

@@ -14,4 +14,4 @@ returns-in-Ok-first-clause-good c = none_bad c.args.shape _ c.in-Ok.made c.in-Ok
 
 pub returns-in-Ok-first-clause-first : goal.returns-in-Ok-first-clause-first
 returns-in-Ok-first-clause-first c =
-    is_first c.args.shape c.in-Ok.made.0 c.in-Ok.made.1.items c.in-Ok-first.user c.in-Ok.ensures.new c.in-Ok-first.ensures.tree c.in-Ok-first.ensures.passes c.in-Ok-first.ensures.walk
+    is_first c.args.shape c.in-Ok.made.0 c.in-Ok.made.1.items c.in-Ok-first.user c.in-Ok.ensures.new c.in-Ok-first.ensures.tree c.in-Ok-first.ensures.passes c.in-Ok-first.ensures.walk c.in-Ok-first.ensures.none

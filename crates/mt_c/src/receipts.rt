@@ -1,0 +1,32 @@
+//! What a user has found at the tree's lock and at the purse.
+
+ghost use Rattle.std.specs.Prelude.{◌≡◌};
+ghost use Rattle.mt_c.specs.Receipts.{no_receipts};
+
+use crate::purse::Purse;
+use mt_keep::Given;
+use mt_tree::{Busy, Tree};
+
+/// What a user keeps of its last steps at the lock and at the purse: only such a step makes one. They have no bytes.
+#[derive(Drop)]
+pub struct Receipts {
+    /// The tree's lock was found taken.
+    pub locked: Option<Busy>,
+    /// The purse was found taken.
+    pub unpursed: Option<mt_keep::Busy<Purse, Tree>>,
+    /// The purse was taken and given back.
+    pub given: Option<Given<Purse, Tree>>,
+}
+
+impl Receipts {
+    /// None yet.
+    pub fn none() -> Receipts
+        ensures { result ≡ no_receipts }
+    {
+        Receipts {
+            locked: None,
+            unpursed: None,
+            given: None,
+        }
+    }
+}
