@@ -211,11 +211,12 @@ static double time_of(const struct work *work, uint32_t kind, int shared)
 
 static int go, at_work;
 
+/* Each on lines of its own: a call writes its user. */
 struct reader {
     struct maple_user user;
     u64 seed, sum;
     pthread_t thread;
-};
+} __attribute__((aligned(128)));
 
 static void *read_on(void *arg)
 {

@@ -21,6 +21,8 @@
  *     the one did stands before what the other does;
  *   - no thread is cancelled, ends or jumps away while it is in a call: it could keep the lock for good.
  *
+ * Each call writes its user: those of several threads are quicker on cache lines of their own (aligned to 128 bytes, say).
+ *
  * What is not promised: that a try ever gets the lock, and so how long a maple_shared_store waits; how often a next, prev or rfind is
  * given up before it is answered; that memory does not run out where a call takes some.
  *
