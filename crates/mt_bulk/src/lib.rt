@@ -10,8 +10,6 @@ mod items;
 pub mod laws;
 mod leaves;
 mod levels;
-#[cfg(test)]
-mod tests;
 
 pub use building::{build, build_alone};
 pub use chunks::{Chunk, fill_rows};

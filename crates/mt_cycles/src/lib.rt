@@ -3,8 +3,6 @@
 
 pub mod laws;
 mod tallies;
-#[cfg(test)]
-mod tests;
 mod turns;
 
 pub use turns::ids_text;

@@ -1,7 +1,9 @@
 //! Trials of streams and of the lanes of a phase: the threads, the desks at which lanes make their steps, and a log played phase
-//! by phase.
+//! by phase, and bulk builds by workers.
 #![tactic(auto)]
 
+#[cfg(test)]
+mod bulk;
 #[cfg(test)]
 mod desks;
 #[cfg(test)]

@@ -4,6 +4,8 @@
 #[cfg(test)]
 mod asserts;
 #[cfg(test)]
+mod cycles;
+#[cfg(test)]
 mod errors;
 #[cfg(test)]
 mod example;

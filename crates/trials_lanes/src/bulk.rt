@@ -1,7 +1,7 @@
-//! Trials of bulk builds.
+//! Trials of bulk builds: by the caller alone and by workers, and two workers at once.
 
-use crate::{BulkError, build, build_alone};
 use mt_base::{Kind, Range};
+use mt_bulk::{BulkError, build, build_alone};
 use mt_io::{Gate, NoGate};
 use mt_rows::{PlainRows, Rows};
 use std::process::Abort;

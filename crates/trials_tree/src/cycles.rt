@@ -1,4 +1,6 @@
-use crate::ids_text;
+//! Trials of numbers drawn in a circle.
+
+use mt_cycles::ids_text;
 use std::test::Fail;
 
 /// Draws, by their window, their number and after how many draws a number is given back, and the line that they come to.
