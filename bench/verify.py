@@ -2,6 +2,7 @@
 """Judges transcripts of small logs by the definition (`crates/mt_log/specs/Run.antt`, `crates/mt_base/specs`), without the program.
 
 verify.py judge [ROWS] < INPUT          a log, a line `---` and a transcript: prints `verified C R`, or `refused` and why
+verify.py play < LOG                    the transcript of a log of one lane, where no call lacks rows
 verify.py change MTREPLAY SEED COUNT    makes logs of a few steps and transcripts of them, half played by the program and half drawn,
                                         changes these, and has each judged here and by `MTREPLAY verify`: prints each on which the
                                         two do not agree, and at the end how many both verified and both refused
@@ -415,6 +416,46 @@ def verdict(log, rows, text):
         return f"refused: {why}"
 
 
+# ---- the one transcript of a log of one lane
+
+
+def answered(log, asked, ranges, calls):
+    """What is told of a line that is no call, where the tree has these ranges after so many calls."""
+    if asked.word in ("dup", "check"):
+        return [words("copied" if asked.word == "dup" else "lawful", len(ranges))]
+    if asked.word in READS:
+        query = (asked.word, *asked.fields)
+        return [words(calls, calls, answer_text(query, answer(ranges, query)))]
+    index, most, count = asked.fields
+    said, found = [], ()
+    while len(said) < count and found is not None:
+        query = ("find", index, most) if index <= most else ("find", 1, 0)
+        found = answer(ranges, query)
+        said.append(words(calls, calls, answer_text(query, found)))
+        index = found[1] + 1 if found else index
+    return said
+
+
+def played(log):
+    """The transcript of a log of one lane, where no call lacks rows."""
+    trees, told = [], []
+    for asked in log.asked:
+        for tree in log.trees[len(trees) :]:
+            if tree.phase <= asked.phase:
+                trees.append([[] if tree.source is None else trees[tree.source][-1]])
+        maps = trees[asked.tree]
+        if asked.word in CALLS:
+            after, reply = acted(log.trees[asked.tree].kind, maps[-1], (asked.word, *asked.fields))
+            maps.append(after)
+            said = [words(len(maps) - 1, reply_text(log.version, reply))]
+        else:
+            said = answered(log, asked, maps[-1], len(maps) - 1)
+        told += [words(asked.line, it) for it in said]
+    for tree in log.trees[len(trees) :]:
+        trees.append([[] if tree.source is None else trees[tree.source][-1]])
+    return "".join(line + "\n" for line in told) + listings(log, trees)
+
+
 # ---- logs and transcripts that are drawn
 
 
@@ -656,11 +697,21 @@ def judge(rows):
     print(verdict(front[1:] + "\n", rows, text))
 
 
+def play():
+    log = log_of(sys.stdin.buffer.read().decode("latin-1"))
+    if len({asked.lane for asked in log.asked}) > 1:
+        sys.exit("verify.py: the log has more than one lane")
+    print(played(log), end="")
+
+
 def main():
     if sys.argv[1] == "judge":
         judge(int(sys.argv[2]) if len(sys.argv) > 2 else ROWS)
+    elif sys.argv[1] == "play":
+        play()
     else:
         sys.exit(change(sys.argv[2], *map(int, sys.argv[3:])))
 
 
-main()
+if __name__ == "__main__":
+    main()
