@@ -11,7 +11,7 @@ use std::process::Abort;
 use std::test::Fail;
 
 /// How many rows each tree has, and the table that is of such trees.
-const TABLES: [(u64, &str); 5] = [
+const TABLES: &[(u64, &str)] = &[
     (65_504, MANY_ROWS),
     (34, ROWS_34),
     (33, ROWS_33),
@@ -53,6 +53,11 @@ fn found(alloc: Global, rows: u64, log: &[u8], text: &str) -> Result<String, Log
     }
 }
 
+/// What is found of the text in this row is what is wanted.
+fn same(rt: &impl Abort, got: &str, want: &str, row: usize) {
+    assert_eq!(rt; got, want, "in row {row}");
+}
+
 /// Each text of a table is judged as it says, by the last log above it.
 fn expect_each(rt: &impl Abort, alloc: Global, rows: u64, table: &str) -> Result<(), Fail>
     requires few_rows { 4 ≤ rows }
@@ -66,7 +71,7 @@ fn expect_each(rt: &impl Abort, alloc: Global, rows: u64, table: &str) -> Result
         match row.split_once(" -> ") {
             Some((text, want)) => {
                 let words = found(alloc, rows, &log, text)?;
-                assert_eq!(rt; words.as_str(), want, "of {text} in row {i}");
+                same(rt, words.as_str(), want, i);
             }
             None => log = unfolded(alloc, row)?,
         }
@@ -76,7 +81,7 @@ fn expect_each(rt: &impl Abort, alloc: Global, rows: u64, table: &str) -> Result
 
 #[test]
 fn texts_are_judged_by_the_log_above_them(rt: HostRuntime) -> Result<(), Fail> {
-    for (rows, table) in TABLES {
+    for &(rows, table) in TABLES {
         assert!(rt; 4 <= rows && rows <= 65_504);
         expect_each(&rt, rt.alloc(), rows, table)?;
     }
