@@ -1,5 +1,5 @@
-//! Trials of the rows of a tree: their words, the ways through them, and what searches, checks, copies and replaces them,
-//! or makes images of them; and of the sorted list beside them.
+//! Trials of the rows of a tree: their words, the ways through them, and what searches, checks and copies them, or makes images of
+//! them; and of the sorted list beside them.
 #![tactic(auto)]
 
 #[cfg(test)]
@@ -21,12 +21,8 @@ mod lists;
 #[cfg(test)]
 mod paths;
 #[cfg(test)]
-mod plain;
-#[cfg(test)]
 mod room;
 #[cfg(test)]
 mod rows;
 #[cfg(test)]
 mod small_trees;
-#[cfg(test)]
-mod splices;

@@ -228,5 +228,6 @@ fn expect_split(
 fn two_leaves_are_split_in_three(rt: HostRuntime) -> Result<(), Fail> {
     expect_split(&rt, rt.alloc(), WIDE, 30, FILLING, SPLIT)?;
     expect_split(&rt, rt.alloc(), NARROW, 60, NARROW_FILLING, NARROW_SPLIT)?;
+    expect_split(&rt, rt.alloc(), NARROW, 52, NARROW_FILLING, NARROW_SPLIT)?;
     Ok(())
 }

@@ -159,16 +159,20 @@ const BELOW_A_NARROW_ROOT: &[Case] = &[
     (call!(store 86, 86, 1), at_root!(2, 6, 3, 2)),
     // the first leaf has too few items, and takes those of the leaf behind
     (call!(store 0, 11, 3), at_root!(2, 4, 2, 3)),
+    (call!(store 0, 7, 3), at_root!(2, 4, 2, 3)),
     // the last leaf has too few items, and takes those of the leaf before
     (call!(store 56, 84, 0), at_root!(2, 4, 2, 3)),
+    (call!(store 56, 82, 0), at_root!(2, 4, 2, 3)),
     // the first leaf would end with a hole: with the leaf behind these are two new ones
     (call!(store 18, 18, 0), at_root!(2, 5, 3, 3)),
     // two leaves go, and the leaf behind is taken in
     (call!(store 19, 54, 0), at_root!(2, 3, 2, 4)),
     // three leaves go, and the leaf behind is taken in: two new ones
     (call!(store 9, 54, 0), at_root!(2, 3, 3, 5)),
+    (call!(store 17, 54, 0), at_root!(2, 3, 3, 5)),
     // one leaf is left, and is the root
     (call!(store 5, 66, 7), at_root!(1, 1, 1, 5)),
+    (call!(store 5, 60, 7), at_root!(1, 1, 1, 5)),
     (call!(store 0, TOP32, 0), at_root!(0, 0, 0, 5)),
     (call!(store 0, TOP32, 8), at_root!(1, 1, 1, 5)),
     (Call::Clear, at_root!(0, 0, 0, 5)),
@@ -196,6 +200,19 @@ const NARROW_RANGE_LEVELS: &[Case] = &[
     (call!(store 0, TOP32, 0), at_root!(0, 0, 0, 43)),
     (call!(store 0, TOP32, 8), at_root!(1, 1, 1, 43)),
     (Call::Clear, at_root!(0, 0, 0, 43)),
+];
+
+/// Two inner rows of a narrow tree of ranges, of 19 leaves and of 20; the last leaf has 31 items.
+const FEWER_NARROW_RANGE_LEVELS: &[Case] = &[
+    (call!(store 716, 716, 1), in_slot!(3, 43, 3, 2)),
+    (call!(store 2, 36, 0), in_slot!(3, 40, 2, 4)),
+    (call!(store 0, 112, 3), at_root!(3, 36, 4, 10)),
+    (call!(store 378, 630, 0), at_root!(2, 26, 3, 19)),
+    (call!(store 15, 504, 5), at_root!(2, 13, 2, 31)),
+    (call!(store 1, 714, 0), at_root!(1, 1, 1, 42)),
+    (call!(store 0, TOP32, 0), at_root!(0, 0, 0, 42)),
+    (call!(store 0, TOP32, 8), at_root!(1, 1, 1, 42)),
+    (Call::Clear, at_root!(0, 0, 0, 42)),
 ];
 
 /// Two inner rows of a narrow tree for allocation, of 13 leaves and of 18; the last leaf has 31 items.
@@ -276,6 +293,11 @@ pub const TRIALS: &[Trial] = &[
     },
     Trial {
         kinds: NARROW,
+        singles: 33,
+        cases: &[(call!(store 0, TOP32, 8), at_root!(1, 1, 1, 4))],
+    },
+    Trial {
+        kinds: NARROW,
         singles: 43,
         cases: BELOW_A_NARROW_ROOT,
     },
@@ -289,6 +311,11 @@ pub const TRIALS: &[Trial] = &[
         kinds: &[Kind::Alloc32],
         singles: 196,
         cases: &[(call!(store 392, 392, 1), at_root!(3, 25, 5, 2))],
+    },
+    Trial {
+        kinds: &[Kind::Range32],
+        singles: 358,
+        cases: FEWER_NARROW_RANGE_LEVELS,
     },
     Trial {
         kinds: &[Kind::Range32],
