@@ -2,7 +2,6 @@
 
 mod held;
 mod walks;
-mod worn;
 
 ghost use Rattle.std.specs.Prelude.{◌≡◌, All, IfOk};
 ghost use Rattle.mt_tree.specs.Trees.{IsPassOf};
@@ -10,12 +9,19 @@ ghost use Rattle.mt_tree.specs.Trees.{IsPassOf};
 use mt_base::{Kind, Range, Reply};
 use mt_tree::{Done, Pass, Read, Shape, Tree};
 use std::alloc::Global;
+use std::fmt::Debug;
 use std::process::Abort;
 use std::sync::Wait;
 use std::test::Fail;
 
 /// The kinds of trees.
 const KINDS: &[Kind] = &[Kind::Range, Kind::Alloc, Kind::Range32, Kind::Alloc32];
+
+/// What came out at a place of a test is what is wanted. It asserts for all tests, so that the code of an assertion is proved
+/// once, and not in each.
+fn same<T: Copy + PartialEq + Debug, P: Copy + Debug>(rt: &impl Abort, got: T, want: T, place: P) {
+    assert_eq!(rt; got, want, "at {place:?}");
+}
 
 /// A tree of this kind, and its passes.
 fn made(
@@ -66,7 +72,7 @@ fn store_range<R: Wait + Abort>(
     ensures { IsPassOf tree.now pass.new }
 {
     let done = tree.store_range(rt, pass, first, last, entry);
-    assert_eq!(rt; done, Ok(Done { call, reply }));
+    same(rt, done, Ok(Done { call, reply }), call);
 }
 
 /// A store of an entry at one index, which is answered so as the call of this number.
@@ -74,8 +80,7 @@ fn store<R: Wait + Abort>(rt: &R, tree: &Tree, pass: &mut Pass, index: u64, call
     requires { IsPassOf tree.now pass.old }
     ensures { IsPassOf tree.now pass.new }
 {
-    let done = tree.store_range(rt, pass, index, index, 9);
-    assert_eq!(rt; done, Ok(Done { call, reply }), "the store at {index}");
+    store_range(rt, tree, pass, index, index, 9, call, reply);
 }
 
 /// What a step is answered where its window is one number of calls.

@@ -3,7 +3,7 @@
 ghost use Rattle.std.specs.Prelude.{◌≡◌, ◌<◌};
 ghost use Rattle.mt_tree.specs.Trees.{IsPassOf};
 
-use crate::tests::{KINDS, last_pass, made, read, store, store_range};
+use crate::tests::{KINDS, last_pass, made, read, same, store, store_range};
 use mt_base::{Holder, Kind, Reply, Shortage, Steps};
 use mt_tree::{Pass, Read, Tree};
 use std::alloc::Global;
@@ -53,7 +53,7 @@ fn step_once<R: Abort, L: Ledger>(rt: &R, tree: &Tree, pass: &mut Pass, steps: &
     ensures { IsPassOf tree.now pass.new }
 {
     let mut cursor = tree.cursor(pass, 0, u64::MAX);
-    assert_eq!(rt; cursor.step(steps), read(1, Some((10, 10, 5))));
+    same(rt, cursor.step(steps), read(1, Some((10, 10, 5))), 1);
 }
 
 /// A cursor that is dropped and not closed holds the rows until its pass reads again.
@@ -69,7 +69,8 @@ fn drop_the_cursor<R: Wait + Abort, L: Ledger>(
     step_once(rt, tree, reader, steps);
     fill(rt, tree, writer);
     let (lo, hi, value) = (6, 6, Some(5));
-    assert_eq!(rt; tree.load(reader, 10, steps), Read { lo, hi, value });
+    let loaded = tree.load(reader, 10, steps);
+    same(rt, loaded, Read { lo, hi, value }, "the load");
     store(rt, tree, writer, 60, 7, Reply::Ok);
 }
 
@@ -81,7 +82,7 @@ fn change_the_entry<R: Wait + Abort>(rt: &R, tree: &Tree, writer: &mut Pass, sto
     if store_first {
         store_range(rt, tree, writer, 10, 10, 7, 7, Reply::Over(5));
     }
-    assert_eq!(rt; prepared(rt, tree, writer), Err(held_by(1, 1)));
+    same(rt, prepared(rt, tree, writer), Err(held_by(1, 1)), "more");
     if !store_first {
         store_range(rt, tree, writer, 10, 10, 7, 7, Reply::Over(5));
     }
@@ -118,7 +119,7 @@ fn hold<R: Wait + Abort, L: Ledger>(
         return;
     }
     let mut cursor = tree.cursor(reader, 0, u64::MAX);
-    assert_eq!(rt; cursor.step(&mut steps), read(1, Some((10, 10, 5))));
+    same(rt, cursor.step(&mut steps), read(1, Some((10, 10, 5))), 1);
     fill(rt, tree, writer);
     if held == Held::Closed {
         cursor.close(&mut steps);
@@ -146,10 +147,10 @@ fn close_the_older_cursor<R: Wait + Abort, L: Ledger>(
     let mut steps = Steps::<L>::new(blank);
     store(rt, tree, writer, 10, 1, Reply::Ok);
     let mut two = tree.cursor(older, 0, u64::MAX);
-    assert_eq!(rt; two.step(&mut steps), read(1, Some((10, 10, 9))));
+    same(rt, two.step(&mut steps), read(1, Some((10, 10, 9))), 1);
     store(rt, tree, writer, 20, 2, Reply::Ok);
     let mut one = tree.cursor(younger, 0, u64::MAX);
-    assert_eq!(rt; one.step(&mut steps), read(2, Some((10, 10, 9))));
+    same(rt, one.step(&mut steps), read(2, Some((10, 10, 9))), 2);
     store(rt, tree, writer, 30, 3, Reply::Ok);
     store(rt, tree, writer, 40, 4, Reply::Ok);
     store(rt, tree, writer, 50, 5, Reply::Ok);

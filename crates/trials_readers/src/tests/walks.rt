@@ -3,7 +3,7 @@
 ghost use Rattle.std.specs.Prelude.{◌≡◌, ◌<◌};
 ghost use Rattle.mt_tree.specs.Trees.{IsPassOf};
 
-use crate::tests::{KINDS, last_pass, made, read, store_range};
+use crate::tests::{KINDS, last_pass, made, read, same, store_range};
 use mt_base::{Kind, Reply, Steps};
 use mt_tree::{Pass, Tree};
 use std::alloc::Global;
@@ -30,12 +30,12 @@ fn walk<R: Wait + Abort, L: Ledger>(
     store_range(rt, tree, writer, 0, 9, 1, 1, Reply::Ok);
     store_range(rt, tree, writer, 20, 29, 5, 2, Reply::Ok);
     let mut cursor = tree.cursor(reader, 0, u64::MAX);
-    assert_eq!(rt; cursor.step(&mut steps), read(2, Some((0, 9, 1))));
+    same(rt, cursor.step(&mut steps), read(2, Some((0, 9, 1))), 2);
     store_range(rt, tree, writer, 12, 12, 3, 3, Reply::Ok);
-    assert_eq!(rt; cursor.step(&mut steps), read(3, Some((12, 12, 3))));
+    same(rt, cursor.step(&mut steps), read(3, Some((12, 12, 3))), 3);
     store_range(rt, tree, writer, 20, 29, 4, 4, Reply::Over(5));
-    assert_eq!(rt; cursor.step(&mut steps), read(4, Some((20, 29, 4))));
-    assert_eq!(rt; cursor.step(&mut steps), read(4, None));
+    same(rt, cursor.step(&mut steps), read(4, Some((20, 29, 4))), 4);
+    same(rt, cursor.step(&mut steps), read(4, None), 4);
     cursor.close(&mut steps);
 }
 
@@ -105,10 +105,10 @@ fn walk_to_the_end<R: Wait + Abort, L: Ledger>(
     let mut steps = Steps::<L>::new(blank);
     store_range(rt, tree, writer, top, top, 5, 1, Reply::Ok);
     let mut cursor = tree.cursor(reader, from, max);
-    assert_eq!(rt; cursor.step(&mut steps), read(1, found));
-    assert_eq!(rt; cursor.step(&mut steps), read(1, None));
+    same(rt, cursor.step(&mut steps), read(1, found), 1);
+    same(rt, cursor.step(&mut steps), read(1, None), 1);
     store_range(rt, tree, writer, top, top, 7, 2, Reply::Over(5));
-    assert_eq!(rt; cursor.step(&mut steps), read(2, None));
+    same(rt, cursor.step(&mut steps), read(2, None), 2);
     cursor.close(&mut steps);
 }
 
