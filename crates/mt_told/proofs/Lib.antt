@@ -6,3 +6,4 @@ pub mod Outcomes
 pub mod Scanned
 pub mod Spelled
 pub mod Stepped
+pub mod Versions

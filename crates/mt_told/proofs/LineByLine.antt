@@ -16,13 +16,12 @@ use Rattle.mt_log.specs.declared.lines.Log.{Log}
 use Rattle.mt_log.specs.declared.transcripts.Said.TheVariants as said
 use Rattle.mt_log.specs.Phases.{phase_after}
 use Rattle.mt_log.specs.Run.{AreDone, Asked, Called, Counted, IsDone, Looked, Outcome, Step, asked_from, is_answered, lane_after, lane_of, step_of, steps_of}
-use Rattle.mt_log.specs.Text.{listing_text}
 use Rattle.mt_log.specs.Trees.{AreNamedFrom, CopyOf, Declared, IsReadable, NamesBelow, count_after, declared_by, most_lanes, renamed, trees_from, trees_of}
 use Rattle.mt_told.proofs.Stepped.{nothing_told, steps_text-append, told_text-append}
 use Rattle.mt_told.specs.Along.{IsLineDone, IsPlacedBy}
 use Rattle.mt_told.specs.Scans.{IsScanAt}
-use Rattle.mt_told.specs.Steps.{AddsTold, AreSmall, IsOutcomeOf, IsStepAt, StandsAt, TellsDone, TellsNotDone, steps_text}
-use Rattle.mt_told.specs.Telling.{AreTold, IsSmall, IsToldBy, TellsNone, told_text}
+use Rattle.mt_told.specs.Steps.{AddsTold, AllFit, IsOutcomeOf, IsStepAt, StandsAt, TellsDone, TellsNotDone, steps_text}
+use Rattle.mt_told.specs.Telling.{AreSpelled, Fits, HasForm, IsToldBy, Spelling, TellsNone, told_text}
 use Rattle.mt_told.specs.declared.steps.Deed.TheVariants as deeds
 use Rattle.mt_told.specs.declared.steps.Place.{Place}
 use Rattle.mt_told.specs.declared.told.Told.{Told}
@@ -32,15 +31,15 @@ use Rattle.mt_told.specs.declared.told.Told.{Told}
 tells_so : (D E : List Step → Type 0) (text rest : List ℕ) (told : List Told) → ((steps : List Step) → D steps → E steps) → ((steps : List Step) → E steps → D steps) → TellsDone D text told rest → TellsDone E text told rest
 tells_so D E text rest told to from h =
     record {
-      only = λ version steps after done small is. h.only version steps after (from steps done) small is;
-      its = λ version steps so. to steps (h.its version steps so);
+      only = λ sp steps after done small is. h.only sp steps after (from steps done) small is;
+      its = λ sp steps so. to steps (h.its sp steps so);
       printed = h.printed;
       written = h.written;
       shorter = h.shorter;
     }
 
 tells_not_so : (D E : List Step → Type 0) (text : List ℕ) → ((steps : List Step) → E steps → D steps) → TellsNotDone D text → TellsNotDone E text
-tells_not_so D E text from none version steps after done small is = none version steps after (from steps done) small is
+tells_not_so D E text from none sp steps after done small is = none sp steps after (from steps done) small is
 
 -- these steps, and behind them those
 abbrev Both : (List Step → Type 0) → (List Step → Type 0) → List Step → Type 0
@@ -48,71 +47,71 @@ Both D E steps = (first second : List Step) × (steps ≡ first ++ second) × D 
 
 -- ---- lists of steps
 
-told-append : (version : ℕ) (mine more : List Told) (first second : List Step) → AreTold version mine first → AreTold version more second → AreTold version (mine ++ more) (first ++ second)
-told-append version [] more [] second h k = k
-told-append version [] more (s ∷ first) second h k = absurd h
-told-append version (t ∷ mine) more [] second h k = absurd h
-told-append version (t ∷ mine) more (s ∷ first) second h k = (h.0, told-append version mine more first second h.1 k)
+told-append : (sp : Spelling) (mine more : List Told) (first second : List Step) → AreSpelled sp mine first → AreSpelled sp more second → AreSpelled sp (mine ++ more) (first ++ second)
+told-append sp [] more [] second h k = k
+told-append sp [] more (s ∷ first) second h k = absurd h
+told-append sp (t ∷ mine) more [] second h k = absurd h
+told-append sp (t ∷ mine) more (s ∷ first) second h k = (h.0, told-append sp mine more first second h.1 k)
 
-told_parts : (version : ℕ) (mine more : List Told) (steps : List Step) → AreTold version (mine ++ more) steps → Both (AreTold version mine) (AreTold version more) steps
-told_parts version [] more steps h = ([], steps, refl, tt, h)
-told_parts version (t ∷ mine) more [] h = absurd h
-told_parts version (t ∷ mine) more (s ∷ steps) h =
-    let rest = told_parts version mine more steps h.1 in
+told_parts : (sp : Spelling) (mine more : List Told) (steps : List Step) → AreSpelled sp (mine ++ more) steps → Both (AreSpelled sp mine) (AreSpelled sp more) steps
+told_parts sp [] more steps h = ([], steps, refl, tt, h)
+told_parts sp (t ∷ mine) more [] h = absurd h
+told_parts sp (t ∷ mine) more (s ∷ steps) h =
+    let rest = told_parts sp mine more steps h.1 in
     (s ∷ rest.0, rest.1, ap (λ (ss : List Step). s ∷ ss) rest.2, (h.0, rest.3), rest.4)
 
-small_first : (first second : List Step) → AreSmall (first ++ second) → AreSmall first
-small_first first second h k d within = subst (λ (s : Step). IsSmall s.outcome) (get_or_append_left first second d k within) (h k d (omega (arith, length-append first second, within)))
+small_first : (sp : Spelling) (first second : List Step) → AllFit sp (first ++ second) → AllFit sp first
+small_first sp first second h k d within = subst (λ (s : Step). Fits sp s.outcome) (get_or_append_left first second d k within) (h k d (omega (arith, length-append first second, within)))
 
-small_second : (first second : List Step) → AreSmall (first ++ second) → AreSmall second
-small_second first second h k d within = subst (λ (s : Step). IsSmall s.outcome) (get_or-append-add first second k d) (h (length first + k) d (omega (arith, length-append first second, within)))
+small_second : (sp : Spelling) (first second : List Step) → AllFit sp (first ++ second) → AllFit sp second
+small_second sp first second h k d within = subst (λ (s : Step). Fits sp s.outcome) (get_or-append-add first second k d) (h (length first + k) d (omega (arith, length-append first second, within)))
 
 -- ---- one behind the other
 
 module _ (D E : List Step → Type 0) (text mid : List ℕ) (mine : List Told) (first : TellsDone D text mine mid) where
   -- the first of them are told, and the text goes on with the second
-  record FirstPart (version : ℕ) (ones others : List Step) (after : List ℕ) : Type 0 where
-    told : AreTold version mine ones
-    behind : mid ≡ steps_text version others ++ after
+  record FirstPart (sp : Spelling) (ones others : List Step) (after : List ℕ) : Type 0 where
+    told : AreSpelled sp mine ones
+    behind : mid ≡ steps_text sp others ++ after
 
-  first_part : (version : ℕ) (steps ones others : List Step) (after : List ℕ) → steps ≡ ones ++ others → D ones → AreSmall steps → text ≡ steps_text version steps ++ after → FirstPart version ones others after
-  first_part version steps ones others after is done small whole =
-      let all : AreSmall (ones ++ others) = subst AreSmall is small in
-      let one = first.only version ones (steps_text version others ++ after) done (small_first ones others all)
-      (whole ∙ (ap (λ (ss : List Step). steps_text version ss ++ after) is ∙ steps_text-append version ones others after)) in
+  first_part : (sp : Spelling) (steps ones others : List Step) (after : List ℕ) → steps ≡ ones ++ others → D ones → AllFit sp steps → text ≡ steps_text sp steps ++ after → FirstPart sp ones others after
+  first_part sp steps ones others after is done small whole =
+      let all : AllFit sp (ones ++ others) = subst (AllFit sp) is small in
+      let one = first.only sp ones (steps_text sp others ++ after) done (small_first sp ones others all)
+      (whole ∙ (ap (λ (ss : List Step). steps_text sp ss ++ after) is ∙ steps_text-append sp ones others after)) in
       record { told = one.0; behind = one.1 }
 
   pub not_second : TellsNotDone E mid → TellsNotDone (Both D E) text
-  not_second none version steps after h small whole =
-      let part = first_part version steps h.0 h.1 after h.2 h.3 small whole in
-      none version h.1 after h.4 (small_second h.0 h.1 (subst AreSmall h.2 small)) part.behind
+  not_second none sp steps after h small whole =
+      let part = first_part sp steps h.0 h.1 after h.2 h.3 small whole in
+      none sp h.1 after h.4 (small_second sp h.0 h.1 (subst (AllFit sp) h.2 small)) part.behind
 
   module _ (end : List ℕ) (more : List Told) (second : TellsDone E mid more end) where
-    only_both : (version : ℕ) (steps : List Step) (after : List ℕ) → Both D E steps → AreSmall steps → text ≡ steps_text version steps ++ after → AreTold version (mine ++ more) steps × (end ≡ after)
-    only_both version steps after h small whole =
-        let part = first_part version steps h.0 h.1 after h.2 h.3 small whole in
-        let rest = second.only version h.1 after h.4 (small_second h.0 h.1 (subst AreSmall h.2 small)) part.behind in
-        (subst (AreTold version (mine ++ more)) (sym h.2) (told-append version mine more h.0 h.1 part.told rest.0), rest.1)
+    only_both : (sp : Spelling) (steps : List Step) (after : List ℕ) → Both D E steps → AllFit sp steps → text ≡ steps_text sp steps ++ after → AreSpelled sp (mine ++ more) steps × (end ≡ after)
+    only_both sp steps after h small whole =
+        let part = first_part sp steps h.0 h.1 after h.2 h.3 small whole in
+        let rest = second.only sp h.1 after h.4 (small_second sp h.0 h.1 (subst (AllFit sp) h.2 small)) part.behind in
+        (subst (AreSpelled sp (mine ++ more)) (sym h.2) (told-append sp mine more h.0 h.1 part.told rest.0), rest.1)
 
-    its_both : (version : ℕ) (steps : List Step) → AreTold version (mine ++ more) steps → Both D E steps
-    its_both version steps told =
-        let parts = told_parts version mine more steps told in
-        (parts.0, parts.1, parts.2, first.its version parts.0 parts.3, second.its version parts.1 parts.4)
+    its_both : (sp : Spelling) (steps : List Step) → AreSpelled sp (mine ++ more) steps → Both D E steps
+    its_both sp steps told =
+        let parts = told_parts sp mine more steps told in
+        (parts.0, parts.1, parts.2, first.its sp parts.0 parts.3, second.its sp parts.1 parts.4)
 
-    printed_both : (version : ℕ) (steps : List Step) → AreTold version (mine ++ more) steps → text ≡ steps_text version steps ++ end
-    printed_both version steps told =
-        let parts = told_parts version mine more steps told in
-        first.printed version parts.0 parts.3
-        ∙ (ap (λ (t : List ℕ). steps_text version parts.0 ++ t) (second.printed version parts.1 parts.4)
-        ∙ (sym (steps_text-append version parts.0 parts.1 end) ∙ ap (λ (ss : List Step). steps_text version ss ++ end) (sym parts.2)))
+    printed_both : (sp : Spelling) (steps : List Step) → AreSpelled sp (mine ++ more) steps → text ≡ steps_text sp steps ++ end
+    printed_both sp steps told =
+        let parts = told_parts sp mine more steps told in
+        first.printed sp parts.0 parts.3
+        ∙ (ap (λ (t : List ℕ). steps_text sp parts.0 ++ t) (second.printed sp parts.1 parts.4)
+        ∙ (sym (steps_text-append sp parts.0 parts.1 end) ∙ ap (λ (ss : List Step). steps_text sp ss ++ end) (sym parts.2)))
 
     pub both_told : TellsDone (Both D E) text (mine ++ more) end
     both_told = record { only = only_both; its = its_both; printed = printed_both; written = first.written ∙ (ap (λ (m : List ℕ). flat_map told_text mine ++ m) second.written ∙ sym (told_text-append mine more end)); shorter = omega (arith, length-append mine more, first.shorter, second.shorter) }
 
 not_first : (D E : List Step → Type 0) (text : List ℕ) → TellsNotDone D text → TellsNotDone (Both D E) text
-not_first D E text none version steps after h small whole =
-    none version h.0 (steps_text version h.1 ++ after) h.3 (small_first h.0 h.1 (subst AreSmall h.2 small))
-    (whole ∙ (ap (λ (ss : List Step). steps_text version ss ++ after) h.2 ∙ steps_text-append version h.0 h.1 after))
+not_first D E text none sp steps after h small whole =
+    none sp h.0 (steps_text sp h.1 ++ after) h.3 (small_first sp h.0 h.1 (subst (AllFit sp) h.2 small))
+    (whole ∙ (ap (λ (ss : List Step). steps_text sp ss ++ after) h.2 ∙ steps_text-append sp h.0 h.1 after))
 
 -- ---- what came of lines, one behind the other
 
@@ -197,7 +196,7 @@ module _ (lane phase number tree : ℕ) (item : Item) (answered : is_answered it
   only_asked = ap (λ (b : Bool). cond b (asked ∷ []) []) answered
 
   stands_so : (t : Told) → StandsAt here t → IsPlacedBy lane phase line t
-  stands_so t h = record { done_in = h.lane; done_at = h.phase; done_on = λ count named. subst (λ (n : ℕ). n < count) (sym h.tree) (names count named) }
+  stands_so t h = record { form = h.form; done_in = h.lane; done_at = h.phase; done_on = λ count named. subst (λ (n : ℕ). n < count) (sym h.tree) (names count named) }
 
   pub line_added : ((steps : List Step) → D steps → IsDone asked item steps) → ((steps : List Step) → IsDone asked item steps → D steps) → (text rest : List ℕ) (old new : List Told) → AddsTold D (StandsAt here) text old new rest → AddsTold (IsLineDone lane phase line) (IsPlacedBy lane phase line) text old new rest
   line_added to from text rest old new h =
@@ -348,6 +347,7 @@ pub record LinesGoOn (lines : List Line) (text rest : List ℕ) (told : List Tol
   pub none : TellsNotDone (AreDone (asked_from lane phase (drop i lines))) rest → TellsNotDone (AreDone (steps_of lines)) text
   pub in_lane : lane < most_lanes
   pub in_phase : phase ≤ i
+  pub form : All (λ (t : Told). HasForm t.what) told
   pub trees : All (λ (t : Told). t.tree < length (trees_of lines)) told
   pub lanes : All (λ (t : Told). t.lane < most_lanes) told
   pub phases : AllPairs (λ (s t : Told). s.phase ≤ t.phase) told
@@ -359,6 +359,7 @@ lines_begin lines text = record {
   none = λ h. h;
   in_lane = omega arith;
   in_phase = omega arith;
+  form = All-nil (λ (t : Told). HasForm t.what);
   trees = All-nil (λ (t : Told). t.tree < length (trees_of lines));
   lanes = All-nil (λ (t : Told). t.lane < most_lanes);
   phases = λ k j d before within. absurd (omega (arith, within));
@@ -433,6 +434,7 @@ module _ (lines : List Line) (text rest : List ℕ) (told : List Told) (lane pha
         none = none_more;
         in_lane = there.1;
         in_phase = omega (arith, later.1, so_far.in_phase);
+        form = All-append (λ (t : Told). HasForm t.what) told added.mine so_far.form (of_mine (λ (t : Told). HasForm t.what) (λ t h. h.form));
         trees = All-append (λ (t : Told). t.tree < length (trees_of lines)) told added.mine so_far.trees (of_mine (λ (t : Told). t.tree < length (trees_of lines)) (λ t h. h.done_on (length (trees_of lines)) named));
         lanes = All-append (λ (t : Told). t.lane < most_lanes) told added.mine so_far.lanes (of_mine (λ (t : Told). t.lane < most_lanes) (λ t h. omega (arith, h.done_in, there.0)));
         phases = all_pairs_append told added.mine phase so_far.phases so_far.upto (of_mine (λ (t : Told). t.phase ≡ phase) (λ t h. h.done_at));
@@ -448,9 +450,10 @@ pub told_by : (log : Log) (text rest : List ℕ) (told : List Told) (lane phase 
 told_by log text rest told lane phase i so_far past =
     let all = lines_end log.lines text rest told lane phase i so_far past in
     record {
-      only = λ steps lists h. all.only log.version steps (flat_map listing_text lists) h.done h.small h.printed;
-      done = all.its log.version;
-      printed = all.printed log.version;
+      only = λ sp steps after h. all.only sp steps after h.done h.fit h.printed;
+      done = all.its;
+      printed = all.printed;
+      form = so_far.form;
       written = all.written;
       trees = so_far.trees;
       lanes = so_far.lanes;
@@ -459,4 +462,4 @@ told_by log text rest told lane phase i so_far past =
     }
 
 pub told_none : (log : Log) (text : List ℕ) → TellsNotDone (AreDone (steps_of log.lines)) text → TellsNone log text
-told_none log text none steps lists h = none log.version steps (flat_map listing_text lists) h.done h.small h.printed
+told_none log text none sp steps rest h = none sp steps rest h.done h.fit h.printed

@@ -100,6 +100,7 @@ line_before text end is =
     let printed : text ≡ take end text ++ (10 ∷ rest) = sym (take-append-drop end text) ∙ ap (λ (t : List ℕ). take end text ++ t) tail in
     record {
       printed = printed;
+      inside = in_line text end is;
       only = λ l r inside other. lines_apart l (take end text) r rest inside (in_line text end is) (sym other ∙ printed);
     }
 

@@ -10,10 +10,10 @@ use Rattle.mt_base.specs.declared.replies.Reply.TheVariants as replies
 use Rattle.mt_base.specs.Text.{range_text}
 use Rattle.mt_log.specs.declared.transcripts.Said.{Said}
 use Rattle.mt_log.specs.Run.{Outcome, Called, Looked, Counted}
-use Rattle.mt_log.specs.Text.{reply_text, said_text}
+use Rattle.mt_log.specs.Text.{reply_text}
 use Rattle.mt_told.specs.Fronts.{IsInLine, IsLineBefore, IsNumberBefore}
 use Rattle.mt_told.specs.Steps.{IsOutcomeOf, TellsOf, outcome_text}
-use Rattle.mt_told.specs.Telling.{IsSmall, IsToldOf}
+use Rattle.mt_told.specs.Telling.{Fits, IsSpelledOf, Spelling, spelled}
 use Rattle.mt_told.specs.declared.steps.Deed.TheVariants as deeds
 use Rattle.mt_told.specs.declared.told.What.TheVariants.{Wrote, Copied, Lawful}
 
@@ -78,8 +78,8 @@ reply_in_line version (replies.NoNodes s) =
 
 -- ---- what came of a deed
 
-call_text : (version n : ℕ) (call : Call) (r : Reply) (after : List ℕ) → outcome_text version (Called n call r) ++ after ≡ decimal n ++ (32 ∷ (reply_text version r ++ (10 ∷ after)))
-call_text version n call r after = simp append_assoc
+call_text : (sp : Spelling) (n : ℕ) (call : Call) (r : Reply) (after : List ℕ) → outcome_text sp (Called n call r) ++ after ≡ decimal n ++ (32 ∷ (sp.reply r ++ (10 ∷ after)))
+call_text sp n call r after = simp append_assoc
 
 call_written : (number : ℕ) (reply rest : List ℕ) → ((decimal number ++ (32 ∷ reply)) ++ (10 ∷ [])) ++ rest ≡ decimal number ++ (32 ∷ (reply ++ (10 ∷ rest)))
 call_written number reply rest = simp append_assoc
@@ -90,35 +90,32 @@ call_told call number reply text line rest before behind =
     let shorter : length rest ≤ length text = omega (arith, long, ap length before.printed, length-append (decimal number) (32 ∷ line)) in
     let written : text ≡ ((decimal number ++ (32 ∷ reply.now)) ++ (10 ∷ [])) ++ rest =
     before.printed ∙ (ap (λ (t : List ℕ). decimal number ++ (32 ∷ t)) behind.printed ∙ sym (call_written number reply.now rest)) in
-    record { only = only_so; its = its_so; printed = printed_so; written = written; shorter = shorter }
+    record { only = only_so; its = its_so; printed = printed_so; written = written; form = behind.inside; shorter = shorter }
   where
-    only_so : (version : ℕ) (o : Outcome) (after : List ℕ) → IsOutcomeOf (deeds.Call call) o → IsSmall o → text ≡ outcome_text version o ++ after → IsToldOf version (Wrote number call reply) o × (rest ≡ after)
-    only_so version (Called n c r) after is small other =
-        let front = before.only n (reply_text version r ++ (10 ∷ after)) small (other ∙ call_text version n c r after) in
-        let one = behind.only (reply_text version r) after (reply_in_line version r) (sym front.1) in
+    only_so : (sp : Spelling) (o : Outcome) (after : List ℕ) → IsOutcomeOf (deeds.Call call) o → Fits sp o → text ≡ outcome_text sp o ++ after → IsSpelledOf sp (Wrote number call reply) o × (rest ≡ after)
+    only_so sp (Called n c r) after is small other =
+        let front = before.only n (sp.reply r ++ (10 ∷ after)) small.0 (other ∙ call_text sp n c r after) in
+        let one = behind.only (sp.reply r) after small.1 (sym front.1) in
         ((front.0, is, one.0), sym one.1)
-    only_so version (Looked lo hi k q v) after is small other = absurd is
-    only_so version (Counted s ranges) after is small other = absurd is
+    only_so sp (Looked lo hi k q v) after is small other = absurd is
+    only_so sp (Counted s ranges) after is small other = absurd is
 
-    its_so : (version : ℕ) (o : Outcome) → IsToldOf version (Wrote number call reply) o → IsOutcomeOf (deeds.Call call) o
-    its_so version (Called n c r) told = told.1
-    its_so version (Looked lo hi k q v) told = absurd told
-    its_so version (Counted s ranges) told = absurd told
+    its_so : (sp : Spelling) (o : Outcome) → IsSpelledOf sp (Wrote number call reply) o → IsOutcomeOf (deeds.Call call) o
+    its_so sp (Called n c r) told = told.1
+    its_so sp (Looked lo hi k q v) told = absurd told
+    its_so sp (Counted s ranges) told = absurd told
 
-    printed_so : (version : ℕ) (o : Outcome) → IsToldOf version (Wrote number call reply) o → text ≡ outcome_text version o ++ rest
-    printed_so version (Called n c r) told =
+    printed_so : (sp : Spelling) (o : Outcome) → IsSpelledOf sp (Wrote number call reply) o → text ≡ outcome_text sp o ++ rest
+    printed_so sp (Called n c r) told =
         before.printed ∙ (ap (λ (t : List ℕ). decimal number ++ (32 ∷ t)) behind.printed
         ∙ (sym (ap (λ (m : ℕ). decimal m ++ (32 ∷ (reply.now ++ (10 ∷ rest)))) told.0)
         ∙ (sym (ap (λ (t : List ℕ). decimal n ++ (32 ∷ (t ++ (10 ∷ rest)))) told.2)
-        ∙ sym (call_text version n c r rest))))
-    printed_so version (Looked lo hi k q v) told = absurd told
-    printed_so version (Counted s ranges) told = absurd told
+        ∙ sym (call_text sp n c r rest))))
+    printed_so sp (Looked lo hi k q v) told = absurd told
+    printed_so sp (Counted s ranges) told = absurd told
 
 count_written : (word count after : List ℕ) → ((word ++ count) ++ (10 ∷ [])) ++ after ≡ word ++ (count ++ (10 ∷ after))
 count_written word count after = simp append_assoc
-
-count_text : (word : List ℕ) (n : ℕ) (after : List ℕ) → ((word ++ decimal n) ++ (10 ∷ [])) ++ after ≡ word ++ (decimal n ++ (10 ∷ after))
-count_text word n after = count_written word (decimal n) after
 
 pub copy_told : (count : Bor (List ℕ)) (text line rest : List ℕ) → text ≡ codes "copied " ++ line → IsLineBefore line count.now rest → TellsOf deeds.Copy text (Copied count) rest
 copy_told count text line rest before behind =
@@ -126,31 +123,31 @@ copy_told count text line rest before behind =
     let shorter : length rest ≤ length text = omega (arith, long, ap length before, length-append (codes "copied ") line) in
     let written : text ≡ ((codes "copied " ++ count.now) ++ (10 ∷ [])) ++ rest =
     before ∙ (ap (λ (t : List ℕ). codes "copied " ++ t) behind.printed ∙ sym (count_written (codes "copied ") count.now rest)) in
-    record { only = only_so; its = its_so; printed = printed_so; written = written; shorter = shorter }
+    record { only = only_so; its = its_so; printed = printed_so; written = written; form = behind.inside; shorter = shorter }
   where
-    only_so : (version : ℕ) (o : Outcome) (after : List ℕ) → IsOutcomeOf deeds.Copy o → IsSmall o → text ≡ outcome_text version o ++ after → IsToldOf version (Copied count) o × (rest ≡ after)
-    only_so version (Called n c r) after is small other = absurd is
-    only_so version (Looked lo hi k q v) after is small other = absurd is
-    only_so version (Counted s ranges) after is small other =
-        let said : text ≡ ((codes "copied " ++ decimal (length ranges)) ++ (10 ∷ [])) ++ after = other ∙ ap (λ (f : ℕ → Said). (said_text version (f (length ranges)) ++ (10 ∷ [])) ++ after) is in
-        let same : codes "copied " ++ line ≡ codes "copied " ++ (decimal (length ranges) ++ (10 ∷ after)) = sym before ∙ (said ∙ count_text (codes "copied ") (length ranges) after) in
-        let front : line ≡ decimal (length ranges) ++ (10 ∷ after) = (cc) in
-        let one = behind.only (decimal (length ranges)) after (number_in_line (length ranges)) front in
+    only_so : (sp : Spelling) (o : Outcome) (after : List ℕ) → IsOutcomeOf deeds.Copy o → Fits sp o → text ≡ outcome_text sp o ++ after → IsSpelledOf sp (Copied count) o × (rest ≡ after)
+    only_so sp (Called n c r) after is small other = absurd is
+    only_so sp (Looked lo hi k q v) after is small other = absurd is
+    only_so sp (Counted s ranges) after is small other =
+        let said : text ≡ ((codes "copied " ++ sp.count (length ranges)) ++ (10 ∷ [])) ++ after = other ∙ ap (λ (f : ℕ → Said). (spelled sp (f (length ranges)) ++ (10 ∷ [])) ++ after) is in
+        let same : codes "copied " ++ line ≡ codes "copied " ++ (sp.count (length ranges) ++ (10 ∷ after)) = sym before ∙ (said ∙ count_written (codes "copied ") (sp.count (length ranges)) after) in
+        let front : line ≡ sp.count (length ranges) ++ (10 ∷ after) = (cc) in
+        let one = behind.only (sp.count (length ranges)) after small front in
         ((is, one.0), sym one.1)
 
-    its_so : (version : ℕ) (o : Outcome) → IsToldOf version (Copied count) o → IsOutcomeOf deeds.Copy o
-    its_so version (Called n c r) told = absurd told
-    its_so version (Looked lo hi k q v) told = absurd told
-    its_so version (Counted s ranges) told = told.0
+    its_so : (sp : Spelling) (o : Outcome) → IsSpelledOf sp (Copied count) o → IsOutcomeOf deeds.Copy o
+    its_so sp (Called n c r) told = absurd told
+    its_so sp (Looked lo hi k q v) told = absurd told
+    its_so sp (Counted s ranges) told = told.0
 
-    printed_so : (version : ℕ) (o : Outcome) → IsToldOf version (Copied count) o → text ≡ outcome_text version o ++ rest
-    printed_so version (Called n c r) told = absurd told
-    printed_so version (Looked lo hi k q v) told = absurd told
-    printed_so version (Counted s ranges) told =
+    printed_so : (sp : Spelling) (o : Outcome) → IsSpelledOf sp (Copied count) o → text ≡ outcome_text sp o ++ rest
+    printed_so sp (Called n c r) told = absurd told
+    printed_so sp (Looked lo hi k q v) told = absurd told
+    printed_so sp (Counted s ranges) told =
         before ∙ (ap (λ (t : List ℕ). codes "copied " ++ t) behind.printed
         ∙ (sym (ap (λ (t : List ℕ). codes "copied " ++ (t ++ (10 ∷ rest))) told.1)
-        ∙ (sym (count_text (codes "copied ") (length ranges) rest)
-        ∙ sym (ap (λ (f : ℕ → Said). (said_text version (f (length ranges)) ++ (10 ∷ [])) ++ rest) told.0))))
+        ∙ (sym (count_written (codes "copied ") (sp.count (length ranges)) rest)
+        ∙ sym (ap (λ (f : ℕ → Said). (spelled sp (f (length ranges)) ++ (10 ∷ [])) ++ rest) told.0))))
 
 pub check_told : (count : Bor (List ℕ)) (text line rest : List ℕ) → text ≡ codes "lawful " ++ line → IsLineBefore line count.now rest → TellsOf deeds.Check text (Lawful count) rest
 check_told count text line rest before behind =
@@ -158,28 +155,28 @@ check_told count text line rest before behind =
     let shorter : length rest ≤ length text = omega (arith, long, ap length before, length-append (codes "lawful ") line) in
     let written : text ≡ ((codes "lawful " ++ count.now) ++ (10 ∷ [])) ++ rest =
     before ∙ (ap (λ (t : List ℕ). codes "lawful " ++ t) behind.printed ∙ sym (count_written (codes "lawful ") count.now rest)) in
-    record { only = only_so; its = its_so; printed = printed_so; written = written; shorter = shorter }
+    record { only = only_so; its = its_so; printed = printed_so; written = written; form = behind.inside; shorter = shorter }
   where
-    only_so : (version : ℕ) (o : Outcome) (after : List ℕ) → IsOutcomeOf deeds.Check o → IsSmall o → text ≡ outcome_text version o ++ after → IsToldOf version (Lawful count) o × (rest ≡ after)
-    only_so version (Called n c r) after is small other = absurd is
-    only_so version (Looked lo hi k q v) after is small other = absurd is
-    only_so version (Counted s ranges) after is small other =
-        let said : text ≡ ((codes "lawful " ++ decimal (length ranges)) ++ (10 ∷ [])) ++ after = other ∙ ap (λ (f : ℕ → Said). (said_text version (f (length ranges)) ++ (10 ∷ [])) ++ after) is in
-        let same : codes "lawful " ++ line ≡ codes "lawful " ++ (decimal (length ranges) ++ (10 ∷ after)) = sym before ∙ (said ∙ count_text (codes "lawful ") (length ranges) after) in
-        let front : line ≡ decimal (length ranges) ++ (10 ∷ after) = (cc) in
-        let one = behind.only (decimal (length ranges)) after (number_in_line (length ranges)) front in
+    only_so : (sp : Spelling) (o : Outcome) (after : List ℕ) → IsOutcomeOf deeds.Check o → Fits sp o → text ≡ outcome_text sp o ++ after → IsSpelledOf sp (Lawful count) o × (rest ≡ after)
+    only_so sp (Called n c r) after is small other = absurd is
+    only_so sp (Looked lo hi k q v) after is small other = absurd is
+    only_so sp (Counted s ranges) after is small other =
+        let said : text ≡ ((codes "lawful " ++ sp.count (length ranges)) ++ (10 ∷ [])) ++ after = other ∙ ap (λ (f : ℕ → Said). (spelled sp (f (length ranges)) ++ (10 ∷ [])) ++ after) is in
+        let same : codes "lawful " ++ line ≡ codes "lawful " ++ (sp.count (length ranges) ++ (10 ∷ after)) = sym before ∙ (said ∙ count_written (codes "lawful ") (sp.count (length ranges)) after) in
+        let front : line ≡ sp.count (length ranges) ++ (10 ∷ after) = (cc) in
+        let one = behind.only (sp.count (length ranges)) after small front in
         ((is, one.0), sym one.1)
 
-    its_so : (version : ℕ) (o : Outcome) → IsToldOf version (Lawful count) o → IsOutcomeOf deeds.Check o
-    its_so version (Called n c r) told = absurd told
-    its_so version (Looked lo hi k q v) told = absurd told
-    its_so version (Counted s ranges) told = told.0
+    its_so : (sp : Spelling) (o : Outcome) → IsSpelledOf sp (Lawful count) o → IsOutcomeOf deeds.Check o
+    its_so sp (Called n c r) told = absurd told
+    its_so sp (Looked lo hi k q v) told = absurd told
+    its_so sp (Counted s ranges) told = told.0
 
-    printed_so : (version : ℕ) (o : Outcome) → IsToldOf version (Lawful count) o → text ≡ outcome_text version o ++ rest
-    printed_so version (Called n c r) told = absurd told
-    printed_so version (Looked lo hi k q v) told = absurd told
-    printed_so version (Counted s ranges) told =
+    printed_so : (sp : Spelling) (o : Outcome) → IsSpelledOf sp (Lawful count) o → text ≡ outcome_text sp o ++ rest
+    printed_so sp (Called n c r) told = absurd told
+    printed_so sp (Looked lo hi k q v) told = absurd told
+    printed_so sp (Counted s ranges) told =
         before ∙ (ap (λ (t : List ℕ). codes "lawful " ++ t) behind.printed
         ∙ (sym (ap (λ (t : List ℕ). codes "lawful " ++ (t ++ (10 ∷ rest))) told.1)
-        ∙ (sym (count_text (codes "lawful ") (length ranges) rest)
-        ∙ sym (ap (λ (f : ℕ → Said). (said_text version (f (length ranges)) ++ (10 ∷ [])) ++ rest) told.0))))
+        ∙ (sym (count_written (codes "lawful ") (sp.count (length ranges)) rest)
+        ∙ sym (ap (λ (f : ℕ → Said). (spelled sp (f (length ranges)) ++ (10 ∷ [])) ++ rest) told.0))))

@@ -9,8 +9,8 @@ use Rattle.mt_log.specs.declared.transcripts.Answer.TheVariants as answers
 use Rattle.mt_log.specs.Run.{GoesOn, Outcome, Called, Looked, Counted, Step, find_at, place_behind, place_within, shown}
 use Rattle.mt_told.proofs.Stepped.{nothing_told, steps_text-append, told_text-append}
 use Rattle.mt_told.specs.Scans.{IsScanAt, IsScanFrom, range_told}
-use Rattle.mt_told.specs.Steps.{AddsTold, AreSmall, IsOutcomeOf, IsStepAt, StandsAt, TellsDone, TellsNotDone, TellsStepAt, step_at, steps_text}
-use Rattle.mt_told.specs.Telling.{AreTold, IsSmall, IsTold, IsToldOf, told_text}
+use Rattle.mt_told.specs.Steps.{AddsTold, AllFit, IsOutcomeOf, IsStepAt, StandsAt, TellsDone, TellsNotDone, TellsStepAt, step_at, steps_text}
+use Rattle.mt_told.specs.Telling.{AreSpelled, Fits, IsSpelled, IsSpelledOf, Spelling, told_text}
 use Rattle.mt_told.specs.declared.scans.Stretch.{Stretch}
 use Rattle.mt_told.specs.declared.steps.Deed.TheVariants.{Look}
 use Rattle.mt_told.specs.declared.steps.Place.{Place}
@@ -26,23 +26,23 @@ find_shows None max (Some found) r h = let same : found ≡ r = (cc) in ap (λ x
 find_shows (Some index) max (Some found) r h = let same : found ≡ r = (cc) in ap (λ x. Some x) same
 
 -- the range was found, or none was
-value_told : (version : ℕ) (what : What) (at : Option ℕ) (max lo hi k : ℕ) (value : Option Range) → IsToldOf version what (Looked lo hi k (find_at at max) value) → value ≡ range_told what
-value_told version (Wrote number call reply) at max lo hi k value h = absurd h
-value_told version (Got l h query (answers.Range r)) at max lo hi k value told = find_shows at max value r told.3
-value_told version (Got l h query (answers.Entry e)) at max lo hi k value told = no_entry at value told.3
+value_told : (sp : Spelling) (what : What) (at : Option ℕ) (max lo hi k : ℕ) (value : Option Range) → IsSpelledOf sp what (Looked lo hi k (find_at at max) value) → value ≡ range_told what
+value_told sp (Wrote number call reply) at max lo hi k value h = absurd h
+value_told sp (Got l h query (answers.Range r)) at max lo hi k value told = find_shows at max value r told.3
+value_told sp (Got l h query (answers.Entry e)) at max lo hi k value told = no_entry at value told.3
   where
     no_entry : (at : Option ℕ) (value : Option Range) → shown (find_at at max) value ≡ answers.Entry e → value ≡ None
     no_entry at None is = refl
     no_entry None (Some r) is = absurd (cc)
     no_entry (Some index) (Some r) is = absurd (cc)
-value_told version (Got l h query answers.None) at max lo hi k value told = no_range at value told.3
+value_told sp (Got l h query answers.None) at max lo hi k value told = no_range at value told.3
   where
     no_range : (at : Option ℕ) (value : Option Range) → shown (find_at at max) value ≡ answers.None → value ≡ None
     no_range at None is = refl
     no_range None (Some r) is = absurd (cc)
     no_range (Some index) (Some r) is = absurd (cc)
-value_told version (Copied count) at max lo hi k value h = absurd h
-value_told version (Lawful count) at max lo hi k value h = absurd h
+value_told sp (Copied count) at max lo hi k value h = absurd h
+value_told sp (Lawful count) at max lo hi k value h = absurd h
 
 -- ---- one step of a scan, and those behind it
 
@@ -51,21 +51,21 @@ module _ (place : Place) (scan : Stretch) (count : ℕ) (at : Option ℕ) (text 
   FoundStep lo hi k value = step_at place (Looked lo hi k (find_at at scan.max) value)
 
   -- the first step is told, and the text goes on with the others
-  record FirstTold (version : ℕ) (lo hi k : ℕ) (value : Option Range) (others : List Step) (after : List ℕ) : Type 0 where
-    told : IsTold version t (FoundStep lo hi k value)
+  record FirstTold (sp : Spelling) (lo hi k : ℕ) (value : Option Range) (others : List Step) (after : List ℕ) : Type 0 where
+    told : IsSpelled sp t (FoundStep lo hi k value)
     found : value ≡ range_told t.what
-    behind : mid ≡ steps_text version others ++ after
+    behind : mid ≡ steps_text sp others ++ after
 
-  first_told : (version lo hi k : ℕ) (value : Option Range) (others steps : List Step) (after : List ℕ) → steps ≡ FoundStep lo hi k value ∷ others → AreSmall steps → text ≡ steps_text version steps ++ after → FirstTold version lo hi k value others after
-  first_told version lo hi k value others steps after is small other =
-      let all : AreSmall (FoundStep lo hi k value ∷ others) = subst AreSmall is small in
-      let small_one : AreSmall (FoundStep lo hi k value ∷ []) = λ i d within. subst (λ (s : Step). IsSmall s.outcome) (one_of (FoundStep lo hi k value) i d within) (all 0 (FoundStep lo hi k value) (omega arith)) in
-      let whole : text ≡ steps_text version (FoundStep lo hi k value ∷ []) ++ (steps_text version others ++ after) =
-      other ∙ (ap (λ (ss : List Step). steps_text version ss ++ after) is ∙ steps_text-append version (FoundStep lo hi k value ∷ []) others after) in
-      let one = step.only version (FoundStep lo hi k value ∷ []) (steps_text version others ++ after) (Looked lo hi k (find_at at scan.max) value, refl, refl) small_one whole in
+  first_told : (sp : Spelling) (lo hi k : ℕ) (value : Option Range) (others steps : List Step) (after : List ℕ) → steps ≡ FoundStep lo hi k value ∷ others → AllFit sp steps → text ≡ steps_text sp steps ++ after → FirstTold sp lo hi k value others after
+  first_told sp lo hi k value others steps after is small other =
+      let all : AllFit sp (FoundStep lo hi k value ∷ others) = subst (AllFit sp) is small in
+      let small_one : AllFit sp (FoundStep lo hi k value ∷ []) = λ i d within. subst (λ (s : Step). Fits sp s.outcome) (one_of (FoundStep lo hi k value) i d within) (all 0 (FoundStep lo hi k value) (omega arith)) in
+      let whole : text ≡ steps_text sp (FoundStep lo hi k value ∷ []) ++ (steps_text sp others ++ after) =
+      other ∙ (ap (λ (ss : List Step). steps_text sp ss ++ after) is ∙ steps_text-append sp (FoundStep lo hi k value ∷ []) others after) in
+      let one = step.only sp (FoundStep lo hi k value ∷ []) (steps_text sp others ++ after) (Looked lo hi k (find_at at scan.max) value, refl, refl) small_one whole in
       record {
         told = one.0.0;
-        found = value_told version t.what at scan.max lo hi k value one.0.0.outcome;
+        found = value_told sp t.what at scan.max lo hi k value one.0.0.outcome;
         behind = one.1;
       }
     where
@@ -74,14 +74,14 @@ module _ (place : Place) (scan : Stretch) (count : ℕ) (at : Option ℕ) (text 
       one_of s (suc i) d within = absurd (omega arith)
 
   -- a step that is told so is a find of the scan
-  its_find : (version : ℕ) (s : Step) → IsTold version t s → (lo hi k : ℕ) × (value : Option Range) × (s ≡ FoundStep lo hi k value) × (value ≡ range_told t.what)
-  its_find version s told = of_outcome (step.its version (s ∷ []) (told, tt))
+  its_find : (sp : Spelling) (s : Step) → IsSpelled sp t s → (lo hi k : ℕ) × (value : Option Range) × (s ≡ FoundStep lo hi k value) × (value ≡ range_told t.what)
+  its_find sp s told = of_outcome (step.its sp (s ∷ []) (told, tt))
     where
       looked : (o : Outcome) → s ≡ step_at place o → IsOutcomeOf (Look (find_at at scan.max)) o → (lo hi k : ℕ) × (value : Option Range) × (s ≡ FoundStep lo hi k value) × (value ≡ range_told t.what)
       looked (Called n c r) is h = absurd h
       looked (Looked lo hi k q value) is h =
           let same : s ≡ FoundStep lo hi k value = is ∙ ap (λ q. step_at place (Looked lo hi k q value)) h in
-          (lo, hi, k, value, same, value_told version t.what at scan.max lo hi k value (subst (λ (x : Step). IsToldOf version t.what x.outcome) same told.outcome))
+          (lo, hi, k, value, same, value_told sp t.what at scan.max lo hi k value (subst (λ (x : Step). IsSpelledOf sp t.what x.outcome) same told.outcome))
       looked (Counted f ranges) is h = absurd h
 
       of_outcome : IsStepAt place (Look (find_at at scan.max)) (s ∷ []) → (lo hi k : ℕ) × (value : Option Range) × (s ≡ FoundStep lo hi k value) × (value ≡ range_told t.what)
@@ -97,32 +97,32 @@ module _ (place : Place) (scan : Stretch) (count : ℕ) (at : Option ℕ) (text 
     goes_on value others is goes = subst (λ (v : Option Range). GoesOn (IsScanFrom place scan count) scan.max v others) (is ∙ found) goes
 
     pub no_more : TellsNotDone (IsScanFrom place scan count (place_behind scan.max r)) mid → TellsNotDone (IsScanFrom place scan (suc count) at) text
-    no_more none version steps after h small other =
-        let first = first_told version h.0 h.1 h.2 h.3 h.4 steps after h.5 small other in
-        let others : AreSmall h.4 = All-tail (λ (s : Step). IsSmall s.outcome) (FoundStep h.0 h.1 h.2 h.3) h.4 (subst AreSmall h.5 small) in
-        none version h.4 after (goes_on h.3 h.4 first.found h.6) others first.behind
+    no_more none sp steps after h small other =
+        let first = first_told sp h.0 h.1 h.2 h.3 h.4 steps after h.5 small other in
+        let others : AllFit sp h.4 = All-tail (λ (s : Step). Fits sp s.outcome) (FoundStep h.0 h.1 h.2 h.3) h.4 (subst (AllFit sp) h.5 small) in
+        none sp h.4 after (goes_on h.3 h.4 first.found h.6) others first.behind
 
     module _ (more : List Told) (end : List ℕ) (tail : TellsDone (IsScanFrom place scan count (place_behind scan.max r)) mid more end) where
-      only_more : (version : ℕ) (steps : List Step) (after : List ℕ) → IsScanFrom place scan (suc count) at steps → AreSmall steps → text ≡ steps_text version steps ++ after → AreTold version (t ∷ more) steps × (end ≡ after)
-      only_more version steps after h small other =
-          let first = first_told version h.0 h.1 h.2 h.3 h.4 steps after h.5 small other in
-          let others : AreSmall h.4 = All-tail (λ (s : Step). IsSmall s.outcome) (FoundStep h.0 h.1 h.2 h.3) h.4 (subst AreSmall h.5 small) in
-          let rest = tail.only version h.4 after (goes_on h.3 h.4 first.found h.6) others first.behind in
-          (subst (AreTold version (t ∷ more)) (sym h.5) (first.told, rest.0), rest.1)
+      only_more : (sp : Spelling) (steps : List Step) (after : List ℕ) → IsScanFrom place scan (suc count) at steps → AllFit sp steps → text ≡ steps_text sp steps ++ after → AreSpelled sp (t ∷ more) steps × (end ≡ after)
+      only_more sp steps after h small other =
+          let first = first_told sp h.0 h.1 h.2 h.3 h.4 steps after h.5 small other in
+          let others : AllFit sp h.4 = All-tail (λ (s : Step). Fits sp s.outcome) (FoundStep h.0 h.1 h.2 h.3) h.4 (subst (AllFit sp) h.5 small) in
+          let rest = tail.only sp h.4 after (goes_on h.3 h.4 first.found h.6) others first.behind in
+          (subst (AreSpelled sp (t ∷ more)) (sym h.5) (first.told, rest.0), rest.1)
 
-      its_more : (version : ℕ) (steps : List Step) → AreTold version (t ∷ more) steps → IsScanFrom place scan (suc count) at steps
-      its_more version [] told = absurd told
-      its_more version (s ∷ steps) told =
-          let find = its_find version s told.0 in
-          let goes = subst (λ (v : Option Range). GoesOn (IsScanFrom place scan count) scan.max v steps) (sym (find.5 ∙ found)) (tail.its version steps told.1) in
+      its_more : (sp : Spelling) (steps : List Step) → AreSpelled sp (t ∷ more) steps → IsScanFrom place scan (suc count) at steps
+      its_more sp [] told = absurd told
+      its_more sp (s ∷ steps) told =
+          let find = its_find sp s told.0 in
+          let goes = subst (λ (v : Option Range). GoesOn (IsScanFrom place scan count) scan.max v steps) (sym (find.5 ∙ found)) (tail.its sp steps told.1) in
           (find.0, find.1, find.2, find.3, steps, ap (λ (x : Step). x ∷ steps) find.4, goes)
 
-      printed_more : (version : ℕ) (steps : List Step) → AreTold version (t ∷ more) steps → text ≡ steps_text version steps ++ end
-      printed_more version [] told = absurd told
-      printed_more version (s ∷ steps) told =
-          step.printed version (s ∷ []) (told.0, tt)
-          ∙ (ap (λ (m : List ℕ). steps_text version (s ∷ []) ++ m) (tail.printed version steps told.1)
-          ∙ sym (steps_text-append version (s ∷ []) steps end))
+      printed_more : (sp : Spelling) (steps : List Step) → AreSpelled sp (t ∷ more) steps → text ≡ steps_text sp steps ++ end
+      printed_more sp [] told = absurd told
+      printed_more sp (s ∷ steps) told =
+          step.printed sp (s ∷ []) (told.0, tt)
+          ∙ (ap (λ (m : List ℕ). steps_text sp (s ∷ []) ++ m) (tail.printed sp steps told.1)
+          ∙ sym (steps_text-append sp (s ∷ []) steps end))
 
       written_more : text ≡ flat_map told_text (t ∷ more) ++ end
       written_more = step.written ∙ (ap (λ (m : List ℕ). flat_map told_text (t ∷ []) ++ m) tail.written ∙ sym (told_text-append (t ∷ []) more end))
@@ -135,18 +135,18 @@ module _ (place : Place) (scan : Stretch) (count : ℕ) (at : Option ℕ) (text 
     ends : (value : Option Range) (others : List Step) → value ≡ range_told t.what → GoesOn (IsScanFrom place scan count) scan.max value others → others ≡ []
     ends value others is goes = subst (λ (v : Option Range). GoesOn (IsScanFrom place scan count) scan.max v others) (is ∙ found) goes
 
-    only_end : (version : ℕ) (steps : List Step) (after : List ℕ) → IsScanFrom place scan (suc count) at steps → AreSmall steps → text ≡ steps_text version steps ++ after → AreTold version (t ∷ []) steps × (mid ≡ after)
-    only_end version steps after h small other =
-        let first = first_told version h.0 h.1 h.2 h.3 h.4 steps after h.5 small other in
+    only_end : (sp : Spelling) (steps : List Step) (after : List ℕ) → IsScanFrom place scan (suc count) at steps → AllFit sp steps → text ≡ steps_text sp steps ++ after → AreSpelled sp (t ∷ []) steps × (mid ≡ after)
+    only_end sp steps after h small other =
+        let first = first_told sp h.0 h.1 h.2 h.3 h.4 steps after h.5 small other in
         let none : h.4 ≡ [] = ends h.3 h.4 first.found h.6 in
         let is : steps ≡ FoundStep h.0 h.1 h.2 h.3 ∷ [] = h.5 ∙ ap (λ (ss : List Step). FoundStep h.0 h.1 h.2 h.3 ∷ ss) none in
-        (subst (AreTold version (t ∷ [])) (sym is) (first.told, tt), first.behind ∙ ap (λ (ss : List Step). steps_text version ss ++ after) none)
+        (subst (AreSpelled sp (t ∷ [])) (sym is) (first.told, tt), first.behind ∙ ap (λ (ss : List Step). steps_text sp ss ++ after) none)
 
-    its_end : (version : ℕ) (steps : List Step) → AreTold version (t ∷ []) steps → IsScanFrom place scan (suc count) at steps
-    its_end version [] told = absurd told
-    its_end version (s ∷ other ∷ steps) told = absurd told.1
-    its_end version (s ∷ []) told =
-        let find = its_find version s told.0 in
+    its_end : (sp : Spelling) (steps : List Step) → AreSpelled sp (t ∷ []) steps → IsScanFrom place scan (suc count) at steps
+    its_end sp [] told = absurd told
+    its_end sp (s ∷ other ∷ steps) told = absurd told.1
+    its_end sp (s ∷ []) told =
+        let find = its_find sp s told.0 in
         let goes = subst (λ (v : Option Range). GoesOn (IsScanFrom place scan count) scan.max v []) (sym (find.5 ∙ found)) refl in
         (find.0, find.1, find.2, find.3, [], ap (λ (x : Step). x ∷ []) find.4, goes)
 
@@ -154,12 +154,12 @@ module _ (place : Place) (scan : Stretch) (count : ℕ) (at : Option ℕ) (text 
     scan_end = record { only = only_end; its = its_end; printed = step.printed; written = step.written; shorter = step.shorter }
 
 pub no_first : (place : Place) (scan : Stretch) (count : ℕ) (at : Option ℕ) (text : List ℕ) → TellsNotDone (IsStepAt place (Look (find_at at scan.max))) text → TellsNotDone (IsScanFrom place scan (suc count) at) text
-no_first place scan count at text none version steps after h small other =
+no_first place scan count at text none sp steps after h small other =
     let o = Looked h.0 h.1 h.2 (find_at at scan.max) h.3 in
-    let all : AreSmall (step_at place o ∷ h.4) = subst AreSmall h.5 small in
-    let one = All-push (λ (s : Step). IsSmall s.outcome) [] (step_at place o) (All-nil (λ (s : Step). IsSmall s.outcome)) (All-head (λ (s : Step). IsSmall s.outcome) (step_at place o) h.4 all) in
-    none version (step_at place o ∷ []) (steps_text version h.4 ++ after) (o, refl, refl) one
-    (other ∙ (ap (λ (ss : List Step). steps_text version ss ++ after) h.5 ∙ steps_text-append version (step_at place o ∷ []) h.4 after))
+    let all : AllFit sp (step_at place o ∷ h.4) = subst (AllFit sp) h.5 small in
+    let one = All-push (λ (s : Step). Fits sp s.outcome) [] (step_at place o) (All-nil (λ (s : Step). Fits sp s.outcome)) (All-head (λ (s : Step). Fits sp s.outcome) (step_at place o) h.4 all) in
+    none sp (step_at place o ∷ []) (steps_text sp h.4 ++ after) (o, refl, refl) one
+    (other ∙ (ap (λ (ss : List Step). steps_text sp ss ++ after) h.5 ∙ steps_text-append sp (step_at place o ∷ []) h.4 after))
 
 -- ---- so far
 

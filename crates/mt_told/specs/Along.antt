@@ -4,6 +4,7 @@ use Rattle.std.specs.Prelude.{◌≡◌, ℕ, ◌<◌, List, [], ◌∷◌}
 use Rattle.mt_log.specs.declared.lines.Line.{Line}
 use Rattle.mt_log.specs.Run.{AreDone, Step, asked_from, lane_of}
 use Rattle.mt_log.specs.Trees.{NamesBelow}
+use Rattle.mt_told.specs.Telling.{HasForm}
 use Rattle.mt_told.specs.declared.told.Told.{Told}
 
 -- these steps are what came of a line that stands in this lane and this phase
@@ -12,6 +13,7 @@ IsLineDone lane phase line steps = AreDone (asked_from lane phase (line ∷ []))
 
 -- what is told is of this lane, this phase and the tree that the line names
 pub record IsPlacedBy (lane phase : ℕ) (line : Line) (t : Told) : Type 0 where
+  pub form : HasForm t.what
   pub done_in : t.lane ≡ lane_of lane line.item
   pub done_at : t.phase ≡ phase
   pub done_on : (count : ℕ) → NamesBelow count line.item → t.tree < count

@@ -16,4 +16,5 @@ IsInLine (byte ∷ bytes) = (byte ≢ 10) × IsInLine bytes
 -- the line stands in front, before its LF and the rest, and no other line does
 pub record IsLineBefore (text line rest : List ℕ) : Type 0 where
   pub printed : text ≡ line ++ (10 ∷ rest)
+  pub inside : IsInLine line
   pub only : (l r : List ℕ) → IsInLine l → text ≡ l ++ (10 ∷ r) → (l ≡ line) × (r ≡ rest)

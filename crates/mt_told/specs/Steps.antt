@@ -5,13 +5,12 @@ use Rattle.std.specs.List.{flat_map}
 use Rattle.mt_log.specs.declared.lines.Item.{Item}
 use Rattle.mt_log.specs.declared.transcripts.Said.TheVariants as said
 use Rattle.mt_log.specs.Run.{Asked, Outcome, Called, Looked, Counted, Step, entry_of, said_of}
-use Rattle.mt_log.specs.Text.{entry_text, said_text}
 use Rattle.mt_told.specs.declared.steps.Deed.{Deed}
 use Rattle.mt_told.specs.declared.steps.Deed.TheVariants.{Call, Look, Copy, Check}
 use Rattle.mt_told.specs.declared.steps.Place.{Place}
 use Rattle.mt_told.specs.declared.told.Told.{Told}
 use Rattle.mt_told.specs.declared.told.What.{What}
-use Rattle.mt_told.specs.Telling.{AreTold, IsSmall, IsToldOf, told_text, what_text}
+use Rattle.mt_told.specs.Telling.{AreSpelled, Fits, HasForm, IsSpelledOf, Spelling, spelled, spelled_line, told_text, what_text}
 
 -- ---- what came of one deed
 
@@ -31,21 +30,22 @@ IsOutcomeOf Check (Looked lo hi k q v) = ⊥
 IsOutcomeOf Check (Counted s ranges) = s ≡ said.Lawful
 
 -- what a line says of an outcome, behind its number, and its LF
-abbrev pub outcome_text : ℕ → Outcome → List ℕ
-outcome_text version o = said_text version (said_of o) ++ (10 ∷ [])
+abbrev pub outcome_text : Spelling → Outcome → List ℕ
+outcome_text sp o = spelled sp (said_of o) ++ (10 ∷ [])
 
 -- The text begins with what is said of an outcome of this deed, whichever is told so, and goes on with the rest; and any
 -- outcome of the deed with which the text begins is told so.
 pub record TellsOf (deed : Deed) (text : List ℕ) (what : What) (rest : List ℕ) : Type 0 where
-  pub only : (version : ℕ) (o : Outcome) (after : List ℕ) → IsOutcomeOf deed o → IsSmall o → text ≡ outcome_text version o ++ after → IsToldOf version what o × (rest ≡ after)
-  pub its : (version : ℕ) (o : Outcome) → IsToldOf version what o → IsOutcomeOf deed o
-  pub printed : (version : ℕ) (o : Outcome) → IsToldOf version what o → text ≡ outcome_text version o ++ rest
+  pub only : (sp : Spelling) (o : Outcome) (after : List ℕ) → IsOutcomeOf deed o → Fits sp o → text ≡ outcome_text sp o ++ after → IsSpelledOf sp what o × (rest ≡ after)
+  pub its : (sp : Spelling) (o : Outcome) → IsSpelledOf sp what o → IsOutcomeOf deed o
+  pub printed : (sp : Spelling) (o : Outcome) → IsSpelledOf sp what o → text ≡ outcome_text sp o ++ rest
   pub written : text ≡ (what_text what ++ (10 ∷ [])) ++ rest
+  pub form : HasForm what
   pub shorter : length rest ≤ length text
 
 -- it begins with what is said of no outcome of this deed
 abbrev pub TellsNothingOf : Deed → List ℕ → Type 0
-TellsNothingOf deed text = (version : ℕ) (o : Outcome) (after : List ℕ) → IsOutcomeOf deed o → IsSmall o → text ≡ outcome_text version o ++ after → ⊥
+TellsNothingOf deed text = (sp : Spelling) (o : Outcome) (after : List ℕ) → IsOutcomeOf deed o → Fits sp o → text ≡ outcome_text sp o ++ after → ⊥
 
 -- ---- steps
 
@@ -62,24 +62,24 @@ abbrev pub IsStepAt : Place → Deed → List Step → Type 0
 IsStepAt place deed steps = (o : Outcome) × (steps ≡ step_at place o ∷ []) × IsOutcomeOf deed o
 
 -- the lines of these steps
-abbrev pub steps_text : ℕ → List Step → List ℕ
-steps_text version steps = flat_map (entry_text version) (map entry_of steps)
+abbrev pub steps_text : Spelling → List Step → List ℕ
+steps_text sp steps = flat_map (spelled_line sp) (map entry_of steps)
 
-abbrev pub AreSmall : List Step → Type 0
-AreSmall steps = All (λ s. IsSmall s.outcome) steps
+abbrev pub AllFit : Spelling → List Step → Type 0
+AllFit sp steps = All (λ s. Fits sp s.outcome) steps
 
 -- The text begins with the lines of steps that are done so, whichever are told so, and goes on with the rest; and any steps
 -- that are done so with whose lines the text begins are told so.
 pub record TellsDone (IsDoneSo : List Step → Type 0) (text : List ℕ) (told : List Told) (rest : List ℕ) : Type 0 where
-  pub only : (version : ℕ) (steps : List Step) (after : List ℕ) → IsDoneSo steps → AreSmall steps → text ≡ steps_text version steps ++ after → AreTold version told steps × (rest ≡ after)
-  pub its : (version : ℕ) (steps : List Step) → AreTold version told steps → IsDoneSo steps
-  pub printed : (version : ℕ) (steps : List Step) → AreTold version told steps → text ≡ steps_text version steps ++ rest
+  pub only : (sp : Spelling) (steps : List Step) (after : List ℕ) → IsDoneSo steps → AllFit sp steps → text ≡ steps_text sp steps ++ after → AreSpelled sp told steps × (rest ≡ after)
+  pub its : (sp : Spelling) (steps : List Step) → AreSpelled sp told steps → IsDoneSo steps
+  pub printed : (sp : Spelling) (steps : List Step) → AreSpelled sp told steps → text ≡ steps_text sp steps ++ rest
   pub written : text ≡ flat_map told_text told ++ rest
   pub shorter : length told + length rest ≤ length text
 
 -- it begins with the lines of no steps that are done so
 abbrev pub TellsNotDone : (List Step → Type 0) → List ℕ → Type 0
-TellsNotDone IsDoneSo text = (version : ℕ) (steps : List Step) (after : List ℕ) → IsDoneSo steps → AreSmall steps → text ≡ steps_text version steps ++ after → ⊥
+TellsNotDone IsDoneSo text = (sp : Spelling) (steps : List Step) (after : List ℕ) → IsDoneSo steps → AllFit sp steps → text ≡ steps_text sp steps ++ after → ⊥
 
 -- what is told stands at this place
 pub record StandsAt (place : Place) (t : Told) : Type 0 where
@@ -87,6 +87,7 @@ pub record StandsAt (place : Place) (t : Told) : Type 0 where
   pub lane : t.lane ≡ place.lane
   pub phase : t.phase ≡ place.phase
   pub tree : t.tree ≡ place.tree
+  pub form : HasForm t.what
 
 -- the text begins with a line of this deed at this place, which is told so
 pub record TellsStepAt (place : Place) (deed : Deed) (text : List ℕ) (t : Told) (rest : List ℕ) : Type 0 where

@@ -4,47 +4,89 @@ use Rattle.std.specs.Prelude.{◌≡◌, ℕ, ◌<◌, ◌≤◌, ◌^◌, List,
 use Rattle.std.specs.List.{flat_map}
 use Rattle.std.specs.Fmt.{decimal}
 use Rattle.mt_base.specs.declared.ranges.Range.{Range}
+use Rattle.mt_base.specs.declared.replies.Reply.{Reply}
 use Rattle.mt_log.specs.declared.lines.Log.{Log}
-use Rattle.mt_log.specs.declared.transcripts.Listing.{Listing}
+use Rattle.mt_log.specs.declared.transcripts.Entry.{Entry}
+use Rattle.mt_log.specs.declared.transcripts.Said.{Said}
 use Rattle.mt_log.specs.declared.transcripts.Said.TheVariants as said
 use Rattle.mt_log.specs.Run.{Outcome, Called, Looked, Counted, Step, AreDone, entry_of, shown, steps_of}
-use Rattle.mt_log.specs.Text.{answer_text, entry_text, listing_text, reply_text}
+use Rattle.mt_log.specs.Text.{answer_text, reply_text}
 use Rattle.mt_log.specs.Trees.{most_lanes, trees_of}
+use Rattle.mt_told.specs.Fronts.{IsInLine}
 use Rattle.mt_told.specs.declared.told.Told.{Told}
 use Rattle.mt_told.specs.declared.told.What.{What}
 use Rattle.mt_told.specs.declared.told.What.TheVariants.{Wrote, Got, Copied, Lawful}
 
+-- ---- how it is written
+
+-- How replies and counts are written, in place of what stands in a log of some version. What a text tells of a log does not
+-- hang on it: a reply and a count may be any bytes of a line, which are compared with what they should be by whom it concerns.
+pub record Spelling : Type 0 where
+  pub reply : Reply → List ℕ
+  pub count : ℕ → List ℕ
+
+-- as a version of logs writes them
+abbrev pub spelling_of : ℕ → Spelling
+spelling_of version = record { reply = reply_text version; count = decimal }
+
+abbrev pub spelled : Spelling → Said → List ℕ
+spelled sp (said.Wrote number reply) = decimal number ++ (codes " " ++ sp.reply reply)
+spelled sp (said.Got lo hi answer) = decimal lo ++ (codes " " ++ (decimal hi ++ (codes " " ++ answer_text answer)))
+spelled sp (said.Lawful count) = codes "lawful " ++ sp.count count
+spelled sp (said.Copied count) = codes "copied " ++ sp.count count
+
+-- an entry's line
+abbrev pub spelled_line : Spelling → Entry → List ℕ
+spelled_line sp e = decimal e.line ++ (codes " " ++ (spelled sp e.said ++ 10 ∷ []))
+
 -- ---- a step that is told
 
--- It is told of this outcome. What is not printed may be any: the number at which a read is true, the rest of a loaded range,
--- who held rows, and which ranges were counted.
-abbrev pub IsToldOf : ℕ → What → Outcome → Type 0
-IsToldOf version (Wrote number call reply) (Called n c r) = (n ≡ number) × (c ≡ call) × (reply_text version r ≡ reply.now)
-IsToldOf version (Wrote number call reply) (Looked lo hi k q v) = ⊥
-IsToldOf version (Wrote number call reply) (Counted s ranges) = ⊥
-IsToldOf version (Got lo hi query answer) (Called n c r) = ⊥
-IsToldOf version (Got lo hi query answer) (Looked l h k q v) = (l ≡ lo) × (h ≡ hi) × (q ≡ query) × (shown q v ≡ answer)
-IsToldOf version (Got lo hi query answer) (Counted s ranges) = ⊥
-IsToldOf version (Copied count) (Called n c r) = ⊥
-IsToldOf version (Copied count) (Looked lo hi k q v) = ⊥
-IsToldOf version (Copied count) (Counted s ranges) = (s ≡ said.Copied) × (decimal (length ranges) ≡ count.now)
-IsToldOf version (Lawful count) (Called n c r) = ⊥
-IsToldOf version (Lawful count) (Looked lo hi k q v) = ⊥
-IsToldOf version (Lawful count) (Counted s ranges) = (s ≡ said.Lawful) × (decimal (length ranges) ≡ count.now)
+-- It is told of this outcome, which is written so. What is not printed may be any: the number at which a read is true, the
+-- rest of a loaded range, who held rows, and which ranges were counted.
+abbrev pub IsSpelledOf : Spelling → What → Outcome → Type 0
+IsSpelledOf sp (Wrote number call reply) (Called n c r) = (n ≡ number) × (c ≡ call) × (sp.reply r ≡ reply.now)
+IsSpelledOf sp (Wrote number call reply) (Looked lo hi k q v) = ⊥
+IsSpelledOf sp (Wrote number call reply) (Counted s ranges) = ⊥
+IsSpelledOf sp (Got lo hi query answer) (Called n c r) = ⊥
+IsSpelledOf sp (Got lo hi query answer) (Looked l h k q v) = (l ≡ lo) × (h ≡ hi) × (q ≡ query) × (shown q v ≡ answer)
+IsSpelledOf sp (Got lo hi query answer) (Counted s ranges) = ⊥
+IsSpelledOf sp (Copied count) (Called n c r) = ⊥
+IsSpelledOf sp (Copied count) (Looked lo hi k q v) = ⊥
+IsSpelledOf sp (Copied count) (Counted s ranges) = (s ≡ said.Copied) × (sp.count (length ranges) ≡ count.now)
+IsSpelledOf sp (Lawful count) (Called n c r) = ⊥
+IsSpelledOf sp (Lawful count) (Looked lo hi k q v) = ⊥
+IsSpelledOf sp (Lawful count) (Counted s ranges) = (s ≡ said.Lawful) × (sp.count (length ranges) ≡ count.now)
 
-pub record IsTold (version : ℕ) (t : Told) (s : Step) : Type 0 where
+pub record IsSpelled (sp : Spelling) (t : Told) (s : Step) : Type 0 where
   pub line : s.line ≡ t.line
   pub lane : s.lane ≡ t.lane
   pub phase : s.phase ≡ t.phase
   pub tree : s.tree ≡ t.tree
-  pub outcome : IsToldOf version t.what s.outcome
+  pub outcome : IsSpelledOf sp t.what s.outcome
 
 -- these are told so, one by one
+abbrev pub AreSpelled : Spelling → List Told → List Step → Type 0
+AreSpelled sp [] [] = Unit {0}
+AreSpelled sp [] (s ∷ steps) = ⊥
+AreSpelled sp (t ∷ told) [] = ⊥
+AreSpelled sp (t ∷ told) (s ∷ steps) = IsSpelled sp t s × AreSpelled sp told steps
+
+-- as this version of logs writes it
+abbrev pub IsToldOf : ℕ → What → Outcome → Type 0
+IsToldOf version what o = IsSpelledOf (spelling_of version) what o
+
+abbrev pub IsTold : ℕ → Told → Step → Type 0
+IsTold version t s = IsSpelled (spelling_of version) t s
+
 abbrev pub AreTold : ℕ → List Told → List Step → Type 0
-AreTold version [] [] = Unit {0}
-AreTold version [] (s ∷ steps) = ⊥
-AreTold version (t ∷ told) [] = ⊥
-AreTold version (t ∷ told) (s ∷ steps) = IsTold version t s × AreTold version told steps
+AreTold version told steps = AreSpelled (spelling_of version) told steps
+
+-- it has the form of its line: a query is told so of some range or of none, and a reply and a count end no line
+abbrev pub HasForm : What → Type 0
+HasForm (Got lo hi query answer) = (value : Option Range) × (shown query value ≡ answer)
+HasForm (Wrote number call reply) = IsInLine reply.now
+HasForm (Copied count) = IsInLine count.now
+HasForm (Lawful count) = IsInLine count.now
 
 -- ---- the lines that are told
 
@@ -70,21 +112,28 @@ IsSmall (Called number call reply) = number < 2 ^ 64
 IsSmall (Looked lo hi k query value) = (lo < 2 ^ 64) × (hi < 2 ^ 64) × IsSmallRange value
 IsSmall (Counted s ranges) = Unit {0}
 
+-- a reply and a count end no line
+abbrev pub Fits : Spelling → Outcome → Type 0
+Fits sp (Called number call reply) = (number < 2 ^ 64) × IsInLine (sp.reply reply)
+Fits sp (Looked lo hi k query value) = (lo < 2 ^ 64) × (hi < 2 ^ 64) × IsSmallRange value
+Fits sp (Counted s ranges) = IsInLine (sp.count (length ranges))
+
 -- ---- a text
 
--- The text tells these steps, which are of 64 bits, and then these listings.
-pub record TellsSteps (log : Log) (text : List ℕ) (steps : List Step) (lists : List Listing) : Type 0 where
+-- The text tells these steps of the log, each in its line, and then goes on with any bytes.
+pub record TellsSteps (sp : Spelling) (log : Log) (text : List ℕ) (steps : List Step) (rest : List ℕ) : Type 0 where
   pub done : AreDone (steps_of log.lines) steps
-  pub small : All (λ s. IsSmall s.outcome) steps
-  pub printed : text ≡ flat_map (entry_text log.version) (map entry_of steps) ++ flat_map listing_text lists
+  pub fit : All (λ s. Fits sp s.outcome) steps
+  pub printed : text ≡ flat_map (spelled_line sp) (map entry_of steps) ++ rest
 
--- The text is the lines that are told, and behind them the rest. All steps that the text may tell are told so, and the rest
--- are their listings. The steps that are told so are steps of the log, and the text begins with them.
+-- The text is the lines that are told, and behind them the rest. All steps that the text may tell are told so, before the same
+-- rest. The steps that are told so are steps of the log, and the text begins with them.
 pub record IsToldBy (log : Log) (text : List ℕ) (told : List Told) (rest : List ℕ) : Type 0 where
   pub written : text ≡ flat_map told_text told ++ rest
-  pub only : (steps : List Step) (lists : List Listing) → TellsSteps log text steps lists → AreTold log.version told steps × (rest ≡ flat_map listing_text lists)
-  pub done : (steps : List Step) → AreTold log.version told steps → AreDone (steps_of log.lines) steps
-  pub printed : (steps : List Step) → AreTold log.version told steps → text ≡ flat_map (entry_text log.version) (map entry_of steps) ++ rest
+  pub only : (sp : Spelling) (steps : List Step) (after : List ℕ) → TellsSteps sp log text steps after → AreSpelled sp told steps × (rest ≡ after)
+  pub done : (sp : Spelling) (steps : List Step) → AreSpelled sp told steps → AreDone (steps_of log.lines) steps
+  pub printed : (sp : Spelling) (steps : List Step) → AreSpelled sp told steps → text ≡ flat_map (spelled_line sp) (map entry_of steps) ++ rest
+  pub form : All (λ t. HasForm t.what) told
   -- what is told is of the log's trees and lanes, and phase by phase
   pub trees : All (λ t. t.tree < length (trees_of log.lines)) told
   pub lanes : All (λ t. t.lane < most_lanes) told
@@ -92,6 +141,6 @@ pub record IsToldBy (log : Log) (text : List ℕ) (told : List Told) (rest : Lis
   -- each is a line of the text
   pub few : length told ≤ length text
 
--- no steps of the log are told by the text
+-- the text tells no steps of the log, however they are written and whatever it goes on with
 abbrev pub TellsNone : Log → List ℕ → Type 0
-TellsNone log text = (steps : List Step) (lists : List Listing) → TellsSteps log text steps lists → ⊥
+TellsNone log text = (sp : Spelling) (steps : List Step) (rest : List ℕ) → TellsSteps sp log text steps rest → ⊥

@@ -11,7 +11,8 @@ use Rattle.mt_log.specs.Run.{Outcome, Called, Looked, Counted, Step, IsRun, IsRu
 use Rattle.mt_log.specs.Text.{entry_text, listing_text, text_of}
 use Rattle.mt_log.specs.Trees.{IsReadable, trees_of}
 use Rattle.mt_told.specs.declared.told.Told.{Told}
-use Rattle.mt_told.specs.Telling.{AreTold, IsSmall, IsToldBy, TellsNone, TellsSteps}
+use Rattle.mt_told.proofs.Versions.{none_told, only_told, printed_told}
+use Rattle.mt_told.specs.Telling.{AreTold, IsSmall, IsToldBy, TellsNone, spelling_of}
 use Rattle.mt_verify.specs.AllGone.{HaveGoneTo, IsToldRun, NoneIsTold, history_by, listings_by}
 use Rattle.mt_verify.specs.Filled.{filled}
 use Rattle.mt_verify.specs.Found.{IsFound}
@@ -45,15 +46,16 @@ module _ (log : Log) (rows : ℕ) (text : List ℕ) (small : (t : Transcript) (s
   printed_so : (t : Transcript) (steps : List Step) → t.version ≡ log.version → t.entries ≡ map entry_of steps → text_of t ≡ flat_map (entry_text log.version) (map entry_of steps) ++ flat_map listing_text t.lists
   printed_so t steps version entries = λ i. flat_map (entry_text (version i)) (entries i) ++ flat_map listing_text t.lists
 
-  tells : (t : Transcript) (steps : List Step) (trees : List History) → text ≡ text_of t → IsRunBy log rows t steps trees → TellsSteps log text steps t.lists
-  tells t steps trees printed run = record { done = run.asked; small = small t steps trees run; printed = printed ∙ printed_so t steps run.version run.told }
-
   pub no_steps : TellsNone log text → (t : Transcript) → text ≡ text_of t → IsRun log rows t → ⊥
-  no_steps none t printed is = none is.0 t.lists (tells t is.0 is.1 printed is.2)
+  no_steps none t printed is =
+      let run = is.2 in
+      none_told log text is.0 (flat_map listing_text t.lists) none run.asked (small t is.0 is.1 run) (printed ∙ printed_so t is.0 run.version run.told)
 
   module _ (told : List Told) (behind : List ℕ) (told_by : IsToldBy log text told behind) where
     told_run : (t : Transcript) (steps : List Step) (trees : List History) → text ≡ text_of t → IsRunBy log rows t steps trees → IsToldRun log rows told behind t steps trees
-    told_run t steps trees printed run = let only = told_by.only steps t.lists (tells t steps trees printed run) in record { run = run; are = only.0; lists = only.1 }
+    told_run t steps trees printed run =
+        let only = only_told log text steps (flat_map listing_text t.lists) told behind told_by run.asked (small t steps trees run) (printed ∙ printed_so t steps run.version run.told) in
+        record { run = run; are = only.0; lists = only.1 }
 
     pub no_run : NoneIsTold log rows told behind → (t : Transcript) → text ≡ text_of t → IsRun log rows t → ⊥
     no_run none t printed is = none t is.0 is.1 (told_run t is.0 is.1 printed is.2)
@@ -81,10 +83,10 @@ module _ (log : Log) (rows : ℕ) (text : List ℕ) (small : (t : Transcript) (s
       pub is_least : AreLeastPoints log rows text numbers
       is_least = record {
         transcript = told_so;
-        printed = told_by.printed steps are ∙ ap (λ (l : List ℕ). flat_map (entry_text log.version) (map entry_of steps) ++ l)
+        printed = printed_told log text behind told steps told_by are ∙ ap (λ (l : List ℕ). flat_map (entry_text log.version) (map entry_of steps) ++ l)
             (to.listed ∙ (append-nil (flat_map listing_text (listings_by (trees_of log.lines) gone)) ∙ ap (flat_map listing_text) (sym (listings_are rows (trees_of log.lines) gone))));
-        told = record { steps = steps; trees = trees; run = is_run log rows told trees numbers found (told_by.done steps are); list = sym (all_points log.version trees told told numbers (each_right log rows told trees numbers found)) };
+        told = record { steps = steps; trees = trees; run = is_run log rows told trees numbers found (told_by.done (spelling_of log.version) steps are); list = sym (all_points log.version trees told told numbers (each_right log rows told trees numbers found)) };
         least = λ t others printed list.
             (let run = told_run t list.steps list.trees printed list.run in
-            subst (AreUpTo numbers) (sym list.list) (least_of_all log rows told trees numbers found readable (told_by.done steps are) t list.steps list.trees list.run run.are));
+            subst (AreUpTo numbers) (sym list.list) (least_of_all log rows told trees numbers found readable (told_by.done (spelling_of log.version) steps are) t list.steps list.trees list.run run.are));
       }

@@ -1,0 +1,48 @@
+-- What a text tells of a log, as the log's version writes it.
+use Rattle.std.proofs.Common.{◌≡◌, ℕ, List, [], ◌∷◌, ◌++◌, length, map, refl, sym, ap, ◌∙◌}
+use Rattle.std.specs.Prelude.{All}
+use Rattle.std.specs.List.{flat_map}
+use Rattle.std.specs.Fmt.{decimal}
+use Rattle.std.proofs.lemmas.List.Elements.{All-weaker}
+use Rattle.mt_log.specs.declared.lines.Log.{Log}
+use Rattle.mt_log.specs.declared.transcripts.Entry.{Entry}
+use Rattle.mt_log.specs.declared.transcripts.Said.{Said}
+use Rattle.mt_log.specs.declared.transcripts.Said.TheVariants as said
+use Rattle.mt_log.specs.Run.{Outcome, Called, Looked, Counted, Step, AreDone, entry_of, steps_of}
+use Rattle.mt_log.specs.Text.{entry_text, said_text}
+use Rattle.mt_told.proofs.Outcomes.{number_in_line, reply_in_line}
+use Rattle.mt_told.specs.declared.told.Told.{Told}
+use Rattle.mt_told.specs.Telling.{AreTold, Fits, IsSmall, IsToldBy, TellsNone, TellsSteps, spelled, spelled_line, spelling_of}
+
+said_so : (version : ℕ) (s : Said) → spelled (spelling_of version) s ≡ said_text version s
+said_so version (said.Wrote number reply) = refl
+said_so version (said.Got lo hi answer) = refl
+said_so version (said.Lawful count) = refl
+said_so version (said.Copied count) = refl
+
+written_so : (version : ℕ) (entries : List Entry) → flat_map (spelled_line (spelling_of version)) entries ≡ flat_map (entry_text version) entries
+written_so version [] = refl
+written_so version (e ∷ entries) = λ i. (decimal e.line ++ (32 ∷ (said_so version e.said i ++ 10 ∷ []))) ++ written_so version entries i
+
+fits_so : (version : ℕ) (o : Outcome) → IsSmall o → Fits (spelling_of version) o
+fits_so version (Called number call reply) small = (small, reply_in_line version reply)
+fits_so version (Looked lo hi k query value) small = small
+fits_so version (Counted s ranges) small = number_in_line (length ranges)
+
+module _ (log : Log) (text : List ℕ) (steps : List Step) (rest : List ℕ) where
+  tells_so : AreDone (steps_of log.lines) steps → All (λ (s : Step). IsSmall s.outcome) steps → text ≡ flat_map (entry_text log.version) (map entry_of steps) ++ rest → TellsSteps (spelling_of log.version) log text steps rest
+  tells_so done small printed = record {
+    done = done;
+    fit = All-weaker (λ (s : Step). IsSmall s.outcome) (λ (s : Step). Fits (spelling_of log.version) s.outcome) (λ s h. fits_so log.version s.outcome h) steps small;
+    printed = printed ∙ ap (λ (t : List ℕ). t ++ rest) (sym (written_so log.version (map entry_of steps)));
+  }
+
+  pub none_told : TellsNone log text → AreDone (steps_of log.lines) steps → All (λ (s : Step). IsSmall s.outcome) steps → text ≡ flat_map (entry_text log.version) (map entry_of steps) ++ rest → ⊥
+  none_told none done small printed = none (spelling_of log.version) steps rest (tells_so done small printed)
+
+  module _ (told : List Told) (behind : List ℕ) (by : IsToldBy log text told behind) where
+    pub only_told : AreDone (steps_of log.lines) steps → All (λ (s : Step). IsSmall s.outcome) steps → text ≡ flat_map (entry_text log.version) (map entry_of steps) ++ rest → AreTold log.version told steps × (behind ≡ rest)
+    only_told done small printed = by.only (spelling_of log.version) steps rest (tells_so done small printed)
+
+pub printed_told : (log : Log) (text behind : List ℕ) (told : List Told) (steps : List Step) → IsToldBy log text told behind → AreTold log.version told steps → text ≡ flat_map (entry_text log.version) (map entry_of steps) ++ behind
+printed_told log text behind told steps by are = by.printed (spelling_of log.version) steps are ∙ ap (λ (t : List ℕ). t ++ behind) (written_so log.version (map entry_of steps))
