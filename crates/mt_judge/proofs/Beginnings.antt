@@ -1,16 +1,19 @@
 -- The log of the first lines of another can be read, and nothing is told of no lines.
-use Rattle.std.proofs.Common.{◌≡◌, ℕ, zero, suc, ◌+◌, ◌≤◌, ◌<◌, Bool, List, [], ◌∷◌, ◌++◌, length, length-append, take, ap, subst, sym, arith}
+use Rattle.std.proofs.Common.{◌≡◌, ℕ, zero, suc, ◌+◌, ◌≤◌, ◌<◌, Bool, List, [], ◌∷◌, ◌++◌, length, length-append, take, subst, sym, refl, inl, inr, arith}
 use Rattle.std.specs.Option.{option_to_list}
+use Rattle.std.proofs.lemmas.Bool.{cases_lt}
 use Rattle.std.proofs.lemmas.List.{take_all}
+use Rattle.std.proofs.lemmas.List.Elements.{All-nil}
 use Rattle.std.specs.List.{All}
 use Rattle.mt_log.specs.declared.lines.Line.{Line}
 use Rattle.mt_log.specs.declared.lines.Log.{Log}
 use Rattle.mt_log.specs.Phases.{AreInPlaceFrom, phase_after, stepped_after}
+use Rattle.mt_log.specs.Run.{Step}
 use Rattle.mt_log.specs.Trees.{AreNamedFrom, Declared, IsReadable, RiseFrom, count_after, declared_by, most_trees, trees_from, trees_of}
 use Rattle.mt_told.specs.declared.told.Told.{Told}
-use Rattle.mt_told.specs.Telling.{IsToldBy, TellsNone}
+use Rattle.mt_told.specs.Telling.{Fits, IsToldBy, TellsNone, spelling_of}
 use Rattle.mt_told.proofs.LineByLine.{lines_begin, told_by}
-use Rattle.mt_judge.specs.Judged.{first_lines}
+use Rattle.mt_judge.specs.Judged.{StopsAt, first_lines}
 
 named_first : (k count : ℕ) (lines : List Line) → AreNamedFrom count lines → AreNamedFrom count (take k lines)
 named_first zero count lines named = tt
@@ -47,12 +50,37 @@ readable_first k lines h =
       rising = rising_first k 2 lines h.rising;
     }
 
-pub nothing_told : (log : Log) (text : List ℕ) → IsToldBy (first_lines 0 log) text [] text
+nothing_told : (log : Log) (text : List ℕ) → IsToldBy (first_lines 0 log) text [] text
 nothing_told log text = told_by (first_lines 0 log) text text [] 0 0 0 (lines_begin [] text) (omega arith)
 
-pub all_untold : (log : Log) (text : List ℕ) (n : ℕ) → n ≡ length log.lines → TellsNone log text → TellsNone (first_lines n log) text
+all_untold : (log : Log) (text : List ℕ) (n : ℕ) → n ≡ length log.lines → TellsNone log text → TellsNone (first_lines n log) text
 all_untold log text n all none =
     subst (λ (lines : List Line). TellsNone (record { version = log.version; lines = lines }) text) (sym (take_all n log.lines (omega (arith, all)))) none
+
+-- something is told of no lines, so that a log of which nothing is told has some
+some_line : (log : Log) (text : List ℕ) (n : ℕ) → n ≡ length log.lines → TellsNone log text → 0 < n
+some_line log text n all none = elim (cases_lt 0 n) [
+  | inl some ↦ some
+  | inr over ↦
+      (let empty : n ≡ 0 = omega (arith, over) in
+      let first : TellsNone (first_lines 0 log) text = subst (λ (k : ℕ). TellsNone (first_lines k log) text) empty (all_untold log text n all none) in
+      absurd (first (spelling_of 1) [] text (record { done = refl; fit = All-nil (λ (s : Step). Fits (spelling_of 1) s.outcome); printed = refl })))
+]
+
+-- so many lines are told, and not so many
+pub record StopsWithin (log : Log) (text : List ℕ) (count above : ℕ) (told : List Told) (rest : List ℕ) : Type 0 where
+  pub first : IsToldBy (first_lines count log) text told rest
+  pub up : count < above
+  pub within : above ≤ length log.lines
+  pub none : TellsNone (first_lines above log) text
+
+pub stops_within : (log : Log) (text : List ℕ) (n : ℕ) → n ≡ length log.lines → TellsNone log text → StopsWithin log text 0 n [] text
+stops_within log text n all none = record { first = nothing_told log text; up = some_line log text n all none; within = omega (arith, all); none = all_untold log text n all none }
+
+pub stops_at : (log : Log) (text rest : List ℕ) (told : List Told) (count above : ℕ) → StopsWithin log text count above told rest → above ≤ count + 1 → StopsAt log text count told rest
+stops_at log text rest told count above h near =
+    let next : above ≡ count + 1 = omega (arith, h.up, near) in
+    record { first = h.first; within = omega (arith, h.up, h.within); none = subst (λ (k : ℕ). TellsNone (first_lines k log) text) next h.none }
 
 -- the trees that are told of are those that a log may have
 pub few_trees : (log : Log) (text rest : List ℕ) (told : List Told) → IsReadable log.lines → IsToldBy log text told rest → All (λ t. t.tree < most_trees) told

@@ -1,2 +1,4 @@
 pub mod Beginnings
 pub mod Firsts
+pub mod Judgments
+pub mod Pairs

@@ -1,6 +1,6 @@
 -- What a judgment says of a text.
 -- Source: this project's own.
-use Rattle.std.specs.Prelude.{◌≡◌, ◌⊎◌, ℕ, ◌+◌, ◌≤◌, nat_lt, Bool, false, List, ◌++◌, Ok, codes, length, take}
+use Rattle.std.specs.Prelude.{◌≡◌, ◌⊎◌, ℕ, ◌+◌, ◌<◌, nat_lt, Bool, true, false, List, ◌++◌, Some, None, Ok, codes, length, take}
 use Rattle.std.specs.List.{filter}
 use Rattle.mt_log.specs.declared.lines.Log.{Log}
 use Rattle.mt_log.specs.Reading.{log_of}
@@ -11,7 +11,8 @@ use Rattle.mt_told.specs.Telling.{IsToldBy, TellsNone}
 use Rattle.mt_verify.specs.declared.verdicts.Verdict.TheVariants.{Yes, No}
 use Rattle.mt_verify.specs.Filled.{is_got, is_wrote}
 use Rattle.mt_verify.specs.Points.{IsVerdict}
-use Rattle.mt_judge.specs.declared.causes.Fault.{Fault}
+use Rattle.mt_judge.specs.Faults.{KeepsOrder, is_of_form}
+use Rattle.mt_judge.specs.Orders.{IsInOrder}
 use Rattle.mt_judge.specs.declared.judging.Found.{Found}
 use Rattle.mt_judge.specs.declared.judging.Found.TheVariants.{Verified, Refused}
 use Rattle.mt_judge.specs.declared.judging.Judgment.{Judgment}
@@ -38,12 +39,11 @@ tally_of told = record { calls = how_many is_wrote told; reads = how_many is_got
 abbrev pub first_lines : ℕ → Log → Log
 first_lines count log = record { version = log.version; lines = take count log.lines }
 
--- the text tells so of so many lines of the log, and of one more it tells nothing
+-- the text tells so of so many lines of the log, and of one more it tells nothing, whatever it goes on with
 pub record StopsAt (log : Log) (text : List ℕ) (count : ℕ) (told : List Told) (rest : List ℕ) : Type 0 where
   pub first : IsToldBy (first_lines count log) text told rest
-  pub next : ℕ
-  pub near : next ≤ count + 1
-  pub none : TellsNone (first_lines next log) text
+  pub within : count < length log.lines
+  pub none : TellsNone (first_lines (count + 1) log) text
 
 -- ---- a judgment
 
@@ -52,14 +52,25 @@ abbrev pub IsFound : Log → ℕ → List ℕ → Found → Type 0
 IsFound log rows text Verified = (points : List ℕ) × IsVerdict log rows text (Yes points)
 IsFound log rows text (Refused fault) = IsVerdict log rows text No
 
--- the tally is that of what the text tells of the log; of one that stops to tell, of what it tells before
-abbrev pub IsTallied : Log → List ℕ → Tally → Type 0
-IsTallied log text tally = (told : List Told) × (rest : List ℕ) × (tally ≡ tally_of told)
-    × (IsToldBy log text told rest ⊎ ((count : ℕ) × StopsAt log text count told rest))
+-- Of a text that tells of all lines of the log: all lines are in order, or of order it is told what is wrong.
+abbrev pub KeepsOrderIn : List Told → Found → Type 0
+KeepsOrderIn told Verified = Unit {0}
+KeepsOrderIn told (Refused fault) = IsInOrder told ⊎ KeepsOrder told fault
+
+-- Of one that stops to tell: of its form, and behind what is told.
+abbrev pub TellsForm : List Told → Found → Type 0
+TellsForm told Verified = Unit {0}
+TellsForm told (Refused None) = ⊥
+TellsForm told (Refused (Some fault)) = (length told < fault.line) × (is_of_form fault.cause ≡ true)
+
+-- The tally is that of what the text tells of the log; of one that stops to tell, of what it tells before.
+abbrev pub IsTallied : Log → List ℕ → Judgment → Type 0
+IsTallied log text j = (told : List Told) × (rest : List ℕ) × (j.tally ≡ tally_of told)
+    × ((IsToldBy log text told rest × KeepsOrderIn told j.found) ⊎ ((count : ℕ) × StopsAt log text count told rest × TellsForm told j.found))
 
 pub record IsJudged (log : Log) (rows : ℕ) (text : List ℕ) (j : Judgment) : Type 0 where
   pub found : IsFound log rows text j.found
-  pub tally : IsTallied log text j.tally
+  pub tally : IsTallied log text j
 
 -- the bytes are a log, a line, and a text of which this is found
 abbrev pub IsJudgedIn : ℕ → List ℕ → Judgment → Type 0

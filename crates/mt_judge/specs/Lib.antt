@@ -1,3 +1,6 @@
+pub mod Answers
+pub mod Faults
 pub mod Judged
 pub mod Orders
 pub mod Printed
+pub mod Words

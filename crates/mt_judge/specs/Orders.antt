@@ -7,7 +7,8 @@ use Rattle.mt_verify.specs.PrintedOrder.{InPrintedOrder}
 abbrev pub IsInOrder : List Told → Type 0
 IsInOrder told = AllPairs InPrintedOrder told
 
--- the lines up to the one at this place do not keep to one another
-pub record IsOutOfOrder (told : List Told) (place : ℕ) : Type 0 where
+-- the lines before this place keep to one another, and with the one at it they do not
+pub record IsFirstOut (told : List Told) (place : ℕ) : Type 0 where
   pub within : place < length told
+  pub before : IsInOrder (take place told)
   pub out : IsInOrder (take (place + 1) told) → ⊥

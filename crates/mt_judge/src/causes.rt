@@ -1,5 +1,8 @@
 //! Why a transcript is of no run, and at which of its lines.
 
+ghost use Rattle.std.specs.Prelude.{◌≡◌, ◌+◌, ◌-◌, ◌^◌, min};
+ghost use Rattle.mt_judge.specs.Faults.{earlier};
+
 use std::fmt;
 
 /// What is wrong with a line of a transcript.
@@ -61,7 +64,10 @@ pub struct Fault {
 
 impl Fault {
     /// At the line that stands at this place, from 0.
-    pub fn at(place: usize, cause: Cause) -> Fault {
+    pub fn at(place: usize, cause: Cause) -> Fault
+        ensures line { result.line ≡ min (place + 1) (2 ^ 64 - 1) }
+        ensures cause { result.cause ≡ cause }
+    {
         Fault {
             line: (place as u64).saturating_add(1),
             cause,
@@ -69,7 +75,9 @@ impl Fault {
     }
 
     /// The one at the lower line, of which one may be none.
-    pub fn or_earlier(self, other: Option<Fault>) -> Fault {
+    pub fn or_earlier(self, other: Option<Fault>) -> Fault
+        ensures { result ≡ earlier self other }
+    {
         match other {
             Some(other) if other.line < self.line => other,
             _ => self,

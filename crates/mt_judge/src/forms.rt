@@ -1,8 +1,9 @@
 //! Where a text stops to tell of the lines of a log.
 
-ghost use Rattle.std.specs.Prelude.{◌≡◌, ◌≤◌, ◌+◌, IfOk, IfNone, IfSome};
+ghost use Rattle.std.specs.Prelude.{◌≡◌, ◌<◌, ◌^◌, ◌+◌, IfOk, IfNone, IfSome, length, true};
 ghost use Rattle.mt_log.specs.Trees.{IsReadable};
 ghost use Rattle.mt_told.specs.Telling.{IsToldBy, TellsNone};
+ghost use Rattle.mt_judge.specs.Faults.{is_of_form};
 ghost use Rattle.mt_judge.specs.Judged.{StopsAt, first_lines};
 
 use crate::causes::{Cause, Fault};
@@ -48,7 +49,7 @@ pub struct Part<'t> {
 }
 
 /// How far a text tells of a log, where it does not tell of it all.
-#[tactic(auto, using(crate::proofs::Beginnings::nothing_told, crate::proofs::Beginnings::all_untold))]
+#[tactic(auto, using(crate::proofs::Beginnings::stops_within, crate::proofs::Beginnings::stops_at))]
 pub fn part_told<'t>(alloc: Global, log: &Log, text: &'t [u8]) -> Result<Part<'t>, NoMemory>
     requires log { IsReadable log.now.lines }
     requires none { TellsNone log.now text.now }
@@ -97,14 +98,17 @@ fn is_answered(text: &[u8], line: u64) -> bool {
 }
 
 /// What is wrong with the lines at this place, which do not tell of this line of the log: of a scan the first finds may.
-fn fault_of(place: usize, line: &Line, text: &[u8]) -> Fault {
-    let (mut place, mut rest) = (place, text);
+fn fault_of(place: usize, line: &Line, text: &[u8]) -> Fault
+    ensures line { place + 1 < 2 ^ 64 → place < result.line }
+    ensures cause { is_of_form result.cause ≡ true }
+{
+    let (mut at, mut rest) = (place, text);
     if let Item::Scan { count, .. } = line.item {
-        for _ in 0..count {
+        'finds: for _ in 0..count {
             let Some(behind) = behind_find(rest, line.number) else {
                 break;
             };
-            place = place.saturating_add(1);
+            at = at.saturating_add(1);
             rest = behind;
         }
     }
@@ -113,12 +117,16 @@ fn fault_of(place: usize, line: &Line, text: &[u8]) -> Fault {
     } else {
         Cause::NoEntry
     };
-    Fault::at(place, cause)
+    Fault::at(at, cause)
 }
 
 /// What is wrong where a text stops to tell of a log.
-pub fn form_fault(log: &Log, part: &Part) -> Option<Fault> {
-    let line = log.lines.as_slice().get(part.count)?;
+pub fn form_fault(log: &Log, part: &Part) -> Fault
+    requires { part.now.count < length log.now.lines }
+    ensures line { length part.now.account.told.items < result.line }
+    ensures cause { is_of_form result.cause ≡ true }
+{
+    let line = &log.lines.as_slice()[part.count];
     let account = &part.account;
-    Some(fault_of(account.told.len(), line, account.rest))
+    fault_of(account.told.len(), line, account.rest)
 }

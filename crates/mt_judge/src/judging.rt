@@ -1,16 +1,17 @@
 //! What is found of a transcript.
 
-ghost use Rattle.std.specs.Prelude.{◌≡◌, ◌≤◌, ℕ, List, IfOk};
+ghost use Rattle.std.specs.Prelude.{◌≡◌, ◌≤◌, ◌⊎◌, IfOk};
 ghost use Rattle.mt_base.specs.Width.{most_rows};
-ghost use Rattle.mt_log.specs.declared.lines.Log.{Log};
 ghost use Rattle.mt_log.specs.LogText.{IsLog};
 ghost use Rattle.mt_log.specs.Trees.{IsReadable};
-ghost use Rattle.mt_told.specs.Telling.{IsToldBy};
+ghost use Rattle.mt_told.specs.Telling.{IsToldBy, TellsNone};
 ghost use Rattle.mt_verify.specs.Points.{IsVerdict};
-ghost use Rattle.mt_judge.specs.Judged.{IsFound, IsTallied};
+ghost use Rattle.mt_judge.specs.Faults.{KeepsOrder};
+ghost use Rattle.mt_judge.specs.Judged.{IsFound, IsJudged, KeepsOrderIn, StopsAt, TellsForm};
+ghost use Rattle.mt_judge.specs.Orders.{IsInOrder};
 
 use crate::causes::Fault;
-use crate::forms::{form_fault, part_told};
+use crate::forms::{Part, form_fault, part_told};
 use crate::histories::history_fault;
 use crate::orders::window_fault;
 use crate::tallies::{Tally, tally_of};
@@ -80,17 +81,7 @@ impl fmt::Display for Judgment {
     }
 }
 
-/// What a verdict finds, where this is what is wrong.
-fn found_by(verdict: &Verdict, fault: Option<Fault>) -> Found
-    ensures { (log : Log) (rows : ℕ) (text : List ℕ) → IsVerdict log rows text verdict.now → IsFound log rows text result }
-{
-    match verdict {
-        Verdict::Yes { .. } => Found::Verified,
-        Verdict::No => Found::Refused(fault),
-    }
-}
-
-/// Where a transcript is wrong that tells of all lines of a log, if it is.
+/// Where a transcript is wrong that tells of all lines of a log, if that is found.
 #[tactic(auto, using(crate::proofs::Beginnings::few_trees))]
 fn fault_in(
     alloc: Global,
@@ -101,6 +92,7 @@ fn fault_in(
 ) -> Result<Option<Fault>, NoMemory>
     requires readable { IsReadable log.now.lines }
     requires told { IsToldBy log.now text.now account.now.told.items account.now.rest.now }
+    ensures { IfOk result (λ fault. IsInOrder account.now.told.items ⊎ KeepsOrder account.now.told.items fault) }
 {
     match window_fault(alloc, &account.told)? {
         Some(fault) => Ok(Some(fault)),
@@ -108,22 +100,80 @@ fn fault_in(
     }
 }
 
-/// The fault that a verdict is for, of a transcript that tells of all lines of a log.
-fn fault_behind(
+/// What is found of a text that tells of all lines of a log, where the verdict is this.
+fn found_in(
     alloc: Global,
     log: &Log,
     rows: u64,
     text: &[u8],
     account: &Account,
     verdict: &Verdict,
-) -> Result<Option<Fault>, NoMemory>
+) -> Result<Found, NoMemory>
     requires readable { IsReadable log.now.lines }
     requires told { IsToldBy log.now text.now account.now.told.items account.now.rest.now }
+    requires verdict { IsVerdict log.now rows text.now verdict.now }
+    ensures found { IfOk result (IsFound log.now rows text.now) }
+    ensures order { IfOk result (KeepsOrderIn account.now.told.items) }
 {
     match verdict {
-        Verdict::Yes { .. } => Ok(None),
-        Verdict::No => fault_in(alloc, log, rows, text, account),
+        Verdict::Yes { .. } => Ok(Found::Verified),
+        Verdict::No => Ok(Found::Refused(fault_in(alloc, log, rows, text, account)?)),
     }
+}
+
+/// What is found of a text that stops to tell of a log, where the verdict is this.
+fn found_behind(log: &Log, rows: u64, text: &[u8], part: &Part, verdict: &Verdict) -> Found
+    requires stops { StopsAt log.now text.now part.now.count part.now.account.told.items part.now.account.rest.now }
+    requires verdict { IsVerdict log.now rows text.now verdict.now }
+    ensures found { IsFound log.now rows text.now result }
+    ensures form { TellsForm part.now.account.told.items result }
+{
+    match verdict {
+        Verdict::Yes { .. } => Found::Verified,
+        Verdict::No => Found::Refused(Some(form_fault(log, part))),
+    }
+}
+
+/// The judgment on a text that tells of all lines of a log.
+#[tactic(auto, using(crate::proofs::Judgments::judged_whole))]
+fn judged_whole(
+    alloc: Global,
+    log: &Log,
+    rows: u64,
+    text: &[u8],
+    account: &Account,
+    verdict: &Verdict,
+) -> Result<Judgment, NoMemory>
+    requires readable { IsReadable log.now.lines }
+    requires told { IsToldBy log.now text.now account.now.told.items account.now.rest.now }
+    requires verdict { IsVerdict log.now rows text.now verdict.now }
+    ensures { IfOk result (IsJudged log.now rows text.now) }
+{
+    Ok(Judgment {
+        found: found_in(alloc, log, rows, text, account, verdict)?,
+        tally: tally_of(&account.told),
+    })
+}
+
+/// The judgment on one that stops to tell of it.
+#[tactic(auto, using(crate::proofs::Judgments::judged_part))]
+fn judged_part(
+    alloc: Global,
+    log: &Log,
+    rows: u64,
+    text: &[u8],
+    verdict: &Verdict,
+) -> Result<Judgment, NoMemory>
+    requires readable { IsReadable log.now.lines }
+    requires none { TellsNone log.now text.now }
+    requires verdict { IsVerdict log.now rows text.now verdict.now }
+    ensures { IfOk result (IsJudged log.now rows text.now) }
+{
+    let part = part_told(alloc, log, text)?;
+    Ok(Judgment {
+        found: found_behind(log, rows, text, &part, verdict),
+        tally: tally_of(&part.account.told),
+    })
 }
 
 /// What is found of a text: whether it is that of a transcript of a run of a log over trees of so many rows, where it is wrong if
@@ -137,24 +187,11 @@ pub fn judge(alloc: Global, log: &Log, rows: u64, text: &[u8]) -> Result<Judgmen
     requires readable { IsReadable log.now.lines }
     requires few_rows { 4 ≤ rows }
     requires rows { rows ≤ most_rows }
-    ensures found { IfOk result (λ j. IsFound log.now rows text.now j.found) }
-    ensures tally { IfOk result (λ j. IsTallied log.now text.now j.tally) }
+    ensures { IfOk result (IsJudged log.now rows text.now) }
 {
     let verdict = verify(alloc, log, rows, text)?;
     match read_told(alloc, log, text)? {
-        Some(account) => {
-            let fault = fault_behind(alloc, log, rows, text, &account, &verdict)?;
-            Ok(Judgment {
-                found: found_by(&verdict, fault),
-                tally: tally_of(&account.told),
-            })
-        }
-        None => {
-            let part = part_told(alloc, log, text)?;
-            Ok(Judgment {
-                found: found_by(&verdict, form_fault(log, &part)),
-                tally: tally_of(&part.account.told),
-            })
-        }
+        Some(account) => judged_whole(alloc, log, rows, text, &account, &verdict),
+        None => judged_part(alloc, log, rows, text, &verdict),
     }
 }

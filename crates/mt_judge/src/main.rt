@@ -2,10 +2,7 @@
 //! call. It reads what `mtreplay verify` reads.
 #![tactic(auto)]
 
-ghost use Rattle.std.specs.Prelude.{◌≤◌, ◌≡◌, ℕ, List, IfOk};
-ghost use Rattle.mt_base.specs.Width.{most_rows};
-ghost use Rattle.mt_judge.specs.Judged.{IsJudgedIn};
-
+mod answers;
 mod causes;
 mod cuts;
 mod failures;
@@ -19,11 +16,9 @@ mod orders;
 mod tallies;
 mod trees;
 
-use crate::cuts::{cut, rows_of};
+use crate::answers::answer_to;
+use crate::cuts::rows_of;
 use crate::failures::Failure;
-use crate::judging::{Judgment, judge};
-use mt_log::read_log;
-use std::alloc::Global;
 use std::io::{ErrorKind, Read, Write};
 use std::process::ExitCode;
 use std::rt::Env;
@@ -59,25 +54,14 @@ fn read_input(rt: &(impl Input + AllocGlobal)) -> Result<Vec<u8>, Failure> {
     }
 }
 
-/// What is found of these bytes: of the text behind the log, on trees of so many rows.
-fn judged(alloc: Global, rows: u64, bytes: &[u8]) -> Result<Judgment, Failure>
-    requires few_rows { 4 ≤ rows }
-    requires rows { rows ≤ most_rows }
-    ensures { IfOk result (IsJudgedIn rows bytes.now) }
-{
-    let (front, text) = cut(bytes).ok_or(Failure::NoTranscript)?;
-    let log = read_log(alloc, front)?;
-    Ok(judge(alloc, &log, rows, text)?)
-}
-
 /// Does what the words say, and tells the status to end with.
 fn run(rt: &(impl Env + Input + Print + AllocGlobal)) -> Result<u8, Failure> {
     let words = words_of(rt)?;
-    let rows = rows_of(&words).ok_or(Failure::Usage)?;
-    let judgment = judged(rt.alloc(), rows, &read_input(rt)?)?;
-    let text = format!(in rt.alloc(); "{judgment}")?;
-    match io::writer(rt).write_all(text.as_str().as_bytes()) {
-        Ok(()) => Ok(judgment.status()),
+    // Words that ask for nothing are told before any input is read.
+    rows_of(&words).ok_or(Failure::Usage)?;
+    let told = answer_to(rt.alloc(), &words, &read_input(rt)?)?;
+    match io::writer(rt).write_all(told.text.as_str().as_bytes()) {
+        Ok(()) => Ok(told.status),
         Err(_) => Err(Failure::WriteFault),
     }
 }
@@ -91,6 +75,3 @@ fn main(rt: HostRuntime) -> io::Result<ExitCode> {
         }
     }
 }
-
-#[cfg(test)]
-mod tests;

@@ -1,8 +1,9 @@
 //! Whether the call numbers and the windows of a transcript are in order, which needs no map.
 
-ghost use Rattle.std.specs.Prelude.{◌≤◌, ◌<◌, All, AllPairs, IfNone, IfSome};
+ghost use Rattle.std.specs.Prelude.{◌≡◌, ◌≤◌, ◌<◌, ◌+◌, ◌^◌, All, AllPairs, IfNone, IfOk, IfSome, false};
 ghost use Rattle.mt_log.specs.Trees.{most_lanes, most_trees};
-ghost use Rattle.mt_judge.specs.Orders.{IsInOrder, IsOutOfOrder};
+ghost use Rattle.mt_judge.specs.Faults.{KeepsOrder, is_of_order, order_cause};
+ghost use Rattle.mt_judge.specs.Orders.{IsFirstOut, IsInOrder};
 
 use crate::causes::{Cause, Fault};
 use crate::trees::{MOST_TREES, is_call_on};
@@ -12,12 +13,13 @@ use mt_verify::windows_keep;
 use std::alloc::Global;
 
 /// The place of the first line that does not keep to those that it knows of, if one does not.
-#[tactic(auto, using(crate::proofs::Firsts::order_of_none))]
+#[tactic(auto, using(crate::proofs::Firsts::order_of_none, crate::proofs::Firsts::first_found))]
 fn first_out(told: &[Told]) -> Option<usize>
     requires trees { All (λ t. t.tree < most_trees) told.now }
     requires lanes { All (λ t. t.lane < most_lanes) told.now }
     requires phases { AllPairs (λ s t. s.phase ≤ t.phase) told.now }
-    ensures some { IfSome result (IsOutOfOrder told.now) }
+    ensures some { IfSome result (IsFirstOut told.now) }
+    ensures fits { IfSome result (λ place. place + 1 < 2 ^ 64) }
     ensures none { IfNone result (IsInOrder told.now) }
 {
     if windows_keep(told) {
@@ -41,7 +43,9 @@ fn first_out(told: &[Told]) -> Option<usize>
 }
 
 /// What is wrong at a line that does not keep to those before it: a call's number, or where a read's window begins.
-fn cause_of(told: &Told) -> Cause {
+fn cause_of(told: &Told) -> Cause
+    ensures { result ≡ order_cause told.now.what }
+{
     match told.what {
         What::Wrote { .. } => Cause::Order,
         What::Got { .. } | What::Copied { .. } | What::Lawful { .. } => Cause::Below,
@@ -49,14 +53,15 @@ fn cause_of(told: &Told) -> Cause {
 }
 
 /// The first line that does not keep to those that it knows of.
+#[tactic(auto, using(crate::proofs::Firsts::first_told))]
 fn order_fault(told: &[Told]) -> Option<Fault>
     requires trees { All (λ t. t.tree < most_trees) told.now }
     requires lanes { All (λ t. t.lane < most_lanes) told.now }
     requires phases { AllPairs (λ s t. s.phase ≤ t.phase) told.now }
+    ensures { KeepsOrder told.now result }
 {
     let place = first_out(told)?;
-    let one = told.get(place)?;
-    Some(Fault::at(place, cause_of(one)))
+    Some(Fault::at(place, cause_of(&told[place])))
 }
 
 /// How many calls are told on a tree.
@@ -79,7 +84,9 @@ fn takes(taken: &mut [bool], number: u64) -> bool {
 }
 
 /// The first call on a tree whose number is 0, is above the number of calls, or was taken before.
-fn number_fault(alloc: Global, told: &[Told], tree: u32) -> Result<Option<Fault>, NoMemory> {
+fn number_fault(alloc: Global, told: &[Told], tree: u32) -> Result<Option<Fault>, NoMemory>
+    ensures { IfOk result (λ found. IfSome found (λ fault. is_of_order fault.cause ≡ false)) }
+{
     let mut taken = vec![in alloc; false; count_calls(told, tree)]?;
     for (place, one) in told.iter().enumerate() {
         if one.tree == tree {
@@ -94,7 +101,9 @@ fn number_fault(alloc: Global, told: &[Told], tree: u32) -> Result<Option<Fault>
 }
 
 /// The first read on a tree whose window ends behind the last call.
-fn end_fault(told: &[Told], tree: u32) -> Option<Fault> {
+fn end_fault(told: &[Told], tree: u32) -> Option<Fault>
+    ensures { IfSome result (λ fault. is_of_order fault.cause ≡ false) }
+{
     let count = count_calls(told, tree) as u64;
     for (place, one) in told.iter().enumerate() {
         if one.tree == tree {
@@ -108,19 +117,30 @@ fn end_fault(told: &[Told], tree: u32) -> Option<Fault> {
     None
 }
 
+/// The earlier of two faults, the first of which may be of order and the other is not.
+#[tactic(auto, using(crate::proofs::Firsts::told_earlier))]
+fn or_earlier(told: &[Told], found: Option<Fault>, other: Option<Fault>) -> Option<Fault>
+    requires order { KeepsOrder told.now found }
+    requires other { IfSome other (λ fault. is_of_order fault.cause ≡ false) }
+    ensures { KeepsOrder told.now result }
+{
+    match other {
+        Some(fault) => Some(fault.or_earlier(found)),
+        None => found,
+    }
+}
+
 /// The first line whose number or window cannot be.
 pub fn window_fault(alloc: Global, told: &[Told]) -> Result<Option<Fault>, NoMemory>
     requires trees { All (λ t. t.tree < most_trees) told.now }
     requires lanes { All (λ t. t.lane < most_lanes) told.now }
     requires phases { AllPairs (λ s t. s.phase ≤ t.phase) told.now }
+    ensures { IfOk result (KeepsOrder told.now) }
 {
     let mut found = order_fault(told);
     for tree in 0..MOST_TREES {
-        for fault in [number_fault(alloc, told, tree)?, end_fault(told, tree)] {
-            if let Some(fault) = fault {
-                found = Some(fault.or_earlier(found));
-            }
-        }
+        found = or_earlier(told, found, number_fault(alloc, told, tree)?);
+        found = or_earlier(told, found, end_fault(told, tree));
     }
     Ok(found)
 }

@@ -1,0 +1,5 @@
+use Rattle.std.proofs.Common.{◌≤◌}
+use Rattle.mt_judge.proofs.forms.fault_of.Given as goal
+
+abbrev pub invariant-finds : goal.invariant-finds
+invariant-finds l = l.fn.place ≤ l.at

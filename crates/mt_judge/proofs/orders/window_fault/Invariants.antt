@@ -1,0 +1,5 @@
+use Rattle.mt_judge.specs.Faults.{KeepsOrder}
+use Rattle.mt_judge.proofs.orders.window_fault.Given as goal
+
+abbrev pub invariant-loop-tree : goal.invariant-loop-tree
+invariant-loop-tree l = KeepsOrder l.fn.told l.found
