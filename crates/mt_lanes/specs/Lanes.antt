@@ -1,6 +1,6 @@
 -- What running its steps makes of a lane: its desk answers each once, in order.
 -- Source: this project's own.
-use Rattle.std.specs.Prelude.{◌≡◌, ◌<◌, ◌≤◌, ◌^◌, ◌*◌, ℕ, zero, suc, List, length, slice_index_or}
+use Rattle.std.specs.Prelude.{All, ◌≡◌, ◌<◌, ◌≤◌, ◌^◌, ◌*◌, ℕ, zero, suc, List, length, slice_index_or}
 use Rattle.mt_lanes.specs.declared.lanes.Lane.{Lane}
 
 -- From the desk a the steps 0 to n - 1, each once and in order, lead to the desk b.
@@ -24,3 +24,7 @@ pub record Ran {D : Type 0} (did : D → ℕ → D → Type 0) (passed : ℕ →
 -- at each place R leads from what stood there to what stands there now
 abbrev pub EachPlace : {X : Type 0} → (R : X → X → Type 0) → List X → List X → Type 0
 EachPlace {X} R xs ys = (place : ℕ) (none : X) → place < length xs → R (slice_index_or xs place none) (slice_index_or ys place none)
+
+-- none of these lanes has a step
+abbrev pub AreIdle : {D : Type 0} → List (Lane D) → Type 0
+AreIdle lanes = All (λ l. l.steps ≡ 0) lanes
