@@ -1,13 +1,13 @@
 -- The words behind the head, and the rows made of them.
-use Rattle.std.proofs.Common.{◌≡◌, ℕ, zero, suc, ◌+◌, ◌*◌, ◌/◌, ◌%◌, ◌≤◌, List, ◌++◌, Ok, Err, length, drop, replicate, refl, sym, ap, ◌∙◌, subst, arith, length-append}
+use Rattle.std.proofs.Common.{◌≡◌, ℕ, zero, suc, ◌+◌, ◌*◌, ◌/◌, ◌%◌, ◌≤◌, List, ◌++◌, Some, Ok, Err, length, drop, replicate, refl, sym, ap, ◌∙◌, subst, arith, length-append}
 use Rattle.std.proofs.lemmas.List.{drop_at, length-replicate}
 use Rattle.mt_base.specs.declared.kinds.Kind.{Kind}
 use Rattle.mt_base.specs.Width.{columns, first_row, kind_width, most_rows}
-use Rattle.mt_rows.specs.Sheet.{Rooted, Sheet}
+use Rattle.mt_rows.specs.Sheet.{OnlyReads, Rooted, Sheet}
 use Rattle.mt_rows.specs.OfWords.{IsMadeOf, tree_made}
 use Rattle.mt_rows.specs.Publish.{tree_as}
 use Rattle.mt_check.specs.Check.{checked}
-use Rattle.mt_image.specs.Reading.{behind_head, image_in, lawful, number_at, numbers_from, tree_in, words_in}
+use Rattle.mt_image.specs.Reading.{HoldImage, behind_head, image_in, lawful, number_at, numbers_from, tree_in, words_in}
 use Rattle.mt_image.proofs.Sizes.{divided, nothing_left}
 use Rattle.mt_image.specs.declared.errors.ImageError.{ImageError}
 
@@ -42,6 +42,16 @@ tree_is bytes kind root words s is root_is made =
     let rows = divided (kind_width kind) (number_at bytes 16) (length (drop (columns (kind_width kind) * first_row) words)) (many bytes kind words is) in
     let these = behind bytes kind words is in
     first ∙ (λ i. record { rows = rows i; table = record { width = kind_width kind; words = replicate (columns (kind_width kind) * first_row) 0 ++ these i }; root = root_is i })
+
+pub still_made : (bytes : List ℕ) (kind : Kind) (root : ℕ) (words : List ℕ) (s t : Sheet) → words ≡ words_in bytes kind → root ≡ number_at bytes 24
+    → IsMadeOf (kind_width kind) root (drop (columns (kind_width kind) * first_row) words) s → OnlyReads s t → HoldImage bytes kind t
+still_made bytes kind root words s t is root_is made reads =
+    let none : s.reads ≡ Some 0 = ap (λ (x : Sheet). x.reads) made.rest in
+    let same : record t { reads = Some 0 } ≡ s = ap (λ (x : Sheet). record x { reads = Some 0 }) reads ∙ ap (λ r. record s { reads = r }) (sym none) in
+    let these = behind bytes kind words is in
+    subst (λ (x : Sheet). IsMadeOf (kind_width kind) (number_at bytes 24) (numbers_from bytes 32 (number_at bytes 16 * columns (kind_width kind))) x) (sym same)
+    (subst (λ (r : ℕ). IsMadeOf (kind_width kind) r (numbers_from bytes 32 (number_at bytes 16 * columns (kind_width kind))) s) root_is
+    (subst (λ (w : List ℕ). IsMadeOf (kind_width kind) root w s) these made))
 
 pub image_is : (bytes : List ℕ) (kind : Kind) (t v : Rooted) → image_in bytes ≡ behind_head bytes kind → t ≡ tree_in bytes kind → v ≡ t → lawful (record { kind = kind; tree = t }) (checked (tree_as kind t)) ≡ Ok (record { kind = kind; tree = t }) → image_in bytes ≡ Ok (record { kind = kind; tree = v })
 image_is bytes kind t v whole is same fine =

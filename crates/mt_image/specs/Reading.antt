@@ -10,7 +10,8 @@ use Rattle.mt_base.specs.Width.{columns, first_row, kind_width, most_rows}
 use Rattle.mt_check.specs.declared.faults.Fault.{Fault}
 use Rattle.mt_check.specs.declared.faults.Form.{Form}
 use Rattle.mt_check.specs.Check.{checked}
-use Rattle.mt_rows.specs.Sheet.{Rooted}
+use Rattle.mt_rows.specs.OfWords.{IsMadeOf}
+use Rattle.mt_rows.specs.Sheet.{Rooted, Sheet}
 use Rattle.mt_rows.specs.Publish.{tree_as}
 use Rattle.mt_image.specs.Bytes.{kind_code, tree_of}
 use Rattle.mt_image.specs.Orders.{stray_in}
@@ -51,6 +52,10 @@ words_in bytes kind = replicate (columns (kind_width kind) * first_row) 0 ++ num
 
 abbrev pub tree_in : List ℕ → Kind → Rooted
 tree_in bytes kind = tree_of kind (number_at bytes 16) (number_at bytes 24) (words_in bytes kind)
+
+-- Rows in memory that were made of the words in an image of this kind, and only loaded since: no call was begun.
+abbrev pub HoldImage : List ℕ → Kind → Sheet → Type 0
+HoldImage bytes kind s = IsMadeOf (kind_width kind) (number_at bytes 24) (numbers_from bytes head_length (number_at bytes 16 * columns (kind_width kind))) (record s { reads = Some 0 })
 
 -- no row may be stray
 abbrev pub placed : Image → Option ℕ → Result Image ImageError

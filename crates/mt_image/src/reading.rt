@@ -10,7 +10,7 @@ ghost use Rattle.mt_rows.specs.Publish.{tree_as, IsLawfulOf};
 ghost use Rattle.mt_rows.specs.Sheet.{OnlyReads};
 ghost use Rattle.mt_image.specs.Orders.{stray_from};
 ghost use Rattle.mt_image.specs.Reading as defined;
-ghost use Rattle.mt_image.specs.Reading.{behind_head, image_in, lawful, length_of, numbers_from, words_in};
+ghost use Rattle.mt_image.specs.Reading.{HoldImage, behind_head, image_in, lawful, length_of, numbers_from, words_in};
 
 use crate::bytes::{HEAD, TEXT, code_of, number_at, read_numbers};
 use crate::errors::ImageError;
@@ -183,7 +183,7 @@ fn check_rows(
     }
 }
 
-/// The kind and the rows of an image.
+/// The kind and the rows of an image. No call of the rows was begun, and those that the walk comes to are live.
 ///
 /// # Errors
 ///
@@ -192,6 +192,7 @@ fn check_rows(
 pub fn read_image(alloc: Global, bytes: &[u8]) -> Result<(Kind, PlainRows), ImageError>
     ensures ok { IfOk result (λ r. image_in bytes.now ≡ Ok (record { kind = r.0; tree = (sheet_in r.1).tree })) }
     ensures laws { IfOk result (λ r. IsLawfulOf (sheet_in r.1).tree r.0) }
+    ensures made { IfOk result (λ r. HoldImage bytes.now r.0 (sheet_in r.1)) }
     ensures err { IfErr result (λ e. e ≢ ImageError.NoMemory → image_in bytes.now ≡ Err e) }
 {
     let kind = read_head(bytes)?;

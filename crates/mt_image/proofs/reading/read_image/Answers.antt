@@ -2,7 +2,7 @@ use Rattle.std.proofs.Common.{ap, sym, ◌∙◌}
 use Rattle.std.proofs.lemmas.Result.{err_from_is_err_and}
 use Rattle.mt_rows.specs.Memory.{sheet_in}
 use Rattle.mt_rows.specs.Sheet.{Rooted, Sheet}
-use Rattle.mt_image.proofs.Assembled.{image_is, no_image_is, tree_is, words_few, words_whole}
+use Rattle.mt_image.proofs.Assembled.{image_is, no_image_is, still_made, tree_is, words_few, words_whole}
 use Rattle.mt_image.proofs.reading.read_image.Goals as goal
 
 pub returns-in_err-words-clause-err : goal.returns-in_err-words-clause-err
@@ -36,3 +36,6 @@ pub returns-clause-ok : goal.returns-clause-ok
 returns-clause-ok c =
     let is = tree_is c.args.bytes.now c.in_ok-kind.kind c.number_at.result c.deref.result.now (sheet_in c.in_ok-rows.rows) (c.deref.ensures.value ∙ c.in_ok-words.ensures) c.number_at.ensures c.in_ok-rows.ensures in
     image_is c.args.bytes.now c.in_ok-kind.kind (sheet_in c.in_ok-rows.rows).tree (sheet_in c.check_rows.new.rows).tree c.in_ok-kind.ensures.ok is (ap (λ (s : Sheet). s.tree) c.check_rows.ensures.rest) c.in_ok-check_rows.ensures.ok
+
+pub returns-clause-made : goal.returns-clause-made
+returns-clause-made c = still_made c.args.bytes.now c.in_ok-kind.kind c.number_at.result c.deref.result.now (sheet_in c.in_ok-rows.rows) (sheet_in c.check_rows.new.rows) (c.deref.ensures.value ∙ c.in_ok-words.ensures) c.number_at.ensures c.in_ok-rows.ensures c.check_rows.ensures.rest
