@@ -1,0 +1,118 @@
+-- What a command says of the bytes that it read: it takes them, or refuses them for a cause; and which status they call for.
+use Rattle.std.specs.Prelude.{◌≡◌, ◌≢◌, ◌⊎◌, ◌+◌, ◌<◌, ◌≤◌, ℕ, List, [], Option, Some, None, Ok, Err, length, IfSome, IsOk}
+use Rattle.mt_bulk.specs.Builds.{refusal}
+use Rattle.mt_bulk.specs.declared.errors.BulkError.TheVariants as errors
+use Rattle.mt_image.specs.Reading.{image_in}
+use Rattle.mt_listing.specs.Listings.{IsBadAt}
+use Rattle.mt_log.specs.Fault.{fault_at}
+use Rattle.mt_log.specs.Reading.{log_of}
+use Rattle.mt_log.specs.Run.{TellsRun}
+use Rattle.mt_log.specs.Trees.{trees_of}
+use Rattle.mt_log.specs.declared.lines.Log.{Log}
+use Rattle.mt_log.specs.declared.transcripts.Listing.{Listing}
+use Rattle.mt_words.specs.declared.commands.Command.{Command}
+use Rattle.mt_words.specs.declared.commands.Command.TheVariants.{Replay, Make, Trial, Verify, Image, Show, Bulk, Ids}
+use Rattle.mt_program.specs.Command.{limit_of}
+use Rattle.mt_program.specs.Ending.{Tells, failure_text, status_of}
+use Rattle.mt_program.specs.Headline.{IsListed}
+use Rattle.mt_program.specs.Parts.{AreParts, line_behind, parts_of}
+use Rattle.mt_program.specs.declared.failures.Failure.{Failure}
+use Rattle.mt_program.specs.declared.failures.Failure.TheVariants as failures
+use Rattle.mt_program.specs.declared.failures.Unbuilt.{Unbuilt}
+use Rattle.mt_program.specs.declared.failures.Unbuilt.TheVariants as unbuilt
+
+-- the bytes are no log, for this cause
+abbrev pub IsBadLog : List ℕ → Failure → Type 0
+IsBadLog bytes (failures.BadLog line why) = log_of bytes ≡ Err (fault_at line why)
+IsBadLog bytes failure = ⊥
+
+-- the bytes are no log and text of a transcript of a run of it, over trees of so many rows, for this cause
+abbrev pub IsUnverified : ℕ → List ℕ → Failure → Type 0
+IsUnverified rows bytes (failures.NoTranscript line) = (parts_of bytes ≡ None) × (line ≡ line_behind bytes)
+IsUnverified rows bytes (failures.BadLog line why) = (front text : List ℕ) × (parts_of bytes ≡ Some (front, text)) × IsBadLog front (failures.BadLog line why)
+IsUnverified rows bytes failures.Refused = (log : Log) × (text : List ℕ) × AreParts bytes log text × ¬ TellsRun rows log text
+IsUnverified rows bytes failure = ⊥
+
+-- the bytes are no log that declares a tree, for this cause
+abbrev pub IsTreeless : List ℕ → Failure → Type 0
+IsTreeless bytes (failures.BadLog line why) = IsBadLog bytes (failures.BadLog line why)
+IsTreeless bytes (failures.NoTree line) = (log : Log) × (log_of bytes ≡ Ok log) × (trees_of log.lines ≡ []) × (line ≡ line_behind bytes)
+IsTreeless bytes failure = ⊥
+
+-- the bytes are no image, for this cause
+abbrev pub IsNoImage : List ℕ → Failure → Type 0
+IsNoImage bytes (failures.BadImage error) = image_in bytes ≡ Err error
+IsNoImage bytes failure = ⊥
+
+-- No tree is built of the bytes, for this reason, which is told at this line: they are no listing; the range at some place, counted
+-- from 0, which is none of the listing's kind or does not stand above the one before it, has the line two behind that place; or the
+-- tree has too many rows, which is told at the first line.
+abbrev pub IsUnbuiltAt : List ℕ → ℕ → Unbuilt → Type 0
+IsUnbuiltAt bytes line unbuilt.Listing = IsBadAt bytes line
+IsUnbuiltAt bytes line unbuilt.Order = (l : Listing) × (at : ℕ) × IsListed bytes l × (refusal l.kind l.ranges ≡ Some (errors.Order at)) × (line ≡ at + 2)
+IsUnbuiltAt bytes line unbuilt.Rows = (l : Listing) × (rows : ℕ) × IsListed bytes l × (refusal l.kind l.ranges ≡ Some (errors.TooMany rows)) × (line ≡ 1)
+
+abbrev pub IsUnbuilt : List ℕ → Failure → Type 0
+IsUnbuilt bytes (failures.NotBuilt line why) = IsUnbuiltAt bytes line why
+IsUnbuilt bytes failure = ⊥
+
+-- the bytes are what the command asks for: one that reads nothing takes any
+abbrev pub Takes : Command → List ℕ → Type 0
+Takes (Replay rows) bytes = IsOk (log_of bytes)
+Takes (Make number steps lanes) bytes = Unit {0}
+Takes (Trial number steps) bytes = Unit {0}
+Takes (Verify rows) bytes = (log : Log) × (text : List ℕ) × AreParts bytes log text × TellsRun rows log text
+Takes (Image rows) bytes = (log : Log) × (log_of bytes ≡ Ok log) × (trees_of log.lines ≢ [])
+Takes Show bytes = IsOk (image_in bytes)
+Takes (Bulk workers) bytes = (l : Listing) × IsListed bytes l × (refusal l.kind l.ranges ≡ None)
+Takes (Ids lo hi steps drops) bytes = Unit {0}
+
+-- the command refuses the bytes, for this cause
+abbrev pub Refuses : Command → List ℕ → Failure → Type 0
+Refuses (Replay rows) bytes failure = IsBadLog bytes failure
+Refuses (Make number steps lanes) bytes failure = ⊥
+Refuses (Trial number steps) bytes failure = ⊥
+Refuses (Verify rows) bytes failure = IsUnverified rows bytes failure
+Refuses (Image rows) bytes failure = IsTreeless bytes failure
+Refuses Show bytes failure = IsNoImage bytes failure
+Refuses (Bulk workers) bytes failure = IsUnbuilt bytes failure
+Refuses (Ids lo hi steps drops) bytes failure = ⊥
+
+-- the status of the command's verdict on its bytes
+abbrev pub IsJudged : Command → List ℕ → ℕ → Type 0
+IsJudged command bytes status = (Takes command bytes × (status ≡ 0)) ⊎ ((failure : Failure) × Refuses command bytes failure × (status ≡ status_of failure))
+
+-- the status that these bytes call for, where nothing fails
+abbrev pub IsDue : Command → List ℕ → ℕ → Type 0
+IsDue command bytes status = ((limit_of command < length bytes) × (status ≡ 6)) ⊎ ((length bytes ≤ limit_of command) × IsJudged command bytes status)
+
+-- ---- where the words are a command, or none, and the source's bytes may be known
+
+-- the words are a command, which takes the bytes that the source has
+abbrev pub IsTaken : Option Command → Option (List ℕ) → Type 0
+IsTaken None left = ⊥
+IsTaken (Some command) left = IfSome left (Takes command)
+
+-- they are one that refuses them, for this cause
+abbrev pub IsRefused : Option Command → Option (List ℕ) → Failure → Type 0
+IsRefused None left failure = ⊥
+IsRefused (Some command) left failure = IfSome left (λ bytes. Refuses command bytes failure)
+
+-- what is told is so: the bytes are refused as the command refuses them
+abbrev pub IsToldOf : Option Command → Option (List ℕ) → Failure → Type 0
+IsToldOf command left (failures.BadLog line why) = IsRefused command left (failures.BadLog line why)
+IsToldOf command left (failures.NoTranscript line) = IsRefused command left (failures.NoTranscript line)
+IsToldOf command left (failures.NoTree line) = IsRefused command left (failures.NoTree line)
+IsToldOf command left (failures.NotBuilt line why) = IsRefused command left (failures.NotBuilt line why)
+IsToldOf command left failures.Usage = Unit {0}
+IsToldOf command left failures.ReadFault = Unit {0}
+IsToldOf command left failures.WriteFault = Unit {0}
+IsToldOf command left failures.NoMemory = Unit {0}
+IsToldOf command left failures.TooLong = Unit {0}
+IsToldOf command left failures.Refused = IsRefused command left failures.Refused
+IsToldOf command left (failures.BadImage error) = IsRefused command left (failures.BadImage error)
+
+-- err got the text of the status
+abbrev pub TellsStatus : Option Command → Option (List ℕ) → ℕ → Option (List ℕ) → Option (List ℕ) → ℕ → ℕ → Type 0
+TellsStatus command left status before after faults_before faults_after =
+    (failure : Failure) × (status_of failure ≡ status) × IsToldOf command left failure × Tells before after faults_before faults_after (failure_text failure)

@@ -1,5 +1,0 @@
-use Rattle.mtreplay.proofs.CutLines.{IsSoFar}
-use Rattle.mtreplay.proofs.parts.cut.Given as goal
-
-abbrev pub invariant-loop-at : goal.invariant-loop-at
-invariant-loop-at l = IsSoFar l.bytes l.at l.begins

@@ -1,9 +1,0 @@
-use Rattle.std.proofs.Common.{◌∙◌, subst, sym}
-use Rattle.mt_cycles.specs.Turns.{IsIdsText}
-use Rattle.mtreplay.proofs.Endings.{making_ends}
-use Rattle.mtreplay.proofs.program.cycle.Goals as goal
-
-pub returns-clause-ends : goal.returns-clause-ends
-returns-clause-ends g c =
-    let is = subst (IsIdsText c.args.window.0 c.args.window.1 c.args.steps c.args.drops) (sym (c.as_bytes.ensures.value ∙ c.as_str.ensures.value)) c.in_ok-text.ensures in
-    making_ends (IsIdsText c.args.window.0 c.args.window.1 c.args.steps c.args.drops) c.print.result _ _ _ _ _ is c.print.ensures.ends

@@ -1,9 +1,0 @@
-use Rattle.std.proofs.Common.{◌∙◌, subst, sym}
-use Rattle.mt_texts.specs.Texts.{IsTrialText}
-use Rattle.mtreplay.proofs.Endings.{making_ends}
-use Rattle.mtreplay.proofs.program.trial.Goals as goal
-
-pub returns-clause-ends : goal.returns-clause-ends
-returns-clause-ends g c =
-    let is = subst (IsTrialText c.args.number c.args.steps) (sym (c.as_bytes.ensures.value ∙ c.as_str.ensures.value)) c.in_ok-text.ensures in
-    making_ends (IsTrialText c.args.number c.args.steps) c.print.result _ _ _ _ _ is c.print.ensures.ends
