@@ -3,7 +3,7 @@
  * Link crates/mt_c/out/libmt_c.a (made by `rt lib` in crates/mt_c) and the kit's c/liblibc_c.a (malloc, realloc, free), in this
  * order: gcc prog.c libmt_c.a liblibc_c.a. Nothing else is needed: no thread, no lock, no file.
  *
- * Every call answers a number of errno.h, and 0 where it was done. What it tells beside goes to its last pointers, which it always
+ * Every call answers a number of Linux's errno.h, and 0 where it was done. What it tells beside goes to its last pointers, which it always
  * writes: zeros where there is nothing to tell.
  *
  * What the contracts of crates/mt_c promise holds of each call that keeps these few things, which nothing checks:
@@ -18,6 +18,10 @@
  */
 #ifndef MAPLE_H
 #define MAPLE_H
+
+#if !defined(__linux__)
+#error "the calls answer Linux's error numbers"
+#endif
 
 #include <stddef.h>
 #include <stdint.h>

@@ -26,7 +26,7 @@
  * What is not promised: that a try ever gets the lock, and so how long a maple_shared_store waits; how often a next, prev or rfind is
  * given up before it is answered; that memory does not run out where a call takes some.
  *
- * Every call answers a number of errno.h, and 0 where it was done; EINVAL too where the user is closed, which stays closed. What it
+ * Every call answers a number of Linux's errno.h, and 0 where it was done; EINVAL too where the user is closed, which stays closed. What it
  * tells beside goes to its last pointers, which it always writes: zeros where there is nothing to tell.
  */
 #ifndef MAPLE_SHARED_H
