@@ -1,9 +1,12 @@
-//! Trials of bulk builds: by the caller alone and by workers, and two workers at once.
+//! Trials of bulk builds: what ranges are built to, and two workers at once. Any number of workers builds the words that `bulk` of
+//! mt_bulk defines.
 
+use crate::asserts::same;
 use mt_base::{Kind, Range};
 use mt_bulk::{BulkError, build, build_alone};
 use mt_io::{Gate, NoGate};
 use mt_rows::{PlainRows, Rows};
+use std::alloc::Global;
 use std::process::Abort;
 use std::sync::atomic::{AtomicU64, Ordering};
 use std::test::Fail;
@@ -31,7 +34,7 @@ type Answer = Result<(u64, u64), BulkError>;
 type Case = (Kind, &'static [Range], Answer);
 
 #[rattlefmt::skip]
-const CASES: [Case; 13] = [
+const CASES: &[Case] = &[
     (Kind::Range, &[], Ok((0, 0))),
     (Kind::Range, &[r!(10, 19, 5)], Ok((1, 4108))),
     (Kind::Range, &[r!(0, u64::MAX, 7)], Ok((1, 4108))),
@@ -53,51 +56,38 @@ fn answer(built: Result<PlainRows, BulkError>) -> Answer {
     Ok((rows.size(), rows.root()))
 }
 
-/// The words that were built, or none.
-fn words(built: Result<PlainRows, BulkError>) -> Option<Vec<u64>> {
-    match built {
-        Ok(rows) => Some(rows.into_words()),
-        Err(_) => None,
+/// Each case comes out as it should.
+fn expect_built(rt: &impl Abort, alloc: Global, cases: &[Case]) {
+    for (kind, ranges, want) in cases {
+        let got = answer(build_alone(alloc, *kind, ranges));
+        same(rt, got, *want, (*kind, *ranges));
     }
-}
-
-/// A case comes out as it should by the caller alone and by so many workers, with the same words.
-fn expect<R: Threads + Sync + AllocGlobal + Abort>(rt: &R, case: &Case, workers: u32) {
-    let (kind, ranges, want) = *case;
-    let workers = workers.clamp(1, 16);
-    let alone = answer(build_alone(rt.alloc(), kind, ranges));
-    assert_eq!(rt; alone, want);
-    let together = answer(build(rt, rt.alloc(), kind, ranges, workers, &NoGate));
-    assert_eq!(rt; together, want);
-    let alone = words(build_alone(rt.alloc(), kind, ranges));
-    let together = words(build(rt, rt.alloc(), kind, ranges, workers, &NoGate));
-    assert!(rt; alone == together);
 }
 
 #[test]
-fn every_number_of_workers_builds_the_same(rt: HostRuntime) {
-    for case in &CASES {
-        for workers in [1, 3, 16] {
-            expect(&rt, case, workers);
-        }
-    }
+fn trees_are_built(rt: HostRuntime) {
+    expect_built(&rt, rt.alloc(), CASES);
 }
 
 /// Why no tree is built, and how that is told.
-const TEXTS: [(BulkError, &str); 3] = [
+const TEXTS: &[(BulkError, &str)] = &[
     (BulkError::Order { at: 7 }, "range 7 is out of order"),
     (BulkError::TooMany { rows: 65_505 }, "too many rows: 65505"),
     (BulkError::NoMemory, "out of memory"),
 ];
 
-#[test]
-fn errors_are_told(rt: HostRuntime) -> Result<(), Fail> {
-    for (error, want) in TEXTS {
-        let mut text = String::new(rt.alloc());
-        text.write(error)?;
-        assert_eq!(rt; text.as_str(), want);
+fn expect_texts(rt: &impl Abort, alloc: Global, texts: &[(BulkError, &str)]) -> Result<(), Fail> {
+    for (error, want) in texts {
+        let mut text = String::new(alloc);
+        text.write(*error)?;
+        same(rt, text.as_str(), *want, "the text");
     }
     Ok(())
+}
+
+#[test]
+fn errors_are_told(rt: HostRuntime) -> Result<(), Fail> {
+    expect_texts(&rt, rt.alloc(), TEXTS)
 }
 
 /// Where two workers meet: each is held in its turn 1 until both have come to theirs.
@@ -129,7 +119,10 @@ fn workers_build_at_once(rt: HostRuntime) {
         missed: AtomicU64::new(0),
     };
     let built = build(&rt, rt.alloc(), Kind::Range, &EVERY_OTHER, 2, &gate);
-    assert_eq!(rt; answer(built), Ok((4, 4884)));
-    assert_eq!(rt; gate.come.load(Ordering::SeqCst), 2);
-    assert_eq!(rt; gate.missed.load(Ordering::SeqCst), 0);
+    same(&rt, answer(built), Ok((4, 4884)), "the tree");
+    let met = (
+        gate.come.load(Ordering::SeqCst),
+        gate.missed.load(Ordering::SeqCst),
+    );
+    same(&rt, met, (2, 0), "the workers");
 }

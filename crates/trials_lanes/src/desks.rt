@@ -3,6 +3,7 @@ ghost use Rattle.mt_desks.specs.Dealing.{lines_of_lane};
 ghost use Rattle.mt_desks.specs.Desks.{AreLines};
 ghost use Rattle.mt_desks.specs.Phases.{IsLaid};
 
+use crate::asserts::same;
 use crate::empty::Bare;
 use crate::tokens::{Token, tokens};
 use mt_base::{Call, Kind, NoMemory, Query};
@@ -58,11 +59,11 @@ fn expect_own(rt: &impl Abort, lane: u32, lines: &[Line], want: &[u64]) -> Resul
     let mut own = OwnLines::new(lane, lines);
     for line in want {
         let next = own.next().map(|line| line.number);
-        assert_eq!(rt; next, Some(*line), "lane {lane}");
+        same(rt, next, Some(*line), lane);
     }
-    assert!(rt; own.next().is_none(), "lane {lane}");
+    same(rt, own.next().is_none(), true, lane);
     let needs = needs_of(lane, lines)?;
-    assert_eq!(rt; needs.steps, want.len() as u64, "lane {lane}");
+    same(rt, needs.steps, want.len() as u64, lane);
     Ok(())
 }
 
@@ -97,7 +98,7 @@ fn a_log_has_as_many_lanes_as_do_lines(rt: HostRuntime) {
         lanes_in(&lines![3 lane 15, 4 clear]),
         lanes_in(&lines![3 lane 9, 4 join, 5 load]),
     ];
-    assert_eq!(rt; lanes, [1, 1, 6, 16, 1]);
+    same(&rt, lanes, [1, 1, 6, 16, 1], "the lanes");
 }
 
 #[test]
@@ -127,7 +128,7 @@ fn answers_are_put_back_in_the_order_of_the_log(rt: HostRuntime) -> Result<(), F
         (11, 7),
         (13, 8),
     ];
-    assert_eq!(rt; told.as_slice(), want.as_slice());
+    same(&rt, told.as_slice(), want.as_slice(), "the entries");
     Ok(())
 }
 
@@ -188,10 +189,11 @@ fn each_lane_does_its_own_lines(rt: HostRuntime) -> Result<(), Fail> {
     let lines = lines![3 load, 4 lane 1, 5 scan, 6 lane 0, 7 clear, 8 lane 1, 9 load, 10 load];
     let mut rows = [tokens(rt.alloc(), 3)?];
     let [a, b] = lines_of_two(rt.alloc(), &rt, &[FULL], &lines, &mut rows)?;
-    assert_eq!(rt; a.as_slice(), [2, 3].as_slice());
-    assert_eq!(rt; b.as_slice(), [2, 5, 9, 10].as_slice());
+    same(&rt, a.as_slice(), [2, 3].as_slice(), "the first lane");
+    let want = [2, 5, 9, 10];
+    same(&rt, b.as_slice(), want.as_slice(), "the second lane");
     let [row] = rows;
     let numbers: Vec<u32> = row.iter().map(|pass| pass.number()).collect(rt.alloc())?;
-    assert_eq!(rt; numbers.as_slice(), [0, 1, 2].as_slice());
+    same(&rt, numbers.as_slice(), [0, 1, 2].as_slice(), "the passes");
     Ok(())
 }

@@ -1,6 +1,7 @@
 ghost use Rattle.std.specs.Prelude.{IfOk};
 ghost use Rattle.mt_lanes.specs.Lanes.{CanRun};
 
+use crate::asserts::same;
 use mt_io::{Gate, NoGate};
 use mt_lanes::{Desk, Lane, run_lanes};
 use std::alloc::{AllocError, Global};
@@ -110,8 +111,11 @@ fn lanes_run_at_once(rt: HostRuntime) -> Result<(), Fail> {
         missed: AtomicU64::new(0),
     };
     run_lanes(&rt, &mut lanes, &gate);
-    assert_eq!(rt; gate.come.load(Ordering::SeqCst), 3);
-    assert_eq!(rt; gate.missed.load(Ordering::SeqCst), 0);
+    let met = (
+        gate.come.load(Ordering::SeqCst),
+        gate.missed.load(Ordering::SeqCst),
+    );
+    same(&rt, met, (3, 0), "the lanes");
     Ok(())
 }
 
@@ -185,8 +189,9 @@ fn each_step_stands_between_two_turns(rt: HostRuntime) {
     }];
     run_lanes(&rt, &mut lanes, &gate);
     let [lane] = lanes;
-    assert_eq!(rt; lane.desk.seen, [(1, 7, 0), (3, 7, 2), (5, 7, 4)]);
-    assert_eq!(rt; gate.seen(), (6, 7, 5));
+    let told = (lane.desk.seen, gate.seen());
+    let want = ([(1, 7, 0), (3, 7, 2), (5, 7, 4)], (6, 7, 5));
+    same(&rt, told, want, "the turns");
 }
 
 #[test]
@@ -194,5 +199,5 @@ fn where_there_are_no_lanes_no_turn_is_taken(rt: HostRuntime) {
     let gate = Turns::new();
     let mut none: [Lane<Journal>; 0] = [];
     run_lanes(&rt, &mut none, &gate);
-    assert_eq!(rt; gate.seen(), (0, 0, 0));
+    same(&rt, gate.seen(), (0, 0, 0), "the turns");
 }

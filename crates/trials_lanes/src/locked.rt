@@ -8,6 +8,7 @@ ghost use Rattle.mt_desks.specs.Phases.{CanPass, IsLaid};
 ghost use Rattle.mt_log.specs.declared.lines.Item.TheVariants as items;
 ghost use Rattle.mt_tree.specs.Trees.{IsPassOf, pass_in};
 
+use crate::asserts::same;
 use mt_base::{Kind, NoMemory, Query};
 use mt_desks::{LaneDesk, needs_of, run_phase};
 use mt_io::NoGate;
@@ -239,7 +240,7 @@ fn a_desk_reads_while_another_thread_holds_the_lock(rt: HostRuntime) -> Result<(
     let pass = last_pass(&tree, &mut passes)?;
     fill(&rt, &tree, &mut own);
     let (entries, in_time) = answers_beside_the_lock(alloc, &rt, &tree, own, pass);
-    assert!(rt; in_time, "a read waits for the lock");
+    same(&rt, in_time, true, "no read waits for the lock");
     let entries = entries?;
     let want = [
         [3, 40, 40, 4101],
@@ -251,9 +252,8 @@ fn a_desk_reads_while_another_thread_holds_the_lock(rt: HostRuntime) -> Result<(
         [7, 40, 40, 28],
         [8, 40, 40, 30],
     ];
-    assert_eq!(rt; entries.len(), want.len());
-    for (entry, want) in entries.iter().zip(want) {
-        assert_eq!(rt; told(entry), Some(want));
-    }
+    let told: Vec<Option<[u64; 4]>> = entries.iter().map(told).collect(alloc)?;
+    let want = want.map(Some);
+    same(&rt, told.as_slice(), want.as_slice(), "the answers");
     Ok(())
 }

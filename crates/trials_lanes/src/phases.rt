@@ -1,6 +1,7 @@
 ghost use Rattle.std.specs.Prelude.{◌≡◌, [], All, map, IfOk};
 ghost use Rattle.mt_play.specs.Trees.{AreAll, IsNewTree};
 
+use crate::asserts::same;
 use crate::empty::Bare;
 use crate::tokens::{Token, tokens};
 use mt_base::{Kind, NoMemory, Range};
@@ -104,16 +105,19 @@ check c
     let log = read_log(rt.alloc(), text).expect(&rt, "a log");
     let run = play::<_, Token, Bare, _>(&rt, rt.alloc(), &log, 4, &NoGate)?;
     let entries: Vec<(u64, bool)> = run.entries.as_slice().iter().map(told).collect(rt.alloc())?;
-    assert_eq!(rt;
-        entries.as_slice(),
-        [(4, false), (5, true), (6, false)].as_slice()
-    );
+    let want = [(4, false), (5, true), (6, false)];
+    same(&rt, entries.as_slice(), want.as_slice(), "the entries");
     let listed: Vec<&str> = run
         .lists
         .as_slice()
         .iter()
         .map(|list| list.name.as_str())
         .collect(rt.alloc())?;
-    assert_eq!(rt; listed.as_slice(), ["a", "b", "c"].as_slice());
+    same(
+        &rt,
+        listed.as_slice(),
+        ["a", "b", "c"].as_slice(),
+        "the trees",
+    );
     Ok(())
 }

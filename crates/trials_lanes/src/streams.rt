@@ -2,9 +2,9 @@
 
 ghost use Rattle.std.specs.Prelude.{◌≡◌};
 
+use crate::asserts::same;
 use mt_io::{Failed, MemSink, MemSource, Sink, Source, StdSink, StdSource};
 use std::alloc::{AllocError, Global};
-use std::fmt::Debug;
 use std::io::{self, ErrorKind, Read};
 use std::process::Abort;
 use std::test::Fail;
@@ -26,11 +26,6 @@ fn note(seen: &mut String, outcome: Result<&[u8], Failed>) -> Result<(), AllocEr
     }
 }
 
-/// What came out is what is wanted. It asserts for all tests, so that the code of an assertion is proved once.
-fn same<T: Copy + PartialEq + Debug>(rt: &impl Abort, got: T, want: T) {
-    assert_eq!(rt; got, want);
-}
-
 /// So many reads with this room from a new source give what is wanted.
 fn expect_reads<S: Source>(
     rt: &impl Abort,
@@ -49,7 +44,7 @@ fn expect_reads<S: Source>(
         let outcome = source.read(&mut buf);
         note(&mut seen, outcome.map(|count| &buf[..count]))?;
     }
-    same(rt, seen.as_str(), want);
+    same(rt, seen.as_str(), want, want);
     Ok(())
 }
 
@@ -75,14 +70,14 @@ fn expect_writes<K: Sink>(
             Err(failed) => note(&mut seen, Err(failed))?,
         }
     }
-    same(rt, seen.as_str(), want);
+    same(rt, seen.as_str(), want, want);
     Ok(())
 }
 
 /// The bytes at a call, the calls that fail, the room of a read, how many reads, and what they give.
 type Reads = (usize, &'static [u64], usize, usize, &'static str);
 
-const READS: [Reads; 8] = [
+const READS: &[Reads] = &[
     (1, &[], 4, 11, " a b c d e f g h i j ."),
     (2, &[0], 4, 7, " ! ab cd ef gh ij ."),
     (2, &[2, 3], 4, 8, " ab cd ! ! ef gh ij ."),
@@ -93,19 +88,19 @@ const READS: [Reads; 8] = [
     (64, &[], 0, 2, " . ."),
 ];
 
-fn expect_source(rt: &impl Abort, alloc: Global, reads: &Reads) -> Result<(), AllocError> {
-    let (piece, fails, room, calls, want) = *reads;
-    assert!(rt; piece > 0);
-    let bytes = LETTERS.to_vec(alloc)?;
-    let mut source = MemSource::new(bytes, piece, fails.to_vec(alloc)?);
-    expect_reads(rt, alloc, &mut source, room, calls, want)
+fn expect_sources(rt: &impl Abort, alloc: Global, cases: &[Reads]) -> Result<(), AllocError> {
+    for &(piece, fails, room, calls, want) in cases {
+        assert!(rt; piece > 0);
+        let bytes = LETTERS.to_vec(alloc)?;
+        let mut source = MemSource::new(bytes, piece, fails.to_vec(alloc)?);
+        expect_reads(rt, alloc, &mut source, room, calls, want)?;
+    }
+    Ok(())
 }
 
 #[test]
 fn a_source_in_memory_gives_pieces(rt: HostRuntime) -> Result<(), Fail> {
-    for reads in &READS {
-        expect_source(&rt, rt.alloc(), reads)?;
-    }
+    expect_sources(&rt, rt.alloc(), READS)?;
     Ok(())
 }
 
@@ -119,7 +114,7 @@ type Writes = (
     &'static [u8],
 );
 
-const WRITES: [Writes; 9] = [
+const WRITES: &[Writes] = &[
     (16, 1, &[], 11, " a b c d e f g h i j .", b"abcdefghij"),
     (16, 2, &[0], 7, " ! ab cd ef gh ij .", b"abcdefghij"),
     (16, 2, &[2, 3], 8, " ab cd ! ! ef gh ij .", b"abcdefghij"),
@@ -131,20 +126,19 @@ const WRITES: [Writes; 9] = [
     (0, 1, &[], 1, " !", b""),
 ];
 
-fn expect_sink(rt: &impl Abort, alloc: Global, writes: &Writes) -> Result<(), AllocError> {
-    let (room, piece, fails, calls, want, written) = *writes;
-    assert!(rt; piece > 0);
-    let mut sink = MemSink::new(alloc, room, piece, fails.to_vec(alloc)?)?;
-    expect_writes(rt, alloc, &mut sink, calls, want)?;
-    same(rt, sink.bytes(), written);
+fn expect_sinks(rt: &impl Abort, alloc: Global, cases: &[Writes]) -> Result<(), AllocError> {
+    for &(room, piece, fails, calls, want, written) in cases {
+        assert!(rt; piece > 0);
+        let mut sink = MemSink::new(alloc, room, piece, fails.to_vec(alloc)?)?;
+        expect_writes(rt, alloc, &mut sink, calls, want)?;
+        same(rt, sink.bytes(), written, want);
+    }
     Ok(())
 }
 
 #[test]
 fn a_sink_in_memory_takes_pieces(rt: HostRuntime) -> Result<(), Fail> {
-    for writes in &WRITES {
-        expect_sink(&rt, rt.alloc(), writes)?;
-    }
+    expect_sinks(&rt, rt.alloc(), WRITES)?;
     Ok(())
 }
 
@@ -182,7 +176,7 @@ fn a_standard_sink_writes_to_its_writer(rt: HostRuntime) -> Result<(), Fail> {
     let mut bytes = Vec::new(rt.alloc());
     let mut whole = StdSink::new(&mut bytes);
     expect_writes(&rt, rt.alloc(), &mut whole, 2, " abcdefghij .")?;
-    same(&rt, bytes.as_slice(), LETTERS);
+    same(&rt, bytes.as_slice(), LETTERS, "the bytes");
     Ok(())
 }
 
@@ -191,6 +185,6 @@ fn a_standard_sink_fails_where_its_writer_is_full(rt: HostRuntime) -> Result<(),
     let mut room = [b'?'; 7];
     let mut narrow = StdSink::new(room.as_mut_slice());
     expect_writes(&rt, rt.alloc(), &mut narrow, 3, " abcdefg ! !")?;
-    same(&rt, room.as_slice(), &LETTERS[..7]);
+    same(&rt, room.as_slice(), &LETTERS[..7], "the bytes");
     Ok(())
 }
