@@ -1,5 +1,6 @@
 //! Texts that are listings, and others.
 
+use crate::asserts::same;
 use mt_listing::{ListingError, read_listing};
 use mt_log::Listing;
 use std::alloc::{AllocError, Global};
@@ -109,7 +110,7 @@ fn listings_are_read_and_other_texts_refused(rt: HostRuntime) -> Result<(), Fail
         let (case, told) = row.split_once(" -> ").unwrap_or((row, "an arrow"));
         let want = if told == "listing" { case } else { told };
         let text = text_of(rt.alloc(), case)?;
-        assert_eq!(rt; outcome(rt.alloc(), &text)?.as_str(), want, "{row}");
+        same(&rt, outcome(rt.alloc(), &text)?.as_str(), want, row);
     }
     Ok(())
 }

@@ -1,7 +1,9 @@
+use crate::asserts::same;
 use mt_base::{Kind, Range, Reply, Shortage};
 use mt_log::{LogError, Word, read_log};
 use mt_told::{Account, is_reply, listing_in_front, read_told};
 use std::alloc::{AllocError, Global};
+use std::process::Abort;
 use std::str;
 use std::test::Fail;
 
@@ -71,16 +73,21 @@ fn account(alloc: Global, log: &str, text: &str) -> Result<String, LogError> {
     Ok(words)
 }
 
-#[test]
-fn a_text_tells_of_the_steps_of_a_log(rt: HostRuntime) -> Result<(), Fail> {
-    for (log, text, want) in ACCOUNTS {
-        assert_eq!(rt;
-            account(rt.alloc(), log, text)?.as_str(),
-            *want,
-            "of {text}"
-        );
+/// Each of these texts tells what it should of its log.
+fn expect_accounts(
+    rt: &impl Abort,
+    alloc: Global,
+    cases: &[(&str, &str, &str)],
+) -> Result<(), Fail> {
+    for (log, text, want) in cases {
+        same(rt, account(alloc, log, text)?.as_str(), *want, *text);
     }
     Ok(())
+}
+
+#[test]
+fn a_text_tells_of_the_steps_of_a_log(rt: HostRuntime) -> Result<(), Fail> {
+    expect_accounts(&rt, rt.alloc(), ACCOUNTS)
 }
 
 const NINE: Range = Range {
@@ -121,16 +128,17 @@ const REPLIES: &[(u32, Reply, &str, bool)] = &[
     (2, SHORT, "nomem 7 6 4 2", false),
 ];
 
-#[test]
-fn replies_are_compared_with_what_is_printed(rt: HostRuntime) -> Result<(), Fail> {
-    for (version, reply, text, want) in REPLIES {
-        assert_eq!(rt;
-            is_reply(*version, reply, text.as_bytes()),
-            *want,
-            "of {text}"
-        );
+/// Each of these texts is the reply, or is not.
+fn expect_replies(rt: &impl Abort, cases: &[(u32, Reply, &str, bool)]) {
+    for (version, reply, text, want) in cases {
+        let is_it = is_reply(*version, reply, text.as_bytes());
+        same(rt, is_it, *want, *text);
     }
-    Ok(())
+}
+
+#[test]
+fn replies_are_compared_with_what_is_printed(rt: HostRuntime) {
+    expect_replies(&rt, REPLIES);
 }
 
 /// A text, and what stands behind the listing in front of it, where it is one of the tree `ab` that has one range.
@@ -148,14 +156,20 @@ const LISTINGS: &[(&str, Option<&str>)] = &[
     ("tree abc alloc32 1\n0 9 5\n", None),
 ];
 
+/// Each of these texts has the rest that it should behind the listing of a tree of this name.
+fn expect_rests(rt: &impl Abort, name: &Word, cases: &[(&str, Option<&str>)]) {
+    for (text, want) in cases {
+        let rest = listing_in_front(text.as_bytes(), name, Kind::Alloc32, &[NINE]);
+        let told = rest.map(|rest| str::from_utf8(rest).unwrap_or("no text"));
+        same(rt, told, *want, *text);
+    }
+}
+
 #[test]
 fn a_listing_is_compared_with_what_is_printed(rt: HostRuntime) -> Result<(), Fail> {
     let Some(name) = Word::new(b"ab") else {
         return Err("`ab` is a name".into());
     };
-    for (text, want) in LISTINGS {
-        let rest = listing_in_front(text.as_bytes(), &name, Kind::Alloc32, &[NINE]);
-        assert_eq!(rt; rest, want.map(|rest| rest.as_bytes()), "of {text}");
-    }
+    expect_rests(&rt, &name, LISTINGS);
     Ok(())
 }

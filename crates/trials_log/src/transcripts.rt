@@ -1,9 +1,11 @@
+use crate::asserts::same;
 use mt_base::{Holder, Kind, Range, Reply, Shortage};
 use mt_log::{
     Answer, Entries, Entry, Listing, Listings, RangeList, Said, Transcript, Word, render,
 };
 use mt_made::summarise;
 use std::alloc::{AllocError, Global};
+use std::process::Abort;
 use std::test::Fail;
 
 macro_rules! range {
@@ -49,7 +51,7 @@ const FEW: Shortage = Shortage {
 };
 
 /// One entry of each kind at the least.
-const ENTRIES: [Entry; 16] = [
+const ENTRIES: &[Entry] = &[
     entry!(3 wrote 1, Reply::Ok),
     entry!(4 wrote 2, Reply::Was(range!(3, 12, 7))),
     entry!(5 wrote 3, Reply::None),
@@ -69,7 +71,7 @@ const ENTRIES: [Entry; 16] = [
 ];
 
 /// The versions of logs, and what the entries and the trees are printed as in each.
-const PRINTED: [(u32, &str); 2] = [
+const PRINTED: &[(u32, &str)] = &[
     (
         1,
         "3 1 ok
@@ -134,7 +136,7 @@ const FIRST: Range = range!(0, 275, 951_723);
 const SECOND: Range = range!(276, 636, 951_723);
 
 /// What three steps were told, the trees at the end, and the line that sums it up.
-const SUMMARIES: [(&[Entry], Lists, &str); 4] = [
+const SUMMARIES: &[(&[Entry], Lists, &str)] = &[
     (
         &[
             entry!(4 wrote 1, Reply::None),
@@ -203,28 +205,51 @@ fn transcript(
     })
 }
 
+const LISTS: Lists = &[
+    (Kind::Range, &[LOW, HIGH]),
+    (Kind::Alloc, &[]),
+    (Kind::Range32, &[LOW]),
+    (Kind::Alloc32, &[]),
+];
+
+/// The entries and the trees are printed so in each version.
+fn expect_printed(
+    rt: &impl Abort,
+    alloc: Global,
+    entries: &[Entry],
+    lists: Lists,
+    versions: &[(u32, &str)],
+) -> Result<(), Fail> {
+    for &(version, want) in versions {
+        let transcript = transcript(alloc, version, entries, lists)?;
+        let Ok(text) = render(alloc, &transcript) else {
+            return Err("no memory".into());
+        };
+        same(rt, text.as_slice(), want.as_bytes(), version);
+    }
+    Ok(())
+}
+
 #[test]
 fn a_transcript_is_printed_line_by_line(rt: HostRuntime) -> Result<(), Fail> {
-    let lists: Lists = &[
-        (Kind::Range, &[LOW, HIGH]),
-        (Kind::Alloc, &[]),
-        (Kind::Range32, &[LOW]),
-        (Kind::Alloc32, &[]),
-    ];
-    for (version, want) in PRINTED {
-        let transcript = transcript(rt.alloc(), version, &ENTRIES, lists)?;
-        let text = render(rt.alloc(), &transcript).ok();
-        assert_eq!(rt; text.expect(&rt, "memory").as_slice(), want.as_bytes());
+    expect_printed(&rt, rt.alloc(), ENTRIES, LISTS, PRINTED)
+}
+
+/// Each of these is summed up in its line.
+fn expect_summaries(
+    rt: &impl Abort,
+    alloc: Global,
+    summaries: &[(&[Entry], Lists, &str)],
+) -> Result<(), Fail> {
+    for &(entries, lists, want) in summaries {
+        let summary = summarise(3, &transcript(alloc, 1, entries, lists)?);
+        let line = format!(in alloc; "{summary}")?;
+        same(rt, line.as_str(), want, want);
     }
     Ok(())
 }
 
 #[test]
 fn what_three_steps_were_told_is_summed_up(rt: HostRuntime) -> Result<(), Fail> {
-    for (entries, lists, want) in SUMMARIES {
-        let summary = summarise(3, &transcript(rt.alloc(), 1, entries, lists)?);
-        let line = format!(in rt.alloc(); "{summary}")?;
-        assert_eq!(rt; line.as_str(), want);
-    }
-    Ok(())
+    expect_summaries(&rt, rt.alloc(), SUMMARIES)
 }

@@ -1,6 +1,8 @@
+use crate::asserts::same;
 use mt_base::NoMemory;
 use mt_words::{Command, read_words};
 use std::alloc::Global;
+use std::process::Abort;
 use std::test::Fail;
 
 /// A command, by its word and its numbers.
@@ -32,7 +34,7 @@ macro_rules! command {
 }
 
 /// Lists of words, with a space between two, and the commands that they are.
-const COMMANDS: [(&str, Command); 29] = [
+const COMMANDS: &[(&str, Command)] = &[
     ("replay", command!(replay 65_504)),
     ("replay --rows 4", command!(replay 4)),
     ("replay --rows=4", command!(replay 4)),
@@ -230,19 +232,29 @@ fn read_row(alloc: Global, row: &str) -> Result<Option<Command>, NoMemory> {
     read_words(alloc, &words)
 }
 
+/// Each of these lists is its command.
+fn expect_commands(
+    rt: &impl Abort,
+    alloc: Global,
+    commands: &[(&str, Command)],
+) -> Result<(), NoMemory> {
+    for &(row, command) in commands {
+        same(rt, read_row(alloc, row)?, Some(command), row);
+    }
+    Ok(())
+}
+
 #[test]
 fn lists_of_words_are_commands(rt: HostRuntime) -> Result<(), Fail> {
-    for (row, command) in COMMANDS {
-        assert_eq!(rt; read_row(rt.alloc(), row)?, Some(command), "{row}");
-    }
+    expect_commands(&rt, rt.alloc(), COMMANDS)?;
     Ok(())
 }
 
 #[test]
 fn other_lists_of_words_are_none(rt: HostRuntime) -> Result<(), Fail> {
     for row in OTHERS.lines() {
-        assert_eq!(rt; read_row(rt.alloc(), row)?, None, "{row}");
+        same(&rt, read_row(rt.alloc(), row)?, None, row);
     }
-    assert_eq!(rt; read_words(rt.alloc(), &[])?, None);
+    same(&rt, read_words(rt.alloc(), &[])?, None, "no word");
     Ok(())
 }

@@ -1,7 +1,7 @@
-//! Logs, what is read of them, and why a line is refused.
+//! Logs, what is printed of them again, and why a line is refused.
 
-/// Logs, and what their lines say in words.
-pub const LOGS: [(&str, &str); 4] = [
+/// Logs, and what is printed of them.
+pub const LOGS: &[(&str, &str)] = &[
     // Each word is read with its fields.
     (
         "mtlog 1
@@ -20,17 +20,21 @@ prev abcdefghijklm_16 6 5
 rfind abcdefghijklm_16 8 7
 scan abcdefghijklm_16 5 0x9 6
 ",
-        "4: declares abcdefghijklm_16 for range
-5: tree 0, Store { first: 10, last: 19, entry: 5 }
-6: tree 0, Insert { first: 20, last: 29, entry: 18446744073709551615 }
-7: tree 0, Erase { index: 3 }
-9: tree 0, Clear
-10: tree 0, Load { index: 7 }
-11: tree 0, Find { index: 1, max: 2 }
-12: tree 0, Next { index: 3, max: 4 }
-13: tree 0, Prev { index: 6, min: 5 }
-14: tree 0, Rfind { index: 8, min: 7 }
-15: tree 0, 6 steps from 5 to 9
+        "mtlog 1
+
+
+tree abcdefghijklm_16 range
+store abcdefghijklm_16 10 19 5
+insert abcdefghijklm_16 20 29 18446744073709551615
+erase abcdefghijklm_16 3
+
+clear abcdefghijklm_16
+load abcdefghijklm_16 7
+find abcdefghijklm_16 1 2
+next abcdefghijklm_16 3 4
+prev abcdefghijklm_16 6 5
+rfind abcdefghijklm_16 8 7
+scan abcdefghijklm_16 5 9 6
 ",
     ),
     // An area has its size before its bounds.
@@ -43,12 +47,13 @@ gap b max 8 9
 rgap b 10 11 max
 store b 0 9 1
 ",
-        "2: declares b for alloc
-3: tree 0, Alloc { size: 1, min: 2, max: 3, entry: 4 }
-4: tree 0, Ralloc { size: 5, min: 6, max: 7, entry: 18446744073709551615 }
-5: tree 0, Gap { size: 18446744073709551615, min: 8, max: 9 }
-6: tree 0, Rgap { size: 10, min: 11, max: 18446744073709551615 }
-7: tree 0, Store { first: 0, last: 9, entry: 1 }
+        "mtlog 1
+tree b alloc
+alloc b 1 2 3 4
+ralloc b 5 6 7 18446744073709551615
+gap b 18446744073709551615 8 9
+rgap b 10 11 18446744073709551615
+store b 0 9 1
 ",
     ),
     // A phase begins with trees that are declared, copied and checked.
@@ -69,20 +74,21 @@ tree d range
 dup c e
 load e 2
 ",
-        "2: declares a for range
-3: copies tree 0 as b
-4: checks tree 1
-5: tree 0, Store { first: 1, last: 1, entry: 5 }
-6: tree 0, StorePre { first: 0, last: 9, entry: 7 }
-7: joins
-8: checks tree 0
-9: copies tree 1 as c
-10: tree 2, Load { index: 1 }
-11: joins
-12: joins
-13: declares d for range
-14: copies tree 2 as e
-15: tree 4, Load { index: 2 }
+        "mtlog 1
+tree a range
+dup a b
+check b
+store a 1 1 5
+pstore a 0 9 7
+join
+check a
+dup b c
+load c 1
+join
+join
+tree d range
+dup c e
+load e 2
 ",
     ),
     // A lane may be named anywhere in a phase.
@@ -99,23 +105,42 @@ join
 lane 3
 check a
 ",
-        "2: lane 15
-3: declares a for range
-4: lane 0
-5: tree 0, Load { index: 1 }
-6: lane 7
-7: lane 15
-8: tree 0, Load { index: 2 }
-9: joins
-10: lane 3
-11: checks tree 0
+        "mtlog 1
+lane 15
+tree a range
+lane 0
+load a 1
+lane 7
+lane 15
+load a 2
+join
+lane 3
+check a
 ",
     ),
+    // A log of the second version.
+    (
+        "mtlog 2
+
+tree a range
+# a range
+store a 0x0 9 5
+erase a 010
+",
+        "mtlog 2
+
+tree a range
+
+store a 0 9 5
+erase a 10
+",
+    ),
+    ("mtlog 1\n\n#\n", "mtlog 1\n"),
 ];
 
 /// Tables: each row is what stands in a log between the text before the table and the text behind it, and behind an arrow the
-/// last line of what the log then says.
-pub const TABLES: [(&str, &str, &str); 19] = [
+/// last line of what is printed of the log, or its fault.
+pub const TABLES: &[(&str, &str, &str)] = &[
     // Each test of a line refuses it.
     (
         "",
@@ -196,8 +221,8 @@ check a -> 4 not between phases",
     // A log of the second version is read as one of the first.
     (
         "mtlog 2\ntree a range\n",
-        "store a 0 9 5 -> 3: tree 0, Store { first: 0, last: 9, entry: 5 }
-erase a 9 -> 3: tree 0, Erase { index: 9 }
+        "store a 0 9 5 -> store a 0 9 5
+erase a 9 -> erase a 9
 load b 1 -> 3 unknown tree
 join  -> 3 wrong number of fields",
         "\n",
@@ -270,14 +295,14 @@ lane 16 2 -> 5 wrong number of fields",
     // Numbers are read up to the greatest.
     (
         "mtlog 1\ntree a range\nload a ",
-        "0 -> 3: tree 0, Load { index: 0 }
-max -> 3: tree 0, Load { index: 18446744073709551615 }
-18446744073709551615 -> 3: tree 0, Load { index: 18446744073709551615 }
-00000000000000000007 -> 3: tree 0, Load { index: 7 }
-0xffffffffffffffff -> 3: tree 0, Load { index: 18446744073709551615 }
-0xFFFFffffFFFFffff -> 3: tree 0, Load { index: 18446744073709551615 }
-0x0000000000000010 -> 3: tree 0, Load { index: 16 }
-0xaF9 -> 3: tree 0, Load { index: 2809 }
+        "0 -> load a 0
+max -> load a 18446744073709551615
+18446744073709551615 -> load a 18446744073709551615
+00000000000000000007 -> load a 7
+0xffffffffffffffff -> load a 18446744073709551615
+0xFFFFffffFFFFffff -> load a 18446744073709551615
+0x0000000000000010 -> load a 16
+0xaF9 -> load a 2809
 Max -> 3 bad number
 maxx -> 3 bad number
 18446744073709551616 -> 3 bad number
@@ -300,10 +325,10 @@ x1 -> 3 bad number
     // A tree is of one of four kinds.
     (
         "mtlog 1\n",
-        "tree a range -> 2: declares a for range
-tree a alloc -> 2: declares a for alloc
-tree a range32 -> 2: declares a for range32
-tree a alloc32 -> 2: declares a for alloc32
+        "tree a range -> tree a range
+tree a alloc -> tree a alloc
+tree a range32 -> tree a range32
+tree a alloc32 -> tree a alloc32
 tree a range64 -> 2 bad kind
 tree a alloc64 -> 2 bad kind
 tree a Range32 -> 2 bad kind
@@ -327,49 +352,49 @@ tree a range32  -> 2 wrong number of fields",
     // In an index of a narrow tree `max` is the greatest one, and elsewhere it is 2^64 - 1. Numbers are read as they are.
     (
         "mtlog 1\ntree n range32\ntree m alloc32\n",
-        "load n max -> 4: tree 0, Load { index: 4294967295 }
-load m max -> 4: tree 1, Load { index: 4294967295 }
-load n 4294967296 -> 4: tree 0, Load { index: 4294967296 }
-load n 18446744073709551615 -> 4: tree 0, Load { index: 18446744073709551615 }
-load n 0xffffffffffffffff -> 4: tree 0, Load { index: 18446744073709551615 }
+        "load n max -> load n 4294967295
+load m max -> load m 4294967295
+load n 4294967296 -> load n 4294967296
+load n 18446744073709551615 -> load n 18446744073709551615
+load n 0xffffffffffffffff -> load n 18446744073709551615
 load n 18446744073709551616 -> 4 bad number
-store n max max max -> 4: tree 0, Store { first: 4294967295, last: 4294967295, entry: 18446744073709551615 }
-pstore n 1 max max -> 4: tree 0, StorePre { first: 1, last: 4294967295, entry: 18446744073709551615 }
-insert m 1 max 5 -> 4: tree 1, Insert { first: 1, last: 4294967295, entry: 5 }
-insert m 1 4294967296 5 -> 4: tree 1, Insert { first: 1, last: 4294967296, entry: 5 }
-erase n max -> 4: tree 0, Erase { index: 4294967295 }
-find n max max -> 4: tree 0, Find { index: 4294967295, max: 4294967295 }
-next n 0 max -> 4: tree 0, Next { index: 0, max: 4294967295 }
-prev n max max -> 4: tree 0, Prev { index: 4294967295, min: 4294967295 }
-rfind n max 0 -> 4: tree 0, Rfind { index: 4294967295, min: 0 }
-scan n max max 3 -> 4: tree 0, 3 steps from 4294967295 to 4294967295
-scan n 0 4294967296 3 -> 4: tree 0, 3 steps from 0 to 4294967296
+store n max max max -> store n 4294967295 4294967295 18446744073709551615
+pstore n 1 max max -> pstore n 1 4294967295 18446744073709551615
+insert m 1 max 5 -> insert m 1 4294967295 5
+insert m 1 4294967296 5 -> insert m 1 4294967296 5
+erase n max -> erase n 4294967295
+find n max max -> find n 4294967295 4294967295
+next n 0 max -> next n 0 4294967295
+prev n max max -> prev n 4294967295 4294967295
+rfind n max 0 -> rfind n 4294967295 0
+scan n max max 3 -> scan n 4294967295 4294967295 3
+scan n 0 4294967296 3 -> scan n 0 4294967296 3
 scan n 0 max max -> 4 bad count
-alloc m max max max max -> 4: tree 1, Alloc { size: 18446744073709551615, min: 4294967295, max: 4294967295, entry: 18446744073709551615 }
-ralloc m max 0 max 5 -> 4: tree 1, Ralloc { size: 18446744073709551615, min: 0, max: 4294967295, entry: 5 }
-gap m max 0 max -> 4: tree 1, Gap { size: 18446744073709551615, min: 0, max: 4294967295 }
-rgap n 1 max 4294967296 -> 4: tree 0, Rgap { size: 1, min: 4294967295, max: 4294967296 }
+alloc m max max max max -> alloc m 18446744073709551615 4294967295 4294967295 18446744073709551615
+ralloc m max 0 max 5 -> ralloc m 18446744073709551615 0 4294967295 5
+gap m max 0 max -> gap m 18446744073709551615 0 4294967295
+rgap n 1 max 4294967296 -> rgap n 1 4294967295 4294967296
 lane max -> 4 bad lane",
         "\n",
     ),
     // Each tree has the greatest index of its own kind, and a copy that of its source.
     (
         "mtlog 1\ntree a range\ntree b range32\ntree c alloc\ntree d alloc32\ndup b e\ndup c f\n",
-        "load a max -> 8: tree 0, Load { index: 18446744073709551615 }
-load b max -> 8: tree 1, Load { index: 4294967295 }
-load c max -> 8: tree 2, Load { index: 18446744073709551615 }
-load d max -> 8: tree 3, Load { index: 4294967295 }
-load e max -> 8: tree 4, Load { index: 4294967295 }
-load f max -> 8: tree 5, Load { index: 18446744073709551615 }",
+        "load a max -> load a 18446744073709551615
+load b max -> load b 4294967295
+load c max -> load c 18446744073709551615
+load d max -> load d 4294967295
+load e max -> load e 4294967295
+load f max -> load f 18446744073709551615",
         "\n",
     ),
     // A scan has from 1 to 65536 steps.
     (
         "mtlog 1\ntree a range\nscan a 0 max ",
-        "1 -> 3: tree 0, 1 steps from 0 to 18446744073709551615
-65536 -> 3: tree 0, 65536 steps from 0 to 18446744073709551615
-0x10000 -> 3: tree 0, 65536 steps from 0 to 18446744073709551615
-00000000000000000007 -> 3: tree 0, 7 steps from 0 to 18446744073709551615
+        "1 -> scan a 0 18446744073709551615 1
+65536 -> scan a 0 18446744073709551615 65536
+0x10000 -> scan a 0 18446744073709551615 65536
+00000000000000000007 -> scan a 0 18446744073709551615 7
 0 -> 3 bad count
 65537 -> 3 bad count
 4294967297 -> 3 bad count
@@ -414,7 +439,7 @@ dup t1 q -> 19 not between phases";
 
 /// So many scans that are alike, and a table of what stands behind them. A good line leaves the last line, which lacks its end,
 /// as the first bad one.
-pub const SCANS: [(u32, &str, &str); 2] = [
+pub const SCANS: &[(u32, &str, &str)] = &[
     (
         16,
         "scan a 0 9 62500\n",
@@ -471,20 +496,3 @@ store n 0 max max -> store n 0 4294967295 18446744073709551615
 ralloc m max 0 max 5 -> ralloc m 18446744073709551615 0 4294967295 5
 load n 0x100000000 -> load n 4294967296
 prev b max max -> prev b 18446744073709551615 18446744073709551615";
-
-/// A log of the second version, and what is printed of it.
-pub const SECOND: &str = "mtlog 2
-
-tree a range
-# a range
-store a 0x0 9 5
-erase a 010
-";
-
-pub const PRINTED_SECOND: &str = "mtlog 2
-
-tree a range
-
-store a 0 9 5
-erase a 10
-";
