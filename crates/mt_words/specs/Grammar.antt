@@ -41,12 +41,8 @@ show_app = new_app (codes "show")
 abbrev pub bulk_app : App
 bulk_app = with_rule (new_app (codes "bulk")) (word_rule (codes "workers"))
 
--- `ids` and its bounds
-abbrev pub bounds_app : App
-bounds_app = with_rule (with_rule (new_app (codes "ids")) (word_rule (codes "lo"))) (word_rule (codes "hi"))
-
 abbrev pub ids_app : App
-ids_app = with_rule (with_rule bounds_app (word_rule (codes "steps"))) (word_rule (codes "drop"))
+ids_app = with_rule (with_rule (with_rule (with_rule (new_app (codes "ids")) (word_rule (codes "lo"))) (word_rule (codes "hi"))) (word_rule (codes "steps"))) (word_rule (codes "drop"))
 
 -- the program's words: no name before them, and no help
 abbrev pub plain_app : App

@@ -1,9 +1,9 @@
 //! What `clap` is told of the words, and what its matches say.
 
-ghost use Rattle.std.specs.Prelude.{◌≡◌, IfOk, option_map};
-ghost use Rattle.clap.specs.Words.{app_of, first_of, found_of, rows_of, subcommand_rows_of};
+ghost use Rattle.std.specs.Prelude.{◌≡◌, IfOk, false, option_map};
+ghost use Rattle.clap.specs.Words.{app_of, first_of, found_of, new_app, rows_of, rule_of, subcommand_rows_of, with_rule};
 ghost use Rattle.mt_words.specs.Commands.{bulk_with, ids_with, make_with, trial_with};
-ghost use Rattle.mt_words.specs.Grammar.{bounds_app, bulk_app, bulk_in, command_in, command_met, grammar, ids_app, ids_in, make_app, make_in, rows_app, rows_in, show_app, trial_app, trial_in};
+ghost use Rattle.mt_words.specs.Grammar.{bulk_app, bulk_in, command_in, command_met, grammar, ids_app, ids_in, make_app, make_in, option_rule, rows_app, rows_in, show_app, trial_app, trial_in, word_rule};
 
 use crate::commands::Command;
 use crate::numbers::number_in;
@@ -29,28 +29,64 @@ const MOST_WORKERS: u64 = 16;
 /// The greatest index.
 const MOST_INDEX: u64 = 18_446_744_073_709_551_615;
 
+/// An option with a value, which may be there.
+fn option_arg<'a>(alloc: Global, name: &'a str) -> Arg<'a>
+    ensures rule { rule_of result ≡ option_rule name.now }
+    ensures local { result.global ≡ false }
+{
+    Arg::new(alloc, name).long(name)
+}
+
 /// A word, and perhaps a number of rows.
 fn rows_words<'a>(alloc: Global, verb: &'a str) -> Result<clap::Command<'a>, AllocError>
     ensures { IfOk result (λ c. app_of c ≡ rows_app verb.now) }
 {
-    clap::Command::new(alloc, verb).arg(Arg::new(alloc, "rows").long("rows"))
+    clap::Command::new(alloc, verb).arg(option_arg(alloc, "rows"))
+}
+
+/// A word that has to be there.
+fn word_arg<'a>(alloc: Global, name: &'a str) -> Arg<'a>
+    ensures rule { rule_of result ≡ word_rule name.now }
+    ensures local { result.global ≡ false }
+{
+    Arg::new(alloc, name).required(true)
+}
+
+/// These words, and one more that has to be there.
+fn with_word<'a>(
+    alloc: Global,
+    words: clap::Command<'a>,
+    name: &'a str,
+) -> Result<clap::Command<'a>, AllocError>
+    ensures { IfOk result (λ c. app_of c ≡ with_rule (app_of words.entry) (word_rule name.now)) }
+{
+    words.arg(word_arg(alloc, name))
+}
+
+/// A word, and two more that have to be there.
+fn two_words<'a>(
+    alloc: Global,
+    verb: &'a str,
+    one: &'a str,
+    two: &'a str,
+) -> Result<clap::Command<'a>, AllocError>
+    ensures { IfOk result (λ c. app_of c ≡ with_rule (with_rule (new_app verb.now) (word_rule one.now)) (word_rule two.now)) }
+{
+    let words = with_word(alloc, clap::Command::new(alloc, verb), one)?;
+    with_word(alloc, words, two)
 }
 
 fn make_words<'a>(alloc: Global) -> Result<clap::Command<'a>, AllocError>
     ensures { IfOk result (λ c. app_of c ≡ make_app) }
 {
-    clap::Command::new(alloc, "make")
-        .arg(Arg::new(alloc, "number").required(true))?
-        .arg(Arg::new(alloc, "steps").required(true))?
-        .arg(Arg::new(alloc, "lanes").required(true))
+    let words = two_words(alloc, "make", "number", "steps")?;
+    with_word(alloc, words, "lanes")
 }
 
 fn trial_words<'a>(alloc: Global) -> Result<clap::Command<'a>, AllocError>
     ensures { IfOk result (λ c. app_of c ≡ trial_app) }
 {
-    clap::Command::new(alloc, "trial")
-        .arg(Arg::new(alloc, "number").required(true))?
-        .arg(Arg::new(alloc, "steps").required(true))
+    two_words(alloc, "trial", "number", "steps")
 }
 
 fn show_words<'a>(alloc: Global) -> Result<clap::Command<'a>, AllocError>
@@ -62,24 +98,15 @@ fn show_words<'a>(alloc: Global) -> Result<clap::Command<'a>, AllocError>
 fn bulk_words<'a>(alloc: Global) -> Result<clap::Command<'a>, AllocError>
     ensures { IfOk result (λ c. app_of c ≡ bulk_app) }
 {
-    clap::Command::new(alloc, "bulk").arg(Arg::new(alloc, "workers").required(true))
-}
-
-/// `ids` and its bounds.
-fn bounds_words<'a>(alloc: Global) -> Result<clap::Command<'a>, AllocError>
-    ensures { IfOk result (λ c. app_of c ≡ bounds_app) }
-{
-    clap::Command::new(alloc, "ids")
-        .arg(Arg::new(alloc, "lo").required(true))?
-        .arg(Arg::new(alloc, "hi").required(true))
+    with_word(alloc, clap::Command::new(alloc, "bulk"), "workers")
 }
 
 fn ids_words<'a>(alloc: Global) -> Result<clap::Command<'a>, AllocError>
     ensures { IfOk result (λ c. app_of c ≡ ids_app) }
 {
-    bounds_words(alloc)?
-        .arg(Arg::new(alloc, "steps").required(true))?
-        .arg(Arg::new(alloc, "drop").required(true))
+    let words = two_words(alloc, "ids", "lo", "hi")?;
+    let words = with_word(alloc, words, "steps")?;
+    with_word(alloc, words, "drop")
 }
 
 /// The commands, as `clap` is told of them.
