@@ -1,13 +1,12 @@
 -- The image of a player's first tree is one of a run of its log.
-use Rattle.std.proofs.Common.{◌≡◌, ◌≢◌, ℕ, ◌<◌, List, [], ◌∷◌, Some, None, length, slice_get, arith, refl, sym, ap, ◌∙◌, subst}
+use Rattle.std.proofs.Common.{◌≡◌, ◌≢◌, ℕ, ◌<◌, List, [], ◌∷◌, Some, length, slice_get, arith, refl, subst}
 use Rattle.mt_base.specs.declared.kinds.Kind.{Kind}
 use Rattle.mt_base.specs.History.{last_map}
 use Rattle.mt_image.specs.Images.{IsImageOfMap}
 use Rattle.mt_log.specs.declared.lines.Line.{Line}
 use Rattle.mt_log.specs.declared.lines.Log.{Log}
-use Rattle.mt_log.specs.declared.transcripts.Listing.{Listing}
 use Rattle.mt_log.specs.declared.transcripts.Transcript.{Transcript}
-use Rattle.mt_log.specs.Run.{IsRun, listings_of}
+use Rattle.mt_log.specs.Run.{listings_of}
 use Rattle.mt_log.specs.Trees.{Declared, trees_of}
 use Rattle.mt_runs.specs.Phases.{Tracked, histories_of}
 use Rattle.mt_play.specs.Images.{IsImageOfRun}

@@ -10,6 +10,7 @@ pub mod LogPhases
 pub mod Manning
 pub mod PhasePlayed
 pub mod PlayerGone
+pub mod Recounting
 pub mod Seating
 pub mod Settling
 pub mod Staying

@@ -3,12 +3,18 @@ use Rattle.std.proofs.Common.{◌≡◌, ℕ, ◌+◌, ◌<◌, List, ◌++◌, 
 use Rattle.std.specs.List.{All}
 use Rattle.std.proofs.lemmas.List.{length-map}
 use Rattle.std.proofs.lemmas.Option.{slice_get_within}
-use Rattle.mt_base.specs.Passes.{Pass, IsSettled, Settled}
+use Rattle.mt_base.specs.Passes.{Begins, Pass, IsSettled, Settled}
+use Rattle.mt_base.specs.History.{Record}
+use Rattle.mt_base.proofs.Goings.{begins_on}
 use Rattle.mt_log.specs.declared.lines.Line.{Line}
 use Rattle.mt_log.specs.declared.transcripts.Entry.{Entry}
 use Rattle.mt_log.specs.Run.{Step}
 use Rattle.mt_runs.specs.Phases.{Tracked}
+use Rattle.mt_runs.specs.Leads.{outcomes_of}
+use Rattle.mt_runs.specs.Rooms.{joined}
+use Rattle.mt_runs.proofs.Knowing.{leads_onward}
 use Rattle.mt_runs.proofs.LanePasses.{all_at, some_at}
+use Rattle.mt_runs.proofs.Totals.{seen_begins}
 use Rattle.mt_desks.specs.Desks.{SharedTree}
 use Rattle.mt_play.specs.declared.players.Player.{Player}
 use Rattle.mt_play.specs.Lanes.{AreManned, AreSettled, HaveGoneBy, IsPhaseBehind}
@@ -16,8 +22,9 @@ use Rattle.mt_play.specs.Players.{IsAtRest, IsBegun, IsBegunBy, IsClosed, IsPlay
 use Rattle.mt_play.specs.Trees.{AreAll, calls_taken, seen_by, tracked_of}
 use Rattle.mt_play.proofs.LanesRun.{mapped_at, of_mapped, within_mapped}
 use Rattle.mt_play.proofs.PhasePlayed.{phase_played, stands}
+use Rattle.mt_play.proofs.Recounting.{HasGrown, counts_grow}
 use Rattle.mt_play.proofs.Seating.{tracked_at, tracked_long}
-use Rattle.mt_play.proofs.TreeRows.{Found, all_from, found}
+use Rattle.mt_play.proofs.TreeRows.{Found, all_from, found, seen_otherwise}
 
 module _ {P T : Type 0} (tree : T → SharedTree) (knows : P → Pass) (serves : T → P → Type 0) where
   abbrev known : Vec P Global → List Pass
@@ -107,6 +114,30 @@ module _ {P T : Type 0} (tree : T → SharedTree) (knows : P → Pass) (serves :
               let (x, x_is) = some_at (get_or seats'.items number row).items i here in
               subst (λ (z : Pass). z.standing ≡ None) (of_mapped knows (get_or seats'.items number row).items i x q here q_is) (gone.manned.closed number row within i x here)
 
+      -- of each tree the calls so far begin those that there are now
+      grown_at : (number : ℕ) (t u : Tracked) → slice_get tracked number ≡ Some t → slice_get tracked' number ≡ Some u → HasGrown t u
+      grown_at number t u t_is u_is =
+          let trees : List SharedTree = map tree p.trees.items in
+          let f : Found trees (rows_known knows p.seats.items) number t = found trees (rows_known knows p.seats.items) number t t_is in
+          let g : Found trees (rows_known knows seats'.items) number u = found trees (rows_known knows seats'.items) number u u_is in
+          let (middle, middle_is) = some_at gone.between number (omega (arith, gone.settled.count, slice_get_within (rows_known knows seats'.items) number g.row g.row_is)) in
+          let ran = gone.run.gone number f.tree f.row middle f.tree_is f.row_is middle_is in
+          let end = gone.settled.each number f.tree middle g.row f.tree_is middle_is g.row_is in
+          let start : IsSettled (tracked_of f.tree f.row).history f.row = subst (λ (z : Tracked). IsSettled z.history z.passes) f.is (all_at (λ (z : Tracked). IsSettled z.history z.passes) tracked number t rest.settled t_is) in
+          let within : number < length p.seats.items = within_mapped known p.seats.items number f.row f.row_is in
+          let (row, row_is) = some_at p.seats.items number within in
+          let (x, x_is) = some_at p.trees.items number (omega (arith, within, rest.seated.count)) in
+          let row_same : known (get_or p.seats.items number row) ≡ f.row = of_mapped known p.seats.items number row f.row within f.row_is in
+          let long : 0 < length f.row = omega (arith, ap length row_same, length-map (get_or p.seats.items number row).items knows, (rest.seated.all number x row (omega (arith, within, rest.seated.count))).count, rest.seated.some_pass) in
+          let (first, first_is) = some_at f.row 0 long in
+          let (m, m_is) = some_at middle 0 (omega (arith, long, ran.count)) in
+          let onward = leads_onward f.tree.history first (outcomes_of number 0 (joined (gone.run.answers 0))) m (ran.leads 0 first m first_is m_is) in
+          let seen : first.seen ≡ (seen_by f.tree.history f.row).records = all_at (λ (q : Pass). q.seen ≡ (seen_by f.tree.history f.row).records) f.row 0 first start.seen first_is in
+          let now : List Record = (seen_by f.tree.history g.row).records in
+          let begins : Begins (seen_by f.tree.history f.row).records now = subst (λ (z : List Record). Begins z now) seen (begins_on first.seen m.seen now onward.seen (seen_begins (seen_by f.tree.history g.row) middle g.row end 0 m m_is)) in
+          let same : tracked_of f.tree g.row ≡ u = cc (f.tree_is, g.tree_is, g.is) in
+          subst (λ (z : Tracked). HasGrown z u) (sym f.is) (subst (HasGrown (tracked_of f.tree f.row)) same (record { tree = seen_otherwise f.tree.history f.row g.row; begins = begins }))
+
       pub rests_gone : IsAtRest tree knows serves many after
       rests_gone = record {
         seated = record {
@@ -122,6 +153,9 @@ module _ {P T : Type 0} (tree : T → SharedTree) (knows : P → Pass) (serves :
         };
         settled = all_from (λ (t : Tracked). IsSettled t.history t.passes) tracked' settled_at;
         closed = all_from IsClosed tracked' closed_now;
+        counted = counts_grow tracked tracked' p.counts.items
+            (tracked_long (map tree p.trees.items) (rows_known knows seats'.items) (length-map seats'.items known ∙ (gone.manned.count ∙ sym (length-map p.trees.items tree))) ∙ sym (tracked_long (map tree p.trees.items) (rows_known knows p.seats.items) (length-map p.seats.items known ∙ (rest.seated.count ∙ sym (length-map p.trees.items tree)))))
+            grown_at rest.counted;
       }
 
       most_there : (number : ℕ) (t : SharedTree) → slice_get (map tree p.trees.items) number ≡ Some t → t.most ≡ calls_taken

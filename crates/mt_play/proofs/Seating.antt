@@ -20,9 +20,12 @@ use Rattle.mt_runs.specs.Phases.{Tracked, new_history, new_tracked}
 use Rattle.mt_runs.proofs.LanePasses.{all_at}
 use Rattle.mt_runs.proofs.Starting.{new_is_settled}
 use Rattle.mt_desks.specs.Desks.{SharedTree}
+use Rattle.mt_play.specs.declared.counts.Counted.{Counted}
 use Rattle.mt_play.specs.declared.players.Player.{Player}
+use Rattle.mt_play.specs.Counts.{AreCounts, IsCountOf}
 use Rattle.mt_play.specs.Trees.{AreAll, IsNewTree, calls_taken, seen_by, tracked_of}
 use Rattle.mt_play.specs.Players.{PlayerState, Checks, Copies, HasRanges, IsAtRest, IsClosed, IsCopyIn, rows_known, state_of, tracked_in}
+use Rattle.mt_play.proofs.Recounting.{count_at, counts_long, counts_push, counts_set}
 
 -- ---- side by side
 
@@ -134,6 +137,7 @@ module _ {P T : Type 0} (tree : T → SharedTree) (knows : P → Pass) (serves :
     seated = record { few_rows = r.seated.few_rows; rows = r.seated.rows; some_pass = r.seated.some_pass; passes = r.seated.passes; names = r.seated.names; count = r.seated.count; many_are = r.seated.many_are; most = r.seated.most; all = r.seated.all };
     settled = r.settled;
     closed = r.closed;
+    counted = r.counted;
   }
 
   -- a row was worked on, and is as it was in meaning
@@ -158,14 +162,39 @@ module _ {P T : Type 0} (tree : T → SharedTree) (knows : P → Pass) (serves :
           };
           settled = subst (λ (rows : List (List Pass)). All (λ (z : Tracked). IsSettled z.history z.passes) (tracked_in (map tree p.trees.items) rows)) (sym same) r.settled;
           closed = subst (λ (rows : List (List Pass)). All IsClosed (tracked_in (map tree p.trees.items) rows)) (sym same) r.closed;
+          counted = subst (λ (rows : List (List Pass)). AreCounts (tracked_in (map tree p.trees.items) rows) p.counts.items) (sym same) r.counted;
         },
         same,
       )
 
+  -- and its tree was counted
+  pub rests_counted : (p : Player P T) (at : ℕ) (t : T) (row row' : Vec P Global) (c : Counted) → AtRest p → at < length p.trees.items → t ≡ get_or p.trees.items at t → row ≡ get_or p.seats.items at row → AreAll knows serves (many t) t row'.items → map knows row'.items ≡ map knows row.items → IsCountOf (seen_by (tree t).history (map knows row.items)) c
+      → AtRest (record p { seats = with_item p.seats at row'; counts = with_item p.counts at c }) × (rows_known knows (with_item p.seats at row').items ≡ rows_known knows p.seats.items)
+  rests_counted p at t row row' c r within t_is row_is all stays is =
+      let (again, same) = rests_again p at t row row' r within t_is row_is all stays in
+      let s = stands p at t row r within t_is row_is in (
+        record {
+          seated = record { few_rows = again.seated.few_rows; rows = again.seated.rows; some_pass = again.seated.some_pass; passes = again.seated.passes; names = again.seated.names; count = again.seated.count; many_are = again.seated.many_are; most = again.seated.most; all = again.seated.all };
+          settled = again.settled;
+          closed = again.closed;
+          counted = counts_set (tracked (record p { seats = with_item p.seats at row' })) p.counts.items at (tracked_of (tree t) (map knows row.items)) c again.counted
+              (subst (λ (rows : List (List Pass)). slice_get (tracked_in (map tree p.trees.items) rows) at ≡ Some (tracked_of (tree t) (map knows row.items))) (sym same) s.is) is;
+        },
+        same,
+      )
+
+  pub counts_here : (p : Player P T) → AtRest p → length p.counts.items ≡ length p.trees.items
+  counts_here p r = counts_long (tracked p) p.counts.items r.counted ∙ (tracked_long (map tree p.trees.items) (rows_known knows p.seats.items) (length-map p.seats.items (λ (v : Vec P Global). map knows v.items) ∙ (r.seated.count ∙ sym (length-map p.trees.items tree))) ∙ length-map p.trees.items tree)
+
+  pub count_in : (p : Player P T) (at : ℕ) (t : T) (row : Vec P Global) (c : Counted) → AtRest p → at < length p.trees.items → t ≡ get_or p.trees.items at t → row ≡ get_or p.seats.items at row → c ≡ get_or p.counts.items at c → IsCountOf (seen_by (tree t).history (map knows row.items)) c
+  count_in p at t row c r within t_is row_is c_is =
+      count_at (tracked p) p.counts.items at (tracked_of (tree t) (map knows row.items)) c r.counted (stands p at t row r within t_is row_is).is
+      (slice_get_read p.counts.items (length p.counts.items) at c refl (omega (arith, within, counts_here p r)) c_is)
+
   -- one more tree
-  pub rests_with : (p q : Player P T) (k : KnownTree) (t : T) (row : Vec P Global) (kind : Kind) (rows : ℕ) (opening : List Range) → AtRest p → q ≡ record p { known = q.known; trees = q.trees; seats = q.seats } → q.known.items ≡ p.known.items ++ k ∷ [] → q.trees.items ≡ p.trees.items ++ t ∷ [] → q.seats.items ≡ p.seats.items ++ row ∷ []
+  pub rests_with : (p q : Player P T) (k : KnownTree) (t : T) (row : Vec P Global) (kind : Kind) (rows : ℕ) (opening : List Range) (c : Counted) → AtRest p → q ≡ record p { known = q.known; trees = q.trees; seats = q.seats; counts = q.counts } → q.known.items ≡ p.known.items ++ k ∷ [] → q.trees.items ≡ p.trees.items ++ t ∷ [] → q.seats.items ≡ p.seats.items ++ row ∷ [] → q.counts.items ≡ p.counts.items ++ c ∷ [] → IsCountOf (new_history kind rows opening) c
       → IsNewTree kind rows opening p.passes (tree t) (map knows row.items) → AreAll knows serves p.passes t row.items → many t ≡ p.passes → AtRest q × (tracked q ≡ tracked p ++ new_tracked p.passes rows kind opening ∷ [])
-  rests_with p q k t row kind rows opening r kept known trees seats new all many_is =
+  rests_with p q k t row kind rows opening c r kept known trees seats counts is_count new all many_is =
       let rows_are : q.rows ≡ p.rows = ap (λ (z : Player P T). z.rows) kept in
       let passes_are : q.passes ≡ p.passes = ap (λ (z : Player P T). z.passes) kept in
       let more_known : length q.known.items ≡ length p.known.items + 1 = ap length known ∙ length-append p.known.items (k ∷ []) in
@@ -190,6 +219,7 @@ module _ {P T : Type 0} (tree : T → SharedTree) (knows : P → Pass) (serves :
           };
           settled = subst (All (λ (z : Tracked). IsSettled z.history z.passes)) (sym tracked_are) (All-push (λ (z : Tracked). IsSettled z.history z.passes) (tracked p) (new_tracked p.passes rows kind opening) r.settled (new_is_settled p.passes rows kind opening));
           closed = subst (All IsClosed) (sym tracked_are) (All-push IsClosed (tracked p) (new_tracked p.passes rows kind opening) r.closed (All-from_recursion (λ (q : Pass). q.standing ≡ None) (map new_pass (range_with_len 0 p.passes)) (new_closed (range_with_len 0 p.passes))));
+          counted = rw (tracked_are, counts) (counts_push (tracked p) p.counts.items (new_tracked p.passes rows kind opening) c r.counted is_count);
         },
         tracked_are,
       )
@@ -216,15 +246,18 @@ module _ {P T : Type 0} (tree : T → SharedTree) (knows : P → Pass) (serves :
     };
   }
 
-  -- a row was worked on, and all is as it was in meaning
-  pub state_stays : (p q : Player P T) → q ≡ record p { seats = q.seats } → rows_known knows q.seats.items ≡ rows_known knows p.seats.items → state q ≡ state p
+  -- a row was worked on and its tree maybe counted, and all is as it was in meaning
+  pub state_stays : (p q : Player P T) → q ≡ record p { seats = q.seats; counts = q.counts } → rows_known knows q.seats.items ≡ rows_known knows p.seats.items → state q ≡ state p
   state_stays p q kept stays = λ i. record { rows = (kept i).rows; passes = (kept i).passes; known = (kept i).known.items; trees = tracked_in (map tree (kept i).trees.items) (stays i); entries = (kept i).entries.items }
 
-  pub state_with : (p q : Player P T) (k : KnownTree) (new : Tracked) → q ≡ record p { known = q.known; trees = q.trees; seats = q.seats } → q.known.items ≡ p.known.items ++ k ∷ [] → tracked q ≡ tracked p ++ new ∷ [] → state q ≡ record (state p) { known = p.known.items ++ k ∷ []; trees = tracked p ++ new ∷ [] }
+  pub counts_too : (p q : Player P T) → q ≡ record p { seats = q.seats } → q ≡ record p { seats = q.seats; counts = q.counts }
+  counts_too p q kept = kept ∙ ap (λ (z : Player P T). record p { seats = q.seats; counts = z.counts }) (sym kept)
+
+  pub state_with : (p q : Player P T) (k : KnownTree) (new : Tracked) → q ≡ record p { known = q.known; trees = q.trees; seats = q.seats; counts = q.counts } → q.known.items ≡ p.known.items ++ k ∷ [] → tracked q ≡ tracked p ++ new ∷ [] → state q ≡ record (state p) { known = p.known.items ++ k ∷ []; trees = tracked p ++ new ∷ [] }
   state_with p q k new kept known trees = λ i. record { rows = (kept i).rows; passes = (kept i).passes; known = known i; trees = trees i; entries = (kept i).entries.items }
 
   -- a check was told
-  pub checks : (p q : Player P T) (entries : Vec Entry Global) (line number count : ℕ) → q ≡ record p { seats = q.seats } → rows_known knows q.seats.items ≡ rows_known knows p.seats.items → HasRanges (state p) number (λ ranges. count ≡ length ranges) → entries.items ≡ q.entries.items ++ record { line = line; said = said.Lawful count } ∷ []
+  pub checks : (p q : Player P T) (entries : Vec Entry Global) (line number count : ℕ) → q ≡ record p { seats = q.seats; counts = q.counts } → rows_known knows q.seats.items ≡ rows_known knows p.seats.items → HasRanges (state p) number (λ ranges. count ≡ length ranges) → entries.items ≡ q.entries.items ++ record { line = line; said = said.Lawful count } ∷ []
       → Checks (state p) (state (record q { entries = entries })) line number
   checks p q entries line number count kept stays has told = record {
     checked = has.tree;
@@ -235,17 +268,17 @@ module _ {P T : Type 0} (tree : T → SharedTree) (knows : P → Pass) (serves :
   -- a copy was added and told
   pub copies : (p p1 q : Player P T) (entries : Vec Entry Global) (line from count : ℕ) (name : List ℕ) (named : KnownTree) (t : T) (row row' : Vec P Global)
       → AtRest p1 → p1 ≡ record p { seats = p1.seats } → rows_known knows p1.seats.items ≡ rows_known knows p.seats.items → IsCopyIn (state p) from (tree t) (map knows row.items) → AreAll knows serves (many t) t row'.items → many t ≡ p.passes → map knows row'.items ≡ map knows row.items
-      → q ≡ record p1 { known = q.known; trees = q.trees; seats = q.seats } → q.known.items ≡ p1.known.items ++ renamed name named ∷ [] → q.trees.items ≡ p1.trees.items ++ t ∷ [] → q.seats.items ≡ p1.seats.items ++ row' ∷ []
+      → q ≡ record p1 { known = q.known; trees = q.trees; seats = q.seats; counts = q.counts } → q.known.items ≡ p1.known.items ++ renamed name named ∷ [] → q.trees.items ≡ p1.trees.items ++ t ∷ [] → q.seats.items ≡ p1.seats.items ++ row' ∷ [] → q.counts.items ≡ p1.counts.items ++ record { calls = 0; ranges = count } ∷ []
       → slice_get p.known.items from ≡ Some named → count ≡ length (last_map (seen_by (tree t).history (map knows row.items))) → entries.items ≡ q.entries.items ++ record { line = line; said = said.Copied count } ∷ []
       → AtRest (record q { entries = entries }) × Copies (state p) (state (record q { entries = entries })) line from name
-  copies p p1 q entries line from count name named t row row' r kept stays copy all many_is same pushed known trees seats named_is count_is told =
+  copies p p1 q entries line from count name named t row row' r kept stays copy all many_is same pushed known trees seats counts named_is count_is told =
       let source : Tracked = copy.source in
       let opening : List Range = last_map source.history in
       let passes_are : p1.passes ≡ p.passes = ap (λ (z : Player P T). z.passes) kept in
       let new : IsNewTree source.history.kind source.history.rows opening p1.passes (tree t) (map knows row'.items) = subst (IsNewTree source.history.kind source.history.rows opening p1.passes (tree t)) (sym same) (subst (λ (n : ℕ). IsNewTree source.history.kind source.history.rows opening n (tree t) (map knows row.items)) (sym passes_are) copy.new) in
-      let with = rests_with p1 q (renamed name named) t row' source.history.kind source.history.rows opening r pushed known trees seats new (subst (λ (n : ℕ). AreAll knows serves n t row'.items) (many_is ∙ sym passes_are) all) (many_is ∙ sym passes_are) in
       let counted : count ≡ length opening = count_is ∙ ap length (new_ranges source.history.kind source.history.rows opening p.passes (tree t) (map knows row.items) copy.new) in
-      let as_before : state p1 ≡ state p = state_stays p p1 kept stays in
+      let with = rests_with p1 q (renamed name named) t row' source.history.kind source.history.rows opening (record { calls = 0; ranges = count }) r pushed known trees seats counts (record { calls = omega arith; ranges = counted }) new (subst (λ (n : ℕ). AreAll knows serves n t row'.items) (many_is ∙ sym passes_are) all) (many_is ∙ sym passes_are) in
+      let as_before : state p1 ≡ state p = state_stays p p1 (counts_too p p1 kept) stays in
       let added : PlayerState → PlayerState = λ (z : PlayerState). record z { known = z.known ++ renamed name named ∷ []; trees = z.trees ++ new_tracked z.passes source.history.rows source.history.kind opening ∷ [] } in
       let is : state q ≡ added (state p1) = state_with p1 q (renamed name named) (new_tracked p1.passes source.history.rows source.history.kind opening) pushed known with.1 in
       let tells : ℕ → PlayerState → PlayerState = λ (n : ℕ) (z : PlayerState). record z { entries = z.entries ++ record { line = line; said = said.Copied n } ∷ [] } in (

@@ -1,3 +1,4 @@
+pub mod Counts
 pub mod Images
 pub mod Lanes
 pub mod Makes

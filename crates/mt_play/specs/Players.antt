@@ -23,6 +23,7 @@ use Rattle.mt_runs.specs.Tracks.{Ran}
 use Rattle.mt_desks.specs.Dealing.{counts_in}
 use Rattle.mt_desks.specs.Desks.{SharedTree}
 use Rattle.mt_play.specs.declared.players.Player.{Player}
+use Rattle.mt_play.specs.Counts.{AreCounts}
 use Rattle.mt_play.specs.Trees.{AreAll, IsNewTree, calls_taken, fewest_rows, most_passes, tracked_of}
 
 -- how many rows and passes each tree has; the trees that were declared so far, as they are named and as they stand; and the
@@ -74,11 +75,13 @@ pub record IsSeated {P T : Type 0} (tree : T → SharedTree) (knows : P → Pass
 abbrev pub IsClosed : Tracked → Type 0
 IsClosed t = All (λ p. p.standing ≡ None) t.passes
 
--- And between two phases all passes of each tree are settled, and none has a section open.
+-- And between two phases all passes of each tree are settled, none has a section open, and the ranges of each tree were counted
+-- after some of its calls.
 pub record IsAtRest {P T : Type 0} (tree : T → SharedTree) (knows : P → Pass) (serves : T → P → Type 0) (many : T → ℕ) (p : Player P T) : Type 0 where
   pub seated : IsSeated tree knows serves many p
   pub settled : All (λ t. IsSettled t.history t.passes) (tracked_in (map tree p.trees.items) (rows_known knows p.seats.items))
   pub closed : All IsClosed (tracked_in (map tree p.trees.items) (rows_known knows p.seats.items))
+  pub counted : AreCounts (tracked_in (map tree p.trees.items) (rows_known knows p.seats.items)) p.counts.items
 
 -- the bytes are an image of the tree of this number
 pub record HasImage (p : PlayerState) (number : ℕ) (bytes : List ℕ) : Type 0 where

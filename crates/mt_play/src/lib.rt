@@ -1,6 +1,7 @@
-//! A log played on shared trees, phase by phase, each lane in a thread of its own.
+//! A log played on shared trees, phase by phase, the lanes of a phase at once.
 #![tactic(auto)]
 
+mod counts;
 mod lanes;
 mod makes;
 mod phases;

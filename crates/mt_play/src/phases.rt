@@ -174,8 +174,7 @@ fn lanes_of(lines: &[Line]) -> u32
     lanes_in(lines) as u32
 }
 
-/// A player behind all lines of a log, on shared trees of so many rows: phase by phase, each lane of a phase in a thread of its
-/// own.
+/// A player behind all lines of a log, on shared trees of so many rows: phase by phase, the lanes of a phase at once.
 fn played<
     R: Threads + Wait + Sync,
     P: Passage + Drop + Send,
@@ -197,8 +196,8 @@ fn played<
     Ok(player)
 }
 
-/// Plays the lines of a log on shared trees of so many rows, phase by phase, each lane of a phase in a thread of its own,
-/// and lists the trees.
+/// Plays the lines of a log on shared trees of so many rows, phase by phase, the lanes of a phase at once, and lists the
+/// trees.
 ///
 /// # Errors
 ///

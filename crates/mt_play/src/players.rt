@@ -13,6 +13,7 @@ ghost use Rattle.mt_play.specs.Makes.{BeginAs, kind_in};
 ghost use Rattle.mt_play.specs.Trees.{AreAll, fewest_rows, most_passes};
 ghost use Rattle.mt_play.specs.Players.{Begins, Checks, Copies, HasImage, HasRanges, IsAtRest, IsBegun, IsCopyIn, IsPlayedBy, Opens, rows_known, state_of};
 
+use crate::counts::{Counted, count_again};
 use crate::makes::{Made, make_declared};
 use crate::rows::{copy_settled, count_settled, image_settled, list_settled};
 use crate::trees::Plays;
@@ -24,7 +25,8 @@ use std::sync::Wait;
 use std::thread::Threads;
 use std::vec::IntoIter;
 
-/// The trees that were declared so far, each with so many rows and all its passes, and what was told.
+/// The trees that were declared so far, each with so many rows, all its passes and its ranges as they were counted last; and what
+/// was told.
 #[derive(Drop)]
 pub(crate) struct Player<P: Drop, T: Drop> {
     pub(crate) rows: u64,
@@ -32,6 +34,7 @@ pub(crate) struct Player<P: Drop, T: Drop> {
     pub(crate) known: Vec<KnownTree>,
     pub(crate) trees: Vec<T>,
     pub(crate) seats: Vec<Vec<P>>,
+    pub(crate) counts: Vec<Counted>,
     pub(crate) entries: Vec<Entry>,
 }
 
@@ -54,20 +57,23 @@ impl<P: Passage + Drop + Send, T: Plays<P> + Send> Player<P, T> {
             known: Vec::new(alloc),
             trees: Vec::new(alloc),
             seats: Vec::new(alloc),
+            counts: Vec::new(alloc),
             entries: Vec::new(alloc),
         }
     }
 
-    /// Adds a new tree of this name.
-    fn push(&mut self, known: KnownTree, tree: T, row: Vec<P>) -> Result<(), NoMemory>
-        ensures kept { OnOk result (self.new ≡ record self.old { known = self.new.known; trees = self.new.trees; seats = self.new.seats }) }
+    /// Adds a new tree of this name, of which no call was made. It has so many ranges.
+    fn push(&mut self, known: KnownTree, tree: T, row: Vec<P>, ranges: u64) -> Result<(), NoMemory>
+        ensures kept { OnOk result (self.new ≡ record self.old { known = self.new.known; trees = self.new.trees; seats = self.new.seats; counts = self.new.counts }) }
         ensures known { OnOk result (self.new.known.items ≡ self.old.known.items ++ known ∷ []) }
         ensures trees { OnOk result (self.new.trees.items ≡ self.old.trees.items ++ tree ∷ []) }
         ensures seats { OnOk result (self.new.seats.items ≡ self.old.seats.items ++ row ∷ []) }
+        ensures counts { OnOk result (self.new.counts.items ≡ self.old.counts.items ++ record { calls = 0; ranges = ranges } ∷ []) }
     {
         self.known.push(known)?;
         self.trees.push(tree)?;
         self.seats.push(row)?;
+        self.counts.push(Counted { calls: 0, ranges })?;
         Ok(())
     }
 
@@ -89,7 +95,7 @@ impl<P: Passage + Drop + Send, T: Plays<P> + Send> Player<P, T> {
             unreachable!()
         };
         let (tree, row) = made?;
-        self.push(KnownTree { name, kind }, tree, row)?;
+        self.push(KnownTree { name, kind }, tree, row, 0)?;
         Ok(())
     }
 
@@ -112,16 +118,21 @@ impl<P: Passage + Drop + Send, T: Plays<P> + Send> Player<P, T> {
         copy_settled(rt, alloc, &self.trees[number], &mut self.seats[number])
     }
 
-    /// How many ranges the tree of this number has, once it was checked.
+    /// How many ranges the tree of this number has, which is checked where it has had calls since they were counted.
     fn count_of<R: Wait>(&mut self, rt: &R, number: usize) -> u64
         requires rest { IsAtRest T.tree P.knows T.serves T.many self.old }
         requires declared { number < length self.old.trees.items }
         ensures rest { IsAtRest T.tree P.knows T.serves T.many self.new }
-        ensures kept { self.new ≡ record self.old { seats = self.new.seats } }
+        ensures kept { self.new ≡ record self.old { seats = self.new.seats; counts = self.new.counts } }
         ensures stays { rows_known P.knows self.new.seats.items ≡ rows_known P.knows self.old.seats.items }
         ensures count { HasRanges (state_of T.tree P.knows self.old) number (λ ranges. result ≡ length ranges) }
     {
-        count_settled(rt, &self.trees[number], &mut self.seats[number])
+        count_again(
+            rt,
+            &self.trees[number],
+            &mut self.seats[number],
+            &mut self.counts[number],
+        )
     }
 
     /// The ranges of the tree of this number, in rising order.
@@ -177,7 +188,7 @@ impl<P: Passage + Drop + Send, T: Plays<P> + Send> Player<P, T> {
         let known = self.known[from].renamed(name);
         let (tree, mut row) = self.copy_of(rt, alloc, from)?;
         let count = count_settled(rt, &tree, &mut row);
-        self.push(known, tree, row)?;
+        self.push(known, tree, row, count)?;
         let said = Said::Copied { count };
         self.entries.push(Entry { line, said })?;
         Ok(())

@@ -75,6 +75,13 @@ pub trait Plays<P: Passage>: Shared<P> + Drop + Sized {
         ensures saw { Saw (Self.tree self.now).history (P.knows pass.old) (P.knows pass.new) }
         ensures count { result ≡ length (map_seen (Self.tree self.now) (P.knows pass.new)) };
 
+    /// How many calls the tree has had, all of which the pass has then seen.
+    fn calls<R: Wait>(&self, rt: &R, pass: &mut P) -> u64
+        requires of { Self.serves self.now pass.old }
+        ensures of { Self.serves self.now pass.new }
+        ensures saw { Saw (Self.tree self.now).history (P.knows pass.old) (P.knows pass.new) }
+        ensures calls { result ≡ length (P.knows pass.new).seen };
+
     /// The ranges of the tree after all that the pass has then seen, in rising order.
     ///
     /// # Errors

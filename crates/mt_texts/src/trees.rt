@@ -182,6 +182,13 @@ impl Plays<Pass> for LaneTree {
         self.tree.check(rt, pass).ranges
     }
 
+    fn calls<R: Wait>(&self, rt: &R, pass: &mut Pass) -> u64 {
+        let mut write = self.tree.lock(rt, pass);
+        let read = write.ask(&Query::Load { index: 0 });
+        write.unlock();
+        read.lo
+    }
+
     fn list<R: Wait>(
         &self,
         rt: &R,

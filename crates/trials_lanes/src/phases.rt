@@ -9,6 +9,8 @@ use mt_desks::{Passage, Shared};
 use mt_io::NoGate;
 use mt_log::{Entry, Said, read_log};
 use mt_play::{Plays, play};
+use mt_texts::LaneTree;
+use mt_tree::Pass;
 use std::alloc::Global;
 use std::sync::Wait;
 use std::test::Fail;
@@ -61,6 +63,10 @@ impl Plays<Token> for Bare {
     }
 
     fn check<R: Wait>(&self, _rt: &R, _pass: &mut Token) -> u64 {
+        0
+    }
+
+    fn calls<R: Wait>(&self, _rt: &R, _pass: &mut Token) -> u64 {
         0
     }
 
@@ -119,5 +125,57 @@ check c
         ["a", "b", "c"].as_slice(),
         "the trees",
     );
+    Ok(())
+}
+
+/// The line of an entry that tells how many ranges a tree has, and their number.
+fn counted(entry: &Entry) -> Option<(u64, u64)> {
+    match entry.said {
+        Said::Lawful { count } | Said::Copied { count } => Some((entry.line, count)),
+        Said::Wrote { .. } | Said::Got { .. } => None,
+    }
+}
+
+/// A tree that is checked twice, and again behind loads, stores and an erase of other phases; and a copy of it.
+const CHECKED: &[u8] = b"mtlog 1
+tree a range
+check a
+store a 0 9 1
+join
+check a
+check a
+lane 3
+load a 5
+join
+check a
+store a 20 29 3
+join
+dup a b
+check a
+check b
+erase a 5
+join
+check a
+check b
+";
+
+#[test]
+fn a_tree_is_counted_as_it_stands(rt: HostRuntime) -> Result<(), Fail> {
+    let log = read_log(rt.alloc(), CHECKED).expect(&rt, "a log");
+    let run = play::<_, Pass, LaneTree, _>(&rt, rt.alloc(), &log, 40, &NoGate)?;
+    let entries = run.entries.as_slice().iter();
+    let counts: Vec<(u64, u64)> = entries.filter_map(counted).collect(rt.alloc())?;
+    let want = [
+        (3, 0),
+        (6, 1),
+        (7, 1),
+        (11, 1),
+        (14, 2),
+        (15, 2),
+        (16, 2),
+        (19, 1),
+        (20, 2),
+    ];
+    assert_eq!(rt; counts.as_slice(), want.as_slice());
     Ok(())
 }

@@ -1,4 +1,4 @@
-use Rattle.std.proofs.Common.{◌≡◌, IfOk, arith, subst, inr}
+use Rattle.std.proofs.Common.{IfOk, arith, subst, inr}
 use Rattle.mt_base.specs.History.{last_map}
 use Rattle.mt_image.specs.Images.{IsImageOfMap}
 use Rattle.mt_play.proofs.Staying.{row_stays}

@@ -23,7 +23,7 @@ pub returns-clause-rest : goal.returns-clause-rest
 returns-clause-rest g c =
     (copies g.T.Shared.tree g.P.Passage.knows g.T.Shared.serves g.T.Plays.many c.args.self.now c.copy_of.new.self c.push.new.self c.push-2.new.self c.args.line c.args.from c.count_settled-count.result c.args.name c.index.result.now c.in_ok-tree.tree c.in_ok-tree.row c.count_settled-count.new.row
     c.copy_of.ensures.rest c.copy_of.ensures.kept c.copy_of.ensures.stays c.in_ok-tree.ensures.new c.count_settled-count.ensures.all c.in_ok-tree.ensures.many c.count_settled-count.ensures.stays
-    c.in_ok-push.ensures.kept (c.in_ok-push.ensures.known ∙ ap (λ k. c.copy_of.new.self.known.items ++ k ∷ []) c.renamed-known.ensures) c.in_ok-push.ensures.trees c.in_ok-push.ensures.seats
+    c.in_ok-push.ensures.kept (c.in_ok-push.ensures.known ∙ ap (λ k. c.copy_of.new.self.known.items ++ k ∷ []) c.renamed-known.ensures) c.in_ok-push.ensures.trees c.in_ok-push.ensures.seats c.in_ok-push.ensures.counts
     (slice_get_read c.args.self.now.known.items (length c.args.self.now.known.items) c.args.from c.index.result.now refl (omega (arith, c.requires.declared, c.requires.rest.seated.names)) c.index.ensures)
     c.count_settled-count.ensures.count c.in_ok-push-2.ensures.items).0
 
@@ -31,6 +31,6 @@ pub returns-clause-copies : goal.returns-clause-copies
 returns-clause-copies g c =
     (copies g.T.Shared.tree g.P.Passage.knows g.T.Shared.serves g.T.Plays.many c.args.self.now c.copy_of.new.self c.push.new.self c.push-2.new.self c.args.line c.args.from c.count_settled-count.result c.args.name c.index.result.now c.in_ok-tree.tree c.in_ok-tree.row c.count_settled-count.new.row
     c.copy_of.ensures.rest c.copy_of.ensures.kept c.copy_of.ensures.stays c.in_ok-tree.ensures.new c.count_settled-count.ensures.all c.in_ok-tree.ensures.many c.count_settled-count.ensures.stays
-    c.in_ok-push.ensures.kept (c.in_ok-push.ensures.known ∙ ap (λ k. c.copy_of.new.self.known.items ++ k ∷ []) c.renamed-known.ensures) c.in_ok-push.ensures.trees c.in_ok-push.ensures.seats
+    c.in_ok-push.ensures.kept (c.in_ok-push.ensures.known ∙ ap (λ k. c.copy_of.new.self.known.items ++ k ∷ []) c.renamed-known.ensures) c.in_ok-push.ensures.trees c.in_ok-push.ensures.seats c.in_ok-push.ensures.counts
     (slice_get_read c.args.self.now.known.items (length c.args.self.now.known.items) c.args.from c.index.result.now refl (omega (arith, c.requires.declared, c.requires.rest.seated.names)) c.index.ensures)
     c.count_settled-count.ensures.count c.in_ok-push-2.ensures.items).1

@@ -2,7 +2,7 @@ use Rattle.std.proofs.Common.{map, subst}
 use Rattle.mt_base.specs.declared.kinds.Kind.{Kind}
 use Rattle.mt_base.specs.History.{last_map}
 use Rattle.mt_image.specs.Images.{IsImageOfMap}
-use Rattle.mt_play.specs.Trees.{seen_by, tracked_of}
+use Rattle.mt_play.specs.Trees.{tracked_of}
 use Rattle.mt_play.specs.Players.{HasImage, state_of}
 use Rattle.mt_play.proofs.Seating.{if_ok, seen_kind, stands}
 use Rattle.mt_play.proofs.players.Player.image_of.Goals as goal
