@@ -1,31 +1,16 @@
 //! The tree that threads share, as works call it.
 
-ghost use Rattle.std.specs.Prelude.{◌≡◌, ◌<◌, All, IfOk};
+ghost use Rattle.std.specs.Prelude.{◌≡◌, ◌<◌, All};
+ghost use Rattle.std.specs.Arc.{arc_value};
 ghost use Rattle.mt_tree.specs.Trees.{IsPassOf};
 
 use crate::trees::{Tree, Visit};
-use mt_base::{Call, Kind, MOST_ROWS, NoMemory, Reply, Steps};
-use mt_tree::{Cursor, MOST_CALLS, Pass, Shape};
-use std::alloc::{AllocError, Global};
+use mt_base::{Call, Kind, MOST_ROWS, Reply, Steps};
+use mt_tree::{Cursor, Form, MOST_CALLS, Pass, Shape};
+use std::alloc::Global;
 use std::marker::Brand;
-use std::sync::Wait;
 use std::sync::ledger::{Blank, Ledger};
-
-/// An empty tree of this kind, and so many passes.
-pub fn make(alloc: Global, kind: Kind, passes: u32) -> Result<(mt_tree::Tree, Vec<Pass>), NoMemory>
-    ensures { IfOk result (λ r. All (IsPassOf r.0) r.1.items) }
-{
-    let shape = Shape {
-        kind,
-        rows: MOST_ROWS,
-        passes,
-        calls: MOST_CALLS,
-    };
-    match mt_tree::Tree::make(alloc, shape) {
-        Ok(made) => Ok(made),
-        Err(_) => Err(NoMemory),
-    }
-}
+use std::sync::{Arc, Wait};
 
 /// The entry at an index, or 0, in a number of steps that is counted.
 fn load_counted<L: Ledger>(tree: &mt_tree::Tree, pass: &mut Pass, index: u64, blank: Blank) -> u64
@@ -37,25 +22,6 @@ fn load_counted<L: Ledger>(tree: &mt_tree::Tree, pass: &mut Pass, index: u64, bl
 {
     let mut steps = Steps::<L>::new(blank);
     tree.load(pass, index, &mut steps).value.unwrap_or(0)
-}
-
-/// Makes a call. A tree that has as many calls as it may have answers as if it was invalid.
-pub fn act(rt: &impl Wait, tree: &mt_tree::Tree, pass: &mut Pass, call: &Call) -> Reply
-    requires { IsPassOf tree.now pass.old }
-    ensures { IsPassOf tree.now pass.new }
-{
-    match tree.act(rt, pass, call) {
-        Ok(done) => done.reply,
-        Err(_) => Reply::Invalid,
-    }
-}
-
-/// The entry at an index, or 0: the way in which readers load.
-pub fn load(tree: &mt_tree::Tree, pass: &mut Pass, index: u64) -> u64
-    requires { IsPassOf tree.now pass.old }
-    ensures { IsPassOf tree.now pass.new }
-{
-    load_counted::<Brand>(tree, pass, index, Blank::new(1))
 }
 
 /// Takes each range that a cursor finds, until it finds none.
@@ -88,58 +54,110 @@ fn visit_counted<L: Ledger>(tree: &mt_tree::Tree, pass: &mut Pass, blank: Blank)
     visit
 }
 
-/// Visits all ranges in order.
-pub fn visit(tree: &mt_tree::Tree, pass: &mut Pass) -> Visit
-    requires { IsPassOf tree.now pass.old }
-    ensures { IsPassOf tree.now pass.new }
-{
-    visit_counted::<Brand>(tree, pass, Blank::new(1))
+/// A shape with as many calls as there can be.
+fn shape_of(kind: Kind, rows: u64, passes: u32) -> Shape {
+    Shape {
+        kind,
+        rows,
+        passes,
+        calls: MOST_CALLS,
+    }
 }
 
 /// A pass and its tree, which make the calls of a work.
 #[derive(Drop)]
 pub struct Caller<'a, R> {
     rt: &'a R,
-    tree: &'a mt_tree::Tree,
+    tree: Arc<mt_tree::Tree>,
     pass: Pass,
-    ghost of: { IsPassOf tree.now pass },
+    ghost of: { IsPassOf (arc_value tree) pass },
 }
 
 impl<'a, R> Caller<'a, R> {
-    /// The caller of a pass.
-    fn new(rt: &'a R, tree: &'a mt_tree::Tree, pass: Pass) -> Self
-        requires { IsPassOf tree.now pass }
+    /// The caller of a pass, or none where too many share the tree.
+    fn new(rt: &'a R, shared: &Arc<mt_tree::Tree>, pass: Pass) -> Option<Self>
+        requires { IsPassOf (arc_value shared.now) pass }
     {
-        Caller { rt, tree, pass }
+        let Ok(tree) = Arc::try_clone(shared) else {
+            return None;
+        };
+        Some(Caller { rt, tree, pass })
     }
 
-    /// A caller for each pass.
-    pub fn all(
-        alloc: Global,
+    /// A caller for each pass, or none where there is no memory.
+    fn each(
         rt: &'a R,
-        tree: &'a mt_tree::Tree,
+        alloc: Global,
+        shared: &Arc<mt_tree::Tree>,
         passes: Vec<Pass>,
-    ) -> Result<Vec<Self>, AllocError>
-        requires { All (IsPassOf tree.now) passes.items }
+    ) -> Option<Vec<Self>>
+        requires { All (IsPassOf (arc_value shared.now)) passes.items }
     {
         let mut callers = Vec::new(alloc);
         for pass in passes {
-            callers.push(Caller::new(rt, tree, pass))?;
+            callers.push(Caller::new(rt, shared, pass)?).ok()?;
         }
-        Ok(callers)
+        Some(callers)
+    }
+
+    /// The callers of a tree.
+    fn sharing(
+        rt: &'a R,
+        alloc: Global,
+        tree: mt_tree::Tree,
+        passes: Vec<Pass>,
+    ) -> Option<Vec<Self>>
+        requires { All (IsPassOf tree) passes.items }
+    {
+        let Ok(shared) = Arc::new(alloc, tree) else {
+            return None;
+        };
+        Caller::each(rt, alloc, &shared, passes)
+    }
+
+    /// So many callers of an empty tree of this kind, or none where there is no memory.
+    pub fn all(rt: &'a R, alloc: Global, kind: Kind, passes: u32) -> Option<Vec<Self>> {
+        let shape = shape_of(kind, MOST_ROWS, passes);
+        let Ok((tree, passes)) = mt_tree::Tree::make(alloc, shape) else {
+            return None;
+        };
+        Caller::sharing(rt, alloc, tree, passes)
+    }
+}
+
+impl<'a, R: Wait> Caller<'a, R> {
+    /// The form of the tree's words.
+    pub fn check(&mut self) -> Form {
+        self.tree.check(self.rt, &mut self.pass)
+    }
+
+    /// A copy in so many rows, or none where there was no room.
+    pub fn dup(&mut self, alloc: Global, rows: u64) -> Option<mt_tree::Tree> {
+        let shape = shape_of(self.tree.shape().kind, rows, 1);
+        let copied = self.tree.dup(self.rt, alloc, &mut self.pass, shape);
+        Some(copied.ok()?.0)
+    }
+
+    /// An image of the tree, or none where there was no room.
+    pub fn image(&mut self, alloc: Global) -> Option<Vec<u8>> {
+        self.tree.image(self.rt, alloc, &mut self.pass).ok()
     }
 }
 
 impl<'a, R: Wait> Tree for Caller<'a, R> {
+    /// A tree that has as many calls as it may have answers as if the call was invalid.
     fn act(&mut self, call: &Call) -> Reply {
-        act(self.rt, self.tree, &mut self.pass, call)
+        match self.tree.act(self.rt, &mut self.pass, call) {
+            Ok(done) => done.reply,
+            Err(_) => Reply::Invalid,
+        }
     }
 
     fn load(&mut self, index: u64) -> u64 {
-        load(self.tree, &mut self.pass, index)
+        load_counted::<Brand>(&self.tree, &mut self.pass, index, Blank::new(1))
     }
 
     fn visit(&mut self) -> Visit {
-        visit(self.tree, &mut self.pass)
+        visit_counted::<Brand>(&self.tree, &mut self.pass, Blank::new(1))
     }
 }

@@ -1,279 +1,260 @@
-//! Threads at work on one tree.
+//! Threads at work on one shared tree, or on four of them.
 
-use crate::callers::{Caller, make};
-use crate::command::{Crew, Duty};
-use crate::draws::shuffled;
-use crate::figures::{Figure, Report};
-use crate::tallies::{Extent, Tally};
-use crate::timed::{Timed, nanos_of};
-use crate::toggles::{toggle_while, visit_of};
-use crate::trees::{Tree, Visit};
-use crate::works::{load, store_all};
-use std::alloc::{AllocError, Global};
-use std::io::ErrorKind;
+use crate::callers::Caller;
+use crate::draws::Draws;
+use crate::figures::{Figure, Outcome, Report};
+use crate::jobs::{Setting, nanos_since};
+use crate::tasks::{Extent, Job, Task};
+use crate::trees::Tree;
+use crate::works::{entry_of, erase, first_of, load, store, store_all};
+use std::alloc::Global;
 use std::rt::Clock;
 use std::sync::Wait;
 use std::sync::atomic::{AtomicU64, Ordering};
+use std::thread;
 use std::thread::Threads;
 use std::time::Instant;
-use std::{io, thread};
 
-/// What a worker does.
-#[derive(Drop)]
-enum Task {
-    /// It loads, by random numbers of this seed.
-    Load { seed: u64 },
-    /// It erases and stores ranges, each of which is said to be stored or not, until all loads are done.
-    Write { stored: Vec<bool> },
-}
+/// So many trees are there for lanes, whatever the number of threads.
+const TREES: u64 = 4;
 
-/// A thread's work on a tree, and what came of it: the sum of what was loaded, or how often it wrote.
+/// A thread's work on a tree. It loads, or where ranges are said to be stored or not, it erases and stores these.
 #[derive(Drop)]
 struct Worker<T> {
     tree: T,
-    task: Task,
-    outcome: u64,
-}
-
-impl<T: Tree> Worker<T> {
-    /// Does the task. A reader says then that it is no longer at work.
-    fn work(&mut self, extent: Extent, at_work: &AtomicU64) {
-        match &mut self.task {
-            Task::Load { seed } => {
-                self.outcome = load(&mut self.tree, extent.ranges, extent.times, *seed);
-                at_work.fetch_sub(1, Ordering::SeqCst);
-            }
-            Task::Write { stored } => {
-                self.outcome = toggle_while(&mut self.tree, stored.as_mut_slice(), at_work);
-            }
-        }
-    }
-}
-
-impl Crew {
-    /// How many of its threads write.
-    fn writers(self) -> u32 {
-        match self.duty {
-            Duty::Readers => 0,
-            Duty::Conc | Duty::Slowest => 1,
-        }
-    }
-}
-
-/// The seed by which a reader loads.
-pub fn seed_of(reader: u32) -> u64 {
-    100 + u64::from(reader)
-}
-
-/// The task of a crew's thread: the first one writes, where one does. Where no thread can be made the first one's task is done
-/// last.
-fn task_of(alloc: Global, crew: Crew, ranges: u32, number: u32) -> Result<Task, AllocError> {
-    match number.checked_sub(crew.writers()) {
-        Some(reader) => Ok(Task::Load {
-            seed: seed_of(reader),
-        }),
-        None => Ok(Task::Write {
-            stored: vec![in alloc; true; ranges as usize]?,
-        }),
-    }
-}
-
-/// A worker for each caller of a tree on which all ranges are stored.
-fn workers_of<T: Drop>(
-    alloc: Global,
-    crew: Crew,
     ranges: u32,
-    trees: Vec<T>,
-) -> Result<Vec<Worker<T>>, AllocError> {
-    let mut workers = Vec::new(alloc);
-    let mut number: u32 = 0;
-    for tree in trees {
-        let task = task_of(alloc, crew, ranges, number)?;
-        let outcome = 0;
-        workers.push(Worker {
-            tree,
-            task,
-            outcome,
-        })?;
-        number = number.saturating_add(1);
-    }
-    Ok(workers)
+    stored: Vec<bool>,
+    seed: u64,
+    times: u64,
+    /// The sum of what was loaded, or how often it wrote.
+    done: u64,
 }
 
-/// Has all workers at work at once, each in a thread of its own, and gives the nanoseconds until all are done.
-fn at_once<R: Threads + Clock + Sync, T: Tree + Send>(
+/// Erases a range where it is stored, and else stores it; whether that was done.
+fn toggle(tree: &mut impl Tree, i: u32, stored: &mut bool) -> bool {
+    let done = if *stored {
+        erase(tree, i)
+    } else {
+        store(tree, i, entry_of(i))
+    };
+    *stored ^= done;
+    done
+}
+
+/// Does so with ranges that are drawn, `times` times or until no reader is at work, and tells how often.
+fn toggle_all(
+    tree: &mut impl Tree,
+    stored: &mut [bool],
+    seed: u64,
+    times: u64,
+    at_work: &AtomicU64,
+) -> u64 {
+    let ranges = u32::try_from(stored.len()).unwrap_or(u32::MAX);
+    let mut draws = Draws::new(seed);
+    let mut writes: u64 = 0;
+    for _ in 0..times {
+        if at_work.load(Ordering::SeqCst) == 0 {
+            break;
+        }
+        let i = draws.below(ranges);
+        if let Some(stored) = stored.get_mut(i as usize) {
+            writes = writes.wrapping_add(u64::from(toggle(tree, i, stored)));
+        }
+    }
+    writes
+}
+
+/// The sum of what a tree holds on which these ranges are stored.
+fn sum_of(stored: &[bool]) -> u64 {
+    let mut sum: u64 = 0;
+    let mut i: u32 = 0;
+    for is_stored in stored {
+        if *is_stored {
+            sum = sum.wrapping_add(first_of(i)).wrapping_add(entry_of(i));
+        }
+        i = i.saturating_add(1);
+    }
+    sum
+}
+
+impl<T: Tree + Drop> Worker<T> {
+    /// A worker that loads, or that writes where the tree has all of so many ranges.
+    fn new(
+        alloc: Global,
+        tree: T,
+        ranges: u32,
+        writes: bool,
+        seed: u64,
+        times: u64,
+    ) -> Option<Self> {
+        let count = if writes { ranges } else { 0 };
+        let stored = vec![in alloc; true; count as usize].ok()?;
+        let done = 0;
+        Some(Worker {
+            tree,
+            ranges,
+            stored,
+            seed,
+            times,
+            done,
+        })
+    }
+
+    /// Does its work. A reader says then that it is no longer at it.
+    fn work(&mut self, at_work: &AtomicU64) {
+        if self.stored.is_empty() {
+            self.done = load(&mut self.tree, self.ranges, self.times, self.seed);
+            at_work.fetch_sub(1, Ordering::SeqCst);
+        } else {
+            self.done = toggle_all(
+                &mut self.tree,
+                &mut self.stored,
+                self.seed,
+                self.times,
+                at_work,
+            );
+        }
+    }
+
+    /// The sum of what was loaded, or else of what the tree holds, where that is as it is to be, and how often it wrote.
+    fn sum(&mut self) -> Option<(u64, u64)> {
+        if self.stored.is_empty() {
+            return Some((self.done, 0));
+        }
+        let held = self.tree.visit().sum;
+        (held == sum_of(&self.stored)).then_some((held, self.done))
+    }
+}
+
+/// The workers on one tree with all ranges: the writer first, where there is one, and then the readers.
+fn crew<'a, R: Wait>(
+    rt: &'a R,
+    alloc: Global,
+    task: Task,
+    extent: Extent,
+    order: &[u32],
+) -> Option<Vec<Worker<Caller<'a, R>>>> {
+    let writers = u32::from(matches!(task.job, Job::Conc));
+    let mut callers = Caller::all(rt, alloc, task.kind, task.threads.saturating_add(writers))?;
+    if !store_all(callers.first_mut()?, order) {
+        return None;
+    }
+    let mut workers = Vec::new(alloc);
+    let mut seed = 100 - u64::from(writers);
+    for tree in callers {
+        let worker = if seed < 100 {
+            Worker::new(alloc, tree, task.ranges, true, 9, u64::MAX)?
+        } else {
+            Worker::new(alloc, tree, task.ranges, false, seed, extent.loads)?
+        };
+        workers.push(worker).ok()?;
+        seed = seed.saturating_add(1);
+    }
+    Some(workers)
+}
+
+/// The workers of lanes, each on a tree of its own with all ranges.
+fn lanes<'a, R: Wait>(
+    rt: &'a R,
+    alloc: Global,
+    task: Task,
+    extent: Extent,
+    order: &[u32],
+) -> Option<Vec<Worker<Caller<'a, R>>>> {
+    let mut workers = Vec::new(alloc);
+    for number in 0..TREES {
+        let mut callers = Caller::all(rt, alloc, task.kind, 1)?;
+        let mut tree = callers.pop()?;
+        if !store_all(&mut tree, order) {
+            return None;
+        }
+        let worker = Worker::new(alloc, tree, task.ranges, true, 200 + number, extent.calls)?;
+        workers.push(worker).ok()?;
+    }
+    Some(workers)
+}
+
+/// Has all at work at once, in so many threads, and gives the nanoseconds until all are done.
+fn at_once<R: Threads + Clock + Sync, T: Tree + Drop + Send>(
     rt: &R,
     workers: &mut [Worker<T>],
+    threads: usize,
     readers: u32,
-    extent: Extent,
-) -> io::Result<u64> {
+) -> Option<u64> {
     let at_work = AtomicU64::new(u64::from(readers));
-    let threads = workers.len().max(1);
-    let start = Instant::now(rt)?;
+    let start = Instant::now(rt).ok()?;
     thread::for_each_mut(
         rt,
         workers,
-        threads,
-        &|_, worker| worker.work(extent, &at_work),
+        threads.max(1),
+        &|_, worker| worker.work(&at_work),
     );
-    Ok(nanos_of(&start.elapsed(rt)?))
+    nanos_since(rt, &start)
 }
 
-/// Whether all loads were done.
-fn all_loaded<T>(workers: &[Worker<T>]) -> bool {
-    workers.iter().all(|worker| matches!(worker.task, Task::Write { .. }) || worker.outcome > 0)
-}
-
-/// The sum of what was loaded.
-fn loads_of<T>(workers: &[Worker<T>]) -> u64 {
-    let mut loads: u64 = 0;
-    for worker in workers {
-        if let Task::Load { .. } = worker.task {
-            loads = loads.wrapping_add(worker.outcome);
-        }
-    }
-    loads
-}
-
-/// How often the crew wrote, and what its tree is to hold where it did.
-fn writes_of<T>(workers: &[Worker<T>]) -> (u64, Visit) {
+/// What all came to, and how often they wrote.
+fn sums_of<T: Tree + Drop>(workers: &mut [Worker<T>]) -> Option<(u64, u64)> {
+    let mut all: u64 = 0;
     let mut writes: u64 = 0;
-    let mut due = Visit::default();
     for worker in workers {
-        if let Task::Write { stored } = &worker.task {
-            writes = writes.saturating_add(worker.outcome);
-            due.add(&visit_of(stored.as_slice()));
-        }
+        let (sum, done) = worker.sum()?;
+        all = all.wrapping_add(sum);
+        writes = writes.saturating_add(done);
     }
-    (writes, due)
+    Some((all, writes))
 }
 
-/// What a crew did, or none where a load was not done.
-fn tally_of<T: Tree>(workers: &mut [Worker<T>]) -> Option<Tally> {
-    if !all_loaded(workers) {
-        return None;
-    }
-    let loads = loads_of(workers);
-    let (writes, due) = writes_of(workers);
-    let held = workers.first_mut()?.tree.visit();
-    Some(Tally {
-        loads,
-        writes,
-        held,
-        due,
-    })
-}
-
-/// How fast so many loads and writes were made in so many nanoseconds.
-fn rates_of(loads: u64, writes: u64, nanos: u64) -> Report {
-    let nanos = nanos.max(1);
-    Report::Rates {
-        reads: Figure::Hundredths(loads.saturating_mul(100_000) / nanos),
-        writes: Figure::Thousandths(writes.saturating_mul(1_000_000) / nanos),
-    }
-}
-
-/// How fast a crew's threads load and write.
-fn rates<R: Threads + Wait + Clock + Sync>(
-    rt: &R,
-    alloc: Global,
-    crew: Crew,
-    extent: Extent,
-    callers: Vec<Caller<R>>,
-) -> io::Result<Option<(Report, Tally)>> {
-    let mut workers = workers_of(alloc, crew, extent.ranges, callers)?;
-    let nanos = at_once(rt, workers.as_mut_slice(), crew.readers, extent)?;
-    let Some(tally) = tally_of(workers.as_mut_slice()) else {
-        return Ok(None);
-    };
-    let loads = extent.times.saturating_mul(u64::from(crew.readers));
-    Ok(Some((rates_of(loads, tally.writes, nanos), tally)))
-}
-
-/// The slowest load and the slowest write of these trees.
-fn slowest_of<R, T>(workers: &[Worker<Timed<R, T>>]) -> Option<Report> {
-    let mut load = 0;
-    let mut write = 0;
-    for worker in workers {
-        load = load.max(worker.tree.load?);
-        write = write.max(worker.tree.call?);
-    }
-    Some(Report::Slowest { load, write })
-}
-
-/// The slowest load and the slowest write of these trees, and what was done on them.
-fn slowest_and_tally_of<R: Clock, T: Tree>(
-    workers: &mut [Worker<Timed<R, T>>],
-) -> Option<(Report, Tally)> {
-    let tally = tally_of(workers)?;
-    let report = slowest_of(workers)?;
-    Some((report, tally))
-}
-
-/// These trees, with their slowest calls noted from now on.
-fn timed_of<'a, R, T: Drop>(
-    rt: &'a R,
-    alloc: Global,
-    trees: Vec<T>,
-) -> Result<Vec<Timed<'a, R, T>>, AllocError> {
-    let mut timed = Vec::new(alloc);
-    for tree in trees {
-        timed.push(Timed::new(rt, tree))?;
-    }
-    Ok(timed)
-}
-
-/// The slowest load and the slowest write of a crew's threads.
-fn slowest<R: Threads + Wait + Clock + Sync>(
-    rt: &R,
-    alloc: Global,
-    crew: Crew,
-    extent: Extent,
-    callers: Vec<Caller<R>>,
-) -> io::Result<Option<(Report, Tally)>> {
-    let timed = timed_of(rt, alloc, callers)?;
-    let mut workers = workers_of(alloc, crew, extent.ranges, timed)?;
-    at_once(rt, workers.as_mut_slice(), crew.readers, extent)?;
-    Ok(slowest_and_tally_of(workers.as_mut_slice()))
-}
-
-/// Stores all ranges by the first of these, in random order; whether that was done.
-fn store_first<T: Tree>(alloc: Global, trees: &mut [T], ranges: u32) -> Result<bool, AllocError> {
-    let order = shuffled(alloc, ranges)?;
-    Ok(match trees.first_mut() {
-        Some(first) => store_all(first, order.as_slice()),
-        None => false,
-    })
-}
-
-/// What a crew comes to and what it did by these callers of an empty tree, or none where a call was not done.
-fn on_tree<R: Threads + Wait + Clock + Sync>(
-    rt: &R,
-    alloc: Global,
-    crew: Crew,
-    extent: Extent,
-    mut callers: Vec<Caller<R>>,
-) -> io::Result<Option<(Report, Tally)>> {
-    if !store_first(alloc, callers.as_mut_slice(), extent.ranges)? {
-        return Ok(None);
-    }
-    match crew.duty {
-        Duty::Readers | Duty::Conc => rates(rt, alloc, crew, extent, callers),
-        Duty::Slowest => slowest(rt, alloc, crew, extent, callers),
-    }
-}
-
-/// What a crew comes to and what it did, or none where a call was not done.
+/// What readers come to on one tree, beside a thread that writes where the job has one.
 pub fn together<R: Threads + Wait + Clock + Sync>(
     rt: &R,
     alloc: Global,
-    crew: Crew,
+    task: Task,
     extent: Extent,
-) -> io::Result<Option<(Report, Tally)>> {
-    let passes = crew.readers.saturating_add(crew.writers());
-    let Ok((tree, passes)) = make(alloc, crew.kind, passes) else {
-        return Err(io::Error::from(ErrorKind::OutOfMemory));
+) -> Option<Outcome> {
+    let setting = Setting::new(alloc, task)?;
+    let mut workers = crew(rt, alloc, task, extent, &setting.rand)?;
+    let threads = workers.len();
+    let nanos = at_once(rt, &mut workers, threads, task.threads)?;
+    let (sum, writes) = sums_of(&mut workers)?;
+    let readers = task.threads;
+    let loads = extent.loads.saturating_mul(u64::from(readers));
+    let reads = Figure::of(loads.saturating_mul(1000), nanos);
+    let report = Report::Rates {
+        readers,
+        reads,
+        writes: Figure::of(writes.saturating_mul(1000), nanos),
     };
-    let callers = Caller::all(alloc, rt, &tree, passes)?;
-    on_tree(rt, alloc, crew, extent, callers)
+    let number = if matches!(task.job, Job::Conc) {
+        1
+    } else {
+        sum
+    };
+    Some(Outcome {
+        report,
+        number,
+        held: 0,
+    })
+}
+
+/// What calls come to on four trees, each at work in one of so many threads.
+pub fn apart<R: Threads + Wait + Clock + Sync>(
+    rt: &R,
+    alloc: Global,
+    task: Task,
+    extent: Extent,
+) -> Option<Outcome> {
+    let setting = Setting::new(alloc, task)?;
+    let mut workers = lanes(rt, alloc, task, extent, &setting.rand)?;
+    let threads = task.threads;
+    let nanos = at_once(rt, &mut workers, threads as usize, 1)?;
+    let (held, number) = sums_of(&mut workers)?;
+    let report = Report::Whole {
+        threads,
+        ms: Figure::of(nanos, 1_000_000),
+    };
+    Some(Outcome {
+        report,
+        number,
+        held,
+    })
 }

@@ -1,7 +1,6 @@
 //! Random numbers that are the same on every machine.
 
 use std::alloc::{AllocError, Global};
-use std::io;
 
 /// A stream of numbers: its state is 64 bits wide, and at first the seed.
 #[derive(Clone, Copy)]
@@ -35,11 +34,4 @@ pub fn shuffled(alloc: Global, count: u32) -> Result<Vec<u32>, AllocError> {
         order.swap(k, other.min(k));
     }
     Ok(order)
-}
-
-/// Prints the first numbers of a stream.
-pub fn print_draws(rt: &impl Print) -> io::Result<()> {
-    let mut draws = Draws::new(7);
-    let (first, second, third) = (draws.below(1600), draws.below(1600), draws.below(1600));
-    println!(rt; "draws {first} {second} {third}")
 }

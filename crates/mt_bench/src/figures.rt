@@ -1,79 +1,83 @@
-//! What is printed of a command.
+//! What is told of a task.
 
 use std::fmt;
 
-/// A number with decimals: so many, and the whole part and the others.
+/// A number with four decimals, in ten-thousandths.
 #[derive(Clone, Copy)]
-pub enum Figure {
-    /// Nanoseconds, with one decimal.
-    Tenths(u64),
-    /// Millions a second, or milliseconds, with two.
-    Hundredths(u64),
-    /// Millions a second, with three.
-    Thousandths(u64),
-    /// Nodes for a range, with four.
-    TenThousandths(u64),
+pub struct Figure(pub u64);
+
+impl Figure {
+    /// So many, shared out among so many.
+    pub fn of(all: u64, among: u64) -> Self {
+        Figure(all.saturating_mul(10_000) / among.max(1))
+    }
 }
 
 impl fmt::Display for Figure {
     fn fmt<W: fmt::Write>(&self, f: &mut fmt::Formatter<W>) -> fmt::Result {
-        match *self {
-            Figure::Tenths(n) => write!(f, "{}.{}", n / 10, n % 10),
-            Figure::Hundredths(n) => write!(f, "{}.{:02}", n / 100, n % 100),
-            Figure::Thousandths(n) => write!(f, "{}.{:03}", n / 1000, n % 1000),
-            Figure::TenThousandths(n) => write!(f, "{}.{:04}", n / 10_000, n % 10_000),
-        }
+        write!(f, "{}.{:04}", self.0 / 10_000, self.0 % 10_000)
     }
 }
 
-/// What a command came to.
+/// What a task took, by so many threads where several did it.
 #[derive(Clone, Copy)]
 pub enum Report {
-    /// One operation's time, or the nodes for a range.
+    /// Nanoseconds of an operation, or the nodes for a range.
     One(Figure),
     /// Millions of loads a second of all readers together, and of writes.
     Rates {
+        readers: u32,
         reads: Figure,
         writes: Figure,
     },
-    /// Nanoseconds of the slowest load and of the slowest write.
-    Slowest {
-        load: u64,
-        write: u64,
-    },
     /// Milliseconds from the first thread's start to the last one's end.
-    Whole(Figure),
+    Whole {
+        threads: u32,
+        ms: Figure,
+    },
     /// Nanoseconds of a build for each range, and of its workers alone, and rows for each range.
     Built {
+        workers: u32,
         whole: Figure,
         lanes: Figure,
         rows: Figure,
     },
 }
 
-impl Report {
-    /// The word for what is told.
-    pub fn form(self) -> &'static str {
-        match self {
-            Report::One(_) => "one",
-            Report::Rates { .. } => "rates",
-            Report::Slowest { .. } => "slowest",
-            Report::Whole(_) => "whole",
-            Report::Built { .. } => "built",
-        }
-    }
-}
-
 impl fmt::Display for Report {
     fn fmt<W: fmt::Write>(&self, f: &mut fmt::Formatter<W>) -> fmt::Result {
         match self {
             Report::One(figure) => write!(f, "{figure}"),
-            Report::Rates { reads, writes } => write!(f, "reads_mops {reads} writes_mops {writes}"),
-            Report::Slowest { load, write } => write!(f, "load_ns {load} write_ns {write}"),
-            Report::Whole(figure) => write!(f, "ms {figure}"),
-            Report::Built { whole, lanes, rows } => {
-                write!(f, "ns {whole} lanes_ns {lanes} rows {rows}")
+            Report::Rates {
+                readers,
+                reads,
+                writes,
+            } => {
+                write!(
+                    f,
+                    "readers {readers} reads_mops {reads} writes_mops {writes}"
+                )
+            }
+            Report::Whole { threads, ms } => write!(f, "lanes {threads} ms {ms}"),
+            Report::Built {
+                workers,
+                whole,
+                lanes,
+                rows,
+            } => {
+                write!(
+                    f,
+                    "workers {workers} ns {whole} lanes_ns {lanes} rows {rows}"
+                )
             }
         }
     }
+}
+
+/// What a task took, and what it came to: a number that is the same each time, and the sum of what its trees hold then.
+#[derive(Clone, Copy)]
+pub struct Outcome {
+    pub report: Report,
+    pub number: u64,
+    pub held: u64,
 }

@@ -1,12 +1,12 @@
 //! Times works on a tree of N ranges. `mt_bench WORK N` prints `WORK N NANOSECONDS`, the time of one operation on one thread, or
 //! for `rnodes_seq` and its like how many nodes the tree has for each range. The first letter of a work is the kind of the tree:
 //! `r` for ranges, `a` for allocation, and `n` before either for narrow rows. The tree is the engine's, or where `t` stands
-//! before the kind the one that threads share, of which a pass makes each call. `rcheck`, `rdup` and `rdup_most` are of such a
-//! tree too: a check of its words, and copies of it; and so are `rimage` and `rread`: its image is written, and read.
+//! before the kind the one that threads share, of which a pass makes each call. Nodes are counted of such a tree too, and checks,
+//! copies and images are of one: `rcheck`, `rdup` and `rdup_most`, `rimage` and `rread`.
 //!
-//! `mt_bench DUTY N READERS` has so many threads load from one shared tree at once, 4,000,000 times each. `rreaders` and
-//! `rconc` print how many million loads and writes a second there were, `rconc` and `rslowest` beside one thread that writes
-//! until all loads are done, and `rslowest` the nanoseconds of the slowest load and of the slowest write.
+//! `mt_bench rreaders N READERS` has so many threads load from one shared tree at once, 4,000,000 times each, and prints how many
+//! million loads a second there were; so does `rconc`, and how many million writes, beside one thread that writes until all
+//! loads are done.
 //!
 //! `mt_bench rlanes N LANES` makes 100,000 calls on each of four shared trees, in so many threads, and prints the milliseconds
 //! of them all.
@@ -14,47 +14,28 @@
 //! `mt_bench rbuild N WORKERS` builds a tree at once of its ranges by so many workers, and prints the nanoseconds for each range, of
 //! it all and of the workers alone, and how many rows there are for each range.
 //!
-//! `mt_bench sums N` times nothing. It prints what each work comes to on the engine, on a shared tree and on a sorted list, and
-//! what threads come to, and whether these agree; and then what each line of its input is read as.
+//! `mt_bench sums` times nothing: for each line of its input it does the works of its words in few rounds, and prints what they
+//! come to, or that they are none.
 #![tactic(auto)]
 
 mod builds;
 mod callers;
-mod command;
 mod crews;
 mod draws;
 mod figures;
 mod jobs;
-mod lanes;
-mod lists;
-mod owners;
-mod readings;
-mod rounds;
-mod sums;
 mod sweeps;
-mod tallies;
-mod thread_sums;
-mod timed;
-mod toggles;
+mod tasks;
 mod trees;
-mod words;
 mod works;
 
 use crate::builds::build_times;
-use crate::command::{Command, Timing};
-use crate::crews::together;
-use crate::draws::print_draws;
-use crate::figures::Report;
-use crate::lanes::apart;
-use crate::readings::print_readings;
-use crate::rounds::alone;
-use crate::sums::works_agree;
+use crate::crews::{apart, together};
+use crate::figures::Outcome;
+use crate::jobs::alone;
 use crate::sweeps::swept;
-use crate::tallies::Extent;
-use crate::thread_sums::threads_agree;
-use crate::words::command_of;
-use mt_base::Kind;
-use std::alloc::Global;
+use crate::tasks::{Extent, Job, Task, task_of};
+use std::alloc::{AllocError, Global};
 use std::process::ExitCode;
 use std::rt::{Clock, Env};
 use std::sync::Wait;
@@ -63,96 +44,118 @@ use std::{env, io};
 
 /// What is written where the words are no command.
 const USAGE: &str =
-    "usage: mt_bench [t][n][ra]{load,iter,store_seq,store_rand,overwrite,erase} N, [t][n]a{alloc,ralloc,holes,churn} N, [n][ra]{nodes_seq,nodes_rand,check,dup,dup_most,image,read} N, [n][ra]{readers,conc,slowest} N READERS, [n][ra]lanes N LANES, [n][ra]build N WORKERS, sums N";
+    "usage: mt_bench [t][n][ra]{load,iter,store_seq,store_rand,overwrite,erase} N, [t][n]a{alloc,ralloc,holes,churn} N, [n][ra]{nodes_seq,nodes_rand,check,dup,dup_most,image,read} N, [n][ra]{readers,conc} N READERS, [n][ra]lanes N LANES, [n][ra]build N WORKERS, sums";
 
-/// The kinds of trees on which `sums` has all works done.
-const KINDS: [Kind; 4] = [Kind::Range, Kind::Alloc, Kind::Range32, Kind::Alloc32];
-
-/// Each reader loads so often.
-const LOADS: u64 = 4_000_000;
-
-/// So many calls are made on each of the trees that lanes have apart.
-const LANE_CALLS: u64 = 100_000;
-
-/// The words after the program's name.
-fn words_of(rt: &(impl Env + AllocGlobal)) -> io::Result<Vec<String>> {
-    Ok(env::args(rt)?.skip(1).collect(rt.alloc())?)
-}
-
-/// What is timed comes to this, or to none where a call was not done.
-fn report_of<R: Threads + Wait + Clock + Sync>(
+/// What a task takes and comes to, or none where a call was not done.
+fn outcome_of<R: Threads + Wait + Clock + Sync>(
     rt: &R,
     alloc: Global,
-    timing: Timing,
-    ranges: u32,
-) -> io::Result<Option<Report>> {
-    match timing {
-        Timing::Alone(work) => alone(rt, alloc, work, ranges),
-        Timing::Swept(sweep) => swept(rt, alloc, sweep, ranges),
-        Timing::Built(build) => build_times(rt, alloc, build, ranges),
-        Timing::Together(crew) => {
-            let times = LOADS;
-            let told = together(rt, alloc, crew, Extent { ranges, times })?;
-            Ok(told.map(|(report, _)| report))
-        }
-        Timing::Apart(lanes) => {
-            let times = LANE_CALLS;
-            let told = apart(rt, alloc, lanes, Extent { ranges, times })?;
-            Ok(told.map(|(report, _)| report))
-        }
+    task: Task,
+    extent: Extent,
+) -> Option<Outcome> {
+    match task.job {
+        Job::Readers | Job::Conc => together(rt, alloc, task, extent),
+        Job::Lanes => apart(rt, alloc, task, extent),
+        Job::Build => build_times(rt, alloc, task),
+        Job::NodesSeq
+        | Job::NodesRand
+        | Job::Check
+        | Job::Dup
+        | Job::DupMost
+        | Job::Image
+        | Job::Read => swept(rt, alloc, task, extent),
+        _ => alone(rt, alloc, task, extent),
     }
 }
 
-/// Times what is asked for, and prints what it comes to; whether all calls were done.
+/// How much is done where a task is timed.
+fn timed(ranges: u32) -> Extent {
+    Extent {
+        times: 1_000_000,
+        rounds: u64::from((100_000 / ranges.max(1)).max(1)),
+        loads: 4_000_000,
+        calls: 100_000,
+    }
+}
+
+/// How much is done where it is not.
+fn untimed(ranges: u32) -> Extent {
+    let times = u64::from(ranges).saturating_mul(10);
+    Extent {
+        times,
+        rounds: 0,
+        loads: times,
+        calls: times,
+    }
+}
+
+/// The words of a line.
+fn words_in(alloc: Global, line: &str) -> Result<Vec<String>, AllocError> {
+    let mut words = Vec::new(alloc);
+    for word in line.split(' ') {
+        words.push(String::from_str(alloc, word)?)?;
+    }
+    Ok(words)
+}
+
+/// Prints what the task of a line comes to.
+fn print_sums<R: Threads + Wait + Clock + Print + Sync>(
+    rt: &R,
+    alloc: Global,
+    line: &str,
+) -> io::Result<()> {
+    let words = words_in(alloc, line)?;
+    let Some(task) = task_of(&words) else {
+        return println!(rt; "{line} is none");
+    };
+    match outcome_of(rt, alloc, task, untimed(task.ranges)) {
+        Some(Outcome { number, held, .. }) => println!(rt; "{line} number {number} held {held}"),
+        None => println!(rt; "{line} was not done"),
+    }
+}
+
+/// Prints what the task of each line of the input comes to.
+fn print_all_sums<R: Threads + Wait + Clock + Input + Print + Sync>(
+    rt: &R,
+    alloc: Global,
+) -> io::Result<()> {
+    for line in rt.lines(alloc) {
+        print_sums(rt, alloc, line?.as_str())?;
+    }
+    Ok(())
+}
+
+/// Prints what a task takes, behind its word, where it was done; whether it was.
 fn print_time<R: Threads + Wait + Clock + Print + Sync>(
     rt: &R,
     alloc: Global,
-    timing: Timing,
-    ranges: u32,
+    word: &str,
+    task: Task,
 ) -> io::Result<bool> {
-    let Some(report) = report_of(rt, alloc, timing, ranges)? else {
-        return Ok(false);
-    };
-    let command = Command::Time { timing, ranges };
-    println!(rt; "{command} {report}")?;
-    Ok(true)
-}
-
-/// Prints what all works come to, and what the lines of the input are read as; whether all works agree.
-fn print_sums<R: Threads + Wait + Clock + Input + Print + Sync>(
-    rt: &R,
-    alloc: Global,
-    ranges: u32,
-) -> io::Result<bool> {
-    print_draws(rt)?;
-    let mut all_agree = true;
-    for kind in KINDS {
-        all_agree &= works_agree(rt, alloc, kind, ranges)?;
-        all_agree &= threads_agree(rt, alloc, kind, ranges)?;
+    let ranges = task.ranges;
+    match outcome_of(rt, alloc, task, timed(ranges)) {
+        Some(Outcome { report, number, .. }) if number > 0 => {
+            println!(rt; "{word} {ranges} {report}")?;
+            Ok(true)
+        }
+        _ => Ok(false),
     }
-    print_readings(rt, alloc)?;
-    Ok(all_agree)
 }
 
 fn main(rt: HostRuntime) -> io::Result<ExitCode> {
-    let words = words_of(&rt)?;
-    let (done, failure) = match command_of(&words) {
-        Some(Command::Time { timing, ranges }) => (
-            print_time(&rt, rt.alloc(), timing, ranges)?,
-            "mt_bench: a call was not done",
-        ),
-        Some(Command::Sums { ranges }) => (
-            print_sums(&rt, rt.alloc(), ranges)?,
-            "mt_bench: what was done differs",
-        ),
-        None => {
-            eprintln!(rt; "{USAGE}")?;
-            return Ok(ExitCode::from(2));
-        }
-    };
-    if done {
+    let words: Vec<String> = env::args(&rt)?.skip(1).collect(rt.alloc())?;
+    let word = words.first().map_or("", |word| word.as_str());
+    if word == "sums" {
+        print_all_sums(&rt, rt.alloc())?;
         return Ok(ExitCode::from(0));
     }
-    eprintln!(rt; "{failure}")?;
+    let Some(task) = task_of(&words) else {
+        eprintln!(rt; "{USAGE}")?;
+        return Ok(ExitCode::from(2));
+    };
+    if print_time(&rt, rt.alloc(), word, task)? {
+        return Ok(ExitCode::from(0));
+    }
+    eprintln!(rt; "mt_bench: a call was not done")?;
     Ok(ExitCode::from(1))
 }

@@ -7,7 +7,6 @@ use mt_engine::Engine;
 use mt_free::RowBook;
 use mt_rows::PlainRows;
 use std::alloc::Global;
-use std::fmt;
 use std::marker::Model;
 
 /// So many calls are made on one tree at the most.
@@ -26,7 +25,7 @@ pub trait Tree {
 }
 
 /// All ranges, visited once: how many there are, and the sum of their entries and first indexes.
-#[derive(Clone, Copy, Default, PartialEq, Eq)]
+#[derive(Clone, Copy, Default)]
 pub struct Visit {
     pub count: u64,
     pub sum: u64,
@@ -37,18 +36,6 @@ impl Visit {
     pub fn take(&mut self, range: &Range) {
         self.count = self.count.wrapping_add(1);
         self.sum = self.sum.wrapping_add(range.entry).wrapping_add(range.first);
-    }
-
-    /// All ranges of another visit more.
-    pub fn add(&mut self, other: &Visit) {
-        self.count = self.count.wrapping_add(other.count);
-        self.sum = self.sum.wrapping_add(other.sum);
-    }
-}
-
-impl fmt::Display for Visit {
-    fn fmt<W: fmt::Write>(&self, f: &mut fmt::Formatter<W>) -> fmt::Result {
-        write!(f, "ranges {} sum {}", self.count, self.sum)
     }
 }
 
@@ -70,7 +57,7 @@ impl Model for Nodes {
 }
 
 impl Nodes {
-    /// An empty tree of this kind.
+    /// An empty tree of this kind, or none where there is no memory.
     pub fn new(alloc: Global, kind: Kind) -> Result<Self, NoMemory> {
         let rows = PlainRows::of_width(alloc, width_of(kind), MOST_ROWS)?;
         let book = RowBook::new(alloc, MOST_ROWS)?;
@@ -78,12 +65,6 @@ impl Nodes {
             engine: Engine::new(rows, book, kind),
             calls: 0,
         })
-    }
-
-    /// How many nodes the tree has.
-    pub fn live(self) -> u64 {
-        let (_rows, book) = self.engine.parts();
-        book.live()
     }
 }
 

@@ -3,7 +3,7 @@
 ghost use Rattle.std.specs.Prelude.{◌≡◌, ◌*◌};
 
 use crate::draws::Draws;
-use crate::trees::{Tree, Visit};
+use crate::trees::Tree;
 use mt_base::{Call, Kind, Reply, top, width_of};
 
 /// Allocations lie below 2^48.
@@ -74,16 +74,18 @@ pub fn load(tree: &mut impl Tree, ranges: u32, times: u64, seed: u64) -> u64 {
     sum
 }
 
-/// Visits all ranges in order, until `times` ranges were visited.
-pub fn visit(tree: &mut impl Tree, times: u64) -> Visit {
-    let mut all = Visit::default();
+/// Visits all ranges in order, until `times` ranges were visited, and sums them up.
+pub fn visit(tree: &mut impl Tree, times: u64) -> u64 {
+    let (mut count, mut sum) = (0_u64, 0_u64);
     for _ in 0..times {
-        if times <= all.count {
+        if times <= count {
             break;
         }
-        all.add(&tree.visit());
+        let visited = tree.visit();
+        count = count.wrapping_add(visited.count);
+        sum = sum.wrapping_add(visited.sum);
     }
-    all
+    sum
 }
 
 /// The erase of range number `i`.
