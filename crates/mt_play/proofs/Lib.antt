@@ -16,3 +16,4 @@ pub mod Settling
 pub mod Staying
 pub mod Telling
 pub mod TreeRows
+pub mod Turning

@@ -22,9 +22,17 @@ use Rattle.mt_desks.proofs.Asking.{same_phase}
 use Rattle.mt_desks.proofs.Laning.{few_lanes, lanes_before, lanes_behind, some_lane}
 use Rattle.mt_desks.proofs.Naming.{own_lines, phase_named, phase_placed}
 use Rattle.mt_play.specs.Lanes.{CanDo, IsPhaseBehind}
-use Rattle.mt_play.specs.Phases.{BeginsAt, NoJoinBetween}
+use Rattle.mt_play.specs.Phases.{NoJoinBetween}
 use Rattle.mt_play.specs.Players.{IsBegun, IsPlayed, PlayerState}
 use Rattle.mt_play.specs.Trees.{calls_taken}
+
+-- A phase of this number begins at this place of a log.
+pub record BeginsAt (log : List Line) (from phase : ℕ) : Type 0 where
+  pub within : from ≤ length log
+  pub low : phase ≤ from
+  pub lane_is : lane_behind 0 (take from log) ≡ 0
+  pub phase_is : phase_behind 0 (take from log) ≡ phase
+  pub fresh : stepped_from false (take from log) ≡ false
 
 -- ---- a log cut into what is in front of a phase, the phase, and the rest
 
@@ -60,6 +68,9 @@ slice_at log from to i d high within = (taken (drop from log) (to - from) i d be
     dropped [] (suc n) i d = refl
     dropped (x ∷ xs) (suc n) i d = let e : suc (n + i) ≡ suc n + i = omega arith in dropped xs n i d ∙ ap (λ (k : ℕ). get_or (x ∷ xs) k d) e
 
+pub no_joins : (log : List Line) (from to : ℕ) → to ≤ length log → NoJoinBetween log from to → IsOnePhase (slice_range log from to)
+no_joins log from to high none = λ i d within. let (is, below) = slice_at log from to i d high within in rw is (none (from + i) d (omega arith) below)
+
 -- ---- a phase of a readable log
 
 pub phase_ready : (log : List Line) (lanes from to phase : ℕ) → IsReadable log → BeginsAt log from phase → from ≤ to → to ≤ length log → NoJoinBetween log from to → lanes_in 0 log ≤ lanes → length log < calls_taken
@@ -71,7 +82,7 @@ phase_ready log lanes from to phase readable begins low high none lanes_are few 
     let cut : log ≡ front ++ (lines ++ rest) = cut_at log from to low high in
     let there : IsReadable (front ++ (lines ++ rest)) = subst IsReadable cut readable in
     record {
-      one = λ i d within. let (is, below) = slice_at log from to i d high within in rw is (none (from + i) d (omega arith) below);
+      one = no_joins log from to high none;
       named = phase_named front lines rest there;
       placed = subst (λ (s : Bool). AreInPlaceFrom s lines) begins.fresh (phase_placed front lines rest there);
       numbered = stretch_apart front lines rest (subst IsReadable (sym (append_assoc front lines rest)) there);
@@ -123,7 +134,7 @@ join_played phase number lines p (steps, q) = (
   },
 )
 
-join_is : (item : Item) → is_join item ≡ true → item ≡ Join
+pub join_is : (item : Item) → is_join item ≡ true → item ≡ Join
 join_is Join join = refl
 join_is item join = absurd (false≢true join)
 

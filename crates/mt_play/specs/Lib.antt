@@ -5,3 +5,4 @@ pub mod Makes
 pub mod Phases
 pub mod Players
 pub mod Trees
+pub mod Turns

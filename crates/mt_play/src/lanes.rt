@@ -9,6 +9,7 @@ ghost use Rattle.mt_desks.specs.declared.desks.LaneDesk.{LaneDesk};
 ghost use Rattle.mt_play.specs.Lanes.{AreLanesFor, AreManned, AreSettled, CanDo, HaveGoneBy, HaveRun, IsLaneFor};
 ghost use Rattle.mt_play.specs.Players.{rows_known};
 ghost use Rattle.mt_play.specs.Trees.{AreAll};
+ghost use Rattle.mt_play.specs.Turns.{PhaseTurned};
 
 use crate::trees::Plays;
 use mt_base::NoMemory;
@@ -166,6 +167,7 @@ fn run_lanes<
     requires manned { AreManned P.knows T.serves (lanes + 1) trees.now seats.old }
     ensures manned { OnOk result (AreManned P.knows T.serves (lanes + 1) trees.now seats.new) }
     ensures run { OnOk result (HaveRun phase lines.now (map T.tree trees.now) (rows_known P.knows seats.old) (rows_known P.knows seats.new) entries.old.items entries.new.items) }
+    ensures turns { OnOk result (PhaseTurned (G.passed gate.now) lines.now) }
 {
     let first = first_room(alloc, lanes == 1, entries);
     let mut laid = lay_lanes(alloc, rt, lanes, phase, trees, lines, first)?;
@@ -198,7 +200,8 @@ pub(crate) fn run_and_settle<
     requires can { CanDo lanes (length trees.now) lines.now }
     requires many { All (λ t. T.many t ≡ lanes + 1) trees.now }
     requires manned { AreManned P.knows T.serves (lanes + 1) trees.now seats.old }
-    ensures { OnOk result (HaveGoneBy T.tree P.knows T.serves (lanes + 1) phase lines.now trees.now seats.old seats.new entries.old.items entries.new.items) }
+    ensures gone { OnOk result (HaveGoneBy T.tree P.knows T.serves (lanes + 1) phase lines.now trees.now seats.old seats.new entries.old.items entries.new.items) }
+    ensures turns { OnOk result (PhaseTurned (G.passed gate.now) lines.now) }
 {
     run_lanes(rt, alloc, lanes, phase, lines, trees, seats, entries, gate)?;
     settle_all(rt, trees, seats);

@@ -11,6 +11,7 @@ ghost use Rattle.mt_play.specs.Images.{IsImageOfRun};
 ghost use Rattle.mt_play.specs.Lanes.{CanDo, IsPhaseBehind};
 ghost use Rattle.mt_play.specs.Phases.{NoJoinBetween};
 ghost use Rattle.mt_play.specs.Players.{IsAtRest, IsBegun, IsPlayed, state_of};
+ghost use Rattle.mt_play.specs.Turns.{AllTurned, PhaseTurned};
 
 use crate::lanes::run_and_settle;
 use crate::players::Player;
@@ -45,6 +46,7 @@ fn play_lanes<
     ensures played { OnOk result ((front : List Line) (steps : List Step) → IsPhaseBehind lanes phase front lines.now → IsBegun phase front lines.now (state_of T.tree P.knows player.old) steps → IsPlayed (phase + 1) (front ++ lines.now) (state_of T.tree P.knows player.new)) }
     ensures rows { OnOk result (player.new.rows ≡ player.old.rows) }
     ensures passes { OnOk result (player.new.passes ≡ player.old.passes) }
+    ensures turns { OnOk result (PhaseTurned (G.passed gate.now) lines.now) }
 {
     run_and_settle(
         rt,
@@ -87,6 +89,7 @@ fn play_phase<
     ensures passes { OnOk result (player.new.passes ≡ player.old.passes) }
     ensures rows { OnOk result (player.new.rows ≡ player.old.rows) }
     ensures played { OnOk result (IsPlayed (phase + 1) (take to log.now) (state_of T.tree P.knows player.new)) }
+    ensures turns { OnOk result (PhaseTurned (G.passed gate.now) (slice_range log.now from to)) }
 {
     let lines = &log[from..to];
     player.begin(rt, alloc, lines)?;
@@ -126,6 +129,7 @@ fn phase_end(log: &[Line], from: usize) -> usize
 }
 
 /// Plays the lines of a log, phase by phase.
+#[tactic(auto, using(crate::proofs::Turning::last_turned, crate::proofs::Turning::none_left))]
 fn play_lines<
     R: Threads + Wait + Sync,
     P: Passage + Drop + Send,
@@ -149,6 +153,7 @@ fn play_lines<
     ensures rest { OnOk result (IsAtRest T.tree P.knows T.serves T.many player.new) }
     ensures rows { OnOk result (player.new.rows ≡ player.old.rows) }
     ensures played { OnOk result ((phase : ℕ) × IsPlayed phase log.now (state_of T.tree P.knows player.new)) }
+    ensures turns { OnOk result (AllTurned (G.passed gate.now) log.now) }
 {
     let mut from = 0;
     let mut phase = 0;
@@ -188,6 +193,7 @@ fn played<
     ensures rest { IfOk result (IsAtRest T.tree P.knows T.serves T.many) }
     ensures rows { IfOk result (λ player. player.rows ≡ rows) }
     ensures played { IfOk result (λ player. (phase : ℕ) × IsPlayed phase log.now.lines (state_of T.tree P.knows player)) }
+    ensures turns { IfOk result (λ player. AllTurned (G.passed gate.now) log.now.lines) }
 {
     let lines = log.lines.as_slice();
     let lanes = lanes_of(lines);
@@ -212,7 +218,8 @@ pub fn play<
     requires rows { rows ≤ most_rows }
     requires readable { IsReadable log.now.lines }
     requires count { length log.now.lines < 2 ^ 62 - 1 }
-    ensures { IfOk result (λ t. IsRun log.now rows t) }
+    ensures run { IfOk result (λ t. IsRun log.now rows t) }
+    ensures turns { IfOk result (λ t. AllTurned (G.passed gate.now) log.now.lines) }
 {
     let mut player = played::<R, P, T, G>(rt, alloc, log, rows, gate)?;
     let lists = player.list(rt, alloc)?;
@@ -240,7 +247,8 @@ pub fn play_image<
     requires readable { IsReadable log.now.lines }
     requires count { length log.now.lines < 2 ^ 62 - 1 }
     requires tree { trees_of log.now.lines ≢ [] }
-    ensures { IfOk result (λ bytes. IsImageOfRun rows log.now bytes.items) }
+    ensures image { IfOk result (λ bytes. IsImageOfRun rows log.now bytes.items) }
+    ensures turns { IfOk result (λ bytes. AllTurned (G.passed gate.now) log.now.lines) }
 {
     let mut player = played::<R, P, T, G>(rt, alloc, log, rows, gate)?;
     player.image_of(rt, alloc, 0)

@@ -1,10 +1,10 @@
 -- Listings of which a tree is built, or none is, and the place of a range as a line of the text.
-use Rattle.std.proofs.Common.{◌≡◌, ℕ, ◌+◌, ◌<◌, ◌^◌, Bool, true, false, List, [], ◌∷◌, Option, Some, None, length, ap, refl, arith}
+use Rattle.std.proofs.Common.{◌≡◌, ℕ, ◌+◌, ◌<◌, ◌≤◌, ◌^◌, Bool, true, false, List, [], ◌∷◌, Option, Some, None, length, ap, refl, arith}
 use Rattle.std.specs.Prelude.{if◌then◌else◌, nat_lt}
 use Rattle.mt_base.specs.declared.kinds.Kind.{Kind}
 use Rattle.mt_base.specs.declared.ranges.Range.{Range}
 use Rattle.mt_base.specs.Width.{most_rows}
-use Rattle.mt_bulk.specs.Builds.{refusal, refused_by}
+use Rattle.mt_bulk.specs.Builds.{TookTurns, refusal, refused_by}
 use Rattle.mt_bulk.specs.Bulk.{rows_in}
 use Rattle.mt_bulk.specs.Items.{is_misplaced, misplaced, misplaced_from}
 use Rattle.mt_bulk.specs.declared.errors.BulkError.TheVariants as errors
@@ -17,6 +17,7 @@ use Rattle.mt_log.specs.Text.{listing_text}
 use Rattle.mt_texts.specs.Texts.{IsBulkImage}
 use Rattle.mt_program.specs.Causes.{FailsOn, failure_of_listing}
 use Rattle.mt_program.specs.Headline.{IsBuiltImage}
+use Rattle.mt_program.specs.Turns.{IsBuiltBy}
 use Rattle.mt_program.specs.Verdicts.{IsUnbuilt, IsUnbuiltAt}
 use Rattle.mt_program.specs.declared.failures.Unbuilt.TheVariants as unbuilt
 
@@ -50,6 +51,10 @@ place_fits l bytes at text is short = omega (arith, within l.kind l.ranges at is
 
 pub is_built : (l : Listing) (bytes image : List ℕ) → IsInForm l → bytes ≡ listing_text l → refusal l.kind l.ranges ≡ None → IsBulkImage l.kind l.ranges image → IsBuiltImage bytes image
 is_built l bytes image form text fits is = (l, record { form = form; text = text }, fits, is)
+
+pub is_built_by : (l : Listing) (bytes : List ℕ) (passed : ℕ → ℕ → Type 0) (workers : ℕ) → IsInForm l → bytes ≡ listing_text l → (1 ≤ length l.ranges → TookTurns passed workers)
+    → IsBuiltBy passed workers bytes
+is_built_by l bytes passed workers form text took = (l, record { form = form; text = text }, took)
 
 pub out_of_order : (l : Listing) (bytes : List ℕ) (at : ℕ) → IsInForm l → bytes ≡ listing_text l → refusal l.kind l.ranges ≡ Some (errors.Order at) → IsUnbuiltAt bytes (at + 2) unbuilt.Order
 out_of_order l bytes at form text is = (l, at, record { form = form; text = text }, is, refl)

@@ -1,6 +1,6 @@
 -- From how a run ended to what its status says.
 use Rattle.std.proofs.Common.{◌≡◌, ◌≢◌, ◌⊎◌, ◌<◌, ◌≤◌, ◌++◌, ◌∙◌, ℕ, Bool, true, false, List, [], length, Option, Some, None, Result, Ok, Err, refl, sym, ap, subst, inl, inr, arith, append-nil, length-append, true≢false}
-use Rattle.std.specs.Prelude.{IfSome, is_ok}
+use Rattle.std.specs.Prelude.{IfSome, OnOk, is_ok}
 use Rattle.std.specs.Io.KnownBytes.{Appends, Consumes, IsAtEnd}
 use Rattle.std.proofs.KnownBytes.{Consumes-nil}
 use Rattle.mt_image.specs.declared.errors.ImageError.{ImageError}
@@ -14,6 +14,7 @@ use Rattle.mt_program.specs.Command.{limit_of, longest, reads}
 use Rattle.mt_program.specs.Ending.{ReadsTooMany, ReadsWithin, status_of}
 use Rattle.mt_program.specs.Headline.{IsOutput, Prints, Writes, WritesPart}
 use Rattle.mt_program.specs.Input.{ReadsAll}
+use Rattle.mt_program.specs.Turns.{HasTurned, HaveTurned, IsBuiltBy, IsTurnedLog}
 use Rattle.mt_program.specs.Verdicts.{IsDue, IsRefused, IsTaken, IsToldOf, IsUnverified, Refuses, Takes}
 use Rattle.mt_program.specs.declared.failures.Failure.{Failure}
 use Rattle.mt_program.specs.declared.failures.Failure.TheVariants as failures
@@ -587,3 +588,22 @@ module _ {command : Option Command} {old new : Streams} where
   err_told failures.WriteFault ends = tt
   err_told failures.NoMemory ends = tt
   err_told failures.TooLong ends = tt
+
+-- ---- the turns of lanes and workers
+
+turned : (passed : ℕ → ℕ → Type 0) (command : Command) (limit : ℕ) (left rest : Option (List ℕ)) (bytes : List ℕ) → ReadsAll limit left rest bytes → HasTurned passed command bytes
+    → HaveTurned passed (Some command) left
+turned passed (Replay rows) limit left rest bytes all took = known limit left rest bytes (IsTurnedLog passed) all took
+turned passed (Make number steps lanes) limit left rest bytes all took = tt
+turned passed (Trial number steps) limit left rest bytes all took = took
+turned passed (Verify rows) limit left rest bytes all took = tt
+turned passed (Image rows) limit left rest bytes all took = known limit left rest bytes (IsTurnedLog passed) all took
+turned passed Show limit left rest bytes all took = tt
+turned passed (Bulk workers) limit left rest bytes all took = known limit left rest bytes (IsBuiltBy passed workers) all took
+turned passed (Ids lo hi steps drops) limit left rest bytes all took = tt
+
+-- they took their turns, whether the text was then printed or not
+pub has_turned : (passed : ℕ → ℕ → Type 0) (command : Command) (result : Result (Unit {0}) Failure) (limit : ℕ) (left rest : Option (List ℕ)) (bytes : List ℕ) → ReadsAll limit left rest bytes
+    → HasTurned passed command bytes → OnOk result (HaveTurned passed (Some command) left)
+has_turned passed command (Ok done) limit left rest bytes all took = turned passed command limit left rest bytes all took
+has_turned passed command (Err failure) limit left rest bytes all took = tt

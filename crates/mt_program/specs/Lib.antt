@@ -4,4 +4,5 @@ pub mod Ending
 pub mod Headline
 pub mod Input
 pub mod Parts
+pub mod Turns
 pub mod Verdicts

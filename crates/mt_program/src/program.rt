@@ -13,8 +13,9 @@ ghost use Rattle.mt_program.specs.Causes.{FailsOn, EndsMaking, EndsPrint, EndsRe
 ghost use Rattle.mt_program.specs.Command.{limit_of, longest, reads};
 ghost use Rattle.mt_program.specs.Ending.{ReadsNoFurther, ReadsTooMany, ReadsWithin, status_of};
 ghost use Rattle.mt_cycles.specs.Turns.{IsIdsText};
-ghost use Rattle.mt_texts.specs.Texts.{IsImageListing, IsMadeText, IsTrialText};
+ghost use Rattle.mt_texts.specs.Texts.{IsImageListing, IsMadeText, IsTrialText, IsTurnedTrial};
 ghost use Rattle.mt_program.specs.Headline.{IsBuiltImage, IsImageOfLog, IsOutput, IsTextOfRun, IsVerifiedText, Writes, WritesPart};
+ghost use Rattle.mt_program.specs.Turns.{HasTurned, HaveTurned, IsBuiltBy, IsTurnedLog};
 ghost use Rattle.mt_program.specs.Verdicts.{IsBadLog, IsDue, IsNoImage, IsRefused, IsTaken, IsTreeless, IsUnbuilt, IsUnverified, Refuses, TellsStatus};
 
 use crate::failures::{Failure, Unbuilt, report};
@@ -66,6 +67,7 @@ fn replayed<R: Threads + Wait + Sync, G: Gate + Sync>(
     requires count { length input.items < 2 ^ 32 }
     ensures fine { IfOk result (λ text. IsTextOfRun rows input.items text.items) }
     ensures fails { IfErr result (FailsOn IsBadLog input.items) }
+    ensures turns { IfOk result (λ _. IsTurnedLog (G.passed gate.now) input.items) }
 {
     let log = log_in(alloc, input)?;
     Ok(answers(rt, alloc, log, rows, gate)?)
@@ -84,6 +86,7 @@ fn imaged<R: Threads + Wait + Sync, G: Gate + Sync>(
     requires count { length input.items < 2 ^ 32 }
     ensures fine { IfOk result (λ image. IsImageOfLog rows input.items image.items) }
     ensures fails { IfErr result (FailsOn IsTreeless input.items) }
+    ensures turns { IfOk result (λ _. IsTurnedLog (G.passed gate.now) input.items) }
 {
     let line = line_behind(&input);
     let log = log_in(alloc, input)?;
@@ -102,7 +105,7 @@ fn listed<R: Wait>(rt: &R, alloc: Global, bytes: &[u8]) -> Result<Vec<u8>, Failu
 }
 
 /// An image of a tree with just the ranges of the listing that the bytes are, built by so many workers at once.
-#[tactic(auto, using(crate::proofs::Places::place_fits, crate::proofs::Places::is_built, crate::proofs::Places::out_of_order, crate::proofs::Places::too_many_rows, crate::proofs::Places::no_listing))]
+#[tactic(auto, using(crate::proofs::Places::place_fits, crate::proofs::Places::is_built, crate::proofs::Places::is_built_by, crate::proofs::Places::out_of_order, crate::proofs::Places::too_many_rows, crate::proofs::Places::no_listing))]
 fn built<R: Threads + Wait + Sync, G: Gate + Sync>(
     rt: &R,
     alloc: Global,
@@ -115,6 +118,7 @@ fn built<R: Threads + Wait + Sync, G: Gate + Sync>(
     requires count { length bytes.now < 2 ^ 32 }
     ensures fine { IfOk result (λ image. IsBuiltImage bytes.now image.items) }
     ensures fails { IfErr result (FailsOn IsUnbuilt bytes.now) }
+    ensures turns { IfOk result (λ _. IsBuiltBy (G.passed gate.now) workers bytes.now) }
 {
     let listing = read_listing(alloc, bytes)?;
     let ranges = listing.ranges.as_slice();
@@ -165,6 +169,7 @@ fn output_of<R: Threads + Wait + Sync, G: Gate + Sync>(
     requires count { length input.items < 2 ^ 32 }
     ensures fine { IfOk result (λ text. IsOutput command.now input.items text.items) }
     ensures fails { IfErr result (FailsOn (Refuses command.now) input.items) }
+    ensures turns { IfOk result (λ _. HasTurned (G.passed gate.now) command.now input.items) }
 {
     match *command {
         Command::Replay { rows } => replayed(rt, alloc, rows, input, gate),
@@ -190,6 +195,7 @@ fn answer<R: Threads + Wait + Sync, S: Source, O: Sink, G: Gate + Sync>(
     ensures ends { EndsReading command.now result (streams (S.left src.old) (S.faults src.old) (O.written out.old) (O.faults out.old))
         (streams (S.left src.new) (S.faults src.new) (O.written out.new) (O.faults out.new)) }
     ensures reach { ReadsNoFurther (limit_of command.now) (S.left src.old) (S.left src.new) }
+    ensures turns { OnOk result (HaveTurned (G.passed gate.now) (Some command.now) (S.left src.old)) }
     ensures out_kept { IfErr result (λ e. e ≢ Failure.WriteFault → out.new ≡ out.old) }
     ensures src_quiet { result ≢ Err Failure.ReadFault → S.faults src.new ≡ S.faults src.old }
     ensures out_quiet { OnOk result (O.faults out.new ≡ O.faults out.old) }
@@ -234,6 +240,7 @@ fn trial<R: Threads + Wait + Sync, O: Sink, G: Gate + Sync>(
     requires number { number < 2 ^ 31 }
     requires steps { steps ≤ 100000 }
     ensures ends { EndsMaking (IsTrialText number steps) result (O.written out.old) (O.written out.new) (O.faults out.old) (O.faults out.new) }
+    ensures turns { OnOk result (IsTurnedTrial (G.passed gate.now) number steps) }
     ensures out_kept { IfErr result (λ e. e ≢ Failure.WriteFault → out.new ≡ out.old) }
     ensures out_quiet { OnOk result (O.faults out.new ≡ O.faults out.old) }
     ensures out_in_time { O.faults out.old ≡ 0 → O.late out.old ≡ 0 → O.late out.new ≡ 0 }
@@ -277,6 +284,7 @@ fn run<R: Threads + Wait + Sync, S: Source, O: Sink, G: Gate + Sync>(
         (streams (S.left src.new) (S.faults src.new) (O.written out.new) (O.faults out.new)) }
     ensures reach { ReadsNoFurther (longest (command_of (map string_bytes words.now))) (S.left src.old) (S.left src.new) }
     ensures unread { reads (command_of (map string_bytes words.now)) ≡ false → src.new ≡ src.old }
+    ensures turns { OnOk result (HaveTurned (G.passed gate.now) (command_of (map string_bytes words.now)) (S.left src.old)) }
     ensures out_kept { IfErr result (λ e. e ≢ Failure.WriteFault → out.new ≡ out.old) }
     ensures src_quiet { result ≢ Err Failure.ReadFault → S.faults src.new ≡ S.faults src.old }
     ensures out_quiet { OnOk result (O.faults out.new ≡ O.faults out.old) }
@@ -357,6 +365,10 @@ pub fn mtreplay<R: Threads + Wait + Sync, S: Source, O: Sink, E: Sink, G: Gate +
     // run, the listing of the tree whose image was read, or an image of a tree with the ranges of the listing that was read.
     ensures prints { (command : Command) → command_of (map string_bytes words.now) ≡ Some command → result ≡ 0
         → Writes command (S.left src.old) (O.written out.old) (O.written out.new) }
+
+    // Each step of a log was done by a lane that took both its turns of the gate, and each of the workers whose number is said took
+    // its own.
+    ensures turns { result ≡ 0 → HaveTurned (G.passed gate.now) (command_of (map string_bytes words.now)) (S.left src.old) }
 
     // Each status has its cause.
     ensures taken { result ≡ 0 → IsTaken (command_of (map string_bytes words.now)) (S.left src.old) }

@@ -13,6 +13,7 @@ use Rattle.mt_log.specs.Run.{IsRun}
 use Rattle.mt_log.specs.Text.{listing_text}
 use Rattle.mt_made.specs.Made.{made}
 use Rattle.mt_made.specs.Summary.{counted, summary_text}
+use Rattle.mt_play.specs.Turns.{AllTurned}
 use Rattle.mt_rows.specs.OfWords.{tree_made}
 use Rattle.mt_rows.specs.Publish.{map_by}
 use Rattle.mt_rows.specs.Sheet.{Rooted}
@@ -25,6 +26,10 @@ IsMadeText number steps lanes text = text ≡ log_text (made number steps lanes)
 -- tree may have
 abbrev pub IsTrialText : ℕ → ℕ → List ℕ → Type 0
 IsTrialText number steps text = (t : Transcript) × IsRun (made number steps 1) most_rows t × (text ≡ summary_text (counted steps t) ++ 10 ∷ [])
+
+-- the steps of that log were done by a lane that took both turns of each
+abbrev pub IsTurnedTrial : (ℕ → ℕ → Type 0) → ℕ → ℕ → Type 0
+IsTurnedTrial passed number steps = AllTurned passed (made number steps 1).lines
 
 -- the bytes are an image, and this is the listing of its tree, under the name `image`
 abbrev pub IsImageListing : List ℕ → List ℕ → Type 0

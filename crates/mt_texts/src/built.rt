@@ -1,7 +1,7 @@
 //! The image of a tree that is built of its ranges.
 
-ghost use Rattle.std.specs.Prelude.{◌≡◌, ◌≢◌, ◌≤◌, Some, None, IfOk, IfErr};
-ghost use Rattle.mt_bulk.specs.Builds.{refusal};
+ghost use Rattle.std.specs.Prelude.{◌≡◌, ◌≢◌, ◌≤◌, Some, None, IfOk, IfErr, length};
+ghost use Rattle.mt_bulk.specs.Builds.{TookTurns, refusal};
 ghost use Rattle.mt_texts.specs.Texts.{IsBulkImage};
 
 use mt_base::{Kind, Range};
@@ -30,6 +30,7 @@ pub fn built_image<R: Threads + Sync, G: Gate + Sync>(
     ensures taken { IfOk result (λ _. refusal kind ranges.now ≡ None) }
     ensures image { IfOk result (λ image. IsBulkImage kind ranges.now image.items) }
     ensures err { IfErr result (λ e. e ≢ BulkError.NoMemory → refusal kind ranges.now ≡ Some e) }
+    ensures turns { IfOk result (λ _. 1 ≤ length ranges.now → TookTurns (G.passed gate.now) workers) }
 {
     let mut rows = build(rt, alloc, kind, ranges, workers, gate)?;
     Ok(write_image(alloc, &mut rows, kind)?)

@@ -9,7 +9,8 @@ ghost use Rattle.mt_made.specs.Summary.{counted};
 ghost use Rattle.mt_log.specs.declared.transcripts.Transcript.{Transcript};
 ghost use Rattle.mt_play.specs.Images.{IsImageOfRun};
 ghost use Rattle.mt_play.specs.Trees.{fewest_rows};
-ghost use Rattle.mt_texts.specs.Texts.{IsMadeText, IsTrialText};
+ghost use Rattle.mt_play.specs.Turns.{AllTurned};
+ghost use Rattle.mt_texts.specs.Texts.{IsMadeText, IsTrialText, IsTurnedTrial};
 
 use crate::trees::LaneTree;
 use mt_base::{MOST_ROWS, NoMemory};
@@ -34,7 +35,8 @@ fn played<R: Threads + Wait + Sync, G: Gate + Sync>(
     requires rows { rows ≤ most_rows }
     requires readable { IsReadable log.lines }
     requires count { length log.lines < 2 ^ 62 - 1 }
-    ensures { IfOk result (λ t. IsRun log rows t) }
+    ensures run { IfOk result (λ t. IsRun log rows t) }
+    ensures turns { IfOk result (λ t. AllTurned (G.passed gate.now) log.lines) }
 {
     play::<R, Pass, LaneTree, G>(rt, alloc, &log, rows, gate)
 }
@@ -55,7 +57,8 @@ pub fn answers<R: Threads + Wait + Sync, G: Gate + Sync>(
     requires rows { rows ≤ most_rows }
     requires readable { IsReadable log.lines }
     requires count { length log.lines < 2 ^ 62 - 1 }
-    ensures { IfOk result (λ text. TellsRun rows log text.items) }
+    ensures text { IfOk result (λ text. TellsRun rows log text.items) }
+    ensures turns { IfOk result (λ text. AllTurned (G.passed gate.now) log.lines) }
 {
     let transcript = played(rt, alloc, log, rows, gate)?;
     render(alloc, &transcript)
@@ -78,7 +81,8 @@ pub fn image_of_run<R: Threads + Wait + Sync, G: Gate + Sync>(
     requires readable { IsReadable log.lines }
     requires count { length log.lines < 2 ^ 62 - 1 }
     requires tree { trees_of log.lines ≢ [] }
-    ensures { IfOk result (λ bytes. IsImageOfRun rows log bytes.items) }
+    ensures image { IfOk result (λ bytes. IsImageOfRun rows log bytes.items) }
+    ensures turns { IfOk result (λ bytes. AllTurned (G.passed gate.now) log.lines) }
 {
     play_image::<R, Pass, LaneTree, G>(rt, alloc, &log, rows, gate)
 }
@@ -109,7 +113,8 @@ fn tried<R: Threads + Wait + Sync, G: Gate + Sync>(
 ) -> Result<Summary, NoMemory>
     requires number { number < 2 ^ 31 }
     requires steps { steps ≤ 100000 }
-    ensures { IfOk result (λ summary. (t : Transcript) × IsRun (made number steps 1) most_rows t × (summary ≡ counted steps t)) }
+    ensures summary { IfOk result (λ summary. (t : Transcript) × IsRun (made number steps 1) most_rows t × (summary ≡ counted steps t)) }
+    ensures turns { IfOk result (λ summary. IsTurnedTrial (G.passed gate.now) number steps) }
 {
     let log = made_log(alloc, number, steps, 1)?;
     let transcript = played(rt, alloc, log, MOST_ROWS, gate)?;
@@ -130,7 +135,8 @@ pub fn trial_text<R: Threads + Wait + Sync, G: Gate + Sync>(
 ) -> Result<String, NoMemory>
     requires number { number < 2 ^ 31 }
     requires steps { steps ≤ 100000 }
-    ensures { IfOk result (λ text. IsTrialText number steps (string_bytes text)) }
+    ensures text { IfOk result (λ text. IsTrialText number steps (string_bytes text)) }
+    ensures turns { IfOk result (λ text. IsTurnedTrial (G.passed gate.now) number steps) }
 {
     let summary = tried(rt, alloc, number, steps, gate)?;
     let mut text = String::new(alloc);

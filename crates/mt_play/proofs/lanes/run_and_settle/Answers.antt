@@ -4,8 +4,8 @@ use Rattle.mt_play.specs.Players.{rows_known}
 use Rattle.mt_play.proofs.PlayerGone.{manned_settled}
 use Rattle.mt_play.proofs.lanes.run_and_settle.Goals as goal
 
-pub returns : goal.returns
-returns g c = record {
+pub returns-clause-gone : goal.returns-clause-gone
+returns-clause-gone g c = record {
   between = rows_known g.P.Passage.knows c.run_lanes.new.seats;
   run = c.in_ok-run_lanes.ensures.run;
   settled = c.settle_all.ensures.settled;

@@ -5,6 +5,7 @@ use Rattle.mt_desks.specs.declared.desks.LaneDesk.{LaneDesk}
 use Rattle.mt_play.proofs.LanesGone.{lanes_gone, ok_from}
 use Rattle.mt_play.proofs.Manning.{lanes_laid, lanes_pass, rows_wide}
 use Rattle.mt_play.proofs.Settling.{written_row}
+use Rattle.mt_play.proofs.Turning.{lanes_turned}
 use Rattle.mt_play.proofs.lanes.run_lanes.Goals as goal
 
 pub run_phase-requires-clause-rows : goal.run_phase-requires-clause-rows
@@ -44,3 +45,9 @@ returns-clause-run g c =
     c.run_phase.ensures.went c.run_phase.ensures.passes c.run_phase.ensures.count c.run_phase.ensures.long c.run_phase.ensures.others c.run_phase.auto.lanes
     (c.as_mut_slice-2.ensures.value ∙ written_row c.in_ok-laid.laid c.run_phase.new.lanes (c.run_phase.auto.lanes ∙ ap length c.as_mut_slice.ensures.value))
     (λ one. c.first_room-first.ensures.alone (eq-eqb lanes 1 one)) (λ several. c.first_room-first.ensures.empty (ne_eqb lanes 1 several)) alone together (λ several. c.in_ok-reserve_all.ensures ∙ c.first_room-first.ensures.kept (ne_eqb lanes 1 several))).1) c.tell.ensures.alone c.tell.ensures.together
+
+pub returns-clause-turns : goal.returns-clause-turns
+returns-clause-turns g c =
+    let ls : List (Lane (LaneDesk g.row.R.Denot g.row.P.Denot g.row.T.Denot)) = c.as_mut_slice.result.now in
+    ok_from c.tell.result (λ alone together. lanes_turned (g.G.Gate.passed c.args.gate.now) c.args.lanes c.args.phase c.args.lines.now c.args.trees.now c.first_room-first.result.items ls c.run_phase.new.lanes c.requires.can.lanes_are
+    (ap length c.as_mut_slice.ensures.value ∙ c.in_ok-laid.ensures.count) (rw c.as_mut_slice.ensures.value c.in_ok-laid.ensures.laid) c.run_phase.ensures.turns) c.tell.ensures.alone c.tell.ensures.together

@@ -4,8 +4,8 @@ use Rattle.mt_play.specs.Players.{state_of}
 use Rattle.mt_play.proofs.LogPhases.{run_of}
 use Rattle.mt_play.proofs.phases.play.Goals as goal
 
-pub returns : goal.returns
-returns g c =
+pub returns-clause-run : goal.returns-clause-run
+returns-clause-run g c =
     let (phase, played) = c.in_ok-player.ensures.played in
     run_of c.args.log.now c.args.log.now.lines c.args.rows phase (record { version = c.args.log.now.version; entries = c.new.result; lists = c.new-2.result }) (state_of g.T.Shared.tree g.P.Passage.knows c.in_ok-player.player)
     refl c.in_ok-player.ensures.rows played refl

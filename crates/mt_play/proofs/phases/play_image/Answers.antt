@@ -13,8 +13,8 @@ image_of-requires-clause-declared g c κs lives =
     some_tree phase c.args.log.now.lines (state_of g.T.Shared.tree g.P.Passage.knows p) (length p.trees.items) played
     (tracked_count g.T.Shared.tree g.P.Passage.knows g.T.Shared.serves g.T.Plays.many p c.in_ok-player.ensures.rest) c.requires.tree
 
-pub returns : goal.returns
-returns g c =
+pub returns-clause-image : goal.returns-clause-image
+returns-clause-image g c =
     let p = c.in_ok-player.player in
     let (phase, played) = c.in_ok-player.ensures.played in
     if_ok (λ bytes. HasImage (state_of g.T.Shared.tree g.P.Passage.knows p) 0 bytes.items) (λ bytes. IsImageOfRun c.args.rows c.args.log.now bytes.items) c.image_of.result

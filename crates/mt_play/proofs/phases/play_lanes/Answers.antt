@@ -16,7 +16,7 @@ returns-clause-rest g c =
     on_ok_weaker c.run_and_settle.result
     (λ gone. rests_gone g.T.Shared.tree g.P.Passage.knows g.T.Shared.serves g.T.Plays.many c.args.player.now c.args.lanes c.args.phase c.args.lines.now c.requires.rest c.requires.passes seats c.run_and_settle.new.entries
     (gone_same g.T.Shared.tree g.P.Passage.knows g.T.Shared.serves (c.args.lanes + 1) c.args.phase c.args.lines.now c.args.player.now.trees.items c.as_slice.result.now c.args.player.now.seats.items c.as_mut_slice.result.now seats.items c.run_and_settle.new.seats c.args.player.now.entries.items c.run_and_settle.new.entries.items c.as_slice.ensures.value c.as_mut_slice.ensures.value same gone))
-    c.run_and_settle.ensures
+    c.run_and_settle.ensures.gone
 
 pub returns-clause-played : goal.returns-clause-played
 returns-clause-played g c =
@@ -25,4 +25,4 @@ returns-clause-played g c =
     on_ok_weaker c.run_and_settle.result
     (λ gone. played_gone g.T.Shared.tree g.P.Passage.knows g.T.Shared.serves g.T.Plays.many c.args.player.now c.args.lanes c.args.phase c.args.lines.now c.requires.rest c.requires.passes seats c.run_and_settle.new.entries
     (gone_same g.T.Shared.tree g.P.Passage.knows g.T.Shared.serves (c.args.lanes + 1) c.args.phase c.args.lines.now c.args.player.now.trees.items c.as_slice.result.now c.args.player.now.seats.items c.as_mut_slice.result.now seats.items c.run_and_settle.new.seats c.args.player.now.entries.items c.run_and_settle.new.entries.items c.as_slice.ensures.value c.as_mut_slice.ensures.value same gone))
-    c.run_and_settle.ensures
+    c.run_and_settle.ensures.gone

@@ -1,6 +1,7 @@
-use Rattle.std.proofs.Common.{◌≡◌, ◌+◌, ◌-◌, length, take}
-use Rattle.mt_play.specs.Phases.{BeginsAt}
+use Rattle.std.proofs.Common.{◌≡◌, ◌+◌, ◌-◌, drop, length, take}
 use Rattle.mt_play.specs.Players.{IsAtRest, IsPlayed, state_of}
+use Rattle.mt_play.specs.Turns.{AllTurned}
+use Rattle.mt_play.proofs.LogPhases.{BeginsAt}
 use Rattle.mt_play.proofs.phases.play_lines.Given as goal
 
 abbrev pub invariant-loop-from : goal.invariant-loop-from
@@ -10,6 +11,7 @@ invariant-loop-from g l = record {
   passes : l.player.passes ≡ l.lanes + 1;
   rows : l.player.rows ≡ l.initial.player.rows;
   played : IsPlayed l.phase (take l.from l.log) (state_of g.T.Shared.tree g.P.Passage.knows l.player);
+  turned : AllTurned (g.G.Gate.passed l.gate) (drop l.from l.log) → AllTurned (g.G.Gate.passed l.gate) l.log;
 }
 
 abbrev pub decreases-loop-from : goal.decreases-loop-from

@@ -1,4 +1,4 @@
 use Rattle.mt_texts.proofs.texts.image_of_run.Goals as goal
 
-pub returns : goal.returns
-returns g c = c.play_image.ensures
+pub returns-clause-image : goal.returns-clause-image
+returns-clause-image g c = c.play_image.ensures.image

@@ -1,4 +1,4 @@
 use Rattle.mt_texts.proofs.texts.played.Goals as goal
 
-pub returns : goal.returns
-returns g c = c.play.ensures
+pub returns-clause-run : goal.returns-clause-run
+returns-clause-run g c = c.play.ensures.run

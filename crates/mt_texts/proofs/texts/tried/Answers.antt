@@ -1,5 +1,5 @@
 use Rattle.std.proofs.Common.{rules}
 use Rattle.mt_texts.proofs.texts.tried.Goals as goal
 
-pub returns : goal.returns
-returns g c = search rules
+pub returns-clause-summary : goal.returns-clause-summary
+returns-clause-summary g c = search rules
