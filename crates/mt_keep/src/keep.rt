@@ -1,7 +1,7 @@
 //! A lock whose value is of a place, for those who do not wait.
 
-ghost use Rattle.std.specs.Prelude.{◌≡◌, IfOk, IfErr, None, true, false, [], ◌∷◌};
-ghost use Rattle.mt_keep.specs.Keeping.{HasGrabbed, IsBusyAt, IsGivenAt, IsSeatedAt, IsTakenOf, refused, waiting};
+ghost use Rattle.std.specs.Prelude.{◌≡◌, ◌+◌, ℕ, IfOk, IfErr, None, true, false, [], ◌∷◌};
+ghost use Rattle.mt_keep.specs.Keeping.{HasGrabbed, IsBusyAt, IsGivenAt, IsSeatedAt, IsTakenOf, cuts_of, refused, waiting};
 
 use atomic_table::{Badge, Play, Seat, Split, Table, TableRule};
 use mt_base::NoMemory;
@@ -14,6 +14,13 @@ pub trait Placed<K> {
     ghost fits: { K → Self → Type 0 };
 }
 
+/// How a keep began, which never changes: its place, and its first value.
+#[derive(Drop)]
+pub struct Start<C, K> {
+    pub place: Snapshot<K>,
+    pub first: Snapshot<C>,
+}
+
 /// What a seat knows. None is made when the program runs.
 pub struct Sight<C, K> {
     /// Whether it has the value, and whether it has had it.
@@ -24,8 +31,11 @@ pub struct Sight<C, K> {
     /// The value as it took it, and as it gave it back.
     pub took: Option<Snapshot<C>>,
     pub gave: Option<Snapshot<C>>,
-    /// The place that the value is of.
-    pub of: Snapshot<K>,
+    /// The place that the value is of, and the value that the keep began with.
+    pub of: Start<C, K>,
+    /// How many cuts it is from the first chair: who takes the value, and who makes a chair, cuts a seat off his own, and both are
+    /// one further then.
+    pub cuts: u64,
 }
 
 /// Whoever has one may take the value. It has no bytes.
@@ -49,12 +59,12 @@ pub struct Given<C, K> {
 /// The value is with one seat, or in the slot.
 pub struct Kept;
 
-impl<C: Placed<K>, K> TableRule<Option<C>, Sight<C, K>, Snapshot<K>> for Kept {
-    ghost use Rattle.mt_keep.specs.Keeping.{IsKept, waiting};
+impl<C: Placed<K>, K> TableRule<Option<C>, Sight<C, K>, Start<C, K>> for Kept {
+    ghost use Rattle.mt_keep.specs.Keeping.{IsKept, first_chair};
 
     ghost holds = { IsKept C.fits };
 
-    ghost first = { waiting };
+    ghost first = { first_chair };
 }
 
 /// Takes the value, where it is in the slot.
@@ -79,15 +89,17 @@ impl<C: Placed<K>, K> Play<Option<C>, Sight<C, K>> for Releases {
 struct Sits;
 
 impl<C, K> Split<Sight<C, K>> for Sits {
-    ghost left = { λ v. v };
+    ghost use Rattle.mt_keep.specs.Keeping.{one_further};
 
-    ghost right = { λ v. v };
+    ghost left = { one_further };
+
+    ghost right = { one_further };
 }
 
 /// A value of one place. Whoever takes it has it until he gives it back; nobody waits for it.
 #[derive(Drop)]
 pub struct Keep<C: Placed<K>, K> {
-    table: Table<Option<C>, Sight<C, K>, Snapshot<K>, Kept, Global>,
+    table: Table<Option<C>, Sight<C, K>, Start<C, K>, Kept, Global>,
     ghost one: { (table.shared.table_id.words ≡ 1) × (table.shared.table_id.slots ≡ 1) },
 }
 
@@ -108,10 +120,15 @@ impl<C: Placed<K> + Drop, K> Keep<C, K> {
     /// `NoMemory` where memory ran out.
     pub fn make(alloc: Global, place: &K, value: C) -> Result<(Keep<C, K>, Chair<C, K>), NoMemory>
         requires { C.fits place.now value }
-        ensures place { IfOk result (λ r. r.0.table.shared.key.value ≡ place.now) }
+        ensures place { IfOk result (λ r. r.0.table.shared.key.place.value ≡ place.now) }
+        ensures first { IfOk result (λ r. r.0.table.shared.key.first.value ≡ value) }
         ensures chair { IfOk result (λ r. IsSeatedAt r.0.table.shared.table_id r.0.table.shared.key r.1) }
+        ensures cuts { IfOk result (λ r. cuts_of r.1 ≡ 0) }
     {
-        let key = Snapshot::of(place);
+        let key = Start {
+            place: Snapshot::of(place),
+            first: Snapshot::of(&value),
+        };
         let mut slots = Vec::with_capacity(alloc, 1)?;
         slots.push_reserved(Some(value));
         match Table::new(alloc, &[0], slots, &key) {
@@ -126,8 +143,9 @@ impl<C: Placed<K>, K> Keep<C, K> {
     fn seat(&self, chair: &mut Chair<C, K>) -> Seat<Option<C>, Sight<C, K>>
         requires { IsSeatedAt self.now.table.shared.table_id self.now.table.shared.key chair.old }
         ensures chair { IsSeatedAt self.now.table.shared.table_id self.now.table.shared.key chair.new }
+        ensures cuts { cuts_of chair.new ≡ cuts_of chair.old + 1 }
         ensures table { result.table_id ≡ self.now.table.shared.table_id }
-        ensures seat { result.me ≡ (waiting self.now.table.shared.key, []) }
+        ensures seat { result.me ≡ (waiting self.now.table.shared.key (cuts_of chair.new), []) }
     {
         let badge = std::mem::replace(chair, Badge::blank());
         let mut seat = badge.into_seat::<Option<C>>();
@@ -136,28 +154,35 @@ impl<C: Placed<K>, K> Keep<C, K> {
         other
     }
 
-    /// Another chair.
+    /// Another chair. Both are one cut further from the first one.
     pub fn chair(&self, chair: &mut Chair<C, K>) -> Chair<C, K>
         requires { IsSeatedAt self.now.table.shared.table_id self.now.table.shared.key chair.old }
         ensures chair { IsSeatedAt self.now.table.shared.table_id self.now.table.shared.key chair.new }
+        ensures cuts { cuts_of chair.new ≡ cuts_of chair.old + 1 }
         ensures other { IsSeatedAt self.now.table.shared.table_id self.now.table.shared.key result }
+        ensures other_cuts { cuts_of result ≡ cuts_of chair.new }
     {
         self.seat(chair).into_badge()
     }
 
-    /// Takes the value, if it is in the slot: by one swap.
+    /// Takes the value, if it is in the slot: by one swap of a seat that is cut off the chair. What is told of that seat has the
+    /// number of cuts that the chair has then.
     ///
     /// # Errors
     ///
     /// `Busy` where the swap found it away. Only a seat that has found it away says so, and none has before the value was ever
     /// taken: so that no answer is `Busy` but by a step at the keep.
+    #[tactic(auto, using(crate::proofs::Taking::busy_views, crate::proofs::Taking::idle_seat))]
     pub fn try_take(&self, chair: &mut Chair<C, K>) -> Result<Taken<C, K>, Busy<C, K>>
         requires { IsSeatedAt self.now.table.shared.table_id self.now.table.shared.key chair.old }
         ensures chair { IsSeatedAt self.now.table.shared.table_id self.now.table.shared.key chair.new }
-        ensures value { IfOk result (λ taken. C.fits self.now.table.shared.key.value taken.value) }
+        ensures cuts { cuts_of chair.new ≡ cuts_of chair.old + 1 }
+        ensures value { IfOk result (λ taken. C.fits self.now.table.shared.key.place.value taken.value) }
         ensures taken { IfOk result (λ taken. IsTakenOf self.now.table.shared.table_id self.now.table.shared.key taken.took taken.seat) }
+        ensures taken_cuts { IfOk result (λ taken. taken.seat.me.0.cuts ≡ cuts_of chair.new) }
         ensures took { IfOk result (λ taken. taken.took.value ≡ taken.value) }
         ensures busy { IfErr result (IsBusyAt self.now.table.shared.table_id self.now.table.shared.key) }
+        ensures busy_cuts { IfErr result (λ busy. cuts_of busy.seat ≡ cuts_of chair.new) }
     {
         let mut seat = self.seat(chair);
         if !self.grab(&mut seat) {
@@ -171,10 +196,11 @@ impl<C: Placed<K>, K> Keep<C, K> {
     /// Swaps 1 into the word. Where the value was in its slot, that is then away with the seat; else the seat has found it away.
     fn grab(&self, seat: &mut Seat<Option<C>, Sight<C, K>>) -> bool
         requires table { seat.old.table_id ≡ self.now.table.shared.table_id }
-        requires idle { seat.old.me ≡ (waiting self.now.table.shared.key, []) }
+        requires idle { seat.old.me ≡ (waiting self.now.table.shared.key seat.old.me.0.cuts, []) }
         ensures table { seat.new.table_id ≡ seat.old.table_id }
+        ensures cuts { seat.new.me.0.cuts ≡ seat.old.me.0.cuts }
         ensures away { result ≡ true → HasGrabbed C.fits self.now.table.shared.key seat.new.me }
-        ensures refused { result ≡ false → seat.new.me ≡ (refused self.now.table.shared.key, []) }
+        ensures refused { result ≡ false → seat.new.me ≡ (refused self.now.table.shared.key seat.old.me.0.cuts, []) }
     {
         self.table.shared.swap::<Grabs>(seat, 0, 1) == 0
     }
@@ -183,8 +209,9 @@ impl<C: Placed<K>, K> Keep<C, K> {
     fn grabbed(&self, mut seat: Seat<Option<C>, Sight<C, K>>) -> Taken<C, K>
         requires table { seat.table_id ≡ self.now.table.shared.table_id }
         requires away { HasGrabbed C.fits self.now.table.shared.key seat.me }
-        ensures value { C.fits self.now.table.shared.key.value result.value }
+        ensures value { C.fits self.now.table.shared.key.place.value result.value }
         ensures taken { IsTakenOf self.now.table.shared.table_id self.now.table.shared.key result.took result.seat }
+        ensures cuts { result.seat.me.0.cuts ≡ seat.me.0.cuts }
         ensures took { result.took.value ≡ result.value }
     {
         let value = self.table.shared.exchange(&mut seat, 0, None).unwrap();
@@ -195,8 +222,9 @@ impl<C: Placed<K>, K> Keep<C, K> {
     /// Gives the value back, and tells what it was and what it is now: the next who takes it finds that.
     pub fn give(&self, taken: Taken<C, K>) -> Given<C, K>
         requires taken { IsTakenOf self.now.table.shared.table_id self.now.table.shared.key taken.took taken.seat }
-        requires value { C.fits self.now.table.shared.key.value taken.value }
+        requires value { C.fits self.now.table.shared.key.place.value taken.value }
         ensures given { IsGivenAt self.now.table.shared.table_id self.now.table.shared.key result }
+        ensures cuts { cuts_of result.seat ≡ taken.seat.me.0.cuts }
         ensures took { result.took ≡ taken.took }
         ensures gave { result.gave.value ≡ taken.value }
     {

@@ -1,5 +1,6 @@
 use Rattle.std.proofs.Common.{rules, ap, ◌∙◌, ◌∷◌, []}
-use Rattle.mt_keep.proofs.Taking.{released, releases_value}
+use Rattle.mt_keep.specs.Keeping.{cuts_in}
+use Rattle.mt_keep.proofs.Taking.{given_views, released, releases_value}
 use Rattle.mt_keep.proofs.keep.Keep.give.Goals as goal
 
 pub store-requires : goal.store-requires
@@ -12,4 +13,9 @@ into_badge-requires g c =
 pub returns-clause-given : goal.returns-clause-given
 returns-clause-given g c =
     let done = released c.args.self.now.table.shared.key c.exchange-empty.new.seat.me c.store.new.seat.me c.args.taken.took c.of-gave.result (search rules) c.store.ensures.2 in
-    record { table = search rules; views = c.into_badge.ensures.2 ∙ ap (λ m. m.0 ∷ []) done }
+    record { table = search rules; views = given_views (c.into_badge.ensures.2 ∙ ap (λ m. m.0 ∷ []) done) }
+
+pub returns-clause-cuts : goal.returns-clause-cuts
+returns-clause-cuts g c =
+    let done = released c.args.self.now.table.shared.key c.exchange-empty.new.seat.me c.store.new.seat.me c.args.taken.took c.of-gave.result (search rules) c.store.ensures.2 in
+    ap cuts_in (c.into_badge.ensures.2 ∙ ap (λ m. m.0 ∷ []) done) ∙ ap (λ m. m.0.cuts) c.exchange-empty.ensures.3

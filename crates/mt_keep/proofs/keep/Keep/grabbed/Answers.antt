@@ -15,7 +15,7 @@ pub returns-clause-value : goal.returns-clause-value
 returns-clause-value g c =
     let got = c.requires.away in
     let same = same_value got.0.value c.unwrap-value.result c.exchange.result _ _ _ (ap (λ m. m.1) got.1) c.exchange.ensures.2 c.unwrap-value.ensures in
-    subst (λ v. g.C.Placed.fits c.args.self.now.table.shared.key.value v) same got.2
+    subst (λ v. g.C.Placed.fits c.args.self.now.table.shared.key.place.value v) same got.2
 
 pub returns-clause-taken : goal.returns-clause-taken
 returns-clause-taken g c =
@@ -23,5 +23,8 @@ returns-clause-taken g c =
     let same = same_value got.0.value c.unwrap-value.result c.exchange.result _ _ _ (ap (λ m. m.1) got.1) c.exchange.ensures.2 c.unwrap-value.ensures in
     record {
       table = c.exchange.ensures.0 ∙ c.requires.table;
-      view = ap (λ m. m.0) c.exchange.ensures.3 ∙ (ap (λ m. m.0) got.1 ∙ ap (holding c.args.self.now.table.shared.key) (same_snap got.0 c.of-took.result (same ∙ sym c.of-took.ensures)));
+      view =
+          let same_seat = ap (λ m. m.0) c.exchange.ensures.3 in
+          let same_took = same_snap got.0 c.of-took.result (same ∙ sym c.of-took.ensures) in
+          same_seat ∙ (ap (λ m. m.0) got.1 ∙ (λ i. holding c.args.self.now.table.shared.key (sym (ap (λ v. v.cuts) same_seat) i) (same_took i)));
     }
