@@ -1,6 +1,6 @@
 -- What the calls of C on a shared tree say, read off what its user does.
 use Rattle.std.proofs.Common.{◌≡◌, ◌≢◌, ◌≤◌, ◌<◌, Bool, ℕ, refl, sym, ap, ◌∙◌, inl, inr, subst, Option, Some, None}
-use Rattle.std.specs.Prelude.{MatchOption, Ok, Result, nat_le, if◌then◌else◌}
+use Rattle.std.specs.Prelude.{◌+◌, Ok, Result, nat_le, if◌then◌else◌}
 use Rattle.std.proofs.lemmas.Bool.{le-leb, lt-leb}
 use Rattle.std.proofs.lemmas.Option.{none-some}
 use Rattle.mt_base.specs.declared.calls.Call.{Call}
@@ -19,70 +19,68 @@ use Rattle.mt_keep.specs.declared.keep.Given.{Given}
 use Rattle.mt_tree.specs.declared.trees.Tree.{Tree}
 use Rattle.mt_c.specs.declared.purse.Purse.{Purse}
 use Rattle.mt_c.specs.declared.user.User.{User}
+use Rattle.mt_c.specs.declared.user_opens.Left.{Left}
 use Rattle.mt_c.specs.declared.user_opens.Unchanged.{Unchanged}
 use Rattle.mt_c.specs.declared.shared_told.Outcome.{Outcome}
 use Rattle.mt_c.specs.declared.steps.OutWalk.{OutWalk}
 use Rattle.mt_c.specs.declared.shared_told.Window.{Window}
 use Rattle.mt_c.specs.Receipts.{when_given, when_settled, when_synced, when_tried, when_unchanged}
-use Rattle.mt_c.specs.Shared.{HasLeft, HasSettled, HasShared, HasSynced, HasTried, IsFirst, IsUnchanged, IsOfPurse, IsSettled, Settled, IsShape, IsSynced, IsWhy, OnUser, SharedAsked, SharedLearned, SharedLeft, SharedNew, SharedOpened, SharedSettled, SharedStepped, SharedSynced, SharedTried, SharedWith, answer_status, calls_told, common_of, known_to, no_outcome, no_window, outcome_of, paused, rested, settled_status, settled_told, synced_status, tree_of, tried_status, unchanged_status, went_on, window_of}
-use Rattle.mt_c.specs.Walkers.{Answer, GoesOn, IsAnswer, IsAtRest, IsTried, Tried, top}
+use Rattle.mt_c.specs.Shared.{HasLeft, HasSettled, HasShared, HasSynced, HasTried, IsFirst, IsUnchanged, IsOfPurse, IsSettled, Settled, IsShape, IsSynced, IsWhy, OnUser, WantsNoPlace, SharedAsked, SharedLearned, SharedLeft, SharedNew, SharedOpened, SharedSettled, SharedStepped, SharedSynced, SharedTried, SharedWith, answer_status, calls_told, common_of, cuts, known_to, no_outcome, no_window, outcome_of, paused, rested, settled_status, settled_told, synced_status, tree_of, tried_status, unchanged_status, went_on, window_of}
+use Rattle.mt_c.specs.Walkers.{Answer, IsAnswer, IsAtRest, IsTried, StepsFrom, Tried}
 use Rattle.mt_c.specs.Walking.{index_of}
-use Rattle.mt_read.specs.Cursors.{query_at}
 
-on_open : (before after : Option User) (u v : User) (status : ℕ) (blank : Type 0) (says : User → User → Type 0) → before ≡ Some u → after ≡ Some v → tree_of v ≡ tree_of u → says u v → OnUser before after status blank says
+on_open : (before after : Option User) (u v : User) (status : ℕ) (blank : Type 0) (says : User → User → Type 0) → before ≡ Some u → after ≡ Some v → common_of v ≡ common_of u → says u v → OnUser before after status blank says
 on_open before after u v status blank says was is tree said = subst (λ (x : Option User × Option User). OnUser x.0 x.1 status blank says) (λ i. (sym was i, sym is i)) (tree, said)
 
 on_closed : (before after : Option User) (status : ℕ) (blank : Type 0) (says : User → User → Type 0) → before ≡ None → after ≡ None → status ≡ 22 → blank → OnUser before after status blank says
 on_closed before after status blank says was is number told = subst (λ (x : Option User × Option User). OnUser x.0 x.1 status blank says) (λ i. (sym was i, sym is i)) (refl, number, told)
 
-pub asked_open : (query : Query) (before after : Option User) (u v : User) (answer : Answer) (status : ℕ) (out : Window) → before ≡ Some u → after ≡ Some v → tree_of v ≡ tree_of u
+pub asked_open : (query : Query) (before after : Option User) (u v : User) (answer : Answer) (status : ℕ) (out : Window) → before ≡ Some u → after ≡ Some v → common_of v ≡ common_of u → v.chair ≡ u.chair → v.receipts ≡ u.receipts
     → IsAnswer (tree_of u) (known_to u) query answer (known_to v) → IsAtRest v.walker → status ≡ answer_status answer → out ≡ window_of answer → SharedAsked query before after status out
-asked_open query before after u v answer status out was is tree said rests number shown = on_open before after u v status _ _ was is tree (answer, said, rests, number, shown)
+asked_open query before after u v answer status out was is common chair kept said rests number shown = on_open before after u v status _ _ was is common (answer, said, rests, record { common = common; chair = chair; receipts = kept }, number, shown)
 
 pub asked_closed : (query : Query) (before after : Option User) (status : ℕ) (out : Window) → before ≡ None → after ≡ None → status ≡ 22 → out ≡ no_window → SharedAsked query before after status out
 asked_closed query before after status out was is number shown = on_closed before after status _ _ was is number shown
 
-pub has_tried : (call : Call) (u v : User) (tried : Tried) (status : ℕ) (out : Outcome) → IsTried (tree_of u) (paused u) call tried (known_to v) → v.receipts ≡ when_tried tried u.receipts → status ≡ tried_status tried → out ≡ outcome_of tried
+pub has_tried : (call : Call) (u v : User) (tried : Tried) (status : ℕ) (out : Outcome) → IsTried (tree_of u) (paused u) call tried (known_to v) → v.chair ≡ u.chair → v.receipts ≡ when_tried tried u.receipts → status ≡ tried_status tried → out ≡ outcome_of tried
     → HasTried call status out u v
-has_tried call u v tried status out said kept number shown = (tried, said, kept, number, shown)
+has_tried call u v tried status out said chair kept number shown = (tried, said, chair, kept, number, shown)
 
-pub tried_open : (call : Call) (before after : Option User) (u v : User) (status : ℕ) (out : Outcome) → before ≡ Some u → after ≡ Some v → tree_of v ≡ tree_of u → HasTried call status out u v → SharedTried call before after status out
+pub tried_open : (call : Call) (before after : Option User) (u v : User) (status : ℕ) (out : Outcome) → before ≡ Some u → after ≡ Some v → common_of v ≡ common_of u → HasTried call status out u v → SharedTried call before after status out
 tried_open call before after u v status out was is tree has = on_open before after u v status _ _ was is tree has
 
 pub tried_closed : (call : Call) (before after : Option User) (status : ℕ) (out : Outcome) → before ≡ None → after ≡ None → status ≡ 22 → out ≡ no_outcome → SharedTried call before after status out
 tried_closed call before after status out was is number shown = on_closed before after status _ _ was is number shown
 
-pub stepped_open : (w w' : OutWalk) (from : Option ℕ) (before after : Option User) (u v : User) (r : Read (Option Range)) (status : ℕ) (out : Window) → from ≡ index_of w → before ≡ Some u → after ≡ Some v → tree_of v ≡ tree_of u
-    → IsAnswer (tree_of u) (known_to u) (query_at from top) (Ok r) (known_to v) → MatchOption from (IsAtRest v.walker) (λ _. GoesOn r.value v.walker) → status ≡ answer_status (Ok r) → out ≡ window_of (Ok r) → w' ≡ went_on r.value
-    → SharedStepped w w' before after status out
-stepped_open w w' from before after u v r status out place was is tree said goes number shown behind =
-    let asked = subst (λ (i : Option ℕ). IsAnswer (tree_of u) (known_to u) (query_at i top) (Ok r) (known_to v)) place said in
-    let going = subst (λ (i : Option ℕ). MatchOption i (IsAtRest v.walker) (λ _. GoesOn r.value v.walker)) place goes in
-    on_open before after u v status _ _ was is tree (r, asked, going, number, shown, behind)
+pub stepped_open : (w w' : OutWalk) (from : Option ℕ) (before after : Option User) (u v : User) (r : Read (Option Range)) (status : ℕ) (out : Window) → from ≡ index_of w → before ≡ Some u → after ≡ Some v → common_of v ≡ common_of u → v.chair ≡ u.chair → v.receipts ≡ u.receipts
+    → StepsFrom (tree_of u) u.walker from r v.walker → status ≡ answer_status (Ok r) → out ≡ window_of (Ok r) → w' ≡ went_on r.value → SharedStepped w w' before after status out
+stepped_open w w' from before after u v r status out place was is common chair kept said number shown behind =
+    let stepped = subst (λ (i : Option ℕ). StepsFrom (tree_of u) u.walker i r v.walker) place said in
+    on_open before after u v status _ _ was is common (r, stepped, record { common = common; chair = chair; receipts = kept }, number, shown, behind)
 
 pub stepped_closed : (w w' : OutWalk) (before after : Option User) (status : ℕ) (out : Window) → before ≡ None → after ≡ None → status ≡ 22 → out ≡ no_window → w' ≡ w → SharedStepped w w' before after status out
 stepped_closed w w' before after status out was is number shown same = on_closed before after status _ _ was is number (shown, same)
 
-learned : (calls : ℕ) (before after : Option User) (u v : User) (r : Read (Option Range)) (status : ℕ) → before ≡ Some u → after ≡ Some v → tree_of v ≡ tree_of u
+learned : (calls : ℕ) (before after : Option User) (u v : User) (r : Read (Option Range)) (status : ℕ) → before ≡ Some u → after ≡ Some v → common_of v ≡ common_of u → v.chair ≡ u.chair → v.receipts ≡ u.receipts
     → IsAnswer (tree_of u) (known_to u) (Load 0) (Ok r) (known_to v) → IsAtRest v.walker → status ≡ (if nat_le calls r.lo then 0 else 11) → SharedLearned calls before after status
-learned calls before after u v r status was is tree said rests number = on_open before after u v status _ _ was is tree (r, said, rests, number)
+learned calls before after u v r status was is common chair kept said rests number = on_open before after u v status _ _ was is common (r, said, rests, record { common = common; chair = chair; receipts = kept }, number)
 
-pub learned_yes : (calls : ℕ) (before after : Option User) (u v : User) (r : Read (Option Range)) (status : ℕ) → before ≡ Some u → after ≡ Some v → tree_of v ≡ tree_of u
+pub learned_yes : (calls : ℕ) (before after : Option User) (u v : User) (r : Read (Option Range)) (status : ℕ) → before ≡ Some u → after ≡ Some v → common_of v ≡ common_of u → v.chair ≡ u.chair → v.receipts ≡ u.receipts
     → IsAnswer (tree_of u) (known_to u) (Load 0) (Ok r) (known_to v) → IsAtRest v.walker → calls ≤ r.lo → status ≡ 0 → SharedLearned calls before after status
-learned_yes calls before after u v r status was is tree said rests many number = learned calls before after u v r status was is tree said rests (number ∙ sym (ap (λ (b : Bool). if b then 0 else 11) (le-leb calls r.lo many)))
+learned_yes calls before after u v r status was is common chair kept said rests many number = learned calls before after u v r status was is common chair kept said rests (number ∙ sym (ap (λ (b : Bool). if b then 0 else 11) (le-leb calls r.lo many)))
 
-pub learned_no : (calls : ℕ) (before after : Option User) (u v : User) (r : Read (Option Range)) (status : ℕ) → before ≡ Some u → after ≡ Some v → tree_of v ≡ tree_of u
+pub learned_no : (calls : ℕ) (before after : Option User) (u v : User) (r : Read (Option Range)) (status : ℕ) → before ≡ Some u → after ≡ Some v → common_of v ≡ common_of u → v.chair ≡ u.chair → v.receipts ≡ u.receipts
     → IsAnswer (tree_of u) (known_to u) (Load 0) (Ok r) (known_to v) → IsAtRest v.walker → r.lo < calls → status ≡ 11 → SharedLearned calls before after status
-learned_no calls before after u v r status was is tree said rests few number = learned calls before after u v r status was is tree said rests (number ∙ sym (ap (λ (b : Bool). if b then 0 else 11) (lt-leb calls r.lo few)))
+learned_no calls before after u v r status was is common chair kept said rests few number = learned calls before after u v r status was is common chair kept said rests (number ∙ sym (ap (λ (b : Bool). if b then 0 else 11) (lt-leb calls r.lo few)))
 
 pub learned_closed : (calls : ℕ) (before after : Option User) (status : ℕ) → before ≡ None → after ≡ None → status ≡ 22 → SharedLearned calls before after status
 learned_closed calls before after status was is number = on_closed before after status _ _ was is number tt
 
-pub has_synced : (u v : User) (synced : Result ℕ Busy) (status calls : ℕ) → IsSynced (tree_of u) (paused u) synced (known_to v) → v.receipts ≡ when_synced synced u.receipts → status ≡ synced_status synced → calls ≡ calls_told synced
+pub has_synced : (u v : User) (synced : Result ℕ Busy) (status calls : ℕ) → IsSynced (tree_of u) (paused u) synced (known_to v) → v.chair ≡ u.chair → v.receipts ≡ when_synced synced u.receipts → status ≡ synced_status synced → calls ≡ calls_told synced
     → HasSynced status calls u v
-has_synced u v synced status calls said kept number told = (synced, said, kept, number, told)
+has_synced u v synced status calls said chair kept number told = (synced, said, chair, kept, number, told)
 
-pub synced_open : (before after : Option User) (u v : User) (status calls : ℕ) → before ≡ Some u → after ≡ Some v → tree_of v ≡ tree_of u → HasSynced status calls u v → SharedSynced before after status calls
+pub synced_open : (before after : Option User) (u v : User) (status calls : ℕ) → before ≡ Some u → after ≡ Some v → common_of v ≡ common_of u → HasSynced status calls u v → SharedSynced before after status calls
 synced_open before after u v status calls was is tree has = on_open before after u v status _ _ was is tree has
 
 pub synced_closed : (before after : Option User) (status calls : ℕ) → before ≡ None → after ≡ None → status ≡ 22 → calls ≡ 0 → SharedSynced before after status calls
@@ -109,8 +107,8 @@ new_open code rows passes calls after status u shape is done of first = rw is (d
 pub new_bad : (code rows passes calls : ℕ) (after : Option User) (status : ℕ) → after ≡ None → status ≡ 22 → ((shape : Shape) → IsShape code rows passes calls shape → ⊥) → SharedNew code rows passes calls after status
 new_bad code rows passes calls after status is number none = rw is (inl (number, none))
 
-pub new_short : (code rows passes calls : ℕ) (after : Option User) (status : ℕ) → after ≡ None → status ≡ 12 → SharedNew code rows passes calls after status
-new_short code rows passes calls after status is number = rw is (inr number)
+pub new_short : (code rows passes calls : ℕ) (after : Option User) (status : ℕ) (shape : Shape) → after ≡ None → status ≡ 12 → IsShape code rows passes calls shape → SharedNew code rows passes calls after status
+new_short code rows passes calls after status shape is number of = rw is (inr (number, shape, of))
 
 pub opened_busy : (code rows passes calls : ℕ) (before after : Option User) (status : ℕ) (u : User) → before ≡ Some u → after ≡ Some u → status ≡ 16 → SharedOpened code rows passes calls before after status
 opened_busy code rows passes calls before after status u was is number = rw was (is, number)
@@ -120,11 +118,11 @@ opened_new code rows passes calls before after status was new = rw was new
 
 -- ---- sharing
 
-pub has_shared : (u v w : User) (given : Given Purse Tree) → IsOfPurse (common_of u) w given → v.receipts ≡ when_given given u.receipts → HasShared u v w
-has_shared u v w given of kept = (given, of, kept)
+pub has_shared : (u v w : User) (given : Given Purse Tree) → IsOfPurse (common_of u) (cuts u) w given → cuts v ≡ cuts u + 2 → v.receipts ≡ when_given given u.receipts → HasShared u v w
+has_shared u v w given of chair kept = (given, of, chair, kept)
 
-pub is_unchanged : (u v : User) (status : ℕ) (why : Unchanged) → IsWhy (common_of u) why → v.receipts ≡ when_unchanged why u.receipts → status ≡ unchanged_status why → IsUnchanged u v status
-is_unchanged u v status why told kept number = (why, told, kept, number)
+pub is_unchanged : (u v : User) (status : ℕ) (why : Unchanged) → IsWhy (common_of u) (cuts u) why → cuts v ≡ cuts u + 1 → v.receipts ≡ when_unchanged why u.receipts → status ≡ unchanged_status why → IsUnchanged u v status
+is_unchanged u v status why told chair kept number = (why, told, chair, kept, number)
 
 module _ (before after other other' : Option User) (status : ℕ) where
   pub with_closed : before ≡ None → after ≡ None → other' ≡ other → status ≡ 22 → SharedWith before after other other' status
@@ -133,33 +131,33 @@ module _ (before after other other' : Option User) (status : ℕ) where
   pub with_busy : (u o : User) → before ≡ Some u → after ≡ Some u → other ≡ Some o → other' ≡ Some o → status ≡ 16 → SharedWith before after other other' status
   with_busy u o was is held still number = rw (was, is, held) (refl, still, number)
 
-  pub with_made : (u v w : User) → before ≡ Some u → after ≡ Some v → other ≡ None → other' ≡ Some w → status ≡ 0 → tree_of v ≡ tree_of u → known_to v ≡ known_to u → v.walker.walk ≡ u.walker.walk → tree_of w ≡ tree_of u
+  pub with_made : (u v w : User) → before ≡ Some u → after ≡ Some v → other ≡ None → other' ≡ Some w → status ≡ 0 → common_of v ≡ common_of u → known_to v ≡ known_to u → v.walker.walk ≡ u.walker.walk → common_of w ≡ common_of u
       → HasShared u v w → SharedWith before after other other' status
-  with_made u v w was is none made number tree known walk of shared = rw (was, is, none, made) (number, record { tree = tree; known = known; walk = walk }, of, shared)
+  with_made u v w was is none made number common known walk of shared = rw (was, is, none, made) (number, record { common = common; known = known; walk = walk }, of, shared)
 
-  pub with_none : (u v : User) → before ≡ Some u → after ≡ Some v → other ≡ None → other' ≡ None → tree_of v ≡ tree_of u → known_to v ≡ known_to u → v.walker.walk ≡ u.walker.walk → IsUnchanged u v status
+  pub with_none : (u v : User) → before ≡ Some u → after ≡ Some v → other ≡ None → other' ≡ None → common_of v ≡ common_of u → known_to v ≡ known_to u → v.walker.walk ≡ u.walker.walk → IsUnchanged u v status
       → SharedWith before after other other' status
-  with_none u v was is none still tree known walk unchanged = rw (was, is, none, still) (record { tree = tree; known = known; walk = walk }, unchanged)
+  with_none u v was is none still common known walk unchanged = rw (was, is, none, still) (record { common = common; known = known; walk = walk }, unchanged)
 
 -- ---- leaving
 
 pub left_closed : (before after : Option User) (status : ℕ) → before ≡ None → after ≡ None → status ≡ 22 → SharedLeft before after status
 left_closed before after status was is number = rw was (is, number)
 
-pub left_done : (before after : Option User) (status : ℕ) (u : User) (given : Given Purse Tree) → before ≡ Some u → after ≡ None → status ≡ 0 → HasLeft (common_of u) (rested u) given → SharedLeft before after status
-left_done before after status u given was is number left = rw (was, is) (number, given, left)
+pub left_done : (before after : Option User) (status : ℕ) (u : User) (left : Left) → before ≡ Some u → after ≡ None → status ≡ 0 → HasLeft (common_of u) (cuts u + 1) (rested u) left → SharedLeft before after status
+left_done before after status u left was is number has = rw (was, is) (number, left, has)
 
-pub left_open : (before after : Option User) (status : ℕ) (u v : User) (why : Unchanged) → before ≡ Some u → after ≡ Some v → tree_of v ≡ tree_of u → known_to v ≡ paused u → IsWhy (common_of u) why → v.receipts ≡ when_unchanged why u.receipts
-    → status ≡ unchanged_status why → SharedLeft before after status
-left_open before after status u v why was is tree known told kept number = rw (was, is) (tree, known, (why, told, kept, number))
+pub left_open : (before after : Option User) (status : ℕ) (u v : User) (why : Unchanged) → before ≡ Some u → after ≡ Some v → common_of v ≡ common_of u → known_to v ≡ paused u → IsWhy (common_of u) (cuts u) why → WantsNoPlace why
+    → cuts v ≡ cuts u + 1 → v.receipts ≡ when_unchanged why u.receipts → status ≡ unchanged_status why → SharedLeft before after status
+left_open before after status u v why was is common known told place chair kept number = rw (was, is) (common, known, (why, told, place, chair, kept, number))
 
 -- ---- settling
 
-pub has_settled : (u v : User) (settled : Settled) (status calls passes : ℕ) → IsSettled (common_of u) (paused u) settled (known_to v) → v.receipts ≡ when_settled settled u.receipts
+pub has_settled : (u v : User) (settled : Settled) (status calls passes : ℕ) → IsSettled (common_of u) (cuts u) (paused u) settled (known_to v) → cuts v ≡ cuts u + 1 → v.receipts ≡ when_settled settled u.receipts
     → status ≡ settled_status settled → calls ≡ (settled_told settled).0 → passes ≡ (settled_told settled).1 → HasSettled status calls passes u v
-has_settled u v settled status calls passes said kept number told met = (settled, said, kept, number, told, met)
+has_settled u v settled status calls passes said chair kept number told met = (settled, said, chair, kept, number, told, met)
 
-pub settled_open : (before after : Option User) (u v : User) (status calls passes : ℕ) → before ≡ Some u → after ≡ Some v → tree_of v ≡ tree_of u → HasSettled status calls passes u v → SharedSettled before after status calls passes
+pub settled_open : (before after : Option User) (u v : User) (status calls passes : ℕ) → before ≡ Some u → after ≡ Some v → common_of v ≡ common_of u → HasSettled status calls passes u v → SharedSettled before after status calls passes
 settled_open before after u v status calls passes was is tree has = on_open before after u v status _ _ was is tree has
 
 pub settled_closed : (before after : Option User) (status calls passes : ℕ) → before ≡ None → after ≡ None → status ≡ 22 → calls ≡ 0 → passes ≡ 0 → SharedSettled before after status calls passes

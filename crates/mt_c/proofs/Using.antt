@@ -1,9 +1,9 @@
 -- What a user of a shared tree does: which section stands open is no part of what a read says, and where a walk goes on.
-use Rattle.std.proofs.Common.{◌≡◌, ◌∙◌, ℕ, suc, get_or, List, [], ◌∷◌, ◌++◌, ◌<◌, ◌^◌, length, map, refl, sym, ap, subst, arith, Bool, Option, Some, None}
-use Rattle.std.proofs.lemmas.Bool.{le-leb}
+use Rattle.std.proofs.Common.{◌≡◌, ◌∙◌, ℕ, suc, get_or, List, [], ◌∷◌, ◌++◌, ◌<◌, ◌^◌, length, map, refl, sym, ap, subst, arith, Bool, true, false, true≢false, Option, Some, None}
+use Rattle.std.proofs.lemmas.Bool.{eqb-true, le-leb}
 use Rattle.std.proofs.lemmas.List.{length-map, map-append}
 use Rattle.std.proofs.lemmas.Option.{slice_get-get_or, slice_get-map}
-use Rattle.std.specs.Prelude.{◌↔◌, All, Ok, Err, Result, IfOk, IfErr, IfSome, IsSome, if◌then◌else◌, option_map, slice_get}
+use Rattle.std.specs.Prelude.{◌↔◌, ◌+◌, All, Ok, Err, Result, IfOk, IfErr, IfSome, IsSome, if◌then◌else◌, option_map, slice_get}
 use Rattle.atomic_table.specs.declared.badge.Badge.{Badge}
 use Rattle.mt_base.specs.declared.calls.Call.{Call}
 use Rattle.mt_base.specs.declared.calls.Query.{Query}
@@ -16,7 +16,9 @@ use Rattle.mt_read.specs.declared.cursor.KeptLeaf.{KeptLeaf}
 use Rattle.mt_read.specs.Cursors.{IsKept, place_behind, place_from, query_at}
 use Rattle.mt_read.specs.Neighbours.{WasMoved}
 use Rattle.mt_read.specs.Windows.{HasRead}
+use Rattle.mt_keep.specs.declared.keep.Busy as away
 use Rattle.mt_keep.specs.declared.keep.Given.{Given}
+use Rattle.mt_keep.specs.Keeping.{cuts_of}
 use Rattle.mt_keep.specs.declared.keep.Sight.{Sight}
 use Rattle.mt_rule.specs.declared.busy.Busy.{Busy}
 use Rattle.mt_rule.specs.Tokens.{part_of}
@@ -35,13 +37,16 @@ use Rattle.mt_tree.specs.Shapes.{first_bad}
 use Rattle.mt_c.specs.declared.purse.Common.{Common}
 use Rattle.mt_c.specs.declared.purse.Purse.{Purse}
 use Rattle.mt_c.specs.declared.user.User.{User}
+use Rattle.mt_c.specs.declared.user_acts.Settling.TheVariants as settling
+use Rattle.mt_c.specs.declared.user_opens.Left.{Left}
+use Rattle.mt_c.specs.declared.user_opens.Unchanged.TheVariants as unchanged
 use Rattle.mt_c.specs.declared.walker.Walker.{Walker}
-use Rattle.mt_c.specs.Purses.{IsSeatedAt, WasGiven}
+use Rattle.mt_c.specs.Purses.{IsBusyAt, IsSeatedAt, WasGiven, WasKept, first_in}
 use Rattle.mt_c.specs.Receipts.{no_receipts}
 use Rattle.mt_c.specs.Spares.{IsSpare}
 use Rattle.mt_c.specs.KeptWalks.{IsKeptWalk, top}
-use Rattle.mt_c.specs.Users.{IsFirst, IsSettled, IsSynced, tree_of}
-use Rattle.mt_c.specs.Walkers.{Answer, GoesOn, HasSeen, IsAnswer, IsOnAt, IsTried, KnowsAs, Tried, closed_by, halted, knows}
+use Rattle.mt_c.specs.Users.{HasLeft, IsFirst, IsOfPurse, IsSettled, IsSynced, IsWhy, common_of, cuts, known_to, tree_of}
+use Rattle.mt_c.specs.Walkers.{Answer, Continues, GoesFrom, GoesOn, IsAnswer, IsAtRest, IsLeftBy, IsOnAt, IsReadBy, IsStep, IsTried, KnowsAs, Tried, closed_by, halted, is_at, knows, new_walk, stands_at}
 
 -- ---- which section stands open is no part of what a read says
 
@@ -84,8 +89,8 @@ module _ (tree : History) (lo hi k : ℕ) (query : Query) (value : Option Range)
   reads_as p p' q q' before after r =
       out_of_closed p q (subst (λ (x : known.Pass × known.Pass). known.Read tree x.0 lo hi k query value x.1) (λ i. (sym before.same i, after.same i)) (into_closed p' q' r))
 
-seen_as : (lo hi : ℕ) (q q' : known.Pass) → KnowsAs q' q → HasSeen lo hi q' → HasSeen lo hi q
-seen_as lo hi q q' after seen = subst (λ (x : known.Pass). HasSeen lo hi x) after.same seen
+read_before : (lo hi : ℕ) (p q : known.Pass) → HasRead lo hi (record p { standing = None }) q → HasRead lo hi p q
+read_before lo hi p q r = record { seen = r.seen; pass = r.pass; window = r.window }
 
 moved_before : (t : History) (p q : known.Pass) (lo begun : ℕ) → WasMoved t (record p { standing = None }) lo begun q → WasMoved t p lo begun q
 moved_before t p q lo begun m = record {
@@ -96,13 +101,14 @@ moved_before t p q lo begun m = record {
   sound = m.sound;
 }
 
-pub read_as : (t : Tree) (query : Query) (r : Read (Option Range)) (p p' q q' : known.Pass) → KnowsAs p p' → KnowsAs q' q → (k : ℕ) × known.Read (opened t) p' r.lo r.hi k query r.value q' → HasSeen r.lo r.hi q' → IsAnswer t p query (Ok r) q
-read_as t query r p p' q q' before after read seen = ((read.0, reads_as (opened t) r.lo r.hi read.0 query r.value p p' q q' before after read.1), seen_as r.lo r.hi q q' after seen)
+pub read_as : (t : Tree) (query : Query) (r : Read (Option Range)) (p p' q q' : known.Pass) → KnowsAs p p' → KnowsAs q' q → IsReadBy t p' query r q' → IsReadBy t p query r q
+read_as t query r p p' q q' before after read = (read.0, reads_as (opened t) r.lo r.hi read.0 query r.value p p' q q' before after read.1)
 
 pub answered_before : (t : Tree) (query : Query) (answer : Answer) (walk : Option Cursor) (p q : known.Pass) → IsAnswer t (closed_by walk p) query answer q → IsAnswer t p query answer q
 answered_before t query answer None p q said = said
-answered_before t query (Ok r) (Some w) p q said = read_as t query r p (record p { standing = None }) q q (halted_knows p (record p { standing = None }) refl) (same_knows q q refl) said.0 said.1
-answered_before t query (Err m) (Some w) p q said = (moved_before (opened t) p q m.lo m.begun said.0, said.1, said.2)
+answered_before t query (Ok r) (Some w) p q said =
+    (read_as t query r p (record p { standing = None }) q q (halted_knows p (record p { standing = None }) refl) (same_knows q q refl) said.0, read_before r.lo r.hi p q said.1)
+answered_before t query (Err m) (Some w) p q said = (moved_before (opened t) p q m.lo m.begun said.0, said.1, read_before m.lo m.begun p q said.2)
 
 -- what a read that was made or given up answers, once the walk was paused
 pub answer_made : (t : Tree) (query : Query) (walk : Option Cursor) (p q : known.Pass) (before : Pass) (answer : Answer) → pass_in before ≡ closed_by walk p
@@ -110,9 +116,9 @@ pub answer_made : (t : Tree) (query : Query) (walk : Option Cursor) (p q : known
     → IfErr answer (λ m. WasMoved (opened t) (pass_in before) m.lo m.begun q) → IfErr answer (λ m. HasRead m.lo m.begun (pass_in before) q) → IfErr answer (λ _. IsForNeighbour query)
     → IsAnswer t p query answer q
 answer_made t query walk p q before (Ok r) was read section moved given near =
-    answered_before t query (Ok r) walk p q ((read.0, subst (λ (x : known.Pass). known.Read (opened t) x r.lo r.hi read.0 query r.value q) was read.1), section.window)
+    answered_before t query (Ok r) walk p q (subst (λ (x : known.Pass). IsAnswer t x query (Ok r) q) was (read, section))
 answer_made t query walk p q before (Err m) was read section moved given near =
-    answered_before t query (Err m) walk p q (subst (λ (x : known.Pass). WasMoved (opened t) x m.lo m.begun q) was moved, near, given.window)
+    answered_before t query (Err m) walk p q (subst (λ (x : known.Pass). IsAnswer t x query (Err m) q) was (moved, near, given))
 
 -- no section stands open behind a read
 pub read_rests : (lo hi : ℕ) (p q : known.Pass) → HasRead lo hi p q → q.standing ≡ None
@@ -137,8 +143,8 @@ pub is_on : (walk : Option Cursor) (place : Option ℕ) → IsOnAt walk place �
 is_on None place at = elim at [ ]
 is_on (Some w) place at = refl
 
-pub stands_at : (walk : Option Cursor) (w : Cursor) (place : Option ℕ) → walk ≡ Some w → w.at ≡ place → IsOnAt walk place
-stands_at walk w place is at = subst (λ (o : Option Cursor). IsOnAt o place) (sym is) at
+pub stands_on : (walk : Option Cursor) (w : Cursor) (place : Option ℕ) → walk ≡ Some w → w.at ≡ place → IsOnAt walk place
+stands_on walk w place is at = subst (λ (o : Option Cursor). IsOnAt o place) (sym is) at
 
 pub keeps_walk : (v : Walker) (found : Option Range) (range : Range) → found ≡ Some range → IsOnAt v.walk (place_behind found top) → GoesOn found v
 keeps_walk v found range is at = subst (λ (o : Option Range). GoesOn o v) (sym is) (at_walk v.walk (place_behind (Some range) top) (subst (λ (o : Option Range). IsOnAt v.walk (place_behind o top)) is at))
@@ -173,21 +179,73 @@ goes_on t r p q w w' kept walked of = record { of = of; max = walked.max ∙ kep
 
 -- a step of a walk answers the find from its place
 pub on_answer : (t : Tree) (r : Read (Option Range)) (p q : Pass) (walk : Option Cursor) (w w' : Cursor) → walk ≡ Some w → IsKeptWalk p w → HasWalked t p w r q w'
-    → IfSome walk (λ v. IsAnswer t (pass_in p) (query_at v.at top) (Ok r) (pass_in q))
+    → IfSome walk (λ v. IsReadBy t (pass_in p) (query_at v.at top) r (pass_in q))
 on_answer t r p q walk w w' is kept walked =
-    let read : (k : ℕ) × known.Read (opened t) (pass_in p) r.lo r.hi k (query_at w.at top) r.value (pass_in q) =
-    subst (λ (m : ℕ). (k : ℕ) × known.Read (opened t) (pass_in p) r.lo r.hi k (query_at w.at m) r.value (pass_in q)) kept.max walked.read in
-    subst (λ (o : Option Cursor). IfSome o (λ v. IsAnswer t (pass_in p) (query_at v.at top) (Ok r) (pass_in q))) (sym is) (read, walked.section.window)
+    let read : IsReadBy t (pass_in p) (query_at w.at top) r (pass_in q) = subst (λ (m : ℕ). IsReadBy t (pass_in p) (query_at w.at m) r (pass_in q)) kept.max walked.read in
+    subst (λ (o : Option Cursor). IfSome o (λ v. IsReadBy t (pass_in p) (query_at v.at top) r (pass_in q))) (sym is) read
+
+pub on_walked : (t : Tree) (r : Read (Option Range)) (p q : Pass) (walk walk' : Option Cursor) (w w' : Cursor) → walk ≡ Some w → walk' ≡ Some w' → HasWalked t p w r q w' → IfSome walk (λ v. IfSome walk' (HasWalked t p v r q))
+on_walked t r p q walk walk' w w' is is' walked = subst (λ (o : Option Cursor × Option Cursor). IfSome o.0 (λ v. IfSome o.1 (HasWalked t p v r q))) (λ i. (sym is i, sym is' i)) walked
 
 pub on_place : (t : Tree) (r : Read (Option Range)) (p q : Pass) (walk : Option Cursor) (w w' : Cursor) → walk ≡ Some w' → IsKeptWalk p w → HasWalked t p w r q w' → IsOnAt walk (place_behind r.value top)
-on_place t r p q walk w w' is kept walked = stands_at walk w' (place_behind r.value top) is (walked.at ∙ ap (place_behind r.value) kept.max)
+on_place t r p q walk w w' is kept walked = stands_on walk w' (place_behind r.value top) is (walked.at ∙ ap (place_behind r.value) kept.max)
 
-pub step_answer : (t : Tree) (walk : Option Cursor) (from : ℕ) (r : Read (Option Range)) (p p' q q' : known.Pass) → IsOnAt walk (Some from) → KnowsAs p p' → KnowsAs q' q
-    → IfSome walk (λ v. IsAnswer t p' (query_at v.at top) (Ok r) q') → IsAnswer t p (query_at (Some from) top) (Ok r) q
-step_answer t None from r p p' q q' at before after said = elim at [ ]
-step_answer t (Some w) from r p p' q q' at before after said =
-    let is : IsAnswer t p' (query_at (Some from) top) (Ok r) q' = subst (λ (o : Option ℕ). IsAnswer t p' (query_at o top) (Ok r) q') at said in
-    read_as t (query_at (Some from) top) r p p' q q' before after is.0 is.1
+step_read : (t : Tree) (walk : Option Cursor) (from : ℕ) (r : Read (Option Range)) (p p' q q' : known.Pass) → IsOnAt walk (Some from) → KnowsAs p p' → KnowsAs q' q → IfSome walk (λ v. IsReadBy t p' (query_at v.at top) r q')
+    → IsReadBy t p (query_at (Some from) top) r q
+step_read t None from r p p' q q' at before after said = elim at [ ]
+step_read t (Some w) from r p p' q q' at before after said = read_as t (query_at (Some from) top) r p p' q q' before after (subst (λ (o : Option ℕ). IsReadBy t p' (query_at o top) r q') at said)
+
+-- one that stands at an index
+pub at_index : (walk : Option Cursor) (from : ℕ) → stands_at walk from ≡ true → IsOnAt walk (Some from)
+at_index None from is = absurd (true≢false (sym is))
+at_index (Some w) from is = by_place w.at is
+  where
+    by_place : (at : Option ℕ) → is_at at from ≡ true → at ≡ Some from
+    by_place None is = absurd (true≢false (sym is))
+    by_place (Some at) is = ap Some (eqb-true at from is)
+
+-- the walk that a step goes on
+pub goes_kept : (from : ℕ) (v : Walker) → stands_at v.walk from ≡ true → IfSome v.walk (Continues from v v.pass)
+goes_kept from v is = by_walk v.walk refl
+  where
+    by_walk : (o : Option Cursor) → v.walk ≡ o → IfSome o (Continues from v v.pass)
+    by_walk None e = tt
+    by_walk (Some w) e = subst (λ (b : Bool). GoesFrom b from v v.pass w) (sym is) (refl, e)
+
+pub goes_anew : (from : ℕ) (v v' : Walker) (w : Cursor) → stands_at v.walk from ≡ false → knows v' ≡ halted v → v'.walk ≡ Some w → w ≡ new_walk from → IfSome v'.walk (Continues from v v'.pass)
+goes_anew from v v' w off closed is new = subst (λ (o : Option Cursor). IfSome o (Continues from v v'.pass)) (sym is) (subst (λ (b : Bool). GoesFrom b from v v'.pass w) (sym off) (closed, new))
+
+pub is_new_walk : (from : ℕ) (w : Cursor) → from < 2 ^ 64 → w.at ≡ place_from from top → w.max ≡ top → w.leaf ≡ None → w.epoch ≡ None → w ≡ new_walk from
+is_new_walk from w few at max leaf epoch = λ i. record { at = (at ∙ from_any from few) i; max = max i; leaf = leaf i; epoch = epoch i }
+
+-- a step: the walk went on by one range
+pub is_step : (t : Tree) (v m n v' : Walker) (from : ℕ) (r : Read (Option Range)) → IsOnAt m.walk (Some from) → KnowsAs (knows v) (knows m) → IfSome m.walk (Continues from v m.pass) → IfSome m.walk (λ w. IsReadBy t (knows m) (query_at w.at top) r (knows n))
+    → IfSome m.walk (λ w. IfSome n.walk (HasWalked t m.pass w r n.pass)) → IsOnAt n.walk (place_behind r.value top) → KnowsAs (knows n) (knows v') → GoesOn r.value v' → ((w : Cursor) → n.walk ≡ Some w → IsLeftBy r.value n.pass w v') → IsStep t v from r v'
+is_step t v m n v' from r at known begins read walked behind after goes left = by_walks m.walk n.walk refl refl at begins read walked behind
+  where
+    by_walks : (o o' : Option Cursor) → m.walk ≡ o → n.walk ≡ o' → IsOnAt o (Some from) → IfSome o (Continues from v m.pass) → IfSome o (λ w. IsReadBy t (knows m) (query_at w.at top) r (knows n))
+        → IfSome o (λ w. IfSome o' (HasWalked t m.pass w r n.pass)) → IsOnAt o' (place_behind r.value top) → IsStep t v from r v'
+    by_walks None o' e e' at begins read walked behind = elim at [ ]
+    by_walks (Some w) None e e' at begins read walked behind = elim behind [ ]
+    by_walks (Some w) (Some w') e e' at begins read walked behind = record {
+      read = step_read t (Some w) from r (knows v) (knows m) (knows v') (knows n) at known after read;
+      goes = goes;
+      pass = m.pass;
+      walk = w;
+      begins = begins;
+      pass' = n.pass;
+      walk' = w';
+      walked = walked;
+      left = left w' e';
+    }
+
+-- it is kept where it has found a range
+pub left_on : (v : Walker) (found : Option Range) (range : Range) → found ≡ Some range → (w : Cursor) → v.walk ≡ Some w → IsLeftBy found v.pass w v
+left_on v found range is w at = subst (λ (o : Option Range). IsLeftBy o v.pass w v) (sym is) (refl, at)
+
+-- and paused where it has found none
+pub left_off : (n v' : Walker) (found : Option Range) → found ≡ None → knows v' ≡ halted n → v'.walk ≡ None → (w : Cursor) → n.walk ≡ Some w → IsLeftBy found n.pass w v'
+left_off n v' found is closed none w at = subst (λ (o : Option Range). IsLeftBy o n.pass w v') (sym is) (closed ∙ ap (λ (o : Option Cursor). closed_by o (knows n)) at, none)
 
 -- ---- calls
 
@@ -200,10 +258,41 @@ tried_made t p a b call (Err why) was done busy kept = (busy, ap pass_in kept �
 pub synced : (t : Tree) (p q : known.Pass) (ps qs : List known.Pass) (calls : ℕ) → HaveMet t (p ∷ ps) (q ∷ qs) calls → IsSynced t p (Ok calls) q
 synced t p q ps qs calls met = let mine = met.each 0 p q refl refl in (mine.0, ap length mine.1 ∙ met.all)
 
-pub settled : (c : Common) (p q : known.Pass) (others others' : List Pass) (calls passes : ℕ) (before after : List known.Pass) (given : Given Purse Tree) → HaveMet c.tree (p ∷ map pass_in others) (q ∷ map pass_in others') calls → passes ≡ length others'
-    → WasGiven c before after given → before ≡ map pass_in others → after ≡ map pass_in others' → IsSettled c p (Ok (calls, passes, given)) q
-settled c p q others others' calls passes before after given met many back took gave =
-    (map pass_in others, map pass_in others', met, many ∙ sym (length-map others' pass_in), record { at = back.at; took = back.took ∙ took; gave = back.gave ∙ gave })
+-- what was taken and given back as it was
+pub given_same : (c : Common) (n cuts : ℕ) (given : Given Purse Tree) (took gave : List known.Pass) → WasGiven c n took gave given → n ≡ cuts → gave ≡ took → WasKept c cuts given
+given_same c n cuts given took gave was one same = record { at = was.at; cut = was.cut ∙ one; took = refl; gave = was.gave ∙ (same ∙ sym was.took) }
+
+-- and was empty
+pub given_empty : (c : Common) (n before : ℕ) (given : Given Purse Tree) (took gave : List known.Pass) → WasGiven c n took gave given → n ≡ before + 1 → took ≡ gave → gave ≡ [] → IsWhy c before (unchanged.NoPlace given)
+given_empty c n before given took gave was one same none = record { at = was.at; cut = was.cut ∙ one; took = was.took ∙ (same ∙ none); gave = was.gave ∙ none }
+
+pub why_busy : (c : Common) (n before : ℕ) (busy : away.Busy Purse Tree) → IsBusyAt c n busy → n ≡ before + 1 → IsWhy c before (unchanged.Busy busy)
+why_busy c n before busy found one = (found.0, found.1 ∙ one)
+
+pub why_short : (c : Common) (n before : ℕ) (given : Given Purse Tree) (took gave : List known.Pass) → WasGiven c n took gave given → n ≡ before + 1 → gave ≡ took → IsWhy c before (unchanged.NoMemory given)
+why_short c n before given took gave was one same = given_same c n (before + 1) given took gave was one same
+
+-- a user of the purse
+pub of_purse : (c : Common) (n before : ℕ) (u : User) (given : Given Purse Tree) (took others : List known.Pass) → WasGiven c n took others given → n ≡ before + 1 → took ≡ others ++ known_to u ∷ [] → cuts u ≡ n + 1 → IsAtRest u.walker → u.receipts ≡ no_receipts
+    → IsOfPurse c before u given
+of_purse c n before u given took others was one split chair rests none =
+    record { others = others; out = record { at = was.at; cut = was.cut ∙ one; took = was.took ∙ split; gave = was.gave }; chair = omega (arith, chair, one); rests = rests; none = none }
+
+-- what a user leaves
+pub has_left : (c : Common) (n : ℕ) (p : known.Pass) (left : Left) (others gave : List known.Pass) → WasGiven c n others gave left.given → n ≡ cuts_of left.chair → IsSeatedAt c left.chair → gave ≡ others ++ p ∷ [] → HasLeft c (cuts_of left.chair) p left
+has_left c n p left others gave was one seated put = record { others = others; into = record { at = was.at; cut = was.cut ∙ one; took = was.took; gave = was.gave ∙ put }; seated = seated; chair = refl }
+
+pub settled : (c : Common) (cut n : ℕ) (p q : known.Pass) (others others' : List Pass) (calls passes : ℕ) (before after : List known.Pass) (given : Given Purse Tree) → HaveMet c.tree (p ∷ map pass_in others) (q ∷ map pass_in others') calls → passes ≡ length others'
+    → WasGiven c n before after given → n ≡ cut + 1 → before ≡ map pass_in others → after ≡ map pass_in others' → IsSettled c cut p (Ok (calls, passes, given)) q
+settled c cut n p q others others' calls passes before after given met many back one took gave =
+    (map pass_in others, map pass_in others', met, many ∙ sym (length-map others' pass_in), record { at = back.at; cut = back.cut ∙ one; took = back.took ∙ took; gave = back.gave ∙ gave })
+
+pub unpursed : (c : Common) (cut n : ℕ) (p q : known.Pass) (busy : away.Busy Purse Tree) → IsBusyAt c n busy → n ≡ cut + 1 → q ≡ p → IsSettled c cut p (Err (settling.Unpursed busy)) q
+unpursed c cut n p q busy found one kept = ((found.0, found.1 ∙ one), kept)
+
+pub locked : (c : Common) (cut n : ℕ) (p q : known.Pass) (busy : Busy) (took gave : List known.Pass) (given : Given Purse Tree) → IsBusyOf c.tree busy → WasGiven c n took gave given → n ≡ cut + 1 → gave ≡ took → q ≡ p
+    → IsSettled c cut p (Err (settling.Locked busy given)) q
+locked c cut n p q busy took gave given found back one same kept = (found, given_same c n (cut + 1) given took gave back one same, kept)
 
 -- ---- passes that no user has
 
@@ -237,10 +326,6 @@ new_spare t ps numbers of new k d lt =
     at_rest None p e = sym (ap standing_in e)
     at_rest (Some n) p e = sym (ap standing_in e)
 
--- what was taken and given back empty
-pub given_empty : (c : Common) (given : Given Purse Tree) (took gave : List known.Pass) → WasGiven c took gave given → took ≡ gave → gave ≡ [] → WasGiven c [] [] given
-given_empty c given took gave was same none = record { at = was.at; took = was.took ∙ (same ∙ none); gave = was.gave ∙ none }
-
 -- a section that is closed twice is closed
 pub rested_halted : (walk : Option Cursor) (p q : known.Pass) → q ≡ closed_by walk p → ◌≡◌ {A = known.Pass} (record q { standing = None }) (record p { standing = None })
 rested_halted None p q is = ap (λ (z : known.Pass). record z { standing = None }) is
@@ -266,12 +351,20 @@ none_bad shape r a bad ok = by_case (first_bad shape) refl
     by_case None is = is
     by_case (Some field) is = let e : r ≡ Err (make_error.BadShape field) = (bad field).1 is in cc
 
-pub is_first : (shape : Shape) (t : Tree) (ps : List Pass) (u : User) → IsNew shape [] t ps → tree_of u ≡ t → (others : List Pass) × (ps ≡ others ++ u.walker.pass ∷ []) → u.walker.walk ≡ None → u.receipts ≡ no_receipts → IsFirst shape u
-is_first shape t ps u new tree last walk none = record {
+-- and where memory ran out
+pub none_short : {A : Type 0} (shape : Shape) (r : Result A MakeError) → ((field : Field) → (r ≡ Err (make_error.BadShape field)) ↔ (first_bad shape ≡ Some field)) → r ≡ Err make_error.NoMemory → first_bad shape ≡ None
+none_short shape r bad short = by_case (first_bad shape) refl
+  where
+    by_case : (o : Option Field) → first_bad shape ≡ o → first_bad shape ≡ None
+    by_case None is = is
+    by_case (Some field) is = let e : r ≡ Err (make_error.BadShape field) = (bad field).1 is in cc
+
+pub is_first : (shape : Shape) (t : Tree) (ps : List Pass) (u : User) → IsNew shape [] t ps → tree_of u ≡ t → ps ≡ (first_in (common_of u)).passes.items ++ u.walker.pass ∷ [] → cuts u ≡ 0 → u.walker.walk ≡ None → u.receipts ≡ no_receipts → IsFirst shape u
+is_first shape t ps u new tree last chair walk none = record {
   tree = ap opened tree ∙ new.tree;
   calls = ap limit_of tree ∙ new.calls;
-  others = map pass_in last.0;
-  passes = sym (ap (map pass_in) last.1 ∙ map-append pass_in last.0 (u.walker.pass ∷ [])) ∙ new.passes;
+  passes = sym (ap (map pass_in) last ∙ map-append pass_in (first_in (common_of u)).passes.items (u.walker.pass ∷ [])) ∙ new.passes;
+  chair = chair;
   walk = walk;
   none = none;
 }

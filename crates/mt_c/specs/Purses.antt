@@ -1,7 +1,7 @@
 -- The purse of a tree that users own together: who has a chair at it, who has taken it, and what is told where it is taken, and where it
 -- was given back.
 -- Source: this project's own; the kernel's spin_trylock.
-use Rattle.std.specs.Prelude.{◌≡◌, List, Option, map}
+use Rattle.std.specs.Prelude.{◌≡◌, ℕ, List, Option, map}
 use Rattle.std.specs.declared.snapshot.Snapshot.{Snapshot}
 use Rattle.atomic_table.specs.declared.badge.Badge.{Badge}
 use Rattle.atomic_table.specs.declared.shared.Seat.{Seat}
@@ -23,16 +23,26 @@ IsSeatedAt c chair = keep.IsSeatedAt c.purse.table.shared.table_id c.purse.table
 abbrev pub IsTakenOf : Common → Snapshot Purse → Seat (Option Purse) (Sight Purse Tree) → Type 0
 IsTakenOf c took seat = keep.IsTakenOf c.purse.table.shared.table_id c.purse.table.shared.key took seat
 
--- it tells that the purse was found taken
-abbrev pub IsBusyAt : Common → Busy Purse Tree → Type 0
-IsBusyAt c busy = keep.IsBusyAt c.purse.table.shared.table_id c.purse.table.shared.key busy
+-- it tells that the purse was found taken, by a seat so many cuts from the first chair
+abbrev pub IsBusyAt : Common → ℕ → Busy Purse Tree → Type 0
+IsBusyAt c cuts busy = keep.IsBusyAt c.purse.table.shared.table_id c.purse.table.shared.key busy × (keep.cuts_of busy.seat ≡ cuts)
 
 -- what the passes of a purse know
 abbrev pub known_in : Purse → List known.Pass
 known_in purse = map pass_in purse.passes.items
 
--- It tells that the purse was taken with passes that knew the one, and given back with passes that know the other.
-pub record WasGiven (c : Common) (found left : List known.Pass) (given : Given Purse Tree) : Type 0 where
+-- the passes that the purse began with
+abbrev pub first_in : Common → Purse
+first_in c = c.purse.table.shared.key.first.value
+
+-- It tells that the purse was taken with passes that knew the one, and given back with passes that know the other, by a seat so many
+-- cuts from the first chair.
+pub record WasGiven (c : Common) (cuts : ℕ) (found left : List known.Pass) (given : Given Purse Tree) : Type 0 where
   pub at : keep.IsGivenAt c.purse.table.shared.table_id c.purse.table.shared.key given
+  pub cut : keep.cuts_of given.seat ≡ cuts
   pub took : known_in given.took.value ≡ found
   pub gave : known_in given.gave.value ≡ left
+
+-- It was given back as it was found.
+abbrev pub WasKept : Common → ℕ → Given Purse Tree → Type 0
+WasKept c cuts given = WasGiven c cuts (known_in given.took.value) (known_in given.took.value) given

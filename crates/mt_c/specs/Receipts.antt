@@ -34,10 +34,10 @@ when_synced (Err busy) r = record r { locked = Some busy }
 abbrev pub when_settled : Result (ℕ × ℕ × Given Purse Tree) Settling → Receipts → Receipts
 when_settled (Ok done) r = when_given done.2 r
 when_settled (Err (settling.Unpursed busy)) r = record r { unpursed = Some busy }
-when_settled (Err (settling.Locked busy)) r = record r { locked = Some busy }
+when_settled (Err (settling.Locked busy given)) r = when_given given (record r { locked = Some busy })
 
 -- when no user was opened, or none has left
 abbrev pub when_unchanged : Unchanged → Receipts → Receipts
 when_unchanged (unchanged.Busy busy) r = record r { unpursed = Some busy }
 when_unchanged (unchanged.NoPlace given) r = when_given given r
-when_unchanged unchanged.NoMemory r = r
+when_unchanged (unchanged.NoMemory given) r = when_given given r

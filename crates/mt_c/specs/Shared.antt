@@ -1,6 +1,6 @@
 -- What the calls of C on a shared tree say. Each user of it has a pass, which knows a beginning of the tree's one history.
 -- Source: this project's own; EAGAIN and EUSERS are of the kernel's include/uapi/asm-generic/errno-base.h and errno.h.
-use Rattle.std.specs.Prelude.{◌≡◌, ◌⊎◌, ℕ, Option, Some, None, MatchOption, Result, Ok, Err, nat_le, if◌then◌else◌}
+use Rattle.std.specs.Prelude.{◌≡◌, ◌⊎◌, ◌+◌, ℕ, Option, Some, None, Result, Ok, Err, nat_le, if◌then◌else◌}
 use Rattle.mt_base.specs.declared.ranges.Range.{Range}
 use Rattle.mt_base.specs.declared.calls.Call.{Call}
 use Rattle.mt_base.specs.declared.calls.Query.{Query}
@@ -13,12 +13,13 @@ use Rattle.mt_tree.specs.declared.shapes.Read.{Read}
 use Rattle.mt_tree.specs.declared.shapes.Shape.{Shape}
 use Rattle.mt_tree.specs.declared.trees.Tree.{Tree}
 use Rattle.mt_tree.specs.Shapes.{first_bad}
-use Rattle.mt_read.specs.Cursors.{place_behind, query_at}
+use Rattle.mt_read.specs.Cursors.{place_behind}
 use Rattle.mt_c.specs.declared.purse.Purse.{Purse}
 use Rattle.mt_c.specs.declared.steps.OutWalk.{OutWalk}
 use Rattle.mt_c.specs.declared.user.User.{User}
 use Rattle.mt_c.specs.declared.told.OutRange.{OutRange}
 use Rattle.mt_c.specs.declared.user_acts.Settling.{Settling}
+use Rattle.mt_c.specs.declared.user_opens.Left.{Left}
 use Rattle.mt_c.specs.declared.user_opens.Unchanged.{Unchanged}
 use Rattle.mt_c.specs.declared.user_opens.Unchanged.TheVariants as unchanged
 use Rattle.mt_c.specs.declared.shared_told.Outcome.{Outcome}
@@ -26,18 +27,18 @@ use Rattle.mt_c.specs.declared.shared_told.Window.{Window}
 use Rattle.mt_c.specs.Calls.{found_status, no_range, out_of, range_of, status_of, word_of}
 use Rattle.mt_c.specs.KeptWalks.{top}
 use Rattle.mt_c.specs.Receipts.{when_given, when_settled, when_synced, when_tried, when_unchanged}
-pub use Rattle.mt_c.specs.Users.{HasLeft, IsFirst, IsOfPurse, IsSame, IsSettled, IsSynced, IsWhy, common_of, known_to, paused, rested, tree_of}
-use Rattle.mt_c.specs.Walkers.{Answer, GoesOn, IsAnswer, IsAtRest, Tried, IsTried}
+pub use Rattle.mt_c.specs.Users.{HasLeft, IsFirst, IsOfPurse, IsSame, IsSettled, IsSynced, IsWhy, OnlyWalks, WantsNoPlace, common_of, cuts, known_to, paused, rested, tree_of}
+use Rattle.mt_c.specs.Walkers.{Answer, IsAnswer, IsAtRest, StepsFrom, Tried, IsTried}
 use Rattle.mt_c.specs.Walking.{index_of, walk_from}
 
 -- ---- users
 
 -- A call on what C keeps, and the number that C gets. A closed one is EINVAL, with a blank beside, and stays closed; an open one
--- stays open, and is of the same tree.
+-- stays open, and is of the same tree and at the same purse.
 abbrev pub OnUser : Option User → Option User → ℕ → Type 0 → (User → User → Type 0) → Type 0
 OnUser None after status blank says = (after ≡ None) × (status ≡ 22) × blank
 OnUser (Some u) None status blank says = ⊥
-OnUser (Some u) (Some v) status blank says = (tree_of v ≡ tree_of u) × says u v
+OnUser (Some u) (Some v) status blank says = (common_of v ≡ common_of u) × says u v
 
 -- ---- reads
 
@@ -56,15 +57,12 @@ abbrev pub window_of : Answer → Window
 window_of (Ok r) = window r.lo r.hi (out_of r.value)
 window_of (Err m) = window m.lo m.begun no_range
 
--- A query of a user of a shared tree, which is on no walk then.
+-- A query of a user of a shared tree, which is on no walk then. It makes no step at the purse, and so leaves all other passes.
 abbrev pub SharedAsked : Query → Option User → Option User → ℕ → Window → Type 0
 SharedAsked query before after status out =
-    OnUser before after status (out ≡ no_window) (λ u v. (answer : Answer) × IsAnswer (tree_of u) (known_to u) query answer (known_to v) × IsAtRest v.walker × (status ≡ answer_status answer) × (out ≡ window_of answer))
+    OnUser before after status (out ≡ no_window) (λ u v. (answer : Answer) × IsAnswer (tree_of u) (known_to u) query answer (known_to v) × IsAtRest v.walker × OnlyWalks u v × (status ≡ answer_status answer) × (out ≡ window_of answer))
 
--- What a step of a walk of C's asks, and the walk that goes on behind what was found.
-abbrev pub step_query : OutWalk → Query
-step_query walk = query_at (index_of walk) top
-
+-- the walk that goes on behind what was found
 abbrev pub went_on : Option Range → OutWalk
 went_on found = walk_from (place_behind found top)
 
@@ -72,12 +70,12 @@ went_on found = walk_from (place_behind found top)
 -- closed the walk is as it was.
 abbrev pub SharedStepped : OutWalk → OutWalk → Option User → Option User → ℕ → Window → Type 0
 SharedStepped w w' before after status out =
-    OnUser before after status ((out ≡ no_window) × (w' ≡ w)) (λ u v. (r : Read (Option Range)) × IsAnswer (tree_of u) (known_to u) (step_query w) (Ok r) (known_to v) × MatchOption (index_of w) (IsAtRest v.walker) (λ _. GoesOn r.value v.walker) × (status ≡ answer_status (Ok r)) × (out ≡ window_of (Ok r)) × (w' ≡ went_on r.value))
+    OnUser before after status ((out ≡ no_window) × (w' ≡ w)) (λ u v. (r : Read (Option Range)) × StepsFrom (tree_of u) u.walker (index_of w) r v.walker × OnlyWalks u v × (status ≡ answer_status (Ok r)) × (out ≡ window_of (Ok r)) × (w' ≡ went_on r.value))
 
 -- The user looked how many calls had ended, by a read, and has seen those: 0 where they are so many as it was to learn, else EAGAIN.
 abbrev pub SharedLearned : ℕ → Option User → Option User → ℕ → Type 0
 SharedLearned calls before after status =
-    OnUser before after status (Unit {0}) (λ u v. (r : Read (Option Range)) × IsAnswer (tree_of u) (known_to u) (Load 0) (Ok r) (known_to v) × IsAtRest v.walker × (status ≡ (if nat_le calls r.lo then 0 else 11)))
+    OnUser before after status (Unit {0}) (λ u v. (r : Read (Option Range)) × IsAnswer (tree_of u) (known_to u) (Load 0) (Ok r) (known_to v) × IsAtRest v.walker × OnlyWalks u v × (status ≡ (if nat_le calls r.lo then 0 else 11)))
 
 -- ---- calls
 
@@ -102,9 +100,10 @@ outcome_of (Ok (Ok d)) = done_outcome d
 outcome_of (Ok (Err w)) = no_outcome
 outcome_of (Err busy) = no_outcome
 
--- A call of a user, made under the tree's lock if that is free. That this was found taken is what the user then has.
+-- A call of a user, made under the tree's lock if that is free. That this was found taken is what the user then has. It makes no step at
+-- the purse, so no other pass has made a call.
 abbrev pub HasTried : Call → ℕ → Outcome → User → User → Type 0
-HasTried call status out u v = (tried : Tried) × IsTried (tree_of u) (paused u) call tried (known_to v) × (v.receipts ≡ when_tried tried u.receipts) × (status ≡ tried_status tried) × (out ≡ outcome_of tried)
+HasTried call status out u v = (tried : Tried) × IsTried (tree_of u) (paused u) call tried (known_to v) × (v.chair ≡ u.chair) × (v.receipts ≡ when_tried tried u.receipts) × (status ≡ tried_status tried) × (out ≡ outcome_of tried)
 
 abbrev pub SharedTried : Call → Option User → Option User → ℕ → Outcome → Type 0
 SharedTried call before after status out = OnUser before after status (out ≡ no_outcome) (HasTried call status out)
@@ -118,7 +117,7 @@ IsShape code rows passes calls shape = (kind_code shape.kind ≡ code) × (shape
 -- A closed one is opened so, or stays closed: EINVAL tells that there is no such shape, and ENOMEM that memory ran out for one.
 abbrev pub SharedNew : ℕ → ℕ → ℕ → ℕ → Option User → ℕ → Type 0
 SharedNew code rows passes calls (Some u) status = (status ≡ 0) × (shape : Shape) × IsShape code rows passes calls shape × IsFirst shape u
-SharedNew code rows passes calls None status = ((status ≡ 22) × ((shape : Shape) → IsShape code rows passes calls shape → ⊥)) ⊎ (status ≡ 12)
+SharedNew code rows passes calls None status = ((status ≡ 22) × ((shape : Shape) → IsShape code rows passes calls shape → ⊥)) ⊎ ((status ≡ 12) × (shape : Shape) × IsShape code rows passes calls shape)
 
 -- One that is open is EBUSY, and stays as it was.
 abbrev pub SharedOpened : ℕ → ℕ → ℕ → ℕ → Option User → Option User → ℕ → Type 0
@@ -129,29 +128,33 @@ SharedOpened code rows passes calls None after status = SharedNew code rows pass
 abbrev pub unchanged_status : Unchanged → ℕ
 unchanged_status (unchanged.Busy busy) = 11
 unchanged_status (unchanged.NoPlace given) = 87
-unchanged_status unchanged.NoMemory = 12
+unchanged_status (unchanged.NoMemory given) = 12
 
--- By this number no user was opened, or none has left, and the user has what it found at the purse.
+-- By this number no user was opened, and the user has what it found at the purse, by the one step that it made there.
 abbrev pub IsUnchanged : User → User → ℕ → Type 0
-IsUnchanged u v status = (why : Unchanged) × IsWhy (common_of u) why × (v.receipts ≡ when_unchanged why u.receipts) × (status ≡ unchanged_status why)
+IsUnchanged u v status = (why : Unchanged) × IsWhy (common_of u) (cuts u) why × (cuts v ≡ cuts u + 1) × (v.receipts ≡ when_unchanged why u.receipts) × (status ≡ unchanged_status why)
 
--- The user has taken the purse and given it back, and this is the one that was opened of it.
+-- By this number it has not left: it has made one step at the purse.
+abbrev pub HasStayed : User → User → ℕ → Type 0
+HasStayed u v status = (why : Unchanged) × IsWhy (common_of u) (cuts u) why × WantsNoPlace why × (cuts v ≡ cuts u + 1) × (v.receipts ≡ when_unchanged why u.receipts) × (status ≡ unchanged_status why)
+
+-- The user has taken the purse and given it back, and this is the one that was opened of it, with a chair of its own: two steps.
 abbrev pub HasShared : User → User → User → Type 0
-HasShared u v w = (given : Given Purse Tree) × IsOfPurse (common_of u) w given × (v.receipts ≡ when_given given u.receipts)
+HasShared u v w = (given : Given Purse Tree) × IsOfPurse (common_of u) (cuts u) w given × (cuts v ≡ cuts u + 2) × (v.receipts ≡ when_given given u.receipts)
 
 -- One user is opened beside another, of the same tree, with a pass of its purse. It stays as it was where it is open, and where none is opened.
 abbrev pub SharedWith : Option User → Option User → Option User → Option User → ℕ → Type 0
 SharedWith None after other other' status = (after ≡ None) × (other' ≡ other) × (status ≡ 22)
 SharedWith (Some u) None other other' status = ⊥
 SharedWith (Some u) (Some v) (Some o) other' status = (v ≡ u) × (other' ≡ Some o) × (status ≡ 16)
-SharedWith (Some u) (Some v) None (Some w) status = (status ≡ 0) × IsSame u v × (tree_of w ≡ tree_of u) × HasShared u v w
+SharedWith (Some u) (Some v) None (Some w) status = (status ≡ 0) × IsSame u v × (common_of w ≡ common_of u) × HasShared u v w
 SharedWith (Some u) (Some v) None None status = IsSame u v × IsUnchanged u v status
 
 -- A user has left its pass in the purse, no section of it standing open, and is closed; or it is open as it was, but for its walk, which is paused.
 abbrev pub SharedLeft : Option User → Option User → ℕ → Type 0
 SharedLeft None after status = (after ≡ None) × (status ≡ 22)
-SharedLeft (Some u) None status = (status ≡ 0) × (given : Given Purse Tree) × HasLeft (common_of u) (rested u) given
-SharedLeft (Some u) (Some v) status = (tree_of v ≡ tree_of u) × (known_to v ≡ paused u) × IsUnchanged u v status
+SharedLeft (Some u) None status = (status ≡ 0) × (left : Left) × HasLeft (common_of u) (cuts u + 1) (rested u) left
+SharedLeft (Some u) (Some v) status = (common_of v ≡ common_of u) × (known_to v ≡ paused u) × HasStayed u v status
 
 abbrev pub synced_status : Result ℕ Busy → ℕ
 synced_status (Ok calls) = 0
@@ -162,7 +165,7 @@ calls_told (Ok calls) = calls
 calls_told (Err busy) = 0
 
 abbrev pub HasSynced : ℕ → ℕ → User → User → Type 0
-HasSynced status calls u v = (synced : Result ℕ Busy) × IsSynced (tree_of u) (paused u) synced (known_to v) × (v.receipts ≡ when_synced synced u.receipts) × (status ≡ synced_status synced) × (calls ≡ calls_told synced)
+HasSynced status calls u v = (synced : Result ℕ Busy) × IsSynced (tree_of u) (paused u) synced (known_to v) × (v.chair ≡ u.chair) × (v.receipts ≡ when_synced synced u.receipts) × (status ≡ synced_status synced) × (calls ≡ calls_told synced)
 
 abbrev pub SharedSynced : Option User → Option User → ℕ → ℕ → Type 0
 SharedSynced before after status calls = OnUser before after status (calls ≡ 0) (HasSynced status calls)
@@ -180,7 +183,7 @@ settled_told (Err why) = (0, 0)
 
 abbrev pub HasSettled : ℕ → ℕ → ℕ → User → User → Type 0
 HasSettled status calls passes u v =
-    (settled : Settled) × IsSettled (common_of u) (paused u) settled (known_to v) × (v.receipts ≡ when_settled settled u.receipts) × (status ≡ settled_status settled) × (calls ≡ (settled_told settled).0) × (passes ≡ (settled_told settled).1)
+    (settled : Settled) × IsSettled (common_of u) (cuts u) (paused u) settled (known_to v) × (cuts v ≡ cuts u + 1) × (v.receipts ≡ when_settled settled u.receipts) × (status ≡ settled_status settled) × (calls ≡ (settled_told settled).0) × (passes ≡ (settled_told settled).1)
 
 abbrev pub SharedSettled : Option User → Option User → ℕ → ℕ → ℕ → Type 0
 SharedSettled before after status calls passes = OnUser before after status ((calls ≡ 0) × (passes ≡ 0)) (HasSettled status calls passes)

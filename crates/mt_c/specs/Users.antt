@@ -1,10 +1,11 @@
 -- What is said of a user of a shared tree: it has a pass, which knows a beginning of the tree's one history.
 -- Source: this project's own.
-use Rattle.std.specs.Prelude.{◌≡◌, ℕ, List, [], ◌∷◌, None, map, ◌++◌, Result, Ok, Err, length}
+use Rattle.std.specs.Prelude.{◌≡◌, ◌+◌, ℕ, List, [], ◌∷◌, None, map, ◌++◌, Result, Ok, Err, length}
 use Rattle.std.specs.Arc.{arc_value}
 use Rattle.std.specs.List.{range_with_len}
 use Rattle.mt_base.specs.Passes as known
 use Rattle.mt_keep.specs.declared.keep.Given.{Given}
+use Rattle.mt_keep.specs.Keeping.{cuts_of}
 use Rattle.mt_rule.specs.declared.busy.Busy.{Busy}
 use Rattle.mt_tree.specs.declared.trees.Tree.{Tree}
 use Rattle.mt_tree.specs.declared.shapes.Shape.{Shape}
@@ -16,9 +17,10 @@ use Rattle.mt_c.specs.declared.purse.Purse.{Purse}
 use Rattle.mt_c.specs.declared.user.User.{User}
 use Rattle.mt_c.specs.declared.user_acts.Settling.{Settling}
 use Rattle.mt_c.specs.declared.user_acts.Settling.TheVariants as settling
+use Rattle.mt_c.specs.declared.user_opens.Left.{Left}
 use Rattle.mt_c.specs.declared.user_opens.Unchanged.{Unchanged}
 use Rattle.mt_c.specs.declared.user_opens.Unchanged.TheVariants as unchanged
-use Rattle.mt_c.specs.Purses.{IsBusyAt, WasGiven}
+use Rattle.mt_c.specs.Purses.{IsBusyAt, IsSeatedAt, WasGiven, WasKept, first_in, known_in}
 use Rattle.mt_c.specs.Receipts.{no_receipts}
 use Rattle.mt_c.specs.Walkers.{IsAtRest, halted, knows}
 
@@ -42,40 +44,64 @@ paused u = halted u.walker
 abbrev pub rested : User → known.Pass
 rested u = record (known_to u) { standing = None }
 
+-- How many cuts its chair at the purse is from the first one. Only a step at the purse makes a chair further, and so tells how many
+-- steps a user has made there: a call that leaves this leaves all passes but the user's own.
+abbrev pub cuts : User → ℕ
+cuts u = cuts_of u.chair
+
+-- Nothing of a user has changed but its walker: it has made no step at the purse, and found nothing there or at the lock.
+pub record OnlyWalks (u v : User) : Type 0 where
+  pub common : common_of v ≡ common_of u
+  pub chair : v.chair ≡ u.chair
+  pub receipts : v.receipts ≡ u.receipts
+
 -- ---- users that come and go
 
--- The first user of an empty tree of this shape. Its pass and those in the purse are all that the tree has, and have seen nothing;
--- nor has it found anything at the lock or the purse.
+-- The first user of an empty tree of this shape. Its pass and those that the purse began with are all that the tree has, and have seen
+-- nothing. Its chair is the first, so nobody has taken the purse; nor has it found anything at the lock or the purse.
 pub record IsFirst (shape : Shape) (u : User) : Type 0 where
   pub tree : opened (tree_of u) ≡ record { kind = shape.kind; rows = shape.rows; opening = []; records = [] }
   pub calls : limit_of (tree_of u) ≡ shape.calls
-  pub others : List known.Pass
-  pub passes : others ++ known_to u ∷ [] ≡ map known.new_pass (range_with_len 0 shape.passes)
+  pub passes : known_in (first_in (common_of u)) ++ known_to u ∷ [] ≡ map known.new_pass (range_with_len 0 shape.passes)
+  pub chair : cuts u ≡ 0
   pub walk : u.walker.walk ≡ None
   pub none : u.receipts ≡ no_receipts
 
 -- A user is as it was: it knows no more, and its walk goes on.
 pub record IsSame (u v : User) : Type 0 where
-  pub tree : tree_of v ≡ tree_of u
+  pub common : common_of v ≡ common_of u
   pub known : known_to v ≡ known_to u
   pub walk : v.walker.walk ≡ u.walker.walk
 
--- The user has the pass that was the last in the purse, and is at rest: the others were given back. It has found nothing yet.
-pub record IsOfPurse (c : Common) (u : User) (given : Given Purse Tree) : Type 0 where
+-- The user was opened by one whose chair was so many cuts from the first: by two steps at the purse, one to take it and one to make a
+-- chair. It has the pass that was the last in the purse, and is at rest: the others were given back. It has found nothing yet.
+pub record IsOfPurse (c : Common) (before : ℕ) (u : User) (given : Given Purse Tree) : Type 0 where
   pub others : List known.Pass
-  pub out : WasGiven c (others ++ known_to u ∷ []) others given
+  pub out : WasGiven c (before + 1) (others ++ known_to u ∷ []) others given
+  pub chair : cuts u ≡ before + 2
   pub rests : IsAtRest u.walker
   pub none : u.receipts ≡ no_receipts
 
--- A pass that knows this was put into the purse, behind those that were there.
-abbrev pub HasLeft : Common → known.Pass → Given Purse Tree → Type 0
-HasLeft c p given = (others : List known.Pass) × WasGiven c others (others ++ p ∷ []) given
+-- A pass that knows this was put into the purse, behind those that were there, by a seat so many cuts from the first chair; and so is the
+-- chair that was left, which made no step behind that one.
+pub record HasLeft (c : Common) (cuts : ℕ) (p : known.Pass) (left : Left) : Type 0 where
+  pub others : List known.Pass
+  pub into : WasGiven c cuts others (others ++ p ∷ []) left.given
+  pub seated : IsSeatedAt c left.chair
+  pub chair : cuts_of left.chair ≡ cuts
 
--- That another had the purse was found at the purse of this tree; that it was empty, by who took it and gave it back.
-abbrev pub IsWhy : Common → Unchanged → Type 0
-IsWhy c (unchanged.Busy busy) = IsBusyAt c busy
-IsWhy c (unchanged.NoPlace given) = WasGiven c [] [] given
-IsWhy c unchanged.NoMemory = Unit {0}
+-- By a step of such a chair at the purse of this tree: that another had it was found there; that it was empty, or that memory ran out,
+-- by who took it and gave it back as it was.
+abbrev pub IsWhy : Common → ℕ → Unchanged → Type 0
+IsWhy c before (unchanged.Busy busy) = IsBusyAt c (before + 1) busy
+IsWhy c before (unchanged.NoPlace given) = WasGiven c (before + 1) [] [] given
+IsWhy c before (unchanged.NoMemory given) = WasKept c (before + 1) given
+
+-- who leaves wants no place
+abbrev pub WantsNoPlace : Unchanged → Type 0
+WantsNoPlace (unchanged.Busy busy) = Unit {0}
+WantsNoPlace (unchanged.NoPlace given) = ⊥
+WantsNoPlace (unchanged.NoMemory given) = Unit {0}
 
 -- ---- under the lock
 
@@ -84,8 +110,9 @@ abbrev pub IsSynced : Tree → known.Pass → Result ℕ Busy → known.Pass →
 IsSynced t p (Ok calls) q = known.Saw (opened t) p q × (length q.seen ≡ calls)
 IsSynced t p (Err busy) q = IsBusyOf t busy × (q ≡ p)
 
--- A user and all passes in the purse have met under the lock, so many; or the purse or the lock was found taken.
-abbrev pub IsSettled : Common → known.Pass → Result (ℕ × ℕ × Given Purse Tree) Settling → known.Pass → Type 0
-IsSettled c p (Ok r) q = (before : List known.Pass) × (after : List known.Pass) × HaveMet c.tree (p ∷ before) (q ∷ after) r.0 × (r.1 ≡ length after) × WasGiven c before after r.2
-IsSettled c p (Err (settling.Unpursed busy)) q = IsBusyAt c busy × (q ≡ p)
-IsSettled c p (Err (settling.Locked busy)) q = IsBusyOf c.tree busy × (q ≡ p)
+-- A user and all passes in the purse have met under the lock, so many; or the purse or the lock was found taken, and the purse given back
+-- as it was. It made one step at the purse, by a chair that was so many cuts from the first.
+abbrev pub IsSettled : Common → ℕ → known.Pass → Result (ℕ × ℕ × Given Purse Tree) Settling → known.Pass → Type 0
+IsSettled c cut p (Ok r) q = (before : List known.Pass) × (after : List known.Pass) × HaveMet c.tree (p ∷ before) (q ∷ after) r.0 × (r.1 ≡ length after) × WasGiven c (cut + 1) before after r.2
+IsSettled c cut p (Err (settling.Unpursed busy)) q = IsBusyAt c (cut + 1) busy × (q ≡ p)
+IsSettled c cut p (Err (settling.Locked busy given)) q = IsBusyOf c.tree busy × WasKept c (cut + 1) given × (q ≡ p)

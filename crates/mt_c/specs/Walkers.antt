@@ -1,22 +1,24 @@
 -- What a pass of a shared tree does on its walk and off it: reads without the lock, and calls that try for it.
 -- Source: this project's own; the kernel's documentation of the maple tree, mas_find over a struct ma_state that the caller keeps.
-use Rattle.std.specs.Prelude.{◌≡◌, ◌≤◌, ℕ, Option, Some, None, Result, Ok, Err, length}
+use Rattle.std.specs.Prelude.{◌≡◌, ℕ, ◌==◌, Bool, true, false, Option, Some, None, Result, Ok, Err}
 use Rattle.mt_base.specs.declared.calls.Call.{Call}
 use Rattle.mt_base.specs.declared.calls.Query.{Query}
 use Rattle.mt_base.specs.declared.ranges.Range.{Range}
 use Rattle.mt_base.specs.Passes as known
 use Rattle.mt_read.specs.declared.cursor.Cursor.{Cursor}
 use Rattle.mt_read.specs.declared.neighbours.Moved.{Moved}
-use Rattle.mt_read.specs.Cursors.{place_behind}
+use Rattle.mt_read.specs.Cursors.{place_behind, query_at}
 use Rattle.mt_read.specs.Neighbours.{WasMoved}
+use Rattle.mt_read.specs.Windows.{HasRead}
 use Rattle.mt_rule.specs.declared.busy.Busy.{Busy}
 use Rattle.mt_tree.specs.declared.shapes.Done.{Done}
 use Rattle.mt_tree.specs.declared.shapes.Read.{Read}
 use Rattle.mt_tree.specs.declared.shapes.Worn.{Worn}
 use Rattle.mt_tree.specs.declared.trees.Tree.{Tree}
 use Rattle.mt_tree.specs.Asks.{IsForNeighbour}
-use Rattle.mt_tree.specs.Trees.{pass_in, opened}
+use Rattle.mt_tree.specs.Trees.{Pass, pass_in, opened}
 use Rattle.mt_tree.specs.Tries.{IsBusyOf, WasMade}
+use Rattle.mt_tree.specs.Walks.{HasWalked}
 use Rattle.mt_c.specs.declared.walker.Walker.{Walker}
 pub use Rattle.mt_c.specs.KeptWalks.{IsKeptWalk, top, walks_coded}
 
@@ -41,21 +43,20 @@ pub record KnowsAs (p q : known.Pass) : Type 0 where
 
 -- ---- reads
 
--- so many calls it has seen at least, and so many at the most
-abbrev pub HasSeen : ℕ → ℕ → known.Pass → Type 0
-HasSeen lo hi q = (lo ≤ length q.seen) × (length q.seen ≤ hi)
-
--- What a read answers: the map after some number of calls in its window; or it was given up, as only a search for a neighbour is.
+-- What a read answers: the map after some number of calls in its window; or it was given up, as only a search for a neighbour is. The
+-- pass has opened one section and closed it, where the window begins.
 abbrev pub Answer : Type 0
 Answer = Result (Read (Option Range)) Moved
 
 abbrev pub IsAnswer : Tree → known.Pass → Query → Answer → known.Pass → Type 0
-IsAnswer t p query (Ok r) q = ((k : ℕ) × known.Read (opened t) p r.lo r.hi k query r.value q) × HasSeen r.lo r.hi q
-IsAnswer t p query (Err m) q = WasMoved (opened t) p m.lo m.begun q × IsForNeighbour query × HasSeen m.lo m.begun q
+IsAnswer t p query (Ok r) q = ((k : ℕ) × known.Read (opened t) p r.lo r.hi k query r.value q) × HasRead r.lo r.hi p q
+IsAnswer t p query (Err m) q = WasMoved (opened t) p m.lo m.begun q × IsForNeighbour query × HasRead m.lo m.begun p q
 
 -- It is on no walk, and no section of it stands open.
 abbrev pub IsAtRest : Walker → Type 0
 IsAtRest w = (w.walk ≡ None) × ((knows w).standing ≡ None)
+
+-- ---- steps of a walk
 
 -- It is on a walk, which stands at this place.
 abbrev pub IsOnAt : Option Cursor → Option ℕ → Type 0
@@ -66,6 +67,57 @@ IsOnAt (Some walk) place = walk.at ≡ place
 abbrev pub GoesOn : Option Range → Walker → Type 0
 GoesOn (Some range) w = (walk : Cursor) × (w.walk ≡ Some walk) × (walk.at ≡ place_behind (Some range) top)
 GoesOn None w = IsAtRest w
+
+-- a walk from an index that has opened no section yet
+abbrev pub new_walk : ℕ → Cursor
+new_walk from = record { at = Some from; max = top; leaf = None; epoch = None }
+
+-- a new walk is gone, when the one that was kept was paused
+abbrev pub IsAnew : ℕ → Walker → Pass → Cursor → Type 0
+IsAnew from w p walk = (pass_in p ≡ halted w) × (walk ≡ new_walk from)
+
+-- whether a walk stands at this index
+abbrev pub is_at : Option ℕ → ℕ → Bool
+is_at None from = false
+is_at (Some at) from = at == from
+
+abbrev pub stands_at : Option Cursor → ℕ → Bool
+stands_at None from = false
+stands_at (Some walk) from = is_at walk.at from
+
+-- The walk that a step from an index goes on, and its pass: the one that is kept, where it stands there, with its leaf and its section.
+abbrev pub GoesFrom : Bool → ℕ → Walker → Pass → Cursor → Type 0
+GoesFrom true from w p walk = (p ≡ w.pass) × (w.walk ≡ Some walk)
+GoesFrom false from w p walk = IsAnew from w p walk
+
+abbrev pub Continues : ℕ → Walker → Pass → Cursor → Type 0
+Continues from w p walk = GoesFrom (stands_at w.walk from) from w p walk
+
+-- Where it has found a range it is kept as it then is; where none, it is paused.
+abbrev pub IsLeftBy : Option Range → Pass → Cursor → Walker → Type 0
+IsLeftBy (Some range) p walk w = (w.pass ≡ p) × (w.walk ≡ Some walk)
+IsLeftBy None p walk w = (knows w ≡ record (pass_in p) { standing = None }) × (w.walk ≡ None)
+
+-- The pass made a read, in whichever section.
+abbrev pub IsReadBy : Tree → known.Pass → Query → Read (Option Range) → known.Pass → Type 0
+IsReadBy t p query r q = (k : ℕ) × known.Read (opened t) p r.lo r.hi k query r.value q
+
+-- One step from an index: the find from there, by one step of the walk that stands there, or of a new one.
+pub record IsStep (t : Tree) (w : Walker) (from : ℕ) (r : Read (Option Range)) (w' : Walker) : Type 0 where
+  pub read : IsReadBy t (knows w) (query_at (Some from) top) r (knows w')
+  pub goes : GoesOn r.value w'
+  pub pass : Pass
+  pub walk : Cursor
+  pub begins : Continues from w pass walk
+  pub pass' : Pass
+  pub walk' : Cursor
+  pub walked : HasWalked t pass walk r pass' walk'
+  pub left : IsLeftBy r.value pass' walk' w'
+
+-- The same from a place. Where there is none nothing is found, by a read.
+abbrev pub StepsFrom : Tree → Walker → Option ℕ → Read (Option Range) → Walker → Type 0
+StepsFrom t w None r w' = IsAnswer t (knows w) (query_at None top) (Ok r) (knows w') × IsAtRest w'
+StepsFrom t w (Some from) r w' = IsStep t w from r w'
 
 -- ---- calls
 

@@ -23,5 +23,5 @@ impl Placed<Tree> for Purse {
 pub struct Common {
     pub tree: Tree,
     pub purse: Keep<Purse, Tree>,
-    ghost of: { purse.table.shared.key.value ≡ tree },
+    ghost of: { purse.table.shared.key.place.value ≡ tree },
 }

@@ -1,6 +1,7 @@
 //! What is done with a purse.
 
-ghost use Rattle.std.specs.Prelude.{◌≡◌, All, IfErr, IfOk};
+ghost use Rattle.std.specs.Prelude.{◌≡◌, ◌+◌, ℕ, All, IfErr, IfOk};
+ghost use Rattle.mt_keep.specs.Keeping.{cuts_of};
 ghost use Rattle.mt_c.specs.Purses.{IsBusyAt, IsSeatedAt, IsTakenOf, WasGiven, known_in};
 ghost use Rattle.mt_c.specs.Spares.{IsSpare};
 
@@ -16,10 +17,12 @@ impl Common {
     ) -> Result<Taken<Purse, Tree>, Busy<Purse, Tree>>
         requires { IsSeatedAt self.now chair.old }
         ensures chair { IsSeatedAt self.now chair.new }
+        ensures cuts { cuts_of chair.new ≡ cuts_of chair.old + 1 }
         ensures passes { IfOk result (λ taken. All (IsSpare self.now.tree) taken.value.passes.items) }
         ensures taken { IfOk result (λ taken. IsTakenOf self.now taken.took taken.seat) }
         ensures took { IfOk result (λ taken. known_in taken.took.value ≡ known_in taken.value) }
-        ensures busy { IfErr result (IsBusyAt self.now) }
+        ensures taken_cuts { IfOk result (λ taken. taken.seat.me.0.cuts ≡ cuts_of chair.new) }
+        ensures busy { IfErr result (IsBusyAt self.now (cuts_of chair.new)) }
     {
         self.purse.try_take(chair)
     }
@@ -28,7 +31,7 @@ impl Common {
     pub fn give(&self, taken: Taken<Purse, Tree>) -> Given<Purse, Tree>
         requires taken { IsTakenOf self.now taken.took taken.seat }
         requires passes { All (IsSpare self.now.tree) taken.value.passes.items }
-        ensures { WasGiven self.now (known_in taken.took.value) (known_in taken.value) result }
+        ensures { WasGiven self.now taken.seat.me.0.cuts (known_in taken.took.value) (known_in taken.value) result }
     {
         self.purse.give(taken)
     }

@@ -16,6 +16,7 @@ use std::alloc::Global;
 /// The box of the first user of a new tree.
 fn boxed(alloc: Global, shape: Shape) -> Result<Box<User>, MakeError>
     ensures bad { (field : Field) → result ≡ Err (make_error.BadShape field) → first_bad shape ≡ Some field }
+    ensures short { result ≡ Err make_error.NoMemory → first_bad shape ≡ None }
     ensures first { IfOk result (λ whole. (first_bad shape ≡ None) × IsFirst shape whole.value) }
 {
     let user = User::open(alloc, shape)?;

@@ -164,8 +164,9 @@ pub fn settled_told(
             receipts.unpursed = Some(busy);
             (0, 0, EAGAIN)
         }
-        Err(Settling::Locked { busy }) => {
+        Err(Settling::Locked { busy, given }) => {
             receipts.locked = Some(busy);
+            receipts.given = Some(given);
             (0, 0, EAGAIN)
         }
     }
@@ -185,6 +186,9 @@ pub fn unchanged_told(why: Unchanged, receipts: &mut Receipts) -> u32
             receipts.given = Some(given);
             EUSERS
         }
-        Unchanged::NoMemory => ENOMEM,
+        Unchanged::NoMemory { given } => {
+            receipts.given = Some(given);
+            ENOMEM
+        }
     }
 }

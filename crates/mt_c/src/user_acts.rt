@@ -1,13 +1,12 @@
 //! What a user of a shared tree does: its walker does it on the tree that they own together.
 
-ghost use Rattle.std.specs.Prelude.{◌≡◌, MatchOption, None, Ok};
+ghost use Rattle.std.specs.Prelude.{◌≡◌, ◌+◌, ℕ, None, Ok};
 ghost use Rattle.mt_base.specs.declared.calls.Query.TheVariants.{Load};
-ghost use Rattle.mt_read.specs.Cursors.{query_at};
+ghost use Rattle.mt_keep.specs.Keeping.{cuts_of};
 ghost use Rattle.mt_tree.specs.Trees.{IsPassOf};
-ghost use Rattle.mt_c.specs.KeptWalks.{top};
 ghost use Rattle.mt_c.specs.Purses.{IsSeatedAt};
-ghost use Rattle.mt_c.specs.Users.{IsSettled, IsSynced, common_of, known_to, paused, tree_of};
-ghost use Rattle.mt_c.specs.Walkers.{GoesOn, IsAnswer, IsAtRest, IsTried, halted, knows};
+ghost use Rattle.mt_c.specs.Users.{IsSettled, IsSynced, common_of, cuts, known_to, paused, tree_of};
+ghost use Rattle.mt_c.specs.Walkers.{IsAnswer, IsAtRest, IsTried, StepsFrom, halted, knows};
 
 use crate::purse::{Common, Purse};
 use crate::user::User;
@@ -20,14 +19,19 @@ use mt_tree::{Busy, Done, Moved, Read, Tree, Worn};
 #[derive(Drop)]
 pub enum Settling {
     /// Another user has the purse.
-    Unpursed { busy: mt_keep::Busy<Purse, Tree> },
-    /// The lock was found taken.
-    Locked { busy: Busy },
+    Unpursed {
+        busy: mt_keep::Busy<Purse, Tree>,
+    },
+    /// The lock was found taken, and the purse given back as it was.
+    Locked {
+        busy: Busy,
+        given: Given<Purse, Tree>,
+    },
 }
 
 impl Common {
     /// A walker and all passes of the purse see the whole history, if neither the purse nor the lock is taken.
-    #[tactic(auto, using(crate::proofs::Using::settled))]
+    #[tactic(auto, using(crate::proofs::Using::settled, crate::proofs::Using::unpursed, crate::proofs::Using::locked))]
     pub fn settle(
         &self,
         walker: &mut Walker,
@@ -37,7 +41,8 @@ impl Common {
         requires seated { IsSeatedAt self.now chair.old }
         ensures of { IsPassOf self.now.tree walker.new.pass }
         ensures seated { IsSeatedAt self.now chair.new }
-        ensures settled { IsSettled self.now (halted walker.old) result (knows walker.new) }
+        ensures cuts { cuts_of chair.new ≡ cuts_of chair.old + 1 }
+        ensures settled { IsSettled self.now (cuts_of chair.old) (halted walker.old) result (knows walker.new) }
     {
         walker.pause(&self.tree);
         let mut taken = match self.take(chair) {
@@ -49,7 +54,7 @@ impl Common {
         let given = self.give(taken);
         match met {
             Ok(calls) => Ok((calls, passes, given)),
-            Err(busy) => Err(Settling::Locked { busy }),
+            Err(busy) => Err(Settling::Locked { busy, given }),
         }
     }
 }
@@ -58,16 +63,19 @@ impl User {
     /// Closes the section of its walk, if it has one, and forgets the walk.
     pub fn pause(&mut self)
         ensures common { common_of self.new ≡ common_of self.old }
+        ensures chair { self.new.chair ≡ self.old.chair }
+        ensures receipts { self.new.receipts ≡ self.old.receipts }
         ensures known { known_to self.new ≡ paused self.old }
         ensures walk { self.new.walker.walk ≡ None }
-        ensures receipts { self.new.receipts ≡ self.old.receipts }
     {
         self.walker.pause(&self.common.tree);
     }
 
     /// Asks one query, without the lock.
     pub fn ask(&mut self, query: &Query) -> Result<Read<Option<Range>>, Moved>
-        ensures tree { tree_of self.new ≡ tree_of self.old }
+        ensures common { common_of self.new ≡ common_of self.old }
+        ensures chair { self.new.chair ≡ self.old.chair }
+        ensures receipts { self.new.receipts ≡ self.old.receipts }
         ensures answer { IsAnswer (tree_of self.old) (known_to self.old) query.now result (known_to self.new) }
         ensures rests { IsAtRest self.new.walker }
     {
@@ -76,7 +84,9 @@ impl User {
 
     /// The range that an index lies in, without the lock.
     pub fn load(&mut self, index: u64) -> Read<Option<Range>>
-        ensures tree { tree_of self.new ≡ tree_of self.old }
+        ensures common { common_of self.new ≡ common_of self.old }
+        ensures chair { self.new.chair ≡ self.old.chair }
+        ensures receipts { self.new.receipts ≡ self.old.receipts }
         ensures answer { IsAnswer (tree_of self.old) (known_to self.old) (Load index) (Ok result) (known_to self.new) }
         ensures rests { IsAtRest self.new.walker }
     {
@@ -85,16 +95,19 @@ impl User {
 
     /// The first range that ends at a place or above, as `Walker::step_from` tells it: the leaf that it is in is kept.
     pub fn step_from(&mut self, place: Option<u64>) -> Read<Option<Range>>
-        ensures tree { tree_of self.new ≡ tree_of self.old }
-        ensures answer { IsAnswer (tree_of self.old) (known_to self.old) (query_at place top) (Ok result) (known_to self.new) }
-        ensures going { MatchOption place (IsAtRest self.new.walker) (λ _. GoesOn result.value self.new.walker) }
+        ensures common { common_of self.new ≡ common_of self.old }
+        ensures chair { self.new.chair ≡ self.old.chair }
+        ensures receipts { self.new.receipts ≡ self.old.receipts }
+        ensures stepped { StepsFrom (tree_of self.old) self.old.walker place result self.new.walker }
     {
         self.walker.step_from(&self.common.tree, place)
     }
 
     /// Looks how many calls have ended, by a read.
     pub fn look(&mut self) -> Read<Option<Range>>
-        ensures tree { tree_of self.new ≡ tree_of self.old }
+        ensures common { common_of self.new ≡ common_of self.old }
+        ensures chair { self.new.chair ≡ self.old.chair }
+        ensures receipts { self.new.receipts ≡ self.old.receipts }
         ensures answer { IsAnswer (tree_of self.old) (known_to self.old) (Load 0) (Ok result) (known_to self.new) }
         ensures rests { IsAtRest self.new.walker }
     {
@@ -103,9 +116,10 @@ impl User {
 
     /// Makes one call, if the lock is free.
     pub fn try_act(&mut self, call: &Call) -> Result<Result<Done, Worn>, Busy>
-        ensures tree { tree_of self.new ≡ tree_of self.old }
-        ensures tried { IsTried (tree_of self.old) (paused self.old) call.now result (known_to self.new) }
+        ensures common { common_of self.new ≡ common_of self.old }
+        ensures chair { self.new.chair ≡ self.old.chair }
         ensures receipts { self.new.receipts ≡ self.old.receipts }
+        ensures tried { IsTried (tree_of self.old) (paused self.old) call.now result (known_to self.new) }
     {
         self.walker.try_act(&self.common.tree, call)
     }
@@ -113,9 +127,10 @@ impl User {
     /// Sees the whole history, if the lock is free. Answers how many calls it has.
     #[tactic(auto, using(crate::proofs::Using::synced))]
     pub fn sync(&mut self) -> Result<u64, Busy>
-        ensures tree { tree_of self.new ≡ tree_of self.old }
-        ensures synced { IsSynced (tree_of self.old) (paused self.old) result (known_to self.new) }
+        ensures common { common_of self.new ≡ common_of self.old }
+        ensures chair { self.new.chair ≡ self.old.chair }
         ensures receipts { self.new.receipts ≡ self.old.receipts }
+        ensures synced { IsSynced (tree_of self.old) (paused self.old) result (known_to self.new) }
     {
         self.walker.meet(&self.common.tree, &mut [])
     }
@@ -123,8 +138,9 @@ impl User {
     /// With all passes of the purse it sees the whole history, if neither the purse nor the lock is taken. Answers how many calls
     /// that has, and how many passes of the purse have then seen it.
     pub fn settle(&mut self) -> Result<(u64, u64, Given<Purse, Tree>), Settling>
-        ensures tree { tree_of self.new ≡ tree_of self.old }
-        ensures settled { IsSettled (common_of self.old) (paused self.old) result (known_to self.new) }
+        ensures common { common_of self.new ≡ common_of self.old }
+        ensures chair { cuts self.new ≡ cuts self.old + 1 }
+        ensures settled { IsSettled (common_of self.old) (cuts self.old) (paused self.old) result (known_to self.new) }
         ensures receipts { self.new.receipts ≡ self.old.receipts }
     {
         self.common.settle(&mut self.walker, &mut self.chair)

@@ -6,17 +6,19 @@ ghost use Rattle.mt_tree.specs.Shapes.{first_bad};
 ghost use Rattle.mt_tree.specs.Trees.{IsPassOf, Pass, pass_in};
 ghost use Rattle.mt_tree.specs.declared.shapes.Field.{Field};
 ghost use Rattle.mt_tree.specs.declared.shapes.MakeError.TheVariants as make_error;
+ghost use Rattle.mt_keep.specs.Keeping.{cuts_of};
 ghost use Rattle.std.specs.Arc.{arc_value};
-ghost use Rattle.mt_c.specs.Purses.{IsSeatedAt, IsTakenOf, WasGiven, known_in};
+ghost use Rattle.mt_c.specs.Purses.{IsSeatedAt, IsTakenOf, first_in, known_in};
 ghost use Rattle.mt_c.specs.Receipts.{no_receipts};
 ghost use Rattle.mt_c.specs.Spares.{IsSpare};
-ghost use Rattle.mt_c.specs.Users.{HasLeft, IsFirst, IsOfPurse, IsWhy, common_of, known_to, paused, rested, tree_of};
+ghost use Rattle.mt_c.specs.Users.{HasLeft, IsFirst, IsOfPurse, IsWhy, WantsNoPlace, common_of, cuts, known_to, paused, rested, tree_of};
 ghost use Rattle.mt_c.specs.Walkers.{IsAtRest};
 
 use crate::purse::{Common, Purse};
 use crate::receipts::Receipts;
 use crate::user::User;
 use crate::walker::Walker;
+use atomic_table::Badge;
 use mt_keep::{Busy, Chair, Given, Keep, Taken};
 use mt_tree::{MakeError, NoMemory, Pass, Shape, Tree, Walk};
 use std::alloc::{AllocFailed, Global};
@@ -29,7 +31,15 @@ pub enum Unchanged {
     Busy { busy: Busy<Purse, Tree> },
     /// The purse was found empty, and given back so.
     NoPlace { given: Given<Purse, Tree> },
-    NoMemory,
+    /// Memory ran out, and the purse was given back as it was.
+    NoMemory { given: Given<Purse, Tree> },
+}
+
+/// What a user leaves: what it gave back, and its chair, which nobody has then.
+#[derive(Drop)]
+pub struct Left {
+    given: Given<Purse, Tree>,
+    chair: Chair<Purse, Tree>,
 }
 
 /// A new tree with the purse of these passes, and a chair at that.
@@ -40,7 +50,9 @@ fn shared(
 ) -> Result<(Arc<Common>, Chair<Purse, Tree>), NoMemory>
     requires { All (IsSpare tree) passes.items }
     ensures tree { IfOk result (λ r. (arc_value r.0).tree ≡ tree) }
+    ensures first { IfOk result (λ r. (first_in (arc_value r.0)).passes.items ≡ passes.items) }
     ensures seated { IfOk result (λ r. IsSeatedAt (arc_value r.0) r.1) }
+    ensures chair { IfOk result (λ r. cuts_of r.1 ≡ 0) }
 {
     let (purse, chair) = Keep::make(alloc, &tree, Purse { passes })?;
     let common = Common { tree, purse };
@@ -51,22 +63,25 @@ fn shared(
 }
 
 impl Purse {
-    /// A user with the last pass, which is taken out. Where there is no memory it is put back.
+    /// A user with the last pass, which is taken out, and with this chair. Where there is no memory both are put back: so that a
+    /// chair is cut off for a user alone that is there.
     fn open_user(
         &mut self,
         alloc: Global,
         common: Arc<Common>,
         chair: Chair<Purse, Tree>,
-    ) -> Result<Box<User>, NoMemory>
+    ) -> Result<Box<User>, Chair<Purse, Tree>>
         requires some { 0 < vec_len self.old.passes }
         requires seated { IsSeatedAt (arc_value common) chair }
         requires passes { All (IsSpare (arc_value common).tree) self.old.passes.items }
         ensures passes { All (IsSpare (arc_value common).tree) self.new.passes.items }
         ensures other { IfOk result (λ other. common_of other.value ≡ arc_value common) }
+        ensures chair { IfOk result (λ other. other.value.chair ≡ chair) }
         ensures rests { IfOk result (λ other. IsAtRest other.value.walker) }
         ensures none { IfOk result (λ other. other.value.receipts ≡ no_receipts) }
         ensures out { IfOk result (λ other. known_in self.old ≡ known_in self.new ++ known_to other.value ∷ []) }
         ensures back { IfErr result (λ _. known_in self.new ≡ known_in self.old) }
+        ensures chair_back { IfErr result (λ back. back ≡ chair) }
     {
         let Some(pass) = self.passes.pop() else {
             unreachable!()
@@ -80,31 +95,47 @@ impl Purse {
         match Box::new(alloc, user) {
             Ok(other) => Ok(other),
             Err(AllocFailed { value }) => {
-                let User { walker, .. } = value;
+                let User { walker, chair, .. } = value;
                 let Walker { pass, .. } = walker;
                 self.passes.push_reserved(pass);
-                Err(NoMemory)
+                Err(chair)
             }
         }
     }
 }
 
+impl User {
+    /// Another chair at the purse. Both are one cut further from the first one.
+    fn another_chair(&mut self) -> Chair<Purse, Tree>
+        ensures common { common_of self.new ≡ common_of self.old }
+        ensures walker { self.new.walker ≡ self.old.walker }
+        ensures receipts { self.new.receipts ≡ self.old.receipts }
+        ensures cuts { cuts self.new ≡ cuts self.old + 1 }
+        ensures seated { IsSeatedAt (common_of self.old) result }
+        ensures other_cuts { cuts_of result ≡ cuts self.new }
+    {
+        self.common.purse.chair(&mut self.chair)
+    }
+}
+
 impl Common {
     /// A user beside another, with a pass of the purse.
+    #[tactic(auto, using(crate::proofs::Using::of_purse, crate::proofs::Using::why_busy, crate::proofs::Using::why_short))]
     fn open_user(
         &self,
         alloc: Global,
-        common: Arc<Common>,
+        common: &Arc<Common>,
         chair: &mut Chair<Purse, Tree>,
     ) -> Result<(Box<User>, Given<Purse, Tree>), Unchanged>
-        requires same { arc_value common ≡ self.now }
+        requires same { arc_value common.now ≡ self.now }
         requires seated { IsSeatedAt self.now chair.old }
         ensures seated { IsSeatedAt self.now chair.new }
         ensures other { IfOk result (λ r. common_of r.0.value ≡ self.now) }
-        ensures pass { IfOk result (λ r. IsOfPurse self.now r.0.value r.1) }
-        ensures why { IfErr result (IsWhy self.now) }
+        ensures pass { IfOk result (λ r. IsOfPurse self.now (cuts_of chair.old) r.0.value r.1) }
+        ensures shared { IfOk result (λ _. cuts_of chair.new ≡ cuts_of chair.old + 2) }
+        ensures why { IfErr result (IsWhy self.now (cuts_of chair.old)) }
+        ensures unchanged { IfErr result (λ _. cuts_of chair.new ≡ cuts_of chair.old + 1) }
     {
-        let other_chair = self.purse.chair(chair);
         let mut taken = match self.take(chair) {
             Ok(taken) => taken,
             Err(busy) => return Err(Unchanged::Busy { busy }),
@@ -114,47 +145,73 @@ impl Common {
                 given: self.give(taken),
             });
         }
-        let other = taken.value.open_user(alloc, common, other_chair);
+        let Ok(common) = Arc::try_clone(common) else {
+            return Err(Unchanged::NoMemory {
+                given: self.give(taken),
+            });
+        };
+        let own = std::mem::replace(chair, Badge::blank());
+        let opened = taken.value.open_user(alloc, common, own);
         let given = self.give(taken);
-        match other {
-            Ok(other) => Ok((other, given)),
-            Err(_) => Err(Unchanged::NoMemory),
+        match opened {
+            Ok(mut other) => {
+                *chair = other.another_chair();
+                Ok((other, given))
+            }
+            Err(own) => {
+                *chair = own;
+                Err(Unchanged::NoMemory { given })
+            }
         }
     }
 
     /// Takes the purse, with room for one more pass.
+    #[tactic(auto, using(crate::proofs::Using::why_busy, crate::proofs::Using::why_short))]
     fn take_room(&self, chair: &mut Chair<Purse, Tree>) -> Result<Taken<Purse, Tree>, Unchanged>
         requires { IsSeatedAt self.now chair.old }
         ensures seated { IsSeatedAt self.now chair.new }
+        ensures cuts { cuts_of chair.new ≡ cuts_of chair.old + 1 }
         ensures taken { IfOk result (λ taken. IsTakenOf self.now taken.took taken.seat) }
+        ensures taken_cuts { IfOk result (λ taken. taken.seat.me.0.cuts ≡ cuts_of chair.new) }
         ensures took { IfOk result (λ taken. known_in taken.took.value ≡ known_in taken.value) }
         ensures passes { IfOk result (λ taken. All (IsSpare self.now.tree) taken.value.passes.items) }
         ensures room { IfOk result (λ taken. vec_len taken.value.passes + 1 ≤ vec_capacity taken.value.passes) }
-        ensures why { IfErr result (IsWhy self.now) }
+        ensures why { IfErr result (IsWhy self.now (cuts_of chair.old)) }
+        ensures place { IfErr result WantsNoPlace }
     {
         let mut taken = match self.take(chair) {
             Ok(taken) => taken,
             Err(busy) => return Err(Unchanged::Busy { busy }),
         };
         if taken.value.passes.reserve(1).is_err() {
-            self.give(taken);
-            return Err(Unchanged::NoMemory);
+            return Err(Unchanged::NoMemory {
+                given: self.give(taken),
+            });
         }
         Ok(taken)
     }
 
-    /// Puts a pass into the purse, no section of it standing open, and gives that back.
-    fn leave(&self, mut taken: Taken<Purse, Tree>, mut pass: Pass) -> Given<Purse, Tree>
+    /// Puts a pass into the purse, no section of it standing open, and gives that back. The chair comes to its end.
+    #[tactic(auto, using(crate::proofs::Using::has_left))]
+    fn leave(
+        &self,
+        mut taken: Taken<Purse, Tree>,
+        mut pass: Pass,
+        chair: Chair<Purse, Tree>,
+    ) -> Left
+        requires cuts { taken.seat.me.0.cuts ≡ cuts_of chair }
+        requires seated { IsSeatedAt self.now chair }
         requires taken { IsTakenOf self.now taken.took taken.seat }
         requires took { known_in taken.took.value ≡ known_in taken.value }
         requires passes { All (IsSpare self.now.tree) taken.value.passes.items }
         requires room { vec_len taken.value.passes + 1 ≤ vec_capacity taken.value.passes }
         requires pass { IsPassOf self.now.tree pass }
-        ensures { HasLeft self.now (record (pass_in pass) { standing = None }) result }
+        ensures { HasLeft self.now (cuts_of chair) (record (pass_in pass) { standing = None }) result }
     {
         self.tree.halt(&mut pass, &mut Walk::new(0, 0));
         taken.value.passes.push_reserved(pass);
-        self.give(taken)
+        let given = self.give(taken);
+        Left { given, chair }
     }
 }
 
@@ -163,7 +220,8 @@ fn first(alloc: Global, tree: Tree, passes: Vec<Pass>) -> Result<User, NoMemory>
     requires passes { All (IsSpare tree) passes.items }
     requires some { 0 < vec_len passes }
     ensures tree { IfOk result (λ user. tree_of user ≡ tree) }
-    ensures passes { IfOk result (λ user. (others : List Pass) × (passes.items ≡ others ++ user.walker.pass ∷ [])) }
+    ensures passes { IfOk result (λ user. passes.items ≡ (first_in (common_of user)).passes.items ++ user.walker.pass ∷ []) }
+    ensures chair { IfOk result (λ user. cuts user ≡ 0) }
     ensures walk { IfOk result (λ user. user.walker.walk ≡ None) }
     ensures none { IfOk result (λ user. user.receipts ≡ no_receipts) }
 {
@@ -189,6 +247,7 @@ impl User {
     pub fn open(alloc: Global, shape: Shape) -> Result<User, MakeError>
         ensures bad { (field : Field) → result ≡ Err (make_error.BadShape field) → first_bad shape ≡ Some field }
         ensures good { IfOk result (λ _. first_bad shape ≡ None) }
+        ensures short { result ≡ Err make_error.NoMemory → first_bad shape ≡ None }
         ensures first { IfOk result (IsFirst shape) }
     {
         let (tree, passes) = match Tree::make(alloc, shape) {
@@ -207,18 +266,17 @@ impl User {
     ///
     /// `Busy` where another user has the purse; `NoPlace` where it is empty; `NoMemory` where memory ran out.
     pub fn share(&mut self, alloc: Global) -> Result<(Box<User>, Given<Purse, Tree>), Unchanged>
-        ensures tree { tree_of self.new ≡ tree_of self.old }
+        ensures common { common_of self.new ≡ common_of self.old }
         ensures known { known_to self.new ≡ known_to self.old }
         ensures walk { self.new.walker.walk ≡ self.old.walker.walk }
         ensures receipts { self.new.receipts ≡ self.old.receipts }
-        ensures other { IfOk result (λ r. tree_of r.0.value ≡ tree_of self.old) }
-        ensures pass { IfOk result (λ r. IsOfPurse (common_of self.old) r.0.value r.1) }
-        ensures why { IfErr result (IsWhy (common_of self.old)) }
+        ensures other { IfOk result (λ r. common_of r.0.value ≡ common_of self.old) }
+        ensures pass { IfOk result (λ r. IsOfPurse (common_of self.old) (cuts self.old) r.0.value r.1) }
+        ensures shared { IfOk result (λ _. cuts self.new ≡ cuts self.old + 2) }
+        ensures why { IfErr result (IsWhy (common_of self.old) (cuts self.old)) }
+        ensures unchanged { IfErr result (λ _. cuts self.new ≡ cuts self.old + 1) }
     {
-        let Ok(common) = Arc::try_clone(&self.common) else {
-            return Err(Unchanged::NoMemory);
-        };
-        self.common.open_user(alloc, common, &mut self.chair)
+        self.common.open_user(alloc, &self.common, &mut self.chair)
     }
 
     /// Takes the purse, with room for one more pass.
@@ -231,26 +289,35 @@ impl User {
         ensures known { known_to self.new ≡ known_to self.old }
         ensures walk { self.new.walker.walk ≡ self.old.walker.walk }
         ensures receipts { self.new.receipts ≡ self.old.receipts }
+        ensures chair { cuts self.new ≡ cuts self.old + 1 }
         ensures taken { IfOk result (λ taken. IsTakenOf (common_of self.old) taken.took taken.seat) }
+        ensures taken_cuts { IfOk result (λ taken. taken.seat.me.0.cuts ≡ cuts self.new) }
         ensures took { IfOk result (λ taken. known_in taken.took.value ≡ known_in taken.value) }
         ensures passes { IfOk result (λ taken. All (IsSpare (common_of self.old).tree) taken.value.passes.items) }
         ensures room { IfOk result (λ taken. vec_len taken.value.passes + 1 ≤ vec_capacity taken.value.passes) }
-        ensures why { IfErr result (IsWhy (common_of self.old)) }
+        ensures why { IfErr result (IsWhy (common_of self.old) (cuts self.old)) }
+        ensures place { IfErr result WantsNoPlace }
     {
         self.common.take_room(&mut self.chair)
     }
 
     /// Leaves its pass in the purse.
-    fn leave_to(self, taken: Taken<Purse, Tree>) -> Given<Purse, Tree>
+    fn leave_to(self, taken: Taken<Purse, Tree>) -> Left
         requires taken { IsTakenOf (common_of self) taken.took taken.seat }
+        requires cuts { taken.seat.me.0.cuts ≡ cuts self }
         requires took { known_in taken.took.value ≡ known_in taken.value }
         requires passes { All (IsSpare (common_of self).tree) taken.value.passes.items }
         requires room { vec_len taken.value.passes + 1 ≤ vec_capacity taken.value.passes }
-        ensures { HasLeft (common_of self) (rested self) result }
+        ensures { HasLeft (common_of self) (cuts self) (rested self) result }
     {
-        let User { common, walker, .. } = self;
+        let User {
+            common,
+            walker,
+            chair,
+            ..
+        } = self;
         let Walker { pass, .. } = walker;
-        common.leave(taken, pass)
+        common.leave(taken, pass, chair)
     }
 
     /// Closes a user, and leaves its pass in the purse.
@@ -258,12 +325,14 @@ impl User {
     /// # Errors
     ///
     /// `Busy` where another user has the purse; `NoMemory` where memory ran out. The user is handed back, its walk paused.
-    pub fn leave(user: Box<User>) -> Result<Given<Purse, Tree>, (Box<User>, Unchanged)>
-        ensures left { IfOk result (HasLeft (common_of user.value) (rested user.value)) }
-        ensures tree { IfErr result (λ r. tree_of r.0.value ≡ tree_of user.value) }
+    pub fn leave(user: Box<User>) -> Result<Left, (Box<User>, Unchanged)>
+        ensures left { IfOk result (HasLeft (common_of user.value) (cuts user.value + 1) (rested user.value)) }
+        ensures common { IfErr result (λ r. common_of r.0.value ≡ common_of user.value) }
+        ensures chair { IfErr result (λ r. cuts r.0.value ≡ cuts user.value + 1) }
         ensures known { IfErr result (λ r. known_to r.0.value ≡ paused user.value) }
         ensures receipts { IfErr result (λ r. r.0.value.receipts ≡ user.value.receipts) }
-        ensures why { IfErr result (λ r. IsWhy (common_of user.value) r.1) }
+        ensures why { IfErr result (λ r. IsWhy (common_of user.value) (cuts user.value) r.1) }
+        ensures place { IfErr result (λ r. WantsNoPlace r.1) }
     {
         let mut user = user;
         user.pause();

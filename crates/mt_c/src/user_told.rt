@@ -3,7 +3,7 @@
 ghost use Rattle.std.specs.Prelude.{◌≡◌, IfErr, IfOk};
 ghost use Rattle.mt_c.specs.Shared.{HasSettled, HasShared, HasSynced, HasTried, IsUnchanged, unchanged_status};
 ghost use Rattle.mt_c.specs.Receipts.{when_unchanged};
-ghost use Rattle.mt_c.specs.Users.{common_of, known_to, tree_of};
+ghost use Rattle.mt_c.specs.Users.{common_of, known_to};
 
 use crate::shared_told::{Outcome, settled_told, synced_told, tried_told, unchanged_told};
 use crate::user::User;
@@ -15,7 +15,7 @@ impl User {
     /// Makes one call, if the lock is free.
     #[tactic(auto, using(crate::proofs::Sharing::has_tried))]
     pub fn try_told(&mut self, call: &Call) -> (Outcome, u32)
-        ensures tree { tree_of self.new ≡ tree_of self.old }
+        ensures common { common_of self.new ≡ common_of self.old }
         ensures tried { HasTried call.now result.1 result.0 self.old self.new }
     {
         let tried = self.try_act(call);
@@ -25,7 +25,7 @@ impl User {
     /// Sees the whole history, if the lock is free.
     #[tactic(auto, using(crate::proofs::Sharing::has_synced))]
     pub fn sync_told(&mut self) -> (u64, u32)
-        ensures tree { tree_of self.new ≡ tree_of self.old }
+        ensures common { common_of self.new ≡ common_of self.old }
         ensures synced { HasSynced result.1 result.0 self.old self.new }
     {
         let synced = self.sync();
@@ -35,7 +35,7 @@ impl User {
     /// With all passes of the purse it sees the whole history, if neither the purse nor the lock is taken.
     #[tactic(auto, using(crate::proofs::Sharing::has_settled))]
     pub fn settle_told(&mut self) -> (u64, u64, u32)
-        ensures tree { tree_of self.new ≡ tree_of self.old }
+        ensures common { common_of self.new ≡ common_of self.old }
         ensures settled { HasSettled result.2 result.0 result.1 self.old self.new }
     {
         let settled = self.settle();
@@ -47,6 +47,7 @@ impl User {
         ensures common { common_of self.new ≡ common_of self.old }
         ensures known { known_to self.new ≡ known_to self.old }
         ensures walk { self.new.walker.walk ≡ self.old.walker.walk }
+        ensures chair { self.new.chair ≡ self.old.chair }
         ensures receipts { self.new.receipts ≡ when_unchanged why self.old.receipts }
         ensures status { result ≡ unchanged_status why }
     {
@@ -60,10 +61,10 @@ impl User {
     /// The number that C gets where none was opened.
     #[tactic(auto, using(crate::proofs::Sharing::has_shared, crate::proofs::Sharing::is_unchanged))]
     pub fn share_told(&mut self, alloc: Global) -> Result<Box<User>, u32>
-        ensures tree { tree_of self.new ≡ tree_of self.old }
+        ensures common { common_of self.new ≡ common_of self.old }
         ensures known { known_to self.new ≡ known_to self.old }
         ensures walk { self.new.walker.walk ≡ self.old.walker.walk }
-        ensures other { IfOk result (λ other. tree_of other.value ≡ tree_of self.old) }
+        ensures other { IfOk result (λ other. common_of other.value ≡ common_of self.old) }
         ensures pass { IfOk result (λ other. HasShared self.old self.new other.value) }
         ensures why { IfErr result (IsUnchanged self.old self.new) }
     {

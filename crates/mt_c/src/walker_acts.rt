@@ -1,6 +1,6 @@
 //! What a pass of a shared tree does on its walk and off it.
 
-ghost use Rattle.std.specs.Prelude.{◌≡◌, ◌<◌, ℕ, All, IfErr, IfOk, IfSome, IsSome, MatchOption, None, Ok, Some, map, ◌∷◌};
+ghost use Rattle.std.specs.Prelude.{◌≡◌, ◌<◌, ℕ, All, IfErr, IfOk, IfSome, IsSome, None, Ok, Some, map, ◌∷◌};
 ghost use Rattle.mt_base.specs.declared.calls.Query.TheVariants.{Load};
 ghost use Rattle.mt_base.specs.Passes as known;
 ghost use Rattle.mt_read.specs.Cursors.{place_behind, query_at};
@@ -10,7 +10,8 @@ ghost use Rattle.mt_tree.specs.Trees.{IsPassOf, opened, pass_in};
 ghost use Rattle.mt_tree.specs.Tries.{IsBusyOf};
 ghost use Rattle.mt_c.specs.KeptWalks.{top};
 ghost use Rattle.mt_c.specs.Spares.{IsSpare};
-ghost use Rattle.mt_c.specs.Walkers.{GoesOn, IsAnswer, IsAtRest, IsOnAt, IsTried, KnowsAs, halted, knows};
+ghost use Rattle.mt_tree.specs.Walks.{HasWalked};
+ghost use Rattle.mt_c.specs.Walkers.{Continues, IsAnswer, IsAtRest, IsOnAt, IsReadBy, IsStep, IsTried, KnowsAs, StepsFrom, halted, knows, stands_at};
 
 use crate::walker::Walker;
 use mt_base::{Call, Query, Range, Steps};
@@ -96,30 +97,43 @@ impl Walker {
         load_range::<Brand>(tree, &mut self.pass, index, Blank::new(1))
     }
 
+    /// Whether it is on a walk that stands at this index.
+    fn stands_at(&self, from: u64) -> bool
+        ensures { result ≡ stands_at self.now.walk from }
+    {
+        let Some(walk) = &self.walk else {
+            return false;
+        };
+        match walk.at() {
+            Some(at) => at == from,
+            None => false,
+        }
+    }
+
     /// It is on a walk that stands at this index then: on the one that it was on, where that does.
-    #[tactic(auto, using(crate::proofs::Using::from_any, crate::proofs::Using::begins_walk, crate::proofs::Using::stands_at, crate::proofs::Using::paused_knows, crate::proofs::Using::same_knows))]
+    #[tactic(auto, using(crate::proofs::Using::from_any, crate::proofs::Using::begins_walk, crate::proofs::Using::stands_on, crate::proofs::Using::paused_knows, crate::proofs::Using::same_knows, crate::proofs::Using::at_index, crate::proofs::Using::goes_kept, crate::proofs::Using::goes_anew, crate::proofs::Using::is_new_walk))]
     fn walk_at(&mut self, tree: &Tree, from: u64)
         requires { IsPassOf tree.now self.old.pass }
         ensures of { IsPassOf tree.now self.new.pass }
         ensures at { IsOnAt self.new.walk (Some from) }
         ensures known { KnowsAs (knows self.old) (knows self.new) }
+        ensures begins { IfSome self.new.walk (Continues from self.old self.new.pass) }
     {
-        if let Some(walk) = &self.walk {
-            if walk.at() == Some(from) {
-                return;
-            }
+        if self.stands_at(from) {
+            return;
         }
         self.pause(tree);
         self.walk = Some(Walk::new(from, u64::MAX));
     }
 
     /// The next range of the walk that it is on.
-    #[tactic(auto, using(crate::proofs::Using::on_answer, crate::proofs::Using::on_place, crate::proofs::Using::goes_on))]
+    #[tactic(auto, using(crate::proofs::Using::on_answer, crate::proofs::Using::on_walked, crate::proofs::Using::on_place, crate::proofs::Using::goes_on))]
     fn walk_on(&mut self, tree: &Tree) -> Read<Option<Range>>
         requires of { IsPassOf tree.now self.old.pass }
         requires walk { IsSome self.old.walk }
         ensures of { IsPassOf tree.now self.new.pass }
-        ensures answer { IfSome self.old.walk (λ walk. IsAnswer tree.now (knows self.old) (query_at walk.at top) (Ok result) (knows self.new)) }
+        ensures read { IfSome self.old.walk (λ walk. IsReadBy tree.now (knows self.old) (query_at walk.at top) result (knows self.new)) }
+        ensures walked { IfSome self.old.walk (λ walk. IfSome self.new.walk (HasWalked tree.now self.old.pass walk result self.new.pass)) }
         ensures at { IsOnAt self.new.walk (place_behind result.value top) }
     {
         let Some(walk) = &mut self.walk else {
@@ -130,17 +144,16 @@ impl Walker {
 
     /// The first range that ends at an index or above, without the lock. The leaf that it is in is kept, and its section stands
     /// open, until the walk ends or the pass is used for something else.
-    #[tactic(auto, using(crate::proofs::Using::step_answer, crate::proofs::Using::is_on, crate::proofs::Using::keeps_walk, crate::proofs::Using::ends_walk, crate::proofs::Using::paused_knows, crate::proofs::Using::same_knows))]
+    #[tactic(auto, using(crate::proofs::Using::is_on))]
     fn step(&mut self, tree: &Tree, from: u64) -> Read<Option<Range>>
         requires { IsPassOf tree.now self.old.pass }
         ensures of { IsPassOf tree.now self.new.pass }
-        ensures answer { IsAnswer tree.now (knows self.old) (query_at (Some from) top) (Ok result) (knows self.new) }
-        ensures going { GoesOn result.value self.new }
+        ensures stepped { IsStep tree.now self.old from result self.new }
     {
         self.walk_at(tree, from);
         let read = self.walk_on(tree);
         match read.value {
-            Some(_) => {}
+            Some(_range) => {}
             None => self.pause(tree),
         }
         read
@@ -150,8 +163,7 @@ impl Walker {
     pub fn step_from(&mut self, tree: &Tree, place: Option<u64>) -> Read<Option<Range>>
         requires { IsPassOf tree.now self.old.pass }
         ensures of { IsPassOf tree.now self.new.pass }
-        ensures answer { IsAnswer tree.now (knows self.old) (query_at place top) (Ok result) (knows self.new) }
-        ensures going { MatchOption place (IsAtRest self.new) (λ _. GoesOn result.value self.new) }
+        ensures stepped { StepsFrom tree.now self.old place result self.new }
     {
         if let Some(from) = place {
             return self.step(tree, from);

@@ -1,4 +1,4 @@
-use Rattle.std.proofs.Common.{rules, ◌≡◌, All, [], ap, map, subst, sym}
+use Rattle.std.proofs.Common.{rules, ◌≡◌, ◌∙◌, All, [], ap, map, subst, sym}
 use Rattle.std.proofs.lemmas.List.{nil_from_length}
 use Rattle.mt_tree.specs.Trees.{pass_in}
 use Rattle.mt_c.specs.declared.purse.Common.{Common}
@@ -7,13 +7,13 @@ use Rattle.mt_c.specs.Spares.{IsSpare}
 use Rattle.mt_c.proofs.Using.{given_empty}
 use Rattle.mt_c.proofs.purse.Common.open_user.Goals as goal
 
-pub open_user-other-requires-clause-passes : goal.open_user-other-requires-clause-passes
-open_user-other-requires-clause-passes c = subst (λ (x : Common). All (IsSpare x.tree) c.in-Ok.taken.value.passes.items) (sym c.requires.same) c.in-Ok.ensures.passes
+pub open_user-opened-requires-clause-passes : goal.open_user-opened-requires-clause-passes
+open_user-opened-requires-clause-passes c = subst (λ (x : Common). All (IsSpare x.tree) c.in-Ok.taken.value.passes.items) (sym (c.in-Ok-try_clone.ensures ∙ c.requires.same)) c.in-Ok.ensures.passes
 
 pub give-given-requires-clause-passes : goal.give-given-requires-clause-passes
-give-given-requires-clause-passes c = subst (λ (x : Common). All (IsSpare x.tree) c.open_user-other.new.self.passes.items) c.requires.same c.open_user-other.ensures.passes
+give-given-requires-clause-passes c = subst (λ (x : Common). All (IsSpare x.tree) c.open_user-opened.new.self.passes.items) (c.in-Ok-try_clone.ensures ∙ c.requires.same) c.open_user-opened.ensures.passes
 
 pub returns-then-is_empty-clause-why : goal.returns-then-is_empty-clause-why
 returns-then-is_empty-clause-why c =
     let none : known_in c.in-Ok.taken.value ≡ [] = ap (map pass_in) (nil_from_length c.in-Ok.taken.value.passes.items (search rules)) in
-    given_empty c.args.self.now c.give.result (known_in c.in-Ok.taken.took.value) (known_in c.in-Ok.taken.value) c.give.ensures c.in-Ok.ensures.took none
+    given_empty c.args.self.now _ _ c.give.result (known_in c.in-Ok.taken.took.value) (known_in c.in-Ok.taken.value) c.give.ensures (search rules) c.in-Ok.ensures.took none

@@ -1,8 +1,8 @@
-use Rattle.std.proofs.Common.{rules, ◌≡◌, All, ap, subst, sym, ◌∙◌}
+use Rattle.std.proofs.Common.{rules, ◌≡◌, ◌+◌, ℕ, All, ap, subst, sym, ◌∙◌}
 use Rattle.mt_base.specs.Passes as known
 use Rattle.mt_c.specs.declared.purse.Common.{Common}
 use Rattle.mt_c.specs.Spares.{IsSpare}
-use Rattle.mt_c.specs.Users.{HasLeft, common_of, known_to, paused, rested}
+use Rattle.mt_c.specs.Users.{HasLeft, common_of, cuts, known_to, paused, rested}
 use Rattle.mt_c.proofs.Using.{rested_halted}
 use Rattle.mt_c.proofs.user.User.leave.Goals as goal
 
@@ -15,4 +15,5 @@ returns-in-Ok-clause-left c =
     let common : common_of c.into_inner.result ≡ common_of c.args.user.value = search rules in
     let knows : known_to c.into_inner.result ≡ paused c.args.user.value = search rules in
     let rests : rested c.into_inner.result ≡ rested c.args.user.value = rested_halted c.args.user.value.walker.walk (known_to c.args.user.value) (known_to c.into_inner.result) knows in
-    subst (λ (x : Common × known.Pass). HasLeft x.0 x.1 c.leave_to.result) (λ i. (common i, rests i)) c.leave_to.ensures
+    let chair : cuts c.into_inner.result ≡ cuts c.args.user.value + 1 = search rules in
+    subst (λ (x : Common × (ℕ × known.Pass)). HasLeft x.0 x.1.0 x.1.1 c.leave_to.result) (λ i. (common i, (chair i, rests i))) c.leave_to.ensures
