@@ -1,6 +1,7 @@
 /* Every call of include/maple.h against a sorted array that this program keeps by itself: c_calls STEPS SEED.
  * It says what differed first and exits with 1, or prints how many answers it compared. */
 #include "c_array.h"
+#include "maple_log.h"
 
 static void ask(struct maple_tree *t) {
     uint64_t index = draw(SPAN + 9), other = draw(SPAN + 9);
@@ -190,6 +191,10 @@ static void opens(void) {
     SAME("clear", maple_clear(&t), 0);
     SAME("none left", maple_next(&t, 0, UINT32_MAX, &r), ENOENT);
     maple_close(&t); closed(&t);
+    SAME("no rows", maple_open(&t, MAPLE_RANGE, 0), 0);
+    SAME("so no range", maple_store(&t, 1, 1, 4, &word), ENOMEM); SAME("none there", maple_load(&t, 1, &r), ENOENT);
+    SAME("clear all the same", maple_clear(&t), 0);
+    maple_close(&t);
     /* a small tree is refused rows before long, and then holds what it held */
     int i, status = 0;
     SAME("a small tree", maple_open(&t, MAPLE_RANGE, 4), 0);
@@ -222,11 +227,24 @@ static void texts(void) {
     SAME("rows", maple_verify(bytes, size, out, 0, 65505, &calls, &reads), EDOM);
 }
 
+/* What stands for a number or a pointer is an entry that no call refuses, and tells it again. */
+static void entries(void) {
+    for (uint64_t n = 0; n < 5000; n++) {
+        uint64_t number = n < 2500 ? n : (UINT64_C(1) << 63) - 1 - n, address = 4 * n + 4;
+        SAME("an entry of a number", maple_value(number) == 0 || is_reserved(maple_value(number)), 0);
+        SAME("its number", maple_to_value(maple_value(number)), number); SAME("of a number", maple_is_value(maple_value(number)), 1);
+        void *pointer = maple_to_ptr(address);
+        SAME("an entry of a pointer", maple_ptr(pointer) == 0 || is_reserved(maple_ptr(pointer)), 0);
+        SAME("its pointer", maple_to_ptr(maple_ptr(pointer)) == pointer, 1); SAME("of a pointer", maple_is_value(maple_ptr(pointer)), 0);
+    }
+}
+
 int main(int argc, char **argv) {
     uint64_t steps = argc > 1 ? strtoull(argv[1], 0, 10) : 20000;
     state = argc > 2 ? strtoull(argv[2], 0, 10) : 1;
     opens();
     texts();
+    entries();
     for (uint32_t kind = 0; kind < 4; kind++) {
         struct maple_tree trees[2] = {{0}, {0}}, *t = trees, *other = trees + 1;
         count = 0;

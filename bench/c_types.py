@@ -2,7 +2,7 @@
 """Prints a C program that holds the headers of the library for C against its exports: bench/c_types.py
 
 Of each export in crates/mt_c/src, and of each call that rust/maple/src/raw.rs declares, the program has a pointer of the type that its
-words come to in C, set to what include/maple.h or include/maple_shared.h declares by that name; and of each struct its size and fields.
+words come to in C, set to what a header of include/ declares by that name; and of each struct its size and fields.
 So it compiles just where the types are the same, and links just where the archive has the names."""
 import glob
 import os
@@ -77,7 +77,7 @@ def layouts():
                 yield STRUCTS[it[1]], len(fields), fields
 
 
-print('#include "maple.h"\n#include "maple_shared.h"\n#include <stdio.h>\n')
+print('#include "maple_log.h"\n#include "maple_shared.h"\n#include <stdio.h>\n')
 count = 0
 for source in (exports, declarations_in_rust):
     for name, kinds, answer in source():

@@ -5,6 +5,7 @@
  * often users came; or says what was wrong first and exits with 1. */
 #define _POSIX_C_SOURCE 200809L
 #include "maple_shared.h"
+#include "maple_log.h"
 #include <errno.h>
 #include <inttypes.h>
 #include <pthread.h>

@@ -1,4 +1,6 @@
-/* Maple trees that threads share, for C programs: proved as the calls of maple.h are, and linked with the same two archives.
+/* SPDX-License-Identifier: MIT OR Apache-2.0
+ *
+ * Maple trees that threads share, for C and C++ programs: proved and linked as the calls of maple.h are.
  *
  * Each thread has a user of the tree, and calls on different users may run at the same time. A tree has one history of calls, numbered
  * from 1, in which each call of each user stands once. A user has seen a beginning of it, which only grows.
@@ -14,11 +16,24 @@
  * Memory. maple_shared_open takes that of the whole tree, once for all calls; maple_share takes that of a user, and maple_leave may take
  * some. No other call takes any.
  *
- * What a program keeps, which nothing checks, beside what maple.h says of pointers, signals, forks and malloc:
- *   - a struct maple_user is zeroed before its first call (= {0}), and then read and written by these calls alone: not copied, not
- *     changed;
+ * What threads see of each other's memory. Calls and reads go by words that are loaded and stored as memory_order_seq_cst of C. So what a
+ * thread wrote before a call is visible behind each later call of the tree, behind a read that tells what the call stored, and to whom
+ * has seen the call (maple_learn, maple_sync; lo of its read is no less than the number of the call). So an entry may be a pointer to
+ * what was written before it was stored. What a reader does with it afterwards holds back no call: who removed an entry by the call c
+ * may free what it points to once each reader has made a read whose lo is no less than c, and uses nothing that it read before that one
+ * (examples/c/reclaim.c). The sanitizer of threads sees nothing of the archive: where it is at work, maple_tsan.h tells it of these orders.
+ *
+ * Signals. A read may be made in a signal handler by a user that no interrupted call works on: one that the handler's thread has for its
+ * handlers, say (examples/c/profiler.c). It ends in some hundred steps, also where the interrupted thread has the tree's lock, and changes
+ * no errno. Where it answers EAGAIN a handler gives up, for no bound is known. Stack, measured: a read takes less than MAPLE_READ_STACK
+ * bytes, any other call of this header or of maple.h less than MAPLE_CALL_STACK.
+ *
+ * What a program keeps, which nothing checks, beside what maple.h says of pointers, forks and malloc:
+ *   - a struct maple_user is zeroed before its first call (= {0}), and then read and written by these calls alone: not changed, and not
+ *     copied, but to go on in the copy and never again in the one;
  *   - one call at a time works on a user. It may go from thread to thread, handed over by a lock, a join or the start of a thread: what
  *     the one did stands before what the other does;
+ *   - no call but reads, as above, is made from a signal handler;
  *   - no thread is cancelled, ends or jumps away while it is in a call: it could keep the lock for good.
  *
  * Each call writes its user: those of several threads are quicker on cache lines of their own (aligned to 128 bytes, say).
@@ -61,80 +76,125 @@ struct maple_done {
 #define MAPLE_MOST_USERS 62
 #define MAPLE_MOST_CALLS ((UINT64_C(1) << 62) - 1)
 
+/* So many bytes of stack. */
+#define MAPLE_READ_STACK 2048
+#define MAPLE_CALL_STACK 16384
+
 /* ---- users that come and go */
 
 /* Opens an empty tree of a kind, in so many rows, for so many users at a time and so many calls, and its first user.
- * 0; EBUSY: the user is open, and stays as it was; EINVAL: no such kind, rows, users or calls; ENOMEM. */
-uint32_t maple_shared_open(struct maple_user *user, uint32_t kind, uint64_t rows, uint32_t users, uint64_t calls);
+ * 0; EBUSY: the user is open, and stays as it was; EINVAL: no such kind; or the rows are not 4 to MAPLE_MOST_ROWS, the users not 1 to
+ * MAPLE_MOST_USERS, or the calls not 1 to MAPLE_MOST_CALLS; ENOMEM. */
+uint32_t maple_shared_open(struct maple_user *user, uint32_t kind, uint64_t rows, uint32_t users, uint64_t calls) MAPLE_NONNULL MAPLE_CHECKED;
 
 /* Opens another user of the same tree, at a place that none has. Any user may, and stays as it was.
  * 0; EBUSY: the other is open; EUSERS: no place is free; EAGAIN: another user is just at the places, try again; EINVAL: the user is
  * closed; ENOMEM. The other stays as it was but for 0. */
-uint32_t maple_share(struct maple_user *user, struct maple_user *other);
+uint32_t maple_share(struct maple_user *user, struct maple_user *other) MAPLE_NONNULL MAPLE_CHECKED;
 
 /* Closes a user, and frees its place for another.
- * 0; EAGAIN: another user is just at the places, try again; ENOMEM; EINVAL: it is closed already. It stays open but for 0. */
-uint32_t maple_leave(struct maple_user *user);
+ * 0; EAGAIN: another user is just at the places, try again; ENOMEM; EINVAL: it is closed already. It stays open but for 0, its walk
+ * given up. */
+uint32_t maple_leave(struct maple_user *user) MAPLE_NONNULL MAPLE_CHECKED;
 
 /* Closes a user at once, whose place is then lost to others. A closed one stays closed. */
-void maple_shared_close(struct maple_user *user);
+void maple_shared_close(struct maple_user *user) MAPLE_NONNULL;
 
-/* ---- reads. None takes the lock, or memory. ENOENT: there is no such range. */
+/* ---- reads. None takes the lock, or memory. 0; ENOENT: there is no such range; EINVAL: the user is closed. */
 
 /* The range that holds index. */
-uint32_t maple_shared_load(struct maple_user *user, uint64_t index, struct maple_read *read);
+uint32_t maple_shared_load(struct maple_user *user, uint64_t index, struct maple_read *read) MAPLE_NONNULL;
 
-/* The first range that ends at index or above and begins at max or below. */
-uint32_t maple_shared_find(struct maple_user *user, uint64_t index, uint64_t max, struct maple_read *read);
+/* The first range that ends at index or above and begins at max or below. Where index is above max it finds none. */
+uint32_t maple_shared_find(struct maple_user *user, uint64_t index, uint64_t max, struct maple_read *read) MAPLE_NONNULL;
 
-/* The first range that begins above index, and at max or below; the last that ends below index, and at min or above; the last that
- * begins at index or below and ends at min or above. EAGAIN: the leaf of index was replaced meanwhile and the read given up: lo calls
- * had ended before it, and hi, which is more, have begun. Try again. */
-uint32_t maple_shared_next(struct maple_user *user, uint64_t index, uint64_t max, struct maple_read *read);
-uint32_t maple_shared_prev(struct maple_user *user, uint64_t index, uint64_t min, struct maple_read *read);
-uint32_t maple_shared_rfind(struct maple_user *user, uint64_t index, uint64_t min, struct maple_read *read);
+/* The first range that begins above index, and at max or below. EAGAIN: the leaf of index was replaced meanwhile and the read given up:
+ * lo calls had ended before it, and hi, which is more, have begun. Try again. */
+uint32_t maple_shared_next(struct maple_user *user, uint64_t index, uint64_t max, struct maple_read *read) MAPLE_NONNULL;
+
+/* The last range that ends below index, and at min or above. EAGAIN as of maple_shared_next. */
+uint32_t maple_shared_prev(struct maple_user *user, uint64_t index, uint64_t min, struct maple_read *read) MAPLE_NONNULL;
+
+/* The last range that begins at index or below and ends at min or above. Where index is below min it finds none. EAGAIN as of
+ * maple_shared_next. */
+uint32_t maple_shared_rfind(struct maple_user *user, uint64_t index, uint64_t min, struct maple_read *read) MAPLE_NONNULL;
 
 /* The next range of a walk, which goes on behind it: a find from where the walk stands. Any words are a walk, as in maple.h, and each
- * step is a read with a window of its own. The user keeps the leaf that its last step was in until it is asked anything else, steps
- * another walk, or the walk ends: till then the rows that die are not free for calls. So end a walk, or go on with something else. */
-uint32_t maple_shared_step(struct maple_user *user, struct maple_walk *walk, struct maple_read *read);
+ * step is a read with a window of its own. ENOENT: there is none, and the walk has ended. EINVAL: the user is closed, and the walk as it
+ * was. The user keeps the leaf that its last step was in until it is asked anything else, steps another walk, or the walk ends: till
+ * then the rows that die are not free for calls, and those of other users are refused before long (ENOMEM). So end a walk, or go on with
+ * something else: a maple_shared_load of any index gives the leaf back. */
+uint32_t maple_shared_step(struct maple_user *user, struct maple_walk *walk, struct maple_read *read) MAPLE_NONNULL;
 
-/* ---- calls, as maple_store, .. of maple.h. None takes memory.
+/* ---- calls, as maple_store, .. of maple.h, and answered as those are. None takes memory.
  *
- * EEXIST, ENOENT, EBUSY: as there. EINVAL: the call means nothing, as there, and has a number all the same; or the user is closed, and no
- * call was made. EAGAIN: another user has the lock, and no call was made. EOVERFLOW: the tree had all its calls, and no call was made.
- * ENOMEM: too few rows are free, as those are not in which a read of another user may still be. Where a call answers anything but 0,
- * no index holds another entry than before. */
-uint32_t maple_try_store(struct maple_user *user, uint64_t first, uint64_t last, uint64_t entry, struct maple_done *done);
-uint32_t maple_try_store_pre(struct maple_user *user, uint64_t first, uint64_t last, uint64_t entry, struct maple_done *done);
-uint32_t maple_try_insert(struct maple_user *user, uint64_t first, uint64_t last, uint64_t entry, struct maple_done *done);
-uint32_t maple_try_erase(struct maple_user *user, uint64_t index, struct maple_done *done);
-uint32_t maple_try_alloc(struct maple_user *user, uint64_t size, uint64_t min, uint64_t max, uint64_t entry, struct maple_done *done);
-uint32_t maple_try_ralloc(struct maple_user *user, uint64_t size, uint64_t min, uint64_t max, uint64_t entry, struct maple_done *done);
-uint32_t maple_try_gap(struct maple_user *user, uint64_t size, uint64_t min, uint64_t max, struct maple_done *done);
-uint32_t maple_try_rgap(struct maple_user *user, uint64_t size, uint64_t min, uint64_t max, struct maple_done *done);
-uint32_t maple_try_clear(struct maple_user *user, struct maple_done *done);
+ * Of all: EINVAL: the call means nothing, as there, and has a number all the same; or the user is closed, and no call was made. EAGAIN:
+ * another user has the lock, and no call was made. EOVERFLOW: the tree had all its calls, and no call was made. ENOMEM: too few rows are
+ * free, as those are not in which a read of another user may still be; it has a number all the same. Where a call answers anything but 0,
+ * no index holds another entry than before. Each gives up the walk of its user. */
 
-/* ---- what a user has seen */
+/* As maple_store: done->word is the entry that it met. */
+uint32_t maple_try_store(struct maple_user *user, uint64_t first, uint64_t last, uint64_t entry, struct maple_done *done)
+    MAPLE_NONNULL MAPLE_CHECKED;
 
-/* The user has then seen the first so many calls at least: its reads are of no earlier moment. Takes no lock. What another user has seen
- * is told by hi of its last read, or call of its last done: handed over, such a number is what this user is to learn.
- * 0; EAGAIN: it does not see so many yet, as while a call that has begun has not ended. */
-uint32_t maple_learn(struct maple_user *user, uint64_t calls);
+/* As maple_store_pre: done->word is the entry that it met. */
+uint32_t maple_try_store_pre(struct maple_user *user, uint64_t first, uint64_t last, uint64_t entry, struct maple_done *done)
+    MAPLE_NONNULL MAPLE_CHECKED;
+
+/* As maple_insert. EEXIST: some index is held. */
+uint32_t maple_try_insert(struct maple_user *user, uint64_t first, uint64_t last, uint64_t entry, struct maple_done *done)
+    MAPLE_NONNULL MAPLE_CHECKED;
+
+/* As maple_erase: done->first, last and entry are the range that was removed. ENOENT: no range holds the index. */
+uint32_t maple_try_erase(struct maple_user *user, uint64_t index, struct maple_done *done) MAPLE_NONNULL MAPLE_CHECKED;
+
+/* As maple_alloc: done->word is the start. EBUSY: no hole has room. */
+uint32_t maple_try_alloc(struct maple_user *user, uint64_t size, uint64_t min, uint64_t max, uint64_t entry, struct maple_done *done)
+    MAPLE_NONNULL MAPLE_CHECKED;
+
+/* As maple_ralloc: done->word is the start. EBUSY: no hole has room. */
+uint32_t maple_try_ralloc(struct maple_user *user, uint64_t size, uint64_t min, uint64_t max, uint64_t entry, struct maple_done *done)
+    MAPLE_NONNULL MAPLE_CHECKED;
+
+/* As maple_gap: done->word is the start. EBUSY: no hole has room. It is a call too, with a number. */
+uint32_t maple_try_gap(struct maple_user *user, uint64_t size, uint64_t min, uint64_t max, struct maple_done *done)
+    MAPLE_NONNULL MAPLE_CHECKED;
+
+/* As maple_rgap: done->word is the start. EBUSY: no hole has room. It is a call too, with a number. */
+uint32_t maple_try_rgap(struct maple_user *user, uint64_t size, uint64_t min, uint64_t max, struct maple_done *done)
+    MAPLE_NONNULL MAPLE_CHECKED;
+
+/* As maple_clear. */
+uint32_t maple_try_clear(struct maple_user *user, struct maple_done *done) MAPLE_NONNULL MAPLE_CHECKED;
+
+/* ---- what a user has seen. Each gives up the walk of its user. */
+
+/* The user has then seen the first so many calls at least: its reads are of no earlier moment. It is a read, and takes no lock. What
+ * another user has seen is told by hi of its last read, or call of its last done: handed over, such a number is what this user is to
+ * learn. 0; EAGAIN: it does not see so many yet, as while a call that has begun has not ended. */
+uint32_t maple_learn(struct maple_user *user, uint64_t calls) MAPLE_NONNULL MAPLE_CHECKED;
 
 /* The user has then seen the whole history, of so many calls: those of whom this tells the same number have seen the same history.
  * 0; EAGAIN: another user has the lock. */
-uint32_t maple_sync(struct maple_user *user, uint64_t *calls);
+uint32_t maple_sync(struct maple_user *user, uint64_t *calls) MAPLE_NONNULL MAPLE_CHECKED;
 
 /* The same of the user and of all places that no user has: so many besides have then seen one history, of so many calls. Where they
- * are all others that the tree was opened for, each call is of one of them.
+ * are all others that the tree was opened for, each call was made by one of them, which no clause of this call says.
  * 0; EAGAIN: another user has the lock, or is just at the places. */
-uint32_t maple_settle(struct maple_user *user, uint64_t *calls, uint64_t *places);
+uint32_t maple_settle(struct maple_user *user, uint64_t *calls, uint64_t *places) MAPLE_NONNULL MAPLE_CHECKED;
+
+#if defined(__SANITIZE_THREAD__)
+#include "maple_tsan.h"
+#elif defined(__has_feature)
+#if __has_feature(thread_sanitizer)
+#include "maple_tsan.h"
+#endif
+#endif
 
 /* ---- calls that wait: as maple_try_store, .., yielding the processor and trying again while another user has the lock. */
 
 #define MAPLE_WAITS(name, params, args)                                                       \
-    static inline uint32_t maple_shared_##name params                                         \
+    MAPLE_NONNULL MAPLE_CHECKED static inline uint32_t maple_shared_##name params             \
     {                                                                                         \
         uint32_t status = maple_try_##name args;                                              \
         while (status == EAGAIN) {                                                            \

@@ -1,0 +1,98 @@
+/* SPDX-License-Identifier: MIT OR Apache-2.0
+ *
+ * For maple_shared.h, which includes it where the sanitizer of threads watches the program: this tells it in which orders the calls of a
+ * shared tree put what threads write, since it sees nothing of the archive. What is before a store of an entry stands before what is
+ * behind a read that tells the entry, and what is before a call before what is behind a later one, or behind a maple_learn, maple_sync
+ * or maple_settle that is done.
+ * It knows neither trees nor the numbers of calls: entries that are the same modulo 251, and the calls of all trees, are one to it. So it
+ * takes some orders for given that are not, and none that is given for missing. */
+#ifndef MAPLE_TSAN_H
+#define MAPLE_TSAN_H
+
+void __tsan_acquire(void *at);
+void __tsan_release(void *at);
+
+/* What the sanitizer knows an order by: the first byte is all calls, each other one is entries. One for the whole program. */
+__attribute__((weak)) char maple_tsan_orders[252];
+
+static inline void maple_tsan_release(uint64_t entry)
+{
+    __tsan_release(maple_tsan_orders);
+    __tsan_release(maple_tsan_orders + 1 + entry % 251);
+}
+
+static inline void maple_tsan_acquire(uint64_t entry)
+{
+    if (entry) __tsan_acquire(maple_tsan_orders + 1 + entry % 251);
+}
+
+#define MAPLE_TSAN_CALL(name, params, args, entry)               \
+    static inline uint32_t maple_tsan_##name params              \
+    {                                                            \
+        maple_tsan_release(entry);                               \
+        uint32_t status = maple_##name args;                     \
+        if (done->call) __tsan_acquire(maple_tsan_orders);       \
+        return status;                                           \
+    }
+#define MAPLE_TSAN_READ(name, params, args)                      \
+    static inline uint32_t maple_tsan_##name params              \
+    {                                                            \
+        uint32_t status = maple_##name args;                     \
+        maple_tsan_acquire(read->entry);                         \
+        return status;                                           \
+    }
+#define MAPLE_TSAN_SEEN(name, params, args)                      \
+    static inline uint32_t maple_tsan_##name params              \
+    {                                                            \
+        uint32_t status = maple_##name args;                     \
+        if (status == 0) __tsan_acquire(maple_tsan_orders);      \
+        return status;                                           \
+    }
+#define MAPLE_AT struct maple_user *user, uint64_t first, uint64_t last, uint64_t entry
+#define MAPLE_IN struct maple_user *user, uint64_t size, uint64_t min, uint64_t max
+#define MAPLE_TO struct maple_user *user, uint64_t index, uint64_t bound
+MAPLE_TSAN_CALL(try_store, (MAPLE_AT, struct maple_done *done), (user, first, last, entry, done), entry)
+MAPLE_TSAN_CALL(try_store_pre, (MAPLE_AT, struct maple_done *done), (user, first, last, entry, done), entry)
+MAPLE_TSAN_CALL(try_insert, (MAPLE_AT, struct maple_done *done), (user, first, last, entry, done), entry)
+MAPLE_TSAN_CALL(try_erase, (struct maple_user *user, uint64_t index, struct maple_done *done), (user, index, done), 0)
+MAPLE_TSAN_CALL(try_alloc, (MAPLE_IN, uint64_t entry, struct maple_done *done), (user, size, min, max, entry, done), entry)
+MAPLE_TSAN_CALL(try_ralloc, (MAPLE_IN, uint64_t entry, struct maple_done *done), (user, size, min, max, entry, done), entry)
+MAPLE_TSAN_CALL(try_gap, (MAPLE_IN, struct maple_done *done), (user, size, min, max, done), 0)
+MAPLE_TSAN_CALL(try_rgap, (MAPLE_IN, struct maple_done *done), (user, size, min, max, done), 0)
+MAPLE_TSAN_CALL(try_clear, (struct maple_user *user, struct maple_done *done), (user, done), 0)
+MAPLE_TSAN_READ(shared_load, (struct maple_user *user, uint64_t index, struct maple_read *read), (user, index, read))
+MAPLE_TSAN_READ(shared_find, (MAPLE_TO, struct maple_read *read), (user, index, bound, read))
+MAPLE_TSAN_READ(shared_next, (MAPLE_TO, struct maple_read *read), (user, index, bound, read))
+MAPLE_TSAN_READ(shared_prev, (MAPLE_TO, struct maple_read *read), (user, index, bound, read))
+MAPLE_TSAN_READ(shared_rfind, (MAPLE_TO, struct maple_read *read), (user, index, bound, read))
+MAPLE_TSAN_READ(shared_step, (struct maple_user *user, struct maple_walk *walk, struct maple_read *read), (user, walk, read))
+MAPLE_TSAN_SEEN(learn, (struct maple_user *user, uint64_t calls), (user, calls))
+MAPLE_TSAN_SEEN(sync, (struct maple_user *user, uint64_t *calls), (user, calls))
+MAPLE_TSAN_SEEN(settle, (struct maple_user *user, uint64_t *calls, uint64_t *places), (user, calls, places))
+#undef MAPLE_TSAN_CALL
+#undef MAPLE_TSAN_READ
+#undef MAPLE_TSAN_SEEN
+#undef MAPLE_AT
+#undef MAPLE_IN
+#undef MAPLE_TO
+
+#define maple_try_store(...) maple_tsan_try_store(__VA_ARGS__)
+#define maple_try_store_pre(...) maple_tsan_try_store_pre(__VA_ARGS__)
+#define maple_try_insert(...) maple_tsan_try_insert(__VA_ARGS__)
+#define maple_try_erase(...) maple_tsan_try_erase(__VA_ARGS__)
+#define maple_try_alloc(...) maple_tsan_try_alloc(__VA_ARGS__)
+#define maple_try_ralloc(...) maple_tsan_try_ralloc(__VA_ARGS__)
+#define maple_try_gap(...) maple_tsan_try_gap(__VA_ARGS__)
+#define maple_try_rgap(...) maple_tsan_try_rgap(__VA_ARGS__)
+#define maple_try_clear(...) maple_tsan_try_clear(__VA_ARGS__)
+#define maple_shared_load(...) maple_tsan_shared_load(__VA_ARGS__)
+#define maple_shared_find(...) maple_tsan_shared_find(__VA_ARGS__)
+#define maple_shared_next(...) maple_tsan_shared_next(__VA_ARGS__)
+#define maple_shared_prev(...) maple_tsan_shared_prev(__VA_ARGS__)
+#define maple_shared_rfind(...) maple_tsan_shared_rfind(__VA_ARGS__)
+#define maple_shared_step(...) maple_tsan_shared_step(__VA_ARGS__)
+#define maple_learn(...) maple_tsan_learn(__VA_ARGS__)
+#define maple_sync(...) maple_tsan_sync(__VA_ARGS__)
+#define maple_settle(...) maple_tsan_settle(__VA_ARGS__)
+
+#endif
