@@ -1,7 +1,8 @@
-//! Maps of ranges on the proved maple tree: `include/maple.h` and `include/maple_shared.h` in safe Rust.
+//! Maps of ranges on the proved maple tree: `include/maple.h`, `maple_shared.h` and `maple_log.h` in safe Rust.
 //!
 //! A map has disjoint ranges of indexes, of 64 or of 32 bits, each with an entry that is not 0. [`Tree`] is a map of one
-//! thread, [`Shared`] one that threads share, whose readers take no lock.
+//! thread, [`Shared`] one that threads share, whose readers take no lock; [`Map`] has values of a type in the place of
+//! entries, and [`entries`] makes entries of numbers and of pointers.
 //!
 //! ```
 //! use maple::{Kind, Range, Tree};
@@ -9,10 +10,10 @@
 //!
 //! let mut tree = Tree::new(Kind::Alloc, 1000).unwrap();
 //! let entry = NonZeroU64::new(8).unwrap();
-//! assert_eq!(tree.store(10..=19, Some(entry))?, None);
-//! assert_eq!(tree.alloc(20, 0..=99, entry)?, 20);
+//! assert_eq!(tree.store(10..20, Some(entry))?, None);
+//! assert_eq!(tree.alloc(20, ..100, entry)?, 20);
 //! assert_eq!(tree.load(25), Some(Range { first: 20, last: 39, entry }));
-//! let firsts: Vec<u64> = tree.range(0..=99).map(|range| range.first).collect();
+//! let firsts: Vec<u64> = tree.range(..100).map(|range| range.first).collect();
 //! assert_eq!(firsts, [10, 20]);
 //! # Ok::<(), maple::Error>(())
 //! ```
@@ -21,21 +22,35 @@
 //! numbers into enums, and hands each call pointers of its own.
 #![deny(missing_docs)]
 
+pub mod entries;
 mod errors;
 mod logs;
+mod map;
 mod raw;
 mod shared;
 mod tree;
+mod windows;
 
 pub use errors::{CheckError, Error, LogError, OpenError};
 pub use logs::{replay, verify};
+pub use map::{Map, Refused, Values};
 pub use shared::{Lock, Reader, Shared, Steps, Writer};
-pub use tree::{Ranges, Tree};
+pub use tree::{IntoIter, Ranges, Tree};
 
 use std::num::NonZeroU64;
 use std::ops::RangeInclusive;
 
+/// A tree has so many rows at the most.
+pub const MOST_ROWS: u64 = 65_504;
+
 /// What a tree is for.
+///
+/// ```
+/// use maple::{entries::of_value, Error, Kind, Tree};
+/// let mut narrow = Tree::new(Kind::Range32, 100).unwrap();
+/// assert_eq!(narrow.store(1 << 32.., of_value(1)), Err(Error::Invalid));
+/// assert_eq!(narrow.gap(1, 0..9), Err(Error::Invalid));
+/// ```
 #[derive(Clone, Copy, Debug, PartialEq, Eq)]
 pub enum Kind {
     /// Ranges are stored where the caller says.
@@ -62,6 +77,12 @@ pub struct Range {
 
 impl Range {
     /// Its indexes.
+    ///
+    /// ```
+    /// use maple::{entries::of_value, Range};
+    /// let range = Range { first: 3, last: 11, entry: of_value(1).unwrap() };
+    /// assert!(range.indexes().contains(&11));
+    /// ```
     pub fn indexes(&self) -> RangeInclusive<u64> {
         self.first..=self.last
     }

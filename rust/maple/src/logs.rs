@@ -40,6 +40,12 @@ pub fn replay(log: &[u8], rows: u64) -> Result<Vec<u8>, LogError> {
 }
 
 /// How many calls and how many reads a transcript of a run of a log tells; `Refused` where the text is of none.
+///
+/// ```
+/// let log = b"mtlog 1\ntree a range\n";
+/// assert_eq!(maple::verify(log, b"tree a range 0\n", 100), Ok((0, 0)));
+/// assert_eq!(maple::verify(log, b"tree a range 1\n", 100), Err(maple::LogError::Refused));
+/// ```
 pub fn verify(log: &[u8], text: &[u8], rows: u64) -> Result<(u64, u64), LogError> {
     let (mut calls, mut reads) = (0, 0);
     let (log, log_length, text, text_length) = (log.as_ptr(), log.len(), text.as_ptr(), text.len());

@@ -1,4 +1,4 @@
-//! The calls of include/maple.h and of include/maple_shared.h.
+//! The calls of the headers in include/.
 
 use crate::Range;
 use std::ffi::c_void;

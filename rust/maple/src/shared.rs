@@ -1,12 +1,13 @@
 //! Trees that threads share.
 
 use crate::errors::{done, opened, EAGAIN, ENOENT};
-use crate::raw::{self, RawDone, RawRead, RawUser, RawWalk};
+use crate::raw::{self, RawDone, RawRead, RawUser};
+use crate::windows::{ends, Walk};
 use crate::{Error, Kind, OpenError, Range};
 use std::fmt;
 use std::iter::FusedIterator;
 use std::num::NonZeroU64;
-use std::ops::RangeInclusive;
+use std::ops::{RangeBounds, RangeInclusive};
 use std::sync::{Mutex, MutexGuard, PoisonError};
 use std::thread;
 
@@ -18,6 +19,9 @@ const MOST_USERS: u32 = 61;
 
 /// A map of ranges that threads share: each has a [`Reader`] or a [`Writer`] of its own. The tree has one history of calls,
 /// numbered from 1, and each of them sees a beginning of it, which only grows. Reads take no lock.
+///
+/// What a thread wrote elsewhere before a call, to a place that the entry stands for, say, is seen by a reader to whom the entry
+/// is told, and by one that has seen the call ([`Reader::learn`]), as by an atomic of `Release` and `Acquire`.
 ///
 /// The tree lives until it and all its readers and writers are gone, in any order. The place of one that is gone is free for
 /// another.
@@ -181,29 +185,60 @@ impl Reader {
         self.ask(|user, read| unsafe { raw::maple_shared_load(user, index, read) })
     }
 
+    /// The entry at an index: of the range that [`load`](Reader::load) tells.
+    pub fn get(&mut self, index: u64) -> Option<NonZeroU64> {
+        self.load(index).map(|range| range.entry)
+    }
+
+    /// Whether the tree had no range.
+    pub fn is_empty(&mut self) -> bool {
+        self.first_in(..).is_none()
+    }
+
     /// The first range that has an index of the window.
-    pub fn first_in(&mut self, window: RangeInclusive<u64>) -> Option<Range> {
+    ///
+    /// ```
+    /// use maple::{entries::of_value, Kind, Lock, Shared};
+    /// let shared = Shared::new(Kind::Range, 100, 1)?;
+    /// let mut writer = shared.writer(Lock::Waits)?;
+    /// for first in [0, 10, 20] {
+    ///     writer.store(first..first + 5, of_value(first)).unwrap();
+    /// }
+    /// let reader = writer.reader();
+    /// assert_eq!(reader.first_in(2..).unwrap().first, 0);
+    /// assert_eq!(reader.next_in(2..).unwrap().first, 10);
+    /// assert_eq!(reader.last_in(..=22).unwrap().first, 20);
+    /// assert_eq!(reader.prev_in(..=22).unwrap().first, 10);
+    /// assert_eq!((reader.get(24), reader.get(25)), (of_value(20), None));
+    /// assert!(!reader.is_empty());
+    /// # Ok::<(), maple::OpenError>(())
+    /// ```
+    pub fn first_in(&mut self, window: impl RangeBounds<u64>) -> Option<Range> {
+        let (first, last) = ends(window);
         // SAFETY: as of `load`.
-        self.ask(|user, read| unsafe { raw::maple_shared_find(user, *window.start(), *window.end(), read) })
+        self.ask(|user, read| unsafe { raw::maple_shared_find(user, first, last, read) })
     }
 
     /// The last range that has an index of the window. Where the leaf of its place is replaced meanwhile it reads again, and
     /// no bound is known of how often; so do `next_in` and `prev_in`.
-    pub fn last_in(&mut self, window: RangeInclusive<u64>) -> Option<Range> {
+    pub fn last_in(&mut self, window: impl RangeBounds<u64>) -> Option<Range> {
+        let (first, last) = ends(window);
         // SAFETY: as of `load`.
-        self.ask(|user, read| unsafe { raw::maple_shared_rfind(user, *window.end(), *window.start(), read) })
+        self.ask(|user, read| unsafe { raw::maple_shared_rfind(user, last, first, read) })
     }
 
     /// The first range that begins in the window, behind its first index.
-    pub fn next_in(&mut self, window: RangeInclusive<u64>) -> Option<Range> {
+    pub fn next_in(&mut self, window: impl RangeBounds<u64>) -> Option<Range> {
+        let (first, last) = ends(window);
         // SAFETY: as of `load`.
-        self.ask(|user, read| unsafe { raw::maple_shared_next(user, *window.start(), *window.end(), read) })
+        self.ask(|user, read| unsafe { raw::maple_shared_next(user, first, last, read) })
     }
 
     /// The last range that ends in the window, before its last index.
-    pub fn prev_in(&mut self, window: RangeInclusive<u64>) -> Option<Range> {
+    pub fn prev_in(&mut self, window: impl RangeBounds<u64>) -> Option<Range> {
+        let (first, last) = ends(window);
         // SAFETY: as of `load`.
-        self.ask(|user, read| unsafe { raw::maple_shared_prev(user, *window.end(), *window.start(), read) })
+        self.ask(|user, read| unsafe { raw::maple_shared_prev(user, last, first, read) })
     }
 
     /// The ranges that have an index of the window, in rising order, and from the back in falling order; each is a read of
@@ -223,14 +258,13 @@ impl Reader {
     /// assert_eq!(writer.reader().range(0..=99).next_back().unwrap().first, 20);
     /// # Ok::<(), maple::OpenError>(())
     /// ```
-    pub fn range(&mut self, window: RangeInclusive<u64>) -> Steps<'_> {
-        let walk = RawWalk { next: *window.start(), ended: 0 };
-        Steps { reader: self, walk, end: *window.end(), is_done: window.is_empty() }
+    pub fn range(&mut self, window: impl RangeBounds<u64>) -> Steps<'_> {
+        Steps { reader: self, walk: Walk::over(window) }
     }
 
-    /// All ranges, in rising order.
+    /// All ranges, in rising order: [`range`](Reader::range) of the window `..`.
     pub fn iter(&mut self) -> Steps<'_> {
-        self.range(0..=u64::MAX)
+        self.range(..)
     }
 
     /// Whether it has seen the first so many calls now: what it reads is then of no earlier moment. Takes no lock. The
@@ -243,6 +277,12 @@ impl Reader {
 
     /// Sees the whole history, of so many calls, under the lock as soon as it is free. Readers and writers of which this
     /// tells the same number have seen the same history.
+    ///
+    /// ```
+    /// use maple::{Kind, Shared};
+    /// assert_eq!(Shared::new(Kind::Range, 100, 1)?.reader()?.sync(), 0);
+    /// # Ok::<(), maple::OpenError>(())
+    /// ```
     pub fn sync(&mut self) -> u64 {
         let mut calls = 0;
         // SAFETY: the user is open, and the pointers are of two objects that nobody else uses now.
@@ -280,13 +320,19 @@ impl<'a> IntoIterator for &'a mut Reader {
     }
 }
 
-/// The ranges of a window of a shared tree that were not yet given: those that have an index from where the walk goes on to
-/// `end`.
+/// The ranges of a window of a shared tree that were not yet given, as [`Reader::range`] gives them.
+///
+/// ```
+/// use maple::{Kind, Shared};
+/// let mut reader = Shared::new(Kind::Range, 100, 1)?.reader()?;
+/// let mut steps = reader.iter();
+/// assert_eq!(steps.next(), None);
+/// assert_eq!(steps.window(), 0..=0);
+/// # Ok::<(), maple::OpenError>(())
+/// ```
 pub struct Steps<'a> {
     reader: &'a mut Reader,
-    walk: RawWalk,
-    end: u64,
-    is_done: bool,
+    walk: Walk,
 }
 
 impl Steps<'_> {
@@ -300,29 +346,16 @@ impl Iterator for Steps<'_> {
     type Item = Range;
 
     fn next(&mut self) -> Option<Range> {
-        if self.is_done {
-            return None;
-        }
-        let walk = &mut self.walk;
+        let reader = &mut self.reader;
         // SAFETY: the user is open, and the pointers are of three objects that nobody else uses now.
-        let found = self.reader.ask(|user, read| unsafe { raw::maple_shared_step(user, walk, read) });
-        let range = found.filter(|range| range.first <= self.end);
-        self.is_done = self.walk.ended != 0 || range.is_none_or(|range| range.last >= self.end);
-        range
+        self.walk.next(|walk| reader.ask(|user, read| unsafe { raw::maple_shared_step(user, walk, read) }))
     }
 }
 
 impl DoubleEndedIterator for Steps<'_> {
     fn next_back(&mut self) -> Option<Range> {
-        if self.is_done {
-            return None;
-        }
-        let range = self.reader.last_in(self.walk.next..=self.end);
-        match range {
-            Some(range) if range.first > self.walk.next => self.end = range.first - 1,
-            _ => self.is_done = true,
-        }
-        range
+        let reader = &mut self.reader;
+        self.walk.next_back(|first, last| reader.last_in(first..=last))
     }
 }
 
@@ -339,7 +372,7 @@ impl Drop for Steps<'_> {
 
 impl fmt::Debug for Steps<'_> {
     fn fmt(&self, f: &mut fmt::Formatter<'_>) -> fmt::Result {
-        f.debug_struct("Steps").field("next", &self.walk.next).field("end", &self.end).finish_non_exhaustive()
+        f.debug_struct("Steps").field("left", &self.walk.left()).finish_non_exhaustive()
     }
 }
 
@@ -412,20 +445,36 @@ impl Writer {
     }
 
     /// What its calls do from now on where another thread has the lock.
+    ///
+    /// ```
+    /// use maple::{entries::of_value, Kind, Lock, Range, Shared};
+    /// let mut writer = Shared::new(Kind::Alloc, 100, 1)?.writer(Lock::Tries)?;
+    /// writer.set_lock(Lock::Waits);
+    /// let entry = of_value(1).unwrap();
+    /// assert_eq!(writer.store(0..10, Some(entry)), Ok(None));
+    /// assert_eq!(writer.insert(20..30, entry), Ok(()));
+    /// assert_eq!(writer.erase(5), Ok(Some(Range { first: 0, last: 9, entry })));
+    /// assert_eq!(writer.alloc(8, 12..100, entry), Ok(12));
+    /// assert_eq!(writer.alloc_highest(8, ..100, entry), Ok(92));
+    /// assert_eq!((writer.gap(8, 12..100), writer.gap_highest(8, 12..100)), (Ok(30), Ok(84)));
+    /// assert_eq!(writer.clear(), Ok(()));
+    /// assert_eq!(writer.number(), 8);
+    /// # Ok::<(), maple::OpenError>(())
+    /// ```
     pub fn set_lock(&mut self, lock: Lock) {
         self.lock = lock;
     }
 
     /// Stores an entry over a range, or makes a hole there, and gives the entry of the first range that it met.
-    pub fn store(&mut self, at: RangeInclusive<u64>, entry: Option<NonZeroU64>) -> Result<Option<NonZeroU64>, Error> {
-        let (first, last, entry) = (*at.start(), *at.end(), entry.map_or(0, NonZeroU64::get));
+    pub fn store(&mut self, at: impl RangeBounds<u64>, entry: Option<NonZeroU64>) -> Result<Option<NonZeroU64>, Error> {
+        let ((first, last), entry) = (ends(at), entry.map_or(0, NonZeroU64::get));
         // SAFETY: the user is open, and the pointers are of two objects that nobody else uses now.
         self.word(|user, done| unsafe { raw::maple_try_store(user, first, last, entry, done) }).map(NonZeroU64::new)
     }
 
     /// Stores an entry over a range where no index of it is held.
-    pub fn insert(&mut self, at: RangeInclusive<u64>, entry: NonZeroU64) -> Result<(), Error> {
-        let (first, last, entry) = (*at.start(), *at.end(), entry.get());
+    pub fn insert(&mut self, at: impl RangeBounds<u64>, entry: NonZeroU64) -> Result<(), Error> {
+        let ((first, last), entry) = (ends(at), entry.get());
         // SAFETY: as of `store`.
         self.word(|user, done| unsafe { raw::maple_try_insert(user, first, last, entry, done) }).map(|_| ())
     }
@@ -441,29 +490,29 @@ impl Writer {
     }
 
     /// Stores an entry over so many indexes at the lowest start at which they lie in one hole of the window, and gives it.
-    pub fn alloc(&mut self, size: u64, window: RangeInclusive<u64>, entry: NonZeroU64) -> Result<u64, Error> {
-        let (min, max, entry) = (*window.start(), *window.end(), entry.get());
+    pub fn alloc(&mut self, size: u64, window: impl RangeBounds<u64>, entry: NonZeroU64) -> Result<u64, Error> {
+        let ((min, max), entry) = (ends(window), entry.get());
         // SAFETY: as of `store`.
         self.word(|user, done| unsafe { raw::maple_try_alloc(user, size, min, max, entry, done) })
     }
 
     /// The same at the highest start.
-    pub fn alloc_highest(&mut self, size: u64, window: RangeInclusive<u64>, entry: NonZeroU64) -> Result<u64, Error> {
-        let (min, max, entry) = (*window.start(), *window.end(), entry.get());
+    pub fn alloc_highest(&mut self, size: u64, window: impl RangeBounds<u64>, entry: NonZeroU64) -> Result<u64, Error> {
+        let ((min, max), entry) = (ends(window), entry.get());
         // SAFETY: as of `store`.
         self.word(|user, done| unsafe { raw::maple_try_ralloc(user, size, min, max, entry, done) })
     }
 
     /// The lowest start at which so many indexes lie in one hole of the window.
-    pub fn gap(&mut self, size: u64, window: RangeInclusive<u64>) -> Result<u64, Error> {
-        let (min, max) = (*window.start(), *window.end());
+    pub fn gap(&mut self, size: u64, window: impl RangeBounds<u64>) -> Result<u64, Error> {
+        let (min, max) = ends(window);
         // SAFETY: as of `store`.
         self.word(|user, done| unsafe { raw::maple_try_gap(user, size, min, max, done) })
     }
 
     /// The highest.
-    pub fn gap_highest(&mut self, size: u64, window: RangeInclusive<u64>) -> Result<u64, Error> {
-        let (min, max) = (*window.start(), *window.end());
+    pub fn gap_highest(&mut self, size: u64, window: impl RangeBounds<u64>) -> Result<u64, Error> {
+        let (min, max) = ends(window);
         // SAFETY: as of `store`.
         self.word(|user, done| unsafe { raw::maple_try_rgap(user, size, min, max, done) })
     }

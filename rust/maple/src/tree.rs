@@ -1,13 +1,14 @@
 //! Trees of one thread.
 
 use crate::errors::{done, opened, ENOENT, ERANGE};
-use crate::raw::{self, RawForm, RawRange, RawTree, RawWalk};
-use crate::{CheckError, Error, Form, Kind, OpenError, Range};
+use crate::raw::{self, RawForm, RawRange, RawTree};
+use crate::windows::{ends, Walk};
+use crate::{CheckError, Error, Form, Kind, OpenError, Range, MOST_ROWS};
 use std::cell::RefCell;
 use std::fmt;
 use std::iter::FusedIterator;
 use std::num::NonZeroU64;
-use std::ops::RangeInclusive;
+use std::ops::RangeBounds;
 
 /// A map of ranges, in rows whose memory is taken once: no call takes any. It may go to another thread, and one at a time
 /// uses it.
@@ -21,16 +22,37 @@ use std::ops::RangeInclusive;
 /// fn may_be_shared<T: Sync>() {}
 /// may_be_shared::<maple::Tree>();
 /// ```
+///
+/// Windows and ranges of indexes are `3..12`, `3..=11`, `..=9`, `3..` or `..`, where an end that is open is 2^64 - 1, as for
+/// every kind of queries, and above the greatest index of a narrow tree's stores. A window without an index has no range,
+/// and a store over one is [`Error::Invalid`].
+///
+/// It has no `len`: the tree does not count its ranges. `iter().count()` walks through them, and [`check`](Tree::check)
+/// counts them and tests every word.
+///
+/// What is collected or extended, and a clone, has no way to tell a refusal: they panic where a call would be refused or
+/// memory runs out. The rows grow with what is collected, up to 65,504.
+///
+/// ```
+/// use maple::{entries, Range, Tree};
+/// let ranges = |n| Range { first: 10 * n, last: 10 * n + 4, entry: entries::of_value(n).unwrap() };
+/// let mut tree: Tree = (0..1000).map(ranges).collect();
+/// tree.extend((1000..2000).map(ranges));
+/// let copy = tree.clone();
+/// tree.clear().unwrap();
+/// assert!(tree.is_empty() && copy.into_iter().eq((0..2000).map(ranges)));
+/// ```
 pub struct Tree {
     raw: RefCell<RawTree>,
+    rows: u64,
 }
 
 impl Tree {
     /// What opens a closed handle makes a tree.
-    fn opened_by(open: impl FnOnce(&mut RawTree) -> u32) -> Result<Tree, OpenError> {
+    fn opened_by(rows: u64, open: impl FnOnce(&mut RawTree) -> u32) -> Result<Tree, OpenError> {
         let mut raw = RawTree::CLOSED;
         opened(open(&mut raw))?;
-        Ok(Tree { raw: RefCell::new(raw) })
+        Ok(Tree { raw: RefCell::new(raw), rows })
     }
 
     /// An empty tree in so many rows: a node each, 65,504 at the most.
@@ -42,7 +64,7 @@ impl Tree {
     /// ```
     pub fn new(kind: Kind, rows: u64) -> Result<Tree, OpenError> {
         // SAFETY: the handle is closed.
-        Tree::opened_by(|raw| unsafe { raw::maple_open(raw, kind as u32, rows) })
+        Tree::opened_by(rows, |raw| unsafe { raw::maple_open(raw, kind as u32, rows) })
     }
 
     /// A tree in so many rows, built at once with just these ranges, of which each stands above the one before it.
@@ -60,7 +82,7 @@ impl Tree {
     pub fn build(kind: Kind, rows: u64, ranges: &[Range]) -> Result<Tree, OpenError> {
         let (from, count, mut at) = (ranges.as_ptr(), ranges.len(), 0);
         let mut wrong = false;
-        let built = Tree::opened_by(|raw| {
+        let built = Tree::opened_by(rows, |raw| {
             // SAFETY: the handle is closed, and nobody changes the slice now.
             let status = unsafe { raw::maple_build(raw, kind as u32, rows, from, count, &mut at) };
             wrong = status == crate::errors::EINVAL;
@@ -72,10 +94,15 @@ impl Tree {
         built
     }
 
-    /// A tree in so many rows with the map of an image.
+    /// A tree in so many rows with the map of an image, and of its kind.
+    ///
+    /// ```
+    /// use maple::{OpenError, Tree};
+    /// assert_eq!(Tree::of_image(b"mtimage", 200).err(), Some(OpenError::NoImage));
+    /// ```
     pub fn of_image(bytes: &[u8], rows: u64) -> Result<Tree, OpenError> {
         // SAFETY: the handle is closed, and nobody changes the slice now.
-        Tree::opened_by(|raw| unsafe { raw::maple_open_image(raw, bytes.as_ptr(), bytes.len(), rows) })
+        Tree::opened_by(rows, |raw| unsafe { raw::maple_open_image(raw, bytes.as_ptr(), bytes.len(), rows) })
     }
 
     /// The image of the tree: its kind, and its rows in use, in the order of a walk from the root.
@@ -87,7 +114,6 @@ impl Tree {
     /// tree.store(3..=5, NonZeroU64::new(1)).unwrap();
     /// let image = tree.image()?;
     /// assert!(Tree::of_image(&image, 200)?.iter().eq(tree.iter()));
-    /// assert_eq!(Tree::of_image(b"mtimage", 200).err(), Some(OpenError::NoImage));
     /// # Ok::<(), OpenError>(())
     /// ```
     pub fn image(&self) -> Result<Vec<u8>, OpenError> {
@@ -120,7 +146,49 @@ impl Tree {
     /// ```
     pub fn copy(&self, rows: u64) -> Result<Tree, OpenError> {
         // SAFETY: the tree is open and the copy closed.
-        Tree::opened_by(|copy| unsafe { raw::maple_copy(&mut *self.raw.borrow_mut(), copy, rows) })
+        Tree::opened_by(rows, |copy| unsafe { raw::maple_copy(&mut *self.raw.borrow_mut(), copy, rows) })
+    }
+
+    /// Goes on in so many rows, by a copy: in more where a call found too few, or in fewer.
+    ///
+    /// ```
+    /// use maple::{Error, Kind, Tree};
+    /// use std::num::NonZeroU64;
+    /// let mut tree = Tree::new(Kind::Range, 4)?;
+    /// for first in (0..5000).step_by(10) {
+    ///     while tree.store(first..first + 5, NonZeroU64::new(8)) == Err(Error::NoRows) {
+    ///         tree.resize(2 * tree.rows())?;
+    ///     }
+    /// }
+    /// assert_eq!(tree.iter().count(), 500);
+    /// # Ok::<(), maple::OpenError>(())
+    /// ```
+    pub fn resize(&mut self, rows: u64) -> Result<(), OpenError> {
+        *self = self.copy(rows)?;
+        Ok(())
+    }
+
+    /// How many rows it has, as it was told when it was made.
+    ///
+    /// ```
+    /// assert_eq!(maple::Tree::new(maple::Kind::Range, 100)?.rows(), 100);
+    /// # Ok::<(), maple::OpenError>(())
+    /// ```
+    pub fn rows(&self) -> u64 {
+        self.rows
+    }
+
+    /// Makes a call, and where it finds too few rows makes it again in twice as many.
+    pub(crate) fn growing<T>(&mut self, mut call: impl FnMut(&mut Tree) -> Result<T, Error>) -> Result<T, Error> {
+        loop {
+            match call(self) {
+                Err(Error::NoRows) if self.rows < MOST_ROWS => {
+                    let rows = (2 * self.rows).clamp(16, MOST_ROWS);
+                    self.resize(rows).map_err(|_| Error::NoRows)?;
+                }
+                answer => return answer,
+            }
+        }
     }
 
     /// Tests each word of the tree. Every call keeps them lawful.
@@ -155,25 +223,42 @@ impl Tree {
     /// use maple::{Kind, Tree};
     /// use std::num::NonZeroU64;
     /// let mut tree = Tree::new(Kind::Range, 100).unwrap();
-    /// tree.store(0..=99, NonZeroU64::new(1))?;
+    /// tree.store(0..100, NonZeroU64::new(1))?;
     /// assert_eq!(tree.store(40..=49, None)?, NonZeroU64::new(1));
     /// assert_eq!(tree.load(45), None);
     /// # Ok::<(), maple::Error>(())
     /// ```
-    pub fn store(&mut self, at: RangeInclusive<u64>, entry: Option<NonZeroU64>) -> Result<Option<NonZeroU64>, Error> {
-        let (first, last, entry) = (*at.start(), *at.end(), entry.map_or(0, NonZeroU64::get));
+    pub fn store(&mut self, at: impl RangeBounds<u64>, entry: Option<NonZeroU64>) -> Result<Option<NonZeroU64>, Error> {
+        let ((first, last), entry) = (ends(at), entry.map_or(0, NonZeroU64::get));
         // SAFETY: the tree is open, and the pointers are of two objects that nobody else uses now.
         let old = self.word(|tree, old| unsafe { raw::maple_store(tree, first, last, entry, old) })?;
         Ok(NonZeroU64::new(old))
     }
 
     /// Stores an entry over a range where no index of it is held.
-    pub fn insert(&mut self, at: RangeInclusive<u64>, entry: NonZeroU64) -> Result<(), Error> {
+    ///
+    /// ```
+    /// use maple::{entries::of_value, Error, Kind, Tree};
+    /// let mut tree = Tree::new(Kind::Range, 100).unwrap();
+    /// assert_eq!(tree.insert(0..10, of_value(1).unwrap()), Ok(()));
+    /// assert_eq!(tree.insert(9..12, of_value(2).unwrap()), Err(Error::Exists));
+    /// ```
+    pub fn insert(&mut self, at: impl RangeBounds<u64>, entry: NonZeroU64) -> Result<(), Error> {
+        let (first, last) = ends(at);
         // SAFETY: as of `store`.
-        done(unsafe { raw::maple_insert(self.raw.get_mut(), *at.start(), *at.end(), entry.get()) })
+        done(unsafe { raw::maple_insert(self.raw.get_mut(), first, last, entry.get()) })
     }
 
     /// Removes the whole range that holds an index, and gives it; none where none does.
+    ///
+    /// ```
+    /// use maple::{entries::of_value, Kind, Tree};
+    /// let mut tree = Tree::new(Kind::Range, 100).unwrap();
+    /// tree.store(3..12, of_value(1))?;
+    /// assert_eq!(tree.erase(5)?.unwrap().indexes(), 3..=11);
+    /// assert_eq!(tree.erase(5)?, None);
+    /// # Ok::<(), maple::Error>(())
+    /// ```
     pub fn erase(&mut self, index: u64) -> Result<Option<Range>, Error> {
         let mut was = RawRange::default();
         // SAFETY: as of `store`.
@@ -184,50 +269,83 @@ impl Tree {
     }
 
     /// Stores an entry over so many indexes at the lowest start at which they lie in one hole of the window, and gives it.
-    pub fn alloc(&mut self, size: u64, window: RangeInclusive<u64>, entry: NonZeroU64) -> Result<u64, Error> {
-        let (min, max, entry) = (*window.start(), *window.end(), entry.get());
+    ///
+    /// ```
+    /// use maple::{entries::of_value, Error, Kind, Tree};
+    /// let mut tree = Tree::new(Kind::Alloc, 100).unwrap();
+    /// let entry = of_value(1).unwrap();
+    /// assert_eq!(tree.alloc(8, 1..100, entry), Ok(1));
+    /// assert_eq!(tree.alloc(8, 1..100, entry), Ok(9));
+    /// assert_eq!(tree.alloc_highest(8, 1..100, entry), Ok(92));
+    /// assert_eq!(tree.gap(8, 1..100), Ok(17));
+    /// assert_eq!(tree.gap_highest(8, 1..100), Ok(84));
+    /// assert_eq!(tree.gap(80, 1..100), Err(Error::NoRoom));
+    /// ```
+    pub fn alloc(&mut self, size: u64, window: impl RangeBounds<u64>, entry: NonZeroU64) -> Result<u64, Error> {
+        let ((min, max), entry) = (ends(window), entry.get());
         // SAFETY: as of `store`.
         self.word(|tree, start| unsafe { raw::maple_alloc(tree, size, min, max, entry, start) })
     }
 
-    /// The same at the highest start.
-    pub fn alloc_highest(&mut self, size: u64, window: RangeInclusive<u64>, entry: NonZeroU64) -> Result<u64, Error> {
-        let (min, max, entry) = (*window.start(), *window.end(), entry.get());
+    /// The same at the highest start. [`alloc`](Tree::alloc) has an example of both, and of the two that follow.
+    pub fn alloc_highest(&mut self, size: u64, window: impl RangeBounds<u64>, entry: NonZeroU64) -> Result<u64, Error> {
+        let ((min, max), entry) = (ends(window), entry.get());
         // SAFETY: as of `store`.
         self.word(|tree, start| unsafe { raw::maple_ralloc(tree, size, min, max, entry, start) })
     }
 
     /// The lowest start at which so many indexes lie in one hole of the window.
-    pub fn gap(&mut self, size: u64, window: RangeInclusive<u64>) -> Result<u64, Error> {
+    pub fn gap(&mut self, size: u64, window: impl RangeBounds<u64>) -> Result<u64, Error> {
+        let (min, max) = ends(window);
         // SAFETY: as of `store`.
-        self.word(|tree, start| unsafe { raw::maple_gap(tree, size, *window.start(), *window.end(), start) })
+        self.word(|tree, start| unsafe { raw::maple_gap(tree, size, min, max, start) })
     }
 
     /// The highest.
-    pub fn gap_highest(&mut self, size: u64, window: RangeInclusive<u64>) -> Result<u64, Error> {
+    pub fn gap_highest(&mut self, size: u64, window: impl RangeBounds<u64>) -> Result<u64, Error> {
+        let (min, max) = ends(window);
         // SAFETY: as of `store`.
-        self.word(|tree, start| unsafe { raw::maple_rgap(tree, size, *window.start(), *window.end(), start) })
+        self.word(|tree, start| unsafe { raw::maple_rgap(tree, size, min, max, start) })
     }
 
     /// Removes every range.
+    ///
+    /// ```
+    /// use maple::{entries::of_value, Kind, Tree};
+    /// let mut tree = Tree::new(Kind::Range, 100).unwrap();
+    /// tree.store(3..12, of_value(1))?;
+    /// tree.clear()?;
+    /// assert!(tree.is_empty());
+    /// # Ok::<(), maple::Error>(())
+    /// ```
     pub fn clear(&mut self) -> Result<(), Error> {
         // SAFETY: as of `store`.
         done(unsafe { raw::maple_clear(self.raw.get_mut()) })
     }
 
-    /// Makes the tree ready for one store that changes nodes.
+    /// Makes the tree ready for one store.
+    ///
+    /// ```
+    /// use maple::{entries::of_value, Error, Kind, Tree};
+    /// let mut tree = Tree::new(Kind::Range, 100).unwrap();
+    /// tree.preallocate()?;
+    /// assert_eq!(tree.store_prealloc(3..12, of_value(1)), Ok(None));
+    /// assert_eq!(Tree::new(Kind::Range, 0).unwrap().preallocate(), Err(Error::NoRows));
+    /// # Ok::<(), maple::Error>(())
+    /// ```
     pub fn preallocate(&mut self) -> Result<(), Error> {
         // SAFETY: as of `store`.
         done(unsafe { raw::maple_preallocate(self.raw.get_mut()) })
     }
 
-    /// A store for which the tree was made ready: it is not refused for rows. `NoRows` where it was not.
+    /// A store for which the tree was made ready by [`preallocate`](Tree::preallocate): it is not refused for rows. `NoRows`
+    /// where it was not.
     pub fn store_prealloc(
         &mut self,
-        at: RangeInclusive<u64>,
+        at: impl RangeBounds<u64>,
         entry: Option<NonZeroU64>,
     ) -> Result<Option<NonZeroU64>, Error> {
-        let (first, last, entry) = (*at.start(), *at.end(), entry.map_or(0, NonZeroU64::get));
+        let ((first, last), entry) = (ends(at), entry.map_or(0, NonZeroU64::get));
         // SAFETY: as of `store`.
         let old = self.word(|tree, old| unsafe { raw::maple_store_prealloc(tree, first, last, entry, old) })?;
         Ok(NonZeroU64::new(old))
@@ -240,47 +358,75 @@ impl Tree {
     }
 
     /// The range that holds an index.
+    ///
+    /// ```
+    /// use maple::{entries::of_value, Kind, Tree};
+    /// let mut tree = Tree::new(Kind::Range, 100).unwrap();
+    /// tree.store(3..12, of_value(1))?;
+    /// assert_eq!(tree.load(5).unwrap().indexes(), 3..=11);
+    /// assert_eq!(tree.get(5), of_value(1));
+    /// assert_eq!(tree.get(12), None);
+    /// # Ok::<(), maple::Error>(())
+    /// ```
     pub fn load(&self, index: u64) -> Option<Range> {
         // SAFETY: the tree is open, and the pointers are of two objects that nobody else uses now.
         self.ask(|tree, found| unsafe { raw::maple_load(tree, index, found) })
     }
 
+    /// The entry at an index: of the range that [`load`](Tree::load) tells.
+    pub fn get(&self, index: u64) -> Option<NonZeroU64> {
+        self.load(index).map(|range| range.entry)
+    }
+
+    /// Whether it has no range.
+    ///
+    /// ```
+    /// assert!(maple::Tree::new(maple::Kind::Range, 100).unwrap().is_empty());
+    /// ```
+    pub fn is_empty(&self) -> bool {
+        self.first_in(..).is_none()
+    }
+
     /// The first range that has an index of the window.
-    pub fn first_in(&self, window: RangeInclusive<u64>) -> Option<Range> {
-        // SAFETY: as of `load`.
-        self.ask(|tree, found| unsafe { raw::maple_find(tree, *window.start(), *window.end(), found) })
-    }
-
-    /// The last range that has an index of the window.
-    pub fn last_in(&self, window: RangeInclusive<u64>) -> Option<Range> {
-        // SAFETY: as of `load`.
-        self.ask(|tree, found| unsafe { raw::maple_rfind(tree, *window.end(), *window.start(), found) })
-    }
-
-    /// The first range that begins in the window, behind its first index.
     ///
     /// ```
     /// use maple::{Kind, Tree};
     /// use std::num::NonZeroU64;
     /// let mut tree = Tree::new(Kind::Range, 100).unwrap();
     /// for first in [0, 10, 20] {
-    ///     tree.store(first..=first + 4, NonZeroU64::new(first + 1))?;
+    ///     tree.store(first..first + 5, NonZeroU64::new(first + 1))?;
     /// }
-    /// assert_eq!(tree.first_in(2..=99).unwrap().first, 0);
-    /// assert_eq!(tree.next_in(2..=99).unwrap().first, 10);
-    /// assert_eq!(tree.last_in(0..=22).unwrap().first, 20);
-    /// assert_eq!(tree.prev_in(0..=22).unwrap().first, 10);
+    /// assert_eq!(tree.first_in(2..).unwrap().first, 0);
+    /// assert_eq!(tree.next_in(2..).unwrap().first, 10);
+    /// assert_eq!(tree.last_in(..=22).unwrap().first, 20);
+    /// assert_eq!(tree.prev_in(..=22).unwrap().first, 10);
     /// # Ok::<(), maple::Error>(())
     /// ```
-    pub fn next_in(&self, window: RangeInclusive<u64>) -> Option<Range> {
+    pub fn first_in(&self, window: impl RangeBounds<u64>) -> Option<Range> {
+        let (first, last) = ends(window);
         // SAFETY: as of `load`.
-        self.ask(|tree, found| unsafe { raw::maple_next(tree, *window.start(), *window.end(), found) })
+        self.ask(|tree, found| unsafe { raw::maple_find(tree, first, last, found) })
+    }
+
+    /// The last range that has an index of the window. [`first_in`](Tree::first_in) has an example of it and of its sisters.
+    pub fn last_in(&self, window: impl RangeBounds<u64>) -> Option<Range> {
+        let (first, last) = ends(window);
+        // SAFETY: as of `load`.
+        self.ask(|tree, found| unsafe { raw::maple_rfind(tree, last, first, found) })
+    }
+
+    /// The first range that begins in the window, behind its first index.
+    pub fn next_in(&self, window: impl RangeBounds<u64>) -> Option<Range> {
+        let (first, last) = ends(window);
+        // SAFETY: as of `load`.
+        self.ask(|tree, found| unsafe { raw::maple_next(tree, first, last, found) })
     }
 
     /// The last range that ends in the window, before its last index.
-    pub fn prev_in(&self, window: RangeInclusive<u64>) -> Option<Range> {
+    pub fn prev_in(&self, window: impl RangeBounds<u64>) -> Option<Range> {
+        let (first, last) = ends(window);
         // SAFETY: as of `load`.
-        self.ask(|tree, found| unsafe { raw::maple_prev(tree, *window.end(), *window.start(), found) })
+        self.ask(|tree, found| unsafe { raw::maple_prev(tree, last, first, found) })
     }
 
     /// The ranges that have an index of the window, in rising order, and from the back in falling order. In rising order a
@@ -293,9 +439,10 @@ impl Tree {
     /// for first in [0, 10, 20] {
     ///     tree.store(first..=first + 4, NonZeroU64::new(4 * first + 4))?;
     /// }
-    /// let entries: Vec<u64> = tree.range(3..=12).map(|range| range.entry.get()).collect();
+    /// let entries: Vec<u64> = tree.range(3..13).map(|range| range.entry.get()).collect();
     /// assert_eq!(entries, [4, 44]);
-    /// assert_eq!(tree.range(0..=99).next_back().unwrap().first, 20);
+    /// assert_eq!(tree.range(..=9).count(), 1);
+    /// assert_eq!(tree.iter().next_back().unwrap().first, 20);
     /// # Ok::<(), maple::Error>(())
     /// ```
     ///
@@ -308,14 +455,22 @@ impl Tree {
     ///     tree.erase(range.first).unwrap();
     /// }
     /// ```
-    pub fn range(&self, window: RangeInclusive<u64>) -> Ranges<'_> {
-        let walk = RawWalk { next: *window.start(), ended: 0 };
-        Ranges { tree: self, walk, end: *window.end(), is_done: window.is_empty() }
+    pub fn range(&self, window: impl RangeBounds<u64>) -> Ranges<'_> {
+        Ranges { tree: self, walk: Walk::over(window) }
     }
 
-    /// All ranges, in rising order.
+    /// All ranges, in rising order: [`range`](Tree::range) of the window `..`.
     pub fn iter(&self) -> Ranges<'_> {
-        self.range(0..=u64::MAX)
+        self.range(..)
+    }
+
+    fn step(&self, walk: &mut Walk) -> Option<Range> {
+        // SAFETY: the tree is open, and the pointers are of three objects that nobody else uses now.
+        walk.next(|walk| self.ask(|tree, found| unsafe { raw::maple_step(tree, walk, found) }))
+    }
+
+    fn step_back(&self, walk: &mut Walk) -> Option<Range> {
+        walk.next_back(|first, last| self.last_in(first..=last))
     }
 }
 
@@ -323,6 +478,28 @@ impl Drop for Tree {
     fn drop(&mut self) {
         // SAFETY: the tree is open, and not used after.
         unsafe { raw::maple_close(self.raw.get_mut()) }
+    }
+}
+
+impl Clone for Tree {
+    fn clone(&self) -> Tree {
+        self.copy(self.rows).expect("a clone wants memory")
+    }
+}
+
+impl Extend<Range> for Tree {
+    fn extend<I: IntoIterator<Item = Range>>(&mut self, ranges: I) {
+        for range in ranges {
+            self.growing(|tree| tree.store(range.indexes(), Some(range.entry))).expect("a range cannot be stored");
+        }
+    }
+}
+
+impl FromIterator<Range> for Tree {
+    fn from_iter<I: IntoIterator<Item = Range>>(ranges: I) -> Tree {
+        let mut tree = Tree::new(Kind::Range, 16).expect("a tree wants memory");
+        tree.extend(ranges);
+        tree
     }
 }
 
@@ -341,42 +518,33 @@ impl<'a> IntoIterator for &'a Tree {
     }
 }
 
-/// The ranges of a window of a tree that were not yet given: those that have an index from where the walk goes on to `end`.
+impl IntoIterator for Tree {
+    type Item = Range;
+    type IntoIter = IntoIter;
+
+    fn into_iter(self) -> IntoIter {
+        IntoIter { tree: self, walk: Walk::over(..) }
+    }
+}
+
+/// The ranges of a window of a tree that were not yet given, as [`Tree::range`] gives them.
 #[derive(Clone)]
 pub struct Ranges<'a> {
     tree: &'a Tree,
-    walk: RawWalk,
-    end: u64,
-    is_done: bool,
+    walk: Walk,
 }
 
 impl Iterator for Ranges<'_> {
     type Item = Range;
 
     fn next(&mut self) -> Option<Range> {
-        if self.is_done {
-            return None;
-        }
-        let walk = &mut self.walk;
-        // SAFETY: the tree is open, and the pointers are of three objects that nobody else uses now.
-        let found = self.tree.ask(|tree, found| unsafe { raw::maple_step(tree, walk, found) });
-        let range = found.filter(|range| range.first <= self.end);
-        self.is_done = self.walk.ended != 0 || range.is_none_or(|range| range.last >= self.end);
-        range
+        self.tree.step(&mut self.walk)
     }
 }
 
 impl DoubleEndedIterator for Ranges<'_> {
     fn next_back(&mut self) -> Option<Range> {
-        if self.is_done {
-            return None;
-        }
-        let range = self.tree.last_in(self.walk.next..=self.end);
-        match range {
-            Some(range) if range.first > self.walk.next => self.end = range.first - 1,
-            _ => self.is_done = true,
-        }
-        range
+        self.tree.step_back(&mut self.walk)
     }
 }
 
@@ -385,5 +553,34 @@ impl FusedIterator for Ranges<'_> {}
 impl fmt::Debug for Ranges<'_> {
     fn fmt(&self, f: &mut fmt::Formatter<'_>) -> fmt::Result {
         f.debug_list().entries(self.clone()).finish()
+    }
+}
+
+/// The ranges of a tree that was handed over, as `into_iter` of a [`Tree`] gives them.
+pub struct IntoIter {
+    tree: Tree,
+    walk: Walk,
+}
+
+impl Iterator for IntoIter {
+    type Item = Range;
+
+    fn next(&mut self) -> Option<Range> {
+        self.tree.step(&mut self.walk)
+    }
+}
+
+impl DoubleEndedIterator for IntoIter {
+    fn next_back(&mut self) -> Option<Range> {
+        self.tree.step_back(&mut self.walk)
+    }
+}
+
+impl FusedIterator for IntoIter {}
+
+impl fmt::Debug for IntoIter {
+    fn fmt(&self, f: &mut fmt::Formatter<'_>) -> fmt::Result {
+        let left = Ranges { tree: &self.tree, walk: self.walk.clone() };
+        f.debug_list().entries(left).finish()
     }
 }

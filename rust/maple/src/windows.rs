@@ -1,0 +1,63 @@
+//! Ranges of indexes as Rust has them, and walks over a window from either end.
+
+use crate::raw::RawWalk;
+use crate::Range;
+use std::ops::{Bound, RangeBounds};
+
+/// The first and the last index of a window; a first above the last where it has none. An end that is open is the greatest number.
+pub(crate) fn ends(window: impl RangeBounds<u64>) -> (u64, u64) {
+    let first = match window.start_bound() {
+        Bound::Included(&first) => Some(first),
+        Bound::Excluded(&before) => before.checked_add(1),
+        Bound::Unbounded => Some(0),
+    };
+    let last = match window.end_bound() {
+        Bound::Included(&last) => Some(last),
+        Bound::Excluded(&behind) => behind.checked_sub(1),
+        Bound::Unbounded => Some(u64::MAX),
+    };
+    first.zip(last).unwrap_or((1, 0))
+}
+
+/// The ranges of a window that were not yet given: those that have an index from where the walk goes on to `end`.
+#[derive(Clone)]
+pub(crate) struct Walk {
+    walk: RawWalk,
+    end: u64,
+    is_done: bool,
+}
+
+impl Walk {
+    pub(crate) fn over(window: impl RangeBounds<u64>) -> Walk {
+        let (next, end) = ends(window);
+        Walk { walk: RawWalk { next, ended: 0 }, end, is_done: next > end }
+    }
+
+    /// The window that is left.
+    pub(crate) fn left(&self) -> (u64, u64) {
+        (self.walk.next, self.end)
+    }
+
+    /// The first range that is left, by a step of the walk.
+    pub(crate) fn next(&mut self, step: impl FnOnce(&mut RawWalk) -> Option<Range>) -> Option<Range> {
+        if self.is_done {
+            return None;
+        }
+        let range = step(&mut self.walk).filter(|range| range.first <= self.end);
+        self.is_done = self.walk.ended != 0 || range.is_none_or(|range| range.last >= self.end);
+        range
+    }
+
+    /// The last range that is left, which is found as the last of a window.
+    pub(crate) fn next_back(&mut self, last_in: impl FnOnce(u64, u64) -> Option<Range>) -> Option<Range> {
+        if self.is_done {
+            return None;
+        }
+        let range = last_in(self.walk.next, self.end);
+        match range {
+            Some(range) if range.first > self.walk.next => self.end = range.first - 1,
+            _ => self.is_done = true,
+        }
+        range
+    }
+}
