@@ -116,12 +116,12 @@ pub extern "C" fn maple_build(
 {
     *at = 0;
     if let Some(whole) = tree.take(alloc) {
-        *tree = Handle::of(whole);
+        tree.put(whole);
         return EBUSY;
     }
     match of_ranges(alloc, kind, rows, ranges) {
         Ok(whole) => {
-            *tree = Handle::of(whole);
+            tree.put(whole);
             0
         }
         Err(why) => {

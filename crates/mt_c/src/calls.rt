@@ -21,7 +21,7 @@ pub fn call(alloc: Global, tree: &mut Handle, call: &Call) -> Told
         };
     };
     let made = whole.act(call);
-    *tree = Handle::of(whole);
+    tree.put(whole);
     told_of(made)
 }
 
@@ -35,7 +35,7 @@ pub fn ask(alloc: Global, tree: &mut Handle, query: &Query, range: &mut OutRange
         return EINVAL;
     };
     let found = whole.ask(query);
-    *tree = Handle::of(whole);
+    tree.put(whole);
     *range = out_of(found);
     found_status(found)
 }

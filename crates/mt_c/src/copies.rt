@@ -185,15 +185,15 @@ pub extern "C" fn maple_copy(alloc: Global, tree: &mut Handle, copy: &mut Handle
         return EINVAL;
     };
     if let Some(there) = copy.take(alloc) {
-        *tree = Handle::of(whole);
-        *copy = Handle::of(there);
+        tree.put(whole);
+        copy.put(there);
         return EBUSY;
     }
     let made = whole.copy(alloc, rows);
-    *tree = Handle::of(whole);
+    tree.put(whole);
     match made {
         Ok(made) => {
-            *copy = Handle::of(made);
+            copy.put(made);
             0
         }
         Err(status) => status,

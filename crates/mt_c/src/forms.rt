@@ -106,7 +106,7 @@ pub extern "C" fn maple_check(alloc: Global, tree: &mut Handle, form: &mut OutFo
         return EINVAL;
     };
     let found = whole.check();
-    *tree = Handle::of(whole);
+    tree.put(whole);
     match found {
         Ok(found) => {
             *form = out_form(&found);

@@ -8,8 +8,8 @@ use crate::own_tree::OwnTree;
 use std::alloc::Global;
 
 /// A tree as C has it: `struct maple_tree`, of two words. Where both are 0 it is closed. The second tells how many trees it has.
+/// It cannot be dropped: what it keeps is taken out.
 #[repr(C)]
-#[derive(Drop)]
 pub struct Handle {
     pub kept: Kept,
     is_open: u64,
@@ -37,6 +37,23 @@ impl Handle {
         }
     }
 
+    /// Makes another one of a closed one.
+    pub fn set(&mut self, other: Handle)
+        requires { self.old.kept.value ≡ None }
+        ensures { self.new.kept.value ≡ other.kept.value }
+    {
+        let Handle { kept, is_open: _ } = std::mem::replace(self, other);
+        kept.end();
+    }
+
+    /// Puts a tree into a closed one.
+    pub fn put(&mut self, whole: Box<OwnTree>)
+        requires { self.old.kept.value ≡ None }
+        ensures { self.new.kept.value ≡ Some whole.value }
+    {
+        self.set(Handle::of(whole));
+    }
+
     /// Takes the tree out, where it is open, and leaves it closed.
     #[tactic(auto, using(crate::proofs::Keeping::none_kept, crate::proofs::Keeping::some_kept))]
     pub fn take(&mut self, alloc: Global) -> Option<Box<OwnTree>>
@@ -45,6 +62,7 @@ impl Handle {
     {
         let Handle { kept, is_open } = std::mem::replace(self, Handle::closed());
         if is_open == 0 {
+            kept.end();
             return None;
         }
         Some(kept.into_box(alloc))

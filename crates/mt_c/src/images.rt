@@ -90,7 +90,7 @@ pub extern "C" fn maple_image(
         return EINVAL;
     };
     let image = whole.image(alloc);
-    *tree = Handle::of(whole);
+    tree.put(whole);
     match image {
         Ok(bytes) => {
             *used = bytes.len();
@@ -107,12 +107,12 @@ pub extern "C" fn maple_open_image(alloc: Global, tree: &mut Handle, bytes: &[u8
     ensures { Opens (IsOfImage bytes.now rows) (LacksImage bytes.now rows) tree.old.kept.value tree.new.kept.value result }
 {
     if let Some(whole) = tree.take(alloc) {
-        *tree = Handle::of(whole);
+        tree.put(whole);
         return EBUSY;
     }
     match of_image(alloc, bytes, rows) {
         Ok(whole) => {
-            *tree = Handle::of(whole);
+            tree.put(whole);
             0
         }
         Err(status) => status,

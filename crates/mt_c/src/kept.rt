@@ -10,7 +10,8 @@ use crate::parts::Parts;
 use std::alloc::Global;
 use std::marker::Model;
 
-/// The box of a tree as one pointer, whose type names no other: C may keep it and sees nothing of what is behind.
+/// The box of a tree as one pointer, whose type names no other: C may keep it and sees nothing of what is behind. It
+/// cannot be dropped.
 #[repr(C)]
 pub struct Kept {
     at: *mut (),
@@ -21,12 +22,6 @@ impl Model for Kept {
     ghost also_owns = { λ k. kept_owns the_row k.at k.value };
 }
 
-impl Drop for Kept {
-    fn drop(self) {
-        let Kept { at: _ } = self;
-    }
-}
-
 impl Kept {
     /// Nothing is kept.
     pub fn closed() -> Kept
@@ -35,6 +30,13 @@ impl Kept {
         Kept {
             at: std::ptr::null_mut(),
         }
+    }
+
+    /// The end of one that keeps nothing. One that keeps something has none: its box is taken out.
+    pub fn end(self)
+        requires { self.value ≡ None }
+    {
+        let Kept { at: _ } = self;
     }
 
     fn of_parts(parts: Parts<OwnTree, Global>) -> Kept

@@ -12,7 +12,8 @@ use crate::user::User;
 use std::alloc::Global;
 use std::marker::Model;
 
-/// The box of a user as one pointer, whose type names no other: C may keep it and sees nothing of what is behind.
+/// The box of a user as one pointer, whose type names no other: C may keep it and sees nothing of what is behind. It
+/// cannot be dropped.
 #[repr(C)]
 pub struct KeptUser {
     at: *mut (),
@@ -21,12 +22,6 @@ pub struct KeptUser {
 
 impl Model for KeptUser {
     ghost also_owns = { λ k. kept_owns the_row k.at k.value };
-}
-
-impl Drop for KeptUser {
-    fn drop(self) {
-        let KeptUser { at: _ } = self;
-    }
 }
 
 unsafe impl Send for KeptUser {}
@@ -39,6 +34,13 @@ impl KeptUser {
         KeptUser {
             at: std::ptr::null_mut(),
         }
+    }
+
+    /// The end of one that keeps nothing. One that keeps something has none: its box is taken out.
+    pub fn end(self)
+        requires { self.value ≡ None }
+    {
+        let KeptUser { at: _ } = self;
     }
 
     fn of_parts(parts: Parts<User, Global>) -> KeptUser

@@ -56,11 +56,11 @@ pub extern "C" fn maple_open(alloc: Global, tree: &mut Handle, kind: u32, rows: 
     ensures { Opened kind rows tree.old.kept.value tree.new.kept.value result }
 {
     if let Some(whole) = tree.take(alloc) {
-        *tree = Handle::of(whole);
+        tree.put(whole);
         return EBUSY;
     }
     let (made, status) = opened(alloc, kind, rows);
-    *tree = made;
+    tree.set(made);
     status
 }
 

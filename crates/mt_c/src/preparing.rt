@@ -38,7 +38,7 @@ pub extern "C" fn maple_preallocate(alloc: Global, tree: &mut Handle) -> u32
         return EINVAL;
     };
     let is_ready = whole.preallocate();
-    *tree = Handle::of(whole);
+    tree.put(whole);
     if is_ready { 0 } else { ENOMEM }
 }
 
@@ -60,7 +60,7 @@ pub extern "C" fn maple_store_prealloc(
         return EINVAL;
     };
     let made = whole.store_prealloc(first, last, entry);
-    *tree = Handle::of(whole);
+    tree.put(whole);
     *old = pre_word(made);
     pre_status(made)
 }

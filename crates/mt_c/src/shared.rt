@@ -20,7 +20,7 @@ pub fn ask(alloc: Global, user: &mut UserHandle, query: &Query, out: &mut Window
         return EINVAL;
     };
     let answer = whole.ask(query);
-    *user = UserHandle::of(whole);
+    user.put(whole);
     let (window, status) = answer_told(answer);
     *out = window;
     status
@@ -36,7 +36,7 @@ pub fn load(alloc: Global, user: &mut UserHandle, index: u64, out: &mut Window) 
         return EINVAL;
     };
     let read = whole.load(index);
-    *user = UserHandle::of(whole);
+    user.put(whole);
     let (window, status) = answer_told(Ok(read));
     *out = window;
     status
@@ -52,7 +52,7 @@ pub fn step(alloc: Global, user: &mut UserHandle, walk: &mut OutWalk, out: &mut 
         return EINVAL;
     };
     let read = whole.step_from(walk.index());
-    *user = UserHandle::of(whole);
+    user.put(whole);
     *walk = OutWalk::from_index(place_behind(read.value));
     let (window, status) = answer_told(Ok(read));
     *out = window;
@@ -68,7 +68,7 @@ pub fn learn(alloc: Global, user: &mut UserHandle, calls: u64) -> u32
         return EINVAL;
     };
     let read = whole.look();
-    *user = UserHandle::of(whole);
+    user.put(whole);
     if calls <= read.lo { 0 } else { EAGAIN }
 }
 
@@ -82,7 +82,7 @@ pub fn sync(alloc: Global, user: &mut UserHandle, calls: &mut u64) -> u32
         return EINVAL;
     };
     let (told, status) = whole.sync_told();
-    *user = UserHandle::of(whole);
+    user.put(whole);
     *calls = told;
     status
 }
@@ -98,7 +98,7 @@ pub fn settle(alloc: Global, user: &mut UserHandle, calls: &mut u64, passes: &mu
         return EINVAL;
     };
     let (told, met, status) = whole.settle_told();
-    *user = UserHandle::of(whole);
+    user.put(whole);
     *calls = told;
     *passes = met;
     status
@@ -114,7 +114,7 @@ pub fn try_call(alloc: Global, user: &mut UserHandle, call: &Call, out: &mut Out
         return EINVAL;
     };
     let (outcome, status) = whole.try_told(call);
-    *user = UserHandle::of(whole);
+    user.put(whole);
     *out = outcome;
     status
 }

@@ -61,11 +61,11 @@ pub extern "C" fn maple_shared_open(
     ensures { SharedOpened kind rows users calls user.old.kept.value user.new.kept.value result }
 {
     if let Some(whole) = user.take(alloc) {
-        *user = UserHandle::of(whole);
+        user.put(whole);
         return EBUSY;
     }
     let (made, status) = opened(alloc, kind, rows, users, calls);
-    *user = made;
+    user.set(made);
     status
 }
 
@@ -79,15 +79,15 @@ pub extern "C" fn maple_share(alloc: Global, user: &mut UserHandle, other: &mut 
         return EINVAL;
     };
     if let Some(open) = other.take(alloc) {
-        *other = UserHandle::of(open);
-        *user = UserHandle::of(whole);
+        other.put(open);
+        user.put(whole);
         return EBUSY;
     }
     let made = whole.share_told(alloc);
-    *user = UserHandle::of(whole);
+    user.put(whole);
     match made {
         Ok(made) => {
-            *other = UserHandle::of(made);
+            other.put(made);
             0
         }
         Err(status) => status,
@@ -107,7 +107,7 @@ pub extern "C" fn maple_leave(alloc: Global, user: &mut UserHandle) -> u32
         Ok(_) => 0,
         Err((mut whole, why)) => {
             let status = whole.refused(why);
-            *user = UserHandle::of(whole);
+            user.put(whole);
             status
         }
     }

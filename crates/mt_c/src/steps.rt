@@ -132,6 +132,6 @@ pub extern "C" fn maple_step(
     };
     let found = whole.step(walk.index());
     let behind = whole.behind();
-    *tree = Handle::of(whole);
+    tree.put(whole);
     tell(found, behind, range, walk)
 }

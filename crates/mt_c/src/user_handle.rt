@@ -8,8 +8,8 @@ use crate::user::User;
 use std::alloc::Global;
 
 /// A user as C has it: `struct maple_user`, of two words. Where both are 0 it is closed. The second tells how many users it has.
+/// It cannot be dropped: what it keeps is taken out.
 #[repr(C)]
-#[derive(Drop)]
 pub struct UserHandle {
     pub kept: KeptUser,
     is_open: u64,
@@ -37,6 +37,23 @@ impl UserHandle {
         }
     }
 
+    /// Makes another one of a closed one.
+    pub fn set(&mut self, other: UserHandle)
+        requires { self.old.kept.value ≡ None }
+        ensures { self.new.kept.value ≡ other.kept.value }
+    {
+        let UserHandle { kept, is_open: _ } = std::mem::replace(self, other);
+        kept.end();
+    }
+
+    /// Puts a user into a closed one.
+    pub fn put(&mut self, whole: Box<User>)
+        requires { self.old.kept.value ≡ None }
+        ensures { self.new.kept.value ≡ Some whole.value }
+    {
+        self.set(UserHandle::of(whole));
+    }
+
     /// Takes the user out, where it is open, and leaves it closed.
     #[tactic(auto, using(crate::proofs::Keeping::none_kept, crate::proofs::Keeping::some_kept))]
     pub fn take(&mut self, alloc: Global) -> Option<Box<User>>
@@ -45,6 +62,7 @@ impl UserHandle {
     {
         let UserHandle { kept, is_open } = std::mem::replace(self, UserHandle::closed());
         if is_open == 0 {
+            kept.end();
             return None;
         }
         Some(kept.into_box(alloc))
