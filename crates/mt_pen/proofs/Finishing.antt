@@ -78,3 +78,11 @@ ended_sheet t p p' q q' scan scans call reply pen pass =
     ap (λ (x : PenPart). sheet_worked t x (known_by q') scan scans) pen
     ∙ ap (λ (x : PassPart). sheet_worked t (pen_ended (quiet_moment p q call reply) p) (known_by x) scan scans) pass
     ∙ ap (λ told. let s : Sheet = sheet_worked t p (known_by q) scan scans in record s { ended = p.ended + 1; in_flight = false; published = false; told = told }) (ended_told p.published t p q (quiet_moment p q call reply) call reply refl)
+
+-- the pass has made as many steps without the lock as before
+pub ended_steps : (p : PenPart) (q q' : PassPart) (m : Moment) → q' ≡ pass_ended m p q → q'.steps ≡ q.steps
+ended_steps p q q' m is = ap (λ (x : PassPart). x.steps) is ∙ by p.published
+  where
+    by : (b : Bool) → (record (if b then q else pass_recorded m p q) { ended = p.ended + 1 }).steps ≡ q.steps
+    by true = refl
+    by false = refl

@@ -2,7 +2,7 @@
 
 ghost use Rattle.std.specs.Prelude.{◌≡◌};
 ghost use Rattle.mt_base.specs.Width.{kind_width};
-ghost use Rattle.mt_rule.specs.Tokens.{identity_of, pen_in, IsPenOf, IsJoined, joined_turn};
+ghost use Rattle.mt_rule.specs.Tokens.{identity_of, pen_in, IsPenOf, IsJoined, joined_part, joined_turn};
 ghost use Rattle.mt_pen.specs.Works.{IsWorked};
 
 use crate::scans::scan_sections;
@@ -26,6 +26,7 @@ pub struct PenRows<'a, W: Writer, K: OfWidth> {
     ghost of: { IsPenOf W.table pen },
     ghost joined: { IsJoined pen },
     ghost turn: { joined_turn pen ≡ W.turn },
+    ghost counted: { (joined_part pen).steps ≡ W.steps },
     ghost dealt: { (pen_in pen).dealt ≡ W.table.shape.passes },
     ghost worked: { IsWorked (pen_in pen) scan scans },
     ghost wide: { K.wide ≡ kind_width W.table.shape.kind },
@@ -38,7 +39,7 @@ impl<'a, W: Writer, K: OfWidth> PenRows<'a, W, K> {
     ghost use Rattle.mt_life.specs.declared.views.Extent.{Extent};
     ghost use Rattle.mt_rule.specs.Rule as rule;
     ghost use Rattle.mt_rule.specs.Scans.{none_open, IsScanOf};
-    ghost use Rattle.mt_rule.specs.Tokens.{identity_of, tree_in, pass_in, turn_seat, IsPassOf, pen_in, IsPenOf, IsAlone, IsJoined, joined_in, joined_turn, WasShown};
+    ghost use Rattle.mt_rule.specs.Tokens.{identity_of, tree_in, pass_in, turn_seat, IsPassOf, pen_in, steps_made, IsPenOf, IsAlone, IsJoined, joined_in, joined_part, joined_turn, WasShown};
     ghost use Rattle.mt_pen.specs.Sheets.{sheet_told, shown_all, unscanned, HasSeenAll};
     ghost use Rattle.mt_pen.specs.Works.{IsWorked, OpensSmall};
 
@@ -46,6 +47,7 @@ impl<'a, W: Writer, K: OfWidth> PenRows<'a, W, K> {
     pub fn new(table: &'a MtTable, mut pen: Pen, pass: Pass) -> PenRows<'a, W, K>
         requires table { identity_of table.now ≡ W.table }
         requires turn { turn_seat pass ≡ W.turn }
+        requires counted { steps_made pass ≡ W.steps }
         requires pen { IsPenOf W.table pen }
         requires alone { IsAlone pen }
         requires idle { (pen_in pen).in_flight ≡ false }
@@ -67,6 +69,7 @@ impl<'a, W: Writer, K: OfWidth> PenRows<'a, W, K> {
         requires of { IsPenOf W.table pen }
         requires joined { IsJoined pen }
         requires turn { joined_turn pen ≡ W.turn }
+        requires counted { (joined_part pen).steps ≡ W.steps }
         requires dealt { (pen_in pen).dealt ≡ W.table.shape.passes }
         requires worked { IsWorked (pen_in pen) none_open 0 }
         requires wide { K.wide ≡ kind_width W.table.shape.kind }
@@ -92,6 +95,7 @@ impl<'a, W: Writer, K: OfWidth> PenRows<'a, W, K> {
         ensures alone { IsAlone result.0 }
         ensures pass { IsPassOf W.table result.1 }
         ensures turn { turn_seat result.1 ≡ W.turn }
+        ensures counted { steps_made result.1 ≡ W.steps }
         ensures sheet { sheet_told W.table (pen_in result.0) (pass_in result.1) ≡ unscanned (⟦<PenRows<'a, W, K> as Rows>⟧.sheet self.entry) }
         ensures seen { HasSeenAll (pen_in result.0) (pass_in result.1) }
         ensures sound { IsSound (tree_in W.table) (pass_in result.1) }

@@ -48,6 +48,30 @@ use Rattle.mt_rule.proofs.Viewing.{each_set, numbers_fit, seat_fits}
 abbrev M : Type 0
 M = Me (Unit {0}) View
 
+-- ---- a step is counted
+
+abbrev counted : PassPart → PassPart → PassPart
+counted q q' = record q' { steps = q.steps + 1 }
+
+steps_fit : (e : ℕ → Extent) (p : PenPart) (q : PassPart) (steps : ℕ) → PassFits e p q → PassFits e p (record q { steps = steps })
+steps_fit e p q steps f = record {
+  shape = f.shape;
+  number = f.number;
+  seen = f.seen;
+  mine = f.mine;
+  all = f.all;
+  ended = f.ended;
+  over = f.over;
+  begun = f.begun;
+  risen = f.risen;
+  epoch = f.epoch;
+  loaded = f.loaded;
+  standing = λ o is. let h = f.standing o is in record { seen = h.seen; opened = h.opened };
+  closed = f.closed;
+  floor = λ n is. let h = f.floor n is in record { seen = h.seen; cleared = h.cleared; epoch = h.epoch };
+  held = λ j x at. let h = f.held j x at in record { row = h.row; met = h.met; floor = h.floor; has = h.has; since = h.since };
+}
+
 -- ---- what a pass's own step has to keep
 
 module _ (told : Told) (s : St) (r₀ : IsKept told s) (by : ℕ) (v : View) (at : get_elem? s.views by ≡ some v) (q : PassPart) (is : v.pass ≡ Some q) where
@@ -90,15 +114,15 @@ module _ (told : Told) (s : St) (r₀ : IsKept told s) (by : ℕ) (v : View) (at
 
   -- a load
   loads_to : (i : ℕ) (q' : PassPart) → q'.number ≡ q.number → q'.standing ≡ q.standing → PassFits kept_by.extents part_by q'
-      → IsKept told record { words = slice_set s.words i (slice_index s.words i); homes = s.homes; views = slice_set s.views by (record v { pass = Some q' }) }
-  loads_to i q' same standing fits = subst (λ (ws : List ℕ). IsKept told record { words = ws; homes = s.homes; views = slice_set s.views by (record v { pass = Some q' }) }) (sym (set-get_or s.words i 0))
-      (steps_to s.words q' same fits kept_by.words (mine.section q is ∙ ap section_word (sym standing)) (λ k _. refl))
+      → IsKept told record { words = slice_set s.words i (slice_index s.words i); homes = s.homes; views = slice_set s.views by (record v { pass = Some (counted q q') }) }
+  loads_to i q' same standing fits = subst (λ (ws : List ℕ). IsKept told record { words = ws; homes = s.homes; views = slice_set s.views by (record v { pass = Some (counted q q') }) }) (sym (set-get_or s.words i 0))
+      (steps_to s.words (counted q q') same (steps_fit kept_by.extents part_by q' (q.steps + 1) fits) kept_by.words (mine.section q is ∙ ap section_word (sym standing)) (λ k _. refl))
 
   -- a store of its own section word
   stores_to : (n : ℕ) (q' : PassPart) → q'.number ≡ q.number → n ≡ section_word q'.standing → IsSectionWord part_by.ended n → PassFits kept_by.extents part_by q'
-      → IsKept told record { words = slice_set s.words (section_at q.number) n; homes = s.homes; views = slice_set s.views by (record v { pass = Some q' }) }
+      → IsKept told record { words = slice_set s.words (section_at q.number) n; homes = s.homes; views = slice_set s.views by (record v { pass = Some (counted q q') }) }
   stores_to n q' same word small fits =
-      steps_to (slice_set s.words (section_at q.number) n) q' same fits
+      steps_to (slice_set s.words (section_at q.number) n) (counted q q') same (steps_fit kept_by.extents part_by q' (q.steps + 1) fits)
       record {
         size = length-set s.words (section_at q.number) n ∙ kept_by.words.size;
         commits = kept commits_at (λ e. omega arith) ∙ kept_by.words.commits;
@@ -190,12 +214,12 @@ commits told slots by me is s r₀ _ at _ =
     let ended : n ≡ p.ended = r.words.commits in
     let whole = r.sound.history in let count = whole.count in let few = whole.few in let one = one_if_low p.published in
     let q' : PassPart = record q { seen = p.history; epoch = n; ended = n } in (
-      record me.0 { pass = Some q' },
+      record me.0 { pass = Some (counted q q') },
       keeps,
       tt,
       loads_to told s r₀ by me.0 at q is commits_at q' refl refl (all_fit r.extents p q n n q.risen f (omega arith) (omega arith) (omega arith) f.risen),
       (
-        record { view = refl; slots = refl },
+        record { view = refl; slots = refl; counted = refl },
         record { reads = record { is = refl; seen = f.seen }; before = let a = f.over in omega arith; most = omega arith; least = omega arith; few = omega arith },
       ),
     )
@@ -218,25 +242,29 @@ beguns told slots by me is s r₀ _ at _ =
     let more = begins_long q.seen p.history f.seen in let all = history_begun p r.sound.history in
     let q' : PassPart = record q { begun = n } in
     let fits = begun_fits r.extents p q n f begun in (
-      record me.0 { pass = Some q' },
+      record me.0 { pass = Some (counted q q') },
       keeps,
       tt,
       loads_to told s r₀ by me.0 at q is begun_at q' refl refl fits,
       (
-        record { view = refl; slots = refl },
+        record { view = refl; slots = refl; counted = refl },
         record { is = refl; seen = omega arith; before = let a = f.begun in omega arith; risen = let a = f.risen in omega arith; sound = sound_of r.extents p q' r.sound.history fits },
       ),
     )
 
 -- ---- sections
 
-opened_fits : (e : ℕ → Extent) (p : PenPart) (q : PassPart) → PassFits e p q → PassFits e p (opened_section q)
+-- the part that a step makes, before the step is counted
+abbrev uncounted : PassPart → PassPart → PassPart
+uncounted q q' = record q' { steps = q.steps }
+
+opened_fits : (e : ℕ → Extent) (p : PenPart) (q : PassPart) → PassFits e p q → PassFits e p (uncounted q (opened_section q))
 opened_fits e p q f = section_fits e p q (opened_section q).opened (Some q.epoch) None [] f
     (λ h has mine. Contains-append_left q.opened (q.epoch ∷ []) h.epoch (f.loaded h has mine))
-    (λ o is. subst (IsOpenAt (opened_section q)) (let same : q.epoch ≡ o = cc in same) record { seen = let a = f.epoch in let b = f.ended in omega arith; opened = Contains-push q.opened q.epoch })
+    (λ o is. subst (IsOpenAt (uncounted q (opened_section q))) (let same : q.epoch ≡ o = cc in same) record { seen = let a = f.epoch in let b = f.ended in omega arith; opened = Contains-push q.opened q.epoch })
     (λ is. refl) (λ n is. absurd (none-some n is)) (λ j x at. absurd (some-ne-none x (sym at)))
 
-closed_fits : (e : ℕ → Extent) (p : PenPart) (q : PassPart) → PassFits e p q → PassFits e p (closed_section q)
+closed_fits : (e : ℕ → Extent) (p : PenPart) (q : PassPart) → PassFits e p q → PassFits e p (uncounted q (closed_section q))
 closed_fits e p q f = section_fits e p q q.opened None None [] f f.loaded (λ o is. absurd (none-some o is)) (λ is. refl) (λ n is. absurd (none-some n is)) (λ j x at. absurd (some-ne-none x (sym at)))
 
 opening_here : (told : Told) (slots by : ℕ) (me : M) (new : ℕ) → HasPass me.0 → new ≡ 2 * (pass_of me.0).epoch + 1
@@ -249,8 +277,8 @@ opening_here told slots by me new is word s r₀ _ at _ =
       record me.0 { pass = Some (opened_section q) },
       keeps,
       tt,
-      stores_to told s r₀ by me.0 at q is new (opened_section q) refl word (inr (q.epoch, word, (let a = f.epoch in let b = f.over in omega arith))) (opened_fits r.extents p q f),
-      (record { view = refl; slots = refl }, refl),
+      stores_to told s r₀ by me.0 at q is new (uncounted q (opened_section q)) refl word (inr (q.epoch, word, (let a = f.epoch in let b = f.over in omega arith))) (opened_fits r.extents p q f),
+      (record { view = refl; slots = refl; counted = refl }, refl),
     )
 
 pub opening_at : (told : Told) (slots by : ℕ) (me : M) (new word : ℕ) → HasPass me.0 → word ≡ section_at (pass_of me.0).number → new ≡ 2 * (pass_of me.0).epoch + 1
@@ -267,8 +295,8 @@ closing_here told slots by me is s r₀ _ at _ =
       record me.0 { pass = Some (closed_section q) },
       keeps,
       tt,
-      stores_to told s r₀ by me.0 at q is 0 (closed_section q) refl refl (inl refl) (closed_fits r.extents p q f),
-      (record { view = refl; slots = refl }, refl),
+      stores_to told s r₀ by me.0 at q is 0 (uncounted q (closed_section q)) refl refl (inl refl) (closed_fits r.extents p q f),
+      (record { view = refl; slots = refl; counted = refl }, refl),
     )
 
 pub closing_at : (told : Told) (slots by : ℕ) (me : M) (word : ℕ) → HasPass me.0 → word ≡ section_at (pass_of me.0).number
@@ -327,12 +355,12 @@ module _ (told : Told) (slots by : ℕ) (me : M) (is : HasPass me.0) (stands : (
       let q' : PassPart = record q₀ { seen = p₀.history } in
       let empty : p₀.root ≡ 0 = sym r₁.words.root ∙ none_there in
       let count = r₁.sound.history.count in (
-        record me.0 { pass = Some q' },
+        record me.0 { pass = Some (counted q₀ q') },
         keeps,
         tt,
         loads_to told s r₀ by me.0 at q₀ is root_at q' refl refl (sees_fits r₁.extents p₀ q₀ f₀),
         (
-          record { view = refl; slots = refl },
+          record { view = refl; slots = refl; counted = refl },
           record {
             empty = λ _. record {
               reads = record { is = refl; seen = f₀.seen };
@@ -354,12 +382,12 @@ module _ (told : Told) (slots by : ℕ) (me : M) (is : HasPass me.0) (stands : (
       let x : Held = come (state_in p₀) (row_in p₀.root) (calls (state_in p₀)) (extent_at (root_span (record { width = kind_width p₀.shape.kind; words = p₀.words }) p₀.root) root.0) in
       let holds : HoldsRow p₀.shape.kind (state_in p₀) r₁.extents (moment_at p₀.shape p₀.history) x = root.2.held in
       let q' : PassPart = record q₀ { seen = p₀.history; floor = floor_or q₀.floor (length p₀.history); held = x ∷ q₀.held } in (
-        record me.0 { pass = Some q' },
+        record me.0 { pass = Some (counted q₀ q') },
         keeps,
         tt,
         loads_to told s r₀ by me.0 at q₀ is root_at q' refl refl (root_fits r₁.extents p₀ q₀ x q₀.floor r₁.sound f₀ stands refl (sym count) (sym count) holds),
         (
-          record { view = refl; slots = refl },
+          record { view = refl; slots = refl; counted = refl },
           record {
             empty = λ none_there. absurd (some_there none_there);
             row = λ _. record {
@@ -411,12 +439,12 @@ pivots told slots by me word row col is here_at row_is pivot place s r₀ _ at _
     let i = pivot.0 in
     let index : word ≡ column_at width x.row (pivot_column i) = place ∙ (λ j. column_at width (row_is j) (pivot.1 j)) in
     let q' : PassPart = record q { seen = p.history } in (
-      record me.0 { pass = Some q' },
+      record me.0 { pass = Some (counted q q') },
       keeps,
       tt,
       loads_to told s r₀ by me.0 at q is word q' refl refl (sees_fits r.extents p q f),
       (
-        record { view = refl; slots = refl },
+        record { view = refl; slots = refl; counted = refl },
         record {
           reads = record { is = refl; seen = f.seen };
           found_is = ap (slice_index s.words) index
@@ -480,16 +508,16 @@ entries told slots by me word col is here_at leaf place s r₀ _ at _ =
     let x : Held = here q in
     let h = (f.held 0 x here_at).row in
     let q' : PassPart = record q { seen = p.history; held = renewed (state_in p) x ∷ behind_first q.held } in (
-      record me.0 { pass = Some q' },
+      record me.0 { pass = Some (counted q q') },
       keeps,
       tt,
       loads_to told s r₀ by me.0 at q is word q' refl refl (renewed_fits r.extents p q r.sound f here_at),
       (
-        record { view = refl; slots = refl },
+        record { view = refl; slots = refl; counted = refl },
         record {
           entry = λ _. record {
             reads = record { is = refl; seen = f.seen };
-            read = leaf_read r.extents p q' x r.sound refl refl h leaf;
+            read = leaf_read r.extents p (counted q q') x r.sound refl refl h leaf;
             found_is = ap (slice_index s.words) place ∙ (word_now s.words p x.row col r.words h.has.0 ∙ ap (slice_index p.words) (sym place));
           };
           child = λ inner. absurd (inner leaf);
@@ -517,12 +545,12 @@ childs told slots by me word i level is here_at inner low place s r₀ _ at _ =
     let y : Held = come (state_in p) (row_in t.now.word) x.since (extent_at t.now level) in
     let count = r.sound.history.count in
     let q' : PassPart = record q { seen = p.history; held = y ∷ q.held } in (
-      record me.0 { pass = Some q' },
+      record me.0 { pass = Some (counted q q') },
       keeps,
       tt,
       loads_to told s r₀ by me.0 at q is word q' refl refl (child_fits r.extents p q y held.floor f c.held (omega arith) held.has held.since),
       (
-        record { view = refl; slots = refl },
+        record { view = refl; slots = refl; counted = refl },
         record {
           entry = λ leaf. absurd (omega arith);
           child = λ _. record {
@@ -561,7 +589,7 @@ slots_at told slots by me word row col is here_at row_is slot place =
 
 -- the parent word of each row that is held
 parent_tells : (e : ℕ → Extent) (p : PenPart) (q : PassPart) (marks : List ℕ) (x : Held) (n : ℕ) → IsSound e p → IsHeldBy e p q x → n ≡ word_at (state_in p).tree x.row 0
-    → ParentTells (record q { shape = p.shape; seen = p.history; risen = begun_by p; marks = marks }) x n
+    → ParentTells (record q { shape = p.shape; seen = p.history; risen = begun_by p; marks = marks; steps = q.steps + 1 }) x n
 parent_tells e p q marks x n sound h is = record {
   dead = λ mark. marked_held p.shape.kind (state_in p) e (moment_at p.shape p.history) sound.known x h.row (sym is ∙ mark);
   live = λ off. not_died x.died refl (unmarked off).0;
@@ -604,12 +632,12 @@ parents told slots by me row word is s r₀ _ at _ =
     let more = begins_long q.seen p.history f.seen in
     let marks = marks_with row (slice_index s.words word) q.marks in
     let q' : PassPart = record q { seen = p.history; risen = begun_by p; marks = marks } in (
-      record me.0 { pass = Some q' },
+      record me.0 { pass = Some (counted q q') },
       keeps,
       tt,
       loads_to told s r₀ by me.0 at q is word q' refl refl (marked_fits r.extents p (record q { seen = p.history; risen = begun_by p }) marks (all_fit r.extents p q q.ended q.epoch (begun_by p) f (let a = f.ended in omega arith) f.over f.epoch (omega arith))),
       (
-        record { view = refl; slots = refl },
+        record { view = refl; slots = refl; counted = refl },
         record {
           reads = record { is = refl; seen = f.seen };
           risen = f.risen;

@@ -3,13 +3,13 @@ use Rattle.std.proofs.Common.{◌≡◌, ◌≢◌, Bool, ℕ, zero, suc, List, 
 use mathlib.Core.Option.{none, some, some-ne-none, some-injective}
 use mathlib.Core.Option as maybe
 use lib.ListN.{get_elem?}
-use Rattle.atomic_table.proofs.Lists.{at_longer, set_again, set_else}
+use Rattle.atomic_table.proofs.Lists.{at_longer, set_else}
 use Rattle.atomic_table.specs.Table.{State, Me, Act, Valid, step, keeps, takes, gives, stepped, carried_after, Allows, Splits, opening}
 use Rattle.std.specs.declared.snapshot.Snapshot.{Snapshot}
 use Rattle.mt_rule.specs.declared.table.MtTable.{MtTable}
 use Rattle.mt_rule.specs.declared.views.TurnView.{TurnView}
 use Rattle.mt_rule.specs.Tokens.{Identity}
-use Rattle.mt_rule.specs.Turns.{served, waiting, holding, given_back, refused, taken_bit, HasGrabbed, SeatFits, IsTurnKept, grabs, releases}
+use Rattle.mt_rule.specs.Turns.{served, waiting, seated, counting, beside, tries_in, holding, given_back, refused, taken_bit, HasGrabbed, SeatFits, IsTurnKept, grabs, releases}
 use Rattle.mt_rule.proofs.Viewing.{each_set, each_split}
 
 off : false ≡ true → ⊥
@@ -20,6 +20,18 @@ view_set : {V : Type 0} (views : List V) (by : ℕ) (v w : V) → get_elem? view
 view_set [] by v w e = absurd (some-ne-none v (sym e))
 view_set (x ∷ views) zero v w e = refl
 view_set (x ∷ views) (suc by) v w e = view_set views by v w e
+
+-- ---- seats beside others
+
+-- a seat that has none beside it yet
+pub waits : (key : Snapshot MtTable) (v : TurnView) → v ≡ waiting key → v ≡ seated key v.tries
+waits key v is = is ∙ (λ i. seated key (sym is i).tries)
+
+-- a seat beside another that says nothing but how many are beside it
+pub sits_beside : (key : Snapshot MtTable) (v : TurnView) (views : List TurnView) → v ≡ seated key v.tries → views ≡ beside v ∷ [] → views ≡ seated key (tries_in views) ∷ []
+sits_beside key v views is one =
+    let alone : views ≡ waiting key ∷ [] = one ∙ ap (λ (z : TurnView). beside z ∷ []) is in
+    alone ∙ (λ i. seated key (tries_in (sym alone i)) ∷ [])
 
 module _ {C : Type 0} (table : C → Identity) (key : Snapshot MtTable) where
   abbrev M : Type 0
@@ -42,9 +54,12 @@ module _ {C : Type 0} (table : C → Identity) (key : Snapshot MtTable) where
       one zero v e = subst (Fits 0 (some (Some c)) false 0) (some-injective _ _ e) (idles 0 (some (Some c)) false 0 (waiting key) refl refl (λ m. m))
       one (suc by) v e = absurd (some-ne-none v (sym e))
 
-  sitting : (by : ℕ) (v : TurnView) → v.holds ≡ false → Splits Rule by v v v
-  sitting by v idle s r at =
-      let as_was : get_elem? (set s.views by v) r.holder ≡ get_elem? s.views r.holder = ap (λ (l : List TurnView). get_elem? l r.holder) (set_again s.views by v at) in
+  -- whoever holds the value, or has held it, is not a seat that does not and has not
+  apart_from : (s : State (Option C) TurnView) (holder by : ℕ) (v u : TurnView) → get_elem? s.views by ≡ some v → get_elem? s.views holder ≡ some u → (v ≡ u → ⊥) → holder ≢ by
+  apart_from s holder by v u at there differ e = differ (some-injective v u (sym at ∙ (ap (get_elem? s.views) (sym e) ∙ there)))
+
+  sitting : (by : ℕ) (v : TurnView) → v.holds ≡ false → v.held ≡ false → Splits Rule by v (counting v) (beside v)
+  sitting by v idle never s r at =
       let mine = r.each by v at in record {
         holder = r.holder;
         home = r.home;
@@ -52,9 +67,11 @@ module _ {C : Type 0} (table : C → Identity) (key : Snapshot MtTable) where
         words = r.words;
         homes = r.homes;
         value = r.value;
-        away = λ e. at_longer (set s.views by v) (v ∷ []) r.holder (holding key) (as_was ∙ r.away e);
-        taken = λ e. let t = r.taken e in (t.0, at_longer (set s.views by v) (v ∷ []) r.holder t.0 (as_was ∙ t.1), t.2);
-        each = each_split (Fits r.holder r.home r.ever) s.views by v v (λ j u _ e. r.each j u e) mine (idles r.holder r.home r.ever _ v mine.of idle mine.met);
+        away = λ e. let apart = apart_from s r.holder by v (holding key) at (r.away e) (λ same. off (sym idle ∙ ap (λ (z : TurnView). z.holds) same)) in
+            at_longer (set s.views by (counting v)) (beside v ∷ []) r.holder (holding key) (set_else s.views by r.holder (counting v) apart ∙ r.away e);
+        taken = λ e. let t = r.taken e in let apart = apart_from s r.holder by v t.0 at t.1 (λ same. off (sym never ∙ (ap (λ (z : TurnView). z.held) same ∙ t.2))) in
+            (t.0, at_longer (set s.views by (counting v)) (beside v ∷ []) r.holder t.0 (set_else s.views by r.holder (counting v) apart ∙ t.1), t.2);
+        each = each_split (Fits r.holder r.home r.ever) s.views by (counting v) (beside v) (λ j u _ e. r.each j u e) (idles r.holder r.home r.ever by (counting v) mine.of idle mine.met) (idles r.holder r.home r.ever _ (beside v) mine.of idle mine.met);
       }
 
   grabbing : (slots by : ℕ) (v : TurnView) → v.holds ≡ false → Allows Rule slots by (v, []) 0 (λ _. 1) (grabs table (step slots 0 1 0 none) (v, []))
@@ -125,8 +142,8 @@ module _ {C : Type 0} (table : C → Identity) (key : Snapshot MtTable) where
   )
 
   -- the same at a seat whose view and slots are known
-  pub sits : (by : ℕ) (v : TurnView) → v ≡ waiting key → Splits Rule by v v v
-  sits by v is = sitting by v (ap (λ (z : TurnView). z.holds) is)
+  pub sits : (by : ℕ) (v : TurnView) (n : ℕ) → v ≡ seated key n → Splits Rule by v (counting v) (beside v)
+  sits by v n is = sitting by v (ap (λ (z : TurnView). z.holds) is) (ap (λ (z : TurnView). z.held) is)
 
   pub grabs_value : (slots by : ℕ) (me : M) → me.0.holds ≡ false → me.1 ≡ [] → Allows Rule slots by me 0 (λ _. 1) (grabs table (step slots 0 1 0 none) me)
   grabs_value slots by me idle bare = subst (λ (l : List (ℕ × Option C)). Allows Rule slots by (me.0, l) 0 (λ _. 1) (grabs table (step slots 0 1 0 none) (me.0, l))) (sym bare) (grabbing slots by me.0 idle)

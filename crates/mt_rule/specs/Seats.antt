@@ -98,7 +98,7 @@ abbrev pub no_pen : PenPart
 no_pen = record { shape = no_shape; dealt = 0; history = []; ended = 0; in_flight = false; published = false; root = 0; words = []; lives = []; buried = []; cleared = []; loaded = []; sections = [] }
 
 abbrev pub new_part : Shape → ℕ → PassPart
-new_part shape number = record { shape = shape; number = number; seen = []; mine = []; opened = []; standing = None; begun = 0; ended = 0; epoch = 0; floor = None; risen = 0; marks = []; held = [] }
+new_part shape number = record { shape = shape; number = number; seen = []; mine = []; opened = []; standing = None; begun = 0; ended = 0; epoch = 0; floor = None; risen = 0; marks = []; held = []; steps = 0 }
 
 -- what a pass's part stands for
 abbrev pub known_by : PassPart → known.Pass

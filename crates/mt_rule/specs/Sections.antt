@@ -102,9 +102,13 @@ pub record ParentTells (q : PassPart) (x : Held) (word : ℕ) : Type 0 where
 abbrev pub with_seen : PassPart → List Moment → PassPart
 with_seen q seen = record q { seen = seen }
 
+-- The pass has become this, but for how many steps it has made.
+abbrev pub HasBecome : PassPart → PassPart → Type 0
+HasBecome q' part = q' ≡ record part { steps = q'.steps }
+
 -- The pass has become this, and has seen no less than it had.
 pub record Reads (q q' part : PassPart) : Type 0 where
-  pub is : q' ≡ part
+  pub is : HasBecome q' part
   pub seen : Begins q.seen q'.seen
 
 -- How many calls have ended.
@@ -117,11 +121,11 @@ pub record LoadedCommits (found : ℕ) (q q' : PassPart) : Type 0 where
 
 -- The section is open at the epoch that was loaded last.
 abbrev pub opened_section : PassPart → PassPart
-opened_section q = record q { opened = q.opened ++ q.epoch ∷ []; standing = Some q.epoch; floor = None; held = [] }
+opened_section q = record q { opened = q.opened ++ q.epoch ∷ []; standing = Some q.epoch; floor = None; held = []; steps = q.steps + 1 }
 
 -- The section is closed.
 abbrev pub closed_section : PassPart → PassPart
-closed_section q = record q { standing = None; floor = None; held = [] }
+closed_section q = record q { standing = None; floor = None; held = []; steps = q.steps + 1 }
 
 abbrev pub floor_or : Option ℕ → ℕ → Option ℕ
 floor_or None n = Some n
@@ -181,7 +185,7 @@ pub record LoadedParent (row word found : ℕ) (q q' : PassPart) : Type 0 where
 
 -- How many calls have begun: no fewer than the pass knows of. What it has seen is one legal history.
 pub record LoadedBegun (found : ℕ) (q q' : PassPart) : Type 0 where
-  pub is : q' ≡ record q { begun = found }
+  pub is : q' ≡ record q { begun = found; steps = q.steps + 1 }
   pub seen : length q.seen ≤ found
   pub before : q.begun ≤ found
   pub risen : q.risen ≤ found
@@ -189,10 +193,11 @@ pub record LoadedBegun (found : ℕ) (q q' : PassPart) : Type 0 where
 
 -- ---- the plays
 
--- nothing else of the seat has changed
+-- Nothing else of the seat has changed. The pass has made one step more.
 pub record OfPass (me me' : Seat) : Type 0 where
   pub view : me'.0 ≡ record me.0 { pass = Some (pass_of me'.0) }
   pub slots : me'.1 ≡ me.1
+  pub counted : (pass_of me'.0).steps ≡ (pass_of me.0).steps + 1
 
 abbrev pub loads_commits : Step (Unit {0}) → Seat → ℕ → Seat → Type 0
 loads_commits step me found me' = OfPass me me' × LoadedCommits found (pass_of me.0) (pass_of me'.0)

@@ -1,6 +1,6 @@
 -- Whose a pass, a pen and a note are, and what they stand for.
 -- Source: this project's own.
-use Rattle.std.specs.Prelude.{◌≡◌, ℕ, ◌≤◌, List, [], false, Some, None}
+use Rattle.std.specs.Prelude.{◌≡◌, ℕ, ◌+◌, ◌≤◌, List, [], false, Some, None}
 use Rattle.std.specs.List.{Contains}
 use Rattle.atomic_table.specs.Seated.{TableId}
 use Rattle.atomic_table.specs.declared.badge.Badge.{Badge}
@@ -67,6 +67,14 @@ part_of p = pass_or (part_in (tree_seat p).views)
 -- what a pass knows
 abbrev pub pass_in : Pass → known.Pass
 pass_in p = known_by (part_of p)
+
+-- how many steps it has made without the lock: each of those by which it reads is one
+abbrev pub steps_made : Pass → ℕ
+steps_made p = (part_of p).steps
+
+-- It has made as many steps as the ledger has risen by.
+abbrev pub IsCounted : Pass → Pass → ℕ → ℕ → Type 0
+IsCounted p p' steps steps' = steps_made p' + steps ≡ steps_made p + steps'
 
 -- the table of a pass that is not away
 abbrev pub identity_of_pass : Pass → Identity

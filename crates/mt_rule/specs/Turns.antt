@@ -1,6 +1,6 @@
 -- The rule of the turn: one seat at most holds the value, which is of the table that the turn serves.
 -- Source: the kernel's ma_lock, which a writer of a tree holds.
-use Rattle.std.specs.Prelude.{◌≡◌, ◌≢◌, ℕ, [], ◌∷◌, Bool, true, false, List, Option, Some}
+use Rattle.std.specs.Prelude.{◌≡◌, ◌≢◌, ℕ, ◌+◌, [], ◌∷◌, Bool, true, false, List, map, Option, Some}
 use mathlib.Core.Option.{some, none}
 use mathlib.Core.Option as maybe
 use lib.ListN.{get_elem?}
@@ -19,23 +19,46 @@ abbrev pub served : Snapshot MtTable → Identity
 served key = identity_of key.value
 
 abbrev pub waiting : Snapshot MtTable → TurnView
-waiting key = record { holds = false; held = false; met = false; of = key }
+waiting key = record { holds = false; held = false; met = false; tries = 0; of = key }
+
+-- a pass's seat, where the pass has gone for the value so often
+abbrev pub seated : Snapshot MtTable → ℕ → TurnView
+seated key tries = record (waiting key) { tries = tries }
 
 abbrev pub holding : Snapshot MtTable → TurnView
-holding key = record { holds = true; held = true; met = false; of = key }
+holding key = record { holds = true; held = true; met = false; tries = 0; of = key }
 
 -- it has given the value back
 abbrev pub given_back : Snapshot MtTable → TurnView
-given_back key = record { holds = false; held = true; met = false; of = key }
+given_back key = record { holds = false; held = true; met = false; tries = 0; of = key }
 
 -- it has found the value away
 abbrev pub refused : Snapshot MtTable → TurnView
-refused key = record { holds = false; held = false; met = true; of = key }
+refused key = record { holds = false; held = false; met = true; tries = 0; of = key }
+
+-- a seat beside another, and one that counts another by which its pass goes for the value
+abbrev pub beside : TurnView → TurnView
+beside v = record v { tries = 0 }
+
+abbrev pub counting : TurnView → TurnView
+counting v = record v { tries = v.tries + 1 }
+
+-- The pass has gone for the value once more, by a try or by waiting; nothing else of it has changed.
+abbrev pub tried : Pass → Pass
+tried p = record p { turn = record (turn_seat p) { views = map counting (turn_seat p).views } }
+
+abbrev pub tries_in : List TurnView → ℕ
+tries_in [] = 0
+tries_in (v ∷ views) = v.tries
+
+-- how often the pass has gone for the value
+abbrev pub tries_of : Pass → ℕ
+tries_of p = tries_in (turn_seat p).views
 
 -- The pass has a seat at this turn, and may wait for its value.
 pub record IsSeatedAt (turn : TableId) (key : Snapshot MtTable) (p : Pass) : Type 0 where
   pub table : (turn_seat p).table_id ≡ turn
-  pub views : (turn_seat p).views ≡ waiting key ∷ []
+  pub views : (turn_seat p).views ≡ seated key (tries_of p) ∷ []
 
 -- The seat holds the value of this turn.
 pub record IsTakenOf {S : Type 0} (turn : TableId) (key : Snapshot MtTable) (seat : Seat S TurnView) : Type 0 where

@@ -7,7 +7,7 @@ ghost use Rattle.mt_layout.specs.Columns.{pivot_column, slot_column};
 ghost use Rattle.mt_life.specs.Known.{HasRow};
 ghost use Rattle.mt_rule.specs.Places.{column_at, IsRowAt};
 ghost use Rattle.mt_rule.specs.Sections.{IsAt, here, slots_in, spans_here, opened_section, closed_section, LoadedBegun, LoadedCommits, LoadedParent, LoadedPivot, LoadedRoot, LoadedSlot};
-ghost use Rattle.mt_rule.specs.Tokens.{identity_of, part_of, pass_in, tree_in, IsPassOf, Stepped};
+ghost use Rattle.mt_rule.specs.Tokens.{identity_of, part_of, pass_in, steps_made, tree_in, IsPassOf, Stepped};
 
 use crate::passes::Pass;
 use crate::places::RowAt;
@@ -38,6 +38,7 @@ impl MtTable {
         requires pass { IsPassOf (identity_of self.now) pass.old }
         ensures stepped { Stepped (identity_of self.now) pass.old pass.new }
         ensures told { LoadedCommits result (part_of pass.old) (part_of pass.new) }
+        ensures counted { steps_made pass.new ≡ steps_made pass.old + 1 }
         ensures steps { steps.new ≡ steps.old + 1 }
     {
         steps.tick();
@@ -55,6 +56,7 @@ impl MtTable {
         requires few { epoch < 2 ^ 62 }
         ensures stepped { Stepped (identity_of self.now) pass.old pass.new }
         ensures part { part_of pass.new ≡ opened_section (part_of pass.old) }
+        ensures counted { steps_made pass.new ≡ steps_made pass.old + 1 }
         ensures steps { steps.new ≡ steps.old + 1 }
     {
         steps.tick();
@@ -72,6 +74,7 @@ impl MtTable {
         requires open { (part_of pass.old).standing ≢ None }
         ensures stepped { Stepped (identity_of self.now) pass.old pass.new }
         ensures told { LoadedRoot result (part_of pass.old) (part_of pass.new) }
+        ensures counted { steps_made pass.new ≡ steps_made pass.old + 1 }
         ensures steps { steps.new ≡ steps.old + 1 }
     {
         steps.tick();
@@ -98,6 +101,7 @@ impl MtTable {
         requires pivot { (i : ℕ) × (col ≡ pivot_column i) × (i + 1 < slots_in (part_of pass.old) (here (part_of pass.old))) }
         ensures stepped { Stepped (identity_of self.now) pass.old pass.new }
         ensures told { LoadedPivot (column_at (kind_width (part_of pass.old).shape.kind) row.number col) result (part_of pass.old) (part_of pass.new) }
+        ensures counted { steps_made pass.new ≡ steps_made pass.old + 1 }
         ensures steps { steps.new ≡ steps.old + 1 }
     {
         steps.tick();
@@ -126,6 +130,7 @@ impl MtTable {
         requires slot { (i : ℕ) × (col ≡ slot_column (slots_in (part_of pass.old) (here (part_of pass.old))) i) × (i < length (spans_here (part_of pass.old) (here (part_of pass.old)))) }
         ensures stepped { Stepped (identity_of self.now) pass.old pass.new }
         ensures told { LoadedSlot (column_at (kind_width (part_of pass.old).shape.kind) row.number col) result (part_of pass.old) (part_of pass.new) }
+        ensures counted { steps_made pass.new ≡ steps_made pass.old + 1 }
         ensures steps { steps.new ≡ steps.old + 1 }
     {
         steps.tick();
@@ -144,6 +149,7 @@ impl MtTable {
         requires row { HasRow (part_of pass.old).shape.rows row.number }
         ensures stepped { Stepped (identity_of self.now) pass.old pass.new }
         ensures told { LoadedParent row.number (column_at (kind_width (part_of pass.old).shape.kind) row.number 0) result (part_of pass.old) (part_of pass.new) }
+        ensures counted { steps_made pass.new ≡ steps_made pass.old + 1 }
         ensures steps { steps.new ≡ steps.old + 1 }
     {
         steps.tick();
@@ -157,6 +163,7 @@ impl MtTable {
         requires announced { M.number ≡ row.number }
         ensures stepped { Stepped (identity_of self.now) pass.old pass.new }
         ensures told { LoadedParent row.number (column_at (kind_width (part_of pass.old).shape.kind) row.number 0) result (part_of pass.old) (part_of pass.new) }
+        ensures counted { steps_made pass.new ≡ steps_made pass.old + 1 }
     {
         let badge = mem::replace(&mut pass.seat, Badge::blank());
         let mut seat = badge.into_seat::<()>();
@@ -172,6 +179,7 @@ impl MtTable {
         ensures stepped { Stepped (identity_of self.now) pass.old pass.new }
         ensures told { LoadedBegun result (part_of pass.old) (part_of pass.new) }
         ensures sound { IsSound (tree_in (identity_of self.now)) (pass_in pass.new) }
+        ensures counted { steps_made pass.new ≡ steps_made pass.old + 1 }
         ensures steps { steps.new ≡ steps.old + 1 }
     {
         steps.tick();
@@ -187,6 +195,7 @@ impl MtTable {
         requires pass { IsPassOf (identity_of self.now) pass.old }
         ensures stepped { Stepped (identity_of self.now) pass.old pass.new }
         ensures part { part_of pass.new ≡ closed_section (part_of pass.old) }
+        ensures counted { steps_made pass.new ≡ steps_made pass.old + 1 }
         ensures steps { steps.new ≡ steps.old + 1 }
     {
         steps.tick();

@@ -2,7 +2,7 @@
 
 ghost use Rattle.std.specs.Prelude.{◌≡◌, IfOk, IfErr, All, map, None, true, false, [], ◌∷◌};
 ghost use Rattle.mt_rule.specs.Tokens.{Identity, identity_of, identity_of_pass, identity_of_pen, tree_seat, IsPassOf, pass_in};
-ghost use Rattle.mt_rule.specs.Turns.{HasGrabbed, IsBusyAt, IsSeatedAt, IsTakenOf, given_back, refused, waiting, served};
+ghost use Rattle.mt_rule.specs.Turns.{HasGrabbed, IsBusyAt, IsSeatedAt, IsTakenOf, counting, given_back, refused, seated, tried, waiting, served};
 
 use crate::busy::Busy;
 use crate::passes::Pass;
@@ -59,13 +59,15 @@ impl<C: OfTable> Play<Option<C>, TurnView> for Releases {
     ghost then = { releases };
 }
 
-/// A seat beside another.
+/// A seat beside another, which counts it. There is no other way from a seat to one that may take the value.
 struct Sits;
 
 impl Split<TurnView> for Sits {
-    ghost left = { λ v. v };
+    ghost use Rattle.mt_rule.specs.Turns.{beside, counting};
 
-    ghost right = { λ v. v };
+    ghost left = { counting };
+
+    ghost right = { beside };
 }
 
 /// The lock of one tree's table, over a value of that table. Whoever takes the value has it until he gives it back.
@@ -133,18 +135,23 @@ impl<C: OfTable> Turn<C> {
 
     /// Gives one pass a seat.
     fn seat_one(&self, first: &mut Seat<Option<C>, TurnView>, pass: &mut Pass)
-        requires { (first.old.table_id ≡ self.now.table.shared.table_id) × (first.old.me ≡ (waiting self.now.table.shared.key, [])) }
-        ensures first { (first.new.table_id ≡ first.old.table_id) × (first.new.me ≡ first.old.me) }
+        requires table { first.old.table_id ≡ self.now.table.shared.table_id }
+        requires view { first.old.me.0 ≡ seated self.now.table.shared.key first.old.me.0.tries }
+        requires bare { first.old.me.1 ≡ [] }
+        ensures table { first.new.table_id ≡ first.old.table_id }
+        ensures view { first.new.me.0 ≡ counting first.old.me.0 }
+        ensures bare { first.new.me.1 ≡ [] }
         ensures seated { IsSeatedAt self.now.table.shared.table_id self.now.table.shared.key pass.new }
         ensures seat { tree_seat pass.new ≡ tree_seat pass.old }
     {
         pass.turn = self.table.shared.split_seat::<Sits>(first).into_badge();
     }
 
-    /// Another seat beside the pass's own.
+    /// Another seat beside the pass's own, which counts it.
     fn seat(&self, pass: &mut Pass) -> Seat<Option<C>, TurnView>
         requires seated { IsSeatedAt self.now.table.shared.table_id self.now.table.shared.key pass.old }
-        ensures pass { pass.new ≡ pass.old }
+        ensures pass { pass.new ≡ tried pass.old }
+        ensures seated { IsSeatedAt self.now.table.shared.table_id self.now.table.shared.key pass.new }
         ensures table { result.table_id ≡ self.now.table.shared.table_id }
         ensures seat { result.me ≡ (waiting self.now.table.shared.key, []) }
     {
@@ -155,10 +162,11 @@ impl<C: OfTable> Turn<C> {
         other
     }
 
-    /// Waits for the value. No other has it until it is given back.
+    /// Waits for the value. No other has it until it is given back. The pass counts that it went for it.
     pub fn take(&self, rt: &impl Wait, pass: &mut Pass) -> Taken<C>
         requires seated { IsSeatedAt self.now.table.shared.table_id self.now.table.shared.key pass.old }
-        ensures pass { pass.new ≡ pass.old }
+        ensures pass { pass.new ≡ tried pass.old }
+        ensures seated { IsSeatedAt self.now.table.shared.table_id self.now.table.shared.key pass.new }
         ensures value { C.table result.value ≡ served self.now.table.shared.key }
         ensures taken { IsTakenOf self.now.table.shared.table_id self.now.table.shared.key result.seat }
     {
@@ -177,10 +185,11 @@ impl<C: OfTable> Turn<C> {
     /// # Errors
     ///
     /// `Busy` where the swap found it away. Only a seat that has found it away says so, and none has before the value was ever
-    /// taken: so that no answer is `Busy` but by a step at the turn.
+    /// taken: so that no answer is `Busy` but by a step at the turn. The pass counts the try.
     pub fn try_take(&self, pass: &mut Pass) -> Result<Taken<C>, Busy>
         requires seated { IsSeatedAt self.now.table.shared.table_id self.now.table.shared.key pass.old }
-        ensures pass { pass.new ≡ pass.old }
+        ensures pass { pass.new ≡ tried pass.old }
+        ensures seated { IsSeatedAt self.now.table.shared.table_id self.now.table.shared.key pass.new }
         ensures value { IfOk result (λ taken. C.table taken.value ≡ served self.now.table.shared.key) }
         ensures taken { IfOk result (λ taken. IsTakenOf self.now.table.shared.table_id self.now.table.shared.key taken.seat) }
         ensures busy { IfErr result (IsBusyAt self.now.table.shared.table_id self.now.table.shared.key) }

@@ -104,6 +104,8 @@ pub struct PassPart {
     pub marks: LinkedList<u32>,
     /// The rows that its section has come to, the last one first.
     pub held: LinkedList<Held>,
+    /// How many steps it has made without the lock.
+    pub steps: u64,
 }
 
 /// What a note tells.
@@ -118,6 +120,8 @@ pub struct TurnView {
     pub held: bool,
     /// Whether it has found the value away.
     pub met: bool,
+    /// How often its pass has gone for the value.
+    pub tries: u64,
     /// The table that the turn serves.
     pub of: Snapshot<MtTable>,
 }

@@ -1,5 +1,7 @@
+use Rattle.std.proofs.Common.{◌∙◌}
+use Rattle.mt_rule.specs.Steps.{quiet_moment}
 use Rattle.mt_rule.specs.Tokens.{pen_in, joined_part, joined_in}
-use Rattle.mt_pen.proofs.Finishing.{may_end, ended_sheet}
+use Rattle.mt_pen.proofs.Finishing.{may_end, ended_sheet, ended_steps}
 use Rattle.mt_pen.proofs.Working.{worked_end}
 use Rattle.mt_pen.proofs.rows.PenRowsRows.finish.Goals as goal
 
@@ -12,6 +14,11 @@ pub invariant_of-self-clause-worked : goal.invariant_of-self-clause-worked
 invariant_of-self-clause-worked g c =
     let s = c.args.self.now in
     worked_end _ _ _ _ _ c.store_commits.ensures.pen s.worked
+
+pub invariant_of-self-clause-counted : goal.invariant_of-self-clause-counted
+invariant_of-self-clause-counted g c =
+    let s = c.args.self.now in
+    ended_steps (pen_in s.pen) (joined_part s.pen) (joined_part c.store_commits.new.pen) (quiet_moment (pen_in s.pen) (joined_part s.pen) c.args.call.now c.args.reply.now) c.store_commits.ensures.pass ∙ s.counted
 
 pub returns : goal.returns
 returns g c =
