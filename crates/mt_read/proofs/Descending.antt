@@ -129,7 +129,7 @@ module _ (q q' : PassPart) (row : Row) (place : Place) (col name : ℕ) (on : Is
 pub goes_by : (q q' part : PassPart) → Reads q q' part → part ≡ record q { seen = q'.seen; floor = part.floor; held = part.held; risen = part.risen; marks = part.marks } → q.risen ≤ part.risen
     → ((x : Held) → IsUnder q x → IsUnder part x) → GoesOnTo q q' part.marks
 goes_by q q' part r same risen under = record {
-  is = r.is ∙ (same ∙ (λ i. record q { seen = q'.seen; floor = (sym r.is i).floor; held = (sym r.is i).held; risen = (sym r.is i).risen; marks = part.marks }));
+  is = r.is ∙ (ap (λ (z : PassPart). record z { steps = q'.steps }) same ∙ (λ i. record q { seen = q'.seen; floor = (sym r.is i).floor; held = (sym r.is i).held; risen = (sym r.is i).risen; marks = part.marks; steps = q'.steps }));
   seen = r.seen;
   risen = subst (λ (z : PassPart). q.risen ≤ z.risen) (sym r.is) risen;
   under = λ x u. subst (λ (z : PassPart). IsUnder z x) (sym r.is) (under x u);
@@ -141,7 +141,7 @@ goes_sees q q' s = goes_by q q' (with_seen q q'.seen) s refl (omega arith) (λ x
 -- the dead marks are those that were loaded last
 pub goes_to : (q q' q'' : PassPart) (m m' : List ℕ) → GoesOnTo q q' m → GoesOnTo q' q'' m' → GoesOnTo q q'' m'
 goes_to q q' q'' m m' s t = record {
-  is = t.is ∙ ap (λ (z : PassPart). record z { seen = q''.seen; floor = q''.floor; held = q''.held; risen = q''.risen; marks = m' }) s.is;
+  is = t.is ∙ ap (λ (z : PassPart). record z { seen = q''.seen; floor = q''.floor; held = q''.held; risen = q''.risen; marks = m'; steps = q''.steps }) s.is;
   seen = begins_on q.seen q'.seen q''.seen s.seen t.seen;
   risen = (let less = s.risen in let more = t.risen in omega arith);
   under = λ x u. t.under x (s.under x u);

@@ -27,7 +27,7 @@ use Rattle.mt_read.specs.Walks.{IsOn, IsPlaceIn, SeesMore}
 -- ---- the pass has only seen more
 
 pub sees_on : (q q' q'' : PassPart) → SeesMore q q' → SeesMore q' q'' → SeesMore q q''
-sees_on q q' q'' s t = record { is = t.is ∙ ap (λ (z : PassPart). with_seen z q''.seen) s.is; seen = begins_on q.seen q'.seen q''.seen s.seen t.seen }
+sees_on q q' q'' s t = record { is = t.is ∙ ap (λ (z : PassPart). record (with_seen z q''.seen) { steps = q''.steps }) s.is; seen = begins_on q.seen q'.seen q''.seen s.seen t.seen }
 
 pub on_more : (q q' : PassPart) (row : Row) → SeesMore q q' → IsOn q row → IsOn q' row
 on_more q q' row s on =

@@ -27,7 +27,7 @@ use Rattle.mt_read.proofs.Moments.{moment_stays}
 
 -- ---- a pass of which nothing but numbers has changed
 
-module _ (q q' : PassPart) (seen : List Moment) (begun ended epoch risen : ℕ) (marks : List ℕ) (is : q' ≡ record q { seen = seen; begun = begun; ended = ended; epoch = epoch; risen = risen; marks = marks }) (more : length q.seen ≤ length seen) where
+module _ (q q' : PassPart) (seen : List Moment) (begun ended epoch risen steps : ℕ) (marks : List ℕ) (is : q' ≡ record q { seen = seen; begun = begun; ended = ended; epoch = epoch; risen = risen; marks = marks; steps = steps }) (more : length q.seen ≤ length seen) where
   pub leaf_around : (leaf : Row) → IsOnLeaf q leaf → IsOnLeaf q' leaf
   leaf_around leaf at = subst (λ (z : PassPart). IsOnLeaf z leaf) (sym is) (let on = at.on in let met = on.met in record {
     on = record { at = on.at; number = on.number; base = on.base; kind = on.kind; wide = on.wide; min = on.min; max = on.max; within = on.within; has = on.has; old = on.old; met = omega arith; width = on.width; shape = on.shape };
@@ -72,7 +72,7 @@ module _ (q q' : PassPart) (number word found : ℕ) (told : LoadedParent number
   parent_shape = ap (λ (z : PassPart). z.shape) told.reads.is
 
   pub leaf_parent : (leaf : Row) → IsOnLeaf q leaf → IsOnLeaf q' leaf
-  leaf_parent leaf at = leaf_around q q' q'.seen q.begun q.ended q.epoch q'.risen (marks_with number found q.marks) told.reads.is (begins_long q.seen q'.seen told.reads.seen) leaf at
+  leaf_parent leaf at = leaf_around q q' q'.seen q.begun q.ended q.epoch q'.risen q'.steps (marks_with number found q.marks) told.reads.is (begins_long q.seen q'.seen told.reads.seen) leaf at
 
   pub parent_tells : (row : ℕ) → IsAt q → word ≡ column_at (kind_width q.shape.kind) row 0 → row ≡ (here q).row → ParentTells q' (here q) found
   parent_tells row at is same = told.tells 0 (here q) at (is ∙ ap (λ (r : ℕ). column_at (kind_width q.shape.kind) r 0) same)

@@ -1,5 +1,5 @@
 -- What a step of a cursor makes of its pass.
-use Rattle.std.proofs.Common.{◌≡◌, ℕ, ◌≤◌, max, List, [], ◌∷◌, length, Option, Some, None, refl, sym, ap, ◌∙◌, subst, arith, append-nil}
+use Rattle.std.proofs.Common.{◌≡◌, ℕ, ◌+◌, ◌≤◌, max, List, [], ◌∷◌, length, Option, Some, None, refl, sym, ap, ◌∙◌, subst, arith, append-nil}
 use Rattle.std.specs.Prelude.{IfSome}
 use Rattle.std.proofs.lemmas.List.{length-map}
 use Rattle.mt_base.specs.declared.ranges.Range.{Range}
@@ -32,17 +32,17 @@ opened_more (Some epoch) opened lo = ([], sym (append-nil opened))
 module _ (t : Identity) (q q₁ q₂ q₃ : PassPart) (lo hi : ℕ) (epoch : Option ℕ) (of : q.shape ≡ t.shape) (standing : IfSome epoch (λ (e : ℕ). q.standing ≡ Some e)) (resumed : Resumed lo epoch q q₁) (marks : List ℕ) (goes : GoesOnTo q₁ q₂ marks) (begun : LoadedBegun hi q₂ q₃) where
   -- what the pass knows after it
   abbrev after : PassPart
-  after = record q { seen = q₂.seen; opened = opened_with epoch q.opened lo; standing = Some (epoch_or epoch lo); begun = hi; ended = lo; epoch = lo; floor = q₂.floor; risen = q₂.risen; marks = marks; held = q₂.held }
+  after = record q { seen = q₂.seen; opened = opened_with epoch q.opened lo; standing = Some (epoch_or epoch lo); begun = hi; ended = lo; epoch = lo; floor = q₂.floor; risen = q₂.risen; marks = marks; held = q₂.held; steps = q₂.steps + 1 }
 
   middle : (e : Option ℕ) → IfSome e (λ (n : ℕ). q.standing ≡ Some n) → Resumed lo e q q₁
-      → q₂ ≡ record q { seen = q₂.seen; opened = opened_with e q.opened lo; standing = Some (epoch_or e lo); ended = lo; epoch = lo; floor = q₂.floor; risen = q₂.risen; marks = marks; held = q₂.held }
-  middle None standing r = goes.is ∙ ap (λ (z : PassPart). record z { seen = q₂.seen; floor = q₂.floor; held = q₂.held; risen = q₂.risen; marks = marks }) r.is
+      → q₂ ≡ record q { seen = q₂.seen; opened = opened_with e q.opened lo; standing = Some (epoch_or e lo); ended = lo; epoch = lo; floor = q₂.floor; risen = q₂.risen; marks = marks; held = q₂.held; steps = q₂.steps }
+  middle None standing r = goes.is ∙ ap (λ (z : PassPart). record z { seen = q₂.seen; floor = q₂.floor; held = q₂.held; risen = q₂.risen; marks = marks; steps = q₂.steps }) r.is
   middle (Some n) standing r =
-      goes.is ∙ (ap (λ (z : PassPart). record z { seen = q₂.seen; floor = q₂.floor; held = q₂.held; risen = q₂.risen; marks = marks }) r.is
-      ∙ (λ i. record q { seen = q₂.seen; standing = standing i; ended = lo; epoch = lo; floor = q₂.floor; risen = q₂.risen; marks = marks; held = q₂.held }))
+      goes.is ∙ (ap (λ (z : PassPart). record z { seen = q₂.seen; floor = q₂.floor; held = q₂.held; risen = q₂.risen; marks = marks; steps = q₂.steps }) r.is
+      ∙ (λ i. record q { seen = q₂.seen; standing = standing i; ended = lo; epoch = lo; floor = q₂.floor; risen = q₂.risen; marks = marks; held = q₂.held; steps = q₂.steps }))
 
   is_after : q₃ ≡ after
-  is_after = begun.is ∙ ap (λ (z : PassPart). record z { begun = hi }) (middle epoch standing resumed)
+  is_after = begun.is ∙ ap (λ (z : PassPart). record z { begun = hi; steps = q₂.steps + 1 }) (middle epoch standing resumed)
 
   seen_all : known.Begins q.seen q₂.seen
   seen_all = begins_on q.seen q₁.seen q₂.seen resumed.seen goes.seen

@@ -1,5 +1,5 @@
 -- What a section's beginning, a walk and its end make of a read.
-use Rattle.std.proofs.Common.{◌≡◌, ℕ, ◌≤◌, max, List, [], ◌∷◌, ◌++◌, length, Option, Some, None, refl, sym, ap, ◌∙◌, subst, arith}
+use Rattle.std.proofs.Common.{◌≡◌, ℕ, ◌+◌, ◌≤◌, max, List, [], ◌∷◌, ◌++◌, length, Option, Some, None, refl, sym, ap, ◌∙◌, subst, arith}
 use Rattle.std.proofs.lemmas.List.{length-map, map-append}
 use Rattle.mt_base.specs.declared.ranges.Range.{Range}
 use Rattle.mt_base.specs.declared.calls.Query.{Query}
@@ -15,12 +15,39 @@ use Rattle.mt_rule.specs.declared.views.Moment.{Moment}
 use Rattle.mt_rule.specs.declared.views.PassPart.{PassPart}
 use Rattle.mt_rule.specs.declared.views.Shape.{Shape}
 use Rattle.mt_rule.specs.Seats.{known_by, record_of, records_of, tree_of}
-use Rattle.mt_rule.specs.Sections.{closed_section, moment_seen}
+use Rattle.mt_rule.specs.Sections.{HasBecome, LoadedBegun, LoadedCommits, closed_section, moment_seen, opened_section, with_seen}
 use Rattle.mt_rule.specs.Tokens.{Identity, tree_in}
 use Rattle.mt_read.specs.Answers.{Answers, within}
 use Rattle.mt_read.specs.Walks.{GoesOnTo}
 use Rattle.mt_read.specs.Windows.{Began, Ended, HasRead}
 use Rattle.mt_read.proofs.MapAnswers.{find_within}
+
+-- ---- a section's beginning and its end
+
+-- what a pass has become it has become but for its steps
+pub but_steps : (q part : PassPart) → q ≡ part → HasBecome q part
+but_steps q part is = is ∙ (λ i. record part { steps = (sym is i).steps })
+
+pub has_begun : (n : ℕ) (q q₁ q₂ : PassPart) → LoadedCommits n q q₁ → q₂ ≡ opened_section q₁ → Began n q q₂
+has_begun n q q₁ q₂ loaded is =
+    let same : q₂.seen ≡ q₁.seen = ap (λ (z : PassPart). z.seen) is in
+    record {
+      is = is ∙ (ap opened_section loaded.reads.is ∙ (λ i. record (opened_section (record (with_seen q (sym is i).seen) { epoch = n; ended = n })) { steps = (sym is i).steps }));
+      seen = subst (λ (seen : List Moment). known.Begins q.seen seen) (sym same) loaded.reads.seen;
+      before = loaded.before;
+      most = subst (λ (seen : List Moment). n ≤ length seen) (sym same) loaded.most;
+      least = subst (λ (seen : List Moment). length seen ≤ n + 1) (sym same) loaded.least;
+    }
+
+pub has_ended : (n : ℕ) (q q₁ q₂ : PassPart) → LoadedBegun n q q₁ → q₂ ≡ closed_section q₁ → Ended n q q₂
+has_ended n q q₁ q₂ loaded is = record {
+  is = but_steps q₂ (closed_section (record q { begun = n; steps = q.steps + 1 })) (is ∙ ap closed_section loaded.is);
+  seen = loaded.seen;
+  before = loaded.before;
+  risen = loaded.risen;
+}
+
+-- ---- what a pass has seen
 
 pub begins_records : (xs ys : List Moment) → known.Begins xs ys → known.Begins (records_of xs) (records_of ys)
 begins_records xs ys b = (records_of b.0, ap records_of b.1 ∙ map-append record_of xs b.0)
@@ -37,13 +64,13 @@ bounded q kind least index max value same a = record {
 module _ (t : Identity) (q q₁ q₂ q₃ : PassPart) (lo hi : ℕ) (of : q.shape ≡ t.shape) (began : Began lo q q₁) (marks : List ℕ) (goes : GoesOnTo q₁ q₂ marks) (ended : Ended hi q₂ q₃) where
   -- what the pass knows after it
   abbrev after : PassPart
-  after = record q { seen = q₂.seen; opened = q.opened ++ lo ∷ []; standing = None; begun = hi; ended = lo; epoch = lo; floor = None; risen = q₂.risen; marks = marks; held = [] }
+  after = record q { seen = q₂.seen; opened = q.opened ++ lo ∷ []; standing = None; begun = hi; ended = lo; epoch = lo; floor = None; risen = q₂.risen; marks = marks; held = []; steps = q₃.steps }
 
-  middle : q₂ ≡ record q { seen = q₂.seen; opened = q.opened ++ lo ∷ []; standing = Some lo; ended = lo; epoch = lo; floor = q₂.floor; risen = q₂.risen; marks = marks; held = q₂.held }
-  middle = goes.is ∙ ap (λ (z : PassPart). record z { seen = q₂.seen; floor = q₂.floor; held = q₂.held; risen = q₂.risen; marks = marks }) began.is
+  middle : q₂ ≡ record q { seen = q₂.seen; opened = q.opened ++ lo ∷ []; standing = Some lo; ended = lo; epoch = lo; floor = q₂.floor; risen = q₂.risen; marks = marks; held = q₂.held; steps = q₂.steps }
+  middle = goes.is ∙ ap (λ (z : PassPart). record z { seen = q₂.seen; floor = q₂.floor; held = q₂.held; risen = q₂.risen; marks = marks; steps = q₂.steps }) began.is
 
   is_after : q₃ ≡ after
-  is_after = ended.is ∙ ap (λ (z : PassPart). closed_section (record z { begun = hi })) middle
+  is_after = ended.is ∙ ap (λ (z : PassPart). record (closed_section (record z { begun = hi })) { steps = q₃.steps }) middle
 
   pub marks_after : q₃.marks ≡ marks
   marks_after = ap (λ (z : PassPart). z.marks) is_after

@@ -6,7 +6,7 @@ use Rattle.mt_base.specs.declared.calls.Query.TheVariants.{Find}
 use Rattle.mt_base.specs.declared.ranges.Range.{Range}
 use Rattle.mt_base.specs.Passes as known
 use Rattle.mt_rule.specs.declared.views.PassPart.{PassPart}
-use Rattle.mt_rule.specs.Sections.{here, opened_section, with_seen}
+use Rattle.mt_rule.specs.Sections.{HasBecome, here, opened_section, with_seen}
 use Rattle.mt_read.specs.declared.cursor.KeptLeaf.{KeptLeaf}
 use Rattle.mt_read.specs.declared.cursor.Cursor.{Cursor}
 use Rattle.mt_read.specs.Walks.{IsOnLeaf}
@@ -87,7 +87,7 @@ resumed_section (Some epoch) q = q
 
 -- The number of ended calls was loaded, all of which the pass has seen, and one more at the most. The section is open then.
 pub record Resumed (lo : ℕ) (epoch : Option ℕ) (q q' : PassPart) : Type 0 where
-  pub is : q' ≡ resumed_section epoch (record (with_seen q q'.seen) { epoch = lo; ended = lo })
+  pub is : HasBecome q' (resumed_section epoch (record (with_seen q q'.seen) { epoch = lo; ended = lo }))
   pub seen : known.Begins q.seen q'.seen
   pub before : q.ended ≤ lo
   pub most : lo ≤ length q'.seen

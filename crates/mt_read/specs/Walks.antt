@@ -34,7 +34,7 @@ IsUnder q x = (j : ℕ) × (get_elem? q.held (suc j) ≡ some x)
 -- Within its section the pass has gone on: it has seen more, and holds other rows, and those that it held below the one that it
 -- was at. The dead marks that it has loaded are these then.
 pub record GoesOnTo (q q' : PassPart) (marks : List ℕ) : Type 0 where
-  pub is : q' ≡ record q { seen = q'.seen; floor = q'.floor; held = q'.held; risen = q'.risen; marks = marks }
+  pub is : q' ≡ record q { seen = q'.seen; floor = q'.floor; held = q'.held; risen = q'.risen; marks = marks; steps = q'.steps }
   pub seen : Begins q.seen q'.seen
   pub risen : q.risen ≤ q'.risen
   pub under : (x : Held) → IsUnder q x → IsUnder q' x

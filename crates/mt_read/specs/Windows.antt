@@ -3,11 +3,11 @@
 use Rattle.std.specs.Prelude.{◌≡◌, ℕ, ◌+◌, ◌≤◌, [], ◌∷◌, ◌++◌, None, length}
 use Rattle.mt_base.specs.Passes as known
 use Rattle.mt_rule.specs.declared.views.PassPart.{PassPart}
-use Rattle.mt_rule.specs.Sections.{with_seen, opened_section, closed_section}
+use Rattle.mt_rule.specs.Sections.{HasBecome, with_seen, opened_section, closed_section}
 
 -- The section was opened at the number of ended calls, all of which the pass has seen, and one more at the most.
 pub record Began (epoch : ℕ) (q q' : PassPart) : Type 0 where
-  pub is : q' ≡ opened_section (record (with_seen q q'.seen) { epoch = epoch; ended = epoch })
+  pub is : HasBecome q' (opened_section (record (with_seen q q'.seen) { epoch = epoch; ended = epoch }))
   pub seen : known.Begins q.seen q'.seen
   pub before : q.ended ≤ epoch
   pub most : epoch ≤ length q'.seen
@@ -15,7 +15,7 @@ pub record Began (epoch : ℕ) (q q' : PassPart) : Type 0 where
 
 -- The number of begun calls was loaded, which is no less than the pass knows of, and the section was closed.
 pub record Ended (begun : ℕ) (q q' : PassPart) : Type 0 where
-  pub is : q' ≡ closed_section (record q { begun = begun })
+  pub is : HasBecome q' (closed_section (record q { begun = begun }))
   pub seen : length q.seen ≤ begun
   pub before : q.begun ≤ begun
   pub risen : q.risen ≤ begun

@@ -5,7 +5,7 @@ ghost use Rattle.mt_base.specs.Width.{greatest_of};
 ghost use Rattle.mt_base.specs.declared.calls.Query.TheVariants.{Find};
 ghost use Rattle.mt_base.specs.Passes.{Read};
 ghost use Rattle.mt_rule.specs.Sections.{closed_section, here};
-ghost use Rattle.mt_rule.specs.Tokens.{identity_of, part_of, pass_in, tree_in, IsPassOf, Stepped};
+ghost use Rattle.mt_rule.specs.Tokens.{identity_of, part_of, pass_in, tree_in, IsPassOf, Stepped, IsCounted};
 ghost use Rattle.mt_read.specs.Answers.{Answers};
 ghost use Rattle.mt_read.specs.Cursors.{HasStepped, IsCursorOf, IsKept, IsOver, IsOverPlace, LeafWasMarked, MarksKeptLeaf, Resumed, epoch_or, place_behind, place_from, query_at};
 ghost use Rattle.mt_read.specs.Walks.{GoesOn, GoesOnTo, WasMarked};
@@ -51,6 +51,7 @@ fn first_at_kept<L: Ledger>(
     ensures answer { IfSome result (Answers (part_of pass.new) (length (part_of pass.old).seen) (Find index (greatest_of (part_of pass.old).shape.kind))) }
     ensures within { IfSome result (λ found. IfSome found (λ range. IsOver (Some kept.now) range.last)) }
     ensures marked { IfNone result (WasMarked (here (part_of pass.old)) (part_of pass.old) (part_of pass.new)) }
+    ensures counted { IsCounted pass.old pass.new steps.old steps.new }
     ensures steps { steps.new ≤ steps.old + 35 }
 {
     let leaf = kept.leaf;
@@ -80,6 +81,7 @@ fn first_anew<L: Ledger>(
     ensures lo { IfSome result.leaf (λ kept. kept.lo ≡ lo) }
     ensures answer { Answers (part_of pass.new) (length (part_of pass.old).seen) (Find index (greatest_of (part_of pass.old).shape.kind)) result.range }
     ensures within { IfSome result.range (λ range. IsOver result.leaf range.last) }
+    ensures counted { IsCounted pass.old pass.new steps.old steps.new }
     ensures steps { steps.new ≤ steps.old + 163 }
 {
     let to = sought(table, index);
@@ -119,6 +121,7 @@ fn first_behind<L: Ledger>(
     ensures within { IfSome result.range (λ range. IsOver result.leaf range.last) }
     ensures marks { MarksKeptLeaf leaf (Some index) (part_of pass.new).risen (part_of pass.old) (part_of pass.new) }
     ensures short { IsOver leaf index → (steps.new ≤ steps.old + 35) ⊎ LeafWasMarked leaf (Some index) (part_of pass.new).risen (part_of pass.old) (part_of pass.new) }
+    ensures counted { IsCounted pass.old pass.new steps.old steps.new }
     ensures steps { steps.new ≤ steps.old + 198 }
 {
     let Some(kept) = leaf else {
@@ -162,7 +165,7 @@ impl Cursor {
     ghost use Rattle.mt_base.specs.declared.calls.Query.TheVariants.{Find};
     ghost use Rattle.mt_base.specs.Passes.{Read};
     ghost use Rattle.mt_rule.specs.Sections.{closed_section};
-    ghost use Rattle.mt_rule.specs.Tokens.{identity_of, part_of, pass_in, tree_in, IsPassOf, Stepped};
+    ghost use Rattle.mt_rule.specs.Tokens.{identity_of, part_of, pass_in, tree_in, IsPassOf, Stepped, IsCounted};
     ghost use Rattle.mt_read.specs.Answers.{Answers};
     ghost use Rattle.mt_read.specs.Cursors.{HasStepped, IsCursorOf, IsKept, IsOver, IsOverPlace, LeafWasMarked, MarksKeptLeaf, Resumed, epoch_or, place_behind, place_from, query_at};
     ghost use Rattle.mt_read.specs.Walks.{GoesOnTo};
@@ -198,6 +201,7 @@ impl Cursor {
         ensures resumed { Resumed result self.old.epoch (part_of pass.old) (part_of pass.new) }
         ensures cursor { IsCursorOf (part_of pass.new) self.new }
         ensures same { self.new ≡ record self.old { epoch = Some (epoch_or self.old.epoch result) } }
+        ensures counted { IsCounted pass.old pass.new steps.old steps.new }
         ensures steps { steps.new ≤ steps.old + 2 }
     {
         let lo = table.load_commits(pass, steps);
@@ -230,6 +234,7 @@ impl Cursor {
         ensures within { IfSome result (λ range. IsOver self.new.leaf range.last) }
         ensures marks { MarksKeptLeaf self.old.leaf (Some index) (part_of pass.new).risen (part_of pass.old) (part_of pass.new) }
         ensures short { IsOver self.old.leaf index → (steps.new ≤ steps.old + 35) ⊎ LeafWasMarked self.old.leaf (Some index) (part_of pass.new).risen (part_of pass.old) (part_of pass.new) }
+        ensures counted { IsCounted pass.old pass.new steps.old steps.new }
         ensures steps { steps.new ≤ steps.old + 198 }
     {
         let found = first_behind(table, pass, self.leaf, lo, index, steps);
@@ -257,6 +262,7 @@ impl Cursor {
         ensures lo { (self.new.leaf ≡ self.old.leaf) ⊎ IfSome self.new.leaf (λ kept. kept.lo ≡ result.lo) }
         ensures marks { MarksKeptLeaf self.old.leaf self.old.at result.hi (part_of pass.old) (part_of pass.new) }
         ensures short { IsOverPlace self.old.leaf self.old.at → (steps.new ≤ steps.old + 40) ⊎ LeafWasMarked self.old.leaf self.old.at result.hi (part_of pass.old) (part_of pass.new) }
+        ensures counted { IsCounted pass.old pass.new steps.old steps.new }
         ensures steps { steps.new ≤ steps.old + 220 }
     {
         let lo = self.resume(table, pass, steps);
@@ -281,6 +287,7 @@ impl Cursor {
         ensures cursor { IsCursorOf (part_of pass.new) self.new }
         ensures same { self.new ≡ record self.old { leaf = None; epoch = None } }
         ensures closed { pass_in pass.new ≡ record (pass_in pass.old) { standing = None } }
+        ensures counted { IsCounted pass.old pass.new steps.old steps.new }
         ensures steps { steps.new ≡ steps.old + 1 }
     {
         table.close_section(pass, steps);
@@ -293,6 +300,7 @@ impl Cursor {
         requires pass { IsPassOf (identity_of table.now) pass.old }
         ensures stepped { Stepped (identity_of table.now) pass.old pass.new }
         ensures closed { pass_in pass.new ≡ record (pass_in pass.old) { standing = None } }
+        ensures counted { IsCounted pass.old pass.new steps.old steps.new }
         ensures steps { steps.new ≡ steps.old + 1 }
     {
         table.close_section(pass, steps);

@@ -7,7 +7,7 @@ ghost use Rattle.mt_layout.specs.Rows.{row_in, named_kind};
 ghost use Rattle.mt_layout.specs.declared.names.RowKind.TheVariants.{Leaf};
 ghost use Rattle.mt_rule.specs.Places.{IsRowAt};
 ghost use Rattle.mt_rule.specs.Sections.{IsAt, here, slots_in, moment_seen};
-ghost use Rattle.mt_rule.specs.Tokens.{identity_of, part_of, IsPassOf, Stepped};
+ghost use Rattle.mt_rule.specs.Tokens.{identity_of, part_of, IsPassOf, Stepped, IsCounted};
 ghost use Rattle.mt_read.specs.Walks.{GoesOn, IsOn, IsOnLeaf, IsPlaceIn, IsUnder, SeesMore, sought, steps_down};
 
 use mt_base::{Steps, Width, top};
@@ -95,6 +95,7 @@ pub fn find_slot<L: Ledger>(
     ensures from { result.first ≤ index }
     ensures to { index ≤ result.last }
     ensures pivots { steps.new + 1 ≤ steps.old + slots_in (part_of pass.old) (here (part_of pass.old)) }
+    ensures counted { IsCounted pass.old pass.new steps.old steps.new }
     ensures steps { steps.new ≤ steps.old + 31 }
 {
     let last_slot = slots(row.width, row.kind) - 1;
@@ -137,6 +138,7 @@ fn child_at<L: Ledger>(
     ensures level { (here (part_of pass.new)).extent.level + 1 ≡ (here (part_of pass.old)).extent.level }
     ensures from { result.min ≤ index }
     ensures to { index ≤ result.max }
+    ensures counted { IsCounted pass.old pass.new steps.old steps.new }
     ensures steps { steps.new + steps_down (part_of pass.new) ≤ steps.old + steps_down (part_of pass.old) }
 {
     let place = find_slot(table, pass, row, index, steps);
@@ -163,6 +165,7 @@ fn descend<L: Ledger>(
     ensures since { (here (part_of pass.new)).since ≡ (here (part_of pass.old)).since }
     ensures from { result.min ≤ index }
     ensures to { index ≤ result.max }
+    ensures counted { IsCounted pass.old pass.new steps.old steps.new }
     ensures steps { steps.new ≤ steps.old + steps_down (part_of pass.old) }
 {
     let mut row = row;
@@ -191,6 +194,7 @@ pub fn walk_by<const COLS: u32, L: Ledger>(
     ensures under { IfSome result (λ leaf. IsAt (part_of pass.old) → IsUnder (part_of pass.new) (here (part_of pass.old))) }
     ensures from { IfSome result (λ leaf. leaf.min ≤ index) }
     ensures to { IfSome result (λ leaf. index ≤ leaf.max) }
+    ensures counted { IsCounted pass.old pass.new steps.old steps.new }
     ensures steps { steps.new ≤ steps.old + 129 }
 {
     let width = width_with::<COLS>();
@@ -220,6 +224,7 @@ pub fn walk<L: Ledger>(
     ensures under { IfSome result (λ leaf. IsAt (part_of pass.old) → IsUnder (part_of pass.new) (here (part_of pass.old))) }
     ensures from { IfSome result (λ leaf. leaf.min ≤ index) }
     ensures to { IfSome result (λ leaf. index ≤ leaf.max) }
+    ensures counted { IsCounted pass.old pass.new steps.old steps.new }
     ensures steps { steps.new ≤ steps.old + 129 }
 {
     match table.width() {

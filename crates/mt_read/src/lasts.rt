@@ -4,7 +4,7 @@ ghost use Rattle.std.specs.Prelude.{◌≡◌, ◌≢◌, ℕ, ◌+◌, ◌-◌,
 ghost use Rattle.mt_base.specs.declared.calls.Query.TheVariants.{Prev, Rfind};
 ghost use Rattle.mt_base.specs.Passes.{Read};
 ghost use Rattle.mt_rule.specs.Sections.{here};
-ghost use Rattle.mt_rule.specs.Tokens.{identity_of, part_of, pass_in, tree_in, IsPassOf, Stepped};
+ghost use Rattle.mt_rule.specs.Tokens.{identity_of, part_of, pass_in, tree_in, IsPassOf, Stepped, IsCounted};
 ghost use Rattle.mt_read.specs.Answers.{Answers, AnswersBy, LeafAnswers};
 ghost use Rattle.mt_read.specs.Neighbours.{IsBefore, LeftHole, LeftMarked, MarkedBeside, WasLeftMarked, WasMoved, asked};
 ghost use Rattle.mt_read.specs.Walks.{GoesOn, IsOnLeaf, IsPlaceIn, IsSameHold, SeesMore, WasRead};
@@ -39,6 +39,7 @@ fn place_before<L: Ledger>(
     ensures slot { result.slot + 1 ≡ place.now.slot }
     ensures last { result.last + 1 ≡ place.now.first }
     ensures place { IsPlaceIn (part_of pass.new) result }
+    ensures counted { IsCounted pass.old pass.new steps.old steps.new }
     ensures steps { steps.new ≤ steps.old + 1 }
 {
     let slot = place.slot - 1;
@@ -79,6 +80,7 @@ fn last_at<L: Ledger>(
     ensures same { IsSameHold (here (part_of pass.old)) (here (part_of pass.new)) }
     ensures found { IfSome result (λ range. LeafAnswers (part_of pass.new) (here (part_of pass.old)) (Rfind index 0) (Some range)) }
     ensures none { IfNone result ((place.now.slot ≡ 0) × WasRead (part_of pass.old) (part_of pass.new) place.now None) }
+    ensures counted { IsCounted pass.old pass.new steps.old steps.new }
     ensures steps { steps.new ≤ steps.old + 3 }
 {
     if let Some(range) = range_at(table, pass, leaf, place, steps) {
@@ -107,6 +109,7 @@ fn last_beside<L: Ledger>(
     ensures goes { IfSome result (λ found. GoesOn (part_of pass.old) (part_of pass.new)) }
     ensures answer { IfSome result (AnswersBy (part_of pass.new) (here (part_of pass.old)) (length (part_of pass.old).seen) (Rfind (leaf.now.min - 1) 0)) }
     ensures moved { IfNone result (MarkedBeside IsBefore (here (part_of pass.old)) (part_of pass.old) (part_of pass.new)) }
+    ensures counted { IsCounted pass.old pass.new steps.old steps.new }
     ensures steps { steps.new ≤ steps.old + 164 }
 {
     let to = leaf.min - 1;
@@ -142,6 +145,7 @@ fn last_from<L: Ledger>(
     ensures goes { IfSome result (λ found. GoesOn (part_of pass.old) (part_of pass.new)) }
     ensures answer { IfSome result (AnswersBy (part_of pass.new) (here (part_of pass.old)) (here (part_of pass.old)).since (Rfind index 0)) }
     ensures moved { IfNone result (LeftHole place.now (part_of pass.old) (part_of pass.new)) }
+    ensures counted { IsCounted pass.old pass.new steps.old steps.new }
     ensures steps { steps.new ≤ steps.old + 167 }
 {
     if let Some(range) = last_at(table, pass, leaf, place, index, steps) {
@@ -167,6 +171,7 @@ fn rfind_from<L: Ledger>(
     ensures goes { IfSome result (λ found. GoesOn (part_of pass.old) (part_of pass.new)) }
     ensures answer { IfSome result (Answers (part_of pass.new) (length (part_of pass.old).seen) (Rfind index 0)) }
     ensures moved { IfNone result (LeftMarked (asked (part_of pass.old).shape.kind (Rfind index 0)) (length (part_of pass.old).seen) (part_of pass.old) (part_of pass.new)) }
+    ensures counted { IsCounted pass.old pass.new steps.old steps.new }
     ensures steps { steps.new ≤ steps.old + 327 }
 {
     let to = sought(table, index);
@@ -194,6 +199,7 @@ fn prev_at_leaf<L: Ledger>(
     ensures goes { IfSome result (λ found. GoesOn (part_of pass.old) (part_of pass.new)) }
     ensures answer { IfSome result (Answers (part_of pass.new) (here (part_of pass.old)).since (Prev index 0)) }
     ensures moved { IfNone result (LeftMarked (Prev index 0) (here (part_of pass.old)).since (part_of pass.old) (part_of pass.new)) }
+    ensures counted { IsCounted pass.old pass.new steps.old steps.new }
     ensures steps { steps.new ≤ steps.old + 199 }
 {
     let place = find_slot(table, pass, leaf, index, steps);
@@ -222,6 +228,7 @@ fn prev_from<L: Ledger>(
     ensures goes { IfSome result (λ found. GoesOn (part_of pass.old) (part_of pass.new)) }
     ensures answer { IfSome result (Answers (part_of pass.new) (length (part_of pass.old).seen) (Prev index 0)) }
     ensures moved { IfNone result (LeftMarked (asked (part_of pass.old).shape.kind (Prev index 0)) (length (part_of pass.old).seen) (part_of pass.old) (part_of pass.new)) }
+    ensures counted { IsCounted pass.old pass.new steps.old steps.new }
     ensures steps { steps.new ≤ steps.old + 328 }
 {
     let end = top(table.width());
@@ -254,6 +261,7 @@ pub fn rfind<L: Ledger>(
     ensures moved { IfErr result (λ moved. WasMoved (tree_in (identity_of table.now)) (pass_in pass.old) moved.lo moved.begun (pass_in pass.new)) }
     ensures given_up { IfErr result (λ moved. HasRead moved.lo moved.begun (pass_in pass.old) (pass_in pass.new)) }
     ensures left { IfErr result (λ moved. WasLeftMarked (Rfind index 0) moved.lo moved.begun (part_of pass.old) (part_of pass.new)) }
+    ensures counted { IsCounted pass.old pass.new steps.old steps.new }
     ensures steps { steps.new ≤ steps.old + 360 }
 {
     let section = Section::begin(table, pass, steps);
@@ -288,6 +296,7 @@ pub fn prev<L: Ledger>(
     ensures moved { IfErr result (λ moved. WasMoved (tree_in (identity_of table.now)) (pass_in pass.old) moved.lo moved.begun (pass_in pass.new)) }
     ensures given_up { IfErr result (λ moved. HasRead moved.lo moved.begun (pass_in pass.old) (pass_in pass.new)) }
     ensures left { IfErr result (λ moved. WasLeftMarked (Prev index 0) moved.lo moved.begun (part_of pass.old) (part_of pass.new)) }
+    ensures counted { IsCounted pass.old pass.new steps.old steps.new }
     ensures steps { steps.new ≤ steps.old + 360 }
 {
     let section = Section::begin(table, pass, steps);

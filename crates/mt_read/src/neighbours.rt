@@ -5,7 +5,7 @@ ghost use Rattle.mt_base.specs.Width.{greatest_of};
 ghost use Rattle.mt_base.specs.declared.calls.Query.TheVariants.{Find, Next};
 ghost use Rattle.mt_base.specs.Passes.{Read};
 ghost use Rattle.mt_rule.specs.Sections.{here};
-ghost use Rattle.mt_rule.specs.Tokens.{identity_of, part_of, pass_in, tree_in, IsPassOf, Stepped};
+ghost use Rattle.mt_rule.specs.Tokens.{identity_of, part_of, pass_in, tree_in, IsPassOf, Stepped, IsCounted};
 ghost use Rattle.mt_read.specs.Answers.{Answers, AnswersBy};
 ghost use Rattle.mt_read.specs.Neighbours.{IsBehind, LeftMarked, MarkedBeside, WasLeftMarked, WasMoved, asked};
 ghost use Rattle.mt_read.specs.Walks.{GoesOn, IsOnLeaf};
@@ -48,6 +48,7 @@ fn first_beside<L: Ledger>(
     ensures goes { IfSome result (λ found. GoesOn (part_of pass.old) (part_of pass.new)) }
     ensures answer { IfSome result (AnswersBy (part_of pass.new) (here (part_of pass.old)) (length (part_of pass.old).seen) (Find (leaf.now.max + 1) (greatest_of (part_of pass.old).shape.kind))) }
     ensures moved { IfNone result (MarkedBeside IsBehind (here (part_of pass.old)) (part_of pass.old) (part_of pass.new)) }
+    ensures counted { IsCounted pass.old pass.new steps.old steps.new }
     ensures steps { steps.new ≤ steps.old + 164 }
 {
     let from = leaf.max + 1;
@@ -80,6 +81,7 @@ fn next_at_leaf<L: Ledger>(
     ensures goes { IfSome result (λ found. GoesOn (part_of pass.old) (part_of pass.new)) }
     ensures answer { IfSome result (Answers (part_of pass.new) (here (part_of pass.old)).since (Next index (greatest_of (part_of pass.old).shape.kind))) }
     ensures moved { IfNone result (LeftMarked (Next index (greatest_of (part_of pass.old).shape.kind)) (here (part_of pass.old)).since (part_of pass.old) (part_of pass.new)) }
+    ensures counted { IsCounted pass.old pass.new steps.old steps.new }
     ensures steps { steps.new ≤ steps.old + 195 }
 {
     let place = find_slot(table, pass, leaf, index, steps);
@@ -108,6 +110,7 @@ fn next_from<L: Ledger>(
     ensures goes { IfSome result (λ found. GoesOn (part_of pass.old) (part_of pass.new)) }
     ensures answer { IfSome result (Answers (part_of pass.new) (length (part_of pass.old).seen) (Next index (greatest_of (part_of pass.old).shape.kind))) }
     ensures moved { IfNone result (LeftMarked (asked (part_of pass.old).shape.kind (Next index (greatest_of (part_of pass.old).shape.kind))) (length (part_of pass.old).seen) (part_of pass.old) (part_of pass.new)) }
+    ensures counted { IsCounted pass.old pass.new steps.old steps.new }
     ensures steps { steps.new ≤ steps.old + 324 }
 {
     let to = sought(table, index);
@@ -137,6 +140,7 @@ pub fn next<L: Ledger>(
     ensures moved { IfErr result (λ moved. WasMoved (tree_in (identity_of table.now)) (pass_in pass.old) moved.lo moved.begun (pass_in pass.new)) }
     ensures given_up { IfErr result (λ moved. HasRead moved.lo moved.begun (pass_in pass.old) (pass_in pass.new)) }
     ensures left { IfErr result (λ moved. WasLeftMarked (Next index (greatest_of (part_of pass.old).shape.kind)) moved.lo moved.begun (part_of pass.old) (part_of pass.new)) }
+    ensures counted { IsCounted pass.old pass.new steps.old steps.new }
     ensures steps { steps.new ≤ steps.old + 360 }
 {
     let section = Section::begin(table, pass, steps);

@@ -4,7 +4,7 @@ ghost use Rattle.std.specs.Prelude.{◌≡◌, ℕ, ◌+◌, ◌≤◌, Option, 
 ghost use Rattle.mt_base.specs.declared.ranges.Range.{Range};
 ghost use Rattle.mt_base.specs.declared.calls.Query.TheVariants.{Load, Find};
 ghost use Rattle.mt_base.specs.Passes.{Read};
-ghost use Rattle.mt_rule.specs.Tokens.{identity_of, pass_in, tree_in, IsPassOf, Stepped};
+ghost use Rattle.mt_rule.specs.Tokens.{identity_of, pass_in, tree_in, IsPassOf, Stepped, IsCounted};
 ghost use Rattle.mt_read.specs.Windows.{HasRead};
 
 use crate::answers::Answer;
@@ -33,6 +33,7 @@ pub fn load_range<L: Ledger>(
     ensures stepped { Stepped (identity_of table.now) pass.old pass.new }
     ensures read { (k : ℕ) × Read (tree_in (identity_of table.now)) (pass_in pass.old) result.lo result.hi k (Load index) result.value (pass_in pass.new) }
     ensures section { HasRead result.lo result.hi (pass_in pass.old) (pass_in pass.new) }
+    ensures counted { IsCounted pass.old pass.new steps.old steps.new }
     ensures steps { steps.new ≤ steps.old + 170 }
 {
     let section = Section::begin(table, pass, steps);
@@ -53,6 +54,7 @@ pub fn load<L: Ledger>(
     ensures stepped { Stepped (identity_of table.now) pass.old pass.new }
     ensures read { (k : ℕ) × (range : Option Range) × Read (tree_in (identity_of table.now)) (pass_in pass.old) result.lo result.hi k (Load index) range (pass_in pass.new) × (result.value ≡ option_map (λ r. r.entry) range) }
     ensures section { HasRead result.lo result.hi (pass_in pass.old) (pass_in pass.new) }
+    ensures counted { IsCounted pass.old pass.new steps.old steps.new }
     ensures steps { steps.new ≤ steps.old + 170 }
 {
     let answer = load_range(table, pass, index, steps);
@@ -76,6 +78,7 @@ pub fn find<L: Ledger>(
     ensures stepped { Stepped (identity_of table.now) pass.old pass.new }
     ensures read { (k : ℕ) × Read (tree_in (identity_of table.now)) (pass_in pass.old) result.lo result.hi k (Find index max) result.value (pass_in pass.new) }
     ensures section { HasRead result.lo result.hi (pass_in pass.old) (pass_in pass.new) }
+    ensures counted { IsCounted pass.old pass.new steps.old steps.new }
     ensures steps { steps.new ≤ steps.old + 175 }
 {
     let section = Section::begin(table, pass, steps);

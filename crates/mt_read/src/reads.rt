@@ -5,7 +5,7 @@ ghost use Rattle.mt_base.specs.Width.{columns, greatest_of, kind_width};
 ghost use Rattle.mt_layout.specs.declared.names.RowKind.TheVariants.{Leaf};
 ghost use Rattle.mt_base.specs.declared.calls.Query.TheVariants.{Load, Find};
 ghost use Rattle.mt_rule.specs.Sections.{here};
-ghost use Rattle.mt_rule.specs.Tokens.{identity_of, part_of, IsPassOf, Stepped};
+ghost use Rattle.mt_rule.specs.Tokens.{identity_of, part_of, IsPassOf, Stepped, IsCounted};
 ghost use Rattle.mt_read.specs.Answers.{Answers, LeafAnswers};
 ghost use Rattle.mt_read.specs.Walks.{GoesOn, IsOnLeaf, IsPlaceIn, IsSameHold, SeesMore, WasRead, range_or_hole};
 
@@ -46,6 +46,7 @@ pub fn range_at<L: Ledger>(
     ensures leaf { IsOnLeaf (part_of pass.new) leaf.now }
     ensures same { IsSameHold (here (part_of pass.old)) (here (part_of pass.new)) }
     ensures read { WasRead (part_of pass.old) (part_of pass.new) place.now result }
+    ensures counted { IsCounted pass.old pass.new steps.old steps.new }
     ensures steps { steps.new ≡ steps.old + 1 }
 {
     let column = slots(leaf.width, RowKind::Leaf) + place.slot;
@@ -71,6 +72,7 @@ pub fn next_place<L: Ledger>(
     ensures slot { result.slot ≡ place.now.slot + 1 }
     ensures first { result.first ≡ place.now.last + 1 }
     ensures place { IsPlaceIn (part_of pass.new) result }
+    ensures counted { IsCounted pass.old pass.new steps.old steps.new }
     ensures steps { steps.new ≤ steps.old + 1 }
 {
     let slot = place.slot + 1;
@@ -107,6 +109,7 @@ pub fn first_at<L: Ledger>(
     ensures same { IsSameHold (here (part_of pass.old)) (here (part_of pass.new)) }
     ensures within { IfSome result (λ range. (leaf.now.min ≤ range.last) × (range.last ≤ leaf.now.max)) }
     ensures answer { LeafAnswers (part_of pass.new) (here (part_of pass.old)) (Find index (greatest_of (part_of pass.old).shape.kind)) result }
+    ensures counted { IsCounted pass.old pass.new steps.old steps.new }
     ensures steps { steps.new ≤ steps.old + 3 }
 {
     if let Some(range) = range_at(table, pass, leaf, place, steps) {
@@ -131,6 +134,7 @@ pub fn first_from<L: Ledger>(
     ensures stepped { Stepped (identity_of table.now) pass.old pass.new }
     ensures goes { GoesOn (part_of pass.old) (part_of pass.new) }
     ensures answer { Answers (part_of pass.new) (length (part_of pass.old).seen) (Find index (greatest_of (part_of pass.old).shape.kind)) result }
+    ensures counted { IsCounted pass.old pass.new steps.old steps.new }
     ensures steps { steps.new ≤ steps.old + 163 }
 {
     let to = sought(table, index);
@@ -166,6 +170,7 @@ fn range_by<const COLS: u32, L: Ledger>(
     ensures stepped { Stepped (identity_of table.now) pass.old pass.new }
     ensures goes { GoesOn (part_of pass.old) (part_of pass.new) }
     ensures answer { Answers (part_of pass.new) (length (part_of pass.old).seen) (Load index) result }
+    ensures counted { IsCounted pass.old pass.new steps.old steps.new }
     ensures steps { steps.new ≤ steps.old + 161 }
 {
     let width = width_with::<COLS>();
@@ -189,6 +194,7 @@ pub fn range_of<L: Ledger>(
     ensures stepped { Stepped (identity_of table.now) pass.old pass.new }
     ensures goes { GoesOn (part_of pass.old) (part_of pass.new) }
     ensures answer { Answers (part_of pass.new) (length (part_of pass.old).seen) (Load index) result }
+    ensures counted { IsCounted pass.old pass.new steps.old steps.new }
     ensures steps { steps.new ≤ steps.old + 161 }
 {
     match table.width() {

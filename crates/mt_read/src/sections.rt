@@ -2,7 +2,7 @@
 
 ghost use Rattle.std.specs.Prelude.{◌≡◌, ◌+◌};
 ghost use Rattle.mt_base.specs.Passes.{IsSound};
-ghost use Rattle.mt_rule.specs.Tokens.{identity_of, part_of, pass_in, tree_in, IsPassOf, Stepped};
+ghost use Rattle.mt_rule.specs.Tokens.{identity_of, part_of, pass_in, tree_in, IsPassOf, Stepped, IsCounted};
 ghost use Rattle.mt_read.specs.Windows.{Began, Ended};
 
 use mt_base::Steps;
@@ -17,7 +17,7 @@ pub struct Section {
 impl Section {
     ghost use Rattle.std.specs.Prelude.{◌≡◌, ◌+◌};
     ghost use Rattle.mt_base.specs.Passes.{IsSound};
-    ghost use Rattle.mt_rule.specs.Tokens.{identity_of, part_of, pass_in, tree_in, IsPassOf, Stepped};
+    ghost use Rattle.mt_rule.specs.Tokens.{identity_of, part_of, pass_in, tree_in, IsPassOf, Stepped, IsCounted};
     ghost use Rattle.mt_read.specs.Windows.{Began, Ended};
 
     /// Opens a section of the pass, at the number of calls that have ended. One that the pass had open is closed by that.
@@ -25,6 +25,7 @@ impl Section {
         requires pass { IsPassOf (identity_of table.now) pass.old }
         ensures stepped { Stepped (identity_of table.now) pass.old pass.new }
         ensures began { Began result.epoch (part_of pass.old) (part_of pass.new) }
+        ensures counted { IsCounted pass.old pass.new steps.old steps.new }
         ensures steps { steps.new ≡ steps.old + 2 }
     {
         let epoch = table.load_commits(pass, steps);
@@ -45,6 +46,7 @@ impl Section {
         ensures stepped { Stepped (identity_of table.now) pass.old pass.new }
         ensures ended { Ended result (part_of pass.old) (part_of pass.new) }
         ensures sound { IsSound (tree_in (identity_of table.now)) (pass_in pass.new) }
+        ensures counted { IsCounted pass.old pass.new steps.old steps.new }
         ensures steps { steps.new ≡ steps.old + 2 }
     {
         let Section { epoch: _ } = self;

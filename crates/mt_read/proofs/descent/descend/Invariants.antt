@@ -1,6 +1,6 @@
 use Rattle.std.proofs.Common.{◌≡◌, ◌+◌, ◌≤◌}
 use Rattle.mt_rule.specs.Sections.{here}
-use Rattle.mt_rule.specs.Tokens.{identity_of, part_of, Stepped}
+use Rattle.mt_rule.specs.Tokens.{identity_of, part_of, IsCounted, Stepped}
 use Rattle.mt_read.specs.Walks.{IsOn, GoesOn, steps_down}
 use Rattle.mt_read.proofs.descent.descend.Given as goal
 
@@ -12,6 +12,7 @@ invariant-loop-pass g l = record {
   since : (here (part_of l.pass)).since ≡ (here (part_of l.fn.pass)).since;
   from : l.row.min ≤ l.index;
   to : l.index ≤ l.row.max;
+  counted : IsCounted l.fn.pass l.pass l.fn.steps l.steps;
   steps : l.steps + steps_down (part_of l.pass) ≤ l.fn.steps + steps_down (part_of l.fn.pass);
 }
 

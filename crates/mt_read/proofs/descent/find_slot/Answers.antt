@@ -28,6 +28,7 @@ loop-slot-preserved g c =
       on = on_more _ _ _ c.load_pivot-pivot.ensures.told.reads c.loop-slot.invariant.on;
       passed = one_passed q c.args.index c.loop-slot.slot c.loop-slot.first c.load_pivot-pivot.result (omega arith) is c.if-index-pivot.false (omega arith) c.loop-slot.invariant.passed;
       from = omega arith;
+      counted = omega arith;
       steps = omega arith;
     }
 

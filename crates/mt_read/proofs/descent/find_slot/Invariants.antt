@@ -1,5 +1,5 @@
 use Rattle.std.proofs.Common.{◌+◌, ◌≤◌}
-use Rattle.mt_rule.specs.Tokens.{identity_of, part_of, Stepped}
+use Rattle.mt_rule.specs.Tokens.{identity_of, part_of, IsCounted, Stepped}
 use Rattle.mt_read.specs.Walks.{IsOn, SeesMore}
 use Rattle.mt_read.proofs.Finding.{PassedBy}
 use Rattle.mt_read.proofs.descent.find_slot.Given as goal
@@ -11,5 +11,6 @@ invariant-loop-slot g l = record {
   on : IsOn (part_of l.pass) l.row;
   passed : PassedBy (part_of l.fn.pass) l.index l.slot l.first;
   from : l.first ≤ l.index;
+  counted : IsCounted l.fn.pass l.pass l.fn.steps l.steps;
   steps : l.steps ≤ l.fn.steps + l.slot;
 }
