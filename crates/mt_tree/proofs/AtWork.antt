@@ -17,12 +17,12 @@ use Rattle.mt_rule.specs.declared.views.Shape.{Shape}
 use Rattle.mt_rule.specs.declared.views.TurnView.{TurnView}
 use Rattle.mt_rule.specs.Limits.{most_calls}
 use Rattle.mt_rule.specs.Seats.{record_of, records_of}
-use Rattle.mt_rule.specs.Tokens.{Identity, pass_in, WasShown}
+use Rattle.mt_rule.specs.Tokens.{Identity, pass_in, turn_seat, WasShown}
 use Rattle.mt_tree.specs.declared.behind.Tools.{Tools}
 use Rattle.mt_tree.specs.declared.trees.Tree.{Tree}
 use Rattle.mt_tree.specs.Behind.{Behind, behind_of, parts_of, IsAtRest, IsKept}
-use Rattle.mt_tree.specs.Trees.{limit_of, opened, passes_of, place_of}
-use Rattle.mt_tree.specs.Works.{records_told, shown_pass, IsWorker}
+use Rattle.mt_tree.specs.Trees.{limit_of, opened, passes_of, place_of, IsPassOf}
+use Rattle.mt_tree.specs.Works.{records_told, shown_pass, IsSeatOf, IsWorker}
 use Rattle.mt_tree.proofs.Reading.{map_is}
 
 -- the tree's table is i, this lies behind its lock, and the rows with which a call of the pass begins are e
@@ -37,6 +37,10 @@ pub record AtWork (t : Tree) (i : Identity) (b : Behind) (p : known.Pass) (e : P
   pub book : e.book ≡ b.parts.book
   pub sheet : e.sheet ≡ sheet_told i b.pen (shown_pass b.pen p)
   pub shown : WasShown (opened t) b.pen p (shown_pass b.pen p)
+
+-- the seat of the pass that works
+pub seat_of : (t : Tree) (p : Pass) (turn : Badge TurnView) → turn ≡ turn_seat p → IsPassOf t p → IsSeatOf t turn
+seat_of t p turn is of = subst (IsSeatOf t) (sym is) (record { table = of.seated.table; views = of.seated.views })
 
 pub at_rest : (tools : Option Tools) → IsAtRest tools → (height : ℕ) × IsKept (behind_of tools).pen (behind_of tools).parts height
 at_rest None rest = absurd rest

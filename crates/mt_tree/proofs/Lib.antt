@@ -3,6 +3,7 @@ pub mod Answering
 pub mod AtWork
 pub mod Calling
 pub mod Copying
+mod Counting
 pub mod Ending
 pub mod Forms
 pub mod Lending
@@ -13,3 +14,4 @@ pub mod Opening
 pub mod Reading
 pub mod Settling
 pub mod Showing
+mod Trying

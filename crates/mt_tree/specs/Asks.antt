@@ -1,7 +1,9 @@
 -- Reads without the lock: which queries look for a neighbour of an index, and may be given up where its leaf is found marked as
 -- dead; and what a step of a cursor makes of its pass.
 -- Source: the kernel's core-api/maple_tree, mt_next, mt_prev, mas_find_rev and mas_find.
-use Rattle.std.specs.Prelude.{◌≡◌}
+use Rattle.std.specs.Prelude.{◌≡◌, ℕ}
+use Rattle.mt_base.specs.declared.kinds.Kind.{Kind}
+use Rattle.mt_base.specs.Width.{greatest_of}
 use Rattle.mt_base.specs.declared.calls.Query.{Query}
 use Rattle.mt_base.specs.declared.calls.Query.TheVariants.{Load, Find, Next, Prev, Rfind}
 use Rattle.mt_tree.specs.declared.cursors.Cursor.{Cursor}
@@ -14,6 +16,22 @@ IsForNeighbour (Find index max) = ⊥
 IsForNeighbour (Next index max) = Unit {0}
 IsForNeighbour (Prev index min) = Unit {0}
 IsForNeighbour (Rfind index min) = Unit {0}
+
+-- the query as a leaf is asked it, without a bound
+abbrev pub unbounded : Kind → Query → Query
+unbounded kind (Load index) = Load index
+unbounded kind (Find index max) = Find index max
+unbounded kind (Next index max) = Next index (greatest_of kind)
+unbounded kind (Prev index min) = Prev index 0
+unbounded kind (Rfind index min) = Rfind index 0
+
+-- it is answered in so many steps at the most
+abbrev pub most_made : Query → ℕ
+most_made (Load index) = 170
+most_made (Find index max) = 175
+most_made (Next index max) = 360
+most_made (Prev index min) = 360
+most_made (Rfind index min) = 360
 
 -- no section of the cursor's pass stands open but its own
 abbrev pub OwnsSection : Cursor → Type 0

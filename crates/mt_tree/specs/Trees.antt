@@ -1,6 +1,6 @@
 -- A tree that threads share, its passes, and what its calls say of the words that lie behind its lock.
 -- Source: this project's own; the kernel's struct maple_tree and its spinlock.
-use Rattle.std.specs.Prelude.{◌≡◌, ◌≢◌, ◌⊎◌, ℕ, ◌-◌, ◌^◌, ◌≤◌, ◌<◌, Option, Some, None, IfSome, List, [], ◌∷◌, All, length, map, slice_get, take}
+use Rattle.std.specs.Prelude.{◌≡◌, ◌≢◌, ◌⊎◌, ℕ, ◌+◌, ◌-◌, ◌^◌, ◌≤◌, ◌<◌, Option, Some, None, IfSome, List, [], ◌∷◌, All, length, map, slice_get, take}
 use Rattle.std.specs.List.{range_with_len}
 use Rattle.atomic_table.specs.declared.shared.Seat.{Seat}
 use Rattle.mt_base.specs.declared.calls.Call.{Call}
@@ -24,9 +24,9 @@ use Rattle.mt_rule.specs.declared.views.TurnView.{TurnView}
 use Rattle.mt_rule.specs.Scans.{IsScanOf}
 use Rattle.mt_rule.specs.Seats.{records_of}
 use Rattle.mt_rule.specs.Tokens as rule
-use Rattle.mt_rule.specs.Tokens.{Identity, identity_of, tree_in}
-pub use Rattle.mt_rule.specs.Tokens.{pass_in}
-use Rattle.mt_rule.specs.Turns.{IsSeatedAt, IsTakenOf}
+use Rattle.mt_rule.specs.Tokens.{Identity, identity_of, tree_in, turn_seat}
+pub use Rattle.mt_rule.specs.Tokens.{pass_in, steps_made}
+use Rattle.mt_rule.specs.Turns.{IsSeatedAt, IsTakenOf, tried}
 use Rattle.mt_tree.specs.declared.shapes.Done.{Done}
 use Rattle.mt_tree.specs.declared.shapes.Shape.{Shape}
 use Rattle.mt_tree.specs.declared.shapes.Worn.{Worn}
@@ -54,6 +54,23 @@ pub record IsPassOf (t : Tree) (p : Pass) : Type 0 where
 
 abbrev pub IsNoteOf : Tree → Note → Type 0
 IsNoteOf t n = rule.IsNoteOf (place_of t) n
+
+-- ---- steps without the lock, and tries
+
+-- The pass has made so many steps without the lock at the most, and has not gone for the lock.
+pub record Takes (most : ℕ) (p q : Pass) : Type 0 where
+  pub steps : steps_made q ≤ steps_made p + most
+  pub turn : turn_seat q ≡ turn_seat p
+
+-- The pass has made no step without the lock, and has not gone for the lock.
+pub record Rests (p q : Pass) : Type 0 where
+  pub steps : steps_made q ≡ steps_made p
+  pub turn : turn_seat q ≡ turn_seat p
+
+-- The pass has gone for the lock once, by a try or by waiting, and has made no step without it.
+pub record TriesOnce (p q : Pass) : Type 0 where
+  pub steps : steps_made q ≡ steps_made p
+  pub turn : turn_seat q ≡ turn_seat (tried p)
 
 -- These are all passes of the tree, in the order of their numbers.
 pub record AreAll (t : Tree) (ps : List Pass) : Type 0 where

@@ -1,11 +1,12 @@
 -- A call that is tried under a lock of its own, and what it makes of the pass where the lock was free.
 -- Source: this project's own; the kernel's spin_trylock.
-use Rattle.std.specs.Prelude.{◌≤◌, IfOk, IfErr, Result}
+use Rattle.std.specs.Prelude.{◌≤◌, List, [], ◌∷◌, IfOk, IfErr, Result}
 use Rattle.mt_base.specs.declared.calls.Call.{Call}
 use Rattle.mt_base.specs.Passes as known
 use Rattle.mt_base.specs.Passes.{Wrote}
 use Rattle.mt_rule.specs.declared.busy.Busy.{Busy}
-use Rattle.mt_rule.specs.Turns.{IsBusyAt}
+use Rattle.mt_rule.specs.declared.passes.Pass.{Pass}
+use Rattle.mt_rule.specs.Turns.{IsBusyAt, tried}
 use Rattle.mt_tree.specs.declared.shapes.Done.{Done}
 use Rattle.mt_tree.specs.declared.shapes.Worn.{Worn}
 use Rattle.mt_tree.specs.declared.trees.Tree.{Tree}
@@ -14,6 +15,11 @@ use Rattle.mt_tree.specs.Trees.{opened, limit_of, IsWorn, NamesPass, WasAnswered
 -- it tells that the lock of this tree was found taken
 abbrev pub IsBusyOf : Tree → Busy → Type 0
 IsBusyOf t busy = IsBusyAt t.turn.table.shared.table_id t.turn.table.shared.key busy
+
+-- the first of these passes has gone for the lock, once
+abbrev pub first_tried : List Pass → List Pass
+first_tried [] = []
+first_tried (p ∷ ps) = tried p ∷ ps
 
 -- The pass made the call under a lock of its own, as one that waits for it; or it has seen all the calls that the tree may have.
 pub record WasMade (t : Tree) (p : known.Pass) (call : Call) (made : Result Done Worn) (q : known.Pass) : Type 0 where

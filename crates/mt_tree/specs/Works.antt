@@ -14,7 +14,7 @@ use Rattle.mt_rule.specs.declared.views.TurnView.{TurnView}
 use Rattle.mt_rule.specs.Scans.{IsScanOf}
 use Rattle.mt_rule.specs.Seats.{records_of}
 use Rattle.mt_rule.specs.Tokens.{Identity, pass_in, turn_seat}
-use Rattle.mt_rule.specs.Turns.{waiting}
+use Rattle.mt_rule.specs.Turns.{seated, tries_in}
 use Rattle.mt_tree.specs.declared.behind.Tools.{Tools}
 use Rattle.mt_tree.specs.declared.trees.Tree.{Tree}
 use Rattle.mt_tree.specs.Behind.{behind_of, IsAtRest}
@@ -31,7 +31,7 @@ pub record IsWorker (t : Tree) (tools : Option Tools) (p : Pass) (table : Identi
 -- a seat at the tree's turn
 pub record IsSeatOf (t : Tree) (turn : Badge TurnView) : Type 0 where
   pub table : turn.table_id ≡ t.turn.table.shared.table_id
-  pub views : turn.views ≡ waiting t.turn.table.shared.key ∷ []
+  pub views : turn.views ≡ seated t.turn.table.shared.key (tries_in turn.views) ∷ []
 
 -- what a pass knows that has been shown the whole history of the pen
 abbrev pub shown_pass : PenPart → known.Pass → known.Pass

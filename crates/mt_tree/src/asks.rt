@@ -1,13 +1,13 @@
 //! Reads without the lock whose steps nobody counts: they ask for no `Steps`.
 
-ghost use Rattle.std.specs.Prelude.{◌≡◌, ℕ, ◌<◌, Some, None, IfOk, IfErr};
+ghost use Rattle.std.specs.Prelude.{◌≡◌, ◌⊎◌, ℕ, ◌+◌, ◌<◌, ◌≤◌, Some, None, IfOk, IfErr, IfSome};
 ghost use Rattle.mt_base.specs.Passes as known;
-ghost use Rattle.mt_read.specs.Cursors.{HasStepped, epoch_or, place_behind, query_at};
-ghost use Rattle.mt_read.specs.Neighbours.{WasMoved};
+ghost use Rattle.mt_read.specs.Cursors.{HasStepped, IsOver, IsOverPlace, LeafWasMarked, MarksKeptLeaf, epoch_or, place_behind, query_at};
+ghost use Rattle.mt_read.specs.Neighbours.{WasLeftMarked, WasMoved};
 ghost use Rattle.mt_read.specs.Windows.{HasRead};
-ghost use Rattle.mt_rule.specs.Tokens.{pass_in};
-ghost use Rattle.mt_tree.specs.Asks.{IsForNeighbour};
-ghost use Rattle.mt_tree.specs.Trees.{opened, IsPassOf};
+ghost use Rattle.mt_rule.specs.Tokens.{part_of, pass_in};
+ghost use Rattle.mt_tree.specs.Asks.{IsForNeighbour, most_made, unbounded};
+ghost use Rattle.mt_tree.specs.Trees.{opened, IsPassOf, Takes, steps_made};
 
 use crate::cursors::Cursor;
 use crate::shapes::Read;
@@ -35,6 +35,8 @@ fn seek<L: Ledger>(
     ensures moved { IfErr result (λ m. WasMoved (opened tree.now) (pass_in pass.old) m.lo m.begun (pass_in pass.new)) }
     ensures given_up { IfErr result (λ m. HasRead m.lo m.begun (pass_in pass.old) (pass_in pass.new)) }
     ensures neighbour { IfErr result (λ _. IsForNeighbour query.now) }
+    ensures left { IfErr result (λ m. WasLeftMarked (unbounded (part_of pass.old).shape.kind query.now) m.lo m.begun (part_of pass.old) (part_of pass.new)) }
+    ensures takes { Takes (most_made query.now) pass.old pass.new }
 {
     let mut steps = Steps::<L>::new(blank);
     match query {
@@ -61,6 +63,8 @@ impl Tree {
         ensures moved { IfErr result (λ m. WasMoved (opened self.now) (pass_in pass.old) m.lo m.begun (pass_in pass.new)) }
         ensures given_up { IfErr result (λ m. HasRead m.lo m.begun (pass_in pass.old) (pass_in pass.new)) }
         ensures neighbour { IfErr result (λ _. IsForNeighbour query.now) }
+        ensures left { IfErr result (λ m. WasLeftMarked (unbounded (part_of pass.old).shape.kind query.now) m.lo m.begun (part_of pass.old) (part_of pass.new)) }
+        ensures takes { Takes (most_made query.now) pass.old pass.new }
     {
         seek::<Brand>(self, pass, query, Blank::new(1))
     }
@@ -79,6 +83,11 @@ fn step<L: Ledger>(cursor: &mut Cursor<'_>, blank: Blank) -> Read<Option<Range>>
     ensures at { cursor.new.walk.at ≡ place_behind result.value cursor.old.walk.max }
     ensures max { cursor.new.walk.max ≡ cursor.old.walk.max }
     ensures epoch { cursor.new.walk.epoch ≡ Some (epoch_or cursor.old.walk.epoch result.lo) }
+    ensures leaf { IfSome result.value (λ range. IsOver cursor.new.walk.leaf range.last) }
+    ensures lo { (cursor.new.walk.leaf ≡ cursor.old.walk.leaf) ⊎ IfSome cursor.new.walk.leaf (λ kept. kept.lo ≡ result.lo) }
+    ensures marks { MarksKeptLeaf cursor.old.walk.leaf cursor.old.walk.at result.hi (part_of cursor.old.pass.now) (part_of cursor.new.pass.now) }
+    ensures short { IsOverPlace cursor.old.walk.leaf cursor.old.walk.at → (steps_made cursor.new.pass.now ≤ steps_made cursor.old.pass.now + 40) ⊎ LeafWasMarked cursor.old.walk.leaf cursor.old.walk.at result.hi (part_of cursor.old.pass.now) (part_of cursor.new.pass.now) }
+    ensures takes { Takes 220 cursor.old.pass.now cursor.new.pass.now }
 {
     let mut steps = Steps::<L>::new(blank);
     cursor.step(&mut steps)
@@ -94,17 +103,18 @@ fn pause<L: Ledger>(cursor: &mut Cursor<'_>, blank: Blank)
     ensures of { IsPassOf cursor.old.tree.now cursor.new.pass.now }
     ensures closed { pass_in cursor.new.pass.now ≡ record (pass_in cursor.old.pass.now) { standing = None } }
     ensures same { cursor.new.walk ≡ record cursor.old.walk { leaf = None; epoch = None } }
+    ensures takes { Takes 1 cursor.old.pass.now cursor.new.pass.now }
 {
     let mut steps = Steps::<L>::new(blank);
     cursor.pause(&mut steps);
 }
 
 impl<'a> Cursor<'a> {
-    ghost use Rattle.std.specs.Prelude.{◌≡◌, ℕ, Some, None};
+    ghost use Rattle.std.specs.Prelude.{◌≡◌, ◌⊎◌, ℕ, ◌+◌, ◌≤◌, Some, None, IfSome};
     ghost use Rattle.mt_base.specs.Passes as known;
-    ghost use Rattle.mt_read.specs.Cursors.{HasStepped, epoch_or, place_behind, query_at};
-    ghost use Rattle.mt_rule.specs.Tokens.{pass_in};
-    ghost use Rattle.mt_tree.specs.Trees.{opened, IsPassOf};
+    ghost use Rattle.mt_read.specs.Cursors.{HasStepped, IsOver, IsOverPlace, LeafWasMarked, MarksKeptLeaf, epoch_or, place_behind, query_at};
+    ghost use Rattle.mt_rule.specs.Tokens.{part_of, pass_in};
+    ghost use Rattle.mt_tree.specs.Trees.{opened, IsPassOf, Takes, steps_made};
 
     /// Goes on to the next range, as `step` does.
     pub fn advance(&mut self) -> Read<Option<Range>>
@@ -116,6 +126,11 @@ impl<'a> Cursor<'a> {
         ensures at { self.new.walk.at ≡ place_behind result.value self.old.walk.max }
         ensures max { self.new.walk.max ≡ self.old.walk.max }
         ensures epoch { self.new.walk.epoch ≡ Some (epoch_or self.old.walk.epoch result.lo) }
+        ensures leaf { IfSome result.value (λ range. IsOver self.new.walk.leaf range.last) }
+        ensures lo { (self.new.walk.leaf ≡ self.old.walk.leaf) ⊎ IfSome self.new.walk.leaf (λ kept. kept.lo ≡ result.lo) }
+        ensures marks { MarksKeptLeaf self.old.walk.leaf self.old.walk.at result.hi (part_of self.old.pass.now) (part_of self.new.pass.now) }
+        ensures short { IsOverPlace self.old.walk.leaf self.old.walk.at → (steps_made self.new.pass.now ≤ steps_made self.old.pass.now + 40) ⊎ LeafWasMarked self.old.walk.leaf self.old.walk.at result.hi (part_of self.old.pass.now) (part_of self.new.pass.now) }
+        ensures takes { Takes 220 self.old.pass.now self.new.pass.now }
     {
         step::<Brand>(self, Blank::new(1))
     }
@@ -127,6 +142,7 @@ impl<'a> Cursor<'a> {
         ensures of { IsPassOf self.old.tree.now self.new.pass.now }
         ensures closed { pass_in self.new.pass.now ≡ record (pass_in self.old.pass.now) { standing = None } }
         ensures same { self.new.walk ≡ record self.old.walk { leaf = None; epoch = None } }
+        ensures takes { Takes 1 self.old.pass.now self.new.pass.now }
     {
         pause::<Brand>(self, Blank::new(1));
     }
@@ -136,6 +152,7 @@ impl<'a> Cursor<'a> {
         ensures same_reference { result.ghost_name ≡ self.entry.pass.ghost_name }
         ensures of { IsPassOf self.entry.tree.now result.now }
         ensures closed { pass_in result.now ≡ record (pass_in self.entry.pass.now) { standing = None } }
+        ensures takes { Takes 1 self.entry.pass.now result.now }
     {
         let mut cursor = self;
         cursor.halt();

@@ -9,7 +9,7 @@ ghost use Rattle.mt_engine.specs.Engine.{is_refusal};
 ghost use Rattle.mt_rule.specs.Seats.{records_of};
 ghost use Rattle.mt_rule.specs.Tokens.{pass_in, WasShown};
 ghost use Rattle.mt_tree.specs.Behind.{after_show, IsReady, IsRead, IsStored};
-ghost use Rattle.mt_tree.specs.Trees.{opened, limit_of, map_seen, passes_of, place_of, IsPassOf, IsShortNow, IsWorn, NamesPass, WasAnsweredBy, WasPrepared};
+ghost use Rattle.mt_tree.specs.Trees.{opened, limit_of, map_seen, passes_of, place_of, IsPassOf, IsShortNow, IsWorn, NamesPass, Rests, WasAnsweredBy, WasPrepared};
 
 use crate::shapes::{Done, Read, Worn};
 use crate::trees::Tree;
@@ -60,6 +60,7 @@ impl WriterState {
         ensures shown { WasShown (opened tree.now) self.old.pen (pass_in pass.old) (pass_in pass.new) }
         ensures count { result ≡ length self.old.pen.history }
         ensures shape { self.old.pen.shape ≡ (place_of tree.now).shape }
+        ensures rests { Rests pass.old pass.new }
     {
         let Some(
             Tools {
@@ -95,6 +96,7 @@ impl WriterState {
         requires pass { IsPassOf tree.now pass.old }
         ensures table { self.new.table ≡ place_of tree.now }
         ensures of { IsPassOf tree.now pass.new }
+        ensures rests { Rests pass.old pass.new }
         ensures seen { (pass_in pass.new).seen ≡ records_of self.new.pen.history }
         ensures done { IfOk result (λ d. Wrote (opened tree.now) (pass_in pass.old) d.call call.now d.reply (pass_in pass.new) × (d.call ≤ limit_of tree.now)) }
         ensures number { IfOk result (λ d. d.call ≡ length self.old.pen.history + 1) }
@@ -130,6 +132,7 @@ impl WriterState {
         requires ready { IsReady self.old.parts }
         ensures table { self.new.table ≡ place_of tree.now }
         ensures of { IsPassOf tree.now pass.new }
+        ensures rests { Rests pass.old pass.new }
         ensures seen { (pass_in pass.new).seen ≡ records_of self.new.pen.history }
         ensures done { IfOk result (λ d. Wrote (opened tree.now) (pass_in pass.old) d.call (StorePre first last entry) d.reply (pass_in pass.new) × (d.call ≤ limit_of tree.now)) }
         ensures named { IfOk result (λ d. NamesPass tree.now d.reply) }
@@ -159,6 +162,7 @@ impl WriterState {
         requires pass { IsPassOf tree.now pass.old }
         ensures state { IsRead self.old self.new }
         ensures of { IsPassOf tree.now pass.new }
+        ensures rests { Rests pass.old pass.new }
         ensures seen { (pass_in pass.new).seen ≡ records_of self.new.pen.history }
         ensures saw { known.Saw (opened tree.now) (pass_in pass.old) (pass_in pass.new) }
         ensures window { (result.lo ≡ length (pass_in pass.new).seen) × (result.hi ≡ result.lo) }
@@ -178,6 +182,7 @@ impl WriterState {
         requires pass { IsPassOf tree.now pass.old }
         ensures prepared { WasPrepared tree.now self.old self.new }
         ensures of { IsPassOf tree.now pass.new }
+        ensures rests { Rests pass.old pass.new }
         ensures seen { (pass_in pass.new).seen ≡ records_of self.new.pen.history }
         ensures saw { known.Saw (opened tree.now) (pass_in pass.old) (pass_in pass.new) }
         ensures ready { IsOk result ↔ IsReady self.new.parts }
@@ -197,6 +202,7 @@ impl WriterState {
         requires pass { IsPassOf tree.now pass.old }
         ensures state { IsRead self.old self.new }
         ensures of { IsPassOf tree.now pass.new }
+        ensures rests { Rests pass.old pass.new }
         ensures seen { (pass_in pass.new).seen ≡ records_of self.new.pen.history }
         ensures saw { known.Saw (opened tree.now) (pass_in pass.old) (pass_in pass.new) }
         ensures items { IfOk result (λ ranges. ranges.items ≡ map_seen tree.now (pass_in pass.new)) }

@@ -19,7 +19,7 @@ ghost use Rattle.mt_tree.specs.declared.shapes.Field.{Field};
 ghost use Rattle.mt_tree.specs.Behind.{behind_of, IsAtRest, IsRead};
 ghost use Rattle.mt_tree.specs.Copies.{live_rows, AreWordsOf, IsCopyCounted, IsForRoom, IsFormOf, IsLiveCounted, IsReadyToOpen, IsRefusal, IsRowCount};
 ghost use Rattle.mt_tree.specs.Shapes.{first_bad};
-ghost use Rattle.mt_tree.specs.Trees.{opened, map_seen, place_of, IsPassOf, IsNew};
+ghost use Rattle.mt_tree.specs.Trees.{opened, map_seen, place_of, IsPassOf, IsNew, Rests, TriesOnce, steps_made};
 ghost use Rattle.mt_tree.specs.Works.{IsWorker};
 
 use crate::behind::{Tools, WriterState};
@@ -77,10 +77,12 @@ fn check_at_work<W: Writer, K: OfWidth>(
     pass: &mut Pass,
 ) -> Form
     requires worker { IsWorker tree.now tools.old pass.old W.table W.turn }
+    requires counted { W.steps ≡ steps_made pass.old }
     requires wide { K.wide ≡ kind_width W.table.shape.kind }
     ensures rest { IsAtRest tools.new }
     ensures read { IsRead (behind_of tools.old) (behind_of tools.new) }
     ensures of { IsPassOf tree.now pass.new }
+    ensures rests { Rests pass.old pass.new }
     ensures saw { Saw (opened tree.now) (pass_in pass.old) (pass_in pass.new) }
     ensures words { AreWordsOf (opened tree.now).kind (opened tree.now).rows (map_seen tree.now (pass_in pass.new)) (behind_of tools.old).parts.sheet.tree }
     ensures form { result ≡ form_of (tree_as (opened tree.now).kind (behind_of tools.old).parts.sheet.tree) }
@@ -103,12 +105,14 @@ fn copy_at_work<W: Writer, K: OfWidth>(
     own: &mut RowBook,
 ) -> u64
     requires worker { IsWorker tree.now tools.old pass.old W.table W.turn }
+    requires counted { W.steps ≡ steps_made pass.old }
     requires wide { K.wide ≡ kind_width W.table.shape.kind }
     requires rows { sheet_in dst.old ≡ new_sheet (kind_width (opened tree.now).kind) own.old.rows }
     requires book { own.old ≡ new_book own.old.rows }
     ensures rest { IsAtRest tools.new }
     ensures read { IsRead (behind_of tools.old) (behind_of tools.new) }
     ensures of { IsPassOf tree.now pass.new }
+    ensures rests { Rests pass.old pass.new }
     ensures saw { Saw (opened tree.now) (pass_in pass.old) (pass_in pass.new) }
     ensures words { AreWordsOf (opened tree.now).kind (opened tree.now).rows (map_seen tree.now (pass_in pass.new)) (behind_of tools.old).parts.sheet.tree }
     ensures live { result ≡ live_rows (behind_of tools.old).parts.sheet.tree }
@@ -206,6 +210,7 @@ impl WriterState {
         requires pass { IsPassOf tree.now pass.old }
         ensures state { IsRead self.old self.new }
         ensures of { IsPassOf tree.now pass.new }
+        ensures rests { Rests pass.old pass.new }
         ensures saw { Saw (opened tree.now) (pass_in pass.old) (pass_in pass.new) }
         ensures words { AreWordsOf (opened tree.now).kind (opened tree.now).rows (map_seen tree.now (pass_in pass.new)) self.old.parts.sheet.tree }
         ensures form { result ≡ form_of (tree_as (opened tree.now).kind self.old.parts.sheet.tree) }
@@ -221,6 +226,7 @@ impl WriterState {
         requires book { own.old ≡ new_book own.old.rows }
         ensures state { IsRead self.old self.new }
         ensures of { IsPassOf tree.now pass.new }
+        ensures rests { Rests pass.old pass.new }
         ensures saw { Saw (opened tree.now) (pass_in pass.old) (pass_in pass.new) }
         ensures words { AreWordsOf (opened tree.now).kind (opened tree.now).rows (map_seen tree.now (pass_in pass.new)) self.old.parts.sheet.tree }
         ensures live { result ≡ live_rows self.old.parts.sheet.tree }
@@ -237,10 +243,11 @@ impl Tree {
     pub fn check(&self, rt: &impl Wait, pass: &mut Pass) -> Form
         requires { IsPassOf self.now pass.old }
         ensures of { IsPassOf self.now pass.new }
+        ensures tries { TriesOnce pass.old pass.new }
         ensures saw { Saw (opened self.now) (pass_in pass.old) (pass_in pass.new) }
         ensures form { IsFormOf (opened self.now).kind (opened self.now).rows (map_seen self.now (pass_in pass.new)) result }
     {
-        let mut taken = self.turn.take(rt, pass);
+        let mut taken = self.take(rt, pass);
         let form = taken.value.check(self, pass);
         self.turn.give(taken);
         form
@@ -258,11 +265,12 @@ impl Tree {
         requires rows { sheet_in dst.old ≡ new_sheet (kind_width (opened self.now).kind) book.old.rows }
         requires book { book.old ≡ new_book book.old.rows }
         ensures of { IsPassOf self.now pass.new }
+        ensures tries { TriesOnce pass.old pass.new }
         ensures saw { Saw (opened self.now) (pass_in pass.old) (pass_in pass.new) }
         ensures live { IsRowCount (opened self.now).kind (opened self.now).rows (map_seen self.now (pass_in pass.new)) result }
         ensures copy { result ≤ book.old.rows → IsReadyToOpen (opened self.now).kind book.old.rows (map_seen self.now (pass_in pass.new)) (sheet_in dst.new) book.new }
     {
-        let mut taken = self.turn.take(rt, pass);
+        let mut taken = self.take(rt, pass);
         let live = taken.value.copy(self, pass, dst, book);
         self.turn.give(taken);
         live

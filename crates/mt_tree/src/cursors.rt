@@ -52,8 +52,8 @@ impl<'a> Cursor<'a> {
     ghost use Rattle.std.specs.Prelude.{◌≡◌, ◌⊎◌, ℕ, ◌+◌, ◌≤◌, Some, None, IfSome};
     ghost use Rattle.mt_base.specs.Passes as known;
     ghost use Rattle.mt_read.specs.Cursors.{HasStepped, IsOver, IsOverPlace, LeafWasMarked, MarksKeptLeaf, epoch_or, place_behind, query_at};
-    ghost use Rattle.mt_rule.specs.Tokens.{part_of, pass_in};
-    ghost use Rattle.mt_tree.specs.Trees.{opened, IsPassOf};
+    ghost use Rattle.mt_rule.specs.Tokens.{part_of, pass_in, IsCounted};
+    ghost use Rattle.mt_tree.specs.Trees.{opened, IsPassOf, Takes};
 
     /// Where the next step looks from. There is no place once the walk has ended.
     pub fn at(&self) -> Option<u64>
@@ -77,6 +77,8 @@ impl<'a> Cursor<'a> {
         ensures lo { (self.new.walk.leaf ≡ self.old.walk.leaf) ⊎ IfSome self.new.walk.leaf (λ kept. kept.lo ≡ result.lo) }
         ensures marks { MarksKeptLeaf self.old.walk.leaf self.old.walk.at result.hi (part_of self.old.pass.now) (part_of self.new.pass.now) }
         ensures short { IsOverPlace self.old.walk.leaf self.old.walk.at → (steps.new ≤ steps.old + 40) ⊎ LeafWasMarked self.old.walk.leaf self.old.walk.at result.hi (part_of self.old.pass.now) (part_of self.new.pass.now) }
+        ensures counted { IsCounted self.old.pass.now self.new.pass.now steps.old steps.new }
+        ensures takes { Takes 220 self.old.pass.now self.new.pass.now }
         ensures steps { steps.new ≤ steps.old + 220 }
     {
         let answer = self.walk.step(&self.tree.table, self.pass, steps);
@@ -94,6 +96,8 @@ impl<'a> Cursor<'a> {
         ensures of { IsPassOf self.old.tree.now self.new.pass.now }
         ensures closed { pass_in self.new.pass.now ≡ record (pass_in self.old.pass.now) { standing = None } }
         ensures same { self.new.walk ≡ record self.old.walk { leaf = None; epoch = None } }
+        ensures counted { IsCounted self.old.pass.now self.new.pass.now steps.old steps.new }
+        ensures takes { Takes 1 self.old.pass.now self.new.pass.now }
         ensures steps { steps.new ≡ steps.old + 1 }
     {
         self.walk.pause(&self.tree.table, self.pass, steps);
@@ -104,6 +108,8 @@ impl<'a> Cursor<'a> {
         ensures same_reference { result.ghost_name ≡ self.entry.pass.ghost_name }
         ensures of { IsPassOf self.entry.tree.now result.now }
         ensures closed { pass_in result.now ≡ record (pass_in self.entry.pass.now) { standing = None } }
+        ensures counted { IsCounted self.entry.pass.now result.now steps.old steps.new }
+        ensures takes { Takes 1 self.entry.pass.now result.now }
         ensures steps { steps.new ≡ steps.old + 1 }
     {
         let Cursor { tree, pass, walk } = self;

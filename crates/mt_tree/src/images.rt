@@ -7,7 +7,7 @@ ghost use Rattle.mt_image.specs.Images.{IsImageOf, IsImageOfMap};
 ghost use Rattle.mt_rule.specs.Tokens.{pass_in};
 ghost use Rattle.mt_tree.specs.Behind.{behind_of, IsAtRest, IsRead};
 ghost use Rattle.mt_tree.specs.Copies.{AreWordsOf, IsImageIn};
-ghost use Rattle.mt_tree.specs.Trees.{opened, map_seen, place_of, IsPassOf};
+ghost use Rattle.mt_tree.specs.Trees.{opened, map_seen, place_of, IsPassOf, Rests, TriesOnce, steps_made};
 ghost use Rattle.mt_tree.specs.Works.{IsWorker};
 
 use crate::behind::{Tools, WriterState};
@@ -30,10 +30,12 @@ fn image_at_work<W: Writer, K: OfWidth>(
     alloc: Global,
 ) -> Result<Vec<u8>, NoMemory>
     requires worker { IsWorker tree.now tools.old pass.old W.table W.turn }
+    requires counted { W.steps ≡ steps_made pass.old }
     requires wide { K.wide ≡ kind_width W.table.shape.kind }
     ensures rest { IsAtRest tools.new }
     ensures read { IsRead (behind_of tools.old) (behind_of tools.new) }
     ensures of { IsPassOf tree.now pass.new }
+    ensures rests { Rests pass.old pass.new }
     ensures saw { Saw (opened tree.now) (pass_in pass.old) (pass_in pass.new) }
     ensures words { AreWordsOf (opened tree.now).kind (opened tree.now).rows (map_seen tree.now (pass_in pass.new)) (behind_of tools.old).parts.sheet.tree }
     ensures image { IfOk result (λ bytes. IsImageOf (opened tree.now).kind (behind_of tools.old).parts.sheet.tree bytes.items) }
@@ -54,6 +56,7 @@ impl WriterState {
         requires pass { IsPassOf tree.now pass.old }
         ensures state { IsRead self.old self.new }
         ensures of { IsPassOf tree.now pass.new }
+        ensures rests { Rests pass.old pass.new }
         ensures saw { Saw (opened tree.now) (pass_in pass.old) (pass_in pass.new) }
         ensures words { AreWordsOf (opened tree.now).kind (opened tree.now).rows (map_seen tree.now (pass_in pass.new)) self.old.parts.sheet.tree }
         ensures image { IfOk result (λ bytes. IsImageOf (opened tree.now).kind self.old.parts.sheet.tree bytes.items) }
@@ -72,11 +75,12 @@ impl Tree {
     pub fn image(&self, rt: &impl Wait, alloc: Global, pass: &mut Pass) -> Result<Vec<u8>, NoMemory>
         requires { IsPassOf self.now pass.old }
         ensures of { IsPassOf self.now pass.new }
+        ensures tries { TriesOnce pass.old pass.new }
         ensures saw { Saw (opened self.now) (pass_in pass.old) (pass_in pass.new) }
         ensures map { IfOk result (λ bytes. IsImageOfMap (opened self.now).kind (map_seen self.now (pass_in pass.new)) bytes.items) }
         ensures image { IfOk result (λ bytes. IsImageIn (opened self.now).kind (opened self.now).rows (map_seen self.now (pass_in pass.new)) bytes.items) }
     {
-        let mut taken = self.turn.take(rt, pass);
+        let mut taken = self.take(rt, pass);
         let image = taken.value.image(self, pass, alloc);
         self.turn.give(taken);
         image

@@ -37,6 +37,7 @@ mod shaped;
 mod shapes;
 mod trees;
 mod tries;
+mod turns;
 mod walks;
 mod works;
 mod writes;

@@ -10,7 +10,7 @@ ghost use Rattle.mt_engine.specs.Engine.{is_refusal};
 ghost use Rattle.mt_rule.specs.declared.views.TurnView.{TurnView};
 ghost use Rattle.mt_rule.specs.Tokens.{pass_in};
 ghost use Rattle.mt_tree.specs.Behind.{Behind, after_show, IsReady, IsRead, IsStored};
-ghost use Rattle.mt_tree.specs.Trees.{opened, limit_of, map_seen, passes_of, IsPassOf, IsOpen, IsShortNow, IsWorn, NamesPass, WasAnsweredBy, WasPrepared};
+ghost use Rattle.mt_tree.specs.Trees.{opened, limit_of, map_seen, passes_of, IsPassOf, IsOpen, IsShortNow, IsWorn, NamesPass, Rests, TriesOnce, WasAnsweredBy, WasPrepared};
 
 use crate::behind::WriterState;
 use crate::shapes::{Done, Read, Worn};
@@ -54,8 +54,9 @@ impl Tree {
         ensures tree { result.tree.now ≡ self.now }
         ensures saw { Saw (opened self.now) (pass_in pass.old) (pass_in result.pass.now) }
         ensures callers { AllByRecursion (λ r. r.pass < passes_of self.now) (pass_in result.pass.now).seen }
+        ensures tries { TriesOnce pass.old result.pass.now }
     {
-        let mut taken = self.turn.take(rt, pass);
+        let mut taken = self.take(rt, pass);
         taken.value.show(self, pass);
         Locked {
             tree: self,
@@ -74,6 +75,7 @@ fn act_under(
 ) -> Result<Done, Worn>
     requires { IsOpen tree.now pass.old taken.old.value taken.old.seat }
     ensures open { IsOpen tree.now pass.new taken.new.value taken.new.seat }
+    ensures rests { Rests pass.old pass.new }
     ensures done { IfOk result (λ d. Wrote (opened tree.now) (pass_in pass.old) d.call call.now d.reply (pass_in pass.new) × (d.call ≤ limit_of tree.now)) }
     ensures number { IfOk result (λ d. d.call ≡ length (pass_in pass.old).seen + 1) }
     ensures callers { IfOk result (λ d. AllByRecursion (λ r. r.pass < passes_of tree.now) (pass_in pass.new).seen) }
@@ -97,6 +99,7 @@ fn store_under(
     requires open { IsOpen tree.now pass.old taken.old.value taken.old.seat }
     requires ready { IsReady taken.old.value.parts }
     ensures open { IsOpen tree.now pass.new taken.new.value taken.new.seat }
+    ensures rests { Rests pass.old pass.new }
     ensures done { IfOk result (λ d. Wrote (opened tree.now) (pass_in pass.old) d.call (StorePre first last entry) d.reply (pass_in pass.new) × (d.call ≤ limit_of tree.now)) }
     ensures named { IfOk result (λ d. NamesPass tree.now d.reply) }
     ensures stored { IfOk result (λ d. IsStored d.reply) }
@@ -115,6 +118,7 @@ fn ask_under(
 ) -> Read<Option<Range>>
     requires { IsOpen tree.now pass.old taken.old.value taken.old.seat }
     ensures open { IsOpen tree.now pass.new taken.new.value taken.new.seat }
+    ensures rests { Rests pass.old pass.new }
     ensures behind { IsRead taken.old.value taken.new.value }
     ensures pass { pass_in pass.new ≡ pass_in pass.old }
     ensures window { (result.lo ≡ length (pass_in pass.old).seen) × (result.hi ≡ result.lo) }
@@ -130,6 +134,7 @@ fn preallocate_under(
 ) -> Result<(), Shortage>
     requires { IsOpen tree.now pass.old taken.old.value taken.old.seat }
     ensures open { IsOpen tree.now pass.new taken.new.value taken.new.seat }
+    ensures rests { Rests pass.old pass.new }
     ensures prepared { WasPrepared tree.now taken.old.value taken.new.value }
     ensures pass { pass_in pass.new ≡ pass_in pass.old }
     ensures ready { IsOk result ↔ IsReady taken.new.value.parts }
@@ -146,6 +151,7 @@ fn list_under(
 ) -> Result<Vec<Range>, NoMemory>
     requires { IsOpen tree.now pass.old taken.old.value taken.old.seat }
     ensures open { IsOpen tree.now pass.new taken.new.value taken.new.seat }
+    ensures rests { Rests pass.old pass.new }
     ensures behind { IsRead taken.old.value taken.new.value }
     ensures pass { pass_in pass.new ≡ pass_in pass.old }
     ensures items { IfOk result (λ ranges. ranges.items ≡ map_seen tree.now (pass_in pass.new)) }
@@ -160,6 +166,7 @@ impl<'a> Locked<'a, Taken<WriterState>> {
     pub fn act(&mut self, call: &Call) -> Result<Done, Worn>
         ensures same_reference { self.new.pass.ghost_name ≡ self.old.pass.ghost_name }
         ensures tree { self.new.tree ≡ self.old.tree }
+        ensures rests { Rests self.old.pass.now self.new.pass.now }
         ensures done { IfOk result (λ d. Wrote (opened self.old.tree.now) (pass_in self.old.pass.now) d.call call.now d.reply (pass_in self.new.pass.now) × (d.call ≤ limit_of self.old.tree.now)) }
         ensures number { IfOk result (λ d. d.call ≡ length (pass_in self.old.pass.now).seen + 1) }
         ensures callers { IfOk result (λ d. AllByRecursion (λ r. r.pass < passes_of self.old.tree.now) (pass_in self.new.pass.now).seen) }
@@ -176,6 +183,7 @@ impl<'a> Locked<'a, Taken<WriterState>> {
     pub fn ask(&mut self, query: &Query) -> Read<Option<Range>>
         ensures same_reference { self.new.pass.ghost_name ≡ self.old.pass.ghost_name }
         ensures tree { self.new.tree ≡ self.old.tree }
+        ensures rests { Rests self.old.pass.now self.new.pass.now }
         ensures behind { IsRead self.old.taken.value self.new.taken.value }
         ensures pass { pass_in self.new.pass.now ≡ pass_in self.old.pass.now }
         ensures window { (result.lo ≡ length (pass_in self.old.pass.now).seen) × (result.hi ≡ result.lo) }
@@ -190,6 +198,7 @@ impl<'a> Locked<'a, Taken<WriterState>> {
     pub fn preallocate(&mut self) -> Result<(), Shortage>
         ensures same_reference { self.new.pass.ghost_name ≡ self.old.pass.ghost_name }
         ensures tree { self.new.tree ≡ self.old.tree }
+        ensures rests { Rests self.old.pass.now self.new.pass.now }
         ensures pass { pass_in self.new.pass.now ≡ pass_in self.old.pass.now }
         ensures prepared { WasPrepared self.old.tree.now self.old.taken.value self.new.taken.value }
         ensures ready { IsOk result ↔ IsReady self.new.taken.value.parts }
@@ -210,6 +219,7 @@ impl<'a> Locked<'a, Taken<WriterState>> {
         requires { IsReady self.old.taken.value.parts }
         ensures same_reference { self.new.pass.ghost_name ≡ self.old.pass.ghost_name }
         ensures tree { self.new.tree ≡ self.old.tree }
+        ensures rests { Rests self.old.pass.now self.new.pass.now }
         ensures done { IfOk result (λ d. Wrote (opened self.old.tree.now) (pass_in self.old.pass.now) d.call (StorePre first last entry) d.reply (pass_in self.new.pass.now) × (d.call ≤ limit_of self.old.tree.now)) }
         ensures named { IfOk result (λ d. NamesPass self.old.tree.now d.reply) }
         ensures stored { IfOk result (λ d. IsStored d.reply) }
@@ -224,6 +234,7 @@ impl<'a> Locked<'a, Taken<WriterState>> {
     pub fn list(&mut self, alloc: Global) -> Result<Vec<Range>, NoMemory>
         ensures same_reference { self.new.pass.ghost_name ≡ self.old.pass.ghost_name }
         ensures tree { self.new.tree ≡ self.old.tree }
+        ensures rests { Rests self.old.pass.now self.new.pass.now }
         ensures pass { pass_in self.new.pass.now ≡ pass_in self.old.pass.now }
         ensures behind { IsRead self.old.taken.value self.new.taken.value }
         ensures items { IfOk result (λ ranges. ranges.items ≡ map_seen self.old.tree.now (pass_in self.old.pass.now)) }

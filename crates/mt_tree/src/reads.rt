@@ -7,8 +7,8 @@ ghost use Rattle.mt_base.specs.Passes as known;
 ghost use Rattle.mt_base.specs.Width.{greatest_of};
 ghost use Rattle.mt_read.specs.Neighbours.{WasLeftMarked, WasMoved};
 ghost use Rattle.mt_read.specs.Windows.{HasRead};
-ghost use Rattle.mt_rule.specs.Tokens.{part_of, pass_in};
-ghost use Rattle.mt_tree.specs.Trees.{opened, IsPassOf};
+ghost use Rattle.mt_rule.specs.Tokens.{part_of, pass_in, IsCounted};
+ghost use Rattle.mt_tree.specs.Trees.{opened, IsPassOf, Takes};
 
 use crate::shapes::Read;
 use crate::trees::Tree;
@@ -30,6 +30,8 @@ impl Tree {
         ensures of { IsPassOf self.now pass.new }
         ensures read { (k : ℕ) × known.Read (opened self.now) (pass_in pass.old) result.lo result.hi k (Load index) result.value (pass_in pass.new) }
         ensures section { HasRead result.lo result.hi (pass_in pass.old) (pass_in pass.new) }
+        ensures counted { IsCounted pass.old pass.new steps.old steps.new }
+        ensures takes { Takes 170 pass.old pass.new }
         ensures steps { steps.new ≤ steps.old + 170 }
     {
         let Answer { lo, hi, value } = mt_read::load_range(&self.table, pass, index, steps);
@@ -47,6 +49,8 @@ impl Tree {
         ensures of { IsPassOf self.now pass.new }
         ensures read { (k : ℕ) × (range : Option Range) × known.Read (opened self.now) (pass_in pass.old) result.lo result.hi k (Load index) range (pass_in pass.new) × (result.value ≡ option_map (λ r. r.entry) range) }
         ensures section { HasRead result.lo result.hi (pass_in pass.old) (pass_in pass.new) }
+        ensures counted { IsCounted pass.old pass.new steps.old steps.new }
+        ensures takes { Takes 170 pass.old pass.new }
         ensures steps { steps.new ≤ steps.old + 170 }
     {
         let Answer { lo, hi, value } = mt_read::load(&self.table, pass, index, steps);
@@ -66,6 +70,8 @@ impl Tree {
         ensures of { IsPassOf self.now pass.new }
         ensures read { (k : ℕ) × known.Read (opened self.now) (pass_in pass.old) result.lo result.hi k (Find index max) result.value (pass_in pass.new) }
         ensures section { HasRead result.lo result.hi (pass_in pass.old) (pass_in pass.new) }
+        ensures counted { IsCounted pass.old pass.new steps.old steps.new }
+        ensures takes { Takes 175 pass.old pass.new }
         ensures steps { steps.new ≤ steps.old + 175 }
     {
         let Answer { lo, hi, value } = mt_read::find(&self.table, pass, index, max, steps);
@@ -93,6 +99,8 @@ impl Tree {
         ensures moved { IfErr result (λ m. WasMoved (opened self.now) (pass_in pass.old) m.lo m.begun (pass_in pass.new)) }
         ensures given_up { IfErr result (λ m. HasRead m.lo m.begun (pass_in pass.old) (pass_in pass.new)) }
         ensures left { IfErr result (λ m. WasLeftMarked (Next index (greatest_of (part_of pass.old).shape.kind)) m.lo m.begun (part_of pass.old) (part_of pass.new)) }
+        ensures counted { IsCounted pass.old pass.new steps.old steps.new }
+        ensures takes { Takes 360 pass.old pass.new }
         ensures steps { steps.new ≤ steps.old + 360 }
     {
         let Answer { lo, hi, value } = mt_read::next(&self.table, pass, index, max, steps)?;
@@ -120,6 +128,8 @@ impl Tree {
         ensures moved { IfErr result (λ m. WasMoved (opened self.now) (pass_in pass.old) m.lo m.begun (pass_in pass.new)) }
         ensures given_up { IfErr result (λ m. HasRead m.lo m.begun (pass_in pass.old) (pass_in pass.new)) }
         ensures left { IfErr result (λ m. WasLeftMarked (Prev index 0) m.lo m.begun (part_of pass.old) (part_of pass.new)) }
+        ensures counted { IsCounted pass.old pass.new steps.old steps.new }
+        ensures takes { Takes 360 pass.old pass.new }
         ensures steps { steps.new ≤ steps.old + 360 }
     {
         let Answer { lo, hi, value } = mt_read::prev(&self.table, pass, index, min, steps)?;
@@ -147,6 +157,8 @@ impl Tree {
         ensures moved { IfErr result (λ m. WasMoved (opened self.now) (pass_in pass.old) m.lo m.begun (pass_in pass.new)) }
         ensures given_up { IfErr result (λ m. HasRead m.lo m.begun (pass_in pass.old) (pass_in pass.new)) }
         ensures left { IfErr result (λ m. WasLeftMarked (Rfind index 0) m.lo m.begun (part_of pass.old) (part_of pass.new)) }
+        ensures counted { IsCounted pass.old pass.new steps.old steps.new }
+        ensures takes { Takes 360 pass.old pass.new }
         ensures steps { steps.new ≤ steps.old + 360 }
     {
         let Answer { lo, hi, value } = mt_read::rfind(&self.table, pass, index, min, steps)?;

@@ -3,11 +3,12 @@
 ghost use Rattle.std.specs.Prelude.{◌≡◌, ◌∷◌, All, map, length, flat_map, IfErr, IfOk, IsPermutation};
 ghost use Rattle.std.specs.List.{range_with_len};
 ghost use Rattle.mt_base.specs.Passes.{Settled};
-ghost use Rattle.mt_rule.specs.Tokens.{pass_in};
+ghost use Rattle.mt_rule.specs.Tokens.{pass_in, turn_seat};
+ghost use Rattle.mt_rule.specs.Turns.{tried};
 ghost use Rattle.mt_tree.specs.Behind.{after_show};
 ghost use Rattle.mt_tree.specs.Meeting.{AreShown, HaveMet};
 ghost use Rattle.mt_tree.specs.Trees.{place_of, seen_by, AreAll, IsPassOf};
-ghost use Rattle.mt_tree.specs.Tries.{IsBusyOf};
+ghost use Rattle.mt_tree.specs.Tries.{IsBusyOf, first_tried};
 
 use crate::behind::WriterState;
 use crate::trees::Tree;
@@ -22,6 +23,7 @@ impl WriterState {
         ensures state { after_show self.new ≡ after_show self.old }
         ensures of { All (IsPassOf tree.now) passes.new }
         ensures shown { AreShown tree.now self.old.pen passes.old passes.new }
+        ensures turns { map turn_seat passes.new ≡ map turn_seat passes.old }
     {
         for i in 0..passes.len() {
             self.show(tree, &mut passes[i]);
@@ -35,6 +37,7 @@ impl WriterState {
         ensures state { after_show self.new ≡ after_show self.old }
         ensures all { AreAll tree.now passes.new }
         ensures settled { Settled (seen_by tree.now (map pass_in passes.new)) (map pass_in passes.old) (map pass_in passes.new) }
+        ensures turns { map turn_seat passes.new ≡ map turn_seat passes.old }
     {
         self.show_each(tree, passes);
     }
@@ -48,6 +51,7 @@ impl WriterState {
         ensures pass { IsPassOf tree.now pass.new }
         ensures others { All (IsPassOf tree.now) others.new }
         ensures met { HaveMet tree.now (map pass_in (pass.old ∷ others.old)) (map pass_in (pass.new ∷ others.new)) result }
+        ensures turns { map turn_seat (pass.new ∷ others.new) ≡ map turn_seat (pass.old ∷ others.old) }
     {
         let calls = self.show(tree, pass);
         self.show_each(tree, others);
@@ -62,8 +66,9 @@ impl Tree {
         ensures all { AreAll self.now passes.new }
         ensures settled { Settled (seen_by self.now (map pass_in passes.new)) (map pass_in passes.old) (map pass_in passes.new) }
         ensures once { IsPermutation (range_with_len 1 (length (seen_by self.now (map pass_in passes.new)).records)) (flat_map (λ q. q.mine) (map pass_in passes.new)) }
+        ensures tries { map turn_seat passes.new ≡ map turn_seat (first_tried passes.old) }
     {
-        let mut taken = self.turn.take(rt, &mut passes[0]);
+        let mut taken = self.take_first(rt, passes);
         taken.value.show_all(self, passes);
         self.turn.give(taken);
     }
@@ -72,16 +77,17 @@ impl Tree {
     ///
     /// # Errors
     ///
-    /// `Busy` where the lock was found taken; nothing is changed, and no pass has seen more.
+    /// `Busy` where the lock was found taken, by the one try that was made; nothing is changed, and no pass has seen more.
     pub fn try_settle(&self, passes: &mut [Pass]) -> Result<(), Busy>
         requires { AreAll self.now passes.old }
         ensures all { AreAll self.now passes.new }
         ensures settled { IfOk result (λ _. Settled (seen_by self.now (map pass_in passes.new)) (map pass_in passes.old) (map pass_in passes.new)) }
         ensures once { IfOk result (λ _. IsPermutation (range_with_len 1 (length (seen_by self.now (map pass_in passes.new)).records)) (flat_map (λ q. q.mine) (map pass_in passes.new))) }
         ensures busy { IfErr result (IsBusyOf self.now) }
-        ensures kept { IfErr result (λ _. passes.new ≡ passes.old) }
+        ensures kept { IfErr result (λ _. passes.new ≡ first_tried passes.old) }
+        ensures tries { map turn_seat passes.new ≡ map turn_seat (first_tried passes.old) }
     {
-        let mut taken = self.turn.try_take(&mut passes[0])?;
+        let mut taken = self.try_first(passes)?;
         taken.value.show_all(self, passes);
         self.turn.give(taken);
         Ok(())
@@ -92,7 +98,7 @@ impl Tree {
     ///
     /// # Errors
     ///
-    /// `Busy` where the lock was found taken; nothing is changed, and no pass has seen more.
+    /// `Busy` where the lock was found taken, by the one try that was made; nothing is changed, and no pass has seen more.
     pub fn try_meet(&self, pass: &mut Pass, others: &mut [Pass]) -> Result<u64, Busy>
         requires pass { IsPassOf self.now pass.old }
         requires others { All (IsPassOf self.now) others.old }
@@ -100,9 +106,10 @@ impl Tree {
         ensures others { All (IsPassOf self.now) others.new }
         ensures met { IfOk result (HaveMet self.now (map pass_in (pass.old ∷ others.old)) (map pass_in (pass.new ∷ others.new))) }
         ensures busy { IfErr result (IsBusyOf self.now) }
-        ensures kept { IfErr result (λ _. (pass.new ≡ pass.old) × (others.new ≡ others.old)) }
+        ensures kept { IfErr result (λ _. (pass.new ≡ tried pass.old) × (others.new ≡ others.old)) }
+        ensures tries { map turn_seat (pass.new ∷ others.new) ≡ map turn_seat (tried pass.old ∷ others.old) }
     {
-        let mut taken = self.turn.try_take(pass)?;
+        let mut taken = self.try_take(pass)?;
         let calls = taken.value.meet(self, pass, others);
         self.turn.give(taken);
         Ok(calls)

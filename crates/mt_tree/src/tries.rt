@@ -3,7 +3,8 @@
 ghost use Rattle.std.specs.Prelude.{◌≡◌, IfOk, IfErr};
 ghost use Rattle.mt_base.specs.declared.calls.Call.TheVariants as calls;
 ghost use Rattle.mt_rule.specs.Tokens.{pass_in};
-ghost use Rattle.mt_tree.specs.Trees.{IsPassOf};
+ghost use Rattle.mt_rule.specs.Turns.{tried};
+ghost use Rattle.mt_tree.specs.Trees.{IsPassOf, TriesOnce};
 ghost use Rattle.mt_tree.specs.Tries.{IsBusyOf, WasMade};
 
 use crate::shapes::{Done, Worn};
@@ -16,15 +17,16 @@ impl Tree {
     ///
     /// # Errors
     ///
-    /// `Busy` where the lock was found taken; nothing is changed, and the pass has seen no more.
+    /// `Busy` where the lock was found taken, by the one try that was made; nothing is changed, and the pass has seen no more.
     pub fn try_act(&self, pass: &mut Pass, call: &Call) -> Result<Result<Done, Worn>, Busy>
         requires { IsPassOf self.now pass.old }
         ensures of { IsPassOf self.now pass.new }
         ensures made { IfOk result (λ made. WasMade self.now (pass_in pass.old) call.now made (pass_in pass.new)) }
         ensures busy { IfErr result (IsBusyOf self.now) }
-        ensures kept { IfErr result (λ _. pass.new ≡ pass.old) }
+        ensures kept { IfErr result (λ _. pass.new ≡ tried pass.old) }
+        ensures tries { TriesOnce pass.old pass.new }
     {
-        let mut taken = self.turn.try_take(pass)?;
+        let mut taken = self.try_take(pass)?;
         let done = taken.value.act(self, pass, call);
         self.turn.give(taken);
         Ok(done)
@@ -34,7 +36,7 @@ impl Tree {
     ///
     /// # Errors
     ///
-    /// `Busy` where the lock was found taken; nothing is changed, and the pass has seen no more.
+    /// `Busy` where the lock was found taken, by the one try that was made; nothing is changed, and the pass has seen no more.
     pub fn try_store_range(
         &self,
         pass: &mut Pass,
@@ -46,7 +48,8 @@ impl Tree {
         ensures of { IsPassOf self.now pass.new }
         ensures made { IfOk result (λ made. WasMade self.now (pass_in pass.old) (calls.Store first last entry) made (pass_in pass.new)) }
         ensures busy { IfErr result (IsBusyOf self.now) }
-        ensures kept { IfErr result (λ _. pass.new ≡ pass.old) }
+        ensures kept { IfErr result (λ _. pass.new ≡ tried pass.old) }
+        ensures tries { TriesOnce pass.old pass.new }
     {
         self.try_act(pass, &Call::Store { first, last, entry })
     }
@@ -55,7 +58,7 @@ impl Tree {
     ///
     /// # Errors
     ///
-    /// `Busy` where the lock was found taken; nothing is changed, and the pass has seen no more.
+    /// `Busy` where the lock was found taken, by the one try that was made; nothing is changed, and the pass has seen no more.
     pub fn try_store_pre(
         &self,
         pass: &mut Pass,
@@ -67,7 +70,8 @@ impl Tree {
         ensures of { IsPassOf self.now pass.new }
         ensures made { IfOk result (λ made. WasMade self.now (pass_in pass.old) (calls.StorePre first last entry) made (pass_in pass.new)) }
         ensures busy { IfErr result (IsBusyOf self.now) }
-        ensures kept { IfErr result (λ _. pass.new ≡ pass.old) }
+        ensures kept { IfErr result (λ _. pass.new ≡ tried pass.old) }
+        ensures tries { TriesOnce pass.old pass.new }
     {
         self.try_act(pass, &Call::StorePre { first, last, entry })
     }
@@ -76,7 +80,7 @@ impl Tree {
     ///
     /// # Errors
     ///
-    /// `Busy` where the lock was found taken; nothing is changed, and the pass has seen no more.
+    /// `Busy` where the lock was found taken, by the one try that was made; nothing is changed, and the pass has seen no more.
     pub fn try_insert_range(
         &self,
         pass: &mut Pass,
@@ -88,7 +92,8 @@ impl Tree {
         ensures of { IsPassOf self.now pass.new }
         ensures made { IfOk result (λ made. WasMade self.now (pass_in pass.old) (calls.Insert first last entry) made (pass_in pass.new)) }
         ensures busy { IfErr result (IsBusyOf self.now) }
-        ensures kept { IfErr result (λ _. pass.new ≡ pass.old) }
+        ensures kept { IfErr result (λ _. pass.new ≡ tried pass.old) }
+        ensures tries { TriesOnce pass.old pass.new }
     {
         self.try_act(pass, &Call::Insert { first, last, entry })
     }
@@ -97,13 +102,14 @@ impl Tree {
     ///
     /// # Errors
     ///
-    /// `Busy` where the lock was found taken; nothing is changed, and the pass has seen no more.
+    /// `Busy` where the lock was found taken, by the one try that was made; nothing is changed, and the pass has seen no more.
     pub fn try_erase(&self, pass: &mut Pass, index: u64) -> Result<Result<Done, Worn>, Busy>
         requires { IsPassOf self.now pass.old }
         ensures of { IsPassOf self.now pass.new }
         ensures made { IfOk result (λ made. WasMade self.now (pass_in pass.old) (calls.Erase index) made (pass_in pass.new)) }
         ensures busy { IfErr result (IsBusyOf self.now) }
-        ensures kept { IfErr result (λ _. pass.new ≡ pass.old) }
+        ensures kept { IfErr result (λ _. pass.new ≡ tried pass.old) }
+        ensures tries { TriesOnce pass.old pass.new }
     {
         self.try_act(pass, &Call::Erase { index })
     }
@@ -112,7 +118,7 @@ impl Tree {
     ///
     /// # Errors
     ///
-    /// `Busy` where the lock was found taken; nothing is changed, and the pass has seen no more.
+    /// `Busy` where the lock was found taken, by the one try that was made; nothing is changed, and the pass has seen no more.
     pub fn try_alloc_range(
         &self,
         pass: &mut Pass,
@@ -125,7 +131,8 @@ impl Tree {
         ensures of { IsPassOf self.now pass.new }
         ensures made { IfOk result (λ made. WasMade self.now (pass_in pass.old) (calls.Alloc size min max entry) made (pass_in pass.new)) }
         ensures busy { IfErr result (IsBusyOf self.now) }
-        ensures kept { IfErr result (λ _. pass.new ≡ pass.old) }
+        ensures kept { IfErr result (λ _. pass.new ≡ tried pass.old) }
+        ensures tries { TriesOnce pass.old pass.new }
     {
         self.try_act(
             pass,
@@ -142,7 +149,7 @@ impl Tree {
     ///
     /// # Errors
     ///
-    /// `Busy` where the lock was found taken; nothing is changed, and the pass has seen no more.
+    /// `Busy` where the lock was found taken, by the one try that was made; nothing is changed, and the pass has seen no more.
     pub fn try_alloc_rrange(
         &self,
         pass: &mut Pass,
@@ -155,7 +162,8 @@ impl Tree {
         ensures of { IsPassOf self.now pass.new }
         ensures made { IfOk result (λ made. WasMade self.now (pass_in pass.old) (calls.Ralloc size min max entry) made (pass_in pass.new)) }
         ensures busy { IfErr result (IsBusyOf self.now) }
-        ensures kept { IfErr result (λ _. pass.new ≡ pass.old) }
+        ensures kept { IfErr result (λ _. pass.new ≡ tried pass.old) }
+        ensures tries { TriesOnce pass.old pass.new }
     {
         self.try_act(
             pass,
@@ -172,7 +180,7 @@ impl Tree {
     ///
     /// # Errors
     ///
-    /// `Busy` where the lock was found taken; nothing is changed, and the pass has seen no more.
+    /// `Busy` where the lock was found taken, by the one try that was made; nothing is changed, and the pass has seen no more.
     pub fn try_empty_area(
         &self,
         pass: &mut Pass,
@@ -184,7 +192,8 @@ impl Tree {
         ensures of { IsPassOf self.now pass.new }
         ensures made { IfOk result (λ made. WasMade self.now (pass_in pass.old) (calls.Gap size min max) made (pass_in pass.new)) }
         ensures busy { IfErr result (IsBusyOf self.now) }
-        ensures kept { IfErr result (λ _. pass.new ≡ pass.old) }
+        ensures kept { IfErr result (λ _. pass.new ≡ tried pass.old) }
+        ensures tries { TriesOnce pass.old pass.new }
     {
         self.try_act(pass, &Call::Gap { size, min, max })
     }
@@ -193,7 +202,7 @@ impl Tree {
     ///
     /// # Errors
     ///
-    /// `Busy` where the lock was found taken; nothing is changed, and the pass has seen no more.
+    /// `Busy` where the lock was found taken, by the one try that was made; nothing is changed, and the pass has seen no more.
     pub fn try_empty_area_rev(
         &self,
         pass: &mut Pass,
@@ -205,7 +214,8 @@ impl Tree {
         ensures of { IsPassOf self.now pass.new }
         ensures made { IfOk result (λ made. WasMade self.now (pass_in pass.old) (calls.Rgap size min max) made (pass_in pass.new)) }
         ensures busy { IfErr result (IsBusyOf self.now) }
-        ensures kept { IfErr result (λ _. pass.new ≡ pass.old) }
+        ensures kept { IfErr result (λ _. pass.new ≡ tried pass.old) }
+        ensures tries { TriesOnce pass.old pass.new }
     {
         self.try_act(pass, &Call::Rgap { size, min, max })
     }
@@ -214,13 +224,14 @@ impl Tree {
     ///
     /// # Errors
     ///
-    /// `Busy` where the lock was found taken; nothing is changed, and the pass has seen no more.
+    /// `Busy` where the lock was found taken, by the one try that was made; nothing is changed, and the pass has seen no more.
     pub fn try_clear(&self, pass: &mut Pass) -> Result<Result<Done, Worn>, Busy>
         requires { IsPassOf self.now pass.old }
         ensures of { IsPassOf self.now pass.new }
         ensures made { IfOk result (λ made. WasMade self.now (pass_in pass.old) calls.Clear made (pass_in pass.new)) }
         ensures busy { IfErr result (IsBusyOf self.now) }
-        ensures kept { IfErr result (λ _. pass.new ≡ pass.old) }
+        ensures kept { IfErr result (λ _. pass.new ≡ tried pass.old) }
+        ensures tries { TriesOnce pass.old pass.new }
     {
         self.try_act(pass, &Call::Clear)
     }

@@ -1,8 +1,8 @@
 //! Walks whose pass and place the caller keeps, each as a value: a [`Cursor`](crate::Cursor) borrows both a tree and a pass.
 
 ghost use Rattle.std.specs.Prelude.{◌≡◌, ◌+◌, ◌≤◌, ◌<◌, None};
-ghost use Rattle.mt_rule.specs.Tokens.{pass_in};
-ghost use Rattle.mt_tree.specs.Trees.{IsPassOf};
+ghost use Rattle.mt_rule.specs.Tokens.{pass_in, IsCounted};
+ghost use Rattle.mt_tree.specs.Trees.{IsPassOf, Takes};
 ghost use Rattle.mt_tree.specs.Walks.{HasWalked, IsWalkOf};
 
 use crate::shapes::Read;
@@ -26,6 +26,7 @@ impl Tree {
         ensures of { IsPassOf self.now pass.new }
         ensures walk { IsWalkOf pass.new walk.new }
         ensures walked { HasWalked self.now pass.old walk.old result pass.new walk.new }
+        ensures counted { IsCounted pass.old pass.new steps.old steps.new }
         ensures steps { steps.new ≤ steps.old + 220 }
     {
         let answer = walk.step(&self.table, pass, steps);
@@ -43,6 +44,8 @@ impl Tree {
         ensures walk { IsWalkOf pass.new walk.new }
         ensures closed { pass_in pass.new ≡ record (pass_in pass.old) { standing = None } }
         ensures same { walk.new ≡ record walk.old { leaf = None; epoch = None } }
+        ensures takes { Takes 1 pass.old pass.new }
+        ensures counted { IsCounted pass.old pass.new steps.old steps.new }
         ensures steps { steps.new ≡ steps.old + 1 }
     {
         walk.pause(&self.table, pass, steps);
@@ -66,6 +69,7 @@ impl Tree {
         ensures walk { IsWalkOf pass.new walk.new }
         ensures closed { pass_in pass.new ≡ record (pass_in pass.old) { standing = None } }
         ensures same { walk.new ≡ record walk.old { leaf = None; epoch = None } }
+        ensures takes { Takes 1 pass.old pass.new }
     {
         stand::<Brand>(self, pass, walk, Blank::new(1));
     }
@@ -101,6 +105,7 @@ fn stand<L: Ledger>(tree: &Tree, pass: &mut Pass, walk: &mut Cursor, blank: Blan
     ensures walk { IsWalkOf pass.new walk.new }
     ensures closed { pass_in pass.new ≡ record (pass_in pass.old) { standing = None } }
     ensures same { walk.new ≡ record walk.old { leaf = None; epoch = None } }
+    ensures takes { Takes 1 pass.old pass.new }
 {
     let mut steps = Steps::<L>::new(blank);
     tree.pause(pass, walk, &mut steps);

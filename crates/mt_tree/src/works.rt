@@ -10,7 +10,7 @@ ghost use Rattle.mt_rule.specs.Seats.{records_of};
 ghost use Rattle.mt_rule.specs.Tokens.{pass_in, turn_seat, WasShown};
 ghost use Rattle.mt_pen.specs.Sheets.{sheet_told};
 ghost use Rattle.mt_tree.specs.Behind.{behind_of, IsAtRest, IsReady, IsRead, IsStored};
-ghost use Rattle.mt_tree.specs.Trees.{opened, limit_of, map_seen, passes_of, place_of, IsPassOf, IsShortNow, NamesPass, WasAnsweredBy, WasPrepared};
+ghost use Rattle.mt_tree.specs.Trees.{opened, limit_of, map_seen, passes_of, place_of, IsPassOf, IsShortNow, NamesPass, Rests, WasAnsweredBy, WasPrepared, steps_made};
 ghost use Rattle.mt_tree.specs.Works.{AreBack, IsSeatOf, IsWorker, records_told, shown_pass};
 
 use crate::behind::Tools;
@@ -42,6 +42,7 @@ pub(crate) fn begin<'a, W: Writer, K: OfWidth>(
     pass: &mut Pass,
 ) -> Engine<PenRows<'a, W, K>>
     requires worker { IsWorker tree.now tools.old pass.old W.table W.turn }
+    requires counted { W.steps ≡ steps_made pass.old }
     requires wide { K.wide ≡ kind_width W.table.shape.kind }
     ensures away { tools.new ≡ None }
     ensures kind { result.kind ≡ (behind_of tools.old).parts.kind }
@@ -66,7 +67,9 @@ pub(crate) fn end<W: Writer, K: OfWidth>(
     requires table { W.table ≡ place_of tree.now }
     requires turn { IsSeatOf tree.now W.turn }
     requires few { length (records_told engine.sheet.told) ≤ limit_of tree.now }
-    ensures { AreBack tree.now engine.entry tools.new pass.new }
+    ensures back { AreBack tree.now engine.entry tools.new pass.new }
+    ensures turn { turn_seat pass.new ≡ W.turn }
+    ensures counted { steps_made pass.new ≡ W.steps }
 {
     let height = engine.height();
     let (rows, book) = engine.parts();
@@ -95,11 +98,13 @@ pub(crate) fn act<W: Writer, K: OfWidth>(
     call: &Call,
 ) -> Reply
     requires worker { IsWorker tree.now tools.old pass.old W.table W.turn }
+    requires counted { W.steps ≡ steps_made pass.old }
     requires wide { K.wide ≡ kind_width W.table.shape.kind }
     requires room { length (behind_of tools.old).pen.history < limit_of tree.now }
     ensures rest { IsAtRest tools.new }
     ensures table { (behind_of tools.new).table ≡ place_of tree.now }
     ensures of { IsPassOf tree.now pass.new }
+    ensures rests { Rests pass.old pass.new }
     ensures seen { (pass_in pass.new).seen ≡ records_of (behind_of tools.new).pen.history }
     ensures wrote { known.Wrote (opened tree.now) (pass_in pass.old) (length (behind_of tools.old).pen.history + 1) call.now result (pass_in pass.new) }
     ensures callers { AllByRecursion (λ r. r.pass < passes_of tree.now) (pass_in pass.new).seen }
@@ -123,12 +128,14 @@ pub(crate) fn store_prealloc<W: Writer, K: OfWidth>(
     entry: u64,
 ) -> Reply
     requires worker { IsWorker tree.now tools.old pass.old W.table W.turn }
+    requires counted { W.steps ≡ steps_made pass.old }
     requires wide { K.wide ≡ kind_width W.table.shape.kind }
     requires room { length (behind_of tools.old).pen.history < limit_of tree.now }
     requires ready { IsReady (behind_of tools.old).parts }
     ensures rest { IsAtRest tools.new }
     ensures table { (behind_of tools.new).table ≡ place_of tree.now }
     ensures of { IsPassOf tree.now pass.new }
+    ensures rests { Rests pass.old pass.new }
     ensures seen { (pass_in pass.new).seen ≡ records_of (behind_of tools.new).pen.history }
     ensures wrote { known.Wrote (opened tree.now) (pass_in pass.old) (length (behind_of tools.old).pen.history + 1) (StorePre first last entry) result (pass_in pass.new) }
     ensures named { NamesPass tree.now result }
@@ -150,10 +157,12 @@ pub(crate) fn ask<W: Writer, K: OfWidth>(
     query: &Query,
 ) -> Option<Range>
     requires worker { IsWorker tree.now tools.old pass.old W.table W.turn }
+    requires counted { W.steps ≡ steps_made pass.old }
     requires wide { K.wide ≡ kind_width W.table.shape.kind }
     ensures rest { IsAtRest tools.new }
     ensures read { IsRead (behind_of tools.old) (behind_of tools.new) }
     ensures of { IsPassOf tree.now pass.new }
+    ensures rests { Rests pass.old pass.new }
     ensures seen { (pass_in pass.new).seen ≡ records_of (behind_of tools.new).pen.history }
     ensures saw { known.Saw (opened tree.now) (pass_in pass.old) (pass_in pass.new) }
     ensures asked { known.Read (opened tree.now) (pass_in pass.old) (length (behind_of tools.old).pen.history) (length (behind_of tools.old).pen.history) (length (behind_of tools.old).pen.history) query.now result (pass_in pass.new) }
@@ -171,10 +180,12 @@ pub(crate) fn preallocate<W: Writer, K: OfWidth>(
     pass: &mut Pass,
 ) -> Result<(), Shortage>
     requires worker { IsWorker tree.now tools.old pass.old W.table W.turn }
+    requires counted { W.steps ≡ steps_made pass.old }
     requires wide { K.wide ≡ kind_width W.table.shape.kind }
     ensures rest { IsAtRest tools.new }
     ensures prepared { WasPrepared tree.now (behind_of tools.old) (behind_of tools.new) }
     ensures of { IsPassOf tree.now pass.new }
+    ensures rests { Rests pass.old pass.new }
     ensures seen { (pass_in pass.new).seen ≡ records_of (behind_of tools.new).pen.history }
     ensures saw { known.Saw (opened tree.now) (pass_in pass.old) (pass_in pass.new) }
     ensures ready { IsOk result ↔ IsReady (behind_of tools.new).parts }
@@ -194,10 +205,12 @@ pub(crate) fn list<W: Writer, K: OfWidth>(
     alloc: Global,
 ) -> Result<Vec<Range>, NoMemory>
     requires worker { IsWorker tree.now tools.old pass.old W.table W.turn }
+    requires counted { W.steps ≡ steps_made pass.old }
     requires wide { K.wide ≡ kind_width W.table.shape.kind }
     ensures rest { IsAtRest tools.new }
     ensures read { IsRead (behind_of tools.old) (behind_of tools.new) }
     ensures of { IsPassOf tree.now pass.new }
+    ensures rests { Rests pass.old pass.new }
     ensures seen { (pass_in pass.new).seen ≡ records_of (behind_of tools.new).pen.history }
     ensures saw { known.Saw (opened tree.now) (pass_in pass.old) (pass_in pass.new) }
     ensures items { IfOk result (λ ranges. ranges.items ≡ map_seen tree.now (pass_in pass.new)) }

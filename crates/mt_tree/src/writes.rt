@@ -4,7 +4,7 @@ ghost use Rattle.std.specs.Prelude.{◌≡◌, ◌≤◌, IfOk, IfErr};
 ghost use Rattle.mt_base.specs.declared.calls.Call.TheVariants as calls;
 ghost use Rattle.mt_base.specs.Passes.{Wrote, Learned};
 ghost use Rattle.mt_rule.specs.Tokens.{pass_in, note_in};
-ghost use Rattle.mt_tree.specs.Trees.{opened, limit_of, IsPassOf, IsNoteOf, IsWorn, NamesPass, WasAnswered};
+ghost use Rattle.mt_tree.specs.Trees.{opened, limit_of, IsPassOf, IsNoteOf, IsWorn, NamesPass, TriesOnce, WasAnswered};
 
 use crate::shapes::{Done, Worn};
 use crate::trees::Tree;
@@ -26,8 +26,9 @@ impl Tree {
         ensures named { IfOk result (λ d. NamesPass self.now d.reply) }
         ensures answered { IfOk result (λ d. WasAnswered self.now (pass_in pass.new) call.now d) }
         ensures worn { IfErr result (λ w. IsWorn self.now (pass_in pass.old) w (pass_in pass.new)) }
+        ensures tries { TriesOnce pass.old pass.new }
     {
-        let mut taken = self.turn.take(rt, pass);
+        let mut taken = self.take(rt, pass);
         let done = taken.value.act(self, pass, call);
         self.turn.give(taken);
         done
@@ -52,6 +53,7 @@ impl Tree {
         ensures named { IfOk result (λ d. NamesPass self.now d.reply) }
         ensures answered { IfOk result (λ d. WasAnswered self.now (pass_in pass.new) (calls.Store first last entry) d) }
         ensures worn { IfErr result (λ w. IsWorn self.now (pass_in pass.old) w (pass_in pass.new)) }
+        ensures tries { TriesOnce pass.old pass.new }
     {
         self.act(rt, pass, &Call::Store { first, last, entry })
     }
@@ -76,6 +78,7 @@ impl Tree {
         ensures named { IfOk result (λ d. NamesPass self.now d.reply) }
         ensures answered { IfOk result (λ d. WasAnswered self.now (pass_in pass.new) (calls.StorePre first last entry) d) }
         ensures worn { IfErr result (λ w. IsWorn self.now (pass_in pass.old) w (pass_in pass.new)) }
+        ensures tries { TriesOnce pass.old pass.new }
     {
         self.act(rt, pass, &Call::StorePre { first, last, entry })
     }
@@ -99,6 +102,7 @@ impl Tree {
         ensures named { IfOk result (λ d. NamesPass self.now d.reply) }
         ensures answered { IfOk result (λ d. WasAnswered self.now (pass_in pass.new) (calls.Insert first last entry) d) }
         ensures worn { IfErr result (λ w. IsWorn self.now (pass_in pass.old) w (pass_in pass.new)) }
+        ensures tries { TriesOnce pass.old pass.new }
     {
         self.act(rt, pass, &Call::Insert { first, last, entry })
     }
@@ -115,6 +119,7 @@ impl Tree {
         ensures named { IfOk result (λ d. NamesPass self.now d.reply) }
         ensures answered { IfOk result (λ d. WasAnswered self.now (pass_in pass.new) (calls.Erase index) d) }
         ensures worn { IfErr result (λ w. IsWorn self.now (pass_in pass.old) w (pass_in pass.new)) }
+        ensures tries { TriesOnce pass.old pass.new }
     {
         self.act(rt, pass, &Call::Erase { index })
     }
@@ -139,6 +144,7 @@ impl Tree {
         ensures named { IfOk result (λ d. NamesPass self.now d.reply) }
         ensures answered { IfOk result (λ d. WasAnswered self.now (pass_in pass.new) (calls.Alloc size min max entry) d) }
         ensures worn { IfErr result (λ w. IsWorn self.now (pass_in pass.old) w (pass_in pass.new)) }
+        ensures tries { TriesOnce pass.old pass.new }
     {
         self.act(
             rt,
@@ -172,6 +178,7 @@ impl Tree {
         ensures named { IfOk result (λ d. NamesPass self.now d.reply) }
         ensures answered { IfOk result (λ d. WasAnswered self.now (pass_in pass.new) (calls.Ralloc size min max entry) d) }
         ensures worn { IfErr result (λ w. IsWorn self.now (pass_in pass.old) w (pass_in pass.new)) }
+        ensures tries { TriesOnce pass.old pass.new }
     {
         self.act(
             rt,
@@ -205,6 +212,7 @@ impl Tree {
         ensures named { IfOk result (λ d. NamesPass self.now d.reply) }
         ensures answered { IfOk result (λ d. WasAnswered self.now (pass_in pass.new) (calls.Gap size min max) d) }
         ensures worn { IfErr result (λ w. IsWorn self.now (pass_in pass.old) w (pass_in pass.new)) }
+        ensures tries { TriesOnce pass.old pass.new }
     {
         self.act(rt, pass, &Call::Gap { size, min, max })
     }
@@ -229,6 +237,7 @@ impl Tree {
         ensures named { IfOk result (λ d. NamesPass self.now d.reply) }
         ensures answered { IfOk result (λ d. WasAnswered self.now (pass_in pass.new) (calls.Rgap size min max) d) }
         ensures worn { IfErr result (λ w. IsWorn self.now (pass_in pass.old) w (pass_in pass.new)) }
+        ensures tries { TriesOnce pass.old pass.new }
     {
         self.act(rt, pass, &Call::Rgap { size, min, max })
     }
@@ -245,6 +254,7 @@ impl Tree {
         ensures named { IfOk result (λ d. NamesPass self.now d.reply) }
         ensures answered { IfOk result (λ d. WasAnswered self.now (pass_in pass.new) calls.Clear d) }
         ensures worn { IfErr result (λ w. IsWorn self.now (pass_in pass.old) w (pass_in pass.new)) }
+        ensures tries { TriesOnce pass.old pass.new }
     {
         self.act(rt, pass, &Call::Clear)
     }

@@ -1,6 +1,6 @@
 use Rattle.std.proofs.Common.{sym, ap, ◌∙◌}
 use Rattle.mt_rows.specs.Sheet.{Sheet}
-use Rattle.mt_tree.proofs.AtWork.{at_work, kind_still, still_few}
+use Rattle.mt_tree.proofs.AtWork.{at_work, kind_still, seat_of, still_few}
 use Rattle.mt_tree.proofs.Calling.{map_still, only_read, saw_all, told_still}
 use Rattle.mt_tree.proofs.Forms.{form_behind, high_as, idle_as, lawful_as, reads_through, words_behind}
 use Rattle.mt_tree.proofs.copies.check_at_work.Goals as goal
@@ -22,6 +22,9 @@ of_height-engine-requires-clause-height g c =
     let w = at_work c.args.tree.now c.args.tools.now c.args.pass.now g.W.Writer.table g.W.Writer.turn c.begin-engine.result c.requires.worker c.begin-engine.ensures.kind c.begin-engine.ensures.book c.begin-engine.ensures.sheet c.begin-engine.ensures.shown in
     high_as _ _ _ c.height-height.result c.parts-rows.ensures.rows c.form_of-form.ensures.rest c.height-height.ensures
 
+pub end-requires-clause-turn : goal.end-requires-clause-turn
+end-requires-clause-turn g c = seat_of _ _ _ c.requires.worker.turn_is c.requires.worker.pass
+
 pub end-requires-clause-few : goal.end-requires-clause-few
 end-requires-clause-few g c =
     let w = at_work c.args.tree.now c.args.tools.now c.args.pass.now g.W.Writer.table g.W.Writer.turn c.begin-engine.result c.requires.worker c.begin-engine.ensures.kind c.begin-engine.ensures.book c.begin-engine.ensures.sheet c.begin-engine.ensures.shown in
@@ -35,7 +38,7 @@ returns-clause-read g c =
     let reads = reads_through _ _ _ _ c.parts-rows.ensures.rows c.form_of-form.ensures.rest c.of_height-engine.ensures.sheet in
     let book = c.of_height-engine.ensures.book ∙ c.parts-rows.ensures.book in
     let kind' = c.of_height-engine.ensures.kind ∙ sym kind in
-    only_read _ _ _ _ _ _ _ _ w c.end.ensures reads book kind'
+    only_read _ _ _ _ _ _ _ _ w c.end.ensures.back reads book kind'
 
 pub returns-clause-saw : goal.returns-clause-saw
 returns-clause-saw g c =
@@ -44,7 +47,7 @@ returns-clause-saw g c =
     let reads = reads_through _ _ _ _ c.parts-rows.ensures.rows c.form_of-form.ensures.rest c.of_height-engine.ensures.sheet in
     let book = c.of_height-engine.ensures.book ∙ c.parts-rows.ensures.book in
     let kind' = c.of_height-engine.ensures.kind ∙ sym kind in
-    saw_all _ _ _ _ _ _ _ _ w c.end.ensures (told_still _ _ _ _ _ _ _ _ w c.end.ensures reads book kind')
+    saw_all _ _ _ _ _ _ _ _ w c.end.ensures.back (told_still _ _ _ _ _ _ _ _ w c.end.ensures.back reads book kind')
 
 pub returns-clause-words : goal.returns-clause-words
 returns-clause-words g c =
@@ -53,7 +56,7 @@ returns-clause-words g c =
     let reads = reads_through _ _ _ _ c.parts-rows.ensures.rows c.form_of-form.ensures.rest c.of_height-engine.ensures.sheet in
     let book = c.of_height-engine.ensures.book ∙ c.parts-rows.ensures.book in
     let kind' = c.of_height-engine.ensures.kind ∙ sym kind in
-    words_behind _ _ _ _ _ w _ (map_still _ _ _ _ _ _ _ _ w c.end.ensures (told_still _ _ _ _ _ _ _ _ w c.end.ensures reads book kind'))
+    words_behind _ _ _ _ _ w _ (map_still _ _ _ _ _ _ _ _ w c.end.ensures.back (told_still _ _ _ _ _ _ _ _ w c.end.ensures.back reads book kind'))
 
 pub returns-clause-form : goal.returns-clause-form
 returns-clause-form g c =

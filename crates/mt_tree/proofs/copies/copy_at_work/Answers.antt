@@ -5,7 +5,7 @@ use Rattle.mt_rows.specs.Memory.{sheet_in}
 use Rattle.mt_rows.specs.Plain.{new_sheet}
 use Rattle.mt_rows.specs.Publish.{map_by}
 use Rattle.mt_rows.specs.Sheet.{Sheet}
-use Rattle.mt_tree.proofs.AtWork.{at_work, kind_still, rows_still, still_few}
+use Rattle.mt_tree.proofs.AtWork.{at_work, kind_still, rows_still, seat_of, still_few}
 use Rattle.mt_tree.proofs.Calling.{map_still, only_read, saw_all, told_still}
 use Rattle.mt_tree.proofs.Forms.{high_as, idle_as, lawful_as, live_as, live_behind, live_within, ready_there, reads_through, within_behind, words_behind}
 use Rattle.mt_tree.proofs.copies.copy_at_work.Goals as goal
@@ -32,6 +32,9 @@ of_height-engine-requires-clause-height g c =
     let w = at_work c.args.tree.now c.args.tools.now c.args.pass.now g.W.Writer.table g.W.Writer.turn c.begin-engine.result c.requires.worker c.begin-engine.ensures.kind c.begin-engine.ensures.book c.begin-engine.ensures.sheet c.begin-engine.ensures.shown in
     high_as _ _ _ c.height-height.result c.parts-rows.ensures.rows c.copy_out.ensures.rest c.height-height.ensures
 
+pub end-requires-clause-turn : goal.end-requires-clause-turn
+end-requires-clause-turn g c = seat_of _ _ _ c.requires.worker.turn_is c.requires.worker.pass
+
 pub end-requires-clause-few : goal.end-requires-clause-few
 end-requires-clause-few g c =
     let w = at_work c.args.tree.now c.args.tools.now c.args.pass.now g.W.Writer.table g.W.Writer.turn c.begin-engine.result c.requires.worker c.begin-engine.ensures.kind c.begin-engine.ensures.book c.begin-engine.ensures.sheet c.begin-engine.ensures.shown in
@@ -45,7 +48,7 @@ returns-clause-read g c =
     let reads = reads_through _ _ _ _ c.parts-rows.ensures.rows c.copy_out.ensures.rest c.of_height-engine.ensures.sheet in
     let book = c.of_height-engine.ensures.book ∙ c.parts-rows.ensures.book in
     let kind' = c.of_height-engine.ensures.kind ∙ sym kind in
-    only_read _ _ _ _ _ _ _ _ w c.end.ensures reads book kind'
+    only_read _ _ _ _ _ _ _ _ w c.end.ensures.back reads book kind'
 
 pub returns-clause-saw : goal.returns-clause-saw
 returns-clause-saw g c =
@@ -54,7 +57,7 @@ returns-clause-saw g c =
     let reads = reads_through _ _ _ _ c.parts-rows.ensures.rows c.copy_out.ensures.rest c.of_height-engine.ensures.sheet in
     let book = c.of_height-engine.ensures.book ∙ c.parts-rows.ensures.book in
     let kind' = c.of_height-engine.ensures.kind ∙ sym kind in
-    saw_all _ _ _ _ _ _ _ _ w c.end.ensures (told_still _ _ _ _ _ _ _ _ w c.end.ensures reads book kind')
+    saw_all _ _ _ _ _ _ _ _ w c.end.ensures.back (told_still _ _ _ _ _ _ _ _ w c.end.ensures.back reads book kind')
 
 pub returns-clause-words : goal.returns-clause-words
 returns-clause-words g c =
@@ -63,7 +66,7 @@ returns-clause-words g c =
     let reads = reads_through _ _ _ _ c.parts-rows.ensures.rows c.copy_out.ensures.rest c.of_height-engine.ensures.sheet in
     let book = c.of_height-engine.ensures.book ∙ c.parts-rows.ensures.book in
     let kind' = c.of_height-engine.ensures.kind ∙ sym kind in
-    words_behind _ _ _ _ _ w _ (map_still _ _ _ _ _ _ _ _ w c.end.ensures (told_still _ _ _ _ _ _ _ _ w c.end.ensures reads book kind'))
+    words_behind _ _ _ _ _ w _ (map_still _ _ _ _ _ _ _ _ w c.end.ensures.back (told_still _ _ _ _ _ _ _ _ w c.end.ensures.back reads book kind'))
 
 pub returns-clause-live : goal.returns-clause-live
 returns-clause-live g c =
@@ -84,6 +87,6 @@ returns-clause-copy g c =
     let reads = reads_through _ _ _ _ c.parts-rows.ensures.rows c.copy_out.ensures.rest c.of_height-engine.ensures.sheet in
     let book = c.of_height-engine.ensures.book ∙ c.parts-rows.ensures.book in
     let kind' = c.of_height-engine.ensures.kind ∙ sym kind in
-    let all = ap (λ (s : Sheet). map_by s.tree) c.parts-rows.ensures.rows ∙ map_still _ _ _ _ _ _ _ _ w c.end.ensures (told_still _ _ _ _ _ _ _ _ w c.end.ensures reads book kind') in
+    let all = ap (λ (s : Sheet). map_by s.tree) c.parts-rows.ensures.rows ∙ map_still _ _ _ _ _ _ _ _ w c.end.ensures.back (told_still _ _ _ _ _ _ _ _ w c.end.ensures.back reads book kind') in
     let lawful = lawful_as _ _ _ _ _ c.parts-rows.ensures.rows kind c.parts-rows.ensures.idle in
     λ room. ready_there _ _ _ _ _ _ c.args.tree.now.kind (rows_still _ _ _ _ _ w) all c.args.own.now.rows (sheet_in c.copy_out.new.dst) c.copy_out.new.book (c.copy_out.ensures.copy room _ lawful)

@@ -1,21 +1,19 @@
 use Rattle.std.proofs.Common.{◌≡◌, ℕ, ◌≤◌, ◌<◌, None, [], length, sym, ap, ◌∙◌, subst}
 use Rattle.std.specs.List.{AllByRecursion}
-use Rattle.atomic_table.specs.declared.badge.Badge.{Badge}
 use Rattle.mt_base.specs.Passes.{IsSound}
 use Rattle.mt_engine.specs.Engine.{IsIdle}
 use Rattle.mt_pen.specs.Sheets.{sheet_told, unscanned}
 use Rattle.mt_pen.specs.Works.{OpensSmall}
 use Rattle.mt_rows.specs.Sheet.{Sheet}
-use Rattle.mt_rule.specs.declared.views.TurnView.{TurnView}
 use Rattle.mt_rule.specs.Scans.{IsScanOf}
 use Rattle.mt_rule.specs.Seats.{records_of}
 use Rattle.mt_rule.specs.Tokens.{Identity, IsPassOf, pen_in, pass_in, tree_in}
-use Rattle.mt_tree.specs.Works.{records_told}
+use Rattle.mt_tree.specs.Works.{IsSeatOf, records_told}
 use Rattle.mt_tree.proofs.Ending.{kept_again, knows_again, parts_again}
 use Rattle.mt_tree.proofs.works.end.Goals as goal
 
-pub returns : goal.returns
-returns g c =
+pub returns-clause-back : goal.returns-clause-back
+returns-clause-back g c =
     let i = g.W.Writer.table in
     let e = c.args.engine in
     let book = c.parts-rows.result.1 in
@@ -26,16 +24,14 @@ returns g c =
     let idle : IsIdle e.kind e.sheet book = subst (λ (s : Sheet). IsIdle e.kind s book) c.parts-rows.ensures.rows c.parts-rows.ensures.idle in
     let opens : OpensSmall i.shape = subst (λ (x : Identity). OpensSmall x.shape) (sym c.requires.table) c.args.tree.now.opens in
     let few : length (records_told e.sheet.told) ≤ i.shape.calls = subst (λ (x : Identity). length (records_told e.sheet.told) ≤ x.shape.calls) (sym c.requires.table) c.requires.few in
+    let seat = subst (IsSeatOf c.args.tree.now) (sym after.turn) c.requires.turn in
     record {
       rest = (after.alone, kept_again i p q e.sheet e.kind book same idle after.whole.0 after.whole.1 (ap (λ (x : Identity). x.shape) after.pen) opens after.dealt c.height-height.result c.height-height.ensures few);
       of = after.pen ∙ c.requires.table;
       parts = parts_again i p q e.sheet e.kind book same idle ∙ (λ k. record { sheet = record (unscanned e.sheet) { told = None }; book = c.parts-rows.ensures.book k; kind = e.kind });
       pass = record {
         of = subst (λ (x : Identity). IsPassOf x c.end-pen.result.1) c.requires.table after.pass;
-        seated = record {
-          table = ap (λ (b : Badge TurnView). b.table_id) after.turn ∙ c.requires.turn.table;
-          views = ap (λ (b : Badge TurnView). b.views) after.turn ∙ c.requires.turn.views;
-        };
+        seated = record { table = seat.table; views = seat.views };
       };
       sound = subst (λ (x : Identity). IsSound (tree_in x) q) c.requires.table after.sound;
       callers = subst (λ (n : ℕ). AllByRecursion (λ r. r.pass < n) (records_of p.history)) (after.dealt ∙ ap (λ (x : Identity). x.shape.passes) c.requires.table) after.whole.1.history.callers;

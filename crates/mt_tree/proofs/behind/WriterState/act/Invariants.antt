@@ -1,9 +1,9 @@
-use Rattle.mt_rule.specs.Tokens.{turn_seat}
+use Rattle.mt_rule.specs.Tokens.{steps_made, turn_seat}
 use Rattle.mt_tree.specs.Trees.{place_of}
 use Rattle.mt_tree.proofs.behind.WriterState.act.Given as goal
 
 abbrev pub ghosts-act : goal.ghosts-act
-ghosts-act a = record { table = place_of a.tree.now; turn = turn_seat a.pass.now }
+ghosts-act a = record { table = place_of a.tree.now; turn = turn_seat a.pass.now; steps = steps_made a.pass.now }
 
 abbrev pub ghosts-act-2 : goal.ghosts-act-2
-ghosts-act-2 a = record { table = place_of a.tree.now; turn = turn_seat a.pass.now }
+ghosts-act-2 a = record { table = place_of a.tree.now; turn = turn_seat a.pass.now; steps = steps_made a.pass.now }

@@ -1,9 +1,9 @@
-use Rattle.mt_rule.specs.Tokens.{turn_seat}
+use Rattle.mt_rule.specs.Tokens.{steps_made, turn_seat}
 use Rattle.mt_tree.specs.Trees.{place_of}
 use Rattle.mt_tree.proofs.behind.WriterState.check.Given as goal
 
 abbrev pub ghosts-check_at_work : goal.ghosts-check_at_work
-ghosts-check_at_work a = record { table = place_of a.tree.now; turn = turn_seat a.pass.now }
+ghosts-check_at_work a = record { table = place_of a.tree.now; turn = turn_seat a.pass.now; steps = steps_made a.pass.now }
 
 abbrev pub ghosts-check_at_work-2 : goal.ghosts-check_at_work-2
-ghosts-check_at_work-2 a = record { table = place_of a.tree.now; turn = turn_seat a.pass.now }
+ghosts-check_at_work-2 a = record { table = place_of a.tree.now; turn = turn_seat a.pass.now; steps = steps_made a.pass.now }

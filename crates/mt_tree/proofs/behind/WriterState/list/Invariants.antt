@@ -1,9 +1,9 @@
-use Rattle.mt_rule.specs.Tokens.{turn_seat}
+use Rattle.mt_rule.specs.Tokens.{steps_made, turn_seat}
 use Rattle.mt_tree.specs.Trees.{place_of}
 use Rattle.mt_tree.proofs.behind.WriterState.list.Given as goal
 
 abbrev pub ghosts-list : goal.ghosts-list
-ghosts-list a = record { table = place_of a.tree.now; turn = turn_seat a.pass.now }
+ghosts-list a = record { table = place_of a.tree.now; turn = turn_seat a.pass.now; steps = steps_made a.pass.now }
 
 abbrev pub ghosts-list-2 : goal.ghosts-list-2
-ghosts-list-2 a = record { table = place_of a.tree.now; turn = turn_seat a.pass.now }
+ghosts-list-2 a = record { table = place_of a.tree.now; turn = turn_seat a.pass.now; steps = steps_made a.pass.now }

@@ -1,9 +1,9 @@
-use Rattle.mt_rule.specs.Tokens.{turn_seat}
+use Rattle.mt_rule.specs.Tokens.{steps_made, turn_seat}
 use Rattle.mt_tree.specs.Trees.{place_of}
 use Rattle.mt_tree.proofs.behind.WriterState.store_prealloc.Given as goal
 
 abbrev pub ghosts-store_prealloc : goal.ghosts-store_prealloc
-ghosts-store_prealloc a = record { table = place_of a.tree.now; turn = turn_seat a.pass.now }
+ghosts-store_prealloc a = record { table = place_of a.tree.now; turn = turn_seat a.pass.now; steps = steps_made a.pass.now }
 
 abbrev pub ghosts-store_prealloc-2 : goal.ghosts-store_prealloc-2
-ghosts-store_prealloc-2 a = record { table = place_of a.tree.now; turn = turn_seat a.pass.now }
+ghosts-store_prealloc-2 a = record { table = place_of a.tree.now; turn = turn_seat a.pass.now; steps = steps_made a.pass.now }
