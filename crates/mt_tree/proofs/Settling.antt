@@ -110,9 +110,13 @@ have_met t a b p q ps qs calls joined count own s = record {
   count = ap suc (length-map qs pass_in ∙ (s.count ∙ sym (length-map ps pass_in)));
   history = records_of a.pen.history;
   all = length-map a.pen.history record_of ∙ sym count;
+  callers = All-from_recursion (λ (r : Record). r.pass < passes_of t) (records_of a.pen.history) (all_map (λ (r : Record). r.pass < a.pen.dealt) (λ (r : Record). r.pass < passes_of t) of_tree (records_of a.pen.history) own.0.sound.history.callers);
   each = each;
 }
   where
+    of_tree : (r : Record) → r.pass < a.pen.dealt → r.pass < passes_of t
+    of_tree r low = let few = own.0.sound.history.dealt in let many = ap (λ (x : Shape). x.passes) own.1 in omega (arith, low, few, many)
+
     each : (i : ℕ) (x y : known.Pass) → slice_get (map pass_in (p ∷ ps)) i ≡ Some x → slice_get (map pass_in (q ∷ qs)) i ≡ Some y → Met t a (x, y)
     each zero x y is is' = subst (Met t a) (λ k. (some_same (pass_in p) x is k, some_same (pass_in q) y is' k)) (own.0.saw, own.0.all)
     each (suc i) x y is is' =

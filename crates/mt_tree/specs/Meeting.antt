@@ -1,12 +1,12 @@
 -- Passes of a tree that meet under its lock: each then sees its whole history.
 -- Source: this project's own.
-use Rattle.std.specs.Prelude.{◌≡◌, ℕ, List, Some, length, slice_get}
+use Rattle.std.specs.Prelude.{◌≡◌, ℕ, ◌<◌, All, List, Some, length, slice_get}
 use Rattle.mt_base.specs.History.{Record}
 use Rattle.mt_base.specs.Passes as known
 use Rattle.mt_rule.specs.declared.views.PenPart.{PenPart}
 use Rattle.mt_rule.specs.Tokens.{WasShown}
 use Rattle.mt_tree.specs.declared.trees.Tree.{Tree}
-use Rattle.mt_tree.specs.Trees.{Pass, pass_in, opened, place_of}
+use Rattle.mt_tree.specs.Trees.{Pass, pass_in, opened, passes_of, place_of}
 
 -- the pen of this tree has shown a pass what it knows
 abbrev pub Shown : Tree → PenPart → known.Pass → known.Pass → Type 0
@@ -17,9 +17,11 @@ pub record AreShown (t : Tree) (pen : PenPart) (ps qs : List Pass) : Type 0 wher
   pub count : length qs ≡ length ps
   pub each : (i : ℕ) (p q : Pass) → slice_get ps i ≡ Some p → slice_get qs i ≡ Some q → Shown t pen (pass_in p) (pass_in q)
 
--- These passes have met: each has then seen the same calls, which are all that the tree has had, and so many.
+-- These passes have met: each has then seen the same calls, which are all that the tree has had, and so many. Each call is of a pass
+-- of the tree, by its number.
 pub record HaveMet (t : Tree) (ps qs : List known.Pass) (calls : ℕ) : Type 0 where
   pub count : length qs ≡ length ps
   pub history : List Record
   pub all : length history ≡ calls
+  pub callers : All (λ r. r.pass < passes_of t) history
   pub each : (i : ℕ) (p q : known.Pass) → slice_get ps i ≡ Some p → slice_get qs i ≡ Some q → known.Saw (opened t) p q × (q.seen ≡ history)
