@@ -10,7 +10,7 @@ use Rattle.mt_rows.specs.Publish.{tree_as, map_by, IsLawfulOf}
 use Rattle.mt_free.specs.Book.{Book, live_count}
 use Rattle.mt_engine.specs.Engine.{IsIdle, Parts}
 use Rattle.mt_engine.specs.Heights.{HasHeight}
-use Rattle.mt_tree.proofs.Copying.{live_reached, reached_within}
+use Rattle.mt_tree.proofs.Copying.{live_reached}
 use Rattle.mt_tree.specs.declared.trees.Tree.{Tree}
 use Rattle.mt_tree.specs.Behind.{Behind}
 use Rattle.mt_tree.specs.declared.shapes.Field.{Field}
@@ -40,9 +40,6 @@ idle_as kind kind' e s s' book taken same reads idle = subst (λ (k : Kind). IsI
 
 pub live_as : (kind : Kind) (e s : Sheet) (book : Book) → s ≡ e → IsIdle kind s book → live_count book ≡ length (reached_in s.tree.table s.tree.root)
 live_as kind e s book taken idle = live_reached kind s book idle
-
-pub live_within : (kind : Kind) (e s : Sheet) (book : Book) (live : ℕ) → s ≡ e → IsIdle kind s book → live ≡ length (reached_in s.tree.table s.tree.root) → live ≤ s.tree.rows
-live_within kind e s book live taken idle is = subst (λ (n : ℕ). n ≤ s.tree.rows) (sym is) (reached_within kind s book idle)
 
 pub high_as : (e s s' : Sheet) (height : ℕ) → s ≡ e → OnlyReads s s' → HasHeight e.tree height → HasHeight s'.tree height
 high_as e s s' height same reads high = subst (λ (x : Sheet). HasHeight x.tree height) (sym reads) (subst (λ (x : Sheet). HasHeight x.tree height) (sym same) high)
@@ -75,9 +72,6 @@ module _ (t : Tree) (i : Identity) (b : Behind) (p : known.Pass) (e : Parts) (w 
     pub live_behind : (live : ℕ) → live ≡ live_rows read.tree → live ≡ live_rows b.parts.sheet.tree
     live_behind live is = is ∙ ap live_rows read_is
 
-    pub within_behind : (live : ℕ) → live ≤ read.tree.rows → live ≤ (opened t).rows
-    within_behind live within = subst (λ (n : ℕ). live ≤ n) (ap (λ (x : Rooted). x.rows) (read_is ∙ sym (tree_is t i b p e w)) ∙ rows_still t i b p e w) within
-
 -- ---- of the tree
 
 module _ (kind kind' : Kind) (rows rows' : ℕ) (m m' : List Range) (same : kind ≡ kind') (many : rows ≡ rows') (all : m ≡ m') where
@@ -100,16 +94,12 @@ image_known kind rows m words bytes of image = record { words = words; of = of; 
 pub map_imaged : (kind : Kind) (rows : ℕ) (m : List Range) (words : Rooted) (bytes : List ℕ) → AreWordsOf kind rows m words → IsImageOf kind words bytes → IsImageOfMap kind m bytes
 map_imaged kind rows m words bytes of image = subst (λ (x : List Range). IsImageOfMap kind x bytes) of.map (image_of_map kind words bytes image)
 
-pub count_known : (kind : Kind) (rows : ℕ) (m : List Range) (words : Rooted) (live : ℕ) → AreWordsOf kind rows m words → live ≡ live_rows words → live ≤ rows → IsRowCount kind rows m live
-count_known kind rows m words live of is within = record { words = words; of = of; live_is = is; within = within }
-
--- of words that are told
-pub own_count : (kind : Kind) (t : Rooted) (live : ℕ) → IsLawfulOf t kind → live ≡ live_rows t → IsRowCount kind t.rows (map_by t) live
-own_count kind t live lawful is = record {
-  words = t;
-  of = record { lawful = lawful; many = refl; map = refl };
+pub count_known : (kind : Kind) (rows : ℕ) (m : List Range) (words : Rooted) (live : ℕ) → AreWordsOf kind rows m words → live ≡ live_rows words → IsRowCount kind rows m live
+count_known kind rows m words live of is = record {
+  words = words;
+  of = of;
   live_is = is;
-  within = subst (λ (n : ℕ). n ≤ t.rows) (sym is) (few_reached kind t lawful);
+  within = subst (λ (n : ℕ × ℕ). n.0 ≤ n.1) (λ k. (sym is k, of.many k)) (few_reached kind words of.lawful);
 }
 
 pub copy_ready : (kind : Kind) (t read : Rooted) (live wanted rows : ℕ) (s : Sheet) (book : Book) → read ≡ t → rows ≡ wanted → IsLawfulOf t kind
@@ -148,31 +138,37 @@ module _ {X : Type 0} (kind : Kind) (rows : ℕ) (m : List Range) (wanted : ℕ)
     few = λ told other is. let lacks = counted.few told other is in (count, lacks.0, lacks.1, lacks.2);
   }
 
-  -- a copy that was refused before a row was counted
-  module _ (shape : Shape) (source : Kind) where
-    abbrev made_of : DupError → Result X DupError
-    made_of e = Err e
+  pub refused_uncounted : (shape : Shape) (source : Kind) (e : DupError) → IsRefusal shape source (Some e) → IsCopyCounted {X = X} kind rows m wanted (Err e)
+  refused_uncounted shape source (errors.BadShape f) is = uncounted (Err (errors.BadShape f)) tt
+  refused_uncounted shape source errors.Invalid is = uncounted (Err errors.Invalid) tt
+  refused_uncounted shape source (errors.NoNodes told live) is = absurd is
+  refused_uncounted shape source errors.NoMemory is = absurd is
 
-    pub bad_refused : (e : DupError) → IsRefusal shape source (Some e) → (field : Field) → (made_of e ≡ Err (errors.BadShape field)) ↔ (first_bad shape ≡ Some field)
-    bad_refused (errors.BadShape f) is field = (
-      λ same. is ∙ (let one : f ≡ field = cc in ap (λ (g : Field). Some g) one),
-      λ found. let both : Some f ≡ Some field = sym is ∙ found in let one : f ≡ field = cc in ap (λ (g : Field). Err (errors.BadShape g)) one,
-    )
-    bad_refused errors.Invalid is field = (λ same. absurd (cc), λ found. absurd (let both : None ≡ Some field = sym is.0 ∙ found in cc))
-    bad_refused (errors.NoNodes told live) is field = absurd is
-    bad_refused errors.NoMemory is field = absurd is
+-- a copy that was refused before a row was counted
+module _ {X : Type 0} (shape : Shape) (source : Kind) where
+  abbrev made_of : DupError → Result X DupError
+  made_of e = Err e
 
-    pub invalid_refused : (e : DupError) → IsRefusal shape source (Some e) → (made_of e ≡ Err errors.Invalid) ↔ ((first_bad shape ≡ None) × (shape.kind ≢ source))
-    invalid_refused (errors.BadShape f) is = (λ same. absurd (cc), λ two. absurd (let both : Some f ≡ None = sym is ∙ two.0 in cc))
-    invalid_refused errors.Invalid is = (λ same. is, λ two. refl)
-    invalid_refused (errors.NoNodes told live) is = absurd is
-    invalid_refused errors.NoMemory is = absurd is
+  pub bad_refused : (e : DupError) → IsRefusal shape source (Some e) → (field : Field) → (made_of e ≡ Err (errors.BadShape field)) ↔ (first_bad shape ≡ Some field)
+  bad_refused (errors.BadShape f) is field = (
+    λ same. is ∙ (let one : f ≡ field = cc in ap (λ (g : Field). Some g) one),
+    λ found. let both : Some f ≡ Some field = sym is ∙ found in let one : f ≡ field = cc in ap (λ (g : Field). Err (errors.BadShape g)) one,
+  )
+  bad_refused errors.Invalid is field = (λ same. absurd (cc), λ found. absurd (let both : None ≡ Some field = sym is.0 ∙ found in cc))
+  bad_refused (errors.NoNodes told live) is field = absurd is
+  bad_refused errors.NoMemory is field = absurd is
 
-    pub refused_uncounted : (e : DupError) → IsRefusal shape source (Some e) → IsCopyCounted kind rows m wanted (made_of e)
-    refused_uncounted (errors.BadShape f) is = uncounted (Err (errors.BadShape f)) tt
-    refused_uncounted errors.Invalid is = uncounted (Err errors.Invalid) tt
-    refused_uncounted (errors.NoNodes told live) is = absurd is
-    refused_uncounted errors.NoMemory is = absurd is
+  pub invalid_refused : (e : DupError) → IsRefusal shape source (Some e) → (made_of e ≡ Err errors.Invalid) ↔ ((first_bad shape ≡ None) × (shape.kind ≢ source))
+  invalid_refused (errors.BadShape f) is = (λ same. absurd (cc), λ two. absurd (let both : Some f ≡ None = sym is ∙ two.0 in cc))
+  invalid_refused errors.Invalid is = (λ same. is, λ two. refl)
+  invalid_refused (errors.NoNodes told live) is = absurd is
+  invalid_refused errors.NoMemory is = absurd is
+
+  pub refused_live : (live wanted : ℕ) (e : DupError) → IsRefusal shape source (Some e) → IsLiveCounted live wanted (made_of e)
+  refused_live live wanted (errors.BadShape f) is = record { enough = λ ok. absurd (cc); few = λ told counted is. absurd (cc) }
+  refused_live live wanted errors.Invalid is = record { enough = λ ok. absurd (cc); few = λ told counted is. absurd (cc) }
+  refused_live live wanted (errors.NoNodes told counted) is = absurd is
+  refused_live live wanted errors.NoMemory is = absurd is
 
 -- ---- a copy that is opened
 

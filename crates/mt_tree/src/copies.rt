@@ -19,10 +19,11 @@ ghost use Rattle.mt_tree.specs.declared.shapes.Field.{Field};
 ghost use Rattle.mt_tree.specs.Behind.{behind_of, IsAtRest, IsRead};
 ghost use Rattle.mt_tree.specs.Copies.{live_rows, AreWordsOf, IsCopyCounted, IsForRoom, IsFormOf, IsLiveCounted, IsReadyToOpen, IsRefusal, IsRowCount};
 ghost use Rattle.mt_tree.specs.Shapes.{first_bad};
-ghost use Rattle.mt_tree.specs.Trees.{opened, map_seen, place_of, IsPassOf, IsNew, Rests, TriesOnce, steps_made};
+ghost use Rattle.mt_tree.specs.Trees.{opened, map_seen, place_of, IsPassOf, IsNew, IsOpen, Rests, TriesOnce, steps_made};
 ghost use Rattle.mt_tree.specs.Works.{IsWorker};
 
 use crate::behind::{Tools, WriterState};
+use crate::locked::Locked;
 use crate::shapes::{DupError, Shape};
 use crate::trees::Tree;
 use crate::works::{begin, by_width, end};
@@ -33,7 +34,7 @@ use mt_engine::Engine;
 use mt_free::RowBook;
 use mt_pen::Writer;
 use mt_rows::{PlainRows, Rows};
-use mt_rule::{LongRows, OfWidth, Pass, ShortRows};
+use mt_rule::{LongRows, OfWidth, Pass, ShortRows, Taken};
 use std::alloc::Global;
 use std::marker::Brand;
 use std::sync::Wait;
@@ -83,6 +84,7 @@ fn check_at_work<W: Writer, K: OfWidth>(
     ensures read { IsRead (behind_of tools.old) (behind_of tools.new) }
     ensures of { IsPassOf tree.now pass.new }
     ensures rests { Rests pass.old pass.new }
+    ensures seen { (pass_in pass.new).seen ≡ records_of (behind_of tools.new).pen.history }
     ensures saw { Saw (opened tree.now) (pass_in pass.old) (pass_in pass.new) }
     ensures words { AreWordsOf (opened tree.now).kind (opened tree.now).rows (map_seen tree.now (pass_in pass.new)) (behind_of tools.old).parts.sheet.tree }
     ensures form { result ≡ form_of (tree_as (opened tree.now).kind (behind_of tools.old).parts.sheet.tree) }
@@ -113,10 +115,10 @@ fn copy_at_work<W: Writer, K: OfWidth>(
     ensures read { IsRead (behind_of tools.old) (behind_of tools.new) }
     ensures of { IsPassOf tree.now pass.new }
     ensures rests { Rests pass.old pass.new }
+    ensures seen { (pass_in pass.new).seen ≡ records_of (behind_of tools.new).pen.history }
     ensures saw { Saw (opened tree.now) (pass_in pass.old) (pass_in pass.new) }
     ensures words { AreWordsOf (opened tree.now).kind (opened tree.now).rows (map_seen tree.now (pass_in pass.new)) (behind_of tools.old).parts.sheet.tree }
     ensures live { result ≡ live_rows (behind_of tools.old).parts.sheet.tree }
-    ensures within { result ≤ (opened tree.now).rows }
     ensures copy { result ≤ own.old.rows → IsReadyToOpen (opened tree.now).kind own.old.rows (map_seen tree.now (pass_in pass.new)) (sheet_in dst.new) own.new }
 {
     let engine = begin::<W, K>(tools, tree, pass);
@@ -182,7 +184,7 @@ fn open_copy(
 }
 
 /// A tree of this shape, which is in range, that opens with the map of these rows.
-#[tactic(auto, using(crate::proofs::Forms::uncounted, crate::proofs::Forms::counted_behind))]
+#[tactic(auto, using(crate::proofs::Forms::copy_lacks_memory))]
 fn copied_of(
     alloc: Global,
     shape: Shape,
@@ -191,7 +193,7 @@ fn copied_of(
     requires shape { first_bad shape ≡ None }
     requires lawful { IsLawfulOf (sheet_in rows.old).tree shape.kind }
     ensures new { IfOk result (λ r. IsNew shape (map_by (sheet_in rows.old).tree) r.0 r.1.items) }
-    ensures counted { IsCopyCounted shape.kind (sheet_in rows.old).tree.rows (map_by (sheet_in rows.old).tree) shape.rows result }
+    ensures counted { IsLiveCounted (live_rows (sheet_in rows.old).tree) shape.rows result }
     ensures room { IfErr result IsForRoom }
     ensures rest { OnlyReads (sheet_in rows.old) (sheet_in rows.new) }
 {
@@ -211,6 +213,7 @@ impl WriterState {
         ensures state { IsRead self.old self.new }
         ensures of { IsPassOf tree.now pass.new }
         ensures rests { Rests pass.old pass.new }
+        ensures seen { (pass_in pass.new).seen ≡ records_of self.new.pen.history }
         ensures saw { Saw (opened tree.now) (pass_in pass.old) (pass_in pass.new) }
         ensures words { AreWordsOf (opened tree.now).kind (opened tree.now).rows (map_seen tree.now (pass_in pass.new)) self.old.parts.sheet.tree }
         ensures form { result ≡ form_of (tree_as (opened tree.now).kind self.old.parts.sheet.tree) }
@@ -227,19 +230,130 @@ impl WriterState {
         ensures state { IsRead self.old self.new }
         ensures of { IsPassOf tree.now pass.new }
         ensures rests { Rests pass.old pass.new }
+        ensures seen { (pass_in pass.new).seen ≡ records_of self.new.pen.history }
         ensures saw { Saw (opened tree.now) (pass_in pass.old) (pass_in pass.new) }
         ensures words { AreWordsOf (opened tree.now).kind (opened tree.now).rows (map_seen tree.now (pass_in pass.new)) self.old.parts.sheet.tree }
         ensures live { result ≡ live_rows self.old.parts.sheet.tree }
-        ensures within { result ≤ (opened tree.now).rows }
         ensures copy { result ≤ own.old.rows → IsReadyToOpen (opened tree.now).kind own.old.rows (map_seen tree.now (pass_in pass.new)) (sheet_in dst.new) own.new }
     {
         by_width!(tree, copy_at_work(&mut self.tools, tree, pass, dst, own))
     }
 }
 
+/// The form of the words of a locked tree.
+fn check_under(taken: &mut Taken<WriterState>, tree: &Tree, pass: &mut Pass) -> Form
+    requires { IsOpen tree.now pass.old taken.old.value taken.old.seat }
+    ensures open { IsOpen tree.now pass.new taken.new.value taken.new.seat }
+    ensures rests { Rests pass.old pass.new }
+    ensures behind { IsRead taken.old.value taken.new.value }
+    ensures pass { pass_in pass.new ≡ pass_in pass.old }
+    ensures words { AreWordsOf (opened tree.now).kind (opened tree.now).rows (map_seen tree.now (pass_in pass.new)) taken.old.value.parts.sheet.tree }
+    ensures form { result ≡ form_of (tree_as (opened tree.now).kind taken.old.value.parts.sheet.tree) }
+{
+    taken.value.check(tree, pass)
+}
+
+/// Copies a locked tree into new rows, where they are as many as it has in use. Answers how many it has.
+fn copy_under(
+    taken: &mut Taken<WriterState>,
+    tree: &Tree,
+    pass: &mut Pass,
+    dst: &mut PlainRows,
+    own: &mut RowBook,
+) -> u64
+    requires open { IsOpen tree.now pass.old taken.old.value taken.old.seat }
+    requires rows { sheet_in dst.old ≡ new_sheet (kind_width (opened tree.now).kind) own.old.rows }
+    requires book { own.old ≡ new_book own.old.rows }
+    ensures open { IsOpen tree.now pass.new taken.new.value taken.new.seat }
+    ensures rests { Rests pass.old pass.new }
+    ensures behind { IsRead taken.old.value taken.new.value }
+    ensures pass { pass_in pass.new ≡ pass_in pass.old }
+    ensures words { AreWordsOf (opened tree.now).kind (opened tree.now).rows (map_seen tree.now (pass_in pass.new)) taken.old.value.parts.sheet.tree }
+    ensures live { result ≡ live_rows taken.old.value.parts.sheet.tree }
+    ensures copy { result ≤ own.old.rows → IsReadyToOpen (opened tree.now).kind own.old.rows (map_seen tree.now (pass_in pass.new)) (sheet_in dst.new) own.new }
+{
+    taken.value.copy(tree, pass, dst, own)
+}
+
+impl<'a> Locked<'a, Taken<WriterState>> {
+    /// The form of the tree's words: those that lie behind the lock, which stand for the map after all calls.
+    pub fn check(&mut self) -> Form
+        ensures same_reference { self.new.pass.ghost_name ≡ self.old.pass.ghost_name }
+        ensures tree { self.new.tree ≡ self.old.tree }
+        ensures rests { Rests self.old.pass.now self.new.pass.now }
+        ensures pass { pass_in self.new.pass.now ≡ pass_in self.old.pass.now }
+        ensures behind { IsRead self.old.taken.value self.new.taken.value }
+        ensures words { AreWordsOf (opened self.old.tree.now).kind (opened self.old.tree.now).rows (map_seen self.old.tree.now (pass_in self.old.pass.now)) self.old.taken.value.parts.sheet.tree }
+        ensures form { result ≡ form_of (tree_as (opened self.old.tree.now).kind self.old.taken.value.parts.sheet.tree) }
+    {
+        check_under(&mut self.taken, self.tree, self.pass)
+    }
+
+    /// Copies the words into new rows, where they are as many as the tree has in use. Answers how many it has.
+    fn copy(&mut self, dst: &mut PlainRows, own: &mut RowBook) -> u64
+        requires rows { sheet_in dst.old ≡ new_sheet (kind_width (opened self.old.tree.now).kind) own.old.rows }
+        requires book { own.old ≡ new_book own.old.rows }
+        ensures same_reference { self.new.pass.ghost_name ≡ self.old.pass.ghost_name }
+        ensures tree { self.new.tree ≡ self.old.tree }
+        ensures rests { Rests self.old.pass.now self.new.pass.now }
+        ensures pass { pass_in self.new.pass.now ≡ pass_in self.old.pass.now }
+        ensures behind { IsRead self.old.taken.value self.new.taken.value }
+        ensures words { AreWordsOf (opened self.old.tree.now).kind (opened self.old.tree.now).rows (map_seen self.old.tree.now (pass_in self.old.pass.now)) self.old.taken.value.parts.sheet.tree }
+        ensures live { result ≡ live_rows self.old.taken.value.parts.sheet.tree }
+        ensures copy { result ≤ own.old.rows → IsReadyToOpen (opened self.old.tree.now).kind own.old.rows (map_seen self.old.tree.now (pass_in self.old.pass.now)) (sheet_in dst.new) own.new }
+    {
+        copy_under(&mut self.taken, self.tree, self.pass, dst, own)
+    }
+
+    /// The same where this shape is in range and of the tree's kind: a tree that opens with the copy.
+    #[tactic(auto, using(crate::proofs::Forms::copy_lacks_memory))]
+    fn copied(&mut self, alloc: Global, shape: Shape) -> Result<(Tree, Vec<Pass>), DupError>
+        requires shape { first_bad shape ≡ None }
+        requires kind { shape.kind ≡ (opened self.old.tree.now).kind }
+        ensures same_reference { self.new.pass.ghost_name ≡ self.old.pass.ghost_name }
+        ensures tree { self.new.tree ≡ self.old.tree }
+        ensures rests { Rests self.old.pass.now self.new.pass.now }
+        ensures pass { pass_in self.new.pass.now ≡ pass_in self.old.pass.now }
+        ensures behind { IsRead self.old.taken.value self.new.taken.value }
+        ensures counted { IsLiveCounted (live_rows self.old.taken.value.parts.sheet.tree) shape.rows result }
+        ensures new { IfOk result (λ r. IsNew shape (map_seen self.old.tree.now (pass_in self.old.pass.now)) r.0 r.1.items) }
+        ensures room { IfErr result IsForRoom }
+    {
+        let Ok((mut rows, mut book)) = room(alloc, &shape) else {
+            return Err(DupError::NoMemory);
+        };
+        let live = self.copy(&mut rows, &mut book);
+        open_copy(alloc, shape, live, rows, book)
+    }
+
+    /// A new tree of the same kind that opens with this tree's map, as it is after all calls, and the new tree's passes. It is
+    /// refused as by `Tree::dup`, and for want of rows just where the words that lie behind the lock have more in use.
+    ///
+    /// # Errors
+    ///
+    /// `BadShape`; `Invalid` where the kind is another; `NoMemory` where there is none for the new rows; `NoNodes` where they are
+    /// too few; `NoMemory` where there is none for the new tree.
+    #[tactic(auto, using(crate::proofs::Forms::bad_refused, crate::proofs::Forms::invalid_refused, crate::proofs::Forms::refused_live))]
+    pub fn dup(&mut self, alloc: Global, shape: Shape) -> Result<(Tree, Vec<Pass>), DupError>
+        ensures same_reference { self.new.pass.ghost_name ≡ self.old.pass.ghost_name }
+        ensures tree { self.new.tree ≡ self.old.tree }
+        ensures rests { Rests self.old.pass.now self.new.pass.now }
+        ensures pass { pass_in self.new.pass.now ≡ pass_in self.old.pass.now }
+        ensures behind { IsRead self.old.taken.value self.new.taken.value }
+        ensures bad { (field : Field) → (result ≡ Err (DupError.BadShape field)) ↔ (first_bad shape ≡ Some field) }
+        ensures invalid { (result ≡ Err DupError.Invalid) ↔ ((first_bad shape ≡ None) × (shape.kind ≢ (opened self.old.tree.now).kind)) }
+        ensures counted { IsLiveCounted (live_rows self.old.taken.value.parts.sheet.tree) shape.rows result }
+        ensures new { IfOk result (λ r. IsNew shape (map_seen self.old.tree.now (pass_in self.old.pass.now)) r.0 r.1.items) }
+    {
+        match refusal(&shape, self.tree.shape.kind) {
+            Some(error) => Err(error),
+            None => self.copied(alloc, shape),
+        }
+    }
+}
+
 impl Tree {
     /// The form of the tree's words, whose map is that after all that the pass has then seen.
-    #[tactic(auto, using(crate::proofs::Forms::form_known))]
     pub fn check(&self, rt: &impl Wait, pass: &mut Pass) -> Form
         requires { IsPassOf self.now pass.old }
         ensures of { IsPassOf self.now pass.new }
@@ -247,9 +361,9 @@ impl Tree {
         ensures saw { Saw (opened self.now) (pass_in pass.old) (pass_in pass.new) }
         ensures form { IsFormOf (opened self.now).kind (opened self.now).rows (map_seen self.now (pass_in pass.new)) result }
     {
-        let mut taken = self.take(rt, pass);
-        let form = taken.value.check(self, pass);
-        self.turn.give(taken);
+        let mut write = self.lock(rt, pass);
+        let form = write.check();
+        write.unlock();
         form
     }
 
@@ -270,9 +384,9 @@ impl Tree {
         ensures live { IsRowCount (opened self.now).kind (opened self.now).rows (map_seen self.now (pass_in pass.new)) result }
         ensures copy { result ≤ book.old.rows → IsReadyToOpen (opened self.now).kind book.old.rows (map_seen self.now (pass_in pass.new)) (sheet_in dst.new) book.new }
     {
-        let mut taken = self.take(rt, pass);
-        let live = taken.value.copy(self, pass, dst, book);
-        self.turn.give(taken);
+        let mut write = self.lock(rt, pass);
+        let live = write.copy(dst, book);
+        write.unlock();
         live
     }
 
@@ -289,6 +403,7 @@ impl Tree {
         requires shape { first_bad shape ≡ None }
         requires kind { shape.kind ≡ (opened self.now).kind }
         ensures of { IsPassOf self.now pass.new }
+        ensures tries { (pass.new ≡ pass.old) ⊎ TriesOnce pass.old pass.new }
         ensures pass { (pass_in pass.new ≡ pass_in pass.old) ⊎ Saw (opened self.now) (pass_in pass.old) (pass_in pass.new) }
         ensures new { IfOk result (λ r. Saw (opened self.now) (pass_in pass.old) (pass_in pass.new) × IsNew shape (map_seen self.now (pass_in pass.new)) r.0 r.1.items) }
         ensures counted { IsCopyCounted (opened self.now).kind (opened self.now).rows (map_seen self.now (pass_in pass.new)) shape.rows result }
@@ -319,6 +434,7 @@ impl Tree {
     ) -> Result<(Tree, Vec<Pass>), DupError>
         requires { IsPassOf self.now pass.old }
         ensures of { IsPassOf self.now pass.new }
+        ensures tries { (pass.new ≡ pass.old) ⊎ TriesOnce pass.old pass.new }
         ensures pass { (pass_in pass.new ≡ pass_in pass.old) ⊎ Saw (opened self.now) (pass_in pass.old) (pass_in pass.new) }
         ensures bad { (field : Field) → (result ≡ Err (DupError.BadShape field)) ↔ (first_bad shape ≡ Some field) }
         ensures invalid { (result ≡ Err DupError.Invalid) ↔ ((first_bad shape ≡ None) × (shape.kind ≢ (opened self.now).kind)) }
@@ -338,7 +454,7 @@ impl Tree {
     ///
     /// `BadShape`; `Invalid` where the shape is of another kind; `NoMemory` where there is none for the new rows; `NoNodes` where
     /// they are too few; `NoMemory` where there is none for the new tree.
-    #[tactic(auto, using(crate::proofs::Forms::uncounted, crate::proofs::Forms::bad_refused, crate::proofs::Forms::invalid_refused, crate::proofs::Forms::refused_uncounted))]
+    #[tactic(auto, using(crate::proofs::Forms::bad_refused, crate::proofs::Forms::invalid_refused, crate::proofs::Forms::refused_live))]
     pub fn of_rows(
         alloc: Global,
         shape: Shape,
@@ -348,7 +464,7 @@ impl Tree {
         requires { IsLawfulOf (sheet_in rows.old).tree kind }
         ensures bad { (field : Field) → (result ≡ Err (DupError.BadShape field)) ↔ (first_bad shape ≡ Some field) }
         ensures invalid { (result ≡ Err DupError.Invalid) ↔ ((first_bad shape ≡ None) × (shape.kind ≢ kind)) }
-        ensures counted { IsCopyCounted kind (sheet_in rows.old).tree.rows (map_by (sheet_in rows.old).tree) shape.rows result }
+        ensures counted { IsLiveCounted (live_rows (sheet_in rows.old).tree) shape.rows result }
         ensures new { IfOk result (λ r. IsNew shape (map_by (sheet_in rows.old).tree) r.0 r.1.items) }
         ensures rest { OnlyReads (sheet_in rows.old) (sheet_in rows.new) }
     {

@@ -4,20 +4,22 @@ ghost use Rattle.std.specs.Prelude.{◌≡◌, IfOk};
 ghost use Rattle.mt_base.specs.Passes.{Saw};
 ghost use Rattle.mt_base.specs.Width.{kind_width};
 ghost use Rattle.mt_image.specs.Images.{IsImageOf, IsImageOfMap};
+ghost use Rattle.mt_rule.specs.Seats.{records_of};
 ghost use Rattle.mt_rule.specs.Tokens.{pass_in};
 ghost use Rattle.mt_tree.specs.Behind.{behind_of, IsAtRest, IsRead};
 ghost use Rattle.mt_tree.specs.Copies.{AreWordsOf, IsImageIn};
-ghost use Rattle.mt_tree.specs.Trees.{opened, map_seen, place_of, IsPassOf, Rests, TriesOnce, steps_made};
+ghost use Rattle.mt_tree.specs.Trees.{opened, map_seen, place_of, IsPassOf, IsOpen, Rests, TriesOnce, steps_made};
 ghost use Rattle.mt_tree.specs.Works.{IsWorker};
 
 use crate::behind::{Tools, WriterState};
+use crate::locked::Locked;
 use crate::trees::Tree;
 use crate::works::{begin, by_width, end};
 use mt_base::{NoMemory, Width};
 use mt_engine::Engine;
 use mt_image::write_image;
 use mt_pen::Writer;
-use mt_rule::{LongRows, OfWidth, Pass, ShortRows};
+use mt_rule::{LongRows, OfWidth, Pass, ShortRows, Taken};
 use std::alloc::Global;
 use std::marker::Brand;
 use std::sync::Wait;
@@ -36,6 +38,7 @@ fn image_at_work<W: Writer, K: OfWidth>(
     ensures read { IsRead (behind_of tools.old) (behind_of tools.new) }
     ensures of { IsPassOf tree.now pass.new }
     ensures rests { Rests pass.old pass.new }
+    ensures seen { (pass_in pass.new).seen ≡ records_of (behind_of tools.new).pen.history }
     ensures saw { Saw (opened tree.now) (pass_in pass.old) (pass_in pass.new) }
     ensures words { AreWordsOf (opened tree.now).kind (opened tree.now).rows (map_seen tree.now (pass_in pass.new)) (behind_of tools.old).parts.sheet.tree }
     ensures image { IfOk result (λ bytes. IsImageOf (opened tree.now).kind (behind_of tools.old).parts.sheet.tree bytes.items) }
@@ -57,11 +60,49 @@ impl WriterState {
         ensures state { IsRead self.old self.new }
         ensures of { IsPassOf tree.now pass.new }
         ensures rests { Rests pass.old pass.new }
+        ensures seen { (pass_in pass.new).seen ≡ records_of self.new.pen.history }
         ensures saw { Saw (opened tree.now) (pass_in pass.old) (pass_in pass.new) }
         ensures words { AreWordsOf (opened tree.now).kind (opened tree.now).rows (map_seen tree.now (pass_in pass.new)) self.old.parts.sheet.tree }
         ensures image { IfOk result (λ bytes. IsImageOf (opened tree.now).kind self.old.parts.sheet.tree bytes.items) }
     {
         by_width!(tree, image_at_work(&mut self.tools, tree, pass, alloc))
+    }
+}
+
+/// The image of the words of a locked tree.
+fn image_under(
+    taken: &mut Taken<WriterState>,
+    tree: &Tree,
+    pass: &mut Pass,
+    alloc: Global,
+) -> Result<Vec<u8>, NoMemory>
+    requires { IsOpen tree.now pass.old taken.old.value taken.old.seat }
+    ensures open { IsOpen tree.now pass.new taken.new.value taken.new.seat }
+    ensures rests { Rests pass.old pass.new }
+    ensures behind { IsRead taken.old.value taken.new.value }
+    ensures pass { pass_in pass.new ≡ pass_in pass.old }
+    ensures words { AreWordsOf (opened tree.now).kind (opened tree.now).rows (map_seen tree.now (pass_in pass.new)) taken.old.value.parts.sheet.tree }
+    ensures image { IfOk result (λ bytes. IsImageOf (opened tree.now).kind taken.old.value.parts.sheet.tree bytes.items) }
+{
+    taken.value.image(tree, pass, alloc)
+}
+
+impl<'a> Locked<'a, Taken<WriterState>> {
+    /// The image of the tree's words: those that lie behind the lock, which stand for the map after all calls.
+    ///
+    /// # Errors
+    ///
+    /// `NoMemory` where memory ran out.
+    pub fn image(&mut self, alloc: Global) -> Result<Vec<u8>, NoMemory>
+        ensures same_reference { self.new.pass.ghost_name ≡ self.old.pass.ghost_name }
+        ensures tree { self.new.tree ≡ self.old.tree }
+        ensures rests { Rests self.old.pass.now self.new.pass.now }
+        ensures pass { pass_in self.new.pass.now ≡ pass_in self.old.pass.now }
+        ensures behind { IsRead self.old.taken.value self.new.taken.value }
+        ensures words { AreWordsOf (opened self.old.tree.now).kind (opened self.old.tree.now).rows (map_seen self.old.tree.now (pass_in self.old.pass.now)) self.old.taken.value.parts.sheet.tree }
+        ensures image { IfOk result (λ bytes. IsImageOf (opened self.old.tree.now).kind self.old.taken.value.parts.sheet.tree bytes.items) }
+    {
+        image_under(&mut self.taken, self.tree, self.pass, alloc)
     }
 }
 
@@ -80,9 +121,9 @@ impl Tree {
         ensures map { IfOk result (λ bytes. IsImageOfMap (opened self.now).kind (map_seen self.now (pass_in pass.new)) bytes.items) }
         ensures image { IfOk result (λ bytes. IsImageIn (opened self.now).kind (opened self.now).rows (map_seen self.now (pass_in pass.new)) bytes.items) }
     {
-        let mut taken = self.take(rt, pass);
-        let image = taken.value.image(self, pass, alloc);
-        self.turn.give(taken);
+        let mut write = self.lock(rt, pass);
+        let image = write.image(alloc);
+        write.unlock();
         image
     }
 }

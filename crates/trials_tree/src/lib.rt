@@ -12,6 +12,8 @@ mod example;
 #[cfg(test)]
 mod images;
 #[cfg(test)]
+mod locked;
+#[cfg(test)]
 mod pen;
 #[cfg(test)]
 mod rule;

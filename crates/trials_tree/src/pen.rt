@@ -6,7 +6,7 @@ ghost use Rattle.mt_base.specs.declared.kinds.Kind.{Kind};
 ghost use Rattle.mt_rows.specs.Plain.{new_sheet};
 ghost use Rattle.mt_rule.specs.Limits.{most_passes};
 ghost use Rattle.mt_rule.specs.Seats.{new_pen};
-ghost use Rattle.mt_rule.specs.Tokens.{identity_of, shape_opened, turn_seat, IsPassOf, pen_in, IsPenOf, IsAlone};
+ghost use Rattle.mt_rule.specs.Tokens.{identity_of, shape_opened, steps_made, turn_seat, IsPassOf, pen_in, IsPenOf, IsAlone};
 ghost use Rattle.mt_pen.specs.Works.{OpensSmall};
 
 use crate::asserts::{KINDS, same};
@@ -49,6 +49,7 @@ fn work<W: Writer, K: OfWidth>(rt: &impl Abort, table: &MtTable, kind: Kind, pen
     requires wide { K.wide ≡ kind_width kind }
     requires table { identity_of table.now ≡ W.table }
     requires turn { turn_seat pass ≡ W.turn }
+    requires counted { steps_made pass ≡ W.steps }
     requires shape { (identity_of table.now).shape ≡ shape_opened kind (new_sheet (kind_width kind) 3) 1 8 }
     requires pen { IsPenOf (identity_of table.now) pen }
     requires alone { IsAlone pen }
@@ -117,6 +118,7 @@ fn close<L: Ledger>(blank: Blank, table: &MtTable, pass: &mut Pass)
 fn scanned<W: Writer, K: OfWidth>(table: &MtTable, pen: Pen, pass: Pass) -> (Scan, Pen, Pass)
     requires table { identity_of table.now ≡ W.table }
     requires turn { turn_seat pass ≡ W.turn }
+    requires counted { steps_made pass ≡ W.steps }
     requires opens { OpensSmall (identity_of table.now).shape }
     requires wide { K.wide ≡ kind_width (identity_of table.now).shape.kind }
     requires pen { IsPenOf (identity_of table.now) pen }

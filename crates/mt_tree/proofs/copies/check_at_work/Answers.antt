@@ -1,7 +1,7 @@
 use Rattle.std.proofs.Common.{sym, ap, ◌∙◌}
 use Rattle.mt_rows.specs.Sheet.{Sheet}
 use Rattle.mt_tree.proofs.AtWork.{at_work, kind_still, seat_of, still_few}
-use Rattle.mt_tree.proofs.Calling.{map_still, only_read, saw_all, told_still}
+use Rattle.mt_tree.proofs.Calling.{map_still, only_read, saw_all, seen_still, told_still}
 use Rattle.mt_tree.proofs.Forms.{form_behind, high_as, idle_as, lawful_as, reads_through, words_behind}
 use Rattle.mt_tree.proofs.copies.check_at_work.Goals as goal
 
@@ -39,6 +39,15 @@ returns-clause-read g c =
     let book = c.of_height-engine.ensures.book ∙ c.parts-rows.ensures.book in
     let kind' = c.of_height-engine.ensures.kind ∙ sym kind in
     only_read _ _ _ _ _ _ _ _ w c.end.ensures.back reads book kind'
+
+pub returns-clause-seen : goal.returns-clause-seen
+returns-clause-seen g c =
+    let w = at_work c.args.tree.now c.args.tools.now c.args.pass.now g.W.Writer.table g.W.Writer.turn c.begin-engine.result c.requires.worker c.begin-engine.ensures.kind c.begin-engine.ensures.book c.begin-engine.ensures.sheet c.begin-engine.ensures.shown in
+    let kind = kind_still _ _ _ _ _ w ∙ sym c.args.tree.now.kind in
+    let reads = reads_through _ _ _ _ c.parts-rows.ensures.rows c.form_of-form.ensures.rest c.of_height-engine.ensures.sheet in
+    let book = c.of_height-engine.ensures.book ∙ c.parts-rows.ensures.book in
+    let kind' = c.of_height-engine.ensures.kind ∙ sym kind in
+    seen_still _ _ _ _ _ _ _ _ w c.end.ensures.back (told_still _ _ _ _ _ _ _ _ w c.end.ensures.back reads book kind')
 
 pub returns-clause-saw : goal.returns-clause-saw
 returns-clause-saw g c =

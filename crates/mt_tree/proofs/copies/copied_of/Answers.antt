@@ -1,11 +1,11 @@
-use Rattle.std.proofs.Common.{sym, ap, ◌∙◌}
+use Rattle.std.proofs.Common.{ℕ, sym, ap, ◌∙◌, subst}
 use Rattle.mt_check.specs.declared.faults.Form.{Form}
 use Rattle.mt_free.specs.Book.{Book}
 use Rattle.mt_rows.specs.Memory.{sheet_in}
 use Rattle.mt_rows.specs.Publish.{map_by}
 use Rattle.mt_rows.specs.Sheet.{Sheet}
-use Rattle.mt_tree.specs.Copies.{live_rows}
-use Rattle.mt_tree.proofs.Forms.{copy_ready, counted_behind, own_count}
+use Rattle.mt_tree.specs.Copies.{live_rows, IsLiveCounted}
+use Rattle.mt_tree.proofs.Forms.{copy_ready}
 use Rattle.mt_tree.proofs.copies.copied_of.Goals as goal
 
 pub copy_out-requires-clause-live : goal.copy_out-requires-clause-live
@@ -22,4 +22,4 @@ returns-clause-new c =
 
 pub returns-clause-counted : goal.returns-clause-counted
 returns-clause-counted c =
-    counted_behind _ _ _ _ _ _ (own_count c.args.shape.kind (sheet_in c.args.rows.now).tree _ c.requires.lawful (ap (λ (f : Form). f.rows) c.form_of-live.ensures.form)) c.open_copy.ensures.counted
+    subst (λ (n : ℕ). IsLiveCounted n c.args.shape.rows c.open_copy.result) (ap (λ (f : Form). f.rows) c.form_of-live.ensures.form) c.open_copy.ensures.counted

@@ -6,8 +6,8 @@ use Rattle.mt_rows.specs.Plain.{new_sheet}
 use Rattle.mt_rows.specs.Publish.{map_by}
 use Rattle.mt_rows.specs.Sheet.{Sheet}
 use Rattle.mt_tree.proofs.AtWork.{at_work, kind_still, rows_still, seat_of, still_few}
-use Rattle.mt_tree.proofs.Calling.{map_still, only_read, saw_all, told_still}
-use Rattle.mt_tree.proofs.Forms.{high_as, idle_as, lawful_as, live_as, live_behind, live_within, ready_there, reads_through, within_behind, words_behind}
+use Rattle.mt_tree.proofs.Calling.{map_still, only_read, saw_all, seen_still, told_still}
+use Rattle.mt_tree.proofs.Forms.{high_as, idle_as, lawful_as, live_as, live_behind, ready_there, reads_through, words_behind}
 use Rattle.mt_tree.proofs.copies.copy_at_work.Goals as goal
 
 pub copy_out-requires-clause-lawful : goal.copy_out-requires-clause-lawful
@@ -50,6 +50,15 @@ returns-clause-read g c =
     let kind' = c.of_height-engine.ensures.kind ∙ sym kind in
     only_read _ _ _ _ _ _ _ _ w c.end.ensures.back reads book kind'
 
+pub returns-clause-seen : goal.returns-clause-seen
+returns-clause-seen g c =
+    let w = at_work c.args.tree.now c.args.tools.now c.args.pass.now g.W.Writer.table g.W.Writer.turn c.begin-engine.result c.requires.worker c.begin-engine.ensures.kind c.begin-engine.ensures.book c.begin-engine.ensures.sheet c.begin-engine.ensures.shown in
+    let kind = kind_still _ _ _ _ _ w ∙ sym c.args.tree.now.kind in
+    let reads = reads_through _ _ _ _ c.parts-rows.ensures.rows c.copy_out.ensures.rest c.of_height-engine.ensures.sheet in
+    let book = c.of_height-engine.ensures.book ∙ c.parts-rows.ensures.book in
+    let kind' = c.of_height-engine.ensures.kind ∙ sym kind in
+    seen_still _ _ _ _ _ _ _ _ w c.end.ensures.back (told_still _ _ _ _ _ _ _ _ w c.end.ensures.back reads book kind')
+
 pub returns-clause-saw : goal.returns-clause-saw
 returns-clause-saw g c =
     let w = at_work c.args.tree.now c.args.tools.now c.args.pass.now g.W.Writer.table g.W.Writer.turn c.begin-engine.result c.requires.worker c.begin-engine.ensures.kind c.begin-engine.ensures.book c.begin-engine.ensures.sheet c.begin-engine.ensures.shown in
@@ -73,12 +82,6 @@ returns-clause-live g c =
     let w = at_work c.args.tree.now c.args.tools.now c.args.pass.now g.W.Writer.table g.W.Writer.turn c.begin-engine.result c.requires.worker c.begin-engine.ensures.kind c.begin-engine.ensures.book c.begin-engine.ensures.sheet c.begin-engine.ensures.shown in
     let live = c.live-live.ensures ∙ live_as _ _ _ _ c.parts-rows.ensures.rows c.parts-rows.ensures.idle in
     live_behind _ _ _ _ _ w _ c.parts-rows.ensures.rows c.live-live.result live
-
-pub returns-clause-within : goal.returns-clause-within
-returns-clause-within g c =
-    let w = at_work c.args.tree.now c.args.tools.now c.args.pass.now g.W.Writer.table g.W.Writer.turn c.begin-engine.result c.requires.worker c.begin-engine.ensures.kind c.begin-engine.ensures.book c.begin-engine.ensures.sheet c.begin-engine.ensures.shown in
-    let live = c.live-live.ensures ∙ live_as _ _ _ _ c.parts-rows.ensures.rows c.parts-rows.ensures.idle in
-    within_behind _ _ _ _ _ w _ c.parts-rows.ensures.rows c.live-live.result (live_within _ _ _ _ c.live-live.result c.parts-rows.ensures.rows c.parts-rows.ensures.idle live)
 
 pub returns-clause-copy : goal.returns-clause-copy
 returns-clause-copy g c =
