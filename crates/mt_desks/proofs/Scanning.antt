@@ -10,7 +10,7 @@ use Rattle.mt_log.specs.declared.transcripts.Entry.{Entry}
 use Rattle.mt_log.specs.Run.{Asked, Step, Outcome, Looked, IsScan, entry_of, step_of, find_at, place_behind}
 use Rattle.mt_runs.specs.Leads.{Does, Leads, Learns, by_lane_on, outcomes_of}
 use Rattle.mt_runs.proofs.Leading.{learns_none, leads_last, leads_one, leads_on, stands_otherwise}
-use Rattle.mt_desks.specs.Scans.{IsLooked, IsScanned, KeepsOne, ScansSoFar}
+use Rattle.mt_desks.specs.Scans.{IsLooked, IsScanned, KeepsOne}
 use Rattle.mt_desks.specs.Walks.{Walk, HasWalked, OpensOnce, opened_at, place_after}
 
 -- one step of a line, on its tree
@@ -18,6 +18,13 @@ pub step_leads : (tree : History) (number : ℕ) (a : Asked) (p q : Pass) (o : O
 step_leads tree number a p q o does =
     let one : outcomes_of number a.lane (step_of a number o ∷ []) ≡ o ∷ [] = rw (eq-eqb number number refl, eq-eqb a.lane a.lane refl) refl in
     subst (λ (z : List Outcome). Leads tree p z q) (sym one) (leads_one tree p o q does)
+
+-- a scan that is to go on with so many reads, from the place here
+pub record ScansSoFar (a : Asked) (number max count : ℕ) (at : Option ℕ) (left : ℕ) (here : Option ℕ) (tree : History) (p q : Pass) (room room' : List Entry) : Type 0 where
+  pub steps : List Step
+  pub goes : (rest : List Step) → IsScan a number max left here rest → IsScan a number max count at (steps ++ rest)
+  pub leads : Leads tree p (outcomes_of number a.lane steps) q
+  pub told : room' ≡ room ++ map entry_of steps
 
 pub scan_starts : (a : Asked) (number max count : ℕ) (at : Option ℕ) (tree : History) (p : Pass) (room : List Entry) → ScansSoFar a number max count at count at tree p p room room
 scan_starts a number max count at tree p room = record { steps = []; goes = λ rest scan. scan; leads = learns_none p; told = sym (append-nil room) }
@@ -61,13 +68,13 @@ scan_ends a number max count at here tree p q room room' f = record {
 
 -- ---- a scan by a walk
 
--- the same walk, but for its pass and its place
+-- the same walk, but for its pass, the steps of that and its place
 abbrev pub IsSameWalk : Walk → Walk → Type 0
-IsSameWalk w w' = w' ≡ record w { pass = w'.pass; at = w'.at }
+IsSameWalk w w' = w' ≡ record w { pass = w'.pass; steps = w'.steps; at = w'.at }
 
 -- a walk that has made a step
 abbrev pub HasGoneOn : Walk → Option Range → Walk → Type 0
-HasGoneOn w value w' = w' ≡ record w { pass = w'.pass; at = place_after w.max value }
+HasGoneOn w value w' = w' ≡ record w { pass = w'.pass; steps = w'.steps; at = place_after w.max value }
 
 pub walk_starts : (w : Walk) → KeepsOne w.pass w
 walk_starts w = record { once = record { epochs = []; opened = sym (append-nil w.pass.opened); once = omega arith }; none = λ shut. refl }
@@ -92,7 +99,7 @@ same_walk w here next value one two =
     let history : next.history ≡ w.history = ap (λ (z : Walk). z.history) two ∙ ap (λ (z : Walk). z.history) one in
     let reference : next.reference ≡ w.reference = ap (λ (z : Walk). z.reference) two ∙ ap (λ (z : Walk). z.reference) one in
     let max : next.max ≡ w.max = ap (λ (z : Walk). z.max) two ∙ ap (λ (z : Walk). z.max) one in
-    λ i. record { history = history i; reference = reference i; pass = next.pass; at = next.at; max = max i }
+    λ i. record { history = history i; reference = reference i; pass = next.pass; steps = next.steps; at = next.at; max = max i }
 
 looked_there : (line : ℕ) (w here : Walk) (value : Option Range) (q : Pass) (room room' : List Entry) → IsSameWalk w here → IsLooked line here.history (find_at here.at here.max) value here.pass q room room' → IsLooked line w.history (find_at here.at w.max) value here.pass q room room'
 looked_there line w here value q room room' same looked = subst (λ (z : Walk). IsLooked line z.history (find_at here.at z.max) value here.pass q room room') same looked
@@ -109,7 +116,7 @@ pub walk_finds_none : (a : Asked) (number count left : ℕ) (w here next : Walk)
 walk_finds_none a number count left w here next room room' room'' same so_far looked =
     scan_finds_none a number w.max count w.at left here.at w.history w.pass here.pass next.pass room room' room'' so_far (looked_there a.line w here None next.pass room' room'' same looked)
 
-pub scan_closes : (a : Asked) (number count : ℕ) (w here next : Walk) (room room' : List Entry) → next ≡ record here { pass = record here.pass { standing = None } }
+pub scan_closes : (a : Asked) (number count : ℕ) (w here next : Walk) (room room' : List Entry) → next ≡ record here { pass = record here.pass { standing = None }; steps = next.steps }
     → IsScanned a number w.max count w.at w.history w.pass here.pass room room' → IsScanned a number w.max count w.at w.history w.pass next.pass room room'
 scan_closes a number count w here next room room' closed s = record {
   steps = s.steps;

@@ -1,6 +1,6 @@
--- Which of a phase's lines a lane does, and how much room their answers take.
+-- Which of a phase's lines a lane does, how much room their answers take, and how many steps.
 -- Source: this project's own, the language of logs.
-use Rattle.std.specs.Prelude.{◌≡◌, ℕ, Bool, All, List, [], ◌∷◌, ◌+◌, ◌==◌, ◌&&◌, if◌then◌else◌, false, max, true}
+use Rattle.std.specs.Prelude.{◌≡◌, ℕ, Bool, All, List, [], ◌∷◌, ◌+◌, ◌*◌, ◌==◌, ◌&&◌, if◌then◌else◌, false, max, true}
 use Rattle.mt_log.specs.declared.lines.Item.{Item}
 use Rattle.mt_log.specs.declared.lines.Item.TheVariants.{Join, Dup, Check, Write, Ask, Scan}
 use Rattle.mt_log.specs.declared.lines.Line.{Line}
@@ -76,6 +76,12 @@ room_for (Write tree call) = 1
 room_for (Ask tree query) = 1
 room_for (Scan tree index max count) = count
 room_for item = 0
+
+-- how many steps without the lock a line takes at the most: a call none, and a scan one more than its finds, to close its section
+abbrev pub steps_for : Item → ℕ
+steps_for (Ask tree query) = 360
+steps_for (Scan tree index max count) = 220 * count + 1
+steps_for item = 0
 
 abbrev pub room_of : List Line → ℕ
 room_of [] = 0

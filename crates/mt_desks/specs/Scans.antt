@@ -1,4 +1,4 @@
--- What a read and a scan of a lane come to, and how far a scan has come.
+-- What a read and a scan of a lane come to.
 -- Source: this project's own, the language of logs.
 use Rattle.std.specs.Prelude.{◌≡◌, ℕ, List, [], ◌∷◌, ◌++◌, Option, None, map}
 use Rattle.mt_base.specs.declared.ranges.Range.{Range}
@@ -23,13 +23,6 @@ pub record IsLooked (line : ℕ) (tree : History) (query : Query) (value : Optio
 pub record IsScanned (a : Asked) (number max count : ℕ) (at : Option ℕ) (tree : History) (p q : Pass) (room room' : List Entry) : Type 0 where
   pub steps : List Step
   pub scan : IsScan a number max count at steps
-  pub leads : Leads tree p (outcomes_of number a.lane steps) q
-  pub told : room' ≡ room ++ map entry_of steps
-
--- a scan that is to go on with so many reads, from the place here
-pub record ScansSoFar (a : Asked) (number max count : ℕ) (at : Option ℕ) (left : ℕ) (here : Option ℕ) (tree : History) (p q : Pass) (room room' : List Entry) : Type 0 where
-  pub steps : List Step
-  pub goes : (rest : List Step) → IsScan a number max left here rest → IsScan a number max count at (steps ++ rest)
   pub leads : Leads tree p (outcomes_of number a.lane steps) q
   pub told : room' ≡ room ++ map entry_of steps
 

@@ -1,17 +1,18 @@
 -- What a walk over a shared tree's ranges has come to, and what a step makes of it.
 -- Source: the kernel's documentation of the maple tree, mas_for_each, whose state is kept from range to range.
-use Rattle.std.specs.Prelude.{◌≡◌, ◌≢◌, ℕ, ◌≤◌, List, [], ◌∷◌, ◌++◌, Option, Some, None, length}
+use Rattle.std.specs.Prelude.{◌≡◌, ◌≢◌, ℕ, ◌+◌, ◌≤◌, List, [], ◌∷◌, ◌++◌, Option, Some, None, length}
 use Rattle.mt_base.specs.declared.ranges.Range.{Range}
 use Rattle.mt_base.specs.History.{History}
 use Rattle.mt_base.specs.Passes.{Pass, Read}
 use Rattle.mt_log.specs.Run.{find_at, place_behind}
 
--- The tree as it opened; which reference to its pass the walk holds, and what that pass knows; where the next step looks from,
--- and the bound. The section that stands open for the pass is the walk's own.
+-- The tree as it opened; which reference to its pass the walk holds, what that pass knows, and how many steps it has made without
+-- the lock; where the walk looks from next, and the bound. The section that stands open for the pass is the walk's own.
 pub record Walk : Type 0 where
   pub history : History
   pub reference : ℕ
   pub pass : Pass
+  pub steps : ℕ
   pub at : Option ℕ
   pub max : ℕ
 
@@ -25,11 +26,12 @@ abbrev pub opened_at : ℕ → Option ℕ → List ℕ → List ℕ
 opened_at lo None opened = opened ++ lo ∷ []
 opened_at lo (Some epoch) opened = opened
 
--- A read of the walk, which has opened its section where that was not open, and no other. It stands open then.
+-- A read of the walk, in few steps, which has opened its section where that was not open, and no other. It stands open then.
 pub record HasWalked (lo hi : ℕ) (value : Option Range) (w w' : Walk) : Type 0 where
-  pub is : w' ≡ record w { pass = w'.pass; at = place_after w.max value }
+  pub is : w' ≡ record w { pass = w'.pass; steps = w'.steps; at = place_after w.max value }
   pub k : ℕ
   pub read : Read w.history w.pass lo hi k (find_at w.at w.max) value w'.pass
+  pub few : w'.steps ≤ w.steps + 220
   pub opened : w'.pass.opened ≡ opened_at lo w.pass.standing w.pass.opened
   pub stands : w'.pass.standing ≢ None
 

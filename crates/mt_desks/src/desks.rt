@@ -3,7 +3,7 @@
 ghost use Rattle.std.specs.Prelude.{◌≡◌, ℕ, true, None, ◌+◌, ◌<◌, ◌≤◌, length, map, vec_len, vec_capacity};
 ghost use Rattle.mt_log.specs.declared.lines.Item.TheVariants as items;
 ghost use Rattle.mt_log.specs.Trees.{NamesBelow};
-ghost use Rattle.mt_desks.specs.Dealing.{asked_of, is_step, room_for, tree_of};
+ghost use Rattle.mt_desks.specs.Dealing.{asked_of, is_step, room_for, steps_for, tree_of};
 ghost use Rattle.mt_desks.specs.Desks.{IsDoneOn, IsLineDone, IsManned};
 
 use crate::dealing::tree_of;
@@ -31,6 +31,7 @@ fn write<R: Wait, P: Passage, T: Shared<P>>(
     ensures of { T.serves tree.now pass.new }
     ensures closed { (P.knows pass.new).standing ≡ None }
     ensures done { (lane phase number : ℕ) → IsDoneOn (T.tree tree.now) number (record { line = line; lane = lane; phase = phase; item = items.Write number call.now }) (P.knows pass.old) (P.knows pass.new) room.old.items room.new.items }
+    ensures rests { P.steps pass.new ≡ P.steps pass.old }
     ensures len { vec_len room.new ≤ vec_len room.old + 1 }
     ensures capacity { vec_capacity room.new ≡ vec_capacity room.old }
 {
@@ -58,6 +59,7 @@ fn answer_on<R: Wait, P: Passage, T: Shared<P>>(
     ensures of { T.serves tree.now pass.new }
     ensures closed { (P.knows pass.new).standing ≡ None }
     ensures done { (lane phase : ℕ) → IsDoneOn (T.tree tree.now) (tree_of line.now.item) (asked_of lane phase line.now) (P.knows pass.old) (P.knows pass.new) room.old.items room.new.items }
+    ensures few { P.steps pass.new ≤ P.steps pass.old + steps_for line.now.item }
     ensures len { vec_len room.new ≤ vec_len room.old + room_for line.now.item }
     ensures capacity { vec_capacity room.new ≡ vec_capacity room.old }
 {

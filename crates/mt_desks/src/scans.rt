@@ -1,6 +1,6 @@
 //! A read of a lane, and a scan, which is one walk.
 
-ghost use Rattle.std.specs.Prelude.{◌≡◌, ℕ, ◌+◌, ◌<◌, ◌≤◌, None, Option, vec_len, vec_capacity};
+ghost use Rattle.std.specs.Prelude.{◌≡◌, ℕ, ◌+◌, ◌*◌, ◌<◌, ◌≤◌, None, Option, vec_len, vec_capacity};
 ghost use Rattle.mt_base.specs.Passes.{Pass};
 ghost use Rattle.mt_log.specs.declared.lines.Item.{Item};
 ghost use Rattle.mt_log.specs.Run.{find_at, shown, shown_range};
@@ -60,6 +60,7 @@ pub(crate) fn look<R: Wait, P: Passage, T: Shared<P>>(
     ensures of { T.serves tree.now pass.new }
     ensures closed { (P.knows pass.new).standing ≡ None }
     ensures looked { IsLooked line (T.tree tree.now).history query.now result (P.knows pass.old) (P.knows pass.new) room.old.items room.new.items }
+    ensures few { P.steps pass.new ≤ P.steps pass.old + 360 }
     ensures len { vec_len room.new ≡ vec_len room.old + 1 }
     ensures capacity { vec_capacity room.new ≡ vec_capacity room.old }
 {
@@ -79,8 +80,9 @@ fn look_on<T, W: Walks<T>>(walk: &mut W, line: u64, room: &mut Vec<Entry>) -> Op
     requires room { vec_len room.old < vec_capacity room.old }
     ensures own { W.own walk.new }
     ensures on { (tree : T) → W.on walk.old tree → W.on walk.new tree }
-    ensures is { W.walk walk.new ≡ record (W.walk walk.old) { pass = (W.walk walk.new).pass; at = place_after (W.walk walk.old).max result } }
+    ensures is { W.walk walk.new ≡ record (W.walk walk.old) { pass = (W.walk walk.new).pass; steps = (W.walk walk.new).steps; at = place_after (W.walk walk.old).max result } }
     ensures looked { IsLooked line (W.walk walk.old).history (find_at (W.walk walk.old).at (W.walk walk.old).max) result (W.walk walk.old).pass (W.walk walk.new).pass room.old.items room.new.items }
+    ensures few { (W.walk walk.new).steps ≤ (W.walk walk.old).steps + 220 }
     ensures once { (p : Pass) → KeepsOne p (W.walk walk.old) → KeepsOne p (W.walk walk.new) }
     ensures len { vec_len room.new ≡ vec_len room.old + 1 }
     ensures capacity { vec_capacity room.new ≡ vec_capacity room.old }
@@ -101,8 +103,9 @@ fn read_on<T, W: Walks<T>>(walk: &mut W, line: u64, count: u32, room: &mut Vec<E
     requires room { vec_len room.old + count ≤ vec_capacity room.old }
     ensures own { W.own walk.new }
     ensures on { (tree : T) → W.on walk.old tree → W.on walk.new tree }
-    ensures is { W.walk walk.new ≡ record (W.walk walk.old) { pass = (W.walk walk.new).pass; at = (W.walk walk.new).at } }
+    ensures is { W.walk walk.new ≡ record (W.walk walk.old) { pass = (W.walk walk.new).pass; steps = (W.walk walk.new).steps; at = (W.walk walk.new).at } }
     ensures scanned { (lane phase number : ℕ) (item : Item) → IsScanned (record { line = line; lane = lane; phase = phase; item = item }) number (W.walk walk.old).max count (W.walk walk.old).at (W.walk walk.old).history (W.walk walk.old).pass (W.walk walk.new).pass room.old.items room.new.items }
+    ensures few { (W.walk walk.new).steps ≤ (W.walk walk.old).steps + 220 * count }
     ensures once { OpensOnce (W.walk walk.old).pass (W.walk walk.new).pass }
     ensures len { vec_len room.new ≤ vec_len room.old + count }
     ensures capacity { vec_capacity room.new ≡ vec_capacity room.old }
@@ -121,9 +124,10 @@ pub fn scan<T, W: Walks<T>>(walk: &mut W, line: u64, count: u32, room: &mut Vec<
     requires room { vec_len room.old + count ≤ vec_capacity room.old }
     ensures own { W.own walk.new }
     ensures on { (tree : T) → W.on walk.old tree → W.on walk.new tree }
-    ensures is { W.walk walk.new ≡ record (W.walk walk.old) { pass = (W.walk walk.new).pass; at = (W.walk walk.new).at } }
+    ensures is { W.walk walk.new ≡ record (W.walk walk.old) { pass = (W.walk walk.new).pass; steps = (W.walk walk.new).steps; at = (W.walk walk.new).at } }
     ensures closed { (W.walk walk.new).pass.standing ≡ None }
     ensures scanned { (lane phase number : ℕ) (item : Item) → IsScanned (record { line = line; lane = lane; phase = phase; item = item }) number (W.walk walk.old).max count (W.walk walk.old).at (W.walk walk.old).history (W.walk walk.old).pass (W.walk walk.new).pass room.old.items room.new.items }
+    ensures few { (W.walk walk.new).steps ≤ (W.walk walk.old).steps + (220 * count + 1) }
     ensures once { OpensOnce (W.walk walk.old).pass (W.walk walk.new).pass }
     ensures len { vec_len room.new ≤ vec_len room.old + count }
     ensures capacity { vec_capacity room.new ≡ vec_capacity room.old }

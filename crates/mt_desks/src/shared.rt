@@ -1,6 +1,6 @@
 //! What a lane does on a tree that several share.
 
-ghost use Rattle.std.specs.Prelude.{◌≡◌, ◌+◌, ◌≤◌, ℕ, None, length, vec_len, vec_capacity, IfOk, IfErr};
+ghost use Rattle.std.specs.Prelude.{◌≡◌, ◌+◌, ◌≤◌, ℕ, ◌*◌, None, length, vec_len, vec_capacity, IfOk, IfErr};
 ghost use Rattle.mt_base.specs.Passes.{Pass, Wrote, Read, Saw};
 ghost use Rattle.mt_log.specs.declared.lines.Item.TheVariants.{Scan};
 ghost use Rattle.mt_log.specs.Run.{place_within};
@@ -33,9 +33,11 @@ pub struct Looked {
 
 /// A caller's token on a tree that several share.
 ///
-/// Its meaning is what it knows of the tree's history.
+/// Its meanings are `knows`, what it knows of the tree's history; and `steps`, how many steps it has made there without the lock.
 pub trait Passage {
     ghost knows: { Self → Pass };
+
+    ghost steps: { Self → ℕ };
 
     /// The pass's number. Those of a tree are numbered from 0.
     fn number(&self) -> u32
@@ -54,7 +56,7 @@ pub trait Shared<P: Passage> {
 
     ghost serves: { Self → P → Type 0 };
 
-    /// Makes a call.
+    /// Makes a call, by no step without the lock.
     ///
     /// # Errors
     ///
@@ -63,15 +65,17 @@ pub trait Shared<P: Passage> {
         requires of { serves self.now pass.old }
         requires closed { (P.knows pass.old).standing ≡ None }
         ensures of { serves self.now pass.new }
+        ensures rests { P.steps pass.new ≡ P.steps pass.old }
         ensures wrote { IfOk result (λ done. Wrote (tree self.now).history (P.knows pass.old) done.call call.now done.reply (P.knows pass.new)) }
         ensures worn { IfErr result (λ _. Saw (tree self.now).history (P.knows pass.old) (P.knows pass.new) × (length (P.knows pass.new).seen ≡ (tree self.now).most)) };
 
-    /// Makes a read. It leaves no section open.
+    /// Makes a read, in few steps without the lock. It leaves no section open.
     fn ask<R: Wait>(&self, rt: &R, pass: &mut P, query: &Query) -> Looked
         requires of { serves self.now pass.old }
         requires closed { (P.knows pass.old).standing ≡ None }
         ensures of { serves self.now pass.new }
         ensures closed { (P.knows pass.new).standing ≡ None }
+        ensures few { P.steps pass.new ≤ P.steps pass.old + 360 }
         ensures read { (k : ℕ) × Read (tree self.now).history (P.knows pass.old) result.lo result.hi k query.now result.value (P.knows pass.new) };
 
     /// Makes a scan from an index up to a bound: its finds, each behind the range of the one before, so many at the most, and none
@@ -85,6 +89,7 @@ pub trait Shared<P: Passage> {
         ensures closed { (P.knows pass.new).standing ≡ None }
         ensures scanned { (lane phase number : ℕ) → IsScanned (record { line = line; lane = lane; phase = phase; item = Scan number index max count }) number max count (place_within index max) (tree self.now).history (P.knows pass.old) (P.knows pass.new) room.old.items room.new.items }
         ensures once { OpensOnce (P.knows pass.old) (P.knows pass.new) }
+        ensures few { P.steps pass.new ≤ P.steps pass.old + (220 * count + 1) }
         ensures len { vec_len room.new ≤ vec_len room.old + count }
         ensures capacity { vec_capacity room.new ≡ vec_capacity room.old };
 }

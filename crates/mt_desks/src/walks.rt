@@ -1,6 +1,6 @@
 //! A walk over the ranges of a tree that several share.
 
-ghost use Rattle.std.specs.Prelude.{◌≡◌, None};
+ghost use Rattle.std.specs.Prelude.{◌≡◌, ◌+◌, ◌≤◌, None};
 ghost use Rattle.mt_desks.specs.Walks.{Walk, HasWalked};
 
 use crate::shared::Looked;
@@ -23,9 +23,10 @@ pub trait Walks<T> {
         ensures on { (tree : T) → on self.old tree → on self.new tree }
         ensures walked { HasWalked result.lo result.hi result.value (walk self.old) (walk self.new) };
 
-    /// Closes the section.
+    /// Closes the section, by one step.
     fn close(&mut self)
         ensures own { own self.new }
         ensures on { (tree : T) → on self.old tree → on self.new tree }
-        ensures closed { walk self.new ≡ record (walk self.old) { pass = record (walk self.old).pass { standing = None } } };
+        ensures closed { walk self.new ≡ record (walk self.old) { pass = record (walk self.old).pass { standing = None }; steps = (walk self.new).steps } }
+        ensures few { (walk self.new).steps ≤ (walk self.old).steps + 1 };
 }

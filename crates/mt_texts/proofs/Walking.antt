@@ -1,12 +1,21 @@
 -- A step of a cursor is one of a lane's walk.
-use Rattle.std.proofs.Common.{◌≡◌, ℕ, List, Option, Some, None, refl, sym, ap, ◌∙◌, subst}
+use Rattle.std.proofs.Common.{◌≡◌, ℕ, ◌+◌, ◌≤◌, List, Option, Some, None, refl, sym, ap, ◌∙◌, subst, arith}
 use Rattle.mt_base.specs.declared.ranges.Range.{Range}
 use Rattle.mt_base.specs.declared.calls.Query.{Query}
+use Rattle.mt_base.specs.declared.calls.Query.TheVariants.{Load, Find, Next, Prev, Rfind}
 use Rattle.mt_base.specs.History.{History}
 use Rattle.mt_base.specs.Passes.{Pass, Read}
 use Rattle.mt_log.specs.Run.{find_at}
-use Rattle.mt_tree.specs.Asks.{HasStepped, opened_with, place_behind, query_at}
+use Rattle.mt_tree.specs.Asks.{HasStepped, most_made, opened_with, place_behind, query_at}
 use Rattle.mt_desks.specs.Walks.{Walk, HasWalked, opened_at, place_after}
+
+-- any query is answered in so many steps at the most
+pub few_steps : (query : Query) → most_made query ≤ 360
+few_steps (Load index) = omega arith
+few_steps (Find index max) = omega arith
+few_steps (Next index max) = omega arith
+few_steps (Prev index min) = omega arith
+few_steps (Rfind index min) = omega arith
 
 same_query : (at : Option ℕ) (max : ℕ) → query_at at max ≡ find_at at max
 same_query None max = refl
@@ -20,21 +29,22 @@ same_opened : (epoch : Option ℕ) (opened : List ℕ) (lo : ℕ) → opened_wit
 same_opened None opened lo = refl
 same_opened (Some epoch) opened lo = refl
 
-module _ (history history' : History) (reference reference' : ℕ) (p q : Pass) (epoch at at' : Option ℕ) (max max' lo hi : ℕ) (value : Option Range) where
+module _ (history history' : History) (reference reference' : ℕ) (p q : Pass) (epoch at at' : Option ℕ) (max max' lo hi steps steps' : ℕ) (value : Option Range) where
   abbrev before : Walk
-  before = record { history = history; reference = reference; pass = p; at = at; max = max }
+  before = record { history = history; reference = reference; pass = p; steps = steps; at = at; max = max }
 
   abbrev after : Walk
-  after = record { history = history'; reference = reference'; pass = q; at = at'; max = max' }
+  after = record { history = history'; reference = reference'; pass = q; steps = steps'; at = at'; max = max' }
 
   -- the section that stands open for the pass is the cursor's own
-  pub walked : history' ≡ history → reference' ≡ reference → ((k : ℕ) × Read history p lo hi k (query_at at max) value q) → HasStepped lo hi epoch p q → at' ≡ place_behind value max → max' ≡ max → epoch ≡ p.standing → HasWalked lo hi value before after
-  walked same_history same_reference read stepped at_is max_is own =
+  pub walked : history' ≡ history → reference' ≡ reference → ((k : ℕ) × Read history p lo hi k (query_at at max) value q) → HasStepped lo hi epoch p q → at' ≡ place_behind value max → max' ≡ max → epoch ≡ p.standing → steps' ≤ steps + 220 → HasWalked lo hi value before after
+  walked same_history same_reference read stepped at_is max_is own few =
       let place : at' ≡ place_after max value = at_is ∙ same_place value max in
       record {
-        is = λ i. record { history = same_history i; reference = same_reference i; pass = q; at = place i; max = max_is i };
+        is = λ i. record { history = same_history i; reference = same_reference i; pass = q; steps = steps'; at = place i; max = max_is i };
         k = read.0;
         read = subst (λ (z : Query). Read history p lo hi read.0 z value q) (same_query at max) read.1;
+        few = few;
         opened = ap (λ (z : Pass). z.opened) stepped.pass ∙ (same_opened epoch p.opened lo ∙ ap (λ (z : Option ℕ). opened_at lo z p.opened) own);
         stands = λ none. absurd (let some = sym (ap (λ (z : Pass). z.standing) stepped.pass) ∙ none in cc);
       }

@@ -1,13 +1,13 @@
 //! Trees of nodes that threads share, as a player makes them.
 
-ghost use Rattle.std.specs.Prelude.{◌≡◌, ℕ, ◌≤◌, None, IfOk};
+ghost use Rattle.std.specs.Prelude.{◌≡◌, ℕ, ◌+◌, ◌≤◌, None, IfOk};
 ghost use Rattle.mt_base.specs.Passes as known;
 ghost use Rattle.mt_base.specs.Width.{most_rows};
 ghost use Rattle.mt_rows.specs.Memory.{sheet_in};
 ghost use Rattle.mt_rows.specs.Publish.{map_by, IsLawfulOf};
 ghost use Rattle.mt_rows.specs.Sheet.{OnlyReads};
 ghost use Rattle.mt_play.specs.Trees.{calls_taken, fewest_rows, most_passes};
-ghost use Rattle.mt_tree.specs.Trees.{IsPassOf, limit_of, opened, pass_in, passes_of};
+ghost use Rattle.mt_tree.specs.Trees.{IsPassOf, limit_of, opened, pass_in, passes_of, steps_made};
 ghost use Rattle.mt_tree.specs.Zeros.{Serve};
 
 use crate::walks::scan_by;
@@ -32,6 +32,7 @@ fn look<R: Wait>(tree: &Tree, rt: &R, pass: &mut Pass, query: &Query) -> Read<Op
     ensures of { IsPassOf tree.now pass.new }
     ensures read { (k : ℕ) × known.Read (opened tree.now) (pass_in pass.old) result.lo result.hi k query.now result.value (pass_in pass.new) }
     ensures closed { (pass_in pass.new).standing ≡ None }
+    ensures few { steps_made pass.new ≤ steps_made pass.old + 360 }
 {
     match tree.ask(pass, query) {
         Ok(read) => read,
@@ -50,6 +51,7 @@ fn ask_under_lock(
     ensures of { IsPassOf tree.now pass.new }
     ensures read { (k : ℕ) × known.Read (opened tree.now) (pass_in pass.old) result.lo result.hi k query.now result.value (pass_in pass.new) }
     ensures standing { (pass_in pass.new).standing ≡ (pass_in pass.old).standing }
+    ensures rests { steps_made pass.new ≡ steps_made pass.old }
 {
     let mut write = tree.lock(rt, pass);
     let read = write.ask(query);

@@ -17,6 +17,8 @@ pub struct Token {
 impl Passage for Token {
     ghost knows = { λ p. new_pass p.number };
 
+    ghost steps = { λ _. 0 };
+
     fn number(&self) -> u32 {
         self.number
     }

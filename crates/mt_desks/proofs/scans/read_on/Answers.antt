@@ -15,6 +15,7 @@ loop-read-init g c =
       rw e c.requires.room,
       omega arith,
       refl,
+      omega arith,
     )
 
 pub returns-in-None-clause-on : goal.returns-in-None-clause-on
@@ -54,6 +55,7 @@ loop-read-preserved g c =
       omega (arith, c.loop-read.invariant.5, e, c.look_on.ensures.len, c.look_on.ensures.capacity),
       omega (arith, c.loop-read.invariant.6, c.look_on.ensures.len),
       omega (arith, c.loop-read.invariant.7, c.look_on.ensures.capacity),
+      omega (arith, c.loop-read.invariant.8, c.look_on.ensures.few),
     )
 
 pub returns-clause-scanned : goal.returns-clause-scanned

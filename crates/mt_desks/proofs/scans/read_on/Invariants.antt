@@ -1,9 +1,9 @@
-use Rattle.std.proofs.Common.{◌≡◌, ℕ, ◌+◌, ◌-◌, ◌≤◌}
+use Rattle.std.proofs.Common.{◌≡◌, ℕ, ◌+◌, ◌-◌, ◌*◌, ◌≤◌}
 use Rattle.std.specs.Vec.{vec_len, vec_capacity}
 use Rattle.mt_log.specs.declared.lines.Item.{Item}
-use Rattle.mt_desks.specs.Scans.{KeepsOne, ScansSoFar}
+use Rattle.mt_desks.specs.Scans.{KeepsOne}
 use Rattle.mt_desks.specs.Walks.{Walk}
-use Rattle.mt_desks.proofs.Scanning.{IsSameWalk}
+use Rattle.mt_desks.proofs.Scanning.{IsSameWalk, ScansSoFar}
 use Rattle.mt_desks.proofs.scans.read_on.Given as goal
 
 abbrev pub invariant-loop-read : goal.invariant-loop-read
@@ -18,3 +18,4 @@ invariant-loop-read g l =
     × (vec_len l.room + (l.count - l._read) ≤ vec_capacity l.room)
     × (vec_len l.room ≤ vec_len l.initial.room + l._read)
     × (vec_capacity l.room ≡ vec_capacity l.initial.room)
+    × (here.steps ≤ w.steps + 220 * l._read)

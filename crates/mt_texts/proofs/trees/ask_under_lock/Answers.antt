@@ -1,13 +1,18 @@
-use Rattle.std.proofs.Common.{rules, ◌≡◌, ap, ◌∙◌, subst}
+use Rattle.std.proofs.Common.{rules, ◌≡◌, sym, ap, ◌∙◌, subst}
 use Rattle.mt_base.specs.Passes.{Read}
 use Rattle.mt_base.proofs.Goings.{grew_read, saw_grows}
 use Rattle.mt_tree.specs.declared.trees.Tree.{Tree}
-use Rattle.mt_tree.specs.Trees.{Pass, opened, pass_in}
+use Rattle.mt_tree.specs.Trees.{Pass, opened, pass_in, steps_made}
 use Rattle.mt_tree.proofs.Lending.{still_of}
 use Rattle.mt_texts.proofs.trees.ask_under_lock.Goals as goal
 
 pub returns-clause-of : goal.returns-clause-of
 returns-clause-of g c = still_of c.ask-read.new.self.tree.now c.args.tree.now _ (ap (λ b. b.now) c.ask-read.ensures.tree ∙ c.lock-write.ensures.tree) (search rules)
+
+pub returns-clause-rests : goal.returns-clause-rests
+returns-clause-rests g c =
+    let last : c.ask-read.new.self.pass.now ≡ c.pass-1.given.0 = (search rules) in
+    ap steps_made (sym last) ∙ (c.ask-read.ensures.rests.steps ∙ c.lock-write.ensures.tries.steps)
 
 pub returns-clause-read : goal.returns-clause-read
 returns-clause-read g c =

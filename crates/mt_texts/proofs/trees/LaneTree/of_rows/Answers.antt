@@ -1,5 +1,7 @@
 use Rattle.std.proofs.Common.{Err, refl, sym, ap, ◌∙◌, arith}
 use Rattle.mt_base.specs.Width.{most_rows}
+use Rattle.mt_image.proofs.FewReached.{few_reached}
+use Rattle.mt_rows.specs.Memory.{sheet_in}
 use Rattle.mt_play.specs.Trees.{calls_taken}
 use Rattle.mt_texts.proofs.Lanes.{in_range, many, new_tree}
 use Rattle.mt_texts.proofs.trees.LaneTree.of_rows.Goals as goal
@@ -13,7 +15,7 @@ unreachable-requires c =
 pub unreachable-requires-in-Err-NoNodes : goal.unreachable-requires-in-Err-NoNodes
 unreachable-requires-in-Err-NoNodes c =
     let few = c.of_rows.ensures.counted.few c.in-Err-NoNodes.field-0-0 c.in-Err-NoNodes.field-0-1 (c.in-Err-NoNodes.is ∙ ap Err c.in-Err-NoNodes.field-0-is) in
-    omega (arith, few.0.within, few.3, c.args.rows.now.plain.few)
+    omega (arith, few_reached c.args.kind (sheet_in c.args.rows.now).tree c.requires, few.2, c.args.rows.now.plain.few)
 
 pub returns-in-Ok-clause-new : goal.returns-in-Ok-clause-new
 returns-in-Ok-clause-new c = new_tree _ _ _ _ c.in-Ok.ensures.new refl

@@ -1,8 +1,8 @@
-use Rattle.std.proofs.Common.{rules, ◌≡◌, ℕ, Option, sym, ap, ◌∙◌, subst}
+use Rattle.std.proofs.Common.{rules, ◌≡◌, ℕ, ◌+◌, ◌*◌, ◌≤◌, Option, sym, ap, ◌∙◌, subst}
 use Rattle.mt_log.specs.declared.lines.Item.TheVariants.{Scan}
 use Rattle.mt_log.specs.Run.{Asked}
 use Rattle.mt_tree.specs.declared.trees.Tree.{Tree}
-use Rattle.mt_tree.specs.Trees.{Pass, opened, pass_in}
+use Rattle.mt_tree.specs.Trees.{Pass, opened, pass_in, steps_made}
 use Rattle.mt_tree.proofs.Lending.{still_of}
 use Rattle.mt_desks.specs.Scans.{IsScanned}
 use Rattle.mt_texts.proofs.trees.LaneTreeSharedPass.scan.Goals as goal
@@ -12,6 +12,11 @@ scan_by-requires-clause-own c = c.cursor-cursor.ensures.epoch ∙ sym (ap (λ (p
 
 pub returns-clause-of : goal.returns-clause-of
 returns-clause-of c = still_of c.scan_by.new.cursor.tree.now c.args.self.now.tree _ c.scan_by.ensures.tree (search rules)
+
+pub returns-clause-few : goal.returns-clause-few
+returns-clause-few c =
+    let last : c.scan_by.new.cursor.pass.now ≡ c.pass-1.given.0 = (search rules) in
+    subst (λ (z : Pass × Pass). steps_made z.1 ≤ steps_made z.0 + (220 * c.args.count + 1)) (λ i. (c.cursor-cursor.ensures.pass i, last i)) c.scan_by.ensures.few
 
 pub returns-clause-scanned : goal.returns-clause-scanned
 returns-clause-scanned c = λ lane phase number.
