@@ -24,7 +24,7 @@
  * (examples/c/reclaim.c). The sanitizer of threads sees nothing of the archive: where it is at work, maple_tsan.h tells it of these orders.
  *
  * Signals. A read may be made in a signal handler by a user that no interrupted call works on: one that the handler's thread has for its
- * handlers, say (examples/c/profiler.c). It ends in some hundred steps, also where the interrupted thread has the tree's lock, and changes
+ * handlers, say (examples/c/profiler.c). It ends within 361 steps at the tree, also where the interrupted thread has the tree's lock, and changes
  * no errno. Where it answers EAGAIN a handler gives up, for no bound is known. Stack, measured: a read takes less than MAPLE_READ_STACK
  * bytes, any other call of this header or of maple.h less than MAPLE_CALL_STACK.
  *
@@ -179,7 +179,7 @@ uint32_t maple_learn(struct maple_user *user, uint64_t calls) MAPLE_NONNULL MAPL
 uint32_t maple_sync(struct maple_user *user, uint64_t *calls) MAPLE_NONNULL MAPLE_CHECKED;
 
 /* The same of the user and of all places that no user has: so many besides have then seen one history, of so many calls. Where they
- * are all others that the tree was opened for, each call was made by one of them, which no clause of this call says.
+ * are all others that the tree was opened for, each call was made by one of them.
  * 0; EAGAIN: another user has the lock, or is just at the places. */
 uint32_t maple_settle(struct maple_user *user, uint64_t *calls, uint64_t *places) MAPLE_NONNULL MAPLE_CHECKED;
 

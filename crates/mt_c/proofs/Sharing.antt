@@ -1,6 +1,6 @@
 -- What the calls of C on a shared tree say, read off what its user does.
 use Rattle.std.proofs.Common.{◌≡◌, ◌≢◌, ◌≤◌, ◌<◌, Bool, ℕ, refl, sym, ap, ◌∙◌, inl, inr, subst, Option, Some, None}
-use Rattle.std.specs.Prelude.{◌+◌, Ok, Result, nat_le, if◌then◌else◌}
+use Rattle.std.specs.Prelude.{◌+◌, IfErr, Ok, Result, nat_le, if◌then◌else◌}
 use Rattle.std.proofs.lemmas.Bool.{le-leb, lt-leb}
 use Rattle.std.proofs.lemmas.Option.{none-some}
 use Rattle.mt_base.specs.declared.calls.Call.{Call}
@@ -13,6 +13,7 @@ use Rattle.mt_image.specs.Bytes.{kind_code}
 use Rattle.mt_rule.specs.declared.busy.Busy.{Busy}
 use Rattle.mt_tree.specs.declared.shapes.Field.{Field}
 use Rattle.mt_tree.specs.declared.shapes.Shape.{Shape}
+use Rattle.mt_tree.specs.Asks.{most_made}
 use Rattle.mt_tree.specs.Shapes.{first_bad}
 use Rattle.mt_tree.specs.declared.shapes.Read.{Read}
 use Rattle.mt_keep.specs.declared.keep.Given.{Given}
@@ -25,9 +26,10 @@ use Rattle.mt_c.specs.declared.shared_told.Outcome.{Outcome}
 use Rattle.mt_c.specs.declared.steps.OutWalk.{OutWalk}
 use Rattle.mt_c.specs.declared.shared_told.Window.{Window}
 use Rattle.mt_c.specs.Receipts.{when_given, when_settled, when_synced, when_tried, when_unchanged}
-use Rattle.mt_c.specs.Shared.{HasLeft, HasSettled, HasShared, HasSynced, HasTried, IsFirst, IsUnchanged, IsOfPurse, IsSettled, Settled, IsShape, IsSynced, IsWhy, OnUser, WantsNoPlace, SharedAsked, SharedLearned, SharedLeft, SharedNew, SharedOpened, SharedSettled, SharedStepped, SharedSynced, SharedTried, SharedWith, answer_status, calls_told, common_of, cuts, known_to, no_outcome, no_window, outcome_of, paused, rested, settled_status, settled_told, synced_status, tree_of, tried_status, unchanged_status, went_on, window_of}
-use Rattle.mt_c.specs.Walkers.{Answer, IsAnswer, IsAtRest, IsTried, StepsFrom, Tried}
+use Rattle.mt_c.specs.Shared.{HasLeft, HasSettled, HasShared, HasSynced, HasTried, IsFirst, IsUnchanged, IsOfPurse, IsSettled, Settled, IsShape, IsSynced, IsWhy, OnUser, WantsNoPlace, SharedAsked, SharedLearned, SharedLeft, SharedNew, SharedOpened, SharedSettled, SharedStepped, SharedSynced, SharedTried, SharedWith, WentToSettle, answer_status, calls_told, common_of, cuts, known_to, no_outcome, no_window, outcome_of, paused, rested, settled_status, settled_told, synced_status, tree_of, tried_status, unchanged_status, went_on, window_of}
+use Rattle.mt_c.specs.Walkers.{Answer, GaveUp, IsAnswer, IsAtRest, IsTried, StepsFrom, Took, Tried, TriedOnce, WentOnce, knows}
 use Rattle.mt_c.specs.Walking.{index_of}
+use Rattle.mt_c.proofs.Using.{took_still}
 
 on_open : (before after : Option User) (u v : User) (status : ℕ) (blank : Type 0) (says : User → User → Type 0) → before ≡ Some u → after ≡ Some v → common_of v ≡ common_of u → says u v → OnUser before after status blank says
 on_open before after u v status blank says was is tree said = subst (λ (x : Option User × Option User). OnUser x.0 x.1 status blank says) (λ i. (sym was i, sym is i)) (tree, said)
@@ -36,15 +38,17 @@ on_closed : (before after : Option User) (status : ℕ) (blank : Type 0) (says :
 on_closed before after status blank says was is number told = subst (λ (x : Option User × Option User). OnUser x.0 x.1 status blank says) (λ i. (sym was i, sym is i)) (refl, number, told)
 
 pub asked_open : (query : Query) (before after : Option User) (u v : User) (answer : Answer) (status : ℕ) (out : Window) → before ≡ Some u → after ≡ Some v → common_of v ≡ common_of u → v.chair ≡ u.chair → v.receipts ≡ u.receipts
-    → IsAnswer (tree_of u) (known_to u) query answer (known_to v) → IsAtRest v.walker → status ≡ answer_status answer → out ≡ window_of answer → SharedAsked query before after status out
-asked_open query before after u v answer status out was is common chair kept said rests number shown = on_open before after u v status _ _ was is common (answer, said, rests, record { common = common; chair = chair; receipts = kept }, number, shown)
+    → IsAnswer (tree_of u) (known_to u) query answer (known_to v) → IsAtRest v.walker → Took (most_made query) u.walker v.walker.pass → IfErr answer (GaveUp query u.walker v.walker)
+    → status ≡ answer_status answer → out ≡ window_of answer → SharedAsked query before after status out
+asked_open query before after u v answer status out was is common chair kept said rests took left number shown =
+    on_open before after u v status _ _ was is common (answer, said, rests, took, left, record { common = common; chair = chair; receipts = kept }, number, shown)
 
 pub asked_closed : (query : Query) (before after : Option User) (status : ℕ) (out : Window) → before ≡ None → after ≡ None → status ≡ 22 → out ≡ no_window → SharedAsked query before after status out
 asked_closed query before after status out was is number shown = on_closed before after status _ _ was is number shown
 
-pub has_tried : (call : Call) (u v : User) (tried : Tried) (status : ℕ) (out : Outcome) → IsTried (tree_of u) (paused u) call tried (known_to v) → v.chair ≡ u.chair → v.receipts ≡ when_tried tried u.receipts → status ≡ tried_status tried → out ≡ outcome_of tried
+pub has_tried : (call : Call) (u v : User) (tried : Tried) (status : ℕ) (out : Outcome) → IsTried (tree_of u) (paused u) call tried (known_to v) → TriedOnce u.walker v.walker → v.chair ≡ u.chair → v.receipts ≡ when_tried tried u.receipts → status ≡ tried_status tried → out ≡ outcome_of tried
     → HasTried call status out u v
-has_tried call u v tried status out said chair kept number shown = (tried, said, chair, kept, number, shown)
+has_tried call u v tried status out said once chair kept number shown = (tried, said, once, chair, kept, number, shown)
 
 pub tried_open : (call : Call) (before after : Option User) (u v : User) (status : ℕ) (out : Outcome) → before ≡ Some u → after ≡ Some v → common_of v ≡ common_of u → HasTried call status out u v → SharedTried call before after status out
 tried_open call before after u v status out was is tree has = on_open before after u v status _ _ was is tree has
@@ -62,23 +66,23 @@ pub stepped_closed : (w w' : OutWalk) (before after : Option User) (status : ℕ
 stepped_closed w w' before after status out was is number shown same = on_closed before after status _ _ was is number (shown, same)
 
 learned : (calls : ℕ) (before after : Option User) (u v : User) (r : Read (Option Range)) (status : ℕ) → before ≡ Some u → after ≡ Some v → common_of v ≡ common_of u → v.chair ≡ u.chair → v.receipts ≡ u.receipts
-    → IsAnswer (tree_of u) (known_to u) (Load 0) (Ok r) (known_to v) → IsAtRest v.walker → status ≡ (if nat_le calls r.lo then 0 else 11) → SharedLearned calls before after status
-learned calls before after u v r status was is common chair kept said rests number = on_open before after u v status _ _ was is common (r, said, rests, record { common = common; chair = chair; receipts = kept }, number)
+    → IsAnswer (tree_of u) (known_to u) (Load 0) (Ok r) (known_to v) → IsAtRest v.walker → Took 170 u.walker v.walker.pass → status ≡ (if nat_le calls r.lo then 0 else 11) → SharedLearned calls before after status
+learned calls before after u v r status was is common chair kept said rests took number = on_open before after u v status _ _ was is common (r, said, rests, took, record { common = common; chair = chair; receipts = kept }, number)
 
 pub learned_yes : (calls : ℕ) (before after : Option User) (u v : User) (r : Read (Option Range)) (status : ℕ) → before ≡ Some u → after ≡ Some v → common_of v ≡ common_of u → v.chair ≡ u.chair → v.receipts ≡ u.receipts
-    → IsAnswer (tree_of u) (known_to u) (Load 0) (Ok r) (known_to v) → IsAtRest v.walker → calls ≤ r.lo → status ≡ 0 → SharedLearned calls before after status
-learned_yes calls before after u v r status was is common chair kept said rests many number = learned calls before after u v r status was is common chair kept said rests (number ∙ sym (ap (λ (b : Bool). if b then 0 else 11) (le-leb calls r.lo many)))
+    → IsAnswer (tree_of u) (known_to u) (Load 0) (Ok r) (known_to v) → IsAtRest v.walker → Took 170 u.walker v.walker.pass → calls ≤ r.lo → status ≡ 0 → SharedLearned calls before after status
+learned_yes calls before after u v r status was is common chair kept said rests took many number = learned calls before after u v r status was is common chair kept said rests took (number ∙ sym (ap (λ (b : Bool). if b then 0 else 11) (le-leb calls r.lo many)))
 
 pub learned_no : (calls : ℕ) (before after : Option User) (u v : User) (r : Read (Option Range)) (status : ℕ) → before ≡ Some u → after ≡ Some v → common_of v ≡ common_of u → v.chair ≡ u.chair → v.receipts ≡ u.receipts
-    → IsAnswer (tree_of u) (known_to u) (Load 0) (Ok r) (known_to v) → IsAtRest v.walker → r.lo < calls → status ≡ 11 → SharedLearned calls before after status
-learned_no calls before after u v r status was is common chair kept said rests few number = learned calls before after u v r status was is common chair kept said rests (number ∙ sym (ap (λ (b : Bool). if b then 0 else 11) (lt-leb calls r.lo few)))
+    → IsAnswer (tree_of u) (known_to u) (Load 0) (Ok r) (known_to v) → IsAtRest v.walker → Took 170 u.walker v.walker.pass → r.lo < calls → status ≡ 11 → SharedLearned calls before after status
+learned_no calls before after u v r status was is common chair kept said rests took few number = learned calls before after u v r status was is common chair kept said rests took (number ∙ sym (ap (λ (b : Bool). if b then 0 else 11) (lt-leb calls r.lo few)))
 
 pub learned_closed : (calls : ℕ) (before after : Option User) (status : ℕ) → before ≡ None → after ≡ None → status ≡ 22 → SharedLearned calls before after status
 learned_closed calls before after status was is number = on_closed before after status _ _ was is number tt
 
-pub has_synced : (u v : User) (synced : Result ℕ Busy) (status calls : ℕ) → IsSynced (tree_of u) (paused u) synced (known_to v) → v.chair ≡ u.chair → v.receipts ≡ when_synced synced u.receipts → status ≡ synced_status synced → calls ≡ calls_told synced
+pub has_synced : (u v : User) (synced : Result ℕ Busy) (status calls : ℕ) → IsSynced (tree_of u) (paused u) synced (known_to v) → WentOnce u.walker v.walker → v.chair ≡ u.chair → v.receipts ≡ when_synced synced u.receipts → status ≡ synced_status synced → calls ≡ calls_told synced
     → HasSynced status calls u v
-has_synced u v synced status calls said chair kept number told = (synced, said, chair, kept, number, told)
+has_synced u v synced status calls said went chair kept number told = (synced, said, went, chair, kept, number, told)
 
 pub synced_open : (before after : Option User) (u v : User) (status calls : ℕ) → before ≡ Some u → after ≡ Some v → common_of v ≡ common_of u → HasSynced status calls u v → SharedSynced before after status calls
 synced_open before after u v status calls was is tree has = on_open before after u v status _ _ was is tree has
@@ -131,13 +135,13 @@ module _ (before after other other' : Option User) (status : ℕ) where
   pub with_busy : (u o : User) → before ≡ Some u → after ≡ Some u → other ≡ Some o → other' ≡ Some o → status ≡ 16 → SharedWith before after other other' status
   with_busy u o was is held still number = rw (was, is, held) (refl, still, number)
 
-  pub with_made : (u v w : User) → before ≡ Some u → after ≡ Some v → other ≡ None → other' ≡ Some w → status ≡ 0 → common_of v ≡ common_of u → known_to v ≡ known_to u → v.walker.walk ≡ u.walker.walk → common_of w ≡ common_of u
+  pub with_made : (u v w : User) → before ≡ Some u → after ≡ Some v → other ≡ None → other' ≡ Some w → status ≡ 0 → common_of v ≡ common_of u → v.walker ≡ u.walker → common_of w ≡ common_of u
       → HasShared u v w → SharedWith before after other other' status
-  with_made u v w was is none made number common known walk of shared = rw (was, is, none, made) (number, record { common = common; known = known; walk = walk }, of, shared)
+  with_made u v w was is none made number common walker of shared = rw (was, is, none, made) (number, record { common = common; walker = walker }, of, shared)
 
-  pub with_none : (u v : User) → before ≡ Some u → after ≡ Some v → other ≡ None → other' ≡ None → common_of v ≡ common_of u → known_to v ≡ known_to u → v.walker.walk ≡ u.walker.walk → IsUnchanged u v status
+  pub with_none : (u v : User) → before ≡ Some u → after ≡ Some v → other ≡ None → other' ≡ None → common_of v ≡ common_of u → v.walker ≡ u.walker → IsUnchanged u v status
       → SharedWith before after other other' status
-  with_none u v was is none still common known walk unchanged = rw (was, is, none, still) (record { common = common; known = known; walk = walk }, unchanged)
+  with_none u v was is none still common walker unchanged = rw (was, is, none, still) (record { common = common; walker = walker }, unchanged)
 
 -- ---- leaving
 
@@ -147,15 +151,16 @@ left_closed before after status was is number = rw was (is, number)
 pub left_done : (before after : Option User) (status : ℕ) (u : User) (left : Left) → before ≡ Some u → after ≡ None → status ≡ 0 → HasLeft (common_of u) (cuts u + 1) (rested u) left → SharedLeft before after status
 left_done before after status u left was is number has = rw (was, is) (number, left, has)
 
-pub left_open : (before after : Option User) (status : ℕ) (u v : User) (why : Unchanged) → before ≡ Some u → after ≡ Some v → common_of v ≡ common_of u → known_to v ≡ paused u → IsWhy (common_of u) (cuts u) why → WantsNoPlace why
+pub left_open : (before after : Option User) (status : ℕ) (u m v : User) (why : Unchanged) → before ≡ Some u → after ≡ Some v → common_of v ≡ common_of u → v.walker ≡ m.walker → known_to m ≡ paused u → Took 0 u.walker m.walker.pass → IsWhy (common_of u) (cuts u) why → WantsNoPlace why
     → cuts v ≡ cuts u + 1 → v.receipts ≡ when_unchanged why u.receipts → status ≡ unchanged_status why → SharedLeft before after status
-left_open before after status u v why was is common known told place chair kept number = rw (was, is) (common, known, (why, told, place, chair, kept, number))
+left_open before after status u m v why was is common same known took told place chair kept number =
+    rw (was, is) (common, ap knows same ∙ known, took_still 0 u.walker m.walker v.walker same took, (why, told, place, chair, kept, number))
 
 -- ---- settling
 
-pub has_settled : (u v : User) (settled : Settled) (status calls passes : ℕ) → IsSettled (common_of u) (cuts u) (paused u) settled (known_to v) → cuts v ≡ cuts u + 1 → v.receipts ≡ when_settled settled u.receipts
+pub has_settled : (u v : User) (settled : Settled) (status calls passes : ℕ) → IsSettled (common_of u) (cuts u) (paused u) settled (known_to v) → WentToSettle settled u.walker v.walker → cuts v ≡ cuts u + 1 → v.receipts ≡ when_settled settled u.receipts
     → status ≡ settled_status settled → calls ≡ (settled_told settled).0 → passes ≡ (settled_told settled).1 → HasSettled status calls passes u v
-has_settled u v settled status calls passes said chair kept number told met = (settled, said, chair, kept, number, told, met)
+has_settled u v settled status calls passes said went chair kept number told met = (settled, said, went, chair, kept, number, told, met)
 
 pub settled_open : (before after : Option User) (u v : User) (status calls passes : ℕ) → before ≡ Some u → after ≡ Some v → common_of v ≡ common_of u → HasSettled status calls passes u v → SharedSettled before after status calls passes
 settled_open before after u v status calls passes was is tree has = on_open before after u v status _ _ was is tree has

@@ -2,8 +2,10 @@
 use Rattle.std.proofs.Common.{◌≡◌, ◌∙◌, ℕ, suc, get_or, List, [], ◌∷◌, ◌++◌, ◌<◌, ◌^◌, length, map, refl, sym, ap, subst, arith, Bool, true, false, true≢false, Option, Some, None}
 use Rattle.std.proofs.lemmas.Bool.{eqb-true, le-leb}
 use Rattle.std.proofs.lemmas.List.{length-map, map-append}
+use Rattle.std.proofs.lemmas.List.FromFn.{length-map-range_with_len}
 use Rattle.std.proofs.lemmas.Option.{slice_get-get_or, slice_get-map}
-use Rattle.std.specs.Prelude.{◌↔◌, ◌+◌, All, Ok, Err, Result, IfOk, IfErr, IfSome, IsSome, if◌then◌else◌, option_map, slice_get}
+use Rattle.std.specs.Prelude.{◌↔◌, ◌+◌, ◌≤◌, All, Ok, Err, Result, IfOk, IfErr, IfSome, IsSome, if◌then◌else◌, option_map, slice_get}
+use Rattle.std.specs.declared.snapshot.Snapshot.{Snapshot}
 use Rattle.atomic_table.specs.declared.badge.Badge.{Badge}
 use Rattle.mt_base.specs.declared.calls.Call.{Call}
 use Rattle.mt_base.specs.declared.calls.Query.{Query}
@@ -14,19 +16,21 @@ use Rattle.mt_base.specs.Passes as known
 use Rattle.mt_read.specs.declared.cursor.Cursor.{Cursor}
 use Rattle.mt_read.specs.declared.cursor.KeptLeaf.{KeptLeaf}
 use Rattle.mt_read.specs.Cursors.{IsKept, place_behind, place_from, query_at}
-use Rattle.mt_read.specs.Neighbours.{WasMoved}
+use Rattle.mt_read.specs.Neighbours.{WasLeftMarked, WasMoved}
 use Rattle.mt_read.specs.Windows.{HasRead}
 use Rattle.mt_keep.specs.declared.keep.Busy as away
 use Rattle.mt_keep.specs.declared.keep.Given.{Given}
 use Rattle.mt_keep.specs.Keeping.{cuts_of}
 use Rattle.mt_keep.specs.declared.keep.Sight.{Sight}
 use Rattle.mt_rule.specs.declared.busy.Busy.{Busy}
-use Rattle.mt_rule.specs.Tokens.{part_of}
+use Rattle.mt_rule.specs.declared.views.TurnView.{TurnView}
+use Rattle.mt_rule.specs.Tokens.{part_of, turn_seat}
+use Rattle.mt_rule.specs.Turns as turns
 use Rattle.mt_tree.specs.declared.shapes.Read.{Read}
 use Rattle.mt_tree.specs.declared.trees.Tree.{Tree}
-use Rattle.mt_tree.specs.Asks.{IsForNeighbour}
+use Rattle.mt_tree.specs.Asks.{IsForNeighbour, unbounded}
 use Rattle.mt_tree.specs.Meeting.{HaveMet}
-use Rattle.mt_tree.specs.Trees.{IsNew, IsPassOf, Pass, limit_of, pass_in, opened}
+use Rattle.mt_tree.specs.Trees.{IsNew, IsPassOf, Pass, Takes, TriesOnce, limit_of, passes_of, pass_in, steps_made, opened}
 use Rattle.mt_tree.specs.Tries.{IsBusyOf, WasMade}
 use Rattle.mt_tree.specs.Walks.{HasWalked, IsWalkOf}
 use Rattle.mt_tree.specs.declared.shapes.Field.{Field}
@@ -41,12 +45,60 @@ use Rattle.mt_c.specs.declared.user_acts.Settling.TheVariants as settling
 use Rattle.mt_c.specs.declared.user_opens.Left.{Left}
 use Rattle.mt_c.specs.declared.user_opens.Unchanged.TheVariants as unchanged
 use Rattle.mt_c.specs.declared.walker.Walker.{Walker}
-use Rattle.mt_c.specs.Purses.{IsBusyAt, IsSeatedAt, WasGiven, WasKept, first_in}
+use Rattle.mt_c.specs.Purses.{IsBusyAt, IsSeatedAt, RestsInPurse, WasGiven, WasKept, first_in}
 use Rattle.mt_c.specs.Receipts.{no_receipts}
 use Rattle.mt_c.specs.Spares.{IsSpare}
 use Rattle.mt_c.specs.KeptWalks.{IsKeptWalk, top}
 use Rattle.mt_c.specs.Users.{HasLeft, IsFirst, IsOfPurse, IsSettled, IsSynced, IsWhy, common_of, cuts, known_to, tree_of}
-use Rattle.mt_c.specs.Walkers.{Answer, Continues, GoesFrom, GoesOn, IsAnswer, IsAtRest, IsLeftBy, IsOnAt, IsReadBy, IsStep, IsTried, KnowsAs, Tried, closed_by, halted, is_at, knows, new_walk, stands_at}
+use Rattle.mt_c.specs.Walkers.{Answer, Continues, GaveUp, GoesFrom, GoesOn, IsAnswer, IsAtRest, IsLeftBy, IsOnAt, IsReadBy, IsStep, IsTried, KnowsAs, Took, Tried, TriedOnce, WentOnce, closed_by, halted, is_at, knows, new_walk, pausing, stands_at}
+
+-- ---- steps without the lock, and tries for it
+
+pub took_none : (w : Walker) (q : Pass) → q ≡ w.pass → Took 0 w q
+took_none w q is = record { steps = (let same = ap steps_made is in omega (arith, same)); turn = ap turn_seat is }
+
+pub took_one : (w : Walker) (walk : Cursor) (q : Pass) → w.walk ≡ Some walk → Takes 1 w.pass q → Took 0 w q
+took_one w walk q on took = record { steps = (let one : pausing w.walk ≡ 1 = ap pausing on in let few = took.steps in omega (arith, one, few)); turn = took.turn }
+
+pub took_more : (most : ℕ) (w v : Walker) (q : Pass) → Took 0 w v.pass → Takes most v.pass q → Took most w q
+took_more most w v q before took = record { steps = (let a = before.steps in let b = took.steps in omega (arith, a, b)); turn = took.turn ∙ before.turn }
+
+pub took_still : (most : ℕ) (w v v' : Walker) → v' ≡ v → Took most w v.pass → Took most w v'.pass
+took_still most w v v' same took = subst (λ (x : Walker). Took most w x.pass) (sym same) took
+
+-- what a try leaves of a seat
+tried_seat : (p q : Pass) → turn_seat q ≡ turn_seat p → turn_seat (turns.tried q) ≡ turn_seat (turns.tried p)
+tried_seat p q same = ap (λ (seat : Badge TurnView). record seat { views = map turns.counting seat.views }) same
+
+pub tried_once : (w v w' : Walker) → Took 0 w v.pass → TriesOnce v.pass w'.pass → TriedOnce w w'
+tried_once w v w' before tries = record { steps = (let a = before.steps in let b = tries.steps in omega (arith, a, b)); went = tries.turn ∙ tried_seat w.pass v.pass before.turn }
+
+pub went_after : (w v w' : Walker) → Took 0 w v.pass → WentOnce v w' → WentOnce w w'
+went_after w v w' before went = went ∙ tried_seat w.pass v.pass before.turn
+
+abbrev first_of : {A : Type 0} → A → List A → A
+first_of x [] = x
+first_of x (y ∷ ys) = y
+
+abbrev behind_first : {A : Type 0} → List A → List A
+behind_first [] = []
+behind_first (x ∷ xs) = xs
+
+pub went_once : (w v w' : Walker) (ps qs : List Pass) → Took 0 w v.pass → map turn_seat (w'.pass ∷ qs) ≡ map turn_seat (turns.tried v.pass ∷ ps) → WentOnce w w'
+went_once w v w' ps qs before tries = went_after w v w' before (ap (first_of (turn_seat w.pass)) tries)
+
+pub others_rest : (p q : Pass) (ps qs : List Pass) → map turn_seat (q ∷ qs) ≡ map turn_seat (turns.tried p ∷ ps) → map turn_seat qs ≡ map turn_seat ps
+others_rest p q ps qs tries = ap behind_first tries
+
+-- one that has found the lock taken knows what it knew
+pub kept_known : (r : Result ℕ Busy) (p q : Pass) (h : known.Pass) (ps qs : List Pass) → IfErr r (λ _. (q ≡ turns.tried p) × (qs ≡ ps)) → pass_in p ≡ h → IfErr r (λ _. (pass_in q ≡ h) × (qs ≡ ps))
+kept_known (Ok calls) p q h ps qs kept was = tt
+kept_known (Err busy) p q h ps qs kept was = (ap pass_in kept.0 ∙ was, kept.1)
+
+pub rests_in_purse : (given : Given Purse Tree) (took : Snapshot Purse) (a b : Purse) → given.took ≡ took → took.value ≡ a → given.gave.value ≡ b → map turn_seat b.passes.items ≡ map turn_seat a.passes.items → RestsInPurse given
+rests_in_purse given took a b from was gave rest =
+    let seats = λ (x : Purse). map turn_seat x.passes.items in
+    ap seats gave ∙ (rest ∙ sym (ap (λ (x : Snapshot Purse). seats x.value) from ∙ ap seats was))
 
 -- ---- which section stands open is no part of what a read says
 
@@ -119,6 +171,11 @@ answer_made t query walk p q before (Ok r) was read section moved given near =
     answered_before t query (Ok r) walk p q (subst (λ (x : known.Pass). IsAnswer t x query (Ok r) q) was (read, section))
 answer_made t query walk p q before (Err m) was read section moved given near =
     answered_before t query (Err m) walk p q (subst (λ (x : known.Pass). IsAnswer t x query (Err m) q) was (moved, near, given))
+
+pub gave_up : (query : Query) (w w' : Walker) (p : Pass) (answer : Answer) → pass_in p ≡ halted w → Took 0 w p
+    → IfErr answer (λ m. WasLeftMarked (unbounded (part_of p).shape.kind query) m.lo m.begun (part_of p) (part_of w'.pass)) → IfErr answer (GaveUp query w w')
+gave_up query w w' p (Ok r) was took left = tt
+gave_up query w w' p (Err m) was took left = record { pass = p; paused = was; took = took; left = left }
 
 -- no section stands open behind a read
 pub read_rests : (lo hi : ℕ) (p q : known.Pass) → HasRead lo hi p q → q.standing ≡ None
@@ -212,16 +269,16 @@ goes_kept from v is = by_walk v.walk refl
     by_walk None e = tt
     by_walk (Some w) e = subst (λ (b : Bool). GoesFrom b from v v.pass w) (sym is) (refl, e)
 
-pub goes_anew : (from : ℕ) (v v' : Walker) (w : Cursor) → stands_at v.walk from ≡ false → knows v' ≡ halted v → v'.walk ≡ Some w → w ≡ new_walk from → IfSome v'.walk (Continues from v v'.pass)
-goes_anew from v v' w off closed is new = subst (λ (o : Option Cursor). IfSome o (Continues from v v'.pass)) (sym is) (subst (λ (b : Bool). GoesFrom b from v v'.pass w) (sym off) (closed, new))
+pub goes_anew : (from : ℕ) (v v' : Walker) (w : Cursor) → stands_at v.walk from ≡ false → knows v' ≡ halted v → Took 0 v v'.pass → v'.walk ≡ Some w → w ≡ new_walk from → IfSome v'.walk (Continues from v v'.pass)
+goes_anew from v v' w off closed took is new = subst (λ (o : Option Cursor). IfSome o (Continues from v v'.pass)) (sym is) (subst (λ (b : Bool). GoesFrom b from v v'.pass w) (sym off) (closed, took, new))
 
 pub is_new_walk : (from : ℕ) (w : Cursor) → from < 2 ^ 64 → w.at ≡ place_from from top → w.max ≡ top → w.leaf ≡ None → w.epoch ≡ None → w ≡ new_walk from
 is_new_walk from w few at max leaf epoch = λ i. record { at = (at ∙ from_any from few) i; max = max i; leaf = leaf i; epoch = epoch i }
 
 -- a step: the walk went on by one range
 pub is_step : (t : Tree) (v m n v' : Walker) (from : ℕ) (r : Read (Option Range)) → IsOnAt m.walk (Some from) → KnowsAs (knows v) (knows m) → IfSome m.walk (Continues from v m.pass) → IfSome m.walk (λ w. IsReadBy t (knows m) (query_at w.at top) r (knows n))
-    → IfSome m.walk (λ w. IfSome n.walk (HasWalked t m.pass w r n.pass)) → IsOnAt n.walk (place_behind r.value top) → KnowsAs (knows n) (knows v') → GoesOn r.value v' → ((w : Cursor) → n.walk ≡ Some w → IsLeftBy r.value n.pass w v') → IsStep t v from r v'
-is_step t v m n v' from r at known begins read walked behind after goes left = by_walks m.walk n.walk refl refl at begins read walked behind
+    → IfSome m.walk (λ w. IfSome n.walk (HasWalked t m.pass w r n.pass)) → IsOnAt n.walk (place_behind r.value top) → KnowsAs (knows n) (knows v') → GoesOn r.value v' → ((w : Cursor) → n.walk ≡ Some w → IsLeftBy r.value n.pass w v') → Took 0 v m.pass → Takes 1 n.pass v'.pass → IsStep t v from r v'
+is_step t v m n v' from r at known begins read walked behind after goes left before last = by_walks m.walk n.walk refl refl at begins read walked behind
   where
     by_walks : (o o' : Option Cursor) → m.walk ≡ o → n.walk ≡ o' → IsOnAt o (Some from) → IfSome o (Continues from v m.pass) → IfSome o (λ w. IsReadBy t (knows m) (query_at w.at top) r (knows n))
         → IfSome o (λ w. IfSome o' (HasWalked t m.pass w r n.pass)) → IsOnAt o' (place_behind r.value top) → IsStep t v from r v'
@@ -237,19 +294,35 @@ is_step t v m n v' from r at known begins read walked behind after goes left = b
       walk' = w';
       walked = walked;
       left = left w' e';
+      took = record {
+        steps = (let a = before.steps in let b = walked.takes.steps in let c = last.steps in omega (arith, a, b, c));
+        turn = last.turn ∙ (walked.takes.turn ∙ before.turn);
+      };
     }
 
 -- it is kept where it has found a range
 pub left_on : (v : Walker) (found : Option Range) (range : Range) → found ≡ Some range → (w : Cursor) → v.walk ≡ Some w → IsLeftBy found v.pass w v
 left_on v found range is w at = subst (λ (o : Option Range). IsLeftBy o v.pass w v) (sym is) (refl, at)
 
+-- its walk is paused by one step at the most
+pub last_one : (n : Walker) (q : Pass) → Took 0 n q → Takes 1 n.pass q
+last_one n q took = record { steps = (let a = took.steps in let b = by_one n.walk in omega (arith, a, b)); turn = took.turn }
+  where
+    by_one : (walk : Option Cursor) → pausing walk ≤ 1
+    by_one None = omega arith
+    by_one (Some w) = omega arith
+
 -- and paused where it has found none
-pub left_off : (n v' : Walker) (found : Option Range) → found ≡ None → knows v' ≡ halted n → v'.walk ≡ None → (w : Cursor) → n.walk ≡ Some w → IsLeftBy found n.pass w v'
-left_off n v' found is closed none w at = subst (λ (o : Option Range). IsLeftBy o n.pass w v') (sym is) (closed ∙ ap (λ (o : Option Cursor). closed_by o (knows n)) at, none)
+pub left_off : (n v' : Walker) (found : Option Range) → found ≡ None → knows v' ≡ halted n → v'.walk ≡ None → Took 0 n v'.pass → (w : Cursor) → n.walk ≡ Some w → IsLeftBy found n.pass w v'
+left_off n v' found is closed none took w at =
+    subst (λ (o : Option Range). IsLeftBy o n.pass w v') (sym is) (closed ∙ ap (λ (o : Option Cursor). closed_by o (knows n)) at, last_one n v'.pass took, none)
+
+pub last_none : (p q : Pass) → q ≡ p → Takes 1 p q
+last_none p q is = record { steps = (let same = ap steps_made is in omega (arith, same)); turn = ap turn_seat is }
 
 -- ---- calls
 
-pub tried_made : (t : Tree) (p : known.Pass) (a b : Pass) (call : Call) (tried : Tried) → pass_in a ≡ p → IfOk tried (λ made. WasMade t (pass_in a) call made (pass_in b)) → IfErr tried (IsBusyOf t) → IfErr tried (λ _. b ≡ a) → IsTried t p call tried (pass_in b)
+pub tried_made : (t : Tree) (p : known.Pass) (a b : Pass) (call : Call) (tried : Tried) → pass_in a ≡ p → IfOk tried (λ made. WasMade t (pass_in a) call made (pass_in b)) → IfErr tried (IsBusyOf t) → IfErr tried (λ _. b ≡ turns.tried a) → IsTried t p call tried (pass_in b)
 tried_made t p a b call (Ok made) was done busy kept = subst (λ (x : known.Pass). WasMade t x call made (pass_in b)) was done
 tried_made t p a b call (Err why) was done busy kept = (busy, ap pass_in kept ∙ was)
 
@@ -283,16 +356,16 @@ pub has_left : (c : Common) (n : ℕ) (p : known.Pass) (left : Left) (others gav
 has_left c n p left others gave was one seated put = record { others = others; into = record { at = was.at; cut = was.cut ∙ one; took = was.took; gave = was.gave ∙ put }; seated = seated; chair = refl }
 
 pub settled : (c : Common) (cut n : ℕ) (p q : known.Pass) (others others' : List Pass) (calls passes : ℕ) (before after : List known.Pass) (given : Given Purse Tree) → HaveMet c.tree (p ∷ map pass_in others) (q ∷ map pass_in others') calls → passes ≡ length others'
-    → WasGiven c n before after given → n ≡ cut + 1 → before ≡ map pass_in others → after ≡ map pass_in others' → IsSettled c cut p (Ok (calls, passes, given)) q
-settled c cut n p q others others' calls passes before after given met many back one took gave =
-    (map pass_in others, map pass_in others', met, many ∙ sym (length-map others' pass_in), record { at = back.at; cut = back.cut ∙ one; took = back.took ∙ took; gave = back.gave ∙ gave })
+    → WasGiven c n before after given → n ≡ cut + 1 → before ≡ map pass_in others → after ≡ map pass_in others' → RestsInPurse given → IsSettled c cut p (Ok (calls, passes, given)) q
+settled c cut n p q others others' calls passes before after given met many back one took gave rest =
+    (map pass_in others, map pass_in others', met, many ∙ sym (length-map others' pass_in), record { at = back.at; cut = back.cut ∙ one; took = back.took ∙ took; gave = back.gave ∙ gave }, rest)
 
 pub unpursed : (c : Common) (cut n : ℕ) (p q : known.Pass) (busy : away.Busy Purse Tree) → IsBusyAt c n busy → n ≡ cut + 1 → q ≡ p → IsSettled c cut p (Err (settling.Unpursed busy)) q
 unpursed c cut n p q busy found one kept = ((found.0, found.1 ∙ one), kept)
 
-pub locked : (c : Common) (cut n : ℕ) (p q : known.Pass) (busy : Busy) (took gave : List known.Pass) (given : Given Purse Tree) → IsBusyOf c.tree busy → WasGiven c n took gave given → n ≡ cut + 1 → gave ≡ took → q ≡ p
+pub locked : (c : Common) (cut n : ℕ) (p q : known.Pass) (busy : Busy) (took gave : List known.Pass) (given : Given Purse Tree) → IsBusyOf c.tree busy → WasGiven c n took gave given → n ≡ cut + 1 → gave ≡ took → RestsInPurse given → q ≡ p
     → IsSettled c cut p (Err (settling.Locked busy given)) q
-locked c cut n p q busy took gave given found back one same kept = (found, given_same c n (cut + 1) given took gave back one same, kept)
+locked c cut n p q busy took gave given found back one same rest kept = (found, given_same c n (cut + 1) given took gave back one same, rest, kept)
 
 -- ---- passes that no user has
 
@@ -308,7 +381,7 @@ met_spare t p q ps qs calls met spare of k d lt =
     let q_at = slice_get-map pass_in qs k ∙ ap (option_map pass_in) (slice_get-get_or qs k d lt) in
     record { of = of k d lt; rests = ap (λ (z : known.Pass). z.standing) (met.each (suc k) (pass_in (get_or ps k d)) (pass_in (get_or qs k d)) p_at q_at).0.pass ∙ before.rests }
 
-pub spare_still : (t : Tree) (p q : Pass) (ps qs : List Pass) (met : Result ℕ Busy) → IfOk met (HaveMet t (pass_in p ∷ map pass_in ps) (pass_in q ∷ map pass_in qs)) → IfErr met (λ _. (q ≡ p) × (qs ≡ ps)) → All (IsSpare t) ps → All (IsPassOf t) qs → All (IsSpare t) qs
+pub spare_still : (t : Tree) (p q : Pass) (ps qs : List Pass) (met : Result ℕ Busy) → IfOk met (HaveMet t (pass_in p ∷ map pass_in ps) (pass_in q ∷ map pass_in qs)) → IfErr met (λ _. (q ≡ turns.tried p) × (qs ≡ ps)) → All (IsSpare t) ps → All (IsPassOf t) qs → All (IsSpare t) qs
 spare_still t p q ps qs (Ok calls) met kept spare of = met_spare t (pass_in p) (pass_in q) ps qs calls met spare of
 spare_still t p q ps qs (Err busy) met kept spare of = subst (All (IsSpare t)) (sym kept.1) spare
 
@@ -363,6 +436,7 @@ pub is_first : (shape : Shape) (t : Tree) (ps : List Pass) (u : User) → IsNew 
 is_first shape t ps u new tree last chair walk none = record {
   tree = ap opened tree ∙ new.tree;
   calls = ap limit_of tree ∙ new.calls;
+  users = ap passes_of tree ∙ (sym new.all.count ∙ (sym (length-map ps pass_in) ∙ (ap length new.passes ∙ length-map-range_with_len known.new_pass 0 shape.passes)));
   passes = sym (ap (map pass_in) last ∙ map-append pass_in (first_in (common_of u)).passes.items (u.walker.pass ∷ [])) ∙ new.passes;
   chair = chair;
   walk = walk;

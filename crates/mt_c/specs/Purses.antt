@@ -10,6 +10,7 @@ use Rattle.mt_keep.specs.declared.keep.Busy.{Busy}
 use Rattle.mt_keep.specs.declared.keep.Given.{Given}
 use Rattle.mt_keep.specs.declared.keep.Sight.{Sight}
 use Rattle.mt_keep.specs.Keeping as keep
+use Rattle.mt_rule.specs.Tokens.{turn_seat}
 use Rattle.mt_tree.specs.declared.trees.Tree.{Tree}
 use Rattle.mt_tree.specs.Trees.{pass_in}
 use Rattle.mt_c.specs.declared.purse.Common.{Common}
@@ -46,3 +47,7 @@ pub record WasGiven (c : Common) (cuts : ℕ) (found left : List known.Pass) (gi
 -- It was given back as it was found.
 abbrev pub WasKept : Common → ℕ → Given Purse Tree → Type 0
 WasKept c cuts given = WasGiven c cuts (known_in given.took.value) (known_in given.took.value) given
+
+-- No pass of the purse went for the tree's lock meanwhile.
+abbrev pub RestsInPurse : Given Purse Tree → Type 0
+RestsInPurse given = map turn_seat given.gave.value.passes.items ≡ map turn_seat given.took.value.passes.items

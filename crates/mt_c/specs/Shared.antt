@@ -1,6 +1,6 @@
 -- What the calls of C on a shared tree say. Each user of it has a pass, which knows a beginning of the tree's one history.
 -- Source: this project's own; EAGAIN and EUSERS are of the kernel's include/uapi/asm-generic/errno-base.h and errno.h.
-use Rattle.std.specs.Prelude.{◌≡◌, ◌⊎◌, ◌+◌, ℕ, Option, Some, None, Result, Ok, Err, nat_le, if◌then◌else◌}
+use Rattle.std.specs.Prelude.{◌≡◌, ◌⊎◌, ◌+◌, ℕ, Option, Some, None, Result, Ok, Err, nat_le, if◌then◌else◌, IfErr}
 use Rattle.mt_base.specs.declared.ranges.Range.{Range}
 use Rattle.mt_base.specs.declared.calls.Call.{Call}
 use Rattle.mt_base.specs.declared.calls.Query.{Query}
@@ -12,6 +12,7 @@ use Rattle.mt_tree.specs.declared.shapes.Done.{Done}
 use Rattle.mt_tree.specs.declared.shapes.Read.{Read}
 use Rattle.mt_tree.specs.declared.shapes.Shape.{Shape}
 use Rattle.mt_tree.specs.declared.trees.Tree.{Tree}
+use Rattle.mt_tree.specs.Asks.{most_made}
 use Rattle.mt_tree.specs.Shapes.{first_bad}
 use Rattle.mt_read.specs.Cursors.{place_behind}
 use Rattle.mt_c.specs.declared.purse.Purse.{Purse}
@@ -27,8 +28,8 @@ use Rattle.mt_c.specs.declared.shared_told.Window.{Window}
 use Rattle.mt_c.specs.Calls.{found_status, no_range, out_of, range_of, status_of, word_of}
 use Rattle.mt_c.specs.KeptWalks.{top}
 use Rattle.mt_c.specs.Receipts.{when_given, when_settled, when_synced, when_tried, when_unchanged}
-pub use Rattle.mt_c.specs.Users.{HasLeft, IsFirst, IsOfPurse, IsSame, IsSettled, IsSynced, IsWhy, OnlyWalks, WantsNoPlace, common_of, cuts, known_to, paused, rested, tree_of}
-use Rattle.mt_c.specs.Walkers.{Answer, IsAnswer, IsAtRest, StepsFrom, Tried, IsTried}
+pub use Rattle.mt_c.specs.Users.{HasLeft, IsFirst, IsOfPurse, IsSame, IsSettled, IsSynced, IsWhy, OnlyWalks, WantsNoPlace, WentToSettle, common_of, cuts, known_to, paused, rested, tree_of}
+use Rattle.mt_c.specs.Walkers.{Answer, GaveUp, IsAnswer, IsAtRest, StepsFrom, Took, Tried, IsTried, TriedOnce, WentOnce}
 use Rattle.mt_c.specs.Walking.{index_of, walk_from}
 
 -- ---- users
@@ -57,10 +58,11 @@ abbrev pub window_of : Answer → Window
 window_of (Ok r) = window r.lo r.hi (out_of r.value)
 window_of (Err m) = window m.lo m.begun no_range
 
--- A query of a user of a shared tree, which is on no walk then. It makes no step at the purse, and so leaves all other passes.
+-- A query of a user of a shared tree, which is on no walk then. It takes so many steps at the most, does not go for the lock, and is given
+-- up for a leaf that was found marked alone. It makes no step at the purse, and so leaves all other passes.
 abbrev pub SharedAsked : Query → Option User → Option User → ℕ → Window → Type 0
 SharedAsked query before after status out =
-    OnUser before after status (out ≡ no_window) (λ u v. (answer : Answer) × IsAnswer (tree_of u) (known_to u) query answer (known_to v) × IsAtRest v.walker × OnlyWalks u v × (status ≡ answer_status answer) × (out ≡ window_of answer))
+    OnUser before after status (out ≡ no_window) (λ u v. (answer : Answer) × IsAnswer (tree_of u) (known_to u) query answer (known_to v) × IsAtRest v.walker × Took (most_made query) u.walker v.walker.pass × IfErr answer (GaveUp query u.walker v.walker) × OnlyWalks u v × (status ≡ answer_status answer) × (out ≡ window_of answer))
 
 -- the walk that goes on behind what was found
 abbrev pub went_on : Option Range → OutWalk
@@ -75,7 +77,7 @@ SharedStepped w w' before after status out =
 -- The user looked how many calls had ended, by a read, and has seen those: 0 where they are so many as it was to learn, else EAGAIN.
 abbrev pub SharedLearned : ℕ → Option User → Option User → ℕ → Type 0
 SharedLearned calls before after status =
-    OnUser before after status (Unit {0}) (λ u v. (r : Read (Option Range)) × IsAnswer (tree_of u) (known_to u) (Load 0) (Ok r) (known_to v) × IsAtRest v.walker × OnlyWalks u v × (status ≡ (if nat_le calls r.lo then 0 else 11)))
+    OnUser before after status (Unit {0}) (λ u v. (r : Read (Option Range)) × IsAnswer (tree_of u) (known_to u) (Load 0) (Ok r) (known_to v) × IsAtRest v.walker × Took 170 u.walker v.walker.pass × OnlyWalks u v × (status ≡ (if nat_le calls r.lo then 0 else 11)))
 
 -- ---- calls
 
@@ -100,10 +102,10 @@ outcome_of (Ok (Ok d)) = done_outcome d
 outcome_of (Ok (Err w)) = no_outcome
 outcome_of (Err busy) = no_outcome
 
--- A call of a user, made under the tree's lock if that is free. That this was found taken is what the user then has. It makes no step at
--- the purse, so no other pass has made a call.
+-- A call of a user, made under the tree's lock if that is free, for which it goes once. That this was found taken is what the user then
+-- has. It makes no step at the purse, so no other pass has made a call.
 abbrev pub HasTried : Call → ℕ → Outcome → User → User → Type 0
-HasTried call status out u v = (tried : Tried) × IsTried (tree_of u) (paused u) call tried (known_to v) × (v.chair ≡ u.chair) × (v.receipts ≡ when_tried tried u.receipts) × (status ≡ tried_status tried) × (out ≡ outcome_of tried)
+HasTried call status out u v = (tried : Tried) × IsTried (tree_of u) (paused u) call tried (known_to v) × TriedOnce u.walker v.walker × (v.chair ≡ u.chair) × (v.receipts ≡ when_tried tried u.receipts) × (status ≡ tried_status tried) × (out ≡ outcome_of tried)
 
 abbrev pub SharedTried : Call → Option User → Option User → ℕ → Outcome → Type 0
 SharedTried call before after status out = OnUser before after status (out ≡ no_outcome) (HasTried call status out)
@@ -154,7 +156,7 @@ SharedWith (Some u) (Some v) None None status = IsSame u v × IsUnchanged u v st
 abbrev pub SharedLeft : Option User → Option User → ℕ → Type 0
 SharedLeft None after status = (after ≡ None) × (status ≡ 22)
 SharedLeft (Some u) None status = (status ≡ 0) × (left : Left) × HasLeft (common_of u) (cuts u + 1) (rested u) left
-SharedLeft (Some u) (Some v) status = (common_of v ≡ common_of u) × (known_to v ≡ paused u) × HasStayed u v status
+SharedLeft (Some u) (Some v) status = (common_of v ≡ common_of u) × (known_to v ≡ paused u) × Took 0 u.walker v.walker.pass × HasStayed u v status
 
 abbrev pub synced_status : Result ℕ Busy → ℕ
 synced_status (Ok calls) = 0
@@ -165,7 +167,7 @@ calls_told (Ok calls) = calls
 calls_told (Err busy) = 0
 
 abbrev pub HasSynced : ℕ → ℕ → User → User → Type 0
-HasSynced status calls u v = (synced : Result ℕ Busy) × IsSynced (tree_of u) (paused u) synced (known_to v) × (v.chair ≡ u.chair) × (v.receipts ≡ when_synced synced u.receipts) × (status ≡ synced_status synced) × (calls ≡ calls_told synced)
+HasSynced status calls u v = (synced : Result ℕ Busy) × IsSynced (tree_of u) (paused u) synced (known_to v) × WentOnce u.walker v.walker × (v.chair ≡ u.chair) × (v.receipts ≡ when_synced synced u.receipts) × (status ≡ synced_status synced) × (calls ≡ calls_told synced)
 
 abbrev pub SharedSynced : Option User → Option User → ℕ → ℕ → Type 0
 SharedSynced before after status calls = OnUser before after status (calls ≡ 0) (HasSynced status calls)
@@ -183,7 +185,7 @@ settled_told (Err why) = (0, 0)
 
 abbrev pub HasSettled : ℕ → ℕ → ℕ → User → User → Type 0
 HasSettled status calls passes u v =
-    (settled : Settled) × IsSettled (common_of u) (cuts u) (paused u) settled (known_to v) × (cuts v ≡ cuts u + 1) × (v.receipts ≡ when_settled settled u.receipts) × (status ≡ settled_status settled) × (calls ≡ (settled_told settled).0) × (passes ≡ (settled_told settled).1)
+    (settled : Settled) × IsSettled (common_of u) (cuts u) (paused u) settled (known_to v) × WentToSettle settled u.walker v.walker × (cuts v ≡ cuts u + 1) × (v.receipts ≡ when_settled settled u.receipts) × (status ≡ settled_status settled) × (calls ≡ (settled_told settled).0) × (passes ≡ (settled_told settled).1)
 
 abbrev pub SharedSettled : Option User → Option User → ℕ → ℕ → ℕ → Type 0
 SharedSettled before after status calls passes = OnUser before after status ((calls ≡ 0) × (passes ≡ 0)) (HasSettled status calls passes)

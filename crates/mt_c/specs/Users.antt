@@ -10,7 +10,7 @@ use Rattle.mt_rule.specs.declared.busy.Busy.{Busy}
 use Rattle.mt_tree.specs.declared.trees.Tree.{Tree}
 use Rattle.mt_tree.specs.declared.shapes.Shape.{Shape}
 use Rattle.mt_tree.specs.Meeting.{HaveMet}
-use Rattle.mt_tree.specs.Trees.{opened, limit_of}
+use Rattle.mt_tree.specs.Trees.{opened, limit_of, passes_of}
 use Rattle.mt_tree.specs.Tries.{IsBusyOf}
 use Rattle.mt_c.specs.declared.purse.Common.{Common}
 use Rattle.mt_c.specs.declared.purse.Purse.{Purse}
@@ -20,9 +20,10 @@ use Rattle.mt_c.specs.declared.user_acts.Settling.TheVariants as settling
 use Rattle.mt_c.specs.declared.user_opens.Left.{Left}
 use Rattle.mt_c.specs.declared.user_opens.Unchanged.{Unchanged}
 use Rattle.mt_c.specs.declared.user_opens.Unchanged.TheVariants as unchanged
-use Rattle.mt_c.specs.Purses.{IsBusyAt, IsSeatedAt, WasGiven, WasKept, first_in, known_in}
+use Rattle.mt_c.specs.Purses.{IsBusyAt, IsSeatedAt, RestsInPurse, WasGiven, WasKept, first_in, known_in}
 use Rattle.mt_c.specs.Receipts.{no_receipts}
-use Rattle.mt_c.specs.Walkers.{IsAtRest, halted, knows}
+use Rattle.mt_c.specs.Walkers.{IsAtRest, Took, WentOnce, halted, knows}
+use Rattle.mt_c.specs.declared.walker.Walker.{Walker}
 
 -- what the users of a tree own together
 abbrev pub common_of : User → Common
@@ -62,16 +63,16 @@ pub record OnlyWalks (u v : User) : Type 0 where
 pub record IsFirst (shape : Shape) (u : User) : Type 0 where
   pub tree : opened (tree_of u) ≡ record { kind = shape.kind; rows = shape.rows; opening = []; records = [] }
   pub calls : limit_of (tree_of u) ≡ shape.calls
+  pub users : passes_of (tree_of u) ≡ shape.passes
   pub passes : known_in (first_in (common_of u)) ++ known_to u ∷ [] ≡ map known.new_pass (range_with_len 0 shape.passes)
   pub chair : cuts u ≡ 0
   pub walk : u.walker.walk ≡ None
   pub none : u.receipts ≡ no_receipts
 
--- A user is as it was: it knows no more, and its walk goes on.
+-- A user is as it was: its pass has done nothing, and its walk goes on.
 pub record IsSame (u v : User) : Type 0 where
   pub common : common_of v ≡ common_of u
-  pub known : known_to v ≡ known_to u
-  pub walk : v.walker.walk ≡ u.walker.walk
+  pub walker : v.walker ≡ u.walker
 
 -- The user was opened by one whose chair was so many cuts from the first: by two steps at the purse, one to take it and one to make a
 -- chair. It has the pass that was the last in the purse, and is at rest: the others were given back. It has found nothing yet.
@@ -111,8 +112,14 @@ IsSynced t p (Ok calls) q = known.Saw (opened t) p q × (length q.seen ≡ calls
 IsSynced t p (Err busy) q = IsBusyOf t busy × (q ≡ p)
 
 -- A user and all passes in the purse have met under the lock, so many; or the purse or the lock was found taken, and the purse given back
--- as it was. It made one step at the purse, by a chair that was so many cuts from the first.
+-- as it was. It made one step at the purse, by a chair that was so many cuts from the first, and no pass of that went for the lock.
 abbrev pub IsSettled : Common → ℕ → known.Pass → Result (ℕ × ℕ × Given Purse Tree) Settling → known.Pass → Type 0
-IsSettled c cut p (Ok r) q = (before : List known.Pass) × (after : List known.Pass) × HaveMet c.tree (p ∷ before) (q ∷ after) r.0 × (r.1 ≡ length after) × WasGiven c (cut + 1) before after r.2
+IsSettled c cut p (Ok r) q = (before : List known.Pass) × (after : List known.Pass) × HaveMet c.tree (p ∷ before) (q ∷ after) r.0 × (r.1 ≡ length after) × WasGiven c (cut + 1) before after r.2 × RestsInPurse r.2
 IsSettled c cut p (Err (settling.Unpursed busy)) q = IsBusyAt c (cut + 1) busy × (q ≡ p)
-IsSettled c cut p (Err (settling.Locked busy given)) q = IsBusyOf c.tree busy × WasKept c (cut + 1) given × (q ≡ p)
+IsSettled c cut p (Err (settling.Locked busy given)) q = IsBusyOf c.tree busy × WasKept c (cut + 1) given × RestsInPurse given × (q ≡ p)
+
+-- The user itself went for the lock once, where it had the purse.
+abbrev pub WentToSettle : Result (ℕ × ℕ × Given Purse Tree) Settling → Walker → Walker → Type 0
+WentToSettle (Ok r) w w' = WentOnce w w'
+WentToSettle (Err (settling.Unpursed busy)) w w' = Took 0 w w'.pass
+WentToSettle (Err (settling.Locked busy given)) w w' = WentOnce w w'

@@ -1,6 +1,6 @@
 -- What a pass of a shared tree does on its walk and off it: reads without the lock, and calls that try for it.
 -- Source: this project's own; the kernel's documentation of the maple tree, mas_find over a struct ma_state that the caller keeps.
-use Rattle.std.specs.Prelude.{◌≡◌, ℕ, ◌==◌, Bool, true, false, Option, Some, None, Result, Ok, Err}
+use Rattle.std.specs.Prelude.{◌≡◌, ℕ, ◌+◌, ◌≤◌, ◌==◌, Bool, true, false, Option, Some, None, Result, Ok, Err}
 use Rattle.mt_base.specs.declared.calls.Call.{Call}
 use Rattle.mt_base.specs.declared.calls.Query.{Query}
 use Rattle.mt_base.specs.declared.ranges.Range.{Range}
@@ -8,15 +8,17 @@ use Rattle.mt_base.specs.Passes as known
 use Rattle.mt_read.specs.declared.cursor.Cursor.{Cursor}
 use Rattle.mt_read.specs.declared.neighbours.Moved.{Moved}
 use Rattle.mt_read.specs.Cursors.{place_behind, query_at}
-use Rattle.mt_read.specs.Neighbours.{WasMoved}
+use Rattle.mt_read.specs.Neighbours.{WasLeftMarked, WasMoved}
 use Rattle.mt_read.specs.Windows.{HasRead}
 use Rattle.mt_rule.specs.declared.busy.Busy.{Busy}
+use Rattle.mt_rule.specs.Tokens.{part_of, turn_seat}
+use Rattle.mt_rule.specs.Turns as turns
 use Rattle.mt_tree.specs.declared.shapes.Done.{Done}
 use Rattle.mt_tree.specs.declared.shapes.Read.{Read}
 use Rattle.mt_tree.specs.declared.shapes.Worn.{Worn}
 use Rattle.mt_tree.specs.declared.trees.Tree.{Tree}
-use Rattle.mt_tree.specs.Asks.{IsForNeighbour}
-use Rattle.mt_tree.specs.Trees.{Pass, pass_in, opened}
+use Rattle.mt_tree.specs.Asks.{IsForNeighbour, unbounded}
+use Rattle.mt_tree.specs.Trees.{Pass, Takes, pass_in, steps_made, opened}
 use Rattle.mt_tree.specs.Tries.{IsBusyOf, WasMade}
 use Rattle.mt_tree.specs.Walks.{HasWalked}
 use Rattle.mt_c.specs.declared.walker.Walker.{Walker}
@@ -41,6 +43,26 @@ halted w = closed_by w.walk (knows w)
 pub record KnowsAs (p q : known.Pass) : Type 0 where
   pub same : record p { standing = None } ≡ record q { standing = None }
 
+-- ---- steps without the lock, and tries for it
+
+-- how many steps it takes to pause a walk: one that closes its section, if there is one
+abbrev pub pausing : Option Cursor → ℕ
+pausing None = 0
+pausing (Some w) = 1
+
+-- Its pass has then made so many steps at the most, beside that which pauses its walk, and has not gone for the lock.
+abbrev pub Took : ℕ → Walker → Pass → Type 0
+Took most w q = Takes (pausing w.walk + most) w.pass q
+
+-- It has gone for the lock once.
+abbrev pub WentOnce : Walker → Walker → Type 0
+WentOnce w w' = turn_seat w'.pass ≡ turn_seat (turns.tried w.pass)
+
+-- It has gone for the lock once, and made no step but that which pauses its walk.
+pub record TriedOnce (w w' : Walker) : Type 0 where
+  pub steps : steps_made w'.pass ≤ steps_made w.pass + pausing w.walk
+  pub went : WentOnce w w'
+
 -- ---- reads
 
 -- What a read answers: the map after some number of calls in its window; or it was given up, as only a search for a neighbour is. The
@@ -51,6 +73,13 @@ Answer = Result (Read (Option Range)) Moved
 abbrev pub IsAnswer : Tree → known.Pass → Query → Answer → known.Pass → Type 0
 IsAnswer t p query (Ok r) q = ((k : ℕ) × known.Read (opened t) p r.lo r.hi k query r.value q) × HasRead r.lo r.hi p q
 IsAnswer t p query (Err m) q = WasMoved (opened t) p m.lo m.begun q × IsForNeighbour query × HasRead m.lo m.begun p q
+
+-- When its walk was paused, it left a leaf of the query's index that it then found marked as dead.
+pub record GaveUp (query : Query) (w w' : Walker) (m : Moved) : Type 0 where
+  pub pass : Pass
+  pub paused : pass_in pass ≡ halted w
+  pub took : Took 0 w pass
+  pub left : WasLeftMarked (unbounded (part_of pass).shape.kind query) m.lo m.begun (part_of pass) (part_of w'.pass)
 
 -- It is on no walk, and no section of it stands open.
 abbrev pub IsAtRest : Walker → Type 0
@@ -74,7 +103,7 @@ new_walk from = record { at = Some from; max = top; leaf = None; epoch = None }
 
 -- a new walk is gone, when the one that was kept was paused
 abbrev pub IsAnew : ℕ → Walker → Pass → Cursor → Type 0
-IsAnew from w p walk = (pass_in p ≡ halted w) × (walk ≡ new_walk from)
+IsAnew from w p walk = (pass_in p ≡ halted w) × Took 0 w p × (walk ≡ new_walk from)
 
 -- whether a walk stands at this index
 abbrev pub is_at : Option ℕ → ℕ → Bool
@@ -96,13 +125,14 @@ Continues from w p walk = GoesFrom (stands_at w.walk from) from w p walk
 -- Where it has found a range it is kept as it then is; where none, it is paused.
 abbrev pub IsLeftBy : Option Range → Pass → Cursor → Walker → Type 0
 IsLeftBy (Some range) p walk w = (w.pass ≡ p) × (w.walk ≡ Some walk)
-IsLeftBy None p walk w = (knows w ≡ record (pass_in p) { standing = None }) × (w.walk ≡ None)
+IsLeftBy None p walk w = (knows w ≡ record (pass_in p) { standing = None }) × Takes 1 p w.pass × (w.walk ≡ None)
 
 -- The pass made a read, in whichever section.
 abbrev pub IsReadBy : Tree → known.Pass → Query → Read (Option Range) → known.Pass → Type 0
 IsReadBy t p query r q = (k : ℕ) × known.Read (opened t) p r.lo r.hi k query r.value q
 
--- One step from an index: the find from there, by one step of the walk that stands there, or of a new one.
+-- One step from an index: the find from there, by one step of the walk that stands there, or of a new one. Beside the steps of that
+-- one closes the section at the end of the walk.
 pub record IsStep (t : Tree) (w : Walker) (from : ℕ) (r : Read (Option Range)) (w' : Walker) : Type 0 where
   pub read : IsReadBy t (knows w) (query_at (Some from) top) r (knows w')
   pub goes : GoesOn r.value w'
@@ -113,10 +143,11 @@ pub record IsStep (t : Tree) (w : Walker) (from : ℕ) (r : Read (Option Range))
   pub walk' : Cursor
   pub walked : HasWalked t pass walk r pass' walk'
   pub left : IsLeftBy r.value pass' walk' w'
+  pub took : Took 221 w w'.pass
 
 -- The same from a place. Where there is none nothing is found, by a read.
 abbrev pub StepsFrom : Tree → Walker → Option ℕ → Read (Option Range) → Walker → Type 0
-StepsFrom t w None r w' = IsAnswer t (knows w) (query_at None top) (Ok r) (knows w') × IsAtRest w'
+StepsFrom t w None r w' = IsAnswer t (knows w) (query_at None top) (Ok r) (knows w') × IsAtRest w' × Took 175 w w'.pass
 StepsFrom t w (Some from) r w' = IsStep t w from r w'
 
 -- ---- calls

@@ -20,7 +20,7 @@ impl Common {
         ensures cuts { cuts_of chair.new ≡ cuts_of chair.old + 1 }
         ensures passes { IfOk result (λ taken. All (IsSpare self.now.tree) taken.value.passes.items) }
         ensures taken { IfOk result (λ taken. IsTakenOf self.now taken.took taken.seat) }
-        ensures took { IfOk result (λ taken. known_in taken.took.value ≡ known_in taken.value) }
+        ensures took { IfOk result (λ taken. taken.took.value ≡ taken.value) }
         ensures taken_cuts { IfOk result (λ taken. taken.seat.me.0.cuts ≡ cuts_of chair.new) }
         ensures busy { IfErr result (IsBusyAt self.now (cuts_of chair.new)) }
     {
@@ -31,7 +31,9 @@ impl Common {
     pub fn give(&self, taken: Taken<Purse, Tree>) -> Given<Purse, Tree>
         requires taken { IsTakenOf self.now taken.took taken.seat }
         requires passes { All (IsSpare self.now.tree) taken.value.passes.items }
-        ensures { WasGiven self.now taken.seat.me.0.cuts (known_in taken.took.value) (known_in taken.value) result }
+        ensures given { WasGiven self.now taken.seat.me.0.cuts (known_in taken.took.value) (known_in taken.value) result }
+        ensures took { result.took ≡ taken.took }
+        ensures gave { result.gave.value ≡ taken.value }
     {
         self.purse.give(taken)
     }

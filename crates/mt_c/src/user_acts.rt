@@ -1,12 +1,13 @@
 //! What a user of a shared tree does: its walker does it on the tree that they own together.
 
-ghost use Rattle.std.specs.Prelude.{◌≡◌, ◌+◌, ℕ, None, Ok};
+ghost use Rattle.std.specs.Prelude.{◌≡◌, ◌+◌, ℕ, None, Ok, IfErr};
 ghost use Rattle.mt_base.specs.declared.calls.Query.TheVariants.{Load};
 ghost use Rattle.mt_keep.specs.Keeping.{cuts_of};
+ghost use Rattle.mt_tree.specs.Asks.{most_made};
 ghost use Rattle.mt_tree.specs.Trees.{IsPassOf};
 ghost use Rattle.mt_c.specs.Purses.{IsSeatedAt};
-ghost use Rattle.mt_c.specs.Users.{IsSettled, IsSynced, common_of, cuts, known_to, paused, tree_of};
-ghost use Rattle.mt_c.specs.Walkers.{IsAnswer, IsAtRest, IsTried, StepsFrom, halted, knows};
+ghost use Rattle.mt_c.specs.Users.{IsSettled, IsSynced, WentToSettle, common_of, cuts, known_to, paused, tree_of};
+ghost use Rattle.mt_c.specs.Walkers.{GaveUp, IsAnswer, IsAtRest, IsTried, StepsFrom, Took, TriedOnce, WentOnce, halted, knows};
 
 use crate::purse::{Common, Purse};
 use crate::user::User;
@@ -31,7 +32,7 @@ pub enum Settling {
 
 impl Common {
     /// A walker and all passes of the purse see the whole history, if neither the purse nor the lock is taken.
-    #[tactic(auto, using(crate::proofs::Using::settled, crate::proofs::Using::unpursed, crate::proofs::Using::locked))]
+    #[tactic(auto, using(crate::proofs::Using::settled, crate::proofs::Using::unpursed, crate::proofs::Using::locked, crate::proofs::Using::rests_in_purse, crate::proofs::Using::went_after))]
     pub fn settle(
         &self,
         walker: &mut Walker,
@@ -43,6 +44,7 @@ impl Common {
         ensures seated { IsSeatedAt self.now chair.new }
         ensures cuts { cuts_of chair.new ≡ cuts_of chair.old + 1 }
         ensures settled { IsSettled self.now (cuts_of chair.old) (halted walker.old) result (knows walker.new) }
+        ensures went { WentToSettle result walker.old walker.new }
     {
         walker.pause(&self.tree);
         let mut taken = match self.take(chair) {
@@ -67,6 +69,7 @@ impl User {
         ensures receipts { self.new.receipts ≡ self.old.receipts }
         ensures known { known_to self.new ≡ paused self.old }
         ensures walk { self.new.walker.walk ≡ None }
+        ensures took { Took 0 self.old.walker self.new.walker.pass }
     {
         self.walker.pause(&self.common.tree);
     }
@@ -78,6 +81,8 @@ impl User {
         ensures receipts { self.new.receipts ≡ self.old.receipts }
         ensures answer { IsAnswer (tree_of self.old) (known_to self.old) query.now result (known_to self.new) }
         ensures rests { IsAtRest self.new.walker }
+        ensures took { Took (most_made query.now) self.old.walker self.new.walker.pass }
+        ensures left { IfErr result (GaveUp query.now self.old.walker self.new.walker) }
     {
         self.walker.ask(&self.common.tree, query)
     }
@@ -89,6 +94,7 @@ impl User {
         ensures receipts { self.new.receipts ≡ self.old.receipts }
         ensures answer { IsAnswer (tree_of self.old) (known_to self.old) (Load index) (Ok result) (known_to self.new) }
         ensures rests { IsAtRest self.new.walker }
+        ensures took { Took 170 self.old.walker self.new.walker.pass }
     {
         self.walker.load(&self.common.tree, index)
     }
@@ -110,6 +116,7 @@ impl User {
         ensures receipts { self.new.receipts ≡ self.old.receipts }
         ensures answer { IsAnswer (tree_of self.old) (known_to self.old) (Load 0) (Ok result) (known_to self.new) }
         ensures rests { IsAtRest self.new.walker }
+        ensures took { Took 170 self.old.walker self.new.walker.pass }
     {
         self.walker.look(&self.common.tree)
     }
@@ -120,6 +127,7 @@ impl User {
         ensures chair { self.new.chair ≡ self.old.chair }
         ensures receipts { self.new.receipts ≡ self.old.receipts }
         ensures tried { IsTried (tree_of self.old) (paused self.old) call.now result (known_to self.new) }
+        ensures once { TriedOnce self.old.walker self.new.walker }
     {
         self.walker.try_act(&self.common.tree, call)
     }
@@ -131,6 +139,7 @@ impl User {
         ensures chair { self.new.chair ≡ self.old.chair }
         ensures receipts { self.new.receipts ≡ self.old.receipts }
         ensures synced { IsSynced (tree_of self.old) (paused self.old) result (known_to self.new) }
+        ensures went { WentOnce self.old.walker self.new.walker }
     {
         self.walker.meet(&self.common.tree, &mut [])
     }
@@ -141,6 +150,7 @@ impl User {
         ensures common { common_of self.new ≡ common_of self.old }
         ensures chair { cuts self.new ≡ cuts self.old + 1 }
         ensures settled { IsSettled (common_of self.old) (cuts self.old) (paused self.old) result (known_to self.new) }
+        ensures went { WentToSettle result self.old.walker self.new.walker }
         ensures receipts { self.new.receipts ≡ self.old.receipts }
     {
         self.common.settle(&mut self.walker, &mut self.chair)

@@ -12,7 +12,7 @@ ghost use Rattle.mt_c.specs.Purses.{IsSeatedAt, IsTakenOf, first_in, known_in};
 ghost use Rattle.mt_c.specs.Receipts.{no_receipts};
 ghost use Rattle.mt_c.specs.Spares.{IsSpare};
 ghost use Rattle.mt_c.specs.Users.{HasLeft, IsFirst, IsOfPurse, IsWhy, WantsNoPlace, common_of, cuts, known_to, paused, rested, tree_of};
-ghost use Rattle.mt_c.specs.Walkers.{IsAtRest};
+ghost use Rattle.mt_c.specs.Walkers.{IsAtRest, Took};
 
 use crate::purse::{Common, Purse};
 use crate::receipts::Receipts;
@@ -267,8 +267,7 @@ impl User {
     /// `Busy` where another user has the purse; `NoPlace` where it is empty; `NoMemory` where memory ran out.
     pub fn share(&mut self, alloc: Global) -> Result<(Box<User>, Given<Purse, Tree>), Unchanged>
         ensures common { common_of self.new ≡ common_of self.old }
-        ensures known { known_to self.new ≡ known_to self.old }
-        ensures walk { self.new.walker.walk ≡ self.old.walker.walk }
+        ensures walker { self.new.walker ≡ self.old.walker }
         ensures receipts { self.new.receipts ≡ self.old.receipts }
         ensures other { IfOk result (λ r. common_of r.0.value ≡ common_of self.old) }
         ensures pass { IfOk result (λ r. IsOfPurse (common_of self.old) (cuts self.old) r.0.value r.1) }
@@ -286,8 +285,7 @@ impl User {
     /// `Busy` where another user has the purse; `NoMemory` where memory ran out.
     fn take_purse(&mut self) -> Result<Taken<Purse, Tree>, Unchanged>
         ensures common { common_of self.new ≡ common_of self.old }
-        ensures known { known_to self.new ≡ known_to self.old }
-        ensures walk { self.new.walker.walk ≡ self.old.walker.walk }
+        ensures walker { self.new.walker ≡ self.old.walker }
         ensures receipts { self.new.receipts ≡ self.old.receipts }
         ensures chair { cuts self.new ≡ cuts self.old + 1 }
         ensures taken { IfOk result (λ taken. IsTakenOf (common_of self.old) taken.took taken.seat) }
@@ -325,11 +323,13 @@ impl User {
     /// # Errors
     ///
     /// `Busy` where another user has the purse; `NoMemory` where memory ran out. The user is handed back, its walk paused.
+    #[tactic(auto, using(crate::proofs::Using::took_still))]
     pub fn leave(user: Box<User>) -> Result<Left, (Box<User>, Unchanged)>
         ensures left { IfOk result (HasLeft (common_of user.value) (cuts user.value + 1) (rested user.value)) }
         ensures common { IfErr result (λ r. common_of r.0.value ≡ common_of user.value) }
         ensures chair { IfErr result (λ r. cuts r.0.value ≡ cuts user.value + 1) }
         ensures known { IfErr result (λ r. known_to r.0.value ≡ paused user.value) }
+        ensures took { IfErr result (λ r. Took 0 user.value.walker r.0.value.walker.pass) }
         ensures receipts { IfErr result (λ r. r.0.value.receipts ≡ user.value.receipts) }
         ensures why { IfErr result (λ r. IsWhy (common_of user.value) (cuts user.value) r.1) }
         ensures place { IfErr result (λ r. WantsNoPlace r.1) }

@@ -3,7 +3,7 @@
 ghost use Rattle.std.specs.Prelude.{◌≡◌, IfErr, IfOk};
 ghost use Rattle.mt_c.specs.Shared.{HasSettled, HasShared, HasSynced, HasTried, IsUnchanged, unchanged_status};
 ghost use Rattle.mt_c.specs.Receipts.{when_unchanged};
-ghost use Rattle.mt_c.specs.Users.{common_of, known_to};
+ghost use Rattle.mt_c.specs.Users.{common_of};
 
 use crate::shared_told::{Outcome, settled_told, synced_told, tried_told, unchanged_told};
 use crate::user::User;
@@ -45,8 +45,7 @@ impl User {
     /// No user was opened, or this one has not left. The number that C gets.
     pub fn refused(&mut self, why: Unchanged) -> u32
         ensures common { common_of self.new ≡ common_of self.old }
-        ensures known { known_to self.new ≡ known_to self.old }
-        ensures walk { self.new.walker.walk ≡ self.old.walker.walk }
+        ensures walker { self.new.walker ≡ self.old.walker }
         ensures chair { self.new.chair ≡ self.old.chair }
         ensures receipts { self.new.receipts ≡ when_unchanged why self.old.receipts }
         ensures status { result ≡ unchanged_status why }
@@ -62,8 +61,7 @@ impl User {
     #[tactic(auto, using(crate::proofs::Sharing::has_shared, crate::proofs::Sharing::is_unchanged))]
     pub fn share_told(&mut self, alloc: Global) -> Result<Box<User>, u32>
         ensures common { common_of self.new ≡ common_of self.old }
-        ensures known { known_to self.new ≡ known_to self.old }
-        ensures walk { self.new.walker.walk ≡ self.old.walker.walk }
+        ensures walker { self.new.walker ≡ self.old.walker }
         ensures other { IfOk result (λ other. common_of other.value ≡ common_of self.old) }
         ensures pass { IfOk result (λ other. HasShared self.old self.new other.value) }
         ensures why { IfErr result (IsUnchanged self.old self.new) }

@@ -6,12 +6,14 @@ ghost use Rattle.mt_base.specs.Passes as known;
 ghost use Rattle.mt_read.specs.Cursors.{place_behind, query_at};
 ghost use Rattle.mt_read.specs.Windows.{HasRead};
 ghost use Rattle.mt_tree.specs.Meeting.{HaveMet};
-ghost use Rattle.mt_tree.specs.Trees.{IsPassOf, opened, pass_in};
+ghost use Rattle.mt_rule.specs.Tokens.{turn_seat};
+ghost use Rattle.mt_tree.specs.Asks.{most_made};
+ghost use Rattle.mt_tree.specs.Trees.{IsPassOf, Takes, opened, pass_in};
 ghost use Rattle.mt_tree.specs.Tries.{IsBusyOf};
 ghost use Rattle.mt_c.specs.KeptWalks.{top};
 ghost use Rattle.mt_c.specs.Spares.{IsSpare};
 ghost use Rattle.mt_tree.specs.Walks.{HasWalked};
-ghost use Rattle.mt_c.specs.Walkers.{Continues, IsAnswer, IsAtRest, IsOnAt, IsReadBy, IsStep, IsTried, KnowsAs, StepsFrom, halted, knows, stands_at};
+ghost use Rattle.mt_c.specs.Walkers.{Continues, GaveUp, IsAnswer, IsAtRest, IsOnAt, IsReadBy, IsStep, IsTried, KnowsAs, StepsFrom, Took, TriedOnce, WentOnce, halted, knows, stands_at};
 
 use crate::walker::Walker;
 use mt_base::{Call, Query, Range, Steps};
@@ -33,6 +35,7 @@ fn load_range<L: Ledger>(
     ensures of { IsPassOf tree.now pass.new }
     ensures read { (k : ℕ) × known.Read (opened tree.now) (pass_in pass.old) result.lo result.hi k (Load index) result.value (pass_in pass.new) }
     ensures section { HasRead result.lo result.hi (pass_in pass.old) (pass_in pass.new) }
+    ensures takes { Takes 170 pass.old pass.new }
 {
     let mut steps = Steps::<L>::new(blank);
     tree.load_range(pass, index, &mut steps)
@@ -48,12 +51,14 @@ impl Walker {
     }
 
     /// Closes the section of its walk and forgets the walk. It is apart from `pause`, so that a pass on no walk makes no room for one.
+    #[tactic(auto, using(crate::proofs::Using::took_none, crate::proofs::Using::took_one))]
     #[inline(never)]
     fn forget(&mut self, tree: &Tree)
         requires { IsPassOf tree.now self.old.pass }
         ensures of { IsPassOf tree.now self.new.pass }
         ensures known { knows self.new ≡ halted self.old }
         ensures walk { self.new.walk ≡ None }
+        ensures took { Took 0 self.old self.new.pass }
     {
         let Some(mut walk) = self.walk.take() else {
             return;
@@ -62,11 +67,13 @@ impl Walker {
     }
 
     /// Closes the section of its walk, if it has one, and forgets the walk.
+    #[tactic(auto, using(crate::proofs::Using::took_none))]
     pub fn pause(&mut self, tree: &Tree)
         requires { IsPassOf tree.now self.old.pass }
         ensures of { IsPassOf tree.now self.new.pass }
         ensures known { knows self.new ≡ halted self.old }
         ensures walk { self.new.walk ≡ None }
+        ensures took { Took 0 self.old self.new.pass }
     {
         if self.walk.is_some() {
             self.forget(tree);
@@ -74,24 +81,27 @@ impl Walker {
     }
 
     /// Asks one query, without the lock.
-    #[tactic(auto, using(crate::proofs::Using::answer_made, crate::proofs::Using::rested))]
+    #[tactic(auto, using(crate::proofs::Using::answer_made, crate::proofs::Using::rested, crate::proofs::Using::took_more, crate::proofs::Using::gave_up))]
     pub fn ask(&mut self, tree: &Tree, query: &Query) -> Result<Read<Option<Range>>, Moved>
         requires { IsPassOf tree.now self.old.pass }
         ensures of { IsPassOf tree.now self.new.pass }
         ensures answer { IsAnswer tree.now (knows self.old) query.now result (knows self.new) }
         ensures rests { IsAtRest self.new }
+        ensures took { Took (most_made query.now) self.old self.new.pass }
+        ensures left { IfErr result (GaveUp query.now self.old self.new) }
     {
         self.pause(tree);
         tree.ask(&mut self.pass, query)
     }
 
     /// The range that an index lies in, without the lock.
-    #[tactic(auto, using(crate::proofs::Using::load_made, crate::proofs::Using::read_rests))]
+    #[tactic(auto, using(crate::proofs::Using::load_made, crate::proofs::Using::read_rests, crate::proofs::Using::took_more))]
     pub fn load(&mut self, tree: &Tree, index: u64) -> Read<Option<Range>>
         requires { IsPassOf tree.now self.old.pass }
         ensures of { IsPassOf tree.now self.new.pass }
         ensures answer { IsAnswer tree.now (knows self.old) (Load index) (Ok result) (knows self.new) }
         ensures rests { IsAtRest self.new }
+        ensures took { Took 170 self.old self.new.pass }
     {
         self.pause(tree);
         load_range::<Brand>(tree, &mut self.pass, index, Blank::new(1))
@@ -111,13 +121,14 @@ impl Walker {
     }
 
     /// It is on a walk that stands at this index then: on the one that it was on, where that does.
-    #[tactic(auto, using(crate::proofs::Using::from_any, crate::proofs::Using::begins_walk, crate::proofs::Using::stands_on, crate::proofs::Using::paused_knows, crate::proofs::Using::same_knows, crate::proofs::Using::at_index, crate::proofs::Using::goes_kept, crate::proofs::Using::goes_anew, crate::proofs::Using::is_new_walk))]
+    #[tactic(auto, using(crate::proofs::Using::from_any, crate::proofs::Using::begins_walk, crate::proofs::Using::stands_on, crate::proofs::Using::paused_knows, crate::proofs::Using::same_knows, crate::proofs::Using::at_index, crate::proofs::Using::goes_kept, crate::proofs::Using::goes_anew, crate::proofs::Using::is_new_walk, crate::proofs::Using::took_none))]
     fn walk_at(&mut self, tree: &Tree, from: u64)
         requires { IsPassOf tree.now self.old.pass }
         ensures of { IsPassOf tree.now self.new.pass }
         ensures at { IsOnAt self.new.walk (Some from) }
         ensures known { KnowsAs (knows self.old) (knows self.new) }
         ensures begins { IfSome self.new.walk (Continues from self.old self.new.pass) }
+        ensures took { Took 0 self.old self.new.pass }
     {
         if self.stands_at(from) {
             return;
@@ -180,22 +191,25 @@ impl Walker {
         ensures of { IsPassOf tree.now self.new.pass }
         ensures answer { IsAnswer tree.now (knows self.old) (Load 0) (Ok result) (knows self.new) }
         ensures rests { IsAtRest self.new }
+        ensures took { Took 170 self.old self.new.pass }
     {
         self.load(tree, 0)
     }
 
     /// Makes one call, if the lock is free.
-    #[tactic(auto, using(crate::proofs::Using::tried_made))]
+    #[tactic(auto, using(crate::proofs::Using::tried_made, crate::proofs::Using::tried_once))]
     pub fn try_act(&mut self, tree: &Tree, call: &Call) -> Result<Result<Done, Worn>, Busy>
         requires { IsPassOf tree.now self.old.pass }
         ensures of { IsPassOf tree.now self.new.pass }
         ensures tried { IsTried tree.now (halted self.old) call.now result (knows self.new) }
+        ensures once { TriedOnce self.old self.new }
     {
         self.pause(tree);
         tree.try_act(&mut self.pass, call)
     }
 
     /// With passes that no user has it sees the whole history, if the lock is free. Answers how many calls that has.
+    #[tactic(auto, using(crate::proofs::Using::went_once, crate::proofs::Using::others_rest, crate::proofs::Using::kept_known))]
     pub fn meet(&mut self, tree: &Tree, others: &mut [Pass]) -> Result<u64, Busy>
         requires of { IsPassOf tree.now self.old.pass }
         requires others { All (IsSpare tree.now) others.old }
@@ -204,6 +218,8 @@ impl Walker {
         ensures met { IfOk result (HaveMet tree.now (halted self.old ∷ map pass_in others.old) (knows self.new ∷ map pass_in others.new)) }
         ensures busy { IfErr result (IsBusyOf tree.now) }
         ensures kept { IfErr result (λ _. (knows self.new ≡ halted self.old) × (others.new ≡ others.old)) }
+        ensures went { WentOnce self.old self.new }
+        ensures rest { map turn_seat others.new ≡ map turn_seat others.old }
     {
         self.pause(tree);
         tree.try_meet(&mut self.pass, others)

@@ -16,4 +16,4 @@ give-given-requires-clause-passes c = subst (λ (x : Common). All (IsSpare x.tre
 pub returns-then-is_empty-clause-why : goal.returns-then-is_empty-clause-why
 returns-then-is_empty-clause-why c =
     let none : known_in c.in-Ok.taken.value ≡ [] = ap (map pass_in) (nil_from_length c.in-Ok.taken.value.passes.items (search rules)) in
-    given_empty c.args.self.now _ _ c.give.result (known_in c.in-Ok.taken.took.value) (known_in c.in-Ok.taken.value) c.give.ensures (search rules) c.in-Ok.ensures.took none
+    given_empty c.args.self.now _ _ c.give.result (known_in c.in-Ok.taken.took.value) (known_in c.in-Ok.taken.value) c.give.ensures.given (search rules) (ap known_in c.in-Ok.ensures.took) none
