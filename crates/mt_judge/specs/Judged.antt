@@ -9,7 +9,7 @@ use Rattle.mt_told.specs.declared.told.What.{What}
 use Rattle.mt_told.specs.declared.told.What.TheVariants.{Wrote, Got, Copied, Lawful}
 use Rattle.mt_told.specs.Telling.{IsToldBy, TellsNone}
 use Rattle.mt_verify.specs.declared.verdicts.Verdict.TheVariants.{Yes, No}
-use Rattle.mt_verify.specs.Filled.{is_got, is_wrote}
+use Rattle.mt_verify.specs.ToldReads.{is_got, is_wrote}
 use Rattle.mt_verify.specs.Points.{IsVerdict}
 use Rattle.mt_judge.specs.Faults.{KeepsOrder, is_of_form}
 use Rattle.mt_judge.specs.Orders.{IsInOrder}

@@ -1,7 +1,7 @@
 //! How much a transcript tells, and how much of it says something of threads.
 
 ghost use Rattle.std.specs.Prelude.{◌≡◌};
-ghost use Rattle.mt_verify.specs.Filled.{is_got, is_wrote};
+ghost use Rattle.mt_verify.specs.ToldReads.{is_got, is_wrote};
 ghost use Rattle.mt_judge.specs.Judged.{how_many, overlaps, tally_of};
 
 use mt_told::{Told, What};

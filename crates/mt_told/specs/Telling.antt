@@ -71,10 +71,6 @@ AreSpelled sp [] (s ∷ steps) = ⊥
 AreSpelled sp (t ∷ told) [] = ⊥
 AreSpelled sp (t ∷ told) (s ∷ steps) = IsSpelled sp t s × AreSpelled sp told steps
 
--- as this version of logs writes it
-abbrev pub IsToldOf : ℕ → What → Outcome → Type 0
-IsToldOf version what o = IsSpelledOf (spelling_of version) what o
-
 abbrev pub IsTold : ℕ → Told → Step → Type 0
 IsTold version t s = IsSpelled (spelling_of version) t s
 

@@ -27,9 +27,8 @@ use Rattle.mt_told.specs.declared.told.Told.{Told}
 use Rattle.mt_told.specs.declared.told.What.{What}
 use Rattle.mt_told.specs.declared.told.What.TheVariants.{Wrote, Got, Copied, Lawful}
 use Rattle.mt_told.specs.Telling.{IsToldBy}
-use Rattle.mt_verify.specs.AllGone.{HaveGoneTo, OpensGone, history_by, listings_by}
-use Rattle.mt_verify.specs.Filled.{calls_told as calls_lower, history_in, is_got as is_look, numbered_by, numbered_in, numbers_behind, reads_count, reads_told, reply_in}
-use Rattle.mt_verify.specs.Found.{IsFound, IsHeldTold, IsOpened, IsRightCall, IsRightLine, OpensTold, holder_told, is_told_read, own_looks, own_points}
+use Rattle.mt_verify.specs.AllGone.{HaveGoneTo, OpensGone, listings_by}
+use Rattle.mt_verify.specs.ToldReads.{calls_told as calls_lower, is_got as is_look, numbers_behind, reads_count, reads_told, own_points}
 use Rattle.mt_verify.specs.Going.{Lane}
 use Rattle.mt_verify.specs.GoneTrees.{GoneTree, HasGone, map_of}
 use Rattle.mt_verify.specs.Heard.{IsReader, is_got, reads_by}
@@ -45,6 +44,8 @@ use Rattle.mt_verify.specs.declared.noted.Heard.{Heard}
 use Rattle.mt_verify.specs.declared.noted.Heard.TheVariants.{Reply as Printed, Short}
 use Rattle.mt_verify.specs.declared.noted.Noted.{Noted}
 use Rattle.mt_verify.specs.declared.stops.Stop.{Stop}
+use Rattle.mt_verify.proofs.Filled.{history_in, numbered_by, numbered_in, reply_in}
+use Rattle.mt_verify.proofs.Found.{IsFound, IsHeldTold, IsOpened, IsRightCall, IsRightLine, OpensTold, holder_told, is_told_read, own_looks}
 use Rattle.mt_verify.proofs.Answered.{answered_are_records, answered_is_legal, maps_are}
 use Rattle.mt_verify.proofs.FoundRun.{history_at}
 use Rattle.mt_verify.proofs.GoneTree.{many_noted}
@@ -54,6 +55,11 @@ use Rattle.mt_verify.proofs.OwnLines.{below_is, lane_is, own_is}
 use Rattle.mt_verify.proofs.OwnStops.{windows_within}
 use Rattle.mt_verify.proofs.RefusedTrees.{kept_in, lane_at}
 use Rattle.mt_verify.proofs.Runs.{all_at, some_at}
+use Rattle.mt_verify.specs.Histories.{history_of}
+
+-- the history that a tree has gone through
+abbrev pub history_by : ℕ → GoneTree → History
+history_by rows g = history_of g.kind rows g.opening g.noted
 
 -- ---- places
 

@@ -15,7 +15,7 @@ use Rattle.mt_log.specs.Text.{listing_text}
 use Rattle.mt_log.specs.Trees.{Declared, Opening, Empty, CopyOf, trees_of}
 use Rattle.mt_told.specs.declared.told.Told.{Told}
 use Rattle.mt_verify.specs.AllGone.{HaveGoneTo, IsGoneTree, IsToldRun, OpensGone, listing_by, listings_by}
-use Rattle.mt_verify.specs.Filled.{calls_told as calls_before_told}
+use Rattle.mt_verify.specs.ToldReads.{calls_told as calls_before_told}
 use Rattle.mt_verify.specs.GoneTrees.{CannotGo, GoneTree, map_of}
 use Rattle.mt_verify.specs.Histories.{AreHeard, map_by}
 use Rattle.mt_verify.specs.Points.{CopiesEarlier}

@@ -11,7 +11,12 @@ use Rattle.mt_told.specs.declared.told.What.{What}
 use Rattle.mt_told.specs.declared.told.What.TheVariants.{Wrote, Got, Copied, Lawful}
 use Rattle.mt_verify.specs.declared.counts.Counting.{Counting}
 use Rattle.mt_verify.specs.declared.stops.Stop.{Stop}
-use Rattle.mt_verify.specs.OwnLines.{calls_below, calls_in, calls_of, entered, stop_at, stops_told}
+use Rattle.mt_verify.specs.OwnLines.{calls_below, calls_in, entered, stop_at, stops_told}
+
+-- how many calls these lines tell, and how many of lower phases than this one
+abbrev pub calls_of : List Told → ℕ
+calls_of [] = 0
+calls_of (t ∷ own) = calls_in t.what + calls_of own
 
 -- ---- sums over lists
 

@@ -15,9 +15,10 @@ use Rattle.mt_verify.specs.Looks.{AreLeastOf, IsTrueOn}
 use Rattle.mt_verify.proofs.Runs.{all_at}
 use Rattle.mt_verify.specs.Points.{point_of, points_of, lo_of, number_of}
 use Rattle.mt_verify.specs.LaneReads.{look_of, looks_on, points_on}
-use Rattle.mt_verify.specs.Found.{AllReadsOn, AllReadsRise, IsRightCall, IsRightLine}
 use Rattle.mt_verify.specs.Windows.{InNumbers}
-use Rattle.mt_verify.specs.Filled.{AreRight, EachLater, EndsBefore, EndsIn, HasNumber, IsReadOn, IsRight, ReadsRise, calls_told, filled, history_in, is_got, number_for, numbers_behind, outcome_in, read_by, read_in, reads_count, reads_told, step_in}
+use Rattle.mt_verify.specs.ToldReads.{calls_told, is_got, number_for, numbers_behind, read_by, read_in, reads_count, reads_told}
+use Rattle.mt_verify.proofs.Filled.{AreRight, EachLater, EndsBefore, EndsIn, HasNumber, IsReadOn, IsRight, ReadsRise, filled, history_in, outcome_in, step_in}
+use Rattle.mt_verify.proofs.Found.{AllReadsOn, AllReadsRise, IsRightCall, IsRightLine}
 
 -- ---- the lists of a lane
 

@@ -7,8 +7,10 @@ use Rattle.mt_log.specs.Run.{Step, IsTrueOf, calls_before, is_call, numbered_on,
 use Rattle.mt_told.specs.declared.told.Told.{Told}
 use Rattle.mt_told.specs.declared.told.What.{What}
 use Rattle.mt_told.specs.declared.told.What.TheVariants.{Wrote, Got, Copied, Lawful}
-use Rattle.mt_told.specs.Telling.{AreTold, IsToldOf}
-use Rattle.mt_verify.specs.Filled.{AreRight, IsRight, calls_told, filled, history_in, is_wrote, number_for, numbered_by, numbered_in, numbers_behind, outcome_in, step_in}
+use Rattle.mt_told.specs.Telling.{AreTold}
+use Rattle.mt_verify.specs.ToldReads.{calls_told, is_wrote, number_for, numbers_behind}
+use Rattle.mt_verify.proofs.Filled.{AreRight, IsRight, filled, history_in, numbered_by, numbered_in, outcome_in, step_in}
+use Rattle.mt_verify.proofs.ToldSteps.{IsToldOf}
 
 -- ---- calls
 

@@ -23,13 +23,14 @@ use Rattle.mt_told.specs.declared.told.Told.{Told}
 use Rattle.mt_told.specs.declared.told.What.{What}
 use Rattle.mt_told.specs.declared.told.What.TheVariants.{Wrote, Got, Copied, Lawful}
 use Rattle.mt_told.specs.Telling.{AreTold, IsTold}
-use Rattle.mt_verify.specs.Filled.{AreRight, IsRight, EachLater, EndsBefore, EndsIn, calls_told, filled, history_in, is_got, number_for, numbered_by, numbered_in, numbers_behind, outcome_in, reads_told, step_in}
-use Rattle.mt_verify.specs.Found.{AllReadsOn, AllReadsRise, IsFound, own_looks, IsHeldTold, IsOpened, IsRightLine, OpensTold, holder_told, is_told_read}
+use Rattle.mt_verify.specs.ToldReads.{calls_told, is_got, number_for, numbers_behind, reads_told}
 use Rattle.mt_verify.specs.declared.looks.Look.{Look}
 use Rattle.mt_verify.specs.Looks.{ArePicked}
 use Rattle.mt_verify.specs.LaneReads.{LanesArePicked, points_on}
 use Rattle.mt_verify.specs.Points.{AreUpTo, lo_of, number_of, points_of}
 use Rattle.mt_verify.specs.Windows as windows
+use Rattle.mt_verify.proofs.Filled.{AreRight, IsRight, EachLater, EndsBefore, EndsIn, filled, history_in, numbered_by, numbered_in, outcome_in, step_in}
+use Rattle.mt_verify.proofs.Found.{AllReadsOn, AllReadsRise, IsFound, own_looks, IsHeldTold, IsOpened, IsRightLine, OpensTold, holder_told, is_told_read}
 use Rattle.mt_verify.proofs.FilledReads.{all_points, each_later, filled_looks, filled_points, filled_rises, got_of, least_reads, least_rises, lines_right, pairs_of}
 use Rattle.mt_verify.proofs.FilledSteps.{Stands, calls_are, calls_numbered, filled_is_told, filled_stands}
 use Rattle.mt_verify.proofs.LowerPhases.{IsCalled, IsReadAt, call_of, ends_before, read_at}

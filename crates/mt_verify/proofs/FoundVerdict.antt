@@ -13,14 +13,14 @@ use Rattle.mt_log.specs.Trees.{IsReadable, trees_of}
 use Rattle.mt_told.specs.declared.told.Told.{Told}
 use Rattle.mt_told.proofs.Versions.{none_told, only_told, printed_told}
 use Rattle.mt_told.specs.Telling.{AreTold, IsSmall, IsToldBy, TellsNone, spelling_of}
-use Rattle.mt_verify.specs.AllGone.{HaveGoneTo, IsToldRun, NoneIsTold, history_by, listings_by}
-use Rattle.mt_verify.specs.Filled.{filled}
-use Rattle.mt_verify.specs.Found.{IsFound}
+use Rattle.mt_verify.specs.AllGone.{HaveGoneTo, IsToldRun, NoneIsTold, listings_by}
 use Rattle.mt_verify.specs.GoneTrees.{GoneTree}
 use Rattle.mt_verify.specs.Points.{AreLeastPoints, AreUpTo}
 use Rattle.mt_verify.specs.PrintedOrder.{EndsInTree, InPrintedOrder}
 use Rattle.mt_verify.specs.Windows as of_steps
-use Rattle.mt_verify.proofs.AllFound.{listings_are}
+use Rattle.mt_verify.proofs.AllFound.{history_by, listings_are}
+use Rattle.mt_verify.proofs.Filled.{filled}
+use Rattle.mt_verify.proofs.Found.{IsFound}
 use Rattle.mt_verify.proofs.FilledReads.{all_points}
 use Rattle.mt_verify.proofs.FoundRun.{are_told, each_right, is_run, least_of_all}
 use Rattle.mt_verify.proofs.Ordered.{order_splits}

@@ -14,7 +14,7 @@ use Rattle.mt_log.specs.Text.{listing_text}
 use Rattle.mt_log.specs.Trees.{Declared, Opening, Empty, CopyOf, trees_of}
 use Rattle.mt_told.specs.declared.told.Told.{Told}
 use Rattle.mt_verify.specs.AllGone.{HaveGoneTo, IsGoneTree, NoneIsTold, OpensGone, listing_by, listings_by}
-use Rattle.mt_verify.specs.Filled.{calls_told}
+use Rattle.mt_verify.specs.ToldReads.{calls_told}
 use Rattle.mt_verify.specs.GoneTrees.{CannotGo, GoneTree, IsGoneFrom}
 use Rattle.mt_verify.specs.Openings.{OpensAsMap, opened_with}
 use Rattle.mt_verify.specs.Verifying.{IsCase}

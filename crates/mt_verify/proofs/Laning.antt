@@ -11,8 +11,14 @@ use Rattle.mt_verify.specs.declared.looks.Look.{Look}
 use Rattle.mt_verify.specs.declared.noted.Noted.{Noted}
 use Rattle.mt_verify.specs.Histories.{map_after, map_by}
 use Rattle.mt_verify.specs.Looks.{IsOn, IsStuck}
-use Rattle.mt_verify.specs.Going.{Lane, opened_of, IsAnsweredAt, AreAnswered, AreOn, SomeStuck, AreGoing, looks_of, AllLeast, SomeHasNone, AreWithin, SomeWaits, AreDone, AreFresh}
+use Rattle.mt_verify.specs.Going.{Lane, opened_of, IsAnsweredAt, AreAnswered, AreOn, SomeStuck, looks_of, AllLeast, SomeHasNone, AreWithin, SomeWaits, AreDone, AreFresh}
 use Rattle.mt_verify.proofs.LeastNumbers.{picked_is_least, stuck_has_none}
+
+-- of these lanes the first so many have gone through this number as well
+pub record AreGoing (m : ℕ → List Range) (number count : ℕ) (lanes : List Lane) : Type 0 where
+  pub gone : (j : ℕ) (t : Lane) → j < count → slice_get lanes j ≡ Some t
+      → IsOn m (number + 1) (number + 1) t.looks t.points
+  pub rest : (j : ℕ) (t : Lane) → count ≤ j → slice_get lanes j ≡ Some t → IsOn m number number t.looks t.points
 
 -- ---- one place of a list is set
 

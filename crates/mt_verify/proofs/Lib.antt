@@ -55,3 +55,5 @@ pub mod Merging
 pub mod GoingOn
 pub mod FoundVerdict
 pub mod Tellings
+pub mod Filled
+pub mod Found

@@ -12,13 +12,13 @@ use Rattle.mt_told.specs.declared.told.Told.{Told}
 use Rattle.mt_told.specs.declared.told.What.{What}
 use Rattle.mt_told.specs.declared.told.What.TheVariants.{Wrote, Got, Copied, Lawful}
 use Rattle.mt_verify.specs.declared.looks.Look.{Look}
-use Rattle.mt_verify.specs.Filled.{HasNumber, is_got, number_for, numbers_behind, read_by, read_in, reads_count, reads_told}
-use Rattle.mt_verify.specs.Found.{own_points}
+use Rattle.mt_verify.specs.ToldReads.{is_got, number_for, numbers_behind, read_by, read_in, reads_count, reads_told, own_points}
 use Rattle.mt_verify.specs.Going.{AreDone, Lane, looks_of}
 use Rattle.mt_verify.specs.GoneTrees.{GoneTree, lane_looks}
 use Rattle.mt_verify.specs.LaneReads.{look_by, look_told, looks_told}
 use Rattle.mt_verify.specs.Merging.{cell_of, points_at}
 use Rattle.mt_verify.specs.OwnLines.{lines_on, looks_by_lane}
+use Rattle.mt_verify.proofs.Filled.{HasNumber}
 use Rattle.mt_verify.proofs.FilledReads.{has_number, second_of}
 use Rattle.mt_verify.proofs.OwnLines.{lane_is}
 use Rattle.mt_verify.proofs.RefusedTrees.{lane_at}

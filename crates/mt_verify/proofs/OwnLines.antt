@@ -7,10 +7,10 @@ use Rattle.mt_told.specs.declared.told.Told.{Told}
 use Rattle.mt_told.specs.declared.told.What.{What}
 use Rattle.mt_told.specs.declared.told.What.TheVariants.{Wrote, Got, Copied, Lawful}
 use Rattle.mt_verify.specs.declared.looks.Look.{Look}
-use Rattle.mt_verify.specs.Filled.{calls_told, is_wrote, number_for, numbers_behind, read_by, reads_told}
-use Rattle.mt_verify.specs.Found.{own_looks}
+use Rattle.mt_verify.specs.ToldReads.{calls_told, is_wrote, number_for, numbers_behind, read_by, reads_told}
 use Rattle.mt_verify.specs.LaneReads.{look_told, looks_told}
 use Rattle.mt_verify.specs.OwnLines.{calls_below, calls_in, lines_on, look_by_lane, looks_by_lane}
+use Rattle.mt_verify.proofs.Found.{own_looks}
 
 -- ---- reads
 

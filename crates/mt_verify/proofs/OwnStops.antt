@@ -10,15 +10,16 @@ use Rattle.mt_verify.specs.declared.calls.Numbered.{Numbered}
 use Rattle.mt_verify.specs.declared.looks.Look.{Look}
 use Rattle.mt_verify.specs.declared.noted.Noted.{Noted}
 use Rattle.mt_verify.specs.declared.stops.Stop.{Stop}
-use Rattle.mt_verify.specs.Filled.{EachLater}
 use Rattle.mt_verify.specs.Going.{AreStopsWithin, AreWithin, Lane, looks_of}
 use Rattle.mt_verify.specs.GoneTrees.{lane_looks}
 use Rattle.mt_verify.specs.Hearing.{AreNotedOf}
 use Rattle.mt_verify.specs.LaneReads.{look_told}
-use Rattle.mt_verify.specs.OwnLines.{calls_below, calls_in, calls_of, line_on, lines_on, look_by_lane, looks_by_lane, stop_at, stops_told}
+use Rattle.mt_verify.specs.OwnLines.{calls_below, calls_in, line_on, lines_on, look_by_lane, looks_by_lane, stop_at, stops_told}
 use Rattle.mt_verify.specs.PrintedOrder.{EndsInTree, EndsWithin}
 use Rattle.mt_verify.specs.Stops.{DoNotFall}
 use Rattle.mt_verify.specs.ToldCalls.{calls_told, numbered_of}
+use Rattle.mt_verify.proofs.Filled.{EachLater}
+use Rattle.mt_verify.proofs.CountedLines.{calls_of}
 use Rattle.mt_verify.proofs.FilledReads.{each_later, pairs_of}
 use Rattle.mt_verify.proofs.RefusedTrees.{from_kept, lane_at, line_of}
 use Rattle.mt_verify.proofs.Runs.{all_at, pairs_at}

@@ -24,12 +24,12 @@ use Rattle.mt_log.specs.Trees.{most_lanes}
 use Rattle.mt_told.specs.declared.told.Told.{Told}
 use Rattle.mt_told.specs.declared.told.What.{What}
 use Rattle.mt_told.specs.declared.told.What.TheVariants.{Wrote, Got, Copied, Lawful}
-use Rattle.mt_told.specs.Telling.{AreTold, IsTold, IsToldOf}
+use Rattle.mt_told.specs.Telling.{AreTold, IsTold}
 use Rattle.mt_verify.specs.declared.calls.Numbered.{Numbered}
 use Rattle.mt_verify.specs.declared.looks.Look.{Look}
 use Rattle.mt_verify.specs.declared.noted.Noted.{Noted}
 use Rattle.mt_verify.specs.declared.stops.Stop.{Stop}
-use Rattle.mt_verify.specs.Filled.{calls_told as calls_before_told, is_wrote}
+use Rattle.mt_verify.specs.ToldReads.{calls_told as calls_before_told, is_wrote}
 use Rattle.mt_verify.specs.Going.{AreAnswered, Lane, SomeHasNone, looks_of}
 use Rattle.mt_verify.specs.GoneTrees.{AreMisheard, CannotGo, IsHindered, lane_looks}
 use Rattle.mt_verify.specs.Heard.{IsReader}
@@ -39,6 +39,7 @@ use Rattle.mt_verify.specs.Looks.{MayHave}
 use Rattle.mt_verify.specs.OwnLines.{calls_below, line_on, lines_on, looks_by_lane, stop_at, stops_told}
 use Rattle.mt_verify.specs.Stops.{SomeMiscounted}
 use Rattle.mt_verify.specs.ToldCalls.{calls_told, numbered_of, numbered_on_told}
+use Rattle.mt_verify.proofs.ToldSteps.{IsToldOf}
 use Rattle.mt_verify.proofs.Answered.{heard_maps, legal_is_answered}
 use Rattle.mt_verify.proofs.EachLane.{lane_may_have}
 use Rattle.mt_verify.proofs.HeardCalls.{contained, number_of_item, numbered_at}

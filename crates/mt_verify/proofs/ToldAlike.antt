@@ -10,9 +10,10 @@ use Rattle.mt_log.specs.Text.{reply_text}
 use Rattle.mt_told.specs.declared.told.Told.{Told}
 use Rattle.mt_told.specs.declared.told.What.{What}
 use Rattle.mt_told.specs.declared.told.What.TheVariants.{Wrote, Got, Copied, Lawful}
-use Rattle.mt_told.specs.Telling.{IsToldOf, AreTold}
+use Rattle.mt_told.specs.Telling.{AreTold}
 use Rattle.mt_verify.specs.Histories.{is_nomem}
 use Rattle.mt_verify.specs.Points.{OutcomesAlike, AreToldAlike}
+use Rattle.mt_verify.proofs.ToldSteps.{IsToldOf}
 
 -- ---- a refusal for want of rows is told by its text
 

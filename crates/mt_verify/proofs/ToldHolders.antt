@@ -7,10 +7,11 @@ use Rattle.mt_log.specs.Run.{Outcome, Called, Looked, Counted, Step, IsHeldRight
 use Rattle.mt_told.specs.declared.told.Told.{Told}
 use Rattle.mt_told.specs.declared.told.What.{What}
 use Rattle.mt_told.specs.declared.told.What.TheVariants.{Wrote, Got, Copied, Lawful}
-use Rattle.mt_told.specs.Telling.{AreTold, IsTold, IsToldOf}
+use Rattle.mt_told.specs.Telling.{AreTold, IsTold}
 use Rattle.mt_verify.specs.declared.calls.Numbered.{Numbered}
 use Rattle.mt_verify.specs.Heard.{IsReader, is_got, reads_by}
 use Rattle.mt_verify.specs.ToldCalls.{numbered_of, numbered_on_told}
+use Rattle.mt_verify.proofs.ToldSteps.{IsToldOf}
 use Rattle.mt_verify.proofs.Placed.{same_number}
 
 module _ (version : ℕ) where

@@ -5,8 +5,9 @@ use Rattle.mt_log.specs.Run.{Outcome, Called, Looked, Counted, Step}
 use Rattle.mt_told.specs.declared.told.Told.{Told}
 use Rattle.mt_told.specs.declared.told.What.{What}
 use Rattle.mt_told.specs.declared.told.What.TheVariants.{Wrote, Got, Copied, Lawful}
-use Rattle.mt_told.specs.Telling.{IsTold, IsToldOf, AreTold}
+use Rattle.mt_told.specs.Telling.{IsTold, AreTold}
 use Rattle.mt_verify.specs.LaneReads.{look_of, by_lane, looks_on, look_told, look_by, looks_told}
+use Rattle.mt_verify.proofs.ToldSteps.{IsToldOf}
 
 -- ---- steps that are told so
 

@@ -6,11 +6,15 @@ use Rattle.mt_log.specs.Run.{Outcome, Called, Looked, Counted, Step, numbered_on
 use Rattle.mt_told.specs.declared.told.Told.{Told}
 use Rattle.mt_told.specs.declared.told.What.{What}
 use Rattle.mt_told.specs.declared.told.What.TheVariants.{Wrote, Got, Copied, Lawful}
-use Rattle.mt_told.specs.Telling.{AreTold, IsTold, IsToldOf}
+use Rattle.mt_told.specs.Telling.{AreTold, IsSpelledOf, IsTold, spelling_of}
 use Rattle.mt_verify.specs.declared.calls.Numbered.{Numbered}
 use Rattle.mt_verify.specs.PrintedOrder as of_text
 use Rattle.mt_verify.specs.Windows as of_steps
 use Rattle.mt_verify.specs.ToldCalls.{AreRecordsTold, IsRecordTold, calls_told, numbered_of, numbered_on_told}
+
+-- as this version of logs writes it
+abbrev pub IsToldOf : ℕ → What → Outcome → Type 0
+IsToldOf version what o = IsSpelledOf (spelling_of version) what o
 
 -- ---- what is told of the order: a call's number, or a window
 

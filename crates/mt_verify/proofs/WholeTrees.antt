@@ -11,11 +11,18 @@ use Rattle.mt_list.specs.ListMap.{Contents}
 use Rattle.mt_verify.specs.declared.noted.Heard.{Heard}
 use Rattle.mt_verify.specs.declared.noted.Heard.TheVariants.{Reply as Printed, Short}
 use Rattle.mt_verify.specs.declared.noted.Noted.{Noted}
-use Rattle.mt_verify.specs.Going.{Lane, opened_of, IsAnsweredAt, AreAnswered, AreOn, looks_of, SomeStuck, SomeHasNone, AllStopped, IsGone, AreWithin, AreDone, AreFresh, AreFreshStops, AreStopsWithin, AreAt, HavePassedAll, HaveGone}
+use Rattle.mt_verify.specs.Going.{Lane, opened_of, IsAnsweredAt, AreAnswered, AreOn, looks_of, SomeStuck, SomeHasNone, AllStopped, IsGone, AreWithin, AreDone, AreFresh, AreFreshStops, AreStopsWithin, AreAt, HavePassedAll}
 use Rattle.mt_verify.specs.Histories.{map_after, map_by, map_heard}
 use Rattle.mt_verify.specs.Stops.{Passing, AreCounted, AreStopped, HavePassedStops, SomeMiscounted}
 use Rattle.mt_verify.proofs.Laning.{map_more, answered_more, not_answered, fresh_is_on, stuck_is_none, waits_is_none, done_is_least, within_still}
 use Rattle.mt_verify.proofs.Runs.{some_at}
+
+-- The first so many calls were answered as the maps before them answer, and all have gone through the numbers up to
+-- theirs.
+pub record HaveGone (kind : Kind) (version rows : ℕ) (opening : List Range) (noted : List Noted) (count : ℕ)
+    (lanes : List Lane) (p : Passing) : Type 0 where
+  pub answered : AreAnswered kind version rows opening noted count
+  pub at : AreAt (map_by kind opening noted) (count + 1) lanes p
 
 -- a tree while its history is gone through
 pub record Going : Type 0 where

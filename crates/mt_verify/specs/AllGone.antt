@@ -12,13 +12,8 @@ use Rattle.mt_log.specs.Text.{listing_text}
 use Rattle.mt_log.specs.Trees.{Declared, Opening, Empty, CopyOf, trees_of}
 use Rattle.mt_told.specs.declared.told.Told.{Told}
 use Rattle.mt_told.specs.Telling.{AreTold}
-use Rattle.mt_verify.specs.Filled.{calls_told}
+use Rattle.mt_verify.specs.ToldReads.{calls_told}
 use Rattle.mt_verify.specs.GoneTrees.{GoneTree, HasGone, map_of}
-use Rattle.mt_verify.specs.Histories.{history_of}
-
--- the history that a tree has gone through
-abbrev pub history_by : ℕ → GoneTree → History
-history_by rows g = history_of g.kind rows g.opening g.noted
 
 -- how a tree opens: empty, or with the map of another tree after the calls that are told of earlier phases
 abbrev pub OpensGone : List Told → List GoneTree → Opening → GoneTree → Type 0

@@ -49,12 +49,6 @@ abbrev pub HavePassed : (ℕ → List Range) → ℕ → List Lane → Bool → 
 HavePassed m number lanes true = AreOn m (number + 1) lanes
 HavePassed m number lanes false = SomeStuck m lanes
 
--- of these lanes the first so many have gone through this number as well
-pub record AreGoing (m : ℕ → List Range) (number count : ℕ) (lanes : List Lane) : Type 0 where
-  pub gone : (j : ℕ) (t : Lane) → j < count → slice_get lanes j ≡ Some t
-      → IsOn m (number + 1) (number + 1) t.looks t.points
-  pub rest : (j : ℕ) (t : Lane) → count ≤ j → slice_get lanes j ≡ Some t → IsOn m number number t.looks t.points
-
 -- the looks of lanes
 abbrev pub looks_of : List Lane → List (List Look)
 looks_of lanes = map (λ t. t.looks) lanes
@@ -125,13 +119,6 @@ AreAt m number lanes p = AreOn m number lanes × AreStopped m number p
 abbrev pub HavePassedAll : (ℕ → List Range) → ℕ → List Lane → Passing → Bool → Type 0
 HavePassedAll m number lanes p true = AreAt m (number + 1) lanes p
 HavePassedAll m number lanes p false = SomeStuck m lanes ⊎ SomeMiscounted m p.stops
-
--- The first so many calls were answered as the maps before them answer, and all have gone through the numbers up to
--- theirs.
-pub record HaveGone (kind : Kind) (version rows : ℕ) (opening : List Range) (noted : List Noted) (count : ℕ)
-    (lanes : List Lane) (p : Passing) : Type 0 where
-  pub answered : AreAnswered kind version rows opening noted count
-  pub at : AreAt (map_by kind opening noted) (count + 1) lanes p
 
 -- the map behind all these calls
 pub record IsLastMap (kind : Kind) (opening : List Range) (noted : List Noted) (map : Contents) : Type 0 where

@@ -1,8 +1,7 @@
 pub mod Answers
 pub mod Choices
 pub mod Declaring
-pub mod Filled
-pub mod Found
+pub mod ToldReads
 pub mod Going
 pub mod Heard
 pub mod Histories

@@ -5,7 +5,7 @@ use Rattle.mt_list.specs.ListMap.{Contents}
 use Rattle.mt_log.specs.Trees.{Declared}
 use Rattle.mt_told.specs.declared.told.Told.{Told}
 use Rattle.mt_verify.specs.AllGone.{OpensGone}
-use Rattle.mt_verify.specs.Filled.{is_wrote}
+use Rattle.mt_verify.specs.ToldReads.{is_wrote}
 use Rattle.mt_verify.specs.GoneTrees.{GoneTree}
 
 -- the line tells of a call on this tree in a phase before this one

@@ -32,11 +32,6 @@ calls_in (Got lo hi query told) = 0
 calls_in (Copied count) = 0
 calls_in (Lawful count) = 0
 
--- how many calls these lines tell, and how many of lower phases than this one
-abbrev pub calls_of : List Told → ℕ
-calls_of [] = 0
-calls_of (t ∷ own) = calls_in t.what + calls_of own
-
 abbrev pub calls_below : List Told → ℕ → ℕ
 calls_below [] phase = 0
 calls_below (t ∷ own) phase = (if nat_lt t.phase phase then calls_in t.what else 0) + calls_below own phase

@@ -2,8 +2,7 @@
 
 ghost use Rattle.std.specs.Prelude.{◌≡◌, ◌+◌, ◌*◌, ◌<◌, ℕ, true, All, IfOk, IsTrue, Some, length, slice_get, slice_index, slice_set};
 ghost use Rattle.mt_log.specs.Trees.{most_lanes};
-ghost use Rattle.mt_verify.specs.Filled.{is_got, reads_count};
-ghost use Rattle.mt_verify.specs.Found.{own_points};
+ghost use Rattle.mt_verify.specs.ToldReads.{is_got, own_points, reads_count};
 ghost use Rattle.mt_verify.specs.Going.{AreDone, Lane, looks_of};
 ghost use Rattle.mt_verify.specs.GoneTrees.{GoneTree, lane_looks};
 ghost use Rattle.mt_verify.specs.Merging.{cell_of, points_at};

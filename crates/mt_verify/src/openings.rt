@@ -3,7 +3,7 @@
 ghost use Rattle.std.specs.Prelude.{◌≡◌, ◌<◌, ℕ, IfOk, length};
 ghost use Rattle.mt_log.specs.Trees.{CopyOf, Empty};
 ghost use Rattle.mt_verify.specs.Openings.{OpensAsMap, is_call_before};
-ghost use Rattle.mt_verify.specs.Filled.{calls_told};
+ghost use Rattle.mt_verify.specs.ToldReads.{calls_told};
 ghost use Rattle.mt_verify.specs.GoneTrees.{map_of};
 
 use crate::declared::Declared;

@@ -9,7 +9,7 @@ ghost use Rattle.mt_log.specs.declared.transcripts.Transcript.{Transcript};
 ghost use Rattle.mt_log.specs.Trees.{IsReadable, trees_of};
 ghost use Rattle.mt_told.specs.Telling.{IsSmall, IsToldBy};
 ghost use Rattle.mt_verify.specs.AllGone.{HaveGoneTo, NoneIsTold};
-ghost use Rattle.mt_verify.specs.Filled.{is_wrote};
+ghost use Rattle.mt_verify.specs.ToldReads.{is_wrote};
 ghost use Rattle.mt_verify.specs.Heard.{AreReaders};
 ghost use Rattle.mt_verify.specs.Points.{IsVerdict};
 ghost use Rattle.mt_verify.specs.PrintedOrder.{InPrintedOrder, EndsInTree};

@@ -6,7 +6,7 @@ use Rattle.mt_base.specs.declared.calls.Call.TheVariants.{Store}
 use Rattle.mt_log.specs.Trees.{most_lanes}
 use Rattle.mt_told.specs.declared.told.Told.{Told}
 use Rattle.mt_told.specs.declared.told.What.TheVariants.{Wrote}
-use Rattle.mt_verify.specs.Filled.{is_got}
+use Rattle.mt_verify.specs.ToldReads.{is_got}
 use Rattle.mt_verify.specs.Merging.{cell_of, points_at}
 use Rattle.mt_verify.proofs.Merging.{IsMerged, all_own, has_next, have_all, idle, merged_by, one_more}
 use Rattle.mt_verify.proofs.merged.points_of.Goals as goal

@@ -5,8 +5,7 @@ use Rattle.std.proofs.lemmas.Bool.{true≢false}
 use Rattle.mt_log.specs.Trees.{trees_of}
 use Rattle.mt_told.specs.declared.told.Told.{Told}
 use Rattle.mt_verify.specs.AllGone.{HaveGoneTo, NoneIsTold}
-use Rattle.mt_verify.specs.Filled.{reads_count}
-use Rattle.mt_verify.specs.Found.{own_points}
+use Rattle.mt_verify.specs.ToldReads.{reads_count, own_points}
 use Rattle.mt_verify.specs.Going.{Lane}
 use Rattle.mt_verify.specs.GoneTrees.{GoneTree, HasGone, lane_looks}
 use Rattle.mt_verify.specs.Points.{AreLeastPoints}

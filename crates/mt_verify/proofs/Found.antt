@@ -1,5 +1,4 @@
 -- What is found of a text that tells a run: histories of the log's trees, and numbers of the reads.
--- Source: this project's own.
 use Rattle.std.specs.Prelude.{◌≡◌, ◌≢◌, ℕ, ◌<◌, ◌≤◌, ◌==◌, ◌&&◌, Bool, true, List, [], Option, Some, None, All, AllPairs, IfSome, IsPermutation, length, map, nat_le, slice_get}
 use Rattle.std.specs.List.{AllByRecursion, enumerate_from, filter_map, list_any}
 use Rattle.mt_base.specs.declared.replies.Holder.{Holder}
@@ -10,12 +9,11 @@ use Rattle.mt_log.specs.Trees.{Declared, Opening, Empty, CopyOf, trees_of}
 use Rattle.mt_told.specs.declared.told.Told.{Told}
 use Rattle.mt_told.specs.declared.told.What.{What}
 use Rattle.mt_told.specs.declared.told.What.TheVariants.{Wrote, Got, Copied, Lawful}
-use Rattle.mt_verify.specs.Filled.{EachLater, IsReadOn, IsRight, ReadsRise, calls_told, history_in, is_got, numbered_in, reads_count, reads_told, reply_in}
+use Rattle.mt_verify.specs.ToldReads.{calls_told, is_got, reads_count, reads_told, own_points}
 use Rattle.mt_verify.specs.declared.looks.Look.{Look}
 use Rattle.mt_verify.specs.Looks.{AreLeastOf}
 use Rattle.mt_verify.specs.PrintedOrder.{InPrintedOrder}
-
--- ---- trees
+use Rattle.mt_verify.proofs.Filled.{EachLater, IsReadOn, IsRight, ReadsRise, history_in, numbered_in, reply_in}
 
 -- how a history opens: empty, or with the map of another tree after the calls that are told of earlier phases
 abbrev pub OpensTold : List Told → List History → Opening → History → Type 0
@@ -28,8 +26,6 @@ pub record IsOpened (told : List Told) (trees : List History) (d : Declared) (h 
   pub kind : h.kind ≡ d.tree.kind
   pub opening : OpensTold told trees d.opening h
 
--- ---- lines
-
 -- a line that is no read is right
 abbrev pub IsRightCall : ℕ → History → ℕ → What → Type 0
 IsRightCall version h before (Wrote number call reply) = IsRight version h before 0 (Wrote number call reply)
@@ -40,8 +36,6 @@ IsRightCall version h before (Lawful count) = IsRight version h before 0 (Lawful
 pub record IsRightLine (version : ℕ) (trees : List History) (all : List Told) (t : Told) : Type 0 where
   pub tree : t.tree < length trees
   pub right : IsRightCall version (history_in trees t.tree) (calls_told all t.tree t.phase) t.what
-
--- ---- reads
 
 -- each lane's reads on each tree are reads of its history, and keep the order of their numbers
 abbrev pub AllReadsOn : List History → List Told → List ℕ → Type 0
@@ -55,11 +49,6 @@ AllReadsRise trees told points = (tree lane : ℕ) → tree < length trees
 -- what a lane is told of its reads on a tree, and their numbers
 abbrev pub own_looks : ℕ → ℕ → List Told → List ℕ → List Look
 own_looks tree lane told points = map (λ (r : Look × ℕ). r.0) (reads_told tree lane told points)
-
-abbrev pub own_points : ℕ → ℕ → List Told → List ℕ → List ℕ
-own_points tree lane told points = map (λ (r : Look × ℕ). r.1) (reads_told tree lane told points)
-
--- ---- holders
 
 -- this lane has read the line's tree in a phase that is not later
 abbrev pub is_told_read : ℕ → Told → Told → Bool
@@ -77,8 +66,6 @@ abbrev pub IsHeldTold : List Told → List History → Told → Type 0
 IsHeldTold told trees t =
     IfSome (holder_told (history_in trees t.tree) t.what)
     (λ holder. (holder.pass ≢ t.lane) × (list_any (is_told_read holder.pass t) told ≡ true))
-
--- ---- all together
 
 pub record IsFound (log : Log) (rows : ℕ) (told : List Told) (trees : List History) (points : List ℕ) : Type 0 where
   -- each declared tree has a history, from its opening map, and so many rows, in which its calls stand by their numbers

@@ -1,9 +1,8 @@
 -- The steps of a run, put together from what a text tells, from the histories of its trees and from numbers for its
--- reads.
--- Source: this project's own.
-use Rattle.std.specs.Prelude.{◌≡◌, ℕ, ◌+◌, ◌-◌, ◌<◌, ◌≤◌, ◌==◌, ◌&&◌, Bool, true, false, List, [], ◌∷◌, Option, Some, None, nat_lt, length, option_map, slice_get, unwrap_or, if◌then◌else◌}
+-- reads; and when what is told is right.
+use Rattle.std.specs.Prelude.{◌≡◌, ℕ, ◌+◌, ◌-◌, ◌<◌, ◌≤◌, ◌==◌, true, List, [], ◌∷◌, Option, Some, None, length, option_map, slice_get, unwrap_or, if◌then◌else◌}
 use Rattle.std.specs.Fmt.{decimal}
-use Rattle.std.specs.List.{AllByRecursion, cons_option, filter}
+use Rattle.std.specs.List.{AllByRecursion}
 use Rattle.mt_base.specs.declared.kinds.Kind.TheVariants as kinds
 use Rattle.mt_base.specs.declared.replies.Reply.{Reply}
 use Rattle.mt_base.specs.declared.replies.Reply.TheVariants as replies
@@ -17,16 +16,7 @@ use Rattle.mt_told.specs.declared.told.What.{What}
 use Rattle.mt_told.specs.declared.told.What.TheVariants.{Wrote, Got, Copied, Lawful}
 use Rattle.mt_verify.specs.declared.looks.Look.{Look}
 use Rattle.mt_verify.specs.Looks.{IsTrueOn}
-
-abbrev pub is_wrote : What → Bool
-is_wrote (Wrote number call reply) = true
-is_wrote (Got lo hi query answer) = false
-is_wrote (Copied count) = false
-is_wrote (Lawful count) = false
-
--- how many calls on a tree are told of earlier phases
-abbrev pub calls_told : List Told → ℕ → ℕ → ℕ
-calls_told told tree phase = length (filter (λ t. (t.tree == tree) && (nat_lt t.phase phase && is_wrote t.what)) told)
+use Rattle.mt_verify.specs.ToldReads.{calls_told, number_for, numbers_behind}
 
 -- what the call of this number was answered
 abbrev pub reply_in : History → ℕ → Reply
@@ -55,22 +45,11 @@ step_in trees all k t =
       outcome = outcome_in (history_in trees t.tree) (calls_told all t.tree t.phase) k t.what;
     }
 
--- of the numbers of reads the one of this line, and those of the lines behind it
-abbrev pub number_for : What → List ℕ → ℕ
-number_for (Got lo hi query told) (k ∷ points) = k
-number_for what points = 0
-
-abbrev pub numbers_behind : What → List ℕ → List ℕ
-numbers_behind (Got lo hi query told) (k ∷ points) = points
-numbers_behind what points = points
-
 -- the steps that are told so, where these are the numbers of the reads
 abbrev pub filled : List History → List Told → List Told → List ℕ → List Step
 filled trees all [] points = []
 filled trees all (t ∷ told) points =
     step_in trees all (number_for t.what points) t ∷ filled trees all told (numbers_behind t.what points)
-
--- ---- what is told is right of the histories
 
 -- a call of a tree with its number, as it is told, with its reply of the history
 abbrev pub numbered_by : History → ℕ → What → Option (ℕ × Record)
@@ -104,23 +83,6 @@ AreRight version trees all (t ∷ told) points = HasNumber t.what points × (t.t
     × IsRight version (history_in trees t.tree) (calls_told all t.tree t.phase) (number_for t.what points) t.what
     × AreRight version trees all told (numbers_behind t.what points)
 
--- ---- the reads of a lane on a tree, with their numbers
-
-abbrev pub read_by : What → ℕ → Option (Look × ℕ)
-read_by (Wrote number call reply) k = None
-read_by (Got lo hi query told) k = Some (record { lo = lo; hi = hi; query = query; told = told }, k)
-read_by (Copied count) k = None
-read_by (Lawful count) k = None
-
-abbrev pub read_in : ℕ → ℕ → ℕ → Told → Option (Look × ℕ)
-read_in tree lane k t = if t.tree == tree then (if t.lane == lane then read_by t.what k else None) else None
-
-abbrev pub reads_told : ℕ → ℕ → List Told → List ℕ → List (Look × ℕ)
-reads_told tree lane [] points = []
-reads_told tree lane (t ∷ told) points =
-    cons_option (read_in tree lane (number_for t.what points) t)
-    (reads_told tree lane told (numbers_behind t.what points))
-
 -- a read of the history: its window ends in it and holds the number, at which it is true
 pub record IsReadOn (h : History) (read : Look × ℕ) : Type 0 where
   pub from : read.0.lo ≤ read.1
@@ -133,16 +95,6 @@ pub record IsReadOn (h : History) (read : Look × ℕ) : Type 0 where
 pub record ReadsRise (r s : Look × ℕ) : Type 0 where
   pub rise : r.1 ≤ s.1
   pub floor : r.1 ≤ s.0.lo + 1
-
--- how many of these lines are reads
-abbrev pub is_got : What → Bool
-is_got (Got lo hi query told) = true
-is_got (Wrote number call reply) = false
-is_got (Copied count) = false
-is_got (Lawful count) = false
-
-abbrev pub reads_count : List Told → ℕ
-reads_count told = length (filter (λ t. is_got t.what) told)
 
 -- each stands so to each that comes later
 abbrev pub EachLater : {X : Type 0} → (X → X → Type 0) → List X → Type 0
