@@ -2,7 +2,8 @@
 #
 #     make install PREFIX=/usr/local
 #
-#   lib/       libmaple.a and libmaple.so, each both archives in one, with the calls of the headers and no other name, and maple.pc
+#   lib/       libmaple.a and libmaple.so, each both archives and c/wait.c in one, with the calls of the headers and no other name, and
+#              maple.pc
 #   include/   the headers
 #   bin/       mtreplay, mt_judge and mt_draw, linked with no library: those whose object files the gate or ./build left
 #   share/     the manual page and the words that bash completes; the Rust crate, the examples in C and the licences in share/maple
@@ -22,7 +23,8 @@ programs = mtreplay mt_judge mt_draw
 library:
 	mkdir -p $(made)
 	source bench/archives.sh && make_archive > $(made)/archives
-	ld -r --whole-archive -o $(made)/maple.o $$(tail -n 2 $(made)/archives)
+	gcc -std=c99 -O2 -fPIC -Wall -Wextra -Werror -Iinclude -c -o $(made)/wait.o c/wait.c
+	ld -r --whole-archive -o $(made)/maple.o $(made)/wait.o $$(tail -n 2 $(made)/archives)
 	objcopy --wildcard --keep-global-symbol='maple_*' $(made)/maple.o
 	rm -f $(made)/libmaple.a
 	ar rcs $(made)/libmaple.a $(made)/maple.o

@@ -138,7 +138,13 @@ static void must(uint32_t status)
     }
 
 #define OWN(call) maple_##call
-#define SHARED(call) maple_shared_##call
+#define SHARED(call) SHARED_##call
+#define SHARED_load maple_shared_load
+#define SHARED_step maple_shared_step
+#define SHARED_store maple_wait_store
+#define SHARED_erase maple_wait_erase
+#define SHARED_alloc maple_wait_alloc
+#define SHARED_ralloc maple_wait_ralloc
 struct own_erased { struct maple_range it; };
 struct shared_erased { struct maple_done it; };
 WORKS(own_, struct maple_tree, OWN, u64 answer, struct maple_range read, answer)

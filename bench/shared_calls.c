@@ -50,11 +50,11 @@ static void ask(struct maple_user *u) {
     same_read(status, &got, load(index), __LINE__);
     status = maple_shared_find(u, index, other, &got);
     same_read(status, &got, find(index, other), __LINE__);
-    status = maple_shared_next(u, index, other, &got);
+    status = draw(2) ? maple_shared_next(u, index, other, &got) : maple_wait_next(u, index, other, &got);
     same_read(status, &got, next(index, other), __LINE__);
-    status = maple_shared_rfind(u, index, other, &got);
+    status = draw(2) ? maple_shared_rfind(u, index, other, &got) : maple_wait_rfind(u, index, other, &got);
     same_read(status, &got, rfind(index, other), __LINE__);
-    status = maple_shared_prev(u, index, other, &got);
+    status = draw(2) ? maple_shared_prev(u, index, other, &got) : maple_wait_prev(u, index, other, &got);
     same_read(status, &got, prev(index, other), __LINE__);
 }
 
@@ -89,7 +89,7 @@ static void walks(struct maple_user *u) {
 
 /* ---- calls, of which half are those that would wait */
 
-#define EITHER(name, ...) (draw(2) ? maple_try_##name(__VA_ARGS__) : maple_shared_##name(__VA_ARGS__))
+#define EITHER(name, ...) (draw(2) ? maple_try_##name(__VA_ARGS__) : maple_wait_##name(__VA_ARGS__))
 
 static void store(struct maple_user *u, uint64_t first, uint64_t last, uint64_t entry) {
     int bad = first > last || is_reserved(entry);
@@ -147,12 +147,12 @@ static void act(struct maple_user *u, uint32_t kind) {
 static void meet(void) {
     uint64_t calls = 7, places = 7;
     for (int i = 0; i < USERS - 1; i++) {
-        if (draw(2)) SAME("all is learnt", maple_learn(users + i, made), 0);
+        if (draw(2)) SAME("all is learnt", draw(2) ? maple_learn(users + i, made) : maple_wait_learn(users + i, made), 0);
         SAME("no more", maple_learn(users + i, made + 1), EAGAIN);
-        SAME("in step", maple_sync(users + i, &calls), 0);
+        SAME("in step", draw(2) ? maple_sync(users + i, &calls) : maple_wait_sync(users + i, &calls), 0);
         SAME("so many calls", calls, made);
     }
-    SAME("settled", maple_settle(any(), &calls, &places), 0);
+    SAME("settled", draw(2) ? maple_settle(any(), &calls, &places) : maple_wait_settle(any(), &calls, &places), 0);
     SAME("so many calls", calls, made);
     SAME("one free place", places, 1);
 }
@@ -163,7 +163,7 @@ static void come_and_go(void) {
     struct maple_walk walk = {0};
     struct maple_read got;
     uint64_t calls = 7, places = 7;
-    SAME("comes", maple_share(any(), last), 0);
+    SAME("comes", draw(2) ? maple_share(any(), last) : maple_wait_share(any(), last), 0);
     SAME("is there", maple_share(any(), last), EBUSY);
     SAME("no more places", maple_share(any(), &more), EUSERS);
     SAME("is none", maple_shared_load(&more, 1, &got), EINVAL); none_read(&got, __LINE__);
@@ -171,7 +171,7 @@ static void come_and_go(void) {
     SAME("so many calls", calls, made);
     SAME("no free place", places, 0);
     same_read(maple_shared_step(last, &walk, &got), &got, count ? list : 0, __LINE__);
-    SAME("goes", maple_leave(last), 0);
+    SAME("goes", draw(2) ? maple_leave(last) : maple_wait_leave(last), 0);
     SAME("has gone", maple_leave(last), EINVAL);
 }
 
@@ -190,7 +190,7 @@ static void closed(struct maple_user *u) {
     NO_CALL(maple_try_store(u, 1, 2, 3, &d)); NO_CALL(maple_try_store_pre(u, 1, 2, 3, &d)); NO_CALL(maple_try_insert(u, 1, 2, 3, &d));
     NO_CALL(maple_try_erase(u, 1, &d)); NO_CALL(maple_try_alloc(u, 1, 0, 9, 4, &d)); NO_CALL(maple_try_ralloc(u, 1, 0, 9, 4, &d));
     NO_CALL(maple_try_gap(u, 1, 0, 9, &d)); NO_CALL(maple_try_rgap(u, 1, 0, 9, &d)); NO_CALL(maple_try_clear(u, &d));
-    NO_CALL(maple_shared_store(u, 1, 2, 3, &d)); NO_CALL(maple_shared_clear(u, &d));
+    NO_CALL(maple_wait_store(u, 1, 2, 3, &d)); NO_CALL(maple_wait_clear(u, &d));
     CLOSED(maple_share(u, &other)); CLOSED(maple_leave(&other)); CLOSED(maple_leave(u)); CLOSED(maple_learn(u, 0));
     CLOSED(maple_sync(u, &calls)); SAME("no calls", calls, 0); calls = 7;
     CLOSED(maple_settle(u, &calls, &places)); SAME("no calls", calls, 0); SAME("no places", places, 0);
@@ -220,7 +220,7 @@ static void opens(void) {
     SAME("at the top", maple_shared_load(&other, UINT32_MAX, &read), 0); SAME("its last", read.last, UINT32_MAX);
     SAME("none", maple_try_erase(&other, 6, &done), ENOENT); SAME("a call", done.call, 3);
     SAME("clear", maple_try_clear(&u, &done), 0); SAME("a call", done.call, 4);
-    SAME("worn", maple_shared_store(&other, 1, 1, 4, &done), EOVERFLOW); none_done(&done, __LINE__);
+    SAME("worn", maple_wait_store(&other, 1, 1, 4, &done), EOVERFLOW); none_done(&done, __LINE__);
     SAME("none left", maple_shared_next(&other, 0, UINT32_MAX, &read), ENOENT); SAME("seen", read.lo, 4);
     SAME("in step", maple_sync(&u, &calls), 0); SAME("so many", calls, 4);
     /* the first goes first, and the other has the tree still */

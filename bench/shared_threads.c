@@ -1,17 +1,20 @@
 /* Four threads on one shared tree: two that write and now and then read, and two that read, each with a user of its own, over a barrier
  * at the start: shared_threads LOG TRANSCRIPT [SEED]. The tree is of the kind with the number SEED modulo 4.
  * It writes the log and what was answered, for mtreplay verify, and has maple_verify judge the same. Then each thread opens further
- * users, more than there are places for, and has them leave. It prints how many reads overlapped a call of another thread, and how
- * often users came; or says what was wrong first and exits with 1. */
+ * users, more than there are places for, and has them leave; and a walk is left unfinished by a thread that ends, and one goes on
+ * slowly, beside calls. It prints how many reads overlapped a call of another thread, and how often users came; or says what was wrong
+ * first and exits with 1. */
 #define _POSIX_C_SOURCE 200809L
 #include "maple_shared.h"
 #include "maple_log.h"
 #include <errno.h>
 #include <inttypes.h>
 #include <pthread.h>
+#include <sched.h>
 #include <stdio.h>
 #include <stdlib.h>
 #include <string.h>
+#include <time.h>
 
 enum { LANES = 4, WRITERS = 2, STEPS = 20000, SPAN = 2000, MORE = 2, COMINGS = 2000 };
 
@@ -159,8 +162,7 @@ static void *come_and_go(void *p) {
         status = maple_shared_find(&more, 0, UINT64_MAX, &read);
         if (status && status != ENOENT) fail("its read", status);
         sched_yield();
-        while ((status = maple_leave(&more)) == EAGAIN) sched_yield();
-        if (status) fail("its leave", status);
+        if ((status = maple_wait_leave(&more))) fail("its leave", status);
     }
     return NULL;
 }
@@ -172,6 +174,93 @@ static void together(void *(*all)(void *)) {
         if (pthread_create(threads + i, NULL, all, lanes + i)) fail("a thread", i);
     for (int i = 0; i < LANES; i++)
         if (pthread_join(threads[i], NULL)) fail("its end", i);
+}
+
+/* ---- walks beside calls, in a small tree of one writer and one that walks */
+
+enum { WALKED = 20, SLOW_STEPS = 100 };
+
+static struct walker {
+    struct maple_user writer, user;
+    int gives_back, is_over;
+} walker;
+
+/* The writer's ranges stand all the time, and between them it stores and erases: each call replaces a leaf. */
+static uint32_t replace_leaf(uint64_t n) {
+    struct maple_done done;
+    return maple_wait_store_pre(&walker.writer, 10 * (n % WALKED) + 5, 10 * (n % WALKED) + 9, n / WALKED % 2 ? 0 : 8, &done);
+}
+
+static void open_small(uint64_t rows) {
+    struct maple_done done;
+    same("a small tree", maple_shared_open(&walker.writer, MAPLE_RANGE, rows, 2, MAPLE_MOST_CALLS), 0);
+    same("who walks", maple_share(&walker.writer, &walker.user), 0);
+    for (uint64_t n = 0; n < WALKED; n++) same("a store", maple_wait_store(&walker.writer, 10 * n, 10 * n + 4, 4 * n + 4096, &done), 0);
+}
+
+static void close_small(void) {
+    maple_shared_close(&walker.user);
+    maple_shared_close(&walker.writer);
+}
+
+static void *three_steps(void *p) {
+    struct maple_walk walk = {0};
+    struct maple_read read;
+    for (int i = 0; i < 3; i++) same("a step", maple_shared_step(&walker.user, &walk, &read), 0);
+    return p;
+}
+
+/* A thread steps three times and ends, its walk as it is: then the rows that die are not free, and calls are refused before long. Who
+ * has its user behind it gives the leaf back, and none is. */
+static void leave_unfinished(void) {
+    struct maple_read read;
+    pthread_t thread;
+    uint64_t n = 0;
+    open_small(40);
+    if (pthread_create(&thread, NULL, three_steps, NULL) || pthread_join(thread, NULL)) fail("a thread that steps", 0);
+    while (n < 1000 && replace_leaf(n) == 0) n++;
+    if (n == 1000) fail("calls were made beside a walk that is left", n);
+    (void)maple_shared_load(&walker.user, 0, &read);
+    for (n = 0; n < 1000; n++) same("a call behind it", replace_leaf(n), 0);
+    close_small();
+}
+
+/* Steps slowly, and finds each range that stands all the time once in each walk. */
+static void *steps_slowly(void *p) {
+    const struct timespec shortly = {0, 1000000};
+    struct maple_read read, other;
+    for (int steps = 0; steps < SLOW_STEPS;) {
+        struct maple_walk walk = {0};
+        uint64_t at = 0;
+        for (; maple_shared_step(&walker.user, &walk, &read) == 0; steps++) {
+            if (read.first % 10 == 0) same("a range that stands", read.first, 10 * at++);
+            if (walker.gives_back) (void)maple_shared_load(&walker.user, 0, &other);
+            nanosleep(&shortly, NULL);
+        }
+        same("all of them", at, WALKED);
+    }
+    __atomic_store_n(&walker.is_over, 1, __ATOMIC_SEQ_CST);
+    return p;
+}
+
+/* How many calls in a million were refused beside it. */
+static uint64_t refused_beside(int gives_back) {
+    pthread_t thread;
+    uint64_t n = 0, refused = 0;
+    open_small(40);
+    walker.gives_back = gives_back;
+    walker.is_over = 0;
+    if (pthread_create(&thread, NULL, steps_slowly, NULL)) fail("a thread that steps", 0);
+    for (; !__atomic_load_n(&walker.is_over, __ATOMIC_SEQ_CST); n++) refused += replace_leaf(n - refused) != 0;
+    pthread_join(thread, NULL);
+    close_small();
+    return refused * 1000000 / (n + 1);
+}
+
+static void walk_slowly(void) {
+    uint64_t kept = refused_beside(0), given = refused_beside(1);
+    printf("of a million calls beside a slow walk %" PRIu64 " are refused, and %" PRIu64 " where it gives its leaf back\n", kept, given);
+    if (kept < 100000 || given > kept / 10) fail("refused beside a walk", given);
 }
 
 /* ---- the log */
@@ -313,6 +402,8 @@ int main(int argc, char **argv) {
     together(come_and_go);
     for (struct lane *lane = lanes; lane < lanes + LANES; lane++) came += lane->came, busy += lane->busy;
     leave_all(made);
+    leave_unfinished();
+    walk_slowly();
     put(argv[1], log_text, log_size);
     put(argv[2], text, size);
     judge(log_text, log_size, text, size, made);

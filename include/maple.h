@@ -3,9 +3,9 @@
  * The maple tree for C and C++ programs: proved, from its calls down to malloc. This header has trees of one thread; maple_shared.h has
  * trees that threads share, and maple_log.h plays and judges logs.
  *
- * An installed copy is linked by -lmaple, as `pkg-config --libs maple` tells. Of a checkout, link crates/mt_c/out/libmt_c.a (made by
- * `rt lib` in crates/mt_c) and the kit's c/liblibc_c.a (malloc, realloc, free), in this order. Nothing else is needed: no thread, no
- * lock, no file.
+ * An installed copy is linked by -lmaple, as `pkg-config --libs maple` tells. Of a checkout, link c/wait.c (the maple_wait_.. of
+ * maple_shared.h), crates/mt_c/out/libmt_c.a (made by `rt lib` in crates/mt_c) and the kit's c/liblibc_c.a (malloc, realloc, free), in
+ * this order. Nothing else is needed: no thread, no lock, no file.
  *
  * Every call answers a number of Linux's errno.h, and 0 where it was done. What it tells beside goes to its last pointers, which it always
  * writes: zeros where there is nothing to tell.

@@ -7,7 +7,7 @@
  *   - A read takes no lock and waits for nobody. What it tells is true of the tree after some number of calls from lo to hi, which is no
  *     less than its user had seen before.
  *   - A call is made under the tree's lock: maple_try_store, .. make it where the lock is free, and else answer EAGAIN and change
- *     nothing. maple_shared_store, .. are the same words, and yield the processor and try again.
+ *     nothing. maple_wait_store, .. are the same words, and wait and try again.
  *
  * Who owns what. A user owns a share of its tree: maple_shared_open makes a tree and its first user, maple_share another. Who has opened
  * a user owes it a maple_leave that answers 0, or a maple_shared_close. No user owns another: they are closed in any order and in any
@@ -38,7 +38,7 @@
  *
  * Each call writes its user: those of several threads are quicker on cache lines of their own (aligned to 128 bytes, say).
  *
- * What is not promised: that a try ever gets the lock, and so how long a maple_shared_store waits; how often a next, prev or rfind is
+ * What is not promised: that a try ever gets the lock, and so how long a maple_wait_store waits; how often a next, prev or rfind is
  * given up before it is answered; that memory does not run out where a call takes some.
  *
  * Every call answers a number of Linux's errno.h, and 0 where it was done; EINVAL too where the user is closed, which stays closed. What it
@@ -49,7 +49,6 @@
 
 #include "maple.h"
 #include <errno.h>
-#include <sched.h>
 
 #ifdef __cplusplus
 extern "C" {
@@ -183,6 +182,45 @@ uint32_t maple_sync(struct maple_user *user, uint64_t *calls) MAPLE_NONNULL MAPL
  * 0; EAGAIN: another user has the lock, or is just at the places. */
 uint32_t maple_settle(struct maple_user *user, uint64_t *calls, uint64_t *places) MAPLE_NONNULL MAPLE_CHECKED;
 
+/* ---- calls that wait: each as the one of its name that tries, of which it never answers EAGAIN, for it tries again. Between two tries it
+ * pauses the processor, then yields it, and at last sleeps, up to a millisecond at a time (c/wait.c); so a thread that waits costs the
+ * others little, and may stand behind for so long when what it waits for is done. Whoever tries first gets the lock: nobody stands in a
+ * line for it, and no bound is known of how often a thread finds it taken. None is made from a signal handler. */
+
+/* As maple_try_store, .., waiting for the lock. */
+uint32_t maple_wait_store(struct maple_user *user, uint64_t first, uint64_t last, uint64_t entry, struct maple_done *done)
+    MAPLE_NONNULL MAPLE_CHECKED;
+uint32_t maple_wait_store_pre(struct maple_user *user, uint64_t first, uint64_t last, uint64_t entry, struct maple_done *done)
+    MAPLE_NONNULL MAPLE_CHECKED;
+uint32_t maple_wait_insert(struct maple_user *user, uint64_t first, uint64_t last, uint64_t entry, struct maple_done *done)
+    MAPLE_NONNULL MAPLE_CHECKED;
+uint32_t maple_wait_erase(struct maple_user *user, uint64_t index, struct maple_done *done) MAPLE_NONNULL MAPLE_CHECKED;
+uint32_t maple_wait_alloc(struct maple_user *user, uint64_t size, uint64_t min, uint64_t max, uint64_t entry, struct maple_done *done)
+    MAPLE_NONNULL MAPLE_CHECKED;
+uint32_t maple_wait_ralloc(struct maple_user *user, uint64_t size, uint64_t min, uint64_t max, uint64_t entry, struct maple_done *done)
+    MAPLE_NONNULL MAPLE_CHECKED;
+uint32_t maple_wait_gap(struct maple_user *user, uint64_t size, uint64_t min, uint64_t max, struct maple_done *done)
+    MAPLE_NONNULL MAPLE_CHECKED;
+uint32_t maple_wait_rgap(struct maple_user *user, uint64_t size, uint64_t min, uint64_t max, struct maple_done *done)
+    MAPLE_NONNULL MAPLE_CHECKED;
+uint32_t maple_wait_clear(struct maple_user *user, struct maple_done *done) MAPLE_NONNULL MAPLE_CHECKED;
+
+/* As maple_shared_next, maple_shared_prev and maple_shared_rfind, reading again where the leaf was replaced. */
+uint32_t maple_wait_next(struct maple_user *user, uint64_t index, uint64_t max, struct maple_read *read) MAPLE_NONNULL;
+uint32_t maple_wait_prev(struct maple_user *user, uint64_t index, uint64_t min, struct maple_read *read) MAPLE_NONNULL;
+uint32_t maple_wait_rfind(struct maple_user *user, uint64_t index, uint64_t min, struct maple_read *read) MAPLE_NONNULL;
+
+/* As maple_share and maple_leave, waiting until no other user is at the places. */
+uint32_t maple_wait_share(struct maple_user *user, struct maple_user *other) MAPLE_NONNULL MAPLE_CHECKED;
+uint32_t maple_wait_leave(struct maple_user *user) MAPLE_NONNULL MAPLE_CHECKED;
+
+/* As maple_learn, waiting until so many calls have ended: for good, where so many are never made. */
+uint32_t maple_wait_learn(struct maple_user *user, uint64_t calls) MAPLE_NONNULL MAPLE_CHECKED;
+
+/* As maple_sync and maple_settle, waiting for the lock, and for the places. */
+uint32_t maple_wait_sync(struct maple_user *user, uint64_t *calls) MAPLE_NONNULL MAPLE_CHECKED;
+uint32_t maple_wait_settle(struct maple_user *user, uint64_t *calls, uint64_t *places) MAPLE_NONNULL MAPLE_CHECKED;
+
 #if defined(__SANITIZE_THREAD__)
 #include "maple_tsan.h"
 #elif defined(__has_feature)
@@ -190,33 +228,6 @@ uint32_t maple_settle(struct maple_user *user, uint64_t *calls, uint64_t *places
 #include "maple_tsan.h"
 #endif
 #endif
-
-/* ---- calls that wait: as maple_try_store, .., yielding the processor and trying again while another user has the lock. */
-
-#define MAPLE_WAITS(name, params, args)                                                       \
-    MAPLE_NONNULL MAPLE_CHECKED static inline uint32_t maple_shared_##name params             \
-    {                                                                                         \
-        uint32_t status = maple_try_##name args;                                              \
-        while (status == EAGAIN) {                                                            \
-            sched_yield();                                                                    \
-            status = maple_try_##name args;                                                   \
-        }                                                                                     \
-        return status;                                                                        \
-    }
-#define MAPLE_AT struct maple_user *user, uint64_t first, uint64_t last, uint64_t entry
-#define MAPLE_IN struct maple_user *user, uint64_t size, uint64_t min, uint64_t max
-MAPLE_WAITS(store, (MAPLE_AT, struct maple_done *done), (user, first, last, entry, done))
-MAPLE_WAITS(store_pre, (MAPLE_AT, struct maple_done *done), (user, first, last, entry, done))
-MAPLE_WAITS(insert, (MAPLE_AT, struct maple_done *done), (user, first, last, entry, done))
-MAPLE_WAITS(erase, (struct maple_user *user, uint64_t index, struct maple_done *done), (user, index, done))
-MAPLE_WAITS(alloc, (MAPLE_IN, uint64_t entry, struct maple_done *done), (user, size, min, max, entry, done))
-MAPLE_WAITS(ralloc, (MAPLE_IN, uint64_t entry, struct maple_done *done), (user, size, min, max, entry, done))
-MAPLE_WAITS(gap, (MAPLE_IN, struct maple_done *done), (user, size, min, max, done))
-MAPLE_WAITS(rgap, (MAPLE_IN, struct maple_done *done), (user, size, min, max, done))
-MAPLE_WAITS(clear, (struct maple_user *user, struct maple_done *done), (user, done))
-#undef MAPLE_WAITS
-#undef MAPLE_AT
-#undef MAPLE_IN
 
 #ifdef __cplusplus
 }

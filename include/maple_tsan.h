@@ -34,6 +34,9 @@ static inline void maple_tsan_acquire(uint64_t entry)
         if (done->call) __tsan_acquire(maple_tsan_orders);       \
         return status;                                           \
     }
+#define MAPLE_TSAN_CALLS(name, params, args, entry)              \
+    MAPLE_TSAN_CALL(try_##name, params, args, entry)             \
+    MAPLE_TSAN_CALL(wait_##name, params, args, entry)
 #define MAPLE_TSAN_READ(name, params, args)                      \
     static inline uint32_t maple_tsan_##name params              \
     {                                                            \
@@ -51,24 +54,31 @@ static inline void maple_tsan_acquire(uint64_t entry)
 #define MAPLE_AT struct maple_user *user, uint64_t first, uint64_t last, uint64_t entry
 #define MAPLE_IN struct maple_user *user, uint64_t size, uint64_t min, uint64_t max
 #define MAPLE_TO struct maple_user *user, uint64_t index, uint64_t bound
-MAPLE_TSAN_CALL(try_store, (MAPLE_AT, struct maple_done *done), (user, first, last, entry, done), entry)
-MAPLE_TSAN_CALL(try_store_pre, (MAPLE_AT, struct maple_done *done), (user, first, last, entry, done), entry)
-MAPLE_TSAN_CALL(try_insert, (MAPLE_AT, struct maple_done *done), (user, first, last, entry, done), entry)
-MAPLE_TSAN_CALL(try_erase, (struct maple_user *user, uint64_t index, struct maple_done *done), (user, index, done), 0)
-MAPLE_TSAN_CALL(try_alloc, (MAPLE_IN, uint64_t entry, struct maple_done *done), (user, size, min, max, entry, done), entry)
-MAPLE_TSAN_CALL(try_ralloc, (MAPLE_IN, uint64_t entry, struct maple_done *done), (user, size, min, max, entry, done), entry)
-MAPLE_TSAN_CALL(try_gap, (MAPLE_IN, struct maple_done *done), (user, size, min, max, done), 0)
-MAPLE_TSAN_CALL(try_rgap, (MAPLE_IN, struct maple_done *done), (user, size, min, max, done), 0)
-MAPLE_TSAN_CALL(try_clear, (struct maple_user *user, struct maple_done *done), (user, done), 0)
+MAPLE_TSAN_CALLS(store, (MAPLE_AT, struct maple_done *done), (user, first, last, entry, done), entry)
+MAPLE_TSAN_CALLS(store_pre, (MAPLE_AT, struct maple_done *done), (user, first, last, entry, done), entry)
+MAPLE_TSAN_CALLS(insert, (MAPLE_AT, struct maple_done *done), (user, first, last, entry, done), entry)
+MAPLE_TSAN_CALLS(erase, (struct maple_user *user, uint64_t index, struct maple_done *done), (user, index, done), 0)
+MAPLE_TSAN_CALLS(alloc, (MAPLE_IN, uint64_t entry, struct maple_done *done), (user, size, min, max, entry, done), entry)
+MAPLE_TSAN_CALLS(ralloc, (MAPLE_IN, uint64_t entry, struct maple_done *done), (user, size, min, max, entry, done), entry)
+MAPLE_TSAN_CALLS(gap, (MAPLE_IN, struct maple_done *done), (user, size, min, max, done), 0)
+MAPLE_TSAN_CALLS(rgap, (MAPLE_IN, struct maple_done *done), (user, size, min, max, done), 0)
+MAPLE_TSAN_CALLS(clear, (struct maple_user *user, struct maple_done *done), (user, done), 0)
 MAPLE_TSAN_READ(shared_load, (struct maple_user *user, uint64_t index, struct maple_read *read), (user, index, read))
 MAPLE_TSAN_READ(shared_find, (MAPLE_TO, struct maple_read *read), (user, index, bound, read))
 MAPLE_TSAN_READ(shared_next, (MAPLE_TO, struct maple_read *read), (user, index, bound, read))
 MAPLE_TSAN_READ(shared_prev, (MAPLE_TO, struct maple_read *read), (user, index, bound, read))
 MAPLE_TSAN_READ(shared_rfind, (MAPLE_TO, struct maple_read *read), (user, index, bound, read))
 MAPLE_TSAN_READ(shared_step, (struct maple_user *user, struct maple_walk *walk, struct maple_read *read), (user, walk, read))
+MAPLE_TSAN_READ(wait_next, (MAPLE_TO, struct maple_read *read), (user, index, bound, read))
+MAPLE_TSAN_READ(wait_prev, (MAPLE_TO, struct maple_read *read), (user, index, bound, read))
+MAPLE_TSAN_READ(wait_rfind, (MAPLE_TO, struct maple_read *read), (user, index, bound, read))
 MAPLE_TSAN_SEEN(learn, (struct maple_user *user, uint64_t calls), (user, calls))
+MAPLE_TSAN_SEEN(wait_learn, (struct maple_user *user, uint64_t calls), (user, calls))
 MAPLE_TSAN_SEEN(sync, (struct maple_user *user, uint64_t *calls), (user, calls))
+MAPLE_TSAN_SEEN(wait_sync, (struct maple_user *user, uint64_t *calls), (user, calls))
 MAPLE_TSAN_SEEN(settle, (struct maple_user *user, uint64_t *calls, uint64_t *places), (user, calls, places))
+MAPLE_TSAN_SEEN(wait_settle, (struct maple_user *user, uint64_t *calls, uint64_t *places), (user, calls, places))
+#undef MAPLE_TSAN_CALLS
 #undef MAPLE_TSAN_CALL
 #undef MAPLE_TSAN_READ
 #undef MAPLE_TSAN_SEEN
@@ -94,5 +104,20 @@ MAPLE_TSAN_SEEN(settle, (struct maple_user *user, uint64_t *calls, uint64_t *pla
 #define maple_learn(...) maple_tsan_learn(__VA_ARGS__)
 #define maple_sync(...) maple_tsan_sync(__VA_ARGS__)
 #define maple_settle(...) maple_tsan_settle(__VA_ARGS__)
+#define maple_wait_store(...) maple_tsan_wait_store(__VA_ARGS__)
+#define maple_wait_store_pre(...) maple_tsan_wait_store_pre(__VA_ARGS__)
+#define maple_wait_insert(...) maple_tsan_wait_insert(__VA_ARGS__)
+#define maple_wait_erase(...) maple_tsan_wait_erase(__VA_ARGS__)
+#define maple_wait_alloc(...) maple_tsan_wait_alloc(__VA_ARGS__)
+#define maple_wait_ralloc(...) maple_tsan_wait_ralloc(__VA_ARGS__)
+#define maple_wait_gap(...) maple_tsan_wait_gap(__VA_ARGS__)
+#define maple_wait_rgap(...) maple_tsan_wait_rgap(__VA_ARGS__)
+#define maple_wait_clear(...) maple_tsan_wait_clear(__VA_ARGS__)
+#define maple_wait_next(...) maple_tsan_wait_next(__VA_ARGS__)
+#define maple_wait_prev(...) maple_tsan_wait_prev(__VA_ARGS__)
+#define maple_wait_rfind(...) maple_tsan_wait_rfind(__VA_ARGS__)
+#define maple_wait_learn(...) maple_tsan_wait_learn(__VA_ARGS__)
+#define maple_wait_sync(...) maple_tsan_wait_sync(__VA_ARGS__)
+#define maple_wait_settle(...) maple_tsan_wait_settle(__VA_ARGS__)
 
 #endif

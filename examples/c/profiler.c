@@ -60,7 +60,7 @@ static uint64_t read_maps(void)
     while (fgets(line, sizeof line, maps) && number < MOST_NAMES) {
         struct maple_done done;
         if (sscanf(line, "%" SCNx64 "-%" SCNx64, &first, &end) != 2) continue;
-        uint32_t status = maple_shared_store(&own, first, end - 1, maple_value(number++), &done);
+        uint32_t status = maple_wait_store(&own, first, end - 1, maple_value(number++), &done);
         if (status) stop("not stored", status);
     }
     fclose(maps);

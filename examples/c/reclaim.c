@@ -77,7 +77,7 @@ static void replace(struct maple_user *user, uint64_t place)
     if (!object) stop("no memory", place);
     object->place = place;
     object->turned = ~place;
-    uint32_t status = maple_shared_store(user, 10 * place, 10 * place + 9, maple_ptr(object), &done);
+    uint32_t status = maple_wait_store(user, 10 * place, 10 * place + 9, maple_ptr(object), &done);
     if (status) stop("not stored", status);
     if (done.word == 0) return;
     while (put - freed == MOST_WAITING) {

@@ -29,6 +29,7 @@ mod map;
 mod raw;
 mod shared;
 mod tree;
+mod waits;
 mod windows;
 
 pub use errors::{CheckError, Error, LogError, OpenError};

@@ -1,7 +1,8 @@
 //! Trees that threads share.
 
-use crate::errors::{done, opened, EAGAIN, ENOENT};
+use crate::errors::{done, opened, ENOENT};
 use crate::raw::{self, RawDone, RawRead, RawUser};
+use crate::waits::until_done;
 use crate::windows::{ends, Walk};
 use crate::{Error, Kind, OpenError, Range};
 use std::fmt;
@@ -9,7 +10,6 @@ use std::iter::FusedIterator;
 use std::num::NonZeroU64;
 use std::ops::{RangeBounds, RangeInclusive};
 use std::sync::{Mutex, MutexGuard, PoisonError};
-use std::thread;
 
 /// So many calls are made on a tree at the most.
 const MOST_CALLS: u64 = (1 << 62) - 1;
@@ -84,13 +84,9 @@ impl Shared {
     /// A reader, which may go to another thread.
     pub fn reader(&self) -> Result<Reader, OpenError> {
         let (mut first, mut user) = (self.first(), RawUser::CLOSED);
-        loop {
-            // SAFETY: the first user is open, the other closed, and nobody else uses them now.
-            match unsafe { raw::maple_share(&mut *first, &mut user) } {
-                EAGAIN => thread::yield_now(),
-                status => return opened(status).map(|()| Reader { user, window: 0..=0 }),
-            }
-        }
+        // SAFETY: the first user is open, the other closed, and nobody else uses them now.
+        opened(until_done(|| unsafe { raw::maple_share(&mut *first, &mut user) }))?;
+        Ok(Reader { user, window: 0..=0 })
     }
 
     /// A writer, which may go to another thread, and what its calls do where another thread has the lock.
@@ -117,9 +113,7 @@ impl Shared {
     pub fn settle(&self) -> (u64, u64) {
         let (mut first, mut calls, mut places) = (self.first(), 0, 0);
         // SAFETY: the user is open, the pointers are of three objects, and nobody else uses them now.
-        while unsafe { raw::maple_settle(&mut *first, &mut calls, &mut places) } == EAGAIN {
-            thread::yield_now();
-        }
+        until_done(|| unsafe { raw::maple_settle(&mut *first, &mut calls, &mut places) });
         (calls, places)
     }
 }
@@ -155,9 +149,7 @@ impl Reader {
     /// A read, again and again while it is given up as the leaf of its place was replaced.
     fn ask(&mut self, mut read: impl FnMut(&mut RawUser, &mut RawRead) -> u32) -> Option<Range> {
         let mut told = RawRead::default();
-        while read(&mut self.user, &mut told) == EAGAIN {
-            thread::yield_now();
-        }
+        until_done(|| read(&mut self.user, &mut told));
         self.window = told.lo..=told.hi;
         told.found.shown()
     }
@@ -286,9 +278,7 @@ impl Reader {
     pub fn sync(&mut self) -> u64 {
         let mut calls = 0;
         // SAFETY: the user is open, and the pointers are of two objects that nobody else uses now.
-        while unsafe { raw::maple_sync(&mut self.user, &mut calls) } == EAGAIN {
-            thread::yield_now();
-        }
+        until_done(|| unsafe { raw::maple_sync(&mut self.user, &mut calls) });
         calls
     }
 }
@@ -297,9 +287,7 @@ impl Drop for Reader {
     /// Its place is then free for another, but where there is no memory to note that.
     fn drop(&mut self) {
         // SAFETY: the user is open, and not used after it is closed.
-        while unsafe { raw::maple_leave(&mut self.user) } == EAGAIN {
-            thread::yield_now();
-        }
+        until_done(|| unsafe { raw::maple_leave(&mut self.user) });
         // SAFETY: as above; and a closed user stays closed.
         unsafe { raw::maple_shared_close(&mut self.user) }
     }
@@ -379,7 +367,8 @@ impl fmt::Debug for Steps<'_> {
 /// What a call does where another thread has the tree's lock.
 #[derive(Clone, Copy, Debug, PartialEq, Eq)]
 pub enum Lock {
-    /// It yields and tries again. No bound is known for how long.
+    /// It rests and tries again: it spins shortly, then yields, and at last sleeps, up to a millisecond at a time. No bound is
+    /// known for how long.
     Waits,
     /// It answers [`Error::Locked`], and nothing was changed.
     Tries,
@@ -417,15 +406,13 @@ pub struct Writer {
 impl Writer {
     fn call(&mut self, mut call: impl FnMut(&mut RawUser, &mut RawDone) -> u32) -> (u32, RawDone) {
         let mut told = RawDone::default();
-        loop {
-            match call(&mut self.reader.user, &mut told) {
-                EAGAIN if self.lock == Lock::Waits => thread::yield_now(),
-                status => {
-                    self.number = self.number.max(told.call);
-                    return (status, told);
-                }
-            }
-        }
+        let mut once = || call(&mut self.reader.user, &mut told);
+        let status = match self.lock {
+            Lock::Waits => until_done(once),
+            Lock::Tries => once(),
+        };
+        self.number = self.number.max(told.call);
+        (status, told)
     }
 
     fn word(&mut self, call: impl FnMut(&mut RawUser, &mut RawDone) -> u32) -> Result<u64, Error> {

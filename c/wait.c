@@ -1,0 +1,64 @@
+/* SPDX-License-Identifier: MIT OR Apache-2.0
+ *
+ * The calls of maple_shared.h that wait: each tries again, and rests between two tries, a little longer each time. It pauses the
+ * processor first, some microseconds in all, since who has the lock holds it no longer than a call takes; then it yields to other
+ * threads; then it sleeps, from a microsecond up to one millisecond, since who has the lock may be off the processor. */
+#define _POSIX_C_SOURCE 199309L
+#include "maple_shared.h"
+#include <sched.h>
+#include <time.h>
+
+enum { PAUSES = 7, YIELDS = PAUSES + 16, SLEEPS = YIELDS + 10 };
+
+static void pause_once(void)
+{
+#if defined(__x86_64__)
+    __builtin_ia32_pause();
+#elif defined(__aarch64__)
+    __asm__ volatile("yield");
+#endif
+}
+
+static void rest(unsigned *turn)
+{
+    if (*turn < PAUSES) {
+        for (unsigned n = 0; n < 1u << *turn; n++) pause_once();
+    } else if (*turn < YIELDS) {
+        sched_yield();
+    } else {
+        struct timespec time = {0, 1000L << (*turn - YIELDS)};
+        int kept = errno;
+        nanosleep(&time, NULL);
+        errno = kept;
+    }
+    if (*turn < SLEEPS) ++*turn;
+}
+
+#define WAITS(name, tries, params, args)                     \
+    uint32_t(maple_wait_##name) params                       \
+    {                                                        \
+        uint32_t status;                                     \
+        unsigned turn = 0;                                   \
+        while ((status = tries args) == EAGAIN) rest(&turn); \
+        return status;                                       \
+    }
+#define AT struct maple_user *user, uint64_t first, uint64_t last, uint64_t entry
+#define IN struct maple_user *user, uint64_t size, uint64_t min, uint64_t max
+#define TO struct maple_user *user, uint64_t index, uint64_t bound, struct maple_read *read
+WAITS(store, maple_try_store, (AT, struct maple_done *done), (user, first, last, entry, done))
+WAITS(store_pre, maple_try_store_pre, (AT, struct maple_done *done), (user, first, last, entry, done))
+WAITS(insert, maple_try_insert, (AT, struct maple_done *done), (user, first, last, entry, done))
+WAITS(erase, maple_try_erase, (struct maple_user *user, uint64_t index, struct maple_done *done), (user, index, done))
+WAITS(alloc, maple_try_alloc, (IN, uint64_t entry, struct maple_done *done), (user, size, min, max, entry, done))
+WAITS(ralloc, maple_try_ralloc, (IN, uint64_t entry, struct maple_done *done), (user, size, min, max, entry, done))
+WAITS(gap, maple_try_gap, (IN, struct maple_done *done), (user, size, min, max, done))
+WAITS(rgap, maple_try_rgap, (IN, struct maple_done *done), (user, size, min, max, done))
+WAITS(clear, maple_try_clear, (struct maple_user *user, struct maple_done *done), (user, done))
+WAITS(next, maple_shared_next, (TO), (user, index, bound, read))
+WAITS(prev, maple_shared_prev, (TO), (user, index, bound, read))
+WAITS(rfind, maple_shared_rfind, (TO), (user, index, bound, read))
+WAITS(share, maple_share, (struct maple_user *user, struct maple_user *other), (user, other))
+WAITS(leave, maple_leave, (struct maple_user *user), (user))
+WAITS(learn, maple_learn, (struct maple_user *user, uint64_t calls), (user, calls))
+WAITS(sync, maple_sync, (struct maple_user *user, uint64_t *calls), (user, calls))
+WAITS(settle, maple_settle, (struct maple_user *user, uint64_t *calls, uint64_t *places), (user, calls, places))
