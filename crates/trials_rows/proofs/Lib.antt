@@ -1,5 +1,1 @@
 pub mod CheckedTrees
-pub mod PlainExamples
-pub mod PlainWrites
-pub mod TestTrees
-pub mod TwoLeaves

@@ -5,19 +5,17 @@
 #[cfg(test)]
 mod asserts;
 #[cfg(test)]
-mod book;
-#[cfg(test)]
 mod checks;
 #[cfg(test)]
 mod copies;
 #[cfg(test)]
 mod images;
 #[cfg(test)]
-mod layout;
-#[cfg(test)]
 mod leaf;
 #[cfg(test)]
 mod lists;
+#[cfg(test)]
+mod names;
 #[cfg(test)]
 mod paths;
 #[cfg(test)]

@@ -5,10 +5,9 @@ ghost use Rattle.mt_gap.specs.Descents.{IsGapped};
 
 use crate::asserts::same;
 use crate::small_trees::{ELEVEN, LONGEST, LONGEST32, TOP, TOP32, TWENTY_SEVEN, checked_rows};
-use mt_base::{Kind, NoMemory, Steps, Width, cols, finds_room, width_of};
-use mt_gap::{highest, lowest, mend_gaps};
-use mt_path::walk;
-use mt_rows::{PlainRows, Rows};
+use mt_base::{Kind, Steps, cols, finds_room, width_of};
+use mt_gap::{highest, lowest};
+use mt_rows::PlainRows;
 use std::alloc::Global;
 use std::marker::Brand;
 use std::process::Abort;
@@ -232,33 +231,6 @@ fn places_in_narrow_trees(rt: HostRuntime) -> Result<(), Fail> {
         (&NARROW_NONE[..], 0, IN_NARROW_NONE),
     ] {
         expect_places(&rt, rt.alloc(), Kind::Alloc32, words, root, windows)?;
-    }
-    Ok(())
-}
-
-/// The gap words of the root over two leaves, after these were tended there and all on the way to an index mended.
-fn mended(alloc: Global, left: u64, right: u64, index: u64) -> Result<(u64, u64), NoMemory> {
-    let mut rows = PlainRows::of_words(alloc, Width::Long, 4124, &ELEVEN)?;
-    rows.tend(16, 20, left);
-    rows.tend(16, 21, right);
-    let path = walk(&mut rows, index);
-    mend_gaps(&mut rows, &path);
-    Ok((rows.load(16, 20), rows.load(16, 21)))
-}
-
-/// Gap words too small and too great, on the way to the index and beside it.
-#[test]
-fn wrong_gap_words_are_mended(rt: HostRuntime) -> Result<(), Fail> {
-    for (left, right, index) in [
-        (5, LONGEST, 0),
-        (0, 7, 0),
-        (5, 0, 11),
-        (TOP, LONGEST + 1, 12),
-        (1, TOP, TOP),
-        (0, LONGEST, 16),
-    ] {
-        let gaps = mended(rt.alloc(), left, right, index)?;
-        same(&rt, gaps, (0, LONGEST), (left, right, index));
     }
     Ok(())
 }

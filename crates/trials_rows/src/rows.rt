@@ -1,24 +1,10 @@
 use crate::asserts::same;
-use crate::small_trees::{ELEVEN, INNER, LEFT, LONE, LONE32, RIGHT, TOP, TWENTY_SEVEN, draft_row};
-use mt_base::{Call, FIRST_ROW, NoMemory, Range, Reply, Width, cols};
+use crate::small_trees::{ELEVEN, LONE, LONE32, TWENTY_SEVEN};
+use mt_base::{FIRST_ROW, NoMemory, Range, Width, cols};
 use mt_rows::plain_trees::{height_in, map_in, reached_in};
-use mt_rows::{Place, PlainRows, Rows, Scan};
 use std::alloc::Global;
 use std::process::Abort;
 use std::test::Fail;
-
-#[rattlefmt::skip]
-const NEXT: [u64; 32] = [
-    1,
-    9, 19, TOP, 0, 0, 0, 0, 0, 0, 0, 0, 0, 0, 0, 0,
-    8, 7, 0, 0, 0, 0, 0, 0, 0, 0, 0, 0, 0, 0, 0, 0,
-];
-
-macro_rules! store {
-    ($first:literal, $last:literal, $entry:literal) => {
-        Call::Store { first: $first, last: $last, entry: $entry }
-    };
-}
 
 /// The words of a table of rows of this width, the first of which have these words.
 fn table(alloc: Global, width: Width, rows: &[u64]) -> Result<Vec<u64>, NoMemory> {
@@ -114,93 +100,5 @@ fn trees_of_words(rt: HostRuntime) -> Result<(), Fail> {
         expect_tree(&rt, rt.alloc(), width, lone, 4108, want)?;
         expect_tree(&rt, rt.alloc(), width, lone, 0, (&[], &[], 0))?;
     }
-    Ok(())
-}
-
-/// New rows of a width, the last column of which is written in one row, and in no other.
-#[tactic(auto, using(mt_base::proofs::WidthBounds::many_columns))]
-fn expect_new_rows(rt: &impl Abort, alloc: Global, width: Width) -> Result<(), NoMemory> {
-    let mut rows = PlainRows::of_width(alloc, width, 3)?;
-    same(rt, (rows.size(), rows.width()), (3, width), "the sizes");
-    same(rt, rows.root(), 0, "the root");
-    let none = Scan {
-        least: u64::MAX,
-        by: None,
-    };
-    same(rt, rows.scan(), none, "the scan");
-    same(rt, rows.begin(), 1, "the first call");
-    let last = cols(width) - 1;
-    rows.draft(17, last, 4096);
-    same(rt, rows.load(17, last), 4096, (width, 17));
-    same(rt, rows.load(18, 0), 0, (width, 18));
-    same(rt, rows.load(18, last), 0, (width, 18));
-    Ok(())
-}
-
-#[test]
-fn rows_in_memory(rt: HostRuntime) -> Result<(), Fail> {
-    for width in [Width::Long, Width::Short] {
-        expect_new_rows(&rt, rt.alloc(), width)?;
-    }
-    let wide = PlainRows::new(rt.alloc(), 1)?;
-    same(&rt, wide.width(), Width::Long, "the rows of `new`");
-    let narrow = PlainRows::short(rt.alloc(), 1)?;
-    same(&rt, narrow.width(), Width::Short, "the rows of `short`");
-    Ok(())
-}
-
-#[test]
-fn a_call_that_changes_nothing(rt: HostRuntime) -> Result<(), Fail> {
-    let mut rows = PlainRows::new(rt.alloc(), 3)?;
-    rows.plant(0);
-    same(&rt, rows.begin(), 1, "the first call");
-    rows.finish(&Call::Erase { index: 5 }, &Reply::None);
-    same(&rt, rows.begin(), 2, "the second call");
-    same(&rt, rows.root(), 0, "the root in the end");
-    Ok(())
-}
-
-#[test]
-fn a_planted_tree(rt: HostRuntime) -> Result<(), Fail> {
-    let mut rows = PlainRows::new(rt.alloc(), 3)?;
-    draft_row(&mut rows, 16, &INNER);
-    draft_row(&mut rows, 17, &LEFT);
-    draft_row(&mut rows, 18, &RIGHT);
-    rows.plant(4124);
-    same(&rt, rows.root(), 4124, "the root");
-    same(&rt, rows.begin(), 1, "the first call");
-    rows.bury(17);
-    same(&rt, rows.load(17, 0), 4352, "the mark of the dead row");
-    Ok(())
-}
-
-#[test]
-fn a_leaf_is_written_and_replaced(rt: HostRuntime) -> Result<(), Fail> {
-    let mut rows = PlainRows::new(rt.alloc(), 2)?;
-    let first = store!(10, 19, 5);
-    same(&rt, rows.begin(), 1, "the first call");
-    draft_row(&mut rows, 16, &LONE);
-    rows.publish(Place::Root, 4108, &first, &Reply::Ok);
-    rows.finish(&first, &Reply::Ok);
-
-    let exact = store!(10, 19, 7);
-    same(&rt, rows.begin(), 2, "the second call");
-    let over = Reply::Over(5);
-    rows.publish(Place::Slot { row: 16, col: 17 }, 7, &exact, &over);
-    rows.finish(&exact, &over);
-
-    let more = store!(0, 9, 8);
-    same(&rt, rows.begin(), 3, "the third call");
-    draft_row(&mut rows, 17, &NEXT);
-    rows.bury(16);
-    rows.publish(Place::Root, 4364, &more, &Reply::Ok);
-    rows.finish(&more, &Reply::Ok);
-    same(&rt, rows.root(), 4364, "the root");
-
-    // The first leaf is dead by call 3, and its row is free then.
-    rows.scan();
-    rows.draft(16, 1, 8);
-    same(&rt, rows.load(16, 1), 8, "the row that is free again");
-    same(&rt, rows.load(17, 17), 7, "the row that is live");
     Ok(())
 }

@@ -1,12 +1,11 @@
-//! The rows of small trees, wide and narrow; rows in memory that are checked, and a row that is written by drafts.
+//! The rows of small trees, wide and narrow, and rows in memory that are checked.
 
-ghost use Rattle.std.specs.Prelude.{◌≡◌, ◌%◌, ◌/◌, ◌≤◌, IfOk, length, slice_index};
-ghost use Rattle.std.specs.List.{fold, range_with_len};
+ghost use Rattle.std.specs.Prelude.{◌≡◌, ◌%◌, ◌/◌, ◌≤◌, IfOk, length};
 ghost use Rattle.mt_base.specs.Width.{columns, kind_width, most_rows};
 ghost use Rattle.mt_check.specs.Check.{form_of};
 ghost use Rattle.mt_rows.specs.Memory.{sheet_in};
 ghost use Rattle.mt_rows.specs.Publish.{IsLawfulOf, tree_as};
-ghost use Rattle.mt_rows.specs.Sheet.{IsPlace, IsFree, OnlyReads, life_of, drafted};
+ghost use Rattle.mt_rows.specs.Sheet.{IsPlace, OnlyReads};
 
 use mt_base::{Kind, NoMemory, cols, width_of};
 use mt_check::{Form, check};
@@ -34,32 +33,8 @@ pub const LONE: [u64; 32] = [
     0, 5, 0, 0, 0, 0, 0, 0, 0, 0, 0, 0, 0, 0, 0, 0,
 ];
 
-/// An inner row of an allocation tree: a parent word, 9 pivots, 10 slots and 10 gaps.
-#[rattlefmt::skip]
-pub const INNER: [u64; 32] = [
-    1,
-    11, TOP, 0, 0, 0, 0, 0, 0, 0,
-    4364, 4620, 0, 0, 0, 0, 0, 0, 0, 0,
-    0, LONGEST, 0, 0, 0, 0, 0, 0, 0, 0,
-    0, 0,
-];
-
-/// Leaves: a parent word, 15 pivots and 16 slots.
-#[rattlefmt::skip]
-pub const LEFT: [u64; 32] = [
-    4096,
-    0, 1, 2, 3, 4, 11, 0, 0, 0, 0, 0, 0, 0, 0, 0,
-    4096, 4096, 4096, 4096, 4096, 4096, 0, 0, 0, 0, 0, 0, 0, 0, 0, 0,
-];
-
-#[rattlefmt::skip]
-pub const RIGHT: [u64; 32] = [
-    4097,
-    12, 13, 14, 15, 16, TOP, 0, 0, 0, 0, 0, 0, 0, 0, 0,
-    4096, 4096, 4096, 4096, 4096, 0, 0, 0, 0, 0, 0, 0, 0, 0, 0, 0,
-];
-
-/// The allocation tree of these three: the row 16 over the leaves 17 and 18, with eleven ranges up to the index 16.
+/// An allocation tree: the row 16 over the leaves 17 and 18, with eleven ranges up to the index 16. The inner row has a parent word,
+/// 9 pivots, 10 slots and 10 gaps, and two words that are not used.
 #[rattlefmt::skip]
 pub const ELEVEN: [u64; 96] = [
     1,
@@ -136,16 +111,4 @@ pub fn push_row(rows: &mut PlainRows, row: u32, words: &mut Vec<u64>) -> Result<
         words.push(rows.load(row, col))?;
     }
     Ok(())
-}
-
-/// Drafts each column of a wide row.
-#[tactic(auto, using(mt_base::proofs::WidthBounds::many_columns))]
-pub fn draft_row(rows: &mut PlainRows, row: u32, words: &[u64; 32])
-    requires place { IsPlace (sheet_in rows.old).tree row 0 }
-    requires free { IsFree (sheet_in rows.old).cleared (life_of (sheet_in rows.old).lives row) }
-    ensures { sheet_in rows.new ≡ fold (λ s col. drafted s row col (slice_index words.now col)) (sheet_in rows.old) (range_with_len 0 32) }
-{
-    for col in 0..32 {
-        rows.draft(row, col, words[col as usize]);
-    }
 }
