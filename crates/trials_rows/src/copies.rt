@@ -1,18 +1,9 @@
-ghost use Rattle.std.specs.Prelude.{◌≡◌, ◌%◌, ◌/◌, ◌<◌, ◌≤◌, length};
-ghost use Rattle.mt_base.specs.Width.{columns, kind_width, most_rows};
+//! Small trees, and the same with their rows in the order of a walk, as an image and a copy have them.
 
-use crate::asserts::same;
-use crate::small_trees::{LONGEST, LONGEST32, TOP, TOP32, checked_rows, push_row};
-use mt_base::{FIRST_ROW, Kind, NoMemory, Steps, cols, width_of};
-use mt_check::check;
-use mt_dup::copy_rows;
-use mt_free::RowBook;
+use crate::small_trees::{LONGEST, LONGEST32, TOP, TOP32, push_row};
+use mt_base::{FIRST_ROW, Kind, NoMemory};
 use mt_rows::{PlainRows, Rows};
 use std::alloc::Global;
-use std::marker::Brand;
-use std::process::Abort;
-use std::sync::ledger::{Blank, Ledger};
-use std::test::Fail;
 
 /// An allocation tree: the row 19 with the leaves 18 and 16; the row 17 is unused. Inner rows have a parent word, 9 pivots, 10
 /// slots and 10 gaps, and leaves a parent word, 15 pivots and 16 slots.
@@ -36,9 +27,9 @@ pub const TWO_LEAVES: [u64; 128] = [
     0, 0,
 ];
 
-/// Its copy: the row 16 with the leaves 17 and 18.
+/// The same: the row 16 with the leaves 17 and 18.
 #[rattlefmt::skip]
-const TWO_LEAVES_COPIED: [u64; 128] = [
+const TWO_LEAVES_COPIED: [u64; 96] = [
     1,
     11, TOP, 0, 0, 0, 0, 0, 0, 0,
     4364, 4620, 0, 0, 0, 0, 0, 0, 0, 0,
@@ -52,9 +43,6 @@ const TWO_LEAVES_COPIED: [u64; 128] = [
     4097,
     12, 13, 14, 15, 16, TOP, 0, 0, 0, 0, 0, 0, 0, 0, 0,
     4096, 8192, 4096, 4096, 4096, 0, 0, 0, 0, 0, 0, 0, 0, 0, 0, 0,
-
-    0, 0, 0, 0, 0, 0, 0, 0, 0, 0, 0, 0, 0, 0, 0, 0,
-    0, 0, 0, 0, 0, 0, 0, 0, 0, 0, 0, 0, 0, 0, 0, 0,
 ];
 
 /// The range 10 to 19 with the entry 4108, which is no name here, in the leaf 17; the row 16 is unused.
@@ -103,9 +91,9 @@ const NARROW_LEAVES: [u64; 256] = [
     0,
 ];
 
-/// Its copy: the row 16 with the leaves 17 and 18.
+/// The same: the row 16 with the leaves 17 and 18.
 #[rattlefmt::skip]
-const NARROW_LEAVES_COPIED: [u64; 256] = [
+const NARROW_LEAVES_COPIED: [u64; 192] = [
     1,
     23, TOP32, 0, 0, 0, 0, 0, 0, 0, 0, 0, 0, 0, 0, 0, 0, 0, 0, 0, 0,
     4364, 4620, 0, 0, 0, 0, 0, 0, 0, 0, 0, 0, 0, 0, 0, 0, 0, 0, 0, 0, 0,
@@ -122,11 +110,6 @@ const NARROW_LEAVES_COPIED: [u64; 256] = [
     24, 25, 26, 27, 28, 29, 30, 31, 32, 33, 34, 35, 36, TOP32, 0,
     0, 0, 0, 0, 0, 0, 0, 0, 0, 0, 0, 0, 0, 0, 0, 0,
     4096, 8192, 4096, 4096, 4096, 4096, 4096, 4096, 4096, 4096, 4096, 4096, 4096, 0, 0, 0,
-    0, 0, 0, 0, 0, 0, 0, 0, 0, 0, 0, 0, 0, 0, 0, 0,
-
-    0, 0, 0, 0, 0, 0, 0, 0, 0, 0, 0, 0, 0, 0, 0, 0,
-    0, 0, 0, 0, 0, 0, 0, 0, 0, 0, 0, 0, 0, 0, 0, 0,
-    0, 0, 0, 0, 0, 0, 0, 0, 0, 0, 0, 0, 0, 0, 0, 0,
     0, 0, 0, 0, 0, 0, 0, 0, 0, 0, 0, 0, 0, 0, 0, 0,
 ];
 
@@ -154,48 +137,8 @@ const NARROW_LONE_COPIED: [u64; 64] = [
     0, 0, 0, 0, 0, 0, 0, 0, 0, 0, 0, 0, 0, 0, 0, 0,
 ];
 
-/// The copy of the empty tree, which has no row.
+/// The empty tree has no row.
 const NONE_COPIED: [u64; 0] = [];
-
-/// A copy: its rows, its root word, and how many rows of its book are free, live and held.
-#[derive(Drop)]
-struct Copied {
-    rows: PlainRows,
-    root: u64,
-    counts: [u64; 3],
-}
-
-/// Copies the lawful tree of these words into so many new rows, which it must fit into.
-fn make_copy<L: Ledger>(
-    blank: Blank,
-    alloc: Global,
-    words: &[u64],
-    root: u64,
-    kind: Kind,
-    rows: u64,
-) -> Result<Copied, Fail>
-    requires name { blank.name ≡ L.name }
-    requires parts { blank.parts ≡ L.parts }
-    requires some { 0 < blank.parts }
-    requires whole { length words.now % columns (kind_width kind) ≡ 0 }
-    requires few { length words.now / columns (kind_width kind) ≤ most_rows }
-    requires room { rows ≤ most_rows }
-{
-    let mut steps = Steps::<L>::new(blank);
-    let (mut src, form) = checked_rows(alloc, words, root, kind)?;
-    if rows < form.rows {
-        return Err(Fail::new("too few rows"));
-    }
-    let mut dst = PlainRows::of_width(alloc, src.width(), rows)?;
-    let mut book = RowBook::new(alloc, rows)?;
-    let copy = copy_rows(&mut src, &mut dst, &mut book, &mut steps);
-    dst.plant(copy);
-    Ok(Copied {
-        rows: dst,
-        root: copy,
-        counts: [book.free(), book.live(), book.held()],
-    })
-}
 
 /// The words of the first rows, as many of them as there are.
 #[tactic(auto, using(mt_layout::proofs::RowSizes::some_columns))]
@@ -209,8 +152,7 @@ pub fn first_words(alloc: Global, rows: &mut PlainRows, count: u32) -> Result<Ve
     Ok(words)
 }
 
-/// A tree's words, its root word, its kind, and how many rows the copy may have; and of the copy the root word and its words,
-/// how many rows of its book are free, live and held, and its height, rows and ranges.
+/// A tree's words, its root word and its kind; and with its rows in order how many these are, the root word and their words.
 pub struct Case {
     pub words: &'static [u64],
     pub root: u64,
@@ -218,8 +160,6 @@ pub struct Case {
     pub rows: u32,
     pub copy: u64,
     pub copied: &'static [u64],
-    pub counts: [u64; 3],
-    pub form: [u64; 3],
 }
 
 pub const CASES: [Case; 6] = [
@@ -227,11 +167,9 @@ pub const CASES: [Case; 6] = [
         words: &TWO_LEAVES,
         root: 4892,
         kind: Kind::Alloc,
-        rows: 4,
+        rows: 3,
         copy: 4124,
         copied: &TWO_LEAVES_COPIED,
-        counts: [1, 3, 0],
-        form: [2, 3, 11],
     },
     Case {
         words: &LONE,
@@ -240,8 +178,6 @@ pub const CASES: [Case; 6] = [
         rows: 1,
         copy: 4108,
         copied: &LONE_COPIED,
-        counts: [0, 1, 0],
-        form: [1, 1, 1],
     },
     Case {
         words: &LONE,
@@ -250,18 +186,14 @@ pub const CASES: [Case; 6] = [
         rows: 0,
         copy: 0,
         copied: &NONE_COPIED,
-        counts: [0, 0, 0],
-        form: [0, 0, 0],
     },
     Case {
         words: &NARROW_LEAVES,
         root: 4892,
         kind: Kind::Alloc32,
-        rows: 4,
+        rows: 3,
         copy: 4124,
         copied: &NARROW_LEAVES_COPIED,
-        counts: [1, 3, 0],
-        form: [2, 3, 27],
     },
     Case {
         words: &NARROW_LONE,
@@ -270,8 +202,6 @@ pub const CASES: [Case; 6] = [
         rows: 1,
         copy: 4108,
         copied: &NARROW_LONE_COPIED,
-        counts: [0, 1, 0],
-        form: [1, 1, 1],
     },
     Case {
         words: &NARROW_LONE,
@@ -280,50 +210,5 @@ pub const CASES: [Case; 6] = [
         rows: 0,
         copy: 0,
         copied: &NONE_COPIED,
-        counts: [0, 0, 0],
-        form: [0, 0, 0],
     },
 ];
-
-/// The copy of a case, which has the words, the counts and the form that it tells.
-fn expect_copy<L: Ledger>(
-    rt: &impl Abort,
-    blank: Blank,
-    alloc: Global,
-    case: &Case,
-) -> Result<(), Fail>
-    requires name { blank.name ≡ L.name }
-    requires parts { blank.parts ≡ L.parts }
-    requires some { 0 < blank.parts }
-{
-    let columns = cols(width_of(case.kind)) as usize;
-    assert!(rt; case.words.len() % columns == 0 && case.words.len() / columns <= 4);
-    assert!(rt; case.rows <= 4);
-    let mut copy = make_copy::<L>(
-        blank,
-        alloc,
-        case.words,
-        case.root,
-        case.kind,
-        u64::from(case.rows),
-    )?;
-    let words = first_words(alloc, &mut copy.rows, case.rows)?;
-    same(rt, words.as_slice(), case.copied, case.root);
-    assert!(rt; copy.rows.width() == width_of(case.kind));
-    let form = check(&mut copy.rows, copy.root, case.kind)?;
-    let told = (
-        [u64::from(form.height), form.rows, form.ranges],
-        copy.counts,
-        copy.root,
-    );
-    same(rt, told, (case.form, case.counts, case.copy), case.root);
-    Ok(())
-}
-
-#[test]
-fn trees_are_copied(rt: HostRuntime) -> Result<(), Fail> {
-    for case in &CASES {
-        expect_copy::<Brand>(&rt, Blank::new(1), rt.alloc(), case)?;
-    }
-    Ok(())
-}

@@ -44,21 +44,33 @@ fn number_of(kind: Kind) -> u64 {
     }
 }
 
-/// The image of a case's tree is that of its copy, and it is read as that copy.
-fn expect_image(rt: &impl Abort, alloc: Global, case: &Case) -> Result<(), Fail> {
+/// The image of a case's tree.
+fn written(rt: &impl Abort, alloc: Global, case: &Case) -> Result<Vec<u8>, Fail> {
     let columns = cols(width_of(case.kind)) as usize;
     assert!(rt; case.words.len() % columns == 0 && case.words.len() / columns <= 4);
-    let (mut rows, form) = checked_rows(alloc, case.words, case.root, case.kind)?;
-    let bytes = write_image(alloc, &mut rows, case.kind)?;
-    assert!(rt; form.rows <= 4 && form.rows as usize * columns <= case.copied.len());
-    let words = &case.copied[..form.rows as usize * columns];
-    let head = [number_of(case.kind), form.rows, case.copy];
-    let want = image(alloc, head, words)?;
+    let (mut rows, _) = checked_rows(alloc, case.words, case.root, case.kind)?;
+    Ok(write_image(alloc, &mut rows, case.kind)?)
+}
+
+/// The kind of the tree that these bytes are an image of, and the words of its first rows.
+fn read(alloc: Global, bytes: &[u8], count: u32) -> Result<(Kind, Vec<u64>), Fail> {
+    let (kind, mut rows) = read_image(alloc, bytes)?;
+    Ok((kind, first_words(alloc, &mut rows, count)?))
+}
+
+/// The image of a case's tree has its rows in order, and it is read so.
+fn expect_image(rt: &impl Abort, alloc: Global, case: &Case) -> Result<(), Fail> {
+    let bytes = written(rt, alloc, case)?;
+    let head = [number_of(case.kind), u64::from(case.rows), case.copy];
+    let want = image(alloc, head, case.copied)?;
     same(rt, bytes.as_slice(), want.as_slice(), case.root);
-    let (kind, mut read) = read_image(alloc, &bytes)?;
-    let again = first_words(alloc, &mut read, form.rows as u32)?;
-    same(rt, again.as_slice(), words, case.root);
-    same(rt, kind, case.kind, case.root);
+    let (kind, words) = read(alloc, &want, case.rows)?;
+    same(
+        rt,
+        (kind, words.as_slice()),
+        (case.kind, case.copied),
+        case.root,
+    );
     Ok(())
 }
 
