@@ -1,6 +1,5 @@
 ghost use Rattle.std.specs.Prelude.{◌≡◌, ◌<◌, ◌+◌, ◌-◌, ◌^◌, ◌≤◌, IfOk, length};
 ghost use Rattle.mt_base.specs.Width.{most_rows};
-ghost use Rattle.mt_base.specs.declared.kinds.Kind.TheVariants as kinds;
 
 /// A call, by its verb and its numbers. What seeks room stores the entry 1.
 macro_rules! call {
@@ -37,19 +36,16 @@ macro_rules! range {
 }
 
 mod drawn;
-mod prepared;
 mod replaced;
 mod shapes;
 mod stories;
-mod watched;
 
-use crate::tests::stories::{NUMBERS, STORIES, Story, WATCHED};
-use crate::tests::watched::Watched;
+use crate::tests::stories::{NUMBERS, STORIES, Story};
 use mt_base::{Call, Kind, MOST_ROWS, NoMemory, Query, Range, Reply, errno, width_of};
 use mt_engine::Engine;
 use mt_free::RowBook;
 use mt_list::{ListMap, Ranges};
-use mt_rows::{PlainRows, Rows};
+use mt_rows::PlainRows;
 use std::alloc::Global;
 use std::fmt::Debug;
 use std::process::Abort;
@@ -61,42 +57,19 @@ const TOP: u64 = u64::MAX;
 /// The last index of a narrow tree.
 const TOP32: u64 = u32::MAX as u64;
 
-/// The kinds of trees that hold ranges alone, and the last index of each.
-const RANGES: &[(Kind, u64)] = &[(Kind::Range, TOP), (Kind::Range32, TOP32)];
-
 /// What came out at a place of a test is what is wanted. It asserts for all tests, so that the code of an assertion is proved
 /// once, and not in each.
 fn same<T: Copy + PartialEq + Debug, P: Copy + Debug>(rt: &impl Abort, got: T, want: T, place: P) {
     assert_eq!(rt; got, want, "at {place:?}");
 }
 
-/// An engine of an empty tree of ranges over so many rows in memory.
-fn fresh(alloc: Global, rows: u64) -> Result<Engine<PlainRows>, NoMemory>
-    requires { rows ≤ most_rows }
-    ensures ended { IfOk result (λ engine. engine.sheet.ended ≡ 0) }
-    ensures kind { IfOk result (λ engine. engine.kind ≡ kinds.Range) }
-{
-    fresh_of(alloc, Kind::Range, rows)
-}
-
-/// The same of a tree of this kind.
+/// An engine of an empty tree of this kind over so many rows in memory.
 fn fresh_of(alloc: Global, kind: Kind, rows: u64) -> Result<Engine<PlainRows>, NoMemory>
-    requires { rows ≤ most_rows }
-    ensures ended { IfOk result (λ engine. engine.sheet.ended ≡ 0) }
-    ensures kind { IfOk result (λ engine. engine.kind ≡ kind) }
-{
-    let book = RowBook::new(alloc, rows)?;
-    let rows = PlainRows::of_width(alloc, width_of(kind), rows)?;
-    Ok(Engine::new(rows, book, kind))
-}
-
-/// The same over rows of which a section stands open.
-fn fresh_watched(alloc: Global, kind: Kind, rows: u64) -> Result<Engine<Watched>, NoMemory>
     requires { rows ≤ most_rows }
     ensures { IfOk result (λ engine. engine.sheet.ended ≡ 0) }
 {
     let book = RowBook::new(alloc, rows)?;
-    let rows = Watched::new(alloc, width_of(kind), rows)?;
+    let rows = PlainRows::of_width(alloc, width_of(kind), rows)?;
     Ok(Engine::new(rows, book, kind))
 }
 
@@ -108,8 +81,7 @@ fn expect_answers(
     index: u64,
     bound: u64,
 )
-    ensures ended { engine.new.sheet.ended ≡ engine.old.sheet.ended }
-    ensures kind { engine.new.kind ≡ engine.old.kind }
+    ensures { engine.new.sheet.ended ≡ engine.old.sheet.ended }
 {
     let queries = [
         Query::Load { index },
@@ -136,23 +108,12 @@ fn expect_walk(rt: &impl Abort, engine: &mut Engine<PlainRows>, index: u64, rang
 }
 
 /// Makes these calls, which are answered so.
-fn expect_replies<R: Rows>(rt: &impl Abort, engine: &mut Engine<R>, calls: &[(Call, Reply)])
+fn expect_replies(rt: &impl Abort, engine: &mut Engine<PlainRows>, calls: &[(Call, Reply)])
     requires few { engine.old.sheet.ended + length calls.now < 2 ^ 62 - 1 }
 {
     for (call, want) in calls {
         same(rt, engine.apply(call), *want, *call);
     }
-}
-
-/// The engine holds these ranges.
-fn expect_ranges<R: Rows>(
-    rt: &impl Abort,
-    alloc: Global,
-    engine: &mut Engine<R>,
-    want: &[Range],
-) -> Result<(), NoMemory> {
-    same(rt, engine.list(alloc)?.as_slice(), want, "the end");
-    Ok(())
 }
 
 /// Makes a call on the engine and on the list, which answer the same and then hold the same ranges, by a list and by a walk.
@@ -252,79 +213,28 @@ fn answers_as_a_list_does(rt: HostRuntime) -> Result<(), Fail> {
     let calls = stores_and_erases(rt.alloc())?;
     assert!(rt; CALLS.len() < 1000);
     assert!(rt; calls.len() < 1000);
-    for (kind, _) in RANGES {
-        let mut engine = fresh_of(rt.alloc(), *kind, 400)?;
-        let mut list = ListMap::new(rt.alloc(), *kind);
+    for kind in [Kind::Range, Kind::Range32] {
+        let mut engine = fresh_of(rt.alloc(), kind, 400)?;
+        let mut list = ListMap::new(rt.alloc(), kind);
         expect_all_same(&rt, rt.alloc(), &mut engine, &mut list, CALLS)?;
         expect_all_same(&rt, rt.alloc(), &mut engine, &mut list, calls.as_slice())?;
     }
     Ok(())
 }
 
-/// Walks over two ranges, of which the second ends at the last index of a tree of this kind.
-fn expect_walks(rt: &impl Abort, alloc: Global, kind: Kind, last: u64) -> Result<(), NoMemory> {
-    let mut engine = fresh_of(alloc, kind, 8)?;
-    expect_walk(rt, &mut engine, 3, &[]);
-    let calls = [
-        (call!(store 10, 19, 5), Reply::Ok),
-        (call!(store 30, last, 7), Reply::Ok),
-    ];
-    expect_replies(rt, &mut engine, &calls);
-    let ranges = [range!(10, 19, 5), range!(30, last, 7)];
-    expect_walk(rt, &mut engine, 0, &ranges);
-    expect_walk(rt, &mut engine, 12, &ranges);
-    expect_walk(rt, &mut engine, 20, &ranges[1..]);
-    expect_walk(rt, &mut engine, last, &ranges[1..]);
-    Ok(())
-}
-
-#[test]
-fn walks_from_within(rt: HostRuntime) -> Result<(), Fail> {
-    for (kind, last) in RANGES {
-        expect_walks(&rt, rt.alloc(), *kind, *last)?;
-    }
-    Ok(())
-}
-
-#[test]
-fn a_walk_from_above_the_last_index_gives_nothing(rt: HostRuntime) -> Result<(), Fail> {
-    let mut engine = fresh_of(rt.alloc(), Kind::Range32, 8)?;
-    let calls = [(call!(store 30, TOP32, 7), Reply::Ok)];
-    expect_replies(&rt, &mut engine, &calls);
-    expect_walk(&rt, &mut engine, TOP32 + 1, &[]);
-    expect_walk(&rt, &mut engine, TOP, &[]);
-    Ok(())
-}
-
 /// Makes the calls of a story on a new engine, which answers as it tells, and holds the ranges that it tells then.
-fn expect_story<R: Rows>(
-    rt: &impl Abort,
-    alloc: Global,
-    engine: &mut Engine<R>,
-    story: &Story,
-) -> Result<(), NoMemory>
-    requires { engine.old.sheet.ended ≡ 0 }
-{
-    assert!(rt; story.calls.len() < 1000);
-    expect_replies(rt, engine, story.calls);
-    expect_ranges(rt, alloc, engine, story.ranges)
+fn expect_story(rt: &impl Abort, alloc: Global, story: &Story) -> Result<(), NoMemory> {
+    assert!(rt; story.rows <= MOST_ROWS && story.calls.len() < 1000);
+    let mut engine = fresh_of(alloc, story.kind, story.rows)?;
+    expect_replies(rt, &mut engine, story.calls);
+    same(rt, engine.list(alloc)?.as_slice(), story.ranges, "the end");
+    Ok(())
 }
 
 #[test]
 fn stories_come_out_as_told(rt: HostRuntime) -> Result<(), Fail> {
     for story in STORIES {
-        assert!(rt; story.rows <= MOST_ROWS);
-        let mut engine = fresh_of(rt.alloc(), story.kind, story.rows)?;
-        expect_story(&rt, rt.alloc(), &mut engine, story)?;
-    }
-    Ok(())
-}
-
-#[test]
-fn tells_who_holds_rows_back(rt: HostRuntime) -> Result<(), Fail> {
-    for (kind, _) in RANGES {
-        let mut engine = fresh_watched(rt.alloc(), *kind, 8)?;
-        expect_story(&rt, rt.alloc(), &mut engine, &WATCHED)?;
+        expect_story(&rt, rt.alloc(), story)?;
     }
     Ok(())
 }

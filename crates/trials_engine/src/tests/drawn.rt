@@ -1,5 +1,4 @@
 ghost use Rattle.std.specs.Prelude.{◌≡◌, ◌<◌, ◌+◌, ◌-◌, ◌^◌, OnOk};
-ghost use Rattle.mt_base.specs.declared.kinds.Kind.TheVariants as kinds;
 
 use crate::tests::{TOP, TOP32, expect_answers, fresh_of, same};
 use mt_base::{Call, Kind, MOST_ROWS, NoMemory, Query, Reply};
@@ -117,9 +116,8 @@ fn expect_call(
     list: &mut ListMap,
     draws: &mut Draws,
 ) -> Result<(), NoMemory>
-    requires few { engine.old.sheet.ended < 2 ^ 62 - 1 }
-    ensures ended { engine.new.sheet.ended ≡ engine.old.sheet.ended + 1 }
-    ensures kind { engine.new.kind ≡ engine.old.kind }
+    requires { engine.old.sheet.ended < 2 ^ 62 - 1 }
+    ensures { engine.new.sheet.ended ≡ engine.old.sheet.ended + 1 }
 {
     let call = draws.call(list);
     let reply = engine.apply(&call);
@@ -137,9 +135,8 @@ fn expect_calls(
     list: &mut ListMap,
     draws: &mut Draws,
 ) -> Result<(), NoMemory>
-    requires few { engine.old.sheet.ended + 1000 < 2 ^ 62 }
-    ensures ended { OnOk result (engine.new.sheet.ended ≡ engine.old.sheet.ended + 1000) }
-    ensures kind { engine.new.kind ≡ engine.old.kind }
+    requires { engine.old.sheet.ended + 1000 < 2 ^ 62 }
+    ensures { OnOk result (engine.new.sheet.ended ≡ engine.old.sheet.ended + 1000) }
 {
     for _ in 0..1000_u64 {
         expect_call(rt, engine, list, draws)?;
@@ -186,9 +183,8 @@ fn a_hundred_thousand_calls_are_answered_as_by_a_list(rt: HostRuntime) -> Result
 
 /// Stores a thousand ranges of ten indexes, each behind a hole of ten.
 fn fill(rt: &impl Abort, engine: &mut Engine<PlainRows>, list: &mut ListMap) -> Result<(), NoMemory>
-    requires few { engine.old.sheet.ended + 1000 < 2 ^ 62 }
-    ensures ended { OnOk result (engine.new.sheet.ended ≡ engine.old.sheet.ended + 1000) }
-    ensures kind { engine.new.kind ≡ engine.old.kind }
+    requires { engine.old.sheet.ended + 1000 < 2 ^ 62 }
+    ensures { OnOk result (engine.new.sheet.ended ≡ engine.old.sheet.ended + 1000) }
 {
     for n in 0..1000_u64 {
         let call = call!(store 20 * n + 10, 20 * n + 19, 1);
@@ -226,21 +222,5 @@ fn ten_thousand_calls_on_areas_are_answered_as_by_a_list(rt: HostRuntime) -> Res
         last: TOP32,
     };
     expect_areas(&rt, rt.alloc(), Kind::Alloc32, &mut narrow)?;
-    Ok(())
-}
-
-#[test]
-fn an_engine_made_again_of_its_parts_goes_on(rt: HostRuntime) -> Result<(), Fail> {
-    let mut engine = fresh_of(rt.alloc(), Kind::Range32, MOST_ROWS)?;
-    let mut list = ListMap::new(rt.alloc(), Kind::Range32);
-    let mut draws = Draws {
-        state: 2,
-        last: TOP32,
-    };
-    for _ in 0..20_u64 {
-        expect_calls(&rt, rt.alloc(), &mut engine, &mut list, &mut draws)?;
-        let (rows, book) = engine.parts();
-        engine = Engine::new(rows, book, Kind::Range32);
-    }
     Ok(())
 }

@@ -1,6 +1,5 @@
 //! Calls on an engine over few rows or many: the reply to each, and the ranges in the end.
 
-use crate::tests::watched::HOLDER;
 use crate::tests::{TOP, TOP32};
 use mt_base::{Call, Kind, Range, Reply, Shortage};
 
@@ -19,15 +18,6 @@ const FEW: Shortage = Shortage {
     live: 1,
     held: 0,
     by: None,
-};
-
-/// What a store lacks where one row of eight is live, and four are held.
-const HELD: Shortage = Shortage {
-    need: 4,
-    free: 3,
-    live: 1,
-    held: 4,
-    by: Some(HOLDER),
 };
 
 /// Too few rows are free.
@@ -257,26 +247,6 @@ pub const STORIES: &[Story] = &[
         ranges: &[range!(TOP32, TOP32, 1)],
     },
 ];
-
-/// Rows of which a section stands open: the row of each store but the first is held, since the section opened before it.
-pub const WATCHED: Story = Story {
-    kind: Kind::Range,
-    rows: 8,
-    calls: &[
-        (call!(store 10, 10, 5), Reply::Ok),
-        (call!(store 20, 20, 5), Reply::Ok),
-        (call!(store 30, 30, 5), Reply::Ok),
-        (call!(store 40, 40, 5), Reply::Ok),
-        (call!(store 50, 50, 5), Reply::Ok),
-        (call!(store 60, 60, 5), Reply::NoNodes(HELD)),
-        (call!(erase 30), Reply::NoNodes(HELD)),
-        (call!(store 30, 30, 9), Reply::Over(5)),
-        (call!(store 60, 69, 0), Reply::Ok),
-        (Call::Clear, Reply::Ok),
-        (call!(store 60, 60, 5), Reply::Ok),
-    ],
-    ranges: &[range!(60, 60, 5)],
-};
 
 /// Replies, and the kernel's error of each, if it is one.
 pub const NUMBERS: &[(Reply, Option<u32>)] = &[

@@ -2,4 +2,4 @@ use Rattle.std.proofs.Common.{◌≡◌}
 use Rattle.trials_engine.proofs.tests.expect_answers.Given as goal
 
 abbrev pub invariant-loop-query : goal.invariant-loop-query
-invariant-loop-query g l = record { ended : l.engine.sheet.ended ≡ l.initial.engine.sheet.ended; kind : l.engine.kind ≡ l.initial.engine.kind }
+invariant-loop-query g l = record { ended : l.engine.sheet.ended ≡ l.initial.engine.sheet.ended }

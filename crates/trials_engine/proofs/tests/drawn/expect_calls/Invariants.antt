@@ -2,4 +2,4 @@ use Rattle.std.proofs.Common.{◌≡◌, ◌+◌}
 use Rattle.trials_engine.proofs.tests.drawn.expect_calls.Given as goal
 
 abbrev pub invariant-loop : goal.invariant-loop
-invariant-loop g l = record { ended : l.engine.sheet.ended ≡ l.initial.engine.sheet.ended + l.counter; kind : l.engine.kind ≡ l.initial.engine.kind }
+invariant-loop g l = record { ended : l.engine.sheet.ended ≡ l.initial.engine.sheet.ended + l.counter }

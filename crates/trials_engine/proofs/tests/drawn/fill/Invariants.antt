@@ -2,4 +2,4 @@ use Rattle.std.proofs.Common.{◌≡◌, ◌+◌}
 use Rattle.trials_engine.proofs.tests.drawn.fill.Given as goal
 
 abbrev pub invariant-loop-n : goal.invariant-loop-n
-invariant-loop-n g l = record { ended : l.engine.sheet.ended ≡ l.initial.engine.sheet.ended + l.n; kind : l.engine.kind ≡ l.initial.engine.kind }
+invariant-loop-n g l = record { ended : l.engine.sheet.ended ≡ l.initial.engine.sheet.ended + l.n }
