@@ -1,5 +1,4 @@
-//! Trials of texts: logs that are read, printed and made, what a text tells of them, what a run comes to, listings, and the words
-//! of commands.
+//! Trials of texts: logs that are read and printed, what a text tells of them, transcripts, listings, and the words of commands.
 #![tactic(auto)]
 
 #[cfg(test)]
@@ -8,8 +7,6 @@ mod asserts;
 mod listings;
 #[cfg(test)]
 mod log;
-#[cfg(test)]
-mod made;
 #[cfg(test)]
 mod told;
 #[cfg(test)]

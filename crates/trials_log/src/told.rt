@@ -1,7 +1,6 @@
 use crate::asserts::same;
-use mt_base::{Kind, Range, Reply, Shortage};
-use mt_log::{LogError, Word, read_log};
-use mt_told::{Account, is_reply, listing_in_front, read_told};
+use mt_log::{LogError, read_log};
+use mt_told::{Account, read_told};
 use std::alloc::{AllocError, Global};
 use std::process::Abort;
 use std::str;
@@ -88,88 +87,4 @@ fn expect_accounts(
 #[test]
 fn a_text_tells_of_the_steps_of_a_log(rt: HostRuntime) -> Result<(), Fail> {
     expect_accounts(&rt, rt.alloc(), ACCOUNTS)
-}
-
-const NINE: Range = Range {
-    first: 0,
-    last: 9,
-    entry: 5,
-};
-
-const SHORT: Reply = Reply::NoNodes(Shortage {
-    need: 7,
-    free: 6,
-    live: 4,
-    held: 20,
-    by: None,
-});
-
-/// A version, a reply, some bytes, and whether the version prints it so.
-const REPLIES: &[(u32, Reply, &str, bool)] = &[
-    (1, Reply::Ok, "ok", true),
-    (1, Reply::Over(5), "ok", true),
-    (2, Reply::Over(5), "over 5", true),
-    (1, Reply::Was(NINE), "was 5", true),
-    (2, Reply::Was(NINE), "was 0 9 5", true),
-    (2, Reply::Start(40), "start 40", true),
-    (2, Reply::None, "none", true),
-    (2, Reply::Exists, "exists", true),
-    (2, Reply::Invalid, "invalid", true),
-    (2, Reply::Busy, "busy", true),
-    (2, SHORT, "nomem 7 6 4 20", true),
-    (2, Reply::Ok, "okay", false),
-    (2, Reply::Over(5), "ok", false),
-    (1, Reply::Over(5), "over 5", false),
-    (2, Reply::Over(5), "over 05", false),
-    (2, Reply::Over(5), "over 55", false),
-    (2, Reply::Was(NINE), "was 5", false),
-    (2, Reply::Was(NINE), "was 0 9 5 ", false),
-    (2, SHORT, "nomem 7 6 4", false),
-    (2, SHORT, "nomem 7 6 4 2", false),
-];
-
-/// Each of these texts is the reply, or is not.
-fn expect_replies(rt: &impl Abort, cases: &[(u32, Reply, &str, bool)]) {
-    for (version, reply, text, want) in cases {
-        let is_it = is_reply(*version, reply, text.as_bytes());
-        same(rt, is_it, *want, *text);
-    }
-}
-
-#[test]
-fn replies_are_compared_with_what_is_printed(rt: HostRuntime) {
-    expect_replies(&rt, REPLIES);
-}
-
-/// A text, and what stands behind the listing in front of it, where it is one of the tree `ab` that has one range.
-const LISTINGS: &[(&str, Option<&str>)] = &[
-    ("tree ab alloc32 1\n0 9 5\n", Some("")),
-    (
-        "tree ab alloc32 1\n0 9 5\ntree c range 0\n",
-        Some("tree c range 0\n"),
-    ),
-    ("tree ab alloc32 1\n", None),
-    ("tree ab alloc32 1\n0 9 5", None),
-    ("tree ab alloc32 01\n0 9 5\n", None),
-    ("tree ab alloc32 2\n0 9 5\n", None),
-    ("tree ab alloc 1\n0 9 5\n", None),
-    ("tree abc alloc32 1\n0 9 5\n", None),
-];
-
-/// Each of these texts has the rest that it should behind the listing of a tree of this name.
-fn expect_rests(rt: &impl Abort, name: &Word, cases: &[(&str, Option<&str>)]) {
-    for (text, want) in cases {
-        let rest = listing_in_front(text.as_bytes(), name, Kind::Alloc32, &[NINE]);
-        let told = rest.map(|rest| str::from_utf8(rest).unwrap_or("no text"));
-        same(rt, told, *want, *text);
-    }
-}
-
-#[test]
-fn a_listing_is_compared_with_what_is_printed(rt: HostRuntime) -> Result<(), Fail> {
-    let Some(name) = Word::new(b"ab") else {
-        return Err("`ab` is a name".into());
-    };
-    expect_rests(&rt, &name, LISTINGS);
-    Ok(())
 }

@@ -3,7 +3,6 @@ use mt_base::{Holder, Kind, Range, Reply, Shortage};
 use mt_log::{
     Answer, Entries, Entry, Listing, Listings, RangeList, Said, Transcript, Word, render,
 };
-use mt_made::summarise;
 use std::alloc::{AllocError, Global};
 use std::process::Abort;
 use std::test::Fail;
@@ -40,14 +39,6 @@ const SHORT: Shortage = Shortage {
     live: 4,
     held: 20,
     by: Some(Holder { pass: 3, epoch: 5 }),
-};
-
-const FEW: Shortage = Shortage {
-    need: 4,
-    free: 3,
-    live: 1,
-    held: 0,
-    by: None,
 };
 
 /// One entry of each kind at the least.
@@ -131,58 +122,6 @@ tree a_1 alloc32 0
 /// A tree of each kind and its ranges, at the end.
 type Lists = &'static [(Kind, &'static [Range])];
 
-const FIRST: Range = range!(0, 275, 951_723);
-
-const SECOND: Range = range!(276, 636, 951_723);
-
-/// What three steps were told, the trees at the end, and the line that sums it up.
-const SUMMARIES: &[(&[Entry], Lists, &str)] = &[
-    (
-        &[
-            entry!(4 wrote 1, Reply::None),
-            entry!(4 wrote 1, Reply::Start(0)),
-            entry!(4 wrote 1, Reply::Start(276)),
-        ],
-        &[(Kind::Alloc, &[FIRST, SECOND])],
-        "trial 3 ok 0 start 2 was 0 none 1 exists 0 invalid 0 busy 0 nomem 0 entry 0 range 0 ranges 2",
-    ),
-    // Each word is counted by itself.
-    (
-        &[
-            entry!(4 wrote 1, Reply::Ok),
-            entry!(4 wrote 1, Reply::Was(range!(4, 4, 5))),
-            entry!(4 wrote 1, Reply::None),
-            entry!(5 got 1, 2, Answer::None),
-            entry!(4 wrote 1, Reply::Exists),
-            entry!(4 wrote 1, Reply::Invalid),
-            entry!(4 wrote 1, Reply::Busy),
-            entry!(4 wrote 1, Reply::NoNodes(FEW)),
-            entry!(5 got 1, 2, Answer::Entry(5)),
-            entry!(5 got 1, 2, Answer::Range(FIRST)),
-            entry!(6 copied 1),
-            entry!(7 lawful 1),
-        ],
-        &[(Kind::Alloc, &[FIRST]), (Kind::Alloc, &[FIRST, SECOND])],
-        "trial 3 ok 1 start 0 was 1 none 2 exists 1 invalid 1 busy 1 nomem 1 entry 1 range 1 ranges 3",
-    ),
-    // A store is done, whether it overwrote an entry or not.
-    (
-        &[
-            entry!(4 wrote 1, Reply::Over(5)),
-            entry!(5 wrote 2, Reply::Ok),
-            entry!(6 wrote 3, Reply::Over(6)),
-            entry!(7 wrote 4, Reply::Was(FIRST)),
-        ],
-        &[],
-        "trial 3 ok 3 start 0 was 1 none 0 exists 0 invalid 0 busy 0 nomem 0 entry 0 range 0 ranges 0",
-    ),
-    (
-        &[],
-        &[],
-        "trial 3 ok 0 start 0 was 0 none 0 exists 0 invalid 0 busy 0 nomem 0 entry 0 range 0 ranges 0",
-    ),
-];
-
 fn transcript(
     alloc: Global,
     version: u32,
@@ -233,23 +172,4 @@ fn expect_printed(
 #[test]
 fn a_transcript_is_printed_line_by_line(rt: HostRuntime) -> Result<(), Fail> {
     expect_printed(&rt, rt.alloc(), ENTRIES, LISTS, PRINTED)
-}
-
-/// Each of these is summed up in its line.
-fn expect_summaries(
-    rt: &impl Abort,
-    alloc: Global,
-    summaries: &[(&[Entry], Lists, &str)],
-) -> Result<(), Fail> {
-    for &(entries, lists, want) in summaries {
-        let summary = summarise(3, &transcript(alloc, 1, entries, lists)?);
-        let line = format!(in alloc; "{summary}")?;
-        same(rt, line.as_str(), want, want);
-    }
-    Ok(())
-}
-
-#[test]
-fn what_three_steps_were_told_is_summed_up(rt: HostRuntime) -> Result<(), Fail> {
-    expect_summaries(&rt, rt.alloc(), SUMMARIES)
 }
