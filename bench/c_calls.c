@@ -55,6 +55,60 @@ static void walks(struct maple_tree *t) {
     SAME("above all", maple_step(t, &walk, &got), ENOENT);
 }
 
+/* A walk up to a bound: it has ended as soon as no range is left. */
+static void walk_to(struct maple_tree *t) {
+    struct maple_walk walk = {.next = draw(SPAN + 9)};
+    struct maple_range got;
+    uint64_t max = draw(2) ? walk.next + draw(200) : draw(SPAN + 9);
+    for (size_t at = from(walk.next); walk.next <= max && at < count && list[at].first <= max; at++) {
+        SAME("a step", maple_step_to(t, &walk, max, &got), 0);
+        same_range(&got, list + at, __LINE__);
+        SAME("where it goes on", walk.ended, got.last >= max);
+        if (walk.ended) break;
+    }
+    SAME("the end", maple_step_to(t, &walk, max, &got), ENOENT); same_range(&got, &none, __LINE__);
+    SAME("it has ended", walk.ended, 1);
+}
+
+/* How the tree uses its rows, which a store of what is there changes by a call alone. */
+static void rows_in(struct maple_tree *t, uint64_t rows) {
+    struct maple_stats stats, after;
+    struct maple_form form;
+    uint64_t word;
+    SAME("stats", maple_stats(t, &stats), 0); SAME("a check", maple_check(t, &form), 0);
+    SAME("its rows", stats.rows, rows); SAME("all of them", stats.free + stats.live + stats.held, rows);
+    SAME("in use", stats.live, form.rows); SAME("its height", stats.height, form.height);
+    if (count) SAME("a store", maple_store(t, list[0].first, list[0].last, list[0].entry ? list[0].entry : 1, &word), 0);
+    SAME("stats", maple_stats(t, &after), 0); SAME("a call more", after.calls, stats.calls + (count > 0)); SAME("as many", after.live, stats.live);
+}
+
+/* A tree of so many rows as hold so many ranges refuses no call for want of them while it has no more, whatever the calls. */
+static void enough_rows(uint32_t kind) {
+    SAME("no such tree", maple_rows_for(131008), UINT64_MAX); SAME("nor of more", maple_rows_for(UINT64_MAX), UINT64_MAX);
+    SAME("so many for 50", maple_rows_for(50), 50 / 2 + 3 * 3 + 3);
+    for (uint64_t most = 0; most < 700; most = 2 * most + 1) {
+        struct maple_tree t = {0};
+        struct maple_range was;
+        uint64_t word, span = 3 * most + 4;
+        count = 0;
+        SAME("open", maple_open(&t, kind, maple_rows_for(most)), 0);
+        for (int step = 0; step < 3000; step++) {
+            uint64_t first = draw(3) ? draw(span) : draw(9), last = first + draw(3), entry = draw(4) ? 4096 + draw(9) : 0;
+            if (count <= most && draw(5)) {
+                SAME("a store", maple_store(&t, first, last, entry, &word), 0); SAME("over", word, over(first, last, entry));
+            } else if (count) {
+                size_t at = draw(count);
+                struct maple_range there = list[at];
+                if (count > most) { SAME("cleared", maple_clear(&t), 0); count = 0; continue; }
+                SAME("an erase", maple_erase(&t, there.first, &was), 0);
+                drop(at);
+            }
+        }
+        maple_close(&t);
+    }
+    count = 0;
+}
+
 /* Opens another tree with the same map, in one of three ways, each refused first where it has to be. */
 static void again(struct maple_tree *t, struct maple_tree *other, uint32_t kind) {
     static uint8_t bytes[1 << 22], more[1 << 22];
@@ -68,7 +122,7 @@ static void again(struct maple_tree *t, struct maple_tree *other, uint32_t kind)
         if (form.rows) SAME("too few rows for a copy", maple_copy(t, other, form.rows - 1), EDOM);
         SAME("too many", maple_copy(t, other, MAPLE_MOST_ROWS + 1), EDOM);
         SAME("a copy", maple_copy(t, other, draw(2) ? 4096 : 4000), 0);
-        SAME("a copy twice", maple_copy(t, other, 4096), EBUSY);
+        SAME("a copy twice", maple_copy(t, other, 4096), EALREADY);
         SAME("its check", maple_check(other, &read), 0);
         SAME("its form", memcmp(&form, &read, sizeof form), 0);
         break;
@@ -80,7 +134,7 @@ static void again(struct maple_tree *t, struct maple_tree *other, uint32_t kind)
         SAME("a cut one", maple_open_image(other, bytes, size - 1, 4096), EBADMSG);
         if (form.rows) SAME("too few rows for it", maple_open_image(other, bytes, size, form.rows - 1), EDOM);
         SAME("an image opened", maple_open_image(other, bytes, size, 4096), 0);
-        SAME("opened twice", maple_open_image(other, bytes, size, 4096), EBUSY);
+        SAME("opened twice", maple_open_image(other, bytes, size, 4096), EALREADY);
         SAME("its image", maple_image(other, more, sizeof more, &used), 0);
         SAME("the same bytes", used == size && !memcmp(bytes, more, size), 1);
         break;
@@ -97,7 +151,7 @@ static void again(struct maple_tree *t, struct maple_tree *other, uint32_t kind)
         }
         SAME("no kind", maple_build(other, 4, 4096, list, count, &at), EINVAL); SAME("no place", at, 0);
         SAME("built", maple_build(other, kind, 4096, list, count, &at), 0); SAME("no place", at, 0);
-        SAME("built twice", maple_build(other, kind, 4096, list, count, &at), EBUSY);
+        SAME("built twice", maple_build(other, kind, 4096, list, count, &at), EALREADY);
         SAME("its check", maple_check(other, &read), 0);
         SAME("its ranges", read.ranges, count);
     }
@@ -154,24 +208,27 @@ static void act(struct maple_tree *t, uint32_t kind) {
 static void closed(struct maple_tree *t) {
     struct maple_range r = {7, 7, 7};
     uint64_t word = 7;
-    SAME("closed", maple_store(t, 1, 2, 3, &word), EINVAL); SAME("closed", word, 0);
-    SAME("closed", maple_store_pre(t, 1, 2, 3, &word), EINVAL); SAME("closed", maple_insert(t, 1, 2, 3), EINVAL);
-    SAME("closed", maple_erase(t, 1, &r), EINVAL); same_range(&r, &none, __LINE__);
-    SAME("closed", maple_alloc(t, 1, 0, 9, 4, &word), EINVAL); SAME("closed", maple_ralloc(t, 1, 0, 9, 4, &word), EINVAL);
-    SAME("closed", maple_gap(t, 1, 0, 9, &word), EINVAL); SAME("closed", maple_rgap(t, 1, 0, 9, &word), EINVAL);
-    SAME("closed", maple_clear(t), EINVAL); SAME("closed", maple_load(t, 1, &r), EINVAL);
-    SAME("closed", maple_find(t, 1, 9, &r), EINVAL); SAME("closed", maple_next(t, 1, 9, &r), EINVAL);
-    SAME("closed", maple_prev(t, 1, 0, &r), EINVAL); SAME("closed", maple_rfind(t, 1, 0, &r), EINVAL);
-    SAME("closed", maple_preallocate(t), EINVAL); SAME("closed", maple_store_prealloc(t, 1, 2, 3, &word), EINVAL);
+    SAME("closed", maple_store(t, 1, 2, 3, &word), EBADF); SAME("closed", word, 0);
+    SAME("closed", maple_store_pre(t, 1, 2, 3, &word), EBADF); SAME("closed", maple_insert(t, 1, 2, 3), EBADF);
+    SAME("closed", maple_erase(t, 1, &r), EBADF); same_range(&r, &none, __LINE__);
+    SAME("closed", maple_alloc(t, 1, 0, 9, 4, &word), EBADF); SAME("closed", maple_ralloc(t, 1, 0, 9, 4, &word), EBADF);
+    SAME("closed", maple_gap(t, 1, 0, 9, &word), EBADF); SAME("closed", maple_rgap(t, 1, 0, 9, &word), EBADF);
+    SAME("closed", maple_clear(t), EBADF); SAME("closed", maple_load(t, 1, &r), EBADF);
+    SAME("closed", maple_find(t, 1, 9, &r), EBADF); SAME("closed", maple_next(t, 1, 9, &r), EBADF);
+    SAME("closed", maple_prev(t, 1, 0, &r), EBADF); SAME("closed", maple_rfind(t, 1, 0, &r), EBADF);
+    SAME("closed", maple_preallocate(t), EBADF); SAME("closed", maple_store_prealloc(t, 1, 2, 3, &word), EBADF);
     struct maple_walk walk = {5, 0};
+    struct maple_stats stats = {7, 7, 7, 7, 7, 7};
     struct maple_form form = {7, 7, 7};
     struct maple_tree copy = {0};
     uint8_t out[4] = {7, 7, 7, 7};
     size_t used = 7;
-    SAME("closed", maple_step(t, &walk, &r), EINVAL); SAME("the walk as it was", walk.next, 5); SAME("not ended", walk.ended, 0);
-    SAME("closed", maple_check(t, &form), EINVAL); SAME("no form", form.height + form.rows + form.ranges, 0);
-    SAME("closed", maple_copy(t, &copy, 9), EINVAL); SAME("no copy", maple_clear(&copy), EINVAL);
-    SAME("closed", maple_image(t, out, 4, &used), EINVAL); SAME("no bytes", used, 0); SAME("as before", out[0], 7);
+    SAME("closed", maple_step(t, &walk, &r), EBADF); SAME("the walk as it was", walk.next, 5); SAME("not ended", walk.ended, 0);
+    SAME("closed", maple_step_to(t, &walk, 9, &r), EBADF); SAME("the walk as it was", walk.next, 5); SAME("not ended", walk.ended, 0);
+    SAME("closed", maple_stats(t, &stats), EBADF); SAME("no rows", stats.rows + stats.free + stats.live + stats.held + stats.height + stats.calls, 0);
+    SAME("closed", maple_check(t, &form), EBADF); SAME("no form", form.height + form.rows + form.ranges, 0);
+    SAME("closed", maple_copy(t, &copy, 9), EBADF); SAME("no copy", maple_clear(&copy), EBADF);
+    SAME("closed", maple_image(t, out, 4, &used), EBADF); SAME("no bytes", used, 0); SAME("as before", out[0], 7);
     maple_close(t);
 }
 
@@ -181,9 +238,9 @@ static void opens(void) {
     uint64_t word;
     closed(&t);
     SAME("no kind", maple_open(&t, 4, 100), EINVAL); closed(&t);
-    SAME("too many rows", maple_open(&t, MAPLE_RANGE, MAPLE_MOST_ROWS + 1), EINVAL); closed(&t);
+    SAME("too many rows", maple_open(&t, MAPLE_RANGE, MAPLE_MOST_ROWS + 1), EDOM); closed(&t);
     SAME("open", maple_open(&t, MAPLE_RANGE32, 100), 0);
-    SAME("open twice", maple_open(&t, MAPLE_RANGE, 100), EBUSY);
+    SAME("open twice", maple_open(&t, MAPLE_RANGE, 100), EALREADY);
     SAME("above 32 bits", maple_store(&t, 0, (uint64_t)UINT32_MAX + 1, 4, &word), EINVAL);
     SAME("to the top", maple_store(&t, 7, UINT32_MAX, 4, &word), 0);
     SAME("at the top", maple_load(&t, UINT32_MAX, &r), 0);
@@ -247,11 +304,14 @@ int main(int argc, char **argv) {
     entries();
     for (uint32_t kind = 0; kind < 4; kind++) {
         struct maple_tree trees[2] = {{0}, {0}}, *t = trees, *other = trees + 1;
-        count = 0;
+        enough_rows(kind);
         SAME("open", maple_open(t, kind, 4096), 0);
+        rows_in(t, 4096);
         for (uint64_t step = 0; step < steps; step++) {
             act(t, kind);
             if (step % 4 == 0) ask(t);
+            if (step == 1400) rows_in(t, 4096);
+            if (step % 10 == 9) walk_to(t);
             if (step % 1000 == 999) { whole(t); walks(t); }
             if (step % 1500 == 1499) {
                 again(t, other, kind);

@@ -51,7 +51,7 @@ static void alone(uint32_t kind) {
     IS(maple_image(&tree, bytes, sizeof bytes, &used) == 0);
     IS(maple_open_image(&image, bytes, used, 300) == 0);
     IS(maple_build(&built, kind, 300, ranges, 50, &at) == 0);
-    IS(maple_open(&tree, kind, 300) == EBUSY && maple_copy(&tree, &copy, 300) == EBUSY);
+    IS(maple_open(&tree, kind, 300) == EALREADY && maple_copy(&tree, &copy, 300) == EALREADY);
     maple_close(&tree);
     maple_close(&copy);
     maple_close(&image);

@@ -13,11 +13,11 @@ os.chdir(os.path.join(os.path.dirname(os.path.abspath(__file__)), ".."))
 # What C has for the types of the exports, and of the declarations in Rust.
 STRUCTS = {
     "Handle": "maple_tree", "UserHandle": "maple_user", "OutRange": "maple_range", "OutWalk": "maple_walk",
-    "OutForm": "maple_form", "Window": "maple_read", "Outcome": "maple_done",
+    "OutForm": "maple_form", "OutStats": "maple_stats", "Window": "maple_read", "Outcome": "maple_done",
 }
 IN_RUST = {
     "RawTree": "maple_tree", "RawUser": "maple_user", "RawRange": "maple_range", "Range": "maple_range",
-    "RawWalk": "maple_walk", "RawForm": "maple_form", "RawRead": "maple_read", "RawDone": "maple_done",
+    "RawWalk": "maple_walk", "RawForm": "maple_form", "RawStats": "maple_stats", "RawRead": "maple_read", "RawDone": "maple_done",
 }
 WORDS = {"u8": "uint8_t", "u32": "uint32_t", "u64": "uint64_t", "usize": "size_t"}
 

@@ -21,19 +21,24 @@ static void same_read(uint32_t status, const struct maple_read *got, const struc
     if (got->lo != made || got->hi != made) fail("the window of a read", line);
 }
 
+/* What a call tells of rows, which is none but where it lacks some. */
+static uint64_t rows_told(const struct maple_done *got) {
+    return got->need | got->free | got->live | got->held | got->by | got->epoch;
+}
+
 /* A call that was made tells its number, a word and a range. */
 static void same_done(const struct maple_done *got, uint64_t word, const struct maple_range *was, int line) {
     struct maple_range range = {got->first, got->last, got->entry};
     answers += 2;
     if (got->call != ++made) fail("the number of a call", line);
-    if (got->word != word) fail("the word of a call", line);
+    if (got->word != word || rows_told(got)) fail("the word of a call", line);
     same_range(&range, was ? was : &none, line);
 }
 
 /* Where none was made it tells zeros. */
 static void none_done(const struct maple_done *got, int line) {
     answers++;
-    if (got->call | got->word | got->first | got->last | got->entry) fail("what is told of no call", line);
+    if (got->call | got->word | got->first | got->last | got->entry | rows_told(got)) fail("what is told of no call", line);
 }
 
 static void none_read(const struct maple_read *got, int line) {
@@ -85,6 +90,22 @@ static void walks(struct maple_user *u) {
     SAME("it stays so", memcmp(&kept, &walk, sizeof walk), 0);
     walk = (struct maple_walk){.next = UINT64_MAX};
     same_read(maple_shared_step(u, &walk, &got), &got, 0, __LINE__);
+}
+
+/* A walk up to a bound, with a pause now and then: it has ended as soon as no range is left. */
+static void walk_to(struct maple_user *u) {
+    struct maple_walk walk = {.next = draw(SPAN + 9)};
+    struct maple_read got;
+    uint64_t max = draw(2) ? walk.next + draw(200) : draw(SPAN + 9);
+    for (size_t at = from(walk.next); walk.next <= max && at < count && list[at].first <= max; at++) {
+        uint32_t status = maple_shared_step_to(u, &walk, max, &got);
+        same_read(status, &got, list + at, __LINE__);
+        SAME("where it goes on", walk.ended, got.last >= max);
+        if (walk.ended) break;
+        if (draw(9) == 0) SAME("a pause", maple_pause(u), 0);
+    }
+    same_read(maple_shared_step_to(u, &walk, max, &got), &got, 0, __LINE__);
+    SAME("it has ended", walk.ended, 1);
 }
 
 /* ---- calls, of which half are those that would wait */
@@ -148,7 +169,7 @@ static void meet(void) {
     uint64_t calls = 7, places = 7;
     for (int i = 0; i < USERS - 1; i++) {
         if (draw(2)) SAME("all is learnt", draw(2) ? maple_learn(users + i, made) : maple_wait_learn(users + i, made), 0);
-        SAME("no more", maple_learn(users + i, made + 1), EAGAIN);
+        SAME("no more", maple_learn(users + i, made + 1), EINPROGRESS);
         SAME("in step", draw(2) ? maple_sync(users + i, &calls) : maple_wait_sync(users + i, &calls), 0);
         SAME("so many calls", calls, made);
     }
@@ -164,28 +185,83 @@ static void come_and_go(void) {
     struct maple_read got;
     uint64_t calls = 7, places = 7;
     SAME("comes", draw(2) ? maple_share(any(), last) : maple_wait_share(any(), last), 0);
-    SAME("is there", maple_share(any(), last), EBUSY);
+    SAME("is there", maple_share(any(), last), EALREADY);
     SAME("no more places", maple_share(any(), &more), EUSERS);
-    SAME("is none", maple_shared_load(&more, 1, &got), EINVAL); none_read(&got, __LINE__);
+    SAME("is none", maple_shared_load(&more, 1, &got), EBADF); none_read(&got, __LINE__);
     SAME("settled", maple_settle(last, &calls, &places), 0);
     SAME("so many calls", calls, made);
     SAME("no free place", places, 0);
     same_read(maple_shared_step(last, &walk, &got), &got, count ? list : 0, __LINE__);
     SAME("goes", draw(2) ? maple_leave(last) : maple_wait_leave(last), 0);
-    SAME("has gone", maple_leave(last), EINVAL);
+    SAME("has gone", maple_leave(last), EBADF);
+}
+
+/* A shared tree with the map of one of one thread, once it may be opened. */
+static void of_tree(uint32_t kind) {
+    static uint8_t bytes[1 << 22];
+    struct maple_tree t = {0};
+    struct maple_user u = {0};
+    struct maple_walk walk = {0};
+    struct maple_form form;
+    struct maple_read got;
+    struct maple_done done;
+    size_t used = 7;
+    uint64_t at = 7;
+    SAME("a closed one", maple_shared_of_tree(&t, &u, 4096, 2, 9), EBADF);
+    SAME("built", maple_build(&t, kind, 4096, list, count, &at), 0);
+    SAME("checked", maple_check(&t, &form), 0);
+    SAME("no such rows", maple_shared_of_tree(&t, &u, 3, 2, 9), EDOM); SAME("nor so many", maple_shared_of_tree(&t, &u, MAPLE_MOST_ROWS + 1, 2, 9), EDOM);
+    SAME("no users", maple_shared_of_tree(&t, &u, 4096, 0, 9), EUSERS); SAME("no calls", maple_shared_of_tree(&t, &u, 4096, 2, 0), EOVERFLOW);
+    if (form.rows > 4) SAME("too few rows", maple_shared_of_tree(&t, &u, form.rows - 1, 2, 9), EDOM);
+    SAME("so none", maple_pause(&u), EBADF);
+    SAME("shared", maple_shared_of_tree(&t, &u, form.rows > 4 ? form.rows + draw(2) : 4, 2, 9), 0);
+    SAME("shared twice", maple_shared_of_tree(&t, &u, 4096, 2, 9), EALREADY);
+    if (draw(2)) {
+        SAME("its image", maple_image(&t, bytes, sizeof bytes, &used), 0);
+        SAME("open", maple_shared_open_image(&u, bytes, used, 4096, 2, 9), EALREADY);
+        maple_shared_close(&u);
+        SAME("a cut one", maple_shared_open_image(&u, bytes, used - 1, 4096, 2, 9), EBADMSG);
+        if (form.rows > 4) SAME("too few rows", maple_shared_open_image(&u, bytes, used, form.rows - 1, 2, 9), EDOM);
+        SAME("no users", maple_shared_open_image(&u, bytes, used, 4096, 63, 9), EUSERS);
+        SAME("of an image", maple_shared_open_image(&u, bytes, used, 4096, 2, 9), 0);
+    } else {
+        SAME("open", maple_shared_build(&u, kind, list, count, 4096, 2, 9, &at), EALREADY); SAME("no place", at, 0);
+        maple_shared_close(&u);
+        SAME("no kind", maple_shared_build(&u, 4, list, count, 4096, 2, 9, &at), EINVAL); SAME("no place", at, 0);
+        SAME("too few rows", maple_shared_build(&u, kind, list, count, 3, 2, 9, &at), EDOM); SAME("no place", at, 0);
+        SAME("no calls", maple_shared_build(&u, kind, list, count, 4096, 2, 0, &at), EOVERFLOW); SAME("no place", at, 0);
+        if (count > 1) {
+            struct maple_range twice[2] = {list[1], list[0]};
+            SAME("no order", maple_shared_build(&u, kind, twice, 2, 4096, 2, 9, &at), EINVAL); SAME("where", at, 1);
+        }
+        SAME("built", maple_shared_build(&u, kind, list, count, 4096, 2, 9, &at), 0); SAME("no place", at, 0);
+    }
+    maple_close(&t);
+    for (at = 0; at < count; at++) {
+        struct maple_range range;
+        SAME("a step", maple_shared_step(&u, &walk, &got), 0);
+        range = (struct maple_range){got.first, got.last, got.entry};
+        same_range(&range, list + at, __LINE__);
+        SAME("no call yet", got.lo | got.hi, 0);
+    }
+    SAME("no more", maple_shared_step(&u, &walk, &got), ENOENT);
+    SAME("its first call", maple_try_clear(&u, &done), 0); SAME("is the first", done.call, 1);
+    maple_shared_close(&u);
 }
 
 static void closed(struct maple_user *u) {
     struct maple_read r = {7, 7, 7, 7, 7};
-    struct maple_done d = {7, 7, 7, 7, 7};
+    struct maple_done d = {7, 7, 7, 7, 7, 7, 7, 7, 7, 7, 7};
     struct maple_user other = {0};
     struct maple_walk walk = {5, 0};
     uint64_t calls = 7, places = 7;
-#define CLOSED(made_by) SAME("closed", made_by, EINVAL)
+#define CLOSED(made_by) SAME("closed", made_by, EBADF)
 #define NO_READ(made_by) CLOSED(made_by); none_read(&r, __LINE__); r.hi = 7
 #define NO_CALL(made_by) CLOSED(made_by); none_done(&d, __LINE__); d.call = 7
     NO_READ(maple_shared_load(u, 1, &r)); NO_READ(maple_shared_find(u, 1, 9, &r)); NO_READ(maple_shared_next(u, 1, 9, &r));
     NO_READ(maple_shared_prev(u, 1, 0, &r)); NO_READ(maple_shared_rfind(u, 1, 0, &r)); NO_READ(maple_shared_step(u, &walk, &r));
+    NO_READ(maple_shared_step_to(u, &walk, 9, &r)); CLOSED(maple_pause(u));
+    CLOSED(maple_place(u, &places)); SAME("no place", places, 0); places = 7;
     SAME("the walk as it was", walk.next, 5); SAME("not ended", walk.ended, 0);
     NO_CALL(maple_try_store(u, 1, 2, 3, &d)); NO_CALL(maple_try_store_pre(u, 1, 2, 3, &d)); NO_CALL(maple_try_insert(u, 1, 2, 3, &d));
     NO_CALL(maple_try_erase(u, 1, &d)); NO_CALL(maple_try_alloc(u, 1, 0, 9, 4, &d)); NO_CALL(maple_try_ralloc(u, 1, 0, 9, 4, &d));
@@ -204,14 +280,14 @@ static void opens(void) {
     uint64_t calls;
     closed(&u);
     SAME("no kind", maple_shared_open(&u, 4, 100, 1, 9), EINVAL); closed(&u);
-    SAME("too few rows", maple_shared_open(&u, MAPLE_RANGE, 3, 1, 9), EINVAL);
-    SAME("too many", maple_shared_open(&u, MAPLE_RANGE, MAPLE_MOST_ROWS + 1, 1, 9), EINVAL);
-    SAME("no users", maple_shared_open(&u, MAPLE_RANGE, 100, 0, 9), EINVAL);
-    SAME("too many", maple_shared_open(&u, MAPLE_RANGE, 100, MAPLE_MOST_USERS + 1, 9), EINVAL);
-    SAME("no calls", maple_shared_open(&u, MAPLE_RANGE, 100, 1, 0), EINVAL);
-    SAME("too many", maple_shared_open(&u, MAPLE_RANGE, 100, 1, MAPLE_MOST_CALLS + 1), EINVAL); closed(&u);
+    SAME("too few rows", maple_shared_open(&u, MAPLE_RANGE, 3, 1, 9), EDOM);
+    SAME("too many", maple_shared_open(&u, MAPLE_RANGE, MAPLE_MOST_ROWS + 1, 1, 9), EDOM);
+    SAME("no users", maple_shared_open(&u, MAPLE_RANGE, 100, 0, 9), EUSERS);
+    SAME("too many", maple_shared_open(&u, MAPLE_RANGE, 100, MAPLE_MOST_USERS + 1, 9), EUSERS);
+    SAME("no calls", maple_shared_open(&u, MAPLE_RANGE, 100, 1, 0), EOVERFLOW);
+    SAME("too many", maple_shared_open(&u, MAPLE_RANGE, 100, 1, MAPLE_MOST_CALLS + 1), EOVERFLOW); closed(&u);
     SAME("open", maple_shared_open(&u, MAPLE_RANGE32, 100, MAPLE_MOST_USERS, 4), 0);
-    SAME("open twice", maple_shared_open(&u, MAPLE_RANGE, 100, 1, 9), EBUSY);
+    SAME("open twice", maple_shared_open(&u, MAPLE_RANGE, 100, 1, 9), EALREADY);
     SAME("another", maple_share(&u, &other), 0);
     /* indexes of 32 bits, and four calls in all */
     SAME("above 32 bits", maple_try_store(&u, 0, (uint64_t)UINT32_MAX + 1, 4, &done), EINVAL); SAME("a call", done.call, 1);
@@ -232,6 +308,7 @@ static void opens(void) {
 /* A walk that is not gone on with holds the rows of its leaf, and so at last all that die: till its user does something else. */
 static void holds(void) {
     struct maple_user u = {0}, other = {0};
+    uint64_t place = 7;
     struct maple_walk walk = {0};
     struct maple_read read;
     struct maple_done done;
@@ -244,8 +321,11 @@ static void holds(void) {
     for (i = 0; i < 100 && !status; i++) status = maple_try_store_pre(&u, 10 * (i % 8) + 1, 10 * (i % 8) + 2, 4 * (i % 2) + 8, &done);
     SAME("too few rows", status, ENOMEM);
     SAME("a call all the same", done.call, 8 + i);
-    SAME("something else", maple_shared_load(&other, 1, &read), 0);
+    SAME("all rows", done.free + done.live + done.held, 12); SAME("too few", done.free < done.need, 1); SAME("some are held", done.held > 0, 1);
+    SAME("who has a place", maple_place(&other, &place), 0); SAME("by that one", done.by, place); SAME("since that step", done.epoch, 8);
+    SAME("it gives up its walk", maple_pause(&other), 0);
     SAME("rows again", maple_try_store_pre(&u, 1, 2, 4, &done), 0);
+    SAME("a pause on no walk", maple_pause(&other), 0);
     maple_shared_close(&other);
     maple_shared_close(&u);
 }
@@ -265,7 +345,9 @@ int main(int argc, char **argv) {
             if (step % 4 == 0) ask(any());
             if (step % 100 == 99) meet();
             if (step % 300 == 299) come_and_go();
+            if (step % 10 == 9) walk_to(any());
             if (step % 1000 == 999) walks(any());
+            if (step % 3000 == 2999) of_tree(kind);
         }
         SAME("clear", EITHER(clear, any(), &done), 0); same_done(&done, 0, 0, __LINE__);
         count = 0;

@@ -213,14 +213,13 @@ static void *three_steps(void *p) {
 /* A thread steps three times and ends, its walk as it is: then the rows that die are not free, and calls are refused before long. Who
  * has its user behind it gives the leaf back, and none is. */
 static void leave_unfinished(void) {
-    struct maple_read read;
     pthread_t thread;
     uint64_t n = 0;
     open_small(40);
     if (pthread_create(&thread, NULL, three_steps, NULL) || pthread_join(thread, NULL)) fail("a thread that steps", 0);
     while (n < 1000 && replace_leaf(n) == 0) n++;
     if (n == 1000) fail("calls were made beside a walk that is left", n);
-    (void)maple_shared_load(&walker.user, 0, &read);
+    same("a pause", maple_pause(&walker.user), 0);
     for (n = 0; n < 1000; n++) same("a call behind it", replace_leaf(n), 0);
     close_small();
 }
@@ -228,13 +227,13 @@ static void leave_unfinished(void) {
 /* Steps slowly, and finds each range that stands all the time once in each walk. */
 static void *steps_slowly(void *p) {
     const struct timespec shortly = {0, 1000000};
-    struct maple_read read, other;
+    struct maple_read read;
     for (int steps = 0; steps < SLOW_STEPS;) {
         struct maple_walk walk = {0};
         uint64_t at = 0;
         for (; maple_shared_step(&walker.user, &walk, &read) == 0; steps++) {
             if (read.first % 10 == 0) same("a range that stands", read.first, 10 * at++);
-            if (walker.gives_back) (void)maple_shared_load(&walker.user, 0, &other);
+            if (walker.gives_back) same("a pause", maple_pause(&walker.user), 0);
             nanosleep(&shortly, NULL);
         }
         same("all of them", at, WALKED);
@@ -305,10 +304,10 @@ static void make_log(FILE *log, const char *kind, int rooms, uint64_t x) {
 static void open_all(uint32_t kind) {
     struct maple_user *first = &lanes[0].user, none = {0}, more[MORE] = {{0}};
     struct maple_read read;
-    same("closed", maple_shared_load(&none, 1, &read), EINVAL);
+    same("closed", maple_shared_load(&none, 1, &read), EBADF);
     same("open", maple_shared_open(first, kind, MAPLE_MOST_ROWS, LANES + MORE, 1u << 20), 0);
     for (int lane = 1; lane < LANES; lane++) same("share", maple_share(first, &lanes[lane].user), 0);
-    same("one twice", maple_share(first, &lanes[1].user), EBUSY);
+    same("one twice", maple_share(first, &lanes[1].user), EALREADY);
     for (int i = 0; i < MORE; i++) same("further ones", maple_share(first, more + i), 0);
     same("one more", maple_share(first, &none), EUSERS);
     for (int i = 0; i < MORE; i++) same("they leave", maple_leave(more + i), 0);
@@ -322,7 +321,7 @@ static void meet_all(uint64_t made) {
         for (int other = 0; other < LANES; other++) same("learn", maple_learn(user, lanes[other].last), 0);
         same("sync", maple_sync(user, &calls), 0);
         same("calls", calls, made);
-        same("learnt what was not", maple_learn(user, calls + 1), EAGAIN);
+        same("learnt what was not", maple_learn(user, calls + 1), EINPROGRESS);
     }
 }
 
@@ -357,7 +356,7 @@ static void leave_all(uint64_t made) {
     uint32_t status = maple_shared_find(last, 0, UINT64_MAX, &read);
     if (status && status != ENOENT) fail("a find when the first has gone", status);
     same("the last leaves", maple_leave(last), 0);
-    same("closed at the end", maple_learn(last, 0), EINVAL);
+    same("closed at the end", maple_learn(last, 0), EBADF);
 }
 
 /* The transcript is one of a run of the log; with another last digit it is none. */

@@ -19,7 +19,13 @@ static void pause_once(void)
 #endif
 }
 
-static void rest(unsigned *turn)
+static int is_for_later(uint32_t status)
+{
+    return status == EAGAIN || status == EINPROGRESS;
+}
+
+/* Yes, always. */
+static int rest(unsigned *turn)
 {
     if (*turn < PAUSES) {
         for (unsigned n = 0; n < 1u << *turn; n++) pause_once();
@@ -32,6 +38,7 @@ static void rest(unsigned *turn)
         errno = kept;
     }
     if (*turn < SLEEPS) ++*turn;
+    return 1;
 }
 
 #define WAITS(name, tries, params, args)                     \
@@ -39,7 +46,9 @@ static void rest(unsigned *turn)
     {                                                        \
         uint32_t status;                                     \
         unsigned turn = 0;                                   \
-        while ((status = tries args) == EAGAIN) rest(&turn); \
+        do {                                                 \
+            status = tries args;                             \
+        } while (is_for_later(status) && rest(&turn));       \
         return status;                                       \
     }
 #define AT struct maple_user *user, uint64_t first, uint64_t last, uint64_t entry

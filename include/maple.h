@@ -19,7 +19,7 @@
  *   - no call is made from a signal handler, but reads as maple_shared.h has it, and none in a child that was forked from a process
  *     with threads;
  *   - malloc, realloc and free are of one allocator, and align a block to each power of two up to 16 that divides its size.
- * A closed tree is no fault: each call says EINVAL of it.
+ * A closed tree is no fault: each call says EBADF of it, and EALREADY of an open one that it is to open.
  */
 #ifndef MAPLE_H
 #define MAPLE_H
@@ -71,6 +71,12 @@ struct maple_form {
     uint64_t height, rows, ranges;
 };
 
+/* How many rows a tree has, and how many of these are free, in use, and held, as they were in use until a call replaced them: held ones
+ * are free again where the next call looks for rows. And how many levels it has, and how many calls were made. */
+struct maple_stats {
+    uint64_t rows, free, live, held, height, calls;
+};
+
 /* What a tree is for: its calls say where a range goes, or it finds room for one (maple_alloc, maple_gap, ..) as well. */
 enum {
     MAPLE_RANGE = 0,   /* indexes of 64 bits */
@@ -81,6 +87,11 @@ enum {
 
 /* A tree has so many rows at the most; a row is a node of 256 bytes, 512 where indexes have 32 bits. */
 #define MAPLE_MOST_ROWS 65504
+
+/* So many rows surely hold so many ranges: a tree of so many rows refuses no call for want of rows (ENOMEM) that finds so many ranges or
+ * fewer there, where no walk or read of another user holds rows. UINT64_MAX: no tree has so many. It is half the ranges and some, for
+ * trees at their worst: mostly a row has 4 to 10 ranges. */
+uint64_t maple_rows_for(uint64_t ranges);
 
 /* ---- entries: any number but 0 and the reserved ones, which are below 4096 and 2 above a multiple of 4. What these make is neither. */
 
@@ -117,21 +128,21 @@ static inline void *maple_to_ptr(uint64_t entry)
 /* ---- opening and closing. Each but maple_close takes memory, those that open with a map also while they run. */
 
 /* Opens an empty tree in so many rows, whose memory is taken here, once for all calls. In 0 rows no range can be stored.
- * 0; EBUSY: it is open, and stays as it was; EINVAL: no such kind, or more rows than MAPLE_MOST_ROWS; ENOMEM. */
+ * 0; EALREADY: it is open, and stays as it was; EINVAL: no such kind; EDOM: more rows than MAPLE_MOST_ROWS; ENOMEM. */
 uint32_t maple_open(struct maple_tree *tree, uint32_t kind, uint64_t rows) MAPLE_NONNULL MAPLE_CHECKED;
 
 /* Opens copy with the map of tree, in so many rows: so a tree goes on in more rows, or in fewer.
- * 0; EINVAL: tree is closed; EBUSY: copy is open, and stays as it was; EDOM: the rows are fewer than tree has in use, or more than
+ * 0; EBADF: tree is closed; EALREADY: copy is open, and stays as it was; EDOM: the rows are fewer than tree has in use, or more than
  * MAPLE_MOST_ROWS; ENOMEM. */
 uint32_t maple_copy(struct maple_tree *tree, struct maple_tree *copy, uint64_t rows) MAPLE_NONNULL MAPLE_CHECKED;
 
 /* Opens a tree with the map of an image (maple_image), which tells its kind, in so many rows.
- * 0; EBUSY: it is open, and stays as it was; EBADMSG: the bytes are no image; EDOM: the rows are fewer than the image has, or more than
+ * 0; EALREADY: it is open, and stays as it was; EBADMSG: the bytes are no image; EDOM: the rows are fewer than the image has, or more than
  * MAPLE_MOST_ROWS; ENOMEM. */
 uint32_t maple_open_image(struct maple_tree *tree, const uint8_t *bytes, size_t length, uint64_t rows) MAPLE_NONNULL MAPLE_CHECKED;
 
 /* Opens a tree of this kind that has just these ranges, whose rows are full and are written at once, from the left.
- * 0; EBUSY: it is open, and stays as it was; EINVAL: no such kind; or the range with the number at, from 0, is none of the kind (as of
+ * 0; EALREADY: it is open, and stays as it was; EINVAL: no such kind; or the range with the number at, from 0, is none of the kind (as of
  * maple_store, and its entry is not 0) or does not stand above the one before; EDOM: the rows are fewer than the ranges need, or more
  * than MAPLE_MOST_ROWS; ENOMEM. But for such a range at is 0. */
 uint32_t maple_build(struct maple_tree *tree, uint32_t kind, uint64_t rows, const struct maple_range *ranges, size_t count, uint64_t *at)
@@ -142,7 +153,7 @@ void maple_close(struct maple_tree *tree) MAPLE_NONNULL;
 
 /* ---- calls. None takes memory.
  *
- * Besides what each says: EINVAL: the tree is closed, or the call means nothing; ENOMEM: the call wants rows, and fewer are free than
+ * Besides what each says: EBADF: the tree is closed; EINVAL: the call means nothing; ENOMEM: the call wants rows, and fewer are free than
  * three for each level and one; EOVERFLOW: the tree had 2^62 - 1 calls. Where a call answers anything but 0, no index holds another entry
  * than before. */
 
@@ -180,14 +191,14 @@ uint32_t maple_rgap(struct maple_tree *tree, uint64_t size, uint64_t min, uint64
 uint32_t maple_clear(struct maple_tree *tree) MAPLE_NONNULL MAPLE_CHECKED;
 
 /* Makes the tree ready for one store: it is where three rows for each level and one are free. It is no call of the tree.
- * 0; EINVAL: the tree is closed; ENOMEM: it is not ready. */
+ * 0; EBADF: the tree is closed; ENOMEM: it is not ready. */
 uint32_t maple_preallocate(struct maple_tree *tree) MAPLE_NONNULL MAPLE_CHECKED;
 
 /* maple_store_pre where the tree is ready. ENOMEM: it is not, and no call was made; where it is, a store is not refused for rows. */
 uint32_t maple_store_prealloc(struct maple_tree *tree, uint64_t first, uint64_t last, uint64_t entry, uint64_t *old)
     MAPLE_NONNULL MAPLE_CHECKED;
 
-/* ---- queries. None takes memory or changes a range. 0; ENOENT: there is no such range; EINVAL: the tree is closed. */
+/* ---- queries. None takes memory or changes a range. 0; ENOENT: there is no such range; EBADF: the tree is closed. */
 
 /* The range that holds index. */
 uint32_t maple_load(struct maple_tree *tree, uint64_t index, struct maple_range *range) MAPLE_NONNULL;
@@ -204,20 +215,27 @@ uint32_t maple_prev(struct maple_tree *tree, uint64_t index, uint64_t min, struc
 /* The last range that begins at index or below and ends at min or above. Where index is below min it finds none. */
 uint32_t maple_rfind(struct maple_tree *tree, uint64_t index, uint64_t min, struct maple_range *range) MAPLE_NONNULL;
 
-/* The next range of a walk, which goes on behind it. ENOENT: there is none, and the walk has ended. EINVAL: the tree is closed, and the
+/* The next range of a walk, which goes on behind it. ENOENT: there is none, and the walk has ended. EBADF: the tree is closed, and the
  * walk as it was. The tree remembers the leaf of the walk that went last, so that its next step goes down from the root no more than
  * once a leaf. Calls between two steps do no harm, nor do other walks: the walk goes on from its index, by a way from the root. */
 uint32_t maple_step(struct maple_tree *tree, struct maple_walk *walk, struct maple_range *range) MAPLE_NONNULL;
 
+/* The same of ranges that begin at max or below. ENOENT: the next one does not, or there is none, or the walk stands above max: it has
+ * ended. */
+uint32_t maple_step_to(struct maple_tree *tree, struct maple_walk *walk, uint64_t max, struct maple_range *range) MAPLE_NONNULL;
+
 /* ---- the whole tree */
 
 /* Tests each word of the tree, and tells its form. It takes no memory.
- * 0, for every call keeps them lawful; EINVAL: the tree is closed; EBADMSG: something else wrote over them. */
+ * 0, for every call keeps them lawful; EBADF: the tree is closed; EBADMSG: something else wrote over them. */
 uint32_t maple_check(struct maple_tree *tree, struct maple_form *form) MAPLE_NONNULL MAPLE_CHECKED;
+
+/* Tells how the tree uses its rows. It reads no row. 0; EBADF: the tree is closed. */
+uint32_t maple_stats(struct maple_tree *tree, struct maple_stats *stats) MAPLE_NONNULL;
 
 /* Writes the image of the tree to out: its kind, and its rows in use, in the order of a walk from the root.
  * used: how many bytes it has, 33538080 at the most. It takes memory while it runs, and leaves none.
- * 0; EINVAL: the tree is closed; ERANGE: out has fewer bytes, and used tells how many it must have; ENOMEM. But for 0 out is as before. */
+ * 0; EBADF: the tree is closed; ERANGE: out has fewer bytes, and used tells how many it must have; ENOMEM. But for 0 out is as before. */
 uint32_t maple_image(struct maple_tree *tree, uint8_t *out, size_t room, size_t *used) MAPLE_NONNULL MAPLE_CHECKED;
 
 #ifdef __cplusplus

@@ -41,7 +41,7 @@
  * What is not promised: that a try ever gets the lock, and so how long a maple_wait_store waits; how often a next, prev or rfind is
  * given up before it is answered; that memory does not run out where a call takes some.
  *
- * Every call answers a number of Linux's errno.h, and 0 where it was done; EINVAL too where the user is closed, which stays closed. What it
+ * Every call answers a number of Linux's errno.h, and 0 where it was done; EBADF too where the user is closed, which stays closed. What it
  * tells beside goes to its last pointers, which it always writes: zeros where there is nothing to tell.
  */
 #ifndef MAPLE_SHARED_H
@@ -66,9 +66,12 @@ struct maple_read {
 };
 
 /* A call: its number in the tree's history, which it has also where it was refused, and what it was answered: in word the entry that a
- * store met, or the start of an allocation or a gap; in the other three the range that was erased. Zeros where no call was made. */
+ * store met, or the start of an allocation or a gap; in the next three the range that was erased. Where rows were short (ENOMEM): how many
+ * are needed, free, in use, and held back; and where some are held, the place of the user in whose read or walk they are (maple_place), and
+ * how many calls had ended when that began. Zeros where there is nothing to tell. */
 struct maple_done {
     uint64_t call, word, first, last, entry;
+    uint64_t need, free, live, held, by, epoch;
 };
 
 /* A shared tree has so many users at a time, and so many calls in its life, at the most. It has 4 rows at the least. */
@@ -82,24 +85,47 @@ struct maple_done {
 /* ---- users that come and go */
 
 /* Opens an empty tree of a kind, in so many rows, for so many users at a time and so many calls, and its first user.
- * 0; EBUSY: the user is open, and stays as it was; EINVAL: no such kind; or the rows are not 4 to MAPLE_MOST_ROWS, the users not 1 to
- * MAPLE_MOST_USERS, or the calls not 1 to MAPLE_MOST_CALLS; ENOMEM. */
+ * 0; EALREADY: the user is open, and stays as it was; EINVAL: no such kind; EDOM: the rows are not 4 to MAPLE_MOST_ROWS; EUSERS: the users
+ * are not 1 to MAPLE_MOST_USERS; EOVERFLOW: the calls are not 1 to MAPLE_MOST_CALLS; ENOMEM. */
 uint32_t maple_shared_open(struct maple_user *user, uint32_t kind, uint64_t rows, uint32_t users, uint64_t calls) MAPLE_NONNULL MAPLE_CHECKED;
 
+/* Opens a shared tree with the map of a tree of one thread, of its kind. It has no calls yet.
+ * 0; EBADF: the tree is closed; EALREADY, EDOM, EUSERS, EOVERFLOW and ENOMEM as of maple_shared_open, and EDOM too where the rows are
+ * fewer than tree has in use. */
+uint32_t maple_shared_of_tree(struct maple_tree *tree, struct maple_user *user, uint64_t rows, uint32_t users, uint64_t calls)
+    MAPLE_NONNULL MAPLE_CHECKED;
+
+/* Opens a shared tree with the map of an image (maple_image), which tells its kind. It has no calls yet.
+ * 0; EBADMSG: the bytes are no image; EALREADY, EDOM, EUSERS, EOVERFLOW and ENOMEM as of maple_shared_open, and EDOM too where the rows
+ * are fewer than the image has. */
+uint32_t maple_shared_open_image(struct maple_user *user, const uint8_t *bytes, size_t length, uint64_t rows, uint32_t users, uint64_t calls)
+    MAPLE_NONNULL MAPLE_CHECKED;
+
+/* Opens a shared tree of this kind that has just these ranges, as maple_build. It has no calls yet.
+ * 0; EINVAL: no such kind; or the range with the number at, from 0, is none of the kind or does not stand above the one before; EALREADY,
+ * EDOM, EUSERS, EOVERFLOW and ENOMEM as of maple_shared_open, and EDOM too where the rows are fewer than the ranges need. But for such a
+ * range at is 0. */
+uint32_t maple_shared_build(struct maple_user *user, uint32_t kind, const struct maple_range *ranges, size_t count, uint64_t rows,
+                            uint32_t users, uint64_t calls, uint64_t *at) MAPLE_NONNULL MAPLE_CHECKED;
+
 /* Opens another user of the same tree, at a place that none has. Any user may, and stays as it was.
- * 0; EBUSY: the other is open; EUSERS: no place is free; EAGAIN: another user is just at the places, try again; EINVAL: the user is
+ * 0; EALREADY: the other is open; EUSERS: no place is free; EAGAIN: another user is just at the places, try again; EBADF: the user is
  * closed; ENOMEM. The other stays as it was but for 0. */
 uint32_t maple_share(struct maple_user *user, struct maple_user *other) MAPLE_NONNULL MAPLE_CHECKED;
 
 /* Closes a user, and frees its place for another.
- * 0; EAGAIN: another user is just at the places, try again; ENOMEM; EINVAL: it is closed already. It stays open but for 0, its walk
+ * 0; EAGAIN: another user is just at the places, try again; ENOMEM; EBADF: it is closed already. It stays open but for 0, its walk
  * given up. */
 uint32_t maple_leave(struct maple_user *user) MAPLE_NONNULL MAPLE_CHECKED;
 
 /* Closes a user at once, whose place is then lost to others. A closed one stays closed. */
 void maple_shared_close(struct maple_user *user) MAPLE_NONNULL;
 
-/* ---- reads. None takes the lock, or memory. 0; ENOENT: there is no such range; EINVAL: the user is closed. */
+/* Tells the place that the user has, from 1: done->by of another user's call tells it where that lacks rows which this one holds back.
+ * 0; EBADF: the user is closed. */
+uint32_t maple_place(struct maple_user *user, uint64_t *place) MAPLE_NONNULL;
+
+/* ---- reads. None takes the lock, or memory. 0; ENOENT: there is no such range; EBADF: the user is closed. */
 
 /* The range that holds index. */
 uint32_t maple_shared_load(struct maple_user *user, uint64_t index, struct maple_read *read) MAPLE_NONNULL;
@@ -119,18 +145,27 @@ uint32_t maple_shared_prev(struct maple_user *user, uint64_t index, uint64_t min
 uint32_t maple_shared_rfind(struct maple_user *user, uint64_t index, uint64_t min, struct maple_read *read) MAPLE_NONNULL;
 
 /* The next range of a walk, which goes on behind it: a find from where the walk stands. Any words are a walk, as in maple.h, and each
- * step is a read with a window of its own. ENOENT: there is none, and the walk has ended. EINVAL: the user is closed, and the walk as it
+ * step is a read with a window of its own. ENOENT: there is none, and the walk has ended. EBADF: the user is closed, and the walk as it
  * was. The user keeps the leaf that its last step was in until it is asked anything else, steps another walk, or the walk ends: till
  * then the rows that die are not free for calls, and those of other users are refused before long (ENOMEM): measured, when 1.3 calls that
- * replace a leaf were made for each row that was free, which is after 80,000 in 65,504 rows, a tenth of a second. So end a walk, or go on
- * with something else: a maple_shared_load of any index gives the leaf back. */
+ * replace a leaf were made for each row that was free, which is after 80,000 in 65,504 rows, a tenth of a second. So end a walk, or give
+ * it up by maple_pause. */
 uint32_t maple_shared_step(struct maple_user *user, struct maple_walk *walk, struct maple_read *read) MAPLE_NONNULL;
+
+/* The same of ranges that begin at max or below, as a find up to max. ENOENT: the next one does not, or there is none, or the walk stands
+ * above max: it has ended. Where it has ended, which also the step to the last of them says, the user keeps no leaf. */
+uint32_t maple_shared_step_to(struct maple_user *user, struct maple_walk *walk, uint64_t max, struct maple_read *read) MAPLE_NONNULL;
+
+/* Gives up the walk of the user, and its leaf: no row is held for it any more. The walk may be gone on with, by a way from the root.
+ * 0; EBADF: the user is closed. */
+uint32_t maple_pause(struct maple_user *user) MAPLE_NONNULL;
 
 /* ---- calls, as maple_store, .. of maple.h, and answered as those are. None takes memory.
  *
- * Of all: EINVAL: the call means nothing, as there, and has a number all the same; or the user is closed, and no call was made. EAGAIN:
+ * Of all: EINVAL: the call means nothing, as there, and has a number all the same. EBADF: the user is closed, and no call was made. EAGAIN:
  * another user has the lock, and no call was made. EOVERFLOW: the tree had all its calls, and no call was made. ENOMEM: too few rows are
- * free, as those are not in which a read of another user may still be; it has a number all the same. Where a call answers anything but 0,
+ * free, as those are not in which a read of another user may still be; it has a number all the same, and done tells how many rows there
+ * are: where held is not 0 a reader holds them back, and where it is, the tree is full. Where a call answers anything but 0,
  * no index holds another entry than before. Each gives up the walk of its user. */
 
 /* As maple_store: done->word is the entry that it met. */
@@ -171,7 +206,7 @@ uint32_t maple_try_clear(struct maple_user *user, struct maple_done *done) MAPLE
 
 /* The user has then seen the first so many calls at least: its reads are of no earlier moment. It is a read, and takes no lock. What
  * another user has seen is told by hi of its last read, or call of its last done: handed over, such a number is what this user is to
- * learn. 0; EAGAIN: it does not see so many yet, as while a call that has begun has not ended. */
+ * learn. 0; EINPROGRESS: it does not see so many yet, as while a call that has begun has not ended. */
 uint32_t maple_learn(struct maple_user *user, uint64_t calls) MAPLE_NONNULL MAPLE_CHECKED;
 
 /* The user has then seen the whole history, of so many calls: those of whom this tells the same number have seen the same history.
@@ -183,7 +218,8 @@ uint32_t maple_sync(struct maple_user *user, uint64_t *calls) MAPLE_NONNULL MAPL
  * 0; EAGAIN: another user has the lock, or is just at the places. */
 uint32_t maple_settle(struct maple_user *user, uint64_t *calls, uint64_t *places) MAPLE_NONNULL MAPLE_CHECKED;
 
-/* ---- calls that wait: each as the one of its name that tries, of which it never answers EAGAIN, for it tries again. Between two tries it
+/* ---- calls that wait: each as the one of its name that tries, but that it never answers EAGAIN, nor
+ * EINPROGRESS, for it tries again. Between two tries it
  * pauses the processor, then yields it, and at last sleeps, up to a millisecond at a time (c/wait.c); so a thread that waits costs the
  * others little, and may stand behind for so long when what it waits for is done. Whoever tries first gets the lock: nobody stands in a
  * line for it, and no bound is known of how often a thread finds it taken. None is made from a signal handler. */

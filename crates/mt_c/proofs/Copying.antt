@@ -54,7 +54,7 @@ boxed_with kind rows m e t t' opened begun boxed = subst (IsOpenedWith kind rows
 -- ---- what C keeps
 
 module _ (is : Parts → Type 0) (lacks : ℕ → Type 0) (before after : Option OwnTree) (status : ℕ) where
-  opens_busy : (t : OwnTree) → before ≡ Some t → after ≡ Some t → status ≡ 16 → Opens is lacks before after status
+  opens_busy : (t : OwnTree) → before ≡ Some t → after ≡ Some t → status ≡ 114 → Opens is lacks before after status
   opens_busy t was stays number = subst (λ (x : Option OwnTree). Opens is lacks x after status) (sym was) (stays, number)
 
   opens_made : (t : OwnTree) → before ≡ None → after ≡ Some t → status ≡ 0 → is t.engine → Opens is lacks before after status
@@ -64,7 +64,7 @@ module _ (is : Parts → Type 0) (lacks : ℕ → Type 0) (before after : Option
   opens_none was stays why = subst (λ (x : Option OwnTree × Option OwnTree). Opens is lacks x.0 x.1 status) (λ i. (sym was i, sym stays i)) why
 
 module _ (rows : ℕ) (before after copy copy' : Option OwnTree) (status : ℕ) where
-  pub copied_closed : before ≡ None → after ≡ None → copy' ≡ copy → status ≡ 22 → Copied rows before after copy copy' status
+  pub copied_closed : before ≡ None → after ≡ None → copy' ≡ copy → status ≡ 9 → Copied rows before after copy copy' status
   copied_closed was is same number = subst (λ (x : Option OwnTree). Copied rows x after copy copy' status) (sym was) (is, same, number)
 
   module _ (t t' : OwnTree) (was : before ≡ Some t) (is : after ≡ Some t') (asked : IsAsked t.engine t'.engine) where
@@ -78,12 +78,12 @@ module _ (rows : ℕ) (before after copy copy' : Option OwnTree) (status : ℕ) 
     copied_none none stays why = opens_so (opens_none (IsCopyIn rows t.engine) (Lacks (live_rows t.engine.sheet.tree) rows) copy copy' status none stays why)
 
   -- the copy was open, and the tree is as it was
-  pub copied_busy : (t c : OwnTree) → before ≡ Some t → after ≡ Some t → copy ≡ Some c → copy' ≡ Some c → status ≡ 16 → Copied rows before after copy copy' status
+  pub copied_busy : (t c : OwnTree) → before ≡ Some t → after ≡ Some t → copy ≡ Some c → copy' ≡ Some c → status ≡ 114 → Copied rows before after copy copy' status
   copied_busy t c was is there stays number =
       opens_so t t was is (record { rest = refl; book = refl; kind = refl }) (opens_busy (IsCopyIn rows t.engine) (Lacks (live_rows t.engine.sheet.tree) rows) copy copy' status c there stays number)
 
 module _ (bytes : List ℕ) (rows : ℕ) (before after : Option OwnTree) (status : ℕ) where
-  pub image_busy : (t : OwnTree) → before ≡ Some t → after ≡ Some t → status ≡ 16 → Opens (IsOfImage bytes rows) (LacksImage bytes rows) before after status
+  pub image_busy : (t : OwnTree) → before ≡ Some t → after ≡ Some t → status ≡ 114 → Opens (IsOfImage bytes rows) (LacksImage bytes rows) before after status
   image_busy = opens_busy (IsOfImage bytes rows) (LacksImage bytes rows) before after status
 
   pub image_opened : (t : OwnTree) → before ≡ None → after ≡ Some t → status ≡ 0 → IsOfImage bytes rows t.engine → Opens (IsOfImage bytes rows) (LacksImage bytes rows) before after status

@@ -37,7 +37,7 @@ module _ (bytes : List ℕ) (rows : ℕ) (kind : Kind) (tree : Rooted) (used : �
 -- ---- writing
 
 module _ (before after : Option OwnTree) (out out' : List ℕ) (used status : ℕ) where
-  pub imaged_closed : before ≡ None → after ≡ None → status ≡ 22 → out' ≡ out → used ≡ 0 → Imaged before after out out' used status
+  pub imaged_closed : before ≡ None → after ≡ None → status ≡ 9 → out' ≡ out → used ≡ 0 → Imaged before after out out' used status
   imaged_closed was is number same none = subst (λ (x : Option OwnTree). Imaged x after out out' used status) (sym was) (is, number, same, none)
 
   module _ (t t' : OwnTree) (was : before ≡ Some t) (is : after ≡ Some t') (asked : IsAsked t.engine t'.engine) where

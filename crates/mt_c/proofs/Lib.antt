@@ -1,5 +1,7 @@
 mod Batches
+mod Bounds
 mod Copying
+mod Counting
 mod Crossing
 mod ImagesOpened
 mod Keeping
@@ -8,5 +10,9 @@ mod RangesBuilt
 mod Reading
 mod Telling
 mod Walking
+mod Placing
 mod Sharing
+mod SharedImages
+mod SharedMaps
+mod RowsFor
 mod Using

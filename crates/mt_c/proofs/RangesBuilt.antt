@@ -84,7 +84,7 @@ module _ (code rows : ℕ) (kind : Kind) (m : List Range) (coded : kind_code kin
 -- ---- what C keeps
 
 module _ (code rows : ℕ) (m : List Range) (before after : Option OwnTree) (status at : ℕ) where
-  pub builds_busy : (t : OwnTree) → before ≡ Some t → after ≡ Some t → status ≡ 16 → at ≡ 0 → Builds code rows m before after status at
+  pub builds_busy : (t : OwnTree) → before ≡ Some t → after ≡ Some t → status ≡ 114 → at ≡ 0 → Builds code rows m before after status at
   builds_busy t was stays number place = subst (λ (x : Option OwnTree). Builds code rows m x after status at) (sym was) (stays, number, place)
 
   pub builds_made : (t : OwnTree) → before ≡ None → after ≡ Some t → status ≡ 0 → at ≡ 0 → IsOfRanges code rows m t.engine → Builds code rows m before after status at

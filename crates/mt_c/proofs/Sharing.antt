@@ -1,12 +1,10 @@
 -- What the calls of C on a shared tree say, read off what its user does.
-use Rattle.std.proofs.Common.{◌≡◌, ◌≢◌, ◌≤◌, ◌<◌, Bool, ℕ, refl, sym, ap, ◌∙◌, inl, inr, subst, Option, Some, None}
+use Rattle.std.proofs.Common.{◌≡◌, ◌≢◌, ◌≤◌, ◌<◌, Bool, ℕ, refl, sym, ap, ◌∙◌, inl, inr, subst, Option, Some, None, []}
 use Rattle.std.specs.Prelude.{◌+◌, IfErr, Ok, Result, nat_le, if◌then◌else◌}
 use Rattle.std.proofs.lemmas.Bool.{le-leb, lt-leb}
-use Rattle.std.proofs.lemmas.Option.{none-some}
 use Rattle.mt_base.specs.declared.calls.Call.{Call}
 use Rattle.mt_base.specs.declared.calls.Query.{Query}
 use Rattle.mt_base.specs.declared.kinds.Kind.{Kind}
-use Rattle.mt_base.specs.declared.kinds.Kind.TheVariants as kinds
 use Rattle.mt_base.specs.declared.calls.Query.TheVariants.{Load}
 use Rattle.mt_base.specs.declared.ranges.Range.{Range}
 use Rattle.mt_image.specs.Bytes.{kind_code}
@@ -18,6 +16,7 @@ use Rattle.mt_tree.specs.Shapes.{first_bad}
 use Rattle.mt_tree.specs.declared.shapes.Read.{Read}
 use Rattle.mt_keep.specs.declared.keep.Given.{Given}
 use Rattle.mt_tree.specs.declared.trees.Tree.{Tree}
+use Rattle.mt_tree.specs.Trees.{Takes}
 use Rattle.mt_c.specs.declared.purse.Purse.{Purse}
 use Rattle.mt_c.specs.declared.user.User.{User}
 use Rattle.mt_c.specs.declared.user_opens.Left.{Left}
@@ -26,15 +25,15 @@ use Rattle.mt_c.specs.declared.shared_told.Outcome.{Outcome}
 use Rattle.mt_c.specs.declared.steps.OutWalk.{OutWalk}
 use Rattle.mt_c.specs.declared.shared_told.Window.{Window}
 use Rattle.mt_c.specs.Receipts.{when_given, when_settled, when_synced, when_tried, when_unchanged}
-use Rattle.mt_c.specs.Shared.{HasLeft, HasSettled, HasShared, HasSynced, HasTried, IsFirst, IsUnchanged, IsOfPurse, IsSettled, Settled, IsShape, IsSynced, IsWhy, OnUser, WantsNoPlace, SharedAsked, SharedLearned, SharedLeft, SharedNew, SharedOpened, SharedSettled, SharedStepped, SharedSynced, SharedTried, SharedWith, WentToSettle, answer_status, calls_told, common_of, cuts, known_to, no_outcome, no_window, outcome_of, paused, rested, settled_status, settled_told, synced_status, tree_of, tried_status, unchanged_status, went_on, window_of}
+use Rattle.mt_c.specs.Shared.{HasLeft, HasSettled, HasShared, HasSynced, HasTried, IsBadShape, IsFirst, IsMeant, IsUnchanged, IsOfPurse, IsSettled, Settled, IsShape, IsSynced, IsWhy, OnUser, WantsNoPlace, SharedAsked, SharedLearned, SharedLeft, SharedNew, SharedOpened, SharedPaused, SharedSettled, SharedStepped, SharedSynced, SharedTried, SharedWith, WentToSettle, answer_status, calls_told, common_of, cuts, field_status, known_to, no_outcome, no_window, outcome_of, paused, rested, settled_status, settled_told, synced_status, tree_of, tried_status, unchanged_status, went_on, window_of}
 use Rattle.mt_c.specs.Walkers.{Answer, GaveUp, IsAnswer, IsAtRest, IsTried, StepsFrom, Took, Tried, TriedOnce, WentOnce, knows}
 use Rattle.mt_c.specs.Walking.{index_of}
 use Rattle.mt_c.proofs.Using.{took_still}
 
-on_open : (before after : Option User) (u v : User) (status : ℕ) (blank : Type 0) (says : User → User → Type 0) → before ≡ Some u → after ≡ Some v → common_of v ≡ common_of u → says u v → OnUser before after status blank says
+pub on_open : (before after : Option User) (u v : User) (status : ℕ) (blank : Type 0) (says : User → User → Type 0) → before ≡ Some u → after ≡ Some v → common_of v ≡ common_of u → says u v → OnUser before after status blank says
 on_open before after u v status blank says was is tree said = subst (λ (x : Option User × Option User). OnUser x.0 x.1 status blank says) (λ i. (sym was i, sym is i)) (tree, said)
 
-on_closed : (before after : Option User) (status : ℕ) (blank : Type 0) (says : User → User → Type 0) → before ≡ None → after ≡ None → status ≡ 22 → blank → OnUser before after status blank says
+pub on_closed : (before after : Option User) (status : ℕ) (blank : Type 0) (says : User → User → Type 0) → before ≡ None → after ≡ None → status ≡ 9 → blank → OnUser before after status blank says
 on_closed before after status blank says was is number told = subst (λ (x : Option User × Option User). OnUser x.0 x.1 status blank says) (λ i. (sym was i, sym is i)) (refl, number, told)
 
 pub asked_open : (query : Query) (before after : Option User) (u v : User) (answer : Answer) (status : ℕ) (out : Window) → before ≡ Some u → after ≡ Some v → common_of v ≡ common_of u → v.chair ≡ u.chair → v.receipts ≡ u.receipts
@@ -43,7 +42,7 @@ pub asked_open : (query : Query) (before after : Option User) (u v : User) (answ
 asked_open query before after u v answer status out was is common chair kept said rests took left number shown =
     on_open before after u v status _ _ was is common (answer, said, rests, took, left, record { common = common; chair = chair; receipts = kept }, number, shown)
 
-pub asked_closed : (query : Query) (before after : Option User) (status : ℕ) (out : Window) → before ≡ None → after ≡ None → status ≡ 22 → out ≡ no_window → SharedAsked query before after status out
+pub asked_closed : (query : Query) (before after : Option User) (status : ℕ) (out : Window) → before ≡ None → after ≡ None → status ≡ 9 → out ≡ no_window → SharedAsked query before after status out
 asked_closed query before after status out was is number shown = on_closed before after status _ _ was is number shown
 
 pub has_tried : (call : Call) (u v : User) (tried : Tried) (status : ℕ) (out : Outcome) → IsTried (tree_of u) (paused u) call tried (known_to v) → TriedOnce u.walker v.walker → v.chair ≡ u.chair → v.receipts ≡ when_tried tried u.receipts → status ≡ tried_status tried → out ≡ outcome_of tried
@@ -53,7 +52,7 @@ has_tried call u v tried status out said once chair kept number shown = (tried, 
 pub tried_open : (call : Call) (before after : Option User) (u v : User) (status : ℕ) (out : Outcome) → before ≡ Some u → after ≡ Some v → common_of v ≡ common_of u → HasTried call status out u v → SharedTried call before after status out
 tried_open call before after u v status out was is tree has = on_open before after u v status _ _ was is tree has
 
-pub tried_closed : (call : Call) (before after : Option User) (status : ℕ) (out : Outcome) → before ≡ None → after ≡ None → status ≡ 22 → out ≡ no_outcome → SharedTried call before after status out
+pub tried_closed : (call : Call) (before after : Option User) (status : ℕ) (out : Outcome) → before ≡ None → after ≡ None → status ≡ 9 → out ≡ no_outcome → SharedTried call before after status out
 tried_closed call before after status out was is number shown = on_closed before after status _ _ was is number shown
 
 pub stepped_open : (w w' : OutWalk) (from : Option ℕ) (before after : Option User) (u v : User) (r : Read (Option Range)) (status : ℕ) (out : Window) → from ≡ index_of w → before ≡ Some u → after ≡ Some v → common_of v ≡ common_of u → v.chair ≡ u.chair → v.receipts ≡ u.receipts
@@ -62,22 +61,29 @@ stepped_open w w' from before after u v r status out place was is common chair k
     let stepped = subst (λ (i : Option ℕ). StepsFrom (tree_of u) u.walker i r v.walker) place said in
     on_open before after u v status _ _ was is common (r, stepped, record { common = common; chair = chair; receipts = kept }, number, shown, behind)
 
-pub stepped_closed : (w w' : OutWalk) (before after : Option User) (status : ℕ) (out : Window) → before ≡ None → after ≡ None → status ≡ 22 → out ≡ no_window → w' ≡ w → SharedStepped w w' before after status out
+pub stepped_closed : (w w' : OutWalk) (before after : Option User) (status : ℕ) (out : Window) → before ≡ None → after ≡ None → status ≡ 9 → out ≡ no_window → w' ≡ w → SharedStepped w w' before after status out
 stepped_closed w w' before after status out was is number shown same = on_closed before after status _ _ was is number (shown, same)
 
+pub paused_open : (before after : Option User) (u v : User) (status : ℕ) → before ≡ Some u → after ≡ Some v → common_of v ≡ common_of u → v.chair ≡ u.chair → v.receipts ≡ u.receipts
+    → known_to v ≡ rested u → IsAtRest v.walker → Takes 1 u.walker.pass v.walker.pass → status ≡ 0 → SharedPaused before after status
+paused_open before after u v status was is common chair kept known rests takes number = on_open before after u v status _ _ was is common (known, rests, takes, record { common = common; chair = chair; receipts = kept }, number)
+
+pub paused_closed : (before after : Option User) (status : ℕ) → before ≡ None → after ≡ None → status ≡ 9 → SharedPaused before after status
+paused_closed before after status was is number = on_closed before after status _ _ was is number tt
+
 learned : (calls : ℕ) (before after : Option User) (u v : User) (r : Read (Option Range)) (status : ℕ) → before ≡ Some u → after ≡ Some v → common_of v ≡ common_of u → v.chair ≡ u.chair → v.receipts ≡ u.receipts
-    → IsAnswer (tree_of u) (known_to u) (Load 0) (Ok r) (known_to v) → IsAtRest v.walker → Took 170 u.walker v.walker.pass → status ≡ (if nat_le calls r.lo then 0 else 11) → SharedLearned calls before after status
+    → IsAnswer (tree_of u) (known_to u) (Load 0) (Ok r) (known_to v) → IsAtRest v.walker → Took 170 u.walker v.walker.pass → status ≡ (if nat_le calls r.lo then 0 else 115) → SharedLearned calls before after status
 learned calls before after u v r status was is common chair kept said rests took number = on_open before after u v status _ _ was is common (r, said, rests, took, record { common = common; chair = chair; receipts = kept }, number)
 
 pub learned_yes : (calls : ℕ) (before after : Option User) (u v : User) (r : Read (Option Range)) (status : ℕ) → before ≡ Some u → after ≡ Some v → common_of v ≡ common_of u → v.chair ≡ u.chair → v.receipts ≡ u.receipts
     → IsAnswer (tree_of u) (known_to u) (Load 0) (Ok r) (known_to v) → IsAtRest v.walker → Took 170 u.walker v.walker.pass → calls ≤ r.lo → status ≡ 0 → SharedLearned calls before after status
-learned_yes calls before after u v r status was is common chair kept said rests took many number = learned calls before after u v r status was is common chair kept said rests took (number ∙ sym (ap (λ (b : Bool). if b then 0 else 11) (le-leb calls r.lo many)))
+learned_yes calls before after u v r status was is common chair kept said rests took many number = learned calls before after u v r status was is common chair kept said rests took (number ∙ sym (ap (λ (b : Bool). if b then 0 else 115) (le-leb calls r.lo many)))
 
 pub learned_no : (calls : ℕ) (before after : Option User) (u v : User) (r : Read (Option Range)) (status : ℕ) → before ≡ Some u → after ≡ Some v → common_of v ≡ common_of u → v.chair ≡ u.chair → v.receipts ≡ u.receipts
-    → IsAnswer (tree_of u) (known_to u) (Load 0) (Ok r) (known_to v) → IsAtRest v.walker → Took 170 u.walker v.walker.pass → r.lo < calls → status ≡ 11 → SharedLearned calls before after status
-learned_no calls before after u v r status was is common chair kept said rests took few number = learned calls before after u v r status was is common chair kept said rests took (number ∙ sym (ap (λ (b : Bool). if b then 0 else 11) (lt-leb calls r.lo few)))
+    → IsAnswer (tree_of u) (known_to u) (Load 0) (Ok r) (known_to v) → IsAtRest v.walker → Took 170 u.walker v.walker.pass → r.lo < calls → status ≡ 115 → SharedLearned calls before after status
+learned_no calls before after u v r status was is common chair kept said rests took few number = learned calls before after u v r status was is common chair kept said rests took (number ∙ sym (ap (λ (b : Bool). if b then 0 else 115) (lt-leb calls r.lo few)))
 
-pub learned_closed : (calls : ℕ) (before after : Option User) (status : ℕ) → before ≡ None → after ≡ None → status ≡ 22 → SharedLearned calls before after status
+pub learned_closed : (calls : ℕ) (before after : Option User) (status : ℕ) → before ≡ None → after ≡ None → status ≡ 9 → SharedLearned calls before after status
 learned_closed calls before after status was is number = on_closed before after status _ _ was is number tt
 
 pub has_synced : (u v : User) (synced : Result ℕ Busy) (status calls : ℕ) → IsSynced (tree_of u) (paused u) synced (known_to v) → WentOnce u.walker v.walker → v.chair ≡ u.chair → v.receipts ≡ when_synced synced u.receipts → status ≡ synced_status synced → calls ≡ calls_told synced
@@ -87,34 +93,29 @@ has_synced u v synced status calls said went chair kept number told = (synced, s
 pub synced_open : (before after : Option User) (u v : User) (status calls : ℕ) → before ≡ Some u → after ≡ Some v → common_of v ≡ common_of u → HasSynced status calls u v → SharedSynced before after status calls
 synced_open before after u v status calls was is tree has = on_open before after u v status _ _ was is tree has
 
-pub synced_closed : (before after : Option User) (status calls : ℕ) → before ≡ None → after ≡ None → status ≡ 22 → calls ≡ 0 → SharedSynced before after status calls
+pub synced_closed : (before after : Option User) (status calls : ℕ) → before ≡ None → after ≡ None → status ≡ 9 → calls ≡ 0 → SharedSynced before after status calls
 synced_closed before after status calls was is number none = on_closed before after status _ _ was is number none
 
 -- ---- shapes
 
-abbrev bad_of : ℕ → ℕ → ℕ → Option Field
-bad_of rows passes calls = first_bad (record { kind = kinds.Range; rows = rows; passes = passes; calls = calls })
-
--- where one field is out of range there is no such shape
-pub no_such_shape : (s : Shape) (field : Field) (code rows passes calls : ℕ) → first_bad s ≡ Some field → s.rows ≡ rows → s.passes ≡ passes → s.calls ≡ calls → (shape : Shape) → IsShape code rows passes calls shape → ⊥
-no_such_shape s field code rows passes calls bad r p c shape is =
-    none-some field (sym is.4 ∙ ((λ i. bad_of ((is.1 ∙ sym r) i) ((is.2 ∙ sym p) i) ((is.3 ∙ sym c) i)) ∙ bad))
-
-pub no_such_kind : (code rows passes calls : ℕ) → ((kind : Kind) → kind_code kind ≢ code) → (shape : Shape) → IsShape code rows passes calls shape → ⊥
-no_such_kind code rows passes calls none shape is = none shape.kind is.0
+pub bad_shape : (shape : Shape) (field : Field) (status : ℕ) → first_bad shape ≡ Some field → status ≡ field_status field → IsBadShape shape status
+bad_shape shape field status bad number = (field, bad, number)
 
 -- ---- opening
 
-pub new_open : (code rows passes calls : ℕ) (after : Option User) (status : ℕ) (u : User) (shape : Shape) → after ≡ Some u → status ≡ 0 → IsShape code rows passes calls shape → IsFirst shape u → SharedNew code rows passes calls after status
+pub new_open : (code rows passes calls : ℕ) (after : Option User) (status : ℕ) (u : User) (shape : Shape) → after ≡ Some u → status ≡ 0 → IsShape code rows passes calls shape → IsFirst shape [] u → SharedNew code rows passes calls after status
 new_open code rows passes calls after status u shape is done of first = rw is (done, shape, of, first)
 
-pub new_bad : (code rows passes calls : ℕ) (after : Option User) (status : ℕ) → after ≡ None → status ≡ 22 → ((shape : Shape) → IsShape code rows passes calls shape → ⊥) → SharedNew code rows passes calls after status
-new_bad code rows passes calls after status is number none = rw is (inl (number, none))
+pub new_no_kind : (code rows passes calls : ℕ) (after : Option User) (status : ℕ) → after ≡ None → status ≡ 22 → ((kind : Kind) → kind_code kind ≢ code) → SharedNew code rows passes calls after status
+new_no_kind code rows passes calls after status is number none = rw is (inl (number, none))
+
+pub new_bad : (code rows passes calls : ℕ) (after : Option User) (status : ℕ) (shape : Shape) → after ≡ None → IsMeant code rows passes calls shape → IsBadShape shape status → SharedNew code rows passes calls after status
+new_bad code rows passes calls after status shape is meant bad = rw is (inr (inl (shape, meant, bad)))
 
 pub new_short : (code rows passes calls : ℕ) (after : Option User) (status : ℕ) (shape : Shape) → after ≡ None → status ≡ 12 → IsShape code rows passes calls shape → SharedNew code rows passes calls after status
-new_short code rows passes calls after status shape is number of = rw is (inr (number, shape, of))
+new_short code rows passes calls after status shape is number of = rw is (inr (inr (number, shape, of)))
 
-pub opened_busy : (code rows passes calls : ℕ) (before after : Option User) (status : ℕ) (u : User) → before ≡ Some u → after ≡ Some u → status ≡ 16 → SharedOpened code rows passes calls before after status
+pub opened_busy : (code rows passes calls : ℕ) (before after : Option User) (status : ℕ) (u : User) → before ≡ Some u → after ≡ Some u → status ≡ 114 → SharedOpened code rows passes calls before after status
 opened_busy code rows passes calls before after status u was is number = rw was (is, number)
 
 pub opened_new : (code rows passes calls : ℕ) (before after : Option User) (status : ℕ) → before ≡ None → SharedNew code rows passes calls after status → SharedOpened code rows passes calls before after status
@@ -129,10 +130,10 @@ pub is_unchanged : (u v : User) (status : ℕ) (why : Unchanged) → IsWhy (comm
 is_unchanged u v status why told chair kept number = (why, told, chair, kept, number)
 
 module _ (before after other other' : Option User) (status : ℕ) where
-  pub with_closed : before ≡ None → after ≡ None → other' ≡ other → status ≡ 22 → SharedWith before after other other' status
+  pub with_closed : before ≡ None → after ≡ None → other' ≡ other → status ≡ 9 → SharedWith before after other other' status
   with_closed was is same number = rw was (is, same, number)
 
-  pub with_busy : (u o : User) → before ≡ Some u → after ≡ Some u → other ≡ Some o → other' ≡ Some o → status ≡ 16 → SharedWith before after other other' status
+  pub with_busy : (u o : User) → before ≡ Some u → after ≡ Some u → other ≡ Some o → other' ≡ Some o → status ≡ 114 → SharedWith before after other other' status
   with_busy u o was is held still number = rw (was, is, held) (refl, still, number)
 
   pub with_made : (u v w : User) → before ≡ Some u → after ≡ Some v → other ≡ None → other' ≡ Some w → status ≡ 0 → common_of v ≡ common_of u → v.walker ≡ u.walker → common_of w ≡ common_of u
@@ -145,7 +146,7 @@ module _ (before after other other' : Option User) (status : ℕ) where
 
 -- ---- leaving
 
-pub left_closed : (before after : Option User) (status : ℕ) → before ≡ None → after ≡ None → status ≡ 22 → SharedLeft before after status
+pub left_closed : (before after : Option User) (status : ℕ) → before ≡ None → after ≡ None → status ≡ 9 → SharedLeft before after status
 left_closed before after status was is number = rw was (is, number)
 
 pub left_done : (before after : Option User) (status : ℕ) (u : User) (left : Left) → before ≡ Some u → after ≡ None → status ≡ 0 → HasLeft (common_of u) (cuts u + 1) (rested u) left → SharedLeft before after status
@@ -165,5 +166,5 @@ has_settled u v settled status calls passes said went chair kept number told met
 pub settled_open : (before after : Option User) (u v : User) (status calls passes : ℕ) → before ≡ Some u → after ≡ Some v → common_of v ≡ common_of u → HasSettled status calls passes u v → SharedSettled before after status calls passes
 settled_open before after u v status calls passes was is tree has = on_open before after u v status _ _ was is tree has
 
-pub settled_closed : (before after : Option User) (status calls passes : ℕ) → before ≡ None → after ≡ None → status ≡ 22 → calls ≡ 0 → passes ≡ 0 → SharedSettled before after status calls passes
+pub settled_closed : (before after : Option User) (status calls passes : ℕ) → before ≡ None → after ≡ None → status ≡ 9 → calls ≡ 0 → passes ≡ 0 → SharedSettled before after status calls passes
 settled_closed before after status calls passes was is number none zero = on_closed before after status _ _ was is number (none, zero)

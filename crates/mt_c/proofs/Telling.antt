@@ -26,7 +26,7 @@ pub asked_open : (query : Query) (before after : Option OwnTree) (t t' : OwnTree
 asked_open query before after t t' found status out was is rest answers number shown =
     subst (λ (x : Option OwnTree × Option OwnTree). Asked query x.0 x.1 status out) (λ i. (sym was i, sym is i)) (rest, number ∙ ap found_status answers, shown ∙ ap out_of answers)
 
-pub asked_closed : (query : Query) (before after : Option OwnTree) (status : ℕ) (out : OutRange) → before ≡ None → after ≡ None → status ≡ 22 → out ≡ no_range → Asked query before after status out
+pub asked_closed : (query : Query) (before after : Option OwnTree) (status : ℕ) (out : OutRange) → before ≡ None → after ≡ None → status ≡ 9 → out ≡ no_range → Asked query before after status out
 asked_closed query before after status out was is number shown = subst (λ (x : Option OwnTree × Option OwnTree). Asked query x.0 x.1 status out) (λ i. (sym was i, sym is i)) (refl, number, shown)
 
 pub pre_open : (call : Call) (before after : Option OwnTree) (t t' : OwnTree) (made : Option (Option Reply)) (status word : ℕ) → before ≡ Some t → after ≡ Some t'

@@ -181,6 +181,10 @@ gave_up query w w' p (Err m) was took left = record { pass = p; paused = was; to
 pub read_rests : (lo hi : ℕ) (p q : known.Pass) → HasRead lo hi p q → q.standing ≡ None
 read_rests lo hi p q read = ap (λ (x : known.Pass). x.standing) read.pass
 
+-- nor where one was closed
+pub closed_stands : (p q : known.Pass) → q ≡ record p { standing = None } → q.standing ≡ None
+closed_stands p q is = ap (λ (x : known.Pass). x.standing) is
+
 pub rested : (answer : Answer) (p q : known.Pass) → IfOk answer (λ r. HasRead r.lo r.hi p q) → IfErr answer (λ m. HasRead m.lo m.begun p q) → q.standing ≡ None
 rested (Ok r) p q section given = read_rests r.lo r.hi p q section
 rested (Err m) p q section given = read_rests m.lo m.begun p q given
@@ -432,8 +436,8 @@ none_short shape r bad short = by_case (first_bad shape) refl
     by_case None is = is
     by_case (Some field) is = let e : r ≡ Err (make_error.BadShape field) = (bad field).1 is in cc
 
-pub is_first : (shape : Shape) (t : Tree) (ps : List Pass) (u : User) → IsNew shape [] t ps → tree_of u ≡ t → ps ≡ (first_in (common_of u)).passes.items ++ u.walker.pass ∷ [] → cuts u ≡ 0 → u.walker.walk ≡ None → u.receipts ≡ no_receipts → IsFirst shape u
-is_first shape t ps u new tree last chair walk none = record {
+pub is_first : (shape : Shape) (opening : List Range) (t : Tree) (ps : List Pass) (u : User) → IsNew shape opening t ps → tree_of u ≡ t → ps ≡ (first_in (common_of u)).passes.items ++ u.walker.pass ∷ [] → cuts u ≡ 0 → u.walker.walk ≡ None → u.receipts ≡ no_receipts → IsFirst shape opening u
+is_first shape opening t ps u new tree last chair walk none = record {
   tree = ap opened tree ∙ new.tree;
   calls = ap limit_of tree ∙ new.calls;
   users = ap passes_of tree ∙ (sym new.all.count ∙ (sym (length-map ps pass_in) ∙ (ap length new.passes ∙ length-map-range_with_len known.new_pass 0 shape.passes)));

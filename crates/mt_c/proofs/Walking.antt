@@ -44,7 +44,7 @@ stepped_open walk walk' before after t t' index behind found status out was is f
     subst (λ (x : Option OwnTree × Option OwnTree). Stepped walk x.0 x.1 status out walk') (λ i. (sym was i, sym is i))
     (found, subst (λ (o : Option ℕ). IsStepped t t' o found) from step, number, shown, goes ∙ ap walk_from (ends ∙ step.place))
 
-pub stepped_closed : (walk walk' : OutWalk) (before after : Option OwnTree) (status : ℕ) (out : OutRange) → before ≡ None → after ≡ None → status ≡ 22 → out ≡ no_range → walk' ≡ walk
+pub stepped_closed : (walk walk' : OutWalk) (before after : Option OwnTree) (status : ℕ) (out : OutRange) → before ≡ None → after ≡ None → status ≡ 9 → out ≡ no_range → walk' ≡ walk
     → Stepped walk before after status out walk'
 stepped_closed walk walk' before after status out was is number shown stays =
     subst (λ (x : Option OwnTree × Option OwnTree). Stepped walk x.0 x.1 status out walk') (λ i. (sym was i, sym is i)) (refl, number, shown, stays)

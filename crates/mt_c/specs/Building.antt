@@ -43,6 +43,6 @@ LacksRanges code rows m status at =
 
 -- An open of what C keeps with these ranges. Where a tree opens, or one is open, no place is told.
 abbrev pub Builds : ℕ → ℕ → List Range → Option OwnTree → Option OwnTree → ℕ → ℕ → Type 0
-Builds code rows m (Some t) after status at = (after ≡ Some t) × (status ≡ 16) × (at ≡ 0)
+Builds code rows m (Some t) after status at = (after ≡ Some t) × (status ≡ 114) × (at ≡ 0)
 Builds code rows m None (Some t) status at = (status ≡ 0) × (at ≡ 0) × IsOfRanges code rows m t.engine
 Builds code rows m None None status at = LacksRanges code rows m status at

@@ -1,11 +1,13 @@
 -- What C is told of calls and of queries, and what they do to the tree that it keeps.
--- Source: the kernel's include/uapi/asm-generic/errno-base.h and errno.h: ENOENT, ENOMEM, EBUSY, EEXIST, EINVAL and EOVERFLOW.
+-- Source: the kernel's include/uapi/asm-generic/errno-base.h and errno.h: ENOENT, EBADF, ENOMEM, EBUSY, EEXIST, EINVAL
+-- and EOVERFLOW.
 use Rattle.std.specs.Prelude.{◌≡◌, ℕ, ◌-◌, ◌^◌, ◌<◌, ◌≤◌, Option, Some, None}
 use Rattle.mt_base.specs.declared.calls.Call.{Call}
 use Rattle.mt_base.specs.declared.calls.Query.{Query}
 use Rattle.mt_base.specs.declared.ranges.Range.{Range}
 use Rattle.mt_base.specs.declared.replies.Reply.{Reply}
 use Rattle.mt_base.specs.declared.replies.Reply.TheVariants as answers
+use Rattle.mt_base.specs.declared.replies.Shortage.{Shortage}
 use Rattle.mt_base.specs.Call.{answer}
 use Rattle.mt_rows.specs.Publish.{map_by}
 use Rattle.mt_rows.specs.Sheet.{OnlyReads}
@@ -68,13 +70,28 @@ range_of (Some answers.Invalid) = no_range
 range_of (Some answers.Busy) = no_range
 range_of (Some (answers.NoNodes shortage)) = no_range
 
+-- how many rows a reply for want of rows says are needed, free, live and held; zeros of another
+abbrev pub no_shortage : Shortage
+no_shortage = record { need = 0; free = 0; live = 0; held = 0; by = None }
+
+abbrev pub shortage_of : Reply → Shortage
+shortage_of answers.Ok = no_shortage
+shortage_of (answers.Over entry) = no_shortage
+shortage_of (answers.Start start) = no_shortage
+shortage_of (answers.Was range) = no_shortage
+shortage_of answers.None = no_shortage
+shortage_of answers.Exists = no_shortage
+shortage_of answers.Invalid = no_shortage
+shortage_of answers.Busy = no_shortage
+shortage_of (answers.NoNodes shortage) = shortage
+
 -- all that C is told of a call
 abbrev pub told_of : Option Reply → Told
 told_of made = record { status = status_of made; word = word_of made; range = range_of made }
 
 -- and where it is closed
 abbrev pub no_told : Told
-no_told = record { status = 22; word = 0; range = no_range }
+no_told = record { status = 9; word = 0; range = no_range }
 
 -- the number for the answer of a query: ENOENT where there is none
 abbrev pub found_status : Option Range → ℕ
@@ -106,10 +123,10 @@ pub record IsAsked (t t' : Parts) : Type 0 where
 
 -- ---- what C keeps
 
--- A call on what C keeps, the number that C gets, and what it is told beside by some reading of the reply. A closed one is EINVAL,
+-- A call on what C keeps, the number that C gets, and what it is told beside by some reading of the reply. A closed one is EBADF,
 -- with a blank beside, and stays closed; an open one stays open.
 abbrev pub Called : {A : Type 0} → A → (Option Reply → A) → Call → Option OwnTree → Option OwnTree → ℕ → A → Type 0
-Called blank told call None after status out = (after ≡ None) × (status ≡ 22) × (out ≡ blank)
+Called blank told call None after status out = (after ≡ None) × (status ≡ 9) × (out ≡ blank)
 Called blank told call (Some t) None status out = ⊥
 Called blank told call (Some t) (Some t') status out = (made : Option Reply) × Made t.engine t'.engine call made × (status ≡ status_of made) × (out ≡ told made)
 
@@ -123,9 +140,9 @@ CalledWord = Called 0 word_of
 abbrev pub CalledRange : Call → Option OwnTree → Option OwnTree → ℕ → OutRange → Type 0
 CalledRange = Called no_range range_of
 
--- A query of what C keeps. A closed one is EINVAL, and no range.
+-- A query of what C keeps. A closed one is EBADF, and no range.
 abbrev pub Asked : Query → Option OwnTree → Option OwnTree → ℕ → OutRange → Type 0
-Asked query None after status out = (after ≡ None) × (status ≡ 22) × (out ≡ no_range)
+Asked query None after status out = (after ≡ None) × (status ≡ 9) × (out ≡ no_range)
 Asked query (Some t) None status out = ⊥
 Asked query (Some t) (Some t') status out =
     IsAsked t.engine t'.engine × (status ≡ found_status (answered t.engine query)) × (out ≡ out_of (answered t.engine query))

@@ -23,7 +23,7 @@ out_form form = record { height = form.height; rows = form.rows; ranges = form.r
 
 -- The words of an open tree are lawful, and their form is told.
 abbrev pub Checked : Option OwnTree → Option OwnTree → ℕ → OutForm → Type 0
-Checked None after status form = (after ≡ None) × (status ≡ 22) × (form ≡ no_form)
+Checked None after status form = (after ≡ None) × (status ≡ 9) × (form ≡ no_form)
 Checked (Some t) None status form = ⊥
 Checked (Some t) (Some t') status form =
     IsAsked t.engine t'.engine × IsLawfulOf t.engine.sheet.tree t.engine.kind × (status ≡ 0) × (form ≡ out_form (form_of (tree_as t.engine.kind t.engine.sheet.tree)))
@@ -45,13 +45,13 @@ Fits used rows = (used ≤ rows) × (rows ≤ most_rows)
 abbrev pub Lacks : ℕ → ℕ → ℕ → Type 0
 Lacks used rows status = ((status ≡ 33) × (Fits used rows → ⊥)) ⊎ ((status ≡ 12) × Fits used rows)
 
--- An open of what C keeps: a tree that is so, or the number that says why there is none. One that is open is EBUSY, and stays as it was.
+-- An open of what C keeps: a tree that is so, or the number that says why there is none. One that is open is EALREADY, and stays as it was.
 abbrev pub OpensAs : (Parts → Type 0) → (ℕ → Type 0) → Option OwnTree → ℕ → Type 0
 OpensAs is lacks (Some t) status = (status ≡ 0) × is t.engine
 OpensAs is lacks None status = lacks status
 
 abbrev pub Opens : (Parts → Type 0) → (ℕ → Type 0) → Option OwnTree → Option OwnTree → ℕ → Type 0
-Opens is lacks (Some t) after status = (after ≡ Some t) × (status ≡ 16)
+Opens is lacks (Some t) after status = (after ≡ Some t) × (status ≡ 114)
 Opens is lacks None after status = OpensAs is lacks after status
 
 -- ---- copies
@@ -60,8 +60,8 @@ Opens is lacks None after status = OpensAs is lacks after status
 abbrev pub IsCopyIn : ℕ → Parts → Parts → Type 0
 IsCopyIn rows t t' = Fits (live_rows t.sheet.tree) rows × IsOpenedWith t.kind rows (map_by t.sheet.tree) t'
 
--- An open of one tree with the map of another, which is only read. A closed one is EINVAL, and the copy is as it was.
+-- An open of one tree with the map of another, which is only read. A closed one is EBADF, and the copy is as it was.
 abbrev pub Copied : ℕ → Option OwnTree → Option OwnTree → Option OwnTree → Option OwnTree → ℕ → Type 0
-Copied rows None after copy copy' status = (after ≡ None) × (copy' ≡ copy) × (status ≡ 22)
+Copied rows None after copy copy' status = (after ≡ None) × (copy' ≡ copy) × (status ≡ 9)
 Copied rows (Some t) None copy copy' status = ⊥
 Copied rows (Some t) (Some t') copy copy' status = IsAsked t.engine t'.engine × Opens (IsCopyIn rows t.engine) (Lacks (live_rows t.engine.sheet.tree) rows) copy copy' status

@@ -22,9 +22,9 @@ abbrev pub TellsImage : Parts → List ℕ → List ℕ → ℕ → ℕ → Type
 TellsImage t out out' used status =
     ((status ≡ 0) × PutsImage t out out' used) ⊎ (((status ≡ 34) × (out' ≡ out) × IsLongImage t out used) ⊎ ((status ≡ 12) × (out' ≡ out) × (used ≡ 0)))
 
--- The image of what C keeps, which is only read. A closed tree is EINVAL.
+-- The image of what C keeps, which is only read. A closed tree is EBADF.
 abbrev pub Imaged : Option OwnTree → Option OwnTree → List ℕ → List ℕ → ℕ → ℕ → Type 0
-Imaged None after out out' used status = (after ≡ None) × (status ≡ 22) × (out' ≡ out) × (used ≡ 0)
+Imaged None after out out' used status = (after ≡ None) × (status ≡ 9) × (out' ≡ out) × (used ≡ 0)
 Imaged (Some t) None out out' used status = ⊥
 Imaged (Some t) (Some t') out out' used status = IsAsked t.engine t'.engine × TellsImage t.engine out out' used status
 

@@ -15,3 +15,9 @@ pub mod Purses
 pub mod Receipts
 pub mod Users
 pub mod Shared
+pub mod Bounded
+pub mod Places
+pub mod SharedMaps
+pub mod SharedImages
+pub mod RowsFor
+pub mod Stats

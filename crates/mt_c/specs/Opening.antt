@@ -1,5 +1,5 @@
 -- What an open leaves of what C keeps. Source: this project's own; the codes of kinds are those of images.
-use Rattle.std.specs.Prelude.{◌≡◌, ◌⊎◌, ℕ, [], Option, Some, None, ◌≤◌}
+use Rattle.std.specs.Prelude.{◌≡◌, ◌≢◌, ◌⊎◌, ℕ, [], Option, Some, None, ◌<◌, ◌≤◌}
 use Rattle.mt_base.specs.declared.kinds.Kind.{Kind}
 use Rattle.mt_base.specs.Width.{kind_width, most_rows}
 use Rattle.mt_free.specs.Book.{new_book}
@@ -18,13 +18,13 @@ pub record IsNewTree (kind : Kind) (rows : ℕ) (t : Parts) : Type 0 where
 abbrev pub IsShape : ℕ → ℕ → Kind → Type 0
 IsShape code rows kind = (kind_code kind ≡ code) × (rows ≤ most_rows)
 
--- A closed one is opened with an empty tree of such a shape; or it stays closed: EINVAL tells that there is no such shape, and
--- ENOMEM that memory ran out for one.
+-- A closed one is opened with an empty tree of such a shape; or it stays closed: EINVAL tells that there is no such kind, EDOM that
+-- there are too many rows, and ENOMEM that memory ran out for such a shape.
 abbrev pub OpenedNew : ℕ → ℕ → Option OwnTree → ℕ → Type 0
 OpenedNew code rows (Some t) status = (status ≡ 0) × (kind : Kind) × IsShape code rows kind × IsNewTree kind rows t.engine
-OpenedNew code rows None status = ((status ≡ 22) × ((kind : Kind) → IsShape code rows kind → ⊥)) ⊎ ((status ≡ 12) × (kind : Kind) × IsShape code rows kind)
+OpenedNew code rows None status = ((status ≡ 22) × ((kind : Kind) → kind_code kind ≢ code)) ⊎ (((status ≡ 33) × (kind : Kind) × (kind_code kind ≡ code) × (most_rows < rows)) ⊎ ((status ≡ 12) × (kind : Kind) × IsShape code rows kind))
 
--- An open of what C keeps. One that is open is EBUSY, and stays as it was.
+-- An open of what C keeps. One that is open is EALREADY, and stays as it was.
 abbrev pub Opened : ℕ → ℕ → Option OwnTree → Option OwnTree → ℕ → Type 0
-Opened code rows (Some t) after status = (after ≡ Some t) × (status ≡ 16)
+Opened code rows (Some t) after status = (after ≡ Some t) × (status ≡ 114)
 Opened code rows None after status = OpenedNew code rows after status

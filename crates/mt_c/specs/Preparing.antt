@@ -22,7 +22,7 @@ abbrev pub TellsReady : Parts → ℕ → Type 0
 TellsReady t status = ((status ≡ 0) × IsReady t) ⊎ ((status ≡ 12) × (IsReady t → ⊥))
 
 abbrev pub Prepared : Option OwnTree → Option OwnTree → ℕ → Type 0
-Prepared None after status = (after ≡ None) × (status ≡ 22)
+Prepared None after status = (after ≡ None) × (status ≡ 9)
 Prepared (Some t) None status = ⊥
 Prepared (Some t) (Some t') status = IsPrepared t.engine t'.engine × TellsReady t'.engine status
 
@@ -49,6 +49,6 @@ pre_word None = 0
 pre_word (Some made) = word_of made
 
 abbrev pub PreCalled : Call → Option OwnTree → Option OwnTree → ℕ → ℕ → Type 0
-PreCalled call None after status word = (after ≡ None) × (status ≡ 22) × (word ≡ 0)
+PreCalled call None after status word = (after ≡ None) × (status ≡ 9) × (word ≡ 0)
 PreCalled call (Some t) None status word = ⊥
 PreCalled call (Some t) (Some t') status word = (made : Option (Option Reply)) × PreMade t.engine t'.engine call made × (status ≡ pre_status made) × (word ≡ pre_word made)

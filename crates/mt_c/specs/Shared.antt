@@ -1,19 +1,25 @@
 -- What the calls of C on a shared tree say. Each user of it has a pass, which knows a beginning of the tree's one history.
--- Source: this project's own; EAGAIN and EUSERS are of the kernel's include/uapi/asm-generic/errno-base.h and errno.h.
-use Rattle.std.specs.Prelude.{◌≡◌, ◌⊎◌, ◌+◌, ℕ, Option, Some, None, Result, Ok, Err, nat_le, if◌then◌else◌, IfErr}
+-- Source: this project's own; EBADF, EAGAIN, EDOM, EOVERFLOW, EUSERS, EALREADY and EINPROGRESS are of the kernel's
+-- include/uapi/asm-generic/errno-base.h and errno.h.
+use Rattle.std.specs.Prelude.{◌≡◌, ◌≢◌, ◌⊎◌, ◌+◌, ℕ, [], Option, Some, None, Result, Ok, Err, nat_le, if◌then◌else◌, IfErr}
 use Rattle.mt_base.specs.declared.ranges.Range.{Range}
+use Rattle.mt_base.specs.declared.replies.Holder.{Holder}
 use Rattle.mt_base.specs.declared.calls.Call.{Call}
+use Rattle.mt_base.specs.declared.kinds.Kind.{Kind}
 use Rattle.mt_base.specs.declared.calls.Query.{Query}
 use Rattle.mt_base.specs.declared.calls.Query.TheVariants.{Load}
 use Rattle.mt_image.specs.Bytes.{kind_code}
 use Rattle.mt_keep.specs.declared.keep.Given.{Given}
 use Rattle.mt_rule.specs.declared.busy.Busy.{Busy}
 use Rattle.mt_tree.specs.declared.shapes.Done.{Done}
+use Rattle.mt_tree.specs.declared.shapes.Field.{Field}
+use Rattle.mt_tree.specs.declared.shapes.Field.TheVariants as fields
 use Rattle.mt_tree.specs.declared.shapes.Read.{Read}
 use Rattle.mt_tree.specs.declared.shapes.Shape.{Shape}
 use Rattle.mt_tree.specs.declared.trees.Tree.{Tree}
 use Rattle.mt_tree.specs.Asks.{most_made}
 use Rattle.mt_tree.specs.Shapes.{first_bad}
+use Rattle.mt_tree.specs.Trees.{Takes}
 use Rattle.mt_read.specs.Cursors.{place_behind}
 use Rattle.mt_c.specs.declared.purse.Purse.{Purse}
 use Rattle.mt_c.specs.declared.steps.OutWalk.{OutWalk}
@@ -25,7 +31,7 @@ use Rattle.mt_c.specs.declared.user_opens.Unchanged.{Unchanged}
 use Rattle.mt_c.specs.declared.user_opens.Unchanged.TheVariants as unchanged
 use Rattle.mt_c.specs.declared.shared_told.Outcome.{Outcome}
 use Rattle.mt_c.specs.declared.shared_told.Window.{Window}
-use Rattle.mt_c.specs.Calls.{found_status, no_range, out_of, range_of, status_of, word_of}
+use Rattle.mt_c.specs.Calls.{found_status, no_range, out_of, range_of, shortage_of, status_of, word_of}
 use Rattle.mt_c.specs.KeptWalks.{top}
 use Rattle.mt_c.specs.Receipts.{when_given, when_settled, when_synced, when_tried, when_unchanged}
 pub use Rattle.mt_c.specs.Users.{HasLeft, IsFirst, IsOfPurse, IsSame, IsSettled, IsSynced, IsWhy, OnlyWalks, WantsNoPlace, WentToSettle, common_of, cuts, known_to, paused, rested, tree_of}
@@ -34,10 +40,10 @@ use Rattle.mt_c.specs.Walking.{index_of, walk_from}
 
 -- ---- users
 
--- A call on what C keeps, and the number that C gets. A closed one is EINVAL, with a blank beside, and stays closed; an open one
+-- A call on what C keeps, and the number that C gets. A closed one is EBADF, with a blank beside, and stays closed; an open one
 -- stays open, and is of the same tree and at the same purse.
 abbrev pub OnUser : Option User → Option User → ℕ → Type 0 → (User → User → Type 0) → Type 0
-OnUser None after status blank says = (after ≡ None) × (status ≡ 22) × blank
+OnUser None after status blank says = (after ≡ None) × (status ≡ 9) × blank
 OnUser (Some u) None status blank says = ⊥
 OnUser (Some u) (Some v) status blank says = (common_of v ≡ common_of u) × says u v
 
@@ -68,25 +74,42 @@ SharedAsked query before after status out =
 abbrev pub went_on : Option Range → OutWalk
 went_on found = walk_from (place_behind found top)
 
+-- The user has given up its walk: no section of it stands open. Its pass has made one step for that, and has not gone for the lock.
+abbrev pub SharedPaused : Option User → Option User → ℕ → Type 0
+SharedPaused before after status = OnUser before after status (Unit {0}) (λ u v. (known_to v ≡ rested u) × IsAtRest v.walker × Takes 1 u.walker.pass v.walker.pass × OnlyWalks u v × (status ≡ 0))
+
 -- A step of a walk of C's: it goes on behind what was found, and the user keeps its place where a range was found. Where the user is
 -- closed the walk is as it was.
 abbrev pub SharedStepped : OutWalk → OutWalk → Option User → Option User → ℕ → Window → Type 0
 SharedStepped w w' before after status out =
     OnUser before after status ((out ≡ no_window) × (w' ≡ w)) (λ u v. (r : Read (Option Range)) × StepsFrom (tree_of u) u.walker (index_of w) r v.walker × OnlyWalks u v × (status ≡ answer_status (Ok r)) × (out ≡ window_of (Ok r)) × (w' ≡ went_on r.value))
 
--- The user looked how many calls had ended, by a read, and has seen those: 0 where they are so many as it was to learn, else EAGAIN.
+-- The user looked how many calls had ended, by a read, and has seen those: 0 where they are so many as it was to learn, else
+-- EINPROGRESS.
 abbrev pub SharedLearned : ℕ → Option User → Option User → ℕ → Type 0
 SharedLearned calls before after status =
-    OnUser before after status (Unit {0}) (λ u v. (r : Read (Option Range)) × IsAnswer (tree_of u) (known_to u) (Load 0) (Ok r) (known_to v) × IsAtRest v.walker × Took 170 u.walker v.walker.pass × OnlyWalks u v × (status ≡ (if nat_le calls r.lo then 0 else 11)))
+    OnUser before after status (Unit {0}) (λ u v. (r : Read (Option Range)) × IsAnswer (tree_of u) (known_to u) (Load 0) (Ok r) (known_to v) × IsAtRest v.walker × Took 170 u.walker v.walker.pass × OnlyWalks u v × (status ≡ (if nat_le calls r.lo then 0 else 115)))
 
 -- ---- calls
 
 abbrev pub no_outcome : Outcome
-no_outcome = record { call = 0; word = 0; first = 0; last = 0; entry = 0 }
+no_outcome = record { call = 0; word = 0; first = 0; last = 0; entry = 0; need = 0; free = 0; live = 0; held = 0; by = 0; epoch = 0 }
 
--- the number of the call in the history, the one word of the reply, and its range
+-- the place of a user whose section holds rows back, from 1, and how many calls had ended when that was opened; zeros of none
+abbrev pub place_of : Option Holder → ℕ
+place_of None = 0
+place_of (Some h) = h.pass + 1
+
+abbrev pub epoch_of : Option Holder → ℕ
+epoch_of None = 0
+epoch_of (Some h) = h.epoch
+
+-- the number of the call in the history, the one word of the reply, and its range; and what it says of rows
 abbrev pub done_outcome : Done → Outcome
-done_outcome d = let r = range_of (Some d.reply) in record { call = d.call; word = word_of (Some d.reply); first = r.first; last = r.last; entry = r.entry }
+done_outcome d =
+    let r = range_of (Some d.reply) in
+    let s = shortage_of d.reply in
+    record { call = d.call; word = word_of (Some d.reply); first = r.first; last = r.last; entry = r.entry; need = s.need; free = s.free; live = s.live; held = s.held; by = place_of s.by; epoch = epoch_of s.by }
 
 abbrev pub done_status : Done → ℕ
 done_status d = status_of (Some d.reply)
@@ -113,17 +136,35 @@ SharedTried call before after status out = OnUser before after status (out ≡ n
 -- ---- users that come and go
 
 -- An open of a shared tree: of a kind of this code, in so many rows, for so many users, and for so many calls.
+abbrev pub IsMeant : ℕ → ℕ → ℕ → ℕ → Shape → Type 0
+IsMeant code rows passes calls shape = (kind_code shape.kind ≡ code) × (shape.rows ≡ rows) × (shape.passes ≡ passes) × (shape.calls ≡ calls)
+
 abbrev pub IsShape : ℕ → ℕ → ℕ → ℕ → Shape → Type 0
-IsShape code rows passes calls shape = (kind_code shape.kind ≡ code) × (shape.rows ≡ rows) × (shape.passes ≡ passes) × (shape.calls ≡ calls) × (first_bad shape ≡ None)
+IsShape code rows passes calls shape = IsMeant code rows passes calls shape × (first_bad shape ≡ None)
 
--- A closed one is opened so, or stays closed: EINVAL tells that there is no such shape, and ENOMEM that memory ran out for one.
+-- the number for a field that is out of range: EDOM, EUSERS or EOVERFLOW
+abbrev pub field_status : Field → ℕ
+field_status fields.Rows = 33
+field_status fields.Passes = 87
+field_status fields.Calls = 75
+
+abbrev pub IsBadShape : Shape → ℕ → Type 0
+IsBadShape shape status = (field : Field) × (first_bad shape ≡ Some field) × (status ≡ field_status field)
+
+-- Why there is none: EINVAL tells that there is no such kind, the number of a field that this is out of range, and ENOMEM that memory
+-- ran out for such a shape.
+abbrev pub LacksShape : ℕ → ℕ → ℕ → ℕ → ℕ → Type 0
+LacksShape code rows passes calls status =
+    ((status ≡ 22) × ((kind : Kind) → kind_code kind ≢ code)) ⊎ (((shape : Shape) × IsMeant code rows passes calls shape × IsBadShape shape status) ⊎ ((status ≡ 12) × (shape : Shape) × IsShape code rows passes calls shape))
+
+-- A closed one is opened so, or stays closed.
 abbrev pub SharedNew : ℕ → ℕ → ℕ → ℕ → Option User → ℕ → Type 0
-SharedNew code rows passes calls (Some u) status = (status ≡ 0) × (shape : Shape) × IsShape code rows passes calls shape × IsFirst shape u
-SharedNew code rows passes calls None status = ((status ≡ 22) × ((shape : Shape) → IsShape code rows passes calls shape → ⊥)) ⊎ ((status ≡ 12) × (shape : Shape) × IsShape code rows passes calls shape)
+SharedNew code rows passes calls (Some u) status = (status ≡ 0) × (shape : Shape) × IsShape code rows passes calls shape × IsFirst shape [] u
+SharedNew code rows passes calls None status = LacksShape code rows passes calls status
 
--- One that is open is EBUSY, and stays as it was.
+-- One that is open is EALREADY, and stays as it was.
 abbrev pub SharedOpened : ℕ → ℕ → ℕ → ℕ → Option User → Option User → ℕ → Type 0
-SharedOpened code rows passes calls (Some u) after status = (after ≡ Some u) × (status ≡ 16)
+SharedOpened code rows passes calls (Some u) after status = (after ≡ Some u) × (status ≡ 114)
 SharedOpened code rows passes calls None after status = SharedNew code rows passes calls after status
 
 -- Why no user was opened, or none has left: another had the purse (EAGAIN), it was empty (EUSERS), or memory ran out (ENOMEM).
@@ -146,15 +187,15 @@ HasShared u v w = (given : Given Purse Tree) × IsOfPurse (common_of u) (cuts u)
 
 -- One user is opened beside another, of the same tree, with a pass of its purse. It stays as it was where it is open, and where none is opened.
 abbrev pub SharedWith : Option User → Option User → Option User → Option User → ℕ → Type 0
-SharedWith None after other other' status = (after ≡ None) × (other' ≡ other) × (status ≡ 22)
+SharedWith None after other other' status = (after ≡ None) × (other' ≡ other) × (status ≡ 9)
 SharedWith (Some u) None other other' status = ⊥
-SharedWith (Some u) (Some v) (Some o) other' status = (v ≡ u) × (other' ≡ Some o) × (status ≡ 16)
+SharedWith (Some u) (Some v) (Some o) other' status = (v ≡ u) × (other' ≡ Some o) × (status ≡ 114)
 SharedWith (Some u) (Some v) None (Some w) status = (status ≡ 0) × IsSame u v × (common_of w ≡ common_of u) × HasShared u v w
 SharedWith (Some u) (Some v) None None status = IsSame u v × IsUnchanged u v status
 
 -- A user has left its pass in the purse, no section of it standing open, and is closed; or it is open as it was, but for its walk, which is paused.
 abbrev pub SharedLeft : Option User → Option User → ℕ → Type 0
-SharedLeft None after status = (after ≡ None) × (status ≡ 22)
+SharedLeft None after status = (after ≡ None) × (status ≡ 9)
 SharedLeft (Some u) None status = (status ≡ 0) × (left : Left) × HasLeft (common_of u) (cuts u + 1) (rested u) left
 SharedLeft (Some u) (Some v) status = (common_of v ≡ common_of u) × (known_to v ≡ paused u) × Took 0 u.walker v.walker.pass × HasStayed u v status
 

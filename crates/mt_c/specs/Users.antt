@@ -3,6 +3,7 @@
 use Rattle.std.specs.Prelude.{◌≡◌, ◌+◌, ℕ, List, [], ◌∷◌, None, map, ◌++◌, Result, Ok, Err, length}
 use Rattle.std.specs.Arc.{arc_value}
 use Rattle.std.specs.List.{range_with_len}
+use Rattle.mt_base.specs.declared.ranges.Range.{Range}
 use Rattle.mt_base.specs.Passes as known
 use Rattle.mt_keep.specs.declared.keep.Given.{Given}
 use Rattle.mt_keep.specs.Keeping.{cuts_of}
@@ -58,10 +59,10 @@ pub record OnlyWalks (u v : User) : Type 0 where
 
 -- ---- users that come and go
 
--- The first user of an empty tree of this shape. Its pass and those that the purse began with are all that the tree has, and have seen
+-- The first user of a tree of this shape that opens with this map. Its pass and those that the purse began with are all that the tree has, and have seen
 -- nothing. Its chair is the first, so nobody has taken the purse; nor has it found anything at the lock or the purse.
-pub record IsFirst (shape : Shape) (u : User) : Type 0 where
-  pub tree : opened (tree_of u) ≡ record { kind = shape.kind; rows = shape.rows; opening = []; records = [] }
+pub record IsFirst (shape : Shape) (opening : List Range) (u : User) : Type 0 where
+  pub tree : opened (tree_of u) ≡ record { kind = shape.kind; rows = shape.rows; opening = opening; records = [] }
   pub calls : limit_of (tree_of u) ≡ shape.calls
   pub users : passes_of (tree_of u) ≡ shape.passes
   pub passes : known_in (first_in (common_of u)) ++ known_to u ∷ [] ≡ map known.new_pass (range_with_len 0 shape.passes)

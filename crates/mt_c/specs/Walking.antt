@@ -36,9 +36,9 @@ pub record IsStepped (t t' : OwnTree) (from : Option ℕ) (found : Option Range)
   pub near : t.place.next ≡ from → IfSome found (λ _. StepsWithin t.place t.engine.sheet t'.engine.sheet)
 
 -- A step of a walk on what C keeps: the walk goes on behind the range that is told, and has ended where there is none. A closed tree is
--- EINVAL, and the walk is as it was.
+-- EBADF, and the walk is as it was.
 abbrev pub Stepped : OutWalk → Option OwnTree → Option OwnTree → ℕ → OutRange → OutWalk → Type 0
-Stepped walk None after status out walk' = (after ≡ None) × (status ≡ 22) × (out ≡ no_range) × (walk' ≡ walk)
+Stepped walk None after status out walk' = (after ≡ None) × (status ≡ 9) × (out ≡ no_range) × (walk' ≡ walk)
 Stepped walk (Some t) None status out walk' = ⊥
 Stepped walk (Some t) (Some t') status out walk' =
     (found : Option Range) × IsStepped t t' (index_of walk) found × (status ≡ found_status found) × (out ≡ out_of found) × (walk' ≡ walk_from (index_behind (top_of t) found))

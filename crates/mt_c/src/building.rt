@@ -11,7 +11,7 @@ use crate::copies::{fitted, used_in};
 use crate::handle::Handle;
 use crate::opens::kind_of;
 use crate::own_tree::OwnTree;
-use crate::told::{EBUSY, EDOM, EINVAL, ENOMEM, OutRange};
+use crate::told::{EALREADY, EDOM, EINVAL, ENOMEM, OutRange};
 use mt_base::{Kind, NoMemory, Range};
 use mt_bulk::{BulkError, build_alone};
 use mt_rows::PlainRows;
@@ -19,14 +19,14 @@ use std::alloc::Global;
 
 /// Why no tree is built: the number that C gets, and the place of a range.
 #[derive(Clone, Copy)]
-struct Why {
-    status: u32,
-    at: u64,
+pub struct Why {
+    pub status: u32,
+    pub at: u64,
 }
 
 impl Why {
     /// A number alone.
-    fn alone(status: u32) -> Why
+    pub fn alone(status: u32) -> Why
         ensures { result ≡ record { status = status; at = 0 } }
     {
         Why { status, at: 0 }
@@ -66,7 +66,7 @@ fn taken(alloc: Global, ranges: &[OutRange]) -> Result<Vec<Range>, NoMemory>
 
 /// The rows of a tree that has just these ranges, as few as hold it.
 #[tactic(auto, using(crate::proofs::RangesBuilt::order_kept, crate::proofs::RangesBuilt::why_refused))]
-fn built(alloc: Global, kind: Kind, ranges: &[OutRange]) -> Result<PlainRows, Why>
+pub fn built(alloc: Global, kind: Kind, ranges: &[OutRange]) -> Result<PlainRows, Why>
     ensures order { IfOk result (λ rows. misplaced kind (map defined.range_of ranges.now) ≡ None) }
     ensures rows { IfOk result (λ rows. IsBuilt kind (map defined.range_of ranges.now) (sheet_in rows)) }
     ensures lacks { IfErr result (LacksAnyhow kind (map defined.range_of ranges.now)) }
@@ -117,7 +117,7 @@ pub extern "C" fn maple_build(
     *at = 0;
     if let Some(whole) = tree.take(alloc) {
         tree.put(whole);
-        return EBUSY;
+        return EALREADY;
     }
     match of_ranges(alloc, kind, rows, ranges) {
         Ok(whole) => {

@@ -4,7 +4,7 @@ ghost use Rattle.mt_c.specs.Calls.{Called, Asked, no_told, told_of};
 
 use crate::handle::Handle;
 use crate::own_tree::OwnTree;
-use crate::told::{EINVAL, OutRange, Told, found_status, no_range, out_of, told_of};
+use crate::told::{EBADF, OutRange, Told, found_status, no_range, out_of, told_of};
 use mt_base::{Call, Query};
 use std::alloc::Global;
 
@@ -15,7 +15,7 @@ pub fn call(alloc: Global, tree: &mut Handle, call: &Call) -> Told
 {
     let Some(mut whole) = tree.take(alloc) else {
         return Told {
-            status: EINVAL,
+            status: EBADF,
             word: 0,
             range: no_range(),
         };
@@ -32,7 +32,7 @@ pub fn ask(alloc: Global, tree: &mut Handle, query: &Query, range: &mut OutRange
 {
     let Some(mut whole) = tree.take(alloc) else {
         *range = no_range();
-        return EINVAL;
+        return EBADF;
     };
     let found = whole.ask(query);
     tree.put(whole);

@@ -13,7 +13,7 @@ ghost use Rattle.mt_c.specs.Copying.{Copied, Fits, IsCopyIn, IsOpenedWith, Lacks
 
 use crate::handle::Handle;
 use crate::own_tree::OwnTree;
-use crate::told::{EBUSY, EDOM, EINVAL, ENOMEM};
+use crate::told::{EALREADY, EBADF, EDOM, ENOMEM};
 use core::mem::replace_with;
 use mt_base::{Kind, MOST_ROWS, NoMemory, Steps, width_of};
 use mt_dup::copy_rows;
@@ -182,12 +182,12 @@ pub extern "C" fn maple_copy(alloc: Global, tree: &mut Handle, copy: &mut Handle
     ensures { Copied rows tree.old.kept.value tree.new.kept.value copy.old.kept.value copy.new.kept.value result }
 {
     let Some(mut whole) = tree.take(alloc) else {
-        return EINVAL;
+        return EBADF;
     };
     if let Some(there) = copy.take(alloc) {
         tree.put(whole);
         copy.put(there);
-        return EBUSY;
+        return EALREADY;
     }
     let made = whole.copy(alloc, rows);
     tree.put(whole);

@@ -11,7 +11,7 @@ ghost use Rattle.mt_c.specs.Copying.{Checked};
 
 use crate::handle::Handle;
 use crate::own_tree::OwnTree;
-use crate::told::{EBADMSG, EINVAL};
+use crate::told::{EBADF, EBADMSG};
 use core::mem::replace_with;
 use mt_base::Kind;
 use mt_check::{Fault, Form, check};
@@ -103,7 +103,7 @@ pub extern "C" fn maple_check(alloc: Global, tree: &mut Handle, form: &mut OutFo
 {
     let Some(mut whole) = tree.take(alloc) else {
         *form = no_form();
-        return EINVAL;
+        return EBADF;
     };
     let found = whole.check();
     tree.put(whole);

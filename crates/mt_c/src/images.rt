@@ -11,7 +11,7 @@ use crate::copies::{fitted, used_in};
 use crate::handle::Handle;
 use crate::own_tree::OwnTree;
 use crate::replay::put;
-use crate::told::{EBADMSG, EBUSY, EINVAL, ENOMEM, ERANGE};
+use crate::told::{EALREADY, EBADF, EBADMSG, ENOMEM, ERANGE};
 use core::mem::replace_with;
 use mt_base::{Kind, NoMemory};
 use mt_engine::Engine;
@@ -48,7 +48,7 @@ impl OwnTree {
 }
 
 /// The number for bytes of which no image is read.
-fn status_for(why: ImageError) -> u32
+pub fn status_for(why: ImageError) -> u32
     ensures { ((result ≡ 74) × (why ≢ errors.NoMemory)) ⊎ (result ≡ 12) }
 {
     match why {
@@ -87,7 +87,7 @@ pub extern "C" fn maple_image(
 {
     *used = 0;
     let Some(mut whole) = tree.take(alloc) else {
-        return EINVAL;
+        return EBADF;
     };
     let image = whole.image(alloc);
     tree.put(whole);
@@ -108,7 +108,7 @@ pub extern "C" fn maple_open_image(alloc: Global, tree: &mut Handle, bytes: &[u8
 {
     if let Some(whole) = tree.take(alloc) {
         tree.put(whole);
-        return EBUSY;
+        return EALREADY;
     }
     match of_image(alloc, bytes, rows) {
         Ok(whole) => {

@@ -1,6 +1,7 @@
 //! The maple tree for C programs.
 #![tactic(auto)]
 
+mod bounded;
 mod building;
 mod calls;
 mod copies;
@@ -16,15 +17,20 @@ mod opens;
 mod own_calls;
 mod own_tree;
 mod parts;
+mod places;
 mod preparing;
 mod purse;
 mod purse_acts;
 mod receipts;
 mod replay;
+mod rows_for;
 mod shared;
 mod shared_exports;
+mod shared_images;
+mod shared_maps;
 mod shared_opens;
 mod shared_told;
+mod stats;
 mod steps;
 mod told;
 mod user;

@@ -8,7 +8,7 @@ ghost use Rattle.mt_c.specs.Opening.{IsNewTree, Opened, OpenedNew};
 
 use crate::handle::Handle;
 use crate::own_tree::OwnTree;
-use crate::told::{EBUSY, EINVAL, ENOMEM};
+use crate::told::{EALREADY, EDOM, EINVAL, ENOMEM};
 use mt_base::{Kind, MOST_ROWS, NoMemory};
 use std::alloc::Global;
 
@@ -42,7 +42,7 @@ fn opened(alloc: Global, code: u32, rows: u64) -> (Handle, u32)
         return (Handle::closed(), EINVAL);
     };
     if rows > MOST_ROWS {
-        return (Handle::closed(), EINVAL);
+        return (Handle::closed(), EDOM);
     }
     match boxed(alloc, kind, rows) {
         Ok(whole) => (Handle::of(whole), 0),
@@ -57,7 +57,7 @@ pub extern "C" fn maple_open(alloc: Global, tree: &mut Handle, kind: u32, rows: 
 {
     if let Some(whole) = tree.take(alloc) {
         tree.put(whole);
-        return EBUSY;
+        return EALREADY;
     }
     let (made, status) = opened(alloc, kind, rows);
     tree.set(made);

@@ -5,7 +5,7 @@ ghost use Rattle.mt_base.specs.declared.calls.Call.TheVariants.{StorePre};
 ghost use Rattle.mt_c.specs.Preparing.{Prepared, PreCalled, pre_status, pre_word};
 
 use crate::handle::Handle;
-use crate::told::{EINVAL, ENOMEM, status_of, word_of};
+use crate::told::{EBADF, ENOMEM, status_of, word_of};
 use mt_base::Reply;
 use std::alloc::Global;
 
@@ -35,7 +35,7 @@ pub extern "C" fn maple_preallocate(alloc: Global, tree: &mut Handle) -> u32
     ensures { Prepared tree.old.kept.value tree.new.kept.value result }
 {
     let Some(mut whole) = tree.take(alloc) else {
-        return EINVAL;
+        return EBADF;
     };
     let is_ready = whole.preallocate();
     tree.put(whole);
@@ -57,7 +57,7 @@ pub extern "C" fn maple_store_prealloc(
 {
     let Some(mut whole) = tree.take(alloc) else {
         *old = 0;
-        return EINVAL;
+        return EBADF;
     };
     let made = whole.store_prealloc(first, last, entry);
     tree.put(whole);

@@ -1,11 +1,13 @@
 //! Queries, steps and calls of what C keeps of a shared tree.
 
 ghost use Rattle.mt_base.specs.declared.calls.Query.TheVariants.{Load};
-ghost use Rattle.mt_c.specs.Shared.{SharedAsked, SharedLearned, SharedSettled, SharedStepped, SharedSynced, SharedTried};
+ghost use Rattle.mt_c.specs.Shared.{SharedAsked, SharedLearned, SharedPaused, SharedSettled, SharedStepped, SharedSynced, SharedTried};
 
-use crate::shared_told::{EAGAIN, Outcome, Window, answer_told, no_outcome, place_behind, seen};
+use crate::shared_told::{
+    EINPROGRESS, Outcome, Window, answer_told, no_outcome, place_behind, seen,
+};
 use crate::steps::OutWalk;
-use crate::told::{EINVAL, no_range};
+use crate::told::{EBADF, no_range};
 use crate::user_handle::UserHandle;
 use mt_base::{Call, Query};
 use std::alloc::Global;
@@ -17,7 +19,7 @@ pub fn ask(alloc: Global, user: &mut UserHandle, query: &Query, out: &mut Window
 {
     let Some(mut whole) = user.take(alloc) else {
         *out = seen(0, 0, no_range());
-        return EINVAL;
+        return EBADF;
     };
     let answer = whole.ask(query);
     user.put(whole);
@@ -33,13 +35,26 @@ pub fn load(alloc: Global, user: &mut UserHandle, index: u64, out: &mut Window) 
 {
     let Some(mut whole) = user.take(alloc) else {
         *out = seen(0, 0, no_range());
-        return EINVAL;
+        return EBADF;
     };
     let read = whole.load(index);
     user.put(whole);
     let (window, status) = answer_told(Ok(read));
     *out = window;
     status
+}
+
+/// Gives up the walk of what C keeps.
+#[tactic(auto, using(crate::proofs::Sharing::paused_open, crate::proofs::Sharing::paused_closed))]
+pub fn pause(alloc: Global, user: &mut UserHandle) -> u32
+    ensures { SharedPaused user.old.kept.value user.new.kept.value result }
+{
+    let Some(mut whole) = user.take(alloc) else {
+        return EBADF;
+    };
+    whole.rest();
+    user.put(whole);
+    0
 }
 
 /// Makes one step of a walk of C's.
@@ -49,11 +64,11 @@ pub fn step(alloc: Global, user: &mut UserHandle, walk: &mut OutWalk, out: &mut 
 {
     let Some(mut whole) = user.take(alloc) else {
         *out = seen(0, 0, no_range());
-        return EINVAL;
+        return EBADF;
     };
     let read = whole.step_from(walk.index());
     user.put(whole);
-    *walk = OutWalk::from_index(place_behind(read.value));
+    *walk = OutWalk::from_index(place_behind(read.value, u64::MAX));
     let (window, status) = answer_told(Ok(read));
     *out = window;
     status
@@ -65,11 +80,11 @@ pub fn learn(alloc: Global, user: &mut UserHandle, calls: u64) -> u32
     ensures { SharedLearned calls user.old.kept.value user.new.kept.value result }
 {
     let Some(mut whole) = user.take(alloc) else {
-        return EINVAL;
+        return EBADF;
     };
     let read = whole.look();
     user.put(whole);
-    if calls <= read.lo { 0 } else { EAGAIN }
+    if calls <= read.lo { 0 } else { EINPROGRESS }
 }
 
 /// Sees the whole history, if the tree's lock is free.
@@ -79,7 +94,7 @@ pub fn sync(alloc: Global, user: &mut UserHandle, calls: &mut u64) -> u32
 {
     let Some(mut whole) = user.take(alloc) else {
         *calls = 0;
-        return EINVAL;
+        return EBADF;
     };
     let (told, status) = whole.sync_told();
     user.put(whole);
@@ -95,7 +110,7 @@ pub fn settle(alloc: Global, user: &mut UserHandle, calls: &mut u64, passes: &mu
     let Some(mut whole) = user.take(alloc) else {
         *calls = 0;
         *passes = 0;
-        return EINVAL;
+        return EBADF;
     };
     let (told, met, status) = whole.settle_told();
     user.put(whole);
@@ -111,7 +126,7 @@ pub fn try_call(alloc: Global, user: &mut UserHandle, call: &Call, out: &mut Out
 {
     let Some(mut whole) = user.take(alloc) else {
         *out = no_outcome();
-        return EINVAL;
+        return EBADF;
     };
     let (outcome, status) = whole.try_told(call);
     user.put(whole);

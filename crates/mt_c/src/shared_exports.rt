@@ -2,9 +2,9 @@
 
 ghost use Rattle.mt_base.specs.declared.calls.Call.TheVariants.{Store, StorePre, Insert, Erase, Alloc, Ralloc, Gap, Rgap, Clear};
 ghost use Rattle.mt_base.specs.declared.calls.Query.TheVariants.{Load, Find, Next, Prev, Rfind};
-ghost use Rattle.mt_c.specs.Shared.{SharedAsked, SharedLearned, SharedSettled, SharedStepped, SharedSynced, SharedTried};
+ghost use Rattle.mt_c.specs.Shared.{SharedAsked, SharedLearned, SharedPaused, SharedSettled, SharedStepped, SharedSynced, SharedTried};
 
-use crate::shared::{ask, learn, load, settle, step, sync, try_call};
+use crate::shared::{ask, learn, load, pause, settle, step, sync, try_call};
 use crate::shared_told::{Outcome, Window};
 use crate::steps::OutWalk;
 use crate::user_handle::UserHandle;
@@ -92,6 +92,14 @@ pub extern "C" fn maple_shared_step(
     ensures { SharedStepped walk.old walk.new user.old.kept.value user.new.kept.value result read.new }
 {
     step(alloc, user, walk, read)
+}
+
+/// Gives up the walk of the user, and the leaf that it keeps.
+#[unsafe(no_mangle)]
+pub extern "C" fn maple_pause(alloc: Global, user: &mut UserHandle) -> u32
+    ensures { SharedPaused user.old.kept.value user.new.kept.value result }
+{
+    pause(alloc, user)
 }
 
 /// The user has then seen so many calls, where it answers 0.

@@ -1,13 +1,14 @@
 //! Opening, sharing and closing users of a shared tree.
 
-ghost use Rattle.std.specs.Prelude.{◌≡◌, Err, None, Some, IfOk};
+ghost use Rattle.std.specs.Prelude.{◌≡◌, [], Err, None, Some, IfOk};
 ghost use Rattle.mt_tree.specs.Shapes.{first_bad};
 ghost use Rattle.mt_tree.specs.declared.shapes.Field.{Field};
 ghost use Rattle.mt_tree.specs.declared.shapes.MakeError.TheVariants as make_error;
 ghost use Rattle.mt_c.specs.Shared.{IsFirst, SharedLeft, SharedNew, SharedOpened, SharedWith};
 
 use crate::opens::kind_of;
-use crate::told::{EBUSY, EINVAL, ENOMEM};
+use crate::shared_told::field_status;
+use crate::told::{EALREADY, EBADF, EINVAL, ENOMEM};
 use crate::user::User;
 use crate::user_handle::UserHandle;
 use mt_tree::{MakeError, Shape};
@@ -17,7 +18,7 @@ use std::alloc::Global;
 fn boxed(alloc: Global, shape: Shape) -> Result<Box<User>, MakeError>
     ensures bad { (field : Field) → result ≡ Err (make_error.BadShape field) → first_bad shape ≡ Some field }
     ensures short { result ≡ Err make_error.NoMemory → first_bad shape ≡ None }
-    ensures first { IfOk result (λ whole. (first_bad shape ≡ None) × IsFirst shape whole.value) }
+    ensures first { IfOk result (λ whole. (first_bad shape ≡ None) × IsFirst shape [] whole.value) }
 {
     let user = User::open(alloc, shape)?;
     match Box::new(alloc, user) {
@@ -27,7 +28,7 @@ fn boxed(alloc: Global, shape: Shape) -> Result<Box<User>, MakeError>
 }
 
 /// What an open of a closed user makes, and the number that C gets.
-#[tactic(auto, using(crate::proofs::Sharing::new_open, crate::proofs::Sharing::new_bad, crate::proofs::Sharing::new_short, crate::proofs::Sharing::no_such_shape, crate::proofs::Sharing::no_such_kind))]
+#[tactic(auto, using(crate::proofs::Sharing::new_open, crate::proofs::Sharing::new_bad, crate::proofs::Sharing::new_short, crate::proofs::Sharing::new_no_kind, crate::proofs::Sharing::bad_shape))]
 fn opened(alloc: Global, code: u32, rows: u64, passes: u32, calls: u64) -> (UserHandle, u32)
     ensures { SharedNew code rows passes calls result.0.kept.value result.1 }
 {
@@ -42,7 +43,7 @@ fn opened(alloc: Global, code: u32, rows: u64, passes: u32, calls: u64) -> (User
     };
     match boxed(alloc, shape) {
         Ok(whole) => (UserHandle::of(whole), 0),
-        Err(MakeError::BadShape { .. }) => (UserHandle::closed(), EINVAL),
+        Err(MakeError::BadShape { field }) => (UserHandle::closed(), field_status(field)),
         Err(MakeError::NoMemory) => (UserHandle::closed(), ENOMEM),
     }
 }
@@ -62,7 +63,7 @@ pub extern "C" fn maple_shared_open(
 {
     if let Some(whole) = user.take(alloc) {
         user.put(whole);
-        return EBUSY;
+        return EALREADY;
     }
     let (made, status) = opened(alloc, kind, rows, users, calls);
     user.set(made);
@@ -76,12 +77,12 @@ pub extern "C" fn maple_share(alloc: Global, user: &mut UserHandle, other: &mut 
     ensures { SharedWith user.old.kept.value user.new.kept.value other.old.kept.value other.new.kept.value result }
 {
     let Some(mut whole) = user.take(alloc) else {
-        return EINVAL;
+        return EBADF;
     };
     if let Some(open) = other.take(alloc) {
         other.put(open);
         user.put(whole);
-        return EBUSY;
+        return EALREADY;
     }
     let made = whole.share_told(alloc);
     user.put(whole);
@@ -101,7 +102,7 @@ pub extern "C" fn maple_leave(alloc: Global, user: &mut UserHandle) -> u32
     ensures { SharedLeft user.old.kept.value user.new.kept.value result }
 {
     let Some(whole) = user.take(alloc) else {
-        return EINVAL;
+        return EBADF;
     };
     match User::leave(whole) {
         Ok(_) => 0,
@@ -120,6 +121,6 @@ pub extern "C" fn maple_shared_close(alloc: Global, user: &mut UserHandle)
 {
     if let Some(mut whole) = user.take(alloc) {
         // a section that stood open would hold rows for good
-        whole.pause();
+        whole.rest();
     }
 }

@@ -4,22 +4,26 @@ ghost use Rattle.std.specs.Prelude.{◌≡◌};
 ghost use Rattle.mt_read.specs.Cursors as cursors;
 ghost use Rattle.mt_c.specs.Receipts.{when_settled, when_synced, when_tried, when_unchanged};
 ghost use Rattle.mt_c.specs.Shared as defined;
-ghost use Rattle.mt_c.specs.Walkers.{top};
 
 use crate::purse::Purse;
 use crate::receipts::Receipts;
-use crate::told::{ENOMEM, EOVERFLOW, OutRange, found_status, no_range, out_of, told_of};
+use crate::told::{
+    EDOM, ENOMEM, EOVERFLOW, OutRange, found_status, no_range, out_of, shortage_of, told_of,
+};
 use crate::user_acts::Settling;
 use crate::user_opens::Unchanged;
-use mt_base::Range;
+use mt_base::{Holder, Range};
 use mt_keep::Given;
-use mt_tree::{Busy, Done, Moved, Read, Tree, Worn};
+use mt_tree::{Busy, Done, Field, Moved, Read, Tree, Worn};
 
 /// Another user has the lock, or the leaf of a search for a neighbour was replaced: it may be tried again.
 pub const EAGAIN: u32 = 11;
 
-/// The tree has no pass left for another user.
+/// The tree has no pass left for another user, or would have too few or too many.
 pub const EUSERS: u32 = 87;
+
+/// Not so many calls have ended yet.
+pub const EINPROGRESS: u32 = 115;
 
 /// A read as C has it: `struct maple_read`, the window of the calls after which it is true, and the range that was found.
 #[repr(C)]
@@ -32,7 +36,8 @@ pub struct Window {
     pub entry: u64,
 }
 
-/// A call as C has it: `struct maple_done`, its number in the tree's history, and what it was answered.
+/// A call as C has it: `struct maple_done`, its number in the tree's history, and what it was answered. Where rows were short: how many
+/// are needed, free, in use and held, by whose section, the places of users being numbered from 1, and when that was opened.
 #[repr(C)]
 #[derive(Clone, Copy, Debug, PartialEq, Eq)]
 pub struct Outcome {
@@ -41,14 +46,20 @@ pub struct Outcome {
     pub first: u64,
     pub last: u64,
     pub entry: u64,
+    pub need: u64,
+    pub free: u64,
+    pub live: u64,
+    pub held: u64,
+    pub by: u64,
+    pub epoch: u64,
 }
 
-/// Where a walk looks from behind what a step found.
-pub fn place_behind(found: Option<Range>) -> Option<u64>
-    ensures { result ≡ cursors.place_behind found top }
+/// Where a walk up to an index looks from behind what a step found.
+pub fn place_behind(found: Option<Range>, max: u64) -> Option<u64>
+    ensures { result ≡ cursors.place_behind found max }
 {
     match found {
-        Some(range) if range.last < u64::MAX => Some(range.last + 1),
+        Some(range) if range.last < max => Some(range.last + 1),
         _ => None,
     }
 }
@@ -91,6 +102,23 @@ pub fn no_outcome() -> Outcome
         first: 0,
         last: 0,
         entry: 0,
+        need: 0,
+        free: 0,
+        live: 0,
+        held: 0,
+        by: 0,
+        epoch: 0,
+    }
+}
+
+/// The place of a user whose section holds rows back, and how many calls had ended when that was opened; zeros of none.
+fn holder_told(by: Option<Holder>) -> (u64, u64)
+    ensures place { result.0 ≡ defined.place_of by }
+    ensures epoch { result.1 ≡ defined.epoch_of by }
+{
+    match by {
+        None => (0, 0),
+        Some(Holder { pass, epoch }) => (pass as u64 + 1, epoch),
     }
 }
 
@@ -101,12 +129,20 @@ fn done_told(done: Done) -> (Outcome, u32)
 {
     let told = told_of(Some(done.reply));
     let OutRange { first, last, entry } = told.range;
+    let shortage = shortage_of(done.reply);
+    let (by, epoch) = holder_told(shortage.by);
     let outcome = Outcome {
         call: done.call,
         word: told.word,
         first,
         last,
         entry,
+        need: shortage.need,
+        free: shortage.free,
+        live: shortage.live,
+        held: shortage.held,
+        by,
+        epoch,
     };
     (outcome, told.status)
 }
@@ -169,6 +205,17 @@ pub fn settled_told(
             receipts.given = Some(given);
             (0, 0, EAGAIN)
         }
+    }
+}
+
+/// The number that C gets for a field of a shape that is out of range.
+pub fn field_status(field: Field) -> u32
+    ensures { result ≡ defined.field_status field }
+{
+    match field {
+        Field::Rows => EDOM,
+        Field::Passes => EUSERS,
+        Field::Calls => EOVERFLOW,
     }
 }
 

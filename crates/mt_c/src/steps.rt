@@ -9,7 +9,7 @@ ghost use Rattle.mt_c.specs.Walking.{IsStepped, Stepped, index_of, start_in, top
 
 use crate::handle::Handle;
 use crate::own_tree::OwnTree;
-use crate::told::{EINVAL, ENOENT, OutRange, no_range};
+use crate::told::{EBADF, ENOENT, OutRange, no_range};
 use mt_base::Range;
 use mt_engine::{Engine, RangeWalk};
 use mt_rows::PlainRows;
@@ -83,7 +83,7 @@ impl OwnTree {
     }
 
     /// The first range that ends at an index or above, from behind which a walk goes on then.
-    fn step(&mut self, index: Option<u64>) -> Option<Range>
+    pub fn step(&mut self, index: Option<u64>) -> Option<Range>
         ensures { IsStepped self.old self.new index result }
     {
         self.stand_at(index);
@@ -91,7 +91,7 @@ impl OwnTree {
     }
 
     /// The index behind the range that was told last.
-    fn behind(&self) -> Option<u64>
+    pub fn behind(&self) -> Option<u64>
         ensures { result ≡ self.now.place.next }
     {
         self.place.next
@@ -99,7 +99,12 @@ impl OwnTree {
 }
 
 /// Tells C what a step found, and the place behind it, and the number that it gets.
-fn tell(found: Option<Range>, behind: Option<u64>, range: &mut OutRange, walk: &mut OutWalk) -> u32
+pub fn tell(
+    found: Option<Range>,
+    behind: Option<u64>,
+    range: &mut OutRange,
+    walk: &mut OutWalk,
+) -> u32
     ensures status { result ≡ found_status found }
     ensures range { range.new ≡ out_of found }
     ensures walk { walk.new ≡ walk_from behind }
@@ -128,7 +133,7 @@ pub extern "C" fn maple_step(
 {
     let Some(mut whole) = tree.take(alloc) else {
         *range = no_range();
-        return EINVAL;
+        return EBADF;
     };
     let found = whole.step(walk.index());
     let behind = whole.behind();

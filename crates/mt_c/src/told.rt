@@ -3,13 +3,16 @@
 ghost use Rattle.std.specs.Prelude.{◌≡◌};
 ghost use Rattle.mt_c.specs.Calls as defined;
 
-use mt_base::{Range, Reply};
+use mt_base::{Range, Reply, Shortage};
+
+/// No range is there.
+pub const ENOENT: u32 = 2;
 
 /// A log has too many bytes.
 pub const E2BIG: u32 = 7;
 
-/// No range is there.
-pub const ENOENT: u32 = 2;
+/// The tree is closed, or the user.
+pub const EBADF: u32 = 9;
 
 /// Too few rows are free, or memory ran out.
 pub const ENOMEM: u32 = 12;
@@ -20,10 +23,10 @@ pub const EBUSY: u32 = 16;
 /// Some index is held already.
 pub const EEXIST: u32 = 17;
 
-/// The call means nothing, or the tree is closed, or the bytes are no log.
+/// The call means nothing, or there is no such kind, or the bytes are no log.
 pub const EINVAL: u32 = 22;
 
-/// A tree has too few or too many rows.
+/// A tree would have too few or too many rows.
 pub const EDOM: u32 = 33;
 
 /// A buffer is too short.
@@ -32,8 +35,11 @@ pub const ERANGE: u32 = 34;
 /// The text is of no run.
 pub const EBADMSG: u32 = 74;
 
-/// The tree has had all its calls.
+/// The tree has had all its calls, or would have too few or too many.
 pub const EOVERFLOW: u32 = 75;
+
+/// What is to be opened is open.
+pub const EALREADY: u32 = 114;
 
 /// A range as C has it: `struct maple_range`.
 #[repr(C)]
@@ -117,6 +123,22 @@ fn range_of(made: Option<Reply>) -> OutRange
     match made {
         Some(Reply::Was(range)) => out_of(Some(range)),
         _ => no_range(),
+    }
+}
+
+/// What a reply says of rows: zeros where these were no matter.
+pub fn shortage_of(reply: Reply) -> Shortage
+    ensures { result ≡ defined.shortage_of reply }
+{
+    match reply {
+        Reply::NoNodes(shortage) => shortage,
+        _ => Shortage {
+            need: 0,
+            free: 0,
+            live: 0,
+            held: 0,
+            by: None,
+        },
     }
 }
 

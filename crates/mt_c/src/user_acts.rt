@@ -4,9 +4,9 @@ ghost use Rattle.std.specs.Prelude.{◌≡◌, ◌+◌, ℕ, None, Ok, IfErr};
 ghost use Rattle.mt_base.specs.declared.calls.Query.TheVariants.{Load};
 ghost use Rattle.mt_keep.specs.Keeping.{cuts_of};
 ghost use Rattle.mt_tree.specs.Asks.{most_made};
-ghost use Rattle.mt_tree.specs.Trees.{IsPassOf};
+ghost use Rattle.mt_tree.specs.Trees.{IsPassOf, Takes};
 ghost use Rattle.mt_c.specs.Purses.{IsSeatedAt};
-ghost use Rattle.mt_c.specs.Users.{IsSettled, IsSynced, WentToSettle, common_of, cuts, known_to, paused, tree_of};
+ghost use Rattle.mt_c.specs.Users.{IsSettled, IsSynced, WentToSettle, common_of, cuts, known_to, paused, rested, tree_of};
 ghost use Rattle.mt_c.specs.Walkers.{GaveUp, IsAnswer, IsAtRest, IsTried, StepsFrom, Took, TriedOnce, WentOnce, halted, knows};
 
 use crate::purse::{Common, Purse};
@@ -72,6 +72,18 @@ impl User {
         ensures took { Took 0 self.old.walker self.new.walker.pass }
     {
         self.walker.pause(&self.common.tree);
+    }
+
+    /// Closes its section, whichever stands open, and forgets its walk.
+    pub fn rest(&mut self)
+        ensures common { common_of self.new ≡ common_of self.old }
+        ensures chair { self.new.chair ≡ self.old.chair }
+        ensures receipts { self.new.receipts ≡ self.old.receipts }
+        ensures known { known_to self.new ≡ rested self.old }
+        ensures rests { IsAtRest self.new.walker }
+        ensures takes { Takes 1 self.old.walker.pass self.new.walker.pass }
+    {
+        self.walker.rest(&self.common.tree);
     }
 
     /// Asks one query, without the lock.

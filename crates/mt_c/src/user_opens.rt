@@ -216,7 +216,7 @@ impl Common {
 }
 
 /// A user with the last of these passes of a new tree. The others are in the purse.
-fn first(alloc: Global, tree: Tree, passes: Vec<Pass>) -> Result<User, NoMemory>
+pub fn first(alloc: Global, tree: Tree, passes: Vec<Pass>) -> Result<User, NoMemory>
     requires passes { All (IsSpare tree) passes.items }
     requires some { 0 < vec_len passes }
     ensures tree { IfOk result (λ user. tree_of user ≡ tree) }
@@ -248,7 +248,7 @@ impl User {
         ensures bad { (field : Field) → result ≡ Err (make_error.BadShape field) → first_bad shape ≡ Some field }
         ensures good { IfOk result (λ _. first_bad shape ≡ None) }
         ensures short { result ≡ Err make_error.NoMemory → first_bad shape ≡ None }
-        ensures first { IfOk result (IsFirst shape) }
+        ensures first { IfOk result (IsFirst shape []) }
     {
         let (tree, passes) = match Tree::make(alloc, shape) {
             Ok(made) => made,

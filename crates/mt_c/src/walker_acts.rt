@@ -80,6 +80,19 @@ impl Walker {
         }
     }
 
+    /// Closes its section, whichever stands open, and forgets its walk.
+    #[tactic(auto, using(crate::proofs::Using::closed_stands))]
+    pub fn rest(&mut self, tree: &Tree)
+        requires { IsPassOf tree.now self.old.pass }
+        ensures of { IsPassOf tree.now self.new.pass }
+        ensures known { knows self.new ≡ record (knows self.old) { standing = None } }
+        ensures rests { IsAtRest self.new }
+        ensures takes { Takes 1 self.old.pass self.new.pass }
+    {
+        self.walk = None;
+        tree.halt(&mut self.pass, &mut Walk::new(0, 0));
+    }
+
     /// Asks one query, without the lock.
     #[tactic(auto, using(crate::proofs::Using::answer_made, crate::proofs::Using::rested, crate::proofs::Using::took_more, crate::proofs::Using::gave_up))]
     pub fn ask(&mut self, tree: &Tree, query: &Query) -> Result<Read<Option<Range>>, Moved>

@@ -98,7 +98,7 @@ impl error::Error for OpenError {}
 pub(crate) fn opened(status: u32) -> std::result::Result<(), OpenError> {
     match status {
         0 => Ok(()),
-        EINVAL | EDOM => Err(OpenError::Rows),
+        EDOM => Err(OpenError::Rows),
         EBADMSG => Err(OpenError::NoImage),
         EUSERS => Err(OpenError::NoPlace),
         _ => Err(OpenError::NoMemory),

@@ -89,6 +89,49 @@ impl Range {
     }
 }
 
+/// So many rows surely hold so many ranges: a tree of so many rows refuses no call for want of rows that finds so many ranges or
+/// fewer there, where no read of another thread holds rows. None where no tree has so many. It is for trees at their worst:
+/// mostly a row has 4 to 10 ranges.
+///
+/// ```
+/// assert_eq!(maple::rows_for(1000), Some(518));
+/// assert_eq!(maple::rows_for(200_000), None);
+/// ```
+pub fn rows_for(ranges: u64) -> Option<u64> {
+    // SAFETY: it has no pointers.
+    Some(unsafe { raw::maple_rows_for(ranges) }).filter(|rows| *rows <= MOST_ROWS)
+}
+
+/// How a tree uses its rows.
+#[derive(Clone, Copy, Debug, PartialEq, Eq)]
+pub struct Stats {
+    /// How many rows it has.
+    pub rows: u64,
+    /// Those that are free.
+    pub free: u64,
+    /// Those in use.
+    pub live: u64,
+    /// Those that were in use until a call replaced them, and are free again where the next call looks for rows.
+    pub held: u64,
+    /// Its levels.
+    pub height: u64,
+    /// How many calls were made.
+    pub calls: u64,
+}
+
+/// Why a call of a [`Writer`] was refused for want of rows.
+#[derive(Clone, Copy, Debug, PartialEq, Eq)]
+pub struct Shortage {
+    /// As many rows as a call needs.
+    pub need: u64,
+    /// How many are free.
+    pub free: u64,
+    /// How many are in use.
+    pub live: u64,
+    /// How many are held back, since a read of another reader or writer may still be in them. Where none is, the tree is full.
+    pub held: u64,
+}
+
 /// What a tree comes to.
 #[derive(Clone, Copy, Debug, PartialEq, Eq)]
 pub struct Form {

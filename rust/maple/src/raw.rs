@@ -66,6 +66,18 @@ pub struct RawForm {
     pub ranges: u64,
 }
 
+/// `struct maple_stats`.
+#[repr(C)]
+#[derive(Default)]
+pub struct RawStats {
+    pub rows: u64,
+    pub free: u64,
+    pub live: u64,
+    pub held: u64,
+    pub height: u64,
+    pub calls: u64,
+}
+
 /// `struct maple_read`.
 #[repr(C)]
 #[derive(Clone, Copy, Default)]
@@ -82,6 +94,12 @@ pub struct RawDone {
     pub call: u64,
     pub word: u64,
     pub was: RawRange,
+    pub need: u64,
+    pub free: u64,
+    pub live: u64,
+    pub held: u64,
+    pub by: u64,
+    pub epoch: u64,
 }
 
 type Tree = *mut RawTree;
@@ -111,7 +129,9 @@ extern "C" {
     pub fn maple_next(tree: Tree, index: u64, max: u64, range: *mut RawRange) -> u32;
     pub fn maple_prev(tree: Tree, index: u64, min: u64, range: *mut RawRange) -> u32;
     pub fn maple_rfind(tree: Tree, index: u64, min: u64, range: *mut RawRange) -> u32;
-    pub fn maple_step(tree: Tree, walk: *mut RawWalk, range: *mut RawRange) -> u32;
+    pub fn maple_step_to(tree: Tree, walk: *mut RawWalk, max: u64, range: *mut RawRange) -> u32;
+    pub fn maple_stats(tree: Tree, stats: *mut RawStats) -> u32;
+    pub fn maple_rows_for(ranges: u64) -> u64;
     pub fn maple_check(tree: Tree, form: *mut RawForm) -> u32;
     pub fn maple_image(tree: Tree, out: *mut u8, room: usize, used: *mut usize) -> u32;
 
@@ -127,6 +147,7 @@ extern "C" {
     ) -> u32;
 
     pub fn maple_shared_open(user: User, kind: u32, rows: u64, users: u32, calls: u64) -> u32;
+    pub fn maple_shared_of_tree(tree: Tree, user: User, rows: u64, users: u32, calls: u64) -> u32;
     pub fn maple_share(user: User, other: User) -> u32;
     pub fn maple_leave(user: User) -> u32;
     pub fn maple_shared_close(user: User);
@@ -135,7 +156,8 @@ extern "C" {
     pub fn maple_shared_next(user: User, index: u64, max: u64, read: *mut RawRead) -> u32;
     pub fn maple_shared_prev(user: User, index: u64, min: u64, read: *mut RawRead) -> u32;
     pub fn maple_shared_rfind(user: User, index: u64, min: u64, read: *mut RawRead) -> u32;
-    pub fn maple_shared_step(user: User, walk: *mut RawWalk, read: *mut RawRead) -> u32;
+    pub fn maple_shared_step_to(user: User, walk: *mut RawWalk, max: u64, read: *mut RawRead) -> u32;
+    pub fn maple_pause(user: User) -> u32;
     pub fn maple_try_store(user: User, first: u64, last: u64, entry: u64, done: *mut RawDone) -> u32;
     pub fn maple_try_insert(user: User, first: u64, last: u64, entry: u64, done: *mut RawDone) -> u32;
     pub fn maple_try_erase(user: User, index: u64, done: *mut RawDone) -> u32;

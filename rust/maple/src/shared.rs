@@ -4,7 +4,7 @@ use crate::errors::{done, opened, ENOENT};
 use crate::raw::{self, RawDone, RawRead, RawUser};
 use crate::waits::until_done;
 use crate::windows::{ends, Walk};
-use crate::{Error, Kind, OpenError, Range};
+use crate::{Error, Kind, OpenError, Range, Shortage};
 use std::fmt;
 use std::iter::FusedIterator;
 use std::num::NonZeroU64;
@@ -67,12 +67,17 @@ impl Shared {
     /// # Ok::<(), OpenError>(())
     /// ```
     pub fn new(kind: Kind, rows: u64, users: u32) -> Result<Shared, OpenError> {
+        // SAFETY: the user is closed.
+        Shared::opened_by(users, |user, users, calls| unsafe { raw::maple_shared_open(user, kind as u32, rows, users, calls) })
+    }
+
+    /// What opens a closed user for so many users and calls makes a tree, of which one place is its own.
+    pub(crate) fn opened_by(users: u32, open: impl FnOnce(&mut RawUser, u32, u64) -> u32) -> Result<Shared, OpenError> {
         if users > MOST_USERS {
             return Err(OpenError::Users);
         }
         let mut first = RawUser::CLOSED;
-        // SAFETY: the user is closed.
-        opened(unsafe { raw::maple_shared_open(&mut first, kind as u32, rows, users + 1, MOST_CALLS) })?;
+        opened(open(&mut first, users + 1, MOST_CALLS))?;
         Ok(Shared { first: Mutex::new(first) })
     }
 
@@ -91,7 +96,7 @@ impl Shared {
 
     /// A writer, which may go to another thread, and what its calls do where another thread has the lock.
     pub fn writer(&self, lock: Lock) -> Result<Writer, OpenError> {
-        Ok(Writer { reader: self.reader()?, lock, number: 0 })
+        Ok(Writer { reader: self.reader()?, lock, number: 0, shortage: None })
     }
 
     /// Sees the whole history, under the lock as soon as that is free, and so do all places that no reader or writer has: so
@@ -235,7 +240,7 @@ impl Reader {
 
     /// The ranges that have an index of the window, in rising order, and from the back in falling order; each is a read of
     /// its own. A step in rising order keeps its leaf, and rows that die meanwhile are not free for calls before the
-    /// iterator is gone.
+    /// iterator is at its end or gone.
     ///
     /// ```
     /// use maple::{Kind, Lock, Shared};
@@ -336,7 +341,7 @@ impl Iterator for Steps<'_> {
     fn next(&mut self) -> Option<Range> {
         let reader = &mut self.reader;
         // SAFETY: the user is open, and the pointers are of three objects that nobody else uses now.
-        self.walk.next(|walk| reader.ask(|user, read| unsafe { raw::maple_shared_step(user, walk, read) }))
+        self.walk.next(|walk, end| reader.ask(|user, read| unsafe { raw::maple_shared_step_to(user, walk, end, read) }))
     }
 }
 
@@ -351,10 +356,8 @@ impl FusedIterator for Steps<'_> {}
 
 impl Drop for Steps<'_> {
     fn drop(&mut self) {
-        // Any other read gives up the leaf that the reader keeps, and this one tells nothing.
-        let (mut told, user) = (RawRead::default(), &mut self.reader.user);
-        // SAFETY: the user is open, and the pointers are of two objects that nobody else uses now.
-        unsafe { raw::maple_shared_load(user, 0, &mut told) };
+        // SAFETY: the user is open, and nobody else uses it now.
+        unsafe { raw::maple_pause(&mut self.reader.user) };
     }
 }
 
@@ -401,6 +404,7 @@ pub struct Writer {
     reader: Reader,
     lock: Lock,
     number: u64,
+    shortage: Option<Shortage>,
 }
 
 impl Writer {
@@ -412,6 +416,8 @@ impl Writer {
             Lock::Tries => once(),
         };
         self.number = self.number.max(told.call);
+        let RawDone { need, free, live, held, .. } = told;
+        self.shortage = (need > 0).then_some(Shortage { need, free, live, held });
         (status, told)
     }
 
@@ -424,6 +430,21 @@ impl Writer {
     /// taken has none.
     pub fn number(&self) -> u64 {
         self.number
+    }
+
+    /// Why its last call was refused for want of rows, where it was.
+    ///
+    /// ```
+    /// use maple::{entries::of_value, Error, Kind, Lock, Shared};
+    /// let mut writer = Shared::new(Kind::Range, 4, 1)?.writer(Lock::Waits)?;
+    /// let full = (0..).map(|n| writer.store(10 * n..10 * n + 5, of_value(n))).find_map(Result::err);
+    /// assert_eq!(full, Some(Error::NoRows));
+    /// let shortage = writer.shortage().unwrap();
+    /// assert!(shortage.free < shortage.need && shortage.held == 0);
+    /// # Ok::<(), maple::OpenError>(())
+    /// ```
+    pub fn shortage(&self) -> Option<Shortage> {
+        self.shortage
     }
 
     /// Its way to read, which has seen its calls.

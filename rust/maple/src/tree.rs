@@ -1,9 +1,9 @@
 //! Trees of one thread.
 
 use crate::errors::{done, opened, ENOENT, ERANGE};
-use crate::raw::{self, RawForm, RawRange, RawTree};
+use crate::raw::{self, RawForm, RawRange, RawStats, RawTree};
 use crate::windows::{ends, Walk};
-use crate::{CheckError, Error, Form, Kind, OpenError, Range, MOST_ROWS};
+use crate::{CheckError, Error, Form, Kind, OpenError, Range, Shared, Stats, MOST_ROWS};
 use std::cell::RefCell;
 use std::fmt;
 use std::iter::FusedIterator;
@@ -208,6 +208,44 @@ impl Tree {
             0 => Ok(Form { height: form.height, rows: form.rows, ranges: form.ranges }),
             _ => Err(CheckError::Broken),
         }
+    }
+
+    /// How the tree uses its rows.
+    ///
+    /// ```
+    /// use maple::{Kind, Tree};
+    /// use std::num::NonZeroU64;
+    /// let mut tree = Tree::new(Kind::Range, 100).unwrap();
+    /// tree.store(3..=5, NonZeroU64::new(1)).unwrap();
+    /// let stats = tree.stats();
+    /// assert_eq!((stats.rows, stats.free, stats.live, stats.calls), (100, 99, 1, 1));
+    /// ```
+    pub fn stats(&self) -> Stats {
+        let mut told = RawStats::default();
+        // SAFETY: the tree is open, and the pointers are of two objects that nobody else uses now.
+        unsafe { raw::maple_stats(&mut *self.raw.borrow_mut(), &mut told) };
+        let RawStats { rows, free, live, held, height, calls } = told;
+        Stats { rows, free, live, held, height, calls }
+    }
+
+    /// A shared tree with its map, in so many rows, as [`Shared::new`](crate::Shared::new) has them and no fewer than this one has
+    /// in use, for so many readers and writers at a time.
+    ///
+    /// ```
+    /// use maple::{Kind, OpenError, Tree};
+    /// use std::num::NonZeroU64;
+    /// let mut tree = Tree::new(Kind::Range, 100)?;
+    /// tree.store(3..=5, NonZeroU64::new(1)).unwrap();
+    /// let shared = tree.share(100, 2)?;
+    /// assert_eq!(shared.reader()?.load(4).unwrap().indexes(), 3..=5);
+    /// assert_eq!(tree.share(3, 2).err(), Some(OpenError::Rows));
+    /// # Ok::<(), OpenError>(())
+    /// ```
+    pub fn share(&self, rows: u64, users: u32) -> Result<Shared, OpenError> {
+        Shared::opened_by(users, |user, users, calls| {
+            // SAFETY: the tree is open and the user closed.
+            unsafe { raw::maple_shared_of_tree(&mut *self.raw.borrow_mut(), user, rows, users, calls) }
+        })
     }
 
     /// A call that answers a word.
@@ -466,7 +504,7 @@ impl Tree {
 
     fn step(&self, walk: &mut Walk) -> Option<Range> {
         // SAFETY: the tree is open, and the pointers are of three objects that nobody else uses now.
-        walk.next(|walk| self.ask(|tree, found| unsafe { raw::maple_step(tree, walk, found) }))
+        walk.next(|walk, end| self.ask(|tree, found| unsafe { raw::maple_step_to(tree, walk, end, found) }))
     }
 
     fn step_back(&self, walk: &mut Walk) -> Option<Range> {

@@ -38,13 +38,13 @@ impl Walk {
         (self.walk.next, self.end)
     }
 
-    /// The first range that is left, by a step of the walk.
-    pub(crate) fn next(&mut self, step: impl FnOnce(&mut RawWalk) -> Option<Range>) -> Option<Range> {
+    /// The first range that is left, by a step of the walk that looks no further than the window's end.
+    pub(crate) fn next(&mut self, step_to: impl FnOnce(&mut RawWalk, u64) -> Option<Range>) -> Option<Range> {
         if self.is_done {
             return None;
         }
-        let range = step(&mut self.walk).filter(|range| range.first <= self.end);
-        self.is_done = self.walk.ended != 0 || range.is_none_or(|range| range.last >= self.end);
+        let range = step_to(&mut self.walk, self.end);
+        self.is_done = self.walk.ended != 0;
         range
     }
 

@@ -59,3 +59,33 @@ fn a_writer_is_refused_as_a_tree_is_and_each_call_has_a_number() {
     assert_eq!(writer.reader().iter().count(), 0);
     assert_eq!(writer.reader().sync(), 6);
 }
+
+#[test]
+fn a_tree_of_rows_enough_refuses_nothing() {
+    for ranges in [1, 10, 100, 1000] {
+        let mut tree = Tree::new(Kind::Range, maple::rows_for(ranges).unwrap()).unwrap();
+        for n in 0..=ranges {
+            assert_eq!(tree.store(7 * n..7 * n + 3, Some(entry(4096))), Ok(None));
+        }
+        assert_eq!(tree.stats().calls, ranges + 1);
+    }
+}
+
+#[test]
+fn an_iterator_that_is_gone_holds_no_rows() {
+    let mut tree = Tree::new(Kind::Range, 40).unwrap();
+    (0..20).for_each(|n| assert!(tree.store(10 * n..10 * n + 5, Some(entry(4096))).is_ok()));
+    let shared = tree.share(40, 2).unwrap();
+    let (mut writer, mut reader) = (shared.writer(Lock::Waits).unwrap(), shared.reader().unwrap());
+    let mut steps = reader.range(..);
+    assert_eq!(steps.by_ref().take(3).count(), 3);
+    let replace = |writer: &mut maple::Writer, n: u64| {
+        let (at, there) = (10 * (n % 20), n / 20 % 2 == 0);
+        writer.store(at + 6..at + 9, there.then(|| entry(4096)))
+    };
+    assert_eq!((0..1000).find_map(|n| replace(&mut writer, n).err()), Some(Error::NoRows));
+    assert!(writer.shortage().unwrap().held > 0);
+    drop(steps);
+    assert_eq!((0..1000).find_map(|n| replace(&mut writer, n).err()), None);
+    assert_eq!(writer.shortage(), None);
+}

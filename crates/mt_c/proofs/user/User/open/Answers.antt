@@ -1,4 +1,4 @@
-use Rattle.std.proofs.Common.{Err, ap, refl, ◌≡◌}
+use Rattle.std.proofs.Common.{Err, [], ap, refl, ◌≡◌}
 use Rattle.mt_tree.specs.declared.shapes.MakeError.TheVariants as make_error
 use Rattle.mt_c.proofs.Using.{is_first, new_spare, none_bad, none_short}
 use Rattle.mt_c.proofs.user.User.open.Goals as goal
@@ -14,7 +14,7 @@ returns-in-Ok-first-clause-good c = none_bad c.args.shape _ c.in-Ok.made c.in-Ok
 
 pub returns-in-Ok-first-clause-first : goal.returns-in-Ok-first-clause-first
 returns-in-Ok-first-clause-first c =
-    is_first c.args.shape c.in-Ok.made.0 c.in-Ok.made.1.items c.in-Ok-first.user c.in-Ok.ensures.new c.in-Ok-first.ensures.tree c.in-Ok-first.ensures.passes c.in-Ok-first.ensures.chair c.in-Ok-first.ensures.walk c.in-Ok-first.ensures.none
+    is_first c.args.shape [] c.in-Ok.made.0 c.in-Ok.made.1.items c.in-Ok-first.user c.in-Ok.ensures.new c.in-Ok-first.ensures.tree c.in-Ok-first.ensures.passes c.in-Ok-first.ensures.chair c.in-Ok-first.ensures.walk c.in-Ok-first.ensures.none
 
 pub returns-in-Err-clause-short : goal.returns-in-Err-clause-short
 returns-in-Err-clause-short c = λ e. let why : c.in-Err.why ≡ make_error.NoMemory = cc in none_short c.args.shape _ c.in-Err.ensures.bad (ap Err why)

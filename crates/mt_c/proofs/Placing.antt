@@ -1,0 +1,13 @@
+-- Which place of a shared tree a user has, read off its pass.
+use Rattle.std.proofs.Common.{◌≡◌, ℕ, Option, Some, None, refl}
+use Rattle.std.specs.Prelude.{◌+◌}
+use Rattle.mt_c.specs.declared.user.User.{User}
+use Rattle.mt_c.specs.Shared.{known_to}
+use Rattle.mt_c.specs.Places.{SharedPlaced}
+use Rattle.mt_c.proofs.Sharing.{on_closed, on_open}
+
+pub placed_open : (before after : Option User) (u : User) (status place : ℕ) → before ≡ Some u → after ≡ Some u → status ≡ 0 → place ≡ (known_to u).number + 1 → SharedPlaced before after status place
+placed_open before after u status place was is number told = on_open before after u u status _ _ was is refl (refl, number, told)
+
+pub placed_closed : (before after : Option User) (status place : ℕ) → before ≡ None → after ≡ None → status ≡ 9 → place ≡ 0 → SharedPlaced before after status place
+placed_closed before after status place was is number none = on_closed before after status _ _ was is number none

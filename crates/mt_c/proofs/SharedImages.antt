@@ -1,0 +1,85 @@
+-- A shared tree that opens with the map of an image, or of ranges, or why there is none.
+use Rattle.std.proofs.Common.{◌≡◌, ◌≢◌, ℕ, List, Option, Some, None, refl, sym, ap, subst, inl, inr, arith}
+use Rattle.std.specs.Prelude.{◌⊎◌, Result, Ok, Err, IsErr}
+use Rattle.mt_base.specs.declared.kinds.Kind.{Kind}
+use Rattle.mt_base.specs.declared.ranges.Range.{Range}
+use Rattle.mt_bulk.specs.Builds.{IsBuilt}
+use Rattle.mt_bulk.specs.Bulk.{rows_in}
+use Rattle.mt_bulk.specs.Items.{misplaced}
+use Rattle.mt_image.specs.declared.errors.ImageError.{ImageError}
+use Rattle.mt_image.specs.declared.errors.ImageError.TheVariants as errors
+use Rattle.mt_image.specs.Bytes.{kind_code}
+use Rattle.mt_image.specs.Reading.{Image, image_in}
+use Rattle.mt_image.proofs.FewReached.{few_reached}
+use Rattle.mt_rows.specs.Publish.{IsLawfulOf, map_by}
+use Rattle.mt_rows.specs.Sheet.{Rooted, Sheet}
+use Rattle.mt_tree.specs.declared.shapes.Shape.{Shape}
+use Rattle.mt_c.specs.declared.building.Why.{Why}
+use Rattle.mt_c.specs.declared.user.User.{User}
+use Rattle.mt_c.specs.Building.{LacksAnyhow}
+use Rattle.mt_c.specs.SharedImages.{IsFirstOfImage, IsFirstOfRanges, LacksFirstOfImage, LacksFirstOfRanges, LacksMany, OpensUser, SharedBuilds}
+use Rattle.mt_c.specs.SharedMaps.{IsFirstWith, LacksWith, shape_for}
+use Rattle.mt_c.proofs.RangesBuilt.{lacks_anyhow}
+
+-- where the rows are fewer than lawful words have in use, they are fewer than those have
+many_lack : (shape : Shape) (words : Rooted) (status : ℕ) → IsLawfulOf words shape.kind → LacksWith shape words status → LacksMany shape words.rows status
+many_lack shape words status lawful (inl bad) = inl bad
+many_lack shape words status lawful (inr (inl few)) = (let least = few.1 in let within = few_reached shape.kind words lawful in inr (inl (few.0, omega (arith, least, within))))
+many_lack shape words status lawful (inr (inr none)) = inr (inr none)
+
+-- ---- images
+
+module _ (bytes : List ℕ) (rows passes calls : ℕ) where
+  pub no_image : (e : ImageError) (status : ℕ) → ((status ≡ 74) × (e ≢ errors.NoMemory)) ⊎ (status ≡ 12) → (e ≢ errors.NoMemory → image_in bytes ≡ Err e) → LacksFirstOfImage bytes rows passes calls status
+  no_image e status (inl other) tells = inl (other.0, subst (λ (r : Result Image ImageError). IsErr r) (sym (tells other.1)) refl)
+  no_image e status (inr none) tells = inr (inr none)
+
+  module _ (kind : Kind) (tree : Rooted) (read : image_in bytes ≡ Ok (record { kind = kind; tree = tree })) where
+    pub of_image : (u : User) → IsFirstWith (shape_for kind rows passes calls) (map_by tree) u → IsFirstOfImage bytes rows passes calls u
+    of_image u first = (record { kind = kind; tree = tree }, read, first)
+
+    pub image_lacks : (status : ℕ) → IsLawfulOf tree kind → LacksWith (shape_for kind rows passes calls) tree status → LacksFirstOfImage bytes rows passes calls status
+    image_lacks status lawful lacks = inr (inl (record { kind = kind; tree = tree }, read, many_lack (shape_for kind rows passes calls) tree status lawful lacks))
+
+-- ---- ranges
+
+module _ (code rows passes calls : ℕ) (m : List Range) where
+  pub no_kind_ranges : (why : Why) → why ≡ record { status = 22; at = 0 } → ((kind : Kind) → kind_code kind ≢ code) → LacksFirstOfRanges code rows passes calls m why.status why.at
+  no_kind_ranges why is none = subst (λ (w : Why). LacksFirstOfRanges code rows passes calls m w.status w.at) (sym is) (inl (inl (refl, refl, none)))
+
+  module _ (kind : Kind) (coded : kind_code kind ≡ code) where
+    pub no_ranges : (why : Why) → LacksAnyhow kind m why → LacksFirstOfRanges code rows passes calls m why.status why.at
+    no_ranges why lacks = inl (lacks_anyhow code rows kind m coded why lacks)
+
+    module _ (s : Sheet) (built : IsBuilt kind m s) where
+      pub of_ranges : (u : User) → misplaced kind m ≡ None → IsFirstWith (shape_for kind rows passes calls) (map_by s.tree) u → IsFirstOfRanges code rows passes calls m u
+      of_ranges u good first = (kind, coded, good, subst (λ (x : List Range). IsFirstWith (shape_for kind rows passes calls) x u) built.map first)
+
+      pub ranges_lack : (status : ℕ) (why : Why) → LacksWith (shape_for kind rows passes calls) s.tree status → why ≡ record { status = status; at = 0 } → LacksFirstOfRanges code rows passes calls m why.status why.at
+      ranges_lack status why lacks is =
+          let many : s.tree.rows ≡ rows_in kind m = ap (λ (x : Sheet). x.tree.rows) built.words.rest in
+          subst (λ (w : Why). LacksFirstOfRanges code rows passes calls m w.status w.at) (sym is)
+          (inr (kind, coded, refl, subst (λ (n : ℕ). LacksMany (shape_for kind rows passes calls) n status) many (many_lack (shape_for kind rows passes calls) s.tree status built.lawful lacks)))
+
+-- ---- what C keeps
+
+module _ (is : User → Type 0) (lacks : ℕ → Type 0) (before after : Option User) (status : ℕ) where
+  pub opens_busy : (u : User) → before ≡ Some u → after ≡ Some u → status ≡ 114 → OpensUser is lacks before after status
+  opens_busy u was stays number = rw was (stays, number)
+
+  pub opens_made : (u : User) → before ≡ None → after ≡ Some u → status ≡ 0 → is u → OpensUser is lacks before after status
+  opens_made u was made number ok = rw (was, made) (number, ok)
+
+  pub opens_none : before ≡ None → after ≡ None → lacks status → OpensUser is lacks before after status
+  opens_none was stays why = rw (was, stays) why
+
+module _ (code rows passes calls : ℕ) (m : List Range) (before after : Option User) (status at : ℕ) where
+  pub builds_busy : (u : User) → before ≡ Some u → after ≡ Some u → status ≡ 114 → at ≡ 0 → SharedBuilds code rows passes calls m before after status at
+  builds_busy u was stays number place = rw was (stays, number, place)
+
+  pub builds_made : (u : User) → before ≡ None → after ≡ Some u → status ≡ 0 → at ≡ 0 → IsFirstOfRanges code rows passes calls m u → SharedBuilds code rows passes calls m before after status at
+  builds_made u was made number place ok = rw (was, made) (number, place, ok)
+
+  pub builds_none : (why : Why) → before ≡ None → after ≡ None → status ≡ why.status → at ≡ why.at → LacksFirstOfRanges code rows passes calls m why.status why.at → SharedBuilds code rows passes calls m before after status at
+  builds_none why was stays number place lacks =
+      subst (λ (x : Option User × (Option User × (ℕ × ℕ))). SharedBuilds code rows passes calls m x.0 x.1.0 x.1.1.0 x.1.1.1) (λ i. (sym was i, (sym stays i, (sym number i, sym place i)))) lacks

@@ -1,0 +1,65 @@
+-- A shared tree that opens with a map, or why there is none.
+use Rattle.std.proofs.Common.{◌≡◌, ◌≢◌, ℕ, Option, Some, None, refl, sym, subst, inl, inr}
+use Rattle.std.specs.Prelude.{◌↔◌, IfOk, Result, Ok, Err}
+use Rattle.mt_base.specs.declared.kinds.Kind.{Kind}
+use Rattle.mt_rows.specs.Publish.{map_by}
+use Rattle.mt_rows.specs.Sheet.{Rooted}
+use Rattle.mt_engine.specs.Engine.{Parts}
+use Rattle.mt_tree.specs.declared.shapes.DupError.{DupError}
+use Rattle.mt_tree.specs.declared.shapes.DupError.TheVariants as errors
+use Rattle.mt_tree.specs.declared.shapes.Field.{Field}
+use Rattle.mt_tree.specs.declared.shapes.Shape.{Shape}
+use Rattle.mt_tree.specs.Copies.{IsLiveCounted, live_rows}
+use Rattle.mt_tree.specs.Shapes.{first_bad}
+use Rattle.mt_c.specs.declared.user.User.{User}
+use Rattle.mt_c.specs.Calls.{IsAsked}
+use Rattle.mt_c.specs.Own.{OwnTree}
+use Rattle.mt_c.specs.SharedMaps.{IsFirstWith, LacksWith, OpensFirst, SharedOfTree, dup_status, shape_for}
+
+-- ---- a user of a tree that was made of rows, or none
+
+module _ {X : Type 0} (shape : Shape) (made : Result X DupError) (bad : (field : Field) → (made ≡ Err (errors.BadShape field)) ↔ (first_bad shape ≡ Some field)) where
+  -- a shape of which a tree was made is in range
+  pub good_shape : (x : X) → made ≡ Ok x → first_bad shape ≡ None
+  good_shape x ok = by_case (first_bad shape) refl
+    where
+      by_case : (o : Option Field) → first_bad shape ≡ o → first_bad shape ≡ None
+      by_case None is = is
+      by_case (Some field) is = let e : made ≡ Err (errors.BadShape field) = (bad field).1 is in cc
+
+  module _ (words : Rooted) (kind : Kind) (same : shape.kind ≡ kind) (counted : IsLiveCounted (live_rows words) shape.rows made) (invalid : (made ≡ Err errors.Invalid) ↔ ((first_bad shape ≡ None) × (shape.kind ≢ kind))) where
+    by_why : (why : DupError) → made ≡ Err why → LacksWith shape words (dup_status why)
+    by_why (errors.BadShape field) is = inl (field, (bad field).0 is, refl)
+    by_why errors.Invalid is = absurd ((invalid.0 is).1 same)
+    by_why (errors.NoNodes rows live) is = inr (inl (refl, (counted.few rows live is).2))
+    by_why errors.NoMemory is = inr (inr refl)
+
+    pub lacks_with : (why : DupError) (status : ℕ) → made ≡ Err why → status ≡ dup_status why → LacksWith shape words status
+    lacks_with why status is number = subst (LacksWith shape words) (sym number) (by_why why is)
+
+-- of an engine by whichever name, whose kind is the shape's
+pub first_told : {X : Type 0} (e t : Parts) (shape : Shape) (rows passes calls : ℕ) (made : Result X ℕ) (user_of : X → User) → shape ≡ shape_for e.kind rows passes calls → e ≡ t → IfOk made (λ x. IsFirstWith shape (map_by e.sheet.tree) (user_of x))
+    → IfOk made (λ x. IsFirstWith (shape_for t.kind rows passes calls) (map_by t.sheet.tree) (user_of x))
+first_told e t shape rows passes calls made user_of is same first =
+    subst (λ (y : Parts). IfOk made (λ x. IsFirstWith (shape_for y.kind rows passes calls) (map_by y.sheet.tree) (user_of x))) same
+    (subst (λ (s : Shape). IfOk made (λ x. IsFirstWith s (map_by e.sheet.tree) (user_of x))) is first)
+
+-- ---- what C keeps
+
+module _ (rows passes calls : ℕ) (before after : Option OwnTree) (other other' : Option User) (status : ℕ) where
+  pub of_closed : before ≡ None → after ≡ None → other' ≡ other → status ≡ 9 → SharedOfTree rows passes calls before after other other' status
+  of_closed was is same number = subst (λ (x : Option OwnTree). SharedOfTree rows passes calls x after other other' status) (sym was) (is, same, number)
+
+  module _ (t t' : OwnTree) (was : before ≡ Some t) (is : after ≡ Some t') (asked : IsAsked t.engine t'.engine) where
+    opens : OpensFirst (shape_for t.engine.kind rows passes calls) t.engine.sheet.tree other other' status → SharedOfTree rows passes calls before after other other' status
+    opens so = subst (λ (x : Option OwnTree × Option OwnTree). SharedOfTree rows passes calls x.0 x.1 other other' status) (λ i. (sym was i, sym is i)) (asked, so)
+
+    pub of_made : (u : User) → other ≡ None → other' ≡ Some u → status ≡ 0 → IsFirstWith (shape_for t.engine.kind rows passes calls) (map_by t.engine.sheet.tree) u → SharedOfTree rows passes calls before after other other' status
+    of_made u none made number first = opens (rw (none, made) (number, first))
+
+    pub of_none : other ≡ None → other' ≡ None → LacksWith (shape_for t.engine.kind rows passes calls) t.engine.sheet.tree status → SharedOfTree rows passes calls before after other other' status
+    of_none none stays lacks = opens (rw (none, stays) lacks)
+
+  -- the user was open, and the tree is as it was
+  pub of_open : (t : OwnTree) (o : User) → before ≡ Some t → after ≡ Some t → other ≡ Some o → other' ≡ Some o → status ≡ 114 → SharedOfTree rows passes calls before after other other' status
+  of_open t o was is there stays number = opens t t was is (record { rest = refl; book = refl; kind = refl }) (rw there (stays, number))

@@ -1,0 +1,11 @@
+use Rattle.std.proofs.Common.{ap}
+use Rattle.mt_base.specs.declared.kinds.Kind.{Kind}
+use Rattle.mt_c.specs.Own.{OwnTree}
+use Rattle.mt_c.specs.SharedMaps.{shape_for}
+use Rattle.mt_c.proofs.SharedMaps.{first_told}
+use Rattle.mt_c.proofs.own_tree.OwnTree.share.Goals as goal
+
+pub returns-clause-user : goal.returns-clause-user
+returns-clause-user c =
+    first_told c.self.inside.engine c.args.self.now.engine _ c.args.rows c.args.passes c.args.calls c.first_in.result (λ whole. whole.value) (ap (λ (k : Kind). shape_for k c.args.rows c.args.passes c.args.calls) c.self.invariant.told)
+    (ap (λ (t : OwnTree). t.engine) c.self.view_is) c.first_in.ensures.user

@@ -1,0 +1,7 @@
+use Rattle.std.proofs.Common.{ap}
+use Rattle.mt_c.specs.Own.{OwnTree}
+use Rattle.mt_c.proofs.Counting.{stats_there}
+use Rattle.mt_c.proofs.own_tree.OwnTree.stats.Goals as goal
+
+pub returns-clause-stats : goal.returns-clause-stats
+returns-clause-stats c = stats_there _ _ _ c.stats_in.ensures.stats (ap (λ (t : OwnTree). t.engine) c.self.view_is)

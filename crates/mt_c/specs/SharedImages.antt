@@ -1,0 +1,54 @@
+-- Shared trees that open with the map of an image, or of ranges. Source: this project's own.
+use Rattle.std.specs.Prelude.{◌≡◌, ◌⊎◌, ℕ, ◌<◌, List, Option, Some, None, Ok, IsErr}
+use Rattle.mt_base.specs.declared.kinds.Kind.{Kind}
+use Rattle.mt_base.specs.declared.ranges.Range.{Range}
+use Rattle.mt_bulk.specs.Bulk.{rows_in}
+use Rattle.mt_bulk.specs.Items.{misplaced}
+use Rattle.mt_image.specs.Bytes.{kind_code}
+use Rattle.mt_image.specs.Reading.{Image, image_in}
+use Rattle.mt_rows.specs.Publish.{map_by}
+use Rattle.mt_tree.specs.declared.shapes.Shape.{Shape}
+use Rattle.mt_c.specs.declared.user.User.{User}
+use Rattle.mt_c.specs.Building.{LacksRanges}
+use Rattle.mt_c.specs.Shared.{IsBadShape}
+use Rattle.mt_c.specs.SharedMaps.{IsFirstWith, shape_for}
+
+-- Why none of this shape has a map that needs so many rows: the number of a field that is out of range; EDOM where the rows are fewer; or
+-- ENOMEM.
+abbrev pub LacksMany : Shape → ℕ → ℕ → Type 0
+LacksMany shape many status = IsBadShape shape status ⊎ (((status ≡ 33) × (shape.rows < many)) ⊎ (status ≡ 12))
+
+-- An open of what C keeps of a user: the first of a tree that is so, or the number that says why there is none. One that is open is
+-- EALREADY, and stays as it was.
+abbrev pub OpensUser : (User → Type 0) → (ℕ → Type 0) → Option User → Option User → ℕ → Type 0
+OpensUser is lacks (Some u) after status = (after ≡ Some u) × (status ≡ 114)
+OpensUser is lacks None (Some u) status = (status ≡ 0) × is u
+OpensUser is lacks None None status = lacks status
+
+-- ---- images
+
+-- the first user of a tree with the map of the image that these bytes are
+abbrev pub IsFirstOfImage : List ℕ → ℕ → ℕ → ℕ → User → Type 0
+IsFirstOfImage bytes rows passes calls u = (x : Image) × (image_in bytes ≡ Ok x) × IsFirstWith (shape_for x.kind rows passes calls) (map_by x.tree) u
+
+-- why there is none: EBADMSG where the bytes are no image, or as of a map that needs the image's rows
+abbrev pub LacksFirstOfImage : List ℕ → ℕ → ℕ → ℕ → ℕ → Type 0
+LacksFirstOfImage bytes rows passes calls status =
+    ((status ≡ 74) × IsErr (image_in bytes)) ⊎ (((x : Image) × (image_in bytes ≡ Ok x) × LacksMany (shape_for x.kind rows passes calls) x.tree.rows status) ⊎ (status ≡ 12))
+
+-- ---- ranges
+
+-- the first user of a tree of the kind with this code that has just these ranges, which are in good order
+abbrev pub IsFirstOfRanges : ℕ → ℕ → ℕ → ℕ → List Range → User → Type 0
+IsFirstOfRanges code rows passes calls m u = (kind : Kind) × (kind_code kind ≡ code) × (misplaced kind m ≡ None) × IsFirstWith (shape_for kind rows passes calls) m u
+
+-- why there is none: as of one of one thread, or as of a map that needs the rows of these ranges
+abbrev pub LacksFirstOfRanges : ℕ → ℕ → ℕ → ℕ → List Range → ℕ → ℕ → Type 0
+LacksFirstOfRanges code rows passes calls m status at =
+    LacksRanges code rows m status at ⊎ ((kind : Kind) × (kind_code kind ≡ code) × (at ≡ 0) × LacksMany (shape_for kind rows passes calls) (rows_in kind m) status)
+
+-- Where a tree opens, or one is open, no place is told.
+abbrev pub SharedBuilds : ℕ → ℕ → ℕ → ℕ → List Range → Option User → Option User → ℕ → ℕ → Type 0
+SharedBuilds code rows passes calls m (Some u) after status at = (after ≡ Some u) × (status ≡ 114) × (at ≡ 0)
+SharedBuilds code rows passes calls m None (Some u) status at = (status ≡ 0) × (at ≡ 0) × IsFirstOfRanges code rows passes calls m u
+SharedBuilds code rows passes calls m None None status at = LacksFirstOfRanges code rows passes calls m status at

@@ -1,0 +1,50 @@
+//! How many rows surely hold so many ranges.
+
+ghost use Rattle.std.specs.Prelude.{◌≡◌, ◌≤◌, ◌<◌, ℕ, List, length};
+ghost use Rattle.mt_base.specs.declared.ranges.Range.{Range};
+ghost use Rattle.mt_base.specs.declared.replies.Shortage.{Shortage};
+ghost use Rattle.mt_base.specs.Nodes.{IsShort, Limits};
+ghost use Rattle.mt_base.specs.Width.{most_rows};
+ghost use Rattle.mt_c.specs.RowsFor as defined;
+
+use mt_base::MOST_ROWS;
+
+/// One level more, where a tree may have it.
+fn level_from(most: u64, least: u64) -> u64
+    ensures is { result ≡ defined.level_from most least }
+    ensures one { result ≤ 1 }
+{
+    if least <= most { 1 } else { 0 }
+}
+
+/// How many levels a tree of so many ranges may have.
+fn levels_for(ranges: u64) -> u64
+    requires { ranges ≤ 131008 }
+    ensures is { result ≡ defined.levels_for ranges }
+    ensures few { result ≤ 9 }
+{
+    let most = 2 * ranges + 1;
+    1 + level_from(most, 12)
+        + level_from(most, 48)
+        + level_from(most, 192)
+        + level_from(most, 768)
+        + level_from(most, 3072)
+        + level_from(most, 12288)
+        + level_from(most, 49152)
+        + level_from(most, 196_608)
+}
+
+/// How many rows surely hold so many ranges: a tree of so many rows, none of which is held, refuses no call for want of rows while it has
+/// so many ranges or fewer. The greatest number where a tree cannot have so many rows.
+#[tactic(auto, using(crate::proofs::RowsFor::enough, crate::proofs::RowsFor::enough_far, crate::proofs::RowsFor::told_rows, crate::proofs::RowsFor::told_many, crate::proofs::RowsFor::told_far))]
+#[unsafe(no_mangle)]
+pub extern "C" fn maple_rows_for(ranges: u64) -> u64
+    ensures rows { result ≡ defined.rows_told ranges }
+    ensures enough { (l : Limits) (m : List Range) (s : Shortage) → length m ≤ ranges → IsShort l m s → s.held ≡ 0 → l.rows < result }
+{
+    if ranges > 2 * MOST_ROWS {
+        return u64::MAX;
+    }
+    let rows = ranges / 2 + 3 * levels_for(ranges) + 3;
+    if rows <= MOST_ROWS { rows } else { u64::MAX }
+}
