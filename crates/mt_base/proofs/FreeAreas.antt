@@ -7,8 +7,11 @@ use Rattle.mt_base.specs.declared.kinds.Kind.{Kind}
 use Rattle.mt_base.specs.declared.ranges.Range.{Range}
 use Rattle.mt_base.specs.Width.{greatest_of}
 use Rattle.mt_base.specs.Map.{IsMapFrom, IsMap, overlaps, is_held}
-use Rattle.mt_base.specs.Holes.{Hole, holes_from, holes, clip, fits, kept, lowest_in, highest_in, low, high, IsRoom}
+use Rattle.mt_base.specs.Holes.{Hole, holes_from, clip, fits, kept, lowest_in, highest_in, low, high, IsRoom, holes_to}
 use Rattle.mt_base.proofs.Lists.{all_map}
+
+abbrev pub holes : Kind → List Range → List Hole
+holes kind = holes_to (greatest_of kind)
 
 -- ---- free areas
 

@@ -25,9 +25,6 @@ holes_from lo hi (r ∷ m) = hole_between lo r.first ++ holes_from (r.last + 1) 
 abbrev pub holes_to : ℕ → List Range → List Hole
 holes_to top m = holes_from 0 (top + 1) m
 
-abbrev pub holes : Kind → List Range → List Hole
-holes kind = holes_to (greatest_of kind)
-
 -- the part of a hole in a window; where it has none, the part ends before it begins
 abbrev pub clip : ℕ → ℕ → Hole → Hole
 clip lo hi x = record { first = max lo x.first; last = min hi x.last }

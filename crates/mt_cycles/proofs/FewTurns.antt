@@ -8,7 +8,7 @@ use Rattle.mt_base.specs.declared.kinds.Kind.TheVariants as kinds
 use Rattle.mt_base.specs.declared.calls.Call.TheVariants.{Erase}
 use Rattle.mt_base.specs.declared.ranges.Range.{Range}
 use Rattle.mt_base.specs.Call.{acted, erased}
-use Rattle.mt_base.specs.Holes.{holes, low}
+use Rattle.mt_base.specs.Holes.{low}
 use Rattle.mt_base.specs.Map.{IsMap, holding, holds}
 use Rattle.mt_base.specs.Width.{greatest_of}
 use Rattle.mt_base.proofs.CallsKeepOrder.{acted_is_map}
@@ -19,6 +19,7 @@ use Rattle.mt_ids.proofs.FewRanges.{found_is_free, one_range_more}
 use Rattle.mt_ids.proofs.OneCall.{lies_in}
 use Rattle.mt_cycles.specs.Only.{IsFew}
 use Rattle.mt_cycles.specs.Turns.{Turns, draws_behind, due, map_behind, map_without, new_turns, tallied, turn, turns}
+use Rattle.mt_base.proofs.FreeAreas.{holes}
 
 -- ---- a draw
 

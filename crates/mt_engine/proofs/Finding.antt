@@ -13,7 +13,7 @@ use Rattle.mt_base.specs.Call.{acted, found, placed, is_no_area, is_bad_area}
 use Rattle.mt_base.specs.Entry.{reserved}
 use Rattle.mt_base.specs.Holes.{IsRoom}
 use Rattle.mt_base.specs.Map.{IsMap, is_held, over}
-use Rattle.mt_base.specs.Width.{columns, greatest}
+use Rattle.mt_base.specs.Width.{columns, greatest, greatest_of}
 use Rattle.mt_base.proofs.CallsKeepOrder.{is_area}
 use Rattle.mt_base.proofs.FreeAreas.{low_is_room, high_is_room}
 use Rattle.mt_base.proofs.WidthBounds.{greatest_fits}
@@ -28,7 +28,7 @@ use Rattle.mt_engine.specs.declared.areas.Sought.{Sought}
 use Rattle.mt_engine.specs.declared.areas.Sought.TheVariants.{Lowest, Highest}
 use Rattle.mt_engine.specs.declared.plans.Plan.{Plan}
 use Rattle.mt_engine.specs.declared.plans.Plan.TheVariants as plans
-use Rattle.mt_engine.specs.Areas.{start_to, start_for, allocation, search}
+use Rattle.mt_engine.specs.Areas.{start_to, allocation, search}
 use Rattle.mt_engine.specs.Engine.{OnlySearches, is_refusal, most_searched}
 use Rattle.mt_engine.specs.Here.{IsHereAt}
 use Rattle.mt_engine.specs.Plans.{IsSearched, IsStoreOf, IsStorePlan}
@@ -38,6 +38,9 @@ use Rattle.mt_engine.proofs.Planning.{ComesToNothing}
 use Rattle.mt_engine.proofs.Slots.{tree_map}
 use Rattle.mt_engine.proofs.Wanting.{stays_replaces_none}
 use Rattle.mt_path.proofs.Loads.{rose_up}
+
+abbrev pub start_for : Sought → Kind → List Range → ℕ → ℕ → ℕ → Option ℕ
+start_for sought kind = start_to sought (greatest_of kind)
 
 -- ---- the conditions
 

@@ -21,9 +21,9 @@ use Rattle.mt_rows.proofs.Heights.{level_rows, map_of_split}
 use Rattle.mt_rows.proofs.Lists.{Filled, expand_fills, expand-append}
 use Rattle.mt_rows.proofs.Ranges as maps
 use Rattle.mt_path.specs.declared.paths.PathStep.{PathStep}
-use Rattle.mt_path.specs.Paths.{slot_for, span_at, step_in, below, path_in, step_at, At}
+use Rattle.mt_path.specs.Paths.{slot_for, span_at, step_in, below, path_in, step_at}
 use Rattle.mt_path.specs.Handles.{last_step, leaf_spans, handle_in}
-use Rattle.mt_path.proofs.Places.{at_parts}
+use Rattle.mt_path.proofs.Places.{at_parts, At}
 use Rattle.mt_path.proofs.TreePaths.{top_row, rows_at, row_of, levels, step, place, rows_fill, lawful, holds}
 use Rattle.mt_engine.specs.MapSpans.{IsSpanAt}
 use Rattle.mt_engine.proofs.SpanLists.{ranges, span_tells}

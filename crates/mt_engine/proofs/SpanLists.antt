@@ -8,8 +8,8 @@ use Rattle.mt_base.specs.Map.{holds, holding, overlaps, is_held}
 use Rattle.mt_layout.specs.declared.spans.Span.{Span}
 use Rattle.mt_layout.specs.Spans.{leaf_range, Fills, BeginsFull, Apart, EndsFull}
 use Rattle.mt_layout.proofs.SpanLists.{fills_le, full_before_hole, full_behind_hole}
-use Rattle.mt_path.specs.Paths.{At}
 use Rattle.mt_engine.specs.MapSpans.{range_of, IsSpanAt}
+use Rattle.mt_path.proofs.Places.{At}
 
 -- the ranges of spans, which are the map that they stand for
 abbrev pub ranges : List Span → List Range

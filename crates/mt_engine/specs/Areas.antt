@@ -3,10 +3,8 @@
 use Rattle.std.specs.Prelude.{ℕ, List, Option}
 use Rattle.mt_base.specs.declared.calls.Call.{Call}
 use Rattle.mt_base.specs.declared.calls.Call.TheVariants.{Alloc, Ralloc, Gap, Rgap}
-use Rattle.mt_base.specs.declared.kinds.Kind.{Kind}
 use Rattle.mt_base.specs.declared.ranges.Range.{Range}
 use Rattle.mt_base.specs.Holes.{low_to, high_to}
-use Rattle.mt_base.specs.Width.{greatest_of}
 use Rattle.mt_engine.specs.declared.areas.Sought.{Sought}
 use Rattle.mt_engine.specs.declared.areas.Sought.TheVariants.{Lowest, Highest}
 
@@ -14,9 +12,6 @@ use Rattle.mt_engine.specs.declared.areas.Sought.TheVariants.{Lowest, Highest}
 abbrev pub start_to : Sought → ℕ → List Range → ℕ → ℕ → ℕ → Option ℕ
 start_to Lowest top m n lo hi = low_to top m n lo hi
 start_to Highest top m n lo hi = high_to top m n lo hi
-
-abbrev pub start_for : Sought → Kind → List Range → ℕ → ℕ → ℕ → Option ℕ
-start_for sought kind = start_to sought (greatest_of kind)
 
 -- the call that stores an entry there
 abbrev pub allocation : Sought → ℕ → ℕ → ℕ → ℕ → Call

@@ -21,10 +21,10 @@ use Rattle.mt_layout.specs.Spans.{hole_length, longest_in}
 use Rattle.mt_base.specs.Holes.{Hole, kept, lowest_in, highest_in}
 use Rattle.mt_gap.specs.declared.children.Child.{Child}
 use Rattle.mt_gap.specs.Below.{leaf_hole, child_hole}
-use Rattle.mt_gap.specs.Children.{children_from, children_by, children_in, spans}
+use Rattle.mt_gap.specs.Children.{children_from, children_by, children_in}
 use Rattle.mt_gap.specs.Mending.{longest_gap, told_by}
 use Rattle.mt_gap.specs.Narrow.{may_have, inside, narrow, narrow_up, next_up, has_sure}
-use Rattle.mt_gap.proofs.ChildLists.{spans-append}
+use Rattle.mt_gap.proofs.ChildLists.{spans, spans-append}
 use Rattle.mt_gap.proofs.Kept.{kept-append}
 use Rattle.mt_gap.proofs.NarrowedUp.{highest_back, highest_more}
 use Rattle.mt_gap.proofs.RowLoops.{narrow_stops, narrow_goes_on}

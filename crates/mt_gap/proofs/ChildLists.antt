@@ -15,8 +15,15 @@ use Rattle.mt_rows.specs.Levels.{expand}
 use Rattle.mt_rows.specs.Laws.{Tree, IsRow, IsTended, GapsFrom, GapLawBy, longest_below}
 use Rattle.mt_gap.specs.declared.children.Child.{Child}
 use Rattle.mt_gap.specs.Below.{leaf_hole, child_hole}
-use Rattle.mt_gap.specs.Children.{children_from, children_by, children_in, spans, children_below}
+use Rattle.mt_gap.specs.Children.{children_from, children_by, children_in, children_below}
 use Rattle.mt_rows.proofs.RowGaps.{AreGapsAt, gaps_read}
+
+abbrev pub spans : List Child → List Span
+spans [] = []
+spans (x ∷ xs) = x.span ∷ spans xs
+
+abbrev pub no_child : Child
+no_child = record { span = record { first = 0; last = 0; word = 0 }; gap = 0 }
 
 -- ---- their spans
 

@@ -23,14 +23,25 @@ use Rattle.mt_path.proofs.Kept.{tree_kept}
 use Rattle.mt_path.proofs.Loads.{no_reads, one_read, reads_more, reads_up}
 use Rattle.mt_gap.specs.declared.children.Child.{Child}
 use Rattle.mt_gap.specs.declared.windows.Window.{Window}
-use Rattle.mt_gap.specs.Below.{holes_below, leaf_hole, child_hole}
-use Rattle.mt_gap.specs.Children.{spans, children_below, root_child}
-use Rattle.mt_gap.specs.Descents.{IsGapped, MayLoad, picked, place_in, Asks, LoadedUpTo, Visited, Arrives, AreLeaves}
-use Rattle.mt_gap.specs.Narrow.{may_have, inside, narrow, narrow_up, Rising}
-use Rattle.mt_gap.proofs.ChildLists.{spans_below, gaps_below, holes_of_children}
-use Rattle.mt_gap.proofs.HolesBelow.{holes_are, one_hole}
-use Rattle.mt_gap.proofs.Narrowed.{narrow_keeps, narrow_two, rising_narrow, rising_expand}
+use Rattle.mt_gap.specs.Below.{leaf_hole, child_hole}
+use Rattle.mt_gap.specs.Children.{children_below, root_child}
+use Rattle.mt_gap.specs.Descents.{IsGapped, MayLoad, picked, place_in, LoadedUpTo, Visited, Arrives, AreLeaves}
+use Rattle.mt_gap.specs.Narrow.{may_have, inside, narrow, narrow_up}
+use Rattle.mt_gap.proofs.HolesBelow.{holes_below, holes_are, one_hole}
+use Rattle.mt_gap.proofs.ChildLists.{spans, spans_below, gaps_below, holes_of_children}
+use Rattle.mt_gap.proofs.Narrowed.{Rising, narrow_keeps, narrow_two, rising_narrow, rising_expand}
 use Rattle.mt_gap.proofs.NarrowedUp.{levels_up, rising_up, up_two, up_keeps}
+
+-- The rows that are asked so many levels below the root, and the answer that is found below them.
+pub record Asks (t : Tree) (pick : List Hole → Option ℕ) (w : Window) (answer : Option ℕ) (level : ℕ) (asked : List Child) : Type 0 where
+  pub left : ℕ
+  pub height : level + left + 1 ≡ height_in t.table t.root
+  pub low : level + left < deepest
+  pub rows : Levels (IsRow t) t.table left (spans asked)
+  pub tended : Levels (IsTended t) t.table left (spans asked)
+  pub rising : Rising 0 (spans asked)
+  pub few : length asked ≤ 2
+  pub found : picked pick w (holes_below t.table left (spans asked)) ≡ answer
 
 -- ---- rows of the table
 

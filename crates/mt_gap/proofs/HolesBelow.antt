@@ -4,14 +4,19 @@ use Rattle.std.specs.List.{AllByRecursion, flat_map}
 use Rattle.std.proofs.lemmas.Bool.{cases_Bool, lt-ltb, le-ltb, eqb-true}
 use Rattle.mt_layout.specs.declared.spans.Span.{Span}
 use Rattle.mt_layout.specs.Spans.{leaf_range, Fills, Apart}
-use Rattle.mt_rows.specs.Spans.{spans_in}
+use Rattle.mt_rows.specs.Spans.{spans_in, Table}
 use Rattle.mt_rows.specs.Levels.{expand, map_of, Levels}
 use Rattle.mt_rows.specs.Laws.{Tree, IsRow, top_of}
 use Rattle.mt_rows.proofs.Lists.{fills_le, expand_fills}
 use Rattle.mt_rows.proofs.Ranges.{rows_filled}
-use Rattle.mt_base.specs.Holes.{hole_between, holes_from, holes_to}
-use Rattle.mt_gap.specs.Below.{leaf_hole, holes_below}
+use Rattle.mt_base.specs.Holes.{hole_between, holes_from, holes_to, Hole}
+use Rattle.mt_gap.specs.Below.{leaf_hole}
 use Rattle.mt_layout.proofs.SpanLists.{apart-append}
+
+-- the holes below rows of a height; leaves have the height 0
+abbrev pub holes_below : Table → ℕ → List Span → List Hole
+holes_below t zero xs = flat_map leaf_hole (expand t xs)
+holes_below t (suc h) xs = holes_below t h (expand t xs)
 
 hole_here : (lo hi : ℕ) → lo < hi → hole_between lo hi ≡ record { first = lo; last = hi - 1 } ∷ []
 hole_here lo hi lt = rw (lt-ltb lo hi lt) refl

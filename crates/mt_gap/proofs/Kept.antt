@@ -13,7 +13,8 @@ use Rattle.mt_rows.specs.Laws.{Tree, IsRow, longest_below}
 use Rattle.mt_rows.proofs.Lists.{all_map, fills_le, expand_fills, expand-append}
 use Rattle.mt_rows.proofs.Ranges.{rows_filled}
 use Rattle.mt_base.specs.Holes.{Hole, clip, fits, kept, lowest_in}
-use Rattle.mt_gap.specs.Below.{leaf_hole, holes_below}
+use Rattle.mt_gap.specs.Below.{leaf_hole}
+use Rattle.mt_gap.proofs.HolesBelow.{holes_below}
 
 pub kept-append : (n lo hi : ℕ) (xs ys : List Hole) → kept n lo hi (xs ++ ys) ≡ kept n lo hi xs ++ kept n lo hi ys
 kept-append n lo hi xs ys = ap (filter (fits n)) (map-append (clip lo hi) xs ys) ∙ filter-append (fits n) (map (clip lo hi) xs) (map (clip lo hi) ys)

@@ -32,9 +32,10 @@ use Rattle.mt_rows.proofs.Lists.{levels_here, levels_map}
 use Rattle.mt_rows.proofs.PlainReached.{levels_from}
 use Rattle.mt_rows.proofs.Reached.{IsOneOf, OnLevel, on_level_reached, one_of_parts, reached_number, times_reached, levels_at}
 use Rattle.mt_gap.specs.declared.children.Child.{Child}
-use Rattle.mt_gap.specs.Children.{spans, no_child, row_children}
+use Rattle.mt_gap.specs.Children.{row_children}
 use Rattle.mt_gap.specs.Mended.{AreRight, IsDone, HasMendedRows}
 use Rattle.mt_gap.specs.Mending.{told_by, GapLawBeside, IsKept, IsGapIn, KeepsOtherWords, MayMendGaps, MayTell, MayMend, IsMended}
+use Rattle.mt_gap.proofs.ChildLists.{spans, no_child}
 use Rattle.mt_gap.proofs.Mending.{begins_at, child_tells, covers_is, levels_below, one_over}
 use Rattle.mt_gap.proofs.MendWay.{RootIs, no_root, not_gapped, only_loaded, gap_stored, only_next, paths_shared, plain_law, root_named, row_may_tell, shared_self, shared_twice}
 use Rattle.mt_gap.proofs.Tells.{row_spans_are}

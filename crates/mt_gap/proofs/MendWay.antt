@@ -36,9 +36,9 @@ use Rattle.mt_rows.proofs.Lists.{levels_here, levels_map}
 use Rattle.mt_rows.proofs.Joins.{Shared, expand_shared, levels_front, levels_back, times_shared}
 use Rattle.mt_rows.proofs.Reached.{OnLevel, on_level_reached, times_reached, reached_number}
 use Rattle.mt_rows.specs.declared.rows.Life.TheVariants.{Live}
-use Rattle.mt_gap.specs.Mending.{told_by, IsMendedUpTo, IsGapOn, KeepsWords, OnlyWords, IsWay, MayTell, MayMend, IsMended}
+use Rattle.mt_gap.specs.Mending.{told_by, IsGapOn, KeepsWords, OnlyWords, IsWay, MayTell, MayMend, IsMended}
+use Rattle.mt_gap.proofs.Mending.{IsMendedUpTo, on, is_step, is_used, told, mended_next, begun_mending, all_mended}
 use Rattle.mt_gap.proofs.GapWords.{tells_all}
-use Rattle.mt_gap.proofs.Mending.{on, is_step, is_used, told, mended_next, begun_mending, all_mended}
 
 -- ---- paths by two tables that share their spans
 

@@ -14,7 +14,7 @@ use Rattle.mt_layout.proofs.RowSizes.{gap_within}
 use Rattle.mt_path.specs.declared.paths.PathStep.{PathStep}
 use Rattle.mt_path.specs.Paths.{step_in, slot_for}
 use Rattle.mt_path.proofs.TreePaths.{rows_at, row_of, step_of, step, place, lawful, child, slot_used, rows_fill}
-use Rattle.mt_rows.specs.Gaps.{covers, GapsFromBut, KeepsGaps, HasGaps}
+use Rattle.mt_rows.specs.Gaps.{covers, GapsFromBut, KeepsGaps, HasGaps, GapLawBut}
 use Rattle.mt_rows.specs.Laws.{Tree, HasWords, IsRow, Stands, GapLaw, GapsFrom, kind_on, longest_below, top_of}
 use Rattle.mt_rows.specs.Levels.{expand, level, Levels}
 use Rattle.mt_rows.specs.Publish.{tree_on}
@@ -31,10 +31,15 @@ use Rattle.mt_rows.proofs.PlainReached.{levels_from}
 use Rattle.mt_rows.proofs.Reached.{IsOneOf, OnLevel, on_level_law, one_place, one_of_parts, levels_at}
 use Rattle.mt_rows.proofs.RowGaps.{covers_it}
 use Rattle.mt_gap.specs.declared.children.Child.{Child}
-use Rattle.mt_gap.specs.Children.{children_in, children_by, spans}
-use Rattle.mt_gap.specs.Mending.{longest_gap, told_by, IsMendedUpTo}
-use Rattle.mt_gap.proofs.ChildLists.{GapIs, row_gaps, spans_of_row}
+use Rattle.mt_gap.specs.Children.{children_in, children_by}
+use Rattle.mt_gap.specs.Mending.{longest_gap, told_by}
+use Rattle.mt_gap.proofs.ChildLists.{spans, GapIs, row_gaps, spans_of_row}
 use Rattle.mt_gap.proofs.SlotMended.{but_stays, law_stays, slot_mended, law_beside}
+
+-- The law of gaps may fail in the slots that cover the index, but in no row that stands up to so many levels above the leaves.
+pub record IsMendedUpTo (index done : ℕ) (t : Tree) (h : ℕ) (x : Span) : Type 0 where
+  pub beside : GapLawBut index t h x
+  pub done_there : covers index x ≡ true → h ≤ done → GapLaw t h x
 
 -- ---- what a row tells
 

@@ -11,11 +11,15 @@ use Rattle.mt_rows.proofs.Lists.{Filled}
 use Rattle.mt_rows.proofs.Joins.{levels_front, levels_back}
 use Rattle.mt_base.specs.Holes.{Hole, kept, lowest_in}
 use Rattle.mt_gap.specs.declared.children.Child.{Child}
-use Rattle.mt_gap.specs.Below.{holes_below}
-use Rattle.mt_gap.specs.Children.{spans}
-use Rattle.mt_gap.specs.Narrow.{meets, may_have, inside, narrow, Rising}
-use Rattle.mt_gap.proofs.ChildLists.{GapIs}
+use Rattle.mt_gap.specs.Narrow.{meets, may_have, inside, narrow}
+use Rattle.mt_gap.proofs.HolesBelow.{holes_below}
+use Rattle.mt_gap.proofs.ChildLists.{spans, GapIs}
 use Rattle.mt_gap.proofs.Kept.{kept-append, holes_below-append, Between, holes_between, longest_of, longest_is, none_short, none_below, none_above, some_inside}
+
+-- the spans rise, each behind the last index of the one before
+abbrev pub Rising : ℕ → List Span → Type 0
+Rising lo [] = Unit {0}
+Rising lo (x ∷ xs) = (lo ≤ x.first) × (x.first ≤ x.last) × Rising (x.last + 1) xs
 
 -- ---- rising spans
 

@@ -10,12 +10,11 @@ use Rattle.mt_rows.specs.Levels.{Levels}
 use Rattle.mt_rows.specs.Laws.{Tree, IsRow}
 use Rattle.mt_rows.proofs.Joins.{levels_join, levels_front, levels_back}
 use Rattle.mt_gap.specs.declared.children.Child.{Child}
-use Rattle.mt_gap.specs.Below.{holes_below}
-use Rattle.mt_gap.specs.Children.{spans}
-use Rattle.mt_gap.specs.Narrow.{may_have, inside, narrow_up, Rising}
-use Rattle.mt_gap.proofs.ChildLists.{GapIs, spans-append}
+use Rattle.mt_gap.specs.Narrow.{may_have, inside, narrow_up}
+use Rattle.mt_gap.proofs.HolesBelow.{holes_below}
+use Rattle.mt_gap.proofs.ChildLists.{spans, GapIs, spans-append}
+use Rattle.mt_gap.proofs.Narrowed.{Rising, may_is, in_not, rising_more, kept_below, kept_cons, passed, answers}
 use Rattle.mt_gap.proofs.Kept.{kept-append, holes_below-append}
-use Rattle.mt_gap.proofs.Narrowed.{may_is, in_not, rising_more, kept_below, kept_cons, passed, answers}
 
 -- ---- the last of joined lists
 

@@ -22,12 +22,12 @@ use Rattle.mt_rows.proofs.Lists.{levels_here}
 use Rattle.mt_path.specs.declared.handles.Handle.{Handle}
 use Rattle.mt_path.specs.declared.paths.PathStep.{PathStep}
 use Rattle.mt_path.specs.Handles.{handle_in}
-use Rattle.mt_path.specs.Paths.{path_in, step_at, no_step, row_on, below, slot_for, span_at, step_in, At}
+use Rattle.mt_path.specs.Paths.{path_in, step_at, no_step, row_on, below, slot_for, span_at, step_in}
 use Rattle.mt_path.specs.Walks.{EntersLeaf}
 use Rattle.mt_path.proofs.Kept.{tree_kept}
 use Rattle.mt_path.proofs.Loads.{no_reads, one_read, reads_more, reads_up}
 use Rattle.mt_path.proofs.Places as places
-use Rattle.mt_path.proofs.Places.{at_slot, at_parts, at_once, at_within}
+use Rattle.mt_path.proofs.Places.{at_slot, at_parts, at_once, at_within, At}
 use Rattle.mt_path.proofs.Steps.{row_next}
 use Rattle.mt_path.proofs.TreePaths.{row_of, levels, step}
 use Rattle.mt_path.proofs.Ways.{row_on_top, some_root}
@@ -35,14 +35,15 @@ use Rattle.mt_gap.specs.declared.children.Child.{Child}
 use Rattle.mt_gap.specs.declared.ways.Below.{Below}
 use Rattle.mt_gap.specs.declared.ways.Below.TheVariants as below_row
 use Rattle.mt_gap.specs.declared.windows.Window.{Window}
-use Rattle.mt_gap.specs.Below.{holes_below, leaf_hole, child_hole}
-use Rattle.mt_gap.specs.Children.{children_in, children_by, children_below, row_children, root_child, spans}
-use Rattle.mt_gap.specs.Descents.{IsGapped, MayLoad, picked, place_in, Asks, AreLeaves}
+use Rattle.mt_gap.specs.Below.{leaf_hole, child_hole}
+use Rattle.mt_gap.specs.Children.{children_in, children_by, children_below, row_children, root_child}
+use Rattle.mt_gap.specs.Descents.{IsGapped, MayLoad, picked, place_in, AreLeaves}
 use Rattle.mt_gap.specs.Narrow.{may_have, narrow, has_sure}
 use Rattle.mt_gap.specs.Ways.{one_more, with_room, StandsIn, AreAsked, IsBelow, LeadsTo, EndsInLeaf, IsAreaAt}
+use Rattle.mt_gap.proofs.HolesBelow.{holes_below}
+use Rattle.mt_gap.proofs.ChildLists.{spans, spans-append, spans_of_row, holes_of_children}
+use Rattle.mt_gap.proofs.Descents.{Asks, asks_root, come_root, gapped_words, low_empty, low_next, leaves_have, row_may_load}
 use Rattle.mt_gap.proofs.Asking.{ask_on, ask_stops, one_asked}
-use Rattle.mt_gap.proofs.ChildLists.{spans-append, spans_of_row, holes_of_children}
-use Rattle.mt_gap.proofs.Descents.{asks_root, come_root, gapped_words, low_empty, low_next, leaves_have, row_may_load}
 use Rattle.mt_gap.proofs.Kept.{Between, leaf_between, holes_between, lowest_between}
 
 -- ---- in a row

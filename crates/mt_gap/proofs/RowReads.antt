@@ -15,10 +15,15 @@ use Rattle.mt_rows.specs.Spans.{base_of}
 use Rattle.mt_rows.specs.Sheet.{Rooted, Sheet, ReadsUpTo}
 use Rattle.mt_gap.specs.declared.children.Child.{Child}
 use Rattle.mt_gap.specs.Children.{children_from, row_children}
-use Rattle.mt_gap.specs.Reading.{loads_for}
 use Rattle.mt_gap.specs.Slots.{last_in, child_in}
 use Rattle.mt_path.proofs.Kept.{tree_kept}
 use Rattle.mt_path.proofs.Loads.{no_reads, reads_more, reads_up}
+
+-- a pivot and a slot, and a gap where there is one
+abbrev pub loads_for : RowKind → ℕ
+loads_for Leaf = 2
+loads_for Inner = 2
+loads_for Gapped = 3
 
 -- the children from a slot on
 abbrev pub unread : Rooted → RowKind → ℕ → ℕ → ℕ → ℕ → List Child

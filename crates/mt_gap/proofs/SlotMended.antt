@@ -8,11 +8,11 @@ use Rattle.mt_layout.specs.Columns.{gap_column}
 use Rattle.mt_layout.specs.Sizes.{slots_of}
 use Rattle.mt_layout.specs.Spans.{Fills}
 use Rattle.mt_layout.proofs.SpanLists.{fills_le}
-use Rattle.mt_path.specs.Paths.{At}
 use Rattle.mt_rows.specs.Gaps.{covers, GapsFromBut}
 use Rattle.mt_rows.specs.Laws.{GapsFrom, longest_below}
 use Rattle.mt_rows.specs.Levels.{Levels}
 use Rattle.mt_rows.specs.Spans.{Table, column}
+use Rattle.mt_path.proofs.Places.{At}
 use Rattle.mt_rows.proofs.Joins.{Shared, levels_front, levels_back}
 use Rattle.mt_rows.proofs.Longest.{longest_shared}
 

@@ -11,9 +11,9 @@ use Rattle.mt_path.specs.declared.paths.PathStep.{PathStep}
 use Rattle.mt_rows.specs.Sheet.{Sheet, MayTend, ReadsUpTo, tended}
 use Rattle.mt_rows.specs.Spans.{Table, row_spans}
 use Rattle.mt_gap.specs.declared.children.Child.{Child}
-use Rattle.mt_gap.specs.Children.{spans, row_children}
+use Rattle.mt_gap.specs.Children.{row_children}
 use Rattle.mt_gap.specs.Mending.{told_by, MayTell, MayMend, IsMended}
-use Rattle.mt_gap.proofs.ChildLists.{spans_are}
+use Rattle.mt_gap.proofs.ChildLists.{spans, spans_are}
 
 -- ---- a leaf
 

@@ -28,16 +28,9 @@ children_by t (Some kind) x = row_children t (row_in x.word) kind x.first x.last
 abbrev pub children_in : Table → Span → List Child
 children_in t x = children_by t (named_kind x.word) x
 
-abbrev pub spans : List Child → List Span
-spans [] = []
-spans (x ∷ xs) = x.span ∷ spans xs
-
 -- the children of rows side by side
 abbrev pub children_below : Table → List Child → List Child
 children_below t xs = flat_map (λ (x : Child). children_in t x.span) xs
-
-abbrev pub no_child : Child
-no_child = record { span = record { first = 0; last = 0; word = 0 }; gap = 0 }
 
 -- the root, as a child of none
 abbrev pub root_child : Table → ℕ → Child

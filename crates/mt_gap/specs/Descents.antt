@@ -1,25 +1,22 @@
 -- How far a search has come: the rows of a level that it goes into, what is found below them, and what they cost.
 -- Source: this project's own.
-use Rattle.std.specs.Prelude.{◌≡◌, ℕ, ◌+◌, ◌*◌, ◌<◌, ◌≤◌, true, All, List, [], ◌∷◌, Option, Some, length}
+use Rattle.std.specs.Prelude.{◌≡◌, ℕ, ◌+◌, ◌*◌, ◌≤◌, true, All, List, [], ◌∷◌, Option, Some, length}
 use Rattle.std.specs.List.{flat_map}
 use Rattle.mt_base.specs.declared.kinds.Kind.{Kind}
 use Rattle.mt_base.specs.Call.{finds_room}
 use Rattle.mt_base.specs.Holes.{Hole, kept, holes_to}
-use Rattle.mt_base.specs.Width.{columns, deepest, greatest}
+use Rattle.mt_base.specs.Width.{columns, greatest}
 use Rattle.mt_layout.specs.declared.names.RowKind.{RowKind}
 use Rattle.mt_layout.specs.declared.names.RowKind.TheVariants.{Leaf}
 use Rattle.mt_layout.specs.declared.spans.Span.{Span}
 use Rattle.mt_layout.specs.Rows.{row_in, named_kind}
-use Rattle.mt_rows.specs.Levels.{Levels}
-use Rattle.mt_rows.specs.Laws.{Tree, IsRow, IsTended}
 use Rattle.mt_rows.specs.Publish.{IsLawfulOf, map_by}
 use Rattle.mt_rows.specs.Sheet.{Sheet, Rooted, IsPlace, ReadsUpTo}
 use Rattle.mt_rows.specs.Trees.{height_in}
 use Rattle.mt_gap.specs.declared.children.Child.{Child}
 use Rattle.mt_gap.specs.declared.windows.Window.{Window}
-use Rattle.mt_gap.specs.Below.{holes_below, child_hole}
-use Rattle.mt_gap.specs.Children.{spans, children_below}
-use Rattle.mt_gap.specs.Narrow.{Rising}
+use Rattle.mt_gap.specs.Below.{child_hole}
+use Rattle.mt_gap.specs.Children.{children_below}
 
 -- a tree whose holes are searched, and which keeps all laws
 pub record IsGapped (t : Rooted) : Type 0 where
@@ -38,17 +35,6 @@ picked pick w xs = pick (kept w.size w.lo w.hi xs)
 -- where a search that picks so finds room in a tree
 unfoldable pub place_in : (List Hole → Option ℕ) → Window → Rooted → Option ℕ
 place_in pick w t = picked pick w (holes_to (greatest t.table.width) (map_by t))
-
--- The rows that are asked so many levels below the root, and the answer that is found below them.
-pub record Asks (t : Tree) (pick : List Hole → Option ℕ) (w : Window) (answer : Option ℕ) (level : ℕ) (asked : List Child) : Type 0 where
-  pub left : ℕ
-  pub height : level + left + 1 ≡ height_in t.table t.root
-  pub low : level + left < deepest
-  pub rows : Levels (IsRow t) t.table left (spans asked)
-  pub tended : Levels (IsTended t) t.table left (spans asked)
-  pub rising : Rising 0 (spans asked)
-  pub few : length asked ≤ 2
-  pub found : picked pick w (holes_below t.table left (spans asked)) ≡ answer
 
 -- So many rows were loaded at the most: each is a step, and its words are loaded once at the most.
 pub record LoadedUpTo (most : ℕ) (s s' : Sheet) (old new : ℕ) : Type 0 where

@@ -4,6 +4,5 @@ pub mod Descents
 pub mod Mended
 pub mod Mending
 pub mod Narrow
-pub mod Reading
 pub mod Slots
 pub mod Ways

@@ -1,6 +1,6 @@
 -- Gap words set upwards: what a row tells the row above, and what is left alone.
 -- Source: the kernel's lib/maple_tree.c, mas_parent_gap and mas_update_gap.
-use Rattle.std.specs.Prelude.{◌≡◌, ◌⊎◌, ℕ, zero, suc, ◌+◌, ◌^◌, ◌<◌, ◌≤◌, Bool, true, false, List, [], ◌∷◌, length, max}
+use Rattle.std.specs.Prelude.{◌≡◌, ◌⊎◌, ℕ, zero, suc, ◌+◌, ◌^◌, ◌<◌, ◌≤◌, Bool, false, List, [], ◌∷◌, length, max}
 use Rattle.std.specs.List.{AllByRecursion}
 use Rattle.mt_base.specs.Width.{columns, greatest}
 use Rattle.mt_layout.specs.declared.names.RowKind.{RowKind}
@@ -12,7 +12,7 @@ use Rattle.mt_layout.specs.Spans.{longest_in}
 use Rattle.mt_path.specs.declared.paths.PathStep.{PathStep}
 use Rattle.mt_path.specs.Paths.{step_at, path_in}
 use Rattle.mt_path.specs.Handles.{leaf_in, leaf_spans}
-use Rattle.mt_rows.specs.Gaps.{covers, GapLawBut, HasGapsBut}
+use Rattle.mt_rows.specs.Gaps.{covers, HasGapsBut}
 use Rattle.mt_rows.specs.Laws.{Tree, Stands, GapLaw}
 use Rattle.mt_rows.specs.Levels.{Levels}
 use Rattle.mt_rows.specs.Publish.{tree_on, LiveAreReached, NoneBuried}
@@ -38,11 +38,6 @@ abbrev pub told_by : RowKind → Table → PathStep → ℕ
 told_by Leaf t s = longest_in (row_spans t s.row Leaf s.min s.max)
 told_by Inner t s = longest_gap (row_children t s.row Inner s.min s.max)
 told_by Gapped t s = longest_gap (row_children t s.row Gapped s.min s.max)
-
--- The law of gaps may fail in the slots that cover the index, but in no row that stands up to so many levels above the leaves.
-pub record IsMendedUpTo (index done : ℕ) (t : Tree) (h : ℕ) (x : Span) : Type 0 where
-  pub beside : GapLawBut index t h x
-  pub done_there : covers index x ≡ true → h ≤ done → GapLaw t h x
 
 -- the gap column of the slot that a path takes in one of its rows, but its leaf
 pub record IsGapOn (t : Rooted) (path : List PathStep) (row col : ℕ) : Type 0 where

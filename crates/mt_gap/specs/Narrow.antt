@@ -1,6 +1,6 @@
 -- Which rows of a level a search goes into, from the left and from the right.
 -- Source: the kernel's lib/maple_tree.c, mas_anode_descend and mas_rev_awalk: a gap word tells whether room can be below a slot.
-use Rattle.std.specs.Prelude.{ℕ, ◌+◌, ◌≤◌, ◌&&◌, Bool, List, [], ◌∷◌, ◌++◌, fold, nat_le, if◌then◌else◌}
+use Rattle.std.specs.Prelude.{ℕ, ◌&&◌, Bool, List, [], ◌∷◌, ◌++◌, fold, nat_le, if◌then◌else◌}
 use Rattle.std.specs.List.{list_any}
 use Rattle.mt_layout.specs.declared.spans.Span.{Span}
 use Rattle.mt_gap.specs.declared.children.Child.{Child}
@@ -36,8 +36,3 @@ next_up n lo hi acc x = if may_have n lo hi x then (if inside lo hi x then x ∷
 
 abbrev pub narrow_up : ℕ → ℕ → ℕ → List Child → List Child → List Child
 narrow_up n lo hi acc xs = fold (next_up n lo hi) acc xs
-
--- the spans rise, each behind the last index of the one before
-abbrev pub Rising : ℕ → List Span → Type 0
-Rising lo [] = Unit {0}
-Rising lo (x ∷ xs) = (lo ≤ x.first) × (x.first ≤ x.last) × Rising (x.last + 1) xs

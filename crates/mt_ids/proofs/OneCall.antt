@@ -10,7 +10,7 @@ use Rattle.mt_base.specs.declared.replies.Shortage.{Shortage}
 use Rattle.mt_base.specs.Call.{acted, finds_room, is_bad_area, placed}
 use Rattle.mt_base.specs.Entry.{reserved}
 use Rattle.mt_base.specs.History.{map_after, map_by_reply}
-use Rattle.mt_base.specs.Holes.{Hole, clip, fits, kept, low, lowest_in, holes}
+use Rattle.mt_base.specs.Holes.{Hole, clip, fits, kept, low, lowest_in}
 use Rattle.mt_base.specs.Map.{over}
 use Rattle.mt_base.specs.Nodes.{Changes, IsRefused}
 use Rattle.mt_base.specs.Width.{greatest_of}
@@ -18,6 +18,7 @@ use Rattle.mt_ids.specs.Allocation.{Allocation, IsCalled, limits_at, recorded}
 use Rattle.mt_ids.specs.Draws.{is_bad_draw}
 use Rattle.mt_ids.specs.Runs.{LiesIn}
 use Rattle.mt_ids.specs.Window.{Draws}
+use Rattle.mt_base.proofs.FreeAreas.{holes}
 
 -- ---- which calls are invalid
 

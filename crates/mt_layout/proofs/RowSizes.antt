@@ -7,7 +7,16 @@ use Rattle.mt_base.specs.Width.{columns}
 use Rattle.mt_layout.specs.declared.names.RowKind.{RowKind}
 use Rattle.mt_layout.specs.declared.names.RowKind.TheVariants as kinds
 use Rattle.mt_layout.specs.Columns.{IsLayout, slot_column, gap_column}
-use Rattle.mt_layout.specs.Sizes.{slots_of, gaps_of, least_items, run_room, AreSizes}
+use Rattle.mt_layout.specs.Sizes.{slots_of, gaps_of, least_items, run_room}
+
+-- What proofs use of these numbers: two full rows and eight items more can be gathered, two short rows and two items fit into
+-- one row, and the columns of a row are its parent word, its pivots, its slots and its gaps.
+pub record AreSizes (width : Width) (kind : RowKind) : Type 0 where
+  pub least : 2 * least_items width kind + 2 ≤ slots_of width kind
+  pub some : 2 ≤ least_items width kind
+  pub room : 2 * slots_of width kind + 8 ≤ run_room
+  pub columns_fit : 2 * slots_of width kind + gaps_of width kind ≤ columns width
+  pub gaps : (gaps_of width kind ≡ 0) ⊎ (gaps_of width kind ≡ slots_of width kind)
 
 pub sizes : (width : Width) (kind : RowKind) → AreSizes width kind
 sizes Long kinds.Leaf = record { least = omega arith; some = omega arith; room = omega arith; columns_fit = omega arith; gaps = inl refl }

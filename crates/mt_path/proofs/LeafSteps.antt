@@ -22,8 +22,8 @@ use Rattle.mt_rows.specs.Publish.{IsTreeOf, tree_as}
 use Rattle.mt_rows.specs.Sheet.{Rooted, IsPlace, word_at}
 use Rattle.mt_path.specs.declared.paths.PathStep.{PathStep}
 use Rattle.mt_path.specs.Handles.{leaf_spans, leaf_in, IsStepOfLeaf}
-use Rattle.mt_path.specs.Paths.{slot_for, span_at, step_in, path_in, step_at, At}
-use Rattle.mt_path.proofs.Places.{at_get, at_within}
+use Rattle.mt_path.specs.Paths.{slot_for, span_at, step_in, path_in, step_at}
+use Rattle.mt_path.proofs.Places.{At, at_get, at_within}
 use Rattle.mt_path.proofs.Steps.{rows_agree}
 use Rattle.mt_path.proofs.TreePaths.{rooted, top_row, rows_at, row_of, levels, step, place as place_at, lawful, holds, root_leads}
 use Rattle.mt_path.proofs.LeafSlots.{StandsIn, stands_in, fills_within, fills_next}

@@ -6,7 +6,18 @@ use Rattle.std.proofs.lemmas.Bool.{cases_lt}
 use Rattle.mt_layout.specs.declared.spans.Span.{Span}
 use Rattle.mt_layout.specs.Spans.{Fills}
 use Rattle.mt_layout.proofs.SpanLists.{fills_le, fills_split}
-use Rattle.mt_path.specs.Paths.{slot_for, span_at, At}
+use Rattle.mt_path.specs.Paths.{slot_for, span_at}
+
+-- Of spans that fill the indexes from `lo` up to, but without, `hi`, this one holds the index.
+pub record At (lo hi : ℕ) (xs : List Span) (index : ℕ) (x : Span) : Type 0 where
+  pub front : List Span
+  pub back : List Span
+  pub parts : xs ≡ front ++ (x ∷ back)
+  pub slot : length front ≡ slot_for xs index
+  pub before : Fills lo x.first front
+  pub after : Fills (x.last + 1) hi back
+  pub from : x.first ≤ index
+  pub to : index ≤ x.last
 
 abbrev ends_below : ℕ → Span → Bool
 ends_below index x = nat_lt x.last index

@@ -13,8 +13,8 @@ use Rattle.mt_rows.specs.Publish.{IsTreeOf, tree_as}
 use Rattle.mt_rows.specs.Sheet.{Rooted}
 use Rattle.mt_path.specs.declared.paths.PathStep.{PathStep}
 use Rattle.mt_path.specs.Handles.{leaf_spans, leaf_in, last_step, IsStepOfLeaf}
-use Rattle.mt_path.specs.Paths.{slot_for, span_at, step_in, step_at, below, path_in, no_step, At}
-use Rattle.mt_path.proofs.Places.{slot_is, at_within}
+use Rattle.mt_path.specs.Paths.{slot_for, span_at, step_in, step_at, below, path_in, no_step}
+use Rattle.mt_path.proofs.Places.{At, slot_is, at_within}
 use Rattle.mt_path.proofs.TreePaths.{row_of, step_of, levels, step, lawful, holds, inside_agree}
 use Rattle.mt_path.proofs.LeafSteps.{step_to}
 use Rattle.mt_path.proofs.Ways.{some_root}

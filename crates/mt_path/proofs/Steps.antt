@@ -15,8 +15,8 @@ use Rattle.mt_rows.proofs.Lists.{Filled, expand_fills, levels_here}
 use Rattle.mt_rows.proofs.Joins.{level-append, levels_front, levels_back}
 use Rattle.mt_rows.proofs.Deeper.{by_kind_inner}
 use Rattle.mt_path.specs.declared.paths.PathStep.{PathStep}
-use Rattle.mt_path.specs.Paths.{slot_for, span_at, step_in, below, path_of, step_at, row_on, At}
-use Rattle.mt_path.proofs.Places.{at_slot, at_parts, at_get, at_within, slot_is}
+use Rattle.mt_path.specs.Paths.{slot_for, span_at, step_in, below, path_of, step_at, row_on}
+use Rattle.mt_path.proofs.Places.{At, at_slot, at_parts, at_get, at_within, slot_is}
 
 -- ---- one step
 

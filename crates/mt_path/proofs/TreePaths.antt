@@ -14,8 +14,8 @@ use Rattle.mt_rows.specs.Laws.{Tree, IsRow, Stands, top_of, kind_on}
 use Rattle.mt_rows.specs.Publish.{IsSlotOf}
 use Rattle.mt_rows.specs.Sheet.{Rooted}
 use Rattle.mt_path.specs.declared.paths.PathStep.{PathStep}
-use Rattle.mt_path.specs.Paths.{slot_for, span_at, step_in, below, path_in, step_at, row_on, At}
-use Rattle.mt_path.proofs.Places.{at_slot, at_once, at_get, first_behind, last_before}
+use Rattle.mt_path.specs.Paths.{slot_for, span_at, step_in, below, path_in, step_at, row_on}
+use Rattle.mt_path.proofs.Places.{At, at_slot, at_once, at_get, first_behind, last_before}
 use Rattle.mt_path.proofs.Steps.{Leads, row_here, child_at, path_length, path_step, row_leads, level_fills, row_at, row_next, row_below, rows_agree, steps_agree}
 
 -- the span of the root

@@ -5,7 +5,6 @@ use Rattle.std.specs.List.{AllByRecursion}
 use Rattle.mt_base.specs.Width.{deepest}
 use Rattle.mt_layout.specs.declared.spans.Span.{Span}
 use Rattle.mt_layout.specs.Rows.{row_in, named_kind}
-use Rattle.mt_layout.specs.Spans.{Fills}
 use Rattle.mt_rows.specs.Spans.{Table, spans_in, root_span}
 use Rattle.mt_rows.specs.Sheet.{Sheet, ReadsUpTo}
 use Rattle.mt_rows.specs.Trees.{by_kind}
@@ -77,14 +76,3 @@ ReadsBelow old new index s s' = (level : ℕ) → level < length old → Covers 
 unfoldable pub row_on : Table → ℕ → Span → ℕ → Span
 row_on t zero x index = x
 row_on t (suc d) x index = row_on t d (below t x index) index
-
--- Of spans that fill the indexes from `lo` up to, but without, `hi`, this one holds the index.
-pub record At (lo hi : ℕ) (xs : List Span) (index : ℕ) (x : Span) : Type 0 where
-  pub front : List Span
-  pub back : List Span
-  pub parts : xs ≡ front ++ (x ∷ back)
-  pub slot : length front ≡ slot_for xs index
-  pub before : Fills lo x.first front
-  pub after : Fills (x.last + 1) hi back
-  pub from : x.first ≤ index
-  pub to : index ≤ x.last

@@ -36,8 +36,13 @@ use Rattle.mt_path.specs.Paths.{path_in}
 use Rattle.mt_path.specs.Handles.{last_step}
 use Rattle.mt_splice.specs.Splice.{IsStoreBy, IsSpliced, HasParents, WasPublishedAt, MaySplice, MayReplace, MayClear, region_of}
 use Rattle.mt_splice.specs.Kept.{IsKept, IsBookOf}
-use Rattle.mt_splice.specs.Between.{IsBetweenCalls}
 use Rattle.mt_splice.specs.steps.Regions.{AreEnds}
+
+-- no call is in flight, and the tree is kept
+pub record IsBetweenCalls (kind : Kind) (s : Sheet) (book : Book) : Type 0 where
+  pub idle : s.in_flight ≡ false
+  pub told : IsTold s.kind kind
+  pub kept : IsKept kind s.tree s.lives s.buried s.cleared book (s.ended + 1)
 
 -- ---- laws before and after
 

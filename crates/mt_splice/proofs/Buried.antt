@@ -12,13 +12,14 @@ use Rattle.mt_rows.proofs.Lists.{tally-append}
 use Rattle.mt_rows.proofs.Heights.{level_next, times_split}
 use Rattle.mt_rows.proofs.Reached.{one_of_parts, on_level_reached, times_in_once}
 use Rattle.mt_path.specs.declared.paths.PathStep.{PathStep}
-use Rattle.mt_path.specs.Paths.{step_in, step_at, path_in, At}
+use Rattle.mt_path.specs.Paths.{step_in, step_at, path_in}
 use Rattle.mt_path.proofs.Steps.{rows_agree}
 use Rattle.mt_path.proofs.TreePaths.{row_of, root_leads, next_row}
 use Rattle.mt_splice.specs.steps.Seen.{passing, Adds}
 use Rattle.mt_splice.specs.steps.Work.{Start, Work, rows_at, times_in, Keeps, Holds}
 use Rattle.mt_splice.specs.steps.Burying.{AreBuried, AreLevelsBuried}
 use Rattle.mt_splice.specs.steps.Climbs.{begin_of, behind_of, Gathered, Climbed}
+use Rattle.mt_path.proofs.Places.{At}
 use Rattle.mt_splice.proofs.Splits.{fills_none}
 use Rattle.mt_splice.proofs.Moments.{keeps_none, keeps_more}
 use Rattle.mt_splice.proofs.Written.{counts_itself}

@@ -21,13 +21,14 @@ use Rattle.mt_leaf.specs.Edits.{spans_below, spans_above, span_stored, stored, j
 use Rattle.mt_leaf.proofs.Stored.{length_edited, stored_between}
 use Rattle.mt_leaf.proofs.Counts.{two_short, two_to_a_hole}
 use Rattle.mt_path.specs.declared.paths.PathStep.{PathStep}
-use Rattle.mt_path.specs.Paths.{step_in, step_at, path_in, At}
+use Rattle.mt_path.specs.Paths.{step_in, step_at, path_in}
 use Rattle.mt_path.proofs.TreePaths.{row_of, step, place, lawful, levels}
 use Rattle.mt_splice.specs.Splice.{region_of}
 use Rattle.mt_path.specs.Handles.{last_step, leaf_spans}
 use Rattle.mt_splice.specs.steps.Work.{rows_at}
 use Rattle.mt_splice.specs.steps.Stretches.{IsStretch}
 use Rattle.mt_splice.specs.steps.Runs.{IsLeafRun}
+use Rattle.mt_path.proofs.Places.{At}
 use Rattle.mt_splice.proofs.Splits.{split_more}
 use Rattle.mt_splice.proofs.PathRows.{rows_in_order, spans_of_step, leaf_numbered}
 use Rattle.mt_rows.proofs.FewSpans.{row_most}

@@ -9,7 +9,7 @@ use Rattle.mt_free.specs.Book.{Held, rows_down, IsBook, new_book}
 use Rattle.mt_rows.specs.declared.rows.Life.TheVariants as lives
 use Rattle.mt_rows.specs.Plain.{new_sheet}
 use Rattle.mt_splice.specs.Kept.{IsSpare}
-use Rattle.mt_splice.specs.Between.{IsBetweenCalls}
+use Rattle.mt_splice.proofs.BetweenCalls.{IsBetweenCalls}
 
 same_anywhere : {X : Type 0} (n i : ℕ) (x : X) → slice_index_or (replicate n x) i x ≡ x
 same_anywhere zero i x = refl

@@ -28,9 +28,9 @@ use Rattle.mt_rows.specs.Laws.{Tree, IsTree, IsRow, Stands, top_of}
 use Rattle.mt_rows.specs.Sheet.{Rooted, IsPlace, word_at}
 use Rattle.mt_rows.specs.Publish.{tree_as}
 use Rattle.mt_path.specs.declared.paths.PathStep.{PathStep}
-use Rattle.mt_path.specs.Paths.{slot_for, path_in, step_at, step_in, At}
+use Rattle.mt_path.specs.Paths.{slot_for, path_in, step_at, step_in}
 use Rattle.mt_path.specs.Handles.{last_step, leaf_spans}
-use Rattle.mt_path.proofs.Places.{at_once}
+use Rattle.mt_path.proofs.Places.{at_once, At}
 use Rattle.mt_path.proofs.Steps.{path_of_none}
 use Rattle.mt_path.proofs.TreePaths.{row_of, rows_at, step_of, step, place, lawful, levels, slot_used, rows_fill, right_begins}
 use Rattle.mt_splice.specs.Splice.{region_of}

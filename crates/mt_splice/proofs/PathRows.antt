@@ -17,10 +17,11 @@ use Rattle.mt_rows.proofs.Lists.{Filled, expand_fills, expand-append}
 use Rattle.mt_rows.proofs.Heights.{level_next, level_rows}
 use Rattle.mt_rows.proofs.Reached.{one_of_parts, one_place}
 use Rattle.mt_path.specs.declared.paths.PathStep.{PathStep}
-use Rattle.mt_path.specs.Paths.{step_in, At}
+use Rattle.mt_path.specs.Paths.{step_in}
 use Rattle.mt_path.proofs.TreePaths.{row_of, place, child}
 use Rattle.mt_splice.specs.steps.Work.{rows_at}
 use Rattle.mt_splice.specs.steps.Stretches.{IsStretch, spans_on}
+use Rattle.mt_path.proofs.Places.{At}
 use Rattle.mt_splice.proofs.Splits.{split_more, split_same}
 
 -- of two spans of a list, the one that begins first ends before the other begins

@@ -13,7 +13,7 @@ use Rattle.mt_rows.specs.Replacement.{root_of}
 use Rattle.mt_rows.proofs.Frames.{same_spans}
 use Rattle.mt_rows.proofs.Heights.{level_rows}
 use Rattle.mt_path.specs.declared.paths.PathStep.{PathStep}
-use Rattle.mt_path.specs.Paths.{step_in, step_at, path_in, At}
+use Rattle.mt_path.specs.Paths.{step_in, step_at, path_in}
 use Rattle.mt_path.proofs.TreePaths.{row_of, step, place, lawful, child}
 use Rattle.mt_splice.specs.steps.Work.{Start, Work, now, rows_at, IsUsed, KeepsWords, Holds}
 use Rattle.mt_splice.specs.Fewest.{FewestBelow}
@@ -21,6 +21,7 @@ use Rattle.mt_splice.specs.steps.Progress.{is_taken}
 use Rattle.mt_splice.specs.steps.Replaced.{IsHalfReplaced}
 use Rattle.mt_splice.specs.steps.Stretches.{IsStretch, spans_on}
 use Rattle.mt_splice.specs.steps.Climbs.{begin_of, behind_of, Gathered, Climbed}
+use Rattle.mt_path.proofs.Places.{At}
 use Rattle.mt_splice.proofs.Moments.{RowsKeep}
 use Rattle.mt_splice.proofs.PathRows.{stretch_between, front_below, back_below, spans_of_step, take_slot, drop_slot}
 

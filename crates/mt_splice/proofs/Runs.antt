@@ -19,13 +19,14 @@ use Rattle.mt_leaf.proofs.Stored.{ranges_edited, fills_edited, length_edited}
 use Rattle.mt_leaf.proofs.Holes.{ends_joined, full_unless_hole, no_hole_ends}
 use Rattle.mt_leaf.proofs.Joined.{length_joined, length_joins, apart_joined}
 use Rattle.mt_path.specs.declared.paths.PathStep.{PathStep}
-use Rattle.mt_path.specs.Paths.{step_in, step_at, path_in, At}
+use Rattle.mt_path.specs.Paths.{step_in, step_at, path_in}
 use Rattle.mt_path.proofs.TreePaths.{row_of, child, right_begins, left_ends}
 use Rattle.mt_splice.specs.steps.Work.{Start, Work, now, Holds}
 use Rattle.mt_splice.specs.Splice.{region_of}
 use Rattle.mt_splice.specs.steps.Stretches.{ArePaths, spans_on}
 use Rattle.mt_splice.specs.steps.Climbs.{begin_of, behind_of, MayBeIn, beside, Gathered, Climbed}
 use Rattle.mt_splice.specs.steps.Runs.{most_items, most_in_three, span_to, MayBeCut}
+use Rattle.mt_path.proofs.Places.{At}
 use Rattle.mt_splice.proofs.EditedRegions.{all_edited}
 use Rattle.mt_splice.proofs.PathRows.{rows_in_order}
 use Rattle.mt_splice.proofs.Neighbours.{takes_right, takes_left}

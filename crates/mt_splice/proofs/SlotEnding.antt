@@ -35,8 +35,8 @@ use Rattle.mt_rows.proofs.SlotStore as store
 use Rattle.mt_rows.proofs.SlotChild.{replaces_child}
 use Rattle.mt_rows.proofs.Longest.{longest_shared}
 use Rattle.mt_path.specs.declared.paths.PathStep.{PathStep}
-use Rattle.mt_path.specs.Paths.{slot_for, step_in, step_at, At}
-use Rattle.mt_path.proofs.Places.{at_get}
+use Rattle.mt_path.specs.Paths.{slot_for, step_in, step_at}
+use Rattle.mt_path.proofs.Places.{at_get, At}
 use Rattle.mt_path.proofs.TreePaths.{row_of, child, rows_fill, same_row}
 use Rattle.mt_splice.specs.steps.Seen.{passing}
 use Rattle.mt_splice.specs.steps.Work.{Start, Work, now, rows_at, Holds}

@@ -1,4 +1,3 @@
-pub mod Between
 pub mod Fewest
 pub mod Kept
 pub mod Splice

@@ -1,6 +1,6 @@
 -- A row written anew, and the items of a row read.
 -- Source: the kernel's lib/maple_tree.c, mab_mas_cp and mas_mab_cp: a node's slots are copied out and written into a new node.
-use Rattle.std.specs.Prelude.{◌≡◌, ◌≢◌, ℕ, ◌+◌, ◌-◌, ◌<◌, ◌≤◌, false, Some, List, [], ◌∷◌, ◌++◌, length, take, drop, slice_index, slice_set}
+use Rattle.std.specs.Prelude.{◌≡◌, ◌≢◌, ℕ, ◌+◌, ◌<◌, ◌≤◌, false, Some, List, [], ◌∷◌, ◌++◌, length, slice_index, slice_set}
 use Rattle.mt_base.specs.Width.{columns, first_row}
 use Rattle.mt_layout.specs.declared.items.Item.{Item}
 use Rattle.mt_layout.specs.declared.names.RowKind.{RowKind}
@@ -48,10 +48,6 @@ pub record IsRowWritten (s s' : Sheet) (book book' : Book) (kind : RowKind) (ite
 -- the items of a row that covers the indexes up to `max`
 abbrev pub items_of_row : Table → RowKind → ℕ → ℕ → List Item
 items_of_row t kind row max = items_at (slots_of t.width kind) (gaps_of t.width kind) t.words (base_of t row) max
-
--- of these, those in the slots from `from` to, but without, `to`
-abbrev pub items_between : Table → RowKind → ℕ → ℕ → ℕ → ℕ → List Item
-items_between t kind row max from to = take (to - from) (drop from (items_of_row t kind row max))
 
 -- ---- the parent words of a row's children
 

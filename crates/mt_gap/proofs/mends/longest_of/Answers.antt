@@ -9,9 +9,8 @@ use Rattle.mt_path.proofs.Kept.{tree_kept}
 use Rattle.mt_path.proofs.Loads.{reads_more, one_read}
 use Rattle.mt_rows.specs.Sheet.{Rooted}
 use Rattle.mt_gap.specs.declared.children.Child.{Child}
-use Rattle.mt_gap.specs.Children.{spans}
 use Rattle.mt_gap.specs.Slots.{child_in, word_in}
-use Rattle.mt_gap.proofs.ChildLists.{spans_are}
+use Rattle.mt_gap.proofs.ChildLists.{spans, spans_are}
 use Rattle.mt_gap.proofs.RowReads.{same_read, read_on, read_last, read_part, read_all}
 use Rattle.mt_gap.proofs.Asking.{LongestIs, longest_on, hole_fits, child_rises}
 use Rattle.mt_gap.proofs.mends.longest_of.Goals as goal

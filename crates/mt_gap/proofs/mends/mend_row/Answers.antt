@@ -7,8 +7,8 @@ use Rattle.mt_layout.specs.Rows.{named_kind}
 use Rattle.mt_rows.specs.Sheet.{IsPlace}
 use Rattle.mt_rows.specs.Spans.{row_spans}
 use Rattle.mt_gap.specs.declared.children.Child.{Child}
-use Rattle.mt_gap.specs.Children.{no_child}
 use Rattle.mt_gap.specs.Mending.{MayMend, IsMended}
+use Rattle.mt_gap.proofs.ChildLists.{no_child}
 use Rattle.mt_gap.proofs.MendGaps.{above, above_place, still_mended, children_are, child_named, may_mend_child, child_mended, children_stay, children_mended, step_to}
 use Rattle.mt_gap.proofs.mends.mend_row.Goals as goal
 

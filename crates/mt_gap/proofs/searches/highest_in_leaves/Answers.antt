@@ -4,8 +4,9 @@ use Rattle.std.specs.List.{flat_map}
 use Rattle.mt_base.specs.Holes.{highest_in}
 use Rattle.mt_rows.specs.Sheet.{Rooted}
 use Rattle.mt_gap.specs.Below.{child_hole}
-use Rattle.mt_gap.specs.Children.{children_in, no_child}
+use Rattle.mt_gap.specs.Children.{children_in}
 use Rattle.mt_gap.specs.Descents.{picked}
+use Rattle.mt_gap.proofs.ChildLists.{no_child}
 use Rattle.mt_gap.proofs.LevelLoops.{FoundHigh, tree_loaded, loaded_next, high_one}
 use Rattle.mt_gap.proofs.searches.highest_in_leaves.Goals as goal
 

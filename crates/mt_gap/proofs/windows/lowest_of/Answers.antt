@@ -6,9 +6,8 @@ use Rattle.mt_path.proofs.Kept.{tree_kept}
 use Rattle.mt_path.proofs.Loads.{reads_more, reads_up, one_read}
 use Rattle.mt_rows.specs.Sheet.{Rooted}
 use Rattle.mt_gap.specs.Below.{leaf_hole}
-use Rattle.mt_gap.specs.Reading.{loads_for}
 use Rattle.mt_gap.specs.Slots.{child_in, word_in}
-use Rattle.mt_gap.proofs.RowReads.{two_loads_of, same_read, read_on, read_last, read_part, read_all}
+use Rattle.mt_gap.proofs.RowReads.{loads_for, two_loads_of, same_read, read_on, read_last, read_part, read_all}
 use Rattle.mt_gap.proofs.Asking.{NoneLow, none_low_on, low_here, low_nowhere}
 use Rattle.mt_gap.proofs.windows.lowest_of.Goals as goal
 
