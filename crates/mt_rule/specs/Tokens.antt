@@ -95,10 +95,6 @@ pub record Stepped (t : Identity) (p p' : Pass) : Type 0 where
 abbrev pub pen_in : Pen → PenPart
 pen_in p = pen_of p.seat.me.0
 
--- the whole history of the pen's tree
-abbrev pub history_in : Pen → History
-history_in p = tree_of (pen_in p).shape (pen_in p).history
-
 abbrev pub identity_of_pen : Pen → Identity
 identity_of_pen p = record { table = p.seat.table_id; shape = (pen_in p).shape }
 
