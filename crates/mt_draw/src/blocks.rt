@@ -2,7 +2,7 @@
 
 use crate::boxes::Sizes;
 use crate::layouts::BORDER;
-use crate::shapes::{Head, Indexes, Px};
+use crate::shapes::{Frame, Head, Indexes, Point, Px};
 use crate::trees::Tree;
 use mt_base::Kind;
 use mt_layout::Span;
@@ -136,27 +136,39 @@ struct Drawn<'a> {
     width: Px,
 }
 
+impl<'a> Drawn<'a> {
+    fn frame(&self) -> Frame {
+        let Block { x, y, height, .. } = *self.block;
+        let width = self.width;
+        Frame {
+            x,
+            y,
+            width,
+            height,
+        }
+    }
+
+    /// Writes its texts.
+    fn write_texts<W: fmt::Write>(&self, f: &mut fmt::Formatter<W>) -> fmt::Result {
+        let (x, y, span) = (self.block.x, self.block.y + Px(13), self.block.span);
+        let (left, right) = (Point(x + Px(8), y), Point(x + self.width - Px(8), y));
+        let (indexes, content) = (Indexes::of(self.kind, &span), Content(span));
+        writeln!(f, "<text {left}>{indexes}</text>")?;
+        writeln!(f, "<text {right} text-anchor='end'>{content}</text>")
+    }
+}
+
 impl<'a> fmt::Display for Drawn<'a> {
     fn fmt<W: fmt::Write>(&self, f: &mut fmt::Formatter<W>) -> fmt::Result {
-        let (block, span, width) = (self.block, self.block.span, self.width);
-        let (x, y, height) = (block.x, block.y, block.height);
-        let (class, fill) = if span.word == 0 {
+        let frame = self.frame();
+        let (class, fill) = if self.block.span.word == 0 {
             ("hole", "url(#hole)")
         } else {
             ("range", "#d5e8d4")
         };
         writeln!(f, "<g class='{class}'>")?;
-        writeln!(
-            f,
-            "<rect x='{x}' y='{y}' width='{width}' height='{height}' fill='{fill}' stroke='#9a9a9a'/>"
-        )?;
-        let (left, right, line) = (x + Px(8), x + width - Px(8), y + Px(13));
-        let (indexes, content) = (Indexes::of(self.kind, &span), Content(span));
-        writeln!(f, "<text x='{left}' y='{line}'>{indexes}</text>")?;
-        writeln!(
-            f,
-            "<text x='{right}' y='{line}' text-anchor='end'>{content}</text>"
-        )?;
+        writeln!(f, "<rect {frame} fill='{fill}' stroke='#9a9a9a'/>")?;
+        self.write_texts(f)?;
         writeln!(f, "</g>")
     }
 }

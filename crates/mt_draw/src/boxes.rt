@@ -3,8 +3,8 @@
 ghost use Rattle.std.specs.Prelude.{◌≡◌};
 ghost use Rattle.mt_draw.specs.Marks.{mark_of};
 
-use crate::layouts::{ACROSS, Frame, LINE, Layout, MARGIN, TITLE};
-use crate::shapes::{Head, Index, Indexes, Px};
+use crate::layouts::{ACROSS, LINE, Layout, MARGIN, TITLE};
+use crate::shapes::{Frame, Head, Index, Indexes, Point, Px};
 use crate::trees::{Node, Tree};
 use mt_layout::{RowKind, Span, row_of};
 use std::fmt;
@@ -36,7 +36,7 @@ impl<'a> fmt::Display for Sizes<'a> {
 }
 
 /// What a slot is drawn as.
-#[derive(Clone, Copy, Debug, PartialEq, Eq)]
+#[derive(Clone, Copy)]
 enum Mark {
     /// Indexes without an entry.
     Hole,
@@ -145,22 +145,24 @@ impl<'a> Line<'a> {
         Ends(Indexes::of(self.tree.kind, &self.span), has_pivot)
     }
 
+    /// What stands beside them.
+    fn content(&self) -> Content {
+        let (kind, word, gap) = (self.node.kind, self.span.word, self.gap);
+        Content { kind, word, gap }
+    }
+
     /// Writes its texts.
     fn write_texts<W: fmt::Write>(&self, f: &mut fmt::Formatter<W>, y: Px) -> fmt::Result {
-        let (slot, frame) = (self.slot, self.frame);
-        let (near, text) = (frame.x + Px(24), frame.x + MARGIN);
-        let far = frame.x + frame.width - Px(8);
-        let (kind, word, gap) = (self.node.kind, self.span.word, self.gap);
-        let (ends, content) = (self.ends(), Content { kind, word, gap });
+        let (slot, ends, content) = (self.slot, self.ends(), self.content());
+        let (x, right) = (self.frame.x, self.frame.x + self.frame.width);
+        let near = Point(x + Px(24), y);
+        let (text, far) = (Point(x + MARGIN, y), Point(right - Px(8), y));
         writeln!(
             f,
-            "<text x='{near}' y='{y}' font-size='10' fill='#999' text-anchor='end'>{slot}</text>"
+            "<text {near} font-size='10' fill='#999' text-anchor='end'>{slot}</text>"
         )?;
-        writeln!(f, "<text x='{text}' y='{y}'>{ends}</text>")?;
-        writeln!(
-            f,
-            "<text x='{far}' y='{y}' text-anchor='end'>{content}</text>"
-        )
+        writeln!(f, "<text {text}>{ends}</text>")?;
+        writeln!(f, "<text {far} text-anchor='end'>{content}</text>")
     }
 }
 
@@ -169,12 +171,14 @@ impl<'a> fmt::Display for Line<'a> {
         let (frame, mark) = (self.frame, mark_of(self.node.kind, self.span.word));
         let top = frame.y + TITLE + LINE.times(self.slot);
         writeln!(f, "<g class='{mark}'>")?;
-        if mark == Mark::Hole {
-            let (x, width) = (frame.x + Px(1), frame.width - Px(2));
-            writeln!(
-                f,
-                "<rect x='{x}' y='{top}' width='{width}' height='{LINE}' fill='url(#hole)'/>"
-            )?;
+        if matches!(mark, Mark::Hole) {
+            let within = Frame {
+                x: frame.x + Px(1),
+                y: top,
+                width: frame.width - Px(2),
+                height: LINE,
+            };
+            writeln!(f, "<rect {within} fill='url(#hole)'/>")?;
         }
         self.write_texts(f, top + Px(13))?;
         writeln!(f, "</g>")
@@ -190,32 +194,41 @@ struct Row<'a> {
 }
 
 impl<'a> Row<'a> {
+    /// Writes the box.
+    fn write_box<W: fmt::Write>(&self, f: &mut fmt::Formatter<W>) -> fmt::Result {
+        let (frame, look) = (self.frame, look_of(self.node.kind));
+        let (title, line) = (look.title, look.line);
+        let head = Frame {
+            height: TITLE,
+            ..frame
+        };
+        writeln!(f, "<rect {frame} fill='#fff' stroke='{line}'/>")?;
+        writeln!(f, "<rect {head} fill='{title}' stroke='{line}'/>")
+    }
+
+    /// Writes its name, and how many of its slots are used.
+    fn write_name<W: fmt::Write>(&self, f: &mut fmt::Formatter<W>, used: usize) -> fmt::Result {
+        let (frame, row, name) = (self.frame, self.node.row, look_of(self.node.kind).name);
+        let (right, y) = (frame.x + frame.width, frame.y + Px(16));
+        let (near, far) = (Point(frame.x + Px(8), y), Point(right - Px(8), y));
+        let all = self.tree.slots(self.node);
+        writeln!(
+            f,
+            "<text {near}><tspan font-weight='bold'>row {row}</tspan> {name}</text>"
+        )?;
+        writeln!(
+            f,
+            "<text {far} fill='#777' text-anchor='end'>{used} of {all}</text>"
+        )
+    }
+
     /// Writes the box and what stands above its slots, of which so many are used.
     fn write_title<W: fmt::Write>(&self, f: &mut fmt::Formatter<W>, used: usize) -> fmt::Result {
-        let (frame, node, look) = (self.frame, self.node, look_of(self.node.kind));
-        let (x, y, width, height) = (frame.x, frame.y, frame.width, frame.height);
-        let (name, title, line) = (look.name, look.title, look.line);
-        writeln!(
-            f,
-            "<rect x='{x}' y='{y}' width='{width}' height='{height}' fill='#fff' stroke='{line}'/>"
-        )?;
-        writeln!(
-            f,
-            "<rect x='{x}' y='{y}' width='{width}' height='{TITLE}' fill='{title}' stroke='{line}'/>"
-        )?;
-        let (left, right) = (x + Px(8), x + width - Px(8));
-        let (upper, lower) = (y + Px(16), y + Px(34));
-        let (row, all) = (node.row, self.tree.slots(node));
-        writeln!(
-            f,
-            "<text x='{left}' y='{upper}'><tspan font-weight='bold'>row {row}</tspan> {name}</text>"
-        )?;
-        writeln!(
-            f,
-            "<text x='{right}' y='{upper}' fill='#777' text-anchor='end'>{used} of {all}</text>"
-        )?;
-        let indexes = Indexes::of(self.tree.kind, &node.span);
-        writeln!(f, "<text x='{left}' y='{lower}'>{indexes}</text>")
+        let at = Point(self.frame.x + Px(8), self.frame.y + Px(34));
+        let indexes = Indexes::of(self.tree.kind, &self.node.span);
+        self.write_box(f)?;
+        self.write_name(f, used)?;
+        writeln!(f, "<text {at}>{indexes}</text>")
     }
 }
 

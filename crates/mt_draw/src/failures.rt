@@ -9,7 +9,7 @@ use std::alloc::AllocError;
 use std::fmt;
 
 /// Why nothing, or only a part, is written.
-#[derive(Clone, Copy, Debug, PartialEq, Eq)]
+#[derive(Clone, Copy)]
 pub enum Failure {
     /// The input is no image.
     NoImage(ImageError),

@@ -1,6 +1,6 @@
 //! Where the boxes of rows stand: the root at the left, children to the right of their row, the first beside it.
 
-use crate::shapes::{Indexes, Px};
+use crate::shapes::{Frame, Indexes, Px};
 use crate::trees::{Node, Tree};
 use mt_layout::{RowKind, Span, row_of};
 use std::alloc::{AllocError, Global};
@@ -28,15 +28,6 @@ pub const ACROSS: Px = Px(80);
 
 /// The width of the narrowest box.
 const TITLE_WIDTH: Px = Px(200);
-
-/// Where a box stands.
-#[derive(Clone, Copy)]
-pub struct Frame {
-    pub x: Px,
-    pub y: Px,
-    pub width: Px,
-    pub height: Px,
-}
 
 /// Where a level stands.
 #[derive(Clone, Copy, Default)]

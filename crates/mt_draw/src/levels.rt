@@ -2,8 +2,8 @@
 
 use crate::boxes::Sizes;
 use crate::layouts::BORDER;
-use crate::shapes::{Head, Index, Indexes, Px};
-use crate::trees::{Node, Tree};
+use crate::shapes::{Frame, Head, Index, Indexes, Point, Px};
+use crate::trees::{Node, Tree, count_holes};
 use std::alloc::{AllocError, Global};
 use std::fmt;
 
@@ -29,7 +29,7 @@ const LEAF: Px = Px(3);
 const MOST: Px = Px(12_000);
 
 /// A leaf is so many units high, whatever a unit is in pixels.
-const UNITS: usize = 10;
+const UNITS: Px = Px(10);
 
 /// How many leaves stand before a row, and how many are below it.
 #[derive(Clone, Copy, Default)]
@@ -124,18 +124,29 @@ impl<'a> Levels<'a> {
         self.height.part(leaves, self.leaves)
     }
 
+    /// Writes what a level comes to.
+    fn write_tally<W: fmt::Write>(
+        &self,
+        f: &mut fmt::Formatter<W>,
+        depth: usize,
+        tally: &Tally,
+    ) -> fmt::Result {
+        let (x, rows, used, slots) = (self.left(depth), tally.rows, tally.used, tally.slots);
+        let (upper, lower) = (Point(x, Px(70)), Point(x, Px(86)));
+        writeln!(
+            f,
+            "<text {upper} font-weight='bold'>level {depth}: rows {rows}</text>"
+        )?;
+        writeln!(
+            f,
+            "<text {lower} font-size='11'>slots in use {used} of {slots}</text>"
+        )
+    }
+
     /// Writes what the levels come to.
     fn write_tallies<W: fmt::Write>(&self, f: &mut fmt::Formatter<W>) -> fmt::Result {
         for (depth, tally) in self.tallies.iter().enumerate() {
-            let (x, rows, used, slots) = (self.left(depth), tally.rows, tally.used, tally.slots);
-            writeln!(
-                f,
-                "<text x='{x}' y='70' font-weight='bold'>level {depth}: rows {rows}</text>"
-            )?;
-            writeln!(
-                f,
-                "<text x='{x}' y='86' font-size='11'>slots in use {used} of {slots}</text>"
-            )?;
+            self.write_tally(f, depth, tally)?;
         }
         Ok(())
     }
@@ -143,74 +154,127 @@ impl<'a> Levels<'a> {
     /// Writes the bars, in units of height.
     fn write_bars<W: fmt::Write>(&self, f: &mut fmt::Formatter<W>) -> fmt::Result {
         for (node, extent) in self.tree.nodes.iter().zip(self.extents.iter()) {
-            let bar = Bar {
-                tree: self.tree,
-                node,
+            let frame = Frame {
                 x: self.left(node.depth as usize),
-                y: extent.before.saturating_mul(UNITS),
-                height: extent.leaves.saturating_mul(UNITS).saturating_sub(1),
+                y: UNITS.times(extent.before),
+                width: BAR,
+                height: UNITS.times(extent.leaves) - Px(1),
             };
+            let bar = Bar::of(self.tree, node, frame);
             write!(f, "{bar}")?;
         }
         Ok(())
+    }
+
+    /// Writes the picture of the bars, so wide.
+    fn write_picture<W: fmt::Write>(&self, f: &mut fmt::Formatter<W>, width: Px) -> fmt::Result {
+        let (height, units) = (self.height, UNITS.times(self.leaves));
+        write!(f, "<svg y='{TOP}' width='{width}' height='{height}' ")?;
+        writeln!(
+            f,
+            "viewBox='0 0 {width} {units}' preserveAspectRatio='none'>"
+        )?;
+        self.write_bars(f)?;
+        writeln!(f, "</svg>")
+    }
+
+    /// Where a text stands so far from the left end of a row's bar, of which this is the upper end.
+    fn place_of(&self, node: &Node, upper: Px, across: Px) -> Point {
+        let x = self.left(node.depth as usize) + across;
+        Point(x, TOP + upper + Px(11))
+    }
+
+    /// Writes the first index of a leaf beside its bar.
+    fn write_beside<W: fmt::Write>(
+        &self,
+        f: &mut fmt::Formatter<W>,
+        node: &Node,
+        upper: Px,
+    ) -> fmt::Result {
+        let at = self.place_of(node, upper, BAR + Px(6));
+        let first = Index(self.tree.kind, node.span.first);
+        writeln!(f, "<text {at} fill='#777'>{first}</text>")
+    }
+
+    /// Writes the indexes of an inner row into its bar.
+    fn write_within<W: fmt::Write>(
+        &self,
+        f: &mut fmt::Formatter<W>,
+        node: &Node,
+        upper: Px,
+    ) -> fmt::Result {
+        let at = self.place_of(node, upper, Px(4));
+        let indexes = Indexes::of(self.tree.kind, &node.span);
+        writeln!(f, "<text {at}>{indexes}</text>")
     }
 
     /// Writes the indexes of the rows, where there is room for a text.
     fn write_indexes<W: fmt::Write>(&self, f: &mut fmt::Formatter<W>) -> fmt::Result {
         let mut free = Px(0);
         for (node, extent) in self.tree.nodes.iter().zip(self.extents.iter()) {
-            let (upper, kind) = (self.height_of(extent.before), self.tree.kind);
-            let (x, y) = (self.left(node.depth as usize), TOP + upper + Px(11));
+            let upper = self.height_of(extent.before);
             if node.is_leaf() && free <= upper {
                 free = upper + LINE;
-                let (x, first) = (x + BAR + Px(6), Index(kind, node.span.first));
-                writeln!(f, "<text x='{x}' y='{y}' fill='#777'>{first}</text>")?;
+                self.write_beside(f, node, upper)?;
             }
             if !node.is_leaf() && LINE <= self.height_of(extent.leaves) {
-                let (x, indexes) = (x + Px(4), Indexes::of(kind, &node.span));
-                writeln!(f, "<text x='{x}' y='{y}'>{indexes}</text>")?;
+                self.write_within(f, node, upper)?;
             }
         }
         Ok(())
     }
 }
 
-/// A row as a bar of so many units of height.
+/// A row as a bar, and how much of its width stands for ranges or children, and for holes.
 #[derive(Clone, Copy)]
-struct Bar<'a> {
-    tree: &'a Tree,
-    node: &'a Node,
-    x: Px,
-    y: usize,
-    height: usize,
+struct Bar {
+    row: u32,
+    frame: Frame,
+    blue: Px,
+    amber: Px,
 }
 
-impl<'a> fmt::Display for Bar<'a> {
+impl Bar {
+    /// The bar of a row in this frame.
+    fn of(tree: &Tree, node: &Node, frame: Frame) -> Bar {
+        let (spans, slots) = (tree.spans(node), tree.slots(node));
+        let holes = count_holes(spans.as_slice());
+        let others = spans.as_slice().len().saturating_sub(holes);
+        Bar {
+            row: node.row,
+            frame,
+            blue: frame.width.part(others, slots),
+            amber: frame.width.part(holes, slots),
+        }
+    }
+}
+
+impl fmt::Display for Bar {
     fn fmt<W: fmt::Write>(&self, f: &mut fmt::Formatter<W>) -> fmt::Result {
-        let (x, y, height, row) = (self.x, self.y, self.height, self.node.row);
-        let (spans, slots) = (self.tree.spans(self.node), self.tree.slots(self.node));
-        let holes = spans
-            .as_slice()
-            .iter()
-            .filter(|span| span.word == 0)
-            .count();
-        let blue = BAR.part(spans.as_slice().len().saturating_sub(holes), slots);
-        let (edge, amber) = (x + blue, BAR.part(holes, slots));
+        let Bar {
+            row,
+            frame,
+            blue,
+            amber,
+        } = *self;
+        let used = Frame {
+            width: blue,
+            ..frame
+        };
         writeln!(
             f,
-            "<rect class='row' id='row{row}' x='{x}' y='{y}' width='{BAR}' height='{height}' fill='#e8e8e8'/>"
+            "<rect class='row' id='row{row}' {frame} fill='#e8e8e8'/>"
         )?;
-        writeln!(
-            f,
-            "<rect x='{x}' y='{y}' width='{blue}' height='{height}' fill='#a9c4ec'/>"
-        )?;
-        if holes == 0 {
+        writeln!(f, "<rect {used} fill='#a9c4ec'/>")?;
+        if amber == Px(0) {
             return Ok(());
         }
-        writeln!(
-            f,
-            "<rect x='{edge}' y='{y}' width='{amber}' height='{height}' fill='#f2c879'/>"
-        )
+        let holes = Frame {
+            x: frame.x + blue,
+            width: amber,
+            ..frame
+        };
+        writeln!(f, "<rect {holes} fill='#f2c879'/>")
     }
 }
 
@@ -224,13 +288,7 @@ impl<'a> fmt::Display for Levels<'a> {
         };
         writeln!(f, "{head}{sizes}")?;
         self.write_tallies(f)?;
-        let (height, units) = (self.height, self.leaves.saturating_mul(UNITS));
-        writeln!(
-            f,
-            "<svg y='{TOP}' width='{right}' height='{height}' viewBox='0 0 {right} {units}' preserveAspectRatio='none'>"
-        )?;
-        self.write_bars(f)?;
-        writeln!(f, "</svg>")?;
+        self.write_picture(f, right)?;
         self.write_indexes(f)?;
         writeln!(f, "</svg>")
     }

@@ -7,7 +7,7 @@ use std::fmt;
 use std::ops::{Add, Sub};
 
 /// A length in pixels. Sums end at the greatest one, and differences at none.
-#[derive(Clone, Copy, Debug, Default, PartialEq, Eq, PartialOrd, Ord)]
+#[derive(Clone, Copy, Default, PartialEq, Eq, PartialOrd, Ord)]
 pub struct Px(pub u64);
 
 impl Px {
@@ -57,6 +57,33 @@ impl fmt::Display for Px {
     fn fmt<W: fmt::Write>(&self, f: &mut fmt::Formatter<W>) -> fmt::Result {
         let pixels = self.0;
         write!(f, "{pixels}")
+    }
+}
+
+/// Where a text stands.
+#[derive(Clone, Copy)]
+pub struct Point(pub Px, pub Px);
+
+impl fmt::Display for Point {
+    fn fmt<W: fmt::Write>(&self, f: &mut fmt::Formatter<W>) -> fmt::Result {
+        let (x, y) = (self.0, self.1);
+        write!(f, "x='{x}' y='{y}'")
+    }
+}
+
+/// Where a rectangle stands.
+#[derive(Clone, Copy)]
+pub struct Frame {
+    pub x: Px,
+    pub y: Px,
+    pub width: Px,
+    pub height: Px,
+}
+
+impl fmt::Display for Frame {
+    fn fmt<W: fmt::Write>(&self, f: &mut fmt::Formatter<W>) -> fmt::Result {
+        let (at, width, height) = (Point(self.x, self.y), self.width, self.height);
+        write!(f, "{at} width='{width}' height='{height}'")
     }
 }
 

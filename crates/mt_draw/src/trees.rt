@@ -18,7 +18,7 @@ use mt_rows::{PlainRows, Rows};
 use std::alloc::Global;
 
 /// A row: the indexes that it covers with the word that leads to it, its number and kind, and how many rows are above it.
-#[derive(Clone, Copy, Debug)]
+#[derive(Clone, Copy)]
 pub struct Node {
     pub span: Span,
     pub row: u32,
@@ -37,6 +37,11 @@ impl Node {
 
 /// What stands in the slots of a row, from the first to the last that is used.
 pub type Spans = ArrayVec<Span, RUN_ROOM>;
+
+/// How many of these are holes.
+pub fn count_holes(spans: &[Span]) -> usize {
+    spans.iter().filter(|span| span.word == 0).count()
+}
 
 /// A tree, its rows in the order of a walk: each before its children, children from the left. They are numbered so.
 #[derive(Drop)]
@@ -174,12 +179,9 @@ impl Tree {
         for node in &self.nodes {
             if node.is_leaf() {
                 let spans = self.spans(node);
-                let found = spans
-                    .as_slice()
-                    .iter()
-                    .filter(|span| (span.word == 0) == holes)
-                    .count();
-                count = count.saturating_add(found);
+                let found = count_holes(spans.as_slice());
+                let others = spans.as_slice().len().saturating_sub(found);
+                count = count.saturating_add(if holes { found } else { others });
             }
         }
         count
