@@ -6,7 +6,7 @@ ghost use Rattle.mt_judge.specs.Faults.{earlier};
 use std::fmt;
 
 /// What is wrong with a line of a transcript.
-#[derive(Clone, Copy, Debug, PartialEq, Eq)]
+#[derive(Clone, Copy)]
 pub enum Cause {
     /// It answers another line of the log than the one that comes next, or there is none.
     NoEntry,
@@ -56,7 +56,7 @@ impl fmt::Display for Cause {
 }
 
 /// A line of a transcript, from 1, and what is wrong with it.
-#[derive(Clone, Copy, Debug, PartialEq, Eq)]
+#[derive(Clone, Copy)]
 pub struct Fault {
     pub line: u64,
     pub cause: Cause,

@@ -6,7 +6,7 @@ use std::alloc::AllocError;
 use std::fmt;
 
 /// Why nothing is told of an input.
-#[derive(Clone, Copy, Debug, PartialEq, Eq)]
+#[derive(Clone, Copy)]
 pub enum Failure {
     /// The input is no log: its first bad line, and why.
     BadLog { line: u64, why: Why },

@@ -23,7 +23,7 @@ use std::alloc::Global;
 use std::fmt;
 
 /// Whether a transcript is that of a run of a log, and if not where it is wrong, if that was found.
-#[derive(Clone, Copy, Debug, PartialEq, Eq)]
+#[derive(Clone, Copy)]
 pub enum Found {
     Verified,
     Refused(Option<Fault>),
@@ -48,7 +48,7 @@ impl fmt::Display for Found {
 }
 
 /// What is found of a transcript, and how much it tells.
-#[derive(Clone, Copy, Debug, PartialEq, Eq)]
+#[derive(Clone, Copy)]
 pub struct Judgment {
     pub found: Found,
     pub tally: Tally,

@@ -9,7 +9,7 @@ use std::fmt;
 
 /// How many calls and how many reads a transcript tells, and how many of the reads met a call on their tree: their windows are
 /// wider than one number of calls.
-#[derive(Clone, Copy, Debug, PartialEq, Eq)]
+#[derive(Clone, Copy)]
 pub struct Tally {
     pub calls: u64,
     pub reads: u64,
