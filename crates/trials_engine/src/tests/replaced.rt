@@ -112,27 +112,47 @@ fn hole_of(width: Width, words: &[u64], root: u64) -> Option<u64> {
     longest_hole(width, words, DEEPEST as u32, &whole)
 }
 
+/// The tree with these words, from this root word: as many rows are reached as are live, and all of its gap words are right.
+fn tree_of(
+    rt: &impl Abort,
+    alloc: Global,
+    width: Width,
+    words: &[u64],
+    root: u64,
+    live: u64,
+) -> Result<Tree, NoMemory> {
+    same(rt, hole_of(width, words, root).is_some(), true, root);
+    let height = height_in(width, words, root);
+    let rows = reached_in(alloc, width, words, root)?;
+    same(rt, rows.len() as u64, live, root);
+    Ok(Tree { root, height, rows })
+}
+
+/// The words from this root word stand for the ranges of a list.
+fn expect_words(
+    rt: &impl Abort,
+    alloc: Global,
+    width: Width,
+    words: &[u64],
+    root: u64,
+    list: &mut ListMap,
+) -> Result<(), NoMemory> {
+    let ranges = map_in(alloc, width, words, root)?;
+    same(rt, ranges.as_slice(), list.list(alloc)?.as_slice(), root);
+    Ok(())
+}
+
 /// The tree of this kind behind these calls on the empty one. By the plain program its words stand for the ranges of the list
-/// that plays the same, as many rows are reached as are live, and all of its gap words are right.
+/// that plays the same.
 fn tree_after(rt: &impl Abort, alloc: Global, kind: Kind, calls: &[Call]) -> Result<Tree, NoMemory>
     requires { length calls.now < 2 ^ 32 }
 {
     let (engine, mut list) = played(rt, alloc, kind, calls)?;
     let (mut rows, book) = engine.parts();
-    let (width, root) = (rows.width(), rows.root());
     let words = words_of(&mut rows, alloc)?;
-    let ranges = map_in(alloc, width, words.as_slice(), root)?;
-    same(rt, ranges.as_slice(), list.list(alloc)?.as_slice(), root);
-    let reached = reached_in(alloc, width, words.as_slice(), root)?;
-    same(rt, reached.len() as u64, book.live(), root);
-    let hole = hole_of(width, words.as_slice(), root);
-    same(rt, hole.is_some(), true, root);
-    let height = height_in(width, words.as_slice(), root);
-    Ok(Tree {
-        root,
-        height,
-        rows: reached,
-    })
+    let (width, root) = (rows.width(), rows.root());
+    expect_words(rt, alloc, width, words.as_slice(), root, &mut list)?;
+    tree_of(rt, alloc, width, words.as_slice(), root, book.live())
 }
 
 /// How many of these rows are none of those.
