@@ -1,4 +1,5 @@
-//! Trials of texts: logs that are read and printed, what a text tells of them, transcripts, listings, and the words of commands.
+//! Trials of texts: logs that are read and printed, what a text tells of them, transcripts and whether they are those of runs,
+//! listings, and the words of commands.
 #![tactic(auto)]
 
 #[cfg(test)]
@@ -11,5 +12,7 @@ mod log;
 mod told;
 #[cfg(test)]
 mod transcripts;
+#[cfg(test)]
+mod verdicts;
 #[cfg(test)]
 mod words;

@@ -1,4 +1,5 @@
-//! Trials of the tree that threads share: the rule of its table, the rows of its writer, and what its callers ask and do.
+//! Trials of the tree that threads share: the rule of its table, the rows of its writer, and what its callers ask and do:
+//! readers among them, that walk on while ranges are stored, and whose open sections hold rows.
 #![tactic(auto)]
 
 #[cfg(test)]
@@ -15,6 +16,8 @@ mod images;
 mod locked;
 #[cfg(test)]
 mod pen;
+#[cfg(test)]
+mod readers;
 #[cfg(test)]
 mod rule;
 #[cfg(test)]

@@ -3,7 +3,9 @@
 ghost use Rattle.std.specs.Prelude.{◌≡◌, ◌<◌};
 ghost use Rattle.mt_tree.specs.Trees.{IsPassOf};
 
-use crate::tests::{KINDS, last_pass, made, read, same, store, store_range};
+use crate::asserts::{KINDS, same};
+use crate::readers::{read, store, store_range};
+use crate::shared::{last_pass, made, shape_of};
 use mt_base::{Holder, Kind, Reply, Shortage, Steps};
 use mt_tree::{Pass, Read, Tree};
 use std::alloc::Global;
@@ -163,7 +165,7 @@ fn close_the_older_cursor<R: Wait + Abort, L: Ledger>(
 
 /// The rows of a tree of this kind are held by one cursor.
 fn hold_by_one<R: Wait + Abort>(rt: &R, alloc: Global, kind: Kind, held: Held) -> Result<(), Fail> {
-    let (tree, mut passes) = made(alloc, kind, 8, 2, 9)?;
+    let (tree, mut passes) = made(alloc, shape_of(kind, 8, 2, 9))?;
     let mut reader = last_pass(&tree, &mut passes)?;
     let mut writer = last_pass(&tree, &mut passes)?;
     hold::<R, Brand>(rt, Blank::new(1), &tree, &mut writer, &mut reader, held);
@@ -183,7 +185,7 @@ fn rows_are_held_by_an_open_section(rt: HostRuntime) -> Result<(), Fail> {
 
 /// The rows of a tree of this kind are held by two cursors.
 fn hold_by_two<R: Wait + Abort>(rt: &R, alloc: Global, kind: Kind) -> Result<(), Fail> {
-    let (tree, mut passes) = made(alloc, kind, 8, 3, 9)?;
+    let (tree, mut passes) = made(alloc, shape_of(kind, 8, 3, 9))?;
     let mut older = last_pass(&tree, &mut passes)?;
     let mut younger = last_pass(&tree, &mut passes)?;
     let mut writer = last_pass(&tree, &mut passes)?;

@@ -1,8 +1,11 @@
+//! Texts of runs, and texts of none.
+
 ghost use Rattle.std.specs.Prelude.{◌≤◌};
 ghost use Rattle.mt_base.specs.Width.{most_rows};
 
 mod tables;
 
+use crate::asserts::same;
 use crate::verdicts::tables::{MANY_ROWS, ROWS_4, ROWS_8, ROWS_33, ROWS_34};
 use mt_log::{LogError, read_log};
 use mt_verify::{Verdict, verify};
@@ -51,11 +54,6 @@ fn found(alloc: Global, rows: u64, log: &[u8], text: &str) -> Result<String, Log
         Ok(verdict) => Ok(words_of(alloc, &verdict)?),
         Err(_) => Err(LogError::NoMemory),
     }
-}
-
-/// What is found of the text in this row is what is wanted.
-fn same(rt: &impl Abort, got: &str, want: &str, row: usize) {
-    assert_eq!(rt; got, want, "in row {row}");
 }
 
 /// Each text of a table is judged as it says, by the last log above it.

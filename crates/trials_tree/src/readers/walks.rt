@@ -3,7 +3,9 @@
 ghost use Rattle.std.specs.Prelude.{◌≡◌, ◌<◌};
 ghost use Rattle.mt_tree.specs.Trees.{IsPassOf};
 
-use crate::tests::{KINDS, last_pass, made, read, same, store_range};
+use crate::asserts::{KINDS, same};
+use crate::readers::{read, store_range};
+use crate::shared::{last_pass, made, shape_of};
 use mt_base::{Kind, Reply, Steps};
 use mt_tree::{Pass, Tree};
 use std::alloc::Global;
@@ -41,7 +43,7 @@ fn walk<R: Wait + Abort, L: Ledger>(
 
 /// A walk over a tree of this kind, whose bound is above the greatest index of a narrow one.
 fn walk_over<R: Wait + Abort>(rt: &R, alloc: Global, kind: Kind) -> Result<(), Fail> {
-    let (tree, mut passes) = made(alloc, kind, 64, 2, 9)?;
+    let (tree, mut passes) = made(alloc, shape_of(kind, 64, 2, 9))?;
     let mut reader = last_pass(&tree, &mut passes)?;
     let mut writer = last_pass(&tree, &mut passes)?;
     walk::<R, Brand>(rt, Blank::new(1), &tree, &mut writer, &mut reader);
@@ -114,7 +116,7 @@ fn walk_to_the_end<R: Wait + Abort, L: Ledger>(
 
 /// A walk to the greatest index of a tree of this kind.
 fn end_walk<R: Wait + Abort>(rt: &R, alloc: Global, end: End) -> Result<(), Fail> {
-    let (tree, mut passes) = made(alloc, end.0, 64, 2, 9)?;
+    let (tree, mut passes) = made(alloc, shape_of(end.0, 64, 2, 9))?;
     let mut reader = last_pass(&tree, &mut passes)?;
     let mut writer = last_pass(&tree, &mut passes)?;
     walk_to_the_end::<R, Brand>(rt, Blank::new(1), &tree, &mut writer, &mut reader, end);
