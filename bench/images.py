@@ -9,7 +9,7 @@ images.py try MTREPLAY      has the program `show` each changed byte and each cu
                             and write the images of a few hundred drawn logs and show them: prints each on which it does not agree
                             with the definition, and at the end how many were shown and how many refused
 
-Tables of changes stand in `crates/trials_rows/src/images.rt`. The largest images are seen to be images by
+Tables of changes stand in `crates/trials_engine/src/images.rt`. The largest images are seen to be images by
     for kind in range alloc range32 alloc32; do bench/images.py write $kind 65504 | bench/images.py check; done
 """
 
