@@ -6,8 +6,8 @@ ghost use Rattle.mt_tree.specs.Trees.{AreAll, IsPassOf};
 
 use crate::asserts::{KINDS, same};
 use mt_tree::{
-    Done, DupError, Field, Form, Kind, MakeError, Pass, Query, Range, Read, Reply, Shape, Shortage,
-    Tree, Worn,
+    Done, DupError, Field, Form, Kind, MakeError, Note, Pass, Query, Range, Read, Reply, Shape,
+    Shortage, Tree, Worn,
 };
 use std::alloc::Global;
 use std::process::Abort;
@@ -468,4 +468,5 @@ fn moves_between_threads<T: Send>() {}
 fn trees_are_shared_and_passes_are_moved() {
     crosses_threads::<Tree>();
     moves_between_threads::<Pass>();
+    moves_between_threads::<Note>();
 }
