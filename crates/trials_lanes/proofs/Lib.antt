@@ -1,3 +1,1 @@
 pub mod Closed
-pub mod Idle
-pub mod Nothing

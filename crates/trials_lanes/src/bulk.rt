@@ -1,16 +1,15 @@
-//! Trials of bulk builds: what ranges are built to, and two workers at once. Any number of workers builds the words that `bulk` of
-//! mt_bulk defines.
+//! Trials of bulk builds: two workers at once, and how it is told that none is made. Any number of workers builds the words that
+//! `bulk` of mt_bulk defines.
 
 use crate::asserts::same;
 use mt_base::{Kind, Range};
-use mt_bulk::{BulkError, build, build_alone};
-use mt_io::{Gate, NoGate};
+use mt_bulk::{BulkError, build};
+use mt_io::Gate;
 use mt_rows::{PlainRows, Rows};
 use std::alloc::Global;
 use std::process::Abort;
 use std::sync::atomic::{AtomicU64, Ordering};
 use std::test::Fail;
-use std::thread::Threads;
 
 macro_rules! r {
     ($first:expr, $last:expr, $entry:expr) => {
@@ -29,45 +28,6 @@ const EVERY_OTHER: [Range; 20] = [
 
 /// How many rows are built, and their root word; or why there is no tree.
 type Answer = Result<(u64, u64), BulkError>;
-
-/// A kind, ranges, and what comes of them.
-type Case = (Kind, &'static [Range], Answer);
-
-#[rattlefmt::skip]
-const CASES: &[Case] = &[
-    (Kind::Range, &[], Ok((0, 0))),
-    (Kind::Range, &[r!(10, 19, 5)], Ok((1, 4108))),
-    (Kind::Range, &[r!(0, u64::MAX, 7)], Ok((1, 4108))),
-    (Kind::Range, &EVERY_OTHER, Ok((4, 4884))),
-    (Kind::Alloc, &EVERY_OTHER, Ok((4, 4892))),
-    (Kind::Range32, &EVERY_OTHER, Ok((3, 4628))),
-    (Kind::Alloc32, &EVERY_OTHER, Ok((3, 4636))),
-    (Kind::Range, &[r!(5, 4, 1)], Err(BulkError::Order { at: 0 })),
-    (Kind::Range32, &[r!(0, 4_294_967_296, 1)], Err(BulkError::Order { at: 0 })),
-    (Kind::Range, &[r!(0, 0, 1), r!(2, 2, 0)], Err(BulkError::Order { at: 1 })),
-    (Kind::Alloc, &[r!(0, 0, 1), r!(2, 2, 4094)], Err(BulkError::Order { at: 1 })),
-    (Kind::Range, &[r!(0, 5, 1), r!(5, 6, 1), r!(4, 3, 1)], Err(BulkError::Order { at: 1 })),
-    (Kind::Range, &[r!(0, u64::MAX, 1), r!(0, 0, 1)], Err(BulkError::Order { at: 1 })),
-];
-
-/// What came out of a build.
-fn answer(built: Result<PlainRows, BulkError>) -> Answer {
-    let mut rows = built?;
-    Ok((rows.size(), rows.root()))
-}
-
-/// Each case comes out as it should.
-fn expect_built(rt: &impl Abort, alloc: Global, cases: &[Case]) {
-    for (kind, ranges, want) in cases {
-        let got = answer(build_alone(alloc, *kind, ranges));
-        same(rt, got, *want, (*kind, *ranges));
-    }
-}
-
-#[test]
-fn trees_are_built(rt: HostRuntime) {
-    expect_built(&rt, rt.alloc(), CASES);
-}
 
 /// Why no tree is built, and how that is told.
 const TEXTS: &[(BulkError, &str)] = &[

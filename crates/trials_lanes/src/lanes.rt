@@ -2,14 +2,11 @@ ghost use Rattle.std.specs.Prelude.{IfOk};
 ghost use Rattle.mt_lanes.specs.Lanes.{CanRun};
 
 use crate::asserts::same;
-use mt_io::{Gate, NoGate};
+use mt_io::Gate;
 use mt_lanes::{Desk, Lane, run_lanes};
 use std::alloc::{AllocError, Global};
-use std::process::Abort;
-use std::sync::Wait;
 use std::sync::atomic::{AtomicU32, AtomicU64, Ordering};
 use std::test::Fail;
-use std::thread::Threads;
 
 /// Writes down its steps, in the order in which it was asked them.
 #[derive(Drop)]
@@ -49,32 +46,6 @@ fn lane(alloc: Global, lane: u32, steps: u32) -> Result<Lane<Journal>, AllocErro
         steps: u64::from(steps),
         desk,
     })
-}
-
-/// Three lanes of so many steps are asked these.
-fn expect_asked<R: Threads + Wait + Sync + AllocGlobal + Abort>(
-    rt: &R,
-    [first, second, third]: [u32; 3],
-    want: [&[u64]; 3],
-) -> Result<(), Fail> {
-    let mut lanes = [
-        lane(rt.alloc(), 0, first)?,
-        lane(rt.alloc(), 1, second)?,
-        lane(rt.alloc(), 2, third)?,
-    ];
-    run_lanes(rt, &mut lanes, &NoGate);
-    let [a, b, c] = lanes;
-    let asked = [&a, &b, &c].map(|lane| lane.desk.asked.as_slice());
-    assert_eq!(rt; asked, want, "{first}, {second} and {third} steps");
-    Ok(())
-}
-
-#[test]
-fn each_step_is_answered_once_and_in_order(rt: HostRuntime) -> Result<(), Fail> {
-    expect_asked(&rt, [0, 0, 0], [&[], &[], &[]])?;
-    expect_asked(&rt, [3, 0, 1], [&[0, 1, 2], &[], &[0]])?;
-    expect_asked(&rt, [2, 2, 2], [&[0, 1], &[0, 1], &[0, 1]])?;
-    expect_asked(&rt, [0, 1, 4], [&[], &[0], &[0, 1, 2, 3]])
 }
 
 /// Where three lanes meet: each is held in its turn 1 until all have come to theirs.
