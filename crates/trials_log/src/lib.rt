@@ -1,5 +1,5 @@
-//! Trials of texts: logs that are read and printed, what a text tells of them, transcripts and whether they are those of runs,
-//! listings, and the words of commands.
+//! Trials of texts: logs that are read and printed, texts that are those of runs of a log and texts that are of none, listings, and
+//! the words of commands.
 #![tactic(auto)]
 
 #[cfg(test)]
@@ -8,10 +8,6 @@ mod asserts;
 mod listings;
 #[cfg(test)]
 mod log;
-#[cfg(test)]
-mod told;
-#[cfg(test)]
-mod transcripts;
 #[cfg(test)]
 mod verdicts;
 #[cfg(test)]
