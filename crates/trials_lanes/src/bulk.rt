@@ -29,6 +29,12 @@ const EVERY_OTHER: [Range; 20] = [
 /// How many rows are built, and their root word; or why there is no tree.
 type Answer = Result<(u64, u64), BulkError>;
 
+/// What came out of a build.
+fn answer(built: Result<PlainRows, BulkError>) -> Answer {
+    let mut rows = built?;
+    Ok((rows.size(), rows.root()))
+}
+
 /// Why no tree is built, and how that is told.
 const TEXTS: &[(BulkError, &str)] = &[
     (BulkError::Order { at: 7 }, "range 7 is out of order"),
