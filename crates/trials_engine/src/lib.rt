@@ -10,8 +10,6 @@ mod checks;
 #[cfg(test)]
 mod copies;
 #[cfg(test)]
-mod engine;
-#[cfg(test)]
 mod images;
 #[cfg(test)]
 mod leaf;
@@ -27,3 +25,5 @@ mod room;
 mod rows;
 #[cfg(test)]
 mod small_trees;
+#[cfg(test)]
+mod tests;

@@ -1,5 +1,0 @@
-use Rattle.std.proofs.Common.{◌≡◌, ◌+◌}
-use Rattle.trials_engine.proofs.engine.drawn.expect_calls.Given as goal
-
-abbrev pub invariant-loop : goal.invariant-loop
-invariant-loop g l = record { ended : l.engine.sheet.ended ≡ l.initial.engine.sheet.ended + l.counter }

@@ -1,5 +1,0 @@
-use Rattle.std.proofs.Common.{◌≡◌, ◌+◌}
-use Rattle.trials_engine.proofs.engine.drawn.fill.Given as goal
-
-abbrev pub invariant-loop-n : goal.invariant-loop-n
-invariant-loop-n g l = record { ended : l.engine.sheet.ended ≡ l.initial.engine.sheet.ended + l.n }

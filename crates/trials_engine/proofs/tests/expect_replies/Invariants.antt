@@ -1,0 +1,5 @@
+use Rattle.std.proofs.Common.{◌≡◌, ◌+◌}
+use Rattle.trials_engine.proofs.tests.expect_replies.Given as goal
+
+abbrev pub invariant-loop-call : goal.invariant-loop-call
+invariant-loop-call g l = record { ended : l.engine.sheet.ended ≡ l.initial.engine.sheet.ended + l.call-index }

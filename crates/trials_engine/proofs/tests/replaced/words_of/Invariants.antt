@@ -1,0 +1,7 @@
+use Rattle.std.proofs.Common.{◌≡◌}
+use Rattle.mt_rows.specs.Memory.{sheet_in}
+use Rattle.mt_rows.specs.Sheet.{OnlyReads}
+use Rattle.trials_engine.proofs.tests.replaced.words_of.Given as goal
+
+abbrev pub invariant-loop-n : goal.invariant-loop-n
+invariant-loop-n l = record { reads : OnlyReads (sheet_in l.initial.rows) (sheet_in l.rows); count : l.count ≡ (sheet_in l.rows).tree.rows }
