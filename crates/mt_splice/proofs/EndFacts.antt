@@ -12,8 +12,7 @@ use Rattle.mt_base.specs.Call.{acted}
 use Rattle.mt_base.specs.Width.{columns, first_row}
 use Rattle.mt_layout.specs.Rows.{row_in, dead_mark}
 use Rattle.mt_free.specs.Book.{Book, Held, IsBook, IsOut, held_rows}
-use Rattle.mt_rows.specs.declared.rows.Life.{Life}
-use Rattle.mt_rows.specs.declared.rows.Life.TheVariants.{New, Draft, Live, Dead}
+use Rattle.mt_rows.specs.declared.rows.Life.TheVariants.{Live, Dead}
 use Rattle.mt_rows.specs.declared.rows.Place.{Place}
 use Rattle.mt_rows.specs.declared.rows.Place.TheVariants.{Root, Slot}
 use Rattle.mt_rows.specs.Spans.{column, root_span}
@@ -62,13 +61,6 @@ life_if_kept : (s : Sheet) (t : Rooted) (row : ℕ) → is_reached t row ≡ fal
 life_if_kept s t row not none =
     ap (λ (c : Bool). if c then Live else (if is_buried s.buried row then Dead (s.ended + 1) else life_of s.lives row)) not
     ∙ ap (λ (c : Bool). if c then Dead (s.ended + 1) else life_of s.lives row) none
-
--- a spare row is not live
-spare_not_live : (cleared : ℕ) (life : Life) → IsSpare cleared life → life ≢ Live
-spare_not_live cleared New spare is = absurd (cc)
-spare_not_live cleared Draft spare is = absurd spare
-spare_not_live cleared Live spare is = absurd spare
-spare_not_live cleared (Dead call) spare is = absurd (cc)
 
 -- the row of the root is reached
 pub root_counts : (t : laws.Tree) (h : ℕ) → laws.Stands t h → 1 ≤ count_in (is_row_of (row_in t.root)) t (Some h)

@@ -1,5 +1,5 @@
 -- The law of gaps at the end of a replacement: at a new root, and after parent words were written.
-use Rattle.std.proofs.Common.{◌≡◌, ℕ, zero, suc, ◌+◌, ◌<◌, ◌≤◌, List, [], ◌∷◌, Some, Bool, length, refl, sym, ap, ◌∙◌, subst, inl, inr, arith}
+use Rattle.std.proofs.Common.{[], ◌≡◌, ℕ, zero, suc, ◌+◌, ◌<◌, ◌≤◌, List, ◌∷◌, Some, Bool, length, refl, sym, ap, ◌∙◌, subst, inl, inr, arith}
 use Rattle.std.specs.List.{AllByRecursion}
 use Rattle.std.specs.Prelude.{◌⊎◌}
 use Rattle.mt_base.specs.declared.widths.Width.{Width}
@@ -23,11 +23,10 @@ use Rattle.mt_rows.proofs.Heights.{levels_pair}
 use Rattle.mt_rows.proofs.Longest.{longest_shared}
 use Rattle.mt_splice.specs.steps.Work.{Start, Work, now, table_with, tree_with}
 use Rattle.mt_splice.specs.steps.Endings.{with_root}
-use Rattle.mt_splice.specs.steps.Told.{IsGoodRow, GapsAs}
+use Rattle.mt_splice.specs.steps.Told.{GapsAs}
 use Rattle.mt_splice.proofs.GapRows.{Kept, gap_law_stays}
 use Rattle.mt_splice.proofs.RootEndings.{at_root}
 use Rattle.mt_splice.proofs.SlotGaps.{weaker}
-use Rattle.mt_splice.proofs.ToldRows.{good_laws}
 
 -- ---- at a new root all rows keep the law
 
@@ -35,13 +34,11 @@ same_law : (t : Tree) (root h : ℕ) (x : Span) → GapLaw t h x → GapLaw (wit
 same_law t root zero x law = tt
 same_law t root (suc h) x law = law
 
-pub root_gaps : (is_new : ℕ → Bool) (index : ℕ) (start : Start) (w : Work) (h : ℕ) (x : Span) → x.first ≡ 0 → x.last ≡ top_of start.tree → Levels (IsGoodRow start w) (now start w).table h (x ∷ [])
-    → GapsAs is_new index (with_root (now start w) x.word) (Some h)
-root_gaps is_new index start w h x first last good =
+pub root_laws : (is_new : ℕ → Bool) (index : ℕ) (start : Start) (w : Work) (h : ℕ) (x : Span) → x.first ≡ 0 → x.last ≡ top_of start.tree → Levels (GapLaw (now start w)) (now start w).table h (x ∷ []) → GapsAs is_new index (with_root (now start w) x.word) (Some h)
+root_laws is_new index start w h x first last laws =
     let t' = with_root (now start w) x.word in
     subst (Levels (KeepsGaps is_new index t') t'.table h) (at_root start w x first last)
-    (levels_map (GapLaw (now start w)) (KeepsGaps is_new index t') t'.table (λ j y law. record { beside = weaker index t' j y (same_law (now start w) x.word j y law); new = λ _. same_law (now start w) x.word j y law }) h (x ∷ [])
-    (good_laws start w h (x ∷ []) good))
+    (levels_map (GapLaw (now start w)) (KeepsGaps is_new index t') t'.table (λ j y law. record { beside = weaker index t' j y (same_law (now start w) x.word j y law); new = λ _. same_law (now start w) x.word j y law }) h (x ∷ []) laws)
 
 -- ---- every row keeps its columns but for the parent word
 

@@ -1,7 +1,6 @@
 -- The leaves at a store's ends: where they stand, and what is made of what stands in them below the store and above it.
-use Rattle.std.proofs.Common.{◌≡◌, ◌≢◌, ℕ, suc, ◌+◌, ◌-◌, ◌<◌, ◌≤◌, ◌==◌, ◌&&◌, ◌++◌, List, [], ◌∷◌, Some, None, Bool, true, false, length, nat_lt, take, drop, fold, refl, sym, ap, ◌∙◌, subst, inl, inr, arith, length-take}
+use Rattle.std.proofs.Common.{[], ◌≡◌, ◌≢◌, ℕ, ◌+◌, ◌-◌, ◌<◌, ◌≤◌, ◌==◌, ◌&&◌, ◌++◌, List, ◌∷◌, Bool, true, false, length, nat_lt, take, drop, fold, refl, sym, ap, ◌∙◌, subst, inl, inr, arith, length-take}
 use Rattle.std.specs.Prelude.{slice_index, if◌then◌else◌}
-use Rattle.std.specs.List.{slice_get}
 use Rattle.std.proofs.lemmas.Bool.{cases_Bool, eqb-true, eqb-false, ltb-true, ltb-false}
 use Rattle.std.proofs.lemmas.List.Folds.{length-prefix_len}
 use Rattle.mt_base.specs.declared.kinds.Kind.{Kind}
@@ -307,11 +306,6 @@ module _ {t : Rooted} {leaf : PathStep} {index : ℕ} (is : IsLeafStep t leaf in
 
 -- ---- the ends of a store
 
-last_there : (path : List PathStep) → 1 ≤ length path → slice_get path (length path - 1) ≡ None → ⊥
-last_there [] some none = absurd (omega arith)
-last_there (s ∷ []) some none = let no : Some s ≡ None = none in cc
-last_there (s ∷ r ∷ path) some none = let inner : length (s ∷ r ∷ path) - 1 ≡ suc (length (r ∷ path) - 1) = omega arith in last_there (r ∷ path) (omega arith) (rw inner at none)
-
 module _ {kind : Kind} {t : Rooted} {left right : List PathStep} {first last : ℕ} (ends : AreEnds kind t left right first last) where
   -- no path leads into the empty tree
   no_path : t.root ≡ 0 → (index : ℕ) → path_in t.table t.root index ≡ []
@@ -348,19 +342,22 @@ module _ {kind : Kind} {t : Rooted} {left right : List PathStep} {first last : �
       ∙ ap (λ (xs : List Span). edited xs first last entry)
       ((λ k. if (is_left k).row == (is_right k).row then leaf_spans t.table (is_left k) else leaf_spans t.table (is_left k) ++ starting ((is_left k).max + 1) (leaf_spans t.table (is_right k))) ∙ sym (region_of_some left some))
 
-  -- both paths lead somewhere or neither does
-  pub ends_agree : {x : PathStep} → slice_get left (length left - 1) ≡ Some x → slice_get right (length right - 1) ≡ None → ⊥
-  ends_agree {x} one none = by ends.tree.words
-    where
-      by : IsTree (tree_as kind t) → ⊥
-      by (inl empty) = let no : None ≡ Some x = ap (λ (path : List PathStep). slice_get path (length path - 1)) (sym (ends.left_path ∙ no_path empty first)) ∙ one in cc
-      by (inr stands) =
-          let many = ap length ends.right_path ∙ levels (tree_as kind t) stands.0 stands.1 last ends.within in
-          last_there right (omega arith) none
-
 -- ---- what is pushed
 
 pub some_with_joined : (items : List Item) (x : Item) → 1 ≤ length (with_joined items x)
 some_with_joined [] x = omega arith
 some_with_joined (y ∷ []) x = elim (cases_Bool ((y.word == 0) && (x.word == 0))) [ inl t ↦ rw t (omega arith) | inr n ↦ rw n (omega arith) ]
 some_with_joined (y ∷ z ∷ items) x = omega arith
+
+-- ---- paths that are not empty
+
+pub some_long : (path : List PathStep) → path ≢ [] → 1 ≤ length path
+some_long [] some = absurd (some refl)
+some_long (x ∷ path) some = omega arith
+
+pub right_some : {kind : Kind} {t : Rooted} {left right : List PathStep} {first last : ℕ} → AreEnds kind t left right first last → left ≢ [] → right ≢ []
+right_some {kind} {t} {left} {right} {first} {last} ends some none = by ends.tree.words
+  where
+    by : IsTree (tree_as kind t) → ⊥
+    by (inl empty) = some (ends.left_path ∙ path_of_none t.table deepest (root_span t.table t.root) first (ap named_kind empty))
+    by (inr (h, stands)) = let long = levels (tree_as kind t) h stands last ends.within in let short = ap length (sym ends.right_path ∙ none) in absurd (omega arith)

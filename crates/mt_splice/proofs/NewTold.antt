@@ -1,5 +1,5 @@
 -- A row that was written keeps the law of gaps, and the item that it is one level up tells its gap.
-use Rattle.std.proofs.Common.{◌≡◌, ℕ, zero, suc, List, [], ◌∷◌, refl, sym, ◌∙◌, subst, append-nil, ◌≢◌}
+use Rattle.std.proofs.Common.{[], ◌≡◌, ℕ, zero, suc, List, ◌∷◌, refl, sym, subst, ◌≢◌}
 use Rattle.mt_layout.specs.declared.items.Item.{Item}
 use Rattle.mt_layout.specs.declared.names.RowKind.{RowKind}
 use Rattle.mt_layout.specs.declared.names.RowKind.TheVariants.{Leaf, Inner, Gapped}
@@ -7,12 +7,10 @@ use Rattle.mt_layout.specs.declared.spans.Span.{Span}
 use Rattle.mt_layout.specs.Sizes.{gaps_of}
 use Rattle.mt_layout.specs.Spans.{spans_from}
 use Rattle.mt_layout.proofs.RowSizes.{some_gaps_of}
-use Rattle.mt_rows.specs.Spans.{Table, inner_of, spans_in}
-use Rattle.mt_rows.specs.Levels.{Levels}
-use Rattle.mt_rows.specs.Laws.{IsRow, GapLaw, items_in, kind_on}
-use Rattle.mt_splice.specs.steps.Work.{Start, Work, now, IsUsed}
-use Rattle.mt_splice.specs.steps.Told.{TellGaps, told_gap, IsGoodRow, AreTold, AreToldIn}
-use Rattle.mt_splice.proofs.GapRows.{row_keeps_gaps, leaf_longest, inner_longest}
+use Rattle.mt_rows.specs.Spans.{Table, spans_in}
+use Rattle.mt_splice.specs.steps.Work.{Start, Work, now}
+use Rattle.mt_splice.specs.steps.Told.{TellGaps, told_gap}
+use Rattle.mt_splice.proofs.GapRows.{leaf_longest, inner_longest}
 use Rattle.mt_splice.proofs.WrittenRows.{as_held}
 
 -- ---- what it tells
@@ -20,12 +18,12 @@ use Rattle.mt_splice.proofs.WrittenRows.{as_held}
 abbrev pub item_up : RowKind → RowKind → Span → List Item → Item
 item_up above kind x items = record { last = x.last; word = x.word; gap = told_gap above kind x.first items }
 
-tells_leaf : (above : RowKind) (t : Table) (x : Span) (items : List Item) → spans_in t x ≡ spans_from x.first items → TellGaps above t 0 x.first (item_up above Leaf x items ∷ [])
+pub tells_leaf : (above : RowKind) (t : Table) (x : Span) (items : List Item) → spans_in t x ≡ spans_from x.first items → TellGaps above t 0 x.first (item_up above Leaf x items ∷ [])
 tells_leaf Leaf t x items spans = tt
 tells_leaf Inner t x items spans = tt
 tells_leaf Gapped t x items spans = let longest = leaf_longest t x x.first items spans in λ i. longest i ∷ []
 
-tells_inner : (above : RowKind) (t : Table) (h : ℕ) (x : Span) (items : List Item) → spans_in t x ≡ spans_from x.first items → TellGaps above t h x.first items → TellGaps above t (suc h) x.first (item_up above above x items ∷ [])
+pub tells_inner : (above : RowKind) (t : Table) (h : ℕ) (x : Span) (items : List Item) → spans_in t x ≡ spans_from x.first items → TellGaps above t h x.first items → TellGaps above t (suc h) x.first (item_up above above x items ∷ [])
 tells_inner Leaf t h x items spans told = tt
 tells_inner Inner t h x items spans told = tt
 tells_inner Gapped t h x items spans told = let longest = inner_longest t h x x.first items spans told in λ i. longest i ∷ []
@@ -36,7 +34,7 @@ held_some : (gaps : ℕ) (items : List Item) → gaps ≢ 0 → as_held gaps ite
 held_some zero items some = absurd (some refl)
 held_some (suc gaps) items some = refl
 
-tells_held : (kind : RowKind) (t : Table) (h first : ℕ) (items : List Item) → TellGaps kind t h first items → TellGaps kind t h first (as_held (gaps_of t.width kind) items)
+pub tells_held : (kind : RowKind) (t : Table) (h first : ℕ) (items : List Item) → TellGaps kind t h first items → TellGaps kind t h first (as_held (gaps_of t.width kind) items)
 tells_held Leaf t h first items told = tt
 tells_held Inner t h first items told = tt
 tells_held Gapped t h first items told = subst (TellGaps Gapped t h first) (sym (held_some (gaps_of t.width Gapped) items (some_gaps_of t.width))) told
@@ -44,27 +42,3 @@ tells_held Gapped t h first items told = subst (TellGaps Gapped t h first) (sym 
 module _ (start : Start) (w : Work) (x : Span) (items : List Item) where
   abbrev t : Table
   t = (now start w).table
-
-  -- the row holds the items
-  pub record HoldsItems (h : ℕ) : Type 0 where
-    pub used : IsUsed w h x
-    pub row : IsRow (now start w) h x
-    pub spans : spans_in t x ≡ spans_from x.first items
-    pub items_are : items_in t (kind_on start.tree.gapped h) x ≡ as_held (gaps_of t.width (kind_on start.tree.gapped h)) items
-
-  new_law : (h : ℕ) → HoldsItems h → AreToldIn start w h x.first items → GapLaw (now start w) h x
-  new_law zero holds told = tt
-  new_law (suc h) holds told =
-      let kind = inner_of start.tree.gapped in
-      row_keeps_gaps kind t h x holds.row.name.named (subst (TellGaps kind t h x.first) (sym holds.items_are) (tells_held kind t h x.first items told.gaps))
-
-  new_good : (h : ℕ) → HoldsItems h → AreToldIn start w h x.first items → Levels (IsGoodRow start w) t h (x ∷ [])
-  new_good zero holds told = (record { used = holds.used; row = holds.row; gaps = tt }, tt)
-  new_good (suc h) holds told = (
-    (record { used = holds.used; row = holds.row; gaps = new_law (suc h) holds told }, tt),
-    subst (Levels (IsGoodRow start w) t h) (sym (append-nil (spans_in t x) ∙ holds.spans)) told.rows,
-  )
-
-  pub new_told : (h : ℕ) → HoldsItems h → AreToldIn start w h x.first items → AreTold start w h x.first (item_up (inner_of start.tree.gapped) (kind_on start.tree.gapped h) x items ∷ [])
-  new_told zero holds told = record { rows = new_good zero holds told; gaps = tells_leaf (inner_of start.tree.gapped) t x items holds.spans }
-  new_told (suc h) holds told = record { rows = new_good (suc h) holds told; gaps = tells_inner (inner_of start.tree.gapped) t h x items holds.spans told.gaps }

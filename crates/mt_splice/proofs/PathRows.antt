@@ -1,9 +1,7 @@
 -- The rows of two paths: where they stand, in which order, and what lies before and behind them one level lower.
-use Rattle.std.proofs.Common.{◌≡◌, ℕ, suc, ◌+◌, ◌<◌, ◌≤◌, List, [], ◌∷◌, ◌++◌, Option, Some, length, take, drop, refl, sym, ap, ◌∙◌, subst, ⊎_elim, arith, append_assoc}
-use Rattle.std.specs.List.{AllByRecursion}
+use Rattle.std.proofs.Common.{[], ◌≡◌, ℕ, suc, ◌+◌, ◌<◌, ◌≤◌, List, ◌∷◌, ◌++◌, Option, Some, length, take, drop, refl, sym, ap, ◌∙◌, ⊎_elim, arith, append_assoc}
 use Rattle.std.proofs.lemmas.Bool.{cases_lt}
 use Rattle.std.proofs.Math.Seq.{take-append_seam, drop-append-add}
-use Rattle.mt_base.proofs.Lists.{all_map, all_front}
 use Rattle.mt_layout.specs.declared.names.RowKind.{RowKind}
 use Rattle.mt_layout.specs.Rows.{row_in, named_kind}
 use Rattle.mt_layout.specs.declared.spans.Span.{Span}
@@ -11,18 +9,18 @@ use Rattle.mt_layout.specs.Spans.{Fills}
 use Rattle.mt_layout.proofs.SpanLists.{fills-append, fills_le}
 use Rattle.mt_rows.specs.Spans.{Table, spans_by, spans_in}
 use Rattle.mt_rows.specs.Levels.{expand}
-use Rattle.mt_rows.specs.Laws.{Tree, IsRow, Stands, top_of}
+use Rattle.mt_rows.specs.Laws.{Tree, Stands, top_of}
 use Rattle.mt_rows.specs.Replacement.{root_of}
-use Rattle.mt_rows.proofs.Lists.{Filled, expand_fills, expand-append}
-use Rattle.mt_rows.proofs.Heights.{level_next, level_rows}
+use Rattle.mt_rows.proofs.Lists.{expand-append}
+use Rattle.mt_rows.proofs.Heights.{level_next}
 use Rattle.mt_rows.proofs.Reached.{one_of_parts, one_place}
 use Rattle.mt_path.specs.declared.paths.PathStep.{PathStep}
 use Rattle.mt_path.specs.Paths.{step_in}
+use Rattle.mt_path.proofs.Places.{At}
 use Rattle.mt_path.proofs.TreePaths.{row_of, place, child}
 use Rattle.mt_splice.specs.steps.Work.{rows_at}
 use Rattle.mt_splice.specs.steps.Stretches.{IsStretch, spans_on}
-use Rattle.mt_path.proofs.Places.{At}
-use Rattle.mt_splice.proofs.Splits.{split_more, split_same}
+use Rattle.mt_splice.proofs.Splits.{split_more}
 
 -- of two spans of a list, the one that begins first ends before the other begins
 ends_before : (lo : ℕ) (front back front' back' : List Span) (x y : Span) → front ++ (x ∷ back) ≡ front' ++ (y ∷ back') → Fills lo x.first front → Fills lo y.first front' → y.first < x.first → y.last < x.first
@@ -97,9 +95,6 @@ module _ (t : Tree) (h : ℕ) (stands : Stands t h) where
     abbrev pub behind_it : List Span
     behind_it = next.back ++ expand t.table here.back
 
-    rows_here : AllByRecursion (Filled t.table) (here.front ++ (row_of t d i ∷ here.back))
-    rows_here = all_map (IsRow t (suc k)) (Filled t.table) (λ x row. row.pivots.fills) (here.front ++ (row_of t d i ∷ here.back)) (subst (AllByRecursion (IsRow t (suc k))) here.parts (level_rows (IsRow t) t.table d (suc k) h (root_of t) height stands.rows))
-
     pub lower_parts : rows_at t (suc d) ≡ before_it ++ (row_of t (suc d) i ∷ behind_it)
     lower_parts =
         level_next t.table d (root_of t)
@@ -110,30 +105,6 @@ module _ (t : Tree) (h : ℕ) (stands : Stands t h) where
       where
         regroup : (a b : List Span) (x : Span) (c e : List Span) → a ++ ((b ++ (x ∷ c)) ++ e) ≡ (a ++ b) ++ (x ∷ (c ++ e))
         regroup a b x c e = simp append_assoc
-
-    pub lower_before : Fills 0 (row_of t (suc d) i).first before_it
-    lower_before =
-        fills-append 0 (row_of t d i).first (row_of t (suc d) i).first (expand t.table here.front) next.front
-        (expand_fills t.table 0 (row_of t d i).first here.front (all_front (Filled t.table) here.front (row_of t d i ∷ here.back) rows_here) here.before) next.before
-
-    lower_through : Fills 0 ((row_of t (suc d) i).last + 1) (before_it ++ (row_of t (suc d) i ∷ []))
-    lower_through =
-        let x = row_of t (suc d) i in
-        let from = next.from in let to = next.to in
-        fills-append 0 x.first (x.last + 1) before_it (x ∷ []) lower_before (refl, omega arith, refl)
-
-    -- what stands before a stretch that begins with the path's row
-    pub front_below : (hi : ℕ) (front old back : List Span) → IsStretch t (suc d) (row_of t (suc d) i).first hi front old back → front ≡ before_it
-    front_below hi front old back stretch =
-        (split_same 0 (row_of t (suc d) i).first front (old ++ back) before_it (row_of t (suc d) i ∷ behind_it) (sym stretch.parts ∙ lower_parts) stretch.before lower_before).0
-
-    -- what stands behind a stretch that ends with it
-    pub back_below : (lo : ℕ) (front old back : List Span) → IsStretch t (suc d) lo ((row_of t (suc d) i).last + 1) front old back → back ≡ behind_it
-    back_below lo front old back stretch =
-        let x = row_of t (suc d) i in
-        (split_same 0 (x.last + 1) (front ++ old) back (before_it ++ (x ∷ [])) behind_it
-        (append_assoc front old back ∙ (sym stretch.parts ∙ (lower_parts ∙ sym (append_assoc before_it (x ∷ []) behind_it))))
-        (fills-append 0 lo (x.last + 1) front old stretch.before stretch.here) lower_through).1
 
 -- ---- what stands in a path's row
 

@@ -31,7 +31,7 @@ module _ (t : Tree) (t' : Table) where
       let parts = subst (Levels (Shared t.table t') t.table h) at.parts all in
       levels_front (Shared t.table t') t.table h (y ∷ []) at.back (levels_back (Shared t.table t') t.table h at.front (y ∷ at.back) parts)
 
-  path_shared : (depth h : ℕ) (x : Span) (index : ℕ) → h < depth → Leads t h x index → Levels (Shared t.table t') t.table h (x ∷ []) → path_of t' depth x index ≡ path_of t.table depth x index
+  pub path_shared : (depth h : ℕ) (x : Span) (index : ℕ) → h < depth → Leads t h x index → Levels (Shared t.table t') t.table h (x ∷ []) → path_of t' depth x index ≡ path_of t.table depth x index
   path_shared zero h x index deep leads same = absurd (omega arith)
   path_shared (suc depth) zero x index deep leads same =
       let leaf = (row_here t zero x index leads).name.named in

@@ -126,7 +126,7 @@ weaker index t (suc h) x law = by_kind (inner_of t.gapped) law
 
 -- ---- each of a list
 
-one_alone : (P : ℕ → Span → Type 0) (t : Table) (h : ℕ) (xs : List Span) (x : Span) → IsOneOf x xs → Levels P t h xs → Levels P t h (x ∷ [])
+pub one_alone : (P : ℕ → Span → Type 0) (t : Table) (h : ℕ) (xs : List Span) (x : Span) → IsOneOf x xs → Levels P t h xs → Levels P t h (x ∷ [])
 one_alone P t h [] x one rows = absurd one
 one_alone P t h (y ∷ ys) x (inl same) rows = subst (λ (z : Span). Levels P t h (z ∷ [])) (sym same) (levels_front P t h (y ∷ []) ys rows)
 one_alone P t h (y ∷ ys) x (inr behind) rows = one_alone P t h ys x behind (levels_back P t h (y ∷ []) ys rows)

@@ -1,5 +1,5 @@
 -- One step of a replacement: a row is written, or is buried and retired, or words are loaded.
-use Rattle.std.proofs.Common.{◌≡◌, ◌≢◌, ℕ, ◌+◌, ◌<◌, ◌≤◌, List, [], ◌∷◌, ◌++◌, Bool, true, false, Option, length, map, refl, sym, ap, ◌∙◌, subst, ⊎_elim, arith, get_or, get_or-set_same, get_or-set_other, set, length-set, append_assoc, length-append}
+use Rattle.std.proofs.Common.{[], ◌≡◌, ◌≢◌, ℕ, ◌+◌, ◌<◌, ◌≤◌, List, ◌∷◌, ◌++◌, Bool, true, false, Option, length, map, refl, sym, ap, ◌∙◌, subst, ⊎_elim, arith, get_or, get_or-set_same, get_or-set_other, set, length-set, append_assoc, length-append}
 use Rattle.std.specs.Prelude.{◌||◌, Contains, All, slice_index_or, if◌then◌else◌}
 use Rattle.std.proofs.lemmas.Bool.{cases_Bool, cases_eq}
 use Rattle.std.proofs.lemmas.List.{map_push, map-append, get_or_append_left, get_or-append-add, get_or_default}
@@ -15,17 +15,17 @@ use Rattle.mt_free.specs.Book.{Book, Held, IsRowOf, IsOut, held_rows, after_reti
 use Rattle.mt_free.proofs.Rows.{AreApart}
 use Rattle.mt_rows.specs.declared.rows.Life.{Life}
 use Rattle.mt_rows.specs.declared.rows.Life.TheVariants.{New, Draft, Live, Dead}
-use Rattle.mt_rows.specs.Spans.{Table, column, base_of}
+use Rattle.mt_rows.specs.Spans.{column, base_of}
 use Rattle.mt_rows.specs.Sheet.{Rooted, Sheet, IsFree, MayBury, OnlyReads, life_of, is_buried, after_bury}
 use Rattle.mt_rows.specs.Publish.{is_reached}
 use Rattle.mt_rows.specs.Laws.{Tree}
 use Rattle.mt_splice.specs.steps.Seen.{Seen}
-use Rattle.mt_splice.specs.steps.Work.{Start, Work, table_with, with_words, Keeps}
+use Rattle.mt_splice.specs.steps.Work.{Start, Work, table_with, with_words}
 use Rattle.mt_splice.specs.steps.Writes.{IsRowWritten, no_parent}
 use Rattle.mt_splice.specs.Kept.{IsSpare, IsUnpublished}
 use Rattle.mt_splice.specs.steps.Progress.{Before, IsBefore, IsProgress, row_seen, is_taken, is_gone, stamped}
 use Rattle.mt_splice.proofs.Drafts.{other_row, other_column, same_column, is_draft, other_life, whole_then}
-use Rattle.mt_splice.proofs.StepSeen.{was_seen, not_both, seen_here, seen_other, seen_before, seen_not_here, seen_more, seen_last, seen_not_last, seen_front, seen_front_not_last, listed_seen, not_listed}
+use Rattle.mt_splice.proofs.StepSeen.{was_seen, not_both, seen_here, seen_other, seen_before, seen_not_here, seen_last, seen_not_last, seen_front, seen_front_not_last, listed_seen, not_listed}
 
 -- ---- what is true of lists and lives
 
@@ -36,10 +36,6 @@ apart_sides xs ys x apart (k, k_within, k_is) (j, j_within, j_is) =
 
 or_none : (a c : Bool) → a ≡ false → c ≡ false → (a || c) ≡ false
 or_none a c none none' = λ i. none i || none' i
-
-or_more : (a c d : Bool) → (c ≡ true → d ≡ true) → (a || c) ≡ true → (a || d) ≡ true
-or_more true c d more some = refl
-or_more false c d more some = more some
 
 spare_is_free : (cleared : ℕ) (life : Life) → IsSpare cleared life → IsFree cleared life
 spare_is_free cleared New spare = tt
@@ -103,7 +99,7 @@ module _ {b : Before} {start : Start} {s : Sheet} {book : Book} {w : Work} (befo
 
   -- rows that were reached
 
-  reached_untaken : (row : ℕ) → is_reached b.sheet.tree row ≡ true → is_taken w row ≡ false
+  pub reached_untaken : (row : ℕ) → is_reached b.sheet.tree row ≡ true → is_taken w row ≡ false
   reached_untaken row reached =
       not_listed w.taken row (λ taken. (before.kept.booked.reached row reached).not_free (subst (λ (l : List ℕ). Contains l row) (sym progress.free) (Contains-append_right book.free (map row_seen w.taken) row taken)))
 
@@ -114,19 +110,6 @@ module _ {b : Before} {start : Start} {s : Sheet} {book : Book} {w : Work} (befo
   reached_live row reached =
       let at = reached_number row reached in
       life_untaken row at.0 at.1 (reached_untaken row reached) ∙ (before.kept.live row at.0 at.1).1 reached
-
--- ---- two moments
-
--- rows in use stay so, and keep their words
-keeps_by : {b : Before} {start : Start} {s s' : Sheet} {book book' : Book} {w w' : Work} → IsBefore b start → IsProgress b s book w → IsProgress b s' book' w'
-    → ((row : ℕ) → is_taken w row ≡ true → is_taken w' row ≡ true)
-    → ((row c : ℕ) → w.used row ≡ true → 0 < c → c < columns s.tree.table.width → column s'.tree.table row c ≡ column s.tree.table row c) → Keeps start w w'
-keeps_by {b} {start} {s} {s'} {book} {book'} {w} {w'} before progress progress' more same = record {
-  used = λ row used. progress'.used row ∙ or_more (is_reached b.sheet.tree row) (is_taken w row) (is_taken w' row) (more row) (sym (progress.used row) ∙ used);
-  words = λ row used c above within.
-      let now = table_now before progress in let later = table_now before progress' in
-      ap (λ (t : Table). column t row c) later ∙ (same row c used above (subst (λ (t : Table). c < columns t.width) now within) ∙ sym (ap (λ (t : Table). column t row c) now));
-}
 
 -- ---- a row is written
 
@@ -205,10 +188,6 @@ module _ {b : Before} {start : Start} {s s' : Sheet} {book book' : Book} {w : Wo
     new_parents = parent_new;
     marks = mark_stays;
   }
-
-  pub keeps_taken : Keeps start w then_taken
-  keeps_taken = keeps_by before progress progress_taken (λ row taken. seen_more seen w.taken row taken)
-      (λ row c used above within. column_other row c (λ same. not_both (w.used row) used (ap w.used (sym same) ∙ row_was_unused)) within)
 
 -- ---- a row is buried and retired
 
@@ -309,9 +288,6 @@ module _ {b : Before} {start : Start} {s : Sheet} {book : Book} {w : Work} (seen
     new_parents = λ r taken. parent_stays r (λ same. not_both (is_taken w r) taken (ap (is_taken w) same ∙ reached_untaken before progress row reached)) ∙ progress.new_parents r taken;
     marks = marked_then;
   }
-
-  pub keeps_gone : Keeps start w then_gone
-  keeps_gone = keeps_by before progress progress_gone (λ r taken. taken) (λ r c used above within. column_stays r c above within)
 
 -- the stamps of the rows that are held do not fall
 pub in_order : {b : Before} {start : Start} {s : Sheet} {book : Book} {w : Work} → IsBefore b start → IsProgress b s book w → All (λ (h : Held). h.stamp ≤ b.number) book.held

@@ -1,5 +1,5 @@
 -- The items of a row taken in beside others, as spans.
-use Rattle.std.proofs.Common.{◌≡◌, ℕ, Bool, true, false, zero, suc, ◌+◌, ◌-◌, List, [], ◌∷◌, ◌++◌, length, sym, ap, ◌∙◌, refl, arith}
+use Rattle.std.proofs.Common.{[], ◌≡◌, ℕ, Bool, true, false, zero, suc, ◌+◌, ◌-◌, List, ◌∷◌, ◌++◌, length, sym, ap, ◌∙◌, refl, arith}
 use Rattle.mt_layout.specs.declared.items.Item.{Item}
 use Rattle.mt_layout.specs.Spans.{spans_from, Fills}
 use Rattle.mt_layout.proofs.SpanLists.{fills_after, spans-append}
@@ -8,12 +8,6 @@ use Rattle.mt_leaf.proofs.Pushes.{pushed_onto}
 use Rattle.mt_rows.specs.Laws.{kind_on}
 use Rattle.mt_splice.specs.steps.Climbs.{MayBeIn, beside}
 use Rattle.mt_splice.specs.steps.TakingIn.{is_hole_at, beside_items}
-
--- what spans end with does not depend on where they begin
-pub ends_from : (first first' : ℕ) (items : List Item) → ends_with_hole (spans_from first items) ≡ ends_with_hole (spans_from first' items)
-ends_from first first' [] = refl
-ends_from first first' (x ∷ []) = refl
-ends_from first first' (x ∷ y ∷ items) = refl
 
 pub ends_at_last : (first : ℕ) (items : List Item) → ends_with_hole (spans_from first items) ≡ is_hole_at items (length items - 1)
 ends_at_last first [] = refl

@@ -5,7 +5,7 @@ use Rattle.mt_base.specs.Width.{columns}
 use Rattle.mt_layout.specs.declared.items.Item.{Item}
 use Rattle.mt_layout.specs.declared.spans.Span.{Span}
 use Rattle.mt_layout.specs.declared.names.RowKind.{RowKind}
-use Rattle.mt_layout.specs.Rows.{IsRowNumber, name_at, named_kind, row_in}
+use Rattle.mt_layout.specs.Rows.{name_at, named_kind, row_in}
 use Rattle.mt_layout.specs.Columns.{FitRow, NoGaps, RiseFrom, end_of, padded_to, row_words, items_at}
 use Rattle.mt_layout.specs.Sizes.{slots_of, gaps_of}
 use Rattle.mt_layout.specs.Spans.{spans_from}
@@ -16,7 +16,7 @@ use Rattle.mt_layout.proofs.ReadBack.{Holds, reads_back, row_words-hold}
 use Rattle.mt_layout.proofs.RowSizes.{layout_of, some_columns}
 use Rattle.mt_rows.specs.Spans.{Table, column, spans_by, spans_in}
 use Rattle.mt_rows.specs.Laws.{items_in, words_in}
-use Rattle.mt_splice.specs.steps.Writes.{no_parent, new_words}
+use Rattle.mt_splice.specs.steps.Writes.{IsNewRow, no_parent, new_words}
 
 -- ---- items as a row holds them that has so many columns of gaps
 
@@ -68,14 +68,6 @@ held_fit slots gaps items some fit rise =
     none (suc gaps) is = absurd (omega arith)
 
 -- ---- the row
-
--- the row's columns are the words of a new row with these items
-pub record IsNewRow (t : Table) (kind : RowKind) (row : ℕ) (items : List Item) : Type 0 where
-  pub number : IsRowNumber row
-  pub some : 1 ≤ length items
-  pub fit : length items ≤ slots_of t.width kind
-  pub rise : RiseFrom 0 items
-  pub own : (c : ℕ) → c < columns t.width → column t row c ≡ slice_index (new_words t kind items) c
 
 module _ (t : Table) (kind : RowKind) (row : ℕ) (items : List Item) (new : IsNewRow t kind row items) where
   abbrev slots : ℕ

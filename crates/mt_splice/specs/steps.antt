@@ -1,13 +1,17 @@
 -- The steps of a replacement: what holds between them. Callers read `Splice` and `Kept` alone.
-pub mod Beginnings
 pub mod Begun
-pub mod Burying
+pub mod Burials
+pub mod Climbing
 pub mod Climbs
 pub mod Decisions
+pub mod Drafting
 pub mod Endings
 pub mod Ends
 pub mod Entries
-pub mod Levels
+pub mod Layers
+pub mod Ledgers
+pub mod Looking
+pub mod Plans
 pub mod Progress
 pub mod Regions
 pub mod Replaced
@@ -16,6 +20,9 @@ pub mod Runs
 pub mod Seen
 pub mod Stretches
 pub mod TakingIn
+pub mod Telling
 pub mod Told
+pub mod Widening
+pub mod Windows
 pub mod Work
 pub mod Writes

@@ -7,38 +7,41 @@ ghost use Rattle.mt_splice.specs.steps.Entries.{IsFirst};
 ghost use Rattle.mt_splice.specs.Splice.{IsSpliced};
 
 use crate::begun::Begun;
+use crate::drafting::draft_piece;
 use crate::ends::publish_at;
-use crate::levels::{NewRows, write_piece};
-use mt_base::{Call, Reply};
+use crate::replacing::Event;
+use crate::ways::Level;
+use crate::writes::NewRows;
 use mt_free::RowBook;
 use mt_layout::{Item, RowKind};
 use mt_rows::{Place, Rows};
 
-/// Writes the items in one leaf, and publishes it as the root of the empty tree, whose inner rows are to be of this kind.
+/// Drafts the items in one leaf, and publishes it as the root of the empty tree, whose inner rows are to be of the kind `above`.
 pub fn begin_tree<R: Rows, B: Begun>(
     rows: &mut R,
     book: &mut RowBook,
-    kind: RowKind,
+    above: RowKind,
     items: &[Item],
-    call: &Call,
-    reply: &Reply,
+    event: &Event<'_>,
 ) -> Place
-    requires kind { kind ≡ inner_of B.start.tree.gapped }
-    requires first { IsFirst B.before B.start (R.sheet rows.old) book.old items.now call.now reply.now }
-    ensures spliced { IsSpliced B.before.kind B.before.sheet (R.sheet rows.new) B.before.book book.new B.before.number call.now reply.now result B.start.first B.start.last }
+    requires kind { above ≡ inner_of B.start.tree.gapped }
+    requires first { IsFirst B.before B.start (R.sheet rows.old) book.old items.now event.now.call.now event.now.reply.now }
+    ensures spliced { IsSpliced B.before.kind B.before.sheet (R.sheet rows.new) B.before.book book.new B.before.number event.now.call.now event.now.reply.now result B.start.first B.start.last }
     ensures root { result ≡ Root }
 {
-    let mut inner = NewRows::new();
-    let leaf = write_piece::<R, B>(rows, book, kind, RowKind::Leaf, 0, items, &mut inner);
+    let mut made = NewRows::new();
+    let kind = RowKind::Leaf;
+    let level = Level { kind, above };
+    let leaf = draft_piece(rows, book, level, 0, items, &mut made);
     publish_at::<R, B>(
         rows,
         book,
-        kind,
+        above,
         Place::Root,
         leaf.word,
-        inner.as_slice(),
-        call,
-        reply,
+        made.as_slice(),
+        event.call,
+        event.reply,
     );
     Place::Root
 }

@@ -8,46 +8,32 @@ ghost use Rattle.mt_splice.specs.steps.Entries.{IsBegunBy};
 ghost use Rattle.mt_splice.specs.Splice.{MayClear, IsSpliced};
 
 use crate::begun::Begun;
-use crate::levels::NewRows;
-use crate::replaces::end_empty;
+use crate::climbing::{Top, climb_between, push_above};
+use crate::replacing::{Event, publish_climbed};
 use mt_base::{Call, Kind, Reply, top};
 use mt_free::RowBook;
 use mt_path::{copy_of, walk, walk_on};
-use mt_rows::{Rows, inner_kind};
+use mt_rows::{Place, Rows, inner_kind};
 use std::marker::Brand;
 
 /// The same, where what it begins with has a name.
-fn clear_as<R: Rows, B: Begun>(
-    rows: &mut R,
-    book: &mut RowBook,
-    kind: Kind,
-    number: u64,
-    call: &Call,
-    reply: &Reply,
-)
-    requires begun { IsBegunBy B.before B.start kind (R.sheet rows.old) book.old number call.now 0 (greatest (R.sheet rows.old).tree.table.width) }
-    requires may { MayClear kind (R.sheet rows.old) book.old number call.now reply.now }
-    ensures spliced { IsSpliced B.before.kind B.before.sheet (R.sheet rows.new) B.before.book book.new B.before.number call.now reply.now Root B.start.first B.start.last }
+fn clear_as<R: Rows, B: Begun>(rows: &mut R, book: &mut RowBook, kind: Kind, event: &Event<'_>)
+    requires begun { IsBegunBy B.before B.start kind (R.sheet rows.old) book.old event.now.number event.now.call.now 0 (greatest (R.sheet rows.old).tree.table.width) }
+    requires may { MayClear kind (R.sheet rows.old) book.old event.now.number event.now.call.now event.now.reply.now }
+    ensures spliced { IsSpliced B.before.kind B.before.sheet (R.sheet rows.new) B.before.book book.new B.before.number event.now.call.now event.now.reply.now Root B.start.first B.start.last }
     ensures none_taken { book.new.free ≡ book.old.free }
 {
     let left = walk(rows, 0);
-    let mut right = copy_of(&left);
+    let right = copy_of(&left);
+    let mut climb = climb_between(inner_kind(kind), left, right);
     let last = top(rows.width());
-    walk_on(rows, &mut right, last);
-    let inner = NewRows::new();
-    let depth = left.len() as u32 - 1;
-    end_empty::<R, B>(
-        rows,
-        book,
-        inner_kind(kind),
-        &inner,
-        &left,
-        &right,
-        depth,
-        number,
-        call,
-        reply,
-    );
+    walk_on(rows, &mut climb.ways.right, last);
+    let depth = climb.ways.left.len() as u32 - 1;
+    push_above(&mut climb.windows, &climb.ways, depth + 1);
+    let place = Place::Root;
+    let (word, gap) = (0, 0);
+    let top = Top { place, word, gap };
+    publish_climbed::<R, B>(rows, book, &climb, top, depth, event);
 }
 
 /// Empties a tree: publishes 0 at the root word, by one store, and retires every row with the call's number. It takes no
@@ -66,5 +52,10 @@ pub fn clear<R: Rows>(
     ensures root { (R.sheet rows.new).tree.root ≡ 0 }
     ensures map { map_by (R.sheet rows.new).tree ≡ [] }
 {
-    clear_as::<R, Brand>(rows, book, kind, number, call, reply);
+    let event = Event {
+        number,
+        call,
+        reply,
+    };
+    clear_as::<R, Brand>(rows, book, kind, &event);
 }

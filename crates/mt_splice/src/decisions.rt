@@ -4,9 +4,9 @@ ghost use Rattle.std.specs.Prelude.{◌≡◌, ◌<◌, ◌≤◌, true, [], ◌
 ghost use Rattle.mt_layout.specs.declared.names.RowKind.TheVariants.{Leaf};
 ghost use Rattle.mt_splice.specs.steps.Decisions.{IsNext, item_words};
 
-use crate::regions::{Region, step_on};
+use crate::ways::{Ways, step_on};
 use mt_base::{Width, top};
-use mt_layout::RowKind;
+use mt_layout::{RowKind, Run};
 
 /// How a replacement goes on, when what is to stand in the rows of a level is known.
 #[derive(Clone, Copy, Debug, PartialEq, Eq)]
@@ -24,16 +24,23 @@ pub enum Next {
 }
 
 /// How a replacement goes on at a level whose items are cut into so many rows.
-pub fn next_of(width: Width, region: &Region, depth: u32, kind: RowKind, pieces: usize) -> Next
-    requires left { depth < length region.now.left.items }
-    requires right { depth < length region.now.right.items }
+pub fn next_of(
+    width: Width,
+    ways: &Ways,
+    run: &Run,
+    depth: u32,
+    kind: RowKind,
+    pieces: usize,
+) -> Next
+    requires left { depth < length ways.now.left.items }
+    requires right { depth < length ways.now.right.items }
     requires some { 1 ≤ pieces }
-    ensures { IsNext width region.now.left.items region.now.right.items depth kind region.now.run.items pieces result }
+    ensures { IsNext width ways.now.left.items ways.now.right.items depth kind run.now.items pieces result }
 {
-    let left = step_on(&region.left, depth);
-    let right = step_on(&region.right, depth);
+    let left = step_on(&ways.left, depth);
+    let right = step_on(&ways.right, depth);
     let all = left.min == 0 && right.max == top(width);
-    if all && is_one_hole(region, kind) {
+    if all && is_one_hole(run, kind) {
         return Next::Empty;
     }
     if pieces == 1 && all {
@@ -49,9 +56,9 @@ pub fn next_of(width: Width, region: &Region, depth: u32, kind: RowKind, pieces:
 }
 
 /// Whether one hole is all that is to stand in the leaves.
-fn is_one_hole(region: &Region, kind: RowKind) -> bool
-    ensures hole { result ≡ true → (kind ≡ Leaf) × (item_words region.now.run.items ≡ 0 ∷ []) }
-    ensures other { kind ≡ Leaf → item_words region.now.run.items ≡ 0 ∷ [] → result ≡ true }
+fn is_one_hole(run: &Run, kind: RowKind) -> bool
+    ensures hole { result ≡ true → (kind ≡ Leaf) × (item_words run.now.items ≡ 0 ∷ []) }
+    ensures other { kind ≡ Leaf → item_words run.now.items ≡ 0 ∷ [] → result ≡ true }
 {
-    kind == RowKind::Leaf && region.run.len() == 1 && region.run[0].word == 0
+    kind == RowKind::Leaf && run.len() == 1 && run[0].word == 0
 }

@@ -4,13 +4,12 @@ ghost use Rattle.std.specs.Prelude.{◌≡◌, ◌<◌, ◌≤◌, ◌+◌, ◌+
 ghost use Rattle.mt_base.specs.Width.{first_row};
 ghost use Rattle.mt_layout.specs.Sizes.{run_room, slots_of};
 ghost use Rattle.mt_rows.specs.Sheet.{OnlyReads};
-ghost use Rattle.mt_rows.specs.Spans.{inner_of};
-ghost use Rattle.mt_splice.specs.steps.Replacing.{MayGather, IsGathered};
+ghost use Rattle.mt_splice.specs.steps.Looking.{MayGather, items_above};
 ghost use Rattle.mt_splice.specs.steps.Writes.{items_of_row};
 
 use crate::begun::Begun;
-use crate::reads::push_items;
-use crate::regions::{Region, push_all, step_on};
+use crate::reads::{push_all, push_items};
+use crate::ways::{Gathered, Ways, step_on};
 use mt_layout::{Item, RowKind, Run, slots};
 use mt_leaf::Towards;
 use mt_path::PathStep;
@@ -69,28 +68,23 @@ fn towards_of(left: &PathStep, last: u64, right: &PathStep) -> Towards {
     }
 }
 
-/// Fills a region with what is to stand in the rows of a level: the new rows of the level below, and what stands beside
-/// them.
-pub fn parent_items<R: Rows, B: Begun>(rows: &mut R, region: &mut Region, new: &[Item], depth: u32)
-    requires inner { region.old.inner ≡ inner_of B.start.tree.gapped }
-    requires level { MayGather B.start (R.sheet rows.old).tree region.old.left.items region.old.right.items depth new.now }
-    ensures level { IsGathered B.start (R.sheet rows.old).tree region.old.left.items region.old.right.items depth new.now region.new.run.items }
-    ensures left { region.new.left ≡ region.old.left }
-    ensures right { region.new.right ≡ region.old.right }
-    ensures inner { region.new.inner ≡ region.old.inner }
+/// Gathers what is to stand in a window's place at this level, in rows of this kind: the new rows of the level below, and what
+/// stands beside them.
+pub fn gather_above<R: Rows, B: Begun>(
+    rows: &mut R,
+    ways: &Ways,
+    new: &[Item],
+    depth: u32,
+    kind: RowKind,
+    gathered: &mut Gathered,
+)
+    requires { MayGather B.start (R.sheet rows.old).tree kind ways.now.left.items ways.now.right.items depth new.now }
+    ensures all { gathered.new.run.items ≡ items_above (R.sheet rows.old).tree kind depth ways.now.left.items ways.now.right.items new.now }
     ensures rest { OnlyReads (R.sheet rows.old) (R.sheet rows.new) }
 {
-    let left = step_on(&region.left, depth);
-    let right = step_on(&region.right, depth);
-    let last = new[new.len() - 1].last;
-    gather(
-        rows,
-        region.inner,
-        &left,
-        new,
-        last,
-        &right,
-        &mut region.run,
-    );
-    region.towards = towards_of(&left, last, &right);
+    let left = step_on(&ways.left, depth);
+    let right = step_on(&ways.right, depth);
+    let last = step_on(&ways.right, depth + 1).max;
+    gather(rows, kind, &left, new, last, &right, &mut gathered.run);
+    gathered.towards = towards_of(&left, last, &right);
 }

@@ -14,11 +14,11 @@ ghost use Rattle.mt_splice.specs.steps.Regions.{AreEnds, IsLeafStep, leaf_items}
 ghost use Rattle.mt_splice.specs.Splice.{region_of};
 
 use crate::reads::{first_in, push_items};
-use crate::regions::Region;
+use crate::ways::{Edit, Gathered, Ways, step_on};
 use mt_base::{Width, top};
 use mt_layout::{Item, RowKind, Run, slots};
 use mt_leaf::{Towards, edit_into, push_joined};
-use mt_path::PathStep;
+use mt_path::{Path, PathStep};
 use mt_rows::{Rows, load_item};
 
 /// Fills an empty run with what stands in a leaf below `first`, which the path's slot there holds.
@@ -81,74 +81,64 @@ fn towards_of(at: usize, count: usize) -> Towards {
     }
 }
 
-/// Fills a region's run, which is empty, with what stands in the leaves at the ends of its paths after `entry` was stored
-/// over `first` to `last`. An entry of 0 makes a hole.
-fn push_edited<R: Rows>(
-    rows: &mut R,
-    region: &mut Region,
-    left: &PathStep,
-    right: &PathStep,
-    first: u64,
-    last: u64,
-    entry: u64,
-)
-    requires ends { (kind : Kind) × AreEnds kind (R.sheet rows.old).tree region.old.left.items region.old.right.items first last }
-    requires some { region.old.left.items ≢ [] }
-    requires left { left.now ≡ last_step region.old.left.items }
-    requires right { right.now ≡ last_step region.old.right.items }
-    requires empty { region.old.run.items ≡ [] }
-    ensures run { spans_from left.now.min region.new.run.items ≡ edited (region_of (R.sheet rows.old).tree.table region.old.left.items region.old.right.items) first last entry }
-    ensures left { region.new.left ≡ region.old.left }
-    ensures right { region.new.right ≡ region.old.right }
-    ensures inner { region.new.inner ≡ region.old.inner }
+/// The leaf at the end of a path.
+fn leaf_of(path: &Path) -> PathStep
+    requires { path.now.items ≢ [] }
+    ensures { result ≡ last_step path.now.items }
+{
+    let depth = path.len() as u32 - 1;
+    step_on(path, depth)
+}
+
+/// Gathers what stands in the leaves at the ends of the paths after a store. An entry of 0 makes a hole.
+fn push_edited<R: Rows>(rows: &mut R, ways: &Ways, gathered: &mut Gathered, edit: &Edit)
+    requires ends { (kind : Kind) × AreEnds kind (R.sheet rows.old).tree ways.now.left.items ways.now.right.items edit.now.first edit.now.last }
+    requires some { ways.now.left.items ≢ [] }
+    requires empty { gathered.old.run.items ≡ [] }
+    ensures run { spans_from (last_step ways.now.left.items).min gathered.new.run.items ≡ edited (region_of (R.sheet rows.old).tree.table ways.now.left.items ways.now.right.items) edit.now.first edit.now.last edit.now.entry }
     ensures rest { OnlyReads (R.sheet rows.old) (R.sheet rows.new) }
 {
-    push_below(rows, left, first, &mut region.run);
+    let left = leaf_of(&ways.left);
+    let right = leaf_of(&ways.right);
+    push_below(rows, &left, edit.first, &mut gathered.run);
     push_joined(
-        &mut region.run,
+        &mut gathered.run,
         Item {
-            last,
-            word: entry,
+            last: edit.last,
+            word: edit.entry,
             gap: 0,
         },
     );
-    let at = region.run.len() - 1;
-    push_above(rows, right, last, &mut region.run);
-    region.towards = towards_of(at, region.run.len());
+    let at = gathered.run.len() - 1;
+    push_above(rows, &right, edit.last, &mut gathered.run);
+    gathered.towards = towards_of(at, gathered.run.len());
 }
 
 /// The same of the empty tree, which is one hole.
-fn push_first(width: Width, first: u64, last: u64, entry: u64, run: &mut Run)
-    requires order { first ≤ last }
-    requires within { last ≤ greatest width }
+fn push_first(width: Width, edit: &Edit, run: &mut Run)
+    requires order { edit.now.first ≤ edit.now.last }
+    requires within { edit.now.last ≤ greatest width }
     requires empty { run.old.items ≡ [] }
-    ensures { spans_from 0 run.new.items ≡ edited (record { first = 0; last = greatest width; word = 0 } ∷ []) first last entry }
+    ensures { spans_from 0 run.new.items ≡ edited (record { first = 0; last = greatest width; word = 0 } ∷ []) edit.now.first edit.now.last edit.now.entry }
 {
     let hole = [Item {
         last: top(width),
         word: 0,
         gap: 0,
     }];
-    edit_into(&hole, 0, first, last, entry, run);
+    edit_into(&hole, 0, edit.first, edit.last, edit.entry, run);
 }
 
-/// Fills a region's run, which is empty, with what is to stand in the leaves from its left path's to its right path's after
-/// a store.
-pub fn fill_leaves<R: Rows>(rows: &mut R, region: &mut Region, first: u64, last: u64, entry: u64)
-    requires ends { (kind : Kind) × AreEnds kind (R.sheet rows.old).tree region.old.left.items region.old.right.items first last }
-    requires empty { region.old.run.items ≡ [] }
-    ensures run { spans_from (last_step region.old.left.items).min region.new.run.items ≡ edited (region_of (R.sheet rows.old).tree.table region.old.left.items region.old.right.items) first last entry }
-    ensures left { region.new.left ≡ region.old.left }
-    ensures right { region.new.right ≡ region.old.right }
-    ensures inner { region.new.inner ≡ region.old.inner }
+/// Gathers what is to stand in the leaves from the left path's to the right path's after a store, where nothing is gathered yet.
+pub fn fill_leaves<R: Rows>(rows: &mut R, ways: &Ways, gathered: &mut Gathered, edit: &Edit)
+    requires ends { (kind : Kind) × AreEnds kind (R.sheet rows.old).tree ways.now.left.items ways.now.right.items edit.now.first edit.now.last }
+    requires empty { gathered.old.run.items ≡ [] }
+    ensures run { spans_from (last_step ways.now.left.items).min gathered.new.run.items ≡ edited (region_of (R.sheet rows.old).tree.table ways.now.left.items ways.now.right.items) edit.now.first edit.now.last edit.now.entry }
     ensures rest { OnlyReads (R.sheet rows.old) (R.sheet rows.new) }
 {
-    let Some(left) = region.left.last().copied() else {
-        push_first(rows.width(), first, last, entry, &mut region.run);
+    if ways.left.is_empty() {
+        push_first(rows.width(), edit, &mut gathered.run);
         return;
-    };
-    let Some(right) = region.right.last().copied() else {
-        unreachable!()
-    };
-    push_edited(rows, region, &left, &right, first, last, entry);
+    }
+    push_edited(rows, ways, gathered, edit);
 }

@@ -4,20 +4,22 @@
 
 mod begins;
 mod begun;
-mod beside;
+mod burying;
 mod clears;
+mod climbing;
 mod decisions;
+mod drafting;
 mod ends;
 mod gathers;
-pub mod laws;
 mod leaves;
-mod levels;
+pub mod plans;
 mod reads;
-mod regions;
-mod replaces;
+mod replacing;
 mod spliced;
 mod splices;
 mod tends;
+mod ways;
+mod widening;
 mod writes;
 
 pub use clears::clear;

@@ -52,3 +52,14 @@ pub fn push_items<R: Rows>(
         }
     }
 }
+
+/// Appends items, for which there is room.
+pub fn push_all(run: &mut Run, items: &[Item])
+    requires { length run.old.items + length items.now ≤ run_room }
+    ensures { run.new.items ≡ run.old.items ++ items.now }
+{
+    match run.try_extend_from_slice(items) {
+        Ok(()) => {}
+        Err(_) => unreachable!(),
+    }
+}

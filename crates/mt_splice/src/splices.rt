@@ -8,87 +8,59 @@ ghost use Rattle.mt_splice.specs.Splice.{MaySplice, MayReplace, IsSpliced, Tells
 
 use crate::begins::begin_tree;
 use crate::begun::Begun;
+use crate::climbing::{Climb, climb_between};
 use crate::leaves::fill_leaves;
-use crate::levels::NewRows;
-use crate::regions::{Region, push_all};
-use crate::replaces::replace_level;
+use crate::reads::push_all;
+use crate::replacing::{Event, replace};
 use crate::spliced::{Spliced, at_root};
+use crate::ways::Edit;
 use mt_base::{Call, Kind, Reply};
 use mt_free::RowBook;
-use mt_layout::{RowKind, Run};
-use mt_leaf::Towards;
+use mt_layout::Run;
 use mt_path::{Path, copy_into, copy_of, go_on};
 use mt_rows::{Place, Rows, inner_kind};
 use std::marker::Brand;
 
-/// A region of these paths, in which no item stands yet, in a tree with inner rows of this kind.
-fn empty_region(inner: RowKind, left: Path, right: Path) -> Region
-    ensures left { result.left ≡ left }
-    ensures right { result.right ≡ right }
-    ensures run { result.run.items ≡ [] }
-    ensures inner { result.inner ≡ inner }
-{
-    Region {
-        left,
-        right,
-        run: Run::new(),
-        towards: Towards::Middle,
-        inner,
-    }
-}
-
-/// Replaces the leaves of a region, where what it begins with has a name.
+/// Replaces the leaves of a climb, where what it begins with has a name.
 fn splice_as<R: Rows, B: Begun>(
     rows: &mut R,
     book: &mut RowBook,
     kind: Kind,
-    region: &mut Region,
-    number: u64,
-    call: &Call,
-    reply: &Reply,
+    climb: &mut Climb,
+    event: &Event<'_>,
 ) -> Spliced
-    requires begun { IsBegunBy B.before B.start kind (R.sheet rows.old) book.old number call.now (last_step region.old.left.items).min (last_step region.old.right.items).max }
-    requires may { MaySplice kind (R.sheet rows.old) book.old region.old.left.items region.old.right.items region.old.run.items number call.now reply.now }
-    requires inner { region.old.inner ≡ inner_kind kind }
-    ensures spliced { IsSpliced B.before.kind B.before.sheet (R.sheet rows.new) B.before.book book.new B.before.number call.now reply.now result.place B.start.first B.start.last }
+    requires begun { IsBegunBy B.before B.start kind (R.sheet rows.old) book.old event.now.number event.now.call.now (last_step climb.old.ways.left.items).min (last_step climb.old.ways.right.items).max }
+    requires may { MaySplice kind (R.sheet rows.old) book.old climb.old.ways.left.items climb.old.ways.right.items climb.old.gathered.run.items event.now.number event.now.call.now event.now.reply.now }
+    requires inner { climb.old.inner ≡ inner_kind kind }
+    requires windows { climb.old.windows.items ≡ [] }
+    requires made { climb.old.made.items ≡ [] }
+    ensures spliced { IsSpliced B.before.kind B.before.sheet (R.sheet rows.new) B.before.book book.new B.before.number event.now.call.now event.now.reply.now result.place B.start.first B.start.last }
     ensures told { TellsAt B.before.kind (R.sheet rows.new).tree result.place result.gap }
 {
-    if region.left.is_empty() {
-        let items = region.run.as_slice();
-        return at_root(begin_tree::<R, B>(rows, book, region.inner, items, call, reply));
+    if climb.ways.left.is_empty() {
+        let items = climb.gathered.run.as_slice();
+        return at_root(begin_tree::<R, B>(rows, book, climb.inner, items, event));
     }
-    let mut inner = NewRows::new();
-    let depth = region.left.len() as u32 - 1;
-    replace_level::<R, B>(
-        rows,
-        book,
-        &mut inner,
-        region,
-        depth,
-        RowKind::Leaf,
-        number,
-        call,
-        reply,
-    )
+    replace::<R, B>(rows, book, climb, event)
 }
 
-/// Replaces the leaves from a region's left path to its right path by rows of its items, and all rows above that must
-/// change, and publishes that by one store. It gives the place, and what the row there tells. The region is used up.
-fn splice_region<R: Rows>(
+/// Replaces the leaves from a climb's left path to its right path by rows of what is gathered, and all rows above that must
+/// change, and publishes that by one store. It gives the place, and what the row there tells. The climb is used up.
+fn splice_climb<R: Rows>(
     rows: &mut R,
     book: &mut RowBook,
     kind: Kind,
-    region: &mut Region,
-    number: u64,
-    call: &Call,
-    reply: &Reply,
+    climb: &mut Climb,
+    event: &Event<'_>,
 ) -> Spliced
-    requires may { MaySplice kind (R.sheet rows.old) book.old region.old.left.items region.old.right.items region.old.run.items number call.now reply.now }
-    requires inner { region.old.inner ≡ inner_kind kind }
-    ensures spliced { IsSpliced kind (R.sheet rows.old) (R.sheet rows.new) book.old book.new number call.now reply.now result.place (last_step region.old.left.items).min (last_step region.old.right.items).max }
+    requires may { MaySplice kind (R.sheet rows.old) book.old climb.old.ways.left.items climb.old.ways.right.items climb.old.gathered.run.items event.now.number event.now.call.now event.now.reply.now }
+    requires inner { climb.old.inner ≡ inner_kind kind }
+    requires windows { climb.old.windows.items ≡ [] }
+    requires made { climb.old.made.items ≡ [] }
+    ensures spliced { IsSpliced kind (R.sheet rows.old) (R.sheet rows.new) book.old book.new event.now.number event.now.call.now event.now.reply.now result.place (last_step climb.old.ways.left.items).min (last_step climb.old.ways.right.items).max }
     ensures told { TellsAt kind (R.sheet rows.new).tree result.place result.gap }
 {
-    splice_as::<R, Brand>(rows, book, kind, region, number, call, reply)
+    splice_as::<R, Brand>(rows, book, kind, climb, event)
 }
 
 /// Replaces the leaves from the left path to the right path by rows of these items, and all rows above that must change,
@@ -107,9 +79,14 @@ pub fn splice<R: Rows>(
     requires { MaySplice kind (R.sheet rows.old) book.old left.now.items right.now.items items.now.items number call.now reply.now }
     ensures { IsSpliced kind (R.sheet rows.old) (R.sheet rows.new) book.old book.new number call.now reply.now result (last_step left.now.items).min (last_step right.now.items).max }
 {
-    let mut region = empty_region(inner_kind(kind), copy_of(left), copy_of(right));
-    push_all(&mut region.run, items.as_slice());
-    splice_region(rows, book, kind, &mut region, number, call, reply).place
+    let mut climb = climb_between(inner_kind(kind), copy_of(left), copy_of(right));
+    push_all(&mut climb.gathered.run, items.as_slice());
+    let event = Event {
+        number,
+        call,
+        reply,
+    };
+    splice_climb(rows, book, kind, &mut climb, &event).place
 }
 
 /// Stores an entry, or a hole where it is 0, over `first` to `last`, by new rows; `left` is the path to `first`. The leaves
@@ -130,15 +107,15 @@ pub fn replace_range<R: Rows>(
     ensures spliced { IsSpliced kind (R.sheet rows.old) (R.sheet rows.new) book.old book.new number call.now reply.now result.place first last }
     ensures told { TellsAt kind (R.sheet rows.new).tree result.place result.gap }
 {
-    let mut region = Region {
-        left: copy_of(left),
-        right: Path::new(),
-        run: Run::new(),
-        towards: Towards::Middle,
-        inner: inner_kind(kind),
+    let mut climb = climb_between(inner_kind(kind), copy_of(left), Path::new());
+    copy_into(left, &mut climb.ways.right);
+    go_on(rows, &mut climb.ways.right, last);
+    let edit = Edit { first, last, entry };
+    fill_leaves(rows, &climb.ways, &mut climb.gathered, &edit);
+    let event = Event {
+        number,
+        call,
+        reply,
     };
-    copy_into(left, &mut region.right);
-    go_on(rows, &mut region.right, last);
-    fill_leaves(rows, &mut region, first, last, entry);
-    splice_region(rows, book, kind, &mut region, number, call, reply)
+    splice_climb(rows, book, kind, &mut climb, &event)
 }

@@ -1,22 +1,19 @@
 -- A replacement level by level: spans are gathered, and written in new rows.
 -- Source: this project's own; the kernel's lib/maple_tree.c climbs in mas_spanning_rebalance.
-use Rattle.std.specs.Prelude.{◌≡◌, ℕ, zero, suc, ◌+◌, ◌-◌, ◌<◌, ◌≤◌, false, List, [], ◌++◌, take, drop}
+use Rattle.std.specs.Prelude.{[], ◌≡◌, ℕ, zero, suc, ◌+◌, ◌<◌, ◌≤◌, false, List, ◌++◌}
 use Rattle.std.specs.List.{AllByRecursion, flat_map}
 use Rattle.mt_base.specs.Entry.{reserved}
 use Rattle.mt_layout.specs.declared.spans.Span.{Span}
-use Rattle.mt_layout.specs.Rows.{row_in}
 use Rattle.mt_layout.specs.Spans.{leaf_range, Fills, Apart}
 use Rattle.mt_rows.specs.Levels.{expand, Levels}
-use Rattle.mt_rows.specs.Laws.{IsRow, kind_on}
 use Rattle.mt_leaf.specs.Edits.{joined}
 use Rattle.mt_path.specs.declared.paths.PathStep.{PathStep}
-use Rattle.mt_path.specs.Paths.{path_in, step_at}
+use Rattle.mt_path.specs.Paths.{step_at}
 use Rattle.mt_splice.specs.Fewest.{FewestBelow}
 use Rattle.mt_splice.specs.steps.Progress.{is_taken}
-use Rattle.mt_splice.specs.steps.Seen.{Adds}
-use Rattle.mt_splice.specs.steps.Work.{Start, Work, now, rows_at, IsUsed, IsTaken, Keeps, Holds}
+use Rattle.mt_splice.specs.steps.Work.{Start, Work, now, rows_at, IsUsed, IsTaken, Holds}
 use Rattle.mt_splice.specs.steps.Replaced.{IsHalfReplaced}
-use Rattle.mt_splice.specs.steps.Stretches.{IsStretch, ArePaths, spans_on}
+use Rattle.mt_splice.specs.steps.Stretches.{IsStretch, ArePaths}
 
 -- where the left path's row of a depth begins, and behind what the right path's row ends
 abbrev pub begin_of : List PathStep → ℕ → ℕ
@@ -29,22 +26,6 @@ behind_of right depth = (step_at right depth).max + 1
 pub record IsAround (start : Start) (left right : List PathStep) (depth : ℕ) : Type 0 where
   pub first : begin_of left depth ≤ start.first
   pub last : start.last < behind_of right depth
-
--- what stands now in a path's row of a depth and a height
-abbrev pub spans_now : Start → Work → List PathStep → ℕ → ℕ → List Span
-spans_now start s path depth height = spans_on (now start s).table (kind_on start.tree.gapped height) (step_at path depth)
-
--- the row behind the right path's, and the row ahead of the left path's, by the paths that lead to them
-abbrev pub IsPathBehind : Start → List PathStep → ℕ → List PathStep → Type 0
-IsPathBehind start right depth right' = right' ≡ path_in start.tree.table start.tree.root (behind_of right depth)
-
-abbrev pub IsPathAhead : Start → List PathStep → ℕ → List PathStep → Type 0
-IsPathAhead start left depth left' = left' ≡ path_in start.tree.table start.tree.root (begin_of left depth - 1)
-
--- new spans between what stands before the left path's slot and what stands behind the right path's
-abbrev pub between_slots : Start → Work → List PathStep → List PathStep → ℕ → ℕ → List Span → List Span
-between_slots start s left right depth height new =
-    take (step_at left depth).slot (spans_now start s left depth height) ++ (new ++ drop ((step_at right depth).slot + 1) (spans_now start s right depth height))
 
 -- spans that rows of a height may hold: in leaves no two holes follow each other, and no entry is reserved
 abbrev pub MayBeIn : ℕ → List Span → Type 0
@@ -75,17 +56,6 @@ pub record Gathered (start : Start) (s : Work) (left right : List PathStep) (dep
   pub fills : Fills (begin_of left depth) (behind_of right depth) run
   pub fit : MayBeIn height run
   pub level : MayStandIn start s depth height (expand start.tree.table front ++ (run ++ expand start.tree.table back))
-
--- The spans were written in rows of a height that were not in use.
-pub record AreWritten (start : Start) (s s' : Work) (height : ℕ) (spans rows : List Span) : Type 0 where
-  pub hold : expand (now start s').table rows ≡ spans
-  pub fills : (lo hi : ℕ) → Fills lo hi spans → Fills lo hi rows
-  pub lawful : AllByRecursion (IsRow (now start s') height) rows
-  pub were_free : AllByRecursion (λ (x : Span). s.used (row_in x.word) ≡ false) rows
-  pub used : AllByRecursion (IsUsed s' height) rows
-  pub keeps : Keeps start s s'
-  pub taken : Adds height rows s.taken s'.taken
-  pub gone : s'.gone ≡ s.gone
 
 -- The rows of this depth from the left path's to the right path's, and those below them that had to, are replaced.
 pub record Climbed (start : Start) (s : Work) (left right : List PathStep) (depth height : ℕ) (new : List Span) : Type 0 where

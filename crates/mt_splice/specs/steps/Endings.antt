@@ -5,10 +5,9 @@ use Rattle.mt_layout.specs.Columns.{slot_column}
 use Rattle.mt_layout.specs.declared.names.RowKind.{RowKind}
 use Rattle.mt_layout.specs.Rows.{row_in}
 use Rattle.mt_layout.specs.declared.spans.Span.{Span}
-use Rattle.mt_rows.specs.Spans.{base_of, spans_in}
+use Rattle.mt_rows.specs.Spans.{base_of}
 use Rattle.mt_rows.specs.Laws.{Tree}
 use Rattle.mt_rows.specs.Sheet.{Rooted}
-use Rattle.mt_rows.specs.Publish.{StandsAt, SameHoles, IsSlotOf}
 use Rattle.mt_rows.specs.Replacement.{IsSlotAt}
 use Rattle.mt_path.specs.declared.paths.PathStep.{PathStep}
 use Rattle.mt_splice.specs.steps.Work.{tree_with}
@@ -35,8 +34,3 @@ pub record IsStepIn (t : Tree) (depth : ℕ) (step : PathStep) : Type 0 where
   pub child : Span
   pub at : IsSlotAt t depth row step.slot child
   pub number : row_in row.word ≡ step.row
-
--- The slot of a path's row is one of a row that is reached, and the store makes no hole and fills none.
-pub record IsPublished (t : Tree) (kind : RowKind) (step : PathStep) (word : ℕ) : Type 0 where
-  pub slot : IsSlotOf (words_of t) step.row (column_of t kind step)
-  pub holes : (k : ℕ) (x : Span) → StandsAt (words_of t) k x → SameHoles (spans_in t.table x) (spans_in (with_step t kind step word).table x)

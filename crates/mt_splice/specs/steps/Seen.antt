@@ -1,6 +1,6 @@
 -- Rows that were seen at a height: those that a replacement has taken, and those that are gone.
 -- Source: this project's own.
-use Rattle.std.specs.Prelude.{◌≡◌, ℕ, ◌+◌, Bool, List}
+use Rattle.std.specs.Prelude.{ℕ, Bool, List}
 use Rattle.mt_layout.specs.declared.spans.Span.{Span}
 use Rattle.mt_rows.specs.Levels.{tally}
 
@@ -11,7 +11,3 @@ pub record Seen : Type 0 where
 -- how many of them pass a test on their height and their span
 abbrev pub passing : (ℕ → Span → Bool) → List Seen → ℕ
 passing p seen = tally (λ (s : Seen). p s.height s.at) seen
-
--- to the rows seen were added the rows of a height, in whatever order
-abbrev pub Adds : ℕ → List Span → List Seen → List Seen → Type 0
-Adds h rows seen seen' = (p : ℕ → Span → Bool) → passing p seen' ≡ tally (p h) rows + passing p seen

@@ -16,9 +16,9 @@ use Rattle.mt_rows.specs.Sheet.{Rooted}
 use Rattle.mt_path.specs.declared.paths.PathStep.{PathStep}
 use Rattle.mt_path.specs.Paths.{step_at}
 use Rattle.mt_splice.specs.steps.Work.{Start, Work, now}
-use Rattle.mt_splice.specs.steps.Climbs.{begin_of, behind_of, Gathered}
+use Rattle.mt_splice.specs.steps.Climbs.{begin_of, Gathered}
 use Rattle.mt_splice.specs.steps.Endings.{words_of}
-use Rattle.mt_splice.specs.steps.Runs.{most_items, most_before_hole, MayBeCut}
+use Rattle.mt_splice.specs.steps.Runs.{most_items, most_before_hole}
 use Rattle.mt_splice.specs.steps.Told.{AreToldIn, HadGaps}
 use Rattle.mt_layout.specs.Sizes.{least_items}
 
@@ -59,11 +59,3 @@ pub record MayTakeIn (start : Start) (w : Work) (t : Rooted) (kind : RowKind) (l
   pub two : (h : ℕ) → height ≡ suc h → begin_of left depth ≡ 0 → (step_at right depth).max ≡ top_of start.tree → 2 ≤ length items
   pub told : AreToldIn start w height (begin_of left depth) items
   pub had_gaps : HadGaps start
-
--- The items are gathered, and may be cut into rows or stand for every index.
-pub record IsTakenIn (start : Start) (w : Work) (left right : List PathStep) (depth height : ℕ) (items : List Item) : Type 0 where
-  pub gathered : Gathered start w left right depth height (spans_from (begin_of left depth) items)
-  pub cut : MayBeCut start.tree height (begin_of left depth) (behind_of right depth) (spans_from (begin_of left depth) items)
-      ⊎ ((begin_of left depth ≡ 0) × ((step_at right depth).max ≡ top_of start.tree) × (length items ≤ most_items start.tree.table.width (kind_on start.tree.gapped height)))
-  pub two : (h : ℕ) → height ≡ suc h → begin_of left depth ≡ 0 → (step_at right depth).max ≡ top_of start.tree → 2 ≤ length items
-  pub told : AreToldIn start w height (begin_of left depth) items

@@ -62,11 +62,6 @@ IsTaken s h x = 1 ≤ passing (is_row_of (row_in x.word)) s.taken
 abbrev pub KeepsWords : Tree → List ℕ → List ℕ → ℕ → Type 0
 KeepsWords t words words' row = SameColumns (table_with t.table words) (table_with t.table words') (columns t.table.width) row
 
--- rows in use stay in use, and keep their words
-pub record Keeps (start : Start) (s s' : Work) : Type 0 where
-  pub used : (row : ℕ) → s.used row ≡ true → s'.used row ≡ true
-  pub words : (row : ℕ) → s.used row ≡ true → KeepsWords start.tree s.words s'.words row
-
 -- The tree's rows are in use and have the words that they had, and the rows taken are others.
 pub record Holds (start : Start) (s : Work) : Type 0 where
   pub stands : Stands start.tree start.height

@@ -1,11 +1,11 @@
 -- A row written anew, and the items of a row read.
 -- Source: the kernel's lib/maple_tree.c, mab_mas_cp and mas_mab_cp: a node's slots are copied out and written into a new node.
-use Rattle.std.specs.Prelude.{◌≡◌, ◌≢◌, ℕ, ◌+◌, ◌<◌, ◌≤◌, false, Some, List, [], ◌∷◌, ◌++◌, length, slice_index, slice_set}
+use Rattle.std.specs.Prelude.{[], ◌≡◌, ◌≢◌, ℕ, ◌+◌, ◌<◌, ◌≤◌, false, Some, List, ◌∷◌, ◌++◌, length, slice_index, slice_set}
 use Rattle.mt_base.specs.Width.{columns, first_row}
 use Rattle.mt_layout.specs.declared.items.Item.{Item}
 use Rattle.mt_layout.specs.declared.names.RowKind.{RowKind}
-use Rattle.mt_layout.specs.Rows.{name_at, row_in, named_row, parent_at}
-use Rattle.mt_layout.specs.Columns.{row_words, items_at, slot_column}
+use Rattle.mt_layout.specs.Rows.{IsRowNumber, name_at, row_in, named_row, parent_at}
+use Rattle.mt_layout.specs.Columns.{RiseFrom, row_words, items_at, slot_column}
 use Rattle.mt_free.specs.Book.{Book}
 use Rattle.mt_rows.specs.declared.rows.Life.TheVariants.{Draft, Live}
 use Rattle.mt_rows.specs.Spans.{Table, base_of, column}
@@ -42,6 +42,14 @@ pub record IsRowWritten (s s' : Sheet) (book book' : Book) (kind : RowKind) (ite
   pub taken : book ≡ record book' { free = book'.free ++ row ∷ [] }
   pub named : word ≡ name_at row kind
   pub drafted : IsRowDrafted s s' row kind items
+
+-- the row's columns are the words of a new row with these items
+pub record IsNewRow (t : Table) (kind : RowKind) (row : ℕ) (items : List Item) : Type 0 where
+  pub number : IsRowNumber row
+  pub some : 1 ≤ length items
+  pub fit : length items ≤ slots_of t.width kind
+  pub rise : RiseFrom 0 items
+  pub own : (c : ℕ) → c < columns t.width → column t row c ≡ slice_index (new_words t kind items) c
 
 -- ---- items
 

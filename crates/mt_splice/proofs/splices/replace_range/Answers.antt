@@ -1,4 +1,4 @@
-use Rattle.std.proofs.Common.{◌≡◌, ◌∙◌}
+use Rattle.std.proofs.Common.{◌≡◌, ◌∙◌, refl}
 use Rattle.mt_splice.proofs.BetweenCalls.{tree_to_replace, ends_are, may_splice, spliced_after_reads}
 use Rattle.mt_splice.proofs.SplicedWithin.{range_replaced}
 use Rattle.mt_splice.proofs.splices.replace_range.Goals as goal
@@ -14,16 +14,15 @@ go_on-requires-clause-index g c = c.requires.store.within
 
 pub fill_leaves-requires-clause-ends : goal.fill_leaves-requires-clause-ends
 fill_leaves-requires-clause-ends g c =
-    ends_are c.requires c.go_on.ensures.rest c.copy_of.ensures c.go_on.ensures.path
+    let left : c.climb_between-climb.result.ways.left.items ≡ c.copy_of.result.items = λ i. (c.climb_between-climb.ensures.left i).items in
+    ends_are c.requires c.go_on.ensures.rest (left ∙ c.copy_of.ensures) c.go_on.ensures.path
 
-pub splice_region-requires-clause-may : goal.splice_region-requires-clause-may
-splice_region-requires-clause-may g c =
-    let left : c.fill_leaves.new.region.left.items ≡ c.copy_of.result.items = λ i. (c.fill_leaves.ensures.left i).items in
-    let right : c.fill_leaves.new.region.right.items ≡ c.go_on.new.path.items = λ i. (c.fill_leaves.ensures.right i).items in
-    may_splice c.requires c.go_on.ensures.rest c.fill_leaves.ensures.rest c.copy_of.ensures c.go_on.ensures.path left right c.fill_leaves.ensures.run
+pub splice_climb-requires-clause-may : goal.splice_climb-requires-clause-may
+splice_climb-requires-clause-may g c =
+    let left : c.climb_between-climb.result.ways.left.items ≡ c.copy_of.result.items = λ i. (c.climb_between-climb.ensures.left i).items in
+    may_splice c.requires c.go_on.ensures.rest c.fill_leaves.ensures.rest c.copy_of.ensures c.go_on.ensures.path left refl (rw left at c.fill_leaves.ensures.run)
 
 pub returns-clause-spliced : goal.returns-clause-spliced
 returns-clause-spliced g c =
-    let left : c.fill_leaves.new.region.left.items ≡ c.args.left.now.items = (λ i. (c.fill_leaves.ensures.left i).items) ∙ c.copy_of.ensures in
-    let right : c.fill_leaves.new.region.right.items ≡ c.go_on.new.path.items = λ i. (c.fill_leaves.ensures.right i).items in
-    range_replaced c.requires left (right ∙ c.go_on.ensures.path) (spliced_after_reads c.go_on.ensures.rest c.fill_leaves.ensures.rest c.splice_region.ensures.spliced)
+    let left : c.climb_between-climb.result.ways.left.items ≡ c.args.left.now.items = (λ i. (c.climb_between-climb.ensures.left i).items) ∙ c.copy_of.ensures in
+    range_replaced c.requires left c.go_on.ensures.path (spliced_after_reads c.go_on.ensures.rest c.fill_leaves.ensures.rest c.splice_climb.ensures.spliced)

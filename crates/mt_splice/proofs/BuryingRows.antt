@@ -1,0 +1,454 @@
+-- The rows of windows buried along one walk each.
+use Rattle.std.proofs.Common.{[], ◌≡◌, ℕ, ◌+◌, ◌-◌, ◌<◌, ◌≤◌, List, ◌∷◌, ◌++◌, length, map, refl, sym, ap, ◌∙◌, subst, ⊎_elim, arith, Bool, true, false}
+use Rattle.std.specs.Prelude.{◌↔◌}
+use Rattle.std.specs.Bool.{OnTrue}
+use Rattle.std.proofs.lemmas.Bool.{cases_lt}
+use Rattle.std.proofs.lemmas.List.{map-append}
+use Rattle.mt_base.specs.declared.kinds.Kind.{Kind}
+use Rattle.mt_base.specs.declared.widths.Width.{Width}
+use Rattle.mt_base.specs.Width.{greatest}
+use Rattle.mt_free.specs.Book.{Book, after_retire}
+use Rattle.mt_layout.specs.declared.spans.Span.{Span}
+use Rattle.mt_layout.specs.Rows.{row_in}
+use Rattle.mt_layout.proofs.SpanLists.{fills_le}
+use Rattle.mt_path.specs.declared.paths.PathStep.{PathStep}
+use Rattle.mt_path.specs.Paths.{path_in, step_at, step_in}
+use Rattle.mt_path.proofs.TreePaths.{levels, step, place}
+use Rattle.mt_path.proofs.Ways.{some_root, some_tree}
+use Rattle.mt_rows.specs.Laws.{Tree, Stands, top_of}
+use Rattle.mt_rows.specs.Publish.{IsTreeOf, tree_as}
+use Rattle.mt_rows.specs.Sheet.{Rooted, Sheet, OnlyReads, after_bury}
+use Rattle.mt_splice.specs.declared.ways.Window.{Window}
+use Rattle.mt_splice.specs.steps.Burials.{MayBeBuried, MayBuryAll, AreBuriedAll, numbers_between, numbers_in, numbers_in_all, IsWindowOn, IsStretchOn, AreWindowsOn}
+use Rattle.mt_splice.specs.steps.Windows.{between, row_at, low_of, high_of}
+use Rattle.mt_splice.specs.steps.Work.{rows_at}
+use Rattle.mt_splice.proofs.Burials.{may_first, may_front, may_then, may_later, reads_buried, one_buried, more_buried}
+use Rattle.mt_splice.proofs.KeptTrees.{SameTree, buried_tree, same_kind}
+use Rattle.mt_splice.proofs.Windows.{begins_behind, ends_ahead}
+use Rattle.mt_splice.proofs.WindowRows.{sides_same, same_between, one_between, first_between, last_between, split_between, head_between, ends_by, next_between}
+
+abbrev number_of : Span → ℕ
+number_of x = row_in x.word
+
+-- a tree with a path that reaches so deep stands, and is as high
+standing_at : {t : Rooted} {kind : Kind} → IsTreeOf t kind → (i depth : ℕ) → i ≤ greatest t.table.width → depth < length (path_in t.table t.root i) → (h : ℕ) × Stands (tree_as kind t) h × (depth ≤ h)
+standing_at {t} {kind} tree i depth within deep =
+    let found = some_tree (tree_as kind t) tree.words (some_root t i depth deep) in
+    (found.0, found.1, (let long = levels (tree_as kind t) found.0 found.1 i within in omega (arith, deep)))
+
+-- ---- a window by its steps
+
+module _ {t : Rooted} (kind : Kind) (h : ℕ) (stands : Stands (tree_as kind t) h) (depth : ℕ) (low : depth ≤ h) {w : Window} (on : IsWindowOn t depth w) where
+  abbrev T : Tree
+  T = tree_as kind t
+
+  abbrev i : ℕ
+  i = on.from
+
+  abbrev j : ℕ
+  j = on.to
+
+  abbrev x : Span
+  x = row_at T depth i
+
+  abbrev y : Span
+  y = row_at T depth j
+
+  abbrev rows : List Span
+  rows = rows_at T depth
+
+  i_within : i ≤ top_of T
+  i_within = let order = on.order in let within = on.within in omega arith
+
+  first_is : w.first ≡ step_in t.table x i
+  first_is = on.first ∙ step T h stands i depth i_within low
+
+  last_is : w.last ≡ step_in t.table y j
+  last_is = on.last ∙ step T h stands j depth on.within low
+
+  first_row_is : w.first.row ≡ number_of x
+  first_row_is = ap (λ (z : PathStep). z.row) first_is
+
+  first_min_is : w.first.min ≡ x.first
+  first_min_is = ap (λ (z : PathStep). z.min) first_is
+
+  first_max_is : w.first.max ≡ x.last
+  first_max_is = ap (λ (z : PathStep). z.max) first_is
+
+  last_row_is : w.last.row ≡ number_of y
+  last_row_is = ap (λ (z : PathStep). z.row) last_is
+
+  last_min_is : w.last.min ≡ y.first
+  last_min_is = ap (λ (z : PathStep). z.min) last_is
+
+  last_max_is : w.last.max ≡ y.last
+  last_max_is = ap (λ (z : PathStep). z.max) last_is
+
+  x_holds : (x.first ≤ i) × (i ≤ x.last)
+  x_holds = let at = place T h stands i depth i_within low in (at.from, at.to)
+
+  y_holds : (y.first ≤ j) × (j ≤ y.last)
+  y_holds = let at = place T h stands j depth on.within low in (at.from, at.to)
+
+  y_ends : y.last ≤ top_of T
+  y_ends = let at = place T h stands j depth on.within low in let end = fills_le (y.last + 1) (top_of T + 1) at.back at.after in omega arith
+
+  -- the window that the steps name
+  numbers_are : numbers_in t depth w ≡ map number_of (between i j rows)
+  numbers_are =
+      let order = on.order in let one = x_holds in let other = y_holds in let end = y_ends in
+      let left = sides_same T h stands i x.first depth i_within low (omega arith) (omega arith) in
+      let right = sides_same T h stands j y.last depth on.within low (omega arith) (omega arith) in
+      (λ m. map number_of (between (first_min_is m) (last_max_is m) rows)) ∙ ap (map number_of) (same_between T h stands i j x.first y.last depth on.order on.within low (omega arith) y_ends left.1 right.2)
+
+  -- one row
+  pub one_in : w.last.max ≤ w.first.max → numbers_in t depth w ≡ w.first.row ∷ []
+  one_in few =
+      let order = on.order in let one = x_holds in let other = y_holds in let first = first_max_is in let last = last_max_is in
+      let sides = sides_same T h stands i j depth i_within low (omega arith) (omega arith) in
+      numbers_are ∙ (ap (map number_of) (same_between T h stands i i i j depth (omega arith) i_within low on.order on.within refl sides.2 ∙ one_between T h stands i depth i_within low) ∙ ap (λ (n : ℕ). n ∷ []) (sym first_row_is))
+
+  -- the row of the last index is another
+  later : w.first.max < w.last.max → high_of T depth i ≤ j
+  later more =
+      ⊎_elim (λ (apart : x.last < j). omega arith)
+      (λ (inside : j ≤ x.last).
+      let order = on.order in let one = x_holds in let first = first_max_is in let last = last_max_is in
+      let same = ap (λ (z : Span). z.last) (sides_same T h stands i j depth i_within low (omega arith) (omega arith)).0 in absurd (omega arith))
+      (cases_lt x.last j)
+
+  -- two rows side by side
+  pub two_in : w.first.max < w.last.max → w.last.min ≤ w.first.max + 1 → numbers_in t depth w ≡ w.first.row ∷ w.last.row ∷ []
+  two_in more few =
+      let order = later more in let other = y_holds in let first = first_max_is in let last = last_min_is in
+      let sides = sides_same T h stands j (high_of T depth i) depth on.within low (omega arith) (omega arith) in
+      numbers_are
+      ∙ (ap (map number_of)
+      (first_between T h stands i j depth i_within on.within low order
+      ∙ ap (λ (l : List Span). x ∷ l) (same_between T h stands j j (high_of T depth i) j depth (omega arith) on.within low order on.within sides.1 refl ∙ one_between T h stands j depth on.within low))
+      ∙ (λ m. sym first_row_is m ∷ sym last_row_is m ∷ []))
+
+  -- more
+  pub more_in : w.first.max + 1 < w.last.min → numbers_in t depth w ≡ w.first.row ∷ (numbers_between t depth (w.first.max + 1) (w.last.min - 1) ++ (w.last.row ∷ []))
+  more_in many =
+      let first = first_max_is in let last = last_min_is in let max = last_max_is in let other = y_holds in
+      let order = later (omega arith) in
+      numbers_are
+      ∙ (ap (map number_of)
+      (first_between T h stands i j depth i_within on.within low order ∙ ap (λ (l : List Span). x ∷ l) (last_between T h stands (high_of T depth i) j depth on.within low (omega arith) (omega arith)))
+      ∙ (ap (λ (l : List ℕ). number_of x ∷ l) (map-append number_of (between (high_of T depth i) (low_of T depth j - 1) rows) (y ∷ []))
+      ∙ (λ m. sym first_row_is m ∷ (map number_of (between (sym first_max_is m + 1) (sym last_min_is m - 1) rows) ++ (sym last_row_is m ∷ [])))))
+
+  pub between_is_stretch : w.first.max + 1 < w.last.min → IsStretchOn t depth (w.first.max + 1) (w.last.min - 1)
+  between_is_stretch many =
+      let first = first_max_is in let last = last_min_is in let other = y_holds in let end = y_ends in
+      let begins = begins_behind T h stands i depth i_within low (omega arith) in
+      let ends = ends_ahead T h stands j depth on.within low (omega arith) in
+      record {
+        order = omega arith;
+        within = omega arith;
+        deep = let long = levels T h stands (w.first.max + 1) (omega arith) in omega arith;
+        begins = ap (λ (n : ℕ). (step_at (path_in t.table t.root (n + 1)) depth).min) first
+            ∙ (ap (λ (z : PathStep). z.min) (step T h stands (high_of T depth i) depth (omega arith) low) ∙ (begins ∙ sym (ap (λ (n : ℕ). n + 1) first)));
+        ends = (let there = ap (λ (n : ℕ). (step_at (path_in t.table t.root (n - 1)) depth).max) last in let is = ap (λ (z : PathStep). z.max) (step T h stands (low_of T depth j - 1) depth (omega arith) low) in omega arith);
+      }
+
+  -- it has a first row
+  pub head_in : (rest : List ℕ) × (numbers_in t depth w ≡ w.first.row ∷ rest)
+  head_in =
+      ⊎_elim (λ (more : w.first.max < w.last.max). (map number_of (between (high_of T depth i) j rows), numbers_are ∙ (ap (map number_of) (first_between T h stands i j depth i_within on.within low (later more)) ∙ ap (λ (n : ℕ). n ∷ map number_of (between (high_of T depth i) j rows)) (sym first_row_is))))
+      (λ (few : w.last.max ≤ w.first.max). ([], one_in few)) (cases_lt w.first.max w.last.max)
+
+-- ---- while others are buried
+
+module _ {kind : Kind} {h : ℕ} {t t' : Rooted} (same : SameTree kind h t t') where
+  numbers_stay : (depth a b : ℕ) → depth ≤ h → numbers_between t' depth a b ≡ numbers_between t depth a b
+  numbers_stay depth a b low = ap (λ (l : List Span). map number_of (between a b l)) (same.levels depth (h - depth) (omega arith))
+
+  all_numbers_stay : (depth : ℕ) (windows : List Window) → depth ≤ h → numbers_in_all t' depth windows ≡ numbers_in_all t depth windows
+  all_numbers_stay depth [] low = refl
+  all_numbers_stay depth (w ∷ windows) low = λ m. numbers_stay depth w.first.min w.last.max low m ++ all_numbers_stay (depth - 1) windows (omega arith) m
+
+  path_same : (i : ℕ) → i ≤ greatest t.table.width → path_in t'.table t'.root i ≡ path_in t.table t.root i
+  path_same i within = same.paths i within
+
+  window_stays : {depth : ℕ} {w : Window} → IsWindowOn t depth w → IsWindowOn t' depth w
+  window_stays {depth} on = record {
+    from = on.from;
+    to = on.to;
+    order = on.order;
+    within = subst (λ (v : Width). on.to ≤ greatest v) (sym same.width) on.within;
+    deep = subst (λ (l : List PathStep). depth < length l) (sym (path_same on.to on.within)) on.deep;
+    first = on.first ∙ ap (λ (l : List PathStep). step_at l depth) (sym (path_same on.from (let order = on.order in let within = on.within in omega arith)));
+    last = on.last ∙ ap (λ (l : List PathStep). step_at l depth) (sym (path_same on.to on.within));
+  }
+
+  windows_stay : (depth : ℕ) (windows : List Window) → AreWindowsOn t depth windows → AreWindowsOn t' depth windows
+  windows_stay depth [] on = tt
+  windows_stay depth (w ∷ windows) on = (window_stays on.0, on.1, windows_stay (depth - 1) windows on.2)
+
+  stretch_stays : {depth a b : ℕ} → IsStretchOn t depth a b → IsStretchOn t' depth a b
+  stretch_stays {depth} {a} {b} on =
+      let first = path_same a (let order = on.order in let within = on.within in omega arith) in let last = path_same b on.within in
+      record {
+        order = on.order;
+        within = subst (λ (v : Width). b ≤ greatest v) (sym same.width) on.within;
+        deep = subst (λ (l : List PathStep). depth < length l) (sym first) on.deep;
+        begins = ap (λ (l : List PathStep). (step_at l depth).min) first ∙ on.begins;
+        ends = ap (λ (l : List PathStep). (step_at l depth).max) last ∙ on.ends;
+      }
+
+-- rows that were buried, and words that were loaded, leave the tree
+tree_then : {kind : Kind} {h : ℕ} {s s' : Sheet} {book book' : Book} {rows : List ℕ} {number : ℕ} → Stands (tree_as kind s.tree) h → AreBuriedAll s s' book book' rows number → SameTree kind h s.tree s'.tree
+tree_then {kind} {h} {s} {s'} {rows = rows} stands done = subst (λ (x : Sheet). SameTree kind h s.tree x.tree) (sym done.rows_are) (buried_tree kind h s rows stands)
+
+-- ---- a window
+
+module _ {s : Sheet} {book : Book} {depth number : ℕ} {w : Window} {kind : Kind} (tree : IsTreeOf s.tree kind) (on : IsWindowOn s.tree depth w) (may : MayBuryAll s book (numbers_in s.tree depth w) number) where
+  abbrev stand : (h : ℕ) × Stands (tree_as kind s.tree) h × (depth ≤ h)
+  stand = standing_at tree on.to depth on.within on.deep
+
+  may_as : (are : List ℕ) → numbers_in s.tree depth w ≡ are → MayBuryAll s book are number
+  may_as are is = subst (λ (l : List ℕ). MayBuryAll s book l number) is may
+
+  pub window_first_may : MayBeBuried s book w.first.row number
+  window_first_may = let head = head_in kind stand.0 stand.1 depth stand.2 on in may_first (may_as (w.first.row ∷ head.0) head.1)
+
+  module _ {s₁ : Sheet} {book₁ : Book} (sheet_is : s₁ ≡ after_bury s w.first.row) (book_is : book₁ ≡ after_retire book w.first.row number) where
+    one : AreBuriedAll s s₁ book book₁ (w.first.row ∷ []) number
+    one = one_buried sheet_is book_is
+
+    pub window_one : w.last.max ≤ w.first.max → AreBuriedAll s s₁ book book₁ (numbers_in s.tree depth w) number
+    window_one few = subst (λ (l : List ℕ). AreBuriedAll s s₁ book book₁ l number) (sym (one_in kind stand.0 stand.1 depth stand.2 on few)) one
+
+    pub window_two_may : w.first.max < w.last.max → w.last.min ≤ w.first.max + 1 → MayBeBuried s₁ book₁ w.last.row number
+    window_two_may more few = may_first (may_later (w.first.row ∷ []) (w.last.row ∷ []) (may_as (w.first.row ∷ w.last.row ∷ []) (two_in kind stand.0 stand.1 depth stand.2 on more few)) one)
+
+    pub window_two : {s₂ : Sheet} {book₂ : Book} → w.first.max < w.last.max → w.last.min ≤ w.first.max + 1 → s₂ ≡ after_bury s₁ w.last.row → book₂ ≡ after_retire book₁ w.last.row number → AreBuriedAll s s₂ book book₂ (numbers_in s.tree depth w) number
+    window_two {s₂} {book₂} more few then_is then_book = subst (λ (l : List ℕ). AreBuriedAll s s₂ book book₂ l number) (sym (two_in kind stand.0 stand.1 depth stand.2 on more few)) (more_buried (w.first.row ∷ []) (w.last.row ∷ []) one (one_buried then_is then_book))
+
+    same_then : SameTree kind stand.0 s.tree s₁.tree
+    same_then = tree_then stand.1 one
+
+    pub window_tree : IsTreeOf s₁.tree kind
+    window_tree = same_kind same_then tree
+
+    module _ (many : w.first.max + 1 < w.last.min) where
+      abbrev mid : List ℕ
+      mid = numbers_between s.tree depth (w.first.max + 1) (w.last.min - 1)
+
+      all : MayBuryAll s book (w.first.row ∷ (mid ++ (w.last.row ∷ []))) number
+      all = may_as (w.first.row ∷ (mid ++ (w.last.row ∷ []))) (more_in kind stand.0 stand.1 depth stand.2 on many)
+
+      pub window_stretch : IsStretchOn s₁.tree depth (w.first.max + 1) (w.last.min - 1)
+      window_stretch = stretch_stays same_then (between_is_stretch kind stand.0 stand.1 depth stand.2 on many)
+
+      mid_then : numbers_between s₁.tree depth (w.first.max + 1) (w.last.min - 1) ≡ mid
+      mid_then = numbers_stay same_then depth (w.first.max + 1) (w.last.min - 1) stand.2
+
+      pub window_mid_may : MayBuryAll s₁ book₁ (numbers_between s₁.tree depth (w.first.max + 1) (w.last.min - 1)) number
+      window_mid_may = subst (λ (l : List ℕ). MayBuryAll s₁ book₁ l number) (sym mid_then) (may_front mid (w.last.row ∷ []) (may_later (w.first.row ∷ []) (mid ++ (w.last.row ∷ [])) all one))
+
+      module _ {s₂ : Sheet} {book₂ : Book} (done : AreBuriedAll s₁ s₂ book₁ book₂ (numbers_between s₁.tree depth (w.first.max + 1) (w.last.min - 1)) number) where
+        two : AreBuriedAll s s₂ book book₂ (w.first.row ∷ mid) number
+        two = more_buried (w.first.row ∷ []) mid one (subst (λ (l : List ℕ). AreBuriedAll s₁ s₂ book₁ book₂ l number) mid_then done)
+
+        pub window_last_may : MayBeBuried s₂ book₂ w.last.row number
+        window_last_may = may_first (may_later (w.first.row ∷ mid) (w.last.row ∷ []) all two)
+
+        pub window_all : {s₃ : Sheet} {book₃ : Book} → s₃ ≡ after_bury s₂ w.last.row → book₃ ≡ after_retire book₂ w.last.row number → AreBuriedAll s s₃ book book₃ (numbers_in s.tree depth w) number
+        window_all {s₃} {book₃} then_is then_book =
+            subst (λ (l : List ℕ). AreBuriedAll s s₃ book book₃ l number) (sym (more_in kind stand.0 stand.1 depth stand.2 on many)) (more_buried (w.first.row ∷ mid) (w.last.row ∷ []) two (one_buried then_is then_book))
+
+-- ---- all windows
+
+module _ {s : Sheet} {book : Book} {depth number : ℕ} {w : Window} (above : List Window) {kind : Kind} (tree : IsTreeOf s.tree kind) (on : AreWindowsOn s.tree depth (w ∷ above))
+    (may : MayBuryAll s book (numbers_in_all s.tree depth (w ∷ above)) number) where
+  abbrev up : (h : ℕ) × Stands (tree_as kind s.tree) h × (depth ≤ h)
+  up = standing_at tree on.0.to depth on.0.within on.0.deep
+
+  pub this_may : MayBuryAll s book (numbers_in s.tree depth w) number
+  this_may = may_front (numbers_in s.tree depth w) (numbers_in_all s.tree (depth - 1) above) may
+
+  module _ {s₁ : Sheet} {book₁ : Book} (done : AreBuriedAll s s₁ book book₁ (numbers_in s.tree depth w) number) where
+    same_up : SameTree kind up.0 s.tree s₁.tree
+    same_up = tree_then up.1 done
+
+    pub above_tree : IsTreeOf s₁.tree kind
+    above_tree = same_kind same_up tree
+
+    pub above_on : AreWindowsOn s₁.tree (depth - 1) above
+    above_on = windows_stay same_up (depth - 1) above on.2
+
+    numbers_above : numbers_in_all s₁.tree (depth - 1) above ≡ numbers_in_all s.tree (depth - 1) above
+    numbers_above = all_numbers_stay same_up (depth - 1) above (let low = up.2 in omega arith)
+
+    pub above_may : MayBuryAll s₁ book₁ (numbers_in_all s₁.tree (depth - 1) above) number
+    above_may = subst (λ (l : List ℕ). MayBuryAll s₁ book₁ l number) (sym numbers_above) (may_later (numbers_in s.tree depth w) (numbers_in_all s.tree (depth - 1) above) may done)
+
+    pub all_windows : {s₂ : Sheet} {book₂ : Book} → AreBuriedAll s₁ s₂ book₁ book₂ (numbers_in_all s₁.tree (depth - 1) above) number → AreBuriedAll s s₂ book book₂ (numbers_in_all s.tree depth (w ∷ above)) number
+    all_windows {s₂} {book₂} rest = more_buried (numbers_in s.tree depth w) (numbers_in_all s.tree (depth - 1) above) done (subst (λ (l : List ℕ). AreBuriedAll s₁ s₂ book₁ book₂ l number) numbers_above rest)
+
+-- a step to the right that has somewhere to go leads there
+pub far_leads : {n top : ℕ} {P : Type 0} (goes : Bool) → n < top → (goes ≡ false) ↔ (n ≡ top) → OnTrue goes P → P
+far_leads true less none some = some
+far_leads false less none some = let last = none.0 refl in absurd (omega arith)
+
+-- ---- a stretch
+
+-- the rows from the one that begins at `a` up to the step's are buried, and the way leads to that
+pub record IsStretchSoFar (s s' : Sheet) (book book' : Book) (depth a b number : ℕ) (way : List PathStep) (step : PathStep) : Type 0 where
+  pub index : ℕ
+  pub first : a ≤ index
+  pub within : index ≤ greatest s.tree.table.width
+  pub way_is : way ≡ path_in s.tree.table s.tree.root index
+  pub step_is : step ≡ step_at way depth
+  pub order : step.max ≤ b
+  pub buried : AreBuriedAll s s' book book' (numbers_between s.tree depth a step.max) number
+
+module _ {s : Sheet} {book : Book} {depth a b number : ℕ} {kind : Kind} (tree : IsTreeOf s.tree kind) (on : IsStretchOn s.tree depth a b) (may : MayBuryAll s book (numbers_between s.tree depth a b) number) where
+  a_within : a ≤ greatest s.tree.table.width
+  a_within = let order = on.order in let within = on.within in omega arith
+
+  abbrev deep : (h : ℕ) × Stands (tree_as kind s.tree) h × (depth ≤ h)
+  deep = standing_at tree a depth a_within on.deep
+
+  abbrev t : Tree
+  t = tree_as kind s.tree
+
+  at_step : (i : ℕ) → i ≤ greatest s.tree.table.width → step_at (path_in s.tree.table s.tree.root i) depth ≡ step_in s.tree.table (row_at t depth i) i
+  at_step i within = step t deep.0 deep.1 i depth within deep.2
+
+  pub way_deep : {way : List PathStep} (i : ℕ) → i ≤ greatest s.tree.table.width → way ≡ path_in s.tree.table s.tree.root i → depth < length way
+  way_deep i within is = let long = ap length is ∙ levels t deep.0 deep.1 i within in let low = deep.2 in omega arith
+
+  b_ends : (row_at t depth b).last ≡ b
+  b_ends = sym (ap (λ (z : PathStep). z.max) (at_step b on.within)) ∙ on.ends
+
+  -- the rows from an index on begin with its row
+  rows_head : (i : ℕ) → i ≤ b → (rest : List ℕ) × (numbers_between s.tree depth i b ≡ number_of (row_at t depth i) ∷ rest)
+  rows_head i low = let head = head_between t deep.0 deep.1 i b depth low on.within deep.2 in (map number_of head.0, ap (map number_of) head.1)
+
+  pub stretch_first_may : {s₁ : Sheet} {way : List PathStep} {step : PathStep} → OnlyReads s s₁ → way ≡ path_in s.tree.table s.tree.root a → step ≡ step_at way depth → MayBeBuried s₁ book step.row number
+  stretch_first_may {s₁} {way} {step} reads way_is is =
+      let head = rows_head a on.order in
+      let row : step.row ≡ number_of (row_at t depth a) = ap (λ (z : PathStep). z.row) (is ∙ (ap (λ (l : List PathStep). step_at l depth) way_is ∙ at_step a a_within)) in
+      subst (λ (n : ℕ). MayBeBuried s₁ book n number) (sym row) (may_first (may_then reads (subst (λ (l : List ℕ). MayBuryAll s book l number) head.1 may)))
+
+  pub stretch_first : {s₁ s₂ : Sheet} {book₂ : Book} {way : List PathStep} {step : PathStep} → OnlyReads s s₁ → way ≡ path_in s.tree.table s.tree.root a → step ≡ step_at way depth → s₂ ≡ after_bury s₁ step.row → book₂ ≡ after_retire book step.row number
+      → IsStretchSoFar s s₂ book book₂ depth a b number way step
+  stretch_first {s₁} {s₂} {book₂} {way} {step} reads way_is is sheet_is book_is =
+      let there = is ∙ (ap (λ (l : List PathStep). step_at l depth) way_is ∙ at_step a a_within) in
+      let max = ap (λ (z : PathStep). z.max) there in
+      let at = place t deep.0 deep.1 a depth a_within deep.2 in let from = at.from in let to = at.to in
+      let end = fills_le (high_of t depth a) (top_of t + 1) at.back at.after in
+      let sides = sides_same t deep.0 deep.1 a (row_at t depth a).last depth a_within deep.2 (omega arith) (omega arith) in
+      let rows : numbers_between s.tree depth a step.max ≡ step.row ∷ [] =
+      ap (numbers_between s.tree depth a) max
+      ∙ (ap (map number_of) (same_between t deep.0 deep.1 a a a (row_at t depth a).last depth (omega arith) a_within deep.2 (omega arith) (omega arith) refl sides.2 ∙ one_between t deep.0 deep.1 a depth a_within deep.2)
+      ∙ ap (λ (z : PathStep). z.row ∷ []) (sym there)) in
+      record {
+        index = a;
+        first = omega arith;
+        within = a_within;
+        way_is = way_is;
+        step_is = is;
+        order = let ends = ends_by t deep.0 deep.1 a b depth on.order on.within deep.2 b_ends in omega arith;
+        buried = subst (λ (l : List ℕ). AreBuriedAll s s₂ book book₂ l number) (sym rows) (more_buried [] (step.row ∷ []) (reads_buried reads) (one_buried sheet_is book_is));
+      }
+
+  module _ {s₁ : Sheet} {book₁ : Book} {way : List PathStep} {st : PathStep} (far : IsStretchSoFar s s₁ book book₁ depth a b number way st) where
+    same_far : SameTree kind deep.0 s.tree s₁.tree
+    same_far = tree_then deep.1 far.buried
+
+    pub far_tree : IsTreeOf s₁.tree kind
+    far_tree = same_kind same_far tree
+
+    pub far_path : (i : ℕ) × (i ≤ greatest s₁.tree.table.width) × (way ≡ path_in s₁.tree.table s₁.tree.root i)
+    far_path = (far.index, subst (λ (v : Width). far.index ≤ greatest v) (sym same_far.width) far.within, far.way_is ∙ sym (path_same same_far far.index far.within))
+
+    pub far_deep : depth < length way
+    far_deep = way_deep far.index far.within far.way_is
+
+    abbrev z : Span
+    z = row_at t depth far.index
+
+    step_there : st ≡ step_in s.tree.table z far.index
+    step_there = far.step_is ∙ (ap (λ (l : List PathStep). step_at l depth) far.way_is ∙ at_step far.index far.within)
+
+    max_there : st.max ≡ z.last
+    max_there = ap (λ (p : PathStep). p.max) step_there
+
+    pub far_less : st.max < b → (step_at way depth).max < greatest s₁.tree.table.width
+    far_less more = subst (λ (v : Width). (step_at way depth).max < greatest v) (sym same_far.width) (let same = ap (λ (p : PathStep). p.max) far.step_is in let within = on.within in omega arith)
+
+    -- the step to the right goes, and leads to the next row
+    pub next_deep : st.max < b → {way' : List PathStep} → way' ≡ path_in s₁.tree.table s₁.tree.root ((step_at way depth).max + 1) → depth < length way'
+    next_deep more leads =
+        let same = ap (λ (p : PathStep). p.max) far.step_is in let within = on.within in
+        let inside : (step_at way depth).max + 1 ≤ greatest s.tree.table.width = omega arith in
+        way_deep ((step_at way depth).max + 1) inside (leads ∙ path_same same_far ((step_at way depth).max + 1) inside)
+
+    module _ (more : st.max < b) {s₂ : Sheet} {way' : List PathStep} {st' : PathStep} (reads : OnlyReads s₁ s₂) (leads : way' ≡ path_in s₁.tree.table s₁.tree.root ((step_at way depth).max + 1)) (is : st' ≡ step_at way' depth) where
+      abbrev n : ℕ
+      n = high_of t depth far.index
+
+      n_is : (step_at way depth).max + 1 ≡ n
+      n_is = let same = ap (λ (p : PathStep). p.max) far.step_is in let max = max_there in omega arith
+
+      n_low : n ≤ b
+      n_low = let max = max_there in omega arith
+
+      n_within : n ≤ greatest s.tree.table.width
+      n_within = let low = n_low in let within = on.within in omega arith
+
+      way_there : way' ≡ path_in s.tree.table s.tree.root n
+      way_there = leads ∙ (ap (path_in s₁.tree.table s₁.tree.root) n_is ∙ path_same same_far n n_within)
+
+      next_there : st' ≡ step_in s.tree.table (row_at t depth n) n
+      next_there = is ∙ (ap (λ (l : List PathStep). step_at l depth) way_there ∙ at_step n n_within)
+
+      z_holds : far.index ≤ z.last
+      z_holds = (place t deep.0 deep.1 far.index depth far.within deep.2).to
+
+      -- the rows up to the step, the next one, and the rest
+      rows_split : (rest : List ℕ) × (numbers_between s.tree depth a b ≡ numbers_between s.tree depth a st.max ++ (st'.row ∷ rest))
+      rows_split =
+          let head = rows_head n n_low in
+          let at = place t deep.0 deep.1 far.index depth far.within deep.2 in let from = at.from in let to = at.to in
+          let end = fills_le n (top_of t + 1) at.back at.after in let first = far.first in
+          let sides = sides_same t deep.0 deep.1 far.index z.last depth far.within deep.2 (omega arith) (omega arith) in
+          let up_to : between a far.index (rows_at t depth) ≡ between a st.max (rows_at t depth) =
+          sym (ap (λ (m : ℕ). between a m (rows_at t depth)) max_there ∙ same_between t deep.0 deep.1 a far.index a z.last depth far.first far.within deep.2 (omega arith) (omega arith) refl sides.2) in (
+            head.0,
+            ap (map number_of) (split_between t deep.0 deep.1 far.index b depth far.within on.within deep.2 n_low a far.first)
+                ∙ (map-append number_of (between a far.index (rows_at t depth)) (between n b (rows_at t depth))
+                ∙ (λ m. map number_of (up_to m) ++ (head.1 ∙ ap (λ (p : PathStep). p.row ∷ head.0) (sym next_there)) m)),
+          )
+
+      pub stretch_next_may : MayBeBuried s₂ book₁ st'.row number
+      stretch_next_may = may_first (may_then reads (may_later (numbers_between s.tree depth a st.max) (st'.row ∷ rows_split.0) (subst (λ (l : List ℕ). MayBuryAll s book l number) rows_split.1 may) far.buried))
+
+      pub stretch_later : st.max < st'.max
+      stretch_later =
+          let max = max_there in let max' = ap (λ (p : PathStep). p.max) next_there in
+          let to = (place t deep.0 deep.1 n depth n_within deep.2).to in omega arith
+
+      pub stretch_next : {s₃ : Sheet} {book₃ : Book} → s₃ ≡ after_bury s₂ st'.row → book₃ ≡ after_retire book₁ st'.row number → IsStretchSoFar s s₃ book book₃ depth a b number way' st'
+      stretch_next {s₃} {book₃} sheet_is book_is =
+          let max' = ap (λ (p : PathStep). p.max) next_there in let first = far.first in let holds = z_holds in
+          let rows : numbers_between s.tree depth a st'.max ≡ numbers_between s.tree depth a st.max ++ (st'.row ∷ []) =
+          ap (numbers_between s.tree depth a) max'
+          ∙ (ap (map number_of) (next_between t deep.0 deep.1 a far.index depth far.first far.within deep.2 n_within)
+          ∙ (map-append number_of (between a z.last (rows_at t depth)) (row_at t depth n ∷ [])
+          ∙ (λ m. map number_of (between a (sym max_there m) (rows_at t depth)) ++ ((sym next_there m).row ∷ [])))) in
+          record {
+            index = n;
+            first = omega arith;
+            within = n_within;
+            way_is = way_there;
+            step_is = is;
+            order = let ends = ends_by t deep.0 deep.1 n b depth n_low on.within deep.2 b_ends in omega arith;
+            buried = subst (λ (l : List ℕ). AreBuriedAll s s₃ book book₃ l number) (sym rows)
+                (more_buried (numbers_between s.tree depth a st.max) (st'.row ∷ []) far.buried (more_buried [] (st'.row ∷ []) (reads_buried reads) (one_buried sheet_is book_is)));
+          }

@@ -1,0 +1,29 @@
+-- How a level goes on, told by cases.
+use Rattle.std.proofs.Common.{◌≡◌, ℕ, List, refl}
+use Rattle.mt_base.specs.declared.widths.Width.{Width}
+use Rattle.mt_free.specs.Book.{Book}
+use Rattle.mt_layout.specs.declared.items.Item.{Item}
+use Rattle.mt_layout.specs.declared.names.RowKind.{RowKind}
+use Rattle.mt_path.specs.declared.paths.PathStep.{PathStep}
+use Rattle.mt_rows.specs.Sheet.{Sheet}
+use Rattle.mt_splice.specs.declared.climbing.Climb.{Climb}
+use Rattle.mt_splice.specs.declared.decisions.Next.{Next}
+use Rattle.mt_splice.specs.declared.decisions.Next.TheVariants.{Empty, Root, RootAbove, Slot, Up}
+use Rattle.mt_splice.specs.steps.Climbing.{IsLevelDrafted, IsLevelDone}
+use Rattle.mt_splice.specs.steps.Decisions.{IsNothing, IsNext}
+use Rattle.mt_splice.specs.steps.Progress.{Before}
+use Rattle.mt_splice.specs.steps.Work.{Start}
+
+pub some_left : {width : Width} {left right : List PathStep} {depth : ℕ} {kind : RowKind} {items : List Item} (pieces : ℕ) (next : Next) → (next ≡ Empty → ⊥) → IsNext width left right depth kind items pieces next → IsNothing width left right depth kind items → ⊥
+some_left pieces Empty some goes = absurd (some refl)
+some_left pieces Root some goes = goes.0
+some_left pieces RootAbove some goes = goes.0
+some_left pieces Slot some goes = goes.0
+some_left pieces Up some goes = goes.0
+
+pub drafted_is_done : {b : Before} {start : Start} {s : Sheet} {book : Book} {depth : ℕ} {c : Climb} {new : List Item} (next : Next) → (next ≡ Empty → ⊥) → IsLevelDrafted b start s book depth c new next → IsLevelDone b start s book depth c new next
+drafted_is_done Empty some drafted = absurd (some refl)
+drafted_is_done Root some drafted = drafted
+drafted_is_done RootAbove some drafted = drafted
+drafted_is_done Slot some drafted = drafted
+drafted_is_done Up some drafted = drafted

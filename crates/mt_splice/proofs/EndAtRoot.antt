@@ -1,0 +1,47 @@
+-- Where one row is the root, or nothing is left: the law of gaps then, and that nothing takes the tree's place.
+use Rattle.std.proofs.Common.{◌≡◌, suc, ◌++◌, Some, None, length, ap, ◌∙◌, subst, arith}
+use Rattle.mt_free.specs.Book.{Book}
+use Rattle.mt_rows.specs.declared.rows.Place.TheVariants.{Root}
+use Rattle.mt_rows.specs.Laws.{GapLaw}
+use Rattle.mt_rows.specs.Levels.{Levels}
+use Rattle.mt_rows.specs.Publish.{tree_as, with_published}
+use Rattle.mt_rows.specs.Sheet.{Sheet}
+use Rattle.mt_splice.specs.declared.climbing.Climb.{Climb}
+use Rattle.mt_splice.specs.declared.climbing.Top.{Top}
+use Rattle.mt_splice.specs.steps.Burials.{AreBuriedAll, numbers_in_all}
+use Rattle.mt_splice.specs.steps.Climbing.{HasClimbed, EndsEmpty, EndsAtRoot}
+use Rattle.mt_splice.specs.steps.Ledgers.{was_taken, work_of}
+use Rattle.mt_splice.specs.steps.Plans.{AreAllHeld, IsPlanned, gone_above, gone_by, taken_by}
+use Rattle.mt_splice.specs.steps.Progress.{Before, is_taken}
+use Rattle.mt_splice.specs.steps.Replaced.{IsReplaced}
+use Rattle.mt_splice.specs.steps.Seen.{passing}
+use Rattle.mt_splice.specs.steps.Telling.{AreAllFromBelow}
+use Rattle.mt_splice.specs.steps.Told.{GapsBeside}
+use Rattle.mt_splice.specs.steps.Work.{Start, Work, tree_with}
+use Rattle.mt_splice.proofs.EndForms as forms
+use Rattle.mt_splice.proofs.EndGaps.{root_laws}
+use Rattle.mt_splice.proofs.Ended.{taken, gone, ledger_then, held_then, holds_then, passing_all, root_level}
+use Rattle.mt_splice.proofs.LayerGaps.{planned_tell}
+use Rattle.mt_splice.proofs.Ledgers.{beside_of}
+use Rattle.mt_splice.proofs.ToldRows.{gaps_were}
+
+module _ {b : Before} {start : Start} {s s' : Sheet} {book book' : Book} {c : Climb} {top : Top} (hc : HasClimbed b start s book c top) (done : AreBuriedAll s s' book book' (numbers_in_all s.tree start.height c.windows.items) b.number) where
+  abbrev w : Work
+  w = work_of b s' (taken hc) (gone hc)
+
+  pub root_keeps_gaps : (e : EndsAtRoot start hc.layers hc.root hc.over top) → GapsBeside start (is_taken w) (tree_as b.kind (with_published s'.tree Root e.x.word)) (Some (length e.lower))
+  root_keeps_gaps e =
+      let planned = subst (IsPlanned start) e.are hc.planned in
+      let low = planned.0.low in
+      let laws = (planned_tell (beside_of start w (holds_then hc done)) (gaps_were hc.case.was hc.stands) e.l e.lower planned (subst (AreAllFromBelow start) e.are hc.told)
+      (subst (AreAllHeld start s'.tree.table.words (was_taken (taken hc))) e.are (held_then hc done)) (omega arith)).laws in
+      forms.gaps_at_root hc.case.was (ledger_then hc done) (is_taken w) (Some (length e.lower)) e.x.word
+      (λ index _ _. root_laws (is_taken w) index start w (length e.lower) e.x e.first e.last (subst (Levels (GapLaw (tree_with start.tree s'.tree.table.words)) (tree_with start.tree s'.tree.table.words).table (length e.lower)) (root_level hc done e) laws))
+
+  -- nothing is left
+  pub nothing_replaces : EndsEmpty start hc.layers hc.root hc.over top → IsReplaced start.tree (tree_as b.kind (with_published s'.tree Root 0)) start.map (taken hc) (gone hc) (Some start.height) None
+  nothing_replaces e =
+      forms.ends_empty hc.case.was (ledger_then hc done) e.none (λ i. e.no_root i ++ taken_by start (e.no_layers i))
+      (λ p.
+      let gone_is : gone hc ≡ gone_above start (suc start.height) = λ i. gone_by start (e.no_layers i) ++ gone_above start (e.all i) in
+      ap (passing p) gone_is ∙ passing_all start p)

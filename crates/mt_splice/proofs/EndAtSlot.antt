@@ -1,0 +1,175 @@
+-- Where one row takes the place of one, in a slot of the row above: the slot, the law of gaps, and what the row there tells.
+use Rattle.std.proofs.Common.{[], ◌≡◌, ℕ, suc, List, ◌∷◌, ◌++◌, false, true, Some, length, refl, sym, ap, ◌∙◌, subst, arith, append-nil}
+use Rattle.mt_base.specs.Call.{finds_room}
+use Rattle.mt_free.specs.Book.{Book}
+use Rattle.mt_layout.specs.declared.items.Item.{Item}
+use Rattle.mt_layout.specs.declared.names.RowKind.{RowKind}
+use Rattle.mt_layout.specs.declared.names.RowKind.TheVariants.{Gapped}
+use Rattle.mt_layout.specs.declared.spans.Span.{Span}
+use Rattle.mt_layout.specs.Rows.{row_in}
+use Rattle.mt_layout.specs.Spans.{spans_from}
+use Rattle.mt_path.specs.declared.paths.PathStep.{PathStep}
+use Rattle.mt_path.specs.Paths.{step_in}
+use Rattle.mt_path.proofs.TreePaths.{place}
+use Rattle.mt_rows.specs.declared.rows.Place.{Place}
+use Rattle.mt_rows.specs.declared.rows.Place.TheVariants.{Slot}
+use Rattle.mt_rows.specs.Laws.{Tree, GapLaw, kind_on, longest_below}
+use Rattle.mt_rows.specs.Levels.{Levels, is_row_of, tally, times}
+use Rattle.mt_rows.specs.Publish.{StandsAt, tree_as, with_published}
+use Rattle.mt_rows.specs.Replacement.{IsSlotAt, root_of, with_child}
+use Rattle.mt_rows.specs.Sheet.{Sheet}
+use Rattle.mt_rows.specs.Spans.{inner_of}
+use Rattle.mt_rows.proofs.Heights.{level_next, times_split}
+use Rattle.mt_rows.proofs.Joins.{levels_shared}
+use Rattle.mt_rows.proofs.Lists.{tally-append}
+use Rattle.mt_rows.proofs.Reached.{one_of_parts, stands_at, times_in_once}
+use Rattle.mt_splice.specs.declared.climbing.Climb.{Climb}
+use Rattle.mt_splice.specs.declared.climbing.Top.{Top}
+use Rattle.mt_splice.specs.Splice.{TellsBelow}
+use Rattle.mt_splice.specs.steps.Burials.{AreBuriedAll, numbers_in_all}
+use Rattle.mt_splice.specs.steps.Climbing.{HasClimbed, EndsInSlot}
+use Rattle.mt_splice.specs.steps.Endings.{column_of, words_of}
+use Rattle.mt_splice.specs.steps.Ends.{IsEndPlace}
+use Rattle.mt_splice.specs.steps.Ledgers.{was_taken, work_of}
+use Rattle.mt_splice.specs.steps.Plans.{AreAllHeld, begin_at, gone_above, gone_by, heads_at}
+use Rattle.mt_splice.specs.steps.Progress.{Before, is_taken}
+use Rattle.mt_splice.specs.steps.Replaced.{IsReplaced}
+use Rattle.mt_splice.specs.steps.Seen.{passing}
+use Rattle.mt_splice.specs.steps.Telling.{AreAllFromBelow}
+use Rattle.mt_splice.specs.steps.Told.{GapsBeside, TellGaps}
+use Rattle.mt_splice.specs.steps.Windows.{before, behind, high_of, in_place, low_of, row_at}
+use Rattle.mt_splice.specs.steps.Work.{Start, Work, rows_at, tree_with}
+use Rattle.mt_splice.proofs.EndForms as forms
+use Rattle.mt_splice.proofs.Ended.{taken, gone, ledger_then, planned, high, within, old_beside, tree_stands, has, same_levels, words, held_stored, stand_below, x_is, level_is, slot_replaces}
+use Rattle.mt_splice.proofs.LayerGaps.{KeepGaps, each_old, old_laws, planned_tell}
+use Rattle.mt_splice.proofs.Moments.{old_shared}
+use Rattle.mt_splice.proofs.SlotGaps.{gaps_after}
+use Rattle.mt_splice.proofs.SlotStores.{beside_then, is_slot, level_new}
+use Rattle.mt_splice.proofs.ToldRows.{gaps_were}
+use Rattle.mt_splice.proofs.Written.{counts_itself}
+use Rattle.mt_splice.proofs.Ended.{holds_then}
+
+one_begins : (x : Span) (gap lo : ℕ) (items : List Item) → items ≡ record { last = x.last; word = x.word; gap = gap } ∷ [] → spans_from lo items ≡ x ∷ [] → lo ≡ x.first
+one_begins x gap lo items are spans =
+    let same : x ∷ [] ≡ record { first = lo; last = x.last; word = x.word } ∷ [] = sym spans ∙ ap (spans_from lo) are in
+    let here : x ≡ record { first = lo; last = x.last; word = x.word } = cc in
+    sym (ap (λ (y : Span). y.first) here)
+
+module _ {b : Before} {start : Start} {s s' : Sheet} {book book' : Book} {c : Climb} {top : Top} (hc : HasClimbed b start s book c top) (done : AreBuriedAll s s' book book' (numbers_in_all s.tree start.height c.windows.items) b.number)
+    (e : EndsInSlot start hc.layers hc.root hc.over top) where
+  abbrev t : Tree
+  t = start.tree
+
+  abbrev w : Work
+  w = work_of b s' (taken hc) (gone hc)
+
+  abbrev T : Tree
+  T = tree_with t s'.tree.table.words
+
+  abbrev T' : Tree
+  T' = tree_with t (words hc done e)
+
+  abbrev h : ℕ
+  h = length e.lower
+
+  abbrev i : ℕ
+  i = e.l.from
+
+  abbrev parent : Span
+  parent = row_at t e.depth i
+
+  abbrev replaced : Span
+  replaced = row_at t (suc e.depth) i
+
+  abbrev step : PathStep
+  step = step_in t.table parent i
+
+  its_slot : IsSlotAt T e.depth parent step.slot replaced
+  its_slot = is_slot (old_beside hc done e) (tree_stands hc done e) (has hc done e) (same_levels hc done e) i e.depth h (within hc done e) (high hc done e) e.x.word
+
+  level_then : rows_at T' (suc e.depth) ≡ in_place t (suc e.depth) i i (with_child replaced e.x.word ∷ [])
+  level_then = level_new (old_beside hc done e) (tree_stands hc done e) (has hc done e) (same_levels hc done e) i e.depth h (within hc done e) (high hc done e) e.x.word
+
+  -- ---- the place
+
+  gone_is : gone hc ≡ gone_by start (e.l ∷ e.lower)
+  gone_is = (λ m. gone_by start (e.are m) ++ gone_above start (e.none m)) ∙ append-nil (gone_by start (e.l ∷ e.lower))
+
+  -- its row is not gone
+  row_stays : passing (is_row_of step.row) (gone hc) ≡ 0
+  row_stays =
+      let p = is_row_of step.row in
+      let levels = high hc done e in
+      let at = place t start.height hc.stands i e.depth (within hc done e) (omega (arith, levels)) in
+      let once = times_in_once t start.height hc.stands step.row in
+      let split = times_split p t.table e.depth (suc h) start.height (root_of t) levels in
+      let parts = ap (tally (p (suc h))) at.parts ∙ tally-append (p (suc h)) at.front (parent ∷ at.back) in
+      let itself = counts_itself (suc h) parent in
+      let next = ap (times p t.table h) (level_next t.table e.depth (root_of t)) in
+      let were = (stand_below hc done e).were p in
+      let deep = ap (λ (d : ℕ). times p t.table h (rows_at t d)) e.above in
+      let all = ap (passing p) gone_is in
+      omega arith
+
+  -- ---- the tree
+
+  both : IsReplaced t (tree_as b.kind (with_published s'.tree (Slot step.row (column_of T (kind_on t.gapped (suc h)) step)) e.x.word)) start.map (taken hc) (gone hc) (Some start.height) (Some start.height)
+      × IsEndPlace start w (Some start.height) (Slot step.row (column_of T (kind_on t.gapped (suc h)) step))
+  both = forms.ends_in_slot hc.case.was (ledger_then hc done) e.depth h e.x.word step (high hc done e) (record { row = parent; child = replaced; at = its_slot; number = refl }) row_stays (slot_replaces hc done e)
+
+  pub in_slot_replaces : IsReplaced t (tree_as b.kind (with_published s'.tree top.place top.word)) start.map (taken hc) (gone hc) (Some start.height) (Some start.height)
+  in_slot_replaces = subst (λ (q : Place × ℕ). IsReplaced t (tree_as b.kind (with_published s'.tree q.0 q.1)) start.map (taken hc) (gone hc) (Some start.height) (Some start.height)) (λ m. (sym e.place m, sym e.word m)) both.0
+
+  pub slot_is_place : IsEndPlace start w (Some start.height) top.place
+  slot_is_place = subst (IsEndPlace start w (Some start.height)) (sym e.place) both.1
+
+  -- ---- the law of gaps
+
+  tell : KeepGaps start T' e.l e.lower
+  tell = planned_tell (beside_then (old_beside hc done e) (tree_stands hc done e) (has hc done e) (same_levels hc done e) i e.depth h (within hc done e) (high hc done e) e.x.word) (gaps_were hc.case.was hc.stands) e.l e.lower (planned hc done e)
+      (subst (AreAllFromBelow start) e.are hc.told) (subst (AreAllHeld start (words hc done e) (was_taken (taken hc))) e.are (held_stored hc done e)) (let above = e.above in omega arith)
+
+  laws_then : Levels (GapLaw T') T'.table h (rows_at T' (suc e.depth))
+  laws_then = subst (Levels (GapLaw T') T'.table h) (level_is hc done e ∙ sym level_then) tell.laws
+
+  laws_before : Levels (GapLaw T) T.table start.height (root_of T)
+  laws_before = old_laws (old_beside hc done e) (gaps_were hc.case.was hc.stands) start.height 0 (omega arith) (omega arith)
+
+  none_new : Levels (λ (_ : ℕ) (y : Span). was_taken (taken hc) (row_in y.word) ≡ false) T.table start.height (root_of T)
+  none_new =
+      levels_shared (λ (_ : ℕ) (y : Span). was_taken (taken hc) (row_in y.word) ≡ false) t.table T.table start.height (root_of t) (old_shared start w (holds_then hc done))
+      (each_old (old_beside hc done e) (gaps_were hc.case.was hc.stands) (λ (_ : ℕ) (y : Span). was_taken (taken hc) (row_in y.word) ≡ false) (λ _ y o. o.old) start.height 0 (omega arith) (omega arith))
+
+  gaps_at : GapsBeside start (was_taken (taken hc)) T' (Some start.height)
+  gaps_at index from to =
+      let levels = high hc done e in let inside = within hc done e in let g = (planned hc done e).0.gathered in
+      let begins = g.first in let ends = g.last in let first = ap (λ (d : ℕ). low_of t d i) e.above in let last = ap (λ (d : ℕ). high_of t d e.l.to) e.above in let same = ap (λ (z : Span). z.last) e.same in
+      gaps_after T start.height h e.depth step.slot e.x.word index parent replaced (has hc done e) (tree_stands hc done e) (high hc done e) its_slot (omega arith) (omega arith) (was_taken (taken hc)) laws_before none_new laws_then
+
+  pub in_slot_gaps : GapsBeside start (is_taken w) (tree_as b.kind (with_published s'.tree top.place top.word)) (Some start.height)
+  in_slot_gaps =
+      subst (λ (q : Place × ℕ). GapsBeside start (is_taken w) (tree_as b.kind (with_published s'.tree q.0 q.1)) (Some start.height)) (λ m. (sym e.place m, sym e.word m))
+      (forms.gaps_in_slot hc.case.was (ledger_then hc done) (is_taken w) h e.x.word step (Some start.height) gaps_at)
+
+  -- ---- what the row there tells
+
+  x_begins : begin_at start h e.l ≡ e.x.first
+  x_begins = one_begins e.x top.gap (begin_at start h e.l) (heads_at start h e.l) e.tells e.one
+
+  gap_is : finds_room b.kind ≡ true → top.gap ≡ longest_below T'.table h (e.x ∷ [])
+  gap_is gapped =
+      let kinds : inner_of t.gapped ≡ Gapped = ap (λ (y : Tree). inner_of y.gapped) hc.case.was.tree ∙ ap inner_of gapped in
+      let one : Item = record { last = e.x.last; word = e.x.word; gap = top.gap } in
+      let gaps : top.gap ∷ [] ≡ longest_below T'.table h (e.x ∷ []) ∷ [] =
+      subst (λ (q : (RowKind × ℕ) × List Item). TellGaps q.0.0 T'.table h q.0.1 q.1) (λ m. ((kinds m, x_begins m), e.tells m)) tell.heads in
+      cc
+
+  pub in_slot_tells : TellsBelow b.kind (with_published s'.tree top.place top.word) top.word top.gap
+  in_slot_tells =
+      let levels = high hc done e in
+      let level_holds : rows_at T' (suc e.depth) ≡ before i (rows_at t (suc e.depth)) ++ (e.x ∷ behind i (rows_at t (suc e.depth))) =
+      level_then ∙ (λ m. before i (rows_at t (suc e.depth)) ++ (sym (x_is hc done e) m ∷ behind i (rows_at t (suc e.depth)))) in
+      let stands : StandsAt (words_of T') h e.x =
+      stands_at T' start.height (slot_replaces hc done e).stands (suc e.depth) h e.x (omega arith) (one_of_parts (rows_at T' (suc e.depth)) (before i (rows_at t (suc e.depth))) (behind i (rows_at t (suc e.depth))) e.x level_holds) in
+      subst (λ (q : Place × ℕ). TellsBelow b.kind (with_published s'.tree q.0 q.1) q.1 top.gap) (λ m. (sym e.place m, sym e.word m))
+      (forms.tells_in_slot hc.case.was (ledger_then hc done) h e.x.word top.gap step (record { height = h; row = e.x; stands = stands; named = refl; longest = gap_is }))

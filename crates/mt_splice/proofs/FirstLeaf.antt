@@ -1,0 +1,179 @@
+-- The first leaf of an empty tree, drafted, may be published as its root.
+use Rattle.std.proofs.Common.{◌≡◌, ℕ, ◌+◌, ◌-◌, ◌<◌, ◌≤◌, List, [], ◌∷◌, Some, None, true, length, take, refl, sym, ap, ◌∙◌, subst, arith}
+use Rattle.std.specs.List.{flat_map}
+use Rattle.std.specs.Prelude.{◌≢◌, All, Any}
+use Rattle.std.proofs.Math.Seq.{take-length}
+use Rattle.mt_base.specs.declared.calls.Call.{Call}
+use Rattle.mt_base.specs.declared.kinds.Kind.{Kind}
+use Rattle.mt_base.specs.declared.replies.Reply.{Reply}
+use Rattle.mt_free.specs.Book.{Book}
+use Rattle.mt_layout.specs.declared.items.Item.{Item}
+use Rattle.mt_layout.specs.declared.names.RowKind.{RowKind}
+use Rattle.mt_layout.specs.declared.names.RowKind.TheVariants.{Leaf}
+use Rattle.mt_layout.specs.declared.spans.Span.{Span}
+use Rattle.mt_layout.specs.Columns.{RiseFrom, end_of}
+use Rattle.mt_layout.specs.Rows.{name_at, row_in}
+use Rattle.mt_layout.specs.Sizes.{slots_of}
+use Rattle.mt_layout.specs.Spans.{leaf_range, spans_from}
+use Rattle.mt_layout.proofs.NameLaws.{row_in-name_at}
+use Rattle.mt_layout.proofs.RowSizes.{sizes}
+use Rattle.mt_layout.proofs.SpanLists.{after, fills_after, fills_end, fills_rise, length-spans_from}
+use Rattle.mt_path.specs.declared.paths.PathStep.{PathStep}
+use Rattle.mt_rows.specs.declared.rows.Place.TheVariants.{Root}
+use Rattle.mt_rows.specs.Laws.{Tree, IsRow, top_of}
+use Rattle.mt_rows.specs.Levels.{expand, map_of, tally}
+use Rattle.mt_rows.specs.Sheet.{IsFree, IsWhole, Sheet, life_of}
+use Rattle.mt_splice.specs.declared.writes.NewRow.{NewRow}
+use Rattle.mt_splice.specs.Fewest.{FewestBelow}
+use Rattle.mt_splice.specs.Splice.{MaySplice}
+use Rattle.mt_splice.specs.steps.Drafting.{AreRowsTaken, IsPieceDrafted, IsRowTaken}
+use Rattle.mt_splice.specs.steps.Endings.{with_root}
+use Rattle.mt_splice.specs.steps.Ends.{MayPublishEnd}
+use Rattle.mt_splice.specs.steps.Entries.{IsFirst}
+use Rattle.mt_splice.specs.steps.Layers.{AreHeld, part_of}
+use Rattle.mt_splice.specs.steps.Ledgers.{IsLedger, was_taken, work_of}
+use Rattle.mt_splice.specs.steps.Progress.{Before, is_taken}
+use Rattle.mt_splice.specs.steps.Replaced.{IsReplaced}
+use Rattle.mt_splice.specs.steps.Runs.{MayBeCut}
+use Rattle.mt_splice.specs.steps.Seen.{Seen}
+use Rattle.mt_splice.specs.steps.Work.{Start, Work, tree_with}
+use Rattle.mt_splice.proofs.DraftedLedger.{held_then, ledger_then, width_then}
+use Rattle.mt_splice.proofs.EndForms.{ends_at_root, gaps_at_root}
+use Rattle.mt_splice.proofs.EndGaps.{root_laws}
+use Rattle.mt_splice.proofs.FewestRows.{one_new}
+use Rattle.mt_splice.proofs.LevelRows.{some_entry}
+use Rattle.mt_splice.proofs.LevelRuns.{AreParts}
+use Rattle.mt_splice.proofs.Parts.{held}
+use Rattle.mt_splice.proofs.RootEndings.{at_root, root_is, root_rows}
+use Rattle.mt_splice.proofs.Rooms.{still_free}
+use Rattle.mt_splice.proofs.SpliceBegins.{b₀, case₀, cut, empty_cut, hi, no_tree, nothing_done, stand, start₀, the_answer, tree₀}
+
+sub_none : (n : ℕ) → n - 0 ≡ n
+sub_none n = omega arith
+
+module _ {kind : Kind} {s : Sheet} {book : Book} {right : List PathStep} {items : List Item} {number : ℕ} {call : Call} {reply : Reply} (may : MaySplice kind s book [] right items number call reply) (whole : IsWhole s) where
+  abbrev top : ℕ
+  top = top_of (tree₀ may whole)
+
+  few : (1 ≤ length items) × (length items ≤ slots_of s.tree.table.width Leaf)
+  few =
+      let same = length-spans_from 0 items in let some = (cut may whole).some in let all = ap length may.edits in let most = (empty_cut may whole).2 in let wide = sizes s.tree.table.width Leaf in
+      (omega arith, omega (arith, wide.least, wide.some))
+
+  items_rise : RiseFrom 0 items
+  items_rise = fills_rise 0 (hi may whole) items (cut may whole).fills
+
+  items_enter : Any (λ (x : Item). x.word ≢ 0) items
+  items_enter = some_entry 0 items ((cut may whole).leaves refl).some
+
+  rows_spare : All (λ row. IsFree s.cleared (life_of s.lives row)) book.free
+  rows_spare = still_free (case₀ may whole 0 0).was (nothing_done whole may.kept)
+
+  module _ (from to : ℕ) {s' : Sheet} {book' : Book} {above : RowKind} {made' : List NewRow} {item : Item} (piece : IsPieceDrafted s s' book book' above Leaf 0 items [] made' item) where
+    abbrev start : Start
+    start = start₀ may whole from to
+
+    abbrev part : List Item
+    part = part_of items 0 (length items)
+
+    abbrev x : Span
+    x = record { first = 0; last = end_of 0 part; word = name_at piece.row Leaf }
+
+    abbrev seen : Seen
+    seen = record { height = 0; at = x }
+
+    part_is : part ≡ items
+    part_is = ap (λ (n : ℕ). take n items) (sub_none (length items)) ∙ take-length items
+
+    run : MayBeCut start.tree 0 0 (after 0 part) (spans_from 0 part)
+    run = subst (λ (p : ℕ × List Item). MayBeCut start.tree 0 0 p.0 (spans_from 0 p.1)) (λ i. ((fills_after 0 (hi may whole) items (cut may whole).fills ∙ ap (after 0) (sym part_is)) i, sym part_is i)) (cut may whole)
+
+    fits : length items ≤ 0 + slots_of s.tree.table.width Leaf
+    fits = let fit = few.1 in omega arith
+
+    parts : AreParts start.tree 0 0 items 0 (length items ∷ [])
+    parts = (record { some = few.0; within = omega arith; fit = fits; run = run }, refl)
+
+    are : AreRowsTaken Leaf items 0 (length items ∷ []) (piece.row ∷ []) s s' book book'
+    are = (s', book', subst (λ (l : List Item). IsRowTaken s s' book book' Leaf l piece.row) (sym part_is) piece.taken, (refl, refl))
+
+    ledger : IsLedger (b₀ may whole) s' book' (seen ∷ []) []
+    ledger = ledger_then (case₀ may whole from to).was 0 above Leaf items 0 0 (length items ∷ []) (piece.row ∷ []) (nothing_done whole may.kept) are
+
+    wide : s'.tree.table.width ≡ start.tree.table.width
+    wide = width_then (case₀ may whole from to).was 0 above Leaf items 0 (length items ∷ []) (piece.row ∷ []) s s' book book' are
+
+    abbrev T : Tree
+    T = tree_with start.tree s'.tree.table.words
+
+    abbrev w : Work
+    w = work_of (b₀ may whole) s' (seen ∷ []) []
+
+    row_held : AreHeld T (was_taken (seen ∷ [])) Leaf items 0 (length items ∷ []) (piece.row ∷ [])
+    row_held = held_then (case₀ may whole from to).was 0 above Leaf items refl 0 0 (length items ∷ []) (piece.row ∷ []) s s' book book' (nothing_done whole may.kept) are parts wide
+
+    holds : (expand T.table (x ∷ []) ≡ spans_from 0 items) × IsRow T 0 x
+    holds = let both = held T (was_taken (seen ∷ [])) 0 above Leaf refl items 0 0 (length items ∷ []) (piece.row ∷ []) parts_now refl row_held in (both.0, both.1.0.0)
+      where
+        parts_now : AreParts T 0 0 items 0 (length items ∷ [])
+        parts_now = (record { some = few.0; within = omega arith; fit = fits; run = record { fills = run.fills; some = run.some; few = run.few; least = run.least; fit = run.fit; leaves = λ leaf. let leaves = run.leaves leaf in record { ends = leaves.ends; some = leaves.some } } }, refl)
+
+    last : x.last ≡ top
+    last = ap (end_of 0) part_is ∙ (let some = few.0 in let ends = fills_end 0 0 (hi may whole) 0 items some (cut may whole).fills in omega arith)
+
+    names : was_taken (seen ∷ []) (row_in x.word) ≡ true
+    names = ap (was_taken (seen ∷ [])) (row_in-name_at piece.row Leaf) ∙ row_held.1
+
+    leaf_replaces : IsReplaced start.tree (with_root T x.word) start.map (seen ∷ []) [] None (Some 0)
+    leaf_replaces = record {
+      stands = record { low = omega arith; rows = root_rows start w x refl last 0 (holds.1, tt) };
+      ranges = ap (map_of T.table 0) (sym (at_root start w x refl last)) ∙ (ap (flat_map leaf_range) holds.0 ∙ stand may whole);
+      rows = λ p. let root = ap (λ (y : Span). tally (p 0) (y ∷ [])) (root_is start.tree x refl last) in omega arith;
+      were = λ p. omega arith;
+      fewest = subst (FewestBelow (was_taken (seen ∷ [])) start.tree.gapped T.table 0) (at_root start w x refl last) (one_new (was_taken (seen ∷ [])) T.table Leaf x 0 items names holds.0 few.1);
+    }
+
+    first_ends : {inner : List NewRow} → inner ≡ made' → MayPublishEnd (b₀ may whole) start s' book' inner Root item.word call reply
+    first_ends {inner} same = subst (λ (n : ℕ). MayPublishEnd (b₀ may whole) start s' book' inner Root n call reply) (sym (ap (λ (y : Item). y.word) piece.up)) (record {
+      work = w;
+      old = None;
+      new = Some 0;
+      case = case₀ may whole from to;
+      progress = ledger;
+      few = omega arith;
+      answer = the_answer may whole;
+      holds = no_tree may whole;
+      replaced = ends_at_root (case₀ may whole from to).was ledger None (Some 0) x.word leaf_replaces;
+      gaps = gaps_at_root (case₀ may whole from to).was ledger (is_taken w) (Some 0) x.word (λ index _ _. root_laws (is_taken w) index start w 0 x refl last (tt, tt));
+      at = tt;
+      top = names;
+      inner_rows = same ∙ piece.noted;
+    })
+
+module _ {b : Before} {start : Start} {s : Sheet} {book : Book} {items : List Item} {call : Call} {reply : Reply} (first : IsFirst b start s book items call reply) (whole : IsWhole s) where
+  pub leaf_may_be_root : {s' : Sheet} {book' : Book} {above : RowKind} {made made' inner : List NewRow} {item : Item} → made ≡ [] → IsPieceDrafted s s' book book' above Leaf 0 items made made' item → inner ≡ made' → MayPublishEnd b start s' book' inner Root item.word call reply
+  leaf_may_be_root {s'} {book'} {above} {made} {made'} {inner} {item} none piece same =
+      subst (λ (x : Before × Start). MayPublishEnd x.0 x.1 s' book' inner Root item.word call reply) (λ i. (sym first.begun.before i, sym first.begun.start i))
+      (first_ends first.may whole start.first start.last (subst (λ (l : List NewRow). IsPieceDrafted s s' book book' above Leaf 0 items l made' item) none piece) same)
+
+  -- what a draft asks
+  pub one_free : 0 < length book.free
+  one_free = let room = first.may.room in omega arith
+
+  pub rows_are : book.rows ≡ s.tree.rows
+  rows_are = first.may.kept.booked.rows
+
+  pub all_spare : All (λ row. IsFree s.cleared (life_of s.lives row)) book.free
+  all_spare = rows_spare first.may whole
+
+  pub some_items : 1 ≤ length items
+  some_items = (few first.may whole).0
+
+  pub leaf_fits : length items ≤ slots_of s.tree.table.width Leaf
+  leaf_fits = (few first.may whole).1
+
+  pub leaf_rises : RiseFrom 0 items
+  leaf_rises = items_rise first.may whole
+
+  pub leaf_enters : Any (λ (x : Item). x.word ≢ 0) items
+  leaf_enters = items_enter first.may whole

@@ -1,0 +1,51 @@
+-- What today's ledger of a replacement tells: the old rows stand beside the new ones, and are read as they were.
+use Rattle.std.proofs.Common.{◌≡◌, ℕ, ◌+◌, ◌≤◌, false, nat_lt, refl, sym, ap, ◌∙◌, ⊎_elim, arith}
+use Rattle.mt_free.specs.Book.{Book}
+use Rattle.mt_layout.specs.declared.names.RowKind.{RowKind}
+use Rattle.mt_layout.specs.declared.spans.Span.{Span}
+use Rattle.mt_layout.specs.Rows.{row_in}
+use Rattle.mt_rows.specs.Spans.{Table}
+use Rattle.mt_rows.specs.Levels.{Levels, is_row_of}
+use Rattle.mt_rows.specs.Laws.{IsRow, top_of}
+use Rattle.mt_rows.specs.Replacement.{root_of}
+use Rattle.mt_rows.specs.Sheet.{Sheet}
+use Rattle.mt_rows.proofs.Heights.{level_rows, levels_pair}
+use Rattle.mt_rows.proofs.Reached.{OnLevel, on_level_reached}
+use Rattle.mt_path.specs.Paths.{path_in}
+use Rattle.mt_splice.specs.steps.Progress.{Before, IsBefore, IsProgress, is_taken}
+use Rattle.mt_splice.specs.steps.Seen.{passing}
+use Rattle.mt_splice.specs.steps.Work.{Start, Work, KeepsWords, Holds}
+use Rattle.mt_splice.specs.steps.Writes.{items_of_row}
+use Rattle.mt_splice.proofs.EndTrees.{none_or_some}
+use Rattle.mt_splice.proofs.EndLevels.{levels_each}
+use Rattle.mt_splice.proofs.Rises.{row_keeps_words}
+use Rattle.mt_splice.proofs.Steps.{table_now}
+use Rattle.mt_splice.specs.steps.Layers.{IsOld, Beside}
+use Rattle.mt_splice.specs.steps.Windows.{row_at}
+use Rattle.mt_splice.proofs.ReadsNow.{items_now}
+
+-- the tree's rows keep their words, and none of them was taken
+pub beside_of : (start : Start) (w : Work) → Holds start w → Beside start w.words (is_taken w) 0
+beside_of start w holds = record { stands = holds.stands; rows = λ d h levels low. level_rows (IsOld start w.words (is_taken w)) start.tree.table d h start.height (root_of start.tree) levels all }
+  where
+    not_new : (k : ℕ) (x : Span) → OnLevel start.tree.table start.height (root_of start.tree) k x → is_taken w (row_in x.word) ≡ false
+    not_new k x on =
+        ⊎_elim (λ (none : passing (is_row_of (row_in x.word)) w.taken ≡ 0). ap (nat_lt 0) none)
+        (λ (some : 1 ≤ passing (is_row_of (row_in x.word)) w.taken). let none = holds.taken (row_in x.word) some in let here = on_level_reached start.tree start.height holds.stands k x on in absurd (omega arith))
+        (none_or_some (passing (is_row_of (row_in x.word)) w.taken))
+
+    both : Levels (λ (h : ℕ) (x : Span). IsRow start.tree h x × KeepsWords start.tree start.tree.table.words w.words (row_in x.word)) start.tree.table start.height (root_of start.tree)
+    both = levels_pair (IsRow start.tree) (λ (h : ℕ) (x : Span). KeepsWords start.tree start.tree.table.words w.words (row_in x.word)) (λ (h : ℕ) (x : Span). IsRow start.tree h x × KeepsWords start.tree start.tree.table.words w.words (row_in x.word)) start.tree.table
+        (λ _ x row keeps. (row, keeps)) start.height (root_of start.tree) holds.stands.rows holds.words
+
+    all : Levels (IsOld start w.words (is_taken w)) start.tree.table start.height (root_of start.tree)
+    all = levels_pair (λ (h : ℕ) (x : Span). IsRow start.tree h x × KeepsWords start.tree start.tree.table.words w.words (row_in x.word)) (λ (h : ℕ) (x : Span). is_taken w (row_in x.word) ≡ false) (IsOld start w.words (is_taken w)) start.tree.table
+        (λ _ x rk old. record { row = rk.0; keeps = rk.1; old = old }) start.height (root_of start.tree) both
+        (levels_each (λ (_ : ℕ) (x : Span). is_taken w (row_in x.word) ≡ false) start.tree.table start.height (root_of start.tree) not_new)
+
+-- and the items of a row on the way to an index are read as they were
+pub items_by_ledger : {b : Before} {start : Start} {s : Sheet} {book : Book} {w : Work} → IsBefore b start → IsProgress b s book w → Holds start w → (i d h : ℕ) → i ≤ top_of start.tree → start.height ≡ d + h → (kind : RowKind) (max : ℕ)
+    → items_of_row s.tree.table kind (row_in (row_at start.tree d i).word) max ≡ items_of_row start.tree.table kind (row_in (row_at start.tree d i).word) max
+items_by_ledger {start = start} {w = w} before progress holds i d h within levels kind max =
+    ap (λ (t : Table). items_of_row t kind (row_in (row_at start.tree d i).word) max) (sym (table_now before progress))
+    ∙ items_now start.tree.table w.words kind (row_in (row_at start.tree d i).word) max (row_keeps_words start w holds (path_in start.tree.table start.tree.root i) i within refl d h levels)

@@ -1,0 +1,95 @@
+-- When the rows of a climb are drafted and those of its windows buried, one word may be published.
+use Rattle.std.proofs.Common.{◌≡◌, ℕ, suc, ◌+◌, List, [], ◌∷◌, true, Option, Some, None, length, refl, sym, ap, ◌∙◌, subst, ⊎_elim, arith}
+use Rattle.std.specs.List.{AllByRecursion}
+use Rattle.mt_base.specs.declared.calls.Call.{Call}
+use Rattle.mt_base.specs.declared.replies.Reply.{Reply}
+use Rattle.mt_free.specs.Book.{Book}
+use Rattle.mt_layout.specs.declared.spans.Span.{Span}
+use Rattle.mt_layout.specs.Rows.{name_at, row_in}
+use Rattle.mt_layout.proofs.NameLaws.{row_in-name_at}
+use Rattle.mt_rows.specs.declared.rows.Place.{Place}
+use Rattle.mt_rows.specs.declared.rows.Place.TheVariants.{Root, Slot}
+use Rattle.mt_rows.specs.Laws.{Tree}
+use Rattle.mt_rows.specs.Publish.{tree_as, with_published}
+use Rattle.mt_rows.specs.Sheet.{Rooted, Sheet}
+use Rattle.mt_rows.specs.Spans.{inner_of}
+use Rattle.mt_rows.specs.Trees.{height_in}
+use Rattle.mt_rows.proofs.Reached.{height_is}
+use Rattle.mt_splice.specs.declared.climbing.Climb.{Climb}
+use Rattle.mt_splice.specs.declared.climbing.Top.{Top}
+use Rattle.mt_splice.specs.Splice.{TellsAt, TellsBelow}
+use Rattle.mt_splice.specs.steps.Burials.{AreBuriedAll, numbers_in_all}
+use Rattle.mt_splice.specs.steps.Climbing.{HasClimbed, EndsEmpty, EndsAtRoot, EndsAbove, EndsInSlot}
+use Rattle.mt_splice.specs.steps.Ends.{IsEndPlace, IsTop, MayPublishEnd}
+use Rattle.mt_splice.specs.steps.Ledgers.{was_taken, work_of}
+use Rattle.mt_splice.specs.steps.Plans.{Layer, AreAllHeld, IsPlanned, level_of, new_at}
+use Rattle.mt_splice.specs.steps.Progress.{Before, is_taken}
+use Rattle.mt_splice.specs.steps.Replaced.{IsReplaced}
+use Rattle.mt_splice.specs.steps.Replacing.{IsAnswer}
+use Rattle.mt_splice.specs.steps.Told.{GapsBeside}
+use Rattle.mt_splice.specs.steps.Work.{Start, Work}
+use Rattle.mt_splice.proofs.EndAbove.{above_gaps, above_replaces, is_new}
+use Rattle.mt_splice.proofs.EndAtRoot.{nothing_replaces, root_keeps_gaps}
+use Rattle.mt_splice.proofs.EndAtSlot.{in_slot_gaps, in_slot_replaces, in_slot_tells, slot_is_place}
+use Rattle.mt_splice.proofs.Ended.{taken, gone, held_then, holds_then, ledger_then, made_then, root_replaces}
+use Rattle.mt_splice.proofs.Ledgers.{beside_of}
+use Rattle.mt_splice.proofs.Planned.{layer_new}
+
+module _ {b : Before} {start : Start} {s s' : Sheet} {book book' : Book} {c : Climb} {top : Top} (hc : HasClimbed b start s book c top) (done : AreBuriedAll s s' book book' (numbers_in_all s.tree start.height c.windows.items) b.number) where
+  abbrev w : Work
+  w = work_of b s' (taken hc) (gone hc)
+
+  tall : height_in b.sheet.tree.table b.sheet.tree.root ≡ start.height + 1
+  tall = ap (λ (t : Tree). height_in t.table t.root) (sym hc.case.was.tree) ∙ height_is start.tree start.height hc.stands
+
+  -- a new row was taken
+  one_taken : (l : Layer) (lower : List Layer) (x : Span) → hc.layers ≡ l ∷ lower → new_at start (length lower) l ≡ x ∷ [] → was_taken (taken hc) (row_in x.word) ≡ true
+  one_taken l lower x are one =
+      let planned = subst (IsPlanned start) are hc.planned in
+      let held = subst (AreAllHeld start s'.tree.table.words (was_taken (taken hc))) are (held_then hc done) in
+      (subst (AllByRecursion (λ (y : Span). was_taken (taken hc) (row_in y.word) ≡ true)) one (layer_new (beside_of start w (holds_then hc done)) (level_of start lower) (length lower) l planned.0 held.0).new_rows).0
+
+  module _ {call : Call} {reply : Reply} (answer : IsAnswer b start call reply) where
+    publish : (new : Option ℕ) → IsReplaced start.tree (tree_as b.kind (with_published s'.tree top.place top.word)) start.map (taken hc) (gone hc) (Some start.height) new
+        → GapsBeside start (is_taken w) (tree_as b.kind (with_published s'.tree top.place top.word)) new → IsEndPlace start w (Some start.height) top.place → IsTop w (Some start.height) new top.word → MayPublishEnd b start s' book' c.made.items top.place top.word call reply
+    publish new replaced gaps at names = record {
+      work = w;
+      old = Some start.height;
+      new = new;
+      case = hc.case;
+      progress = ledger_then hc done;
+      few = let high = tall in let few = hc.few in omega arith;
+      answer = answer;
+      holds = (refl, holds_then hc done);
+      replaced = replaced;
+      gaps = gaps;
+      at = at;
+      top = names;
+      inner_rows = made_then hc done;
+    }
+
+    at_root : (new : Option ℕ) (word : ℕ) → top.place ≡ Root → top.word ≡ word → IsReplaced start.tree (tree_as b.kind (with_published s'.tree Root word)) start.map (taken hc) (gone hc) (Some start.height) new
+        → GapsBeside start (is_taken w) (tree_as b.kind (with_published s'.tree Root word)) new → IsTop w (Some start.height) new word → MayPublishEnd b start s' book' c.made.items top.place top.word call reply
+    at_root new word place_is word_is replaced gaps names = publish new
+        (subst (λ (q : Place × ℕ). IsReplaced start.tree (tree_as b.kind (with_published s'.tree q.0 q.1)) start.map (taken hc) (gone hc) (Some start.height) new) (λ m. (sym place_is m, sym word_is m)) replaced)
+        (subst (λ (q : Place × ℕ). GapsBeside start (is_taken w) (tree_as b.kind (with_published s'.tree q.0 q.1)) new) (λ m. (sym place_is m, sym word_is m)) gaps)
+        (subst (IsEndPlace start w (Some start.height)) (sym place_is) tt) (subst (IsTop w (Some start.height) new) (sym word_is) names)
+
+    pub may_publish_end : MayPublishEnd b start s' book' c.made.items top.place top.word call reply
+    may_publish_end =
+        ⊎_elim (λ (e : EndsEmpty start hc.layers hc.root hc.over top). at_root None 0 e.place e.word (nothing_replaces hc done e) (λ index _ _. tt) refl)
+        (⊎_elim (λ (e : EndsAtRoot start hc.layers hc.root hc.over top). at_root (Some (length e.lower)) e.x.word e.place e.word (root_replaces hc done e) (root_keeps_gaps hc done e) (one_taken e.l e.lower e.x e.are e.one))
+        (⊎_elim
+        (λ (e : EndsAbove start s hc.layers hc.root hc.over top).
+        at_root (Some (suc start.height)) (name_at e.row (inner_of start.tree.gapped)) e.place e.word (above_replaces hc done e) (above_gaps hc done e) (ap (was_taken (taken hc)) (row_in-name_at e.row (inner_of start.tree.gapped)) ∙ is_new hc done e))
+        (λ (e : EndsInSlot start hc.layers hc.root hc.over top). publish (Some start.height) (in_slot_replaces hc done e) (in_slot_gaps hc done e) (slot_is_place hc done e) (subst (λ (n : ℕ). was_taken (taken hc) (row_in n) ≡ true) (sym e.word) (one_taken e.l e.lower e.x e.are e.one))))) hc.ends
+
+  -- what is told of the row there
+  pub top_told : (t : Rooted) → ((row col gap : ℕ) → top.place ≡ Slot row col → TellsBelow b.kind (with_published s'.tree top.place top.word) top.word gap → TellsAt b.kind t top.place gap) → TellsAt b.kind t top.place top.gap
+  top_told t in_slot =
+      ⊎_elim (λ (e : EndsEmpty start hc.layers hc.root hc.over top). at_root e.place e.gap)
+      (⊎_elim (λ (e : EndsAtRoot start hc.layers hc.root hc.over top). at_root e.place e.gap)
+      (⊎_elim (λ (e : EndsAbove start s hc.layers hc.root hc.over top). at_root e.place e.gap) (λ (e : EndsInSlot start hc.layers hc.root hc.over top). in_slot _ _ top.gap e.place (in_slot_tells hc done e)))) hc.ends
+    where
+      at_root : top.place ≡ Root → top.gap ≡ 0 → TellsAt b.kind t top.place top.gap
+      at_root place_is none = subst (λ (p : Place). TellsAt b.kind t p top.gap) (sym place_is) none

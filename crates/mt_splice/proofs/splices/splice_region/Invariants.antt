@@ -1,6 +1,0 @@
-use Rattle.mt_path.specs.Handles.{last_step}
-use Rattle.mt_splice.specs.steps.Entries.{before_of, start_of}
-use Rattle.mt_splice.proofs.splices.splice_region.Given as goal
-
-abbrev pub ghosts-splice_as : goal.ghosts-splice_as
-ghosts-splice_as g a = record { before = before_of a.kind (g.R.Rows.sheet a.rows.now) a.book.now a.number; start = start_of a.kind (g.R.Rows.sheet a.rows.now) a.call.now (last_step a.region.now.left.items).min (last_step a.region.now.right.items).max }

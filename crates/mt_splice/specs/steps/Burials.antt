@@ -1,0 +1,86 @@
+-- Rows buried and retired one after the other: what is done to the rows and to the book.
+-- Source: the kernel's lib/maple_tree.c, mas_topiary_replace, which marks the nodes that a new subtree replaces.
+use Rattle.std.specs.Prelude.{◌≡◌, ℕ, ◌-◌, ◌<◌, ◌≤◌, List, [], ◌∷◌, ◌++◌, All, Contains, length, map}
+use Rattle.std.specs.List.{AllByRecursion}
+use Rattle.mt_base.specs.Width.{greatest}
+use Rattle.mt_free.specs.Book.{Book, Held, IsOut, after_retire}
+use Rattle.mt_layout.specs.declared.spans.Span.{Span}
+use Rattle.mt_layout.specs.Rows.{row_in}
+use Rattle.mt_path.specs.Paths.{path_in, step_at}
+use Rattle.mt_rows.specs.Levels.{level}
+use Rattle.mt_rows.specs.Spans.{root_span}
+use Rattle.mt_rows.specs.Sheet.{Rooted, Sheet, OnlyReads, MayBury, after_bury}
+use Rattle.mt_splice.specs.declared.ways.Window.{Window}
+use Rattle.mt_splice.specs.steps.Windows.{between}
+
+-- ---- rows by their numbers
+
+abbrev pub after_burials : Sheet → List ℕ → Sheet
+after_burials s [] = s
+after_burials s (row ∷ rows) = after_burials (after_bury s row) rows
+
+abbrev pub after_retirals : Book → List ℕ → ℕ → Book
+after_retirals book [] number = book
+after_retirals book (row ∷ rows) number = after_retirals (after_retire book row number) rows number
+
+abbrev pub EachOnce : List ℕ → Type 0
+EachOnce [] = Unit {0}
+EachOnce (row ∷ rows) = (¬ Contains rows row) × EachOnce rows
+
+-- a live row that is out may be buried, and retired with this number
+pub record MayBeBuried (s : Sheet) (book : Book) (row number : ℕ) : Type 0 where
+  pub live : MayBury s row
+  pub out : IsOut book row
+  pub in_order : All (λ (h : Held). h.stamp ≤ number) book.held
+
+-- so may several
+pub record MayBuryAll (s : Sheet) (book : Book) (rows : List ℕ) (number : ℕ) : Type 0 where
+  pub live : AllByRecursion (MayBury s) rows
+  pub out : AllByRecursion (IsOut book) rows
+  pub once : EachOnce rows
+  pub in_order : All (λ (h : Held). h.stamp ≤ number) book.held
+
+-- they were, in their order; beside that words were loaded
+pub record AreBuriedAll (s s' : Sheet) (book book' : Book) (rows : List ℕ) (number : ℕ) : Type 0 where
+  pub rows_are : OnlyReads (after_burials s rows) s'
+  pub book_is : book' ≡ after_retirals book rows number
+
+-- ---- rows by their places
+
+-- the rows of a level from the left, the root's level being 0
+abbrev pub rows_on : Rooted → ℕ → List Span
+rows_on t depth = level t.table depth (root_span t.table t.root ∷ [])
+
+-- the numbers of those from the one that holds an index to the one that holds another
+abbrev pub numbers_between : Rooted → ℕ → ℕ → ℕ → List ℕ
+numbers_between t depth i j = map (λ (x : Span). row_in x.word) (between i j (rows_on t depth))
+
+abbrev pub numbers_in : Rooted → ℕ → Window → List ℕ
+numbers_in t depth w = numbers_between t depth w.first.min w.last.max
+
+-- of windows on a level and on those above it, one of each
+abbrev pub numbers_in_all : Rooted → ℕ → List Window → List ℕ
+numbers_in_all t depth [] = []
+numbers_in_all t depth (w ∷ windows) = numbers_in t depth w ++ numbers_in_all t (depth - 1) windows
+
+-- the steps are those of the first and of the last row of a window on this level
+pub record IsWindowOn (t : Rooted) (depth : ℕ) (w : Window) : Type 0 where
+  pub from : ℕ
+  pub to : ℕ
+  pub order : from ≤ to
+  pub within : to ≤ greatest t.table.width
+  pub deep : depth < length (path_in t.table t.root to)
+  pub first : w.first ≡ step_at (path_in t.table t.root from) depth
+  pub last : w.last ≡ step_at (path_in t.table t.root to) depth
+
+-- `first` begins a row of this level, and `last` ends one that does not stand before it
+pub record IsStretchOn (t : Rooted) (depth first last : ℕ) : Type 0 where
+  pub order : first ≤ last
+  pub within : last ≤ greatest t.table.width
+  pub deep : depth < length (path_in t.table t.root first)
+  pub begins : (step_at (path_in t.table t.root first) depth).min ≡ first
+  pub ends : (step_at (path_in t.table t.root last) depth).max ≡ last
+
+abbrev pub AreWindowsOn : Rooted → ℕ → List Window → Type 0
+AreWindowsOn t depth [] = Unit {0}
+AreWindowsOn t depth (w ∷ windows) = IsWindowOn t depth w × (length windows ≤ depth) × AreWindowsOn t (depth - 1) windows

@@ -1,0 +1,61 @@
+-- The window of a level: the rows from the one that holds an index to the one that holds another, and what stands before them
+-- and behind.
+-- Source: the kernel's lib/maple_tree.c, mas_wr_spanning_store, which goes by a left and a right state.
+use Rattle.std.specs.Prelude.{◌≡◌, ℕ, zero, suc, ◌+◌, ◌-◌, ◌<◌, ◌≤◌, List, ◌++◌, take, drop}
+use Rattle.std.specs.List.{flat_map}
+use Rattle.mt_base.specs.declared.ranges.Range.{Range}
+use Rattle.mt_layout.specs.declared.spans.Span.{Span}
+use Rattle.mt_layout.specs.Spans.{leaf_range, Fills}
+use Rattle.mt_rows.specs.Spans.{root_span}
+use Rattle.mt_rows.specs.Levels.{expand}
+use Rattle.mt_rows.specs.Laws.{Tree, Stands, top_of}
+use Rattle.mt_path.specs.Paths.{slot_for, row_on}
+use Rattle.mt_splice.specs.steps.Work.{Start, rows_at}
+use Rattle.mt_splice.specs.steps.Climbs.{MayBeIn}
+
+-- of spans end to end, those before the one that holds an index, and those behind it
+abbrev pub before : ℕ → List Span → List Span
+before index xs = take (slot_for xs index) xs
+
+abbrev pub behind : ℕ → List Span → List Span
+behind index xs = drop (slot_for xs index + 1) xs
+
+-- and those from the one that holds an index to the one that holds another
+abbrev pub between : ℕ → ℕ → List Span → List Span
+between i j xs = take (slot_for xs j + 1 - slot_for xs i) (drop (slot_for xs i) xs)
+
+-- the row of a level that holds an index, where it begins, and behind what it ends
+abbrev pub row_at : Tree → ℕ → ℕ → Span
+row_at t d index = row_on t.table d (root_span t.table t.root) index
+
+abbrev pub low_of : Tree → ℕ → ℕ → ℕ
+low_of t d index = (row_at t d index).first
+
+abbrev pub high_of : Tree → ℕ → ℕ → ℕ
+high_of t d index = (row_at t d index).last + 1
+
+-- a level with other rows in the place of a window's
+abbrev pub in_place : Tree → ℕ → ℕ → ℕ → List Span → List Span
+in_place t d i j rows = before i (rows_at t d) ++ (rows ++ behind j (rows_at t d))
+
+-- what stands in the rows of a level, with other spans in the place of what stands in a window's
+abbrev pub in_rows : Tree → ℕ → ℕ → ℕ → List Span → List Span
+in_rows t d i j run = expand t.table (before i (rows_at t d)) ++ (run ++ expand t.table (behind j (rows_at t d)))
+
+-- in leaves the spans stand for the map, and in inner rows they are the rows of the level below
+abbrev pub StandFor : List Range → List Span → ℕ → List Span → Type 0
+StandFor map below zero xs = flat_map leaf_range xs ≡ map
+StandFor map below (suc h) xs = xs ≡ below
+
+-- The spans are gathered that are to stand in the place of what stands in a window's rows, at this depth and height: with
+-- them the level stands for the map, or holds the rows of the level below. What changes lies in the window.
+pub record Gathered (start : Start) (below : List Span) (i j d h : ℕ) (run : List Span) : Type 0 where
+  pub stands : Stands start.tree start.height
+  pub levels : start.height ≡ d + h
+  pub order : i ≤ j
+  pub within : j ≤ top_of start.tree
+  pub first : low_of start.tree d i ≤ start.first
+  pub last : start.last < high_of start.tree d j
+  pub fills : Fills (low_of start.tree d i) (high_of start.tree d j) run
+  pub fit : MayBeIn h run
+  pub level : StandFor start.map below h (in_rows start.tree d i j run)

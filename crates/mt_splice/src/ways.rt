@@ -1,0 +1,64 @@
+//! The window of a level that is to be replaced, and what is to stand in its place.
+
+ghost use Rattle.std.specs.Prelude.{◌≡◌, ◌<◌, length};
+ghost use Rattle.mt_path.specs.Paths.{step_at};
+
+use arrayvec::ArrayVec;
+use mt_base::DEEPEST;
+use mt_layout::{RowKind, Run};
+use mt_leaf::Towards;
+use mt_path::{Path, PathStep};
+
+/// The paths to the first and to the last row of a window.
+#[derive(Drop)]
+pub struct Ways {
+    pub left: Path,
+    pub right: Path,
+}
+
+/// The items that are to stand in a window's place, and where among these the change stands.
+#[derive(Drop)]
+pub struct Gathered {
+    pub run: Run,
+    pub towards: Towards,
+}
+
+/// The first and the last row of a window that is replaced.
+#[derive(Clone, Copy, Debug, Default, PartialEq, Eq)]
+pub struct Window {
+    pub first: PathStep,
+    pub last: PathStep,
+}
+
+/// The windows of a replacement, from the leaves up.
+pub type Windows = ArrayVec<Window, DEEPEST>;
+
+/// The kind of the rows of a level, and of those above it.
+#[derive(Clone, Copy, Debug, PartialEq, Eq)]
+pub struct Level {
+    pub kind: RowKind,
+    pub above: RowKind,
+}
+
+/// Where the first of the items of a level begins, and the places at which they are cut into rows.
+#[derive(Drop)]
+pub struct Pieces {
+    pub first: u64,
+    pub ends: ArrayVec<u32, 3>,
+}
+
+/// A store of an entry, or of a hole where it is 0, over `first` to `last`.
+#[derive(Clone, Copy, Debug, PartialEq, Eq)]
+pub struct Edit {
+    pub first: u64,
+    pub last: u64,
+    pub entry: u64,
+}
+
+/// A path's step at a level, the root's level being 0.
+pub fn step_on(path: &Path, depth: u32) -> PathStep
+    requires { depth < length path.now.items }
+    ensures { result ≡ step_at path.now.items depth }
+{
+    path[depth as usize]
+}
