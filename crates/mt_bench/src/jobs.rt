@@ -7,7 +7,8 @@ use crate::figures::{Figure, Outcome, Report};
 use crate::tasks::{Extent, Job, Task};
 use crate::trees::{Nodes, Tree};
 use crate::works::{
-    End, allocate_all, churn, erase_all, fill_holes, highest_of, load, overwrite, store_all, visit,
+    End, allocate_all, churn, erase_all, fill_holes, highest_of, load, overwrite, store_all,
+    store_wide, visit, wide_stores,
 };
 use std::alloc::Global;
 use std::rt::Clock;
@@ -52,7 +53,7 @@ pub fn nanos_since(rt: &impl Clock, start: &Instant) -> Option<u64> {
 /// What is done before a job, untimed.
 fn before(job: Job) -> Option<Job> {
     match job {
-        Job::Load | Job::Iter | Job::Overwrite | Job::Erase => Some(Job::StoreRand),
+        Job::Load | Job::Iter | Job::Overwrite | Job::Wide | Job::Erase => Some(Job::StoreRand),
         Job::Holes => Some(Job::StoreSeq),
         Job::Churn => Some(Job::Alloc),
         _ => None,
@@ -66,6 +67,7 @@ fn do_once(tree: &mut impl Tree, job: Job, times: u64, setting: &mut Setting) ->
         Job::Load => load(tree, ranges, times, 7),
         Job::Iter => visit(tree, times),
         Job::Overwrite => u64::from(overwrite(tree, ranges, times)),
+        Job::Wide => u64::from(store_wide(tree, ranges)),
         Job::Erase => u64::from(erase_all(tree, &setting.rand)),
         Job::StoreSeq => u64::from(store_all(tree, &setting.seq)),
         Job::StoreRand => u64::from(store_all(tree, &setting.rand)),
@@ -127,6 +129,7 @@ fn one_round<R: Clock + Wait>(
 fn rounds_of(task: Task, extent: Extent) -> (u64, u64) {
     match task.job {
         Job::Load | Job::Iter | Job::Overwrite | Job::Churn => (extent.rounds.min(1), extent.times),
+        Job::Wide => (extent.rounds, u64::from(wide_stores(task.ranges))),
         _ => (extent.rounds, u64::from(task.ranges)),
     }
 }

@@ -12,6 +12,9 @@ const HIGHEST: u64 = (1 << 48) - 1;
 /// The entry that every allocation stores.
 const ALLOCATED: u64 = 4096;
 
+/// A wide store covers so many ranges, or as many as there are.
+const WIDE: u32 = 1000;
+
 /// At which end room is sought.
 #[derive(Clone, Copy)]
 pub enum End {
@@ -28,10 +31,14 @@ pub fn first_of(i: u32) -> u64
 
 /// The store of range number `i`.
 pub fn store(tree: &mut impl Tree, i: u32, entry: u64) -> bool {
-    let first = first_of(i);
+    store_over(tree, i, i, entry)
+}
+
+/// The store over the ranges from number `from` to number `to`.
+fn store_over(tree: &mut impl Tree, from: u32, to: u32, entry: u64) -> bool {
     let call = Call::Store {
-        first,
-        last: first + 9,
+        first: first_of(from),
+        last: first_of(to) + 9,
         entry,
     };
     matches!(tree.act(&call), Reply::Ok | Reply::Over(_))
@@ -59,6 +66,22 @@ pub fn overwrite(tree: &mut impl Tree, ranges: u32, times: u64) -> bool {
         let i = draws.below(ranges);
         let entry = 4096 + 8 * u64::from(draws.below(1 << 20));
         done &= store(tree, i, entry);
+    }
+    done
+}
+
+/// How many wide stores cover so many ranges.
+pub fn wide_stores(ranges: u32) -> u32 {
+    ranges.div_ceil(WIDE)
+}
+
+/// Stores over a thousand ranges at once, until all are stored over; whether each store was done.
+pub fn store_wide(tree: &mut impl Tree, ranges: u32) -> bool {
+    let mut done = true;
+    for k in 0..wide_stores(ranges) {
+        let from = k.saturating_mul(WIDE);
+        let to = from.saturating_add(WIDE).min(ranges).saturating_sub(1);
+        done &= store_over(tree, from, to, entry_of(from));
     }
     done
 }
