@@ -38,6 +38,7 @@ macro_rules! range {
 }
 
 mod drawn;
+mod noted;
 mod replaced;
 mod shapes;
 mod stories;
