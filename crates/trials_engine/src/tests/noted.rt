@@ -18,8 +18,9 @@ use std::process::Abort;
 use std::test::Fail;
 
 /// What is done to a row.
-#[derive(Clone, Copy, Debug, PartialEq, Eq)]
+#[derive(Clone, Copy, Debug, Default, PartialEq, Eq)]
 enum Step {
+    #[default]
     Draft,
     Bury,
     Publish,
@@ -47,13 +48,12 @@ impl Noted {
             steps: ArrayVec::new(),
         })
     }
+}
 
-    fn note(&mut self, step: Step)
-        ensures { self.new.rows ≡ self.old.rows }
-    {
-        if self.steps.last() != Some(&step) && !self.steps.is_full() {
-            self.steps.push(step);
-        }
+/// Notes a step that is not of the kind of the last one.
+fn note(steps: &mut ArrayVec<Step, MOST_STEPS>, step: Step) {
+    if steps.last() != Some(&step) && !steps.is_full() {
+        steps.push(step);
     }
 }
 
@@ -88,27 +88,27 @@ impl Rows for Noted {
     }
 
     fn draft(&mut self, row: u32, col: u32, word: u64) {
-        self.note(Step::Draft);
+        note(&mut self.steps, Step::Draft);
         self.rows.draft(row, col, word);
     }
 
     fn draft_row(&mut self, row: u32, words: &[u64]) {
-        self.note(Step::Draft);
+        note(&mut self.steps, Step::Draft);
         self.rows.draft_row(row, words);
     }
 
     fn bury(&mut self, row: u32) {
-        self.note(Step::Bury);
+        note(&mut self.steps, Step::Bury);
         self.rows.bury(row);
     }
 
     fn tend(&mut self, row: u32, col: u32, word: u64) {
-        self.note(Step::Tend);
+        note(&mut self.steps, Step::Tend);
         self.rows.tend(row, col, word);
     }
 
     fn publish(&mut self, place: Place, word: u64, call: &Call, reply: &Reply) {
-        self.note(Step::Publish);
+        note(&mut self.steps, Step::Publish);
         self.rows.publish(place, word, call, reply);
     }
 
