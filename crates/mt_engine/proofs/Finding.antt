@@ -32,6 +32,8 @@ use Rattle.mt_engine.specs.Areas.{start_to, allocation, search}
 use Rattle.mt_engine.specs.Engine.{OnlySearches, is_refusal, most_searched}
 use Rattle.mt_engine.specs.Here.{IsHereAt}
 use Rattle.mt_engine.specs.Plans.{IsSearched, IsStoreOf, IsStorePlan}
+use Rattle.mt_engine.specs.StoreBy.{IsDoneBy}
+use Rattle.mt_engine.specs.declared.store_by.StoreBy.{StoreBy}
 use Rattle.mt_engine.proofs.Moments.{tree_if_lawful}
 use Rattle.mt_gap.proofs.Readings.{within_steps}
 use Rattle.mt_engine.proofs.Planning.{ComesToNothing}
@@ -117,8 +119,9 @@ module _ (t : Rooted) (kind : Kind) (lawful : IsLawfulOf t kind) (sought : Sough
   own_by Lowest entry some = record { entry_is = refl; some = some; free = ap (is_held (map_by t) start) (sym last_is) ∙ room.free }
   own_by Highest entry some = record { entry_is = refl; some = some; free = ap (is_held (map_by t) start) (sym last_is) ∙ room.free }
 
-  pub place_plan : (entry : ℕ) (path : List PathStep) (here : Option Handle) → is_bad_area kind size lo hi entry ≡ false → path ≡ path_in t.table t.root start → IsHereAt t start here → IsStorePlan kind t (allocation sought size lo hi entry) path start (start + (size - 1)) entry (reply.Start start) here
-  place_plan entry path here good way stands =
+  pub place_plan : (entry : ℕ) {path : List PathStep} {here : Option Handle} {by : StoreBy} → is_bad_area kind size lo hi entry ≡ false → path ≡ path_in t.table t.root start → IsHereAt t start here → IsDoneBy here start (start + (size - 1)) entry by
+      → IsStorePlan kind t (allocation sought size lo hi entry) path (record { edit = record { first = start; last = start + (size - 1); entry = entry }; by = by }) (reply.Start start)
+  place_plan entry {here = here} good way stands done =
       let entries = (good_area kind size lo hi entry good).1 in
       record {
         store = record {
@@ -130,7 +133,7 @@ module _ (t : Rooted) (kind : Kind) (lawful : IsLawfulOf t kind) (sought : Sough
         own = own_by sought entry entries.1;
         success = refl;
         way = way;
-        stands = stands;
+        by = record { here = here; stands = stands; done = done };
       }
 
 -- ---- a search alone
@@ -169,7 +172,7 @@ none_loaded s = rose_none (most_searched s.tree) s.reads
 -- a plan of a call that is no search
 pub not_searched : (s s' : Sheet) (call : Call) (plan : Plan) → ((answer : Reply) → OnlySearches call answer → ⊥) → IsSearched s s' call plan
 not_searched s s' call (plans.Nothing answer) not = λ only. absurd (not answer only)
-not_searched s s' call (plans.Store first last entry answer here) not = tt
+not_searched s s' call (plans.Store write answer) not = tt
 not_searched s s' call plans.Empty not = tt
 
 -- a store that is carried out, or refused for want of rows, is of no call that only searches

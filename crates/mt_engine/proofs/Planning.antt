@@ -29,6 +29,9 @@ use Rattle.mt_engine.specs.Here.{IsHereAt}
 use Rattle.mt_engine.specs.MapSpans.{range_of, IsSpanAt}
 use Rattle.mt_engine.specs.Nearest.{nearest_from}
 use Rattle.mt_engine.specs.Plans.{IsMet, IsStorePlan, is_taken}
+use Rattle.mt_engine.specs.StoreBy.{IsDoneBy}
+use Rattle.mt_engine.specs.declared.store_by.StoreBy.{StoreBy}
+use Rattle.mt_engine.specs.declared.store_by.Write.{Write}
 use Rattle.mt_engine.proofs.IndexesAbove.{load_above}
 use Rattle.mt_engine.proofs.MapPlaces.{range_there}
 use Rattle.mt_engine.proofs.MapQueries.{load_hole}
@@ -133,23 +136,27 @@ module _ (t : Rooted) (kind : Kind) (tree : IsTreeOf t kind) where
     pub first_within : first ≤ top
     first_within = let le = order in let most = within in omega arith
 
-    pub store_plan : (path : List PathStep) (answer : Reply) (here : Option Handle) → path ≡ path_in t.table t.root first → IsHereAt t first here → answer ≡ replied (first_met m first last) → IsStorePlan kind t (Store first last entry) path first last entry answer here
-    store_plan path answer here way stands is = record {
+    -- the store of the entry, by this
+    abbrev written : StoreBy → Write
+    written by = record { edit = record { first = first; last = last; entry = entry }; by = by }
+
+    pub store_plan : {path : List PathStep} {answer : Reply} {here : Option Handle} {by : StoreBy} → path ≡ path_in t.table t.root first → IsHereAt t first here → IsDoneBy here first last entry by → answer ≡ replied (first_met m first last) → IsStorePlan kind t (Store first last entry) path (written by) answer
+    store_plan {here = here} way stands done is = record {
       store = record { acts = rw valid (ap (λ (r : Reply). (over m first last entry, r)) (sym is)); order = order; within = within; lawful = valid_entry kind first last entry valid };
       own = (refl, refl, refl);
       success = ap is_refusal is ∙ replied_done (first_met m first last);
       way = way;
-      stands = stands;
+      by = record { here = here; stands = stands; done = done };
     }
 
     -- the same of a store that is to have its rows at hand
-    pub store_pre_plan : (path : List PathStep) (answer : Reply) (here : Option Handle) → path ≡ path_in t.table t.root first → IsHereAt t first here → answer ≡ replied (first_met m first last) → IsStorePlan kind t (StorePre first last entry) path first last entry answer here
-    store_pre_plan path answer here way stands is = record {
+    pub store_pre_plan : {path : List PathStep} {answer : Reply} {here : Option Handle} {by : StoreBy} → path ≡ path_in t.table t.root first → IsHereAt t first here → IsDoneBy here first last entry by → answer ≡ replied (first_met m first last) → IsStorePlan kind t (StorePre first last entry) path (written by) answer
+    store_pre_plan {here = here} way stands done is = record {
       store = record { acts = rw valid (ap (λ (r : Reply). (over m first last entry, r)) (sym is)); order = order; within = within; lawful = valid_entry kind first last entry valid };
       own = (refl, refl, refl);
       success = ap is_refusal is ∙ replied_done (first_met m first last);
       way = way;
-      stands = stands;
+      by = record { here = here; stands = stands; done = done };
     }
 
     -- ---- insert
@@ -162,13 +169,13 @@ module _ (t : Rooted) (kind : Kind) (tree : IsTreeOf t kind) where
         let acts : acted kind m (Insert first last entry) ≡ (m, reply.Exists) = rw (good some, taken_is first last order within here stands ∙ taken) refl in
         (acts, stays_replaces_none kind m (Insert first last entry) reply.Exists acts)
 
-    pub insert_plan : (path : List PathStep) (here : Option Handle) → entry ≢ 0 → path ≡ path_in t.table t.root first → IsHereAt t first here → is_taken here last ≡ false → IsStorePlan kind t (Insert first last entry) path first last entry reply.Ok here
-    insert_plan path here some way stands free = record {
+    pub insert_plan : {path : List PathStep} {here : Option Handle} {by : StoreBy} → entry ≢ 0 → path ≡ path_in t.table t.root first → IsHereAt t first here → IsDoneBy here first last entry by → is_taken here last ≡ false → IsStorePlan kind t (Insert first last entry) path (written by) reply.Ok
+    insert_plan {here = here} some way stands done free = record {
       store = record { acts = rw (good some, taken_is first last order within here stands ∙ free) refl; order = order; within = within; lawful = valid_entry kind first last entry valid };
       own = (refl, refl, refl);
       success = refl;
       way = way;
-      stands = stands;
+      by = record { here = here; stands = stands; done = done };
     }
 
   -- ---- erase
@@ -197,8 +204,9 @@ module _ (t : Rooted) (kind : Kind) (tree : IsTreeOf t kind) where
       same : path_in t.table t.root handle.span.first ≡ path_in t.table t.root index
       same = ap (λ (h : Handle). path_in t.table t.root h.span.first) stands.some ∙ same_way t kind index tree some inside
 
-      pub erase_plan : (path : List PathStep) (was : Range) → handle.span.word ≢ 0 → path ≡ path_in t.table t.root index → was ≡ range_of handle.span → IsStorePlan kind t (Erase index) path handle.span.first handle.span.last 0 (reply.Was was) (Some handle)
-      erase_plan path was word way is =
+      pub erase_plan : {path : List PathStep} {was : Range} {by : StoreBy} → handle.span.word ≢ 0 → path ≡ path_in t.table t.root index → was ≡ range_of handle.span → IsDoneBy (Some handle) handle.span.first handle.span.last 0 by
+          → IsStorePlan kind t (Erase index) path (record { edit = record { first = handle.span.first; last = handle.span.last; entry = 0 }; by = by }) (reply.Was was)
+      erase_plan word way is done =
           let held = at.held word in
           let from = at.from in let to = at.to in
           let less = without_is_store m 0 index (range_of handle.span) rise held in
@@ -207,7 +215,7 @@ module _ (t : Rooted) (kind : Kind) (tree : IsTreeOf t kind) where
             own = refl;
             success = refl;
             way = way ∙ sym same;
-            stands = record { none = stands.none; some = stands.some ∙ ap (λ (p : List PathStep). handle_of t.table (last_step p)) (sym same) };
+            by = record { here = Some handle; stands = record { none = stands.none; some = stands.some ∙ ap (λ (p : List PathStep). handle_of t.table (last_step p)) (sym same) }; done = done };
           }
 
 -- ---- after calls that only read

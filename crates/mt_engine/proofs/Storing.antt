@@ -25,6 +25,7 @@ use Rattle.mt_path.proofs.TreePaths.{levels}
 use Rattle.mt_splice.specs.Splice.{IsStoreBy, MayReplace}
 use Rattle.mt_engine.specs.declared.store_by.StoreBy.{StoreBy}
 use Rattle.mt_engine.specs.declared.store_by.StoreBy.TheVariants.{NoWord, OneWord, NewRows}
+use Rattle.mt_engine.specs.declared.store_by.Write.{Write}
 use Rattle.mt_engine.specs.Engine.{IsInCall, Replaces}
 use Rattle.mt_engine.specs.Here.{IsHereAt}
 use Rattle.mt_engine.specs.MapSpans.{range_of}
@@ -32,14 +33,31 @@ use Rattle.mt_engine.specs.Plans.{IsStoreOf, IsStorePlan}
 use Rattle.mt_engine.specs.Rooms.{HasRoom}
 use Rattle.mt_engine.specs.Stores.{is_by_rows, wants_by}
 use Rattle.mt_engine.specs.StoreBy.{IsExactly, IsDoneBy}
+use Rattle.mt_engine.proofs.Moments.{tree_in_call}
 use Rattle.mt_engine.proofs.Planning.{span_at_handle}
 use Rattle.mt_engine.proofs.SlotQueries.{not_none}
 use Rattle.mt_engine.proofs.Slots.{none_at_root, tree_map}
 use Rattle.mt_engine.proofs.Wanting.{unwanted, wanted, hole_over_hole, stays_replaces_none, exact_replaces_none, inexact, store_replaces, first_store_replaces}
 
-module _ (kind : Kind) (t : Rooted) (tree : IsTreeOf t kind) (call : Call) (path : List PathStep) (first last entry : ℕ) (reply : Reply) (here : Option Handle) (plan : IsStorePlan kind t call path first last entry reply here) where
+module _ {kind : Kind} {t : Rooted} {call : Call} {path : List PathStep} {write : Write} {reply : Reply} (tree : IsTreeOf t kind) (plan : IsStorePlan kind t call path write reply) where
   abbrev m : List Range
   m = map_by t
+
+  abbrev first : ℕ
+  first = write.edit.first
+
+  abbrev last : ℕ
+  last = write.edit.last
+
+  abbrev entry : ℕ
+  entry = write.edit.entry
+
+  -- what stands at its first index
+  abbrev here : Option Handle
+  here = plan.by.here
+
+  done_by : (by : StoreBy) → write.by ≡ by → IsDoneBy here first last entry by
+  done_by by is = subst (IsDoneBy here first last entry) is plan.by.done
 
   abbrev top : ℕ
   top = greatest t.table.width
@@ -57,8 +75,8 @@ module _ (kind : Kind) (t : Rooted) (tree : IsTreeOf t kind) (call : Call) (path
   hole_stays (Some handle) stands by = ap (over m first last) by.no_entry ∙ hole_over_hole m top first last handle.span rise (span_at_handle t kind tree first handle within stands) by.hole plan.store.order by.over
 
   -- it leaves the map
-  pub no_word_acts : IsDoneBy here first last entry NoWord → acted kind m call ≡ (m, reply)
-  no_word_acts by = plan.store.acts ∙ ap (λ (x : List Range). (x, reply)) (hole_stays here plan.stands by)
+  pub no_word_acts : write.by ≡ NoWord → acted kind m call ≡ (m, reply)
+  no_word_acts by = plan.store.acts ∙ ap (λ (x : List Range). (x, reply)) (hole_stays here plan.by.stands (done_by NoWord by))
 
   -- ---- by one word
 
@@ -66,12 +84,12 @@ module _ (kind : Kind) (t : Rooted) (tree : IsTreeOf t kind) (call : Call) (path
   exact_by None at stands by = absurd by
   exact_by (Some handle) at stands by = subst (λ (h : Handle). IsHereAt t first (Some h) × IsExactly h first last entry) (sym by.0) (stands, by.1)
 
-  module _ (at : Handle) (by : IsDoneBy here first last entry (OneWord at)) where
+  module _ {at : Handle} (by : write.by ≡ OneWord at) where
     pub one_stands : IsHereAt t first (Some at)
-    one_stands = (exact_by here at plan.stands by).0
+    one_stands = (exact_by here at plan.by.stands (done_by (OneWord at) by)).0
 
     pub one_exact : IsExactly at first last entry
-    one_exact = (exact_by here at plan.stands by).1
+    one_exact = (exact_by here at plan.by.stands (done_by (OneWord at) by)).1
 
     pub one_handle : IsHandleOf t at
     one_handle = record { some = not_none at (t.root ≡ 0) one_stands.none; index = first; within = within; is = one_stands.some }
@@ -97,8 +115,8 @@ module _ (kind : Kind) (t : Rooted) (tree : IsTreeOf t kind) (call : Call) (path
       (λ hole. by.0 (record { no_entry = hole.0; hole = hole.1; over = hole.2 }))
       (λ exact. by.1 (record { some_entry = exact.0; range = exact.1; from = exact.2; to = exact.3 }))
 
-  pub new_rows_replace : IsDoneBy here first last entry NewRows → Replaces kind m call
-  new_rows_replace by = replaces_by here plan.stands by
+  pub new_rows_replace : write.by ≡ NewRows → Replaces kind m call
+  new_rows_replace by = replaces_by here plan.by.stands (done_by NewRows by)
 
   -- ---- a store over just one range is by one word
 
@@ -106,8 +124,8 @@ module _ (kind : Kind) (t : Rooted) (tree : IsTreeOf t kind) (call : Call) (path
   no_word_inexact_at None none = ap (is_exact_store m first last) none
   no_word_inexact_at (Some handle) by = ap (is_exact_store m first last) by.no_entry
 
-  pub no_word_inexact : IsDoneBy here first last entry NoWord → is_exact_store m first last entry ≡ false
-  no_word_inexact by = no_word_inexact_at here by
+  pub no_word_inexact : write.by ≡ NoWord → is_exact_store m first last entry ≡ false
+  no_word_inexact by = no_word_inexact_at here (done_by NoWord by)
 
   new_rows_inexact_at : (o : Option Handle) → IsHereAt t first o → IsDoneBy o first last entry NewRows → is_exact_store m first last entry ≡ false
   new_rows_inexact_at None stands some = ap (λ (x : List Range). is_exact_store x first last entry) (none_at_root t (stands.none.0 refl)) ∙ rw (ne_eqb entry 0 some) refl
@@ -116,20 +134,20 @@ module _ (kind : Kind) (t : Rooted) (tree : IsTreeOf t kind) (call : Call) (path
       (λ hole. by.0 (record { no_entry = hole.0; hole = hole.1; over = hole.2 }))
       (λ exact. by.1 (record { some_entry = exact.0; range = exact.1; from = exact.2; to = exact.3 }))
 
-  pub new_rows_inexact : IsDoneBy here first last entry NewRows → is_exact_store m first last entry ≡ false
-  new_rows_inexact by = new_rows_inexact_at here plan.stands by
+  pub new_rows_inexact : write.by ≡ NewRows → is_exact_store m first last entry ≡ false
+  new_rows_inexact by = new_rows_inexact_at here plan.by.stands (done_by NewRows by)
 
   -- ---- which want some
 
-  by_rows : (by : StoreBy) → IsDoneBy here first last entry by → is_by_rows by ≡ true → Replaces kind m call
-  by_rows NoWord done is = absurd (cc)
-  by_rows (OneWord at) done is = absurd (cc)
-  by_rows NewRows done is = new_rows_replace done
+  by_rows : (by : StoreBy) → write.by ≡ by → is_by_rows by ≡ true → Replaces kind m call
+  by_rows NoWord by is = absurd (cc)
+  by_rows (OneWord at) by is = absurd (cc)
+  by_rows NewRows by is = new_rows_replace by
 
-  by_none : (by : StoreBy) → IsDoneBy here first last entry by → is_by_rows by ≡ false → Replaces kind m call → ⊥
-  by_none NoWord done is = stays_replaces_none kind m call reply (no_word_acts done)
-  by_none (OneWord at) done is = one_replaces_none at done
-  by_none NewRows done is = absurd (cc)
+  by_none : (by : StoreBy) → write.by ≡ by → is_by_rows by ≡ false → Replaces kind m call → ⊥
+  by_none NoWord by is = stays_replaces_none kind m call reply (no_word_acts by)
+  by_none (OneWord at) by is = one_replaces_none by
+  by_none NewRows by is = absurd (cc)
 
   not_by_rows : (c : Call) (by : StoreBy) → wants_by c by ≡ false → is_by_rows by ≡ false
   not_by_rows (Store f l e) by not = not
@@ -142,21 +160,21 @@ module _ (kind : Kind) (t : Rooted) (tree : IsTreeOf t kind) (call : Call) (path
   not_by_rows (Rgap size lo hi) by not = not
   not_by_rows Clear by not = not
 
-  pub store_wants : (by : StoreBy) → IsDoneBy here first last entry by → wants_by call by ≡ true → Wants kind m call
-  store_wants by done is = wanted kind m (over m first last entry) call reply by plan.store.acts plan.success is (by_rows by done)
+  pub store_wants : wants_by call write.by ≡ true → Wants kind m call
+  store_wants is = wanted kind m (over m first last entry) call reply write.by plan.store.acts plan.success is (by_rows write.by refl)
 
-  pub store_replaces_none : (by : StoreBy) → IsDoneBy here first last entry by → wants_by call by ≡ false → Replaces kind m call → ⊥
-  store_replaces_none by done not = by_none by done (not_by_rows call by not)
+  pub store_replaces_none : wants_by call write.by ≡ false → Replaces kind m call → ⊥
+  store_replaces_none not = by_none write.by refl (not_by_rows call write.by not)
 
-  pub store_wants_none : (by : StoreBy) → IsDoneBy here first last entry by → wants_by call by ≡ false → Wants kind m call → ⊥
-  store_wants_none by done not = unwanted kind m call by not (store_replaces_none by done not)
+  pub store_wants_none : wants_by call write.by ≡ false → Wants kind m call → ⊥
+  store_wants_none not = unwanted kind m call write.by not (store_replaces_none not)
 
   some_by : (o : Option Handle) → IsHereAt t first o → IsDoneBy o first last entry NewRows → t.root ≡ 0 → entry ≢ 0
   some_by None stands some empty = some
   some_by (Some handle) stands by empty = absurd (not_none handle (t.root ≡ 0) stands.none empty)
 
-  pub some_entry : IsDoneBy here first last entry NewRows → t.root ≡ 0 → entry ≢ 0
-  some_entry by = some_by here plan.stands by
+  pub some_entry : write.by ≡ NewRows → t.root ≡ 0 → entry ≢ 0
+  some_entry by = some_by here plan.by.stands (done_by NewRows by)
 
   -- the length of a path is the height
   pub path_height : length path ≡ height_in t.table t.root
@@ -169,15 +187,15 @@ module _ (kind : Kind) (t : Rooted) (tree : IsTreeOf t kind) (call : Call) (path
 
 -- ---- rows that have room may be replaced
 
-pub may_replace_now : (kind : Kind) (s : Sheet) (book : Book) (path : List PathStep) (first last entry number : ℕ) (call : Call) (reply : Reply) (here : Option Handle) → IsTreeOf s.tree kind → IsInCall kind s book
-    → IsStorePlan kind s.tree call path first last entry reply here → IsDoneBy here first last entry NewRows → HasRoom s.tree book → number ≡ s.ended + 1 → MayReplace kind s book path first last entry number call reply
-may_replace_now kind s book path first last entry number call reply here tree in_call plan by room is =
-    subst (λ (n : ℕ). MayReplace kind s book path first last entry n call reply) (sym is) (record {
+pub may_replace_now : {kind : Kind} {s : Sheet} {book : Book} {path : List PathStep} {write : Write} {number : ℕ} {call : Call} {reply : Reply} → IsInCall kind s book → IsStorePlan kind s.tree call path write reply → write.by ≡ NewRows → HasRoom s.tree book → number ≡ s.ended + 1
+    → MayReplace kind s book path write.edit.first write.edit.last write.edit.entry number call reply
+may_replace_now {kind = kind} {s = s} {book = book} {path = path} {write = write} {call = call} {reply = reply} in_call plan by room is =
+    subst (λ (n : ℕ). MayReplace kind s book path write.edit.first write.edit.last write.edit.entry n call reply) (sym is) (record {
       told = in_call.state.told;
       kept = in_call.state.kept;
       unpublished = record { in_flight = in_call.in_flight; before = in_call.before; numbered = refl };
       room = room;
       store = plan.store;
-      some = some_entry kind s.tree tree call path first last entry reply here plan by;
+      some = some_entry (tree_in_call kind s book in_call) plan by;
       left_path = plan.way;
     })

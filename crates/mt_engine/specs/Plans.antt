@@ -18,8 +18,10 @@ use Rattle.mt_path.specs.Paths.{path_in}
 use Rattle.mt_splice.specs.Splice.{IsStoreBy}
 use Rattle.mt_engine.specs.Engine.{is_refusal, OnlySearches, most_searched}
 use Rattle.mt_engine.specs.Here.{IsHereAt}
+use Rattle.mt_engine.specs.StoreBy.{IsWriteAt}
 use Rattle.mt_engine.specs.declared.plans.Plan.{Plan}
 use Rattle.mt_engine.specs.declared.plans.Plan.TheVariants as plans
+use Rattle.mt_engine.specs.declared.store_by.Write.{Write}
 
 -- an entry is stored where no range holds an index
 pub record IsPlacing (m : List Range) (own first last entry : ℕ) : Type 0 where
@@ -39,23 +41,23 @@ IsStoreOf m (Gap size min max) first last entry = ⊥
 IsStoreOf m (Rgap size min max) first last entry = ⊥
 IsStoreOf m Clear first last entry = ⊥
 
--- The call is done by this store; the path leads to the store's first index, and this stands there.
-pub record IsStorePlan (kind : Kind) (t : Rooted) (call : Call) (path : List PathStep) (first last entry : ℕ) (reply : Reply) (here : Option Handle) : Type 0 where
-  pub store : IsStoreBy kind (greatest t.table.width) (map_by t) call reply first last entry
-  pub own : IsStoreOf (map_by t) call first last entry
+-- The call is done by this store, which can be carried out so; the path leads to its first index.
+pub record IsStorePlan (kind : Kind) (t : Rooted) (call : Call) (path : List PathStep) (write : Write) (reply : Reply) : Type 0 where
+  pub store : IsStoreBy kind (greatest t.table.width) (map_by t) call reply write.edit.first write.edit.last write.edit.entry
+  pub own : IsStoreOf (map_by t) call write.edit.first write.edit.last write.edit.entry
   pub success : is_refusal reply ≡ false
-  pub way : path ≡ path_in t.table t.root first
-  pub stands : IsHereAt t first here
+  pub way : path ≡ path_in t.table t.root write.edit.first
+  pub by : IsWriteAt t write
 
 abbrev pub IsPlan : Kind → Rooted → Call → List PathStep → Plan → Type 0
 IsPlan kind t call path (plans.Nothing reply) = (acted kind (map_by t) call ≡ (map_by t, reply)) × (Wants kind (map_by t) call → ⊥)
-IsPlan kind t call path (plans.Store first last entry reply here) = IsStorePlan kind t call path first last entry reply here
+IsPlan kind t call path (plans.Store write reply) = IsStorePlan kind t call path write reply
 IsPlan kind t call path plans.Empty = (call ≡ Clear) × (t.root ≢ 0)
 
 -- a call that comes to nothing and only searched has loaded few words
 abbrev pub IsSearched : Sheet → Sheet → Call → Plan → Type 0
 IsSearched s s' call (plans.Nothing reply) = OnlySearches call reply → RoseUpTo (most_searched s.tree) s.reads s'.reads
-IsSearched s s' call (plans.Store first last entry reply here) = Unit {0}
+IsSearched s s' call (plans.Store write reply) = Unit {0}
 IsSearched s s' call plans.Empty = Unit {0}
 
 -- the range is the first that a store meets which begins at an index of the slot and ends at `last`

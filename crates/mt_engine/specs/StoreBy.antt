@@ -1,9 +1,12 @@
 -- By what a store can be carried out, as what stands at its first index tells.
 -- Source: the kernel's lib/maple_tree.c, mas_wr_store_entry, which tells a store that changes one slot from others.
 use Rattle.std.specs.Prelude.{◌≡◌, ◌≢◌, ℕ, ◌≤◌, Option, Some, None}
+use Rattle.mt_rows.specs.Sheet.{Rooted}
 use Rattle.mt_path.specs.declared.handles.Handle.{Handle}
+use Rattle.mt_engine.specs.Here.{IsHereAt}
 use Rattle.mt_engine.specs.declared.store_by.StoreBy.{StoreBy}
 use Rattle.mt_engine.specs.declared.store_by.StoreBy.TheVariants.{NoWord, OneWord, NewRows}
+use Rattle.mt_engine.specs.declared.store_by.Write.{Write}
 
 -- a hole is to be stored where a hole stands already
 pub record IsHoleOver (handle : Handle) (last entry : ℕ) : Type 0 where
@@ -25,3 +28,9 @@ IsDoneBy None first last entry (OneWord at) = ⊥
 IsDoneBy (Some handle) first last entry (OneWord at) = (at ≡ handle) × IsExactly handle first last entry
 IsDoneBy None first last entry NewRows = entry ≢ 0
 IsDoneBy (Some handle) first last entry NewRows = (IsHoleOver handle last entry → ⊥) × (IsExactly handle first last entry → ⊥)
+
+-- the store can be carried out so, as what stands at its first index tells
+pub record IsWriteAt (t : Rooted) (write : Write) : Type 0 where
+  pub here : Option Handle
+  pub stands : IsHereAt t write.edit.first here
+  pub done : IsDoneBy here write.edit.first write.edit.last write.edit.entry write.by

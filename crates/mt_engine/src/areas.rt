@@ -16,10 +16,12 @@ ghost use Rattle.mt_engine.specs.Engine.{most_searched};
 ghost use Rattle.mt_engine.specs.Plans.{IsPlan, IsSearched};
 
 use crate::plans::Plan;
+use crate::store_by::{Write, store_by};
 use mt_base::{Kind, Reply, Steps, is_bad_area, is_no_area};
 use mt_gap::{Area, highest, lowest, lowest_way};
 use mt_path::{Path, walk_to};
 use mt_rows::Rows;
+use mt_splice::Edit;
 use std::marker::Brand;
 use std::sync::ledger::{Blank, Ledger};
 
@@ -30,61 +32,65 @@ pub enum Sought {
     Highest,
 }
 
+/// What place is wanted: so many indexes in one hole and in the window from `min` to `max`.
+#[derive(Clone, Copy, Debug, PartialEq, Eq)]
+pub struct Wanted {
+    pub size: u64,
+    pub min: u64,
+    pub max: u64,
+}
+
 /// The start of the place that is sought, with a blank for a count of the steps, of which nothing is told.
 #[tactic(auto, using(mt_gap::proofs::Readings::within_steps))]
 fn start_by<R: Rows, L: Ledger>(
     rows: &mut R,
     sought: Sought,
-    size: u64,
-    min: u64,
-    max: u64,
+    wanted: Wanted,
     blank: Blank,
 ) -> Option<u64>
     requires name { blank.name ≡ L.name }
     requires parts { blank.parts ≡ L.parts }
     requires some { 0 < blank.parts }
     requires tree { IsGapped (R.sheet rows.old).tree }
-    requires size { 1 ≤ size }
-    ensures start { result ≡ start_to sought (greatest (R.sheet rows.old).tree.table.width) (map_by (R.sheet rows.old).tree) size min max }
+    requires size { 1 ≤ wanted.size }
+    ensures start { result ≡ start_to sought (greatest (R.sheet rows.old).tree.table.width) (map_by (R.sheet rows.old).tree) wanted.size wanted.min wanted.max }
     ensures reads { ReadsUpTo (3 * height_in (R.sheet rows.old).tree.table (R.sheet rows.old).tree.root * columns (R.sheet rows.old).tree.table.width + 1) (R.sheet rows.old) (R.sheet rows.new) }
 {
     let mut steps = Steps::<L>::new(blank);
     match sought {
-        Sought::Lowest => lowest(rows, size, min, max, &mut steps),
-        Sought::Highest => highest(rows, size, min, max, &mut steps),
+        Sought::Lowest => lowest(rows, wanted.size, wanted.min, wanted.max, &mut steps),
+        Sought::Highest => highest(rows, wanted.size, wanted.min, wanted.max, &mut steps),
     }
 }
 
-/// The start of the place that is sought: so many indexes from there lie in one hole and in the window from `min` to `max`.
-fn start_of<R: Rows>(rows: &mut R, sought: Sought, size: u64, min: u64, max: u64) -> Option<u64>
+/// The start of the place that is sought: the indexes from there are as wanted.
+fn start_of<R: Rows>(rows: &mut R, sought: Sought, wanted: Wanted) -> Option<u64>
     requires tree { IsGapped (R.sheet rows.old).tree }
-    requires size { 1 ≤ size }
-    ensures start { result ≡ start_to sought (greatest (R.sheet rows.old).tree.table.width) (map_by (R.sheet rows.old).tree) size min max }
+    requires size { 1 ≤ wanted.size }
+    ensures start { result ≡ start_to sought (greatest (R.sheet rows.old).tree.table.width) (map_by (R.sheet rows.old).tree) wanted.size wanted.min wanted.max }
     ensures reads { ReadsUpTo (3 * height_in (R.sheet rows.old).tree.table (R.sheet rows.old).tree.root * columns (R.sheet rows.old).tree.table.width + 1) (R.sheet rows.old) (R.sheet rows.new) }
 {
-    start_by::<R, Brand>(rows, sought, size, min, max, Blank::new(1))
+    start_by::<R, Brand>(rows, sought, wanted, Blank::new(1))
 }
 
 /// The highest place, with the way to it, which is walked when the place is found.
 #[tactic(auto, using(crate::proofs::Finding::few_searched))]
 fn highest_way<R: Rows, L: Ledger>(
     rows: &mut R,
-    size: u64,
-    min: u64,
-    max: u64,
+    wanted: Wanted,
     steps: &mut Steps<L>,
     path: &mut Path,
 ) -> Option<Area>
     requires tree { IsGapped (R.sheet rows.old).tree }
-    requires size { 1 ≤ size }
-    requires within { max ≤ greatest (R.sheet rows.old).tree.table.width }
+    requires size { 1 ≤ wanted.size }
+    requires within { wanted.max ≤ greatest (R.sheet rows.old).tree.table.width }
     requires empty { path.old.items ≡ [] }
-    ensures start { option_map (λ (area : Area). area.start) result ≡ high_to (greatest (R.sheet rows.old).tree.table.width) (map_by (R.sheet rows.old).tree) size min max }
+    ensures start { option_map (λ (area : Area). area.start) result ≡ high_to (greatest (R.sheet rows.old).tree.table.width) (map_by (R.sheet rows.old).tree) wanted.size wanted.min wanted.max }
     ensures way { IfSome result (λ area. IsAreaAt (R.sheet rows.old).tree path.new.items area) }
     ensures rest { OnlyReads (R.sheet rows.old) (R.sheet rows.new) }
     ensures reads { IsNone result → ReadsUpTo (most_searched (R.sheet rows.old).tree) (R.sheet rows.old) (R.sheet rows.new) }
 {
-    let start = highest(rows, size, min, max, steps)?;
+    let start = highest(rows, wanted.size, wanted.min, wanted.max, steps)?;
     let here = walk_to(rows, start, path);
     Some(Area { start, here })
 }
@@ -93,9 +99,7 @@ fn highest_way<R: Rows, L: Ledger>(
 fn area_by<R: Rows, L: Ledger>(
     rows: &mut R,
     sought: Sought,
-    size: u64,
-    min: u64,
-    max: u64,
+    wanted: Wanted,
     path: &mut Path,
     blank: Blank,
 ) -> Option<Area>
@@ -103,40 +107,36 @@ fn area_by<R: Rows, L: Ledger>(
     requires parts { blank.parts ≡ L.parts }
     requires some { 0 < blank.parts }
     requires tree { IsGapped (R.sheet rows.old).tree }
-    requires size { 1 ≤ size }
-    requires within { max ≤ greatest (R.sheet rows.old).tree.table.width }
+    requires size { 1 ≤ wanted.size }
+    requires within { wanted.max ≤ greatest (R.sheet rows.old).tree.table.width }
     requires empty { path.old.items ≡ [] }
-    ensures start { option_map (λ (area : Area). area.start) result ≡ start_to sought (greatest (R.sheet rows.old).tree.table.width) (map_by (R.sheet rows.old).tree) size min max }
+    ensures start { option_map (λ (area : Area). area.start) result ≡ start_to sought (greatest (R.sheet rows.old).tree.table.width) (map_by (R.sheet rows.old).tree) wanted.size wanted.min wanted.max }
     ensures way { IfSome result (λ area. IsAreaAt (R.sheet rows.old).tree path.new.items area) }
     ensures rest { OnlyReads (R.sheet rows.old) (R.sheet rows.new) }
     ensures reads { IsNone result → ReadsUpTo (most_searched (R.sheet rows.old).tree) (R.sheet rows.old) (R.sheet rows.new) }
 {
     let mut steps = Steps::<L>::new(blank);
     match sought {
-        Sought::Lowest => lowest_way(rows, size, min, max, &mut steps, path),
-        Sought::Highest => highest_way(rows, size, min, max, &mut steps, path),
+        Sought::Lowest => {
+            let Wanted { size, min, max } = wanted;
+            lowest_way(rows, size, min, max, &mut steps, path)
+        }
+        Sought::Highest => highest_way(rows, wanted, &mut steps, path),
     }
 }
 
 /// The place that is sought, with the way to it.
-fn area_of<R: Rows>(
-    rows: &mut R,
-    sought: Sought,
-    size: u64,
-    min: u64,
-    max: u64,
-    path: &mut Path,
-) -> Option<Area>
+fn area_of<R: Rows>(rows: &mut R, sought: Sought, wanted: Wanted, path: &mut Path) -> Option<Area>
     requires tree { IsGapped (R.sheet rows.old).tree }
-    requires size { 1 ≤ size }
-    requires within { max ≤ greatest (R.sheet rows.old).tree.table.width }
+    requires size { 1 ≤ wanted.size }
+    requires within { wanted.max ≤ greatest (R.sheet rows.old).tree.table.width }
     requires empty { path.old.items ≡ [] }
-    ensures start { option_map (λ (area : Area). area.start) result ≡ start_to sought (greatest (R.sheet rows.old).tree.table.width) (map_by (R.sheet rows.old).tree) size min max }
+    ensures start { option_map (λ (area : Area). area.start) result ≡ start_to sought (greatest (R.sheet rows.old).tree.table.width) (map_by (R.sheet rows.old).tree) wanted.size wanted.min wanted.max }
     ensures way { IfSome result (λ area. IsAreaAt (R.sheet rows.old).tree path.new.items area) }
     ensures rest { OnlyReads (R.sheet rows.old) (R.sheet rows.new) }
     ensures reads { IsNone result → ReadsUpTo (most_searched (R.sheet rows.old).tree) (R.sheet rows.old) (R.sheet rows.new) }
 {
-    area_by::<R, Brand>(rows, sought, size, min, max, path, Blank::new(1))
+    area_by::<R, Brand>(rows, sought, wanted, path, Blank::new(1))
 }
 
 /// What an allocation comes to, with the path to the place that was found.
@@ -145,55 +145,49 @@ pub fn plan_allocation<R: Rows>(
     rows: &mut R,
     kind: Kind,
     sought: Sought,
-    size: u64,
-    min: u64,
-    max: u64,
+    wanted: Wanted,
     entry: u64,
     path: &mut Path,
 ) -> Plan
     requires tree { IsLawfulOf (R.sheet rows.old).tree kind }
     requires empty { path.old.items ≡ [] }
-    ensures plan { IsPlan kind (R.sheet rows.old).tree (allocation sought size min max entry) path.new.items result }
-    ensures search { IsSearched (R.sheet rows.old) (R.sheet rows.new) (allocation sought size min max entry) result }
+    ensures plan { IsPlan kind (R.sheet rows.old).tree (allocation sought wanted.size wanted.min wanted.max entry) path.new.items result }
+    ensures search { IsSearched (R.sheet rows.old) (R.sheet rows.new) (allocation sought wanted.size wanted.min wanted.max entry) result }
     ensures rest { OnlyReads (R.sheet rows.old) (R.sheet rows.new) }
 {
-    if is_bad_area(kind, size, min, max, entry) {
+    if is_bad_area(kind, wanted.size, wanted.min, wanted.max, entry) {
         return Plan::Nothing {
             reply: Reply::Invalid,
         };
     }
-    let Some(area) = area_of(rows, sought, size, min, max, path) else {
+    let Some(area) = area_of(rows, sought, wanted, path) else {
         return Plan::Nothing { reply: Reply::Busy };
     };
-    Plan::Store {
+    let edit = Edit {
         first: area.start,
-        last: area.start + (size - 1),
+        last: area.start + (wanted.size - 1),
         entry,
+    };
+    let by = store_by(area.here, &edit);
+    Plan::Store {
+        write: Write { edit, by },
         reply: Reply::Start(area.start),
-        here: area.here,
     }
 }
 
 /// What a search alone comes to.
-pub fn plan_search<R: Rows>(
-    rows: &mut R,
-    kind: Kind,
-    sought: Sought,
-    size: u64,
-    min: u64,
-    max: u64,
-) -> Plan
+pub fn plan_search<R: Rows>(rows: &mut R, kind: Kind, sought: Sought, wanted: Wanted) -> Plan
     requires tree { IsLawfulOf (R.sheet rows.old).tree kind }
-    ensures plan { (path : List PathStep) → IsPlan kind (R.sheet rows.old).tree (search sought size min max) path result }
-    ensures search { IsSearched (R.sheet rows.old) (R.sheet rows.new) (search sought size min max) result }
+    ensures plan { (path : List PathStep) → IsPlan kind (R.sheet rows.old).tree (search sought wanted.size wanted.min wanted.max) path result }
+    ensures search { IsSearched (R.sheet rows.old) (R.sheet rows.new) (search sought wanted.size wanted.min wanted.max) result }
     ensures rest { OnlyReads (R.sheet rows.old) (R.sheet rows.new) }
 {
-    if is_no_area(kind, size, min, max) {
+    if is_no_area(kind, wanted.size, wanted.min, wanted.max) {
         return Plan::Nothing {
             reply: Reply::Invalid,
         };
     }
-    match start_of(rows, sought, size, min, max) {
+    match start_of(rows, sought, wanted) {
         Some(start) => Plan::Nothing {
             reply: Reply::Start(start),
         },

@@ -11,7 +11,7 @@ use mt_base::{Call, Kind, Reply};
 use mt_free::RowBook;
 use mt_path::Path;
 use mt_rows::Rows;
-use mt_splice::clear;
+use mt_splice::{Event, clear};
 
 /// Carries out the call of this number, which was begun, and gives the reply that it may end with.
 fn perform<R: Rows>(
@@ -36,25 +36,30 @@ fn perform<R: Rows>(
     match plan_of(rows, kind, call, &mut path) {
         Plan::Nothing { reply } => reply,
         Plan::Empty => {
-            clear(rows, book, kind, number, call, &Reply::Ok);
+            let reply = &Reply::Ok;
+            let event = Event {
+                number,
+                call,
+                reply,
+            };
+            clear(rows, book, kind, &event);
             *height = 0;
             Reply::Ok
         }
-        Plan::Store {
-            first,
-            last,
-            entry,
-            reply,
-            here,
-        } => match store(
-            rows, book, kind, &path, here, first, last, entry, number, call, &reply,
-        ) {
-            Ok(is_new_root) => {
-                *height = height_after(rows, is_new_root, *height);
-                reply
+        Plan::Store { write, reply } => {
+            let event = Event {
+                number,
+                call,
+                reply: &reply,
+            };
+            match store(rows, book, kind, &path, &write, &event) {
+                Ok(is_new_root) => {
+                    *height = height_after(rows, is_new_root, *height);
+                    reply
+                }
+                Err(shortage) => Reply::NoNodes(shortage),
             }
-            Err(shortage) => Reply::NoNodes(shortage),
-        },
+        }
     }
 }
 

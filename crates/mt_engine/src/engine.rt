@@ -23,6 +23,7 @@ use mt_base::{Call, Kind, NoMemory, Query, Range, Reply, Shortage};
 use mt_free::RowBook;
 use mt_list::Ranges;
 use mt_rows::Rows;
+use mt_splice::Edit;
 use std::alloc::Global;
 use std::marker::Model;
 
@@ -150,9 +151,7 @@ impl<R: Rows> Engine<R> {
             &mut self.book,
             self.kind,
             &mut self.height,
-            first,
-            last,
-            entry,
+            Edit { first, last, entry },
         )
     }
 

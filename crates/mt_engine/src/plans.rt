@@ -12,27 +12,21 @@ ghost use Rattle.mt_path.specs.Handles.{IsHandleOf};
 ghost use Rattle.mt_engine.specs.Engine.{is_refusal};
 ghost use Rattle.mt_engine.specs.Plans.{IsMet, IsPlan, IsSearched, is_taken};
 
-use crate::areas::{Sought, plan_allocation, plan_search};
+use crate::areas::{Sought, Wanted, plan_allocation, plan_search};
 use crate::queries::{nearest_from, range_in, top_of};
+use crate::store_by::{Write, store_by};
 use mt_base::{Call, Kind, Range, Reply, is_invalid};
 use mt_path::{Handle, Path, walk_to};
 use mt_rows::Rows;
+use mt_splice::Edit;
 
 /// What a call is to do to a tree.
 #[derive(Clone, Copy, Debug, PartialEq, Eq)]
 pub enum Plan {
     /// Nothing: it is answered, and the map stays as it is.
-    Nothing {
-        reply: Reply,
-    },
-    /// The store of `entry`, or of a hole where it is 0, over `first` to `last`, at whose first index this stands.
-    Store {
-        first: u64,
-        last: u64,
-        entry: u64,
-        reply: Reply,
-        here: Option<Handle>,
-    },
+    Nothing { reply: Reply },
+    /// A store, and what it is answered.
+    Store { write: Write, reply: Reply },
     /// The end of all ranges, of which there are some.
     Empty,
 }
@@ -72,68 +66,50 @@ fn replied(met: Option<Range>) -> Reply
 
 /// What a store comes to, with the path to its first index.
 #[inline(always)]
-pub fn plan_store<R: Rows>(
-    rows: &mut R,
-    kind: Kind,
-    first: u64,
-    last: u64,
-    entry: u64,
-    path: &mut Path,
-) -> Plan
+pub fn plan_store<R: Rows>(rows: &mut R, kind: Kind, edit: Edit, path: &mut Path) -> Plan
     requires tree { IsTreeOf (R.sheet rows.old).tree kind }
     requires empty { path.old.items ≡ [] }
-    ensures plan { IsPlan kind (R.sheet rows.old).tree (Store first last entry) path.new.items result }
-    ensures at_hand { IsPlan kind (R.sheet rows.old).tree (StorePre first last entry) path.new.items result }
+    ensures plan { IsPlan kind (R.sheet rows.old).tree (Store edit.first edit.last edit.entry) path.new.items result }
+    ensures at_hand { IsPlan kind (R.sheet rows.old).tree (StorePre edit.first edit.last edit.entry) path.new.items result }
     ensures refused { (reply : Reply) → result ≡ Plan.Nothing reply → is_refusal reply ≡ true }
     ensures rest { OnlyReads (R.sheet rows.old) (R.sheet rows.new) }
 {
-    if is_invalid(kind, first, last, entry) {
+    if is_invalid(kind, edit.first, edit.last, edit.entry) {
         return Plan::Nothing {
             reply: Reply::Invalid,
         };
     }
-    let here = walk_to(rows, first, path);
-    let met = met(rows, &here, last);
+    let here = walk_to(rows, edit.first, path);
+    let met = met(rows, &here, edit.last);
+    let by = store_by(here, &edit);
     Plan::Store {
-        first,
-        last,
-        entry,
+        write: Write { edit, by },
         reply: replied(met),
-        here,
     }
 }
 
 /// What an insert comes to, with the path to its first index.
-fn plan_insert<R: Rows>(
-    rows: &mut R,
-    kind: Kind,
-    first: u64,
-    last: u64,
-    entry: u64,
-    path: &mut Path,
-) -> Plan
+fn plan_insert<R: Rows>(rows: &mut R, kind: Kind, edit: Edit, path: &mut Path) -> Plan
     requires tree { IsTreeOf (R.sheet rows.old).tree kind }
     requires empty { path.old.items ≡ [] }
-    ensures plan { IsPlan kind (R.sheet rows.old).tree (Insert first last entry) path.new.items result }
+    ensures plan { IsPlan kind (R.sheet rows.old).tree (Insert edit.first edit.last edit.entry) path.new.items result }
     ensures rest { OnlyReads (R.sheet rows.old) (R.sheet rows.new) }
 {
-    if is_invalid(kind, first, last, entry) || entry == 0 {
+    if is_invalid(kind, edit.first, edit.last, edit.entry) || edit.entry == 0 {
         return Plan::Nothing {
             reply: Reply::Invalid,
         };
     }
-    let here = walk_to(rows, first, path);
-    if is_taken(&here, last) {
+    let here = walk_to(rows, edit.first, path);
+    if is_taken(&here, edit.last) {
         return Plan::Nothing {
             reply: Reply::Exists,
         };
     }
+    let by = store_by(here, &edit);
     Plan::Store {
-        first,
-        last,
-        entry,
+        write: Write { edit, by },
         reply: Reply::Ok,
-        here,
     }
 }
 
@@ -155,12 +131,15 @@ fn plan_erase<R: Rows>(rows: &mut R, kind: Kind, index: u64, path: &mut Path) ->
     if span.word == 0 {
         return Plan::Nothing { reply: Reply::None };
     }
-    Plan::Store {
+    let edit = Edit {
         first: span.first,
         last: span.last,
         entry: 0,
+    };
+    let by = store_by(Some(handle), &edit);
+    Plan::Store {
+        write: Write { edit, by },
         reply: Reply::Was(range_in(span)),
-        here: Some(handle),
     }
 }
 
@@ -185,24 +164,42 @@ pub fn plan_of<R: Rows>(rows: &mut R, kind: Kind, call: &Call, path: &mut Path) 
     ensures rest { OnlyReads (R.sheet rows.old) (R.sheet rows.new) }
 {
     match *call {
-        Call::Store { first, last, entry } => plan_store(rows, kind, first, last, entry, path),
-        Call::StorePre { first, last, entry } => plan_store(rows, kind, first, last, entry, path),
-        Call::Insert { first, last, entry } => plan_insert(rows, kind, first, last, entry, path),
+        Call::Store { first, last, entry } => {
+            plan_store(rows, kind, Edit { first, last, entry }, path)
+        }
+        Call::StorePre { first, last, entry } => {
+            plan_store(rows, kind, Edit { first, last, entry }, path)
+        }
+        Call::Insert { first, last, entry } => {
+            plan_insert(rows, kind, Edit { first, last, entry }, path)
+        }
         Call::Erase { index } => plan_erase(rows, kind, index, path),
         Call::Alloc {
             size,
             min,
             max,
             entry,
-        } => plan_allocation(rows, kind, Sought::Lowest, size, min, max, entry, path),
+        } => {
+            let wanted = Wanted { size, min, max };
+            plan_allocation(rows, kind, Sought::Lowest, wanted, entry, path)
+        }
         Call::Ralloc {
             size,
             min,
             max,
             entry,
-        } => plan_allocation(rows, kind, Sought::Highest, size, min, max, entry, path),
-        Call::Gap { size, min, max } => plan_search(rows, kind, Sought::Lowest, size, min, max),
-        Call::Rgap { size, min, max } => plan_search(rows, kind, Sought::Highest, size, min, max),
+        } => {
+            let wanted = Wanted { size, min, max };
+            plan_allocation(rows, kind, Sought::Highest, wanted, entry, path)
+        }
+        Call::Gap { size, min, max } => {
+            let wanted = Wanted { size, min, max };
+            plan_search(rows, kind, Sought::Lowest, wanted)
+        }
+        Call::Rgap { size, min, max } => {
+            let wanted = Wanted { size, min, max };
+            plan_search(rows, kind, Sought::Highest, wanted)
+        }
         Call::Clear => plan_clear(rows),
     }
 }

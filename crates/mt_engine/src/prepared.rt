@@ -15,6 +15,7 @@ use mt_base::{Call, Kind, Reply};
 use mt_free::RowBook;
 use mt_path::Path;
 use mt_rows::Rows;
+use mt_splice::{Edit, Event};
 
 /// Carries out the store of this number, which was begun, with rows that are free, and gives the reply that it may end with.
 fn perform_prepared<R: Rows>(
@@ -23,31 +24,27 @@ fn perform_prepared<R: Rows>(
     kind: Kind,
     height: &mut u64,
     number: u64,
-    first: u64,
-    last: u64,
-    entry: u64,
+    edit: Edit,
 ) -> Reply
     requires in_call { IsInCall kind (R.sheet rows.old) book.old }
     requires number { number ≡ (R.sheet rows.old).ended + 1 }
     requires room { HasRoom (R.sheet rows.old).tree book.old }
     requires height { HasHeight (R.sheet rows.old).tree height.old }
-    ensures stored { IsStored kind (R.sheet rows.old) (R.sheet rows.new) book.old book.new (StorePre first last entry) result }
+    ensures stored { IsStored kind (R.sheet rows.old) (R.sheet rows.new) book.old book.new (StorePre edit.first edit.last edit.entry) result }
     ensures kept { is_refusal result ≡ true → (R.sheet rows.new).tree ≡ (R.sheet rows.old).tree }
     ensures height { HasHeight (R.sheet rows.new).tree height.new }
 {
-    let call = Call::StorePre { first, last, entry };
+    let Edit { first, last, entry } = edit;
+    let call = &Call::StorePre { first, last, entry };
     let mut path = Path::new();
-    match plan_store(rows, kind, first, last, entry, &mut path) {
-        Plan::Store {
-            first,
-            last,
-            entry,
-            reply,
-            here,
-        } => {
-            let is_new_root = store_at_hand(
-                rows, book, kind, &path, here, first, last, entry, number, &call, &reply,
-            );
+    match plan_store(rows, kind, edit, &mut path) {
+        Plan::Store { write, reply } => {
+            let event = Event {
+                number,
+                call,
+                reply: &reply,
+            };
+            let is_new_root = store_at_hand(rows, book, kind, &path, &write, &event);
             *height = height_after(rows, is_new_root, *height);
             reply
         }
@@ -62,18 +59,17 @@ pub fn store_prepared<R: Rows>(
     book: &mut RowBook,
     kind: Kind,
     height: &mut u64,
-    first: u64,
-    last: u64,
-    entry: u64,
+    edit: Edit,
 ) -> Reply
     requires measured { IsMeasured kind (R.sheet rows.old) book.old height.old }
     requires room { HasRoom (R.sheet rows.old).tree book.old }
     requires few { (R.sheet rows.old).ended < 2 ^ 62 - 1 }
-    ensures stored { IsPrestored kind (R.sheet rows.old) (R.sheet rows.new) book.old book.new (StorePre first last entry) result }
+    ensures stored { IsPrestored kind (R.sheet rows.old) (R.sheet rows.new) book.old book.new (StorePre edit.first edit.last edit.entry) result }
     ensures measured { IsMeasured kind (R.sheet rows.new) book.new height.new }
 {
     let number = rows.begin();
-    let reply = perform_prepared(rows, book, kind, height, number, first, last, entry);
+    let reply = perform_prepared(rows, book, kind, height, number, edit);
+    let Edit { first, last, entry } = edit;
     rows.finish(&Call::StorePre { first, last, entry }, &reply);
     reply
 }

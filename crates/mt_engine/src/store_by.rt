@@ -4,6 +4,7 @@ ghost use Rattle.std.specs.Prelude.{◌≡◌, ◌≢◌, ◌≤◌, Some};
 ghost use Rattle.mt_engine.specs.StoreBy.{IsDoneBy};
 
 use mt_path::Handle;
+use mt_splice::Edit;
 
 /// By what a store can be carried out: by no word, by one word in a slot, or by new rows.
 #[derive(Clone, Copy, Debug, PartialEq, Eq)]
@@ -13,11 +14,19 @@ pub enum StoreBy {
     NewRows,
 }
 
+/// A store as it is planned: what is stored, and by what it is carried out.
+#[derive(Clone, Copy, Debug, PartialEq, Eq)]
+pub struct Write {
+    pub edit: Edit,
+    pub by: StoreBy,
+}
+
 /// The same where something stands at the store's first index.
-fn store_by_at(here: Handle, first: u64, last: u64, entry: u64) -> StoreBy
-    ensures { IsDoneBy (Some here) first last entry result }
+fn store_by_at(here: Handle, edit: &Edit) -> StoreBy
+    ensures { IsDoneBy (Some here) edit.now.first edit.now.last edit.now.entry result }
 {
     let span = here.span;
+    let Edit { first, last, entry } = *edit;
     if entry == 0 && span.word == 0 && last <= span.last {
         return StoreBy::NoWord;
     }
@@ -28,13 +37,13 @@ fn store_by_at(here: Handle, first: u64, last: u64, entry: u64) -> StoreBy
 }
 
 /// By what a store can be carried out, as what stands at its first index tells; nothing stands in the empty tree.
-pub fn store_by(here: Option<Handle>, first: u64, last: u64, entry: u64) -> StoreBy
-    ensures { IsDoneBy here first last entry result }
+pub fn store_by(here: Option<Handle>, edit: &Edit) -> StoreBy
+    ensures { IsDoneBy here edit.now.first edit.now.last edit.now.entry result }
 {
     match here {
-        Some(handle) => store_by_at(handle, first, last, entry),
+        Some(handle) => store_by_at(handle, edit),
         None => {
-            if entry == 0 {
+            if edit.entry == 0 {
                 StoreBy::NoWord
             } else {
                 StoreBy::NewRows

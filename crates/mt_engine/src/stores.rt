@@ -19,13 +19,13 @@ ghost use Rattle.mt_engine.specs.Stores.{HasRoomFor, IsStored, wants_by};
 use crate::heights::is_root;
 use crate::mends::mend_at;
 use crate::rooms::make_room;
-use crate::store_by::{StoreBy, store_by};
-use mt_base::{Call, Kind, Reply, Shortage};
+use crate::store_by::{StoreBy, Write};
+use mt_base::{Call, Kind, Shortage};
 use mt_free::RowBook;
 use mt_layout::{RowKind, slots};
 use mt_path::{Handle, Path};
 use mt_rows::{Place, Rows};
-use mt_splice::replace_range;
+use mt_splice::{Event, replace_range};
 
 /// Where the word of a leaf's slot is published.
 fn place_of<R: Rows>(rows: &R, at: &Handle) -> Place
@@ -49,42 +49,35 @@ fn wants_by(call: &Call, by: &StoreBy) -> bool
     }
 }
 
-/// Stores `entry`, or a hole where it is 0, over `first` to `last`, to whose first index the path leads and where this
-/// stands: by no word where that leaves the map, by one where `first` to `last` is one range, else by new rows, which are at
-/// hand. It makes no scan. It tells whether the root is new, and so whether the tree may have another height.
+/// Carries out a store, to whose first index the path leads: by no word where that leaves the map, by one where it is over
+/// just one range, else by new rows, which are at hand. It makes no scan. It tells whether the root is new, and so whether the
+/// tree may have another height.
 pub fn store_at_hand<R: Rows>(
     rows: &mut R,
     book: &mut RowBook,
     kind: Kind,
     path: &Path,
-    here: Option<Handle>,
-    first: u64,
-    last: u64,
-    entry: u64,
-    number: u64,
-    call: &Call,
-    reply: &Reply,
+    write: &Write,
+    event: &Event<'_>,
 ) -> bool
     requires in_call { IsInCall kind (R.sheet rows.old) book.old }
-    requires number { number ≡ (R.sheet rows.old).ended + 1 }
-    requires plan { IsStorePlan kind (R.sheet rows.old).tree call.now path.now.items first last entry reply.now here }
-    requires room { HasRoomFor kind (R.sheet rows.old) book.old call.now }
-    ensures stored { IsStored kind (R.sheet rows.old) (R.sheet rows.new) book.old book.new call.now reply.now }
-    ensures exact { is_exact_store (map_by (R.sheet rows.old).tree) first last entry ≡ true → ChangesEntry (R.sheet rows.old).tree (R.sheet rows.new).tree (R.sheet rows.old).lives (R.sheet rows.new).lives book.old book.new first entry }
+    requires number { event.now.number ≡ (R.sheet rows.old).ended + 1 }
+    requires plan { IsStorePlan kind (R.sheet rows.old).tree event.now.call.now path.now.items write.now event.now.reply.now }
+    requires room { HasRoomFor kind (R.sheet rows.old) book.old event.now.call.now }
+    ensures stored { IsStored kind (R.sheet rows.old) (R.sheet rows.new) book.old book.new event.now.call.now event.now.reply.now }
+    ensures exact { let edit = write.now.edit in is_exact_store (map_by (R.sheet rows.old).tree) edit.first edit.last edit.entry ≡ true → ChangesEntry (R.sheet rows.old).tree (R.sheet rows.new).tree (R.sheet rows.old).lives (R.sheet rows.new).lives book.old book.new edit.first edit.entry }
     ensures height { result ≡ false → SameHeight (R.sheet rows.old).tree (R.sheet rows.new).tree }
 {
-    match store_by(here, first, last, entry) {
+    match write.by {
         StoreBy::NoWord => false,
         StoreBy::OneWord { at } => {
             let place = place_of(rows, &at);
-            rows.publish(place, entry, call, reply);
+            rows.publish(place, write.edit.entry, event.call, event.reply);
             false
         }
         StoreBy::NewRows => {
-            let spliced = replace_range(
-                rows, book, kind, path, first, last, entry, number, call, reply,
-            );
-            mend_at(rows, kind, &spliced, path, first);
+            let spliced = replace_range(rows, book, kind, path, &write.edit, event);
+            mend_at(rows, kind, &spliced, path, write.edit.first);
             is_root(&spliced.place)
         }
     }
@@ -96,28 +89,21 @@ pub fn store<R: Rows>(
     book: &mut RowBook,
     kind: Kind,
     path: &Path,
-    here: Option<Handle>,
-    first: u64,
-    last: u64,
-    entry: u64,
-    number: u64,
-    call: &Call,
-    reply: &Reply,
+    write: &Write,
+    event: &Event<'_>,
 ) -> Result<bool, Shortage>
     requires in_call { IsInCall kind (R.sheet rows.old) book.old }
-    requires number { number ≡ (R.sheet rows.old).ended + 1 }
+    requires number { event.now.number ≡ (R.sheet rows.old).ended + 1 }
     requires few { (R.sheet rows.old).ended < 2 ^ 62 - 1 }
     requires unscanned { (R.sheet rows.old).scans ≡ 0 }
-    requires plan { IsStorePlan kind (R.sheet rows.old).tree call.now path.now.items first last entry reply.now here }
-    ensures done { IfOk result (λ _. IsAnswered kind (R.sheet rows.old) (R.sheet rows.new) book.old book.new call.now reply.now) }
-    ensures exact { IfOk result (λ _. call.now ≡ Store first last entry → is_exact_store (map_by (R.sheet rows.old).tree) first last entry ≡ true → ChangesEntry (R.sheet rows.old).tree (R.sheet rows.new).tree (R.sheet rows.old).lives (R.sheet rows.new).lives book.old book.new first entry) }
+    requires plan { IsStorePlan kind (R.sheet rows.old).tree event.now.call.now path.now.items write.now event.now.reply.now }
+    ensures done { IfOk result (λ _. IsAnswered kind (R.sheet rows.old) (R.sheet rows.new) book.old book.new event.now.call.now event.now.reply.now) }
+    ensures exact { let edit = write.now.edit in IfOk result (λ _. event.now.call.now ≡ Store edit.first edit.last edit.entry → is_exact_store (map_by (R.sheet rows.old).tree) edit.first edit.last edit.entry ≡ true → ChangesEntry (R.sheet rows.old).tree (R.sheet rows.new).tree (R.sheet rows.old).lives (R.sheet rows.new).lives book.old book.new edit.first edit.entry) }
     ensures height { IfOk result (λ is_new_root. is_new_root ≡ false → SameHeight (R.sheet rows.old).tree (R.sheet rows.new).tree) }
-    ensures short { IfErr result (λ shortage. IsAnswered kind (R.sheet rows.old) (R.sheet rows.new) book.old book.new call.now (NoNodes shortage)) }
+    ensures short { IfErr result (λ shortage. IsAnswered kind (R.sheet rows.old) (R.sheet rows.new) book.old book.new event.now.call.now (NoNodes shortage)) }
 {
-    if wants_by(call, &store_by(here, first, last, entry)) {
+    if wants_by(event.call, &write.by) {
         make_room(rows, book, path.len() as u64)?;
     }
-    Ok(store_at_hand(
-        rows, book, kind, path, here, first, last, entry, number, call, reply,
-    ))
+    Ok(store_at_hand(rows, book, kind, path, write, event))
 }

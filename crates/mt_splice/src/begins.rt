@@ -7,9 +7,10 @@ ghost use Rattle.mt_splice.specs.steps.Entries.{IsFirst};
 ghost use Rattle.mt_splice.specs.Splice.{IsSpliced};
 
 use crate::begun::Begun;
+use crate::calls::Event;
+use crate::climbing::Top;
 use crate::drafting::draft_piece;
 use crate::ends::publish_at;
-use crate::replacing::Event;
 use crate::ways::Level;
 use crate::writes::NewRows;
 use mt_free::RowBook;
@@ -33,15 +34,8 @@ pub fn begin_tree<R: Rows, B: Begun>(
     let kind = RowKind::Leaf;
     let level = Level { kind, above };
     let leaf = draft_piece(rows, book, level, 0, items, &mut made);
-    publish_at::<R, B>(
-        rows,
-        book,
-        above,
-        Place::Root,
-        leaf.word,
-        made.as_slice(),
-        event.call,
-        event.reply,
-    );
-    Place::Root
+    let (place, word, gap) = (Place::Root, leaf.word, 0);
+    let top = Top { place, word, gap };
+    publish_at::<R, B>(rows, book, above, &top, made.as_slice(), event);
+    place
 }

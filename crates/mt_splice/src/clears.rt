@@ -8,9 +8,10 @@ ghost use Rattle.mt_splice.specs.steps.Entries.{IsBegunBy};
 ghost use Rattle.mt_splice.specs.Splice.{MayClear, IsSpliced};
 
 use crate::begun::Begun;
+use crate::calls::Event;
 use crate::climbing::{Top, climb_between, push_above};
-use crate::replacing::{Event, publish_climbed};
-use mt_base::{Call, Kind, Reply, top};
+use crate::replacing::publish_climbed;
+use mt_base::{Kind, top};
 use mt_free::RowBook;
 use mt_path::{copy_of, walk, walk_on};
 use mt_rows::{Place, Rows, inner_kind};
@@ -38,24 +39,12 @@ fn clear_as<R: Rows, B: Begun>(rows: &mut R, book: &mut RowBook, kind: Kind, eve
 
 /// Empties a tree: publishes 0 at the root word, by one store, and retires every row with the call's number. It takes no
 /// row.
-pub fn clear<R: Rows>(
-    rows: &mut R,
-    book: &mut RowBook,
-    kind: Kind,
-    number: u64,
-    call: &Call,
-    reply: &Reply,
-)
-    requires { MayClear kind (R.sheet rows.old) book.old number call.now reply.now }
-    ensures spliced { IsSpliced kind (R.sheet rows.old) (R.sheet rows.new) book.old book.new number call.now reply.now Root 0 (greatest (R.sheet rows.old).tree.table.width) }
+pub fn clear<R: Rows>(rows: &mut R, book: &mut RowBook, kind: Kind, event: &Event<'_>)
+    requires { MayClear kind (R.sheet rows.old) book.old event.now.number event.now.call.now event.now.reply.now }
+    ensures spliced { IsSpliced kind (R.sheet rows.old) (R.sheet rows.new) book.old book.new event.now.number event.now.call.now event.now.reply.now Root 0 (greatest (R.sheet rows.old).tree.table.width) }
     ensures none_taken { book.new.free ≡ book.old.free }
     ensures root { (R.sheet rows.new).tree.root ≡ 0 }
     ensures map { map_by (R.sheet rows.new).tree ≡ [] }
 {
-    let event = Event {
-        number,
-        call,
-        reply,
-    };
-    clear_as::<R, Brand>(rows, book, kind, &event);
+    clear_as::<R, Brand>(rows, book, kind, event);
 }

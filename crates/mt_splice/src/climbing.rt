@@ -16,7 +16,7 @@ use crate::begun::Begun;
 use crate::decisions::{Next, next_of};
 use crate::drafting::{draft_piece, draft_rows};
 use crate::gathers::gather_above;
-use crate::ways::{Gathered, Level, Pieces, Ways, Window, Windows, step_on};
+use crate::ways::{Gathered, Level, Pieces, Ways, Windows, step_on, window_on};
 use crate::widening::widen;
 use crate::writes::NewRows;
 use arrayvec::ArrayVec;
@@ -70,19 +70,6 @@ pub fn climb_between(inner: RowKind, left: Path, right: Path) -> Climb
         inner,
         windows: Windows::new(),
         made: NewRows::new(),
-    }
-}
-
-/// The window of the paths on a level.
-fn window_on(ways: &Ways, depth: u32) -> Window
-    requires left { depth < length ways.now.left.items }
-    requires right { depth < length ways.now.right.items }
-    ensures first { result.first ≡ step_at ways.now.left.items depth }
-    ensures last { result.last ≡ step_at ways.now.right.items depth }
-{
-    Window {
-        first: step_on(&ways.left, depth),
-        last: step_on(&ways.right, depth),
     }
 }
 

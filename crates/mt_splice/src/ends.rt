@@ -8,9 +8,10 @@ ghost use Rattle.mt_splice.specs.Splice.{IsSpliced, TellsBelow, TellsAt};
 ghost use Rattle.mt_splice.specs.steps.Ends.{MayPublishEnd, MayTendRows, AreRowsTended, MayTendTopAt, IsTopTendedAt};
 
 use crate::begun::Begun;
+use crate::calls::Event;
+use crate::climbing::Top;
 use crate::tends::tend_children;
 use crate::writes::NewRow;
-use mt_base::{Call, Reply};
 use mt_free::RowBook;
 use mt_layout::{RowKind, parent_word, row_of, slots};
 use mt_rows::{Place, Rows};
@@ -49,18 +50,16 @@ pub fn publish_at<R: Rows, B: Begun>(
     rows: &mut R,
     book: &RowBook,
     kind: RowKind,
-    place: Place,
-    word: u64,
+    top: &Top,
     inner: &[NewRow],
-    call: &Call,
-    reply: &Reply,
+    event: &Event<'_>,
 )
     requires kind { kind ≡ inner_of B.start.tree.gapped }
-    requires end { MayPublishEnd B.before B.start (R.sheet rows.old) book.now inner.now place word call.now reply.now }
-    ensures spliced { IsSpliced B.before.kind B.before.sheet (R.sheet rows.new) B.before.book book.now B.before.number call.now reply.now place B.start.first B.start.last }
-    ensures told { (row col gap : ℕ) → place ≡ Slot row col → TellsBelow B.before.kind (with_published (R.sheet rows.old).tree place word) word gap → TellsAt B.before.kind (R.sheet rows.new).tree place gap }
+    requires end { MayPublishEnd B.before B.start (R.sheet rows.old) book.now inner.now top.now.place top.now.word event.now.call.now event.now.reply.now }
+    ensures spliced { IsSpliced B.before.kind B.before.sheet (R.sheet rows.new) B.before.book book.now B.before.number event.now.call.now event.now.reply.now top.now.place B.start.first B.start.last }
+    ensures told { (row col gap : ℕ) → top.now.place ≡ Slot row col → TellsBelow B.before.kind (with_published (R.sheet rows.old).tree top.now.place top.now.word) top.now.word gap → TellsAt B.before.kind (R.sheet rows.new).tree top.now.place gap }
 {
-    rows.publish(place, word, call, reply);
+    rows.publish(top.place, top.word, event.call, event.reply);
     tend_rows(rows, kind, inner);
-    tend_top(rows, kind, place, word);
+    tend_top(rows, kind, top.place, top.word);
 }

@@ -9,7 +9,7 @@ ghost use Rattle.mt_splice.specs.steps.Writes.{items_of_row};
 
 use crate::begun::Begun;
 use crate::reads::{push_all, push_items};
-use crate::ways::{Gathered, Ways, step_on};
+use crate::ways::{Gathered, Ways, Window, step_on, window_on};
 use mt_layout::{Item, RowKind, Run, slots};
 use mt_leaf::Towards;
 use mt_path::PathStep;
@@ -25,7 +25,7 @@ fn push_behind<R: Rows>(rows: &mut R, kind: RowKind, step: &PathStep, run: &mut 
     ensures rest { OnlyReads (R.sheet rows.old) (R.sheet rows.new) }
 {
     let slots = slots(rows.width(), kind);
-    push_items(rows, kind, step.row, step.max, step.slot + 1, slots, run);
+    push_items(rows, kind, step, step.slot + 1, slots, run);
 }
 
 /// Fills a run, which may hold other items, from rows of this kind with those left of the left path's slot, the new ones, which
@@ -34,23 +34,23 @@ fn push_behind<R: Rows>(rows: &mut R, kind: RowKind, step: &PathStep, run: &mut 
 fn gather<R: Rows>(
     rows: &mut R,
     kind: RowKind,
-    left: &PathStep,
+    window: &Window,
     new: &[Item],
     last: u64,
-    right: &PathStep,
     run: &mut Run,
 )
-    requires left_row { (first_row ≤ left.now.row) × (left.now.row < first_row + (R.sheet rows.old).tree.rows) }
-    requires right_row { (first_row ≤ right.now.row) × (right.now.row < first_row + (R.sheet rows.old).tree.rows) }
-    requires left_slot { left.now.slot ≤ slots_of (R.sheet rows.old).tree.table.width kind }
+    requires left_row { let left = window.now.first in (first_row ≤ left.row) × (left.row < first_row + (R.sheet rows.old).tree.rows) }
+    requires right_row { let right = window.now.last in (first_row ≤ right.row) × (right.row < first_row + (R.sheet rows.old).tree.rows) }
+    requires left_slot { window.now.first.slot ≤ slots_of (R.sheet rows.old).tree.table.width kind }
     requires few { length new.now ≤ 3 }
-    requires more { last < right.now.max → right.now.slot + 1 < length (items_of_row (R.sheet rows.old).tree.table kind right.now.row right.now.max) }
-    requires none { right.now.max ≤ last → length (items_of_row (R.sheet rows.old).tree.table kind right.now.row right.now.max) ≤ right.now.slot + 1 }
-    ensures items { let t = (R.sheet rows.old).tree.table in run.new.items ≡ take left.now.slot (items_of_row t kind left.now.row left.now.max) ++ (new.now ++ drop (right.now.slot + 1) (items_of_row t kind right.now.row right.now.max)) }
+    requires more { let right = window.now.last in last < right.max → right.slot + 1 < length (items_of_row (R.sheet rows.old).tree.table kind right.row right.max) }
+    requires none { let right = window.now.last in right.max ≤ last → length (items_of_row (R.sheet rows.old).tree.table kind right.row right.max) ≤ right.slot + 1 }
+    ensures items { let t = (R.sheet rows.old).tree.table in let left = window.now.first in let right = window.now.last in run.new.items ≡ take left.slot (items_of_row t kind left.row left.max) ++ (new.now ++ drop (right.slot + 1) (items_of_row t kind right.row right.max)) }
     ensures rest { OnlyReads (R.sheet rows.old) (R.sheet rows.new) }
 {
+    let (left, right) = (&window.first, &window.last);
     run.clear();
-    push_items(rows, kind, left.row, left.max, 0, left.slot, run);
+    push_items(rows, kind, left, 0, left.slot, run);
     push_all(run, new);
     if last < right.max {
         push_behind(rows, kind, right, run);
@@ -58,10 +58,10 @@ fn gather<R: Rows>(
 }
 
 /// Where the change stands among the items of a row above: at their end, at their beginning, or between.
-fn towards_of(left: &PathStep, last: u64, right: &PathStep) -> Towards {
-    if right.max <= last {
+fn towards_of(window: &Window, last: u64) -> Towards {
+    if window.last.max <= last {
         Towards::Last
-    } else if left.slot == 0 {
+    } else if window.first.slot == 0 {
         Towards::First
     } else {
         Towards::Middle
@@ -82,9 +82,8 @@ pub fn gather_above<R: Rows, B: Begun>(
     ensures all { gathered.new.run.items ≡ items_above (R.sheet rows.old).tree kind depth ways.now.left.items ways.now.right.items new.now }
     ensures rest { OnlyReads (R.sheet rows.old) (R.sheet rows.new) }
 {
-    let left = step_on(&ways.left, depth);
-    let right = step_on(&ways.right, depth);
+    let window = window_on(ways, depth);
     let last = step_on(&ways.right, depth + 1).max;
-    gather(rows, kind, &left, new, last, &right, &mut gathered.run);
-    gathered.towards = towards_of(&left, last, &right);
+    gather(rows, kind, &window, new, last, &mut gathered.run);
+    gathered.towards = towards_of(&window, last);
 }

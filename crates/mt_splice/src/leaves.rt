@@ -13,8 +13,9 @@ ghost use Rattle.mt_rows.specs.Sheet.{OnlyReads};
 ghost use Rattle.mt_splice.specs.steps.Regions.{AreEnds, IsLeafStep, leaf_items};
 ghost use Rattle.mt_splice.specs.Splice.{region_of};
 
+use crate::calls::Edit;
 use crate::reads::{first_in, push_items};
-use crate::ways::{Edit, Gathered, Ways, step_on};
+use crate::ways::{Gathered, Ways, step_on};
 use mt_base::{Width, top};
 use mt_layout::{Item, RowKind, Run, slots};
 use mt_leaf::{Towards, edit_into, push_joined};
@@ -28,7 +29,7 @@ fn push_below<R: Rows>(rows: &mut R, leaf: &PathStep, first: u64, run: &mut Run)
     ensures items { run.new.items ≡ items_below leaf.now.min (leaf_items (R.sheet rows.old).tree.table leaf.now) first }
     ensures rest { OnlyReads (R.sheet rows.old) (R.sheet rows.new) }
 {
-    push_items(rows, RowKind::Leaf, leaf.row, leaf.max, 0, leaf.slot, run);
+    push_items(rows, RowKind::Leaf, leaf, 0, leaf.slot, run);
     if first <= first_in(leaf.min, run.as_slice(), leaf.slot as usize) {
         return;
     }

@@ -5,6 +5,7 @@
 mod begins;
 mod begun;
 mod burying;
+mod calls;
 mod clears;
 mod climbing;
 mod decisions;
@@ -22,6 +23,7 @@ mod ways;
 mod widening;
 mod writes;
 
+pub use calls::{Edit, Event};
 pub use clears::clear;
 pub use spliced::Spliced;
 pub use splices::{replace_range, splice};

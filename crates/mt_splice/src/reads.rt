@@ -9,6 +9,7 @@ ghost use Rattle.mt_layout.specs.Sizes.{slots_of, gaps_of, run_room};
 ghost use Rattle.mt_rows.specs.Sheet.{OnlyReads};
 
 use mt_layout::{Item, RowKind, Run, slots};
+use mt_path::PathStep;
 use mt_rows::{Rows, load_item};
 use std::ops::Range;
 
@@ -25,29 +26,27 @@ pub fn first_in(first: u64, items: &[Item], slot: usize) -> u64
     items[slot - 1].last + 1
 }
 
-/// Appends the items of a row that covers the indexes up to `max`, from one slot up to, but without, another, or to the
-/// row's last item.
+/// Appends the items of a row of a path from one slot up to, but without, another, or to the row's last item.
 #[tactic(auto, using(crate::proofs::Readings::one_more_read, crate::proofs::Readings::last_read, crate::proofs::Readings::all_read))]
 pub fn push_items<R: Rows>(
     rows: &mut R,
     kind: RowKind,
-    row: u32,
-    max: u64,
+    step: &PathStep,
     from: u32,
     to: u32,
     run: &mut Run,
 )
-    requires first { first_row ≤ row }
-    requires last { row < first_row + (R.sheet rows.old).tree.rows }
+    requires first { first_row ≤ step.now.row }
+    requires last { step.now.row < first_row + (R.sheet rows.old).tree.rows }
     requires room { length run.old.items + (to - from) ≤ run_room }
-    ensures items { let t = (R.sheet rows.old).tree.table in run.new.items ≡ run.old.items ++ take (to - from) (items_from (slots_of t.width kind) (gaps_of t.width kind) t.words (base_of t row) max (slots_of t.width kind - from) from) }
+    ensures items { let t = (R.sheet rows.old).tree.table in run.new.items ≡ run.old.items ++ take (to - from) (items_from (slots_of t.width kind) (gaps_of t.width kind) t.words (base_of t step.now.row) step.now.max (slots_of t.width kind - from) from) }
     ensures rest { OnlyReads (R.sheet rows.old) (R.sheet rows.new) }
 {
     let end = to.min(slots(rows.width(), kind));
     for slot in from..end {
-        let item = load_item(rows, kind, row, max, slot);
+        let item = load_item(rows, kind, step.row, step.max, slot);
         run.push(item);
-        if max <= item.last {
+        if step.max <= item.last {
             return;
         }
     }

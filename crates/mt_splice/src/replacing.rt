@@ -8,20 +8,12 @@ ghost use Rattle.mt_splice.specs.steps.Replacing.{IsAnswer};
 
 use crate::begun::Begun;
 use crate::burying::bury;
+use crate::calls::Event;
 use crate::climbing::{Climb, Top, climb_up};
 use crate::ends::publish_at;
 use crate::spliced::Spliced;
-use mt_base::{Call, Reply};
 use mt_free::RowBook;
 use mt_rows::Rows;
-
-/// A call in flight: its number, and the reply that it is to have.
-#[derive(Drop)]
-pub struct Event<'a> {
-    pub number: u64,
-    pub call: &'a Call,
-    pub reply: &'a Reply,
-}
 
 /// Buries the rows of a climb's windows, the lowest of which is on this level, and publishes its word.
 pub fn publish_climbed<R: Rows, B: Begun>(
@@ -42,16 +34,7 @@ pub fn publish_climbed<R: Rows, B: Begun>(
     ensures none_taken { book.new.free ≡ book.old.free }
 {
     bury(rows, book, climb.windows.as_slice(), depth, event.number);
-    publish_at::<R, B>(
-        rows,
-        book,
-        climb.inner,
-        top.place,
-        top.word,
-        climb.made.as_slice(),
-        event.call,
-        event.reply,
-    );
+    publish_at::<R, B>(rows, book, climb.inner, &top, climb.made.as_slice(), event);
     Spliced {
         place: top.place,
         gap: top.gap,

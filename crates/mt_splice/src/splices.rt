@@ -8,12 +8,12 @@ ghost use Rattle.mt_splice.specs.Splice.{MaySplice, MayReplace, IsSpliced, Tells
 
 use crate::begins::begin_tree;
 use crate::begun::Begun;
+use crate::calls::{Edit, Event};
 use crate::climbing::{Climb, climb_between};
 use crate::leaves::fill_leaves;
 use crate::reads::push_all;
-use crate::replacing::{Event, replace};
+use crate::replacing::replace;
 use crate::spliced::{Spliced, at_root};
-use crate::ways::Edit;
 use mt_base::{Call, Kind, Reply};
 use mt_free::RowBook;
 use mt_layout::Run;
@@ -89,33 +89,23 @@ pub fn splice<R: Rows>(
     splice_climb(rows, book, kind, &mut climb, &event).place
 }
 
-/// Stores an entry, or a hole where it is 0, over `first` to `last`, by new rows; `left` is the path to `first`. The leaves
-/// at both ends are read and replaced. It gives the place of the one store that publishes, and what the row there tells.
+/// Carries out a store by new rows; `left` is the path to its first index. The leaves at both ends are read and replaced. It
+/// gives the place of the one store that publishes, and what the row there tells.
 pub fn replace_range<R: Rows>(
     rows: &mut R,
     book: &mut RowBook,
     kind: Kind,
     left: &Path,
-    first: u64,
-    last: u64,
-    entry: u64,
-    number: u64,
-    call: &Call,
-    reply: &Reply,
+    edit: &Edit,
+    event: &Event<'_>,
 ) -> Spliced
-    requires { MayReplace kind (R.sheet rows.old) book.old left.now.items first last entry number call.now reply.now }
-    ensures spliced { IsSpliced kind (R.sheet rows.old) (R.sheet rows.new) book.old book.new number call.now reply.now result.place first last }
+    requires { MayReplace kind (R.sheet rows.old) book.old left.now.items edit.now.first edit.now.last edit.now.entry event.now.number event.now.call.now event.now.reply.now }
+    ensures spliced { IsSpliced kind (R.sheet rows.old) (R.sheet rows.new) book.old book.new event.now.number event.now.call.now event.now.reply.now result.place edit.now.first edit.now.last }
     ensures told { TellsAt kind (R.sheet rows.new).tree result.place result.gap }
 {
     let mut climb = climb_between(inner_kind(kind), copy_of(left), Path::new());
     copy_into(left, &mut climb.ways.right);
-    go_on(rows, &mut climb.ways.right, last);
-    let edit = Edit { first, last, entry };
-    fill_leaves(rows, &climb.ways, &mut climb.gathered, &edit);
-    let event = Event {
-        number,
-        call,
-        reply,
-    };
-    splice_climb(rows, book, kind, &mut climb, &event)
+    go_on(rows, &mut climb.ways.right, edit.last);
+    fill_leaves(rows, &climb.ways, &mut climb.gathered, edit);
+    splice_climb(rows, book, kind, &mut climb, event)
 }

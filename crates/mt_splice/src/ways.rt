@@ -47,18 +47,23 @@ pub struct Pieces {
     pub ends: ArrayVec<u32, 3>,
 }
 
-/// A store of an entry, or of a hole where it is 0, over `first` to `last`.
-#[derive(Clone, Copy, Debug, PartialEq, Eq)]
-pub struct Edit {
-    pub first: u64,
-    pub last: u64,
-    pub entry: u64,
-}
-
 /// A path's step at a level, the root's level being 0.
 pub fn step_on(path: &Path, depth: u32) -> PathStep
     requires { depth < length path.now.items }
     ensures { result ≡ step_at path.now.items depth }
 {
     path[depth as usize]
+}
+
+/// The window of the paths on a level.
+pub fn window_on(ways: &Ways, depth: u32) -> Window
+    requires left { depth < length ways.now.left.items }
+    requires right { depth < length ways.now.right.items }
+    ensures first { result.first ≡ step_at ways.now.left.items depth }
+    ensures last { result.last ≡ step_at ways.now.right.items depth }
+{
+    Window {
+        first: step_on(&ways.left, depth),
+        last: step_on(&ways.right, depth),
+    }
 }

@@ -57,7 +57,7 @@ fn row_items<R: Rows>(rows: &mut R, kind: RowKind, step: &PathStep) -> Run
 {
     let mut run = Run::new();
     let slots = slots(rows.width(), kind);
-    push_items(rows, kind, step.row, step.max, 0, slots, &mut run);
+    push_items(rows, kind, step, 0, slots, &mut run);
     run
 }
 

@@ -18,7 +18,7 @@ walk_to-here-requires-clause-index g c =
     let t = (g.R.Rows.sheet c.args.rows.now).tree in
     let same = ap (λ (r : Sheet). r.tree) c.highest.ensures.reads.rest in
     subst (λ (x : Rooted). c.in_ok-start.start ≤ greatest x.table.width) (sym same)
-    (highest_within t c.args.size c.args.min c.args.max c.in_ok-start.start c.requires.tree c.requires.size c.requires.within c.in_ok-start.ensures.place)
+    (highest_within t c.args.wanted.size c.args.wanted.min c.args.wanted.max c.in_ok-start.start c.requires.tree c.requires.size c.requires.within c.in_ok-start.ensures.place)
 
 pub returns-clause-way : goal.returns-clause-way
 returns-clause-way g c =

@@ -37,7 +37,7 @@ store-requires-clause-unscanned g c = unscanned_if_read (g.R.Rows.sheet c.args.r
 pub store-requires-clause-plan : goal.store-requires-clause-plan
 store-requires-clause-plan g c =
     let s = g.R.Rows.sheet c.args.rows.now in
-    subst (λ (t : Rooted). IsStorePlan c.args.kind t c.args.call.now c.plan_of.new.path.items c.in-Store.first c.in-Store.last c.in-Store.entry c.in-Store.reply c.in-Store.here) (sym (same_tree s (g.R.Rows.sheet c.plan_of.new.rows) c.plan_of.ensures.rest))
+    subst (λ (t : Rooted). IsStorePlan c.args.kind t c.args.call.now c.plan_of.new.path.items c.in-Store.write c.in-Store.reply) (sym (same_tree s (g.R.Rows.sheet c.plan_of.new.rows) c.plan_of.ensures.rest))
     (subst (IsPlan c.args.kind s.tree c.args.call.now c.plan_of.new.path.items) c.in-Store.is c.plan_of.ensures.plan)
 
 pub returns-in-Nothing : goal.returns-in-Nothing
@@ -77,9 +77,9 @@ returns-in-Ok g c =
       answered =
           answered_after_reads c.args.kind s (g.R.Rows.sheet c.plan_of.new.rows) (g.R.Rows.sheet c.height_after.new.rows) c.args.book.now c.store.new.book c.args.call.now c.in-Store.reply c.plan_of.ensures.rest
           (answered_before_reads c.args.kind (g.R.Rows.sheet c.plan_of.new.rows) (g.R.Rows.sheet c.store.new.rows) (g.R.Rows.sheet c.height_after.new.rows) c.args.book.now c.store.new.book c.args.call.now c.in-Store.reply c.height_after.ensures.rest c.in-Ok.ensures.done);
-      search = λ only. absurd (store_is_no_search (map_by s.tree) c.args.call.now c.in-Store.first c.in-Store.last c.in-Store.entry c.in-Store.reply plan.own (success_is_not_busy c.in-Store.reply plan.success) only);
+      search = λ only. absurd (store_is_no_search (map_by s.tree) c.args.call.now c.in-Store.write.edit.first c.in-Store.write.edit.last c.in-Store.write.edit.entry c.in-Store.reply plan.own (success_is_not_busy c.in-Store.reply plan.success) only);
       exact =
-          stores_exactly s (g.R.Rows.sheet c.plan_of.new.rows) (g.R.Rows.sheet c.store.new.rows) (g.R.Rows.sheet c.height_after.new.rows) c.args.book.now c.store.new.book c.args.call.now c.in-Store.reply c.in-Store.first c.in-Store.last c.in-Store.entry
+          stores_exactly s (g.R.Rows.sheet c.plan_of.new.rows) (g.R.Rows.sheet c.store.new.rows) (g.R.Rows.sheet c.height_after.new.rows) c.args.book.now c.store.new.book c.args.call.now c.in-Store.reply c.in-Store.write.edit.first c.in-Store.write.edit.last c.in-Store.write.edit.entry
           c.plan_of.ensures.rest c.height_after.ensures.rest plan.own c.in-Ok.ensures.exact;
     }
 
@@ -92,7 +92,7 @@ returns-in-Err g c =
           subst (λ (t : Rooted). HasHeight t c.args.height.now)
           (sym (refusal_stays c.args.kind (g.R.Rows.sheet c.plan_of.new.rows) (g.R.Rows.sheet c.store.new.rows) c.args.book.now c.store.new.book c.args.call.now (NoNodes c.in-Err.shortage) refl c.in-Err.ensures.short.answer ∙ same_tree s (g.R.Rows.sheet c.plan_of.new.rows) c.plan_of.ensures.rest)) c.requires.height;
       answered = answered_after_reads c.args.kind s (g.R.Rows.sheet c.plan_of.new.rows) (g.R.Rows.sheet c.store.new.rows) c.args.book.now c.store.new.book c.args.call.now (NoNodes c.in-Err.shortage) c.plan_of.ensures.rest c.in-Err.ensures.short;
-      search = λ only. absurd (store_is_no_search (map_by s.tree) c.args.call.now c.in-Store.first c.in-Store.last c.in-Store.entry (NoNodes c.in-Err.shortage) plan.own (shortage_is_not_busy c.in-Err.shortage) only);
+      search = λ only. absurd (store_is_no_search (map_by s.tree) c.args.call.now c.in-Store.write.edit.first c.in-Store.write.edit.last c.in-Store.write.edit.entry (NoNodes c.in-Err.shortage) plan.own (shortage_is_not_busy c.in-Err.shortage) only);
       exact = λ first last entry is over success. absurd (not_both true refl success);
     }
 

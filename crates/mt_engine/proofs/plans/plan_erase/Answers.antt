@@ -23,5 +23,5 @@ returns-then-span-eq0-clause-plan g c =
 pub returns-clause-plan : goal.returns-clause-plan
 returns-clause-plan g c =
     let t = (g.R.Rows.sheet c.args.rows.now).tree in
-    erase_plan t c.args.kind c.requires.tree c.args.index (subst (λ (n : ℕ). c.args.index ≤ n) c.top_of.ensures c.if-index-top_of.false) c.in-Some.handle (record { none = c.in-Some.ensures.none; some = c.in-Some.ensures.some }) c.walk_to.new.path.items c.range_in.result c.if-span-eq0.false
-    c.in-Some.ensures.path c.range_in.ensures
+    erase_plan t c.args.kind c.requires.tree c.args.index (subst (λ (n : ℕ). c.args.index ≤ n) c.top_of.ensures c.if-index-top_of.false) c.in-Some.handle (record { none = c.in-Some.ensures.none; some = c.in-Some.ensures.some }) c.if-span-eq0.false
+    c.in-Some.ensures.path c.range_in.ensures c.store_by-by.ensures

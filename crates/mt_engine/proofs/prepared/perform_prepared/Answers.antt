@@ -20,8 +20,8 @@ store_at_hand-is_new_root-requires-clause-in_call g c = in_call_if_read c.args.k
 pub store_at_hand-is_new_root-requires-clause-plan : goal.store_at_hand-is_new_root-requires-clause-plan
 store_at_hand-is_new_root-requires-clause-plan g c =
     let s = g.R.Rows.sheet c.args.rows.now in
-    subst (λ (t : Rooted). IsStorePlan c.args.kind t (StorePre c.args.first c.args.last c.args.entry) c.plan_store.new.path.items c.in-Store.first c.in-Store.last c.in-Store.entry c.in-Store.reply c.in-Store.here) (sym (same_tree s (g.R.Rows.sheet c.plan_store.new.rows) c.plan_store.ensures.rest))
-    (subst (IsPlan c.args.kind s.tree (StorePre c.args.first c.args.last c.args.entry) c.plan_store.new.path.items) c.in-Store.is c.plan_store.ensures.at_hand)
+    subst (λ (t : Rooted). IsStorePlan c.args.kind t (StorePre c.args.edit.first c.args.edit.last c.args.edit.entry) c.plan_store.new.path.items c.in-Store.write c.in-Store.reply) (sym (same_tree s (g.R.Rows.sheet c.plan_store.new.rows) c.plan_store.ensures.rest))
+    (subst (IsPlan c.args.kind s.tree (StorePre c.args.edit.first c.args.edit.last c.args.edit.entry) c.plan_store.new.path.items) c.in-Store.is c.plan_store.ensures.at_hand)
 
 pub store_at_hand-is_new_root-requires-clause-room : goal.store_at_hand-is_new_root-requires-clause-room
 store_at_hand-is_new_root-requires-clause-room g c =
@@ -44,7 +44,7 @@ returns-in-Store-clause-stored g c =
     let s₁ = g.R.Rows.sheet c.plan_store.new.rows in
     let s₂ = g.R.Rows.sheet c.store_at_hand-is_new_root.new.rows in
     let s' = g.R.Rows.sheet c.height_after.new.rows in
-    let call = StorePre c.args.first c.args.last c.args.entry in
+    let call = StorePre c.args.edit.first c.args.edit.last c.args.edit.entry in
     stored_after_reads c.args.kind s s₁ s' c.args.book.now c.store_at_hand-is_new_root.new.book call c.in-Store.reply c.plan_store.ensures.rest
     (stored_before_reads c.args.kind s₁ s₂ s' c.args.book.now c.store_at_hand-is_new_root.new.book call c.in-Store.reply c.height_after.ensures.rest c.store_at_hand-is_new_root.ensures.stored)
 
@@ -57,7 +57,7 @@ pub returns-in-Nothing-clause-stored : goal.returns-in-Nothing-clause-stored
 returns-in-Nothing-clause-stored g c =
     let s = g.R.Rows.sheet c.args.rows.now in
     let s₁ = g.R.Rows.sheet c.plan_store.new.rows in
-    let call = StorePre c.args.first c.args.last c.args.entry in
+    let call = StorePre c.args.edit.first c.args.edit.last c.args.edit.entry in
     let plan = subst (IsPlan c.args.kind s.tree call c.plan_store.new.path.items) c.in-Nothing.is c.plan_store.ensures.at_hand in
     stored_after_reads c.args.kind s s₁ s₁ c.args.book.now c.args.book.now call c.in-Nothing.reply c.plan_store.ensures.rest
     (stays_stored c.args.kind s₁ c.args.book.now call c.in-Nothing.reply (in_call_if_read c.args.kind s s₁ c.args.book.now c.plan_store.ensures.rest c.requires.in_call)

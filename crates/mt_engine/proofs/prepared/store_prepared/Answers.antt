@@ -18,11 +18,11 @@ perform_prepared-reply-requires-clause-height g c = subst (λ (t : Rooted). HasH
 
 pub returns-clause-stored : goal.returns-clause-stored
 returns-clause-stored g c =
-    prestored_by c.args.kind (g.R.Rows.sheet c.args.rows.now) (g.R.Rows.sheet c.begin-number.new.self) (g.R.Rows.sheet c.perform_prepared-reply.new.rows) (g.R.Rows.sheet c.finish.new.self) c.args.book.now c.perform_prepared-reply.new.book (StorePre c.args.first c.args.last c.args.entry) c.perform_prepared-reply.result
+    prestored_by c.args.kind (g.R.Rows.sheet c.args.rows.now) (g.R.Rows.sheet c.begin-number.new.self) (g.R.Rows.sheet c.perform_prepared-reply.new.rows) (g.R.Rows.sheet c.finish.new.self) c.args.book.now c.perform_prepared-reply.new.book (StorePre c.args.edit.first c.args.edit.last c.args.edit.entry) c.perform_prepared-reply.result
     c.begin-number.ensures.rest c.perform_prepared-reply.ensures.stored c.perform_prepared-reply.ensures.kept c.finish.ensures
 
 pub returns-clause-measured : goal.returns-clause-measured
 returns-clause-measured g c =
-    let call = StorePre c.args.first c.args.last c.args.entry in
+    let call = StorePre c.args.edit.first c.args.edit.last c.args.edit.entry in
     let stored = prestored_by c.args.kind (g.R.Rows.sheet c.args.rows.now) (g.R.Rows.sheet c.begin-number.new.self) (g.R.Rows.sheet c.perform_prepared-reply.new.rows) (g.R.Rows.sheet c.finish.new.self) c.args.book.now c.perform_prepared-reply.new.book call c.perform_prepared-reply.result c.begin-number.ensures.rest c.perform_prepared-reply.ensures.stored c.perform_prepared-reply.ensures.kept c.finish.ensures in
     measured_end c.args.kind (g.R.Rows.sheet c.args.rows.now) (g.R.Rows.sheet c.perform_prepared-reply.new.rows) (g.R.Rows.sheet c.finish.new.self) c.perform_prepared-reply.new.book call c.perform_prepared-reply.result c.perform_prepared-reply.new.height stored.ended c.perform_prepared-reply.ensures.height c.finish.ensures

@@ -4,7 +4,6 @@ use Rattle.mt_base.specs.declared.replies.Reply.{Reply}
 use Rattle.mt_base.specs.Nodes.{is_exact_store}
 use Rattle.mt_rows.specs.declared.rows.Place.{Place}
 use Rattle.mt_rows.specs.Publish.{MayPublish, Published, map_by}
-use Rattle.mt_engine.specs.StoreBy.{IsDoneBy}
 use Rattle.mt_engine.proofs.Answering.{not_both, may_mend, was_way, rows_stored}
 use Rattle.mt_engine.proofs.Leaving.{stays_stored}
 use Rattle.mt_engine.proofs.Moments.{tree_in_call}
@@ -19,17 +18,15 @@ pub returns-in-NoWord-clause-stored : goal.returns-in-NoWord-clause-stored
 returns-in-NoWord-clause-stored g c =
     let s = g.R.Rows.sheet c.args.rows.now in
     let tree = tree_in_call c.args.kind s c.args.book.now c.requires.in_call in
-    let by = subst (IsDoneBy c.args.here c.args.first c.args.last c.args.entry) c.in-NoWord.is c.store_by.ensures in
-    stays_stored c.args.kind s c.args.book.now c.args.call.now c.args.reply.now c.requires.in_call (no_word_acts c.args.kind s.tree tree c.args.call.now c.args.path.now.items c.args.first c.args.last c.args.entry c.args.reply.now c.args.here c.requires.plan by)
+    stays_stored c.args.kind s c.args.book.now c.args.event.now.call.now c.args.event.now.reply.now c.requires.in_call (no_word_acts tree c.requires.plan c.in-NoWord.is)
 
 pub returns-in-NoWord-clause-exact : goal.returns-in-NoWord-clause-exact
 returns-in-NoWord-clause-exact g c =
     let s = g.R.Rows.sheet c.args.rows.now in
     let tree = tree_in_call c.args.kind s c.args.book.now c.requires.in_call in
-    let by = subst (IsDoneBy c.args.here c.args.first c.args.last c.args.entry) c.in-NoWord.is c.store_by.ensures in
     λ exact.
-    absurd (not_both (is_exact_store (map_by s.tree) c.args.first c.args.last c.args.entry) exact
-    (no_word_inexact c.args.kind s.tree tree c.args.call.now c.args.path.now.items c.args.first c.args.last c.args.entry c.args.reply.now c.args.here c.requires.plan by))
+    absurd (not_both (is_exact_store (map_by s.tree) c.args.write.now.edit.first c.args.write.now.edit.last c.args.write.now.edit.entry) exact
+    (no_word_inexact tree c.requires.plan c.in-NoWord.is))
 
 -- ---- by one word
 
@@ -37,53 +34,48 @@ pub place_of-place-requires-clause-at : goal.place_of-place-requires-clause-at
 place_of-place-requires-clause-at g c =
     let s = g.R.Rows.sheet c.args.rows.now in
     let tree = tree_in_call c.args.kind s c.args.book.now c.requires.in_call in
-    let by = subst (IsDoneBy c.args.here c.args.first c.args.last c.args.entry) c.in-OneWord.is c.store_by.ensures in
-    one_handle c.args.kind s.tree tree c.args.call.now c.args.path.now.items c.args.first c.args.last c.args.entry c.args.reply.now c.args.here c.requires.plan c.in-OneWord.at by
+    one_handle tree c.requires.plan c.in-OneWord.is
 
 pub publish-requires : goal.publish-requires
 publish-requires g c =
     let s = g.R.Rows.sheet c.args.rows.now in
     let tree = tree_in_call c.args.kind s c.args.book.now c.requires.in_call in
-    let by = subst (IsDoneBy c.args.here c.args.first c.args.last c.args.entry) c.in-OneWord.is c.store_by.ensures in
-    let exact = one_exact c.args.kind s.tree tree c.args.call.now c.args.path.now.items c.args.first c.args.last c.args.entry c.args.reply.now c.args.here c.requires.plan c.in-OneWord.at by in (
+    let exact = one_exact tree c.requires.plan c.in-OneWord.is in (
       c.args.kind,
-      subst (λ (p : Place). MayPublish c.args.kind s p c.args.entry c.args.call.now c.args.reply.now) (sym c.place_of-place.ensures)
-          (may_publish_entry c.args.kind s c.args.book.now c.in-OneWord.at c.args.entry c.args.call.now c.args.reply.now (g.met.R.Rows.whole c.args.rows.now) c.requires.in_call (one_handle c.args.kind s.tree tree c.args.call.now c.args.path.now.items c.args.first c.args.last c.args.entry c.args.reply.now c.args.here c.requires.plan c.in-OneWord.at by) exact.range exact.some_entry (one_store c.args.kind s.tree tree c.args.call.now c.args.path.now.items c.args.first c.args.last c.args.entry c.args.reply.now c.args.here c.requires.plan c.in-OneWord.at by)),
+      subst (λ (p : Place). MayPublish c.args.kind s p c.args.write.now.edit.entry c.args.event.now.call.now c.args.event.now.reply.now) (sym c.place_of-place.ensures)
+          (may_publish_entry c.args.kind s c.args.book.now c.in-OneWord.at c.args.write.now.edit.entry c.args.event.now.call.now c.args.event.now.reply.now (g.met.R.Rows.whole c.args.rows.now) c.requires.in_call (one_handle tree c.requires.plan c.in-OneWord.is) exact.range exact.some_entry (one_store tree c.requires.plan c.in-OneWord.is)),
     )
 
 pub returns-in-OneWord-clause-stored : goal.returns-in-OneWord-clause-stored
 returns-in-OneWord-clause-stored g c =
     let s = g.R.Rows.sheet c.args.rows.now in
     let tree = tree_in_call c.args.kind s c.args.book.now c.requires.in_call in
-    let by = subst (IsDoneBy c.args.here c.args.first c.args.last c.args.entry) c.in-OneWord.is c.store_by.ensures in
-    let exact = one_exact c.args.kind s.tree tree c.args.call.now c.args.path.now.items c.args.first c.args.last c.args.entry c.args.reply.now c.args.here c.requires.plan c.in-OneWord.at by in
+    let exact = one_exact tree c.requires.plan c.in-OneWord.is in
     let s' = g.R.Rows.sheet c.publish.new.self in
-    entry_stored c.args.kind s c.args.book.now c.in-OneWord.at c.args.entry c.args.call.now c.args.reply.now (g.met.R.Rows.whole c.args.rows.now) c.requires.in_call (one_handle c.args.kind s.tree tree c.args.call.now c.args.path.now.items c.args.first c.args.last c.args.entry c.args.reply.now c.args.here c.requires.plan c.in-OneWord.at by) exact.range exact.some_entry
-    (one_store c.args.kind s.tree tree c.args.call.now c.args.path.now.items c.args.first c.args.last c.args.entry c.args.reply.now c.args.here c.requires.plan c.in-OneWord.at by) s' (subst (λ (p : Place). Published s s' p c.args.entry c.args.call.now c.args.reply.now) c.place_of-place.ensures c.publish.ensures)
+    entry_stored c.args.kind s c.args.book.now c.in-OneWord.at c.args.write.now.edit.entry c.args.event.now.call.now c.args.event.now.reply.now (g.met.R.Rows.whole c.args.rows.now) c.requires.in_call (one_handle tree c.requires.plan c.in-OneWord.is) exact.range exact.some_entry
+    (one_store tree c.requires.plan c.in-OneWord.is) s' (subst (λ (p : Place). Published s s' p c.args.write.now.edit.entry c.args.event.now.call.now c.args.event.now.reply.now) c.place_of-place.ensures c.publish.ensures)
 
 pub returns-in-OneWord-clause-exact : goal.returns-in-OneWord-clause-exact
 returns-in-OneWord-clause-exact g c =
     let s = g.R.Rows.sheet c.args.rows.now in
     let tree = tree_in_call c.args.kind s c.args.book.now c.requires.in_call in
-    let by = subst (IsDoneBy c.args.here c.args.first c.args.last c.args.entry) c.in-OneWord.is c.store_by.ensures in
-    let exact = one_exact c.args.kind s.tree tree c.args.call.now c.args.path.now.items c.args.first c.args.last c.args.entry c.args.reply.now c.args.here c.requires.plan c.in-OneWord.at by in
+    let exact = one_exact tree c.requires.plan c.in-OneWord.is in
     let s' = g.R.Rows.sheet c.publish.new.self in
     λ _.
-    changes_entry c.args.kind s c.args.book.now c.in-OneWord.at c.args.entry c.args.call.now c.args.reply.now (g.met.R.Rows.whole c.args.rows.now) c.requires.in_call (one_handle c.args.kind s.tree tree c.args.call.now c.args.path.now.items c.args.first c.args.last c.args.entry c.args.reply.now c.args.here c.requires.plan c.in-OneWord.at by) exact.range exact.some_entry
-    (one_store c.args.kind s.tree tree c.args.call.now c.args.path.now.items c.args.first c.args.last c.args.entry c.args.reply.now c.args.here c.requires.plan c.in-OneWord.at by) s' c.args.first
-    (one_stands c.args.kind s.tree tree c.args.call.now c.args.path.now.items c.args.first c.args.last c.args.entry c.args.reply.now c.args.here c.requires.plan c.in-OneWord.at by).some
-    (subst (λ (p : Place). Published s s' p c.args.entry c.args.call.now c.args.reply.now) c.place_of-place.ensures c.publish.ensures)
+    changes_entry c.args.kind s c.args.book.now c.in-OneWord.at c.args.write.now.edit.entry c.args.event.now.call.now c.args.event.now.reply.now (g.met.R.Rows.whole c.args.rows.now) c.requires.in_call (one_handle tree c.requires.plan c.in-OneWord.is) exact.range exact.some_entry
+    (one_store tree c.requires.plan c.in-OneWord.is) s' c.args.write.now.edit.first
+    (one_stands tree c.requires.plan c.in-OneWord.is).some
+    (subst (λ (p : Place). Published s s' p c.args.write.now.edit.entry c.args.event.now.call.now c.args.event.now.reply.now) c.place_of-place.ensures c.publish.ensures)
 
 pub returns-in-OneWord-clause-height : goal.returns-in-OneWord-clause-height
 returns-in-OneWord-clause-height g c =
     let s = g.R.Rows.sheet c.args.rows.now in
     let tree = tree_in_call c.args.kind s c.args.book.now c.requires.in_call in
-    let by = subst (IsDoneBy c.args.here c.args.first c.args.last c.args.entry) c.in-OneWord.is c.store_by.ensures in
-    let exact = one_exact c.args.kind s.tree tree c.args.call.now c.args.path.now.items c.args.first c.args.last c.args.entry c.args.reply.now c.args.here c.requires.plan c.in-OneWord.at by in
+    let exact = one_exact tree c.requires.plan c.in-OneWord.is in
     let s' = g.R.Rows.sheet c.publish.new.self in
     λ _.
-    entry_height c.args.kind s c.args.book.now c.in-OneWord.at c.args.entry c.args.call.now c.args.reply.now (g.met.R.Rows.whole c.args.rows.now) c.requires.in_call (one_handle c.args.kind s.tree tree c.args.call.now c.args.path.now.items c.args.first c.args.last c.args.entry c.args.reply.now c.args.here c.requires.plan c.in-OneWord.at by) exact.range exact.some_entry
-    (one_store c.args.kind s.tree tree c.args.call.now c.args.path.now.items c.args.first c.args.last c.args.entry c.args.reply.now c.args.here c.requires.plan c.in-OneWord.at by) s' (subst (λ (p : Place). Published s s' p c.args.entry c.args.call.now c.args.reply.now) c.place_of-place.ensures c.publish.ensures)
+    entry_height c.args.kind s c.args.book.now c.in-OneWord.at c.args.write.now.edit.entry c.args.event.now.call.now c.args.event.now.reply.now (g.met.R.Rows.whole c.args.rows.now) c.requires.in_call (one_handle tree c.requires.plan c.in-OneWord.is) exact.range exact.some_entry
+    (one_store tree c.requires.plan c.in-OneWord.is) s' (subst (λ (p : Place). Published s s' p c.args.write.now.edit.entry c.args.event.now.call.now c.args.event.now.reply.now) c.place_of-place.ensures c.publish.ensures)
 
 -- ---- by new rows
 
@@ -91,20 +83,18 @@ pub replace_range-spliced-requires : goal.replace_range-spliced-requires
 replace_range-spliced-requires g c =
     let s = g.R.Rows.sheet c.args.rows.now in
     let tree = tree_in_call c.args.kind s c.args.book.now c.requires.in_call in
-    let by = subst (IsDoneBy c.args.here c.args.first c.args.last c.args.entry) c.in-NewRows.is c.store_by.ensures in
-    let replaces = new_rows_replace c.args.kind s.tree tree c.args.call.now c.args.path.now.items c.args.first c.args.last c.args.entry c.args.reply.now c.args.here c.requires.plan by in
-    may_replace_now c.args.kind s c.args.book.now c.args.path.now.items c.args.first c.args.last c.args.entry c.args.number c.args.call.now c.args.reply.now c.args.here tree c.requires.in_call
-    c.requires.plan by (c.requires.room replaces) c.requires.number
+    let replaces = new_rows_replace tree c.requires.plan c.in-NewRows.is in
+    may_replace_now c.requires.in_call c.requires.plan c.in-NewRows.is (c.requires.room replaces) c.requires.number
 
 pub mend_at-requires-clause-may : goal.mend_at-requires-clause-may
 mend_at-requires-clause-may g c =
-    may_mend c.args.kind (g.R.Rows.sheet c.args.rows.now) (g.R.Rows.sheet c.replace_range-spliced.new.rows) c.args.book.now c.replace_range-spliced.new.book c.args.number c.args.call.now c.args.reply.now c.replace_range-spliced.result.place c.args.first c.args.last c.requires.in_call c.requires.plan.store.order c.requires.plan.store.within c.replace_range-spliced.ensures.spliced
+    may_mend c.args.kind (g.R.Rows.sheet c.args.rows.now) (g.R.Rows.sheet c.replace_range-spliced.new.rows) c.args.book.now c.replace_range-spliced.new.book c.args.event.now.number c.args.event.now.call.now c.args.event.now.reply.now c.replace_range-spliced.result.place c.args.write.now.edit.first c.args.write.now.edit.last c.requires.in_call c.requires.plan.store.order c.requires.plan.store.within c.replace_range-spliced.ensures.spliced
 
 pub mend_at-requires-clause-was : goal.mend_at-requires-clause-was
 mend_at-requires-clause-was g c =
     let s = g.R.Rows.sheet c.args.rows.now in (
       s.tree,
-      was_way c.args.kind s (g.R.Rows.sheet c.replace_range-spliced.new.rows) c.args.book.now c.replace_range-spliced.new.book c.args.number c.args.call.now c.args.reply.now c.replace_range-spliced.result.place c.args.first c.args.last c.args.path.now.items
+      was_way c.args.kind s (g.R.Rows.sheet c.replace_range-spliced.new.rows) c.args.book.now c.replace_range-spliced.new.book c.args.event.now.number c.args.event.now.call.now c.args.event.now.reply.now c.replace_range-spliced.result.place c.args.write.now.edit.first c.args.write.now.edit.last c.args.path.now.items
           (tree_in_call c.args.kind s c.args.book.now c.requires.in_call) c.requires.plan.way c.replace_range-spliced.ensures.spliced,
     )
 
@@ -112,24 +102,22 @@ pub returns-in-NewRows-clause-stored : goal.returns-in-NewRows-clause-stored
 returns-in-NewRows-clause-stored g c =
     let s = g.R.Rows.sheet c.args.rows.now in
     let tree = tree_in_call c.args.kind s c.args.book.now c.requires.in_call in
-    let by = subst (IsDoneBy c.args.here c.args.first c.args.last c.args.entry) c.in-NewRows.is c.store_by.ensures in
-    let replaces = new_rows_replace c.args.kind s.tree tree c.args.call.now c.args.path.now.items c.args.first c.args.last c.args.entry c.args.reply.now c.args.here c.requires.plan by in
-    rows_stored c.args.kind s (g.R.Rows.sheet c.replace_range-spliced.new.rows) (g.R.Rows.sheet c.mend_at.new.rows) c.args.book.now c.replace_range-spliced.new.book c.args.number c.args.call.now c.args.reply.now c.replace_range-spliced.result.place c.args.first c.args.last
+    let replaces = new_rows_replace tree c.requires.plan c.in-NewRows.is in
+    rows_stored c.args.kind s (g.R.Rows.sheet c.replace_range-spliced.new.rows) (g.R.Rows.sheet c.mend_at.new.rows) c.args.book.now c.replace_range-spliced.new.book c.args.event.now.number c.args.event.now.call.now c.args.event.now.reply.now c.replace_range-spliced.result.place c.args.write.now.edit.first c.args.write.now.edit.last
     c.requires.in_call c.requires.number replaces (ap (λ (was : List Range × Reply). was.1) c.requires.plan.store.acts) c.replace_range-spliced.ensures.spliced c.mend_at.ensures
 
 pub returns-in-NewRows-clause-exact : goal.returns-in-NewRows-clause-exact
 returns-in-NewRows-clause-exact g c =
     let s = g.R.Rows.sheet c.args.rows.now in
     let tree = tree_in_call c.args.kind s c.args.book.now c.requires.in_call in
-    let by = subst (IsDoneBy c.args.here c.args.first c.args.last c.args.entry) c.in-NewRows.is c.store_by.ensures in
     λ exact.
-    absurd (not_both (is_exact_store (map_by s.tree) c.args.first c.args.last c.args.entry) exact
-    (new_rows_inexact c.args.kind s.tree tree c.args.call.now c.args.path.now.items c.args.first c.args.last c.args.entry c.args.reply.now c.args.here c.requires.plan by))
+    absurd (not_both (is_exact_store (map_by s.tree) c.args.write.now.edit.first c.args.write.now.edit.last c.args.write.now.edit.entry) exact
+    (new_rows_inexact tree c.requires.plan c.in-NewRows.is))
 
 pub returns-in-NewRows-clause-height : goal.returns-in-NewRows-clause-height
 returns-in-NewRows-clause-height g c =
     let s = g.R.Rows.sheet c.args.rows.now in
     λ old.
     c.mend_at.ensures.height
-    ∙ height_stays c.args.kind s (g.R.Rows.sheet c.replace_range-spliced.new.rows) c.args.book.now c.replace_range-spliced.new.book c.args.number c.args.call.now c.args.reply.now c.replace_range-spliced.result.place c.args.first c.args.last (tree_in_call c.args.kind s c.args.book.now c.requires.in_call) c.replace_range-spliced.ensures.spliced
+    ∙ height_stays c.args.kind s (g.R.Rows.sheet c.replace_range-spliced.new.rows) c.args.book.now c.replace_range-spliced.new.book c.args.event.now.number c.args.event.now.call.now c.args.event.now.reply.now c.replace_range-spliced.result.place c.args.write.now.edit.first c.args.write.now.edit.last (tree_in_call c.args.kind s c.args.book.now c.requires.in_call) c.replace_range-spliced.ensures.spliced
     (sym c.is_root.ensures ∙ old)

@@ -7,7 +7,7 @@ pub go_on-requires-clause-tree : goal.go_on-requires-clause-tree
 go_on-requires-clause-tree g c = tree_to_replace c.requires
 
 pub go_on-requires-clause-path : goal.go_on-requires-clause-path
-go_on-requires-clause-path g c = (c.args.first, c.requires.store.order, c.copy_into.ensures ∙ c.requires.left_path)
+go_on-requires-clause-path g c = (c.args.edit.now.first, c.requires.store.order, c.copy_into.ensures ∙ c.requires.left_path)
 
 pub go_on-requires-clause-index : goal.go_on-requires-clause-index
 go_on-requires-clause-index g c = c.requires.store.within
