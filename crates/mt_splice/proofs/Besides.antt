@@ -21,11 +21,11 @@ use Rattle.mt_leaf.proofs.Holes.{ends_joined, full_unless_hole, no_hole_ends}
 use Rattle.mt_leaf.proofs.Joined.{ranges_joined, fills_joined, apart_joined, length_joined, length_joins}
 use Rattle.mt_path.proofs.TreePaths.{place, lawful}
 use Rattle.mt_splice.specs.steps.Work.{Start, rows_at}
-use Rattle.mt_splice.specs.steps.Climbs.{MayBeIn, beside}
-use Rattle.mt_splice.specs.steps.Runs.{most_in_three, span_to, MayBeCut}
+use Rattle.mt_splice.specs.steps.Runs.{MayBeIn, most_in_three, span_to, MayBeCut}
 use Rattle.mt_splice.proofs.EditedRegions.{all_joined}
 use Rattle.mt_splice.specs.steps.Windows.{before, behind, row_at, low_of, high_of, StandFor, Gathered}
 use Rattle.mt_splice.proofs.Windows.{begins_behind, row_behind, ahead_within, ends_ahead, row_ahead}
+use Rattle.mt_splice.proofs.TakenIn.{beside}
 
 -- ---- spans beside each other
 

@@ -30,18 +30,16 @@ use Rattle.mt_splice.specs.declared.ways.Window.{Window}
 use Rattle.mt_splice.specs.declared.writes.NewRow.{NewRow}
 use Rattle.mt_splice.specs.Fewest.{IsCutOf}
 use Rattle.mt_splice.specs.steps.Climbing.{IsClimbing, IsNothingLeft, IsLevelDrafted}
-use Rattle.mt_splice.specs.steps.Climbs.{MayBeIn}
 use Rattle.mt_splice.specs.steps.Decisions.{IsNothing, EndsHere, IsNext, item_words}
-use Rattle.mt_splice.specs.steps.Endings.{words_of}
 use Rattle.mt_splice.specs.steps.Drafting.{AreRowsTaken, noted_rows, MayDraftRows, AreRowsDrafted}
 use Rattle.mt_splice.specs.steps.Layers.{heads}
 use Rattle.mt_splice.specs.steps.Ledgers.{was_taken, IsLedger}
 use Rattle.mt_splice.specs.steps.Looking.{IsNowOf, MayLook, MayGather, items_above}
 use Rattle.mt_splice.specs.steps.Plans.{Layer, depth_at, begin_at, new_at, level_of, IsLayer, AreAllHeld, newest_first, taken_by, windows_by, window_at}
 use Rattle.mt_splice.specs.steps.Progress.{Before, IsProgress, new_rows_of}
-use Rattle.mt_splice.specs.steps.Runs.{MayBeCut}
+use Rattle.mt_splice.specs.steps.Runs.{MayBeIn, MayBeCut}
 use Rattle.mt_splice.specs.steps.Seen.{Seen}
-use Rattle.mt_splice.specs.steps.Widening.{IsWidened, IsWindow, MayWiden, IsWide}
+use Rattle.mt_splice.specs.steps.Widening.{IsWidened, IsWindow, MayWiden}
 use Rattle.mt_splice.specs.steps.Windows.{before, behind, in_place, row_at, low_of, high_of, Gathered}
 use Rattle.mt_splice.specs.steps.Work.{Start, rows_at, tree_with}
 use Rattle.mt_splice.proofs.Besides.{begin_within, low_enough, some_gathered}
@@ -56,8 +54,9 @@ use Rattle.mt_splice.proofs.ReadsNow.{widened_now, above_now}
 use Rattle.mt_splice.proofs.Splits.{fills_none}
 use Rattle.mt_splice.proofs.Steps.{progress_reads}
 use Rattle.mt_splice.proofs.ToldRows.{gaps_were}
-use Rattle.mt_splice.proofs.Widened.{step_is, widened}
+use Rattle.mt_splice.proofs.Widened.{step_is, widened, IsWide}
 use Rattle.mt_splice.proofs.WindowRows.{before_fills, behind_fills}
+use Rattle.mt_splice.proofs.StoredWords.{words_of}
 
 one_item : (items : List Item) → item_words items ≡ 0 ∷ [] → length items ≡ 1
 one_item [] is = absurd (cc)

@@ -28,11 +28,11 @@ use Rattle.mt_splice.specs.steps.Plans.{Layer, newest_first, AreAllHeld}
 use Rattle.mt_splice.specs.steps.Progress.{Before, IsBefore, new_row_by, new_rows_of}
 use Rattle.mt_splice.specs.steps.Seen.{Seen, passing}
 use Rattle.mt_splice.specs.steps.Work.{Start, tree_with}
-use Rattle.mt_splice.specs.steps.Writes.{IsNewRow, IsRowWritten, no_parent}
+use Rattle.mt_splice.specs.steps.Writes.{IsNewRow, no_parent}
 use Rattle.mt_splice.proofs.LevelRows.{new_rows_stay}
 use Rattle.mt_splice.proofs.LevelRuns.{AreParts, IsPart, length-part}
 use Rattle.mt_splice.proofs.StepSeen.{not_both, seen_here, seen_more}
-use Rattle.mt_splice.proofs.Steps.{progress_taken, row_number, row_was_unused}
+use Rattle.mt_splice.proofs.Steps.{progress_taken, row_number, row_was_unused, IsRowWritten}
 use Rattle.mt_splice.proofs.WrittenRows.{new_spans}
 
 -- ---- which rows were taken

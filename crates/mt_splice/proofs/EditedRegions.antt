@@ -1,6 +1,6 @@
 -- The spans of the leaves at a store's ends after the store: those of all leaves from the one to the other.
 use Rattle.std.proofs.Common.{◌≡◌, ℕ, ◌+◌, ◌-◌, ◌≤◌, ◌==◌, ◌&&◌, List, [], ◌∷◌, ◌++◌, Bool, true, false, length, nat_lt, refl, sym, ap, ◌∙◌, subst, inl, inr, arith, append-nil, append_assoc}
-use Rattle.std.specs.Prelude.{if◌then◌else◌}
+use Rattle.std.specs.Prelude.{if◌then◌else◌, ◌<◌}
 use Rattle.std.specs.List.{AllByRecursion}
 use Rattle.std.proofs.lemmas.Bool.{cases_Bool, eqb-true, eqb-false}
 use Rattle.mt_base.proofs.Lists.{all_map, all_front, all_back, all_join}
@@ -17,7 +17,7 @@ use Rattle.mt_rows.specs.Laws.{Tree, IsRow, Stands, top_of}
 use Rattle.mt_rows.specs.Replacement.{root_of}
 use Rattle.mt_rows.proofs.Lists.{Filled, expand_fills, expand-append}
 use Rattle.mt_rows.proofs.Heights.{level_rows}
-use Rattle.mt_leaf.specs.Edits.{spans_below, spans_above, span_stored, stored, join, joined, edited, starting}
+use Rattle.mt_leaf.specs.Edits.{spans_below, spans_above, span_stored, stored, join, joined, edited, starting, ends_with_hole}
 use Rattle.mt_leaf.proofs.Stored.{length_edited, stored_between}
 use Rattle.mt_leaf.proofs.Counts.{two_short, two_to_a_hole}
 use Rattle.mt_path.specs.declared.paths.PathStep.{PathStep}
@@ -26,12 +26,18 @@ use Rattle.mt_path.proofs.TreePaths.{row_of, step, place, lawful, levels}
 use Rattle.mt_splice.specs.Splice.{region_of}
 use Rattle.mt_path.specs.Handles.{last_step, leaf_spans}
 use Rattle.mt_splice.specs.steps.Work.{rows_at}
-use Rattle.mt_splice.specs.steps.Stretches.{IsStretch}
-use Rattle.mt_splice.specs.steps.Runs.{IsLeafRun}
+use Rattle.mt_splice.specs.steps.Runs.{most_items, most_before_hole}
 use Rattle.mt_path.proofs.Places.{At}
 use Rattle.mt_splice.proofs.Splits.{split_more}
 use Rattle.mt_splice.proofs.PathRows.{rows_in_order, spans_of_step, leaf_numbered}
 use Rattle.mt_rows.proofs.FewSpans.{row_most}
+use Rattle.mt_splice.proofs.Stretches.{IsStretch}
+
+-- The spans of leaves after a store, of which the last leaf ended at `last`: where others stand behind it, they end with
+-- an entry or are few.
+pub record IsLeafRun (t : Tree) (last : ℕ) (run : List Span) : Type 0 where
+  pub few : length run ≤ most_items t.table.width Leaf
+  pub ends : last < top_of t → ends_with_hole run ≡ true → length run ≤ most_before_hole t.table.width
 
 -- ---- what holds of each span of leaves
 

@@ -23,12 +23,11 @@ use Rattle.mt_splice.specs.declared.climbing.Climb.{Climb}
 use Rattle.mt_splice.specs.declared.climbing.Top.{Top}
 use Rattle.mt_splice.specs.steps.Burials.{AreBuriedAll, numbers_in_all}
 use Rattle.mt_splice.specs.steps.Climbing.{HasClimbed, EndsAbove}
-use Rattle.mt_splice.specs.steps.Endings.{with_root}
 use Rattle.mt_splice.specs.steps.Layers.{Stand}
 use Rattle.mt_splice.specs.steps.Ledgers.{was_taken, work_of}
-use Rattle.mt_splice.specs.steps.Plans.{AreAllHeld, IsPlanned, begin_at, depth_at, gone_above, gone_by, heads_at, level_of, new_at, taken_by}
+use Rattle.mt_splice.specs.steps.Plans.{AreAllHeld, IsPlanned, begin_at, depth_at, gone_by, heads_at, level_of, new_at, taken_by}
 use Rattle.mt_splice.specs.steps.Progress.{Before, is_taken}
-use Rattle.mt_splice.specs.steps.Replaced.{IsReplaced}
+use Rattle.mt_splice.specs.steps.Replaced.{IsReplaced, with_root}
 use Rattle.mt_splice.specs.steps.Seen.{Seen, passing}
 use Rattle.mt_splice.specs.steps.Telling.{AreAllFromBelow}
 use Rattle.mt_splice.specs.steps.Told.{GapsBeside, TellGaps}
@@ -38,7 +37,7 @@ use Rattle.mt_splice.specs.steps.Writes.{IsNewRow}
 use Rattle.mt_splice.proofs.DraftedLedger.{new_row_stays}
 use Rattle.mt_splice.proofs.EndForms as forms
 use Rattle.mt_splice.proofs.EndGaps.{root_laws}
-use Rattle.mt_splice.proofs.Ended.{taken, gone, now, ledger_then, held_then, holds_then, keeps_then, wide_then}
+use Rattle.mt_splice.proofs.Ended.{taken, gone, now, ledger_then, held_then, holds_then, keeps_then, wide_then, gone_above}
 use Rattle.mt_splice.proofs.Endings.{alone, replaced_above}
 use Rattle.mt_splice.proofs.GoneLedger.{columns_later}
 use Rattle.mt_splice.proofs.Heads.{length-heads}

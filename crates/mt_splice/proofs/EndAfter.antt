@@ -21,7 +21,6 @@ use Rattle.mt_splice.specs.Splice.{TellsBelow, TellsAt}
 use Rattle.mt_splice.specs.steps.Work.{Start, Work, tree_with, with_words, KeepsWords}
 use Rattle.mt_splice.specs.steps.Progress.{is_taken}
 use Rattle.mt_splice.specs.steps.Replaced.{StandsAs, FewestAs, count_in}
-use Rattle.mt_splice.specs.steps.Endings.{words_of}
 use Rattle.mt_splice.specs.steps.Ends.{HoldsAs, OnlyParents}
 use Rattle.mt_rows.specs.Levels.{IsBelow, SameSpans, is_row_of}
 use Rattle.mt_rows.proofs.Frames.{same_spans}
@@ -36,6 +35,7 @@ use Rattle.mt_splice.proofs.Drafts.{same_column}
 use Rattle.mt_splice.proofs.EndTrees.{placed_count, map_is, reached_count, count_reached, unreached_count, count_unreached}
 use Rattle.mt_splice.proofs.EndPublish.{now_stands, now_count, now_map, Finish, published, rows_same, width_same, stands_later, map_later, progress, place_is}
 use Rattle.mt_splice.proofs.EndTending.{only_rows, only_width}
+use Rattle.mt_splice.proofs.StoredWords.{words_of}
 
 -- ---- a tree whose parent words have changed
 

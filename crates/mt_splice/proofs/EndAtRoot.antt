@@ -11,7 +11,7 @@ use Rattle.mt_splice.specs.declared.climbing.Top.{Top}
 use Rattle.mt_splice.specs.steps.Burials.{AreBuriedAll, numbers_in_all}
 use Rattle.mt_splice.specs.steps.Climbing.{HasClimbed, EndsEmpty, EndsAtRoot}
 use Rattle.mt_splice.specs.steps.Ledgers.{was_taken, work_of}
-use Rattle.mt_splice.specs.steps.Plans.{AreAllHeld, IsPlanned, gone_above, gone_by, taken_by}
+use Rattle.mt_splice.specs.steps.Plans.{AreAllHeld, IsPlanned, gone_by, taken_by}
 use Rattle.mt_splice.specs.steps.Progress.{Before, is_taken}
 use Rattle.mt_splice.specs.steps.Replaced.{IsReplaced}
 use Rattle.mt_splice.specs.steps.Seen.{passing}
@@ -20,7 +20,7 @@ use Rattle.mt_splice.specs.steps.Told.{GapsBeside}
 use Rattle.mt_splice.specs.steps.Work.{Start, Work, tree_with}
 use Rattle.mt_splice.proofs.EndForms as forms
 use Rattle.mt_splice.proofs.EndGaps.{root_laws}
-use Rattle.mt_splice.proofs.Ended.{taken, gone, ledger_then, held_then, holds_then, passing_all, root_level}
+use Rattle.mt_splice.proofs.Ended.{taken, gone, ledger_then, held_then, holds_then, passing_all, root_level, gone_above}
 use Rattle.mt_splice.proofs.LayerGaps.{planned_tell}
 use Rattle.mt_splice.proofs.Ledgers.{beside_of}
 use Rattle.mt_splice.proofs.ToldRows.{gaps_were}

@@ -28,10 +28,9 @@ use Rattle.mt_splice.specs.declared.climbing.Top.{Top}
 use Rattle.mt_splice.specs.Splice.{TellsBelow}
 use Rattle.mt_splice.specs.steps.Burials.{AreBuriedAll, numbers_in_all}
 use Rattle.mt_splice.specs.steps.Climbing.{HasClimbed, EndsInSlot}
-use Rattle.mt_splice.specs.steps.Endings.{column_of, words_of}
 use Rattle.mt_splice.specs.steps.Ends.{IsEndPlace}
 use Rattle.mt_splice.specs.steps.Ledgers.{was_taken, work_of}
-use Rattle.mt_splice.specs.steps.Plans.{AreAllHeld, begin_at, gone_above, gone_by, heads_at}
+use Rattle.mt_splice.specs.steps.Plans.{AreAllHeld, begin_at, gone_by, heads_at}
 use Rattle.mt_splice.specs.steps.Progress.{Before, is_taken}
 use Rattle.mt_splice.specs.steps.Replaced.{IsReplaced}
 use Rattle.mt_splice.specs.steps.Seen.{passing}
@@ -40,7 +39,7 @@ use Rattle.mt_splice.specs.steps.Told.{GapsBeside, TellGaps}
 use Rattle.mt_splice.specs.steps.Windows.{before, behind, high_of, in_place, low_of, row_at}
 use Rattle.mt_splice.specs.steps.Work.{Start, Work, rows_at, tree_with}
 use Rattle.mt_splice.proofs.EndForms as forms
-use Rattle.mt_splice.proofs.Ended.{taken, gone, ledger_then, planned, high, within, old_beside, tree_stands, has, same_levels, words, held_stored, stand_below, x_is, level_is, slot_replaces}
+use Rattle.mt_splice.proofs.Ended.{taken, gone, ledger_then, planned, high, within, old_beside, tree_stands, has, same_levels, words, held_stored, stand_below, x_is, level_is, slot_replaces, gone_above}
 use Rattle.mt_splice.proofs.LayerGaps.{KeepGaps, each_old, old_laws, planned_tell}
 use Rattle.mt_splice.proofs.Moments.{old_shared}
 use Rattle.mt_splice.proofs.SlotGaps.{gaps_after}
@@ -48,6 +47,7 @@ use Rattle.mt_splice.proofs.SlotStores.{beside_then, is_slot, level_new}
 use Rattle.mt_splice.proofs.ToldRows.{gaps_were}
 use Rattle.mt_splice.proofs.Written.{counts_itself}
 use Rattle.mt_splice.proofs.Ended.{holds_then}
+use Rattle.mt_splice.proofs.StoredWords.{column_of, words_of}
 
 one_begins : (x : Span) (gap lo : ℕ) (items : List Item) → items ≡ record { last = x.last; word = x.word; gap = gap } ∷ [] → spans_from lo items ≡ x ∷ [] → lo ≡ x.first
 one_begins x gap lo items are spans =

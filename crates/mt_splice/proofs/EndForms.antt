@@ -11,11 +11,11 @@ use Rattle.mt_path.specs.declared.paths.PathStep.{PathStep}
 use Rattle.mt_splice.specs.steps.Seen.{passing}
 use Rattle.mt_splice.specs.steps.Work.{Start, Work, tree_with, now, times_in}
 use Rattle.mt_splice.specs.steps.Progress.{Before, IsBefore, IsProgress}
-use Rattle.mt_splice.specs.steps.Replaced.{IsReplaced}
-use Rattle.mt_splice.specs.steps.Endings.{words_of, with_root, with_step, column_of, IsStepIn}
+use Rattle.mt_splice.specs.steps.Replaced.{IsReplaced, with_root}
 use Rattle.mt_splice.specs.steps.Ends.{IsEndPlace}
 use Rattle.mt_splice.specs.Splice.{TellsBelow}
 use Rattle.mt_splice.specs.steps.Told.{GapsBeside}
+use Rattle.mt_splice.proofs.StoredWords.{IsStepIn, column_of, with_step, words_of}
 
 -- the tree by the words now is the sheet's
 pub now_is : {b : Before} {start : Start} {s : Sheet} {book : Book} {w : Work} → IsBefore b start → IsProgress b s book w → now start w ≡ tree_as b.kind s.tree

@@ -22,11 +22,11 @@ use Rattle.mt_rows.proofs.Lists.{levels_map}
 use Rattle.mt_rows.proofs.Heights.{levels_pair}
 use Rattle.mt_rows.proofs.Longest.{longest_shared}
 use Rattle.mt_splice.specs.steps.Work.{Start, Work, now, table_with, tree_with}
-use Rattle.mt_splice.specs.steps.Endings.{with_root}
 use Rattle.mt_splice.specs.steps.Told.{GapsAs}
 use Rattle.mt_splice.proofs.GapRows.{Kept, gap_law_stays}
 use Rattle.mt_splice.proofs.RootEndings.{at_root}
 use Rattle.mt_splice.proofs.SlotGaps.{weaker}
+use Rattle.mt_splice.specs.steps.Replaced.{with_root}
 
 -- ---- at a new root all rows keep the law
 

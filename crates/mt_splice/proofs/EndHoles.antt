@@ -17,7 +17,7 @@ use Rattle.mt_rows.proofs.SlotStore as store
 use Rattle.mt_rows.proofs.Reached as reached
 use Rattle.mt_rows.proofs.RowLaws.{name_some}
 use Rattle.mt_splice.specs.steps.Ends.{IsChildSlot}
-use Rattle.mt_splice.specs.steps.Endings.{words_of}
+use Rattle.mt_splice.proofs.StoredWords.{words_of}
 
 -- spans of the same row with the same ends hold the same
 pub same_place_spans : (t : Table) (x y : Span) → y.first ≡ x.first → y.last ≡ x.last → y.word ≡ x.word → spans_in t y ≡ spans_in t x

@@ -31,7 +31,6 @@ use Rattle.mt_splice.specs.steps.Writes.{child_word, child_row, AreChildren}
 use Rattle.mt_splice.specs.steps.Progress.{Before, is_taken, row_seen}
 use Rattle.mt_splice.specs.Splice.{HasParents}
 use Rattle.mt_splice.specs.steps.Replaced.{StandsAs, count_in}
-use Rattle.mt_splice.specs.steps.Endings.{words_of}
 use Rattle.mt_splice.specs.steps.Ends.{HoldsAs, IsEndPlace, IsTop, OnlyParents, MayTendRows, AreRowsTended, MayTendTop, MayTendTopAt, IsTopTendedAt}
 use Rattle.mt_splice.proofs.Drafts.{other_row}
 use Rattle.mt_splice.proofs.EndTending.{only_width, kept_column, only_more, top_only, top_kept}
@@ -48,6 +47,7 @@ use Rattle.mt_splice.proofs.EndPublish as ends
 use Rattle.mt_rows.proofs.FewSpans.{row_most}
 use Rattle.mt_rows.proofs.Reached.{levels_at}
 use Rattle.mt_rows.proofs.Published.{published_rows, published_width}
+use Rattle.mt_splice.proofs.StoredWords.{words_of}
 
 -- ---- the end of a replacement
 

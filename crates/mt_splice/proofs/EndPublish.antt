@@ -32,7 +32,6 @@ use Rattle.mt_splice.specs.steps.Seen.{Seen, passing}
 use Rattle.mt_splice.specs.steps.Work.{Start, Work, now, times_in}
 use Rattle.mt_splice.specs.steps.Progress.{Before, IsProgress, is_taken, is_gone}
 use Rattle.mt_splice.specs.steps.Replaced.{StandsAs, count_in, map_as}
-use Rattle.mt_splice.specs.steps.Endings.{words_of}
 use Rattle.mt_splice.specs.steps.Ends.{HoldsAs, IsChildSlot, IsEndPlace, IsTop, MayPublishEnd}
 use Rattle.mt_splice.proofs.Moments.{old_stands, old_times, old_map}
 use Rattle.mt_splice.proofs.EndForms.{now_is, has_words}
@@ -40,6 +39,7 @@ use Rattle.mt_splice.proofs.EndTrees.{is_tree, map_is, count_once, reached_count
 use Rattle.mt_splice.proofs.EndHoles.{same_place_spans, at_one, at_on_level, slot_holes}
 use Rattle.mt_rows.proofs.FewSpans.{row_most}
 use Rattle.mt_rows.proofs.Published.{published_rows}
+use Rattle.mt_splice.proofs.StoredWords.{words_of}
 
 -- ---- the tree as it was, by the words then and now
 

@@ -13,7 +13,7 @@ use Rattle.mt_rows.proofs.Depth.{ranges_by_depth}
 use Rattle.mt_rows.proofs.Reached as reached
 use Rattle.mt_rows.proofs.Settled.{Implies, stays_in_place}
 use Rattle.mt_splice.specs.steps.Replaced.{StandsAs, count_in, map_as}
-use Rattle.mt_splice.specs.steps.Endings.{words_of}
+use Rattle.mt_splice.proofs.StoredWords.{words_of}
 
 -- ---- the empty tree
 

@@ -33,7 +33,7 @@ use Rattle.mt_splice.specs.steps.Climbing.{HasClimbed, EndsAtRoot, EndsInSlot}
 use Rattle.mt_splice.specs.steps.Ledgers.{was_taken, work_of, IsLedger}
 use Rattle.mt_splice.specs.steps.Layers.{Beside, Stand}
 use Rattle.mt_splice.specs.steps.Looking.{IsNowOf}
-use Rattle.mt_splice.specs.steps.Plans.{Layer, depth_at, level_of, IsPlanned, AreAllHeld, seen_at, taken_by, gone_by, gone_above, window_at, windows_by, windows_above}
+use Rattle.mt_splice.specs.steps.Plans.{Layer, depth_at, level_of, IsPlanned, AreAllHeld, seen_at, taken_by, gone_by, window_at, windows_by, windows_above}
 use Rattle.mt_splice.specs.steps.Progress.{Before, row_seen, new_rows_of}
 use Rattle.mt_splice.specs.steps.Replaced.{IsReplaced}
 use Rattle.mt_splice.specs.steps.Seen.{Seen, passing}
@@ -57,6 +57,11 @@ use Rattle.mt_splice.proofs.Steps.{reached_untaken, table_now}
 use Rattle.mt_splice.proofs.Climbed.{ledger_reads}
 use Rattle.mt_splice.proofs.Windows.{at_behind, once}
 use Rattle.mt_splice.proofs.WindowRows.{window_parts, before_fills, behind_fills}
+
+-- all rows of the levels above a depth, which are gone with them, from the lowest up
+abbrev pub gone_above : Start → ℕ → List Seen
+gone_above start zero = []
+gone_above start (suc depth) = seen_at (start.height - depth) (rows_at start.tree depth) ++ gone_above start depth
 
 -- ---- rows of whole levels
 

@@ -16,15 +16,19 @@ use Rattle.mt_rows.proofs.Lists.{levels_map}
 use Rattle.mt_rows.proofs.RowLaws.{row_keeps}
 use Rattle.mt_path.proofs.TreePaths.{rows_fill}
 use Rattle.mt_splice.specs.Fewest.{FewestBelow}
-use Rattle.mt_splice.specs.steps.Endings.{with_root}
-use Rattle.mt_splice.specs.steps.Replaced.{IsReplaced}
+use Rattle.mt_splice.specs.steps.Replaced.{IsReplaced, with_root}
 use Rattle.mt_splice.specs.steps.Seen.{Seen, passing}
 use Rattle.mt_splice.specs.steps.Work.{Start, tree_with, rows_at}
 use Rattle.mt_splice.proofs.FewestRows.{none_new, one_new}
 use Rattle.mt_splice.proofs.RootEndings.{root_is}
 use Rattle.mt_splice.proofs.Splits.{fills_none}
-use Rattle.mt_splice.specs.steps.Layers.{IsAbove, Stand}
+use Rattle.mt_splice.specs.steps.Layers.{Stand}
 use Rattle.mt_splice.specs.steps.Windows.{before, behind, low_of, high_of, in_place}
+
+-- A row of a depth above is as it was, but that it may hold other children: it is lawful, and not new.
+pub record IsAbove (start : Start) (words : List ℕ) (is_new : ℕ → Bool) (h : ℕ) (x : Span) : Type 0 where
+  pub row : IsRow (tree_with start.tree words) h x
+  pub old : is_new (row_in x.word) ≡ false
 
 -- ---- rows above stay
 

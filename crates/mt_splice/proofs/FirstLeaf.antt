@@ -27,13 +27,12 @@ use Rattle.mt_splice.specs.declared.writes.NewRow.{NewRow}
 use Rattle.mt_splice.specs.Fewest.{FewestBelow}
 use Rattle.mt_splice.specs.Splice.{MaySplice}
 use Rattle.mt_splice.specs.steps.Drafting.{AreRowsTaken, IsPieceDrafted, IsRowTaken}
-use Rattle.mt_splice.specs.steps.Endings.{with_root}
 use Rattle.mt_splice.specs.steps.Ends.{MayPublishEnd}
 use Rattle.mt_splice.specs.steps.Entries.{IsFirst}
 use Rattle.mt_splice.specs.steps.Layers.{AreHeld, part_of}
 use Rattle.mt_splice.specs.steps.Ledgers.{IsLedger, was_taken, work_of}
 use Rattle.mt_splice.specs.steps.Progress.{Before, is_taken}
-use Rattle.mt_splice.specs.steps.Replaced.{IsReplaced}
+use Rattle.mt_splice.specs.steps.Replaced.{IsReplaced, with_root}
 use Rattle.mt_splice.specs.steps.Runs.{MayBeCut}
 use Rattle.mt_splice.specs.steps.Seen.{Seen}
 use Rattle.mt_splice.specs.steps.Work.{Start, Work, tree_with}

@@ -8,7 +8,6 @@ use Rattle.mt_layout.proofs.SpanLists.{after, fills-append, spans-take, spans-dr
 use Rattle.mt_path.specs.declared.paths.PathStep.{PathStep}
 use Rattle.mt_path.specs.Paths.{step_at}
 use Rattle.mt_rows.specs.Laws.{Tree, Stands, kind_on, top_of}
-use Rattle.mt_splice.specs.steps.Endings.{words_of}
 use Rattle.mt_splice.specs.steps.Looking.{items_above}
 use Rattle.mt_splice.specs.steps.Plans.{Layer, level_of}
 use Rattle.mt_splice.specs.steps.Telling.{AreOld, AreAmongOld, AreFromBelow}
@@ -24,6 +23,7 @@ use Rattle.mt_splice.proofs.TakenIn.{spans_behind}
 use Rattle.mt_splice.proofs.ToldRows.{inner_beside}
 use Rattle.mt_splice.proofs.Widened.{first_step, last_step, step_is}
 use Rattle.mt_splice.proofs.Windows.{ahead_within, begins_behind, ends_ahead}
+use Rattle.mt_splice.proofs.StoredWords.{words_of}
 
 -- ---- with the items of a row more
 

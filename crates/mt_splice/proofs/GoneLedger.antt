@@ -23,7 +23,6 @@ use Rattle.mt_rows.proofs.Reached.{on_level_reached, times_reached}
 use Rattle.mt_splice.specs.declared.ways.Window.{Window}
 use Rattle.mt_splice.specs.Kept.{IsUnpublished}
 use Rattle.mt_splice.specs.steps.Burials.{after_burials, after_retirals, EachOnce, MayBuryAll, rows_on, numbers_in, numbers_in_all, IsWindowOn, AreWindowsOn}
-use Rattle.mt_splice.specs.steps.Endings.{words_of}
 use Rattle.mt_splice.specs.steps.Ledgers.{was_taken, IsLedger}
 use Rattle.mt_splice.specs.steps.Looking.{IsNowOf}
 use Rattle.mt_splice.specs.steps.Plans.{Layer, depth_at, old_at, IsPlanned, AreAllHeld, seen_at, gone_by, window_at, windows_by}
@@ -38,6 +37,7 @@ use Rattle.mt_splice.proofs.KeptTrees.{mark_keeps}
 use Rattle.mt_splice.proofs.Steps.{may_bury, is_out, in_order, progress_gone}
 use Rattle.mt_splice.proofs.Widened.{step_is}
 use Rattle.mt_splice.proofs.WindowRows.{sides_same, same_between, window_parts}
+use Rattle.mt_splice.proofs.StoredWords.{words_of}
 
 -- ---- rows that are seen once
 

@@ -17,9 +17,10 @@ use Rattle.mt_rows.proofs.Lists.{tally-append, expand-append}
 use Rattle.mt_splice.specs.Fewest.{AreFewestOf, FewestBelow}
 use Rattle.mt_splice.specs.steps.Work.{Start, tree_with, rows_at}
 use Rattle.mt_splice.proofs.Moments.{row_stays}
-use Rattle.mt_splice.specs.steps.Layers.{IsOld, Beside, AreNew, Stand}
+use Rattle.mt_splice.specs.steps.Layers.{IsOld, Beside, Stand}
 use Rattle.mt_splice.specs.steps.Windows.{before, behind, between, low_of, high_of, in_place, in_rows, Gathered}
 use Rattle.mt_splice.proofs.WindowRows.{window_parts, before_fills, behind_fills}
+use Rattle.mt_splice.proofs.Parts.{AreNew}
 
 module _ {start : Start} {words : List ℕ} {is_new : ℕ → Bool} {top : ℕ} (b : Beside start words is_new top) {below : List Span} {i j d h : ℕ} {items : List Item} {new : List Span}
     (g : Gathered start below i j d h (spans_from (low_of start.tree d i) items)) (n : AreNew start words is_new (low_of start.tree d i) (high_of start.tree d j) h items new) (lower : top ≤ d) where

@@ -13,7 +13,6 @@ use Rattle.mt_rows.specs.Replacement.{root_of}
 use Rattle.mt_rows.specs.Sheet.{Sheet}
 use Rattle.mt_rows.specs.Spans.{Table, column}
 use Rattle.mt_rows.proofs.Reached.{OnLevel, on_level_reached, times_reached}
-use Rattle.mt_splice.specs.steps.Endings.{words_of}
 use Rattle.mt_splice.specs.steps.Ledgers.{was_taken, work_of, IsLedger}
 use Rattle.mt_splice.specs.steps.Looking.{IsNowOf}
 use Rattle.mt_splice.specs.steps.Progress.{Before, IsBefore}
@@ -26,6 +25,7 @@ use Rattle.mt_splice.proofs.LevelPaths.{is_tree_now, path_stays}
 use Rattle.mt_splice.proofs.Moments.{reached_are_used}
 use Rattle.mt_splice.proofs.StepSeen.{not_both}
 use Rattle.mt_splice.proofs.Steps.{reached_untaken, table_now, width_now, rows_now}
+use Rattle.mt_splice.proofs.StoredWords.{words_of}
 
 or_left : (a c : Bool) → a ≡ true → (a || c) ≡ true
 or_left true c is = is

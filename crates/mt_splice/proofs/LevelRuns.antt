@@ -15,9 +15,8 @@ use Rattle.mt_layout.proofs.RowSizes.{some_least}
 use Rattle.mt_layout.proofs.SpanLists.{length-spans_from, after, after-append, spans-append, fills_after, fills_items, apart_front, apart_back, full_back, two_hold_an_entry}
 use Rattle.mt_leaf.specs.Cuts.{word_of, IsPiece, ArePieces}
 use Rattle.mt_rows.specs.Laws.{Tree, top_of, kind_on, least_of, least_of_root, covers_all}
-use Rattle.mt_splice.specs.steps.Climbs.{MayBeIn}
 use Rattle.mt_splice.specs.Fewest.{IsCutOf}
-use Rattle.mt_splice.specs.steps.Runs.{most_in_three, MayBeLeaves, span_to, MayBeCut}
+use Rattle.mt_splice.specs.steps.Runs.{MayBeIn, most_in_three, MayBeLeaves, span_to, MayBeCut}
 
 ends_full : (lo k : ℕ) (xs : List Item) → k + 1 ≡ length xs → get_or (map (λ (x : Item). x.word) xs) k 0 ≢ 0 → EndsFull (spans_from lo xs)
 ends_full lo k [] at full = tt

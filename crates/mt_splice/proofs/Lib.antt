@@ -77,6 +77,8 @@ pub mod SplicedWithin
 pub mod Splits
 pub mod StepSeen
 pub mod Steps
+pub mod StoredWords
+pub mod Stretches
 pub mod TakenIn
 pub mod Tending
 pub mod ToldRows

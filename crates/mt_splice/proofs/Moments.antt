@@ -13,8 +13,8 @@ use Rattle.mt_rows.proofs.Heights.{levels_upper, levels_pair, level_shared}
 use Rattle.mt_rows.proofs.RowLaws.{row_keeps}
 use Rattle.mt_rows.proofs.Reached.{times_reached, on_level_reached}
 use Rattle.mt_splice.specs.steps.Work.{Start, Work, table_with, tree_with, now, rows_at, times_in, IsUsed, KeepsWords, Holds}
-use Rattle.mt_splice.specs.steps.Endings.{words_of}
 use Rattle.mt_splice.proofs.EndLevels.{levels_each}
+use Rattle.mt_splice.proofs.StoredWords.{words_of}
 
 -- ---- words that stay
 

@@ -15,8 +15,7 @@ use Rattle.mt_layout.proofs.SpanLists.{fills_end}
 use Rattle.mt_rows.specs.Spans.{spans_in}
 use Rattle.mt_rows.specs.Laws.{Tree, IsRow, EntryLaw, HoleLaw, kind_on, least_of, words_in}
 use Rattle.mt_splice.specs.steps.Writes.{IsNewRow}
-use Rattle.mt_splice.specs.steps.Climbs.{MayBeIn}
-use Rattle.mt_splice.specs.steps.Runs.{MayBeLeaves, span_to}
+use Rattle.mt_splice.specs.steps.Runs.{MayBeIn, MayBeLeaves, span_to}
 use Rattle.mt_splice.proofs.LevelRuns.{IsRun}
 use Rattle.mt_splice.proofs.WrittenRows.{new_named, new_spans, new_unused}
 

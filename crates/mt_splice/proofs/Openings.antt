@@ -42,11 +42,10 @@ use Rattle.mt_splice.specs.steps.Climbing.{IsClimbing}
 use Rattle.mt_splice.specs.steps.Entries.{IsBegunBy, before_of, start_of}
 use Rattle.mt_splice.specs.steps.Progress.{Before}
 use Rattle.mt_splice.specs.steps.Replacing.{IsAnswer}
-use Rattle.mt_splice.specs.steps.Runs.{IsLeafRun}
 use Rattle.mt_splice.specs.steps.Widening.{MayWiden}
 use Rattle.mt_splice.specs.steps.Windows.{before, behind, between, high_of, low_of, row_at, Gathered}
 use Rattle.mt_splice.specs.steps.Work.{Start, rows_at}
-use Rattle.mt_splice.proofs.EditedRegions.{Leaves, all_edited, region_leaves}
+use Rattle.mt_splice.proofs.EditedRegions.{Leaves, all_edited, region_leaves, IsLeafRun}
 use Rattle.mt_splice.proofs.SpliceBegins.{case_of, no_path, nothing_done, stands_at_start}
 use Rattle.mt_splice.proofs.Splits.{split_same}
 use Rattle.mt_splice.proofs.Widened.{step_is}

@@ -6,7 +6,7 @@ use Rattle.mt_layout.specs.declared.names.RowKind.{RowKind}
 use Rattle.mt_layout.specs.declared.spans.Span.{Span}
 use Rattle.mt_layout.specs.Columns.{end_of}
 use Rattle.mt_layout.specs.Rows.{row_in}
-use Rattle.mt_layout.specs.Spans.{spans_from}
+use Rattle.mt_layout.specs.Spans.{spans_from, Fills}
 use Rattle.mt_layout.proofs.NameLaws.{row_in-name_at}
 use Rattle.mt_layout.proofs.SpanLists.{after, after_some, spans-append, length-spans_from}
 use Rattle.mt_rows.specs.Levels.{expand}
@@ -17,9 +17,19 @@ use Rattle.mt_splice.specs.steps.Work.{Start, tree_with}
 use Rattle.mt_splice.proofs.Gathering.{none_behind}
 use Rattle.mt_splice.proofs.LevelRuns.{AreParts, length-part, cut_makes_parts}
 use Rattle.mt_splice.proofs.WrittenRows.{new_spans}
-use Rattle.mt_splice.specs.steps.Layers.{AreHeld, AreNew, part_of, heads}
+use Rattle.mt_splice.specs.steps.Layers.{AreHeld, part_of, heads}
 use Rattle.mt_splice.proofs.Heads.{drop_part, heads_fill, length-heads}
 use Rattle.mt_splice.proofs.NewRows.{new_lawful}
+
+-- rows of a height were written, which hold these items: they are new, and the fewest that hold them
+pub record AreNew (start : Start) (words : List ℕ) (is_new : ℕ → Bool) (lo hi h : ℕ) (items : List Item) (new : List Span) : Type 0 where
+  pub hold : expand (tree_with start.tree words).table new ≡ spans_from lo items
+  pub fills : Fills lo hi new
+  pub lawful : AllByRecursion (IsRow (tree_with start.tree words) h) new
+  pub new_rows : AllByRecursion (λ (x : Span). is_new (row_in x.word) ≡ true) new
+  pub ends : List ℕ
+  pub cut : IsCutOf start.tree.table.width (kind_on start.tree.gapped h) items ends
+  pub many : length new ≡ length ends
 
 module _ (t : Tree) (is_new : ℕ → Bool) (height : ℕ) (above kind : RowKind) (of_kind : kind ≡ kind_on t.gapped height) (items : List Item) where
   abbrev Good : Span → Type 0

@@ -19,8 +19,8 @@ use Rattle.mt_path.specs.Paths.{step_in}
 use Rattle.mt_path.proofs.Places.{At}
 use Rattle.mt_path.proofs.TreePaths.{row_of, place, child}
 use Rattle.mt_splice.specs.steps.Work.{rows_at}
-use Rattle.mt_splice.specs.steps.Stretches.{IsStretch, spans_on}
 use Rattle.mt_splice.proofs.Splits.{split_more}
+use Rattle.mt_splice.proofs.Stretches.{spans_on, IsStretch}
 
 -- of two spans of a list, the one that begins first ends before the other begins
 ends_before : (lo : ℕ) (front back front' back' : List Span) (x y : Span) → front ++ (x ∷ back) ≡ front' ++ (y ∷ back') → Fills lo x.first front → Fills lo y.first front' → y.first < x.first → y.last < x.first

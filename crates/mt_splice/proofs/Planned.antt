@@ -8,11 +8,11 @@ use Rattle.mt_rows.proofs.Lists.{tally-append}
 use Rattle.mt_splice.specs.steps.Runs.{MayBeCut}
 use Rattle.mt_splice.specs.steps.Seen.{Seen, passing}
 use Rattle.mt_splice.specs.steps.Work.{Start, tree_with}
-use Rattle.mt_splice.specs.steps.Layers.{AreHeld, Beside, AreNew, Stand}
+use Rattle.mt_splice.specs.steps.Layers.{AreHeld, Beside, Stand}
 use Rattle.mt_splice.specs.steps.Plans.{Layer, depth_at, begin_at, new_at, old_at, level_of, IsLayer, IsPlanned, AreAllHeld, seen_at, newest_first, taken_by, gone_by}
 use Rattle.mt_splice.specs.steps.Windows.{high_of}
 use Rattle.mt_splice.proofs.Layers.{stand_leaves, stand_up}
-use Rattle.mt_splice.proofs.Parts.{layer_is_new}
+use Rattle.mt_splice.proofs.Parts.{layer_is_new, AreNew}
 
 -- laws on items ask for no words
 pub run_now : {t : Tree} {h lo hi : ℕ} {run : List Span} (words : List ℕ) → MayBeCut t h lo hi run → MayBeCut (tree_with t words) h lo hi run

@@ -14,7 +14,6 @@ use Rattle.mt_rows.specs.Laws.{Stands, top_of}
 use Rattle.mt_rows.specs.Sheet.{Rooted}
 use Rattle.mt_path.specs.declared.paths.PathStep.{PathStep}
 use Rattle.mt_path.specs.Paths.{path_in, step_at}
-use Rattle.mt_splice.specs.steps.Endings.{words_of}
 use Rattle.mt_splice.specs.steps.TakingIn.{short_run, beside_items}
 use Rattle.mt_splice.specs.steps.Work.{Start, table_with}
 use Rattle.mt_splice.specs.steps.Looking.{IsNowOf, items_above}
@@ -23,6 +22,7 @@ use Rattle.mt_splice.specs.steps.Widening.{wants_row, IsWidened, MayWiden, IsWin
 use Rattle.mt_splice.proofs.Windows.{ahead_within}
 use Rattle.mt_splice.proofs.Besides.{begin_within, low_enough}
 use Rattle.mt_splice.proofs.Widened.{step_is, first_step}
+use Rattle.mt_splice.proofs.StoredWords.{words_of}
 
 -- the items of a row that keeps its words
 pub items_now : (t : Table) (words : List ℕ) (kind : RowKind) (row max : ℕ) → SameColumns t (table_with t words) (columns t.width) row → items_of_row (table_with t words) kind row max ≡ items_of_row t kind row max

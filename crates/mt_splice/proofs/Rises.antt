@@ -1,5 +1,5 @@
--- A level is left: what stands beside the replaced rows in the rows above them is gathered with the new ones.
-use Rattle.std.proofs.Common.{◌≡◌, ℕ, suc, ◌+◌, ◌≤◌, List, ◌∷◌, subst, arith}
+-- A row of the tree that stays has the words that it had.
+use Rattle.std.proofs.Common.{◌≡◌, ℕ, ◌+◌, ◌≤◌, List, ◌∷◌, subst, arith}
 use Rattle.std.specs.List.{AllByRecursion}
 use Rattle.mt_base.proofs.Lists.{all_back}
 use Rattle.mt_layout.specs.declared.spans.Span.{Span}
@@ -12,10 +12,7 @@ use Rattle.mt_path.specs.Paths.{path_in}
 use Rattle.mt_path.proofs.Places.{At}
 use Rattle.mt_path.proofs.TreePaths.{row_of, place}
 use Rattle.mt_splice.specs.steps.Work.{Start, Work, rows_at, KeepsWords, Holds}
-use Rattle.mt_splice.specs.steps.Climbs.{Climbed}
 use Rattle.mt_splice.proofs.Moments.{RowsKeep}
-
--- ---- a row of the tree, by the words now
 
 module _ (start : Start) (s : Work) (holds : Holds start s) (path : List PathStep) (i : ℕ) (within : i ≤ top_of start.tree) (is_path : path ≡ path_in start.tree.table start.tree.root i) (d k : ℕ) (levels : start.height ≡ d + k) where
   abbrev pub row_here : Span
@@ -28,12 +25,3 @@ module _ (start : Start) (s : Work) (holds : Holds start s) (path : List PathSte
   row_keeps_words =
       (all_back (RowsKeep start.tree start.tree.table.words s.words k) at_here.front (row_here ∷ at_here.back)
       (subst (AllByRecursion (RowsKeep start.tree start.tree.table.words s.words k)) at_here.parts (level_rows (RowsKeep start.tree start.tree.table.words s.words) start.tree.table d k start.height (root_of start.tree) levels holds.words))).0
-
--- ---- one level up
-
-module _ (start : Start) (s : Work) (left right : List PathStep) (depth height : ℕ) (new : List Span) (climbed : Climbed start s left right (suc depth) height new) where
-  abbrev i : ℕ
-  i = climbed.paths.from
-
-  levels : start.height ≡ depth + suc height
-  levels = let below = climbed.levels in omega arith

@@ -8,7 +8,7 @@ use Rattle.mt_rows.specs.Replacement.{root_of}
 use Rattle.mt_rows.proofs.Lists.{levels_map}
 use Rattle.mt_rows.proofs.RowLaws.{row_keeps}
 use Rattle.mt_splice.specs.steps.Work.{Start, Work, now}
-use Rattle.mt_splice.specs.steps.Endings.{with_root}
+use Rattle.mt_splice.specs.steps.Replaced.{with_root}
 
 -- ---- another root word
 

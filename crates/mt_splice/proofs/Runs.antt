@@ -1,28 +1,22 @@
--- Gathered spans are enough for rows and not too many, as they are or with those of one row beside them.
-use Rattle.std.proofs.Common.{[], ◌≡◌, ◌≢◌, ℕ, ◌+◌, ◌-◌, ◌<◌, ◌≤◌, ◌==◌, List, ◌∷◌, false, length, refl, sym, ◌∙◌, arith, ne_eqb, eq-eqb}
+-- What a store makes of the empty tree is enough for a row and not too much.
+use Rattle.std.proofs.Common.{[], ◌≡◌, ◌≢◌, ℕ, ◌+◌, ◌-◌, ◌≤◌, ◌==◌, List, ◌∷◌, false, length, refl, sym, ◌∙◌, arith, ne_eqb, eq-eqb}
 use Rattle.std.specs.List.{flat_map}
 use Rattle.mt_base.specs.declared.ranges.Range.{Range}
 use Rattle.mt_base.specs.Entry.{reserved}
 use Rattle.mt_base.specs.Map.{over}
 use Rattle.mt_layout.specs.declared.names.RowKind.TheVariants.{Leaf}
 use Rattle.mt_layout.specs.declared.spans.Span.{Span}
-use Rattle.mt_layout.specs.Sizes.{slots_of}
 use Rattle.mt_layout.specs.Spans.{leaf_range, Fills}
 use Rattle.mt_layout.proofs.RowSizes.{sizes}
 use Rattle.mt_layout.proofs.SpanLists.{some_filled}
-use Rattle.mt_rows.specs.Laws.{Tree, top_of, kind_on, least_of_root, least_of}
+use Rattle.mt_rows.specs.Laws.{Tree, top_of, least_of_root, least_of}
 use Rattle.mt_leaf.specs.Edits.{stored, edited}
 use Rattle.mt_leaf.proofs.Stored.{ranges_edited, fills_edited, length_edited}
 use Rattle.mt_leaf.proofs.Joined.{apart_joined}
 use Rattle.mt_path.specs.declared.paths.PathStep.{PathStep}
-use Rattle.mt_path.specs.Paths.{step_at, path_in}
-use Rattle.mt_splice.specs.steps.Work.{Start, Work}
 use Rattle.mt_splice.specs.Splice.{region_of}
-use Rattle.mt_splice.specs.steps.Climbs.{Gathered}
-use Rattle.mt_splice.specs.steps.Runs.{most_in_three, span_to, MayBeCut}
+use Rattle.mt_splice.specs.steps.Runs.{span_to, MayBeCut}
 use Rattle.mt_splice.proofs.EditedRegions.{all_edited}
-
--- ---- as they are
 
 all_enough : (t : Tree) (height lo hi : ℕ) (run : List Span) → lo ≡ 0 → hi ≡ top_of t + 1 → least_of_root height ≤ length run → least_of t height (span_to lo hi) ≤ length run
 all_enough t height lo hi run first last least =
@@ -60,10 +54,3 @@ empty_run t right first last entry order within free some =
       where
         one : (r : Range) → r ∷ [] ≡ [] → ⊥
         one r none = cc
-
--- ---- with the row on the right
-
-module _ (start : Start) (s : Work) (left right right' : List PathStep) (depth height : ℕ) (run : List Span) (gathered : Gathered start s left right depth height run)
-    (more : (step_at right depth).max < top_of start.tree) (is_right : right' ≡ path_in start.tree.table start.tree.root ((step_at right depth).max + 1)) (few : length run + slots_of start.tree.table.width (kind_on start.tree.gapped height) ≤ most_in_three start.tree.table.width (kind_on start.tree.gapped height)) where
-  abbrev t : Tree
-  t = start.tree

@@ -21,9 +21,9 @@ use Rattle.mt_path.proofs.Places.{at_get, At}
 use Rattle.mt_path.proofs.TreePaths.{place, child}
 use Rattle.mt_splice.specs.steps.Work.{Start, tree_with, rows_at}
 use Rattle.mt_splice.proofs.EndLevels.{levels_each}
-use Rattle.mt_splice.specs.steps.Layers.{IsOld, Beside, Stand, IsAbove}
+use Rattle.mt_splice.specs.steps.Layers.{IsOld, Beside, Stand}
 use Rattle.mt_splice.specs.steps.Windows.{row_at, in_place}
-use Rattle.mt_splice.proofs.Endings.{stand_same, stand_to_root}
+use Rattle.mt_splice.proofs.Endings.{stand_same, stand_to_root, IsAbove}
 use Rattle.mt_splice.proofs.Windows.{once}
 
 module _ {start : Start} {words : List ℕ} {is_new : ℕ → Bool} (b : Beside start words is_new 0) (stands_now : Stands (tree_with start.tree words) start.height) (has : HasWords (tree_with start.tree words))

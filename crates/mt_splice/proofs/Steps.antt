@@ -8,7 +8,7 @@ use Rattle.mt_base.specs.declared.widths.Width.{Width}
 use Rattle.mt_base.specs.Width.{columns, first_row}
 use Rattle.mt_layout.specs.declared.items.Item.{Item}
 use Rattle.mt_layout.specs.declared.names.RowKind.{RowKind}
-use Rattle.mt_layout.specs.Rows.{row_in, dead_mark}
+use Rattle.mt_layout.specs.Rows.{row_in, dead_mark, name_at}
 use Rattle.mt_layout.proofs.NameLaws.{row_in-name_at}
 use Rattle.mt_layout.proofs.RowSizes.{some_columns}
 use Rattle.mt_free.specs.Book.{Book, Held, IsRowOf, IsOut, held_rows, after_retire}
@@ -21,11 +21,18 @@ use Rattle.mt_rows.specs.Publish.{is_reached}
 use Rattle.mt_rows.specs.Laws.{Tree}
 use Rattle.mt_splice.specs.steps.Seen.{Seen}
 use Rattle.mt_splice.specs.steps.Work.{Start, Work, table_with, with_words}
-use Rattle.mt_splice.specs.steps.Writes.{IsRowWritten, no_parent}
+use Rattle.mt_splice.specs.steps.Writes.{no_parent, IsRowDrafted}
 use Rattle.mt_splice.specs.Kept.{IsSpare, IsUnpublished}
 use Rattle.mt_splice.specs.steps.Progress.{Before, IsBefore, IsProgress, row_seen, is_taken, is_gone, stamped}
 use Rattle.mt_splice.proofs.Drafts.{other_row, other_column, same_column, is_draft, other_life, whole_then}
 use Rattle.mt_splice.proofs.StepSeen.{was_seen, not_both, seen_here, seen_other, seen_before, seen_not_here, seen_last, seen_not_last, seen_front, seen_front_not_last, listed_seen, not_listed}
+
+-- A row was taken from the book and holds the items, a draft; the word names it.
+pub record IsRowWritten (s s' : Sheet) (book book' : Book) (kind : RowKind) (items : List Item) (word : ℕ) : Type 0 where
+  pub row : ℕ
+  pub taken : book ≡ record book' { free = book'.free ++ row ∷ [] }
+  pub named : word ≡ name_at row kind
+  pub drafted : IsRowDrafted s s' row kind items
 
 -- ---- what is true of lists and lives
 

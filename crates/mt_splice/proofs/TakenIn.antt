@@ -6,8 +6,14 @@ use Rattle.mt_layout.proofs.SpanLists.{fills_after, spans-append}
 use Rattle.mt_leaf.specs.Edits.{joined, ends_with_hole}
 use Rattle.mt_leaf.proofs.Pushes.{pushed_onto}
 use Rattle.mt_rows.specs.Laws.{kind_on}
-use Rattle.mt_splice.specs.steps.Climbs.{MayBeIn, beside}
+use Rattle.mt_splice.specs.steps.Runs.{MayBeIn}
 use Rattle.mt_splice.specs.steps.TakingIn.{is_hole_at, beside_items}
+use Rattle.mt_layout.specs.declared.spans.Span.{Span}
+
+-- the spans of rows of a height that stand beside each other
+abbrev pub beside : ℕ → List Span → List Span → List Span
+beside zero xs ys = joined (xs ++ ys)
+beside (suc h) xs ys = xs ++ ys
 
 pub ends_at_last : (first : ℕ) (items : List Item) → ends_with_hole (spans_from first items) ≡ is_hole_at items (length items - 1)
 ends_at_last first [] = refl

@@ -20,18 +20,23 @@ use Rattle.mt_path.specs.declared.paths.PathStep.{PathStep}
 use Rattle.mt_path.specs.Paths.{step_in, step_at, path_in}
 use Rattle.mt_path.proofs.TreePaths.{step, place, lawful}
 use Rattle.mt_path.proofs.Places.{at_within}
-use Rattle.mt_splice.specs.steps.Climbs.{MayBeIn, beside}
 use Rattle.mt_splice.specs.steps.Decisions.{item_words}
-use Rattle.mt_splice.specs.steps.Endings.{words_of}
-use Rattle.mt_splice.specs.steps.Runs.{most_in_three, MayBeCut}
+use Rattle.mt_splice.specs.steps.Runs.{MayBeIn, most_in_three, MayBeCut}
 use Rattle.mt_splice.specs.steps.TakingIn.{short_run, holed_run}
 use Rattle.mt_splice.specs.steps.Work.{Start, rows_at}
 use Rattle.mt_splice.specs.steps.Writes.{items_of_row}
-use Rattle.mt_splice.proofs.TakenIn.{ends_at_last, beside_spans}
+use Rattle.mt_splice.proofs.TakenIn.{ends_at_last, beside_spans, beside}
 use Rattle.mt_splice.specs.steps.Windows.{row_at, low_of, high_of, Gathered}
-use Rattle.mt_splice.specs.steps.Widening.{wants_row, IsAlone, IsWithBehind, IsWithBefore, IsWidened, MayWiden, IsWide}
+use Rattle.mt_splice.specs.steps.Widening.{wants_row, IsAlone, IsWithBehind, IsWithBefore, IsWidened, MayWiden, IsWindow}
 use Rattle.mt_splice.proofs.Windows.{ahead_within, begins_behind, ends_ahead}
 use Rattle.mt_splice.proofs.Besides.{begin_within, low_enough, some_gathered, cut_of, least_enough, all_enough, leaf_entry, takes_behind, cut_behind, takes_before, cut_before, row_fit}
+use Rattle.mt_splice.proofs.StoredWords.{words_of}
+
+-- the items may be cut into rows, or are one hole of every index
+pub record IsWide (start : Start) (below : List Span) (left right : List PathStep) (d h : ℕ) (items : List Item) : Type 0 where
+  pub window : IsWindow start below left right d h items
+  pub cut : MayBeCut start.tree h (low_of start.tree d window.from) (high_of start.tree d window.to) (spans_from (low_of start.tree d window.from) items)
+      ⊎ ((h ≡ 0) × (low_of start.tree d window.from ≡ 0) × (high_of start.tree d window.to ≡ top_of start.tree + 1) × (item_words items ≡ 0 ∷ []))
 
 -- ---- a path's row
 

@@ -9,11 +9,11 @@ use Rattle.mt_rows.specs.Laws.{Tree, Stands, top_of}
 use Rattle.mt_path.specs.Paths.{slot_for}
 use Rattle.mt_path.proofs.Places.{At}
 use Rattle.mt_path.proofs.TreePaths.{place, inside_agree}
-use Rattle.mt_splice.specs.steps.Stretches.{IsStretch}
 use Rattle.mt_splice.specs.steps.Windows.{before, behind, between, row_at, low_of, high_of}
 use Rattle.mt_splice.specs.steps.Work.{rows_at}
 use Rattle.mt_splice.proofs.PathRows.{stretch_between}
 use Rattle.mt_splice.proofs.Windows.{at_before, at_behind, once, row_behind, ends_ahead}
+use Rattle.mt_splice.proofs.Stretches.{IsStretch}
 
 -- of a list in three parts the middle one, by where it begins and behind what it ends
 middle : (xs front old back : List Span) (n m : ℕ) → xs ≡ front ++ (old ++ back) → length front ≡ n → n + length old ≡ m → take (m - n) (drop n xs) ≡ old

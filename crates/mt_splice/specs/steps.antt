@@ -2,10 +2,8 @@
 pub mod Begun
 pub mod Burials
 pub mod Climbing
-pub mod Climbs
 pub mod Decisions
 pub mod Drafting
-pub mod Endings
 pub mod Ends
 pub mod Entries
 pub mod Layers
@@ -18,7 +16,6 @@ pub mod Replaced
 pub mod Replacing
 pub mod Runs
 pub mod Seen
-pub mod Stretches
 pub mod TakingIn
 pub mod Telling
 pub mod Told

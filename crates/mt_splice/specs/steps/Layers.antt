@@ -1,6 +1,6 @@
 -- New rows on each level in the place of a window's, written beside the tree's rows, which keep their words.
 -- Source: the kernel's lib/maple_tree.c, mas_wmb_replace, which puts a subtree of new nodes in the place of old ones.
-use Rattle.std.specs.Prelude.{◌≡◌, ℕ, ◌+◌, ◌<◌, ◌≤◌, Bool, true, false, List, [], ◌∷◌, length, take, drop, ◌-◌}
+use Rattle.std.specs.Prelude.{◌≡◌, ℕ, ◌+◌, ◌<◌, ◌≤◌, Bool, true, false, List, [], ◌∷◌, take, drop, ◌-◌}
 use Rattle.std.specs.List.{AllByRecursion}
 use Rattle.mt_base.specs.Width.{first_row}
 use Rattle.mt_layout.specs.declared.items.Item.{Item}
@@ -8,10 +8,10 @@ use Rattle.mt_layout.specs.declared.spans.Span.{Span}
 use Rattle.mt_layout.specs.declared.names.RowKind.{RowKind}
 use Rattle.mt_layout.specs.Columns.{end_of}
 use Rattle.mt_layout.specs.Rows.{row_in, name_at}
-use Rattle.mt_layout.specs.Spans.{spans_from, Fills}
-use Rattle.mt_rows.specs.Levels.{expand, map_of, Levels, times}
-use Rattle.mt_rows.specs.Laws.{Tree, IsRow, Stands, top_of, kind_on}
-use Rattle.mt_splice.specs.Fewest.{IsCutOf, FewestBelow}
+use Rattle.mt_layout.specs.Spans.{Fills}
+use Rattle.mt_rows.specs.Levels.{map_of, Levels, times}
+use Rattle.mt_rows.specs.Laws.{Tree, IsRow, Stands, top_of}
+use Rattle.mt_splice.specs.Fewest.{FewestBelow}
 use Rattle.mt_splice.specs.steps.Told.{told_gap}
 use Rattle.mt_splice.specs.steps.Writes.{IsNewRow}
 use Rattle.mt_splice.specs.steps.Work.{Start, tree_with, rows_at, KeepsWords}
@@ -26,16 +26,6 @@ pub record IsOld (start : Start) (words : List ℕ) (is_new : ℕ → Bool) (h :
 pub record Beside (start : Start) (words : List ℕ) (is_new : ℕ → Bool) (top : ℕ) : Type 0 where
   pub stands : Stands start.tree start.height
   pub rows : (d h : ℕ) → start.height ≡ d + h → top ≤ d → AllByRecursion (IsOld start words is_new h) (rows_at start.tree d)
-
--- rows of a height were written, which hold these items: they are new, and the fewest that hold them
-pub record AreNew (start : Start) (words : List ℕ) (is_new : ℕ → Bool) (lo hi h : ℕ) (items : List Item) (new : List Span) : Type 0 where
-  pub hold : expand (tree_with start.tree words).table new ≡ spans_from lo items
-  pub fills : Fills lo hi new
-  pub lawful : AllByRecursion (IsRow (tree_with start.tree words) h) new
-  pub new_rows : AllByRecursion (λ (x : Span). is_new (row_in x.word) ≡ true) new
-  pub ends : List ℕ
-  pub cut : IsCutOf start.tree.table.width (kind_on start.tree.gapped h) items ends
-  pub many : length new ≡ length ends
 
 -- By the words, these rows of a height stand for the map in place of the tree's rows of a depth; the new ones on each level are
 -- the fewest. What is reached from either differs by just the rows of the windows and the new rows, told by how many of them
@@ -64,11 +54,6 @@ heads above kind first items from [] rows = []
 heads above kind first items from (to ∷ ends) [] = []
 heads above kind first items from (to ∷ ends) (row ∷ rows) =
     head above kind first (part_of items from to) row ∷ heads above kind (end_of 0 (part_of items from to) + 1) items to ends rows
-
--- A row of a depth above is as it was, but that it may hold other children: it is lawful, and not new.
-pub record IsAbove (start : Start) (words : List ℕ) (is_new : ℕ → Bool) (h : ℕ) (x : Span) : Type 0 where
-  pub row : IsRow (tree_with start.tree words) h x
-  pub old : is_new (row_in x.word) ≡ false
 
 -- each row holds its part, is new, and is one of the tree's rows
 abbrev pub AreHeld : Tree → (ℕ → Bool) → RowKind → List Item → ℕ → List ℕ → List ℕ → Type 0

@@ -88,11 +88,6 @@ abbrev pub windows_by : Start → List Layer → List Window
 windows_by start [] = []
 windows_by start (l ∷ lower) = windows_by start lower ++ window_at start (depth_at start (length lower)) l.from l.to ∷ []
 
--- so of the levels above a depth, each whole, from the lowest up
-abbrev pub gone_above : Start → ℕ → List Seen
-gone_above start zero = []
-gone_above start (suc depth) = seen_at (start.height - depth) (rows_at start.tree depth) ++ gone_above start depth
-
 abbrev pub windows_above : Start → ℕ → ℕ → ℕ → List Window
 windows_above start from to zero = []
 windows_above start from to (suc depth) = window_at start depth from to ∷ windows_above start from to depth

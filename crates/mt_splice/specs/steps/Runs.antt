@@ -1,17 +1,16 @@
--- How many spans are gathered, and how they end: what makes them fit to be cut into rows.
+-- Which spans are gathered, how many, and how they end: what makes them fit to be cut into rows.
 -- Source: this project's own least numbers of items; the kernel's mab_calc_split, which keeps a leaf from ending with a
 -- slot of no entry.
-use Rattle.std.specs.Prelude.{◌≡◌, ◌≢◌, ℕ, ◌+◌, ◌-◌, ◌*◌, ◌<◌, ◌≤◌, true, List, [], length}
-use Rattle.std.specs.List.{flat_map}
+use Rattle.std.specs.Prelude.{◌≡◌, ◌≢◌, ℕ, zero, suc, ◌+◌, ◌-◌, ◌*◌, ◌≤◌, false, List, [], length}
+use Rattle.std.specs.List.{AllByRecursion, flat_map}
+use Rattle.mt_base.specs.Entry.{reserved}
 use Rattle.mt_base.specs.declared.widths.Width.{Width}
 use Rattle.mt_layout.specs.declared.names.RowKind.{RowKind}
 use Rattle.mt_layout.specs.declared.names.RowKind.TheVariants.{Leaf}
 use Rattle.mt_layout.specs.declared.spans.Span.{Span}
-use Rattle.mt_layout.specs.Spans.{leaf_range, Fills, EndsFull}
-use Rattle.mt_rows.specs.Laws.{Tree, top_of, kind_on, least_of}
-use Rattle.mt_leaf.specs.Edits.{ends_with_hole}
-use Rattle.mt_splice.specs.steps.Climbs.{MayBeIn}
 use Rattle.mt_layout.specs.Sizes.{slots_of}
+use Rattle.mt_layout.specs.Spans.{leaf_range, Fills, Apart, EndsFull}
+use Rattle.mt_rows.specs.Laws.{Tree, top_of, kind_on, least_of}
 
 -- The most items that are to stand in the rows of a level: those of two full rows but one of each, and three in the place
 -- of these two. In leaves the three are what a store writes and what it leaves in front and behind; in inner rows they are
@@ -28,11 +27,10 @@ most_before_hole width = slots_of width Leaf + 2
 abbrev pub most_in_three : Width → RowKind → ℕ
 most_in_three width kind = 3 * slots_of width kind - 3
 
--- The spans of leaves after a store, of which the last leaf ended at `last`: where others stand behind it, they end with
--- an entry or are few.
-pub record IsLeafRun (t : Tree) (last : ℕ) (run : List Span) : Type 0 where
-  pub few : length run ≤ most_items t.table.width Leaf
-  pub ends : last < top_of t → ends_with_hole run ≡ true → length run ≤ most_before_hole t.table.width
+-- spans that rows of a height may hold: in leaves no two holes follow each other, and no entry is reserved
+abbrev pub MayBeIn : ℕ → List Span → Type 0
+MayBeIn zero run = Apart run × AllByRecursion (λ (x : Span). reserved x.word ≡ false) run
+MayBeIn (suc h) run = Unit {0}
 
 -- leaves that hold the spans end with an entry where others stand behind them, and hold an entry
 pub record MayBeLeaves (t : Tree) (hi : ℕ) (run : List Span) : Type 0 where

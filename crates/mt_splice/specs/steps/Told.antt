@@ -1,18 +1,18 @@
 -- Items whose gaps are told, and the law of gaps while a tree is replaced.
 -- Source: the kernel's lib/maple_tree.c, mas_leaf_max_gap and ma_max_gap, by which a node's gap is told to its parent.
-use Rattle.std.specs.Prelude.{◌≡◌, ◌≤◌, ℕ, zero, suc, Bool, List, [], ◌∷◌, Option, Some, None, fold, map, max}
+use Rattle.std.specs.Prelude.{◌≡◌, ◌≤◌, ℕ, Bool, List, [], ◌∷◌, Option, Some, None, fold, map, max}
 use Rattle.mt_layout.specs.declared.items.Item.{Item}
 use Rattle.mt_layout.specs.declared.names.RowKind.{RowKind}
 use Rattle.mt_layout.specs.declared.names.RowKind.TheVariants.{Leaf, Inner, Gapped}
 use Rattle.mt_layout.specs.declared.spans.Span.{Span}
 use Rattle.mt_layout.specs.Columns.{longest_hole}
 use Rattle.mt_layout.specs.Spans.{spans_from}
-use Rattle.mt_rows.specs.Spans.{Table, inner_of}
+use Rattle.mt_rows.specs.Spans.{Table}
 use Rattle.mt_rows.specs.Levels.{Levels}
-use Rattle.mt_rows.specs.Laws.{Tree, IsRow, GapLaw, longest_below}
+use Rattle.mt_rows.specs.Laws.{Tree, GapLaw, longest_below}
 use Rattle.mt_rows.specs.Gaps.{KeepsGaps}
 use Rattle.mt_rows.specs.Replacement.{root_of}
-use Rattle.mt_splice.specs.steps.Work.{Start, Work, now, IsUsed}
+use Rattle.mt_splice.specs.steps.Work.{Start}
 
 -- ---- the gaps of items
 
@@ -38,23 +38,6 @@ told_gap Inner kind first items = 0
 told_gap Gapped Leaf first items = longest_hole first items
 told_gap Gapped Inner first items = greatest_gap items
 told_gap Gapped Gapped first items = greatest_gap items
-
--- a row in use that keeps the laws, that of gaps too
-pub record IsGoodRow (start : Start) (w : Work) (h : ℕ) (x : Span) : Type 0 where
-  pub used : IsUsed w h x
-  pub row : IsRow (now start w) h x
-  pub gaps : GapLaw (now start w) h x
-
--- Items of inner rows, the first of which begins at `first`, name rows of a height: these, and all below them, are good, and
--- the items tell their gaps.
-pub record AreTold (start : Start) (w : Work) (h first : ℕ) (items : List Item) : Type 0 where
-  pub rows : Levels (IsGoodRow start w) (now start w).table h (spans_from first items)
-  pub gaps : TellGaps (inner_of start.tree.gapped) (now start w).table h first items
-
--- items that are to stand in rows of a height: those of leaves tell nothing
-abbrev pub AreToldIn : Start → Work → ℕ → ℕ → List Item → Type 0
-AreToldIn start w zero first items = Unit {0}
-AreToldIn start w (suc h) first items = AreTold start w h first items
 
 -- ---- the law of gaps
 

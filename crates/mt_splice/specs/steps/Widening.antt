@@ -1,7 +1,7 @@
 -- The items of a level's run, gathered, and then with those of the row beside it where they are too few for a row, or where a
 -- leaf would end with a hole.
 -- Source: the kernel's lib/maple_tree.c, mas_rebalance, which takes the right neighbour first.
-use Rattle.std.specs.Prelude.{◌≡◌, ◌⊎◌, ℕ, suc, ◌+◌, ◌-◌, ◌<◌, ◌≤◌, ◌||◌, Bool, true, false, List, [], ◌∷◌, length}
+use Rattle.std.specs.Prelude.{◌≡◌, ◌⊎◌, ℕ, suc, ◌+◌, ◌-◌, ◌<◌, ◌≤◌, ◌||◌, Bool, true, false, List, length}
 use Rattle.mt_base.specs.declared.widths.Width.{Width}
 use Rattle.mt_base.specs.Width.{greatest}
 use Rattle.mt_layout.specs.declared.items.Item.{Item}
@@ -12,8 +12,7 @@ use Rattle.mt_rows.specs.Laws.{top_of, kind_on}
 use Rattle.mt_rows.specs.Sheet.{Rooted}
 use Rattle.mt_path.specs.declared.paths.PathStep.{PathStep}
 use Rattle.mt_path.specs.Paths.{path_in, step_at}
-use Rattle.mt_splice.specs.steps.Decisions.{item_words}
-use Rattle.mt_splice.specs.steps.Runs.{most_items, most_before_hole, MayBeCut}
+use Rattle.mt_splice.specs.steps.Runs.{most_items, most_before_hole}
 use Rattle.mt_splice.specs.steps.TakingIn.{short_run, holed_run, beside_items}
 use Rattle.mt_splice.specs.steps.Work.{Start}
 use Rattle.mt_splice.specs.steps.Writes.{items_of_row}
@@ -68,9 +67,3 @@ pub record MayWiden (start : Start) (below : List Span) (left right : List PathS
   pub few : length items ≤ most_items start.tree.table.width (kind_on start.tree.gapped h)
   pub ends : h ≡ 0 → high_of start.tree d window.to ≤ top_of start.tree → (length items ≤ most_before_hole start.tree.table.width) ⊎ EndsFull (spans_from (low_of start.tree d window.from) items)
   pub two : (k : ℕ) → h ≡ suc k → low_of start.tree d window.from ≡ 0 → high_of start.tree d window.to ≡ top_of start.tree + 1 → 2 ≤ length items
-
--- the items may be cut into rows, or are one hole of every index
-pub record IsWide (start : Start) (below : List Span) (left right : List PathStep) (d h : ℕ) (items : List Item) : Type 0 where
-  pub window : IsWindow start below left right d h items
-  pub cut : MayBeCut start.tree h (low_of start.tree d window.from) (high_of start.tree d window.to) (spans_from (low_of start.tree d window.from) items)
-      ⊎ ((h ≡ 0) × (low_of start.tree d window.from ≡ 0) × (high_of start.tree d window.to ≡ top_of start.tree + 1) × (item_words items ≡ 0 ∷ []))

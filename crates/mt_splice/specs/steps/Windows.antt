@@ -11,7 +11,7 @@ use Rattle.mt_rows.specs.Levels.{expand}
 use Rattle.mt_rows.specs.Laws.{Tree, Stands, top_of}
 use Rattle.mt_path.specs.Paths.{slot_for, row_on}
 use Rattle.mt_splice.specs.steps.Work.{Start, rows_at}
-use Rattle.mt_splice.specs.steps.Climbs.{MayBeIn}
+use Rattle.mt_splice.specs.steps.Runs.{MayBeIn}
 
 -- of spans end to end, those before the one that holds an index, and those behind it
 abbrev pub before : ℕ → List Span → List Span

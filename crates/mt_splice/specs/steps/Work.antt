@@ -55,9 +55,6 @@ times_in p t h = times p t.table h (root_of t)
 abbrev pub IsUsed : Work → ℕ → Span → Type 0
 IsUsed s h x = s.used (row_in x.word) ≡ true
 
-abbrev pub IsTaken : Work → ℕ → Span → Type 0
-IsTaken s h x = 1 ≤ passing (is_row_of (row_in x.word)) s.taken
-
 -- a row has the words that it had, but for its parent word
 abbrev pub KeepsWords : Tree → List ℕ → List ℕ → ℕ → Type 0
 KeepsWords t words words' row = SameColumns (table_with t.table words) (table_with t.table words') (columns t.table.width) row

@@ -1,12 +1,11 @@
 -- A row written anew, and the items of a row read.
 -- Source: the kernel's lib/maple_tree.c, mab_mas_cp and mas_mab_cp: a node's slots are copied out and written into a new node.
-use Rattle.std.specs.Prelude.{[], ◌≡◌, ◌≢◌, ℕ, ◌+◌, ◌<◌, ◌≤◌, false, Some, List, ◌∷◌, ◌++◌, length, slice_index, slice_set}
+use Rattle.std.specs.Prelude.{◌≡◌, ◌≢◌, ℕ, ◌+◌, ◌<◌, ◌≤◌, false, Some, List, length, slice_index, slice_set}
 use Rattle.mt_base.specs.Width.{columns, first_row}
 use Rattle.mt_layout.specs.declared.items.Item.{Item}
 use Rattle.mt_layout.specs.declared.names.RowKind.{RowKind}
-use Rattle.mt_layout.specs.Rows.{IsRowNumber, name_at, row_in, named_row, parent_at}
+use Rattle.mt_layout.specs.Rows.{IsRowNumber, row_in, named_row, parent_at}
 use Rattle.mt_layout.specs.Columns.{RiseFrom, row_words, items_at, slot_column}
-use Rattle.mt_free.specs.Book.{Book}
 use Rattle.mt_rows.specs.declared.rows.Life.TheVariants.{Draft, Live}
 use Rattle.mt_rows.specs.Spans.{Table, base_of, column}
 use Rattle.mt_rows.specs.Sheet.{Sheet, IsPlace, life_of, is_buried}
@@ -35,13 +34,6 @@ new_words t kind items = row_words (columns t.width) (slots_of t.width kind) (ga
 pub record IsRowDrafted (s s' : Sheet) (row : ℕ) (kind : RowKind) (items : List Item) : Type 0 where
   pub only : OnlyDrafts s s' row
   pub own : (c : ℕ) → c < columns s.tree.table.width → column s'.tree.table row c ≡ slice_index (new_words s.tree.table kind items) c
-
--- A row was taken from the book and holds the items, a draft; the word names it.
-pub record IsRowWritten (s s' : Sheet) (book book' : Book) (kind : RowKind) (items : List Item) (word : ℕ) : Type 0 where
-  pub row : ℕ
-  pub taken : book ≡ record book' { free = book'.free ++ row ∷ [] }
-  pub named : word ≡ name_at row kind
-  pub drafted : IsRowDrafted s s' row kind items
 
 -- the row's columns are the words of a new row with these items
 pub record IsNewRow (t : Table) (kind : RowKind) (row : ℕ) (items : List Item) : Type 0 where

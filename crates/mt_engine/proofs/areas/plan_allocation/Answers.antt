@@ -12,8 +12,8 @@ area_of-requires-clause-within g c =
     let good = sym c.is_bad_area.ensures ∙ c.if-is_bad_area.false in
     window_within (g.R.Rows.sheet c.args.rows.now).tree c.args.kind c.requires.tree c.args.wanted.size c.args.wanted.min c.args.wanted.max (good_area c.args.kind c.args.wanted.size c.args.wanted.min c.args.wanted.max c.args.entry good).0
 
-pub overflow_add-result : goal.overflow_add-result
-overflow_add-result g c =
+pub overflow_add-edit : goal.overflow_add-edit
+overflow_add-edit g c =
     let t = (g.R.Rows.sheet c.args.rows.now).tree in
     let good = sym c.is_bad_area.ensures ∙ c.if-is_bad_area.false in
     let area = (good_area c.args.kind c.args.wanted.size c.args.wanted.min c.args.wanted.max c.args.entry good).0 in

@@ -3,9 +3,10 @@ use Rattle.std.proofs.lemmas.Result.{err_from_is_err_and}
 use Rattle.mt_base.specs.Nodes.{Wants, is_exact_store}
 use Rattle.mt_free.specs.Book.{Book}
 use Rattle.mt_rows.specs.Publish.{map_by}
-use Rattle.mt_rows.specs.Sheet.{Sheet}
+use Rattle.mt_rows.specs.Sheet.{Rooted, Sheet}
 use Rattle.mt_rows.specs.Trees.{height_in}
 use Rattle.mt_engine.specs.Engine.{ChangesEntry, Replaces}
+use Rattle.mt_engine.specs.Plans.{IsStorePlan}
 use Rattle.mt_engine.specs.Rooms.{HasRoom}
 use Rattle.mt_engine.specs.Stores.{IsStored}
 use Rattle.mt_engine.proofs.Answering.{not_both, at_once, after_scan}
@@ -44,6 +45,15 @@ store_at_hand-requires-clause-room g c =
           (λ replaces. absurd (store_replaces_none tree c.requires.plan (sym c.wants_by.ensures ∙ w.if-wants_by.false)
           (subst (λ (x : Sheet). Replaces c.args.kind (map_by x.tree) c.args.event.now.call.now) (ap g.R.Rows.sheet w.rows-is) replaces)))
     ]
+
+pub store_at_hand-requires-clause-plan : goal.store_at_hand-requires-clause-plan
+store_at_hand-requires-clause-plan g c =
+    let s = g.R.Rows.sheet c.args.rows.now in
+    let same : (g.R.Rows.sheet c.if-wants_by.rows).tree ≡ s.tree = elim c.if-wants_by.branch [
+      | then-wants_by+in_ok-make_room w ↦ ap (λ (x : Sheet). x.tree) (ap g.R.Rows.sheet w.rows-is) ∙ ap (λ (x : Sheet). x.tree) (w.make_room.ensures.scanned c.args.kind c.requires.in_call.state).rest
+      | else-wants_by w ↦ ap (λ (x : Sheet). x.tree) (ap g.R.Rows.sheet w.rows-is)
+    ] in
+    subst (λ (t : Rooted). IsStorePlan c.args.kind t c.args.event.now.call.now c.args.path.now.items c.args.write.now c.args.event.now.reply.now) (sym same) c.requires.plan
 
 pub returns-clause-done : goal.returns-clause-done
 returns-clause-done g c =

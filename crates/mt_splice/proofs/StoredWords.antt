@@ -1,29 +1,24 @@
--- The one store that ends a replacement.
--- Source: the kernel's lib/maple_tree.c, mas_replace_node.
+-- A tree by its rows, words and root word, and the word in the slot of a path's row.
 use Rattle.std.specs.Prelude.{◌≡◌, ℕ, ◌+◌, slice_set}
-use Rattle.mt_layout.specs.Columns.{slot_column}
-use Rattle.mt_layout.specs.declared.names.RowKind.{RowKind}
 use Rattle.mt_layout.specs.Rows.{row_in}
 use Rattle.mt_layout.specs.declared.spans.Span.{Span}
-use Rattle.mt_rows.specs.Spans.{base_of}
 use Rattle.mt_rows.specs.Laws.{Tree}
-use Rattle.mt_rows.specs.Sheet.{Rooted}
 use Rattle.mt_rows.specs.Replacement.{IsSlotAt}
 use Rattle.mt_path.specs.declared.paths.PathStep.{PathStep}
-use Rattle.mt_splice.specs.steps.Work.{tree_with}
+use Rattle.mt_layout.specs.Columns.{slot_column}
+use Rattle.mt_layout.specs.declared.names.RowKind.{RowKind}
 use Rattle.mt_layout.specs.Sizes.{slots_of}
-
--- the tree with another root word
-abbrev pub with_root : Tree → ℕ → Tree
-with_root t word = record { rows = t.rows; gapped = t.gapped; table = t.table; root = word }
-
--- the tree after a word is stored in the slot of a path's row, which is of this kind
-abbrev pub with_step : Tree → RowKind → PathStep → ℕ → Tree
-with_step t kind step word = tree_with t (slice_set t.table.words (base_of t.table step.row + slot_column (slots_of t.table.width kind) step.slot) word)
+use Rattle.mt_rows.specs.Spans.{base_of}
+use Rattle.mt_splice.specs.steps.Work.{tree_with}
+use Rattle.mt_rows.specs.Sheet.{Rooted}
 
 -- the rows, the words and the root word of a tree
 abbrev pub words_of : Tree → Rooted
 words_of t = record { rows = t.rows; table = t.table; root = t.root }
+
+-- the tree after a word is stored in the slot of a path's row, which is of this kind
+abbrev pub with_step : Tree → RowKind → PathStep → ℕ → Tree
+with_step t kind step word = tree_with t (slice_set t.table.words (base_of t.table step.row + slot_column (slots_of t.table.width kind) step.slot) word)
 
 abbrev pub column_of : Tree → RowKind → PathStep → ℕ
 column_of t kind step = slot_column (slots_of t.table.width kind) step.slot

@@ -1,0 +1,20 @@
+-- Rows next to each other on a level.
+use Rattle.std.specs.Prelude.{List, ◌≡◌, ℕ, ◌+◌, ◌++◌}
+use Rattle.mt_layout.specs.declared.names.RowKind.{RowKind}
+use Rattle.mt_layout.specs.declared.spans.Span.{Span}
+use Rattle.mt_rows.specs.Spans.{Table, row_spans}
+use Rattle.mt_path.specs.declared.paths.PathStep.{PathStep}
+use Rattle.mt_layout.specs.Spans.{Fills}
+use Rattle.mt_rows.specs.Laws.{Tree, top_of}
+use Rattle.mt_splice.specs.steps.Work.{rows_at}
+
+-- of the rows of a level, those that cover the indexes from lo up to, but without, hi
+pub record IsStretch (t : Tree) (depth lo hi : ℕ) (front old back : List Span) : Type 0 where
+  pub parts : rows_at t depth ≡ front ++ (old ++ back)
+  pub before : Fills 0 lo front
+  pub here : Fills lo hi old
+  pub after : Fills hi (top_of t + 1) back
+
+-- what stands in a path's row, which is of this kind
+abbrev pub spans_on : Table → RowKind → PathStep → List Span
+spans_on t kind step = row_spans t step.row kind step.min step.max
