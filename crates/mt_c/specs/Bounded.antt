@@ -48,7 +48,7 @@ pub record StepsTo (t : Tree) (w : Walker) (max : ℕ) (place : Option ℕ) (r :
   pub told : r ≡ record { lo = found.lo; hi = found.hi; value = up_to max found.value }
   pub left : IsLeftTo (place_behind r.value max) there w'
 
--- The same of a user of a shared tree. Where that is closed the walk is as it was.
+-- `SteppedTo` of a user of a shared tree. Where the user is closed the walk is as it was.
 abbrev pub SharedSteppedTo : ℕ → OutWalk → OutWalk → Option User → Option User → ℕ → Window → Type 0
 SharedSteppedTo max w w' before after status out =
     OnUser before after status ((out ≡ no_window) × (w' ≡ w)) (λ u v. (r : Read (Option Range)) × StepsTo (tree_of u) u.walker max (place_to max (index_of w)) r v.walker × OnlyWalks u v × (status ≡ answer_status (Ok r)) × (out ≡ window_of (Ok r)) × (w' ≡ walk_from (place_behind r.value max)))

@@ -32,7 +32,7 @@ IsOfRanges code rows m t = (kind : Kind) × (kind_code kind ≡ code) × (mispla
 abbrev pub LacksOf : Kind → ℕ → List Range → ℕ → ℕ → Type 0
 LacksOf kind rows m status at = ((status ≡ 22) × (misplaced kind m ≡ Some at)) ⊎ ((status ≡ 33) × (at ≡ 0) × (misplaced kind m ≡ None) × (Fits (rows_in kind m) rows → ⊥))
 
--- the same in whatever number of rows, or ENOMEM
+-- `LacksOf` in whatever number of rows, or ENOMEM
 abbrev pub LacksAnyhow : Kind → List Range → Why → Type 0
 LacksAnyhow kind m why = ((rows : ℕ) → LacksOf kind rows m why.status why.at) ⊎ ((why.status ≡ 12) × (why.at ≡ 0))
 

@@ -30,7 +30,7 @@ pub use Rattle.mt_c.specs.KeptWalks.{IsKeptWalk, top, walks_coded}
 abbrev pub knows : Walker → known.Pass
 knows w = pass_in w.pass
 
--- the same when the section of a walk is closed, if there is one
+-- what a pass knows when the section of a walk is closed, if there is one
 abbrev pub closed_by : Option Cursor → known.Pass → known.Pass
 closed_by None p = p
 closed_by (Some w) p = record p { standing = None }
@@ -145,7 +145,7 @@ pub record IsStep (t : Tree) (w : Walker) (from : ℕ) (r : Read (Option Range))
   pub left : IsLeftBy r.value pass' walk' w'
   pub took : Took 221 w w'.pass
 
--- The same from a place. Where there is none nothing is found, by a read.
+-- A step from a place. Where there is no place nothing is found, by a read.
 abbrev pub StepsFrom : Tree → Walker → Option ℕ → Read (Option Range) → Walker → Type 0
 StepsFrom t w None r w' = IsAnswer t (knows w) (query_at None top) (Ok r) (knows w') × IsAtRest w' × Took 175 w w'.pass
 StepsFrom t w (Some from) r w' = IsStep t w from r w'

@@ -22,7 +22,7 @@ walk_from (Some index) = record { next = index; ended = 0 }
 abbrev pub top_of : OwnTree → ℕ
 top_of t = greatest t.engine.sheet.tree.table.width
 
--- the same where a tree's indexes end at `top`: there is none above it
+-- the index from which a walk goes on where a tree's indexes end at `top`: there is none above it
 abbrev pub start_in : ℕ → Option ℕ → Option ℕ
 start_in top None = None
 start_in top (Some index) = index_in top index

@@ -64,7 +64,7 @@ impl Walker {
 }
 
 impl User {
-    /// The same of its walker.
+    /// As `step_to` of its walker.
     fn step_to(&mut self, place: Option<u64>, max: u64) -> Read<Option<Range>>
         ensures common { common_of self.new ≡ common_of self.old }
         ensures chair { self.new.chair ≡ self.old.chair }

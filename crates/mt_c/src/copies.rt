@@ -93,7 +93,7 @@ fn fits(used: u64, rows: u64) -> bool
     (used..=MOST_ROWS).contains(&rows)
 }
 
-/// The same where the rows fit; or the number that says why there is none.
+/// A copy in so many rows where they fit; or the number that says why there is none.
 pub fn fitted(
     alloc: Global,
     kind: Kind,

@@ -28,7 +28,7 @@ pub extern "C" fn maple_store(
     told.status
 }
 
-/// The same. It wants the rows of a store that changes nodes, whatever it comes to.
+/// As `maple_store`, but it always wants the rows of a store that changes nodes.
 #[tactic(auto, using(crate::proofs::Telling::told_word))]
 #[unsafe(no_mangle)]
 pub extern "C" fn maple_store_pre(
@@ -106,7 +106,7 @@ pub extern "C" fn maple_alloc(
     told.status
 }
 
-/// The same at the highest start.
+/// As `maple_alloc`, at the highest start.
 #[tactic(auto, using(crate::proofs::Telling::told_word))]
 #[unsafe(no_mangle)]
 pub extern "C" fn maple_ralloc(

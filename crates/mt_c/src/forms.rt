@@ -60,7 +60,7 @@ fn check_rows(rows: &mut PlainRows, kind: Kind) -> Result<Form, Fault>
     check(rows, root, kind)
 }
 
-/// The same of the rows of a tree, which are only read.
+/// As `check_rows`, of an engine's tree, which is only read.
 #[tactic(auto, using(mt_tree::proofs::Forms::lawful_as, mt_tree::proofs::Forms::idle_as, mt_tree::proofs::Forms::high_as, crate::proofs::Reading::asked_as))]
 fn check_of(engine: Engine<PlainRows>, kind: Kind) -> (Engine<PlainRows>, Result<Form, Fault>)
     requires { kind ≡ engine.kind }

@@ -146,7 +146,7 @@ pub extern "C" fn maple_try_store(
     try_call(alloc, user, &Call::Store { first, last, entry }, done)
 }
 
-/// The same. It wants the rows of a store that changes nodes, whatever it comes to.
+/// As `maple_try_store`, but it always wants the rows of a store that changes nodes.
 #[unsafe(no_mangle)]
 pub extern "C" fn maple_try_store_pre(
     alloc: Global,
@@ -215,7 +215,7 @@ pub extern "C" fn maple_try_alloc(
     )
 }
 
-/// The same at the highest start.
+/// As `maple_try_alloc`, at the highest start.
 #[unsafe(no_mangle)]
 pub extern "C" fn maple_try_ralloc(
     alloc: Global,

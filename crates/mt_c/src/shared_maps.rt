@@ -51,7 +51,7 @@ fn first_with(alloc: Global, shape: Shape, rows: &mut PlainRows) -> Result<User,
     }
 }
 
-/// The same in a box.
+/// What `first_with` makes, in a box.
 pub fn boxed_with(alloc: Global, shape: Shape, rows: &mut PlainRows) -> Result<Box<User>, u32>
     requires { IsLawfulOf (sheet_in rows.old).tree shape.kind }
     ensures user { IfOk result (λ whole. IsFirstWith shape (map_by (sheet_in rows.old).tree) whole.value) }
@@ -68,7 +68,7 @@ pub fn boxed_with(alloc: Global, shape: Shape, rows: &mut PlainRows) -> Result<B
     }
 }
 
-/// The same with the map of an engine's tree, which is only read.
+/// As `boxed_with`, with the map of an engine's tree, which is only read.
 #[tactic(auto, using(mt_tree::proofs::Forms::lawful_as, mt_tree::proofs::Forms::idle_as, mt_tree::proofs::Forms::high_as, crate::proofs::Reading::asked_as))]
 fn first_of(
     engine: Engine<PlainRows>,
@@ -86,7 +86,7 @@ fn first_of(
     (Engine::of_height(rows, book, shape.kind, height), made)
 }
 
-/// The same of an engine that stays in its place.
+/// As `first_of`, of an engine that stays in its place.
 fn first_in(engine: &mut Engine<PlainRows>, by: (Global, Shape)) -> Result<Box<User>, u32>
     requires { by.1.kind ≡ engine.old.kind }
     ensures rest { IsAsked engine.old engine.new }

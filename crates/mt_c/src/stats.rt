@@ -62,7 +62,7 @@ fn stats_of(engine: Engine<PlainRows>, by: (Kind, u64)) -> (Engine<PlainRows>, O
     (Engine::of_height(rows, book, kind, height), stats)
 }
 
-/// The same of an engine that stays in its place.
+/// As `stats_of`, of an engine that stays in its place.
 fn stats_in(engine: &mut Engine<PlainRows>, by: (Kind, u64)) -> OutStats
     requires kind { by.0 ≡ engine.old.kind }
     requires calls { by.1 ≡ engine.old.sheet.ended }

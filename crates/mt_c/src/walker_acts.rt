@@ -183,7 +183,7 @@ impl Walker {
         read
     }
 
-    /// The same from a place; where there is none nothing is found.
+    /// As `step`, from a place; where there is no place it finds nothing.
     pub fn step_from(&mut self, tree: &Tree, place: Option<u64>) -> Read<Option<Range>>
         requires { IsPassOf tree.now self.old.pass }
         ensures of { IsPassOf tree.now self.new.pass }
