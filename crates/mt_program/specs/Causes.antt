@@ -78,7 +78,7 @@ streams left source_faults written sink_faults = record { left = left; source_fa
 abbrev pub Finishes : Command → Streams → Streams → Type 0
 Finishes command old new = (bytes text : List ℕ) × ReadsAll (limit_of command) old.left new.left bytes × IsOutput command bytes text × Appends old.written new.written text
 
--- the same, but only the first part of it was written
+-- the whole input was read, and only the first part of what the command prints of it was written
 abbrev pub FailsToWrite : Command → Streams → Streams → Type 0
 FailsToWrite command old new =
     (bytes part rest : List ℕ) × ReadsAll (limit_of command) old.left new.left bytes × IsOutput command bytes (part ++ rest)
@@ -118,6 +118,6 @@ Ends None result old new = (result ≡ Err failures.Usage) ⊎ (result ≡ Err f
 Ends (Some (Bulk workers)) result old new = EndsReading (Bulk workers) result old new
 Ends (Some (Ids lo hi steps drops)) result old new = EndsMaking (IsIdsText lo hi steps drops) result old.written new.written old.sink_faults new.sink_faults
 
--- the same, as a fact that tells of which streams it speaks
+-- `Ends`, as a fact that names the streams of which it speaks
 pub record HasEnded (command : Option Command) (result : Result (Unit {0}) Failure) (old new : Streams) : Type 0 where
   pub ends : Ends command result old new

@@ -26,7 +26,7 @@ limit_of Show = 67108864
 limit_of (Bulk workers) = 8388608
 limit_of (Ids lo hi steps drops) = 0
 
--- the same of words, which may be no command
+-- how many bytes are read for words that may be no command
 abbrev pub longest : Option Command → ℕ
 longest None = 0
 longest (Some command) = limit_of command

@@ -30,7 +30,7 @@ HasTurned passed Show bytes = Unit {0}
 HasTurned passed (Bulk workers) bytes = IsBuiltBy passed workers bytes
 HasTurned passed (Ids lo hi steps drops) bytes = Unit {0}
 
--- the same by the words, where they are a command, and the bytes that the source has left, if they are known
+-- `HasTurned` by the words, where they are a command, and the bytes that the source has left, if they are known
 abbrev pub HaveTurned : (ℕ → ℕ → Type 0) → Option Command → Option (List ℕ) → Type 0
 HaveTurned passed None left = Unit {0}
 HaveTurned passed (Some (Replay rows)) left = IfSome left (IsTurnedLog passed)
