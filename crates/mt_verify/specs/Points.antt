@@ -110,7 +110,7 @@ pub record AreAlike (steps : List Step) (trees : List History) (steps' : List St
 
 -- ---- histories that go alike
 
--- the same calls, of which the same were refused for want of rows
+-- two histories with the same calls, of which the same were refused for want of rows
 abbrev pub GoAlike : List Record → List Record → Type 0
 GoAlike [] [] = Unit {0}
 GoAlike [] (s ∷ others) = ⊥

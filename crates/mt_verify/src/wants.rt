@@ -68,7 +68,7 @@ fn has_low(map: &mut ShelfMap, kind: Kind, size: u64, min: u64, max: u64) -> Res
     Ok(is_start(&reply))
 }
 
-/// The same from above.
+/// As `has_low`, from above.
 #[tactic(auto, using(crate::proofs::Asked::start_is))]
 fn has_high(map: &mut ShelfMap, kind: Kind, size: u64, min: u64, max: u64) -> Result<bool, NoMemory>
     requires kind { kind ≡ map.old.kind }
