@@ -56,7 +56,7 @@ abbrev pub IsAtRest : Option Tools → Type 0
 IsAtRest (Some t) = IsAlone t.pen × IsKept (pen_in t.pen) (parts_of (pen_in t.pen) t.book) t.height
 IsAtRest None = ⊥
 
--- the same when a pass was shown the history: no section word was loaded since
+-- what is behind the lock when a pass was shown the history: no section word was loaded since
 abbrev pub after_show : Behind → Behind
 after_show b = record b { pen = pen_joined b.pen }
 

@@ -53,7 +53,7 @@ pub record IsCopyCounted {X : Type 0} (kind : Kind) (rows : ℕ) (m : List Range
   pub enough : IsOk made → IsRowCount kind rows m live × (live ≤ wanted)
   pub few : (told counted : ℕ) → made ≡ Err (errors.NoNodes told counted) → IsRowCount kind rows m live × (told ≡ wanted) × (counted ≡ live) × (wanted < live)
 
--- The same of a count that is known.
+-- `IsCopyCounted` of a count that is known.
 pub record IsLiveCounted {X : Type 0} (live wanted : ℕ) (made : Result X DupError) : Type 0 where
   pub enough : IsOk made → live ≤ wanted
   pub few : (told counted : ℕ) → made ≡ Err (errors.NoNodes told counted) → (told ≡ wanted) × (counted ≡ live) × (wanted < live)

@@ -305,7 +305,7 @@ impl<'a> Locked<'a, Taken<WriterState>> {
         copy_under(&mut self.taken, self.tree, self.pass, dst, own)
     }
 
-    /// The same where this shape is in range and of the tree's kind: a tree that opens with the copy.
+    /// As `dup`, where this shape is in range and of the tree's kind: a tree that opens with the copy.
     #[tactic(auto, using(crate::proofs::Forms::copy_lacks_memory))]
     fn copied(&mut self, alloc: Global, shape: Shape) -> Result<(Tree, Vec<Pass>), DupError>
         requires shape { first_bad shape ≡ None }
@@ -390,7 +390,7 @@ impl Tree {
         live
     }
 
-    /// The same where this shape is in range and of the tree's kind: the copy's rows and their book.
+    /// As `dup`, where this shape is in range and of the tree's kind: a tree that opens with the copy.
     #[tactic(auto, using(crate::proofs::Forms::uncounted, crate::proofs::Forms::counted_behind))]
     fn copied(
         &self,

@@ -46,7 +46,7 @@ impl Tree {
         }
     }
 
-    /// The same of a shape in range.
+    /// As `make`, of a shape in range.
     fn empty(alloc: Global, shape: Shape) -> Result<(Tree, Vec<Pass>), NoMemory>
         requires { first_bad shape ≡ None }
         ensures { IfOk result (λ r. IsNew shape [] r.0 r.1.items) }
@@ -56,7 +56,7 @@ impl Tree {
         Tree::open(alloc, shape, rows, book)
     }
 
-    /// The same as `make`, with zeros at hand that are words enough for this tree: none are written for it alone.
+    /// As `make`, with zeros at hand that are words enough for this tree: none are written for it alone.
     ///
     /// # Errors
     ///
@@ -79,7 +79,7 @@ impl Tree {
         }
     }
 
-    /// The same of a shape in range.
+    /// As `make_over`, of a shape in range.
     fn empty_over(alloc: Global, shape: Shape, zeros: &Zeros) -> Result<(Tree, Vec<Pass>), NoMemory>
         requires shape { first_bad shape ≡ None }
         requires zeros { Serve zeros.now.words.items shape.kind shape.rows }
@@ -113,7 +113,7 @@ impl Tree {
         Tree::open_over(alloc, shape, opening, &words, book, height)
     }
 
-    /// The same over the words of a table that opens with these rows, whose tree has so many levels.
+    /// As `open`, over the words of a table that opens with these rows, whose tree has so many levels.
     fn open_over(
         alloc: Global,
         shape: Shape,
