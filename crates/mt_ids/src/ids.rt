@@ -89,7 +89,7 @@ impl Ids {
         self.settle(answer, false)
     }
 
-    /// The same from the window's first index on, where none is free from the position on.
+    /// A draw from the window's first index on, where none is free from the position on.
     fn draw_anew<A: Allocs>(&mut self, tree: &mut A, entry: u64) -> Drawn
         ensures drawn { (s : Allocation) → IsBeforeLast self.old s entry (A.sheet tree.old) → IsDrawn self.old s entry result self.new (A.sheet tree.new) }
         ensures rest { (s : Allocation) → IsSince s (A.sheet tree.old) → IsAfter s (A.sheet tree.new) }
