@@ -113,7 +113,7 @@ impl ShelfMap {
         Ok(met.map_or(Reply::Ok, |range| Reply::Over(range.entry)))
     }
 
-    /// The same, where no range holds any of these indexes.
+    /// Stores `entry` over `first` to `last` where no range holds any of these indexes.
     #[tactic(auto, using(crate::proofs::ShelvesKept::rising_of, mt_base::proofs::CallsKeepOrder::valid_order, mt_base::proofs::CallsKeepOrder::valid_within))]
     fn insert(&mut self, first: u64, last: u64, entry: u64) -> Result<Reply, NoMemory>
         ensures acts { IfOk result (λ reply. acted self.old.kind self.old.ranges (Call.Insert first last entry) ≡ (self.new.ranges, reply)) }
