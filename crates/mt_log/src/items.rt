@@ -99,7 +99,7 @@ fn entered_area(
     Ok((area, entry))
 }
 
-/// The same with an entry.
+/// The tree of a line, how many indexes, where they may lie, and the entry.
 #[tactic(auto, unfolding(crate::specs::Reading::area_entry_item))]
 fn area_and_entry(trees: &Trees, fields: &[&[u8]]) -> Result<(Area, u64), Why>
     requires { length trees.now < 2 ^ 32 }
