@@ -13,7 +13,7 @@ word_of items i = slice_index (map (λ x. x.word) items) i
 abbrev pub or_one_fewer : List Item → ℕ → ℕ
 or_one_fewer items n = if word_of items (n - 1) == 0 then n - 1 else n
 
--- the same, or one more
+-- so many items, or one more, so that they do not end with a hole
 abbrev pub or_one_more : List Item → ℕ → ℕ
 or_one_more items n = if word_of items (n - 1) == 0 then n + 1 else n
 
