@@ -27,7 +27,7 @@ sheet_told t p q = record (sheet_of p) { told = Some (told_of t p q) }
 abbrev pub shown_all : PenPart → known.Pass → known.Pass
 shown_all p q = record q { seen = records_of p.history; ended = p.ended }
 
--- the same rows with the scans that were made
+-- the sheet of the rows with the scans that were made
 abbrev pub sheet_worked : Identity → PenPart → known.Pass → Scan → ℕ → Sheet
 sheet_worked t p q scan scans = record (sheet_told t p q) { scan = scan; scans = scans }
 
