@@ -47,7 +47,7 @@ unfoldable pub MayCopy : Rooted → ℕ → ℕ → Type 0
 MayCopy t zero word = word ≡ 0
 MayCopy t (suc depth) word = MayCopyBy (MayCopy t depth) t word (named_kind word)
 
--- the same of the words in the slots of a row
+-- each word in the slots of a row is 0 or names a row of the table, so many levels deep
 pub record MayCopyBelow (t : Rooted) (depth : ℕ) (pair : Pair) : Type 0 where
   pub deep : 0 < depth
   pub first : first_row ≤ pair.row
