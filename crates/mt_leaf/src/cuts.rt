@@ -28,7 +28,7 @@ pub fn cut(items: &Run, most: u32, least: u32, leaf: bool) -> ArrayVec<u32, 3>
     cut_towards(items.as_slice(), most, least, leaf, Towards::Middle)
 }
 
-/// The same, where two rows meet as they are asked to: rows that grow at one end are cut towards it, so that the others
+/// As `cut`, where two rows meet as they are asked to: rows that grow at one end are cut towards it, so that the others
 /// are left nearly full.
 pub fn cut_towards(
     items: &[Item],

@@ -26,7 +26,7 @@ pub fn edit(items: &Run, min: u64, first: u64, last: u64, entry: u64) -> Run
     run
 }
 
-/// The same, in the caller's empty run.
+/// As `edit`, in the caller's empty run.
 #[tactic(auto, using(crate::proofs::EditSteps::steps, crate::proofs::Slots::slots))]
 pub fn edit_into(items: &[Item], min: u64, first: u64, last: u64, entry: u64, run: &mut Run)
     requires empty { run.old.items ≡ [] }
