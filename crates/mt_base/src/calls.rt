@@ -40,7 +40,7 @@ pub enum Call {
         max: u64,
         entry: u64,
     },
-    /// The same at the highest start.
+    /// Stores `entry` as `Alloc` does, at the highest start.
     Ralloc {
         size: u64,
         min: u64,
