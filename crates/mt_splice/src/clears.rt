@@ -9,11 +9,11 @@ ghost use Rattle.mt_splice.specs.Splice.{MayClear, IsSpliced};
 
 use crate::begun::Begun;
 use crate::calls::Event;
-use crate::climbing::{Top, climb_between, push_above};
+use crate::climbing::{Top, new_climb, push_above};
 use crate::replacing::publish_climbed;
 use mt_base::{Kind, top};
 use mt_free::RowBook;
-use mt_path::{copy_of, walk, walk_on};
+use mt_path::{copy_into, walk, walk_on};
 use mt_rows::{Place, Rows, inner_kind};
 use std::marker::Brand;
 
@@ -25,8 +25,9 @@ fn clear_as<R: Rows, B: Begun>(rows: &mut R, book: &mut RowBook, kind: Kind, eve
     ensures none_taken { book.new.free ≡ book.old.free }
 {
     let left = walk(rows, 0);
-    let right = copy_of(&left);
-    let mut climb = climb_between(inner_kind(kind), left, right);
+    let mut climb = new_climb(inner_kind(kind));
+    copy_into(&left, &mut climb.ways.left);
+    copy_into(&left, &mut climb.ways.right);
     let last = top(rows.width());
     walk_on(rows, &mut climb.ways.right, last);
     let depth = climb.ways.left.len() as u32 - 1;

@@ -27,13 +27,13 @@ use mt_leaf::{Towards, cut_towards};
 use mt_path::Path;
 use mt_rows::{Place, Rows};
 
-/// A replacement under way: the window of a level and what is to stand in its place, the kind of the tree's inner rows, the
-/// windows so far, and the inner rows that were written.
+/// A replacement under way: what is to stand in the place of a level's window, the kind of the tree's inner rows, the paths to
+/// the window, the windows so far, and the inner rows that were written.
 #[derive(Drop)]
 pub struct Climb {
-    pub ways: Ways,
     pub gathered: Gathered,
     pub inner: RowKind,
+    pub ways: Ways,
     pub windows: Windows,
     pub made: NewRows,
 }
@@ -53,21 +53,23 @@ struct Drafted {
     next: Next,
 }
 
-/// A climb between two paths, in a tree with inner rows of this kind. Nothing is gathered yet.
-pub fn climb_between(inner: RowKind, left: Path, right: Path) -> Climb
-    ensures left { result.ways.left ≡ left }
-    ensures right { result.ways.right ≡ right }
+/// A climb in a tree with inner rows of this kind. No path is known yet, and nothing is gathered.
+pub fn new_climb(inner: RowKind) -> Climb
+    ensures left { result.ways.left.items ≡ [] }
+    ensures right { result.ways.right.items ≡ [] }
     ensures run { result.gathered.run.items ≡ [] }
     ensures inner { result.inner ≡ inner }
     ensures windows { result.windows.items ≡ [] }
     ensures made { result.made.items ≡ [] }
 {
+    let (left, right) = (Path::new(), Path::new());
     let run = Run::new();
-    let towards = Towards::Middle;
+    // The variant that is 0: so all parts are cleared where they stand, and none is copied.
+    let towards = Towards::First;
     Climb {
-        ways: Ways { left, right },
         gathered: Gathered { run, towards },
         inner,
+        ways: Ways { left, right },
         windows: Windows::new(),
         made: NewRows::new(),
     }

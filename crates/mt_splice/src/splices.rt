@@ -9,7 +9,7 @@ ghost use Rattle.mt_splice.specs.Splice.{MaySplice, MayReplace, IsSpliced, Tells
 use crate::begins::begin_tree;
 use crate::begun::Begun;
 use crate::calls::{Edit, Event};
-use crate::climbing::{Climb, climb_between};
+use crate::climbing::{Climb, new_climb};
 use crate::leaves::fill_leaves;
 use crate::reads::push_all;
 use crate::replacing::replace;
@@ -17,7 +17,8 @@ use crate::spliced::{Spliced, at_root};
 use mt_base::{Call, Kind, Reply};
 use mt_free::RowBook;
 use mt_layout::Run;
-use mt_path::{Path, copy_into, copy_of, go_on};
+use mt_leaf::Towards;
+use mt_path::{Path, copy_into, go_on};
 use mt_rows::{Place, Rows, inner_kind};
 use std::marker::Brand;
 
@@ -79,8 +80,11 @@ pub fn splice<R: Rows>(
     requires { MaySplice kind (R.sheet rows.old) book.old left.now.items right.now.items items.now.items number call.now reply.now }
     ensures { IsSpliced kind (R.sheet rows.old) (R.sheet rows.new) book.old book.new number call.now reply.now result (last_step left.now.items).min (last_step right.now.items).max }
 {
-    let mut climb = climb_between(inner_kind(kind), copy_of(left), copy_of(right));
+    let mut climb = new_climb(inner_kind(kind));
+    copy_into(left, &mut climb.ways.left);
+    copy_into(right, &mut climb.ways.right);
     push_all(&mut climb.gathered.run, items.as_slice());
+    climb.gathered.towards = Towards::Middle;
     let event = Event {
         number,
         call,
@@ -103,7 +107,8 @@ pub fn replace_range<R: Rows>(
     ensures spliced { IsSpliced kind (R.sheet rows.old) (R.sheet rows.new) book.old book.new event.now.number event.now.call.now event.now.reply.now result.place edit.now.first edit.now.last }
     ensures told { TellsAt kind (R.sheet rows.new).tree result.place result.gap }
 {
-    let mut climb = climb_between(inner_kind(kind), copy_of(left), Path::new());
+    let mut climb = new_climb(inner_kind(kind));
+    copy_into(left, &mut climb.ways.left);
     copy_into(left, &mut climb.ways.right);
     go_on(rows, &mut climb.ways.right, edit.last);
     fill_leaves(rows, &climb.ways, &mut climb.gathered, edit);
