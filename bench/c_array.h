@@ -1,4 +1,4 @@
-/* A sorted array of ranges, which knows nothing of trees, for programs that hold the calls of the library for C against it. */
+/* A sorted array of ranges without any tree: programs compare the calls of the library for C with it. */
 #ifndef C_ARRAY_H
 #define C_ARRAY_H
 
@@ -68,7 +68,7 @@ static uint64_t over(uint64_t first, uint64_t last, uint64_t entry) {
 
 static int is_reserved(uint64_t entry) { return entry < 4096 && entry % 4 == 2; }
 
-/* The lowest, or the highest, start of size indexes in one hole of min .. max; 0 where there is none. */
+/* The lowest, or the highest, start of size indexes in one gap of min .. max; 0 where there is none. */
 static int room(uint64_t size, uint64_t min, uint64_t max, int high, uint64_t *start) {
     for (uint64_t n = 0; n + size - 1 <= max - min; n++) {
         uint64_t at = high ? max - (size - 1) - n : min + n;
@@ -77,7 +77,7 @@ static int room(uint64_t size, uint64_t min, uint64_t max, int high, uint64_t *s
     return 0;
 }
 
-/* What each query is to find; none where this is null. */
+/* What each query has to find; null where it has to find nothing. */
 static const struct maple_range *find(uint64_t index, uint64_t max) {
     size_t at = from(index);
     return index <= max && at < count && list[at].first <= max ? list + at : 0;

@@ -1,18 +1,18 @@
 /* SPDX-License-Identifier: MIT OR Apache-2.0
  *
- * For maple_shared.h, which includes it where the sanitizer of threads watches the program: this tells it in which orders the calls of a
- * shared tree put what threads write, since it sees nothing of the archive. What is before a store of an entry stands before what is
- * behind a read that tells the entry, and what is before a call before what is behind a later one, or behind a maple_learn, maple_sync
- * or maple_settle that is done.
- * It knows neither trees nor the numbers of calls: entries that are the same modulo 251, and the calls of all trees, are one to it. So it
- * takes some orders for given that are not, and none that is given for missing. */
+ * maple_shared.h includes this where the thread sanitizer is on. The sanitizer sees nothing of the archive, so this reports to it how the
+ * calls of a shared tree order what threads write:
+ *   - what is before a store of an entry happens before what is after a read that returns the entry;
+ *   - what is before a call happens before what is after a later call, or after a maple_learn, maple_sync or maple_settle that is done.
+ * It knows neither trees nor the numbers of calls. Entries that are the same modulo 251, and the calls of all trees, are one to it. So it
+ * assumes some orders that do not hold, and misses none that holds. */
 #ifndef MAPLE_TSAN_H
 #define MAPLE_TSAN_H
 
 void __tsan_acquire(void *at);
 void __tsan_release(void *at);
 
-/* What the sanitizer knows an order by: the first byte is all calls, each other one is entries. One for the whole program. */
+/* The sanitizer's names of orders: the first byte is all calls, each other one is entries. One array for the whole program. */
 __attribute__((weak)) char maple_tsan_orders[252];
 
 static inline void maple_tsan_release(uint64_t entry)

@@ -1,6 +1,6 @@
 /* SPDX-License-Identifier: MIT OR Apache-2.0
- * An address map: the ranges of this process's memory, as /proc/self/maps tells them, and where an address lies.
- * The tree begins with few rows, and goes on in a copy of twice as many where a store finds too few.
+ * An address map: the ranges of this process's memory, as /proc/self/maps lists them, and a look-up of an address.
+ * The tree begins with few nodes. Where a store finds too few, it continues in a copy with twice as many.
  *     cc address_map.c $(pkg-config --cflags --libs maple) && ./a.out */
 #include <errno.h>
 #include <inttypes.h>
@@ -15,7 +15,7 @@ static void stop(const char *what, uint32_t status)
     exit(1);
 }
 
-/* Puts the tree into twice as many rows. */
+/* Moves the tree into twice as many nodes. */
 static void grow(struct maple_tree *tree, uint64_t *rows)
 {
     struct maple_tree copy = {0, 0};
@@ -33,7 +33,7 @@ static void store(struct maple_tree *tree, uint64_t *rows, uint64_t first, uint6
     if (status) stop("not stored", status);
 }
 
-/* Reads the map; the entry of a range is the name of what is mapped there, or where there is none of that, a value. */
+/* Reads the map. The entry of a range is the name of what is mapped there; where it has no name it is a value. */
 static void read_maps(struct maple_tree *tree, uint64_t *rows)
 {
     char line[4096], name[4096];

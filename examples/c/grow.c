@@ -1,10 +1,12 @@
 /* SPDX-License-Identifier: MIT OR Apache-2.0
- * Trees that grow. A tree has as many rows as it was opened with; where a call finds too few, its map goes on in more.
+ * Trees that grow. A tree has as many nodes as it was opened with. Where a write finds too few, its map continues in a tree with more.
  *
- * Of one thread: maple_copy into another tree, which takes its place. Of threads: one writer, and readers that take no lock. The writer
- * opens a tree of twice the rows, copies the map by a walk, since nobody else makes calls, opens a user of it for each reader, and then
- * tells that there is another tree. A reader looks at that number before it reads, and where it has risen leaves the old tree for the new
- * one: the old one's memory is given back with its last user. What a reader found in the old tree was true until then.
+ * With one thread: maple_copy into another tree, which takes its place.
+ *
+ * With threads: one writer, and readers that take no lock. The writer opens a tree with twice the nodes. It copies the map by a walk, since
+ * nobody else writes. It opens a user of the new tree for each reader, and then publishes the number of the newest tree. A reader looks
+ * at that number before it reads. Where it has risen the reader leaves the old tree for the new one; the old tree's memory is given back
+ * with its last user. What a reader found in the old tree was true until then.
  *     cc grow.c $(pkg-config --cflags --libs maple) -pthread && ./a.out */
 #include <errno.h>
 #include <inttypes.h>
@@ -26,7 +28,7 @@ static void must(const char *what, uint32_t status)
     if (status) stop(what, status);
 }
 
-/* ---- a tree of one thread */
+/* ---- a tree that one thread uses */
 
 static void of_one_thread(void)
 {
@@ -50,9 +52,9 @@ static void of_one_thread(void)
     maple_close(&tree);
 }
 
-/* ---- one that threads share */
+/* ---- a tree that threads share */
 
-/* A thread: its users of the trees that there were, of which it has the last that it knows of. */
+/* A thread: its users of the trees, of which it uses the last that it knows of. */
 struct reader {
     struct maple_user users[TREES];
     pthread_t thread;
@@ -82,7 +84,7 @@ static void *reads(void *at)
     return NULL;
 }
 
-/* Goes on in twice the rows. */
+/* Continues with twice the nodes. */
 static void grow(void)
 {
     struct maple_user more = {0, 0};

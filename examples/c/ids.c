@@ -1,5 +1,5 @@
 /* SPDX-License-Identifier: MIT OR Apache-2.0
- * An allocator of numbers: each job draws the lowest number that is free, some a block of them, and is found by it.
+ * An allocator of numbers: each job draws the lowest free number, or a block of numbers, and is found by it.
  *     cc ids.c $(pkg-config --cflags --libs maple) && ./a.out */
 #include <errno.h>
 #include <inttypes.h>
@@ -13,7 +13,7 @@ struct job {
     const char *name;
 };
 
-/* Draws so many numbers in a row, of 1 to 20, for a job. */
+/* Draws a block of consecutive numbers from 1 to 20 for a job. */
 static void draw(struct maple_tree *ids, struct job *job)
 {
     uint32_t status = maple_alloc(ids, job->numbers, 1, 20, maple_ptr(job), &job->id);

@@ -1,7 +1,7 @@
 /* SPDX-License-Identifier: MIT OR Apache-2.0
- * A sampling profiler: a signal handler looks up in which mapping of the process the interrupted thread was, while that may be in the
- * midst of a call of the same tree. The handler has a user of the tree of its own, which nobody else works by: so one thread has the
- * signal, and each further one would have a user of its own for its handler.
+ * A sampling profiler: a signal handler looks up in which mapping of the process the interrupted thread was. That thread may be inside a
+ * call of the same tree. The handler has its own user of the tree, which nobody else uses. So one thread gets the signal; each further
+ * thread would need a user of its own for its handler.
  *     cc profiler.c $(pkg-config --cflags --libs maple) && ./a.out */
 #ifndef _GNU_SOURCE
 #define _GNU_SOURCE
@@ -17,7 +17,7 @@
 
 enum { SAMPLES = 100, MOST_NAMES = 1000 };
 
-static struct maple_user own, handlers; /* main's, and that of its handler */
+static struct maple_user own, handlers; /* main's, and its handler's */
 static uint64_t hits[MOST_NAMES];       /* by the number of a mapping */
 static volatile sig_atomic_t samples, nowhere, changed;
 

@@ -1,10 +1,10 @@
 /* SPDX-License-Identifier: MIT OR Apache-2.0
- * Entries that are pointers, and when to free what they point to: readers that take no lock, and a writer that puts new objects in the
- * place of old ones.
+ * Entries that are pointers, and when to free what they point to: readers that take no lock, and a writer that replaces objects by new
+ * ones.
  *
- * A call c that removes an entry tells it. Each reader publishes lo of each read, when it uses nothing more of the reads before: from
- * then on it uses no entry that a call up to lo removed. So the old object may be freed once each reader has published c or more. A
- * reader that reads no more publishes UINT64_MAX; before it reads again it publishes 0.
+ * A write c that removes an entry returns it. Each reader publishes lo of each read, once it uses nothing more of earlier reads. From then
+ * on it uses no entry that a write up to lo removed. So the old object may be freed once each reader has published c or more. A reader that
+ * reads no more publishes UINT64_MAX; before it reads again it publishes 0.
  *     cc reclaim.c $(pkg-config --cflags --libs maple) -pthread && ./a.out */
 #include <inttypes.h>
 #include <maple_shared.h>
@@ -69,7 +69,7 @@ static void free_old(void)
     for (; freed < put && ring[freed % MOST_WAITING].call <= least; freed++) free(ring[freed % MOST_WAITING].object);
 }
 
-/* Puts a new object over one place, which one range has: so the entry that the store met is all that it removed. */
+/* Stores a new object at one place, which one range has: so the entry that the store met is all that it removed. */
 static void replace(struct maple_user *user, uint64_t place)
 {
     struct maple_done done;

@@ -1,6 +1,6 @@
 //! Links the proved library: `libmaple.a`, as `make install` puts it, or else `libmt_c.a`, made by `rt lib` in crates/mt_c, and the
-//! kit's `liblibc_c.a`. They are sought in the folders that `MAPLE_ARCHIVES` names, parted by colons; where it is not set, beside an
-//! installed copy of this crate, in its repository and in the kit that `rt doc` tells of.
+//! kit's `liblibc_c.a`. It looks in the folders that `MAPLE_ARCHIVES` names, separated by colons. Where that is not set, it looks
+//! beside an installed copy of this crate, in its repository and in the kit that `rt doc` names.
 
 use std::path::PathBuf;
 use std::process::{exit, Command};

@@ -1,4 +1,4 @@
-//! Entries that stand for numbers, and for pointers: they are neither 0 nor reserved, and so no call refuses them.
+//! Entries that represent numbers and pointers: they are neither 0 nor reserved, so no call refuses them.
 //!
 //! ```
 //! use maple::{entries, Kind, Tree};
@@ -11,7 +11,7 @@
 use std::num::NonZeroU64;
 use std::ptr::NonNull;
 
-/// The entry that stands for a number below 2^63, an odd one; none for a greater number.
+/// The entry that represents a number below 2^63, an odd one; none for a greater number.
 ///
 /// ```
 /// use maple::entries::of_value;
@@ -26,7 +26,7 @@ pub const fn of_value(number: u64) -> Option<NonZeroU64> {
     }
 }
 
-/// The number that an entry stands for; none where it is even, as that of a pointer is.
+/// The number that an entry represents; none where the entry is even, as that of a pointer is.
 ///
 /// ```
 /// use maple::entries::{of_value, to_value};
@@ -40,7 +40,7 @@ pub const fn to_value(entry: NonZeroU64) -> Option<u64> {
     }
 }
 
-/// The entry that stands for a pointer: its address. None where that is no multiple of 4.
+/// The entry that represents a pointer: its address. None where the address is no multiple of 4.
 ///
 /// ```
 /// use maple::entries::{of_pointer, to_pointer};
@@ -53,8 +53,8 @@ pub fn of_pointer<T>(pointer: NonNull<T>) -> Option<NonZeroU64> {
     NonZeroU64::new(address).filter(|address| address.get() % 4 == 0)
 }
 
-/// The pointer that an entry stands for; none where it is no multiple of 4, as that of a number is. Whether it may be read is for who
-/// stored it to know.
+/// The pointer that an entry represents; none where the entry is no multiple of 4, as that of a number is. Only the code that stored
+/// it knows whether it may be read.
 ///
 /// ```
 /// use maple::entries::{of_value, to_pointer};

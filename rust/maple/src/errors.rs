@@ -22,15 +22,15 @@ pub enum Error {
     /// 4096 and 2 above a multiple of 4), a search in a tree that is not for allocation, or for more indexes than its
     /// window has.
     Invalid,
-    /// Too few of the tree's rows are free.
+    /// Too few of the tree's nodes are free.
     NoRows,
-    /// Some index is held already.
+    /// A range holds some index already.
     Exists,
-    /// No hole has room.
+    /// No gap of the window is large enough.
     NoRoom,
-    /// The tree had all its calls, 2^62 - 1.
+    /// The tree had all its writes, 2^62 - 1.
     Worn,
-    /// Another thread had the lock of the shared tree, and the call was to try once.
+    /// Another thread had the lock of the shared tree, and the write was to try once.
     Locked,
 }
 
@@ -49,7 +49,7 @@ impl Display for Error {
 
 impl error::Error for Error {}
 
-/// What the number of a call says.
+/// What the status of a call says.
 pub(crate) fn done(status: u32) -> std::result::Result<(), Error> {
     match status {
         0 => Ok(()),
@@ -65,17 +65,17 @@ pub(crate) fn done(status: u32) -> std::result::Result<(), Error> {
 /// Why no tree was made, or no reader or writer of one.
 #[derive(Clone, Copy, Debug, PartialEq, Eq)]
 pub enum OpenError {
-    /// There are more rows than a tree may have, or fewer than this one needs.
+    /// There are more nodes than a tree may have, or fewer than this one needs.
     Rows,
-    /// A shared tree has 61 readers and writers at a time at the most.
+    /// A shared tree has at most 61 readers and writers at a time.
     Users,
     /// There is no memory.
     NoMemory,
     /// The bytes are no image.
     NoImage,
-    /// The range of this number, from 0, is none of the tree's kind, or does not stand above the one before it.
+    /// The range of this number, from 0, is invalid for the tree's kind, or not above the one before it.
     Range(usize),
-    /// The shared tree has as many readers and writers as it was made for.
+    /// The shared tree already has as many readers and writers as it was made for.
     NoPlace,
 }
 
@@ -94,7 +94,7 @@ impl Display for OpenError {
 
 impl error::Error for OpenError {}
 
-/// What the number of an opening call says.
+/// What the status of an opening call says.
 pub(crate) fn opened(status: u32) -> std::result::Result<(), OpenError> {
     match status {
         0 => Ok(()),
@@ -105,7 +105,7 @@ pub(crate) fn opened(status: u32) -> std::result::Result<(), OpenError> {
     }
 }
 
-/// The words of a tree are not lawful: something else wrote over them, since every call keeps them so.
+/// The words of a tree are not well-formed: something else wrote over them, since every call keeps them so.
 #[derive(Clone, Copy, Debug, PartialEq, Eq)]
 pub enum CheckError {
     /// They are not.
@@ -125,7 +125,7 @@ impl error::Error for CheckError {}
 pub enum LogError {
     /// The bytes are no log.
     BadLog,
-    /// Trees have 4 to 65,504 rows.
+    /// Trees have 4 to 65,504 nodes.
     BadRows,
     /// A log has less than 2^32 bytes.
     TooLong,

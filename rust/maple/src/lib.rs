@@ -1,8 +1,11 @@
-//! Maps of ranges on the proved maple tree: `include/maple.h`, `maple_shared.h` and `maple_log.h` in safe Rust.
+//! Maps from ranges to entries on the proved maple tree, a concurrent B-tree: `include/maple.h`, `maple_shared.h` and
+//! `maple_log.h` in safe Rust.
 //!
-//! A map has disjoint ranges of indexes, of 64 or of 32 bits, each with an entry that is not 0. [`Tree`] is a map of one
-//! thread, [`Shared`] one that threads share, whose readers take no lock; [`Map`] has values of a type in the place of
-//! entries, and [`entries`] makes entries of numbers and of pointers.
+//! A map has disjoint ranges of indexes, of 64 or of 32 bits, each with an entry that is not 0. [`Tree`] is a map that one
+//! thread uses at a time. [`Shared`] is a map that threads share: its writes are linearizable, and its readers take no lock.
+//! [`Map`] has values of a type in the place of entries, and [`entries`] makes entries of numbers and of pointers.
+//!
+//! A tree has a fixed number of nodes, called `rows`, of 256 bytes each, or 512 where indexes have 32 bits.
 //!
 //! ```
 //! use maple::{Kind, Range, Tree};
@@ -18,8 +21,8 @@
 //! # Ok::<(), maple::Error>(())
 //! ```
 //!
-//! What a call does is what `crates/mt_c` promises of the export that it makes. This crate itself is not proved: it turns
-//! numbers into enums, and hands each call pointers of its own.
+//! What a call does is what the contract in `crates/mt_c` says of the export that it makes. This crate itself is not proved:
+//! it turns numbers into enums, and gives each call pointers of its own.
 #![deny(missing_docs)]
 
 pub mod entries;
@@ -41,7 +44,7 @@ pub use tree::{IntoIter, Ranges, Tree};
 use std::num::NonZeroU64;
 use std::ops::RangeInclusive;
 
-/// A tree has so many rows at the most.
+/// A tree has at most this many nodes.
 pub const MOST_ROWS: u64 = 65_504;
 
 /// What a tree is for.
@@ -54,13 +57,13 @@ pub const MOST_ROWS: u64 = 65_504;
 /// ```
 #[derive(Clone, Copy, Debug, PartialEq, Eq)]
 pub enum Kind {
-    /// Ranges are stored where the caller says.
+    /// Each write says where its range goes.
     Range = 0,
-    /// The tree can also find room for a range.
+    /// The tree also finds gaps for ranges.
     Alloc = 1,
-    /// Ranges are stored where the caller says, and indexes have 32 bits.
+    /// Each write says where its range goes, and indexes have 32 bits.
     Range32 = 2,
-    /// The tree can also find room for a range, and indexes have 32 bits.
+    /// The tree also finds gaps for ranges, and indexes have 32 bits.
     Alloc32 = 3,
 }
 
@@ -89,9 +92,9 @@ impl Range {
     }
 }
 
-/// So many rows surely hold so many ranges: a tree of so many rows refuses no call for want of rows that finds so many ranges or
-/// fewer there, where no read of another thread holds rows. None where no tree has so many. It is for trees at their worst:
-/// mostly a row has 4 to 10 ranges.
+/// The capacity: how many nodes surely hold this many ranges. A tree with that many nodes refuses no write ([`Error::NoRows`]) that
+/// finds at most this many ranges in it, where no read of another thread holds nodes. None where no tree has so many nodes. The
+/// result is for trees at their worst: mostly a node has 4 to 10 ranges.
 ///
 /// ```
 /// assert_eq!(maple::rows_for(1000), Some(518));
@@ -102,42 +105,42 @@ pub fn rows_for(ranges: u64) -> Option<u64> {
     Some(unsafe { raw::maple_rows_for(ranges) }).filter(|rows| *rows <= MOST_ROWS)
 }
 
-/// How a tree uses its rows.
+/// How a tree uses its nodes.
 #[derive(Clone, Copy, Debug, PartialEq, Eq)]
 pub struct Stats {
-    /// How many rows it has.
+    /// How many nodes it has.
     pub rows: u64,
     /// Those that are free.
     pub free: u64,
     /// Those in use.
     pub live: u64,
-    /// Those that were in use until a call replaced them, and are free again where the next call looks for rows.
+    /// Those that were in use until a write replaced them; they are free again when the next write looks for nodes.
     pub held: u64,
     /// Its levels.
     pub height: u64,
-    /// How many calls were made.
+    /// How many writes were made.
     pub calls: u64,
 }
 
-/// Why a call of a [`Writer`] was refused for want of rows.
+/// Why a write of a [`Writer`] was refused with [`Error::NoRows`]: too few nodes were free.
 #[derive(Clone, Copy, Debug, PartialEq, Eq)]
 pub struct Shortage {
-    /// As many rows as a call needs.
+    /// How many nodes a write needs.
     pub need: u64,
     /// How many are free.
     pub free: u64,
     /// How many are in use.
     pub live: u64,
-    /// How many are held back, since a read of another reader or writer may still be in them. Where none is, the tree is full.
+    /// How many are held, since a read of another reader or writer may still be in them. Where it is 0, the tree is full.
     pub held: u64,
 }
 
-/// What a tree comes to.
+/// The form of a tree.
 #[derive(Clone, Copy, Debug, PartialEq, Eq)]
 pub struct Form {
     /// Its levels.
     pub height: u64,
-    /// The rows that it has in use.
+    /// Its nodes in use.
     pub rows: u64,
     /// Its ranges.
     pub ranges: u64,

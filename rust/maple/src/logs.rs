@@ -1,4 +1,4 @@
-//! Logs played and transcripts verified.
+//! Plays logs and verifies transcripts.
 
 use crate::errors::{E2BIG, EBADMSG, EDOM, EINVAL, ERANGE};
 use crate::{raw, LogError};
@@ -13,7 +13,7 @@ fn failed(status: u32) -> LogError {
     }
 }
 
-/// Plays a log on one thread over trees of so many rows, and gives the text of the transcript.
+/// Plays a log on one thread over trees of this many nodes, and gives the text of the transcript.
 ///
 /// ```
 /// let log = b"mtlog 1\ntree a range\nstore a 0 99 1\nload a 45\n";
@@ -39,7 +39,7 @@ pub fn replay(log: &[u8], rows: u64) -> Result<Vec<u8>, LogError> {
     }
 }
 
-/// How many calls and how many reads a transcript of a run of a log tells; `Refused` where the text is of none.
+/// How many writes and how many reads a transcript of a run of a log reports; `Refused` exactly where the text is of no run.
 ///
 /// ```
 /// let log = b"mtlog 1\ntree a range\n";

@@ -7,9 +7,9 @@ use std::iter::FusedIterator;
 use std::mem;
 use std::ops::{RangeBounds, RangeInclusive};
 
-/// A map of one thread from ranges of indexes to values, on a [`Tree`] whose entries are the numbers of the values, and whose
-/// rows grow. A value that is stored over a range is of the whole range; where later stores and removals leave pieces of that,
-/// the pieces share the value, and it is dropped with the last one.
+/// A map of one thread from ranges of indexes to values. It is on a [`Tree`] whose entries are the numbers of the values, and
+/// whose number of nodes grows. A value that is stored over a range is of the whole range. Where later stores and removals leave
+/// pieces of that range, the pieces share the value, and it is dropped with the last one.
 ///
 /// ```
 /// use maple::Map;
@@ -24,7 +24,7 @@ use std::ops::{RangeBounds, RangeInclusive};
 /// # Ok::<(), maple::OpenError>(())
 /// ```
 ///
-/// There is none that threads share: a reader without a lock could not tell that it is done with a value. Threads share the
+/// Threads cannot share such a map: a reader without a lock could not say that it is done with a value. Threads share the
 /// numbers of values ([`Shared`](crate::Shared), [`entries`]).
 #[derive(Clone)]
 pub struct Map<T> {
@@ -120,8 +120,8 @@ impl<T> Map<T> {
         Some(&mut slot.expect("a range has a value").0)
     }
 
-    /// Stores over `first..=last`, and then counts anew of each value that had a range there: a range that reaches out of it
-    /// on one side stays one, on both sides becomes two, and on none goes.
+    /// Stores over `first..=last`, and then counts again the ranges of each value that had one there. A range that reaches out of
+    /// it on one side stays one, on both sides becomes two, and on neither goes.
     fn store(&mut self, (first, last): (u64, u64), number: Option<usize>) -> Result<Vec<T>, Error> {
         let entry = number.map(|number| entries::of_value(number as u64).expect("so many values are not in memory"));
         let met: Vec<Range> = if first > last { Vec::new() } else { self.tree.range(first..=last).collect() };
@@ -142,7 +142,7 @@ impl<T> Map<T> {
         Ok(gone)
     }
 
-    /// Stores a value over a range, in the place of what stands there.
+    /// Stores a value over a range, in the place of what is there.
     ///
     /// ```
     /// use maple::{Error, Map, Refused};
@@ -183,7 +183,7 @@ impl<T> Map<T> {
         self.store(ends(at), None).map(drop)
     }
 
-    /// The ranges that have an index of a window, with their values, in rising order, and from the back in falling order.
+    /// The ranges that have an index in a window, with their values, in rising order, and from the back in falling order.
     ///
     /// ```
     /// let mut map = maple::Map::new()?;

@@ -11,17 +11,18 @@ use std::num::NonZeroU64;
 use std::ops::{RangeBounds, RangeInclusive};
 use std::sync::{Mutex, MutexGuard, PoisonError};
 
-/// So many calls are made on a tree at the most.
+/// At most this many writes are made on a tree.
 const MOST_CALLS: u64 = (1 << 62) - 1;
 
-/// So many readers and writers has a tree at a time at the most: one place is the tree's own.
+/// A tree has at most this many readers and writers at a time: one more place is the tree's own.
 const MOST_USERS: u32 = 61;
 
-/// A map of ranges that threads share: each has a [`Reader`] or a [`Writer`] of its own. The tree has one history of calls,
-/// numbered from 1, and each of them sees a beginning of it, which only grows. Reads take no lock.
+/// A map from ranges that threads share: each has a [`Reader`] or a [`Writer`] of its own. The tree has one history of writes,
+/// numbered from 1: after the write n it has the version n. Each reader and writer sees a beginning of the history, which only
+/// grows. Writes are linearizable, and take the tree's lock. Reads take no lock, and return the answer of one version.
 ///
-/// What a thread wrote elsewhere before a call, to a place that the entry stands for, say, is seen by a reader to whom the entry
-/// is told, and by one that has seen the call ([`Reader::learn`]), as by an atomic of `Release` and `Acquire`.
+/// What a thread wrote elsewhere before a write, for example to a place that the entry represents, is visible to a reader that
+/// gets the entry, and to one that has seen the write ([`Reader::learn`]), as by an atomic of `Release` and `Acquire`.
 ///
 /// The tree lives until it and all its readers and writers are gone, in any order. The place of one that is gone is free for
 /// another.
@@ -53,7 +54,7 @@ pub struct Shared {
 }
 
 impl Shared {
-    /// An empty tree in so many rows, 4 to 65,504, for so many readers and writers at a time, 61 at the most.
+    /// An empty tree with 4 to 65,504 nodes (`rows`), for at most 61 readers and writers at a time (`users`).
     ///
     /// ```
     /// use maple::{Kind, OpenError, Shared};
@@ -71,7 +72,7 @@ impl Shared {
         Shared::opened_by(users, |user, users, calls| unsafe { raw::maple_shared_open(user, kind as u32, rows, users, calls) })
     }
 
-    /// What opens a closed user for so many users and calls makes a tree, of which one place is its own.
+    /// Makes a tree by what opens a closed user for a number of users and calls; one place is the tree's own.
     pub(crate) fn opened_by(users: u32, open: impl FnOnce(&mut RawUser, u32, u64) -> u32) -> Result<Shared, OpenError> {
         if users > MOST_USERS {
             return Err(OpenError::Users);
@@ -81,7 +82,7 @@ impl Shared {
         Ok(Shared { first: Mutex::new(first) })
     }
 
-    /// The first user. What a panic elsewhere left of it is as good as before.
+    /// The first user. A panic elsewhere does it no harm.
     fn first(&self) -> MutexGuard<'_, RawUser> {
         self.first.lock().unwrap_or_else(PoisonError::into_inner)
     }
@@ -99,9 +100,9 @@ impl Shared {
         Ok(Writer { reader: self.reader()?, lock, number: 0, shortage: None })
     }
 
-    /// Sees the whole history, under the lock as soon as that is free, and so do all places that no reader or writer has: so
-    /// many calls, and so many places. Where these are as many as the tree was made for, no reader or writer is left, and
-    /// each call of the history was made by one that is gone.
+    /// Shows the whole history to this and to all places that no reader or writer has, under the lock as soon as that is free.
+    /// Returns the number of writes in it, and of such places. Where these are as many as the tree was made for, no reader or
+    /// writer is left, and each write of the history was made by one that is gone.
     ///
     /// ```
     /// use maple::{Kind, Lock, Shared};
@@ -137,7 +138,7 @@ impl fmt::Debug for Shared {
     }
 }
 
-/// A thread's way to read a shared tree, without the lock. What it reads is of no earlier moment than what it read before.
+/// A thread's handle to read a shared tree, without the lock. What it reads is of no older version than what it read before.
 ///
 /// It may go to another thread; one at a time uses it:
 ///
@@ -151,7 +152,7 @@ pub struct Reader {
 }
 
 impl Reader {
-    /// A read, again and again while it is given up as the leaf of its place was replaced.
+    /// A read, repeated while it gives up because the leaf of its place was replaced.
     fn ask(&mut self, mut read: impl FnMut(&mut RawUser, &mut RawRead) -> u32) -> Option<Range> {
         let mut told = RawRead::default();
         until_done(|| read(&mut self.user, &mut told));
@@ -159,7 +160,7 @@ impl Reader {
         told.found.shown()
     }
 
-    /// The numbers of calls of which the last read may be told: its answer was that of the tree after one of them.
+    /// The version interval of the last read: its answer was that of the tree at one of these versions.
     pub fn window(&self) -> RangeInclusive<u64> {
         self.window.clone()
     }
@@ -182,7 +183,7 @@ impl Reader {
         self.ask(|user, read| unsafe { raw::maple_shared_load(user, index, read) })
     }
 
-    /// The entry at an index: of the range that [`load`](Reader::load) tells.
+    /// The entry at an index: of the range that [`load`](Reader::load) returns.
     pub fn get(&mut self, index: u64) -> Option<NonZeroU64> {
         self.load(index).map(|range| range.entry)
     }
@@ -192,7 +193,7 @@ impl Reader {
         self.first_in(..).is_none()
     }
 
-    /// The first range that has an index of the window.
+    /// The first range that has an index in the window.
     ///
     /// ```
     /// use maple::{entries::of_value, Kind, Lock, Shared};
@@ -216,15 +217,15 @@ impl Reader {
         self.ask(|user, read| unsafe { raw::maple_shared_find(user, first, last, read) })
     }
 
-    /// The last range that has an index of the window. Where the leaf of its place is replaced meanwhile it reads again, and
-    /// no bound is known of how often; so do `next_in` and `prev_in`.
+    /// The last range that has an index in the window. Where the leaf of its place is replaced meanwhile it reads again, and no
+    /// bound on how often is known. The same holds for `next_in` and `prev_in`.
     pub fn last_in(&mut self, window: impl RangeBounds<u64>) -> Option<Range> {
         let (first, last) = ends(window);
         // SAFETY: as of `load`.
         self.ask(|user, read| unsafe { raw::maple_shared_rfind(user, last, first, read) })
     }
 
-    /// The first range that begins in the window, behind its first index.
+    /// The first range that begins in the window, after its first index.
     pub fn next_in(&mut self, window: impl RangeBounds<u64>) -> Option<Range> {
         let (first, last) = ends(window);
         // SAFETY: as of `load`.
@@ -238,9 +239,9 @@ impl Reader {
         self.ask(|user, read| unsafe { raw::maple_shared_prev(user, last, first, read) })
     }
 
-    /// The ranges that have an index of the window, in rising order, and from the back in falling order; each is a read of
-    /// its own. A step in rising order keeps its leaf, and rows that die meanwhile are not free for calls before the
-    /// iterator is at its end or gone.
+    /// The ranges that have an index in the window, in rising order, and from the back in falling order. Each is a read of its
+    /// own. A step in rising order keeps its leaf. Until the iterator is at its end or gone, writes cannot reuse the nodes that
+    /// they replace.
     ///
     /// ```
     /// use maple::{Kind, Lock, Shared};
@@ -264,16 +265,16 @@ impl Reader {
         self.range(..)
     }
 
-    /// Whether it has seen the first so many calls now: what it reads is then of no earlier moment. Takes no lock. The
-    /// number is that of another thread's call, or the end of the window of its read, handed over. False: a call that had
-    /// begun has not ended yet.
+    /// Whether it has now seen at least that many writes: what it reads is then of no older version. Takes no lock. The number
+    /// is that of another thread's write, or the end of the window of its read, handed over. False: a write that had begun has
+    /// not ended yet.
     pub fn learn(&mut self, calls: u64) -> bool {
         // SAFETY: the user is open, and nobody else uses it now.
         unsafe { raw::maple_learn(&mut self.user, calls) == 0 }
     }
 
-    /// Sees the whole history, of so many calls, under the lock as soon as it is free. Readers and writers of which this
-    /// tells the same number have seen the same history.
+    /// Sees the whole history, under the lock as soon as it is free, and returns its length. Readers and writers that get the
+    /// same number have seen the same history.
     ///
     /// ```
     /// use maple::{Kind, Shared};
@@ -289,7 +290,7 @@ impl Reader {
 }
 
 impl Drop for Reader {
-    /// Its place is then free for another, but where there is no memory to note that.
+    /// Its place is then free for another, unless there is no memory to note that.
     fn drop(&mut self) {
         // SAFETY: the user is open, and not used after it is closed.
         until_done(|| unsafe { raw::maple_leave(&mut self.user) });
@@ -367,18 +368,18 @@ impl fmt::Debug for Steps<'_> {
     }
 }
 
-/// What a call does where another thread has the tree's lock.
+/// What a write does where another thread has the tree's lock.
 #[derive(Clone, Copy, Debug, PartialEq, Eq)]
 pub enum Lock {
-    /// It rests and tries again: it spins shortly, then yields, and at last sleeps, up to a millisecond at a time. No bound is
-    /// known for how long.
+    /// It rests and tries again: it spins shortly, then yields, and at last sleeps, up to a millisecond at a time. The lock is
+    /// not fair, and no bound on the wait is known.
     Waits,
-    /// It answers [`Error::Locked`], and nothing was changed.
+    /// It returns [`Error::Locked`], and nothing was changed.
     Tries,
 }
 
-/// A thread's way to make calls on a shared tree, and by its [`reader`](Writer::reader) to read it. Its calls answer as those
-/// of a [`Tree`](crate::Tree) do; `number` tells where each stands in the history.
+/// A thread's handle to write to a shared tree, and by its [`reader`](Writer::reader) to read it. Its writes return what those
+/// of a [`Tree`](crate::Tree) do; `number` is the number of the last one in the history.
 ///
 /// ```
 /// use maple::{Error, Kind, Lock, Shared};
@@ -426,13 +427,13 @@ impl Writer {
         done(status).map(|()| told.word)
     }
 
-    /// The number of its last call in the tree's history, refused or not; 0 before the first. A call that found the lock
-    /// taken has none.
+    /// The number of its last write in the tree's history, refused or not; 0 before the first. A write that found the lock
+    /// taken has no number.
     pub fn number(&self) -> u64 {
         self.number
     }
 
-    /// Why its last call was refused for want of rows, where it was.
+    /// Why its last write was refused with [`Error::NoRows`], where it was.
     ///
     /// ```
     /// use maple::{entries::of_value, Error, Kind, Lock, Shared};
@@ -447,12 +448,12 @@ impl Writer {
         self.shortage
     }
 
-    /// Its way to read, which has seen its calls.
+    /// Its reader, which has seen its writes.
     pub fn reader(&mut self) -> &mut Reader {
         &mut self.reader
     }
 
-    /// What its calls do from now on where another thread has the lock.
+    /// What its writes do from now on where another thread has the lock.
     ///
     /// ```
     /// use maple::{entries::of_value, Kind, Lock, Range, Shared};
@@ -473,21 +474,21 @@ impl Writer {
         self.lock = lock;
     }
 
-    /// Stores an entry over a range, or makes a hole there, and gives the entry of the first range that it met.
+    /// Stores an entry over a range, or makes a gap there, and gives the entry of the first range that it met.
     pub fn store(&mut self, at: impl RangeBounds<u64>, entry: Option<NonZeroU64>) -> Result<Option<NonZeroU64>, Error> {
         let ((first, last), entry) = (ends(at), entry.map_or(0, NonZeroU64::get));
         // SAFETY: the user is open, and the pointers are of two objects that nobody else uses now.
         self.word(|user, done| unsafe { raw::maple_try_store(user, first, last, entry, done) }).map(NonZeroU64::new)
     }
 
-    /// Stores an entry over a range where no index of it is held.
+    /// Stores an entry over a range where no range holds any of its indexes.
     pub fn insert(&mut self, at: impl RangeBounds<u64>, entry: NonZeroU64) -> Result<(), Error> {
         let ((first, last), entry) = (ends(at), entry.get());
         // SAFETY: as of `store`.
         self.word(|user, done| unsafe { raw::maple_try_insert(user, first, last, entry, done) }).map(|_| ())
     }
 
-    /// Removes the whole range that holds an index, and gives it; none where none does.
+    /// Removes the whole range that holds an index, and gives it; none where no range does.
     pub fn erase(&mut self, index: u64) -> Result<Option<Range>, Error> {
         // SAFETY: as of `store`.
         let (status, told) = self.call(|user, done| unsafe { raw::maple_try_erase(user, index, done) });
@@ -497,28 +498,28 @@ impl Writer {
         }
     }
 
-    /// Stores an entry over so many indexes at the lowest start at which they lie in one hole of the window, and gives it.
+    /// Stores an entry over `size` indexes at the lowest start at which they lie in one gap of the window, and gives the start.
     pub fn alloc(&mut self, size: u64, window: impl RangeBounds<u64>, entry: NonZeroU64) -> Result<u64, Error> {
         let ((min, max), entry) = (ends(window), entry.get());
         // SAFETY: as of `store`.
         self.word(|user, done| unsafe { raw::maple_try_alloc(user, size, min, max, entry, done) })
     }
 
-    /// The same at the highest start.
+    /// As [`alloc`](Writer::alloc), at the highest start.
     pub fn alloc_highest(&mut self, size: u64, window: impl RangeBounds<u64>, entry: NonZeroU64) -> Result<u64, Error> {
         let ((min, max), entry) = (ends(window), entry.get());
         // SAFETY: as of `store`.
         self.word(|user, done| unsafe { raw::maple_try_ralloc(user, size, min, max, entry, done) })
     }
 
-    /// The lowest start at which so many indexes lie in one hole of the window.
+    /// The lowest start at which `size` indexes lie in one gap of the window.
     pub fn gap(&mut self, size: u64, window: impl RangeBounds<u64>) -> Result<u64, Error> {
         let (min, max) = ends(window);
         // SAFETY: as of `store`.
         self.word(|user, done| unsafe { raw::maple_try_gap(user, size, min, max, done) })
     }
 
-    /// The highest.
+    /// The highest start at which `size` indexes lie in one gap of the window.
     pub fn gap_highest(&mut self, size: u64, window: impl RangeBounds<u64>) -> Result<u64, Error> {
         let (min, max) = ends(window);
         // SAFETY: as of `store`.

@@ -10,7 +10,7 @@ use std::iter::FusedIterator;
 use std::num::NonZeroU64;
 use std::ops::RangeBounds;
 
-/// A map of ranges, in rows whose memory is taken once: no call takes any. It may go to another thread, and one at a time
+/// A map from ranges, in nodes whose memory is taken once: no call takes any. It may go to another thread, and one at a time
 /// uses it.
 ///
 /// ```
@@ -23,15 +23,15 @@ use std::ops::RangeBounds;
 /// may_be_shared::<maple::Tree>();
 /// ```
 ///
-/// Windows and ranges of indexes are `3..12`, `3..=11`, `..=9`, `3..` or `..`, where an end that is open is 2^64 - 1, as for
-/// every kind of queries, and above the greatest index of a narrow tree's stores. A window without an index has no range,
-/// and a store over one is [`Error::Invalid`].
+/// Windows and ranges of indexes are `3..12`, `3..=11`, `..=9`, `3..` or `..`. An open end is 2^64 - 1, for every kind of reads;
+/// for a store that is above the greatest index of a tree with indexes of 32 bits. A window without an index has no range, and a
+/// store over one is [`Error::Invalid`].
 ///
-/// It has no `len`: the tree does not count its ranges. `iter().count()` walks through them, and [`check`](Tree::check)
-/// counts them and tests every word.
+/// It has no `len`: the tree does not count its ranges. `iter().count()` walks them, and [`check`](Tree::check) counts them and
+/// tests every word.
 ///
-/// What is collected or extended, and a clone, has no way to tell a refusal: they panic where a call would be refused or
-/// memory runs out. The rows grow with what is collected, up to 65,504.
+/// `collect`, `extend` and `clone` cannot return an error: they panic where a call would be refused or memory runs out. The number
+/// of nodes grows with what is collected, up to 65,504.
 ///
 /// ```
 /// use maple::{entries, Range, Tree};
@@ -48,14 +48,14 @@ pub struct Tree {
 }
 
 impl Tree {
-    /// What opens a closed handle makes a tree.
+    /// Makes a tree by what opens a closed handle.
     fn opened_by(rows: u64, open: impl FnOnce(&mut RawTree) -> u32) -> Result<Tree, OpenError> {
         let mut raw = RawTree::CLOSED;
         opened(open(&mut raw))?;
         Ok(Tree { raw: RefCell::new(raw), rows })
     }
 
-    /// An empty tree in so many rows: a node each, 65,504 at the most.
+    /// An empty tree with a fixed number of nodes, at most 65,504.
     ///
     /// ```
     /// use maple::{Kind, OpenError, Tree};
@@ -67,7 +67,7 @@ impl Tree {
         Tree::opened_by(rows, |raw| unsafe { raw::maple_open(raw, kind as u32, rows) })
     }
 
-    /// A tree in so many rows, built at once with just these ranges, of which each stands above the one before it.
+    /// Bulk load: a tree with this many nodes, built at once with exactly these ranges, each of which is above the one before it.
     ///
     /// ```
     /// use maple::{Kind, OpenError, Range, Tree};
@@ -94,7 +94,7 @@ impl Tree {
         built
     }
 
-    /// A tree in so many rows with the map of an image, and of its kind.
+    /// A tree with this many nodes, with the map and the kind of an image.
     ///
     /// ```
     /// use maple::{OpenError, Tree};
@@ -105,7 +105,7 @@ impl Tree {
         Tree::opened_by(rows, |raw| unsafe { raw::maple_open_image(raw, bytes.as_ptr(), bytes.len(), rows) })
     }
 
-    /// The image of the tree: its kind, and its rows in use, in the order of a walk from the root.
+    /// The image of the tree, a binary dump: its kind, and its nodes in use, in the order of a walk from the root.
     ///
     /// ```
     /// use maple::{Kind, OpenError, Tree};
@@ -132,7 +132,7 @@ impl Tree {
         }
     }
 
-    /// A tree of the same ranges, in so many rows: no fewer than this one has in use.
+    /// A tree of the same ranges, with this many nodes: no fewer than this one has in use.
     ///
     /// ```
     /// use maple::{Kind, OpenError, Tree};
@@ -149,7 +149,7 @@ impl Tree {
         Tree::opened_by(rows, |copy| unsafe { raw::maple_copy(&mut *self.raw.borrow_mut(), copy, rows) })
     }
 
-    /// Goes on in so many rows, by a copy: in more where a call found too few, or in fewer.
+    /// Continues with this many nodes, by a copy: with more where a write found too few, or with fewer.
     ///
     /// ```
     /// use maple::{Error, Kind, Tree};
@@ -168,7 +168,7 @@ impl Tree {
         Ok(())
     }
 
-    /// How many rows it has, as it was told when it was made.
+    /// How many nodes it has, as given when it was made.
     ///
     /// ```
     /// assert_eq!(maple::Tree::new(maple::Kind::Range, 100)?.rows(), 100);
@@ -178,7 +178,7 @@ impl Tree {
         self.rows
     }
 
-    /// Makes a call, and where it finds too few rows makes it again in twice as many.
+    /// Makes a write, and where it finds too few nodes makes it again with twice as many.
     pub(crate) fn growing<T>(&mut self, mut call: impl FnMut(&mut Tree) -> Result<T, Error>) -> Result<T, Error> {
         loop {
             match call(self) {
@@ -191,7 +191,7 @@ impl Tree {
         }
     }
 
-    /// Tests each word of the tree. Every call keeps them lawful.
+    /// Tests each word of the tree. Every call keeps them well-formed.
     ///
     /// ```
     /// use maple::{Kind, Tree};
@@ -210,7 +210,7 @@ impl Tree {
         }
     }
 
-    /// How the tree uses its rows.
+    /// How the tree uses its nodes.
     ///
     /// ```
     /// use maple::{Kind, Tree};
@@ -228,8 +228,8 @@ impl Tree {
         Stats { rows, free, live, held, height, calls }
     }
 
-    /// A shared tree with its map, in so many rows, as [`Shared::new`](crate::Shared::new) has them and no fewer than this one has
-    /// in use, for so many readers and writers at a time.
+    /// A shared tree with its map. `rows` is its number of nodes, as for [`Shared::new`](crate::Shared::new) and no fewer than this
+    /// one has in use; `users` is how many readers and writers it may have at a time.
     ///
     /// ```
     /// use maple::{Kind, OpenError, Tree};
@@ -248,14 +248,14 @@ impl Tree {
         })
     }
 
-    /// A call that answers a word.
+    /// A call that returns a word.
     fn word(&mut self, call: impl FnOnce(&mut RawTree, &mut u64) -> u32) -> Result<u64, Error> {
         let mut word = 0;
         done(call(self.raw.get_mut(), &mut word))?;
         Ok(word)
     }
 
-    /// Stores an entry over a range, or makes a hole there, and gives the entry of the first range that it met.
+    /// Stores an entry over a range, or makes a gap there, and gives the entry of the first range that it met.
     ///
     /// ```
     /// use maple::{Kind, Tree};
@@ -273,7 +273,7 @@ impl Tree {
         Ok(NonZeroU64::new(old))
     }
 
-    /// Stores an entry over a range where no index of it is held.
+    /// Stores an entry over a range where no range holds any of its indexes.
     ///
     /// ```
     /// use maple::{entries::of_value, Error, Kind, Tree};
@@ -287,7 +287,7 @@ impl Tree {
         done(unsafe { raw::maple_insert(self.raw.get_mut(), first, last, entry.get()) })
     }
 
-    /// Removes the whole range that holds an index, and gives it; none where none does.
+    /// Removes the whole range that holds an index, and gives it; none where no range does.
     ///
     /// ```
     /// use maple::{entries::of_value, Kind, Tree};
@@ -306,7 +306,7 @@ impl Tree {
         }
     }
 
-    /// Stores an entry over so many indexes at the lowest start at which they lie in one hole of the window, and gives it.
+    /// Stores an entry over `size` indexes at the lowest start at which they lie in one gap of the window, and gives the start.
     ///
     /// ```
     /// use maple::{entries::of_value, Error, Kind, Tree};
@@ -325,21 +325,21 @@ impl Tree {
         self.word(|tree, start| unsafe { raw::maple_alloc(tree, size, min, max, entry, start) })
     }
 
-    /// The same at the highest start. [`alloc`](Tree::alloc) has an example of both, and of the two that follow.
+    /// As [`alloc`](Tree::alloc), at the highest start. There is an example of both, and of the two that follow.
     pub fn alloc_highest(&mut self, size: u64, window: impl RangeBounds<u64>, entry: NonZeroU64) -> Result<u64, Error> {
         let ((min, max), entry) = (ends(window), entry.get());
         // SAFETY: as of `store`.
         self.word(|tree, start| unsafe { raw::maple_ralloc(tree, size, min, max, entry, start) })
     }
 
-    /// The lowest start at which so many indexes lie in one hole of the window.
+    /// The lowest start at which `size` indexes lie in one gap of the window.
     pub fn gap(&mut self, size: u64, window: impl RangeBounds<u64>) -> Result<u64, Error> {
         let (min, max) = ends(window);
         // SAFETY: as of `store`.
         self.word(|tree, start| unsafe { raw::maple_gap(tree, size, min, max, start) })
     }
 
-    /// The highest.
+    /// The highest start at which `size` indexes lie in one gap of the window.
     pub fn gap_highest(&mut self, size: u64, window: impl RangeBounds<u64>) -> Result<u64, Error> {
         let (min, max) = ends(window);
         // SAFETY: as of `store`.
@@ -376,8 +376,8 @@ impl Tree {
         done(unsafe { raw::maple_preallocate(self.raw.get_mut()) })
     }
 
-    /// A store for which the tree was made ready by [`preallocate`](Tree::preallocate): it is not refused for rows. `NoRows`
-    /// where it was not.
+    /// A store for which [`preallocate`](Tree::preallocate) made the tree ready: it has its nodes. `NoRows` where the tree was not
+    /// ready.
     pub fn store_prealloc(
         &mut self,
         at: impl RangeBounds<u64>,
@@ -411,7 +411,7 @@ impl Tree {
         self.ask(|tree, found| unsafe { raw::maple_load(tree, index, found) })
     }
 
-    /// The entry at an index: of the range that [`load`](Tree::load) tells.
+    /// The entry at an index: of the range that [`load`](Tree::load) returns.
     pub fn get(&self, index: u64) -> Option<NonZeroU64> {
         self.load(index).map(|range| range.entry)
     }
@@ -425,7 +425,7 @@ impl Tree {
         self.first_in(..).is_none()
     }
 
-    /// The first range that has an index of the window.
+    /// The first range that has an index in the window.
     ///
     /// ```
     /// use maple::{Kind, Tree};
@@ -446,14 +446,14 @@ impl Tree {
         self.ask(|tree, found| unsafe { raw::maple_find(tree, first, last, found) })
     }
 
-    /// The last range that has an index of the window. [`first_in`](Tree::first_in) has an example of it and of its sisters.
+    /// The last range that has an index in the window. [`first_in`](Tree::first_in) has an example of it and of its sisters.
     pub fn last_in(&self, window: impl RangeBounds<u64>) -> Option<Range> {
         let (first, last) = ends(window);
         // SAFETY: as of `load`.
         self.ask(|tree, found| unsafe { raw::maple_rfind(tree, last, first, found) })
     }
 
-    /// The first range that begins in the window, behind its first index.
+    /// The first range that begins in the window, after its first index.
     pub fn next_in(&self, window: impl RangeBounds<u64>) -> Option<Range> {
         let (first, last) = ends(window);
         // SAFETY: as of `load`.
@@ -467,8 +467,8 @@ impl Tree {
         self.ask(|tree, found| unsafe { raw::maple_prev(tree, last, first, found) })
     }
 
-    /// The ranges that have an index of the window, in rising order, and from the back in falling order. In rising order a
-    /// step goes down from the root once a leaf, in falling order each time.
+    /// The ranges that have an index in the window, in rising order, and from the back in falling order. In rising order the walk
+    /// descends from the root once a leaf, in falling order at each step.
     ///
     /// ```
     /// use maple::{Kind, Tree};
@@ -594,7 +594,7 @@ impl fmt::Debug for Ranges<'_> {
     }
 }
 
-/// The ranges of a tree that was handed over, as `into_iter` of a [`Tree`] gives them.
+/// The ranges of a tree that `into_iter` took, in the order in which it gives them.
 pub struct IntoIter {
     tree: Tree,
     walk: Walk,

@@ -1,11 +1,11 @@
-//! Calls that wait, as `c/wait.c` has them.
+//! Calls that wait, as those of `c/wait.c` do.
 
 use crate::errors::EAGAIN;
 use std::hint::spin_loop;
 use std::thread;
 use std::time::Duration;
 
-/// Makes a call until it answers anything but `EAGAIN`, and gives that. Between two calls it rests, longer each time.
+/// Makes a call until it returns anything but `EAGAIN`, and gives that. Between two calls it rests, longer each time.
 pub(crate) fn until_done(mut call: impl FnMut() -> u32) -> u32 {
     let mut turn = 0;
     loop {

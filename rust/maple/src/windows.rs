@@ -1,4 +1,4 @@
-//! Ranges of indexes as Rust has them, and walks over a window from either end.
+//! Ranges of indexes in Rust's forms, and walks over a window from either end.
 
 use crate::raw::RawWalk;
 use crate::Range;
@@ -19,7 +19,7 @@ pub(crate) fn ends(window: impl RangeBounds<u64>) -> (u64, u64) {
     first.zip(last).unwrap_or((1, 0))
 }
 
-/// The ranges of a window that were not yet given: those that have an index from where the walk goes on to `end`.
+/// The ranges of a window that were not yet given: those that have an index from where the walk continues to `end`.
 #[derive(Clone)]
 pub(crate) struct Walk {
     walk: RawWalk,
