@@ -13,7 +13,7 @@ os.chdir(os.path.join(os.path.dirname(os.path.abspath(__file__)), ".."))
 # What C has for the types of the exports, and of the declarations in Rust.
 STRUCTS = {
     "Handle": "maple_tree", "UserHandle": "maple_user", "OutRange": "maple_range", "OutWalk": "maple_walk",
-    "OutForm": "maple_form", "OutStats": "maple_stats", "Window": "maple_read", "Outcome": "maple_done",
+    "OutForm": "maple_form", "OutStats": "maple_stats", "CallWindow": "maple_read", "Outcome": "maple_done",
 }
 IN_RUST = {
     "RawTree": "maple_tree", "RawUser": "maple_user", "RawRange": "maple_range", "Range": "maple_range",

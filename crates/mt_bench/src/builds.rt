@@ -1,8 +1,8 @@
 //! Trees that are built at once of their ranges.
 
-use crate::figures::{Figure, Outcome, Report};
+use crate::figures::{BenchOutcome, Figure, TimedReport};
 use crate::jobs::nanos_since;
-use crate::tasks::Task;
+use crate::tasks::TimedTask;
 use crate::works::{entry_of, first_of};
 use mt_base::Range;
 use mt_bulk::build;
@@ -50,7 +50,7 @@ impl<'a, R: Clock> Gate for Stopwatch<'a, R> {
 fn built<R: Threads + Clock + Sync>(
     rt: &R,
     alloc: Global,
-    task: Task,
+    task: TimedTask,
     ranges: &[Range],
 ) -> Option<(u64, u64, u64)> {
     let watch = Stopwatch {
@@ -72,8 +72,8 @@ fn built<R: Threads + Clock + Sync>(
 pub fn build_times<R: Threads + Clock + Sync>(
     rt: &R,
     alloc: Global,
-    task: Task,
-) -> Option<Outcome> {
+    task: TimedTask,
+) -> Option<BenchOutcome> {
     let ranges = ranges_of(alloc, task.ranges)?;
     let (mut whole, mut lanes, mut rows) = built(rt, alloc, task, &ranges)?;
     for _ in 1..BUILDS {
@@ -83,13 +83,13 @@ pub fn build_times<R: Threads + Clock + Sync>(
         rows = rows.max(made);
     }
     let count = u64::from(task.ranges);
-    let report = Report::Built {
+    let report = TimedReport::Built {
         workers: task.threads,
         whole: Figure::of(whole, count),
         lanes: Figure::of(lanes, count),
         rows: Figure::of(rows, count),
     };
-    Some(Outcome {
+    Some(BenchOutcome {
         report,
         number: 1,
         held: 0,

@@ -4,7 +4,7 @@ ghost use Rattle.std.specs.Prelude.{◌≡◌, ◌<◌, All};
 ghost use Rattle.std.specs.Arc.{arc_value};
 ghost use Rattle.mt_tree.specs.Trees.{IsPassOf};
 
-use crate::trees::{Tree, Visit};
+use crate::trees::{TimedTree, Visit};
 use mt_base::{Call, Kind, MOST_ROWS, Reply, Steps};
 use mt_tree::{Cursor, Form, MOST_CALLS, Pass, Shape};
 use std::alloc::Global;
@@ -66,14 +66,14 @@ fn shape_of(kind: Kind, rows: u64, passes: u32) -> Shape {
 
 /// A pass and its tree, which make the calls of a work.
 #[derive(Drop)]
-pub struct Caller<'a, R> {
+pub struct TimedCaller<'a, R> {
     rt: &'a R,
     tree: Arc<mt_tree::Tree>,
     pass: Pass,
     ghost of: { IsPassOf (arc_value tree) pass },
 }
 
-impl<'a, R> Caller<'a, R> {
+impl<'a, R> TimedCaller<'a, R> {
     /// The caller of a pass, or none where too many share the tree.
     fn new(rt: &'a R, shared: &Arc<mt_tree::Tree>, pass: Pass) -> Option<Self>
         requires { IsPassOf (arc_value shared.now) pass }
@@ -81,7 +81,7 @@ impl<'a, R> Caller<'a, R> {
         let Ok(tree) = Arc::try_clone(shared) else {
             return None;
         };
-        Some(Caller { rt, tree, pass })
+        Some(TimedCaller { rt, tree, pass })
     }
 
     /// A caller for each pass, or none where there is no memory.
@@ -95,7 +95,7 @@ impl<'a, R> Caller<'a, R> {
     {
         let mut callers = Vec::new(alloc);
         for pass in passes {
-            callers.push(Caller::new(rt, shared, pass)?).ok()?;
+            callers.push(TimedCaller::new(rt, shared, pass)?).ok()?;
         }
         Some(callers)
     }
@@ -112,7 +112,7 @@ impl<'a, R> Caller<'a, R> {
         let Ok(shared) = Arc::new(alloc, tree) else {
             return None;
         };
-        Caller::each(rt, alloc, &shared, passes)
+        TimedCaller::each(rt, alloc, &shared, passes)
     }
 
     /// So many callers of an empty tree of this kind, or none where there is no memory.
@@ -121,11 +121,11 @@ impl<'a, R> Caller<'a, R> {
         let Ok((tree, passes)) = mt_tree::Tree::make(alloc, shape) else {
             return None;
         };
-        Caller::sharing(rt, alloc, tree, passes)
+        TimedCaller::sharing(rt, alloc, tree, passes)
     }
 }
 
-impl<'a, R: Wait> Caller<'a, R> {
+impl<'a, R: Wait> TimedCaller<'a, R> {
     /// The form of the tree's words.
     pub fn check(&mut self) -> Form {
         self.tree.check(self.rt, &mut self.pass)
@@ -144,7 +144,7 @@ impl<'a, R: Wait> Caller<'a, R> {
     }
 }
 
-impl<'a, R: Wait> Tree for Caller<'a, R> {
+impl<'a, R: Wait> TimedTree for TimedCaller<'a, R> {
     /// A tree that has as many calls as it may have answers as if the call was invalid.
     fn act(&mut self, call: &Call) -> Reply {
         match self.tree.act(self.rt, &mut self.pass, call) {

@@ -1,11 +1,11 @@
 //! Threads at work on one shared tree, or on four of them.
 
-use crate::callers::Caller;
-use crate::draws::Draws;
-use crate::figures::{Figure, Outcome, Report};
+use crate::callers::TimedCaller;
+use crate::draws::DrawnIndexes;
+use crate::figures::{BenchOutcome, Figure, TimedReport};
 use crate::jobs::{Setting, nanos_since};
-use crate::tasks::{Extent, Job, Task};
-use crate::trees::Tree;
+use crate::tasks::{Job, MapSize, TimedTask};
+use crate::trees::TimedTree;
 use crate::works::{entry_of, erase, first_of, load, store, store_all};
 use std::alloc::Global;
 use std::rt::Clock;
@@ -31,7 +31,7 @@ struct Worker<T> {
 }
 
 /// Erases a range where it is stored, and else stores it; whether that was done.
-fn toggle(tree: &mut impl Tree, i: u32, stored: &mut bool) -> bool {
+fn toggle(tree: &mut impl TimedTree, i: u32, stored: &mut bool) -> bool {
     let done = if *stored {
         erase(tree, i)
     } else {
@@ -43,14 +43,14 @@ fn toggle(tree: &mut impl Tree, i: u32, stored: &mut bool) -> bool {
 
 /// Does so with ranges that are drawn, `times` times or until no reader is at work, and tells how often.
 fn toggle_all(
-    tree: &mut impl Tree,
+    tree: &mut impl TimedTree,
     stored: &mut [bool],
     seed: u64,
     times: u64,
     at_work: &AtomicU64,
 ) -> u64 {
     let ranges = u32::try_from(stored.len()).unwrap_or(u32::MAX);
-    let mut draws = Draws::new(seed);
+    let mut draws = DrawnIndexes::new(seed);
     let mut writes: u64 = 0;
     for _ in 0..times {
         if at_work.load(Ordering::SeqCst) == 0 {
@@ -77,7 +77,7 @@ fn sum_of(stored: &[bool]) -> u64 {
     sum
 }
 
-impl<T: Tree + Drop> Worker<T> {
+impl<T: TimedTree + Drop> Worker<T> {
     /// A worker that loads, or that writes where the tree has all of so many ranges.
     fn new(
         alloc: Global,
@@ -130,12 +130,12 @@ impl<T: Tree + Drop> Worker<T> {
 fn crew<'a, R: Wait>(
     rt: &'a R,
     alloc: Global,
-    task: Task,
-    extent: Extent,
+    task: TimedTask,
+    extent: MapSize,
     order: &[u32],
-) -> Option<Vec<Worker<Caller<'a, R>>>> {
+) -> Option<Vec<Worker<TimedCaller<'a, R>>>> {
     let writers = u32::from(matches!(task.job, Job::Conc));
-    let mut callers = Caller::all(rt, alloc, task.kind, task.threads.saturating_add(writers))?;
+    let mut callers = TimedCaller::all(rt, alloc, task.kind, task.threads.saturating_add(writers))?;
     if !store_all(callers.first_mut()?, order) {
         return None;
     }
@@ -157,13 +157,13 @@ fn crew<'a, R: Wait>(
 fn lanes<'a, R: Wait>(
     rt: &'a R,
     alloc: Global,
-    task: Task,
-    extent: Extent,
+    task: TimedTask,
+    extent: MapSize,
     order: &[u32],
-) -> Option<Vec<Worker<Caller<'a, R>>>> {
+) -> Option<Vec<Worker<TimedCaller<'a, R>>>> {
     let mut workers = Vec::new(alloc);
     for number in 0..TREES {
-        let mut callers = Caller::all(rt, alloc, task.kind, 1)?;
+        let mut callers = TimedCaller::all(rt, alloc, task.kind, 1)?;
         let mut tree = callers.pop()?;
         if !store_all(&mut tree, order) {
             return None;
@@ -175,7 +175,7 @@ fn lanes<'a, R: Wait>(
 }
 
 /// Has all at work at once, in so many threads, and gives the nanoseconds until all are done.
-fn at_once<R: Threads + Clock + Sync, T: Tree + Drop + Send>(
+fn at_once<R: Threads + Clock + Sync, T: TimedTree + Drop + Send>(
     rt: &R,
     workers: &mut [Worker<T>],
     threads: usize,
@@ -193,7 +193,7 @@ fn at_once<R: Threads + Clock + Sync, T: Tree + Drop + Send>(
 }
 
 /// What all came to, and how often they wrote.
-fn sums_of<T: Tree + Drop>(workers: &mut [Worker<T>]) -> Option<(u64, u64)> {
+fn sums_of<T: TimedTree + Drop>(workers: &mut [Worker<T>]) -> Option<(u64, u64)> {
     let mut all: u64 = 0;
     let mut writes: u64 = 0;
     for worker in workers {
@@ -208,9 +208,9 @@ fn sums_of<T: Tree + Drop>(workers: &mut [Worker<T>]) -> Option<(u64, u64)> {
 pub fn together<R: Threads + Wait + Clock + Sync>(
     rt: &R,
     alloc: Global,
-    task: Task,
-    extent: Extent,
-) -> Option<Outcome> {
+    task: TimedTask,
+    extent: MapSize,
+) -> Option<BenchOutcome> {
     let setting = Setting::new(alloc, task)?;
     let mut workers = crew(rt, alloc, task, extent, &setting.rand)?;
     let threads = workers.len();
@@ -219,7 +219,7 @@ pub fn together<R: Threads + Wait + Clock + Sync>(
     let readers = task.threads;
     let loads = extent.loads.saturating_mul(u64::from(readers));
     let reads = Figure::of(loads.saturating_mul(1000), nanos);
-    let report = Report::Rates {
+    let report = TimedReport::Rates {
         readers,
         reads,
         writes: Figure::of(writes.saturating_mul(1000), nanos),
@@ -229,7 +229,7 @@ pub fn together<R: Threads + Wait + Clock + Sync>(
     } else {
         sum
     };
-    Some(Outcome {
+    Some(BenchOutcome {
         report,
         number,
         held: 0,
@@ -240,19 +240,19 @@ pub fn together<R: Threads + Wait + Clock + Sync>(
 pub fn apart<R: Threads + Wait + Clock + Sync>(
     rt: &R,
     alloc: Global,
-    task: Task,
-    extent: Extent,
-) -> Option<Outcome> {
+    task: TimedTask,
+    extent: MapSize,
+) -> Option<BenchOutcome> {
     let setting = Setting::new(alloc, task)?;
     let mut workers = lanes(rt, alloc, task, extent, &setting.rand)?;
     let threads = task.threads;
     let nanos = at_once(rt, &mut workers, threads as usize, 1)?;
     let (held, number) = sums_of(&mut workers)?;
-    let report = Report::Whole {
+    let report = TimedReport::Whole {
         threads,
         ms: Figure::of(nanos, 1_000_000),
     };
-    Some(Outcome {
+    Some(BenchOutcome {
         report,
         number,
         held,

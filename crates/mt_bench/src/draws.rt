@@ -4,13 +4,13 @@ use std::alloc::{AllocError, Global};
 
 /// A stream of numbers: its state is 64 bits wide, and at first the seed.
 #[derive(Clone, Copy)]
-pub struct Draws {
+pub struct DrawnIndexes {
     state: u64,
 }
 
-impl Draws {
+impl DrawnIndexes {
     pub fn new(seed: u64) -> Self {
-        Draws { state: seed }
+        DrawnIndexes { state: seed }
     }
 
     /// The next number, which is below `bound` where that is above 0.
@@ -27,7 +27,7 @@ impl Draws {
 /// The numbers below `count`, in an order that looks random.
 pub fn shuffled(alloc: Global, count: u32) -> Result<Vec<u32>, AllocError> {
     let mut order: Vec<u32> = (0..count).collect(alloc)?;
-    let mut draws = Draws::new(42);
+    let mut draws = DrawnIndexes::new(42);
     for k in (1..order.len()).rev() {
         let bound = u32::try_from(k + 1).unwrap_or(u32::MAX);
         let other = draws.below(bound) as usize;

@@ -21,7 +21,7 @@ impl fmt::Display for Figure {
 
 /// What a task took, by so many threads where several did it.
 #[derive(Clone, Copy)]
-pub enum Report {
+pub enum TimedReport {
     /// Nanoseconds of an operation, or the nodes for a range.
     One(Figure),
     /// Millions of loads a second of all readers together, and of writes.
@@ -44,11 +44,11 @@ pub enum Report {
     },
 }
 
-impl fmt::Display for Report {
+impl fmt::Display for TimedReport {
     fn fmt<W: fmt::Write>(&self, f: &mut fmt::Formatter<W>) -> fmt::Result {
         match self {
-            Report::One(figure) => write!(f, "{figure}"),
-            Report::Rates {
+            TimedReport::One(figure) => write!(f, "{figure}"),
+            TimedReport::Rates {
                 readers,
                 reads,
                 writes,
@@ -58,8 +58,8 @@ impl fmt::Display for Report {
                     "readers {readers} reads_mops {reads} writes_mops {writes}"
                 )
             }
-            Report::Whole { threads, ms } => write!(f, "lanes {threads} ms {ms}"),
-            Report::Built {
+            TimedReport::Whole { threads, ms } => write!(f, "lanes {threads} ms {ms}"),
+            TimedReport::Built {
                 workers,
                 whole,
                 lanes,
@@ -76,8 +76,8 @@ impl fmt::Display for Report {
 
 /// What a task took, and what it came to: a number that is the same each time, and the sum of what its trees hold then.
 #[derive(Clone, Copy)]
-pub struct Outcome {
-    pub report: Report,
+pub struct BenchOutcome {
+    pub report: TimedReport,
     pub number: u64,
     pub held: u64,
 }

@@ -1,11 +1,11 @@
 //! Jobs that one thread does on a tree, and what an operation takes. There is none where a call was not done, or no memory was
 //! there.
 
-use crate::callers::Caller;
+use crate::callers::TimedCaller;
 use crate::draws::shuffled;
-use crate::figures::{Figure, Outcome, Report};
-use crate::tasks::{Extent, Job, Task};
-use crate::trees::{Nodes, Tree};
+use crate::figures::{BenchOutcome, Figure, TimedReport};
+use crate::tasks::{Job, MapSize, TimedTask};
+use crate::trees::{Nodes, TimedTree};
 use crate::works::{
     End, allocate_all, churn, erase_all, fill_holes, highest_of, load, overwrite, store_all,
     store_wide, visit, wide_stores,
@@ -28,7 +28,7 @@ pub struct Setting {
 
 impl Setting {
     /// The setting of a task. No area was allocated yet.
-    pub fn new(alloc: Global, task: Task) -> Option<Self> {
+    pub fn new(alloc: Global, task: TimedTask) -> Option<Self> {
         let ranges = task.ranges;
         let highest = highest_of(task.kind);
         let seq = (0..ranges).collect(alloc).ok()?;
@@ -61,7 +61,7 @@ fn before(job: Job) -> Option<Job> {
 }
 
 /// Does a job once, and gives a number that is the same each time, or 0 where a call was not done.
-fn do_once(tree: &mut impl Tree, job: Job, times: u64, setting: &mut Setting) -> u64 {
+fn do_once(tree: &mut impl TimedTree, job: Job, times: u64, setting: &mut Setting) -> u64 {
     let (ranges, highest) = (setting.ranges, setting.highest);
     match job {
         Job::Load => load(tree, ranges, times, 7),
@@ -90,7 +90,7 @@ struct Round {
 /// One round on an empty tree.
 fn round_on(
     rt: &impl Clock,
-    tree: &mut impl Tree,
+    tree: &mut impl TimedTree,
     job: Job,
     times: u64,
     setting: &mut Setting,
@@ -113,12 +113,12 @@ fn round_on(
 fn one_round<R: Clock + Wait>(
     rt: &R,
     alloc: Global,
-    task: Task,
+    task: TimedTask,
     times: u64,
     setting: &mut Setting,
 ) -> Option<Round> {
     if task.shared {
-        let mut callers = Caller::all(rt, alloc, task.kind, 1)?;
+        let mut callers = TimedCaller::all(rt, alloc, task.kind, 1)?;
         return round_on(rt, callers.first_mut()?, task.job, times, setting);
     }
     let mut tree = Nodes::new(alloc, task.kind).ok()?;
@@ -126,7 +126,7 @@ fn one_round<R: Clock + Wait>(
 }
 
 /// How many rounds of a job are timed, and how many operations each has: one round where a job is not done once for each range.
-fn rounds_of(task: Task, extent: Extent) -> (u64, u64) {
+fn rounds_of(task: TimedTask, extent: MapSize) -> (u64, u64) {
     match task.job {
         Job::Load | Job::Iter | Job::Overwrite | Job::Churn => (extent.rounds.min(1), extent.times),
         Job::Wide => (extent.rounds, u64::from(wide_stores(task.ranges))),
@@ -138,7 +138,7 @@ fn rounds_of(task: Task, extent: Extent) -> (u64, u64) {
 fn nanos_of_all<R: Clock + Wait>(
     rt: &R,
     alloc: Global,
-    task: Task,
+    task: TimedTask,
     times: u64,
     rounds: u64,
     setting: &mut Setting,
@@ -159,15 +159,15 @@ fn nanos_of_all<R: Clock + Wait>(
 pub fn alone<R: Clock + Wait>(
     rt: &R,
     alloc: Global,
-    task: Task,
-    extent: Extent,
-) -> Option<Outcome> {
+    task: TimedTask,
+    extent: MapSize,
+) -> Option<BenchOutcome> {
     let mut setting = Setting::new(alloc, task)?;
     let Round { number, held, .. } = one_round(rt, alloc, task, extent.times, &mut setting)?;
     let (rounds, operations) = rounds_of(task, extent);
     let nanos = nanos_of_all(rt, alloc, task, extent.times, rounds, &mut setting, number)?;
-    let report = Report::One(Figure::of(nanos, operations.saturating_mul(rounds)));
-    Some(Outcome {
+    let report = TimedReport::One(Figure::of(nanos, operations.saturating_mul(rounds)));
+    Some(BenchOutcome {
         report,
         number,
         held,

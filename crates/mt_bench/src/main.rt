@@ -31,10 +31,10 @@ mod works;
 
 use crate::builds::build_times;
 use crate::crews::{apart, together};
-use crate::figures::Outcome;
+use crate::figures::BenchOutcome;
 use crate::jobs::alone;
 use crate::sweeps::swept;
-use crate::tasks::{Extent, Job, Task, task_of};
+use crate::tasks::{Job, MapSize, TimedTask, task_of};
 use std::alloc::{AllocError, Global};
 use std::process::ExitCode;
 use std::rt::{Clock, Env};
@@ -50,9 +50,9 @@ const USAGE: &str =
 fn outcome_of<R: Threads + Wait + Clock + Sync>(
     rt: &R,
     alloc: Global,
-    task: Task,
-    extent: Extent,
-) -> Option<Outcome> {
+    task: TimedTask,
+    extent: MapSize,
+) -> Option<BenchOutcome> {
     match task.job {
         Job::Readers | Job::Conc => together(rt, alloc, task, extent),
         Job::Lanes => apart(rt, alloc, task, extent),
@@ -69,8 +69,8 @@ fn outcome_of<R: Threads + Wait + Clock + Sync>(
 }
 
 /// How much is done where a task is timed.
-fn timed(ranges: u32) -> Extent {
-    Extent {
+fn timed(ranges: u32) -> MapSize {
+    MapSize {
         times: 1_000_000,
         rounds: u64::from((100_000 / ranges.max(1)).max(1)),
         loads: 4_000_000,
@@ -79,9 +79,9 @@ fn timed(ranges: u32) -> Extent {
 }
 
 /// How much is done where it is not.
-fn untimed(ranges: u32) -> Extent {
+fn untimed(ranges: u32) -> MapSize {
     let times = u64::from(ranges).saturating_mul(10);
-    Extent {
+    MapSize {
         times,
         rounds: 0,
         loads: times,
@@ -109,7 +109,9 @@ fn print_sums<R: Threads + Wait + Clock + Print + Sync>(
         return println!(rt; "{line} is none");
     };
     match outcome_of(rt, alloc, task, untimed(task.ranges)) {
-        Some(Outcome { number, held, .. }) => println!(rt; "{line} number {number} held {held}"),
+        Some(BenchOutcome { number, held, .. }) => println!(rt;
+            "{line} number {number} held {held}"
+        ),
         None => println!(rt; "{line} was not done"),
     }
 }
@@ -130,11 +132,11 @@ fn print_time<R: Threads + Wait + Clock + Print + Sync>(
     rt: &R,
     alloc: Global,
     word: &str,
-    task: Task,
+    task: TimedTask,
 ) -> io::Result<bool> {
     let ranges = task.ranges;
     match outcome_of(rt, alloc, task, timed(ranges)) {
-        Some(Outcome { report, number, .. }) if number > 0 => {
+        Some(BenchOutcome { report, number, .. }) if number > 0 => {
             println!(rt; "{word} {ranges} {report}")?;
             Ok(true)
         }

@@ -1,10 +1,10 @@
 //! What goes over all rows of a shared tree.
 
-use crate::callers::Caller;
-use crate::figures::{Figure, Outcome, Report};
+use crate::callers::TimedCaller;
+use crate::figures::{BenchOutcome, Figure, TimedReport};
 use crate::jobs::{Setting, nanos_since};
-use crate::tasks::{Extent, Job, Task};
-use crate::trees::Tree;
+use crate::tasks::{Job, MapSize, TimedTask};
+use crate::trees::TimedTree;
 use crate::works::store_all;
 use mt_base::MOST_ROWS;
 use mt_image::read_image;
@@ -26,7 +26,7 @@ enum Made {
 /// Does a job once on a tree that has so many rows in use, and of which this is an image. A copy has a fifth more rows than that,
 /// or as many as a tree may have.
 fn made_of<R: Wait>(
-    caller: &mut Caller<'_, R>,
+    caller: &mut TimedCaller<'_, R>,
     alloc: Global,
     job: Job,
     used: u64,
@@ -50,7 +50,7 @@ fn made_of<R: Wait>(
 /// The nanoseconds in which a job is done so often, without those in which what it made is given back.
 fn nanos_of_all<R: Wait + Clock>(
     rt: &R,
-    caller: &mut Caller<'_, R>,
+    caller: &mut TimedCaller<'_, R>,
     alloc: Global,
     job: Job,
     used: u64,
@@ -70,11 +70,11 @@ fn nanos_of_all<R: Wait + Clock>(
 pub fn swept<R: Wait + Clock>(
     rt: &R,
     alloc: Global,
-    task: Task,
-    extent: Extent,
-) -> Option<Outcome> {
+    task: TimedTask,
+    extent: MapSize,
+) -> Option<BenchOutcome> {
     let setting = Setting::new(alloc, task)?;
-    let mut callers = Caller::all(rt, alloc, task.kind, 1)?;
+    let mut callers = TimedCaller::all(rt, alloc, task.kind, 1)?;
     let caller = callers.first_mut()?;
     let stored = match task.job {
         Job::NodesSeq => store_all(caller, &setting.seq),
@@ -91,8 +91,8 @@ pub fn swept<R: Wait + Clock>(
             Figure::of(nanos, extent.rounds)
         }
     };
-    Some(Outcome {
-        report: Report::One(figure),
+    Some(BenchOutcome {
+        report: TimedReport::One(figure),
         number: form.ranges,
         held: caller.visit().sum,
     })

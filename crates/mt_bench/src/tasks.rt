@@ -66,7 +66,7 @@ const KINDS: &[(&str, Kind)] = &[
 /// A job on a tree of this kind, which is the engine's or one that threads share, with so many ranges, and with so many
 /// threads where several do it.
 #[derive(Clone, Copy)]
-pub struct Task {
+pub struct TimedTask {
     pub shared: bool,
     pub kind: Kind,
     pub job: Job,
@@ -76,7 +76,7 @@ pub struct Task {
 
 /// How much is done.
 #[derive(Clone, Copy)]
-pub struct Extent {
+pub struct MapSize {
     /// Jobs that do not change the number of ranges are done so often.
     pub times: u64,
     /// All others are done so often, behind a first round that is not timed.
@@ -108,7 +108,7 @@ fn work_of(kinds: &[(&str, Kind)], word: &str) -> Option<(Kind, Job)> {
 }
 
 /// The task of a word, before which `t` stands where the tree is a shared one.
-fn task_in(word: &str, ranges: &str, threads: &str) -> Option<Task> {
+fn task_in(word: &str, ranges: &str, threads: &str) -> Option<TimedTask> {
     let (shared, work) = match word.strip_prefix("t") {
         Some(rest) => (true, rest),
         None => (false, word),
@@ -116,7 +116,7 @@ fn task_in(word: &str, ranges: &str, threads: &str) -> Option<Task> {
     let (kind, job) = work_of(KINDS, work)?;
     let ranges = ranges.parse().ok()?;
     let threads = threads.parse().ok()?;
-    Some(Task {
+    Some(TimedTask {
         shared,
         kind,
         job,
@@ -126,7 +126,7 @@ fn task_in(word: &str, ranges: &str, threads: &str) -> Option<Task> {
 }
 
 /// The task that the words are: what is done, on how many ranges, and by how many threads where several do it.
-pub fn task_of(words: &[String]) -> Option<Task> {
+pub fn task_of(words: &[String]) -> Option<TimedTask> {
     match words {
         [word, ranges] => task_in(word.as_str(), ranges.as_str(), "1"),
         [word, ranges, threads] => task_in(word.as_str(), ranges.as_str(), threads.as_str()),

@@ -13,7 +13,7 @@ use std::marker::Model;
 const MOST_CALLS: u64 = 1 << 60;
 
 /// What a work asks of a tree.
-pub trait Tree {
+pub trait TimedTree {
     /// Makes a call.
     fn act(&mut self, call: &Call) -> Reply;
 
@@ -68,7 +68,7 @@ impl Nodes {
     }
 }
 
-impl Tree for Nodes {
+impl TimedTree for Nodes {
     fn act(&mut self, call: &Call) -> Reply {
         if self.calls >= MOST_CALLS {
             return Reply::Invalid;

@@ -2,8 +2,8 @@
 
 ghost use Rattle.std.specs.Prelude.{◌≡◌, ◌*◌};
 
-use crate::draws::Draws;
-use crate::trees::Tree;
+use crate::draws::DrawnIndexes;
+use crate::trees::TimedTree;
 use mt_base::{Call, Kind, Reply, top, width_of};
 
 /// Allocations lie below 2^48.
@@ -30,12 +30,12 @@ pub fn first_of(i: u32) -> u64
 }
 
 /// The store of range number `i`.
-pub fn store(tree: &mut impl Tree, i: u32, entry: u64) -> bool {
+pub fn store(tree: &mut impl TimedTree, i: u32, entry: u64) -> bool {
     store_over(tree, i, i, entry)
 }
 
 /// The store over the ranges from number `from` to number `to`.
-fn store_over(tree: &mut impl Tree, from: u32, to: u32, entry: u64) -> bool {
+fn store_over(tree: &mut impl TimedTree, from: u32, to: u32, entry: u64) -> bool {
     let call = Call::Store {
         first: first_of(from),
         last: first_of(to) + 9,
@@ -50,7 +50,7 @@ pub fn entry_of(i: u32) -> u64 {
 }
 
 /// Stores the ranges of these numbers, in this order; whether each store was done.
-pub fn store_all(tree: &mut impl Tree, order: &[u32]) -> bool {
+pub fn store_all(tree: &mut impl TimedTree, order: &[u32]) -> bool {
     let mut done = true;
     for i in order {
         done &= store(tree, *i, entry_of(*i));
@@ -59,8 +59,8 @@ pub fn store_all(tree: &mut impl Tree, order: &[u32]) -> bool {
 }
 
 /// Stores ranges with other entries, `times` times.
-pub fn overwrite(tree: &mut impl Tree, ranges: u32, times: u64) -> bool {
-    let mut draws = Draws::new(7);
+pub fn overwrite(tree: &mut impl TimedTree, ranges: u32, times: u64) -> bool {
+    let mut draws = DrawnIndexes::new(7);
     let mut done = true;
     for _ in 0..times {
         let i = draws.below(ranges);
@@ -76,7 +76,7 @@ pub fn wide_stores(ranges: u32) -> u32 {
 }
 
 /// Stores over a thousand ranges at once, until all are stored over; whether each store was done.
-pub fn store_wide(tree: &mut impl Tree, ranges: u32) -> bool {
+pub fn store_wide(tree: &mut impl TimedTree, ranges: u32) -> bool {
     let mut done = true;
     for k in 0..wide_stores(ranges) {
         let from = k.saturating_mul(WIDE);
@@ -87,8 +87,8 @@ pub fn store_wide(tree: &mut impl Tree, ranges: u32) -> bool {
 }
 
 /// Loads entries, `times` times, and sums them up.
-pub fn load(tree: &mut impl Tree, ranges: u32, times: u64, seed: u64) -> u64 {
-    let mut draws = Draws::new(seed);
+pub fn load(tree: &mut impl TimedTree, ranges: u32, times: u64, seed: u64) -> u64 {
+    let mut draws = DrawnIndexes::new(seed);
     let mut sum: u64 = 0;
     for _ in 0..times {
         let index = u64::from(draws.below(ranges.saturating_mul(16)));
@@ -98,7 +98,7 @@ pub fn load(tree: &mut impl Tree, ranges: u32, times: u64, seed: u64) -> u64 {
 }
 
 /// Visits all ranges in order, until `times` ranges were visited, and sums them up.
-pub fn visit(tree: &mut impl Tree, times: u64) -> u64 {
+pub fn visit(tree: &mut impl TimedTree, times: u64) -> u64 {
     let (mut count, mut sum) = (0_u64, 0_u64);
     for _ in 0..times {
         if times <= count {
@@ -112,7 +112,7 @@ pub fn visit(tree: &mut impl Tree, times: u64) -> u64 {
 }
 
 /// The erase of range number `i`.
-pub fn erase(tree: &mut impl Tree, i: u32) -> bool {
+pub fn erase(tree: &mut impl TimedTree, i: u32) -> bool {
     let call = Call::Erase {
         index: first_of(i) + 5,
     };
@@ -120,7 +120,7 @@ pub fn erase(tree: &mut impl Tree, i: u32) -> bool {
 }
 
 /// Erases the ranges of these numbers, in this order; whether each was there.
-pub fn erase_all(tree: &mut impl Tree, order: &[u32]) -> bool {
+pub fn erase_all(tree: &mut impl TimedTree, order: &[u32]) -> bool {
     let mut done = true;
     for i in order {
         done &= erase(tree, *i);
@@ -134,7 +134,7 @@ pub fn highest_of(kind: Kind) -> u64 {
 }
 
 /// Allocates so many indexes, none above `max`, and tells where they begin.
-fn allocate(tree: &mut impl Tree, size: u64, end: End, max: u64) -> Option<u64> {
+fn allocate(tree: &mut impl TimedTree, size: u64, end: End, max: u64) -> Option<u64> {
     let (min, entry) = (0, ALLOCATED);
     let call = match end {
         End::Lowest => Call::Alloc {
@@ -157,13 +157,13 @@ fn allocate(tree: &mut impl Tree, size: u64, end: End, max: u64) -> Option<u64> 
 }
 
 /// A size from 1 to `most`.
-fn drawn_size(draws: &mut Draws, most: u32) -> u64 {
+fn drawn_size(draws: &mut DrawnIndexes, most: u32) -> u64 {
     1 + u64::from(draws.below(most))
 }
 
 /// Allocates areas of 1 to 64 indexes, and notes where each begins; whether each was found.
-pub fn allocate_all(tree: &mut impl Tree, end: End, highest: u64, starts: &mut [u64]) -> bool {
-    let mut draws = Draws::new(7);
+pub fn allocate_all(tree: &mut impl TimedTree, end: End, highest: u64, starts: &mut [u64]) -> bool {
+    let mut draws = DrawnIndexes::new(7);
     let mut done = true;
     for start in starts {
         match allocate(tree, drawn_size(&mut draws, 64), end, highest) {
@@ -175,8 +175,8 @@ pub fn allocate_all(tree: &mut impl Tree, end: End, highest: u64, starts: &mut [
 }
 
 /// Allocates so many areas of 1 to 6 indexes; whether each was found.
-pub fn fill_holes(tree: &mut impl Tree, highest: u64, areas: u32) -> bool {
-    let mut draws = Draws::new(7);
+pub fn fill_holes(tree: &mut impl TimedTree, highest: u64, areas: u32) -> bool {
+    let mut draws = DrawnIndexes::new(7);
     let mut done = true;
     for _ in 0..areas {
         let size = drawn_size(&mut draws, 6);
@@ -186,7 +186,7 @@ pub fn fill_holes(tree: &mut impl Tree, highest: u64, areas: u32) -> bool {
 }
 
 /// Erases the area at a start and allocates one of so many indexes, whose start is noted; whether both were done.
-fn reallocate(tree: &mut impl Tree, highest: u64, start: &mut u64, size: u64) -> bool {
+fn reallocate(tree: &mut impl TimedTree, highest: u64, start: &mut u64, size: u64) -> bool {
     let erased = matches!(tree.act(&Call::Erase { index: *start }), Reply::Was(_));
     match allocate(tree, size, End::Lowest, highest) {
         Some(found) => {
@@ -198,8 +198,8 @@ fn reallocate(tree: &mut impl Tree, highest: u64, start: &mut u64, size: u64) ->
 }
 
 /// Erases an area and allocates another of 1 to 64 indexes, `times` times; whether all were done.
-pub fn churn(tree: &mut impl Tree, highest: u64, starts: &mut [u64], times: u64) -> bool {
-    let mut draws = Draws::new(8);
+pub fn churn(tree: &mut impl TimedTree, highest: u64, starts: &mut [u64], times: u64) -> bool {
+    let mut draws = DrawnIndexes::new(8);
     let areas = u32::try_from(starts.len()).unwrap_or(u32::MAX);
     let mut done = true;
     for _ in 0..times {

@@ -8,7 +8,7 @@ use Rattle.mt_base.specs.Width.{kind_width}
 use Rattle.mt_layout.specs.declared.items.Item.{Item}
 use Rattle.mt_layout.specs.declared.names.RowKind.{RowKind}
 use Rattle.mt_bulk.specs.Bulk.{heads, words_of}
-use Rattle.mt_bulk.specs.Chunks.{AreRows, CanFill, ChunkView, begins_at, heads_in, part_of, place_at, rows_between, words_in}
+use Rattle.mt_bulk.specs.Chunks.{AreRows, CanFill, ChunkView, begins_at, heads_in, chunk_part, place_at, rows_between, chunk_words}
 use Rattle.mt_bulk.proofs.Joining.{behind_rows, heads_in_chunks, words_in_chunks}
 use Rattle.mt_bulk.proofs.Filling.{row_ends, take_both}
 
@@ -78,7 +78,7 @@ fill_back tree kind items from (x ∷ xs) ys fill = fill_back tree kind items x 
 
 module _ (c : ChunkView) (whole : AreRows c) (start : c.from ≡ 0) where
   abbrev part : ℕ → ℕ → ChunkView
-  part a b = part_of c a b
+  part a b = chunk_part c a b
 
   fill_part : (a b : ℕ) → a ≤ b → b ≤ length c.ends → CanFill c.tree c.kind c.items (place_at c.ends a) (take (b - a) (drop a c.ends))
   fill_part a b low high =
@@ -103,7 +103,7 @@ module _ (c : ChunkView) (whole : AreRows c) (start : c.from ≡ 0) where
         named = omega (arith, length_part c.ends a b low high);
       }
 
-  pub words_parts : (a b d : ℕ) → a ≤ b → b ≤ d → d ≤ length c.ends → words_in (part a d) ≡ words_in (part a b) ++ words_in (part b d)
+  pub words_parts : (a b d : ℕ) → a ≤ b → b ≤ d → d ≤ length c.ends → chunk_words (part a d) ≡ chunk_words (part a b) ++ chunk_words (part b d)
   words_parts a b d low middle high =
       let parents = whole.parents in
       let width = kind_width c.tree in

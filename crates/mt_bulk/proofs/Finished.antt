@@ -14,7 +14,7 @@ use Rattle.mt_rows.specs.Publish.{IsLawfulOf, map_by}
 use Rattle.mt_rows.specs.Sheet.{Rooted, Sheet}
 use Rattle.mt_bulk.specs.declared.errors.BulkError.{BulkError}
 use Rattle.mt_bulk.specs.declared.leaves.Leaves.{Leaves}
-use Rattle.mt_bulk.specs.Builds.{AreLeaves, IsBuilt, refusal, refused_by, too_many}
+use Rattle.mt_bulk.specs.Builds.{HasLeafFacts, IsBuilt, refusal, refused_by, too_many}
 use Rattle.mt_bulk.specs.Bulk.{bulk, rows_in, rows_up}
 use Rattle.mt_bulk.specs.Items.{items_of, misplaced}
 use Rattle.mt_bulk.proofs.Built.{rows_of}
@@ -73,12 +73,12 @@ made_is_built kind m s good few made =
     }
 
 -- of the leaves' ranges
-pub leaves_built : (l : Leaves) (s : Sheet) (root : ℕ) (words : List ℕ) → AreLeaves l → root ≡ (bulk l.kind l.ranges.now).root → words ≡ (bulk l.kind l.ranges.now).words → IsMadeOf (kind_width l.kind) root words s → IsBuilt l.kind l.ranges.now s
+pub leaves_built : (l : Leaves) (s : Sheet) (root : ℕ) (words : List ℕ) → HasLeafFacts l → root ≡ (bulk l.kind l.ranges.now).root → words ≡ (bulk l.kind l.ranges.now).words → IsMadeOf (kind_width l.kind) root words s → IsBuilt l.kind l.ranges.now s
 leaves_built l s root words are root_is words_is made =
     made_is_built l.kind l.ranges.now s are.good (subst (λ (n : ℕ). n ≤ most_rows) (sym (rows_are l.kind l.ranges.now l.rows are.even)) are.few)
     (subst (λ (w : List ℕ). IsMadeOf (kind_width l.kind) (bulk l.kind l.ranges.now).root w s) words_is (subst (λ (r : ℕ). IsMadeOf (kind_width l.kind) r words s) root_is made))
 
-pub words_whole : (l : Leaves) (words : List ℕ) → AreLeaves l → words ≡ (bulk l.kind l.ranges.now).words → (length words % columns (kind_width l.kind) ≡ 0) × (length words / columns (kind_width l.kind) ≤ most_rows)
+pub words_whole : (l : Leaves) (words : List ℕ) → HasLeafFacts l → words ≡ (bulk l.kind l.ranges.now).words → (length words % columns (kind_width l.kind) ≡ 0) × (length words / columns (kind_width l.kind) ≤ most_rows)
 words_whole l words are is =
     let long = ap length is ∙ are.even in
     let few = are.few in
@@ -98,7 +98,7 @@ unfolding refusal
 none_refused kind (r ∷ m) none = absurd (omega arith)
 none_refused kind [] none_is = few_none (rows_in kind []) (let none = rows_are kind [] 0 (no_words_even (kind_width kind)) in omega arith)
 
-pub leaves_taken : (l : Leaves) → AreLeaves l → refusal l.kind l.ranges.now ≡ None
+pub leaves_taken : (l : Leaves) → HasLeafFacts l → refusal l.kind l.ranges.now ≡ None
 unfolding refusal
 leaves_taken l are =
     let rows = rows_are l.kind l.ranges.now l.rows are.even in
@@ -116,7 +116,7 @@ refused_rows kind ranges rows e good is many = (λ i. refused_by (good i) (is i)
 -- ---- the table
 
 -- a table that was made for so many rows is one for these words
-pub table_for : (l : Leaves) (W : Width) (words : List ℕ) (s : Sheet) → AreLeaves l → W ≡ kind_width l.kind → words ≡ (bulk l.kind l.ranges.now).words → s ≡ new_sheet (kind_width l.kind) l.rows
+pub table_for : (l : Leaves) (W : Width) (words : List ℕ) (s : Sheet) → HasLeafFacts l → W ≡ kind_width l.kind → words ≡ (bulk l.kind l.ranges.now).words → s ≡ new_sheet (kind_width l.kind) l.rows
     → (length words % columns W ≡ 0) × (s ≡ new_sheet W (length words / columns W))
 table_for l W words s are width_is words_is made = subst (λ (w : Width). (length words % columns w ≡ 0) × (s ≡ new_sheet w (length words / columns w))) (sym width_is) (
     let long = ap length words_is ∙ are.even in
@@ -124,6 +124,6 @@ table_for l W words s are width_is words_is made = subst (λ (w : Width). (lengt
     let count = ap (λ (n : ℕ). n / columns (kind_width l.kind)) long ∙ whole_quotient (kind_width l.kind) l.rows in
     (whole, made ∙ ap (new_sheet (kind_width l.kind)) (sym count)))
 
-pub built_in : (l : Leaves) (W : Width) (root : ℕ) (words : List ℕ) (s : Sheet) → AreLeaves l → W ≡ kind_width l.kind → root ≡ (bulk l.kind l.ranges.now).root → words ≡ (bulk l.kind l.ranges.now).words
+pub built_in : (l : Leaves) (W : Width) (root : ℕ) (words : List ℕ) (s : Sheet) → HasLeafFacts l → W ≡ kind_width l.kind → root ≡ (bulk l.kind l.ranges.now).root → words ≡ (bulk l.kind l.ranges.now).words
     → IsMadeOf W root words s → IsBuilt l.kind l.ranges.now s
 built_in l W root words s are width_is root_is words_is made = leaves_built l s root words are root_is words_is (subst (λ (w : Width). IsMadeOf w root words s) width_is made)

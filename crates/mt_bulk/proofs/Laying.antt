@@ -11,17 +11,17 @@ use Rattle.mt_base.specs.Call.{finds_room}
 use Rattle.mt_base.specs.Width.{columns, kind_width}
 use Rattle.mt_layout.specs.declared.items.Item.{Item}
 use Rattle.mt_lanes.specs.declared.lanes.Lane.{Lane}
-use Rattle.mt_lanes.specs.Lanes.{CanRun, Chain, EachPlace, Ran}
+use Rattle.mt_lanes.specs.Lanes.{CanRun, Chain, EachPlace, RanSteps}
 use Rattle.mt_bulk.specs.declared.desks.LeafDesk.{LeafDesk}
 use Rattle.mt_bulk.specs.Bulk.{Built, heads, words_of}
 use Rattle.mt_bulk.specs.declared.leaves.Leaves.{Leaves}
-use Rattle.mt_bulk.specs.Builds.{AreLaid, AreLeaves, AreNumbered, FirstHasRoom, IsLaid, above_leaves, heads_made, whole_of, words_made, words_room}
-use Rattle.mt_bulk.specs.Chunks.{AreRows, ChunkView, HasFilled, IsReady, begins_at, heads_in, part_of, rows_between, view_of, words_in}
+use Rattle.mt_bulk.specs.Builds.{AreLaid, HasLeafFacts, AreLanesFrom, FirstHasRoom, IsLeafLane, above_leaves, heads_made, whole_of, words_made, words_room}
+use Rattle.mt_bulk.specs.Chunks.{AreRows, ChunkView, HasFilled, IsFillable, begins_at, heads_in, chunk_part, rows_between, view_of, chunk_words}
 use Rattle.mt_bulk.proofs.Chunking.{heads_parts, length_part, part_rows, words_parts}
 use Rattle.mt_bulk.proofs.Leveling.{length_heads_in}
 
-pub laid_more : (whole : ChunkView) (from middle to : ℕ) (lanes : List (Lane LeafDesk)) (lane : Lane LeafDesk) → AreLaid whole from middle lanes → middle ≤ to → IsLaid whole middle to lane → AreLaid whole from to (lanes ++ lane ∷ [])
-laid_more whole from middle to [] lane before order laid = (to, omega arith, subst (λ (n : ℕ). IsLaid whole n to lane) (sym before) laid, refl)
+pub laid_more : (whole : ChunkView) (from middle to : ℕ) (lanes : List (Lane LeafDesk)) (lane : Lane LeafDesk) → AreLaid whole from middle lanes → middle ≤ to → IsLeafLane whole middle to lane → AreLaid whole from to (lanes ++ lane ∷ [])
+laid_more whole from middle to [] lane before order laid = (to, omega arith, subst (λ (n : ℕ). IsLeafLane whole n to lane) (sym before) laid, refl)
 laid_more whole from middle to (x ∷ lanes) lane before order laid = (before.0, before.1, before.2, laid_more whole before.0 middle to lanes lane before.3 order laid)
 
 pub laid_order : (whole : ChunkView) (from to : ℕ) (lanes : List (Lane LeafDesk)) → AreLaid whole from to lanes → from ≤ to
@@ -33,7 +33,7 @@ laid_order whole from to (x ∷ lanes) laid =
 
 -- what a desk awaits, and what its step makes of it
 abbrev pub Awaits : LeafDesk → ℕ → Type 0
-Awaits d s = IsReady (view_of d.chunk) (vec_len d.words) (vec_capacity d.words) (vec_len d.heads) (vec_capacity d.heads)
+Awaits d s = IsFillable (view_of d.chunk) (vec_len d.words) (vec_capacity d.words) (vec_len d.heads) (vec_capacity d.heads)
 
 abbrev pub Did : LeafDesk → ℕ → LeafDesk → Type 0
 Did a s b = HasFilled (view_of a.chunk) a.words.items b.words.items a.heads.items b.heads.items × (vec_capacity a.words ≤ vec_capacity b.words) × (vec_capacity a.heads ≤ vec_capacity b.heads)
@@ -49,14 +49,14 @@ one_step_done zero a b one chain = absurd (omega arith)
 one_step_done (suc zero) a b one chain = subst (λ (d : LeafDesk). Did d 0 b) chain.1 chain.2
 one_step_done (suc (suc n)) a b one chain = absurd (omega arith)
 
-no_words_left : (whole : ChunkView) (from to : ℕ) → from ≡ to → [] ≡ words_in (part_of whole from to)
-no_words_left whole from to same = let none : 0 ≡ to - from = omega arith in ap (λ (n : ℕ). words_of (kind_width whole.tree) whole.kind (take n (drop from whole.parents)) (rows_between whole.items (part_of whole from to).from (take (to - from) (drop from whole.ends)))) none
+no_words_left : (whole : ChunkView) (from to : ℕ) → from ≡ to → [] ≡ chunk_words (chunk_part whole from to)
+no_words_left whole from to same = let none : 0 ≡ to - from = omega arith in ap (λ (n : ℕ). words_of (kind_width whole.tree) whole.kind (take n (drop from whole.parents)) (rows_between whole.items (chunk_part whole from to).from (take (to - from) (drop from whole.ends)))) none
 
-no_heads_left : (whole : ChunkView) (from to : ℕ) → from ≡ to → [] ≡ heads_in (part_of whole from to)
-no_heads_left whole from to same = let none : 0 ≡ to - from = omega arith in ap (λ (n : ℕ). heads (finds_room whole.tree) whole.kind (begins_at whole.items (part_of whole from to).from) (whole.number + from) (rows_between whole.items (part_of whole from to).from (take n (drop from whole.ends)))) none
+no_heads_left : (whole : ChunkView) (from to : ℕ) → from ≡ to → [] ≡ heads_in (chunk_part whole from to)
+no_heads_left whole from to same = let none : 0 ≡ to - from = omega arith in ap (λ (n : ℕ). heads (finds_room whole.tree) whole.kind (begins_at whole.items (chunk_part whole from to).from) (whole.number + from) (rows_between whole.items (chunk_part whole from to).from (take n (drop from whole.ends)))) none
 
 module _ (whole : ChunkView) (can : AreRows whole) (start : whole.from ≡ 0) (passed : ℕ → ℕ → Type 0) where
-  pub laid_words : (from to : ℕ) (xs ys : List (Lane LeafDesk)) → to ≤ length whole.ends → AreLaid whole from to xs → length ys ≡ length xs → EachPlace (Ran Did passed) xs ys → words_made ys ≡ words_in (part_of whole from to)
+  pub laid_words : (from to : ℕ) (xs ys : List (Lane LeafDesk)) → to ≤ length whole.ends → AreLaid whole from to xs → length ys ≡ length xs → EachPlace (RanSteps Did passed) xs ys → words_made ys ≡ chunk_words (chunk_part whole from to)
   laid_words from to [] [] inside laid same each = no_words_left whole from to laid
   laid_words from to [] (y ∷ ys) inside laid same each = absurd (omega arith)
   laid_words from to (x ∷ xs) [] inside laid same each = absurd (omega arith)
@@ -66,11 +66,11 @@ module _ (whole : ChunkView) (can : AreRows whole) (start : whole.from ≡ 0) (p
       let high = laid_order whole middle to xs laid.3 in
       let ran = each 0 x (omega arith) in
       let done = one_step_done x.steps x.desk y.desk laid.2.steps ran.desk in
-      let own : y.desk.words.items ≡ words_in (part_of whole from middle) = done.0.words ∙ (ap (λ (l : List ℕ). l ++ words_in (view_of x.desk.chunk)) laid.2.words ∙ ap words_in laid.2.chunk) in
+      let own : y.desk.words.items ≡ chunk_words (chunk_part whole from middle) = done.0.words ∙ (ap (λ (l : List ℕ). l ++ chunk_words (view_of x.desk.chunk)) laid.2.words ∙ ap chunk_words laid.2.chunk) in
       let behind = laid_words middle to xs ys inside laid.3 (omega arith) (λ place none within. each (suc place) none (omega arith)) in
       (λ i. own i ++ behind i) ∙ sym (words_parts whole can start from middle to low high inside)
 
-  pub laid_heads : (from to : ℕ) (xs ys : List (Lane LeafDesk)) → to ≤ length whole.ends → AreLaid whole from to xs → length ys ≡ length xs → EachPlace (Ran Did passed) xs ys → heads_made ys ≡ heads_in (part_of whole from to)
+  pub laid_heads : (from to : ℕ) (xs ys : List (Lane LeafDesk)) → to ≤ length whole.ends → AreLaid whole from to xs → length ys ≡ length xs → EachPlace (RanSteps Did passed) xs ys → heads_made ys ≡ heads_in (chunk_part whole from to)
   laid_heads from to [] [] inside laid same each = no_heads_left whole from to laid
   laid_heads from to [] (y ∷ ys) inside laid same each = absurd (omega arith)
   laid_heads from to (x ∷ xs) [] inside laid same each = absurd (omega arith)
@@ -80,12 +80,12 @@ module _ (whole : ChunkView) (can : AreRows whole) (start : whole.from ≡ 0) (p
       let high = laid_order whole middle to xs laid.3 in
       let ran = each 0 x (omega arith) in
       let done = one_step_done x.steps x.desk y.desk laid.2.steps ran.desk in
-      let own : y.desk.heads.items ≡ heads_in (part_of whole from middle) = done.0.above ∙ (ap (λ (l : List Item). l ++ heads_in (view_of x.desk.chunk)) laid.2.heads ∙ ap heads_in laid.2.chunk) in
+      let own : y.desk.heads.items ≡ heads_in (chunk_part whole from middle) = done.0.above ∙ (ap (λ (l : List Item). l ++ heads_in (view_of x.desk.chunk)) laid.2.heads ∙ ap heads_in laid.2.chunk) in
       let behind = laid_heads middle to xs ys inside laid.3 (omega arith) (λ place none within. each (suc place) none (omega arith)) in
       (λ i. own i ++ behind i) ∙ sym (heads_parts whole can start from middle to low high inside)
 
   -- all leaves
-  pub words_all : words_in (part_of whole 0 (length whole.ends)) ≡ words_in whole
+  pub words_all : chunk_words (chunk_part whole 0 (length whole.ends)) ≡ chunk_words whole
   words_all =
       let all : length whole.ends - 0 ≡ length whole.ends = omega arith in
       let parents = can.parents in
@@ -93,14 +93,14 @@ module _ (whole : ChunkView) (can : AreRows whole) (start : whole.from ≡ 0) (p
       let es : take (length whole.ends - 0) whole.ends ≡ whole.ends = take_all (length whole.ends - 0) whole.ends (omega arith) in
       (λ i. words_of (kind_width whole.tree) whole.kind (ps i) (rows_between whole.items (sym start i) (es i)))
 
-  pub heads_all : heads_in (part_of whole 0 (length whole.ends)) ≡ heads_in whole
+  pub heads_all : heads_in (chunk_part whole 0 (length whole.ends)) ≡ heads_in whole
   heads_all =
       let all : length whole.ends - 0 ≡ length whole.ends = omega arith in
       let es : take (length whole.ends - 0) whole.ends ≡ whole.ends = take_all (length whole.ends - 0) whole.ends (omega arith) in
       (λ i. heads (finds_room whole.tree) whole.kind (begins_at whole.items (sym start i)) (add-zero whole.number i) (rows_between whole.items (sym start i) (es i)))
 
-pub part_ready : (l : Leaves) (from to used room heads heads_room : ℕ) → AreLeaves l → from ≤ to → to ≤ length l.ends.items → used + columns (kind_width l.kind) * (to - from) ≤ room → heads + (to - from) ≤ heads_room
-    → IsReady (part_of (whole_of l) from to) used room heads heads_room
+pub part_ready : (l : Leaves) (from to used room heads heads_room : ℕ) → HasLeafFacts l → from ≤ to → to ≤ length l.ends.items → used + columns (kind_width l.kind) * (to - from) ≤ room → heads + (to - from) ≤ heads_room
+    → IsFillable (chunk_part (whole_of l) from to) used room heads heads_room
 part_ready l from to used room heads heads_room are order inside for_words for_heads =
     let long = length_part l.ends.items from to order inside in
     record {
@@ -120,7 +120,7 @@ first_room words heads [] lane before alone = alone refl
 first_room words heads (x ∷ lanes) lane before alone = before
 
 -- the first lane has as much room as before
-pub room_kept : (whole : ChunkView) (passed : ℕ → ℕ → Type 0) (from to words heads : ℕ) (xs ys : List (Lane LeafDesk)) → AreLaid whole from to xs → length ys ≡ length xs → EachPlace (Ran Did passed) xs ys → FirstHasRoom words heads xs → FirstHasRoom words heads ys
+pub room_kept : (whole : ChunkView) (passed : ℕ → ℕ → Type 0) (from to words heads : ℕ) (xs ys : List (Lane LeafDesk)) → AreLaid whole from to xs → length ys ≡ length xs → EachPlace (RanSteps Did passed) xs ys → FirstHasRoom words heads xs → FirstHasRoom words heads ys
 room_kept whole passed from to words heads [] [] laid same each room = tt
 room_kept whole passed from to words heads [] (y ∷ ys) laid same each room = absurd (omega arith)
 room_kept whole passed from to words heads (x ∷ xs) [] laid same each room = absurd (omega arith)
@@ -159,11 +159,11 @@ fits_in f (x ∷ lanes) (suc at) none within = omega (arith, length-append (f x)
 
 -- ---- turns
 
-pub numbered_more : (first : ℕ) (lanes : List (Lane LeafDesk)) (lane : Lane LeafDesk) → AreNumbered first lanes → lane.lane ≡ first + length lanes → AreNumbered first (lanes ++ lane ∷ [])
+pub numbered_more : (first : ℕ) (lanes : List (Lane LeafDesk)) (lane : Lane LeafDesk) → AreLanesFrom first lanes → lane.lane ≡ first + length lanes → AreLanesFrom first (lanes ++ lane ∷ [])
 numbered_more first [] lane numbered is = (is ∙ add-zero first, tt)
 numbered_more first (x ∷ lanes) lane numbered is = (numbered.0, numbered_more (first + 1) lanes lane numbered.1 (omega arith))
 
-pub took_turns : (whole : ChunkView) (passed : ℕ → ℕ → Type 0) (first from to : ℕ) (xs ys : List (Lane LeafDesk)) → AreLaid whole from to xs → AreNumbered first xs → EachPlace (Ran Did passed) xs ys
+pub took_turns : (whole : ChunkView) (passed : ℕ → ℕ → Type 0) (first from to : ℕ) (xs ys : List (Lane LeafDesk)) → AreLaid whole from to xs → AreLanesFrom first xs → EachPlace (RanSteps Did passed) xs ys
     → (at turn : ℕ) → at < length xs → turn < 2 → passed (first + at) turn
 took_turns whole passed first from to [] ys laid numbered each at turn within two = absurd (omega arith)
 took_turns whole passed first from to (x ∷ xs) ys laid numbered each zero turn within two =
@@ -179,23 +179,23 @@ took_turns whole passed first from to (x ∷ xs) (y ∷ ys) laid numbered each (
 
 -- ---- all leaves
 
-pub all_words : (l : Leaves) → AreLeaves l → length (words_in (whole_of l)) ≤ words_room l
+pub all_words : (l : Leaves) → HasLeafFacts l → length (chunk_words (whole_of l)) ≤ words_room l
 all_words l are = elim (cases_Bool (length l.ends.items == 1)) [
   | inl one ↦ let is = ap (λ (b : Built). length b.words) (are.alone (eqb-true (length l.ends.items) 1 one)) in omega (arith, is, are.even)
   | inr more ↦
       let above = above_leaves l.kind l.items.items l.ends.items l.parents.items in
       let is = ap (λ (b : Built). length b.words) (are.several (eqb-false (length l.ends.items) 1 more)) in
-      omega (arith, is, are.even, length-append (words_in (whole_of l)) above.words)
+      omega (arith, is, are.even, length-append (chunk_words (whole_of l)) above.words)
 ]
 
 -- what was made at the desks of all lanes is that of all leaves, and the first lane has room for it
 pub record AllMade (l : Leaves) (lanes : List (Lane LeafDesk)) : Type 0 where
-  pub words : words_made lanes ≡ words_in (whole_of l)
+  pub words : words_made lanes ≡ chunk_words (whole_of l)
   pub heads : heads_made lanes ≡ heads_in (whole_of l)
   pub room : FirstHasRoom (words_room l) (length l.ends.items) lanes
   pub fits : FirstHasRoom (length (words_made lanes)) (length (heads_made lanes)) lanes
 
-pub all_made : (l : Leaves) (passed : ℕ → ℕ → Type 0) (before after : List (Lane LeafDesk)) → AreLeaves l → AreLaid (whole_of l) 0 (length l.ends.items) before → length after ≡ length before → EachPlace (Ran Did passed) before after
+pub all_made : (l : Leaves) (passed : ℕ → ℕ → Type 0) (before after : List (Lane LeafDesk)) → HasLeafFacts l → AreLaid (whole_of l) 0 (length l.ends.items) before → length after ≡ length before → EachPlace (RanSteps Did passed) before after
     → FirstHasRoom (words_room l) (length l.ends.items) before → AllMade l after
 all_made l passed before after are laid same each room =
     let whole = whole_of l in

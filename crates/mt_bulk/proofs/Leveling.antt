@@ -12,8 +12,8 @@ use Rattle.mt_rows.specs.Spans.{inner_kind}
 use Rattle.mt_bulk.specs.declared.leaves.Leaves.{Leaves}
 use Rattle.mt_bulk.specs.declared.levels.Level.{Level}
 use Rattle.mt_bulk.specs.Bulk.{Built, inner_slots}
-use Rattle.mt_bulk.specs.Builds.{AreLeaves, AreLevels, HavePushed, IsLevelOf, above_leaves, whole_of, words_room}
-use Rattle.mt_bulk.specs.Chunks.{ChunkView, IsLevel, heads_in, rows_between, words_in}
+use Rattle.mt_bulk.specs.Builds.{HasLeafFacts, AreLevels, HavePushed, IsLevelOf, above_leaves, whole_of, words_room}
+use Rattle.mt_bulk.specs.Chunks.{ChunkView, IsLevel, heads_in, rows_between, chunk_words}
 use Rattle.mt_bulk.specs.Cuts.{cut, ends_from, inner_size}
 use Rattle.mt_bulk.proofs.Counts.{half_at_most, length_cut, some_rows}
 use Rattle.mt_bulk.proofs.Raised.{length_ends}
@@ -84,8 +84,8 @@ pub length_heads_in : (c : ChunkView) → length (heads_in c) ≡ length c.ends
 length_heads_in c = length_heads (finds_room c.tree) c.kind _ c.number (rows_between c.items c.from c.ends) ∙ length_rows_between c.items c.from c.ends
 
 -- the words of all rows, where there are several leaves
-pub words_above : (l : Leaves) → AreLeaves l → length l.ends.items ≢ 1 → length (words_in (whole_of l)) + length (above_leaves l.kind l.items.items l.ends.items l.parents.items).words ≡ words_room l
+pub words_above : (l : Leaves) → HasLeafFacts l → length l.ends.items ≢ 1 → length (chunk_words (whole_of l)) + length (above_leaves l.kind l.items.items l.ends.items l.parents.items).words ≡ words_room l
 words_above l are more =
     let above = above_leaves l.kind l.items.items l.ends.items l.parents.items in
     let is = ap (λ (b : Built). length b.words) (are.several more) in
-    omega (arith, is, are.even, length-append (words_in (whole_of l)) above.words)
+    omega (arith, is, are.even, length-append (chunk_words (whole_of l)) above.words)

@@ -18,7 +18,7 @@ use Rattle.mt_layout.proofs.SpanLists.{apart_back, apart_front, length-spans_fro
 use Rattle.mt_base.proofs.Lists.{all_back}
 use Rattle.mt_layout.proofs.RowSizes.{some_least, least-below-slots}
 use Rattle.mt_rows.specs.Laws.{kind_at}
-use Rattle.mt_bulk.specs.Bulk.{built_up, heads, raised, words_of}
+use Rattle.mt_bulk.specs.Bulk.{built_up, heads, levels_built, words_of}
 use Rattle.mt_bulk.specs.Chunks.{CanFill, rows_between}
 use Rattle.mt_bulk.specs.Cuts.{ends_from}
 use Rattle.mt_bulk.proofs.Written.{end_anyhow}
@@ -45,13 +45,13 @@ enough_levels tree (suc left) (suc more) h number items one two some apart = eli
 ]
 
 pub raised_top : (tree : Kind) (h number : ℕ) (items : List Item) → 1 ≤ length items → (length (rows_of tree h items) == 1) ≡ true
-    → raised tree (kind_at tree h) number items ≡ record { root = name_at number (kind_at tree h); words = words_of (kind_width tree) (kind_at tree h) (1 ∷ []) (rows_of tree h items) }
+    → levels_built tree (kind_at tree h) number items ≡ record { root = name_at number (kind_at tree h); words = words_of (kind_width tree) (kind_at tree h) (1 ∷ []) (rows_of tree h items) }
 raised_top tree h number [] some single = absurd (omega arith)
 raised_top tree h number (x ∷ items) some single = built_top tree (length items) h number (x ∷ items) single
 
 pub raised_more : (tree : Kind) (h number : ℕ) (items : List Item) → 1 ≤ length items → (h ≡ 0 → Apart (spans_from 0 items)) → (length (rows_of tree h items) == 1) ≡ false
-    → raised tree (kind_at tree h) number items
-    ≡ record { root = (raised tree (kind_at tree (suc h)) (next_of tree h number items) (above_of tree h number items)).root; words = level_words tree h number items ++ (raised tree (kind_at tree (suc h)) (next_of tree h number items) (above_of tree h number items)).words }
+    → levels_built tree (kind_at tree h) number items
+    ≡ record { root = (levels_built tree (kind_at tree (suc h)) (next_of tree h number items) (above_of tree h number items)).root; words = level_words tree h number items ++ (levels_built tree (kind_at tree (suc h)) (next_of tree h number items) (above_of tree h number items)).words }
 raised_more tree h number [] some apart several = absurd (omega arith)
 raised_more tree h number (x ∷ items) some apart several =
     let rows = rows_of tree h (x ∷ items) in

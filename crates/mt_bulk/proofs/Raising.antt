@@ -15,8 +15,8 @@ use Rattle.mt_layout.specs.Sizes.{gaps_of}
 use Rattle.mt_layout.specs.Spans.{spans_from, Apart}
 use Rattle.mt_rows.specs.Laws.{kind_at}
 use Rattle.mt_rows.specs.Spans.{inner_kind, inner_of}
-use Rattle.mt_bulk.specs.Bulk.{Built, heads, inner_slots, parents_in, parents_over, raised, size_in, words_of}
-use Rattle.mt_bulk.specs.Chunks.{AreRows, CanFill, ChunkView, IsLevel, heads_in, rows_between, words_in}
+use Rattle.mt_bulk.specs.Bulk.{Built, heads, inner_slots, parents_in, parents_over, levels_built, size_in, words_of}
+use Rattle.mt_bulk.specs.Chunks.{AreRows, CanFill, ChunkView, IsLevel, heads_in, rows_between, chunk_words}
 use Rattle.mt_bulk.specs.Cuts.{AreCut, cut, ends_from, inner_size}
 use Rattle.mt_bulk.proofs.Built.{EndsOf, Least, Most, above_of, both_words, length_parents, level_cut, no_gap_heads, rows_of, rows_within}
 use Rattle.mt_bulk.proofs.Counts.{length_words_few, rows_fewer}
@@ -42,7 +42,7 @@ pub record IsCutLevel (tree : Kind) (h number : ℕ) (items : List Item) : Type 
   pub gaps : gaps_of (kind_width tree) (kind_at tree h) ≡ 0 → NoGaps items
   pub hold : AllByRecursion (Any IsEntry) (rows_of tree h items)
   pub first : first_row ≤ number
-  pub last : columns (kind_width tree) * number + length (raised tree (kind_at tree h) number items).words ≤ columns (kind_width tree) * (first_row + most_rows)
+  pub last : columns (kind_width tree) * number + length (levels_built tree (kind_at tree h) number items).words ≤ columns (kind_width tree) * (first_row + most_rows)
 
 module _ (tree : Kind) (h number : ℕ) (items : List Item) (level : IsCutLevel tree h number items) where
   abbrev width : Width
@@ -61,7 +61,7 @@ module _ (tree : Kind) (h number : ℕ) (items : List Item) (level : IsCutLevel 
   next = number + length rows
 
   abbrev upper : Built
-  upper = raised tree (kind_at tree (suc h)) next above
+  upper = levels_built tree (kind_at tree (suc h)) next above
 
   abbrev parents : List ℕ
   parents = parents_over tree next above
@@ -86,13 +86,13 @@ module _ (tree : Kind) (h number : ℕ) (items : List Item) (level : IsCutLevel 
   pub long_words : length words ≡ columns width * length rows
   long_words = length_words_few width kind parents rows many_parents the_cut.few
 
-  pub top : length rows ≡ 1 → raised tree kind number items ≡ record { root = name_at number kind; words = words }
+  pub top : length rows ≡ 1 → levels_built tree kind number items ≡ record { root = name_at number kind; words = words }
   top one =
       let single : (length rows == 1) ≡ true = eq-eqb (length rows) 1 one in
       raised_top tree h number items level.some single
       ∙ ap (λ (ps : List ℕ). record { root = name_at number kind; words = words_of width kind ps rows }) (sym (over_top tree next above (as_many ∙ one)))
 
-  pub more : (length rows ≡ 1 → ⊥) → raised tree kind number items ≡ record { root = upper.root; words = words ++ upper.words }
+  pub more : (length rows ≡ 1 → ⊥) → levels_built tree kind number items ≡ record { root = upper.root; words = words ++ upper.words }
   more several =
       let not_one = ne_eqb (length rows) 1 several in
       raised_more tree h number items level.some level.apart not_one
@@ -104,7 +104,7 @@ module _ (tree : Kind) (h number : ℕ) (items : List Item) (level : IsCutLevel 
     | inr other ↦ let is = more (eqb-false (length rows) 1 other) in omega (arith, level.last, ap (λ (b : Built). length b.words) is, length-append words upper.words, long_words)
   ]
 
-  pub words_below : columns width * length rows ≤ length (raised tree kind number items).words
+  pub words_below : columns width * length rows ≤ length (levels_built tree kind number items).words
   words_below = elim (cases_Bool (length rows == 1)) [
     | inl one ↦ let is = top (eqb-true (length rows) 1 one) in omega (arith, ap (λ (b : Built). length b.words) is, long_words)
     | inr other ↦ let is = more (eqb-false (length rows) 1 other) in omega (arith, ap (λ (b : Built). length b.words) is, length-append words upper.words, long_words)
@@ -129,7 +129,7 @@ module _ (tree : Kind) (h number : ℕ) (items : List Item) (level : IsCutLevel 
         named = omega (arith, numbers_within, many);
       }
 
-  pub words_are : (ends ps : List ℕ) → ends ≡ ends_from 0 rows → ps ≡ parents → words_in (view ends ps) ≡ words
+  pub words_are : (ends ps : List ℕ) → ends ≡ ends_from 0 rows → ps ≡ parents → chunk_words (view ends ps) ≡ words
   words_are ends ps ends_are ps_are = (λ i. words_of width kind (ps_are i) (rows_between items 0 (ends_are i))) ∙ ap (words_of width kind parents) (rows_back items 0 rows (omega arith) the_cut.joined)
 
   pub heads_are : (ends ps : List ℕ) → ends ≡ ends_from 0 rows → heads_in (view ends ps) ≡ above
@@ -184,17 +184,17 @@ abbrev pub view_with : Kind → RowKind → ℕ → List Item → List ℕ → L
 view_with tree kind number items ends ps = record { tree = tree; kind = kind; number = number; items = items; from = 0; ends = ends; parents = ps }
 
 abbrev pub above_with : Kind → RowKind → ℕ → List Item → List ℕ → List ℕ → Built
-above_with tree kind number items ends ps = raised tree (inner_kind tree) (number + length ends) (heads_in (view_with tree kind number items ends ps))
+above_with tree kind number items ends ps = levels_built tree (inner_kind tree) (number + length ends) (heads_in (view_with tree kind number items ends ps))
 
 pub record LevelFacts (tree : Kind) (h number : ℕ) (items : List Item) (kind : RowKind) (ends ps : List ℕ) : Type 0 where
   pub some : 1 ≤ length ends
   pub can : AreRows (view_with tree kind number items ends ps)
-  pub long : length (words_in (view_with tree kind number items ends ps)) ≡ columns (kind_width tree) * length ends
+  pub long : length (chunk_words (view_with tree kind number items ends ps)) ≡ columns (kind_width tree) * length ends
   pub within : number + length ends ≤ first_row + most_rows
-  pub room : columns (kind_width tree) * length ends ≤ length (raised tree (kind_at tree h) number items).words
-  pub alone : length ends ≡ 1 → raised tree (kind_at tree h) number items ≡ made_of (name_at number kind) (words_in (view_with tree kind number items ends ps))
+  pub room : columns (kind_width tree) * length ends ≤ length (levels_built tree (kind_at tree h) number items).words
+  pub alone : length ends ≡ 1 → levels_built tree (kind_at tree h) number items ≡ made_of (name_at number kind) (chunk_words (view_with tree kind number items ends ps))
   pub level : (length ends ≡ 1 → ⊥) → IsLevel tree (number + length ends) (heads_in (view_with tree kind number items ends ps))
-  pub several : (length ends ≡ 1 → ⊥) → raised tree (kind_at tree h) number items ≡ made_of (above_with tree kind number items ends ps).root (words_in (view_with tree kind number items ends ps) ++ (above_with tree kind number items ends ps).words)
+  pub several : (length ends ≡ 1 → ⊥) → levels_built tree (kind_at tree h) number items ≡ made_of (above_with tree kind number items ends ps).root (chunk_words (view_with tree kind number items ends ps) ++ (above_with tree kind number items ends ps).words)
   pub fewer : (length ends ≡ 1 → ⊥) → length (heads_in (view_with tree kind number items ends ps)) < length items
 
 pub level_facts : (tree : Kind) (h number : ℕ) (items : List Item) (kind : RowKind) (ends ps : List ℕ) → kind ≡ kind_at tree h → IsCutLevel tree h number items → ends ≡ ends_from 0 (rows_of tree h items)
@@ -214,11 +214,11 @@ level_facts tree h number items kind ends ps kind_is level ends_is parents_is = 
       can = level_rows tree h number items level ends ps ends_is ps_is;
       long = ap length words ∙ (all ∙ ap (λ (n : ℕ). columns (kind_width tree) * n) (sym many));
       within = omega (arith, next, numbers_within tree h number items level);
-      room = subst (λ (n : ℕ). columns (kind_width tree) * n ≤ length (raised tree (kind_at tree h) number items).words) (sym many) (words_below tree h number items level);
+      room = subst (λ (n : ℕ). columns (kind_width tree) * n ≤ length (levels_built tree (kind_at tree h) number items).words) (sym many) (words_below tree h number items level);
       alone = λ one. top tree h number items level (sym many ∙ one) ∙ ap (made_of (name_at number (kind_at tree h))) (sym words);
       level = λ other. subst (λ (n : ℕ). IsLevel tree n (heads_in (view_with tree (kind_at tree h) number items ends ps))) (sym next) (subst (IsLevel tree (number + length rows)) (sym top_heads) (next_level tree h number items level (λ one. other (many ∙ one))));
       several = λ other. more tree h number items level (λ one. other (many ∙ one))
-          ∙ (λ i. made_of (raised tree (inner_kind tree) (sym next i) (sym top_heads i)).root (sym words i ++ (raised tree (inner_kind tree) (sym next i) (sym top_heads i)).words));
+          ∙ (λ i. made_of (levels_built tree (inner_kind tree) (sym next i) (sym top_heads i)).root (sym words i ++ (levels_built tree (inner_kind tree) (sym next i) (sym top_heads i)).words));
       fewer = λ other. let less = (rows_fewer tree h items level.some level.apart (ne_eqb (length rows) 1 (λ one. other (many ∙ one)))).1 in omega (arith, ap length top_heads, as_many, less);
     })
 

@@ -22,8 +22,8 @@ use Rattle.mt_bulk.specs.declared.errors.BulkError.{BulkError}
 use Rattle.mt_bulk.specs.declared.errors.BulkError.TheVariants as errors
 use Rattle.mt_bulk.specs.declared.leaves.Leaves.{Leaves}
 use Rattle.mt_bulk.specs.declared.levels.Level.{Level}
-use Rattle.mt_bulk.specs.Bulk.{Built, bulk, inner_slots, parents_over, raised, rows_in}
-use Rattle.mt_bulk.specs.Chunks.{AreRows, ChunkView, IsLevel, IsReady, heads_in, part_of, view_of, words_in}
+use Rattle.mt_bulk.specs.Bulk.{Built, bulk, inner_slots, parents_over, levels_built, rows_in}
+use Rattle.mt_bulk.specs.Chunks.{AreRows, ChunkView, IsLevel, IsFillable, heads_in, chunk_part, view_of, chunk_words}
 use Rattle.mt_bulk.specs.Cuts.{cut, ends_from, inner_size}
 use Rattle.mt_bulk.specs.Items.{misplaced}
 
@@ -59,7 +59,7 @@ abbrev pub leaf_view : Kind → List Item → List ℕ → List ℕ → ChunkVie
 leaf_view kind items ends parents = record { tree = kind; kind = Leaf; number = first_row; items = items; from = 0; ends = ends; parents = parents }
 
 abbrev pub above_leaves : Kind → List Item → List ℕ → List ℕ → Built
-above_leaves kind items ends parents = raised kind (inner_kind kind) (first_row + length ends) (heads_in (leaf_view kind items ends parents))
+above_leaves kind items ends parents = levels_built kind (inner_kind kind) (first_row + length ends) (heads_in (leaf_view kind items ends parents))
 
 -- The ranges are in good order, and their tree has so many rows, which can be named. The leaves can be filled, and are the tree alone
 -- or with what stands above them.
@@ -69,13 +69,13 @@ pub record LeafFacts (kind : Kind) (ranges : List Range) (items : List Item) (en
   pub even : length (bulk kind ranges).words ≡ columns (kind_width kind) * rows
   pub some : 1 ≤ length ends
   pub whole : AreRows (leaf_view kind items ends parents)
-  pub long : length (words_in (leaf_view kind items ends parents)) ≡ columns (kind_width kind) * length ends
-  pub alone : length ends ≡ 1 → bulk kind ranges ≡ record { root = name_at first_row Leaf; words = words_in (leaf_view kind items ends parents) }
+  pub long : length (chunk_words (leaf_view kind items ends parents)) ≡ columns (kind_width kind) * length ends
+  pub alone : length ends ≡ 1 → bulk kind ranges ≡ record { root = name_at first_row Leaf; words = chunk_words (leaf_view kind items ends parents) }
   pub level : length ends ≢ 1 → IsLevel kind (first_row + length ends) (heads_in (leaf_view kind items ends parents))
-  pub several : length ends ≢ 1 → bulk kind ranges ≡ record { root = (above_leaves kind items ends parents).root; words = words_in (leaf_view kind items ends parents) ++ (above_leaves kind items ends parents).words }
+  pub several : length ends ≢ 1 → bulk kind ranges ≡ record { root = (above_leaves kind items ends parents).root; words = chunk_words (leaf_view kind items ends parents) ++ (above_leaves kind items ends parents).words }
 
-abbrev pub AreLeaves : Leaves → Type 0
-AreLeaves l = LeafFacts l.kind l.ranges.now l.items.items l.ends.items l.parents.items l.rows
+abbrev pub HasLeafFacts : Leaves → Type 0
+HasLeafFacts l = LeafFacts l.kind l.ranges.now l.items.items l.ends.items l.parents.items l.rows
 
 -- how many words the rows of all levels have
 abbrev pub words_room : Leaves → ℕ
@@ -84,22 +84,22 @@ words_room l = columns (kind_width l.kind) * l.rows
 -- ---- the lanes of the workers
 
 -- a lane with one step, whose desk is to fill the leaves from one place up to another
-pub record IsLaid (whole : ChunkView) (from to : ℕ) (lane : Lane LeafDesk) : Type 0 where
-  pub chunk : view_of lane.desk.chunk ≡ part_of whole from to
+pub record IsLeafLane (whole : ChunkView) (from to : ℕ) (lane : Lane LeafDesk) : Type 0 where
+  pub chunk : view_of lane.desk.chunk ≡ chunk_part whole from to
   pub steps : lane.steps ≡ 1
   pub words : lane.desk.words.items ≡ []
   pub heads : lane.desk.heads.items ≡ []
-  pub ready : IsReady (view_of lane.desk.chunk) (vec_len lane.desk.words) (vec_capacity lane.desk.words) (vec_len lane.desk.heads) (vec_capacity lane.desk.heads)
+  pub ready : IsFillable (view_of lane.desk.chunk) (vec_len lane.desk.words) (vec_capacity lane.desk.words) (vec_len lane.desk.heads) (vec_capacity lane.desk.heads)
 
 -- each of the leaves from one place up to another is of one of these lanes, in order
 abbrev pub AreLaid : ChunkView → ℕ → ℕ → List (Lane LeafDesk) → Type 0
 AreLaid whole from to [] = from ≡ to
-AreLaid whole from to (lane ∷ lanes) = (middle : ℕ) × (from ≤ middle) × IsLaid whole from middle lane × AreLaid whole middle to lanes
+AreLaid whole from to (lane ∷ lanes) = (middle : ℕ) × (from ≤ middle) × IsLeafLane whole from middle lane × AreLaid whole middle to lanes
 
 -- these lanes are numbered from here on
-abbrev pub AreNumbered : ℕ → List (Lane LeafDesk) → Type 0
-AreNumbered first [] = Unit {0}
-AreNumbered first (lane ∷ lanes) = (lane.lane ≡ first) × AreNumbered (first + 1) lanes
+abbrev pub AreLanesFrom : ℕ → List (Lane LeafDesk) → Type 0
+AreLanesFrom first [] = Unit {0}
+AreLanesFrom first (lane ∷ lanes) = (lane.lane ≡ first) × AreLanesFrom (first + 1) lanes
 
 -- each of so many workers took both of its turns
 abbrev pub TookTurns : (ℕ → ℕ → Type 0) → ℕ → Type 0

@@ -79,13 +79,13 @@ built_up tree (suc left) kind number items =
     else record { root = upper.root; words = words_of width kind (parents_in next (cut (size_in width (inner_kind tree)) above)) rows ++ upper.words }
 
 -- the rows of all items of a level, and those above them; a level has fewer rows than items, so there are no more levels than items
-abbrev pub raised : Kind → RowKind → ℕ → List Item → Built
-raised tree kind number items = built_up tree (length items) kind number items
+abbrev pub levels_built : Kind → RowKind → ℕ → List Item → Built
+levels_built tree kind number items = built_up tree (length items) kind number items
 
 -- the tree of a map; that of the empty one has no row, and the root word 0
 abbrev pub bulk : Kind → List Range → Built
 bulk tree [] = record { root = 0; words = [] }
-bulk tree (r ∷ m) = raised tree kinds.Leaf first_row (items_of tree (r ∷ m))
+bulk tree (r ∷ m) = levels_built tree kinds.Leaf first_row (items_of tree (r ∷ m))
 
 -- how many rows it has
 abbrev pub rows_in : Kind → List Range → ℕ

@@ -11,7 +11,7 @@ use Rattle.mt_layout.specs.declared.names.RowKind.{RowKind}
 use Rattle.mt_layout.specs.Columns.{FitRow, NoGaps, RiseFrom}
 use Rattle.mt_layout.specs.Sizes.{slots_of, gaps_of}
 use Rattle.mt_bulk.specs.declared.chunks.Chunk.{Chunk}
-use Rattle.mt_bulk.specs.Bulk.{heads, raised, words_of}
+use Rattle.mt_bulk.specs.Bulk.{heads, levels_built, words_of}
 
 -- the rows of items from a place on that end at these places
 abbrev pub rows_between : List Item → ℕ → List ℕ → List (List Item)
@@ -42,17 +42,17 @@ place_at ends zero = 0
 place_at ends (suc at) = slice_index ends at
 
 -- the rows of a whole level from the one at a place up to another
-abbrev pub part_of : ChunkView → ℕ → ℕ → ChunkView
-part_of c from to = record c { number = c.number + from; from = place_at c.ends from; ends = take (to - from) (drop from c.ends); parents = take (to - from) (drop from c.parents) }
+abbrev pub chunk_part : ChunkView → ℕ → ℕ → ChunkView
+chunk_part c from to = record c { number = c.number + from; from = place_at c.ends from; ends = take (to - from) (drop from c.ends); parents = take (to - from) (drop from c.parents) }
 
-abbrev pub rows_of : ChunkView → List (List Item)
-rows_of c = rows_between c.items c.from c.ends
+abbrev pub chunk_rows : ChunkView → List (List Item)
+chunk_rows c = rows_between c.items c.from c.ends
 
-abbrev pub words_in : ChunkView → List ℕ
-words_in c = words_of (kind_width c.tree) c.kind c.parents (rows_of c)
+abbrev pub chunk_words : ChunkView → List ℕ
+chunk_words c = words_of (kind_width c.tree) c.kind c.parents (chunk_rows c)
 
 abbrev pub heads_in : ChunkView → List Item
-heads_in c = heads (finds_room c.tree) c.kind (begins_at c.items c.from) c.number (rows_of c)
+heads_in c = heads (finds_room c.tree) c.kind (begins_at c.items c.from) c.number (chunk_rows c)
 
 -- each row ends behind its begin and among the items, can hold its items, and one of them is an entry or a name
 abbrev pub CanFill : Kind → RowKind → List Item → ℕ → List ℕ → Type 0
@@ -72,14 +72,14 @@ pub record AreRows (c : ChunkView) : Type 0 where
   pub named : c.number + length c.ends ≤ first_row + most_rows
 
 -- they can be filled, and there is room for their words and their items on the level above
-pub record IsReady (c : ChunkView) (used room heads heads_room : ℕ) : Type 0 where
+pub record IsFillable (c : ChunkView) (used room heads heads_room : ℕ) : Type 0 where
   pub rows : AreRows c
   pub for_words : used + columns (kind_width c.tree) * length c.ends ≤ room
   pub for_heads : heads + length c.ends ≤ heads_room
 
 -- their words, and their items on the level above, stand behind what was there
 pub record HasFilled (c : ChunkView) (before after : List ℕ) (heads heads' : List Item) : Type 0 where
-  pub words : after ≡ before ++ words_in c
+  pub words : after ≡ before ++ chunk_words c
   pub above : heads' ≡ heads ++ heads_in c
 
 -- Items of inner rows that are to be numbered from here on: they rise, each is named, gaps are told only where rows have them, and
@@ -90,4 +90,4 @@ pub record IsLevel (tree : Kind) (number : ℕ) (items : List Item) : Type 0 whe
   pub named : AllByRecursion (λ (x : Item). x.word ≢ 0) items
   pub gaps : gaps_of (kind_width tree) (inner_kind tree) ≡ 0 → NoGaps items
   pub first : first_row ≤ number
-  pub last : columns (kind_width tree) * number + length (raised tree (inner_kind tree) number items).words ≤ columns (kind_width tree) * (first_row + most_rows)
+  pub last : columns (kind_width tree) * number + length (levels_built tree (inner_kind tree) number items).words ≤ columns (kind_width tree) * (first_row + most_rows)

@@ -3,8 +3,8 @@
 ghost use Rattle.std.specs.Prelude.{◌≡◌, ◌≢◌, ◌+◌, ◌*◌, ◌≤◌, ◌++◌, ◌∷◌, ℕ, [], IfOk, IfErr, None, Some, length, vec_len, vec_capacity};
 ghost use Rattle.mt_base.specs.Width.{first_row};
 ghost use Rattle.mt_rows.specs.Memory.{sheet_in};
-ghost use Rattle.mt_bulk.specs.Builds.{AreLaid, AreLeaves, AreLevels, AreNumbered, FirstHasRoom, IsBuilt, IsLaid, IsUpperOf, TookTurns, built_of, heads_made, refusal, whole_of, words_made, words_room};
-ghost use Rattle.mt_bulk.specs.Chunks.{heads_in, words_in};
+ghost use Rattle.mt_bulk.specs.Builds.{AreLaid, HasLeafFacts, AreLevels, AreLanesFrom, FirstHasRoom, IsBuilt, IsLeafLane, IsUpperOf, TookTurns, built_of, heads_made, refusal, whole_of, words_made, words_room};
+ghost use Rattle.mt_bulk.specs.Chunks.{heads_in, chunk_words};
 
 use crate::chunks::fill_rows;
 use crate::desks::LeafDesk;
@@ -37,7 +37,7 @@ pub struct Upper {
 
 /// Takes the memory of the levels above the leaves, and of the table.
 fn upper_of(alloc: Global, leaves: &Leaves) -> Result<Upper, NoMemory>
-    requires { AreLeaves leaves.now }
+    requires { HasLeafFacts leaves.now }
     ensures { IfOk result (IsUpperOf leaves.now) }
 {
     let count = leaves.ends.len();
@@ -48,10 +48,10 @@ fn upper_of(alloc: Global, leaves: &Leaves) -> Result<Upper, NoMemory>
 
 /// Appends the words of the rows above the leaves, and answers the root word.
 fn raise_all(leaves: &Leaves, levels: &mut [Level], heads: &[Item], words: &mut Vec<u64>) -> u64
-    requires leaves { AreLeaves leaves.now }
+    requires leaves { HasLeafFacts leaves.now }
     requires levels { length leaves.now.ends.items ≢ 1 → AreLevels leaves.now.kind (first_row + length leaves.now.ends.items) (length leaves.now.ends.items) levels.old }
     requires heads { heads.now ≡ heads_in (whole_of leaves.now) }
-    requires words { words.old.items ≡ words_in (whole_of leaves.now) }
+    requires words { words.old.items ≡ chunk_words (whole_of leaves.now) }
     requires room { words_room leaves.now ≤ vec_capacity words.old }
     ensures root { result ≡ (built_of leaves.now).root }
     ensures words { words.new.items ≡ (built_of leaves.now).words }
@@ -65,10 +65,10 @@ fn raise_all(leaves: &Leaves, levels: &mut [Level], heads: &[Item], words: &mut 
 
 /// The rows of the tree whose leaves have these words and are these items on the level above. It takes no memory.
 fn finish(leaves: &Leaves, upper: Upper, heads: &[Item], mut words: Vec<u64>) -> PlainRows
-    requires leaves { AreLeaves leaves.now }
+    requires leaves { HasLeafFacts leaves.now }
     requires upper { IsUpperOf leaves.now upper }
     requires heads { heads.now ≡ heads_in (whole_of leaves.now) }
-    requires words { words.items ≡ words_in (whole_of leaves.now) }
+    requires words { words.items ≡ chunk_words (whole_of leaves.now) }
     requires room { words_room leaves.now ≤ vec_capacity words }
     ensures { IsBuilt leaves.now.kind leaves.now.ranges.now (sheet_in result) }
 {
@@ -99,10 +99,10 @@ fn lay_lane<'a>(
     from: usize,
     to: usize,
 ) -> Result<Lane<LeafDesk<'a>>, NoMemory>
-    requires leaves { AreLeaves leaves.now }
+    requires leaves { HasLeafFacts leaves.now }
     requires order { from ≤ to }
     requires inside { to ≤ length leaves.now.ends.items }
-    ensures laid { IfOk result (IsLaid (whole_of leaves.now) from to) }
+    ensures laid { IfOk result (IsLeafLane (whole_of leaves.now) from to) }
     ensures number { IfOk result (λ lane. lane.lane ≡ worker) }
     ensures room { worker ≡ 0 → IfOk result (λ lane. FirstHasRoom (words_room leaves.now) (length leaves.now.ends.items) (lane ∷ [])) }
 {
@@ -129,11 +129,11 @@ fn lay_lanes<'a>(
     leaves: &'a Leaves<'a>,
     workers: u32,
 ) -> Result<Vec<Lane<LeafDesk<'a>>>, NoMemory>
-    requires leaves { AreLeaves leaves.now }
+    requires leaves { HasLeafFacts leaves.now }
     requires some { 1 ≤ workers }
     ensures count { IfOk result (λ lanes. length lanes.items ≡ workers) }
     ensures laid { IfOk result (λ lanes. AreLaid (whole_of leaves.now) 0 (length leaves.now.ends.items) lanes.items) }
-    ensures numbered { IfOk result (λ lanes. AreNumbered 0 lanes.items) }
+    ensures numbered { IfOk result (λ lanes. AreLanesFrom 0 lanes.items) }
     ensures room { IfOk result (λ lanes. FirstHasRoom (words_room leaves.now) (length leaves.now.ends.items) lanes.items) }
 {
     let mut lanes = Vec::with_capacity(alloc, workers as usize)?;
@@ -197,12 +197,12 @@ fn fill_at_once<R: Threads + Sync, G: Gate + Sync>(
     lanes: &mut [Lane<LeafDesk<'_>>],
     gate: &G,
 ) -> (Vec<u64>, Vec<Item>)
-    requires leaves { AreLeaves leaves.now }
+    requires leaves { HasLeafFacts leaves.now }
     requires some { 1 ≤ length lanes.old }
     requires laid { AreLaid (whole_of leaves.now) 0 (length leaves.now.ends.items) lanes.old }
-    requires numbered { AreNumbered 0 lanes.old }
+    requires numbered { AreLanesFrom 0 lanes.old }
     requires room { FirstHasRoom (words_room leaves.now) (length leaves.now.ends.items) lanes.old }
-    ensures words { result.0.items ≡ words_in (whole_of leaves.now) }
+    ensures words { result.0.items ≡ chunk_words (whole_of leaves.now) }
     ensures heads { result.1.items ≡ heads_in (whole_of leaves.now) }
     ensures room { words_room leaves.now ≤ vec_capacity result.0 }
     ensures turns { TookTurns (G.passed gate.now) (length lanes.old) }
@@ -214,8 +214,8 @@ fn fill_at_once<R: Threads + Sync, G: Gate + Sync>(
 /// The leaves, filled by the caller alone.
 #[tactic(auto, using(crate::proofs::Laying::columns_grow))]
 fn fill_alone(alloc: Global, leaves: &Leaves) -> Result<(Vec<u64>, Vec<Item>), NoMemory>
-    requires { AreLeaves leaves.now }
-    ensures words { IfOk result (λ r. r.0.items ≡ words_in (whole_of leaves.now)) }
+    requires { HasLeafFacts leaves.now }
+    ensures words { IfOk result (λ r. r.0.items ≡ chunk_words (whole_of leaves.now)) }
     ensures heads { IfOk result (λ r. r.1.items ≡ heads_in (whole_of leaves.now)) }
     ensures room { IfOk result (λ r. words_room leaves.now ≤ vec_capacity r.0) }
 {

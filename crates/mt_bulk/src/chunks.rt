@@ -7,7 +7,7 @@ ghost use Rattle.mt_layout.specs.Columns.{FitRow, RiseFrom, end_of, row_words};
 ghost use Rattle.mt_layout.specs.Rows.{name_at, IsRowNumber};
 ghost use Rattle.mt_layout.specs.Sizes.{gaps_of, slots_of};
 ghost use Rattle.mt_bulk.specs.Bulk as defined;
-ghost use Rattle.mt_bulk.specs.Chunks.{AreRows, begins_at, heads_in, view_of, words_in};
+ghost use Rattle.mt_bulk.specs.Chunks.{AreRows, begins_at, heads_in, view_of, chunk_words};
 
 use mt_base::{Kind, Width, cols, finds_room, width_of};
 use mt_layout::{Item, MOST_WORDS, RowKind, gap_of, name_of, words_of};
@@ -147,7 +147,7 @@ pub fn fill_rows(chunk: &Chunk, words: &mut Vec<u64>, heads: &mut Vec<Item>)
     requires rows { AreRows (view_of chunk.now) }
     requires words { vec_len words.old + columns (kind_width chunk.now.tree) * length chunk.now.ends.now ≤ vec_capacity words.old }
     requires heads { vec_len heads.old + length chunk.now.ends.now ≤ vec_capacity heads.old }
-    ensures words { words.new.items ≡ words.old.items ++ words_in (view_of chunk.now) }
+    ensures words { words.new.items ≡ words.old.items ++ chunk_words (view_of chunk.now) }
     ensures heads { heads.new.items ≡ heads.old.items ++ heads_in (view_of chunk.now) }
     ensures capacity { vec_capacity words.old ≤ vec_capacity words.new }
     ensures room { vec_capacity heads.new ≡ vec_capacity heads.old }

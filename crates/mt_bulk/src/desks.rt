@@ -14,11 +14,11 @@ pub struct LeafDesk<'a> {
 
 impl<'a> Desk for LeafDesk<'a> {
     ghost use Rattle.std.specs.Prelude.{◌≤◌, vec_len, vec_capacity};
-    ghost use Rattle.mt_bulk.specs.Chunks.{HasFilled, IsReady, view_of};
+    ghost use Rattle.mt_bulk.specs.Chunks.{HasFilled, IsFillable, view_of};
 
     ghost count = { λ _. 1 };
 
-    ghost awaits = { λ d _. IsReady (view_of d.chunk) (vec_len d.words) (vec_capacity d.words) (vec_len d.heads) (vec_capacity d.heads) };
+    ghost awaits = { λ d _. IsFillable (view_of d.chunk) (vec_len d.words) (vec_capacity d.words) (vec_len d.heads) (vec_capacity d.heads) };
 
     ghost did = { λ a _ b. HasFilled (view_of a.chunk) a.words.items b.words.items a.heads.items b.heads.items
         × (vec_capacity a.words ≤ vec_capacity b.words) × (vec_capacity a.heads ≤ vec_capacity b.heads) };

@@ -8,7 +8,7 @@ ghost use Rattle.mt_layout.specs.Sizes.{slots_of};
 ghost use Rattle.mt_bulk.specs.Bulk.{rows_up};
 ghost use Rattle.mt_bulk.specs.Cuts.{cut, ends_from, leaf_size};
 ghost use Rattle.mt_bulk.specs.Items.{items_of, misplaced};
-ghost use Rattle.mt_bulk.specs.Builds.{AreLeaves, refusal, too_many};
+ghost use Rattle.mt_bulk.specs.Builds.{HasLeafFacts, refusal, too_many};
 
 use crate::chunks::Chunk;
 use crate::cuts::leaf_ends;
@@ -97,7 +97,7 @@ pub(crate) fn leaves_of<'a>(
     requires { 1 ≤ length ranges.now }
     ensures kind { IfOk result (λ leaves. leaves.kind ≡ kind) }
     ensures ranges { IfOk result (λ leaves. leaves.ranges.now ≡ ranges.now) }
-    ensures ok { IfOk result AreLeaves }
+    ensures ok { IfOk result HasLeafFacts }
     ensures err { IfErr result (λ e. e ≢ BulkError.NoMemory → refusal kind ranges.now ≡ Some e) }
 {
     if ranges.len() > TOO_LONG {
@@ -120,8 +120,8 @@ pub(crate) fn leaves_of<'a>(
 
 impl<'a> Leaves<'a> {
     ghost use Rattle.std.specs.Prelude.{◌≡◌, ◌≤◌, length};
-    ghost use Rattle.mt_bulk.specs.Builds.{AreLeaves, whole_of};
-    ghost use Rattle.mt_bulk.specs.Chunks.{part_of, view_of};
+    ghost use Rattle.mt_bulk.specs.Builds.{HasLeafFacts, whole_of};
+    ghost use Rattle.mt_bulk.specs.Chunks.{chunk_part, view_of};
 
     /// All leaves as one chunk.
     pub(crate) fn chunk(&self) -> Chunk<'_>
@@ -140,10 +140,10 @@ impl<'a> Leaves<'a> {
 
     /// The leaves from a place up to another.
     pub(crate) fn part(&self, from: usize, to: usize) -> Chunk<'_>
-        requires leaves { AreLeaves self.now }
+        requires leaves { HasLeafFacts self.now }
         requires order { from ≤ to }
         requires inside { to ≤ length self.now.ends.items }
-        ensures { view_of result ≡ part_of (whole_of self.now) from to }
+        ensures { view_of result ≡ chunk_part (whole_of self.now) from to }
     {
         Chunk {
             tree: self.kind,

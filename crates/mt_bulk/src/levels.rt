@@ -9,7 +9,7 @@ ghost use Rattle.mt_layout.specs.Rows.{parent_at};
 ghost use Rattle.mt_bulk.specs.Builds.{AreLevels, HavePushed, IsLevelOf};
 ghost use Rattle.mt_bulk.specs.Bulk as defined;
 ghost use Rattle.mt_rows.specs.Spans.{inner_kind};
-ghost use Rattle.mt_bulk.specs.Bulk.{parents_in, raised, rows_up};
+ghost use Rattle.mt_bulk.specs.Bulk.{parents_in, levels_built, rows_up};
 ghost use Rattle.mt_bulk.specs.Chunks.{IsLevel};
 ghost use Rattle.mt_bulk.specs.Cuts as cuts;
 ghost use Rattle.mt_bulk.specs.Cuts.{cut, ends_from, inner_size};
@@ -213,9 +213,9 @@ pub(crate) fn raise(
 ) -> u64
     requires level { IsLevel tree number items.now }
     requires levels { AreLevels tree number (length items.now) levels.old }
-    requires room { vec_len words.old + length (raised tree (inner_kind tree) number items.now).words ≤ vec_capacity words.old }
-    ensures root { result ≡ (raised tree (inner_kind tree) number items.now).root }
-    ensures words { words.new.items ≡ words.old.items ++ (raised tree (inner_kind tree) number items.now).words }
+    requires room { vec_len words.old + length (levels_built tree (inner_kind tree) number items.now).words ≤ vec_capacity words.old }
+    ensures root { result ≡ (levels_built tree (inner_kind tree) number items.now).root }
+    ensures words { words.new.items ≡ words.old.items ++ (levels_built tree (inner_kind tree) number items.now).words }
 {
     let Some((level, above)) = levels.split_first_mut() else {
         unreachable!()

@@ -7,19 +7,19 @@ use Rattle.mt_log.specs.Run.{IsRun}
 use Rattle.mt_verify.specs.declared.verdicts.Verdict.{Verdict}
 use Rattle.mt_verify.specs.declared.verdicts.Verdict.TheVariants.{Yes, No}
 use Rattle.mt_verify.specs.Points.{AreLeastPoints, IsVerdict}
-use Rattle.mt_verify.specs.Tellings.{calls_told}
+use Rattle.mt_verify.specs.Tellings.{count_of_calls}
 use Rattle.mt_verify.proofs.Tellings.{reads_are_points}
-use Rattle.mt_c.specs.Batch.{IsNoRun, IsShort, IsTextOfRun, IsVerified, Writes}
+use Rattle.mt_c.specs.Batch.{IsNoRun, IsBufferShort, IsTextOfRun, IsVerified, WritesText}
 
 pub writes : (rows : ℕ) (bytes before after text : List ℕ) (used : ℕ) → IsTextOfRun rows bytes text → used ≡ length text → length text ≤ length before
-    → after ≡ text ++ drop (length text) before → Writes rows bytes before after used
+    → after ≡ text ++ drop (length text) before → WritesText rows bytes before after used
 writes rows bytes before after text used run count room put = (text, run, count, room, put)
 
-pub is_short : (rows : ℕ) (bytes before text : List ℕ) (used : ℕ) → IsTextOfRun rows bytes text → used ≡ length text → length before < length text → IsShort rows bytes before used
+pub is_short : (rows : ℕ) (bytes before text : List ℕ) (used : ℕ) → IsTextOfRun rows bytes text → used ≡ length text → length before < length text → IsBufferShort rows bytes before used
 is_short rows bytes before text used run count lacks = (text, run, count, lacks)
 
 pub verified_so : (rows : ℕ) (bytes text : List ℕ) (log : Log) (verdict : Verdict) (points : List ℕ) (calls reads : ℕ) → log_of bytes ≡ Ok log → verdict ≡ Yes points
-    → IsVerdict log rows text verdict → ((n : ℕ) (t : Transcript) → IsRun log n t → calls_told t ≡ calls) → reads ≡ length points → IsVerified rows bytes text calls reads
+    → IsVerdict log rows text verdict → ((n : ℕ) (t : Transcript) → IsRun log n t → count_of_calls t ≡ calls) → reads ≡ length points → IsVerified rows bytes text calls reads
 verified_so rows bytes text log verdict points calls reads found is judged told counted =
     let least : AreLeastPoints log rows text points = subst (IsVerdict log rows text) is judged in
     let t : Transcript = least.transcript in

@@ -5,18 +5,19 @@ use Rattle.mt_base.specs.declared.ranges.Range.{Range}
 use Rattle.mt_read.specs.Cursors.{place_behind}
 use Rattle.mt_tree.specs.declared.shapes.Read.{Read}
 use Rattle.mt_tree.specs.declared.trees.Tree.{Tree}
-use Rattle.mt_c.specs.declared.shared_told.Window.{Window}
+use Rattle.mt_c.specs.declared.shared_told.CallWindow.{CallWindow}
 use Rattle.mt_c.specs.declared.steps.OutWalk.{OutWalk}
 use Rattle.mt_c.specs.declared.told.OutRange.{OutRange}
 use Rattle.mt_c.specs.declared.user.User.{User}
 use Rattle.mt_c.specs.declared.walker.Walker.{Walker}
-use Rattle.mt_c.specs.Bounded.{IsLeftTo, SharedSteppedTo, SteppedTo, StepsTo, place_to, up_to}
+use Rattle.mt_c.specs.Bounded.{IsLeftTo, SharedSteppedTo, SteppedTo, StepsTo, place_to}
 use Rattle.mt_c.specs.Calls.{found_status, no_range, out_of}
 use Rattle.mt_c.specs.Own.{OwnTree}
-use Rattle.mt_c.specs.Shared.{answer_status, common_of, no_window, tree_of, window_of}
+use Rattle.mt_c.specs.Shared.{answer_status, common_of, no_window, user_tree, window_of}
 use Rattle.mt_c.specs.Walkers.{StepsFrom, knows}
-use Rattle.mt_c.specs.Walking.{IsStepped, index_of, walk_from}
+use Rattle.mt_c.specs.Walking.{IsStepped, walk_index, walk_from}
 use Rattle.mt_c.proofs.Sharing.{on_closed, on_open}
+use Rattle.mt_list.specs.Places.{up_to}
 
 -- ---- the walk of a pass
 
@@ -43,7 +44,7 @@ steps_off t w v w' max place from found r value same steps is ends told known no
 -- ---- what C is told
 
 module _ (max : ℕ) (walk walk' : OutWalk) (before after : Option OwnTree) (status : ℕ) (out : OutRange) where
-  pub stepped_open : (t t' : OwnTree) (index place behind goes : Option ℕ) (found value : Option Range) → before ≡ Some t → after ≡ Some t' → index ≡ index_of walk → place ≡ place_to max index → IsStepped t t' place found → behind ≡ t'.place.next
+  pub stepped_open : (t t' : OwnTree) (index place behind goes : Option ℕ) (found value : Option Range) → before ≡ Some t → after ≡ Some t' → index ≡ walk_index walk → place ≡ place_to max index → IsStepped t t' place found → behind ≡ t'.place.next
       → goes ≡ place_to max behind → value ≡ up_to max found → status ≡ found_status value → out ≡ out_of value → walk' ≡ walk_from goes → SteppedTo max walk before after status out walk'
   stepped_open t t' index place behind goes found value was is from bound step ends on told number shown left =
       subst (λ (x : Option OwnTree × Option OwnTree). SteppedTo max walk x.0 x.1 status out walk') (λ i. (sym was i, sym is i))
@@ -52,11 +53,11 @@ module _ (max : ℕ) (walk walk' : OutWalk) (before after : Option OwnTree) (sta
   pub stepped_closed : before ≡ None → after ≡ None → status ≡ 9 → out ≡ no_range → walk' ≡ walk → SteppedTo max walk before after status out walk'
   stepped_closed was is number shown stays = subst (λ (x : Option OwnTree × Option OwnTree). SteppedTo max walk x.0 x.1 status out walk') (λ i. (sym was i, sym is i)) (refl, number, shown, stays)
 
-module _ (max : ℕ) (w w' : OutWalk) (before after : Option User) (status : ℕ) (out : Window) where
-  pub shared_open : (from : Option ℕ) (u v : User) (r : Read (Option Range)) → from ≡ index_of w → before ≡ Some u → after ≡ Some v → common_of v ≡ common_of u → v.chair ≡ u.chair → v.receipts ≡ u.receipts
-      → StepsTo (tree_of u) u.walker max (place_to max from) r v.walker → status ≡ answer_status (Ok r) → out ≡ window_of (Ok r) → w' ≡ walk_from (place_behind r.value max) → SharedSteppedTo max w w' before after status out
+module _ (max : ℕ) (w w' : OutWalk) (before after : Option User) (status : ℕ) (out : CallWindow) where
+  pub shared_open : (from : Option ℕ) (u v : User) (r : Read (Option Range)) → from ≡ walk_index w → before ≡ Some u → after ≡ Some v → common_of v ≡ common_of u → v.chair ≡ u.chair → v.receipts ≡ u.receipts
+      → StepsTo (user_tree u) u.walker max (place_to max from) r v.walker → status ≡ answer_status (Ok r) → out ≡ window_of (Ok r) → w' ≡ walk_from (place_behind r.value max) → SharedSteppedTo max w w' before after status out
   shared_open from u v r place was is common chair kept said number shown behind =
-      let stepped = subst (λ (i : Option ℕ). StepsTo (tree_of u) u.walker max (place_to max i) r v.walker) place said in
+      let stepped = subst (λ (i : Option ℕ). StepsTo (user_tree u) u.walker max (place_to max i) r v.walker) place said in
       on_open before after u v status _ _ was is common (r, stepped, record { common = common; chair = chair; receipts = kept }, number, shown, behind)
 
   pub shared_closed : before ≡ None → after ≡ None → status ≡ 9 → out ≡ no_window → w' ≡ w → SharedSteppedTo max w w' before after status out

@@ -9,7 +9,7 @@ use Rattle.mt_rows.specs.Sheet.{OnlyReads, Rooted, Sheet}
 use Rattle.mt_engine.specs.Engine.{Parts}
 use Rattle.mt_tree.specs.Copies.{IsReadyToOpen, live_rows}
 use Rattle.mt_c.specs.Calls.{IsAsked}
-use Rattle.mt_c.specs.Copying.{Copied, Fits, IsCopyIn, IsOpenedWith, Lacks, Opens}
+use Rattle.mt_c.specs.Copying.{Copied, FitsRows, IsCopyInRows, IsOpenedWith, LacksTree, OpensHandle}
 use Rattle.mt_c.specs.Images.{IsOfImage, LacksImage}
 use Rattle.mt_c.specs.Own.{OwnTree}
 
@@ -26,20 +26,20 @@ module _ (e : Parts) (s : Sheet) (kind : Kind) (used rows : ℕ) (taken : s ≡ 
   used_there : used ≡ live_rows e.sheet.tree
   used_there = count ∙ ap (λ (x : Sheet). live_rows x.tree) taken
 
-  pub copy_in : (t : Parts) → Fits used rows → IsOpenedWith kind rows (map_by s.tree) t → IsCopyIn rows e t
+  pub copy_in : (t : Parts) → FitsRows used rows → IsOpenedWith kind rows (map_by s.tree) t → IsCopyInRows rows e t
   copy_in t fits opened = (
-    subst (λ (n : ℕ). Fits n rows) used_there fits,
+    subst (λ (n : ℕ). FitsRows n rows) used_there fits,
     subst (λ (x : Kind × Sheet). IsOpenedWith x.0 rows (map_by x.1.tree) t) (λ i. (same i, taken i)) opened,
   )
 
-  pub lacks_in : (status : ℕ) → Lacks used rows status → Lacks (live_rows e.sheet.tree) rows status
-  lacks_in status lacks = subst (λ (n : ℕ). Lacks n rows status) used_there lacks
+  pub lacks_in : (status : ℕ) → LacksTree used rows status → LacksTree (live_rows e.sheet.tree) rows status
+  lacks_in status lacks = subst (λ (n : ℕ). LacksTree n rows status) used_there lacks
 
-  pub copy_told : {X : Type 0} (made : Result X ℕ) (engine_of : X → Parts) → IfOk made (λ x. Fits used rows) → IfOk made (λ x. IsOpenedWith kind rows (map_by s.tree) (engine_of x)) → IfOk made (λ x. IsCopyIn rows e (engine_of x))
+  pub copy_told : {X : Type 0} (made : Result X ℕ) (engine_of : X → Parts) → IfOk made (λ x. FitsRows used rows) → IfOk made (λ x. IsOpenedWith kind rows (map_by s.tree) (engine_of x)) → IfOk made (λ x. IsCopyInRows rows e (engine_of x))
   copy_told (Ok x) engine_of fits opened = copy_in (engine_of x) fits opened
   copy_told (Err n) engine_of fits opened = fits
 
-  pub lacks_told : {X : Type 0} (made : Result X ℕ) → IfErr made (Lacks used rows) → IfErr made (Lacks (live_rows e.sheet.tree) rows)
+  pub lacks_told : {X : Type 0} (made : Result X ℕ) → IfErr made (LacksTree used rows) → IfErr made (LacksTree (live_rows e.sheet.tree) rows)
   lacks_told (Ok x) lacks = lacks
   lacks_told (Err n) lacks = lacks_in n lacks
 
@@ -54,40 +54,40 @@ boxed_with kind rows m e t t' opened begun boxed = subst (IsOpenedWith kind rows
 -- ---- what C keeps
 
 module _ (is : Parts → Type 0) (lacks : ℕ → Type 0) (before after : Option OwnTree) (status : ℕ) where
-  opens_busy : (t : OwnTree) → before ≡ Some t → after ≡ Some t → status ≡ 114 → Opens is lacks before after status
-  opens_busy t was stays number = subst (λ (x : Option OwnTree). Opens is lacks x after status) (sym was) (stays, number)
+  opens_busy : (t : OwnTree) → before ≡ Some t → after ≡ Some t → status ≡ 114 → OpensHandle is lacks before after status
+  opens_busy t was stays number = subst (λ (x : Option OwnTree). OpensHandle is lacks x after status) (sym was) (stays, number)
 
-  opens_made : (t : OwnTree) → before ≡ None → after ≡ Some t → status ≡ 0 → is t.engine → Opens is lacks before after status
-  opens_made t was made number ok = subst (λ (x : Option OwnTree × Option OwnTree). Opens is lacks x.0 x.1 status) (λ i. (sym was i, sym made i)) (number, ok)
+  opens_made : (t : OwnTree) → before ≡ None → after ≡ Some t → status ≡ 0 → is t.engine → OpensHandle is lacks before after status
+  opens_made t was made number ok = subst (λ (x : Option OwnTree × Option OwnTree). OpensHandle is lacks x.0 x.1 status) (λ i. (sym was i, sym made i)) (number, ok)
 
-  opens_none : before ≡ None → after ≡ None → lacks status → Opens is lacks before after status
-  opens_none was stays why = subst (λ (x : Option OwnTree × Option OwnTree). Opens is lacks x.0 x.1 status) (λ i. (sym was i, sym stays i)) why
+  opens_none : before ≡ None → after ≡ None → lacks status → OpensHandle is lacks before after status
+  opens_none was stays why = subst (λ (x : Option OwnTree × Option OwnTree). OpensHandle is lacks x.0 x.1 status) (λ i. (sym was i, sym stays i)) why
 
 module _ (rows : ℕ) (before after copy copy' : Option OwnTree) (status : ℕ) where
   pub copied_closed : before ≡ None → after ≡ None → copy' ≡ copy → status ≡ 9 → Copied rows before after copy copy' status
   copied_closed was is same number = subst (λ (x : Option OwnTree). Copied rows x after copy copy' status) (sym was) (is, same, number)
 
   module _ (t t' : OwnTree) (was : before ≡ Some t) (is : after ≡ Some t') (asked : IsAsked t.engine t'.engine) where
-    opens_so : Opens (IsCopyIn rows t.engine) (Lacks (live_rows t.engine.sheet.tree) rows) copy copy' status → Copied rows before after copy copy' status
+    opens_so : OpensHandle (IsCopyInRows rows t.engine) (LacksTree (live_rows t.engine.sheet.tree) rows) copy copy' status → Copied rows before after copy copy' status
     opens_so opens = subst (λ (x : Option OwnTree × Option OwnTree). Copied rows x.0 x.1 copy copy' status) (λ i. (sym was i, sym is i)) (asked, opens)
 
-    pub copied_made : (c : OwnTree) → copy ≡ None → copy' ≡ Some c → status ≡ 0 → IsCopyIn rows t.engine c.engine → Copied rows before after copy copy' status
-    copied_made c none made number ok = opens_so (opens_made (IsCopyIn rows t.engine) (Lacks (live_rows t.engine.sheet.tree) rows) copy copy' status c none made number ok)
+    pub copied_made : (c : OwnTree) → copy ≡ None → copy' ≡ Some c → status ≡ 0 → IsCopyInRows rows t.engine c.engine → Copied rows before after copy copy' status
+    copied_made c none made number ok = opens_so (opens_made (IsCopyInRows rows t.engine) (LacksTree (live_rows t.engine.sheet.tree) rows) copy copy' status c none made number ok)
 
-    pub copied_none : copy ≡ None → copy' ≡ None → Lacks (live_rows t.engine.sheet.tree) rows status → Copied rows before after copy copy' status
-    copied_none none stays why = opens_so (opens_none (IsCopyIn rows t.engine) (Lacks (live_rows t.engine.sheet.tree) rows) copy copy' status none stays why)
+    pub copied_none : copy ≡ None → copy' ≡ None → LacksTree (live_rows t.engine.sheet.tree) rows status → Copied rows before after copy copy' status
+    copied_none none stays why = opens_so (opens_none (IsCopyInRows rows t.engine) (LacksTree (live_rows t.engine.sheet.tree) rows) copy copy' status none stays why)
 
   -- the copy was open, and the tree is as it was
   pub copied_busy : (t c : OwnTree) → before ≡ Some t → after ≡ Some t → copy ≡ Some c → copy' ≡ Some c → status ≡ 114 → Copied rows before after copy copy' status
   copied_busy t c was is there stays number =
-      opens_so t t was is (record { rest = refl; book = refl; kind = refl }) (opens_busy (IsCopyIn rows t.engine) (Lacks (live_rows t.engine.sheet.tree) rows) copy copy' status c there stays number)
+      opens_so t t was is (record { rest = refl; book = refl; kind = refl }) (opens_busy (IsCopyInRows rows t.engine) (LacksTree (live_rows t.engine.sheet.tree) rows) copy copy' status c there stays number)
 
 module _ (bytes : List ℕ) (rows : ℕ) (before after : Option OwnTree) (status : ℕ) where
-  pub image_busy : (t : OwnTree) → before ≡ Some t → after ≡ Some t → status ≡ 114 → Opens (IsOfImage bytes rows) (LacksImage bytes rows) before after status
+  pub image_busy : (t : OwnTree) → before ≡ Some t → after ≡ Some t → status ≡ 114 → OpensHandle (IsOfImage bytes rows) (LacksImage bytes rows) before after status
   image_busy = opens_busy (IsOfImage bytes rows) (LacksImage bytes rows) before after status
 
-  pub image_opened : (t : OwnTree) → before ≡ None → after ≡ Some t → status ≡ 0 → IsOfImage bytes rows t.engine → Opens (IsOfImage bytes rows) (LacksImage bytes rows) before after status
+  pub image_opened : (t : OwnTree) → before ≡ None → after ≡ Some t → status ≡ 0 → IsOfImage bytes rows t.engine → OpensHandle (IsOfImage bytes rows) (LacksImage bytes rows) before after status
   image_opened = opens_made (IsOfImage bytes rows) (LacksImage bytes rows) before after status
 
-  pub image_none : before ≡ None → after ≡ None → LacksImage bytes rows status → Opens (IsOfImage bytes rows) (LacksImage bytes rows) before after status
+  pub image_none : before ≡ None → after ≡ None → LacksImage bytes rows status → OpensHandle (IsOfImage bytes rows) (LacksImage bytes rows) before after status
   image_none = opens_none (IsOfImage bytes rows) (LacksImage bytes rows) before after status

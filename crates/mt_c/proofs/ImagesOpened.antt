@@ -12,7 +12,7 @@ use Rattle.mt_rows.specs.Sheet.{Rooted}
 use Rattle.mt_engine.specs.Engine.{Parts}
 use Rattle.mt_tree.specs.Copies.{live_rows}
 use Rattle.mt_c.specs.Calls.{IsAsked}
-use Rattle.mt_c.specs.Copying.{Fits, IsOpenedWith, Lacks}
+use Rattle.mt_c.specs.Copying.{FitsRows, IsOpenedWith, LacksTree}
 use Rattle.mt_c.specs.Images.{Imaged, IsOfImage, LacksImage, TellsImage}
 use Rattle.mt_c.specs.Own.{OwnTree}
 
@@ -27,11 +27,11 @@ pub used_all : (kind : Kind) (t : Rooted) (used : ℕ) → IsLawfulOf t kind →
 used_all kind t used lawful count = subst (λ (n : ℕ). live_rows t ≤ n) (sym count) (few_reached kind t lawful)
 
 module _ (bytes : List ℕ) (rows : ℕ) (kind : Kind) (tree : Rooted) (used : ℕ) (read : image_in bytes ≡ Ok (record { kind = kind; tree = tree })) (count : used ≡ tree.rows) where
-  pub of_image_in : (t : Parts) → Fits used rows → IsOpenedWith kind rows (map_by tree) t → IsOfImage bytes rows t
-  of_image_in t fits opened = (record { kind = kind; tree = tree }, read, subst (λ (n : ℕ). Fits n rows) count fits, opened)
+  pub of_image_in : (t : Parts) → FitsRows used rows → IsOpenedWith kind rows (map_by tree) t → IsOfImage bytes rows t
+  of_image_in t fits opened = (record { kind = kind; tree = tree }, read, subst (λ (n : ℕ). FitsRows n rows) count fits, opened)
 
-  pub image_lacks : (status : ℕ) → Lacks used rows status → LacksImage bytes rows status
-  image_lacks status (inl few) = inr (inl (record { kind = kind; tree = tree }, read, few.0, λ fits. few.1 (subst (λ (n : ℕ). Fits n rows) (sym count) fits)))
+  pub image_lacks : (status : ℕ) → LacksTree used rows status → LacksImage bytes rows status
+  image_lacks status (inl few) = inr (inl (record { kind = kind; tree = tree }, read, few.0, λ fits. few.1 (subst (λ (n : ℕ). FitsRows n rows) (sym count) fits)))
   image_lacks status (inr none) = inr (inr none.0)
 
 -- ---- writing

@@ -13,9 +13,9 @@ use Rattle.mt_image.specs.Bytes.{kind_code}
 use Rattle.mt_rows.specs.Publish.{map_by}
 use Rattle.mt_rows.specs.Sheet.{Sheet}
 use Rattle.mt_engine.specs.Engine.{Parts}
-use Rattle.mt_c.specs.declared.building.Why.{Why}
+use Rattle.mt_c.specs.declared.building.BuildWhy.{BuildWhy}
 use Rattle.mt_c.specs.Building.{Builds, IsOfRanges, LacksAnyhow, LacksOf, LacksRanges, why_of}
-use Rattle.mt_c.specs.Copying.{Fits, IsOpenedWith, Lacks}
+use Rattle.mt_c.specs.Copying.{FitsRows, IsOpenedWith, LacksTree}
 use Rattle.mt_c.specs.Own.{OwnTree}
 
 -- ---- what a bulk build answers
@@ -48,24 +48,24 @@ many_is : (rows n : ℕ) (o : Option ℕ) → refused_by o rows ≡ Some (TooMan
 many_is rows n None is = (refl, above rows n is)
 many_is rows n (Some a) is = absurd (cc)
 
-why_alone : (kind : Kind) (m : List Range) (e : BulkError) (why : Why) → why ≡ why_of e → (e ≢ NoMemory → refusal kind m ≡ Some e) → LacksAnyhow kind m why
+why_alone : (kind : Kind) (m : List Range) (e : BulkError) (why : BuildWhy) → why ≡ why_of e → (e ≢ NoMemory → refusal kind m ≡ Some e) → LacksAnyhow kind m why
 unfolding refusal
-why_alone kind m NoMemory why is tells = inr (subst (λ (w : Why). (w.status ≡ 12) × (w.at ≡ 0)) (sym is) (refl, refl))
+why_alone kind m NoMemory why is tells = inr (subst (λ (w : BuildWhy). (w.status ≡ 12) × (w.at ≡ 0)) (sym is) (refl, refl))
 why_alone kind m (Order at) why is tells =
     let here = order_is (rows_in kind m) at (misplaced kind m) (tells (λ same. absurd (cc))) in
-    inl (λ rows. subst (λ (w : Why). LacksOf kind rows m w.status w.at) (sym is) (inl (refl, here)))
+    inl (λ rows. subst (λ (w : BuildWhy). LacksOf kind rows m w.status w.at) (sym is) (inl (refl, here)))
 why_alone kind m (TooMany n) why is tells =
     let two = many_is (rows_in kind m) n (misplaced kind m) (tells (λ same. absurd (cc))) in
     let high = two.1 in
-    inl (λ rows. subst (λ (w : Why). LacksOf kind rows m w.status w.at) (sym is) (inr (refl, refl, two.0, λ fits. (let low = fits.0 in let top = fits.1 in omega (arith, low, top, high)))))
+    inl (λ rows. subst (λ (w : BuildWhy). LacksOf kind rows m w.status w.at) (sym is) (inr (refl, refl, two.0, λ fits. (let low = fits.0 in let top = fits.1 in omega (arith, low, top, high)))))
 
-pub why_refused : (kind : Kind) (m m' : List Range) (e : BulkError) (why : Why) → m ≡ m' → why ≡ why_of e → (e ≢ NoMemory → refusal kind m ≡ Some e) → LacksAnyhow kind m' why
+pub why_refused : (kind : Kind) (m m' : List Range) (e : BulkError) (why : BuildWhy) → m ≡ m' → why ≡ why_of e → (e ≢ NoMemory → refusal kind m ≡ Some e) → LacksAnyhow kind m' why
 why_refused kind m m' e why same is tells = subst (λ (x : List Range). LacksAnyhow kind x why) same (why_alone kind m e why is tells)
 
 -- ---- a tree, or none
 
 module _ (code rows : ℕ) (kind : Kind) (m : List Range) (coded : kind_code kind ≡ code) where
-  pub lacks_anyhow : (why : Why) → LacksAnyhow kind m why → LacksRanges code rows m why.status why.at
+  pub lacks_anyhow : (why : BuildWhy) → LacksAnyhow kind m why → LacksRanges code rows m why.status why.at
   lacks_anyhow why (inl each) = inr (inl (kind, coded, each rows))
   lacks_anyhow why (inr none) = inr (inr none)
 
@@ -73,13 +73,13 @@ module _ (code rows : ℕ) (kind : Kind) (m : List Range) (coded : kind_code kin
     used_is : used ≡ rows_in kind m
     used_is = count ∙ ap (λ (x : Sheet). x.tree.rows) built.words.rest
 
-    pub of_ranges_in : (t : Parts) → Fits used rows → IsOpenedWith kind rows (map_by s.tree) t → IsOfRanges code rows m t
-    of_ranges_in t fits opened = (kind, coded, good, subst (λ (n : ℕ). Fits n rows) used_is fits, subst (λ (x : List Range). IsOpenedWith kind rows x t) built.map opened)
+    pub of_ranges_in : (t : Parts) → FitsRows used rows → IsOpenedWith kind rows (map_by s.tree) t → IsOfRanges code rows m t
+    of_ranges_in t fits opened = (kind, coded, good, subst (λ (n : ℕ). FitsRows n rows) used_is fits, subst (λ (x : List Range). IsOpenedWith kind rows x t) built.map opened)
 
-    pub ranges_lack : (status : ℕ) (why : Why) → Lacks used rows status → why ≡ record { status = status; at = 0 } → LacksRanges code rows m why.status why.at
+    pub ranges_lack : (status : ℕ) (why : BuildWhy) → LacksTree used rows status → why ≡ record { status = status; at = 0 } → LacksRanges code rows m why.status why.at
     ranges_lack status why (inl few) is =
-        subst (λ (w : Why). LacksRanges code rows m w.status w.at) (sym is) (inr (inl (kind, coded, inr (few.0, refl, good, λ fits. few.1 (subst (λ (n : ℕ). Fits n rows) (sym used_is) fits)))))
-    ranges_lack status why (inr none) is = subst (λ (w : Why). LacksRanges code rows m w.status w.at) (sym is) (inr (inr (none.0, refl)))
+        subst (λ (w : BuildWhy). LacksRanges code rows m w.status w.at) (sym is) (inr (inl (kind, coded, inr (few.0, refl, good, λ fits. few.1 (subst (λ (n : ℕ). FitsRows n rows) (sym used_is) fits)))))
+    ranges_lack status why (inr none) is = subst (λ (w : BuildWhy). LacksRanges code rows m w.status w.at) (sym is) (inr (inr (none.0, refl)))
 
 -- ---- what C keeps
 
@@ -90,6 +90,6 @@ module _ (code rows : ℕ) (m : List Range) (before after : Option OwnTree) (sta
   pub builds_made : (t : OwnTree) → before ≡ None → after ≡ Some t → status ≡ 0 → at ≡ 0 → IsOfRanges code rows m t.engine → Builds code rows m before after status at
   builds_made t was made number place ok = subst (λ (x : Option OwnTree × Option OwnTree). Builds code rows m x.0 x.1 status at) (λ i. (sym was i, sym made i)) (number, place, ok)
 
-  pub builds_none : (why : Why) → before ≡ None → after ≡ None → status ≡ why.status → at ≡ why.at → LacksRanges code rows m why.status why.at → Builds code rows m before after status at
+  pub builds_none : (why : BuildWhy) → before ≡ None → after ≡ None → status ≡ why.status → at ≡ why.at → LacksRanges code rows m why.status why.at → Builds code rows m before after status at
   builds_none why was stays number place lacks =
       subst (λ (x : Option OwnTree × (Option OwnTree × (ℕ × ℕ))). Builds code rows m x.0 x.1.0 x.1.1.0 x.1.1.1) (λ i. (sym was i, (sym stays i, (sym number i, sym place i)))) lacks

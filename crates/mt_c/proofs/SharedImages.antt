@@ -14,7 +14,7 @@ use Rattle.mt_image.proofs.FewReached.{few_reached}
 use Rattle.mt_rows.specs.Publish.{IsLawfulOf, map_by}
 use Rattle.mt_rows.specs.Sheet.{Rooted, Sheet}
 use Rattle.mt_tree.specs.declared.shapes.Shape.{Shape}
-use Rattle.mt_c.specs.declared.building.Why.{Why}
+use Rattle.mt_c.specs.declared.building.BuildWhy.{BuildWhy}
 use Rattle.mt_c.specs.declared.user.User.{User}
 use Rattle.mt_c.specs.Building.{LacksAnyhow}
 use Rattle.mt_c.specs.SharedImages.{IsFirstOfImage, IsFirstOfRanges, LacksFirstOfImage, LacksFirstOfRanges, LacksMany, OpensUser, SharedBuilds}
@@ -44,21 +44,21 @@ module _ (bytes : List ℕ) (rows passes calls : ℕ) where
 -- ---- ranges
 
 module _ (code rows passes calls : ℕ) (m : List Range) where
-  pub no_kind_ranges : (why : Why) → why ≡ record { status = 22; at = 0 } → ((kind : Kind) → kind_code kind ≢ code) → LacksFirstOfRanges code rows passes calls m why.status why.at
-  no_kind_ranges why is none = subst (λ (w : Why). LacksFirstOfRanges code rows passes calls m w.status w.at) (sym is) (inl (inl (refl, refl, none)))
+  pub no_kind_ranges : (why : BuildWhy) → why ≡ record { status = 22; at = 0 } → ((kind : Kind) → kind_code kind ≢ code) → LacksFirstOfRanges code rows passes calls m why.status why.at
+  no_kind_ranges why is none = subst (λ (w : BuildWhy). LacksFirstOfRanges code rows passes calls m w.status w.at) (sym is) (inl (inl (refl, refl, none)))
 
   module _ (kind : Kind) (coded : kind_code kind ≡ code) where
-    pub no_ranges : (why : Why) → LacksAnyhow kind m why → LacksFirstOfRanges code rows passes calls m why.status why.at
+    pub no_ranges : (why : BuildWhy) → LacksAnyhow kind m why → LacksFirstOfRanges code rows passes calls m why.status why.at
     no_ranges why lacks = inl (lacks_anyhow code rows kind m coded why lacks)
 
     module _ (s : Sheet) (built : IsBuilt kind m s) where
       pub of_ranges : (u : User) → misplaced kind m ≡ None → IsFirstWith (shape_for kind rows passes calls) (map_by s.tree) u → IsFirstOfRanges code rows passes calls m u
       of_ranges u good first = (kind, coded, good, subst (λ (x : List Range). IsFirstWith (shape_for kind rows passes calls) x u) built.map first)
 
-      pub ranges_lack : (status : ℕ) (why : Why) → LacksWith (shape_for kind rows passes calls) s.tree status → why ≡ record { status = status; at = 0 } → LacksFirstOfRanges code rows passes calls m why.status why.at
+      pub ranges_lack : (status : ℕ) (why : BuildWhy) → LacksWith (shape_for kind rows passes calls) s.tree status → why ≡ record { status = status; at = 0 } → LacksFirstOfRanges code rows passes calls m why.status why.at
       ranges_lack status why lacks is =
           let many : s.tree.rows ≡ rows_in kind m = ap (λ (x : Sheet). x.tree.rows) built.words.rest in
-          subst (λ (w : Why). LacksFirstOfRanges code rows passes calls m w.status w.at) (sym is)
+          subst (λ (w : BuildWhy). LacksFirstOfRanges code rows passes calls m w.status w.at) (sym is)
           (inr (kind, coded, refl, subst (λ (n : ℕ). LacksMany (shape_for kind rows passes calls) n status) many (many_lack (shape_for kind rows passes calls) s.tree status built.lawful lacks)))
 
 -- ---- what C keeps
@@ -80,6 +80,6 @@ module _ (code rows passes calls : ℕ) (m : List Range) (before after : Option 
   pub builds_made : (u : User) → before ≡ None → after ≡ Some u → status ≡ 0 → at ≡ 0 → IsFirstOfRanges code rows passes calls m u → SharedBuilds code rows passes calls m before after status at
   builds_made u was made number place ok = rw (was, made) (number, place, ok)
 
-  pub builds_none : (why : Why) → before ≡ None → after ≡ None → status ≡ why.status → at ≡ why.at → LacksFirstOfRanges code rows passes calls m why.status why.at → SharedBuilds code rows passes calls m before after status at
+  pub builds_none : (why : BuildWhy) → before ≡ None → after ≡ None → status ≡ why.status → at ≡ why.at → LacksFirstOfRanges code rows passes calls m why.status why.at → SharedBuilds code rows passes calls m before after status at
   builds_none why was stays number place lacks =
       subst (λ (x : Option User × (Option User × (ℕ × ℕ))). SharedBuilds code rows passes calls m x.0 x.1.0 x.1.1.0 x.1.1.1) (λ i. (sym was i, (sym stays i, (sym number i, sym place i)))) lacks

@@ -23,11 +23,11 @@ use Rattle.mt_c.specs.declared.user_opens.Left.{Left}
 use Rattle.mt_c.specs.declared.user_opens.Unchanged.{Unchanged}
 use Rattle.mt_c.specs.declared.shared_told.Outcome.{Outcome}
 use Rattle.mt_c.specs.declared.steps.OutWalk.{OutWalk}
-use Rattle.mt_c.specs.declared.shared_told.Window.{Window}
+use Rattle.mt_c.specs.declared.shared_told.CallWindow.{CallWindow}
 use Rattle.mt_c.specs.Receipts.{when_given, when_settled, when_synced, when_tried, when_unchanged}
-use Rattle.mt_c.specs.Shared.{HasLeft, HasSettled, HasShared, HasSynced, HasTried, IsBadShape, IsFirst, IsMeant, IsUnchanged, IsOfPurse, IsSettled, Settled, IsShape, IsSynced, IsWhy, OnUser, WantsNoPlace, SharedAsked, SharedLearned, SharedLeft, SharedNew, SharedOpened, SharedPaused, SharedSettled, SharedStepped, SharedSynced, SharedTried, SharedWith, WentToSettle, answer_status, calls_told, common_of, cuts, field_status, known_to, no_outcome, no_window, outcome_of, paused, rested, settled_status, settled_told, synced_status, tree_of, tried_status, unchanged_status, went_on, window_of}
-use Rattle.mt_c.specs.Walkers.{Answer, GaveUp, IsAnswer, IsAtRest, IsTried, StepsFrom, Took, Tried, TriedOnce, WentOnce, knows}
-use Rattle.mt_c.specs.Walking.{index_of}
+use Rattle.mt_c.specs.Shared.{HasLeft, HasSettled, HasShared, HasSynced, HasTried, IsBadShape, IsFirstUser, IsMeant, IsUnchanged, IsOfPurse, IsSettledUser, SettleResult, IsShape, IsSynced, IsWhy, OnUser, WantsNoPlace, SharedAsked, SharedLearned, SharedLeft, SharedNew, SharedOpened, SharedPaused, SharedSettled, SharedStepped, SharedSynced, SharedTried, SharedWith, WentToSettle, answer_status, calls_in_c, common_of, cuts, field_status, known_to, no_outcome, no_window, outcome_of, paused, rested, settled_status, settled_told, synced_status, user_tree, tried_status, unchanged_status, went_on, window_of}
+use Rattle.mt_c.specs.Walkers.{Answer, GaveUp, IsWalkAnswer, IsOnNoWalk, IsTried, StepsFrom, Took, Tried, TriedOnce, WentOnce, knows}
+use Rattle.mt_c.specs.Walking.{walk_index}
 use Rattle.mt_c.proofs.Using.{took_still}
 
 pub on_open : (before after : Option User) (u v : User) (status : ℕ) (blank : Type 0) (says : User → User → Type 0) → before ≡ Some u → after ≡ Some v → common_of v ≡ common_of u → says u v → OnUser before after status blank says
@@ -36,16 +36,16 @@ on_open before after u v status blank says was is tree said = subst (λ (x : Opt
 pub on_closed : (before after : Option User) (status : ℕ) (blank : Type 0) (says : User → User → Type 0) → before ≡ None → after ≡ None → status ≡ 9 → blank → OnUser before after status blank says
 on_closed before after status blank says was is number told = subst (λ (x : Option User × Option User). OnUser x.0 x.1 status blank says) (λ i. (sym was i, sym is i)) (refl, number, told)
 
-pub asked_open : (query : Query) (before after : Option User) (u v : User) (answer : Answer) (status : ℕ) (out : Window) → before ≡ Some u → after ≡ Some v → common_of v ≡ common_of u → v.chair ≡ u.chair → v.receipts ≡ u.receipts
-    → IsAnswer (tree_of u) (known_to u) query answer (known_to v) → IsAtRest v.walker → Took (most_made query) u.walker v.walker.pass → IfErr answer (GaveUp query u.walker v.walker)
+pub asked_open : (query : Query) (before after : Option User) (u v : User) (answer : Answer) (status : ℕ) (out : CallWindow) → before ≡ Some u → after ≡ Some v → common_of v ≡ common_of u → v.chair ≡ u.chair → v.receipts ≡ u.receipts
+    → IsWalkAnswer (user_tree u) (known_to u) query answer (known_to v) → IsOnNoWalk v.walker → Took (most_made query) u.walker v.walker.pass → IfErr answer (GaveUp query u.walker v.walker)
     → status ≡ answer_status answer → out ≡ window_of answer → SharedAsked query before after status out
 asked_open query before after u v answer status out was is common chair kept said rests took left number shown =
     on_open before after u v status _ _ was is common (answer, said, rests, took, left, record { common = common; chair = chair; receipts = kept }, number, shown)
 
-pub asked_closed : (query : Query) (before after : Option User) (status : ℕ) (out : Window) → before ≡ None → after ≡ None → status ≡ 9 → out ≡ no_window → SharedAsked query before after status out
+pub asked_closed : (query : Query) (before after : Option User) (status : ℕ) (out : CallWindow) → before ≡ None → after ≡ None → status ≡ 9 → out ≡ no_window → SharedAsked query before after status out
 asked_closed query before after status out was is number shown = on_closed before after status _ _ was is number shown
 
-pub has_tried : (call : Call) (u v : User) (tried : Tried) (status : ℕ) (out : Outcome) → IsTried (tree_of u) (paused u) call tried (known_to v) → TriedOnce u.walker v.walker → v.chair ≡ u.chair → v.receipts ≡ when_tried tried u.receipts → status ≡ tried_status tried → out ≡ outcome_of tried
+pub has_tried : (call : Call) (u v : User) (tried : Tried) (status : ℕ) (out : Outcome) → IsTried (user_tree u) (paused u) call tried (known_to v) → TriedOnce u.walker v.walker → v.chair ≡ u.chair → v.receipts ≡ when_tried tried u.receipts → status ≡ tried_status tried → out ≡ outcome_of tried
     → HasTried call status out u v
 has_tried call u v tried status out said once chair kept number shown = (tried, said, once, chair, kept, number, shown)
 
@@ -55,38 +55,38 @@ tried_open call before after u v status out was is tree has = on_open before aft
 pub tried_closed : (call : Call) (before after : Option User) (status : ℕ) (out : Outcome) → before ≡ None → after ≡ None → status ≡ 9 → out ≡ no_outcome → SharedTried call before after status out
 tried_closed call before after status out was is number shown = on_closed before after status _ _ was is number shown
 
-pub stepped_open : (w w' : OutWalk) (from : Option ℕ) (before after : Option User) (u v : User) (r : Read (Option Range)) (status : ℕ) (out : Window) → from ≡ index_of w → before ≡ Some u → after ≡ Some v → common_of v ≡ common_of u → v.chair ≡ u.chair → v.receipts ≡ u.receipts
-    → StepsFrom (tree_of u) u.walker from r v.walker → status ≡ answer_status (Ok r) → out ≡ window_of (Ok r) → w' ≡ went_on r.value → SharedStepped w w' before after status out
+pub stepped_open : (w w' : OutWalk) (from : Option ℕ) (before after : Option User) (u v : User) (r : Read (Option Range)) (status : ℕ) (out : CallWindow) → from ≡ walk_index w → before ≡ Some u → after ≡ Some v → common_of v ≡ common_of u → v.chair ≡ u.chair → v.receipts ≡ u.receipts
+    → StepsFrom (user_tree u) u.walker from r v.walker → status ≡ answer_status (Ok r) → out ≡ window_of (Ok r) → w' ≡ went_on r.value → SharedStepped w w' before after status out
 stepped_open w w' from before after u v r status out place was is common chair kept said number shown behind =
-    let stepped = subst (λ (i : Option ℕ). StepsFrom (tree_of u) u.walker i r v.walker) place said in
+    let stepped = subst (λ (i : Option ℕ). StepsFrom (user_tree u) u.walker i r v.walker) place said in
     on_open before after u v status _ _ was is common (r, stepped, record { common = common; chair = chair; receipts = kept }, number, shown, behind)
 
-pub stepped_closed : (w w' : OutWalk) (before after : Option User) (status : ℕ) (out : Window) → before ≡ None → after ≡ None → status ≡ 9 → out ≡ no_window → w' ≡ w → SharedStepped w w' before after status out
+pub stepped_closed : (w w' : OutWalk) (before after : Option User) (status : ℕ) (out : CallWindow) → before ≡ None → after ≡ None → status ≡ 9 → out ≡ no_window → w' ≡ w → SharedStepped w w' before after status out
 stepped_closed w w' before after status out was is number shown same = on_closed before after status _ _ was is number (shown, same)
 
 pub paused_open : (before after : Option User) (u v : User) (status : ℕ) → before ≡ Some u → after ≡ Some v → common_of v ≡ common_of u → v.chair ≡ u.chair → v.receipts ≡ u.receipts
-    → known_to v ≡ rested u → IsAtRest v.walker → Takes 1 u.walker.pass v.walker.pass → status ≡ 0 → SharedPaused before after status
+    → known_to v ≡ rested u → IsOnNoWalk v.walker → Takes 1 u.walker.pass v.walker.pass → status ≡ 0 → SharedPaused before after status
 paused_open before after u v status was is common chair kept known rests takes number = on_open before after u v status _ _ was is common (known, rests, takes, record { common = common; chair = chair; receipts = kept }, number)
 
 pub paused_closed : (before after : Option User) (status : ℕ) → before ≡ None → after ≡ None → status ≡ 9 → SharedPaused before after status
 paused_closed before after status was is number = on_closed before after status _ _ was is number tt
 
 learned : (calls : ℕ) (before after : Option User) (u v : User) (r : Read (Option Range)) (status : ℕ) → before ≡ Some u → after ≡ Some v → common_of v ≡ common_of u → v.chair ≡ u.chair → v.receipts ≡ u.receipts
-    → IsAnswer (tree_of u) (known_to u) (Load 0) (Ok r) (known_to v) → IsAtRest v.walker → Took 170 u.walker v.walker.pass → status ≡ (if nat_le calls r.lo then 0 else 115) → SharedLearned calls before after status
+    → IsWalkAnswer (user_tree u) (known_to u) (Load 0) (Ok r) (known_to v) → IsOnNoWalk v.walker → Took 170 u.walker v.walker.pass → status ≡ (if nat_le calls r.lo then 0 else 115) → SharedLearned calls before after status
 learned calls before after u v r status was is common chair kept said rests took number = on_open before after u v status _ _ was is common (r, said, rests, took, record { common = common; chair = chair; receipts = kept }, number)
 
 pub learned_yes : (calls : ℕ) (before after : Option User) (u v : User) (r : Read (Option Range)) (status : ℕ) → before ≡ Some u → after ≡ Some v → common_of v ≡ common_of u → v.chair ≡ u.chair → v.receipts ≡ u.receipts
-    → IsAnswer (tree_of u) (known_to u) (Load 0) (Ok r) (known_to v) → IsAtRest v.walker → Took 170 u.walker v.walker.pass → calls ≤ r.lo → status ≡ 0 → SharedLearned calls before after status
+    → IsWalkAnswer (user_tree u) (known_to u) (Load 0) (Ok r) (known_to v) → IsOnNoWalk v.walker → Took 170 u.walker v.walker.pass → calls ≤ r.lo → status ≡ 0 → SharedLearned calls before after status
 learned_yes calls before after u v r status was is common chair kept said rests took many number = learned calls before after u v r status was is common chair kept said rests took (number ∙ sym (ap (λ (b : Bool). if b then 0 else 115) (le-leb calls r.lo many)))
 
 pub learned_no : (calls : ℕ) (before after : Option User) (u v : User) (r : Read (Option Range)) (status : ℕ) → before ≡ Some u → after ≡ Some v → common_of v ≡ common_of u → v.chair ≡ u.chair → v.receipts ≡ u.receipts
-    → IsAnswer (tree_of u) (known_to u) (Load 0) (Ok r) (known_to v) → IsAtRest v.walker → Took 170 u.walker v.walker.pass → r.lo < calls → status ≡ 115 → SharedLearned calls before after status
+    → IsWalkAnswer (user_tree u) (known_to u) (Load 0) (Ok r) (known_to v) → IsOnNoWalk v.walker → Took 170 u.walker v.walker.pass → r.lo < calls → status ≡ 115 → SharedLearned calls before after status
 learned_no calls before after u v r status was is common chair kept said rests took few number = learned calls before after u v r status was is common chair kept said rests took (number ∙ sym (ap (λ (b : Bool). if b then 0 else 115) (lt-leb calls r.lo few)))
 
 pub learned_closed : (calls : ℕ) (before after : Option User) (status : ℕ) → before ≡ None → after ≡ None → status ≡ 9 → SharedLearned calls before after status
 learned_closed calls before after status was is number = on_closed before after status _ _ was is number tt
 
-pub has_synced : (u v : User) (synced : Result ℕ Busy) (status calls : ℕ) → IsSynced (tree_of u) (paused u) synced (known_to v) → WentOnce u.walker v.walker → v.chair ≡ u.chair → v.receipts ≡ when_synced synced u.receipts → status ≡ synced_status synced → calls ≡ calls_told synced
+pub has_synced : (u v : User) (synced : Result ℕ Busy) (status calls : ℕ) → IsSynced (user_tree u) (paused u) synced (known_to v) → WentOnce u.walker v.walker → v.chair ≡ u.chair → v.receipts ≡ when_synced synced u.receipts → status ≡ synced_status synced → calls ≡ calls_in_c synced
     → HasSynced status calls u v
 has_synced u v synced status calls said went chair kept number told = (synced, said, went, chair, kept, number, told)
 
@@ -103,7 +103,7 @@ bad_shape shape field status bad number = (field, bad, number)
 
 -- ---- opening
 
-pub new_open : (code rows passes calls : ℕ) (after : Option User) (status : ℕ) (u : User) (shape : Shape) → after ≡ Some u → status ≡ 0 → IsShape code rows passes calls shape → IsFirst shape [] u → SharedNew code rows passes calls after status
+pub new_open : (code rows passes calls : ℕ) (after : Option User) (status : ℕ) (u : User) (shape : Shape) → after ≡ Some u → status ≡ 0 → IsShape code rows passes calls shape → IsFirstUser shape [] u → SharedNew code rows passes calls after status
 new_open code rows passes calls after status u shape is done of first = rw is (done, shape, of, first)
 
 pub new_no_kind : (code rows passes calls : ℕ) (after : Option User) (status : ℕ) → after ≡ None → status ≡ 22 → ((kind : Kind) → kind_code kind ≢ code) → SharedNew code rows passes calls after status
@@ -159,7 +159,7 @@ left_open before after status u m v why was is common same known took told place
 
 -- ---- settling
 
-pub has_settled : (u v : User) (settled : Settled) (status calls passes : ℕ) → IsSettled (common_of u) (cuts u) (paused u) settled (known_to v) → WentToSettle settled u.walker v.walker → cuts v ≡ cuts u + 1 → v.receipts ≡ when_settled settled u.receipts
+pub has_settled : (u v : User) (settled : SettleResult) (status calls passes : ℕ) → IsSettledUser (common_of u) (cuts u) (paused u) settled (known_to v) → WentToSettle settled u.walker v.walker → cuts v ≡ cuts u + 1 → v.receipts ≡ when_settled settled u.receipts
     → status ≡ settled_status settled → calls ≡ (settled_told settled).0 → passes ≡ (settled_told settled).1 → HasSettled status calls passes u v
 has_settled u v settled status calls passes said went chair kept number told met = (settled, said, went, chair, kept, number, told, met)
 

@@ -15,7 +15,7 @@ use Rattle.mt_base.specs.History.{History}
 use Rattle.mt_base.specs.Passes as known
 use Rattle.mt_read.specs.declared.cursor.Cursor.{Cursor}
 use Rattle.mt_read.specs.declared.cursor.KeptLeaf.{KeptLeaf}
-use Rattle.mt_read.specs.Cursors.{IsKept, place_behind, place_from, query_at}
+use Rattle.mt_read.specs.Cursors.{IsOnKeptLeaf, place_behind, place_from, query_at}
 use Rattle.mt_read.specs.Neighbours.{WasLeftMarked, WasMoved}
 use Rattle.mt_read.specs.Windows.{HasRead}
 use Rattle.mt_keep.specs.declared.keep.Busy as away
@@ -45,12 +45,12 @@ use Rattle.mt_c.specs.declared.user_acts.Settling.TheVariants as settling
 use Rattle.mt_c.specs.declared.user_opens.Left.{Left}
 use Rattle.mt_c.specs.declared.user_opens.Unchanged.TheVariants as unchanged
 use Rattle.mt_c.specs.declared.walker.Walker.{Walker}
-use Rattle.mt_c.specs.Purses.{IsBusyAt, IsSeatedAt, RestsInPurse, WasGiven, WasKept, first_in}
+use Rattle.mt_c.specs.Purses.{IsPurseBusy, IsChairAtPurse, RestsInPurse, WasGiven, WasKept, first_in}
 use Rattle.mt_c.specs.Receipts.{no_receipts}
-use Rattle.mt_c.specs.Spares.{IsSpare}
-use Rattle.mt_c.specs.KeptWalks.{IsKeptWalk, top}
-use Rattle.mt_c.specs.Users.{HasLeft, IsFirst, IsOfPurse, IsSettled, IsSynced, IsWhy, common_of, cuts, known_to, tree_of}
-use Rattle.mt_c.specs.Walkers.{Answer, Continues, GaveUp, GoesFrom, GoesOn, IsAnswer, IsAtRest, IsLeftBy, IsOnAt, IsReadBy, IsStep, IsTried, KnowsAs, Took, Tried, TriedOnce, WentOnce, closed_by, halted, is_at, knows, new_walk, pausing, stands_at}
+use Rattle.mt_c.specs.Spares.{IsSparePass}
+use Rattle.mt_c.specs.KeptWalks.{IsKeptWalk, last_index}
+use Rattle.mt_c.specs.Users.{HasLeft, IsFirstUser, IsOfPurse, IsSettledUser, IsSynced, IsWhy, common_of, cuts, known_to, user_tree}
+use Rattle.mt_c.specs.Walkers.{Answer, Continues, GaveUp, GoesFrom, WalkGoesOn, IsWalkAnswer, IsOnNoWalk, IsLeftBy, IsOnAt, IsReadBy, IsStep, IsTried, KnowsAs, Took, Tried, TriedOnce, WentOnce, closed_by, halted, walk_is_at, knows, new_walk, pausing, stands_at}
 
 -- ---- steps without the lock, and tries for it
 
@@ -156,7 +156,7 @@ moved_before t p q lo begun m = record {
 pub read_as : (t : Tree) (query : Query) (r : Read (Option Range)) (p p' q q' : known.Pass) → KnowsAs p p' → KnowsAs q' q → IsReadBy t p' query r q' → IsReadBy t p query r q
 read_as t query r p p' q q' before after read = (read.0, reads_as (opened t) r.lo r.hi read.0 query r.value p p' q q' before after read.1)
 
-pub answered_before : (t : Tree) (query : Query) (answer : Answer) (walk : Option Cursor) (p q : known.Pass) → IsAnswer t (closed_by walk p) query answer q → IsAnswer t p query answer q
+pub answered_before : (t : Tree) (query : Query) (answer : Answer) (walk : Option Cursor) (p q : known.Pass) → IsWalkAnswer t (closed_by walk p) query answer q → IsWalkAnswer t p query answer q
 answered_before t query answer None p q said = said
 answered_before t query (Ok r) (Some w) p q said =
     (read_as t query r p (record p { standing = None }) q q (halted_knows p (record p { standing = None }) refl) (same_knows q q refl) said.0, read_before r.lo r.hi p q said.1)
@@ -166,11 +166,11 @@ answered_before t query (Err m) (Some w) p q said = (moved_before (opened t) p q
 pub answer_made : (t : Tree) (query : Query) (walk : Option Cursor) (p q : known.Pass) (before : Pass) (answer : Answer) → pass_in before ≡ closed_by walk p
     → IfOk answer (λ r. (k : ℕ) × known.Read (opened t) (pass_in before) r.lo r.hi k query r.value q) → IfOk answer (λ r. HasRead r.lo r.hi (pass_in before) q)
     → IfErr answer (λ m. WasMoved (opened t) (pass_in before) m.lo m.begun q) → IfErr answer (λ m. HasRead m.lo m.begun (pass_in before) q) → IfErr answer (λ _. IsForNeighbour query)
-    → IsAnswer t p query answer q
+    → IsWalkAnswer t p query answer q
 answer_made t query walk p q before (Ok r) was read section moved given near =
-    answered_before t query (Ok r) walk p q (subst (λ (x : known.Pass). IsAnswer t x query (Ok r) q) was (read, section))
+    answered_before t query (Ok r) walk p q (subst (λ (x : known.Pass). IsWalkAnswer t x query (Ok r) q) was (read, section))
 answer_made t query walk p q before (Err m) was read section moved given near =
-    answered_before t query (Err m) walk p q (subst (λ (x : known.Pass). IsAnswer t x query (Err m) q) was (moved, near, given))
+    answered_before t query (Err m) walk p q (subst (λ (x : known.Pass). IsWalkAnswer t x query (Err m) q) was (moved, near, given))
 
 pub gave_up : (query : Query) (w w' : Walker) (p : Pass) (answer : Answer) → pass_in p ≡ halted w → Took 0 w p
     → IfErr answer (λ m. WasLeftMarked (unbounded (part_of p).shape.kind query) m.lo m.begun (part_of p) (part_of w'.pass)) → IfErr answer (GaveUp query w w')
@@ -191,7 +191,7 @@ rested (Err m) p q section given = read_rests m.lo m.begun p q given
 
 -- the same of a load, which is never given up
 pub load_made : (t : Tree) (index : ℕ) (walk : Option Cursor) (p q : known.Pass) (before : Pass) (r : Read (Option Range)) → pass_in before ≡ closed_by walk p
-    → (k : ℕ) × known.Read (opened t) (pass_in before) r.lo r.hi k (Load index) r.value q → HasRead r.lo r.hi (pass_in before) q → IsAnswer t p (Load index) (Ok r) q
+    → (k : ℕ) × known.Read (opened t) (pass_in before) r.lo r.hi k (Load index) r.value q → HasRead r.lo r.hi (pass_in before) q → IsWalkAnswer t p (Load index) (Ok r) q
 load_made t index walk p q before r was read section = answer_made t (Load index) walk p q before (Ok r) was read section tt tt tt
 
 -- ---- walks
@@ -207,29 +207,29 @@ is_on (Some w) place at = refl
 pub stands_on : (walk : Option Cursor) (w : Cursor) (place : Option ℕ) → walk ≡ Some w → w.at ≡ place → IsOnAt walk place
 stands_on walk w place is at = subst (λ (o : Option Cursor). IsOnAt o place) (sym is) at
 
-pub keeps_walk : (v : Walker) (found : Option Range) (range : Range) → found ≡ Some range → IsOnAt v.walk (place_behind found top) → GoesOn found v
-keeps_walk v found range is at = subst (λ (o : Option Range). GoesOn o v) (sym is) (at_walk v.walk (place_behind (Some range) top) (subst (λ (o : Option Range). IsOnAt v.walk (place_behind o top)) is at))
+pub keeps_walk : (v : Walker) (found : Option Range) (range : Range) → found ≡ Some range → IsOnAt v.walk (place_behind found last_index) → WalkGoesOn found v
+keeps_walk v found range is at = subst (λ (o : Option Range). WalkGoesOn o v) (sym is) (at_walk v.walk (place_behind (Some range) last_index) (subst (λ (o : Option Range). IsOnAt v.walk (place_behind o last_index)) is at))
 
 -- one that is paused is on none
 closed_rests : (walk : Option Cursor) (place : Option ℕ) (p : known.Pass) → IsOnAt walk place → (closed_by walk p).standing ≡ None
 closed_rests None place p at = elim at [ ]
 closed_rests (Some w) place p at = refl
 
-pub ends_walk : (v v' : Walker) (found : Option Range) → found ≡ None → IsOnAt v.walk (place_behind found top) → knows v' ≡ halted v → v'.walk ≡ None → GoesOn found v'
+pub ends_walk : (v v' : Walker) (found : Option Range) → found ≡ None → IsOnAt v.walk (place_behind found last_index) → knows v' ≡ halted v → v'.walk ≡ None → WalkGoesOn found v'
 ends_walk v v' found is at closed none =
-    subst (λ (o : Option Range). GoesOn o v') (sym is) (none, ap (λ (x : known.Pass). x.standing) closed ∙ closed_rests v.walk (place_behind found top) (knows v) at)
+    subst (λ (o : Option Range). WalkGoesOn o v') (sym is) (none, ap (λ (x : known.Pass). x.standing) closed ∙ closed_rests v.walk (place_behind found last_index) (knows v) at)
 
 pub paused_knows : (v v' : Walker) → knows v' ≡ halted v → KnowsAs (knows v) (knows v')
 paused_knows v v' is = closed_knows v.walk (knows v) (knows v') is
 
-pub from_any : (from : ℕ) → from < 2 ^ 64 → place_from from top ≡ Some from
-from_any from few = ap (λ (b : Bool). if b then Some from else None) (le-leb from top (omega arith))
+pub from_any : (from : ℕ) → from < 2 ^ 64 → place_from from last_index ≡ Some from
+from_any from few = ap (λ (b : Bool). if b then Some from else None) (le-leb from last_index (omega arith))
 
-pub begins_walk : (p : Pass) (w : Cursor) → w.leaf ≡ None → w.epoch ≡ None → w.max ≡ top → IsKeptWalk p w
+pub begins_walk : (p : Pass) (w : Cursor) → w.leaf ≡ None → w.epoch ≡ None → w.max ≡ last_index → IsKeptWalk p w
 begins_walk p w leaf epoch max = record {
   of = record {
     standing = subst (λ (e : Option ℕ). IfSome e (λ epoch. (part_of p).standing ≡ Some epoch)) (sym epoch) tt;
-    leaf = subst (λ (l : Option KeptLeaf). IfSome l (IsKept (part_of p))) (sym leaf) tt;
+    leaf = subst (λ (l : Option KeptLeaf). IfSome l (IsOnKeptLeaf (part_of p))) (sym leaf) tt;
     closed = λ _. leaf;
   };
   max = max;
@@ -240,28 +240,28 @@ goes_on t r p q w w' kept walked of = record { of = of; max = walked.max ∙ kep
 
 -- a step of a walk answers the find from its place
 pub on_answer : (t : Tree) (r : Read (Option Range)) (p q : Pass) (walk : Option Cursor) (w w' : Cursor) → walk ≡ Some w → IsKeptWalk p w → HasWalked t p w r q w'
-    → IfSome walk (λ v. IsReadBy t (pass_in p) (query_at v.at top) r (pass_in q))
+    → IfSome walk (λ v. IsReadBy t (pass_in p) (query_at v.at last_index) r (pass_in q))
 on_answer t r p q walk w w' is kept walked =
-    let read : IsReadBy t (pass_in p) (query_at w.at top) r (pass_in q) = subst (λ (m : ℕ). IsReadBy t (pass_in p) (query_at w.at m) r (pass_in q)) kept.max walked.read in
-    subst (λ (o : Option Cursor). IfSome o (λ v. IsReadBy t (pass_in p) (query_at v.at top) r (pass_in q))) (sym is) read
+    let read : IsReadBy t (pass_in p) (query_at w.at last_index) r (pass_in q) = subst (λ (m : ℕ). IsReadBy t (pass_in p) (query_at w.at m) r (pass_in q)) kept.max walked.read in
+    subst (λ (o : Option Cursor). IfSome o (λ v. IsReadBy t (pass_in p) (query_at v.at last_index) r (pass_in q))) (sym is) read
 
 pub on_walked : (t : Tree) (r : Read (Option Range)) (p q : Pass) (walk walk' : Option Cursor) (w w' : Cursor) → walk ≡ Some w → walk' ≡ Some w' → HasWalked t p w r q w' → IfSome walk (λ v. IfSome walk' (HasWalked t p v r q))
 on_walked t r p q walk walk' w w' is is' walked = subst (λ (o : Option Cursor × Option Cursor). IfSome o.0 (λ v. IfSome o.1 (HasWalked t p v r q))) (λ i. (sym is i, sym is' i)) walked
 
-pub on_place : (t : Tree) (r : Read (Option Range)) (p q : Pass) (walk : Option Cursor) (w w' : Cursor) → walk ≡ Some w' → IsKeptWalk p w → HasWalked t p w r q w' → IsOnAt walk (place_behind r.value top)
-on_place t r p q walk w w' is kept walked = stands_on walk w' (place_behind r.value top) is (walked.at ∙ ap (place_behind r.value) kept.max)
+pub on_place : (t : Tree) (r : Read (Option Range)) (p q : Pass) (walk : Option Cursor) (w w' : Cursor) → walk ≡ Some w' → IsKeptWalk p w → HasWalked t p w r q w' → IsOnAt walk (place_behind r.value last_index)
+on_place t r p q walk w w' is kept walked = stands_on walk w' (place_behind r.value last_index) is (walked.at ∙ ap (place_behind r.value) kept.max)
 
-step_read : (t : Tree) (walk : Option Cursor) (from : ℕ) (r : Read (Option Range)) (p p' q q' : known.Pass) → IsOnAt walk (Some from) → KnowsAs p p' → KnowsAs q' q → IfSome walk (λ v. IsReadBy t p' (query_at v.at top) r q')
-    → IsReadBy t p (query_at (Some from) top) r q
+step_read : (t : Tree) (walk : Option Cursor) (from : ℕ) (r : Read (Option Range)) (p p' q q' : known.Pass) → IsOnAt walk (Some from) → KnowsAs p p' → KnowsAs q' q → IfSome walk (λ v. IsReadBy t p' (query_at v.at last_index) r q')
+    → IsReadBy t p (query_at (Some from) last_index) r q
 step_read t None from r p p' q q' at before after said = elim at [ ]
-step_read t (Some w) from r p p' q q' at before after said = read_as t (query_at (Some from) top) r p p' q q' before after (subst (λ (o : Option ℕ). IsReadBy t p' (query_at o top) r q') at said)
+step_read t (Some w) from r p p' q q' at before after said = read_as t (query_at (Some from) last_index) r p p' q q' before after (subst (λ (o : Option ℕ). IsReadBy t p' (query_at o last_index) r q') at said)
 
 -- one that stands at an index
 pub at_index : (walk : Option Cursor) (from : ℕ) → stands_at walk from ≡ true → IsOnAt walk (Some from)
 at_index None from is = absurd (true≢false (sym is))
 at_index (Some w) from is = by_place w.at is
   where
-    by_place : (at : Option ℕ) → is_at at from ≡ true → at ≡ Some from
+    by_place : (at : Option ℕ) → walk_is_at at from ≡ true → at ≡ Some from
     by_place None is = absurd (true≢false (sym is))
     by_place (Some at) is = ap Some (eqb-true at from is)
 
@@ -276,16 +276,16 @@ goes_kept from v is = by_walk v.walk refl
 pub goes_anew : (from : ℕ) (v v' : Walker) (w : Cursor) → stands_at v.walk from ≡ false → knows v' ≡ halted v → Took 0 v v'.pass → v'.walk ≡ Some w → w ≡ new_walk from → IfSome v'.walk (Continues from v v'.pass)
 goes_anew from v v' w off closed took is new = subst (λ (o : Option Cursor). IfSome o (Continues from v v'.pass)) (sym is) (subst (λ (b : Bool). GoesFrom b from v v'.pass w) (sym off) (closed, took, new))
 
-pub is_new_walk : (from : ℕ) (w : Cursor) → from < 2 ^ 64 → w.at ≡ place_from from top → w.max ≡ top → w.leaf ≡ None → w.epoch ≡ None → w ≡ new_walk from
+pub is_new_walk : (from : ℕ) (w : Cursor) → from < 2 ^ 64 → w.at ≡ place_from from last_index → w.max ≡ last_index → w.leaf ≡ None → w.epoch ≡ None → w ≡ new_walk from
 is_new_walk from w few at max leaf epoch = λ i. record { at = (at ∙ from_any from few) i; max = max i; leaf = leaf i; epoch = epoch i }
 
 -- a step: the walk went on by one range
-pub is_step : (t : Tree) (v m n v' : Walker) (from : ℕ) (r : Read (Option Range)) → IsOnAt m.walk (Some from) → KnowsAs (knows v) (knows m) → IfSome m.walk (Continues from v m.pass) → IfSome m.walk (λ w. IsReadBy t (knows m) (query_at w.at top) r (knows n))
-    → IfSome m.walk (λ w. IfSome n.walk (HasWalked t m.pass w r n.pass)) → IsOnAt n.walk (place_behind r.value top) → KnowsAs (knows n) (knows v') → GoesOn r.value v' → ((w : Cursor) → n.walk ≡ Some w → IsLeftBy r.value n.pass w v') → Took 0 v m.pass → Takes 1 n.pass v'.pass → IsStep t v from r v'
+pub is_step : (t : Tree) (v m n v' : Walker) (from : ℕ) (r : Read (Option Range)) → IsOnAt m.walk (Some from) → KnowsAs (knows v) (knows m) → IfSome m.walk (Continues from v m.pass) → IfSome m.walk (λ w. IsReadBy t (knows m) (query_at w.at last_index) r (knows n))
+    → IfSome m.walk (λ w. IfSome n.walk (HasWalked t m.pass w r n.pass)) → IsOnAt n.walk (place_behind r.value last_index) → KnowsAs (knows n) (knows v') → WalkGoesOn r.value v' → ((w : Cursor) → n.walk ≡ Some w → IsLeftBy r.value n.pass w v') → Took 0 v m.pass → Takes 1 n.pass v'.pass → IsStep t v from r v'
 is_step t v m n v' from r at known begins read walked behind after goes left before last = by_walks m.walk n.walk refl refl at begins read walked behind
   where
-    by_walks : (o o' : Option Cursor) → m.walk ≡ o → n.walk ≡ o' → IsOnAt o (Some from) → IfSome o (Continues from v m.pass) → IfSome o (λ w. IsReadBy t (knows m) (query_at w.at top) r (knows n))
-        → IfSome o (λ w. IfSome o' (HasWalked t m.pass w r n.pass)) → IsOnAt o' (place_behind r.value top) → IsStep t v from r v'
+    by_walks : (o o' : Option Cursor) → m.walk ≡ o → n.walk ≡ o' → IsOnAt o (Some from) → IfSome o (Continues from v m.pass) → IfSome o (λ w. IsReadBy t (knows m) (query_at w.at last_index) r (knows n))
+        → IfSome o (λ w. IfSome o' (HasWalked t m.pass w r n.pass)) → IsOnAt o' (place_behind r.value last_index) → IsStep t v from r v'
     by_walks None o' e e' at begins read walked behind = elim at [ ]
     by_walks (Some w) None e e' at begins read walked behind = elim behind [ ]
     by_walks (Some w) (Some w') e e' at begins read walked behind = record {
@@ -343,41 +343,41 @@ given_same c n cuts given took gave was one same = record { at = was.at; cut = w
 pub given_empty : (c : Common) (n before : ℕ) (given : Given Purse Tree) (took gave : List known.Pass) → WasGiven c n took gave given → n ≡ before + 1 → took ≡ gave → gave ≡ [] → IsWhy c before (unchanged.NoPlace given)
 given_empty c n before given took gave was one same none = record { at = was.at; cut = was.cut ∙ one; took = was.took ∙ (same ∙ none); gave = was.gave ∙ none }
 
-pub why_busy : (c : Common) (n before : ℕ) (busy : away.Busy Purse Tree) → IsBusyAt c n busy → n ≡ before + 1 → IsWhy c before (unchanged.Busy busy)
+pub why_busy : (c : Common) (n before : ℕ) (busy : away.Busy Purse Tree) → IsPurseBusy c n busy → n ≡ before + 1 → IsWhy c before (unchanged.Busy busy)
 why_busy c n before busy found one = (found.0, found.1 ∙ one)
 
 pub why_short : (c : Common) (n before : ℕ) (given : Given Purse Tree) (took gave : List known.Pass) → WasGiven c n took gave given → n ≡ before + 1 → gave ≡ took → IsWhy c before (unchanged.NoMemory given)
 why_short c n before given took gave was one same = given_same c n (before + 1) given took gave was one same
 
 -- a user of the purse
-pub of_purse : (c : Common) (n before : ℕ) (u : User) (given : Given Purse Tree) (took others : List known.Pass) → WasGiven c n took others given → n ≡ before + 1 → took ≡ others ++ known_to u ∷ [] → cuts u ≡ n + 1 → IsAtRest u.walker → u.receipts ≡ no_receipts
+pub of_purse : (c : Common) (n before : ℕ) (u : User) (given : Given Purse Tree) (took others : List known.Pass) → WasGiven c n took others given → n ≡ before + 1 → took ≡ others ++ known_to u ∷ [] → cuts u ≡ n + 1 → IsOnNoWalk u.walker → u.receipts ≡ no_receipts
     → IsOfPurse c before u given
 of_purse c n before u given took others was one split chair rests none =
     record { others = others; out = record { at = was.at; cut = was.cut ∙ one; took = was.took ∙ split; gave = was.gave }; chair = omega (arith, chair, one); rests = rests; none = none }
 
 -- what a user leaves
-pub has_left : (c : Common) (n : ℕ) (p : known.Pass) (left : Left) (others gave : List known.Pass) → WasGiven c n others gave left.given → n ≡ cuts_of left.chair → IsSeatedAt c left.chair → gave ≡ others ++ p ∷ [] → HasLeft c (cuts_of left.chair) p left
+pub has_left : (c : Common) (n : ℕ) (p : known.Pass) (left : Left) (others gave : List known.Pass) → WasGiven c n others gave left.given → n ≡ cuts_of left.chair → IsChairAtPurse c left.chair → gave ≡ others ++ p ∷ [] → HasLeft c (cuts_of left.chair) p left
 has_left c n p left others gave was one seated put = record { others = others; into = record { at = was.at; cut = was.cut ∙ one; took = was.took; gave = was.gave ∙ put }; seated = seated; chair = refl }
 
 pub settled : (c : Common) (cut n : ℕ) (p q : known.Pass) (others others' : List Pass) (calls passes : ℕ) (before after : List known.Pass) (given : Given Purse Tree) → HaveMet c.tree (p ∷ map pass_in others) (q ∷ map pass_in others') calls → passes ≡ length others'
-    → WasGiven c n before after given → n ≡ cut + 1 → before ≡ map pass_in others → after ≡ map pass_in others' → RestsInPurse given → IsSettled c cut p (Ok (calls, passes, given)) q
+    → WasGiven c n before after given → n ≡ cut + 1 → before ≡ map pass_in others → after ≡ map pass_in others' → RestsInPurse given → IsSettledUser c cut p (Ok (calls, passes, given)) q
 settled c cut n p q others others' calls passes before after given met many back one took gave rest =
     (map pass_in others, map pass_in others', met, many ∙ sym (length-map others' pass_in), record { at = back.at; cut = back.cut ∙ one; took = back.took ∙ took; gave = back.gave ∙ gave }, rest)
 
-pub unpursed : (c : Common) (cut n : ℕ) (p q : known.Pass) (busy : away.Busy Purse Tree) → IsBusyAt c n busy → n ≡ cut + 1 → q ≡ p → IsSettled c cut p (Err (settling.Unpursed busy)) q
+pub unpursed : (c : Common) (cut n : ℕ) (p q : known.Pass) (busy : away.Busy Purse Tree) → IsPurseBusy c n busy → n ≡ cut + 1 → q ≡ p → IsSettledUser c cut p (Err (settling.Unpursed busy)) q
 unpursed c cut n p q busy found one kept = ((found.0, found.1 ∙ one), kept)
 
 pub locked : (c : Common) (cut n : ℕ) (p q : known.Pass) (busy : Busy) (took gave : List known.Pass) (given : Given Purse Tree) → IsBusyOf c.tree busy → WasGiven c n took gave given → n ≡ cut + 1 → gave ≡ took → RestsInPurse given → q ≡ p
-    → IsSettled c cut p (Err (settling.Locked busy given)) q
+    → IsSettledUser c cut p (Err (settling.Locked busy given)) q
 locked c cut n p q busy took gave given found back one same rest kept = (found, given_same c n (cut + 1) given took gave back one same, rest, kept)
 
 -- ---- passes that no user has
 
-pub spares_of : (t : Tree) (ps : List Pass) → All (IsSpare t) ps → All (IsPassOf t) ps
+pub spares_of : (t : Tree) (ps : List Pass) → All (IsSparePass t) ps → All (IsPassOf t) ps
 spares_of t ps spare = λ k d lt. (spare k d lt).of
 
 -- those that have met a pass under the lock are still at rest
-met_spare : (t : Tree) (p q : known.Pass) (ps qs : List Pass) (calls : ℕ) → HaveMet t (p ∷ map pass_in ps) (q ∷ map pass_in qs) calls → All (IsSpare t) ps → All (IsPassOf t) qs → All (IsSpare t) qs
+met_spare : (t : Tree) (p q : known.Pass) (ps qs : List Pass) (calls : ℕ) → HaveMet t (p ∷ map pass_in ps) (q ∷ map pass_in qs) calls → All (IsSparePass t) ps → All (IsPassOf t) qs → All (IsSparePass t) qs
 met_spare t p q ps qs calls met spare of k d lt =
     let few : k < length ps = let a = met.count in let b = length-map ps pass_in in let c = length-map qs pass_in in omega arith in
     let before = spare k d few in
@@ -385,12 +385,12 @@ met_spare t p q ps qs calls met spare of k d lt =
     let q_at = slice_get-map pass_in qs k ∙ ap (option_map pass_in) (slice_get-get_or qs k d lt) in
     record { of = of k d lt; rests = ap (λ (z : known.Pass). z.standing) (met.each (suc k) (pass_in (get_or ps k d)) (pass_in (get_or qs k d)) p_at q_at).0.pass ∙ before.rests }
 
-pub spare_still : (t : Tree) (p q : Pass) (ps qs : List Pass) (met : Result ℕ Busy) → IfOk met (HaveMet t (pass_in p ∷ map pass_in ps) (pass_in q ∷ map pass_in qs)) → IfErr met (λ _. (q ≡ turns.tried p) × (qs ≡ ps)) → All (IsSpare t) ps → All (IsPassOf t) qs → All (IsSpare t) qs
+pub spare_still : (t : Tree) (p q : Pass) (ps qs : List Pass) (met : Result ℕ Busy) → IfOk met (HaveMet t (pass_in p ∷ map pass_in ps) (pass_in q ∷ map pass_in qs)) → IfErr met (λ _. (q ≡ turns.tried p) × (qs ≡ ps)) → All (IsSparePass t) ps → All (IsPassOf t) qs → All (IsSparePass t) qs
 spare_still t p q ps qs (Ok calls) met kept spare of = met_spare t (pass_in p) (pass_in q) ps qs calls met spare of
-spare_still t p q ps qs (Err busy) met kept spare of = subst (All (IsSpare t)) (sym kept.1) spare
+spare_still t p q ps qs (Err busy) met kept spare of = subst (All (IsSparePass t)) (sym kept.1) spare
 
 -- those of a new tree are at rest
-pub new_spare : (t : Tree) (ps : List Pass) (numbers : List ℕ) → All (IsPassOf t) ps → map pass_in ps ≡ map known.new_pass numbers → All (IsSpare t) ps
+pub new_spare : (t : Tree) (ps : List Pass) (numbers : List ℕ) → All (IsPassOf t) ps → map pass_in ps ≡ map known.new_pass numbers → All (IsSparePass t) ps
 new_spare t ps numbers of new k d lt =
     let at : slice_get (map pass_in ps) k ≡ Some (pass_in (get_or ps k d)) = slice_get-map pass_in ps k ∙ ap (option_map pass_in) (slice_get-get_or ps k d lt) in
     record { of = of k d lt; rests = at_rest (slice_get numbers k) (pass_in (get_or ps k d)) (sym (slice_get-map known.new_pass numbers k) ∙ (ap (λ (l : List known.Pass). slice_get l k) (sym new) ∙ at)) }
@@ -415,8 +415,8 @@ pub on : {x c : Common} {p : Pass} → x ≡ c → IsPassOf c.tree p → IsPassO
 on {x} {c} {p} same of = subst (λ (y : Common). IsPassOf y.tree p) (sym same) of
 
 -- and so is a chair at its purse
-pub at : {x c : Common} {chair : Badge (Sight Purse Tree)} → x ≡ c → IsSeatedAt c chair → IsSeatedAt x chair
-at {x} {c} {chair} same seated = subst (λ (y : Common). IsSeatedAt y chair) (sym same) seated
+pub at : {x c : Common} {chair : Badge (Sight Purse Tree)} → x ≡ c → IsChairAtPurse c chair → IsChairAtPurse x chair
+at {x} {c} {chair} same seated = subst (λ (y : Common). IsChairAtPurse y chair) (sym same) seated
 
 -- ---- new trees
 
@@ -436,7 +436,7 @@ none_short shape r bad short = by_case (first_bad shape) refl
     by_case None is = is
     by_case (Some field) is = let e : r ≡ Err (make_error.BadShape field) = (bad field).1 is in cc
 
-pub is_first : (shape : Shape) (opening : List Range) (t : Tree) (ps : List Pass) (u : User) → IsNew shape opening t ps → tree_of u ≡ t → ps ≡ (first_in (common_of u)).passes.items ++ u.walker.pass ∷ [] → cuts u ≡ 0 → u.walker.walk ≡ None → u.receipts ≡ no_receipts → IsFirst shape opening u
+pub is_first : (shape : Shape) (opening : List Range) (t : Tree) (ps : List Pass) (u : User) → IsNew shape opening t ps → user_tree u ≡ t → ps ≡ (first_in (common_of u)).passes.items ++ u.walker.pass ∷ [] → cuts u ≡ 0 → u.walker.walk ≡ None → u.receipts ≡ no_receipts → IsFirstUser shape opening u
 is_first shape opening t ps u new tree last chair walk none = record {
   tree = ap opened tree ∙ new.tree;
   calls = ap limit_of tree ∙ new.calls;

@@ -8,7 +8,7 @@ use Rattle.mt_log.specs.declared.transcripts.Transcript.{Transcript}
 use Rattle.mt_log.specs.Reading.{log_of}
 use Rattle.mt_log.specs.Run.{IsRun, TellsRun}
 use Rattle.mt_log.specs.Text.{text_of}
-use Rattle.mt_verify.specs.Tellings.{calls_told, reads_told}
+use Rattle.mt_verify.specs.Tellings.{count_of_calls, reads_told}
 
 -- ---- what is refused unread
 
@@ -30,19 +30,19 @@ abbrev pub IsTextOfRun : ℕ → List ℕ → List ℕ → Type 0
 IsTextOfRun rows bytes text = (log : Log) × (log_of bytes ≡ Ok log) × TellsRun rows log text
 
 -- the buffer begins with such a text of so many bytes, and is else as before
-abbrev pub Writes : ℕ → List ℕ → List ℕ → List ℕ → ℕ → Type 0
-Writes rows bytes before after used = (text : List ℕ) × IsTextOfRun rows bytes text × (used ≡ length text) × (length text ≤ length before) × (after ≡ text ++ drop (length text) before)
+abbrev pub WritesText : ℕ → List ℕ → List ℕ → List ℕ → ℕ → Type 0
+WritesText rows bytes before after used = (text : List ℕ) × IsTextOfRun rows bytes text × (used ≡ length text) × (length text ≤ length before) × (after ≡ text ++ drop (length text) before)
 
 -- such a text has so many bytes, and the buffer has fewer
-abbrev pub IsShort : ℕ → List ℕ → List ℕ → ℕ → Type 0
-IsShort rows bytes before used = (text : List ℕ) × IsTextOfRun rows bytes text × (used ≡ length text) × (length before < length text)
+abbrev pub IsBufferShort : ℕ → List ℕ → List ℕ → ℕ → Type 0
+IsBufferShort rows bytes before used = (text : List ℕ) × IsTextOfRun rows bytes text × (used ≡ length text) × (length before < length text)
 
 -- ---- verify
 
 -- the bytes are a log, and the text is that of a run of it, which tells so many calls and reads
 abbrev pub IsVerified : ℕ → List ℕ → List ℕ → ℕ → ℕ → Type 0
 IsVerified rows bytes text calls reads =
-    (log : Log) × (t : Transcript) × (log_of bytes ≡ Ok log) × IsRun log rows t × (text ≡ text_of t) × (calls ≡ calls_told t) × (reads ≡ reads_told t)
+    (log : Log) × (t : Transcript) × (log_of bytes ≡ Ok log) × IsRun log rows t × (text ≡ text_of t) × (calls ≡ count_of_calls t) × (reads ≡ reads_told t)
 
 -- they are a log, and the text is of no run of it
 abbrev pub IsNoRun : ℕ → List ℕ → List ℕ → Type 0

@@ -6,21 +6,17 @@ use Rattle.mt_read.specs.Cursors.{place_behind}
 use Rattle.mt_tree.specs.declared.shapes.Read.{Read}
 use Rattle.mt_tree.specs.declared.trees.Tree.{Tree}
 use Rattle.mt_engine.specs.RangeWalks.{index_behind}
-use Rattle.mt_c.specs.declared.shared_told.Window.{Window}
+use Rattle.mt_c.specs.declared.shared_told.CallWindow.{CallWindow}
 use Rattle.mt_c.specs.declared.steps.OutWalk.{OutWalk}
 use Rattle.mt_c.specs.declared.told.OutRange.{OutRange}
 use Rattle.mt_c.specs.declared.user.User.{User}
 use Rattle.mt_c.specs.declared.walker.Walker.{Walker}
 use Rattle.mt_c.specs.Calls.{found_status, no_range, out_of}
 use Rattle.mt_c.specs.Own.{OwnTree}
-use Rattle.mt_c.specs.Shared.{OnUser, OnlyWalks, answer_status, no_window, tree_of, window_of}
+use Rattle.mt_c.specs.Shared.{OnUser, OnlyWalks, answer_status, no_window, user_tree, window_of}
 use Rattle.mt_c.specs.Walkers.{StepsFrom, knows}
-use Rattle.mt_c.specs.Walking.{IsStepped, index_of, top_of, walk_from}
-
--- the range, where it begins at max or below
-abbrev pub up_to : ℕ → Option Range → Option Range
-up_to max None = None
-up_to max (Some r) = if nat_le r.first max then Some r else None
+use Rattle.mt_c.specs.Walking.{IsStepped, walk_index, last_index_of, walk_from}
+use Rattle.mt_list.specs.Places.{up_to}
 
 -- the index, where it is max or below
 abbrev pub place_to : ℕ → Option ℕ → Option ℕ
@@ -33,7 +29,7 @@ abbrev pub SteppedTo : ℕ → OutWalk → Option OwnTree → Option OwnTree →
 SteppedTo max walk None after status out walk' = (after ≡ None) × (status ≡ 9) × (out ≡ no_range) × (walk' ≡ walk)
 SteppedTo max walk (Some t) None status out walk' = ⊥
 SteppedTo max walk (Some t) (Some t') status out walk' =
-    (found : Option Range) × IsStepped t t' (place_to max (index_of walk)) found × (status ≡ found_status (up_to max found)) × (out ≡ out_of (up_to max found)) × (walk' ≡ walk_from (place_to max (index_behind (top_of t) found)))
+    (found : Option Range) × IsStepped t t' (place_to max (walk_index walk)) found × (status ≡ found_status (up_to max found)) × (out ≡ out_of (up_to max found)) × (walk' ≡ walk_from (place_to max (index_behind (last_index_of t) found)))
 
 -- Where the walk goes on, it is as the step left it; where it has ended, no section of the pass stands open.
 abbrev pub IsLeftTo : Option ℕ → Walker → Walker → Type 0
@@ -49,6 +45,6 @@ pub record StepsTo (t : Tree) (w : Walker) (max : ℕ) (place : Option ℕ) (r :
   pub left : IsLeftTo (place_behind r.value max) there w'
 
 -- `SteppedTo` of a user of a shared tree. Where the user is closed the walk is as it was.
-abbrev pub SharedSteppedTo : ℕ → OutWalk → OutWalk → Option User → Option User → ℕ → Window → Type 0
+abbrev pub SharedSteppedTo : ℕ → OutWalk → OutWalk → Option User → Option User → ℕ → CallWindow → Type 0
 SharedSteppedTo max w w' before after status out =
-    OnUser before after status ((out ≡ no_window) × (w' ≡ w)) (λ u v. (r : Read (Option Range)) × StepsTo (tree_of u) u.walker max (place_to max (index_of w)) r v.walker × OnlyWalks u v × (status ≡ answer_status (Ok r)) × (out ≡ window_of (Ok r)) × (w' ≡ walk_from (place_behind r.value max)))
+    OnUser before after status ((out ≡ no_window) × (w' ≡ w)) (λ u v. (r : Read (Option Range)) × StepsTo (user_tree u) u.walker max (place_to max (walk_index w)) r v.walker × OnlyWalks u v × (status ≡ answer_status (Ok r)) × (out ≡ window_of (Ok r)) × (w' ≡ walk_from (place_behind r.value max)))

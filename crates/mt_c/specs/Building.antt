@@ -8,32 +8,32 @@ use Rattle.mt_bulk.specs.Bulk.{rows_in}
 use Rattle.mt_bulk.specs.Items.{misplaced}
 use Rattle.mt_engine.specs.Engine.{Parts}
 use Rattle.mt_image.specs.Bytes.{kind_code}
-use Rattle.mt_c.specs.declared.building.Why.{Why}
+use Rattle.mt_c.specs.declared.building.BuildWhy.{BuildWhy}
 use Rattle.mt_c.specs.declared.told.OutRange.{OutRange}
-use Rattle.mt_c.specs.Copying.{Fits, IsOpenedWith}
+use Rattle.mt_c.specs.Copying.{FitsRows, IsOpenedWith}
 use Rattle.mt_c.specs.Own.{OwnTree}
 
 -- a range that C has
-abbrev pub range_of : OutRange → Range
-range_of r = record { first = r.first; last = r.last; entry = r.entry }
+abbrev pub range_from_c : OutRange → Range
+range_from_c r = record { first = r.first; last = r.last; entry = r.entry }
 
 -- why a bulk build is refused, as C is told it
-abbrev pub why_of : BulkError → Why
+abbrev pub why_of : BulkError → BuildWhy
 why_of (Order at) = record { status = 22; at = at }
 why_of (TooMany rows) = record { status = 33; at = 0 }
 why_of NoMemory = record { status = 12; at = 0 }
 
 -- a tree of the kind with this code that has just these ranges, which are in good order, in so many rows, which hold those that it needs
 abbrev pub IsOfRanges : ℕ → ℕ → List Range → Parts → Type 0
-IsOfRanges code rows m t = (kind : Kind) × (kind_code kind ≡ code) × (misplaced kind m ≡ None) × Fits (rows_in kind m) rows × IsOpenedWith kind rows m t
+IsOfRanges code rows m t = (kind : Kind) × (kind_code kind ≡ code) × (misplaced kind m ≡ None) × FitsRows (rows_in kind m) rows × IsOpenedWith kind rows m t
 
 -- Why there is none of this kind: EINVAL with the place of the first range that is none of the kind or does not stand above the one
 -- before; or EDOM where the rows do not fit.
 abbrev pub LacksOf : Kind → ℕ → List Range → ℕ → ℕ → Type 0
-LacksOf kind rows m status at = ((status ≡ 22) × (misplaced kind m ≡ Some at)) ⊎ ((status ≡ 33) × (at ≡ 0) × (misplaced kind m ≡ None) × (Fits (rows_in kind m) rows → ⊥))
+LacksOf kind rows m status at = ((status ≡ 22) × (misplaced kind m ≡ Some at)) ⊎ ((status ≡ 33) × (at ≡ 0) × (misplaced kind m ≡ None) × (FitsRows (rows_in kind m) rows → ⊥))
 
 -- `LacksOf` in whatever number of rows, or ENOMEM
-abbrev pub LacksAnyhow : Kind → List Range → Why → Type 0
+abbrev pub LacksAnyhow : Kind → List Range → BuildWhy → Type 0
 LacksAnyhow kind m why = ((rows : ℕ) → LacksOf kind rows m why.status why.at) ⊎ ((why.status ≡ 12) × (why.at ≡ 0))
 
 -- EINVAL where there is no such kind, one of these, or ENOMEM

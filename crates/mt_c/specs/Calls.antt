@@ -14,13 +14,10 @@ use Rattle.mt_rows.specs.Sheet.{OnlyReads}
 use Rattle.mt_engine.specs.Engine.{Parts, IsApplied}
 use Rattle.mt_c.specs.Own.{OwnTree}
 use Rattle.mt_c.specs.declared.told.OutRange.{OutRange}
-use Rattle.mt_c.specs.declared.told.Told.{Told}
+use Rattle.mt_c.specs.declared.told.ToldCall.{ToldCall}
+use Rattle.mt_rule.specs.Limits.{most_calls}
 
 -- ---- numbers and answers
-
--- a tree has so many calls at the most
-abbrev pub most_calls : ℕ
-most_calls = 2 ^ 62 - 1
 
 -- The number that C gets for a reply: 0, the error number of a refusal, or ENOENT where no range was there. Where the tree has had
 -- all its calls, none was made, and that is EOVERFLOW.
@@ -37,17 +34,17 @@ status_of (Some answers.Busy) = 16
 status_of (Some (answers.NoNodes shortage)) = 12
 
 -- the one word that a reply tells, and 0 where it tells none
-abbrev pub word_of : Option Reply → ℕ
-word_of None = 0
-word_of (Some answers.Ok) = 0
-word_of (Some (answers.Over entry)) = entry
-word_of (Some (answers.Start start)) = start
-word_of (Some (answers.Was range)) = 0
-word_of (Some answers.None) = 0
-word_of (Some answers.Exists) = 0
-word_of (Some answers.Invalid) = 0
-word_of (Some answers.Busy) = 0
-word_of (Some (answers.NoNodes shortage)) = 0
+abbrev pub word_in_c : Option Reply → ℕ
+word_in_c None = 0
+word_in_c (Some answers.Ok) = 0
+word_in_c (Some (answers.Over entry)) = entry
+word_in_c (Some (answers.Start start)) = start
+word_in_c (Some (answers.Was range)) = 0
+word_in_c (Some answers.None) = 0
+word_in_c (Some answers.Exists) = 0
+word_in_c (Some answers.Invalid) = 0
+word_in_c (Some answers.Busy) = 0
+word_in_c (Some (answers.NoNodes shortage)) = 0
 
 -- a range, and three zeros where there is none
 abbrev pub no_range : OutRange
@@ -58,17 +55,17 @@ out_of None = no_range
 out_of (Some r) = record { first = r.first; last = r.last; entry = r.entry }
 
 -- the range that a reply tells
-abbrev pub range_of : Option Reply → OutRange
-range_of None = no_range
-range_of (Some answers.Ok) = no_range
-range_of (Some (answers.Over entry)) = no_range
-range_of (Some (answers.Start start)) = no_range
-range_of (Some (answers.Was range)) = out_of (Some range)
-range_of (Some answers.None) = no_range
-range_of (Some answers.Exists) = no_range
-range_of (Some answers.Invalid) = no_range
-range_of (Some answers.Busy) = no_range
-range_of (Some (answers.NoNodes shortage)) = no_range
+abbrev pub range_in_c : Option Reply → OutRange
+range_in_c None = no_range
+range_in_c (Some answers.Ok) = no_range
+range_in_c (Some (answers.Over entry)) = no_range
+range_in_c (Some (answers.Start start)) = no_range
+range_in_c (Some (answers.Was range)) = out_of (Some range)
+range_in_c (Some answers.None) = no_range
+range_in_c (Some answers.Exists) = no_range
+range_in_c (Some answers.Invalid) = no_range
+range_in_c (Some answers.Busy) = no_range
+range_in_c (Some (answers.NoNodes shortage)) = no_range
 
 -- how many rows a reply for want of rows says are needed, free, live and held; zeros of another
 abbrev pub no_shortage : Shortage
@@ -86,11 +83,11 @@ shortage_of answers.Busy = no_shortage
 shortage_of (answers.NoNodes shortage) = shortage
 
 -- all that C is told of a call
-abbrev pub told_of : Option Reply → Told
-told_of made = record { status = status_of made; word = word_of made; range = range_of made }
+abbrev pub told_in_c : Option Reply → ToldCall
+told_in_c made = record { status = status_of made; word = word_in_c made; range = range_in_c made }
 
 -- and where it is closed
-abbrev pub no_told : Told
+abbrev pub no_told : ToldCall
 no_told = record { status = 9; word = 0; range = no_range }
 
 -- the number for the answer of a query: ENOENT where there is none
@@ -101,15 +98,15 @@ found_status (Some r) = 0
 -- ---- trees
 
 -- a call was made, and this is the reply
-pub record IsCalled (t t' : Parts) (call : Call) (reply : Reply) : Type 0 where
+pub record IsCallMade (t t' : Parts) (call : Call) (reply : Reply) : Type 0 where
   pub few : t.sheet.ended < most_calls
   pub applied : IsApplied t.kind t.sheet t'.sheet t.book t'.book call reply
   pub kind : t'.kind ≡ t.kind
 
 -- It was made, or the tree had had all its calls and is as before.
-abbrev pub Made : Parts → Parts → Call → Option Reply → Type 0
-Made t t' call None = (most_calls ≤ t.sheet.ended) × (t' ≡ t)
-Made t t' call (Some reply) = IsCalled t t' call reply
+abbrev pub MadeOrSpent : Parts → Parts → Call → Option Reply → Type 0
+MadeOrSpent t t' call None = (most_calls ≤ t.sheet.ended) × (t' ≡ t)
+MadeOrSpent t t' call (Some reply) = IsCallMade t t' call reply
 
 -- what a query is answered by the ranges of a tree
 unfoldable pub answered : Parts → Query → Option Range
@@ -125,24 +122,24 @@ pub record IsAsked (t t' : Parts) : Type 0 where
 
 -- A call on what C keeps, the number that C gets, and what it is told beside by some reading of the reply. A closed one is EBADF,
 -- with a blank beside, and stays closed; an open one stays open.
-abbrev pub Called : {A : Type 0} → A → (Option Reply → A) → Call → Option OwnTree → Option OwnTree → ℕ → A → Type 0
-Called blank told call None after status out = (after ≡ None) × (status ≡ 9) × (out ≡ blank)
-Called blank told call (Some t) None status out = ⊥
-Called blank told call (Some t) (Some t') status out = (made : Option Reply) × Made t.engine t'.engine call made × (status ≡ status_of made) × (out ≡ told made)
+abbrev pub AnswersCall : {A : Type 0} → A → (Option Reply → A) → Call → Option OwnTree → Option OwnTree → ℕ → A → Type 0
+AnswersCall blank told call None after status out = (after ≡ None) × (status ≡ 9) × (out ≡ blank)
+AnswersCall blank told call (Some t) None status out = ⊥
+AnswersCall blank told call (Some t) (Some t') status out = (made : Option Reply) × MadeOrSpent t.engine t'.engine call made × (status ≡ status_of made) × (out ≡ told made)
 
 -- one that tells the number alone, or a word, or a range beside
 abbrev pub CalledAlone : Call → Option OwnTree → Option OwnTree → ℕ → Type 0
-CalledAlone call before after status = Called {A = Unit {0}} tt (λ _. tt) call before after status tt
+CalledAlone call before after status = AnswersCall {A = Unit {0}} tt (λ _. tt) call before after status tt
 
 abbrev pub CalledWord : Call → Option OwnTree → Option OwnTree → ℕ → ℕ → Type 0
-CalledWord = Called 0 word_of
+CalledWord = AnswersCall 0 word_in_c
 
 abbrev pub CalledRange : Call → Option OwnTree → Option OwnTree → ℕ → OutRange → Type 0
-CalledRange = Called no_range range_of
+CalledRange = AnswersCall no_range range_in_c
 
 -- A query of what C keeps. A closed one is EBADF, and no range.
-abbrev pub Asked : Query → Option OwnTree → Option OwnTree → ℕ → OutRange → Type 0
-Asked query None after status out = (after ≡ None) × (status ≡ 9) × (out ≡ no_range)
-Asked query (Some t) None status out = ⊥
-Asked query (Some t) (Some t') status out =
+abbrev pub AnswersQuery : Query → Option OwnTree → Option OwnTree → ℕ → OutRange → Type 0
+AnswersQuery query None after status out = (after ≡ None) × (status ≡ 9) × (out ≡ no_range)
+AnswersQuery query (Some t) None status out = ⊥
+AnswersQuery query (Some t) (Some t') status out =
     IsAsked t.engine t'.engine × (status ≡ found_status (answered t.engine query)) × (out ≡ out_of (answered t.engine query))

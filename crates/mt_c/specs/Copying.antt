@@ -38,30 +38,30 @@ pub record IsOpenedWith (kind : Kind) (rows : ℕ) (m : List Range) (t : Parts) 
   pub first : t.sheet.ended ≡ 0
 
 -- so many rows hold those that are used, and are no more than a tree may have
-abbrev pub Fits : ℕ → ℕ → Type 0
-Fits used rows = (used ≤ rows) × (rows ≤ most_rows)
+abbrev pub FitsRows : ℕ → ℕ → Type 0
+FitsRows used rows = (used ≤ rows) × (rows ≤ most_rows)
 
 -- Why there is no tree: EDOM where the rows do not fit, and ENOMEM where they do and memory ran out.
-abbrev pub Lacks : ℕ → ℕ → ℕ → Type 0
-Lacks used rows status = ((status ≡ 33) × (Fits used rows → ⊥)) ⊎ ((status ≡ 12) × Fits used rows)
+abbrev pub LacksTree : ℕ → ℕ → ℕ → Type 0
+LacksTree used rows status = ((status ≡ 33) × (FitsRows used rows → ⊥)) ⊎ ((status ≡ 12) × FitsRows used rows)
 
 -- An open of what C keeps: a tree that is so, or the number that says why there is none. One that is open is EALREADY, and stays as it was.
-abbrev pub OpensAs : (Parts → Type 0) → (ℕ → Type 0) → Option OwnTree → ℕ → Type 0
-OpensAs is lacks (Some t) status = (status ≡ 0) × is t.engine
-OpensAs is lacks None status = lacks status
+abbrev pub OpensHandleAs : (Parts → Type 0) → (ℕ → Type 0) → Option OwnTree → ℕ → Type 0
+OpensHandleAs is lacks (Some t) status = (status ≡ 0) × is t.engine
+OpensHandleAs is lacks None status = lacks status
 
-abbrev pub Opens : (Parts → Type 0) → (ℕ → Type 0) → Option OwnTree → Option OwnTree → ℕ → Type 0
-Opens is lacks (Some t) after status = (after ≡ Some t) × (status ≡ 114)
-Opens is lacks None after status = OpensAs is lacks after status
+abbrev pub OpensHandle : (Parts → Type 0) → (ℕ → Type 0) → Option OwnTree → Option OwnTree → ℕ → Type 0
+OpensHandle is lacks (Some t) after status = (after ≡ Some t) × (status ≡ 114)
+OpensHandle is lacks None after status = OpensHandleAs is lacks after status
 
 -- ---- copies
 
 -- a tree with the map of another, in so many rows, which hold those that the other has in use
-abbrev pub IsCopyIn : ℕ → Parts → Parts → Type 0
-IsCopyIn rows t t' = Fits (live_rows t.sheet.tree) rows × IsOpenedWith t.kind rows (map_by t.sheet.tree) t'
+abbrev pub IsCopyInRows : ℕ → Parts → Parts → Type 0
+IsCopyInRows rows t t' = FitsRows (live_rows t.sheet.tree) rows × IsOpenedWith t.kind rows (map_by t.sheet.tree) t'
 
 -- An open of one tree with the map of another, which is only read. A closed one is EBADF, and the copy is as it was.
 abbrev pub Copied : ℕ → Option OwnTree → Option OwnTree → Option OwnTree → Option OwnTree → ℕ → Type 0
 Copied rows None after copy copy' status = (after ≡ None) × (copy' ≡ copy) × (status ≡ 9)
 Copied rows (Some t) None copy copy' status = ⊥
-Copied rows (Some t) (Some t') copy copy' status = IsAsked t.engine t'.engine × Opens (IsCopyIn rows t.engine) (Lacks (live_rows t.engine.sheet.tree) rows) copy copy' status
+Copied rows (Some t) (Some t') copy copy' status = IsAsked t.engine t'.engine × OpensHandle (IsCopyInRows rows t.engine) (LacksTree (live_rows t.engine.sheet.tree) rows) copy copy' status

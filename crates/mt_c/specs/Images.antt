@@ -5,7 +5,7 @@ use Rattle.mt_image.specs.Reading.{Image, image_in}
 use Rattle.mt_rows.specs.Publish.{map_by}
 use Rattle.mt_engine.specs.Engine.{Parts}
 use Rattle.mt_c.specs.Calls.{IsAsked}
-use Rattle.mt_c.specs.Copying.{Fits, IsOpenedWith}
+use Rattle.mt_c.specs.Copying.{FitsRows, IsOpenedWith}
 use Rattle.mt_c.specs.Own.{OwnTree}
 
 -- the tree has an image of so many bytes, with which the buffer begins; it is else as before
@@ -30,9 +30,9 @@ Imaged (Some t) (Some t') out out' used status = IsAsked t.engine t'.engine × T
 
 -- a tree with the map of the image that these bytes are, in so many rows, which hold the image's
 abbrev pub IsOfImage : List ℕ → ℕ → Parts → Type 0
-IsOfImage bytes rows t = (x : Image) × (image_in bytes ≡ Ok x) × Fits x.tree.rows rows × IsOpenedWith x.kind rows (map_by x.tree) t
+IsOfImage bytes rows t = (x : Image) × (image_in bytes ≡ Ok x) × FitsRows x.tree.rows rows × IsOpenedWith x.kind rows (map_by x.tree) t
 
 -- Why there is none: EBADMSG where the bytes are no image, EDOM where the rows do not fit, or ENOMEM.
 abbrev pub LacksImage : List ℕ → ℕ → ℕ → Type 0
 LacksImage bytes rows status =
-    ((status ≡ 74) × IsErr (image_in bytes)) ⊎ (((x : Image) × (image_in bytes ≡ Ok x) × (status ≡ 33) × (Fits x.tree.rows rows → ⊥)) ⊎ (status ≡ 12))
+    ((status ≡ 74) × IsErr (image_in bytes)) ⊎ (((x : Image) × (image_in bytes ≡ Ok x) × (status ≡ 33) × (FitsRows x.tree.rows rows → ⊥)) ⊎ (status ≡ 12))

@@ -9,13 +9,13 @@ use Rattle.mt_tree.specs.Cursors.{apart_prop, ends_prop, fills_prop}
 use Rattle.mt_tree.specs.Walks.{IsWalkOf}
 
 -- walks go on to the last index
-abbrev pub top : ℕ
-top = 2 ^ 64 - 1
+abbrev pub last_index : ℕ
+last_index = 2 ^ 64 - 1
 
 -- the walk is of this pass, up to the last index
 pub record IsKeptWalk (p : Pass) (w : Cursor) : Type 0 where
   pub of : IsWalkOf p w
-  pub max : w.max ≡ top
+  pub max : w.max ≡ last_index
 
 -- that it is can hold in one way alone, so a walker can keep it
 pub walk_prop : (p : Pass) (w : Cursor) → IsProp (IsKeptWalk p w)

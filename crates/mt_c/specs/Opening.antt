@@ -10,7 +10,7 @@ use Rattle.mt_image.specs.Bytes.{kind_code}
 use Rattle.mt_c.specs.Own.{OwnTree}
 
 -- an empty tree in so many rows, none of which was used
-pub record IsNewTree (kind : Kind) (rows : ℕ) (t : Parts) : Type 0 where
+pub record IsNewEngine (kind : Kind) (rows : ℕ) (t : Parts) : Type 0 where
   pub new : t ≡ record { sheet = new_sheet (kind_width kind) rows; book = new_book rows; kind = kind }
   pub empty : map_by t.sheet.tree ≡ []
 
@@ -21,7 +21,7 @@ IsShape code rows kind = (kind_code kind ≡ code) × (rows ≤ most_rows)
 -- A closed one is opened with an empty tree of such a shape; or it stays closed: EINVAL tells that there is no such kind, EDOM that
 -- there are too many rows, and ENOMEM that memory ran out for such a shape.
 abbrev pub OpenedNew : ℕ → ℕ → Option OwnTree → ℕ → Type 0
-OpenedNew code rows (Some t) status = (status ≡ 0) × (kind : Kind) × IsShape code rows kind × IsNewTree kind rows t.engine
+OpenedNew code rows (Some t) status = (status ≡ 0) × (kind : Kind) × IsShape code rows kind × IsNewEngine kind rows t.engine
 OpenedNew code rows None status = ((status ≡ 22) × ((kind : Kind) → kind_code kind ≢ code)) ⊎ (((status ≡ 33) × (kind : Kind) × (kind_code kind ≡ code) × (most_rows < rows)) ⊎ ((status ≡ 12) × (kind : Kind) × IsShape code rows kind))
 
 -- An open of what C keeps. One that is open is EALREADY, and stays as it was.

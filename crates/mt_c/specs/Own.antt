@@ -14,7 +14,7 @@ abbrev pub own_of : Inside → OwnTree
 own_of t = record { engine = t.engine; place = t.place }
 
 -- its kind is told, and its calls are counted; the walk is one of the tree as it stands
-pub record IsOwn (t : Inside) : Type 0 where
+pub record IsOwnTree (t : Inside) : Type 0 where
   pub told : t.kind ≡ t.engine.kind
   pub counted : t.calls ≡ t.engine.sheet.ended
   pub walks : WalksFrom t.engine.sheet.tree t.place

@@ -17,11 +17,11 @@ kept_owns R p None = ftrue
 kept_owns R p (Some x) = box_owns to_free R p x
 
 -- something is kept
-abbrev pub IsOpen : {A : Type 0} → Option A → Type 0
-IsOpen None = ⊥
-IsOpen (Some x) = Unit {0}
+abbrev pub IsOpenHandle : {A : Type 0} → Option A → Type 0
+IsOpenHandle None = ⊥
+IsOpenHandle (Some x) = Unit {0}
 
 -- how many are kept
-abbrev pub count_of : {A : Type 0} → Option A → ℕ
-count_of None = 0
-count_of (Some x) = 1
+abbrev pub open_count : {A : Type 0} → Option A → ℕ
+open_count None = 0
+open_count (Some x) = 1

@@ -7,10 +7,9 @@ use Rattle.mt_engine.specs.Engine.{Parts}
 use Rattle.mt_engine.specs.Prepared.{IsPrestored}
 use Rattle.mt_engine.specs.Rooms.{HasRoom, IsScanned}
 use Rattle.mt_c.specs.Own.{OwnTree}
-use Rattle.mt_c.specs.Calls.{most_calls, status_of, word_of}
-
-abbrev pub IsReady : Parts → Type 0
-IsReady t = HasRoom t.sheet.tree t.book
+use Rattle.mt_c.specs.Calls.{status_of, word_in_c}
+use Rattle.mt_tree.specs.Behind.{IsReady}
+use Rattle.mt_rule.specs.Limits.{most_calls}
 
 -- the rows were scanned, and those that no section holds are free
 pub record IsPrepared (t t' : Parts) : Type 0 where
@@ -46,7 +45,7 @@ pre_status (Some made) = status_of made
 
 abbrev pub pre_word : Option (Option Reply) → ℕ
 pre_word None = 0
-pre_word (Some made) = word_of made
+pre_word (Some made) = word_in_c made
 
 abbrev pub PreCalled : Call → Option OwnTree → Option OwnTree → ℕ → ℕ → Type 0
 PreCalled call None after status word = (after ≡ None) × (status ≡ 9) × (word ≡ 0)

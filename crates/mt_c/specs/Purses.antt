@@ -17,16 +17,16 @@ use Rattle.mt_c.specs.declared.purse.Common.{Common}
 use Rattle.mt_c.specs.declared.purse.Purse.{Purse}
 
 -- the chair is at the purse
-abbrev pub IsSeatedAt : Common → Badge (Sight Purse Tree) → Type 0
-IsSeatedAt c chair = keep.IsSeatedAt c.purse.table.shared.table_id c.purse.table.shared.key chair
+abbrev pub IsChairAtPurse : Common → Badge (Sight Purse Tree) → Type 0
+IsChairAtPurse c chair = keep.IsSeatedAt c.purse.table.shared.table_id c.purse.table.shared.key chair
 
 -- the seat has the purse, which was this when it took it
-abbrev pub IsTakenOf : Common → Snapshot Purse → Seat (Option Purse) (Sight Purse Tree) → Type 0
-IsTakenOf c took seat = keep.IsTakenOf c.purse.table.shared.table_id c.purse.table.shared.key took seat
+abbrev pub HasPurse : Common → Snapshot Purse → Seat (Option Purse) (Sight Purse Tree) → Type 0
+HasPurse c took seat = keep.IsTakenOf c.purse.table.shared.table_id c.purse.table.shared.key took seat
 
 -- it tells that the purse was found taken, by a seat so many cuts from the first chair
-abbrev pub IsBusyAt : Common → ℕ → Busy Purse Tree → Type 0
-IsBusyAt c cuts busy = keep.IsBusyAt c.purse.table.shared.table_id c.purse.table.shared.key busy × (keep.cuts_of busy.seat ≡ cuts)
+abbrev pub IsPurseBusy : Common → ℕ → Busy Purse Tree → Type 0
+IsPurseBusy c cuts busy = keep.IsBusyAt c.purse.table.shared.table_id c.purse.table.shared.key busy × (keep.cuts_of busy.seat ≡ cuts)
 
 -- what the passes of a purse know
 abbrev pub known_in : Purse → List known.Pass

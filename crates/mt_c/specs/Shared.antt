@@ -30,13 +30,13 @@ use Rattle.mt_c.specs.declared.user_opens.Left.{Left}
 use Rattle.mt_c.specs.declared.user_opens.Unchanged.{Unchanged}
 use Rattle.mt_c.specs.declared.user_opens.Unchanged.TheVariants as unchanged
 use Rattle.mt_c.specs.declared.shared_told.Outcome.{Outcome}
-use Rattle.mt_c.specs.declared.shared_told.Window.{Window}
-use Rattle.mt_c.specs.Calls.{found_status, no_range, out_of, range_of, shortage_of, status_of, word_of}
-use Rattle.mt_c.specs.KeptWalks.{top}
+use Rattle.mt_c.specs.declared.shared_told.CallWindow.{CallWindow}
+use Rattle.mt_c.specs.Calls.{found_status, no_range, out_of, range_in_c, shortage_of, status_of, word_in_c}
+use Rattle.mt_c.specs.KeptWalks.{last_index}
 use Rattle.mt_c.specs.Receipts.{when_given, when_settled, when_synced, when_tried, when_unchanged}
-pub use Rattle.mt_c.specs.Users.{HasLeft, IsFirst, IsOfPurse, IsSame, IsSettled, IsSynced, IsWhy, OnlyWalks, WantsNoPlace, WentToSettle, common_of, cuts, known_to, paused, rested, tree_of}
-use Rattle.mt_c.specs.Walkers.{Answer, GaveUp, IsAnswer, IsAtRest, StepsFrom, Took, Tried, IsTried, TriedOnce, WentOnce}
-use Rattle.mt_c.specs.Walking.{index_of, walk_from}
+pub use Rattle.mt_c.specs.Users.{HasLeft, IsFirstUser, IsOfPurse, IsSame, IsSettledUser, IsSynced, IsWhy, OnlyWalks, WantsNoPlace, WentToSettle, common_of, cuts, known_to, paused, rested, user_tree}
+use Rattle.mt_c.specs.Walkers.{Answer, GaveUp, IsWalkAnswer, IsOnNoWalk, StepsFrom, Took, Tried, IsTried, TriedOnce, WentOnce}
+use Rattle.mt_c.specs.Walking.{walk_index, walk_from}
 
 -- ---- users
 
@@ -49,10 +49,10 @@ OnUser (Some u) (Some v) status blank says = (common_of v ≡ common_of u) × sa
 
 -- ---- reads
 
-abbrev pub no_window : Window
+abbrev pub no_window : CallWindow
 no_window = record { lo = 0; hi = 0; first = 0; last = 0; entry = 0 }
 
-abbrev pub window : ℕ → ℕ → OutRange → Window
+abbrev pub window : ℕ → ℕ → OutRange → CallWindow
 window lo hi r = record { lo = lo; hi = hi; first = r.first; last = r.last; entry = r.entry }
 
 -- what C is told of it: EAGAIN where it was given up
@@ -60,35 +60,35 @@ abbrev pub answer_status : Answer → ℕ
 answer_status (Ok r) = found_status r.value
 answer_status (Err m) = 11
 
-abbrev pub window_of : Answer → Window
+abbrev pub window_of : Answer → CallWindow
 window_of (Ok r) = window r.lo r.hi (out_of r.value)
 window_of (Err m) = window m.lo m.begun no_range
 
 -- A query of a user of a shared tree, which is on no walk then. It takes so many steps at the most, does not go for the lock, and is given
 -- up for a leaf that was found marked alone. It makes no step at the purse, and so leaves all other passes.
-abbrev pub SharedAsked : Query → Option User → Option User → ℕ → Window → Type 0
+abbrev pub SharedAsked : Query → Option User → Option User → ℕ → CallWindow → Type 0
 SharedAsked query before after status out =
-    OnUser before after status (out ≡ no_window) (λ u v. (answer : Answer) × IsAnswer (tree_of u) (known_to u) query answer (known_to v) × IsAtRest v.walker × Took (most_made query) u.walker v.walker.pass × IfErr answer (GaveUp query u.walker v.walker) × OnlyWalks u v × (status ≡ answer_status answer) × (out ≡ window_of answer))
+    OnUser before after status (out ≡ no_window) (λ u v. (answer : Answer) × IsWalkAnswer (user_tree u) (known_to u) query answer (known_to v) × IsOnNoWalk v.walker × Took (most_made query) u.walker v.walker.pass × IfErr answer (GaveUp query u.walker v.walker) × OnlyWalks u v × (status ≡ answer_status answer) × (out ≡ window_of answer))
 
 -- the walk that goes on behind what was found
 abbrev pub went_on : Option Range → OutWalk
-went_on found = walk_from (place_behind found top)
+went_on found = walk_from (place_behind found last_index)
 
 -- The user has given up its walk: no section of it stands open. Its pass has made one step for that, and has not gone for the lock.
 abbrev pub SharedPaused : Option User → Option User → ℕ → Type 0
-SharedPaused before after status = OnUser before after status (Unit {0}) (λ u v. (known_to v ≡ rested u) × IsAtRest v.walker × Takes 1 u.walker.pass v.walker.pass × OnlyWalks u v × (status ≡ 0))
+SharedPaused before after status = OnUser before after status (Unit {0}) (λ u v. (known_to v ≡ rested u) × IsOnNoWalk v.walker × Takes 1 u.walker.pass v.walker.pass × OnlyWalks u v × (status ≡ 0))
 
 -- A step of a walk of C's: it goes on behind what was found, and the user keeps its place where a range was found. Where the user is
 -- closed the walk is as it was.
-abbrev pub SharedStepped : OutWalk → OutWalk → Option User → Option User → ℕ → Window → Type 0
+abbrev pub SharedStepped : OutWalk → OutWalk → Option User → Option User → ℕ → CallWindow → Type 0
 SharedStepped w w' before after status out =
-    OnUser before after status ((out ≡ no_window) × (w' ≡ w)) (λ u v. (r : Read (Option Range)) × StepsFrom (tree_of u) u.walker (index_of w) r v.walker × OnlyWalks u v × (status ≡ answer_status (Ok r)) × (out ≡ window_of (Ok r)) × (w' ≡ went_on r.value))
+    OnUser before after status ((out ≡ no_window) × (w' ≡ w)) (λ u v. (r : Read (Option Range)) × StepsFrom (user_tree u) u.walker (walk_index w) r v.walker × OnlyWalks u v × (status ≡ answer_status (Ok r)) × (out ≡ window_of (Ok r)) × (w' ≡ went_on r.value))
 
 -- The user looked how many calls had ended, by a read, and has seen those: 0 where they are so many as it was to learn, else
 -- EINPROGRESS.
 abbrev pub SharedLearned : ℕ → Option User → Option User → ℕ → Type 0
 SharedLearned calls before after status =
-    OnUser before after status (Unit {0}) (λ u v. (r : Read (Option Range)) × IsAnswer (tree_of u) (known_to u) (Load 0) (Ok r) (known_to v) × IsAtRest v.walker × Took 170 u.walker v.walker.pass × OnlyWalks u v × (status ≡ (if nat_le calls r.lo then 0 else 115)))
+    OnUser before after status (Unit {0}) (λ u v. (r : Read (Option Range)) × IsWalkAnswer (user_tree u) (known_to u) (Load 0) (Ok r) (known_to v) × IsOnNoWalk v.walker × Took 170 u.walker v.walker.pass × OnlyWalks u v × (status ≡ (if nat_le calls r.lo then 0 else 115)))
 
 -- ---- calls
 
@@ -96,9 +96,9 @@ abbrev pub no_outcome : Outcome
 no_outcome = record { call = 0; word = 0; first = 0; last = 0; entry = 0; need = 0; free = 0; live = 0; held = 0; by = 0; epoch = 0 }
 
 -- the place of a user whose section holds rows back, from 1, and how many calls had ended when that was opened; zeros of none
-abbrev pub place_of : Option Holder → ℕ
-place_of None = 0
-place_of (Some h) = h.pass + 1
+abbrev pub holder_place : Option Holder → ℕ
+holder_place None = 0
+holder_place (Some h) = h.pass + 1
 
 abbrev pub epoch_of : Option Holder → ℕ
 epoch_of None = 0
@@ -107,9 +107,9 @@ epoch_of (Some h) = h.epoch
 -- the number of the call in the history, the one word of the reply, and its range; and what it says of rows
 abbrev pub done_outcome : Done → Outcome
 done_outcome d =
-    let r = range_of (Some d.reply) in
+    let r = range_in_c (Some d.reply) in
     let s = shortage_of d.reply in
-    record { call = d.call; word = word_of (Some d.reply); first = r.first; last = r.last; entry = r.entry; need = s.need; free = s.free; live = s.live; held = s.held; by = place_of s.by; epoch = epoch_of s.by }
+    record { call = d.call; word = word_in_c (Some d.reply); first = r.first; last = r.last; entry = r.entry; need = s.need; free = s.free; live = s.live; held = s.held; by = holder_place s.by; epoch = epoch_of s.by }
 
 abbrev pub done_status : Done → ℕ
 done_status d = status_of (Some d.reply)
@@ -128,7 +128,7 @@ outcome_of (Err busy) = no_outcome
 -- A call of a user, made under the tree's lock if that is free, for which it goes once. That this was found taken is what the user then
 -- has. It makes no step at the purse, so no other pass has made a call.
 abbrev pub HasTried : Call → ℕ → Outcome → User → User → Type 0
-HasTried call status out u v = (tried : Tried) × IsTried (tree_of u) (paused u) call tried (known_to v) × TriedOnce u.walker v.walker × (v.chair ≡ u.chair) × (v.receipts ≡ when_tried tried u.receipts) × (status ≡ tried_status tried) × (out ≡ outcome_of tried)
+HasTried call status out u v = (tried : Tried) × IsTried (user_tree u) (paused u) call tried (known_to v) × TriedOnce u.walker v.walker × (v.chair ≡ u.chair) × (v.receipts ≡ when_tried tried u.receipts) × (status ≡ tried_status tried) × (out ≡ outcome_of tried)
 
 abbrev pub SharedTried : Call → Option User → Option User → ℕ → Outcome → Type 0
 SharedTried call before after status out = OnUser before after status (out ≡ no_outcome) (HasTried call status out)
@@ -159,7 +159,7 @@ LacksShape code rows passes calls status =
 
 -- A closed one is opened so, or stays closed.
 abbrev pub SharedNew : ℕ → ℕ → ℕ → ℕ → Option User → ℕ → Type 0
-SharedNew code rows passes calls (Some u) status = (status ≡ 0) × (shape : Shape) × IsShape code rows passes calls shape × IsFirst shape [] u
+SharedNew code rows passes calls (Some u) status = (status ≡ 0) × (shape : Shape) × IsShape code rows passes calls shape × IsFirstUser shape [] u
 SharedNew code rows passes calls None status = LacksShape code rows passes calls status
 
 -- One that is open is EALREADY, and stays as it was.
@@ -203,30 +203,30 @@ abbrev pub synced_status : Result ℕ Busy → ℕ
 synced_status (Ok calls) = 0
 synced_status (Err busy) = 11
 
-abbrev pub calls_told : Result ℕ Busy → ℕ
-calls_told (Ok calls) = calls
-calls_told (Err busy) = 0
+abbrev pub calls_in_c : Result ℕ Busy → ℕ
+calls_in_c (Ok calls) = calls
+calls_in_c (Err busy) = 0
 
 abbrev pub HasSynced : ℕ → ℕ → User → User → Type 0
-HasSynced status calls u v = (synced : Result ℕ Busy) × IsSynced (tree_of u) (paused u) synced (known_to v) × WentOnce u.walker v.walker × (v.chair ≡ u.chair) × (v.receipts ≡ when_synced synced u.receipts) × (status ≡ synced_status synced) × (calls ≡ calls_told synced)
+HasSynced status calls u v = (synced : Result ℕ Busy) × IsSynced (user_tree u) (paused u) synced (known_to v) × WentOnce u.walker v.walker × (v.chair ≡ u.chair) × (v.receipts ≡ when_synced synced u.receipts) × (status ≡ synced_status synced) × (calls ≡ calls_in_c synced)
 
 abbrev pub SharedSynced : Option User → Option User → ℕ → ℕ → Type 0
 SharedSynced before after status calls = OnUser before after status (calls ≡ 0) (HasSynced status calls)
 
-abbrev pub Settled : Type 0
-Settled = Result (ℕ × ℕ × Given Purse Tree) Settling
+abbrev pub SettleResult : Type 0
+SettleResult = Result (ℕ × ℕ × Given Purse Tree) Settling
 
-abbrev pub settled_status : Settled → ℕ
+abbrev pub settled_status : SettleResult → ℕ
 settled_status (Ok r) = 0
 settled_status (Err why) = 11
 
-abbrev pub settled_told : Settled → ℕ × ℕ
+abbrev pub settled_told : SettleResult → ℕ × ℕ
 settled_told (Ok r) = (r.0, r.1)
 settled_told (Err why) = (0, 0)
 
 abbrev pub HasSettled : ℕ → ℕ → ℕ → User → User → Type 0
 HasSettled status calls passes u v =
-    (settled : Settled) × IsSettled (common_of u) (cuts u) (paused u) settled (known_to v) × WentToSettle settled u.walker v.walker × (cuts v ≡ cuts u + 1) × (v.receipts ≡ when_settled settled u.receipts) × (status ≡ settled_status settled) × (calls ≡ (settled_told settled).0) × (passes ≡ (settled_told settled).1)
+    (settled : SettleResult) × IsSettledUser (common_of u) (cuts u) (paused u) settled (known_to v) × WentToSettle settled u.walker v.walker × (cuts v ≡ cuts u + 1) × (v.receipts ≡ when_settled settled u.receipts) × (status ≡ settled_status settled) × (calls ≡ (settled_told settled).0) × (passes ≡ (settled_told settled).1)
 
 abbrev pub SharedSettled : Option User → Option User → ℕ → ℕ → ℕ → Type 0
 SharedSettled before after status calls passes = OnUser before after status ((calls ≡ 0) × (passes ≡ 0)) (HasSettled status calls passes)

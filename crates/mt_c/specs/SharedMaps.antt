@@ -13,11 +13,11 @@ use Rattle.mt_tree.specs.Shapes.{first_bad}
 use Rattle.mt_c.specs.declared.user.User.{User}
 use Rattle.mt_c.specs.Calls.{IsAsked}
 use Rattle.mt_c.specs.Own.{OwnTree}
-use Rattle.mt_c.specs.Shared.{IsBadShape, IsFirst, field_status}
+use Rattle.mt_c.specs.Shared.{IsBadShape, IsFirstUser, field_status}
 
 -- the first user of a tree of this shape, which is in range, with this map
 abbrev pub IsFirstWith : Shape → List Range → User → Type 0
-IsFirstWith shape m u = (first_bad shape ≡ None) × IsFirst shape m u
+IsFirstWith shape m u = (first_bad shape ≡ None) × IsFirstUser shape m u
 
 -- Why there is none with the map of these words: the number of a field that is out of range; EDOM where the rows are fewer than these
 -- have in use; or ENOMEM.

@@ -4,6 +4,6 @@ use Rattle.mt_tree.specs.declared.trees.Tree.{Tree}
 use Rattle.mt_tree.specs.Trees.{Pass, IsPassOf, pass_in}
 
 -- It is of this tree, and no section of it stands open.
-pub record IsSpare (t : Tree) (p : Pass) : Type 0 where
+pub record IsSparePass (t : Tree) (p : Pass) : Type 0 where
   pub of : IsPassOf t p
   pub rests : (pass_in p).standing ≡ None

@@ -21,9 +21,9 @@ use Rattle.mt_c.specs.declared.user_acts.Settling.TheVariants as settling
 use Rattle.mt_c.specs.declared.user_opens.Left.{Left}
 use Rattle.mt_c.specs.declared.user_opens.Unchanged.{Unchanged}
 use Rattle.mt_c.specs.declared.user_opens.Unchanged.TheVariants as unchanged
-use Rattle.mt_c.specs.Purses.{IsBusyAt, IsSeatedAt, RestsInPurse, WasGiven, WasKept, first_in, known_in}
+use Rattle.mt_c.specs.Purses.{IsPurseBusy, IsChairAtPurse, RestsInPurse, WasGiven, WasKept, first_in, known_in}
 use Rattle.mt_c.specs.Receipts.{no_receipts}
-use Rattle.mt_c.specs.Walkers.{IsAtRest, Took, WentOnce, halted, knows}
+use Rattle.mt_c.specs.Walkers.{IsOnNoWalk, Took, WentOnce, halted, knows}
 use Rattle.mt_c.specs.declared.walker.Walker.{Walker}
 
 -- what the users of a tree own together
@@ -31,8 +31,8 @@ abbrev pub common_of : User → Common
 common_of u = arc_value u.common
 
 -- the tree of a user
-abbrev pub tree_of : User → Tree
-tree_of u = (common_of u).tree
+abbrev pub user_tree : User → Tree
+user_tree u = (common_of u).tree
 
 -- what a user's pass knows
 abbrev pub known_to : User → known.Pass
@@ -61,10 +61,10 @@ pub record OnlyWalks (u v : User) : Type 0 where
 
 -- The first user of a tree of this shape that opens with this map. Its pass and those that the purse began with are all that the tree has, and have seen
 -- nothing. Its chair is the first, so nobody has taken the purse; nor has it found anything at the lock or the purse.
-pub record IsFirst (shape : Shape) (opening : List Range) (u : User) : Type 0 where
-  pub tree : opened (tree_of u) ≡ record { kind = shape.kind; rows = shape.rows; opening = opening; records = [] }
-  pub calls : limit_of (tree_of u) ≡ shape.calls
-  pub users : passes_of (tree_of u) ≡ shape.passes
+pub record IsFirstUser (shape : Shape) (opening : List Range) (u : User) : Type 0 where
+  pub tree : opened (user_tree u) ≡ record { kind = shape.kind; rows = shape.rows; opening = opening; records = [] }
+  pub calls : limit_of (user_tree u) ≡ shape.calls
+  pub users : passes_of (user_tree u) ≡ shape.passes
   pub passes : known_in (first_in (common_of u)) ++ known_to u ∷ [] ≡ map known.new_pass (range_with_len 0 shape.passes)
   pub chair : cuts u ≡ 0
   pub walk : u.walker.walk ≡ None
@@ -81,7 +81,7 @@ pub record IsOfPurse (c : Common) (before : ℕ) (u : User) (given : Given Purse
   pub others : List known.Pass
   pub out : WasGiven c (before + 1) (others ++ known_to u ∷ []) others given
   pub chair : cuts u ≡ before + 2
-  pub rests : IsAtRest u.walker
+  pub rests : IsOnNoWalk u.walker
   pub none : u.receipts ≡ no_receipts
 
 -- A pass that knows this was put into the purse, behind those that were there, by a seat so many cuts from the first chair; and so is the
@@ -89,13 +89,13 @@ pub record IsOfPurse (c : Common) (before : ℕ) (u : User) (given : Given Purse
 pub record HasLeft (c : Common) (cuts : ℕ) (p : known.Pass) (left : Left) : Type 0 where
   pub others : List known.Pass
   pub into : WasGiven c cuts others (others ++ p ∷ []) left.given
-  pub seated : IsSeatedAt c left.chair
+  pub seated : IsChairAtPurse c left.chair
   pub chair : cuts_of left.chair ≡ cuts
 
 -- By a step of such a chair at the purse of this tree: that another had it was found there; that it was empty, or that memory ran out,
 -- by who took it and gave it back as it was.
 abbrev pub IsWhy : Common → ℕ → Unchanged → Type 0
-IsWhy c before (unchanged.Busy busy) = IsBusyAt c (before + 1) busy
+IsWhy c before (unchanged.Busy busy) = IsPurseBusy c (before + 1) busy
 IsWhy c before (unchanged.NoPlace given) = WasGiven c (before + 1) [] [] given
 IsWhy c before (unchanged.NoMemory given) = WasKept c (before + 1) given
 
@@ -114,10 +114,10 @@ IsSynced t p (Err busy) q = IsBusyOf t busy × (q ≡ p)
 
 -- A user and all passes in the purse have met under the lock, so many; or the purse or the lock was found taken, and the purse given back
 -- as it was. It made one step at the purse, by a chair that was so many cuts from the first, and no pass of that went for the lock.
-abbrev pub IsSettled : Common → ℕ → known.Pass → Result (ℕ × ℕ × Given Purse Tree) Settling → known.Pass → Type 0
-IsSettled c cut p (Ok r) q = (before : List known.Pass) × (after : List known.Pass) × HaveMet c.tree (p ∷ before) (q ∷ after) r.0 × (r.1 ≡ length after) × WasGiven c (cut + 1) before after r.2 × RestsInPurse r.2
-IsSettled c cut p (Err (settling.Unpursed busy)) q = IsBusyAt c (cut + 1) busy × (q ≡ p)
-IsSettled c cut p (Err (settling.Locked busy given)) q = IsBusyOf c.tree busy × WasKept c (cut + 1) given × RestsInPurse given × (q ≡ p)
+abbrev pub IsSettledUser : Common → ℕ → known.Pass → Result (ℕ × ℕ × Given Purse Tree) Settling → known.Pass → Type 0
+IsSettledUser c cut p (Ok r) q = (before : List known.Pass) × (after : List known.Pass) × HaveMet c.tree (p ∷ before) (q ∷ after) r.0 × (r.1 ≡ length after) × WasGiven c (cut + 1) before after r.2 × RestsInPurse r.2
+IsSettledUser c cut p (Err (settling.Unpursed busy)) q = IsPurseBusy c (cut + 1) busy × (q ≡ p)
+IsSettledUser c cut p (Err (settling.Locked busy given)) q = IsBusyOf c.tree busy × WasKept c (cut + 1) given × RestsInPurse given × (q ≡ p)
 
 -- The user itself went for the lock once, where it had the purse.
 abbrev pub WentToSettle : Result (ℕ × ℕ × Given Purse Tree) Settling → Walker → Walker → Type 0

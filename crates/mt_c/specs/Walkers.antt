@@ -22,7 +22,7 @@ use Rattle.mt_tree.specs.Trees.{Pass, Takes, pass_in, steps_made, opened}
 use Rattle.mt_tree.specs.Tries.{IsBusyOf, WasMade}
 use Rattle.mt_tree.specs.Walks.{HasWalked}
 use Rattle.mt_c.specs.declared.walker.Walker.{Walker}
-pub use Rattle.mt_c.specs.KeptWalks.{IsKeptWalk, top, walks_coded}
+pub use Rattle.mt_c.specs.KeptWalks.{IsKeptWalk, last_index, walks_coded}
 
 -- ---- what it knows
 
@@ -70,9 +70,9 @@ pub record TriedOnce (w w' : Walker) : Type 0 where
 abbrev pub Answer : Type 0
 Answer = Result (Read (Option Range)) Moved
 
-abbrev pub IsAnswer : Tree → known.Pass → Query → Answer → known.Pass → Type 0
-IsAnswer t p query (Ok r) q = ((k : ℕ) × known.Read (opened t) p r.lo r.hi k query r.value q) × HasRead r.lo r.hi p q
-IsAnswer t p query (Err m) q = WasMoved (opened t) p m.lo m.begun q × IsForNeighbour query × HasRead m.lo m.begun p q
+abbrev pub IsWalkAnswer : Tree → known.Pass → Query → Answer → known.Pass → Type 0
+IsWalkAnswer t p query (Ok r) q = ((k : ℕ) × known.Read (opened t) p r.lo r.hi k query r.value q) × HasRead r.lo r.hi p q
+IsWalkAnswer t p query (Err m) q = WasMoved (opened t) p m.lo m.begun q × IsForNeighbour query × HasRead m.lo m.begun p q
 
 -- When its walk was paused, it left a leaf of the query's index that it then found marked as dead.
 pub record GaveUp (query : Query) (w w' : Walker) (m : Moved) : Type 0 where
@@ -82,8 +82,8 @@ pub record GaveUp (query : Query) (w w' : Walker) (m : Moved) : Type 0 where
   pub left : WasLeftMarked (unbounded (part_of pass).shape.kind query) m.lo m.begun (part_of pass) (part_of w'.pass)
 
 -- It is on no walk, and no section of it stands open.
-abbrev pub IsAtRest : Walker → Type 0
-IsAtRest w = (w.walk ≡ None) × ((knows w).standing ≡ None)
+abbrev pub IsOnNoWalk : Walker → Type 0
+IsOnNoWalk w = (w.walk ≡ None) × ((knows w).standing ≡ None)
 
 -- ---- steps of a walk
 
@@ -93,26 +93,26 @@ IsOnAt None place = ⊥
 IsOnAt (Some walk) place = walk.at ≡ place
 
 -- A walk that has found a range is kept, and stands behind it; one that has found none is forgotten.
-abbrev pub GoesOn : Option Range → Walker → Type 0
-GoesOn (Some range) w = (walk : Cursor) × (w.walk ≡ Some walk) × (walk.at ≡ place_behind (Some range) top)
-GoesOn None w = IsAtRest w
+abbrev pub WalkGoesOn : Option Range → Walker → Type 0
+WalkGoesOn (Some range) w = (walk : Cursor) × (w.walk ≡ Some walk) × (walk.at ≡ place_behind (Some range) last_index)
+WalkGoesOn None w = IsOnNoWalk w
 
 -- a walk from an index that has opened no section yet
 abbrev pub new_walk : ℕ → Cursor
-new_walk from = record { at = Some from; max = top; leaf = None; epoch = None }
+new_walk from = record { at = Some from; max = last_index; leaf = None; epoch = None }
 
 -- a new walk is gone, when the one that was kept was paused
 abbrev pub IsAnew : ℕ → Walker → Pass → Cursor → Type 0
 IsAnew from w p walk = (pass_in p ≡ halted w) × Took 0 w p × (walk ≡ new_walk from)
 
 -- whether a walk stands at this index
-abbrev pub is_at : Option ℕ → ℕ → Bool
-is_at None from = false
-is_at (Some at) from = at == from
+abbrev pub walk_is_at : Option ℕ → ℕ → Bool
+walk_is_at None from = false
+walk_is_at (Some at) from = at == from
 
 abbrev pub stands_at : Option Cursor → ℕ → Bool
 stands_at None from = false
-stands_at (Some walk) from = is_at walk.at from
+stands_at (Some walk) from = walk_is_at walk.at from
 
 -- The walk that a step from an index goes on, and its pass: the one that is kept, where it stands there, with its leaf and its section.
 abbrev pub GoesFrom : Bool → ℕ → Walker → Pass → Cursor → Type 0
@@ -134,8 +134,8 @@ IsReadBy t p query r q = (k : ℕ) × known.Read (opened t) p r.lo r.hi k query 
 -- One step from an index: the find from there, by one step of the walk that stands there, or of a new one. Beside the steps of that
 -- one closes the section at the end of the walk.
 pub record IsStep (t : Tree) (w : Walker) (from : ℕ) (r : Read (Option Range)) (w' : Walker) : Type 0 where
-  pub read : IsReadBy t (knows w) (query_at (Some from) top) r (knows w')
-  pub goes : GoesOn r.value w'
+  pub read : IsReadBy t (knows w) (query_at (Some from) last_index) r (knows w')
+  pub goes : WalkGoesOn r.value w'
   pub pass : Pass
   pub walk : Cursor
   pub begins : Continues from w pass walk
@@ -147,7 +147,7 @@ pub record IsStep (t : Tree) (w : Walker) (from : ℕ) (r : Read (Option Range))
 
 -- A step from a place. Where there is no place nothing is found, by a read.
 abbrev pub StepsFrom : Tree → Walker → Option ℕ → Read (Option Range) → Walker → Type 0
-StepsFrom t w None r w' = IsAnswer t (knows w) (query_at None top) (Ok r) (knows w') × IsAtRest w' × Took 175 w w'.pass
+StepsFrom t w None r w' = IsWalkAnswer t (knows w) (query_at None last_index) (Ok r) (knows w') × IsOnNoWalk w' × Took 175 w w'.pass
 StepsFrom t w (Some from) r w' = IsStep t w from r w'
 
 -- ---- calls

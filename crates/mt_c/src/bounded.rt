@@ -4,10 +4,10 @@ ghost use Rattle.std.specs.Prelude.{◌≡◌, None};
 ghost use Rattle.mt_tree.specs.Trees.{IsPassOf};
 ghost use Rattle.mt_c.specs.Bounded as defined;
 ghost use Rattle.mt_c.specs.Bounded.{SharedSteppedTo, SteppedTo, StepsTo};
-ghost use Rattle.mt_c.specs.Users.{common_of, tree_of};
+ghost use Rattle.mt_c.specs.Users.{common_of, user_tree};
 
 use crate::handle::Handle;
-use crate::shared_told::{Window, answer_told, place_behind, seen};
+use crate::shared_told::{CallWindow, answer_told, place_behind, seen};
 use crate::steps::{OutWalk, tell};
 use crate::told::{EBADF, OutRange, no_range};
 use crate::user::User;
@@ -69,7 +69,7 @@ impl User {
         ensures common { common_of self.new ≡ common_of self.old }
         ensures chair { self.new.chair ≡ self.old.chair }
         ensures receipts { self.new.receipts ≡ self.old.receipts }
-        ensures stepped { StepsTo (tree_of self.old) self.old.walker max (defined.place_to max place) result self.new.walker }
+        ensures stepped { StepsTo (user_tree self.old) self.old.walker max (defined.place_to max place) result self.new.walker }
     {
         self.walker.step_to(&self.common.tree, place, max)
     }
@@ -108,7 +108,7 @@ pub extern "C" fn maple_shared_step_to(
     user: &mut UserHandle,
     walk: &mut OutWalk,
     max: u64,
-    read: &mut Window,
+    read: &mut CallWindow,
 ) -> u32
     ensures { SharedSteppedTo max walk.old walk.new user.old.kept.value user.new.kept.value result read.new }
 {

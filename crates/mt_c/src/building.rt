@@ -19,34 +19,34 @@ use std::alloc::Global;
 
 /// Why no tree is built: the number that C gets, and the place of a range.
 #[derive(Clone, Copy)]
-pub struct Why {
+pub struct BuildWhy {
     pub status: u32,
     pub at: u64,
 }
 
-impl Why {
+impl BuildWhy {
     /// A number alone.
-    pub fn alone(status: u32) -> Why
+    pub fn alone(status: u32) -> BuildWhy
         ensures { result ≡ record { status = status; at = 0 } }
     {
-        Why { status, at: 0 }
+        BuildWhy { status, at: 0 }
     }
 
     /// Why a bulk build is refused.
-    fn of(why: BulkError) -> Why
+    fn of(why: BulkError) -> BuildWhy
         ensures { result ≡ defined.why_of why }
     {
         match why {
-            BulkError::Order { at } => Why { status: EINVAL, at },
-            BulkError::TooMany { .. } => Why::alone(EDOM),
-            BulkError::NoMemory => Why::alone(ENOMEM),
+            BulkError::Order { at } => BuildWhy { status: EINVAL, at },
+            BulkError::TooMany { .. } => BuildWhy::alone(EDOM),
+            BulkError::NoMemory => BuildWhy::alone(ENOMEM),
         }
     }
 }
 
 /// A range that C has.
 fn range_of(range: &OutRange) -> Range
-    ensures { result ≡ defined.range_of range.now }
+    ensures { result ≡ defined.range_from_c range.now }
 {
     let OutRange { first, last, entry } = *range;
     Range { first, last, entry }
@@ -55,7 +55,7 @@ fn range_of(range: &OutRange) -> Range
 /// The ranges that C has.
 #[tactic(auto, using(std::proofs::lemmas::List::map_more))]
 fn taken(alloc: Global, ranges: &[OutRange]) -> Result<Vec<Range>, NoMemory>
-    ensures { IfOk result (λ taken. taken.items ≡ map defined.range_of ranges.now) }
+    ensures { IfOk result (λ taken. taken.items ≡ map defined.range_from_c ranges.now) }
 {
     let mut taken = Vec::with_capacity(alloc, ranges.len())?;
     for range in ranges {
@@ -66,28 +66,33 @@ fn taken(alloc: Global, ranges: &[OutRange]) -> Result<Vec<Range>, NoMemory>
 
 /// The rows of a tree that has just these ranges, as few as hold it.
 #[tactic(auto, using(crate::proofs::RangesBuilt::order_kept, crate::proofs::RangesBuilt::why_refused))]
-pub fn built(alloc: Global, kind: Kind, ranges: &[OutRange]) -> Result<PlainRows, Why>
-    ensures order { IfOk result (λ rows. misplaced kind (map defined.range_of ranges.now) ≡ None) }
-    ensures rows { IfOk result (λ rows. IsBuilt kind (map defined.range_of ranges.now) (sheet_in rows)) }
-    ensures lacks { IfErr result (LacksAnyhow kind (map defined.range_of ranges.now)) }
+pub fn built(alloc: Global, kind: Kind, ranges: &[OutRange]) -> Result<PlainRows, BuildWhy>
+    ensures order { IfOk result (λ rows. misplaced kind (map defined.range_from_c ranges.now) ≡ None) }
+    ensures rows { IfOk result (λ rows. IsBuilt kind (map defined.range_from_c ranges.now) (sheet_in rows)) }
+    ensures lacks { IfErr result (LacksAnyhow kind (map defined.range_from_c ranges.now)) }
 {
     let Ok(ranges) = taken(alloc, ranges) else {
-        return Err(Why::alone(ENOMEM));
+        return Err(BuildWhy::alone(ENOMEM));
     };
     match build_alone(alloc, kind, &ranges) {
         Ok(rows) => Ok(rows),
-        Err(why) => Err(Why::of(why)),
+        Err(why) => Err(BuildWhy::of(why)),
     }
 }
 
 /// A tree of the kind with this code that has just these ranges, in so many rows; or why there is none.
 #[tactic(auto, using(crate::proofs::RangesBuilt::lacks_anyhow, crate::proofs::RangesBuilt::of_ranges_in, crate::proofs::RangesBuilt::ranges_lack))]
-fn of_ranges(alloc: Global, code: u32, rows: u64, ranges: &[OutRange]) -> Result<Box<OwnTree>, Why>
-    ensures tree { IfOk result (λ whole. IsOfRanges code rows (map defined.range_of ranges.now) whole.value.engine) }
-    ensures lacks { IfErr result (λ why. LacksRanges code rows (map defined.range_of ranges.now) why.status why.at) }
+fn of_ranges(
+    alloc: Global,
+    code: u32,
+    rows: u64,
+    ranges: &[OutRange],
+) -> Result<Box<OwnTree>, BuildWhy>
+    ensures tree { IfOk result (λ whole. IsOfRanges code rows (map defined.range_from_c ranges.now) whole.value.engine) }
+    ensures lacks { IfErr result (λ why. LacksRanges code rows (map defined.range_from_c ranges.now) why.status why.at) }
 {
     let Some(kind) = kind_of(code) else {
-        return Err(Why::alone(EINVAL));
+        return Err(BuildWhy::alone(EINVAL));
     };
     let mut src = match built(alloc, kind, ranges) {
         Ok(rows) => rows,
@@ -96,7 +101,7 @@ fn of_ranges(alloc: Global, code: u32, rows: u64, ranges: &[OutRange]) -> Result
     let used = used_in(kind, &src);
     match fitted(alloc, kind, &mut src, used, rows) {
         Ok(whole) => Ok(whole),
-        Err(status) => Err(Why::alone(status)),
+        Err(status) => Err(BuildWhy::alone(status)),
     }
 }
 
@@ -112,7 +117,7 @@ pub extern "C" fn maple_build(
     ranges: &[OutRange],
     at: &mut u64,
 ) -> u32
-    ensures { Builds kind rows (map defined.range_of ranges.now) tree.old.kept.value tree.new.kept.value result at.new }
+    ensures { Builds kind rows (map defined.range_from_c ranges.now) tree.old.kept.value tree.new.kept.value result at.new }
 {
     *at = 0;
     if let Some(whole) = tree.take(alloc) {

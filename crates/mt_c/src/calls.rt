@@ -1,20 +1,20 @@
 //! Calls and queries of what C keeps.
 
-ghost use Rattle.mt_c.specs.Calls.{Called, Asked, no_told, told_of};
+ghost use Rattle.mt_c.specs.Calls.{AnswersCall, AnswersQuery, no_told, told_in_c};
 
 use crate::handle::Handle;
 use crate::own_tree::OwnTree;
-use crate::told::{EBADF, OutRange, Told, found_status, no_range, out_of, told_of};
+use crate::told::{EBADF, OutRange, ToldCall, found_status, no_range, out_of, told_of};
 use mt_base::{Call, Query};
 use std::alloc::Global;
 
 /// Makes one call of what C keeps.
 #[tactic(auto, using(crate::proofs::Telling::called_open, crate::proofs::Telling::called_closed))]
-pub fn call(alloc: Global, tree: &mut Handle, call: &Call) -> Told
-    ensures { Called no_told told_of call.now tree.old.kept.value tree.new.kept.value result.status result }
+pub fn call(alloc: Global, tree: &mut Handle, call: &Call) -> ToldCall
+    ensures { AnswersCall no_told told_in_c call.now tree.old.kept.value tree.new.kept.value result.status result }
 {
     let Some(mut whole) = tree.take(alloc) else {
-        return Told {
+        return ToldCall {
             status: EBADF,
             word: 0,
             range: no_range(),
@@ -28,7 +28,7 @@ pub fn call(alloc: Global, tree: &mut Handle, call: &Call) -> Told
 /// Asks one query of what C keeps.
 #[tactic(auto, using(crate::proofs::Telling::asked_open, crate::proofs::Telling::asked_closed))]
 pub fn ask(alloc: Global, tree: &mut Handle, query: &Query, range: &mut OutRange) -> u32
-    ensures { Asked query.now tree.old.kept.value tree.new.kept.value result range.new }
+    ensures { AnswersQuery query.now tree.old.kept.value tree.new.kept.value result range.new }
 {
     let Some(mut whole) = tree.take(alloc) else {
         *range = no_range();

@@ -9,7 +9,7 @@ ghost use Rattle.mt_rows.specs.Publish.{IsLawfulOf, map_by};
 ghost use Rattle.mt_rows.specs.Sheet.{OnlyReads};
 ghost use Rattle.mt_tree.specs.Copies.{IsReadyToOpen, live_rows};
 ghost use Rattle.mt_c.specs.Calls.{IsAsked};
-ghost use Rattle.mt_c.specs.Copying.{Copied, Fits, IsCopyIn, IsOpenedWith, Lacks};
+ghost use Rattle.mt_c.specs.Copying.{Copied, FitsRows, IsCopyInRows, IsOpenedWith, LacksTree};
 
 use crate::handle::Handle;
 use crate::own_tree::OwnTree;
@@ -49,7 +49,7 @@ fn engine_with(
     rows: u64,
 ) -> Result<Engine<PlainRows>, NoMemory>
     requires lawful { IsLawfulOf (sheet_in src.old).tree kind }
-    requires fits { Fits (live_rows (sheet_in src.old).tree) rows }
+    requires fits { FitsRows (live_rows (sheet_in src.old).tree) rows }
     ensures engine { IfOk result (IsOpenedWith kind rows (map_by (sheet_in src.old).tree)) }
     ensures rest { OnlyReads (sheet_in src.old) (sheet_in src.new) }
 {
@@ -67,7 +67,7 @@ fn copied(
     rows: u64,
 ) -> Result<Box<OwnTree>, NoMemory>
     requires lawful { IsLawfulOf (sheet_in src.old).tree kind }
-    requires fits { Fits (live_rows (sheet_in src.old).tree) rows }
+    requires fits { FitsRows (live_rows (sheet_in src.old).tree) rows }
     ensures tree { IfOk result (λ whole. IsOpenedWith kind rows (map_by (sheet_in src.old).tree) whole.value.engine) }
     ensures rest { OnlyReads (sheet_in src.old) (sheet_in src.new) }
 {
@@ -88,7 +88,7 @@ pub fn used_in(kind: Kind, rows: &PlainRows) -> u64
 
 /// Whether so many rows hold those that are used, and are no more than a tree may have.
 fn fits(used: u64, rows: u64) -> bool
-    ensures { IsTrue result ↔ Fits used rows }
+    ensures { IsTrue result ↔ FitsRows used rows }
 {
     (used..=MOST_ROWS).contains(&rows)
 }
@@ -103,9 +103,9 @@ pub fn fitted(
 ) -> Result<Box<OwnTree>, u32>
     requires lawful { IsLawfulOf (sheet_in src.old).tree kind }
     requires used { live_rows (sheet_in src.old).tree ≤ used }
-    ensures fits { IfOk result (λ _. Fits used rows) }
+    ensures fits { IfOk result (λ _. FitsRows used rows) }
     ensures tree { IfOk result (λ whole. IsOpenedWith kind rows (map_by (sheet_in src.old).tree) whole.value.engine) }
-    ensures lacks { IfErr result (Lacks used rows) }
+    ensures lacks { IfErr result (LacksTree used rows) }
     ensures rest { OnlyReads (sheet_in src.old) (sheet_in src.new) }
 {
     if !fits(used, rows) {
@@ -133,8 +133,8 @@ fn copy_of(
 ) -> (Engine<PlainRows>, Result<Box<OwnTree>, u32>)
     requires { wanted.kind ≡ engine.kind }
     ensures rest { IsAsked engine result.0 }
-    ensures copy { IfOk result.1 (λ whole. IsCopyIn wanted.rows engine whole.value.engine) }
-    ensures lacks { IfErr result.1 (Lacks (live_rows engine.sheet.tree) wanted.rows) }
+    ensures copy { IfOk result.1 (λ whole. IsCopyInRows wanted.rows engine whole.value.engine) }
+    ensures lacks { IfErr result.1 (LacksTree (live_rows engine.sheet.tree) wanted.rows) }
 {
     let height = engine.height();
     let (mut src, book) = engine.parts();
@@ -152,8 +152,8 @@ fn copy_of(
 fn copy_in(engine: &mut Engine<PlainRows>, wanted: Wanted) -> Result<Box<OwnTree>, u32>
     requires { wanted.kind ≡ engine.old.kind }
     ensures rest { IsAsked engine.old engine.new }
-    ensures copy { IfOk result (λ whole. IsCopyIn wanted.rows engine.old whole.value.engine) }
-    ensures lacks { IfErr result (Lacks (live_rows engine.old.sheet.tree) wanted.rows) }
+    ensures copy { IfOk result (λ whole. IsCopyInRows wanted.rows engine.old whole.value.engine) }
+    ensures lacks { IfErr result (LacksTree (live_rows engine.old.sheet.tree) wanted.rows) }
 {
     replace_with(engine, wanted, copy_of)
 }
@@ -163,8 +163,8 @@ impl OwnTree {
     #[tactic(auto, using(crate::proofs::Walking::walks_if_asked, crate::proofs::Walking::ended_if_asked))]
     fn copy(&mut self, alloc: Global, rows: u64) -> Result<Box<OwnTree>, u32>
         ensures rest { IsAsked self.old.engine self.new.engine }
-        ensures copy { IfOk result (λ whole. IsCopyIn rows self.old.engine whole.value.engine) }
-        ensures lacks { IfErr result (Lacks (live_rows self.old.engine.sheet.tree) rows) }
+        ensures copy { IfOk result (λ whole. IsCopyInRows rows self.old.engine whole.value.engine) }
+        ensures lacks { IfErr result (LacksTree (live_rows self.old.engine.sheet.tree) rows) }
     {
         let wanted = Wanted {
             alloc,

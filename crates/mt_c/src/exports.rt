@@ -2,7 +2,7 @@
 
 ghost use Rattle.mt_base.specs.declared.calls.Call.TheVariants.{Store, StorePre, Insert, Erase, Alloc, Ralloc, Gap, Rgap, Clear};
 ghost use Rattle.mt_base.specs.declared.calls.Query.TheVariants.{Load, Find, Next, Prev, Rfind};
-ghost use Rattle.mt_c.specs.Calls.{CalledAlone, CalledWord, CalledRange, Asked};
+ghost use Rattle.mt_c.specs.Calls.{CalledAlone, CalledWord, CalledRange, AnswersQuery};
 
 use crate::calls::{ask, call};
 use crate::handle::Handle;
@@ -188,7 +188,7 @@ pub extern "C" fn maple_load(
     index: u64,
     range: &mut OutRange,
 ) -> u32
-    ensures { Asked (Load index) tree.old.kept.value tree.new.kept.value result range.new }
+    ensures { AnswersQuery (Load index) tree.old.kept.value tree.new.kept.value result range.new }
 {
     ask(alloc, tree, &Query::Load { index }, range)
 }
@@ -202,7 +202,7 @@ pub extern "C" fn maple_find(
     max: u64,
     range: &mut OutRange,
 ) -> u32
-    ensures { Asked (Find index max) tree.old.kept.value tree.new.kept.value result range.new }
+    ensures { AnswersQuery (Find index max) tree.old.kept.value tree.new.kept.value result range.new }
 {
     ask(alloc, tree, &Query::Find { index, max }, range)
 }
@@ -216,7 +216,7 @@ pub extern "C" fn maple_next(
     max: u64,
     range: &mut OutRange,
 ) -> u32
-    ensures { Asked (Next index max) tree.old.kept.value tree.new.kept.value result range.new }
+    ensures { AnswersQuery (Next index max) tree.old.kept.value tree.new.kept.value result range.new }
 {
     ask(alloc, tree, &Query::Next { index, max }, range)
 }
@@ -230,7 +230,7 @@ pub extern "C" fn maple_prev(
     min: u64,
     range: &mut OutRange,
 ) -> u32
-    ensures { Asked (Prev index min) tree.old.kept.value tree.new.kept.value result range.new }
+    ensures { AnswersQuery (Prev index min) tree.old.kept.value tree.new.kept.value result range.new }
 {
     ask(alloc, tree, &Query::Prev { index, min }, range)
 }
@@ -244,7 +244,7 @@ pub extern "C" fn maple_rfind(
     min: u64,
     range: &mut OutRange,
 ) -> u32
-    ensures { Asked (Rfind index min) tree.old.kept.value tree.new.kept.value result range.new }
+    ensures { AnswersQuery (Rfind index min) tree.old.kept.value tree.new.kept.value result range.new }
 {
     ask(alloc, tree, &Query::Rfind { index, min }, range)
 }

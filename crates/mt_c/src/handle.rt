@@ -1,9 +1,9 @@
 //! A tree as C has it.
 
 ghost use Rattle.std.specs.Prelude.{◌≡◌, Option, Some, None, MatchOption};
-ghost use Rattle.mt_c.specs.Owned.{count_of};
+ghost use Rattle.mt_c.specs.Owned.{open_count};
 
-use crate::kept::Kept;
+use crate::kept::KeptTree;
 use crate::own_tree::OwnTree;
 use std::alloc::Global;
 
@@ -11,9 +11,9 @@ use std::alloc::Global;
 /// It cannot be dropped: what it keeps is taken out.
 #[repr(C)]
 pub struct Handle {
-    pub kept: Kept,
+    pub kept: KeptTree,
     is_open: u64,
-    ghost counted: { is_open ≡ count_of kept.value },
+    ghost counted: { is_open ≡ open_count kept.value },
 }
 
 impl Handle {
@@ -22,7 +22,7 @@ impl Handle {
         ensures { result.kept.value ≡ None }
     {
         Handle {
-            kept: Kept::closed(),
+            kept: KeptTree::closed(),
             is_open: 0,
         }
     }
@@ -32,7 +32,7 @@ impl Handle {
         ensures { result.kept.value ≡ Some whole.value }
     {
         Handle {
-            kept: Kept::of(whole),
+            kept: KeptTree::of(whole),
             is_open: 1,
         }
     }

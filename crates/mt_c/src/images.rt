@@ -4,7 +4,7 @@ ghost use Rattle.std.specs.Prelude.{◌≡◌, ◌≢◌, ◌⊎◌, IfOk, IfErr
 ghost use Rattle.mt_image.specs.Images.{IsImageOf};
 ghost use Rattle.mt_image.specs.declared.errors.ImageError.TheVariants as errors;
 ghost use Rattle.mt_c.specs.Calls.{IsAsked};
-ghost use Rattle.mt_c.specs.Copying.{Opens};
+ghost use Rattle.mt_c.specs.Copying.{OpensHandle};
 ghost use Rattle.mt_c.specs.Images.{Imaged, IsOfImage, LacksImage};
 
 use crate::copies::{fitted, used_in};
@@ -104,7 +104,7 @@ pub extern "C" fn maple_image(
 #[tactic(auto, using(crate::proofs::Copying::image_busy, crate::proofs::Copying::image_opened, crate::proofs::Copying::image_none))]
 #[unsafe(no_mangle)]
 pub extern "C" fn maple_open_image(alloc: Global, tree: &mut Handle, bytes: &[u8], rows: u64) -> u32
-    ensures { Opens (IsOfImage bytes.now rows) (LacksImage bytes.now rows) tree.old.kept.value tree.new.kept.value result }
+    ensures { OpensHandle (IsOfImage bytes.now rows) (LacksImage bytes.now rows) tree.old.kept.value tree.new.kept.value result }
 {
     if let Some(whole) = tree.take(alloc) {
         tree.put(whole);

@@ -1,7 +1,7 @@
 //! What C keeps of a tree: a pointer.
 
 ghost use Rattle.std.specs.Prelude.{◌≡◌, Option, Some, None};
-ghost use Rattle.mt_c.specs.Owned.{kept_owns, IsOpen};
+ghost use Rattle.mt_c.specs.Owned.{kept_owns, IsOpenHandle};
 ghost use Rattle.mt_c.specs.Own.{OwnTree};
 ghost use Rattle.mt_c.specs.contracts.own_tree.OwnTree.{the_row};
 
@@ -13,21 +13,21 @@ use std::marker::Model;
 /// The box of a tree as one pointer, whose type names no other: C may keep it and sees nothing of what is behind. It
 /// cannot be dropped.
 #[repr(C)]
-pub struct Kept {
+pub struct KeptTree {
     at: *mut (),
     pub ghost value: { Option OwnTree },
 }
 
-impl Model for Kept {
+impl Model for KeptTree {
     ghost also_owns = { λ k. kept_owns the_row k.at k.value };
 }
 
-impl Kept {
+impl KeptTree {
     /// Nothing is kept.
-    pub fn closed() -> Kept
+    pub fn closed() -> KeptTree
         ensures { result.value ≡ None }
     {
-        Kept {
+        KeptTree {
             at: std::ptr::null_mut(),
         }
     }
@@ -36,21 +36,21 @@ impl Kept {
     pub fn end(self)
         requires { self.value ≡ None }
     {
-        let Kept { at: _ } = self;
+        let KeptTree { at: _ } = self;
     }
 
-    fn of_parts(parts: Parts<OwnTree, Global>) -> Kept
+    fn of_parts(parts: Parts<OwnTree, Global>) -> KeptTree
         ensures { result.value ≡ Some parts.value }
     {
         let Parts { ptr, alloc: _ } = parts;
-        Kept { at: ptr as *mut () }
+        KeptTree { at: ptr as *mut () }
     }
 
     fn into_parts(self, alloc: Global) -> Parts<OwnTree, Global>
-        requires { IsOpen self.value }
+        requires { IsOpenHandle self.value }
         ensures { self.value ≡ Some result.value }
     {
-        let Kept { at } = self;
+        let KeptTree { at } = self;
         Parts {
             ptr: at as *mut OwnTree,
             alloc,
@@ -58,15 +58,15 @@ impl Kept {
     }
 
     /// Keeps a box.
-    pub fn of(value: Box<OwnTree>) -> Kept
+    pub fn of(value: Box<OwnTree>) -> KeptTree
         ensures { result.value ≡ Some value.value }
     {
-        Kept::of_parts(Parts::of(value))
+        KeptTree::of_parts(Parts::of(value))
     }
 
     /// The box that is kept.
     pub fn into_box(self, alloc: Global) -> Box<OwnTree>
-        requires { IsOpen self.value }
+        requires { IsOpenHandle self.value }
         ensures { self.value ≡ Some result.value }
     {
         self.into_parts(alloc).into_box()

@@ -3,7 +3,7 @@
 ghost use Rattle.std.specs.Coded.{codes};
 ghost use Rattle.std.specs.Prelude.{◌≡◌, Option, Some, None};
 ghost use Rattle.mt_c.specs.Walkers.{walks_coded};
-ghost use Rattle.mt_c.specs.Owned.{kept_owns, IsOpen};
+ghost use Rattle.mt_c.specs.Owned.{kept_owns, IsOpenHandle};
 ghost use Rattle.mt_c.specs.declared.user.User.{User};
 ghost use Rattle.mt_c.specs.contracts.user.User.{the_row};
 
@@ -51,7 +51,7 @@ impl KeptUser {
     }
 
     fn into_parts(self, alloc: Global) -> Parts<User, Global>
-        requires { IsOpen self.value }
+        requires { IsOpenHandle self.value }
         ensures { self.value ≡ Some result.value }
     {
         let KeptUser { at } = self;
@@ -70,7 +70,7 @@ impl KeptUser {
 
     /// The box that is kept.
     pub fn into_box(self, alloc: Global) -> Box<User>
-        requires { IsOpen self.value }
+        requires { IsOpenHandle self.value }
         ensures { self.value ≡ Some result.value }
     {
         self.into_parts(alloc).into_box()

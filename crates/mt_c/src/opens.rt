@@ -4,7 +4,7 @@ ghost use Rattle.std.specs.Prelude.{◌≡◌, ◌≢◌, ◌≤◌, None, IfOk,
 ghost use Rattle.mt_base.specs.declared.kinds.Kind.{Kind};
 ghost use Rattle.mt_image.specs.Bytes.{kind_code};
 ghost use Rattle.mt_base.specs.Width.{most_rows};
-ghost use Rattle.mt_c.specs.Opening.{IsNewTree, Opened, OpenedNew};
+ghost use Rattle.mt_c.specs.Opening.{IsNewEngine, Opened, OpenedNew};
 
 use crate::handle::Handle;
 use crate::own_tree::OwnTree;
@@ -29,7 +29,7 @@ pub fn kind_of(code: u32) -> Option<Kind>
 /// The box of an empty tree of this kind, in so many rows.
 fn boxed(alloc: Global, kind: Kind, rows: u64) -> Result<Box<OwnTree>, NoMemory>
     requires { rows ≤ most_rows }
-    ensures { IfOk result (λ whole. IsNewTree kind rows whole.value.engine) }
+    ensures { IfOk result (λ whole. IsNewEngine kind rows whole.value.engine) }
 {
     Ok(Box::new(alloc, OwnTree::new(alloc, kind, rows)?)?)
 }

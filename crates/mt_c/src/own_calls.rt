@@ -3,9 +3,10 @@
 ghost use Rattle.std.specs.Prelude.{◌≡◌, ◌↔◌, ◌≤◌, IfOk, IsTrue};
 ghost use Rattle.mt_base.specs.declared.calls.Call.TheVariants.{StorePre};
 ghost use Rattle.mt_base.specs.Width.{most_rows};
-ghost use Rattle.mt_c.specs.Calls.{Made, IsAsked, answered};
-ghost use Rattle.mt_c.specs.Opening.{IsNewTree};
-ghost use Rattle.mt_c.specs.Preparing.{IsPrepared, IsReady, PreMade};
+ghost use Rattle.mt_c.specs.Calls.{MadeOrSpent, IsAsked, answered};
+ghost use Rattle.mt_c.specs.Opening.{IsNewEngine};
+ghost use Rattle.mt_c.specs.Preparing.{IsPrepared, PreMade};
+ghost use Rattle.mt_tree.specs.Behind.{IsReady};
 
 use crate::own_tree::OwnTree;
 use crate::steps::ended;
@@ -26,7 +27,7 @@ impl OwnTree {
     /// `NoMemory` where memory ran out.
     pub fn new(alloc: Global, kind: Kind, rows: u64) -> Result<OwnTree, NoMemory>
         requires { rows ≤ most_rows }
-        ensures { IfOk result (λ t. IsNewTree kind rows t.engine) }
+        ensures { IfOk result (λ t. IsNewEngine kind rows t.engine) }
     {
         let book = RowBook::new(alloc, rows)?;
         let rows = PlainRows::of_width(alloc, width_of(kind), rows)?;
@@ -49,7 +50,7 @@ impl OwnTree {
 
     /// Makes one call; none where the tree has had all its calls.
     pub fn act(&mut self, call: &Call) -> Option<Reply>
-        ensures { Made self.old.engine self.new.engine call.now result }
+        ensures { MadeOrSpent self.old.engine self.new.engine call.now result }
     {
         if self.calls >= MOST_CALLS {
             return None;

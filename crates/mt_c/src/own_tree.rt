@@ -15,11 +15,11 @@ pub struct OwnTree {
 }
 
 impl Model for OwnTree {
-    ghost use Rattle.mt_c.specs.Own.{OwnTree, own_of, IsOwn};
+    ghost use Rattle.mt_c.specs.Own.{OwnTree, own_of, IsOwnTree};
 
     ghost Value = { OwnTree };
 
     ghost view = { own_of };
 
-    ghost invariant = { IsOwn };
+    ghost invariant = { IsOwnTree };
 }

@@ -13,9 +13,9 @@ pub struct Purse {
 
 impl Placed<Tree> for Purse {
     ghost use Rattle.std.specs.Prelude.{All};
-    ghost use Rattle.mt_c.specs.Spares.{IsSpare};
+    ghost use Rattle.mt_c.specs.Spares.{IsSparePass};
 
-    ghost fits = { λ tree purse. All (IsSpare tree) purse.passes.items };
+    ghost fits = { λ tree purse. All (IsSparePass tree) purse.passes.items };
 }
 
 /// A tree and the purse of its passes.

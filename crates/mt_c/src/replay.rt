@@ -3,7 +3,7 @@
 ghost use Rattle.std.specs.Prelude.{◌≡◌, ◌≢◌, ◌⊎◌, ◌<◌, ◌≤◌, ◌++◌, None, length, drop, true, false, IsErr, IfOk, IfErr, IfSome};
 ghost use Rattle.mt_base.specs.Width.{most_rows};
 ghost use Rattle.mt_log.specs.Reading.{log_of};
-ghost use Rattle.mt_c.specs.Batch.{HaveRows, IsShort, IsTextOfRun, IsUnfit, Writes, most_bytes};
+ghost use Rattle.mt_c.specs.Batch.{HaveRows, IsBufferShort, IsTextOfRun, IsUnfit, WritesText, most_bytes};
 
 use crate::told::{E2BIG, EDOM, EINVAL, ENOMEM, ERANGE};
 use mt_base::MOST_ROWS;
@@ -77,8 +77,8 @@ pub extern "C" fn maple_replay(
     used: &mut usize,
 ) -> u32
     ensures within { (result ≡ 0) ⊎ (result ≡ 12) ⊎ (result ≡ 22) ⊎ (result ≡ 34) ⊎ IsUnfit rows log.now result }
-    ensures writes { result ≡ 0 → Writes rows log.now out.old out.new used.new }
-    ensures short { result ≡ 34 → IsShort rows log.now out.old used.new }
+    ensures writes { result ≡ 0 → WritesText rows log.now out.old out.new used.new }
+    ensures short { result ≡ 34 → IsBufferShort rows log.now out.old used.new }
     ensures bad_log { result ≡ 22 → IsErr (log_of log.now) }
     ensures kept { result ≢ 0 → out.new ≡ out.old }
     ensures unused { result ≢ 0 → result ≢ 34 → used.new ≡ 0 }

@@ -4,7 +4,7 @@ ghost use Rattle.mt_base.specs.declared.calls.Query.TheVariants.{Load};
 ghost use Rattle.mt_c.specs.Shared.{SharedAsked, SharedLearned, SharedPaused, SharedSettled, SharedStepped, SharedSynced, SharedTried};
 
 use crate::shared_told::{
-    EINPROGRESS, Outcome, Window, answer_told, no_outcome, place_behind, seen,
+    CallWindow, EINPROGRESS, Outcome, answer_told, no_outcome, place_behind, seen,
 };
 use crate::steps::OutWalk;
 use crate::told::{EBADF, no_range};
@@ -14,7 +14,7 @@ use std::alloc::Global;
 
 /// Asks one query of what C keeps.
 #[tactic(auto, using(crate::proofs::Sharing::asked_open, crate::proofs::Sharing::asked_closed))]
-pub fn ask(alloc: Global, user: &mut UserHandle, query: &Query, out: &mut Window) -> u32
+pub fn ask(alloc: Global, user: &mut UserHandle, query: &Query, out: &mut CallWindow) -> u32
     ensures { SharedAsked query.now user.old.kept.value user.new.kept.value result out.new }
 {
     let Some(mut whole) = user.take(alloc) else {
@@ -30,7 +30,7 @@ pub fn ask(alloc: Global, user: &mut UserHandle, query: &Query, out: &mut Window
 
 /// Tells the range that an index lies in.
 #[tactic(auto, using(crate::proofs::Sharing::asked_open, crate::proofs::Sharing::asked_closed))]
-pub fn load(alloc: Global, user: &mut UserHandle, index: u64, out: &mut Window) -> u32
+pub fn load(alloc: Global, user: &mut UserHandle, index: u64, out: &mut CallWindow) -> u32
     ensures { SharedAsked (Load index) user.old.kept.value user.new.kept.value result out.new }
 {
     let Some(mut whole) = user.take(alloc) else {
@@ -59,7 +59,7 @@ pub fn pause(alloc: Global, user: &mut UserHandle) -> u32
 
 /// Makes one step of a walk of C's.
 #[tactic(auto, using(crate::proofs::Sharing::stepped_open, crate::proofs::Sharing::stepped_closed))]
-pub fn step(alloc: Global, user: &mut UserHandle, walk: &mut OutWalk, out: &mut Window) -> u32
+pub fn step(alloc: Global, user: &mut UserHandle, walk: &mut OutWalk, out: &mut CallWindow) -> u32
     ensures { SharedStepped walk.old walk.new user.old.kept.value user.new.kept.value result out.new }
 {
     let Some(mut whole) = user.take(alloc) else {

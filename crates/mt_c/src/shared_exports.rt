@@ -5,7 +5,7 @@ ghost use Rattle.mt_base.specs.declared.calls.Query.TheVariants.{Load, Find, Nex
 ghost use Rattle.mt_c.specs.Shared.{SharedAsked, SharedLearned, SharedPaused, SharedSettled, SharedStepped, SharedSynced, SharedTried};
 
 use crate::shared::{ask, learn, load, pause, settle, step, sync, try_call};
-use crate::shared_told::{Outcome, Window};
+use crate::shared_told::{CallWindow, Outcome};
 use crate::steps::OutWalk;
 use crate::user_handle::UserHandle;
 use mt_base::{Call, Query};
@@ -17,7 +17,7 @@ pub extern "C" fn maple_shared_load(
     alloc: Global,
     user: &mut UserHandle,
     index: u64,
-    read: &mut Window,
+    read: &mut CallWindow,
 ) -> u32
     ensures { SharedAsked (Load index) user.old.kept.value user.new.kept.value result read.new }
 {
@@ -31,7 +31,7 @@ pub extern "C" fn maple_shared_find(
     user: &mut UserHandle,
     index: u64,
     max: u64,
-    read: &mut Window,
+    read: &mut CallWindow,
 ) -> u32
     ensures { SharedAsked (Find index max) user.old.kept.value user.new.kept.value result read.new }
 {
@@ -45,7 +45,7 @@ pub extern "C" fn maple_shared_next(
     user: &mut UserHandle,
     index: u64,
     max: u64,
-    read: &mut Window,
+    read: &mut CallWindow,
 ) -> u32
     ensures { SharedAsked (Next index max) user.old.kept.value user.new.kept.value result read.new }
 {
@@ -59,7 +59,7 @@ pub extern "C" fn maple_shared_prev(
     user: &mut UserHandle,
     index: u64,
     min: u64,
-    read: &mut Window,
+    read: &mut CallWindow,
 ) -> u32
     ensures { SharedAsked (Prev index min) user.old.kept.value user.new.kept.value result read.new }
 {
@@ -73,7 +73,7 @@ pub extern "C" fn maple_shared_rfind(
     user: &mut UserHandle,
     index: u64,
     min: u64,
-    read: &mut Window,
+    read: &mut CallWindow,
 ) -> u32
     ensures { SharedAsked (Rfind index min) user.old.kept.value user.new.kept.value result read.new }
 {
@@ -87,7 +87,7 @@ pub extern "C" fn maple_shared_step(
     alloc: Global,
     user: &mut UserHandle,
     walk: &mut OutWalk,
-    read: &mut Window,
+    read: &mut CallWindow,
 ) -> u32
     ensures { SharedStepped walk.old walk.new user.old.kept.value user.new.kept.value result read.new }
 {

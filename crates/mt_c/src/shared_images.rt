@@ -4,7 +4,7 @@ ghost use Rattle.std.specs.Prelude.{◌≡◌, IfErr, IfOk, map};
 ghost use Rattle.mt_c.specs.Building as building;
 ghost use Rattle.mt_c.specs.SharedImages.{IsFirstOfImage, IsFirstOfRanges, LacksFirstOfImage, LacksFirstOfRanges, OpensUser, SharedBuilds};
 
-use crate::building::{Why, built};
+use crate::building::{BuildWhy, built};
 use crate::images::status_for;
 use crate::opens::kind_of;
 use crate::shared_maps::boxed_with;
@@ -53,12 +53,12 @@ fn of_ranges(
     passes: u32,
     calls: u64,
     ranges: &[OutRange],
-) -> Result<Box<User>, Why>
-    ensures user { IfOk result (λ whole. IsFirstOfRanges code rows passes calls (map building.range_of ranges.now) whole.value) }
-    ensures lacks { IfErr result (λ why. LacksFirstOfRanges code rows passes calls (map building.range_of ranges.now) why.status why.at) }
+) -> Result<Box<User>, BuildWhy>
+    ensures user { IfOk result (λ whole. IsFirstOfRanges code rows passes calls (map building.range_from_c ranges.now) whole.value) }
+    ensures lacks { IfErr result (λ why. LacksFirstOfRanges code rows passes calls (map building.range_from_c ranges.now) why.status why.at) }
 {
     let Some(kind) = kind_of(code) else {
-        return Err(Why::alone(EINVAL));
+        return Err(BuildWhy::alone(EINVAL));
     };
     let mut src = match built(alloc, kind, ranges) {
         Ok(rows) => rows,
@@ -72,7 +72,7 @@ fn of_ranges(
     };
     match boxed_with(alloc, shape, &mut src) {
         Ok(whole) => Ok(whole),
-        Err(status) => Err(Why::alone(status)),
+        Err(status) => Err(BuildWhy::alone(status)),
     }
 }
 
@@ -116,7 +116,7 @@ pub extern "C" fn maple_shared_build(
     calls: u64,
     at: &mut u64,
 ) -> u32
-    ensures { SharedBuilds kind rows users calls (map building.range_of ranges.now) user.old.kept.value user.new.kept.value result at.new }
+    ensures { SharedBuilds kind rows users calls (map building.range_from_c ranges.now) user.old.kept.value user.new.kept.value result at.new }
 {
     *at = 0;
     if let Some(whole) = user.take(alloc) {

@@ -4,7 +4,7 @@ ghost use Rattle.std.specs.Prelude.{◌≡◌, [], Err, None, Some, IfOk};
 ghost use Rattle.mt_tree.specs.Shapes.{first_bad};
 ghost use Rattle.mt_tree.specs.declared.shapes.Field.{Field};
 ghost use Rattle.mt_tree.specs.declared.shapes.MakeError.TheVariants as make_error;
-ghost use Rattle.mt_c.specs.Shared.{IsFirst, SharedLeft, SharedNew, SharedOpened, SharedWith};
+ghost use Rattle.mt_c.specs.Shared.{IsFirstUser, SharedLeft, SharedNew, SharedOpened, SharedWith};
 
 use crate::opens::kind_of;
 use crate::shared_told::field_status;
@@ -18,7 +18,7 @@ use std::alloc::Global;
 fn boxed(alloc: Global, shape: Shape) -> Result<Box<User>, MakeError>
     ensures bad { (field : Field) → result ≡ Err (make_error.BadShape field) → first_bad shape ≡ Some field }
     ensures short { result ≡ Err make_error.NoMemory → first_bad shape ≡ None }
-    ensures first { IfOk result (λ whole. (first_bad shape ≡ None) × IsFirst shape [] whole.value) }
+    ensures first { IfOk result (λ whole. (first_bad shape ≡ None) × IsFirstUser shape [] whole.value) }
 {
     let user = User::open(alloc, shape)?;
     match Box::new(alloc, user) {

@@ -28,7 +28,7 @@ pub const EINPROGRESS: u32 = 115;
 /// A read as C has it: `struct maple_read`, the window of the calls after which it is true, and the range that was found.
 #[repr(C)]
 #[derive(Clone, Copy, Debug, PartialEq, Eq)]
-pub struct Window {
+pub struct CallWindow {
     pub lo: u64,
     pub hi: u64,
     pub first: u64,
@@ -65,11 +65,11 @@ pub fn place_behind(found: Option<Range>, max: u64) -> Option<u64>
 }
 
 /// A window, and a range that was found there.
-pub fn seen(lo: u64, hi: u64, range: OutRange) -> Window
+pub fn seen(lo: u64, hi: u64, range: OutRange) -> CallWindow
     ensures { result ≡ defined.window lo hi range }
 {
     let OutRange { first, last, entry } = range;
-    Window {
+    CallWindow {
         lo,
         hi,
         first,
@@ -79,7 +79,7 @@ pub fn seen(lo: u64, hi: u64, range: OutRange) -> Window
 }
 
 /// What C is told of a read.
-pub fn answer_told(answer: Result<Read<Option<Range>>, Moved>) -> (Window, u32)
+pub fn answer_told(answer: Result<Read<Option<Range>>, Moved>) -> (CallWindow, u32)
     ensures window { result.0 ≡ defined.window_of answer }
     ensures status { result.1 ≡ defined.answer_status answer }
 {
@@ -113,7 +113,7 @@ pub fn no_outcome() -> Outcome
 
 /// The place of a user whose section holds rows back, and how many calls had ended when that was opened; zeros of none.
 fn holder_told(by: Option<Holder>) -> (u64, u64)
-    ensures place { result.0 ≡ defined.place_of by }
+    ensures place { result.0 ≡ defined.holder_place by }
     ensures epoch { result.1 ≡ defined.epoch_of by }
 {
     match by {
@@ -168,7 +168,7 @@ pub fn tried_told(
 
 /// What C is told of a look under the lock. That this was found taken is kept.
 pub fn synced_told(synced: Result<u64, Busy>, receipts: &mut Receipts) -> (u64, u32)
-    ensures calls { result.0 ≡ defined.calls_told synced }
+    ensures calls { result.0 ≡ defined.calls_in_c synced }
     ensures status { result.1 ≡ defined.synced_status synced }
     ensures kept { receipts.new ≡ when_synced synced receipts.old }
 {

@@ -5,7 +5,7 @@ ghost use Rattle.mt_base.specs.Width.{greatest};
 ghost use Rattle.mt_rows.specs.Sheet.{Rooted};
 ghost use Rattle.mt_engine.specs.RangeWalks.{WalksFrom};
 ghost use Rattle.mt_c.specs.Calls.{found_status, out_of};
-ghost use Rattle.mt_c.specs.Walking.{IsStepped, Stepped, index_of, start_in, top_of, walk_from};
+ghost use Rattle.mt_c.specs.Walking.{IsStepped, HasSteppedOn, walk_index, walk_start, last_index_of, walk_from};
 
 use crate::handle::Handle;
 use crate::own_tree::OwnTree;
@@ -36,7 +36,7 @@ impl OutWalk {
 
     /// The index from which it goes on.
     pub fn index(&self) -> Option<u64>
-        ensures { result ≡ index_of self.now }
+        ensures { result ≡ walk_index self.now }
     {
         if self.ended == 0 {
             Some(self.next)
@@ -60,7 +60,7 @@ pub fn ended() -> RangeWalk
 /// The place from which a walk goes on whose leaf is not known.
 fn place_at(engine: &Engine<PlainRows>, index: Option<u64>) -> RangeWalk
     ensures walk { WalksFrom engine.now.sheet.tree result }
-    ensures next { result.next ≡ start_in (greatest engine.now.sheet.tree.table.width) index }
+    ensures next { result.next ≡ walk_start (greatest engine.now.sheet.tree.table.width) index }
 {
     match index {
         Some(index) => engine.walk_from(index),
@@ -73,7 +73,7 @@ impl OwnTree {
     #[tactic(auto, using(crate::proofs::Walking::kept_start))]
     fn stand_at(&mut self, index: Option<u64>)
         ensures engine { self.new.engine ≡ self.old.engine }
-        ensures next { self.new.place.next ≡ start_in (top_of self.old) index }
+        ensures next { self.new.place.next ≡ walk_start (last_index_of self.old) index }
         ensures kept { self.old.place.next ≡ index → self.new.place ≡ self.old.place }
     {
         if self.place.next == index {
@@ -129,7 +129,7 @@ pub extern "C" fn maple_step(
     walk: &mut OutWalk,
     range: &mut OutRange,
 ) -> u32
-    ensures { Stepped walk.old tree.old.kept.value tree.new.kept.value result range.new walk.new }
+    ensures { HasSteppedOn walk.old tree.old.kept.value tree.new.kept.value result range.new walk.new }
 {
     let Some(mut whole) = tree.take(alloc) else {
         *range = no_range();

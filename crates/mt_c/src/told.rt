@@ -52,7 +52,7 @@ pub struct OutRange {
 
 /// What C is told of a call: its number, the one word of the reply, and its range.
 #[derive(Clone, Copy, Debug, PartialEq, Eq)]
-pub struct Told {
+pub struct ToldCall {
     pub status: u32,
     pub word: u64,
     pub range: OutRange,
@@ -108,7 +108,7 @@ pub fn status_of(made: Option<Reply>) -> u32
 
 /// The one word that a reply tells, or 0.
 pub fn word_of(made: Option<Reply>) -> u64
-    ensures { result ≡ defined.word_of made }
+    ensures { result ≡ defined.word_in_c made }
 {
     match made {
         Some(Reply::Over(word) | Reply::Start(word)) => word,
@@ -118,7 +118,7 @@ pub fn word_of(made: Option<Reply>) -> u64
 
 /// The range that a reply tells, or three zeros.
 fn range_of(made: Option<Reply>) -> OutRange
-    ensures { result ≡ defined.range_of made }
+    ensures { result ≡ defined.range_in_c made }
 {
     match made {
         Some(Reply::Was(range)) => out_of(Some(range)),
@@ -143,10 +143,10 @@ pub fn shortage_of(reply: Reply) -> Shortage
 }
 
 /// All that C is told of a call.
-pub fn told_of(made: Option<Reply>) -> Told
-    ensures { result ≡ defined.told_of made }
+pub fn told_of(made: Option<Reply>) -> ToldCall
+    ensures { result ≡ defined.told_in_c made }
 {
-    Told {
+    ToldCall {
         status: status_of(made),
         word: word_of(made),
         range: range_of(made),

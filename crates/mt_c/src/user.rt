@@ -2,7 +2,7 @@
 
 ghost use Rattle.std.specs.Arc.{arc_value};
 ghost use Rattle.mt_tree.specs.Trees.{IsPassOf};
-ghost use Rattle.mt_c.specs.Purses.{IsSeatedAt};
+ghost use Rattle.mt_c.specs.Purses.{IsChairAtPurse};
 
 use crate::purse::{Common, Purse};
 use crate::receipts::Receipts;
@@ -20,5 +20,5 @@ pub struct User {
     pub chair: Chair<Purse, Tree>,
     pub receipts: Receipts,
     ghost of: { IsPassOf (arc_value common).tree walker.pass },
-    ghost seated: { IsSeatedAt (arc_value common) chair },
+    ghost seated: { IsChairAtPurse (arc_value common) chair },
 }

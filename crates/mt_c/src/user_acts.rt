@@ -5,9 +5,9 @@ ghost use Rattle.mt_base.specs.declared.calls.Query.TheVariants.{Load};
 ghost use Rattle.mt_keep.specs.Keeping.{cuts_of};
 ghost use Rattle.mt_tree.specs.Asks.{most_made};
 ghost use Rattle.mt_tree.specs.Trees.{IsPassOf, Takes};
-ghost use Rattle.mt_c.specs.Purses.{IsSeatedAt};
-ghost use Rattle.mt_c.specs.Users.{IsSettled, IsSynced, WentToSettle, common_of, cuts, known_to, paused, rested, tree_of};
-ghost use Rattle.mt_c.specs.Walkers.{GaveUp, IsAnswer, IsAtRest, IsTried, StepsFrom, Took, TriedOnce, WentOnce, halted, knows};
+ghost use Rattle.mt_c.specs.Purses.{IsChairAtPurse};
+ghost use Rattle.mt_c.specs.Users.{IsSettledUser, IsSynced, WentToSettle, common_of, cuts, known_to, paused, rested, user_tree};
+ghost use Rattle.mt_c.specs.Walkers.{GaveUp, IsWalkAnswer, IsOnNoWalk, IsTried, StepsFrom, Took, TriedOnce, WentOnce, halted, knows};
 
 use crate::purse::{Common, Purse};
 use crate::user::User;
@@ -39,11 +39,11 @@ impl Common {
         chair: &mut Chair<Purse, Tree>,
     ) -> Result<(u64, u64, Given<Purse, Tree>), Settling>
         requires of { IsPassOf self.now.tree walker.old.pass }
-        requires seated { IsSeatedAt self.now chair.old }
+        requires seated { IsChairAtPurse self.now chair.old }
         ensures of { IsPassOf self.now.tree walker.new.pass }
-        ensures seated { IsSeatedAt self.now chair.new }
+        ensures seated { IsChairAtPurse self.now chair.new }
         ensures cuts { cuts_of chair.new ≡ cuts_of chair.old + 1 }
-        ensures settled { IsSettled self.now (cuts_of chair.old) (halted walker.old) result (knows walker.new) }
+        ensures settled { IsSettledUser self.now (cuts_of chair.old) (halted walker.old) result (knows walker.new) }
         ensures went { WentToSettle result walker.old walker.new }
     {
         walker.pause(&self.tree);
@@ -80,7 +80,7 @@ impl User {
         ensures chair { self.new.chair ≡ self.old.chair }
         ensures receipts { self.new.receipts ≡ self.old.receipts }
         ensures known { known_to self.new ≡ rested self.old }
-        ensures rests { IsAtRest self.new.walker }
+        ensures rests { IsOnNoWalk self.new.walker }
         ensures takes { Takes 1 self.old.walker.pass self.new.walker.pass }
     {
         self.walker.rest(&self.common.tree);
@@ -91,8 +91,8 @@ impl User {
         ensures common { common_of self.new ≡ common_of self.old }
         ensures chair { self.new.chair ≡ self.old.chair }
         ensures receipts { self.new.receipts ≡ self.old.receipts }
-        ensures answer { IsAnswer (tree_of self.old) (known_to self.old) query.now result (known_to self.new) }
-        ensures rests { IsAtRest self.new.walker }
+        ensures answer { IsWalkAnswer (user_tree self.old) (known_to self.old) query.now result (known_to self.new) }
+        ensures rests { IsOnNoWalk self.new.walker }
         ensures took { Took (most_made query.now) self.old.walker self.new.walker.pass }
         ensures left { IfErr result (GaveUp query.now self.old.walker self.new.walker) }
     {
@@ -104,8 +104,8 @@ impl User {
         ensures common { common_of self.new ≡ common_of self.old }
         ensures chair { self.new.chair ≡ self.old.chair }
         ensures receipts { self.new.receipts ≡ self.old.receipts }
-        ensures answer { IsAnswer (tree_of self.old) (known_to self.old) (Load index) (Ok result) (known_to self.new) }
-        ensures rests { IsAtRest self.new.walker }
+        ensures answer { IsWalkAnswer (user_tree self.old) (known_to self.old) (Load index) (Ok result) (known_to self.new) }
+        ensures rests { IsOnNoWalk self.new.walker }
         ensures took { Took 170 self.old.walker self.new.walker.pass }
     {
         self.walker.load(&self.common.tree, index)
@@ -116,7 +116,7 @@ impl User {
         ensures common { common_of self.new ≡ common_of self.old }
         ensures chair { self.new.chair ≡ self.old.chair }
         ensures receipts { self.new.receipts ≡ self.old.receipts }
-        ensures stepped { StepsFrom (tree_of self.old) self.old.walker place result self.new.walker }
+        ensures stepped { StepsFrom (user_tree self.old) self.old.walker place result self.new.walker }
     {
         self.walker.step_from(&self.common.tree, place)
     }
@@ -126,8 +126,8 @@ impl User {
         ensures common { common_of self.new ≡ common_of self.old }
         ensures chair { self.new.chair ≡ self.old.chair }
         ensures receipts { self.new.receipts ≡ self.old.receipts }
-        ensures answer { IsAnswer (tree_of self.old) (known_to self.old) (Load 0) (Ok result) (known_to self.new) }
-        ensures rests { IsAtRest self.new.walker }
+        ensures answer { IsWalkAnswer (user_tree self.old) (known_to self.old) (Load 0) (Ok result) (known_to self.new) }
+        ensures rests { IsOnNoWalk self.new.walker }
         ensures took { Took 170 self.old.walker self.new.walker.pass }
     {
         self.walker.look(&self.common.tree)
@@ -138,7 +138,7 @@ impl User {
         ensures common { common_of self.new ≡ common_of self.old }
         ensures chair { self.new.chair ≡ self.old.chair }
         ensures receipts { self.new.receipts ≡ self.old.receipts }
-        ensures tried { IsTried (tree_of self.old) (paused self.old) call.now result (known_to self.new) }
+        ensures tried { IsTried (user_tree self.old) (paused self.old) call.now result (known_to self.new) }
         ensures once { TriedOnce self.old.walker self.new.walker }
     {
         self.walker.try_act(&self.common.tree, call)
@@ -150,7 +150,7 @@ impl User {
         ensures common { common_of self.new ≡ common_of self.old }
         ensures chair { self.new.chair ≡ self.old.chair }
         ensures receipts { self.new.receipts ≡ self.old.receipts }
-        ensures synced { IsSynced (tree_of self.old) (paused self.old) result (known_to self.new) }
+        ensures synced { IsSynced (user_tree self.old) (paused self.old) result (known_to self.new) }
         ensures went { WentOnce self.old.walker self.new.walker }
     {
         self.walker.meet(&self.common.tree, &mut [])
@@ -161,7 +161,7 @@ impl User {
     pub fn settle(&mut self) -> Result<(u64, u64, Given<Purse, Tree>), Settling>
         ensures common { common_of self.new ≡ common_of self.old }
         ensures chair { cuts self.new ≡ cuts self.old + 1 }
-        ensures settled { IsSettled (common_of self.old) (cuts self.old) (paused self.old) result (known_to self.new) }
+        ensures settled { IsSettledUser (common_of self.old) (cuts self.old) (paused self.old) result (known_to self.new) }
         ensures went { WentToSettle result self.old.walker self.new.walker }
         ensures receipts { self.new.receipts ≡ self.old.receipts }
     {

@@ -1,7 +1,7 @@
 //! A user of a shared tree as C has it.
 
 ghost use Rattle.std.specs.Prelude.{◌≡◌, Option, Some, None, MatchOption};
-ghost use Rattle.mt_c.specs.Owned.{count_of};
+ghost use Rattle.mt_c.specs.Owned.{open_count};
 
 use crate::kept_user::KeptUser;
 use crate::user::User;
@@ -13,7 +13,7 @@ use std::alloc::Global;
 pub struct UserHandle {
     pub kept: KeptUser,
     is_open: u64,
-    ghost counted: { is_open ≡ count_of kept.value },
+    ghost counted: { is_open ≡ open_count kept.value },
 }
 
 impl UserHandle {

@@ -8,11 +8,11 @@ ghost use Rattle.mt_tree.specs.declared.shapes.Field.{Field};
 ghost use Rattle.mt_tree.specs.declared.shapes.MakeError.TheVariants as make_error;
 ghost use Rattle.mt_keep.specs.Keeping.{cuts_of};
 ghost use Rattle.std.specs.Arc.{arc_value};
-ghost use Rattle.mt_c.specs.Purses.{IsSeatedAt, IsTakenOf, first_in, known_in};
+ghost use Rattle.mt_c.specs.Purses.{IsChairAtPurse, HasPurse, first_in, known_in};
 ghost use Rattle.mt_c.specs.Receipts.{no_receipts};
-ghost use Rattle.mt_c.specs.Spares.{IsSpare};
-ghost use Rattle.mt_c.specs.Users.{HasLeft, IsFirst, IsOfPurse, IsWhy, WantsNoPlace, common_of, cuts, known_to, paused, rested, tree_of};
-ghost use Rattle.mt_c.specs.Walkers.{IsAtRest, Took};
+ghost use Rattle.mt_c.specs.Spares.{IsSparePass};
+ghost use Rattle.mt_c.specs.Users.{HasLeft, IsFirstUser, IsOfPurse, IsWhy, WantsNoPlace, common_of, cuts, known_to, paused, rested, user_tree};
+ghost use Rattle.mt_c.specs.Walkers.{IsOnNoWalk, Took};
 
 use crate::purse::{Common, Purse};
 use crate::receipts::Receipts;
@@ -48,10 +48,10 @@ fn shared(
     tree: Tree,
     passes: Vec<Pass>,
 ) -> Result<(Arc<Common>, Chair<Purse, Tree>), NoMemory>
-    requires { All (IsSpare tree) passes.items }
+    requires { All (IsSparePass tree) passes.items }
     ensures tree { IfOk result (λ r. (arc_value r.0).tree ≡ tree) }
     ensures first { IfOk result (λ r. (first_in (arc_value r.0)).passes.items ≡ passes.items) }
-    ensures seated { IfOk result (λ r. IsSeatedAt (arc_value r.0) r.1) }
+    ensures seated { IfOk result (λ r. IsChairAtPurse (arc_value r.0) r.1) }
     ensures chair { IfOk result (λ r. cuts_of r.1 ≡ 0) }
 {
     let (purse, chair) = Keep::make(alloc, &tree, Purse { passes })?;
@@ -72,12 +72,12 @@ impl Purse {
         chair: Chair<Purse, Tree>,
     ) -> Result<Box<User>, Chair<Purse, Tree>>
         requires some { 0 < vec_len self.old.passes }
-        requires seated { IsSeatedAt (arc_value common) chair }
-        requires passes { All (IsSpare (arc_value common).tree) self.old.passes.items }
-        ensures passes { All (IsSpare (arc_value common).tree) self.new.passes.items }
+        requires seated { IsChairAtPurse (arc_value common) chair }
+        requires passes { All (IsSparePass (arc_value common).tree) self.old.passes.items }
+        ensures passes { All (IsSparePass (arc_value common).tree) self.new.passes.items }
         ensures other { IfOk result (λ other. common_of other.value ≡ arc_value common) }
         ensures chair { IfOk result (λ other. other.value.chair ≡ chair) }
-        ensures rests { IfOk result (λ other. IsAtRest other.value.walker) }
+        ensures rests { IfOk result (λ other. IsOnNoWalk other.value.walker) }
         ensures none { IfOk result (λ other. other.value.receipts ≡ no_receipts) }
         ensures out { IfOk result (λ other. known_in self.old ≡ known_in self.new ++ known_to other.value ∷ []) }
         ensures back { IfErr result (λ _. known_in self.new ≡ known_in self.old) }
@@ -111,7 +111,7 @@ impl User {
         ensures walker { self.new.walker ≡ self.old.walker }
         ensures receipts { self.new.receipts ≡ self.old.receipts }
         ensures cuts { cuts self.new ≡ cuts self.old + 1 }
-        ensures seated { IsSeatedAt (common_of self.old) result }
+        ensures seated { IsChairAtPurse (common_of self.old) result }
         ensures other_cuts { cuts_of result ≡ cuts self.new }
     {
         self.common.purse.chair(&mut self.chair)
@@ -128,8 +128,8 @@ impl Common {
         chair: &mut Chair<Purse, Tree>,
     ) -> Result<(Box<User>, Given<Purse, Tree>), Unchanged>
         requires same { arc_value common.now ≡ self.now }
-        requires seated { IsSeatedAt self.now chair.old }
-        ensures seated { IsSeatedAt self.now chair.new }
+        requires seated { IsChairAtPurse self.now chair.old }
+        ensures seated { IsChairAtPurse self.now chair.new }
         ensures other { IfOk result (λ r. common_of r.0.value ≡ self.now) }
         ensures pass { IfOk result (λ r. IsOfPurse self.now (cuts_of chair.old) r.0.value r.1) }
         ensures shared { IfOk result (λ _. cuts_of chair.new ≡ cuts_of chair.old + 2) }
@@ -168,13 +168,13 @@ impl Common {
     /// Takes the purse, with room for one more pass.
     #[tactic(auto, using(crate::proofs::Using::why_busy, crate::proofs::Using::why_short))]
     fn take_room(&self, chair: &mut Chair<Purse, Tree>) -> Result<Taken<Purse, Tree>, Unchanged>
-        requires { IsSeatedAt self.now chair.old }
-        ensures seated { IsSeatedAt self.now chair.new }
+        requires { IsChairAtPurse self.now chair.old }
+        ensures seated { IsChairAtPurse self.now chair.new }
         ensures cuts { cuts_of chair.new ≡ cuts_of chair.old + 1 }
-        ensures taken { IfOk result (λ taken. IsTakenOf self.now taken.took taken.seat) }
+        ensures taken { IfOk result (λ taken. HasPurse self.now taken.took taken.seat) }
         ensures taken_cuts { IfOk result (λ taken. taken.seat.me.0.cuts ≡ cuts_of chair.new) }
         ensures took { IfOk result (λ taken. known_in taken.took.value ≡ known_in taken.value) }
-        ensures passes { IfOk result (λ taken. All (IsSpare self.now.tree) taken.value.passes.items) }
+        ensures passes { IfOk result (λ taken. All (IsSparePass self.now.tree) taken.value.passes.items) }
         ensures room { IfOk result (λ taken. vec_len taken.value.passes + 1 ≤ vec_capacity taken.value.passes) }
         ensures why { IfErr result (IsWhy self.now (cuts_of chair.old)) }
         ensures place { IfErr result WantsNoPlace }
@@ -200,10 +200,10 @@ impl Common {
         chair: Chair<Purse, Tree>,
     ) -> Left
         requires cuts { taken.seat.me.0.cuts ≡ cuts_of chair }
-        requires seated { IsSeatedAt self.now chair }
-        requires taken { IsTakenOf self.now taken.took taken.seat }
+        requires seated { IsChairAtPurse self.now chair }
+        requires taken { HasPurse self.now taken.took taken.seat }
         requires took { known_in taken.took.value ≡ known_in taken.value }
-        requires passes { All (IsSpare self.now.tree) taken.value.passes.items }
+        requires passes { All (IsSparePass self.now.tree) taken.value.passes.items }
         requires room { vec_len taken.value.passes + 1 ≤ vec_capacity taken.value.passes }
         requires pass { IsPassOf self.now.tree pass }
         ensures { HasLeft self.now (cuts_of chair) (record (pass_in pass) { standing = None }) result }
@@ -217,9 +217,9 @@ impl Common {
 
 /// A user with the last of these passes of a new tree. The others are in the purse.
 pub fn first(alloc: Global, tree: Tree, passes: Vec<Pass>) -> Result<User, NoMemory>
-    requires passes { All (IsSpare tree) passes.items }
+    requires passes { All (IsSparePass tree) passes.items }
     requires some { 0 < vec_len passes }
-    ensures tree { IfOk result (λ user. tree_of user ≡ tree) }
+    ensures tree { IfOk result (λ user. user_tree user ≡ tree) }
     ensures passes { IfOk result (λ user. passes.items ≡ (first_in (common_of user)).passes.items ++ user.walker.pass ∷ []) }
     ensures chair { IfOk result (λ user. cuts user ≡ 0) }
     ensures walk { IfOk result (λ user. user.walker.walk ≡ None) }
@@ -248,7 +248,7 @@ impl User {
         ensures bad { (field : Field) → result ≡ Err (make_error.BadShape field) → first_bad shape ≡ Some field }
         ensures good { IfOk result (λ _. first_bad shape ≡ None) }
         ensures short { result ≡ Err make_error.NoMemory → first_bad shape ≡ None }
-        ensures first { IfOk result (IsFirst shape []) }
+        ensures first { IfOk result (IsFirstUser shape []) }
     {
         let (tree, passes) = match Tree::make(alloc, shape) {
             Ok(made) => made,
@@ -288,10 +288,10 @@ impl User {
         ensures walker { self.new.walker ≡ self.old.walker }
         ensures receipts { self.new.receipts ≡ self.old.receipts }
         ensures chair { cuts self.new ≡ cuts self.old + 1 }
-        ensures taken { IfOk result (λ taken. IsTakenOf (common_of self.old) taken.took taken.seat) }
+        ensures taken { IfOk result (λ taken. HasPurse (common_of self.old) taken.took taken.seat) }
         ensures taken_cuts { IfOk result (λ taken. taken.seat.me.0.cuts ≡ cuts self.new) }
         ensures took { IfOk result (λ taken. known_in taken.took.value ≡ known_in taken.value) }
-        ensures passes { IfOk result (λ taken. All (IsSpare (common_of self.old).tree) taken.value.passes.items) }
+        ensures passes { IfOk result (λ taken. All (IsSparePass (common_of self.old).tree) taken.value.passes.items) }
         ensures room { IfOk result (λ taken. vec_len taken.value.passes + 1 ≤ vec_capacity taken.value.passes) }
         ensures why { IfErr result (IsWhy (common_of self.old) (cuts self.old)) }
         ensures place { IfErr result WantsNoPlace }
@@ -301,10 +301,10 @@ impl User {
 
     /// Leaves its pass in the purse.
     fn leave_to(self, taken: Taken<Purse, Tree>) -> Left
-        requires taken { IsTakenOf (common_of self) taken.took taken.seat }
+        requires taken { HasPurse (common_of self) taken.took taken.seat }
         requires cuts { taken.seat.me.0.cuts ≡ cuts self }
         requires took { known_in taken.took.value ≡ known_in taken.value }
-        requires passes { All (IsSpare (common_of self).tree) taken.value.passes.items }
+        requires passes { All (IsSparePass (common_of self).tree) taken.value.passes.items }
         requires room { vec_len taken.value.passes + 1 ≤ vec_capacity taken.value.passes }
         ensures { HasLeft (common_of self) (cuts self) (rested self) result }
     {

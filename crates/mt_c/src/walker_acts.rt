@@ -10,10 +10,10 @@ ghost use Rattle.mt_rule.specs.Tokens.{turn_seat};
 ghost use Rattle.mt_tree.specs.Asks.{most_made};
 ghost use Rattle.mt_tree.specs.Trees.{IsPassOf, Takes, opened, pass_in};
 ghost use Rattle.mt_tree.specs.Tries.{IsBusyOf};
-ghost use Rattle.mt_c.specs.KeptWalks.{top};
-ghost use Rattle.mt_c.specs.Spares.{IsSpare};
+ghost use Rattle.mt_c.specs.KeptWalks.{last_index};
+ghost use Rattle.mt_c.specs.Spares.{IsSparePass};
 ghost use Rattle.mt_tree.specs.Walks.{HasWalked};
-ghost use Rattle.mt_c.specs.Walkers.{Continues, GaveUp, IsAnswer, IsAtRest, IsOnAt, IsReadBy, IsStep, IsTried, KnowsAs, StepsFrom, Took, TriedOnce, WentOnce, halted, knows, stands_at};
+ghost use Rattle.mt_c.specs.Walkers.{Continues, GaveUp, IsWalkAnswer, IsOnNoWalk, IsOnAt, IsReadBy, IsStep, IsTried, KnowsAs, StepsFrom, Took, TriedOnce, WentOnce, halted, knows, stands_at};
 
 use crate::walker::Walker;
 use mt_base::{Call, Query, Range, Steps};
@@ -86,7 +86,7 @@ impl Walker {
         requires { IsPassOf tree.now self.old.pass }
         ensures of { IsPassOf tree.now self.new.pass }
         ensures known { knows self.new ≡ record (knows self.old) { standing = None } }
-        ensures rests { IsAtRest self.new }
+        ensures rests { IsOnNoWalk self.new }
         ensures takes { Takes 1 self.old.pass self.new.pass }
     {
         self.walk = None;
@@ -98,8 +98,8 @@ impl Walker {
     pub fn ask(&mut self, tree: &Tree, query: &Query) -> Result<Read<Option<Range>>, Moved>
         requires { IsPassOf tree.now self.old.pass }
         ensures of { IsPassOf tree.now self.new.pass }
-        ensures answer { IsAnswer tree.now (knows self.old) query.now result (knows self.new) }
-        ensures rests { IsAtRest self.new }
+        ensures answer { IsWalkAnswer tree.now (knows self.old) query.now result (knows self.new) }
+        ensures rests { IsOnNoWalk self.new }
         ensures took { Took (most_made query.now) self.old self.new.pass }
         ensures left { IfErr result (GaveUp query.now self.old self.new) }
     {
@@ -112,8 +112,8 @@ impl Walker {
     pub fn load(&mut self, tree: &Tree, index: u64) -> Read<Option<Range>>
         requires { IsPassOf tree.now self.old.pass }
         ensures of { IsPassOf tree.now self.new.pass }
-        ensures answer { IsAnswer tree.now (knows self.old) (Load index) (Ok result) (knows self.new) }
-        ensures rests { IsAtRest self.new }
+        ensures answer { IsWalkAnswer tree.now (knows self.old) (Load index) (Ok result) (knows self.new) }
+        ensures rests { IsOnNoWalk self.new }
         ensures took { Took 170 self.old self.new.pass }
     {
         self.pause(tree);
@@ -156,9 +156,9 @@ impl Walker {
         requires of { IsPassOf tree.now self.old.pass }
         requires walk { IsSome self.old.walk }
         ensures of { IsPassOf tree.now self.new.pass }
-        ensures read { IfSome self.old.walk (λ walk. IsReadBy tree.now (knows self.old) (query_at walk.at top) result (knows self.new)) }
+        ensures read { IfSome self.old.walk (λ walk. IsReadBy tree.now (knows self.old) (query_at walk.at last_index) result (knows self.new)) }
         ensures walked { IfSome self.old.walk (λ walk. IfSome self.new.walk (HasWalked tree.now self.old.pass walk result self.new.pass)) }
-        ensures at { IsOnAt self.new.walk (place_behind result.value top) }
+        ensures at { IsOnAt self.new.walk (place_behind result.value last_index) }
     {
         let Some(walk) = &mut self.walk else {
             unreachable!()
@@ -202,8 +202,8 @@ impl Walker {
     pub fn look(&mut self, tree: &Tree) -> Read<Option<Range>>
         requires { IsPassOf tree.now self.old.pass }
         ensures of { IsPassOf tree.now self.new.pass }
-        ensures answer { IsAnswer tree.now (knows self.old) (Load 0) (Ok result) (knows self.new) }
-        ensures rests { IsAtRest self.new }
+        ensures answer { IsWalkAnswer tree.now (knows self.old) (Load 0) (Ok result) (knows self.new) }
+        ensures rests { IsOnNoWalk self.new }
         ensures took { Took 170 self.old self.new.pass }
     {
         self.load(tree, 0)
@@ -225,9 +225,9 @@ impl Walker {
     #[tactic(auto, using(crate::proofs::Using::went_once, crate::proofs::Using::others_rest, crate::proofs::Using::kept_known))]
     pub fn meet(&mut self, tree: &Tree, others: &mut [Pass]) -> Result<u64, Busy>
         requires of { IsPassOf tree.now self.old.pass }
-        requires others { All (IsSpare tree.now) others.old }
+        requires others { All (IsSparePass tree.now) others.old }
         ensures of { IsPassOf tree.now self.new.pass }
-        ensures others { All (IsSpare tree.now) others.new }
+        ensures others { All (IsSparePass tree.now) others.new }
         ensures met { IfOk result (HaveMet tree.now (halted self.old ∷ map pass_in others.old) (knows self.new ∷ map pass_in others.new)) }
         ensures busy { IfErr result (IsBusyOf tree.now) }
         ensures kept { IfErr result (λ _. (knows self.new ≡ halted self.old) × (others.new ≡ others.old)) }

@@ -22,7 +22,7 @@ use Rattle.mt_check.specs.declared.walks.Row.{Row}
 use Rattle.mt_check.specs.declared.walks.Below.{Below}
 use Rattle.mt_check.specs.RowTests.{tells_gap}
 use Rattle.mt_check.specs.Check.{own_faults, faults_at}
-use Rattle.mt_check.specs.Walks.{no_item, tree_from, way_of, height_from, LeadsTo, depth_from, depth_known, IsEntered, IsAnswerAt, below_at}
+use Rattle.mt_check.specs.Walks.{no_item, tree_from, way_of, height_from, LeadsToDepth, depth_from, depth_known, IsEntered, IsAnswerAt, below_at}
 use Rattle.mt_check.proofs.Loaded.{none_read}
 use Rattle.mt_check.proofs.Onward.{first_front, Onward, onward_begins, onward_next}
 use Rattle.mt_check.proofs.Descending.{tree_stays, gap_told, some_left, many_here, child_span, child_leads, child_fault, gap_fault, all_answer, all_depth, rows_add, ranges_add}
@@ -37,7 +37,7 @@ pub record Goes (s s' : Sheet) (walk walk' : Walk) (visit : Visit) (row : Row) (
 pub goes_begin : (s : Sheet) (walk : Walk) (visit : Visit) (row : Row) → Goes s s walk walk visit row 0 (record { rows = 1; ranges = 0; longest = 0 }) true
 goes_begin s walk visit row = record { rest = none_read s; same = refl; onward = onward_begins (tree_from walk s.tree) (visit.left - 1) row.kind row.number (spans_in s.tree.table visit.span) walk.leaf_depth }
 
-module _ (s s' : Sheet) (walk walk' : Walk) (visit : Visit) (row : Row) (slot : ℕ) (below : Below) (gaps : Bool) (low : visit.left ≤ deepest) (leads : LeadsTo (height_from (tree_from walk s.tree)) (depth_from (tree_from walk s.tree) visit.left visit.span) walk.leaf_depth)
+module _ (s s' : Sheet) (walk walk' : Walk) (visit : Visit) (row : Row) (slot : ℕ) (below : Below) (gaps : Bool) (low : visit.left ≤ deepest) (leads : LeadsToDepth (height_from (tree_from walk s.tree)) (depth_from (tree_from walk s.tree) visit.left visit.span) walk.leaf_depth)
     (entered : IsEntered (tree_from walk s.tree) visit row) (inner : row.kind ≢ Leaf) (goes : Goes s s' walk walk' visit row slot below gaps) where
   abbrev t : Tree
   t = tree_from walk s.tree
@@ -68,11 +68,11 @@ module _ (s s' : Sheet) (walk walk' : Walk) (visit : Visit) (row : Row) (slot : 
     pub child_falls : 2 * v.left + 1 < 2 * visit.left
     child_falls = let same = left_is in let deep = some_left t visit row entered in omega arith
 
-    pub child_depth : LeadsTo (height_from t') (depth_from t' v.left v.span) walk'.leaf_depth
+    pub child_depth : LeadsToDepth (height_from t') (depth_from t' v.left v.span) walk'.leaf_depth
     child_depth =
         let leading = child_leads t visit row entered inner slot walk.leaf_depth walk'.leaf_depth below gaps v.span low leads goes.onward here in
-        subst (λ (n : ℕ). LeadsTo (height_from t') (depth_from t' n v.span) walk'.leaf_depth) (sym left_is)
-        (subst (λ (u : Tree). LeadsTo (height_from u) (depth_from u under v.span) walk'.leaf_depth) (sym stays) leading)
+        subst (λ (n : ℕ). LeadsToDepth (height_from t') (depth_from t' n v.span) walk'.leaf_depth) (sym left_is)
+        (subst (λ (u : Tree). LeadsToDepth (height_from u) (depth_from u under v.span) walk'.leaf_depth) (sym stays) leading)
 
     same_faults : faults_at t' v.left (way_of v) v.span ≡ faults_at t under (record { from = row.number; parent = parent_at row.number slot }) v.span
     same_faults = λ i. faults_at (stays i) (left_is i) (way_is i) v.span
@@ -136,11 +136,11 @@ module _ (s s' : Sheet) (walk walk' : Walk) (visit : Visit) (row : Row) (reads :
   same_walk : tree_from walk' s'.tree ≡ tree_from walk s.tree
   same_walk = λ i. tree_from (same i) (same_tree s s' reads i)
 
-  pub still_leads : LeadsTo (height_from (tree_from walk s.tree)) (depth_from (tree_from walk s.tree) visit.left visit.span) walk.leaf_depth
-      → LeadsTo (height_from (tree_from walk' s'.tree)) (depth_from (tree_from walk' s'.tree) visit.left visit.span) walk'.leaf_depth
+  pub still_leads : LeadsToDepth (height_from (tree_from walk s.tree)) (depth_from (tree_from walk s.tree) visit.left visit.span) walk.leaf_depth
+      → LeadsToDepth (height_from (tree_from walk' s'.tree)) (depth_from (tree_from walk' s'.tree) visit.left visit.span) walk'.leaf_depth
   still_leads leads =
-      subst (λ (w : Walk). LeadsTo (height_from (tree_from walk' s'.tree)) (depth_from (tree_from walk' s'.tree) visit.left visit.span) w.leaf_depth) (sym same)
-      (subst (λ (t : Tree). LeadsTo (height_from t) (depth_from t visit.left visit.span) walk.leaf_depth) (sym same_walk) leads)
+      subst (λ (w : Walk). LeadsToDepth (height_from (tree_from walk' s'.tree)) (depth_from (tree_from walk' s'.tree) visit.left visit.span) w.leaf_depth) (sym same)
+      (subst (λ (t : Tree). LeadsToDepth (height_from t) (depth_from t visit.left visit.span) walk.leaf_depth) (sym same_walk) leads)
 
   pub still_entered : IsEntered (tree_from walk s.tree) visit row → IsEntered (tree_from walk' s'.tree) visit row
   still_entered entered = subst (λ (t : Tree). IsEntered t visit row) (sym same_walk) entered

@@ -35,7 +35,7 @@ use Rattle.mt_check.specs.declared.walks.Row.{Row}
 use Rattle.mt_check.specs.declared.walks.Below.{Below}
 use Rattle.mt_check.specs.RowTests.{depth_at, has_depth, rise_to, words_of, has_pivots, are_apart, has_holes, longest_of, longest_by, longest_at, tells_gap, has_gaps_from}
 use Rattle.mt_check.specs.Check.{Way, unless, at_row, own_faults, gaps_by, faults_below, faults_at}
-use Rattle.mt_check.specs.Walks.{no_item, tree_from, way_of, height_from, LeadsTo, depth_from, depth_known, IsEntered, IsAnswerAt, below_at}
+use Rattle.mt_check.specs.Walks.{no_item, tree_from, way_of, height_from, LeadsToDepth, depth_from, depth_known, IsEntered, IsAnswerAt, below_at}
 use Rattle.mt_check.proofs.Lists.{both_none}
 use Rattle.mt_check.proofs.OneRow.{spans_are, some_in, rising_fills}
 use Rattle.mt_check.proofs.Passes.{Passes, none_passes}
@@ -167,13 +167,13 @@ module _ (t : Tree) (visit : Visit) (row : Row) (entered : IsEntered t visit row
           }),
         )
 
-    pub leaf_depth : (walk walk' : Walk) → walk' ≡ record walk { leaf_depth = depth_known walk.leaf_depth visit.left row.kind } → LeadsTo (height_from t) (depth_from t visit.left x) walk.leaf_depth → walk'.leaf_depth ≡ Some (height_from t)
+    pub leaf_depth : (walk walk' : Walk) → walk' ≡ record walk { leaf_depth = depth_known walk.leaf_depth visit.left row.kind } → LeadsToDepth (height_from t) (depth_from t visit.left x) walk.leaf_depth → walk'.leaf_depth ≡ Some (height_from t)
     leaf_depth walk walk' known leads =
         let deep = subst (λ (k : RowKind). has_depth (height_from t) visit.left k ≡ true) (kind_is ∙ leaf) passes.depth in
         let here = eqb-true (depth_at visit.left) (height_from t) (and_parts (nat_le (depth_at visit.left) deepest) (depth_at visit.left == height_from t) deep).1 in
         ap (λ (w : Walk). w.leaf_depth) known ∙ (ap (depth_known walk.leaf_depth visit.left) leaf ∙ by walk.leaf_depth here leads)
       where
-        by : (known : Option ℕ) → depth_at visit.left ≡ height_from t → LeadsTo (height_from t) (depth_from t visit.left x) known → depth_known known visit.left Leaf ≡ Some (height_from t)
+        by : (known : Option ℕ) → depth_at visit.left ≡ height_from t → LeadsToDepth (height_from t) (depth_from t visit.left x) known → depth_known known visit.left Leaf ≡ Some (height_from t)
         by None here leads = ap (λ (n : ℕ). Some n) here
         by (Some depth) here leads = ap (λ (n : ℕ). Some n) leads
 
@@ -202,20 +202,20 @@ module _ (t : Tree) (visit : Visit) (row : Row) (entered : IsEntered t visit row
     child_span slot y at = at ∙ ap (λ (l : List Span). slice_get l slot) (sym spans_here)
 
     -- the first child leads as deep as the row
-    first_leads : (start : Option ℕ) (y : Span) → visit.left ≤ deepest → Some y ≡ slice_get children 0 → LeadsTo (height_from t) (depth_from t visit.left x) start → LeadsTo (height_from t) (depth_from t under y) start
+    first_leads : (start : Option ℕ) (y : Span) → visit.left ≤ deepest → Some y ≡ slice_get children 0 → LeadsToDepth (height_from t) (depth_from t visit.left x) start → LeadsToDepth (height_from t) (depth_from t under y) start
     first_leads start y low at leads =
         let deep = some_left in
         let here = height_of_inner t.table visit.left x row.kind deep entered.named inner in
         let next = of_first_at (height_of t.table under) children y at in
         let same : depth_from t visit.left x ≡ depth_from t under y = omega (arith, here, next) in
-        subst (λ (n : ℕ). LeadsTo (height_from t) n start) same leads
+        subst (λ (n : ℕ). LeadsToDepth (height_from t) n start) same leads
 
-    pub child_leads : (slot : ℕ) (start known : Option ℕ) (below : Below) (gaps : Bool) (y : Span) → visit.left ≤ deepest → LeadsTo (height_from t) (depth_from t visit.left x) start → Onward t under row.kind row.number children slot start known below gaps
-        → Some y ≡ slice_get children slot → LeadsTo (height_from t) (depth_from t under y) known
+    pub child_leads : (slot : ℕ) (start known : Option ℕ) (below : Below) (gaps : Bool) (y : Span) → visit.left ≤ deepest → LeadsToDepth (height_from t) (depth_from t visit.left x) start → Onward t under row.kind row.number children slot start known below gaps
+        → Some y ≡ slice_get children slot → LeadsToDepth (height_from t) (depth_from t under y) known
     child_leads slot start known below gaps y low leads onward at = elim (none_or_some slot) [
       | inl none ↦
-          subst (LeadsTo (height_from t) (depth_from t under y)) (sym (onward.first none)) (first_leads start y low (at ∙ ap (slice_get children) none) leads)
-      | inr some ↦ subst (LeadsTo (height_from t) (depth_from t under y)) (sym (onward.others some)) refl
+          subst (LeadsToDepth (height_from t) (depth_from t under y)) (sym (onward.first none)) (first_leads start y low (at ∙ ap (slice_get children) none) leads)
+      | inr some ↦ subst (LeadsToDepth (height_from t) (depth_from t under y)) (sym (onward.others some)) refl
     ]
 
     -- ---- answers

@@ -18,13 +18,13 @@ use Rattle.mt_check.specs.declared.walks.Walk.{Walk}
 use Rattle.mt_check.specs.declared.walks.Visit.{Visit}
 use Rattle.mt_check.specs.declared.walks.Row.{Row}
 use Rattle.mt_check.specs.RowTests.{names_row, depth_at, has_depth}
-use Rattle.mt_check.specs.Reads.{items_of, broken_words}
+use Rattle.mt_check.specs.Reads.{row_items, broken_words}
 use Rattle.mt_check.specs.Check.{unless, broken_in, broken_by, at_row, own_faults}
-use Rattle.mt_check.specs.Walks.{way_of, height_from, LeadsTo, depth_from, IsEntered}
+use Rattle.mt_check.specs.Walks.{way_of, height_from, LeadsToDepth, depth_from, IsEntered}
 
 -- ---- the depth
 
-leaf_deep : (t : Tree) (left : ℕ) (x : Span) (known : Option ℕ) → left ≤ deepest → LeadsTo (height_from t) (depth_from t left x) known → named_kind x.word ≡ Some Leaf → has_depth (unwrap_or known (depth_at left)) left Leaf ≡ has_depth (height_from t) left Leaf
+leaf_deep : (t : Tree) (left : ℕ) (x : Span) (known : Option ℕ) → left ≤ deepest → LeadsToDepth (height_from t) (depth_from t left x) known → named_kind x.word ≡ Some Leaf → has_depth (unwrap_or known (depth_at left)) left Leaf ≡ has_depth (height_from t) left Leaf
 leaf_deep t zero x known low leads leaf = refl
 leaf_deep t (suc left) x (Some depth) low leads leaf = ap (λ (h : ℕ). has_depth h (suc left) Leaf) leads
 leaf_deep t (suc left) x None low leads leaf =
@@ -32,7 +32,7 @@ leaf_deep t (suc left) x None low leads leaf =
     let same : depth_at (suc left) ≡ height_from t = omega (arith, leads, one) in
     ap (λ (h : ℕ). has_depth h (suc left) Leaf) same
 
-pub same_depth : (t : Tree) (left : ℕ) (x : Span) (kind : RowKind) (known : Option ℕ) → left ≤ deepest → LeadsTo (height_from t) (depth_from t left x) known → named_kind x.word ≡ Some kind
+pub same_depth : (t : Tree) (left : ℕ) (x : Span) (kind : RowKind) (known : Option ℕ) → left ≤ deepest → LeadsToDepth (height_from t) (depth_from t left x) known → named_kind x.word ≡ Some kind
     → has_depth (unwrap_or known (depth_at left)) left kind ≡ has_depth (height_from t) left kind
 same_depth t left x Leaf known low leads named = leaf_deep t left x known low leads named
 same_depth t left x Inner known low leads named = refl
@@ -44,7 +44,7 @@ first_told : (row : ℕ) (laws : List Law) (law : Law) → slice_get laws 0 ≡ 
 first_told row [] law first = absurd (cc)
 first_told row (l ∷ laws) law first = let same : l ≡ law = cc in ap (λ (l : Law). Some (record { row = row; law = l })) same
 
-module _ (t : Tree) (walk : Walk) (visit : Visit) (named : Named) (low : visit.left ≤ deepest) (leads : LeadsTo (height_from t) (depth_from t visit.left visit.span) walk.leaf_depth) (numbered : named.row ≡ row_in visit.span.word)
+module _ (t : Tree) (walk : Walk) (visit : Visit) (named : Named) (low : visit.left ≤ deepest) (leads : LeadsToDepth (height_from t) (depth_from t visit.left visit.span) walk.leaf_depth) (numbered : named.row ≡ row_in visit.span.word)
     (kind : Some named.kind ≡ named_kind visit.span.word) (names : names_row t.gapped t.rows visit.span.word ≡ true) (deep : has_depth (unwrap_or walk.leaf_depth (depth_at visit.left)) visit.left named.kind ≡ true) where
   own_here : own_faults t visit.left (way_of visit) visit.span ≡ at_row (row_in visit.span.word) (broken_in t visit.left visit.parent visit.span named.kind)
   own_here =
@@ -55,12 +55,12 @@ module _ (t : Tree) (walk : Walk) (visit : Visit) (named : Named) (low : visit.l
   broken_here : broken_words t.table named.kind named.row visit.left visit.parent visit.span ≡ broken_in t visit.left visit.parent visit.span named.kind
   broken_here = ap (λ (row : ℕ). broken_words t.table named.kind row visit.left visit.parent visit.span) numbered
 
-  pub entered : (row : Row) → row.number ≡ named.row → row.kind ≡ named.kind → row.items.items ≡ items_of t.table named.kind named.row visit.span.last
+  pub entered : (row : Row) → row.number ≡ named.row → row.kind ≡ named.kind → row.items.items ≡ row_items t.table named.kind named.row visit.span.last
       → broken_words t.table named.kind named.row visit.left visit.parent visit.span ≡ [] → IsEntered t visit row
   entered row same like items none = record {
     named = sym kind ∙ ap (λ (k : RowKind). Some k) (sym like);
     number = same ∙ numbered;
-    items = items ∙ (λ i. items_of t.table (sym like i) (numbered i) visit.span.last);
+    items = items ∙ (λ i. row_items t.table (sym like i) (numbered i) visit.span.last);
     kept = own_here ∙ ap (at_row (row_in visit.span.word)) (sym broken_here ∙ none);
   }
 

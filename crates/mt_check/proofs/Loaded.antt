@@ -10,7 +10,7 @@ use Rattle.mt_layout.specs.Sizes.{slots_of, gaps_of}
 use Rattle.mt_layout.proofs.Reading.{read_last, read_more, read_all, ends, goes_on, some_items}
 use Rattle.mt_rows.specs.Spans.{Table, base_of, column}
 use Rattle.mt_rows.specs.Sheet.{Sheet, Rooted, OnlyReads}
-use Rattle.mt_check.specs.Reads.{items_of}
+use Rattle.mt_check.specs.Reads.{row_items}
 use Rattle.mt_check.specs.RowTests.{rise_to}
 use Rattle.mt_rows.proofs.Loads.{reads_on, same_tree}
 
@@ -26,12 +26,12 @@ items_behind t kind row max slot = items_from (slots_of t.width kind) (gaps_of t
 -- those of the slots before one were read
 pub record AreRead (s s' : Sheet) (kind : RowKind) (row max slot : ℕ) (items : List Item) : Type 0 where
   pub rest : OnlyReads s s'
-  pub read : items ++ items_behind s.tree.table kind row max slot ≡ items_of s.tree.table kind row max
+  pub read : items ++ items_behind s.tree.table kind row max slot ≡ row_items s.tree.table kind row max
   pub count : length items ≡ slot
 
 -- those of the slots before one rise, or do not, and the next is to begin at an index
 abbrev pub RiseSoFar : Table → RowKind → ℕ → ℕ → ℕ → ℕ → Bool → ℕ → Type 0
-RiseSoFar t kind row first max slot rise begin = (rise && rise_to begin max (items_behind t kind row max slot)) ≡ rise_to first max (items_of t kind row max)
+RiseSoFar t kind row first max slot rise begin = (rise && rise_to begin max (items_behind t kind row max slot)) ≡ rise_to first max (row_items t kind row max)
 
 rise_on : (begin max : ℕ) (x : Item) (items : List Item) → 1 ≤ length items → x.last < max → rise_to begin max (x ∷ items) ≡ (nat_le begin x.last && rise_to (x.last + 1) max items)
 rise_on begin max x [] some more = absurd (omega arith)
@@ -56,8 +56,8 @@ module _ (s t u : Sheet) (kind : RowKind) (row max slot : ℕ) (before after : L
       let count = done.count in
       record {
         rest = reads_on s t u done.rest reads;
-        read = subst (λ (l : List Item). l ++ items_behind s.tree.table kind row max (slot + 1) ≡ items_of s.tree.table kind row max) (sym pushed)
-            (read_more (slots_of s.tree.table.width kind) (gaps_of s.tree.table.width kind) s.tree.table.words (base_of s.tree.table row) max before (items_of s.tree.table kind row max) slot item done.read inside here more);
+        read = subst (λ (l : List Item). l ++ items_behind s.tree.table kind row max (slot + 1) ≡ row_items s.tree.table kind row max) (sym pushed)
+            (read_more (slots_of s.tree.table.width kind) (gaps_of s.tree.table.width kind) s.tree.table.words (base_of s.tree.table row) max before (row_items s.tree.table kind row max) slot item done.read inside here more);
         count = ap length pushed ∙ (length-append before (item ∷ []) ∙ ap (λ (n : ℕ). n + 1) count);
       }
 
@@ -88,16 +88,16 @@ module _ (s t u : Sheet) (kind : RowKind) (row max slot : ℕ) (before after : L
       ∙ (ap (λ (l : List Item). rise && rise_to begin max l) (sym (behind_here more)) ∙ told))
 
   pub last_rises : (first begin : ℕ) (rise : Bool) → RiseSoFar s.tree.table kind row first max slot rise begin → max ≤ item.last
-      → ((rise && nat_le begin item.last) && (item.last == max)) ≡ rise_to first max (items_of s.tree.table kind row max)
+      → ((rise && nat_le begin item.last) && (item.last == max)) ≡ rise_to first max (row_items s.tree.table kind row max)
   last_rises first begin rise told last =
       let one : items_behind s.tree.table kind row max slot ≡ item ∷ [] = ends slots gaps s.tree.table.words (base_of s.tree.table row) max (slots - slot) slot item (omega (arith, inside)) (omega (arith, inside)) here last in
       and_assoc rise (nat_le begin item.last) (item.last == max) ∙ (ap (λ (l : List Item). rise && rise_to begin max l) (sym one) ∙ told)
 
-  pub last_read : max ≤ item.last → after ≡ items_of s.tree.table kind row max
+  pub last_read : max ≤ item.last → after ≡ row_items s.tree.table kind row max
   last_read last =
-      pushed ∙ read_last (slots_of s.tree.table.width kind) (gaps_of s.tree.table.width kind) s.tree.table.words (base_of s.tree.table row) max before (items_of s.tree.table kind row max) slot item done.read inside here last
+      pushed ∙ read_last (slots_of s.tree.table.width kind) (gaps_of s.tree.table.width kind) s.tree.table.words (base_of s.tree.table row) max before (row_items s.tree.table kind row max) slot item done.read inside here last
 
-pub all_read : (s t : Sheet) (kind : RowKind) (row max slot : ℕ) (items : List Item) → AreRead s t kind row max slot items → slots_of t.tree.table.width kind ≤ slot → items ≡ items_of s.tree.table kind row max
+pub all_read : (s t : Sheet) (kind : RowKind) (row max slot : ℕ) (items : List Item) → AreRead s t kind row max slot items → slots_of t.tree.table.width kind ≤ slot → items ≡ row_items s.tree.table kind row max
 all_read s t kind row max slot items done end =
     let past : slots_of s.tree.table.width kind ≤ slot = subst (λ (x : Rooted). slots_of x.table.width kind ≤ slot) (same_tree s t done.rest) end in
-    read_all (slots_of s.tree.table.width kind) (gaps_of s.tree.table.width kind) s.tree.table.words (base_of s.tree.table row) max items (items_of s.tree.table kind row max) slot done.read past
+    read_all (slots_of s.tree.table.width kind) (gaps_of s.tree.table.width kind) s.tree.table.words (base_of s.tree.table row) max items (row_items s.tree.table kind row max) slot done.read past

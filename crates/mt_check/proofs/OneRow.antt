@@ -26,7 +26,7 @@ use Rattle.mt_layout.proofs.RowWords.{length-row_words}
 use Rattle.mt_rows.specs.Spans.{Table, base_of, column, spans_by, spans_in}
 use Rattle.mt_rows.specs.Laws.{items_in, GapsFrom, longest_below}
 use Rattle.mt_check.specs.RowTests.{rise_to, words_of, are_apart, has_gaps_from}
-use Rattle.mt_check.specs.Reads.{items_of, words_made}
+use Rattle.mt_check.specs.Reads.{row_items, words_of_parts}
 
 -- ---- what stands in a row of a kind
 
@@ -36,7 +36,7 @@ spans_are t kind x named = ap (λ (k : Option RowKind). spans_by t k x) named
 pub some_in : (t : Table) (kind : RowKind) (x : Span) → 1 ≤ length (items_in t kind x)
 some_in t kind x = some_items (slots_of t.width kind) (gaps_of t.width kind) t.words (base_of t (row_in x.word)) x.last (slots_of t.width kind) 0 (some_slots_of t.width kind)
 
-pub few_of : (t : Table) (kind : RowKind) (row last : ℕ) → length (items_of t kind row last) ≤ slots_of t.width kind
+pub few_of : (t : Table) (kind : RowKind) (row last : ℕ) → length (row_items t kind row last) ≤ slots_of t.width kind
 few_of t kind row last = few_items (slots_of t.width kind) (gaps_of t.width kind) t.words (base_of t row) last (slots_of t.width kind) 0
 
 -- ---- pivots
@@ -65,13 +65,13 @@ fills_rising first last (x ∷ y ∷ items) some fills =
 -- the columns are those that the items make
 module _ (t : Table) (kind : RowKind) (row last : ℕ) where
   abbrev made : List ℕ
-  made = words_made t kind row last
+  made = words_of_parts t kind row last
 
   abbrev pub Unused : Type 0
   Unused = (c : ℕ) → c < columns t.width → column t row c ≡ slice_index made c
 
   made_length : length made ≡ columns t.width
-  made_length = length-row_words (columns t.width) (slots_of t.width kind) (gaps_of t.width kind) (column t row 0) (items_of t kind row last) (layout_of t.width kind) (few_of t kind row last)
+  made_length = length-row_words (columns t.width) (slots_of t.width kind) (gaps_of t.width kind) (column t row 0) (row_items t kind row last) (layout_of t.width kind) (few_of t kind row last)
 
   words_length : length (words_of t row) ≡ columns t.width
   words_length = length-map-range_with_len (column t row) 0 (columns t.width)

@@ -17,7 +17,7 @@ use Rattle.mt_layout.proofs.RowWords.{item_or, used, length-used, used-pivot, us
 use Rattle.mt_rows.specs.Spans.{Table, base_of, column}
 use Rattle.mt_rows.specs.Sheet.{Sheet, Rooted, OnlyReads}
 use Rattle.mt_check.specs.RowTests.{words_of}
-use Rattle.mt_check.specs.Reads.{items_of, are_zero, holds_no_more, words_made}
+use Rattle.mt_check.specs.Reads.{row_items, are_zero, holds_no_more, words_of_parts}
 use Rattle.mt_check.proofs.OneRow.{few_of, Unused, same_unused, unused_same}
 use Rattle.mt_rows.proofs.Loads.{reads_on, same_tree}
 
@@ -81,10 +81,10 @@ module _ (t : Table) (kind : RowKind) (row last : ℕ) where
   gaps = gaps_of t.width kind
 
   abbrev items : List Item
-  items = items_of t kind row last
+  items = row_items t kind row last
 
   abbrev made : List ℕ
-  made = words_made t kind row last
+  made = words_of_parts t kind row last
 
   abbrev from_slot : ℕ → ℕ → List Item
   from_slot left i = items_from slots gaps t.words (base_of t row) last left i

@@ -14,7 +14,7 @@ use Rattle.mt_check.specs.declared.faults.Fault.{Fault}
 use Rattle.mt_check.specs.declared.faults.Form.{Form}
 use Rattle.mt_check.specs.declared.walks.Below.{Below}
 use Rattle.mt_check.specs.Check.{faults_at, root_way, faults_in, form_of, first_or, checked}
-use Rattle.mt_check.specs.Walks.{height_from, IsAnswer, below_at}
+use Rattle.mt_check.specs.Walks.{height_from, IsFaultOrBelow, below_at}
 use Rattle.mt_check.proofs.Sound.{sound}
 use Rattle.mt_check.proofs.Complete.{complete}
 
@@ -51,7 +51,7 @@ module _ (t : Tree) where
 
     -- what the walk answers of a root that ends at the greatest index
     abbrev Answers : ℕ → Result Below Fault → Type 0
-    Answers last result = let x : Span = record { first = 0; last = last; word = t.root } in IsAnswer (faults_at t deepest root_way x) (below_at t deepest x) result
+    Answers last result = let x : Span = record { first = 0; last = last; word = t.root } in IsFaultOrBelow (faults_at t deepest root_way x) (below_at t deepest x) result
 
     pub fault_checked : (last : ℕ) (fault : Fault) → last ≡ top_of t → Answers last (Err fault) → Err fault ≡ checked t
     fault_checked last fault top answer = first_err (faults_in t) (form_of t) fault (ap (λ (fs : List Fault). slice_get fs 0) faults_are ∙ subst (λ (n : ℕ). Answers n (Err fault)) top answer)

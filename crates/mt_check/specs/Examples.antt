@@ -14,8 +14,8 @@ abbrev top : ℕ
 top = greatest_of Range
 
 -- the words of rows from the first on, with as many zeros before them as rows have that are none
-abbrev pub tree_of : Kind → ℕ → ℕ → List ℕ → Tree
-tree_of kind root rows words = record {
+abbrev pub example_tree : Kind → ℕ → ℕ → List ℕ → Tree
+example_tree kind root rows words = record {
   rows = rows;
   gapped = finds_room kind;
   table = record { width = kind_width kind; words = replicate (columns (kind_width kind) * first_row) 0 ++ words };
@@ -31,18 +31,18 @@ unused_row = replicate (columns (kind_width Range)) 0
 
 -- the range 10 to 19 with the entry 5, in two rows
 abbrev pub one_leaf : Tree
-one_leaf = tree_of Range 4108 2
+one_leaf = example_tree Range 4108 2
     ((1 ∷ 9 ∷ 19 ∷ top ∷ [] ++ replicate 12 0)
     ++ (0 ∷ 5 ∷ [] ++ replicate 14 0)
     ++ unused_row)
 
 -- a row with one child, which no root may be
 abbrev pub one_child : Tree
-one_child = tree_of Range 4116 2 ((1 ∷ top ∷ [] ++ replicate 14 0) ++ (4364 ∷ [] ++ replicate 15 0) ++ unused_row)
+one_child = example_tree Range 4116 2 ((1 ∷ top ∷ [] ++ replicate 14 0) ++ (4364 ∷ [] ++ replicate 15 0) ++ unused_row)
 
 -- eleven ranges with the entry 4096, in two leaves below a root
 abbrev pub two_leaves : Tree
-two_leaves = tree_of Alloc 4124 3
+two_leaves = example_tree Alloc 4124 3
     ((1 ∷ 11 ∷ top ∷ [] ++ replicate 7 0)
     ++ (4364 ∷ 4620 ∷ [] ++ replicate 8 0)
     ++ (0 ∷ 18446744073709551599 ∷ [] ++ replicate 10 0)
@@ -56,11 +56,11 @@ narrow_top = greatest_of Range32
 
 -- the range 10 to 19 with the entry 5
 abbrev pub narrow_leaf : Tree
-narrow_leaf = tree_of Range32 4108 1 ((1 ∷ 9 ∷ 19 ∷ narrow_top ∷ [] ++ replicate 28 0) ++ (0 ∷ 5 ∷ [] ++ replicate 30 0))
+narrow_leaf = example_tree Range32 4108 1 ((1 ∷ 9 ∷ 19 ∷ narrow_top ∷ [] ++ replicate 28 0) ++ (0 ∷ 5 ∷ [] ++ replicate 30 0))
 
 -- so many ranges of one index with the entry 4096 from 0 on in one leaf, and thirteen behind them in another, below a root
 abbrev pub narrow_leaves : ℕ → Tree
-narrow_leaves count = tree_of Alloc32 4124 3
+narrow_leaves count = example_tree Alloc32 4124 3
     ((1 ∷ (count - 1) ∷ narrow_top ∷ [] ++ replicate 18 0)
     ++ (4364 ∷ 4620 ∷ [] ++ replicate 19 0)
     ++ (0 ∷ (narrow_top - (count + 12)) ∷ [] ++ replicate 20 0)

@@ -16,8 +16,8 @@ use Rattle.mt_check.specs.RowTests.{rise_to, words_of, least_at, has_entries, ha
 use Rattle.mt_check.specs.Check.{unless}
 
 -- the items of a row of this kind that ends at `last`
-abbrev pub items_of : Table → RowKind → ℕ → ℕ → List Item
-items_of t kind row last = items_at (slots_of t.width kind) (gaps_of t.width kind) t.words (base_of t row) last
+abbrev pub row_items : Table → RowKind → ℕ → ℕ → List Item
+row_items t kind row last = items_at (slots_of t.width kind) (gaps_of t.width kind) t.words (base_of t row) last
 
 -- so many columns from `from` on are 0
 abbrev pub are_zero : Table → ℕ → ℕ → ℕ → Bool
@@ -32,12 +32,12 @@ holds_no_more t kind row count =
     are_zero t row (1 + count) (slots - (1 + count)) && (are_zero t row (slots + count) (2 * slots - (slots + count)) && are_zero t row behind (columns t.width - behind))
 
 -- the words that the parent word and the items make
-abbrev pub words_made : Table → RowKind → ℕ → ℕ → List ℕ
-words_made t kind row last = row_words (columns t.width) (slots_of t.width kind) (gaps_of t.width kind) (column t row 0) (items_of t kind row last)
+abbrev pub words_of_parts : Table → RowKind → ℕ → ℕ → List ℕ
+words_of_parts t kind row last = row_words (columns t.width) (slots_of t.width kind) (gaps_of t.width kind) (column t row 0) (row_items t kind row last)
 
 -- the row holds items that rise from one index to another, and nothing else but a parent word
 abbrev pub holds_items : Table → RowKind → ℕ → ℕ → ℕ → Bool
-holds_items t kind row first last = rise_to first last (items_of t kind row last) && pointwise nat_eq (words_of t row) (words_made t kind row last)
+holds_items t kind row first last = rise_to first last (row_items t kind row last) && pointwise nat_eq (words_of t row) (words_of_parts t kind row last)
 
 -- the laws that the items of a row break
 abbrev pub broken_items : Width → RowKind → ℕ → ℕ → List Item → List Law
@@ -47,4 +47,4 @@ broken_items width kind left last items =
 -- the laws that a row's own words break, but for its depth
 abbrev pub broken_words : Table → RowKind → ℕ → ℕ → ℕ → Span → List Law
 broken_words t kind row left parent x =
-    unless (column t row 0 == parent) Parent ++ (unless (holds_items t kind row x.first x.last) Pivots ++ broken_items t.width kind left x.last (items_of t kind row x.last))
+    unless (column t row 0 == parent) Parent ++ (unless (holds_items t kind row x.first x.last) Pivots ++ broken_items t.width kind left x.last (row_items t kind row x.last))

@@ -34,9 +34,9 @@ height_from t = height_in t.table t.root
 
 -- The first leaf has the depth that is known; where none is known, the walk has gone down along first children, and those
 -- from here on lead to it.
-abbrev pub LeadsTo : ℕ → ℕ → Option ℕ → Type 0
-LeadsTo height here None = height ≡ here
-LeadsTo height here (Some depth) = depth ≡ height
+abbrev pub LeadsToDepth : ℕ → ℕ → Option ℕ → Type 0
+LeadsToDepth height here None = height ≡ here
+LeadsToDepth height here (Some depth) = depth ≡ height
 
 -- how deep first children lead from a row on
 abbrev pub depth_from : Tree → ℕ → Span → ℕ
@@ -65,9 +65,9 @@ abbrev pub below_at : Tree → ℕ → Span → Below
 below_at t left x = record { rows = length (rows_of t.table left x); ranges = length (ranges_of t.table left x); longest = longest_at t.table left x }
 
 -- the first fault, or what stands below where there is none
-abbrev pub IsAnswer : List Fault → Below → Result Below Fault → Type 0
-IsAnswer faults below (Ok found) = (faults ≡ []) × (found ≡ below)
-IsAnswer faults below (Err fault) = slice_get faults 0 ≡ Some fault
+abbrev pub IsFaultOrBelow : List Fault → Below → Result Below Fault → Type 0
+IsFaultOrBelow faults below (Ok found) = (faults ≡ []) × (found ≡ below)
+IsFaultOrBelow faults below (Err fault) = slice_get faults 0 ≡ Some fault
 
 abbrev pub IsAnswerAt : Tree → Visit → Result Below Fault → Type 0
-IsAnswerAt t visit result = IsAnswer (faults_at t visit.left (way_of visit) visit.span) (below_at t visit.left visit.span) result
+IsAnswerAt t visit result = IsFaultOrBelow (faults_at t visit.left (way_of visit) visit.span) (below_at t visit.left visit.span) result

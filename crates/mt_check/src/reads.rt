@@ -28,8 +28,8 @@ fn read_items<R: Rows>(
 ) -> bool
     requires first { first_row ≤ row }
     requires last { row < first_row + (R.sheet rows.old).tree.rows }
-    ensures items { items.new.items ≡ reads.items_of (R.sheet rows.old).tree.table kind row last }
-    ensures rise { result ≡ tests.rise_to first last (reads.items_of (R.sheet rows.old).tree.table kind row last) }
+    ensures items { items.new.items ≡ reads.row_items (R.sheet rows.old).tree.table kind row last }
+    ensures rise { result ≡ tests.rise_to first last (reads.row_items (R.sheet rows.old).tree.table kind row last) }
     ensures rest { OnlyReads (R.sheet rows.old) (R.sheet rows.new) }
 {
     items.clear();
@@ -94,7 +94,7 @@ pub(crate) fn items_in<R: Rows>(
     requires first { first_row ≤ row }
     requires last { row < first_row + (R.sheet rows.old).tree.rows }
     ensures is { result ≡ reads.holds_items (R.sheet rows.old).tree.table kind row first last }
-    ensures items { items.new.items ≡ reads.items_of (R.sheet rows.old).tree.table kind row last }
+    ensures items { items.new.items ≡ reads.row_items (R.sheet rows.old).tree.table kind row last }
     ensures rest { OnlyReads (R.sheet rows.old) (R.sheet rows.new) }
 {
     if !read_items(rows, kind, row, first, last, items) {

@@ -8,7 +8,7 @@ ghost use Rattle.mt_base.specs.Width.{first_row};
 ghost use Rattle.mt_layout.specs.Rows.{row_in, named_kind};
 ghost use Rattle.mt_rows.specs.Sheet.{OnlyReads};
 ghost use Rattle.mt_check.specs.RowTests as tests;
-ghost use Rattle.mt_check.specs.Reads.{items_of, broken_items, broken_words};
+ghost use Rattle.mt_check.specs.Reads.{row_items, broken_items, broken_words};
 
 use crate::faults::Law;
 use crate::reads::{Items, items_in};
@@ -134,7 +134,7 @@ pub(crate) fn check_words<R: Rows>(
 ) -> Result<(), Law>
     requires first { first_row ≤ named.row }
     requires last { named.row < first_row + (R.sheet rows.old).tree.rows }
-    ensures items { OnOk result (items.new.items ≡ items_of (R.sheet rows.old).tree.table named.kind named.row span.last) }
+    ensures items { OnOk result (items.new.items ≡ row_items (R.sheet rows.old).tree.table named.kind named.row span.last) }
     ensures kept { OnOk result (broken_words (R.sheet rows.old).tree.table named.kind named.row left parent span ≡ []) }
     ensures broken { IfErr result (λ law. slice_get (broken_words (R.sheet rows.old).tree.table named.kind named.row left parent span) 0 ≡ Some law) }
     ensures rest { OnlyReads (R.sheet rows.old) (R.sheet rows.new) }

@@ -10,7 +10,7 @@ ghost use Rattle.mt_rows.specs.Sheet.{OnlyReads};
 ghost use Rattle.mt_check.specs.RowTests as tests;
 ghost use Rattle.mt_check.specs.RowTests.{depth_at};
 ghost use Rattle.mt_check.specs.Check.{own_faults};
-ghost use Rattle.mt_check.specs.Walks.{no_item, tree_from, way_of, height_from, LeadsTo, depth_from, depth_known, IsEntered, IsAnswerAt};
+ghost use Rattle.mt_check.specs.Walks.{no_item, tree_from, way_of, height_from, LeadsToDepth, depth_from, depth_known, IsEntered, IsAnswerAt};
 
 use crate::faults::{Fault, Law};
 use crate::reads::{Items, span_at};
@@ -150,7 +150,7 @@ impl Walk {
     /// Enters a row, or tells the first law that it breaks, but for that of gaps.
     fn enter<R: Rows>(&mut self, rows: &mut R, visit: Visit, row: &mut Row) -> Result<(), Fault>
         requires left { visit.left ≤ deepest }
-        requires depth { let t = tree_from self.old (R.sheet rows.old).tree in LeadsTo (height_from t) (depth_from t visit.left visit.span) self.old.leaf_depth }
+        requires depth { let t = tree_from self.old (R.sheet rows.old).tree in LeadsToDepth (height_from t) (depth_from t visit.left visit.span) self.old.leaf_depth }
         ensures ok { let t = tree_from self.old (R.sheet rows.old).tree in OnOk result (IsEntered t visit row.new) }
         ensures known { OnOk result (self.new ≡ record self.old { leaf_depth = depth_known self.old.leaf_depth visit.left row.new.kind }) }
         ensures err { let t = tree_from self.old (R.sheet rows.old).tree in IfErr result (λ fault. slice_get (own_faults t visit.left (way_of visit) visit.span) 0 ≡ Some fault) }
@@ -196,7 +196,7 @@ impl Walk {
         row: &mut Row,
     ) -> Result<Below, Fault>
         requires left { visit.left ≤ deepest }
-        requires depth { let t = tree_from self.old (R.sheet rows.old).tree in LeadsTo (height_from t) (depth_from t visit.left visit.span) self.old.leaf_depth }
+        requires depth { let t = tree_from self.old (R.sheet rows.old).tree in LeadsToDepth (height_from t) (depth_from t visit.left visit.span) self.old.leaf_depth }
         ensures answer { IsAnswerAt (tree_from self.old (R.sheet rows.old).tree) visit result }
         ensures depth { OnOk result (self.new.leaf_depth ≡ Some (height_from (tree_from self.old (R.sheet rows.old).tree))) }
         ensures walk { self.new ≡ record self.old { leaf_depth = self.new.leaf_depth } }
@@ -218,7 +218,7 @@ impl Walk {
         row: &Row,
     ) -> Result<Below, Fault>
         requires left { visit.left ≤ deepest }
-        requires depth { let t = tree_from self.old (R.sheet rows.old).tree in LeadsTo (height_from t) (depth_from t visit.left visit.span) self.old.leaf_depth }
+        requires depth { let t = tree_from self.old (R.sheet rows.old).tree in LeadsToDepth (height_from t) (depth_from t visit.left visit.span) self.old.leaf_depth }
         requires row { IsEntered (tree_from self.old (R.sheet rows.old).tree) visit row.now }
         requires inner { row.now.kind ≢ kinds.Leaf }
         ensures answer { IsAnswerAt (tree_from self.old (R.sheet rows.old).tree) visit result }

@@ -22,7 +22,7 @@ use Rattle.mt_base.specs.Passes as known
 use Rattle.mt_base.specs.Passes.{Wrote}
 use Rattle.mt_base.specs.Width.{greatest_of, most_rows}
 use Rattle.mt_base.proofs.PlainReplies.{was_acted}
-use Rattle.mt_ids.specs.Draws.{Found, IsDrawn, LacksCalls, behind, calls_of, drawn, is_bad_draw, is_twofold}
+use Rattle.mt_ids.specs.Draws.{Found, IsDrawn, LacksCalls, position_behind, calls_of, drawn, is_bad_draw, is_twofold}
 use Rattle.mt_ids.specs.Window.{Draws}
 use Rattle.mt_ids.specs.declared.ids.Drawn.{Drawn}
 use Rattle.mt_ids.specs.declared.ids.Drawn.TheVariants.{Number, Busy, Invalid, NoNodes as Lacks, Worn}
@@ -36,7 +36,7 @@ use Rattle.mt_tree.specs.Shapes.{most_calls}
 use Rattle.mt_tree.specs.Trees.{IsWorn, NamesPass, limit_of, map_seen, opened, passes_of}
 use Rattle.mt_tree.proofs.Allocations.{has_called, map_next, none_held, seen_next, was_legal}
 use Rattle.mt_cycles.specs.Only.{HasOnePass, found_in, turns_at}
-use Rattle.mt_cycles.specs.Turns.{Tally, Turns, draws_behind, due, map_behind, map_without, tallied, turn}
+use Rattle.mt_cycles.specs.Turns.{Tally, Turns, draws_behind, number_due, map_behind, map_without, tallied, turn}
 
 not_zero : (n : ℕ) → 1 ≤ n → (n == 0) ≡ false
 not_zero zero low = absurd (omega arith)
@@ -145,9 +145,9 @@ module _ (t : Tree) (p q : known.Pass) (only : HasOnePass t) (shut : p.standing 
 -- ---- a turn
 
 pub turned : (t : Tree) (p q : known.Pass) (d d' : Draws) (tally tally' : Tally) (drops n : ℕ) (found : Option Found) (o : Option ℕ) → found ≡ drawn kinds.Alloc (map_seen t p) d → d' ≡ draws_behind d found
-    → tally' ≡ tallied tally found → o ≡ due drops tally'.numbers → map_seen t q ≡ map_without (map_behind (4096 + n) (map_seen t p) found) o → turns_at t q d' tally' ≡ turn drops (turns_at t p d tally) n
+    → tally' ≡ tallied tally found → o ≡ number_due drops tally'.numbers → map_seen t q ≡ map_without (map_behind (4096 + n) (map_seen t p) found) o → turns_at t q d' tally' ≡ turn drops (turns_at t p d tally) n
 turned t p q d d' tally tally' drops n found o is draws tallies owed map_is =
-    let due_is : o ≡ due drops (tallied tally found).numbers = owed ∙ ap (λ (x : Tally). due drops x.numbers) tallies in
-    let here : turns_at t q d' tally' ≡ record { map = map_without (map_behind (4096 + n) (map_seen t p) found) (due drops (tallied tally found).numbers); draws = draws_behind d found; tally = tallied tally found } =
+    let due_is : o ≡ number_due drops (tallied tally found).numbers = owed ∙ ap (λ (x : Tally). number_due drops x.numbers) tallies in
+    let here : turns_at t q d' tally' ≡ record { map = map_without (map_behind (4096 + n) (map_seen t p) found) (number_due drops (tallied tally found).numbers); draws = draws_behind d found; tally = tallied tally found } =
     (λ k. record { map = (map_is ∙ ap (map_without (map_behind (4096 + n) (map_seen t p) found)) due_is) k; draws = draws k; tally = tallies k }) in
-    here ∙ ap (λ (f : Option Found). record { map = map_without (map_behind (4096 + n) (map_seen t p) f) (due drops (tallied tally f).numbers); draws = draws_behind d f; tally = tallied tally f }) is
+    here ∙ ap (λ (f : Option Found). record { map = map_without (map_behind (4096 + n) (map_seen t p) f) (number_due drops (tallied tally f).numbers); draws = draws_behind d f; tally = tallied tally f }) is

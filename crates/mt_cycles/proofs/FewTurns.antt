@@ -18,7 +18,7 @@ use Rattle.mt_ids.specs.Window.{Draws, new_draws}
 use Rattle.mt_ids.proofs.FewRanges.{found_is_free, one_range_more}
 use Rattle.mt_ids.proofs.OneCall.{lies_in}
 use Rattle.mt_cycles.specs.Only.{IsFew}
-use Rattle.mt_cycles.specs.Turns.{Turns, draws_behind, due, map_behind, map_without, new_turns, tallied, turn, turns}
+use Rattle.mt_cycles.specs.Turns.{Turns, draws_behind, number_due, map_behind, map_without, new_turns, tallied, turn, turns}
 use Rattle.mt_base.proofs.FreeAreas.{holes}
 
 -- ---- a draw
@@ -79,7 +79,7 @@ turned_few hi n drops k t high is =
     let o = drawn kinds.Alloc t.map t.draws in
     let end = is.end in
     record {
-      few = without_few (map_behind (4096 + k) t.map o) (n + 1) (due drops (tallied t.tally o).numbers) (drawn_few t.map n (4096 + k) t.draws o (omega arith) is.few refl);
+      few = without_few (map_behind (4096 + k) t.map o) (n + 1) (number_due drops (tallied t.tally o).numbers) (drawn_few t.map n (4096 + k) t.draws o (omega arith) is.few refl);
       end = window_behind t.draws o ∙ end;
     }
 

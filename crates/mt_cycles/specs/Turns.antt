@@ -9,7 +9,7 @@ use Rattle.mt_base.specs.declared.ranges.Range.{Range}
 use Rattle.mt_base.specs.declared.calls.Call.TheVariants.{Erase}
 use Rattle.mt_base.specs.Call.{acted}
 use Rattle.mt_base.specs.Map.{over}
-use Rattle.mt_ids.specs.Draws.{Found, behind, drawn}
+use Rattle.mt_ids.specs.Draws.{Found, position_behind, drawn}
 use Rattle.mt_ids.specs.Window.{Draws, new_draws}
 
 -- The number of each draw so far, if it gave one; the first and the last number; how often the window began anew, and how often no
@@ -44,8 +44,8 @@ tallied t (Some f) = record t {
 }
 
 -- the number that is given back when so many draws were made
-abbrev pub due : ℕ → List (Option ℕ) → Option ℕ
-due drops numbers = if nat_lt drops (length numbers) then option_flatten (slice_get numbers (length numbers - drops - 1)) else None
+abbrev pub number_due : ℕ → List (Option ℕ) → Option ℕ
+number_due drops numbers = if nat_lt drops (length numbers) then option_flatten (slice_get numbers (length numbers - drops - 1)) else None
 
 -- the map and the position after a draw for this entry
 abbrev pub map_behind : ℕ → List Range → Option Found → List Range
@@ -54,7 +54,7 @@ map_behind entry m (Some f) = over m f.at f.at entry
 
 abbrev pub draws_behind : Draws → Option Found → Draws
 draws_behind d None = d
-draws_behind d (Some f) = behind d f.at
+draws_behind d (Some f) = position_behind d f.at
 
 -- the map after a number was given back, if one was
 abbrev pub map_without : List Range → Option ℕ → List Range
@@ -74,7 +74,7 @@ new_turns lo hi = record { map = []; draws = new_draws lo hi; tally = no_tally }
 abbrev pub turn_with : ℕ → ℕ → Turns → Option Found → Turns
 turn_with drops n t found =
     let tally = tallied t.tally found in
-    record { map = map_without (map_behind (4096 + n) t.map found) (due drops tally.numbers); draws = draws_behind t.draws found; tally = tally }
+    record { map = map_without (map_behind (4096 + n) t.map found) (number_due drops tally.numbers); draws = draws_behind t.draws found; tally = tally }
 
 -- the n-th turn
 abbrev pub turn : ℕ → Turns → ℕ → Turns

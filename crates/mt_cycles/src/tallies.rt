@@ -33,7 +33,7 @@ impl Model for Tally {
 impl Tally {
     ghost use Rattle.std.specs.Prelude.{◌≡◌, ◌+◌, ◌≤◌, IfOk};
     ghost use Rattle.mt_cycles.specs.Only.{found_in};
-    ghost use Rattle.mt_cycles.specs.Turns.{due, no_tally, tallied};
+    ghost use Rattle.mt_cycles.specs.Turns.{number_due, no_tally, tallied};
 
     /// Of no draw, with room for so many.
     pub(crate) fn new(alloc: Global, steps: u32) -> Result<Self, NoMemory>
@@ -68,7 +68,7 @@ impl Tally {
 
     /// The number that is to be given back now.
     pub(crate) fn due(&self, drops: u32) -> Option<u64>
-        ensures { result ≡ due drops self.now.tally.numbers }
+        ensures { result ≡ number_due drops self.now.tally.numbers }
     {
         let drops = drops as usize;
         let count = self.numbers.len();

@@ -7,12 +7,12 @@ use Rattle.mt_log.specs.declared.lines.Line.{Line}
 use Rattle.mt_log.specs.Run.{Asked, Step, lane_after}
 use Rattle.mt_runs.specs.Gone.{sum_below}
 use Rattle.mt_runs.specs.Leads.{outcomes_of}
-use Rattle.mt_runs.specs.Rooms.{asked_of_lane, joined}
+use Rattle.mt_runs.specs.Rooms.{asked_of_lane, answers_joined}
 use Rattle.mt_runs.specs.Tracks.{numbers_of}
 use Rattle.mt_runs.proofs.FewCalls.{line_calls, lines_of_lanes, numbers_long_on}
 use Rattle.mt_runs.proofs.Totals.{sum_same}
 use Rattle.mt_desks.specs.Dealing.{asked_of, is_step, lines_of_lane, steps_in}
-use Rattle.mt_desks.specs.Desks.{AreAnsweredUnless, IsDoneUnless, IsWorn, SharedTree}
+use Rattle.mt_desks.specs.Desks.{AreAnsweredUnless, IsDoneUnless, IsSomeWorn, SharedTree}
 use Rattle.mt_desks.proofs.Asking.{own_asked}
 
 -- ---- a line makes one call at the most
@@ -25,18 +25,18 @@ unless_calls : (worn : Type 0) (number lane : ℕ) (a : Asked) (steps : List Ste
 unless_calls worn number lane a steps (inl d) = line_calls number lane a steps d
 unless_calls worn number lane a steps (inr (w, none)) = omega (arith, ap (calls_of number lane) none)
 
-few_unless : (worn : Type 0) (number lane : ℕ) (asked : List Asked) (answers : List (List Step)) → AreAnsweredUnless worn asked answers → calls_of number lane (joined answers) ≤ length asked
+few_unless : (worn : Type 0) (number lane : ℕ) (asked : List Asked) (answers : List (List Step)) → AreAnsweredUnless worn asked answers → calls_of number lane (answers_joined answers) ≤ length asked
 few_unless worn number lane [] [] h = omega arith
 few_unless worn number lane [] (steps ∷ answers) h = absurd h
 few_unless worn number lane (a ∷ asked) [] h = absurd h
 few_unless worn number lane (a ∷ asked) (steps ∷ answers) h =
     let first : calls_of number lane steps ≤ 1 = unless_calls worn number lane a steps h.0 in
-    let rest : calls_of number lane (joined answers) ≤ length asked = few_unless worn number lane asked answers h.1 in
-    let all : calls_of number lane (joined (steps ∷ answers)) ≡ calls_of number lane steps + calls_of number lane (joined answers) = numbers_long_on number lane steps (joined answers) in
+    let rest : calls_of number lane (answers_joined answers) ≤ length asked = few_unless worn number lane asked answers h.1 in
+    let all : calls_of number lane (answers_joined (steps ∷ answers)) ≡ calls_of number lane steps + calls_of number lane (answers_joined answers) = numbers_long_on number lane steps (answers_joined answers) in
     omega (arith, first, rest, all)
 
-pub few_calls : (trees : List SharedTree) (passes : List Pass) (number lane : ℕ) (asked : List Asked) (answers : List (List Step)) → AreAnsweredUnless (IsWorn trees passes) asked answers → length (numbers_of (outcomes_of number lane (joined answers))) ≤ length asked
-few_calls trees passes number lane asked answers h = few_unless (IsWorn trees passes) number lane asked answers h
+pub few_calls : (trees : List SharedTree) (passes : List Pass) (number lane : ℕ) (asked : List Asked) (answers : List (List Step)) → AreAnsweredUnless (IsSomeWorn trees passes) asked answers → length (numbers_of (outcomes_of number lane (answers_joined answers))) ≤ length asked
+few_calls trees passes number lane asked answers h = few_unless (IsSomeWorn trees passes) number lane asked answers h
 
 -- ---- the lanes have no more lines than there are
 

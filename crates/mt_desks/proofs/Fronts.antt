@@ -5,7 +5,7 @@ use Rattle.mt_log.specs.declared.transcripts.Entry.{Entry}
 use Rattle.mt_log.specs.declared.lines.Line.{Line}
 use Rattle.mt_log.specs.Run.{lane_after}
 use Rattle.mt_desks.specs.Dealing.{is_step}
-use Rattle.mt_desks.specs.Turns.{first_of, front_len, in_turn, rest_of, room_at}
+use Rattle.mt_desks.specs.Turns.{first_entries, front_len, in_turn, rest_of, room_at}
 
 pub front_more : (line : ℕ) (room : List Entry) (i : ℕ) (d : Entry) → i < length room → (get_or room i d).line ≡ line → i + front_len line (drop i room) ≡ i + 1 + front_len line (drop (i + 1) room)
 front_more line [] i d l same = absurd (omega arith)
@@ -26,9 +26,9 @@ next_line : (lines : List Line) (i : ℕ) (d : Line) → i < length lines → dr
 next_line lines i d l = let e : suc i ≡ i + 1 = omega arith in drop-cons lines i d l ∙ ap (λ (k : ℕ). get_or lines i d ∷ drop k lines) e
 
 pub turn_taken : (lines : List Line) (i : ℕ) (d : Line) (here : ℕ) (rooms rooms' : List (List Entry)) (items items' : List Entry) → i < length lines → is_step (get_or lines i d).item ≡ true
-    → items' ≡ items ++ first_of (get_or lines i d).number (room_at rooms here) → rooms' ≡ slice_set rooms here (rest_of (get_or lines i d).number (room_at rooms here))
+    → items' ≡ items ++ first_entries (get_or lines i d).number (room_at rooms here) → rooms' ≡ slice_set rooms here (rest_of (get_or lines i d).number (room_at rooms here))
     → items' ++ in_turn (lane_after here (get_or lines i d).item) (drop (i + 1) lines) rooms' ≡ items ++ in_turn here (drop i lines) rooms
-turn_taken lines i d here rooms rooms' items items' l step told left = rw (next_line lines i d l, step, told, left) (append_assoc items (first_of (get_or lines i d).number (room_at rooms here)) _)
+turn_taken lines i d here rooms rooms' items items' l step told left = rw (next_line lines i d l, step, told, left) (append_assoc items (first_entries (get_or lines i d).number (room_at rooms here)) _)
 
 pub turn_skipped : (lines : List Line) (i : ℕ) (d : Line) (here : ℕ) (rooms : List (List Entry)) → i < length lines → is_step (get_or lines i d).item ≡ false
     → in_turn (lane_after here (get_or lines i d).item) (drop (i + 1) lines) rooms ≡ in_turn here (drop i lines) rooms

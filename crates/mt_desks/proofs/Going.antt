@@ -8,10 +8,10 @@ use Rattle.mt_log.specs.declared.lines.Line.{Line}
 use Rattle.mt_lanes.specs.Lanes.{CanRun, Chain}
 use Rattle.mt_lanes.specs.declared.lanes.Lane.{Lane}
 use Rattle.mt_desks.specs.declared.desks.LaneDesk.{LaneDesk}
-use Rattle.mt_desks.specs.Desks.{DeskDid, DeskState, IsManned, IsReady, LaneRan, SharedTree, StillManned, desk_of}
+use Rattle.mt_desks.specs.Desks.{DeskDid, DeskState, IsManned, IsDeskReady, LaneRan, SharedTree, StillManned, desk_of}
 use Rattle.mt_desks.specs.Phases.{CanPass, IsLaid, LaneWent, pass_at}
 use Rattle.mt_runs.specs.Leads.{Leads, outcomes_of}
-use Rattle.mt_runs.specs.Rooms.{joined}
+use Rattle.mt_runs.specs.Rooms.{answers_joined}
 use Rattle.mt_desks.proofs.Doing.{desk_ran, mapped}
 
 some_of : {V : Type 0} (xs : List V) (i : ℕ) → i < length xs → V
@@ -27,7 +27,7 @@ is_manned knows serves items lane trees rows passes can count taken = record {
   serves_all = λ i t p below. let within : i < length rows = omega (arith, below, can.count) in let v = some_of rows i within in rw (taken i v p within) (can.serves_all i t v p within);
 }
 
-pub is_ready : {P T : Type 0} (knows : P → Pass) (serves : T → P → Type 0) (steps had used capacity : ℕ) (trees : List T) (lines left : List Line) (passes : List P) → IsLaid steps (length trees) lines left had used capacity → IsManned knows serves trees passes → IsReady knows serves trees lines left 0 passes used capacity
+pub is_ready : {P T : Type 0} (knows : P → Pass) (serves : T → P → Type 0) (steps had used capacity : ℕ) (trees : List T) (lines left : List Line) (passes : List P) → IsLaid steps (length trees) lines left had used capacity → IsManned knows serves trees passes → IsDeskReady knows serves trees lines left 0 passes used capacity
 is_ready knows serves steps had used capacity trees lines left passes laid manned = record { manned = manned; lines_of = laid.lines_of; left_is = laid.left_is; roomy = laid.roomy }
 
 -- and are back in the rows
@@ -70,14 +70,14 @@ mans {R} {P} {T} {V} knows serves items i rows l m kept can count taken = subst 
 pub can_run : {R P T V : Type 0} (knows : P → Pass) (serves : T → P → Type 0) (items : V → List P) (i : ℕ) (rows : List V) (l m : Lane (LaneDesk R P T)) → IsKept l m
     → IsLaid l.steps (length l.desk.trees.now) l.desk.lines.all l.desk.lines.left (vec_len l.desk.passes) (vec_len l.desk.room) (vec_capacity l.desk.room) → CanPass knows serves items i l.desk.trees.now rows → length m.desk.passes.items ≡ length rows
     → ((tree : ℕ) (v : V) (p : P) → tree < length rows → get_or m.desk.passes.items tree p ≡ pass_at items rows tree i v p)
-    → CanRun (λ d. length d.lines.all) (λ d s. IsReady knows serves d.trees.now d.lines.all d.lines.left s d.passes.items (vec_len d.room) (vec_capacity d.room)) m
+    → CanRun (λ d. length d.lines.all) (λ d s. IsDeskReady knows serves d.trees.now d.lines.all d.lines.left s d.passes.items (vec_len d.room) (vec_capacity d.room)) m
 can_run {R} {P} {T} {V} knows serves items i rows l m kept laid can count taken =
     let steps : m.steps ≡ l.steps = ap (λ z. z.steps) kept in
     let lines : length m.desk.lines.all ≡ length l.desk.lines.all = ap (λ z. length z.desk.lines.all) kept in
     record {
       within = omega (arith, steps, lines, laid.all);
       turns = rw steps laid.turns;
-      awaited = λ some. subst (λ (z : Lane (LaneDesk R P T)). IsReady knows serves z.desk.trees.now z.desk.lines.all z.desk.lines.left 0 m.desk.passes.items (vec_len z.desk.room) (vec_capacity z.desk.room)) (sym kept)
+      awaited = λ some. subst (λ (z : Lane (LaneDesk R P T)). IsDeskReady knows serves z.desk.trees.now z.desk.lines.all z.desk.lines.left 0 m.desk.passes.items (vec_len z.desk.room) (vec_capacity z.desk.room)) (sym kept)
           (is_ready knows serves l.steps (vec_len l.desk.passes) (vec_len l.desk.room) (vec_capacity l.desk.room) l.desk.trees.now l.desk.lines.all l.desk.lines.left m.desk.passes.items laid (is_manned knows serves items i l.desk.trees.now rows m.desk.passes.items can count taken));
     }
 
@@ -109,6 +109,6 @@ lane_goes {R} {P} {T} {V} tree knows items i rows rows' l m n k kept kept' ran c
 
 -- from a lane's pass on a tree its steps lead to the pass that is back in the tree's row
 pub went_leads : {P V : Type 0} (knows : P → Pass) (items : V → List P) (lane n : ℕ) (rows rows' : List V) (desk desk' : DeskState) (w : LaneWent knows items lane n rows rows' desk desk') (number : ℕ) (tree : SharedTree) (v : V) (p : P) → slice_get desk.trees number ≡ Some tree → number < length rows
-    → Leads tree.history (knows (pass_at items rows number lane v p)) (outcomes_of number desk.lane (joined w.ran.answers)) (knows (pass_at items rows' number lane v p))
+    → Leads tree.history (knows (pass_at items rows number lane v p)) (outcomes_of number desk.lane (answers_joined w.ran.answers)) (knows (pass_at items rows' number lane v p))
 went_leads knows items lane n rows rows' desk desk' w number tree v p tree_is within =
     w.ran.leads number tree (knows (pass_at items rows number lane v p)) (knows (pass_at items rows' number lane v p)) tree_is (w.taken number v p within) (w.given number v p within)

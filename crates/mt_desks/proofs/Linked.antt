@@ -7,13 +7,13 @@ use Rattle.mt_base.proofs.Lists.{all_join}
 use Rattle.mt_log.specs.declared.lines.Line.{Line}
 use Rattle.mt_log.specs.declared.transcripts.Entry.{Entry}
 use Rattle.mt_log.specs.Run.{Asked, Step, entry_of, lane_after}
-use Rattle.mt_runs.specs.Rooms.{asked_of_lane, AreAnswered, behind_first, take_turns, lanes_of, joined}
+use Rattle.mt_runs.specs.Rooms.{asked_of_lane, AreDoneEach, rooms_behind, take_turns, lanes_of, answers_joined}
 use Rattle.mt_runs.specs.Tracks.{Pairs}
 use Rattle.mt_runs.proofs.LineSteps.{done_each}
 use Rattle.mt_runs.proofs.Lists.{every}
 use Rattle.mt_desks.specs.Dealing.{is_step, steps_in}
 use Rattle.mt_desks.proofs.Asking.{steps_numbered}
-use Rattle.mt_desks.specs.Turns.{first_of, front_len, in_turn, rest_of, room_at, RoomsHold}
+use Rattle.mt_desks.specs.Turns.{first_entries, front_len, in_turn, rest_of, room_at, RoomsHold}
 
 -- ---- the front of a room
 
@@ -40,7 +40,7 @@ AreInLine [] [] = Unit {0}
 AreInLine (a ∷ asked) (steps ∷ answers) = IsInLine a.line steps × AreInLine asked answers
 AreInLine asked answers = ⊥
 
-answered_in_line : (asked : List Asked) (answers : List (List Step)) → AreAnswered asked answers → AreInLine asked answers
+answered_in_line : (asked : List Asked) (answers : List (List Step)) → AreDoneEach asked answers → AreInLine asked answers
 answered_in_line [] [] h = tt
 answered_in_line [] (s ∷ answers) h = absurd h
 answered_in_line (a ∷ asked) [] h = absurd h
@@ -51,11 +51,11 @@ told_line line [] h = tt
 told_line line (s ∷ steps) h = (h.0, told_line line steps h.1)
 
 -- none of them tells of a line that is not among these
-others_told : (line : ℕ) (asked : List Asked) (answers : List (List Step)) → AllByRecursion (λ (a : Asked). a.line ≢ line) asked → AreInLine asked answers → AllByRecursion (λ (e : Entry). e.line ≢ line) (map entry_of (joined answers))
+others_told : (line : ℕ) (asked : List Asked) (answers : List (List Step)) → AllByRecursion (λ (a : Asked). a.line ≢ line) asked → AreInLine asked answers → AllByRecursion (λ (e : Entry). e.line ≢ line) (map entry_of (answers_joined answers))
 others_told line [] [] apart h = tt
 others_told line [] (s ∷ answers) apart h = absurd h
 others_told line (a ∷ asked) [] apart h = absurd h
-others_told line (a ∷ asked) (steps ∷ answers) apart h = rw (map-append entry_of steps (joined answers)) (all_join (λ (e : Entry). e.line ≢ line) (map entry_of steps) (map entry_of (joined answers))
+others_told line (a ∷ asked) (steps ∷ answers) apart h = rw (map-append entry_of steps (answers_joined answers)) (all_join (λ (e : Entry). e.line ≢ line) (map entry_of steps) (map entry_of (answers_joined answers))
     (every (λ (e : Entry). e.line ≡ a.line) (λ (e : Entry). e.line ≢ line) (map entry_of steps) (λ e same other. apart.0 (sym same ∙ other)) (told_line a.line steps h.0))
     (others_told line asked answers apart.1 h.1))
 
@@ -86,30 +86,30 @@ first_in a rest (steps ∷ answers) h = record { first = steps; others = answers
 -- what is put back for lines that are all answered
 abbrev asked_in_turn : List Asked → List (List Entry) → List Entry
 asked_in_turn [] rooms = []
-asked_in_turn (a ∷ asked) rooms = first_of a.line (room_at rooms a.lane) ++ asked_in_turn asked (slice_set rooms a.lane (rest_of a.line (room_at rooms a.lane)))
+asked_in_turn (a ∷ asked) rooms = first_entries a.line (room_at rooms a.lane) ++ asked_in_turn asked (slice_set rooms a.lane (rest_of a.line (room_at rooms a.lane)))
 
-put_back_told : (asked : List Asked) (rooms : List (List Entry)) (answers : ℕ → List (List Step)) → AllByRecursion (λ (a : Asked). a.lane < length rooms) asked → Pairs (λ (a b : Asked). b.line ≢ a.line) asked → ((lane : ℕ) → AreInLine (asked_of_lane lane asked) (answers lane)) → RoomsHold rooms answers → asked_in_turn asked rooms ≡ map entry_of (joined (take_turns (lanes_of asked) answers))
+put_back_told : (asked : List Asked) (rooms : List (List Entry)) (answers : ℕ → List (List Step)) → AllByRecursion (λ (a : Asked). a.lane < length rooms) asked → Pairs (λ (a b : Asked). b.line ≢ a.line) asked → ((lane : ℕ) → AreInLine (asked_of_lane lane asked) (answers lane)) → RoomsHold rooms answers → asked_in_turn asked rooms ≡ map entry_of (answers_joined (take_turns (lanes_of asked) answers))
 put_back_told [] rooms answers within apart in_line holds = refl
 put_back_told (a ∷ asked) rooms answers within apart in_line holds =
     let o : First a (asked_of_lane a.lane asked) (answers a.lane) = first_in a (asked_of_lane a.lane asked) (answers a.lane) (subst (λ (z : List Asked). AreInLine z (answers a.lane)) (own_lines a asked) (in_line a.lane)) in
     let told : List Entry = map entry_of o.first in
-    let more : List Entry = map entry_of (joined o.others) in
-    let room : room_at rooms a.lane ≡ told ++ more = holds a.lane within.0 ∙ (ap (λ (z : List (List Step)). map entry_of (joined z)) o.is ∙ map-append entry_of o.first (joined o.others)) in
+    let more : List Entry = map entry_of (answers_joined o.others) in
+    let room : room_at rooms a.lane ≡ told ++ more = holds a.lane within.0 ∙ (ap (λ (z : List (List Step)). map entry_of (answers_joined z)) o.is ∙ map-append entry_of o.first (answers_joined o.others)) in
     let len : front_len a.line (told ++ more) ≡ length told = front_is a.line told more (told_line a.line o.first o.in_line) (others_told a.line (asked_of_lane a.lane asked) o.others (every_filter (λ (b : Asked). b.line ≢ a.line) (λ b. b.lane == a.lane) asked apart.0) o.behind_it) in
-    let taken : first_of a.line (room_at rooms a.lane) ≡ told = rw (room, len) (take_front told more) in
+    let taken : first_entries a.line (room_at rooms a.lane) ≡ told = rw (room, len) (take_front told more) in
     let left : rest_of a.line (room_at rooms a.lane) ≡ more = rw (room, len) (drop_front told more) in
     let first_taken : take 1 (answers a.lane) ≡ o.first ∷ [] = ap (take 1) o.is in
-    let rest = put_back_told asked (slice_set rooms a.lane more) (behind_first a.lane answers)
+    let rest = put_back_told asked (slice_set rooms a.lane more) (rooms_behind a.lane answers)
     (every (λ (b : Asked). b.lane < length rooms) (λ (b : Asked). b.lane < length (slice_set rooms a.lane more)) asked (λ b l. omega (arith, length-set rooms a.lane more)) within.1)
     apart.1 (λ lane. still_in_line lane o (cases_Bool (lane == a.lane))) (λ lane l. still_holds lane more o refl (omega (arith, length-set rooms a.lane more)) (cases_Bool (lane == a.lane))) in
-    let all : joined (take_turns (lanes_of (a ∷ asked)) answers) ≡ o.first ++ joined (take_turns (lanes_of asked) (behind_first a.lane answers)) = ap (λ (z : List (List Step)). joined (z ++ take_turns (lanes_of asked) (behind_first a.lane answers))) first_taken in
-    rw (taken, left) (ap (λ z. told ++ z) rest ∙ (sym (map-append entry_of o.first (joined (take_turns (lanes_of asked) (behind_first a.lane answers)))) ∙ ap (map entry_of) (sym all)))
+    let all : answers_joined (take_turns (lanes_of (a ∷ asked)) answers) ≡ o.first ++ answers_joined (take_turns (lanes_of asked) (rooms_behind a.lane answers)) = ap (λ (z : List (List Step)). answers_joined (z ++ take_turns (lanes_of asked) (rooms_behind a.lane answers))) first_taken in
+    rw (taken, left) (ap (λ z. told ++ z) rest ∙ (sym (map-append entry_of o.first (answers_joined (take_turns (lanes_of asked) (rooms_behind a.lane answers)))) ∙ ap (map entry_of) (sym all)))
   where
-    still_in_line : (lane : ℕ) → First a (asked_of_lane a.lane asked) (answers a.lane) → ((lane == a.lane) ≡ true) ⊎ ((lane == a.lane) ≡ false) → AreInLine (asked_of_lane lane asked) (behind_first a.lane answers lane)
+    still_in_line : (lane : ℕ) → First a (asked_of_lane a.lane asked) (answers a.lane) → ((lane == a.lane) ≡ true) ⊎ ((lane == a.lane) ≡ false) → AreInLine (asked_of_lane lane asked) (rooms_behind a.lane answers lane)
     still_in_line lane o (inl t) = let same : lane ≡ a.lane = eqb-true lane a.lane t in rw (same, eq-eqb a.lane a.lane refl, o.is) o.behind_it
     still_in_line lane o (inr f) = rw f (subst (λ (z : List Asked). AreInLine z (answers lane)) (other_lines lane a asked (λ same. eqb-false lane a.lane f (sym same))) (in_line lane))
 
-    still_holds : (lane : ℕ) (more : List Entry) → (o : First a (asked_of_lane a.lane asked) (answers a.lane)) → more ≡ map entry_of (joined o.others) → lane < length rooms → ((lane == a.lane) ≡ true) ⊎ ((lane == a.lane) ≡ false) → room_at (slice_set rooms a.lane more) lane ≡ map entry_of (joined (behind_first a.lane answers lane))
+    still_holds : (lane : ℕ) (more : List Entry) → (o : First a (asked_of_lane a.lane asked) (answers a.lane)) → more ≡ map entry_of (answers_joined o.others) → lane < length rooms → ((lane == a.lane) ≡ true) ⊎ ((lane == a.lane) ≡ false) → room_at (slice_set rooms a.lane more) lane ≡ map entry_of (answers_joined (rooms_behind a.lane answers lane))
     still_holds lane more o is l (inl t) = let same : lane ≡ a.lane = eqb-true lane a.lane t in rw (same, eq-eqb a.lane a.lane refl, o.is, get_or-set_same rooms a.lane more [] within.0) is
     still_holds lane more o is l (inr f) = rw (f, get_or-set_other rooms a.lane lane more [] (eqb-false lane a.lane f)) (holds lane l)
 
@@ -118,7 +118,7 @@ lines_in_turn here phase [] rooms = refl
 lines_in_turn here phase (line ∷ lines) rooms =
     let left : List (List Entry) = slice_set rooms here (rest_of line.number (room_at rooms here)) in
     elim (cases_Bool (is_step line.item)) [
-      | inl t ↦ rw t (ap (λ z. first_of line.number (room_at rooms here) ++ z) (lines_in_turn (lane_after here line.item) phase lines left))
+      | inl t ↦ rw t (ap (λ z. first_entries line.number (room_at rooms here) ++ z) (lines_in_turn (lane_after here line.item) phase lines left))
       | inr f ↦ rw f (lines_in_turn (lane_after here line.item) phase lines rooms)
     ]
 
@@ -133,6 +133,6 @@ asked_apart here phase (line ∷ lines) apart =
     ]
 
 pub answers_told : (phase : ℕ) (lines : List Line) (rooms : List (List Entry)) (answers : ℕ → List (List Step)) → AllByRecursion (λ (a : Asked). a.lane < length rooms) (steps_in 0 phase lines) → Pairs (λ (a b : Line). b.number ≢ a.number) lines
-    → ((lane : ℕ) → AreAnswered (asked_of_lane lane (steps_in 0 phase lines)) (answers lane)) → RoomsHold rooms answers → in_turn 0 lines rooms ≡ map entry_of (joined (take_turns (lanes_of (steps_in 0 phase lines)) answers))
+    → ((lane : ℕ) → AreDoneEach (asked_of_lane lane (steps_in 0 phase lines)) (answers lane)) → RoomsHold rooms answers → in_turn 0 lines rooms ≡ map entry_of (answers_joined (take_turns (lanes_of (steps_in 0 phase lines)) answers))
 answers_told phase lines rooms answers within apart answered holds =
     lines_in_turn 0 phase lines rooms ∙ put_back_told (steps_in 0 phase lines) rooms answers within (asked_apart 0 phase lines apart) (λ lane. answered_in_line (asked_of_lane lane (steps_in 0 phase lines)) (answers lane) (answered lane)) holds

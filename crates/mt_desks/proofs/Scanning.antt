@@ -7,11 +7,11 @@ use Rattle.mt_base.specs.declared.ranges.Range.{Range}
 use Rattle.mt_base.specs.History.{History}
 use Rattle.mt_base.specs.Passes.{Pass}
 use Rattle.mt_log.specs.declared.transcripts.Entry.{Entry}
-use Rattle.mt_log.specs.Run.{Asked, Step, Outcome, Looked, IsScan, entry_of, step_of, find_at, place_behind}
+use Rattle.mt_log.specs.Run.{Asked, Step, Outcome, Looked, AreScanSteps, entry_of, step_of, find_at, place_behind}
 use Rattle.mt_runs.specs.Leads.{Does, Leads, Learns, by_lane_on, outcomes_of}
 use Rattle.mt_runs.proofs.Leading.{learns_none, leads_last, leads_one, leads_on, stands_otherwise}
-use Rattle.mt_desks.specs.Scans.{IsLooked, IsScanned, KeepsOne}
-use Rattle.mt_desks.specs.Walks.{Walk, HasWalked, OpensOnce, opened_at, place_after}
+use Rattle.mt_desks.specs.Scans.{IsLooked, IsScanDone, KeepsOne}
+use Rattle.mt_desks.specs.Walks.{Walk, HasWalkedOn, OpensOnce, opened_at, place_after}
 
 -- one step of a line, on its tree
 pub step_leads : (tree : History) (number : ℕ) (a : Asked) (p q : Pass) (o : Outcome) → Does tree p o q → Leads tree p (outcomes_of number a.lane (step_of a number o ∷ [])) q
@@ -22,7 +22,7 @@ step_leads tree number a p q o does =
 -- a scan that is to go on with so many reads, from the place here
 pub record ScansSoFar (a : Asked) (number max count : ℕ) (at : Option ℕ) (left : ℕ) (here : Option ℕ) (tree : History) (p q : Pass) (room room' : List Entry) : Type 0 where
   pub steps : List Step
-  pub goes : (rest : List Step) → IsScan a number max left here rest → IsScan a number max count at (steps ++ rest)
+  pub goes : (rest : List Step) → AreScanSteps a number max left here rest → AreScanSteps a number max count at (steps ++ rest)
   pub leads : Leads tree p (outcomes_of number a.lane steps) q
   pub told : room' ≡ room ++ map entry_of steps
 
@@ -43,12 +43,12 @@ scan_goes_on a number max count at left here tree p q r room room' room'' x f s 
     let step : Step = step_of a number (Looked s.lo s.hi s.k (find_at here max) (Some x)) in
     record {
       steps = f.steps ++ step ∷ [];
-      goes = λ rest scan. subst (λ (z : List Step). IsScan a number max count at z) (sym (append_assoc f.steps (step ∷ []) rest)) (f.goes (step ∷ rest) (s.lo, s.hi, s.k, Some x, rest, refl, scan));
+      goes = λ rest scan. subst (λ (z : List Step). AreScanSteps a number max count at z) (sym (append_assoc f.steps (step ∷ []) rest)) (f.goes (step ∷ rest) (s.lo, s.hi, s.k, Some x, rest, refl, scan));
       leads = more_leads tree number a p q r f.steps (Looked s.lo s.hi s.k (find_at here max) (Some x)) f.leads s.read;
       told = more_told room room' room'' f.steps (step ∷ []) f.told s.told;
     }
 
-pub scan_finds_none : (a : Asked) (number max count : ℕ) (at : Option ℕ) (left : ℕ) (here : Option ℕ) (tree : History) (p q r : Pass) (room room' room'' : List Entry) → ScansSoFar a number max count at (suc left) here tree p q room room' → IsLooked a.line tree (find_at here max) None q r room' room'' → IsScanned a number max count at tree p r room room''
+pub scan_finds_none : (a : Asked) (number max count : ℕ) (at : Option ℕ) (left : ℕ) (here : Option ℕ) (tree : History) (p q r : Pass) (room room' room'' : List Entry) → ScansSoFar a number max count at (suc left) here tree p q room room' → IsLooked a.line tree (find_at here max) None q r room' room'' → IsScanDone a number max count at tree p r room room''
 scan_finds_none a number max count at left here tree p q r room room' room'' f s =
     let step : Step = step_of a number (Looked s.lo s.hi s.k (find_at here max) None) in
     record {
@@ -58,10 +58,10 @@ scan_finds_none a number max count at left here tree p q r room room' room'' f s
       told = more_told room room' room'' f.steps (step ∷ []) f.told s.told;
     }
 
-pub scan_ends : (a : Asked) (number max count : ℕ) (at here : Option ℕ) (tree : History) (p q : Pass) (room room' : List Entry) → ScansSoFar a number max count at zero here tree p q room room' → IsScanned a number max count at tree p q room room'
+pub scan_ends : (a : Asked) (number max count : ℕ) (at here : Option ℕ) (tree : History) (p q : Pass) (room room' : List Entry) → ScansSoFar a number max count at zero here tree p q room room' → IsScanDone a number max count at tree p q room room'
 scan_ends a number max count at here tree p q room room' f = record {
   steps = f.steps;
-  scan = subst (λ (z : List Step). IsScan a number max count at z) (append-nil f.steps) (f.goes [] refl);
+  scan = subst (λ (z : List Step). AreScanSteps a number max count at z) (append-nil f.steps) (f.goes [] refl);
   leads = f.leads;
   told = f.told;
 }
@@ -79,7 +79,7 @@ HasGoneOn w value w' = w' ≡ record w { pass = w'.pass; steps = w'.steps; at = 
 pub walk_starts : (w : Walk) → KeepsOne w.pass w
 walk_starts w = record { once = record { epochs = []; opened = sym (append-nil w.pass.opened); once = omega arith }; none = λ shut. refl }
 
-pub keeps_one : (lo hi : ℕ) (value : Option Range) (w w' : Walk) → HasWalked lo hi value w w' → (p : Pass) → KeepsOne p w → KeepsOne p w'
+pub keeps_one : (lo hi : ℕ) (value : Option Range) (w w' : Walk) → HasWalkedOn lo hi value w w' → (p : Pass) → KeepsOne p w → KeepsOne p w'
 keeps_one lo hi value w w' walked p keeps = record { once = by w.pass.standing refl; none = λ shut. absurd (walked.stands shut) }
   where
     by : (o : Option ℕ) → w.pass.standing ≡ o → OpensOnce p w'.pass
@@ -112,12 +112,12 @@ walk_scans_on a number count left w here next room room' room'' x same gone so_f
     (scan_goes_on a number w.max count w.at left here.at w.history w.pass here.pass next.pass room room' room'' x so_far (looked_there a.line w here (Some x) next.pass room' room'' same looked))
 
 pub walk_finds_none : (a : Asked) (number count left : ℕ) (w here next : Walk) (room room' room'' : List Entry) → IsSameWalk w here → ScansSoFar a number w.max count w.at (suc left) here.at w.history w.pass here.pass room room'
-    → IsLooked a.line here.history (find_at here.at here.max) None here.pass next.pass room' room'' → IsScanned a number w.max count w.at w.history w.pass next.pass room room''
+    → IsLooked a.line here.history (find_at here.at here.max) None here.pass next.pass room' room'' → IsScanDone a number w.max count w.at w.history w.pass next.pass room room''
 walk_finds_none a number count left w here next room room' room'' same so_far looked =
     scan_finds_none a number w.max count w.at left here.at w.history w.pass here.pass next.pass room room' room'' so_far (looked_there a.line w here None next.pass room' room'' same looked)
 
 pub scan_closes : (a : Asked) (number count : ℕ) (w here next : Walk) (room room' : List Entry) → next ≡ record here { pass = record here.pass { standing = None }; steps = next.steps }
-    → IsScanned a number w.max count w.at w.history w.pass here.pass room room' → IsScanned a number w.max count w.at w.history w.pass next.pass room room'
+    → IsScanDone a number w.max count w.at w.history w.pass here.pass room room' → IsScanDone a number w.max count w.at w.history w.pass next.pass room room'
 scan_closes a number count w here next room room' closed s = record {
   steps = s.steps;
   scan = s.scan;

@@ -64,11 +64,11 @@ lanes_in here (line ∷ lines) =
     if is_step line.item then max (here + 1) rest else rest
 
 -- the tree on which a lane does a line
-abbrev pub tree_of : Item → ℕ
-tree_of (Write tree call) = tree
-tree_of (Ask tree query) = tree
-tree_of (Scan tree index max count) = tree
-tree_of item = 0
+abbrev pub line_tree : Item → ℕ
+line_tree (Write tree call) = tree
+line_tree (Ask tree query) = tree
+line_tree (Scan tree index max count) = tree
+line_tree item = 0
 
 -- how many answers a line has at the most: a scan as many as its count, which may end before
 abbrev pub room_for : Item → ℕ

@@ -9,7 +9,7 @@ use Rattle.mt_log.specs.declared.transcripts.Entry.{Entry}
 use Rattle.mt_log.specs.Run.{Asked, Step, IsDone, entry_of}
 use Rattle.mt_log.specs.Trees.{NamesBelow}
 use Rattle.mt_runs.specs.Leads.{Leads, outcomes_of}
-use Rattle.mt_runs.specs.Rooms.{joined}
+use Rattle.mt_runs.specs.Rooms.{answers_joined}
 use Rattle.mt_desks.specs.Dealing.{asked_of, is_step, room_of}
 
 -- a tree that several share: its history so far, and how many calls it takes at the most
@@ -18,7 +18,7 @@ pub record SharedTree : Type 0 where
   pub most : ℕ
 
 -- one of these passes has seen as many calls as its tree takes
-pub record IsWorn (trees : List SharedTree) (passes : List Pass) : Type 0 where
+pub record IsSomeWorn (trees : List SharedTree) (passes : List Pass) : Type 0 where
   pub number : ℕ
   pub tree : SharedTree
   pub pass : Pass
@@ -45,7 +45,7 @@ pub record IsDoneOn (tree : SharedTree) (number : ℕ) (a : Asked) (p q : Pass) 
 -- a line that was done, among all trees
 pub record IsLineDone (trees : List SharedTree) (a : Asked) (passes passes' : List Pass) (room room' : List Entry) : Type 0 where
   pub steps : List Step
-  pub done : IsDoneUnless (IsWorn trees passes') a steps
+  pub done : IsDoneUnless (IsSomeWorn trees passes') a steps
   pub count : length passes' ≡ length passes
   pub leads : (number : ℕ) (tree : SharedTree) (p q : Pass) → slice_get trees number ≡ Some tree → slice_get passes number ≡ Some p → slice_get passes' number ≡ Some q → Leads tree.history p (outcomes_of number a.lane steps) q
   pub told : room' ≡ room ++ map entry_of steps
@@ -75,10 +75,10 @@ pub record DeskDid (a : DeskState) (s : ℕ) (b : DeskState) : Type 0 where
 pub record LaneRan (n : ℕ) (a b : DeskState) : Type 0 where
   pub kept : b ≡ record a { passes = b.passes; room = b.room }
   pub answers : List (List Step)
-  pub answered : AreAnsweredUnless (IsWorn a.trees b.passes) (map (asked_of a.lane a.phase) (take n a.lines)) answers
+  pub answered : AreAnsweredUnless (IsSomeWorn a.trees b.passes) (map (asked_of a.lane a.phase) (take n a.lines)) answers
   pub count : length b.passes ≡ length a.passes
-  pub leads : (number : ℕ) (tree : SharedTree) (p q : Pass) → slice_get a.trees number ≡ Some tree → slice_get a.passes number ≡ Some p → slice_get b.passes number ≡ Some q → Leads tree.history p (outcomes_of number a.lane (joined answers)) q
-  pub told : b.room ≡ a.room ++ map entry_of (joined answers)
+  pub leads : (number : ℕ) (tree : SharedTree) (p q : Pass) → slice_get a.trees number ≡ Some tree → slice_get a.passes number ≡ Some p → slice_get b.passes number ≡ Some q → Leads tree.history p (outcomes_of number a.lane (answers_joined answers)) q
+  pub told : b.room ≡ a.room ++ map entry_of (answers_joined answers)
 
 -- ---- what a desk awaits
 
@@ -98,7 +98,7 @@ abbrev pub AreLines : ℕ → List Line → Type 0
 AreLines count lines = All (λ line. NamesBelow count line.item × (is_step line.item ≡ true)) lines
 
 -- a desk that is ready for the line of this number: the lines from it on are left, and there is room for all their answers
-pub record IsReady {P T : Type 0} (knows : P → Pass) (serves : T → P → Type 0) (trees : List T) (lines left : List Line) (s : ℕ) (passes : List P) (used capacity : ℕ) : Type 0 where
+pub record IsDeskReady {P T : Type 0} (knows : P → Pass) (serves : T → P → Type 0) (trees : List T) (lines left : List Line) (s : ℕ) (passes : List P) (used capacity : ℕ) : Type 0 where
   pub manned : IsManned knows serves trees passes
   pub lines_of : AreLines (length trees) lines
   pub left_is : left ≡ drop s lines

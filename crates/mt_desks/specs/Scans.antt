@@ -5,7 +5,7 @@ use Rattle.mt_base.specs.declared.ranges.Range.{Range}
 use Rattle.mt_base.specs.declared.calls.Query.{Query}
 use Rattle.mt_base.specs.History.{History}
 use Rattle.mt_base.specs.Passes.{Pass, Read}
-use Rattle.mt_log.specs.Run.{Asked, Step, IsScan, entry_of, shown}
+use Rattle.mt_log.specs.Run.{Asked, Step, AreScanSteps, entry_of, shown}
 use Rattle.mt_log.specs.declared.transcripts.Entry.{Entry}
 use Rattle.mt_log.specs.declared.transcripts.Said.TheVariants as said
 use Rattle.mt_runs.specs.Leads.{Leads, outcomes_of}
@@ -20,9 +20,9 @@ pub record IsLooked (line : ℕ) (tree : History) (query : Query) (value : Optio
   pub told : room' ≡ room ++ record { line = line; said = said.Got lo hi (shown query value) } ∷ []
 
 -- a whole scan, of the line a, from the place at
-pub record IsScanned (a : Asked) (number max count : ℕ) (at : Option ℕ) (tree : History) (p q : Pass) (room room' : List Entry) : Type 0 where
+pub record IsScanDone (a : Asked) (number max count : ℕ) (at : Option ℕ) (tree : History) (p q : Pass) (room room' : List Entry) : Type 0 where
   pub steps : List Step
-  pub scan : IsScan a number max count at steps
+  pub scan : AreScanSteps a number max count at steps
   pub leads : Leads tree p (outcomes_of number a.lane steps) q
   pub told : room' ≡ room ++ map entry_of steps
 

@@ -6,15 +6,15 @@ use Rattle.std.specs.List.{prefix_len}
 use Rattle.mt_log.specs.declared.transcripts.Entry.{Entry}
 use Rattle.mt_log.specs.declared.lines.Line.{Line}
 use Rattle.mt_log.specs.Run.{Step, entry_of, lane_after}
-use Rattle.mt_runs.specs.Rooms.{joined}
+use Rattle.mt_runs.specs.Rooms.{answers_joined}
 use Rattle.mt_desks.specs.Dealing.{is_step}
 
 -- how many entries at the front of a room tell of a line
 abbrev pub front_len : ℕ → List Entry → ℕ
 front_len line room = prefix_len (λ e. e.line == line) room
 
-abbrev pub first_of : ℕ → List Entry → List Entry
-first_of line room = take (front_len line room) room
+abbrev pub first_entries : ℕ → List Entry → List Entry
+first_entries line room = take (front_len line room) room
 
 abbrev pub rest_of : ℕ → List Entry → List Entry
 rest_of line room = drop (front_len line room) room
@@ -27,8 +27,8 @@ abbrev pub in_turn : (here : ℕ) → List Line → List (List Entry) → List E
 in_turn here [] rooms = []
 in_turn here (line ∷ lines) rooms =
     let next = lane_after here line.item in
-    if is_step line.item then first_of line.number (room_at rooms here) ++ in_turn next lines (slice_set rooms here (rest_of line.number (room_at rooms here))) else in_turn next lines rooms
+    if is_step line.item then first_entries line.number (room_at rooms here) ++ in_turn next lines (slice_set rooms here (rest_of line.number (room_at rooms here))) else in_turn next lines rooms
 
 -- the rooms hold what the lanes were answered
 abbrev pub RoomsHold : List (List Entry) → (ℕ → List (List Step)) → Type 0
-RoomsHold rooms answers = (lane : ℕ) → lane < length rooms → room_at rooms lane ≡ map entry_of (joined (answers lane))
+RoomsHold rooms answers = (lane : ℕ) → lane < length rooms → room_at rooms lane ≡ map entry_of (answers_joined (answers lane))

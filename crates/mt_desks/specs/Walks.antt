@@ -27,7 +27,7 @@ opened_at lo None opened = opened ++ lo ∷ []
 opened_at lo (Some epoch) opened = opened
 
 -- A read of the walk, in few steps, which has opened its section where that was not open, and no other. It stands open then.
-pub record HasWalked (lo hi : ℕ) (value : Option Range) (w w' : Walk) : Type 0 where
+pub record HasWalkedOn (lo hi : ℕ) (value : Option Range) (w w' : Walk) : Type 0 where
   pub is : w' ≡ record w { pass = w'.pass; steps = w'.steps; at = place_after w.max value }
   pub k : ℕ
   pub read : Read w.history w.pass lo hi k (find_at w.at w.max) value w'.pass

@@ -2,7 +2,7 @@
 
 ghost use Rattle.std.specs.Prelude.{◌≡◌};
 ghost use Rattle.mt_log.specs.Run.{lane_after};
-ghost use Rattle.mt_desks.specs.Dealing.{is_step, lanes_in, room_for, tree_of};
+ghost use Rattle.mt_desks.specs.Dealing.{is_step, lanes_in, room_for, line_tree};
 
 use mt_log::{Item, Line};
 
@@ -24,7 +24,7 @@ pub fn lane_after(lane: u32, item: &Item) -> u32
 
 /// The tree on which a lane does a line.
 pub(crate) fn tree_of(item: &Item) -> u32
-    ensures { result ≡ tree_of item.now }
+    ensures { result ≡ line_tree item.now }
 {
     match item {
         Item::Write { tree, .. } | Item::Ask { tree, .. } | Item::Scan { tree, .. } => *tree,

@@ -3,7 +3,7 @@
 ghost use Rattle.std.specs.Prelude.{◌≡◌, ℕ, true, None, ◌+◌, ◌<◌, ◌≤◌, length, map, vec_len, vec_capacity};
 ghost use Rattle.mt_log.specs.declared.lines.Item.TheVariants as items;
 ghost use Rattle.mt_log.specs.Trees.{NamesBelow};
-ghost use Rattle.mt_desks.specs.Dealing.{asked_of, is_step, room_for, steps_for, tree_of};
+ghost use Rattle.mt_desks.specs.Dealing.{asked_of, is_step, room_for, steps_for, line_tree};
 ghost use Rattle.mt_desks.specs.Desks.{IsDoneOn, IsLineDone, IsManned};
 
 use crate::dealing::tree_of;
@@ -58,7 +58,7 @@ fn answer_on<R: Wait, P: Passage, T: Shared<P>>(
     requires room { vec_len room.old + room_for line.now.item ≤ vec_capacity room.old }
     ensures of { T.serves tree.now pass.new }
     ensures closed { (P.knows pass.new).standing ≡ None }
-    ensures done { (lane phase : ℕ) → IsDoneOn (T.tree tree.now) (tree_of line.now.item) (asked_of lane phase line.now) (P.knows pass.old) (P.knows pass.new) room.old.items room.new.items }
+    ensures done { (lane phase : ℕ) → IsDoneOn (T.tree tree.now) (line_tree line.now.item) (asked_of lane phase line.now) (P.knows pass.old) (P.knows pass.new) room.old.items room.new.items }
     ensures few { P.steps pass.new ≤ P.steps pass.old + steps_for line.now.item }
     ensures len { vec_len room.new ≤ vec_len room.old + room_for line.now.item }
     ensures capacity { vec_capacity room.new ≡ vec_capacity room.old }
@@ -117,11 +117,11 @@ pub struct LaneDesk<'a, R, P: Drop, T> {
 
 impl<'a, R: Wait, P: Passage + Drop, T: Shared<P>> Desk for LaneDesk<'a, R, P, T> {
     ghost use Rattle.std.specs.Prelude.{◌≡◌, length, vec_len, vec_capacity};
-    ghost use Rattle.mt_desks.specs.Desks.{IsReady, DeskDid, StillManned, desk_of};
+    ghost use Rattle.mt_desks.specs.Desks.{IsDeskReady, DeskDid, StillManned, desk_of};
 
     ghost count = { λ d. length d.lines.all };
 
-    ghost awaits = { λ d s. IsReady P.knows T.serves d.trees.now d.lines.all d.lines.left s d.passes.items (vec_len d.room) (vec_capacity d.room) };
+    ghost awaits = { λ d s. IsDeskReady P.knows T.serves d.trees.now d.lines.all d.lines.left s d.passes.items (vec_len d.room) (vec_capacity d.room) };
 
     ghost did = { λ a s b. DeskDid (desk_of T.tree P.knows a.lane a.phase a.trees.now a.lines.all a.passes.items a.room.items) s
         (desk_of T.tree P.knows b.lane b.phase b.trees.now b.lines.all b.passes.items b.room.items) × StillManned P.knows T.serves a.trees.now b.trees.now b.passes.items };

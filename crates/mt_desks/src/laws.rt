@@ -7,12 +7,12 @@ ghost use Rattle.mt_log.specs.declared.transcripts.Entry.{Entry};
 ghost use Rattle.mt_log.specs.Phases.{AreInPlaceFrom};
 ghost use Rattle.mt_log.specs.Run.{Asked, Step, asked_from, entry_of};
 ghost use Rattle.mt_runs.specs.Leads.{outcomes_of};
-ghost use Rattle.mt_runs.specs.Rooms.{asked_of_lane, AreAnswered, take_turns, lanes_of, joined};
+ghost use Rattle.mt_runs.specs.Rooms.{asked_of_lane, AreDoneEach, take_turns, lanes_of, answers_joined};
 ghost use Rattle.mt_runs.specs.Gone.{sum_below};
 ghost use Rattle.mt_runs.specs.Tracks.{Pairs, numbers_of};
 ghost use Rattle.mt_base.specs.Passes.{Pass};
 ghost use Rattle.mt_desks.specs.Dealing.{IsOnePhase, asked_of, counts_in, lines_of_lane, steps_in};
-ghost use Rattle.mt_desks.specs.Desks.{AreAnsweredUnless, IsWorn, SharedTree};
+ghost use Rattle.mt_desks.specs.Desks.{AreAnsweredUnless, IsSomeWorn, SharedTree};
 ghost use Rattle.mt_desks.specs.Turns.{in_turn, RoomsHold};
 
 /// What the lines of a phase ask of the program itself stands before what they ask of the lanes, and behind a step they
@@ -31,23 +31,23 @@ pub fn a_lane_is_asked_its_lines()
 /// room holds what its lane was answered.
 pub fn entries_tell_what_came()
     ensures { (phase : ℕ) (lines : List Line) (rooms : List (List Entry)) (answers : ℕ → List (List Step)) → AllByRecursion (λ (a : Asked). a.lane < length rooms) (steps_in 0 phase lines)
-        → Pairs (λ (a b : Line). b.number ≢ a.number) lines → ((lane : ℕ) → AreAnswered (asked_of_lane lane (steps_in 0 phase lines)) (answers lane)) → RoomsHold rooms answers
-        → in_turn 0 lines rooms ≡ map entry_of (joined (take_turns (lanes_of (steps_in 0 phase lines)) answers)) }
+        → Pairs (λ (a b : Line). b.number ≢ a.number) lines → ((lane : ℕ) → AreDoneEach (asked_of_lane lane (steps_in 0 phase lines)) (answers lane)) → RoomsHold rooms answers
+        → in_turn 0 lines rooms ≡ map entry_of (answers_joined (take_turns (lanes_of (steps_in 0 phase lines)) answers)) }
 {}
 
 /// Where the first lane does all lines, what it was answered is in the order of the log as it is.
 pub fn one_lane_is_in_order()
-    ensures order { (asked : List Asked) (answers : ℕ → List (List Step)) → AllByRecursion (λ (a : Asked). a.lane < 1) asked → AreAnswered asked (answers 0) → joined (take_turns (lanes_of asked) answers) ≡ joined (answers 0) }
+    ensures order { (asked : List Asked) (answers : ℕ → List (List Step)) → AllByRecursion (λ (a : Asked). a.lane < 1) asked → AreDoneEach asked (answers 0) → answers_joined (take_turns (lanes_of asked) answers) ≡ answers_joined (answers 0) }
     ensures all { (asked : List Asked) → AllByRecursion (λ (a : Asked). a.lane < 1) asked → asked_of_lane 0 asked ≡ asked }
 {}
 
 /// Where no pass of a lane has seen as many calls as its tree takes, each line of the lane is answered.
 pub fn lines_are_answered_where_no_tree_is_worn()
-    ensures { (trees : List SharedTree) (passes : List Pass) (asked : List Asked) (answers : List (List Step)) → (IsWorn trees passes → ⊥) → AreAnsweredUnless (IsWorn trees passes) asked answers → AreAnswered asked answers }
+    ensures { (trees : List SharedTree) (passes : List Pass) (asked : List Asked) (answers : List (List Step)) → (IsSomeWorn trees passes → ⊥) → AreAnsweredUnless (IsSomeWorn trees passes) asked answers → AreDoneEach asked answers }
 {}
 
 /// Each line makes one call at the most, and the lanes have no more lines than there are.
 pub fn lines_bound_the_calls()
-    ensures calls { (trees : List SharedTree) (passes : List Pass) (number lane : ℕ) (asked : List Asked) (answers : List (List Step)) → AreAnsweredUnless (IsWorn trees passes) asked answers → length (numbers_of (outcomes_of number lane (joined answers))) ≤ length asked }
+    ensures calls { (trees : List SharedTree) (passes : List Pass) (number lane : ℕ) (asked : List Asked) (answers : List (List Step)) → AreAnsweredUnless (IsSomeWorn trees passes) asked answers → length (numbers_of (outcomes_of number lane (answers_joined answers))) ≤ length asked }
     ensures lines { (lanes here : ℕ) (lines : List Line) → sum_below lanes (λ lane. length (lines_of_lane lane here lines)) ≤ length lines }
 {}

@@ -4,7 +4,7 @@ ghost use Rattle.std.specs.Prelude.{◌≡◌, ℕ, ◌+◌, ◌*◌, ◌<◌, �
 ghost use Rattle.mt_base.specs.Passes.{Pass};
 ghost use Rattle.mt_log.specs.declared.lines.Item.{Item};
 ghost use Rattle.mt_log.specs.Run.{find_at, shown, shown_range};
-ghost use Rattle.mt_desks.specs.Scans.{IsLooked, IsScanned, KeepsOne};
+ghost use Rattle.mt_desks.specs.Scans.{IsLooked, IsScanDone, KeepsOne};
 ghost use Rattle.mt_desks.specs.Walks.{OpensOnce, place_after};
 
 use crate::shared::{Passage, Shared};
@@ -104,7 +104,7 @@ fn read_on<T, W: Walks<T>>(walk: &mut W, line: u64, count: u32, room: &mut Vec<E
     ensures own { W.own walk.new }
     ensures on { (tree : T) → W.on walk.old tree → W.on walk.new tree }
     ensures is { W.walk walk.new ≡ record (W.walk walk.old) { pass = (W.walk walk.new).pass; steps = (W.walk walk.new).steps; at = (W.walk walk.new).at } }
-    ensures scanned { (lane phase number : ℕ) (item : Item) → IsScanned (record { line = line; lane = lane; phase = phase; item = item }) number (W.walk walk.old).max count (W.walk walk.old).at (W.walk walk.old).history (W.walk walk.old).pass (W.walk walk.new).pass room.old.items room.new.items }
+    ensures scanned { (lane phase number : ℕ) (item : Item) → IsScanDone (record { line = line; lane = lane; phase = phase; item = item }) number (W.walk walk.old).max count (W.walk walk.old).at (W.walk walk.old).history (W.walk walk.old).pass (W.walk walk.new).pass room.old.items room.new.items }
     ensures few { (W.walk walk.new).steps ≤ (W.walk walk.old).steps + 220 * count }
     ensures once { OpensOnce (W.walk walk.old).pass (W.walk walk.new).pass }
     ensures len { vec_len room.new ≤ vec_len room.old + count }
@@ -126,7 +126,7 @@ pub fn scan<T, W: Walks<T>>(walk: &mut W, line: u64, count: u32, room: &mut Vec<
     ensures on { (tree : T) → W.on walk.old tree → W.on walk.new tree }
     ensures is { W.walk walk.new ≡ record (W.walk walk.old) { pass = (W.walk walk.new).pass; steps = (W.walk walk.new).steps; at = (W.walk walk.new).at } }
     ensures closed { (W.walk walk.new).pass.standing ≡ None }
-    ensures scanned { (lane phase number : ℕ) (item : Item) → IsScanned (record { line = line; lane = lane; phase = phase; item = item }) number (W.walk walk.old).max count (W.walk walk.old).at (W.walk walk.old).history (W.walk walk.old).pass (W.walk walk.new).pass room.old.items room.new.items }
+    ensures scanned { (lane phase number : ℕ) (item : Item) → IsScanDone (record { line = line; lane = lane; phase = phase; item = item }) number (W.walk walk.old).max count (W.walk walk.old).at (W.walk walk.old).history (W.walk walk.old).pass (W.walk walk.new).pass room.old.items room.new.items }
     ensures few { (W.walk walk.new).steps ≤ (W.walk walk.old).steps + (220 * count + 1) }
     ensures once { OpensOnce (W.walk walk.old).pass (W.walk walk.new).pass }
     ensures len { vec_len room.new ≤ vec_len room.old + count }

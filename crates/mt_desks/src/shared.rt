@@ -5,7 +5,7 @@ ghost use Rattle.mt_base.specs.Passes.{Pass, Wrote, Read, Saw};
 ghost use Rattle.mt_log.specs.declared.lines.Item.TheVariants.{Scan};
 ghost use Rattle.mt_log.specs.Run.{place_within};
 ghost use Rattle.mt_desks.specs.Desks.{SharedTree};
-ghost use Rattle.mt_desks.specs.Scans.{IsScanned};
+ghost use Rattle.mt_desks.specs.Scans.{IsScanDone};
 ghost use Rattle.mt_desks.specs.Walks.{OpensOnce};
 
 use mt_base::{Call, Query, Range, Reply};
@@ -14,14 +14,14 @@ use std::sync::Wait;
 
 /// A call that was made: its number in the tree's history, and its reply.
 #[derive(Clone, Copy, Debug, PartialEq, Eq)]
-pub struct Done {
+pub struct CallDone {
     pub call: u64,
     pub reply: Reply,
 }
 
 /// The tree has as many calls as it takes.
 #[derive(Clone, Copy, Debug, PartialEq, Eq)]
-pub struct Worn;
+pub struct TreeWorn;
 
 /// A read: its answer is that of the map after some number of calls from `lo` to `hi`.
 #[derive(Clone, Copy, Debug, PartialEq, Eq)]
@@ -60,8 +60,8 @@ pub trait Shared<P: Passage> {
     ///
     /// # Errors
     ///
-    /// `Worn` where the tree has as many calls as it takes. The pass has then seen them all.
-    fn act<R: Wait>(&self, rt: &R, pass: &mut P, call: &Call) -> Result<Done, Worn>
+    /// `TreeWorn` where the tree has as many calls as it takes. The pass has then seen them all.
+    fn act<R: Wait>(&self, rt: &R, pass: &mut P, call: &Call) -> Result<CallDone, TreeWorn>
         requires of { serves self.now pass.old }
         requires closed { (P.knows pass.old).standing ≡ None }
         ensures of { serves self.now pass.new }
@@ -87,7 +87,7 @@ pub trait Shared<P: Passage> {
         requires room { vec_len room.old + count ≤ vec_capacity room.old }
         ensures of { serves self.now pass.new }
         ensures closed { (P.knows pass.new).standing ≡ None }
-        ensures scanned { (lane phase number : ℕ) → IsScanned (record { line = line; lane = lane; phase = phase; item = Scan number index max count }) number max count (place_within index max) (tree self.now).history (P.knows pass.old) (P.knows pass.new) room.old.items room.new.items }
+        ensures scanned { (lane phase number : ℕ) → IsScanDone (record { line = line; lane = lane; phase = phase; item = Scan number index max count }) number max count (place_within index max) (tree self.now).history (P.knows pass.old) (P.knows pass.new) room.old.items room.new.items }
         ensures once { OpensOnce (P.knows pass.old) (P.knows pass.new) }
         ensures few { P.steps pass.new ≤ P.steps pass.old + (220 * count + 1) }
         ensures len { vec_len room.new ≤ vec_len room.old + count }

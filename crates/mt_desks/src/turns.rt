@@ -1,7 +1,7 @@
 //! How what the lanes were answered is put back in the order of the log.
 
 ghost use Rattle.std.specs.Prelude.{◌≡◌, ◌++◌, ◌≤◌, length, map, slice_set, OnOk};
-ghost use Rattle.mt_desks.specs.Turns.{first_of, front_len, in_turn, rest_of, room_at};
+ghost use Rattle.mt_desks.specs.Turns.{first_entries, front_len, in_turn, rest_of, room_at};
 
 use crate::dealing::{is_step, lane_after};
 use mt_base::NoMemory;
@@ -29,7 +29,7 @@ fn take_front(
     lane: usize,
     line: u64,
 ) -> Result<(), NoMemory>
-    ensures entries { OnOk result (entries.new.items ≡ entries.old.items ++ first_of line (room_at (map (λ r. r.now) rooms.old) lane)) }
+    ensures entries { OnOk result (entries.new.items ≡ entries.old.items ++ first_entries line (room_at (map (λ r. r.now) rooms.old) lane)) }
     ensures rooms { OnOk result (map (λ r. r.now) rooms.new ≡ slice_set (map (λ r. r.now) rooms.old) lane (rest_of line (room_at (map (λ r. r.now) rooms.old) lane))) }
 {
     if lane < rooms.len() {

@@ -1,7 +1,7 @@
 //! A walk over the ranges of a tree that several share.
 
 ghost use Rattle.std.specs.Prelude.{◌≡◌, ◌+◌, ◌≤◌, None};
-ghost use Rattle.mt_desks.specs.Walks.{Walk, HasWalked};
+ghost use Rattle.mt_desks.specs.Walks.{Walk, HasWalkedOn};
 
 use crate::shared::Looked;
 
@@ -21,7 +21,7 @@ pub trait Walks<T> {
         requires { own self.old }
         ensures own { own self.new }
         ensures on { (tree : T) → on self.old tree → on self.new tree }
-        ensures walked { HasWalked result.lo result.hi result.value (walk self.old) (walk self.new) };
+        ensures walked { HasWalkedOn result.lo result.hi result.value (walk self.old) (walk self.new) };
 
     /// Closes the section, by one step.
     fn close(&mut self)

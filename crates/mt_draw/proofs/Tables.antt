@@ -8,12 +8,12 @@ use Rattle.mt_rows.specs.Sheet.{Rooted}
 use Rattle.mt_image.specs.Bytes.{words_of}
 use Rattle.mt_image.specs.Orders.{IsTable}
 use Rattle.mt_image.specs.Reading.{Image}
-use Rattle.mt_draw.specs.declared.forms.Form.{Form}
-use Rattle.mt_draw.specs.declared.forms.Form.TheVariants as forms
-use Rattle.mt_draw.specs.declared.trees.Tree.{Tree}
-use Rattle.mt_draw.specs.Drawn.{IsTreeOf, IsTreeIn, IsDrawn}
+use Rattle.mt_draw.specs.declared.forms.PictureForm.{PictureForm}
+use Rattle.mt_draw.specs.declared.forms.PictureForm.TheVariants as forms
+use Rattle.mt_draw.specs.declared.trees.DrawnTree.{DrawnTree}
+use Rattle.mt_draw.specs.Drawn.{IsTreeOfImage, IsTreeIn, IsPicture}
 use Rattle.mt_draw.specs.Trees.{table_of}
-use Rattle.mt_draw.specs.Texts.{head_text, body_of, tree_text, dump_text}
+use Rattle.mt_draw.specs.Texts.{dump_head, body_of, tree_text, dump_text}
 
 zero_before : (n at : ℕ) (words : List ℕ) → at < n → slice_index (replicate n 0 ++ words) at ≡ 0
 zero_before zero at words below = absurd (omega arith)
@@ -33,11 +33,11 @@ words_are t words whole size zeros same =
     ])
 
 -- the text of a tree in hand is that of the image that it was read from
-pub text_is : (x : Image) (tree : Tree) → IsTreeOf x tree → tree_text tree ≡ dump_text x.kind x.tree.table x.tree.root
+pub text_is : (x : Image) (tree : DrawnTree) → IsTreeOfImage x tree → tree_text tree ≡ dump_text x.kind x.tree.table x.tree.root
 unfolding dump_text
 text_is x tree is =
-    (λ i. head_text tree.kind (is.height i) tree.root ++ body_of (table_of tree) (is.nodes i))
+    (λ i. dump_head tree.kind (is.height i) tree.root ++ body_of (table_of tree) (is.nodes i))
     ∙ (λ i. dump_text (is.kind i) (is.table i) (is.root i))
 
-pub drawn_is : (form : Form) (bytes text : List ℕ) (tree : Tree) → IsTreeIn bytes tree → (form ≡ forms.Text → text ≡ tree_text tree) → IsDrawn form bytes text
+pub drawn_is : (form : PictureForm) (bytes text : List ℕ) (tree : DrawnTree) → IsTreeIn bytes tree → (form ≡ forms.Text → text ≡ tree_text tree) → IsPicture form bytes text
 drawn_is form bytes text tree is told = record { image = is.image; read = is.read; told = λ asked. told asked ∙ text_is is.image tree is.is }

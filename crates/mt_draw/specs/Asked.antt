@@ -5,12 +5,12 @@ use Rattle.std.specs.Str.{bytes_eq}
 use Rattle.mt_image.specs.Texts.{error_text}
 use Rattle.mt_image.specs.declared.errors.ImageError.{ImageError}
 use Rattle.mt_image.specs.declared.errors.ImageError.TheVariants as errors
-use Rattle.mt_draw.specs.declared.forms.Form.{Form}
-use Rattle.mt_draw.specs.declared.forms.Form.TheVariants as forms
-use Rattle.mt_draw.specs.declared.failures.Failure.{Failure}
-use Rattle.mt_draw.specs.declared.failures.Failure.TheVariants.{NoImage, Usage, ReadFault, WriteFault, NoMemory}
+use Rattle.mt_draw.specs.declared.forms.PictureForm.{PictureForm}
+use Rattle.mt_draw.specs.declared.forms.PictureForm.TheVariants as forms
+use Rattle.mt_draw.specs.declared.failures.DrawFailure.{DrawFailure}
+use Rattle.mt_draw.specs.declared.failures.DrawFailure.TheVariants.{NoImage, Usage, ReadFault, WriteFault, NoMemory}
 
-abbrev pub form_of_word : List ℕ → Option Form
+abbrev pub form_of_word : List ℕ → Option PictureForm
 form_of_word word =
     if bytes_eq word (codes "--help") then Some forms.Help
     else (if bytes_eq word (codes "--text") then Some forms.Text
@@ -18,12 +18,12 @@ form_of_word word =
     else None))
 
 -- no word asks for the picture of the rows, and one word for what it says
-abbrev pub form_of : List (List ℕ) → Option Form
-form_of [] = Some forms.Rows
-form_of (word ∷ []) = form_of_word word
-form_of (word ∷ other ∷ words) = None
+abbrev pub form_asked : List (List ℕ) → Option PictureForm
+form_asked [] = Some forms.Rows
+form_asked (word ∷ []) = form_of_word word
+form_asked (word ∷ other ∷ words) = None
 
-abbrev pub status_of : Failure → ℕ
+abbrev pub status_of : DrawFailure → ℕ
 status_of (NoImage error) = 1
 status_of Usage = 2
 status_of ReadFault = 3
@@ -31,7 +31,7 @@ status_of WriteFault = 4
 status_of NoMemory = 5
 
 -- why nothing is drawn where no image is read
-abbrev pub failure_of_image : ImageError → Failure
+abbrev pub failure_of_image : ImageError → DrawFailure
 failure_of_image (errors.Length want got) = NoImage (errors.Length want got)
 failure_of_image (errors.Head at) = NoImage (errors.Head at)
 failure_of_image (errors.Broken row law) = NoImage (errors.Broken row law)
@@ -39,7 +39,7 @@ failure_of_image (errors.Stray row) = NoImage (errors.Stray row)
 failure_of_image errors.NoMemory = NoMemory
 
 -- the line that tells it, behind the program's name
-abbrev pub failure_text : Failure → List ℕ
+abbrev pub failure_text : DrawFailure → List ℕ
 failure_text (NoImage error) = codes "no image: " ++ error_text error
 failure_text Usage = codes "usage: mt_draw [--text | --ranges] < IMAGE"
 failure_text ReadFault = codes "read fault"

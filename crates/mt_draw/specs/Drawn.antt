@@ -3,14 +3,14 @@
 use Rattle.std.specs.Prelude.{◌≡◌, ℕ, List, Ok}
 use Rattle.mt_rows.specs.Trees.{height_in}
 use Rattle.mt_image.specs.Reading.{Image, image_in}
-use Rattle.mt_draw.specs.declared.forms.Form.{Form}
-use Rattle.mt_draw.specs.declared.forms.Form.TheVariants as forms
-use Rattle.mt_draw.specs.declared.trees.Tree.{Tree}
+use Rattle.mt_draw.specs.declared.forms.PictureForm.{PictureForm}
+use Rattle.mt_draw.specs.declared.forms.PictureForm.TheVariants as forms
+use Rattle.mt_draw.specs.declared.trees.DrawnTree.{DrawnTree}
 use Rattle.mt_draw.specs.Trees.{nodes_in, table_of}
 use Rattle.mt_draw.specs.Texts.{dump_text}
 
 -- the tree of an image, with its rows in hand
-pub record IsTreeOf (x : Image) (tree : Tree) : Type 0 where
+pub record IsTreeOfImage (x : Image) (tree : DrawnTree) : Type 0 where
   pub kind : tree.kind ≡ x.kind
   pub table : table_of tree ≡ x.tree.table
   pub root : tree.root ≡ x.tree.root
@@ -18,13 +18,13 @@ pub record IsTreeOf (x : Image) (tree : Tree) : Type 0 where
   pub nodes : tree.nodes.items ≡ nodes_in (table_of tree) tree.root
 
 -- the bytes are the image of this tree
-pub record IsTreeIn (bytes : List ℕ) (tree : Tree) : Type 0 where
+pub record IsTreeIn (bytes : List ℕ) (tree : DrawnTree) : Type 0 where
   pub image : Image
   pub read : image_in bytes ≡ Ok image
-  pub is : IsTreeOf image tree
+  pub is : IsTreeOfImage image tree
 
 -- the bytes are an image, and where its text is asked for, that is what is written
-pub record IsDrawn (form : Form) (bytes text : List ℕ) : Type 0 where
+pub record IsPicture (form : PictureForm) (bytes text : List ℕ) : Type 0 where
   pub image : Image
   pub read : image_in bytes ≡ Ok image
   pub told : form ≡ forms.Text → text ≡ dump_text image.kind image.tree.table image.tree.root

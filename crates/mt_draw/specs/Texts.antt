@@ -15,9 +15,9 @@ use Rattle.mt_layout.specs.Rows.{kind_number, parent_at}
 use Rattle.mt_layout.specs.Sizes.{slots_of}
 use Rattle.mt_rows.specs.Spans.{Table, column, spans_in}
 use Rattle.mt_rows.specs.Trees.{height_in}
-use Rattle.mt_draw.specs.Trees.{gap_in, nodes_in, table_of}
+use Rattle.mt_draw.specs.Trees.{gap_of_slot, nodes_in, table_of}
 use Rattle.mt_draw.specs.declared.trees.Node.{Node}
-use Rattle.mt_draw.specs.declared.trees.Tree.{Tree}
+use Rattle.mt_draw.specs.declared.trees.DrawnTree.{DrawnTree}
 
 -- a number in so many hexadecimal digits at the least
 abbrev pub hexadecimal : ℕ → Bool → ℕ → List ℕ
@@ -36,8 +36,8 @@ abbrev pub indexes_text : Span → List ℕ
 indexes_text x = if x.first == x.last then decimal x.first else decimal x.first ++ (codes "-" ++ decimal x.last)
 
 -- an odd word is a value
-abbrev pub entry_text : Width → ℕ → List ℕ
-entry_text width word =
+abbrev pub word_text : Width → ℕ → List ℕ
+word_text width word =
     if word % 2 == 1 then codes "value " ++ (decimal (word / 2) ++ (codes " (0x" ++ (digits 16 false (word / 2) ++ (codes ") [" ++ (pointer_text width word ++ codes "]")))))
     else pointer_text width word
 
@@ -46,7 +46,7 @@ type_of kind = kind_number kind
 
 -- each gap word and a space
 abbrev pub gaps_text : Table → Node → List ℕ
-gaps_text t x = flat_map (λ i. decimal (gap_in t x i) ++ codes " ") (range_with_len 0 (slots_of t.width x.kind))
+gaps_text t x = flat_map (λ i. decimal (gap_of_slot t x i) ++ codes " ") (range_with_len 0 (slots_of t.width x.kind))
 
 -- what stands in a slot, and zeros where it is not used
 abbrev pub slot_at : List Span → ℕ → Span
@@ -61,10 +61,10 @@ pairs_text t x = flat_map (λ i. pair_text t.width (slot_at (spans_in t x.span) 
 
 -- the last of the slots with the longest gap
 abbrev pub longer_of : Table → Node → ℕ → ℕ → ℕ
-longer_of t x best slot = if nat_le (gap_in t x best) (gap_in t x slot) then slot else best
+longer_of t x best slot = if nat_le (gap_of_slot t x best) (gap_of_slot t x slot) then slot else best
 
-abbrev pub longest_at : Table → Node → ℕ → ℕ
-longest_at t x used = fold (longer_of t x) 0 (range_with_len 0 used)
+abbrev pub longest_slot : Table → Node → ℕ → ℕ
+longest_slot t x used = fold (longer_of t x) 0 (range_with_len 0 used)
 
 -- the numbers of the last slot that is used, and of the one with the longest gap
 abbrev pub meta_text : ℕ → ℕ → List ℕ
@@ -72,7 +72,7 @@ meta_text end longest = codes "| " ++ (hexadecimal 2 true end ++ (codes " " ++ (
 
 -- what stands before the slots of a row with gaps
 abbrev pub gaps_and_meta : Table → Node → ℕ → List ℕ
-gaps_and_meta t x used = gaps_text t x ++ meta_text (used - 1) (longest_at t x used)
+gaps_and_meta t x used = gaps_text t x ++ meta_text (used - 1) (longest_slot t x used)
 
 abbrev pub heads_by : RowKind → List ℕ → List ℕ
 heads_by Leaf heads = []
@@ -86,11 +86,11 @@ abbrev pub contents_text : Table → Node → List ℕ
 contents_text t x = heads_text t x ++ (pairs_text t x ++ pointer_text t.width (slot_at (spans_in t x.span) (slots_of t.width x.kind - 1)).word)
 
 -- the line of what stands in a slot of a leaf
-abbrev pub entry_line : Width → ℕ → Span → List ℕ
-entry_line width depth x = indent_text depth ++ (indexes_text x ++ (codes ": " ++ (entry_text width x.word ++ codes "\n")))
+abbrev pub slot_line : Width → ℕ → Span → List ℕ
+slot_line width depth x = indent_text depth ++ (indexes_text x ++ (codes ": " ++ (word_text width x.word ++ codes "\n")))
 
 abbrev pub lines_of : RowKind → Table → Node → List ℕ
-lines_of Leaf t x = flat_map (entry_line t.width (min (x.depth + 1) (2 ^ 32 - 1))) (spans_in t x.span)
+lines_of Leaf t x = flat_map (slot_line t.width (min (x.depth + 1) (2 ^ 32 - 1))) (spans_in t x.span)
 lines_of Inner t x = []
 lines_of Gapped t x = []
 
@@ -112,8 +112,8 @@ rows_text t nodes = flat_map (row_text t) nodes
 abbrev pub flags_of : Kind → ℕ → ℕ
 flags_of kind height = if finds_room kind then 4 * height + 1 else 4 * height
 
-abbrev pub head_text : Kind → ℕ → ℕ → List ℕ
-head_text kind height root =
+abbrev pub dump_head : Kind → ℕ → ℕ → List ℕ
+dump_head kind height root =
     codes "maple_tree(" ++ (pointer_text (kind_width kind) 0 ++ (codes ") flags " ++ (digits 16 true (flags_of kind height)
     ++ (codes ", height " ++ (decimal height ++ (codes " root " ++ (pointer_text (kind_width kind) root ++ codes "\n")))))))
 
@@ -122,9 +122,9 @@ body_of t [] = codes "(empty)\n"
 body_of t (x ∷ nodes) = rows_text t (x ∷ nodes)
 
 -- a tree whose rows are in hand
-abbrev pub tree_text : Tree → List ℕ
-tree_text tree = head_text tree.kind tree.height tree.root ++ body_of (table_of tree) tree.nodes.items
+abbrev pub tree_text : DrawnTree → List ℕ
+tree_text tree = dump_head tree.kind tree.height tree.root ++ body_of (table_of tree) tree.nodes.items
 
 -- the tree that words stand for, from the root word
 unfoldable pub dump_text : Kind → Table → ℕ → List ℕ
-dump_text kind t root = head_text kind (height_in t root) root ++ body_of t (nodes_in t root)
+dump_text kind t root = dump_head kind (height_in t root) root ++ body_of t (nodes_in t root)

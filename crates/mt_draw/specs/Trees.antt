@@ -11,9 +11,9 @@ use Rattle.mt_layout.specs.Rows.{row_in, named_kind}
 use Rattle.mt_layout.specs.Sizes.{slots_of}
 use Rattle.mt_rows.specs.Spans.{Table, column, spans_in, root_span}
 use Rattle.mt_draw.specs.declared.trees.Node.{Node}
-use Rattle.mt_draw.specs.declared.trees.Tree.{Tree}
+use Rattle.mt_draw.specs.declared.trees.DrawnTree.{DrawnTree}
 
-abbrev pub table_of : Tree → Table
+abbrev pub table_of : DrawnTree → Table
 table_of tree = record { width = kind_width tree.kind; words = tree.words.items }
 
 -- the row that a span names, below so many others
@@ -36,8 +36,8 @@ abbrev pub nodes_in : Table → ℕ → List Node
 nodes_in t root = nodes_of t deepest 0 (root_span t root)
 
 -- the gap word of a slot, and 0 in a row without gaps
-abbrev pub gap_in : Table → Node → ℕ → ℕ
-gap_in t x slot = gap_by t x.kind x.row slot where
+abbrev pub gap_of_slot : Table → Node → ℕ → ℕ
+gap_of_slot t x slot = gap_by t x.kind x.row slot where
   gap_by : Table → RowKind → ℕ → ℕ → ℕ
   gap_by t Leaf row slot = 0
   gap_by t Inner row slot = 0

@@ -2,8 +2,8 @@
 
 use crate::boxes::Sizes;
 use crate::layouts::BORDER;
-use crate::shapes::{Frame, Head, Indexes, Point, Px};
-use crate::trees::Tree;
+use crate::shapes::{Frame, Indexes, PictureHead, Point, Px};
+use crate::trees::DrawnTree;
 use mt_base::Kind;
 use mt_layout::Span;
 use std::alloc::{AllocError, Global};
@@ -38,7 +38,7 @@ struct Block {
 /// The ranges of a tree along a line.
 #[derive(Drop)]
 pub struct AddressMap<'a> {
-    tree: &'a Tree,
+    tree: &'a DrawnTree,
     blocks: Vec<Block>,
     /// The width of a column.
     width: Px,
@@ -83,7 +83,7 @@ impl fmt::Display for Content {
 }
 
 /// The width of the widest of all blocks.
-fn width_of(tree: &Tree) -> Px {
+fn width_of(tree: &DrawnTree) -> Px {
     let mut width = Px(200);
     for node in &tree.nodes {
         if node.is_leaf() {
@@ -98,7 +98,7 @@ fn width_of(tree: &Tree) -> Px {
 
 impl<'a> AddressMap<'a> {
     /// The ranges of a tree along a line.
-    pub fn of(alloc: Global, tree: &'a Tree) -> Result<Self, AllocError> {
+    pub fn of(alloc: Global, tree: &'a DrawnTree) -> Result<Self, AllocError> {
         let width = width_of(tree);
         let mut map = AddressMap {
             tree,
@@ -175,7 +175,7 @@ impl<'a> fmt::Display for Drawn<'a> {
 
 impl<'a> fmt::Display for AddressMap<'a> {
     fn fmt<W: fmt::Write>(&self, f: &mut fmt::Formatter<W>) -> fmt::Result {
-        let head = Head {
+        let head = PictureHead {
             width: (self.right + BORDER).max(Px(960)),
             height: self.bottom + BORDER,
             note: NOTE,

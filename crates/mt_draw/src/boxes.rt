@@ -3,9 +3,9 @@
 ghost use Rattle.std.specs.Prelude.{◌≡◌};
 ghost use Rattle.mt_draw.specs.Marks.{mark_of};
 
-use crate::layouts::{ACROSS, LINE, Layout, MARGIN, TITLE};
-use crate::shapes::{Frame, Head, Index, Indexes, Point, Px};
-use crate::trees::{Node, Tree};
+use crate::layouts::{ACROSS, LINE, MARGIN, PictureLayout, TITLE};
+use crate::shapes::{Frame, Index, Indexes, PictureHead, Point, Px};
+use crate::trees::{DrawnTree, Node};
 use mt_layout::{RowKind, Span, row_of};
 use std::fmt;
 
@@ -16,13 +16,13 @@ const NOTE: &str =
 /// The picture of a tree's rows.
 #[derive(Clone, Copy)]
 pub struct Boxes<'a> {
-    pub tree: &'a Tree,
-    pub layout: &'a Layout,
+    pub tree: &'a DrawnTree,
+    pub layout: &'a PictureLayout,
 }
 
 /// What is said of a tree: its kind and how many rows, levels, ranges and holes it has.
 #[derive(Clone, Copy)]
-pub struct Sizes<'a>(pub &'a Tree);
+pub struct Sizes<'a>(pub &'a DrawnTree);
 
 impl<'a> fmt::Display for Sizes<'a> {
     fn fmt<W: fmt::Write>(&self, f: &mut fmt::Formatter<W>) -> fmt::Result {
@@ -130,7 +130,7 @@ impl fmt::Display for Content {
 /// The line of a slot in a box.
 #[derive(Clone, Copy)]
 struct Line<'a> {
-    tree: &'a Tree,
+    tree: &'a DrawnTree,
     node: &'a Node,
     slot: usize,
     span: Span,
@@ -188,7 +188,7 @@ impl<'a> fmt::Display for Line<'a> {
 /// The box of a row.
 #[derive(Clone, Copy)]
 struct Row<'a> {
-    tree: &'a Tree,
+    tree: &'a DrawnTree,
     node: &'a Node,
     frame: Frame,
 }
@@ -309,7 +309,7 @@ impl<'a> fmt::Display for Boxes<'a> {
         let Boxes { tree, layout } = *self;
         let (width, height, note) = (layout.width, layout.height, NOTE);
         let (head, sizes) = (
-            Head {
+            PictureHead {
                 width,
                 height,
                 note,

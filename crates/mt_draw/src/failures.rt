@@ -10,7 +10,7 @@ use std::fmt;
 
 /// Why nothing, or only a part, is written.
 #[derive(Clone, Copy)]
-pub enum Failure {
+pub enum DrawFailure {
     /// The input is no image.
     NoImage(ImageError),
     /// The words ask for nothing that there is.
@@ -23,22 +23,22 @@ pub enum Failure {
     NoMemory,
 }
 
-impl Failure {
+impl DrawFailure {
     /// The status that the program ends with.
     pub fn status(&self) -> u8
         ensures { result ≡ status_of self.now }
     {
         match self {
-            Failure::NoImage(_) => 1,
-            Failure::Usage => 2,
-            Failure::ReadFault => 3,
-            Failure::WriteFault => 4,
-            Failure::NoMemory => 5,
+            DrawFailure::NoImage(_) => 1,
+            DrawFailure::Usage => 2,
+            DrawFailure::ReadFault => 3,
+            DrawFailure::WriteFault => 4,
+            DrawFailure::NoMemory => 5,
         }
     }
 }
 
-impl From<ImageError> for Failure {
+impl From<ImageError> for DrawFailure {
     ghost use Rattle.std.specs.Prelude.{◌≡◌};
     ghost use Rattle.mt_draw.specs.Asked.{failure_of_image};
 
@@ -46,35 +46,35 @@ impl From<ImageError> for Failure {
 
     fn from(error: ImageError) -> Self {
         match error {
-            ImageError::NoMemory => Failure::NoMemory,
-            _ => Failure::NoImage(error),
+            ImageError::NoMemory => DrawFailure::NoMemory,
+            _ => DrawFailure::NoImage(error),
         }
     }
 }
 
-impl From<AllocError> for Failure {
+impl From<AllocError> for DrawFailure {
     ghost use Rattle.std.specs.Prelude.{◌≡◌};
-    ghost use Rattle.mt_draw.specs.declared.failures.Failure.TheVariants.{NoMemory};
+    ghost use Rattle.mt_draw.specs.declared.failures.DrawFailure.TheVariants.{NoMemory};
 
     ghost from_gives = { λ _ e. e ≡ NoMemory };
 
     fn from(_: AllocError) -> Self {
-        Failure::NoMemory
+        DrawFailure::NoMemory
     }
 }
 
-impl From<NoMemory> for Failure {
+impl From<NoMemory> for DrawFailure {
     ghost use Rattle.std.specs.Prelude.{◌≡◌};
-    ghost use Rattle.mt_draw.specs.declared.failures.Failure.TheVariants.{NoMemory};
+    ghost use Rattle.mt_draw.specs.declared.failures.DrawFailure.TheVariants.{NoMemory};
 
     ghost from_gives = { λ _ e. e ≡ NoMemory };
 
     fn from(_: NoMemory) -> Self {
-        Failure::NoMemory
+        DrawFailure::NoMemory
     }
 }
 
-impl fmt::Display for Failure {
+impl fmt::Display for DrawFailure {
     ghost use Rattle.std.specs.Prelude.{Some};
     ghost use Rattle.mt_draw.specs.Asked.{failure_text};
 
@@ -82,11 +82,11 @@ impl fmt::Display for Failure {
 
     fn fmt<W: fmt::Write>(&self, f: &mut fmt::Formatter<W>) -> fmt::Result {
         match self {
-            Failure::NoImage(error) => write!(f, "no image: {error}"),
-            Failure::Usage => write!(f, "usage: mt_draw [--text | --ranges] < IMAGE"),
-            Failure::ReadFault => write!(f, "read fault"),
-            Failure::WriteFault => write!(f, "write fault"),
-            Failure::NoMemory => write!(f, "out of memory"),
+            DrawFailure::NoImage(error) => write!(f, "no image: {error}"),
+            DrawFailure::Usage => write!(f, "usage: mt_draw [--text | --ranges] < IMAGE"),
+            DrawFailure::ReadFault => write!(f, "read fault"),
+            DrawFailure::WriteFault => write!(f, "write fault"),
+            DrawFailure::NoMemory => write!(f, "out of memory"),
         }
     }
 }

@@ -5,7 +5,7 @@ ghost use Rattle.mt_draw.specs.Asked as defined;
 
 /// What is written of a tree.
 #[derive(Clone, Copy)]
-pub enum Form {
+pub enum PictureForm {
     /// How the program is used.
     Help,
     /// The picture of the rows.
@@ -27,23 +27,23 @@ Reads the image of a tree. Writes its rows as SVG, boxes or, of more than 200 ro
 ";
 
 /// What a single word asks for.
-fn form_of_word(word: &str) -> Option<Form>
+fn form_of_word(word: &str) -> Option<PictureForm>
     ensures { result ≡ defined.form_of_word word.now }
 {
     match word {
-        "--help" => Some(Form::Help),
-        "--text" => Some(Form::Text),
-        "--ranges" => Some(Form::Ranges),
+        "--help" => Some(PictureForm::Help),
+        "--text" => Some(PictureForm::Text),
+        "--ranges" => Some(PictureForm::Ranges),
         _ => None,
     }
 }
 
 /// What the words ask for.
-pub fn form_of(words: &[String]) -> Option<Form>
-    ensures { result ≡ defined.form_of (map string_bytes words.now) }
+pub fn form_of(words: &[String]) -> Option<PictureForm>
+    ensures { result ≡ defined.form_asked (map string_bytes words.now) }
 {
     match words {
-        [] => Some(Form::Rows),
+        [] => Some(PictureForm::Rows),
         [word] => form_of_word(word.as_str()),
         _ => None,
     }

@@ -1,7 +1,7 @@
 //! Where the boxes of rows stand: the root at the left, children to the right of their row, the first beside it.
 
 use crate::shapes::{Frame, Indexes, Px};
-use crate::trees::{Node, Tree};
+use crate::trees::{DrawnTree, Node};
 use mt_layout::{RowKind, Span, row_of};
 use std::alloc::{AllocError, Global};
 
@@ -38,7 +38,7 @@ struct Column {
 
 /// Where all boxes stand, in the order of the rows.
 #[derive(Drop)]
-pub struct Layout {
+pub struct PictureLayout {
     pub frames: Vec<Frame>,
     pub width: Px,
     pub height: Px,
@@ -55,7 +55,7 @@ fn width_of_word(node: &Node, gap: u64, span: &Span) -> Px {
 }
 
 /// The width of a row's box: that of its title, or of its widest line.
-fn width_of_box(tree: &Tree, node: &Node) -> Px {
+fn width_of_box(tree: &DrawnTree, node: &Node) -> Px {
     let mut width = TITLE_WIDTH.max(Indexes::of(tree.kind, &node.span).width() + Px(16));
     for (slot, span) in tree.spans(node).as_slice().iter().enumerate() {
         let indexes = Indexes::of(tree.kind, span).width();
@@ -66,7 +66,7 @@ fn width_of_box(tree: &Tree, node: &Node) -> Px {
 }
 
 /// The levels, each as wide as its widest box.
-fn columns_of(alloc: Global, tree: &Tree) -> Result<Vec<Column>, AllocError> {
+fn columns_of(alloc: Global, tree: &DrawnTree) -> Result<Vec<Column>, AllocError> {
     let mut columns = vec![in alloc; Column::default(); tree.height as usize]?;
     for node in &tree.nodes {
         if let Some(column) = columns.get_mut(node.depth as usize) {
@@ -82,7 +82,11 @@ fn columns_of(alloc: Global, tree: &Tree) -> Result<Vec<Column>, AllocError> {
 }
 
 /// The boxes of these levels. Leaves stand one below the other, and each other row beside its first child.
-fn frames_of(alloc: Global, tree: &Tree, columns: &[Column]) -> Result<Vec<Frame>, AllocError> {
+fn frames_of(
+    alloc: Global,
+    tree: &DrawnTree,
+    columns: &[Column],
+) -> Result<Vec<Frame>, AllocError> {
     let mut frames = Vec::new(alloc);
     let mut y = TOP;
     for node in &tree.nodes {
@@ -104,9 +108,9 @@ fn frames_of(alloc: Global, tree: &Tree, columns: &[Column]) -> Result<Vec<Frame
     Ok(frames)
 }
 
-impl Layout {
+impl PictureLayout {
     /// The boxes of a tree's rows.
-    pub fn of(alloc: Global, tree: &Tree) -> Result<Layout, AllocError> {
+    pub fn of(alloc: Global, tree: &DrawnTree) -> Result<PictureLayout, AllocError> {
         let columns = columns_of(alloc, tree)?;
         let frames = frames_of(alloc, tree, columns.as_slice())?;
         let mut width = Px(620);
@@ -115,7 +119,7 @@ impl Layout {
             width = width.max(frame.x + frame.width + BORDER);
             height = height.max(frame.y + frame.height + BORDER);
         }
-        Ok(Layout {
+        Ok(PictureLayout {
             frames,
             width,
             height,

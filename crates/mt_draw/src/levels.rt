@@ -2,8 +2,8 @@
 
 use crate::boxes::Sizes;
 use crate::layouts::BORDER;
-use crate::shapes::{Frame, Head, Index, Indexes, Point, Px};
-use crate::trees::{Node, Tree, count_holes};
+use crate::shapes::{Frame, Index, Indexes, PictureHead, Point, Px};
+use crate::trees::{DrawnTree, Node, count_holes};
 use std::alloc::{AllocError, Global};
 use std::fmt;
 
@@ -49,7 +49,7 @@ struct Tally {
 /// The map of a tree's levels.
 #[derive(Drop)]
 pub struct Levels<'a> {
-    tree: &'a Tree,
+    tree: &'a DrawnTree,
     extents: Vec<Extent>,
     tallies: Vec<Tally>,
     leaves: usize,
@@ -57,7 +57,7 @@ pub struct Levels<'a> {
 }
 
 /// Counts the leaves below the row at this place, where those of its children are counted.
-fn gather(extents: &mut [Extent], tree: &Tree, node: &Node, place: usize) {
+fn gather(extents: &mut [Extent], tree: &DrawnTree, node: &Node, place: usize) {
     if node.is_leaf() {
         return;
     }
@@ -74,7 +74,7 @@ fn gather(extents: &mut [Extent], tree: &Tree, node: &Node, place: usize) {
 }
 
 /// The leaves before and below each row, and how many there are.
-fn extents_of(alloc: Global, tree: &Tree) -> Result<(Vec<Extent>, usize), AllocError> {
+fn extents_of(alloc: Global, tree: &DrawnTree) -> Result<(Vec<Extent>, usize), AllocError> {
     let mut extents = Vec::new(alloc);
     let mut before: usize = 0;
     for node in &tree.nodes {
@@ -89,7 +89,7 @@ fn extents_of(alloc: Global, tree: &Tree) -> Result<(Vec<Extent>, usize), AllocE
 }
 
 /// What each level comes to.
-fn tallies_of(alloc: Global, tree: &Tree) -> Result<Vec<Tally>, AllocError> {
+fn tallies_of(alloc: Global, tree: &DrawnTree) -> Result<Vec<Tally>, AllocError> {
     let mut tallies = vec![in alloc; Tally::default(); tree.height as usize]?;
     for node in &tree.nodes {
         if let Some(tally) = tallies.get_mut(node.depth as usize) {
@@ -103,7 +103,7 @@ fn tallies_of(alloc: Global, tree: &Tree) -> Result<Vec<Tally>, AllocError> {
 
 impl<'a> Levels<'a> {
     /// The map of a tree's levels.
-    pub fn of(alloc: Global, tree: &'a Tree) -> Result<Self, AllocError> {
+    pub fn of(alloc: Global, tree: &'a DrawnTree) -> Result<Self, AllocError> {
         let (extents, leaves) = extents_of(alloc, tree)?;
         Ok(Levels {
             tree,
@@ -236,7 +236,7 @@ struct Bar {
 
 impl Bar {
     /// The bar of a row in this frame.
-    fn of(tree: &Tree, node: &Node, frame: Frame) -> Bar {
+    fn of(tree: &DrawnTree, node: &Node, frame: Frame) -> Bar {
         let (spans, slots) = (tree.spans(node), tree.slots(node));
         let holes = count_holes(spans.as_slice());
         let others = spans.as_slice().len().saturating_sub(holes);
@@ -281,7 +281,7 @@ impl fmt::Display for Bar {
 impl<'a> fmt::Display for Levels<'a> {
     fn fmt<W: fmt::Write>(&self, f: &mut fmt::Formatter<W>) -> fmt::Result {
         let (sizes, right) = (Sizes(self.tree), self.left(self.tallies.len()));
-        let head = Head {
+        let head = PictureHead {
             width: (right + Px(160)).max(Px(1100)),
             height: TOP + self.height + BORDER,
             note: NOTE,

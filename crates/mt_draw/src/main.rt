@@ -5,7 +5,7 @@
 ghost use Rattle.std.specs.Prelude.{◌≡◌, Err, IfOk, string_bytes};
 ghost use Rattle.mt_image.specs.Reading.{image_in};
 ghost use Rattle.mt_image.specs.declared.errors.ImageError.{ImageError};
-ghost use Rattle.mt_draw.specs.Drawn.{IsDrawn, IsTreeIn};
+ghost use Rattle.mt_draw.specs.Drawn.{IsPicture, IsTreeIn};
 ghost use Rattle.mt_draw.specs.Texts.{tree_text};
 
 mod blocks;
@@ -20,12 +20,12 @@ mod trees;
 
 use crate::blocks::AddressMap;
 use crate::boxes::Boxes;
-use crate::failures::Failure;
-use crate::forms::{Form, HELP, form_of};
-use crate::layouts::Layout;
+use crate::failures::DrawFailure;
+use crate::forms::{HELP, PictureForm, form_of};
+use crate::layouts::PictureLayout;
 use crate::levels::Levels;
 use crate::texts::Dump;
-use crate::trees::Tree;
+use crate::trees::DrawnTree;
 use mt_image::read_image;
 use std::alloc::{AllocError, Global};
 use std::io::{ErrorKind, Read, Write};
@@ -40,35 +40,35 @@ const MOST_BOXES: usize = 200;
 const LONGEST: u64 = 33_538_080;
 
 /// What fails, where that is not for want of memory.
-fn unless_memory(error: &io::Error, other: Failure) -> Failure {
+fn unless_memory(error: &io::Error, other: DrawFailure) -> DrawFailure {
     match error.kind() {
-        ErrorKind::OutOfMemory => Failure::NoMemory,
+        ErrorKind::OutOfMemory => DrawFailure::NoMemory,
         _ => other,
     }
 }
 
 /// The words after the program's name. Where one is no text, they ask for nothing.
-fn words_of(rt: &(impl Env + AllocGlobal)) -> Result<Vec<String>, Failure> {
-    let words = env::args(rt).map_err(|error| unless_memory(&error, Failure::Usage))?;
+fn words_of(rt: &(impl Env + AllocGlobal)) -> Result<Vec<String>, DrawFailure> {
+    let words = env::args(rt).map_err(|error| unless_memory(&error, DrawFailure::Usage))?;
     words
         .skip(1)
         .collect(rt.alloc())
-        .map_err(|_| Failure::NoMemory)
+        .map_err(|_| DrawFailure::NoMemory)
 }
 
 /// The bytes of the input, and of one that is longer than any image no more than tell it.
-fn read_input(rt: &(impl Input + AllocGlobal)) -> Result<Vec<u8>, Failure> {
+fn read_input(rt: &(impl Input + AllocGlobal)) -> Result<Vec<u8>, DrawFailure> {
     let mut bytes = Vec::new(rt.alloc());
     match rt.reader().take(LONGEST + 1).read_to_end(&mut bytes) {
         Ok(_) => Ok(bytes),
-        Err(error) => Err(unless_memory(&error, Failure::ReadFault)),
+        Err(error) => Err(unless_memory(&error, DrawFailure::ReadFault)),
     }
 }
 
 /// A tree as the picture of its rows: each as a box where there are few.
-fn picture(alloc: Global, tree: &Tree) -> Result<String, AllocError> {
+fn picture(alloc: Global, tree: &DrawnTree) -> Result<String, AllocError> {
     if tree.nodes.len() <= MOST_BOXES {
-        let layout = Layout::of(alloc, tree)?;
+        let layout = PictureLayout::of(alloc, tree)?;
         let boxes = Boxes {
             tree,
             layout: &layout,
@@ -81,26 +81,26 @@ fn picture(alloc: Global, tree: &Tree) -> Result<String, AllocError> {
 }
 
 /// The tree whose image these bytes are.
-fn read_tree(alloc: Global, bytes: &[u8]) -> Result<Tree, Failure>
+fn read_tree(alloc: Global, bytes: &[u8]) -> Result<DrawnTree, DrawFailure>
     ensures tree { IfOk result (λ tree. IsTreeIn bytes.now tree) }
     ensures no_image { (error : ImageError) → result ≡ Err (Failure.NoImage error) → image_in bytes.now ≡ Err error }
 {
     let (kind, rows) = read_image(alloc, bytes)?;
-    Ok(Tree::of(alloc, kind, rows)?)
+    Ok(DrawnTree::of(alloc, kind, rows)?)
 }
 
 /// What is written of a tree.
-fn text_of(alloc: Global, form: Form, tree: &Tree) -> Result<String, AllocError>
+fn text_of(alloc: Global, form: PictureForm, tree: &DrawnTree) -> Result<String, AllocError>
     ensures { form ≡ Form.Text → IfOk result (λ text. string_bytes text ≡ tree_text tree.now) }
 {
     match form {
-        Form::Help => String::from_str(alloc, HELP),
-        Form::Rows => picture(alloc, tree),
-        Form::Text => {
+        PictureForm::Help => String::from_str(alloc, HELP),
+        PictureForm::Rows => picture(alloc, tree),
+        PictureForm::Text => {
             let dump = Dump { tree };
             format!(in alloc; "{dump}")
         }
-        Form::Ranges => {
+        PictureForm::Ranges => {
             let map = AddressMap::of(alloc, tree)?;
             format!(in alloc; "{map}")
         }
@@ -108,8 +108,8 @@ fn text_of(alloc: Global, form: Form, tree: &Tree) -> Result<String, AllocError>
 }
 
 /// What is written of the tree whose image these bytes are.
-fn drawn(alloc: Global, form: Form, bytes: &[u8]) -> Result<String, Failure>
-    ensures drawn { IfOk result (λ text. IsDrawn form bytes.now (string_bytes text)) }
+fn drawn(alloc: Global, form: PictureForm, bytes: &[u8]) -> Result<String, DrawFailure>
+    ensures drawn { IfOk result (λ text. IsPicture form bytes.now (string_bytes text)) }
     ensures no_image { (error : ImageError) → result ≡ Err (Failure.NoImage error) → image_in bytes.now ≡ Err error }
 {
     let tree = read_tree(alloc, bytes)?;
@@ -117,16 +117,16 @@ fn drawn(alloc: Global, form: Form, bytes: &[u8]) -> Result<String, Failure>
 }
 
 /// Does what the words say.
-fn run(rt: &(impl Env + Input + Print + AllocGlobal)) -> Result<(), Failure> {
+fn run(rt: &(impl Env + Input + Print + AllocGlobal)) -> Result<(), DrawFailure> {
     let words = words_of(rt)?;
-    let form = form_of(&words).ok_or(Failure::Usage)?;
+    let form = form_of(&words).ok_or(DrawFailure::Usage)?;
     let text = match form {
-        Form::Help => String::from_str(rt.alloc(), HELP)?,
+        PictureForm::Help => String::from_str(rt.alloc(), HELP)?,
         _ => drawn(rt.alloc(), form, &read_input(rt)?)?,
     };
     match io::writer(rt).write_all(text.as_str().as_bytes()) {
         Ok(()) => Ok(()),
-        Err(_) => Err(Failure::WriteFault),
+        Err(_) => Err(DrawFailure::WriteFault),
     }
 }
 

@@ -153,13 +153,13 @@ impl fmt::Display for Indexes {
 
 /// The head of a picture of this size: its name and a line that explains it.
 #[derive(Clone, Copy)]
-pub struct Head<'a> {
+pub struct PictureHead<'a> {
     pub width: Px,
     pub height: Px,
     pub note: &'a str,
 }
 
-impl<'a> fmt::Display for Head<'a> {
+impl<'a> fmt::Display for PictureHead<'a> {
     fn fmt<W: fmt::Write>(&self, f: &mut fmt::Formatter<W>) -> fmt::Result {
         let (width, height, note) = (self.width, self.height, self.note);
         writeln!(

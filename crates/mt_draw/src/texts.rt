@@ -5,7 +5,7 @@ ghost use Rattle.mt_layout.specs.Sizes.{run_room};
 ghost use Rattle.mt_draw.specs.Texts as defined;
 ghost use Rattle.mt_draw.specs.Trees.{table_of};
 
-use crate::trees::{Node, Spans, Tree};
+use crate::trees::{DrawnTree, Node, Spans};
 use mt_base::{Width, finds_room};
 use mt_layout::{RowKind, Span, parent_word};
 use std::fmt;
@@ -63,7 +63,7 @@ impl fmt::Display for Indexes {
 struct Entry(Width, u64);
 
 impl fmt::Display for Entry {
-    ghost output = { λ e. Some (defined.entry_text e.0 e.1) };
+    ghost output = { λ e. Some (defined.word_text e.0 e.1) };
 
     fn fmt<W: fmt::Write>(&self, f: &mut fmt::Formatter<W>) -> fmt::Result {
         let (pointer, value) = (Pointer(self.0, self.1), self.1 / 2);
@@ -89,7 +89,7 @@ fn type_of(kind: RowKind) -> u32
 /// The gap words of a row, of which each slot has one.
 #[derive(Clone, Copy)]
 struct Gaps<'a> {
-    tree: &'a Tree,
+    tree: &'a DrawnTree,
     node: &'a Node,
 }
 
@@ -115,7 +115,7 @@ fn slot_at(spans: &Spans, slot: usize) -> Span
 /// The slots of a row but the last, each with its pivot.
 #[derive(Clone, Copy)]
 struct Pairs<'a> {
-    tree: &'a Tree,
+    tree: &'a DrawnTree,
     node: &'a Node,
 }
 
@@ -135,9 +135,9 @@ impl<'a> fmt::Display for Pairs<'a> {
 
 /// The number of the last slot among those with the longest gap.
 #[tactic(auto, using(crate::proofs::Loops::fold_grows))]
-fn longest_at(tree: &Tree, node: &Node, used: usize) -> usize
+fn longest_at(tree: &DrawnTree, node: &Node, used: usize) -> usize
     requires { used ≤ run_room }
-    ensures { result ≡ defined.longest_at (table_of tree.now) node.now used }
+    ensures { result ≡ defined.longest_slot (table_of tree.now) node.now used }
 {
     let mut best = 0;
     for slot in 0..used {
@@ -167,7 +167,7 @@ impl fmt::Display for Meta {
 /// What stands before the slots of a row with gaps, and nothing in another.
 #[derive(Clone, Copy)]
 struct Heads<'a> {
-    tree: &'a Tree,
+    tree: &'a DrawnTree,
     node: &'a Node,
 }
 
@@ -191,7 +191,7 @@ impl<'a> fmt::Display for Heads<'a> {
 /// The columns of a row as words, as the kernel orders them.
 #[derive(Clone, Copy)]
 struct Contents<'a> {
-    tree: &'a Tree,
+    tree: &'a DrawnTree,
     node: &'a Node,
 }
 
@@ -210,7 +210,7 @@ impl<'a> fmt::Display for Contents<'a> {
 /// What stands in the slots of a leaf, a line for each, and nothing of an inner row.
 #[derive(Clone, Copy)]
 struct Entries<'a> {
-    tree: &'a Tree,
+    tree: &'a DrawnTree,
     node: &'a Node,
 }
 
@@ -234,7 +234,7 @@ impl<'a> fmt::Display for Entries<'a> {
 /// What a row's line begins with.
 #[derive(Clone, Copy)]
 struct Title<'a> {
-    tree: &'a Tree,
+    tree: &'a DrawnTree,
     node: &'a Node,
 }
 
@@ -255,7 +255,7 @@ impl<'a> fmt::Display for Title<'a> {
 /// The lines of a row.
 #[derive(Clone, Copy)]
 struct Row<'a> {
-    tree: &'a Tree,
+    tree: &'a DrawnTree,
     node: &'a Node,
 }
 
@@ -272,7 +272,7 @@ impl<'a> fmt::Display for Row<'a> {
 
 /// All rows of a tree.
 #[derive(Clone, Copy)]
-struct Rows<'a>(&'a Tree);
+struct Rows<'a>(&'a DrawnTree);
 
 impl<'a> fmt::Display for Rows<'a> {
     ghost output = { λ r. Some (defined.rows_text (table_of r.0.now) r.0.now.nodes.items) };
@@ -288,7 +288,7 @@ impl<'a> fmt::Display for Rows<'a> {
 }
 
 /// The kernel's flags: whether the tree finds room, and its height.
-fn flags_of(tree: &Tree) -> u64
+fn flags_of(tree: &DrawnTree) -> u64
     ensures { result ≡ defined.flags_of tree.now.kind tree.now.height }
 {
     let height = 4 * u64::from(tree.height);
@@ -301,10 +301,10 @@ fn flags_of(tree: &Tree) -> u64
 
 /// The first line.
 #[derive(Clone, Copy)]
-struct Head<'a>(&'a Tree);
+struct Head<'a>(&'a DrawnTree);
 
 impl<'a> fmt::Display for Head<'a> {
-    ghost output = { λ h. Some (defined.head_text h.0.now.kind h.0.now.height h.0.now.root) };
+    ghost output = { λ h. Some (defined.dump_head h.0.now.kind h.0.now.height h.0.now.root) };
 
     fn fmt<W: fmt::Write>(&self, f: &mut fmt::Formatter<W>) -> fmt::Result {
         let (tree, height, flags) = (self.0, self.0.height, flags_of(self.0));
@@ -317,7 +317,7 @@ impl<'a> fmt::Display for Head<'a> {
 /// A tree as `mt_dump` prints it.
 #[derive(Clone, Copy)]
 pub struct Dump<'a> {
-    pub tree: &'a Tree,
+    pub tree: &'a DrawnTree,
 }
 
 impl<'a> fmt::Display for Dump<'a> {

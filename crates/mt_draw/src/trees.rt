@@ -8,7 +8,7 @@ ghost use Rattle.mt_rows.specs.Memory.{sheet_in};
 ghost use Rattle.mt_rows.specs.Spans as defined;
 ghost use Rattle.mt_rows.specs.Spans.{column};
 ghost use Rattle.mt_rows.specs.Trees.{height_in};
-ghost use Rattle.mt_draw.specs.Trees.{nodes_of, nodes_in, table_of, gap_in};
+ghost use Rattle.mt_draw.specs.Trees.{nodes_of, nodes_in, table_of, gap_of_slot};
 
 use arrayvec::ArrayVec;
 use mt_base::{DEEPEST, FIRST_ROW, Kind, NoMemory, Width, cols, top, width_of};
@@ -45,7 +45,7 @@ pub fn count_holes(spans: &[Span]) -> usize {
 
 /// A tree, its rows in the order of a walk: each before its children, children from the left. They are numbered so.
 #[derive(Drop)]
-pub struct Tree {
+pub struct DrawnTree {
     pub kind: Kind,
     pub root: u64,
     pub height: u32,
@@ -90,9 +90,9 @@ fn push_nodes(
     }
 }
 
-impl Tree {
+impl DrawnTree {
     /// The tree of this kind whose rows these are.
-    pub fn of(alloc: Global, kind: Kind, mut rows: PlainRows) -> Result<Tree, NoMemory>
+    pub fn of(alloc: Global, kind: Kind, mut rows: PlainRows) -> Result<DrawnTree, NoMemory>
         requires good { IsGood kind (sheet_in rows).tree }
         ensures kind { IfOk result (λ tree. tree.kind ≡ kind) }
         ensures table { IfOk result (λ tree. table_of tree ≡ (sheet_in rows).tree.table) }
@@ -111,7 +111,7 @@ impl Tree {
             word: root,
         };
         push_nodes(width, &words, DEEPEST as u32, 0, &all, &mut nodes)?;
-        Ok(Tree {
+        Ok(DrawnTree {
             kind,
             root,
             height,
@@ -160,7 +160,7 @@ impl Tree {
     /// The longest hole below a slot, as the row tells it, and 0 in a row without gaps.
     pub fn gap(&self, node: &Node, slot: usize) -> u64
         requires { slot ≤ run_room }
-        ensures { result ≡ gap_in (table_of self.now) node.now slot }
+        ensures { result ≡ gap_of_slot (table_of self.now) node.now slot }
     {
         match node.kind {
             RowKind::Gapped => self.column(node.row, 2 * self.slots(node) + slot),

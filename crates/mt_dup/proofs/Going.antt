@@ -17,8 +17,8 @@ use Rattle.mt_rows.specs.Spans.{Table, column}
 use Rattle.mt_rows.specs.Plain.{names_of}
 use Rattle.mt_rows.specs.Sheet.{Rooted, Sheet, OnlyReads, IsWhole, IsPlace, life_of, loaded}
 use Rattle.mt_dup.specs.declared.columns.Pair.{Pair}
-use Rattle.mt_dup.specs.Copy.{renamed}
-use Rattle.mt_dup.specs.Filling.{next_row, IsFilling, HasTaken, IsOpen, IsWritten}
+use Rattle.mt_dup.specs.Copy.{with_new_row}
+use Rattle.mt_dup.specs.Filling.{next_row, IsFilling, HasTaken, IsOpenCopy, IsWritten}
 use Rattle.mt_dup.specs.Pairs.{IsWrittenAt}
 use Rattle.mt_dup.specs.Walks.{names_from, names_below, MayCopy, MayCopyBelow, AreNumbered, IsCopied, AreCopied, LeavesCopy, LeavesChildren, IsNoName, KeepsOwn}
 use Rattle.mt_dup.proofs.WrittenRows.{written_rows, written_width, nothing_written, written_on, written_in}
@@ -42,7 +42,7 @@ taken_more n m k b b' b'' all first second = record {
 }
 
 -- rows that were written below the next one leave the table open
-pub open_after : (n low high : ℕ) (b b' : Book) (d d' : Sheet) → IsOpen b d → HasTaken n b b' → high ≤ next_row b' → IsWritten low high d d' → IsOpen b' d'
+pub open_after : (n low high : ℕ) (b b' : Book) (d d' : Sheet) → IsOpenCopy b d → HasTaken n b b' → high ≤ next_row b' → IsWritten low high d d' → IsOpenCopy b' d'
 open_after n low high b b' d d' unused taken up written = record {
   filling = taken.filling;
   rows = written_rows low high d d' written ∙ (unused.rows ∙ sym taken.rows);
@@ -64,7 +64,7 @@ done s pair depth slot = flat_map (names_from s.tree.table (depth - 1)) (take sl
 -- under numbers that serve the first children their names are written, and they are copied
 abbrev pub HasFirst : (ℕ → ℕ) → Sheet → Sheet → Pair → ℕ → ℕ → Type 0
 HasFirst number s d' pair depth slot =
-    ((i : ℕ) → i < slot → column d'.tree.table pair.to (slot_column (slots_in s pair) i) ≡ renamed number (column s.tree.table pair.row (slot_column (slots_in s pair) i)))
+    ((i : ℕ) → i < slot → column d'.tree.table pair.to (slot_column (slots_in s pair) i) ≡ with_new_row number (column s.tree.table pair.row (slot_column (slots_in s pair) i)))
     × AreCopied number s.tree.table d'.tree.table (done s pair depth slot)
 
 pub record Going (s s' d d' : Sheet) (b b' : Book) (pair : Pair) (depth slot count count' : ℕ) : Type 0 where
@@ -81,7 +81,7 @@ pub record Begins (s d : Sheet) (b : Book) (pair : Pair) (depth : ℕ) : Type 0 
   pub new_whole : IsWhole d
   pub inner : pair.kind ≢ Leaf
   pub may : MayCopyBelow s.tree depth pair
-  pub unused : IsOpen b d
+  pub unused : IsOpenCopy b d
   pub room : length (names_below s.tree.table depth pair) ≤ length b.free
   pub to : next_row b ≡ pair.to + 1
   pub first : first_row ≤ pair.to
@@ -153,7 +153,7 @@ module _ (s d : Sheet) (b : Book) (pair : Pair) (depth : ℕ) (begins : Begins s
     next_is : next_row b₁ ≡ next_row b + length (done s pair depth slot)
     next_is = next_after (length (done s pair depth slot)) b b₁ begins.unused.filling going.taken
 
-    pub open_child : IsOpen b₁ d₁
+    pub open_child : IsOpenCopy b₁ d₁
     open_child = open_after (length (done s pair depth slot)) pair.to (next_row b₁) b b₁ d d₁ begins.unused going.taken (omega arith) going.written
 
     pub room_child : length (names_from s₁.tree.table (depth - 1) (word_of slot)) ≤ length b₁.free
@@ -257,16 +257,16 @@ module _ (s d : Sheet) (b : Book) (pair : Pair) (depth : ℕ) (begins : Begins s
             before : HasFirst number s d₁ pair depth slot
             before = going.copied number zero_is to_is first_numbered
 
-            parent_is : word_of slot ≢ 0 → parent_at pair.to slot ≡ renamed number (column t (row_in (word_of slot)) 0)
+            parent_is : word_of slot ≢ 0 → parent_at pair.to slot ≡ with_new_row number (column t (row_in (word_of slot)) 0)
             parent_is some =
                 let same = at slot inside in
                 let plus : 0 + slot ≡ slot = omega arith in
                 let here_parent : slice_index names slot ≢ 0 → column t (row_in (slice_index names slot)) 0 ≡ parent_at pair.row slot = subst (λ (n : ℕ). slice_index names slot ≢ 0 → column t (row_in (slice_index names slot)) 0 ≡ parent_at pair.row n) plus (parents_at t pair.row 0 names slot begins.may.parents (omega (arith, long))) in
                 let parent : column t (row_in (word_of slot)) 0 ≡ parent_at pair.row slot =
                 subst (λ (n : ℕ). n ≢ 0 → column t (row_in n) 0 ≡ parent_at pair.row slot) same here_parent some in
-                sym (ap (renamed number) parent ∙ (renamed_parent number pair.row slot (omega (arith, few_slots_of t.width pair.kind)) ∙ ap (λ (r : ℕ). parent_at r slot) to_is))
+                sym (ap (with_new_row number) parent ∙ (renamed_parent number pair.row slot (omega (arith, few_slots_of t.width pair.kind)) ∙ ap (λ (r : ℕ). parent_at r slot) to_is))
 
-            child : (name ≡ renamed number (word_of slot)) × AreCopied number t d₂.tree.table (child_names (word_of slot))
+            child : (name ≡ with_new_row number (word_of slot)) × AreCopied number t d₂.tree.table (child_names (word_of slot))
             child = copy' number zero_is child_numbered parent_is
 
             first_copied : AreCopied number t d₃.tree.table (done s pair depth slot)
@@ -276,9 +276,9 @@ module _ (s d : Sheet) (b : Book) (pair : Pair) (depth : ℕ) (begins : Begins s
             child_copied = copies_stay number t d₂.tree.table d₃.tree.table (child_names (word_of slot)) (next_row b₁) (next_row b₂) (wide₃ ∙ sym wide₂) then_is child_numbered
                 (λ row c above below within. kept_rows row c (omega (arith, next_is)) below within) child.1
 
-            slots_are : (i : ℕ) → i < slot + 1 → column d₃.tree.table pair.to (slot_column slots i) ≡ renamed number (word_of i)
+            slots_are : (i : ℕ) → i < slot + 1 → column d₃.tree.table pair.to (slot_column slots i) ≡ with_new_row number (word_of i)
             slots_are i within = elim (cases_eq i slot) [
-              | inl same ↦ ap (λ (n : ℕ). column d₃.tree.table pair.to (slot_column slots n)) same ∙ (here.here ∙ (child.0 ∙ ap (λ (n : ℕ). renamed number (word_of n)) (sym same)))
+              | inl same ↦ ap (λ (n : ℕ). column d₃.tree.table pair.to (slot_column slots n)) same ∙ (here.here ∙ (child.0 ∙ ap (λ (n : ℕ). with_new_row number (word_of n)) (sym same)))
               | inr other ↦
                   let to = begins.to in
                   here.others (slot_column slots i) (wide t.width d₂.tree.table.width (slot_column slots i) (sym wide₂) (column_in i (omega arith))) (λ e. other (omega arith))

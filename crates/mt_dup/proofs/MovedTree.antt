@@ -27,18 +27,18 @@ use Rattle.mt_rows.proofs.Depth.{by_leaf, by_inner}
 use Rattle.mt_rows.proofs.FewSpans.{row_most}
 use Rattle.mt_rows.proofs.Joins.{levels_front, levels_back}
 use Rattle.mt_rows.proofs.Lists.{levels_here, children_hold}
-use Rattle.mt_dup.specs.Copy.{renamed, slot_renamed, IsRowCopy}
+use Rattle.mt_dup.specs.Copy.{with_new_row, slot_renamed, IsRowCopy}
 use Rattle.mt_dup.proofs.Names.{renamed_name, renamed_parent}
 use Rattle.mt_dup.proofs.MovedItems as items
 
 module _ (t : Tree) (number : ℕ → ℕ) (none : number 0 ≡ 0) (rows : ℕ) (few : rows ≤ most_rows) (words : List ℕ) where
   -- the copy
   abbrev pub later : Tree
-  later = record { rows = rows; gapped = t.gapped; table = record { width = t.table.width; words = words }; root = renamed number t.root }
+  later = record { rows = rows; gapped = t.gapped; table = record { width = t.table.width; words = words }; root = with_new_row number t.root }
 
   -- a span of an inner row, as it stands in the copy
   abbrev pub move : Span → Span
-  move x = record { first = x.first; last = x.last; word = renamed number x.word }
+  move x = record { first = x.first; last = x.last; word = with_new_row number x.word }
 
   -- what stands in a row of a height, as it stands in the copy
   abbrev pub moved_spans : ℕ → List Span → List Span
@@ -64,13 +64,13 @@ module _ (t : Tree) (number : ℕ → ℕ) (none : number 0 ≡ 0) (rows : ℕ) 
     numbered : IsRowNumber (number (row_in x.word))
     numbered = (moved.first, let last = moved.last in omega arith)
 
-    pub name_moved : renamed number x.word ≡ name_at (number (row_in x.word)) kind
+    pub name_moved : with_new_row number x.word ≡ name_at (number (row_in x.word)) kind
     name_moved = renamed_name number x.word kind moved.row.name.named
 
-    pub named_moved : named_kind (renamed number x.word) ≡ Some kind
+    pub named_moved : named_kind (with_new_row number x.word) ≡ Some kind
     named_moved = ap named_kind name_moved ∙ named_kind-name_at (number (row_in x.word)) kind numbered
 
-    pub row_moved : row_in (renamed number x.word) ≡ number (row_in x.word)
+    pub row_moved : row_in (with_new_row number x.word) ≡ number (row_in x.word)
     row_moved = ap row_in name_moved ∙ row_in-name_at (number (row_in x.word)) kind
 
     abbrev in_slot : ℕ → ℕ
@@ -108,7 +108,7 @@ module _ (t : Tree) (number : ℕ → ℕ) (none : number 0 ≡ 0) (rows : ℕ) 
     parent = column t.table (row_in x.word) 0
 
     abbrev parent' : ℕ
-    parent' = column later.table (row_in (renamed number x.word)) 0
+    parent' = column later.table (row_in (with_new_row number x.word)) 0
 
     abbrev slots : ℕ
     slots = slots_of width kind
@@ -117,10 +117,10 @@ module _ (t : Tree) (number : ℕ → ℕ) (none : number 0 ≡ 0) (rows : ℕ) 
     gaps = gaps_of width kind
 
     -- the columns are those that the items make
-    unused : (c : ℕ) → c < columns width → column later.table (row_in (renamed number x.word)) c ≡ slice_index (words_in later.table kind (move x)) c
+    unused : (c : ℕ) → c < columns width → column later.table (row_in (with_new_row number x.word)) c ≡ slice_index (words_in later.table kind (move x)) c
     unused c within = by (cases_eq c 0)
       where
-        here : column later.table (row_in (renamed number x.word)) c ≡ column later.table (number (row_in x.word)) c
+        here : column later.table (row_in (with_new_row number x.word)) c ≡ column later.table (number (row_in x.word)) c
         here = ap (λ (r : ℕ). column later.table r c) row_moved
 
         expected : slice_index (words_in later.table kind (move x)) c ≡ slice_index (row_words (columns width) slots gaps parent' (map (items.put in_slot) (items_in t.table kind x))) c
@@ -134,8 +134,8 @@ module _ (t : Tree) (number : ℕ → ℕ) (none : number 0 ≡ 0) (rows : ℕ) 
             ∙ (sym (items.put_slot (columns width) slots gaps parent parent' (items_in t.table kind x) in_slot slot_zero (layout_of width kind) fit i inside)
             ∙ ap (slice_index (row_words (columns width) slots gaps parent' (map (items.put in_slot) (items_in t.table kind x)))) (sym is))))
 
-        by : (c ≡ 0) ⊎ (c ≢ 0) → column later.table (row_in (renamed number x.word)) c ≡ slice_index (words_in later.table kind (move x)) c
-        by (inl first) = subst (λ (n : ℕ). column later.table (row_in (renamed number x.word)) n ≡ slice_index (words_in later.table kind (move x)) n) (sym first) refl
+        by : (c ≡ 0) ⊎ (c ≢ 0) → column later.table (row_in (with_new_row number x.word)) c ≡ slice_index (words_in later.table kind (move x)) c
+        by (inl first) = subst (λ (n : ℕ). column later.table (row_in (with_new_row number x.word)) n ≡ slice_index (words_in later.table kind (move x)) n) (sym first) refl
         by (inr some) = here ∙ (elim (cases_lt c slots) [
           | inl low ↦ moved.copy.pivots c (omega arith) low ∙ (moved.row.pivots.unused c within ∙ sym (items.put_pivot (columns width) slots gaps parent parent' (items_in t.table kind x) in_slot slot_zero (layout_of width kind) fit c (omega arith) low))
           | inr high ↦ elim (cases_lt c (2 * slots)) [
@@ -217,7 +217,7 @@ module _ (t : Tree) (number : ℕ → ℕ) (none : number 0 ≡ 0) (rows : ℕ) 
   parents_moved : (h row slot : ℕ) (xs : List Span) → slot + length xs ≤ 256 → AllByRecursion (IsMoved h) xs → ParentsFrom t.table row slot xs → ParentsFrom later.table (number row) slot (map move xs)
   parents_moved h row slot [] short each parents = tt
   parents_moved h row slot (x ∷ xs) short each parents = (
-    ap (λ (r : ℕ). column later.table r 0) (row_moved h x each.0) ∙ (each.0.copy.parent ∙ (ap (renamed number) parents.0 ∙ renamed_parent number row slot (omega arith))),
+    ap (λ (r : ℕ). column later.table r 0) (row_moved h x each.0) ∙ (each.0.copy.parent ∙ (ap (with_new_row number) parents.0 ∙ renamed_parent number row slot (omega arith))),
     parents_moved h row (slot + 1) xs (omega arith) each.1 parents.1,
   )
 
@@ -237,7 +237,7 @@ module _ (t : Tree) (number : ℕ → ℕ) (none : number 0 ≡ 0) (rows : ℕ) 
     parent =
         let short = row_most moved.row.name in
         let parents = parents_moved h (row_in x.word) 0 (spans_in t.table x) (omega (arith, short, few_slots_of t.table.width (kind_on t.gapped (suc h)))) (levels_here IsMoved t.table h (spans_in t.table x) children) tended.parent in
-        subst (λ (xs : List Span). ParentsFrom later.table (row_in (renamed number x.word)) 0 xs) (sym (spans_moved (suc h) x moved))
+        subst (λ (xs : List Span). ParentsFrom later.table (row_in (with_new_row number x.word)) 0 xs) (sym (spans_moved (suc h) x moved))
         (subst (λ (r : ℕ). ParentsFrom later.table r 0 (map move (spans_in t.table x))) (sym (row_moved (suc h) x moved)) parents);
     gaps = by t.gapped refl tended.gaps;
   }
@@ -250,7 +250,7 @@ module _ (t : Tree) (number : ℕ → ℕ) (none : number 0 ≡ 0) (rows : ℕ) 
       by true is law =
           let most : length (spans_in t.table x) ≤ slots_of t.table.width Gapped = subst (λ (b : Bool). length (spans_in t.table x) ≤ slots_of t.table.width (inner_of b)) is (row_most moved.row.name) in
           let copy : IsRowCopy number t.table later.table Gapped (row_in x.word) = subst (λ (b : Bool). IsRowCopy number t.table later.table (inner_of b) (row_in x.word)) is moved.copy in
-          subst (λ (xs : List Span). GapsFrom later.table h (row_in (renamed number x.word)) 0 xs) (sym (spans_moved (suc h) x moved))
+          subst (λ (xs : List Span). GapsFrom later.table h (row_in (with_new_row number x.word)) 0 xs) (sym (spans_moved (suc h) x moved))
           (subst (λ (r : ℕ). GapsFrom later.table h r 0 (map move (spans_in t.table x))) (sym (row_moved (suc h) x moved)) (gaps_moved h (row_in x.word) 0 (spans_in t.table x) (omega arith) children copy.behind law))
 
   all_tended : (h : ℕ) (xs : List Span) → Levels IsMoved t.table h xs → AllByRecursion (IsTended t h) xs → AllByRecursion (IsTended later h) (map move xs)
@@ -282,11 +282,11 @@ module _ (t : Tree) (number : ℕ → ℕ) (none : number 0 ≡ 0) (rows : ℕ) 
   rows_moved zero h x deep each = refl
   rows_moved (suc depth) zero x deep each =
       let moved = each.0 in
-      by_leaf (named_kind (renamed number x.word)) (row_in (renamed number x.word) ∷ []) (row_in (renamed number x.word) ∷ flat_map (rows_of later.table depth) (spans_in later.table (move x))) (named_moved zero x moved)
+      by_leaf (named_kind (with_new_row number x.word)) (row_in (with_new_row number x.word) ∷ []) (row_in (with_new_row number x.word) ∷ flat_map (rows_of later.table depth) (spans_in later.table (move x))) (named_moved zero x moved)
       ∙ (ap (λ (r : ℕ). r ∷ []) (row_moved zero x moved) ∙ sym (ap (map number) (by_leaf (named_kind x.word) (row_in x.word ∷ []) (row_in x.word ∷ flat_map (rows_of t.table depth) (spans_in t.table x)) moved.row.name.named)))
   rows_moved (suc depth) (suc h) x deep each =
       let moved = each.0.0 in
       let below = ap (flat_map (rows_of later.table depth)) (spans_moved (suc h) x moved) ∙ list_rows depth h (λ y. rows_moved depth h y (omega arith)) (spans_in t.table x) (children_hold IsMoved t.table h x each) in
       let here = row_moved (suc h) x moved in
-      by_inner t.gapped (named_kind (renamed number x.word)) (row_in (renamed number x.word) ∷ []) (row_in (renamed number x.word) ∷ flat_map (rows_of later.table depth) (spans_in later.table (move x))) (named_moved (suc h) x moved)
+      by_inner t.gapped (named_kind (with_new_row number x.word)) (row_in (with_new_row number x.word) ∷ []) (row_in (with_new_row number x.word) ∷ flat_map (rows_of later.table depth) (spans_in later.table (move x))) (named_moved (suc h) x moved)
       ∙ ((λ i. here i ∷ below i) ∙ sym (ap (map number) (by_inner t.gapped (named_kind x.word) (row_in x.word ∷ []) (row_in x.word ∷ flat_map (rows_of t.table depth) (spans_in t.table x)) moved.row.name.named)))

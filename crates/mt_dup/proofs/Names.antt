@@ -16,7 +16,7 @@ use Rattle.mt_layout.proofs.Places.{row_within}
 use Rattle.mt_layout.proofs.RowSizes.{some_columns, slots_of-columns, slot_within}
 use Rattle.mt_rows.specs.Spans.{Table, base_of, column}
 use Rattle.mt_rows.specs.Plain.{names_of}
-use Rattle.mt_dup.specs.Copy.{renamed, IsRowCopy}
+use Rattle.mt_dup.specs.Copy.{with_new_row, IsRowCopy}
 use Rattle.mt_dup.specs.Walks.{names_by, names_from, ParentsAre, AreNumbered, AreCopied}
 
 -- ---- lists, by index
@@ -101,14 +101,14 @@ numbered_back number from to [] ys behind each = let same : from ≡ to = omega 
 numbered_back number from to (x ∷ xs) ys behind each = numbered_back number (from + 1) to xs ys (omega arith) each.1
 
 -- the parent word of a slot
-pub renamed_parent : (number : ℕ → ℕ) (row slot : ℕ) → slot < 256 → renamed number (parent_at row slot) ≡ parent_at (number row) slot
+pub renamed_parent : (number : ℕ → ℕ) (row slot : ℕ) → slot < 256 → with_new_row number (parent_at row slot) ≡ parent_at (number row) slot
 renamed_parent number row slot low =
     let row_is : row_in (parent_at row slot) ≡ row = omega arith in
     let slot_is : parent_at row slot % 256 ≡ slot = omega arith in
     λ i. parent_at (number (row_is i)) (slot_is i)
 
 -- the new name of a row, as one of its kind
-pub renamed_name : (number : ℕ → ℕ) (word : ℕ) (kind : RowKind) → named_kind word ≡ Some kind → renamed number word ≡ name_at (number (row_in word)) kind
+pub renamed_name : (number : ℕ → ℕ) (word : ℕ) (kind : RowKind) → named_kind word ≡ Some kind → with_new_row number word ≡ name_at (number (row_in word)) kind
 renamed_name number word kind named = ap (parent_at (number (row_in word))) (low_byte kind (Names-named_kind word kind named).1)
   where
     low_byte : (kind : RowKind) → word ≡ name_at (row_in word) kind → word % 256 ≡ 8 * kind_number kind + 4

@@ -12,10 +12,10 @@ use Rattle.mt_rows.specs.declared.rows.Life.TheVariants.{New}
 use Rattle.mt_rows.specs.Spans.{column}
 use Rattle.mt_rows.specs.Plain.{new_sheet}
 use Rattle.mt_rows.specs.Sheet.{Sheet, life_of, IsWhole, OnlyReads, loaded}
-use Rattle.mt_rows.specs.Publish.{is_reached, IsReached, IsTold, MayPlant, IsLawfulOf, map_by}
+use Rattle.mt_rows.specs.Publish.{is_reached, IsReached, IsToldKind, MayPlant, IsLawfulOf, map_by}
 use Rattle.mt_rows.specs.Trees.{reached_in}
 use Rattle.mt_dup.specs.Copy.{AreInOrder, IsNewBut, IsBookOfCopy, IsCopy}
-use Rattle.mt_dup.specs.Filling.{rows_above, next_row, IsFilling, HasTaken, IsOpen, IsOutside, IsWritten}
+use Rattle.mt_dup.specs.Filling.{rows_above, next_row, IsFilling, HasTaken, IsOpenCopy, IsOutside, IsWritten}
 use Rattle.mt_dup.specs.Walks.{LeavesCopy, names_from}
 use Rattle.mt_dup.proofs.Filling.{length-rows_above, filling_is_book}
 use Rattle.mt_dup.proofs.Going.{next_after}
@@ -45,7 +45,7 @@ new_in zero i = refl
 new_in (suc n) zero = refl
 new_in (suc n) (suc i) = new_in n i
 
-pub new_open : (width : Width) (n : ℕ) → IsOpen (new_book n) (new_sheet width n)
+pub new_open : (width : Width) (n : ℕ) → IsOpenCopy (new_book n) (new_sheet width n)
 new_open width n = record {
   filling = record {
     fit = omega (arith, new_long n);
@@ -117,7 +117,7 @@ module _ (kind : Kind) (width : Width) (s d₀ d : Sheet) (b₀ b : Book) (n roo
     idle = ap (λ (x : Sheet). x.in_flight) rest;
     first = ap (λ (x : Sheet). x.ended) rest;
     empty = ap (λ (x : Sheet). x.tree.root) rest;
-    told = subst (λ (k : Option Kind). IsTold k kind) (sym (ap (λ (x : Sheet). x.kind) rest)) tt;
+    told = subst (λ (k : Option Kind). IsToldKind k kind) (sym (ap (λ (x : Sheet). x.kind) rest)) tt;
     lawful = facts.lawful;
   }
 

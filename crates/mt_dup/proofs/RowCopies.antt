@@ -17,8 +17,8 @@ use Rattle.mt_rows.specs.Plain.{names_of}
 use Rattle.mt_rows.specs.Sheet.{Rooted, Sheet, OnlyReads, IsWhole, IsPlace, life_of}
 use Rattle.mt_dup.specs.declared.columns.Pair.{Pair}
 use Rattle.mt_dup.specs.declared.walks.Way.{Way}
-use Rattle.mt_dup.specs.Copy.{renamed, slot_renamed, IsRowCopy}
-use Rattle.mt_dup.specs.Filling.{next_row, HasTaken, IsOpen, IsWritten}
+use Rattle.mt_dup.specs.Copy.{with_new_row, slot_renamed, IsRowCopy}
+use Rattle.mt_dup.specs.Filling.{next_row, HasTaken, IsOpenCopy, IsWritten}
 use Rattle.mt_dup.specs.Pairs.{HasOwn}
 use Rattle.mt_dup.specs.Walks.{names_by, names_from, names_below, ParentsAre, MayCopy, MayCopyBy, MayCopyBelow, AreNumbered, AreCopied, LeavesCopy, LeavesChildren, HasNames, IsNoName, KeepsOwn}
 use Rattle.mt_dup.proofs.WrittenRows.{written_width}
@@ -37,8 +37,8 @@ no_name_is_zero t (suc depth) word none may = subst (MayCopyBy (MayCopy t depth)
 pub none_copied : (t t' : Table) (from : ℕ) (way : Way) (rooted : Rooted) → named_kind way.word ≡ None → MayCopy rooted way.depth way.word → LeavesCopy t t' from way 0
 none_copied t t' from way rooted none may number zero_is numbered parent =
     let word_zero = no_name_is_zero rooted way.depth way.word none may in
-    let renamed_zero : renamed number 0 ≡ 0 = omega (arith, zero_is) in
-    (sym (ap (renamed number) word_zero ∙ renamed_zero), subst (AreCopied number t t') (sym (names_none t way.depth way.word none)) tt)
+    let renamed_zero : with_new_row number 0 ≡ 0 = omega (arith, zero_is) in
+    (sym (ap (with_new_row number) word_zero ∙ renamed_zero), subst (AreCopied number t t') (sym (names_none t way.depth way.word none)) tt)
 
 -- ---- a word that names a row
 
@@ -80,7 +80,7 @@ module _ (s : Sheet) (b : Book) (way : Way) (pair : Pair) (whole : IsWhole s) (n
 
   -- ---- the row and what stands below it
 
-  module _ (d d₁ d₂ : Sheet) (b₁ b₂ : Book) (unused : IsOpen b d) (one : HasTaken 1 b b₁) (own : HasOwn way.parent pair t d₁.tree.table)
+  module _ (d d₁ d₂ : Sheet) (b₁ b₂ : Book) (unused : IsOpenCopy b d) (one : HasTaken 1 b b₁) (own : HasOwn way.parent pair t d₁.tree.table)
       (children : LeavesChildren t d₂.tree.table (next_row b₁) way.depth pair) (kept : KeepsOwn d₁.tree.table d₂.tree.table pair)
       (wide₁ : d₁.tree.table.width ≡ t.width) (wide₂ : d₂.tree.table.width ≡ t.width) where
     next_is : next_row b₁ ≡ next_row b + 1
@@ -89,7 +89,7 @@ module _ (s : Sheet) (b : Book) (way : Way) (pair : Pair) (whole : IsWhole s) (n
     keeps : (c : ℕ) → c < columns t.width → IsNoName pair.kind (slots_of t.width pair.kind) c → column d₂.tree.table pair.to c ≡ column d₁.tree.table pair.to c
     keeps c within no_name = kept c (subst (λ (v : Width). c < columns v) (sym wide₁) within) (subst (λ (v : Width). IsNoName pair.kind (slots_of v pair.kind) c) (sym wide₁) no_name)
 
-    module _ (number : ℕ → ℕ) (to_is : number pair.row ≡ pair.to) (parent : way.parent ≡ renamed number (column t pair.row 0)) (names : pair.kind ≢ Leaf → HasNames number t d₂.tree.table pair) where
+    module _ (number : ℕ → ℕ) (to_is : number pair.row ≡ pair.to) (parent : way.parent ≡ with_new_row number (column t pair.row 0)) (names : pair.kind ≢ Leaf → HasNames number t d₂.tree.table pair) where
       slots_are : (kind : RowKind) → pair.kind ≡ kind → (i : ℕ) → i < slots_of t.width pair.kind
           → column d₂.tree.table pair.to (slot_column (slots_of t.width pair.kind) i) ≡ slot_renamed number kind (column t pair.row (slot_column (slots_of t.width pair.kind) i))
       slots_are Leaf is i within = keeps (slot_column (slots_of t.width pair.kind) i) (slot_within t.width pair.kind i within) (inl is) ∙ own.others (slot_column (slots_of t.width pair.kind) i) (omega (arith, some_slots_of t.width pair.kind)) (slot_within t.width pair.kind i within)
@@ -108,14 +108,14 @@ module _ (s : Sheet) (b : Book) (way : Way) (pair : Pair) (whole : IsWhole s) (n
             behind = λ c from within. moved c ∙ (keeps c within (inr (inr from)) ∙ own.others c (omega (arith, some_slots_of t.width pair.kind)) within);
           }
 
-    name_is : (number : ℕ → ℕ) → number pair.row ≡ pair.to → name_at pair.to pair.kind ≡ renamed number way.word
+    name_is : (number : ℕ → ℕ) → number pair.row ≡ pair.to → name_at pair.to pair.kind ≡ with_new_row number way.word
     name_is number to_is = ap (λ (n : ℕ). name_at n pair.kind) (sym to_is ∙ ap number row) ∙ sym (renamed_name number way.word pair.kind named)
 
     pub row_copied : LeavesCopy t d₂.tree.table (next_row b) way (name_at pair.to pair.kind)
     row_copied number zero_is numbered parent =
         let all : AreNumbered number (next_row b) (way.word ∷ names_below t way.depth pair) = subst (AreNumbered number (next_row b)) names_are numbered in
         let to_is : number pair.row ≡ pair.to = ap number row ∙ (all.0 ∙ sym to) in
-        let parent_is : way.parent ≡ renamed number (column t pair.row 0) = parent (name_some way.word pair.kind named) ∙ ap (λ (r : ℕ). renamed number (column t r 0)) (sym row) in
+        let parent_is : way.parent ≡ with_new_row number (column t pair.row 0) = parent (name_some way.word pair.kind named) ∙ ap (λ (r : ℕ). with_new_row number (column t r 0)) (sym row) in
         let below = children number zero_is to_is (subst (λ (n : ℕ). AreNumbered number n (names_below t way.depth pair)) (sym next_is) all.1) in
         let here = here_copied number to_is parent_is below.0 in (
           name_is number to_is,
@@ -126,13 +126,13 @@ module _ (s : Sheet) (b : Book) (way : Way) (pair : Pair) (whole : IsWhole s) (n
         )
 
   -- what stands below is asked for as it is at the call
-  module _ (s₁ d d₁ : Sheet) (b₁ : Book) (reads : OnlyReads s s₁) (unused : IsOpen b d) (one : HasTaken 1 b b₁) (written : IsWritten pair.to (pair.to + 1) d d₁)
+  module _ (s₁ d d₁ : Sheet) (b₁ : Book) (reads : OnlyReads s s₁) (unused : IsOpenCopy b d) (one : HasTaken 1 b b₁) (written : IsWritten pair.to (pair.to + 1) d d₁)
       (room : length (names_from t way.depth way.word) ≤ length b.free) (width : d.tree.table.width ≡ t.width) where
     after : next_row b₁ ≡ next_row b + 1
     after = next_after 1 b b₁ unused.filling one
 
     pub children_asked : MayCopyBelow s₁.tree way.depth pair
-        × (IsOpen b₁ d₁ × ((length (names_below s₁.tree.table way.depth pair) ≤ length b₁.free) × ((next_row b₁ ≡ pair.to + 1) × ((first_row ≤ pair.to) × ((life_of d₁.lives pair.to ≡ Draft) × (d₁.tree.table.width ≡ s₁.tree.table.width))))))
+        × (IsOpenCopy b₁ d₁ × ((length (names_below s₁.tree.table way.depth pair) ≤ length b₁.free) × ((next_row b₁ ≡ pair.to + 1) × ((first_row ≤ pair.to) × ((life_of d₁.lives pair.to ≡ Draft) × (d₁.tree.table.width ≡ s₁.tree.table.width))))))
     children_asked =
         let less = one.taken in (
           subst (λ (r : Rooted). MayCopyBelow r way.depth pair) (sym (same_tree s s₁ reads)) may_below,

@@ -25,7 +25,7 @@ use Rattle.mt_rows.proofs.Lists.{tally-append, levels_here}
 use Rattle.mt_rows.proofs.Once.{once_in}
 use Rattle.mt_rows.proofs.Reached as reached
 use Rattle.mt_rows.proofs.Loads.{same_tree}
-use Rattle.mt_dup.specs.Copy.{renamed, IsRowCopy, IsCopy}
+use Rattle.mt_dup.specs.Copy.{with_new_row, IsRowCopy, IsCopy}
 use Rattle.mt_dup.specs.Walks.{names_from, MayCopy, AreNumbered, IsCopied, AreCopied, LeavesCopy}
 use Rattle.mt_dup.proofs.Names.{names_none}
 use Rattle.mt_dup.proofs.NewNumbers.{times_of, number_in, number_zero, numbered_on, numbered_once, IsGiven, all_given, given_inside, given_outside, numbered_in_order}
@@ -109,7 +109,7 @@ module _ (kind : Kind) (s d : Sheet) (root : ℕ) (whole : IsWhole s) (new_whole
       none = refl;
       rows = ap (reached_in d.tree.table) root_zero ∙ sym (ap (λ (r : ℕ). map (λ (n : ℕ). n) (reached_in s.tree.table r)) empty);
       once = λ row other one two same. same;
-      root = root_zero ∙ sym (ap (renamed (λ r. r)) empty);
+      root = root_zero ∙ sym (ap (with_new_row (λ r. r)) empty);
       words = λ h x k at. absurd (let levels = at.levels in let low = ap (height_in s.tree.table) empty in omega arith);
     };
     order = ap (reached_in d.tree.table) root_zero ∙ sym (ap (range_with_len first_row) no_names);
@@ -126,7 +126,7 @@ module _ (kind : Kind) (s d : Sheet) (root : ℕ) (whole : IsWhole s) (new_whole
       no_names = ap length names_empty
 
       root_zero : root ≡ 0
-      root_zero = (copy (λ r. r) refl (subst (AreNumbered (λ r. r) first_row) (sym names_empty) tt) (λ some. absurd (some empty))).0 ∙ ap (renamed (λ r. r)) empty
+      root_zero = (copy (λ r. r) refl (subst (AreNumbered (λ r. r) first_row) (sym names_empty) tt) (λ some. absurd (some empty))).0 ∙ ap (with_new_row (λ r. r)) empty
 
   -- ---- a tree with rows
 
@@ -150,10 +150,10 @@ module _ (kind : Kind) (s d : Sheet) (root : ℕ) (whole : IsWhole s) (new_whole
     numbered : AreNumbered number first_row names
     numbered = numbered_on names [] rows first_row (sym named_rows) refl (λ row. once_in t h row stands) (subst (AllByRecursion (λ (r : ℕ). r ≢ 0)) (sym named_rows) (each_there [] rows refl))
 
-    parent_is : 1 ≡ renamed number (column s.tree.table (row_in s.tree.root) 0)
-    parent_is = let none = number_zero rows in let same : renamed number 1 ≡ 1 = omega (arith, none) in sym (ap (renamed number) one ∙ same)
+    parent_is : 1 ≡ with_new_row number (column s.tree.table (row_in s.tree.root) 0)
+    parent_is = let none = number_zero rows in let same : with_new_row number 1 ≡ 1 = omega (arith, none) in sym (ap (with_new_row number) one ∙ same)
 
-    copied : (root ≡ renamed number s.tree.root) × AreCopied number s.tree.table words names
+    copied : (root ≡ with_new_row number s.tree.root) × AreCopied number s.tree.table words names
     copied =
         let all = copy number (number_zero rows) numbered (λ some. parent_is) in
         (all.0, subst (λ (w : Table). AreCopied number s.tree.table w names) table_is all.1)

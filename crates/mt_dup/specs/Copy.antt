@@ -18,20 +18,20 @@ use Rattle.mt_rows.specs.Sheet.{Rooted, Sheet, life_of}
 use Rattle.mt_rows.specs.declared.rows.Life.TheVariants.{New, Draft}
 
 -- a name or a parent word of the copy: the row has its new number, and the low byte, which tells a kind or a slot, is the same
-abbrev pub renamed : (ℕ → ℕ) → ℕ → ℕ
-renamed number word = parent_at (number (row_in word)) (word % 256)
+abbrev pub with_new_row : (ℕ → ℕ) → ℕ → ℕ
+with_new_row number word = parent_at (number (row_in word)) (word % 256)
 
 -- what the copy has in place of a word in a slot: a leaf has entries there, and an inner row the names of its children
 abbrev pub slot_renamed : (ℕ → ℕ) → RowKind → ℕ → ℕ
 slot_renamed number Leaf word = word
-slot_renamed number Inner word = renamed number word
-slot_renamed number Gapped word = renamed number word
+slot_renamed number Inner word = with_new_row number word
+slot_renamed number Gapped word = with_new_row number word
 
 -- a row of the copy, which is of the same width: its parent word and the names in its slots are the copy's, and all its other
 -- columns are equal
 pub record IsRowCopy (number : ℕ → ℕ) (t t' : Table) (kind : RowKind) (row : ℕ) : Type 0 where
   pub width : t'.width ≡ t.width
-  pub parent : column t' (number row) 0 ≡ renamed number (column t row 0)
+  pub parent : column t' (number row) 0 ≡ with_new_row number (column t row 0)
   pub pivots : (c : ℕ) → 0 < c → c < slots_of t.width kind → column t' (number row) c ≡ column t row c
   pub slots : (i : ℕ) → i < slots_of t.width kind → column t' (number row) (slot_column (slots_of t.width kind) i) ≡ slot_renamed number kind (column t row (slot_column (slots_of t.width kind) i))
   pub behind : (c : ℕ) → 2 * slots_of t.width kind ≤ c → c < columns t.width → column t' (number row) c ≡ column t row c
@@ -44,7 +44,7 @@ pub record IsCopy (t t' : Rooted) : Type 0 where
   pub none : number 0 ≡ 0
   pub rows : reached_in t'.table t'.root ≡ map number (reached_in t.table t.root)
   pub once : (row other : ℕ) → IsReached t row → IsReached t other → number row ≡ number other → row ≡ other
-  pub root : t'.root ≡ renamed number t.root
+  pub root : t'.root ≡ with_new_row number t.root
   pub words : (h : ℕ) (x : Span) (kind : RowKind) → StandsAt t h x → named_kind x.word ≡ Some kind → IsRowCopy number t.table t'.table kind (row_in x.word)
 
 -- the rows that are reached are the first ones, numbered in the order of the walk: each row before its children, children from

@@ -29,7 +29,7 @@ pub record HasTaken (n : ℕ) (b b' : Book) : Type 0 where
   pub taken : length b.free ≡ length b'.free + n
 
 -- the rows are those of the book, and the free ones were never used
-pub record IsOpen (b : Book) (s : Sheet) : Type 0 where
+pub record IsOpenCopy (b : Book) (s : Sheet) : Type 0 where
   pub filling : IsFilling b
   pub rows : s.tree.rows ≡ b.rows
   pub new : (row : ℕ) → next_row b ≤ row → row < first_row + b.rows → life_of s.lives row ≡ New

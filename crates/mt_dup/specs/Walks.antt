@@ -13,7 +13,7 @@ use Rattle.mt_rows.specs.Sheet.{Rooted}
 use Rattle.mt_rows.specs.Plain.{names_of}
 use Rattle.mt_dup.specs.declared.walks.Way.{Way}
 use Rattle.mt_dup.specs.declared.columns.Pair.{Pair}
-use Rattle.mt_dup.specs.Copy.{renamed, IsRowCopy}
+use Rattle.mt_dup.specs.Copy.{with_new_row, IsRowCopy}
 
 -- ---- the names that the walk comes to
 
@@ -71,13 +71,13 @@ AreCopied number t t' words = AllByRecursion (IsCopied number t t') words
 -- Under the numbers that rows have from `from` on, what a word names is copied, and this is its name in the copy.
 abbrev pub LeavesCopy : Table → Table → ℕ → Way → ℕ → Type 0
 LeavesCopy t t' from way name =
-    (number : ℕ → ℕ) → number 0 ≡ 0 → AreNumbered number from (names_from t way.depth way.word) → (way.word ≢ 0 → way.parent ≡ renamed number (column t (row_in way.word) 0))
-    → (name ≡ renamed number way.word) × AreCopied number t t' (names_from t way.depth way.word)
+    (number : ℕ → ℕ) → number 0 ≡ 0 → AreNumbered number from (names_from t way.depth way.word) → (way.word ≢ 0 → way.parent ≡ with_new_row number (column t (row_in way.word) 0))
+    → (name ≡ with_new_row number way.word) × AreCopied number t t' (names_from t way.depth way.word)
 
 -- the names in the slots of a row are written
 abbrev pub HasNames : (ℕ → ℕ) → Table → Table → Pair → Type 0
 HasNames number t t' pair = (i : ℕ) → i < slots_of t.width pair.kind
-    → column t' pair.to (slot_column (slots_of t.width pair.kind) i) ≡ renamed number (column t pair.row (slot_column (slots_of t.width pair.kind) i))
+    → column t' pair.to (slot_column (slots_of t.width pair.kind) i) ≡ with_new_row number (column t pair.row (slot_column (slots_of t.width pair.kind) i))
 
 abbrev pub LeavesChildren : Table → Table → ℕ → ℕ → Pair → Type 0
 LeavesChildren t t' from depth pair =

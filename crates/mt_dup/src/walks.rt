@@ -5,7 +5,7 @@ ghost use Rattle.mt_base.specs.Width.{first_row};
 ghost use Rattle.mt_rows.specs.declared.rows.Life.TheVariants.{Draft};
 ghost use Rattle.mt_rows.specs.Memory.{sheet_in};
 ghost use Rattle.mt_rows.specs.Sheet.{OnlyReads, life_of};
-ghost use Rattle.mt_dup.specs.Filling.{next_row, IsFilling, HasTaken, IsOpen, IsWritten};
+ghost use Rattle.mt_dup.specs.Filling.{next_row, IsFilling, HasTaken, IsOpenCopy, IsWritten};
 ghost use Rattle.mt_dup.specs.Walks.{names_from, names_below, MayCopy, MayCopyBelow, LeavesCopy, LeavesChildren, KeepsOwn};
 
 use crate::columns::{Pair, copy_own, write};
@@ -45,7 +45,7 @@ pub(crate) fn copy_row<R: Rows, L: Ledger>(
     way: Way,
 ) -> u64
     requires may { MayCopy (R.sheet src.old).tree way.depth way.word }
-    requires open { IsOpen book.old (sheet_in dst.old) }
+    requires open { IsOpenCopy book.old (sheet_in dst.old) }
     requires room { length (names_from (R.sheet src.old).tree.table way.depth way.word) ≤ length book.old.free }
     requires width { (sheet_in dst.old).tree.table.width ≡ (R.sheet src.old).tree.table.width }
     ensures copy { LeavesCopy (R.sheet src.old).tree.table (sheet_in dst.new).tree.table (next_row book.old) way result }
@@ -82,7 +82,7 @@ fn copy_children<R: Rows, L: Ledger>(
     pair: Pair,
 )
     requires may { MayCopyBelow (R.sheet src.old).tree depth pair }
-    requires open { IsOpen book.old (sheet_in dst.old) }
+    requires open { IsOpenCopy book.old (sheet_in dst.old) }
     requires room { length (names_below (R.sheet src.old).tree.table depth pair) ≤ length book.old.free }
     requires to { next_row book.old ≡ pair.to + 1 }
     requires first { first_row ≤ pair.to }

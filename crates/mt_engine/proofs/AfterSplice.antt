@@ -20,7 +20,7 @@ use Rattle.mt_rows.specs.Publish.{IsLawfulOf, LiveAreReached, is_reached, finish
 use Rattle.mt_splice.specs.Kept.{IsBookOf}
 use Rattle.mt_splice.specs.Splice.{IsSpliced}
 use Rattle.mt_engine.specs.Engine.{IsEngineState, IsIdle, TookRows}
-use Rattle.mt_engine.specs.Stores.{IsStored}
+use Rattle.mt_engine.specs.Stores.{IsDoneByStore}
 use Rattle.mt_engine.proofs.Levelled.{levelled}
 use Rattle.mt_engine.proofs.Moments.{tree_if_lawful}
 
@@ -61,7 +61,7 @@ replaced s t lives buried reads call reply = record s { tree = t; published = tr
 
 -- what such a call is
 pub stored_as : (kind : Kind) (s : Sheet) (t : Rooted) (lives : List Life) (buried : List Bool) (reads : Option ℕ) (book book' : Book) (call : Call) (reply : Reply) → s.in_flight ≡ true → IsIdle kind (finished (replaced s t lives buried reads call reply) call reply) book'
-    → t.rows ≡ s.tree.rows → acted kind (map_by s.tree) call ≡ (map_by t, reply) → TookRows kind s book.free book' call → IsStored kind s (replaced s t lives buried reads call reply) book book' call reply
+    → t.rows ≡ s.tree.rows → acted kind (map_by s.tree) call ≡ (map_by t, reply) → TookRows kind s book.free book' call → IsDoneByStore kind s (replaced s t lives buried reads call reply) book book' call reply
 stored_as kind s t lives buried reads book book' call reply flies idle rows acts took = record {
   may = record { in_flight = flies; kept = λ before. absurd (cc) };
   ended = record {
@@ -160,12 +160,12 @@ module _ (kind : Kind) (s s₁ : Sheet) (book book' : Book) (call : Call) (reply
     }
 
     -- what such a store is, when it took rows so
-    stored_after : s.in_flight ≡ true → map_by t ≡ map_by s₁.tree → (acted kind (map_by s.tree) call).1 ≡ reply → TookRows kind s book.free book' call → IsStored kind s after book book' call reply
+    stored_after : s.in_flight ≡ true → map_by t ≡ map_by s₁.tree → (acted kind (map_by s.tree) call).1 ≡ reply → TookRows kind s book.free book' call → IsDoneByStore kind s after book book' call reply
     stored_after flies map replies took =
         stored_as kind s t s₁.lives s₁.buried reads book book' call reply flies idle_after (rows ∙ spliced.rows)
         (acts_by (acted kind (map_by s.tree) call) (map_by t) reply (map ∙ spliced.map) replies) took
 
   pub stored_by : (s' : Sheet) → s' ≡ replaced s s'.tree s₁.lives s₁.buried s'.reads call reply → IsLawfulOf s'.tree kind → s'.tree.rows ≡ s₁.tree.rows → ((row : ℕ) → is_reached s'.tree row ≡ is_reached s₁.tree row) → s.in_flight ≡ true → map_by s'.tree ≡ map_by s₁.tree
-      → (acted kind (map_by s.tree) call).1 ≡ reply → TookRows kind s book.free book' call → IsStored kind s s' book book' call reply
+      → (acted kind (map_by s.tree) call).1 ≡ reply → TookRows kind s book.free book' call → IsDoneByStore kind s s' book book' call reply
   stored_by s' is lawful rows same flies map replies took =
-      subst (λ (x : Sheet). IsStored kind s x book book' call reply) (sym is) (stored_after s'.tree s'.reads lawful rows same flies map replies took)
+      subst (λ (x : Sheet). IsDoneByStore kind s x book book' call reply) (sym is) (stored_after s'.tree s'.reads lawful rows same flies map replies took)

@@ -19,10 +19,10 @@ use Rattle.mt_path.specs.declared.paths.PathStep.{PathStep}
 use Rattle.mt_path.specs.Paths.{path_in}
 use Rattle.mt_rows.specs.Publish.{IsTreeOf, WasScanned, map_by, finished}
 use Rattle.mt_splice.specs.Splice.{MayClear, WasPublishedAt, IsSpliced}
-use Rattle.mt_engine.specs.Engine.{IsInCall, IsAnswered, IsEnded, Replaces, is_refusal}
+use Rattle.mt_engine.specs.Engine.{IsInCall, EndsAnswered, IsEnded, Replaces, is_refusal}
 use Rattle.mt_engine.specs.Mends.{MayMendAt, WasWay, IsMendedAt}
 use Rattle.mt_engine.specs.Rooms.{IsScanned, HasRoom}
-use Rattle.mt_engine.specs.Stores.{IsStored}
+use Rattle.mt_engine.specs.Stores.{IsDoneByStore}
 use Rattle.mt_engine.proofs.AfterSplice.{replaced, stored_by}
 use Rattle.mt_engine.proofs.Moments.{in_call_if_read, unscanned_if_read, answered_after_reads}
 use Rattle.mt_engine.proofs.Scanned.{was_scanned, first_scan}
@@ -32,7 +32,7 @@ not_both b is not = absurd (cc)
 
 -- ---- a store at once
 
-pub at_once : (kind : Kind) (s s' : Sheet) (book book' : Book) (call : Call) (reply : Reply) → s.scans ≡ 0 → is_refusal reply ≡ false → (Wants kind (map_by s.tree) call → ⊥) → (Replaces kind (map_by s.tree) call → ⊥) → IsStored kind s s' book book' call reply → IsAnswered kind s s' book book' call reply
+pub at_once : (kind : Kind) (s s' : Sheet) (book book' : Book) (call : Call) (reply : Reply) → s.scans ≡ 0 → is_refusal reply ≡ false → (Wants kind (map_by s.tree) call → ⊥) → (Replaces kind (map_by s.tree) call → ⊥) → IsDoneByStore kind s s' book book' call reply → EndsAnswered kind s s' book book' call reply
 at_once kind s s' book book' call reply unscanned success calm none stored = record {
   may = stored.may;
   ended = stored.ended;
@@ -56,7 +56,7 @@ module _ (kind : Kind) (s : Sheet) (answer : Scan) (cleared : ℕ) (s' : Sheet) 
   abbrev done : Sheet
   done = finished s' call reply
 
-  ended_then : s.cleared ≤ cleared → IsStored kind found s' freed book' call reply → IsEnded kind s done book' call reply
+  ended_then : s.cleared ≤ cleared → IsDoneByStore kind found s' freed book' call reply → IsEnded kind s done book' call reply
   ended_then rises stored =
       let is = stored.ended in
       record {
@@ -70,13 +70,13 @@ module _ (kind : Kind) (s : Sheet) (answer : Scan) (cleared : ℕ) (s' : Sheet) 
         known = is.known;
       }
 
-  was_scanned_then : IsStored kind found s' freed book' call reply → WasScanned done
+  was_scanned_then : IsDoneByStore kind found s' freed book' call reply → WasScanned done
   was_scanned_then stored = subst (λ (n : ℕ). 1 ≤ n) (sym stored.unscanned.scans) (was_scanned s answer cleared)
 
-  least_is : IsStored kind found s' freed book' call reply → freed ≡ after_reclaim book answer.least → after_reclaim book done.scan.least ≡ freed
+  least_is : IsDoneByStore kind found s' freed book' call reply → freed ≡ after_reclaim book answer.least → after_reclaim book done.scan.least ≡ freed
   least_is stored is = ap (λ (a : Scan). after_reclaim book a.least) stored.unscanned.scan ∙ sym is
 
-  after_scan_by : s.scans ≡ 0 → s.cleared ≤ cleared → freed ≡ after_reclaim book answer.least → HasRoom s.tree freed → Wants kind (map_by s.tree) call → is_refusal reply ≡ false → IsStored kind found s' freed book' call reply → IsAnswered kind s s' book book' call reply
+  after_scan_by : s.scans ≡ 0 → s.cleared ≤ cleared → freed ≡ after_reclaim book answer.least → HasRoom s.tree freed → Wants kind (map_by s.tree) call → is_refusal reply ≡ false → IsDoneByStore kind found s' freed book' call reply → EndsAnswered kind s s' book book' call reply
   after_scan_by unscanned rises is room wants success stored = record {
     may = stored.may;
     ended = ended_then rises stored;
@@ -93,10 +93,10 @@ module _ (kind : Kind) (s : Sheet) (answer : Scan) (cleared : ℕ) (s' : Sheet) 
         });
   }
 
-pub after_scan : (kind : Kind) (s s₂ s' : Sheet) (book book₂ book' : Book) (call : Call) (reply : Reply) → s.scans ≡ 0 → IsScanned kind s s₂ book book₂ → HasRoom s₂.tree book₂ → Wants kind (map_by s.tree) call → is_refusal reply ≡ false → IsStored kind s₂ s' book₂ book' call reply → IsAnswered kind s s' book book' call reply
+pub after_scan : (kind : Kind) (s s₂ s' : Sheet) (book book₂ book' : Book) (call : Call) (reply : Reply) → s.scans ≡ 0 → IsScanned kind s s₂ book book₂ → HasRoom s₂.tree book₂ → Wants kind (map_by s.tree) call → is_refusal reply ≡ false → IsDoneByStore kind s₂ s' book₂ book' call reply → EndsAnswered kind s s' book book' call reply
 after_scan kind s s₂ s' book book₂ book' call reply unscanned is room wants success stored =
     after_scan_by kind s s₂.scan s₂.cleared s' book book₂ book' call reply unscanned is.rises is.freed (subst (λ (x : Sheet). HasRoom x.tree book₂) is.rest room) wants success
-    (subst (λ (x : Sheet). IsStored kind x s' book₂ book' call reply) is.rest stored)
+    (subst (λ (x : Sheet). IsDoneByStore kind x s' book₂ book' call reply) is.rest stored)
 
 -- ---- by new rows
 
@@ -130,7 +130,7 @@ replaced_then kind s s₁ s₂ book book' number call reply place first last spl
     as_tree ∙ ap (λ (x : Sheet). record x { tree = s₂.tree; reads = s₂.reads }) spliced.rest
 
 pub rows_stored : (kind : Kind) (s s₁ s₂ : Sheet) (book book' : Book) (number : ℕ) (call : Call) (reply : Reply) (place : Place) (first last : ℕ) → IsInCall kind s book → number ≡ s.ended + 1 → Replaces kind (map_by s.tree) call → (acted kind (map_by s.tree) call).1 ≡ reply
-    → IsSpliced kind s s₁ book book' number call reply place first last → IsMendedAt kind s₁ s₂ → IsStored kind s s₂ book book' call reply
+    → IsSpliced kind s s₁ book book' number call reply place first last → IsMendedAt kind s₁ s₂ → IsDoneByStore kind s s₂ book book' call reply
 rows_stored kind s s₁ s₂ book book' number call reply place first last in_call is replaces replies spliced mended =
     stored_by kind s s₁ book book' call reply place in_call.state (subst (λ (n : ℕ). IsSpliced kind s s₁ book book' n call reply place first last) is spliced) s₂ (replaced_then kind s s₁ s₂ book book' number call reply place first last spliced mended) mended.lawful
     (ap (λ (x : Sheet). x.tree.rows) mended.rest) mended.reached in_call.in_flight mended.map replies
@@ -138,7 +138,7 @@ rows_stored kind s s₁ s₂ book book' number call reply place first last in_ca
 
 -- ---- by the end of all ranges
 
-clears : (kind : Kind) (s s' : Sheet) (book book' : Book) {first last : ℕ} → IsInCall kind s book → s.scans ≡ 0 → IsSpliced kind s s' book book' (s.ended + 1) Clear reply.Ok Root first last → book'.free ≡ book.free → s'.tree.root ≡ 0 → IsAnswered kind s s' book book' Clear reply.Ok
+clears : (kind : Kind) (s s' : Sheet) (book book' : Book) {first last : ℕ} → IsInCall kind s book → s.scans ≡ 0 → IsSpliced kind s s' book book' (s.ended + 1) Clear reply.Ok Root first last → book'.free ≡ book.free → s'.tree.root ≡ 0 → EndsAnswered kind s s' book book' Clear reply.Ok
 clears kind s s' book book' in_call unscanned spliced none_taken empty =
     at_once kind s s' book book' Clear reply.Ok unscanned refl (λ wants. wants) (λ replaces. replaces)
     (stored_by kind s s' book book' Clear reply.Ok Root in_call.state spliced s' spliced.rest (record { width = spliced.tree.width; words = inl empty }) refl (λ row. refl) in_call.in_flight refl refl
@@ -168,8 +168,8 @@ module _ (kind : Kind) (s s₁ : Sheet) (book : Book) (number : ℕ) (call : Cal
   pub may_clear_now : MayClear kind s₁ book number call reply.Ok
   may_clear_now = subst (λ (c : Call). MayClear kind s₁ book number c reply.Ok) (sym plan.0) (subst (λ (n : ℕ). MayClear kind s₁ book n Clear reply.Ok) (sym number_now) (may_clear_in kind s₁ book now some))
 
-  pub cleared_now : (s' : Sheet) (book' : Book) {first last : ℕ} → s.scans ≡ 0 → IsSpliced kind s₁ s' book book' number call reply.Ok Root first last → book'.free ≡ book.free → s'.tree.root ≡ 0 → IsAnswered kind s s' book book' call reply.Ok
+  pub cleared_now : (s' : Sheet) (book' : Book) {first last : ℕ} → s.scans ≡ 0 → IsSpliced kind s₁ s' book book' number call reply.Ok Root first last → book'.free ≡ book.free → s'.tree.root ≡ 0 → EndsAnswered kind s s' book book' call reply.Ok
   cleared_now s' book' {first = first} {last = last} unscanned spliced none_taken empty =
       let as_clear : IsSpliced kind s₁ s' book book' number Clear reply.Ok Root first last = subst (λ (c : Call). IsSpliced kind s₁ s' book book' number c reply.Ok Root first last) plan.0 spliced in
       let numbered : IsSpliced kind s₁ s' book book' (s₁.ended + 1) Clear reply.Ok Root first last = subst (λ (n : ℕ). IsSpliced kind s₁ s' book book' n Clear reply.Ok Root first last) number_now as_clear in
-      answered_after_reads kind s s₁ s' book book' call reply.Ok reads (subst (λ (c : Call). IsAnswered kind s₁ s' book book' c reply.Ok) (sym plan.0) (clears kind s₁ s' book book' now (unscanned_if_read s s₁ reads unscanned) numbered none_taken empty))
+      answered_after_reads kind s s₁ s' book book' call reply.Ok reads (subst (λ (c : Call). EndsAnswered kind s₁ s' book book' c reply.Ok) (sym plan.0) (clears kind s₁ s' book book' now (unscanned_if_read s s₁ reads unscanned) numbered none_taken empty))

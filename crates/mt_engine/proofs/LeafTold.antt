@@ -20,7 +20,7 @@ use Rattle.mt_rows.specs.Publish.{tree_on, IsTreeOf}
 use Rattle.mt_rows.specs.Replacement.{root_of}
 use Rattle.mt_rows.specs.Sheet.{Rooted, Sheet, word_at}
 use Rattle.mt_rows.proofs.Reached.{OnLevel, one_of_parts, on_level, on_level_law, one_place}
-use Rattle.mt_splice.specs.Splice.{TellsBelow, TellsAt}
+use Rattle.mt_splice.specs.Splice.{TellsBelow, TellsGapAt}
 use Rattle.mt_gap.specs.Mending.{IsAlong, IsToldWay}
 use Rattle.mt_gap.proofs.Mending.{child_tells}
 use Rattle.mt_engine.specs.Mends.{MayMendAt, WasWay, IsPlaceOfLeaf}
@@ -81,7 +81,7 @@ module _ (kind : Kind) (room : finds_room kind ≡ true) (now : Rooted) (tree : 
 
 -- ---- the way, where the place is the leaf's
 
-module _ (kind : Kind) (room : finds_room kind ≡ true) (was : Rooted) (s : Sheet) (place : Place) (path : List PathStep) (index gap : ℕ) (w : WasWay kind was s.tree place path index) (may : MayMendAt kind s index) (of_leaf : IsPlaceOfLeaf s.tree.table.width place path) (told : TellsAt kind s.tree place gap) where
+module _ (kind : Kind) (room : finds_room kind ≡ true) (was : Rooted) (s : Sheet) (place : Place) (path : List PathStep) (index gap : ℕ) (w : WasWay kind was s.tree place path index) (may : MayMendAt kind s index) (of_leaf : IsPlaceOfLeaf s.tree.table.width place path) (told : TellsGapAt kind s.tree place gap) where
   abbrev above : PathStep
   above = step_at path (length path - 2)
 
@@ -89,7 +89,7 @@ module _ (kind : Kind) (room : finds_room kind ≡ true) (was : Rooted) (s : She
   col = slot_column (slots_of s.tree.table.width Gapped) above.slot
 
   tells : TellsBelow kind s.tree (word_at s.tree above.row col) gap
-  tells = subst (λ (p : Place). TellsAt kind s.tree p gap) of_leaf.at told
+  tells = subst (λ (p : Place). TellsGapAt kind s.tree p gap) of_leaf.at told
 
   some : s.tree.root ≢ 0
   some empty =

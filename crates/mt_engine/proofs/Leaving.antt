@@ -11,10 +11,10 @@ use Rattle.mt_base.specs.Nodes.{Wants, IsRefused}
 use Rattle.mt_free.specs.Book.{Book, after_reclaim}
 use Rattle.mt_rows.specs.declared.rows.Scan.{Scan}
 use Rattle.mt_rows.specs.Sheet.{Sheet, IsScan, limits_of, one_more, scanned}
-use Rattle.mt_rows.specs.Publish.{MayFinish, IsFoundShort, IsCounted, finished, map_by, with_record}
-use Rattle.mt_engine.specs.Engine.{IsEngineState, IsIdle, IsInCall, IsEnded, IsAnswered}
+use Rattle.mt_rows.specs.Publish.{MayFinish, IsFoundShort, IsRealShortage, finished, map_by, with_record}
+use Rattle.mt_engine.specs.Engine.{IsEngineState, IsIdle, IsInCall, IsEnded, EndsAnswered}
 use Rattle.mt_engine.specs.Rooms.{IsScanned, IsShortOf}
-use Rattle.mt_engine.specs.Stores.{IsStored}
+use Rattle.mt_engine.specs.Stores.{IsDoneByStore}
 use Rattle.mt_engine.proofs.Scanned.{was_scanned, first_scan}
 
 -- the call's reply leaves the map
@@ -79,7 +79,7 @@ module _ (kind : Kind) (s : Sheet) (reads : Option ℕ) (scan : Scan) (scans cle
 
 -- ---- the map stays
 
-pub leaves : (kind : Kind) (s : Sheet) (book : Book) (call : Call) (reply : Reply) → IsInCall kind s book → s.scans ≡ 0 → StaysBy kind s call reply → (Wants kind (map_by s.tree) call → ⊥) → IsAnswered kind s s book book call reply
+pub leaves : (kind : Kind) (s : Sheet) (book : Book) (call : Call) (reply : Reply) → IsInCall kind s book → s.scans ≡ 0 → StaysBy kind s call reply → (Wants kind (map_by s.tree) call → ⊥) → EndsAnswered kind s s book book call reply
 leaves kind s book call reply is unscanned stays calm = record {
   may = may_end kind s s.reads s.scan s.scans s.cleared book call reply is (inl stays);
   ended = ends kind s s.reads s.scan s.scans s.cleared book call reply is (omega arith);
@@ -95,7 +95,7 @@ leaves kind s book call reply is unscanned stays calm = record {
 }
 
 -- the same of a store with rows at hand
-pub stays_stored : (kind : Kind) (s : Sheet) (book : Book) (call : Call) (reply : Reply) → IsInCall kind s book → StaysBy kind s call reply → IsStored kind s s book book call reply
+pub stays_stored : (kind : Kind) (s : Sheet) (book : Book) (call : Call) (reply : Reply) → IsInCall kind s book → StaysBy kind s call reply → IsDoneByStore kind s s book book call reply
 stays_stored kind s book call reply is stays = record {
   may = may_end kind s s.reads s.scan s.scans s.cleared book call reply is (inl stays);
   ended = ends kind s s.reads s.scan s.scans s.cleared book call reply is (omega arith);
@@ -106,7 +106,7 @@ stays_stored kind s book call reply is stays = record {
 
 -- ---- a scan found too few free rows
 
-counted_end : (s : Sheet) (call : Call) (reply : Reply) (shortage : Shortage) → IsCounted s shortage → IsCounted (finished s call reply) shortage
+counted_end : (s : Sheet) (call : Call) (reply : Reply) (shortage : Shortage) → IsRealShortage s shortage → IsRealShortage (finished s call reply) shortage
 counted_end s call reply shortage counted = record {
   need = counted.need;
   live = counted.live;
@@ -122,7 +122,7 @@ module _ (kind : Kind) (s : Sheet) (scan : Scan) (cleared : ℕ) (book next : Bo
   after = scanned s scan cleared
 
   refuses_by : s.scans ≡ 0 → IsInCall kind s book → IsScan s.shared s.told scan → s.cleared ≤ cleared → next ≡ after_reclaim book scan.least → IsEngineState kind after next → IsShortOf after next shortage → Wants kind (map_by s.tree) call
-      → IsAnswered kind s after book next call (NoNodes shortage)
+      → EndsAnswered kind s after book next call (NoNodes shortage)
   refuses_by unscanned is answers rises freed state short wants = record {
     may = may_end kind s s.reads scan (one_more s.scans) cleared next call (NoNodes shortage) now (inr (record { refused = refused; counted = short.counted; scanned = was_scanned s scan cleared }));
     ended = ends kind s s.reads scan (one_more s.scans) cleared next call (NoNodes shortage) now rises;
@@ -137,7 +137,7 @@ module _ (kind : Kind) (s : Sheet) (scan : Scan) (cleared : ℕ) (book next : Bo
       refused = record { shortage = shortage; told = refl; wants = wants; short = short.short }
 
 pub refuses : (kind : Kind) (s s' : Sheet) (book next : Book) (call : Call) (shortage : Shortage) → s.scans ≡ 0 → IsInCall kind s book → IsScanned kind s s' book next → IsShortOf s' next shortage → Wants kind (map_by s.tree) call
-    → IsAnswered kind s s' book next call (NoNodes shortage)
+    → EndsAnswered kind s s' book next call (NoNodes shortage)
 refuses kind s s' book next call shortage unscanned is found short wants =
-    subst (λ (x : Sheet). IsAnswered kind s x book next call (NoNodes shortage)) (sym found.rest)
+    subst (λ (x : Sheet). EndsAnswered kind s x book next call (NoNodes shortage)) (sym found.rest)
     (refuses_by kind s s'.scan s'.cleared book next call shortage unscanned is found.answer found.rises found.freed (subst (λ (x : Sheet). IsEngineState kind x next) found.rest found.state) (subst (λ (x : Sheet). IsShortOf x next shortage) found.rest short) wants)

@@ -24,7 +24,7 @@ use Rattle.mt_rows.proofs.Joins.{Shared, expand_shared, levels_shared, map_of_sh
 use Rattle.mt_rows.proofs.Lists.{levels_map}
 use Rattle.mt_rows.proofs.Reached as reached
 use Rattle.mt_splice.specs.Splice.{HasParents}
-use Rattle.mt_gap.specs.Mending.{KeepsWords, OnlyWords, IsAlong, IsWay}
+use Rattle.mt_gap.specs.Mending.{KeepsWordsBut, OnlyWords, IsAlong, IsWay}
 use Rattle.mt_engine.specs.Mends.{MayMendAt, IsMendedAt}
 use Rattle.mt_engine.proofs.OneWord.{parent_stays_in}
 
@@ -102,7 +102,7 @@ module _ (gapped : Bool) (r : Rooted) (words : List ℕ) where
     reach : (row : ℕ) → is_reached r' row ≡ is_reached r row
 
   -- no parent word is a gap word
-  parents_kept : (path : List PathStep) → KeepsWords r r' path → (row : ℕ) → column t'.table row 0 ≡ column t.table row 0
+  parents_kept : (path : List PathStep) → KeepsWordsBut r r' path → (row : ℕ) → column t'.table row 0 ≡ column t.table row 0
   parents_kept path keeps row = elim (keeps row 0 (some_columns r.table.width)) [
     | inl same ↦ same
     | inr gap ↦ absurd (let some = some_slots_of r.table.width Gapped in let is = gap.col_is in omega arith)
@@ -135,7 +135,7 @@ module _ (gapped : Bool) (r : Rooted) (words : List ℕ) where
         reach = λ row. ap (nat_lt 0) (reached.tally_reached t' h stands' row ∙ (times_shared (is_row_of row) t.table t'.table h root same ∙ sym (reached.tally_reached t h stands row)));
       }
 
-  same_by : (path : List PathStep) → HasParents t → HasGaps t' → KeepsWords r r' path → ((h : ℕ) → Stands t h → Levels (Shared t.table t'.table) t.table h root) → Same
+  same_by : (path : List PathStep) → HasParents t → HasGaps t' → KeepsWordsBut r r' path → ((h : ℕ) → Stands t h → Levels (Shared t.table t'.table) t.table h root) → Same
   same_by path (inl empty) gaps keeps spans = of_none empty
   same_by path (inr parents) (inl empty) keeps spans = of_none empty
   same_by path (inr (h, stands, one, parents)) (inr (h', stands', gaps)) keeps spans =
@@ -145,12 +145,12 @@ module _ (gapped : Bool) (r : Rooted) (words : List ℕ) where
 
 -- ---- of sheets
 
-mended_in : (kind : Kind) (s s' : Sheet) (path : List PathStep) (index : ℕ) → MayMendAt kind s index → OnlyWords s s' → HasGaps (tree_as kind s'.tree) → KeepsWords s.tree s'.tree path
+mended_in : (kind : Kind) (s s' : Sheet) (path : List PathStep) (index : ℕ) → MayMendAt kind s index → OnlyWords s s' → HasGaps (tree_as kind s'.tree) → KeepsWordsBut s.tree s'.tree path
     → ((h : ℕ) → Stands (tree_as kind s.tree) h → Levels (Shared s.tree.table s'.tree.table) s.tree.table h (root_of (tree_as kind s.tree))) → IsMendedAt kind s s'
 mended_in kind s s' path index may rest gaps keeps spans =
     let is : s'.tree ≡ r' (finds_room kind) s.tree s'.tree.table.words = ap (λ (x : Sheet). x.tree) rest in
     let same =
-    same_by (finds_room kind) s.tree s'.tree.table.words path may.parents (subst (λ (q : Rooted). HasGaps (tree_as kind q)) is gaps) (subst (λ (q : Rooted). KeepsWords s.tree q path) is keeps)
+    same_by (finds_room kind) s.tree s'.tree.table.words path may.parents (subst (λ (q : Rooted). HasGaps (tree_as kind q)) is gaps) (subst (λ (q : Rooted). KeepsWordsBut s.tree q path) is keeps)
     (λ h stands. subst (λ (q : Rooted). Levels (Shared s.tree.table q.table) s.tree.table h (root_of (tree_as kind s.tree))) is (spans h stands)) in
     record {
       rest = rest;
@@ -160,13 +160,13 @@ mended_in kind s s' path index may rest gaps keeps spans =
       reached = λ row. ap (λ (q : Rooted). is_reached q row) is ∙ same.reach row;
     }
 
-pub mended : (kind : Kind) (s s₁ s' : Sheet) (path : List PathStep) (index : ℕ) → MayMendAt kind s index → OnlyReads s s₁ → OnlyWords s₁ s' → HasGaps (tree_as kind s'.tree) → KeepsWords s₁.tree s'.tree path
+pub mended : (kind : Kind) (s s₁ s' : Sheet) (path : List PathStep) (index : ℕ) → MayMendAt kind s index → OnlyReads s s₁ → OnlyWords s₁ s' → HasGaps (tree_as kind s'.tree) → KeepsWordsBut s₁.tree s'.tree path
     → ((h : ℕ) → Stands (tree_as kind s₁.tree) h → Levels (Shared s₁.tree.table s'.tree.table) s₁.tree.table h (root_of (tree_as kind s₁.tree))) → IsMendedAt kind s s'
 mended kind s s₁ s' path index may reads rest gaps keeps spans =
     let tree : s₁.tree ≡ s.tree = ap (λ (x : Sheet). x.tree) reads in
     mended_in kind s s' path index may
     (rest ∙ ap (λ (x : Sheet). record x { tree = record { rows = x.tree.rows; table = record { width = x.tree.table.width; words = s'.tree.table.words }; root = x.tree.root }; reads = s'.reads }) reads) gaps
-    (subst (λ (q : Rooted). KeepsWords q s'.tree path) tree keeps)
+    (subst (λ (q : Rooted). KeepsWordsBut q s'.tree path) tree keeps)
     (subst (λ (q : Rooted). (h : ℕ) → Stands (tree_as kind q) h → Levels (Shared q.table s'.tree.table) q.table h (root_of (tree_as kind q))) tree spans)
 
 -- ---- after reads

@@ -7,9 +7,9 @@ use Rattle.mt_base.specs.Nodes.{IsMade, one_call_more}
 use Rattle.mt_base.specs.declared.replies.Shortage.{Shortage}
 use Rattle.mt_free.specs.Book.{Book}
 use Rattle.mt_rows.specs.Laws.{Tree, IsLawful, IsTree}
-use Rattle.mt_rows.specs.Publish.{IsLawfulOf, IsTreeOf, tree_as, map_by, finished, IsCounted}
+use Rattle.mt_rows.specs.Publish.{IsLawfulOf, IsTreeOf, tree_as, map_by, finished, IsRealShortage}
 use Rattle.mt_rows.specs.Sheet.{Rooted, Sheet, OnlyReads, begun, limits_of}
-use Rattle.mt_engine.specs.Engine.{IsIdle, IsInCall, IsDone, IsShortFor, IsEnded, DidOrLacked, IsApplied, IsAnswered, OnlySearches, OnlySought, StoresExactly}
+use Rattle.mt_engine.specs.Engine.{IsIdle, IsInCall, IsCarriedOut, IsShortFor, IsEnded, DidOrLacked, IsApplied, EndsAnswered, OnlySearches, OnlySought, StoresExactly}
 
 -- ---- the state
 
@@ -44,7 +44,7 @@ module _ (kind : Kind) (s s' : Sheet) (book book' : Book) (call : Call) (reply :
   abbrev later : Sheet
   later = record s' { reads = reads' }
 
-  done_from : IsDone kind was s' book book' call reply → IsDone kind s later book book' call reply
+  done_from : IsCarriedOut kind was s' book book' call reply → IsCarriedOut kind s later book book' call reply
   done_from done = record {
     acts = done.acts;
     kept = done.kept;
@@ -53,7 +53,7 @@ module _ (kind : Kind) (s s' : Sheet) (book book' : Book) (call : Call) (reply :
     calm = done.calm;
   }
 
-  counted_from : (short : Shortage) → IsCounted s' short → IsCounted later short
+  counted_from : (short : Shortage) → IsRealShortage s' short → IsRealShortage later short
   counted_from short is = record { need = is.need; live = is.live; rows = is.rows; many = is.many; apart = is.apart; held = is.held; by = is.by }
 
   short_from : IsShortFor kind was s' book book' call reply → IsShortFor kind s later book book' call reply
@@ -62,7 +62,7 @@ module _ (kind : Kind) (s s' : Sheet) (book book' : Book) (call : Call) (reply :
   pub answer_from : DidOrLacked kind was s' book book' call reply → DidOrLacked kind s later book book' call reply
   answer_from answer =
       ⊎_elim
-      (λ (done : IsDone kind was s' book book' call reply). inl (done_from done))
+      (λ (done : IsCarriedOut kind was s' book book' call reply). inl (done_from done))
       (λ (short : IsShortFor kind was s' book book' call reply × (s'.tree ≡ s.tree)). inr (short_from short.0, short.1)) answer
 
   pub ended_from : IsEnded kind was s' book' call reply → IsEnded kind s later book' call reply
@@ -78,7 +78,7 @@ module _ (kind : Kind) (s s' : Sheet) (book book' : Book) (call : Call) (reply :
   }
 
 -- where rows were only read before
-pub answered_after_reads : (kind : Kind) (s s₁ s' : Sheet) (book book' : Book) (call : Call) (reply : Reply) → OnlyReads s s₁ → IsAnswered kind s₁ s' book book' call reply → IsAnswered kind s s' book book' call reply
+pub answered_after_reads : (kind : Kind) (s s₁ s' : Sheet) (book book' : Book) (call : Call) (reply : Reply) → OnlyReads s s₁ → EndsAnswered kind s₁ s' book book' call reply → EndsAnswered kind s s' book book' call reply
 answered_after_reads kind s s₁ s' book book' call reply reads answered = record {
   may = answered.may;
   ended =
@@ -91,7 +91,7 @@ answered_after_reads kind s s₁ s' book book' call reply reads answered = recor
 }
 
 -- the end of a call
-pub applied_by : (kind : Kind) (s s₁ s' s″ : Sheet) (book book' : Book) (call : Call) (reply : Reply) → s₁ ≡ begun s → IsAnswered kind s₁ s' book book' call reply → (OnlySearches call reply → OnlySought s₁ s' book book') → StoresExactly s₁ s' book book' call reply → s″ ≡ finished s' call reply → IsApplied kind s s″ book book' call reply
+pub applied_by : (kind : Kind) (s s₁ s' s″ : Sheet) (book book' : Book) (call : Call) (reply : Reply) → s₁ ≡ begun s → EndsAnswered kind s₁ s' book book' call reply → (OnlySearches call reply → OnlySought s₁ s' book book') → StoresExactly s₁ s' book book' call reply → s″ ≡ finished s' call reply → IsApplied kind s s″ book book' call reply
 applied_by kind s s₁ s' s″ book book' call reply begins answered search exact ends =
     subst (λ (x : Sheet). IsApplied kind s x book book' call reply) (sym ends) (record {
       ended =
@@ -110,7 +110,7 @@ applied_by kind s s₁ s' s″ book book' call reply begins answered search exac
 pub made_by : (kind : Kind) (s s' : Sheet) (book book' : Book) (call : Call) (reply : Reply) → IsApplied kind s s' book book' call reply → IsMade kind (Some (limits_of s)) (map_by s.tree) call (map_by s'.tree) reply
 made_by kind s s' book book' call reply applied =
     ⊎_elim
-    (λ (done : IsDone kind s s' book book' call reply). inl done.acts)
+    (λ (done : IsCarriedOut kind s s' book book' call reply). inl done.acts)
     (λ (short : IsShortFor kind s s' book book' call reply × (s'.tree ≡ s.tree)). inr (short.0.refused, ap (λ (t : Rooted). map_by t) short.1)) applied.answer
 
 pub limits_by : (kind : Kind) (s s' : Sheet) (book book' : Book) (call : Call) (reply : Reply) → IsApplied kind s s' book book' call reply → Some (limits_of s') ≡ one_call_more (Some (limits_of s))

@@ -46,11 +46,11 @@ use Rattle.mt_path.specs.Handles.{IsHandleOf, handle_in}
 use Rattle.mt_path.specs.Paths.{slot_for, below, step_in}
 use Rattle.mt_path.proofs.Places.{at_get}
 use Rattle.mt_path.proofs.TreePaths.{row_of, place, holds}
-use Rattle.mt_splice.specs.Kept.{IsBookOf, IsSpare}
+use Rattle.mt_splice.specs.Kept.{IsBookOf, IsUnheld}
 use Rattle.mt_splice.specs.Splice.{IsStoreBy}
 use Rattle.mt_engine.specs.Heights.{SameHeight}
 use Rattle.mt_engine.specs.Engine.{ChangesEntry, IsInCall, IsIdle}
-use Rattle.mt_engine.specs.Stores.{IsStored}
+use Rattle.mt_engine.specs.Stores.{IsDoneByStore}
 use Rattle.mt_engine.proofs.GapsStay.{SameGaps, gaps_stay, no_gaps_in_leaves}
 use Rattle.mt_engine.proofs.Slots.{end_is, slot_holds}
 use Rattle.mt_engine.proofs.AfterSplice.{stored_as}
@@ -266,7 +266,7 @@ module _ (kind : Kind) (s : Sheet) (book : Book) (after : Rooted) (lives : List 
         rows = was.rows ∙ sym rows;
         out = λ row low high out. reached_same row ∙ was.out row low (subst (λ (n : ℕ). row < first_row + n) rows high) out;
         reached = λ row is. was.reached row (sym (reached_same row) ∙ is);
-        spare = all_with (IsRowOf book) (λ row. IsSpare s.cleared (life_of s.lives row)) (λ row. IsSpare s.cleared (life_of lives row)) (λ row is spare. subst (IsSpare s.cleared) (sym (same_of_book row is)) spare) book.free was.sound.free_rows was.spare;
+        spare = all_with (IsRowOf book) (λ row. IsUnheld s.cleared (life_of s.lives row)) (λ row. IsUnheld s.cleared (life_of lives row)) (λ row is spare. subst (IsUnheld s.cleared) (sym (same_of_book row is)) spare) book.free was.sound.free_rows was.spare;
         stamps = All-weaker (λ (h : Held). h.stamp < s.ended + 1) (λ (h : Held). h.stamp < s.ended + 1 + 1) (λ h below. omega arith) book.held was.stamps;
       }
 
@@ -291,7 +291,7 @@ module _ (kind : Kind) (s : Sheet) (book : Book) (after : Rooted) (lives : List 
         };
       }
 
-  pub is_stored : IsStored kind s later book book call reply
+  pub is_stored : IsDoneByStore kind s later book book call reply
   is_stored =
       stored_as kind s after lives buried s.reads book book call reply in_call.in_flight rested rows acts
       (record { taken = []; free_were = sym (append-nil book.free); few = omega arith; none = λ _. refl })
@@ -337,14 +337,14 @@ module _ (kind : Kind) (s : Sheet) (book : Book) (handle : Handle) (entry : ℕ)
   pub may_publish_entry : MayPublish kind s (Slot handle.leaf.row (slot_column (slots_of s.tree.table.width Leaf) handle.leaf.slot)) entry call reply
   may_publish_entry = subst (λ (p : Place). MayPublish kind s p entry call reply) (sym place_is) may_there
 
-  stored_there : (s' : Sheet) → Published s s' (where_published kind s stood.0 is.index entry whole stood.1 is.within) entry call reply → IsStored kind s s' book book call reply
+  stored_there : (s' : Sheet) → Published s s' (where_published kind s stood.0 is.index entry whole stood.1 is.within) entry call reply → IsDoneByStore kind s s' book book call reply
   stored_there s' done =
-      subst (λ (x : Sheet). IsStored kind s x book book call reply) (sym done.rest)
+      subst (λ (x : Sheet). IsDoneByStore kind s x book book call reply) (sym done.rest)
       (is_stored kind s book (written kind s stood.0 is.index entry whole stood.1 is.within) s'.lives s'.buried call reply in_call refl
       (reached_stay kind s stood.0 is.index entry whole stood.1 is.within full new stores.lawful) done.lives done.buried refl
       (lawful_after kind s stood.0 is.index entry whole stood.1 is.within full new stores.lawful stood.2 stood.3) may_there.answer)
 
-  pub entry_stored : (s' : Sheet) → Published s s' (Slot handle.leaf.row (slot_column (slots_of s.tree.table.width Leaf) handle.leaf.slot)) entry call reply → IsStored kind s s' book book call reply
+  pub entry_stored : (s' : Sheet) → Published s s' (Slot handle.leaf.row (slot_column (slots_of s.tree.table.width Leaf) handle.leaf.slot)) entry call reply → IsDoneByStore kind s s' book book call reply
   entry_stored s' done = stored_there s' (subst (λ (p : Place). Published s s' p entry call reply) place_is done)
 
   height_there : (s' : Sheet) → Published s s' (where_published kind s stood.0 is.index entry whole stood.1 is.within) entry call reply → SameHeight s.tree s'.tree

@@ -28,7 +28,7 @@ use Rattle.mt_engine.specs.Engine.{is_refusal}
 use Rattle.mt_engine.specs.Here.{IsHereAt}
 use Rattle.mt_engine.specs.MapSpans.{range_of, IsSpanAt}
 use Rattle.mt_engine.specs.Nearest.{nearest_from}
-use Rattle.mt_engine.specs.Plans.{IsMet, IsStorePlan, is_taken}
+use Rattle.mt_engine.specs.Plans.{IsMet, IsStorePlan, is_range_met}
 use Rattle.mt_engine.specs.StoreBy.{IsDoneBy}
 use Rattle.mt_engine.specs.declared.store_by.StoreBy.{StoreBy}
 use Rattle.mt_engine.specs.declared.store_by.Write.{Write}
@@ -90,7 +90,7 @@ module _ (t : Rooted) (kind : Kind) (tree : IsTreeOf t kind) where
 
   module _ (first last : ℕ) (order : first ≤ last) (within : last ≤ top) where
     -- a range holds an index of the store's where one stands in the slot of the first, or right behind a hole there
-    pub taken_is : (here : Option Handle) → IsHereAt t first here → is_held m first last ≡ is_taken here last
+    pub taken_is : (here : Option Handle) → IsHereAt t first here → is_held m first last ≡ is_range_met here last
     taken_is None stands = ap (λ (l : List Range). is_held l first last) (none_at_root t (stands.none.0 refl))
     taken_is (Some handle) stands =
         let at = span_at_handle first handle (omega arith) stands in
@@ -107,17 +107,17 @@ module _ (t : Rooted) (kind : Kind) (tree : IsTreeOf t kind) where
               ])
         ]
 
-    met_where_taken : (here : Option Handle) → IsHereAt t first here → is_some (first_met m first last) ≡ is_taken here last
+    met_where_taken : (here : Option Handle) → IsHereAt t first here → is_some (first_met m first last) ≡ is_range_met here last
     met_where_taken here stands = sym (is_held_where_met m first last) ∙ taken_is here stands
 
-    pub met_none : (here : Option Handle) → IsHereAt t first here → is_taken here last ≡ false → None ≡ first_met m first last
+    pub met_none : (here : Option Handle) → IsHereAt t first here → is_range_met here last ≡ false → None ≡ first_met m first last
     met_none here stands free = none_met (first_met m first last) (met_where_taken here stands ∙ free)
       where
         none_met : (o : Option Range) → is_some o ≡ false → None ≡ o
         none_met None none = refl
         none_met (Some r) none = absurd (cc)
 
-    pub met_nearest : (here : Option Handle) (handle : Handle) (found : Option Range) → here ≡ Some handle → IsHereAt t first here → is_taken here last ≡ true → IsNearest nearest_from t handle found → found ≡ first_met m first last
+    pub met_nearest : (here : Option Handle) (handle : Handle) (found : Option Range) → here ≡ Some handle → IsHereAt t first here → is_range_met here last ≡ true → IsNearest nearest_from t handle found → found ≡ first_met m first last
     met_nearest here handle found some stands taken known =
         let at : handle ≡ handle_in t first = subst (λ (o : Option Handle). IfSome o (λ h. h ≡ handle_in t first)) some stands.some in
         let met : first_met m first last ≡ up_to last found = first_from_place m first last rise ∙ ap (up_to last) (sym (known first (omega arith) at)) in
@@ -164,12 +164,12 @@ module _ (t : Rooted) (kind : Kind) (tree : IsTreeOf t kind) where
     good : entry ≢ 0 → (is_invalid kind first last entry || (entry == 0)) ≡ false
     good some = rw (valid, ne_eqb entry 0 some) refl
 
-    pub insert_exists : (here : Option Handle) → entry ≢ 0 → IsHereAt t first here → is_taken here last ≡ true → ComesToNothing kind m (Insert first last entry) reply.Exists
+    pub insert_exists : (here : Option Handle) → entry ≢ 0 → IsHereAt t first here → is_range_met here last ≡ true → ComesToNothing kind m (Insert first last entry) reply.Exists
     insert_exists here some stands taken =
         let acts : acted kind m (Insert first last entry) ≡ (m, reply.Exists) = rw (good some, taken_is first last order within here stands ∙ taken) refl in
         (acts, stays_replaces_none kind m (Insert first last entry) reply.Exists acts)
 
-    pub insert_plan : {path : List PathStep} {here : Option Handle} {by : StoreBy} → entry ≢ 0 → path ≡ path_in t.table t.root first → IsHereAt t first here → IsDoneBy here first last entry by → is_taken here last ≡ false → IsStorePlan kind t (Insert first last entry) path (written by) reply.Ok
+    pub insert_plan : {path : List PathStep} {here : Option Handle} {by : StoreBy} → entry ≢ 0 → path ≡ path_in t.table t.root first → IsHereAt t first here → IsDoneBy here first last entry by → is_range_met here last ≡ false → IsStorePlan kind t (Insert first last entry) path (written by) reply.Ok
     insert_plan {here = here} some way stands done free = record {
       store = record { acts = rw (good some, taken_is first last order within here stands ∙ free) refl; order = order; within = within; lawful = valid_entry kind first last entry valid };
       own = (refl, refl, refl);

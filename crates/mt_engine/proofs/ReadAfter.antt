@@ -8,13 +8,13 @@ use Rattle.mt_base.specs.declared.replies.Shortage.{Shortage}
 use Rattle.mt_base.specs.Call.{acted}
 use Rattle.mt_base.specs.Nodes.{is_exact_store}
 use Rattle.mt_free.specs.Book.{Book}
-use Rattle.mt_rows.specs.Publish.{MayFinish, IsCounted, IsFoundShort, map_by, finished}
+use Rattle.mt_rows.specs.Publish.{MayFinish, IsRealShortage, IsFoundShort, map_by, finished}
 use Rattle.mt_rows.specs.Sheet.{Rooted, Sheet, OnlyReads, begun}
-use Rattle.mt_engine.specs.Engine.{ChangesEntry, StoresExactly, IsDone, IsShortFor, IsEnded, DidOrLacked, IsAnswered, is_refusal}
+use Rattle.mt_engine.specs.Engine.{ChangesEntry, StoresExactly, IsCarriedOut, IsShortFor, IsEnded, DidOrLacked, EndsAnswered, is_refusal}
 use Rattle.mt_engine.specs.Heights.{HasHeight, IsMeasured}
 use Rattle.mt_engine.specs.Plans.{IsStoreOf}
 use Rattle.mt_engine.specs.Prepared.{IsPrestored}
-use Rattle.mt_engine.specs.Stores.{IsStored}
+use Rattle.mt_engine.specs.Stores.{IsDoneByStore}
 use Rattle.mt_engine.proofs.Moments.{ended_from, answer_from}
 
 -- ---- read at the end
@@ -23,7 +23,7 @@ module _ (kind : Kind) (s s' : Sheet) (reads : Option ℕ) (book book' : Book) (
   abbrev read : Sheet
   read = record s' { reads = reads }
 
-  counted_read : (short : Shortage) → IsCounted s' short → IsCounted read short
+  counted_read : (short : Shortage) → IsRealShortage s' short → IsRealShortage read short
   counted_read short is = record { need = is.need; live = is.live; rows = is.rows; many = is.many; apart = is.apart; held = is.held; by = is.by }
 
   short_read : IsFoundShort kind s' call reply → IsFoundShort kind read call reply
@@ -51,10 +51,10 @@ module _ (kind : Kind) (s s' : Sheet) (reads : Option ℕ) (book book' : Book) (
   answer_read : DidOrLacked kind s (finished s' call reply) book book' call reply → DidOrLacked kind s (finished read call reply) book book' call reply
   answer_read = answer_from kind s (finished s' call reply) book book' call reply s.in_flight s.published s.scans s.reads reads
 
-  answered_read : IsAnswered kind s s' book book' call reply → IsAnswered kind s read book book' call reply
+  answered_read : EndsAnswered kind s s' book book' call reply → EndsAnswered kind s read book book' call reply
   answered_read is = record { may = may_read is.may; ended = ended_read is.ended; scans = is.scans; answer = answer_read is.answer }
 
-  stored_read : IsStored kind s s' book book' call reply → IsStored kind s read book book' call reply
+  stored_read : IsDoneByStore kind s s' book book' call reply → IsDoneByStore kind s read book book' call reply
   stored_read is = record {
     may = may_read is.may;
     ended = ended_read is.ended;
@@ -63,17 +63,17 @@ module _ (kind : Kind) (s s' : Sheet) (reads : Option ℕ) (book book' : Book) (
     took = is.took;
   }
 
-pub answered_before_reads : (kind : Kind) (s s' s″ : Sheet) (book book' : Book) (call : Call) (reply : Reply) → OnlyReads s' s″ → IsAnswered kind s s' book book' call reply → IsAnswered kind s s″ book book' call reply
-answered_before_reads kind s s' s″ book book' call reply reads is = subst (λ (x : Sheet). IsAnswered kind s x book book' call reply) (sym reads) (answered_read kind s s' s″.reads book book' call reply is)
+pub answered_before_reads : (kind : Kind) (s s' s″ : Sheet) (book book' : Book) (call : Call) (reply : Reply) → OnlyReads s' s″ → EndsAnswered kind s s' book book' call reply → EndsAnswered kind s s″ book book' call reply
+answered_before_reads kind s s' s″ book book' call reply reads is = subst (λ (x : Sheet). EndsAnswered kind s x book book' call reply) (sym reads) (answered_read kind s s' s″.reads book book' call reply is)
 
-pub stored_before_reads : (kind : Kind) (s s' s″ : Sheet) (book book' : Book) (call : Call) (reply : Reply) → OnlyReads s' s″ → IsStored kind s s' book book' call reply → IsStored kind s s″ book book' call reply
-stored_before_reads kind s s' s″ book book' call reply reads is = subst (λ (x : Sheet). IsStored kind s x book book' call reply) (sym reads) (stored_read kind s s' s″.reads book book' call reply is)
+pub stored_before_reads : (kind : Kind) (s s' s″ : Sheet) (book book' : Book) (call : Call) (reply : Reply) → OnlyReads s' s″ → IsDoneByStore kind s s' book book' call reply → IsDoneByStore kind s s″ book book' call reply
+stored_before_reads kind s s' s″ book book' call reply reads is = subst (λ (x : Sheet). IsDoneByStore kind s x book book' call reply) (sym reads) (stored_read kind s s' s″.reads book book' call reply is)
 
 -- a call that is refused leaves the words
 pub refusal_stays : (kind : Kind) (s s' : Sheet) (book book' : Book) (call : Call) (reply : Reply) → is_refusal reply ≡ true → DidOrLacked kind s (finished s' call reply) book book' call reply → s'.tree ≡ s.tree
 refusal_stays kind s s' book book' call reply refused answer =
     ⊎_elim
-    (λ (done : IsDone kind s (finished s' call reply) book book' call reply). done.kept refused)
+    (λ (done : IsCarriedOut kind s (finished s' call reply) book book' call reply). done.kept refused)
     (λ (short : IsShortFor kind s (finished s' call reply) book book' call reply × (s'.tree ≡ s.tree)). short.1) answer
 
 -- ---- read at the begin
@@ -82,7 +82,7 @@ module _ (kind : Kind) (s s' : Sheet) (reads : Option ℕ) (book book' : Book) (
   abbrev was : Sheet
   was = record s { reads = reads }
 
-  stored_was : IsStored kind was s' book book' call reply → IsStored kind s s' book book' call reply
+  stored_was : IsDoneByStore kind was s' book book' call reply → IsDoneByStore kind s s' book book' call reply
   stored_was is = record {
     may = is.may;
     ended = ended_from kind s (finished s' call reply) book book' call reply s.in_flight s.published s.scans reads s'.reads is.ended;
@@ -91,8 +91,8 @@ module _ (kind : Kind) (s s' : Sheet) (reads : Option ℕ) (book book' : Book) (
     took = record { taken = is.took.taken; free_were = is.took.free_were; few = is.took.few; none = is.took.none };
   }
 
-pub stored_after_reads : (kind : Kind) (s s₁ s' : Sheet) (book book' : Book) (call : Call) (reply : Reply) → OnlyReads s s₁ → IsStored kind s₁ s' book book' call reply → IsStored kind s s' book book' call reply
-stored_after_reads kind s s₁ s' book book' call reply reads is = stored_was kind s s' s₁.reads book book' call reply (subst (λ (x : Sheet). IsStored kind x s' book book' call reply) reads is)
+pub stored_after_reads : (kind : Kind) (s s₁ s' : Sheet) (book book' : Book) (call : Call) (reply : Reply) → OnlyReads s s₁ → IsDoneByStore kind s₁ s' book book' call reply → IsDoneByStore kind s s' book book' call reply
+stored_after_reads kind s s₁ s' book book' call reply reads is = stored_was kind s s' s₁.reads book book' call reply (subst (λ (x : Sheet). IsDoneByStore kind x s' book book' call reply) reads is)
 
 -- ---- a store over just one range, which is the plan's
 
@@ -110,7 +110,7 @@ stores_exactly s s₁ s₂ s' book book' call reply first last entry before afte
 -- ---- from the begin of a call to its end
 
 module _ (kind : Kind) (s s' : Sheet) (book book' : Book) (call : Call) (reply : Reply) where
-  prestored_from : IsStored kind (begun s) s' book book' call reply → (is_refusal reply ≡ true → s'.tree ≡ s.tree) → IsPrestored kind s (finished s' call reply) book book' call reply
+  prestored_from : IsDoneByStore kind (begun s) s' book book' call reply → (is_refusal reply ≡ true → s'.tree ≡ s.tree) → IsPrestored kind s (finished s' call reply) book book' call reply
   prestored_from is kept = record {
     ended = ended_from kind s (finished s' call reply) book book' call reply (begun s).in_flight (begun s).published (begun s).scans s.reads s'.reads is.ended;
     acts = is.acts;
@@ -120,10 +120,10 @@ module _ (kind : Kind) (s s' : Sheet) (book book' : Book) (call : Call) (reply :
     took = record { taken = is.took.taken; free_were = is.took.free_were; few = is.took.few; none = is.took.none };
   }
 
-pub prestored_by : (kind : Kind) (s s₁ s' s″ : Sheet) (book book' : Book) (call : Call) (reply : Reply) → s₁ ≡ begun s → IsStored kind s₁ s' book book' call reply → (is_refusal reply ≡ true → s'.tree ≡ s₁.tree) → s″ ≡ finished s' call reply → IsPrestored kind s s″ book book' call reply
+pub prestored_by : (kind : Kind) (s s₁ s' s″ : Sheet) (book book' : Book) (call : Call) (reply : Reply) → s₁ ≡ begun s → IsDoneByStore kind s₁ s' book book' call reply → (is_refusal reply ≡ true → s'.tree ≡ s₁.tree) → s″ ≡ finished s' call reply → IsPrestored kind s s″ book book' call reply
 prestored_by kind s s₁ s' s″ book book' call reply begins is kept ends =
     subst (λ (x : Sheet). IsPrestored kind s x book book' call reply) (sym ends)
-    (prestored_from kind s s' book book' call reply (subst (λ (x : Sheet). IsStored kind x s' book book' call reply) begins is) (λ refused. kept refused ∙ ap (λ (x : Sheet). x.tree) begins))
+    (prestored_from kind s s' book book' call reply (subst (λ (x : Sheet). IsDoneByStore kind x s' book book' call reply) begins is) (λ refused. kept refused ∙ ap (λ (x : Sheet). x.tree) begins))
 
 -- the height at the end of a call
 pub measured_end : (kind : Kind) (s s' s″ : Sheet) (book' : Book) (call : Call) (reply : Reply) (height : ℕ) → IsEnded kind s s″ book' call reply → HasHeight s'.tree height → s″ ≡ finished s' call reply → IsMeasured kind s″ book' height

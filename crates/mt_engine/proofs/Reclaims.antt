@@ -4,12 +4,12 @@ use Rattle.std.specs.Prelude.{min}
 use Rattle.std.specs.List.{All}
 use Rattle.std.proofs.lemmas.Bool.{cases_Bool, leb-true, leb-false, ltb-true}
 use Rattle.std.proofs.lemmas.List.Elements.{All-head, All-tail, All-push, All-weaker, Contains-append_left, Contains-append_right, Contains-append_cases, filter_passes}
-use Rattle.mt_free.specs.Book.{Held, Book, IsBook, IsOut, kept, after_reclaim}
+use Rattle.mt_free.specs.Book.{Held, Book, IsBook, IsOut, still_held, after_reclaim}
 use Rattle.mt_free.proofs.Books.{book, reclaim_leaves_book, first_due, none_due}
 use Rattle.mt_rows.specs.declared.rows.Life.{Life}
 use Rattle.mt_rows.specs.declared.rows.Life.TheVariants.{New, Draft, Live, Dead}
 use Rattle.mt_rows.specs.Sheet.{life_of}
-use Rattle.mt_splice.specs.Kept.{IsSpare}
+use Rattle.mt_splice.specs.Kept.{IsUnheld}
 
 -- the held row died by the call that the book tells, which has ended
 pub record DiedBy (lives : List Life) (all : ℕ) (h : Held) : Type 0 where
@@ -23,10 +23,10 @@ pub record Freed (lives : List Life) (all cleared : ℕ) (was b : Book) : Type 0
   pub counted : length b.free + length b.held ≡ length was.free + length was.held
   pub fewer : length b.held ≤ length was.held
   pub out : (row : ℕ) → IsOut b row → IsOut was row
-  pub spare : All (λ row. IsSpare cleared (life_of lives row)) b.free
+  pub spare : All (λ row. IsUnheld cleared (life_of lives row)) b.free
   pub dead : All (DiedBy lives all) b.held
 
-pub spare_rises : (was cleared : ℕ) (life : Life) → was ≤ cleared → IsSpare was life → IsSpare cleared life
+pub spare_rises : (was cleared : ℕ) (life : Life) → was ≤ cleared → IsUnheld was life → IsUnheld cleared life
 spare_rises was cleared New rises spare = tt
 spare_rises was cleared Draft rises spare = spare
 spare_rises was cleared Live rises spare = spare
@@ -52,7 +52,7 @@ module _ (lives : List Life) (all cleared least : ℕ) (reach : min least all �
         counted = omega (arith, k.counted, length-append free (h.row ∷ []));
         fewer = (let more = k.fewer in omega arith);
         out = λ row out. k.out row (out_before rows free h held row out);
-        spare = All-push (λ row. IsSpare cleared (life_of lives row)) free h.row k.spare (subst (λ (l : Life). IsSpare cleared l) (sym first.dead) (let ended = first.ended in omega (arith, ended, due, reach)));
+        spare = All-push (λ row. IsUnheld cleared (life_of lives row)) free h.row k.spare (subst (λ (l : Life). IsUnheld cleared l) (sym first.dead) (let ended = first.ended in omega (arith, ended, due, reach)));
         dead = All-tail (DiedBy lives all) h held k.dead;
       }
 
@@ -71,5 +71,5 @@ module _ (lives : List Life) (all cleared least : ℕ) (reach : min least all �
   reclaimed k = by_recursion was.rows was.free was.held k
 
 -- the held rows left were replaced later
-pub left_later : (least : ℕ) (held : List Held) → All (λ (h : Held). least < h.stamp) (kept least held)
-left_later least held = All-weaker (λ (h : Held). nat_lt least h.stamp ≡ true) (λ (h : Held). least < h.stamp) (λ h is. ltb-true least h.stamp is) (kept least held) (filter_passes (λ (h : Held). nat_lt least h.stamp) held)
+pub left_later : (least : ℕ) (held : List Held) → All (λ (h : Held). least < h.stamp) (still_held least held)
+left_later least held = All-weaker (λ (h : Held). nat_lt least h.stamp ≡ true) (λ (h : Held). least < h.stamp) (λ h is. ltb-true least h.stamp is) (still_held least held) (filter_passes (λ (h : Held). nat_lt least h.stamp) held)

@@ -8,7 +8,7 @@ use Rattle.mt_free.proofs.StillOut.{out_after_reclaim}
 use Rattle.mt_rows.specs.declared.rows.Scan.{Scan}
 use Rattle.mt_rows.specs.Sheet.{Sheet, IsScan, life_of, scanned}
 use Rattle.mt_rows.specs.Publish.{WasScanned}
-use Rattle.mt_splice.specs.Kept.{IsBookOf, IsSpare}
+use Rattle.mt_splice.specs.Kept.{IsBookOf, IsUnheld}
 use Rattle.mt_engine.specs.Engine.{IsEngineState}
 use Rattle.mt_engine.specs.Rooms.{IsScanned}
 use Rattle.mt_engine.proofs.Reclaims.{Freed, spare_rises, reclaimed}
@@ -35,7 +35,7 @@ module _ (kind : Kind) (s : Sheet) (answer : Scan) (cleared : ℕ) (book : Book)
     counted = refl;
     fewer = omega arith;
     out = λ row out. out;
-    spare = All-weaker (λ row. IsSpare s.cleared (life_of s.lives row)) (λ row. IsSpare cleared (life_of s.lives row)) (λ row spare. spare_rises s.cleared cleared (life_of s.lives row) rises spare) book.free is.kept.booked.spare;
+    spare = All-weaker (λ row. IsUnheld s.cleared (life_of s.lives row)) (λ row. IsUnheld cleared (life_of s.lives row)) (λ row spare. spare_rises s.cleared cleared (life_of s.lives row) rises spare) book.free is.kept.booked.spare;
     dead = λ k d within. record { dead = is.held k d within; ended = (let below = is.kept.booked.stamps k d within in omega (arith, below)) };
   }
 

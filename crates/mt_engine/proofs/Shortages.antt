@@ -14,7 +14,7 @@ use Rattle.mt_free.specs.Book.{Held, Book, held_rows}
 use Rattle.mt_rows.specs.declared.rows.Scan.{Scan}
 use Rattle.mt_rows.specs.Trees.{reached_in, height_in}
 use Rattle.mt_rows.specs.Sheet.{Told, Sheet, IsScan, scanned, limits_of}
-use Rattle.mt_rows.specs.Publish.{IsHeldBack, IsCounted, map_by}
+use Rattle.mt_rows.specs.Publish.{IsHeldBack, IsRealShortage, map_by}
 use Rattle.mt_splice.proofs.LiveRows.{live_is_reached}
 use Rattle.mt_engine.specs.Engine.{IsEngineState, TellsBook}
 use Rattle.mt_engine.specs.Rooms.{IsScanned, IsShortOf}
@@ -109,7 +109,7 @@ module _ (kind : Kind) (s : Sheet) (book : Book) (shortage : Shortage) (is : IsE
   held_back : All (λ (h : Held). IsHeldBack s.lives s.scan.least h.row) book.held
   held_back = λ k d within. record { call = (get_or book.held k d).stamp; dead = is.held k d within; after = later k d within }
 
-  counted : IsCounted s shortage
+  counted : IsRealShortage s shortage
   counted = record {
     need = need;
     live = live;

@@ -20,8 +20,8 @@ use Rattle.mt_rows.specs.declared.rows.Life.{Life}
 use Rattle.mt_rows.specs.declared.rows.Life.TheVariants.{Dead}
 use Rattle.mt_rows.specs.Trees.{height_in}
 use Rattle.mt_rows.specs.Sheet.{Rooted, Sheet, IsScan, RoseUpTo, life_of, limits_of, with_word}
-use Rattle.mt_rows.specs.Publish.{IsTold, MayFinish, IsCounted, WasScanned, finished, map_by, with_record}
-use Rattle.mt_splice.specs.Kept.{IsKept}
+use Rattle.mt_rows.specs.Publish.{IsToldKind, MayFinish, IsRealShortage, WasScanned, finished, map_by, with_record}
+use Rattle.mt_splice.specs.Kept.{IsConsistent}
 
 -- what an engine stands for
 pub record Parts : Type 0 where
@@ -34,8 +34,8 @@ pub record Parts : Type 0 where
 -- What holds of the rows and the book whether or not a call is in flight: the tree is kept, its held rows died by the calls
 -- that the book tells, and no call has taken more rows than it may.
 pub record IsState (kind : Kind) (known : Option Kind) (t : Rooted) (lives : List Life) (buried : List Bool) (cleared ended opened : ℕ) (book : Book) : Type 0 where
-  pub told : IsTold known kind
-  pub kept : IsKept kind t lives buried cleared book (ended + 1)
+  pub told : IsToldKind known kind
+  pub kept : IsConsistent kind t lives buried cleared book (ended + 1)
   pub held : All (λ (h : Held). life_of lives h.row ≡ Dead h.stamp) book.held
   pub grown : length book.held + live_count book ≤ opened + most_taken * ended
 
@@ -100,7 +100,7 @@ is_refusal (answers.NoNodes shortage) = true
 
 -- The call did what it says: the words stand for the map after it, and a refusal left every word. One that wants no rows made
 -- no scan and took none.
-pub record IsDone (kind : Kind) (s s' : Sheet) (book book' : Book) (call : Call) (reply : Reply) : Type 0 where
+pub record IsCarriedOut (kind : Kind) (s s' : Sheet) (book book' : Book) (call : Call) (reply : Reply) : Type 0 where
   pub acts : acted kind (map_by s.tree) call ≡ (map_by s'.tree, reply)
   pub kept : is_refusal reply ≡ true → s'.tree ≡ s.tree
   pub room : Wants kind (map_by s.tree) call → HadRoom s s' book
@@ -117,7 +117,7 @@ pub record TellsBook (book : Book) (short : Shortage) : Type 0 where
 -- no section holds. The shortage tells the height, the book as it is then, and whose section holds rows back.
 pub record IsShortFor (kind : Kind) (s s' : Sheet) (book book' : Book) (call : Call) (reply : Reply) : Type 0 where
   pub refused : IsRefused kind (limits_of s) (map_by s.tree) call reply
-  pub counted : IsCounted s' refused.shortage
+  pub counted : IsRealShortage s' refused.shortage
   pub scanned : WasScanned s'
   pub answer : IsScan s.shared s.told s'.scan
   pub freed : book' ≡ after_reclaim book s'.scan.least
@@ -125,7 +125,7 @@ pub record IsShortFor (kind : Kind) (s s' : Sheet) (book book' : Book) (call : C
 
 -- It did what it says, with rows enough where it wanted some; or it was refused for want of rows, which left every word.
 abbrev pub DidOrLacked : Kind → Sheet → Sheet → Book → Book → Call → Reply → Type 0
-DidOrLacked kind s s' book book' call reply = IsDone kind s s' book book' call reply ⊎ (IsShortFor kind s s' book book' call reply × (s'.tree ≡ s.tree))
+DidOrLacked kind s s' book book' call reply = IsCarriedOut kind s s' book book' call reply ⊎ (IsShortFor kind s s' book book' call reply × (s'.tree ≡ s.tree))
 
 -- What every call leaves: the rows are between two calls again, one more call has ended, and it is told where records are, of
 -- the same caller.
@@ -162,12 +162,12 @@ pub record OnlySought (s s' : Sheet) (book book' : Book) : Type 0 where
   pub reads : RoseUpTo (most_searched s.tree) s.reads s'.reads
 
 -- the words with another entry in the slot in which an index stands
-abbrev pub with_entry : Rooted → ℕ → ℕ → Rooted
-with_entry t index entry = with_word t (leaf_in t index).row (slot_column (slots_of t.table.width Leaf) (leaf_in t index).slot) entry
+abbrev pub with_entry_at : Rooted → ℕ → ℕ → Rooted
+with_entry_at t index entry = with_word t (leaf_in t index).row (slot_column (slots_of t.table.width Leaf) (leaf_in t index).slot) entry
 
 -- The entry at an index is another, and nothing else: no other word, no row's life, and not the book.
 pub record ChangesEntry (t t' : Rooted) (lives lives' : List Life) (book book' : Book) (index entry : ℕ) : Type 0 where
-  pub tree : t' ≡ with_entry t index entry
+  pub tree : t' ≡ with_entry_at t index entry
   pub each_life : (row : ℕ) → first_row ≤ row → row < first_row + t.rows → life_of lives' row ≡ life_of lives row
   pub same_book : book' ≡ book
 
@@ -186,7 +186,7 @@ pub record IsApplied (kind : Kind) (s s' : Sheet) (book book' : Book) (call : Ca
   pub exact : StoresExactly s s' book book' call reply
 
 -- What a call in flight has come to when it may end with this reply: what it leaves by its end, and what it did.
-pub record IsAnswered (kind : Kind) (s s' : Sheet) (book book' : Book) (call : Call) (reply : Reply) : Type 0 where
+pub record EndsAnswered (kind : Kind) (s s' : Sheet) (book book' : Book) (call : Call) (reply : Reply) : Type 0 where
   pub may : MayFinish kind s' call reply
   pub ended : IsEnded kind s (finished s' call reply) book' call reply
   pub scans : s'.scans ≤ 1

@@ -66,6 +66,6 @@ IsMet t here last met = (first : ℕ) → first ≤ last → last ≤ greatest t
 
 -- A range holds an index from that of a slot up to `last`: one stands in the slot, or right behind a hole there that ends
 -- before `last`.
-abbrev pub is_taken : Option Handle → ℕ → Bool
-is_taken None last = false
-is_taken (Some handle) last = not (handle.span.word == 0) || nat_lt handle.span.last last
+abbrev pub is_range_met : Option Handle → ℕ → Bool
+is_range_met None last = false
+is_range_met (Some handle) last = not (handle.span.word == 0) || nat_lt handle.span.last last

@@ -7,7 +7,7 @@ use Rattle.mt_base.specs.Nodes.{IsShort}
 use Rattle.mt_free.specs.Book.{Book, after_reclaim}
 use Rattle.mt_rows.specs.Trees.{height_in}
 use Rattle.mt_rows.specs.Sheet.{Rooted, Sheet, IsScan, limits_of, scanned}
-use Rattle.mt_rows.specs.Publish.{IsCounted, map_by}
+use Rattle.mt_rows.specs.Publish.{IsRealShortage, map_by}
 use Rattle.mt_engine.specs.Engine.{IsEngineState, TellsBook}
 
 -- the rows were scanned, with an answer that a scan may give, and those that no section holds are free
@@ -25,5 +25,5 @@ HasRoom t book = 3 * height_in t.table t.root + 1 ≤ length book.free
 -- they are not
 pub record IsShortOf (s : Sheet) (book : Book) (shortage : Shortage) : Type 0 where
   pub short : IsShort (limits_of s) (map_by s.tree) shortage
-  pub counted : IsCounted s shortage
+  pub counted : IsRealShortage s shortage
   pub tells : TellsBook book shortage

@@ -24,7 +24,7 @@ pub record IsUnscanned (s s' : Sheet) : Type 0 where
   pub scan : s'.scan ≡ s.scan
 
 -- A call in flight has done what it says by a store, with no scan, and may end so. It took rows only where it replaces some.
-pub record IsStored (kind : Kind) (s s' : Sheet) (book book' : Book) (call : Call) (reply : Reply) : Type 0 where
+pub record IsDoneByStore (kind : Kind) (s s' : Sheet) (book book' : Book) (call : Call) (reply : Reply) : Type 0 where
   pub may : MayFinish kind s' call reply
   pub ended : IsEnded kind s (finished s' call reply) book' call reply
   pub acts : acted kind (map_by s.tree) call ≡ (map_by s'.tree, reply)

@@ -8,7 +8,7 @@ ghost use Rattle.mt_rows.specs.Publish.{IsLawfulOf, map_by};
 ghost use Rattle.mt_rows.specs.Sheet.{OnlyReads, ReadsUpTo};
 ghost use Rattle.mt_rows.specs.Trees.{height_in};
 ghost use Rattle.mt_path.specs.declared.paths.PathStep.{PathStep};
-ghost use Rattle.mt_gap.specs.declared.searches.Area.{Area};
+ghost use Rattle.mt_gap.specs.declared.searches.SoughtArea.{SoughtArea};
 ghost use Rattle.mt_gap.specs.Descents.{IsGapped};
 ghost use Rattle.mt_gap.specs.Ways.{IsAreaAt};
 ghost use Rattle.mt_engine.specs.Areas.{start_to, allocation, search};
@@ -18,7 +18,7 @@ ghost use Rattle.mt_engine.specs.Plans.{IsPlan, IsSearched};
 use crate::plans::Plan;
 use crate::store_by::{Write, store_by};
 use mt_base::{Kind, Reply, Steps, is_bad_area, is_no_area};
-use mt_gap::{Area, highest, lowest, lowest_way};
+use mt_gap::{SoughtArea, highest, lowest, lowest_way};
 use mt_path::{Path, walk_to};
 use mt_rows::Rows;
 use mt_splice::Edit;
@@ -80,19 +80,19 @@ fn highest_way<R: Rows, L: Ledger>(
     wanted: Wanted,
     steps: &mut Steps<L>,
     path: &mut Path,
-) -> Option<Area>
+) -> Option<SoughtArea>
     requires tree { IsGapped (R.sheet rows.old).tree }
     requires size { 1 ≤ wanted.size }
     requires within { wanted.max ≤ greatest (R.sheet rows.old).tree.table.width }
     requires empty { path.old.items ≡ [] }
-    ensures start { option_map (λ (area : Area). area.start) result ≡ high_to (greatest (R.sheet rows.old).tree.table.width) (map_by (R.sheet rows.old).tree) wanted.size wanted.min wanted.max }
+    ensures start { option_map (λ (area : SoughtArea). area.start) result ≡ high_to (greatest (R.sheet rows.old).tree.table.width) (map_by (R.sheet rows.old).tree) wanted.size wanted.min wanted.max }
     ensures way { IfSome result (λ area. IsAreaAt (R.sheet rows.old).tree path.new.items area) }
     ensures rest { OnlyReads (R.sheet rows.old) (R.sheet rows.new) }
     ensures reads { IsNone result → ReadsUpTo (most_searched (R.sheet rows.old).tree) (R.sheet rows.old) (R.sheet rows.new) }
 {
     let start = highest(rows, wanted.size, wanted.min, wanted.max, steps)?;
     let here = walk_to(rows, start, path);
-    Some(Area { start, here })
+    Some(SoughtArea { start, here })
 }
 
 /// The place that is sought, with the way to it, by a blank for a count of the steps, of which nothing is told.
@@ -102,7 +102,7 @@ fn area_by<R: Rows, L: Ledger>(
     wanted: Wanted,
     path: &mut Path,
     blank: Blank,
-) -> Option<Area>
+) -> Option<SoughtArea>
     requires name { blank.name ≡ L.name }
     requires parts { blank.parts ≡ L.parts }
     requires some { 0 < blank.parts }
@@ -110,7 +110,7 @@ fn area_by<R: Rows, L: Ledger>(
     requires size { 1 ≤ wanted.size }
     requires within { wanted.max ≤ greatest (R.sheet rows.old).tree.table.width }
     requires empty { path.old.items ≡ [] }
-    ensures start { option_map (λ (area : Area). area.start) result ≡ start_to sought (greatest (R.sheet rows.old).tree.table.width) (map_by (R.sheet rows.old).tree) wanted.size wanted.min wanted.max }
+    ensures start { option_map (λ (area : SoughtArea). area.start) result ≡ start_to sought (greatest (R.sheet rows.old).tree.table.width) (map_by (R.sheet rows.old).tree) wanted.size wanted.min wanted.max }
     ensures way { IfSome result (λ area. IsAreaAt (R.sheet rows.old).tree path.new.items area) }
     ensures rest { OnlyReads (R.sheet rows.old) (R.sheet rows.new) }
     ensures reads { IsNone result → ReadsUpTo (most_searched (R.sheet rows.old).tree) (R.sheet rows.old) (R.sheet rows.new) }
@@ -126,12 +126,17 @@ fn area_by<R: Rows, L: Ledger>(
 }
 
 /// The place that is sought, with the way to it.
-fn area_of<R: Rows>(rows: &mut R, sought: Sought, wanted: Wanted, path: &mut Path) -> Option<Area>
+fn area_of<R: Rows>(
+    rows: &mut R,
+    sought: Sought,
+    wanted: Wanted,
+    path: &mut Path,
+) -> Option<SoughtArea>
     requires tree { IsGapped (R.sheet rows.old).tree }
     requires size { 1 ≤ wanted.size }
     requires within { wanted.max ≤ greatest (R.sheet rows.old).tree.table.width }
     requires empty { path.old.items ≡ [] }
-    ensures start { option_map (λ (area : Area). area.start) result ≡ start_to sought (greatest (R.sheet rows.old).tree.table.width) (map_by (R.sheet rows.old).tree) wanted.size wanted.min wanted.max }
+    ensures start { option_map (λ (area : SoughtArea). area.start) result ≡ start_to sought (greatest (R.sheet rows.old).tree.table.width) (map_by (R.sheet rows.old).tree) wanted.size wanted.min wanted.max }
     ensures way { IfSome result (λ area. IsAreaAt (R.sheet rows.old).tree path.new.items area) }
     ensures rest { OnlyReads (R.sheet rows.old) (R.sheet rows.new) }
     ensures reads { IsNone result → ReadsUpTo (most_searched (R.sheet rows.old).tree) (R.sheet rows.old) (R.sheet rows.new) }

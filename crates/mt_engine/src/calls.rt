@@ -1,7 +1,7 @@
 //! The calls that write, each by one publishing store at the most.
 
 ghost use Rattle.std.specs.Prelude.{◌≡◌, ◌+◌, ◌-◌, ◌^◌, ◌<◌};
-ghost use Rattle.mt_engine.specs.Engine.{IsInCall, IsAnswered, IsApplied, OnlySearches, OnlySought, StoresExactly};
+ghost use Rattle.mt_engine.specs.Engine.{IsInCall, EndsAnswered, IsApplied, OnlySearches, OnlySought, StoresExactly};
 ghost use Rattle.mt_engine.specs.Heights.{HasHeight, IsMeasured};
 
 use crate::heights::height_after;
@@ -28,7 +28,7 @@ fn perform<R: Rows>(
     requires height { HasHeight (R.sheet rows.old).tree height.old }
     requires unscanned { (R.sheet rows.old).scans ≡ 0 }
     ensures height { HasHeight (R.sheet rows.new).tree height.new }
-    ensures answered { IsAnswered kind (R.sheet rows.old) (R.sheet rows.new) book.old book.new call.now result }
+    ensures answered { EndsAnswered kind (R.sheet rows.old) (R.sheet rows.new) book.old book.new call.now result }
     ensures search { OnlySearches call.now result → OnlySought (R.sheet rows.old) (R.sheet rows.new) book.old book.new }
     ensures exact { StoresExactly (R.sheet rows.old) (R.sheet rows.new) book.old book.new call.now result }
 {

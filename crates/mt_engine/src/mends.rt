@@ -6,7 +6,7 @@ ghost use Rattle.mt_path.specs.Paths.{step_at};
 ghost use Rattle.mt_layout.specs.declared.names.RowKind.TheVariants.{Gapped};
 ghost use Rattle.mt_layout.specs.Sizes.{slots_of};
 ghost use Rattle.mt_rows.specs.Sheet.{Rooted};
-ghost use Rattle.mt_splice.specs.Splice.{TellsAt};
+ghost use Rattle.mt_splice.specs.Splice.{TellsGapAt};
 ghost use Rattle.mt_engine.specs.Mends.{MayMendAt, WasWay, IsPlaceOfLeaf, IsMendedAt};
 
 use mt_base::{Kind, Width, finds_room};
@@ -58,7 +58,7 @@ fn mend_walked<R: Rows>(rows: &mut R, index: u64)
 pub fn mend_at<R: Rows>(rows: &mut R, kind: Kind, spliced: &Spliced, path: &Path, index: u64)
     requires may { MayMendAt kind (R.sheet rows.old) index }
     requires was { (was : Rooted) × WasWay kind was (R.sheet rows.old).tree spliced.now.place path.now.items index }
-    requires told { TellsAt kind (R.sheet rows.old).tree spliced.now.place spliced.now.gap }
+    requires told { TellsGapAt kind (R.sheet rows.old).tree spliced.now.place spliced.now.gap }
     ensures { IsMendedAt kind (R.sheet rows.old) (R.sheet rows.new) }
 {
     if !finds_room(kind) {

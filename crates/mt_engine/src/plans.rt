@@ -10,7 +10,7 @@ ghost use Rattle.mt_rows.specs.Sheet.{OnlyReads};
 ghost use Rattle.mt_path.specs.declared.paths.PathStep.{PathStep};
 ghost use Rattle.mt_path.specs.Handles.{IsHandleOf};
 ghost use Rattle.mt_engine.specs.Engine.{is_refusal};
-ghost use Rattle.mt_engine.specs.Plans.{IsMet, IsPlan, IsSearched, is_taken};
+ghost use Rattle.mt_engine.specs.Plans.{IsMet, IsPlan, IsSearched, is_range_met};
 
 use crate::areas::{Sought, Wanted, plan_allocation, plan_search};
 use crate::queries::{nearest_from, range_in, top_of};
@@ -33,7 +33,7 @@ pub enum Plan {
 
 /// Whether a range holds an index from that of a slot up to `last`: one stands in the slot, or right behind the hole there.
 fn is_taken(here: &Option<Handle>, last: u64) -> bool
-    ensures { result ≡ is_taken here.now last }
+    ensures { result ≡ is_range_met here.now last }
 {
     match here {
         Some(handle) => handle.span.word != 0 || handle.span.last < last,

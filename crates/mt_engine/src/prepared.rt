@@ -6,7 +6,7 @@ ghost use Rattle.mt_engine.specs.Engine.{IsInCall, is_refusal};
 ghost use Rattle.mt_engine.specs.Heights.{HasHeight, IsMeasured};
 ghost use Rattle.mt_engine.specs.Prepared.{IsPrestored};
 ghost use Rattle.mt_engine.specs.Rooms.{HasRoom};
-ghost use Rattle.mt_engine.specs.Stores.{IsStored};
+ghost use Rattle.mt_engine.specs.Stores.{IsDoneByStore};
 
 use crate::heights::height_after;
 use crate::plans::{Plan, plan_store};
@@ -30,7 +30,7 @@ fn perform_prepared<R: Rows>(
     requires number { number ≡ (R.sheet rows.old).ended + 1 }
     requires room { HasRoom (R.sheet rows.old).tree book.old }
     requires height { HasHeight (R.sheet rows.old).tree height.old }
-    ensures stored { IsStored kind (R.sheet rows.old) (R.sheet rows.new) book.old book.new (StorePre edit.first edit.last edit.entry) result }
+    ensures stored { IsDoneByStore kind (R.sheet rows.old) (R.sheet rows.new) book.old book.new (StorePre edit.first edit.last edit.entry) result }
     ensures kept { is_refusal result ≡ true → (R.sheet rows.new).tree ≡ (R.sheet rows.old).tree }
     ensures height { HasHeight (R.sheet rows.new).tree height.new }
 {

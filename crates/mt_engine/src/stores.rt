@@ -11,10 +11,10 @@ ghost use Rattle.mt_layout.specs.Sizes.{slots_of};
 ghost use Rattle.mt_rows.specs.declared.rows.Place.TheVariants.{Slot};
 ghost use Rattle.mt_rows.specs.Publish.{IsTreeOf, map_by};
 ghost use Rattle.mt_path.specs.Handles.{IsHandleOf};
-ghost use Rattle.mt_engine.specs.Engine.{IsInCall, IsAnswered, ChangesEntry};
+ghost use Rattle.mt_engine.specs.Engine.{IsInCall, EndsAnswered, ChangesEntry};
 ghost use Rattle.mt_engine.specs.Heights.{SameHeight};
 ghost use Rattle.mt_engine.specs.Plans.{IsStorePlan};
-ghost use Rattle.mt_engine.specs.Stores.{HasRoomFor, IsStored, wants_by};
+ghost use Rattle.mt_engine.specs.Stores.{HasRoomFor, IsDoneByStore, wants_by};
 
 use crate::heights::is_root;
 use crate::mends::mend_at;
@@ -64,7 +64,7 @@ pub fn store_at_hand<R: Rows>(
     requires number { event.now.number ≡ (R.sheet rows.old).ended + 1 }
     requires plan { IsStorePlan kind (R.sheet rows.old).tree event.now.call.now path.now.items write.now event.now.reply.now }
     requires room { HasRoomFor kind (R.sheet rows.old) book.old event.now.call.now }
-    ensures stored { IsStored kind (R.sheet rows.old) (R.sheet rows.new) book.old book.new event.now.call.now event.now.reply.now }
+    ensures stored { IsDoneByStore kind (R.sheet rows.old) (R.sheet rows.new) book.old book.new event.now.call.now event.now.reply.now }
     ensures exact { let edit = write.now.edit in is_exact_store (map_by (R.sheet rows.old).tree) edit.first edit.last edit.entry ≡ true → ChangesEntry (R.sheet rows.old).tree (R.sheet rows.new).tree (R.sheet rows.old).lives (R.sheet rows.new).lives book.old book.new edit.first edit.entry }
     ensures height { result ≡ false → SameHeight (R.sheet rows.old).tree (R.sheet rows.new).tree }
 {
@@ -97,10 +97,10 @@ pub fn store<R: Rows>(
     requires few { (R.sheet rows.old).ended < 2 ^ 62 - 1 }
     requires unscanned { (R.sheet rows.old).scans ≡ 0 }
     requires plan { IsStorePlan kind (R.sheet rows.old).tree event.now.call.now path.now.items write.now event.now.reply.now }
-    ensures done { IfOk result (λ _. IsAnswered kind (R.sheet rows.old) (R.sheet rows.new) book.old book.new event.now.call.now event.now.reply.now) }
+    ensures done { IfOk result (λ _. EndsAnswered kind (R.sheet rows.old) (R.sheet rows.new) book.old book.new event.now.call.now event.now.reply.now) }
     ensures exact { let edit = write.now.edit in IfOk result (λ _. event.now.call.now ≡ Store edit.first edit.last edit.entry → is_exact_store (map_by (R.sheet rows.old).tree) edit.first edit.last edit.entry ≡ true → ChangesEntry (R.sheet rows.old).tree (R.sheet rows.new).tree (R.sheet rows.old).lives (R.sheet rows.new).lives book.old book.new edit.first edit.entry) }
     ensures height { IfOk result (λ is_new_root. is_new_root ≡ false → SameHeight (R.sheet rows.old).tree (R.sheet rows.new).tree) }
-    ensures short { IfErr result (λ shortage. IsAnswered kind (R.sheet rows.old) (R.sheet rows.new) book.old book.new event.now.call.now (NoNodes shortage)) }
+    ensures short { IfErr result (λ shortage. EndsAnswered kind (R.sheet rows.old) (R.sheet rows.new) book.old book.new event.now.call.now (NoNodes shortage)) }
 {
     if wants_by(event.call, &write.by) {
         make_room(rows, book, path.len() as u64)?;

@@ -7,7 +7,7 @@ use Rattle.std.proofs.lemmas.List.{get_or_append_left, length-map, map_push}
 use Rattle.std.proofs.lemmas.List.Elements.{All-nil, All-cons, All-head, All-tail, All-weaker, All-append, All-push, All-map, All-contains, Contains-push}
 use Rattle.std.proofs.lemmas.List.Kept.{AllPairs-cons}
 use Rattle.std.proofs.lemmas.List.Quantifiers.{all_pairs_push, all_pairs_remove}
-use Rattle.mt_free.specs.Book.{Held, Book, rows_down, IsRowOf, held_rows, IsOut, IsBook, new_book, after_retire, due, kept, after_reclaim}
+use Rattle.mt_free.specs.Book.{Held, Book, rows_down, IsRowOf, held_rows, IsOut, IsBook, new_book, after_retire, reclaimable, still_held, after_reclaim}
 use Rattle.mt_free.proofs.Rows.{AreApart, not_before, not_behind, apart_without, apart_with, apart_are_few}
 
 abbrev pub book : ℕ → List ℕ → List Held → Book
@@ -104,7 +104,7 @@ reclaim_leaves_book rows free h held b = record {
 pub first_due : (rows : ℕ) (free : List ℕ) (h : Held) (held : List Held) (least : ℕ) → h.stamp ≤ least → after_reclaim (book rows (free ++ h.row ∷ []) held) least ≡ after_reclaim (book rows free (h ∷ held)) least
 first_due rows free h held least le = rw (le-leb h.stamp least le, le-ltb least h.stamp le, append_assoc) refl
 
-pub count_first_due : (h : Held) (held : List Held) (least : ℕ) → h.stamp ≤ least → length (due least (h ∷ held)) ≡ suc (length (due least held))
+pub count_first_due : (h : Held) (held : List Held) (least : ℕ) → h.stamp ≤ least → length (reclaimable least (h ∷ held)) ≡ suc (length (reclaimable least held))
 count_first_due h held least le = rw (le-leb h.stamp least le) refl
 
 all_later : (held : List Held) (least : ℕ) → AllPairs (λ g h. g.stamp ≤ h.stamp) held → IfSome (slice_get held 0) (λ h. least < h.stamp) → All (λ h. least < h.stamp) held
@@ -112,15 +112,15 @@ all_later [] least order first = All-nil (λ h. least < h.stamp)
 all_later (h ∷ held) least order first =
     All-cons (λ g. least < g.stamp) h held first (λ k d within. (let le : h.stamp ≤ (get_or held k d).stamp = order 0 (suc k) d (omega arith) (omega arith) in omega (arith, le, first)))
 
-later_stay : (held : List Held) (least : ℕ) → All (λ h. least < h.stamp) held → (due least held ≡ []) × (kept least held ≡ held)
+later_stay : (held : List Held) (least : ℕ) → All (λ h. least < h.stamp) held → (reclaimable least held ≡ []) × (still_held least held ≡ held)
 later_stay [] least later = (refl, refl)
 later_stay (h ∷ held) least later =
     let lt : least < h.stamp = All-head (λ g. least < g.stamp) h held later in
-    let rest : (due least held ≡ []) × (kept least held ≡ held) = later_stay held least (All-tail (λ g. least < g.stamp) h held later) in
+    let rest : (reclaimable least held ≡ []) × (still_held least held ≡ held) = later_stay held least (All-tail (λ g. least < g.stamp) h held later) in
     (rw (lt-leb h.stamp least lt) rest.0, rw (lt-ltb least h.stamp lt) (ap (λ hs. h ∷ hs) rest.1))
 
 -- where the first held row is not due, none is
-pub none_due : (b : Book) (least : ℕ) → IsBook b → IfSome (slice_get b.held 0) (λ h. least < h.stamp) → (due least b.held ≡ []) × (after_reclaim b least ≡ b)
+pub none_due : (b : Book) (least : ℕ) → IsBook b → IfSome (slice_get b.held 0) (λ h. least < h.stamp) → (reclaimable least b.held ≡ []) × (after_reclaim b least ≡ b)
 none_due b least is first =
-    let stay : (due least b.held ≡ []) × (kept least b.held ≡ b.held) = later_stay b.held least (all_later b.held least is.in_order first) in
+    let stay : (reclaimable least b.held ≡ []) × (still_held least b.held ≡ b.held) = later_stay b.held least (all_later b.held least is.in_order first) in
     (stay.0, rw (stay.0, stay.1, append-nil) refl)

@@ -3,7 +3,7 @@ use Rattle.std.proofs.Common.{◌≢◌, ℕ, Bool, List, [], ◌∷◌, ◌++�
 use Rattle.std.specs.List.{All, Contains, filter}
 use Rattle.std.proofs.lemmas.List.{length-map, get_or-map, map_push}
 use Rattle.std.proofs.lemmas.List.Elements.{All-filter, All-map, All-contains, Contains-append_left, Contains-append_cases, Contains-push, Contains-push_cases}
-use Rattle.mt_free.specs.Book.{Held, Book, held_rows, IsOut, after_retire, due, after_reclaim}
+use Rattle.mt_free.specs.Book.{Held, Book, held_rows, IsOut, after_retire, reclaimable, after_reclaim}
 
 pub out_after_take : (b : Book) (taken row : ℕ) → IsOut (record b { free = b.free ++ taken ∷ [] }) row → IsOut b row × (row ≢ taken)
 out_after_take b taken row out = (
@@ -31,7 +31,7 @@ pub out_after_reclaim : (b : Book) (least row : ℕ) → IsOut b row → IsOut (
 out_after_reclaim b least row out = record {
   here = out.here;
   not_free = λ in_free.
-      (elim (Contains-append_cases b.free (map (λ h. h.row) (due least b.held)) row in_free) [
+      (elim (Contains-append_cases b.free (map (λ h. h.row) (reclaimable least b.held)) row in_free) [
         | inl before ↦ out.not_free before
         | inr freed ↦ not_among b.held row (λ h. nat_le h.stamp least) out.not_held freed
       ]);

@@ -52,11 +52,11 @@ abbrev pub after_retire : Book → ℕ → ℕ → Book
 after_retire b row stamp = record { rows = b.rows; free = b.free; held = b.held ++ record { row = row; stamp = stamp } ∷ [] }
 
 -- the held rows that were replaced by the call `least` at the latest, and those replaced later
-abbrev pub due : ℕ → List Held → List Held
-due least held = filter (λ h. nat_le h.stamp least) held
+abbrev pub reclaimable : ℕ → List Held → List Held
+reclaimable least held = filter (λ h. nat_le h.stamp least) held
 
-abbrev pub kept : ℕ → List Held → List Held
-kept least held = filter (λ h. nat_lt least h.stamp) held
+abbrev pub still_held : ℕ → List Held → List Held
+still_held least held = filter (λ h. nat_lt least h.stamp) held
 
 abbrev pub after_reclaim : Book → ℕ → Book
-after_reclaim b least = record { rows = b.rows; free = b.free ++ map (λ h. h.row) (due least b.held); held = kept least b.held }
+after_reclaim b least = record { rows = b.rows; free = b.free ++ map (λ h. h.row) (reclaimable least b.held); held = still_held least b.held }

@@ -1,7 +1,7 @@
 ghost use Rattle.std.specs.Prelude.{◌≡◌, ◌<◌, ◌≤◌, ◌+◌, [], ◌∷◌, ◌++◌, All, length, vec_len, IfOk};
 ghost use Rattle.mt_base.specs.Width.{most_rows};
 ghost use Rattle.std.specs.Vec.{vec_capacity};
-ghost use Rattle.mt_free.specs.Book.{rows_down, new_book, IsBook, IsOut, live_count, after_retire, after_reclaim, due};
+ghost use Rattle.mt_free.specs.Book.{rows_down, new_book, IsBook, IsOut, live_count, after_retire, after_reclaim, reclaimable};
 
 use crate::held::{HeldRow, pop_due, push_held};
 use circular_buffer::HeapCircularBuffer;
@@ -94,7 +94,7 @@ impl RowBook {
     /// Frees the held rows that were replaced by the call `least` at the latest, and tells how many they are.
     pub fn reclaim(&mut self, least: u64) -> u64
         ensures freed { self.new ≡ after_reclaim self.old least }
-        ensures count { result ≡ length (due least self.old.held) }
+        ensures count { result ≡ length (reclaimable least self.old.held) }
     {
         let mut count = 0;
         while let Some(held) = pop_due(&mut self.held, least) {

@@ -14,7 +14,7 @@ use Rattle.mt_rows.specs.Replacement.{root_of}
 use Rattle.mt_rows.specs.Sheet.{Sheet, IsPlace, MayTend, IsWhole, with_word, loaded, tended}
 use Rattle.mt_rows.specs.Spans.{Table}
 use Rattle.mt_rows.proofs.Joins.{Shared}
-use Rattle.mt_gap.specs.Mending.{told_by, KeepsWords, IsAlong, IsWay, IsToldWay, MayTell, MayMend, IsMended}
+use Rattle.mt_gap.specs.Mending.{told_by, KeepsWordsBut, IsAlong, IsWay, IsToldWay, MayTell, MayMend, IsMended}
 use Rattle.mt_gap.proofs.MendWay.{HasMended, RootIs, level_low, may_mend_at, mended_at, begin_way, end_way, end_spans, two_levels}
 
 -- ---- what a row tells does not depend on the slot
@@ -57,7 +57,7 @@ module _ (s s' : Sheet) (path : List PathStep) (leaf : ℕ) (kind : RowKind) (le
   pub level_within : level ≤ length path
   level_within = let low = level_low s s' m.way kind level m.mended in let many = m.along.many in omega arith
 
-  pub words_on : KeepsWords s.tree s'.tree path
+  pub words_on : KeepsWordsBut s.tree s'.tree path
   words_on row col low = elim (m.mended.words row col low) [
     | inl same ↦ inl same
     | inr gap ↦

@@ -33,8 +33,8 @@ use Rattle.mt_rows.proofs.PlainReached.{levels_from}
 use Rattle.mt_rows.proofs.Reached.{IsOneOf, OnLevel, on_level_reached, one_of_parts, reached_number, times_reached, levels_at}
 use Rattle.mt_gap.specs.declared.children.Child.{Child}
 use Rattle.mt_gap.specs.Children.{row_children}
-use Rattle.mt_gap.specs.Mended.{AreRight, IsDone, HasMendedRows}
-use Rattle.mt_gap.specs.Mending.{told_by, GapLawBeside, IsKept, IsGapIn, KeepsOtherWords, MayMendGaps, MayTell, MayMend, IsMended}
+use Rattle.mt_gap.specs.Mended.{AreRight, IsMendedSlot, HasMendedRows}
+use Rattle.mt_gap.specs.Mending.{told_by, GapLawBeside, IsLiveRow, IsGapIn, KeepsOtherWords, MayMendGaps, MayTell, MayMend, IsMended}
 use Rattle.mt_gap.proofs.ChildLists.{spans, no_child}
 use Rattle.mt_gap.proofs.Mending.{begins_at, child_tells, covers_is, levels_below, one_over}
 use Rattle.mt_gap.proofs.MendWay.{RootIs, no_root, not_gapped, only_loaded, gap_stored, only_next, paths_shared, plain_law, root_named, row_may_tell, shared_self, shared_twice}
@@ -56,7 +56,7 @@ may_same Leaf t c index may = may
 may_same Inner t c index may = may
 may_same Gapped t c index may = may
 
-pub kept_at : (s : Sheet) (path : List PathStep) (d : ℕ) → AllByRecursion (IsKept s) path → d < length path → IsKept s (step_at path d)
+pub kept_at : (s : Sheet) (path : List PathStep) (d : ℕ) → AllByRecursion (IsLiveRow s) path → d < length path → IsLiveRow s (step_at path d)
 kept_at s [] d kept within = absurd (omega arith)
 kept_at s (p ∷ path) zero kept within = kept.0
 kept_at s (p ∷ path) (suc d) kept within = kept_at s path d kept.1 (omega arith)
@@ -126,9 +126,9 @@ module _ (s s' : Sheet) (path : List PathStep) (kind : RowKind) (d slots : ℕ) 
     c_row : IsRow t m.done c
     c_row = (levels_here (IsRow t) r.table m.done (c ∷ []) (levels_slot (IsRow t) r.table m.done (spans_in r.table x) slots used (levels_below (IsRow t) r.table m.height m.done (root_of t) x m.stands.rows on))).0
 
-    c_right : AreRight (IsDone m.index m.done slots) t m.done c
-    c_right = (levels_here (AreRight (IsDone m.index m.done slots) t) r.table m.done (c ∷ [])
-        (levels_slot (AreRight (IsDone m.index m.done slots) t) r.table m.done (spans_in r.table x) slots used (levels_below (AreRight (IsDone m.index m.done slots) t) r.table m.height m.done (root_of t) x m.right on))).0
+    c_right : AreRight (IsMendedSlot m.index m.done slots) t m.done c
+    c_right = (levels_here (AreRight (IsMendedSlot m.index m.done slots) t) r.table m.done (c ∷ [])
+        (levels_slot (AreRight (IsMendedSlot m.index m.done slots) t) r.table m.done (spans_in r.table x) slots used (levels_below (AreRight (IsMendedSlot m.index m.done slots) t) r.table m.height m.done (root_of t) x m.right on))).0
 
     c_low : c.last ≤ top_of t
     c_low = let end = begins_at x.first (x.last + 1) (spans_in r.table x) c x_row.pivots.fills (slot_one (spans_in r.table x) slots used) in let low = x_low in let to = end.1 in omega arith
@@ -139,8 +139,8 @@ module _ (s s' : Sheet) (path : List PathStep) (kind : RowKind) (d slots : ℕ) 
     pub slot_low : slots < slots_of r.table.width Gapped
     slot_low = let few = row_most x_row.name in let u = used in omega arith
 
-    x_kept : IsKept s (step_in r.table x m.index)
-    x_kept = subst (IsKept s) above_is (kept_at s path d m.kept (let a = above in omega arith))
+    x_kept : IsLiveRow s (step_in r.table x m.index)
+    x_kept = subst (IsLiveRow s) above_is (kept_at s path d m.kept (let a = above in omega arith))
 
     may_tend_it : (gap : ℕ) → MayTend s' (row_in x.word) (gap_column (slots_of r.table.width Gapped) slots) gap
     may_tend_it gap = record {
@@ -179,12 +179,12 @@ module _ (s s' : Sheet) (path : List PathStep) (kind : RowKind) (d slots : ℕ) 
       gap_is =
           ap (λ (k : RowKind). told_by k r.table (step_to c)) m.kind_is
           ∙ (tells_same (kind_on true m.done) r.table c m.index
-          ∙ child_tells r m.done m.index c c_row (law_of_right (IsDone m.index m.done slots) r m.done c c_right (λ i within. inr (inl (omega arith)))))
+          ∙ child_tells r m.done m.index c c_row (law_of_right (IsMendedSlot m.index m.done slots) r m.done c c_right (λ i within. inr (inl (omega arith)))))
 
       shared_then : Levels (Shared r.table r'.table) r.table m.height (root_of t)
       shared_then = all_spans_stay r m.height m.done slots gap x whole.words m.stands on used
 
-      more : (l : ℕ) (y : Span) (i : ℕ) → OnLevel r.table m.height (root_of t) l y → IsDone m.index m.done (slots + 1) l y i → IsDone m.index m.done slots l y i ⊎ ((y ≡ x) × (i ≡ slots))
+      more : (l : ℕ) (y : Span) (i : ℕ) → OnLevel r.table m.height (root_of t) l y → IsMendedSlot m.index m.done (slots + 1) l y i → IsMendedSlot m.index m.done slots l y i ⊎ ((y ≡ x) × (i ≡ slots))
       more l y i at (inl beside) = inl (inl beside)
       more l y i at (inr (inl low)) = inl (inr (inl low))
       more l y i at (inr (inr next)) = ⊎_elim
@@ -224,8 +224,8 @@ module _ (s s' : Sheet) (path : List PathStep) (kind : RowKind) (d slots : ℕ) 
         stands = subst (λ (v : Rooted). Stands (tree_on true v) m.height) (sym tree_then) (still_stands r m.height m.done slots gap x whole.words m.stands on used);
         steps = subst (λ (v : Rooted). path ≡ path_in v.table v.root m.index) (sym tree_then)
             (m.steps ∙ sym (paths_shared t (tree_on true r') m.index deepest m.height (top_row t) m.stands.low (root_leads t m.height m.stands m.index within') shared_then));
-        right = subst (λ (v : Rooted). Levels (AreRight (IsDone m.index m.done (slots + 1)) (tree_on true v)) v.table m.height (root_of (tree_on true v))) (sym tree_then)
-            (right_then r m.height m.done slots gap x whole.words m.stands on used gap_is (IsDone m.index m.done slots) (IsDone m.index m.done (slots + 1)) m.right more);
+        right = subst (λ (v : Rooted). Levels (AreRight (IsMendedSlot m.index m.done (slots + 1)) (tree_on true v)) v.table m.height (root_of (tree_on true v))) (sym tree_then)
+            (right_then r m.height m.done slots gap x whole.words m.stands on used gap_is (IsMendedSlot m.index m.done slots) (IsMendedSlot m.index m.done (slots + 1)) m.right more);
         only = only_next s s' s'' (row_in x.word) (gap_column (slots_of r.table.width Gapped) slots) gap m.only stored;
         words = subst (λ (v : Rooted). KeepsOtherWords s.tree v path) (sym tree_then) keeps;
         spans = subst (λ (v : Rooted). Levels (Shared s.tree.table v.table) s.tree.table m.height (root_of (tree_on true s.tree))) (sym tree_then)
@@ -244,7 +244,7 @@ module _ (s s' : Sheet) (path : List PathStep) (kind : RowKind) (d slots : ℕ) 
   -- ---- all its slots are mended
 
   all_of : (l : ℕ) (y : Span) (i : ℕ) → length (spans_in r.table x) ≤ slots → OnLevel r.table m.height (root_of t) l y → i < length (spans_in r.table y)
-      → IsDone m.index (suc m.done) 0 l y i → IsDone m.index m.done slots l y i
+      → IsMendedSlot m.index (suc m.done) 0 l y i → IsMendedSlot m.index m.done slots l y i
   all_of l y i all at within (inl beside) = inl beside
   all_of l y i all at within (inr (inr next)) = absurd (omega (arith, next.1))
   all_of l y i all at within (inr (inl low)) = ⊎_elim
@@ -272,8 +272,8 @@ module _ (s s' : Sheet) (path : List PathStep) (kind : RowKind) (d slots : ℕ) 
     stood = m.stood;
     stands = m.stands;
     steps = m.steps;
-    right = levels_from (AreRight (IsDone m.index (suc m.done) 0) t) r.table m.height (root_of t) m.height 0 (omega arith)
-        (λ l y low at i within is. levels_at (AreRight (IsDone m.index m.done slots) t) r.table m.height l (root_of t) y m.right at i within (all_of l y i all at within is));
+    right = levels_from (AreRight (IsMendedSlot m.index (suc m.done) 0) t) r.table m.height (root_of t) m.height 0 (omega arith)
+        (λ l y low at i within is. levels_at (AreRight (IsMendedSlot m.index m.done slots) t) r.table m.height l (root_of t) y m.right at i within (all_of l y i all at within is));
     only = m.only;
     words = m.words;
     spans = m.spans;
@@ -365,10 +365,10 @@ kept_each P (p ∷ path) each = (each 0 (omega arith), kept_each P path (λ d wi
 
 -- where the rows that are reached are live, and none is buried, the rows of a path are so
 pub kept_if_live : (gapped : Bool) (s : Sheet) (h index : ℕ) → Stands (tree_on gapped s.tree) h → LiveAreReached s.tree s.lives → NoneBuried s.tree.rows s.buried → index ≤ greatest s.tree.table.width
-    → AllByRecursion (IsKept s) (path_in s.tree.table s.tree.root index)
-kept_if_live gapped s h index stands live none within = kept_each (IsKept s) (path_in s.tree.table s.tree.root index) (λ d deep. at d (omega (arith, levels (tree_on gapped s.tree) h stands index within)))
+    → AllByRecursion (IsLiveRow s) (path_in s.tree.table s.tree.root index)
+kept_if_live gapped s h index stands live none within = kept_each (IsLiveRow s) (path_in s.tree.table s.tree.root index) (λ d deep. at d (omega (arith, levels (tree_on gapped s.tree) h stands index within)))
   where
-    at : (d : ℕ) → d ≤ h → IsKept s (step_of (tree_on gapped s.tree) d index)
+    at : (d : ℕ) → d ≤ h → IsLiveRow s (step_of (tree_on gapped s.tree) d index)
     at d low =
         let t = tree_on gapped s.tree in
         let y = row_of t d index in
@@ -376,15 +376,15 @@ kept_if_live gapped s h index stands live none within = kept_each (IsKept s) (pa
         let on : OnLevel t.table h (root_of t) (h - d) y = record { depth = d; height = omega arith; one = one_of_parts (rows_at t d) here.front here.back y here.parts } in
         let some = on_level_reached t h stands (h - d) y on in
         let number = reached_number t h stands (row_in y.word) some in
-        subst (IsKept s) (sym (step t h stands index d within low)) ((live (row_in y.word) number.0 number.1).1 (times_reached t h stands (row_in y.word) some), none (row_in y.word) number.0 number.1)
+        subst (IsLiveRow s) (sym (step t h stands index d within low)) ((live (row_in y.word) number.0 number.1).1 (times_reached t h stands (row_in y.word) some), none (row_in y.word) number.0 number.1)
 
 -- ---- the first and the last
 
 no_plain : (s : Sheet) (path : List PathStep) → MayMendGaps false s path → RootIs s Gapped → ⊥
 no_plain s path may root = elim may.gaps [ inl empty ↦ no_root s empty root | inr full ↦ not_gapped full.0 (sym (root_named false s full.0 full.1) ∙ root) ]
 
-begun_rows : (r : Rooted) (index l : ℕ) (y : Span) → GapLawBeside index (tree_on true r) l y → AreRight (IsDone index 0 0) (tree_on true r) l y
-begun_rows r index l y law i within (inl beside) = are_right (IsDone index 0 0) r l y (law beside) i within (inl beside)
+begun_rows : (r : Rooted) (index l : ℕ) (y : Span) → GapLawBeside index (tree_on true r) l y → AreRight (IsMendedSlot index 0 0) (tree_on true r) l y
+begun_rows r index l y law i within (inl beside) = are_right (IsMendedSlot index 0 0) r l y (law beside) i within (inl beside)
 begun_rows r index zero y law i within (inr (inl low)) = tt
 begun_rows r index (suc l) y law i within (inr (inl low)) = absurd (omega arith)
 begun_rows r index l y law i within (inr (inr next)) = absurd (omega (arith, next.1))
@@ -403,8 +403,8 @@ begin_gapped s s' path may root is = elim may.gaps [
     stood = full.1;
     stands = subst (λ (v : Sheet). Stands (tree_on true v.tree) full.0) (sym is) full.1;
     steps = subst (λ (v : Sheet). path ≡ path_in v.tree.table v.tree.root may.index) (sym is) may.steps;
-    right = subst (λ (v : Sheet). Levels (AreRight (IsDone may.index 0 0) (tree_on true v.tree)) v.tree.table full.0 (root_of (tree_on true v.tree))) (sym is)
-        (levels_map (GapLawBeside may.index (tree_on true s.tree)) (AreRight (IsDone may.index 0 0) (tree_on true s.tree)) s.tree.table (λ l y law. begun_rows s.tree may.index l y law) full.0 (root_of (tree_on true s.tree)) full.2);
+    right = subst (λ (v : Sheet). Levels (AreRight (IsMendedSlot may.index 0 0) (tree_on true v.tree)) v.tree.table full.0 (root_of (tree_on true v.tree))) (sym is)
+        (levels_map (GapLawBeside may.index (tree_on true s.tree)) (AreRight (IsMendedSlot may.index 0 0) (tree_on true s.tree)) s.tree.table (λ l y law. begun_rows s.tree may.index l y law) full.0 (root_of (tree_on true s.tree)) full.2);
     only = only_loaded s s' is;
     words = (λ row col low. inl (ap (λ (v : Sheet). word_at v.tree row col) is));
     spans = subst (λ (v : Sheet). Levels (Shared s.tree.table v.tree.table) s.tree.table full.0 (root_of (tree_on true s.tree))) (sym is) (shared_self true s full.0 full.1);
@@ -425,7 +425,7 @@ end_rows true s s' path k left may root m last =
       m.height,
       m.stands,
       levels_from (GapLaw (tree_on true s'.tree)) s'.tree.table m.height (root_of (tree_on true s'.tree)) m.height 0 (omega arith)
-          (λ l y below at. law_of_right (IsDone m.index m.done 0) s'.tree l y (levels_at (AreRight (IsDone m.index m.done 0) (tree_on true s'.tree)) s'.tree.table m.height l (root_of (tree_on true s'.tree)) y m.right at)
+          (λ l y below at. law_of_right (IsMendedSlot m.index m.done 0) s'.tree l y (levels_at (AreRight (IsMendedSlot m.index m.done 0) (tree_on true s'.tree)) s'.tree.table m.height l (root_of (tree_on true s'.tree)) y m.right at)
           (λ i within. inr (inl (omega arith)))),
     )
 

@@ -36,7 +36,7 @@ use Rattle.mt_rows.proofs.Lists.{levels_here, levels_map}
 use Rattle.mt_rows.proofs.Joins.{Shared, expand_shared, levels_front, levels_back, times_shared}
 use Rattle.mt_rows.proofs.Reached.{OnLevel, on_level_reached, times_reached, reached_number}
 use Rattle.mt_rows.specs.declared.rows.Life.TheVariants.{Live}
-use Rattle.mt_gap.specs.Mending.{told_by, IsGapOn, KeepsWords, OnlyWords, IsWay, MayTell, MayMend, IsMended}
+use Rattle.mt_gap.specs.Mending.{told_by, IsGapOn, KeepsWordsBut, OnlyWords, IsWay, MayTell, MayMend, IsMended}
 use Rattle.mt_gap.proofs.Mending.{IsMendedUpTo, on, is_step, is_used, told, mended_next, begun_mending, all_mended}
 use Rattle.mt_gap.proofs.GapWords.{tells_all}
 
@@ -150,7 +150,7 @@ pub record HasMended (s s' : Sheet) (path : List PathStep) (kind : RowKind) (lev
   pub steps : path ≡ path_in s'.tree.table s'.tree.root index
   pub mended : Levels (IsMendedUpTo index done (tree_on true s'.tree)) s'.tree.table height (root_of (tree_on true s'.tree))
   pub only : OnlyWords s s'
-  pub words : KeepsWords s.tree s'.tree path
+  pub words : KeepsWordsBut s.tree s'.tree path
   pub spans : Levels (Shared s.tree.table s'.tree.table) s.tree.table height (root_of (tree_on true s.tree))
   pub live : LiveAreReached s.tree s.lives
   pub none_buried : NoneBuried s.tree.rows s.buried
@@ -270,7 +270,7 @@ module _ (s s' : Sheet) (path : List PathStep) (kind : RowKind) (d : ℕ) (m : H
     shared_then : Levels (Shared r.table r'.table) r.table m.height (root_of t)
     shared_then = all_spans_stay r m.height m.done slot gap x whole.words m.stands at_row used
 
-    keeps : KeepsWords s.tree r' path
+    keeps : KeepsWordsBut s.tree r' path
     keeps row col low = gap_stored s.tree r (row_in x.word) slot gap row col (IsGapOn s.tree path row col) width_same slot_low low (m.words row col low) (λ same_row same_col. record {
       level = d;
       above = (let many = ap length m.steps ∙ levels t m.height m.stands m.index within' in let h = high in omega arith);
@@ -297,7 +297,7 @@ module _ (s s' : Sheet) (path : List PathStep) (kind : RowKind) (d : ℕ) (m : H
       mended = subst (λ (v : Rooted). Levels (IsMendedUpTo m.index (suc m.done) (tree_on true v)) v.table m.height (root_of (tree_on true v))) (sym tree_then)
           (mended_next r m.height whole.words m.stands m.index d m.done within' high m.mended gap gap_is);
       only = only_next s s' s'' (row_in x.word) (gap_column (slots_of r.table.width Gapped) slot) gap m.only stored;
-      words = subst (λ (v : Rooted). KeepsWords s.tree v path) (sym tree_then) keeps;
+      words = subst (λ (v : Rooted). KeepsWordsBut s.tree v path) (sym tree_then) keeps;
       spans = subst (λ (v : Rooted). Levels (Shared s.tree.table v.table) s.tree.table m.height (root_of (tree_on true s.tree))) (sym tree_then)
           (shared_twice s.tree.table r.table r'.table m.height (root_of (tree_on true s.tree)) m.spans (subst (Levels (Shared r.table r'.table) r.table m.height) root_of_s shared_then));
       live = m.live;
@@ -325,7 +325,7 @@ no_plain s path leaf way root = elim way.gaps [ inl empty ↦ no_root s empty ro
 pub only_loaded : (s s' : Sheet) → s' ≡ loaded s → OnlyWords s s'
 only_loaded s s' is = subst (OnlyWords s) (sym is) refl
 
-pub words_loaded : (s s' : Sheet) (path : List PathStep) → s' ≡ loaded s → KeepsWords s.tree s'.tree path
+pub words_loaded : (s s' : Sheet) (path : List PathStep) → s' ≡ loaded s → KeepsWordsBut s.tree s'.tree path
 words_loaded s s' path is = λ row col low. inl (ap (λ (v : Sheet). word_at v.tree row col) is)
 
 pub shared_self : (gapped : Bool) (s : Sheet) (h : ℕ) → Stands (tree_on gapped s.tree) h → Levels (Shared s.tree.table s.tree.table) s.tree.table h (root_of (tree_on gapped s.tree))

@@ -39,7 +39,7 @@ use Rattle.mt_gap.specs.Below.{leaf_hole, child_hole}
 use Rattle.mt_gap.specs.Children.{children_in, children_by, children_below, row_children, root_child}
 use Rattle.mt_gap.specs.Descents.{IsGapped, MayLoad, picked, place_in, AreLeaves}
 use Rattle.mt_gap.specs.Narrow.{may_have, narrow, has_sure}
-use Rattle.mt_gap.specs.Ways.{one_more, with_room, StandsIn, AreAsked, IsBelow, LeadsTo, EndsInLeaf, IsAreaAt}
+use Rattle.mt_gap.specs.Ways.{into_one_more, with_room, StandsInSlot, AreAsked, IsSearchedBelow, IsWayTo, EndsInLeaf, IsAreaAt}
 use Rattle.mt_gap.proofs.HolesBelow.{holes_below}
 use Rattle.mt_gap.proofs.ChildLists.{spans, spans-append, spans_of_row, holes_of_children}
 use Rattle.mt_gap.proofs.Descents.{Asks, asks_root, come_root, gapped_words, low_empty, low_next, leaves_have, row_may_load}
@@ -49,7 +49,7 @@ use Rattle.mt_gap.proofs.Kept.{Between, leaf_between, holes_between, lowest_betw
 -- ---- in a row
 
 module _ (xs ys : List Child) where
-  stays_in : (slot : ℕ) (x : Child) → StandsIn xs slot x → StandsIn (xs ++ ys) slot x
+  stays_in : (slot : ℕ) (x : Child) → StandsInSlot xs slot x → StandsInSlot (xs ++ ys) slot x
   stays_in slot x at = record {
     front = at.front;
     back = at.back ++ ys;
@@ -63,7 +63,7 @@ module _ (xs ys : List Child) where
   widen asked below_row.More is = is
 
 module _ (w : Window) (before : List Child) (x : Child) (slot : ℕ) (count : length before ≡ slot) where
-  taken : (asked : List Child) (b : Below) → AreAsked before asked b → AreAsked (before ++ (x ∷ [])) (asked ++ (x ∷ [])) (one_more slot x.span b)
+  taken : (asked : List Child) (b : Below) → AreAsked before asked b → AreAsked (before ++ (x ∷ [])) (asked ++ (x ∷ [])) (into_one_more slot x.span b)
   taken asked below_row.Nothing is = record {
     child = x;
     alone = ap (λ (l : List Child). l ++ (x ∷ [])) is;
@@ -80,9 +80,9 @@ module _ (w : Window) (before : List Child) (x : Child) (slot : ℕ) (count : le
   with_one asked b is = elim (cases_Bool (may_have w.size w.lo w.hi x)) [
     | inl may ↦ (
         let more = (one_asked w.size w.lo w.hi asked (asked ++ (x ∷ [])) x may refl).0 in
-        let room : with_room w slot x b ≡ one_more slot x.span b = (rw may refl) in
+        let room : with_room w slot x b ≡ into_one_more slot x.span b = (rw may refl) in
         subst (AreAsked (before ++ (x ∷ [])) (asked ++ narrow w.size w.lo w.hi (x ∷ []))) (sym room)
-        (subst (λ (l : List Child). AreAsked (before ++ (x ∷ [])) l (one_more slot x.span b)) more (taken asked b is)))
+        (subst (λ (l : List Child). AreAsked (before ++ (x ∷ [])) l (into_one_more slot x.span b)) more (taken asked b is)))
     | inr not ↦ (rw not (subst (λ (l : List Child). AreAsked (before ++ (x ∷ [])) l b) (sym (append-nil asked)) (widen before (x ∷ []) asked b is)))
   ]
 
@@ -105,14 +105,14 @@ module _ (w : Window) (b : Below) (before : List Child) (seen : HasSeen w b befo
       let on = ask_on w.size w.lo w.hi [] asked before (refl, seen.1) x more sure refl found not in
       (subst (λ (l : List Child). AreAsked (before ++ (x ∷ [])) l after) on.0 here, on.1)
 
-  pub seen_stops : (rest all : List Child) → before ++ (x ∷ rest) ≡ all → sure ≡ true → IsBelow w all after
+  pub seen_stops : (rest all : List Child) → before ++ (x ∷ rest) ≡ all → sure ≡ true → IsSearchedBelow w all after
   seen_stops rest all all_is stops =
       let on = ask_stops w.size w.lo w.hi [] asked before (refl, seen.1) x more rest all sure all_is refl found stops in
       let parts : (before ++ (x ∷ [])) ++ rest ≡ all = append_assoc before (x ∷ []) rest ∙ all_is in
       subst (λ (l : List Child). AreAsked all l after) on.0 (subst (λ (l : List Child). AreAsked l more after) parts (widen (before ++ (x ∷ [])) rest more after here))
 
-pub seen_all : (w : Window) (b : Below) (before all : List Child) → HasSeen w b before → before ≡ all → IsBelow w all b
-seen_all w b before all seen same = subst (λ (l : List Child). IsBelow w l b) same seen.0
+pub seen_all : (w : Window) (b : Below) (before all : List Child) → HasSeen w b before → before ≡ all → IsSearchedBelow w all b
+seen_all w b before all seen same = subst (λ (l : List Child). IsSearchedBelow w l b) same seen.0
 
 -- ---- from level to level
 
@@ -123,7 +123,7 @@ module _ (t : Rooted) (h : ℕ) (stands : Stands (tree_on true t) h) where
   abbrev to : ℕ → List PathStep
   to index = path_in t.table t.root index
 
-  leads_root : LeadsTo t [] (root_span t.table t.root)
+  leads_root : IsWayTo t [] (root_span t.table t.root)
   leads_root = record {
     within = omega arith;
     front = λ index from upto. refl;
@@ -131,7 +131,7 @@ module _ (t : Rooted) (h : ℕ) (stands : Stands (tree_on true t) h) where
     enters = λ index from upto. row_on_top t.table (root_span t.table t.root) index;
   }
 
-  module _ (path : List PathStep) (x y : Span) (front back : List Span) (leads : LeadsTo t path x) (fills : Fills x.first (x.last + 1) (spans_in t.table x)) (parts : spans_in t.table x ≡ front ++ (y ∷ back)) (deep : length path + 1 ≤ h) where
+  module _ (path : List PathStep) (x y : Span) (front back : List Span) (leads : IsWayTo t path x) (fills : Fills x.first (x.last + 1) (spans_in t.table x)) (parts : spans_in t.table x ≡ front ++ (y ∷ back)) (deep : length path + 1 ≤ h) where
     abbrev d : ℕ
     d = length path
 
@@ -193,7 +193,7 @@ module _ (t : Rooted) (h : ℕ) (stands : Stands (tree_on true t) h) where
           ap (λ (k : ℕ). row_on t.table k (root_span t.table t.root) index) next
           ∙ (row_next tree d (root_span t.table t.root) index ∙ (ap (λ (z : Span). below t.table z index) row_is ∙ below_is))
 
-    leads_on : y.first ≤ y.last → LeadsTo t (path ++ (one ∷ [])) y
+    leads_on : y.first ≤ y.last → IsWayTo t (path ++ (one ∷ [])) y
     leads_on order = record {
       within = (let high = (inside y.last order (omega arith)).1 in let all = leads.within in omega arith);
       front = front_on;
@@ -206,7 +206,7 @@ pub record GoesOn (s s' : Sheet) (w : Window) (level : ℕ) (path : List PathSte
   pub child : Child
   pub is : child.span ≡ x
   pub asks : Asks (tree_on true s.tree) lowest_in w (place_in lowest_in w s.tree) level (child ∷ [])
-  pub leads : LeadsTo s.tree path x
+  pub leads : IsWayTo s.tree path x
   pub long : length path ≡ level
   pub reads : ReadsUpTo (columns s.tree.table.width * level) s s'
 
@@ -220,7 +220,7 @@ goes_root s w path x tree some is none =
       child = root_child s.tree.table s.tree.root;
       is = sym is;
       asks = (come_root s w lowest_in 0 (root_child s.tree.table s.tree.root ∷ []) tree some refl).asks;
-      leads = subst (λ (l : List PathStep). LeadsTo s.tree l x) (sym none) (subst (LeadsTo s.tree []) (sym is) (leads_root s.tree full.0 full.1));
+      leads = subst (λ (l : List PathStep). IsWayTo s.tree l x) (sym none) (subst (IsWayTo s.tree []) (sym is) (leads_root s.tree full.0 full.1));
       long = ap length none;
       reads = reads_up 0 (columns s.tree.table.width * 0) s s (omega arith) (no_reads s);
     }
@@ -301,12 +301,12 @@ module _ (s s' : Sheet) (w : Window) (size : 1 ≤ w.size) (tree : IsGapped s.tr
     asks_next : (next : List Child) → narrow w.size w.lo w.hi xs ≡ next → Asks whole lowest_in w answer (level + 1) next
     asks_next next is = subst (Asks whole lowest_in w answer (level + 1)) (asked_are ∙ is) (low_next whole w refl size (goes.child ∷ []) answer level goes.asks not_leaves)
 
-    pub goes_nowhere : IsBelow w xs below_row.Nothing → answer ≡ None
+    pub goes_nowhere : IsSearchedBelow w xs below_row.Nothing → answer ≡ None
     goes_nowhere none =
         let asks = asks_next [] none in
         sym (leaves_have whole lowest_in w answer asks.left [] tt asks.rows asks.found)
 
-    pub goes_below : (slot : ℕ) (y : Span) → IsBelow w xs (below_row.One slot y) → (path' : List PathStep) → path' ≡ path ++ (record { row = row; slot = slot; min = x.first; max = x.last } ∷ []) → GoesOn s s'' w (level + 1) path' y
+    pub goes_below : (slot : ℕ) (y : Span) → IsSearchedBelow w xs (below_row.One slot y) → (path' : List PathStep) → path' ≡ path ++ (record { row = row; slot = slot; min = x.first; max = x.last } ∷ []) → GoesOn s s'' w (level + 1) path' y
     goes_below slot y one path' pushed =
         let asks = asks_next (one.child ∷ []) one.alone in
         let full = standing s.tree tree some in
@@ -326,7 +326,7 @@ module _ (s s' : Sheet) (w : Window) (size : 1 ≤ w.size) (tree : IsGapped s.tr
           child = one.child;
           is = one.is;
           asks = asks;
-          leads = subst (λ (l : List PathStep). LeadsTo s.tree l y) (sym path_is) leads;
+          leads = subst (λ (l : List PathStep). IsWayTo s.tree l y) (sym path_is) leads;
           long = ap length pushed ∙ (length-append path (record { row = row; slot = slot; min = x.first; max = x.last } ∷ []) ∙ ap (λ (n : ℕ). n + 1) goes.long);
           reads = reads_more_rows;
         }

@@ -18,7 +18,7 @@ use Rattle.mt_rows.specs.Publish.{tree_on}
 use Rattle.mt_rows.specs.Replacement.{root_of}
 use Rattle.mt_rows.specs.Sheet.{Sheet}
 use Rattle.mt_rows.specs.Spans.{column, spans_in}
-use Rattle.mt_gap.specs.Mending.{OnlyWords, KeepsOtherWords, IsKept}
+use Rattle.mt_gap.specs.Mending.{OnlyWords, KeepsOtherWords, IsLiveRow}
 
 -- the gap word of a slot is the longest hole below it; a leaf has no gap words
 abbrev pub IsRight : Tree → ℕ → Span → ℕ → Type 0
@@ -31,8 +31,8 @@ AreRight done t h x = (slot : ℕ) → slot < length (spans_in t.table x) → do
 
 -- The slot needed no mending, or is mended: in a row beside the way to the index, in a row up to a height, or in the row
 -- above these among so many slots from the left.
-abbrev pub IsDone : ℕ → ℕ → ℕ → ℕ → Span → ℕ → Type 0
-IsDone index height slots h x slot = (covers index x ≡ false) ⊎ ((h ≤ height) ⊎ ((h ≡ suc height) × (slot < slots)))
+abbrev pub IsMendedSlot : ℕ → ℕ → ℕ → ℕ → Span → ℕ → Type 0
+IsMendedSlot index height slots h x slot = (covers index x ≡ false) ⊎ ((h ≤ height) ⊎ ((h ≡ suc height) × (slot < slots)))
 
 -- The rows of a path are mended from its last up to the one at the level below `left`, which is of this kind, and in the row
 -- above that so many slots; nothing else has changed since `before`.
@@ -47,8 +47,8 @@ pub record HasMendedRows (before s : Sheet) (path : List PathStep) (kind : RowKi
   pub stood : Stands (tree_on true before.tree) height
   pub stands : Stands (tree_on true s.tree) height
   pub steps : path ≡ path_in s.tree.table s.tree.root index
-  pub right : Levels (AreRight (IsDone index done slots) (tree_on true s.tree)) s.tree.table height (root_of (tree_on true s.tree))
+  pub right : Levels (AreRight (IsMendedSlot index done slots) (tree_on true s.tree)) s.tree.table height (root_of (tree_on true s.tree))
   pub only : OnlyWords before s
   pub words : KeepsOtherWords before.tree s.tree path
   pub spans : Levels (λ (_ : ℕ) (x : Span). SameSpans before.tree.table s.tree.table x) before.tree.table height (root_of (tree_on true before.tree))
-  pub kept : AllByRecursion (IsKept before) path
+  pub kept : AllByRecursion (IsLiveRow before) path

@@ -47,8 +47,8 @@ pub record IsGapOn (t : Rooted) (path : List PathStep) (row col : ℕ) : Type 0 
   pub col_is : col ≡ gap_column (slots_of t.table.width Gapped) (step_at path level).slot
 
 -- every word is as before, but for these
-abbrev pub KeepsWords : Rooted → Rooted → List PathStep → Type 0
-KeepsWords t t' path = (row col : ℕ) → col < columns t.table.width → (word_at t' row col ≡ word_at t row col) ⊎ IsGapOn t path row col
+abbrev pub KeepsWordsBut : Rooted → Rooted → List PathStep → Type 0
+KeepsWordsBut t t' path = (row col : ℕ) → col < columns t.table.width → (word_at t' row col ≡ word_at t row col) ⊎ IsGapOn t path row col
 
 -- nothing else has changed than words of rows, and how many were loaded
 abbrev pub OnlyWords : Sheet → Sheet → Type 0
@@ -107,8 +107,8 @@ abbrev pub HasGapsBeside : ℕ → Tree → Type 0
 HasGapsBeside index t = (t.root ≡ 0) ⊎ ((h : ℕ) × Stands t h × Levels (GapLawBeside index t) t.table h (root_of t))
 
 -- the row of a step is live, and not buried
-abbrev pub IsKept : Sheet → PathStep → Type 0
-IsKept s step = (life_of s.lives step.row ≡ Live) × (is_buried s.buried step.row ≡ false)
+abbrev pub IsLiveRow : Sheet → PathStep → Type 0
+IsLiveRow s step = (life_of s.lives step.row ≡ Live) × (is_buried s.buried step.row ≡ false)
 
 -- A path of whose rows all gap words may be wrong, but none of other rows; its rows are live, and none is buried.
 pub record MayMendGaps (gapped : Bool) (s : Sheet) (path : List PathStep) : Type 0 where
@@ -116,7 +116,7 @@ pub record MayMendGaps (gapped : Bool) (s : Sheet) (path : List PathStep) : Type
   pub within : index ≤ greatest s.tree.table.width
   pub gaps : HasGapsBeside index (tree_on gapped s.tree)
   pub steps : path ≡ path_in s.tree.table s.tree.root index
-  pub kept : AllByRecursion (IsKept s) path
+  pub kept : AllByRecursion (IsLiveRow s) path
 
 -- the gap column of a slot of one of a path's rows, but its leaf
 pub record IsGapIn (t : Rooted) (path : List PathStep) (row col : ℕ) : Type 0 where

@@ -14,7 +14,7 @@ use Rattle.mt_path.specs.declared.paths.PathStep.{PathStep}
 use Rattle.mt_path.specs.Handles.{handle_in}
 use Rattle.mt_path.specs.Paths.{path_in, row_on}
 use Rattle.mt_gap.specs.declared.children.Child.{Child}
-use Rattle.mt_gap.specs.declared.searches.Area.{Area}
+use Rattle.mt_gap.specs.declared.searches.SoughtArea.{SoughtArea}
 use Rattle.mt_gap.specs.declared.ways.Below.{Below}
 use Rattle.mt_gap.specs.declared.ways.Below.TheVariants as below
 use Rattle.mt_gap.specs.declared.ways.End.{End}
@@ -26,17 +26,17 @@ use Rattle.mt_gap.specs.Descents.{MayLoad, picked, place_in}
 use Rattle.mt_gap.specs.Narrow.{may_have, narrow}
 
 -- what is gone into, with one more
-abbrev pub one_more : ℕ → Span → Below → Below
-one_more slot x below.Nothing = below.One slot x
-one_more slot x (below.One s y) = below.More
-one_more slot x below.More = below.More
+abbrev pub into_one_more : ℕ → Span → Below → Below
+into_one_more slot x below.Nothing = below.One slot x
+into_one_more slot x (below.One s y) = below.More
+into_one_more slot x below.More = below.More
 
 -- the same, if it may have room
 abbrev pub with_room : Window → ℕ → Child → Below → Below
-with_room w slot x b = if may_have w.size w.lo w.hi x then one_more slot x.span b else b
+with_room w slot x b = if may_have w.size w.lo w.hi x then into_one_more slot x.span b else b
 
 -- the child stands in this slot
-pub record StandsIn (xs : List Child) (slot : ℕ) (x : Child) : Type 0 where
+pub record StandsInSlot (xs : List Child) (slot : ℕ) (x : Child) : Type 0 where
   pub front : List Child
   pub back : List Child
   pub parts : xs ≡ front ++ (x ∷ back)
@@ -47,7 +47,7 @@ pub record IsOne (xs asked : List Child) (slot : ℕ) (span : Span) : Type 0 whe
   pub child : Child
   pub alone : asked ≡ child ∷ []
   pub is : child.span ≡ span
-  pub stands : StandsIn xs slot child
+  pub stands : StandsInSlot xs slot child
 
 -- of these children, those that are asked are none, one, or more
 abbrev pub AreAsked : List Child → List Child → Below → Type 0
@@ -56,11 +56,11 @@ AreAsked xs asked (below.One slot span) = IsOne xs asked slot span
 AreAsked xs asked below.More = 2 ≤ length asked
 
 -- what a search goes into below a row with these children
-abbrev pub IsBelow : Window → List Child → Below → Type 0
-IsBelow w xs b = AreAsked xs (narrow w.size w.lo w.hi xs) b
+abbrev pub IsSearchedBelow : Window → List Child → Below → Type 0
+IsSearchedBelow w xs b = AreAsked xs (narrow w.size w.lo w.hi xs) b
 
 -- The way to each index of a row goes by these steps and enters the row then.
-pub record LeadsTo (t : Rooted) (path : List PathStep) (x : Span) : Type 0 where
+pub record IsWayTo (t : Rooted) (path : List PathStep) (x : Span) : Type 0 where
   pub within : x.last ≤ greatest t.table.width
   pub front : (index : ℕ) → x.first ≤ index → index ≤ x.last → path ≡ take (length path) (path_in t.table t.root index)
   pub low : (index : ℕ) → x.first ≤ index → index ≤ x.last → length path < length (path_in t.table t.root index)
@@ -68,7 +68,7 @@ pub record LeadsTo (t : Rooted) (path : List PathStep) (x : Span) : Type 0 where
 
 -- the leaf that has the lowest place, if there is one, and the way there
 pub record EndsInLeaf (t : Rooted) (w : Window) (path : List PathStep) (leaf : Span) : Type 0 where
-  pub leads : LeadsTo t path leaf
+  pub leads : IsWayTo t path leaf
   pub is_leaf : named_kind leaf.word ≡ Some Leaf
   pub row : MayLoad t leaf
   pub fills : Fills leaf.first (leaf.last + 1) (spans_in t.table leaf)
@@ -80,7 +80,7 @@ EndsIn t w path (end.Leaf leaf) = EndsInLeaf t w path leaf
 EndsIn t w path end.Branch = Unit {0}
 
 -- the path leads to where the area starts, and this stands there
-pub record IsAreaAt (t : Rooted) (path : List PathStep) (area : Area) : Type 0 where
+pub record IsAreaAt (t : Rooted) (path : List PathStep) (area : SoughtArea) : Type 0 where
   pub way : path ≡ path_in t.table t.root area.start
   pub none : IsNone area.here ↔ (t.root ≡ 0)
   pub some : IfSome area.here (λ handle. handle ≡ handle_in t area.start)

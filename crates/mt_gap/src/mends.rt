@@ -17,7 +17,7 @@ ghost use Rattle.mt_rows.specs.Replacement.{root_of};
 ghost use Rattle.mt_rows.specs.Spans.{row_spans};
 ghost use Rattle.mt_layout.specs.declared.names.RowKind.TheVariants.{Leaf, Gapped};
 ghost use Rattle.mt_rows.specs.Sheet.{Sheet, IsPlace, MayTend, ReadsUpTo, loaded, tended};
-ghost use Rattle.mt_gap.specs.Mending.{most_gap, told_by, KeepsWords, OnlyWords, KeepsOtherWords, IsWay, IsToldWay, MayTell, MayMend, MayMendGaps, IsMended};
+ghost use Rattle.mt_gap.specs.Mending.{most_gap, told_by, KeepsWordsBut, OnlyWords, KeepsOtherWords, IsWay, IsToldWay, MayTell, MayMend, MayMendGaps, IsMended};
 ghost use Rattle.mt_gap.specs.Mended.{HasMendedRows};
 
 use crate::children::{load_children, load_gap, load_last, load_word};
@@ -129,7 +129,7 @@ pub fn mend_way<R: Rows>(rows: &mut R, path: &Path, leaf: u32)
     requires way { (gapped : Bool) × IsWay gapped (R.sheet rows.old) path.now.items leaf }
     ensures gaps { (gapped : Bool) → IsWay gapped (R.sheet rows.old) path.now.items leaf → HasGaps (tree_on gapped (R.sheet rows.new).tree) }
     ensures rest { OnlyWords (R.sheet rows.old) (R.sheet rows.new) }
-    ensures words { KeepsWords (R.sheet rows.old).tree (R.sheet rows.new).tree path.now.items }
+    ensures words { KeepsWordsBut (R.sheet rows.old).tree (R.sheet rows.new).tree path.now.items }
     ensures plain { named_kind (R.sheet rows.old).tree.root ≢ Some RowKind.Gapped → R.sheet rows.new ≡ loaded (R.sheet rows.old) }
     ensures spans { (gapped : Bool) (h : ℕ) → Stands (tree_on gapped (R.sheet rows.old).tree) h
         → Levels (λ (_ : ℕ) (x : Span). SameSpans (R.sheet rows.old).tree.table (R.sheet rows.new).tree.table x) (R.sheet rows.old).tree.table h (root_of (tree_on gapped (R.sheet rows.old).tree)) }
@@ -155,7 +155,7 @@ pub fn mend_along<R: Rows>(rows: &mut R, path: &Path, gap: u64)
     requires way { (gapped : Bool) × IsToldWay gapped (R.sheet rows.old) path.now.items gap }
     ensures gaps { (gapped : Bool) → IsToldWay gapped (R.sheet rows.old) path.now.items gap → HasGaps (tree_on gapped (R.sheet rows.new).tree) }
     ensures rest { OnlyWords (R.sheet rows.old) (R.sheet rows.new) }
-    ensures words { KeepsWords (R.sheet rows.old).tree (R.sheet rows.new).tree path.now.items }
+    ensures words { KeepsWordsBut (R.sheet rows.old).tree (R.sheet rows.new).tree path.now.items }
     ensures plain { named_kind (R.sheet rows.old).tree.root ≢ Some RowKind.Gapped → R.sheet rows.new ≡ loaded (R.sheet rows.old) }
     ensures spans { (gapped : Bool) (h : ℕ) → Stands (tree_on gapped (R.sheet rows.old).tree) h
         → Levels (λ (_ : ℕ) (x : Span). SameSpans (R.sheet rows.old).tree.table (R.sheet rows.new).tree.table x) (R.sheet rows.old).tree.table h (root_of (tree_on gapped (R.sheet rows.old).tree)) }

@@ -13,7 +13,7 @@ ghost use Rattle.mt_gap.specs.Below.{child_hole};
 ghost use Rattle.mt_gap.specs.Children.{children_in, children_below, root_child};
 ghost use Rattle.mt_gap.specs.Descents.{IsGapped, LoadedUpTo, MayLoad, picked, place_in, Arrives, AreLeaves};
 ghost use Rattle.mt_gap.specs.Ways.{EndsInLeaf, IsAreaAt};
-ghost use Rattle.mt_gap.specs.declared.searches.Area.{Area};
+ghost use Rattle.mt_gap.specs.declared.searches.SoughtArea.{SoughtArea};
 
 use crate::children::Child;
 use crate::levels::{next_higher, next_lower};
@@ -27,7 +27,7 @@ use std::sync::ledger::Ledger;
 
 /// A place with room: where it starts, and what stands there; nothing does in the empty tree.
 #[derive(Clone, Copy, Debug, PartialEq, Eq)]
-pub struct Area {
+pub struct SoughtArea {
     pub start: u64,
     pub here: Option<Handle>,
 }
@@ -204,18 +204,23 @@ pub fn lowest<R: Rows, L: Ledger>(
 }
 
 /// The lowest place in a leaf, to which the path leads, and the end of the way there.
-fn area_in_leaf<R: Rows>(rows: &mut R, leaf: Span, window: Window, path: &mut Path) -> Option<Area>
+fn area_in_leaf<R: Rows>(
+    rows: &mut R,
+    leaf: Span,
+    window: Window,
+    path: &mut Path,
+) -> Option<SoughtArea>
     requires tree { IsGapped (R.sheet rows.old).tree }
     requires size { 1 ≤ window.size }
     requires leaf { EndsInLeaf (R.sheet rows.old).tree window path.old.items leaf }
-    ensures place { option_map (λ (area : Area). area.start) result ≡ place_in lowest_in window (R.sheet rows.old).tree }
+    ensures place { option_map (λ (area : SoughtArea). area.start) result ≡ place_in lowest_in window (R.sheet rows.old).tree }
     ensures way { IfSome result (λ area. IsAreaAt (R.sheet rows.old).tree path.new.items area) }
     ensures rest { OnlyReads (R.sheet rows.old) (R.sheet rows.new) }
     ensures reads { IsNone result → ReadsUpTo (columns (R.sheet rows.old).tree.table.width) (R.sheet rows.old) (R.sheet rows.new) }
 {
     let start = lowest_in_leaf(rows, leaf, window)?;
     let here = end_by_halves(rows, leaf, start, path);
-    Some(Area {
+    Some(SoughtArea {
         start,
         here: Some(here),
     })
@@ -228,10 +233,10 @@ fn area_by_levels<R: Rows, L: Ledger>(
     window: Window,
     steps: &mut Steps<L>,
     path: &mut Path,
-) -> Option<Area>
+) -> Option<SoughtArea>
     requires tree { IsGapped (R.sheet rows.old).tree }
     requires size { 1 ≤ window.size }
-    ensures place { let t = (R.sheet rows.old).tree in option_map (λ (area : Area). area.start) result ≡ low_to (greatest t.table.width) (map_by t) window.size window.lo window.hi }
+    ensures place { let t = (R.sheet rows.old).tree in option_map (λ (area : SoughtArea). area.start) result ≡ low_to (greatest t.table.width) (map_by t) window.size window.lo window.hi }
     ensures way { IfSome result (λ area. IsAreaAt (R.sheet rows.old).tree path.new.items area) }
     ensures rest { OnlyReads (R.sheet rows.old) (R.sheet rows.new) }
     ensures reads { IsNone result → ReadsUpTo (3 * height_in (R.sheet rows.old).tree.table (R.sheet rows.old).tree.root * columns (R.sheet rows.old).tree.table.width + 1) (R.sheet rows.old) (R.sheet rows.new) }
@@ -239,7 +244,7 @@ fn area_by_levels<R: Rows, L: Ledger>(
     let start = lowest(rows, window.size, window.lo, window.hi, steps)?;
     path.clear();
     let here = walk_by_halves(rows, start, path);
-    Some(Area { start, here })
+    Some(SoughtArea { start, here })
 }
 
 /// The same as `lowest`, with the way to the place and what stands there. Where the search went into one row in each level, no row
@@ -251,11 +256,11 @@ pub fn lowest_way<R: Rows, L: Ledger>(
     hi: u64,
     steps: &mut Steps<L>,
     path: &mut Path,
-) -> Option<Area>
+) -> Option<SoughtArea>
     requires tree { IsGapped (R.sheet rows.old).tree }
     requires size { 1 ≤ size }
     requires empty { path.old.items ≡ [] }
-    ensures place { let t = (R.sheet rows.old).tree in option_map (λ (area : Area). area.start) result ≡ low_to (greatest t.table.width) (map_by t) size lo hi }
+    ensures place { let t = (R.sheet rows.old).tree in option_map (λ (area : SoughtArea). area.start) result ≡ low_to (greatest t.table.width) (map_by t) size lo hi }
     ensures way { IfSome result (λ area. IsAreaAt (R.sheet rows.old).tree path.new.items area) }
     ensures rest { OnlyReads (R.sheet rows.old) (R.sheet rows.new) }
     ensures reads { IsNone result → ReadsUpTo (2 * (3 * height_in (R.sheet rows.old).tree.table (R.sheet rows.old).tree.root * columns (R.sheet rows.old).tree.table.width + 1)) (R.sheet rows.old) (R.sheet rows.new) }

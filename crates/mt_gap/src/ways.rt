@@ -12,7 +12,7 @@ ghost use Rattle.mt_gap.specs.Children.{row_children};
 ghost use Rattle.mt_gap.specs.Descents.{IsGapped};
 ghost use Rattle.mt_gap.specs.Narrow.{has_sure};
 ghost use Rattle.mt_gap.specs.Slots.{child_in};
-ghost use Rattle.mt_gap.specs.Ways.{one_more, with_room, IsBelow, EndsIn};
+ghost use Rattle.mt_gap.specs.Ways.{into_one_more, with_room, IsSearchedBelow, EndsIn};
 
 use crate::children::load_last;
 use crate::windows::{Window, is_inside, room_in_slot};
@@ -39,7 +39,7 @@ pub(crate) enum End {
 
 /// What is gone into, with what stands in one slot more.
 fn one_more(below: Below, slot: u32, span: Span) -> Below
-    ensures { result ≡ one_more slot span below }
+    ensures { result ≡ into_one_more slot span below }
 {
     match below {
         Below::Nothing => Below::One { slot, span },
@@ -76,7 +76,7 @@ fn take_slot<R: Rows>(
 /// What a search goes into below a row with gaps, which covers the indexes from `first` to `max`.
 fn look_below<R: Rows>(rows: &mut R, row: u32, first: u64, max: u64, window: Window) -> Below
     requires row { IsPlace (R.sheet rows.old).tree row 0 }
-    ensures below { IsBelow window (row_children (R.sheet rows.old).tree.table row Gapped first max) result }
+    ensures below { IsSearchedBelow window (row_children (R.sheet rows.old).tree.table row Gapped first max) result }
     ensures reads { ReadsUpTo (columns (R.sheet rows.old).tree.table.width) (R.sheet rows.old) (R.sheet rows.new) }
 {
     let width = rows.width();

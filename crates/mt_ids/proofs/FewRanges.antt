@@ -13,7 +13,7 @@ use Rattle.mt_base.specs.Width.{most_rows}
 use Rattle.mt_base.proofs.FreeAreas.{low_is_room}
 use Rattle.mt_base.proofs.Shortages.{few_unheld}
 use Rattle.mt_ids.specs.Allocation.{Allocation, limits_at}
-use Rattle.mt_ids.specs.Draws.{LacksRows}
+use Rattle.mt_ids.specs.Draws.{IsDrawShort}
 use Rattle.mt_ids.specs.Window.{Draws}
 
 -- ---- how many ranges
@@ -73,7 +73,7 @@ none_short l m shortage rows few none short =
     let many = few_unheld l m shortage short none in
     omega arith
 
-pub none_lacked : (d : Draws) (s : Allocation) (entry : ℕ) (shortage : Shortage) (s' : Allocation) → s.rows ≡ most_rows → length s.map ≤ 100001 → s.alone ≡ true → LacksRows d s entry shortage s' → ⊥
+pub none_lacked : (d : Draws) (s : Allocation) (entry : ℕ) (shortage : Shortage) (s' : Allocation) → s.rows ≡ most_rows → length s.map ≤ 100001 → s.alone ≡ true → IsDrawShort d s entry shortage s' → ⊥
 none_lacked d s entry shortage s' rows few alone lacks =
     let refused = lacks.refused in
     let same = no_nodes_same shortage refused.shortage refused.told in

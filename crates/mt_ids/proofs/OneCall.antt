@@ -14,7 +14,7 @@ use Rattle.mt_base.specs.Holes.{Hole, clip, fits, kept, low, lowest_in}
 use Rattle.mt_base.specs.Map.{over}
 use Rattle.mt_base.specs.Nodes.{Changes, IsRefused}
 use Rattle.mt_base.specs.Width.{greatest_of}
-use Rattle.mt_ids.specs.Allocation.{Allocation, IsCalled, limits_at, recorded}
+use Rattle.mt_ids.specs.Allocation.{Allocation, IsNextCall, limits_at, recorded}
 use Rattle.mt_ids.specs.Draws.{is_bad_draw}
 use Rattle.mt_ids.specs.Runs.{LiesIn}
 use Rattle.mt_ids.specs.Window.{Draws}
@@ -97,7 +97,7 @@ module _ (kind : Kind) (m m' : List Range) (from hi entry : ℕ) (Lacks : Shorta
 abbrev pub LacksNow : Allocation → ℕ → ℕ → ℕ → Shortage → Type 0
 LacksNow s from hi entry shortage = IsRefused s.kind (limits_at s s.calls) s.map (Alloc 1 from hi entry) (reply.NoNodes shortage) × (s.alone ≡ true → shortage.held ≡ 0)
 
-pub one_call : (s s' : Allocation) (from hi entry : ℕ) (r : Reply) → from ≤ hi → IsCalled s (Alloc 1 from hi entry) r s' → Answers s.kind s.map s'.map from hi entry (LacksNow s from hi entry) r
+pub one_call : (s s' : Allocation) (from hi entry : ℕ) (r : Reply) → from ≤ hi → IsNextCall s (Alloc 1 from hi entry) r s' → Answers s.kind s.map s'.map from hi entry (LacksNow s from hi entry) r
 one_call s s' from hi entry r order called =
     let after : s'.map ≡ map_after s.kind s.map (recorded (Alloc 1 from hi entry) r) = ap (λ (x : Allocation). x.map) called.after in
     elim called.answered [
@@ -108,7 +108,7 @@ one_call s s' from hi entry r order called =
     ]
 
 -- a number that is answered lies in the window of the call
-pub lies : (s s' : Allocation) (d : Draws) (from entry : ℕ) (r : Reply) → d.lo ≤ from → from ≤ d.hi → IsCalled s (Alloc 1 from d.hi entry) r s' → LiesIn d r
+pub lies : (s s' : Allocation) (d : Draws) (from entry : ℕ) (r : Reply) → d.lo ≤ from → from ≤ d.hi → IsNextCall s (Alloc 1 from d.hi entry) r s' → LiesIn d r
 lies s s' d from entry r begins order called = by_answer r (one_call s s' from d.hi entry r order called)
   where
     by_answer : (r : Reply) → Answers s.kind s.map s'.map from d.hi entry (LacksNow s from d.hi entry) r → LiesIn d r

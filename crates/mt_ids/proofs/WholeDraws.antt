@@ -8,7 +8,7 @@ use Rattle.mt_base.specs.declared.replies.Reply.{Reply}
 use Rattle.mt_base.specs.declared.replies.Reply.TheVariants as reply
 use Rattle.mt_base.specs.Holes.{low}
 use Rattle.mt_base.specs.Nodes.{IsRefused}
-use Rattle.mt_ids.specs.Allocation.{Allocation, Made, IsAfter, IsCalled, IsSince, limits_at}
+use Rattle.mt_ids.specs.Allocation.{Allocation, Made, IsAfter, IsNextCall, IsSince, limits_at}
 use Rattle.mt_ids.specs.Draws.{AreMade, IsDrawn, calls_of, drawn, first_found, from_position, is_bad_draw, is_past, is_twofold, last_start}
 use Rattle.mt_ids.specs.Runs.{came_by, came_to, after_reply, after_answer, IsBeforeLast, IsLastAnswer}
 use Rattle.mt_ids.specs.Window.{Draws}
@@ -29,7 +29,7 @@ module _ (d : Draws) (s s' : Allocation) (entry from calls : ℕ) (last : Option
   abbrev pub IsLast : Type 0
   IsLast = (calls + 1 ≡ s.calls + calls_of s d entry) × (last_start s d entry ≡ from)
 
-  are_made : (r : Reply) → IsLast → IsCalled before (Alloc 1 from d.hi entry) r s' → AreMade d s entry r s'
+  are_made : (r : Reply) → IsLast → IsNextCall before (Alloc 1 from d.hi entry) r s' → AreMade d s entry r s'
   are_made r all called =
       let room = called.room in
       let count = ap (λ (x : Allocation). x.calls) called.after in
@@ -64,7 +64,7 @@ module _ (d : Draws) (s s' : Allocation) (entry from calls : ℕ) (last : Option
   by_reply reply.None made start count none a = absurd a
   by_reply reply.Exists made start count none a = absurd a
 
-  pub by_call : (r : Reply) → from ≤ d.hi → IsLast → (r ≡ reply.Busy → low s.kind s.map 1 from d.hi ≡ None → drawn s.kind s.map d ≡ None) → IsCalled before (Alloc 1 from d.hi entry) r s' → IsDrawn d s entry (came_by wrapped r) (after_reply d r) s'
+  pub by_call : (r : Reply) → from ≤ d.hi → IsLast → (r ≡ reply.Busy → low s.kind s.map 1 from d.hi ≡ None → drawn s.kind s.map d ≡ None) → IsNextCall before (Alloc 1 from d.hi entry) r s' → IsDrawn d s entry (came_by wrapped r) (after_reply d r) s'
   by_call r order all none called =
       by_reply r (are_made r all called) all.1 (ap (λ (x : Allocation). x.calls) called.after) none (one_call before s' from d.hi entry r order called)
 
@@ -124,13 +124,13 @@ few_calls s d entry = by_fold (is_twofold s.kind s.map d entry)
     by_fold false = omega arith
 
 pub first_is_last : (d : Draws) (s s' : Allocation) (entry from : ℕ) (answer : Result Reply ℕ) → d.at ≡ Some from → from ≤ d.hi → (answer ≡ Ok reply.Busy → ⊥)
-    → IfOk answer (λ r. IsCalled s (Alloc 1 from d.hi entry) r s') → IfErr answer (λ n. IsSpent s n s') → IsDrawn d s entry (came_to false answer) (after_answer d answer) s'
+    → IfOk answer (λ r. IsNextCall s (Alloc 1 from d.hi entry) r s') → IfErr answer (λ n. IsSpent s n s') → IsDrawn d s entry (came_to false answer) (after_answer d answer) s'
 first_is_last d s s' entry from answer at order other called spent = by_answer answer other called spent
   where
     found : (n : ℕ) → low s.kind s.map 1 from d.hi ≡ Some n → drawn s.kind s.map d ≡ Some (record { at = n; wrapped = false })
     found n is = ap (λ (o : Option ℕ). first_found (from_position s.kind s.map d.hi o) (low s.kind s.map 1 d.lo d.hi)) at ∙ ap (λ (o : Option ℕ). first_found o (low s.kind s.map 1 d.lo d.hi)) is
 
-    by_answer : (answer : Result Reply ℕ) → (answer ≡ Ok reply.Busy → ⊥) → IfOk answer (λ r. IsCalled s (Alloc 1 from d.hi entry) r s') → IfErr answer (λ n. IsSpent s n s') → IsDrawn d s entry (came_to false answer) (after_answer d answer) s'
+    by_answer : (answer : Result Reply ℕ) → (answer ≡ Ok reply.Busy → ⊥) → IfOk answer (λ r. IsNextCall s (Alloc 1 from d.hi entry) r s') → IfErr answer (λ n. IsSpent s n s') → IsDrawn d s entry (came_to false answer) (after_answer d answer) s'
     by_answer (Ok r) other called spent =
         let not_busy : r ≡ reply.Busy → ⊥ = λ busy. other (ap (λ (x : Reply). Ok x) busy) in
         let one = once d s entry from at s'.map r not_busy (one_call s s' from d.hi entry r order called) in
@@ -139,7 +139,7 @@ first_is_last d s s' entry from answer at order other called spent = by_answer a
 
 -- ---- the second
 
-pub busy_leaves : (s t : Allocation) (from hi entry : ℕ) → from ≤ hi → IsCalled s (Alloc 1 from hi entry) reply.Busy t → (is_bad_draw s.kind hi entry ≡ false) × (low s.kind s.map 1 from hi ≡ None) × IsSince s t
+pub busy_leaves : (s t : Allocation) (from hi entry : ℕ) → from ≤ hi → IsNextCall s (Alloc 1 from hi entry) reply.Busy t → (is_bad_draw s.kind hi entry ≡ false) × (low s.kind s.map 1 from hi ≡ None) × IsSince s t
 busy_leaves s t from hi entry order called =
     let answers = one_call s t from hi entry reply.Busy order called in
     let map_is = sym (ap (λ (x : Allocation). x.map) called.after) ∙ answers.2 in
@@ -148,9 +148,9 @@ busy_leaves s t from hi entry order called =
     (answers.0, answers.1, called.after ∙ (λ i. record s { map = map_is i; calls = calls_is i; last = last_is i }))
 
 -- a first call that found no index free leaves the last to be made
-pub busy_before : (s t : Allocation) (d : Draws) (from entry : ℕ) (answer : Result Reply ℕ) → d.at ≡ Some from → from ≤ d.hi → IfOk answer (λ r. IsCalled s (Alloc 1 from d.hi entry) r t) → answer ≡ Ok reply.Busy → IsBeforeLast d s entry t
+pub busy_before : (s t : Allocation) (d : Draws) (from entry : ℕ) (answer : Result Reply ℕ) → d.at ≡ Some from → from ≤ d.hi → IfOk answer (λ r. IsNextCall s (Alloc 1 from d.hi entry) r t) → answer ≡ Ok reply.Busy → IsBeforeLast d s entry t
 busy_before s t d from entry answer at order called busy =
-    let made = subst (λ (a : Result Reply ℕ). IfOk a (λ r. IsCalled s (Alloc 1 from d.hi entry) r t)) busy called in
+    let made = subst (λ (a : Result Reply ℕ). IfOk a (λ r. IsNextCall s (Alloc 1 from d.hi entry) r t)) busy called in
     let left = busy_leaves s t from d.hi entry order made in
     let two = twice d s entry from at left.0 left.1 in
     let count = ap (λ (x : Allocation). x.calls) made.after in
@@ -175,7 +175,7 @@ none_before s d entry at =
     }
 
 pub second_is_last : (d : Draws) (s t s' : Allocation) (entry : ℕ) (answer : Result Reply ℕ) → d.lo ≤ d.hi → IsBeforeLast d s entry t
-    → IfOk answer (λ r. IsCalled t (Alloc 1 d.lo d.hi entry) r s') → IfErr answer (λ n. IsSpent t n s') → IsDrawn d s entry (came_to true answer) (after_answer d answer) s'
+    → IfOk answer (λ r. IsNextCall t (Alloc 1 d.lo d.hi entry) r s') → IfErr answer (λ n. IsSpent t n s') → IsDrawn d s entry (came_to true answer) (after_answer d answer) s'
 second_is_last d s t s' entry answer order before called spent = by_answer answer called spent
   where
     again : Option ℕ
@@ -184,17 +184,17 @@ second_is_last d s t s' entry answer order before called spent = by_answer answe
     gone : drawn s.kind s.map d ≡ first_found None again
     gone = ap (λ (o : Option ℕ). first_found o again) before.none
 
-    by_answer : (answer : Result Reply ℕ) → IfOk answer (λ r. IsCalled t (Alloc 1 d.lo d.hi entry) r s') → IfErr answer (λ n. IsSpent t n s') → IsDrawn d s entry (came_to true answer) (after_answer d answer) s'
+    by_answer : (answer : Result Reply ℕ) → IfOk answer (λ r. IsNextCall t (Alloc 1 d.lo d.hi entry) r s') → IfErr answer (λ n. IsSpent t n s') → IsDrawn d s entry (came_to true answer) (after_answer d answer) s'
     by_answer (Ok r) called spent =
         by_call d s s' entry d.lo t.calls t.last true (λ n is. gone ∙ ap (first_found None) is) r order (before.calls, before.start) (λ busy is. gone ∙ ap (first_found None) is)
-        (subst (λ (x : Allocation). IsCalled x (Alloc 1 d.lo d.hi entry) r s') before.since called)
+        (subst (λ (x : Allocation). IsNextCall x (Alloc 1 d.lo d.hi entry) r s') before.since called)
     by_answer (Err n) called spent =
         let so_many = before.calls in
         by_spent d s s' entry d.lo t.calls t.last true (λ n is. gone ∙ ap (first_found None) is) n before.some (omega arith) (subst (λ (x : Allocation). IsSpent x n s') before.since spent)
 
 -- ---- what is left beside
 
-called_after : (s t s' : Allocation) (from hi entry : ℕ) (r : Reply) → IsSince s t → IsCalled t (Alloc 1 from hi entry) r s' → IsAfter s s'
+called_after : (s t s' : Allocation) (from hi entry : ℕ) (r : Reply) → IsSince s t → IsNextCall t (Alloc 1 from hi entry) r s' → IsAfter s s'
 called_after s t s' from hi entry r since called =
     let map_is = ap (λ (x : Allocation). x.map) called.after in
     let calls_is = ap (λ (x : Allocation). x.calls) called.after in
@@ -204,14 +204,14 @@ called_after s t s' from hi entry r since called =
 since_after : (s t : Allocation) → IsSince s t → IsAfter s t
 since_after s t since = since ∙ (λ i. record s { map = sym (ap (λ (x : Allocation). x.map) since) i; calls = t.calls; last = t.last })
 
-pub made_after : (s t s' : Allocation) (from hi entry : ℕ) (answer : Result Reply ℕ) → IsSince s t → IfOk answer (λ r. IsCalled t (Alloc 1 from hi entry) r s') → IfErr answer (λ n. IsSpent t n s') → IsAfter s s'
+pub made_after : (s t s' : Allocation) (from hi entry : ℕ) (answer : Result Reply ℕ) → IsSince s t → IfOk answer (λ r. IsNextCall t (Alloc 1 from hi entry) r s') → IfErr answer (λ n. IsSpent t n s') → IsAfter s s'
 made_after s t s' from hi entry (Ok r) since called spent = called_after s t s' from hi entry r since called
 made_after s t s' from hi entry (Err n) since called spent = subst (IsAfter s) (sym spent.2) (since_after s t since)
 
 -- ---- as draws are called
 
 -- a number that is answered lies in the window
-pub last_lies : (s s' : Allocation) (d : Draws) (from entry : ℕ) (answer : Result Reply ℕ) → d.lo ≤ from → from ≤ d.hi → IfOk answer (λ r. IsCalled s (Alloc 1 from d.hi entry) r s') → IsLastAnswer d answer
+pub last_lies : (s s' : Allocation) (d : Draws) (from entry : ℕ) (answer : Result Reply ℕ) → d.lo ≤ from → from ≤ d.hi → IfOk answer (λ r. IsNextCall s (Alloc 1 from d.hi entry) r s') → IsLastAnswer d answer
 last_lies s s' d from entry (Ok r) begins order called = lies s s' d from entry r begins order called
 last_lies s s' d from entry (Err n) begins order called = tt
 

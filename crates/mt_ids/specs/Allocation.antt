@@ -36,7 +36,7 @@ abbrev pub recorded : Call → Reply → Record
 recorded call reply = record { pass = 0; call = call; reply = reply }
 
 -- One call more: it was answered by the map, or refused for want of rows, and where nobody else may hold rows none is held.
-pub record IsCalled (s : Allocation) (call : Call) (reply : Reply) (s' : Allocation) : Type 0 where
+pub record IsNextCall (s : Allocation) (call : Call) (reply : Reply) (s' : Allocation) : Type 0 where
   pub room : s.calls < s.limit
   pub answered : IsAnswered s.kind (limits_at s s.calls) s.map (recorded call reply)
   pub unheld : s.alone ≡ true → (shortage : Shortage) → reply ≡ NoNodes shortage → shortage.held ≡ 0

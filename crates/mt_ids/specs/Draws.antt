@@ -40,8 +40,8 @@ abbrev pub drawn : Kind → List Range → Draws → Option Found
 drawn kind m d = first_found (from_position kind m d.hi d.at) (low kind m 1 d.lo d.hi)
 
 -- the position behind a number
-abbrev pub behind : Draws → ℕ → Draws
-behind d s = record d { at = if s == d.hi then None else Some (s + 1) }
+abbrev pub position_behind : Draws → ℕ → Draws
+position_behind d s = record d { at = if s == d.hi then None else Some (s + 1) }
 
 -- no number can be drawn: of a tree of this kind, or up to this index, or for this entry
 abbrev pub is_bad_draw : Kind → ℕ → ℕ → Bool
@@ -73,7 +73,7 @@ pub record AreMade (d : Draws) (s : Allocation) (entry : ℕ) (r : Reply) (s' : 
   pub last : s'.last ≡ Some (record { call = Alloc 1 (last_start s d entry) d.hi entry; reply = r })
 
 -- The last call of a draw was refused for want of rows.
-pub record LacksRows (d : Draws) (s : Allocation) (entry : ℕ) (shortage : Shortage) (s' : Allocation) : Type 0 where
+pub record IsDrawShort (d : Draws) (s : Allocation) (entry : ℕ) (shortage : Shortage) (s' : Allocation) : Type 0 where
   pub made : AreMade d s entry (reply.NoNodes shortage) s'
   pub refused : IsRefused s.kind (limits_at s (s'.calls - 1)) s.map (Alloc 1 (last_start s d entry) d.hi entry) (reply.NoNodes shortage)
   pub unheld : s.alone ≡ true → shortage.held ≡ 0
@@ -88,8 +88,8 @@ pub record LacksCalls (d : Draws) (s : Allocation) (entry calls : ℕ) (s' : All
 -- what a draw may answer, and what it leaves of the map and the position
 abbrev pub IsDrawn : Draws → Allocation → ℕ → Drawn → Draws → Allocation → Type 0
 IsDrawn d s entry (Number at wrapped) d' s' =
-    AreMade d s entry (reply.Start at) s' × (is_bad_draw s.kind d.hi entry ≡ false) × (drawn s.kind s.map d ≡ Some (record { at = at; wrapped = wrapped })) × (s'.map ≡ over s.map at at entry) × (d' ≡ behind d at)
+    AreMade d s entry (reply.Start at) s' × (is_bad_draw s.kind d.hi entry ≡ false) × (drawn s.kind s.map d ≡ Some (record { at = at; wrapped = wrapped })) × (s'.map ≡ over s.map at at entry) × (d' ≡ position_behind d at)
 IsDrawn d s entry Busy d' s' = AreMade d s entry reply.Busy s' × (is_bad_draw s.kind d.hi entry ≡ false) × (drawn s.kind s.map d ≡ None) × (s'.map ≡ s.map) × (d' ≡ d)
 IsDrawn d s entry Invalid d' s' = AreMade d s entry reply.Invalid s' × (is_bad_draw s.kind d.hi entry ≡ true) × (s'.map ≡ s.map) × (d' ≡ d)
-IsDrawn d s entry (NoNodes shortage) d' s' = LacksRows d s entry shortage s' × (s'.map ≡ s.map) × (d' ≡ d)
+IsDrawn d s entry (NoNodes shortage) d' s' = IsDrawShort d s entry shortage s' × (s'.map ≡ s.map) × (d' ≡ d)
 IsDrawn d s entry (Worn calls) d' s' = LacksCalls d s entry calls s' × (s'.map ≡ s.map) × (d' ≡ d)

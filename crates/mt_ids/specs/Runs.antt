@@ -4,7 +4,7 @@ use Rattle.std.specs.Prelude.{◌≡◌, ℕ, ◌+◌, ◌≤◌, Bool, None, Re
 use Rattle.mt_base.specs.declared.replies.Reply.{Reply}
 use Rattle.mt_base.specs.declared.replies.Reply.TheVariants as reply
 use Rattle.mt_ids.specs.Allocation.{Allocation, IsSince}
-use Rattle.mt_ids.specs.Draws.{behind, calls_of, from_position, last_start}
+use Rattle.mt_ids.specs.Draws.{position_behind, calls_of, from_position, last_start}
 use Rattle.mt_ids.specs.Window.{Draws}
 use Rattle.mt_ids.specs.declared.ids.Drawn.{Drawn}
 use Rattle.mt_ids.specs.declared.ids.Drawn.TheVariants as drawn
@@ -25,7 +25,7 @@ came_to wrapped (Ok r) = came_by wrapped r
 came_to wrapped (Err calls) = drawn.Worn calls
 
 abbrev pub after_reply : Draws → Reply → Draws
-after_reply d (reply.Start at) = behind d at
+after_reply d (reply.Start at) = position_behind d at
 after_reply d reply.Busy = d
 after_reply d (reply.NoNodes shortage) = d
 after_reply d reply.Ok = d

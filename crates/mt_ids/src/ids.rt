@@ -1,6 +1,6 @@
 ghost use Rattle.std.specs.Prelude.{◌≡◌, ◌↔◌, ◌+◌, ◌≤◌, ◌<◌, Option, Some, None, true, false, IsTrue};
 ghost use Rattle.mt_ids.specs.Allocation.{Allocation, IsAfter, IsSince};
-ghost use Rattle.mt_ids.specs.Draws.{IsDrawn, behind};
+ghost use Rattle.mt_ids.specs.Draws.{IsDrawn, position_behind};
 ghost use Rattle.mt_ids.specs.Window.{new_draws};
 ghost use Rattle.mt_ids.specs.Runs.{after_answer, came_to, IsBeforeLast, IsLastAnswer};
 
@@ -66,7 +66,7 @@ impl Ids {
     fn go_behind(&mut self, at: u64)
         requires from { self.old.lo ≤ at }
         requires to { at ≤ self.old.hi }
-        ensures { self.new ≡ behind self.old at }
+        ensures { self.new ≡ position_behind self.old at }
     {
         self.at = if at == self.hi { None } else { Some(at + 1) };
     }

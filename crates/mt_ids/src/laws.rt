@@ -9,7 +9,7 @@ ghost use Rattle.mt_base.specs.Holes.{low};
 ghost use Rattle.mt_base.specs.Map.{IsMap, over, is_held};
 ghost use Rattle.mt_base.specs.Width.{most_rows};
 ghost use Rattle.mt_ids.specs.Allocation.{Allocation};
-ghost use Rattle.mt_ids.specs.Draws.{LacksRows, behind, drawn};
+ghost use Rattle.mt_ids.specs.Draws.{IsDrawShort, position_behind, drawn};
 ghost use Rattle.mt_ids.specs.Window.{Draws, new_draws};
 
 /// A number that is drawn was free, and its entry is one range more at the most.
@@ -22,14 +22,14 @@ pub fn a_draw_adds_one_range_at_most()
 /// A tree of 65,504 rows with no more than 100,001 ranges refuses no draw for want of rows, where nobody else may hold rows.
 #[tactic(auto, using(crate::proofs::FewRanges::none_lacked))]
 pub fn no_draw_of_few_ranges_lacks_rows()
-    ensures { (d : Draws) (s : Allocation) (entry : ℕ) (shortage : Shortage) (s' : Allocation) → s.rows ≡ most_rows → length s.map ≤ 100001 → s.alone ≡ true → LacksRows d s entry shortage s' → ⊥ }
+    ensures { (d : Draws) (s : Allocation) (entry : ℕ) (shortage : Shortage) (s' : Allocation) → s.rows ≡ most_rows → length s.map ≤ 100001 → s.alone ≡ true → IsDrawShort d s entry shortage s' → ⊥ }
 {}
 
 /// Draws from 5 to 6: of the empty map 5; behind the window's last index none is left but anew; and none at all of a full window.
 pub fn draws_worked()
     ensures first { drawn kinds.Alloc [] (new_draws 5 6) ≡ Some (record { at = 5; wrapped = false }) }
-    ensures behind { (behind (new_draws 5 6) 5).at ≡ Some 6 }
-    ensures ends { (behind (new_draws 5 6) 6).at ≡ None }
-    ensures anew { drawn kinds.Alloc (over [] 6 6 4097) (behind (new_draws 5 6) 6) ≡ Some (record { at = 5; wrapped = true }) }
-    ensures full { drawn kinds.Alloc (over [] 5 6 4097) (behind (new_draws 5 6) 6) ≡ None }
+    ensures behind { (position_behind (new_draws 5 6) 5).at ≡ Some 6 }
+    ensures ends { (position_behind (new_draws 5 6) 6).at ≡ None }
+    ensures anew { drawn kinds.Alloc (over [] 6 6 4097) (position_behind (new_draws 5 6) 6) ≡ Some (record { at = 5; wrapped = true }) }
+    ensures full { drawn kinds.Alloc (over [] 5 6 4097) (position_behind (new_draws 5 6) 6) ≡ None }
 {}

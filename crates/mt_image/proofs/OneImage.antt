@@ -32,20 +32,20 @@ use Rattle.mt_rows.proofs.Heights.{level_next}
 use Rattle.mt_rows.proofs.InnerKinds.{inner_no_leaf}
 use Rattle.mt_rows.proofs.Reached as reached
 use Rattle.mt_image.specs.Bytes.{image_of, image_parts, words_of}
-use Rattle.mt_dup.specs.Copy.{renamed, slot_renamed, IsCopy}
+use Rattle.mt_dup.specs.Copy.{with_new_row, slot_renamed, IsCopy}
 use Rattle.mt_image.specs.Orders.{IsGood}
 use Rattle.mt_image.proofs.Places.{times_of, in_range, fixed, as_many}
 
 -- ---- words that stay
 
 module _ (number : ℕ → ℕ) (none : number 0 ≡ 0) where
-  zero_stays : renamed number 0 ≡ 0
+  zero_stays : with_new_row number 0 ≡ 0
   zero_stays = omega (arith, none)
 
-  one_stays : renamed number 1 ≡ 1
+  one_stays : with_new_row number 1 ≡ 1
   one_stays = omega (arith, none)
 
-  name_stays : (word : ℕ) → number (row_in word) ≡ row_in word → renamed number word ≡ word
+  name_stays : (word : ℕ) → number (row_in word) ≡ row_in word → with_new_row number word ≡ word
   name_stays word same = ap (λ (r : ℕ). parent_at r (word % 256)) same ∙ whole
     where
       whole : parent_at (row_in word) (word % 256) ≡ word
@@ -109,7 +109,7 @@ module _ (kind : Kind) (t t' : Rooted) (good : IsGood kind t) (good' : IsGood ki
     law k x on = reached.on_level_law T h stands k x on
 
     -- the number of a row that stands on a level stays
-    word_stays : (k : ℕ) (x : Span) → On k x → renamed number x.word ≡ x.word
+    word_stays : (k : ℕ) (x : Span) → On k x → with_new_row number x.word ≡ x.word
     word_stays k x on =
         let l = law k x on in
         let first = (Names-named_kind x.word (kind_on T.gapped k) l.name.named).0.0 in
@@ -117,15 +117,15 @@ module _ (kind : Kind) (t t' : Rooted) (good : IsGood kind t) (good' : IsGood ki
 
     -- ---- parent words
 
-    parent_stays : (k : ℕ) (x : Span) → On k x → renamed number (column t.table (row_in x.word) 0) ≡ column t.table (row_in x.word) 0
+    parent_stays : (k : ℕ) (x : Span) → On k x → with_new_row number (column t.table (row_in x.word) 0) ≡ column t.table (row_in x.word) 0
     parent_stays k x on = by_depth on.depth on.height on.one
       where
         root_word : (x : Span) → reached.IsOneOf x (root_of T) → column t.table (row_in x.word) 0 ≡ 1
         root_word x (inl same) = ap (λ (y : Span). column t.table (row_in y.word) 0) same ∙ one
         root_word x (inr none) = absurd none
 
-        by_depth : (d : ℕ) → h ≡ d + k → reached.IsOneOf x (level t.table d (root_of T)) → renamed number (column t.table (row_in x.word) 0) ≡ column t.table (row_in x.word) 0
-        by_depth zero height here = let is = root_word x here in ap (renamed number) is ∙ (one_stays number copy.none ∙ sym is)
+        by_depth : (d : ℕ) → h ≡ d + k → reached.IsOneOf x (level t.table d (root_of T)) → with_new_row number (column t.table (row_in x.word) 0) ≡ column t.table (row_in x.word) 0
+        by_depth zero height here = let is = root_word x here in ap (with_new_row number) is ∙ (one_stays number copy.none ∙ sym is)
         by_depth (suc d) height here =
             let above = reached.expand_one_of t.table (level t.table d (root_of T)) x (subst (reached.IsOneOf x) (level_next t.table d (root_of T)) here) in
             let y = above.0 in
@@ -138,7 +138,7 @@ module _ (kind : Kind) (t t' : Rooted) (good : IsGood kind t) (good' : IsGood ki
             let row_is : row_in (parent_at (row_in y.word) (0 + at.0)) ≡ row_in y.word = row_of_parent (row_in y.word) (0 + at.0) (omega arith) in
             let first = (Names-named_kind y.word (kind_on T.gapped (suc k)) law_y.name.named).0.0 in
             let keeps : number (row_in (parent_at (row_in y.word) (0 + at.0))) ≡ row_in (parent_at (row_in y.word) (0 + at.0)) = ap number row_is ∙ (stays (row_in y.word) first law_y.name.in_table ∙ sym row_is) in
-            ap (renamed number) read ∙ (name_stays number copy.none (parent_at (row_in y.word) (0 + at.0)) keeps ∙ sym read)
+            ap (with_new_row number) read ∙ (name_stays number copy.none (parent_at (row_in y.word) (0 + at.0)) keeps ∙ sym read)
 
     -- ---- the words in slots
 
@@ -162,7 +162,7 @@ module _ (kind : Kind) (t t' : Rooted) (good : IsGood kind t) (good' : IsGood ki
         ∙ slot_word (columns t.table.width) slots (gaps_of t.table.width (inner_of T.gapped)) (column t.table (row_in x.word) 0) items (layout_of t.table.width (inner_of T.gapped)) fit i within
 
     inner_stays : (k : ℕ) (x : Span) → On (suc k) x → (i : ℕ) → i < slots_of t.table.width (inner_of T.gapped)
-        → renamed number (column t.table (row_in x.word) (slot_column (slots_of t.table.width (inner_of T.gapped)) i)) ≡ column t.table (row_in x.word) (slot_column (slots_of t.table.width (inner_of T.gapped)) i)
+        → with_new_row number (column t.table (row_in x.word) (slot_column (slots_of t.table.width (inner_of T.gapped)) i)) ≡ column t.table (row_in x.word) (slot_column (slots_of t.table.width (inner_of T.gapped)) i)
     inner_stays k x on i within =
         let l = law (suc k) x on in
         let items = items_in t.table (inner_of T.gapped) x in
@@ -172,14 +172,14 @@ module _ (kind : Kind) (t t' : Rooted) (good : IsGood kind t) (good' : IsGood ki
       where
         by_item : (word : ℕ) → word ≡ (item_or (items_in t.table (inner_of T.gapped) x) i).word
             → ((y : Span) × (slice_get (spans_from x.first (items_in t.table (inner_of T.gapped) x)) i ≡ Some y) × ((item_or (items_in t.table (inner_of T.gapped) x) i).word ≡ y.word)) ⊎ ((item_or (items_in t.table (inner_of T.gapped) x) i).word ≡ 0)
-            → spans_in t.table x ≡ spans_from x.first (items_in t.table (inner_of T.gapped) x) → renamed number word ≡ word
+            → spans_in t.table x ≡ spans_from x.first (items_in t.table (inner_of T.gapped) x) → with_new_row number word ≡ word
         by_item word read (inl (y, at, is)) spans =
             let child = child_on k x on i y (ap (λ (l : List Span). slice_get l i) spans ∙ at) in
             let same = read ∙ is in
-            ap (renamed number) same ∙ (word_stays k y child ∙ sym same)
-        by_item word read (inr nothing) spans = let same = read ∙ nothing in ap (renamed number) same ∙ (zero_stays number copy.none ∙ sym same)
+            ap (with_new_row number) same ∙ (word_stays k y child ∙ sym same)
+        by_item word read (inr nothing) spans = let same = read ∙ nothing in ap (with_new_row number) same ∙ (zero_stays number copy.none ∙ sym same)
 
-    by_kind : (k : RowKind) (word : ℕ) → k ≢ Leaf → renamed number word ≡ word → slot_renamed number k word ≡ word
+    by_kind : (k : RowKind) (word : ℕ) → k ≢ Leaf → with_new_row number word ≡ word → slot_renamed number k word ≡ word
     by_kind Leaf word other stays_so = absurd (other refl)
     by_kind Inner word other stays_so = stays_so
     by_kind Gapped word other stays_so = stays_so
@@ -242,7 +242,7 @@ module _ (kind : Kind) (t t' : Rooted) (good : IsGood kind t) (good' : IsGood ki
 
   pub roots_same : t'.root ≡ t.root
   roots_same = elim good.lawful.words [
-    | inl empty ↦ copy.root ∙ (ap (renamed number) empty ∙ (zero_stays number copy.none ∙ sym empty))
+    | inl empty ↦ copy.root ∙ (ap (with_new_row number) empty ∙ (zero_stays number copy.none ∙ sym empty))
     | inr (h, stands, one, tended) ↦ root_same h stands one tended
   ]
 

@@ -15,7 +15,7 @@ use Rattle.mt_rows.specs.Publish.{tree_as, map_by}
 use Rattle.mt_image.specs.Bytes.{image_of, kind_code, words_of}
 use Rattle.mt_image.specs.Images.{IsImageOf, IsImageOfMap, IsOrderedCopy}
 use Rattle.mt_image.specs.Orders.{IsGood}
-use Rattle.mt_image.specs.Reading.{number_at, numbers_from, kind_numbered, tree_in, lawful, placed, length_of, image_of_kind, image_in}
+use Rattle.mt_image.specs.Reading.{number_at, numbers_from, kind_numbered, image_tree, lawful, placed, image_length, image_of_kind, image_in}
 use Rattle.mt_image.proofs.Numbers.{numbers_read}
 use Rattle.mt_image.proofs.Sizes.{words_left}
 use Rattle.mt_image.proofs.WalkOrder.{in_order}
@@ -76,14 +76,14 @@ module _ (kind : Kind) (t : Rooted) (good : IsGood kind t) where
   zeros : t.table.words ≡ replicate (columns (kind_width kind) * first_row) 0 ++ words_of t
   zeros = good.whole.zeros ∙ ap (λ (w : Width). replicate (columns w * first_row) 0 ++ words_of t) good.lawful.width
 
-  tree_is : tree_in bytes kind ≡ t
+  tree_is : image_tree bytes kind ≡ t
   tree_is =
       let rows_is = are_read.rows in
       let many : number_at bytes 16 * columns (kind_width kind) ≡ length (words_of t) = ap (λ (n : ℕ). n * columns (kind_width kind)) rows_is ∙ sym size in
       let words_is = ap (λ (l : List ℕ). replicate (columns (kind_width kind) * first_row) 0 ++ l) (ap (numbers_from bytes 32) many ∙ are_read.words) ∙ sym zeros in
       (λ i. record { rows = rows_is i; table = record { width = sym good.lawful.width i; words = words_is i }; root = are_read.root i })
 
-  long : length bytes ≡ length_of kind t.rows
+  long : length bytes ≡ image_length kind t.rows
   long = omega (arith, length-append (codes "mtimage1") (flat_map (to_le_bytes w64) ns), all_bytes ns, size)
 
   -- the words of the tree have no fault
@@ -100,7 +100,7 @@ module _ (kind : Kind) (t : Rooted) (good : IsGood kind t) where
       behind_head =
           let rows_is = are_read.rows in
           let few : nat_lt most_rows (number_at bytes 16) ≡ false = le-ltb most_rows (number_at bytes 16) (let most = good.whole.few in omega arith) in
-          let size : (length bytes == length_of kind (number_at bytes 16)) ≡ true = eq-eqb (length bytes) (length_of kind (number_at bytes 16)) (long ∙ ap (length_of kind) (sym rows_is)) in
+          let size : (length bytes == image_length kind (number_at bytes 16)) ≡ true = eq-eqb (length bytes) (image_length kind (number_at bytes 16)) (long ∙ ap (image_length kind) (sym rows_is)) in
           rw (few, size)
           (ap (λ (x : Rooted). lawful (record { kind = kind; tree = x }) (checked (tree_as kind x))) tree_is
           ∙ (ap (lawful (record { kind = kind; tree = t })) faultless ∙ ap (placed (record { kind = kind; tree = t })) (in_order t good.order)))

@@ -17,7 +17,7 @@ use Rattle.mt_rows.specs.Sheet.{Rooted}
 use Rattle.mt_rows.specs.Publish.{tree_as}
 use Rattle.mt_image.specs.Bytes.{image_of, kind_code, words_of}
 use Rattle.mt_image.specs.Orders.{IsGood, IsTable, stray_in}
-use Rattle.mt_image.specs.Reading.{AreBytes, Image, number_at, numbers_from, all_kinds, kind_numbered, tree_in, lawful, placed, length_of, image_of_kind, image_in}
+use Rattle.mt_image.specs.Reading.{AreBytes, Image, number_at, numbers_from, all_kinds, kind_numbered, image_tree, lawful, placed, image_length, image_of_kind, image_in}
 use Rattle.mt_image.proofs.Assembled.{numbers_length}
 use Rattle.mt_image.proofs.Sizes.{all_words}
 use Rattle.mt_image.proofs.WalkOrder.{not_stray}
@@ -62,9 +62,9 @@ kind_is n kind is = eqb-true (kind_code kind) n (find_holds (λ (k : Kind). kind
 -- what is read behind the head, how many bytes there are, and that there was no reason to refuse them
 record IsRead (bytes : List ℕ) (x : Image) : Type 0 where
   kind : kind_numbered (number_at bytes 8) ≡ Some x.kind
-  tree : x.tree ≡ tree_in bytes x.kind
+  tree : x.tree ≡ image_tree bytes x.kind
   few : number_at bytes 16 ≤ most_rows
-  size : length bytes ≡ length_of x.kind (number_at bytes 16)
+  size : length bytes ≡ image_length x.kind (number_at bytes 16)
   lawful : IsOk (checked (tree_as x.kind x.tree))
   placed : stray_in x.tree ≡ None
 
@@ -82,15 +82,15 @@ by_kind bytes x (Some kind) named is = elim (cases_Bool (nat_lt most_rows (numbe
   | inl many ↦ absurd (let no = rw many at is in cc)
   | inr few ↦
       let sized = rw few at is in
-      elim (cases_Bool (length bytes == length_of kind (number_at bytes 16))) [
+      elim (cases_Bool (length bytes == image_length kind (number_at bytes 16))) [
         | inl long ↦
             let read = rw long at sized in
-            let found = by_law (record { kind = kind; tree = tree_in bytes kind }) x (checked (tree_as kind (tree_in bytes kind))) read in
+            let found = by_law (record { kind = kind; tree = image_tree bytes kind }) x (checked (tree_as kind (image_tree bytes kind))) read in
             subst (IsRead bytes) found.0 (record {
               kind = named;
               tree = refl;
               few = ltb-false most_rows (number_at bytes 16) few;
-              size = eqb-true (length bytes) (length_of kind (number_at bytes 16)) long;
+              size = eqb-true (length bytes) (image_length kind (number_at bytes 16)) long;
               lawful = found.1;
               placed = found.2;
             })
@@ -108,7 +108,7 @@ same_bytes (x ∷ a) (y ∷ b) is =
     let others = same_bytes a b both.1 in
     (λ i. first i ∷ others i)
 
-in_tree : (bytes : List ℕ) (kind : Kind) → words_of (tree_in bytes kind) ≡ numbers_from bytes 32 (number_at bytes 16 * columns (kind_width kind))
+in_tree : (bytes : List ℕ) (kind : Kind) → words_of (image_tree bytes kind) ≡ numbers_from bytes 32 (number_at bytes 16 * columns (kind_width kind))
 in_tree bytes kind =
     drop_at (replicate (columns (kind_width kind) * first_row) 0) (numbers_from bytes 32 (number_at bytes 16 * columns (kind_width kind))) (columns (kind_width kind) * first_row)
     (length-replicate {A = ℕ} (columns (kind_width kind) * first_row) 0)
@@ -156,7 +156,7 @@ numbers_small bytes at zero small = tt
 numbers_small bytes at (suc n) small = (number_small bytes at small, numbers_small bytes (at + 8) n small)
 
 -- the tree in the bytes has a word for each column
-table_read : (bytes : List ℕ) (kind : Kind) → AreBytes bytes → number_at bytes 16 ≤ most_rows → IsTable (tree_in bytes kind)
+table_read : (bytes : List ℕ) (kind : Kind) → AreBytes bytes → number_at bytes 16 ≤ most_rows → IsTable (image_tree bytes kind)
 table_read bytes kind small few =
     let n = number_at bytes 16 * columns (kind_width kind) in
     let words = numbers_from bytes 32 n in

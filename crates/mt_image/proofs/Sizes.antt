@@ -4,19 +4,19 @@ use Rattle.mt_base.specs.declared.widths.Width.{Width}
 use Rattle.mt_base.specs.declared.widths.Width.TheVariants.{Long, Short}
 use Rattle.mt_base.specs.declared.kinds.Kind.{Kind}
 use Rattle.mt_base.specs.Width.{columns, first_row, kind_width, most_rows}
-use Rattle.mt_image.specs.Reading.{length_of}
+use Rattle.mt_image.specs.Reading.{image_length}
 
 words_few : (width : Width) (rows : ℕ) → rows ≤ most_rows → rows * columns width ≤ most_rows * 64
 words_few Long rows few = omega arith
 words_few Short rows few = omega arith
 
-pub words_inside : (kind : Kind) (rows size : ℕ) → size ≡ length_of kind rows → 32 + 8 * (rows * columns (kind_width kind)) ≤ size
+pub words_inside : (kind : Kind) (rows size : ℕ) → size ≡ image_length kind rows → 32 + 8 * (rows * columns (kind_width kind)) ≤ size
 words_inside kind rows size is = omega arith
 
 pub few_words : (kind : Kind) (rows : ℕ) → rows ≤ most_rows → rows * columns (kind_width kind) < 2 ^ 32
 few_words kind rows few = let most = words_few (kind_width kind) rows few in omega arith
 
-pub short : (kind : Kind) (rows size : ℕ) → rows ≤ most_rows → size ≡ length_of kind rows → size < 2 ^ 32
+pub short : (kind : Kind) (rows size : ℕ) → rows ≤ most_rows → size ≡ image_length kind rows → size < 2 ^ 32
 short kind rows size few is = let most = words_few (kind_width kind) rows few in omega arith
 
 -- so many rows of a width

@@ -12,7 +12,7 @@ use Rattle.mt_rows.specs.Trees.{reached_in}
 use Rattle.mt_rows.specs.Sheet.{Rooted, Sheet, IsWhole}
 use Rattle.mt_rows.specs.Publish.{with_published, map_by, is_reached, IsLawfulOf, MayPlant}
 use Rattle.mt_dup.specs.Copy.{AreInOrder, IsCopy, IsNewBut}
-use Rattle.mt_image.specs.Bytes.{image_parts, kind_code, tree_of, words_of}
+use Rattle.mt_image.specs.Bytes.{image_parts, kind_code, tree_with_words, words_of}
 use Rattle.mt_image.specs.Images.{IsOrderedCopy}
 use Rattle.mt_image.proofs.FewReached.{few_reached, reached_inside}
 use Rattle.mt_image.proofs.Places.{times_of}
@@ -70,10 +70,10 @@ module _ (kind : Kind) (t : Rooted) (d : Sheet) (root live rows : ℕ) (words : 
       | inr high ↦ sym (same at high)
     ])
 
-    copy_is : copy ≡ tree_of kind live root words
+    copy_is : copy ≡ tree_with_words kind live root words
     copy_is = (λ i. record { rows = rows_are i; table = record { width = may.lawful.width i; words = words_are i }; root = root })
 
-    pub ordered : root < 2 ^ 64 → AllByRecursion (λ n. n < 2 ^ 64) words → IsOrderedCopy kind t (tree_of kind live root words)
+    pub ordered : root < 2 ^ 64 → AllByRecursion (λ n. n < 2 ^ 64) words → IsOrderedCopy kind t (tree_with_words kind live root words)
     ordered root_small small = subst (IsOrderedCopy kind t) copy_is record {
       good = record {
         whole = record {
@@ -96,7 +96,7 @@ module _ (kind : Kind) (t : Rooted) (d : Sheet) (root live rows : ℕ) (words : 
 pub all_written : (kind : Kind) (rows root code cols : ℕ) (text head bytes words seen : List ℕ) → cols ≡ columns (kind_width kind) → seen ≡ words → code ≡ kind_code kind
     → text ≡ codes "mtimage1" → head ≡ text ++ flat_map (to_le_bytes w64) (code ∷ (rows ∷ (root ∷ [])))
     → bytes ≡ head ++ flat_map (to_le_bytes w64) (take (length seen - cols * first_row) (drop (cols * first_row) seen))
-    → bytes ≡ image_parts kind rows root (words_of (tree_of kind rows root words))
+    → bytes ≡ image_parts kind rows root (words_of (tree_with_words kind rows root words))
 all_written kind rows root code cols text head bytes words seen cols_is seen_is code_is text_is head_is bytes_is =
     let before = columns (kind_width kind) * first_row in
     let rest : take (length words - before) (drop before words) ≡ drop before words = take_all (length words - before) (drop before words) (omega (arith, length-drop before words)) in

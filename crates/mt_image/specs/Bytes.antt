@@ -16,8 +16,8 @@ kind_code kinds.Range32 = 2
 kind_code kinds.Alloc32 = 3
 
 -- a tree of this kind whose table has these words
-abbrev pub tree_of : Kind → ℕ → ℕ → List ℕ → Rooted
-tree_of kind rows root words = record { rows = rows; table = record { width = kind_width kind; words = words }; root = root }
+abbrev pub tree_with_words : Kind → ℕ → ℕ → List ℕ → Rooted
+tree_with_words kind rows root words = record { rows = rows; table = record { width = kind_width kind; words = words }; root = root }
 
 -- the words of the rows: all of the table but those before the first row
 abbrev pub words_of : Rooted → List ℕ

@@ -10,8 +10,8 @@ use Rattle.mt_rows.specs.Publish.{IsLawfulOf}
 use Rattle.mt_image.specs.Bytes.{words_of}
 
 -- the walk comes to all rows, and to the first first, to the next next, and so on
-abbrev pub InOrder : Rooted → Type 0
-InOrder t = reached_in t.table t.root ≡ range_with_len first_row t.rows
+abbrev pub AreRowsInOrder : Rooted → Type 0
+AreRowsInOrder t = reached_in t.table t.root ≡ range_with_len first_row t.rows
 
 -- the least of so many rows, from one on, that is not at its place of a walk
 abbrev pub stray_from : ℕ → ℕ → List ℕ → Option ℕ
@@ -35,4 +35,4 @@ pub record IsTable (t : Rooted) : Type 0 where
 pub record IsGood (kind : Kind) (t : Rooted) : Type 0 where
   pub whole : IsTable t
   pub lawful : IsLawfulOf t kind
-  pub order : InOrder t
+  pub order : AreRowsInOrder t

@@ -13,7 +13,7 @@ use Rattle.mt_check.specs.Check.{checked}
 use Rattle.mt_rows.specs.OfWords.{IsMadeOf}
 use Rattle.mt_rows.specs.Sheet.{Rooted, Sheet}
 use Rattle.mt_rows.specs.Publish.{tree_as}
-use Rattle.mt_image.specs.Bytes.{kind_code, tree_of}
+use Rattle.mt_image.specs.Bytes.{kind_code, tree_with_words}
 use Rattle.mt_image.specs.Orders.{stray_in}
 use Rattle.mt_image.specs.declared.errors.ImageError.{ImageError}
 use Rattle.mt_image.specs.declared.errors.ImageError.TheVariants.{Length, Head, Broken, Stray}
@@ -47,11 +47,11 @@ abbrev pub head_length : ℕ
 head_length = 32
 
 -- the tree of the words in an image of this kind: no row has those before the first row
-abbrev pub words_in : List ℕ → Kind → List ℕ
-words_in bytes kind = replicate (columns (kind_width kind) * first_row) 0 ++ numbers_from bytes head_length (number_at bytes 16 * columns (kind_width kind))
+abbrev pub image_words : List ℕ → Kind → List ℕ
+image_words bytes kind = replicate (columns (kind_width kind) * first_row) 0 ++ numbers_from bytes head_length (number_at bytes 16 * columns (kind_width kind))
 
-abbrev pub tree_in : List ℕ → Kind → Rooted
-tree_in bytes kind = tree_of kind (number_at bytes 16) (number_at bytes 24) (words_in bytes kind)
+abbrev pub image_tree : List ℕ → Kind → Rooted
+image_tree bytes kind = tree_with_words kind (number_at bytes 16) (number_at bytes 24) (image_words bytes kind)
 
 -- Rows in memory that were made of the words in an image of this kind, and only loaded since: no call was begun.
 abbrev pub HoldImage : List ℕ → Kind → Sheet → Type 0
@@ -67,20 +67,20 @@ abbrev pub lawful : Image → Result Form Fault → Result Image ImageError
 lawful image (Ok form) = placed image (stray_in image.tree)
 lawful image (Err fault) = Err (Broken fault.row fault.law)
 
-abbrev pub length_of : Kind → ℕ → ℕ
-length_of kind rows = head_length + 8 * (rows * columns (kind_width kind))
+abbrev pub image_length : Kind → ℕ → ℕ
+image_length kind rows = head_length + 8 * (rows * columns (kind_width kind))
 
 -- behind the head and its length
 abbrev pub behind_head : List ℕ → Kind → Result Image ImageError
-behind_head bytes kind = lawful (record { kind = kind; tree = tree_in bytes kind }) (checked (tree_as kind (tree_in bytes kind)))
+behind_head bytes kind = lawful (record { kind = kind; tree = image_tree bytes kind }) (checked (tree_as kind (image_tree bytes kind)))
 
 -- behind the kind, where it is one
 abbrev pub image_of_kind : List ℕ → Option Kind → Result Image ImageError
 image_of_kind bytes None = Err (Head 8)
 image_of_kind bytes (Some kind) =
     if nat_lt most_rows (number_at bytes 16) then Err (Head 16)
-    else (if length bytes == length_of kind (number_at bytes 16) then behind_head bytes kind
-    else Err (Length (length_of kind (number_at bytes 16)) (length bytes)))
+    else (if length bytes == image_length kind (number_at bytes 16) then behind_head bytes kind
+    else Err (Length (image_length kind (number_at bytes 16)) (length bytes)))
 
 unfoldable pub image_in : List ℕ → Result Image ImageError
 image_in bytes =

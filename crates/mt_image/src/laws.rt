@@ -15,13 +15,13 @@ ghost use Rattle.mt_dup.specs.Walks.{AreNumbered};
 ghost use Rattle.mt_dup.specs.Copy.{IsCopy};
 ghost use Rattle.mt_image.specs.Images.{IsImageOf, IsImageOfMap, IsOrderedCopy};
 ghost use Rattle.mt_image.specs.Reading.{AreBytes, Image, image_in, numbers_from};
-ghost use Rattle.mt_image.specs.Orders.{InOrder, IsGood, stray_in};
+ghost use Rattle.mt_image.specs.Orders.{AreRowsInOrder, IsGood, stray_in};
 
 /// The rows of a lawful tree are in the order of the walk just where none is stray.
 #[tactic(auto, using(crate::proofs::WalkOrder::not_stray, crate::proofs::WalkOrder::in_order))]
 pub fn rows_in_order_have_no_stray()
-    ensures none { (t : Rooted) → InOrder t → stray_in t ≡ None }
-    ensures order { (kind : Kind) (t : Rooted) → IsLawfulOf t kind → stray_in t ≡ None → InOrder t }
+    ensures none { (t : Rooted) → AreRowsInOrder t → stray_in t ≡ None }
+    ensures order { (kind : Kind) (t : Rooted) → IsLawfulOf t kind → stray_in t ≡ None → AreRowsInOrder t }
 {}
 
 /// A shape of a tree has one image: copies of each other whose rows are in the order of the walk have the same.

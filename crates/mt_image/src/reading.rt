@@ -10,7 +10,7 @@ ghost use Rattle.mt_rows.specs.Publish.{tree_as, IsLawfulOf};
 ghost use Rattle.mt_rows.specs.Sheet.{OnlyReads};
 ghost use Rattle.mt_image.specs.Orders.{stray_from};
 ghost use Rattle.mt_image.specs.Reading as defined;
-ghost use Rattle.mt_image.specs.Reading.{HoldImage, behind_head, image_in, lawful, length_of, numbers_from, words_in};
+ghost use Rattle.mt_image.specs.Reading.{HoldImage, behind_head, image_in, lawful, image_length, numbers_from, image_words};
 
 use crate::bytes::{HEAD, TEXT, code_of, number_at, read_numbers};
 use crate::errors::ImageError;
@@ -34,7 +34,7 @@ fn kind_numbered(number: u64) -> Option<Kind>
 /// How many bytes an image of so many rows has.
 fn length_for(kind: Kind, rows: u64) -> u64
     requires { rows ≤ most_rows }
-    ensures { result ≡ length_of kind rows }
+    ensures { result ≡ image_length kind rows }
 {
     HEAD as u64 + 8 * (rows * cols(width_of(kind)) as u64)
 }
@@ -44,7 +44,7 @@ fn check_length(bytes: &[u8], kind: Kind) -> Result<(), ImageError>
     requires { 32 ≤ length bytes.now }
     ensures ok { IfOk result (λ _. defined.image_of_kind bytes.now (Some kind) ≡ behind_head bytes.now kind) }
     ensures rows { IfOk result (λ _. defined.number_at bytes.now 16 ≤ most_rows) }
-    ensures long { IfOk result (λ _. length bytes.now ≡ length_of kind (defined.number_at bytes.now 16)) }
+    ensures long { IfOk result (λ _. length bytes.now ≡ image_length kind (defined.number_at bytes.now 16)) }
     ensures err { IfErr result (λ e. defined.image_of_kind bytes.now (Some kind) ≡ Err e) }
 {
     let rows = number_at(bytes, 16);
@@ -116,7 +116,7 @@ fn has_text(bytes: &[u8]) -> bool
 fn read_head(bytes: &[u8]) -> Result<Kind, ImageError>
     ensures ok { IfOk result (λ kind. image_in bytes.now ≡ behind_head bytes.now kind) }
     ensures rows { IfOk result (λ kind. defined.number_at bytes.now 16 ≤ most_rows) }
-    ensures long { IfOk result (λ kind. length bytes.now ≡ length_of kind (defined.number_at bytes.now 16)) }
+    ensures long { IfOk result (λ kind. length bytes.now ≡ image_length kind (defined.number_at bytes.now 16)) }
     ensures err { IfErr result (λ e. image_in bytes.now ≡ Err e) }
 {
     if bytes.len() < HEAD {
@@ -139,8 +139,8 @@ fn read_head(bytes: &[u8]) -> Result<Kind, ImageError>
 #[tactic(auto, using(crate::proofs::Sizes::words_inside, crate::proofs::Sizes::few_words, crate::proofs::Sizes::short))]
 fn read_words(alloc: Global, bytes: &[u8], kind: Kind) -> Result<Vec<u64>, NoMemory>
     requires rows { defined.number_at bytes.now 16 ≤ most_rows }
-    requires long { length bytes.now ≡ length_of kind (defined.number_at bytes.now 16) }
-    ensures { IfOk result (λ words. words.items ≡ words_in bytes.now kind) }
+    requires long { length bytes.now ≡ image_length kind (defined.number_at bytes.now 16) }
+    ensures { IfOk result (λ words. words.items ≡ image_words bytes.now kind) }
 {
     let columns = cols(width_of(kind)) as usize;
     let rows = number_at(bytes, 16) as usize;

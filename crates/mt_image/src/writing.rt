@@ -6,7 +6,7 @@ ghost use Rattle.mt_base.specs.Width.{columns, first_row, kind_width};
 ghost use Rattle.mt_rows.specs.Publish.{IsLawfulOf};
 ghost use Rattle.mt_rows.specs.Sheet.{OnlyReads};
 ghost use Rattle.mt_rows.specs.Trees.{reached_in};
-ghost use Rattle.mt_image.specs.Bytes.{image_of, tree_of};
+ghost use Rattle.mt_image.specs.Bytes.{image_of, tree_with_words};
 ghost use Rattle.mt_image.specs.Images.{IsImageOf, IsOrderedCopy};
 
 use crate::bytes::{HEAD, TEXT, code_of, push_numbers};
@@ -38,7 +38,7 @@ fn copy_in_order<R: Rows, L: Ledger>(
     requires some { 0 < blank.parts }
     requires lawful { IsLawfulOf (R.sheet rows.old).tree kind }
     requires live { live ≡ length (reached_in (R.sheet rows.old).tree.table (R.sheet rows.old).tree.root) }
-    ensures copy { IfOk result (λ r. IsOrderedCopy kind (R.sheet rows.old).tree (tree_of kind live r.1 r.0.items)) }
+    ensures copy { IfOk result (λ r. IsOrderedCopy kind (R.sheet rows.old).tree (tree_with_words kind live r.1 r.0.items)) }
     ensures rest { OnlyReads (R.sheet rows.old) (R.sheet rows.new) }
 {
     let mut copy = PlainRows::of_width(alloc, width_of(kind), live)?;
@@ -59,7 +59,7 @@ fn image_bytes(
     words: &[u64],
 ) -> Result<Vec<u8>, NoMemory>
     requires { columns (kind_width kind) * first_row ≤ length words.now }
-    ensures { IfOk result (λ bytes. bytes.items ≡ image_of kind (tree_of kind rows root words.now)) }
+    ensures { IfOk result (λ bytes. bytes.items ≡ image_of kind (tree_with_words kind rows root words.now)) }
 {
     let before = cols(width_of(kind)) as usize * FIRST_ROW as usize;
     let words = &words[before..];

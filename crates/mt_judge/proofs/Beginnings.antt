@@ -9,11 +9,11 @@ use Rattle.mt_log.specs.declared.lines.Line.{Line}
 use Rattle.mt_log.specs.declared.lines.Log.{Log}
 use Rattle.mt_log.specs.Phases.{AreInPlaceFrom, phase_after, stepped_after}
 use Rattle.mt_log.specs.Run.{Step}
-use Rattle.mt_log.specs.Trees.{AreNamedFrom, Declared, IsReadable, RiseFrom, count_after, declared_by, most_trees, trees_from, trees_of}
+use Rattle.mt_log.specs.Trees.{AreNamedFrom, Declared, IsReadable, NumbersRiseFrom, count_after, declared_by, most_trees, trees_from, trees_of}
 use Rattle.mt_told.specs.declared.told.Told.{Told}
-use Rattle.mt_told.specs.Telling.{Fits, IsToldBy, TellsNone, spelling_of}
+use Rattle.mt_told.specs.Telling.{FitsLine, IsToldBy, TellsNone, spelling_of}
 use Rattle.mt_told.proofs.LineByLine.{lines_begin, told_by}
-use Rattle.mt_judge.specs.Judged.{StopsAt, first_lines}
+use Rattle.mt_judge.specs.Judged.{StopsAt, log_of_first}
 
 named_first : (k count : ℕ) (lines : List Line) → AreNamedFrom count lines → AreNamedFrom count (take k lines)
 named_first zero count lines named = tt
@@ -25,7 +25,7 @@ placed_first zero stepped lines placed = tt
 placed_first (suc k) stepped [] placed = tt
 placed_first (suc k) stepped (line ∷ lines) placed = (placed.0, placed_first k (stepped_after stepped line.item) lines placed.1)
 
-rising_first : (k least : ℕ) (lines : List Line) → RiseFrom least lines → RiseFrom least (take k lines)
+rising_first : (k least : ℕ) (lines : List Line) → NumbersRiseFrom least lines → NumbersRiseFrom least (take k lines)
 rising_first zero least lines rise = tt
 rising_first (suc k) least [] rise = tt
 rising_first (suc k) least (line ∷ lines) rise = (rise.0, rising_first k (line.number + 1) lines rise.1)
@@ -50,10 +50,10 @@ readable_first k lines h =
       rising = rising_first k 2 lines h.rising;
     }
 
-nothing_told : (log : Log) (text : List ℕ) → IsToldBy (first_lines 0 log) text [] text
-nothing_told log text = told_by (first_lines 0 log) text text [] 0 0 0 (lines_begin [] text) (omega arith)
+nothing_told : (log : Log) (text : List ℕ) → IsToldBy (log_of_first 0 log) text [] text
+nothing_told log text = told_by (log_of_first 0 log) text text [] 0 0 0 (lines_begin [] text) (omega arith)
 
-all_untold : (log : Log) (text : List ℕ) (n : ℕ) → n ≡ length log.lines → TellsNone log text → TellsNone (first_lines n log) text
+all_untold : (log : Log) (text : List ℕ) (n : ℕ) → n ≡ length log.lines → TellsNone log text → TellsNone (log_of_first n log) text
 all_untold log text n all none =
     subst (λ (lines : List Line). TellsNone (record { version = log.version; lines = lines }) text) (sym (take_all n log.lines (omega (arith, all)))) none
 
@@ -63,16 +63,16 @@ some_line log text n all none = elim (cases_lt 0 n) [
   | inl some ↦ some
   | inr over ↦
       (let empty : n ≡ 0 = omega (arith, over) in
-      let first : TellsNone (first_lines 0 log) text = subst (λ (k : ℕ). TellsNone (first_lines k log) text) empty (all_untold log text n all none) in
-      absurd (first (spelling_of 1) [] text (record { done = refl; fit = All-nil (λ (s : Step). Fits (spelling_of 1) s.outcome); printed = refl })))
+      let first : TellsNone (log_of_first 0 log) text = subst (λ (k : ℕ). TellsNone (log_of_first k log) text) empty (all_untold log text n all none) in
+      absurd (first (spelling_of 1) [] text (record { done = refl; fit = All-nil (λ (s : Step). FitsLine (spelling_of 1) s.outcome); printed = refl })))
 ]
 
 -- so many lines are told, and not so many
 pub record StopsWithin (log : Log) (text : List ℕ) (count above : ℕ) (told : List Told) (rest : List ℕ) : Type 0 where
-  pub first : IsToldBy (first_lines count log) text told rest
+  pub first : IsToldBy (log_of_first count log) text told rest
   pub up : count < above
   pub within : above ≤ length log.lines
-  pub none : TellsNone (first_lines above log) text
+  pub none : TellsNone (log_of_first above log) text
 
 pub stops_within : (log : Log) (text : List ℕ) (n : ℕ) → n ≡ length log.lines → TellsNone log text → StopsWithin log text 0 n [] text
 stops_within log text n all none = record { first = nothing_told log text; up = some_line log text n all none; within = omega (arith, all); none = all_untold log text n all none }
@@ -80,7 +80,7 @@ stops_within log text n all none = record { first = nothing_told log text; up = 
 pub stops_at : (log : Log) (text rest : List ℕ) (told : List Told) (count above : ℕ) → StopsWithin log text count above told rest → above ≤ count + 1 → StopsAt log text count told rest
 stops_at log text rest told count above h near =
     let next : above ≡ count + 1 = omega (arith, h.up, near) in
-    record { first = h.first; within = omega (arith, h.up, h.within); none = subst (λ (k : ℕ). TellsNone (first_lines k log) text) next h.none }
+    record { first = h.first; within = omega (arith, h.up, h.within); none = subst (λ (k : ℕ). TellsNone (log_of_first k log) text) next h.none }
 
 -- the trees that are told of are those that a log may have
 pub few_trees : (log : Log) (text rest : List ℕ) (told : List Told) → IsReadable log.lines → IsToldBy log text told rest → All (λ t. t.tree < most_trees) told

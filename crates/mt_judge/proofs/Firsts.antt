@@ -9,7 +9,7 @@ use Rattle.mt_told.specs.declared.told.Told.{Told}
 use Rattle.mt_verify.specs.PrintedOrder.{InPrintedOrder}
 use Rattle.mt_judge.specs.Faults.{KeepsOrder, earlier, is_of_order, order_cause}
 use Rattle.mt_judge.specs.Orders.{IsFirstOut, IsInOrder}
-use Rattle.mt_judge.specs.declared.causes.Fault.{Fault}
+use Rattle.mt_judge.specs.declared.causes.FoundFault.{FoundFault}
 
 pairs_first : {X : Type 0} (R : X → X → Type 0) (k : ℕ) (xs : List X) → AllPairs R xs → AllPairs R (take k xs)
 pairs_first R k xs h i j d lt within =
@@ -49,7 +49,7 @@ first_found told low last lies met =
 none_out : (told : List Told) (place : ℕ) → IsInOrder told → IsFirstOut told place → ⊥
 none_out told place order first = first.out (pairs_first InPrintedOrder (place + 1) told order)
 
-pub told_earlier : (told : List Told) (found : Option Fault) (fault : Fault) → KeepsOrder told found → is_of_order fault.cause ≡ false → KeepsOrder told (Some (earlier fault found))
+pub told_earlier : (told : List Told) (found : Option FoundFault) (fault : FoundFault) → KeepsOrder told found → is_of_order fault.cause ≡ false → KeepsOrder told (Some (earlier fault found))
 told_earlier told None fault order other = (λ place first. absurd (none_out told place order first), λ is. absurd (true≢false (sym is ∙ other)))
 told_earlier told (Some one) fault order other = by_test (nat_lt one.line fault.line) refl
   where
@@ -67,7 +67,7 @@ later_out told place other first second = elim (cases_lt other place) [
   | inr above ↦ above
 ]
 
-pub first_told : (told : List Told) (place : ℕ) (d : Told) (fault : Fault) → IsFirstOut told place → place + 1 < 2 ^ 64 → fault.line ≡ min (place + 1) (2 ^ 64 - 1) → fault.cause ≡ order_cause (get_or told place d).what → KeepsOrder told (Some fault)
+pub first_told : (told : List Told) (place : ℕ) (d : Told) (fault : FoundFault) → IsFirstOut told place → place + 1 < 2 ^ 64 → fault.line ≡ min (place + 1) (2 ^ 64 - 1) → fault.cause ≡ order_cause (get_or told place d).what → KeepsOrder told (Some fault)
 first_told told place d fault first fits line cause =
     let is : fault.line ≡ place + 1 = omega (arith, line, fits) in
     let here : slice_get told place ≡ Some (get_or told place d) = slice_get-get_or told place d first.within in (

@@ -7,10 +7,10 @@ use Rattle.mt_told.specs.declared.told.What.TheVariants.{Wrote, Got, Copied, Law
 use Rattle.mt_judge.specs.Orders.{IsFirstOut, IsInOrder}
 use Rattle.mt_judge.specs.declared.causes.Cause.{Cause}
 use Rattle.mt_judge.specs.declared.causes.Cause.TheVariants.{Below, Form, NoEntry, Order}
-use Rattle.mt_judge.specs.declared.causes.Fault.{Fault}
+use Rattle.mt_judge.specs.declared.causes.FoundFault.{FoundFault}
 
 -- of two faults that at the lower line
-abbrev pub earlier : Fault → Option Fault → Fault
+abbrev pub earlier : FoundFault → Option FoundFault → FoundFault
 earlier fault None = fault
 earlier fault (Some other) = if nat_lt other.line fault.line then other else fault
 
@@ -38,13 +38,13 @@ order_cause (Copied count) = Below
 order_cause (Lawful count) = Below
 
 -- the first line that is out of order is told, with what is wrong with it
-pub record IsOrderFault (told : List Told) (fault : Fault) : Type 0 where
+pub record IsOrderFault (told : List Told) (fault : FoundFault) : Type 0 where
   pub place : ℕ
   pub first : IsFirstOut told place
   pub line : fault.line ≡ place + 1
   pub cause : IfSome (slice_get told place) (λ t. fault.cause ≡ order_cause t.what)
 
 -- Where a line is out of order one is told, none behind the first; and what is told as out of order is the first.
-abbrev pub KeepsOrder : List Told → Option Fault → Type 0
+abbrev pub KeepsOrder : List Told → Option FoundFault → Type 0
 KeepsOrder told None = IsInOrder told
 KeepsOrder told (Some fault) = ((place : ℕ) → IsFirstOut told place → fault.line ≤ place + 1) × (is_of_order fault.cause ≡ true → IsOrderFault told fault)

@@ -16,34 +16,34 @@ use Rattle.mt_judge.specs.Orders.{IsInOrder}
 use Rattle.mt_judge.specs.declared.judging.Found.{Found}
 use Rattle.mt_judge.specs.declared.judging.Found.TheVariants.{Verified, Refused}
 use Rattle.mt_judge.specs.declared.judging.Judgment.{Judgment}
-use Rattle.mt_judge.specs.declared.tallies.Tally.{Tally}
+use Rattle.mt_judge.specs.declared.tallies.ReadTally.{ReadTally}
 
 -- ---- how much is told
 
 -- a read met a call: its window is wider than one number of calls
-abbrev pub overlaps : What → Bool
-overlaps (Got lo hi query answer) = nat_lt lo hi
-overlaps (Wrote number call reply) = false
-overlaps (Copied count) = false
-overlaps (Lawful count) = false
+abbrev pub is_overlapped : What → Bool
+is_overlapped (Got lo hi query answer) = nat_lt lo hi
+is_overlapped (Wrote number call reply) = false
+is_overlapped (Copied count) = false
+is_overlapped (Lawful count) = false
 
 abbrev pub how_many : (What → Bool) → List Told → ℕ
 how_many p told = length (filter (λ t. p t.what) told)
 
-abbrev pub tally_of : List Told → Tally
-tally_of told = record { calls = how_many is_wrote told; reads = how_many is_got told; overlapped = how_many overlaps told }
+abbrev pub tally_of : List Told → ReadTally
+tally_of told = record { calls = how_many is_wrote told; reads = how_many is_got told; overlapped = how_many is_overlapped told }
 
 -- ---- where a text stops
 
 -- the log of the first lines of another
-abbrev pub first_lines : ℕ → Log → Log
-first_lines count log = record { version = log.version; lines = take count log.lines }
+abbrev pub log_of_first : ℕ → Log → Log
+log_of_first count log = record { version = log.version; lines = take count log.lines }
 
 -- the text tells so of so many lines of the log, and of one more it tells nothing, whatever it goes on with
 pub record StopsAt (log : Log) (text : List ℕ) (count : ℕ) (told : List Told) (rest : List ℕ) : Type 0 where
-  pub first : IsToldBy (first_lines count log) text told rest
+  pub first : IsToldBy (log_of_first count log) text told rest
   pub within : count < length log.lines
-  pub none : TellsNone (first_lines (count + 1) log) text
+  pub none : TellsNone (log_of_first (count + 1) log) text
 
 -- ---- a judgment
 

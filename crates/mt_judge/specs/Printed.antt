@@ -4,11 +4,11 @@ use Rattle.std.specs.Prelude.{ℕ, List, ◌∷◌, [], ◌++◌, Option, Some, 
 use Rattle.std.specs.Fmt.{decimal}
 use Rattle.mt_judge.specs.declared.causes.Cause.{Cause}
 use Rattle.mt_judge.specs.declared.causes.Cause.TheVariants.{NoEntry, Form, Number, Order, Below, Beyond, Nowhere, Reply, Shortage, Count, Listing}
-use Rattle.mt_judge.specs.declared.causes.Fault.{Fault}
+use Rattle.mt_judge.specs.declared.causes.FoundFault.{FoundFault}
 use Rattle.mt_judge.specs.declared.judging.Found.{Found}
 use Rattle.mt_judge.specs.declared.judging.Found.TheVariants.{Verified, Refused}
 use Rattle.mt_judge.specs.declared.judging.Judgment.{Judgment}
-use Rattle.mt_judge.specs.declared.tallies.Tally.{Tally}
+use Rattle.mt_judge.specs.declared.tallies.ReadTally.{ReadTally}
 
 abbrev pub cause_text : Cause → List ℕ
 cause_text NoEntry = codes "no entry"
@@ -28,11 +28,11 @@ found_text Verified = codes "verified"
 found_text (Refused (Some fault)) = codes "refused: line " ++ (decimal fault.line ++ (codes ", " ++ cause_text fault.cause))
 found_text (Refused None) = codes "refused"
 
-abbrev pub tally_text : Tally → List ℕ
-tally_text t = codes "calls " ++ (decimal t.calls ++ (codes " reads " ++ (decimal t.reads ++ (codes " overlapped " ++ decimal t.overlapped))))
+abbrev pub counts_text : ReadTally → List ℕ
+counts_text t = codes "calls " ++ (decimal t.calls ++ (codes " reads " ++ (decimal t.reads ++ (codes " overlapped " ++ decimal t.overlapped))))
 
 abbrev pub judgment_text : Judgment → List ℕ
-judgment_text j = found_text j.found ++ (10 ∷ (tally_text j.tally ++ 10 ∷ []))
+judgment_text j = found_text j.found ++ (10 ∷ (counts_text j.tally ++ 10 ∷ []))
 
 -- the status that the program ends with
 abbrev pub status_of : Found → ℕ

@@ -57,25 +57,25 @@ impl fmt::Display for Cause {
 
 /// A line of a transcript, from 1, and what is wrong with it.
 #[derive(Clone, Copy)]
-pub struct Fault {
+pub struct FoundFault {
     pub line: u64,
     pub cause: Cause,
 }
 
-impl Fault {
+impl FoundFault {
     /// At the line that stands at this place, from 0.
-    pub fn at(place: usize, cause: Cause) -> Fault
+    pub fn at(place: usize, cause: Cause) -> FoundFault
         ensures line { result.line ≡ min (place + 1) (2 ^ 64 - 1) }
         ensures cause { result.cause ≡ cause }
     {
-        Fault {
+        FoundFault {
             line: (place as u64).saturating_add(1),
             cause,
         }
     }
 
     /// The one at the lower line, of which one may be none.
-    pub fn or_earlier(self, other: Option<Fault>) -> Fault
+    pub fn or_earlier(self, other: Option<FoundFault>) -> FoundFault
         ensures { result ≡ earlier self other }
     {
         match other {

@@ -7,7 +7,7 @@ use std::fmt;
 
 /// Why nothing is told of an input.
 #[derive(Clone, Copy)]
-pub enum Failure {
+pub enum JudgeFailure {
     /// The input is no log: its first bad line, and why.
     BadLog { line: u64, why: Why },
     /// No line of the input is `---`.
@@ -24,40 +24,40 @@ pub enum Failure {
     NoMemory,
 }
 
-impl From<LogError> for Failure {
+impl From<LogError> for JudgeFailure {
     fn from(error: LogError) -> Self {
         match error {
-            LogError::Bad { line, why } => Failure::BadLog { line, why },
-            LogError::NoMemory => Failure::NoMemory,
+            LogError::Bad { line, why } => JudgeFailure::BadLog { line, why },
+            LogError::NoMemory => JudgeFailure::NoMemory,
         }
     }
 }
 
-impl From<AllocError> for Failure {
+impl From<AllocError> for JudgeFailure {
     fn from(_: AllocError) -> Self {
-        Failure::NoMemory
+        JudgeFailure::NoMemory
     }
 }
 
-impl From<NoMemory> for Failure {
+impl From<NoMemory> for JudgeFailure {
     fn from(_: NoMemory) -> Self {
-        Failure::NoMemory
+        JudgeFailure::NoMemory
     }
 }
 
-impl fmt::Display for Failure {
+impl fmt::Display for JudgeFailure {
     fn fmt<W: fmt::Write>(&self, f: &mut fmt::Formatter<W>) -> fmt::Result {
         match self {
-            Failure::BadLog { line, why } => {
+            JudgeFailure::BadLog { line, why } => {
                 let why = why.text();
                 write!(f, "line {line}: {why}")
             }
-            Failure::NoTranscript => write!(f, "no transcript"),
-            Failure::TooLong => write!(f, "input too long"),
-            Failure::Usage => write!(f, "usage: mt_judge [--rows N] < LOG_AND_TRANSCRIPT"),
-            Failure::ReadFault => write!(f, "read fault"),
-            Failure::WriteFault => write!(f, "write fault"),
-            Failure::NoMemory => write!(f, "out of memory"),
+            JudgeFailure::NoTranscript => write!(f, "no transcript"),
+            JudgeFailure::TooLong => write!(f, "input too long"),
+            JudgeFailure::Usage => write!(f, "usage: mt_judge [--rows N] < LOG_AND_TRANSCRIPT"),
+            JudgeFailure::ReadFault => write!(f, "read fault"),
+            JudgeFailure::WriteFault => write!(f, "write fault"),
+            JudgeFailure::NoMemory => write!(f, "out of memory"),
         }
     }
 }

@@ -4,9 +4,9 @@ ghost use Rattle.std.specs.Prelude.{◌≡◌, ◌<◌, ◌^◌, ◌+◌, IfOk, 
 ghost use Rattle.mt_log.specs.Trees.{IsReadable};
 ghost use Rattle.mt_told.specs.Telling.{IsToldBy, TellsNone};
 ghost use Rattle.mt_judge.specs.Faults.{is_of_form};
-ghost use Rattle.mt_judge.specs.Judged.{StopsAt, first_lines};
+ghost use Rattle.mt_judge.specs.Judged.{StopsAt, log_of_first};
 
-use crate::causes::{Cause, Fault};
+use crate::causes::{Cause, FoundFault};
 use mt_base::NoMemory;
 use mt_log::{Item, Line, Lines, Log};
 use mt_told::{Account, behind_word, number_before, read_told};
@@ -14,7 +14,7 @@ use std::alloc::Global;
 
 /// The log of the first lines of another.
 fn first_lines(alloc: Global, log: &Log, count: usize) -> Result<Log, NoMemory>
-    ensures { IfOk result (λ first. first ≡ first_lines count log.now) }
+    ensures { IfOk result (λ first. first ≡ log_of_first count log.now) }
 {
     let lines = log.lines.as_slice();
     let mut items = Vec::new(alloc);
@@ -34,8 +34,8 @@ fn read_first<'t>(
 ) -> Result<Option<Account<'t>>, NoMemory>
     requires { IsReadable log.now.lines }
     ensures some { IfOk result (λ found. IfSome found
-        (λ account. IsToldBy (first_lines count log.now) text.now account.told.items account.rest.now)) }
-    ensures none { IfOk result (λ found. IfNone found (TellsNone (first_lines count log.now) text.now)) }
+        (λ account. IsToldBy (log_of_first count log.now) text.now account.told.items account.rest.now)) }
+    ensures none { IfOk result (λ found. IfNone found (TellsNone (log_of_first count log.now) text.now)) }
 {
     let first = first_lines(alloc, log, count)?;
     read_told(alloc, &first, text)
@@ -98,7 +98,7 @@ fn is_answered(text: &[u8], line: u64) -> bool {
 }
 
 /// What is wrong with the lines at this place, which do not tell of this line of the log: of a scan the first finds may.
-fn fault_of(place: usize, line: &Line, text: &[u8]) -> Fault
+fn fault_of(place: usize, line: &Line, text: &[u8]) -> FoundFault
     ensures line { place + 1 < 2 ^ 64 → place < result.line }
     ensures cause { is_of_form result.cause ≡ true }
 {
@@ -117,11 +117,11 @@ fn fault_of(place: usize, line: &Line, text: &[u8]) -> Fault
     } else {
         Cause::NoEntry
     };
-    Fault::at(at, cause)
+    FoundFault::at(at, cause)
 }
 
 /// What is wrong where a text stops to tell of a log.
-pub fn form_fault(log: &Log, part: &Part) -> Fault
+pub fn form_fault(log: &Log, part: &Part) -> FoundFault
     requires { part.now.count < length log.now.lines }
     ensures line { length part.now.account.told.items < result.line }
     ensures cause { is_of_form result.cause ≡ true }

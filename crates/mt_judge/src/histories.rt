@@ -1,10 +1,10 @@
 //! The histories that a transcript tells, gone through tree by tree to find the first line that does not fit.
 
-use crate::causes::{Cause, Fault};
+use crate::causes::{Cause, FoundFault};
 use crate::lanes::Lanes;
 use crate::listings::{listing_fault, listing_of};
 use crate::maps::{Room, TreeMap};
-use crate::trees::{Declared, MOST_TREES, is_call_on, trees_of};
+use crate::trees::{DeclaredTree, MOST_TREES, is_call_on, trees_of};
 use mt_base::{Call, Holder, NoMemory, Shortage};
 use mt_log::Log;
 use mt_told::{Account, Told, What, behind_word};
@@ -13,7 +13,7 @@ use std::alloc::Global;
 
 /// The rules of a run: the version of its log, and how many rows a tree has.
 #[derive(Clone, Copy)]
-pub struct Rules {
+pub struct OrderRules {
     pub version: u32,
     pub rows: u64,
 }
@@ -21,12 +21,12 @@ pub struct Rules {
 /// The first lines that were found not to fit: of calls, and of what was told of the maps that these make.
 #[derive(Clone, Copy)]
 struct Faults {
-    calls: Option<Fault>,
-    rest: Option<Fault>,
+    calls: Option<FoundFault>,
+    rest: Option<FoundFault>,
 }
 
 /// The earlier of two faults, of which either may be none.
-fn earlier(one: Option<Fault>, other: Option<Fault>) -> Option<Fault> {
+fn earlier(one: Option<FoundFault>, other: Option<FoundFault>) -> Option<FoundFault> {
     match one {
         Some(fault) => Some(fault.or_earlier(other)),
         None => other,
@@ -43,7 +43,7 @@ impl Faults {
     }
 
     /// What is told of a map was found not to fit.
-    fn tell(&mut self, fault: Fault) {
+    fn tell(&mut self, fault: FoundFault) {
         self.rest = Some(fault.or_earlier(self.rest));
     }
 
@@ -96,7 +96,11 @@ fn stops_on(alloc: Global, told: &[Told], tree: u32) -> Result<Vec<(u64, usize)>
 }
 
 /// The map with which a tree opens: that of its copy, or an empty one.
-fn opening_of(alloc: Global, declared: &Declared, copies: &[Copy]) -> Result<TreeMap, NoMemory> {
+fn opening_of(
+    alloc: Global,
+    declared: &DeclaredTree,
+    copies: &[Copy],
+) -> Result<TreeMap, NoMemory> {
     for copy in copies {
         if copy.line == declared.line {
             return copy.map.copied(alloc);
@@ -121,7 +125,7 @@ fn shortage_of(lanes: &Lanes, told: &Told, reply: &[u8]) -> Option<Shortage> {
 /// A tree on its way from map to map, by what is told of it.
 #[derive(Drop)]
 struct Way {
-    rules: Rules,
+    rules: OrderRules,
     map: TreeMap,
     opened: u64,
     lanes: Lanes,
@@ -134,7 +138,7 @@ impl Way {
     /// The way of a tree that opens with this map.
     fn new(
         alloc: Global,
-        rules: Rules,
+        rules: OrderRules,
         told: &[Told],
         tree: u32,
         map: TreeMap,
@@ -170,7 +174,7 @@ impl Way {
             What::Wrote { .. } | What::Got { .. } => return Ok(()),
         };
         if !self.map.has_count(count) {
-            self.faults.tell(Fault::at(place, Cause::Count));
+            self.faults.tell(FoundFault::at(place, Cause::Count));
         }
         Ok(())
     }
@@ -236,7 +240,7 @@ impl Way {
         }
         if let What::Wrote { call, reply, .. } = told.what {
             if let Some(cause) = self.wrong(told, &call, reply, ended)? {
-                self.faults.calls = Some(Fault::at(place, cause));
+                self.faults.calls = Some(FoundFault::at(place, cause));
             }
         }
         Ok(())
@@ -247,7 +251,7 @@ impl Way {
 /// their numbers, and no map behind that is gone through.
 fn go(
     alloc: Global,
-    rules: Rules,
+    rules: OrderRules,
     told: &[Told],
     tree: u32,
     map: TreeMap,
@@ -277,9 +281,9 @@ pub fn history_fault(
     log: &Log,
     rows: u64,
     account: &Account,
-) -> Result<Option<Fault>, NoMemory> {
+) -> Result<Option<FoundFault>, NoMemory> {
     let version = log.version;
-    let rules = Rules { version, rows };
+    let rules = OrderRules { version, rows };
     let mut copies = Vec::new(alloc);
     let mut lists = Vec::new(alloc);
     let mut faults = Faults::none();

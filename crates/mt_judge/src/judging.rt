@@ -10,11 +10,11 @@ ghost use Rattle.mt_judge.specs.Faults.{KeepsOrder};
 ghost use Rattle.mt_judge.specs.Judged.{IsFound, IsJudged, KeepsOrderIn, StopsAt, TellsForm};
 ghost use Rattle.mt_judge.specs.Orders.{IsInOrder};
 
-use crate::causes::Fault;
+use crate::causes::FoundFault;
 use crate::forms::{Part, form_fault, part_told};
 use crate::histories::history_fault;
 use crate::orders::window_fault;
-use crate::tallies::{Tally, tally_of};
+use crate::tallies::{ReadTally, tally_of};
 use mt_base::NoMemory;
 use mt_log::Log;
 use mt_told::{Account, read_told};
@@ -26,7 +26,7 @@ use std::fmt;
 #[derive(Clone, Copy)]
 pub enum Found {
     Verified,
-    Refused(Option<Fault>),
+    Refused(Option<FoundFault>),
 }
 
 impl fmt::Display for Found {
@@ -39,7 +39,7 @@ impl fmt::Display for Found {
         match self {
             Found::Verified => write!(f, "verified"),
             Found::Refused(Some(fault)) => {
-                let Fault { line, cause } = *fault;
+                let FoundFault { line, cause } = *fault;
                 write!(f, "refused: line {line}, {cause}")
             }
             Found::Refused(None) => write!(f, "refused"),
@@ -51,7 +51,7 @@ impl fmt::Display for Found {
 #[derive(Clone, Copy)]
 pub struct Judgment {
     pub found: Found,
-    pub tally: Tally,
+    pub tally: ReadTally,
 }
 
 impl Judgment {
@@ -89,7 +89,7 @@ fn fault_in(
     rows: u64,
     text: &[u8],
     account: &Account,
-) -> Result<Option<Fault>, NoMemory>
+) -> Result<Option<FoundFault>, NoMemory>
     requires readable { IsReadable log.now.lines }
     requires told { IsToldBy log.now text.now account.now.told.items account.now.rest.now }
     ensures { IfOk result (λ fault. IsInOrder account.now.told.items ⊎ KeepsOrder account.now.told.items fault) }

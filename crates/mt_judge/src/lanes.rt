@@ -1,6 +1,6 @@
 //! The reads of a lane on a tree, as the lane goes through the tree's maps.
 
-use crate::causes::{Cause, Fault};
+use crate::causes::{Cause, FoundFault};
 use crate::maps::TreeMap;
 use crate::trees::MOST_LANES;
 use mt_base::NoMemory;
@@ -17,7 +17,7 @@ struct Read {
 
 /// The reads of a lane on a tree, how many of them were found true, and the phase of the first.
 #[derive(Drop)]
-pub struct Lane {
+pub struct LaneReads {
     number: u32,
     reads: Vec<Read>,
     next: usize,
@@ -42,10 +42,10 @@ fn look_of(told: &Told) -> Option<Look> {
     }
 }
 
-impl Lane {
+impl LaneReads {
     /// The reads of a lane on a tree, none of which was found true.
-    fn new(alloc: Global, told: &[Told], tree: u32, number: u32) -> Result<Lane, NoMemory> {
-        let mut lane = Lane {
+    fn new(alloc: Global, told: &[Told], tree: u32, number: u32) -> Result<LaneReads, NoMemory> {
+        let mut lane = LaneReads {
             number,
             reads: Vec::new(alloc),
             next: 0,
@@ -68,15 +68,15 @@ impl Lane {
     }
 
     /// The next read goes wrong, and no more of the lane are looked at.
-    fn stops(&mut self, cause: Cause) -> Option<Fault> {
+    fn stops(&mut self, cause: Cause) -> Option<FoundFault> {
         let read = *self.reads.get(self.next)?;
         self.next = self.reads.len();
-        Some(Fault::at(read.place, cause))
+        Some(FoundFault::at(read.place, cause))
     }
 
     /// The lane goes through a number of calls, with the map behind these: its reads are found true, one after another, up to the
     /// first that waits for a higher number. It tells what goes wrong.
-    fn pass(&mut self, map: &mut TreeMap, number: u64) -> Option<Fault> {
+    fn pass(&mut self, map: &mut TreeMap, number: u64) -> Option<FoundFault> {
         let mut floor = 0;
         for _ in self.next..self.reads.len() {
             let look = self.reads.get(self.next)?.look;
@@ -103,7 +103,7 @@ impl Lane {
 /// The lanes that read a tree.
 #[derive(Drop)]
 pub struct Lanes {
-    lanes: Vec<Lane>,
+    lanes: Vec<LaneReads>,
 }
 
 impl Lanes {
@@ -111,7 +111,7 @@ impl Lanes {
     pub fn new(alloc: Global, told: &[Told], tree: u32) -> Result<Lanes, NoMemory> {
         let mut lanes = Vec::new(alloc);
         for number in 0..MOST_LANES {
-            lanes.push(Lane::new(alloc, told, tree, number)?)?;
+            lanes.push(LaneReads::new(alloc, told, tree, number)?)?;
         }
         Ok(Lanes { lanes })
     }
@@ -127,7 +127,12 @@ impl Lanes {
     }
 
     /// All lanes go through a number of calls, with the map behind these. It tells the first line that goes wrong.
-    pub fn pass(&mut self, map: &mut TreeMap, number: u64, found: Option<Fault>) -> Option<Fault> {
+    pub fn pass(
+        &mut self,
+        map: &mut TreeMap,
+        number: u64,
+        found: Option<FoundFault>,
+    ) -> Option<FoundFault> {
         let mut found = found;
         for i in 0..self.lanes.len() {
             if let Some(fault) = self.lanes[i].pass(map, number) {
@@ -138,7 +143,7 @@ impl Lanes {
     }
 
     /// No number is left: a read that still waits is true nowhere.
-    pub fn end(&mut self, found: Option<Fault>) -> Option<Fault> {
+    pub fn end(&mut self, found: Option<FoundFault>) -> Option<FoundFault> {
         let mut found = found;
         for i in 0..self.lanes.len() {
             if let Some(fault) = self.lanes[i].stops(Cause::Nowhere) {

@@ -1,14 +1,14 @@
 //! The listings of trees at the end of a transcript.
 
-use crate::causes::{Cause, Fault};
-use crate::trees::Declared;
+use crate::causes::{Cause, FoundFault};
+use crate::trees::DeclaredTree;
 use mt_base::{NoMemory, Range};
 use mt_log::{Entries, Listing, Listings, RangeList, Transcript, render};
 use mt_told::Account;
 use std::alloc::Global;
 
 /// A tree as it is listed at the end.
-pub fn listing_of(declared: &Declared, ranges: Vec<Range>) -> Listing {
+pub fn listing_of(declared: &DeclaredTree, ranges: Vec<Range>) -> Listing {
     Listing {
         name: declared.name,
         kind: declared.kind,
@@ -36,7 +36,7 @@ pub fn listing_fault(
     version: u32,
     account: &Account,
     lists: Vec<Listing>,
-) -> Result<Option<Fault>, NoMemory> {
+) -> Result<Option<FoundFault>, NoMemory> {
     let listed = Transcript {
         version,
         entries: Entries::new(Vec::new(alloc)),
@@ -50,5 +50,5 @@ pub fn listing_fault(
         .told
         .len()
         .saturating_add(lines_alike(&text, account.rest));
-    Ok(Some(Fault::at(place, Cause::Listing)))
+    Ok(Some(FoundFault::at(place, Cause::Listing)))
 }

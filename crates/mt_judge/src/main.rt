@@ -18,7 +18,7 @@ mod trees;
 
 use crate::answers::answer_to;
 use crate::cuts::rows_of;
-use crate::failures::Failure;
+use crate::failures::JudgeFailure;
 use std::io::{ErrorKind, Read, Write};
 use std::process::ExitCode;
 use std::rt::Env;
@@ -28,41 +28,41 @@ use std::{env, io};
 const LONGEST: u64 = 67_108_864;
 
 /// What fails, where that is not for want of memory.
-fn unless_memory(error: &io::Error, other: Failure) -> Failure {
+fn unless_memory(error: &io::Error, other: JudgeFailure) -> JudgeFailure {
     match error.kind() {
-        ErrorKind::OutOfMemory => Failure::NoMemory,
+        ErrorKind::OutOfMemory => JudgeFailure::NoMemory,
         _ => other,
     }
 }
 
 /// The words after the program's name. Where one is no text, they ask for nothing.
-fn words_of(rt: &(impl Env + AllocGlobal)) -> Result<Vec<String>, Failure> {
-    let words = env::args(rt).map_err(|error| unless_memory(&error, Failure::Usage))?;
+fn words_of(rt: &(impl Env + AllocGlobal)) -> Result<Vec<String>, JudgeFailure> {
+    let words = env::args(rt).map_err(|error| unless_memory(&error, JudgeFailure::Usage))?;
     words
         .skip(1)
         .collect(rt.alloc())
-        .map_err(|_| Failure::NoMemory)
+        .map_err(|_| JudgeFailure::NoMemory)
 }
 
 /// The bytes of the input, which are so many at the most.
-fn read_input(rt: &(impl Input + AllocGlobal)) -> Result<Vec<u8>, Failure> {
+fn read_input(rt: &(impl Input + AllocGlobal)) -> Result<Vec<u8>, JudgeFailure> {
     let mut bytes = Vec::new(rt.alloc());
     match rt.reader().take(LONGEST + 1).read_to_end(&mut bytes) {
-        Ok(_) if bytes.len() as u64 > LONGEST => Err(Failure::TooLong),
+        Ok(_) if bytes.len() as u64 > LONGEST => Err(JudgeFailure::TooLong),
         Ok(_) => Ok(bytes),
-        Err(error) => Err(unless_memory(&error, Failure::ReadFault)),
+        Err(error) => Err(unless_memory(&error, JudgeFailure::ReadFault)),
     }
 }
 
 /// Does what the words say, and tells the status to end with.
-fn run(rt: &(impl Env + Input + Print + AllocGlobal)) -> Result<u8, Failure> {
+fn run(rt: &(impl Env + Input + Print + AllocGlobal)) -> Result<u8, JudgeFailure> {
     let words = words_of(rt)?;
     // Words that ask for nothing are told before any input is read.
-    rows_of(&words).ok_or(Failure::Usage)?;
+    rows_of(&words).ok_or(JudgeFailure::Usage)?;
     let told = answer_to(rt.alloc(), &words, &read_input(rt)?)?;
     match io::writer(rt).write_all(told.text.as_str().as_bytes()) {
         Ok(()) => Ok(told.status),
-        Err(_) => Err(Failure::WriteFault),
+        Err(_) => Err(JudgeFailure::WriteFault),
     }
 }
 

@@ -5,7 +5,7 @@ ghost use Rattle.mt_log.specs.Trees.{most_lanes, most_trees};
 ghost use Rattle.mt_judge.specs.Faults.{KeepsOrder, is_of_order, order_cause};
 ghost use Rattle.mt_judge.specs.Orders.{IsFirstOut, IsInOrder};
 
-use crate::causes::{Cause, Fault};
+use crate::causes::{Cause, FoundFault};
 use crate::trees::{MOST_TREES, is_call_on};
 use mt_base::NoMemory;
 use mt_told::{Told, What};
@@ -54,14 +54,14 @@ fn cause_of(told: &Told) -> Cause
 
 /// The first line that does not keep to those that it knows of.
 #[tactic(auto, using(crate::proofs::Firsts::first_told))]
-fn order_fault(told: &[Told]) -> Option<Fault>
+fn order_fault(told: &[Told]) -> Option<FoundFault>
     requires trees { All (λ t. t.tree < most_trees) told.now }
     requires lanes { All (λ t. t.lane < most_lanes) told.now }
     requires phases { AllPairs (λ s t. s.phase ≤ t.phase) told.now }
     ensures { KeepsOrder told.now result }
 {
     let place = first_out(told)?;
-    Some(Fault::at(place, cause_of(&told[place])))
+    Some(FoundFault::at(place, cause_of(&told[place])))
 }
 
 /// How many calls are told on a tree.
@@ -84,7 +84,7 @@ fn takes(taken: &mut [bool], number: u64) -> bool {
 }
 
 /// The first call on a tree whose number is 0, is above the number of calls, or was taken before.
-fn number_fault(alloc: Global, told: &[Told], tree: u32) -> Result<Option<Fault>, NoMemory>
+fn number_fault(alloc: Global, told: &[Told], tree: u32) -> Result<Option<FoundFault>, NoMemory>
     ensures { IfOk result (λ found. IfSome found (λ fault. is_of_order fault.cause ≡ false)) }
 {
     let mut taken = vec![in alloc; false; count_calls(told, tree)]?;
@@ -92,7 +92,7 @@ fn number_fault(alloc: Global, told: &[Told], tree: u32) -> Result<Option<Fault>
         if one.tree == tree {
             if let What::Wrote { number, .. } = one.what {
                 if !takes(&mut taken, number) {
-                    return Ok(Some(Fault::at(place, Cause::Number)));
+                    return Ok(Some(FoundFault::at(place, Cause::Number)));
                 }
             }
         }
@@ -101,7 +101,7 @@ fn number_fault(alloc: Global, told: &[Told], tree: u32) -> Result<Option<Fault>
 }
 
 /// The first read on a tree whose window ends behind the last call.
-fn end_fault(told: &[Told], tree: u32) -> Option<Fault>
+fn end_fault(told: &[Told], tree: u32) -> Option<FoundFault>
     ensures { IfSome result (λ fault. is_of_order fault.cause ≡ false) }
 {
     let count = count_calls(told, tree) as u64;
@@ -109,7 +109,7 @@ fn end_fault(told: &[Told], tree: u32) -> Option<Fault>
         if one.tree == tree {
             if let What::Got { hi, .. } = one.what {
                 if hi > count {
-                    return Some(Fault::at(place, Cause::Beyond));
+                    return Some(FoundFault::at(place, Cause::Beyond));
                 }
             }
         }
@@ -119,7 +119,11 @@ fn end_fault(told: &[Told], tree: u32) -> Option<Fault>
 
 /// The earlier of two faults, the first of which may be of order and the other is not.
 #[tactic(auto, using(crate::proofs::Firsts::told_earlier))]
-fn or_earlier(told: &[Told], found: Option<Fault>, other: Option<Fault>) -> Option<Fault>
+fn or_earlier(
+    told: &[Told],
+    found: Option<FoundFault>,
+    other: Option<FoundFault>,
+) -> Option<FoundFault>
     requires order { KeepsOrder told.now found }
     requires other { IfSome other (λ fault. is_of_order fault.cause ≡ false) }
     ensures { KeepsOrder told.now result }
@@ -131,7 +135,7 @@ fn or_earlier(told: &[Told], found: Option<Fault>, other: Option<Fault>) -> Opti
 }
 
 /// The first line whose number or window cannot be.
-pub fn window_fault(alloc: Global, told: &[Told]) -> Result<Option<Fault>, NoMemory>
+pub fn window_fault(alloc: Global, told: &[Told]) -> Result<Option<FoundFault>, NoMemory>
     requires trees { All (λ t. t.tree < most_trees) told.now }
     requires lanes { All (λ t. t.lane < most_lanes) told.now }
     requires phases { AllPairs (λ s t. s.phase ≤ t.phase) told.now }

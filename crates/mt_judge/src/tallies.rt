@@ -2,7 +2,7 @@
 
 ghost use Rattle.std.specs.Prelude.{◌≡◌};
 ghost use Rattle.mt_verify.specs.ToldReads.{is_got, is_wrote};
-ghost use Rattle.mt_judge.specs.Judged.{how_many, overlaps, tally_of};
+ghost use Rattle.mt_judge.specs.Judged.{how_many, is_overlapped, tally_of};
 
 use mt_told::{Told, What};
 use std::fmt;
@@ -10,20 +10,20 @@ use std::fmt;
 /// How many calls and how many reads a transcript tells, and how many of the reads met a call on their tree: their windows are
 /// wider than one number of calls.
 #[derive(Clone, Copy)]
-pub struct Tally {
+pub struct ReadTally {
     pub calls: u64,
     pub reads: u64,
     pub overlapped: u64,
 }
 
-impl fmt::Display for Tally {
+impl fmt::Display for ReadTally {
     ghost use Rattle.std.specs.Prelude.{Some};
-    ghost use Rattle.mt_judge.specs.Printed.{tally_text};
+    ghost use Rattle.mt_judge.specs.Printed.{counts_text};
 
-    ghost output = { λ t. Some (tally_text t) };
+    ghost output = { λ t. Some (counts_text t) };
 
     fn fmt<W: fmt::Write>(&self, f: &mut fmt::Formatter<W>) -> fmt::Result {
-        let Tally {
+        let ReadTally {
             calls,
             reads,
             overlapped,
@@ -48,7 +48,7 @@ fn is_read(told: &Told) -> bool
 
 /// Whether it tells of a read that met a call.
 fn overlaps(told: &Told) -> bool
-    ensures { result ≡ overlaps told.now.what }
+    ensures { result ≡ is_overlapped told.now.what }
 {
     match told.what {
         What::Got { lo, hi, .. } => lo < hi,
@@ -72,16 +72,16 @@ fn count_reads(told: &[Told]) -> u64
 
 /// How many tell of a read that met a call.
 fn count_overlapped(told: &[Told]) -> u64
-    ensures { result ≡ how_many overlaps told.now }
+    ensures { result ≡ how_many is_overlapped told.now }
 {
     told.iter().filter(|one| overlaps(one)).count() as u64
 }
 
 /// How much these lines tell.
-pub fn tally_of(told: &[Told]) -> Tally
+pub fn tally_of(told: &[Told]) -> ReadTally
     ensures { result ≡ tally_of told.now }
 {
-    Tally {
+    ReadTally {
         calls: count_calls(told),
         reads: count_reads(told),
         overlapped: count_overlapped(told),

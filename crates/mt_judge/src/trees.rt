@@ -12,20 +12,20 @@ pub const MOST_LANES: u32 = 16;
 
 /// A tree of a log: the number of the line that declares it, its name and its kind.
 #[derive(Clone, Copy)]
-pub struct Declared {
+pub struct DeclaredTree {
     pub line: u64,
     pub name: Word,
     pub kind: Kind,
 }
 
 /// The tree that a line declares, where these were declared before it.
-fn declared_by(trees: &[Declared], line: &Line) -> Option<Declared> {
+fn declared_by(trees: &[DeclaredTree], line: &Line) -> Option<DeclaredTree> {
     let (name, kind) = match line.item {
         Item::Tree { name, kind } => (name, kind),
         Item::Dup { from, name } => (name, trees.get(from as usize)?.kind),
         _ => return None,
     };
-    Some(Declared {
+    Some(DeclaredTree {
         line: line.number,
         name,
         kind,
@@ -33,7 +33,7 @@ fn declared_by(trees: &[Declared], line: &Line) -> Option<Declared> {
 }
 
 /// The trees that these lines declare.
-pub fn trees_of(alloc: Global, lines: &[Line]) -> Result<Vec<Declared>, NoMemory> {
+pub fn trees_of(alloc: Global, lines: &[Line]) -> Result<Vec<DeclaredTree>, NoMemory> {
     let mut trees = Vec::new(alloc);
     for line in lines {
         if let Some(tree) = declared_by(&trees, line) {

@@ -10,7 +10,7 @@ use Rattle.std.specs.declared.snapshot.Snapshot.{Snapshot}
 use Rattle.mt_rule.proofs.Viewing.{each_set, each_split}
 use Rattle.mt_keep.specs.declared.keep.Sight.{Sight}
 use Rattle.mt_keep.specs.declared.keep.Start.{Start}
-use Rattle.mt_keep.specs.Keeping.{waiting, one_further, cuts_in, holding, given_back, refused, taken_bit, last_of, Visit, HasGrabbed, SeatFits, IsKept, grabs, releases}
+use Rattle.mt_keep.specs.Keeping.{waiting, one_further, cuts_in, holding, given_back, refused, taken_bit, last_of, Visit, HasGrabbed, SeatFits, HasOneHolder, grabs, releases}
 
 off : false ≡ true → ⊥
 off e = true≢false (sym e)
@@ -35,7 +35,7 @@ module _ {K C : Type 0} (fits : K → C → Type 0) (key : Start C K) where
   M = Me (Option C) V
 
   abbrev Rule : State (Option C) V → Type 0
-  Rule = IsKept fits key
+  Rule = HasOneHolder fits key
 
   abbrev Fits : ℕ → maybe.Option (Option C) → Bool → List (Visit C) → ℕ → V → Type 0
   Fits = SeatFits fits key
@@ -257,8 +257,8 @@ released {K} {C} key me me' took gave is then =
     let of : me.0.of ≡ key = ap (λ (m : Me (Option C) (Sight C K)). m.0.of) is in
     then took gave (is ∙ ap (λ (k : Start C K). (holding k me.0.cuts took, (0, Some gave.value) ∷ [])) (sym of)) ∙ ap (λ (k : Start C K). (given_back k me.0.cuts took gave, [])) of
 
-pub keep_starts_with : {K C : Type 0} (fits : K → C → Type 0) (key : Start C K) (slots : List (Option C)) → fits key.place.value key.first.value → slots ≡ Some key.first.value ∷ [] → IsKept fits key (opening (0 ∷ []) slots (waiting key 0))
-keep_starts_with {K} {C} fits key slots is e = subst (λ (l : List (Option C)). IsKept fits key (opening (0 ∷ []) l (waiting key 0))) (sym e) (keep_starts fits key is)
+pub keep_starts_with : {K C : Type 0} (fits : K → C → Type 0) (key : Start C K) (slots : List (Option C)) → fits key.place.value key.first.value → slots ≡ Some key.first.value ∷ [] → HasOneHolder fits key (opening (0 ∷ []) slots (waiting key 0))
+keep_starts_with {K} {C} fits key slots is e = subst (λ (l : List (Option C)). HasOneHolder fits key (opening (0 ∷ []) l (waiting key 0))) (sym e) (keep_starts fits key is)
 
 -- ---- how far a seat is
 

@@ -112,7 +112,7 @@ module _ {C K : Type 0} (fits : K → C → Type 0) where
 
   -- While the slot is away one seat says that it has the value: it goes on saying so until the slot is home and the word 0.
   -- Where the value was ever taken, the seat that took it last says that it has had it. Each visit is of a seat that says so.
-  pub record IsKept (key : Start C K) (s : State (Option C) (Sight C K)) : Type 0 where
+  pub record HasOneHolder (key : Start C K) (s : State (Option C) (Sight C K)) : Type 0 where
     pub holder : ℕ
     pub home : maybe.Option (Option C)
     pub ever : Bool

@@ -60,9 +60,9 @@ pub struct Given<C, K> {
 pub struct Kept;
 
 impl<C: Placed<K>, K> TableRule<Option<C>, Sight<C, K>, Start<C, K>> for Kept {
-    ghost use Rattle.mt_keep.specs.Keeping.{IsKept, first_chair};
+    ghost use Rattle.mt_keep.specs.Keeping.{HasOneHolder, first_chair};
 
-    ghost holds = { IsKept C.fits };
+    ghost holds = { HasOneHolder C.fits };
 
     ghost first = { first_chair };
 }

@@ -15,7 +15,7 @@ pub record CanRun {D : Type 0} (count : D → ℕ) (awaits : D → ℕ → Type 
   pub awaited : 0 < lane.steps → awaits lane.desk 0
 
 -- A lane before and after its steps. It passed two turns a step, numbered from 0.
-pub record Ran {D : Type 0} (did : D → ℕ → D → Type 0) (passed : ℕ → ℕ → Type 0) (before after : Lane D) : Type 0 where
+pub record RanSteps {D : Type 0} (did : D → ℕ → D → Type 0) (passed : ℕ → ℕ → Type 0) (before after : Lane D) : Type 0 where
   pub lane : after.lane ≡ before.lane
   pub steps : after.steps ≡ before.steps
   pub desk : Chain did before.steps before.desk after.desk

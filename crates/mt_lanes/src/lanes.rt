@@ -1,7 +1,7 @@
 ghost use Rattle.std.specs.Prelude.{◌≡◌, ◌⊎◌, ◌↔◌, ◌+◌, ◌<◌, ℕ, All, IsTrue};
 ghost use Rattle.std.specs.Thread.{IsSync};
 ghost use denote.Param.Send.{IsSend};
-ghost use Rattle.mt_lanes.specs.Lanes.{AreIdle, CanRun, Ran, EachPlace};
+ghost use Rattle.mt_lanes.specs.Lanes.{AreIdle, CanRun, RanSteps, EachPlace};
 
 use crate::desks::Desk;
 use mt_io::Gate;
@@ -19,7 +19,7 @@ pub struct Lane<D> {
 #[tactic(auto, using(crate::proofs::Chains::chain_more))]
 fn run_lane<D: Desk, G: Gate>(lane: &mut Lane<D>, gate: &G)
     requires { CanRun D.count D.awaits lane.old }
-    ensures { Ran D.did (G.passed gate.now) lane.old lane.new }
+    ensures { RanSteps D.did (G.passed gate.now) lane.old lane.new }
 {
     for step in 0..lane.steps {
         gate.turn(lane.lane, 2 * step);
@@ -52,16 +52,16 @@ fn run_beside<R: Threads + Sync, D: Desk + Send, G: Gate + Sync>(
 )
     requires first { CanRun D.count D.awaits first.old }
     requires others { All (CanRun D.count D.awaits) others.old }
-    ensures first { Ran D.did (G.passed gate.now) first.old first.new }
-    ensures others { EachPlace (Ran D.did (G.passed gate.now)) others.old others.new }
+    ensures first { RanSteps D.did (G.passed gate.now) first.old first.new }
+    ensures others { EachPlace (RanSteps D.did (G.passed gate.now)) others.old others.new }
 {
     let mut one = ||
         requires { IsSync G.row × CanRun D.count D.awaits first.now }
-        ensures { Ran D.did (G.passed gate.entry.now) first.entry.now first.exit.now }
+        ensures { RanSteps D.did (G.passed gate.entry.now) first.entry.now first.exit.now }
     { run_lane(first, gate) };
     let mut rest = ||
         requires { IsSync R.row × IsSync G.row × IsSend D.row × All (CanRun D.count D.awaits) others.now }
-        ensures { EachPlace (Ran D.did (G.passed gate.entry.now)) others.entry.now others.exit.now }
+        ensures { EachPlace (RanSteps D.did (G.passed gate.entry.now)) others.entry.now others.exit.now }
     { run_lanes(rt, others, gate) };
     join_mut(rt, &mut one, &mut rest);
 }
@@ -78,7 +78,7 @@ pub fn run_lanes<R: Threads + Sync, D: Desk + Send, G: Gate + Sync>(
     gate: &G,
 )
     requires { All (CanRun D.count D.awaits) lanes.old }
-    ensures { EachPlace (Ran D.did (G.passed gate.now)) lanes.old lanes.new }
+    ensures { EachPlace (RanSteps D.did (G.passed gate.now)) lanes.old lanes.new }
 {
     let Some((first, others)) = lanes.split_first_mut() else {
         return;

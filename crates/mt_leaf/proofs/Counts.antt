@@ -3,7 +3,7 @@ use Rattle.std.proofs.Common.{◌≡◌, ℕ, ◌+◌, ◌*◌, ◌<◌, ◌≤�
 use Rattle.std.proofs.lemmas.Bool.{cases_Bool, ltb-true, eqb-true}
 use Rattle.mt_layout.specs.declared.spans.Span.{Span}
 use Rattle.mt_layout.specs.Spans.{Fills, EndsFull}
-use Rattle.mt_leaf.specs.Edits.{spans_below, spans_above, span_above, span_stored, stored, joined, edited, starting, ends_with_hole}
+use Rattle.mt_leaf.specs.Edits.{spans_below, spans_above, span_above, span_stored, stored, holes_joined, edited, starting, ends_with_hole}
 use Rattle.mt_leaf.proofs.Joined.{length_joined}
 use Rattle.mt_leaf.proofs.Holes.{ends_joined, ends-append, full_no_hole}
 use Rattle.mt_leaf.proofs.Stored.{none_below, none_above, all_above, length_above, length_edited, below-append, above-append, above-starting, fills_starting}
@@ -35,11 +35,11 @@ length_below : (xs : List Span) (first : ℕ) → length (spans_below xs first) 
 length_below [] first = omega arith
 length_below (x ∷ xs) first = let k = length_below xs first in elim (cases_Bool (nat_lt x.first first)) [ inl t ↦ rw t (omega (arith, k)) | inr n ↦ rw n (omega (arith, k)) ]
 
-few_joined : (x : Span) (below above : List Span) → length (joined (below ++ (x ∷ above))) ≤ length below + 1 + length above
+few_joined : (x : Span) (below above : List Span) → length (holes_joined (below ++ (x ∷ above))) ≤ length below + 1 + length above
 few_joined x below above = omega (arith, length_joined (below ++ (x ∷ above)), length-append below (x ∷ above))
 
-few_to_a_hole : (lo hi last : ℕ) (x : Span) (below xs : List Span) → Fills lo hi xs → EndsFull xs → ends_with_hole (joined (below ++ (x ∷ spans_above xs last))) ≡ true
-    → length (joined (below ++ (x ∷ spans_above xs last))) ≤ length below + 1
+few_to_a_hole : (lo hi last : ℕ) (x : Span) (below xs : List Span) → Fills lo hi xs → EndsFull xs → ends_with_hole (holes_joined (below ++ (x ∷ spans_above xs last))) ≡ true
+    → length (holes_joined (below ++ (x ∷ spans_above xs last))) ≤ length below + 1
 few_to_a_hole lo hi last x below xs fills full hole =
     let ends = sym (ends-append below x (spans_above xs last)) ∙ (sym (ends_joined (below ++ (x ∷ spans_above xs last))) ∙ hole) in
     let none = ap length (none_left lo hi last x xs fills full ends) in
@@ -66,13 +66,13 @@ stored_two lo middle behind hi first last entry left right f g begins order ends
 pub two_short : (lo middle behind hi first last entry n : ℕ) (left right : List Span) → Fills lo middle left → Fills behind hi right → first < middle → middle ≤ behind → behind ≤ last → last < hi → length left ≤ n → length right ≤ n
     → length (edited (left ++ starting middle right) first last entry) ≤ 2 * n + 1
 two_short lo middle behind hi first last entry n left right f g begins order ends inside few many =
-    let same = ap (λ (l : List Span). length (joined l)) (stored_two lo middle behind hi first last entry left right f g begins order ends inside) in
+    let same = ap (λ (l : List Span). length (holes_joined l)) (stored_two lo middle behind hi first last entry left right f g begins order ends inside) in
     omega (arith, same, few_joined (span_stored first last entry) (spans_below left first) (spans_above right last), length_below left first, length_above right last)
 
 pub two_to_a_hole : (lo middle behind hi first last entry n : ℕ) (left right : List Span) → Fills lo middle left → Fills behind hi right → first < middle → middle ≤ behind → behind ≤ last → last < hi → length left ≤ n → length right ≤ n
     → ends_with_hole (edited (left ++ starting middle right) first last entry) ≡ true → EndsFull right → length (edited (left ++ starting middle right) first last entry) ≤ n + 1
 two_to_a_hole lo middle behind hi first last entry n left right f g begins order ends inside few many hole full =
     let parts = stored_two lo middle behind hi first last entry left right f g begins order ends inside in
-    let same = ap (λ (l : List Span). length (joined l)) parts in
-    let to_hole = subst (λ (l : List Span). ends_with_hole (joined l) ≡ true) parts hole in
+    let same = ap (λ (l : List Span). length (holes_joined l)) parts in
+    let to_hole = subst (λ (l : List Span). ends_with_hole (holes_joined l) ≡ true) parts hole in
     omega (arith, same, few_to_a_hole behind hi last (span_stored first last entry) (spans_below left first) right g full to_hole, length_below left first)

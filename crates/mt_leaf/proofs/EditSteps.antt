@@ -10,7 +10,7 @@ use Rattle.mt_layout.specs.Columns.{RiseFrom, end_of, NoGaps}
 use Rattle.mt_layout.specs.Spans.{spans_from}
 use Rattle.mt_layout.proofs.Gapless.{no_gaps-cons, no_gap_first, no_gaps-append, no_gaps-take, no_gaps-drop}
 use Rattle.mt_layout.proofs.SpanLists.{after, after_some, spans-append, rise_fills}
-use Rattle.mt_leaf.specs.Edits.{spans_below, spans_above, span_stored, stored, joined, edited}
+use Rattle.mt_leaf.specs.Edits.{spans_below, spans_above, span_stored, stored, holes_joined, edited}
 use Rattle.mt_leaf.specs.Places.{slot_reaching, slot_above, first_of, with_joined, cut_item, items_below}
 use Rattle.mt_leaf.proofs.Stored.{none_below, all_above}
 use Rattle.mt_leaf.proofs.Pushes.{all_pushed, no_gaps-with_joined, no_gaps-pushed}
@@ -120,7 +120,7 @@ pushed_edit lo first last entry items made some rise from order to is =
     spans-append lo below (item_stored last entry ∷ above)
     ∙ (λ i. items_below-spans lo first items rise i ++ (span_stored (ends i) last entry ∷ items_above-spans lo last items rise (omega arith) i)) in
     ap (spans_from lo) (is ∙ sym (fold-append with_joined [] below (item_stored last entry ∷ above)))
-    ∙ (all_pushed lo (below ++ (item_stored last entry ∷ above)) ∙ ap joined parts)
+    ∙ (all_pushed lo (below ++ (item_stored last entry ∷ above)) ∙ ap holes_joined parts)
 
 -- and where the items have no gaps neither have those that are made
 pub no_gaps-edit : (lo first last entry : ℕ) (items made : List Item)

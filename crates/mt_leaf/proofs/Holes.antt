@@ -3,7 +3,7 @@ use Rattle.std.proofs.Common.{◌≡◌, ◌≢◌, ◌≤◌, ◌==◌, ◌&&�
 use Rattle.std.proofs.lemmas.Bool.{cases_Bool, eqb-true, eqb-false}
 use Rattle.mt_layout.specs.declared.spans.Span.{Span}
 use Rattle.mt_layout.specs.Spans.{EndsFull}
-use Rattle.mt_leaf.specs.Edits.{join, joined, ends_with_hole}
+use Rattle.mt_leaf.specs.Edits.{join, holes_joined, ends_with_hole}
 
 -- ---- what spans end with
 
@@ -23,10 +23,10 @@ pub some_join : (x : Span) (xs : List Span) → 1 ≤ length (join x xs)
 some_join x [] = omega arith
 some_join x (y ∷ ys) = elim (cases_Bool ((x.word == 0) && (y.word == 0))) [ inl t ↦ rw t (omega arith) | inr n ↦ rw n (omega arith) ]
 
-pub ends_joined : (xs : List Span) → ends_with_hole (joined xs) ≡ ends_with_hole xs
+pub ends_joined : (xs : List Span) → ends_with_hole (holes_joined xs) ≡ ends_with_hole xs
 ends_joined [] = refl
 ends_joined (x ∷ []) = refl
-ends_joined (x ∷ y ∷ ys) = ends_join x (joined (y ∷ ys)) ∙ (ends_behind x (joined (y ∷ ys)) (some_join y (joined ys)) ∙ ends_joined (y ∷ ys))
+ends_joined (x ∷ y ∷ ys) = ends_join x (holes_joined (y ∷ ys)) ∙ (ends_behind x (holes_joined (y ∷ ys)) (some_join y (holes_joined ys)) ∙ ends_joined (y ∷ ys))
 
 pub ends-append : (xs : List Span) (y : Span) (ys : List Span) → ends_with_hole (xs ++ (y ∷ ys)) ≡ ends_with_hole (y ∷ ys)
 ends-append [] y ys = refl

@@ -5,7 +5,7 @@ use Rattle.std.proofs.lemmas.Bool.{cases_Bool, eqb-false, eqb-true}
 use Rattle.mt_base.specs.declared.ranges.Range.{Range}
 use Rattle.mt_layout.specs.declared.spans.Span.{Span}
 use Rattle.mt_layout.specs.Spans.{leaf_range, Fills, BeginsFull, Apart}
-use Rattle.mt_leaf.specs.Edits.{join, joined}
+use Rattle.mt_leaf.specs.Edits.{join, holes_joined}
 
 ranges_join : (x : Span) (xs : List Span) → flat_map leaf_range (join x xs) ≡ leaf_range x ++ flat_map leaf_range xs
 ranges_join x [] = refl
@@ -14,9 +14,9 @@ ranges_join x (y ∷ ys) = elim (cases_Bool (x.word == 0)) [
   | inr n ↦ rw n (rw n refl)
 ]
 
-pub ranges_joined : (xs : List Span) → flat_map leaf_range (joined xs) ≡ flat_map leaf_range xs
+pub ranges_joined : (xs : List Span) → flat_map leaf_range (holes_joined xs) ≡ flat_map leaf_range xs
 ranges_joined [] = refl
-ranges_joined (x ∷ xs) = ranges_join x (joined xs) ∙ ap (λ (l : List Range). leaf_range x ++ l) (ranges_joined xs)
+ranges_joined (x ∷ xs) = ranges_join x (holes_joined xs) ∙ ap (λ (l : List Range). leaf_range x ++ l) (ranges_joined xs)
 
 fills_join : (lo hi : ℕ) (x : Span) (xs : List Span) → Fills lo hi (x ∷ xs) → Fills lo hi (join x xs)
 fills_join lo hi x [] fills = fills
@@ -25,9 +25,9 @@ fills_join lo hi x (y ∷ ys) fills = elim (cases_Bool ((x.word == 0) && (y.word
   | inr n ↦ rw n fills
 ]
 
-pub fills_joined : (lo hi : ℕ) (xs : List Span) → Fills lo hi xs → Fills lo hi (joined xs)
+pub fills_joined : (lo hi : ℕ) (xs : List Span) → Fills lo hi xs → Fills lo hi (holes_joined xs)
 fills_joined lo hi [] fills = fills
-fills_joined lo hi (x ∷ xs) fills = fills_join lo hi x (joined xs) (fills.0, fills.1, fills_joined (x.last + 1) hi xs fills.2)
+fills_joined lo hi (x ∷ xs) fills = fills_join lo hi x (holes_joined xs) (fills.0, fills.1, fills_joined (x.last + 1) hi xs fills.2)
 
 apart_join : (x : Span) (xs : List Span) → Apart xs → Apart (join x xs)
 apart_join x [] apart = (λ _. tt, tt)
@@ -39,9 +39,9 @@ apart_join x (y ∷ ys) apart = elim (cases_Bool (x.word == 0)) [
   | inr n ↦ rw n ((λ e. absurd (eqb-false x.word 0 n e)), apart)
 ]
 
-pub apart_joined : (xs : List Span) → Apart (joined xs)
+pub apart_joined : (xs : List Span) → Apart (holes_joined xs)
 apart_joined [] = tt
-apart_joined (x ∷ xs) = apart_join x (joined xs) (apart_joined xs)
+apart_joined (x ∷ xs) = apart_join x (holes_joined xs) (apart_joined xs)
 
 -- ---- how many
 
@@ -49,9 +49,9 @@ length_join : (x : Span) (xs : List Span) → length (join x xs) ≤ length xs +
 length_join x [] = omega arith
 length_join x (y ∷ ys) = elim (cases_Bool ((x.word == 0) && (y.word == 0))) [ inl t ↦ rw t (omega arith) | inr n ↦ rw n (omega arith) ]
 
-pub length_joined : (xs : List Span) → length (joined xs) ≤ length xs
+pub length_joined : (xs : List Span) → length (holes_joined xs) ≤ length xs
 length_joined [] = omega arith
-length_joined (x ∷ xs) = let one = length_join x (joined xs) in let rest = length_joined xs in omega arith
+length_joined (x ∷ xs) = let one = length_join x (holes_joined xs) in let rest = length_joined xs in omega arith
 
 -- two spans that are not both holes stay two
 pub join_apart : (x : Span) (xs : List Span) → (x.word ≡ 0 → BeginsFull xs) → join x xs ≡ x ∷ xs
@@ -61,7 +61,7 @@ join_apart x (y ∷ ys) full = elim (cases_Bool (x.word == 0)) [
   | inr n ↦ rw n refl
 ]
 
-pub joined_apart : (xs : List Span) → Apart xs → joined xs ≡ xs
+pub joined_apart : (xs : List Span) → Apart xs → holes_joined xs ≡ xs
 joined_apart [] apart = refl
 joined_apart (x ∷ xs) apart = ap (join x) (joined_apart xs apart.1) ∙ join_apart x xs apart.0
 
@@ -69,7 +69,7 @@ joined_apart (x ∷ xs) apart = ap (join x) (joined_apart xs apart.1) ∙ join_a
 record Joins (x : Span) (xs ys : List Span) : Type 0 where
   first : Span
   rest : List Span
-  is : joined ((x ∷ xs) ++ ys) ≡ first ∷ rest
+  is : holes_joined ((x ∷ xs) ++ ys) ≡ first ∷ rest
   word : first.word ≡ x.word
   count : length (x ∷ xs) + length ys ≤ length (first ∷ rest) + 1
 
@@ -90,6 +90,6 @@ joins x (z ∷ xs) ys left right =
       count = omega arith;
     }
 
-pub length_joins : (xs ys : List Span) → Apart xs → Apart ys → length xs + length ys ≤ length (joined (xs ++ ys)) + 1
+pub length_joins : (xs ys : List Span) → Apart xs → Apart ys → length xs + length ys ≤ length (holes_joined (xs ++ ys)) + 1
 length_joins [] ys left right = rw (joined_apart ys right) (omega arith)
 length_joins (x ∷ xs) ys left right = let all = joins x xs ys left right in rw all.is all.count

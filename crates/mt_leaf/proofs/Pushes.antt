@@ -11,7 +11,7 @@ use Rattle.mt_layout.specs.Spans.{spans_from, BeginsFull, Apart, EndsFull}
 use Rattle.mt_layout.proofs.Gapless.{no_gaps-cons, no_gap_first, no_gaps_behind}
 use Rattle.mt_layout.proofs.SpanLists.{after, after-append, spans-append}
 use Rattle.mt_leaf.specs.Cuts.{word_of}
-use Rattle.mt_leaf.specs.Edits.{join, joined, ends_with_hole}
+use Rattle.mt_leaf.specs.Edits.{join, holes_joined, ends_with_hole}
 use Rattle.mt_leaf.specs.Places.{with_joined}
 use Rattle.mt_leaf.proofs.Holes.{ends-append, full_no_hole}
 use Rattle.mt_leaf.proofs.Joined.{joined_apart}
@@ -84,35 +84,35 @@ join-behind x y (z ∷ []) some = elim (cases_Bool (x.word == 0)) [
 ]
 join-behind x y (z ∷ w ∷ xs) some = elim (cases_Bool ((x.word == 0) && (z.word == 0))) [ inl a ↦ rw a refl | inr a ↦ rw a refl ]
 
-some_joined : (x : Span) (xs : List Span) → 1 ≤ length (joined (x ∷ xs))
-some_joined x xs = joins (joined xs)
+some_joined : (x : Span) (xs : List Span) → 1 ≤ length (holes_joined (x ∷ xs))
+some_joined x xs = joins (holes_joined xs)
   where
     joins : (ys : List Span) → 1 ≤ length (join x ys)
     joins [] = omega arith
     joins (y ∷ ys) = elim (cases_Bool ((x.word == 0) && (y.word == 0))) [ inl t ↦ rw t (omega arith) | inr n ↦ rw n (omega arith) ]
 
-joined-behind : (xs : List Span) (y : Span) → joined (xs ++ y ∷ []) ≡ behind (joined xs) y
+joined-behind : (xs : List Span) (y : Span) → holes_joined (xs ++ y ∷ []) ≡ behind (holes_joined xs) y
 joined-behind [] y = refl
 joined-behind (x ∷ []) y = refl
-joined-behind (x ∷ z ∷ xs) y = ap (join x) (joined-behind (z ∷ xs) y) ∙ join-behind x y (joined (z ∷ xs)) (some_joined z xs)
+joined-behind (x ∷ z ∷ xs) y = ap (join x) (joined-behind (z ∷ xs) y) ∙ join-behind x y (holes_joined (z ∷ xs)) (some_joined z xs)
 
-pushed_behind : (lo : ℕ) (front made back : List Item) → spans_from lo made ≡ joined (spans_from lo front) → after lo made ≡ after lo front
-    → spans_from lo (fold with_joined made back) ≡ joined (spans_from lo (front ++ back))
-pushed_behind lo front made [] same ends = same ∙ ap (λ (l : List Item). joined (spans_from lo l)) (sym (append-nil front))
+pushed_behind : (lo : ℕ) (front made back : List Item) → spans_from lo made ≡ holes_joined (spans_from lo front) → after lo made ≡ after lo front
+    → spans_from lo (fold with_joined made back) ≡ holes_joined (spans_from lo (front ++ back))
+pushed_behind lo front made [] same ends = same ∙ ap (λ (l : List Item). holes_joined (spans_from lo l)) (sym (append-nil front))
 pushed_behind lo front made (y ∷ back) same ends =
-    let step : spans_from lo (with_joined made y) ≡ joined (spans_from lo (front ++ y ∷ [])) =
+    let step : spans_from lo (with_joined made y) ≡ holes_joined (spans_from lo (front ++ y ∷ [])) =
     spans-with_joined lo made y
     ∙ ((λ i. behind (same i) (span_at (ends i) y))
-    ∙ (sym (joined-behind (spans_from lo front) (span_at (after lo front) y)) ∙ ap joined (sym (spans-append lo front (y ∷ []))))) in
+    ∙ (sym (joined-behind (spans_from lo front) (span_at (after lo front) y)) ∙ ap holes_joined (sym (spans-append lo front (y ∷ []))))) in
     let end : after lo (with_joined made y) ≡ after lo (front ++ y ∷ []) = after-with_joined lo made y ∙ sym (after-append lo front (y ∷ [])) in
-    pushed_behind lo (front ++ y ∷ []) (with_joined made y) back step end ∙ ap (λ (l : List Item). joined (spans_from lo l)) (append_assoc front (y ∷ []) back)
+    pushed_behind lo (front ++ y ∷ []) (with_joined made y) back step end ∙ ap (λ (l : List Item). holes_joined (spans_from lo l)) (append_assoc front (y ∷ []) back)
 
 -- onto the empty run
-pub all_pushed : (lo : ℕ) (items : List Item) → spans_from lo (fold with_joined [] items) ≡ joined (spans_from lo items)
+pub all_pushed : (lo : ℕ) (items : List Item) → spans_from lo (fold with_joined [] items) ≡ holes_joined (spans_from lo items)
 all_pushed lo items = pushed_behind lo [] [] items refl refl
 
 -- onto items of which no two holes follow each other
-pub pushed_onto : (lo : ℕ) (items more : List Item) → Apart (spans_from lo items) → spans_from lo (fold with_joined items more) ≡ joined (spans_from lo (items ++ more))
+pub pushed_onto : (lo : ℕ) (items more : List Item) → Apart (spans_from lo items) → spans_from lo (fold with_joined items more) ≡ holes_joined (spans_from lo (items ++ more))
 pushed_onto lo items more apart = pushed_behind lo items items more (sym (joined_apart (spans_from lo items) apart)) refl
 
 -- ---- where no two holes meet, items are pushed as they are

@@ -32,13 +32,13 @@ join x [] = x ∷ []
 join x (y ∷ ys) = if (x.word == 0) && (y.word == 0) then record x { last = y.last } ∷ ys else x ∷ y ∷ ys
 
 -- the spans with each two holes that follow each other made one
-abbrev pub joined : List Span → List Span
-joined [] = []
-joined (x ∷ xs) = join x (joined xs)
+abbrev pub holes_joined : List Span → List Span
+holes_joined [] = []
+holes_joined (x ∷ xs) = join x (holes_joined xs)
 
 -- a store on the spans of a few leaves, holes joined
 abbrev pub edited : List Span → ℕ → ℕ → ℕ → List Span
-edited xs first last entry = joined (stored xs first last entry)
+edited xs first last entry = holes_joined (stored xs first last entry)
 
 -- the slot of the entry that stands at just these indexes
 abbrev pub exact_slot_of : List Span → ℕ → ℕ → Option ℕ

@@ -9,7 +9,7 @@ ghost use Rattle.mt_layout.specs.Columns.{end_of, NoGaps};
 ghost use Rattle.mt_layout.specs.Spans.{spans_from, leaf_range, Fills, Apart, EndsFull};
 ghost use Rattle.mt_leaf.specs.declared.cuts.Towards.TheVariants.{First, Last};
 ghost use Rattle.mt_leaf.specs.Cuts.{ArePieces, MeetAt};
-ghost use Rattle.mt_leaf.specs.Edits.{edited, stored, joined, starting, ends_with_hole};
+ghost use Rattle.mt_leaf.specs.Edits.{edited, stored, holes_joined, starting, ends_with_hole};
 
 /// A store on the spans of leaves is that store on the map that they stand for.
 pub fn an_edit_is_a_store()
@@ -27,11 +27,11 @@ pub fn leaves_between_do_not_count()
 
 /// Holes are joined where leaves meet, and nowhere else in lawful leaves.
 pub fn leaves_are_joined()
-    ensures ranges { (xs : List Span) → flat_map leaf_range (joined xs) ≡ flat_map leaf_range xs }
-    ensures fills { (lo hi : ℕ) (xs : List Span) → Fills lo hi xs → Fills lo hi (joined xs) }
-    ensures apart { (xs : List Span) → Apart (joined xs) }
-    ensures count { (xs ys : List Span) → Apart xs → Apart ys → length xs + length ys ≤ length (joined (xs ++ ys)) + 1 }
-    ensures most { (xs : List Span) → length (joined xs) ≤ length xs }
+    ensures ranges { (xs : List Span) → flat_map leaf_range (holes_joined xs) ≡ flat_map leaf_range xs }
+    ensures fills { (lo hi : ℕ) (xs : List Span) → Fills lo hi xs → Fills lo hi (holes_joined xs) }
+    ensures apart { (xs : List Span) → Apart (holes_joined xs) }
+    ensures count { (xs ys : List Span) → Apart xs → Apart ys → length xs + length ys ≤ length (holes_joined (xs ++ ys)) + 1 }
+    ensures most { (xs : List Span) → length (holes_joined xs) ≤ length xs }
 {}
 
 /// Items are one with their spans: equal spans are of equal items where none has a gap, and items behind others begin at

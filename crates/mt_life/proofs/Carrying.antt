@@ -21,7 +21,7 @@ use Rattle.mt_rows.proofs.Published.{published_width}
 use Rattle.mt_life.specs.declared.views.Extent.{Extent}
 use Rattle.mt_life.specs.declared.views.Moment.{Moment}
 use Rattle.mt_life.specs.Moments.{moment_of, PartOf}
-use Rattle.mt_life.specs.Known.{State, state_of, extent_at, spans_at, Later, IsLive, HasRow, HasPart, calls, Child, Shape, Known, Follows}
+use Rattle.mt_life.specs.Known.{State, state_of, extent_at, spans_at, Later, IsLive, HasRow, HasPart, calls, Child, Shape, Known, HasExtentsOf}
 use Rattle.mt_life.proofs.Alike.{two_slots, same_spans_at, shape_moves}
 use Rattle.mt_life.proofs.Fitting.{placed}
 use Rattle.mt_life.proofs.Reaching.{PlaceOf, place_of, extent_reached, root_reached, map_here, shape_reached, leaf_reached, inner_reached}
@@ -29,7 +29,7 @@ use Rattle.mt_life.proofs.Staying.{true_false, IsAt, others_stay, parents_stay, 
 use Rattle.mt_life.proofs.Turning.{later_cases, any, had_row, has_still, reached_lives, live_reached, dead_before, dead_stays, later_stays}
 
 module _ (kind : Kind) (s s' : Sheet) (place : Place) (word : ℕ) (call : Call) (reply : Reply) (may : MayPublish kind s place word call reply) (done : Published s s' place word call reply)
-    (before after : ℕ → Extent) (m m' : ℕ → Moment) (known : Known kind (state_of s) before m) (follows : Follows (with_published s.tree place word) before after)
+    (before after : ℕ → Extent) (m m' : ℕ → Moment) (known : Known kind (state_of s) before m) (follows : HasExtentsOf (with_published s.tree place word) before after)
     (past : (k : ℕ) → k ≤ s.ended → m' k ≡ m k) (now : m' (s.ended + 1) ≡ moment_of (with_published s.tree place word)) where
   abbrev t' : Rooted
   t' = with_published s.tree place word

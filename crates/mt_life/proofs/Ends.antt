@@ -11,7 +11,7 @@ use Rattle.mt_rows.specs.Sheet.{is_buried, Sheet, MayBegin, begun, scanned}
 use Rattle.mt_rows.specs.Publish.{MayFinish, finished}
 use Rattle.mt_life.specs.declared.views.Extent.{Extent}
 use Rattle.mt_life.specs.declared.views.Moment.{Moment}
-use Rattle.mt_life.specs.Known.{State, state_of, raised, HasRow, HasPart, calls, Known, Goes}
+use Rattle.mt_life.specs.Known.{State, state_of, with_cleared, HasRow, HasPart, calls, Known, Goes}
 use Rattle.mt_life.proofs.Staying.{true_false}
 
 module _ (kind : Kind) (s : State) (e : ℕ → Extent) (m m' : ℕ → Moment) (known : Known kind s e m) (ended : ℕ) (in_flight published : Bool) (cleared : ℕ) where
@@ -75,7 +75,7 @@ begin_turns kind s e m may known =
       burials = λ row has is. (refl, refl);
     })
 
-pub raise_turns : (kind : Kind) (s : State) (cleared : ℕ) (e : ℕ → Extent) (m : ℕ → Moment) → s.cleared ≤ cleared → Known kind s e m → Known kind (raised s cleared) e m × Goes kind s (raised s cleared) e e m m
+pub raise_turns : (kind : Kind) (s : State) (cleared : ℕ) (e : ℕ → Extent) (m : ℕ → Moment) → s.cleared ≤ cleared → Known kind s e m → Known kind (with_cleared s cleared) e m × Goes kind s (with_cleared s cleared) e e m m
 raise_turns kind s cleared e m rises known = turned kind s e m m known s.ended s.in_flight s.published cleared (record {
   calm = known.calm;
   clear = rises;

@@ -13,7 +13,7 @@ use Rattle.mt_rows.specs.Publish.{tree_as, is_reached, StandsAt}
 use Rattle.mt_rows.specs.Replacement.{root_of}
 use Rattle.mt_rows.proofs.Reached.{OnLevel, on_level, on_level_law, on_level_reached, reached_times, times_reached, reached_on_level, one_place}
 use Rattle.mt_life.specs.declared.views.Extent.{Extent}
-use Rattle.mt_life.specs.Known.{extent_at, extent_of, nowhere, Follows}
+use Rattle.mt_life.specs.Known.{extent_at, extent_of, nowhere, HasExtentsOf}
 use Rattle.mt_life.proofs.Staying.{true_false}
 
 module _ (kind : Kind) (t : Rooted) (h : ℕ) (stands : Stands (tree_as kind t) h) (before : ℕ → Extent) where
@@ -35,7 +35,7 @@ module _ (kind : Kind) (t : Rooted) (h : ℕ) (stands : Stands (tree_as kind t) 
   pick_other row (inl is) not = absurd (true_false (is_reached t row) is not)
   pick_other row (inr _) not = refl
 
-  some_follow : (after : ℕ → Extent) × Follows t before after
+  some_follow : (after : ℕ → Extent) × HasExtentsOf t before after
   some_follow = (
     (λ row. pick row (cases_Bool (is_reached t row))),
     record {
@@ -51,7 +51,7 @@ nothing_stands t k x empty at =
     let levels = at.levels in absurd (omega arith)
 
 -- there are extents that follow, whatever they were before
-pub follow : (kind : Kind) (t : Rooted) (before : ℕ → Extent) → IsTree (tree_as kind t) → (after : ℕ → Extent) × Follows t before after
+pub follow : (kind : Kind) (t : Rooted) (before : ℕ → Extent) → IsTree (tree_as kind t) → (after : ℕ → Extent) × HasExtentsOf t before after
 follow kind t before (inl empty) = (before, record { reached = λ k x at. absurd (nothing_stands t k x empty at); others = λ row not. refl })
 follow kind t before (inr tree) = some_follow kind t tree.0 tree.1 before
 
@@ -74,7 +74,7 @@ stands_low : (kind : Kind) (t : Rooted) (k : ℕ) (x : Span) → IsTree (tree_as
 stands_low kind t k x (inl empty) at = absurd (nothing_stands t k x empty at)
 stands_low kind t k x (inr tree) at = (on_level_law (tree_as kind t) tree.0 tree.1 k x (on_level (tree_as kind t) tree.0 tree.1 k x at)).name.in_table
 
-pub follow_listed : (kind : Kind) (t : Rooted) (before : List Extent) → length before ≡ first_row + t.rows → IsTree (tree_as kind t) → (after : List Extent) × (length after ≡ first_row + t.rows) × Follows t (extent_of before) (extent_of after)
+pub follow_listed : (kind : Kind) (t : Rooted) (before : List Extent) → length before ≡ first_row + t.rows → IsTree (tree_as kind t) → (after : List Extent) × (length after ≡ first_row + t.rows) × HasExtentsOf t (extent_of before) (extent_of after)
 follow_listed kind t before long tree =
     let some = follow kind t (extent_of before) tree in
     let after = listed some.0 0 (first_row + t.rows) in

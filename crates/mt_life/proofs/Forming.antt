@@ -27,7 +27,7 @@ use Rattle.mt_rows.proofs.Published.{published_rows, published_width}
 use Rattle.mt_life.specs.declared.views.Extent.{Extent}
 use Rattle.mt_life.specs.declared.views.Moment.{Moment}
 use Rattle.mt_life.specs.Moments.{moment_of}
-use Rattle.mt_life.specs.Known.{State, state_of, Later, HasRow, Known, Follows, SameForm, Goes}
+use Rattle.mt_life.specs.Known.{State, state_of, Later, HasRow, Known, HasExtentsOf, SameForm, Goes}
 use Rattle.mt_life.proofs.Alike.{two_slots}
 use Rattle.mt_life.proofs.Staying.{true_false, IsAt, at_or_not, others_stay, place_stays, on}
 use Rattle.mt_life.proofs.Turning.{later_cases, any, dead_stays, later_stays}
@@ -107,7 +107,7 @@ form_at_place kind s (Slot r col) word call reply may row k k' x x' at at' is is
     (form_here kind s r col word call reply may k k' x x' at at' (is ∙ here) (is' ∙ here) h h' stands stands')
 
 module _ (kind : Kind) (s s' : Sheet) (place : Place) (word : ℕ) (call : Call) (reply : Reply) (may : MayPublish kind s place word call reply) (done : Published s s' place word call reply)
-    (before after : ℕ → Extent) (m m' : ℕ → Moment) (known : Known kind (state_of s) before m) (follows : Follows (with_published s.tree place word) before after)
+    (before after : ℕ → Extent) (m m' : ℕ → Moment) (known : Known kind (state_of s) before m) (follows : HasExtentsOf (with_published s.tree place word) before after)
     (past : (k : ℕ) → k ≤ s.ended → m' k ≡ m k) (now : m' (s.ended + 1) ≡ moment_of (with_published s.tree place word)) where
   abbrev t' : Rooted
   t' = with_published s.tree place word

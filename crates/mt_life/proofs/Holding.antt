@@ -19,7 +19,7 @@ use Rattle.mt_life.specs.declared.views.Extent.{Extent}
 use Rattle.mt_life.specs.declared.views.Held.{Held}
 use Rattle.mt_life.specs.declared.views.Moment.{Moment}
 use Rattle.mt_life.specs.Known.{State, begun_calls, extent_at, spans_at, Alive, Later, IsLive, HasRow, HasPart, calls, Child, Known, SameForm, Shape, Goes}
-use Rattle.mt_life.specs.Holding.{copy_of, come, died_by, renewed, Snapshot, HoldsRow, LeadsTo, Tells}
+use Rattle.mt_life.specs.Holding.{copy_of, come, died_by, as_known_now, Snapshot, HoldsRow, LeadsTo, LeafTells}
 use Rattle.mt_life.proofs.Turning.{later_cases, any}
 
 form_same : (t : Table) (kind : RowKind) (row : ℕ) → SameForm t t kind row
@@ -182,7 +182,7 @@ module _ (kind : Kind) (s : State) (e : ℕ → Extent) (m : ℕ → Moment) (kn
       earlier (Dead a) d n le later = omega arith
 
   -- a leaf that is held has what the map had after k calls, no earlier than the load of the root: after all, where it is live
-  pub leaf_held : (x : Held) → HoldsRow kind s e m x → x.extent.level ≡ 0 → Tells kind s m x
+  pub leaf_held : (x : Held) → HoldsRow kind s e m x → x.extent.level ≡ 0 → LeafTells kind s m x
   leaf_held x h leaf =
       let flat : (e x.row).level ≡ 0 = ap (λ (n : Extent). n.level) h.extent ∙ leaf in
       ⊎_elim
@@ -210,7 +210,7 @@ module _ (kind : Kind) (s : State) (e : ℕ → Extent) (m : ℕ → Moment) (kn
   died_is (Dead n) d is = let same : n ≡ d = cc in ap Dead same
 
   -- a row that is held may be copied anew
-  pub renewed_held : (x : Held) → HoldsRow kind s e m x → HoldsRow kind s e m (renewed s x)
+  pub renewed_held : (x : Held) → HoldsRow kind s e m x → HoldsRow kind s e m (as_known_now s x)
   renewed_held x h = record {
     has = h.has;
     life = h.life;

@@ -16,13 +16,13 @@ use Rattle.mt_rows.proofs.Between.{fills_split, Between, leaf_between, map_betwe
 use Rattle.mt_rows.proofs.Heights.{level_next, map_of_split, levels_upper, level_rows, level_fills}
 use Rattle.mt_rows.proofs.Depth.{ranges_by_depth}
 use Rattle.mt_rows.proofs.Reached.{IsOneOf, parts_of_one, one_of_expand, OnLevel, words, height_is, all_of_each}
-use Rattle.mt_life.specs.Moments.{Cut, PartOf, moment_of, first_of}
+use Rattle.mt_life.specs.Moments.{Cut, PartOf, moment_of, first_index}
 
 all_mapped : {A B : Type 0} (P : B → Type 0) (f : A → B) (xs : List A) → AllByRecursion (λ (x : A). P (f x)) xs → AllByRecursion P (map f xs)
 all_mapped P f [] each = tt
 all_mapped P f (x ∷ xs) each = (each.0, all_mapped P f xs each.1)
 
-firsts_parts : (front : List Span) (x : Span) (back : List Span) → map first_of (front ++ (x ∷ back)) ≡ map first_of front ++ (x.first ∷ map first_of back)
+firsts_parts : (front : List Span) (x : Span) (back : List Span) → map first_index (front ++ (x ∷ back)) ≡ map first_index front ++ (x.first ∷ map first_index back)
 firsts_parts [] x back = refl
 firsts_parts (y ∷ front) x back = ap (λ (l : List ℕ). y.first ∷ l) (firsts_parts front x back)
 
@@ -41,15 +41,15 @@ firsts_above lo hi low (x ∷ xs) le fills = (
 )
 
 -- a span among spans end to end lies between two neighbouring cuts
-cut_here : (lo hi : ℕ) (front : List Span) (x : Span) (back : List Span) → Fills lo hi (front ++ (x ∷ back)) → Cut (map first_of (front ++ (x ∷ back))) x.first x.last
+cut_here : (lo hi : ℕ) (front : List Span) (x : Span) (back : List Span) → Fills lo hi (front ++ (x ∷ back)) → Cut (map first_index (front ++ (x ∷ back))) x.first x.last
 cut_here lo hi front x back fills =
     let split = fills_split lo hi front x back fills in
     let at : ℕ → Type 0 = λ c. (c ≤ x.first) ⊎ (x.last < c) in
     record {
-      before = map first_of front;
-      after = map first_of back;
+      before = map first_index front;
+      after = map first_index back;
       begins = firsts_parts front x back;
-      apart = all_mapped at first_of (front ++ (x ∷ back)) (all_join (λ (y : Span). at y.first) front (x ∷ back)
+      apart = all_mapped at first_index (front ++ (x ∷ back)) (all_join (λ (y : Span). at y.first) front (x ∷ back)
           (all_map (λ (y : Span). y.first ≤ x.first) (λ (y : Span). at y.first) (λ y low. inl low) front (firsts_below lo x.first x.first front (omega arith) split.0))
           (inl (omega arith), all_map (λ (y : Span). x.last + 1 ≤ y.first) (λ (y : Span). at y.first) (λ y high. inr (omega arith)) back (firsts_above (x.last + 1) hi (x.last + 1) back (omega arith) split.2)));
     }
@@ -86,7 +86,7 @@ module _ (t : Tree) (h : ℕ) (stands : Stands t h) where
           below = all_map (Between 0 x.first) (λ (r : Range). r.last < x.first) (λ r between. between.2) (ranges (expand t.table front)) below;
           above = all_map (Between (x.last + 1) (top_of t + 1)) (λ (r : Range). x.last < r.first) (λ r between. let low = between.0 in omega arith) (ranges (expand t.table back)) above;
         };
-        cuts = subst (λ (cuts : List ℕ). Cut cuts x.first x.last) (ap (map first_of) (sym parts) ∙ ap (λ (d : ℕ). map first_of (level t.table d (root_of t))) (sym tall)) (cut_here 0 (top_of t + 1) front x back fills);
+        cuts = subst (λ (cuts : List ℕ). Cut cuts x.first x.last) (ap (map first_index) (sym parts) ∙ ap (λ (d : ℕ). map first_index (level t.table d (root_of t))) (sym tall)) (cut_here 0 (top_of t + 1) front x back fills);
       }
 
   -- a leaf lies between two cuts, and has what the map has there

@@ -18,7 +18,7 @@ use Rattle.mt_rows.proofs.Reached.{IsOneOf, all_one_of, expand_one_of, OnLevel, 
 use Rattle.mt_life.specs.declared.views.Extent.{Extent}
 use Rattle.mt_life.specs.declared.views.Moment.{Moment}
 use Rattle.mt_life.specs.Moments.{moment_of}
-use Rattle.mt_life.specs.Known.{State, HasRow, calls, Known, Follows}
+use Rattle.mt_life.specs.Known.{State, HasRow, calls, Known, HasExtentsOf}
 use Rattle.mt_life.proofs.Reaching.{PlaceOf, place_of, root_reached, map_here, shape_reached, leaf_reached, inner_reached}
 use Rattle.mt_life.proofs.Staying.{true_false, none_reached}
 use Rattle.mt_life.proofs.Turning.{later_cases}
@@ -60,7 +60,7 @@ lawful_tree t (inr tree) = inr (tree.0, tree.1)
 -- ---- what is known before the first call
 
 pub starts : (kind : Kind) (s : State) (before e : ℕ → Extent) (m : ℕ → Moment) → IsLawfulOf s.tree kind → LiveAreReached s.tree s.lives → NoneBuried s.tree.rows s.buried
-    → ((row d : ℕ) → HasRow s.tree.rows row → life_of s.lives row ≢ Dead d) → s.ended ≡ 0 → s.published ≡ false → Follows s.tree before e → m 0 ≡ moment_of s.tree → Known kind s e m
+    → ((row d : ℕ) → HasRow s.tree.rows row → life_of s.lives row ≢ Dead d) → s.ended ≡ 0 → s.published ≡ false → HasExtentsOf s.tree before e → m 0 ≡ moment_of s.tree → Known kind s e m
 starts kind s before e m lawful live none_buried none_dead first calm follows now = record {
   width = lawful.width;
   calm = λ _. calm;

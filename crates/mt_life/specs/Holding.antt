@@ -54,8 +54,8 @@ died_by Live = None
 died_by (Dead d) = Some d
 
 -- a row that is held, as it is now
-abbrev pub renewed : State → Held → Held
-renewed s x = record x { width = s.tree.table.width; copy = s.tree.table.words; died = died_by (life_of s.lives x.row) }
+abbrev pub as_known_now : State → Held → Held
+as_known_now s x = record x { width = s.tree.table.width; copy = s.tree.table.words; died = died_by (life_of s.lives x.row) }
 
 -- What a word that was loaded leads to: a row that may be held, of the kind of its level.
 pub record LeadsTo (kind : Kind) (s : State) (extents : ℕ → Extent) (moments : ℕ → Moment) (word since : ℕ) (e : Extent) : Type 0 where
@@ -64,7 +64,7 @@ pub record LeadsTo (kind : Kind) (s : State) (extents : ℕ → Extent) (moments
 
 -- What a leaf that is held answers: what the map had there after k calls, no fewer than at the load of the root; after all
 -- calls, where the leaf is not dead.
-pub record Tells (kind : Kind) (s : State) (moments : ℕ → Moment) (x : Held) : Type 0 where
+pub record LeafTells (kind : Kind) (s : State) (moments : ℕ → Moment) (x : Held) : Type 0 where
   pub k : ℕ
   pub low : x.since ≤ k
   pub high : k ≤ calls s

@@ -73,8 +73,8 @@ pub record IsFull (s : State) : Type 0 where
   pub buried : length s.buried ≡ first_row + s.tree.rows
 
 -- more rows may be used again
-abbrev pub raised : State → ℕ → State
-raised s cleared = record s { cleared = cleared }
+abbrev pub with_cleared : State → ℕ → State
+with_cleared s cleared = record s { cleared = cleared }
 
 -- how many calls have begun
 abbrev pub begun_calls : State → ℕ
@@ -137,7 +137,7 @@ pub record Known (kind : Kind) (s : State) (extents : ℕ → Extent) (moments :
   pub dead_inner : (row level d : ℕ) → HasRow s.tree.rows row → life_of s.lives row ≡ Dead d → s.cleared < d → (extents row).level ≡ suc level → HasChildren kind s extents (Later d) level row
 
 -- The extents of the rows that are reached in a tree, and those of the others as they were.
-pub record Follows (t : Rooted) (before after : ℕ → Extent) : Type 0 where
+pub record HasExtentsOf (t : Rooted) (before after : ℕ → Extent) : Type 0 where
   pub reached : (k : ℕ) (x : Span) → StandsAt t k x → after (row_in x.word) ≡ extent_at x k
   pub others : (row : ℕ) → is_reached t row ≡ false → after row ≡ before row
 

@@ -11,12 +11,12 @@ use Rattle.mt_rows.specs.Trees.{height_in}
 use Rattle.mt_rows.specs.Sheet.{Rooted}
 use Rattle.mt_rows.specs.Publish.{map_by}
 
-abbrev pub first_of : Span → ℕ
-first_of x = x.first
+abbrev pub first_index : Span → ℕ
+first_index x = x.first
 
 -- where the leaves of a tree begin
 abbrev pub cuts_by : Rooted → List ℕ
-cuts_by t = map first_of (level t.table (height_in t.table t.root - 1) (root_span t.table t.root ∷ []))
+cuts_by t = map first_index (level t.table (height_in t.table t.root - 1) (root_span t.table t.root ∷ []))
 
 abbrev pub moment_of : Rooted → Moment
 moment_of t = record { ranges = map_by t; cuts = cuts_by t }

@@ -21,8 +21,8 @@ ghost use Rattle.mt_rows.specs.Spans.{Table, column, inner_kind, root_span, span
 ghost use Rattle.mt_life.specs.declared.views.Extent.{Extent};
 ghost use Rattle.mt_life.specs.declared.views.Held.{Held};
 ghost use Rattle.mt_life.specs.declared.views.Moment.{Moment};
-ghost use Rattle.mt_life.specs.Holding.{HoldsRow, LeadsTo, Snapshot, Tells, renewed};
-ghost use Rattle.mt_life.specs.Known.{Child, Follows, Goes, HasRow, IsFull, IsLive, Known, SameForm, Shape, State, begun_calls, calls, extent_at, extent_of, raised, spans_at, state_of};
+ghost use Rattle.mt_life.specs.Holding.{HoldsRow, LeadsTo, Snapshot, LeafTells, as_known_now};
+ghost use Rattle.mt_life.specs.Known.{Child, HasExtentsOf, Goes, HasRow, IsFull, IsLive, Known, SameForm, Shape, State, begun_calls, calls, extent_at, extent_of, with_cleared, spans_at, state_of};
 ghost use Rattle.mt_life.specs.Moments.{PartOf, moment_of};
 
 /// A tree has nine levels at the most. A leaf lies between two cuts and has what the map has there. What stands in an
@@ -48,9 +48,9 @@ pub fn a_way_from_the_root_has_few_slots()
 
 /// Each tree has extents of its rows, also as a list.
 pub fn extents_follow()
-    ensures each { (kind : Kind) (t : Rooted) (before : ℕ → Extent) → IsTree (tree_as kind t) → (after : ℕ → Extent) × Follows t before after }
+    ensures each { (kind : Kind) (t : Rooted) (before : ℕ → Extent) → IsTree (tree_as kind t) → (after : ℕ → Extent) × HasExtentsOf t before after }
     ensures listed { (kind : Kind) (t : Rooted) (before : List Extent) → length before ≡ first_row + t.rows → IsTree (tree_as kind t)
-        → (after : List Extent) × (length after ≡ first_row + t.rows) × Follows t (extent_of before) (extent_of after) }
+        → (after : List Extent) × (length after ≡ first_row + t.rows) × HasExtentsOf t (extent_of before) (extent_of after) }
 {}
 
 /// The kind of a name agrees with the level of the row that it names: of the root word, and of each word in an inner row
@@ -77,7 +77,7 @@ pub fn rows_of_a_form_have_the_same_slots()
 /// What is known of rows before a publishing store is known after it, and what passes rely on stays.
 pub fn a_publishing_store_carries_what_is_known()
     ensures { (kind : Kind) (s s' : Sheet) (place : Place) (word : ℕ) (call : Call) (reply : Reply) (e e' : ℕ → Extent) (m m' : ℕ → Moment)
-        → MayPublish kind s place word call reply → Published s s' place word call reply → Known kind (state_of s) e m → Follows (with_published s.tree place word) e e'
+        → MayPublish kind s place word call reply → Published s s' place word call reply → Known kind (state_of s) e m → HasExtentsOf (with_published s.tree place word) e e'
         → ((k : ℕ) → k ≤ s.ended → m' k ≡ m k) → m' (s.ended + 1) ≡ moment_of (with_published s.tree place word)
         → Known kind (state_of s') e' m' × Goes kind (state_of s) (state_of s') e e' m m' }
 {}
@@ -99,7 +99,7 @@ pub fn ends_leave_what_is_known()
         → Known kind (state_of (begun s)) e m × Goes kind (state_of s) (state_of (begun s)) e e m m }
     ensures scan { (kind : Kind) (s : Sheet) (answer : Scan) (cleared : ℕ) (e : ℕ → Extent) (m : ℕ → Moment) → s.cleared ≤ cleared → Known kind (state_of s) e m
         → Known kind (state_of (scanned s answer cleared)) e m × Goes kind (state_of s) (state_of (scanned s answer cleared)) e e m m }
-    ensures raise { (kind : Kind) (s : State) (cleared : ℕ) (e : ℕ → Extent) (m : ℕ → Moment) → s.cleared ≤ cleared → Known kind s e m → Known kind (raised s cleared) e m × Goes kind s (raised s cleared) e e m m }
+    ensures raise { (kind : Kind) (s : State) (cleared : ℕ) (e : ℕ → Extent) (m : ℕ → Moment) → s.cleared ≤ cleared → Known kind s e m → Known kind (with_cleared s cleared) e m × Goes kind s (with_cleared s cleared) e e m m }
     ensures finish { (kind : Kind) (s : Sheet) (call : Call) (reply : Reply) (e : ℕ → Extent) (m m' : ℕ → Moment) → MayFinish kind s call reply
         → ((k : ℕ) → k ≤ calls (state_of s) → m' k ≡ m k) → (s.published ≡ false → m' (s.ended + 1) ≡ m s.ended) → Known kind (state_of s) e m
         → Known kind (state_of (finished s call reply)) e m' × Goes kind (state_of s) (state_of (finished s call reply)) e e m m' }
@@ -108,7 +108,7 @@ pub fn ends_leave_what_is_known()
 /// Before the first call all is known of the rows of lawful words.
 pub fn all_is_known_at_the_start()
     ensures { (kind : Kind) (s : State) (before e : ℕ → Extent) (m : ℕ → Moment) → IsLawfulOf s.tree kind → LiveAreReached s.tree s.lives → NoneBuried s.tree.rows s.buried
-        → ((row d : ℕ) → HasRow s.tree.rows row → life_of s.lives row ≢ Dead d) → s.ended ≡ 0 → s.published ≡ false → Follows s.tree before e → m 0 ≡ moment_of s.tree → Known kind s e m }
+        → ((row d : ℕ) → HasRow s.tree.rows row → life_of s.lives row ≢ Dead d) → s.ended ≡ 0 → s.published ≡ false → HasExtentsOf s.tree before e → m 0 ≡ moment_of s.tree → Known kind s e m }
 {}
 
 /// What a section knows of a row that it holds stays true by each step, while no row is cleared that died behind the load of
@@ -126,8 +126,8 @@ pub fn held_rows_tell()
         → (level : ℕ) × (level < deepest) × LeadsTo kind s e m s.tree.root (calls s) (extent_at (root_span s.tree.table s.tree.root) level) }
     ensures child { (kind : Kind) (s : State) (e : ℕ → Extent) (m : ℕ → Moment) (x : Held) (level i : ℕ) (y : Span) → Known kind s e m → HoldsRow kind s e m x → x.extent.level ≡ suc level
         → slice_get (spans_at kind s.tree.table x.row x.extent) i ≡ Some y → LeadsTo kind s e m y.word x.since (extent_at y level) }
-    ensures leaf { (kind : Kind) (s : State) (e : ℕ → Extent) (m : ℕ → Moment) (x : Held) → Known kind s e m → HoldsRow kind s e m x → x.extent.level ≡ 0 → Tells kind s m x }
-    ensures renewed { (kind : Kind) (s : State) (e : ℕ → Extent) (m : ℕ → Moment) (x : Held) → Known kind s e m → HoldsRow kind s e m x → HoldsRow kind s e m (renewed s x) }
+    ensures leaf { (kind : Kind) (s : State) (e : ℕ → Extent) (m : ℕ → Moment) (x : Held) → Known kind s e m → HoldsRow kind s e m x → x.extent.level ≡ 0 → LeafTells kind s m x }
+    ensures renewed { (kind : Kind) (s : State) (e : ℕ → Extent) (m : ℕ → Moment) (x : Held) → Known kind s e m → HoldsRow kind s e m x → HoldsRow kind s e m (as_known_now s x) }
     ensures marked { (kind : Kind) (s : State) (e : ℕ → Extent) (m : ℕ → Moment) (x : Held) → Known kind s e m → HoldsRow kind s e m x → word_at s.tree x.row 0 ≡ dead_mark x.row → x.since + 1 ≤ begun_calls s }
     ensures unmarked { (kind : Kind) (s : State) (e : ℕ → Extent) (m : ℕ → Moment) (x : Held) → Known kind s e m → HoldsRow kind s e m x → word_at s.tree x.row 0 ≢ dead_mark x.row
         → (life_of s.lives x.row ≡ Live) × (x.extent.level ≡ 0 → (k : ℕ) → x.met ≤ k → k ≤ calls s → Snapshot kind x (m k)) }

@@ -8,7 +8,7 @@ use Rattle.mt_base.specs.declared.replies.Reply.{Reply}
 use Rattle.mt_base.specs.declared.replies.Reply.TheVariants.{NoNodes}
 use Rattle.mt_base.specs.Call.{acted}
 use Rattle.mt_base.specs.Nodes.{Limits, IsMade, one_call_more}
-use Rattle.mt_list.specs.Plays.{is_done, IsPlayed}
+use Rattle.mt_list.specs.Plays.{is_done, CallsLeadTo}
 
 -- a call that is not refused does what it says
 made_as_said : (kind : Kind) (limits : Option Limits) (m next : List Range) (call : Call) (reply : Reply) → IsMade kind limits m call next reply → is_done reply ≡ true → acted kind m call ≡ (next, reply)
@@ -28,7 +28,7 @@ same_call kind limits m m1 m2 call r1 r2 limited free done =
     let same = sym (made_as_said kind limits m m1 call r1 limited done) ∙ never_refused kind m m2 call r2 free in
     (ap (λ (after : List Range × Reply). after.0) same, ap (λ (after : List Range × Reply). after.1) same)
 
-pub same_calls : (kind : Kind) (limits : Option Limits) (m m1 m2 : List Range) (calls : List Call) (rs1 rs2 : List Reply) → IsPlayed kind limits m calls m1 rs1 → IsPlayed kind None m calls m2 rs2 → AllByRecursion (λ (r : Reply). is_done r ≡ true) rs1
+pub same_calls : (kind : Kind) (limits : Option Limits) (m m1 m2 : List Range) (calls : List Call) (rs1 rs2 : List Reply) → CallsLeadTo kind limits m calls m1 rs1 → CallsLeadTo kind None m calls m2 rs2 → AllByRecursion (λ (r : Reply). is_done r ≡ true) rs1
     → (m1 ≡ m2) × (rs1 ≡ rs2)
 same_calls kind limits m m1 m2 [] [] [] limited free done = (limited ∙ sym free, refl)
 same_calls kind limits m m1 m2 [] [] (r2 ∷ rs2) limited free done = absurd free
@@ -37,5 +37,5 @@ same_calls kind limits m m1 m2 (call ∷ calls) [] rs2 limited free done = absur
 same_calls kind limits m m1 m2 (call ∷ calls) (r1 ∷ rs1) [] limited free done = absurd free
 same_calls kind limits m m1 m2 (call ∷ calls) (r1 ∷ rs1) (r2 ∷ rs2) limited free done =
     let one = same_call kind limits m limited.0 free.0 call r1 r2 limited.1.0 free.1.0 done.0 in
-    let rest = same_calls kind (one_call_more limits) limited.0 m1 m2 calls rs1 rs2 limited.1.1 (subst (λ (next : List Range). IsPlayed kind None next calls m2 rs2) (sym one.0) free.1.1) done.1 in
+    let rest = same_calls kind (one_call_more limits) limited.0 m1 m2 calls rs1 rs2 limited.1.1 (subst (λ (next : List Range). CallsLeadTo kind None next calls m2 rs2) (sym one.0) free.1.1) done.1 in
     (rest.0, λ i. one.1 i ∷ rest.1 i)

@@ -13,8 +13,8 @@ is_done (NoNodes shortage) = false
 is_done reply = true
 
 -- from this map the calls lead to that one, and are answered so
-abbrev pub IsPlayed : Kind → Option Limits → List Range → List Call → List Range → List Reply → Type 0
-IsPlayed kind limits m [] end [] = end ≡ m
-IsPlayed kind limits m [] end (reply ∷ replies) = ⊥
-IsPlayed kind limits m (call ∷ calls) end [] = ⊥
-IsPlayed kind limits m (call ∷ calls) end (reply ∷ replies) = (next : List Range) × (IsMade kind limits m call next reply × IsPlayed kind (one_call_more limits) next calls end replies)
+abbrev pub CallsLeadTo : Kind → Option Limits → List Range → List Call → List Range → List Reply → Type 0
+CallsLeadTo kind limits m [] end [] = end ≡ m
+CallsLeadTo kind limits m [] end (reply ∷ replies) = ⊥
+CallsLeadTo kind limits m (call ∷ calls) end [] = ⊥
+CallsLeadTo kind limits m (call ∷ calls) end (reply ∷ replies) = (next : List Range) × (IsMade kind limits m call next reply × CallsLeadTo kind (one_call_more limits) next calls end replies)

@@ -7,7 +7,7 @@ ghost use Rattle.mt_base.specs.declared.ranges.Range.{Range};
 ghost use Rattle.mt_base.specs.declared.calls.Call.{Call};
 ghost use Rattle.mt_base.specs.declared.replies.Reply.{Reply};
 ghost use Rattle.mt_base.specs.Nodes.{Limits, IsMade};
-ghost use Rattle.mt_list.specs.Plays.{is_done, IsPlayed};
+ghost use Rattle.mt_list.specs.Plays.{is_done, CallsLeadTo};
 
 /// A map whose rows are limited and one whose rows are not, which are equal before a call, are equal after it and answer
 /// the same, where the first does not refuse it for want of rows; and so are they after calls, where it refuses none.
@@ -16,5 +16,5 @@ pub fn limits_show_in_refusals_alone()
     ensures call { (kind : Kind) (limits : Option Limits) (m m1 m2 : List Range) (call : Call) (r1 r2 : Reply)
         → IsMade kind limits m call m1 r1 → IsMade kind None m call m2 r2 → is_done r1 ≡ true → (m1 ≡ m2) × (r1 ≡ r2) }
     ensures calls { (kind : Kind) (limits : Option Limits) (m m1 m2 : List Range) (calls : List Call) (rs1 rs2 : List Reply)
-        → IsPlayed kind limits m calls m1 rs1 → IsPlayed kind None m calls m2 rs2 → AllByRecursion (λ r. is_done r ≡ true) rs1 → (m1 ≡ m2) × (rs1 ≡ rs2) }
+        → CallsLeadTo kind limits m calls m1 rs1 → CallsLeadTo kind None m calls m2 rs2 → AllByRecursion (λ r. is_done r ≡ true) rs1 → (m1 ≡ m2) × (rs1 ≡ rs2) }
 {}

@@ -10,7 +10,7 @@ use Rattle.mt_base.specs.declared.ranges.Range.{Range}
 use Rattle.mt_base.specs.Text.{range_text}
 use Rattle.mt_log.specs.declared.transcripts.Listing.{Listing}
 use Rattle.mt_log.specs.Text.{listing_text, range_line}
-use Rattle.mt_listing.specs.Fronts.{AreRangesBefore, BeginsWithNoHead, BeginsWithNoRange, IsHead, IsHeadBefore, Lacks, head_text}
+use Rattle.mt_listing.specs.Fronts.{AreRangesBefore, BeginsWithNoHead, BeginsWithNoRange, IsHead, IsHeadBefore, HasNoByte, head_text}
 use Rattle.mt_listing.specs.Listings.{AreSmall, BeginsListing, IsBadAt, IsInForm, IsListing, ended_lines, first_lines}
 use Rattle.mt_listing.specs.declared.heads.Head.{Head}
 use Rattle.mt_listing.proofs.FirstLines.{head_in_line, head_is_line, head_words, heads_apart}
@@ -59,12 +59,12 @@ goes_on h done behind good small (l, (form, is)) =
 
 -- ---- a first line that is ended is one of these lines, whatever stands behind it
 
-goes_wrong : (text words rest more : List ℕ) → Lacks 10 words → text ≡ words ++ (10 ∷ rest) → BeginsWithNoRange text → BeginsWithNoRange (words ++ (10 ∷ more))
+goes_wrong : (text words rest more : List ℕ) → HasNoByte 10 words → text ≡ words ++ (10 ∷ rest) → BeginsWithNoRange text → BeginsWithNoRange (words ++ (10 ∷ more))
 goes_wrong text words rest more one is none r end small same =
     let line : words ≡ range_text r = (apart 10 words (range_text r) more end one (range_in_line r small) (same ∙ append_assoc (range_text r) (10 ∷ []) end)).0 in
     none r rest small (is ∙ (ap (λ (w : List ℕ). w ++ (10 ∷ rest)) line ∙ sym (append_assoc (range_text r) (10 ∷ []) rest)))
 
-head_goes_wrong : (text words rest more : List ℕ) → Lacks 10 words → text ≡ words ++ (10 ∷ rest) → BeginsWithNoHead text → BeginsWithNoHead (words ++ (10 ∷ more))
+head_goes_wrong : (text words rest more : List ℕ) → HasNoByte 10 words → text ≡ words ++ (10 ∷ rest) → BeginsWithNoHead text → BeginsWithNoHead (words ++ (10 ∷ more))
 head_goes_wrong text words rest more one is none h end good same =
     let line : words ≡ head_words h = (apart 10 words (head_words h) more end one (head_in_line h good) (same ∙ (ap (λ (t : List ℕ). t ++ end) (head_is_line h) ∙ append_assoc (head_words h) (10 ∷ []) end))).0 in
     none h rest good (is ∙ (ap (λ (w : List ℕ). w ++ (10 ∷ rest)) line ∙ (sym (append_assoc (head_words h) (10 ∷ []) rest) ∙ ap (λ (t : List ℕ). t ++ rest) (sym (head_is_line h)))))

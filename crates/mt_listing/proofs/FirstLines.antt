@@ -9,7 +9,7 @@ use Rattle.mt_log.proofs.PrintedLines.{number_is_field}
 use Rattle.mt_told.specs.Fronts.{IsNumberBefore}
 use Rattle.mt_told.specs.Comparing.{head_line}
 use Rattle.mt_told.proofs.OneWay.{numbers_apart}
-use Rattle.mt_listing.specs.Fronts.{BeginsWithNoHead, IsHead, IsHeadBefore, IsKindBefore, IsNameBefore, Lacks, head_text}
+use Rattle.mt_listing.specs.Fronts.{BeginsWithNoHead, IsHead, IsHeadBefore, IsKindBefore, IsNameBefore, HasNoByte, head_text}
 use Rattle.mt_listing.specs.declared.heads.Head.{Head}
 use Rattle.mt_listing.proofs.Words.{kind_lacks, kinds_apart, lacked, lacked_by_both, name_lacks, names_apart}
 
@@ -77,13 +77,13 @@ head_words h = tree ++ (h.name ++ (32 ∷ (kind_text h.kind ++ (32 ∷ decimal h
 pub head_is_line : (h : Head) → head_text h ≡ head_words h ++ (10 ∷ [])
 head_is_line h = simp append_assoc
 
-pub number_lacks : (n : ℕ) → n < 2 ^ 64 → Lacks 10 (decimal n)
+pub number_lacks : (n : ℕ) → n < 2 ^ 64 → HasNoByte 10 (decimal n)
 number_lacks n fits = lacked 32 10 (omega arith) (decimal n) (number_is_field n fits)
 
 pub space : ◌≢◌ {A = ℕ} 32 10
 space is = absurd (omega (arith, is))
 
-pub head_in_line : (h : Head) → IsHead h → Lacks 10 (head_words h)
+pub head_in_line : (h : Head) → IsHead h → HasNoByte 10 (head_words h)
 head_in_line h good =
     lacked_by_both 10 tree _ (lacked 31 10 (omega arith) tree refl)
     (lacked_by_both 10 h.name _ (name_lacks 10 (omega arith) h.name good.named)

@@ -6,7 +6,7 @@ use Rattle.std.proofs.lemmas.Bool.{cases_Bool, eqb-true}
 use Rattle.mt_base.specs.declared.ranges.Range.{Range}
 use Rattle.mt_base.specs.Text.{range_text}
 use Rattle.mt_log.specs.Text.{range_line}
-use Rattle.mt_listing.specs.Fronts.{Lacks}
+use Rattle.mt_listing.specs.Fronts.{HasNoByte}
 use Rattle.mt_listing.specs.Listings.{AreSmall, ended_lines, first_lines}
 use Rattle.mt_listing.proofs.RangeLines.{range_in_line}
 
@@ -15,20 +15,20 @@ use Rattle.mt_listing.proofs.RangeLines.{range_in_line}
 differs : (b : ℕ) → b ≢ 10 → (b == 10) ≡ false
 differs b other = elim (cases_Bool (b == 10)) [ inl is ↦ absurd (other (eqb-true b 10 is)) | inr not_is ↦ not_is ]
 
-pub firsts_behind : (words rest : List ℕ) (n : ℕ) → Lacks 10 words → first_lines (suc n) (words ++ (10 ∷ rest)) ≡ words ++ (10 ∷ first_lines n rest)
+pub firsts_behind : (words rest : List ℕ) (n : ℕ) → HasNoByte 10 words → first_lines (suc n) (words ++ (10 ∷ rest)) ≡ words ++ (10 ∷ first_lines n rest)
 firsts_behind [] rest n none = refl
 firsts_behind (b ∷ words) rest n none = rw (differs b none.0) (ap (λ (t : List ℕ). b ∷ t) (firsts_behind words rest n none.1))
 
-pub ended_behind : (words rest : List ℕ) → Lacks 10 words → ended_lines (words ++ (10 ∷ rest)) ≡ 1 + ended_lines rest
+pub ended_behind : (words rest : List ℕ) → HasNoByte 10 words → ended_lines (words ++ (10 ∷ rest)) ≡ 1 + ended_lines rest
 ended_behind [] rest none = omega arith
 ended_behind (b ∷ words) rest none = rw (differs b none.0) (ended_behind words rest none.1)
 
 -- a piece without LF
-pub first_of_piece : (words : List ℕ) (n : ℕ) → Lacks 10 words → first_lines (suc n) words ≡ words
+pub first_of_piece : (words : List ℕ) (n : ℕ) → HasNoByte 10 words → first_lines (suc n) words ≡ words
 first_of_piece [] n none = refl
 first_of_piece (b ∷ words) n none = rw (differs b none.0) (ap (λ (t : List ℕ). b ∷ t) (first_of_piece words n none.1))
 
-pub none_ended : (words : List ℕ) → Lacks 10 words → ended_lines words ≡ 0
+pub none_ended : (words : List ℕ) → HasNoByte 10 words → ended_lines words ≡ 0
 none_ended [] none = refl
 none_ended (b ∷ words) none = rw (differs b none.0) (none_ended words none.1)
 
@@ -76,10 +76,10 @@ ended_of_ranges (r ∷ ranges) rest small =
 pub record HasLine (text : List ℕ) : Type 0 where
   pub words : List ℕ
   pub rest : List ℕ
-  pub one : Lacks 10 words
+  pub one : HasNoByte 10 words
   pub is : text ≡ words ++ (10 ∷ rest)
 
-pub first_line : (text : List ℕ) → Lacks 10 text ⊎ HasLine text
+pub first_line : (text : List ℕ) → HasNoByte 10 text ⊎ HasLine text
 first_line [] = inl tt
 first_line (b ∷ text) = elim (cases_Bool (b == 10)) [
   | inl here ↦ inr (record { words = []; rest = text; one = tt; is = ap (λ (c : ℕ). c ∷ text) (eqb-true b 10 here) })

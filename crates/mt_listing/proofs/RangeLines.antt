@@ -10,7 +10,7 @@ use Rattle.mt_log.specs.Text.{range_line}
 use Rattle.mt_told.specs.Fronts.{IsNumberBefore}
 use Rattle.mt_told.specs.Telling.{IsSmallRange}
 use Rattle.mt_told.proofs.OneWay.{numbers_apart}
-use Rattle.mt_listing.specs.Fronts.{AreRangesBefore, BeginsWithNoRange, IsRangeBefore, Lacks}
+use Rattle.mt_listing.specs.Fronts.{AreRangesBefore, BeginsWithNoRange, IsRangeLineBefore, HasNoByte}
 use Rattle.mt_listing.specs.Listings.{AreSmall}
 use Rattle.mt_listing.proofs.FirstLines.{number_lacks, space}
 use Rattle.mt_listing.proofs.Words.{lacked_by_both}
@@ -23,7 +23,7 @@ right r rest = simp append_assoc
 
 pub range_before : (text behind behind_both rest : List ℕ) (first last entry : ℕ) → first < 2 ^ 64 → last < 2 ^ 64 → entry < 2 ^ 64
     → IsNumberBefore text 32 first behind → IsNumberBefore behind 32 last behind_both → IsNumberBefore behind_both 10 entry rest
-    → IsRangeBefore text (record { first = first; last = last; entry = entry }) rest
+    → IsRangeLineBefore text (record { first = first; last = last; entry = entry }) rest
 range_before text behind behind_both rest first last entry a b c one two three = record {
   small = (a, b, c);
   printed = one.printed ∙ (ap (λ (t : List ℕ). decimal first ++ (32 ∷ t)) (two.printed ∙ ap (λ (t : List ℕ). decimal last ++ (32 ∷ t)) three.printed)
@@ -53,7 +53,7 @@ small_push (x ∷ ranges) r all one = (all.0, small_push ranges r all.1 one)
 pub none_yet : (text : List ℕ) → AreRangesBefore text [] text
 none_yet text = record { small = tt; printed = refl }
 
-pub one_more : (text rest behind : List ℕ) (ranges : List Range) (r : Range) → AreRangesBefore text ranges rest → IsRangeBefore rest r behind → AreRangesBefore text (ranges ++ r ∷ []) behind
+pub one_more : (text rest behind : List ℕ) (ranges : List Range) (r : Range) → AreRangesBefore text ranges rest → IsRangeLineBefore rest r behind → AreRangesBefore text (ranges ++ r ∷ []) behind
 one_more text rest behind ranges r so_far one = record {
   small = small_push ranges r so_far.small one.small;
   printed = so_far.printed ∙ (ap (λ (t : List ℕ). flat_map range_line ranges ++ t) one.printed ∙ pushed);
@@ -94,7 +94,7 @@ filled r rest none = let long = ap length none in absurd (omega (arith, long, ap
 
 -- ---- the line of a range is one line
 
-pub range_in_line : (r : Range) → IsSmallRange (Some r) → Lacks 10 (range_text r)
+pub range_in_line : (r : Range) → IsSmallRange (Some r) → HasNoByte 10 (range_text r)
 range_in_line r small =
     lacked_by_both 10 (decimal r.first) _ (number_lacks r.first small.0)
     (space, lacked_by_both 10 (decimal r.last) _ (number_lacks r.last small.1) (space, number_lacks r.entry small.2))

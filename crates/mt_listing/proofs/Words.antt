@@ -13,7 +13,7 @@ use Rattle.mt_base.specs.declared.kinds.Kind.TheVariants as kinds
 use Rattle.mt_base.specs.Text.{kind_text}
 use Rattle.mt_log.specs.Name.{is_name}
 use Rattle.mt_log.proofs.PrintedLines.{are_above, name_is_field}
-use Rattle.mt_listing.specs.Fronts.{IsKindBefore, IsNameBefore, IsWordBefore, Lacks}
+use Rattle.mt_listing.specs.Fronts.{IsKindBefore, IsNameBefore, IsWordBefore, HasNoByte}
 
 cons_is : (a b : ℕ) (xs ys : List ℕ) → a ≡ b → xs ≡ ys → a ∷ xs ≡ b ∷ ys
 cons_is a b xs ys first rest = cc
@@ -21,7 +21,7 @@ cons_is a b xs ys first rest = cc
 -- ---- a byte that ends words
 
 -- two words that lack the byte behind them are one where the texts are one
-pub apart : (c : ℕ) (a b r s : List ℕ) → Lacks c a → Lacks c b → a ++ (c ∷ r) ≡ b ++ (c ∷ s) → (a ≡ b) × (r ≡ s)
+pub apart : (c : ℕ) (a b r s : List ℕ) → HasNoByte c a → HasNoByte c b → a ++ (c ∷ r) ≡ b ++ (c ∷ s) → (a ≡ b) × (r ≡ s)
 apart c [] [] r s left right same = (refl, cc)
 apart c [] (y ∷ b) r s left right same = let first : y ≡ c = (cc) in absurd (right.0 first)
 apart c (x ∷ a) [] r s left right same = let first : x ≡ c = (cc) in absurd (left.0 first)
@@ -32,14 +32,14 @@ apart c (x ∷ a) (y ∷ b) r s left right same =
     (cons_is x y a b first rest.0, rest.1)
 
 -- bytes above lack it
-pub lacked : (least c : ℕ) → c ≤ least → (bytes : List ℕ) → are_above least bytes ≡ true → Lacks c bytes
+pub lacked : (least c : ℕ) → c ≤ least → (bytes : List ℕ) → are_above least bytes ≡ true → HasNoByte c bytes
 lacked least c below [] above = tt
 lacked least c below (b ∷ bytes) above =
     let parts = and_parts (nat_lt least b) (are_above least bytes) above in
     let higher : least < b = ltb-true least b parts.0 in
     ((λ is. absurd (omega (arith, is, higher, below))), lacked least c below bytes parts.1)
 
-pub lacked_by_both : (c : ℕ) (a b : List ℕ) → Lacks c a → Lacks c b → Lacks c (a ++ b)
+pub lacked_by_both : (c : ℕ) (a b : List ℕ) → HasNoByte c a → HasNoByte c b → HasNoByte c (a ++ b)
 lacked_by_both c [] b left right = right
 lacked_by_both c (x ∷ a) b left right = (left.0, lacked_by_both c a b left.1 right)
 
@@ -48,11 +48,11 @@ lacked_by_both c (x ∷ a) b left right = (left.0, lacked_by_both c a b left.1 r
 abbrev ends : ℕ → Bool
 ends byte = byte == 32
 
-lacks_from : (bytes : List ℕ) → ((k : ℕ) → k < length bytes → get_or bytes k 0 ≢ 32) → Lacks 32 bytes
+lacks_from : (bytes : List ℕ) → ((k : ℕ) → k < length bytes → get_or bytes k 0 ≢ 32) → HasNoByte 32 bytes
 lacks_from [] none = tt
 lacks_from (byte ∷ bytes) none = (none 0 (omega arith), lacks_from bytes (λ k within. none (suc k) (omega arith)))
 
-spaceless : (text : List ℕ) (end : ℕ) → position ends text ≡ Some end → Lacks 32 (take end text)
+spaceless : (text : List ℕ) (end : ℕ) → position ends text ≡ Some end → HasNoByte 32 (take end text)
 spaceless text end is =
     let at = position-Some ends text end 0 is in
     lacks_from (take end text) (λ k within here.
@@ -92,7 +92,7 @@ no_space text word rest none is =
 
 -- ---- names
 
-pub name_lacks : (c : ℕ) → c ≤ 32 → (name : List ℕ) → is_name name ≡ true → Lacks c name
+pub name_lacks : (c : ℕ) → c ≤ 32 → (name : List ℕ) → is_name name ≡ true → HasNoByte c name
 name_lacks c below name named = lacked 32 c below name (name_is_field name named)
 
 pub names_apart : (a b r s : List ℕ) → is_name a ≡ true → is_name b ≡ true → a ++ (32 ∷ r) ≡ b ++ (32 ∷ s) → (a ≡ b) × (r ≡ s)
@@ -134,7 +134,7 @@ kind_above kinds.Alloc = refl
 kind_above kinds.Range32 = refl
 kind_above kinds.Alloc32 = refl
 
-pub kind_lacks : (c : ℕ) → c ≤ 32 → (kind : Kind) → Lacks c (kind_text kind)
+pub kind_lacks : (c : ℕ) → c ≤ 32 → (kind : Kind) → HasNoByte c (kind_text kind)
 kind_lacks c below kind = lacked 32 c below (kind_text kind) (kind_above kind)
 
 pub kinds_apart : (a b : Kind) (r s : List ℕ) → kind_text a ++ (32 ∷ r) ≡ kind_text b ++ (32 ∷ s) → (a ≡ b) × (r ≡ s)

@@ -13,13 +13,13 @@ use Rattle.mt_listing.specs.Listings.{AreSmall}
 use Rattle.mt_listing.specs.declared.heads.Head.{Head}
 
 -- a byte stands nowhere in the bytes
-abbrev pub Lacks : ℕ → List ℕ → Type 0
-Lacks byte bytes = AllByRecursion (λ (b : ℕ). b ≢ byte) bytes
+abbrev pub HasNoByte : ℕ → List ℕ → Type 0
+HasNoByte byte bytes = AllByRecursion (λ (b : ℕ). b ≢ byte) bytes
 
 -- a word without spaces stands in front, before a space and the rest
 pub record IsWordBefore (text word rest : List ℕ) : Type 0 where
   pub printed : text ≡ word ++ (32 ∷ rest)
-  pub spaceless : Lacks 32 word
+  pub spaceless : HasNoByte 32 word
 
 -- a name does, and no other name
 pub record IsNameBefore (text name rest : List ℕ) : Type 0 where
@@ -50,7 +50,7 @@ abbrev pub BeginsWithNoHead : List ℕ → Type 0
 BeginsWithNoHead text = (h : Head) (rest : List ℕ) → IsHead h → text ≡ head_text h ++ rest → ⊥
 
 -- the line of a range does
-pub record IsRangeBefore (text : List ℕ) (r : Range) (rest : List ℕ) : Type 0 where
+pub record IsRangeLineBefore (text : List ℕ) (r : Range) (rest : List ℕ) : Type 0 where
   pub small : IsSmallRange (Some r)
   pub printed : text ≡ range_line r ++ rest
 

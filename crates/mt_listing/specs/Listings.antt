@@ -47,6 +47,6 @@ pub record IsBadAt (text : List ℕ) (line : ℕ) : Type 0 where
   pub before : (n : ℕ) → n < line → BeginsListing (first_lines n text)
 
 -- what a refusal tells
-abbrev pub IsRefused : List ℕ → ListingError → Type 0
-IsRefused text (Bad line) = IsBadAt text line
-IsRefused text NoMemory = Unit {0}
+abbrev pub IsRefusedListing : List ℕ → ListingError → Type 0
+IsRefusedListing text (Bad line) = IsBadAt text line
+IsRefusedListing text NoMemory = Unit {0}

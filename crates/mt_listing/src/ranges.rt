@@ -1,7 +1,7 @@
 //! The lines of ranges, at the front of a text.
 
 ghost use Rattle.std.specs.Prelude.{◌≡◌, ◌++◌, ◌≤◌, ◌<◌, IfNone, IfOk, IfSome, length};
-ghost use Rattle.mt_listing.specs.Fronts.{AreRangesBefore, BeginsWithNoRange, IsRangeBefore};
+ghost use Rattle.mt_listing.specs.Fronts.{AreRangesBefore, BeginsWithNoRange, IsRangeLineBefore};
 
 use mt_base::Range;
 use mt_told::number_before;
@@ -10,7 +10,7 @@ use std::alloc::{AllocError, Global};
 /// The range whose line stands in front, and the text behind it.
 #[tactic(auto, using(crate::proofs::RangeLines::range_before, crate::proofs::RangeLines::no_first, crate::proofs::RangeLines::no_last, crate::proofs::RangeLines::no_entry))]
 fn range_in_front(text: &[u8]) -> Option<(Range, &[u8])>
-    ensures some { IfSome result (λ found. IsRangeBefore text.now found.0 found.1.now) }
+    ensures some { IfSome result (λ found. IsRangeLineBefore text.now found.0 found.1.now) }
     ensures none { IfNone result (BeginsWithNoRange text.now) }
 {
     let (first, behind) = number_before(text, b' ')?;

@@ -1,6 +1,6 @@
 ghost use Rattle.std.specs.Prelude.{◌≡◌, IfErr, IfOk};
 ghost use Rattle.mt_log.specs.Text.{listing_text};
-ghost use Rattle.mt_listing.specs.Listings.{IsInForm, IsRefused};
+ghost use Rattle.mt_listing.specs.Listings.{IsInForm, IsRefusedListing};
 
 use crate::errors::ListingError;
 use crate::heads::head_in_front;
@@ -17,7 +17,7 @@ use std::alloc::Global;
 pub fn read_listing(alloc: Global, text: &[u8]) -> Result<Listing, ListingError>
     ensures listing { IfOk result (λ l. IsInForm l) }
     ensures text { IfOk result (λ l. text.now ≡ listing_text l) }
-    ensures refused { IfErr result (IsRefused text.now) }
+    ensures refused { IfErr result (IsRefusedListing text.now) }
 {
     let Some((head, lines)) = head_in_front(text) else {
         return Err(ListingError::Bad { line: 1 });

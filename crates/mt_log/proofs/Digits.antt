@@ -11,7 +11,7 @@ use Rattle.std.proofs.lemmas.List.{length-take, take_all}
 use Rattle.std.proofs.lemmas.Int.Digits.{digits_value-lt, digits_value_more, digits_more}
 use Rattle.std.proofs.lemmas.Str.Parse.{digits_value-take-le}
 use Rattle.mt_log.specs.declared.faults.Why.TheVariants as why
-use Rattle.mt_log.specs.Reading.{decimal_of, hexadecimal_of}
+use Rattle.mt_log.specs.Reading.{decimal_read, hexadecimal_read}
 
 -- what tells the digits of a radix
 abbrev pub TellsDigits : ℕ → (ℕ → Bool) → Type 0
@@ -73,8 +73,8 @@ few_digits digits i value read within short =
     let most : 10 ^ length (take i digits) ≤ 10 ^ 18 = pow-le-pow_right (lit< tt) long in
     omega (arith, read.written, below, most)
 
-decimal : (digits : List ℕ) (told : Bool) (value : Option ℕ) → list_all is_ascii_digit digits ≡ told → 0 < length digits → length digits ≤ 20 → SomeIff value (AllDigits 10 digits × (digits_value 10 digits < 2 ^ 64)) (digits_value 10 digits) → ok_or value why.Number ≡ decimal_of digits
-unfolding decimal_of
+decimal : (digits : List ℕ) (told : Bool) (value : Option ℕ) → list_all is_ascii_digit digits ≡ told → 0 < length digits → length digits ≤ 20 → SomeIff value (AllDigits 10 digits × (digits_value 10 digits < 2 ^ 64)) (digits_value 10 digits) → ok_or value why.Number ≡ decimal_read digits
+unfolding decimal_read
 decimal digits told (Some x) is some short h =
     rw (told_all 10 is_ascii_digit tells_decimal digits h.0.0, le-leb 1 (length digits) (omega arith), le-leb (length digits) 20 short, lt-ltb (digits_value 10 digits) (2 ^ 64) h.0.1) (ap Ok h.1)
 decimal digits false None is some short h = rw is refl
@@ -82,7 +82,7 @@ decimal digits true None is some short h =
     let large : 2 ^ 64 ≤ digits_value 10 digits = elim (cases_lt (digits_value 10 digits) (2 ^ 64)) [ inl below ↦ absurd (h (all_told 10 is_ascii_digit tells_decimal digits is, below)) | inr above ↦ above ] in
     rw (is, le-leb 1 (length digits) (omega arith), le-leb (length digits) 20 short, le-ltb (digits_value 10 digits) (2 ^ 64) large) refl
 
-pub decimal_from_value : (digits : List ℕ) (value : Option ℕ) → 0 < length digits → length digits ≤ 20 → SomeIff value (AllDigits 10 digits × (digits_value 10 digits < 2 ^ 64)) (digits_value 10 digits) → ok_or value why.Number ≡ decimal_of digits
+pub decimal_from_value : (digits : List ℕ) (value : Option ℕ) → 0 < length digits → length digits ≤ 20 → SomeIff value (AllDigits 10 digits × (digits_value 10 digits < 2 ^ 64)) (digits_value 10 digits) → ok_or value why.Number ≡ decimal_read digits
 decimal_from_value digits value some short h = decimal digits (list_all is_ascii_digit digits) value refl some short h
 
 -- sixteen hexadecimal digits write a number below 2 ^ 64
@@ -92,8 +92,8 @@ hexadecimal_is_short digits told short =
     let most : 16 ^ length digits ≤ 16 ^ 16 = pow-le-pow_right (lit< tt) short in
     omega arith
 
-hexadecimal : (digits : List ℕ) (told : Bool) (value : Option ℕ) → list_all is_ascii_hexdigit digits ≡ told → 0 < length digits → length digits ≤ 16 → SomeIff value (AllDigits 16 digits × (digits_value 16 digits < 2 ^ 64)) (digits_value 16 digits) → ok_or value why.Number ≡ hexadecimal_of digits
-unfolding hexadecimal_of
+hexadecimal : (digits : List ℕ) (told : Bool) (value : Option ℕ) → list_all is_ascii_hexdigit digits ≡ told → 0 < length digits → length digits ≤ 16 → SomeIff value (AllDigits 16 digits × (digits_value 16 digits < 2 ^ 64)) (digits_value 16 digits) → ok_or value why.Number ≡ hexadecimal_read digits
+unfolding hexadecimal_read
 hexadecimal digits told (Some x) is some short h =
     rw (told_all 16 is_ascii_hexdigit tells_hexadecimal digits h.0.0, le-leb 1 (length digits) (omega arith), le-leb (length digits) 16 short) (ap Ok h.1)
 hexadecimal digits false None is some short h = rw is refl
@@ -101,5 +101,5 @@ hexadecimal digits true None is some short h =
     let told : AllDigits 16 digits = all_told 16 is_ascii_hexdigit tells_hexadecimal digits is in
     absurd (h (told, hexadecimal_is_short digits told short))
 
-pub hexadecimal_from_value : (digits : List ℕ) (value : Option ℕ) → 0 < length digits → length digits ≤ 16 → SomeIff value (AllDigits 16 digits × (digits_value 16 digits < 2 ^ 64)) (digits_value 16 digits) → ok_or value why.Number ≡ hexadecimal_of digits
+pub hexadecimal_from_value : (digits : List ℕ) (value : Option ℕ) → 0 < length digits → length digits ≤ 16 → SomeIff value (AllDigits 16 digits × (digits_value 16 digits < 2 ^ 64)) (digits_value 16 digits) → ok_or value why.Number ≡ hexadecimal_read digits
 hexadecimal_from_value digits value some short h = hexadecimal digits (list_all is_ascii_hexdigit digits) value refl some short h

@@ -6,7 +6,7 @@ use Rattle.mt_base.specs.declared.calls.Query.{Query}
 use Rattle.mt_base.specs.declared.calls.Query.TheVariants.{Load, Find, Next, Prev, Rfind}
 use Rattle.mt_log.specs.Name.{is_name}
 use Rattle.mt_log.specs.Reader.{MayFollow}
-use Rattle.mt_log.specs.Reading.{Read, after_item, place_of}
+use Rattle.mt_log.specs.Reading.{ReadSoFar, after_item, declared_place}
 use Rattle.mt_log.specs.declared.lines.Item.{Item}
 use Rattle.mt_log.specs.declared.lines.Item.TheVariants.{Tree, Lane, Join, Dup, Check, Write, Ask, Scan}
 use Rattle.mt_log.specs.declared.lines.Line.{Line}
@@ -45,19 +45,19 @@ ItemSays (Write tree call) = CallSays call
 ItemSays (Ask tree query) = QuerySays query
 ItemSays (Scan tree index max count) = IsNumber index × IsNumber max × (1 ≤ count) × (count ≤ 65536)
 
-pub record CanFollow (r : Read) (item : Item) : Type 0 where
+pub record CanFollow (r : ReadSoFar) (item : Item) : Type 0 where
   pub follows : MayFollow r item
   pub says : ItemSays item
 
 -- a reader that reads blank lines up to this one
-abbrev pub at_line : ℕ → Read → Read
+abbrev pub at_line : ℕ → ReadSoFar → ReadSoFar
 at_line number r = record r { next = number }
 
 -- each of these lines can
-abbrev pub CanAllFollow : Read → List Line → Type 0
+abbrev pub CanAllFollow : ReadSoFar → List Line → Type 0
 CanAllFollow r [] = Unit {0}
 CanAllFollow r (line ∷ lines) = (r.next ≤ line.number) × CanFollow r line.item × CanAllFollow (after_item (at_line line.number r) line.item) lines
 
 -- each declared tree is the first of its name, and is named by a name
 abbrev pub AreNamed : List KnownTree → Type 0
-AreNamed trees = (place : ℕ) (tree : KnownTree) → slice_get trees place ≡ Some tree → (place_of trees tree.name ≡ Some place) × (is_name tree.name ≡ true)
+AreNamed trees = (place : ℕ) (tree : KnownTree) → slice_get trees place ≡ Some tree → (declared_place trees tree.name ≡ Some place) × (is_name tree.name ≡ true)

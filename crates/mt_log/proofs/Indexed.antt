@@ -13,7 +13,7 @@ use Rattle.mt_base.specs.declared.kinds.Kind.{Kind}
 use Rattle.mt_log.specs.declared.trees.KnownTree.{KnownTree}
 use Rattle.mt_log.specs.Indexed.{known}
 use Rattle.mt_log.specs.Name.{is_name}
-use Rattle.mt_log.specs.Reading.{place_of, tree_of}
+use Rattle.mt_log.specs.Reading.{declared_place, tree_read}
 
 pub as_many : (entries : List (List ℕ × Kind)) → length (map known entries) ≡ length entries
 as_many entries = length-map entries known
@@ -26,22 +26,22 @@ pub known_at : (entries : List (List ℕ × Kind)) (place : ℕ) → slice_get (
 known_at entries place = slice_get-map known entries place
 
 -- a tree of a new name is the last
-pub one_more : (entries : List (List ℕ × Kind)) (tree : KnownTree) → place_of (map known entries) tree.name ≡ None → map known (insert_entry bytes_eq entries tree.name tree.kind) ≡ map known entries ++ tree ∷ []
+pub one_more : (entries : List (List ℕ × Kind)) (tree : KnownTree) → declared_place (map known entries) tree.name ≡ None → map known (insert_entry bytes_eq entries tree.name tree.kind) ≡ map known entries ++ tree ∷ []
 one_more entries tree new =
     let none : position (bytes_eq tree.name) (keys_of entries) ≡ None = ap (position (bytes_eq tree.name)) (sym (names_of_known entries)) ∙ new in
     ap (map known) (insert_entry-absent bytes_eq tree.name tree.kind entries (Missing-position (bytes_eq tree.name) entries none).absent)
     ∙ map-append known entries ((tree.name, tree.kind) ∷ [])
 
 -- the first tree of this name stands first, and a tree that stands there is of number 0
-first_place : (trees : List KnownTree) (tree : KnownTree) (name : List ℕ) → bytes_eq name tree.name ≡ true → place_of (tree ∷ trees) name ≡ Some 0
+first_place : (trees : List KnownTree) (tree : KnownTree) (name : List ℕ) → bytes_eq name tree.name ≡ true → declared_place (tree ∷ trees) name ≡ Some 0
 first_place trees tree name h = rw (h, lt-ltb 0 (length (map (λ (t : KnownTree). t.name) (tree ∷ trees))) (omega arith)) refl
 
-numbered_first : (trees : List KnownTree) (tree : KnownTree) (name : List ℕ) → is_name name ≡ true → place_of trees name ≡ Some 0 → slice_get trees 0 ≡ Some tree → tree_of trees name ≡ Ok (record { number = 0; kind = tree.kind })
-unfolding tree_of
+numbered_first : (trees : List KnownTree) (tree : KnownTree) (name : List ℕ) → is_name name ≡ true → declared_place trees name ≡ Some 0 → slice_get trees 0 ≡ Some tree → tree_read trees name ≡ Ok (record { number = 0; kind = tree.kind })
+unfolding tree_read
 numbered_first trees tree name named place found = rw (named, place, found) refl
 
 -- where the first tree is of this name, it is the one
-pub first_of_name : (entries : List (List ℕ × Kind)) (first name : List ℕ) (kind : Kind) → slice_get entries 0 ≡ Some (first, kind) → bytes_eq first name ≡ true → is_name first ≡ true → (tree_of (map known entries) name ≡ Ok (record { number = 0; kind = kind })) × (0 < length (map known entries))
+pub first_of_name : (entries : List (List ℕ × Kind)) (first name : List ℕ) (kind : Kind) → slice_get entries 0 ≡ Some (first, kind) → bytes_eq first name ≡ true → is_name first ≡ true → (tree_read (map known entries) name ≡ Ok (record { number = 0; kind = kind })) × (0 < length (map known entries))
 first_of_name [] first name kind found is named = absurd (cc)
 first_of_name (e ∷ entries) first name kind found is named =
     let this : first ≡ name = (bytes_eq-Decides first name).0 is in

@@ -10,7 +10,7 @@ use Rattle.std.proofs.lemmas.List.Folds.{position_or_len_push}
 use Rattle.std.proofs.lemmas.List.Sums.{prefix_len-le-length}
 use Rattle.mt_log.specs.LogText.{names_after}
 use Rattle.mt_log.specs.Name.{is_name}
-use Rattle.mt_log.specs.Reading.{Read, place_of}
+use Rattle.mt_log.specs.Reading.{ReadSoFar, declared_place}
 use Rattle.mt_log.specs.Trees.{known_after, renamed}
 use Rattle.mt_log.specs.declared.lines.Item.{Item}
 use Rattle.mt_log.specs.declared.lines.Item.TheVariants.{Tree, Dup}
@@ -58,7 +58,7 @@ names_push : (trees : List KnownTree) (tree : KnownTree) → names_of (trees ++ 
 names_push trees tree = map-append (λ (t : KnownTree). t.name) trees (tree ∷ [])
 
 -- one more tree of a new name
-push_named : (trees : List KnownTree) (tree : KnownTree) → AreNamed trees → is_name tree.name ≡ true → place_of trees tree.name ≡ None → AreNamed (trees ++ tree ∷ [])
+push_named : (trees : List KnownTree) (tree : KnownTree) → AreNamed trees → is_name tree.name ≡ true → declared_place trees tree.name ≡ None → AreNamed (trees ++ tree ∷ [])
 push_named trees tree named name new place found h =
     elim (pushed trees tree place found h) [
       | inl within ↦
@@ -67,7 +67,7 @@ push_named trees tree named name new place found h =
       | inr last ↦
           let here : position (bytes_eq tree.name) (names_of trees ++ tree.name ∷ []) ≡ Some (length (names_of trees)) = found_last (bytes_eq tree.name) (names_of trees) tree.name new (same_bytes tree.name) in
           let long : length (names_of trees) ≡ length trees = length-map trees (λ (t : KnownTree). t.name) in
-          subst (λ (t : KnownTree). (place_of (trees ++ tree ∷ []) t.name ≡ Some place) × (is_name t.name ≡ true)) last.1
+          subst (λ (t : KnownTree). (declared_place (trees ++ tree ∷ []) t.name ≡ Some place) × (is_name t.name ≡ true)) last.1
           (ap (position (bytes_eq tree.name)) (names_push trees tree) ∙ (here ∙ ap (λ k. Some k) (long ∙ sym last.0)), name)
     ]
 
@@ -75,7 +75,7 @@ none_named : (trees : List KnownTree) → AreNamed trees → AreNamed (trees ++ 
 none_named trees named = rw (append-nil trees) named
 
 -- a line that can follow leaves it so
-pub named_after : (r : Read) (item : Item) → AreNamed r.trees → CanFollow r item → AreNamed (known_after r.trees item)
+pub named_after : (r : ReadSoFar) (item : Item) → AreNamed r.trees → CanFollow r item → AreNamed (known_after r.trees item)
 named_after r (Tree name kind) named h = push_named r.trees (record { name = name; kind = kind }) named h.says h.follows.trees.1
 named_after r (Dup from name) named h =
     let source = some_tree r.trees from h.follows.named in
@@ -86,7 +86,7 @@ named_after r item named h = none_named r.trees named
 no_names : (trees : List KnownTree) → names_of trees ≡ names_of (trees ++ [])
 no_names trees = ap names_of (sym (append-nil trees))
 
-pub names_kept : (r : Read) (item : Item) → CanFollow r item → names_after (names_of r.trees) item ≡ names_of (known_after r.trees item)
+pub names_kept : (r : ReadSoFar) (item : Item) → CanFollow r item → names_after (names_of r.trees) item ≡ names_of (known_after r.trees item)
 names_kept r (Tree name kind) h = sym (names_push r.trees (record { name = name; kind = kind }))
 names_kept r (Dup from name) h =
     let source = some_tree r.trees from h.follows.named in

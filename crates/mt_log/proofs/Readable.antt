@@ -2,8 +2,8 @@
 use Rattle.std.proofs.Common.{ℕ, ◌≤◌, List, [], ◌∷◌, ◌++◌, append_assoc, arith, sym, subst}
 use Rattle.std.proofs.lemmas.List.{append-nil}
 use Rattle.mt_log.specs.LogText.{IsLog, log_text}
-use Rattle.mt_log.specs.Reader.{IsSound}
-use Rattle.mt_log.specs.Reading.{Read, after_item, nothing_read}
+use Rattle.mt_log.specs.Reader.{IsSoundReading}
+use Rattle.mt_log.specs.Reading.{ReadSoFar, after_item, nothing_read}
 use Rattle.mt_log.specs.Trees.{IsReadable}
 use Rattle.mt_log.specs.declared.lines.Line.{Line}
 use Rattle.mt_log.specs.declared.lines.Log.{Log}
@@ -12,14 +12,14 @@ use Rattle.mt_log.proofs.Pieces.{IsVersion}
 use Rattle.mt_log.proofs.RoundTrip.{at_line_too, prints}
 use Rattle.mt_log.proofs.Soundness.{sound_more, sound_nothing}
 
-sound_at : (number : ℕ) (r : Read) → IsSound r → r.next ≤ number → IsSound (at_line number r)
+sound_at : (number : ℕ) (r : ReadSoFar) → IsSoundReading r → r.next ≤ number → IsSoundReading (at_line number r)
 sound_at number r h above = let behind = h.above in record { readable = h.readable; above = omega arith; stepped = h.stepped; known = h.known }
 
-sound_behind : (r : Read) (lines : List Line) → IsSound r → CanAllFollow r lines → IsReadable (r.lines ++ lines)
+sound_behind : (r : ReadSoFar) (lines : List Line) → IsSoundReading r → CanAllFollow r lines → IsReadable (r.lines ++ lines)
 sound_behind r [] sound h = subst IsReadable (sym (append-nil r.lines)) sound.readable
 sound_behind r (line ∷ lines) sound h =
-    let ready : Read = at_line line.number r in
-    let more : IsSound (after_item ready line.item) = sound_more ready line.item (sound_at line.number r sound h.0) (at_line_too line.number r line.item h.1).follows in
+    let ready : ReadSoFar = at_line line.number r in
+    let more : IsSoundReading (after_item ready line.item) = sound_more ready line.item (sound_at line.number r sound h.0) (at_line_too line.number r line.item h.1).follows in
     subst IsReadable (append_assoc r.lines (line ∷ []) lines) (sound_behind (after_item ready line.item) lines more h.2)
 
 pub are_readable : (lines : List Line) → CanAllFollow nothing_read lines → IsReadable lines

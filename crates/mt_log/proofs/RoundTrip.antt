@@ -13,8 +13,8 @@ use Rattle.mt_base.specs.declared.calls.Query.TheVariants.{Load, Find, Next, Pre
 use Rattle.mt_base.specs.declared.kinds.Kind.{Kind}
 use Rattle.mt_base.specs.declared.kinds.Kind.TheVariants as kinds
 use Rattle.mt_log.specs.Fault.{◌>>=◌}
-use Rattle.mt_log.specs.LogText.{IsLog, call_fields, query_fields, item_fields, line_text, lines_text, log_text, name_at, names_after}
-use Rattle.mt_log.specs.Reading.{Read, after_item, after_line, after_pieces, after_skipped, fields_of, is_skipped, log_of, nothing_read}
+use Rattle.mt_log.specs.LogText.{IsLog, call_fields, query_fields, item_fields, line_text, lines_text, log_text, tree_name, names_after}
+use Rattle.mt_log.specs.Reading.{ReadSoFar, after_item, after_line, after_pieces, after_skipped, fields_of, is_skipped, log_of, nothing_read}
 use Rattle.mt_log.specs.Trees.{known_after}
 use Rattle.mt_log.specs.declared.lines.Item.{Item}
 use Rattle.mt_log.specs.declared.lines.Item.TheVariants.{Tree, Lane, Join, Dup, Check, Write, Ask, Scan}
@@ -75,19 +75,19 @@ kind_is_field kinds.Alloc = refl
 kind_is_field kinds.Range32 = refl
 kind_is_field kinds.Alloc32 = refl
 
-name_of_tree : (trees : List KnownTree) (tree : ℕ) → AreNamed trees → tree < length trees → are_above 32 (name_at (names_of trees) tree) ≡ true
+name_of_tree : (trees : List KnownTree) (tree : ℕ) → AreNamed trees → tree < length trees → are_above 32 (tree_name (names_of trees) tree) ≡ true
 name_of_tree trees tree named below =
     let known = some_tree trees tree below in
     rw known.1.named (name_is_field known.0.name (named tree known.0 known.1.found).1)
 
-item_line : (r : Read) (item : Item) → AreNamed r.trees → CanFollow r item → IsLine (item_fields (names_of r.trees) item)
+item_line : (r : ReadSoFar) (item : Item) → AreNamed r.trees → CanFollow r item → IsLine (item_fields (names_of r.trees) item)
 item_line r (Tree name kind) named h = line_by (codes "tree") _ (rw (name_is_field name h.says) (kind_is_field kind)) refl
 item_line r (Lane lane) named h = let below = h.follows.named in line_by (codes "lane") _ (one_number lane (omega arith)) refl
 item_line r Join named h = line_by (codes "join") [] refl refl
 item_line r (Dup from name) named h = line_by (codes "dup") _ (rw (name_of_tree r.trees from named h.follows.named, name_is_field name h.says) refl) refl
 item_line r (Check tree) named h = line_by (codes "check") _ (rw (name_of_tree r.trees tree named h.follows.named) refl) refl
-item_line r (Write tree call) named h = call_line (name_at (names_of r.trees) tree) call (name_of_tree r.trees tree named h.follows.named) h.says
-item_line r (Ask tree query) named h = query_line (name_at (names_of r.trees) tree) query (name_of_tree r.trees tree named h.follows.named) h.says
+item_line r (Write tree call) named h = call_line (tree_name (names_of r.trees) tree) call (name_of_tree r.trees tree named h.follows.named) h.says
+item_line r (Ask tree query) named h = query_line (tree_name (names_of r.trees) tree) query (name_of_tree r.trees tree named h.follows.named) h.says
 item_line r (Scan tree index max count) named h = let few = h.says.3 in line_by (codes "scan") _ (rw (name_of_tree r.trees tree named h.follows.named) (three_numbers index max count h.says.0 h.says.1 (omega arith))) refl
 
 -- ---- lines
@@ -97,7 +97,7 @@ abbrev pieces : List ℕ → List (List ℕ)
 pieces text = slice_split (λ b. b == 10) text
 
 -- blank lines are read past
-blanks_read : (count : ℕ) (r : Read) (rest : List ℕ) → after_pieces r (pieces (replicate count 10 ++ rest)) ≡ after_pieces (at_line (r.next + count) r) (pieces rest)
+blanks_read : (count : ℕ) (r : ReadSoFar) (rest : List ℕ) → after_pieces r (pieces (replicate count 10 ++ rest)) ≡ after_pieces (at_line (r.next + count) r) (pieces rest)
 blanks_read zero r rest = rw (add-zero r.next) refl
 blanks_read (suc count) r rest =
     let more : r.next + 1 + count ≡ r.next + suc count = omega arith in
@@ -105,7 +105,7 @@ blanks_read (suc count) r rest =
     ∙ (blanks_read count (after_skipped r) rest ∙ ap (λ n. after_pieces (at_line n r) (pieces rest)) more)
 
 -- a line that can follow is read
-line_read : (r : Read) (item : Item) (rest : List ℕ) → AreNamed r.trees → CanFollow r item → after_pieces r (pieces (line_text (names_of r.trees) item ++ rest)) ≡ after_pieces (after_item r item) (pieces rest)
+line_read : (r : ReadSoFar) (item : Item) (rest : List ℕ) → AreNamed r.trees → CanFollow r item → after_pieces r (pieces (line_text (names_of r.trees) item ++ rest)) ≡ after_pieces (after_item r item) (pieces rest)
 line_read r item rest named h =
     let fields : List (List ℕ) = item_fields (names_of r.trees) item in
     let line : IsLine fields = item_line r item named h in
@@ -115,22 +115,22 @@ line_read r item rest named h =
     ap (after_pieces r) cut ∙ (first_line (λ b. b == 10) r text rest ∙ rw read refl)
 
 -- what can follow can do so behind blank lines too
-pub at_line_too : (number : ℕ) (r : Read) (item : Item) → CanFollow r item → CanFollow (at_line number r) item
+pub at_line_too : (number : ℕ) (r : ReadSoFar) (item : Item) → CanFollow r item → CanFollow (at_line number r) item
 at_line_too number r item h = record { follows = record { named = h.follows.named; placed = h.follows.placed; trees = h.follows.trees; scans = h.follows.scans }; says = h.says }
 
 -- what is read of lines in print: these lines
-record AreRead (r : Read) (text : List ℕ) (lines : List Line) : Type 0 where
-  last : Read
+record AreRead (r : ReadSoFar) (text : List ℕ) (lines : List Line) : Type 0 where
+  last : ReadSoFar
   read : after_pieces r (pieces text) ≡ Ok last
   told : last.lines ≡ r.lines ++ lines
 
-lines_read : (lines : List Line) (r : Read) (number : ℕ) → AreNamed r.trees → r.next ≡ number + 1 → CanAllFollow r lines → AreRead r (lines_text (names_of r.trees) number lines) lines
+lines_read : (lines : List Line) (r : ReadSoFar) (number : ℕ) → AreNamed r.trees → r.next ≡ number + 1 → CanAllFollow r lines → AreRead r (lines_text (names_of r.trees) number lines) lines
 lines_read [] r number named next h = record { last = r; read = refl; told = sym (append-nil r.lines) }
 lines_read (line ∷ lines) r number named next h =
     let names : List (List ℕ) = names_of r.trees in
     let blanks : ℕ = line.number - number - 1 in
     let others : List ℕ = lines_text (names_after names line.item) line.number lines in
-    let ready : Read = at_line line.number r in
+    let ready : ReadSoFar = at_line line.number r in
     let follows : CanFollow ready line.item = at_line_too line.number r line.item h.1 in
     let there : r.next + blanks ≡ line.number = let above = h.0 in omega arith in
     let kept : names_after names line.item ≡ names_of (known_after r.trees line.item) = names_kept ready line.item follows in

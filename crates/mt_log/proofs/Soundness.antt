@@ -8,9 +8,9 @@ use Rattle.mt_log.specs.declared.lines.Item.TheVariants.{Tree, Dup}
 use Rattle.mt_log.specs.declared.lines.Line.{Line}
 use Rattle.mt_log.specs.declared.trees.KnownTree.{KnownTree}
 use Rattle.mt_log.specs.Phases.{AreInPlaceFrom, IsInPlace, phase_after, stepped_after, stepped_from}
-use Rattle.mt_log.specs.Reader.{HasTreeRoom, IsSound, MayFollow, least_behind}
-use Rattle.mt_log.specs.Reading.{Read, after_item, nothing_read}
-use Rattle.mt_log.specs.Trees.{Declared, Opening, AreNamedFrom, NamesBelow, RiseFrom, count_after, declared_by, known_after, known_by, most_trees, opening_by, renamed, trees_from, trees_of}
+use Rattle.mt_log.specs.Reader.{HasTreeRoom, IsSoundReading, MayFollow, least_behind}
+use Rattle.mt_log.specs.Reading.{ReadSoFar, after_item, nothing_read}
+use Rattle.mt_log.specs.Trees.{Declared, Opening, AreNamedFrom, NamesBelow, NumbersRiseFrom, count_after, declared_by, known_after, tree_declared_by, most_trees, opening_by, renamed, trees_from, trees_of}
 
 -- ---- the trees with one more line
 
@@ -41,7 +41,7 @@ known_of_one (Some tree) opening = refl
 known_more : (trees : List Declared) (phase : ℕ) (item : Item) → known_in (trees ++ option_to_list (declared_by trees phase item)) ≡ known_after (known_in trees) item
 known_more trees phase item =
     map-append (λ (d : Declared). d.tree) trees (option_to_list (declared_by trees phase item))
-    ∙ ap (λ z. known_in trees ++ z) (known_of_one (known_by (known_in trees) item) (opening_by phase item))
+    ∙ ap (λ z. known_in trees ++ z) (known_of_one (tree_declared_by (known_in trees) item) (opening_by phase item))
 
 some_tree : (trees : List KnownTree) (tree : ℕ) → tree < length trees → (known : KnownTree) × (slice_get trees tree ≡ Some known)
 some_tree trees tree below = elim (slice_get_cases trees tree).1 [ inl found ↦ (found.0, found.2) | inr past ↦ absurd (omega (arith, past.0, below)) ]
@@ -89,7 +89,7 @@ stepped_more stepped [] line = refl
 stepped_more stepped (first ∷ lines) line = stepped_more (stepped_after stepped first.item) lines line
 
 -- is above them
-rising_more : (least : ℕ) (lines : List Line) (line : Line) → RiseFrom least lines → least_behind least lines ≤ line.number → RiseFrom least (lines ++ line ∷ [])
+rising_more : (least : ℕ) (lines : List Line) (line : Line) → NumbersRiseFrom least lines → least_behind least lines ≤ line.number → NumbersRiseFrom least (lines ++ line ∷ [])
 rising_more least [] line h above = (above, tt)
 rising_more least (first ∷ lines) line h above = (h.0, rising_more (first.number + 1) lines line h.1 above)
 
@@ -106,11 +106,11 @@ few_after trees item few room = few
 -- ---- a reader's facts
 
 -- where nothing was read, all is well
-pub sound_nothing : IsSound nothing_read
+pub sound_nothing : IsSoundReading nothing_read
 sound_nothing = record { readable = record { named = tt; placed = tt; few = omega arith; rising = tt }; above = omega arith; stepped = refl; known = refl }
 
 -- a line that may follow keeps it so
-pub sound_more : (read : Read) (item : Item) → IsSound read → MayFollow read item → IsSound (after_item read item)
+pub sound_more : (read : ReadSoFar) (item : Item) → IsSoundReading read → MayFollow read item → IsSoundReading (after_item read item)
 sound_more read item h follows =
     let line : Line = record { number = read.next; item = item } in
     let trees : List Declared = trees_of read.lines in

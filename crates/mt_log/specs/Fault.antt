@@ -29,9 +29,9 @@ Refuses (Bad line why) reading = reading ≡ Err (record { line = line; why = wh
 Refuses NoMemory reading = Unit {0}
 
 -- what a reader answered, seen by `view`, is what there is to read
-abbrev pub Reads : {X Y : Type 0} → (X → Y) → Result X LogError → Result Y Fault → Type 0
-Reads view (Ok x) reading = reading ≡ Ok (view x)
-Reads view (Err e) reading = Refuses e reading
+abbrev pub ReadsAs : {X Y : Type 0} → (X → Y) → Result X LogError → Result Y Fault → Type 0
+ReadsAs view (Ok x) reading = reading ≡ Ok (view x)
+ReadsAs view (Err e) reading = Refuses e reading
 
 abbrev pub why_text : Why → List ℕ
 why_text NoNewline = codes "no newline"

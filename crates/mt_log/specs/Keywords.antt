@@ -10,28 +10,28 @@ use Rattle.mt_log.specs.declared.keywords.Keyword.TheVariants as keyword
 abbrev pub keywords : List Keyword
 keywords = keyword.Load ∷ keyword.Store ∷ keyword.Find ∷ keyword.Erase ∷ keyword.Insert ∷ keyword.Alloc ∷ keyword.Next ∷ keyword.Prev ∷ keyword.Scan ∷ keyword.Rfind ∷ keyword.Ralloc ∷ keyword.Gap ∷ keyword.Rgap ∷ keyword.StorePre ∷ keyword.Clear ∷ keyword.Lane ∷ keyword.Tree ∷ keyword.Dup ∷ keyword.Check ∷ keyword.Join ∷ []
 
-abbrev pub word_of : Keyword → List ℕ
-word_of keyword.Tree = codes "tree"
-word_of keyword.Dup = codes "dup"
-word_of keyword.Check = codes "check"
-word_of keyword.Lane = codes "lane"
-word_of keyword.Join = codes "join"
-word_of keyword.Store = codes "store"
-word_of keyword.StorePre = codes "pstore"
-word_of keyword.Insert = codes "insert"
-word_of keyword.Erase = codes "erase"
-word_of keyword.Alloc = codes "alloc"
-word_of keyword.Ralloc = codes "ralloc"
-word_of keyword.Gap = codes "gap"
-word_of keyword.Rgap = codes "rgap"
-word_of keyword.Clear = codes "clear"
-word_of keyword.Load = codes "load"
-word_of keyword.Find = codes "find"
-word_of keyword.Next = codes "next"
-word_of keyword.Prev = codes "prev"
-word_of keyword.Rfind = codes "rfind"
-word_of keyword.Scan = codes "scan"
+abbrev pub keyword_text : Keyword → List ℕ
+keyword_text keyword.Tree = codes "tree"
+keyword_text keyword.Dup = codes "dup"
+keyword_text keyword.Check = codes "check"
+keyword_text keyword.Lane = codes "lane"
+keyword_text keyword.Join = codes "join"
+keyword_text keyword.Store = codes "store"
+keyword_text keyword.StorePre = codes "pstore"
+keyword_text keyword.Insert = codes "insert"
+keyword_text keyword.Erase = codes "erase"
+keyword_text keyword.Alloc = codes "alloc"
+keyword_text keyword.Ralloc = codes "ralloc"
+keyword_text keyword.Gap = codes "gap"
+keyword_text keyword.Rgap = codes "rgap"
+keyword_text keyword.Clear = codes "clear"
+keyword_text keyword.Load = codes "load"
+keyword_text keyword.Find = codes "find"
+keyword_text keyword.Next = codes "next"
+keyword_text keyword.Prev = codes "prev"
+keyword_text keyword.Rfind = codes "rfind"
+keyword_text keyword.Scan = codes "scan"
 
 -- the first of these keywords whose word this is
 abbrev pub named : List ℕ → List Keyword → Option Keyword
-named word = find (λ k. bytes_eq word (word_of k))
+named word = find (λ k. bytes_eq word (keyword_text k))

@@ -35,19 +35,19 @@ query_fields name (Prev index min) = codes "prev" ∷ name ∷ decimal index ∷
 query_fields name (Rfind index min) = codes "rfind" ∷ name ∷ decimal index ∷ decimal min ∷ []
 
 -- the name of the tree of this number, where trees of these names are declared
-abbrev pub name_at : List (List ℕ) → ℕ → List ℕ
-name_at names tree = unwrap_or (slice_get names tree) []
+abbrev pub tree_name : List (List ℕ) → ℕ → List ℕ
+tree_name names tree = unwrap_or (slice_get names tree) []
 
 -- the fields of a line, where trees of these names are declared before it
 abbrev pub item_fields : List (List ℕ) → Item → List (List ℕ)
 item_fields names (Tree name kind) = codes "tree" ∷ name ∷ kind_text kind ∷ []
 item_fields names (Lane lane) = codes "lane" ∷ decimal lane ∷ []
 item_fields names Join = codes "join" ∷ []
-item_fields names (Dup from name) = codes "dup" ∷ name_at names from ∷ name ∷ []
-item_fields names (Check tree) = codes "check" ∷ name_at names tree ∷ []
-item_fields names (Write tree call) = call_fields (name_at names tree) call
-item_fields names (Ask tree query) = query_fields (name_at names tree) query
-item_fields names (Scan tree index max count) = codes "scan" ∷ name_at names tree ∷ decimal index ∷ decimal max ∷ decimal count ∷ []
+item_fields names (Dup from name) = codes "dup" ∷ tree_name names from ∷ name ∷ []
+item_fields names (Check tree) = codes "check" ∷ tree_name names tree ∷ []
+item_fields names (Write tree call) = call_fields (tree_name names tree) call
+item_fields names (Ask tree query) = query_fields (tree_name names tree) query
+item_fields names (Scan tree index max count) = codes "scan" ∷ tree_name names tree ∷ decimal index ∷ decimal max ∷ decimal count ∷ []
 
 -- a line: its fields with a space between them, and LF
 abbrev pub line_text : List (List ℕ) → Item → List ℕ

@@ -6,7 +6,7 @@ use Rattle.mt_log.specs.declared.lines.Item.TheVariants.{Tree, Dup}
 use Rattle.mt_log.specs.declared.lines.Line.{Line}
 use Rattle.mt_log.specs.declared.trees.KnownTree.{KnownTree}
 use Rattle.mt_log.specs.Phases.{IsInPlace, stepped_from}
-use Rattle.mt_log.specs.Reading.{Read, most_scan_steps, place_of, scan_steps_of}
+use Rattle.mt_log.specs.Reading.{ReadSoFar, most_scan_steps, declared_place, scan_steps_of}
 use Rattle.mt_log.specs.Trees.{IsReadable, NamesBelow, most_trees, trees_of}
 
 -- the least number of a line behind these, where it was this one before them
@@ -14,7 +14,7 @@ abbrev pub least_behind : ℕ → List Line → ℕ
 least_behind least [] = least
 least_behind least (line ∷ lines) = least_behind (line.number + 1) lines
 
-pub record IsSound (read : Read) : Type 0 where
+pub record IsSoundReading (read : ReadSoFar) : Type 0 where
   pub readable : IsReadable read.lines
   pub above : least_behind 2 read.lines ≤ read.next
   pub stepped : stepped_from false read.lines ≡ read.stepped
@@ -22,13 +22,13 @@ pub record IsSound (read : Read) : Type 0 where
 
 -- a line that declares a tree stands behind fewer than there may be, and its name is a new one
 abbrev pub HasTreeRoom : List KnownTree → Item → Type 0
-HasTreeRoom trees (Tree name kind) = (length trees < most_trees) × (place_of trees name ≡ None)
-HasTreeRoom trees (Dup from name) = (length trees < most_trees) × (place_of trees name ≡ None)
+HasTreeRoom trees (Tree name kind) = (length trees < most_trees) × (declared_place trees name ≡ None)
+HasTreeRoom trees (Dup from name) = (length trees < most_trees) × (declared_place trees name ≡ None)
 HasTreeRoom trees item = Unit {0}
 
 -- A line that says this may follow: the trees that it names are declared, it stands in its place, there is room for what it
 -- declares, and its steps, if it is a scan, are no more than the scans before it have left.
-pub record MayFollow (read : Read) (item : Item) : Type 0 where
+pub record MayFollow (read : ReadSoFar) (item : Item) : Type 0 where
   pub named : NamesBelow (length read.trees) item
   pub placed : IsInPlace read.stepped item
   pub trees : HasTreeRoom read.trees item

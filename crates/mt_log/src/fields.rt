@@ -1,5 +1,5 @@
 ghost use Rattle.std.specs.Prelude.{◌≡◌, ◌<◌, ◌^◌, [], IfOk, None, length, map, take};
-ghost use Rattle.mt_log.specs.Reading.{fields_of, place_of, tree_of, new_name_of};
+ghost use Rattle.mt_log.specs.Reading.{fields_of, declared_place, tree_read, new_name_read};
 
 use crate::cuts::cut;
 use crate::faults::Why;
@@ -30,10 +30,10 @@ pub fn gather<'a>(line: &'a [u8], fields: &mut Fields<'a>)
 }
 
 /// The tree of this name.
-#[tactic(auto, unfolding(crate::specs::Reading::tree_of))]
+#[tactic(auto, unfolding(crate::specs::Reading::tree_read))]
 pub fn tree_of(trees: &Trees, name: &[u8]) -> Result<NumberedTree, Why>
     requires { length trees.now < 2 ^ 32 }
-    ensures tree { result ≡ tree_of trees.now name.now }
+    ensures tree { result ≡ tree_read trees.now name.now }
     ensures declared { IfOk result (λ tree. tree.number < length trees.now) }
 {
     if let Some(tree) = trees.first_of_name(name) {
@@ -44,10 +44,10 @@ pub fn tree_of(trees: &Trees, name: &[u8]) -> Result<NumberedTree, Why>
 }
 
 /// The name of a tree that is to be declared.
-#[tactic(auto, unfolding(crate::specs::Reading::new_name_of))]
+#[tactic(auto, unfolding(crate::specs::Reading::new_name_read))]
 pub fn new_name_of(trees: &Trees, name: &[u8]) -> Result<Word, Why>
-    ensures name { result ≡ new_name_of trees.now name.now }
-    ensures new { IfOk result (λ name. place_of trees.now name ≡ None) }
+    ensures name { result ≡ new_name_read trees.now name.now }
+    ensures new { IfOk result (λ name. declared_place trees.now name ≡ None) }
 {
     let name = Word::new(name).ok_or(Why::Name)?;
     if trees.place_of(name).is_some() {

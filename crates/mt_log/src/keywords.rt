@@ -1,6 +1,6 @@
 ghost use Rattle.std.specs.Prelude.{◌≡◌, ◌≤◌, length};
-ghost use Rattle.mt_log.specs.Keywords.{named, word_of};
-ghost use Rattle.mt_log.specs.Reading.{keyword_of};
+ghost use Rattle.mt_log.specs.Keywords.{named, keyword_text};
+ghost use Rattle.mt_log.specs.Reading.{keyword_read};
 
 use crate::faults::Why;
 
@@ -80,9 +80,9 @@ fn named(keywords: &[Keyword], word: &[u8]) -> Option<Keyword>
 }
 
 /// The keyword that a line's first field is.
-#[tactic(auto, unfolding(crate::specs::Reading::keyword_of))]
+#[tactic(auto, unfolding(crate::specs::Reading::keyword_read))]
 pub fn keyword_of(word: &[u8]) -> Result<Keyword, Why>
-    ensures { result ≡ keyword_of word.now }
+    ensures { result ≡ keyword_read word.now }
 {
     named(KEYWORDS, word).ok_or(Why::Unknown)
 }
@@ -98,7 +98,7 @@ macro_rules! word_in {
 
 /// The word of a keyword, of at most 6 bytes.
 pub fn word_of(keyword: Keyword) -> &'static [u8]
-    ensures word { result.now ≡ word_of keyword }
+    ensures word { result.now ≡ keyword_text keyword }
     ensures short { length result.now ≤ 6 }
 {
     words!(word_in, keyword)

@@ -1,6 +1,6 @@
 ghost use Rattle.std.specs.Prelude.{◌≡◌, ◌≤◌, length};
 ghost use Rattle.mt_base.specs.Text.{kind_text};
-ghost use Rattle.mt_log.specs.Reading.{kind_of};
+ghost use Rattle.mt_log.specs.Reading.{kind_read};
 
 use crate::faults::Why;
 use mt_base::Kind;
@@ -22,9 +22,9 @@ pub fn kind_text(kind: Kind) -> &'static [u8]
 }
 
 /// The kind of a tree that is to be declared.
-#[tactic(auto, unfolding(crate::specs::Reading::kind_of))]
+#[tactic(auto, unfolding(crate::specs::Reading::kind_read))]
 pub fn kind_of(field: &[u8]) -> Result<Kind, Why>
-    ensures { result ≡ kind_of field.now }
+    ensures { result ≡ kind_read field.now }
 {
     KINDS
         .iter()

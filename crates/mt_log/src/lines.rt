@@ -41,11 +41,11 @@ impl Item {
     ghost use Rattle.std.specs.Prelude.{◌≡◌};
     ghost use Rattle.mt_log.specs.Phases.{stepped_after};
     ghost use Rattle.mt_log.specs.Reading.{scan_steps_of};
-    ghost use Rattle.mt_log.specs.Trees.{known_by};
+    ghost use Rattle.mt_log.specs.Trees.{tree_declared_by};
 
     /// The tree that it declares, where these are known before it.
     pub fn declares(&self, trees: &Trees) -> Option<KnownTree>
-        ensures { result ≡ known_by trees.now self.now }
+        ensures { result ≡ tree_declared_by trees.now self.now }
     {
         match self {
             Item::Tree { name, kind } => Some(KnownTree {

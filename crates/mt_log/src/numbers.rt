@@ -1,7 +1,7 @@
 ghost use Rattle.std.specs.Prelude.{◌≡◌, ◌<◌, ◌≤◌, ◌+◌, ◌*◌, ◌^◌, IfOk, SomeIff, length};
 ghost use Rattle.std.specs.Char.{digit_value};
 ghost use Rattle.std.specs.Str.Parse.{AllDigits, digits_value};
-ghost use Rattle.mt_log.specs.Reading.{decimal_of, hexadecimal_of, number_of, index_of, size_of, entry_number_of, lane_number_of, count_of};
+ghost use Rattle.mt_log.specs.Reading.{decimal_read, hexadecimal_read, number_read, index_read, size_read, entry_number_read, lane_number_read, count_read};
 ghost use Rattle.mt_log.specs.Trees.{most_lanes};
 
 use crate::faults::Why;
@@ -62,9 +62,9 @@ fn short_value_of(digits: &[u8]) -> Option<u64>
 }
 
 /// The number that 1 to 20 decimal digits write.
-#[tactic(auto, using(crate::proofs::Digits::decimal_from_value), unfolding(crate::specs::Reading::decimal_of))]
+#[tactic(auto, using(crate::proofs::Digits::decimal_from_value), unfolding(crate::specs::Reading::decimal_read))]
 fn decimal_of(digits: &[u8]) -> Result<u64, Why>
-    ensures { result ≡ decimal_of digits.now }
+    ensures { result ≡ decimal_read digits.now }
 {
     if digits.is_empty() || digits.len() > 20 {
         return Err(Why::Number);
@@ -76,9 +76,9 @@ fn decimal_of(digits: &[u8]) -> Result<u64, Why>
 }
 
 /// The number that 1 to 16 hexadecimal digits write.
-#[tactic(auto, using(crate::proofs::Digits::hexadecimal_from_value), unfolding(crate::specs::Reading::hexadecimal_of))]
+#[tactic(auto, using(crate::proofs::Digits::hexadecimal_from_value), unfolding(crate::specs::Reading::hexadecimal_read))]
 fn hexadecimal_of(digits: &[u8]) -> Result<u64, Why>
-    ensures { result ≡ hexadecimal_of digits.now }
+    ensures { result ≡ hexadecimal_read digits.now }
 {
     if digits.is_empty() || digits.len() > 16 {
         return Err(Why::Number);
@@ -87,9 +87,9 @@ fn hexadecimal_of(digits: &[u8]) -> Result<u64, Why>
 }
 
 /// The number that a field writes: `max`, which is `most`, or `0x` and hexadecimal digits, or decimal digits.
-#[tactic(auto, unfolding(crate::specs::Reading::number_of))]
+#[tactic(auto, unfolding(crate::specs::Reading::number_read))]
 fn number_of(field: &[u8], most: u64) -> Result<u64, Why>
-    ensures { result ≡ number_of most field.now }
+    ensures { result ≡ number_read most field.now }
 {
     if field == b"max".as_slice() {
         return Ok(most);
@@ -101,33 +101,33 @@ fn number_of(field: &[u8], most: u64) -> Result<u64, Why>
 }
 
 /// The index of a tree of this kind that a field writes.
-#[tactic(auto, unfolding(crate::specs::Reading::index_of))]
+#[tactic(auto, unfolding(crate::specs::Reading::index_read))]
 pub fn index_of(field: &[u8], kind: Kind) -> Result<u64, Why>
-    ensures { result ≡ index_of kind field.now }
+    ensures { result ≡ index_read kind field.now }
 {
     number_of(field, top(width_of(kind)))
 }
 
 /// The count of indexes that a field writes.
-#[tactic(auto, unfolding(crate::specs::Reading::size_of))]
+#[tactic(auto, unfolding(crate::specs::Reading::size_read))]
 pub fn size_of(field: &[u8]) -> Result<u64, Why>
-    ensures { result ≡ size_of field.now }
+    ensures { result ≡ size_read field.now }
 {
     number_of(field, u64::MAX)
 }
 
 /// The entry that a field writes.
-#[tactic(auto, unfolding(crate::specs::Reading::entry_number_of))]
+#[tactic(auto, unfolding(crate::specs::Reading::entry_number_read))]
 pub fn entry_number_of(field: &[u8]) -> Result<u64, Why>
-    ensures { result ≡ entry_number_of field.now }
+    ensures { result ≡ entry_number_read field.now }
 {
     number_of(field, u64::MAX)
 }
 
 /// The lane that a field writes.
-#[tactic(auto, unfolding(crate::specs::Reading::lane_number_of))]
+#[tactic(auto, unfolding(crate::specs::Reading::lane_number_read))]
 pub fn lane_number_of(field: &[u8]) -> Result<u32, Why>
-    ensures lane { result ≡ lane_number_of field.now }
+    ensures lane { result ≡ lane_number_read field.now }
     ensures within { IfOk result (λ lane. lane < most_lanes) }
 {
     match number_of(field, u64::MAX) {
@@ -137,9 +137,9 @@ pub fn lane_number_of(field: &[u8]) -> Result<u32, Why>
 }
 
 /// The count of a scan that a field writes.
-#[tactic(auto, unfolding(crate::specs::Reading::count_of))]
+#[tactic(auto, unfolding(crate::specs::Reading::count_read))]
 pub fn count_of(field: &[u8]) -> Result<u32, Why>
-    ensures { result ≡ count_of field.now }
+    ensures { result ≡ count_read field.now }
 {
     match number_of(field, u64::MAX) {
         Ok(count @ 1..=LONGEST_SCAN) => Ok(count as u32),

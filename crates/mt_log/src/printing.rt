@@ -4,8 +4,8 @@ ghost use Rattle.std.specs.Prelude.{◌≡◌, ◌≤◌, ◌+◌, ◌++◌, ◌
 ghost use Rattle.std.specs.Fmt.{decimal};
 ghost use Rattle.std.specs.List.{join_with_byte};
 ghost use Rattle.mt_base.specs.Text.{kind_text};
-ghost use Rattle.mt_log.specs.Keywords.{word_of};
-ghost use Rattle.mt_log.specs.LogText.{IsLog, call_fields, query_fields, item_fields, name_at, names_after, line_text, lines_text, log_text};
+ghost use Rattle.mt_log.specs.Keywords.{keyword_text};
+ghost use Rattle.mt_log.specs.LogText.{IsLog, call_fields, query_fields, item_fields, tree_name, names_after, line_text, lines_text, log_text};
 ghost use Rattle.mt_log.specs.Reading.{log_of};
 
 use crate::keywords::{Keyword, word_of};
@@ -33,7 +33,7 @@ fn put_number(line: &mut LineEnd, number: u64)
 fn put_head(line: &mut LineEnd, keyword: Keyword, name: &[u8])
     requires room { length line.old + 23 ≤ ROOM }
     requires short { length name.now ≤ 16 }
-    ensures { line.new ≡ word_of keyword ++ (32 ∷ name.now ++ line.old) }
+    ensures { line.new ≡ keyword_text keyword ++ (32 ∷ name.now ++ line.old) }
 {
     line.text(name);
     line.text(b" ");
@@ -62,7 +62,7 @@ fn put_three(line: &mut LineEnd, first: u64, second: u64, third: u64)
 
 /// The keyword of a call.
 fn keyword_of_call(call: Call) -> Keyword
-    ensures { (name : List ℕ) → word_of result ≡ slice_index_or (call_fields name call) 0 [] }
+    ensures { (name : List ℕ) → keyword_text result ≡ slice_index_or (call_fields name call) 0 [] }
 {
     match call {
         Call::Store { .. } => Keyword::Store,
@@ -122,7 +122,7 @@ fn put_call(line: &mut LineEnd, name: &[u8], call: Call)
 
 /// The keyword of a query.
 fn keyword_of_query(query: Query) -> Keyword
-    ensures { (name : List ℕ) → word_of result ≡ slice_index_or (query_fields name query) 0 [] }
+    ensures { (name : List ℕ) → keyword_text result ≡ slice_index_or (query_fields name query) 0 [] }
 {
     match query {
         Query::Load { .. } => Keyword::Load,
@@ -159,7 +159,7 @@ fn put_query(line: &mut LineEnd, name: &[u8], query: Query)
 /// The name of the tree of this number, where it is one of these trees.
 #[tactic(auto, using(crate::proofs::Padding::name_is_short))]
 fn name_at(names: &[Word], tree: u32) -> &[u8]
-    ensures name { result.now ≡ name_at names.now tree }
+    ensures name { result.now ≡ tree_name names.now tree }
     ensures short { length result.now ≤ 16 }
 {
     match names.get(tree as usize) {

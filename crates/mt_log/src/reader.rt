@@ -21,9 +21,9 @@ pub struct Reader {
 }
 
 impl Model for Reader {
-    ghost use Rattle.mt_log.specs.Reading.{Read};
+    ghost use Rattle.mt_log.specs.Reading.{ReadSoFar};
 
-    ghost Value = { Read };
+    ghost Value = { ReadSoFar };
 
     ghost view = { λ r. record { trees = r.trees; stepped = r.stepped; scanned = r.scanned; lines = r.lines.items; next = r.next } };
 }

@@ -1,7 +1,7 @@
 ghost use Rattle.std.specs.Prelude.{◌≡◌, ◌≤◌, ◌<◌, ◌^◌, ◌-◌, ◌==◌, IfOk, OnOk, length};
 ghost use Rattle.std.specs.List.{slice_split};
-ghost use Rattle.mt_log.specs.Fault.{Reads};
-ghost use Rattle.mt_log.specs.Reader.{IsSound, MayFollow};
+ghost use Rattle.mt_log.specs.Fault.{ReadsAs};
+ghost use Rattle.mt_log.specs.Reader.{IsSoundReading, MayFollow};
 ghost use Rattle.mt_log.specs.Reading.{fields_of, item_of, nothing_read, is_skipped, after_line, after_pieces, log_of, version_in};
 ghost use Rattle.mt_log.specs.Trees.{IsReadable};
 
@@ -37,9 +37,9 @@ fn said_in(reader: &Reader, line: &[u8]) -> Result<Item, Why>
 
 fn read_line(reader: &mut Reader, line: &[u8]) -> Result<(), LogError>
     requires next { reader.old.next < 2 ^ 64 - 1 }
-    requires sound { IsSound reader.old }
-    ensures line { Reads (λ _. reader.new) result (after_line reader.old line.now) }
-    ensures sound { OnOk result (IsSound reader.new) }
+    requires sound { IsSoundReading reader.old }
+    ensures line { ReadsAs (λ _. reader.new) result (after_line reader.old line.now) }
+    ensures sound { OnOk result (IsSoundReading reader.new) }
 {
     if is_skipped(line) {
         reader.skip();
@@ -60,8 +60,8 @@ fn read_line(reader: &mut Reader, line: &[u8]) -> Result<(), LogError>
 /// Reads what stands behind the first line.
 #[tactic(auto, using(crate::proofs::Pieces::first_line, crate::proofs::Pieces::one_more, crate::proofs::Pieces::last_piece, crate::proofs::Pieces::left_over, crate::proofs::Soundness::sound_nothing))]
 fn read_lines(alloc: Global, text: &[u8]) -> Result<Reader, LogError>
-    ensures lines { Reads (λ r. r) result (after_pieces nothing_read (slice_split (λ b. b == 10) text.now)) }
-    ensures sound { IfOk result (λ r. IsSound r) }
+    ensures lines { ReadsAs (λ r. r) result (after_pieces nothing_read (slice_split (λ b. b == 10) text.now)) }
+    ensures sound { IfOk result (λ r. IsSoundReading r) }
     ensures count { IfOk result (λ r. length r.lines ≤ length text.now) }
 {
     let mut reader = Reader::new(alloc, text.len() / SHORT_STEP)?;
@@ -99,7 +99,7 @@ fn version_in(header: &[u8]) -> Option<u32>
 /// `Bad` where the bytes are no log, with the first bad line and the first failed test of it; `NoMemory` where memory ran out.
 #[tactic(auto, using(crate::proofs::Pieces::behind_header))]
 pub fn read_log(alloc: Global, bytes: &[u8]) -> Result<Log, LogError>
-    ensures log { Reads (λ log. log) result (log_of bytes.now) }
+    ensures log { ReadsAs (λ log. log) result (log_of bytes.now) }
     ensures readable { IfOk result (λ log. IsReadable log.lines) }
     ensures count { IfOk result (λ log. length log.lines ≤ length bytes.now) }
 {

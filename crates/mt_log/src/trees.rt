@@ -52,7 +52,7 @@ impl Model for Trees {
 impl Trees {
     ghost use Rattle.std.specs.Prelude.{◌≡◌, ◌++◌, ◌∷◌, ◌<◌, ◌^◌, [], false, None, Ok, IfSome, IfNone, OnOk, length, slice_get, option_and_then};
     ghost use Rattle.std.specs.Str.{bytes_eq};
-    ghost use Rattle.mt_log.specs.Reading.{place_of, tree_at, tree_of};
+    ghost use Rattle.mt_log.specs.Reading.{declared_place, tree_at, tree_read};
 
     /// No trees.
     pub fn new(alloc: Global) -> Self
@@ -74,7 +74,7 @@ impl Trees {
     /// The first tree, where this is its name. Most logs have one tree, which is found so without the table.
     #[tactic(auto, using(crate::proofs::Indexed::known_at, crate::proofs::Indexed::first_of_name))]
     pub fn first_of_name(&self, name: &[u8]) -> Option<NumberedTree>
-        ensures tree { IfSome result (λ tree. tree_of self.now name.now ≡ Ok tree) }
+        ensures tree { IfSome result (λ tree. tree_read self.now name.now ≡ Ok tree) }
         ensures declared { IfSome result (λ tree. tree.number < length self.now) }
         ensures other { IfNone result (IfSome (slice_get self.now 0) (λ tree. bytes_eq tree.name name.now ≡ false)) }
     {
@@ -89,7 +89,7 @@ impl Trees {
     /// The number of the tree of this name.
     #[tactic(auto, using(crate::proofs::Indexed::names_of_known, crate::proofs::Indexed::as_many))]
     pub fn place_of(&self, name: Word) -> Option<usize>
-        ensures place { result ≡ place_of self.now name }
+        ensures place { result ≡ declared_place self.now name }
         ensures declared { IfSome result (λ place. place < length self.now) }
     {
         self.kinds.get_index_of(&name)
@@ -110,7 +110,7 @@ impl Trees {
     /// The tree of this name.
     pub fn named(&self, name: Word) -> Option<NumberedTree>
         requires { length self.now < 2 ^ 32 }
-        ensures tree { result ≡ option_and_then (tree_at self.now) (place_of self.now name) }
+        ensures tree { result ≡ option_and_then (tree_at self.now) (declared_place self.now name) }
         ensures declared { IfSome result (λ tree. tree.number < length self.now) }
     {
         let place = self.place_of(name)?;
@@ -124,7 +124,7 @@ impl Trees {
     /// Declares one more tree.
     #[tactic(auto, using(crate::proofs::Indexed::one_more))]
     pub fn push(&mut self, tree: KnownTree) -> Result<(), AllocError>
-        requires new { place_of self.old tree.name ≡ None }
+        requires new { declared_place self.old tree.name ≡ None }
         ensures { OnOk result (self.new ≡ self.old ++ tree ∷ []) }
     {
         self.kinds.insert(tree.name, tree.kind)?;

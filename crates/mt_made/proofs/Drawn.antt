@@ -2,7 +2,7 @@
 use Rattle.std.proofs.Common.{ℕ, ◌*◌, ◌/◌, ◌^◌, ◌<◌, arith}
 use Rattle.std.proofs.Math.Nat.{div-lt_iff_lt-mul, mul-lt-mul_of_pos_right, mul_comm}
 use Rattle.std.proofs.lemmas.Nat.{mul-lt}
-use Rattle.mt_made.specs.Draws.{below, next_state}
+use Rattle.mt_made.specs.Draws.{draw_below, next_state}
 
 pub product_fits : (state count : ℕ) → state < 2 ^ 31 → count < 2 ^ 32 → state * count < 2 ^ 64
 product_fits state count small few = omega (arith, mul-lt state count (2 ^ 31) (2 ^ 32) small few)
@@ -15,6 +15,6 @@ drawn_below state count small some =
 pub state_below : (state : ℕ) → next_state state < 2 ^ 31
 state_below state = omega arith
 
-pub below_below : (count state : ℕ) → 0 < count → (below count state).0 < count
-unfolding below
+pub below_below : (count state : ℕ) → 0 < count → (draw_below count state).0 < count
+unfolding draw_below
 below_below count state some = drawn_below (next_state state) count (state_below state) some

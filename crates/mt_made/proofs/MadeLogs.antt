@@ -9,14 +9,14 @@ use Rattle.mt_base.specs.declared.calls.Query.TheVariants.{Load, Find}
 use Rattle.mt_base.specs.declared.kinds.Kind.TheVariants as kinds
 use Rattle.mt_log.specs.Phases.{IsInPlace}
 use Rattle.mt_log.specs.Reader.{HasTreeRoom}
-use Rattle.mt_log.specs.Reading.{Read, after_item, most_scan_steps, nothing_read, scan_steps_of}
-use Rattle.mt_log.specs.Trees.{IsReadable, NamesBelow, known_after, known_by, most_lanes}
+use Rattle.mt_log.specs.Reading.{ReadSoFar, after_item, most_scan_steps, nothing_read, scan_steps_of}
+use Rattle.mt_log.specs.Trees.{IsReadable, NamesBelow, known_after, tree_declared_by, most_lanes}
 use Rattle.mt_log.specs.declared.lines.Item.{Item}
 use Rattle.mt_log.specs.declared.lines.Item.TheVariants.{Tree, Lane, Write, Ask, Scan}
 use Rattle.mt_log.specs.declared.trees.KnownTree.{KnownTree}
 use Rattle.mt_log.proofs.Following.{CallSays, CanAllFollow, CanFollow, IsNumber, ItemSays, at_line}
 use Rattle.mt_log.proofs.Readable.{are_readable}
-use Rattle.mt_made.specs.Draws.{Drawing, below}
+use Rattle.mt_made.specs.Draws.{Drawing, draw_below}
 use Rattle.mt_made.specs.Made.{area_step, drawn_entry, drawn_size, index_step, lanes_from, last_index, made, numbered, step, step_by, steps, steps_of_lane, store_step}
 use Rattle.mt_made.proofs.Drawn.{below_below}
 use Rattle.mt_made.proofs.Numbered.{length-numbered}
@@ -28,7 +28,7 @@ record IsAnywhere (item : Item) : Type 0 where
   named : NamesBelow 1 item
   placed : (stepped : Bool) → IsInPlace stepped item
   room : (trees : List KnownTree) → HasTreeRoom trees item
-  known : (trees : List KnownTree) → known_by trees item ≡ None
+  known : (trees : List KnownTree) → tree_declared_by trees item ≡ None
   few : scan_steps_of item ≤ 4
   says : ItemSays item
 
@@ -42,7 +42,7 @@ all_append [] others h g = g
 all_append (item ∷ items) others h g = (h.0, all_append items others h.1 g)
 
 -- such lines can follow the declaration of one tree
-all_follow : (items : List Item) (r : Read) (number : ℕ) → AreAnywhere items → length r.trees ≡ 1 → r.next ≤ number → r.scanned + 4 * length items ≤ most_scan_steps → CanAllFollow r (numbered number items)
+all_follow : (items : List Item) (r : ReadSoFar) (number : ℕ) → AreAnywhere items → length r.trees ≡ 1 → r.next ≤ number → r.scanned + 4 * length items ≤ most_scan_steps → CanAllFollow r (numbered number items)
 unfolding AreAnywhere
 all_follow [] r number h one above room = tt
 all_follow (item ∷ items) r number h one above room =
@@ -74,13 +74,13 @@ store_anywhere : (x : ℕ) → IsAnywhere (store_step x).0
 unfolding store_step
 store_anywhere x =
     let first = below_below 4190000 x (omega arith) in
-    let small = size_is_small (below 4190000 x).1 in
-    let entry = entry_is_number (drawn_size (below 4190000 x).1).1 in
+    let small = size_is_small (draw_below 4190000 x).1 in
+    let entry = entry_is_number (drawn_size (draw_below 4190000 x).1).1 in
     call_anywhere _ (omega arith, omega arith, entry)
 
 index_anywhere : (item : ℕ → Item) → ((index : ℕ) → IsNumber index → IsAnywhere (item index)) → (x : ℕ) → IsAnywhere (index_step item x).0
 unfolding index_step
-index_anywhere item can x = let drawn = below_below 4194304 x (omega arith) in can (below 4194304 x).0 (omega arith)
+index_anywhere item can x = let drawn = below_below 4194304 x (omega arith) in can (draw_below 4194304 x).0 (omega arith)
 
 either : (b : Bool) (f g : Drawing Item) (x : ℕ) → IsAnywhere (f x).0 → IsAnywhere (g x).0 → IsAnywhere (cond b f g x).0
 either true f g x hf hg = hf
@@ -99,7 +99,7 @@ step_by_anywhere d x =
 
 step_anywhere : (x : ℕ) → IsAnywhere (step x).0
 unfolding step
-step_anywhere x = step_by_anywhere (below 16 x).0 (below 16 x).1
+step_anywhere x = step_by_anywhere (draw_below 16 x).0 (draw_below 16 x).1
 
 steps_anywhere : (count x : ℕ) → AreAnywhere (steps count x).0
 unfolding steps AreAnywhere
@@ -114,7 +114,7 @@ so_many_steps (suc count) x = ap (λ k. suc k) (so_many_steps count (step x).1)
 -- ---- lanes
 
 lane_anywhere : (lane : ℕ) → lane < most_lanes → IsAnywhere (Lane lane)
-lane_anywhere lane below = record { named = below; placed = λ stepped. tt; room = λ trees. tt; known = λ trees. refl; few = omega arith; says = tt }
+lane_anywhere lane draw_below = record { named = draw_below; placed = λ stepped. tt; room = λ trees. tt; known = λ trees. refl; few = omega arith; says = tt }
 
 lanes_anywhere : (count : ℕ → ℕ) (lane more x : ℕ) → lane + more ≤ most_lanes → AreAnywhere (lanes_from count lane more x).0
 unfolding lanes_from AreAnywhere

@@ -5,8 +5,8 @@ use Rattle.std.specs.Str.{bytes_eq}
 use Rattle.mt_made.specs.declared.summaries.Summary.{Summary}
 
 -- with one more entry of this word
-abbrev pub one_more : List ℕ → Summary → Summary
-one_more word s = record {
+abbrev pub with_one_counted : List ℕ → Summary → Summary
+with_one_counted word s = record {
   steps = s.steps;
   ok = (if bytes_eq word (codes "ok") then s.ok + 1 else s.ok);
   start = (if bytes_eq word (codes "start") then s.start + 1 else s.start);

@@ -12,8 +12,8 @@ abbrev pub next_state : ℕ → ℕ
 next_state state = (1103515245 * state + 12345) % 2 ^ 31
 
 -- a number below n
-unfoldable pub below : ℕ → Drawing ℕ
-below n state = ((next_state state * n) / 2 ^ 31, next_state state)
+unfoldable pub draw_below : ℕ → Drawing ℕ
+draw_below n state = ((next_state state * n) / 2 ^ 31, next_state state)
 
 -- this, with nothing drawn for it
 abbrev pub given : {A : Type 0} → A → Drawing A

@@ -9,7 +9,7 @@ use Rattle.mt_log.specs.declared.lines.Item.{Item}
 use Rattle.mt_log.specs.declared.lines.Item.TheVariants.{Tree, Lane, Write, Ask, Scan}
 use Rattle.mt_log.specs.declared.lines.Line.{Line}
 use Rattle.mt_log.specs.declared.lines.Log.{Log}
-use Rattle.mt_made.specs.Draws.{Drawing, below, given, ◌>>=◌}
+use Rattle.mt_made.specs.Draws.{Drawing, draw_below, given, ◌>>=◌}
 
 -- the greatest index that is asked for
 abbrev pub last_index : ℕ
@@ -17,10 +17,10 @@ last_index = 4194303
 
 -- an area's size and an entry
 unfoldable pub drawn_size : Drawing ℕ
-drawn_size = below 509 >>= λ s. given (s + 4)
+drawn_size = draw_below 509 >>= λ s. given (s + 4)
 
 unfoldable pub drawn_entry : Drawing ℕ
-drawn_entry = below 1000000 >>= λ e. given (e + 4096)
+drawn_entry = draw_below 1000000 >>= λ e. given (e + 4096)
 
 -- a step that stores an entry where there is room
 unfoldable pub area_step : (ℕ → ℕ → ℕ → ℕ → Call) → Drawing Item
@@ -32,7 +32,7 @@ area_step call = do
 -- a step that stores an entry over a range
 unfoldable pub store_step : Drawing Item
 store_step = do
-  first ← below 4190000
+  first ← draw_below 4190000
   size ← drawn_size
   entry ← drawn_entry
   given (Write 0 (Store first (first + size - 1) entry))
@@ -40,7 +40,7 @@ store_step = do
 -- a step at an index
 unfoldable pub index_step : (ℕ → Item) → Drawing Item
 index_step item = do
-  index ← below 4194304
+  index ← draw_below 4194304
   given (item index)
 
 -- the step that a number below 16 stands for
@@ -56,7 +56,7 @@ step_by d =
 
 unfoldable pub step : Drawing Item
 step = do
-  d ← below 16
+  d ← draw_below 16
   step_by d
 
 -- so many steps

@@ -38,23 +38,23 @@ said_word (Lawful count) = codes "lawful"
 said_word (Copied count) = codes "copied"
 
 -- how many entries tell this word
-abbrev pub times : List ℕ → List Entry → ℕ
-times word entries = count_by (λ e. bytes_eq (said_word e.said) word) entries
+abbrev pub times_told : List ℕ → List Entry → ℕ
+times_told word entries = count_by (λ e. bytes_eq (said_word e.said) word) entries
 
 -- what entries of a log of so many steps come to
 abbrev pub told : ℕ → List Entry → Summary
 told steps entries = record {
   steps = steps;
-  ok = times (codes "ok") entries;
-  start = times (codes "start") entries;
-  was = times (codes "was") entries;
-  none = times (codes "none") entries;
-  exists = times (codes "exists") entries;
-  invalid = times (codes "invalid") entries;
-  busy = times (codes "busy") entries;
-  nomem = times (codes "nomem") entries;
-  entry = times (codes "entry") entries;
-  range = times (codes "range") entries;
+  ok = times_told (codes "ok") entries;
+  start = times_told (codes "start") entries;
+  was = times_told (codes "was") entries;
+  none = times_told (codes "none") entries;
+  exists = times_told (codes "exists") entries;
+  invalid = times_told (codes "invalid") entries;
+  busy = times_told (codes "busy") entries;
+  nomem = times_told (codes "nomem") entries;
+  entry = times_told (codes "entry") entries;
+  range = times_told (codes "range") entries;
   ranges = 0;
 }
 

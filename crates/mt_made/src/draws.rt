@@ -25,7 +25,7 @@ impl Model for Draws {
 
 impl Draws {
     ghost use Rattle.std.specs.Prelude.{◌≡◌, ◌<◌, ◌^◌};
-    ghost use Rattle.mt_made.specs.Draws.{below};
+    ghost use Rattle.mt_made.specs.Draws.{draw_below};
 
     /// Draws from this number on.
     pub fn new(number: u32) -> Self
@@ -38,10 +38,10 @@ impl Draws {
     }
 
     /// A number below this one.
-    #[tactic(auto, using(crate::proofs::Drawn::drawn_below), unfolding(crate::specs::Draws::below))]
+    #[tactic(auto, using(crate::proofs::Drawn::drawn_below), unfolding(crate::specs::Draws::draw_below))]
     pub fn below(&mut self, count: u32) -> u64
         requires { 0 < count }
-        ensures drawn { (result, self.new) ≡ below count self.old }
+        ensures drawn { (result, self.new) ≡ draw_below count self.old }
         ensures below { result < count }
     {
         self.state = (MULTIPLIER * self.state + INCREMENT) % STATES;

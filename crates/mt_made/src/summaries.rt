@@ -51,7 +51,7 @@ impl fmt::Display for Summary {
 
 impl Summary {
     ghost use Rattle.std.specs.Prelude.{◌≡◌, ◌-◌, ◌^◌, []};
-    ghost use Rattle.mt_made.specs.Counting.{AreBelow, one_more};
+    ghost use Rattle.mt_made.specs.Counting.{AreBelow, with_one_counted};
     ghost use Rattle.mt_made.specs.Summary.{answer_word, reply_word, said_word, told};
 
     /// That of no entries.
@@ -76,7 +76,7 @@ impl Summary {
 
     fn add_reply(&mut self, reply: &Reply)
         requires { AreBelow (2 ^ 64 - 1) self.old }
-        ensures { self.new ≡ one_more (reply_word reply.now) self.old }
+        ensures { self.new ≡ with_one_counted (reply_word reply.now) self.old }
     {
         match reply {
             Reply::Ok | Reply::Over(_) => self.ok += 1,
@@ -92,7 +92,7 @@ impl Summary {
 
     fn add_answer(&mut self, answer: &Answer)
         requires { AreBelow (2 ^ 64 - 1) self.old }
-        ensures { self.new ≡ one_more (answer_word answer.now) self.old }
+        ensures { self.new ≡ with_one_counted (answer_word answer.now) self.old }
     {
         match answer {
             Answer::None => self.none += 1,
@@ -104,7 +104,7 @@ impl Summary {
     /// Counts one more entry.
     fn add(&mut self, said: &Said)
         requires { AreBelow (2 ^ 64 - 1) self.old }
-        ensures { self.new ≡ one_more (said_word said.now) self.old }
+        ensures { self.new ≡ with_one_counted (said_word said.now) self.old }
     {
         match said {
             Said::Wrote { reply, .. } => self.add_reply(reply),

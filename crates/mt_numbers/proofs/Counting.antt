@@ -13,7 +13,7 @@ use Rattle.mt_tree.specs.declared.shapes.Done.{Done}
 use Rattle.mt_tree.specs.declared.shapes.Worn.{Worn}
 use Rattle.mt_tree.specs.declared.trees.Tree.{Tree}
 use Rattle.mt_tree.specs.Trees.{limit_of, opened, IsWorn}
-use Rattle.mt_numbers.specs.Calls.{asking, count_of, gave_one, given_back_by, removed, start_of, started, taken_by, took_one, Asked, GaveBack, KnowsItsOwn}
+use Rattle.mt_numbers.specs.Calls.{asking, count_of, gave_one, given_back_by, removed, number_taken, started, taken_by, took_one, AskedForNumber, GaveBack, KnowsItsOwn}
 use Rattle.mt_numbers.proofs.Telling.{asked_tells, gave_tells}
 
 abbrev any : Record → Bool
@@ -77,13 +77,13 @@ taken_as None n n' more = omega arith
 taken_as (Some number) n n' more = more
 
 abbrev pub Took : Tree → Pass → Option ℕ → Pass → Type 0
-Took t p told q = Asked t p told q × MatchOption told (taken_by q ≡ taken_by p) (λ _. taken_by q ≡ taken_by p + 1) × (given_back_by q ≡ given_back_by p)
+Took t p told q = AskedForNumber t p told q × MatchOption told (taken_by q ≡ taken_by p) (λ _. taken_by q ≡ taken_by p + 1) × (given_back_by q ≡ given_back_by p)
 
 took_as : (t : Tree) (p q : Pass) (answer : Result Done Worn) → KnowsItsOwn p → (opened t).kind ≡ kinds.Alloc → IfOk answer (λ d. Wrote (opened t) p d.call asking d.reply q × (d.call ≤ limit_of t)) → IfErr answer (λ w. IsWorn t p w q) → Took t p (started answer) q
 took_as t p q (Ok d) own kind done worn =
     let given : given_back_by q ≡ given_back_by p + 0 = called gave_one (opened t) p q d.call asking d.reply own done.0 in (
       (Ok d, (done.0, asked_tells (opened t) p q d.call d.reply kind done.0)),
-      taken_as (start_of d.reply) (taken_by p) (taken_by q) (called took_one (opened t) p q d.call asking d.reply own done.0),
+      taken_as (number_taken d.reply) (taken_by p) (taken_by q) (called took_one (opened t) p q d.call asking d.reply own done.0),
       omega arith,
     )
 took_as t p q (Err w) own kind done worn = ((Err w, (worn, refl)), saw took_one (opened t) p q own worn.saw, saw gave_one (opened t) p q own worn.saw)

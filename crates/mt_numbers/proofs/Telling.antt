@@ -14,7 +14,7 @@ use Rattle.mt_base.specs.Map.{holding}
 use Rattle.mt_base.specs.Nodes.{Limits}
 use Rattle.mt_base.specs.Passes.{Pass, Wrote, with_records}
 use Rattle.mt_tree.proofs.Allocations.{last_is_answered}
-use Rattle.mt_numbers.specs.Calls.{asking, lowest_free, start_of, was_there, TellsLowest, TellsTaken}
+use Rattle.mt_numbers.specs.Calls.{asking, lowest_free, number_taken, was_there, TellsLowest, TellsTaken}
 use Rattle.mt_numbers.specs.declared.shared.TheConstants.{TAKEN}
 
 -- ---- the map before the last call
@@ -34,17 +34,17 @@ was_answered tree p q number call reply w =
 
 -- ---- a number that is asked for
 
-lowest_tells : (l : Limits) (m : List Range) (o : Option ℕ) → lowest_free m ≡ o → TellsLowest l m (placed m 1 TAKEN o).1 (start_of (placed m 1 TAKEN o).1)
+lowest_tells : (l : Limits) (m : List Range) (o : Option ℕ) → lowest_free m ≡ o → TellsLowest l m (placed m 1 TAKEN o).1 (number_taken (placed m 1 TAKEN o).1)
 lowest_tells l m None is = (is, refl)
 lowest_tells l m (Some number) is = (is, refl)
 
-asked_by : (l : Limits) (m : List Range) (kind : Kind) (r : Record) → kind ≡ kinds.Alloc → r.call ≡ asking → IsAnswered kind l m r → TellsLowest l m r.reply (start_of r.reply)
+asked_by : (l : Limits) (m : List Range) (kind : Kind) (r : Record) → kind ≡ kinds.Alloc → r.call ≡ asking → IsAnswered kind l m r → TellsLowest l m r.reply (number_taken r.reply)
 asked_by l m kind r is same (inl answered) =
     let reply : r.reply ≡ (acted kinds.Alloc m asking).1 = answered ∙ ap (λ (k : Kind). (acted k m r.call).1) is ∙ ap (λ (call : Call). (acted kinds.Alloc m call).1) same in
-    subst (λ (reply : Reply). TellsLowest l m reply (start_of reply)) (sym reply) (lowest_tells l m (lowest_free m) refl)
-asked_by l m kind r is same (inr refused) = subst (λ (reply : Reply). TellsLowest l m reply (start_of reply)) (sym refused.told) (refused.short, refl)
+    subst (λ (reply : Reply). TellsLowest l m reply (number_taken reply)) (sym reply) (lowest_tells l m (lowest_free m) refl)
+asked_by l m kind r is same (inr refused) = subst (λ (reply : Reply). TellsLowest l m reply (number_taken reply)) (sym refused.told) (refused.short, refl)
 
-pub asked_tells : (tree : History) (p q : Pass) (number : ℕ) (reply : Reply) → tree.kind ≡ kinds.Alloc → Wrote tree p number asking reply q → TellsLowest (limits_after tree (number - 1)) (map_at (with_records tree q.seen) (number - 1)) reply (start_of reply)
+pub asked_tells : (tree : History) (p q : Pass) (number : ℕ) (reply : Reply) → tree.kind ≡ kinds.Alloc → Wrote tree p number asking reply q → TellsLowest (limits_after tree (number - 1)) (map_at (with_records tree q.seen) (number - 1)) reply (number_taken reply)
 asked_tells tree p q number reply kind w = asked_by _ _ tree.kind (record { pass = p.number; call = asking; reply = reply }) kind refl (was_answered tree p q number asking reply w)
 
 -- ---- a number that is given back

@@ -21,12 +21,12 @@ use Rattle.mt_tree.specs.declared.trees.Tree.{Tree}
 use Rattle.mt_tree.specs.Trees.{opened, IsWorn}
 
 -- the number that was taken, where one was
-abbrev pub start_of : Reply → Option ℕ
-start_of (replies.Start number) = Some number
-start_of _ = None
+abbrev pub number_taken : Reply → Option ℕ
+number_taken (replies.Start number) = Some number
+number_taken _ = None
 
 abbrev pub started : Result Done Worn → Option ℕ
-started (Ok d) = start_of d.reply
+started (Ok d) = number_taken d.reply
 started (Err w) = None
 
 -- a number was given back
@@ -47,7 +47,7 @@ is_erase (calls.Erase index) = true
 is_erase _ = false
 
 abbrev pub took_one : Record → Bool
-took_one r = is_alloc r.call && is_some (start_of r.reply)
+took_one r = is_alloc r.call && is_some (number_taken r.reply)
 
 abbrev pub gave_one : Record → Bool
 gave_one r = is_erase r.call && was_there r.reply
@@ -97,14 +97,14 @@ abbrev pub map_before : Tree → ℕ → Pass → List Range
 map_before t number q = map_at (with_records (opened t) q.seen) (number - 1)
 
 -- The pass made this call, and was told so by its reply and the map before it; or the tree had no call left, and it was told so.
-abbrev pub Called : (Limits → List Range → Reply → Type 0) → Type 0 → Tree → Pass → Call → Pass → Result Done Worn → Type 0
-Called told spent t p call q (Ok d) = Wrote (opened t) p d.call call d.reply q × told (limits_after (opened t) (d.call - 1)) (map_before t d.call q) d.reply
-Called told spent t p call q (Err w) = IsWorn t p w q × spent
+abbrev pub IsAnsweredCall : (Limits → List Range → Reply → Type 0) → Type 0 → Tree → Pass → Call → Pass → Result Done Worn → Type 0
+IsAnsweredCall told spent t p call q (Ok d) = Wrote (opened t) p d.call call d.reply q × told (limits_after (opened t) (d.call - 1)) (map_before t d.call q) d.reply
+IsAnsweredCall told spent t p call q (Err w) = IsWorn t p w q × spent
 
 -- a pass asked for a number by one call, and was told this one
-abbrev pub Asked : Tree → Pass → Option ℕ → Pass → Type 0
-Asked t p told q = (answer : Result Done Worn) × Called (λ l m reply. TellsLowest l m reply told) (told ≡ None) t p asking q answer
+abbrev pub AskedForNumber : Tree → Pass → Option ℕ → Pass → Type 0
+AskedForNumber t p told q = (answer : Result Done Worn) × IsAnsweredCall (λ l m reply. TellsLowest l m reply told) (told ≡ None) t p asking q answer
 
 -- a pass gave a number back by one call, and was told whether it was taken
 abbrev pub GaveBack : Tree → Pass → ℕ → Bool → Pass → Type 0
-GaveBack t p number told q = (answer : Result Done Worn) × Called (λ l m reply. TellsTaken number l m reply told) (told ≡ false) t p (calls.Erase number) q answer
+GaveBack t p number told q = (answer : Result Done Worn) × IsAnsweredCall (λ l m reply. TellsTaken number l m reply told) (told ≡ false) t p (calls.Erase number) q answer

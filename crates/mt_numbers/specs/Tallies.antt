@@ -2,8 +2,8 @@
 -- Source: this project's own.
 use Rattle.std.specs.Prelude.{◌≡◌, ℕ, ◌+◌, ◌≤◌, List, ◌++◌, codes}
 use Rattle.std.specs.Fmt.{decimal}
-use Rattle.mt_numbers.specs.declared.crews.Outcome.{Outcome}
-use Rattle.mt_numbers.specs.declared.crews.Outcome.TheVariants.{Took, Read}
+use Rattle.mt_numbers.specs.declared.crews.ThreadOutcome.{ThreadOutcome}
+use Rattle.mt_numbers.specs.declared.crews.ThreadOutcome.TheVariants.{Took, Read}
 use Rattle.mt_numbers.specs.declared.readers.TheConstants.{READS}
 use Rattle.mt_numbers.specs.declared.takers.Tally.{Tally}
 
@@ -14,12 +14,12 @@ pub record Balances (held : ℕ) (t : Tally) : Type 0 where
   pub moments : t.clashes ≤ t.taken + t.given_back + t.lost
 
 -- From one tally to another just so many numbers were taken and given back as are told before and afterwards.
-pub record IsTold (t u : Tally) (took took' gave gave' : ℕ) : Type 0 where
+pub record IsTallied (t u : Tally) (took took' gave gave' : ℕ) : Type 0 where
   pub more : t.taken ≤ u.taken
   pub taken : took' + t.taken ≡ took + u.taken
   pub given_back : gave' + t.given_back ≡ gave + u.given_back
 
 -- the line of a thread, behind its number
-abbrev pub outcome_text : Outcome → List ℕ
-outcome_text (Took t) = codes "took " ++ decimal t.taken ++ codes " and gave " ++ decimal t.given_back ++ codes " back"
-outcome_text (Read faults) = codes "read all " ++ decimal READS ++ codes " times and saw " ++ decimal faults ++ codes " faults"
+abbrev pub thread_text : ThreadOutcome → List ℕ
+thread_text (Took t) = codes "took " ++ decimal t.taken ++ codes " and gave " ++ decimal t.given_back ++ codes " back"
+thread_text (Read faults) = codes "read all " ++ decimal READS ++ codes " times and saw " ++ decimal faults ++ codes " faults"

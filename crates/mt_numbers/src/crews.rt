@@ -3,12 +3,12 @@
 ghost use Rattle.std.specs.Prelude.{◌≡◌, All, Some};
 ghost use Rattle.mt_base.specs.declared.kinds.Kind.TheVariants.{Alloc};
 ghost use Rattle.mt_numbers.specs.Calls.{KnowsItsOwn};
-ghost use Rattle.mt_numbers.specs.Tallies.{outcome_text};
+ghost use Rattle.mt_numbers.specs.Tallies.{thread_text};
 ghost use Rattle.mt_tree.specs.Trees.{opened, pass_in, IsPassOf};
 
 use crate::marks::Marks;
 use crate::numbers::Numbers;
-use crate::readers::{READS, Reader};
+use crate::readers::{READS, ReadingThread};
 use crate::shared::{Caller, make};
 use crate::takers::{Taker, Tally};
 use mt_tree::{Pass, Tree};
@@ -27,7 +27,7 @@ const READERS: u32 = 2;
 #[derive(Drop)]
 pub enum Task<'a, N: Drop> {
     Take(Taker<N>),
-    Read(Reader<'a>),
+    Read(ReadingThread<'a>),
 }
 
 impl<'a, N: Numbers + Drop> Task<'a, N> {
@@ -44,10 +44,10 @@ impl<'a, N: Numbers + Drop> Task<'a, N> {
 }
 
 impl<'a, N: Drop> Task<'a, N> {
-    fn outcome(&self) -> Outcome {
+    fn outcome(&self) -> ThreadOutcome {
         match self {
-            Task::Take(taker) => Outcome::Took(taker.tally),
-            Task::Read(reader) => Outcome::Read {
+            Task::Take(taker) => ThreadOutcome::Took(taker.tally),
+            Task::Read(reader) => ThreadOutcome::Read {
                 faults: reader.faults,
             },
         }
@@ -56,30 +56,30 @@ impl<'a, N: Drop> Task<'a, N> {
 
 /// What came of a thread's task.
 #[derive(Clone, Copy)]
-pub enum Outcome {
+pub enum ThreadOutcome {
     Took(Tally),
     Read { faults: u32 },
 }
 
-impl Outcome {
+impl ThreadOutcome {
     /// How often a number was found held twice.
     fn twice(self) -> u64 {
         match self {
-            Outcome::Took(tally) => tally.clashes.saturating_add(tally.lost),
-            Outcome::Read { .. } => 0,
+            ThreadOutcome::Took(tally) => tally.clashes.saturating_add(tally.lost),
+            ThreadOutcome::Read { .. } => 0,
         }
     }
 }
 
-impl fmt::Display for Outcome {
-    ghost output = { λ outcome. Some (outcome_text outcome) };
+impl fmt::Display for ThreadOutcome {
+    ghost output = { λ outcome. Some (thread_text outcome) };
 
     fn fmt<W: fmt::Write>(&self, f: &mut fmt::Formatter<W>) -> fmt::Result {
         match self {
-            Outcome::Took(tally) => {
+            ThreadOutcome::Took(tally) => {
                 write!(f, "took {} and gave {} back", tally.taken, tally.given_back)
             }
-            Outcome::Read { faults } => {
+            ThreadOutcome::Read { faults } => {
                 write!(f, "read all {READS} times and saw {faults} faults")
             }
         }
@@ -100,7 +100,7 @@ pub fn run<R: Threads + Sync, N: Numbers + Drop + Send>(
 pub fn outcomes_of<N: Drop>(
     alloc: Global,
     tasks: &[Task<'_, N>],
-) -> Result<Vec<Outcome>, AllocError> {
+) -> Result<Vec<ThreadOutcome>, AllocError> {
     let mut outcomes = Vec::new(alloc);
     for task in tasks {
         outcomes.push(task.outcome())?;
@@ -111,7 +111,7 @@ pub fn outcomes_of<N: Drop>(
 /// What came of the threads' work, and how many numbers are taken in the end.
 #[derive(Drop)]
 pub struct Report {
-    pub outcomes: Vec<Outcome>,
+    pub outcomes: Vec<ThreadOutcome>,
     pub left: u64,
 }
 
@@ -148,7 +148,7 @@ fn tasks_of<'a, R: Wait>(
         let task = if tasks.len() < TAKERS as usize {
             Task::take(alloc, Caller::new(rt, tree, pass))?
         } else {
-            Task::Read(Reader::new(tree, pass))
+            Task::Read(ReadingThread::new(tree, pass))
         };
         tasks.push(task)?;
     }

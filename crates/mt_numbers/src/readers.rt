@@ -15,7 +15,7 @@ pub const READS: u32 = 50;
 
 /// A thread that reads, by a pass of the tree, and how often it saw what cannot be.
 #[derive(Drop)]
-pub struct Reader<'a> {
+pub struct ReadingThread<'a> {
     tree: &'a Tree,
     pass: Pass,
     pub faults: u32,
@@ -40,11 +40,11 @@ fn rises<L: Ledger>(cursor: &mut Cursor<'_>, steps: &mut Steps<L>) -> bool
     true
 }
 
-impl<'a> Reader<'a> {
+impl<'a> ReadingThread<'a> {
     pub fn new(tree: &'a Tree, pass: Pass) -> Self
         requires { IsPassOf tree.now pass }
     {
-        Reader {
+        ReadingThread {
             tree,
             pass,
             faults: 0,

@@ -3,7 +3,7 @@
 ghost use Rattle.std.specs.Prelude.{◌≡◌, All, IfOk};
 ghost use Rattle.mt_base.specs.declared.kinds.Kind.TheVariants.{Alloc};
 ghost use Rattle.mt_numbers.specs.Calls as defined;
-ghost use Rattle.mt_numbers.specs.Calls.{given_back_by, taken_by, Asked, GaveBack, KnowsItsOwn};
+ghost use Rattle.mt_numbers.specs.Calls.{given_back_by, taken_by, AskedForNumber, GaveBack, KnowsItsOwn};
 ghost use Rattle.mt_tree.specs.Trees.{opened, pass_in, IsPassOf};
 
 use crate::numbers::{NUMBERS, Numbers};
@@ -62,7 +62,7 @@ impl<'a, R: Wait> Numbers for Caller<'a, R> {
 
     ghost given_back = { λ caller. given_back_by (pass_in caller.pass) };
 
-    ghost asked = { λ caller told after. Asked caller.tree.now (pass_in caller.pass) told (pass_in after.pass) };
+    ghost asked = { λ caller told after. AskedForNumber caller.tree.now (pass_in caller.pass) told (pass_in after.pass) };
 
     ghost gave = { λ caller number told after. GaveBack caller.tree.now (pass_in caller.pass) number told (pass_in after.pass) };
 

@@ -15,7 +15,7 @@ use Rattle.mt_path.specs.declared.rows.Row.{Row}
 use Rattle.mt_path.specs.declared.rows.Found.{Found}
 use Rattle.mt_path.specs.Handles.{handle_in}
 use Rattle.mt_path.specs.Paths.{path_in, step_at, no_step, loads_in, loads_on}
-use Rattle.mt_path.specs.Walks.{row_for, found_span, IsFound, IsOnWay, IsAtEnd}
+use Rattle.mt_path.specs.Walks.{row_for, found_span, IsFoundSlot, IsOnWay, IsAtEnd}
 use Rattle.mt_path.proofs.Kept.{tree_kept}
 use Rattle.mt_path.proofs.Loads.{one_read, reads_more, reads_up, reads_next, loads_in-push, loads_in-some}
 use Rattle.mt_path.proofs.Ways as ways
@@ -46,9 +46,9 @@ module _ (s s' : Sheet) (kind : Kind) (tree : IsTreeOf s.tree kind) (index : ℕ
   pub reaches : index ≤ row.max
   reaches = ways.covers s.tree kind tree index within depth row way
 
-  module _ (found : Found) (at : IsFound s'.tree.table row index found) (s₁ : Sheet) (reads₁ : ReadsUpTo (found.step.slot + 1) s' s₁) where
-    there : IsFound s.tree.table row index found
-    there = subst (λ (t : Rooted). IsFound t.table row index found) same at
+  module _ (found : Found) (at : IsFoundSlot s'.tree.table row index found) (s₁ : Sheet) (reads₁ : ReadsUpTo (found.step.slot + 1) s' s₁) where
+    there : IsFoundSlot s.tree.table row index found
+    there = subst (λ (t : Rooted). IsFoundSlot t.table row index found) same at
 
     pub reads_row : ReadsUpTo (n + (found.step.slot + 1)) s s₁
     reads_row = reads_more n (found.step.slot + 1) s s' s₁ reads reads₁
@@ -120,7 +120,7 @@ module _ (s s' : Sheet) (kind : Kind) (tree : IsTreeOf s.tree kind) (index : ℕ
   pub shallow : length steps < deepest
   shallow = ways.shallow s.tree kind tree index within (length steps) row descends.way
 
-  module _ (found : Found) (at : IsFound s'.tree.table row index found) (s₁ : Sheet) (reads₁ : ReadsUpTo (found.step.slot + 1) s' s₁) (steps' : List PathStep) (pushed : steps' ≡ steps ++ (found.step ∷ [])) where
+  module _ (found : Found) (at : IsFoundSlot s'.tree.table row index found) (s₁ : Sheet) (reads₁ : ReadsUpTo (found.step.slot + 1) s' s₁) (steps' : List PathStep) (pushed : steps' ≡ steps ++ (found.step ∷ [])) where
     abbrev path : List PathStep
     path = path_in s.tree.table s.tree.root index
 
@@ -179,7 +179,7 @@ module _ (s s' : Sheet) (kind : Kind) (tree : IsTreeOf s.tree kind) (index : ℕ
   pub not_deepest : entered < deepest
   not_deepest = ways.shallow s.tree kind tree index within entered row passes.way
 
-  module _ (found : Found) (at : IsFound s'.tree.table row index found) (s₁ : Sheet) (reads₁ : ReadsUpTo (found.step.slot + 1) s' s₁)
+  module _ (found : Found) (at : IsFoundSlot s'.tree.table row index found) (s₁ : Sheet) (reads₁ : ReadsUpTo (found.step.slot + 1) s' s₁)
       (span : Span) (is : span ≡ found_span s₁.tree.table row.kind found) (s₂ : Sheet) (loads : s₂ ≡ loaded s₁) where
     reads₂ : ReadsUpTo (loads_on (take (entered + 1) (path_in s.tree.table s.tree.root index))) s s₂
     reads₂ =

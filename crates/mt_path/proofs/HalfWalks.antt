@@ -15,7 +15,7 @@ use Rattle.mt_path.specs.declared.rows.Found.{Found}
 use Rattle.mt_path.specs.Handles.{handle_in}
 use Rattle.mt_path.specs.Middles.{IsLawfulRow}
 use Rattle.mt_path.specs.Paths.{path_in, loads_in, loads_on}
-use Rattle.mt_path.specs.Walks.{row_for, found_span, IsFound, IsOnWay, EntersLeaf}
+use Rattle.mt_path.specs.Walks.{row_for, found_span, IsFoundSlot, IsOnWay, EntersLeaf}
 use Rattle.mt_path.proofs.Descents as descents
 use Rattle.mt_path.proofs.Kept.{tree_kept}
 use Rattle.mt_path.proofs.Loads.{no_reads, one_read, reads_more, reads_up, reads_next, loads_in-push}
@@ -59,15 +59,15 @@ module _ (s s' : Sheet) (kind : Kind) (tree : IsTreeOf s.tree kind) (index : ℕ
   pub is_lawful : IsLawfulRow s'.tree.table row
   is_lawful = subst (λ (t : Rooted). IsLawfulRow t.table row) (sym (tree_kept (2 * loads_on steps) s s' halves.reads)) (lawful_row s.tree kind tree index within (length steps) row halves.way)
 
-  module _ (found : Found) (at : IsFound s'.tree.table row index found) (s₁ : Sheet) (reads₁ : ReadsUpTo (found.step.slot + 2) s' s₁) where
+  module _ (found : Found) (at : IsFoundSlot s'.tree.table row index found) (s₁ : Sheet) (reads₁ : ReadsUpTo (found.step.slot + 2) s' s₁) where
     abbrev count : ℕ
     count = 2 * loads_on steps + (found.step.slot + 2)
 
     all : ReadsUpTo count s s₁
     all = reads_more (2 * loads_on steps) (found.step.slot + 2) s s' s₁ halves.reads reads₁
 
-    there : IsFound s₁.tree.table row index found
-    there = subst (λ (t : Rooted). IsFound t.table row index found) (sym (tree_kept (found.step.slot + 2) s' s₁ reads₁)) at
+    there : IsFoundSlot s₁.tree.table row index found
+    there = subst (λ (t : Rooted). IsFoundSlot t.table row index found) (sym (tree_kept (found.step.slot + 2) s' s₁ reads₁)) at
 
     none : ReadsUpTo (found.step.slot + 1) s₁ s₁
     none = reads_up 0 (found.step.slot + 1) s₁ s₁ (omega arith) (no_reads s₁)

@@ -13,7 +13,7 @@ use Rattle.mt_path.specs.declared.paths.PathStep.{PathStep}
 use Rattle.mt_path.specs.declared.rows.Row.{Row}
 use Rattle.mt_path.specs.declared.rows.Found.{Found}
 use Rattle.mt_path.specs.Paths.{slot_for, span_at}
-use Rattle.mt_path.specs.Walks.{IsFound}
+use Rattle.mt_path.specs.Walks.{IsFoundSlot}
 use Rattle.mt_path.proofs.Places.{slot_here, slot_behind}
 
 module _ (slots gaps : ℕ) (w : List ℕ) (base max : ℕ) where
@@ -114,21 +114,21 @@ module _ (t : Table) (row : Row) (index : ℕ) where
   abbrev pub PassedIn : ℕ → ℕ → Type 0
   PassedIn i first = Passed slots (gaps_of t.width row.kind) t.words (base_of t row.number) row.max row.min index i first
 
-  found_by : (i first last : ℕ) (found : Found) → i < slots → Ends slots (gaps_of t.width row.kind) t.words (base_of t row.number) row.max row.min index i first last → found ≡ found_of row i first last → IsFound t row index found
+  found_by : (i first last : ℕ) (found : Found) → i < slots → Ends slots (gaps_of t.width row.kind) t.words (base_of t row.number) row.max row.min index i first last → found ≡ found_of row i first last → IsFoundSlot t row index found
   found_by i first last found used ends is =
-      subst (IsFound t row index) (sym is)
+      subst (IsFoundSlot t row index) (sym is)
       (record { step = ap with_slot ends.slot; used = used; span = λ j. record { first = ends.from j; last = ends.to j; word = ends.word j } })
     where
       with_slot : ℕ → PathStep
       with_slot slot = record { row = row.number; slot = slot; min = row.min; max = row.max }
 
-  pub found_at_pivot : (i first pivot : ℕ) (found : Found) → i + 1 < slots → pivot ≡ column t row.number (1 + i) → index ≤ pivot → PassedIn i first → found ≡ found_of row i first pivot → IsFound t row index found
+  pub found_at_pivot : (i first pivot : ℕ) (found : Found) → i + 1 < slots → pivot ≡ column t row.number (1 + i) → index ≤ pivot → PassedIn i first → found ≡ found_of row i first pivot → IsFoundSlot t row index found
   found_at_pivot i first pivot found inner is within passed built =
       found_by i first (column t row.number (1 + i)) found (omega arith)
       (ends_at_pivot slots (gaps_of t.width row.kind) t.words (base_of t row.number) row.max row.min index i first inner (omega (arith, is)) passed)
       (built ∙ ap (found_of row i first) is)
 
-  pub found_at_last : (i first : ℕ) (found : Found) → i + 1 ≡ slots → index ≤ row.max → PassedIn i first → found ≡ found_of row i first row.max → IsFound t row index found
+  pub found_at_last : (i first : ℕ) (found : Found) → i + 1 ≡ slots → index ≤ row.max → PassedIn i first → found ≡ found_of row i first row.max → IsFoundSlot t row index found
   found_at_last i first found last within passed built =
       found_by i first row.max found (omega arith) (ends_at_last slots (gaps_of t.width row.kind) t.words (base_of t row.number) row.max row.min index i first last within passed) built
 

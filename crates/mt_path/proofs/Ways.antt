@@ -21,7 +21,7 @@ use Rattle.mt_path.specs.declared.rows.Row.{Row}
 use Rattle.mt_path.specs.declared.rows.Found.{Found}
 use Rattle.mt_path.specs.Handles.{leaf_spans, leaf_in}
 use Rattle.mt_path.specs.Paths.{slot_for, span_at, step_in, below, path_in, step_at, row_on}
-use Rattle.mt_path.specs.Walks.{row_as, row_for, spans_of, found_span, IsFound, IsOnWay, IsAtEnd}
+use Rattle.mt_path.specs.Walks.{row_as, row_for, spans_of, found_span, IsFoundSlot, IsOnWay, IsAtEnd}
 use Rattle.mt_path.proofs.Steps.{path_of_none, row_next}
 use Rattle.mt_path.proofs.TreePaths.{rooted, top_row, row_of, levels, step, place as place_of_row, lawful}
 
@@ -45,14 +45,14 @@ spans_same t x row is =
     let facts = named x row is in
     ap (spans_of t) facts.1 ∙ ap (λ (k : Option RowKind). spans_by t k x) (sym facts.0)
 
-step_same : (t : Table) (x : Span) (index : ℕ) (row : Row) (found : Found) → Some row ≡ row_for x → IsFound t row index found → found.step ≡ step_in t x index
+step_same : (t : Table) (x : Span) (index : ℕ) (row : Row) (found : Found) → Some row ≡ row_for x → IsFoundSlot t row index found → found.step ≡ step_in t x index
 step_same t x index row found is at =
     let facts = named x row is in
     let spans = spans_same t x row is in
     at.step ∙ (λ i. record { row = (facts.1 i).number; slot = slot_for (spans i) index; min = (facts.1 i).min; max = (facts.1 i).max })
 
 -- what stands where the index was found is what the path goes on with
-span_same : (t : Table) (x : Span) (index : ℕ) (row : Row) (found : Found) → Some row ≡ row_for x → IsFound t row index found → found_span t row.kind found ≡ below t x index
+span_same : (t : Table) (x : Span) (index : ℕ) (row : Row) (found : Found) → Some row ≡ row_for x → IsFoundSlot t row index found → found_span t row.kind found ≡ below t x index
 span_same t x index row found is at =
     let slot : found.step.slot ≡ slot_for (spans_of t row) index = ap (λ (s : PathStep). s.slot) at.step in
     at.span ∙ (ap (span_at (spans_of t row)) slot ∙ ap (λ (l : List Span). span_at l (slot_for l index)) (spans_same t x row is))
@@ -159,7 +159,7 @@ module _ (t : laws.Tree) (h : ℕ) (stands : laws.Stands t h) (index : ℕ) (wit
   inner_above : row.kind ≢ Leaf → depth < h
   inner_above other = inner_by (h - depth) refl other
 
-  module _ (found : Found) (at : IsFound t.table row index found) where
+  module _ (found : Found) (at : IsFoundSlot t.table row index found) where
     step_by : found.step ≡ step_at (path_in t.table t.root index) depth
     step_by = step_same t.table x index row found way.named at ∙ sym (step t h stands index depth within low)
 
@@ -223,7 +223,7 @@ module _ (t : Rooted) (kind : Kind) (tree : IsTreeOf t kind) (index : ℕ) (with
       let last = leaf_last (tree_as kind t) stands.0 stands.1 index within depth row way leaf in
       omega arith
 
-  module _ (found : Found) (at : IsFound t.table row index found) where
+  module _ (found : Found) (at : IsFoundSlot t.table row index found) where
     pub step_is : found.step ≡ step_at (path_in t.table t.root index) depth
     step_is = step_by (tree_as kind t) stands.0 stands.1 index within depth row way found at
 

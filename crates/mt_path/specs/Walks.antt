@@ -35,7 +35,7 @@ abbrev pub found_span : Table → RowKind → Found → Span
 found_span t kind found = record { first = found.first; last = found.last; word = slot_word t kind found.step.row found.step.slot }
 
 -- the step of an index in a row, and what stands in its slot
-pub record IsFound (t : Table) (row : Row) (index : ℕ) (found : Found) : Type 0 where
+pub record IsFoundSlot (t : Table) (row : Row) (index : ℕ) (found : Found) : Type 0 where
   pub step : found.step ≡ record { row = row.number; slot = slot_for (spans_of t row) index; min = row.min; max = row.max }
   pub used : found.step.slot < slots_of t.width row.kind
   pub span : found_span t row.kind found ≡ span_at (spans_of t row) found.step.slot

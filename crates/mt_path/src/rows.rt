@@ -8,7 +8,7 @@ ghost use Rattle.mt_layout.specs.Sizes.{slots_of};
 ghost use Rattle.mt_rows.specs.Publish.{IsTreeOf};
 ghost use Rattle.mt_rows.specs.Sheet.{IsPlace, ReadsUpTo, loaded};
 ghost use Rattle.mt_path.specs.Middles.{IsLawfulRow, IsPassed};
-ghost use Rattle.mt_path.specs.Walks.{row_for, found_span, IsFound, IsOnWay};
+ghost use Rattle.mt_path.specs.Walks.{row_for, found_span, IsFoundSlot, IsOnWay};
 
 use crate::paths::PathStep;
 use mt_base::top;
@@ -95,7 +95,7 @@ fn find_from<R: Rows>(rows: &mut R, row: Row, index: u64, from: u32, first: u64)
     requires index { index ≤ row.max }
     requires from { from < slots_of (R.sheet rows.old).tree.table.width row.kind }
     requires passed { IsPassed (R.sheet rows.old).tree.table row index from first }
-    ensures found { IsFound (R.sheet rows.old).tree.table row index result }
+    ensures found { IsFoundSlot (R.sheet rows.old).tree.table row index result }
     ensures reads { ReadsUpTo (result.step.slot + 1 - from) (R.sheet rows.old) (R.sheet rows.new) }
     ensures behind { from ≤ result.step.slot }
 {
@@ -115,7 +115,7 @@ fn find_from<R: Rows>(rows: &mut R, row: Row, index: u64, from: u32, first: u64)
 pub(crate) fn find_slot<R: Rows>(rows: &mut R, row: Row, index: u64) -> Found
     requires row { IsPlace (R.sheet rows.old).tree row.number 0 }
     requires index { index ≤ row.max }
-    ensures found { IsFound (R.sheet rows.old).tree.table row index result }
+    ensures found { IsFoundSlot (R.sheet rows.old).tree.table row index result }
     ensures reads { ReadsUpTo (result.step.slot + 1) (R.sheet rows.old) (R.sheet rows.new) }
 {
     find_from(rows, row, index, 0, row.min)
@@ -127,7 +127,7 @@ pub(crate) fn find_in_half<R: Rows>(rows: &mut R, row: Row, index: u64) -> Found
     requires row { IsPlace (R.sheet rows.old).tree row.number 0 }
     requires lawful { IsLawfulRow (R.sheet rows.old).tree.table row }
     requires index { index ≤ row.max }
-    ensures found { IsFound (R.sheet rows.old).tree.table row index result }
+    ensures found { IsFoundSlot (R.sheet rows.old).tree.table row index result }
     ensures reads { ReadsUpTo (result.step.slot + 2) (R.sheet rows.old) (R.sheet rows.new) }
 {
     let middle = slots(rows.width(), row.kind) / 2;

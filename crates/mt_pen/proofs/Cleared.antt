@@ -7,7 +7,7 @@ use Rattle.mt_rows.specs.declared.rows.Scan.{Scan}
 use Rattle.mt_rule.specs.declared.views.PenPart.{PenPart}
 use Rattle.mt_rule.specs.declared.views.PassPart.{PassPart}
 use Rattle.mt_rule.specs.Scans.{least_from, lesser}
-use Rattle.mt_rule.specs.Seats.{least_of}
+use Rattle.mt_rule.specs.Seats.{least_number}
 use Rattle.mt_rule.specs.Steps.{raised}
 use Rattle.mt_pen.specs.Scans.{cleared_from, AreWordsFrom}
 
@@ -33,21 +33,21 @@ all_of [] most each k = omega arith
 all_of (x ∷ xs) most each zero = each zero (omega arith)
 all_of (x ∷ xs) most each (suc k) = all_of xs most (λ j l. each (suc j) (omega (arith, l))) k
 
-least_below : (xs : List ℕ) (k : ℕ) → k < length xs → least_of xs ≤ slice_index xs k
+least_below : (xs : List ℕ) (k : ℕ) → k < length xs → least_number xs ≤ slice_index xs k
 least_below [] k l = absurd (omega arith)
 least_below (x ∷ []) zero l = omega arith
 least_below (x ∷ []) (suc k) l = absurd (omega arith)
 least_below (x ∷ y ∷ xs) zero l = omega arith
 least_below (x ∷ y ∷ xs) (suc k) l = omega (arith, least_below (y ∷ xs) k (omega arith))
 
-pub least_least : (xs : List ℕ) (m : ℕ) → 1 ≤ length xs → ((k : ℕ) → k < length xs → m ≤ slice_index xs k) → m ≤ least_of xs
+pub least_least : (xs : List ℕ) (m : ℕ) → 1 ≤ length xs → ((k : ℕ) → k < length xs → m ≤ slice_index xs k) → m ≤ least_number xs
 least_least [] m some each = absurd (omega arith)
 least_least (x ∷ []) m some each = each zero (omega arith)
 least_least (x ∷ y ∷ xs) m some each = let h : m ≤ x = each zero (omega arith) in
-    let t : m ≤ least_of (y ∷ xs) = least_least (y ∷ xs) m (omega arith) (λ k l. each (suc k) (omega (arith, l))) in omega (arith, h, t)
+    let t : m ≤ least_number (y ∷ xs) = least_least (y ∷ xs) m (omega arith) (λ k l. each (suc k) (omega (arith, l))) in omega (arith, h, t)
 
-pub least_kept : (xs ys : List ℕ) → length ys ≡ length xs → 1 ≤ length xs → ((k : ℕ) → slice_index xs k ≤ slice_index ys k) → least_of xs ≤ least_of ys
-least_kept xs ys same some each = least_least ys (least_of xs) (omega (arith, same)) (λ k l. let b : least_of xs ≤ slice_index xs k = least_below xs k (omega (arith, same, l)) in omega (arith, b, each k))
+pub least_kept : (xs ys : List ℕ) → length ys ≡ length xs → 1 ≤ length xs → ((k : ℕ) → slice_index xs k ≤ slice_index ys k) → least_number xs ≤ least_number ys
+least_kept xs ys same some each = least_least ys (least_number xs) (omega (arith, same)) (λ k l. let b : least_number xs ≤ slice_index xs k = least_below xs k (omega (arith, same, l)) in omega (arith, b, each k))
 
 -- ---- one word
 

@@ -25,7 +25,7 @@ use Rattle.mt_pen.proofs.Telling.{found_loaded, told_least}
 
 -- the shortage that the rows tell is one under the tree's limits
 found_short : (t : Identity) (p : PenPart) (q : known.Pass) (scan : Scan) (scans : ℕ) (call : Call) (reply : Reply) → IsWorked p scan scans
-    → rows.IsFoundShort p.shape.kind (sheet_worked t p q scan scans) call reply → ends.IsFoundShort p call reply
+    → rows.IsFoundShort p.shape.kind (sheet_worked t p q scan scans) call reply → ends.IsPenShort p call reply
 found_short t p q scan scans call reply w short = record {
   scan = scan;
   refused = record {
@@ -53,7 +53,7 @@ pub may_end : (t : Identity) (p : PenPart) (q : known.Pass) (scan : Scan) (scans
 may_end t p q scan scans kind call reply w may = record { in_flight = may.in_flight; quiet = λ e. quietly (may.kept e) }
   where
     answered : (acted p.shape.kind (map_by (rooted_in p)) call ≡ (map_by (rooted_in p), reply)) ⊎ rows.IsFoundShort p.shape.kind (sheet_worked t p q scan scans) call reply
-        → (acted p.shape.kind (map_by (rooted_in p)) call ≡ (map_by (rooted_in p), reply)) ⊎ ends.IsFoundShort p call reply
+        → (acted p.shape.kind (map_by (rooted_in p)) call ≡ (map_by (rooted_in p), reply)) ⊎ ends.IsPenShort p call reply
     answered (inl x) = inl x
     answered (inr x) = inr (found_short t p q scan scans call reply w x)
 

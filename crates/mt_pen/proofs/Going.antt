@@ -4,11 +4,11 @@ use Rattle.mt_rule.specs.declared.views.PenPart.{PenPart}
 use Rattle.mt_rule.specs.declared.views.PassPart.{PassPart}
 use Rattle.mt_rule.specs.declared.pens.Pen.{Pen}
 use Rattle.mt_rule.specs.Places.{section_word}
-use Rattle.mt_rule.specs.Tokens.{Identity, GoesOn}
+use Rattle.mt_rule.specs.Tokens.{Identity, KeepsPassOf}
 use Rattle.mt_rows.specs.declared.rows.Scan.{Scan}
 use Rattle.mt_pen.specs.Scans.{IsWordOf, HasScanned}
 
-pub goes_on : (t : Identity) (a b c : Pen) → GoesOn t a b → GoesOn t b c → GoesOn t a c
+pub goes_on : (t : Identity) (a b c : Pen) → KeepsPassOf t a b → KeepsPassOf t b c → KeepsPassOf t a c
 goes_on t a b c x y = record { of = y.of; joined = y.joined; pass = y.pass ∙ x.pass; turn = y.turn ∙ x.turn }
 
 pub word_here : (p p' : PenPart) (q q' : PassPart) (scan : Scan) (passes pass word : ℕ) → HasScanned p q p' scan passes → q' ≡ q

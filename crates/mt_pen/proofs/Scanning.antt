@@ -5,7 +5,7 @@ use Rattle.mt_rows.specs.declared.rows.Scan.{Scan}
 use Rattle.mt_rule.specs.declared.views.PenPart.{PenPart}
 use Rattle.mt_rule.specs.declared.views.PassPart.{PassPart}
 use Rattle.mt_rule.specs.declared.views.SectionWord.{SectionWord}
-use Rattle.mt_rule.specs.Scans.{least_from, lesser, none_open, scan_of, word_of, words_from, last_loaded, last_words, IsScanOf}
+use Rattle.mt_rule.specs.Scans.{least_from, lesser, none_open, scan_of, loaded_word, words_from, last_loaded, last_words, IsScanOf}
 use Rattle.mt_rule.specs.Steps.{pen_scanned, raised, with_loaded}
 use Rattle.mt_pen.specs.Scans.{cleared_from, loaded_from, IsWordOf, AreWordsFrom, HasScanned}
 use Rattle.std.specs.Prelude.{drop, slice_set, slice_index}
@@ -17,7 +17,7 @@ words_count : (pass : ℕ) (words : List ℕ) → length (words_from pass words)
 words_count pass [] = refl
 words_count pass (word ∷ words) = ap suc (words_count (pass + 1) words)
 
-words_back : (pass : ℕ) (words : List ℕ) → map word_of (words_from pass words) ≡ words
+words_back : (pass : ℕ) (words : List ℕ) → map loaded_word (words_from pass words) ≡ words
 words_back pass [] = refl
 words_back pass (word ∷ words) = ap (λ l. word ∷ l) (words_back (pass + 1) words)
 
@@ -26,7 +26,7 @@ is_scan before words passes scan count found =
     let all : List SectionWord = before ++ words_from 0 words in
     let long : length all ≡ length before + passes = length-append before (words_from 0 words) ∙ ap (λ n. length before + n) (words_count 0 words ∙ count) in
     let behind : last_loaded passes all ≡ words_from 0 words = ap (λ n. drop n all) (omega (arith, long)) ∙ drop-append_seam before (words_from 0 words) in
-    let same : last_words passes all ≡ words = ap (map word_of) behind ∙ words_back 0 words in
+    let same : last_words passes all ≡ words = ap (map loaded_word) behind ∙ words_back 0 words in
     record { many = omega (arith, long); turns = behind ∙ ap (words_from 0) (sym same); found = found ∙ ap scan_of (sym same) }
 
 -- ---- one word more

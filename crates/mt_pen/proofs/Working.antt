@@ -10,7 +10,7 @@ use Rattle.mt_rule.specs.declared.views.Moment.{Moment}
 use Rattle.mt_rule.specs.declared.views.PenPart.{PenPart}
 use Rattle.mt_rule.specs.declared.views.PassPart.{PassPart}
 use Rattle.mt_rule.specs.Scans.{none_open, scan_of}
-use Rattle.mt_rule.specs.Seats.{known_by, least_of}
+use Rattle.mt_rule.specs.Seats.{known_by, least_number}
 use Rattle.mt_rule.specs.Steps.{pen_drafted, pen_tended, pen_ended}
 use Rattle.mt_rule.specs.Tokens.{Identity}
 use Rattle.mt_pen.specs.Scans.{HasScanned, loaded_from, epoch_told, is_loaded}
@@ -80,12 +80,12 @@ worked_scan p q p' scan scan' scans scans' passes h all some w = subst (λ (x : 
   unscanned = λ none. absurd (omega (arith, none, some));
 })
 
-pub scan_kept : (p : PenPart) (q : PassPart) (p' : PenPart) (scan scan' : Scan) (scans passes : ℕ) → HasScanned p q p' scan' passes → IsWorked p scan scans → least_of p.cleared ≤ least_of p'.cleared
-scan_kept p q p' scan scan' scans passes h w = subst (λ (x : PenPart). least_of p.cleared ≤ least_of x.cleared) (sym h.pen)
+pub scan_kept : (p : PenPart) (q : PassPart) (p' : PenPart) (scan scan' : Scan) (scans passes : ℕ) → HasScanned p q p' scan' passes → IsWorked p scan scans → least_number p.cleared ≤ least_number p'.cleared
+scan_kept p q p' scan scan' scans passes h w = subst (λ (x : PenPart). least_number p.cleared ≤ least_number x.cleared) (sym h.pen)
     (least_kept p.cleared _ (cleared_count p.ended 0 h.words p.cleared) (omega (arith, w.passes, w.some_pass)) (cleared_kept p q 0 h.words p.cleared h.each (within p scan scans w)))
 
-pub scan_cleared : (p : PenPart) (q : PassPart) (p' : PenPart) (scan scan' : Scan) (scans passes : ℕ) → HasScanned p q p' scan' passes → passes ≡ p.shape.passes → IsWorked p scan scans → min scan'.least p.ended ≤ least_of p'.cleared
-scan_cleared p q p' scan scan' scans passes h all w = subst (λ (x : Scan). min x.least p.ended ≤ least_of p'.cleared) (sym h.found) (subst (λ (x : PenPart). min (scan_of h.words).least p.ended ≤ least_of x.cleared) (sym h.pen)
+pub scan_cleared : (p : PenPart) (q : PassPart) (p' : PenPart) (scan scan' : Scan) (scans passes : ℕ) → HasScanned p q p' scan' passes → passes ≡ p.shape.passes → IsWorked p scan scans → min scan'.least p.ended ≤ least_number p'.cleared
+scan_cleared p q p' scan scan' scans passes h all w = subst (λ (x : Scan). min x.least p.ended ≤ least_number p'.cleared) (sym h.found) (subst (λ (x : PenPart). min (scan_of h.words).least p.ended ≤ least_number x.cleared) (sym h.pen)
     (least_least _ _ (omega (arith, cleared_count p.ended 0 h.words p.cleared, w.passes, w.some_pass))
     (λ k l. cleared_low p q 0 h.words p.cleared none_open h.each (within p scan scans w) k (omega arith)
     (omega (arith, l, cleared_count p.ended 0 h.words p.cleared, w.passes, h.count, all)) (omega (arith, l, cleared_count p.ended 0 h.words p.cleared)))))

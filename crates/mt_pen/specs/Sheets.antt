@@ -6,7 +6,7 @@ use Rattle.mt_rows.specs.declared.rows.Scan.{Scan}
 use Rattle.mt_rows.specs.Sheet.{Sheet, Caller, Told}
 use Rattle.mt_rule.specs.declared.views.PenPart.{PenPart}
 use Rattle.mt_rule.specs.Scans.{none_open}
-use Rattle.mt_rule.specs.Seats.{records_of, sheet_of}
+use Rattle.mt_rule.specs.Seats.{records_of, pen_sheet}
 use Rattle.mt_rule.specs.Tokens.{Identity}
 
 -- a number that no other table has
@@ -21,7 +21,7 @@ told_of t p q = record { caller = caller_of t q; records = records_of p.history 
 
 -- the rows of a pen with which this pass is joined, and which has made no scan
 abbrev pub sheet_told : Identity → PenPart → known.Pass → Sheet
-sheet_told t p q = record (sheet_of p) { told = Some (told_of t p q) }
+sheet_told t p q = record (pen_sheet p) { told = Some (told_of t p q) }
 
 -- what the pass knows then
 abbrev pub shown_all : PenPart → known.Pass → known.Pass

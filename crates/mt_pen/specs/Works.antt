@@ -11,9 +11,9 @@ use Rattle.mt_rows.specs.Levels.{one_if}
 use Rattle.mt_rows.specs.Sheet.{HasDied, IsWhole, life_of}
 use Rattle.mt_rule.specs.declared.views.Shape.{Shape}
 use Rattle.mt_rule.specs.declared.views.PenPart.{PenPart}
-use Rattle.mt_rule.specs.Places.{size_of}
+use Rattle.mt_rule.specs.Places.{table_size}
 use Rattle.mt_rule.specs.Scans.{IsScanOf}
-use Rattle.mt_rule.specs.Seats.{least_of}
+use Rattle.mt_rule.specs.Seats.{least_number}
 use Rattle.mt_rule.specs.Tokens.{Identity}
 use Rattle.mt_pen.specs.Scans.{epoch_told, is_loaded}
 use Rattle.mt_pen.specs.Sheets.{sheet_worked}
@@ -29,7 +29,7 @@ OpensSmall shape = shape.opened ≤ length shape.opening / 2 + 2
 -- sections that were loaded are those of the last scan; where none was, no such word was loaded.
 pub record IsWorked (p : PenPart) (scan : Scan) (scans : ℕ) : Type 0 where
   pub rows : p.shape.rows ≤ most_rows
-  pub words : length p.words ≡ size_of (kind_width p.shape.kind) p.shape.rows
+  pub words : length p.words ≡ table_size (kind_width p.shape.kind) p.shape.rows
   pub lives : length p.lives ≡ first_row + p.shape.rows
   pub buried : length p.buried ≡ first_row + p.shape.rows
   pub dead : (row call : ℕ) → life_of p.lives row ≡ Dead call → (1 ≤ call) × (call ≤ p.ended + one_if p.in_flight)
@@ -50,7 +50,7 @@ died ended in_flight Draft by = tt
 died ended in_flight Live by = tt
 died ended in_flight (Dead call) by = by call refl
 
-least_most : (xs : List ℕ) (most : ℕ) → 1 ≤ length xs → ((k : ℕ) → k < length xs → slice_index xs k ≤ most) → least_of xs ≤ most
+least_most : (xs : List ℕ) (most : ℕ) → 1 ≤ length xs → ((k : ℕ) → k < length xs → slice_index xs k ≤ most) → least_number xs ≤ most
 least_most [] most some each = absurd (omega arith)
 least_most (x ∷ []) most some each = each 0 (omega (arith))
 least_most (x ∷ y ∷ xs) most some each = let h : x ≤ most = each 0 (omega arith) in omega (arith, h)

@@ -100,7 +100,7 @@ impl<'a, W: Writer, K: OfWidth> PenRows<'a, W, K> {
         ensures seen { HasSeenAll (pen_in result.0) (pass_in result.1) }
         ensures sound { IsSound (tree_in W.table) (pass_in result.1) }
         ensures dealt { (pen_in result.0).dealt ≡ W.table.shape.passes }
-        ensures whole { (extents : ℕ → Extent) × rule.IsSound extents (pen_in result.0) }
+        ensures whole { (extents : ℕ → Extent) × rule.IsSoundPen extents (pen_in result.0) }
 
         // The words of the last scan were loaded last; where none was made no section word was loaded.
         ensures scanned { 1 ≤ (⟦<PenRows<'a, W, K> as Rows>⟧.sheet self.entry).scans → IsScanOf (pen_in result.0).sections W.table.shape.passes (⟦<PenRows<'a, W, K> as Rows>⟧.sheet self.entry).scan }

@@ -1,7 +1,7 @@
 //! Loads of all section words.
 
 ghost use Rattle.std.specs.Prelude.{◌≡◌, ◌<◌};
-ghost use Rattle.mt_rule.specs.Tokens.{identity_of, pen_in, IsPenOf, IsJoined, GoesOn, joined_part};
+ghost use Rattle.mt_rule.specs.Tokens.{identity_of, pen_in, IsPenOf, IsJoined, KeepsPassOf, joined_part};
 ghost use Rattle.mt_rule.specs.Scans.{lesser};
 ghost use Rattle.mt_pen.specs.Scans.{HasScanned};
 
@@ -28,7 +28,7 @@ fn lesser(pass: u32, word: u64, scan: Scan) -> Scan
 pub(crate) fn scan_sections(table: &MtTable, pen: &mut Pen) -> Scan
     requires pen { IsPenOf (identity_of table.now) pen.old }
     requires joined { IsJoined pen.old }
-    ensures on { GoesOn (identity_of table.now) pen.old pen.new }
+    ensures on { KeepsPassOf (identity_of table.now) pen.old pen.new }
     ensures scanned { HasScanned (pen_in pen.old) (joined_part pen.old) (pen_in pen.new) result (identity_of table.now).shape.passes }
 {
     let mut scan = Scan {

@@ -9,7 +9,7 @@ use Rattle.mt_log.specs.declared.lines.Item.TheVariants.{Tree, Lane, Join, Dup, 
 use Rattle.mt_log.specs.declared.lines.Line.{Line}
 use Rattle.mt_log.specs.Trees.{IsReadable, NamesBelow, trees_of}
 use Rattle.mt_runs.proofs.Stretches.{line_named, line_placed, line_lane}
-use Rattle.mt_plain.specs.Playing.{TreeState, PlayerState, Does, AreBoth, Holds, IsOf, IsPlayed, IsCalledWithin}
+use Rattle.mt_plain.specs.Playing.{TreeState, PlayerState, Does, AreBoth, HasHistory, IsDeclaredSo, IsPlayed, IsCalledWithin}
 use Rattle.mt_plain.proofs.PlayedLines.{both_get, line_played}
 
 -- ---- calls
@@ -38,7 +38,7 @@ module _ (rows : ℕ) (lines : List Line) (count : ℕ) (old new : PlayerState) 
   one_call_at_most number Join is = as_they_were (ap (λ (p : PlayerState). p.trees) is)
   one_call_at_most number (Dup from name) does =
       let so_far = played.2 in
-      let (h, (at, holds)) = both_get Holds old.trees played.1 from does.source so_far.held does.from_is in
+      let (h, (at, holds)) = both_get HasHistory old.trees played.1 from does.source so_far.held does.from_is in
       let new_tree = does.declared h holds.limits in
       one_added does.copy does.trees new_tree.map.unused new_tree.calls
   one_call_at_most number (Check tree) does = as_they_were does.trees
@@ -68,7 +68,7 @@ module _ (rows : ℕ) (lines : List Line) (i : ℕ) (line : Line) (readable : Is
 
   pub names_known : (player : PlayerState) → IsPlayed rows (take i lines) player → NamesBelow (length player.trees) line.item
   names_known player (steps, trees, so_far) =
-      subst (λ (n : ℕ). NamesBelow n line.item) (sym (both_long IsOf player.trees (trees_of (take i lines)) so_far.declared)) (line_named (take i lines) (drop (suc i) lines) line parted)
+      subst (λ (n : ℕ). NamesBelow n line.item) (sym (both_long IsDeclaredSo player.trees (trees_of (take i lines)) so_far.declared)) (line_named (take i lines) (drop (suc i) lines) line parted)
 
   pub one_more_played : (old new : PlayerState) → old.rows ≡ rows → Does old.rows old new line.number line.item → IsPlayed rows (take i lines) old → IsPlayed rows (take (i + 1) lines) new
   one_more_played old new same does played =

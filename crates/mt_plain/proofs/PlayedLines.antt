@@ -20,15 +20,15 @@ use Rattle.mt_log.specs.declared.transcripts.Said.TheVariants as said
 use Rattle.mt_log.specs.declared.transcripts.Transcript.{Transcript}
 use Rattle.mt_log.specs.declared.trees.KnownTree.{KnownTree}
 use Rattle.mt_log.specs.Phases.{IsInPlace, phase_after, stepped_after, stepped_from}
-use Rattle.mt_log.specs.Run.{Asked, Step, Called, Looked, Counted, GoesOn, IsScan, AreDone, IsRun, entry_of, find_at, listings_of, place_behind, place_within, shown, steps_of}
+use Rattle.mt_log.specs.Run.{Asked, Step, Called, Looked, Counted, ScanGoesOnFrom, AreScanSteps, AreDone, IsRun, entry_of, find_at, listings_of, place_behind, place_within, shown, steps_of}
 use Rattle.mt_log.specs.Trees.{Declared, Empty, CopyOf, declared_by, most_lanes, renamed, trees_of}
 use Rattle.mt_runs.specs.Lines.{asked_by, lane_behind, phase_behind}
-use Rattle.mt_runs.specs.OneThread.{HasPlayed, MayLimit, IsNext, step_in, with_call}
+use Rattle.mt_runs.specs.OneThread.{HasPlayed, MayLimit, IsNext, step_of_line, with_call}
 use Rattle.mt_runs.specs.Phases.{new_history}
 use Rattle.mt_runs.proofs.Answered.{made_is_next, limits_next}
 use Rattle.mt_runs.proofs.Played.{call_played, count_played, phase_played, read_played, tree_played, copy_played, nothing_played, as_declared, as_large, played_is_run}
 use Rattle.mt_runs.proofs.Stretches.{asked_more, trees_more, phase_more, stepped_more, done_append}
-use Rattle.mt_plain.specs.Playing.{TreeState, PlayerState, Copies, Checks, Calls, Does, AreBoth, Holds, IsOf, IsPlayedBy, IsPlayed, with_entry, read_entry, scan_entries, entries_behind, listing_of}
+use Rattle.mt_plain.specs.Playing.{TreeState, PlayerState, Copies, Checks, Calls, Does, AreBoth, HasHistory, IsDeclaredSo, IsPlayedBy, IsPlayed, with_entry, read_entry, scan_entries, entries_behind, listing_of}
 
 -- ---- two lists, place by place
 
@@ -85,7 +85,7 @@ module _ (rows : ℕ) (lines : List Line) (old : PlayerState) (steps : List Step
 
   next : (line : Line) (new : PlayerState) (more : List Step) (trees' : List History)
       → HasPlayed most_lanes rows (phase_after phase line.item) (stepped_after stepped line.item) (declared ++ option_to_list (declared_by declared phase line.item)) (steps ++ more) trees'
-      → AreDone (asked_by lane phase line) more → new.entries ≡ old.entries ++ map entry_of more → AreBoth IsOf new.trees (declared ++ option_to_list (declared_by declared phase line.item)) → AreBoth Holds new.trees trees'
+      → AreDone (asked_by lane phase line) more → new.entries ≡ old.entries ++ map entry_of more → AreBoth IsDeclaredSo new.trees (declared ++ option_to_list (declared_by declared phase line.item)) → AreBoth HasHistory new.trees trees'
       → IsPlayed rows (lines ++ line ∷ []) new
   next line new more trees' played done told of holds = (
     steps ++ more,
@@ -97,7 +97,7 @@ module _ (rows : ℕ) (lines : List Line) (old : PlayerState) (steps : List Step
           (subst (λ (ds : List Declared). HasPlayed most_lanes rows (phase_after phase line.item) (stepped_after stepped line.item) ds (steps ++ more) trees') (sym (trees_more lines line)) played));
       done = subst (λ (asked : List Asked). AreDone asked (steps ++ more)) (sym (asked_more lines line)) (done_append (steps_of lines) (asked_by lane phase line) steps more so_far.done done);
       told = told ∙ (ap (λ (es : List Entry). es ++ map entry_of more) so_far.told ∙ sym (map-append entry_of steps more));
-      declared = subst (AreBoth IsOf new.trees) (sym (trees_more lines line)) of;
+      declared = subst (AreBoth IsDeclaredSo new.trees) (sym (trees_more lines line)) of;
       held = holds;
     },
   )
@@ -106,8 +106,8 @@ module _ (rows : ℕ) (lines : List Line) (old : PlayerState) (steps : List Step
   no_more ds stepped' phase' trees' played = subst (λ (ss : List Step). HasPlayed most_lanes rows phase' stepped' ds ss trees') (sym (append-nil steps)) played
 
   -- as the trees were
-  same_declared : AreBoth IsOf old.trees (declared ++ [])
-  same_declared = subst (AreBoth IsOf old.trees) (sym (append-nil declared)) so_far.declared
+  same_declared : AreBoth IsDeclaredSo old.trees (declared ++ [])
+  same_declared = subst (AreBoth IsDeclaredSo old.trees) (sym (append-nil declared)) so_far.declared
 
   undeclared : (phase' : ℕ) (stepped' : Bool) (steps' : List Step) (trees' : List History) → HasPlayed most_lanes rows phase' stepped' declared steps' trees' → HasPlayed most_lanes rows phase' stepped' (declared ++ []) steps' trees'
   undeclared phase' stepped' steps' trees' played = subst (λ (ds : List Declared). HasPlayed most_lanes rows phase' stepped' ds steps' trees') (sym (append-nil declared)) played
@@ -121,21 +121,21 @@ module _ (rows : ℕ) (lines : List Line) (old : PlayerState) (steps : List Step
       (no_more (declared ++ record { tree = record { name = name; kind = kind }; opening = Empty } ∷ []) stepped phase (trees ++ new_history kind rows [] ∷ []) (tree_played most_lanes rows phase stepped declared steps trees (record { name = name; kind = kind }) so_far.played))
       refl
       (ap (λ (p : PlayerState). p.entries) is ∙ silent old.entries)
-      (subst (λ (ts : List TreeState). AreBoth IsOf ts (declared ++ record { tree = record { name = name; kind = kind }; opening = Empty } ∷ [])) (sym (ap (λ (p : PlayerState). p.trees) is))
-      (both_push IsOf old.trees declared t (record { tree = record { name = name; kind = kind }; opening = Empty }) so_far.declared (record { name = new_tree.name_is; kind = new_tree.kind_is })))
-      (subst (λ (ts : List TreeState). AreBoth Holds ts (trees ++ new_history kind rows [] ∷ [])) (sym (ap (λ (p : PlayerState). p.trees) is))
-      (both_push Holds old.trees trees t (new_history kind rows []) so_far.held (record { kind = new_tree.map.kind_is; ranges = new_tree.map.opening; limits = new_tree.map.limits; calls = new_tree.calls })))
+      (subst (λ (ts : List TreeState). AreBoth IsDeclaredSo ts (declared ++ record { tree = record { name = name; kind = kind }; opening = Empty } ∷ [])) (sym (ap (λ (p : PlayerState). p.trees) is))
+      (both_push IsDeclaredSo old.trees declared t (record { tree = record { name = name; kind = kind }; opening = Empty }) so_far.declared (record { name = new_tree.name_is; kind = new_tree.kind_is })))
+      (subst (λ (ts : List TreeState). AreBoth HasHistory ts (trees ++ new_history kind rows [] ∷ [])) (sym (ap (λ (p : PlayerState). p.trees) is))
+      (both_push HasHistory old.trees trees t (new_history kind rows []) so_far.held (record { kind = new_tree.map.kind_is; ranges = new_tree.map.opening; limits = new_tree.map.limits; calls = new_tree.calls })))
 
   lane_line : (number other : ℕ) (new : PlayerState) → new ≡ old → IsPlayed rows (lines ++ record { number = number; item = Lane other } ∷ []) new
   lane_line number other new is =
       next (record { number = number; item = Lane other }) new [] trees (no_more (declared ++ []) stepped phase trees (undeclared phase stepped steps trees so_far.played)) refl
-      (ap (λ (p : PlayerState). p.entries) is ∙ silent old.entries) (subst (λ (p : PlayerState). AreBoth IsOf p.trees (declared ++ [])) (sym is) same_declared) (subst (λ (p : PlayerState). AreBoth Holds p.trees trees) (sym is) so_far.held)
+      (ap (λ (p : PlayerState). p.entries) is ∙ silent old.entries) (subst (λ (p : PlayerState). AreBoth IsDeclaredSo p.trees (declared ++ [])) (sym is) same_declared) (subst (λ (p : PlayerState). AreBoth HasHistory p.trees trees) (sym is) so_far.held)
 
   join_line : (number : ℕ) (new : PlayerState) → new ≡ old → IsPlayed rows (lines ++ record { number = number; item = Join } ∷ []) new
   join_line number new is =
       next (record { number = number; item = Join }) new [] trees
       (no_more (declared ++ []) false (phase + 1) trees (undeclared (phase + 1) false steps trees (phase_played most_lanes rows phase stepped declared steps trees so_far.played))) refl
-      (ap (λ (p : PlayerState). p.entries) is ∙ silent old.entries) (subst (λ (p : PlayerState). AreBoth IsOf p.trees (declared ++ [])) (sym is) same_declared) (subst (λ (p : PlayerState). AreBoth Holds p.trees trees) (sym is) so_far.held)
+      (ap (λ (p : PlayerState). p.entries) is ∙ silent old.entries) (subst (λ (p : PlayerState). AreBoth IsDeclaredSo p.trees (declared ++ [])) (sym is) same_declared) (subst (λ (p : PlayerState). AreBoth HasHistory p.trees trees) (sym is) so_far.held)
 
   -- ---- trees are counted and copied before the first step of a phase
 
@@ -148,20 +148,20 @@ module _ (rows : ℕ) (lines : List Line) (old : PlayerState) (steps : List Step
 
     check_line : (number tree : ℕ) (new : PlayerState) → Checks old new number tree → IsPlayed rows (lines ++ record { number = number; item = Check tree } ∷ []) new
     check_line number tree new does =
-        let (h, (at, holds)) = both_get Holds old.trees trees tree does.checked so_far.held does.tree_is in
-        let s : Step = step_in phase 0 number tree (Counted said.Lawful (last_map h)) in
+        let (h, (at, holds)) = both_get HasHistory old.trees trees tree does.checked so_far.held does.tree_is in
+        let s : Step = step_of_line phase 0 number tree (Counted said.Lawful (last_map h)) in
         next (record { number = number; item = Check tree }) new (s ∷ []) trees
         (undeclared phase stepped (steps ++ s ∷ []) trees (back declared (steps ++ s ∷ []) trees (count_played most_lanes rows phase declared steps trees number tree h said.Lawful at_first at)))
         (s ∷ [], [], refl, (last_map h, refl), refl)
         (does.told ∙ ap (λ (m : List Range). with_entry old number (said.Lawful (length m))) holds.ranges)
-        (subst (λ (ts : List TreeState). AreBoth IsOf ts (declared ++ [])) (sym does.trees) same_declared)
-        (subst (λ (ts : List TreeState). AreBoth Holds ts trees) (sym does.trees) so_far.held)
+        (subst (λ (ts : List TreeState). AreBoth IsDeclaredSo ts (declared ++ [])) (sym does.trees) same_declared)
+        (subst (λ (ts : List TreeState). AreBoth HasHistory ts trees) (sym does.trees) so_far.held)
 
     copy_line : (number from : ℕ) (name : Word) (new : PlayerState) → Copies old new number from name → IsPlayed rows (lines ++ record { number = number; item = Dup from name } ∷ []) new
     copy_line number from name new does =
-        let (h, (at, holds)) = both_get Holds old.trees trees from does.source so_far.held does.from_is in
-        let (d, (at_d, of)) = both_get IsOf old.trees declared from does.source so_far.declared does.from_is in
-        let s : Step = step_in phase 0 number from (Counted said.Copied (last_map h)) in
+        let (h, (at, holds)) = both_get HasHistory old.trees trees from does.source so_far.held does.from_is in
+        let (d, (at_d, of)) = both_get IsDeclaredSo old.trees declared from does.source so_far.declared does.from_is in
+        let s : Step = step_of_line phase 0 number from (Counted said.Copied (last_map h)) in
         let known : KnownTree = renamed name d.tree in
         let added : Declared = record { tree = known; opening = CopyOf from phase } in
         let one : option_to_list (declared_by declared phase (Dup from name)) ≡ added ∷ [] =
@@ -178,37 +178,37 @@ module _ (rows : ℕ) (lines : List Line) (old : PlayerState) (steps : List Step
         (subst (λ (ds : List Declared). HasPlayed most_lanes rows phase stepped (declared ++ ds) (steps ++ s ∷ []) (trees ++ history ∷ [])) (sym one) (back (declared ++ added ∷ []) (steps ++ s ∷ []) (trees ++ history ∷ []) copied))
         (s ∷ [], [], refl, (last_map h, refl), refl)
         (does.told ∙ ap (λ (m : List Range). with_entry old number (said.Copied (length m))) holds.ranges)
-        (subst (λ (ds : List Declared). AreBoth IsOf new.trees (declared ++ ds)) (sym one) (subst (λ (ts : List TreeState). AreBoth IsOf ts (declared ++ added ∷ [])) (sym does.trees)
-        (both_push IsOf old.trees declared does.copy added so_far.declared (record { name = new_tree.name_is; kind = new_tree.kind_is ∙ of.kind }))))
-        (subst (λ (ts : List TreeState). AreBoth Holds ts (trees ++ history ∷ [])) (sym does.trees)
-        (both_push Holds old.trees trees does.copy history so_far.held (record { kind = new_tree.map.kind_is ∙ of.kind; ranges = new_tree.map.opening ∙ holds.ranges; limits = limits; calls = new_tree.calls })))
+        (subst (λ (ds : List Declared). AreBoth IsDeclaredSo new.trees (declared ++ ds)) (sym one) (subst (λ (ts : List TreeState). AreBoth IsDeclaredSo ts (declared ++ added ∷ [])) (sym does.trees)
+        (both_push IsDeclaredSo old.trees declared does.copy added so_far.declared (record { name = new_tree.name_is; kind = new_tree.kind_is ∙ of.kind }))))
+        (subst (λ (ts : List TreeState). AreBoth HasHistory ts (trees ++ history ∷ [])) (sym does.trees)
+        (both_push HasHistory old.trees trees does.copy history so_far.held (record { kind = new_tree.map.kind_is ∙ of.kind; ranges = new_tree.map.opening ∙ holds.ranges; limits = limits; calls = new_tree.calls })))
 
   -- ---- calls and reads
 
   module _ (known_lane : lane < most_lanes) where
     call_line : (number tree : ℕ) (call : Call) (new : PlayerState) → Calls old new number tree call → IsPlayed rows (lines ++ record { number = number; item = Write tree call } ∷ []) new
     call_line number tree call new does =
-        let (h, (at, holds)) = both_get Holds old.trees trees tree does.before so_far.held does.tree_is in
+        let (h, (at, holds)) = both_get HasHistory old.trees trees tree does.before so_far.held does.tree_is in
         let r : Record = record { pass = lane; call = call; reply = does.reply } in
         let made : IsMade h.kind does.before.map.limits (last_map h) call does.after.map.ranges does.reply = subst (λ (m : List Range). IsMade h.kind does.before.map.limits m call does.after.map.ranges does.reply) holds.ranges
         (subst (λ (k : Kind). IsMade k does.before.map.limits does.before.map.ranges call does.after.map.ranges does.reply) holds.kind does.called.made) in
         let is_next : IsNext h r does.after.map.ranges = made_is_next h does.before.map.limits lane call does.after.map.ranges does.reply holds.limits made in
-        let s : Step = step_in phase lane number tree (Called (length h.records + 1) call does.reply) in
+        let s : Step = step_of_line phase lane number tree (Called (length h.records + 1) call does.reply) in
         let limits : MayLimit (with_call h r) does.after.map.limits = subst (λ (l : Option Limits). MayLimit (with_call h r) l) (sym does.called.limits) (limits_next h does.before.map.limits r holds.limits) in
         next (record { number = number; item = Write tree call }) new (s ∷ []) (slice_set trees tree (with_call h r))
         (undeclared phase true (steps ++ s ∷ []) (slice_set trees tree (with_call h r)) (call_played most_lanes rows phase stepped declared steps trees lane number tree h call does.reply does.after.map.ranges so_far.played at known_lane is_next))
         (s ∷ [], [], refl, (length h.records + 1, does.reply, refl), refl)
         (does.told ∙ ap (λ (n : ℕ). with_entry old number (said.Wrote (n + 1) does.reply)) holds.calls)
-        (subst (AreBoth IsOf new.trees) (sym (append-nil declared)) (subst (λ (ts : List TreeState). AreBoth IsOf ts declared) (sym does.trees)
-        (both_kept IsOf old.trees declared tree does.before does.after so_far.declared does.tree_is (λ d of. record { name = does.called.name ∙ of.name; kind = does.called.kind ∙ of.kind }))))
-        (subst (λ (ts : List TreeState). AreBoth Holds ts (slice_set trees tree (with_call h r))) (sym does.trees)
-        (both_set Holds old.trees trees tree does.after (with_call h r) so_far.held
+        (subst (AreBoth IsDeclaredSo new.trees) (sym (append-nil declared)) (subst (λ (ts : List TreeState). AreBoth IsDeclaredSo ts declared) (sym does.trees)
+        (both_kept IsDeclaredSo old.trees declared tree does.before does.after so_far.declared does.tree_is (λ d of. record { name = does.called.name ∙ of.name; kind = does.called.kind ∙ of.kind }))))
+        (subst (λ (ts : List TreeState). AreBoth HasHistory ts (slice_set trees tree (with_call h r))) (sym does.trees)
+        (both_set HasHistory old.trees trees tree does.after (with_call h r) so_far.held
         (record { kind = does.called.map_kind ∙ holds.kind; ranges = is_next.moved; limits = limits; calls = omega (arith, does.called.calls, holds.calls, length-append h.records (r ∷ [])) })))
 
     read_step : ℕ → ℕ → History → Query → Step
-    read_step number tree h query = step_in phase lane number tree (Looked (length h.records) (length h.records) (length h.records) query (answer (last_map h) query))
+    read_step number tree h query = step_of_line phase lane number tree (Looked (length h.records) (length h.records) (length h.records) query (answer (last_map h) query))
 
-    module _ (number tree : ℕ) (t : TreeState) (h : History) (at : slice_get trees tree ≡ Some h) (holds : Holds t h) where
+    module _ (number tree : ℕ) (t : TreeState) (h : History) (at : slice_get trees tree ≡ Some h) (holds : HasHistory t h) where
       abbrev asked : Item → Asked
       asked item = record { line = number; lane = lane; phase = phase; item = item }
 
@@ -223,13 +223,13 @@ module _ (rows : ℕ) (lines : List Line) (old : PlayerState) (steps : List Step
       -- what came of a scan from this place on: some more steps, which are told so
       record HasScanned (item : Item) (max left : ℕ) (place : Option ℕ) (before : List Step) : Type 0 where
         more : List Step
-        scan : IsScan (asked item) tree max left place more
+        scan : AreScanSteps (asked item) tree max left place more
         told : scan_entries number t max left place ≡ map entry_of more
         played : HasPlayed most_lanes rows phase true declared (before ++ more) trees
 
       record HasGoneOn (item : Item) (max left : ℕ) (value : Option Range) (before : List Step) : Type 0 where
         more : List Step
-        goes : GoesOn (IsScan (asked item) tree max left) max value more
+        goes : ScanGoesOnFrom (AreScanSteps (asked item) tree max left) max value more
         told : entries_behind (scan_entries number t max left) max value ≡ map entry_of more
         played : HasPlayed most_lanes rows phase true declared (before ++ more) trees
 
@@ -258,25 +258,25 @@ module _ (rows : ℕ) (lines : List Line) (old : PlayerState) (steps : List Step
     ask_line : (number tree : ℕ) (query : Query) (new : PlayerState) → Does rows old new number (Ask tree query) → IsPlayed rows (lines ++ record { number = number; item = Ask tree query } ∷ []) new
     unfolding read_step
     ask_line number tree query new does =
-        let (h, (at, holds)) = both_get Holds old.trees trees tree does.asked so_far.held does.tree_is in
+        let (h, (at, holds)) = both_get HasHistory old.trees trees tree does.asked so_far.held does.tree_is in
         let s : Step = read_step number tree h query in
         next (record { number = number; item = Ask tree query }) new (s ∷ []) trees
         (undeclared phase true (steps ++ s ∷ []) trees (one_read number tree does.asked h at holds stepped steps query so_far.played))
         (s ∷ [], [], refl, (length h.records, length h.records, length h.records, answer (last_map h) query, refl), refl)
         (does.told ∙ ap (λ (e : Entry). old.entries ++ e ∷ []) (entry_is number tree does.asked h at holds query))
-        (subst (λ (ts : List TreeState). AreBoth IsOf ts (declared ++ [])) (sym does.trees) same_declared)
-        (subst (λ (ts : List TreeState). AreBoth Holds ts trees) (sym does.trees) so_far.held)
+        (subst (λ (ts : List TreeState). AreBoth IsDeclaredSo ts (declared ++ [])) (sym does.trees) same_declared)
+        (subst (λ (ts : List TreeState). AreBoth HasHistory ts trees) (sym does.trees) so_far.held)
 
     scan_line : (number tree index max count : ℕ) (new : PlayerState) → Does rows old new number (Scan tree index max count) → IsPlayed rows (lines ++ record { number = number; item = Scan tree index max count } ∷ []) new
     scan_line number tree index max count new does =
-        let (h, (at, holds)) = both_get Holds old.trees trees tree does.asked so_far.held does.tree_is in
+        let (h, (at, holds)) = both_get HasHistory old.trees trees tree does.asked so_far.held does.tree_is in
         let came = scanned number tree does.asked h at holds count (Scan tree index max count) max (place_within index max) steps (stepped_up most_lanes rows phase stepped declared steps trees so_far.played) in
         next (record { number = number; item = Scan tree index max count }) new came.more trees
         (undeclared phase true (steps ++ came.more) trees came.played)
         (came.more, [], sym (append-nil came.more), came.scan, refl)
         (does.told ∙ ap (λ (es : List Entry). old.entries ++ es) came.told)
-        (subst (λ (ts : List TreeState). AreBoth IsOf ts (declared ++ [])) (sym does.trees) same_declared)
-        (subst (λ (ts : List TreeState). AreBoth Holds ts trees) (sym does.trees) so_far.held)
+        (subst (λ (ts : List TreeState). AreBoth IsDeclaredSo ts (declared ++ [])) (sym does.trees) same_declared)
+        (subst (λ (ts : List TreeState). AreBoth HasHistory ts trees) (sym does.trees) so_far.held)
 
 pub line_played : (rows : ℕ) (lines : List Line) (number : ℕ) (item : Item) (old new : PlayerState) → IsInPlace (stepped_from false lines) item → lane_behind 0 lines < most_lanes → Does rows old new number item → IsPlayed rows lines old
     → IsPlayed rows (lines ++ record { number = number; item = item } ∷ []) new
@@ -299,12 +299,12 @@ none_played rows player trees entries = (
     played = nothing_played most_lanes rows (omega arith);
     done = refl;
     told = entries;
-    declared = subst (λ (ts : List TreeState). AreBoth IsOf ts []) (sym trees) tt;
-    held = subst (λ (ts : List TreeState). AreBoth Holds ts []) (sym trees) tt;
+    declared = subst (λ (ts : List TreeState). AreBoth IsDeclaredSo ts []) (sym trees) tt;
+    held = subst (λ (ts : List TreeState). AreBoth HasHistory ts []) (sym trees) tt;
   },
 )
 
-listed : (ts : List TreeState) (ds : List Declared) (hs : List History) → AreBoth IsOf ts ds → AreBoth Holds ts hs → map listing_of ts ≡ listings_of ds hs
+listed : (ts : List TreeState) (ds : List Declared) (hs : List History) → AreBoth IsDeclaredSo ts ds → AreBoth HasHistory ts hs → map listing_of ts ≡ listings_of ds hs
 listed [] [] hs of held = refl
 listed [] (d ∷ ds) hs of held = absurd of
 listed (t ∷ ts) [] hs of held = absurd of

@@ -34,7 +34,7 @@ pub record MapState : Type 0 where
   pub limits : Option Limits
 
 -- a map before its first call, in so many rows, which opens with these ranges
-pub record IsNew (rows : ℕ) (kind : Kind) (ranges : List Range) (m : MapState) : Type 0 where
+pub record IsNewMap (rows : ℕ) (kind : Kind) (ranges : List Range) (m : MapState) : Type 0 where
   pub kind_is : m.kind ≡ kind
   pub opening : m.ranges ≡ ranges
   pub unused : m.used ≡ 0
@@ -42,7 +42,7 @@ pub record IsNew (rows : ℕ) (kind : Kind) (ranges : List Range) (m : MapState)
 
 -- a copy of a map, before its first call; it has as many rows as the map has
 abbrev pub IsCopyOf : MapState → MapState → Type 0
-IsCopyOf m copy = (h : History) → MayLimit h m.limits → IsNew h.rows m.kind m.ranges copy
+IsCopyOf m copy = (h : History) → MayLimit h m.limits → IsNewMap h.rows m.kind m.ranges copy
 
 -- ---- trees and players
 
@@ -66,7 +66,7 @@ with_entry player line what = player.entries ++ record { line = line; said = wha
 pub record Declares (rows : ℕ) (name : Word) (kind : Kind) (ranges : List Range) (t : TreeState) : Type 0 where
   pub name_is : t.name ≡ name
   pub kind_is : t.kind ≡ kind
-  pub map : IsNew rows kind ranges t.map
+  pub map : IsNewMap rows kind ranges t.map
   pub calls : t.calls ≡ 0
 
 -- a call was made of a tree
@@ -120,7 +120,7 @@ pub record Calls (old new : PlayerState) (line tree : ℕ) (call : Call) : Type 
   pub told : new.entries ≡ with_entry old line (said.Wrote (before.calls + 1) reply)
 
 -- a line that reads a tree as it stands, and tells of each read
-pub record Reads (old new : PlayerState) (tree : ℕ) (entries : TreeState → List Entry) : Type 0 where
+pub record ReadsOnly (old new : PlayerState) (tree : ℕ) (entries : TreeState → List Entry) : Type 0 where
   pub asked : TreeState
   pub tree_is : slice_get old.trees tree ≡ Some asked
   pub trees : new.trees ≡ old.trees
@@ -134,8 +134,8 @@ Does rows old new line Join = new ≡ old
 Does rows old new line (Dup from name) = Copies old new line from name
 Does rows old new line (Check tree) = Checks old new line tree
 Does rows old new line (Write tree call) = Calls old new line tree call
-Does rows old new line (Ask tree query) = Reads old new tree (λ t. read_entry line t query ∷ [])
-Does rows old new line (Scan tree index max count) = Reads old new tree (λ t. scan_entries line t max count (place_within index max))
+Does rows old new line (Ask tree query) = ReadsOnly old new tree (λ t. read_entry line t query ∷ [])
+Does rows old new line (Scan tree index max count) = ReadsOnly old new tree (λ t. scan_entries line t max count (place_within index max))
 
 -- ---- what came of the lines so far
 
@@ -146,14 +146,14 @@ AreBoth R (x ∷ xs) (y ∷ ys) = R x y × AreBoth R xs ys
 AreBoth R xs ys = ⊥
 
 -- a player's tree is the tree of this history, so far
-pub record Holds (t : TreeState) (h : History) : Type 0 where
+pub record HasHistory (t : TreeState) (h : History) : Type 0 where
   pub kind : t.map.kind ≡ h.kind
   pub ranges : t.map.ranges ≡ last_map h
   pub limits : MayLimit h t.map.limits
   pub calls : t.calls ≡ length h.records
 
 -- and it was declared so
-pub record IsOf (t : TreeState) (d : Declared) : Type 0 where
+pub record IsDeclaredSo (t : TreeState) (d : Declared) : Type 0 where
   pub name : t.name ≡ d.tree.name
   pub kind : t.kind ≡ d.tree.kind
 
@@ -162,8 +162,8 @@ pub record IsPlayedBy (rows : ℕ) (lines : List Line) (player : PlayerState) (s
   pub played : HasPlayed most_lanes rows (phase_behind 0 lines) (stepped_from false lines) (trees_of lines) steps trees
   pub done : AreDone (steps_of lines) steps
   pub told : player.entries ≡ map entry_of steps
-  pub declared : AreBoth IsOf player.trees (trees_of lines)
-  pub held : AreBoth Holds player.trees trees
+  pub declared : AreBoth IsDeclaredSo player.trees (trees_of lines)
+  pub held : AreBoth HasHistory player.trees trees
 
 abbrev pub IsPlayed : ℕ → List Line → PlayerState → Type 0
 IsPlayed rows lines player = (steps : List Step) × (trees : List History) × IsPlayedBy rows lines player steps trees

@@ -2,7 +2,7 @@
 
 ghost use Rattle.std.specs.Prelude.{◌≡◌, ◌≤◌, ℕ, [], length, IfOk};
 ghost use Rattle.mt_base.specs.Width.{most_rows};
-ghost use Rattle.mt_plain.specs.Playing.{IsNew, IsCopyOf};
+ghost use Rattle.mt_plain.specs.Playing.{IsNewMap, IsCopyOf};
 
 use mt_base::{Kind, NoMemory};
 use mt_list::Ranges;
@@ -17,7 +17,7 @@ pub trait Plain: Ranges + Drop + Sized {
     /// `NoMemory` where memory ran out.
     fn empty(alloc: Global, kind: Kind, rows: u64) -> Result<Self, NoMemory>
         requires { rows ≤ most_rows }
-        ensures { IfOk result (λ m. IsNew rows kind [] (record { kind = Self.kind m; ranges = Self.map m; used = Self.used m; limits = Self.limits m })) };
+        ensures { IfOk result (λ m. IsNewMap rows kind [] (record { kind = Self.kind m; ranges = Self.map m; used = Self.used m; limits = Self.limits m })) };
 
     /// A copy of the map, of which no call was made.
     ///

@@ -17,9 +17,9 @@ use Rattle.mt_log.specs.declared.transcripts.Said.TheVariants as said
 use Rattle.mt_log.specs.declared.trees.KnownTree.{KnownTree}
 use Rattle.mt_log.specs.Run.{Asked, Step, Counted, AreDone, entry_of}
 use Rattle.mt_log.specs.Trees.{AreNamedFrom, Declared, Empty, CopyOf, NamesBelow, count_after, declared_by, renamed, trees_of}
-use Rattle.mt_runs.specs.Gone.{IsCounted}
+use Rattle.mt_runs.specs.Gone.{CountsRanges}
 use Rattle.mt_runs.specs.Lines.{phase_behind}
-use Rattle.mt_runs.specs.OneThread.{step_in}
+use Rattle.mt_runs.specs.OneThread.{step_of_line}
 use Rattle.mt_runs.specs.Phases.{Tracked, new_tracked}
 use Rattle.mt_runs.specs.Tracks.{Ran}
 use Rattle.mt_runs.proofs.LanePasses.{some_at}
@@ -28,7 +28,7 @@ use Rattle.mt_runs.proofs.Starting.{empty_ran, copy_ran, still}
 use Rattle.mt_runs.proofs.Stretches.{done_append, phase_append, trees_more}
 use Rattle.mt_desks.specs.Dealing.{IsOnePhase, asked_of, counts_in, is_count, is_join}
 use Rattle.mt_desks.proofs.Asking.{same_phase}
-use Rattle.mt_play.specs.Players.{PlayerState, Begins, Checks, Copies, IsBegun, IsBegunBy, IsPlayedBy}
+use Rattle.mt_play.specs.Players.{PlayerState, BeginsPhase, Checks, Copies, IsBegun, IsPhaseBegun, IsPlayedBy}
 
 -- ---- lines of one phase
 
@@ -45,7 +45,7 @@ counts_more phase (x ∷ lines) line = elim (cases_Bool (is_count x.item)) [
 
 -- ---- one line more
 
-module _ (phase : ℕ) (front lines : List Line) (old : PlayerState) (steps counted : List Step) (at : phase_behind 0 front ≡ phase) (one : IsOnePhase lines) (so_far : IsBegunBy phase front lines old steps counted) where
+module _ (phase : ℕ) (front lines : List Line) (old : PlayerState) (steps counted : List Step) (at : phase_behind 0 front ≡ phase) (one : IsOnePhase lines) (so_far : IsPhaseBegun phase front lines old steps counted) where
   abbrev declared : List Declared
   declared = trees_of (front ++ lines)
 
@@ -54,7 +54,7 @@ module _ (phase : ℕ) (front lines : List Line) (old : PlayerState) (steps coun
       let here : phase_behind 0 (front ++ lines) ≡ phase = phase_append 0 front lines ∙ (ap (λ (n : ℕ). phase_behind n lines) at ∙ phase_stays phase lines (recursion_from_All _ lines one)) in
       ap trees_of (sym (append_assoc front lines (line ∷ []))) ∙ (trees_more (front ++ lines) line ∙ ap (λ (n : ℕ). declared ++ option_to_list (declared_by declared n line.item)) here)
 
-  next : (line : Line) (new : PlayerState) (more : List Step) → Ran new.passes new.rows phase (declared ++ option_to_list (declared_by declared phase line.item)) steps new.trees → AreDone (counts_in phase (line ∷ [])) more → All (λ (s : Step). IsCounted new.trees s) (counted ++ more)
+  next : (line : Line) (new : PlayerState) (more : List Step) → Ran new.passes new.rows phase (declared ++ option_to_list (declared_by declared phase line.item)) steps new.trees → AreDone (counts_in phase (line ∷ [])) more → All (λ (s : Step). CountsRanges new.trees s) (counted ++ more)
       → new.entries ≡ old.entries ++ map entry_of more → new.known ≡ map (λ (d : Declared). d.tree) (declared ++ option_to_list (declared_by declared phase line.item)) → All (λ (t : Tracked). length t.history.records ≤ length front) new.trees
       → IsBegun phase front (lines ++ line ∷ []) new steps
   next line new more ran done each told known few = (
@@ -71,7 +71,7 @@ module _ (phase : ℕ) (front lines : List Line) (old : PlayerState) (steps coun
   )
 
   -- what was counted so far, where one more tree is there
-  counted_there : (t : Tracked) → All (λ (s : Step). IsCounted (old.trees ++ t ∷ []) s) counted
+  counted_there : (t : Tracked) → All (λ (s : Step). CountsRanges (old.trees ++ t ∷ []) s) counted
   counted_there t = λ k d l.
       let s = so_far.each k d l in
       record { said = s.said; ranges = s.ranges; tracked = s.tracked; outcome = s.outcome; is = still old.trees t (get_or counted k d).tree s.tracked s.is; counts = s.counts }
@@ -85,12 +85,12 @@ module _ (phase : ℕ) (front lines : List Line) (old : PlayerState) (steps coun
       subst (λ (z : PlayerState). IsBegun phase front (lines ++ line ∷ []) z steps) (sym is) (next line old []
       (subst (λ (ds : List Declared). Ran old.passes old.rows phase ds steps old.trees) (sym same) so_far.ran)
       (subst (λ (asked : List Asked). AreDone asked []) (sym uncounted) refl)
-      (subst (All (λ (s : Step). IsCounted old.trees s)) (sym (append-nil counted)) so_far.each)
+      (subst (All (λ (s : Step). CountsRanges old.trees s)) (sym (append-nil counted)) so_far.each)
       (sym (append-nil old.entries))
       (so_far.known ∙ ap (map (λ (d : Declared). d.tree)) (sym same))
       so_far.few)
 
-  tree_line : (number : ℕ) (name : List ℕ) (kind : Kind) (new : PlayerState) → Begins old new number (Tree name kind) → IsBegun phase front (lines ++ record { number = number; item = Tree name kind } ∷ []) new steps
+  tree_line : (number : ℕ) (name : List ℕ) (kind : Kind) (new : PlayerState) → BeginsPhase old new number (Tree name kind) → IsBegun phase front (lines ++ record { number = number; item = Tree name kind } ∷ []) new steps
   tree_line number name kind new is =
       let known : KnownTree = record { name = name; kind = kind } in
       let added : Tracked = new_tracked old.passes old.rows kind [] in
@@ -99,20 +99,20 @@ module _ (phase : ℕ) (front lines : List Line) (old : PlayerState) (steps coun
       (next (record { number = number; item = Tree name kind }) (record old { known = old.known ++ known ∷ []; trees = old.trees ++ added ∷ [] }) []
       (empty_ran old.passes old.rows phase declared steps old.trees known so_far.ran)
       refl
-      (subst (All (λ (s : Step). IsCounted (old.trees ++ added ∷ []) s)) (sym (append-nil counted)) (counted_there added))
+      (subst (All (λ (s : Step). CountsRanges (old.trees ++ added ∷ []) s)) (sym (append-nil counted)) (counted_there added))
       (sym (append-nil old.entries))
       (ap (λ (ks : List KnownTree). ks ++ known ∷ []) so_far.known ∙ sym (map-append (λ (d : Declared). d.tree) declared (declares ∷ [])))
       (few_there added refl))
 
   check_line : (number tree : ℕ) (new : PlayerState) → Checks old new number tree → IsBegun phase front (lines ++ record { number = number; item = Check tree } ∷ []) new steps
   check_line number tree new does =
-      let s : Step = step_in phase 0 number tree (Counted said.Lawful (last_map does.checked.history)) in
+      let s : Step = step_of_line phase 0 number tree (Counted said.Lawful (last_map does.checked.history)) in
       let entries : List Entry = old.entries ++ entry_of s ∷ [] in
       subst (λ (z : PlayerState). IsBegun phase front (lines ++ record { number = number; item = Check tree } ∷ []) z steps) (sym does.made)
       (next (record { number = number; item = Check tree }) (record old { entries = entries }) (s ∷ [])
       (subst (λ (ds : List Declared). Ran old.passes old.rows phase ds steps old.trees) (sym (append-nil declared)) so_far.ran)
       (s ∷ [], [], refl, (last_map does.checked.history, refl), refl)
-      (All-append (λ (z : Step). IsCounted old.trees z) counted (s ∷ []) so_far.each (All-from_recursion (λ (z : Step). IsCounted old.trees z) (s ∷ [])
+      (All-append (λ (z : Step). CountsRanges old.trees z) counted (s ∷ []) so_far.each (All-from_recursion (λ (z : Step). CountsRanges old.trees z) (s ∷ [])
       (record { said = said.Lawful; ranges = last_map does.checked.history; tracked = does.checked; outcome = refl; is = does.tree_is; counts = refl }, tt)))
       refl
       (so_far.known ∙ ap (map (λ (d : Declared). d.tree)) (sym (append-nil declared)))
@@ -131,7 +131,7 @@ module _ (phase : ℕ) (front lines : List Line) (old : PlayerState) (steps coun
   copy_line number from name new does =
       let source : Tracked = does.source in
       let opening : List Range = last_map source.history in
-      let s : Step = step_in phase 0 number from (Counted said.Copied opening) in
+      let s : Step = step_of_line phase 0 number from (Counted said.Copied opening) in
       let known : KnownTree = renamed name does.named in
       let added : Tracked = new_tracked old.passes source.history.rows source.history.kind opening in
       let declares : Declared = record { tree = known; opening = CopyOf from phase } in
@@ -146,13 +146,13 @@ module _ (phase : ℕ) (front lines : List Line) (old : PlayerState) (steps coun
       (subst (λ (ds : List Declared). Ran old.passes old.rows phase (declared ++ ds) steps (old.trees ++ added ∷ [])) (sym declares_is)
       (subst (λ (t : Tracked). Ran old.passes old.rows phase (declared ++ declares ∷ []) steps (old.trees ++ t ∷ [])) added_is (copy_ran old.passes old.rows phase declared steps old.trees known from source does.source_is kind_is so_far.ran)))
       (s ∷ [], [], refl, (opening, refl), refl)
-      (All-append (λ (z : Step). IsCounted (old.trees ++ added ∷ []) z) counted (s ∷ []) (counted_there added) (All-from_recursion (λ (z : Step). IsCounted (old.trees ++ added ∷ []) z) (s ∷ [])
+      (All-append (λ (z : Step). CountsRanges (old.trees ++ added ∷ []) z) counted (s ∷ []) (counted_there added) (All-from_recursion (λ (z : Step). CountsRanges (old.trees ++ added ∷ []) z) (s ∷ [])
       (record { said = said.Copied; ranges = opening; tracked = source; outcome = refl; is = still old.trees added from source does.source_is; counts = refl }, tt)))
       refl
       (ap (λ (ks : List KnownTree). ks ++ known ∷ []) so_far.known ∙ (sym (map-append (λ (d : Declared). d.tree) declared (declares ∷ [])) ∙ ap (λ (ds : List Declared). map (λ (d : Declared). d.tree) (declared ++ ds)) (sym declares_is)))
       (few_there added refl))
 
-  pub line_begun : (number : ℕ) (item : Item) (new : PlayerState) → is_join item ≡ false → Begins old new number item → IsBegun phase front (lines ++ record { number = number; item = item } ∷ []) new steps
+  pub line_begun : (number : ℕ) (item : Item) (new : PlayerState) → is_join item ≡ false → BeginsPhase old new number item → IsBegun phase front (lines ++ record { number = number; item = item } ∷ []) new steps
   line_begun number (Tree name kind) new here does = tree_line number name kind new does
   line_begun number (Lane lane) new here does = silent (record { number = number; item = Lane lane }) new refl refl does
   line_begun number Join new here does = absurd (cc)
@@ -170,7 +170,7 @@ none_begun phase front p steps played = (
     ran = subst (λ (ls : List Line). Ran p.passes p.rows phase (trees_of ls) steps p.trees) (sym (append-nil front)) played.ran;
     done = played.done;
     counted_are = refl;
-    each = All-nil (λ (s : Step). IsCounted p.trees s);
+    each = All-nil (λ (s : Step). CountsRanges p.trees s);
     told = played.told ∙ ap (map entry_of) (sym (append-nil steps));
     known = played.known ∙ ap (λ (ls : List Line). map (λ (d : Declared). d.tree) (trees_of ls)) (sym (append-nil front));
     few = played.few;
@@ -181,7 +181,7 @@ none_begun phase front p steps played = (
 abbrev pub BegunFrom : PlayerState → List Line → PlayerState → Type 0
 BegunFrom old lines new = (phase : ℕ) (front : List Line) (steps : List Step) → phase_behind 0 front ≡ phase → IsOnePhase lines → IsPlayedBy phase front old steps → IsBegun phase front lines new steps
 
-rows_stay : (old new : PlayerState) (number : ℕ) (item : Item) → Begins old new number item → (new.rows ≡ old.rows) × (new.passes ≡ old.passes)
+rows_stay : (old new : PlayerState) (number : ℕ) (item : Item) → BeginsPhase old new number item → (new.rows ≡ old.rows) × (new.passes ≡ old.passes)
 rows_stay old new number (Tree name kind) is = (ap (λ (p : PlayerState). p.rows) is, ap (λ (p : PlayerState). p.passes) is)
 rows_stay old new number (Lane lane) is = (ap (λ (p : PlayerState). p.rows) is, ap (λ (p : PlayerState). p.passes) is)
 rows_stay old new number Join is = (ap (λ (p : PlayerState). p.rows) is, ap (λ (p : PlayerState). p.passes) is)
@@ -212,14 +212,14 @@ module _ (lines : List Line) (done count : ℕ) (line : Line) (old p : PlayerSta
   pub named_here : NamesBelow count line.item
   named_here = left.0
 
-  one_more : (new : PlayerState) → Begins p new line.number line.item → BegunFrom old (take done lines ++ line ∷ []) new
+  one_more : (new : PlayerState) → BeginsPhase p new line.number line.item → BegunFrom old (take done lines ++ line ∷ []) new
   one_more new does phase front steps at one played =
       let cut = one_phase_cut (take done lines) line (recursion_from_All _ (take done lines ++ line ∷ []) one) in
       let before : IsOnePhase (take done lines) = All-from_recursion _ (take done lines) cut.0 in
       let (counted, begun) = so_far.begun phase front steps at before played in
       line_begun phase front (take done lines) p steps counted at before begun line.number line.item new cut.1 does
 
-  pub begun_on : (new : PlayerState) (count' : ℕ) → Begins p new line.number line.item → count' ≡ count_after count line.item → HasBegun lines (done + 1) count' old new
+  pub begun_on : (new : PlayerState) (count' : ℕ) → BeginsPhase p new line.number line.item → count' ≡ count_after count line.item → HasBegun lines (done + 1) count' old new
   begun_on new count' does more =
       let stays = rows_stay p new line.number line.item does in
       let next : done + 1 ≡ suc done = omega arith in

@@ -7,7 +7,7 @@ use Rattle.mt_base.specs.Passes.{Pass}
 use Rattle.mt_log.specs.declared.lines.Line.{Line}
 use Rattle.mt_log.specs.declared.transcripts.Entry.{Entry}
 use Rattle.mt_log.specs.Run.{Asked, entry_of}
-use Rattle.mt_runs.specs.Rooms.{joined}
+use Rattle.mt_runs.specs.Rooms.{answers_joined}
 use Rattle.mt_runs.proofs.LanePasses.{some_at}
 use Rattle.mt_runs.proofs.Lists.{every}
 use Rattle.mt_lanes.specs.declared.lanes.Lane.{Lane}
@@ -44,9 +44,9 @@ lanes_gone {R} {P} {T} tree knows serves lanes phase lines trees rows rows' firs
     (λ answers rooms answered. elim (cases_eq lanes 1) [
       | inl alone ↦
           told_alone phase lines answers entries entries' (subst (λ (n : ℕ). AllByRecursion (λ (a : Asked). a.lane < n) (steps_in 0 phase lines)) alone few) answered
-          (told (omega (arith, alone, ap length same, counted, count)) d ∙ (ap (λ (z : List (Lane (LaneDesk R P T))). (get_or z 0 d).desk.room.items) same ∙ (rooms 0 d (omega (arith, alone)) ∙ ap (λ (es : List Entry). es ++ map entry_of (joined (answers 0))) (first_alone alone))))
+          (told (omega (arith, alone, ap length same, counted, count)) d ∙ (ap (λ (z : List (Lane (LaneDesk R P T))). (get_or z 0 d).desk.room.items) same ∙ (rooms 0 d (omega (arith, alone)) ∙ ap (λ (es : List Entry). es ++ map entry_of (answers_joined (answers 0))) (first_alone alone))))
       | inr several ↦
           told_together (λ (l : Lane (LaneDesk R P T)). l.desk.room.items) lanes phase lines answers entries entries' ks (counted ∙ count) few can.numbered answered
-          (λ lane e below. rooms lane e below ∙ ap (λ (es : List Entry). room_before es lane ++ map entry_of (joined (answers lane))) (first_none several)) (told_back (λ one. several (omega (arith, one, ap length same, counted, count))) ∙ (ap (λ (z : List (Lane (LaneDesk R P T))). middle ++ in_turn 0 lines (map (λ (l : Lane (LaneDesk R P T)). l.desk.room.items) z)) same ∙ ap (λ (es : List Entry). es ++ in_turn 0 lines (map (λ (l : Lane (LaneDesk R P T)). l.desk.room.items) ks)) (kept several)))
+          (λ lane e below. rooms lane e below ∙ ap (λ (es : List Entry). room_before es lane ++ map entry_of (answers_joined (answers lane))) (first_none several)) (told_back (λ one. several (omega (arith, one, ap length same, counted, count))) ∙ (ap (λ (z : List (Lane (LaneDesk R P T))). middle ++ in_turn 0 lines (map (λ (l : Lane (LaneDesk R P T)). l.desk.room.items) z)) same ∙ ap (λ (es : List Entry). es ++ in_turn 0 lines (map (λ (l : Lane (LaneDesk R P T)). l.desk.room.items) ks)) (kept several)))
     ]) in
     (manned_still knows serves lanes phase lines trees rows first ls manned can count laid tree rows' entries entries' rows_stay long others passes run, run)

@@ -11,14 +11,14 @@ use Rattle.mt_log.specs.declared.transcripts.Entry.{Entry}
 use Rattle.mt_log.specs.Run.{Asked, Step, entry_of}
 use Rattle.mt_runs.specs.Gone.{HaveGone}
 use Rattle.mt_runs.specs.Leads.{Leads, outcomes_of}
-use Rattle.mt_runs.specs.Rooms.{asked_of_lane, AreAnswered, joined, lanes_of, take_turns}
+use Rattle.mt_runs.specs.Rooms.{asked_of_lane, AreDoneEach, answers_joined, lanes_of, take_turns}
 use Rattle.mt_runs.proofs.LanePasses.{some_at}
 use Rattle.mt_runs.proofs.Leading.{learns_none}
 use Rattle.mt_runs.proofs.Lists.{same_some}
 use Rattle.mt_lanes.specs.declared.lanes.Lane.{Lane}
 use Rattle.mt_desks.specs.declared.desks.LaneDesk.{LaneDesk}
 use Rattle.mt_desks.specs.Dealing.{asked_of, lines_of_lane, steps_in}
-use Rattle.mt_desks.specs.Desks.{AreAnsweredUnless, DeskState, IsWorn, SharedTree, desk_of}
+use Rattle.mt_desks.specs.Desks.{AreAnsweredUnless, DeskState, IsSomeWorn, SharedTree, desk_of}
 use Rattle.mt_desks.specs.Phases.{FromEach, LaneWent, pass_at}
 use Rattle.mt_play.specs.Lanes.{AreLanesFor, HaveRun, IsLaneFor, IsPassAt, room_before}
 use Rattle.mt_play.specs.Players.{rows_known}
@@ -64,9 +64,9 @@ module _ {R P T : Type 0} (tree : T → SharedTree) (knows : P → Pass) (lanes 
     pub answers : List (List Step)
     pub passes : List Pass
     pub passes_are : (number : ℕ) (p : Pass) → slice_get passes number ≡ Some p → IsPassAt (rows_known knows rows') number lane p
-    pub answered : AreAnsweredUnless (IsWorn shared passes) (asked_of_lane lane (steps_in 0 phase lines)) answers
-    pub leads : (number : ℕ) (t : SharedTree) (row : Vec P Global) (p : P) → slice_get shared number ≡ Some t → number < length rows → Leads t.history (knows (pass_at (λ v. v.items) rows number lane row p)) (outcomes_of number lane (joined answers)) (knows (pass_at (λ v. v.items) rows' number lane row p))
-    pub told : k.desk.room.items ≡ room_before first lane ++ map entry_of (joined answers)
+    pub answered : AreAnsweredUnless (IsSomeWorn shared passes) (asked_of_lane lane (steps_in 0 phase lines)) answers
+    pub leads : (number : ℕ) (t : SharedTree) (row : Vec P Global) (p : P) → slice_get shared number ≡ Some t → number < length rows → Leads t.history (knows (pass_at (λ v. v.items) rows number lane row p)) (outcomes_of number lane (answers_joined answers)) (knows (pass_at (λ v. v.items) rows' number lane row p))
+    pub told : k.desk.room.items ≡ room_before first lane ++ map entry_of (answers_joined answers)
 
   -- the pass of a lane, which is one of a row's
   seat_at : (number lane : ℕ) (p : Pass) → lane < lanes → number < length rows → ((row : Vec P Global) (x : P) → Some (knows (pass_at (λ v. v.items) rows' number lane row x)) ≡ Some p) → IsPassAt (rows_known knows rows') number lane p
@@ -94,7 +94,7 @@ module _ {R P T : Type 0} (tree : T → SharedTree) (knows : P → Pass) (lanes 
         passes_are = λ number p is.
             let within : number < length rows = omega (arith, slice_get_within v.after number p is, v.ran.count, v.count) in
             seat_at number lane p below within (λ row x. sym (v.given number row x within) ∙ is);
-        answered = subst (λ (z : List Asked). AreAnsweredUnless (IsWorn shared v.after) z v.ran.answers) (ap (map (asked_of lane phase)) taken ∙ sym (own_asked lane 0 phase lines)) v.ran.answered;
+        answered = subst (λ (z : List Asked). AreAnsweredUnless (IsSomeWorn shared v.after) z v.ran.answers) (ap (map (asked_of lane phase)) taken ∙ sym (own_asked lane 0 phase lines)) v.ran.answered;
         leads = λ number t row p t_is within. v.ran.leads number t (knows (pass_at (λ v. v.items) rows number lane row p)) (knows (pass_at (λ v. v.items) rows' number lane row p)) t_is (v.taken number row p within) (v.given number row p within);
         told = v.ran.told;
       }
@@ -124,7 +124,7 @@ module _ {R P T : Type 0} (tree : T → SharedTree) (knows : P → Pass) (lanes 
     passes_there lane number p (inl below) is = (come_at lane d below).passes_are number p is
     passes_there lane number p (inr above) is = absurd (omega (arith, slice_get_within [] number p is))
 
-    answered_there : (lane : ℕ) (side : (lane < lanes) ⊎ (lanes ≤ lane)) → AreAnsweredUnless (IsWorn shared (passes_at lane side)) (asked_of_lane lane (steps_in 0 phase lines)) (answers_at lane side)
+    answered_there : (lane : ℕ) (side : (lane < lanes) ⊎ (lanes ≤ lane)) → AreAnsweredUnless (IsSomeWorn shared (passes_at lane side)) (asked_of_lane lane (steps_in 0 phase lines)) (answers_at lane side)
     unfolding passes_at answers_at
     answered_there lane (inl below) = (come_at lane d below).answered
     answered_there lane (inr above) = rw (none_asked lane (steps_in 0 phase lines) (none_above lane lanes (steps_in 0 phase lines) above few)) tt
@@ -136,12 +136,12 @@ module _ {R P T : Type 0} (tree : T → SharedTree) (knows : P → Pass) (lanes 
       abbrev new_row : List P
       new_row = (get_or rows' number row).items
 
-      leads_there : (lane : ℕ) (p m : Pass) (side : (lane < lanes) ⊎ (lanes ≤ lane)) → slice_get (map knows old_row) lane ≡ Some p → slice_get (map knows new_row) lane ≡ Some m → Leads t.history p (outcomes_of number lane (joined (answers_at lane side))) m
+      leads_there : (lane : ℕ) (p m : Pass) (side : (lane < lanes) ⊎ (lanes ≤ lane)) → slice_get (map knows old_row) lane ≡ Some p → slice_get (map knows new_row) lane ≡ Some m → Leads t.history p (outcomes_of number lane (answers_joined (answers_at lane side))) m
       unfolding answers_at
       leads_there lane p m (inl below) p_is m_is =
           let (x, x_is) = some_at old_row lane (within_mapped knows old_row lane p p_is) in
-          subst (λ (z : Pass). Leads t.history z (outcomes_of number lane (joined (come_at lane d below).answers)) m) (of_mapped knows old_row lane x p (within_mapped knows old_row lane p p_is) p_is)
-          (subst (λ (z : Pass). Leads t.history (knows (get_or old_row lane x)) (outcomes_of number lane (joined (come_at lane d below).answers)) z) (of_mapped knows new_row lane x m (within_mapped knows new_row lane m m_is) m_is)
+          subst (λ (z : Pass). Leads t.history z (outcomes_of number lane (answers_joined (come_at lane d below).answers)) m) (of_mapped knows old_row lane x p (within_mapped knows old_row lane p p_is) p_is)
+          (subst (λ (z : Pass). Leads t.history (knows (get_or old_row lane x)) (outcomes_of number lane (answers_joined (come_at lane d below).answers)) z) (of_mapped knows new_row lane x m (within_mapped knows new_row lane m m_is) m_is)
           ((come_at lane d below).leads number t row x t_is within))
       leads_there lane p m (inr above) p_is m_is =
           let (x, x_is) = some_at old_row lane (within_mapped knows old_row lane p p_is) in
@@ -162,13 +162,13 @@ module _ {R P T : Type 0} (tree : T → SharedTree) (knows : P → Pass) (lanes 
         (subst (λ (z : List Pass). HaveGone number t.history answers_of (map knows (get_or rows number row).items) z) (of_mapped (λ (v : Vec P Global). map knows v.items) rows' number row between (omega (arith, rows_stay)) between_is)
         (gone_there number t row t_is within))
 
-    told_there : (lane : ℕ) (side : (lane < lanes) ⊎ (lanes ≤ lane)) → lane < lanes → (get_or ks lane d).desk.room.items ≡ room_before first lane ++ map entry_of (joined (answers_at lane side))
+    told_there : (lane : ℕ) (side : (lane < lanes) ⊎ (lanes ≤ lane)) → lane < lanes → (get_or ks lane d).desk.room.items ≡ room_before first lane ++ map entry_of (answers_joined (answers_at lane side))
     unfolding answers_at
     told_there lane (inl below) here = (come_at lane d below).told
     told_there lane (inr above) here = absurd (omega (arith, above, here))
 
     pub have_run : (entries entries' : List Entry) → length ks ≡ length ls
-        → ((answers : ℕ → List (List Step)) → ((lane : ℕ) (e : Lane (LaneDesk R P T)) → lane < lanes → (get_or ks lane e).desk.room.items ≡ room_before first lane ++ map entry_of (joined (answers lane))) → ((lane : ℕ) → AreAnswered (asked_of_lane lane (steps_in 0 phase lines)) (answers lane)) → entries' ≡ entries ++ map entry_of (joined (take_turns (lanes_of (steps_in 0 phase lines)) answers)))
+        → ((answers : ℕ → List (List Step)) → ((lane : ℕ) (e : Lane (LaneDesk R P T)) → lane < lanes → (get_or ks lane e).desk.room.items ≡ room_before first lane ++ map entry_of (answers_joined (answers lane))) → ((lane : ℕ) → AreDoneEach (asked_of_lane lane (steps_in 0 phase lines)) (answers lane)) → entries' ≡ entries ++ map entry_of (answers_joined (take_turns (lanes_of (steps_in 0 phase lines)) answers)))
         → HaveRun phase lines shared (rows_known knows rows) (rows_known knows rows') entries entries'
     have_run entries entries' counted told = record {
       answers = answers_of;

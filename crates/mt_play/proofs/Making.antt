@@ -4,7 +4,7 @@ use Rattle.mt_base.specs.declared.kinds.Kind.{Kind}
 use Rattle.mt_base.specs.Passes.{Pass}
 use Rattle.mt_log.specs.declared.lines.Line.{Line}
 use Rattle.mt_desks.specs.Desks.{SharedTree}
-use Rattle.mt_play.specs.Makes.{AreMade, BeginAs, IsMade, kind_in, kinds_in}
+use Rattle.mt_play.specs.Makes.{AreMade, BeginAs, IsMade, declared_kind, kinds_in}
 use Rattle.mt_play.proofs.LogPhases.{front_and_phase}
 
 module _ {P T E : Type 0} (tree : T → SharedTree) (knows : P → Pass) (serves : T → P → Type 0) (many : T → ℕ) (rows passes : ℕ) where
@@ -50,11 +50,11 @@ module _ {P T E : Type 0} (tree : T → SharedTree) (knows : P → Pass) (serves
 
   -- those of a line, and of the lines behind it
   pub line_made : (lines : List Line) (at : ℕ) (line : Line) (made : List (Result (T × Vec P Global) E)) → at < length lines → line ≡ get_or lines at line → Are (kinds_in (drop at lines)) made
-      → BeginAs tree knows serves many rows passes (kind_in line.item) made × Are (kinds_in (drop (at + 1) lines)) (drop (length (kind_in line.item)) made)
+      → BeginAs tree knows serves many rows passes (declared_kind line.item) made × Are (kinds_in (drop (at + 1) lines)) (drop (length (declared_kind line.item)) made)
   line_made lines at line made within is are =
       let here : drop at lines ≡ line ∷ drop (suc at) lines = drop-cons lines at line within ∙ ap (λ (x : Line). x ∷ drop (suc at) lines) (sym is) in
       let next : suc at ≡ at + 1 = omega arith in
-      made_split (kind_in line.item) (kinds_in (drop (at + 1) lines)) made (subst (λ (n : ℕ). Are (kind_in line.item ++ kinds_in (drop n lines)) made) next (subst (λ (ls : List Line). Are (kinds_in ls) made) here are))
+      made_split (declared_kind line.item) (kinds_in (drop (at + 1) lines)) made (subst (λ (n : ℕ). Are (declared_kind line.item ++ kinds_in (drop n lines)) made) next (subst (λ (ls : List Line). Are (kinds_in ls) made) here are))
 
 pub slice_long : {X : Type 0} (xs : List X) (from to : ℕ) → from ≤ to → to ≤ length xs → length (slice_range xs from to) + from ≡ to
 slice_long xs from to low high = omega (arith, low, high, length-take (to - from) (drop from xs), length-drop from xs)

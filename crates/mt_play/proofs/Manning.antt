@@ -9,7 +9,7 @@ use Rattle.mt_log.specs.declared.lines.Line.{Line}
 use Rattle.mt_log.specs.declared.transcripts.Entry.{Entry}
 use Rattle.mt_log.specs.Run.{lane_after}
 use Rattle.mt_runs.specs.Leads.{outcomes_of}
-use Rattle.mt_runs.specs.Rooms.{joined}
+use Rattle.mt_runs.specs.Rooms.{answers_joined}
 use Rattle.mt_runs.proofs.Knowing.{leads_onward}
 use Rattle.mt_runs.proofs.LanePasses.{some_at}
 use Rattle.mt_lanes.specs.declared.lanes.Lane.{Lane}
@@ -95,7 +95,7 @@ module _ {R P T : Type 0} (knows : P → Pass) (serves : T → P → Type 0) (la
         let gone = run.gone at (tree (get_or trees at t)) (known (get_or rows at row)) (known (get_or rows' at row)) (mapped_at tree trees at t within) (mapped_at known rows at row (omega (arith, manned.count))) (mapped_at known rows' at row (omega (arith, manned.count, rows_stay))) in
         let m_is : slice_get (known (get_or rows' at row)) lane ≡ Some (knows q) = mapped_at knows (get_or rows' at row).items lane q here' ∙ ap (λ z. Some (knows z)) (get_or_from_slice_get (get_or rows' at row).items lane q q is) in
         let p_was : slice_get (known (get_or rows at row)) lane ≡ Some (knows p) = mapped_at knows (get_or rows at row).items lane p here ∙ ap (λ z. Some (knows z)) (get_or_from_slice_get (get_or rows at row).items lane p p p_is) in
-        let onward = leads_onward (tree (get_or trees at t)).history (knows p) (outcomes_of at lane (joined (run.answers lane))) (knows q) (gone.leads lane (knows p) (knows q) p_was m_is) in
+        let onward = leads_onward (tree (get_or trees at t)).history (knows p) (outcomes_of at lane (answers_joined (run.answers lane))) (knows q) (gone.leads lane (knows p) (knows q) p_was m_is) in
         onward.number ∙ (manned.all at t row within).numbered lane p p_is
 
     pub manned_still : AreManned knows serves (lanes + 1) trees rows'

@@ -13,14 +13,14 @@ use Rattle.mt_log.specs.Run.{Asked, Step, AreDone, entry_of, lane_after, steps_o
 use Rattle.mt_log.specs.Trees.{NamesBelow, trees_from, trees_of}
 use Rattle.mt_runs.specs.Gone.{IsPhaseGone}
 use Rattle.mt_runs.specs.Phases.{IsPhase, Tracked}
-use Rattle.mt_runs.specs.Rooms.{asked_of_lane, AreAnswered, take_turns, lanes_of, joined}
+use Rattle.mt_runs.specs.Rooms.{asked_of_lane, AreDoneEach, take_turns, lanes_of, answers_joined}
 use Rattle.mt_runs.proofs.LanePasses.{all_at, some_at}
 use Rattle.mt_runs.proofs.Running.{phase_ran}
 use Rattle.mt_runs.proofs.Stretches.{asked_behind, done_append, trees_behind}
 use Rattle.mt_desks.specs.Dealing.{counts_in, is_step, steps_in}
-use Rattle.mt_desks.specs.Desks.{IsWorn, SharedTree}
+use Rattle.mt_desks.specs.Desks.{IsSomeWorn, SharedTree}
 use Rattle.mt_play.specs.Lanes.{AreSettled, HaveRun, IsPhaseBehind}
-use Rattle.mt_play.specs.Players.{IsBegunBy, IsPlayed, PlayerState, tracked_in}
+use Rattle.mt_play.specs.Players.{IsPhaseBegun, IsPlayed, PlayerState, tracked_in}
 use Rattle.mt_play.specs.Trees.{calls_taken, seen_by, tracked_of}
 use Rattle.mt_play.proofs.FewCalls.{few_calls}
 use Rattle.mt_runs.proofs.LanesPhase.{lanes_phase}
@@ -47,7 +47,7 @@ module _ (lanes phase rows : ℕ) (front lines : List Line) (known : List KnownT
     (ready : IsPhaseBehind lanes phase front lines)
     (long : length before ≡ length trees)
     (most : (number : ℕ) (tree : SharedTree) → slice_get trees number ≡ Some tree → tree.most ≡ calls_taken)
-    (begun : IsBegunBy phase front lines (stands rows (lanes + 1) known trees before entries) steps counted)
+    (begun : IsPhaseBegun phase front lines (stands rows (lanes + 1) known trees before entries) steps counted)
     (run : HaveRun phase lines trees before between entries entries')
     (settled : AreSettled trees between after) where
   abbrev asked : List Asked
@@ -101,7 +101,7 @@ module _ (lanes phase rows : ℕ) (front lines : List Line) (known : List KnownT
   still_few : (number : ℕ) (tree : SharedTree) (on : OnTree number tree) → length (seen_by tree.history on.row').records ≤ length front + length lines
   still_few number tree on = omega (arith, on.few, few_calls trees run.passes number phase lines run.answers (tracked_of tree on.row) (tracked_of tree on.row') run.answered on.start on.gone)
 
-  not_worn : (lane : ℕ) → IsWorn trees (run.passes lane) → ⊥
+  not_worn : (lane : ℕ) → IsSomeWorn trees (run.passes lane) → ⊥
   not_worn lane w =
       let on = on_tree w.number w.tree w.tree_is in
       let at = run.passes_are lane w.number w.pass w.pass_is in
@@ -109,11 +109,11 @@ module _ (lanes phase rows : ℕ) (front lines : List Line) (known : List KnownT
       let seat : slice_get on.gone.between lane ≡ Some w.pass = subst (λ (z : List Pass). slice_get z lane ≡ Some w.pass) same at.pass_is in
       omega (arith, seen_within (seen_by w.tree.history on.row') on.gone.between on.row' on.gone.settled lane w.pass seat, still_few w.number w.tree on, ready.few, most w.number w.tree w.tree_is, w.all_taken)
 
-  all_answered : (lane : ℕ) → AreAnswered (asked_of_lane lane asked) (run.answers lane)
+  all_answered : (lane : ℕ) → AreDoneEach (asked_of_lane lane asked) (run.answers lane)
   all_answered lane = none_worn trees (run.passes lane) (asked_of_lane lane asked) (run.answers lane) (not_worn lane) (run.answered lane)
 
   abbrev came : List Step
-  came = joined (take_turns (lanes_of asked) run.answers)
+  came = answers_joined (take_turns (lanes_of asked) run.answers)
 
   -- ---- all trees
 

@@ -11,14 +11,14 @@ use Rattle.mt_log.specs.declared.transcripts.Entry.{Entry}
 use Rattle.mt_log.specs.Run.{Step}
 use Rattle.mt_runs.specs.Phases.{Tracked}
 use Rattle.mt_runs.specs.Leads.{outcomes_of}
-use Rattle.mt_runs.specs.Rooms.{joined}
+use Rattle.mt_runs.specs.Rooms.{answers_joined}
 use Rattle.mt_runs.proofs.Knowing.{leads_onward}
 use Rattle.mt_runs.proofs.LanePasses.{all_at, some_at}
 use Rattle.mt_runs.proofs.Totals.{seen_begins}
 use Rattle.mt_desks.specs.Desks.{SharedTree}
 use Rattle.mt_play.specs.declared.players.Player.{Player}
 use Rattle.mt_play.specs.Lanes.{AreManned, AreSettled, HaveGoneBy, IsPhaseBehind}
-use Rattle.mt_play.specs.Players.{IsAtRest, IsBegun, IsBegunBy, IsClosed, IsPlayed, rows_known, state_of, tracked_in}
+use Rattle.mt_play.specs.Players.{IsBetweenPhases, IsBegun, IsPhaseBegun, IsClosed, IsPlayed, rows_known, player_state, tracked_in}
 use Rattle.mt_play.specs.Trees.{AreAll, calls_taken, seen_by, tracked_of}
 use Rattle.mt_play.proofs.LanesRun.{mapped_at, of_mapped, within_mapped}
 use Rattle.mt_play.proofs.PhasePlayed.{phase_played, stands}
@@ -58,12 +58,12 @@ module _ {P T : Type 0} (tree : T → SharedTree) (knows : P → Pass) (serves :
       (subst (λ (z : List (Vec P Global)). HaveGoneBy tree knows serves passes phase lines trees' z rows entries entries') b
       (subst (λ (z : List (Vec P Global)). HaveGoneBy tree knows serves passes phase lines trees' seats' z entries entries') d gone))
 
-  pub tracked_count : (many : T → ℕ) (p : Player P T) → IsAtRest tree knows serves many p → length (state_of tree knows p).trees ≡ length p.trees.items
+  pub tracked_count : (many : T → ℕ) (p : Player P T) → IsBetweenPhases tree knows serves many p → length (player_state tree knows p).trees ≡ length p.trees.items
   tracked_count many p rest = tracked_long (map tree p.trees.items) (rows_known knows p.seats.items) (length-map p.seats.items known ∙ (rest.seated.count ∙ sym (length-map p.trees.items tree))) ∙ length-map p.trees.items tree
 
   -- ---- players
 
-  module _ (many : T → ℕ) (p : Player P T) (lanes phase : ℕ) (lines : List Line) (rest : IsAtRest tree knows serves many p) (passes : p.passes ≡ lanes + 1) where
+  module _ (many : T → ℕ) (p : Player P T) (lanes phase : ℕ) (lines : List Line) (rest : IsBetweenPhases tree knows serves many p) (passes : p.passes ≡ lanes + 1) where
     abbrev tracked : List Tracked
     tracked = tracked_in (map tree p.trees.items) (rows_known knows p.seats.items)
 
@@ -131,14 +131,14 @@ module _ {P T : Type 0} (tree : T → SharedTree) (knows : P → Pass) (serves :
           let long : 0 < length f.row = omega (arith, ap length row_same, length-map (get_or p.seats.items number row).items knows, (rest.seated.all number x row (omega (arith, within, rest.seated.count))).count, rest.seated.some_pass) in
           let (first, first_is) = some_at f.row 0 long in
           let (m, m_is) = some_at middle 0 (omega (arith, long, ran.count)) in
-          let onward = leads_onward f.tree.history first (outcomes_of number 0 (joined (gone.run.answers 0))) m (ran.leads 0 first m first_is m_is) in
+          let onward = leads_onward f.tree.history first (outcomes_of number 0 (answers_joined (gone.run.answers 0))) m (ran.leads 0 first m first_is m_is) in
           let seen : first.seen ≡ (seen_by f.tree.history f.row).records = all_at (λ (q : Pass). q.seen ≡ (seen_by f.tree.history f.row).records) f.row 0 first start.seen first_is in
           let now : List Record = (seen_by f.tree.history g.row).records in
           let begins : Begins (seen_by f.tree.history f.row).records now = subst (λ (z : List Record). Begins z now) seen (begins_on first.seen m.seen now onward.seen (seen_begins (seen_by f.tree.history g.row) middle g.row end 0 m m_is)) in
           let same : tracked_of f.tree g.row ≡ u = cc (f.tree_is, g.tree_is, g.is) in
           subst (λ (z : Tracked). HasGrown z u) (sym f.is) (subst (HasGrown (tracked_of f.tree f.row)) same (record { tree = seen_otherwise f.tree.history f.row g.row; begins = begins }))
 
-      pub rests_gone : IsAtRest tree knows serves many after
+      pub rests_gone : IsBetweenPhases tree knows serves many after
       rests_gone = record {
         seated = record {
           few_rows = rest.seated.few_rows;
@@ -164,12 +164,12 @@ module _ {P T : Type 0} (tree : T → SharedTree) (knows : P → Pass) (serves :
           let (x, x_is) = some_at p.trees.items number within in
           subst (λ (z : SharedTree). z.most ≡ calls_taken) (of_mapped tree p.trees.items number x t within is) (rest.seated.most number x within)
 
-      pub played_gone : (front : List Line) (steps : List Step) → IsPhaseBehind lanes phase front lines → IsBegun phase front lines (state_of tree knows p) steps → IsPlayed (phase + 1) (front ++ lines) (state_of tree knows after)
+      pub played_gone : (front : List Line) (steps : List Step) → IsPhaseBehind lanes phase front lines → IsBegun phase front lines (player_state tree knows p) steps → IsPlayed (phase + 1) (front ++ lines) (player_state tree knows after)
       played_gone front steps ready (counted, begun) =
           let trees : List SharedTree = map tree p.trees.items in
           subst (λ (n : ℕ). IsPlayed (phase + 1) (front ++ lines) (stands p.rows n p.known.items (map tree p.trees.items) (rows_known knows seats'.items) entries'.items)) (sym passes)
           (phase_played lanes phase p.rows front lines p.known.items (map tree p.trees.items) (rows_known knows p.seats.items) gone.between (rows_known knows seats'.items) p.entries.items entries'.items steps counted ready
           (length-map p.seats.items known ∙ (rest.seated.count ∙ sym (length-map p.trees.items tree)))
           most_there
-          (subst (λ (n : ℕ). IsBegunBy phase front lines (stands p.rows n p.known.items (map tree p.trees.items) (rows_known knows p.seats.items) p.entries.items) steps counted) passes begun)
+          (subst (λ (n : ℕ). IsPhaseBegun phase front lines (stands p.rows n p.known.items (map tree p.trees.items) (rows_known knows p.seats.items) p.entries.items) steps counted) passes begun)
           gone.run gone.settled)

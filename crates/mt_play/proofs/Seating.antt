@@ -24,7 +24,7 @@ use Rattle.mt_play.specs.declared.counts.Counted.{Counted}
 use Rattle.mt_play.specs.declared.players.Player.{Player}
 use Rattle.mt_play.specs.Counts.{AreCounts, IsCountOf}
 use Rattle.mt_play.specs.Trees.{AreAll, IsNewTree, calls_taken, seen_by, tracked_of}
-use Rattle.mt_play.specs.Players.{PlayerState, Checks, Copies, HasRanges, IsAtRest, IsClosed, IsCopyIn, rows_known, state_of, tracked_in}
+use Rattle.mt_play.specs.Players.{PlayerState, Checks, Copies, HasRanges, IsBetweenPhases, IsClosed, IsCopyIn, rows_known, player_state, tracked_in}
 use Rattle.mt_play.proofs.Recounting.{count_at, counts_long, counts_push, counts_set}
 
 -- ---- side by side
@@ -102,7 +102,7 @@ seen_rows h (p ∷ passes) = refl
 
 module _ {P T : Type 0} (tree : T → SharedTree) (knows : P → Pass) (serves : T → P → Type 0) (many : T → ℕ) where
   abbrev AtRest : Player P T → Type 0
-  AtRest p = IsAtRest tree knows serves many p
+  AtRest p = IsBetweenPhases tree knows serves many p
 
   abbrev tracked : Player P T → List Tracked
   tracked p = tracked_in (map tree p.trees.items) (rows_known knows p.seats.items)
@@ -233,7 +233,7 @@ module _ {P T : Type 0} (tree : T → SharedTree) (knows : P → Pass) (serves :
   -- ---- as states
 
   abbrev state : Player P T → PlayerState
-  state p = state_of tree knows p
+  state p = player_state tree knows p
 
   pub copy_in : (p : Player P T) (at : ℕ) (t : T) (row : Vec P Global) (made : SharedTree) (passes : List Pass) → StandsIn p at t row → IsNewTree (tree t).history.kind (tree t).history.rows (last_map (seen_by (tree t).history (map knows row.items))) (many t) made passes → IsCopyIn (state p) at made passes
   copy_in p at t row made passes s new = record {

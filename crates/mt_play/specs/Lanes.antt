@@ -10,12 +10,12 @@ use Rattle.mt_log.specs.Run.{Step, entry_of}
 use Rattle.mt_log.specs.Trees.{AreNamedFrom, most_lanes, trees_of}
 use Rattle.mt_runs.specs.Gone.{HaveGone}
 use Rattle.mt_runs.specs.Lines.{lane_behind, phase_behind}
-use Rattle.mt_runs.specs.Rooms.{asked_of_lane, AreAnswered, take_turns, lanes_of, joined}
+use Rattle.mt_runs.specs.Rooms.{asked_of_lane, AreDoneEach, take_turns, lanes_of, answers_joined}
 use Rattle.mt_runs.specs.Tracks.{Pairs}
 use Rattle.mt_lanes.specs.declared.lanes.Lane.{Lane}
 use Rattle.mt_desks.specs.declared.desks.LaneDesk.{LaneDesk}
 use Rattle.mt_desks.specs.Dealing.{IsOnePhase, lanes_in, lines_of_lane, room_of, steps_in}
-use Rattle.mt_desks.specs.Desks.{AreAnsweredUnless, AreLines, IsWorn, SharedTree}
+use Rattle.mt_desks.specs.Desks.{AreAnsweredUnless, AreLines, IsSomeWorn, SharedTree}
 use Rattle.mt_desks.specs.Phases.{AtEach}
 use Rattle.mt_play.specs.Players.{rows_known}
 use Rattle.mt_play.specs.Trees.{AreAll, calls_taken, seen_by}
@@ -32,10 +32,10 @@ pub record HaveRun (phase : ℕ) (lines : List Line) (trees : List SharedTree) (
   pub answers : ℕ → List (List Step)
   pub passes : ℕ → List Pass
   pub passes_are : (lane number : ℕ) (p : Pass) → slice_get (passes lane) number ≡ Some p → IsPassAt rows' number lane p
-  pub answered : (lane : ℕ) → AreAnsweredUnless (IsWorn trees (passes lane)) (asked_of_lane lane (steps_in 0 phase lines)) (answers lane)
+  pub answered : (lane : ℕ) → AreAnsweredUnless (IsSomeWorn trees (passes lane)) (asked_of_lane lane (steps_in 0 phase lines)) (answers lane)
   pub count : length rows' ≡ length rows
   pub gone : (number : ℕ) (tree : SharedTree) (before between : List Pass) → slice_get trees number ≡ Some tree → slice_get rows number ≡ Some before → slice_get rows' number ≡ Some between → HaveGone number tree.history answers before between
-  pub told : ((lane : ℕ) → AreAnswered (asked_of_lane lane (steps_in 0 phase lines)) (answers lane)) → entries' ≡ entries ++ map entry_of (joined (take_turns (lanes_of (steps_in 0 phase lines)) answers))
+  pub told : ((lane : ℕ) → AreDoneEach (asked_of_lane lane (steps_in 0 phase lines)) (answers lane)) → entries' ≡ entries ++ map entry_of (answers_joined (take_turns (lanes_of (steps_in 0 phase lines)) answers))
 
 -- All passes of each tree were settled.
 pub record AreSettled (trees : List SharedTree) (rows rows' : List (List Pass)) : Type 0 where

@@ -12,13 +12,13 @@ use Rattle.mt_desks.specs.Desks.{SharedTree}
 use Rattle.mt_play.specs.Trees.{AreAll, IsNewTree}
 
 -- the kind of the empty tree that a line declares, if it declares one
-abbrev pub kind_in : Item → List Kind
-kind_in (Tree name kind) = kind ∷ []
-kind_in item = []
+abbrev pub declared_kind : Item → List Kind
+declared_kind (Tree name kind) = kind ∷ []
+declared_kind item = []
 
 -- the kinds of those that these lines declare, in their order
 abbrev pub kinds_in : List Line → List Kind
-kinds_in lines = flat_map (λ line. kind_in line.item) lines
+kinds_in lines = flat_map (λ line. declared_kind line.item) lines
 
 module _ {P T : Type 0} (tree : T → SharedTree) (knows : P → Pass) (serves : T → P → Type 0) (many : T → ℕ) (rows passes : ℕ) where
   -- a new empty tree of this kind, of so many rows, and its passes, so many

@@ -17,7 +17,7 @@ use Rattle.mt_log.specs.declared.transcripts.Said.TheVariants as said
 use Rattle.mt_log.specs.declared.trees.KnownTree.{KnownTree}
 use Rattle.mt_log.specs.Run.{Step, AreDone, entry_of, steps_of}
 use Rattle.mt_log.specs.Trees.{renamed, trees_of}
-use Rattle.mt_runs.specs.Gone.{IsCounted}
+use Rattle.mt_runs.specs.Gone.{CountsRanges}
 use Rattle.mt_runs.specs.Phases.{Tracked, new_tracked}
 use Rattle.mt_runs.specs.Tracks.{Ran}
 use Rattle.mt_desks.specs.Dealing.{counts_in}
@@ -56,8 +56,8 @@ abbrev pub rows_known : {P : Type 0} → (P → Pass) → List (Vec P Global) �
 rows_known knows seats = map (λ row. map knows row.items) seats
 
 -- a player as it stands
-abbrev pub state_of : {P T : Type 0} → (T → SharedTree) → (P → Pass) → Player P T → PlayerState
-state_of tree knows p = record { rows = p.rows; passes = p.passes; known = p.known.items; trees = tracked_in (map tree p.trees.items) (rows_known knows p.seats.items); entries = p.entries.items }
+abbrev pub player_state : {P T : Type 0} → (T → SharedTree) → (P → Pass) → Player P T → PlayerState
+player_state tree knows p = record { rows = p.rows; passes = p.passes; known = p.known.items; trees = tracked_in (map tree p.trees.items) (rows_known knows p.seats.items); entries = p.entries.items }
 
 -- Each tree has a name, and a row of seats in which all its passes sit, so many; it takes as many calls as a tree may have.
 pub record IsSeated {P T : Type 0} (tree : T → SharedTree) (knows : P → Pass) (serves : T → P → Type 0) (many : T → ℕ) (p : Player P T) : Type 0 where
@@ -77,7 +77,7 @@ IsClosed t = All (λ p. p.standing ≡ None) t.passes
 
 -- And between two phases all passes of each tree are settled, none has a section open, and the ranges of each tree were counted
 -- after some of its calls.
-pub record IsAtRest {P T : Type 0} (tree : T → SharedTree) (knows : P → Pass) (serves : T → P → Type 0) (many : T → ℕ) (p : Player P T) : Type 0 where
+pub record IsBetweenPhases {P T : Type 0} (tree : T → SharedTree) (knows : P → Pass) (serves : T → P → Type 0) (many : T → ℕ) (p : Player P T) : Type 0 where
   pub seated : IsSeated tree knows serves many p
   pub settled : All (λ t. IsSettled t.history t.passes) (tracked_in (map tree p.trees.items) (rows_known knows p.seats.items))
   pub closed : All IsClosed (tracked_in (map tree p.trees.items) (rows_known knows p.seats.items))
@@ -107,8 +107,8 @@ abbrev pub with_entry : PlayerState → ℕ → Said → List Entry
 with_entry p line what = p.entries ++ record { line = line; said = what } ∷ []
 
 -- A tree of this name and kind was added, which is empty and of which no call was made.
-abbrev pub Opens : PlayerState → PlayerState → List ℕ → Kind → Type 0
-Opens old new name kind = new ≡ record old { known = old.known ++ record { name = name; kind = kind } ∷ []; trees = old.trees ++ new_tracked old.passes old.rows kind [] ∷ [] }
+abbrev pub OpensTree : PlayerState → PlayerState → List ℕ → Kind → Type 0
+OpensTree old new name kind = new ≡ record old { known = old.known ++ record { name = name; kind = kind } ∷ []; trees = old.trees ++ new_tracked old.passes old.rows kind [] ∷ [] }
 
 -- A copy of a tree was added under this name, as the tree stands, and it is told how many ranges the copy has.
 pub record Copies (old new : PlayerState) (line from : ℕ) (name : List ℕ) : Type 0 where
@@ -130,11 +130,11 @@ pub record Checks (old new : PlayerState) (line tree : ℕ) : Type 0 where
 
 -- What the line of this number makes of a player as a phase begins. A line that neither declares nor copies nor checks a tree
 -- leaves it as it is.
-abbrev pub Begins : PlayerState → PlayerState → ℕ → Item → Type 0
-Begins old new line (Tree name kind) = Opens old new name kind
-Begins old new line (Dup from name) = Copies old new line from name
-Begins old new line (Check tree) = Checks old new line tree
-Begins old new line item = new ≡ old
+abbrev pub BeginsPhase : PlayerState → PlayerState → ℕ → Item → Type 0
+BeginsPhase old new line (Tree name kind) = OpensTree old new name kind
+BeginsPhase old new line (Dup from name) = Copies old new line from name
+BeginsPhase old new line (Check tree) = Checks old new line tree
+BeginsPhase old new line item = new ≡ old
 
 -- ---- what came of lines
 
@@ -143,14 +143,14 @@ IsPlayed phase lines p = (steps : List Step) × IsPlayedBy phase lines p steps
 
 -- The lines in front were played, in the phases below this one. Of these lines of this phase the trees were declared, copied
 -- and checked, and no lane has started: the steps of the lines in front were told, and behind them what was counted.
-pub record IsBegunBy (phase : ℕ) (front lines : List Line) (p : PlayerState) (steps counted : List Step) : Type 0 where
+pub record IsPhaseBegun (phase : ℕ) (front lines : List Line) (p : PlayerState) (steps counted : List Step) : Type 0 where
   pub ran : Ran p.passes p.rows phase (trees_of (front ++ lines)) steps p.trees
   pub done : AreDone (steps_of front) steps
   pub counted_are : AreDone (counts_in phase lines) counted
-  pub each : All (λ s. IsCounted p.trees s) counted
+  pub each : All (λ s. CountsRanges p.trees s) counted
   pub told : p.entries ≡ map entry_of (steps ++ counted)
   pub known : p.known ≡ map (λ d. d.tree) (trees_of (front ++ lines))
   pub few : All (λ t. length t.history.records ≤ length front) p.trees
 
 abbrev pub IsBegun : ℕ → List Line → List Line → PlayerState → List Step → Type 0
-IsBegun phase front lines p steps = (counted : List Step) × IsBegunBy phase front lines p steps counted
+IsBegun phase front lines p steps = (counted : List Step) × IsPhaseBegun phase front lines p steps counted

@@ -10,7 +10,7 @@ ghost use Rattle.mt_play.specs.Trees.{calls_taken, fewest_rows};
 ghost use Rattle.mt_play.specs.Images.{IsImageOfRun};
 ghost use Rattle.mt_play.specs.Lanes.{CanDo, IsPhaseBehind};
 ghost use Rattle.mt_play.specs.Phases.{NoJoinBetween};
-ghost use Rattle.mt_play.specs.Players.{IsAtRest, IsBegun, IsPlayed, state_of};
+ghost use Rattle.mt_play.specs.Players.{IsBetweenPhases, IsBegun, IsPlayed, player_state};
 ghost use Rattle.mt_play.specs.Turns.{AllTurned, PhaseTurned};
 
 use crate::lanes::run_and_settle;
@@ -39,11 +39,11 @@ fn play_lanes<
     lines: &[Line],
     gate: &G,
 ) -> Result<(), NoMemory>
-    requires rest { IsAtRest T.tree P.knows T.serves T.many player.old }
+    requires rest { IsBetweenPhases T.tree P.knows T.serves T.many player.old }
     requires passes { player.old.passes ≡ lanes + 1 }
     requires can { CanDo lanes (length player.old.trees.items) lines.now }
-    ensures rest { OnOk result (IsAtRest T.tree P.knows T.serves T.many player.new) }
-    ensures played { OnOk result ((front : List Line) (steps : List Step) → IsPhaseBehind lanes phase front lines.now → IsBegun phase front lines.now (state_of T.tree P.knows player.old) steps → IsPlayed (phase + 1) (front ++ lines.now) (state_of T.tree P.knows player.new)) }
+    ensures rest { OnOk result (IsBetweenPhases T.tree P.knows T.serves T.many player.new) }
+    ensures played { OnOk result ((front : List Line) (steps : List Step) → IsPhaseBehind lanes phase front lines.now → IsBegun phase front lines.now (player_state T.tree P.knows player.old) steps → IsPlayed (phase + 1) (front ++ lines.now) (player_state T.tree P.knows player.new)) }
     ensures rows { OnOk result (player.new.rows ≡ player.old.rows) }
     ensures passes { OnOk result (player.new.passes ≡ player.old.passes) }
     ensures turns { OnOk result (PhaseTurned (G.passed gate.now) lines.now) }
@@ -80,15 +80,15 @@ fn play_phase<
     gate: &G,
 ) -> Result<(), NoMemory>
     requires within { (from ≤ to) × (to ≤ length log.now) }
-    requires rest { IsAtRest T.tree P.knows T.serves T.many player.old }
+    requires rest { IsBetweenPhases T.tree P.knows T.serves T.many player.old }
     requires passes { player.old.passes ≡ lanes + 1 }
     requires lanes { (1 ≤ lanes) × (lanes ≤ most_lanes) }
     requires ready { IsPhaseBehind lanes phase (take from log.now) (slice_range log.now from to) }
-    requires played { IsPlayed phase (take from log.now) (state_of T.tree P.knows player.old) }
-    ensures rest { OnOk result (IsAtRest T.tree P.knows T.serves T.many player.new) }
+    requires played { IsPlayed phase (take from log.now) (player_state T.tree P.knows player.old) }
+    ensures rest { OnOk result (IsBetweenPhases T.tree P.knows T.serves T.many player.new) }
     ensures passes { OnOk result (player.new.passes ≡ player.old.passes) }
     ensures rows { OnOk result (player.new.rows ≡ player.old.rows) }
-    ensures played { OnOk result (IsPlayed (phase + 1) (take to log.now) (state_of T.tree P.knows player.new)) }
+    ensures played { OnOk result (IsPlayed (phase + 1) (take to log.now) (player_state T.tree P.knows player.new)) }
     ensures turns { OnOk result (PhaseTurned (G.passed gate.now) (slice_range log.now from to)) }
 {
     let lines = &log[from..to];
@@ -143,16 +143,16 @@ fn play_lines<
     log: &[Line],
     gate: &G,
 ) -> Result<(), NoMemory>
-    requires rest { IsAtRest T.tree P.knows T.serves T.many player.old }
+    requires rest { IsBetweenPhases T.tree P.knows T.serves T.many player.old }
     requires passes { player.old.passes ≡ lanes + 1 }
     requires lanes { (1 ≤ lanes) × (lanes ≤ most_lanes) }
     requires all_lanes { lanes_in 0 log.now ≤ lanes }
     requires readable { IsReadable log.now }
     requires count { length log.now < calls_taken }
-    requires none { IsPlayed 0 [] (state_of T.tree P.knows player.old) }
-    ensures rest { OnOk result (IsAtRest T.tree P.knows T.serves T.many player.new) }
+    requires none { IsPlayed 0 [] (player_state T.tree P.knows player.old) }
+    ensures rest { OnOk result (IsBetweenPhases T.tree P.knows T.serves T.many player.new) }
     ensures rows { OnOk result (player.new.rows ≡ player.old.rows) }
-    ensures played { OnOk result ((phase : ℕ) × IsPlayed phase log.now (state_of T.tree P.knows player.new)) }
+    ensures played { OnOk result ((phase : ℕ) × IsPlayed phase log.now (player_state T.tree P.knows player.new)) }
     ensures turns { OnOk result (AllTurned (G.passed gate.now) log.now) }
 {
     let mut from = 0;
@@ -190,9 +190,9 @@ fn played<
     requires rows { rows ≤ most_rows }
     requires readable { IsReadable log.now.lines }
     requires count { length log.now.lines < calls_taken }
-    ensures rest { IfOk result (IsAtRest T.tree P.knows T.serves T.many) }
+    ensures rest { IfOk result (IsBetweenPhases T.tree P.knows T.serves T.many) }
     ensures rows { IfOk result (λ player. player.rows ≡ rows) }
-    ensures played { IfOk result (λ player. (phase : ℕ) × IsPlayed phase log.now.lines (state_of T.tree P.knows player)) }
+    ensures played { IfOk result (λ player. (phase : ℕ) × IsPlayed phase log.now.lines (player_state T.tree P.knows player)) }
     ensures turns { IfOk result (λ player. AllTurned (G.passed gate.now) log.now.lines) }
 {
     let lines = log.lines.as_slice();

@@ -9,9 +9,9 @@ ghost use Rattle.mt_log.specs.Trees.{AreNamedFrom, Declared, NamesBelow, count_a
 ghost use Rattle.mt_runs.specs.Lines.{phase_behind};
 ghost use Rattle.mt_runs.specs.Phases.{histories_of};
 ghost use Rattle.mt_desks.specs.Dealing.{IsOnePhase};
-ghost use Rattle.mt_play.specs.Makes.{BeginAs, kind_in};
+ghost use Rattle.mt_play.specs.Makes.{BeginAs, declared_kind};
 ghost use Rattle.mt_play.specs.Trees.{AreAll, fewest_rows, most_passes};
-ghost use Rattle.mt_play.specs.Players.{Begins, Checks, Copies, HasImage, HasRanges, IsAtRest, IsBegun, IsCopyIn, IsPlayedBy, Opens, rows_known, state_of};
+ghost use Rattle.mt_play.specs.Players.{BeginsPhase, Checks, Copies, HasImage, HasRanges, IsBetweenPhases, IsBegun, IsCopyIn, IsPlayedBy, OpensTree, rows_known, player_state};
 
 use crate::counts::{Counted, count_again};
 use crate::makes::{Made, make_declared};
@@ -45,8 +45,8 @@ impl<P: Passage + Drop + Send, T: Plays<P> + Send> Player<P, T> {
         requires rows { rows ≤ most_rows }
         requires some_pass { 1 ≤ passes }
         requires passes { passes ≤ most_passes }
-        ensures rest { IsAtRest T.tree P.knows T.serves T.many result }
-        ensures played { IsPlayedBy 0 [] (state_of T.tree P.knows result) [] }
+        ensures rest { IsBetweenPhases T.tree P.knows T.serves T.many result }
+        ensures played { IsPlayedBy 0 [] (player_state T.tree P.knows result) [] }
         ensures none { result.trees.items ≡ [] }
         ensures rows_are { result.rows ≡ rows }
         ensures passes_are { result.passes ≡ passes }
@@ -84,10 +84,10 @@ impl<P: Passage + Drop + Send, T: Plays<P> + Send> Player<P, T> {
         kind: Kind,
         made: &mut IntoIter<Made<P, T>>,
     ) -> Result<(), NoMemory>
-        requires rest { IsAtRest T.tree P.knows T.serves T.many self.old }
+        requires rest { IsBetweenPhases T.tree P.knows T.serves T.many self.old }
         requires made { BeginAs T.tree P.knows T.serves T.many self.old.rows self.old.passes (kind ∷ []) (into_iter_items made.old) }
-        ensures rest { OnOk result (IsAtRest T.tree P.knows T.serves T.many self.new) }
-        ensures opens { OnOk result (Opens (state_of T.tree P.knows self.old) (state_of T.tree P.knows self.new) name kind) }
+        ensures rest { OnOk result (IsBetweenPhases T.tree P.knows T.serves T.many self.new) }
+        ensures opens { OnOk result (OpensTree (player_state T.tree P.knows self.old) (player_state T.tree P.knows self.new) name kind) }
         ensures count { OnOk result (length self.new.trees.items ≡ length self.old.trees.items + 1) }
         ensures left { into_iter_items made.new ≡ drop 1 (into_iter_items made.old) }
     {
@@ -106,12 +106,12 @@ impl<P: Passage + Drop + Send, T: Plays<P> + Send> Player<P, T> {
         alloc: Global,
         number: usize,
     ) -> Result<(T, Vec<P>), NoMemory>
-        requires rest { IsAtRest T.tree P.knows T.serves T.many self.old }
+        requires rest { IsBetweenPhases T.tree P.knows T.serves T.many self.old }
         requires declared { number < length self.old.trees.items }
-        ensures rest { IsAtRest T.tree P.knows T.serves T.many self.new }
+        ensures rest { IsBetweenPhases T.tree P.knows T.serves T.many self.new }
         ensures kept { self.new ≡ record self.old { seats = self.new.seats } }
         ensures stays { rows_known P.knows self.new.seats.items ≡ rows_known P.knows self.old.seats.items }
-        ensures new { IfOk result (λ made. IsCopyIn (state_of T.tree P.knows self.old) number (T.tree made.0) (map P.knows made.1.items)) }
+        ensures new { IfOk result (λ made. IsCopyIn (player_state T.tree P.knows self.old) number (T.tree made.0) (map P.knows made.1.items)) }
         ensures all { IfOk result (λ made. AreAll P.knows T.serves self.old.passes made.0 made.1.items) }
         ensures many { IfOk result (λ made. T.many made.0 ≡ self.old.passes) }
     {
@@ -120,12 +120,12 @@ impl<P: Passage + Drop + Send, T: Plays<P> + Send> Player<P, T> {
 
     /// How many ranges the tree of this number has, which is checked where it has had calls since they were counted.
     fn count_of<R: Wait>(&mut self, rt: &R, number: usize) -> u64
-        requires rest { IsAtRest T.tree P.knows T.serves T.many self.old }
+        requires rest { IsBetweenPhases T.tree P.knows T.serves T.many self.old }
         requires declared { number < length self.old.trees.items }
-        ensures rest { IsAtRest T.tree P.knows T.serves T.many self.new }
+        ensures rest { IsBetweenPhases T.tree P.knows T.serves T.many self.new }
         ensures kept { self.new ≡ record self.old { seats = self.new.seats; counts = self.new.counts } }
         ensures stays { rows_known P.knows self.new.seats.items ≡ rows_known P.knows self.old.seats.items }
-        ensures count { HasRanges (state_of T.tree P.knows self.old) number (λ ranges. result ≡ length ranges) }
+        ensures count { HasRanges (player_state T.tree P.knows self.old) number (λ ranges. result ≡ length ranges) }
     {
         count_again(
             rt,
@@ -142,12 +142,12 @@ impl<P: Passage + Drop + Send, T: Plays<P> + Send> Player<P, T> {
         alloc: Global,
         number: usize,
     ) -> Result<Vec<Range>, NoMemory>
-        requires rest { IsAtRest T.tree P.knows T.serves T.many self.old }
+        requires rest { IsBetweenPhases T.tree P.knows T.serves T.many self.old }
         requires declared { number < length self.old.trees.items }
-        ensures rest { IsAtRest T.tree P.knows T.serves T.many self.new }
+        ensures rest { IsBetweenPhases T.tree P.knows T.serves T.many self.new }
         ensures kept { self.new ≡ record self.old { seats = self.new.seats } }
         ensures stays { rows_known P.knows self.new.seats.items ≡ rows_known P.knows self.old.seats.items }
-        ensures ranges { IfOk result (λ v. HasRanges (state_of T.tree P.knows self.old) number (λ ranges. v.items ≡ ranges)) }
+        ensures ranges { IfOk result (λ v. HasRanges (player_state T.tree P.knows self.old) number (λ ranges. v.items ≡ ranges)) }
     {
         list_settled(rt, alloc, &self.trees[number], &mut self.seats[number])
     }
@@ -163,9 +163,9 @@ impl<P: Passage + Drop + Send, T: Plays<P> + Send> Player<P, T> {
         alloc: Global,
         number: usize,
     ) -> Result<Vec<u8>, NoMemory>
-        requires rest { IsAtRest T.tree P.knows T.serves T.many self.old }
+        requires rest { IsBetweenPhases T.tree P.knows T.serves T.many self.old }
         requires declared { number < length self.old.trees.items }
-        ensures { IfOk result (λ bytes. HasImage (state_of T.tree P.knows self.old) number bytes.items) }
+        ensures { IfOk result (λ bytes. HasImage (player_state T.tree P.knows self.old) number bytes.items) }
     {
         image_settled(rt, alloc, &self.trees[number], &mut self.seats[number])
     }
@@ -179,10 +179,10 @@ impl<P: Passage + Drop + Send, T: Plays<P> + Send> Player<P, T> {
         from: usize,
         name: Word,
     ) -> Result<(), NoMemory>
-        requires rest { IsAtRest T.tree P.knows T.serves T.many self.old }
+        requires rest { IsBetweenPhases T.tree P.knows T.serves T.many self.old }
         requires declared { from < length self.old.trees.items }
-        ensures rest { OnOk result (IsAtRest T.tree P.knows T.serves T.many self.new) }
-        ensures copies { OnOk result (Copies (state_of T.tree P.knows self.old) (state_of T.tree P.knows self.new) line from name) }
+        ensures rest { OnOk result (IsBetweenPhases T.tree P.knows T.serves T.many self.new) }
+        ensures copies { OnOk result (Copies (player_state T.tree P.knows self.old) (player_state T.tree P.knows self.new) line from name) }
         ensures count { OnOk result (length self.new.trees.items ≡ length self.old.trees.items + 1) }
     {
         let known = self.known[from].renamed(name);
@@ -196,10 +196,10 @@ impl<P: Passage + Drop + Send, T: Plays<P> + Send> Player<P, T> {
 
     /// Checks a tree, and tells how many ranges it has.
     fn check<R: Wait>(&mut self, rt: &R, line: u64, tree: usize) -> Result<(), NoMemory>
-        requires rest { IsAtRest T.tree P.knows T.serves T.many self.old }
+        requires rest { IsBetweenPhases T.tree P.knows T.serves T.many self.old }
         requires declared { tree < length self.old.trees.items }
-        ensures rest { OnOk result (IsAtRest T.tree P.knows T.serves T.many self.new) }
-        ensures checks { OnOk result (Checks (state_of T.tree P.knows self.old) (state_of T.tree P.knows self.new) line tree) }
+        ensures rest { OnOk result (IsBetweenPhases T.tree P.knows T.serves T.many self.new) }
+        ensures checks { OnOk result (Checks (player_state T.tree P.knows self.old) (player_state T.tree P.knows self.new) line tree) }
         ensures count { OnOk result (length self.new.trees.items ≡ length self.old.trees.items) }
     {
         let count = self.count_of(rt, tree);
@@ -216,13 +216,13 @@ impl<P: Passage + Drop + Send, T: Plays<P> + Send> Player<P, T> {
         line: &Line,
         made: &mut IntoIter<Made<P, T>>,
     ) -> Result<(), NoMemory>
-        requires rest { IsAtRest T.tree P.knows T.serves T.many self.old }
+        requires rest { IsBetweenPhases T.tree P.knows T.serves T.many self.old }
         requires named { NamesBelow (length self.old.trees.items) line.now.item }
-        requires made { BeginAs T.tree P.knows T.serves T.many self.old.rows self.old.passes (kind_in line.now.item) (into_iter_items made.old) }
-        ensures rest { OnOk result (IsAtRest T.tree P.knows T.serves T.many self.new) }
-        ensures begins { OnOk result (Begins (state_of T.tree P.knows self.old) (state_of T.tree P.knows self.new) line.now.number line.now.item) }
+        requires made { BeginAs T.tree P.knows T.serves T.many self.old.rows self.old.passes (declared_kind line.now.item) (into_iter_items made.old) }
+        ensures rest { OnOk result (IsBetweenPhases T.tree P.knows T.serves T.many self.new) }
+        ensures begins { OnOk result (BeginsPhase (player_state T.tree P.knows self.old) (player_state T.tree P.knows self.new) line.now.number line.now.item) }
         ensures count { OnOk result (length self.new.trees.items ≡ count_after (length self.old.trees.items) line.now.item) }
-        ensures left { into_iter_items made.new ≡ drop (length (kind_in line.now.item)) (into_iter_items made.old) }
+        ensures left { into_iter_items made.new ≡ drop (length (declared_kind line.now.item)) (into_iter_items made.old) }
     {
         match line.item {
             Item::Tree { name, kind } => self.open(name, kind, made),
@@ -247,10 +247,10 @@ impl<P: Passage + Drop + Send, T: Plays<P> + Send> Player<P, T> {
         alloc: Global,
         lines: &[Line],
     ) -> Result<(), NoMemory>
-        requires rest { IsAtRest T.tree P.knows T.serves T.many self.old }
+        requires rest { IsBetweenPhases T.tree P.knows T.serves T.many self.old }
         requires named { AreNamedFrom (length self.old.trees.items) lines.now }
-        ensures rest { OnOk result (IsAtRest T.tree P.knows T.serves T.many self.new) }
-        ensures begun { OnOk result ((phase : ℕ) (front : List Line) (steps : List Step) → phase_behind 0 front ≡ phase → IsOnePhase lines.now → IsPlayedBy phase front (state_of T.tree P.knows self.old) steps → IsBegun phase front lines.now (state_of T.tree P.knows self.new) steps) }
+        ensures rest { OnOk result (IsBetweenPhases T.tree P.knows T.serves T.many self.new) }
+        ensures begun { OnOk result ((phase : ℕ) (front : List Line) (steps : List Step) → phase_behind 0 front ≡ phase → IsOnePhase lines.now → IsPlayedBy phase front (player_state T.tree P.knows self.old) steps → IsBegun phase front lines.now (player_state T.tree P.knows self.new) steps) }
         ensures rows { OnOk result (self.new.rows ≡ self.old.rows) }
         ensures passes { OnOk result (self.new.passes ≡ self.old.passes) }
     {
@@ -267,8 +267,8 @@ impl<P: Passage + Drop + Send, T: Plays<P> + Send> Player<P, T> {
     ///
     /// `NoMemory` where memory ran out.
     pub(crate) fn list<R: Wait>(&mut self, rt: &R, alloc: Global) -> Result<Vec<Listing>, NoMemory>
-        requires { IsAtRest T.tree P.knows T.serves T.many self.old }
-        ensures lists { IfOk result (λ lists. (declared : List Declared) → self.old.known.items ≡ map (λ d. d.tree) declared → lists.items ≡ listings_of declared (histories_of (state_of T.tree P.knows self.old).trees)) }
+        requires { IsBetweenPhases T.tree P.knows T.serves T.many self.old }
+        ensures lists { IfOk result (λ lists. (declared : List Declared) → self.old.known.items ≡ map (λ d. d.tree) declared → lists.items ≡ listings_of declared (histories_of (player_state T.tree P.knows self.old).trees)) }
         ensures entries { self.new.entries ≡ self.old.entries }
     {
         let mut lists = Vec::new(alloc);

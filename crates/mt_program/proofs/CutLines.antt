@@ -3,7 +3,7 @@ use Rattle.std.proofs.Common.{◌≡◌, ◌∙◌, ◌<◌, ◌++◌, ℕ, suc,
 use Rattle.std.specs.Prelude.{◌==◌, ◌&&◌, option_map}
 use Rattle.std.proofs.Math.Seq.{drop-length, take-suc}
 use Rattle.std.proofs.lemmas.List.{take_rest}
-use Rattle.mt_program.specs.Parts.{behind, is_cut, parts_from}
+use Rattle.mt_program.specs.Parts.{with_byte_before, is_cut, parts_from}
 
 -- these bytes are in front of the first part
 abbrev pub before : List ℕ → List ℕ × List ℕ → List ℕ × List ℕ
@@ -17,7 +17,7 @@ none_before : (o : Option (List ℕ × List ℕ)) → o ≡ option_map (before [
 none_before None = refl
 none_before (Some parts) = refl
 
-one_more : (front : List ℕ) (byte : ℕ) (o : Option (List ℕ × List ℕ)) → option_map (before front) (option_map (behind byte) o) ≡ option_map (before (front ++ byte ∷ [])) o
+one_more : (front : List ℕ) (byte : ℕ) (o : Option (List ℕ × List ℕ)) → option_map (before front) (option_map (with_byte_before byte) o) ≡ option_map (before (front ++ byte ∷ [])) o
 one_more front byte None = refl
 one_more front byte (Some parts) = ap (λ (x : List ℕ). Some (x, parts.1)) (sym (append_assoc front (byte ∷ []) parts.0))
 
@@ -25,7 +25,7 @@ cuts_here : (bytes : List ℕ) → is_cut bytes ≡ true → parts_from true byt
 cuts_here [] is = absurd (cc)
 cuts_here (byte ∷ bytes) is = rw is refl
 
-goes_on : (begins : Bool) (byte : ℕ) (bytes : List ℕ) → (begins && is_cut (byte ∷ bytes)) ≡ false → parts_from begins (byte ∷ bytes) ≡ option_map (behind byte) (parts_from (byte == 10) bytes)
+goes_on : (begins : Bool) (byte : ℕ) (bytes : List ℕ) → (begins && is_cut (byte ∷ bytes)) ≡ false → parts_from begins (byte ∷ bytes) ≡ option_map (with_byte_before byte) (parts_from (byte == 10) bytes)
 goes_on begins byte bytes is = rw is refl
 
 pub cut_starts : (bytes : List ℕ) → IsSoFar bytes 0 true

@@ -5,21 +5,21 @@ use Rattle.mt_log.specs.Run.{IsRun}
 use Rattle.mt_log.specs.declared.lines.Log.{Log}
 use Rattle.mt_log.specs.declared.transcripts.Transcript.{Transcript}
 use Rattle.mt_verify.specs.Points.{AreLeastPoints}
-use Rattle.mt_verify.specs.Tellings.{calls_told, reads_told}
+use Rattle.mt_verify.specs.Tellings.{count_of_calls, reads_told}
 use Rattle.mt_verify.proofs.Tellings.{reads_are_points}
 use Rattle.mt_words.specs.declared.commands.Command.{Command}
 use Rattle.mt_words.specs.declared.commands.Command.TheVariants.{Replay, Make, Trial, Verify, Image, Show, Bulk, Ids}
 use Rattle.mt_program.specs.Causes.{Ends, EndsMaking, EndsPrint, EndsReading, FailsOn, HasEnded, Streams}
-use Rattle.mt_program.specs.Command.{limit_of}
+use Rattle.mt_program.specs.Command.{input_limit}
 use Rattle.mt_program.specs.Headline.{IsOutput, IsVerifiedText, verified_text}
 use Rattle.mt_program.specs.Input.{ReadsAll}
-use Rattle.mt_program.specs.Parts.{parts_of}
-use Rattle.mt_program.specs.Verdicts.{Refuses}
+use Rattle.mt_program.specs.Parts.{parts_at_cut}
+use Rattle.mt_program.specs.Verdicts.{RefusesBytes}
 use Rattle.mt_program.specs.declared.failures.Failure.{Failure}
 use Rattle.mt_program.specs.declared.failures.Failure.TheVariants as failures
 
 -- what a command prints of its bytes went to the sink
-pub reading_ends : (command : Command) (result : Result (Unit {0}) Failure) (old new : Streams) (bytes text : List ℕ) → ReadsAll (limit_of command) old.left new.left bytes
+pub reading_ends : (command : Command) (result : Result (Unit {0}) Failure) (old new : Streams) (bytes text : List ℕ) → ReadsAll (input_limit command) old.left new.left bytes
     → IsOutput command bytes text → EndsPrint text result old.written new.written old.sink_faults new.sink_faults → EndsReading command result old new
 reading_ends command (Ok done) old new bytes text all is wrote = (bytes, text, all, is, wrote)
 reading_ends command (Err failure) old new bytes text all is (kind, part, rest, split, wrote, rose) =
@@ -33,7 +33,7 @@ record IsOfBytes (Refused : Failure → Type 0) : Type 0 where
   pub write_fault : Refused failures.WriteFault → ⊥
   pub too_long : Refused failures.TooLong → ⊥
 
-of_bytes : (command : Command) (bytes : List ℕ) → IsOfBytes (Refuses command bytes)
+of_bytes : (command : Command) (bytes : List ℕ) → IsOfBytes (RefusesBytes command bytes)
 of_bytes (Replay rows) bytes = record { usage = λ no. no; read_fault = λ no. no; write_fault = λ no. no; too_long = λ no. no }
 of_bytes (Make number steps lanes) bytes = record { usage = λ no. no; read_fault = λ no. no; write_fault = λ no. no; too_long = λ no. no }
 of_bytes (Trial number steps) bytes = record { usage = λ no. no; read_fault = λ no. no; write_fault = λ no. no; too_long = λ no. no }
@@ -44,8 +44,8 @@ of_bytes (Bulk workers) bytes = record { usage = λ no. no; read_fault = λ no. 
 of_bytes (Ids lo hi steps drops) bytes = record { usage = λ no. no; read_fault = λ no. no; write_fault = λ no. no; too_long = λ no. no }
 
 -- the bytes were refused, or memory ran out
-pub refused_ends : (command : Command) (failure : Failure) (old new : Streams) (bytes : List ℕ) → ReadsAll (limit_of command) old.left new.left bytes
-    → FailsOn (Refuses command) bytes failure → EndsReading command (Err failure) old new
+pub refused_ends : (command : Command) (failure : Failure) (old new : Streams) (bytes : List ℕ) → ReadsAll (input_limit command) old.left new.left bytes
+    → FailsOn (RefusesBytes command) bytes failure → EndsReading command (Err failure) old new
 refused_ends command (failures.BadLog line why) old new bytes all is = (bytes, all, is)
 refused_ends command (failures.NoTranscript line) old new bytes all is = (bytes, all, is)
 refused_ends command (failures.NoTree line) old new bytes all is = (bytes, all, is)
@@ -89,13 +89,13 @@ has_no_memory command (Ok done) old new is = absurd is
 has_no_memory command (Err e) old new is = record { ends = subst (λ (f : Failure). Ends command (Err f) old new) (sym is) (memory_ends command old new) }
 
 -- a transcript that is one of a run, by the points of its reads
-pub verified_is : (rows : ℕ) (bytes front text : List ℕ) (log : Log) (points : List ℕ) (calls reads : ℕ) (printed : List ℕ) → parts_of bytes ≡ Some (front, text) → log_of front ≡ Ok log
-    → AreLeastPoints log rows text points → ((n : ℕ) (t : Transcript) → IsRun log n t → calls_told t ≡ calls) → reads ≡ length points → printed ≡ verified_text calls reads
+pub verified_is : (rows : ℕ) (bytes front text : List ℕ) (log : Log) (points : List ℕ) (calls reads : ℕ) (printed : List ℕ) → parts_at_cut bytes ≡ Some (front, text) → log_of front ≡ Ok log
+    → AreLeastPoints log rows text points → ((n : ℕ) (t : Transcript) → IsRun log n t → count_of_calls t ≡ calls) → reads ≡ length points → printed ≡ verified_text calls reads
     → IsVerifiedText rows bytes printed
 verified_is rows bytes front text log points calls reads printed cut is least told counted shown =
     let t : Transcript = least.transcript in
     let run : IsRun log rows t = (least.told.steps, least.told.trees, least.told.run) in
-    let all_calls : calls ≡ calls_told t = sym (told rows t run) in
+    let all_calls : calls ≡ count_of_calls t = sym (told rows t run) in
     let all_reads : reads ≡ reads_told t = counted ∙ sym (reads_are_points log rows t points least.told) in (
       log,
       t,

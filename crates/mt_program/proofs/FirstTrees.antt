@@ -10,7 +10,7 @@ use Rattle.mt_log.specs.declared.lines.Log.{Log}
 use Rattle.mt_log.specs.declared.transcripts.Listing.{Listing}
 use Rattle.mt_log.specs.Phases.{phase_after}
 use Rattle.mt_log.specs.Run.{listings_of}
-use Rattle.mt_log.specs.Trees.{Declared, declared_by, known_by, trees_from, trees_of}
+use Rattle.mt_log.specs.Trees.{Declared, declared_by, tree_declared_by, trees_from, trees_of}
 use Rattle.mt_base.specs.History.{History}
 use Rattle.mt_play.specs.Images.{IsImageOfRun}
 
@@ -20,13 +20,13 @@ kept d trees phase [] is = absurd (cc)
 kept d trees phase (line ∷ lines) is = kept d (trees ++ option_to_list (declared_by (d ∷ trees) phase line.item)) (phase_after phase line.item) lines is
 
 abbrev declares : Line → Bool
-declares line = is_some (known_by [] line.item)
+declares line = is_some (tree_declared_by [] line.item)
 
 some_from : (phase : ℕ) (lines : List Line) → list_any declares lines ≡ true → trees_from [] phase lines ≢ []
 some_from phase [] any = absurd (true≢false (sym any))
 some_from phase (line ∷ lines) any = by_item line.item (λ p. some_from p lines) any
   where
-    by_item : (item : Item) → ((p : ℕ) → list_any declares lines ≡ true → trees_from [] p lines ≢ []) → (is_some (known_by [] item) || list_any declares lines) ≡ true → trees_from (option_to_list (declared_by [] phase item)) (phase_after phase item) lines ≢ []
+    by_item : (item : Item) → ((p : ℕ) → list_any declares lines ≡ true → trees_from [] p lines ≢ []) → (is_some (tree_declared_by [] item) || list_any declares lines) ≡ true → trees_from (option_to_list (declared_by [] phase item)) (phase_after phase item) lines ≢ []
     by_item (Tree name kind) rest any = kept _ [] phase lines
     by_item (Lane lane) rest any = rest phase any
     by_item Join rest any = rest (phase_after phase Join) any
@@ -40,7 +40,7 @@ none_from : (phase : ℕ) (lines : List Line) → list_any declares lines ≡ fa
 none_from phase [] none = refl
 none_from phase (line ∷ lines) none = by_item line.item (λ p. none_from p lines) none
   where
-    by_item : (item : Item) → ((p : ℕ) → list_any declares lines ≡ false → trees_from [] p lines ≡ []) → (is_some (known_by [] item) || list_any declares lines) ≡ false → trees_from (option_to_list (declared_by [] phase item)) (phase_after phase item) lines ≡ []
+    by_item : (item : Item) → ((p : ℕ) → list_any declares lines ≡ false → trees_from [] p lines ≡ []) → (is_some (tree_declared_by [] item) || list_any declares lines) ≡ false → trees_from (option_to_list (declared_by [] phase item)) (phase_after phase item) lines ≡ []
     by_item (Tree name kind) rest none = absurd (true≢false none)
     by_item (Lane lane) rest none = rest phase none
     by_item Join rest none = rest (phase_after phase Join) none

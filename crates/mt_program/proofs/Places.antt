@@ -8,7 +8,7 @@ use Rattle.mt_bulk.specs.Builds.{TookTurns, refusal, refused_by}
 use Rattle.mt_bulk.specs.Bulk.{rows_in}
 use Rattle.mt_bulk.specs.Items.{is_misplaced, misplaced, misplaced_from}
 use Rattle.mt_bulk.specs.declared.errors.BulkError.TheVariants as errors
-use Rattle.mt_listing.specs.Listings.{IsInForm, IsRefused}
+use Rattle.mt_listing.specs.Listings.{IsInForm, IsRefusedListing}
 use Rattle.mt_listing.specs.declared.errors.ListingError.{ListingError}
 use Rattle.mt_listing.specs.declared.errors.ListingError.TheVariants as listings
 use Rattle.mt_listing.proofs.Laws.{few_ranges}
@@ -62,6 +62,6 @@ out_of_order l bytes at form text is = (l, at, record { form = form; text = text
 pub too_many_rows : (l : Listing) (bytes : List ℕ) (rows : ℕ) → IsInForm l → bytes ≡ listing_text l → refusal l.kind l.ranges ≡ Some (errors.TooMany rows) → IsUnbuiltAt bytes 1 unbuilt.Rows
 too_many_rows l bytes rows form text is = (l, rows, record { form = form; text = text }, is, refl)
 
-pub no_listing : (bytes : List ℕ) (error : ListingError) → IsRefused bytes error → FailsOn IsUnbuilt bytes (failure_of_listing error)
+pub no_listing : (bytes : List ℕ) (error : ListingError) → IsRefusedListing bytes error → FailsOn IsUnbuilt bytes (failure_of_listing error)
 no_listing bytes (listings.Bad line) is = is
 no_listing bytes listings.NoMemory is = tt

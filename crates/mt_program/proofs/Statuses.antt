@@ -10,12 +10,12 @@ use Rattle.mt_log.specs.Text.{text_of}
 use Rattle.mt_words.specs.declared.commands.Command.{Command}
 use Rattle.mt_words.specs.declared.commands.Command.TheVariants.{Replay, Make, Trial, Verify, Image, Show, Bulk, Ids}
 use Rattle.mt_program.specs.Causes.{Ends, EndsMaking, EndsReading, Fails, FailsToRead, HasEnded, RefusesInput, Streams}
-use Rattle.mt_program.specs.Command.{limit_of, longest, reads}
+use Rattle.mt_program.specs.Command.{input_limit, longest, reads}
 use Rattle.mt_program.specs.Ending.{ReadsTooMany, ReadsWithin, status_of}
-use Rattle.mt_program.specs.Headline.{IsOutput, Prints, Writes, WritesPart}
+use Rattle.mt_program.specs.Headline.{IsOutput, Prints, WritesOutput, WritesPart}
 use Rattle.mt_program.specs.Input.{ReadsAll}
 use Rattle.mt_program.specs.Turns.{HasTurned, HaveTurned, IsBuiltBy, IsTurnedLog}
-use Rattle.mt_program.specs.Verdicts.{IsDue, IsRefused, IsTaken, IsToldOf, IsUnverified, Refuses, Takes}
+use Rattle.mt_program.specs.Verdicts.{IsDue, AreBytesRefused, AreBytesTaken, IsToldOf, IsUnverified, RefusesBytes, TakesBytes}
 use Rattle.mt_program.specs.declared.failures.Failure.{Failure}
 use Rattle.mt_program.specs.declared.failures.Failure.TheVariants as failures
 use Rattle.mt_program.proofs.FirstTrees.{has_tree}
@@ -23,7 +23,7 @@ use Rattle.mt_program.proofs.FirstTrees.{has_tree}
 -- ---- what holds by the command
 
 -- a command takes the bytes of which it prints something
-takes : (command : Command) (bytes text : List ℕ) → IsOutput command bytes text → Takes command bytes
+takes : (command : Command) (bytes text : List ℕ) → IsOutput command bytes text → TakesBytes command bytes
 takes (Replay rows) bytes text (log, is, told) = ap (λ r. is_ok r) is
 takes (Make number steps lanes) bytes text made = tt
 takes (Trial number steps) bytes text tried = tt
@@ -57,7 +57,7 @@ module _ (old new : Streams) where
   ends_making (Ids lo hi steps drops) result unread ends = ends
 
 -- a command that makes its text takes any bytes
-takes_any : (command : Command) (bytes : List ℕ) → reads (Some command) ≡ false → Takes command bytes
+takes_any : (command : Command) (bytes : List ℕ) → reads (Some command) ≡ false → TakesBytes command bytes
 takes_any (Replay rows) bytes unread = absurd (true≢false unread)
 takes_any (Make number steps lanes) bytes unread = tt
 takes_any (Trial number steps) bytes unread = tt
@@ -151,24 +151,24 @@ never_reads command unread read = true≢false (sym read ∙ unread)
 pub record Printed (old new : Streams) (command : Command) (part rest : List ℕ) : Type 0 where
   pub prints : Prints command old.left (part ++ rest)
   pub wrote : Appends old.written new.written part
-  pub taken : IfSome old.left (Takes command)
+  pub taken : IfSome old.left (TakesBytes command)
   pub due : reads (Some command) ≡ true → IfSome old.left (λ bytes. IsDue command bytes 0)
   pub ended : reads (Some command) ≡ true → IsAtEnd new.left
-  pub within : reads (Some command) ≡ true → ReadsWithin (limit_of command) old.left new.left
+  pub within : reads (Some command) ≡ true → ReadsWithin (input_limit command) old.left new.left
 
 -- a command that failed for a cause of its source, or of the bytes that this gave
 pub record Failed (old new : Streams) (command : Command) (failure : Failure) : Type 0 where
   pub read : reads (Some command) ≡ true
-  pub cause : FailsToRead (limit_of command) (Refuses command) failure old.left new.left old.source_faults new.source_faults
+  pub cause : FailsToRead (input_limit command) (RefusesBytes command) failure old.left new.left old.source_faults new.source_faults
 
 module _ (old new : Streams) where
-  of_reading : (command : Command) (bytes part rest : List ℕ) → ReadsAll (limit_of command) old.left new.left bytes → IsOutput command bytes (part ++ rest) → Appends old.written new.written part
+  of_reading : (command : Command) (bytes part rest : List ℕ) → ReadsAll (input_limit command) old.left new.left bytes → IsOutput command bytes (part ++ rest) → Appends old.written new.written part
       → Printed old new command part rest
   of_reading command bytes part rest all is wrote = record {
-    prints = prints command (limit_of command) old.left new.left bytes (part ++ rest) all is;
+    prints = prints command (input_limit command) old.left new.left bytes (part ++ rest) all is;
     wrote = wrote;
-    taken = known (limit_of command) old.left new.left bytes (Takes command) all (takes command bytes (part ++ rest) is);
-    due = λ _. known (limit_of command) old.left new.left bytes (λ b. IsDue command b 0) all (inr (all.within, inl (takes command bytes (part ++ rest) is, refl)));
+    taken = known (input_limit command) old.left new.left bytes (TakesBytes command) all (takes command bytes (part ++ rest) is);
+    due = λ _. known (input_limit command) old.left new.left bytes (λ b. IsDue command b 0) all (inr (all.within, inl (takes command bytes (part ++ rest) is, refl)));
     ended = λ _. all.at_end;
     within = λ _. (bytes, all.taken, all.within);
   }
@@ -180,7 +180,7 @@ module _ (old new : Streams) where
       record {
         prints = is;
         wrote = wrote;
-        taken = any_known old.left (Takes command) (λ bytes. takes_any command bytes unread);
+        taken = any_known old.left (TakesBytes command) (λ bytes. takes_any command bytes unread);
         due = λ read. absurd (never read);
         ended = λ read. absurd (never read);
         within = λ read. absurd (never read);
@@ -216,7 +216,7 @@ module _ (old new : Streams) where
 
   -- a run that failed for a cause of its source, or of the bytes that this gave
   fails_here : (command : Command) (failure : Failure) → of_source failure ≡ true → Fails command failure old new
-      → FailsToRead (limit_of command) (Refuses command) failure old.left new.left old.source_faults new.source_faults
+      → FailsToRead (input_limit command) (RefusesBytes command) failure old.left new.left old.source_faults new.source_faults
   fails_here command (failures.BadLog line why) source fails = fails
   fails_here command (failures.NoTranscript line) source fails = fails
   fails_here command (failures.NoTree line) source fails = fails
@@ -267,64 +267,64 @@ module _ (old new : Streams) where
   no_command (Some command) ends = absurd (is_command command (reads (Some command)) refl ends)
 
 -- what was read of a command's input where its output was printed
-printed_within : (old new : Streams) (command : Command) (part rest : List ℕ) → Printed old new command part rest → (reads (Some command) ≡ false → new.left ≡ old.left) → ReadsWithin (limit_of command) old.left new.left
+printed_within : (old new : Streams) (command : Command) (part rest : List ℕ) → Printed old new command part rest → (reads (Some command) ≡ false → new.left ≡ old.left) → ReadsWithin (input_limit command) old.left new.left
 printed_within old new command part rest printed kept = go (reads (Some command)) refl
   where
-    go : (read : Bool) → reads (Some command) ≡ read → ReadsWithin (limit_of command) old.left new.left
+    go : (read : Bool) → reads (Some command) ≡ read → ReadsWithin (input_limit command) old.left new.left
     go true read = printed.within read
-    go false unread = reads_nothing (limit_of command) old.left new.left (kept unread)
+    go false unread = reads_nothing (input_limit command) old.left new.left (kept unread)
 
 -- the command that refused its bytes
 pub record Refusal (command : Option Command) (old new : Streams) (failure : Failure) : Type 0 where
   pub by : Command
   pub is : command ≡ Some by
-  pub input : RefusesInput (limit_of by) (Refuses by) failure old.left new.left
+  pub input : RefusesInput (input_limit by) (RefusesBytes by) failure old.left new.left
 
 module _ (command : Option Command) (old new : Streams) where
   -- the bytes were refused by the command
-  is_refused : (failure : Failure) → (c : Command) → command ≡ Some c → RefusesInput (limit_of c) (Refuses c) failure old.left new.left → IsRefused command old.left failure
+  is_refused : (failure : Failure) → (c : Command) → command ≡ Some c → RefusesInput (input_limit c) (RefusesBytes c) failure old.left new.left → AreBytesRefused command old.left failure
   is_refused failure c at (bytes, all, refuses) =
-      subst (λ (x : Option Command). IsRefused x old.left failure) (sym at) (known (limit_of c) old.left new.left bytes (λ b. Refuses c b failure) all refuses)
+      subst (λ (x : Option Command). AreBytesRefused x old.left failure) (sym at) (known (input_limit c) old.left new.left bytes (λ b. RefusesBytes c b failure) all refuses)
 
-  is_due : (failure : Failure) (d c : Command) → command ≡ Some d → command ≡ Some c → RefusesInput (limit_of d) (Refuses d) failure old.left new.left → (bytes : List ℕ) → old.left ≡ Some bytes
+  is_due : (failure : Failure) (d c : Command) → command ≡ Some d → command ≡ Some c → RefusesInput (input_limit d) (RefusesBytes d) failure old.left new.left → (bytes : List ℕ) → old.left ≡ Some bytes
       → IsDue c bytes (status_of failure)
   is_due failure d c at is (got, all, refuses) bytes left =
       let same : d ≡ c = cc (at, is) in
-      let due = known (limit_of d) old.left new.left got (λ b. IsDue d b (status_of failure)) all (inr (all.within, inr (failure, refuses, refl))) in
+      let due = known (input_limit d) old.left new.left got (λ b. IsDue d b (status_of failure)) all (inr (all.within, inr (failure, refuses, refl))) in
       subst (λ (l : Option (List ℕ)). IfSome l (λ b. IsDue c b (status_of failure))) left (subst (λ (x : Command). IfSome old.left (λ b. IsDue x b (status_of failure))) same due)
 
   -- they were no more than an input may have
-  all_within : (failure : Failure) (c : Command) → command ≡ Some c → RefusesInput (limit_of c) (Refuses c) failure old.left new.left → ReadsWithin (longest command) old.left new.left
+  all_within : (failure : Failure) (c : Command) → command ≡ Some c → RefusesInput (input_limit c) (RefusesBytes c) failure old.left new.left → ReadsWithin (longest command) old.left new.left
   all_within failure c at (bytes, all, refuses) = subst (λ (x : Option Command). ReadsWithin (longest x) old.left new.left) (sym at) (bytes, all.taken, all.within)
 
   -- a transcript is refused by one command alone
-  unverified : (c : Command) → command ≡ Some c → RefusesInput (limit_of c) (Refuses c) failures.Refused old.left new.left
+  unverified : (c : Command) → command ≡ Some c → RefusesInput (input_limit c) (RefusesBytes c) failures.Refused old.left new.left
       → (rows : ℕ) × (command ≡ Some (Verify rows)) × IfSome old.left (λ bytes. IsUnverified rows bytes failures.Refused)
   unverified (Replay rows) at (bytes, all, refuses) = absurd refuses
   unverified (Make number steps lanes) at (bytes, all, refuses) = absurd refuses
   unverified (Trial number steps) at (bytes, all, refuses) = absurd refuses
-  unverified (Verify rows) at (bytes, all, refuses) = (rows, at, known (limit_of (Verify rows)) old.left new.left bytes (λ b. IsUnverified rows b failures.Refused) all refuses)
+  unverified (Verify rows) at (bytes, all, refuses) = (rows, at, known (input_limit (Verify rows)) old.left new.left bytes (λ b. IsUnverified rows b failures.Refused) all refuses)
   unverified (Image rows) at (bytes, all, refuses) = absurd refuses
   unverified Show at (bytes, all, refuses) = absurd refuses
   unverified (Bulk workers) at (bytes, all, refuses) = absurd refuses
   unverified (Ids lo hi steps drops) at (bytes, all, refuses) = absurd refuses
 
   -- and an image by another alone
-  no_image : (error : ImageError) (c : Command) → command ≡ Some c → RefusesInput (limit_of c) (Refuses c) (failures.BadImage error) old.left new.left
+  no_image : (error : ImageError) (c : Command) → command ≡ Some c → RefusesInput (input_limit c) (RefusesBytes c) (failures.BadImage error) old.left new.left
       → (command ≡ Some Show) × IfSome old.left (λ bytes. image_in bytes ≡ Err error)
   no_image error (Replay rows) at (bytes, all, refuses) = absurd refuses
   no_image error (Make number steps lanes) at (bytes, all, refuses) = absurd refuses
   no_image error (Trial number steps) at (bytes, all, refuses) = absurd refuses
   no_image error (Verify rows) at (bytes, all, refuses) = absurd refuses
   no_image error (Image rows) at (bytes, all, refuses) = absurd refuses
-  no_image error Show at (bytes, all, refuses) = (at, known (limit_of Show) old.left new.left bytes (λ b. image_in b ≡ Err error) all refuses)
+  no_image error Show at (bytes, all, refuses) = (at, known (input_limit Show) old.left new.left bytes (λ b. image_in b ≡ Err error) all refuses)
   no_image error (Bulk workers) at (bytes, all, refuses) = absurd refuses
   no_image error (Ids lo hi steps drops) at (bytes, all, refuses) = absurd refuses
 
 module _ {command : Option Command} {old new : Streams} where
   -- ---- what the status 0 says
 
-  pub ok_prints : HasEnded command (Ok tt) old new → (c : Command) → command ≡ Some c → Writes c old.left old.written new.written
+  pub ok_prints : HasEnded command (Ok tt) old new → (c : Command) → command ≡ Some c → WritesOutput c old.left old.written new.written
   ok_prints ends c is held known_held =
       let (d, at, text, p) = done old new command ends.ends in
       let same : d ≡ c = cc (at, is) in (
@@ -333,8 +333,8 @@ module _ {command : Option Command} {old new : Streams} where
         appended old.written new.written held text p.wrote known_held,
       )
 
-  pub ok_taken : HasEnded command (Ok tt) old new → IsTaken command old.left
-  ok_taken ends = let (c, at, text, p) = done old new command ends.ends in subst (λ (x : Option Command). IsTaken x old.left) (sym at) p.taken
+  pub ok_taken : HasEnded command (Ok tt) old new → AreBytesTaken command old.left
+  ok_taken ends = let (c, at, text, p) = done old new command ends.ends in subst (λ (x : Option Command). AreBytesTaken x old.left) (sym at) p.taken
 
   pub ok_due : HasEnded command (Ok tt) old new → (c : Command) → command ≡ Some c → reads (Some c) ≡ true → (bytes : List ℕ) → old.left ≡ Some bytes → IsDue c bytes 0
   ok_due ends c is read bytes left =
@@ -366,10 +366,10 @@ module _ {command : Option Command} {old new : Streams} where
   refusal failures.NoMemory own ends = absurd (true≢false (sym own))
   refusal failures.TooLong own ends = absurd (true≢false (sym own))
 
-  refused_by : (failure : Failure) → is_refusal failure ≡ true → HasEnded command (Err failure) old new → IsRefused command old.left failure
+  refused_by : (failure : Failure) → is_refusal failure ≡ true → HasEnded command (Err failure) old new → AreBytesRefused command old.left failure
   refused_by failure own ends = let r = refusal failure own ends in is_refused command old new failure r.by r.is r.input
 
-  pub err_refused : (failure : Failure) → HasEnded command (Err failure) old new → status_of failure ≡ 1 → IsRefused command old.left failure
+  pub err_refused : (failure : Failure) → HasEnded command (Err failure) old new → status_of failure ≡ 1 → AreBytesRefused command old.left failure
   err_refused (failures.BadLog line why) ends is = refused_by (failures.BadLog line why) refl ends
   err_refused (failures.NoTranscript line) ends is = refused_by (failures.NoTranscript line) refl ends
   err_refused (failures.NoTree line) ends is = refused_by (failures.NoTree line) refl ends
@@ -460,8 +460,8 @@ module _ {command : Option Command} {old new : Streams} where
   pub err_write_fault : (failure : Failure) → HasEnded command (Err failure) old new → status_of failure ≡ 4 → Rose old.sink_faults new.sink_faults
   err_write_fault failure ends is = let (c, at, part, rest, printed, rose) = write_fault failure ends is in rose
 
-  pub err_taken : (failure : Failure) → HasEnded command (Err failure) old new → status_of failure ≡ 4 → IsTaken command old.left
-  err_taken failure ends is = let (c, at, part, rest, printed, rose) = write_fault failure ends is in subst (λ (x : Option Command). IsTaken x old.left) (sym at) printed.taken
+  pub err_taken : (failure : Failure) → HasEnded command (Err failure) old new → status_of failure ≡ 4 → AreBytesTaken command old.left
+  err_taken failure ends is = let (c, at, part, rest, printed, rose) = write_fault failure ends is in subst (λ (x : Option Command). AreBytesTaken x old.left) (sym at) printed.taken
 
   pub err_part : (failure : Failure) → HasEnded command (Err failure) old new → (c : Command) → command ≡ Some c → status_of failure ≡ 4 → WritesPart c old.left old.written new.written
   err_part failure ends c known_command is held known_held =
@@ -524,7 +524,7 @@ module _ {command : Option Command} {old new : Streams} where
   err_complete failures.TooLong ends c is bytes left no_source no_sink =
       let many = err_too_long failures.TooLong ends refl in
       let mine = subst (λ (x : Option Command). ReadsTooMany (longest x) old.left new.left) is many in
-      inl (inl (longer (limit_of c) bytes new.left (subst (λ (l : Option (List ℕ)). ReadsTooMany (limit_of c) l new.left) left mine), refl))
+      inl (inl (longer (input_limit c) bytes new.left (subst (λ (l : Option (List ℕ)). ReadsTooMany (input_limit c) l new.left) left mine), refl))
 
   -- bytes that are refused were read to their end, and so were those of which something was printed
   ended_by : (failure : Failure) → is_refusal failure ≡ true → HasEnded command (Err failure) old new → IsAtEnd new.left

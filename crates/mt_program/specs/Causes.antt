@@ -10,13 +10,13 @@ use Rattle.mt_log.specs.declared.faults.LogError.{LogError}
 use Rattle.mt_log.specs.declared.faults.LogError.TheVariants as logs
 use Rattle.mt_words.specs.declared.commands.Command.{Command}
 use Rattle.mt_words.specs.declared.commands.Command.TheVariants.{Replay, Make, Trial, Verify, Image, Show, Bulk, Ids}
-use Rattle.mt_program.specs.Command.{limit_of}
+use Rattle.mt_program.specs.Command.{input_limit}
 use Rattle.mt_program.specs.Ending.{ReadsTooMany, ReadsWithin}
 use Rattle.mt_cycles.specs.Turns.{IsIdsText}
 use Rattle.mt_texts.specs.Texts.{IsMadeText, IsTrialText}
 use Rattle.mt_program.specs.Headline.{IsOutput}
 use Rattle.mt_program.specs.Input.{ReadsAll}
-use Rattle.mt_program.specs.Verdicts.{Refuses}
+use Rattle.mt_program.specs.Verdicts.{RefusesBytes}
 use Rattle.mt_program.specs.declared.failures.Failure.{Failure}
 use Rattle.mt_program.specs.declared.failures.Failure.TheVariants as failures
 use Rattle.mt_program.specs.declared.failures.Unbuilt.TheVariants as unbuilt
@@ -76,17 +76,17 @@ streams left source_faults written sink_faults = record { left = left; source_fa
 
 -- the whole input was read, and what the command prints of it was written
 abbrev pub Finishes : Command → Streams → Streams → Type 0
-Finishes command old new = (bytes text : List ℕ) × ReadsAll (limit_of command) old.left new.left bytes × IsOutput command bytes text × Appends old.written new.written text
+Finishes command old new = (bytes text : List ℕ) × ReadsAll (input_limit command) old.left new.left bytes × IsOutput command bytes text × Appends old.written new.written text
 
 -- the whole input was read, and only the first part of what the command prints of it was written
 abbrev pub FailsToWrite : Command → Streams → Streams → Type 0
 FailsToWrite command old new =
-    (bytes part rest : List ℕ) × ReadsAll (limit_of command) old.left new.left bytes × IsOutput command bytes (part ++ rest)
+    (bytes part rest : List ℕ) × ReadsAll (input_limit command) old.left new.left bytes × IsOutput command bytes (part ++ rest)
     × Appends old.written new.written part × Rose old.sink_faults new.sink_faults
 
 abbrev pub Fails : Command → Failure → Streams → Streams → Type 0
 Fails command failures.WriteFault old new = FailsToWrite command old new
-Fails command failure old new = FailsToRead (limit_of command) (Refuses command) failure old.left new.left old.source_faults new.source_faults
+Fails command failure old new = FailsToRead (input_limit command) (RefusesBytes command) failure old.left new.left old.source_faults new.source_faults
 
 -- how a command ended that reads the source
 abbrev pub EndsReading : Command → Result (Unit {0}) Failure → Streams → Streams → Type 0

@@ -16,17 +16,17 @@ reads (Some (Bulk workers)) = true
 reads (Some (Ids lo hi steps drops)) = false
 
 -- the most bytes that the input of a command may have: one that reads nothing has none
-abbrev pub limit_of : Command → ℕ
-limit_of (Replay rows) = 8388608
-limit_of (Make number steps lanes) = 0
-limit_of (Trial number steps) = 0
-limit_of (Verify rows) = 67108864
-limit_of (Image rows) = 8388608
-limit_of Show = 67108864
-limit_of (Bulk workers) = 8388608
-limit_of (Ids lo hi steps drops) = 0
+abbrev pub input_limit : Command → ℕ
+input_limit (Replay rows) = 8388608
+input_limit (Make number steps lanes) = 0
+input_limit (Trial number steps) = 0
+input_limit (Verify rows) = 67108864
+input_limit (Image rows) = 8388608
+input_limit Show = 67108864
+input_limit (Bulk workers) = 8388608
+input_limit (Ids lo hi steps drops) = 0
 
 -- how many bytes are read for words that may be no command
 abbrev pub longest : Option Command → ℕ
 longest None = 0
-longest (Some command) = limit_of command
+longest (Some command) = input_limit command

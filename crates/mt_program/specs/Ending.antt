@@ -25,8 +25,8 @@ status_of failures.Refused = 7
 status_of (failures.BadImage error) = 8
 
 -- what is wrong with a line of the input
-abbrev pub line_text : ℕ → List ℕ → List ℕ
-line_text line why = codes "mtreplay: line " ++ (decimal line ++ (codes ": " ++ (why ++ 10 ∷ [])))
+abbrev pub faulty_line : ℕ → List ℕ → List ℕ
+faulty_line line why = codes "mtreplay: line " ++ (decimal line ++ (codes ": " ++ (why ++ 10 ∷ [])))
 
 -- why no tree is built of the input
 abbrev pub unbuilt_text : Unbuilt → List ℕ
@@ -40,10 +40,10 @@ refusal_text error = codes "mtreplay: image refused: " ++ (error_text error ++ 1
 
 -- what err is told
 abbrev pub failure_text : Failure → List ℕ
-failure_text (failures.BadLog line why) = line_text line (why_text why)
-failure_text (failures.NoTranscript line) = line_text line (codes "no transcript")
-failure_text (failures.NoTree line) = line_text line (codes "no tree")
-failure_text (failures.NotBuilt line why) = line_text line (unbuilt_text why)
+failure_text (failures.BadLog line why) = faulty_line line (why_text why)
+failure_text (failures.NoTranscript line) = faulty_line line (codes "no transcript")
+failure_text (failures.NoTree line) = faulty_line line (codes "no tree")
+failure_text (failures.NotBuilt line why) = faulty_line line (unbuilt_text why)
 failure_text failures.Usage = codes "mtreplay: usage: replay [--rows N], make NUMBER STEPS LANES, trial NUMBER STEPS, verify [--rows N], image [--rows N], show, bulk WORKERS, ids LO HI STEPS DROP\n"
 failure_text failures.ReadFault = codes "mtreplay: read fault\n"
 failure_text failures.WriteFault = codes "mtreplay: write fault\n"
@@ -53,8 +53,8 @@ failure_text failures.Refused = codes "mtreplay: transcript refused\n"
 failure_text (failures.BadImage error) = refusal_text error
 
 -- a sink got a text whole, or the first part of it where its faults rose
-abbrev pub Tells : Option (List ℕ) → Option (List ℕ) → ℕ → ℕ → List ℕ → Type 0
-Tells before after faults_before faults_after text = (part rest : List ℕ) × (text ≡ part ++ rest) × Appends before after part × ((rest ≡ []) ⊎ Rose faults_before faults_after)
+abbrev pub TellsText : Option (List ℕ) → Option (List ℕ) → ℕ → ℕ → List ℕ → Type 0
+TellsText before after faults_before faults_after text = (part rest : List ℕ) × (text ≡ part ++ rest) × Appends before after part × ((rest ≡ []) ⊎ Rose faults_before faults_after)
 
 -- more bytes were read than an input of so many may have: one more
 abbrev pub ReadsTooMany : ℕ → Option (List ℕ) → Option (List ℕ) → Type 0

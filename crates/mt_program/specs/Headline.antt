@@ -13,7 +13,7 @@ use Rattle.mt_log.specs.declared.transcripts.Transcript.{Transcript}
 use Rattle.mt_play.specs.Images.{IsImageOfRun}
 use Rattle.mt_cycles.specs.Turns.{IsIdsText}
 use Rattle.mt_texts.specs.Texts.{IsBulkImage, IsImageListing, IsMadeText, IsTrialText}
-use Rattle.mt_verify.specs.Tellings.{calls_told, reads_told}
+use Rattle.mt_verify.specs.Tellings.{count_of_calls, reads_told}
 use Rattle.mt_words.specs.declared.commands.Command.{Command}
 use Rattle.mt_words.specs.declared.commands.Command.TheVariants.{Replay, Make, Trial, Verify, Image, Show, Bulk, Ids}
 use Rattle.mt_program.specs.Parts.{AreParts}
@@ -29,20 +29,20 @@ verified_text calls reads = codes "verified " ++ (decimal calls ++ (codes " " ++
 -- the bytes are a log and the text of a transcript of a run of it, over trees of so many rows, and this tells how much it tells
 abbrev pub IsVerifiedText : ℕ → List ℕ → List ℕ → Type 0
 IsVerifiedText rows bytes text =
-    (log : Log) × (t : Transcript) × AreParts bytes log (text_of t) × IsRun log rows t × (text ≡ verified_text (calls_told t) (reads_told t))
+    (log : Log) × (t : Transcript) × AreParts bytes log (text_of t) × IsRun log rows t × (text ≡ verified_text (count_of_calls t) (reads_told t))
 
 -- this is an image of the first tree of a run of the log that these bytes are, over trees of so many rows
 abbrev pub IsImageOfLog : ℕ → List ℕ → List ℕ → Type 0
 IsImageOfLog rows bytes image = (log : Log) × (log_of bytes ≡ Ok log) × IsImageOfRun rows log image
 
 -- the bytes are this listing
-pub record IsListed (bytes : List ℕ) (l : Listing) : Type 0 where
+pub record IsListing (bytes : List ℕ) (l : Listing) : Type 0 where
   pub form : IsInForm l
   pub text : bytes ≡ listing_text l
 
 -- the bytes are a listing, there is a tree of its kind that is built at once of its ranges, and this is the image of that tree
 abbrev pub IsBuiltImage : List ℕ → List ℕ → Type 0
-IsBuiltImage bytes image = (l : Listing) × IsListed bytes l × (refusal l.kind l.ranges ≡ None) × IsBulkImage l.kind l.ranges image
+IsBuiltImage bytes image = (l : Listing) × IsListing bytes l × (refusal l.kind l.ranges ≡ None) × IsBulkImage l.kind l.ranges image
 
 -- this is what a command prints of the bytes that it read
 abbrev pub IsOutput : Command → List ℕ → List ℕ → Type 0
@@ -67,8 +67,8 @@ Prints (Bulk workers) left text = IfSome left (λ bytes. IsBuiltImage bytes text
 Prints (Ids lo hi steps drops) left text = IsIdsText lo hi steps drops text
 
 -- From a source that has these bytes left, a sink that held some bytes holds also what the command prints.
-abbrev pub Writes : Command → Option (List ℕ) → Option (List ℕ) → Option (List ℕ) → Type 0
-Writes command left before after = (held : List ℕ) → before ≡ Some held → (text : List ℕ) × Prints command left text × (after ≡ Some (held ++ text))
+abbrev pub WritesOutput : Command → Option (List ℕ) → Option (List ℕ) → Option (List ℕ) → Type 0
+WritesOutput command left before after = (held : List ℕ) → before ≡ Some held → (text : List ℕ) × Prints command left text × (after ≡ Some (held ++ text))
 
 -- it holds the first part of it
 abbrev pub WritesPart : Command → Option (List ℕ) → Option (List ℕ) → Option (List ℕ) → Type 0

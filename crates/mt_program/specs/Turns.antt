@@ -9,7 +9,7 @@ use Rattle.mt_play.specs.Turns.{AllTurned}
 use Rattle.mt_texts.specs.Texts.{IsTurnedTrial}
 use Rattle.mt_words.specs.declared.commands.Command.{Command}
 use Rattle.mt_words.specs.declared.commands.Command.TheVariants.{Replay, Make, Trial, Verify, Image, Show, Bulk, Ids}
-use Rattle.mt_program.specs.Headline.{IsListed}
+use Rattle.mt_program.specs.Headline.{IsListing}
 
 -- the bytes are a log, each step of which was done by a lane that took both its turns
 abbrev pub IsTurnedLog : (ℕ → ℕ → Type 0) → List ℕ → Type 0
@@ -17,7 +17,7 @@ IsTurnedLog passed bytes = (log : Log) × (log_of bytes ≡ Ok log) × AllTurned
 
 -- the bytes are a listing, and where it has a range, each of so many workers took both of its turns
 abbrev pub IsBuiltBy : (ℕ → ℕ → Type 0) → ℕ → List ℕ → Type 0
-IsBuiltBy passed workers bytes = (l : Listing) × IsListed bytes l × (1 ≤ length l.ranges → TookTurns passed workers)
+IsBuiltBy passed workers bytes = (l : Listing) × IsListing bytes l × (1 ≤ length l.ranges → TookTurns passed workers)
 
 -- the turns of a command that reads these bytes: what has no lanes and no workers takes none
 abbrev pub HasTurned : (ℕ → ℕ → Type 0) → Command → List ℕ → Type 0

@@ -1,6 +1,6 @@
 ghost use Rattle.std.specs.Prelude.{◌≡◌, ◌≤◌, ◌+◌, ◌++◌, [], length};
 ghost use Rattle.mt_image.specs.Texts.{error_text, law_text};
-ghost use Rattle.mt_program.specs.Ending.{Tells, failure_text, line_text, refusal_text};
+ghost use Rattle.mt_program.specs.Ending.{TellsText, failure_text, faulty_line, refusal_text};
 
 use crate::streams::{ReadError, write_output};
 use arrayvec::ArrayString;
@@ -120,7 +120,7 @@ impl Failure {
 fn push_line(text: &mut ArrayString<TEXT_ROOM>, line: u64, why: &str)
     requires empty { text.old.bytes ≡ [] }
     requires short { length why.now ≤ 23 }
-    ensures { text.new.bytes ≡ line_text line why.now }
+    ensures { text.new.bytes ≡ faulty_line line why.now }
 {
     text.push_str("mtreplay: line ");
     text.push_str(Buffer::new().format(line));
@@ -188,7 +188,7 @@ fn push_error(text: &mut ArrayString<TEXT_ROOM>, error: ImageError)
 
 /// Writes the line that tells a failure. Where `err` fails, nobody is told.
 pub fn report<E: Sink>(err: &mut E, failure: &Failure)
-    ensures told { Tells (E.written err.old) (E.written err.new) (E.faults err.old) (E.faults err.new) (failure_text failure.now) }
+    ensures told { TellsText (E.written err.old) (E.written err.new) (E.faults err.old) (E.faults err.new) (failure_text failure.now) }
     ensures in_time { E.faults err.old ≡ 0 → E.late err.old ≡ 0 → E.late err.new ≡ 0 }
 {
     let _ = write_output(err, failure.text().as_str().as_bytes());

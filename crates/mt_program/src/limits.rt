@@ -1,11 +1,11 @@
 ghost use Rattle.std.specs.Prelude.{◌≡◌};
-ghost use Rattle.mt_program.specs.Command.{limit_of};
+ghost use Rattle.mt_program.specs.Command.{input_limit};
 
 use mt_words::Command;
 
 /// The most bytes that the input of a command may have: one that reads nothing has none.
 pub fn limit_of(command: &Command) -> usize
-    ensures { result ≡ limit_of command.now }
+    ensures { result ≡ input_limit command.now }
 {
     match command {
         Command::Replay { .. } | Command::Image { .. } | Command::Bulk { .. } => 8_388_608,

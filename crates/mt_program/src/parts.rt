@@ -1,6 +1,6 @@
 ghost use Rattle.std.specs.Prelude.{◌≡◌, ◌<◌, ◌≤◌, ◌^◌, ◌==◌, ◌&&◌, true, false, None, Some, IfSome, MatchOption, drop, length};
 ghost use Rattle.std.specs.List.{filter};
-ghost use Rattle.mt_program.specs.Parts.{is_cut, line_behind, parts_of};
+ghost use Rattle.mt_program.specs.Parts.{is_cut, line_behind, parts_at_cut};
 
 /// What stands behind the line that cuts, if a line begins here and is that one.
 fn behind_cut(begins: bool, bytes: &[u8]) -> Option<&[u8]>
@@ -16,7 +16,7 @@ fn behind_cut(begins: bool, bytes: &[u8]) -> Option<&[u8]>
 /// What stands before the first line that is `---` and what stands behind it, if there is one. The line is ended by LF.
 #[tactic(auto, using(crate::proofs::CutLines::cutting))]
 pub fn cut(bytes: &[u8]) -> Option<(&[u8], &[u8])>
-    ensures parts { MatchOption result (parts_of bytes.now ≡ None) (λ parts. parts_of bytes.now ≡ Some (parts.0.now, parts.1.now)) }
+    ensures parts { MatchOption result (parts_at_cut bytes.now ≡ None) (λ parts. parts_at_cut bytes.now ≡ Some (parts.0.now, parts.1.now)) }
     ensures within { IfSome result (λ parts. (length parts.0.now ≤ length bytes.now) × (length parts.1.now ≤ length bytes.now)) }
 {
     let mut begins = true;

@@ -4,19 +4,19 @@ ghost use Rattle.mt_base.specs.Width.{most_rows};
 ghost use Rattle.mt_image.specs.declared.errors.ImageError.{ImageError};
 ghost use Rattle.mt_image.specs.Reading.{image_in};
 ghost use Rattle.mt_io.specs.Faults.{Rose};
-ghost use Rattle.mt_log.specs.Fault.{Reads};
+ghost use Rattle.mt_log.specs.Fault.{ReadsAs};
 ghost use Rattle.mt_log.specs.Reading.{log_of};
 ghost use Rattle.mt_log.specs.Trees.{IsReadable, most_lanes};
 ghost use Rattle.mt_play.specs.Trees.{fewest_rows};
 ghost use Rattle.mt_words.specs.Commands.{IsWithin, command_of};
 ghost use Rattle.mt_program.specs.Causes.{FailsOn, EndsMaking, EndsPrint, EndsReading, HasEnded, streams};
-ghost use Rattle.mt_program.specs.Command.{limit_of, longest, reads};
+ghost use Rattle.mt_program.specs.Command.{input_limit, longest, reads};
 ghost use Rattle.mt_program.specs.Ending.{ReadsNoFurther, ReadsTooMany, ReadsWithin, status_of};
 ghost use Rattle.mt_cycles.specs.Turns.{IsIdsText};
 ghost use Rattle.mt_texts.specs.Texts.{IsImageListing, IsMadeText, IsTrialText, IsTurnedTrial};
-ghost use Rattle.mt_program.specs.Headline.{IsBuiltImage, IsImageOfLog, IsOutput, IsTextOfRun, IsVerifiedText, Writes, WritesPart};
+ghost use Rattle.mt_program.specs.Headline.{IsBuiltImage, IsImageOfLog, IsOutput, IsTextOfRun, IsVerifiedText, WritesOutput, WritesPart};
 ghost use Rattle.mt_program.specs.Turns.{HasTurned, HaveTurned, IsBuiltBy, IsTurnedLog};
-ghost use Rattle.mt_program.specs.Verdicts.{IsBadLog, IsDue, IsNoImage, IsRefused, IsTaken, IsTreeless, IsUnbuilt, IsUnverified, Refuses, TellsStatus};
+ghost use Rattle.mt_program.specs.Verdicts.{IsBadLog, IsDue, IsNoImage, AreBytesRefused, AreBytesTaken, IsTreeless, IsUnbuilt, IsUnverified, RefusesBytes, TellsStatus};
 
 use crate::failures::{Failure, Unbuilt, report};
 use crate::limits::limit_of;
@@ -47,7 +47,7 @@ fn print<O: Sink>(out: &mut O, text: &[u8]) -> Result<(), Failure>
 
 /// The log that an input is, whose memory is given back.
 fn log_in(alloc: Global, input: Vec<u8>) -> Result<Log, LogError>
-    ensures log { Reads (λ log. log) result (log_of input.items) }
+    ensures log { ReadsAs (λ log. log) result (log_of input.items) }
     ensures readable { IfOk result (λ log. IsReadable log.lines) }
     ensures count { IfOk result (λ log. length log.lines ≤ length input.items) }
 {
@@ -168,7 +168,7 @@ fn output_of<R: Threads + Wait + Sync, G: Gate + Sync>(
     requires within { IsWithin command.now }
     requires count { length input.items < 2 ^ 32 }
     ensures fine { IfOk result (λ text. IsOutput command.now input.items text.items) }
-    ensures fails { IfErr result (FailsOn (Refuses command.now) input.items) }
+    ensures fails { IfErr result (FailsOn (RefusesBytes command.now) input.items) }
     ensures turns { IfOk result (λ _. HasTurned (G.passed gate.now) command.now input.items) }
 {
     match *command {
@@ -194,7 +194,7 @@ fn answer<R: Threads + Wait + Sync, S: Source, O: Sink, G: Gate + Sync>(
     requires within { IsWithin command.now }
     ensures ends { EndsReading command.now result (streams (S.left src.old) (S.faults src.old) (O.written out.old) (O.faults out.old))
         (streams (S.left src.new) (S.faults src.new) (O.written out.new) (O.faults out.new)) }
-    ensures reach { ReadsNoFurther (limit_of command.now) (S.left src.old) (S.left src.new) }
+    ensures reach { ReadsNoFurther (input_limit command.now) (S.left src.old) (S.left src.new) }
     ensures turns { OnOk result (HaveTurned (G.passed gate.now) (Some command.now) (S.left src.old)) }
     ensures out_kept { IfErr result (λ e. e ≢ Failure.WriteFault → out.new ≡ out.old) }
     ensures src_quiet { result ≢ Err Failure.ReadFault → S.faults src.new ≡ S.faults src.old }
@@ -364,19 +364,19 @@ pub fn mtreplay<R: Threads + Wait + Sync, S: Source, O: Sink, E: Sink, G: Gate +
     // log that is made of a number, what a run of that came to, how much the transcript tells that was read, which is one of a
     // run, the listing of the tree whose image was read, or an image of a tree with the ranges of the listing that was read.
     ensures prints { (command : Command) → command_of (map string_bytes words.now) ≡ Some command → result ≡ 0
-        → Writes command (S.left src.old) (O.written out.old) (O.written out.new) }
+        → WritesOutput command (S.left src.old) (O.written out.old) (O.written out.new) }
 
     // Each step of a log was done by a lane that took both its turns of the gate, and each of the workers whose number is said took
     // its own.
     ensures turns { result ≡ 0 → HaveTurned (G.passed gate.now) (command_of (map string_bytes words.now)) (S.left src.old) }
 
     // Each status has its cause.
-    ensures taken { result ≡ 0 → IsTaken (command_of (map string_bytes words.now)) (S.left src.old) }
-    ensures refused { result ≡ 1 → (failure : Failure) × IsRefused (command_of (map string_bytes words.now)) (S.left src.old) failure × (result ≡ status_of failure) }
+    ensures taken { result ≡ 0 → AreBytesTaken (command_of (map string_bytes words.now)) (S.left src.old) }
+    ensures refused { result ≡ 1 → (failure : Failure) × AreBytesRefused (command_of (map string_bytes words.now)) (S.left src.old) failure × (result ≡ status_of failure) }
     ensures usage { result ≡ 2 → command_of (map string_bytes words.now) ≡ None }
     ensures read_fault { result ≡ 3 → Rose (S.faults src.old) (S.faults src.new) }
     ensures write_fault { result ≡ 4 → Rose (O.faults out.old) (O.faults out.new) }
-    ensures taken_too { result ≡ 4 → IsTaken (command_of (map string_bytes words.now)) (S.left src.old) }
+    ensures taken_too { result ≡ 4 → AreBytesTaken (command_of (map string_bytes words.now)) (S.left src.old) }
     ensures part { (command : Command) → command_of (map string_bytes words.now) ≡ Some command → result ≡ 4
         → WritesPart command (S.left src.old) (O.written out.old) (O.written out.new) }
     ensures too_long { result ≡ 6 → ReadsTooMany (longest (command_of (map string_bytes words.now))) (S.left src.old) (S.left src.new) }

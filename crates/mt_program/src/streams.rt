@@ -1,7 +1,7 @@
 ghost use Rattle.std.specs.Prelude.{◌≡◌, ◌<◌, ◌^◌, vec_len, OnOk, OnErr, IfOk, IfErr};
 ghost use Rattle.std.specs.Io.KnownBytes.{Appends};
 ghost use Rattle.mt_io.specs.Faults.{Rose};
-ghost use Rattle.mt_program.specs.Ending.{ReadsNoFurther, Tells};
+ghost use Rattle.mt_program.specs.Ending.{ReadsNoFurther, TellsText};
 ghost use Rattle.mt_program.specs.Input.{ReadsAll, ReadFails};
 
 use mt_io::{Failed, Sink, Source};
@@ -91,7 +91,7 @@ pub fn write_output<O: Sink>(out: &mut O, bytes: &[u8]) -> Result<(), Failed>
     ensures all { OnOk result (Appends (O.written out.old) (O.written out.new) bytes.now) }
     ensures quiet { OnOk result (O.faults out.new ≡ O.faults out.old) }
     ensures fault { OnErr result (Rose (O.faults out.old) (O.faults out.new)) }
-    ensures part { Tells (O.written out.old) (O.written out.new) (O.faults out.old) (O.faults out.new) bytes.now }
+    ensures part { TellsText (O.written out.old) (O.written out.new) (O.faults out.old) (O.faults out.new) bytes.now }
     ensures in_time { O.faults out.old ≡ 0 → O.late out.old ≡ 0 → O.late out.new ≡ 0 }
 {
     let mut rest = bytes;

@@ -1,13 +1,13 @@
 ghost use Rattle.std.specs.Prelude.{◌≡◌, ◌≢◌, [], true, false};
 ghost use Rattle.std.specs.List.{list_any};
 ghost use Rattle.std.specs.Option.{is_some};
-ghost use Rattle.mt_log.specs.Trees.{known_by, trees_of};
+ghost use Rattle.mt_log.specs.Trees.{tree_declared_by, trees_of};
 
 use mt_log::{Item, Line};
 
 /// Whether a line declares a tree, where none was declared before it: no copy does.
 fn is_first(line: &Line) -> bool
-    ensures { result ≡ is_some (known_by [] line.now.item) }
+    ensures { result ≡ is_some (tree_declared_by [] line.now.item) }
 {
     match line.item {
         Item::Tree { .. } => true,
@@ -23,7 +23,7 @@ fn is_first(line: &Line) -> bool
 
 /// Whether one of these lines does.
 fn has_first(lines: &[Line]) -> bool
-    ensures { result ≡ list_any (λ line. is_some (known_by [] line.item)) lines.now }
+    ensures { result ≡ list_any (λ line. is_some (tree_declared_by [] line.item)) lines.now }
 {
     lines.iter().any(is_first)
 }

@@ -15,12 +15,12 @@ use Rattle.mt_rows.specs.Spans.{base_of}
 use Rattle.mt_rule.specs.declared.views.PassPart.{PassPart}
 use Rattle.mt_rule.specs.Sections.{here, kind_of, spans_here}
 use Rattle.mt_read.specs.declared.descent.Row.{Row}
-use Rattle.mt_read.specs.declared.descent.Place.{Place}
-use Rattle.mt_read.specs.Walks.{IsOn, IsPlaceIn}
+use Rattle.mt_read.specs.declared.descent.SlotPlace.{SlotPlace}
+use Rattle.mt_read.specs.Walks.{IsOnRow, IsPlaceIn}
 
 -- ---- the first place
 
-pub first_place : (q : PassPart) (row : Row) (place : Place) → IsOn q row → IsPlaceIn q place → place.slot ≡ 0 → place.first ≡ row.min
+pub first_place : (q : PassPart) (row : Row) (place : SlotPlace) → IsOnRow q row → IsPlaceIn q place → place.slot ≡ 0 → place.first ≡ row.min
 first_place q row place on is zero =
     let spans = spans_here q (here q) in
     let at : span_at spans place.slot ≡ record { first = place.first; last = place.last; word = is.word } = get_or_from_slice_get spans place.slot _ no_span is.stands in
@@ -29,7 +29,7 @@ first_place q row place on is zero =
 
 -- ---- the place before
 
-module _ (q : PassPart) (row : Row) (place : Place) (on : IsOn q row) (is : IsPlaceIn q place) (more : place.slot ≢ 0) where
+module _ (q : PassPart) (row : Row) (place : SlotPlace) (on : IsOnRow q row) (is : IsPlaceIn q place) (more : place.slot ≢ 0) where
   abbrev x : Held
   x = here q
 

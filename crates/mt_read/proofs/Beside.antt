@@ -18,8 +18,8 @@ use Rattle.mt_rows.specs.Spans.{base_of}
 use Rattle.mt_rule.specs.declared.views.PassPart.{PassPart}
 use Rattle.mt_rule.specs.Sections.{here, kind_of, spans_here}
 use Rattle.mt_read.specs.declared.descent.Row.{Row}
-use Rattle.mt_read.specs.declared.descent.Place.{Place}
-use Rattle.mt_read.specs.Walks.{IsOn, IsPlaceIn}
+use Rattle.mt_read.specs.declared.descent.SlotPlace.{SlotPlace}
+use Rattle.mt_read.specs.Walks.{IsOnRow, IsPlaceIn}
 
 get_seam : (front : List Span) (x y : Span) (back : List Span) (i : ℕ) → length front ≡ i → slice_get (front ++ (x ∷ y ∷ back)) (i + 1) ≡ Some y
 get_seam [] x y back i at = let one : i + 1 ≡ suc 0 = omega arith in ap (slice_get (x ∷ y ∷ back)) one
@@ -40,7 +40,7 @@ next_span lo hi i xs x fills at more =
     let behind = some_behind hi x parts.1 (fills_back lo (hi + 1) parts.0 x parts.1 (subst (Fills lo (hi + 1)) parts.2 fills)) more in
     (behind.0, ap (λ (l : List Span). slice_get l (i + 1)) (parts.2 ∙ ap (λ (l : List Span). parts.0 ++ (x ∷ l)) behind.2) ∙ get_seam parts.0 x behind.0 behind.1 i parts.3, behind.3)
 
-module _ (q : PassPart) (row : Row) (place : Place) (on : IsOn q row) (is : IsPlaceIn q place) (more : place.last ≢ (here q).extent.last) where
+module _ (q : PassPart) (row : Row) (place : SlotPlace) (on : IsOnRow q row) (is : IsPlaceIn q place) (more : place.last ≢ (here q).extent.last) where
   abbrev x : Held
   x = here q
 

@@ -16,7 +16,7 @@ use Rattle.mt_life.specs.Holding.{Snapshot, copy_of}
 use Rattle.mt_life.specs.Known.{spans_at}
 use Rattle.mt_rule.specs.declared.views.PassPart.{PassPart}
 use Rattle.mt_rule.specs.Sections.{LoadedParent, here, moment_seen, spans_here}
-use Rattle.mt_read.specs.declared.descent.Place.{Place}
+use Rattle.mt_read.specs.declared.descent.SlotPlace.{SlotPlace}
 use Rattle.mt_read.specs.Answers.{Answers, AnswersBy}
 use Rattle.mt_read.specs.Walks.{GoesOn, IsPlaceIn}
 use Rattle.mt_read.proofs.Keeping.{answers_later}
@@ -51,7 +51,7 @@ nexts_nothing q q' goes empty index = record {
   is = ap (λ (m : List Range). answer m (Next index (greatest_of q.shape.kind))) (sym empty);
 }
 
-module _ (q q' : PassPart) (place : Place) (index : ℕ) (from : place.first ≤ index) (to : index ≤ place.last) (is : IsPlaceIn q place)
+module _ (q q' : PassPart) (place : SlotPlace) (index : ℕ) (from : place.first ≤ index) (to : index ≤ place.last) (is : IsPlaceIn q place)
     (fills : Fills (here q).extent.first ((here q).extent.last + 1) (spans_here q (here q))) (same : q'.shape.kind ≡ q.shape.kind) where
   abbrev top : ℕ
   top = greatest_of q.shape.kind

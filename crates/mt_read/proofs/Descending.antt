@@ -27,29 +27,29 @@ use Rattle.mt_life.specs.declared.views.Held.{Held}
 use Rattle.mt_rule.specs.declared.views.PassPart.{PassPart}
 use Rattle.mt_rule.specs.declared.views.Shape.{Shape}
 use Rattle.mt_rule.specs.Places.{column_at, IsRowAt}
-use Rattle.mt_rule.specs.Sections.{Comes, LoadedChild, LoadedEntry, LoadedRootRow, LoadedSlot, behind_first, floor_or, IsAt, Reads, here, kind_of, slots_in, spans_here, with_seen}
+use Rattle.mt_rule.specs.Sections.{Comes, LoadedChild, LoadedEntry, LoadedRootRow, LoadedSlot, held_behind, floor_or, IsAt, Reads, here, kind_of, slots_in, spans_here, with_seen}
 use Rattle.mt_read.specs.declared.descent.Row.{Row}
-use Rattle.mt_read.specs.declared.descent.Place.{Place}
-use Rattle.mt_read.specs.Walks.{GoesOn, GoesOnTo, IsOn, IsPlaceIn, IsUnder, SeesMore, WasMarked, steps_down}
+use Rattle.mt_read.specs.declared.descent.SlotPlace.{SlotPlace}
+use Rattle.mt_read.specs.Walks.{GoesOn, GoesOnTo, IsOnRow, IsPlaceIn, IsUnder, SeesMore, WasMarked, steps_down}
 use Rattle.mt_life.proofs.Slots.{span_in_slot}
 use Rattle.mt_life.specs.Holding.{copy_of}
 use Rattle.mt_read.proofs.Finding.{count_is, slots_counted}
 
 -- ---- leaves and inner rows
 
-pub leaf_level : (q : PassPart) (row : Row) → IsOn q row → row.kind ≡ Leaf → (here q).extent.level ≡ 0
+pub leaf_level : (q : PassPart) (row : Row) → IsOnRow q row → row.kind ≡ Leaf → (here q).extent.level ≡ 0
 leaf_level q row on leaf = leaf_low (finds_room q.shape.kind) (here q).extent.level (sym on.kind ∙ leaf)
 
-pub inner_level : (q : PassPart) (row : Row) → IsOn q row → row.kind ≢ Leaf → (here q).extent.level ≢ 0
+pub inner_level : (q : PassPart) (row : Row) → IsOnRow q row → row.kind ≢ Leaf → (here q).extent.level ≢ 0
 inner_level q row on inner none = inner (on.kind ∙ ap (kind_at q.shape.kind) none)
 
 -- ---- the slot's column
 
-pub column_of_slot : (q : PassPart) (row : Row) (place : Place) (n : ℕ) → IsOn q row → n ≡ slots_of row.width row.kind → n + place.slot ≡ slot_column (slots_in q (here q)) place.slot
+pub column_of_slot : (q : PassPart) (row : Row) (place : SlotPlace) (n : ℕ) → IsOnRow q row → n ≡ slots_of row.width row.kind → n + place.slot ≡ slot_column (slots_in q (here q)) place.slot
 column_of_slot q row place n on count = ap (λ (m : ℕ). m + place.slot) (slots_counted q row on n count)
 
 -- a place's slot, as a load of it has it
-pub slot_is : (q : PassPart) (row : Row) (place : Place) (n : ℕ) → IsOn q row → IsPlaceIn q place → n ≡ slots_of row.width row.kind
+pub slot_is : (q : PassPart) (row : Row) (place : SlotPlace) (n : ℕ) → IsOnRow q row → IsPlaceIn q place → n ≡ slots_of row.width row.kind
     → (i : ℕ) × (n + place.slot ≡ slot_column (slots_in q (here q)) i) × (i < length (spans_here q (here q)))
 slot_is q row place n on is count = (
   place.slot,
@@ -58,7 +58,7 @@ slot_is q row place n on is count = (
 )
 
 -- and it is a column's number
-pub slot_fits : (q : PassPart) (row : Row) (place : Place) (n : ℕ) → IsOn q row → IsPlaceIn q place → n ≡ slots_of row.width row.kind → n + place.slot < 64
+pub slot_fits : (q : PassPart) (row : Row) (place : SlotPlace) (n : ℕ) → IsOnRow q row → IsPlaceIn q place → n ≡ slots_of row.width row.kind → n + place.slot < 64
 slot_fits q row place n on is count =
     let used = (span_in_slot q.shape.kind (copy_of (here q)) (here q).row place.slot (here q).extent _ is.stands).0 in
     let counted = count_is q row on n count in
@@ -74,7 +74,7 @@ span_within lo hi i xs x fills at =
     let low = fills_le lo x.first parts.0 split.0 in let high = fills_le (x.last + 1) hi parts.1 split.2 in
     (low, split.1, omega arith)
 
-pub place_within : (q : PassPart) (row : Row) (place : Place) → IsOn q row → IsPlaceIn q place → ((here q).extent.first ≤ place.first) × (place.first ≤ place.last) × (place.last ≤ (here q).extent.last)
+pub place_within : (q : PassPart) (row : Row) (place : SlotPlace) → IsOnRow q row → IsPlaceIn q place → ((here q).extent.first ≤ place.first) × (place.first ≤ place.last) × (place.last ≤ (here q).extent.last)
 place_within q row place on is =
     let facts = span_within (here q).extent.first ((here q).extent.last + 1) place.slot (spans_here q (here q)) _ on.shape.fills is.stands in
     let last = facts.2 in
@@ -91,7 +91,7 @@ pub record IsNamed (name : ℕ) (width : Width) (min max : ℕ) (row : Row) : Ty
   pub min_is : row.min ≡ min
   pub max_is : row.max ≡ max
 
-pub on_come : (q : PassPart) (row : Row) (name since : ℕ) (width : Width) (min max : ℕ) → IsAt q → Comes q (here q) name since → IsNamed name width min max row → width ≡ kind_width q.shape.kind → (here q).extent.first ≡ min → (here q).extent.last ≡ max → max ≤ greatest_of q.shape.kind → IsOn q row
+pub on_come : (q : PassPart) (row : Row) (name since : ℕ) (width : Width) (min max : ℕ) → IsAt q → Comes q (here q) name since → IsNamed name width min max row → width ≡ kind_width q.shape.kind → (here q).extent.first ≡ min → (here q).extent.last ≡ max → max ≤ greatest_of q.shape.kind → IsOnRow q row
 on_come q row name since width min max at comes named wide first last within =
     let met = comes.met in
     record {
@@ -110,12 +110,12 @@ on_come q row name since width min max at comes named wide first last within =
       shape = comes.shape;
     }
 
-module _ (q q' : PassPart) (row : Row) (place : Place) (col name : ℕ) (on : IsOn q row) (is : IsPlaceIn q place) (column : col ≡ slot_column (slots_in q (here q)) place.slot)
+module _ (q q' : PassPart) (row : Row) (place : SlotPlace) (col name : ℕ) (on : IsOnRow q row) (is : IsPlaceIn q place) (column : col ≡ slot_column (slots_in q (here q)) place.slot)
     (inner : row.kind ≢ Leaf) (told : LoadedSlot (column_at (kind_width q.shape.kind) row.at.number col) name q q') where
   pub comes_to : LoadedChild (column_at (kind_width q.shape.kind) row.at.number col) name q q'
   comes_to = told.child (inner_level q row on inner)
 
-  pub child_on : (child : Row) → IsNamed name row.width place.first place.last child → IsOn q' child
+  pub child_on : (child : Row) → IsNamed name row.width place.first place.last child → IsOnRow q' child
   child_on child named =
       let word : column_at (kind_width q.shape.kind) row.at.number col ≡ column_at (kind_width q.shape.kind) (here q).row (slot_column (slots_in q (here q)) place.slot) = (λ i. column_at (kind_width q.shape.kind) (on.number i) (column i)) in
       let covers = comes_to.covers place.slot _ word is.stands in
@@ -178,19 +178,19 @@ goes_down q q' word found told = goes_by q q' (record (with_seen q q'.seen) { he
 pub goes_root : (q q' : PassPart) (found : ℕ) → LoadedRootRow found q q' → GoesOn q q'
 goes_root q q' found told = goes_by q q' (record (with_seen q q'.seen) { floor = floor_or q.floor (length q'.seen); held = here q' ∷ q.held }) told.reads refl (omega arith) (λ x u. (suc u.0, u.1))
 
-behind_held : (held : List Held) (x : Held) (j : ℕ) → get_elem? held (suc j) ≡ some x → get_elem? (behind_first held) j ≡ some x
+behind_held : (held : List Held) (x : Held) (j : ℕ) → get_elem? held (suc j) ≡ some x → get_elem? (held_behind held) j ≡ some x
 behind_held [] x j at = absurd (cc)
 behind_held (y ∷ held) x j at = at
 
 pub goes_entry : (q q' : PassPart) (word found : ℕ) → LoadedEntry word found q q' → GoesOn q q'
-goes_entry q q' word found told = goes_by q q' (record (with_seen q q'.seen) { held = here q' ∷ behind_first q.held }) told.reads refl (omega arith) (λ x u. (u.0, behind_held q.held x u.0 u.1))
+goes_entry q q' word found told = goes_by q q' (record (with_seen q q'.seen) { held = here q' ∷ held_behind q.held }) told.reads refl (omega arith) (λ x u. (u.0, behind_held q.held x u.0 u.1))
 
 -- the row that the section was at is below the root's then
 pub root_under : (q q' : PassPart) (found : ℕ) → LoadedRootRow found q q' → IsAt q → IsUnder q' (here q)
 root_under q q' found told at = subst (λ (z : PassPart). IsUnder z (here q)) (sym told.reads.is) (0, at)
 
 -- the root row covers every index
-pub root_on : (q q' : PassPart) (name : ℕ) (width : Width) (top : ℕ) (row : Row) → LoadedRootRow name q q' → width ≡ kind_width q'.shape.kind → top ≡ greatest width → IsNamed name width 0 top row → IsOn q' row
+pub root_on : (q q' : PassPart) (name : ℕ) (width : Width) (top : ℕ) (row : Row) → LoadedRootRow name q q' → width ≡ kind_width q'.shape.kind → top ≡ greatest width → IsNamed name width 0 top row → IsOnRow q' row
 root_on q q' name width top row told wide all named =
     let end : top ≡ greatest_of q'.shape.kind = all ∙ ap greatest wide in
     on_come q' row name (length q'.seen) width 0 top told.at told.comes named wide told.first (told.last ∙ sym end) (omega arith)

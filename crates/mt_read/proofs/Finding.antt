@@ -21,18 +21,18 @@ use Rattle.mt_rule.specs.Places.{column_at}
 use Rattle.mt_rule.specs.Sections.{LoadedPivot, here, kind_of, slots_in, spans_here, with_seen}
 use Rattle.mt_rule.specs.Tokens.{Identity, IsPassOf, part_of}
 use Rattle.mt_read.specs.declared.descent.Row.{Row}
-use Rattle.mt_read.specs.declared.descent.Place.{Place}
-use Rattle.mt_read.specs.Walks.{IsOn, IsPlaceIn, SeesMore}
+use Rattle.mt_read.specs.declared.descent.SlotPlace.{SlotPlace}
+use Rattle.mt_read.specs.Walks.{IsOnRow, IsPlaceIn, SeesMore}
 
 -- ---- the pass has only seen more
 
 pub sees_on : (q q' q'' : PassPart) → SeesMore q q' → SeesMore q' q'' → SeesMore q q''
 sees_on q q' q'' s t = record { is = t.is ∙ ap (λ (z : PassPart). record (with_seen z q''.seen) { steps = q''.steps }) s.is; seen = begins_on q.seen q'.seen q''.seen s.seen t.seen }
 
-pub on_more : (q q' : PassPart) (row : Row) → SeesMore q q' → IsOn q row → IsOn q' row
+pub on_more : (q q' : PassPart) (row : Row) → SeesMore q q' → IsOnRow q row → IsOnRow q' row
 on_more q q' row s on =
     let long = begins_long q.seen q'.seen s.seen in let met = on.met in
-    subst (λ (z : PassPart). IsOn z row) (sym s.is) (record {
+    subst (λ (z : PassPart). IsOnRow z row) (sym s.is) (record {
       at = on.at;
       number = on.number;
       base = on.base;
@@ -48,7 +48,7 @@ on_more q q' row s on =
       shape = on.shape;
     })
 
-pub place_more : (q q' : PassPart) (place : Place) → SeesMore q q' → IsPlaceIn q place → IsPlaceIn q' place
+pub place_more : (q q' : PassPart) (place : SlotPlace) → SeesMore q q' → IsPlaceIn q place → IsPlaceIn q' place
 place_more q q' place s is = subst (λ (z : PassPart). IsPlaceIn z place) (sym s.is) (record { word = is.word; stands = is.stands })
 
 -- ---- the row's columns
@@ -56,7 +56,7 @@ place_more q q' place s is = subst (λ (z : PassPart). IsPlaceIn z place) (sym s
 pub shape_is : (t : Identity) (p : Pass) → IsPassOf t p → (part_of p).shape ≡ t.shape
 shape_is t p of = ap (λ (i : Identity). i.shape) of.of
 
-module _ (q : PassPart) (row : Row) (on : IsOn q row) where
+module _ (q : PassPart) (row : Row) (on : IsOnRow q row) where
   abbrev x : Held
   x = here q
 
@@ -128,7 +128,7 @@ module _ (q : PassPart) (index : ℕ) where
 
 -- ---- as the code finds it
 
-module _ (q : PassPart) (row : Row) (on : IsOn q row) where
+module _ (q : PassPart) (row : Row) (on : IsOnRow q row) where
   pub pivot_is : (q₁ q₂ : PassPart) (slot found : ℕ) → SeesMore q q₁ → LoadedPivot (column_at (kind_width q₁.shape.kind) row.at.number (1 + slot)) found q₁ q₂
       → found ≡ slice_index (here q).copy (base_of (copy_of (here q)) (here q).row + pivot_column slot)
   pivot_is q₁ q₂ slot found s told =

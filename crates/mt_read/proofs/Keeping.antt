@@ -20,7 +20,7 @@ use Rattle.mt_rule.specs.Sections.{IsAt, LoadedParent, ParentTells, here, marks_
 use Rattle.mt_read.specs.declared.descent.Row.{Row}
 use Rattle.mt_read.specs.declared.cursor.KeptLeaf.{KeptLeaf}
 use Rattle.mt_read.specs.Answers.{Answers, LeafAnswers}
-use Rattle.mt_read.specs.Cursors.{IsKept}
+use Rattle.mt_read.specs.Cursors.{IsOnKeptLeaf}
 use Rattle.mt_read.specs.Walks.{GoesOn, GoesOnTo, IsOnLeaf, IsUnder, WasMarked}
 use Rattle.mt_read.proofs.Descending.{goes_by}
 use Rattle.mt_read.proofs.Moments.{moment_stays}
@@ -34,7 +34,7 @@ module _ (q q' : PassPart) (seen : List Moment) (begun ended epoch risen steps :
     level = at.level;
   })
 
-  pub kept_around : (leaf : Option KeptLeaf) → IfSome leaf (IsKept q) → IfSome leaf (IsKept q')
+  pub kept_around : (leaf : Option KeptLeaf) → IfSome leaf (IsOnKeptLeaf q) → IfSome leaf (IsOnKeptLeaf q')
   kept_around None kept = tt
   kept_around (Some k) kept = record { leaf = leaf_around k.leaf kept.leaf; lo = subst (λ (z : PassPart). k.lo ≤ (here z).since) (sym is) kept.lo }
 
@@ -90,7 +90,7 @@ module _ (q q' : PassPart) (number word found : ℕ) (told : LoadedParent number
 
 -- ---- a walk anew
 
-pub kept_anew : (q q' : PassPart) (kept : KeptLeaf) (lo : ℕ) → kept.lo ≡ lo → IsOnLeaf q' kept.leaf → lo ≤ length q.seen → length q.seen ≤ (here q').since → IsKept q' kept
+pub kept_anew : (q q' : PassPart) (kept : KeptLeaf) (lo : ℕ) → kept.lo ≡ lo → IsOnLeaf q' kept.leaf → lo ≤ length q.seen → length q.seen ≤ (here q').since → IsOnKeptLeaf q' kept
 kept_anew q q' kept lo is at low since = record { leaf = at; lo = omega arith }
 
 pub nothing_goes : (q : PassPart) → GoesOn q q

@@ -23,7 +23,7 @@ use Rattle.mt_life.specs.Moments.{Cut, IsPart}
 use Rattle.mt_rows.specs.Laws.{kind_at}
 use Rattle.mt_rule.specs.declared.views.PassPart.{PassPart}
 use Rattle.mt_rule.specs.Sections.{LoadedParent, here, moment_seen, spans_here}
-use Rattle.mt_read.specs.declared.descent.Place.{Place}
+use Rattle.mt_read.specs.declared.descent.SlotPlace.{SlotPlace}
 use Rattle.mt_read.specs.Answers.{Answers, AnswersBy, LeafAnswers}
 use Rattle.mt_read.specs.Walks.{GoesOn, IsPlaceIn, IsSameHold, SeesMore, WasRead}
 use Rattle.mt_read.proofs.Crossing.{beside_by}
@@ -39,7 +39,7 @@ use Rattle.mt_read.proofs.Standing.{beside_there, form_on, hole_there}
 pub nothing_before : (m : List Range) (index : ℕ) → m ≡ [] → None ≡ answer m (Rfind index 0)
 nothing_before m index none = sym (ap (λ (l : List Range). answer l (Rfind index 0)) none ∙ rfind_all [] index)
 
-module _ (q q' : PassPart) (place : Place) (found : Option Range) (level : (here q).extent.level ≡ 0) (was : WasRead q q' place found) (index : ℕ) (from : place.first ≤ index) (to : index ≤ place.last) where
+module _ (q q' : PassPart) (place : SlotPlace) (found : Option Range) (level : (here q).extent.level ≡ 0) (was : WasRead q q' place found) (index : ℕ) (from : place.first ≤ index) (to : index ≤ place.last) where
   abbrev m : List Range
   m = (moment_seen q' was.read.k).ranges
 
@@ -79,7 +79,7 @@ module _ (q q' : PassPart) (place : Place) (found : Option Range) (level : (here
         stood = inr (stood_here q q' place found level was index from to);
       }
 
-  module _ (q₂ q₃ : PassPart) (same : IsSameHold (here q) (here q')) (sees : SeesMore q' q₂) (goes : GoesOn q q') (on : GoesOn q₂ q₃) (before : Place) (answered : Option Range) (was₃ : WasRead q₂ q₃ before answered) where
+  module _ (q₂ q₃ : PassPart) (same : IsSameHold (here q) (here q')) (sees : SeesMore q' q₂) (goes : GoesOn q q') (on : GoesOn q₂ q₃) (before : SlotPlace) (answered : Option Range) (was₃ : WasRead q₂ q₃ before answered) where
     abbrev m₃ : List Range
     m₃ = (moment_seen q₃ was₃.read.k).ranges
 
@@ -126,7 +126,7 @@ module _ (q q' : PassPart) (place : Place) (found : Option Range) (level : (here
 -- ---- the leaf before a leaf
 
 -- Two leaves of one moment do not overlap: the leaf b, which holds the index below the leaf x, ends there, and has no hole there.
-no_hole : (q₂ q₃ : PassPart) (place : Place) (x : Held) (to : ℕ) (was : WasRead q₂ q₃ place None) → (here q₂).extent.level ≡ 0 → (here q₂).width ≡ kind_width q₃.shape.kind → Cut (moment_seen q₃ was.read.k).cuts x.extent.first x.extent.last
+no_hole : (q₂ q₃ : PassPart) (place : SlotPlace) (x : Held) (to : ℕ) (was : WasRead q₂ q₃ place None) → (here q₂).extent.level ≡ 0 → (here q₂).width ≡ kind_width q₃.shape.kind → Cut (moment_seen q₃ was.read.k).cuts x.extent.first x.extent.last
     → place.first ≤ to → to ≤ place.last → to + 1 ≡ x.extent.first → x.extent.first ≤ greatest_of q₃.shape.kind → ⊥
 no_hole q₂ q₃ place x to was level wide cut from upto next small =
     let b = here q₂ in let e = b.extent in
@@ -144,7 +144,7 @@ no_hole q₂ q₃ place x to was level wide cut from upto next small =
     let less : e.last < greatest (here q₃).width = subst (λ (w : Width). e.last < greatest w) (sym width) (omega arith) in
     full_back parts.0 (span ∷ []) (omega arith) (subst EndsFull (parts.2 ∙ ap (λ (l : List Span). parts.0 ++ (span ∷ l)) none) (was.read.shape.ends level less)) hole
 
-module _ (q₂ q₃ q₄ : PassPart) (number word found : ℕ) (told : LoadedParent number word found q₃ q₄) (place : Place) (x : Held) (to least : ℕ) (level : (here q₂).extent.level ≡ 0) (wide : (here q₂).width ≡ kind_width q₃.shape.kind)
+module _ (q₂ q₃ q₄ : PassPart) (number word found : ℕ) (told : LoadedParent number word found q₃ q₄) (place : SlotPlace) (x : Held) (to least : ℕ) (level : (here q₂).extent.level ≡ 0) (wide : (here q₂).width ≡ kind_width q₃.shape.kind)
     (from : place.first ≤ to) (upto : to ≤ place.last) (next : to + 1 ≡ x.extent.first) (small : x.extent.first ≤ greatest_of q₃.shape.kind) (met : x.met ≤ least) (low : least ≤ (here q₂).since)
     (past : (k : ℕ) → x.met ≤ k → k ≤ length q₄.seen → Snapshot q₄.shape.kind x (moment_seen q₄ k)) where
   pub last_by : (o : Option Range) (slot : Type 0) → IfSome o (λ (r : Range). LeafAnswers q₃ (here q₂) (Rfind to 0) (Some r)) → IfNone o (slot × WasRead q₂ q₃ place None) → AnswersBy q₄ x least (Rfind to 0) o
@@ -163,7 +163,7 @@ pub here_by : (q q' : PassPart) (index : ℕ) (r : Range) → LeafAnswers q' (he
 here_by q q' index r a = record { answers = a.answers; stood = inr a.stood }
 
 -- the leaf begins with a hole there: what is before the leaf answers
-module _ (q q₁ q' : PassPart) (place : Place) (was : WasRead q q₁ place None) (same : IsSameHold (here q) (here q₁)) (filled : Fills (here q₁).extent.first ((here q₁).extent.last + 1) (spans_here q₁ (here q₁)))
+module _ (q q₁ q' : PassPart) (place : SlotPlace) (was : WasRead q q₁ place None) (same : IsSameHold (here q) (here q₁)) (filled : Fills (here q₁).extent.first ((here q₁).extent.last + 1) (spans_here q₁ (here q₁)))
     (kind : q'.shape.kind ≡ q₁.shape.kind) (index : ℕ) (from : place.first ≤ index) (to : index ≤ place.last) (some : 0 < place.first) where
   by_moment : (m : life.Moment) (value : Option Range) → IsMap q'.shape.kind m.ranges → value ≡ answer m.ranges (Rfind (place.first - 1) 0) → (m.ranges ≡ []) ⊎ Snapshot q'.shape.kind (here q₁) m
       → (value ≡ answer m.ranges (Rfind index 0)) × ((m.ranges ≡ []) ⊎ Snapshot q'.shape.kind (here q) m)
@@ -202,7 +202,7 @@ only_answers (Some value) q x least query h = h.answers
 
 -- ---- what ends below an index
 
-module _ (q q' : PassPart) (place : Place) (index : ℕ) (from : place.first ≤ index) (to : index ≤ place.last) (is : IsPlaceIn q place)
+module _ (q q' : PassPart) (place : SlotPlace) (index : ℕ) (from : place.first ≤ index) (to : index ≤ place.last) (is : IsPlaceIn q place)
     (fills : Fills (here q).extent.first ((here q).extent.last + 1) (spans_here q (here q))) (same : q'.shape.kind ≡ q.shape.kind) where
   each_beside : (m : life.Moment) → IsMap q'.shape.kind m.ranges → Snapshot q'.shape.kind (here q) m → AllByRecursion (Beside (greatest_of q'.shape.kind) place.first place.last) m.ranges
   each_beside m map s =

@@ -26,9 +26,9 @@ use Rattle.mt_rule.specs.declared.views.PassPart.{PassPart}
 use Rattle.mt_rule.specs.Places.{column_at}
 use Rattle.mt_rule.specs.Sections.{LoadedEntry, LoadedSlot, here, moment_seen, slots_in}
 use Rattle.mt_read.specs.declared.descent.Row.{Row}
-use Rattle.mt_read.specs.declared.descent.Place.{Place}
+use Rattle.mt_read.specs.declared.descent.SlotPlace.{SlotPlace}
 use Rattle.mt_read.specs.Answers.{Answers, LeafAnswers}
-use Rattle.mt_read.specs.Walks.{GoesOn, IsOn, IsOnLeaf, IsPlaceIn, IsSameHold, SeesMore, WasRead, range_or_hole}
+use Rattle.mt_read.specs.Walks.{GoesOn, IsOnRow, IsOnLeaf, IsPlaceIn, IsSameHold, SeesMore, WasRead, range_or_hole}
 use Rattle.mt_read.proofs.Descending.{place_within}
 use Rattle.mt_read.proofs.Standing.{form_on}
 use Rattle.mt_read.proofs.SlotAnswers.{load_entry, load_none, find_entry, find_end, find_behind, behind_in}
@@ -36,7 +36,7 @@ use Rattle.mt_read.proofs.SlotAnswers.{load_entry, load_none, find_entry, find_e
 pub leaf_kind : (q : PassPart) (leaf : Row) → IsOnLeaf q leaf → leaf.kind ≡ Leaf
 leaf_kind q leaf at = at.on.kind ∙ ap (kind_at q.shape.kind) at.level
 
-module _ (q q' : PassPart) (leaf : Row) (place : Place) (col entry : ℕ) (at : IsOnLeaf q leaf) (is : IsPlaceIn q place) (slot : col ≡ slot_column (slots_in q (here q)) place.slot)
+module _ (q q' : PassPart) (leaf : Row) (place : SlotPlace) (col entry : ℕ) (at : IsOnLeaf q leaf) (is : IsPlaceIn q place) (slot : col ≡ slot_column (slots_in q (here q)) place.slot)
     (told : LoadedSlot (column_at (kind_width q.shape.kind) leaf.at.number col) entry q q') where
   abbrev x : Held
   x = here q
@@ -68,32 +68,32 @@ module _ (q q' : PassPart) (leaf : Row) (place : Place) (col entry : ℕ) (at : 
 
 -- ---- what it answers
 
-abbrev pub span_of : Place → ℕ → Span
+abbrev pub span_of : SlotPlace → ℕ → Span
 span_of place entry = record { first = place.first; last = place.last; word = entry }
 
-pub range_is : (place : Place) (entry : ℕ) → entry ≢ 0 → range_or_hole place entry ≡ Some (record { first = place.first; last = place.last; entry = entry })
+pub range_is : (place : SlotPlace) (entry : ℕ) → entry ≢ 0 → range_or_hole place entry ≡ Some (record { first = place.first; last = place.last; entry = entry })
 range_is place entry some = rw (ne_eqb entry 0 some) refl
 
-pub hole_is : (place : Place) (entry : ℕ) → entry ≡ 0 → range_or_hole place entry ≡ None
+pub hole_is : (place : SlotPlace) (entry : ℕ) → entry ≡ 0 → range_or_hole place entry ≡ None
 hole_is place entry none = rw (eq-eqb entry 0 none) refl
 
-pub some_entry : (place : Place) (entry : ℕ) (r : Range) → Some r ≡ range_or_hole place entry → entry ≢ 0
+pub some_entry : (place : SlotPlace) (entry : ℕ) (r : Range) → Some r ≡ range_or_hole place entry → entry ≢ 0
 some_entry place entry r is none = let clash : Some r ≡ None = is ∙ hole_is place entry none in absurd cc
 
-pub no_entry : (place : Place) (entry : ℕ) → None ≡ range_or_hole place entry → entry ≡ 0
+pub no_entry : (place : SlotPlace) (entry : ℕ) → None ≡ range_or_hole place entry → entry ≡ 0
 no_entry place entry is = elim (cases_Bool (entry == 0)) [
   | inl none ↦ eqb-true entry 0 none
   | inr some ↦ (let clash : None ≡ Some (record { first = place.first; last = place.last; entry = entry }) = is ∙ range_is place entry (eqb-false entry 0 some) in absurd cc)
 ]
 
-range_last : (place : Place) (entry : ℕ) (r : Range) → Some r ≡ range_or_hole place entry → r.last ≡ place.last
+range_last : (place : SlotPlace) (entry : ℕ) (r : Range) → Some r ≡ range_or_hole place entry → r.last ≡ place.last
 range_last place entry r is =
     let same : Some r ≡ Some (record { first = place.first; last = place.last; entry = entry }) = is ∙ range_is place entry (some_entry place entry r is) in
     let one : r ≡ record { first = place.first; last = place.last; entry = entry } = cc in
     ap (λ (z : Range). z.last) one
 
 -- a range that was read in a leaf ends there
-pub ends_in_leaf : (q q' : PassPart) (leaf : Row) (place : Place) (found : Option Range) → IsOn q leaf → IsPlaceIn q place → WasRead q q' place found → IfSome found (λ (r : Range). (leaf.min ≤ r.last) × (r.last ≤ leaf.max))
+pub ends_in_leaf : (q q' : PassPart) (leaf : Row) (place : SlotPlace) (found : Option Range) → IsOnRow q leaf → IsPlaceIn q place → WasRead q q' place found → IfSome found (λ (r : Range). (leaf.min ≤ r.last) × (r.last ≤ leaf.max))
 ends_in_leaf q q' leaf place None on is was = tt
 ends_in_leaf q q' leaf place (Some r) on is was =
     let inside = place_within q leaf place on is in
@@ -108,7 +108,7 @@ pub kind_told : {A : Type 0} (o : Option A) (q q' : PassPart) (P : Type 0) → I
 kind_told None q q' P goes none of = of none
 kind_told (Some x) q q' P goes none of = kind_goes q q' goes
 
-module _ (q q' : PassPart) (place : Place) (found : Option Range) (level : (here q).extent.level ≡ 0) (was : WasRead q q' place found) (index : ℕ) (from : place.first ≤ index) (to : index ≤ place.last) where
+module _ (q q' : PassPart) (place : SlotPlace) (found : Option Range) (level : (here q).extent.level ≡ 0) (was : WasRead q q' place found) (index : ℕ) (from : place.first ≤ index) (to : index ≤ place.last) where
   abbrev m : List Range
   m = (moment_seen q' was.read.k).ranges
 
@@ -165,7 +165,7 @@ module _ (q q' : PassPart) (place : Place) (found : Option Range) (level : (here
       }
 
   -- the hole stands there still, as another slot is read
-  module _ (q₂ q₃ : PassPart) (same : IsSameHold (here q) (here q')) (sees : SeesMore q' q₂) (goes : GoesOn q q') (on : GoesOn q₂ q₃) (next : Place) (answered : Option Range) (was₃ : WasRead q₂ q₃ next answered) where
+  module _ (q₂ q₃ : PassPart) (same : IsSameHold (here q) (here q')) (sees : SeesMore q' q₂) (goes : GoesOn q q') (on : GoesOn q₂ q₃) (next : SlotPlace) (answered : Option Range) (was₃ : WasRead q₂ q₃ next answered) where
     pub here_is : here q₂ ≡ here q'
     here_is = ap here sees.is
 

@@ -14,7 +14,7 @@ use Rattle.mt_read.specs.Walks.{IsOnLeaf}
 -- ---- the leaf
 
 -- The section is at the leaf. So many calls had ended before the walk that came to it.
-pub record IsKept (q : PassPart) (kept : KeptLeaf) : Type 0 where
+pub record IsOnKeptLeaf (q : PassPart) (kept : KeptLeaf) : Type 0 where
   pub leaf : IsOnLeaf q kept.leaf
   pub lo : kept.lo ≤ (here q).since
 
@@ -27,9 +27,9 @@ abbrev pub IsOverPlace : Option KeptLeaf → Option ℕ → Type 0
 IsOverPlace leaf None = ⊥
 IsOverPlace leaf (Some index) = IsOver leaf index
 
-abbrev pub lo_of : Option KeptLeaf → ℕ
-lo_of None = 0
-lo_of (Some kept) = kept.lo
+abbrev pub kept_lo : Option KeptLeaf → ℕ
+kept_lo None = 0
+kept_lo (Some kept) = kept.lo
 
 abbrev pub row_of : Option KeptLeaf → ℕ
 row_of None = 0
@@ -40,7 +40,7 @@ row_of (Some kept) = kept.leaf.at.number
 pub record LeafWasMarked (leaf : Option KeptLeaf) (at : Option ℕ) (begun : ℕ) (q q' : PassPart) : Type 0 where
   pub over : IsOverPlace leaf at
   pub marks : q'.marks ≡ row_of leaf ∷ q.marks
-  pub later : lo_of leaf < begun
+  pub later : kept_lo leaf < begun
 
 -- the dead marks that the pass has loaded are as before, or the kept leaf's is one more
 abbrev pub MarksKeptLeaf : Option KeptLeaf → Option ℕ → ℕ → PassPart → PassPart → Type 0
@@ -67,7 +67,7 @@ query_at (Some index) max = Find index max
 -- The cursor is of this pass: its section stands open, and is at the leaf that it keeps. It keeps none without a section.
 pub record IsCursorOf (q : PassPart) (c : Cursor) : Type 0 where
   pub standing : IfSome c.epoch (λ epoch. q.standing ≡ Some epoch)
-  pub leaf : IfSome c.leaf (IsKept q)
+  pub leaf : IfSome c.leaf (IsOnKeptLeaf q)
   pub closed : c.epoch ≡ None → c.leaf ≡ None
 
 -- the epoch of the section that a step reads in, where `lo` calls had ended before it

@@ -14,7 +14,7 @@ use Rattle.mt_layout.specs.Spans.{leaf_range}
 use Rattle.mt_life.specs.declared.views.Held.{Held}
 use Rattle.mt_rule.specs.declared.views.PassPart.{PassPart}
 use Rattle.mt_rule.specs.Sections.{here, spans_here}
-use Rattle.mt_read.specs.declared.descent.Place.{Place}
+use Rattle.mt_read.specs.declared.descent.SlotPlace.{SlotPlace}
 use Rattle.mt_read.specs.Walks.{GoesOn, IsSameHold, IsUnder, WasMarked, WasRead, sought}
 use Rattle.mt_read.specs.Windows.{Began, Ended}
 
@@ -28,8 +28,8 @@ IsLeafOver x index = (x.extent.level ≡ 0) × (x.extent.first ≤ index) × (in
 abbrev pub IsBehind : PassPart → Held → Type 0
 IsBehind q x = (x.extent.last < greatest_of q.shape.kind) × IsLeafOver (here q) (x.extent.last + 1)
 
-abbrev pub IsBefore : PassPart → Held → Type 0
-IsBefore q x = (x.extent.first ≢ 0) × IsLeafOver (here q) (x.extent.first - 1)
+abbrev pub IsLeafBefore : PassPart → Held → Type 0
+IsLeafBefore q x = (x.extent.first ≢ 0) × IsLeafOver (here q) (x.extent.first - 1)
 
 -- The section has come from the leaf x to the leaf beside it, and the pass has loaded the dead mark of x then, and no other.
 pub record MarkedBeside (IsBeside : PassPart → Held → Type 0) (x : Held) (q q' : PassPart) : Type 0 where
@@ -39,13 +39,13 @@ pub record MarkedBeside (IsBeside : PassPart → Held → Type 0) (x : Held) (q 
 
 -- The place is the first of the leaf that the section was at, and was read: it is a hole. Then the section has come to the leaf
 -- before that one, and the pass has loaded the dead mark of the first leaf, and no other.
-pub record LeftHole (place : Place) (q q' : PassPart) : Type 0 where
+pub record LeftHole (place : SlotPlace) (q q' : PassPart) : Type 0 where
   pub read : PassPart
   pub first : place.slot ≡ 0
   pub goes : GoesOn q read
   pub same : IsSameHold (here q) (here read)
   pub hole : WasRead q read place None
-  pub beside : MarkedBeside IsBefore (here read) read q'
+  pub beside : MarkedBeside IsLeafBefore (here read) read q'
 
 -- ---- a read that is given up
 
@@ -54,12 +54,12 @@ abbrev pub ranges_here : PassPart → Held → List Range
 ranges_here q x = flat_map leaf_range (spans_here q x)
 
 -- the index that is asked about
-abbrev pub index_of : Query → ℕ
-index_of (Load index) = index
-index_of (Find index max) = index
-index_of (Next index max) = index
-index_of (Prev index min) = index
-index_of (Rfind index min) = index
+abbrev pub query_index : Query → ℕ
+query_index (Load index) = index
+query_index (Find index max) = index
+query_index (Next index max) = index
+query_index (Prev index min) = index
+query_index (Rfind index min) = index
 
 -- The query as a tree of this kind is asked it: from an index above the greatest a neighbour is looked for at the greatest. None
 -- begins behind that, and the last that ends below the index is the last that begins at the greatest or below.
@@ -75,15 +75,15 @@ abbrev pub IsAside : Query → PassPart → Held → Type 0
 IsAside (Load index) q x = ⊥
 IsAside (Find index max) q x = ⊥
 IsAside (Next index max) q x = IsBehind q x
-IsAside (Prev index min) q x = IsBefore q x
-IsAside (Rfind index min) q x = IsBefore q x
+IsAside (Prev index min) q x = IsLeafBefore q x
+IsAside (Rfind index min) q x = IsLeafBefore q x
 
 -- By a walk from a root that was loaded no earlier than after `least` calls the section came to the leaf x, which covers the
 -- index, and of whose ranges none answers; then to the leaf beside it; and then the dead mark of x was loaded, and no other.
 pub record LeftMarked (query : Query) (least : ℕ) (q q' : PassPart) : Type 0 where
   pub x : Held
   pub since : least ≤ x.since
-  pub over : IsLeafOver x (index_of query)
+  pub over : IsLeafOver x (query_index query)
   pub none : answer (ranges_here q' x) query ≡ None
   pub beside : MarkedBeside (IsAside query) x q q'
 

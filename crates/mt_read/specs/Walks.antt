@@ -15,9 +15,9 @@ use Rattle.mt_life.specs.Known.{HasRow, Shape, spans_at}
 use Rattle.mt_rows.specs.Spans.{inner_kind}
 use Rattle.mt_rule.specs.declared.views.PassPart.{PassPart}
 use Rattle.mt_rule.specs.Places.{IsRowAt}
-use Rattle.mt_rule.specs.Sections.{IsAt, IsRead, Reads, here, kind_of, spans_here, with_seen}
+use Rattle.mt_rule.specs.Sections.{IsAt, IsLeafRead, Reads, here, kind_of, spans_here, with_seen}
 use Rattle.mt_read.specs.declared.descent.Row.{Row}
-use Rattle.mt_read.specs.declared.descent.Place.{Place}
+use Rattle.mt_read.specs.declared.descent.SlotPlace.{SlotPlace}
 
 -- the index that a walk goes to: the greatest of a tree of this kind, where an index is above that
 abbrev pub sought : Kind → ℕ → ℕ
@@ -50,7 +50,7 @@ pub record WasMarked (x : Held) (q q' : PassPart) : Type 0 where
   pub begun : x.since < q'.risen
 
 -- The section is at this row, and has a copy of its words in which it fills its extent.
-pub record IsOn (q : PassPart) (row : Row) : Type 0 where
+pub record IsOnRow (q : PassPart) (row : Row) : Type 0 where
   pub at : IsAt q
   pub number : row.at.number ≡ (here q).row
   pub base : IsRowAt (kind_width q.shape.kind) row.at
@@ -67,7 +67,7 @@ pub record IsOn (q : PassPart) (row : Row) : Type 0 where
 
 -- The section is at this leaf.
 pub record IsOnLeaf (q : PassPart) (leaf : Row) : Type 0 where
-  pub on : IsOn q leaf
+  pub on : IsOnRow q leaf
   pub level : (here q).extent.level ≡ 0
 
 -- A walk down from the row that the section is at takes so many steps at the most: as many for each level as an inner row has slots.
@@ -79,17 +79,17 @@ pub record IsSameHold (x y : Held) : Type 0 where
   pub is : y ≡ record x { width = y.width; copy = y.copy; died = y.died }
 
 -- Something stands in this place of the row that the section is at.
-pub record IsPlaceIn (q : PassPart) (place : Place) : Type 0 where
+pub record IsPlaceIn (q : PassPart) (place : SlotPlace) : Type 0 where
   pub word : ℕ
   pub stands : slice_get (spans_here q (here q)) place.slot ≡ Some (record { first = place.first; last = place.last; word = word })
 
 -- what stands in a place, by its word: a range, or none where it is a hole
-abbrev pub range_or_hole : Place → ℕ → Option Range
+abbrev pub range_or_hole : SlotPlace → ℕ → Option Range
 range_or_hole place entry = if entry == 0 then None else Some (record { first = place.first; last = place.last; entry = entry })
 
 -- The place of a leaf was read, as the leaf had it after some number of calls: a range, or none where it is a hole.
-pub record WasRead (q q' : PassPart) (place : Place) (found : Option Range) : Type 0 where
-  pub read : IsRead q' (here q) (here q')
+pub record WasRead (q q' : PassPart) (place : SlotPlace) (found : Option Range) : Type 0 where
+  pub read : IsLeafRead q' (here q) (here q')
   pub entry : ℕ
   pub stands : slice_get (spans_at q'.shape.kind (copy_of (here q')) (here q).row (here q).extent) place.slot ≡ Some (record { first = place.first; last = place.last; word = entry })
   pub found_is : found ≡ range_or_hole place entry

@@ -7,10 +7,10 @@ ghost use Rattle.mt_base.specs.Passes.{Read};
 ghost use Rattle.mt_rule.specs.Sections.{closed_section, here};
 ghost use Rattle.mt_rule.specs.Tokens.{identity_of, part_of, pass_in, tree_in, IsPassOf, Stepped, IsCounted};
 ghost use Rattle.mt_read.specs.Answers.{Answers};
-ghost use Rattle.mt_read.specs.Cursors.{HasStepped, IsCursorOf, IsKept, IsOver, IsOverPlace, LeafWasMarked, MarksKeptLeaf, Resumed, epoch_or, place_behind, place_from, query_at};
+ghost use Rattle.mt_read.specs.Cursors.{HasStepped, IsCursorOf, IsOnKeptLeaf, IsOver, IsOverPlace, LeafWasMarked, MarksKeptLeaf, Resumed, epoch_or, place_behind, place_from, query_at};
 ghost use Rattle.mt_read.specs.Walks.{GoesOn, GoesOnTo, WasMarked};
 
-use crate::answers::Answer;
+use crate::answers::ReadAnswer;
 use crate::bounds::{not_below, within};
 use crate::descent::{Row, find_slot, sought, walk};
 use crate::reads::first_at;
@@ -43,11 +43,11 @@ fn first_at_kept<L: Ledger>(
     steps: &mut Steps<L>,
 ) -> Option<Option<Range>>
     requires pass { IsPassOf (identity_of table.now) pass.old }
-    requires kept { IsKept (part_of pass.old) kept.now }
+    requires kept { IsOnKeptLeaf (part_of pass.old) kept.now }
     requires over { IsOver (Some kept.now) index }
     ensures stepped { Stepped (identity_of table.now) pass.old pass.new }
     ensures goes { IfSome result (λ found. GoesOn (part_of pass.old) (part_of pass.new)) }
-    ensures kept { IsKept (part_of pass.new) kept.now }
+    ensures kept { IsOnKeptLeaf (part_of pass.new) kept.now }
     ensures answer { IfSome result (Answers (part_of pass.new) (length (part_of pass.old).seen) (Find index (greatest_of (part_of pass.old).shape.kind))) }
     ensures within { IfSome result (λ found. IfSome found (λ range. IsOver (Some kept.now) range.last)) }
     ensures marked { IfNone result (WasMarked (here (part_of pass.old)) (part_of pass.old) (part_of pass.new)) }
@@ -77,7 +77,7 @@ fn first_anew<L: Ledger>(
     requires lo { lo ≤ length (part_of pass.old).seen }
     ensures stepped { Stepped (identity_of table.now) pass.old pass.new }
     ensures goes { GoesOn (part_of pass.old) (part_of pass.new) }
-    ensures kept { IfSome result.leaf (IsKept (part_of pass.new)) }
+    ensures kept { IfSome result.leaf (IsOnKeptLeaf (part_of pass.new)) }
     ensures lo { IfSome result.leaf (λ kept. kept.lo ≡ lo) }
     ensures answer { Answers (part_of pass.new) (length (part_of pass.old).seen) (Find index (greatest_of (part_of pass.old).shape.kind)) result.range }
     ensures within { IfSome result.range (λ range. IsOver result.leaf range.last) }
@@ -111,11 +111,11 @@ fn first_behind<L: Ledger>(
 ) -> Found
     requires pass { IsPassOf (identity_of table.now) pass.old }
     requires open { (part_of pass.old).standing ≢ None }
-    requires kept { IfSome leaf (IsKept (part_of pass.old)) }
+    requires kept { IfSome leaf (IsOnKeptLeaf (part_of pass.old)) }
     requires lo { lo ≤ length (part_of pass.old).seen }
     ensures stepped { Stepped (identity_of table.now) pass.old pass.new }
     ensures goes { GoesOnTo (part_of pass.old) (part_of pass.new) (part_of pass.new).marks }
-    ensures kept { IfSome result.leaf (IsKept (part_of pass.new)) }
+    ensures kept { IfSome result.leaf (IsOnKeptLeaf (part_of pass.new)) }
     ensures lo { (result.leaf ≡ leaf) ⊎ IfSome result.leaf (λ kept. kept.lo ≡ lo) }
     ensures answer { Answers (part_of pass.new) (length (part_of pass.old).seen) (Find index (greatest_of (part_of pass.old).shape.kind)) result.range }
     ensures within { IfSome result.range (λ range. IsOver result.leaf range.last) }
@@ -167,7 +167,7 @@ impl Cursor {
     ghost use Rattle.mt_rule.specs.Sections.{closed_section};
     ghost use Rattle.mt_rule.specs.Tokens.{identity_of, part_of, pass_in, tree_in, IsPassOf, Stepped, IsCounted};
     ghost use Rattle.mt_read.specs.Answers.{Answers};
-    ghost use Rattle.mt_read.specs.Cursors.{HasStepped, IsCursorOf, IsKept, IsOver, IsOverPlace, LeafWasMarked, MarksKeptLeaf, Resumed, epoch_or, place_behind, place_from, query_at};
+    ghost use Rattle.mt_read.specs.Cursors.{HasStepped, IsCursorOf, IsOnKeptLeaf, IsOver, IsOverPlace, LeafWasMarked, MarksKeptLeaf, Resumed, epoch_or, place_behind, place_from, query_at};
     ghost use Rattle.mt_read.specs.Walks.{GoesOnTo};
 
     /// A walk from an index up to a bound. It opens no section yet.
@@ -223,11 +223,11 @@ impl Cursor {
     ) -> Option<Range>
         requires pass { IsPassOf (identity_of table.now) pass.old }
         requires open { (part_of pass.old).standing ≢ None }
-        requires kept { IfSome self.old.leaf (IsKept (part_of pass.old)) }
+        requires kept { IfSome self.old.leaf (IsOnKeptLeaf (part_of pass.old)) }
         requires lo { lo ≤ length (part_of pass.old).seen }
         ensures stepped { Stepped (identity_of table.now) pass.old pass.new }
         ensures goes { GoesOnTo (part_of pass.old) (part_of pass.new) (part_of pass.new).marks }
-        ensures kept { IfSome self.new.leaf (IsKept (part_of pass.new)) }
+        ensures kept { IfSome self.new.leaf (IsOnKeptLeaf (part_of pass.new)) }
         ensures same { self.new ≡ record self.old { leaf = self.new.leaf } }
         ensures lo { (self.new.leaf ≡ self.old.leaf) ⊎ IfSome self.new.leaf (λ kept. kept.lo ≡ lo) }
         ensures answer { Answers (part_of pass.new) (length (part_of pass.old).seen) (Find index self.old.max) result }
@@ -248,7 +248,7 @@ impl Cursor {
         table: &MtTable,
         pass: &mut Pass,
         steps: &mut Steps<L>,
-    ) -> Answer<Option<Range>>
+    ) -> ReadAnswer<Option<Range>>
         requires pass { IsPassOf (identity_of table.now) pass.old }
         requires cursor { IsCursorOf (part_of pass.old) self.old }
         ensures stepped { Stepped (identity_of table.now) pass.old pass.new }
@@ -268,7 +268,7 @@ impl Cursor {
         let lo = self.resume(table, pass, steps);
         let Some(index) = self.at else {
             let hi = table.load_begun(pass, steps);
-            return Answer {
+            return ReadAnswer {
                 lo,
                 hi,
                 value: None,
@@ -277,7 +277,7 @@ impl Cursor {
         let value = self.look(table, pass, lo, index, steps);
         let hi = table.load_begun(pass, steps);
         self.at = place_behind(value, self.max);
-        Answer { lo, hi, value }
+        ReadAnswer { lo, hi, value }
     }
 
     /// Closes the section, and keeps the place alone: the next step opens a section and walks again.

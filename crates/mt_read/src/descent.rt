@@ -8,7 +8,7 @@ ghost use Rattle.mt_layout.specs.declared.names.RowKind.TheVariants.{Leaf};
 ghost use Rattle.mt_rule.specs.Places.{IsRowAt};
 ghost use Rattle.mt_rule.specs.Sections.{IsAt, here, slots_in, moment_seen};
 ghost use Rattle.mt_rule.specs.Tokens.{identity_of, part_of, IsPassOf, Stepped, IsCounted};
-ghost use Rattle.mt_read.specs.Walks.{GoesOn, IsOn, IsOnLeaf, IsPlaceIn, IsUnder, SeesMore, sought, steps_down};
+ghost use Rattle.mt_read.specs.Walks.{GoesOn, IsOnRow, IsOnLeaf, IsPlaceIn, IsUnder, SeesMore, sought, steps_down};
 
 use mt_base::{Steps, Width, top};
 use mt_layout::{RowKind, kind_of, row_of, slots};
@@ -27,7 +27,7 @@ pub struct Row {
 
 /// A slot of a row, and the first and the last index of what stands there.
 #[derive(Clone, Copy)]
-pub struct Place {
+pub struct SlotPlace {
     pub slot: u32,
     pub first: u64,
     pub last: u64,
@@ -83,14 +83,14 @@ pub fn find_slot<L: Ledger>(
     row: &Row,
     index: u64,
     steps: &mut Steps<L>,
-) -> Place
+) -> SlotPlace
     requires pass { IsPassOf (identity_of table.now) pass.old }
-    requires on { IsOn (part_of pass.old) row.now }
+    requires on { IsOnRow (part_of pass.old) row.now }
     requires from { row.now.min ≤ index }
     requires to { index ≤ row.now.max }
     ensures stepped { Stepped (identity_of table.now) pass.old pass.new }
     ensures sees { SeesMore (part_of pass.old) (part_of pass.new) }
-    ensures on { IsOn (part_of pass.new) row.now }
+    ensures on { IsOnRow (part_of pass.new) row.now }
     ensures place { IsPlaceIn (part_of pass.new) result }
     ensures from { result.first ≤ index }
     ensures to { index ≤ result.last }
@@ -103,7 +103,7 @@ pub fn find_slot<L: Ledger>(
     for slot in 0..last_slot {
         let pivot = table.load_pivot(pass, row.at, 1 + slot, steps);
         if index <= pivot {
-            return Place {
+            return SlotPlace {
                 slot,
                 first,
                 last: pivot,
@@ -111,7 +111,7 @@ pub fn find_slot<L: Ledger>(
         }
         first = pivot + 1;
     }
-    Place {
+    SlotPlace {
         slot: last_slot,
         first,
         last: row.max,
@@ -127,13 +127,13 @@ fn child_at<L: Ledger>(
     steps: &mut Steps<L>,
 ) -> Row
     requires pass { IsPassOf (identity_of table.now) pass.old }
-    requires on { IsOn (part_of pass.old) row.now }
+    requires on { IsOnRow (part_of pass.old) row.now }
     requires inner { row.now.kind ≢ Leaf }
     requires from { row.now.min ≤ index }
     requires to { index ≤ row.now.max }
     ensures stepped { Stepped (identity_of table.now) pass.old pass.new }
     ensures goes { GoesOn (part_of pass.old) (part_of pass.new) }
-    ensures on { IsOn (part_of pass.new) result }
+    ensures on { IsOnRow (part_of pass.new) result }
     ensures since { (here (part_of pass.new)).since ≡ (here (part_of pass.old)).since }
     ensures level { (here (part_of pass.new)).extent.level + 1 ≡ (here (part_of pass.old)).extent.level }
     ensures from { result.min ≤ index }
@@ -156,7 +156,7 @@ fn descend<L: Ledger>(
     steps: &mut Steps<L>,
 ) -> Row
     requires pass { IsPassOf (identity_of table.now) pass.old }
-    requires on { IsOn (part_of pass.old) row }
+    requires on { IsOnRow (part_of pass.old) row }
     requires from { row.min ≤ index }
     requires to { index ≤ row.max }
     ensures stepped { Stepped (identity_of table.now) pass.old pass.new }

@@ -6,13 +6,13 @@ ghost use Rattle.mt_base.specs.Passes.{Read};
 ghost use Rattle.mt_rule.specs.Sections.{here};
 ghost use Rattle.mt_rule.specs.Tokens.{identity_of, part_of, pass_in, tree_in, IsPassOf, Stepped, IsCounted};
 ghost use Rattle.mt_read.specs.Answers.{Answers, AnswersBy, LeafAnswers};
-ghost use Rattle.mt_read.specs.Neighbours.{IsBefore, LeftHole, LeftMarked, MarkedBeside, WasLeftMarked, WasMoved, asked};
+ghost use Rattle.mt_read.specs.Neighbours.{IsLeafBefore, LeftHole, LeftMarked, MarkedBeside, WasLeftMarked, WasMoved, asked};
 ghost use Rattle.mt_read.specs.Walks.{GoesOn, IsOnLeaf, IsPlaceIn, IsSameHold, SeesMore, WasRead};
 ghost use Rattle.mt_read.specs.Windows.{HasRead};
 
-use crate::answers::Answer;
+use crate::answers::ReadAnswer;
 use crate::bounds::not_below;
-use crate::descent::{Place, Row, find_slot, sought, walk};
+use crate::descent::{Row, SlotPlace, find_slot, sought, walk};
 use crate::neighbours::Moved;
 use crate::reads::range_at;
 use crate::sections::Section;
@@ -26,9 +26,9 @@ fn place_before<L: Ledger>(
     table: &MtTable,
     pass: &mut Pass,
     leaf: &Row,
-    place: &Place,
+    place: &SlotPlace,
     steps: &mut Steps<L>,
-) -> Place
+) -> SlotPlace
     requires pass { IsPassOf (identity_of table.now) pass.old }
     requires leaf { IsOnLeaf (part_of pass.old) leaf.now }
     requires place { IsPlaceIn (part_of pass.old) place.now }
@@ -45,14 +45,14 @@ fn place_before<L: Ledger>(
     let slot = place.slot - 1;
     let last = place.first - 1;
     if slot == 0 {
-        return Place {
+        return SlotPlace {
             slot,
             first: leaf.min,
             last,
         };
     }
     let pivot = table.load_pivot(pass, leaf.at, slot, steps);
-    Place {
+    SlotPlace {
         slot,
         first: pivot + 1,
         last,
@@ -65,7 +65,7 @@ fn last_at<L: Ledger>(
     table: &MtTable,
     pass: &mut Pass,
     leaf: &Row,
-    place: &Place,
+    place: &SlotPlace,
     index: u64,
     steps: &mut Steps<L>,
 ) -> Option<Range>
@@ -108,7 +108,7 @@ fn last_beside<L: Ledger>(
     ensures stepped { Stepped (identity_of table.now) pass.old pass.new }
     ensures goes { IfSome result (λ found. GoesOn (part_of pass.old) (part_of pass.new)) }
     ensures answer { IfSome result (AnswersBy (part_of pass.new) (here (part_of pass.old)) (length (part_of pass.old).seen) (Rfind (leaf.now.min - 1) 0)) }
-    ensures moved { IfNone result (MarkedBeside IsBefore (here (part_of pass.old)) (part_of pass.old) (part_of pass.new)) }
+    ensures moved { IfNone result (MarkedBeside IsLeafBefore (here (part_of pass.old)) (part_of pass.old) (part_of pass.new)) }
     ensures counted { IsCounted pass.old pass.new steps.old steps.new }
     ensures steps { steps.new ≤ steps.old + 164 }
 {
@@ -131,7 +131,7 @@ fn last_from<L: Ledger>(
     table: &MtTable,
     pass: &mut Pass,
     leaf: &Row,
-    place: &Place,
+    place: &SlotPlace,
     index: u64,
     steps: &mut Steps<L>,
 ) -> Option<Option<Range>>
@@ -253,7 +253,7 @@ pub fn rfind<L: Ledger>(
     index: u64,
     min: u64,
     steps: &mut Steps<L>,
-) -> Result<Answer<Option<Range>>, Moved>
+) -> Result<ReadAnswer<Option<Range>>, Moved>
     requires pass { IsPassOf (identity_of table.now) pass.old }
     ensures stepped { Stepped (identity_of table.now) pass.old pass.new }
     ensures read { IfOk result (λ answer. (k : ℕ) × Read (tree_in (identity_of table.now)) (pass_in pass.old) answer.lo answer.hi k (Rfind index min) answer.value (pass_in pass.new)) }
@@ -269,7 +269,7 @@ pub fn rfind<L: Ledger>(
     let found = rfind_from(table, pass, index, steps);
     let begun = section.end(table, pass, steps);
     let range = found.ok_or(Moved { lo, begun })?;
-    Ok(Answer {
+    Ok(ReadAnswer {
         lo,
         hi: begun,
         value: not_below(range, index, min),
@@ -288,7 +288,7 @@ pub fn prev<L: Ledger>(
     index: u64,
     min: u64,
     steps: &mut Steps<L>,
-) -> Result<Answer<Option<Range>>, Moved>
+) -> Result<ReadAnswer<Option<Range>>, Moved>
     requires pass { IsPassOf (identity_of table.now) pass.old }
     ensures stepped { Stepped (identity_of table.now) pass.old pass.new }
     ensures read { IfOk result (λ answer. (k : ℕ) × Read (tree_in (identity_of table.now)) (pass_in pass.old) answer.lo answer.hi k (Prev index min) answer.value (pass_in pass.new)) }
@@ -304,7 +304,7 @@ pub fn prev<L: Ledger>(
     let found = prev_from(table, pass, index, steps);
     let begun = section.end(table, pass, steps);
     let range = found.ok_or(Moved { lo, begun })?;
-    Ok(Answer {
+    Ok(ReadAnswer {
         lo,
         hi: begun,
         value: not_below(range, min, min),

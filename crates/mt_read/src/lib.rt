@@ -11,7 +11,7 @@ mod queries;
 mod reads;
 mod sections;
 
-pub use answers::Answer;
+pub use answers::ReadAnswer;
 pub use cursor::Cursor;
 pub use lasts::{prev, rfind};
 pub use neighbours::{Moved, next};

@@ -11,7 +11,7 @@ ghost use Rattle.mt_read.specs.Neighbours.{IsBehind, LeftMarked, MarkedBeside, W
 ghost use Rattle.mt_read.specs.Walks.{GoesOn, IsOnLeaf};
 ghost use Rattle.mt_read.specs.Windows.{HasRead};
 
-use crate::answers::Answer;
+use crate::answers::ReadAnswer;
 use crate::bounds::within;
 use crate::descent::{Row, find_slot, sought, walk};
 use crate::reads::{first_at, next_place, range_at};
@@ -132,7 +132,7 @@ pub fn next<L: Ledger>(
     index: u64,
     max: u64,
     steps: &mut Steps<L>,
-) -> Result<Answer<Option<Range>>, Moved>
+) -> Result<ReadAnswer<Option<Range>>, Moved>
     requires pass { IsPassOf (identity_of table.now) pass.old }
     ensures stepped { Stepped (identity_of table.now) pass.old pass.new }
     ensures read { IfOk result (λ answer. (k : ℕ) × Read (tree_in (identity_of table.now)) (pass_in pass.old) answer.lo answer.hi k (Next index max) answer.value (pass_in pass.new)) }
@@ -148,7 +148,7 @@ pub fn next<L: Ledger>(
     let found = next_from(table, pass, index, steps);
     let begun = section.end(table, pass, steps);
     let range = found.ok_or(Moved { lo, begun })?;
-    Ok(Answer {
+    Ok(ReadAnswer {
         lo,
         hi: begun,
         value: within(range, 0, max),

@@ -7,7 +7,7 @@ ghost use Rattle.mt_base.specs.Passes.{Read};
 ghost use Rattle.mt_rule.specs.Tokens.{identity_of, pass_in, tree_in, IsPassOf, Stepped, IsCounted};
 ghost use Rattle.mt_read.specs.Windows.{HasRead};
 
-use crate::answers::Answer;
+use crate::answers::ReadAnswer;
 use crate::bounds::within;
 use crate::reads::{first_from, range_of};
 use crate::sections::Section;
@@ -28,7 +28,7 @@ pub fn load_range<L: Ledger>(
     pass: &mut Pass,
     index: u64,
     steps: &mut Steps<L>,
-) -> Answer<Option<Range>>
+) -> ReadAnswer<Option<Range>>
     requires pass { IsPassOf (identity_of table.now) pass.old }
     ensures stepped { Stepped (identity_of table.now) pass.old pass.new }
     ensures read { (k : ℕ) × Read (tree_in (identity_of table.now)) (pass_in pass.old) result.lo result.hi k (Load index) result.value (pass_in pass.new) }
@@ -40,7 +40,7 @@ pub fn load_range<L: Ledger>(
     let lo = section.epoch();
     let value = range_of(table, pass, index, steps);
     let hi = section.end(table, pass, steps);
-    Answer { lo, hi, value }
+    ReadAnswer { lo, hi, value }
 }
 
 /// The entry that an index holds. There is none where it lies in a hole.
@@ -49,7 +49,7 @@ pub fn load<L: Ledger>(
     pass: &mut Pass,
     index: u64,
     steps: &mut Steps<L>,
-) -> Answer<Option<u64>>
+) -> ReadAnswer<Option<u64>>
     requires pass { IsPassOf (identity_of table.now) pass.old }
     ensures stepped { Stepped (identity_of table.now) pass.old pass.new }
     ensures read { (k : ℕ) × (range : Option Range) × Read (tree_in (identity_of table.now)) (pass_in pass.old) result.lo result.hi k (Load index) range (pass_in pass.new) × (result.value ≡ option_map (λ r. r.entry) range) }
@@ -58,7 +58,7 @@ pub fn load<L: Ledger>(
     ensures steps { steps.new ≤ steps.old + 170 }
 {
     let answer = load_range(table, pass, index, steps);
-    Answer {
+    ReadAnswer {
         lo: answer.lo,
         hi: answer.hi,
         value: entry_of(answer.value),
@@ -73,7 +73,7 @@ pub fn find<L: Ledger>(
     index: u64,
     max: u64,
     steps: &mut Steps<L>,
-) -> Answer<Option<Range>>
+) -> ReadAnswer<Option<Range>>
     requires pass { IsPassOf (identity_of table.now) pass.old }
     ensures stepped { Stepped (identity_of table.now) pass.old pass.new }
     ensures read { (k : ℕ) × Read (tree_in (identity_of table.now)) (pass_in pass.old) result.lo result.hi k (Find index max) result.value (pass_in pass.new) }
@@ -85,7 +85,7 @@ pub fn find<L: Ledger>(
     let lo = section.epoch();
     let range = first_from(table, pass, index, steps);
     let hi = section.end(table, pass, steps);
-    Answer {
+    ReadAnswer {
         lo,
         hi,
         value: within(range, index, max),

@@ -10,14 +10,14 @@ ghost use Rattle.mt_read.specs.Answers.{Answers, LeafAnswers};
 ghost use Rattle.mt_read.specs.Walks.{GoesOn, IsOnLeaf, IsPlaceIn, IsSameHold, SeesMore, WasRead, range_or_hole};
 
 use crate::bounds::not_below;
-use crate::descent::{Place, Row, find_slot, sought, walk, walk_by, width_with};
+use crate::descent::{Row, SlotPlace, find_slot, sought, walk, walk_by, width_with};
 use mt_base::{Range, Steps, Width, top};
 use mt_layout::{RowKind, slots};
 use mt_rule::{MtTable, Pass};
 use std::sync::ledger::Ledger;
 
 /// The range with this entry, or none where that is 0.
-fn range_or_hole(place: &Place, entry: u64) -> Option<Range>
+fn range_or_hole(place: &SlotPlace, entry: u64) -> Option<Range>
     ensures { result ≡ range_or_hole place.now entry }
 {
     if entry == 0 {
@@ -35,7 +35,7 @@ pub fn range_at<L: Ledger>(
     table: &MtTable,
     pass: &mut Pass,
     leaf: &Row,
-    place: &Place,
+    place: &SlotPlace,
     steps: &mut Steps<L>,
 ) -> Option<Range>
     requires pass { IsPassOf (identity_of table.now) pass.old }
@@ -59,9 +59,9 @@ pub fn next_place<L: Ledger>(
     table: &MtTable,
     pass: &mut Pass,
     leaf: &Row,
-    place: &Place,
+    place: &SlotPlace,
     steps: &mut Steps<L>,
-) -> Place
+) -> SlotPlace
     requires pass { IsPassOf (identity_of table.now) pass.old }
     requires leaf { IsOnLeaf (part_of pass.old) leaf.now }
     requires place { IsPlaceIn (part_of pass.old) place.now }
@@ -78,14 +78,14 @@ pub fn next_place<L: Ledger>(
     let slot = place.slot + 1;
     let first = place.last + 1;
     if slot + 1 == slots(leaf.width, RowKind::Leaf) {
-        return Place {
+        return SlotPlace {
             slot,
             first,
             last: leaf.max,
         };
     }
     let last = table.load_pivot(pass, leaf.at, 1 + slot, steps);
-    Place { slot, first, last }
+    SlotPlace { slot, first, last }
 }
 
 /// The first range that ends at an index or above, from the place that holds the index on: the range there, or the one
@@ -94,7 +94,7 @@ pub fn first_at<L: Ledger>(
     table: &MtTable,
     pass: &mut Pass,
     leaf: &Row,
-    place: &Place,
+    place: &SlotPlace,
     index: u64,
     steps: &mut Steps<L>,
 ) -> Option<Range>

@@ -22,7 +22,7 @@ use Rattle.mt_rows.specs.Spans.{spans_in, root_span}
 use Rattle.mt_rows.specs.Levels.{level, map_of}
 use Rattle.mt_rows.specs.Laws as laws
 use Rattle.mt_rows.specs.Sheet.{Sheet, Rooted, IsWhole, with_word}
-use Rattle.mt_rows.specs.Publish.{tree_as, IsTold, LiveAreReached, NoneBuried, MayPublish, IsPlaceToPublish, IsReached, StandsAt, KeepsPlace, SameHoles, Changes, map_by}
+use Rattle.mt_rows.specs.Publish.{tree_as, IsToldKind, LiveAreReached, NoneBuried, MayPublish, IsPlaceToPublish, IsReached, StandsAt, KeepsPlace, SameHoles, ChangesRows, map_by}
 use Rattle.mt_rows.specs.Replacement.{root_of, IsSlotAt}
 use Rattle.mt_rows.proofs.Depth.{ranges_by_depth}
 use Rattle.mt_rows.proofs.Heights.{level_shared_above}
@@ -32,7 +32,7 @@ use Rattle.mt_rows.proofs.Reached as reached
 use Rattle.mt_rows.proofs.FewSpans.{row_most}
 use Rattle.mt_layout.proofs.RowSizes.{slot_within}
 
-module _ (kind : Kind) (s : Sheet) (h slot entry : ℕ) (leaf item : Span) (whole : IsWhole s) (live : LiveAreReached s.tree s.lives) (none_buried : NoneBuried s.tree.rows s.buried) (told : IsTold s.kind kind) (width : s.tree.table.width ≡ kind_width kind)
+module _ (kind : Kind) (s : Sheet) (h slot entry : ℕ) (leaf item : Span) (whole : IsWhole s) (live : LiveAreReached s.tree s.lives) (none_buried : NoneBuried s.tree.rows s.buried) (told : IsToldKind s.kind kind) (width : s.tree.table.width ≡ kind_width kind)
     (stands : laws.Stands (tree_as kind s.tree) h) (at : IsSlotAt (tree_as kind s.tree) h leaf slot item) (old : item.word ≢ 0) (new : entry ≢ 0) (free : reserved entry ≡ false) where
   abbrev t : laws.Tree
   t = tree_as kind s.tree
@@ -147,7 +147,7 @@ module _ (kind : Kind) (s : Sheet) (h slot entry : ℕ) (leaf item : Span) (whol
         holes = subst (λ (y : Span). SameHoles (spans_in t.table x) (spans_in t'.table y)) place.1 (holes_stay k x on);
       }
 
-  changes : Changes s written
+  changes : ChangesRows s written
   changes = record {
     known = λ r is. let before = reached_before r is in let numbered = reached.reached_number t h stands r before in inl ((live r numbered.0 numbered.1).1 (reached.times_reached t h stands r before));
     stay = stay;

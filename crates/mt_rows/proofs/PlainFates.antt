@@ -19,7 +19,7 @@ use Rattle.mt_rows.specs.Levels.{one_if}
 use Rattle.mt_rows.specs.Sheet.{Sheet, IsPlace, IsFree, MayBury, life_of, is_buried, word_at}
 use Rattle.mt_rows.specs.Publish.{MayFinish}
 use Rattle.mt_rows.specs.PlainWhole.{life_at}
-use Rattle.mt_rows.specs.Plain.{life_in, buried_in, past_of, fate_of, sheet_of, IsPlain, names_buried, buried_by, opens, IsPlaceIn}
+use Rattle.mt_rows.specs.Plain.{life_in, buried_in, past_of, fate_of, sheet_of, IsPlain, names_buried, buried_by, opens, IsPlaceOfTree}
 
 -- a fate that reads as another leaves what was read
 pub map-replicate : {A B : Type 0} (f : A → B) (n : ℕ) (a : A) → map f (replicate n a) ≡ replicate n (f a)
@@ -165,10 +165,10 @@ either_same false a = refl
 
 -- ---- a word in place of another
 
-pub store_opens : (p : State) (s : Sheet) (place : Place) (row col at old : ℕ) → IsPlain p → sheet_of p ≡ s → s.published ≡ false → IsPlaceIn s.tree place → place ≡ Slot row col → at ≡ columns p.width * row + col → old ≡ slice_index p.words.items at
+pub store_opens : (p : State) (s : Sheet) (place : Place) (row col at old : ℕ) → IsPlain p → sheet_of p ≡ s → s.published ≡ false → IsPlaceOfTree s.tree place → place ≡ Slot row col → at ≡ columns p.width * row + col → old ≡ slice_index p.words.items at
     → opens s place ≡ names_buried p.ended p.fates.items (named_row old)
 store_opens p s place row col at old plain is before inside slot at_is read =
-    let here : IsPlace (sheet_of p).tree row col = subst (λ (s : Sheet). IsPlace s.tree row col) (sym is) (subst (IsPlaceIn s.tree) slot inside) in
+    let here : IsPlace (sheet_of p).tree row col = subst (λ (s : Sheet). IsPlace s.tree row col) (sym is) (subst (IsPlaceOfTree s.tree) slot inside) in
     let word : old ≡ word_at s.tree row col = read ∙ (ap (λ (n : ℕ). slice_index p.words.items n) at_is ∙ ap (λ (s : Sheet). word_at s.tree row col) is) in
     ap (opens s) slot ∙ (ap (λ (n : ℕ). buried_by s (named_row n)) (sym word) ∙ by (named_row old))
   where

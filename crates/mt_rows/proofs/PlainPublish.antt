@@ -17,7 +17,7 @@ use Rattle.mt_rows.specs.Spans.{Table}
 use Rattle.mt_rows.specs.Levels.{one_if}
 use Rattle.mt_rows.specs.Laws as laws
 use Rattle.mt_rows.specs.Sheet.{Sheet, Rooted, life_of, is_buried}
-use Rattle.mt_rows.specs.Publish.{tree_as, with_published, with_record, life_after, IsPlaceToPublish, Changes, MayPublish, Published}
+use Rattle.mt_rows.specs.Publish.{tree_as, with_published, with_record, life_after, IsPlaceToPublish, ChangesRows, MayPublish, Published}
 use Rattle.mt_rows.specs.Plain.{life_in, buried_in, past_of, fate_of, sheet_of, IsPlain, enlivened, opens}
 use Rattle.mt_rows.proofs.PlainFates.{one_at_most, life_told, buried_told}
 use Rattle.mt_rows.proofs.PlainWalk.{fate_at}
@@ -53,7 +53,7 @@ buried_fate past (Buried call) is = (call, refl)
 -- ---- the walk at any place
 
 place_reaches : (b : Before) (place : Place) (word levels : ℕ) → ((r : ℕ) → is_buried b.sheet.buried r ≡ true → (first_row ≤ r) × (r < first_row + b.sheet.tree.rows)) → IsPlaceToPublish b.sheet place
-    → Changes b.sheet (with_published b.sheet.tree place word) → laws.IsTree (tree_as b.kind (with_published b.sheet.tree place word)) → levels ≡ (if opens b.sheet place then deepest else 0)
+    → ChangesRows b.sheet (with_published b.sheet.tree place word) → laws.IsTree (tree_as b.kind (with_published b.sheet.tree place word)) → levels ≡ (if opens b.sheet place then deepest else 0)
     → Reaches (with_published b.sheet.tree place word) b.fates (enlivened (with_published b.sheet.tree place word).table levels word b.fates)
 place_reaches b Root word levels inside at rows tree walks = root_reaches b word levels (omega arith) tree rows
 place_reaches b (Slot row col) word levels inside at rows tree walks =

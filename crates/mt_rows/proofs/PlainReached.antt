@@ -15,7 +15,7 @@ use Rattle.mt_rows.specs.Spans.{Table, row_spans, spans_by, spans_in}
 use Rattle.mt_rows.specs.Levels.{level, Levels, SameSpans}
 use Rattle.mt_rows.specs.Laws as laws
 use Rattle.mt_rows.specs.Sheet.{Sheet, Rooted, life_of, is_buried}
-use Rattle.mt_rows.specs.Publish.{tree_as, LiveAreReached, IsReached, is_reached, Changes}
+use Rattle.mt_rows.specs.Publish.{tree_as, LiveAreReached, IsReached, is_reached, ChangesRows}
 use Rattle.mt_rows.specs.Replacement.{root_of}
 use Rattle.mt_rows.specs.Plain.{life_in, buried_in}
 use Rattle.mt_rows.proofs.Heights.{level_next}
@@ -74,7 +74,7 @@ same_row_spans t kind x y named_x named_y row first last =
 
 module _ (kind : Kind) (s : Sheet) (after : Rooted) (many : after.rows ≡ s.tree.rows) (past : ℕ) (fates : List Fate)
     (lives_are : (row : ℕ) → life_of s.lives row ≡ life_in past (fate_at fates row)) (buried_are : (row : ℕ) → is_buried s.buried row ≡ buried_in past (fate_at fates row))
-    (live : LiveAreReached s.tree s.lives) (tree : laws.IsTree (tree_as kind s.tree)) (rows : Changes s after) (h' : ℕ) (stands' : laws.Stands (tree_as kind after) h') where
+    (live : LiveAreReached s.tree s.lives) (tree : laws.IsTree (tree_as kind s.tree)) (rows : ChangesRows s after) (h' : ℕ) (stands' : laws.Stands (tree_as kind after) h') where
   abbrev t : laws.Tree
   t = tree_as kind s.tree
 

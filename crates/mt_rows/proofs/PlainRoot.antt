@@ -9,7 +9,7 @@ use Rattle.mt_rows.specs.Spans.{root_span}
 use Rattle.mt_rows.specs.Levels.{Levels}
 use Rattle.mt_rows.specs.Laws as laws
 use Rattle.mt_rows.specs.Sheet.{Sheet, Rooted, life_of, is_buried}
-use Rattle.mt_rows.specs.Publish.{tree_as, LiveAreReached, IsReached, is_reached, Changes}
+use Rattle.mt_rows.specs.Publish.{tree_as, LiveAreReached, IsReached, is_reached, ChangesRows}
 use Rattle.mt_rows.specs.Replacement.{root_of}
 use Rattle.mt_rows.specs.Plain.{life_in, buried_in, enlivened}
 use Rattle.mt_rows.proofs.Reached as reached
@@ -51,7 +51,7 @@ module _ (b : Before) (word depth : ℕ) (deep : deepest ≤ depth) where
     ap (λ (fs : List Fate). fate_at fs row) (ap (λ (root : ℕ). enlivened s.tree.table depth root b.fates) empty ∙ no_name s.tree.table depth b.fates),
   )
 
-  module _ (rows : Changes s after) (h' : ℕ) (stands' : laws.Stands t' h') where
+  module _ (rows : ChangesRows s after) (h' : ℕ) (stands' : laws.Stands t' h') where
     ready : Levels (Ready t'.table b.fates) t'.table h' (root_of t')
     ready = levels_from (Ready t'.table b.fates) t'.table h' (root_of t') h' zero (omega arith)
         (λ m x low on. ready_at b.kind s after refl b.past b.fates b.lives_are b.buried_are b.live b.tree rows h' stands' m x on refl)
@@ -68,5 +68,5 @@ module _ (b : Before) (word depth : ℕ) (deep : deepest ≤ depth) where
           ]
         ]
 
-  pub root_reaches : laws.IsTree t' → Changes s after → Reaches after b.fates fates'
+  pub root_reaches : laws.IsTree t' → ChangesRows s after → Reaches after b.fates fates'
   root_reaches tree' rows = elim tree' [ inl empty ↦ empty_reaches empty | inr stands' ↦ tree_reaches rows stands'.0 stands'.1 ]

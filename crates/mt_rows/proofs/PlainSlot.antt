@@ -17,7 +17,7 @@ use Rattle.mt_rows.specs.Spans.{base_of, spans_in, root_span}
 use Rattle.mt_rows.specs.Levels.{level, Levels, tally, times, is_row_of, IsBelow, SameSpans}
 use Rattle.mt_rows.specs.Laws as laws
 use Rattle.mt_rows.specs.Sheet.{Sheet, Rooted, is_buried, word_at, with_word}
-use Rattle.mt_rows.specs.Publish.{tree_as, IsReached, is_reached, IsSlotOf, Changes}
+use Rattle.mt_rows.specs.Publish.{tree_as, IsReached, is_reached, IsSlotOf, ChangesRows}
 use Rattle.mt_rows.specs.Replacement.{root_of, IsSlotAt, with_child, ReplacesChild}
 use Rattle.mt_rows.specs.Plain.{enlivened, buried_by, opens}
 use Rattle.mt_rows.specs.declared.rows.Place.TheVariants.{Slot}
@@ -74,7 +74,7 @@ module _ (b : Before) (h low d slot word : ℕ) (at child : Span) (stands : laws
   at_on : reached.OnLevel t.table h (root_of t) low at
   at_on = record { depth = d; height = height; one = reached.one_of_parts (level t.table d (root_of t)) on.front on.back at on.stands }
 
-  module _ (rows : Changes s after) (h' : ℕ) (stands_at_h' : laws.Stands t' h') where
+  module _ (rows : ChangesRows s after) (h' : ℕ) (stands_at_h' : laws.Stands t' h') where
     same_height : h' ≡ h
     same_height =
         (rows.stay h h' (root_span t.table t.root) (root_span t'.table t'.root) (reached.stands_at t h stands zero h (root_span t.table t.root) (omega arith) (inl refl))
@@ -89,7 +89,7 @@ module _ (b : Before) (h low d slot word : ℕ) (at child : Span) (stands : laws
 -- ---- in a leaf: the same rows are reached
 
 module _ (b : Before) (h d slot word : ℕ) (at child : Span) (stands : laws.Stands (tree_as b.kind b.sheet.tree) h) (height : h ≡ d + zero)
-    (on : IsSlotAt (tree_as b.kind b.sheet.tree) d at slot child) (rows : Changes b.sheet (after b h zero d slot word at child stands height on))
+    (on : IsSlotAt (tree_as b.kind b.sheet.tree) d at slot child) (rows : ChangesRows b.sheet (after b h zero d slot word at child stands height on))
     (h' : ℕ) (stands_at_h' : laws.Stands (tree_as b.kind (after b h zero d slot word at child stands height on)) h') where
   abbrev leaf_store : store.Store
   leaf_store = st b h zero d slot word at child stands height on
@@ -129,7 +129,7 @@ module _ (b : Before) (h d slot word : ℕ) (at child : Span) (stands : laws.Sta
 -- ---- in an inner row: what is reached besides was reached before, or is reached from the word
 
 module _ (b : Before) (h k d slot word : ℕ) (at child : Span) (stands : laws.Stands (tree_as b.kind b.sheet.tree) h) (height : h ≡ d + suc k)
-    (on : IsSlotAt (tree_as b.kind b.sheet.tree) d at slot child) (rows : Changes b.sheet (after b h (suc k) d slot word at child stands height on))
+    (on : IsSlotAt (tree_as b.kind b.sheet.tree) d at slot child) (rows : ChangesRows b.sheet (after b h (suc k) d slot word at child stands height on))
     (h' : ℕ) (stands_at_h' : laws.Stands (tree_as b.kind (after b h (suc k) d slot word at child stands height on)) h') where
   abbrev inner_store : store.Store
   inner_store = st b h (suc k) d slot word at child stands height on
@@ -286,7 +286,7 @@ module _ (b : Before) (inside : (r : ℕ) → is_buried b.sheet.buried r ≡ tru
   Walks row col = (opens b.sheet (Slot row col) ≡ true → deepest ≤ levels) × (opens b.sheet (Slot row col) ≡ false → levels ≡ 0)
 
   abbrev SlotReaches : ℕ → ℕ → Type 0
-  SlotReaches row col = let after = with_word b.sheet.tree row col word in Changes b.sheet after → laws.IsTree (tree_as b.kind after) → Walks row col → Reaches after b.fates (enlivened after.table levels word b.fates)
+  SlotReaches row col = let after = with_word b.sheet.tree row col word in ChangesRows b.sheet after → laws.IsTree (tree_as b.kind after) → Walks row col → Reaches after b.fates (enlivened after.table levels word b.fates)
 
   -- where nothing is walked
   still : (after : Rooted) → levels ≡ 0 → ((r : ℕ) → IsReached after r → fate_at b.fates r ≡ Live) → Reaches after b.fates (enlivened after.table levels word b.fates)

@@ -126,6 +126,6 @@ abbrev pub opens : Sheet → Place → Bool
 opens s Root = true
 opens s (Slot row col) = buried_by s (named_row (word_at s.tree row col))
 
-abbrev pub IsPlaceIn : Rooted → Place → Type 0
-IsPlaceIn t Root = Unit {0}
-IsPlaceIn t (Slot row col) = IsPlace t row col
+abbrev pub IsPlaceOfTree : Rooted → Place → Type 0
+IsPlaceOfTree t Root = Unit {0}
+IsPlaceOfTree t (Slot row col) = IsPlace t row col

@@ -35,8 +35,8 @@ abbrev pub tree_as : Kind → Rooted → Tree
 tree_as kind = tree_on (finds_room kind)
 
 -- rows of this kind: of the kind that they tell, where they tell one
-abbrev pub IsTold : Option Kind → Kind → Type 0
-IsTold told kind = IfSome told (λ k. k ≡ kind)
+abbrev pub IsToldKind : Option Kind → Kind → Type 0
+IsToldKind told kind = IfSome told (λ k. k ≡ kind)
 
 -- the words keep all laws but those of parents and gaps
 pub record IsTreeOf (t : Rooted) (kind : Kind) : Type 0 where
@@ -108,7 +108,7 @@ abbrev pub IsKnown : Rooted → List Life → ℕ → Type 0
 IsKnown t lives row = (life_of lives row ≡ Live) ⊎ ((life_of lives row ≡ Draft) × (word_at t row 0 ≢ dead_mark row))
 
 -- what a publishing store makes of rows
-pub record Changes (s : Sheet) (t' : Rooted) : Type 0 where
+pub record ChangesRows (s : Sheet) (t' : Rooted) : Type 0 where
   pub known : (row : ℕ) → IsReached t' row → IsKnown s.tree s.lives row
   pub stay : (h h' : ℕ) (x x' : Span) → StandsAt s.tree h x → StandsAt t' h' x' → row_in x.word ≡ row_in x'.word → KeepsPlace s.tree t' h h' x x'
   pub gone : (row : ℕ) → IsReached s.tree row → is_reached t' row ≡ false → is_buried s.buried row ≡ true
@@ -118,13 +118,13 @@ pub record Changes (s : Sheet) (t' : Rooted) : Type 0 where
 pub record MayPublish (kind : Kind) (s : Sheet) (place : Place) (word : ℕ) (call : Call) (reply : Reply) : Type 0 where
   pub in_flight : s.in_flight ≡ true
   pub before : s.published ≡ false
-  pub told : IsTold s.kind kind
+  pub told : IsToldKind s.kind kind
   pub at : IsPlaceToPublish s place
   pub live : LiveAreReached s.tree s.lives
   pub tree : IsTreeOf s.tree kind
   pub answer : acted kind (map_by s.tree) call ≡ (map_by (with_published s.tree place word), reply)
   pub after : IsTree (tree_as kind (with_published s.tree place word))
-  pub rows : Changes s (with_published s.tree place word)
+  pub rows : ChangesRows s (with_published s.tree place word)
 
 -- where records are told, one more: the caller's
 abbrev pub with_record : Option Told → Call → Reply → Option Told
@@ -157,7 +157,7 @@ WasScanned s = 1 ≤ s.scans
 
 -- A shortage is real: it tells the height and how many rows are reached, and so many rows are held back by the section that
 -- the last scan found.
-pub record IsCounted (s : Sheet) (short : Shortage) : Type 0 where
+pub record IsRealShortage (s : Sheet) (short : Shortage) : Type 0 where
   pub need : short.need ≡ 3 * height_in s.tree.table s.tree.root + 1
   pub live : short.live ≡ length (reached_in s.tree.table s.tree.root)
   pub rows : List ℕ
@@ -169,13 +169,13 @@ pub record IsCounted (s : Sheet) (short : Shortage) : Type 0 where
 -- a call that is refused for want of rows, as a scan of this call found
 pub record IsFoundShort (kind : Kind) (s : Sheet) (call : Call) (reply : Reply) : Type 0 where
   pub refused : IsRefused kind (limits_of s) (map_by s.tree) call reply
-  pub counted : IsCounted s refused.shortage
+  pub counted : IsRealShortage s refused.shortage
   pub scanned : WasScanned s
 
 -- a call that published nothing leaves the map, by its reply or by a refusal
 pub record LeavesMap (kind : Kind) (s : Sheet) (call : Call) (reply : Reply) : Type 0 where
   pub none_buried : NoneBuried s.tree.rows s.buried
-  pub told : IsTold s.kind kind
+  pub told : IsToldKind s.kind kind
   pub width : s.tree.table.width ≡ kind_width kind
   pub answer : (acted kind (map_by s.tree) call ≡ (map_by s.tree, reply)) ⊎ IsFoundShort kind s call reply
 
@@ -193,7 +193,7 @@ pub record MayPlant (kind : Kind) (s : Sheet) (root : ℕ) : Type 0 where
   pub idle : s.in_flight ≡ false
   pub first : s.ended ≡ 0
   pub empty : s.tree.root ≡ 0
-  pub told : IsTold s.kind kind
+  pub told : IsToldKind s.kind kind
   pub lawful : IsLawfulOf (with_published s.tree Root root) kind
 
 -- the rows that are reached from the root word are live, and they alone; all others are as they were

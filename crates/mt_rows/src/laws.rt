@@ -19,7 +19,7 @@ ghost use Rattle.mt_rows.specs.Levels.{map_of, Levels, tally, times, is_row_of, 
 ghost use Rattle.mt_rows.specs.Trees.{ranges_of, rows_of, height_of, map_in, reached_in};
 ghost use Rattle.mt_rows.specs.Laws.{Tree, IsRow, IsTree, Stands, HasWords, top_of, kind_at};
 ghost use Rattle.mt_rows.specs.Sheet.{Sheet, IsPlace, IsWhole, drafted, after_bury, tended};
-ghost use Rattle.mt_rows.specs.Publish.{tree_as, IsTold, LiveAreReached, NoneBuried, MayPublish, map_by};
+ghost use Rattle.mt_rows.specs.Publish.{tree_as, IsToldKind, LiveAreReached, NoneBuried, MayPublish, map_by};
 ghost use Rattle.mt_rows.specs.Replacement.{root_of, IsSlotAt, with_slot, with_child, IsNewBelow, ReplacesChild, ReplacesEntry};
 
 /// What stands below a row by depth and by levels is the same: the ranges, how often each row is reached, and the height.
@@ -92,7 +92,7 @@ pub fn writes_leave_other_rows()
 
 /// A store of an entry over just the indexes of a range may be published by one store of its slot, and takes no row.
 pub fn an_exact_store_may_be_published()
-    ensures { (kind : Kind) (s : Sheet) (h slot entry row col : ℕ) (leaf item : Span) → IsWhole s → s.in_flight ≡ true → s.published ≡ false → LiveAreReached s.tree s.lives → NoneBuried s.tree.rows s.buried → IsTold s.kind kind → s.tree.table.width ≡ kind_width kind
+    ensures { (kind : Kind) (s : Sheet) (h slot entry row col : ℕ) (leaf item : Span) → IsWhole s → s.in_flight ≡ true → s.published ≡ false → LiveAreReached s.tree s.lives → NoneBuried s.tree.rows s.buried → IsToldKind s.kind kind → s.tree.table.width ≡ kind_width kind
         → Stands (tree_as kind s.tree) h → IsSlotAt (tree_as kind s.tree) h leaf slot item → row ≡ row_in leaf.word → col ≡ slot_column (slots_of s.tree.table.width (kind_at kind 0)) slot
         → item.word ≢ 0 → entry ≢ 0 → reserved entry ≡ false
         → let call = Store item.first item.last entry in MayPublish kind s (Slot row col) entry call (acted kind (map_by s.tree) call).1 }

@@ -197,7 +197,7 @@ impl PlainRows {
     ghost use Rattle.mt_base.specs.declared.widths.Width.TheVariants.{Long, Short};
     ghost use Rattle.mt_base.specs.Width.{columns, deepest, first_row, most_rows};
     ghost use Rattle.mt_rows.specs.OfWords.{IsMadeOf};
-    ghost use Rattle.mt_rows.specs.Plain.{new_sheet, IsPlaceIn, opens};
+    ghost use Rattle.mt_rows.specs.Plain.{new_sheet, IsPlaceOfTree, opens};
     ghost use Rattle.mt_rows.specs.Drafts.{AreDrafted};
     ghost use Rattle.mt_rows.specs.Memory.{sheet_in};
     ghost use Rattle.mt_rows.specs.Publish.{MayPlant, Planted, with_published};
@@ -338,7 +338,7 @@ impl PlainRows {
 
     /// Stores a word at a place, and says how many levels of drafts may be reached from it.
     fn store(&mut self, place: Place, word: u64) -> u32
-        requires place { IsPlaceIn (sheet_in self.old).tree place }
+        requires place { IsPlaceOfTree (sheet_in self.old).tree place }
         requires in_flight { (sheet_in self.old).in_flight ≡ true }
         requires before { (sheet_in self.old).published ≡ false }
         ensures rest { sheet_in self.new ≡ record (sheet_in self.old) { tree = with_published (sheet_in self.old).tree place word } }

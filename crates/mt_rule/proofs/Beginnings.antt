@@ -11,7 +11,7 @@ use Rattle.mt_base.proofs.Goings.{begins_none}
 use Rattle.mt_base.proofs.Lists.{all_join}
 use Rattle.mt_rule.specs.declared.views.Moment.{Moment}
 use Rattle.mt_rule.specs.declared.views.Shape.{Shape}
-use Rattle.mt_rule.specs.Seats.{record_of, records_of, tree_of, longer_of}
+use Rattle.mt_rule.specs.Seats.{record_of, records_of, tree_of, longer_history}
 
 -- ---- beginnings
 
@@ -37,9 +37,9 @@ pub begins_records : (xs ys : List Moment) → Begins xs ys → Begins (records_
 begins_records xs ys b = (records_of b.0, ap records_of b.1 ∙ map-append record_of xs b.0)
 
 pub record LongerFits (xs ys h : List Moment) : Type 0 where
-  pub this : Begins xs (longer_of xs ys)
-  pub that : Begins ys (longer_of xs ys)
-  pub whole : Begins (longer_of xs ys) h
+  pub this : Begins xs (longer_history xs ys)
+  pub that : Begins ys (longer_history xs ys)
+  pub whole : Begins (longer_history xs ys) h
 
 pub longer_fits : (xs ys h : List Moment) → Begins xs h → Begins ys h → LongerFits xs ys h
 longer_fits xs ys h a b = by_case (nat_lt (length xs) (length ys)) refl
@@ -49,13 +49,13 @@ longer_fits xs ys h a b = by_case (nat_lt (length xs) (length ys)) refl
     by_case false e = record { this = rw e (begins_none xs); that = rw e (begins_both ys xs h b a (grind arith)); whole = rw e a }
 
 -- the longer of two lists of moments has the records of the longer
-pub longer_records : (xs ys : List Moment) → records_of (longer_of xs ys) ≡ longer (records_of xs) (records_of ys)
+pub longer_records : (xs ys : List Moment) → records_of (longer_history xs ys) ≡ longer (records_of xs) (records_of ys)
 longer_records xs ys = by_case (nat_lt (length xs) (length ys)) refl
   where
     lengths : nat_lt (length (records_of xs)) (length (records_of ys)) ≡ nat_lt (length xs) (length ys)
     lengths = rw (length-map xs record_of, length-map ys record_of) refl
 
-    by_case : (c : Bool) → nat_lt (length xs) (length ys) ≡ c → records_of (longer_of xs ys) ≡ longer (records_of xs) (records_of ys)
+    by_case : (c : Bool) → nat_lt (length xs) (length ys) ≡ c → records_of (longer_history xs ys) ≡ longer (records_of xs) (records_of ys)
     by_case true e = rw (e, lengths ∙ e) refl
     by_case false e = rw (e, lengths ∙ e) refl
 

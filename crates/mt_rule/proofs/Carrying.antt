@@ -16,7 +16,7 @@ use Rattle.mt_life.proofs.Holding.{holds_on}
 use Rattle.mt_rows.specs.Levels.{one_if}
 use Rattle.mt_rows.specs.Sheet.{HasDied, life_of}
 use Rattle.mt_rule.specs.declared.views.Moment.{Moment}
-use Rattle.mt_rule.specs.declared.views.Told.{Told}
+use Rattle.mt_rule.specs.declared.views.TableStart.{TableStart}
 use Rattle.mt_rule.specs.declared.views.View.{View}
 use Rattle.mt_rule.specs.declared.views.PenPart.{PenPart}
 use Rattle.mt_rule.specs.declared.views.PassPart.{PassPart}
@@ -24,29 +24,29 @@ use Rattle.mt_base.specs.declared.widths.Width.{Width}
 use Rattle.mt_base.specs.Width.{kind_width}
 use Rattle.mt_rule.specs.Limits.{most_calls, most_passes}
 use Rattle.mt_layout.proofs.Places.{words_before}
-use Rattle.mt_rule.specs.Places.{commits_at, begun_at, root_at, section_at, rows_at, size_of, section_word, IsSectionWord}
-use Rattle.mt_rule.specs.Seats.{least_of, moment_at, records_of, shape_told, state_in}
-use Rattle.mt_rule.specs.Rule.{begun_by, IsOneHistory, IsSound, WordsFit, HasFloor, IsHeldBy, PassFits, ViewFits, IsKept}
+use Rattle.mt_rule.specs.Places.{commits_at, begun_at, root_at, section_at, first_row_column, table_size, section_word, IsSectionWord}
+use Rattle.mt_rule.specs.Seats.{least_number, moment_at, records_of, shape_told, state_in}
+use Rattle.mt_rule.specs.Rule.{begun_by, IsOneHistory, IsSoundPen, WordsFit, HasFloor, IsHeldBy, PassFits, ViewFits, IsKept}
 use Rattle.mt_rule.proofs.Viewing.{each_set, pen_is, seat_fits}
 
 abbrev pub St : Type 0
 St = State (Unit {0}) View
 
 -- the rule, said of the pen's own part
-abbrev pub recast : (told : Told) (s : St) (r : IsKept told s) (p : PenPart) → r.part ≡ p → IsKept told s
+abbrev pub recast : (told : TableStart) (s : St) (r : IsKept told s) (p : PenPart) → r.part ≡ p → IsKept told s
 recast told s r p e = record {
   pen = r.pen;
   owner = r.owner;
   extents = r.extents;
   part = p;
   shaped = subst (λ (x : PenPart). x.shape ≡ shape_told told) e r.shaped;
-  sound = subst (IsSound r.extents) e r.sound;
+  sound = subst (IsSoundPen r.extents) e r.sound;
   words = subst (WordsFit s.words) e r.words;
   each = λ j u g. subst (λ (x : PenPart). ViewFits r.pen r.owner r.extents x s.words j u) e (r.each j u g);
 }
 
 -- the rule, where no more has changed than what seats know, and which seat has which pass
-pub reseated : {told : Told} {s' : St} (s : St) (r : IsKept told s) (owner : ℕ → ℕ) → WordsFit s'.words r.part → ((by : ℕ) (v : View) → get_elem? s'.views by ≡ some v → ViewFits r.pen owner r.extents r.part s'.words by v) → IsKept told s'
+pub reseated : {told : TableStart} {s' : St} (s : St) (r : IsKept told s) (owner : ℕ → ℕ) → WordsFit s'.words r.part → ((by : ℕ) (v : View) → get_elem? s'.views by ≡ some v → ViewFits r.pen owner r.extents r.part s'.words by v) → IsKept told s'
 reseated s r owner words each = record { pen = r.pen; owner = owner; extents = r.extents; part = r.part; shaped = r.shaped; sound = r.sound; words = words; each = each }
 
 -- ---- what a step of the pen shows
@@ -72,14 +72,14 @@ pub record Stays (p n : PenPart) (q : PassPart) : Type 0 where
 -- ---- a pass
 
 -- the least is at most each
-pub least_low : (ns : List ℕ) (k : ℕ) → k < length ns → least_of ns ≤ slice_index ns k
+pub least_low : (ns : List ℕ) (k : ℕ) → k < length ns → least_number ns ≤ slice_index ns k
 least_low [] k low = absurd (omega arith)
 least_low (n ∷ []) zero low = omega arith
 least_low (n ∷ []) (suc k) low = absurd (omega arith)
 least_low (n ∷ m ∷ ns) zero low = omega arith
 least_low (n ∷ m ∷ ns) (suc k) low = let rest = least_low (m ∷ ns) k (omega arith) in omega arith
 
-module _ (e e' : ℕ → Extent) (p n : PenPart) (q : PassPart) (sound : IsSound e p) (sound' : IsSound e' (shaped_as p n)) (c : Carries e e' p n) (stays : Stays p n q) (f : PassFits e p q) where
+module _ (e e' : ℕ → Extent) (p n : PenPart) (q : PassPart) (sound : IsSoundPen e p) (sound' : IsSoundPen e' (shaped_as p n)) (c : Carries e e' p n) (stays : Stays p n q) (f : PassFits e p q) where
   abbrev P' : PenPart
   P' = shaped_as p n
 
@@ -141,9 +141,9 @@ pub still_history : (p n : PenPart) → IsOneHistory p → length p.history ≡ 
 still_history p n one count calm few = record { dealt = one.dealt; callers = one.callers; named = one.named; loaded = one.loaded; count = count; calm = calm; few = few; legal = one.legal }
 
 -- where a part's words, and what its rows are, are those of p
-pub still_sound : (e : ℕ → Extent) (p n : PenPart) → IsSound e p → let now : PenPart = record n { shape = p.shape; root = p.root; words = p.words; lives = p.lives; buried = p.buried } in
+pub still_sound : (e : ℕ → Extent) (p n : PenPart) → IsSoundPen e p → let now : PenPart = record n { shape = p.shape; root = p.root; words = p.words; lives = p.lives; buried = p.buried } in
     IsOneHistory now → Known p.shape.kind (state_in now) e (moment_at p.shape n.history) → ((row : ℕ) → HasDied n.ended n.in_flight (life_of p.lives row))
-    → length n.cleared ≡ p.shape.passes → ((k : ℕ) → k < p.shape.passes → slice_index n.cleared k ≤ n.ended) → IsSound e now
+    → length n.cleared ≡ p.shape.passes → ((k : ℕ) → k < p.shape.passes → slice_index n.cleared k ≤ n.ended) → IsSoundPen e now
 still_sound e p n sound one known dead passes cleared = record {
   history = one;
   known = known;
@@ -163,15 +163,15 @@ still_sound e p n sound one known dead passes cleared = record {
 pub section_later : (a b word : ℕ) → a ≤ b → IsSectionWord a word → IsSectionWord b word
 section_later a b word up is = ⊎_elim (λ (none : word ≡ 0). inl none) (λ (at : (epoch : ℕ) × (word ≡ 2 * epoch + 1) × (epoch ≤ a)). let low = at.2 in inr (at.0, at.1, omega arith)) is
 
-section_off : (w : Width) (k i : ℕ) → k < most_passes → rows_at w ≤ i → section_at k ≢ i
+section_off : (w : Width) (k i : ℕ) → k < most_passes → first_row_column w ≤ i → section_at k ≢ i
 section_off w k i low high same = let first = words_before w in omega arith
 
-counter_off : (w : Width) (j i : ℕ) → j < 3 → rows_at w ≤ i → j ≢ i
+counter_off : (w : Width) (j i : ℕ) → j < 3 → first_row_column w ≤ i → j ≢ i
 counter_off w j i low high same = let first = words_before w in omega arith
 
 -- a store of a column
-pub column_set : (words : List ℕ) (p n : PenPart) (i new : ℕ) → WordsFit words p → length p.words ≡ size_of (kind_width p.shape.kind) p.shape.rows → p.shape.passes ≤ most_passes
-    → rows_at (kind_width p.shape.kind) ≤ i → i < size_of (kind_width p.shape.kind) p.shape.rows
+pub column_set : (words : List ℕ) (p n : PenPart) (i new : ℕ) → WordsFit words p → length p.words ≡ table_size (kind_width p.shape.kind) p.shape.rows → p.shape.passes ≤ most_passes
+    → first_row_column (kind_width p.shape.kind) ≤ i → i < table_size (kind_width p.shape.kind) p.shape.rows
     → n.dealt ≡ p.dealt → n.ended ≡ p.ended → begun_by n ≡ begun_by p → n.root ≡ p.root → n.words ≡ slice_set p.words i new → WordsFit (slice_set words i new) (shaped_as p n)
 column_set words p n i new w size passes high low dealt ended begun root is = record {
   size = length-set words i new ∙ w.size;
@@ -190,7 +190,7 @@ column_set words p n i new w size passes high low dealt ended begun root is = re
     section : (k : ℕ) → k < p.shape.passes → slice_index (slice_set words i new) (section_at k) ≡ slice_index words (section_at k)
     section k few = get_or-set_other words i (section_at k) new 0 (section_off wide k i (omega arith) high)
 
-    column : (j : ℕ) → rows_at wide ≤ j → slice_index (slice_set words i new) j ≡ slice_index (slice_set p.words i new) j
+    column : (j : ℕ) → first_row_column wide ≤ j → slice_index (slice_set words i new) j ≡ slice_index (slice_set p.words i new) j
     column j at = ⊎_elim
         (λ (here : j ≡ i). subst (λ (k : ℕ). slice_index (slice_set words i new) k ≡ slice_index (slice_set p.words i new) k) (sym here)
         (get_or-set_same words i new 0 (let all = w.size in omega arith) ∙ sym (get_or-set_same p.words i new 0 (omega arith))))
@@ -198,12 +198,12 @@ column_set words p n i new w size passes high low dealt ended begun root is = re
         (cases_eq j i)
 
 -- and the section words stay
-pub sections_set : (words : List ℕ) (p : PenPart) (i new : ℕ) → p.shape.passes ≤ most_passes → rows_at (kind_width p.shape.kind) ≤ i → (k : ℕ) → k < p.shape.passes → slice_index (slice_set words i new) (section_at k) ≡ slice_index words (section_at k)
+pub sections_set : (words : List ℕ) (p : PenPart) (i new : ℕ) → p.shape.passes ≤ most_passes → first_row_column (kind_width p.shape.kind) ≤ i → (k : ℕ) → k < p.shape.passes → slice_index (slice_set words i new) (section_at k) ≡ slice_index words (section_at k)
 sections_set words p i new passes high k few = get_or-set_other words i (section_at k) new 0 (section_off (kind_width p.shape.kind) k i (omega arith) high)
 
 -- ---- the rule
 
-module _ (told : Told) (s : St) (r : IsKept told s) (by : ℕ) (v : View) (at : get_elem? s.views by ≡ some v) (has : v.pen ≡ Some r.part) where
+module _ (told : TableStart) (s : St) (r : IsKept told s) (by : ℕ) (v : View) (at : get_elem? s.views by ≡ some v) (has : v.pen ≡ Some r.part) where
   -- the pass is none that is beside the pen
   abbrev IsApart : PassPart → Type 0
   IsApart q = (own : PassPart) → v.pass ≡ Some own → q.number ≢ own.number
@@ -226,7 +226,7 @@ module _ (told : Told) (s : St) (r : IsKept told s) (by : ℕ) (v : View) (at : 
   section_kept words q sections f is = sections q.number (let a = f.number in let b = r.sound.history.dealt in omega arith) ∙ is
 
   -- the pen's seat has this view then, and fits; each other pass is left what it knows
-  pub carry_view : (words : List ℕ) (e' : ℕ → Extent) (n : PenPart) (w : View) → IsSound e' (shaped_as r.part n) → WordsFit words (shaped_as r.part n) → Carries r.extents e' r.part n → SameSections words
+  pub carry_view : (words : List ℕ) (e' : ℕ → Extent) (n : PenPart) (w : View) → IsSoundPen e' (shaped_as r.part n) → WordsFit words (shaped_as r.part n) → Carries r.extents e' r.part n → SameSections words
       → LeavesEach n IsApart → ViewFits r.pen r.owner e' (shaped_as r.part n) words by w
       → IsKept told record { words = words; homes = s.homes; views = set s.views by w }
   carry_view words e' n w sound' fit c sections leaves mine = record {
@@ -252,7 +252,7 @@ module _ (told : Told) (s : St) (r : IsKept told s) (by : ℕ) (v : View) (at : 
       p' = shaped_as r.part n
 
   -- only what the pen knows has changed
-  pub carry : (words : List ℕ) (e' : ℕ → Extent) (n : PenPart) → IsSound e' (shaped_as r.part n) → WordsFit words (shaped_as r.part n) → Carries r.extents e' r.part n → SameSections words
+  pub carry : (words : List ℕ) (e' : ℕ → Extent) (n : PenPart) → IsSoundPen e' (shaped_as r.part n) → WordsFit words (shaped_as r.part n) → Carries r.extents e' r.part n → SameSections words
       → LeavesEach n (λ q. Unit {0})
       → IsKept told record { words = words; homes = s.homes; views = set s.views by (record v { pen = Some (shaped_as r.part n) }) }
   carry words e' n sound' fit c sections leaves =
@@ -267,7 +267,7 @@ module _ (told : Told) (s : St) (r : IsKept told s) (by : ℕ) (v : View) (at : 
 
   -- and what the pass beside it knows, whose number and section are as they were
   pub carry_pair : (words : List ℕ) (e' : ℕ → Extent) (n : PenPart) (q q' : PassPart) → v.pass ≡ Some q → q'.number ≡ q.number → q'.standing ≡ q.standing
-      → IsSound e' (shaped_as r.part n) → WordsFit words (shaped_as r.part n) → Carries r.extents e' r.part n → SameSections words → LeavesEach n IsApart → PassFits e' (shaped_as r.part n) q'
+      → IsSoundPen e' (shaped_as r.part n) → WordsFit words (shaped_as r.part n) → Carries r.extents e' r.part n → SameSections words → LeavesEach n IsApart → PassFits e' (shaped_as r.part n) q'
       → IsKept told record { words = words; homes = s.homes; views = set s.views by (record v { pen = Some (shaped_as r.part n); pass = Some q' }) }
   carry_pair words e' n q q' beside number standing sound' fit c sections leaves mine =
       let p' = shaped_as r.part n in let g = r.each by v at in

@@ -22,13 +22,13 @@ use Rattle.mt_rows.specs.Levels.{one_if}
 use Rattle.mt_rows.specs.Publish.{MayFinish, NoneBuried, map_by}
 use Rattle.mt_rows.specs.Sheet.{life_of}
 use Rattle.mt_rule.specs.declared.views.Moment.{Moment}
-use Rattle.mt_rule.specs.declared.views.Told.{Told}
+use Rattle.mt_rule.specs.declared.views.TableStart.{TableStart}
 use Rattle.mt_rule.specs.declared.views.View.{View}
 use Rattle.mt_rule.specs.declared.views.PenPart.{PenPart}
 use Rattle.mt_rule.specs.declared.views.PassPart.{PassPart}
-use Rattle.mt_rule.specs.Ends.{EndsQuietly, IsFoundShort, MayEnd}
-use Rattle.mt_rule.specs.Rule.{IsKept, IsSound, PassFits, WordsFit}
-use Rattle.mt_rule.specs.Seats.{HasPass, HasPen, cuts_at, moment_at, pass_of, pen_of, record_of, rooted_in, sheet_of, state_in, tree_of}
+use Rattle.mt_rule.specs.Ends.{EndsQuietly, IsPenShort, MayEnd}
+use Rattle.mt_rule.specs.Rule.{IsKept, IsSoundPen, PassFits, WordsFit}
+use Rattle.mt_rule.specs.Seats.{HasPass, HasPen, cuts_at, moment_at, pass_of, pen_of, record_of, rooted_in, pen_sheet, state_in, tree_of}
 use Rattle.mt_rule.specs.Steps.{begins_call, ends_call, pass_recorded, pen_begun, quiet_moment}
 use Rattle.mt_rule.proofs.Carrying.{Carries, carries_life, carry, carry_pair, pass_carried, recast, shaped_as, stays_put, still_history, still_sound}
 use Rattle.mt_rule.proofs.Counting.{counter_sections, counter_set, here, there}
@@ -39,7 +39,7 @@ use Rattle.mt_rule.proofs.Viewing.{seen_fits}
 
 -- ---- a call begins
 
-module _ (e : ℕ → Extent) (p : PenPart) (sound : IsSound e p) (idle : p.in_flight ≡ false) (room : p.ended < 2 ^ 62 - 1) where
+module _ (e : ℕ → Extent) (p : PenPart) (sound : IsSoundPen e p) (idle : p.in_flight ≡ false) (room : p.ended < 2 ^ 62 - 1) where
   no_flight : one_if p.in_flight ≡ 0
   no_flight = rw idle refl
 
@@ -47,9 +47,9 @@ module _ (e : ℕ → Extent) (p : PenPart) (sound : IsSound e p) (idle : p.in_f
   no_publish = rw (sound.history.calm idle) refl
 
   begun_turns : Known p.shape.kind (state_in (pen_begun p)) e (moment_at p.shape p.history) × Goes p.shape.kind (state_in p) (state_in (pen_begun p)) e e (moment_at p.shape p.history) (moment_at p.shape p.history)
-  begun_turns = begin_turns p.shape.kind (sheet_of p) e (moment_at p.shape p.history) (record { idle = idle; room = room }) sound.known
+  begun_turns = begin_turns p.shape.kind (pen_sheet p) e (moment_at p.shape p.history) (record { idle = idle; room = room }) sound.known
 
-  pub begun_sound : IsSound e (pen_begun p)
+  pub begun_sound : IsSoundPen e (pen_begun p)
   begun_sound =
       let one = sound.history in let n = no_publish in let z = no_flight in
       still_sound e p (pen_begun p) sound (still_history p (pen_begun p) one (let c = one.count in omega arith) (λ _. refl) (omega arith)) begun_turns.0
@@ -58,7 +58,7 @@ module _ (e : ℕ → Extent) (p : PenPart) (sound : IsSound e p) (idle : p.in_f
   pub begun_carries : Carries e e p (pen_begun p)
   begun_carries = carries_life e e p (pen_begun p) refl refl refl (let z = no_flight in omega arith) begun_turns.1
 
-pub beginning : (told : Told) (slots by : ℕ) (me : Me (Unit {0}) View) (new : ℕ) → HasPen me.0 → (pen_of me.0).in_flight ≡ false → (pen_of me.0).ended < 2 ^ 62 - 1 → new ≡ (pen_of me.0).ended + 1
+pub beginning : (told : TableStart) (slots by : ℕ) (me : Me (Unit {0}) View) (new : ℕ) → HasPen me.0 → (pen_of me.0).in_flight ≡ false → (pen_of me.0).ended < 2 ^ 62 - 1 → new ≡ (pen_of me.0).ended + 1
     → Allows (IsKept told) slots by me 1 (λ _. new) (λ _. begins_call (step slots 1 new 0 none) me new)
 beginning told slots by me new has_pen idle room next s r₀ _ at _ =
     let v = me.0 in let p = pen_of v in
@@ -86,7 +86,7 @@ abbrev a_search : Call
 a_search = Gap 0 0 0
 
 finish_with : (p : PenPart) → p.in_flight ≡ true → (p.published ≡ false → NoneBuried p.shape.rows p.buried)
-    → MayFinish p.shape.kind (sheet_of p) a_search (acted p.shape.kind (map_by (rooted_in p)) a_search).1
+    → MayFinish p.shape.kind (pen_sheet p) a_search (acted p.shape.kind (map_by (rooted_in p)) a_search).1
 finish_with p flight unburied = record { in_flight = flight; kept = λ no. record { none_buried = unburied no; told = refl; width = refl; answer = inl refl } }
 
 -- ---- a call that has published ends
@@ -94,18 +94,18 @@ finish_with p flight unburied = record { in_flight = flight; kept = λ no. recor
 abbrev done : PenPart → PenPart
 done p = record p { ended = p.ended + 1; in_flight = false; published = false }
 
-module _ (e : ℕ → Extent) (p : PenPart) (sound : IsSound e p) (flight : p.in_flight ≡ true) (was : p.published ≡ true) where
+module _ (e : ℕ → Extent) (p : PenPart) (sound : IsSoundPen e p) (flight : p.in_flight ≡ true) (was : p.published ≡ true) where
   one_flight : one_if p.in_flight ≡ 1
   one_flight = rw flight refl
 
   done_turns : Known p.shape.kind (state_in (done p)) e (moment_at p.shape p.history) × Goes p.shape.kind (state_in p) (state_in (done p)) e e (moment_at p.shape p.history) (moment_at p.shape p.history)
-  done_turns = finish_turns p.shape.kind (sheet_of p) a_search (acted p.shape.kind (map_by (rooted_in p)) a_search).1 e (moment_at p.shape p.history) (moment_at p.shape p.history)
+  done_turns = finish_turns p.shape.kind (pen_sheet p) a_search (acted p.shape.kind (map_by (rooted_in p)) a_search).1 e (moment_at p.shape p.history) (moment_at p.shape p.history)
       (finish_with p flight (λ no. absurd (true≢false (sym was ∙ no)))) (λ k low. refl) (λ no. absurd (true≢false (sym was ∙ no))) sound.known
 
   pub done_count : length p.history ≡ p.ended + 1
   done_count = let c = sound.history.count in let z : one_if p.published ≡ 1 = rw was refl in omega arith
 
-  pub done_sound : IsSound e (done p)
+  pub done_sound : IsSoundPen e (done p)
   done_sound =
       let one = sound.history in let z = one_flight in
       still_sound e p (done p) sound (still_history p (done p) one (let c = done_count in omega arith) (λ _. refl) (let few = one.few in omega arith)) done_turns.0
@@ -131,7 +131,7 @@ if_some : (b : Bool) (o : Option Holder) (P : Holder → Type 0) → IfSome o P 
 if_some true o P is = is
 if_some false o P is = tt
 
-module _ (e : ℕ → Extent) (p : PenPart) (q : PassPart) (call : Call) (reply : Reply) (sound : IsSound e p) (flight : p.in_flight ≡ true) (was : p.published ≡ false) (quiet : EndsQuietly p call reply) where
+module _ (e : ℕ → Extent) (p : PenPart) (q : PassPart) (call : Call) (reply : Reply) (sound : IsSoundPen e p) (flight : p.in_flight ≡ true) (was : p.published ≡ false) (quiet : EndsQuietly p call reply) where
   abbrev m : Moment
   m = quiet_moment p q call reply
 
@@ -158,7 +158,7 @@ module _ (e : ℕ → Extent) (p : PenPart) (q : PassPart) (call : Call) (reply 
       let a = was_acted p.shape.kind last (record_of m) last (subst (λ (x : List Range). acted p.shape.kind x call ≡ (x, reply)) (sym (map_told e p sound)) is) in
       record { answered = inl a.answered; stays = a.moved; named = rw a.unheld tt }
 
-  when_short : IsFoundShort p call reply → IsQuiet
+  when_short : IsPenShort p call reply → IsQuiet
   when_short short =
       let refused = short.refused in record {
         answered = inr (subst (λ (z : ℕ × List Range). IsRefused p.shape.kind (limits_after (tree_of p.shape p.history) z.0) z.1 call reply) (λ i. (quiet_count i, sym (map_told e p sound) i)) refused);
@@ -181,10 +181,10 @@ module _ (e : ℕ → Extent) (p : PenPart) (q : PassPart) (call : Call) (reply 
   quiet_past k low = let c = sound.history.count in moment_before p.shape p.history m k (omega arith)
 
   quiet_turns : Known p.shape.kind (state_in quietly) e (moment_at p.shape (p.history ++ m ∷ [])) × Goes p.shape.kind (state_in p) (state_in quietly) e e (moment_at p.shape p.history) (moment_at p.shape (p.history ++ m ∷ []))
-  quiet_turns = finish_turns p.shape.kind (sheet_of p) a_search (acted p.shape.kind (map_by (rooted_in p)) a_search).1 e (moment_at p.shape p.history) (moment_at p.shape (p.history ++ m ∷ []))
+  quiet_turns = finish_turns p.shape.kind (pen_sheet p) a_search (acted p.shape.kind (map_by (rooted_in p)) a_search).1 e (moment_at p.shape p.history) (moment_at p.shape (p.history ++ m ∷ []))
       (finish_with p flight (λ _. quiet.none_buried)) quiet_past (λ _. quiet_now) sound.known
 
-  pub quiet_sound : q.number < p.dealt → IsSound e quietly
+  pub quiet_sound : q.number < p.dealt → IsSoundPen e quietly
   quiet_sound caller =
       let z = quiet_flight in let c = quiet_count in let k = is_quiet in
       still_sound e p quietly sound (recorded_history p m sound.history caller k.named k.answered quietly refl refl refl refl (omega arith) (λ _. refl) (omega arith)) quiet_turns.0
@@ -201,7 +201,7 @@ chosen b x y is = rw is refl
 other : {X : Type 0} (b : Bool) (x y : X) → b ≡ false → y ≡ (if b then x else y)
 other b x y is = rw is refl
 
-module _ (told : Told) (slots by : ℕ) (me : Me (Unit {0}) View) (new : ℕ) (call : Call) (reply : Reply) (has_pen : HasPen me.0) (has_pass : HasPass me.0) (seen : (pass_of me.0).seen ≡ (pen_of me.0).history)
+module _ (told : TableStart) (slots by : ℕ) (me : Me (Unit {0}) View) (new : ℕ) (call : Call) (reply : Reply) (has_pen : HasPen me.0) (has_pass : HasPass me.0) (seen : (pass_of me.0).seen ≡ (pen_of me.0).history)
     (may : MayEnd (pen_of me.0) call reply) (next : new ≡ (pen_of me.0).ended + 1) where
   abbrev v : View
   v = me.0

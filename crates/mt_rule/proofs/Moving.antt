@@ -13,16 +13,16 @@ use Rattle.mt_base.proofs.Goings.{begins_long, begins_none}
 use Rattle.mt_base.proofs.Lists.{all_map}
 use Rattle.mt_life.specs.declared.views.Extent.{Extent}
 use Rattle.mt_rule.specs.declared.views.Moment.{Moment}
-use Rattle.mt_rule.specs.declared.views.Told.{Told}
+use Rattle.mt_rule.specs.declared.views.TableStart.{TableStart}
 use Rattle.mt_rule.specs.declared.views.Shape.{Shape}
 use Rattle.mt_rule.specs.declared.views.View.{View}
 use Rattle.mt_rule.specs.declared.views.PenPart.{PenPart}
 use Rattle.mt_rule.specs.declared.views.PassPart.{PassPart}
 use Rattle.mt_rule.specs.declared.views.NotePart.{NotePart}
 use Rattle.mt_rule.specs.declared.views.SectionWord.{SectionWord}
-use Rattle.mt_rule.specs.Seats.{HasPen, HasPass, HasNote, pen_of, pass_of, note_of, new_part, record_of, records_of, tree_of, known_by, longer_of, no_view, dealing_view, dealt_view, pen_joined, with_pass, with_note, without_pass, pass_alone, note_alone}
+use Rattle.mt_rule.specs.Seats.{HasPen, HasPass, HasNote, pen_of, pass_of, note_of, new_part, record_of, records_of, tree_of, known_by, longer_history, no_view, dealing_view, dealt_view, pen_joined, with_pass, with_note, without_pass, pass_alone, note_alone}
 use Rattle.mt_rule.specs.Places.{section_at}
-use Rattle.mt_rule.specs.Rule.{IsOneHistory, IsSound, WordsFit, PassFits, ViewFits, IsKept}
+use Rattle.mt_rule.specs.Rule.{IsOneHistory, IsSoundPen, WordsFit, PassFits, ViewFits, IsKept}
 use Rattle.mt_rule.specs.Steps.{all_seen, taught, sees_all, learns}
 use Rattle.mt_rule.specs.Tokens.{WasShown}
 use Rattle.mt_rows.specs.Levels.{one_if}
@@ -32,7 +32,7 @@ use Rattle.mt_rule.proofs.Carrying.{St, recast, reseated, still_history, still_s
 
 -- ---- a load, which leaves all words and all that the pen knows
 
-looked : (told : Told) (s : St) (r : IsKept told s) (at by : ℕ) (w : View)
+looked : (told : TableStart) (s : St) (r : IsKept told s) (at by : ℕ) (w : View)
     → ((words : List ℕ) → words ≡ s.words → ViewFits r.pen r.owner r.extents r.part words by w)
     → IsKept told record { words = set s.words at (get_or s.words at 0); homes = s.homes; views = set s.views by w }
 looked told s r at by w fits =
@@ -59,7 +59,7 @@ dealt_history p one room = record {
   legal = one.legal;
 }
 
-dealt_sound : (extents : ℕ → Extent) (p : PenPart) → IsSound extents p → p.dealt < p.shape.passes → IsSound extents (dealt_more p)
+dealt_sound : (extents : ℕ → Extent) (p : PenPart) → IsSoundPen extents p → p.dealt < p.shape.passes → IsSoundPen extents (dealt_more p)
 dealt_sound extents p s room = still_sound extents p (dealt_more p) s (dealt_history p s.history room) s.known s.dead s.passes s.cleared
 
 dealt_words : (words : List ℕ) (p : PenPart) → WordsFit words p → WordsFit words (dealt_more p)
@@ -103,7 +103,7 @@ new_fits extents p one = record {
   held = λ j x e. absurd (some-ne-none x (sym e));
 }
 
-pub dealing : (told : Told) (by : ℕ) (v : View) → HasPen v → (pen_of v).dealt < (pen_of v).shape.passes → Splits (IsKept told) by v (dealing_view v) (dealt_view v)
+pub dealing : (told : TableStart) (by : ℕ) (v : View) → HasPen v → (pen_of v).dealt < (pen_of v).shape.passes → Splits (IsKept told) by v (dealing_view v) (dealt_view v)
 dealing told by v has_pen room s r₀ at =
     let p = pen_of v in
     let known = (r₀.each by v at).keeper p has_pen in
@@ -136,7 +136,7 @@ module _ (e : ℕ → Extent) (p : PenPart) (sections : List SectionWord) where
   abbrev with_sections : PenPart
   with_sections = record p { sections = sections }
 
-  pub sound_with : IsSound e p → IsSound e with_sections
+  pub sound_with : IsSoundPen e p → IsSoundPen e with_sections
   sound_with s = let one = s.history in still_sound e p with_sections s (still_history p with_sections one one.count one.calm one.few) s.known s.dead s.passes s.cleared
 
   words_with : (words : List ℕ) → WordsFit words p → WordsFit words with_sections
@@ -161,7 +161,7 @@ module _ (e : ℕ → Extent) (p : PenPart) (sections : List SectionWord) where
     held = λ j x is. let t = f.held j x is in record { row = t.row; met = t.met; floor = t.floor; has = t.has; since = t.since };
   }
 
-pub joining : (told : Told) (id other : ℕ) (v w : View) → HasPen v → HasPass w → Joins (IsKept told) id v other w (with_pass v w) no_view
+pub joining : (told : TableStart) (id other : ℕ) (v w : View) → HasPen v → HasPass w → Joins (IsKept told) id v other w (with_pass v w) no_view
 joining told id other v w has_pen has_pass s r₀ at apart at_other =
     let p = pen_of v in
     let known = (r₀.each id v at).keeper p has_pen in
@@ -196,7 +196,7 @@ joining told id other v w has_pen has_pass s r₀ at apart at_other =
           (nothing_fits r.pen owner' r.extents p' s.words other);
     }
 
-pub parting : (told : Told) (by : ℕ) (v : View) → HasPass v → Splits (IsKept told) by v (without_pass v) (pass_alone v)
+pub parting : (told : TableStart) (by : ℕ) (v : View) → HasPass v → Splits (IsKept told) by v (without_pass v) (pass_alone v)
 parting told by v has_pass s r at =
     let own = r.each by v at in let q = pass_of v in let p = r.part in
     let owner' = owned r.owner q.number (length s.views) in
@@ -214,7 +214,7 @@ parting told by v has_pass s r at =
 
 -- ---- notes
 
-pub noting : (told : Told) (by : ℕ) (v : View) → HasPass v → Splits (IsKept told) by v v (note_alone v)
+pub noting : (told : TableStart) (by : ℕ) (v : View) → HasPass v → Splits (IsKept told) by v v (note_alone v)
 noting told by v has_pass s r at =
     let own = r.each by v at in let q = pass_of v in let p = r.part in
     reseated s r r.owner r.words
@@ -227,7 +227,7 @@ noting told by v has_pass s r at =
       notes = λ n k. subst (λ (z : NotePart). Begins z.seen p.history) (note_is (record { seen = q.seen }) n k) (own.passes q has_pass).seen;
     })
 
-pub note_joining : (told : Told) (id other : ℕ) (v w : View) → Joins (IsKept told) id v other w (with_note v w) no_view
+pub note_joining : (told : TableStart) (id other : ℕ) (v w : View) → Joins (IsKept told) id v other w (with_note v w) no_view
 note_joining told id other v w s r at apart at_other =
     let there = other_view s.views id other (with_note v w) w apart at_other in
     let own = r.each id v at in let f = r.each other w there in let p = r.part in
@@ -242,7 +242,7 @@ shown_fits : (extents : ℕ → Extent) (p : PenPart) (q : PassPart) → IsOneHi
 shown_fits extents p q one f = let n = one.count in let o = f.over in
     seen_fits extents p q p.history p.ended f f.seen (begins_none p.history) f.over (omega arith) (omega arith)
 
-pub seeing : (told : Told) (slots by : ℕ) (me : Me (Unit {0}) View) → HasPen me.0 → HasPass me.0 → Allows (IsKept told) slots by me 0 (λ n. n) (sees_all (step slots 0 0 0 none) me)
+pub seeing : (told : TableStart) (slots by : ℕ) (me : Me (Unit {0}) View) → HasPen me.0 → HasPass me.0 → Allows (IsKept told) slots by me 0 (λ n. n) (sees_all (step slots 0 0 0 none) me)
 seeing told slots by me has_pen has_pass s r₀ _ at _ =
     let v = me.0 in let p = pen_of v in let q = pass_of v in
     let known = (r₀.each by v at).keeper p has_pen in
@@ -255,7 +255,7 @@ seeing told slots by me has_pen has_pass s r₀ _ at _ =
     (w, keeps, tt, looked told s r 0 by w fits, record { view = refl; count = r.words.commits; extents = r.extents; sound = r.sound; fits = f })
 
 -- what the pass beside the pen then knows is that it saw the whole history
-pub was_shown : (t : Shape) (extents : ℕ → Extent) (p : PenPart) (q : PassPart) → p.shape ≡ t → p.in_flight ≡ false → IsSound extents p → PassFits extents p q
+pub was_shown : (t : Shape) (extents : ℕ → Extent) (p : PenPart) (q : PassPart) → p.shape ≡ t → p.in_flight ≡ false → IsSoundPen extents p → PassFits extents p q
     → WasShown (tree_of t []) p (known_by q) (known_by (all_seen p q))
 was_shown t extents p q shaped idle sound f =
     let one = sound.history in
@@ -284,15 +284,15 @@ shown_with tree p a b sections s = record { saw = s.saw; all = s.all; opened = s
 taught_fits : (extents : ℕ → Extent) (p : PenPart) (q : PassPart) (n : NotePart) → PassFits extents p q → Begins n.seen p.history → PassFits extents p (taught q n)
 taught_fits extents p q n f told =
     let l = longer_fits q.seen n.seen p.history f.seen told in
-    let more = begins_long q.seen (longer_of q.seen n.seen) l.this in
+    let more = begins_long q.seen (longer_history q.seen n.seen) l.this in
     let e = f.ended in
-    seen_fits extents p q (longer_of q.seen n.seen) q.ended f l.this l.whole (omega arith) (omega arith) f.over
+    seen_fits extents p q (longer_history q.seen n.seen) q.ended f l.this l.whole (omega arith) (omega arith) f.over
 
 -- what a pass has seen is a legal history of its tree
 pub sound_of : (extents : ℕ → Extent) (p : PenPart) (q : PassPart) (h : List Moment) → IsOneHistory p → PassFits extents p q → ways.IsSound (tree_of q.shape h) (known_by q)
 sound_of extents p q h one f = record { own = f.mine; legal = subst (λ (s : Shape). IsLegal (tree_of s q.seen)) (sym f.shape) (legal_within p.shape q.seen p.history f.seen one.legal) }
 
-pub learning : (told : Told) (slots by : ℕ) (me : Me (Unit {0}) View) → HasPass me.0 → HasNote me.0 → Allows (IsKept told) slots by me 0 (λ n. n) (learns (step slots 0 0 0 none) me)
+pub learning : (told : TableStart) (slots by : ℕ) (me : Me (Unit {0}) View) → HasPass me.0 → HasNote me.0 → Allows (IsKept told) slots by me 0 (λ n. n) (learns (step slots 0 0 0 none) me)
 learning told slots by me has_pass has_note s r _ at _ =
     let v = me.0 in let q = pass_of v in let n = note_of v in let p = r.part in
     let own = r.each by v at in let f = own.passes q has_pass in

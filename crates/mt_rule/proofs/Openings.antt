@@ -24,13 +24,13 @@ use Rattle.mt_rows.specs.Memory.{sheet_in}
 use Rattle.mt_rows.specs.PlainWhole.{rows_whole}
 use Rattle.mt_rows.specs.Publish.{IsLawfulOf, LiveAreReached, is_reached, tree_as}
 use Rattle.mt_rows.specs.Sheet.{HasDied, Rooted, life_of}
-use Rattle.mt_rule.specs.declared.views.Told.{Told}
+use Rattle.mt_rule.specs.declared.views.TableStart.{TableStart}
 use Rattle.mt_rule.specs.declared.views.Shape.{Shape}
 use Rattle.mt_rule.specs.declared.views.View.{View}
 use Rattle.mt_rule.specs.declared.views.PenPart.{PenPart}
 use Rattle.mt_rule.specs.Limits.{most_passes}
-use Rattle.mt_rule.specs.Places.{AreOpening, rows_at, root_at, section_at}
-use Rattle.mt_rule.specs.Rule.{IsKept, IsSound, ViewFits, WordsFit}
+use Rattle.mt_rule.specs.Places.{AreOpening, first_row_column, root_at, section_at}
+use Rattle.mt_rule.specs.Rule.{IsKept, IsSoundPen, ViewFits, WordsFit}
 use Rattle.mt_rule.specs.Seats.{moment_at, new_pen, opening_life, opening_view, rooted_in, shape_opening, shape_told, state_in}
 use Rattle.mt_rule.specs.Tokens.{MayOpen}
 use Rattle.mt_rows.proofs.PlainMade.{lawful_tree}
@@ -114,7 +114,7 @@ module _ (kind : Kind) (t : Rooted) (passes calls : ℕ) (lawful : IsLawfulOf t 
             refl refl following.1 (ap moment_of same),
       )
 
-  pub opening_sound : length t.table.words ≡ columns t.table.width * (first_row + t.rows) → t.rows ≤ most_rows → 1 ≤ passes → passes ≤ most_passes → (extents : ℕ → Extent) × IsSound extents part
+  pub opening_sound : length t.table.words ≡ columns t.table.width * (first_row + t.rows) → t.rows ≤ most_rows → 1 ≤ passes → passes ≤ most_passes → (extents : ℕ → Extent) × IsSoundPen extents part
   opening_sound size rows some_pass few_passes =
       let known = opening_known in (
         known.0,
@@ -144,10 +144,10 @@ module _ (kind : Kind) (t : Rooted) (passes calls : ℕ) (lawful : IsLawfulOf t 
         },
       )
 
-  section_low : (w : Width) (k : ℕ) → k < passes → passes ≤ most_passes → (section_at k ≢ root_at) × (section_at k < rows_at w)
+  section_low : (w : Width) (k : ℕ) → k < passes → passes ≤ most_passes → (section_at k ≢ root_at) × (section_at k < first_row_column w)
   section_low w k low few = ((λ e. omega arith), (let first = words_before w in omega arith))
 
-  counters_low : (w : Width) → (0 < rows_at w) × (1 < rows_at w)
+  counters_low : (w : Width) → (0 < first_row_column w) × (1 < first_row_column w)
   counters_low w = ((let first = words_before w in omega arith), (let first = words_before w in omega arith))
 
   pub opening_words_fit : (words : List ℕ) → AreOpening t words → passes ≤ most_passes → WordsFit words part
@@ -159,16 +159,16 @@ module _ (kind : Kind) (t : Rooted) (passes calls : ℕ) (lawful : IsLawfulOf t 
         root = o.root;
         sections = λ k low. inl (section k low);
         undealt = λ k _ low. section k low;
-        unnamed = λ i low off. o.none i off.root (subst (λ (w : Width). i < rows_at w) (sym lawful.width) low);
-        columns = λ i high. o.columns i (subst (λ (w : Width). rows_at w ≤ i) (sym lawful.width) high);
+        unnamed = λ i low off. o.none i off.root (subst (λ (w : Width). i < first_row_column w) (sym lawful.width) low);
+        columns = λ i high. o.columns i (subst (λ (w : Width). first_row_column w ≤ i) (sym lawful.width) high);
       }
 
 -- ---- the rule at the start
 
-abbrev pub tree_told : Told → Rooted
+abbrev pub tree_told : TableStart → Rooted
 tree_told told = (sheet_in told.rows.value).tree
 
-pub starts_so : (told : Told) (words : List ℕ) → MayOpen told.kind (sheet_in told.rows.value) told.passes told.calls → AreOpening (tree_told told) words → IsKept told (opening words [] (opening_view told))
+pub starts_so : (told : TableStart) (words : List ℕ) → MayOpen told.kind (sheet_in told.rows.value) told.passes told.calls → AreOpening (tree_told told) words → IsKept told (opening words [] (opening_view told))
 starts_so told words may opens =
     let whole = rows_whole told.rows.value in
     let t = tree_told told in

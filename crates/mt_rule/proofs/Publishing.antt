@@ -16,7 +16,7 @@ use Rattle.mt_base.specs.Width.{kind_width, columns, first_row}
 use Rattle.mt_base.proofs.PlainReplies.{IsActed, was_acted}
 use Rattle.mt_layout.proofs.Places.{place_behind, place_within}
 use Rattle.mt_life.specs.declared.views.Extent.{Extent}
-use Rattle.mt_life.specs.Known.{Follows, Goes, Known}
+use Rattle.mt_life.specs.Known.{HasExtentsOf, Goes, Known}
 use Rattle.mt_life.specs.Moments.{cuts_by, moment_of}
 use Rattle.mt_life.proofs.Carrying.{carried}
 use Rattle.mt_life.proofs.Following.{follow}
@@ -31,13 +31,13 @@ use Rattle.mt_rows.specs.Levels.{one_if}
 use Rattle.mt_rows.specs.Publish.{MayPublish, Published, is_reached, life_after, map_by, tree_as, with_published}
 use Rattle.mt_rows.specs.Sheet.{HasDied, IsWhole, Rooted, Sheet, is_buried, life_of}
 use Rattle.mt_rule.specs.declared.views.Moment.{Moment}
-use Rattle.mt_rule.specs.declared.views.Told.{Told}
+use Rattle.mt_rule.specs.declared.views.TableStart.{TableStart}
 use Rattle.mt_rule.specs.declared.views.View.{View}
 use Rattle.mt_rule.specs.declared.views.PenPart.{PenPart}
 use Rattle.mt_rule.specs.declared.views.PassPart.{PassPart}
 use Rattle.mt_rule.specs.Places.{column_at, root_at, section_at}
-use Rattle.mt_rule.specs.Rule.{IsKept, IsSound, WordsFit}
-use Rattle.mt_rule.specs.Seats.{HasPass, HasPen, moment_at, pass_of, pen_of, record_of, rooted_in, sheet_of, state_in, tree_of}
+use Rattle.mt_rule.specs.Rule.{IsKept, IsSoundPen, WordsFit}
+use Rattle.mt_rule.specs.Seats.{HasPass, HasPen, moment_at, pass_of, pen_of, record_of, rooted_in, pen_sheet, state_in, tree_of}
 use Rattle.mt_rule.specs.Steps.{pass_recorded, publishes}
 use Rattle.mt_rule.proofs.Carrying.{Carries, carry_pair, column_set, least_low, recast, sections_set, shaped_as}
 use Rattle.mt_rule.proofs.Counting.{counter_sections, counter_set, here, there}
@@ -65,7 +65,7 @@ died_now ended false false l old = old
 each_died : (s : Sheet) (t' : Rooted) (row : ℕ) → HasDied s.ended true (life_of s.lives row) → HasDied s.ended true (life_after s t' row)
 each_died s t' row old = died_now s.ended (is_reached t' row) (is_buried s.buried row) (life_of s.lives row) old
 
-module _ (e : ℕ → Extent) (p : PenPart) (q : PassPart) (place : Place) (word : ℕ) (call : Call) (reply : Reply) (sound : IsSound e p) (may : MayPublish p.shape.kind (sheet_of p) place word call reply) where
+module _ (e : ℕ → Extent) (p : PenPart) (q : PassPart) (place : Place) (word : ℕ) (call : Call) (reply : Reply) (sound : IsSoundPen e p) (may : MayPublish p.shape.kind (pen_sheet p) place word call reply) where
   abbrev kind : Kind
   kind = p.shape.kind
 
@@ -73,7 +73,7 @@ module _ (e : ℕ → Extent) (p : PenPart) (q : PassPart) (place : Place) (word
   tree = with_published (rooted_in p) place word
 
   abbrev lives : List Life
-  lives = map (life_after (sheet_of p) tree) (range_with_len 0 (first_row + p.shape.rows))
+  lives = map (life_after (pen_sheet p) tree) (range_with_len 0 (first_row + p.shape.rows))
 
   abbrev buried : List Bool
   buried = replicate (first_row + p.shape.rows) false
@@ -90,10 +90,10 @@ module _ (e : ℕ → Extent) (p : PenPart) (q : PassPart) (place : Place) (word
   same : rooted_in after ≡ tree
   same = same_tree (rooted_in p) place word
 
-  pub published : Published (sheet_of p) (sheet_of after) place word call reply
+  pub published : Published (pen_sheet p) (pen_sheet after) place word call reply
   published = record {
-    rest = λ i. record (sheet_of after) { tree = same i };
-    lives = λ row first last. get_or-map-range_with_len (life_after (sheet_of p) tree) 0 (first_row + p.shape.rows) row row New last (omega arith);
+    rest = λ i. record (pen_sheet after) { tree = same i };
+    lives = λ row first last. get_or-map-range_with_len (life_after (pen_sheet p) tree) 0 (first_row + p.shape.rows) row row New last (omega arith);
     buried = λ row first last. none_marked (first_row + p.shape.rows) row;
   }
 
@@ -114,17 +114,17 @@ module _ (e : ℕ → Extent) (p : PenPart) (q : PassPart) (place : Place) (word
 
   -- ---- what is known then
 
-  pub following : (e' : ℕ → Extent) × Follows tree e e'
+  pub following : (e' : ℕ → Extent) × HasExtentsOf tree e e'
   following = follow kind tree e may.after
 
   abbrev pub extents : ℕ → Extent
   extents = following.0
 
   known_after : Known kind (state_in after) extents (moment_at p.shape (p.history ++ m ∷ []))
-  known_after = carried kind (sheet_of p) (sheet_of after) place word call reply may published e extents (moment_at p.shape p.history) (moment_at p.shape (p.history ++ m ∷ [])) sound.known following.1 past now
+  known_after = carried kind (pen_sheet p) (pen_sheet after) place word call reply may published e extents (moment_at p.shape p.history) (moment_at p.shape (p.history ++ m ∷ [])) sound.known following.1 past now
 
   pub goes_on : Goes kind (state_in p) (state_in after) e extents (moment_at p.shape p.history) (moment_at p.shape (p.history ++ m ∷ []))
-  goes_on = goes kind (sheet_of p) (sheet_of after) place word call reply may published e extents (moment_at p.shape p.history) (moment_at p.shape (p.history ++ m ∷ [])) sound.known following.1 past now
+  goes_on = goes kind (pen_sheet p) (pen_sheet after) place word call reply may published e extents (moment_at p.shape p.history) (moment_at p.shape (p.history ++ m ∷ [])) sound.known following.1 past now
 
   pub carries_on : Carries e extents p after
   carries_on = record { dealt = omega arith; history = (m ∷ [], refl); ended = omega arith; begun = omega arith; goes = goes_on }
@@ -132,19 +132,19 @@ module _ (e : ℕ → Extent) (p : PenPart) (q : PassPart) (place : Place) (word
   no_calm : p.in_flight ≡ false → after.published ≡ false
   no_calm idle = absurd (true≢false (sym may.in_flight ∙ idle))
 
-  pub sound_after : q.number < p.dealt → IsSound extents after
+  pub sound_after : q.number < p.dealt → IsSoundPen extents after
   sound_after caller =
       let one = count in record {
         history = recorded_history p m sound.history caller (rw acted_so.unheld tt) (inl acted_so.answered) after refl refl refl refl (omega arith) no_calm refl;
         known = known_after;
         tree = record { width = refl; words = subst (λ (x : Rooted). IsTree (tree_as kind x)) (sym same) may.after };
-        live = live_reached_after kind (sheet_of p) (sheet_of after) place word call reply may published;
+        live = live_reached_after kind (pen_sheet p) (pen_sheet after) place word call reply may published;
         rows = sound.rows;
         words = same_size (rooted_in p) place word ∙ sound.words;
-        lives = length-map-range_with_len (life_after (sheet_of p) tree) 0 (first_row + p.shape.rows);
+        lives = length-map-range_with_len (life_after (pen_sheet p) tree) 0 (first_row + p.shape.rows);
         buried = length-replicate (first_row + p.shape.rows) false;
         dead = λ row. subst (λ (b : Bool). HasDied p.ended b (life_of lives row)) (sym may.in_flight)
-            (every_life (HasDied p.ended true) (life_after (sheet_of p) tree) (λ k. each_died (sheet_of p) tree k (subst (λ (b : Bool). HasDied p.ended b (life_of p.lives k)) may.in_flight (sound.dead k))) tt (range_with_len 0 (first_row + p.shape.rows)) row);
+            (every_life (HasDied p.ended true) (life_after (pen_sheet p) tree) (λ k. each_died (pen_sheet p) tree k (subst (λ (b : Bool). HasDied p.ended b (life_of p.lives k)) may.in_flight (sound.dead k))) tt (range_with_len 0 (first_row + p.shape.rows)) row);
         some_pass = sound.some_pass;
         few_passes = sound.few_passes;
         passes = sound.passes;
@@ -152,7 +152,7 @@ module _ (e : ℕ → Extent) (p : PenPart) (q : PassPart) (place : Place) (word
       }
 
   -- the rows are whole
-  pub whole_after : IsSound extents after → IsWhole (sheet_of after)
+  pub whole_after : IsSoundPen extents after → IsWhole (pen_sheet after)
   whole_after s = record {
     few = s.rows;
     words = s.words;
@@ -174,7 +174,7 @@ record StoredFit (words : List ℕ) (p n : PenPart) (i word : ℕ) : Type 0 wher
   pub fit : WordsFit (slice_set words i word) (shaped_as p n)
   pub sections : (k : ℕ) → k < p.shape.passes → slice_index (slice_set words i word) (section_at k) ≡ slice_index words (section_at k)
 
-words_after : (e : ℕ → Extent) (p : PenPart) (q : PassPart) (place : Place) (word : ℕ) (call : Call) (reply : Reply) (sound : IsSound e p) (may : MayPublish p.shape.kind (sheet_of p) place word call reply) (words : List ℕ)
+words_after : (e : ℕ → Extent) (p : PenPart) (q : PassPart) (place : Place) (word : ℕ) (call : Call) (reply : Reply) (sound : IsSoundPen e p) (may : MayPublish p.shape.kind (pen_sheet p) place word call reply) (words : List ℕ)
     → WordsFit words p → StoredFit words p (after e p q place word call reply sound may) (index_of (kind_width p.shape.kind) place) word
 words_after e p q Root word call reply sound may words w =
     let n = after e p q Root word call reply sound may in
@@ -197,8 +197,8 @@ words_after e p q (Slot row col) word call reply sound may words w =
 
 -- ---- the step
 
-pub publishing : (told : Told) (slots by : ℕ) (me : Me (Unit {0}) View) (i word : ℕ) (place : Place) (call : Call) (reply : Reply) → HasPen me.0 → HasPass me.0
-    → i ≡ index_of (kind_width (pen_of me.0).shape.kind) place → MayPublish (pen_of me.0).shape.kind (sheet_of (pen_of me.0)) place word call reply
+pub publishing : (told : TableStart) (slots by : ℕ) (me : Me (Unit {0}) View) (i word : ℕ) (place : Place) (call : Call) (reply : Reply) → HasPen me.0 → HasPass me.0
+    → i ≡ index_of (kind_width (pen_of me.0).shape.kind) place → MayPublish (pen_of me.0).shape.kind (pen_sheet (pen_of me.0)) place word call reply
     → Allows (IsKept told) slots by me i (λ _. word) (λ _. publishes place call reply (step slots i word 0 none) me word)
 publishing told slots by me i word place call reply has_pen has_pass where_is may s r₀ _ at _ =
     let v = me.0 in let p = pen_of v in let q = pass_of v in

@@ -20,7 +20,7 @@ use Rattle.mt_rule.specs.declared.places.RowAt.{RowAt}
 use Rattle.mt_rule.specs.declared.table.MtTable.{MtTable}
 use Rattle.mt_rule.specs.declared.views.Shape.{Shape}
 use Rattle.mt_rule.specs.Limits.{most_passes}
-use Rattle.mt_rule.specs.Places.{column_at, section_at, size_of, IsRowAt}
+use Rattle.mt_rule.specs.Places.{column_at, section_at, table_size, IsRowAt}
 use Rattle.mt_rule.specs.Seats.{shape_told}
 use Rattle.mt_rule.specs.Sections.{slots_in, spans_here}
 use Rattle.mt_rule.specs.Tokens.{Identity, identity_of, part_of, IsPassOf}
@@ -52,7 +52,7 @@ module _ (t : MtTable) (p : Pass) (of : IsPassOf (identity_of t) p) where
       let rows : (part_of p).shape.rows ≡ (shape_told t.table.shared.key).rows = ap (λ (z : Shape). z.rows) shape_is in
       let high : row < first_row + (shape_told t.table.shared.key).rows = let h = here.1 in omega arith in
       let within = place_within t.width row (first_row + (shape_told t.table.shared.key).rows) col high low in
-      let size : size_of t.width (shape_told t.table.shared.key).rows ≡ size_of (kind_width t.table.shared.key.kind) (shape_told t.table.shared.key).rows = ap (λ (w : Width). size_of w (shape_told t.table.shared.key).rows) t.wide in
+      let size : table_size t.width (shape_told t.table.shared.key).rows ≡ table_size (kind_width t.table.shared.key.kind) (shape_told t.table.shared.key).rows = ap (λ (w : Width). table_size w (shape_told t.table.shared.key).rows) t.wide in
       let words = t.words in
       omega arith
 

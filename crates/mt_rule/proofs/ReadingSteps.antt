@@ -26,20 +26,20 @@ use Rattle.mt_rows.specs.Trees.{map_in}
 use Rattle.mt_rows.proofs.Reached.{one_of_get}
 use Rattle.mt_life.specs.declared.views.Extent.{Extent}
 use Rattle.mt_life.specs.declared.views.Held.{Held}
-use Rattle.mt_life.specs.Holding.{HoldsRow, Snapshot, come, renewed}
+use Rattle.mt_life.specs.Holding.{HoldsRow, Snapshot, come, as_known_now}
 use Rattle.mt_life.specs.Known.{calls, extent_at, spans_at}
 use Rattle.mt_life.proofs.Fitting.{few_slots_below}
 use Rattle.mt_life.proofs.Holding.{child_held, leaf_held, marked_held, renewed_held, root_held, unmarked_held}
 use Rattle.mt_rule.specs.declared.views.Moment.{Moment}
 use Rattle.mt_rule.specs.declared.views.Shape.{Shape}
-use Rattle.mt_rule.specs.declared.views.Told.{Told}
+use Rattle.mt_rule.specs.declared.views.TableStart.{TableStart}
 use Rattle.mt_rule.specs.declared.views.View.{View}
 use Rattle.mt_rule.specs.declared.views.PenPart.{PenPart}
 use Rattle.mt_rule.specs.declared.views.PassPart.{PassPart}
 use Rattle.mt_rule.specs.Places.{commits_at, begun_at, root_at, section_at, section_word, IsSectionWord, column_at}
-use Rattle.mt_rule.specs.Seats.{HasPass, known_by, least_of, moment_at, pass_of, state_in, tree_of}
-use Rattle.mt_rule.specs.Rule.{begun_by, HasFloor, IsHeldBy, IsKept, IsOneHistory, IsOpenAt, IsSound, PassFits, ViewFits, WordsFit}
-use Rattle.mt_rule.specs.Sections.{IsAt, behind_first, closed_section, floor_or, here, kind_of, opened_section, slots_in, spans_here, IsRead, ParentTells, marks_with, loads_begun, loads_commits, loads_parent, loads_pivot, loads_root, loads_slot, opens_section, closes_section}
+use Rattle.mt_rule.specs.Seats.{HasPass, known_by, least_number, moment_at, pass_of, state_in, tree_of}
+use Rattle.mt_rule.specs.Rule.{begun_by, HasFloor, IsHeldBy, IsKept, IsOneHistory, IsOpenAt, IsSoundPen, PassFits, ViewFits, WordsFit}
+use Rattle.mt_rule.specs.Sections.{IsAt, held_behind, closed_section, floor_or, here, kind_of, opened_section, slots_in, spans_here, IsLeafRead, ParentTells, marks_with, loads_begun, loads_commits, loads_parent, loads_pivot, loads_root, loads_slot, opens_section, closes_section}
 use Rattle.mt_rule.proofs.Beginnings.{legal_within}
 use Rattle.mt_rule.proofs.Carrying.{St, least_low, recast}
 use Rattle.mt_rule.proofs.Holding.{pivot_now, slot_now}
@@ -74,7 +74,7 @@ steps_fit e p q steps f = record {
 
 -- ---- what a pass's own step has to keep
 
-module _ (told : Told) (s : St) (r₀ : IsKept told s) (by : ℕ) (v : View) (at : get_elem? s.views by ≡ some v) (q : PassPart) (is : v.pass ≡ Some q) where
+module _ (told : TableStart) (s : St) (r₀ : IsKept told s) (by : ℕ) (v : View) (at : get_elem? s.views by ≡ some v) (q : PassPart) (is : v.pass ≡ Some q) where
   -- the pen's part, with the shape as the pass knows it
   abbrev part_by : PenPart
   part_by = record r₀.part { shape = q.shape }
@@ -204,7 +204,7 @@ rows_fit e p q floor held f closed low rows = section_fits e p q q.opened q.stan
 
 -- ---- the numbers of calls that ended and that have begun
 
-pub commits : (told : Told) (slots by : ℕ) (me : M) → HasPass me.0 → Allows (IsKept told) slots by me commits_at (λ n. n) (loads_commits (step slots commits_at 0 0 none) me)
+pub commits : (told : TableStart) (slots by : ℕ) (me : M) → HasPass me.0 → Allows (IsKept told) slots by me commits_at (λ n. n) (loads_commits (step slots commits_at 0 0 none) me)
 commits told slots by me is s r₀ _ at _ =
     let q = pass_of me.0 in
     let p : PenPart = part_by told s r₀ by me.0 at q is in
@@ -231,7 +231,7 @@ sound_of e p q whole f = record { own = f.mine; legal = legal_within p.shape q.s
 begun_fits : (e : ℕ → Extent) (p : PenPart) (q : PassPart) (n : ℕ) → PassFits e p q → n ≡ begun_by p → PassFits e p (record q { begun = n })
 begun_fits e p q n f is = numbers_fit e p q q.seen n q.ended q.epoch q.risen f f.seen f.mine (omega arith) (omega arith) f.ended f.over f.epoch f.risen
 
-pub beguns : (told : Told) (slots by : ℕ) (me : M) → HasPass me.0 → Allows (IsKept told) slots by me begun_at (λ n. n) (loads_begun (step slots begun_at 0 0 none) me)
+pub beguns : (told : TableStart) (slots by : ℕ) (me : M) → HasPass me.0 → Allows (IsKept told) slots by me begun_at (λ n. n) (loads_begun (step slots begun_at 0 0 none) me)
 beguns told slots by me is s r₀ _ at _ =
     let q = pass_of me.0 in
     let p : PenPart = part_by told s r₀ by me.0 at q is in
@@ -267,7 +267,7 @@ opened_fits e p q f = section_fits e p q (opened_section q).opened (Some q.epoch
 closed_fits : (e : ℕ → Extent) (p : PenPart) (q : PassPart) → PassFits e p q → PassFits e p (uncounted q (closed_section q))
 closed_fits e p q f = section_fits e p q q.opened None None [] f f.loaded (λ o is. absurd (none-some o is)) (λ is. refl) (λ n is. absurd (none-some n is)) (λ j x at. absurd (some-ne-none x (sym at)))
 
-opening_here : (told : Told) (slots by : ℕ) (me : M) (new : ℕ) → HasPass me.0 → new ≡ 2 * (pass_of me.0).epoch + 1
+opening_here : (told : TableStart) (slots by : ℕ) (me : M) (new : ℕ) → HasPass me.0 → new ≡ 2 * (pass_of me.0).epoch + 1
     → Allows (IsKept told) slots by me (section_at (pass_of me.0).number) (λ _. new) (λ _. opens_section (step slots (section_at (pass_of me.0).number) new 0 none) me new)
 opening_here told slots by me new is word s r₀ _ at _ =
     let q = pass_of me.0 in
@@ -281,11 +281,11 @@ opening_here told slots by me new is word s r₀ _ at _ =
       (record { view = refl; slots = refl; counted = refl }, refl),
     )
 
-pub opening_at : (told : Told) (slots by : ℕ) (me : M) (new word : ℕ) → HasPass me.0 → word ≡ section_at (pass_of me.0).number → new ≡ 2 * (pass_of me.0).epoch + 1
+pub opening_at : (told : TableStart) (slots by : ℕ) (me : M) (new word : ℕ) → HasPass me.0 → word ≡ section_at (pass_of me.0).number → new ≡ 2 * (pass_of me.0).epoch + 1
     → Allows (IsKept told) slots by me word (λ _. new) (λ _. opens_section (step slots word new 0 none) me new)
 opening_at told slots by me new word is place e = subst (λ (w : ℕ). Allows (IsKept told) slots by me w (λ _. new) (λ _. opens_section (step slots w new 0 none) me new)) (sym place) (opening_here told slots by me new is e)
 
-closing_here : (told : Told) (slots by : ℕ) (me : M) → HasPass me.0
+closing_here : (told : TableStart) (slots by : ℕ) (me : M) → HasPass me.0
     → Allows (IsKept told) slots by me (section_at (pass_of me.0).number) (λ _. 0) (λ _. closes_section (step slots (section_at (pass_of me.0).number) 0 0 none) me 0)
 closing_here told slots by me is s r₀ _ at _ =
     let q = pass_of me.0 in
@@ -299,7 +299,7 @@ closing_here told slots by me is s r₀ _ at _ =
       (record { view = refl; slots = refl; counted = refl }, refl),
     )
 
-pub closing_at : (told : Told) (slots by : ℕ) (me : M) (word : ℕ) → HasPass me.0 → word ≡ section_at (pass_of me.0).number
+pub closing_at : (told : TableStart) (slots by : ℕ) (me : M) (word : ℕ) → HasPass me.0 → word ≡ section_at (pass_of me.0).number
     → Allows (IsKept told) slots by me word (λ _. 0) (λ _. closes_section (step slots word 0 0 none) me 0)
 closing_at told slots by me word is place = subst (λ (w : ℕ). Allows (IsKept told) slots by me w (λ _. 0) (λ _. closes_section (step slots w 0 0 none) me 0)) (sym place) (closing_here told slots by me is)
 
@@ -318,7 +318,7 @@ comes_to e p q x n f holds stands low since seen met clear was = rows_fit e p q 
     each (suc j) y is = let h = f.held j y is in record { row = h.row; met = h.met; floor = n; has = refl; since = let a = was h.floor h.has in let b = h.since in omega arith }
 
 -- the root row, at the load of its name
-root_fits : (e : ℕ → Extent) (p : PenPart) (q : PassPart) (x : Held) (floor : Option ℕ) → IsSound e p → PassFits e p q → (q.standing ≡ None → ⊥) → q.floor ≡ floor → x.since ≡ length p.history → x.met ≡ length p.history
+root_fits : (e : ℕ → Extent) (p : PenPart) (q : PassPart) (x : Held) (floor : Option ℕ) → IsSoundPen e p → PassFits e p q → (q.standing ≡ None → ⊥) → q.floor ≡ floor → x.since ≡ length p.history → x.met ≡ length p.history
     → HoldsRow p.shape.kind (state_in p) e (moment_at p.shape p.history) x → PassFits e p (record q { seen = p.history; floor = floor_or floor (length p.history); held = x ∷ q.held })
 root_fits e p q x None sound f stands was since met holds =
     let more = begins_long q.seen p.history f.seen in let count = sound.history.count in
@@ -334,10 +334,10 @@ root_fits e p q x (Some n) sound f stands was since met holds =
     let h = f.floor n was in let a = h.seen in
     comes_to e p (record q { seen = p.history }) x n (sees_fits e p q f) holds stands h.epoch (omega arith) (omega arith) (omega arith) h.cleared (λ m is. let same : Some m ≡ Some n = sym is ∙ was in cc)
 
-abbrev Outcome : (told : Told) (s : St) → ℕ → M → ℕ → ℕ → (ℕ → M → Type 0) → Type 0
+abbrev Outcome : (told : TableStart) (s : St) → ℕ → M → ℕ → ℕ → (ℕ → M → Type 0) → Type 0
 Outcome told s by me i n tells = (w : View) × (a : Act (Unit {0})) × Valid s.homes me.1 a × IsKept told (stepped s i n by me.1 w a) × tells n (w, carried_after me.1 a)
 
-module _ (told : Told) (slots by : ℕ) (me : M) (is : HasPass me.0) (stands : (pass_of me.0).standing ≢ None) (s : St) (r₀ : IsKept told s) (at : get_elem? s.views by ≡ some me.0) where
+module _ (told : TableStart) (slots by : ℕ) (me : M) (is : HasPass me.0) (stands : (pass_of me.0).standing ≢ None) (s : St) (r₀ : IsKept told s) (at : get_elem? s.views by ≡ some me.0) where
   abbrev q₀ : PassPart
   q₀ = pass_of me.0
 
@@ -377,7 +377,7 @@ module _ (told : Told) (slots by : ℕ) (me : M) (is : HasPass me.0) (stands : (
       let count = r₁.sound.history.count in
       let few = r₁.sound.history.dealt in let number = f₀.number in let passes = r₁.sound.passes in
       let clear : slice_index p₀.cleared q₀.number ≤ p₀.ended = r₁.sound.cleared q₀.number (omega arith) in
-      let least : least_of p₀.cleared ≤ slice_index p₀.cleared q₀.number = least_low p₀.cleared q₀.number (omega arith) in
+      let least : least_number p₀.cleared ≤ slice_index p₀.cleared q₀.number = least_low p₀.cleared q₀.number (omega arith) in
       let root = root_held p₀.shape.kind (state_in p₀) r₁.extents (moment_at p₀.shape p₀.history) r₁.sound.known (omega arith) there in
       let x : Held = come (state_in p₀) (row_in p₀.root) (calls (state_in p₀)) (extent_at (root_span (record { width = kind_width p₀.shape.kind; words = p₀.words }) p₀.root) root.0) in
       let holds : HoldsRow p₀.shape.kind (state_in p₀) r₁.extents (moment_at p₀.shape p₀.history) x = root.2.held in
@@ -412,7 +412,7 @@ module _ (told : Told) (slots by : ℕ) (me : M) (is : HasPass me.0) (stands : (
         ),
       )
 
-pub roots : (told : Told) (slots by : ℕ) (me : M) → HasPass me.0 → (pass_of me.0).standing ≢ None → Allows (IsKept told) slots by me root_at (λ n. n) (loads_root (step slots root_at 0 0 none) me)
+pub roots : (told : TableStart) (slots by : ℕ) (me : M) → HasPass me.0 → (pass_of me.0).standing ≢ None → Allows (IsKept told) slots by me root_at (λ n. n) (loads_root (step slots root_at 0 0 none) me)
 roots told slots by me is stands s r₀ _ at _ = elim (cases_eq (slice_index s.words root_at) 0) [
   | inl none_there ↦ no_root told slots by me is stands s r₀ at none_there
   | inr some_there ↦ a_root told slots by me is stands s r₀ at some_there
@@ -425,7 +425,7 @@ word_now : (ws : List ℕ) (p : PenPart) (row col : ℕ) → WordsFit ws p → f
 word_now ws p row col fit low = fit.columns (column_at (kind_width p.shape.kind) row col) (place_behind (kind_width p.shape.kind) row first_row col low)
 
 -- a pivot is as it was
-pub pivots : (told : Told) (slots by : ℕ) (me : M) (word row col : ℕ) → HasPass me.0 → IsAt (pass_of me.0) → row ≡ (here (pass_of me.0)).row
+pub pivots : (told : TableStart) (slots by : ℕ) (me : M) (word row col : ℕ) → HasPass me.0 → IsAt (pass_of me.0) → row ≡ (here (pass_of me.0)).row
     → (i : ℕ) × (col ≡ pivot_column i) × (i + 1 < slots_in (pass_of me.0) (here (pass_of me.0))) → word ≡ column_at (kind_width (pass_of me.0).shape.kind) row col
     → Allows (IsKept told) slots by me word (λ n. n) (loads_pivot (step slots word 0 0 none) me)
 pivots told slots by me word row col is here_at row_is pivot place s r₀ _ at _ =
@@ -461,26 +461,26 @@ held_fits e p q held f rows = rows_fit e p q q.floor held f f.closed
     (λ n is. let h = f.floor n is in record { seen = h.seen; cleared = h.cleared; epoch = h.epoch })
     (λ j x at. let h = rows j x at in record { row = h.row; met = h.met; floor = h.floor; has = h.has; since = h.since })
 
-behind_at : (xs : List Held) (j : ℕ) (x : Held) → get_elem? (behind_first xs) j ≡ some x → get_elem? xs (suc j) ≡ some x
+behind_at : (xs : List Held) (j : ℕ) (x : Held) → get_elem? (held_behind xs) j ≡ some x → get_elem? xs (suc j) ≡ some x
 behind_at [] j x e = absurd (some-ne-none x (sym e))
 behind_at (y ∷ xs) j x e = e
 
 -- the row that the section is at is known better
-renewed_fits : (e : ℕ → Extent) (p : PenPart) (q : PassPart) → IsSound e p → PassFits e p q → IsAt q → PassFits e p (record q { seen = p.history; held = renewed (state_in p) (here q) ∷ behind_first q.held })
-renewed_fits e p q sound f here_at = held_fits e p (record q { seen = p.history }) (renewed (state_in p) (here q) ∷ behind_first q.held) (sees_fits e p q f) each
+renewed_fits : (e : ℕ → Extent) (p : PenPart) (q : PassPart) → IsSoundPen e p → PassFits e p q → IsAt q → PassFits e p (record q { seen = p.history; held = as_known_now (state_in p) (here q) ∷ held_behind q.held })
+renewed_fits e p q sound f here_at = held_fits e p (record q { seen = p.history }) (as_known_now (state_in p) (here q) ∷ held_behind q.held) (sees_fits e p q f) each
   where
-    each : (j : ℕ) (y : Held) → get_elem? (renewed (state_in p) (here q) ∷ behind_first q.held) j ≡ some y → IsHeldBy e p (record q { seen = p.history }) y
+    each : (j : ℕ) (y : Held) → get_elem? (as_known_now (state_in p) (here q) ∷ held_behind q.held) j ≡ some y → IsHeldBy e p (record q { seen = p.history }) y
     each zero y e' =
         let h = (sees_fits e p q f).held 0 (here q) here_at in
-        subst (IsHeldBy e p (record q { seen = p.history })) (some-injective (renewed (state_in p) (here q)) y e')
+        subst (IsHeldBy e p (record q { seen = p.history })) (some-injective (as_known_now (state_in p) (here q)) y e')
         record { row = renewed_held p.shape.kind (state_in p) e (moment_at p.shape p.history) sound.known (here q) h.row; met = h.met; floor = h.floor; has = h.has; since = h.since }
     each (suc j) y e' = (sees_fits e p q f).held (suc j) y (behind_at q.held j y e')
 
 -- a leaf has what the map had after some number of calls
-leaf_read : (e : ℕ → Extent) (p : PenPart) (q : PassPart) (x : Held) → IsSound e p → q.shape ≡ p.shape → q.seen ≡ p.history → HoldsRow p.shape.kind (state_in p) e (moment_at p.shape p.history) x → x.extent.level ≡ 0 → IsRead q x (renewed (state_in p) x)
-leaf_read e p q x sound shape seen h leaf = subst (λ (z : Shape × List Moment). IsRead (record q { shape = z.0; seen = z.1 }) x (renewed (state_in p) x)) (λ i. (sym shape i, sym seen i)) told
+leaf_read : (e : ℕ → Extent) (p : PenPart) (q : PassPart) (x : Held) → IsSoundPen e p → q.shape ≡ p.shape → q.seen ≡ p.history → HoldsRow p.shape.kind (state_in p) e (moment_at p.shape p.history) x → x.extent.level ≡ 0 → IsLeafRead q x (as_known_now (state_in p) x)
+leaf_read e p q x sound shape seen h leaf = subst (λ (z : Shape × List Moment). IsLeafRead (record q { shape = z.0; seen = z.1 }) x (as_known_now (state_in p) x)) (λ i. (sym shape i, sym seen i)) told
   where
-    told : IsRead (record q { shape = p.shape; seen = p.history }) x (renewed (state_in p) x)
+    told : IsLeafRead (record q { shape = p.shape; seen = p.history }) x (as_known_now (state_in p) x)
     told =
         let t = leaf_held p.shape.kind (state_in p) e (moment_at p.shape p.history) sound.known x h leaf in
         let count = sound.history.count in let high = t.high in
@@ -498,7 +498,7 @@ leaf_read e p q x sound shape seen h leaf = subst (λ (z : Shape × List Moment)
         }
 
 -- a slot of a leaf
-entries : (told : Told) (slots by : ℕ) (me : M) (word col : ℕ) → HasPass me.0 → IsAt (pass_of me.0) → (here (pass_of me.0)).extent.level ≡ 0 → word ≡ column_at (kind_width (pass_of me.0).shape.kind) (here (pass_of me.0)).row col
+entries : (told : TableStart) (slots by : ℕ) (me : M) (word col : ℕ) → HasPass me.0 → IsAt (pass_of me.0) → (here (pass_of me.0)).extent.level ≡ 0 → word ≡ column_at (kind_width (pass_of me.0).shape.kind) (here (pass_of me.0)).row col
     → Allows (IsKept told) slots by me word (λ n. n) (loads_slot (step slots word 0 0 none) me)
 entries told slots by me word col is here_at leaf place s r₀ _ at _ =
     let q = pass_of me.0 in
@@ -507,7 +507,7 @@ entries told slots by me word col is here_at leaf place s r₀ _ at _ =
     let f : PassFits r.extents p q = (r.each by me.0 at).passes q is in
     let x : Held = here q in
     let h = (f.held 0 x here_at).row in
-    let q' : PassPart = record q { seen = p.history; held = renewed (state_in p) x ∷ behind_first q.held } in (
+    let q' : PassPart = record q { seen = p.history; held = as_known_now (state_in p) x ∷ held_behind q.held } in (
       record me.0 { pass = Some (counted q q') },
       keeps,
       tt,
@@ -526,7 +526,7 @@ entries told slots by me word col is here_at leaf place s r₀ _ at _ =
     )
 
 -- a slot of an inner row, which leads to the child
-childs : (told : Told) (slots by : ℕ) (me : M) (word i level : ℕ) → HasPass me.0 → IsAt (pass_of me.0) → (here (pass_of me.0)).extent.level ≡ suc level → i < length (spans_here (pass_of me.0) (here (pass_of me.0)))
+childs : (told : TableStart) (slots by : ℕ) (me : M) (word i level : ℕ) → HasPass me.0 → IsAt (pass_of me.0) → (here (pass_of me.0)).extent.level ≡ suc level → i < length (spans_here (pass_of me.0) (here (pass_of me.0)))
     → word ≡ column_at (kind_width (pass_of me.0).shape.kind) (here (pass_of me.0)).row (slot_column (slots_in (pass_of me.0) (here (pass_of me.0))) i)
     → Allows (IsKept told) slots by me word (λ n. n) (loads_slot (step slots word 0 0 none) me)
 childs told slots by me word i level is here_at inner low place s r₀ _ at _ =
@@ -575,7 +575,7 @@ childs told slots by me word i level is here_at inner low place s r₀ _ at _ =
     same_slot : (width : Width) (row slots i j : ℕ) → column_at width row (slot_column slots i) ≡ column_at width row (slot_column slots j) → j ≡ i
     same_slot width row slots i j e = omega arith
 
-pub slots_at : (told : Told) (slots by : ℕ) (me : M) (word row col : ℕ) → HasPass me.0 → IsAt (pass_of me.0) → row ≡ (here (pass_of me.0)).row
+pub slots_at : (told : TableStart) (slots by : ℕ) (me : M) (word row col : ℕ) → HasPass me.0 → IsAt (pass_of me.0) → row ≡ (here (pass_of me.0)).row
     → (i : ℕ) × (col ≡ slot_column (slots_in (pass_of me.0) (here (pass_of me.0))) i) × (i < length (spans_here (pass_of me.0) (here (pass_of me.0)))) → word ≡ column_at (kind_width (pass_of me.0).shape.kind) row col
     → Allows (IsKept told) slots by me word (λ n. n) (loads_slot (step slots word 0 0 none) me)
 slots_at told slots by me word row col is here_at row_is slot place =
@@ -588,7 +588,7 @@ slots_at told slots by me word row col is here_at row_is slot place =
 -- ---- the mark
 
 -- the parent word of each row that is held
-parent_tells : (e : ℕ → Extent) (p : PenPart) (q : PassPart) (marks : List ℕ) (x : Held) (n : ℕ) → IsSound e p → IsHeldBy e p q x → n ≡ word_at (state_in p).tree x.row 0
+parent_tells : (e : ℕ → Extent) (p : PenPart) (q : PassPart) (marks : List ℕ) (x : Held) (n : ℕ) → IsSoundPen e p → IsHeldBy e p q x → n ≡ word_at (state_in p).tree x.row 0
     → ParentTells (record q { shape = p.shape; seen = p.history; risen = begun_by p; marks = marks; steps = q.steps + 1 }) x n
 parent_tells e p q marks x n sound h is = record {
   dead = λ mark. marked_held p.shape.kind (state_in p) e (moment_at p.shape p.history) sound.known x h.row (sym is ∙ mark);
@@ -623,7 +623,7 @@ marked_fits e p q marks f = record {
   held = λ j x at. let h = f.held j x at in record { row = h.row; met = h.met; floor = h.floor; has = h.has; since = h.since };
 }
 
-pub parents : (told : Told) (slots by : ℕ) (me : M) (row word : ℕ) → HasPass me.0 → Allows (IsKept told) slots by me word (λ n. n) (loads_parent row (step slots word 0 0 none) me)
+pub parents : (told : TableStart) (slots by : ℕ) (me : M) (row word : ℕ) → HasPass me.0 → Allows (IsKept told) slots by me word (λ n. n) (loads_parent row (step slots word 0 0 none) me)
 parents told slots by me row word is s r₀ _ at _ =
     let q = pass_of me.0 in
     let p : PenPart = part_by told s r₀ by me.0 at q is in

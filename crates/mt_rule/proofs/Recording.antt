@@ -16,7 +16,7 @@ use Rattle.mt_rule.specs.declared.views.Moment.{Moment}
 use Rattle.mt_rule.specs.declared.views.Shape.{Shape}
 use Rattle.mt_rule.specs.declared.views.PenPart.{PenPart}
 use Rattle.mt_rule.specs.declared.views.PassPart.{PassPart}
-use Rattle.mt_rule.specs.Rule.{begun_by, IsHeldBy, IsOneHistory, IsSound, PassFits}
+use Rattle.mt_rule.specs.Rule.{begun_by, IsHeldBy, IsOneHistory, IsSoundPen, PassFits}
 use Rattle.mt_rule.specs.Seats.{moment_at, record_of, records_of, rooted_in, state_in, tree_of}
 use Rattle.mt_rule.specs.Steps.{pass_recorded}
 use Rattle.mt_rule.proofs.Beginnings.{all_more, legal_next, places_mine, places_other}
@@ -25,10 +25,10 @@ use Rattle.mt_rule.proofs.Moments.{map_now}
 
 -- ---- the last map is the one that the words stand for
 
-pub moments_count : (e : ℕ → Extent) (p : PenPart) → IsSound e p → calls (state_in p) ≡ length p.history
+pub moments_count : (e : ℕ → Extent) (p : PenPart) → IsSoundPen e p → calls (state_in p) ≡ length p.history
 moments_count e p s = sym s.history.count
 
-pub map_told : (e : ℕ → Extent) (p : PenPart) → IsSound e p → last_map (tree_of p.shape p.history) ≡ map_by (rooted_in p)
+pub map_told : (e : ℕ → Extent) (p : PenPart) → IsSoundPen e p → last_map (tree_of p.shape p.history) ≡ map_by (rooted_in p)
 map_told e p s =
     sym (map_now p.shape p.history) ∙ (ap (map_at (tree_of p.shape p.history)) (sym (moments_count e p s)) ∙ s.known.current)
 
@@ -52,7 +52,7 @@ recorded_history p m one caller named answered n shape dealt history loaded coun
 
 -- ---- the pass whose call it is
 
-module _ (e e' : ℕ → Extent) (p n : PenPart) (q : PassPart) (m : Moment) (sound : IsSound e p) (sound' : IsSound e' (shaped_as p n)) (c : Carries e e' p n) (f : PassFits e p q)
+module _ (e e' : ℕ → Extent) (p n : PenPart) (q : PassPart) (m : Moment) (sound : IsSoundPen e p) (sound' : IsSoundPen e' (shaped_as p n)) (c : Carries e e' p n) (f : PassFits e p q)
     (is : n.history ≡ p.history ++ m ∷ []) (by : m.pass ≡ q.number) (count : p.ended ≡ length p.history) where
   abbrev seen : List Moment
   seen = p.history ++ m ∷ []

@@ -9,7 +9,7 @@ use Rattle.std.specs.declared.snapshot.Snapshot.{Snapshot}
 use Rattle.mt_rule.specs.declared.table.MtTable.{MtTable}
 use Rattle.mt_rule.specs.declared.views.TurnView.{TurnView}
 use Rattle.mt_rule.specs.Tokens.{Identity}
-use Rattle.mt_rule.specs.Turns.{served, waiting, seated, counting, beside, tries_in, holding, given_back, refused, taken_bit, HasGrabbed, SeatFits, IsTurnKept, grabs, releases}
+use Rattle.mt_rule.specs.Turns.{served, waiting, seated, counting, seat_beside, tries_in, holding_view, given_back, refused, taken_bit, HasGrabbed, SeatFits, IsTurnKept, grabs, releases}
 use Rattle.mt_rule.proofs.Viewing.{each_set, each_split}
 
 off : false ≡ true → ⊥
@@ -28,9 +28,9 @@ pub waits : (key : Snapshot MtTable) (v : TurnView) → v ≡ waiting key → v 
 waits key v is = is ∙ (λ i. seated key (sym is i).tries)
 
 -- a seat beside another that says nothing but how many are beside it
-pub sits_beside : (key : Snapshot MtTable) (v : TurnView) (views : List TurnView) → v ≡ seated key v.tries → views ≡ beside v ∷ [] → views ≡ seated key (tries_in views) ∷ []
+pub sits_beside : (key : Snapshot MtTable) (v : TurnView) (views : List TurnView) → v ≡ seated key v.tries → views ≡ seat_beside v ∷ [] → views ≡ seated key (tries_in views) ∷ []
 sits_beside key v views is one =
-    let alone : views ≡ waiting key ∷ [] = one ∙ ap (λ (z : TurnView). beside z ∷ []) is in
+    let alone : views ≡ waiting key ∷ [] = one ∙ ap (λ (z : TurnView). seat_beside z ∷ []) is in
     alone ∙ (λ i. seated key (tries_in (sym alone i)) ∷ [])
 
 module _ {C : Type 0} (table : C → Identity) (key : Snapshot MtTable) where
@@ -58,7 +58,7 @@ module _ {C : Type 0} (table : C → Identity) (key : Snapshot MtTable) where
   apart_from : (s : State (Option C) TurnView) (holder by : ℕ) (v u : TurnView) → get_elem? s.views by ≡ some v → get_elem? s.views holder ≡ some u → (v ≡ u → ⊥) → holder ≢ by
   apart_from s holder by v u at there differ e = differ (some-injective v u (sym at ∙ (ap (get_elem? s.views) (sym e) ∙ there)))
 
-  sitting : (by : ℕ) (v : TurnView) → v.holds ≡ false → v.held ≡ false → Splits Rule by v (counting v) (beside v)
+  sitting : (by : ℕ) (v : TurnView) → v.holds ≡ false → v.held ≡ false → Splits Rule by v (counting v) (seat_beside v)
   sitting by v idle never s r at =
       let mine = r.each by v at in record {
         holder = r.holder;
@@ -67,11 +67,11 @@ module _ {C : Type 0} (table : C → Identity) (key : Snapshot MtTable) where
         words = r.words;
         homes = r.homes;
         value = r.value;
-        away = λ e. let apart = apart_from s r.holder by v (holding key) at (r.away e) (λ same. off (sym idle ∙ ap (λ (z : TurnView). z.holds) same)) in
-            at_longer (set s.views by (counting v)) (beside v ∷ []) r.holder (holding key) (set_else s.views by r.holder (counting v) apart ∙ r.away e);
+        away = λ e. let apart = apart_from s r.holder by v (holding_view key) at (r.away e) (λ same. off (sym idle ∙ ap (λ (z : TurnView). z.holds) same)) in
+            at_longer (set s.views by (counting v)) (seat_beside v ∷ []) r.holder (holding_view key) (set_else s.views by r.holder (counting v) apart ∙ r.away e);
         taken = λ e. let t = r.taken e in let apart = apart_from s r.holder by v t.0 at t.1 (λ same. off (sym never ∙ (ap (λ (z : TurnView). z.held) same ∙ t.2))) in
-            (t.0, at_longer (set s.views by (counting v)) (beside v ∷ []) r.holder t.0 (set_else s.views by r.holder (counting v) apart ∙ t.1), t.2);
-        each = each_split (Fits r.holder r.home r.ever) s.views by (counting v) (beside v) (λ j u _ e. r.each j u e) (idles r.holder r.home r.ever by (counting v) mine.of idle mine.met) (idles r.holder r.home r.ever _ (beside v) mine.of idle mine.met);
+            (t.0, at_longer (set s.views by (counting v)) (seat_beside v ∷ []) r.holder t.0 (set_else s.views by r.holder (counting v) apart ∙ t.1), t.2);
+        each = each_split (Fits r.holder r.home r.ever) s.views by (counting v) (seat_beside v) (λ j u _ e. r.each j u e) (idles r.holder r.home r.ever by (counting v) mine.of idle mine.met) (idles r.holder r.home r.ever _ (seat_beside v) mine.of idle mine.met);
       }
 
   grabbing : (slots by : ℕ) (v : TurnView) → v.holds ≡ false → Allows Rule slots by (v, []) 0 (λ _. 1) (grabs table (step slots 0 1 0 none) (v, []))
@@ -82,12 +82,12 @@ module _ {C : Type 0} (table : C → Identity) (key : Snapshot MtTable) where
 
       -- whoever holds the value is another
       apart : r.home ≡ none → r.holder ≢ by
-      apart is e = off (sym idle ∙ ap (λ (z : TurnView). z.holds) (some-injective v (holding key) (sym at ∙ (ap (get_elem? s.views) (sym e) ∙ r.away is))))
+      apart is e = off (sym idle ∙ ap (λ (z : TurnView). z.holds) (some-injective v (holding_view key) (sym at ∙ (ap (get_elem? s.views) (sym e) ∙ r.away is))))
 
       by_home : (h : maybe.Option (Option C)) → r.home ≡ h
           → (w : TurnView) × (a : Act (Option C)) × Valid s.homes [] a × Rule (stepped s 0 1 by [] w a) × grabs table (step slots 0 1 0 none) (v, []) (get_or s.words 0 0) (w, carried_after [] a)
       by_home none is =
-          let held : get_elem? (set s.views by (refused v.of)) r.holder ≡ some (holding key) = set_else s.views by r.holder (refused v.of) (apart is) ∙ r.away is in (
+          let held : get_elem? (set s.views by (refused v.of)) r.holder ≡ some (holding_view key) = set_else s.views by r.holder (refused v.of) (apart is) ∙ r.away is in (
             refused v.of,
             keeps,
             tt,
@@ -99,13 +99,13 @@ module _ {C : Type 0} (table : C → Identity) (key : Snapshot MtTable) where
               homes = r.homes ∙ ap (λ h. h ∷ []) is;
               value = λ x e. absurd (some-ne-none x (sym e));
               away = λ _. held;
-              taken = λ _. (holding key, held, refl);
+              taken = λ _. (holding_view key, held, refl);
               each = each_set (Fits r.holder none true) s.views by (refused v.of) (λ j u _ e. let f = r.each j u e in record { of = f.of; holds = λ h. ((f.holds h).0, refl); met = λ _. refl }) (idles r.holder none true by (refused v.of) mine.of refl (λ _. refl));
             },
             record { free = λ e. let n = ap (λ (l : List ℕ). get_or l 0 0) r.words ∙ ap taken_bit is in absurd (omega arith); taken = λ _. refl },
           )
       by_home (some x) is = let c = r.value x is in (
-        holding v.of,
+        holding_view v.of,
         takes 0 (Some c.0),
         ap (λ l. get_elem? l 0) r.homes ∙ (ap some is ∙ ap (λ (z : Option C). some (some z)) c.1),
         record {
@@ -115,9 +115,9 @@ module _ {C : Type 0} (table : C → Identity) (key : Snapshot MtTable) where
           words = ap (λ (l : List ℕ). set l 0 1) r.words;
           homes = ap (λ l. set l 0 none) r.homes;
           value = λ x e. absurd (some-ne-none x (sym e));
-          away = λ _. view_set s.views by v (holding v.of) at ∙ ap (λ (k : Snapshot MtTable). some (holding k)) mine.of;
-          taken = λ _. (holding v.of, view_set s.views by v (holding v.of) at, refl);
-          each = each_set (Fits by none true) s.views by (holding v.of) (λ j u _ e. let f = r.each j u e in record { of = f.of; holds = λ h. absurd (some-ne-none x (sym is ∙ (f.holds h).1)); met = λ _. refl }) record { of = mine.of; holds = λ _. (refl, refl); met = λ _. refl };
+          away = λ _. view_set s.views by v (holding_view v.of) at ∙ ap (λ (k : Snapshot MtTable). some (holding_view k)) mine.of;
+          taken = λ _. (holding_view v.of, view_set s.views by v (holding_view v.of) at, refl);
+          each = each_set (Fits by none true) s.views by (holding_view v.of) (λ j u _ e. let f = r.each j u e in record { of = f.of; holds = λ h. absurd (some-ne-none x (sym is ∙ (f.holds h).1)); met = λ _. refl }) record { of = mine.of; holds = λ _. (refl, refl); met = λ _. refl };
         },
         record { free = λ _. (c.0, refl, c.2 ∙ ap served (sym mine.of)); taken = λ n. absurd (n (ap (λ (l : List ℕ). get_or l 0 0) r.words ∙ ap taken_bit is)) },
       )
@@ -142,18 +142,18 @@ module _ {C : Type 0} (table : C → Identity) (key : Snapshot MtTable) where
   )
 
   -- the same at a seat whose view and slots are known
-  pub sits : (by : ℕ) (v : TurnView) (n : ℕ) → v ≡ seated key n → Splits Rule by v (counting v) (beside v)
+  pub sits : (by : ℕ) (v : TurnView) (n : ℕ) → v ≡ seated key n → Splits Rule by v (counting v) (seat_beside v)
   sits by v n is = sitting by v (ap (λ (z : TurnView). z.holds) is) (ap (λ (z : TurnView). z.held) is)
 
   pub grabs_value : (slots by : ℕ) (me : M) → me.0.holds ≡ false → me.1 ≡ [] → Allows Rule slots by me 0 (λ _. 1) (grabs table (step slots 0 1 0 none) me)
   grabs_value slots by me idle bare = subst (λ (l : List (ℕ × Option C)). Allows Rule slots by (me.0, l) 0 (λ _. 1) (grabs table (step slots 0 1 0 none) (me.0, l))) (sym bare) (grabbing slots by me.0 idle)
 
   -- the seat at this table's turn has grabbed the value
-  pub has_grabbed : (me me' : M) → me.0.of ≡ key → me.1 ≡ [] → (value : C) × (me' ≡ (holding me.0.of, (0, Some value) ∷ me.1)) × (table value ≡ served me.0.of) → HasGrabbed table key me'
-  has_grabbed me me' of bare got = (got.0, got.1 ∙ (λ i. (holding (of i), (0, Some got.0) ∷ bare i)), got.2 ∙ ap served of)
+  pub has_grabbed : (me me' : M) → me.0.of ≡ key → me.1 ≡ [] → (value : C) × (me' ≡ (holding_view me.0.of, (0, Some value) ∷ me.1)) × (table value ≡ served me.0.of) → HasGrabbed table key me'
+  has_grabbed me me' of bare got = (got.0, got.1 ∙ (λ i. (holding_view (of i), (0, Some got.0) ∷ bare i)), got.2 ∙ ap served of)
 
-  pub releases_value : (slots by : ℕ) (me : M) (c : C) → me ≡ (holding key, (0, Some c) ∷ []) → table c ≡ served key → Allows Rule slots by me 0 (λ _. 0) (λ _. releases (step slots 0 0 0 none) me 0)
-  releases_value slots by me c is fits = subst (λ (m : M). Allows Rule slots by m 0 (λ _. 0) (λ _. releases (step slots 0 0 0 none) m 0)) (sym is) (releasing slots by (holding key) c refl fits)
+  pub releases_value : (slots by : ℕ) (me : M) (c : C) → me ≡ (holding_view key, (0, Some c) ∷ []) → table c ≡ served key → Allows Rule slots by me 0 (λ _. 0) (λ _. releases (step slots 0 0 0 none) me 0)
+  releases_value slots by me c is fits = subst (λ (m : M). Allows Rule slots by m 0 (λ _. 0) (λ _. releases (step slots 0 0 0 none) m 0)) (sym is) (releasing slots by (holding_view key) c refl fits)
 
 pub only_view : (v w : TurnView) → v ∷ [] ≡ w ∷ [] → v ≡ w
 only_view v w e = ap (λ (l : List TurnView). get_or l 0 v) e

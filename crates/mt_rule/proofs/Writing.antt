@@ -9,14 +9,14 @@ use Rattle.mt_base.specs.declared.widths.Width.{Width}
 use Rattle.mt_base.specs.Width.{kind_width, first_row}
 use Rattle.mt_layout.proofs.Places.{place_behind, place_within, words_in_all}
 use Rattle.mt_rows.specs.Sheet.{IsPlace}
-use Rattle.mt_rule.specs.declared.views.Told.{Told}
+use Rattle.mt_rule.specs.declared.views.TableStart.{TableStart}
 use Rattle.mt_rule.specs.declared.views.View.{View}
 use Rattle.mt_rule.specs.declared.views.PenPart.{PenPart}
 use Rattle.mt_rule.specs.declared.views.Shape.{Shape}
 use Rattle.mt_rule.specs.declared.table.MtTable.{MtTable}
 use Rattle.mt_rule.specs.declared.pens.Pen.{Pen}
 use Rattle.mt_rule.specs.Limits.{most_passes}
-use Rattle.mt_rule.specs.Places.{root_at, rows_at, section_at, size_of, column_at}
+use Rattle.mt_rule.specs.Places.{root_at, first_row_column, section_at, table_size, column_at}
 use Rattle.mt_rule.specs.Seats.{HasPen, pen_of, rooted_in, shape_told}
 use Rattle.mt_rule.specs.Tokens.{Identity, identity_of, IsPenOf, pen_in}
 use Rattle.mt_rule.specs.Rule.{IsKept, ViewFits}
@@ -32,7 +32,7 @@ M = Me (Unit {0}) View
 pub root_inside : (t : MtTable) → root_at < t.table.shared.table_id.words
 root_inside t = let words = t.words in let all = words_in_all (kind_width t.table.shared.key.kind) (shape_told t.table.shared.key).rows in omega arith
 
-section_low : (w : Width) (pass rows : ℕ) → pass < most_passes → section_at pass < size_of w rows
+section_low : (w : Width) (pass rows : ℕ) → pass < most_passes → section_at pass < table_size w rows
 section_low w pass rows few = let all = words_in_all w rows in omega arith
 
 pub section_inside : (t : MtTable) (pen : Pen) (pass : ℕ) → IsPenOf (identity_of t) pen → pass < (pen_in pen).shape.passes → section_at pass < t.table.shared.table_id.words
@@ -44,8 +44,8 @@ section_inside t pen pass of few =
 -- the index of a column of the pen's rows
 pub record IsColumn (t : MtTable) (p : PenPart) (row col i : ℕ) : Type 0 where
   pub is : i ≡ column_at (kind_width p.shape.kind) row col
-  pub above : rows_at (kind_width p.shape.kind) ≤ column_at (kind_width p.shape.kind) row col
-  pub below : column_at (kind_width p.shape.kind) row col < size_of (kind_width p.shape.kind) p.shape.rows
+  pub above : first_row_column (kind_width p.shape.kind) ≤ column_at (kind_width p.shape.kind) row col
+  pub below : column_at (kind_width p.shape.kind) row col < table_size (kind_width p.shape.kind) p.shape.rows
   pub inside : i < t.table.shared.table_id.words
 
 pub column_of : (t : MtTable) (pen : Pen) (row col i : ℕ) → IsPenOf (identity_of t) pen → IsPlace (rooted_in (pen_in pen)) row col → i ≡ column_at t.width row col → IsColumn t (pen_in pen) row col i
@@ -59,24 +59,24 @@ column_of t pen row col i of place at =
       is = is;
       above = place_behind (kind_width p.shape.kind) row first_row col place.first;
       below = low;
-      inside = subst (λ (n : ℕ × ℕ). n.0 < n.1) (λ j. (sym is j, (ap (λ (d : Shape). size_of (kind_width d.kind) d.rows) shape ∙ sym t.words) j)) low;
+      inside = subst (λ (n : ℕ × ℕ). n.0 < n.1) (λ j. (sym is j, (ap (λ (d : Shape). table_size (kind_width d.kind) d.rows) shape ∙ sym t.words) j)) low;
     }
 
 -- ---- loads that change nothing
 
 -- a word is as it was, and so is a view
-pub unchanged : (told : Told) (s : St) (r : IsKept told s) (by : ℕ) (v : View) → get_elem? s.views by ≡ some v → (i : ℕ)
+pub unchanged : (told : TableStart) (s : St) (r : IsKept told s) (by : ℕ) (v : View) → get_elem? s.views by ≡ some v → (i : ℕ)
     → IsKept told record { words = slice_set s.words i (slice_index s.words i); homes = s.homes; views = set s.views by v }
 unchanged told s r by v at i = subst (λ (words : List ℕ). IsKept told record { words = words; homes = s.homes; views = set s.views by v }) (sym (set-get_or s.words i 0))
     (reseated s r r.owner r.words (each_set (ViewFits r.pen r.owner r.extents r.part s.words) s.views by v (λ j u _ e. r.each j u e) (r.each by v at)))
 
-pub looking : (told : Told) (slots by : ℕ) (me : M) (word : ℕ) → HasPen me.0 → rows_at (kind_width (pen_of me.0).shape.kind) ≤ word → Allows (IsKept told) slots by me word (λ n. n) (looks (step slots word 0 0 none) me)
+pub looking : (told : TableStart) (slots by : ℕ) (me : M) (word : ℕ) → HasPen me.0 → first_row_column (kind_width (pen_of me.0).shape.kind) ≤ word → Allows (IsKept told) slots by me word (λ n. n) (looks (step slots word 0 0 none) me)
 looking told slots by me word has high s r₀ _ at _ =
     let v = me.0 in let p = pen_of v in
     let r = recast told s r₀ p (sym ((r₀.each by v at).keeper p has).1) in
     (v, keeps, tt, unchanged told s r by v at word, record { view = refl; found_is = r.words.columns word high })
 
-pub looking_at_root : (told : Told) (slots by : ℕ) (me : M) → HasPen me.0 → Allows (IsKept told) slots by me root_at (λ n. n) (looks_at_root (step slots root_at 0 0 none) me)
+pub looking_at_root : (told : TableStart) (slots by : ℕ) (me : M) → HasPen me.0 → Allows (IsKept told) slots by me root_at (λ n. n) (looks_at_root (step slots root_at 0 0 none) me)
 looking_at_root told slots by me has s r₀ _ at _ =
     let v = me.0 in let p = pen_of v in
     let r = recast told s r₀ p (sym ((r₀.each by v at).keeper p has).1) in

@@ -28,11 +28,11 @@ use Rattle.mt_life.proofs.Alike.{SameSlots, spans_named, same_spans_at, two_slot
 use Rattle.mt_life.proofs.Fitting.{children_known}
 use Rattle.mt_life.proofs.Standing.{draft_stands, bury_stands, tend_stands}
 use Rattle.mt_life.proofs.Writing.{draft_leaves, bury_leaves, tend_leaves, row_others, col_others, gap_row}
-use Rattle.mt_rule.specs.declared.views.Told.{Told}
+use Rattle.mt_rule.specs.declared.views.TableStart.{TableStart}
 use Rattle.mt_rule.specs.declared.views.PenPart.{PenPart}
-use Rattle.mt_rule.specs.Places.{column_at, rows_at, size_of}
-use Rattle.mt_rule.specs.Seats.{HasPen, pen_of, least_of, moment_at, rooted_in, sheet_of, state_in}
-use Rattle.mt_rule.specs.Rule.{IsSound, IsKept}
+use Rattle.mt_rule.specs.Places.{column_at, first_row_column, table_size}
+use Rattle.mt_rule.specs.Seats.{HasPen, pen_of, least_number, moment_at, rooted_in, pen_sheet, state_in}
+use Rattle.mt_rule.specs.Rule.{IsSoundPen, IsKept}
 use Rattle.mt_rule.specs.Steps.{pen_drafted, pen_buried, pen_tended, drafts, finds_drafted, buries, tends}
 use Rattle.mt_rule.proofs.Carrying.{recast, carry, carries_life, stays_put, still_history, column_set, sections_set}
 use Rattle.mt_rule.proofs.Writing.{M, unchanged}
@@ -93,13 +93,13 @@ module _ (kind : Kind) (s : State) (e : ℕ → Extent) (m : ℕ → Moment) (kn
 
 -- ---- what the pen knows after a store that leaves its history
 
-still_full : (e : ℕ → Extent) (p : PenPart) → IsSound e p → IsFull (state_in p)
+still_full : (e : ℕ → Extent) (p : PenPart) → IsSoundPen e p → IsFull (state_in p)
 still_full e p sound = record { words = sound.words; lives = sound.lives; buried = sound.buried }
 
 -- what the pen knows where nothing has changed but words, lives and buryings
-pub written_sound : (e : ℕ → Extent) (p : PenPart) (words : List ℕ) (lives : List Life) (burials : List Bool) → IsSound e p → let n : PenPart = record p { words = words; lives = lives; buried = burials } in
+pub written_sound : (e : ℕ → Extent) (p : PenPart) (words : List ℕ) (lives : List Life) (burials : List Bool) → IsSoundPen e p → let n : PenPart = record p { words = words; lives = lives; buried = burials } in
     Known p.shape.kind (state_in n) e (moment_at p.shape p.history) → IsTreeOf (rooted_in n) p.shape.kind → LiveAreReached (rooted_in n) lives
-    → length words ≡ length p.words → length lives ≡ length p.lives → length burials ≡ length p.buried → ((row : ℕ) → HasDied p.ended p.in_flight (life_of lives row)) → IsSound e n
+    → length words ≡ length p.words → length lives ≡ length p.lives → length burials ≡ length p.buried → ((row : ℕ) → HasDied p.ended p.in_flight (life_of lives row)) → IsSoundPen e n
 written_sound e p words lives burials sound known tree live long all marks dead = record {
   history = (let h = sound.history in still_history p (record p { words = words; lives = lives; buried = burials }) h h.count h.calm h.few);
   known = known;
@@ -116,7 +116,7 @@ written_sound e p words lives burials sound known tree live long all marks dead 
   cleared = sound.cleared;
 }
 
-module _ (e : ℕ → Extent) (p : PenPart) (sound : IsSound e p) where
+module _ (e : ℕ → Extent) (p : PenPart) (sound : IsSoundPen e p) where
   abbrev K : Kind
   K = p.shape.kind
 
@@ -127,7 +127,7 @@ module _ (e : ℕ → Extent) (p : PenPart) (sound : IsSound e p) where
   Same words = LeaveLive K (state_in p) e T sound.known words
 
   -- a draft
-  module _ (row col word : ℕ) (at : IsPlace (rooted_in p) row col) (free : IsFree (least_of p.cleared) (life_of p.lives row)) where
+  module _ (row col word : ℕ) (at : IsPlace (rooted_in p) row col) (free : IsFree (least_number p.cleared) (life_of p.lives row)) where
     abbrev D : PenPart
     D = pen_drafted row col word p
 
@@ -138,17 +138,17 @@ module _ (e : ℕ → Extent) (p : PenPart) (sound : IsSound e p) where
     other_life r off = get_or-set_other p.lives row r Draft New off
 
     off_live : (r : ℕ) → life_of p.lives r ≡ Live → r ≢ row
-    off_live r live same = subst (IsFree (least_of p.cleared)) (ap (life_of p.lives) (sym same) ∙ live) free
+    off_live r live same = subst (IsFree (least_number p.cleared)) (ap (life_of p.lives) (sym same) ∙ live) free
 
     off_drafted : (r : ℕ) → life_of D.lives r ≡ Live → r ≢ row
     off_drafted r live same = let both : Live ≡ Draft = sym live ∙ (ap (life_of D.lives) same ∙ drafted_life) in absurd cc
 
     draft_life : Known K (state_in D) e T × Goes K (state_in p) (state_in D) e e T T
-    draft_life = draft_leaves K (sheet_of p) row col word e T (still_full e p sound) at free sound.known
+    draft_life = draft_leaves K (pen_sheet p) row col word e T (still_full e p sound) at free sound.known
 
-    pub drafted_sound : IsSound e D
+    pub drafted_sound : IsSoundPen e D
     drafted_sound = written_sound e p D.words D.lives p.buried sound draft_life.0
-        (draft_stands K (sheet_of p) e T sound.known row col word at free sound.tree)
+        (draft_stands K (pen_sheet p) e T sound.known row col word at free sound.tree)
         (live_kept K (state_in p) e T sound.known D.words
         (λ r has live c above low. row_others (rooted_in p) row col word at r c (off_live r live) (two_slots (kind_width K) (kind_at K (e r).level) c low))
         D.lives
@@ -166,16 +166,16 @@ module _ (e : ℕ → Extent) (p : PenPart) (sound : IsSound e p) where
     drafted_goes = draft_life.1
 
   -- a dead mark
-  module _ (row : ℕ) (may : MayBury (sheet_of p) row) where
+  module _ (row : ℕ) (may : MayBury (pen_sheet p) row) where
     abbrev B : PenPart
     B = pen_buried row p
 
     bury_life : Known K (state_in B) e T × Goes K (state_in p) (state_in B) e e T T
-    bury_life = bury_leaves K (sheet_of p) row e T (still_full e p sound) may sound.known
+    bury_life = bury_leaves K (pen_sheet p) row e T (still_full e p sound) may sound.known
 
-    pub buried_sound : IsSound e B
+    pub buried_sound : IsSoundPen e B
     buried_sound = written_sound e p B.words p.lives B.buried sound bury_life.0
-        (bury_stands K (sheet_of p) e T sound.known row may sound.tree)
+        (bury_stands K (pen_sheet p) e T sound.known row may sound.tree)
         (live_kept K (state_in p) e T sound.known B.words
         (λ r has live c above low. col_others (rooted_in p) row 0 (dead_mark row) may.at r c (λ same. omega arith) (two_slots (kind_width K) (kind_at K (e r).level) c low))
         p.lives (λ r has. ((λ live. live), (λ live. live))) sound.live)
@@ -188,12 +188,12 @@ module _ (e : ℕ → Extent) (p : PenPart) (sound : IsSound e p) where
     buried_goes = bury_life.1
 
   -- a parent word or a gap word
-  module _ (row col word : ℕ) (may : MayTend (sheet_of p) row col word) where
+  module _ (row col word : ℕ) (may : MayTend (pen_sheet p) row col word) where
     abbrev G : PenPart
     G = pen_tended row col word p
 
     tend_life : Known K (state_in G) e T × Goes K (state_in p) (state_in G) e e T T
-    tend_life = tend_leaves K (sheet_of p) row col word e T (still_full e p sound) may sound.known
+    tend_life = tend_leaves K (pen_sheet p) row col word e T (still_full e p sound) may sound.known
 
     tend_slots : Same G.words
     tend_slots r has live c above low = let inside = two_slots (kind_width K) (kind_at K (e r).level) c low in ⊎_elim
@@ -205,9 +205,9 @@ module _ (e : ℕ → Extent) (p : PenPart) (sound : IsSound e p) where
         (cases_eq r row))
         may.column
 
-    pub tended_sound : IsSound e G
+    pub tended_sound : IsSoundPen e G
     tended_sound = written_sound e p G.words p.lives p.buried sound tend_life.0
-        (tend_stands K (sheet_of p) e T sound.known row col word (still_full e p sound) may sound.tree)
+        (tend_stands K (pen_sheet p) e T sound.known row col word (still_full e p sound) may sound.tree)
         (live_kept K (state_in p) e T sound.known G.words tend_slots p.lives (λ r has. ((λ live. live), (λ live. live))) sound.live)
         (length-set p.words (column_at (kind_width K) row col) word)
         refl
@@ -220,10 +220,10 @@ module _ (e : ℕ → Extent) (p : PenPart) (sound : IsSound e p) where
 -- ---- the steps
 
 -- a store of a column that leaves all else that the pen knows but lives and buryings
-pub storing : (told : Told) (slots by : ℕ) (me : M) (i new : ℕ) (lives : List Life) (burials : List Bool) → HasPen me.0
-    → rows_at (kind_width (pen_of me.0).shape.kind) ≤ i → i < size_of (kind_width (pen_of me.0).shape.kind) (pen_of me.0).shape.rows
+pub storing : (told : TableStart) (slots by : ℕ) (me : M) (i new : ℕ) (lives : List Life) (burials : List Bool) → HasPen me.0
+    → first_row_column (kind_width (pen_of me.0).shape.kind) ≤ i → i < table_size (kind_width (pen_of me.0).shape.kind) (pen_of me.0).shape.rows
     → let p = pen_of me.0 in let n : PenPart = record p { words = slice_set p.words i new; lives = lives; buried = burials } in
-    ((e : ℕ → Extent) → IsSound e p → IsSound e n × Goes p.shape.kind (state_in p) (state_in n) e e (moment_at p.shape p.history) (moment_at p.shape p.history))
+    ((e : ℕ → Extent) → IsSoundPen e p → IsSoundPen e n × Goes p.shape.kind (state_in p) (state_in n) e e (moment_at p.shape p.history) (moment_at p.shape p.history))
     → Allows (IsKept told) slots by me i (λ _. new) (λ _ me'. me'.0 ≡ record me.0 { pen = Some n })
 storing told slots by me i new lives burials has high low after s r₀ _ at _ =
     let v = me.0 in let p = pen_of v in
@@ -241,16 +241,16 @@ storing told slots by me i new lives burials has high low after s r₀ _ at _ =
       refl,
     )
 
-pub drafting : (told : Told) (slots by : ℕ) (me : M) (row col new : ℕ) → HasPen me.0 → let p = pen_of me.0 in let i = column_at (kind_width p.shape.kind) row col in
-    rows_at (kind_width p.shape.kind) ≤ i → i < size_of (kind_width p.shape.kind) p.shape.rows → IsPlace (rooted_in p) row col → IsFree (least_of p.cleared) (life_of p.lives row)
+pub drafting : (told : TableStart) (slots by : ℕ) (me : M) (row col new : ℕ) → HasPen me.0 → let p = pen_of me.0 in let i = column_at (kind_width p.shape.kind) row col in
+    first_row_column (kind_width p.shape.kind) ≤ i → i < table_size (kind_width p.shape.kind) p.shape.rows → IsPlace (rooted_in p) row col → IsFree (least_number p.cleared) (life_of p.lives row)
     → Allows (IsKept told) slots by me i (λ _. new) (λ _. drafts row col (step slots i new 0 none) me new)
 drafting told slots by me row col new has high low place free =
     let p = pen_of me.0 in let n = pen_drafted row col new p in
     storing told slots by me (column_at (kind_width p.shape.kind) row col) new n.lives n.buried has high low (λ e sound. (drafted_sound e p sound row col new place free, drafted_goes e p sound row col new place free))
 
 -- A load of a column that holds the word already is the store of that word.
-pub finding_drafted : (told : Told) (slots by : ℕ) (me : M) (row col word : ℕ) → HasPen me.0 → let p = pen_of me.0 in let i = column_at (kind_width p.shape.kind) row col in
-    rows_at (kind_width p.shape.kind) ≤ i → i < size_of (kind_width p.shape.kind) p.shape.rows → IsPlace (rooted_in p) row col → IsFree (least_of p.cleared) (life_of p.lives row)
+pub finding_drafted : (told : TableStart) (slots by : ℕ) (me : M) (row col word : ℕ) → HasPen me.0 → let p = pen_of me.0 in let i = column_at (kind_width p.shape.kind) row col in
+    first_row_column (kind_width p.shape.kind) ≤ i → i < table_size (kind_width p.shape.kind) p.shape.rows → IsPlace (rooted_in p) row col → IsFree (least_number p.cleared) (life_of p.lives row)
     → Allows (IsKept told) slots by me i (λ n. n) (finds_drafted row col word (step slots i 0 0 none) me)
 finding_drafted told slots by me row col word has high low place free s r homes at small =
     let v = me.0 in let p = pen_of v in let i = column_at (kind_width p.shape.kind) row col in
@@ -263,15 +263,15 @@ finding_drafted told slots by me row col word has high low place free s r homes 
     (v, keeps, tt, unchanged told s known by v at i, ((λ same. absurd (off same)), (λ _. refl))))
     (cases_eq (slice_index s.words i) word)
 
-pub burying : (told : Told) (slots by : ℕ) (me : M) (row : ℕ) → HasPen me.0 → let p = pen_of me.0 in let i = column_at (kind_width p.shape.kind) row 0 in
-    rows_at (kind_width p.shape.kind) ≤ i → i < size_of (kind_width p.shape.kind) p.shape.rows → MayBury (sheet_of p) row
+pub burying : (told : TableStart) (slots by : ℕ) (me : M) (row : ℕ) → HasPen me.0 → let p = pen_of me.0 in let i = column_at (kind_width p.shape.kind) row 0 in
+    first_row_column (kind_width p.shape.kind) ≤ i → i < table_size (kind_width p.shape.kind) p.shape.rows → MayBury (pen_sheet p) row
     → Allows (IsKept told) slots by me i (λ _. dead_mark row) (λ _. buries row (step slots i (dead_mark row) 0 none) me (dead_mark row))
 burying told slots by me row has high low may =
     let p = pen_of me.0 in let n = pen_buried row p in
     storing told slots by me (column_at (kind_width p.shape.kind) row 0) (dead_mark row) n.lives n.buried has high low (λ e sound. (buried_sound e p sound row may, buried_goes e p sound row may))
 
-pub tending : (told : Told) (slots by : ℕ) (me : M) (row col new : ℕ) → HasPen me.0 → let p = pen_of me.0 in let i = column_at (kind_width p.shape.kind) row col in
-    rows_at (kind_width p.shape.kind) ≤ i → i < size_of (kind_width p.shape.kind) p.shape.rows → MayTend (sheet_of p) row col new
+pub tending : (told : TableStart) (slots by : ℕ) (me : M) (row col new : ℕ) → HasPen me.0 → let p = pen_of me.0 in let i = column_at (kind_width p.shape.kind) row col in
+    first_row_column (kind_width p.shape.kind) ≤ i → i < table_size (kind_width p.shape.kind) p.shape.rows → MayTend (pen_sheet p) row col new
     → Allows (IsKept told) slots by me i (λ _. new) (λ _. tends row col (step slots i new 0 none) me new)
 tending told slots by me row col new has high low may =
     let p = pen_of me.0 in let n = pen_tended row col new p in

@@ -15,20 +15,20 @@ use Rattle.mt_life.specs.Known.{Known, Goes}
 use Rattle.mt_life.proofs.Ends.{raise_turns}
 use Rattle.mt_rows.proofs.Lists.{all_map}
 use native.Mathlib.Decide.{dec_le}
-use Rattle.mt_rule.specs.declared.views.Told.{Told}
+use Rattle.mt_rule.specs.declared.views.TableStart.{TableStart}
 use Rattle.mt_rule.specs.declared.views.View.{View}
 use Rattle.mt_rule.specs.declared.views.PenPart.{PenPart}
 use Rattle.mt_rule.specs.declared.views.PassPart.{PassPart}
 use Rattle.mt_rule.specs.Places.{section_at, section_word, IsSectionWord}
-use Rattle.mt_rule.specs.Seats.{HasPen, pen_of, pass_of, least_of, moment_at, records_of, state_in}
-use Rattle.mt_rule.specs.Rule.{IsOneHistory, IsSound, PassFits, WordsFit, IsKept}
+use Rattle.mt_rule.specs.Seats.{HasPen, pen_of, pass_of, least_number, moment_at, records_of, state_in}
+use Rattle.mt_rule.specs.Rule.{IsOneHistory, IsSoundPen, PassFits, WordsFit, IsKept}
 use Rattle.mt_rule.specs.Steps.{raised, with_loaded, pen_scanned, loads_section}
 use Rattle.mt_rule.proofs.Carrying.{Stays, recast, carry, carries_life, still_sound}
 use Rattle.mt_rule.proofs.Writing.{M}
 
 -- ---- the least of numbers of which one rises
 
-least_up : (ns : List ℕ) (k n : ℕ) → slice_index ns k ≤ n → least_of ns ≤ least_of (slice_set ns k n)
+least_up : (ns : List ℕ) (k n : ℕ) → slice_index ns k ≤ n → least_number ns ≤ least_number (slice_set ns k n)
 least_up [] k n up = omega arith
 least_up (m ∷ []) zero n up = up
 least_up (m ∷ []) (suc k) n up = omega arith
@@ -69,7 +69,7 @@ either x y xs (suc k, low, is) = inr (k, omega arith, is)
 
 -- ---- what the pen knows then
 
-module _ (e : ℕ → Extent) (p : PenPart) (k found : ℕ) (words : List ℕ) (sound : IsSound e p) (fit : WordsFit words p) (low : k < p.shape.passes) (is : found ≡ slice_index words (section_at k)) where
+module _ (e : ℕ → Extent) (p : PenPart) (k found : ℕ) (words : List ℕ) (sound : IsSoundPen e p) (fit : WordsFit words p) (low : k < p.shape.passes) (is : found ≡ slice_index words (section_at k)) where
   abbrev N : PenPart
   N = pen_scanned k found p
 
@@ -140,9 +140,9 @@ module _ (e : ℕ → Extent) (p : PenPart) (k found : ℕ) (words : List ℕ) (
   }
 
   life : Known p.shape.kind (state_in N) e (moment_at p.shape p.history) × Goes p.shape.kind (state_in p) (state_in N) e e (moment_at p.shape p.history) (moment_at p.shape p.history)
-  life = raise_turns p.shape.kind (state_in p) (least_of N.cleared) e (moment_at p.shape p.history) (least_up p.cleared k now up) sound.known
+  life = raise_turns p.shape.kind (state_in p) (least_number N.cleared) e (moment_at p.shape p.history) (least_up p.cleared k now up) sound.known
 
-  pub scanned_sound : IsSound e N
+  pub scanned_sound : IsSoundPen e N
   scanned_sound = still_sound e p N sound scanned_history life.0 sound.dead (length-set p.cleared k now ∙ sound.passes) (λ j few. ⊎_elim
       (λ (same : j ≡ k). subst (λ (i : ℕ). slice_index N.cleared i ≤ p.ended) (sym same) (let new = cleared_here in let most = high in omega arith))
       (λ (off : j ≢ k). let old = cleared_else j off in let most = sound.cleared j few in omega arith)
@@ -195,7 +195,7 @@ module _ (e : ℕ → Extent) (p : PenPart) (k found : ℕ) (words : List ℕ) (
     pub scanned_stays : Stays p N q
     scanned_stays = record { all = refl; loaded = loaded_here; clear = clear_here }
 
-pub scanning : (told : Told) (slots by : ℕ) (me : M) (k : ℕ) → HasPen me.0 → k < (pen_of me.0).shape.passes → Allows (IsKept told) slots by me (section_at k) (λ n. n) (loads_section k (step slots (section_at k) 0 0 none) me)
+pub scanning : (told : TableStart) (slots by : ℕ) (me : M) (k : ℕ) → HasPen me.0 → k < (pen_of me.0).shape.passes → Allows (IsKept told) slots by me (section_at k) (λ n. n) (loads_section k (step slots (section_at k) 0 0 none) me)
 scanning told slots by me k has low s r₀ _ at _ =
     let v = me.0 in let p = pen_of v in
     let r = recast told s r₀ p (sym ((r₀.each by v at).keeper p has).1) in

@@ -9,17 +9,17 @@ use Rattle.mt_base.specs.Call.{acted}
 use Rattle.mt_base.specs.History.{limits_after}
 use Rattle.mt_base.specs.Nodes.{IsRefused}
 use Rattle.mt_rows.specs.declared.rows.Scan.{Scan}
-use Rattle.mt_rows.specs.Publish.{IsCounted, NoneBuried, map_by}
+use Rattle.mt_rows.specs.Publish.{IsRealShortage, NoneBuried, map_by}
 use Rattle.mt_rule.specs.declared.views.PenPart.{PenPart}
 use Rattle.mt_rule.specs.Scans.{IsScanOf}
-use Rattle.mt_rule.specs.Seats.{rooted_in, sheet_of, tree_of}
+use Rattle.mt_rule.specs.Seats.{rooted_in, pen_sheet, tree_of}
 
 -- Too few rows are free: the shortage is counted by a scan of this call. Its least epoch is that of the holder that it tells,
 -- who was found with a section open; it is the greatest number where it tells none.
-pub record IsFoundShort (p : PenPart) (call : Call) (reply : Reply) : Type 0 where
+pub record IsPenShort (p : PenPart) (call : Call) (reply : Reply) : Type 0 where
   pub scan : Scan
   pub refused : IsRefused p.shape.kind (limits_after (tree_of p.shape p.history) p.ended) (map_by (rooted_in p)) call reply
-  pub counted : IsCounted (record (sheet_of p) { scan = scan }) refused.shortage
+  pub counted : IsRealShortage (record (pen_sheet p) { scan = scan }) refused.shortage
   pub least : ((scan.by ≡ None) × (scan.least ≡ 2 ^ 64 - 1)) ⊎ ((holder : Holder) × (scan.by ≡ Some holder) × (scan.least ≡ holder.epoch))
   pub found : IfSome scan.by (Contains p.loaded)
   pub scanned : IsScanOf p.sections p.shape.passes scan
@@ -27,7 +27,7 @@ pub record IsFoundShort (p : PenPart) (call : Call) (reply : Reply) : Type 0 whe
 -- A call that published nothing leaves the map, by its reply or by a refusal, and has buried no row.
 pub record EndsQuietly (p : PenPart) (call : Call) (reply : Reply) : Type 0 where
   pub none_buried : NoneBuried p.shape.rows p.buried
-  pub answer : (acted p.shape.kind (map_by (rooted_in p)) call ≡ (map_by (rooted_in p), reply)) ⊎ IsFoundShort p call reply
+  pub answer : (acted p.shape.kind (map_by (rooted_in p)) call ≡ (map_by (rooted_in p), reply)) ⊎ IsPenShort p call reply
 
 pub record MayEnd (p : PenPart) (call : Call) (reply : Reply) : Type 0 where
   pub in_flight : p.in_flight ≡ true

@@ -35,11 +35,11 @@ abbrev pub IsRowAt : Width → RowAt → Type 0
 IsRowAt width row = row.base ≡ column_at width row.number 0
 
 -- the first column of the first row, and how many words there are
-abbrev pub rows_at : Width → ℕ
-rows_at width = columns width * first_row
+abbrev pub first_row_column : Width → ℕ
+first_row_column width = columns width * first_row
 
-abbrev pub size_of : Width → ℕ → ℕ
-size_of width rows = columns width * (first_row + rows)
+abbrev pub table_size : Width → ℕ → ℕ
+table_size width rows = columns width * (first_row + rows)
 
 -- what a section word says: 0 where the section is closed
 abbrev pub section_word : Option ℕ → ℕ
@@ -62,13 +62,13 @@ abbrev pub IsWordPlace : Rooted → Place → Type 0
 IsWordPlace t Root = Unit {0}
 IsWordPlace t (Slot row col) = IsPlace t row col
 
-abbrev pub word_in : Rooted → Place → ℕ
-word_in t Root = t.root
-word_in t (Slot row col) = word_at t row col
+abbrev pub word_of_place : Rooted → Place → ℕ
+word_of_place t Root = t.root
+word_of_place t (Slot row col) = word_at t row col
 
 -- The words of a table that opens with these rows: no call has begun, and every section is closed.
 pub record AreOpening (t : Rooted) (words : List ℕ) : Type 0 where
-  pub size : length words ≡ size_of t.table.width t.rows
-  pub none : (i : ℕ) → i ≢ root_at → i < rows_at t.table.width → slice_index words i ≡ 0
+  pub size : length words ≡ table_size t.table.width t.rows
+  pub none : (i : ℕ) → i ≢ root_at → i < first_row_column t.table.width → slice_index words i ≡ 0
   pub root : slice_index words root_at ≡ t.root
-  pub columns : (i : ℕ) → rows_at t.table.width ≤ i → slice_index words i ≡ slice_index t.table.words i
+  pub columns : (i : ℕ) → first_row_column t.table.width ≤ i → slice_index words i ≡ slice_index t.table.words i

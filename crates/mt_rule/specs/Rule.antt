@@ -17,13 +17,13 @@ use Rattle.mt_life.specs.Holding.{HoldsRow}
 use Rattle.mt_rows.specs.Levels.{one_if}
 use Rattle.mt_rows.specs.Publish.{IsTreeOf, LiveAreReached}
 use Rattle.mt_rows.specs.Sheet.{HasDied, life_of}
-use Rattle.mt_rule.specs.declared.views.Told.{Told}
+use Rattle.mt_rule.specs.declared.views.TableStart.{TableStart}
 use Rattle.mt_rule.specs.declared.views.View.{View}
 use Rattle.mt_rule.specs.declared.views.PenPart.{PenPart}
 use Rattle.mt_rule.specs.declared.views.PassPart.{PassPart}
 use Rattle.mt_rule.specs.declared.views.NotePart.{NotePart}
 use Rattle.mt_rule.specs.Limits.{most_passes, most_calls}
-use Rattle.mt_rule.specs.Places.{commits_at, begun_at, root_at, section_at, rows_at, size_of, section_word, IsSectionWord, IsUnnamed}
+use Rattle.mt_rule.specs.Places.{commits_at, begun_at, root_at, section_at, first_row_column, table_size, section_word, IsSectionWord, IsUnnamed}
 use Rattle.mt_rule.specs.Seats.{moment_at, records_of, rooted_in, shape_told, state_in, tree_of}
 
 -- how many calls have begun
@@ -46,13 +46,13 @@ pub record IsOneHistory (p : PenPart) : Type 0 where
 
 -- What the pen knows of rows, which stand at these extents, is all that is known of them at every moment: the words are a tree
 -- for the map after all calls of the history, and its rows are the live ones.
-pub record IsSound (extents : ℕ → Extent) (p : PenPart) : Type 0 where
+pub record IsSoundPen (extents : ℕ → Extent) (p : PenPart) : Type 0 where
   pub history : IsOneHistory p
   pub known : Known p.shape.kind (state_in p) extents (moment_at p.shape p.history)
   pub tree : IsTreeOf (rooted_in p) p.shape.kind
   pub live : LiveAreReached (rooted_in p) p.lives
   pub rows : p.shape.rows ≤ most_rows
-  pub words : length p.words ≡ size_of (kind_width p.shape.kind) p.shape.rows
+  pub words : length p.words ≡ table_size (kind_width p.shape.kind) p.shape.rows
   pub lives : length p.lives ≡ first_row + p.shape.rows
   pub buried : length p.buried ≡ first_row + p.shape.rows
   pub dead : (row : ℕ) → HasDied p.ended p.in_flight (life_of p.lives row)
@@ -64,14 +64,14 @@ pub record IsSound (extents : ℕ → Extent) (p : PenPart) : Type 0 where
 -- The words of the table are what the pen knows. A section word is 0 or of an epoch that has been, and 0 of a pass that was not
 -- dealt. A word above the rows that has no name is 0.
 pub record WordsFit (words : List ℕ) (p : PenPart) : Type 0 where
-  pub size : length words ≡ size_of (kind_width p.shape.kind) p.shape.rows
+  pub size : length words ≡ table_size (kind_width p.shape.kind) p.shape.rows
   pub commits : slice_index words commits_at ≡ p.ended
   pub begun : slice_index words begun_at ≡ begun_by p
   pub root : slice_index words root_at ≡ p.root
   pub sections : (k : ℕ) → k < p.shape.passes → IsSectionWord p.ended (slice_index words (section_at k))
   pub undealt : (k : ℕ) → p.dealt ≤ k → k < p.shape.passes → slice_index words (section_at k) ≡ 0
-  pub unnamed : (i : ℕ) → i < rows_at (kind_width p.shape.kind) → IsUnnamed p.shape.passes i → slice_index words i ≡ 0
-  pub columns : (i : ℕ) → rows_at (kind_width p.shape.kind) ≤ i → slice_index words i ≡ slice_index p.words i
+  pub unnamed : (i : ℕ) → i < first_row_column (kind_width p.shape.kind) → IsUnnamed p.shape.passes i → slice_index words i ≡ 0
+  pub columns : (i : ℕ) → first_row_column (kind_width p.shape.kind) ≤ i → slice_index words i ≡ slice_index p.words i
 
 -- ---- what a pass knows
 
@@ -124,12 +124,12 @@ pub record ViewFits (pen : ℕ) (owner : ℕ → ℕ) (extents : ℕ → Extent)
 
 -- ---- the rule
 
-pub record IsKept (told : Told) (s : State (Unit {0}) View) : Type 0 where
+pub record IsKept (told : TableStart) (s : State (Unit {0}) View) : Type 0 where
   pub pen : ℕ
   pub owner : ℕ → ℕ
   pub extents : ℕ → Extent
   pub part : PenPart
   pub shaped : part.shape ≡ shape_told told
-  pub sound : IsSound extents part
+  pub sound : IsSoundPen extents part
   pub words : WordsFit s.words part
   pub each : (by : ℕ) (v : View) → get_elem? s.views by ≡ some v → ViewFits pen owner extents part s.words by v

@@ -30,11 +30,11 @@ words_from pass (word ∷ words) = record { pass = pass; word = word } ∷ words
 abbrev pub last_loaded : ℕ → List SectionWord → List SectionWord
 last_loaded n sections = drop (length sections - n) sections
 
-abbrev pub word_of : SectionWord → ℕ
-word_of s = s.word
+abbrev pub loaded_word : SectionWord → ℕ
+loaded_word s = s.word
 
 abbrev pub last_words : ℕ → List SectionWord → List ℕ
-last_words n sections = map word_of (last_loaded n sections)
+last_words n sections = map loaded_word (last_loaded n sections)
 
 -- The last section words that were loaded are one of each of so many passes, in turn, and this is what they show.
 pub record IsScanOf (sections : List SectionWord) (passes : ℕ) (scan : Scan) : Type 0 where

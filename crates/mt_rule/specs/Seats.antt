@@ -18,7 +18,7 @@ use Rattle.mt_rows.specs.Memory.{sheet_in}
 use Rattle.mt_rows.specs.Publish.{map_by, is_reached}
 use Rattle.mt_rows.specs.Sheet.{Rooted, Sheet}
 use Rattle.mt_rows.specs.Trees.{reached_in}
-use Rattle.mt_rule.specs.declared.views.Told.{Told}
+use Rattle.mt_rule.specs.declared.views.TableStart.{TableStart}
 use Rattle.mt_rule.specs.declared.views.Shape.{Shape}
 use Rattle.mt_rule.specs.declared.views.Moment.{Moment}
 use Rattle.mt_rule.specs.declared.views.View.{View}
@@ -33,7 +33,7 @@ use Rattle.mt_rule.specs.Scans.{none_open}
 abbrev pub shape_opening : Kind → Rooted → ℕ → ℕ → Shape
 shape_opening kind t passes calls = record { kind = kind; rows = t.rows; passes = passes; calls = calls; opening = map_by t; cuts = cuts_by t; opened = length (reached_in t.table t.root) }
 
-abbrev pub shape_told : Told → Shape
+abbrev pub shape_told : TableStart → Shape
 shape_told t = shape_opening t.kind (sheet_in t.rows.value).tree t.passes t.calls
 
 abbrev pub no_shape : Shape
@@ -67,8 +67,8 @@ abbrev pub moment_at : Shape → List Moment → ℕ → life.Moment
 moment_at shape moments k = record { ranges = map_at (tree_of shape moments) k; cuts = cuts_at shape moments k }
 
 -- the longer of two beginnings of one history
-abbrev pub longer_of : List Moment → List Moment → List Moment
-longer_of xs ys = if nat_lt (length xs) (length ys) then ys else xs
+abbrev pub longer_history : List Moment → List Moment → List Moment
+longer_history xs ys = if nat_lt (length xs) (length ys) then ys else xs
 
 -- ---- parts
 
@@ -140,7 +140,7 @@ HasNote v = v.note ≡ Some (note_of v)
 abbrev pub no_view : View
 no_view = record { pen = None; pass = None; note = None }
 
-abbrev pub opening_view : Told → View
+abbrev pub opening_view : TableStart → View
 opening_view told = record no_view { pen = Some (new_pen (shape_told told) (sheet_in told.rows.value).tree) }
 
 -- the pen after it has dealt a pass, and the new pass's view
@@ -176,17 +176,17 @@ abbrev pub rooted_in : PenPart → Rooted
 rooted_in p = record { rows = p.shape.rows; table = record { width = kind_width p.shape.kind; words = p.words }; root = p.root }
 
 -- the least of some numbers, and 0 of none
-abbrev pub least_of : List ℕ → ℕ
-least_of [] = 0
-least_of (n ∷ []) = n
-least_of (n ∷ m ∷ ns) = min n (least_of (m ∷ ns))
+abbrev pub least_number : List ℕ → ℕ
+least_number [] = 0
+least_number (n ∷ []) = n
+least_number (n ∷ m ∷ ns) = min n (least_number (m ∷ ns))
 
 abbrev pub state_in : PenPart → State
-state_in p = record { tree = rooted_in p; lives = p.lives; buried = p.buried; ended = p.ended; in_flight = p.in_flight; published = p.published; cleared = least_of p.cleared }
+state_in p = record { tree = rooted_in p; lives = p.lives; buried = p.buried; ended = p.ended; in_flight = p.in_flight; published = p.published; cleared = least_number p.cleared }
 
 -- the same as the rows of one caller, who has made no scan and tells no records
-abbrev pub sheet_of : PenPart → Sheet
-sheet_of p = record {
+abbrev pub pen_sheet : PenPart → Sheet
+pen_sheet p = record {
   tree = rooted_in p;
   ended = p.ended;
   in_flight = p.in_flight;
@@ -194,7 +194,7 @@ sheet_of p = record {
   lives = p.lives;
   buried = p.buried;
   opened = p.shape.opened;
-  cleared = least_of p.cleared;
+  cleared = least_number p.cleared;
   shared = true;
   scan = none_open;
   scans = 0;

@@ -43,9 +43,9 @@ here q = first_held q.held
 abbrev pub IsAt : PassPart → Type 0
 IsAt q = get_elem? q.held 0 ≡ some (here q)
 
-abbrev pub behind_first : List Held → List Held
-behind_first [] = []
-behind_first (x ∷ xs) = xs
+abbrev pub held_behind : List Held → List Held
+held_behind [] = []
+held_behind (x ∷ xs) = xs
 
 -- the map after the first k calls that the pass has seen, and where its leaves began
 abbrev pub moment_seen : PassPart → ℕ → life.Moment
@@ -76,7 +76,7 @@ pub record Comes (q : PassPart) (x : Held) (name since : ℕ) : Type 0 where
 
 -- The leaf x as it is known now, y: it has what the map had there after k calls, no fewer than when the root was loaded; after
 -- all calls, unless the leaf was found dead.
-pub record IsRead (q : PassPart) (x y : Held) : Type 0 where
+pub record IsLeafRead (q : PassPart) (x y : Held) : Type 0 where
   pub same : y ≡ record x { width = y.width; copy = y.copy; died = y.died }
   pub k : ℕ
   pub low : x.since ≤ k
@@ -156,8 +156,8 @@ pub record LoadedPivot (word found : ℕ) (q q' : PassPart) : Type 0 where
 
 -- A slot of the leaf that the section is at.
 pub record LoadedEntry (word found : ℕ) (q q' : PassPart) : Type 0 where
-  pub reads : Reads q q' (record (with_seen q q'.seen) { held = here q' ∷ behind_first q.held })
-  pub read : IsRead q' (here q) (here q')
+  pub reads : Reads q q' (record (with_seen q q'.seen) { held = here q' ∷ held_behind q.held })
+  pub read : IsLeafRead q' (here q) (here q')
   pub found_is : found ≡ slice_index (here q').copy word
 
 -- A slot of the inner row that the section is at: it comes to the child that covers just what the slot does.

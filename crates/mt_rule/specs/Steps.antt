@@ -22,8 +22,8 @@ use Rattle.mt_rule.specs.declared.views.PassPart.{PassPart}
 use Rattle.mt_rule.specs.declared.views.NotePart.{NotePart}
 use Rattle.mt_rule.specs.Limits.{most_calls}
 use Rattle.mt_rule.specs.Places.{column_at, section_word, IsSectionWord}
-use Rattle.mt_rule.specs.Seats.{moment, pen_of, pass_of, note_of, known_by, longer_of, records_of, tree_of, rooted_in, sheet_of, cuts_at, HasPass}
-use Rattle.mt_rule.specs.Rule.{IsSound, PassFits}
+use Rattle.mt_rule.specs.Seats.{moment, pen_of, pass_of, note_of, known_by, longer_history, records_of, tree_of, rooted_in, pen_sheet, cuts_at, HasPass}
+use Rattle.mt_rule.specs.Rule.{IsSoundPen, PassFits}
 
 -- ---- what steps make of the parts
 
@@ -84,7 +84,7 @@ quiet_moment p q call reply = moment q.number call reply (cuts_at p.shape p.hist
 
 -- a pass that has learnt what a note tells
 abbrev pub taught : PassPart → NotePart → PassPart
-taught q n = record q { seen = longer_of q.seen n.seen }
+taught q n = record q { seen = longer_history q.seen n.seen }
 
 -- ---- what steps tell
 
@@ -93,7 +93,7 @@ pub record SawAll (v : View) (found : ℕ) (w : View) : Type 0 where
   pub view : w ≡ record v { pass = Some (all_seen (pen_of v) (pass_of v)) }
   pub count : found ≡ (pen_of v).ended
   pub extents : ℕ → Extent
-  pub sound : IsSound extents (pen_of v)
+  pub sound : IsSoundPen extents (pen_of v)
   pub fits : PassFits extents (pen_of v) (pass_of v)
 
 -- The pass beside the note has then seen the longer of what it had seen and what the note tells. The note is gone.
@@ -123,8 +123,8 @@ abbrev pub Becomes : (PenPart → PenPart) → View → View → Type 0
 Becomes f v w = w ≡ record v { pen = Some (f (pen_of v)) }
 
 -- the pass's own calls are all that the history has of its number
-abbrev pub IsOwn : PenPart → PassPart → Type 0
-IsOwn p q = q.mine ≡ known.places q.number (records_of p.history)
+abbrev pub HasOwnCalls : PenPart → PassPart → Type 0
+HasOwnCalls p q = q.mine ≡ known.places q.number (records_of p.history)
 
 -- What a call that published has made of what the pen and the pass know.
 pub record WasPublished (call : Call) (reply : Reply) (p : PenPart) (q : PassPart) (p' : PenPart) (q' : PassPart) : Type 0 where
@@ -135,11 +135,11 @@ pub record WasPublished (call : Call) (reply : Reply) (p : PenPart) (q : PassPar
 
 -- The word was published at the place: the call is the last of the history, and one of the pass's own.
 pub record PublishedAt (place : Place) (word : ℕ) (call : Call) (reply : Reply) (v w : View) : Type 0 where
-  pub rows : Published (sheet_of (pen_of v)) (sheet_of (pen_of w)) place word call reply
-  pub whole : IsWhole (sheet_of (pen_of w))
+  pub rows : Published (pen_sheet (pen_of v)) (pen_sheet (pen_of w)) place word call reply
+  pub whole : IsWhole (pen_sheet (pen_of w))
   pub view : w ≡ record v { pen = Some (pen_of w); pass = Some (pass_of w) }
   pub recorded : WasPublished call reply (pen_of v) (pass_of v) (pen_of w) (pass_of w)
-  pub mine : IsOwn (pen_of w) (pass_of w)
+  pub mine : HasOwnCalls (pen_of w) (pass_of w)
 
 -- The call ended. The pass's own calls are all that the history has of its number.
 abbrev pub view_ended : Call → Reply → View → View
@@ -148,7 +148,7 @@ view_ended call reply v = let m = quiet_moment (pen_of v) (pass_of v) call reply
 
 pub record EndedCall (call : Call) (reply : Reply) (v w : View) : Type 0 where
   pub view : w ≡ view_ended call reply v
-  pub mine : IsOwn (pen_of w) (pass_of w)
+  pub mine : HasOwnCalls (pen_of w) (pass_of w)
   pub few : (pen_of w).ended ≤ most_calls
 
 -- ---- the plays, each with what its step announces

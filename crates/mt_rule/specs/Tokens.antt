@@ -22,7 +22,7 @@ use Rattle.mt_rule.specs.declared.pens.Pen.{Pen}
 use Rattle.mt_rule.specs.declared.notes.Note.{Note}
 use Rattle.mt_rule.specs.Seats.{shape_told, shape_opening, records_of, tree_of, known_by, pen_of, pass_of, note_of, pass_or, part_in, HasPass}
 use Rattle.mt_rule.specs.Limits.{most_passes, most_calls}
-use Rattle.mt_rule.specs.Rule.{IsSound}
+use Rattle.mt_rule.specs.Rule.{IsSoundPen}
 
 -- ---- tables
 
@@ -123,7 +123,7 @@ pub record IsJoined (p : Pen) : Type 0 where
   pub mine : (joined_part p).mine ≡ known.places (joined_part p).number (records_of (pen_in p).history)
 
 -- The pen goes on with the same pass, which knows what it knew.
-pub record GoesOn (t : Identity) (a b : Pen) : Type 0 where
+pub record KeepsPassOf (t : Identity) (a b : Pen) : Type 0 where
   pub of : IsPenOf t b
   pub joined : IsJoined b
   pub pass : joined_part b ≡ joined_part a
@@ -136,7 +136,7 @@ pub record WasShown (tree : History) (pen : PenPart) (p q : known.Pass) : Type 0
   pub all : q.seen ≡ records_of pen.history
   pub opened : (h : Holder) → Contains pen.loaded h → h.pass ≡ q.number → Contains q.opened h.epoch
   pub extents : ℕ → Extent
-  pub sound : IsSound extents pen
+  pub sound : IsSoundPen extents pen
 
 -- ---- notes
 

@@ -25,8 +25,8 @@ waiting key = record { holds = false; held = false; met = false; tries = 0; of =
 abbrev pub seated : Snapshot MtTable → ℕ → TurnView
 seated key tries = record (waiting key) { tries = tries }
 
-abbrev pub holding : Snapshot MtTable → TurnView
-holding key = record { holds = true; held = true; met = false; tries = 0; of = key }
+abbrev pub holding_view : Snapshot MtTable → TurnView
+holding_view key = record { holds = true; held = true; met = false; tries = 0; of = key }
 
 -- it has given the value back
 abbrev pub given_back : Snapshot MtTable → TurnView
@@ -37,8 +37,8 @@ abbrev pub refused : Snapshot MtTable → TurnView
 refused key = record { holds = false; held = false; met = true; tries = 0; of = key }
 
 -- a seat beside another, and one that counts another by which its pass goes for the value
-abbrev pub beside : TurnView → TurnView
-beside v = record v { tries = 0 }
+abbrev pub seat_beside : TurnView → TurnView
+seat_beside v = record v { tries = 0 }
 
 abbrev pub counting : TurnView → TurnView
 counting v = record v { tries = v.tries + 1 }
@@ -63,7 +63,7 @@ pub record IsSeatedAt (turn : TableId) (key : Snapshot MtTable) (p : Pass) : Typ
 -- The seat holds the value of this turn.
 pub record IsTakenOf {S : Type 0} (turn : TableId) (key : Snapshot MtTable) (seat : Seat S TurnView) : Type 0 where
   pub table : seat.table_id ≡ turn
-  pub view : seat.me.0 ≡ holding key
+  pub view : seat.me.0 ≡ holding_view key
 
 -- It is of a seat that has found the value of this turn away.
 pub record IsBusyAt (turn : TableId) (key : Snapshot MtTable) (busy : Busy) : Type 0 where
@@ -100,18 +100,18 @@ module _ {C : Type 0} (table : C → Identity) where
     pub words : s.words ≡ taken_bit home ∷ []
     pub homes : s.homes ≡ home ∷ []
     pub value : (slot : Option C) → home ≡ some slot → BelongsTo (served key) slot
-    pub away : home ≡ none → get_elem? s.views holder ≡ some (holding key)
+    pub away : home ≡ none → get_elem? s.views holder ≡ some (holding_view key)
     pub taken : ever ≡ true → HasHeld s.views holder
     pub each : (by : ℕ) (v : TurnView) → get_elem? s.views by ≡ some v → SeatFits key holder home ever by v
 
   -- A swap of 1 into the word: where it was 0, the seat then holds the value; else it has found it away.
   pub record Grabbed (me : Me (Option C) TurnView) (found : ℕ) (me' : Me (Option C) TurnView) : Type 0 where
-    pub free : found ≡ 0 → (value : C) × (me' ≡ (holding me.0.of, (0, Some value) ∷ me.1)) × (table value ≡ served me.0.of)
+    pub free : found ≡ 0 → (value : C) × (me' ≡ (holding_view me.0.of, (0, Some value) ∷ me.1)) × (table value ≡ served me.0.of)
     pub taken : found ≢ 0 → me' ≡ (refused me.0.of, me.1)
 
   -- the value has just been grabbed, and its slot is away with this seat
   abbrev pub HasGrabbed : Snapshot MtTable → Me (Option C) TurnView → Type 0
-  HasGrabbed key me = (value : C) × (me ≡ (holding key, (0, Some value) ∷ [])) × (table value ≡ served key)
+  HasGrabbed key me = (value : C) × (me ≡ (holding_view key, (0, Some value) ∷ [])) × (table value ≡ served key)
 
   abbrev pub grabs : Step (Option C) → Me (Option C) TurnView → ℕ → Me (Option C) TurnView → Type 0
   grabs step me found me' = Grabbed me found me'

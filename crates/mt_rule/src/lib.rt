@@ -23,5 +23,7 @@ pub use pens::Pen;
 pub use places::RowAt;
 pub use table::{MOST_CALLS, MOST_PASSES, MtTable, opening_words};
 pub use turn::{OfTable, Taken, Turn};
-pub use views::{Moment, NotePart, PassPart, PenPart, SectionWord, Shape, Told, TurnView, View};
+pub use views::{
+    Moment, NotePart, PassPart, PenPart, SectionWord, Shape, TableStart, TurnView, View,
+};
 pub use wide::{LongRows, OfWidth, ShortRows};

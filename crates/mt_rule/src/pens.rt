@@ -97,7 +97,7 @@ impl MtTable {
         ensures pass { IsPassOf (identity_of self.now) result }
         ensures part { part_of result ≡ record (joined_part pen.old) { ended = (pen_in pen.old).ended } }
         ensures sound { IsSound (tree_in (identity_of self.now)) (pass_in result) }
-        ensures known { (extents : ℕ → Extent) × rule.IsSound extents (pen_in pen.new) }
+        ensures known { (extents : ℕ → Extent) × rule.IsSoundPen extents (pen_in pen.new) }
         ensures turn { turn_seat result ≡ joined_turn pen.old }
     {
         let _ = self.table.shared.load::<SeesAll>(&mut pen.seat, 0);

@@ -8,7 +8,7 @@ ghost use Rattle.mt_base.specs.declared.replies.Reply.TheVariants as replies;
 ghost use Rattle.mt_rows.specs.declared.rows.Place.{Place};
 ghost use Rattle.mt_rows.specs.declared.rows.Place.TheVariants.{Root};
 
-use crate::views::{Told, View};
+use crate::views::{TableStart, View};
 use atomic_table::{Join, Play, Split, TableRule};
 use std::marker::{Brand, PhantomData};
 
@@ -16,7 +16,7 @@ use std::marker::{Brand, PhantomData};
 /// rows that a section holds have the pivots and the empty slots that they had when it came to them.
 pub struct Ruled;
 
-impl TableRule<(), View, Told> for Ruled {
+impl TableRule<(), View, TableStart> for Ruled {
     ghost use Rattle.mt_rule.specs.Rule.{IsKept};
     ghost use Rattle.mt_rule.specs.Seats.{opening_view};
 

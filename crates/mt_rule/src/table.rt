@@ -4,14 +4,14 @@ ghost use Rattle.std.specs.Prelude.{◌≡◌, ◌+◌, ◌*◌, ◌<◌, ◌≤
 ghost use Rattle.mt_base.specs.Width.{kind_width, columns, first_row, most_rows};
 ghost use Rattle.mt_rows.specs.Memory.{sheet_in};
 ghost use Rattle.mt_rule.specs.Limits.{most_calls, most_passes};
-ghost use Rattle.mt_rule.specs.Places.{commits_at, begun_at, root_at, section_at, column_at, size_of};
+ghost use Rattle.mt_rule.specs.Places.{commits_at, begun_at, root_at, section_at, column_at, table_size};
 ghost use Rattle.mt_rule.specs.Places.{AreOpening};
 ghost use Rattle.mt_rule.specs.Seats.{shape_told};
 
 use crate::passes::Pass;
 use crate::pens::Pen;
 use crate::rule::{Deals, Ruled};
-use crate::views::{Told, View};
+use crate::views::{TableStart, View};
 use crate::wide::OfWidth;
 use atomic_table::{Badge, Table};
 use mt_base::{Kind, NoMemory, Width, cols, width_of};
@@ -53,14 +53,14 @@ pub(crate) fn section_index(pass: u32) -> usize
 /// rows, under the rule that the tree has one history, for which its words stand.
 #[derive(Drop)]
 pub struct MtTable {
-    pub(crate) table: Table<(), View, Told, Ruled, Global>,
+    pub(crate) table: Table<(), View, TableStart, Ruled, Global>,
     width: Width,
     passes: u32,
     rows: u64,
     ghost many: { passes ≡ table.shared.key.passes },
     ghost sized: { rows ≡ (shape_told table.shared.key).rows },
     ghost wide: { width ≡ kind_width table.shared.key.kind },
-    ghost words: { table.shared.table_id.words ≡ size_of (kind_width table.shared.key.kind) (shape_told table.shared.key).rows },
+    ghost words: { table.shared.table_id.words ≡ table_size (kind_width table.shared.key.kind) (shape_told table.shared.key).rows },
     ghost few_rows: { (shape_told table.shared.key).rows ≤ most_rows },
     ghost few_passes: { table.shared.key.passes ≤ most_passes },
     ghost few_calls: { table.shared.key.calls ≤ most_calls },
@@ -177,7 +177,7 @@ impl MtTable {
         ensures shape { IfOk result (λ r. (identity_of r.0).shape ≡ shape_opened kind (sheet_in opening.value) passes calls) }
         ensures pen { IfOk result (λ r. IsPenOf (identity_of r.0) r.1 × IsAlone r.1 × (pen_in r.1 ≡ new_pen (identity_of r.0).shape (sheet_in opening.value).tree)) }
     {
-        let told = Told {
+        let told = TableStart {
             kind,
             passes,
             calls,

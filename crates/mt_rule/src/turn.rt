@@ -63,11 +63,11 @@ impl<C: OfTable> Play<Option<C>, TurnView> for Releases {
 struct Sits;
 
 impl Split<TurnView> for Sits {
-    ghost use Rattle.mt_rule.specs.Turns.{beside, counting};
+    ghost use Rattle.mt_rule.specs.Turns.{seat_beside, counting};
 
     ghost left = { counting };
 
-    ghost right = { beside };
+    ghost right = { seat_beside };
 }
 
 /// The lock of one tree's table, over a value of that table. Whoever takes the value has it until he gives it back.

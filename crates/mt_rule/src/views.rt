@@ -1,4 +1,4 @@
-//! What the seats of a tree's table, and of its turn, know. No value of these types but `Told` is made when the program
+//! What the seats of a tree's table, and of its turn, know. No value of these types but `TableStart` is made when the program
 //! runs.
 
 use crate::table::MtTable;
@@ -10,7 +10,7 @@ use std::snapshot::Snapshot;
 
 /// What a table is told when it is made.
 #[derive(Drop)]
-pub struct Told {
+pub struct TableStart {
     pub kind: Kind,
     pub passes: u32,
     pub calls: u64,

@@ -5,10 +5,10 @@ ghost use Rattle.mt_base.specs.Width.{kind_width};
 ghost use Rattle.mt_rows.specs.Publish.{MayPublish, Published};
 ghost use Rattle.mt_rows.specs.Sheet.{IsFree, IsPlace, IsWhole, MayBury, MayTend, life_of};
 ghost use Rattle.mt_rule.specs.Ends.{MayEnd};
-ghost use Rattle.mt_rule.specs.Places.{IsSectionWord, IsWordPlace, section_word, word_in};
-ghost use Rattle.mt_rule.specs.Seats.{rooted_in, sheet_of, least_of};
+ghost use Rattle.mt_rule.specs.Places.{IsSectionWord, IsWordPlace, section_word, word_of_place};
+ghost use Rattle.mt_rule.specs.Seats.{rooted_in, pen_sheet, least_number};
 ghost use Rattle.mt_rule.specs.Steps.{pen_begun, pen_buried, pen_drafted, pen_ended, pen_scanned, pen_tended, pass_ended, quiet_moment, WasPublished};
-ghost use Rattle.mt_rule.specs.Tokens.{identity_of, pen_in, IsPenOf, IsJoined, GoesOn, joined_part, joined_turn};
+ghost use Rattle.mt_rule.specs.Tokens.{identity_of, pen_in, IsPenOf, IsJoined, KeepsPassOf, joined_part, joined_turn};
 
 use crate::pens::Pen;
 use crate::rule::{
@@ -30,9 +30,9 @@ impl MtTable {
         requires pen { IsPenOf (identity_of self.now) pen.old }
         requires joined { IsJoined pen.old }
         requires place { IsWordPlace (rooted_in (pen_in pen.old)) at }
-        ensures on { GoesOn (identity_of self.now) pen.old pen.new }
+        ensures on { KeepsPassOf (identity_of self.now) pen.old pen.new }
         ensures pen { pen_in pen.new ≡ pen_in pen.old }
-        ensures word { result ≡ word_in (rooted_in (pen_in pen.old)) at }
+        ensures word { result ≡ word_of_place (rooted_in (pen_in pen.old)) at }
     {
         match at {
             Place::Root => self.table.shared.load::<LooksAtRoot>(&mut pen.seat, ROOT),
@@ -48,7 +48,7 @@ impl MtTable {
         requires pen { IsPenOf (identity_of self.now) pen.old }
         requires joined { IsJoined pen.old }
         requires pass { pass < (pen_in pen.old).shape.passes }
-        ensures on { GoesOn (identity_of self.now) pen.old pen.new }
+        ensures on { KeepsPassOf (identity_of self.now) pen.old pen.new }
         ensures pen { pen_in pen.new ≡ pen_scanned pass result (pen_in pen.old) }
         ensures epoch { IsSectionWord (pen_in pen.old).ended result }
         ensures own { (joined_part pen.old).number ≡ pass → result ≡ section_word (joined_part pen.old).standing }
@@ -61,7 +61,7 @@ impl MtTable {
         requires joined { IsJoined pen.old }
         requires pass { pass < (pen_in pen.old).shape.passes }
         requires announced { M.number ≡ pass }
-        ensures on { GoesOn (identity_of self.now) pen.old pen.new }
+        ensures on { KeepsPassOf (identity_of self.now) pen.old pen.new }
         ensures pen { pen_in pen.new ≡ pen_scanned pass result (pen_in pen.old) }
         ensures epoch { IsSectionWord (pen_in pen.old).ended result }
         ensures own { (joined_part pen.old).number ≡ pass → result ≡ section_word (joined_part pen.old).standing }
@@ -80,7 +80,7 @@ impl MtTable {
         requires joined { IsJoined pen.old }
         requires idle { (pen_in pen.old).in_flight ≡ false }
         requires room { (pen_in pen.old).ended < 2 ^ 62 - 1 }
-        ensures on { GoesOn (identity_of self.now) pen.old pen.new }
+        ensures on { KeepsPassOf (identity_of self.now) pen.old pen.new }
         ensures pen { pen_in pen.new ≡ pen_begun (pen_in pen.old) }
         ensures number { result ≡ (pen_in pen.old).ended + 1 }
     {
@@ -98,8 +98,8 @@ impl MtTable {
         requires pen { IsPenOf (identity_of self.now) pen.old }
         requires joined { IsJoined pen.old }
         requires place { IsPlace (rooted_in (pen_in pen.old)) row col }
-        requires free { IsFree (least_of (pen_in pen.old).cleared) (life_of (pen_in pen.old).lives row) }
-        ensures on { GoesOn (identity_of self.now) pen.old pen.new }
+        requires free { IsFree (least_number (pen_in pen.old).cleared) (life_of (pen_in pen.old).lives row) }
+        ensures on { KeepsPassOf (identity_of self.now) pen.old pen.new }
         ensures pen { pen_in pen.new ≡ pen_drafted row col word (pen_in pen.old) }
     {
         if !self.finds_drafted::<Brand, K>(pen, row, col, word) {
@@ -119,9 +119,9 @@ impl MtTable {
         requires pen { IsPenOf (identity_of self.now) pen.old }
         requires joined { IsJoined pen.old }
         requires place { IsPlace (rooted_in (pen_in pen.old)) row col }
-        requires free { IsFree (least_of (pen_in pen.old).cleared) (life_of (pen_in pen.old).lives row) }
+        requires free { IsFree (least_number (pen_in pen.old).cleared) (life_of (pen_in pen.old).lives row) }
         requires announced { (M.number ≡ row) × (M.column ≡ col) × (M.word ≡ word) }
-        ensures on { GoesOn (identity_of self.now) pen.old pen.new }
+        ensures on { KeepsPassOf (identity_of self.now) pen.old pen.new }
         ensures pen { pen_in pen.new ≡ (if result then pen_drafted row col word (pen_in pen.old) else pen_in pen.old) }
     {
         let at = self.column_index::<K>(row, col);
@@ -134,9 +134,9 @@ impl MtTable {
         requires pen { IsPenOf (identity_of self.now) pen.old }
         requires joined { IsJoined pen.old }
         requires place { IsPlace (rooted_in (pen_in pen.old)) row col }
-        requires free { IsFree (least_of (pen_in pen.old).cleared) (life_of (pen_in pen.old).lives row) }
+        requires free { IsFree (least_number (pen_in pen.old).cleared) (life_of (pen_in pen.old).lives row) }
         requires announced { (M.number ≡ row) × (M.column ≡ col) }
-        ensures on { GoesOn (identity_of self.now) pen.old pen.new }
+        ensures on { KeepsPassOf (identity_of self.now) pen.old pen.new }
         ensures pen { pen_in pen.new ≡ pen_drafted row col word (pen_in pen.old) }
     {
         let at = self.column_index::<K>(row, col);
@@ -150,8 +150,8 @@ impl MtTable {
         requires wide { K.wide ≡ kind_width (identity_of self.now).shape.kind }
         requires pen { IsPenOf (identity_of self.now) pen.old }
         requires joined { IsJoined pen.old }
-        requires may { MayBury (sheet_of (pen_in pen.old)) row }
-        ensures on { GoesOn (identity_of self.now) pen.old pen.new }
+        requires may { MayBury (pen_sheet (pen_in pen.old)) row }
+        ensures on { KeepsPassOf (identity_of self.now) pen.old pen.new }
         ensures pen { pen_in pen.new ≡ pen_buried row (pen_in pen.old) }
     {
         self.bury_at::<Brand, K>(pen, row);
@@ -161,9 +161,9 @@ impl MtTable {
         requires wide { K.wide ≡ kind_width (identity_of self.now).shape.kind }
         requires pen { IsPenOf (identity_of self.now) pen.old }
         requires joined { IsJoined pen.old }
-        requires may { MayBury (sheet_of (pen_in pen.old)) row }
+        requires may { MayBury (pen_sheet (pen_in pen.old)) row }
         requires announced { M.number ≡ row }
-        ensures on { GoesOn (identity_of self.now) pen.old pen.new }
+        ensures on { KeepsPassOf (identity_of self.now) pen.old pen.new }
         ensures pen { pen_in pen.new ≡ pen_buried row (pen_in pen.old) }
     {
         let at = self.column_index::<K>(row, 0);
@@ -178,8 +178,8 @@ impl MtTable {
         requires wide { K.wide ≡ kind_width (identity_of self.now).shape.kind }
         requires pen { IsPenOf (identity_of self.now) pen.old }
         requires joined { IsJoined pen.old }
-        requires may { MayTend (sheet_of (pen_in pen.old)) row col word }
-        ensures on { GoesOn (identity_of self.now) pen.old pen.new }
+        requires may { MayTend (pen_sheet (pen_in pen.old)) row col word }
+        ensures on { KeepsPassOf (identity_of self.now) pen.old pen.new }
         ensures pen { pen_in pen.new ≡ pen_tended row col word (pen_in pen.old) }
     {
         if self.load_word::<K>(pen, Place::Slot { row, col }) != word {
@@ -191,9 +191,9 @@ impl MtTable {
         requires wide { K.wide ≡ kind_width (identity_of self.now).shape.kind }
         requires pen { IsPenOf (identity_of self.now) pen.old }
         requires joined { IsJoined pen.old }
-        requires may { MayTend (sheet_of (pen_in pen.old)) row col word }
+        requires may { MayTend (pen_sheet (pen_in pen.old)) row col word }
         requires announced { (M.number ≡ row) × (M.column ≡ col) }
-        ensures on { GoesOn (identity_of self.now) pen.old pen.new }
+        ensures on { KeepsPassOf (identity_of self.now) pen.old pen.new }
         ensures pen { pen_in pen.new ≡ pen_tended row col word (pen_in pen.old) }
     {
         let at = self.column_index::<K>(row, col);
@@ -212,11 +212,11 @@ impl MtTable {
         requires wide { K.wide ≡ kind_width (identity_of self.now).shape.kind }
         requires pen { IsPenOf (identity_of self.now) pen.old }
         requires joined { IsJoined pen.old }
-        requires may { MayPublish (pen_in pen.old).shape.kind (sheet_of (pen_in pen.old)) place word call.now reply.now }
+        requires may { MayPublish (pen_in pen.old).shape.kind (pen_sheet (pen_in pen.old)) place word call.now reply.now }
         ensures of { IsPenOf (identity_of self.now) pen.new }
         ensures joined { IsJoined pen.new }
-        ensures rows { Published (sheet_of (pen_in pen.old)) (sheet_of (pen_in pen.new)) place word call.now reply.now }
-        ensures whole { IsWhole (sheet_of (pen_in pen.new)) }
+        ensures rows { Published (pen_sheet (pen_in pen.old)) (pen_sheet (pen_in pen.new)) place word call.now reply.now }
+        ensures whole { IsWhole (pen_sheet (pen_in pen.new)) }
         ensures recorded { WasPublished call.now reply.now (pen_in pen.old) (joined_part pen.old) (pen_in pen.new) (joined_part pen.new) }
         ensures turn { joined_turn pen.new ≡ joined_turn pen.old }
     {
@@ -234,12 +234,12 @@ impl MtTable {
         requires wide { K.wide ≡ kind_width (identity_of self.now).shape.kind }
         requires pen { IsPenOf (identity_of self.now) pen.old }
         requires joined { IsJoined pen.old }
-        requires may { MayPublish (pen_in pen.old).shape.kind (sheet_of (pen_in pen.old)) place word call.now reply.now }
+        requires may { MayPublish (pen_in pen.old).shape.kind (pen_sheet (pen_in pen.old)) place word call.now reply.now }
         requires announced { (M.place ≡ place) × (M.call ≡ call.now) × (M.reply ≡ reply.now) }
         ensures of { IsPenOf (identity_of self.now) pen.new }
         ensures joined { IsJoined pen.new }
-        ensures rows { Published (sheet_of (pen_in pen.old)) (sheet_of (pen_in pen.new)) place word call.now reply.now }
-        ensures whole { IsWhole (sheet_of (pen_in pen.new)) }
+        ensures rows { Published (pen_sheet (pen_in pen.old)) (pen_sheet (pen_in pen.new)) place word call.now reply.now }
+        ensures whole { IsWhole (pen_sheet (pen_in pen.new)) }
         ensures recorded { WasPublished call.now reply.now (pen_in pen.old) (joined_part pen.old) (pen_in pen.new) (joined_part pen.new) }
         ensures turn { joined_turn pen.new ≡ joined_turn pen.old }
     {

@@ -8,7 +8,7 @@ use Rattle.mt_base.specs.History.{Record, History, map_at, last_map}
 use Rattle.mt_base.specs.Passes.{Begins, with_records}
 use Rattle.mt_log.specs.Run.{Outcome, Called, Looked, Counted, Step, calls_before, is_call}
 use Rattle.mt_runs.specs.Phases.{Counts}
-use Rattle.mt_runs.specs.Tracks.{CountsAt, number_of}
+use Rattle.mt_runs.specs.Tracks.{CountsAt, call_number}
 use Rattle.mt_runs.proofs.Once.{numbers_on}
 
 abbrev called_before : ℕ → ℕ → Step → Bool
@@ -24,7 +24,7 @@ none_before (s ∷ xs) tree phase h = elim (cases_Bool (s.tree == tree)) [
   | inr f ↦ rw f (none_before xs tree phase h.1)
 ]
 
-one_before : (s : Step) (o : Outcome) (xs : List Step) (ns : List ℕ) → length xs ≡ length ns → length (cond (is_call o) (s ∷ xs) xs) ≡ length (cons_option (number_of o) ns)
+one_before : (s : Step) (o : Outcome) (xs : List Step) (ns : List ℕ) → length xs ≡ length ns → length (cond (is_call o) (s ∷ xs) xs) ≡ length (cons_option (call_number o) ns)
 one_before s (Called number call reply) xs ns e = omega arith
 one_before s (Looked lo hi k query value) xs ns e = e
 one_before s (Counted said ranges) xs ns e = e
@@ -36,7 +36,7 @@ all_before (s ∷ xs) tree phase h = elim (cases_Bool (s.tree == tree)) [
   | inr f ↦ rw f (all_before xs tree phase h.1)
 ]
 
-some_before : (s : Step) (o : Outcome) (b : Bool) (xs : List Step) (ns : List ℕ) → length xs ≤ length ns → length (cond (b && is_call o) (s ∷ xs) xs) ≤ length (cons_option (number_of o) ns)
+some_before : (s : Step) (o : Outcome) (b : Bool) (xs : List Step) (ns : List ℕ) → length xs ≤ length ns → length (cond (b && is_call o) (s ∷ xs) xs) ≤ length (cons_option (call_number o) ns)
 some_before s (Called number call reply) true xs ns l = omega arith
 some_before s (Called number call reply) false xs ns l = omega arith
 some_before s (Looked lo hi k query value) true xs ns l = l

@@ -8,8 +8,8 @@ use Rattle.mt_log.specs.declared.lines.Item.TheVariants.{Tree, Lane, Join, Dup, 
 use Rattle.mt_log.specs.Run.{Asked, Outcome, Step, IsDone, place_within}
 use Rattle.mt_runs.specs.Gone.{sum_below}
 use Rattle.mt_runs.specs.Leads.{by_lane_on, outcomes_of}
-use Rattle.mt_runs.specs.Rooms.{asked_of_lane, AreAnswered, joined}
-use Rattle.mt_runs.specs.Tracks.{number_of, numbers_of}
+use Rattle.mt_runs.specs.Rooms.{asked_of_lane, AreDoneEach, answers_joined}
+use Rattle.mt_runs.specs.Tracks.{call_number, numbers_of}
 use Rattle.mt_runs.proofs.LineSteps.{scan_each}
 use Rattle.mt_runs.proofs.Totals.{sum_none, sum_same}
 
@@ -25,10 +25,10 @@ picked_short h [] = omega arith
 picked_short h (x ∷ xs) = omega (arith, cons_short (h x) (filter_map h xs), picked_short h xs)
 
 numbers_short : (number lane : ℕ) (steps : List Step) → length (numbers_of (outcomes_of number lane steps)) ≤ length steps
-numbers_short number lane steps = omega (arith, picked_short number_of (outcomes_of number lane steps), picked_short (by_lane_on number lane) steps)
+numbers_short number lane steps = omega (arith, picked_short call_number (outcomes_of number lane steps), picked_short (by_lane_on number lane) steps)
 
 -- reads make none
-no_numbers : (number lane : ℕ) (steps : List Step) → AllByRecursion (λ (s : Step). number_of s.outcome ≡ None) steps → numbers_of (outcomes_of number lane steps) ≡ []
+no_numbers : (number lane : ℕ) (steps : List Step) → AllByRecursion (λ (s : Step). call_number s.outcome ≡ None) steps → numbers_of (outcomes_of number lane steps) ≡ []
 no_numbers number lane [] none = refl
 no_numbers number lane (s ∷ steps) none = elim (cases_Bool (s.tree == number)) [
   | inl t ↦ elim (cases_Bool (s.lane == lane)) [
@@ -41,7 +41,7 @@ no_numbers number lane (s ∷ steps) none = elim (cases_Bool (s.tree == number))
 done_calls : (number lane : ℕ) (a : Asked) (item : Item) (steps : List Step) → IsDone a item steps → length (numbers_of (outcomes_of number lane steps)) ≤ 1
 done_calls number lane a (Write tree call) steps d = omega (arith, numbers_short number lane steps, ap length d.2)
 done_calls number lane a (Ask tree query) steps d = omega (arith, numbers_short number lane steps, ap length d.4)
-done_calls number lane a (Scan tree index max count) steps d = omega (arith, ap length (no_numbers number lane steps (scan_each (λ (s : Step). number_of s.outcome ≡ None) a tree max count (λ lo hi k query value. refl) (place_within index max) steps d)))
+done_calls number lane a (Scan tree index max count) steps d = omega (arith, ap length (no_numbers number lane steps (scan_each (λ (s : Step). call_number s.outcome ≡ None) a tree max count (λ lo hi k query value. refl) (place_within index max) steps d)))
 done_calls number lane a (Dup from name) steps d = omega (arith, numbers_short number lane steps, ap length d.1)
 done_calls number lane a (Check tree) steps d = omega (arith, numbers_short number lane steps, ap length d.1)
 done_calls number lane a (Tree name kind) steps d = omega (arith, numbers_short number lane steps, ap length d)
@@ -57,13 +57,13 @@ numbers_long_on number lane xs ys =
     let mine : List Outcome = outcomes_of number lane xs in
     let theirs : List Outcome = outcomes_of number lane ys in
     ap (λ (z : List Outcome). length (numbers_of z)) (filter_map-append (by_lane_on number lane) xs ys)
-    ∙ (ap length (filter_map-append number_of mine theirs) ∙ length-append (numbers_of mine) (numbers_of theirs))
+    ∙ (ap length (filter_map-append call_number mine theirs) ∙ length-append (numbers_of mine) (numbers_of theirs))
 
-pub lane_calls : (number lane : ℕ) (asked : List Asked) (answers : List (List Step)) → AreAnswered asked answers → length (numbers_of (outcomes_of number lane (joined answers))) ≤ length asked
+pub lane_calls : (number lane : ℕ) (asked : List Asked) (answers : List (List Step)) → AreDoneEach asked answers → length (numbers_of (outcomes_of number lane (answers_joined answers))) ≤ length asked
 lane_calls number lane [] [] d = omega arith
 lane_calls number lane [] (steps ∷ answers) d = absurd d
 lane_calls number lane (a ∷ asked) [] d = absurd d
-lane_calls number lane (a ∷ asked) (steps ∷ answers) d = omega (arith, numbers_long_on number lane steps (joined answers), line_calls number lane a steps d.0, lane_calls number lane asked answers d.1)
+lane_calls number lane (a ∷ asked) (steps ∷ answers) d = omega (arith, numbers_long_on number lane steps (answers_joined answers), line_calls number lane a steps d.0, lane_calls number lane asked answers d.1)
 
 -- ---- all lanes' lines
 

@@ -9,10 +9,10 @@ use Rattle.mt_base.proofs.Lists.{all_join}
 use Rattle.mt_log.specs.Phases.{stepped_after}
 use Rattle.mt_log.specs.Run.{Asked, Outcome, Called, Looked, Counted, Step, AreDone}
 use Rattle.mt_log.specs.Trees.{NamesBelow}
-use Rattle.mt_runs.specs.Gone.{IsCounted, IsPhaseGone}
+use Rattle.mt_runs.specs.Gone.{CountsRanges, IsPhaseGone}
 use Rattle.mt_runs.specs.Leads.{Leads, by_lane_on, outcomes_of}
 use Rattle.mt_runs.specs.Phases.{Tracked, IsPhase, IsPhaseOn, Counts}
-use Rattle.mt_runs.specs.Rooms.{asked_of_lane, AreAnswered, take_turns, lanes_of, joined}
+use Rattle.mt_runs.specs.Rooms.{asked_of_lane, AreDoneEach, take_turns, lanes_of, answers_joined}
 use Rattle.mt_runs.proofs.Leading.{learns_none, leads_on, phase_settled}
 use Rattle.mt_runs.proofs.LineSteps.{IsUncounted, steps_named, steps_placed, steps_uncounted}
 use Rattle.mt_runs.proofs.Lists.{every, same_some}
@@ -20,7 +20,7 @@ use Rattle.mt_runs.proofs.Rooming.{back_done, back_in_lanes}
 use Rattle.mt_runs.proofs.Stretches.{done_append}
 
 -- a pass stays as it is where its tree is counted
-counted_leads : (h : History) (trees : List Tracked) (number lane : ℕ) (p : Pass) (steps : List Step) → AllByRecursion (IsCounted trees) steps → Leads h p (outcomes_of number lane steps) p
+counted_leads : (h : History) (trees : List Tracked) (number lane : ℕ) (p : Pass) (steps : List Step) → AllByRecursion (CountsRanges trees) steps → Leads h p (outcomes_of number lane steps) p
 counted_leads h trees number lane p [] counted = learns_none p
 counted_leads h trees number lane p (s ∷ steps) counted = elim (cases_Bool (s.tree == number)) [
   | inl t ↦ elim (cases_Bool (s.lane == lane)) [
@@ -30,7 +30,7 @@ counted_leads h trees number lane p (s ∷ steps) counted = elim (cases_Bool (s.
   | inr f ↦ rw f (counted_leads h trees number lane p steps counted.1)
 ]
 
-counted_counts : (trees : List Tracked) (number : ℕ) (b : Tracked) (s : Step) → slice_get trees number ≡ Some b → IsCounted trees s → s.tree ≡ number → Counts b.history s.outcome
+counted_counts : (trees : List Tracked) (number : ℕ) (b : Tracked) (s : Step) → slice_get trees number ≡ Some b → CountsRanges trees s → s.tree ≡ number → Counts b.history s.outcome
 counted_counts trees number b s was c on =
     let same : c.tracked ≡ b = same_some c.tracked b (sym c.is ∙ (ap (slice_get trees) on ∙ was)) in
     rw c.outcome (c.counts ∙ ap (λ (t : Tracked). last_map t.history) same)
@@ -44,12 +44,12 @@ pub lanes_phase : (passes phase : ℕ) (asked counted : List Asked) (csteps : Li
     → AllByRecursion (λ (a : Asked). (a.phase ≡ phase) × (a.lane < passes)) (counted ++ asked)
     → AllByRecursion (λ (a : Asked). NamesBelow (length before) a.item) (counted ++ asked)
     → AllByRecursion (λ (a : Asked). stepped_after false a.item ≡ true) asked
-    → AreDone counted csteps → All (λ (s : Step). IsCounted before s) csteps
-    → ((lane : ℕ) → AreAnswered (asked_of_lane lane asked) (answers lane))
+    → AreDone counted csteps → All (λ (s : Step). CountsRanges before s) csteps
+    → ((lane : ℕ) → AreDoneEach (asked_of_lane lane asked) (answers lane))
     → length after ≡ length before
     → ((tree : ℕ) (b a : Tracked) → slice_get before tree ≡ Some b → slice_get after tree ≡ Some a → (length b.passes ≡ passes) × IsPhaseGone tree b a answers)
-    → IsPhase passes phase (csteps ++ joined (take_turns (lanes_of asked) answers)) before after
-    × AreDone (counted ++ asked) (csteps ++ joined (take_turns (lanes_of asked) answers))
+    → IsPhase passes phase (csteps ++ answers_joined (take_turns (lanes_of asked) answers)) before after
+    × AreDone (counted ++ asked) (csteps ++ answers_joined (take_turns (lanes_of asked) answers))
 lanes_phase passes phase asked counted csteps answers before after placed named lanes cdone ccounts answered count gone = (
   record {
     count = count;
@@ -61,7 +61,7 @@ lanes_phase passes phase asked counted csteps answers before after placed named 
 )
   where
     lsteps : List Step
-    lsteps = joined (take_turns (lanes_of asked) answers)
+    lsteps = answers_joined (take_turns (lanes_of asked) answers)
 
     steps : List Step
     steps = csteps ++ lsteps
@@ -72,20 +72,20 @@ lanes_phase passes phase asked counted csteps answers before after placed named 
     done : AreDone (counted ++ asked) steps
     done = done_append counted asked csteps lsteps cdone ldone
 
-    all_counted : AllByRecursion (IsCounted before) csteps
+    all_counted : AllByRecursion (CountsRanges before) csteps
     all_counted = recursion_from_All _ csteps ccounts
 
     counts : (tree : ℕ) (b : Tracked) → slice_get before tree ≡ Some b → All (λ (s : Step). s.tree ≡ tree → Counts b.history s.outcome) steps
     counts tree b was =
         let On : Step → Type 0 = λ s. s.tree ≡ tree → Counts b.history s.outcome in
         All-from_recursion On steps (all_join On csteps lsteps
-        (every (IsCounted before) On csteps (λ s c. counted_counts before tree b s was c) all_counted)
+        (every (CountsRanges before) On csteps (λ s c. counted_counts before tree b s was c) all_counted)
         (every (λ (s : Step). IsUncounted s.outcome) On lsteps (λ s u on. uncounted_counts b.history s.outcome u) (steps_uncounted asked lsteps lanes ldone)))
 
-    lane_leads : (tree lane : ℕ) (h : History) (p m : Pass) → Leads h p (outcomes_of tree lane (joined (answers lane))) m → Leads h p (outcomes_of tree lane steps) m
+    lane_leads : (tree lane : ℕ) (h : History) (p m : Pass) → Leads h p (outcomes_of tree lane (answers_joined (answers lane))) m → Leads h p (outcomes_of tree lane steps) m
     lane_leads tree lane h p m l =
         let mine : List Outcome = outcomes_of tree lane csteps in
-        let theirs : List Outcome = outcomes_of tree lane (joined (answers lane)) in
+        let theirs : List Outcome = outcomes_of tree lane (answers_joined (answers lane)) in
         let all : outcomes_of tree lane steps ≡ mine ++ theirs = filter_map-append (by_lane_on tree lane) csteps lsteps ∙ ap (λ (z : List Outcome). mine ++ z) (back_in_lanes asked answers answered tree lane) in
         subst (λ (z : List Outcome). Leads h p z m) (sym all) (leads_on h p mine p theirs m (counted_leads h before tree lane p csteps all_counted) l)
 

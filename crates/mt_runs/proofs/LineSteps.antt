@@ -8,7 +8,7 @@ use Rattle.mt_base.proofs.Lists.{all_join}
 use Rattle.mt_log.specs.declared.lines.Item.{Item}
 use Rattle.mt_log.specs.declared.lines.Item.TheVariants.{Tree, Lane, Join, Dup, Check, Write, Ask, Scan}
 use Rattle.mt_log.specs.Phases.{stepped_after}
-use Rattle.mt_log.specs.Run.{Asked, Outcome, Called, Looked, Counted, Step, IsDone, IsScan, GoesOn, AreDone, find_at, place_behind, place_within, step_of}
+use Rattle.mt_log.specs.Run.{Asked, Outcome, Called, Looked, Counted, Step, IsDone, AreScanSteps, ScanGoesOnFrom, AreDone, find_at, place_behind, place_within, step_of}
 use Rattle.mt_log.specs.Trees.{NamesBelow}
 
 -- the tree on which a line's steps are
@@ -26,11 +26,11 @@ one_step P s steps e p = subst (AllByRecursion P) (sym e) (p, tt)
 no_step : (P : Step → Type 0) (steps : List Step) → steps ≡ [] → AllByRecursion P steps
 no_step P steps e = subst (AllByRecursion P) (sym e) tt
 
-goes_each : (P : Step → Type 0) (a : Asked) (tree max count : ℕ) → ((at : Option ℕ) (steps : List Step) → IsScan a tree max count at steps → AllByRecursion P steps) → (value : Option Range) (steps : List Step) → GoesOn (IsScan a tree max count) max value steps → AllByRecursion P steps
+goes_each : (P : Step → Type 0) (a : Asked) (tree max count : ℕ) → ((at : Option ℕ) (steps : List Step) → AreScanSteps a tree max count at steps → AllByRecursion P steps) → (value : Option Range) (steps : List Step) → ScanGoesOnFrom (AreScanSteps a tree max count) max value steps → AllByRecursion P steps
 goes_each P a tree max count scans None steps g = no_step P steps g
 goes_each P a tree max count scans (Some r) steps g = scans (place_behind max r) steps g
 
-pub scan_each : (P : Step → Type 0) (a : Asked) (tree max count : ℕ) → ((lo hi k : ℕ) (query : Query) (value : Option Range) → P (step_of a tree (Looked lo hi k query value))) → (at : Option ℕ) (steps : List Step) → IsScan a tree max count at steps → AllByRecursion P steps
+pub scan_each : (P : Step → Type 0) (a : Asked) (tree max count : ℕ) → ((lo hi k : ℕ) (query : Query) (value : Option Range) → P (step_of a tree (Looked lo hi k query value))) → (at : Option ℕ) (steps : List Step) → AreScanSteps a tree max count at steps → AllByRecursion P steps
 scan_each P a tree max zero p at steps s = no_step P steps s
 scan_each P a tree max (suc count) p at steps s = subst (AllByRecursion P) (sym s.5) (p s.0 s.1 s.2 (find_at at max) s.3, goes_each P a tree max count (scan_each P a tree max count p) s.3 s.4 s.6)
 

@@ -14,10 +14,10 @@ use Rattle.mt_base.specs.declared.replies.Reply.TheVariants as replies
 use Rattle.mt_base.specs.History.{Record, History}
 use Rattle.mt_base.specs.Passes.{Pass, IsSettled}
 use Rattle.mt_base.proofs.SharedCalls.{flat_same, one_more, each_once}
-use Rattle.mt_log.specs.Run.{Outcome, Called, Looked, Counted, Step, record_of, numbered_on}
+use Rattle.mt_log.specs.Run.{Outcome, Called, Looked, Counted, Step, record_in, numbered_on}
 use Rattle.mt_runs.specs.Leads.{Does, Leads, by_lane_on, outcomes_of}
 use Rattle.mt_runs.specs.Phases.{Tracked, IsPhaseOn}
-use Rattle.mt_runs.specs.Tracks.{StandsAt, Holds, On, OwnCalls, Tracks, number_of, numbers_of}
+use Rattle.mt_runs.specs.Tracks.{IsRecordAt, StandsInHistory, On, OwnCalls, Tracks, call_number, numbers_of}
 use Rattle.mt_runs.proofs.LanePasses.{Lane, lane_in}
 use Rattle.mt_runs.proofs.Lists.{same_some}
 
@@ -32,7 +32,7 @@ pub leads_number : (tree : History) (p : Pass) (os : List Outcome) (q : Pass) �
 leads_number tree p [] q l = l.grows.mine ∙ sym (append-nil p.mine)
 leads_number tree p (o ∷ os) q (m, n, learns, does, leads) =
     leads_number tree n os q leads ∙ (ap (λ z. z ++ numbers_of os) (does_number tree m o n does ∙ ap (λ z. z ++ numbers_of (o ∷ [])) learns.grows.mine)
-    ∙ (append_assoc p.mine (numbers_of (o ∷ [])) (numbers_of os) ∙ ap (λ z. p.mine ++ z) (sym (filter_map-append number_of (o ∷ []) os))))
+    ∙ (append_assoc p.mine (numbers_of (o ∷ [])) (numbers_of os) ∙ ap (λ z. p.mine ++ z) (sym (filter_map-append call_number (o ∷ []) os))))
 
 -- a phase adds the calls of its steps
 pub phase_numbers : (number : ℕ) (earlier steps : List Step) (b a : Tracked) → IsSettled b.history b.passes → OwnCalls number earlier b.passes → IsPhaseOn number steps b a → OwnCalls number (earlier ++ steps) a.passes
@@ -43,12 +43,12 @@ phase_numbers number earlier steps b a start own ph lane q is =
     let new : List Outcome = outcomes_of number lane steps in
     ap (λ (z : Pass). z.mine) (sym same) ∙ (leads_number b.history x.p new x.q x.leads
     ∙ (ap (λ z. z ++ numbers_of new) (own lane x.p x.was)
-    ∙ (sym (filter_map-append number_of old new) ∙ ap numbers_of (sym (filter_map-append (by_lane_on number lane) earlier steps)))))
+    ∙ (sym (filter_map-append call_number old new) ∙ ap numbers_of (sym (filter_map-append (by_lane_on number lane) earlier steps)))))
 
 -- ---- all lanes' calls on a tree are the tree's calls
 
 abbrev pub number_on : ℕ → Step → Option ℕ
-number_on tree s = if s.tree == tree then number_of s.outcome else None
+number_on tree s = if s.tree == tree then call_number s.outcome else None
 
 abbrev pub numbers_on : ℕ → List Step → List ℕ
 numbers_on tree steps = filter_map (number_on tree) steps
@@ -66,7 +66,7 @@ other_lane tree lane s steps apart = elim (cases_Bool (s.tree == tree)) [
 no_call : (tree lane : ℕ) (s : Step) (steps : List Step) → number_on tree s ≡ None → mine_of tree (s ∷ steps) lane ≡ mine_of tree steps lane
 no_call tree lane s steps none = elim (cases_Bool (s.tree == tree)) [
   | inl t ↦ elim (cases_Bool (s.lane == lane)) [
-    | inl l ↦ let e : number_of s.outcome ≡ None = rw t at none in rw (t, l, e) refl
+    | inl l ↦ let e : call_number s.outcome ≡ None = rw t at none in rw (t, l, e) refl
     | inr f ↦ rw (t, f) refl
   ]
   | inr f ↦ rw f refl
@@ -74,7 +74,7 @@ no_call tree lane s steps none = elim (cases_Bool (s.tree == tree)) [
 
 a_call : (tree number : ℕ) (s : Step) (steps : List Step) → number_on tree s ≡ Some number → mine_of tree (s ∷ steps) s.lane ≡ number ∷ mine_of tree steps s.lane
 a_call tree number s steps some = elim (cases_Bool (s.tree == tree)) [
-  | inl t ↦ let e : number_of s.outcome ≡ Some number = rw t at some in rw (t, eq-eqb s.lane s.lane refl, e) refl
+  | inl t ↦ let e : call_number s.outcome ≡ Some number = rw t at some in rw (t, eq-eqb s.lane s.lane refl, e) refl
   | inr f ↦ let h : None ≡ Some number = rw f at some in cc
 ]
 
@@ -119,7 +119,7 @@ nobody = record { pass = 0; call = Clear; reply = replies.Ok }
 abbrev numbered : List Record → ℕ → ℕ × Record
 numbered records number = (number, get_or records (number - 1) nobody)
 
-stands_at : (records : List Record) (number : ℕ) (r : Record) → StandsAt records number r → get_or records (number - 1) nobody ≡ r
+stands_at : (records : List Record) (number : ℕ) (r : Record) → IsRecordAt records number r → get_or records (number - 1) nobody ≡ r
 stands_at records number r s = rw s.is (get_or_at s.front r s.rest nobody (number - 1) (omega (arith, s.at)))
 
 enumerated : (front records : List Record) (n : ℕ) → length front + 1 ≡ n → enumerate_from n records ≡ map (numbered (front ++ records)) (range_with_len n (length records))
@@ -129,12 +129,12 @@ enumerated front (r ∷ records) n e =
     let tail : enumerate_from (n + 1) records ≡ map (numbered ((front ++ r ∷ []) ++ records)) (range_with_len (n + 1) (length records)) = enumerated (front ++ r ∷ []) records (n + 1) (omega (arith, length-append front (r ∷ []))) in
     rw (head, tail, append_assoc front (r ∷ []) records) refl
 
-number_stands : (h : History) (lane : ℕ) (o : Outcome) (ns : List ℕ) (rs : List (ℕ × Record)) → Holds h lane o → map (numbered h.records) ns ≡ rs → map (numbered h.records) (cons_option (number_of o) ns) ≡ cons_option (record_of lane o) rs
+number_stands : (h : History) (lane : ℕ) (o : Outcome) (ns : List ℕ) (rs : List (ℕ × Record)) → StandsInHistory h lane o → map (numbered h.records) ns ≡ rs → map (numbered h.records) (cons_option (call_number o) ns) ≡ cons_option (record_in lane o) rs
 number_stands h lane (Called number call reply) ns rs holds e = let r : Record = record { pass = lane; call = call; reply = reply } in rw (stands_at h.records number r holds, e) refl
 number_stands h lane (Looked lo hi k query value) ns rs holds e = e
 number_stands h lane (Counted said ranges) ns rs holds e = e
 
-numbers_stand : (tree : ℕ) (h : History) (steps : List Step) → AllByRecursion (On tree (λ (s : Step). Holds h s.lane s.outcome)) steps → map (numbered h.records) (numbers_on tree steps) ≡ filter_map (numbered_on tree) steps
+numbers_stand : (tree : ℕ) (h : History) (steps : List Step) → AllByRecursion (On tree (λ (s : Step). StandsInHistory h s.lane s.outcome)) steps → map (numbered h.records) (numbers_on tree steps) ≡ filter_map (numbered_on tree) steps
 numbers_stand tree h [] holds = refl
 numbers_stand tree h (s ∷ steps) holds = elim (cases_Bool (s.tree == tree)) [
   | inl t ↦ rw t (number_stands h s.lane s.outcome (numbers_on tree steps) (filter_map (numbered_on tree) steps) (holds.0 (eqb-true s.tree tree t)) (numbers_stand tree h steps holds.1))

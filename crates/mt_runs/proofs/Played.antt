@@ -20,7 +20,7 @@ use Rattle.mt_log.specs.declared.trees.KnownTree.{KnownTree}
 use Rattle.mt_log.specs.Run.{Outcome, Called, Looked, Counted, Step, AreDone, IsRun, entry_of, listings_of, steps_of}
 use Rattle.mt_log.specs.Trees.{Declared, Empty, CopyOf, trees_of}
 use Rattle.mt_runs.specs.Leads.{Leads}
-use Rattle.mt_runs.specs.OneThread.{HasPlayed, IsNext, known_to_all, step_in, with_call}
+use Rattle.mt_runs.specs.OneThread.{HasPlayed, IsNext, known_to_all, step_of_line, with_call}
 use Rattle.mt_runs.specs.Phases.{Tracked, IsPhase, IsPhaseOn, histories_of, new_history, new_tracked}
 use Rattle.mt_runs.specs.Tracks.{Ran}
 use Rattle.mt_runs.proofs.Informed.{informed_are_settled}
@@ -166,26 +166,26 @@ step_played passes rows phase was stepped declared steps old trees s p going sti
 
 pub call_played : (passes rows phase : ℕ) (stepped : Bool) (declared : List Declared) (steps : List Step) (trees : List History) (lane line tree : ℕ) (h : History) (call : Call) (reply : Reply) (after : List Range) → HasPlayed passes rows phase stepped declared steps trees → slice_get trees tree ≡ Some h → lane < passes
     → IsNext h (record { pass = lane; call = call; reply = reply }) after
-    → HasPlayed passes rows phase true declared (steps ++ step_in phase lane line tree (Called (length h.records + 1) call reply) ∷ []) (slice_set trees tree (with_call h (record { pass = lane; call = call; reply = reply })))
+    → HasPlayed passes rows phase true declared (steps ++ step_of_line phase lane line tree (Called (length h.records + 1) call reply) ∷ []) (slice_set trees tree (with_call h (record { pass = lane; call = call; reply = reply })))
 call_played passes rows phase stepped declared steps trees lane line tree h call reply after p is among next =
-    let s : Step = step_in phase lane line tree (Called (length h.records + 1) call reply) in
+    let s : Step = step_of_line phase lane line tree (Called (length h.records + 1) call reply) in
     let h' : History = with_call h (record { pass = lane; call = call; reply = reply }) in
     step_played passes rows phase stepped true declared steps trees (slice_set trees tree h') s p
     (one_step passes phase p.now p.opening trees (slice_set trees tree h') s h h' refl (replaced trees tree h h' is) (call_makes passes phase lane line tree p.opening h call reply after among (settled_at passes phase p.now p.opening trees tree h p.going is) next) p.going)
     (λ none. cc)
 
 pub read_played : (passes rows phase : ℕ) (stepped : Bool) (declared : List Declared) (steps : List Step) (trees : List History) (lane line tree : ℕ) (h : History) (query : Query) → HasPlayed passes rows phase stepped declared steps trees → slice_get trees tree ≡ Some h → lane < passes
-    → HasPlayed passes rows phase true declared (steps ++ step_in phase lane line tree (Looked (length h.records) (length h.records) (length h.records) query (answer (last_map h) query)) ∷ []) trees
+    → HasPlayed passes rows phase true declared (steps ++ step_of_line phase lane line tree (Looked (length h.records) (length h.records) (length h.records) query (answer (last_map h) query)) ∷ []) trees
 read_played passes rows phase stepped declared steps trees lane line tree h query p is among =
-    let s : Step = step_in phase lane line tree (Looked (length h.records) (length h.records) (length h.records) query (answer (last_map h) query)) in
+    let s : Step = step_of_line phase lane line tree (Looked (length h.records) (length h.records) (length h.records) query (answer (last_map h) query)) in
     step_played passes rows phase stepped true declared steps trees trees s p
     (one_step passes phase p.now p.opening trees trees s h h refl (unreplaced trees tree h is) (read_makes passes phase lane line tree p.opening h query among (settled_at passes phase p.now p.opening trees tree h p.going is)) p.going)
     (λ none. cc)
 
 pub count_played : (passes rows phase : ℕ) (declared : List Declared) (steps : List Step) (trees : List History) (line tree : ℕ) (h : History) (said : ℕ → Said) → HasPlayed passes rows phase false declared steps trees → slice_get trees tree ≡ Some h
-    → HasPlayed passes rows phase false declared (steps ++ step_in phase 0 line tree (Counted said (last_map h)) ∷ []) trees
+    → HasPlayed passes rows phase false declared (steps ++ step_of_line phase 0 line tree (Counted said (last_map h)) ∷ []) trees
 count_played passes rows phase declared steps trees line tree h said p is =
-    let s : Step = step_in phase 0 line tree (Counted said (last_map h)) in
+    let s : Step = step_of_line phase 0 line tree (Counted said (last_map h)) in
     let as_opened : (old : History) → slice_get p.opening tree ≡ Some old → old ≡ h = λ old was. same_some old h (sym was ∙ (ap (λ (z : List History). slice_get z tree) (sym (p.still refl)) ∙ is)) in
     step_played passes rows phase false false declared steps trees trees s p
     (one_step passes phase p.now p.opening trees trees s h h refl (unreplaced trees tree h is) (count_makes passes phase 0 line tree p.opening h said p.some (settled_at passes phase p.now p.opening trees tree h p.going is) as_opened) p.going)

@@ -15,7 +15,7 @@ use Rattle.mt_base.specs.Passes.{Pass, IsSettled, with_records}
 use Rattle.mt_log.specs.declared.transcripts.Said.{Said}
 use Rattle.mt_log.specs.Run.{Outcome, Called, Looked, Counted, Step}
 use Rattle.mt_runs.specs.Leads.{Learns, Does, Leads, by_lane_on, outcomes_of}
-use Rattle.mt_runs.specs.OneThread.{IsNext, informed, known_to_all, step_in, with_call}
+use Rattle.mt_runs.specs.OneThread.{IsNext, informed, known_to_all, step_of_line, with_call}
 use Rattle.mt_runs.specs.Phases.{Tracked, IsPhase, IsPhaseOn, Counts}
 use Rattle.mt_runs.proofs.Informed.{informed_learns, informed_reads, informed_wrote, numbered_at, settled_next}
 use Rattle.mt_runs.proofs.LanePasses.{some_at}
@@ -164,7 +164,7 @@ abbrev record_by : ℕ → Call → Reply → Record
 record_by lane call reply = record { pass = lane; call = call; reply = reply }
 
 pub call_makes : (passes phase lane line tree : ℕ) (opening : List History) (h : History) (call : Call) (reply : Reply) (after : List Range) → lane < passes → IsSettled h (known_to_all passes h).passes → IsNext h (record_by lane call reply) after
-    → Makes passes opening (step_in phase lane line tree (Called (length h.records + 1) call reply)) h (with_call h (record_by lane call reply))
+    → Makes passes opening (step_of_line phase lane line tree (Called (length h.records + 1) call reply)) h (with_call h (record_by lane call reply))
 call_makes passes phase lane line tree opening h call reply after among settled next = record {
   lane = among;
   tree = refl;
@@ -175,7 +175,7 @@ call_makes passes phase lane line tree opening h call reply after among settled 
 }
 
 pub read_makes : (passes phase lane line tree : ℕ) (opening : List History) (h : History) (query : Query) → lane < passes → IsSettled h (known_to_all passes h).passes
-    → Makes passes opening (step_in phase lane line tree (Looked (length h.records) (length h.records) (length h.records) query (answer (last_map h) query))) h h
+    → Makes passes opening (step_of_line phase lane line tree (Looked (length h.records) (length h.records) (length h.records) query (answer (last_map h) query))) h h
 read_makes passes phase lane line tree opening h query among settled = record {
   lane = among;
   tree = refl;
@@ -186,7 +186,7 @@ read_makes passes phase lane line tree opening h query among settled = record {
 }
 
 pub count_makes : (passes phase lane line tree : ℕ) (opening : List History) (h : History) (said : ℕ → Said) → lane < passes → IsSettled h (known_to_all passes h).passes → ((old : History) → slice_get opening tree ≡ Some old → old ≡ h)
-    → Makes passes opening (step_in phase lane line tree (Counted said (last_map h))) h h
+    → Makes passes opening (step_of_line phase lane line tree (Counted said (last_map h))) h h
 count_makes passes phase lane line tree opening h said among settled as_opened = record {
   lane = among;
   tree = refl;

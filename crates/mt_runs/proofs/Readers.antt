@@ -12,7 +12,7 @@ use Rattle.mt_base.specs.Passes.{Pass, NamesReader, IsSettled, holder_of}
 use Rattle.mt_log.specs.Run.{Outcome, Called, Looked, Counted, Step, holder_in, is_read, is_read_by, IsHeldRightly}
 use Rattle.mt_runs.specs.Leads.{Does, Leads, outcomes_of}
 use Rattle.mt_runs.specs.Phases.{Tracked, IsPhaseOn}
-use Rattle.mt_runs.specs.Tracks.{StandsAt, Holds, On, OwnReads, reads_on}
+use Rattle.mt_runs.specs.Tracks.{IsRecordAt, StandsInHistory, On, OwnReads, reads_on}
 use Rattle.mt_runs.proofs.Knowing.{does_onward}
 use Rattle.mt_runs.proofs.LanePasses.{Lane, lane_in}
 use Rattle.mt_runs.proofs.EachLane.{each_on}
@@ -85,7 +85,7 @@ reads_in_time number pass s (r ∷ steps) on within some = elim (cases_Bool (rea
     ]
 
 -- what holds of each record holds of the one at a number
-stands_among : (P : Record → Type 0) (records : List Record) (number : ℕ) (r : Record) → All P records → StandsAt records number r → P r
+stands_among : (P : Record → Type 0) (records : List Record) (number : ℕ) (r : Record) → All P records → IsRecordAt records number r → P r
 stands_among P records number r h s =
     let long : length records ≡ length s.front + length (r ∷ s.rest) = ap length s.is ∙ length-append s.front (r ∷ s.rest) in
     let here : get_or records (length s.front) r ≡ r = ap (λ (z : List Record). get_or z (length s.front) r) s.is ∙ get_or_at s.front r s.rest r (length s.front) refl in
@@ -96,7 +96,7 @@ held_by : (number : ℕ) (s : Step) (steps : List Step) (passes : List Pass) (by
 held_by number s steps passes None on within own other reader = tt
 held_by number s steps passes (Some holder) on within own other reader = (other, reads_in_time number holder.pass s steps on within (own holder.pass holder.epoch reader.0 reader.1 reader.2))
 
-pub step_held : (number : ℕ) (s : Step) (o : Outcome) (steps : List Step) (t : Tracked) → s.tree ≡ number → AllByRecursion (λ (r : Step). r.phase ≤ s.phase) steps → OwnReads number steps t.passes → IsSettled t.history t.passes → OtherThan s.lane o → Holds t.history s.lane o
+pub step_held : (number : ℕ) (s : Step) (o : Outcome) (steps : List Step) (t : Tracked) → s.tree ≡ number → AllByRecursion (λ (r : Step). r.phase ≤ s.phase) steps → OwnReads number steps t.passes → IsSettled t.history t.passes → OtherThan s.lane o → StandsInHistory t.history s.lane o
     → IfSome (holder_in o) (λ holder. (holder.pass ≢ s.lane) × (list_any (is_read_by holder.pass s) steps ≡ true))
 step_held number s (Called n call reply) steps t on within own settled other holds = held_by number s steps t.passes (holder_of reply) on within own other (stands_among (λ (r : Record). NamesReader t.passes r.reply) t.history.records n (record { pass = s.lane; call = call; reply = reply }) settled.by holds)
 step_held number s (Looked lo hi k query value) steps t on within own settled other holds = tt

@@ -13,7 +13,7 @@ use Rattle.mt_log.specs.declared.transcripts.Transcript.{Transcript}
 use Rattle.mt_log.specs.Run.{Outcome, Called, Looked, Counted, Step, Opens, OpensAs, IsTrueOf, StandsIn, IsHeldRightly, IsRun, AreDone, calls_before, steps_of, entry_of, listings_of}
 use Rattle.mt_log.specs.Trees.{Opening, Empty, CopyOf, Declared, trees_of}
 use Rattle.mt_runs.specs.Phases.{Tracked, IsPhase, IsPhaseOn, histories_of}
-use Rattle.mt_runs.specs.Tracks.{TellsUpTo, OrderOn, Holds, CountsAt, Tracks, IsPlaced, HasBegun, Ran}
+use Rattle.mt_runs.specs.Tracks.{TellsUpTo, OrderOn, StandsInHistory, CountsAt, Tracks, IsPlaced, HasBegun, Ran}
 use Rattle.mt_runs.proofs.Counting.{before_within, before_kept, map_stays}
 use Rattle.mt_runs.proofs.LanePasses.{some_at, phase_begins}
 use Rattle.mt_runs.proofs.Lists.{same_some, every, pairs_all}
@@ -103,10 +103,10 @@ phase_ran passes rows phase declared earlier steps before after some r e =
 -- ---- a run of the log
 
 -- what a step owes to the trees
-step_stands : (steps : List Step) (trees : List History) (s : Step) → (h : History) → slice_get trees s.tree ≡ Some h → Holds h s.lane s.outcome → TellsUpTo (length h.records) s.outcome → CountsAt h (calls_before steps s.tree s.phase) s.outcome → StandsIn steps trees s
+step_stands : (steps : List Step) (trees : List History) (s : Step) → (h : History) → slice_get trees s.tree ≡ Some h → StandsInHistory h s.lane s.outcome → TellsUpTo (length h.records) s.outcome → CountsAt h (calls_before steps s.tree s.phase) s.outcome → StandsIn steps trees s
 step_stands steps trees s h is holds upto counts = (h, is, stands s.outcome holds upto counts)
   where
-    stands : (o : Outcome) → Holds h s.lane o → TellsUpTo (length h.records) o → CountsAt h (calls_before steps s.tree s.phase) o → IsTrueOf h (calls_before steps s.tree s.phase) o
+    stands : (o : Outcome) → StandsInHistory h s.lane o → TellsUpTo (length h.records) o → CountsAt h (calls_before steps s.tree s.phase) o → IsTrueOf h (calls_before steps s.tree s.phase) o
     stands (Called number call reply) a b c = tt
     stands (Looked lo hi k query value) a b c = (a, b.1)
     stands (Counted said ranges) a b c = c
@@ -150,7 +150,7 @@ ran_is_run passes rows phase log t steps trees r asked version told lists =
             let f = some_at trees tree (named i d l) in
             let k : Tracks passes tree steps f.0 = r.tracks tree f.0 f.1 in
             step_stands steps (histories_of trees) (get_or steps i d) f.0.history (history_at trees tree f.0 f.1)
-            (at_step (λ tree s. Holds f.0.history s.lane s.outcome) steps i d l k.holds)
+            (at_step (λ tree s. StandsInHistory f.0.history s.lane s.outcome) steps i d l k.holds)
             (at_step (λ tree s. TellsUpTo (length f.0.history.records) s.outcome) steps i d l k.upto)
             (at_step (λ tree s. CountsAt f.0.history (calls_before steps tree s.phase) s.outcome) steps i d l k.counts);
         holders = λ i d l.

@@ -10,7 +10,7 @@ use Rattle.mt_log.specs.declared.lines.Line.{Line}
 use Rattle.mt_log.specs.Phases.{AreInPlaceFrom, IsInPlace, phase_after, stepped_after, stepped_from}
 use Rattle.mt_log.specs.Reader.{least_behind}
 use Rattle.mt_log.specs.Run.{Asked, Step, AreDone, asked_from, is_answered, lane_after, lane_of, steps_of}
-use Rattle.mt_log.specs.Trees.{AreNamedFrom, CopyOf, Declared, Empty, IsReadable, NamesBelow, RiseFrom, count_after, declared_by, most_lanes, renamed, trees_from, trees_of}
+use Rattle.mt_log.specs.Trees.{AreNamedFrom, CopyOf, Declared, Empty, IsReadable, NamesBelow, NumbersRiseFrom, count_after, declared_by, most_lanes, renamed, trees_from, trees_of}
 use Rattle.mt_runs.specs.Lines.{asked_by, lane_behind, phase_behind}
 use Rattle.mt_runs.specs.Tracks.{Pairs}
 use Rattle.mt_runs.proofs.LanePasses.{some_at}
@@ -123,19 +123,19 @@ line_lane lines rest r = lanes_named 0 0 lines rest (omega arith) r.named
 
 -- ---- numbers that rise
 
-rising_front : (least : ℕ) (xs ys : List Line) → RiseFrom least (xs ++ ys) → RiseFrom least xs
+rising_front : (least : ℕ) (xs ys : List Line) → NumbersRiseFrom least (xs ++ ys) → NumbersRiseFrom least xs
 rising_front least [] ys h = tt
 rising_front least (x ∷ xs) ys h = (h.0, rising_front (x.number + 1) xs ys h.1)
 
-rising_behind : (least : ℕ) (xs ys : List Line) → RiseFrom least (xs ++ ys) → RiseFrom (least_behind least xs) ys
+rising_behind : (least : ℕ) (xs ys : List Line) → NumbersRiseFrom least (xs ++ ys) → NumbersRiseFrom (least_behind least xs) ys
 rising_behind least [] ys h = h
 rising_behind least (x ∷ xs) ys h = rising_behind (x.number + 1) xs ys h.1
 
-none_below : (number least : ℕ) (lines : List Line) → number < least → RiseFrom least lines → AllByRecursion (λ (b : Line). b.number ≢ number) lines
+none_below : (number least : ℕ) (lines : List Line) → number < least → NumbersRiseFrom least lines → AllByRecursion (λ (b : Line). b.number ≢ number) lines
 none_below number least [] below h = tt
 none_below number least (b ∷ lines) below h = (λ same. absurd (omega (arith, below, h.0, same)), none_below number (b.number + 1) lines (omega (arith, below, h.0)) h.1)
 
-pub numbers_apart : (least : ℕ) (lines : List Line) → RiseFrom least lines → Pairs (λ (a b : Line). b.number ≢ a.number) lines
+pub numbers_apart : (least : ℕ) (lines : List Line) → NumbersRiseFrom least lines → Pairs (λ (a b : Line). b.number ≢ a.number) lines
 numbers_apart least [] h = tt
 numbers_apart least (a ∷ lines) h = (none_below a.number (a.number + 1) lines (omega arith) h.1, numbers_apart (a.number + 1) lines h.1)
 

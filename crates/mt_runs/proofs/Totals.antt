@@ -12,7 +12,7 @@ use Rattle.mt_base.proofs.SharedCalls.{place_taken, place_left}
 use Rattle.mt_log.specs.Run.{Step}
 use Rattle.mt_runs.specs.Gone.{HaveGone, OnlySaw, sum_below}
 use Rattle.mt_runs.specs.Leads.{outcomes_of}
-use Rattle.mt_runs.specs.Rooms.{joined}
+use Rattle.mt_runs.specs.Rooms.{answers_joined}
 use Rattle.mt_runs.specs.Tracks.{numbers_of}
 use Rattle.mt_runs.proofs.LanePasses.{all_at, some_at}
 use Rattle.mt_runs.proofs.Once.{leads_number}
@@ -81,10 +81,10 @@ calls_more old new before between after more start count went end =
         ap length (sym (settled_own new after i q.0 end.settled q.1) ∙ own) ∙ length-append (places i old.records) (more i)
 
 pub lanes_calls : (number : ℕ) (old new : History) (answers : ℕ → List (List Step)) (before between after : List Pass) → IsSettled old before → HaveGone number old answers before between → Settled new between after → new ≡ with_records old new.records
-    → length new.records ≡ length old.records + sum_below (length before) (λ (lane : ℕ). length (numbers_of (outcomes_of number lane (joined (answers lane)))))
+    → length new.records ≡ length old.records + sum_below (length before) (λ (lane : ℕ). length (numbers_of (outcomes_of number lane (answers_joined (answers lane)))))
 lanes_calls number old new answers before between after start gone end tree =
-    calls_more old new before between after (λ (lane : ℕ). numbers_of (outcomes_of number lane (joined (answers lane)))) start gone.count
-    (λ lane p m was is. leads_number old p (outcomes_of number lane (joined (answers lane))) m (gone.leads lane p m was is)) end
+    calls_more old new before between after (λ (lane : ℕ). numbers_of (outcomes_of number lane (answers_joined (answers lane)))) start gone.count
+    (λ lane p m was is. leads_number old p (outcomes_of number lane (answers_joined (answers lane))) m (gone.leads lane p m was is)) end
 
 -- ---- what a pass had seen before it was settled
 

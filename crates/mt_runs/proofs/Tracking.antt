@@ -7,7 +7,7 @@ use Rattle.mt_base.specs.Passes.{Begins, with_records}
 use Rattle.mt_base.proofs.Lists.{all_join}
 use Rattle.mt_log.specs.Run.{Step, IsHeldRightly, calls_before}
 use Rattle.mt_runs.specs.Phases.{Tracked, IsPhaseOn, Counts}
-use Rattle.mt_runs.specs.Tracks.{OrderOn, On, Holds, CountsAt, TellsUpTo, Tracks, IsPlaced, OwnReads}
+use Rattle.mt_runs.specs.Tracks.{OrderOn, On, StandsInHistory, CountsAt, TellsUpTo, Tracks, IsPlaced, OwnReads}
 use Rattle.mt_runs.proofs.Counting.{old_count, new_count}
 use Rattle.mt_runs.proofs.Holding.{holds_more, phase_holds}
 use Rattle.mt_runs.proofs.LanePasses.{phase_begins}
@@ -38,7 +38,7 @@ phase_tracks passes number phase earlier steps b a some earlier_placed placed t 
     let begins : Begins old.records records = phase_begins number steps b a (omega (arith, t.count)) t.settled ph in
     let readers : OwnReads number (earlier ++ steps) a.passes = phase_readers number earlier steps b a t.settled t.readers ph in
     let made : length (numbers_on number earlier) ≡ m = numbers_long passes number earlier b within t in
-    let holds : AllByRecursion (On number (λ (s : Step). Holds a.history s.lane s.outcome)) steps = phase_holds passes number steps b a t.count t.settled within' ph in
+    let holds : AllByRecursion (On number (λ (s : Step). StandsInHistory a.history s.lane s.outcome)) steps = phase_holds passes number steps b a t.count t.settled within' ph in
     let upto_phase : AllByRecursion (λ (s : Step). s.phase ≤ phase) (earlier ++ steps) = all_join (λ (s : Step). s.phase ≤ phase) earlier steps (every (λ (s : Step). s.phase < phase) (λ (s : Step). s.phase ≤ phase) earlier (λ s l. omega arith) before_phase) (every (InPhase passes phase) (λ (s : Step). s.phase ≤ phase) steps (λ s l. omega (arith, l.0)) placed) in
     let names : AllByRecursion (On number (λ (s : Step). OtherThan s.lane s.outcome)) steps = phase_names passes number steps b a t.count t.settled within' ph in
     record {
@@ -48,8 +48,8 @@ phase_tracks passes number phase earlier steps b a some earlier_placed placed t 
       readers = readers;
       upto = all_join (On number (λ (s : Step). TellsUpTo n s.outcome)) earlier steps (every (On number (λ (s : Step). TellsUpTo m s.outcome)) (On number (λ (s : Step). TellsUpTo n s.outcome)) earlier (λ s u on. upto_more m n s.outcome k.grown (u on)) t.upto) k.upto;
       order = pairs_append (OrderOn number) earlier steps t.order k.order (every _ _ earlier (λ s u. every _ _ steps (λ r a here there knows. upto_follows m s.outcome r.outcome (u here) (a there)) k.above) t.upto);
-      holds = all_join (On number (λ (s : Step). Holds a.history s.lane s.outcome)) earlier steps
-          (every (On number (λ (s : Step). Holds old s.lane s.outcome)) (On number (λ (s : Step). Holds a.history s.lane s.outcome)) earlier (λ s h on. subst (λ (z : History). Holds z s.lane s.outcome) same (holds_more old old.records records s.lane s.outcome begins (h on))) t.holds)
+      holds = all_join (On number (λ (s : Step). StandsInHistory a.history s.lane s.outcome)) earlier steps
+          (every (On number (λ (s : Step). StandsInHistory old s.lane s.outcome)) (On number (λ (s : Step). StandsInHistory a.history s.lane s.outcome)) earlier (λ s h on. subst (λ (z : History). StandsInHistory z s.lane s.outcome) same (holds_more old old.records records s.lane s.outcome begins (h on))) t.holds)
           holds;
       counts = all_join (On number (λ (s : Step). CountsAt a.history (calls_before (earlier ++ steps) number s.phase) s.outcome)) earlier steps
           (every (λ (s : Step). (s.phase < phase) × (s.tree ≡ number → CountsAt old (calls_before earlier number s.phase) s.outcome)) (On number (λ (s : Step). CountsAt a.history (calls_before (earlier ++ steps) number s.phase) s.outcome)) earlier
@@ -60,7 +60,7 @@ phase_tracks passes number phase earlier steps b a some earlier_placed placed t 
           (both _ _ steps placed (recursion_from_All _ steps ph.counts)));
       holders = all_join (On number (IsHeldRightly (earlier ++ steps))) earlier steps
           (every (On number (IsHeldRightly earlier)) (On number (IsHeldRightly (earlier ++ steps))) earlier (λ s h on. still_held s earlier steps (h on)) t.holders)
-          (every (λ (s : Step). InPhase passes phase s × ((s.tree ≡ number → OtherThan s.lane s.outcome) × (s.tree ≡ number → Holds a.history s.lane s.outcome))) (On number (IsHeldRightly (earlier ++ steps))) steps
+          (every (λ (s : Step). InPhase passes phase s × ((s.tree ≡ number → OtherThan s.lane s.outcome) × (s.tree ≡ number → StandsInHistory a.history s.lane s.outcome))) (On number (IsHeldRightly (earlier ++ steps))) steps
           (λ s h on. step_held number s s.outcome (earlier ++ steps) a on (every (λ (r : Step). r.phase ≤ phase) (λ (r : Step). r.phase ≤ s.phase) (earlier ++ steps) (λ r l. omega (arith, l, h.0.0)) upto_phase) readers ph.settled (h.1.0 on) (h.1.1 on))
           (both _ _ steps placed (both _ _ steps names holds)));
     }

@@ -13,11 +13,11 @@ use Rattle.mt_base.proofs.Goings.{begins_none}
 use Rattle.mt_log.specs.declared.lines.Item.TheVariants as items
 use Rattle.mt_log.specs.declared.transcripts.Said.TheVariants as said
 use Rattle.mt_log.specs.Run.{Asked, Called, Looked, Counted, Step, AreDone}
-use Rattle.mt_runs.specs.Gone.{HaveGone, IsCounted, IsPhaseGone}
+use Rattle.mt_runs.specs.Gone.{HaveGone, CountsRanges, IsPhaseGone}
 use Rattle.mt_runs.specs.Leads.{Leads, outcomes_of}
-use Rattle.mt_runs.specs.OneThread.{IsNext, informed, known_to_all, step_in}
+use Rattle.mt_runs.specs.OneThread.{IsNext, informed, known_to_all, step_of_line}
 use Rattle.mt_runs.specs.Phases.{Tracked, IsPhase}
-use Rattle.mt_runs.specs.Rooms.{asked_of_lane, AreAnswered, joined}
+use Rattle.mt_runs.specs.Rooms.{asked_of_lane, AreDoneEach, answers_joined}
 use Rattle.mt_runs.proofs.Answered.{done_is_next}
 use Rattle.mt_runs.proofs.Informed.{informed_are_settled, informed_reads, informed_saw, informed_wrote, settled_next}
 use Rattle.mt_runs.proofs.LanesPhase.{lanes_phase}
@@ -46,13 +46,13 @@ abbrev tree_behind : History
 tree_behind = tree_after (earlier ∷ later ∷ [])
 
 abbrev checked : Step
-checked = step_in 1 0 5 0 (Counted said.Lawful one_range)
+checked = step_of_line 1 0 5 0 (Counted said.Lawful one_range)
 
 abbrev stored : Step
-stored = step_in 1 1 7 0 (Called 2 (calls.Store 5 5 3) (replies.Over 1))
+stored = step_of_line 1 1 7 0 (Called 2 (calls.Store 5 5 3) (replies.Over 1))
 
 abbrev loaded : Step
-loaded = step_in 1 0 9 0 (Looked 1 1 1 (queries.Load 5) (Some (record { first = 0; last = 9; entry = 1 })))
+loaded = step_of_line 1 0 9 0 (Looked 1 1 1 (queries.Load 5) (Some (record { first = 0; last = 9; entry = 1 })))
 
 abbrev the_check : List Asked
 the_check = record { line = 5; lane = 0; phase = 1; item = items.Check 0 } ∷ []
@@ -85,7 +85,7 @@ settled_behind = settled_next 2 tree_before later three_ranges (omega arith) set
 gone : HaveGone 0 tree_before told (known_to_all 2 tree_before).passes halfway
 gone = record { count = refl; leads = leads }
   where
-    leads : (lane : ℕ) (p m : Pass) → slice_get (known_to_all 2 tree_before).passes lane ≡ Some p → slice_get halfway lane ≡ Some m → Leads tree_before p (outcomes_of 0 lane (joined (told lane))) m
+    leads : (lane : ℕ) (p m : Pass) → slice_get (known_to_all 2 tree_before).passes lane ≡ Some p → slice_get halfway lane ≡ Some m → Leads tree_before p (outcomes_of 0 lane (answers_joined (told lane))) m
     leads zero p m was is = rw (same_some p (informed (earlier ∷ []) 0) (sym was), same_some m (informed (earlier ∷ []) 0) (sym is)) (leads_one tree_before (informed (earlier ∷ []) 0) loaded.outcome (informed (earlier ∷ []) 0) (informed_reads tree_before 0 (queries.Load 5) settled_before.legal))
     leads (suc zero) p m was is = rw (same_some p (informed (earlier ∷ []) 1) (sym was), same_some m (informed (earlier ∷ later ∷ []) 1) (sym is)) (leads_one tree_before (informed (earlier ∷ []) 1) stored.outcome (informed (earlier ∷ later ∷ []) 1) (refl, informed_wrote tree_before 1 (calls.Store 5 5 3) (replies.Over 1) three_ranges settled_before.legal next))
     leads (suc (suc lane)) p m was is = cc
@@ -109,7 +109,7 @@ settled = record { count = refl; each = each; settled = settled_behind }
 
 -- ---- the phase
 
-answered : (lane : ℕ) → AreAnswered (asked_of_lane lane the_steps) (told lane)
+answered : (lane : ℕ) → AreDoneEach (asked_of_lane lane the_steps) (told lane)
 answered zero = ((1, 1, 1, Some (record { first = 0; last = 9; entry = 1 }), refl), tt)
 answered (suc zero) = ((2, replies.Over 1, refl), tt)
 answered (suc (suc lane)) = rw (ne_eqb 1 (suc (suc lane)) (λ same. absurd (omega arith)), ne_eqb 0 (suc (suc lane)) (λ same. absurd (omega arith))) tt
@@ -124,7 +124,7 @@ the_phase = lanes_phase 2 1 the_steps the_check (checked ∷ []) told (known_to_
     (omega arith, (omega arith, (omega arith, tt)))
     (refl, (refl, tt))
     (checked ∷ [], [], refl, (one_range, refl), refl)
-    (All-from_recursion (IsCounted (known_to_all 2 tree_before ∷ [])) (checked ∷ []) (record { said = said.Lawful; ranges = one_range; tracked = known_to_all 2 tree_before; outcome = refl; is = refl; counts = refl }, tt))
+    (All-from_recursion (CountsRanges (known_to_all 2 tree_before ∷ [])) (checked ∷ []) (record { said = said.Lawful; ranges = one_range; tracked = known_to_all 2 tree_before; outcome = refl; is = refl; counts = refl }, tt))
     answered refl of_tree
 
 pub worked_phase : IsPhase 2 1 (checked ∷ stored ∷ loaded ∷ []) (known_to_all 2 tree_before ∷ []) (known_to_all 2 tree_behind ∷ [])

@@ -14,7 +14,7 @@ use Rattle.mt_log.specs.declared.transcripts.Transcript.{Transcript}
 use Rattle.mt_log.specs.declared.trees.KnownTree.{KnownTree}
 use Rattle.mt_log.specs.Run.{Called, Looked, Counted, Step, AreDone, IsRun, steps_of}
 use Rattle.mt_log.specs.Trees.{Declared, Empty, CopyOf}
-use Rattle.mt_runs.specs.OneThread.{HasPlayed, IsNext, step_in}
+use Rattle.mt_runs.specs.OneThread.{HasPlayed, IsNext, step_of_line}
 use Rattle.mt_runs.proofs.Answered.{done_is_next}
 use Rattle.mt_runs.proofs.Played.{call_played, copy_played, count_played, nothing_played, phase_played, played_is_run, read_played, tree_played}
 
@@ -49,16 +49,16 @@ abbrev b_declared : Declared
 b_declared = record { tree = tree_b; opening = CopyOf 0 1 }
 
 abbrev stored : Step
-stored = step_in 0 0 3 0 (Called 1 (calls.Store 0 9 1) replies.Ok)
+stored = step_of_line 0 0 3 0 (Called 1 (calls.Store 0 9 1) replies.Ok)
 
 abbrev copied : Step
-copied = step_in 1 0 5 0 (Counted said.Copied one_range)
+copied = step_of_line 1 0 5 0 (Counted said.Copied one_range)
 
 abbrev stored_again : Step
-stored_again = step_in 1 0 6 0 (Called 2 (calls.Store 5 5 3) (replies.Over 1))
+stored_again = step_of_line 1 0 6 0 (Called 2 (calls.Store 5 5 3) (replies.Over 1))
 
 abbrev loaded : Step
-loaded = step_in 1 0 7 1 (Looked 0 0 0 (queries.Load 5) (Some (record { first = 0; last = 9; entry = 1 })))
+loaded = step_of_line 1 0 7 1 (Looked 0 0 0 (queries.Load 5) (Some (record { first = 0; last = 9; entry = 1 })))
 
 next_one : IsNext (a_after []) first_call one_range
 next_one = done_is_next (a_after []) 0 (calls.Store 0 9 1) one_range replies.Ok refl

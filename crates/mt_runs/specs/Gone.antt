@@ -8,7 +8,7 @@ use Rattle.mt_log.specs.declared.transcripts.Said.{Said}
 use Rattle.mt_log.specs.Run.{Counted, Step}
 use Rattle.mt_runs.specs.Leads.{Leads, outcomes_of}
 use Rattle.mt_runs.specs.Phases.{Tracked}
-use Rattle.mt_runs.specs.Rooms.{joined}
+use Rattle.mt_runs.specs.Rooms.{answers_joined}
 
 -- f 0 + f 1 + .., so many numbers
 abbrev pub sum_below : ℕ → (ℕ → ℕ) → ℕ
@@ -23,7 +23,7 @@ pub record OnlySaw (tree : History) (before after : List Pass) : Type 0 where
 -- On the tree of this number each lane's pass went through what its lane was answered.
 pub record HaveGone (number : ℕ) (old : History) (answers : ℕ → List (List Step)) (before between : List Pass) : Type 0 where
   pub count : length between ≡ length before
-  pub leads : (lane : ℕ) (p m : Pass) → slice_get before lane ≡ Some p → slice_get between lane ≡ Some m → Leads old p (outcomes_of number lane (joined (answers lane))) m
+  pub leads : (lane : ℕ) (p m : Pass) → slice_get before lane ≡ Some p → slice_get between lane ≡ Some m → Leads old p (outcomes_of number lane (answers_joined (answers lane))) m
 
 -- On the tree of this number each lane's pass went so, and then all were settled.
 pub record IsPhaseGone (number : ℕ) (before after : Tracked) (answers : ℕ → List (List Step)) : Type 0 where
@@ -33,7 +33,7 @@ pub record IsPhaseGone (number : ℕ) (before after : Tracked) (answers : ℕ �
   pub tree : after.history ≡ with_records before.history after.history.records
 
 -- The step counts the ranges of its tree, which is one of these, as it stands.
-pub record IsCounted (trees : List Tracked) (s : Step) : Type 0 where
+pub record CountsRanges (trees : List Tracked) (s : Step) : Type 0 where
   pub said : ℕ → Said
   pub ranges : List Range
   pub tracked : Tracked

@@ -44,8 +44,8 @@ pub record IsNext (h : History) (r : Record) (after : List Range) : Type 0 where
   pub unheld : holder_of r.reply ≡ None
 
 -- a step of a line
-abbrev pub step_in : ℕ → ℕ → ℕ → ℕ → Outcome → Step
-step_in phase lane line tree outcome = record { line = line; lane = lane; phase = phase; tree = tree; outcome = outcome }
+abbrev pub step_of_line : ℕ → ℕ → ℕ → ℕ → Outcome → Step
+step_of_line phase lane line tree outcome = record { line = line; lane = lane; phase = phase; tree = tree; outcome = outcome }
 
 -- These steps were done so far, and these are the trees that were declared, each with so many rows and passes: the phases below
 -- this one have gone by, and this one goes on. Where no call, query or scan of this phase was made yet, the trees are as they

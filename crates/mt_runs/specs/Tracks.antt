@@ -32,17 +32,17 @@ abbrev pub OrderOn : ℕ → Step → Step → Type 0
 OrderOn tree s t = s.tree ≡ tree → t.tree ≡ tree → Knows s t → Follows s.outcome t.outcome
 
 -- this is the record of this number
-pub record StandsAt (records : List Record) (number : ℕ) (r : Record) : Type 0 where
+pub record IsRecordAt (records : List Record) (number : ℕ) (r : Record) : Type 0 where
   pub front : List Record
   pub rest : List Record
   pub is : records ≡ front ++ r ∷ rest
   pub at : length front + 1 ≡ number
 
 -- what a lane was answered stands in the tree's history
-abbrev pub Holds : History → ℕ → Outcome → Type 0
-Holds tree lane (Called number call reply) = StandsAt tree.records number (record { pass = lane; call = call; reply = reply })
-Holds tree lane (Looked lo hi k query value) = IsTrueRead tree k lo hi query value
-Holds tree lane (Counted said ranges) = Unit {0}
+abbrev pub StandsInHistory : History → ℕ → Outcome → Type 0
+StandsInHistory tree lane (Called number call reply) = IsRecordAt tree.records number (record { pass = lane; call = call; reply = reply })
+StandsInHistory tree lane (Looked lo hi k query value) = IsTrueRead tree k lo hi query value
+StandsInHistory tree lane (Counted said ranges) = Unit {0}
 
 -- the ranges that were counted are those after the first k calls
 abbrev pub CountsAt : History → ℕ → Outcome → Type 0
@@ -52,13 +52,13 @@ CountsAt tree k (Counted said ranges) = ranges ≡ map_at tree k
 
 -- ---- what a tree's passes have of its steps
 
-abbrev pub number_of : Outcome → Option ℕ
-number_of (Called number call reply) = Some number
-number_of (Looked lo hi k query value) = None
-number_of (Counted said ranges) = None
+abbrev pub call_number : Outcome → Option ℕ
+call_number (Called number call reply) = Some number
+call_number (Looked lo hi k query value) = None
+call_number (Counted said ranges) = None
 
 abbrev pub numbers_of : List Outcome → List ℕ
-numbers_of outcomes = filter_map number_of outcomes
+numbers_of outcomes = filter_map call_number outcomes
 
 -- each pass's own calls are those of its lane
 abbrev pub OwnCalls : ℕ → List Step → List Pass → Type 0
@@ -81,7 +81,7 @@ pub record Tracks (passes number : ℕ) (steps : List Step) (t : Tracked) : Type
   pub readers : OwnReads number steps t.passes
   pub upto : AllByRecursion (On number (λ s. TellsUpTo (length t.history.records) s.outcome)) steps
   pub order : Pairs (OrderOn number) steps
-  pub holds : AllByRecursion (On number (λ s. Holds t.history s.lane s.outcome)) steps
+  pub holds : AllByRecursion (On number (λ s. StandsInHistory t.history s.lane s.outcome)) steps
   pub counts : AllByRecursion (On number (λ s. CountsAt t.history (calls_before steps number s.phase) s.outcome)) steps
   pub holders : AllByRecursion (On number (IsHeldRightly steps)) steps
 

@@ -13,11 +13,11 @@ ghost use Rattle.mt_log.specs.Phases.{stepped_after};
 ghost use Rattle.mt_log.specs.declared.transcripts.Said.TheVariants as said;
 ghost use Rattle.mt_log.specs.Run.{Asked, Outcome, Called, Looked, Counted, Step, AreDone, IsDone};
 ghost use Rattle.mt_log.specs.Trees.{NamesBelow};
-ghost use Rattle.mt_runs.specs.Gone.{HaveGone, IsCounted, IsPhaseGone, OnlySaw, sum_below};
+ghost use Rattle.mt_runs.specs.Gone.{HaveGone, CountsRanges, IsPhaseGone, OnlySaw, sum_below};
 ghost use Rattle.mt_runs.specs.Leads.{Learns, Does, Leads, outcomes_of};
-ghost use Rattle.mt_runs.specs.OneThread.{known_to_all, step_in};
+ghost use Rattle.mt_runs.specs.OneThread.{known_to_all, step_of_line};
 ghost use Rattle.mt_runs.specs.Phases.{Tracked, IsPhase, IsPhaseOn, Counts};
-ghost use Rattle.mt_runs.specs.Rooms.{asked_of_lane, AreAnswered, take_turns, lanes_of, joined};
+ghost use Rattle.mt_runs.specs.Rooms.{asked_of_lane, AreDoneEach, take_turns, lanes_of, answers_joined};
 ghost use Rattle.mt_runs.specs.Tracks.{numbers_of};
 
 /// A pass learns of others by the lock, when it is settled, and by a note, and where its section is closed it has made no call
@@ -49,9 +49,9 @@ pub fn a_phase_ends_where_passes_are_settled()
 /// What the lanes were answered, each in its room, is put back in the order of the log: it is what came of the lines, and in
 /// each lane it is what came of them there.
 pub fn answers_are_put_back()
-    ensures done { (asked : List Asked) (rooms : ℕ → List (List Step)) → ((lane : ℕ) → AreAnswered (asked_of_lane lane asked) (rooms lane)) → AreDone asked (joined (take_turns (lanes_of asked) rooms)) }
-    ensures lanes { (asked : List Asked) (rooms : ℕ → List (List Step)) → ((lane : ℕ) → AreAnswered (asked_of_lane lane asked) (rooms lane))
-        → (tree lane : ℕ) → outcomes_of tree lane (joined (take_turns (lanes_of asked) rooms)) ≡ outcomes_of tree lane (joined (rooms lane)) }
+    ensures done { (asked : List Asked) (rooms : ℕ → List (List Step)) → ((lane : ℕ) → AreDoneEach (asked_of_lane lane asked) (rooms lane)) → AreDone asked (answers_joined (take_turns (lanes_of asked) rooms)) }
+    ensures lanes { (asked : List Asked) (rooms : ℕ → List (List Step)) → ((lane : ℕ) → AreDoneEach (asked_of_lane lane asked) (rooms lane))
+        → (tree lane : ℕ) → outcomes_of tree lane (answers_joined (take_turns (lanes_of asked) rooms)) ≡ outcomes_of tree lane (answers_joined (rooms lane)) }
 {}
 
 /// Where a tree's passes were settled and none has made a call since, nothing of them is another when they are settled again.
@@ -65,7 +65,7 @@ pub fn settled_passes_stay()
 pub fn calls_are_those_of_the_lanes()
     ensures calls { (number : ℕ) (old new : History) (answers : ℕ → List (List Step)) (before between after : List Pass) → IsSettled old before → HaveGone number old answers before between → Settled new between after
         → new ≡ with_records old new.records
-        → length new.records ≡ length old.records + sum_below (length before) (λ lane. length (numbers_of (outcomes_of number lane (joined (answers lane))))) }
+        → length new.records ≡ length old.records + sum_below (length before) (λ lane. length (numbers_of (outcomes_of number lane (answers_joined (answers lane))))) }
     ensures seen { (new : History) (between after : List Pass) → Settled new between after → (lane : ℕ) (m : Pass) → slice_get between lane ≡ Some m → length m.seen ≤ length new.records }
     ensures begins { (new : History) (between after : List Pass) → Settled new between after → (lane : ℕ) (m : Pass) → slice_get between lane ≡ Some m → Begins m.seen new.records }
 {}
@@ -77,12 +77,12 @@ pub fn lanes_make_a_phase()
         → AllByRecursion (λ (a : Asked). (a.phase ≡ phase) × (a.lane < passes)) (counted ++ asked)
         → AllByRecursion (λ (a : Asked). NamesBelow (length before) a.item) (counted ++ asked)
         → AllByRecursion (λ (a : Asked). stepped_after false a.item ≡ true) asked
-        → AreDone counted csteps → All (λ (s : Step). IsCounted before s) csteps
-        → ((lane : ℕ) → AreAnswered (asked_of_lane lane asked) (answers lane))
+        → AreDone counted csteps → All (λ (s : Step). CountsRanges before s) csteps
+        → ((lane : ℕ) → AreDoneEach (asked_of_lane lane asked) (answers lane))
         → length after ≡ length before
         → ((tree : ℕ) (b a : Tracked) → slice_get before tree ≡ Some b → slice_get after tree ≡ Some a → (length b.passes ≡ passes) × IsPhaseGone tree b a answers)
-        → IsPhase passes phase (csteps ++ joined (take_turns (lanes_of asked) answers)) before after
-        × AreDone (counted ++ asked) (csteps ++ joined (take_turns (lanes_of asked) answers)) }
+        → IsPhase passes phase (csteps ++ answers_joined (take_turns (lanes_of asked) answers)) before after
+        × AreDone (counted ++ asked) (csteps ++ answers_joined (take_turns (lanes_of asked) answers)) }
 {}
 
 /// A line makes one call at the most, so no lane makes more calls than it has lines, and all lanes have no more lines than there
@@ -90,7 +90,7 @@ pub fn lanes_make_a_phase()
 pub fn lanes_make_no_more_calls_than_lines()
     ensures line { (number lane : ℕ) (a : Asked) (steps : List Step) → IsDone a a.item steps → length (numbers_of (outcomes_of number lane steps)) ≤ 1 }
     ensures on { (number lane : ℕ) (steps more : List Step) → length (numbers_of (outcomes_of number lane (steps ++ more))) ≡ length (numbers_of (outcomes_of number lane steps)) + length (numbers_of (outcomes_of number lane more)) }
-    ensures lane { (number lane : ℕ) (asked : List Asked) (answers : List (List Step)) → AreAnswered asked answers → length (numbers_of (outcomes_of number lane (joined answers))) ≤ length asked }
+    ensures lane { (number lane : ℕ) (asked : List Asked) (answers : List (List Step)) → AreDoneEach asked answers → length (numbers_of (outcomes_of number lane (answers_joined answers))) ≤ length asked }
     ensures lanes { (lanes : ℕ) (asked : List Asked) → sum_below lanes (λ lane. length (asked_of_lane lane asked)) ≤ length asked }
     ensures sums { (lanes : ℕ) (f g : ℕ → ℕ) → ((lane : ℕ) → lane < lanes → f lane ≤ g lane) → sum_below lanes f ≤ sum_below lanes g }
 {}
@@ -99,9 +99,9 @@ pub fn lanes_make_no_more_calls_than_lines()
 /// load a 5`. Lane 0 loads what stood there before lane 1's store. And a worked sum.
 pub fn a_worked_phase()
     ensures phase { IsPhase 2 1
-        (step_in 1 0 5 0 (Counted said.Lawful (record { first = 0; last = 9; entry = 1 } ∷ []))
-        ∷ step_in 1 1 7 0 (Called 2 (calls.Store 5 5 3) (replies.Over 1))
-        ∷ step_in 1 0 9 0 (Looked 1 1 1 (queries.Load 5) (Some (record { first = 0; last = 9; entry = 1 }))) ∷ [])
+        (step_of_line 1 0 5 0 (Counted said.Lawful (record { first = 0; last = 9; entry = 1 } ∷ []))
+        ∷ step_of_line 1 1 7 0 (Called 2 (calls.Store 5 5 3) (replies.Over 1))
+        ∷ step_of_line 1 0 9 0 (Looked 1 1 1 (queries.Load 5) (Some (record { first = 0; last = 9; entry = 1 }))) ∷ [])
         (known_to_all 2 (record { kind = kinds.Range; rows = 65504; opening = []; records = record { pass = 0; call = calls.Store 0 9 1; reply = replies.Ok } ∷ [] }) ∷ [])
         (known_to_all 2 (record { kind = kinds.Range; rows = 65504; opening = []; records = record { pass = 0; call = calls.Store 0 9 1; reply = replies.Ok } ∷ record { pass = 1; call = calls.Store 5 5 3; reply = replies.Over 1 } ∷ [] }) ∷ []) }
     ensures sum { sum_below 3 (λ n. n + 4) ≡ 15 }

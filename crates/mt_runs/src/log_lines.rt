@@ -7,7 +7,7 @@ ghost use Rattle.std.specs.Option.{option_to_list};
 ghost use Rattle.mt_log.specs.declared.lines.Line.{Line};
 ghost use Rattle.mt_log.specs.Phases.{IsInPlace, phase_after, stepped_after, stepped_from};
 ghost use Rattle.mt_log.specs.Run.{Asked, Step, AreDone, asked_from, lane_after, steps_of};
-ghost use Rattle.mt_log.specs.Trees.{IsReadable, NamesBelow, RiseFrom, declared_by, most_lanes, trees_from, trees_of};
+ghost use Rattle.mt_log.specs.Trees.{IsReadable, NamesBelow, NumbersRiseFrom, declared_by, most_lanes, trees_from, trees_of};
 ghost use Rattle.mt_runs.specs.Lines.{asked_by, lane_behind, phase_behind};
 ghost use Rattle.mt_runs.specs.Tracks.{Pairs};
 
@@ -50,6 +50,6 @@ pub fn a_line_of_a_readable_log()
 
 /// The numbers of any two lines differ, of a log that can be read and of each stretch of it.
 pub fn lines_have_numbers_of_their_own()
-    ensures rising { (least : ℕ) (lines : List Line) → RiseFrom least lines → Pairs (λ (a b : Line). b.number ≢ a.number) lines }
+    ensures rising { (least : ℕ) (lines : List Line) → NumbersRiseFrom least lines → Pairs (λ (a b : Line). b.number ≢ a.number) lines }
     ensures stretch { (front lines rest : List Line) → IsReadable (front ++ lines ++ rest) → Pairs (λ (a b : Line). b.number ≢ a.number) lines }
 {}

@@ -23,7 +23,7 @@ ghost use Rattle.mt_log.specs.declared.transcripts.Transcript.{Transcript};
 ghost use Rattle.mt_log.specs.declared.trees.KnownTree.{KnownTree};
 ghost use Rattle.mt_log.specs.Run.{Called, Looked, Counted, Step, AreDone, IsRun, steps_of, entry_of, listings_of};
 ghost use Rattle.mt_log.specs.Trees.{Declared, Empty, CopyOf, trees_of};
-ghost use Rattle.mt_runs.specs.OneThread.{HasPlayed, MayLimit, IsNext, informed, known_to_all, step_in, with_call};
+ghost use Rattle.mt_runs.specs.OneThread.{HasPlayed, MayLimit, IsNext, informed, known_to_all, step_of_line, with_call};
 ghost use Rattle.mt_runs.specs.Phases.{new_history};
 
 /// A call that a map with such limits made is the next of its tree's history, and the limits are such as the history after it
@@ -63,20 +63,20 @@ pub fn a_tree_is_played()
 /// The ranges of a tree are counted, where no step of this phase was made yet.
 pub fn a_count_is_played()
     ensures { (passes rows phase : ℕ) (declared : List Declared) (steps : List Step) (trees : List History) (line tree : ℕ) (h : History) (tells : ℕ → Said) → HasPlayed passes rows phase false declared steps trees → slice_get trees tree ≡ Some h
-        → HasPlayed passes rows phase false declared (steps ++ step_in phase 0 line tree (Counted tells (last_map h)) ∷ []) trees }
+        → HasPlayed passes rows phase false declared (steps ++ step_of_line phase 0 line tree (Counted tells (last_map h)) ∷ []) trees }
 {}
 
 /// A lane makes the next call of a tree.
 pub fn a_call_is_played()
     ensures { (passes rows phase : ℕ) (stepped : Bool) (declared : List Declared) (steps : List Step) (trees : List History) (lane line tree : ℕ) (h : History) (call : Call) (reply : Reply) (after : List Range) → HasPlayed passes rows phase stepped declared steps trees
         → slice_get trees tree ≡ Some h → lane < passes → IsNext h (record { pass = lane; call = call; reply = reply }) after
-        → HasPlayed passes rows phase true declared (steps ++ step_in phase lane line tree (Called (length h.records + 1) call reply) ∷ []) (slice_set trees tree (with_call h (record { pass = lane; call = call; reply = reply }))) }
+        → HasPlayed passes rows phase true declared (steps ++ step_of_line phase lane line tree (Called (length h.records + 1) call reply) ∷ []) (slice_set trees tree (with_call h (record { pass = lane; call = call; reply = reply }))) }
 {}
 
 /// A lane reads a tree as it stands: the window is the number of its calls, twice.
 pub fn a_read_is_played()
     ensures { (passes rows phase : ℕ) (stepped : Bool) (declared : List Declared) (steps : List Step) (trees : List History) (lane line tree : ℕ) (h : History) (query : Query) → HasPlayed passes rows phase stepped declared steps trees → slice_get trees tree ≡ Some h → lane < passes
-        → HasPlayed passes rows phase true declared (steps ++ step_in phase lane line tree (Looked (length h.records) (length h.records) (length h.records) query (answer (last_map h) query)) ∷ []) trees }
+        → HasPlayed passes rows phase true declared (steps ++ step_of_line phase lane line tree (Looked (length h.records) (length h.records) (length h.records) query (answer (last_map h) query)) ∷ []) trees }
 {}
 
 /// A phase ends, and the next begins.
@@ -104,10 +104,10 @@ pub fn what_was_played_is_a_run()
 pub fn a_worked_play()
     ensures played { HasPlayed 1 65504 1 true
         (record { tree = record { name = 97 ∷ []; kind = kinds.Range }; opening = Empty } ∷ record { tree = record { name = 98 ∷ []; kind = kinds.Range }; opening = CopyOf 0 1 } ∷ [])
-        (step_in 0 0 3 0 (Called 1 (calls.Store 0 9 1) replies.Ok)
-        ∷ step_in 1 0 5 0 (Counted said.Copied (record { first = 0; last = 9; entry = 1 } ∷ []))
-        ∷ step_in 1 0 6 0 (Called 2 (calls.Store 5 5 3) (replies.Over 1))
-        ∷ step_in 1 0 7 1 (Looked 0 0 0 (queries.Load 5) (Some (record { first = 0; last = 9; entry = 1 }))) ∷ [])
+        (step_of_line 0 0 3 0 (Called 1 (calls.Store 0 9 1) replies.Ok)
+        ∷ step_of_line 1 0 5 0 (Counted said.Copied (record { first = 0; last = 9; entry = 1 } ∷ []))
+        ∷ step_of_line 1 0 6 0 (Called 2 (calls.Store 5 5 3) (replies.Over 1))
+        ∷ step_of_line 1 0 7 1 (Looked 0 0 0 (queries.Load 5) (Some (record { first = 0; last = 9; entry = 1 }))) ∷ [])
         (record { kind = kinds.Range; rows = 65504; opening = []; records = record { pass = 0; call = calls.Store 0 9 1; reply = replies.Ok } ∷ record { pass = 0; call = calls.Store 5 5 3; reply = replies.Over 1 } ∷ [] }
         ∷ record { kind = kinds.Range; rows = 65504; opening = record { first = 0; last = 9; entry = 1 } ∷ []; records = [] } ∷ []) }
     ensures run { IsRun

@@ -5,16 +5,16 @@ use Rattle.std.proofs.lemmas.List.{drop_more}
 use Rattle.mt_base.specs.declared.ranges.Range.{Range}
 use Rattle.mt_base.specs.Holes.{Hole}
 use Rattle.mt_base.specs.Map.{IsMapFrom}
-use Rattle.mt_shelves.specs.Shelves.{AreUpTo, holes_after}
+use Rattle.mt_shelves.specs.Shelves.{AreHolesUpTo, holes_after}
 
 -- so far: the ranges from a place on are above this index, and holes are no longer than some length where those behind are not
 pub record IsLongest (ranges : List Range) (index at last longest : ℕ) : Type 0 where
   pub above : IsMapFrom (last + 1) (drop at ranges)
-  pub holes : (room : ℕ) → longest ≤ room → AreUpTo room (holes_after (last + 1) (drop at ranges)) → AreUpTo room (holes_after (index + 1) ranges)
+  pub holes : (room : ℕ) → longest ≤ room → AreHolesUpTo room (holes_after (last + 1) (drop at ranges)) → AreHolesUpTo room (holes_after (index + 1) ranges)
 
-holes_more : (room low : ℕ) (r : Range) (m : List Range) → r.first ≤ low + room → AreUpTo room (holes_after (r.last + 1) m) → AreUpTo room (holes_after low (r ∷ m))
+holes_more : (room low : ℕ) (r : Range) (m : List Range) → r.first ≤ low + room → AreHolesUpTo room (holes_after (r.last + 1) m) → AreHolesUpTo room (holes_after low (r ∷ m))
 holes_more room low r m near behind =
-    cond_both (nat_lt low r.first) _ _ (λ (hole : List Hole). AreUpTo room (hole ++ holes_after (r.last + 1) m))
+    cond_both (nat_lt low r.first) _ _ (λ (hole : List Hole). AreHolesUpTo room (hole ++ holes_after (r.last + 1) m))
     (λ some. (omega (arith, near, ltb-true low r.first some), behind))
     (λ none. behind)
 
@@ -25,5 +25,5 @@ longest_more ranges index at last longest new d within so rise long =
     record {
       above = above.3;
       holes = λ room most behind.
-          so.holes room (omega (arith, rise, most)) (subst (λ (m : List Range). AreUpTo room (holes_after (last + 1) m)) (sym next) (holes_more room (last + 1) (get_or ranges at d) (drop (at + 1) ranges) (omega (arith, long, most)) behind));
+          so.holes room (omega (arith, rise, most)) (subst (λ (m : List Range). AreHolesUpTo room (holes_after (last + 1) m)) (sym next) (holes_more room (last + 1) (get_or ranges at d) (drop (at + 1) ranges) (omega (arith, long, most)) behind));
     }

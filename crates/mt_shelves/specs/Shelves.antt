@@ -9,7 +9,7 @@ use Rattle.mt_base.specs.declared.ranges.Range.{Range}
 use Rattle.mt_base.specs.Holes.{Hole, hole_between}
 use Rattle.mt_base.specs.Map.{IsMap, IsMapFrom, first_range}
 use Rattle.mt_list.specs.Places.{last_of}
-use Rattle.mt_shelves.specs.declared.extents.Extent.{Extent}
+use Rattle.mt_shelves.specs.declared.extents.ShelfExtent.{ShelfExtent}
 
 -- the ranges of all shelves
 abbrev pub joined : List (List Range) → List Range
@@ -94,8 +94,8 @@ holes_in [] = []
 holes_in (r ∷ m) = holes_after (r.last + 1) m
 
 -- none of these holes has more indexes
-abbrev pub AreUpTo : ℕ → List Hole → Type 0
-AreUpTo room holes = AllByRecursion (λ (x : Hole). x.last < x.first + room) holes
+abbrev pub AreHolesUpTo : ℕ → List Hole → Type 0
+AreHolesUpTo room holes = AllByRecursion (λ (x : Hole). x.last < x.first + room) holes
 
 -- where the first range begins and the last one ends
 abbrev pub start_in : Option Range → ℕ
@@ -106,17 +106,17 @@ abbrev pub end_in : Option Range → ℕ
 end_in None = 0
 end_in (Some r) = r.last
 
-abbrev pub start_of : List Range → ℕ
-start_of m = start_in (first_range m)
+abbrev pub shelf_start : List Range → ℕ
+shelf_start m = start_in (first_range m)
 
-abbrev pub end_of : List Range → ℕ
-end_of m = end_in (last_of m)
+abbrev pub shelf_end : List Range → ℕ
+shelf_end m = end_in (last_of m)
 
 -- what is noted of a shelf
-pub record IsExtent (e : Extent) (m : List Range) : Type 0 where
-  pub start : e.start ≡ start_of m
-  pub end : e.end ≡ end_of m
-  pub room : AreUpTo e.room (holes_in m)
+pub record IsExtent (e : ShelfExtent) (m : List Range) : Type 0 where
+  pub start : e.start ≡ shelf_start m
+  pub end : e.end ≡ shelf_end m
+  pub room : AreHolesUpTo e.room (holes_in m)
 
 -- Ranges that begin and end there, with holes no longer than some room, may have room for so many indexes in a window.
 abbrev pub has_room : ℕ → ℕ → ℕ → ℕ → ℕ → ℕ → Bool

@@ -2,7 +2,7 @@
 
 ghost use Rattle.std.specs.Prelude.{◌≡◌, ◌+◌, ◌-◌, ◌≤◌, ◌<◌};
 ghost use Rattle.mt_base.specs.Map.{IsMapFrom};
-ghost use Rattle.mt_shelves.specs.Shelves.{AreUpTo, holes_after, holes_in};
+ghost use Rattle.mt_shelves.specs.Shelves.{AreHolesUpTo, holes_after, holes_in};
 
 use mt_base::Range;
 
@@ -10,7 +10,7 @@ use mt_base::Range;
 #[tactic(auto, using(crate::proofs::LongestHole::longest_more))]
 fn longest_above(ranges: &[Range], index: u64) -> u64
     requires { IsMapFrom (index + 1) ranges.now }
-    ensures { AreUpTo result (holes_after (index + 1) ranges.now) }
+    ensures { AreHolesUpTo result (holes_after (index + 1) ranges.now) }
 {
     let mut longest = 0;
     let mut last = index;
@@ -24,7 +24,7 @@ fn longest_above(ranges: &[Range], index: u64) -> u64
 /// The length of the longest hole between these ranges.
 fn longest_hole(ranges: &[Range]) -> u64
     requires { IsMapFrom 0 ranges.now }
-    ensures { AreUpTo result (holes_in ranges.now) }
+    ensures { AreHolesUpTo result (holes_in ranges.now) }
 {
     match ranges.split_first() {
         Some((range, rest)) => longest_above(rest, range.last),
@@ -34,13 +34,13 @@ fn longest_hole(ranges: &[Range]) -> u64
 
 /// Where ranges begin and end, both 0 where there are none, and a length that no hole between them is above.
 #[derive(Clone, Copy, Debug)]
-pub struct Extent {
+pub struct ShelfExtent {
     pub start: u64,
     pub end: u64,
     pub room: u64,
 }
 
-impl Extent {
+impl ShelfExtent {
     ghost use Rattle.mt_base.specs.Map.{IsMapFrom};
     ghost use Rattle.mt_shelves.specs.Shelves.{IsExtent};
 
@@ -50,7 +50,7 @@ impl Extent {
         requires { IsMapFrom 0 ranges.now }
         ensures { IsExtent result ranges.now }
     {
-        Extent {
+        ShelfExtent {
             start: ranges.first().map_or(0, |range| range.first),
             end: ranges.last().map_or(0, |range| range.last),
             room: longest_hole(ranges),

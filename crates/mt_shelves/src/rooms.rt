@@ -4,15 +4,15 @@
 ghost use Rattle.std.specs.Prelude.{◌≡◌, ◌+◌, ◌≤◌, ◌<◌, ◌++◌, SomeIff, length};
 ghost use Rattle.mt_base.specs.Holes.{hole_between, high, highest_in, kept, low, lowest_in};
 ghost use Rattle.mt_base.specs.Map.{IsMapFrom};
-ghost use Rattle.mt_shelves.specs.Shelves.{AreShelves, end_of, has_room, holes_after, holes_in, joined, start_of};
+ghost use Rattle.mt_shelves.specs.Shelves.{AreShelves, shelf_end, has_room, holes_after, holes_in, joined, shelf_start};
 
-use crate::extents::Extent;
+use crate::extents::ShelfExtent;
 use crate::shelf::Shelf;
 use mt_base::{Kind, Range, top, width_of};
 use mt_list::Window;
 
 /// Whether ranges with this extent may have room for the window's size in it.
-fn may_have_room(extent: Extent, window: Window) -> bool
+fn may_have_room(extent: ShelfExtent, window: Window) -> bool
     ensures { result ≡ has_room extent.start extent.end extent.room window.size window.min window.max }
 {
     window.size <= extent.room && extent.start < window.max && window.min < extent.end
@@ -53,7 +53,7 @@ fn lowest_within(ranges: &[Range], window: Window) -> Option<u64>
 /// The lowest start of room in the hole before a shelf, from `first` on, and in those on it.
 fn lowest_on(shelf: &Shelf, first: u64, window: Window) -> Option<u64>
     requires { 1 ≤ window.size }
-    ensures { result ≡ lowest_in (kept window.size window.min window.max (hole_between first (start_of shelf.now) ++ holes_in shelf.now)) }
+    ensures { result ≡ lowest_in (kept window.size window.min window.max (hole_between first (shelf_start shelf.now) ++ holes_in shelf.now)) }
 {
     let ranges = shelf.ranges();
     let extent = shelf.extent();
@@ -85,7 +85,7 @@ pub fn lowest(kind: Kind, shelves: &[Shelf], window: Window) -> Option<u64>
 /// Where ranges end, if there are any.
 #[tactic(auto, using(mt_list::proofs::StoreAtPlaces::last_of_is_at_end))]
 fn end_at(ranges: &[Range]) -> Option<u64>
-    ensures { SomeIff result (0 < length ranges.now) (end_of ranges.now) }
+    ensures { SomeIff result (0 < length ranges.now) (shelf_end ranges.now) }
 {
     ranges.last().map(|range| range.last)
 }
@@ -110,7 +110,7 @@ fn highest_within(ranges: &[Range], window: Window) -> Option<u64>
 /// The highest start of room in the hole behind a shelf, up to `last`, and in those on it.
 fn highest_on(shelf: &Shelf, last: u64, window: Window) -> Option<u64>
     requires { 1 ≤ window.size }
-    ensures { result ≡ highest_in window.size (kept window.size window.min window.max (holes_in shelf.now ++ hole_between (end_of shelf.now + 1) (last + 1))) }
+    ensures { result ≡ highest_in window.size (kept window.size window.min window.max (holes_in shelf.now ++ hole_between (shelf_end shelf.now + 1) (last + 1))) }
 {
     let ranges = shelf.ranges();
     let extent = shelf.extent();

@@ -1,6 +1,6 @@
 //! A shelf: some ranges of a map, in rising order, and the longest hole between them.
 
-use crate::extents::Extent;
+use crate::extents::ShelfExtent;
 use mt_base::{NoMemory, Range};
 use std::alloc::Global;
 use std::marker::Model;
@@ -9,7 +9,7 @@ use std::marker::Model;
 #[derive(Debug, Drop)]
 pub struct Shelf {
     ranges: Vec<Range>,
-    extent: Extent,
+    extent: ShelfExtent,
 }
 
 impl Model for Shelf {
@@ -35,7 +35,7 @@ impl Shelf {
         requires { IsMapFrom 0 ranges.items }
         ensures { result ≡ ranges.items }
     {
-        let extent = Extent::of(&ranges);
+        let extent = ShelfExtent::of(&ranges);
         Shelf { ranges, extent }
     }
 
@@ -69,7 +69,7 @@ impl Shelf {
     }
 
     /// Where it begins and ends, and the length of its longest hole.
-    pub fn extent(&self) -> Extent
+    pub fn extent(&self) -> ShelfExtent
         ensures { IsExtent result self.now }
     {
         self.extent
@@ -87,7 +87,7 @@ impl Shelf {
         ensures err { OnErr result (self.new ≡ self.old) }
     {
         mt_list::store(&mut self.ranges, first, last, entry)?;
-        self.extent = Extent::of(&self.ranges);
+        self.extent = ShelfExtent::of(&self.ranges);
         Ok(())
     }
 
@@ -99,7 +99,7 @@ impl Shelf {
         ensures none { IfNone result (self.new ≡ self.old) }
     {
         let range = mt_list::erase(&mut self.ranges, index)?;
-        self.extent = Extent::of(&self.ranges);
+        self.extent = ShelfExtent::of(&self.ranges);
         Some(range)
     }
 
@@ -116,7 +116,7 @@ impl Shelf {
         ensures err { OnErr result (self.new ≡ self.old) }
     {
         let rest = self.ranges.split_off(at)?;
-        self.extent = Extent::of(&self.ranges);
+        self.extent = ShelfExtent::of(&self.ranges);
         Ok(Shelf::of(rest))
     }
 }

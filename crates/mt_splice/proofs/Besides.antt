@@ -16,7 +16,7 @@ use Rattle.mt_rows.specs.Levels.{expand}
 use Rattle.mt_rows.specs.Laws.{Tree, IsRow, top_of, kind_on, covers_all, least_of_root, least_of}
 use Rattle.mt_rows.proofs.FewSpans.{row_most}
 use Rattle.mt_rows.proofs.Lists.{expand-append}
-use Rattle.mt_leaf.specs.Edits.{joined}
+use Rattle.mt_leaf.specs.Edits.{holes_joined}
 use Rattle.mt_leaf.proofs.Holes.{ends_joined, full_unless_hole, no_hole_ends}
 use Rattle.mt_leaf.proofs.Joined.{ranges_joined, fills_joined, apart_joined, length_joined, length_joins}
 use Rattle.mt_path.proofs.TreePaths.{place, lawful}
@@ -49,14 +49,14 @@ beside_many zero xs ys front back = length_joins xs ys front.0 back.0
 beside_many (suc h) xs ys front back = omega (arith, length-append xs ys)
 
 beside_full : (h : ℕ) (xs ys : List Span) → 1 ≤ length ys → EndsFull ys → EndsFull (beside h xs ys)
-beside_full zero xs ys some full = full_unless_hole (joined (xs ++ ys)) (ends_joined (xs ++ ys) ∙ no_hole_ends (xs ++ ys) (full-append xs ys some full))
+beside_full zero xs ys some full = full_unless_hole (holes_joined (xs ++ ys)) (ends_joined (xs ++ ys) ∙ no_hole_ends (xs ++ ys) (full-append xs ys some full))
 beside_full (suc h) xs ys some full = full-append xs ys some full
 
 beside_stands : (map : List Range) (below : List Span) (h : ℕ) (front xs ys back : List Span) → StandFor map below h (front ++ ((xs ++ ys) ++ back)) → StandFor map below h (front ++ (beside h xs ys ++ back))
 beside_stands map below zero front xs ys back stands =
-    flat_map-append leaf_range front (joined (xs ++ ys) ++ back)
+    flat_map-append leaf_range front (holes_joined (xs ++ ys) ++ back)
     ∙ (ap (λ (l : List Range). flat_map leaf_range front ++ l)
-    (flat_map-append leaf_range (joined (xs ++ ys)) back ∙ (ap (λ (l : List Range). l ++ flat_map leaf_range back) (ranges_joined (xs ++ ys)) ∙ sym (flat_map-append leaf_range (xs ++ ys) back)))
+    (flat_map-append leaf_range (holes_joined (xs ++ ys)) back ∙ (ap (λ (l : List Range). l ++ flat_map leaf_range back) (ranges_joined (xs ++ ys)) ∙ sym (flat_map-append leaf_range (xs ++ ys) back)))
     ∙ (sym (flat_map-append leaf_range front ((xs ++ ys) ++ back)) ∙ stands))
 beside_stands map below (suc h) front xs ys back stands = stands
 

@@ -9,7 +9,7 @@ use Rattle.mt_layout.specs.Spans.{spans_from}
 use Rattle.mt_leaf.specs.Edits.{edited}
 use Rattle.mt_rows.specs.Laws.{Tree, IsLawful, IsTree}
 use Rattle.mt_rows.specs.Sheet.{Rooted, Sheet, OnlyReads}
-use Rattle.mt_rows.specs.Publish.{tree_as, IsTold, IsTreeOf, IsLawfulOf}
+use Rattle.mt_rows.specs.Publish.{tree_as, IsToldKind, IsTreeOf, IsLawfulOf}
 use Rattle.mt_rows.specs.declared.rows.Place.{Place}
 use Rattle.mt_rows.specs.declared.rows.Place.TheVariants.{Root, Slot}
 use Rattle.mt_rows.proofs.Loads.{reads_on, same_tree}
@@ -17,14 +17,14 @@ use Rattle.mt_path.specs.declared.paths.PathStep.{PathStep}
 use Rattle.mt_path.specs.Paths.{path_in}
 use Rattle.mt_path.specs.Handles.{last_step}
 use Rattle.mt_splice.specs.Splice.{IsSpliced, WasPublishedAt, MaySplice, MayReplace, region_of}
-use Rattle.mt_splice.specs.Kept.{IsKept}
+use Rattle.mt_splice.specs.Kept.{IsConsistent}
 use Rattle.mt_splice.specs.steps.Regions.{AreEnds}
 
 -- no call is in flight, and the tree is kept
 pub record IsBetweenCalls (kind : Kind) (s : Sheet) (book : Book) : Type 0 where
   pub idle : s.in_flight ≡ false
-  pub told : IsTold s.kind kind
-  pub kept : IsKept kind s.tree s.lives s.buried s.cleared book (s.ended + 1)
+  pub told : IsToldKind s.kind kind
+  pub kept : IsConsistent kind s.tree s.lives s.buried s.cleared book (s.ended + 1)
 
 -- ---- laws before and after
 

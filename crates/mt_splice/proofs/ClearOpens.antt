@@ -22,7 +22,7 @@ use Rattle.mt_splice.specs.declared.climbing.Climb.{Climb}
 use Rattle.mt_splice.specs.declared.climbing.Top.{Top}
 use Rattle.mt_splice.specs.Splice.{MayClear}
 use Rattle.mt_splice.specs.steps.Climbing.{HasClimbed, windows_over}
-use Rattle.mt_splice.specs.steps.Entries.{IsBegunBy, before_of, start_of}
+use Rattle.mt_splice.specs.steps.Entries.{IsBegunBy, before_of, start_for}
 use Rattle.mt_splice.specs.steps.Progress.{Before}
 use Rattle.mt_splice.specs.steps.Replacing.{IsAnswer}
 use Rattle.mt_splice.specs.steps.Windows.{high_of, low_of, row_at}
@@ -37,7 +37,7 @@ module _ {kind : Kind} {s : Sheet} {book : Book} {number : ℕ} {call : Call} {r
   t = tree_as kind s.tree
 
   abbrev start : Start
-  start = start_of kind s call 0 (greatest s.tree.table.width)
+  start = start_for kind s call 0 (greatest s.tree.table.width)
 
   stands : Stands t start.height
   stands = stands_at_start t may.kept.lawful.words may.some
@@ -92,7 +92,7 @@ clear_deep {kind} {s} {s₁} {call = call} {left} {right} {width} {index} may re
 module _ {b : Before} {start : Start} {kind : Kind} {s : Sheet} {book : Book} {number : ℕ} {call : Call} {reply : Reply} (begun : IsBegunBy b start kind s book number call 0 (greatest s.tree.table.width)) (may : MayClear kind s book number call reply) (whole : IsWhole s) where
   pub clear_high : {left : List PathStep} {depth : ℕ} → left ≡ path_in s.tree.table s.tree.root 0 → depth + 1 ≡ length left → depth ≡ start.height
   clear_high {left} {depth} is_left deep =
-      let high : depth ≡ (start_of kind s call 0 (greatest s.tree.table.width)).height = (let long = left_levels may is_left in omega arith) in
+      let high : depth ≡ (start_for kind s call 0 (greatest s.tree.table.width)).height = (let long = left_levels may is_left in omega arith) in
       high ∙ ap (λ (x : Start). x.height) (sym begun.start)
 
   pub clear_noted : (depth : ℕ) {s₁ s₂ : Sheet} {width : Width} {index : ℕ} {c : Climb} {top : Top} → OnlyReads s s₁ → OnlyReads s₁ s₂ → c.ways.left.items ≡ path_in s.tree.table s.tree.root 0 → width ≡ s₁.tree.table.width → index ≡ greatest width
@@ -102,7 +102,7 @@ module _ {b : Before} {start : Start} {kind : Kind} {s : Sheet} {book : Book} {n
       let same = same_tree s s₁ reads₁ in
       let last : index ≡ greatest s.tree.table.width = is_top ∙ ap greatest (is_width ∙ ap (λ (t : Rooted). t.table.width) same) in
       let right_now : c.ways.right.items ≡ path_in s.tree.table s.tree.root (greatest s.tree.table.width) = right ∙ (ap (λ (t : Rooted). path_in t.table t.root index) same ∙ ap (path_in s.tree.table s.tree.root) last) in
-      let up : depth + 1 ≡ suc (start_of kind s call 0 (greatest s.tree.table.width)).height = (let long = left_levels may left in omega arith) in
+      let up : depth + 1 ≡ suc (start_for kind s call 0 (greatest s.tree.table.width)).height = (let long = left_levels may left in omega arith) in
       subst (λ (x : Before × Start). HasClimbed x.0 x.1 s₂ book c top) (λ i. (sym begun.before i, sym begun.start i))
       (all_noted may whole (reads_on s s₁ s₂ reads₁ reads₂) left right_now (windows ∙ ap (windows_over c.ways.left.items c.ways.right.items) up) made inner place word gap)
 

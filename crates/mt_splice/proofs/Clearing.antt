@@ -16,7 +16,7 @@ use Rattle.mt_path.proofs.Empty.{empty_together}
 use Rattle.mt_path.proofs.TreePaths as paths
 use Rattle.mt_splice.specs.steps.Work.{Start}
 use Rattle.mt_splice.specs.Splice.{MayClear, IsSpliced}
-use Rattle.mt_splice.specs.steps.Entries.{start_of}
+use Rattle.mt_splice.specs.steps.Entries.{start_for}
 use Rattle.mt_splice.proofs.BetweenCalls.{lawful_tree}
 use Rattle.mt_splice.proofs.SpliceBegins.{stands_at_start}
 use Rattle.mt_rows.proofs.Loads.{same_tree}
@@ -26,7 +26,7 @@ module _ {kind : Kind} {s : Sheet} {book : Book} {number : ℕ} {call : Call} {r
   t = tree_as kind s.tree
 
   abbrev start : Start
-  start = start_of kind s call 0 (greatest s.tree.table.width)
+  start = start_for kind s call 0 (greatest s.tree.table.width)
 
   stands : Stands t start.height
   stands = stands_at_start t may.kept.lawful.words may.some

@@ -30,7 +30,7 @@ use Rattle.mt_splice.specs.declared.ways.Window.{Window}
 use Rattle.mt_splice.specs.declared.writes.NewRow.{NewRow}
 use Rattle.mt_splice.specs.Fewest.{IsCutOf}
 use Rattle.mt_splice.specs.steps.Climbing.{IsClimbing, IsNothingLeft, IsLevelDrafted}
-use Rattle.mt_splice.specs.steps.Decisions.{IsNothing, EndsHere, IsNext, item_words}
+use Rattle.mt_splice.specs.steps.Decisions.{IsNothing, EndsHere, IsNextDecision, item_words}
 use Rattle.mt_splice.specs.steps.Drafting.{AreRowsTaken, noted_rows, MayDraftRows, AreRowsDrafted}
 use Rattle.mt_splice.specs.steps.Layers.{heads}
 use Rattle.mt_splice.specs.steps.Ledgers.{was_taken, IsLedger}
@@ -244,7 +244,7 @@ module _ {b : Before} {start : Start} {s : Sheet} {book : Book} {kind : RowKind}
           k.layers (subst (λ (t : Rooted). AreAllHeld start t.table.words (was_taken (taken_by start k.layers)) k.layers) (sym same₁) k.held)
 
       pub level_drafted : {c' : Climb} {window : Window} {next : Next} → c'.ways.left.items ≡ left' → c'.ways.right.items ≡ right' → window.first ≡ step_at left' depth → window.last ≡ step_at right' depth → c'.windows.items ≡ c.windows.items ++ window ∷ [] → c'.made.items ≡ made'
-          → c'.inner ≡ c.inner → IsNext width left' right' depth kind items' (length ends) next → IsLevelDrafted b start s₂ book' depth c' new next
+          → c'.inner ≡ c.inner → IsNextDecision width left' right' depth kind items' (length ends) next → IsLevelDrafted b start s₂ book' depth c' new next
       level_drafted {c'} {window} {next} left_is right_is first_is last_is windows_is made_is inner_is goes = record {
         l = l;
         lower = k.layers;
@@ -257,7 +257,7 @@ module _ {b : Before} {start : Start} {s : Sheet} {book : Book} {kind : RowKind}
         left = left_is ∙ win.is_left;
         right = right_is ∙ win.is_right;
         up = up;
-        goes_on = subst (λ (p : (List PathStep × List PathStep) × (Width × RowKind)). IsNext p.1.0 p.0.0 p.0.1 depth p.1.1 items' (length ends) next) (λ i. ((sym left_is i, sym right_is i), (width_is look_of w is_width i, k.of_kind i))) goes;
+        goes_on = subst (λ (p : (List PathStep × List PathStep) × (Width × RowKind)). IsNextDecision p.1.0 p.0.0 p.0.1 depth p.1.1 items' (length ends) next) (λ i. ((sym left_is i, sym right_is i), (width_is look_of w is_width i, k.of_kind i))) goes;
         windows = windows_is
             ∙ ((λ i. k.windows i ++ (record { first = (first_is ∙ first_step look_of w) i; last = (last_is ∙ last_step look_of w) i } ∷ []))
             ∙ ap (λ (d : ℕ). windows_by start k.layers ++ (window_at start d win.from win.to ∷ [])) (sym depth_is));

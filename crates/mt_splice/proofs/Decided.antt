@@ -10,11 +10,11 @@ use Rattle.mt_splice.specs.declared.climbing.Climb.{Climb}
 use Rattle.mt_splice.specs.declared.decisions.Next.{Next}
 use Rattle.mt_splice.specs.declared.decisions.Next.TheVariants.{Empty, Root, RootAbove, Slot, Up}
 use Rattle.mt_splice.specs.steps.Climbing.{IsLevelDrafted, IsLevelDone}
-use Rattle.mt_splice.specs.steps.Decisions.{IsNothing, IsNext}
+use Rattle.mt_splice.specs.steps.Decisions.{IsNothing, IsNextDecision}
 use Rattle.mt_splice.specs.steps.Progress.{Before}
 use Rattle.mt_splice.specs.steps.Work.{Start}
 
-pub some_left : {width : Width} {left right : List PathStep} {depth : ℕ} {kind : RowKind} {items : List Item} (pieces : ℕ) (next : Next) → (next ≡ Empty → ⊥) → IsNext width left right depth kind items pieces next → IsNothing width left right depth kind items → ⊥
+pub some_left : {width : Width} {left right : List PathStep} {depth : ℕ} {kind : RowKind} {items : List Item} (pieces : ℕ) (next : Next) → (next ≡ Empty → ⊥) → IsNextDecision width left right depth kind items pieces next → IsNothing width left right depth kind items → ⊥
 some_left pieces Empty some goes = absurd (some refl)
 some_left pieces Root some goes = goes.0
 some_left pieces RootAbove some goes = goes.0

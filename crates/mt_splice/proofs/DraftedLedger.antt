@@ -25,7 +25,7 @@ use Rattle.mt_splice.specs.steps.Drafting.{IsRowTaken, AreRowsTaken, noted_row, 
 use Rattle.mt_splice.specs.steps.Layers.{part_of, heads, AreHeld}
 use Rattle.mt_splice.specs.steps.Ledgers.{was_taken, IsLedger}
 use Rattle.mt_splice.specs.steps.Plans.{Layer, newest_first, AreAllHeld}
-use Rattle.mt_splice.specs.steps.Progress.{Before, IsBefore, new_row_by, new_rows_of}
+use Rattle.mt_splice.specs.steps.Progress.{Before, IsStartOf, new_row_by, new_rows_of}
 use Rattle.mt_splice.specs.steps.Seen.{Seen, passing}
 use Rattle.mt_splice.specs.steps.Work.{Start, tree_with}
 use Rattle.mt_splice.specs.steps.Writes.{IsNewRow, no_parent}
@@ -82,7 +82,7 @@ all_held_stay start words words' is_new is_new' more same (l ∷ lower) held = (
 
 -- ---- the rows of a level
 
-module _ {b : Before} {start : Start} (before : IsBefore b start) (h : ℕ) (above kind : RowKind) (items : List Item) where
+module _ {b : Before} {start : Start} (before : IsStartOf b start) (h : ℕ) (above kind : RowKind) (items : List Item) where
   abbrev spans_up : ℕ → ℕ → List ℕ → List ℕ → List Span
   spans_up at from ends rows = spans_from at (heads above kind at items from ends rows)
 

@@ -17,7 +17,7 @@ use Rattle.mt_rows.specs.Laws.{Tree, IsRow, Stands, top_of}
 use Rattle.mt_rows.specs.Replacement.{root_of}
 use Rattle.mt_rows.proofs.Lists.{Filled, expand_fills, expand-append}
 use Rattle.mt_rows.proofs.Heights.{level_rows}
-use Rattle.mt_leaf.specs.Edits.{spans_below, spans_above, span_stored, stored, join, joined, edited, starting, ends_with_hole}
+use Rattle.mt_leaf.specs.Edits.{spans_below, spans_above, span_stored, stored, join, holes_joined, edited, starting, ends_with_hole}
 use Rattle.mt_leaf.proofs.Stored.{length_edited, stored_between}
 use Rattle.mt_leaf.proofs.Counts.{two_short, two_to_a_hole}
 use Rattle.mt_path.specs.declared.paths.PathStep.{PathStep}
@@ -47,9 +47,9 @@ module _ (P : Span → Type 0) (ends : (x : Span) (last : ℕ) → P x → P (re
   all_joining x [] here each = (here, tt)
   all_joining x (y ∷ ys) here each = elim (cases_Bool ((x.word == 0) && (y.word == 0))) [ inl t ↦ rw t (ends x y.last here, each.1) | inr f ↦ rw f (here, each) ]
 
-  pub all_joined : (xs : List Span) → AllByRecursion P xs → AllByRecursion P (joined xs)
+  pub all_joined : (xs : List Span) → AllByRecursion P xs → AllByRecursion P (holes_joined xs)
   all_joined [] each = tt
-  all_joined (x ∷ xs) each = all_joining x (joined xs) each.0 (all_joined xs each.1)
+  all_joined (x ∷ xs) each = all_joining x (holes_joined xs) each.0 (all_joined xs each.1)
 
 module _ (P : Span → Type 0) (ends : (x : Span) (last : ℕ) → P x → P (record x { last = last })) (begins : (x : Span) (first : ℕ) → P x → P (record x { first = first })) where
   all_below : (xs : List Span) (first : ℕ) → AllByRecursion P xs → AllByRecursion P (spans_below xs first)
@@ -156,7 +156,7 @@ module _ (t : Tree) (h : ℕ) (stands : Stands t h) (first last : ℕ) (order : 
           here = (refl, omega arith, fills-append (left_leaf.last + 1) right_leaf.first (right_leaf.last + 1) middle.0 (right_leaf ∷ []) middle.2 (refl, omega arith, refl));
           after = right_at.after;
         };
-        edits = ap joined
+        edits = ap holes_joined
             (stored_between left_leaf.first (left_leaf.last + 1) right_leaf.first (right_leaf.last + 1) first last entry (spans_in t.table left_leaf) (expand t.table middle.0) (spans_in t.table right_leaf)
             own.0.pivots.fills (expand_fills t.table (left_leaf.last + 1) right_leaf.first middle.0 filled middle.2) right_row.pivots.fills (omega arith) from' (omega arith)
             ∙ ap (λ (l : List Span). stored (spans_in t.table left_leaf ++ l) first last entry) (sym (expand-append t.table middle.0 (right_leaf ∷ []) ∙ ap (λ (l : List Span). expand t.table middle.0 ++ l) (append-nil (spans_in t.table right_leaf)))));

@@ -17,8 +17,8 @@ use Rattle.mt_rows.specs.Laws.{Tree}
 use Rattle.mt_rows.specs.Sheet.{Rooted, Sheet, life_of, is_buried, word_at}
 use Rattle.mt_rows.specs.Publish.{tree_as, is_reached, map_by, with_record, with_published, life_after, Published, IsPlaceToPublish}
 use Rattle.mt_rows.specs.Replacement.{root_of}
-use Rattle.mt_splice.specs.Splice.{TellsBelow, TellsAt}
-use Rattle.mt_splice.specs.steps.Work.{Start, Work, tree_with, with_words, KeepsWords}
+use Rattle.mt_splice.specs.Splice.{TellsBelow, TellsGapAt}
+use Rattle.mt_splice.specs.steps.Work.{Start, Work, tree_with, with_words, KeepsRowWords}
 use Rattle.mt_splice.specs.steps.Progress.{is_taken}
 use Rattle.mt_splice.specs.steps.Replaced.{StandsAs, FewestAs, count_in}
 use Rattle.mt_splice.specs.steps.Ends.{HoldsAs, OnlyParents}
@@ -57,7 +57,7 @@ all_hold t words (Some h) keep stands = (
   record {
     stands = stands;
     used = levels_all (λ (_ : ℕ) (x : Span). true ≡ true) t.table (λ _ x. refl) h (root_of t);
-    words = levels_all (λ (_ : ℕ) (x : Span). KeepsWords t t.table.words words (row_in x.word)) t.table (λ _ x. keep (row_in x.word)) h (root_of t);
+    words = levels_all (λ (_ : ℕ) (x : Span). KeepsRowWords t t.table.words words (row_in x.word)) t.table (λ _ x. keep (row_in x.word)) h (root_of t);
     taken = λ row some. absurd (omega arith);
   },
 )
@@ -226,9 +226,9 @@ module _ (f : Finish) (s₁ s₂ : Sheet) (done : Published f.sheet s₁ f.place
   }
 
   -- what is told of the row that was published
-  pub told_after : (row col gap : ℕ) → f.place ≡ Slot row col → TellsBelow f.before.kind (published f) f.word gap → TellsAt f.before.kind s₂.tree f.place gap
+  pub told_after : (row col gap : ℕ) → f.place ≡ Slot row col → TellsBelow f.before.kind (published f) f.word gap → TellsGapAt f.before.kind s₂.tree f.place gap
   told_after row col gap is tells =
       let there = subst (λ (v : Rooted). TellsBelow f.before.kind v f.word gap) (sym tree₁) tells in
       let later = tells_kept f.before.kind s₁.tree s₂.tree.table.words f.may.new f.word gap keep stands₁ (other_stands t₁ s₂.tree.table.words f.may.new keep stands₁) there in
       let now = subst (λ (v : Rooted). TellsBelow f.before.kind v f.word gap) (sym only.tree) later in
-      subst (λ (p : Place). TellsAt f.before.kind s₂.tree p gap) (sym is) (subst (λ (w : ℕ). TellsBelow f.before.kind s₂.tree w gap) (sym (outcome.at row col is)) now)
+      subst (λ (p : Place). TellsGapAt f.before.kind s₂.tree p gap) (sym is) (subst (λ (w : ℕ). TellsBelow f.before.kind s₂.tree w gap) (sym (outcome.at row col is)) now)

@@ -35,7 +35,7 @@ use Rattle.mt_rows.proofs.RowLaws.{name_some}
 use Rattle.mt_splice.specs.Splice.{WasPublishedAt, IsBooked, HasParents, HasFewest, IsSpliced, is_unreached}
 use Rattle.mt_splice.specs.steps.Told.{GapsBeside}
 use Rattle.mt_splice.proofs.FewestRows.{SameNews, fewest_later}
-use Rattle.mt_splice.specs.Kept.{IsSpare, IsBookOf}
+use Rattle.mt_splice.specs.Kept.{IsUnheld, IsBookOf}
 use Rattle.mt_splice.specs.steps.Replaced.{StandsAs, FewestAs, count_in}
 use Rattle.mt_splice.specs.steps.Ends.{IsChildSlot, IsEndPlace, IsTop}
 use Rattle.mt_splice.proofs.Drafts.{other_row, other_column}
@@ -267,16 +267,16 @@ module _ (f : ends.Finish) (s' : Sheet) (o : Outcome f s') where
             | inl never ↦ apart_ends b.book.free (held_rows b.book) row f.may.case.was.kept.booked.sound.once (was_free row (seen_contains row w.taken (omega arith))) held
           ]
 
-  spare : All (λ (row : ℕ). IsSpare s'.cleared (life_of s'.lives row)) book.free
-  spare = all_ones (λ (row : ℕ). IsSpare s'.cleared (life_of s'.lives row)) book.free (λ row one.
+  spare : All (λ (row : ℕ). IsUnheld s'.cleared (life_of s'.lives row)) book.free
+  spare = all_ones (λ (row : ℕ). IsUnheld s'.cleared (life_of s'.lives row)) book.free (λ row one.
       let free = one_contains book.free row one in
       let before = still_free row free in
       let number = All-contains (λ (r : ℕ). (first_row ≤ r) × (r < first_row + b.book.rows)) b.book.free row f.may.case.was.kept.booked.sound.free_rows before in
       let last : row < first_row + b.sheet.tree.rows = subst (λ (n : ℕ). row < first_row + n) f.may.case.was.kept.booked.rows number.1 in
       let fate = free_unreached row free in
-      let was : IsSpare b.sheet.cleared (life_of b.sheet.lives row) = All-contains (λ (r : ℕ). IsSpare b.sheet.cleared (life_of b.sheet.lives r)) b.book.free row f.may.case.was.kept.booked.spare before in
-      subst (λ (n : ℕ). IsSpare n (life_of s'.lives row)) (sym (ap (λ (x : Sheet). x.cleared) o.rest))
-      (subst (IsSpare b.sheet.cleared) (sym (untouched row number.0 last fate.0 fate.1)) was))
+      let was : IsUnheld b.sheet.cleared (life_of b.sheet.lives row) = All-contains (λ (r : ℕ). IsUnheld b.sheet.cleared (life_of b.sheet.lives r)) b.book.free row f.may.case.was.kept.booked.spare before in
+      subst (λ (n : ℕ). IsUnheld n (life_of s'.lives row)) (sym (ap (λ (x : Sheet). x.cleared) o.rest))
+      (subst (IsUnheld b.sheet.cleared) (sym (untouched row number.0 last fate.0 fate.1)) was))
 
   stamps : All (λ (h : Held). h.stamp < b.number + 1) book.held
   stamps =

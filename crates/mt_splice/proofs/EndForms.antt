@@ -10,7 +10,7 @@ use Rattle.mt_rows.specs.Publish.{tree_as, tree_on, with_published}
 use Rattle.mt_path.specs.declared.paths.PathStep.{PathStep}
 use Rattle.mt_splice.specs.steps.Seen.{passing}
 use Rattle.mt_splice.specs.steps.Work.{Start, Work, tree_with, now, times_in}
-use Rattle.mt_splice.specs.steps.Progress.{Before, IsBefore, IsProgress}
+use Rattle.mt_splice.specs.steps.Progress.{Before, IsStartOf, IsProgress}
 use Rattle.mt_splice.specs.steps.Replaced.{IsReplaced, with_root}
 use Rattle.mt_splice.specs.steps.Ends.{IsEndPlace}
 use Rattle.mt_splice.specs.Splice.{TellsBelow}
@@ -18,10 +18,10 @@ use Rattle.mt_splice.specs.steps.Told.{GapsBeside}
 use Rattle.mt_splice.proofs.StoredWords.{IsStepIn, column_of, with_step, words_of}
 
 -- the tree by the words now is the sheet's
-pub now_is : {b : Before} {start : Start} {s : Sheet} {book : Book} {w : Work} → IsBefore b start → IsProgress b s book w → now start w ≡ tree_as b.kind s.tree
+pub now_is : {b : Before} {start : Start} {s : Sheet} {book : Book} {w : Work} → IsStartOf b start → IsProgress b s book w → now start w ≡ tree_as b.kind s.tree
 now_is {b = b} {w = w} was progress = ap (λ (t : Tree). tree_with t w.words) was.tree ∙ sym (ap (tree_as b.kind) progress.tree)
 
-module _ {b : Before} {start : Start} {s : Sheet} {book : Book} {w : Work} (was : IsBefore b start) (progress : IsProgress b s book w) where
+module _ {b : Before} {start : Start} {s : Sheet} {book : Book} {w : Work} (was : IsStartOf b start) (progress : IsProgress b s book w) where
   pub has_words : HasWords (now start w)
   has_words = subst HasWords (sym (now_is was progress)) progress.whole.words
 

@@ -24,7 +24,7 @@ use Rattle.mt_rows.specs.Levels.{tally, is_row_of}
 use Rattle.mt_rows.specs.Laws.{HasWords, Stands, kind_on}
 use Rattle.mt_rows.specs.Laws as laws
 use Rattle.mt_rows.specs.Sheet.{Rooted, Sheet, life_of, is_buried}
-use Rattle.mt_rows.specs.Publish.{tree_as, IsTold, LiveAreReached, is_reached, IsReached, map_by, StandsAt, KeepsPlace, SameHoles, IsKnown, Changes, MayPublish, IsPlaceToPublish, IsSlotOf, with_published}
+use Rattle.mt_rows.specs.Publish.{tree_as, IsToldKind, LiveAreReached, is_reached, IsReached, map_by, StandsAt, KeepsPlace, SameHoles, IsKnown, ChangesRows, MayPublish, IsPlaceToPublish, IsSlotOf, with_published}
 use Rattle.mt_rows.proofs.Reached as reached
 use Rattle.mt_rows.proofs.Settled.{Implies}
 use Rattle.mt_splice.specs.declared.writes.NewRow.{NewRow}
@@ -395,7 +395,7 @@ module _ (f : Finish) where
   pub was_gone : (row : ℕ) → 1 ≤ old_count row → new_count row ≡ 0 → 1 ≤ gone_count row
   was_gone row was none = let c = counts row in let sum = c.sum in omega arith
 
-  changes : Changes s published
+  changes : ChangesRows s published
   changes = record {
     known = known;
     stay = stay;
@@ -412,7 +412,7 @@ module _ (f : Finish) where
   may_publish = record {
     in_flight = ap (λ (x : Sheet). x.in_flight) progress.rest ∙ f.may.case.unpublished.in_flight;
     before = ap (λ (x : Sheet). x.published) progress.rest ∙ f.may.case.unpublished.before;
-    told = subst (λ (k : Option Kind). IsTold k b.kind) (sym (ap (λ (x : Sheet). x.kind) progress.rest)) f.may.case.told;
+    told = subst (λ (k : Option Kind). IsToldKind k b.kind) (sym (ap (λ (x : Sheet). x.kind) progress.rest)) f.may.case.told;
     at = place_is;
     live = live;
     tree = record { width = width_same ∙ f.may.case.was.kept.lawful.width; words = subst laws.IsTree (now_is f.may.case.was progress) (is_tree (now start w) f.may.old stands_now) };

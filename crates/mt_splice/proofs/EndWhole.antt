@@ -23,7 +23,7 @@ use Rattle.mt_splice.specs.steps.Seen.{passing}
 use Rattle.mt_splice.specs.steps.Work.{Start, now}
 use Rattle.mt_splice.specs.steps.Writes.{child_row}
 use Rattle.mt_splice.specs.steps.Progress.{Before, row_seen}
-use Rattle.mt_splice.specs.Splice.{HasParents, IsSpliced, TellsBelow, TellsAt}
+use Rattle.mt_splice.specs.Splice.{HasParents, IsSpliced, TellsBelow, TellsGapAt}
 use Rattle.mt_splice.specs.steps.Replaced.{StandsAs, count_in}
 use Rattle.mt_splice.specs.steps.Ends.{IsEndPlace, MayPublishEnd, MayTendRows, AreRowsTended, MayTendTopAt, IsTopTendedAt}
 use Rattle.mt_splice.proofs.EndHoles.{at_on_level}
@@ -141,5 +141,5 @@ module _ {b : Before} {start : Start} {s : Sheet} {book : Book} {inner : List Ne
         spliced f s₃ o (parents_by f s₁ s₂ s₃ may.new refl done rows_tended top_tended o.stands)
         (λ row was not. marked_end f s₁ s₂ s₃ done may_rows rows_tended may_top top_tended row was (ends.later_unreached f row (sym (o.reached row) ∙ not)))
 
-    pub told_end : {s₁ s₂ : Sheet} (s₃ : Sheet) → Published s s₁ place word call reply → AreRowsTended s₁ s₂ kind inner → IsTopTendedAt s₂ s₃ kind place word → (row col gap : ℕ) → place ≡ Slot row col → TellsBelow b.kind (with_published s.tree place word) word gap → TellsAt b.kind s₃.tree place gap
+    pub told_end : {s₁ s₂ : Sheet} (s₃ : Sheet) → Published s s₁ place word call reply → AreRowsTended s₁ s₂ kind inner → IsTopTendedAt s₂ s₃ kind place word → (row col gap : ℕ) → place ≡ Slot row col → TellsBelow b.kind (with_published s.tree place word) word gap → TellsGapAt b.kind s₃.tree place gap
     told_end {s₁} {s₂} s₃ done tended top row col gap at tells = told_after f s₁ s₃ done (only_more s₁ s₂ s₃ tended.only (top_only s₂ s₃ kind place word top)) row col gap at tells

@@ -28,7 +28,7 @@ use Rattle.mt_splice.specs.Fewest.{FewestBelow}
 use Rattle.mt_splice.specs.Splice.{MaySplice}
 use Rattle.mt_splice.specs.steps.Drafting.{AreRowsTaken, IsPieceDrafted, IsRowTaken}
 use Rattle.mt_splice.specs.steps.Ends.{MayPublishEnd}
-use Rattle.mt_splice.specs.steps.Entries.{IsFirst}
+use Rattle.mt_splice.specs.steps.Entries.{IsFirstStore}
 use Rattle.mt_splice.specs.steps.Layers.{AreHeld, part_of}
 use Rattle.mt_splice.specs.steps.Ledgers.{IsLedger, was_taken, work_of}
 use Rattle.mt_splice.specs.steps.Progress.{Before, is_taken}
@@ -149,7 +149,7 @@ module _ {kind : Kind} {s : Sheet} {book : Book} {right : List PathStep} {items 
       inner_rows = same ∙ piece.noted;
     })
 
-module _ {b : Before} {start : Start} {s : Sheet} {book : Book} {items : List Item} {call : Call} {reply : Reply} (first : IsFirst b start s book items call reply) (whole : IsWhole s) where
+module _ {b : Before} {start : Start} {s : Sheet} {book : Book} {items : List Item} {call : Call} {reply : Reply} (first : IsFirstStore b start s book items call reply) (whole : IsWhole s) where
   pub leaf_may_be_root : {s' : Sheet} {book' : Book} {above : RowKind} {made made' inner : List NewRow} {item : Item} → made ≡ [] → IsPieceDrafted s s' book book' above Leaf 0 items made made' item → inner ≡ made' → MayPublishEnd b start s' book' inner Root item.word call reply
   leaf_may_be_root {s'} {book'} {above} {made} {made'} {inner} {item} none piece same =
       subst (λ (x : Before × Start). MayPublishEnd x.0 x.1 s' book' inner Root item.word call reply) (λ i. (sym first.begun.before i, sym first.begun.start i))

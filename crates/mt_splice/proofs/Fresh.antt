@@ -8,7 +8,7 @@ use Rattle.mt_base.specs.Width.{kind_width, first_row}
 use Rattle.mt_free.specs.Book.{Held, rows_down, IsBook, new_book}
 use Rattle.mt_rows.specs.declared.rows.Life.TheVariants as lives
 use Rattle.mt_rows.specs.Plain.{new_sheet}
-use Rattle.mt_splice.specs.Kept.{IsSpare}
+use Rattle.mt_splice.specs.Kept.{IsUnheld}
 use Rattle.mt_splice.proofs.BetweenCalls.{IsBetweenCalls}
 
 same_anywhere : {X : Type 0} (n i : ℕ) (x : X) → slice_index_or (replicate n x) i x ≡ x
@@ -36,7 +36,7 @@ fresh_is_ready kind n sound = record {
       rows = refl;
       out = λ row low high is. absurd (is.not_free (let m : row ≡ first_row + (row - first_row) = omega arith in subst (Contains (rows_down n)) (sym m) (in_down n (row - first_row) (omega arith))));
       reached = λ row is. absurd (cc);
-      spare = λ k d within. subst (IsSpare 0) (sym (same_anywhere (first_row + n) (slice_index_or (rows_down n) k d) lives.New)) tt;
+      spare = λ k d within. subst (IsUnheld 0) (sym (same_anywhere (first_row + n) (slice_index_or (rows_down n) k d) lives.New)) tt;
       stamps = All-nil (λ (h : Held). h.stamp < 1);
     };
   };

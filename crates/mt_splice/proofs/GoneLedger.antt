@@ -26,7 +26,7 @@ use Rattle.mt_splice.specs.steps.Burials.{after_burials, after_retirals, EachOnc
 use Rattle.mt_splice.specs.steps.Ledgers.{was_taken, IsLedger}
 use Rattle.mt_splice.specs.steps.Looking.{IsNowOf}
 use Rattle.mt_splice.specs.steps.Plans.{Layer, depth_at, old_at, IsPlanned, AreAllHeld, seen_at, gone_by, window_at, windows_by}
-use Rattle.mt_splice.specs.steps.Progress.{Before, IsBefore, row_seen}
+use Rattle.mt_splice.specs.steps.Progress.{Before, IsStartOf, row_seen}
 use Rattle.mt_splice.specs.steps.Seen.{Seen, passing}
 use Rattle.mt_splice.specs.steps.Windows.{before, behind, between, row_at}
 use Rattle.mt_splice.specs.steps.Work.{Start, rows_at, tree_with}
@@ -55,7 +55,7 @@ WereReached b gone = AllByRecursion (λ (s : Seen). is_reached b.sheet.tree (row
 
 -- ---- before they are buried
 
-module _ {b : Before} {start : Start} {s : Sheet} {book : Book} {taken : List Seen} (before : IsBefore b start) (unpublished : IsUnpublished b.sheet.in_flight b.sheet.published b.sheet.ended b.number) (ledger : IsLedger b s book taken []) where
+module _ {b : Before} {start : Start} {s : Sheet} {book : Book} {taken : List Seen} (before : IsStartOf b start) (unpublished : IsUnpublished b.sheet.in_flight b.sheet.published b.sheet.ended b.number) (ledger : IsLedger b s book taken []) where
   lives : (gone : List Seen) → WereReached b gone → AllByRecursion (MayBury s) (map row_seen gone)
   lives [] reached = tt
   lives (x ∷ gone) reached = (may_bury x before ledger reached.0 refl unpublished, lives gone reached.1)
@@ -69,7 +69,7 @@ module _ {b : Before} {start : Start} {s : Sheet} {book : Book} {taken : List Se
 
 -- ---- when they are buried
 
-pub ledger_gone : {b : Before} {start : Start} {taken : List Seen} (before : IsBefore b start) (gone more : List Seen) {s : Sheet} {book : Book} → IsLedger b s book taken gone → ((row : ℕ) → passing (is_row_of row) (gone ++ more) ≤ 1) → WereReached b more
+pub ledger_gone : {b : Before} {start : Start} {taken : List Seen} (before : IsStartOf b start) (gone more : List Seen) {s : Sheet} {book : Book} → IsLedger b s book taken gone → ((row : ℕ) → passing (is_row_of row) (gone ++ more) ≤ 1) → WereReached b more
     → IsLedger b (after_burials s (map row_seen more)) (after_retirals book (map row_seen more) b.number) taken (gone ++ more)
 ledger_gone {b} {start} {taken} before gone [] {s} {book} ledger few reached = subst (IsLedger b s book taken) (sym (append-nil gone)) ledger
 ledger_gone {b} {start} {taken} before gone (x ∷ more) {s} {book} ledger few reached =
@@ -105,7 +105,7 @@ module _ {b : Before} (start : Start) {s s' : Sheet} {book book' : Book} {taken 
 pub less_none : (n : ℕ) → n ≡ n - 0
 less_none n = omega arith
 
-module _ {b : Before} {start : Start} (s : Sheet) (was : IsBefore b start) (now : IsNowOf start s.tree) (stands : Stands start.tree start.height) (levels_now : (d k : ℕ) → start.height ≡ d + k → rows_on s.tree d ≡ rows_at start.tree d) where
+module _ {b : Before} {start : Start} (s : Sheet) (was : IsStartOf b start) (now : IsNowOf start s.tree) (stands : Stands start.tree start.height) (levels_now : (d k : ℕ) → start.height ≡ d + k → rows_on s.tree d ≡ rows_at start.tree d) where
   was_reached : (row : ℕ) → is_reached (words_of start.tree) row ≡ true → is_reached b.sheet.tree row ≡ true
   was_reached row reached = sym (ap (λ (t : Tree). is_reached (words_of t) row) was.tree) ∙ reached
 

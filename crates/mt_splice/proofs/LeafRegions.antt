@@ -17,7 +17,7 @@ use Rattle.mt_layout.proofs.NameLaws.{Names-named_kind}
 use Rattle.mt_layout.proofs.Reading.{few_items}
 use Rattle.mt_layout.proofs.RowSizes.{sizes, no_gaps_of}
 use Rattle.mt_layout.proofs.SpanLists.{after, fills_after, fills_rise, length-spans_from, spans-append}
-use Rattle.mt_leaf.specs.Edits.{spans_below, spans_above, span_stored, stored, joined, edited, starting}
+use Rattle.mt_leaf.specs.Edits.{spans_below, spans_above, span_stored, stored, holes_joined, edited, starting}
 use Rattle.mt_leaf.specs.Places.{slot_reaching, slot_above, first_of, with_joined, items_below}
 use Rattle.mt_leaf.proofs.Counts.{stored_two}
 use Rattle.mt_leaf.proofs.EditSteps.{item_stored, items_below-spans, after-items_below, items_above-spans}
@@ -193,7 +193,7 @@ module _ (t : Tree) (h : ℕ) (stands : Stands t h) where
       made_spans : spans_from l.min made ≡ edited (region (l.row == r.row)) first last entry
       made_spans =
           let apart = subst (λ (xs : List Item). Apart (spans_from l.min xs)) (sym is_below) (apart_below l.min first (leaf_items t.table l) (end_apart l first from_within is_left)) in
-          ap (spans_from l.min) is_made ∙ (pushed_onto l.min below (item ∷ above) apart ∙ ap joined all_spans)
+          ap (spans_from l.min) is_made ∙ (pushed_onto l.min below (item ∷ above) apart ∙ ap holes_joined all_spans)
 
 -- ---- a step that is told to be a leaf's
 

@@ -15,9 +15,9 @@ use Rattle.mt_rows.specs.Spans.{Table, column}
 use Rattle.mt_rows.proofs.Reached.{OnLevel, on_level_reached, times_reached}
 use Rattle.mt_splice.specs.steps.Ledgers.{was_taken, work_of, IsLedger}
 use Rattle.mt_splice.specs.steps.Looking.{IsNowOf}
-use Rattle.mt_splice.specs.steps.Progress.{Before, IsBefore}
+use Rattle.mt_splice.specs.steps.Progress.{Before, IsStartOf}
 use Rattle.mt_splice.specs.steps.Seen.{Seen, passing}
-use Rattle.mt_splice.specs.steps.Work.{Start, KeepsWords, Holds, times_in}
+use Rattle.mt_splice.specs.steps.Work.{Start, KeepsRowWords, Holds, times_in}
 use Rattle.mt_splice.proofs.EndLevels.{levels_each}
 use Rattle.mt_splice.proofs.EndTrees.{none_or_some}
 use Rattle.mt_splice.proofs.Ledgers.{items_by_ledger}
@@ -31,12 +31,12 @@ or_left : (a c : Bool) → a ≡ true → (a || c) ≡ true
 or_left true c is = is
 or_left false c is = absurd (cc)
 
-module _ {b : Before} {start : Start} {s : Sheet} {book : Book} {taken gone : List Seen} (before : IsBefore b start) (ledger : IsLedger b s book taken gone) (stands : Stands start.tree start.height) where
+module _ {b : Before} {start : Start} {s : Sheet} {book : Book} {taken gone : List Seen} (before : IsStartOf b start) (ledger : IsLedger b s book taken gone) (stands : Stands start.tree start.height) where
   was_reached : (row : ℕ) → is_reached (words_of start.tree) row ≡ true → is_reached b.sheet.tree row ≡ true
   was_reached row reached = sym (ap (λ (t : Tree). is_reached (words_of t) row) before.tree) ∙ reached
 
   -- a row of the tree is not taken, and keeps its words
-  keeps : (k : ℕ) (x : Span) → OnLevel start.tree.table start.height (root_of start.tree) k x → KeepsWords start.tree start.tree.table.words s.tree.table.words (row_in x.word)
+  keeps : (k : ℕ) (x : Span) → OnLevel start.tree.table start.height (root_of start.tree) k x → KeepsRowWords start.tree start.tree.table.words s.tree.table.words (row_in x.word)
   keeps k x on c above within =
       let row = row_in x.word in
       let reached = was_reached row (times_reached start.tree start.height stands row (on_level_reached start.tree start.height stands k x on)) in
@@ -47,7 +47,7 @@ module _ {b : Before} {start : Start} {s : Sheet} {book : Book} {taken gone : Li
   holds_by = record {
     stands = stands;
     used = reached_are_used start (work_of b s taken gone) stands (λ row reached. or_left (is_reached b.sheet.tree row) (was_taken taken row) (was_reached row reached));
-    words = levels_each (λ (_ : ℕ) (x : Span). KeepsWords start.tree start.tree.table.words s.tree.table.words (row_in x.word)) start.tree.table start.height (root_of start.tree) keeps;
+    words = levels_each (λ (_ : ℕ) (x : Span). KeepsRowWords start.tree start.tree.table.words s.tree.table.words (row_in x.word)) start.tree.table start.height (root_of start.tree) keeps;
     taken = λ row some.
         ⊎_elim (λ (none : times_in (is_row_of row) start.tree start.height ≡ 0). none)
         (λ (once : 1 ≤ times_in (is_row_of row) start.tree start.height).

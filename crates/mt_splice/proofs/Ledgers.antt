@@ -12,9 +12,9 @@ use Rattle.mt_rows.specs.Sheet.{Sheet}
 use Rattle.mt_rows.proofs.Heights.{level_rows, levels_pair}
 use Rattle.mt_rows.proofs.Reached.{OnLevel, on_level_reached}
 use Rattle.mt_path.specs.Paths.{path_in}
-use Rattle.mt_splice.specs.steps.Progress.{Before, IsBefore, IsProgress, is_taken}
+use Rattle.mt_splice.specs.steps.Progress.{Before, IsStartOf, IsProgress, is_taken}
 use Rattle.mt_splice.specs.steps.Seen.{passing}
-use Rattle.mt_splice.specs.steps.Work.{Start, Work, KeepsWords, Holds}
+use Rattle.mt_splice.specs.steps.Work.{Start, Work, KeepsRowWords, Holds}
 use Rattle.mt_splice.specs.steps.Writes.{items_of_row}
 use Rattle.mt_splice.proofs.EndTrees.{none_or_some}
 use Rattle.mt_splice.proofs.EndLevels.{levels_each}
@@ -34,17 +34,17 @@ beside_of start w holds = record { stands = holds.stands; rows = λ d h levels l
         (λ (some : 1 ≤ passing (is_row_of (row_in x.word)) w.taken). let none = holds.taken (row_in x.word) some in let here = on_level_reached start.tree start.height holds.stands k x on in absurd (omega arith))
         (none_or_some (passing (is_row_of (row_in x.word)) w.taken))
 
-    both : Levels (λ (h : ℕ) (x : Span). IsRow start.tree h x × KeepsWords start.tree start.tree.table.words w.words (row_in x.word)) start.tree.table start.height (root_of start.tree)
-    both = levels_pair (IsRow start.tree) (λ (h : ℕ) (x : Span). KeepsWords start.tree start.tree.table.words w.words (row_in x.word)) (λ (h : ℕ) (x : Span). IsRow start.tree h x × KeepsWords start.tree start.tree.table.words w.words (row_in x.word)) start.tree.table
+    both : Levels (λ (h : ℕ) (x : Span). IsRow start.tree h x × KeepsRowWords start.tree start.tree.table.words w.words (row_in x.word)) start.tree.table start.height (root_of start.tree)
+    both = levels_pair (IsRow start.tree) (λ (h : ℕ) (x : Span). KeepsRowWords start.tree start.tree.table.words w.words (row_in x.word)) (λ (h : ℕ) (x : Span). IsRow start.tree h x × KeepsRowWords start.tree start.tree.table.words w.words (row_in x.word)) start.tree.table
         (λ _ x row keeps. (row, keeps)) start.height (root_of start.tree) holds.stands.rows holds.words
 
     all : Levels (IsOld start w.words (is_taken w)) start.tree.table start.height (root_of start.tree)
-    all = levels_pair (λ (h : ℕ) (x : Span). IsRow start.tree h x × KeepsWords start.tree start.tree.table.words w.words (row_in x.word)) (λ (h : ℕ) (x : Span). is_taken w (row_in x.word) ≡ false) (IsOld start w.words (is_taken w)) start.tree.table
+    all = levels_pair (λ (h : ℕ) (x : Span). IsRow start.tree h x × KeepsRowWords start.tree start.tree.table.words w.words (row_in x.word)) (λ (h : ℕ) (x : Span). is_taken w (row_in x.word) ≡ false) (IsOld start w.words (is_taken w)) start.tree.table
         (λ _ x rk old. record { row = rk.0; keeps = rk.1; old = old }) start.height (root_of start.tree) both
         (levels_each (λ (_ : ℕ) (x : Span). is_taken w (row_in x.word) ≡ false) start.tree.table start.height (root_of start.tree) not_new)
 
 -- and the items of a row on the way to an index are read as they were
-pub items_by_ledger : {b : Before} {start : Start} {s : Sheet} {book : Book} {w : Work} → IsBefore b start → IsProgress b s book w → Holds start w → (i d h : ℕ) → i ≤ top_of start.tree → start.height ≡ d + h → (kind : RowKind) (max : ℕ)
+pub items_by_ledger : {b : Before} {start : Start} {s : Sheet} {book : Book} {w : Work} → IsStartOf b start → IsProgress b s book w → Holds start w → (i d h : ℕ) → i ≤ top_of start.tree → start.height ≡ d + h → (kind : RowKind) (max : ℕ)
     → items_of_row s.tree.table kind (row_in (row_at start.tree d i).word) max ≡ items_of_row start.tree.table kind (row_in (row_at start.tree d i).word) max
 items_by_ledger {start = start} {w = w} before progress holds i d h within levels kind max =
     ap (λ (t : Table). items_of_row t kind (row_in (row_at start.tree d i).word) max) (sym (table_now before progress))

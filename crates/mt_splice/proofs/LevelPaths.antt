@@ -6,7 +6,7 @@ use Rattle.mt_rows.specs.Sheet.{Rooted, Sheet}
 use Rattle.mt_rows.specs.Publish.{IsTreeOf}
 use Rattle.mt_path.specs.Paths.{path_in}
 use Rattle.mt_splice.specs.steps.Work.{Start, Work, Holds}
-use Rattle.mt_splice.specs.steps.Progress.{Before, IsBefore, IsProgress}
+use Rattle.mt_splice.specs.steps.Progress.{Before, IsStartOf, IsProgress}
 use Rattle.mt_splice.proofs.EndForms.{now_is}
 use Rattle.mt_splice.proofs.Moments.{old_stands}
 use Rattle.mt_splice.proofs.PathsNow.{path_now}
@@ -14,7 +14,7 @@ use Rattle.mt_splice.proofs.Steps.{table_now, width_now}
 
 -- ---- the tree that is replaced
 
-module _ {b : Before} {start : Start} {s : Sheet} {book : Book} {w : Work} (before : IsBefore b start) (progress : IsProgress b s book w) (holds : Holds start w) where
+module _ {b : Before} {start : Start} {s : Sheet} {book : Book} {w : Work} (before : IsStartOf b start) (progress : IsProgress b s book w) (holds : Holds start w) where
   -- the words are a tree still
   pub is_tree_now : IsTreeOf s.tree b.kind
   is_tree_now = record {

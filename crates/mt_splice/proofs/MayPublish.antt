@@ -17,7 +17,7 @@ use Rattle.mt_rows.specs.Trees.{height_in}
 use Rattle.mt_rows.proofs.Reached.{height_is}
 use Rattle.mt_splice.specs.declared.climbing.Climb.{Climb}
 use Rattle.mt_splice.specs.declared.climbing.Top.{Top}
-use Rattle.mt_splice.specs.Splice.{TellsAt, TellsBelow}
+use Rattle.mt_splice.specs.Splice.{TellsGapAt, TellsBelow}
 use Rattle.mt_splice.specs.steps.Burials.{AreBuriedAll, numbers_in_all}
 use Rattle.mt_splice.specs.steps.Climbing.{HasClimbed, EndsEmpty, EndsAtRoot, EndsAbove, EndsInSlot}
 use Rattle.mt_splice.specs.steps.Ends.{IsEndPlace, IsTop, MayPublishEnd}
@@ -85,11 +85,11 @@ module _ {b : Before} {start : Start} {s s' : Sheet} {book book' : Book} {c : Cl
         (λ (e : EndsInSlot start hc.layers hc.root hc.over top). publish (Some start.height) (in_slot_replaces hc done e) (in_slot_gaps hc done e) (slot_is_place hc done e) (subst (λ (n : ℕ). was_taken (taken hc) (row_in n) ≡ true) (sym e.word) (one_taken e.l e.lower e.x e.are e.one))))) hc.ends
 
   -- what is told of the row there
-  pub top_told : (t : Rooted) → ((row col gap : ℕ) → top.place ≡ Slot row col → TellsBelow b.kind (with_published s'.tree top.place top.word) top.word gap → TellsAt b.kind t top.place gap) → TellsAt b.kind t top.place top.gap
+  pub top_told : (t : Rooted) → ((row col gap : ℕ) → top.place ≡ Slot row col → TellsBelow b.kind (with_published s'.tree top.place top.word) top.word gap → TellsGapAt b.kind t top.place gap) → TellsGapAt b.kind t top.place top.gap
   top_told t in_slot =
       ⊎_elim (λ (e : EndsEmpty start hc.layers hc.root hc.over top). at_root e.place e.gap)
       (⊎_elim (λ (e : EndsAtRoot start hc.layers hc.root hc.over top). at_root e.place e.gap)
       (⊎_elim (λ (e : EndsAbove start s hc.layers hc.root hc.over top). at_root e.place e.gap) (λ (e : EndsInSlot start hc.layers hc.root hc.over top). in_slot _ _ top.gap e.place (in_slot_tells hc done e)))) hc.ends
     where
-      at_root : top.place ≡ Root → top.gap ≡ 0 → TellsAt b.kind t top.place top.gap
-      at_root place_is none = subst (λ (p : Place). TellsAt b.kind t p top.gap) (sym place_is) none
+      at_root : top.place ≡ Root → top.gap ≡ 0 → TellsGapAt b.kind t top.place top.gap
+      at_root place_is none = subst (λ (p : Place). TellsGapAt b.kind t p top.gap) (sym place_is) none

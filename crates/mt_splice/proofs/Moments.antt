@@ -12,14 +12,14 @@ use Rattle.mt_rows.proofs.Frames.{same_spans}
 use Rattle.mt_rows.proofs.Heights.{levels_upper, levels_pair, level_shared}
 use Rattle.mt_rows.proofs.RowLaws.{row_keeps}
 use Rattle.mt_rows.proofs.Reached.{times_reached, on_level_reached}
-use Rattle.mt_splice.specs.steps.Work.{Start, Work, table_with, tree_with, now, rows_at, times_in, IsUsed, KeepsWords, Holds}
+use Rattle.mt_splice.specs.steps.Work.{Start, Work, table_with, tree_with, now, rows_at, times_in, IsUsed, KeepsRowWords, Holds}
 use Rattle.mt_splice.proofs.EndLevels.{levels_each}
 use Rattle.mt_splice.proofs.StoredWords.{words_of}
 
 -- ---- words that stay
 
 abbrev pub RowsKeep : Tree → List ℕ → List ℕ → ℕ → Span → Type 0
-RowsKeep t words words' h x = KeepsWords t words words' (row_in x.word)
+RowsKeep t words words' h x = KeepsRowWords t words words' (row_in x.word)
 
 pub rows_shared : (t : Tree) (words words' : List ℕ) (h : ℕ) (xs : List Span) → Levels (RowsKeep t words words') (table_with t.table words) h xs
     → Levels (Shared (table_with t.table words) (table_with t.table words')) (table_with t.table words) h xs
@@ -27,7 +27,7 @@ rows_shared t words words' h xs keep =
     levels_map (RowsKeep t words words') (Shared (table_with t.table words) (table_with t.table words')) (table_with t.table words)
     (λ _ x same. same_spans (table_with t.table words) (table_with t.table words') x refl same) h xs keep
 
-pub row_stays : (t : Tree) (words words' : List ℕ) (h : ℕ) (x : Span) → KeepsWords t words words' (row_in x.word) → IsRow (tree_with t words) h x → IsRow (tree_with t words') h x
+pub row_stays : (t : Tree) (words words' : List ℕ) (h : ℕ) (x : Span) → KeepsRowWords t words words' (row_in x.word) → IsRow (tree_with t words) h x → IsRow (tree_with t words') h x
 row_stays t words words' h x same row = row_keeps (tree_with t words) words' t.root h x same row
 
 pub rows_stay : (t : Tree) (words words' : List ℕ) (h : ℕ) (xs : List Span) → Levels (RowsKeep t words words') (table_with t.table words) h xs

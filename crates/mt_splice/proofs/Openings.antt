@@ -39,7 +39,7 @@ use Rattle.mt_rows.proofs.Lists.{Filled, all_expand, expand-append, expand_fills
 use Rattle.mt_splice.specs.declared.climbing.Climb.{Climb}
 use Rattle.mt_splice.specs.Splice.{MaySplice, region_of}
 use Rattle.mt_splice.specs.steps.Climbing.{IsClimbing}
-use Rattle.mt_splice.specs.steps.Entries.{IsBegunBy, before_of, start_of}
+use Rattle.mt_splice.specs.steps.Entries.{IsBegunBy, before_of, start_for}
 use Rattle.mt_splice.specs.steps.Progress.{Before}
 use Rattle.mt_splice.specs.steps.Replacing.{IsAnswer}
 use Rattle.mt_splice.specs.steps.Widening.{MayWiden}
@@ -188,7 +188,7 @@ module _ {kind : Kind} {s : Sheet} {book : Book} {left right : List PathStep} {i
   t₀ = tree_as kind s.tree
 
   abbrev start₀ : Start
-  start₀ = start_of kind s call (last_step left).min (last_step right).max
+  start₀ = start_for kind s call (last_step left).min (last_step right).max
 
   abbrev b₀ : Before
   b₀ = before_of kind s book number
@@ -243,7 +243,7 @@ module _ {b : Before} {start : Start} {kind : Kind} {s : Sheet} {book : Book} {l
   pub climb_begins : {c : Climb} → left ≢ [] → c.ways.left.items ≡ left → c.ways.right.items ≡ right → c.gathered.run.items ≡ items → c.windows.items ≡ [] → c.made.items ≡ [] → c.inner ≡ inner_kind kind → IsClimbing b start s book Leaf (length c.ways.left.items - 1) c
   climb_begins {c} some left_is right_is run_is windows made inner =
       let stands = stands_at_start (tree_as kind s.tree) may.kept.lawful.words (λ empty. some (may.left_path ∙ no_path s.tree.table s.tree.root may.first empty)) in
-      let deep : (start_of kind s call (last_step left).min (last_step right).max).height ≡ length c.ways.left.items - 1 = (let all = left_levels may whole stands in let same = ap length left_is in omega arith) in
+      let deep : (start_for kind s call (last_step left).min (last_step right).max).height ≡ length c.ways.left.items - 1 = (let all = left_levels may whole stands in let same = ap length left_is in omega arith) in
       subst (λ (x : (Before × Start) × ℕ). IsClimbing x.0.0 x.0.1 s book Leaf x.1 c) (λ i. ((sym begun.before i, sym begun.start i), deep i)) (begun_climb may whole stands left_is right_is run_is windows made inner)
 
   pub answer_is : IsAnswer b start call reply

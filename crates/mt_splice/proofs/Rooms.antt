@@ -18,7 +18,7 @@ use Rattle.mt_splice.specs.steps.Climbing.{IsClimbing, IsNothingLeft, IsLevelDra
 use Rattle.mt_splice.specs.steps.Layers.{heads}
 use Rattle.mt_splice.specs.steps.Ledgers.{IsLedger}
 use Rattle.mt_splice.specs.steps.Plans.{Layer, depth_at, begin_at, new_at, IsPlanned, newest_first, taken_by, window_at, windows_by}
-use Rattle.mt_splice.specs.steps.Progress.{Before, IsBefore, row_seen, new_row_by, new_rows_of}
+use Rattle.mt_splice.specs.steps.Progress.{Before, IsStartOf, row_seen, new_row_by, new_rows_of}
 use Rattle.mt_splice.specs.steps.Seen.{Seen}
 use Rattle.mt_splice.specs.steps.Work.{Start}
 use Rattle.mt_splice.proofs.Besides.{begin_within}
@@ -55,7 +55,7 @@ few_noted t (s ∷ seen) =
     let behind = few_noted t seen in let here = noted_by s.height t s in let both = length-append (new_rows_of t seen) (new_row_by s.height t s) in
     omega arith
 
-module _ {b : Before} {start : Start} {s : Sheet} {book : Book} {taken gone : List Seen} (before : IsBefore b start) (ledger : IsLedger b s book taken gone) where
+module _ {b : Before} {start : Start} {s : Sheet} {book : Book} {taken gone : List Seen} (before : IsStartOf b start) (ledger : IsLedger b s book taken gone) where
   pub rows_left : length b.book.free ≡ length book.free + length taken
   rows_left = omega (arith, ap length ledger.free, length-append book.free (map row_seen taken), length-map taken row_seen)
 

@@ -19,18 +19,18 @@ use Rattle.mt_free.specs.Book.{Book}
 use Rattle.mt_rows.specs.Spans.{Table, root_span}
 use Rattle.mt_rows.specs.Laws.{Tree, Stands, IsLawful, top_of}
 use Rattle.mt_rows.specs.Sheet.{Sheet, IsWhole}
-use Rattle.mt_rows.specs.Publish.{tree_as, IsTold, map_by, is_reached}
+use Rattle.mt_rows.specs.Publish.{tree_as, IsToldKind, map_by, is_reached}
 use Rattle.mt_path.specs.declared.paths.PathStep.{PathStep}
 use Rattle.mt_path.specs.Paths.{path_in}
 use Rattle.mt_path.proofs.Steps.{path_of_none}
 use Rattle.mt_path.proofs.TreePaths as paths
 use Rattle.mt_splice.specs.steps.Work.{Start, Work}
-use Rattle.mt_splice.specs.Kept.{IsKept, IsUnpublished}
+use Rattle.mt_splice.specs.Kept.{IsConsistent, IsUnpublished}
 use Rattle.mt_splice.specs.Splice.{MaySplice, region_of}
-use Rattle.mt_splice.specs.steps.Entries.{before_of, start_of, IsBegunBy, IsFirst}
+use Rattle.mt_splice.specs.steps.Entries.{before_of, start_for, IsBegunBy, IsFirstStore}
 use Rattle.mt_path.specs.Handles.{last_step}
 use Rattle.mt_splice.specs.steps.Runs.{MayBeCut}
-use Rattle.mt_splice.specs.steps.Progress.{Before, IsCase, IsProgress}
+use Rattle.mt_splice.specs.steps.Progress.{Before, IsInFlight, IsProgress}
 use Rattle.mt_splice.proofs.EndTrees.{map_is}
 use Rattle.mt_splice.proofs.Runs.{empty_run}
 use Rattle.mt_splice.proofs.StepSeen.{not_both}
@@ -63,7 +63,7 @@ empty_of t (inr (h, stands, parent, tended)) not = absurd (not h stands)
 abbrev pub work_of : Sheet → Work
 work_of s = record { words = s.tree.table.words; used = λ row. is_reached s.tree row || false; taken = []; gone = [] }
 
-module _ {kind : Kind} {s : Sheet} {book : Book} {number : ℕ} (whole : IsWhole s) (kept : IsKept kind s.tree s.lives s.buried s.cleared book number) where
+module _ {kind : Kind} {s : Sheet} {book : Book} {number : ℕ} (whole : IsWhole s) (kept : IsConsistent kind s.tree s.lives s.buried s.cleared book number) where
   pub nothing_done : IsProgress (before_of kind s book number) s book (work_of s)
   nothing_done = record {
     rest = refl;
@@ -81,7 +81,7 @@ module _ {kind : Kind} {s : Sheet} {book : Book} {number : ℕ} (whole : IsWhole
     marks = λ row reached gone. absurd (not_both false gone refl);
   }
 
-  pub case_of : (start : Start) → start.tree ≡ tree_as kind s.tree → IsTold s.kind kind → IsUnpublished s.in_flight s.published s.ended number → IsCase (before_of kind s book number) start
+  pub case_of : (start : Start) → start.tree ≡ tree_as kind s.tree → IsToldKind s.kind kind → IsUnpublished s.in_flight s.published s.ended number → IsInFlight (before_of kind s book number) start
   case_of start is told unpublished = record { told = told; unpublished = unpublished; was = record { whole = whole; tree = is; kept = kept } }
 
 -- ---- a tree stands
@@ -92,7 +92,7 @@ module _ {kind : Kind} {s : Sheet} {book : Book} {left right : List PathStep} {i
 
   -- the indexes from the left leaf's first to the right leaf's last may change
   abbrev start : Start
-  start = start_of kind s call (last_step left).min (last_step right).max
+  start = start_for kind s call (last_step left).min (last_step right).max
 
   abbrev b : Before
   b = before_of kind s book number
@@ -111,10 +111,10 @@ no_steps (x ∷ path) none = let zero' = eqb-true (length (x ∷ path)) 0 none i
 
 module _ {b : Before} {start : Start} {kind : Kind} {s : Sheet} {book : Book} {left right : List PathStep} {items : List Item} {number : ℕ} {call : Call} {reply : Reply} (begun : IsBegunBy b start kind s book number call (last_step left).min (last_step right).max)
     (may : MaySplice kind s book left right items number call reply) where
-  pub first_may_begin : {items' : List Item} → (length left == 0) ≡ true → items' ≡ items → IsFirst b start s book items' call reply
+  pub first_may_begin : {items' : List Item} → (length left == 0) ≡ true → items' ≡ items → IsFirstStore b start s book items' call reply
   first_may_begin {items' = items'} none is =
-      subst (λ (x : Before). IsFirst x start s book items' call reply) (sym begun.before)
-      (record { right = right; begun = record { before = refl; start = begun.start ∙ (λ i. start_of kind s call (sym begun.start i).first (sym begun.start i).last) }; may = asked_so (sym (no_steps left none)) refl is may })
+      subst (λ (x : Before). IsFirstStore x start s book items' call reply) (sym begun.before)
+      (record { right = right; begun = record { before = refl; start = begun.start ∙ (λ i. start_for kind s call (sym begun.start i).first (sym begun.start i).last) }; may = asked_so (sym (no_steps left none)) refl is may })
 
 -- ---- the empty tree
 
@@ -147,7 +147,7 @@ module _ {kind : Kind} {s : Sheet} {book : Book} {right : List PathStep} {items 
 
   module _ (from to : ℕ) where
     abbrev pub start₀ : Start
-    start₀ = start_of kind s call from to
+    start₀ = start_for kind s call from to
 
-    pub case₀ : IsCase b₀ start₀
+    pub case₀ : IsInFlight b₀ start₀
     case₀ = case_of whole may.kept start₀ refl may.told may.unpublished

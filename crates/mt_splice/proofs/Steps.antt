@@ -22,8 +22,8 @@ use Rattle.mt_rows.specs.Laws.{Tree}
 use Rattle.mt_splice.specs.steps.Seen.{Seen}
 use Rattle.mt_splice.specs.steps.Work.{Start, Work, table_with, with_words}
 use Rattle.mt_splice.specs.steps.Writes.{no_parent, IsRowDrafted}
-use Rattle.mt_splice.specs.Kept.{IsSpare, IsUnpublished}
-use Rattle.mt_splice.specs.steps.Progress.{Before, IsBefore, IsProgress, row_seen, is_taken, is_gone, stamped}
+use Rattle.mt_splice.specs.Kept.{IsUnheld, IsUnpublished}
+use Rattle.mt_splice.specs.steps.Progress.{Before, IsStartOf, IsProgress, row_seen, is_taken, is_gone, stamped}
 use Rattle.mt_splice.proofs.Drafts.{other_row, other_column, same_column, is_draft, other_life, whole_then}
 use Rattle.mt_splice.proofs.StepSeen.{was_seen, not_both, seen_here, seen_other, seen_before, seen_not_here, seen_last, seen_not_last, seen_front, seen_front_not_last, listed_seen, not_listed}
 
@@ -44,7 +44,7 @@ apart_sides xs ys x apart (k, k_within, k_is) (j, j_within, j_is) =
 or_none : (a c : Bool) → a ≡ false → c ≡ false → (a || c) ≡ false
 or_none a c none none' = λ i. none i || none' i
 
-spare_is_free : (cleared : ℕ) (life : Life) → IsSpare cleared life → IsFree cleared life
+spare_is_free : (cleared : ℕ) (life : Life) → IsUnheld cleared life → IsFree cleared life
 spare_is_free cleared New spare = tt
 spare_is_free cleared Draft spare = tt
 spare_is_free cleared Live spare = spare
@@ -56,7 +56,7 @@ rows_stamped number (s ∷ gone) = ap (λ (l : List ℕ). row_seen s ∷ l) (row
 
 -- ---- one moment
 
-module _ {b : Before} {start : Start} {s : Sheet} {book : Book} {w : Work} (before : IsBefore b start) (progress : IsProgress b s book w) where
+module _ {b : Before} {start : Start} {s : Sheet} {book : Book} {w : Work} (before : IsStartOf b start) (progress : IsProgress b s book w) where
   pub table_now : table_with start.tree.table w.words ≡ s.tree.table
   table_now = ap (λ (t : Tree). table_with t.table w.words) before.tree ∙ sym (ap (λ (t : Rooted). t.table) progress.tree)
 
@@ -96,7 +96,7 @@ module _ {b : Before} {start : Start} {s : Sheet} {book : Book} {w : Work} (befo
   free_is_free : (row : ℕ) → Contains book.free row → IsFree s.cleared (life_of s.lives row)
   free_is_free row here =
       let at = free_number row here in
-      let spare = All-contains (λ (row : ℕ). IsSpare b.sheet.cleared (life_of b.sheet.lives row)) b.book.free row before.kept.booked.spare (was_free row here) in
+      let spare = All-contains (λ (row : ℕ). IsUnheld b.sheet.cleared (life_of b.sheet.lives row)) b.book.free row before.kept.booked.spare (was_free row here) in
       let same = life_untaken row at.0 (subst (λ (n : ℕ). row < first_row + n) before.kept.booked.rows at.1) (free_untaken row here) in
       subst (λ (life : Life). IsFree s.cleared life) (sym same) (subst (λ (n : ℕ). IsFree n (life_of b.sheet.lives row)) (sym cleared_now) (spare_is_free b.sheet.cleared (life_of b.sheet.lives row) spare))
 
@@ -124,7 +124,7 @@ module _ {b : Before} {start : Start} {s : Sheet} {book : Book} {w : Work} (befo
 abbrev pub with_taken : Before → List ℕ → Work → Seen → Work
 with_taken b words w seen = record { words = words; used = λ row. is_reached b.sheet.tree row || was_seen (seen ∷ w.taken) row; taken = seen ∷ w.taken; gone = w.gone }
 
-module _ {b : Before} {start : Start} {s s' : Sheet} {book book' : Book} {w : Work} {kind : RowKind} {items : List Item} (seen : Seen) (before : IsBefore b start) (progress : IsProgress b s book w)
+module _ {b : Before} {start : Start} {s s' : Sheet} {book book' : Book} {w : Work} {kind : RowKind} {items : List Item} (seen : Seen) (before : IsStartOf b start) (progress : IsProgress b s book w)
     (written : IsRowWritten s s' book book' kind items seen.at.word) where
   abbrev then_taken : Work
   then_taken = with_taken b s'.tree.table.words w seen
@@ -202,7 +202,7 @@ module _ {b : Before} {start : Start} {s s' : Sheet} {book book' : Book} {w : Wo
 abbrev pub with_gone : List ℕ → Work → Seen → Work
 with_gone words w seen = record { words = words; used = w.used; taken = w.taken; gone = w.gone ++ seen ∷ [] }
 
-module _ {b : Before} {start : Start} {s : Sheet} {book : Book} {w : Work} (seen : Seen) (before : IsBefore b start) (progress : IsProgress b s book w)
+module _ {b : Before} {start : Start} {s : Sheet} {book : Book} {w : Work} (seen : Seen) (before : IsStartOf b start) (progress : IsProgress b s book w)
     (reached : is_reached b.sheet.tree (row_seen seen) ≡ true) (stays : is_gone w (row_seen seen) ≡ false) where
   abbrev row : ℕ
   row = row_seen seen
@@ -297,7 +297,7 @@ module _ {b : Before} {start : Start} {s : Sheet} {book : Book} {w : Work} (seen
   }
 
 -- the stamps of the rows that are held do not fall
-pub in_order : {b : Before} {start : Start} {s : Sheet} {book : Book} {w : Work} → IsBefore b start → IsProgress b s book w → All (λ (h : Held). h.stamp ≤ b.number) book.held
+pub in_order : {b : Before} {start : Start} {s : Sheet} {book : Book} {w : Work} → IsStartOf b start → IsProgress b s book w → All (λ (h : Held). h.stamp ≤ b.number) book.held
 in_order {b} {start} {s} {book} {w} before progress = subst (All (λ (h : Held). h.stamp ≤ b.number)) (sym progress.held)
     (All-append (λ (h : Held). h.stamp ≤ b.number) b.book.held (map (stamped b.number) w.gone) (λ k d within. let below = before.kept.booked.stamps k d within in omega arith)
     (All-map (λ (h : Held). h.stamp ≤ b.number) (stamped b.number) w.gone (λ k d within. omega arith)))

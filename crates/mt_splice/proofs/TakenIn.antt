@@ -3,7 +3,7 @@ use Rattle.std.proofs.Common.{[], ◌≡◌, ℕ, Bool, true, false, zero, suc, 
 use Rattle.mt_layout.specs.declared.items.Item.{Item}
 use Rattle.mt_layout.specs.Spans.{spans_from, Fills}
 use Rattle.mt_layout.proofs.SpanLists.{fills_after, spans-append}
-use Rattle.mt_leaf.specs.Edits.{joined, ends_with_hole}
+use Rattle.mt_leaf.specs.Edits.{holes_joined, ends_with_hole}
 use Rattle.mt_leaf.proofs.Pushes.{pushed_onto}
 use Rattle.mt_rows.specs.Laws.{kind_on}
 use Rattle.mt_splice.specs.steps.Runs.{MayBeIn}
@@ -12,7 +12,7 @@ use Rattle.mt_layout.specs.declared.spans.Span.{Span}
 
 -- the spans of rows of a height that stand beside each other
 abbrev pub beside : ℕ → List Span → List Span → List Span
-beside zero xs ys = joined (xs ++ ys)
+beside zero xs ys = holes_joined (xs ++ ys)
 beside (suc h) xs ys = xs ++ ys
 
 pub ends_at_last : (first : ℕ) (items : List Item) → ends_with_hole (spans_from first items) ≡ is_hole_at items (length items - 1)
@@ -28,6 +28,6 @@ spans_behind lo middle items row here = spans-append lo items row ∙ ap (λ (k 
 
 pub beside_spans : (lo middle : ℕ) (items row : List Item) → Fills lo middle (spans_from lo items) → (gapped : Bool) (height : ℕ) → MayBeIn height (spans_from lo items)
     → spans_from lo (beside_items (kind_on gapped height) items row) ≡ beside height (spans_from lo items) (spans_from middle row)
-beside_spans lo middle items row here gapped zero fit = pushed_onto lo items row fit.0 ∙ ap joined (spans_behind lo middle items row here)
+beside_spans lo middle items row here gapped zero fit = pushed_onto lo items row fit.0 ∙ ap holes_joined (spans_behind lo middle items row here)
 beside_spans lo middle items row here false (suc height) fit = spans_behind lo middle items row here
 beside_spans lo middle items row here true (suc height) fit = spans_behind lo middle items row here

@@ -17,7 +17,7 @@ use Rattle.mt_rows.proofs.Reached.{height_is}
 use Rattle.mt_path.specs.declared.paths.PathStep.{PathStep}
 use Rattle.mt_path.specs.Paths.{path_in}
 use Rattle.mt_splice.specs.steps.Work.{Start, Work, Holds}
-use Rattle.mt_splice.specs.steps.Progress.{Before, IsBefore}
+use Rattle.mt_splice.specs.steps.Progress.{Before, IsStartOf}
 use Rattle.mt_splice.specs.steps.TakingIn.{beside_items}
 use Rattle.mt_splice.specs.steps.Told.{longest_holes, TellGaps, HadGaps}
 use Rattle.mt_splice.proofs.Rises.{row_here}
@@ -61,7 +61,7 @@ inner_beside true xs ys = refl
 
 -- ---- between two calls all rows keep the law of gaps
 
-pub gaps_were : {b : Before} {start : Start} → IsBefore b start → Stands start.tree start.height → HadGaps start
+pub gaps_were : {b : Before} {start : Start} → IsStartOf b start → Stands start.tree start.height → HadGaps start
 gaps_were {b} {start} was stands = by start.tree (subst IsLawful (sym was.tree) was.kept.lawful.words) stands
   where
     by : (t : Tree) {h : ℕ} → IsLawful t → Stands t h → Levels (GapLaw t) t.table h (root_of t)

@@ -10,11 +10,11 @@ use Rattle.mt_rows.specs.Sheet.{Rooted, life_of}
 use Rattle.mt_rows.specs.Publish.{IsLawfulOf, IsReached, LiveAreReached, NoneBuried}
 
 -- a row that no reader can hold: it was never used, or its death is cleared
-abbrev pub IsSpare : ℕ → Life → Type 0
-IsSpare cleared New = Unit {0}
-IsSpare cleared Draft = ⊥
-IsSpare cleared Live = ⊥
-IsSpare cleared (Dead call) = call ≤ cleared
+abbrev pub IsUnheld : ℕ → Life → Type 0
+IsUnheld cleared New = Unit {0}
+IsUnheld cleared Draft = ⊥
+IsUnheld cleared Live = ⊥
+IsUnheld cleared (Dead call) = call ≤ cleared
 
 -- the book is of these rows: those that are out are those that are reached, its free rows are spare, and its stamps are
 -- below `number`
@@ -23,12 +23,12 @@ pub record IsBookOf (t : Rooted) (lives : List Life) (cleared : ℕ) (book : Boo
   pub rows : book.rows ≡ t.rows
   pub out : (row : ℕ) → first_row ≤ row → row < first_row + t.rows → IsOut book row → IsReached t row
   pub reached : (row : ℕ) → IsReached t row → IsOut book row
-  pub spare : All (λ row. IsSpare cleared (life_of lives row)) book.free
+  pub spare : All (λ row. IsUnheld cleared (life_of lives row)) book.free
   pub stamps : All (λ (h : Held). h.stamp < number) book.held
 
 -- The words of a tree of this kind are lawful, the live rows are those that are reached, none is buried, and the book is of
 -- these rows.
-pub record IsKept (kind : Kind) (t : Rooted) (lives : List Life) (buried : List Bool) (cleared : ℕ) (book : Book) (number : ℕ) : Type 0 where
+pub record IsConsistent (kind : Kind) (t : Rooted) (lives : List Life) (buried : List Bool) (cleared : ℕ) (book : Book) (number : ℕ) : Type 0 where
   pub lawful : IsLawfulOf t kind
   pub live : LiveAreReached t lives
   pub none_buried : NoneBuried t.rows buried

@@ -24,14 +24,14 @@ use Rattle.mt_rows.specs.Levels.{Levels}
 use Rattle.mt_rows.specs.Trees.{height_in}
 use Rattle.mt_rows.specs.Laws.{Tree, Stands, ParentLaw, longest_below}
 use Rattle.mt_rows.specs.Sheet.{Rooted, Sheet, life_of, word_at}
-use Rattle.mt_rows.specs.Publish.{tree_as, IsTold, IsTreeOf, StandsAt, map_by, is_reached, IsReached, LiveAreReached, NoneBuried, with_record}
+use Rattle.mt_rows.specs.Publish.{tree_as, IsToldKind, IsTreeOf, StandsAt, map_by, is_reached, IsReached, LiveAreReached, NoneBuried, with_record}
 use Rattle.mt_rows.specs.Replacement.{root_of}
 use Rattle.mt_leaf.specs.Edits.{edited, starting}
 use Rattle.mt_path.specs.declared.paths.PathStep.{PathStep}
 use Rattle.mt_path.specs.Paths.{path_in}
 use Rattle.mt_path.specs.Handles.{last_step, leaf_spans}
 use Rattle.mt_splice.specs.Fewest.{FewestBelow}
-use Rattle.mt_splice.specs.Kept.{IsBookOf, IsKept, IsUnpublished}
+use Rattle.mt_splice.specs.Kept.{IsBookOf, IsConsistent, IsUnpublished}
 
 -- ---- the store
 
@@ -54,8 +54,8 @@ region_of t (s ∷ left) right =
 -- A call of a tree of this kind is in flight and has published nothing. It changes the map by a store; the paths lead to the
 -- store's ends, and the items are what stands in the leaves there after it. For each level three rows are free, and one more.
 pub record MaySplice (kind : Kind) (s : Sheet) (book : Book) (left right : List PathStep) (items : List Item) (number : ℕ) (call : Call) (reply : Reply) : Type 0 where
-  pub told : IsTold s.kind kind
-  pub kept : IsKept kind s.tree s.lives s.buried s.cleared book number
+  pub told : IsToldKind s.kind kind
+  pub kept : IsConsistent kind s.tree s.lives s.buried s.cleared book number
   pub unpublished : IsUnpublished s.in_flight s.published s.ended number
   pub room : 3 * height_in s.tree.table s.tree.root + 1 ≤ length book.free
   pub first : ℕ
@@ -69,8 +69,8 @@ pub record MaySplice (kind : Kind) (s : Sheet) (book : Book) (left right : List 
 
 -- the same of a store whose leaves are still to be read
 pub record MayReplace (kind : Kind) (s : Sheet) (book : Book) (left : List PathStep) (first last entry : ℕ) (number : ℕ) (call : Call) (reply : Reply) : Type 0 where
-  pub told : IsTold s.kind kind
-  pub kept : IsKept kind s.tree s.lives s.buried s.cleared book number
+  pub told : IsToldKind s.kind kind
+  pub kept : IsConsistent kind s.tree s.lives s.buried s.cleared book number
   pub unpublished : IsUnpublished s.in_flight s.published s.ended number
   pub room : 3 * height_in s.tree.table s.tree.root + 1 ≤ length book.free
   pub store : IsStoreBy kind (greatest s.tree.table.width) (map_by s.tree) call reply first last entry
@@ -79,8 +79,8 @@ pub record MayReplace (kind : Kind) (s : Sheet) (book : Book) (left : List PathS
 
 -- what the emptying of a tree that is not empty is asked for: no row need be free
 pub record MayClear (kind : Kind) (s : Sheet) (book : Book) (number : ℕ) (call : Call) (reply : Reply) : Type 0 where
-  pub told : IsTold s.kind kind
-  pub kept : IsKept kind s.tree s.lives s.buried s.cleared book number
+  pub told : IsToldKind s.kind kind
+  pub kept : IsConsistent kind s.tree s.lives s.buried s.cleared book number
   pub unpublished : IsUnpublished s.in_flight s.published s.ended number
   pub some : s.tree.root ≢ 0
   pub answer : acted kind (map_by s.tree) call ≡ ([], reply)
@@ -113,9 +113,9 @@ pub record TellsBelow (kind : Kind) (t : Rooted) (word gap : ℕ) : Type 0 where
   pub longest : finds_room kind ≡ true → gap ≡ longest_below t.table height (row ∷ [])
 
 -- the same of the row that is named at a place; above the root none is told
-abbrev pub TellsAt : Kind → Rooted → Place → ℕ → Type 0
-TellsAt kind t Root gap = gap ≡ 0
-TellsAt kind t (Slot row col) gap = TellsBelow kind t (word_at t row col) gap
+abbrev pub TellsGapAt : Kind → Rooted → Place → ℕ → Type 0
+TellsGapAt kind t Root gap = gap ≡ 0
+TellsGapAt kind t (Slot row col) gap = TellsBelow kind t (word_at t row col) gap
 
 -- at most so many rows were taken; the rows that are reached no more were retired with the call's number
 pub record IsBooked (s s' : Sheet) (book book' : Book) (number most : ℕ) : Type 0 where

@@ -3,7 +3,7 @@
 ghost use Rattle.std.specs.Prelude.{◌≡◌, [], List};
 ghost use Rattle.mt_rows.specs.declared.rows.Place.TheVariants.{Root};
 ghost use Rattle.mt_rows.specs.Spans.{inner_of};
-ghost use Rattle.mt_splice.specs.steps.Entries.{IsFirst};
+ghost use Rattle.mt_splice.specs.steps.Entries.{IsFirstStore};
 ghost use Rattle.mt_splice.specs.Splice.{IsSpliced};
 
 use crate::begun::Begun;
@@ -26,7 +26,7 @@ pub fn begin_tree<R: Rows, B: Begun>(
     event: &Event<'_>,
 ) -> Place
     requires kind { above ≡ inner_of B.start.tree.gapped }
-    requires first { IsFirst B.before B.start (R.sheet rows.old) book.old items.now event.now.call.now event.now.reply.now }
+    requires first { IsFirstStore B.before B.start (R.sheet rows.old) book.old items.now event.now.call.now event.now.reply.now }
     ensures spliced { IsSpliced B.before.kind B.before.sheet (R.sheet rows.new) B.before.book book.new B.before.number event.now.call.now event.now.reply.now result B.start.first B.start.last }
     ensures root { result ≡ Root }
 {

@@ -2,7 +2,7 @@
 
 ghost use Rattle.std.specs.Prelude.{◌≡◌, ◌<◌, ◌≤◌, true, [], ◌∷◌, length};
 ghost use Rattle.mt_layout.specs.declared.names.RowKind.TheVariants.{Leaf};
-ghost use Rattle.mt_splice.specs.steps.Decisions.{IsNext, item_words};
+ghost use Rattle.mt_splice.specs.steps.Decisions.{IsNextDecision, item_words};
 
 use crate::ways::{Ways, step_on};
 use mt_base::{Width, top};
@@ -35,7 +35,7 @@ pub fn next_of(
     requires left { depth < length ways.now.left.items }
     requires right { depth < length ways.now.right.items }
     requires some { 1 ≤ pieces }
-    ensures { IsNext width ways.now.left.items ways.now.right.items depth kind run.now.items pieces result }
+    ensures { IsNextDecision width ways.now.left.items ways.now.right.items depth kind run.now.items pieces result }
 {
     let left = step_on(&ways.left, depth);
     let right = step_on(&ways.right, depth);

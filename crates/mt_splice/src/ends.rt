@@ -4,7 +4,7 @@ ghost use Rattle.std.specs.Prelude.{◌≡◌, ℕ};
 ghost use Rattle.mt_rows.specs.declared.rows.Place.TheVariants.{Slot};
 ghost use Rattle.mt_rows.specs.Publish.{with_published};
 ghost use Rattle.mt_rows.specs.Spans.{inner_of};
-ghost use Rattle.mt_splice.specs.Splice.{IsSpliced, TellsBelow, TellsAt};
+ghost use Rattle.mt_splice.specs.Splice.{IsSpliced, TellsBelow, TellsGapAt};
 ghost use Rattle.mt_splice.specs.steps.Ends.{MayPublishEnd, MayTendRows, AreRowsTended, MayTendTopAt, IsTopTendedAt};
 
 use crate::begun::Begun;
@@ -57,7 +57,7 @@ pub fn publish_at<R: Rows, B: Begun>(
     requires kind { kind ≡ inner_of B.start.tree.gapped }
     requires end { MayPublishEnd B.before B.start (R.sheet rows.old) book.now inner.now top.now.place top.now.word event.now.call.now event.now.reply.now }
     ensures spliced { IsSpliced B.before.kind B.before.sheet (R.sheet rows.new) B.before.book book.now B.before.number event.now.call.now event.now.reply.now top.now.place B.start.first B.start.last }
-    ensures told { (row col gap : ℕ) → top.now.place ≡ Slot row col → TellsBelow B.before.kind (with_published (R.sheet rows.old).tree top.now.place top.now.word) top.now.word gap → TellsAt B.before.kind (R.sheet rows.new).tree top.now.place gap }
+    ensures told { (row col gap : ℕ) → top.now.place ≡ Slot row col → TellsBelow B.before.kind (with_published (R.sheet rows.old).tree top.now.place top.now.word) top.now.word gap → TellsGapAt B.before.kind (R.sheet rows.new).tree top.now.place gap }
 {
     rows.publish(top.place, top.word, event.call, event.reply);
     tend_rows(rows, kind, inner);

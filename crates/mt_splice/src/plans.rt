@@ -31,10 +31,10 @@ ghost use Rattle.mt_splice.specs.declared.writes.NewRow.{NewRow};
 ghost use Rattle.mt_splice.specs.steps.Climbing.{HasClimbed, IsClimbing, windows_over};
 ghost use Rattle.mt_splice.specs.steps.Drafting.{IsPieceDrafted};
 ghost use Rattle.mt_splice.specs.steps.Ends.{MayPublishEnd};
-ghost use Rattle.mt_splice.specs.steps.Entries.{IsBegunBy, IsFirst};
+ghost use Rattle.mt_splice.specs.steps.Entries.{IsBegunBy, IsFirstStore};
 ghost use Rattle.mt_splice.specs.steps.Layers.{Beside, Stand};
 ghost use Rattle.mt_splice.specs.steps.Plans.{AreAllHeld, IsPlanned, Layer, depth_at, gone_by, level_of, taken_by};
-ghost use Rattle.mt_splice.specs.steps.Progress.{Before, IsBefore, IsProgress, is_taken};
+ghost use Rattle.mt_splice.specs.steps.Progress.{Before, IsStartOf, IsProgress, is_taken};
 ghost use Rattle.mt_splice.specs.steps.Replaced.{IsReplaced, with_root};
 ghost use Rattle.mt_splice.specs.steps.Seen.{Seen, passing};
 ghost use Rattle.mt_splice.specs.steps.Telling.{AreAllFromBelow};
@@ -50,7 +50,7 @@ pub fn a_climb_begins()
         → IsBegunBy b start kind s book number call (last_step left).min (last_step right).max → MaySplice kind s book left right items number call reply → IsWhole s → left ≢ [] → c.ways.left.items ≡ left → c.ways.right.items ≡ right → c.gathered.run.items ≡ items → c.windows.items ≡ []
         → c.made.items ≡ [] → c.inner ≡ inner_kind kind → IsClimbing b start s book Leaf (length c.ways.left.items - 1) c }
     ensures first { (b : Before) (start : Start) (s s' : Sheet) (book book' : Book) (above : RowKind) (items : List Item) (call : Call) (reply : Reply) (made made' inner : List NewRow) (item : Item)
-        → IsFirst b start s book items call reply → IsWhole s → made ≡ [] → IsPieceDrafted s s' book book' above Leaf 0 items made made' item → inner ≡ made' → MayPublishEnd b start s' book' inner Root item.word call reply }
+        → IsFirstStore b start s book items call reply → IsWhole s → made ≡ [] → IsPieceDrafted s s' book book' above Leaf 0 items made made' item → inner ≡ made' → MayPublishEnd b start s' book' inner Root item.word call reply }
     ensures clear { (b : Before) (start : Start) (kind : Kind) (s s₁ s₂ : Sheet) (book : Book) (number : ℕ) (call : Call) (reply : Reply) (width : Width) (index depth : ℕ) (c : Climb) (top : Top)
         → IsBegunBy b start kind s book number call 0 (greatest s.tree.table.width) → MayClear kind s book number call reply → IsWhole s → OnlyReads s s₁ → OnlyReads s₁ s₂ → c.ways.left.items ≡ path_in s.tree.table s.tree.root 0 → width ≡ s₁.tree.table.width → index ≡ greatest width
         → c.ways.right.items ≡ path_in s₁.tree.table s₁.tree.root index → depth + 1 ≡ length c.ways.left.items → c.windows.items ≡ windows_over c.ways.left.items c.ways.right.items (depth + 1) → c.made.items ≡ [] → c.inner ≡ inner_kind kind → top.place ≡ Root → top.word ≡ 0 → top.gap ≡ 0
@@ -60,7 +60,7 @@ pub fn a_climb_begins()
 /// While rows are drafted, the tree's rows stand beside them and are read as they were.
 pub fn the_old_rows_stand_beside()
     ensures beside { (start : Start) (w : Work) → Holds start w → Beside start w.words (is_taken w) 0 }
-    ensures items { (b : Before) (start : Start) (s : Sheet) (book : Book) (w : Work) → IsBefore b start → IsProgress b s book w → Holds start w → (i d h : ℕ) → i ≤ top_of start.tree → start.height ≡ d + h → (kind : RowKind) (max : ℕ)
+    ensures items { (b : Before) (start : Start) (s : Sheet) (book : Book) (w : Work) → IsStartOf b start → IsProgress b s book w → Holds start w → (i d h : ℕ) → i ≤ top_of start.tree → start.height ≡ d + h → (kind : RowKind) (max : ℕ)
         → items_of_row s.tree.table kind (row_in (row_at start.tree d i).word) max ≡ items_of_row start.tree.table kind (row_in (row_at start.tree d i).word) max }
 {}
 

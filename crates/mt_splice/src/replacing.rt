@@ -2,7 +2,7 @@
 
 ghost use Rattle.std.specs.Prelude.{◌≡◌, ◌-◌, length};
 ghost use Rattle.mt_layout.specs.declared.names.RowKind.TheVariants.{Leaf};
-ghost use Rattle.mt_splice.specs.Splice.{IsSpliced, TellsAt};
+ghost use Rattle.mt_splice.specs.Splice.{IsSpliced, TellsGapAt};
 ghost use Rattle.mt_splice.specs.steps.Climbing.{HasClimbed, IsClimbing};
 ghost use Rattle.mt_splice.specs.steps.Replacing.{IsAnswer};
 
@@ -30,7 +30,7 @@ pub fn publish_climbed<R: Rows, B: Begun>(
     requires answer { IsAnswer B.before B.start event.now.call.now event.now.reply.now }
     ensures spliced { IsSpliced B.before.kind B.before.sheet (R.sheet rows.new) B.before.book book.new B.before.number event.now.call.now event.now.reply.now result.place B.start.first B.start.last }
     ensures place { result.place ≡ top.place }
-    ensures told { TellsAt B.before.kind (R.sheet rows.new).tree result.place result.gap }
+    ensures told { TellsGapAt B.before.kind (R.sheet rows.new).tree result.place result.gap }
     ensures none_taken { book.new.free ≡ book.old.free }
 {
     bury(rows, book, climb.windows.as_slice(), depth, event.number);
@@ -52,7 +52,7 @@ pub fn replace<R: Rows, B: Begun>(
     requires number { event.now.number ≡ B.before.number }
     requires answer { IsAnswer B.before B.start event.now.call.now event.now.reply.now }
     ensures spliced { IsSpliced B.before.kind B.before.sheet (R.sheet rows.new) B.before.book book.new B.before.number event.now.call.now event.now.reply.now result.place B.start.first B.start.last }
-    ensures told { TellsAt B.before.kind (R.sheet rows.new).tree result.place result.gap }
+    ensures told { TellsGapAt B.before.kind (R.sheet rows.new).tree result.place result.gap }
 {
     let depth = climb.ways.left.len() as u32 - 1;
     let top = climb_up::<R, B>(rows, book, climb);

@@ -4,7 +4,7 @@ ghost use Rattle.std.specs.Prelude.{◌≡◌};
 ghost use Rattle.mt_rows.specs.declared.rows.Place.TheVariants.{Root};
 ghost use Rattle.mt_rows.specs.Sheet.{Rooted};
 ghost use Rattle.mt_base.specs.declared.kinds.Kind.{Kind};
-ghost use Rattle.mt_splice.specs.Splice.{TellsAt};
+ghost use Rattle.mt_splice.specs.Splice.{TellsGapAt};
 
 use mt_rows::Place;
 
@@ -20,7 +20,7 @@ pub struct Spliced {
 pub fn at_root(place: Place) -> Spliced
     requires root { place ≡ Root }
     ensures place { result.place ≡ place }
-    ensures told { (kind : Kind) (t : Rooted) → TellsAt kind t result.place result.gap }
+    ensures told { (kind : Kind) (t : Rooted) → TellsGapAt kind t result.place result.gap }
 {
     Spliced { place, gap: 0 }
 }

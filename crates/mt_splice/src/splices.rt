@@ -4,7 +4,7 @@ ghost use Rattle.std.specs.Prelude.{◌≡◌, []};
 ghost use Rattle.mt_rows.specs.Spans.{inner_kind};
 ghost use Rattle.mt_path.specs.Handles.{last_step};
 ghost use Rattle.mt_splice.specs.steps.Entries.{IsBegunBy};
-ghost use Rattle.mt_splice.specs.Splice.{MaySplice, MayReplace, IsSpliced, TellsAt};
+ghost use Rattle.mt_splice.specs.Splice.{MaySplice, MayReplace, IsSpliced, TellsGapAt};
 
 use crate::begins::begin_tree;
 use crate::begun::Begun;
@@ -36,7 +36,7 @@ fn splice_as<R: Rows, B: Begun>(
     requires windows { climb.old.windows.items ≡ [] }
     requires made { climb.old.made.items ≡ [] }
     ensures spliced { IsSpliced B.before.kind B.before.sheet (R.sheet rows.new) B.before.book book.new B.before.number event.now.call.now event.now.reply.now result.place B.start.first B.start.last }
-    ensures told { TellsAt B.before.kind (R.sheet rows.new).tree result.place result.gap }
+    ensures told { TellsGapAt B.before.kind (R.sheet rows.new).tree result.place result.gap }
 {
     if climb.ways.left.is_empty() {
         let items = climb.gathered.run.as_slice();
@@ -59,7 +59,7 @@ fn splice_climb<R: Rows>(
     requires windows { climb.old.windows.items ≡ [] }
     requires made { climb.old.made.items ≡ [] }
     ensures spliced { IsSpliced kind (R.sheet rows.old) (R.sheet rows.new) book.old book.new event.now.number event.now.call.now event.now.reply.now result.place (last_step climb.old.ways.left.items).min (last_step climb.old.ways.right.items).max }
-    ensures told { TellsAt kind (R.sheet rows.new).tree result.place result.gap }
+    ensures told { TellsGapAt kind (R.sheet rows.new).tree result.place result.gap }
 {
     splice_as::<R, Brand>(rows, book, kind, climb, event)
 }
@@ -105,7 +105,7 @@ pub fn replace_range<R: Rows>(
 ) -> Spliced
     requires { MayReplace kind (R.sheet rows.old) book.old left.now.items edit.now.first edit.now.last edit.now.entry event.now.number event.now.call.now event.now.reply.now }
     ensures spliced { IsSpliced kind (R.sheet rows.old) (R.sheet rows.new) book.old book.new event.now.number event.now.call.now event.now.reply.now result.place edit.now.first edit.now.last }
-    ensures told { TellsAt kind (R.sheet rows.new).tree result.place result.gap }
+    ensures told { TellsGapAt kind (R.sheet rows.new).tree result.place result.gap }
 {
     let mut climb = new_climb(inner_kind(kind));
     copy_into(left, &mut climb.ways.left);

@@ -7,7 +7,7 @@ use Rattle.mt_base.specs.History.{History}
 use Rattle.mt_base.specs.Passes.{Pass, Read}
 use Rattle.mt_log.specs.Run.{find_at}
 use Rattle.mt_tree.specs.Asks.{HasStepped, most_made, opened_with, place_behind, query_at}
-use Rattle.mt_desks.specs.Walks.{Walk, HasWalked, opened_at, place_after}
+use Rattle.mt_desks.specs.Walks.{Walk, HasWalkedOn, opened_at, place_after}
 
 -- any query is answered in so many steps at the most
 pub few_steps : (query : Query) → most_made query ≤ 360
@@ -37,7 +37,7 @@ module _ (history history' : History) (reference reference' : ℕ) (p q : Pass) 
   after = record { history = history'; reference = reference'; pass = q; steps = steps'; at = at'; max = max' }
 
   -- the section that stands open for the pass is the cursor's own
-  pub walked : history' ≡ history → reference' ≡ reference → ((k : ℕ) × Read history p lo hi k (query_at at max) value q) → HasStepped lo hi epoch p q → at' ≡ place_behind value max → max' ≡ max → epoch ≡ p.standing → steps' ≤ steps + 220 → HasWalked lo hi value before after
+  pub walked : history' ≡ history → reference' ≡ reference → ((k : ℕ) × Read history p lo hi k (query_at at max) value q) → HasStepped lo hi epoch p q → at' ≡ place_behind value max → max' ≡ max → epoch ≡ p.standing → steps' ≤ steps + 220 → HasWalkedOn lo hi value before after
   walked same_history same_reference read stepped at_is max_is own few =
       let place : at' ≡ place_after max value = at_is ∙ same_place value max in
       record {

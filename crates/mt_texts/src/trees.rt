@@ -12,7 +12,7 @@ ghost use Rattle.mt_tree.specs.Zeros.{Serve};
 
 use crate::walks::scan_by;
 use mt_base::{Call, Kind, MOST_ROWS, NoMemory, Query, Range};
-use mt_desks::{Done, Looked, Passage, Shared, Worn};
+use mt_desks::{CallDone, Looked, Passage, Shared, TreeWorn};
 use mt_log::Entry;
 use mt_play::Plays;
 use mt_tree::{DupError, MOST_CALLS, MakeError, Pass, PlainRows, Read, Shape, Tree, Zeros};
@@ -101,13 +101,13 @@ impl Shared<Pass> for LaneTree {
 
     ghost serves = { λ t p. IsPassOf t.tree p };
 
-    fn act<R: Wait>(&self, rt: &R, pass: &mut Pass, call: &Call) -> Result<Done, Worn> {
+    fn act<R: Wait>(&self, rt: &R, pass: &mut Pass, call: &Call) -> Result<CallDone, TreeWorn> {
         match self.tree.act(rt, pass, call) {
-            Ok(done) => Ok(Done {
+            Ok(done) => Ok(CallDone {
                 call: done.call,
                 reply: done.reply,
             }),
-            Err(_) => Err(Worn),
+            Err(_) => Err(TreeWorn),
         }
     }
 

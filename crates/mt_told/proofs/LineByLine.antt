@@ -18,12 +18,12 @@ use Rattle.mt_log.specs.Phases.{phase_after}
 use Rattle.mt_log.specs.Run.{AreDone, Asked, Called, Counted, IsDone, Looked, Outcome, Step, asked_from, is_answered, lane_after, lane_of, step_of, steps_of}
 use Rattle.mt_log.specs.Trees.{AreNamedFrom, CopyOf, Declared, IsReadable, NamesBelow, count_after, declared_by, most_lanes, renamed, trees_from, trees_of}
 use Rattle.mt_told.proofs.Stepped.{nothing_told, steps_text-append, told_text-append}
-use Rattle.mt_told.specs.Along.{IsLineDone, IsPlacedBy}
+use Rattle.mt_told.specs.Along.{IsLaneLineDone, IsPlacedBy}
 use Rattle.mt_told.specs.Scans.{IsScanAt}
-use Rattle.mt_told.specs.Steps.{AddsTold, AllFit, IsOutcomeOf, IsStepAt, StandsAt, TellsDone, TellsNotDone, steps_text}
-use Rattle.mt_told.specs.Telling.{AreSpelled, Fits, HasForm, IsToldBy, Spelling, TellsNone, told_text}
+use Rattle.mt_told.specs.Steps.{AddsTold, AllFit, IsOutcomeOf, IsStepAt, IsToldAt, TellsDone, TellsNotDone, steps_text}
+use Rattle.mt_told.specs.Telling.{AreSpelled, FitsLine, HasForm, IsToldBy, Spelling, TellsNone, told_text}
 use Rattle.mt_told.specs.declared.steps.Deed.TheVariants as deeds
-use Rattle.mt_told.specs.declared.steps.Place.{Place}
+use Rattle.mt_told.specs.declared.steps.LinePlace.{LinePlace}
 use Rattle.mt_told.specs.declared.told.Told.{Told}
 
 -- ---- steps that are done so, and so
@@ -61,10 +61,10 @@ told_parts sp (t ∷ mine) more (s ∷ steps) h =
     (s ∷ rest.0, rest.1, ap (λ (ss : List Step). s ∷ ss) rest.2, (h.0, rest.3), rest.4)
 
 small_first : (sp : Spelling) (first second : List Step) → AllFit sp (first ++ second) → AllFit sp first
-small_first sp first second h k d within = subst (λ (s : Step). Fits sp s.outcome) (get_or_append_left first second d k within) (h k d (omega (arith, length-append first second, within)))
+small_first sp first second h k d within = subst (λ (s : Step). FitsLine sp s.outcome) (get_or_append_left first second d k within) (h k d (omega (arith, length-append first second, within)))
 
 small_second : (sp : Spelling) (first second : List Step) → AllFit sp (first ++ second) → AllFit sp second
-small_second sp first second h k d within = subst (λ (s : Step). Fits sp s.outcome) (get_or-append-add first second k d) (h (length first + k) d (omega (arith, length-append first second, within)))
+small_second sp first second h k d within = subst (λ (s : Step). FitsLine sp s.outcome) (get_or-append-add first second k d) (h (length first + k) d (omega (arith, length-append first second, within)))
 
 -- ---- one behind the other
 
@@ -186,7 +186,7 @@ module _ (lane phase number tree : ℕ) (item : Item) (answered : is_answered it
   abbrev asked : Asked
   asked = record { line = number; lane = lane_of lane item; phase = phase; item = item }
 
-  abbrev here : Place
+  abbrev here : LinePlace
   here = record { line = number; lane = lane_of lane item; phase = phase; tree = tree }
 
   abbrev line : Line
@@ -195,18 +195,18 @@ module _ (lane phase number tree : ℕ) (item : Item) (answered : is_answered it
   only_asked : asked_from lane phase (line ∷ []) ≡ asked ∷ []
   only_asked = ap (λ (b : Bool). cond b (asked ∷ []) []) answered
 
-  stands_so : (t : Told) → StandsAt here t → IsPlacedBy lane phase line t
+  stands_so : (t : Told) → IsToldAt here t → IsPlacedBy lane phase line t
   stands_so t h = record { form = h.form; done_in = h.lane; done_at = h.phase; done_on = λ count named. subst (λ (n : ℕ). n < count) (sym h.tree) (names count named) }
 
-  pub line_added : ((steps : List Step) → D steps → IsDone asked item steps) → ((steps : List Step) → IsDone asked item steps → D steps) → (text rest : List ℕ) (old new : List Told) → AddsTold D (StandsAt here) text old new rest → AddsTold (IsLineDone lane phase line) (IsPlacedBy lane phase line) text old new rest
+  pub line_added : ((steps : List Step) → D steps → IsDone asked item steps) → ((steps : List Step) → IsDone asked item steps → D steps) → (text rest : List ℕ) (old new : List Told) → AddsTold D (IsToldAt here) text old new rest → AddsTold (IsLaneLineDone lane phase line) (IsPlacedBy lane phase line) text old new rest
   line_added to from text rest old new h =
-      adds_so D (IsLineDone lane phase line) (StandsAt here) (IsPlacedBy lane phase line) text rest old new
+      adds_so D (IsLaneLineDone lane phase line) (IsToldAt here) (IsPlacedBy lane phase line) text rest old new
       (λ steps d. subst (λ (xs : List Asked). AreDone xs steps) (sym only_asked) (done_one asked steps (to steps d)))
       (λ steps d. from steps (one_done asked steps (subst (λ (xs : List Asked). AreDone xs steps) only_asked d)))
       stands_so h
 
 -- a line that is not answered
-pub quiet_line : (lane phase : ℕ) (line : Line) (text : List ℕ) (old : List Told) → is_answered line.item ≡ false → AddsTold (IsLineDone lane phase line) (IsPlacedBy lane phase line) text old old text
+pub quiet_line : (lane phase : ℕ) (line : Line) (text : List ℕ) (old : List Told) → is_answered line.item ≡ false → AddsTold (IsLaneLineDone lane phase line) (IsPlacedBy lane phase line) text old old text
 quiet_line lane phase line text old quiet =
     record {
       mine = [];
@@ -218,7 +218,7 @@ quiet_line lane phase line text old quiet =
     none_asked : asked_from lane phase (line ∷ []) ≡ []
     none_asked = ap (λ (b : Bool). cond b (record { line = line.number; lane = lane_of lane line.item; phase = phase; item = line.item } ∷ []) []) quiet
 
-abbrev at_place : ℕ → ℕ → ℕ → ℕ → Place
+abbrev at_place : ℕ → ℕ → ℕ → ℕ → LinePlace
 at_place number lane phase tree = record { line = number; lane = lane; phase = phase; tree = tree }
 
 abbrev asked_so : ℕ → ℕ → ℕ → Item → Asked
@@ -226,36 +226,36 @@ asked_so number lane phase item = record { line = number; lane = lane_of lane it
 
 -- the line says this
 abbrev LineAdds : ℕ → ℕ → ℕ → List ℕ → List ℕ → List Told → List Told → Item → Type 0
-LineAdds lane phase number text rest old new item = AddsTold (IsLineDone lane phase (record { number = number; item = item })) (IsPlacedBy lane phase (record { number = number; item = item })) text old new rest
+LineAdds lane phase number text rest old new item = AddsTold (IsLaneLineDone lane phase (record { number = number; item = item })) (IsPlacedBy lane phase (record { number = number; item = item })) text old new rest
 
 module _ (lane phase : ℕ) (line : Line) (text rest : List ℕ) (old new : List Told) where
   is_line : (item : Item) → line.item ≡ item → LineAdds lane phase line.number text rest old new item → LineAdds lane phase line.number text rest old new line.item
   is_line item is h = subst (LineAdds lane phase line.number text rest old new) (sym is) h
 
-  pub call_line : (tree : ℕ) (call : Call) → line.item ≡ Write tree call → (place : Place) → place ≡ at_place line.number lane phase tree → AddsTold (IsStepAt place (deeds.Call call)) (StandsAt place) text old new rest → AddsTold (IsLineDone lane phase line) (IsPlacedBy lane phase line) text old new rest
+  pub call_line : (tree : ℕ) (call : Call) → line.item ≡ Write tree call → (place : LinePlace) → place ≡ at_place line.number lane phase tree → AddsTold (IsStepAt place (deeds.Call call)) (IsToldAt place) text old new rest → AddsTold (IsLaneLineDone lane phase line) (IsPlacedBy lane phase line) text old new rest
   call_line tree call is place there h =
       is_line (Write tree call) is (line_added lane phase line.number tree (Write tree call) refl (λ count named. named) (IsStepAt (at_place line.number lane phase tree) (deeds.Call call))
-      (call_done (asked_so line.number lane phase (Write tree call)) tree call) (λ steps d. (Called d.0 call d.1, d.2, refl)) text rest old new (subst (λ (p : Place). AddsTold (IsStepAt p (deeds.Call call)) (StandsAt p) text old new rest) there h))
+      (call_done (asked_so line.number lane phase (Write tree call)) tree call) (λ steps d. (Called d.0 call d.1, d.2, refl)) text rest old new (subst (λ (p : LinePlace). AddsTold (IsStepAt p (deeds.Call call)) (IsToldAt p) text old new rest) there h))
 
-  pub look_line : (tree : ℕ) (query : Query) → line.item ≡ Ask tree query → (place : Place) → place ≡ at_place line.number lane phase tree → AddsTold (IsStepAt place (deeds.Look query)) (StandsAt place) text old new rest → AddsTold (IsLineDone lane phase line) (IsPlacedBy lane phase line) text old new rest
+  pub look_line : (tree : ℕ) (query : Query) → line.item ≡ Ask tree query → (place : LinePlace) → place ≡ at_place line.number lane phase tree → AddsTold (IsStepAt place (deeds.Look query)) (IsToldAt place) text old new rest → AddsTold (IsLaneLineDone lane phase line) (IsPlacedBy lane phase line) text old new rest
   look_line tree query is place there h =
       is_line (Ask tree query) is (line_added lane phase line.number tree (Ask tree query) refl (λ count named. named) (IsStepAt (at_place line.number lane phase tree) (deeds.Look query))
-      (look_done (asked_so line.number lane phase (Ask tree query)) tree query) (λ steps d. (Looked d.0 d.1 d.2 query d.3, d.4, refl)) text rest old new (subst (λ (p : Place). AddsTold (IsStepAt p (deeds.Look query)) (StandsAt p) text old new rest) there h))
+      (look_done (asked_so line.number lane phase (Ask tree query)) tree query) (λ steps d. (Looked d.0 d.1 d.2 query d.3, d.4, refl)) text rest old new (subst (λ (p : LinePlace). AddsTold (IsStepAt p (deeds.Look query)) (IsToldAt p) text old new rest) there h))
 
-  pub copy_line : (tree : ℕ) (name : List ℕ) → line.item ≡ Dup tree name → (place : Place) → place ≡ at_place line.number 0 phase tree → AddsTold (IsStepAt place deeds.Copy) (StandsAt place) text old new rest → AddsTold (IsLineDone lane phase line) (IsPlacedBy lane phase line) text old new rest
+  pub copy_line : (tree : ℕ) (name : List ℕ) → line.item ≡ Dup tree name → (place : LinePlace) → place ≡ at_place line.number 0 phase tree → AddsTold (IsStepAt place deeds.Copy) (IsToldAt place) text old new rest → AddsTold (IsLaneLineDone lane phase line) (IsPlacedBy lane phase line) text old new rest
   copy_line tree name is place there h =
       is_line (Dup tree name) is (line_added lane phase line.number tree (Dup tree name) refl (λ count named. named) (IsStepAt (at_place line.number 0 phase tree) deeds.Copy)
-      (copy_done (asked_so line.number lane phase (Dup tree name)) tree name) (λ steps d. (Counted said.Copied d.0, d.1, refl)) text rest old new (subst (λ (p : Place). AddsTold (IsStepAt p deeds.Copy) (StandsAt p) text old new rest) there h))
+      (copy_done (asked_so line.number lane phase (Dup tree name)) tree name) (λ steps d. (Counted said.Copied d.0, d.1, refl)) text rest old new (subst (λ (p : LinePlace). AddsTold (IsStepAt p deeds.Copy) (IsToldAt p) text old new rest) there h))
 
-  pub check_line : (tree : ℕ) → line.item ≡ Check tree → (place : Place) → place ≡ at_place line.number 0 phase tree → AddsTold (IsStepAt place deeds.Check) (StandsAt place) text old new rest → AddsTold (IsLineDone lane phase line) (IsPlacedBy lane phase line) text old new rest
+  pub check_line : (tree : ℕ) → line.item ≡ Check tree → (place : LinePlace) → place ≡ at_place line.number 0 phase tree → AddsTold (IsStepAt place deeds.Check) (IsToldAt place) text old new rest → AddsTold (IsLaneLineDone lane phase line) (IsPlacedBy lane phase line) text old new rest
   check_line tree is place there h =
       is_line (Check tree) is (line_added lane phase line.number tree (Check tree) refl (λ count named. named) (IsStepAt (at_place line.number 0 phase tree) deeds.Check)
-      (check_done (asked_so line.number lane phase (Check tree)) tree) (λ steps d. (Counted said.Lawful d.0, d.1, refl)) text rest old new (subst (λ (p : Place). AddsTold (IsStepAt p deeds.Check) (StandsAt p) text old new rest) there h))
+      (check_done (asked_so line.number lane phase (Check tree)) tree) (λ steps d. (Counted said.Lawful d.0, d.1, refl)) text rest old new (subst (λ (p : LinePlace). AddsTold (IsStepAt p deeds.Check) (IsToldAt p) text old new rest) there h))
 
-  pub scan_line : (tree index max count : ℕ) → line.item ≡ Scan tree index max count → (place : Place) → place ≡ at_place line.number lane phase tree → AddsTold (IsScanAt place (record { index = index; max = max; count = count })) (StandsAt place) text old new rest → AddsTold (IsLineDone lane phase line) (IsPlacedBy lane phase line) text old new rest
+  pub scan_line : (tree index max count : ℕ) → line.item ≡ Scan tree index max count → (place : LinePlace) → place ≡ at_place line.number lane phase tree → AddsTold (IsScanAt place (record { index = index; max = max; count = count })) (IsToldAt place) text old new rest → AddsTold (IsLaneLineDone lane phase line) (IsPlacedBy lane phase line) text old new rest
   scan_line tree index max count is place there h =
       is_line (Scan tree index max count) is (line_added lane phase line.number tree (Scan tree index max count) refl (λ count named. named) (IsScanAt (at_place line.number lane phase tree) (record { index = index; max = max; count = count }))
-      (λ steps d. d) (λ steps d. d) text rest old new (subst (λ (p : Place). AddsTold (IsScanAt p (record { index = index; max = max; count = count })) (StandsAt p) text old new rest) there h))
+      (λ steps d. d) (λ steps d. d) text rest old new (subst (λ (p : LinePlace). AddsTold (IsScanAt p (record { index = index; max = max; count = count })) (IsToldAt p) text old new rest) there h))
 
 -- ---- the trees and lanes that lines name
 
@@ -388,18 +388,18 @@ module _ (lines : List Line) (text rest : List ℕ) (told : List Told) (lane pha
         ap (asked_from lane phase) (drop_more lines i line within ∙ ap (λ (l : Line). l ∷ drop (i + 1) lines) (sym is))
         ∙ asked_more lane phase line (drop (i + 1) lines)
 
-    left_done : (steps : List Step) → Both (IsLineDone lane phase line) Left steps → AreDone (asked_from lane phase (drop i lines)) steps
+    left_done : (steps : List Step) → Both (IsLaneLineDone lane phase line) Left steps → AreDone (asked_from lane phase (drop i lines)) steps
     left_done steps h = subst (λ (xs : List Asked). AreDone xs steps) (sym left) (from_both (asked_from lane phase (line ∷ [])) (asked_from lane' phase' (drop (i + 1) lines)) steps h)
 
-    done_left : (steps : List Step) → AreDone (asked_from lane phase (drop i lines)) steps → Both (IsLineDone lane phase line) Left steps
+    done_left : (steps : List Step) → AreDone (asked_from lane phase (drop i lines)) steps → Both (IsLaneLineDone lane phase line) Left steps
     done_left steps h = done_parts (asked_from lane phase (line ∷ [])) (asked_from lane' phase' (drop (i + 1) lines)) steps (subst (λ (xs : List Asked). AreDone xs steps) left h)
 
-    pub line_stops : TellsNotDone (IsLineDone lane phase line) rest → TellsNotDone (AreDone (steps_of lines)) text
+    pub line_stops : TellsNotDone (IsLaneLineDone lane phase line) rest → TellsNotDone (AreDone (steps_of lines)) text
     line_stops none =
-        so_far.none (tells_not_so (Both (IsLineDone lane phase line) Left) (AreDone (asked_from lane phase (drop i lines))) rest done_left
-        (not_first (IsLineDone lane phase line) Left rest none))
+        so_far.none (tells_not_so (Both (IsLaneLineDone lane phase line) Left) (AreDone (asked_from lane phase (drop i lines))) rest done_left
+        (not_first (IsLaneLineDone lane phase line) Left rest none))
 
-    module _ (readable : IsReadable lines) (new : List Told) (mid : List ℕ) (added : AddsTold (IsLineDone lane phase line) (IsPlacedBy lane phase line) rest told new mid) where
+    module _ (readable : IsReadable lines) (new : List Told) (mid : List ℕ) (added : AddsTold (IsLaneLineDone lane phase line) (IsPlacedBy lane phase line) rest told new mid) where
       named : NamesBelow (length (trees_of lines)) line.item
       named = named_line lines i line readable within is
 
@@ -412,13 +412,13 @@ module _ (lines : List Line) (text rest : List ℕ) (told : List Told) (lane pha
       some_more : (more : List Told) (end : List ℕ) → TellsDone Left mid more end → TellsDone (AreDone (steps_of lines)) text ((told ++ added.mine) ++ more) end
       some_more more end h =
           subst (λ (ts : List Told). TellsDone (AreDone (steps_of lines)) text ts end) (sym (append_assoc told added.mine more))
-          (so_far.some (added.mine ++ more) end (tells_so (Both (IsLineDone lane phase line) Left) (AreDone (asked_from lane phase (drop i lines))) rest end (added.mine ++ more) left_done done_left
-          (both_told (IsLineDone lane phase line) Left rest mid added.mine added.told end more h)))
+          (so_far.some (added.mine ++ more) end (tells_so (Both (IsLaneLineDone lane phase line) Left) (AreDone (asked_from lane phase (drop i lines))) rest end (added.mine ++ more) left_done done_left
+          (both_told (IsLaneLineDone lane phase line) Left rest mid added.mine added.told end more h)))
 
       none_more : TellsNotDone Left mid → TellsNotDone (AreDone (steps_of lines)) text
       none_more none =
-          so_far.none (tells_not_so (Both (IsLineDone lane phase line) Left) (AreDone (asked_from lane phase (drop i lines))) rest done_left
-          (not_second (IsLineDone lane phase line) Left rest mid added.mine added.told none))
+          so_far.none (tells_not_so (Both (IsLaneLineDone lane phase line) Left) (AreDone (asked_from lane phase (drop i lines))) rest done_left
+          (not_second (IsLaneLineDone lane phase line) Left rest mid added.mine added.told none))
 
       of_mine : (P : Told → Type 0) → ((t : Told) → IsPlacedBy lane phase line t → P t) → All P added.mine
       of_mine P h = All-weaker (IsPlacedBy lane phase line) P h added.mine added.placed

@@ -13,7 +13,7 @@ use Rattle.mt_log.specs.Run.{Outcome, Called, Looked, Counted}
 use Rattle.mt_log.specs.Text.{reply_text}
 use Rattle.mt_told.specs.Fronts.{IsInLine, IsLineBefore, IsNumberBefore}
 use Rattle.mt_told.specs.Steps.{IsOutcomeOf, TellsOf, outcome_text}
-use Rattle.mt_told.specs.Telling.{Fits, IsSpelledOf, Spelling, spelled}
+use Rattle.mt_told.specs.Telling.{FitsLine, IsSpelledOf, Spelling, spelled}
 use Rattle.mt_told.specs.declared.steps.Deed.TheVariants as deeds
 use Rattle.mt_told.specs.declared.told.What.TheVariants.{Wrote, Copied, Lawful}
 
@@ -92,7 +92,7 @@ call_told call number reply text line rest before behind =
     before.printed ∙ (ap (λ (t : List ℕ). decimal number ++ (32 ∷ t)) behind.printed ∙ sym (call_written number reply.now rest)) in
     record { only = only_so; its = its_so; printed = printed_so; written = written; form = behind.inside; shorter = shorter }
   where
-    only_so : (sp : Spelling) (o : Outcome) (after : List ℕ) → IsOutcomeOf (deeds.Call call) o → Fits sp o → text ≡ outcome_text sp o ++ after → IsSpelledOf sp (Wrote number call reply) o × (rest ≡ after)
+    only_so : (sp : Spelling) (o : Outcome) (after : List ℕ) → IsOutcomeOf (deeds.Call call) o → FitsLine sp o → text ≡ outcome_text sp o ++ after → IsSpelledOf sp (Wrote number call reply) o × (rest ≡ after)
     only_so sp (Called n c r) after is small other =
         let front = before.only n (sp.reply r ++ (10 ∷ after)) small.0 (other ∙ call_text sp n c r after) in
         let one = behind.only (sp.reply r) after small.1 (sym front.1) in
@@ -125,7 +125,7 @@ copy_told count text line rest before behind =
     before ∙ (ap (λ (t : List ℕ). codes "copied " ++ t) behind.printed ∙ sym (count_written (codes "copied ") count.now rest)) in
     record { only = only_so; its = its_so; printed = printed_so; written = written; form = behind.inside; shorter = shorter }
   where
-    only_so : (sp : Spelling) (o : Outcome) (after : List ℕ) → IsOutcomeOf deeds.Copy o → Fits sp o → text ≡ outcome_text sp o ++ after → IsSpelledOf sp (Copied count) o × (rest ≡ after)
+    only_so : (sp : Spelling) (o : Outcome) (after : List ℕ) → IsOutcomeOf deeds.Copy o → FitsLine sp o → text ≡ outcome_text sp o ++ after → IsSpelledOf sp (Copied count) o × (rest ≡ after)
     only_so sp (Called n c r) after is small other = absurd is
     only_so sp (Looked lo hi k q v) after is small other = absurd is
     only_so sp (Counted s ranges) after is small other =
@@ -157,7 +157,7 @@ check_told count text line rest before behind =
     before ∙ (ap (λ (t : List ℕ). codes "lawful " ++ t) behind.printed ∙ sym (count_written (codes "lawful ") count.now rest)) in
     record { only = only_so; its = its_so; printed = printed_so; written = written; form = behind.inside; shorter = shorter }
   where
-    only_so : (sp : Spelling) (o : Outcome) (after : List ℕ) → IsOutcomeOf deeds.Check o → Fits sp o → text ≡ outcome_text sp o ++ after → IsSpelledOf sp (Lawful count) o × (rest ≡ after)
+    only_so : (sp : Spelling) (o : Outcome) (after : List ℕ) → IsOutcomeOf deeds.Check o → FitsLine sp o → text ≡ outcome_text sp o ++ after → IsSpelledOf sp (Lawful count) o × (rest ≡ after)
     only_so sp (Called n c r) after is small other = absurd is
     only_so sp (Looked lo hi k q v) after is small other = absurd is
     only_so sp (Counted s ranges) after is small other =

@@ -6,14 +6,14 @@ use Rattle.std.proofs.lemmas.List.{append-nil}
 use Rattle.std.proofs.lemmas.List.Elements.{All-head, All-nil, All-push, All-tail}
 use Rattle.mt_base.specs.declared.ranges.Range.{Range}
 use Rattle.mt_log.specs.declared.transcripts.Answer.TheVariants as answers
-use Rattle.mt_log.specs.Run.{GoesOn, Outcome, Called, Looked, Counted, Step, find_at, place_behind, place_within, shown}
+use Rattle.mt_log.specs.Run.{ScanGoesOnFrom, Outcome, Called, Looked, Counted, Step, find_at, place_behind, place_within, shown}
 use Rattle.mt_told.proofs.Stepped.{nothing_told, steps_text-append, told_text-append}
 use Rattle.mt_told.specs.Scans.{IsScanAt, IsScanFrom, range_told}
-use Rattle.mt_told.specs.Steps.{AddsTold, AllFit, IsOutcomeOf, IsStepAt, StandsAt, TellsDone, TellsNotDone, TellsStepAt, step_at, steps_text}
-use Rattle.mt_told.specs.Telling.{AreSpelled, Fits, IsSpelled, IsSpelledOf, Spelling, told_text}
+use Rattle.mt_told.specs.Steps.{AddsTold, AllFit, IsOutcomeOf, IsStepAt, IsToldAt, TellsDone, TellsNotDone, TellsStepAt, step_at_place, steps_text}
+use Rattle.mt_told.specs.Telling.{AreSpelled, FitsLine, IsSpelled, IsSpelledOf, Spelling, told_text}
 use Rattle.mt_told.specs.declared.scans.Stretch.{Stretch}
 use Rattle.mt_told.specs.declared.steps.Deed.TheVariants.{Look}
-use Rattle.mt_told.specs.declared.steps.Place.{Place}
+use Rattle.mt_told.specs.declared.steps.LinePlace.{LinePlace}
 use Rattle.mt_told.specs.declared.told.Told.{Told}
 use Rattle.mt_told.specs.declared.told.What.{What}
 use Rattle.mt_told.specs.declared.told.What.TheVariants.{Wrote, Got, Copied, Lawful}
@@ -46,9 +46,9 @@ value_told sp (Lawful count) at max lo hi k value h = absurd h
 
 -- ---- one step of a scan, and those behind it
 
-module _ (place : Place) (scan : Stretch) (count : ℕ) (at : Option ℕ) (text mid : List ℕ) (t : Told) (step : TellsDone (IsStepAt place (Look (find_at at scan.max))) text (t ∷ []) mid) where
+module _ (place : LinePlace) (scan : Stretch) (count : ℕ) (at : Option ℕ) (text mid : List ℕ) (t : Told) (step : TellsDone (IsStepAt place (Look (find_at at scan.max))) text (t ∷ []) mid) where
   abbrev FoundStep : ℕ → ℕ → ℕ → Option Range → Step
-  FoundStep lo hi k value = step_at place (Looked lo hi k (find_at at scan.max) value)
+  FoundStep lo hi k value = step_at_place place (Looked lo hi k (find_at at scan.max) value)
 
   -- the first step is told, and the text goes on with the others
   record FirstTold (sp : Spelling) (lo hi k : ℕ) (value : Option Range) (others : List Step) (after : List ℕ) : Type 0 where
@@ -59,7 +59,7 @@ module _ (place : Place) (scan : Stretch) (count : ℕ) (at : Option ℕ) (text 
   first_told : (sp : Spelling) (lo hi k : ℕ) (value : Option Range) (others steps : List Step) (after : List ℕ) → steps ≡ FoundStep lo hi k value ∷ others → AllFit sp steps → text ≡ steps_text sp steps ++ after → FirstTold sp lo hi k value others after
   first_told sp lo hi k value others steps after is small other =
       let all : AllFit sp (FoundStep lo hi k value ∷ others) = subst (AllFit sp) is small in
-      let small_one : AllFit sp (FoundStep lo hi k value ∷ []) = λ i d within. subst (λ (s : Step). Fits sp s.outcome) (one_of (FoundStep lo hi k value) i d within) (all 0 (FoundStep lo hi k value) (omega arith)) in
+      let small_one : AllFit sp (FoundStep lo hi k value ∷ []) = λ i d within. subst (λ (s : Step). FitsLine sp s.outcome) (one_of (FoundStep lo hi k value) i d within) (all 0 (FoundStep lo hi k value) (omega arith)) in
       let whole : text ≡ steps_text sp (FoundStep lo hi k value ∷ []) ++ (steps_text sp others ++ after) =
       other ∙ (ap (λ (ss : List Step). steps_text sp ss ++ after) is ∙ steps_text-append sp (FoundStep lo hi k value ∷ []) others after) in
       let one = step.only sp (FoundStep lo hi k value ∷ []) (steps_text sp others ++ after) (Looked lo hi k (find_at at scan.max) value, refl, refl) small_one whole in
@@ -77,15 +77,15 @@ module _ (place : Place) (scan : Stretch) (count : ℕ) (at : Option ℕ) (text 
   its_find : (sp : Spelling) (s : Step) → IsSpelled sp t s → (lo hi k : ℕ) × (value : Option Range) × (s ≡ FoundStep lo hi k value) × (value ≡ range_told t.what)
   its_find sp s told = of_outcome (step.its sp (s ∷ []) (told, tt))
     where
-      looked : (o : Outcome) → s ≡ step_at place o → IsOutcomeOf (Look (find_at at scan.max)) o → (lo hi k : ℕ) × (value : Option Range) × (s ≡ FoundStep lo hi k value) × (value ≡ range_told t.what)
+      looked : (o : Outcome) → s ≡ step_at_place place o → IsOutcomeOf (Look (find_at at scan.max)) o → (lo hi k : ℕ) × (value : Option Range) × (s ≡ FoundStep lo hi k value) × (value ≡ range_told t.what)
       looked (Called n c r) is h = absurd h
       looked (Looked lo hi k q value) is h =
-          let same : s ≡ FoundStep lo hi k value = is ∙ ap (λ q. step_at place (Looked lo hi k q value)) h in
+          let same : s ≡ FoundStep lo hi k value = is ∙ ap (λ q. step_at_place place (Looked lo hi k q value)) h in
           (lo, hi, k, value, same, value_told sp t.what at scan.max lo hi k value (subst (λ (x : Step). IsSpelledOf sp t.what x.outcome) same told.outcome))
       looked (Counted f ranges) is h = absurd h
 
       of_outcome : IsStepAt place (Look (find_at at scan.max)) (s ∷ []) → (lo hi k : ℕ) × (value : Option Range) × (s ≡ FoundStep lo hi k value) × (value ≡ range_told t.what)
-      of_outcome h = let is : s ≡ step_at place h.0 = ap (λ (ss : List Step). first_or s ss) h.1 in looked h.0 is h.2
+      of_outcome h = let is : s ≡ step_at_place place h.0 = ap (λ (ss : List Step). first_or s ss) h.1 in looked h.0 is h.2
         where
           first_or : Step → List Step → Step
           first_or d [] = d
@@ -93,20 +93,20 @@ module _ (place : Place) (scan : Stretch) (count : ℕ) (at : Option ℕ) (text 
 
   -- behind a range the scan goes on
   module _ (r : Range) (found : range_told t.what ≡ Some r) where
-    goes_on : (value : Option Range) (others : List Step) → value ≡ range_told t.what → GoesOn (IsScanFrom place scan count) scan.max value others → IsScanFrom place scan count (place_behind scan.max r) others
-    goes_on value others is goes = subst (λ (v : Option Range). GoesOn (IsScanFrom place scan count) scan.max v others) (is ∙ found) goes
+    goes_on : (value : Option Range) (others : List Step) → value ≡ range_told t.what → ScanGoesOnFrom (IsScanFrom place scan count) scan.max value others → IsScanFrom place scan count (place_behind scan.max r) others
+    goes_on value others is goes = subst (λ (v : Option Range). ScanGoesOnFrom (IsScanFrom place scan count) scan.max v others) (is ∙ found) goes
 
     pub no_more : TellsNotDone (IsScanFrom place scan count (place_behind scan.max r)) mid → TellsNotDone (IsScanFrom place scan (suc count) at) text
     no_more none sp steps after h small other =
         let first = first_told sp h.0 h.1 h.2 h.3 h.4 steps after h.5 small other in
-        let others : AllFit sp h.4 = All-tail (λ (s : Step). Fits sp s.outcome) (FoundStep h.0 h.1 h.2 h.3) h.4 (subst (AllFit sp) h.5 small) in
+        let others : AllFit sp h.4 = All-tail (λ (s : Step). FitsLine sp s.outcome) (FoundStep h.0 h.1 h.2 h.3) h.4 (subst (AllFit sp) h.5 small) in
         none sp h.4 after (goes_on h.3 h.4 first.found h.6) others first.behind
 
     module _ (more : List Told) (end : List ℕ) (tail : TellsDone (IsScanFrom place scan count (place_behind scan.max r)) mid more end) where
       only_more : (sp : Spelling) (steps : List Step) (after : List ℕ) → IsScanFrom place scan (suc count) at steps → AllFit sp steps → text ≡ steps_text sp steps ++ after → AreSpelled sp (t ∷ more) steps × (end ≡ after)
       only_more sp steps after h small other =
           let first = first_told sp h.0 h.1 h.2 h.3 h.4 steps after h.5 small other in
-          let others : AllFit sp h.4 = All-tail (λ (s : Step). Fits sp s.outcome) (FoundStep h.0 h.1 h.2 h.3) h.4 (subst (AllFit sp) h.5 small) in
+          let others : AllFit sp h.4 = All-tail (λ (s : Step). FitsLine sp s.outcome) (FoundStep h.0 h.1 h.2 h.3) h.4 (subst (AllFit sp) h.5 small) in
           let rest = tail.only sp h.4 after (goes_on h.3 h.4 first.found h.6) others first.behind in
           (subst (AreSpelled sp (t ∷ more)) (sym h.5) (first.told, rest.0), rest.1)
 
@@ -114,7 +114,7 @@ module _ (place : Place) (scan : Stretch) (count : ℕ) (at : Option ℕ) (text 
       its_more sp [] told = absurd told
       its_more sp (s ∷ steps) told =
           let find = its_find sp s told.0 in
-          let goes = subst (λ (v : Option Range). GoesOn (IsScanFrom place scan count) scan.max v steps) (sym (find.5 ∙ found)) (tail.its sp steps told.1) in
+          let goes = subst (λ (v : Option Range). ScanGoesOnFrom (IsScanFrom place scan count) scan.max v steps) (sym (find.5 ∙ found)) (tail.its sp steps told.1) in
           (find.0, find.1, find.2, find.3, steps, ap (λ (x : Step). x ∷ steps) find.4, goes)
 
       printed_more : (sp : Spelling) (steps : List Step) → AreSpelled sp (t ∷ more) steps → text ≡ steps_text sp steps ++ end
@@ -132,8 +132,8 @@ module _ (place : Place) (scan : Stretch) (count : ℕ) (at : Option ℕ) (text 
 
   -- behind nothing it ends
   module _ (found : range_told t.what ≡ None) where
-    ends : (value : Option Range) (others : List Step) → value ≡ range_told t.what → GoesOn (IsScanFrom place scan count) scan.max value others → others ≡ []
-    ends value others is goes = subst (λ (v : Option Range). GoesOn (IsScanFrom place scan count) scan.max v others) (is ∙ found) goes
+    ends : (value : Option Range) (others : List Step) → value ≡ range_told t.what → ScanGoesOnFrom (IsScanFrom place scan count) scan.max value others → others ≡ []
+    ends value others is goes = subst (λ (v : Option Range). ScanGoesOnFrom (IsScanFrom place scan count) scan.max v others) (is ∙ found) goes
 
     only_end : (sp : Spelling) (steps : List Step) (after : List ℕ) → IsScanFrom place scan (suc count) at steps → AllFit sp steps → text ≡ steps_text sp steps ++ after → AreSpelled sp (t ∷ []) steps × (mid ≡ after)
     only_end sp steps after h small other =
@@ -147,47 +147,47 @@ module _ (place : Place) (scan : Stretch) (count : ℕ) (at : Option ℕ) (text 
     its_end sp (s ∷ other ∷ steps) told = absurd told.1
     its_end sp (s ∷ []) told =
         let find = its_find sp s told.0 in
-        let goes = subst (λ (v : Option Range). GoesOn (IsScanFrom place scan count) scan.max v []) (sym (find.5 ∙ found)) refl in
+        let goes = subst (λ (v : Option Range). ScanGoesOnFrom (IsScanFrom place scan count) scan.max v []) (sym (find.5 ∙ found)) refl in
         (find.0, find.1, find.2, find.3, [], ap (λ (x : Step). x ∷ []) find.4, goes)
 
     pub scan_end : TellsDone (IsScanFrom place scan (suc count) at) text (t ∷ []) mid
     scan_end = record { only = only_end; its = its_end; printed = step.printed; written = step.written; shorter = step.shorter }
 
-pub no_first : (place : Place) (scan : Stretch) (count : ℕ) (at : Option ℕ) (text : List ℕ) → TellsNotDone (IsStepAt place (Look (find_at at scan.max))) text → TellsNotDone (IsScanFrom place scan (suc count) at) text
+pub no_first : (place : LinePlace) (scan : Stretch) (count : ℕ) (at : Option ℕ) (text : List ℕ) → TellsNotDone (IsStepAt place (Look (find_at at scan.max))) text → TellsNotDone (IsScanFrom place scan (suc count) at) text
 no_first place scan count at text none sp steps after h small other =
     let o = Looked h.0 h.1 h.2 (find_at at scan.max) h.3 in
-    let all : AllFit sp (step_at place o ∷ h.4) = subst (AllFit sp) h.5 small in
-    let one = All-push (λ (s : Step). Fits sp s.outcome) [] (step_at place o) (All-nil (λ (s : Step). Fits sp s.outcome)) (All-head (λ (s : Step). Fits sp s.outcome) (step_at place o) h.4 all) in
-    none sp (step_at place o ∷ []) (steps_text sp h.4 ++ after) (o, refl, refl) one
-    (other ∙ (ap (λ (ss : List Step). steps_text sp ss ++ after) h.5 ∙ steps_text-append sp (step_at place o ∷ []) h.4 after))
+    let all : AllFit sp (step_at_place place o ∷ h.4) = subst (AllFit sp) h.5 small in
+    let one = All-push (λ (s : Step). FitsLine sp s.outcome) [] (step_at_place place o) (All-nil (λ (s : Step). FitsLine sp s.outcome)) (All-head (λ (s : Step). FitsLine sp s.outcome) (step_at_place place o) h.4 all) in
+    none sp (step_at_place place o ∷ []) (steps_text sp h.4 ++ after) (o, refl, refl) one
+    (other ∙ (ap (λ (ss : List Step). steps_text sp ss ++ after) h.5 ∙ steps_text-append sp (step_at_place place o ∷ []) h.4 after))
 
 -- ---- so far
 
 -- Some steps of the scan are read, and these are told; what the text goes on with, if it is the rest of the scan, is the scan's
 -- with what was told before it, and if it is not, the text tells of no scan.
-pub record ScanGoesOn (place : Place) (scan : Stretch) (text rest : List ℕ) (old new : List Told) (at : Option ℕ) (i : ℕ) : Type 0 where
+pub record ScanGoesOn (place : LinePlace) (scan : Stretch) (text rest : List ℕ) (old new : List Told) (at : Option ℕ) (i : ℕ) : Type 0 where
   pub left : ℕ
   pub sum : i + left ≡ scan.count
   pub mine : List Told
   pub whole : new ≡ old ++ mine
-  pub placed : All (StandsAt place) mine
+  pub placed : All (IsToldAt place) mine
   pub some : (more : List Told) (end : List ℕ) → TellsDone (IsScanFrom place scan left at) rest more end → TellsDone (IsScanAt place scan) text (mine ++ more) end
   pub none : TellsNotDone (IsScanFrom place scan left at) rest → TellsNotDone (IsScanAt place scan) text
 
-pub scan_begins : (place : Place) (scan : Stretch) (text : List ℕ) (old : List Told) → ScanGoesOn place scan text text old old (place_within scan.index scan.max) 0
+pub scan_begins : (place : LinePlace) (scan : Stretch) (text : List ℕ) (old : List Told) → ScanGoesOn place scan text text old old (place_within scan.index scan.max) 0
 scan_begins place scan text old = record {
   left = scan.count;
   sum = omega arith;
   mine = [];
   whole = sym (append-nil old);
-  placed = All-nil (StandsAt place);
+  placed = All-nil (IsToldAt place);
   some = λ more end h. h;
   none = λ h. h;
 }
 
-module _ (place : Place) (scan : Stretch) (text rest : List ℕ) (old new : List Told) (at : Option ℕ) (i : ℕ) (so_far : ScanGoesOn place scan text rest old new at i) where
+module _ (place : LinePlace) (scan : Stretch) (text rest : List ℕ) (old new : List Told) (at : Option ℕ) (i : ℕ) (so_far : ScanGoesOn place scan text rest old new at i) where
   -- at the end so many steps were told
-  pub all_told : scan.count ≤ i → AddsTold (IsScanAt place scan) (StandsAt place) text old new rest
+  pub all_told : scan.count ≤ i → AddsTold (IsScanAt place scan) (IsToldAt place) text old new rest
   all_told past =
       let over : so_far.left ≡ 0 = omega (arith, so_far.sum) in
       record {
@@ -224,14 +224,14 @@ module _ (place : Place) (scan : Stretch) (text rest : List ℕ) (old new : List
       pushed : new ++ t ∷ [] ≡ old ++ (so_far.mine ++ t ∷ [])
       pushed = ap (λ (ts : List Told). ts ++ t ∷ []) so_far.whole ∙ append_assoc old so_far.mine (t ∷ [])
 
-      pub last_told : range_told t.what ≡ None → AddsTold (IsScanAt place scan) (StandsAt place) text old (new ++ t ∷ []) mid
+      pub last_told : range_told t.what ≡ None → AddsTold (IsScanAt place scan) (IsToldAt place) text old (new ++ t ∷ []) mid
       last_told found =
           let one = one_more below in
           record {
             mine = so_far.mine ++ t ∷ [];
             whole = pushed;
             told = from_left one.left one.is (t ∷ []) mid (scan_end place scan one.left at rest mid t step.told found);
-            placed = All-push (StandsAt place) so_far.mine t so_far.placed step.stands;
+            placed = All-push (IsToldAt place) so_far.mine t so_far.placed step.stands;
           }
 
       pub goes_on_behind : (r : Range) → range_told t.what ≡ Some r → ScanGoesOn place scan text mid old (new ++ t ∷ []) (place_behind scan.max r) (i + 1)
@@ -242,7 +242,7 @@ module _ (place : Place) (scan : Stretch) (text rest : List ℕ) (old new : List
             sum = one.sum;
             mine = so_far.mine ++ t ∷ [];
             whole = pushed;
-            placed = All-push (StandsAt place) so_far.mine t so_far.placed step.stands;
+            placed = All-push (IsToldAt place) so_far.mine t so_far.placed step.stands;
             some = λ more end h. subst (λ (ts : List Told). TellsDone (IsScanAt place scan) text ts end) (sym (append_assoc so_far.mine (t ∷ []) more))
                 (from_left one.left one.is (t ∷ more) end (scan_more place scan one.left at rest mid t step.told r found more end h));
             none = λ h. none_left one.left one.is (no_more place scan one.left at rest mid t step.told r found h);

@@ -4,10 +4,10 @@ use Rattle.std.specs.List.{flat_map}
 use Rattle.std.specs.Fmt.{decimal}
 use Rattle.std.proofs.lemmas.List.{append-nil, append_cancel_left}
 use Rattle.mt_log.specs.Run.{Outcome, Step, entry_of}
-use Rattle.mt_told.specs.Steps.{AllFit, IsStepAt, TellsDone, TellsNotDone, TellsNothingOf, TellsOf, TellsStepAt, outcome_text, step_at, steps_text, told_at}
-use Rattle.mt_told.specs.Telling.{AreSpelled, Fits, HasForm, IsSpelled, Spelling, spelled_line, told_text, what_text}
+use Rattle.mt_told.specs.Steps.{AllFit, IsStepAt, TellsDone, TellsNotDone, TellsNothingOf, TellsOf, TellsStepAt, outcome_text, step_at_place, steps_text, told_at}
+use Rattle.mt_told.specs.Telling.{AreSpelled, FitsLine, HasForm, IsSpelled, Spelling, spelled_line, told_text, what_text}
 use Rattle.mt_told.specs.declared.steps.Deed.{Deed}
-use Rattle.mt_told.specs.declared.steps.Place.{Place}
+use Rattle.mt_told.specs.declared.steps.LinePlace.{LinePlace}
 use Rattle.mt_told.specs.declared.told.Told.{Told}
 use Rattle.mt_told.specs.declared.told.What.{What}
 
@@ -42,10 +42,10 @@ nothing_told text = record { only = only_none; its = its_none; printed = printed
 
 -- ---- one step
 
-step_text : (sp : Spelling) (p : Place) (o : Outcome) (after : List ℕ) → steps_text sp (step_at p o ∷ []) ++ after ≡ decimal p.line ++ (32 ∷ (outcome_text sp o ++ after))
+step_text : (sp : Spelling) (p : LinePlace) (o : Outcome) (after : List ℕ) → steps_text sp (step_at_place p o ∷ []) ++ after ≡ decimal p.line ++ (32 ∷ (outcome_text sp o ++ after))
 step_text sp p o after = simp (append_assoc, append-nil)
 
-written_text : (p : Place) (what : What) (rest : List ℕ) → flat_map told_text (told_at p what ∷ []) ++ rest ≡ decimal p.line ++ (32 ∷ ((what_text what ++ (10 ∷ [])) ++ rest))
+written_text : (p : LinePlace) (what : What) (rest : List ℕ) → flat_map told_text (told_at p what ∷ []) ++ rest ≡ decimal p.line ++ (32 ∷ ((what_text what ++ (10 ∷ [])) ++ rest))
 written_text p what rest = simp (append_assoc, append-nil)
 
 -- it is told of one step
@@ -54,25 +54,25 @@ one_told sp t [] h = absurd h
 one_told sp t (s ∷ []) h = (s, refl, h.0)
 one_told sp t (s ∷ other ∷ steps) h = absurd h.1
 
-front_of_step : (sp : Spelling) (p : Place) (o : Outcome) (text line after : List ℕ) (steps : List Step) → text ≡ decimal p.line ++ (32 ∷ line) → steps ≡ step_at p o ∷ [] → text ≡ steps_text sp steps ++ after → line ≡ outcome_text sp o ++ after
+front_of_step : (sp : Spelling) (p : LinePlace) (o : Outcome) (text line after : List ℕ) (steps : List Step) → text ≡ decimal p.line ++ (32 ∷ line) → steps ≡ step_at_place p o ∷ [] → text ≡ steps_text sp steps ++ after → line ≡ outcome_text sp o ++ after
 front_of_step sp p o text line after steps at is other =
-    let whole : text ≡ steps_text sp (step_at p o ∷ []) ++ after = other ∙ ap (λ (ss : List Step). steps_text sp ss ++ after) is in
+    let whole : text ≡ steps_text sp (step_at_place p o ∷ []) ++ after = other ∙ ap (λ (ss : List Step). steps_text sp ss ++ after) is in
     let same : 32 ∷ line ≡ 32 ∷ (outcome_text sp o ++ after) = append_cancel_left (decimal p.line) (32 ∷ line) (32 ∷ (outcome_text sp o ++ after)) (sym at ∙ (whole ∙ step_text sp p o after)) in
     (cc)
 
-small_of_step : (sp : Spelling) (p : Place) (o : Outcome) (steps : List Step) → steps ≡ step_at p o ∷ [] → AllFit sp steps → Fits sp o
+small_of_step : (sp : Spelling) (p : LinePlace) (o : Outcome) (steps : List Step) → steps ≡ step_at_place p o ∷ [] → AllFit sp steps → FitsLine sp o
 small_of_step sp p o steps is small =
-    let one : AllFit sp (step_at p o ∷ []) = subst (AllFit sp) is small in
-    one 0 (step_at p o) (omega arith)
+    let one : AllFit sp (step_at_place p o ∷ []) = subst (AllFit sp) is small in
+    one 0 (step_at_place p o) (omega arith)
 
-module _ (p : Place) (deed : Deed) (text line rest : List ℕ) (what : What) (at : text ≡ decimal p.line ++ (32 ∷ line)) (tells : TellsOf deed line what rest) where
+module _ (p : LinePlace) (deed : Deed) (text line rest : List ℕ) (what : What) (at : text ≡ decimal p.line ++ (32 ∷ line)) (tells : TellsOf deed line what rest) where
   only_step : (sp : Spelling) (steps : List Step) (after : List ℕ) → IsStepAt p deed steps → AllFit sp steps → text ≡ steps_text sp steps ++ after → AreSpelled sp (told_at p what ∷ []) steps × (rest ≡ after)
   only_step sp steps after h small other =
       let one = tells.only sp h.0 after h.2 (small_of_step sp p h.0 steps h.1 small) (front_of_step sp p h.0 text line after steps at h.1 other) in
-      let told : IsSpelled sp (told_at p what) (step_at p h.0) = record { line = refl; lane = refl; phase = refl; tree = refl; outcome = one.0 } in
+      let told : IsSpelled sp (told_at p what) (step_at_place p h.0) = record { line = refl; lane = refl; phase = refl; tree = refl; outcome = one.0 } in
       (subst (AreSpelled sp (told_at p what ∷ [])) (sym h.1) (told, tt), one.1)
 
-  step_is : (sp : Spelling) (s : Step) → IsSpelled sp (told_at p what) s → s ≡ step_at p s.outcome
+  step_is : (sp : Spelling) (s : Step) → IsSpelled sp (told_at p what) s → s ≡ step_at_place p s.outcome
   step_is sp s h = λ i. record { line = h.line i; lane = h.lane i; phase = h.phase i; tree = h.tree i; outcome = s.outcome }
 
   its_step : (sp : Spelling) (steps : List Step) → AreSpelled sp (told_at p what ∷ []) steps → IsStepAt p deed steps
@@ -83,7 +83,7 @@ module _ (p : Place) (deed : Deed) (text line rest : List ℕ) (what : What) (at
   printed_step : (sp : Spelling) (steps : List Step) → AreSpelled sp (told_at p what ∷ []) steps → text ≡ steps_text sp steps ++ rest
   printed_step sp steps told =
       let one = one_told sp (told_at p what) steps told in
-      let is : steps ≡ step_at p one.0.outcome ∷ [] = one.1 ∙ ap (λ (s : Step). s ∷ []) (step_is sp one.0 one.2) in
+      let is : steps ≡ step_at_place p one.0.outcome ∷ [] = one.1 ∙ ap (λ (s : Step). s ∷ []) (step_is sp one.0 one.2) in
       at ∙ (ap (λ (t : List ℕ). decimal p.line ++ (32 ∷ t)) (tells.printed sp one.0.outcome one.2.outcome)
       ∙ (sym (step_text sp p one.0.outcome rest) ∙ ap (λ (ss : List Step). steps_text sp ss ++ rest) (sym is)))
 
@@ -96,6 +96,6 @@ module _ (p : Place) (deed : Deed) (text line rest : List ℕ) (what : What) (at
     stands = record { line = refl; lane = refl; phase = refl; tree = refl; form = tells.form };
   }
 
-pub no_step : (p : Place) (deed : Deed) (text line : List ℕ) → text ≡ decimal p.line ++ (32 ∷ line) → TellsNothingOf deed line → TellsNotDone (IsStepAt p deed) text
+pub no_step : (p : LinePlace) (deed : Deed) (text line : List ℕ) → text ≡ decimal p.line ++ (32 ∷ line) → TellsNothingOf deed line → TellsNotDone (IsStepAt p deed) text
 no_step p deed text line at none sp steps after h small other =
     none sp h.0 after h.2 (small_of_step sp p h.0 steps h.1 small) (front_of_step sp p h.0 text line after steps at h.1 other)

@@ -12,7 +12,7 @@ use Rattle.mt_log.specs.Run.{Outcome, Called, Looked, Counted, Step, AreDone, en
 use Rattle.mt_log.specs.Text.{entry_text, said_text}
 use Rattle.mt_told.proofs.Outcomes.{number_in_line, reply_in_line}
 use Rattle.mt_told.specs.declared.told.Told.{Told}
-use Rattle.mt_told.specs.Telling.{AreTold, Fits, IsSmall, IsToldBy, TellsNone, TellsSteps, spelled, spelled_line, spelling_of}
+use Rattle.mt_told.specs.Telling.{AreTold, FitsLine, IsSmall, IsToldBy, TellsNone, TellsSteps, spelled, spelled_line, spelling_of}
 
 said_so : (version : ℕ) (s : Said) → spelled (spelling_of version) s ≡ said_text version s
 said_so version (said.Wrote number reply) = refl
@@ -24,7 +24,7 @@ written_so : (version : ℕ) (entries : List Entry) → flat_map (spelled_line (
 written_so version [] = refl
 written_so version (e ∷ entries) = λ i. (decimal e.line ++ (32 ∷ (said_so version e.said i ++ 10 ∷ []))) ++ written_so version entries i
 
-fits_so : (version : ℕ) (o : Outcome) → IsSmall o → Fits (spelling_of version) o
+fits_so : (version : ℕ) (o : Outcome) → IsSmall o → FitsLine (spelling_of version) o
 fits_so version (Called number call reply) small = (small, reply_in_line version reply)
 fits_so version (Looked lo hi k query value) small = small
 fits_so version (Counted s ranges) small = number_in_line (length ranges)
@@ -33,7 +33,7 @@ module _ (log : Log) (text : List ℕ) (steps : List Step) (rest : List ℕ) whe
   tells_so : AreDone (steps_of log.lines) steps → All (λ (s : Step). IsSmall s.outcome) steps → text ≡ flat_map (entry_text log.version) (map entry_of steps) ++ rest → TellsSteps (spelling_of log.version) log text steps rest
   tells_so done small printed = record {
     done = done;
-    fit = All-weaker (λ (s : Step). IsSmall s.outcome) (λ (s : Step). Fits (spelling_of log.version) s.outcome) (λ s h. fits_so log.version s.outcome h) steps small;
+    fit = All-weaker (λ (s : Step). IsSmall s.outcome) (λ (s : Step). FitsLine (spelling_of log.version) s.outcome) (λ s h. fits_so log.version s.outcome h) steps small;
     printed = printed ∙ ap (λ (t : List ℕ). t ++ rest) (sym (written_so log.version (map entry_of steps)));
   }
 

@@ -8,8 +8,8 @@ use Rattle.mt_told.specs.Telling.{HasForm}
 use Rattle.mt_told.specs.declared.told.Told.{Told}
 
 -- these steps are what came of a line that stands in this lane and this phase
-abbrev pub IsLineDone : ℕ → ℕ → Line → List Step → Type 0
-IsLineDone lane phase line steps = AreDone (asked_from lane phase (line ∷ [])) steps
+abbrev pub IsLaneLineDone : ℕ → ℕ → Line → List Step → Type 0
+IsLaneLineDone lane phase line steps = AreDone (asked_from lane phase (line ∷ [])) steps
 
 -- what is told is of this lane, this phase and the tree that the line names
 pub record IsPlacedBy (lane phase : ℕ) (line : Line) (t : Told) : Type 0 where

@@ -7,10 +7,10 @@ use Rattle.mt_log.specs.declared.transcripts.Said.TheVariants as said
 use Rattle.mt_log.specs.Run.{Asked, Outcome, Called, Looked, Counted, Step, entry_of, said_of}
 use Rattle.mt_told.specs.declared.steps.Deed.{Deed}
 use Rattle.mt_told.specs.declared.steps.Deed.TheVariants.{Call, Look, Copy, Check}
-use Rattle.mt_told.specs.declared.steps.Place.{Place}
+use Rattle.mt_told.specs.declared.steps.LinePlace.{LinePlace}
 use Rattle.mt_told.specs.declared.told.Told.{Told}
 use Rattle.mt_told.specs.declared.told.What.{What}
-use Rattle.mt_told.specs.Telling.{AreSpelled, Fits, HasForm, IsSpelledOf, Spelling, spelled, spelled_line, told_text, what_text}
+use Rattle.mt_told.specs.Telling.{AreSpelled, FitsLine, HasForm, IsSpelledOf, Spelling, spelled, spelled_line, told_text, what_text}
 
 -- ---- what came of one deed
 
@@ -36,7 +36,7 @@ outcome_text sp o = spelled sp (said_of o) ++ (10 ∷ [])
 -- The text begins with what is said of an outcome of this deed, whichever is told so, and goes on with the rest; and any
 -- outcome of the deed with which the text begins is told so.
 pub record TellsOf (deed : Deed) (text : List ℕ) (what : What) (rest : List ℕ) : Type 0 where
-  pub only : (sp : Spelling) (o : Outcome) (after : List ℕ) → IsOutcomeOf deed o → Fits sp o → text ≡ outcome_text sp o ++ after → IsSpelledOf sp what o × (rest ≡ after)
+  pub only : (sp : Spelling) (o : Outcome) (after : List ℕ) → IsOutcomeOf deed o → FitsLine sp o → text ≡ outcome_text sp o ++ after → IsSpelledOf sp what o × (rest ≡ after)
   pub its : (sp : Spelling) (o : Outcome) → IsSpelledOf sp what o → IsOutcomeOf deed o
   pub printed : (sp : Spelling) (o : Outcome) → IsSpelledOf sp what o → text ≡ outcome_text sp o ++ rest
   pub written : text ≡ (what_text what ++ (10 ∷ [])) ++ rest
@@ -45,28 +45,28 @@ pub record TellsOf (deed : Deed) (text : List ℕ) (what : What) (rest : List �
 
 -- it begins with what is said of no outcome of this deed
 abbrev pub TellsNothingOf : Deed → List ℕ → Type 0
-TellsNothingOf deed text = (sp : Spelling) (o : Outcome) (after : List ℕ) → IsOutcomeOf deed o → Fits sp o → text ≡ outcome_text sp o ++ after → ⊥
+TellsNothingOf deed text = (sp : Spelling) (o : Outcome) (after : List ℕ) → IsOutcomeOf deed o → FitsLine sp o → text ≡ outcome_text sp o ++ after → ⊥
 
 -- ---- steps
 
 -- a step at this place
-abbrev pub step_at : Place → Outcome → Step
-step_at p o = record { line = p.line; lane = p.lane; phase = p.phase; tree = p.tree; outcome = o }
+abbrev pub step_at_place : LinePlace → Outcome → Step
+step_at_place p o = record { line = p.line; lane = p.lane; phase = p.phase; tree = p.tree; outcome = o }
 
 -- what is told of it
-abbrev pub told_at : Place → What → Told
+abbrev pub told_at : LinePlace → What → Told
 told_at p what = record { line = p.line; lane = p.lane; phase = p.phase; tree = p.tree; what = what }
 
 -- these steps are one of this deed at this place
-abbrev pub IsStepAt : Place → Deed → List Step → Type 0
-IsStepAt place deed steps = (o : Outcome) × (steps ≡ step_at place o ∷ []) × IsOutcomeOf deed o
+abbrev pub IsStepAt : LinePlace → Deed → List Step → Type 0
+IsStepAt place deed steps = (o : Outcome) × (steps ≡ step_at_place place o ∷ []) × IsOutcomeOf deed o
 
 -- the lines of these steps
 abbrev pub steps_text : Spelling → List Step → List ℕ
 steps_text sp steps = flat_map (spelled_line sp) (map entry_of steps)
 
 abbrev pub AllFit : Spelling → List Step → Type 0
-AllFit sp steps = All (λ s. Fits sp s.outcome) steps
+AllFit sp steps = All (λ s. FitsLine sp s.outcome) steps
 
 -- The text begins with the lines of steps that are done so, whichever are told so, and goes on with the rest; and any steps
 -- that are done so with whose lines the text begins are told so.
@@ -82,7 +82,7 @@ abbrev pub TellsNotDone : (List Step → Type 0) → List ℕ → Type 0
 TellsNotDone IsDoneSo text = (sp : Spelling) (steps : List Step) (after : List ℕ) → IsDoneSo steps → AllFit sp steps → text ≡ steps_text sp steps ++ after → ⊥
 
 -- what is told stands at this place
-pub record StandsAt (place : Place) (t : Told) : Type 0 where
+pub record IsToldAt (place : LinePlace) (t : Told) : Type 0 where
   pub line : t.line ≡ place.line
   pub lane : t.lane ≡ place.lane
   pub phase : t.phase ≡ place.phase
@@ -90,12 +90,12 @@ pub record StandsAt (place : Place) (t : Told) : Type 0 where
   pub form : HasForm t.what
 
 -- the text begins with a line of this deed at this place, which is told so
-pub record TellsStepAt (place : Place) (deed : Deed) (text : List ℕ) (t : Told) (rest : List ℕ) : Type 0 where
+pub record TellsStepAt (place : LinePlace) (deed : Deed) (text : List ℕ) (t : Told) (rest : List ℕ) : Type 0 where
   pub told : TellsDone (IsStepAt place deed) text (t ∷ []) rest
-  pub stands : StandsAt place t
+  pub stands : IsToldAt place t
 
 -- the line at this place, with what it asks for
-abbrev pub asked_at : Place → Item → Asked
+abbrev pub asked_at : LinePlace → Item → Asked
 asked_at p item = record { line = p.line; lane = p.lane; phase = p.phase; item = item }
 
 -- Behind what was told before stands what the text tells of steps that are done so, each in its place, up to the rest.

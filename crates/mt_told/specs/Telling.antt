@@ -109,17 +109,17 @@ IsSmall (Looked lo hi k query value) = (lo < 2 ^ 64) × (hi < 2 ^ 64) × IsSmall
 IsSmall (Counted s ranges) = Unit {0}
 
 -- a reply and a count end no line
-abbrev pub Fits : Spelling → Outcome → Type 0
-Fits sp (Called number call reply) = (number < 2 ^ 64) × IsInLine (sp.reply reply)
-Fits sp (Looked lo hi k query value) = (lo < 2 ^ 64) × (hi < 2 ^ 64) × IsSmallRange value
-Fits sp (Counted s ranges) = IsInLine (sp.count (length ranges))
+abbrev pub FitsLine : Spelling → Outcome → Type 0
+FitsLine sp (Called number call reply) = (number < 2 ^ 64) × IsInLine (sp.reply reply)
+FitsLine sp (Looked lo hi k query value) = (lo < 2 ^ 64) × (hi < 2 ^ 64) × IsSmallRange value
+FitsLine sp (Counted s ranges) = IsInLine (sp.count (length ranges))
 
 -- ---- a text
 
 -- The text tells these steps of the log, each in its line, and then goes on with any bytes.
 pub record TellsSteps (sp : Spelling) (log : Log) (text : List ℕ) (steps : List Step) (rest : List ℕ) : Type 0 where
   pub done : AreDone (steps_of log.lines) steps
-  pub fit : All (λ s. Fits sp s.outcome) steps
+  pub fit : All (λ s. FitsLine sp s.outcome) steps
   pub printed : text ≡ flat_map (spelled_line sp) (map entry_of steps) ++ rest
 
 -- The text is the lines that are told, and behind them the rest. All steps that the text may tell are told so, before the same

@@ -4,12 +4,12 @@ ghost use Rattle.std.specs.Prelude.{◌≡◌, ◌<◌, ◌^◌, ◌+◌, IfNone
 ghost use Rattle.mt_log.specs.Phases.{phase_after};
 ghost use Rattle.mt_log.specs.Run.{lane_after};
 ghost use Rattle.mt_log.specs.Trees.{IsReadable};
-ghost use Rattle.mt_told.specs.Along.{IsLineDone, IsPlacedBy};
-ghost use Rattle.mt_told.specs.Steps.{AddsTold, IsStepAt, StandsAt, TellsNotDone};
+ghost use Rattle.mt_told.specs.Along.{IsLaneLineDone, IsPlacedBy};
+ghost use Rattle.mt_told.specs.Steps.{AddsTold, IsStepAt, IsToldAt, TellsNotDone};
 ghost use Rattle.mt_told.specs.Telling.{IsToldBy, TellsNone};
 
 use crate::scans::{Stretch, read_scan};
-use crate::steps::{Deed, Place, step_in_front};
+use crate::steps::{Deed, LinePlace, step_in_front};
 use crate::told::Told;
 use mt_base::NoMemory;
 use mt_log::{Item, Line, Log};
@@ -31,11 +31,11 @@ struct Stand {
 
 impl Stand {
     /// The place of a line's steps on this tree.
-    fn place(&self, line: u64, tree: u32) -> Place
+    fn place(&self, line: u64, tree: u32) -> LinePlace
         ensures { result ≡ record { line = line; lane = self.now.lane; phase = self.now.phase; tree = tree } }
     {
         let Stand { lane, phase } = *self;
-        Place {
+        LinePlace {
             line,
             lane,
             phase,
@@ -44,10 +44,10 @@ impl Stand {
     }
 
     /// The place of a copy or a check of this tree, which is done by no lane.
-    fn begun(&self, line: u64, tree: u32) -> Place
+    fn begun(&self, line: u64, tree: u32) -> LinePlace
         ensures { result ≡ record { line = line; lane = 0; phase = self.now.phase; tree = tree } }
     {
-        Place {
+        LinePlace {
             line,
             lane: 0,
             phase: self.phase,
@@ -84,10 +84,10 @@ impl Stand {
 fn read_step<'t>(
     told: &mut Vec<Told<'t>>,
     text: &'t [u8],
-    place: &Place,
+    place: &LinePlace,
     deed: &Deed,
 ) -> Result<Option<&'t [u8]>, AllocError>
-    ensures some { IfOk result (λ found. IfSome found (λ rest. AddsTold (IsStepAt place.now deed.now) (StandsAt place.now) text.now told.old.items told.new.items rest.now)) }
+    ensures some { IfOk result (λ found. IfSome found (λ rest. AddsTold (IsStepAt place.now deed.now) (IsToldAt place.now) text.now told.old.items told.new.items rest.now)) }
     ensures none { IfOk result (λ found. IfNone found (TellsNotDone (IsStepAt place.now deed.now) text.now)) }
 {
     let Some((step, rest)) = step_in_front(text, place, deed) else {
@@ -104,8 +104,8 @@ fn read_line<'t>(
     line: &Line,
     stand: &Stand,
 ) -> Result<Option<&'t [u8]>, AllocError>
-    ensures some { IfOk result (λ found. IfSome found (λ rest. AddsTold (IsLineDone stand.now.lane stand.now.phase line.now) (IsPlacedBy stand.now.lane stand.now.phase line.now) text.now told.old.items told.new.items rest.now)) }
-    ensures none { IfOk result (λ found. IfNone found (TellsNotDone (IsLineDone stand.now.lane stand.now.phase line.now) text.now)) }
+    ensures some { IfOk result (λ found. IfSome found (λ rest. AddsTold (IsLaneLineDone stand.now.lane stand.now.phase line.now) (IsPlacedBy stand.now.lane stand.now.phase line.now) text.now told.old.items told.new.items rest.now)) }
+    ensures none { IfOk result (λ found. IfNone found (TellsNotDone (IsLaneLineDone stand.now.lane stand.now.phase line.now) text.now)) }
 {
     let number = line.number;
     match line.item {

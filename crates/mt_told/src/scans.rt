@@ -3,9 +3,9 @@
 ghost use Rattle.std.specs.Prelude.{◌≡◌, IfNone, IfOk, IfSome};
 ghost use Rattle.mt_log.specs.Run.{find_at, place_behind, place_within};
 ghost use Rattle.mt_told.specs.Scans.{IsScanAt, range_told};
-ghost use Rattle.mt_told.specs.Steps.{AddsTold, StandsAt, TellsNotDone};
+ghost use Rattle.mt_told.specs.Steps.{AddsTold, IsToldAt, TellsNotDone};
 
-use crate::steps::{Deed, Place, step_in_front};
+use crate::steps::{Deed, LinePlace, step_in_front};
 use crate::told::{Told, What};
 use mt_base::{Query, Range};
 use mt_log::Answer;
@@ -65,10 +65,10 @@ fn range_told(what: &What<'_>) -> Option<Range>
 pub fn read_scan<'t>(
     told: &mut Vec<Told<'t>>,
     text: &'t [u8],
-    place: &Place,
+    place: &LinePlace,
     scan: &Stretch,
 ) -> Result<Option<&'t [u8]>, AllocError>
-    ensures some { IfOk result (λ found. IfSome found (λ rest. AddsTold (IsScanAt place.now scan.now) (StandsAt place.now) text.now told.old.items told.new.items rest.now)) }
+    ensures some { IfOk result (λ found. IfSome found (λ rest. AddsTold (IsScanAt place.now scan.now) (IsToldAt place.now) text.now told.old.items told.new.items rest.now)) }
     ensures none { IfOk result (λ found. IfNone found (TellsNotDone (IsScanAt place.now scan.now) text.now)) }
 {
     let mut at = place_within(scan.index, scan.max);

@@ -20,14 +20,14 @@ pub enum Deed {
 
 /// Where a step stands: at which line of the log, in which lane and which phase, on which tree.
 #[derive(Clone, Copy)]
-pub struct Place {
+pub struct LinePlace {
     pub line: u64,
     pub lane: u32,
     pub phase: u64,
     pub tree: u32,
 }
 
-impl Place {
+impl LinePlace {
     ghost use Rattle.std.specs.Prelude.{◌≡◌};
     ghost use Rattle.mt_told.specs.Steps.{told_at};
 
@@ -111,7 +111,11 @@ pub fn what_in_front<'t>(text: &'t [u8], deed: &Deed) -> Option<(What<'t>, &'t [
 }
 
 /// The line that tells of a deed at this place, and the text behind it.
-pub fn step_in_front<'t>(text: &'t [u8], place: &Place, deed: &Deed) -> Option<(Told<'t>, &'t [u8])>
+pub fn step_in_front<'t>(
+    text: &'t [u8],
+    place: &LinePlace,
+    deed: &Deed,
+) -> Option<(Told<'t>, &'t [u8])>
     ensures some { IfSome result (λ found. TellsStepAt place.now deed.now text.now found.0 found.1.now) }
     ensures none { IfNone result (TellsNotDone (IsStepAt place.now deed.now) text.now) }
 {

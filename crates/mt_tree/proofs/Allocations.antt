@@ -19,7 +19,7 @@ use Rattle.mt_base.specs.Holes.{low}
 use Rattle.mt_base.specs.History.{AreLegalFrom, History, IsAnswered, IsLegal, Record, last_map, limits_after, map_after}
 use Rattle.mt_base.specs.Passes as known
 use Rattle.mt_base.specs.Passes.{Saw, Wrote, holder_of, with_records}
-use Rattle.mt_ids.specs.Allocation.{IsCalled}
+use Rattle.mt_ids.specs.Allocation.{IsNextCall}
 use Rattle.mt_tree.specs.declared.shapes.Worn.{Worn}
 use Rattle.mt_tree.specs.declared.trees.Tree.{Tree}
 use Rattle.mt_tree.specs.Allocations.{allocation_of, is_alone, last_made}
@@ -140,7 +140,7 @@ module _ (t : Tree) (p q : known.Pass) (min max entry number : ℕ) (reply : Rep
       by_answer (inl acts) = absurd (no_shortage (opened t).kind (map_seen t p) min max entry shortage (sym acts ∙ is))
       by_answer (inr refused) = subst (λ (s : Shortage). IsSome s.by ↔ (0 < s.held)) (sym (same_shortage shortage refused.shortage (sym is ∙ refused.told))) refused.short.holder
 
-  pub is_called : number ≤ limit_of t → AllByRecursion (λ r. r.pass < passes_of t) q.seen → NamesPass t reply → IsCalled (allocation_of t p) alloc reply (allocation_of t q)
+  pub is_called : number ≤ limit_of t → AllByRecursion (λ r. r.pass < passes_of t) q.seen → NamesPass t reply → IsNextCall (allocation_of t p) alloc reply (allocation_of t q)
   is_called few callers named =
       let r = made t p q alloc number reply wrote next in
       let seen = seen_next t p q alloc number reply wrote next in

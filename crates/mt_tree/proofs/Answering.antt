@@ -10,9 +10,9 @@ use Rattle.mt_base.specs.History.{Record}
 use Rattle.mt_base.specs.Nodes.{IsShort, Wants}
 use Rattle.mt_base.specs.Passes as known
 use Rattle.mt_base.proofs.Shortages.{still_short}
-use Rattle.mt_engine.specs.Engine.{Parts, IsApplied, IsDone, IsShortFor, TellsBook}
+use Rattle.mt_engine.specs.Engine.{Parts, IsApplied, IsCarriedOut, IsShortFor, TellsBook}
 use Rattle.mt_free.specs.Book.{Book, after_reclaim}
-use Rattle.mt_rows.specs.Publish.{map_by, IsCounted}
+use Rattle.mt_rows.specs.Publish.{map_by, IsRealShortage}
 use Rattle.mt_rows.specs.Sheet.{Rooted, Sheet}
 use Rattle.mt_rows.specs.Trees.{height_in}
 use Rattle.mt_rule.specs.declared.passes.Pass.{Pass}
@@ -21,8 +21,8 @@ use Rattle.mt_rule.specs.Seats.{record_of, records_of}
 use Rattle.mt_rule.specs.Tokens.{Identity, pass_in}
 use Rattle.mt_tree.specs.declared.behind.Tools.{Tools}
 use Rattle.mt_tree.specs.declared.trees.Tree.{Tree}
-use Rattle.mt_tree.specs.Behind.{Behind, behind_of}
-use Rattle.mt_tree.specs.Trees.{opened, Acts, IsAnswered, LacksRows, LeavesRoom, WasAnsweredBy}
+use Rattle.mt_tree.specs.Behind.{Behind, behind_lock}
+use Rattle.mt_tree.specs.Trees.{opened, Acts, IsDecidedOrMade, LacksRows, LeavesRoom, WasAnsweredBy}
 use Rattle.mt_tree.specs.Works.{AreBack}
 use Rattle.mt_tree.proofs.AtWork.{AtWork, at_rest, count_is, rows_still, same_shape, shape_is, tree_is}
 use Rattle.mt_tree.proofs.Calling.{known_then, seen_then, tree_back}
@@ -32,9 +32,9 @@ module _ (t : Tree) (i : Identity) (b : Behind) (p : known.Pass) (e e' : Parts) 
   tree_here : e.sheet.tree ≡ b.parts.sheet.tree
   tree_here = tree_is t i b p e w
 
-  acts : acted e.kind (map_by e.sheet.tree) call ≡ (map_by e'.sheet.tree, reply) → Acts b (behind_of tools) call reply
+  acts : acted e.kind (map_by e.sheet.tree) call ≡ (map_by e'.sheet.tree, reply) → Acts b (behind_lock tools) call reply
   acts is =
-      let after : e'.sheet.tree ≡ (behind_of tools).parts.sheet.tree = sym (ap (λ (x : Parts). x.sheet.tree) back.parts) in
+      let after : e'.sheet.tree ≡ (behind_lock tools).parts.sheet.tree = sym (ap (λ (x : Parts). x.sheet.tree) back.parts) in
       subst (λ (x : Kind × (Rooted × Rooted)). acted x.0 (map_by x.1.0) call ≡ (map_by x.1.1, reply)) (λ k. (w.kind k, (tree_here k, after k))) is
 
   wants_behind : Wants e.kind (map_by e.sheet.tree) call → Wants b.parts.kind (map_by b.parts.sheet.tree) call
@@ -48,7 +48,7 @@ module _ (t : Tree) (i : Identity) (b : Behind) (p : known.Pass) (e e' : Parts) 
 
   -- ---- a call that did what it says
 
-  did_answer : IsDone e.kind e.sheet e'.sheet e.book e'.book call reply → IsAnswered t b (behind_of tools) call reply
+  did_answer : IsCarriedOut e.kind e.sheet e'.sheet e.book e'.book call reply → IsDecidedOrMade t b (behind_lock tools) call reply
   did_answer did = record {
     wants = λ wants.
         let had = did.room (wants_here wants) in
@@ -76,10 +76,10 @@ module _ (t : Tree) (i : Identity) (b : Behind) (p : known.Pass) (e e' : Parts) 
         still_short (opened t).rows e.sheet.opened (length (opened t).opening / 2 + 2) e.sheet.ended (length b.pen.history) true (map_by b.parts.sheet.tree) short.refused.shortage (omega (arith, first, few)) (omega (arith, count_is t i b p e w))
         (subst (λ (x : (ℕ × Rooted) × Bool). IsShort (record { rows = x.0.0; opened = e.sheet.opened; ended = e.sheet.ended; may_hold = x.1 }) (map_by x.0.1) short.refused.shortage) (λ k. ((rows_still t i b p e w k, tree_here k), held k)) short.refused.short)
 
-    lacks_rows : LacksRows t b (behind_of tools) e'.sheet.scan call reply
+    lacks_rows : LacksRows t b (behind_lock tools) e'.sheet.scan call reply
     lacks_rows = record {
       refused = record { shortage = short.refused.shortage; told = short.refused.told; wants = wants_behind short.refused.wants; short = is_short };
-      counted = subst (λ (x : Parts). IsCounted (record x.sheet { scan = e'.sheet.scan }) short.refused.shortage) (sym back.parts) (record {
+      counted = subst (λ (x : Parts). IsRealShortage (record x.sheet { scan = e'.sheet.scan }) short.refused.shortage) (sym back.parts) (record {
         need = short.counted.need;
         live = short.counted.live;
         rows = short.counted.rows;
@@ -92,7 +92,7 @@ module _ (t : Tree) (i : Identity) (b : Behind) (p : known.Pass) (e e' : Parts) 
       kept = tree_back t i b p e e' tools pass w back same;
     }
 
-    short_answer : IsAnswered t b (behind_of tools) call reply
+    short_answer : IsDecidedOrMade t b (behind_lock tools) call reply
     short_answer = record {
       wants = λ wants. record { scan = e'.sheet.scan; scanned = back.scanned short.scanned; room = λ room. absurd (no_room room); lacks = λ none. lacks_rows };
       calm = λ calm. absurd (calm (wants_behind short.refused.wants));
@@ -101,10 +101,10 @@ module _ (t : Tree) (i : Identity) (b : Behind) (p : known.Pass) (e e' : Parts) 
   -- ---- any call
 
   module _ (applied : IsApplied e.kind e.sheet e'.sheet e.book e'.book call reply) where
-    answer_of : IsAnswered t b (behind_of tools) call reply
+    answer_of : IsDecidedOrMade t b (behind_lock tools) call reply
     answer_of = ⊎_elim did_answer (λ lacked. short_answer lacked.0 lacked.1) applied.answer
 
-    pub was_answered : WasAnsweredBy t (pass_in pass) b (behind_of tools) call (record { call = length b.pen.history + 1; reply = reply })
+    pub was_answered : WasAnsweredBy t (pass_in pass) b (behind_lock tools) call (record { call = length b.pen.history + 1; reply = reply })
     was_answered =
         let seen : List Record = records_of b.pen.history in
         let last : List Record = record { pass = p.number; call = call; reply = reply } ∷ [] in

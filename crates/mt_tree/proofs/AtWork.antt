@@ -20,7 +20,7 @@ use Rattle.mt_rule.specs.Seats.{record_of, records_of}
 use Rattle.mt_rule.specs.Tokens.{Identity, pass_in, turn_seat, WasShown}
 use Rattle.mt_tree.specs.declared.behind.Tools.{Tools}
 use Rattle.mt_tree.specs.declared.trees.Tree.{Tree}
-use Rattle.mt_tree.specs.Behind.{Behind, behind_of, parts_of, IsAtRest, IsKept}
+use Rattle.mt_tree.specs.Behind.{Behind, behind_lock, parts_of, IsAtRest, IsPenAtRest}
 use Rattle.mt_tree.specs.Trees.{limit_of, opened, passes_of, place_of, IsPassOf}
 use Rattle.mt_tree.specs.Works.{records_told, shown_pass, IsSeatOf, IsWorker}
 use Rattle.mt_tree.proofs.Reading.{map_is}
@@ -31,7 +31,7 @@ pub record AtWork (t : Tree) (i : Identity) (b : Behind) (p : known.Pass) (e : P
   pub shape : b.pen.shape ≡ i.shape
   pub table : b.table ≡ place_of t
   pub height : ℕ
-  pub kept : IsKept b.pen b.parts height
+  pub kept : IsPenAtRest b.pen b.parts height
   pub parts : b.parts ≡ parts_of b.pen b.parts.book
   pub kind : e.kind ≡ b.parts.kind
   pub book : e.book ≡ b.parts.book
@@ -42,21 +42,21 @@ pub record AtWork (t : Tree) (i : Identity) (b : Behind) (p : known.Pass) (e : P
 pub seat_of : (t : Tree) (p : Pass) (turn : Badge TurnView) → turn ≡ turn_seat p → IsPassOf t p → IsSeatOf t turn
 seat_of t p turn is of = subst (IsSeatOf t) (sym is) (record { table = of.seated.table; views = of.seated.views })
 
-pub at_rest : (tools : Option Tools) → IsAtRest tools → (height : ℕ) × IsKept (behind_of tools).pen (behind_of tools).parts height
+pub at_rest : (tools : Option Tools) → IsAtRest tools → (height : ℕ) × IsPenAtRest (behind_lock tools).pen (behind_lock tools).parts height
 at_rest None rest = absurd rest
 at_rest (Some t) rest = (t.height, rest.1)
 
-pub same_parts : (tools : Option Tools) → (behind_of tools).parts ≡ parts_of (behind_of tools).pen (behind_of tools).parts.book
+pub same_parts : (tools : Option Tools) → (behind_lock tools).parts ≡ parts_of (behind_lock tools).pen (behind_lock tools).parts.book
 same_parts None = refl
 same_parts (Some t) = refl
 
-pub same_shape : (tools : Option Tools) → (behind_of tools).pen.shape ≡ (behind_of tools).table.shape
+pub same_shape : (tools : Option Tools) → (behind_lock tools).pen.shape ≡ (behind_lock tools).table.shape
 same_shape None = refl
 same_shape (Some t) = refl
 
 pub at_work : (t : Tree) (tools : Option Tools) (pass : Pass) (i : Identity) (turn : Badge TurnView) (e : Parts) → IsWorker t tools pass i turn
-    → e.kind ≡ (behind_of tools).parts.kind → e.book ≡ (behind_of tools).parts.book → e.sheet ≡ sheet_told i (behind_of tools).pen (shown_pass (behind_of tools).pen (pass_in pass))
-    → WasShown (opened t) (behind_of tools).pen (pass_in pass) (shown_pass (behind_of tools).pen (pass_in pass)) → AtWork t i (behind_of tools) (pass_in pass) e
+    → e.kind ≡ (behind_lock tools).parts.kind → e.book ≡ (behind_lock tools).parts.book → e.sheet ≡ sheet_told i (behind_lock tools).pen (shown_pass (behind_lock tools).pen (pass_in pass))
+    → WasShown (opened t) (behind_lock tools).pen (pass_in pass) (shown_pass (behind_lock tools).pen (pass_in pass)) → AtWork t i (behind_lock tools) (pass_in pass) e
 at_work t tools pass i turn e worker kind book sheet shown =
     let rest = at_rest tools worker.rest in
     record {

@@ -23,16 +23,16 @@ use Rattle.mt_engine.specs.Engine.{Parts, DidOrLacked, IsEnded, TellsBook, is_re
 use Rattle.mt_engine.specs.Rooms.{HasRoom, IsScanned, IsShortOf}
 use Rattle.mt_free.specs.Book.{Book, after_reclaim}
 use Rattle.mt_pen.specs.Sheets.{unscanned}
-use Rattle.mt_rows.specs.Publish.{map_by, IsCounted}
+use Rattle.mt_rows.specs.Publish.{map_by, IsRealShortage}
 use Rattle.mt_rows.specs.Sheet.{OnlyReads, Rooted, Sheet}
 use Rattle.mt_rule.specs.declared.passes.Pass.{Pass}
 use Rattle.mt_rule.specs.declared.views.Shape.{Shape}
-use Rattle.mt_rule.specs.Seats.{record_of, records_of, sheet_of}
+use Rattle.mt_rule.specs.Seats.{record_of, records_of, pen_sheet}
 use Rattle.mt_rule.specs.Tokens.{Identity, pass_in}
 use Rattle.mt_rule.proofs.Beginnings.{places_last}
 use Rattle.mt_tree.specs.declared.behind.Tools.{Tools}
 use Rattle.mt_tree.specs.declared.trees.Tree.{Tree}
-use Rattle.mt_tree.specs.Behind.{Behind, behind_of, IsRead, IsReady, IsStored}
+use Rattle.mt_tree.specs.Behind.{Behind, behind_lock, IsOnlyRead, IsReady, IsStoreReply}
 use Rattle.mt_tree.specs.Trees.{map_seen, opened, passes_of, place_of, IsShortNow, NamesPass, WasPrepared}
 use Rattle.mt_tree.specs.Works.{pass_of_told, shown_pass, AreBack}
 use Rattle.mt_tree.proofs.AtWork.{AtWork, count_is, passes_is, told_at, told_is, told_after, told_more, tree_is, map_shown, shape_is, same_parts}
@@ -55,11 +55,11 @@ module _ (t : Tree) (i : Identity) (b : Behind) (p : known.Pass) (e e' : Parts) 
 
   bare_is : bare e ≡ b.parts
   bare_is =
-      let one : bare e ≡ record { sheet = sheet_of b.pen; book = b.parts.book; kind = b.parts.kind } = (λ k. record { sheet = record (unscanned (w.sheet k)) { told = None }; book = w.book k; kind = w.kind k }) in
-      let two : sheet_of b.pen ≡ b.parts.sheet = sym (ap (λ (x : Parts). x.sheet) w.parts) in
+      let one : bare e ≡ record { sheet = pen_sheet b.pen; book = b.parts.book; kind = b.parts.kind } = (λ k. record { sheet = record (unscanned (w.sheet k)) { told = None }; book = w.book k; kind = w.kind k }) in
+      let two : pen_sheet b.pen ≡ b.parts.sheet = sym (ap (λ (x : Parts). x.sheet) w.parts) in
       one ∙ (λ k. record { sheet = two k; book = b.parts.book; kind = b.parts.kind })
 
-  pub tree_back : e'.sheet.tree ≡ e.sheet.tree → (behind_of tools).parts.sheet.tree ≡ b.parts.sheet.tree
+  pub tree_back : e'.sheet.tree ≡ e.sheet.tree → (behind_lock tools).parts.sheet.tree ≡ b.parts.sheet.tree
   tree_back same = ap (λ (x : Parts). x.sheet.tree) back.parts ∙ (same ∙ tree_is t i b p e w)
 
   -- ---- a call
@@ -68,10 +68,10 @@ module _ (t : Tree) (i : Identity) (b : Behind) (p : known.Pass) (e e' : Parts) 
     abbrev made : Record
     made = record { pass = p.number; call = call; reply = reply }
 
-    pub known_then : (q ≡ pass_of_told (told_after t i b p e w call reply)) × (records_of (behind_of tools).pen.history ≡ seen ++ made ∷ [])
+    pub known_then : (q ≡ pass_of_told (told_after t i b p e w call reply)) × (records_of (behind_lock tools).pen.history ≡ seen ++ made ∷ [])
     known_then = back.knows (told_after t i b p e w call reply) (told_more t i b p e w e' call reply ended.record_told)
 
-    pub seen_then : q.seen ≡ records_of (behind_of tools).pen.history
+    pub seen_then : q.seen ≡ records_of (behind_lock tools).pen.history
     seen_then = ap (λ (x : known.Pass). x.seen) known_then.0 ∙ sym known_then.1
 
     mine_then : places p.number (seen ++ made ∷ []) ≡ p.mine ++ number ∷ []
@@ -118,7 +118,7 @@ module _ (t : Tree) (i : Identity) (b : Behind) (p : known.Pass) (e e' : Parts) 
   -- ---- a call that told no record
 
   module _ (same : e'.sheet.told ≡ e.sheet.told) where
-    known_still : (q ≡ pass_of_told (told_at t i b p e w)) × (records_of (behind_of tools).pen.history ≡ seen)
+    known_still : (q ≡ pass_of_told (told_at t i b p e w)) × (records_of (behind_lock tools).pen.history ≡ seen)
     known_still = back.knows (told_at t i b p e w) (same ∙ told_is t i b p e w)
 
     pass_is : q ≡ shown_pass b.pen p
@@ -135,7 +135,7 @@ module _ (t : Tree) (i : Identity) (b : Behind) (p : known.Pass) (e e' : Parts) 
     pub saw_all : Saw (opened t) p q
     saw_all = subst (Saw (opened t) p) (sym pass_is) w.shown.saw
 
-    pub seen_still : q.seen ≡ records_of (behind_of tools).pen.history
+    pub seen_still : q.seen ≡ records_of (behind_lock tools).pen.history
     seen_still = ap (λ (x : known.Pass). x.seen) known_still.0 ∙ sym known_still.1
 
     pub map_still : map_by e.sheet.tree ≡ map_seen t q
@@ -158,7 +158,7 @@ module _ (t : Tree) (i : Identity) (b : Behind) (p : known.Pass) (e e' : Parts) 
         let was : e.sheet.reads ≡ None = ap (λ (s : Sheet). s.reads) w.sheet in
         reads ∙ (λ k. record e.sheet { reads = (none ∙ sym was) k })
 
-    pub only_read : IsRead b (behind_of tools)
+    pub only_read : IsOnlyRead b (behind_lock tools)
     only_read = record {
       table = back.of ∙ sym w.table;
       records = (known_still told_still).1;
@@ -170,9 +170,9 @@ module _ (t : Tree) (i : Identity) (b : Behind) (p : known.Pass) (e e' : Parts) 
     pub told_scanned : e'.sheet.told ≡ e.sheet.told
     told_scanned = ap (λ (s : Sheet). s.told) scan.rest
 
-    pub was_prepared : WasPrepared t b (behind_of tools)
+    pub was_prepared : WasPrepared t b (behind_lock tools)
     was_prepared =
-        let cleared : (behind_of tools).parts.sheet.cleared ≡ e'.sheet.cleared = ap (λ (x : Parts). x.sheet.cleared) back.parts in
+        let cleared : (behind_lock tools).parts.sheet.cleared ≡ e'.sheet.cleared = ap (λ (x : Parts). x.sheet.cleared) back.parts in
         let was : e.sheet.cleared ≡ b.parts.sheet.cleared = ap (λ (x : Parts). x.sheet.cleared) bare_is in
         let rises = scan.rises in
         record {
@@ -188,10 +188,10 @@ module _ (t : Tree) (i : Identity) (b : Behind) (p : known.Pass) (e e' : Parts) 
           freed = ap (λ (x : Parts). x.book) back.parts ∙ (scan.freed ∙ ap (λ (x : Book). after_reclaim x e'.sheet.scan.least) w.book);
         }
 
-    pub made_ready : (result : Result (Unit {0}) Shortage) → IsOk result ↔ HasRoom e'.sheet.tree e'.book → IsOk result ↔ IsReady (behind_of tools).parts
+    pub made_ready : (result : Result (Unit {0}) Shortage) → IsOk result ↔ HasRoom e'.sheet.tree e'.book → IsOk result ↔ IsReady (behind_lock tools).parts
     made_ready result is = subst (λ (x : Parts). IsOk result ↔ HasRoom x.sheet.tree x.book) (sym back.parts) is
 
-    short_now : (shortage : Shortage) → IsShortOf e'.sheet e'.book shortage → IsShortNow t q b (behind_of tools) shortage
+    short_now : (shortage : Shortage) → IsShortOf e'.sheet e'.book shortage → IsShortNow t q b (behind_lock tools) shortage
     unfolding was_prepared
     short_now shortage is =
         let shape = shape_is t i b p e w in
@@ -208,7 +208,7 @@ module _ (t : Tree) (i : Identity) (b : Behind) (p : known.Pass) (e e' : Parts) 
         record {
           short = still_short (opened t).rows e'.sheet.opened (length (opened t).opening / 2 + 2) e'.sheet.ended (length q.seen) true (map_seen t q) shortage small (omega (arith, calls)) sized;
           prepared = was_prepared;
-          counted = subst (λ (x : Parts). IsCounted (record x.sheet { scan = e'.sheet.scan }) shortage) (sym back.parts) (record {
+          counted = subst (λ (x : Parts). IsRealShortage (record x.sheet { scan = e'.sheet.scan }) shortage) (sym back.parts) (record {
             need = is.counted.need;
             live = is.counted.live;
             rows = is.counted.rows;
@@ -226,7 +226,7 @@ module _ (t : Tree) (i : Identity) (b : Behind) (p : known.Pass) (e e' : Parts) 
               (named_if (λ holder. holder.pass ≢ p.number) e'.sheet.scan.by shortage.held (scan_other e.sheet.shared e'.sheet (told_at t i b p e w) e.sheet.told scan.answer (told_is t i b p e w) stands)));
         }
 
-    pub shorts : (result : Result (Unit {0}) Shortage) → IfErr result (λ shortage. IsShortOf e'.sheet e'.book shortage) → IfErr result (λ shortage. IsShortNow t q b (behind_of tools) shortage)
+    pub shorts : (result : Result (Unit {0}) Shortage) → IfErr result (λ shortage. IsShortOf e'.sheet e'.book shortage) → IfErr result (λ shortage. IsShortNow t q b (behind_lock tools) shortage)
     shorts (Ok u) is = tt
     shorts (Err shortage) is = short_now shortage is
 
@@ -240,13 +240,13 @@ refused_still e e' call reply (inr lacked) is = lacked.1
 abbrev reply_of : List Range × Reply → Reply
 reply_of after = after.1
 
-made_ends : (met : Option Range) (reply : Reply) → replied met ≡ reply → IsStored reply
+made_ends : (met : Option Range) (reply : Reply) → replied met ≡ reply → IsStoreReply reply
 made_ends None reply is = inl (sym is)
 made_ends (Some r) reply is = inr (inl (r.entry, sym is))
 
-store_ends : (m n : List Range) (met : Option Range) (reply : Reply) (b : Bool) → reply_of (if b then (m, replies.Invalid) else (n, replied met)) ≡ reply → IsStored reply
+store_ends : (m n : List Range) (met : Option Range) (reply : Reply) (b : Bool) → reply_of (if b then (m, replies.Invalid) else (n, replied met)) ≡ reply → IsStoreReply reply
 store_ends m n met reply true is = inr (inr (sym is))
 store_ends m n met reply false is = made_ends met reply is
 
-pub is_stored : (kind : Kind) (m m' : List Range) (first last entry : ℕ) (reply : Reply) → acted kind m (StorePre first last entry) ≡ (m', reply) → IsStored reply
+pub is_stored : (kind : Kind) (m m' : List Range) (first last entry : ℕ) (reply : Reply) → acted kind m (StorePre first last entry) ≡ (m', reply) → IsStoreReply reply
 is_stored kind m m' first last entry reply is = store_ends m (over m first last entry) (first_met m first last) reply (is_invalid kind first last entry) (ap reply_of is)

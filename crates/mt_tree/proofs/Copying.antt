@@ -12,7 +12,7 @@ use Rattle.mt_rows.specs.Sheet.{Rooted, Sheet, life_of}
 use Rattle.mt_rows.specs.Publish.{LiveAreReached, MayPlant, Planted, is_reached, map_by, with_published}
 use Rattle.mt_rows.specs.Trees.{reached_in}
 use Rattle.mt_dup.specs.Copy.{IsNewBut, IsBookOfCopy}
-use Rattle.mt_splice.specs.Kept.{IsSpare, IsBookOf}
+use Rattle.mt_splice.specs.Kept.{IsUnheld, IsBookOf}
 use Rattle.mt_splice.proofs.LiveRows.{live_is_reached}
 use Rattle.mt_engine.specs.Engine.{IsIdle}
 use Rattle.mt_engine.proofs.Levelled.{levelled}
@@ -65,7 +65,7 @@ module _ (kind : Kind) (rows : ℕ) (s s' : Sheet) (root : ℕ) (book : Book) (s
     reached = λ row is. (of.live row).1 is;
     spare = λ i d low.
         let here = sound.free_rows i d low in
-        subst (IsSpare s.cleared) (sym (free_new (get_or book.free i d) (Contains-get_or book.free i d low) here.0 here.1)) tt;
+        subst (IsUnheld s.cleared) (sym (free_new (get_or book.free i d) (Contains-get_or book.free i d low) here.0 here.1)) tt;
     stamps = subst (All (λ (h : Held). h.stamp < s.ended + 1)) (sym none_held) (All-nil (λ (h : Held). h.stamp < s.ended + 1));
   }
 

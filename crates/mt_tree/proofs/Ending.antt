@@ -18,11 +18,11 @@ use Rattle.mt_rows.specs.Sheet.{Sheet, Told}
 use Rattle.mt_rule.specs.declared.views.PenPart.{PenPart}
 use Rattle.mt_rule.specs.declared.views.Shape.{Shape}
 use Rattle.mt_rule.specs.Rule as rule
-use Rattle.mt_rule.specs.Seats.{pen_joined, record_of, records_of, sheet_of, tree_of, rooted_in}
+use Rattle.mt_rule.specs.Seats.{pen_joined, record_of, records_of, pen_sheet, tree_of, rooted_in}
 use Rattle.mt_rule.specs.Tokens.{Identity}
 use Rattle.mt_engine.proofs.Levelled.{levelled}
 use Rattle.mt_engine.proofs.Moments.{tree_if_lawful}
-use Rattle.mt_tree.specs.Behind.{parts_of, IsKept, IsReady}
+use Rattle.mt_tree.specs.Behind.{parts_of, IsPenAtRest, IsReady}
 use Rattle.mt_tree.specs.Works.{pass_of_told, records_told}
 use Rattle.mt_tree.proofs.Reading.{take_all}
 use Rattle.mt_tree.proofs.Lists.{some_same}
@@ -32,8 +32,8 @@ module _ (i : Identity) (p : PenPart) (q : known.Pass) (s : Sheet) (kind : Kind)
   kind_is : p.shape.kind ≡ kind
   kind_is = subst (λ (o : Option Kind). IfSome o (λ k. k ≡ kind)) (sym (ap (λ (x : Sheet). x.kind) same)) idle.state.told
 
-  idle_again : IsIdle p.shape.kind (sheet_of p) book
-  idle_again = subst (λ (k : Kind). IsIdle k (sheet_of p) book) (sym kind_is) (subst (λ (x : Sheet). IsIdle kind x book) (sym same) idle)
+  idle_again : IsIdle p.shape.kind (pen_sheet p) book
+  idle_again = subst (λ (k : Kind). IsIdle k (pen_sheet p) book) (sym kind_is) (subst (λ (x : Sheet). IsIdle kind x book) (sym same) idle)
 
   pub parts_again : parts_of p book ≡ record { sheet = record (unscanned s) { told = None }; book = book; kind = kind }
   parts_again = λ k. record { sheet = record (same k) { told = None }; book = book; kind = kind_is k }
@@ -52,7 +52,7 @@ module _ (i : Identity) (p : PenPart) (q : known.Pass) (s : Sheet) (kind : Kind)
       }) in
       (whole ∙ ap pass_of_told here, ap (λ (x : Told). x.records) here)
 
-  module _ (extents : ℕ → Extent) (sound : rule.IsSound extents p) (shape : p.shape ≡ i.shape) (opens : OpensSmall i.shape) (dealt : p.dealt ≡ i.shape.passes) where
+  module _ (extents : ℕ → Extent) (sound : rule.IsSoundPen extents p) (shape : p.shape ≡ i.shape) (opens : OpensSmall i.shape) (dealt : p.dealt ≡ i.shape.passes) where
     published : p.published ≡ false
     published = sound.history.calm idle_again.idle
 
@@ -64,7 +64,7 @@ module _ (i : Identity) (p : PenPart) (q : known.Pass) (s : Sheet) (kind : Kind)
         let long : p.ended + one_if p.published ≡ length (records_of p.history) = sym (length-map p.history record_of ∙ sound.history.count) in
         sym sound.known.current ∙ ap (λ (rs : List Record). last_map (record (tree_of p.shape p.history) { records = rs })) (take_all (records_of p.history) (p.ended + one_if p.published) long)
 
-    pub kept_again : (height : ℕ) → HasHeight s.tree height → length (records_told s.told) ≤ i.shape.calls → IsKept p (parts_of p book) height
+    pub kept_again : (height : ℕ) → HasHeight s.tree height → length (records_told s.told) ≤ i.shape.calls → IsPenAtRest p (parts_of p book) height
     kept_again height high few = record {
       dealt = dealt ∙ sym (ap (λ (x : Shape). x.passes) shape);
       of = record {
@@ -82,13 +82,13 @@ module _ (i : Identity) (p : PenPart) (q : known.Pass) (s : Sheet) (kind : Kind)
 
 -- ---- behind the lock
 
-pub kept_shown : (p : PenPart) (e : Parts) (height : ℕ) → IsKept p e height → IsKept (pen_joined p) e height
+pub kept_shown : (p : PenPart) (e : Parts) (height : ℕ) → IsPenAtRest p e height → IsPenAtRest (pen_joined p) e height
 kept_shown p e height k = record { dealt = k.dealt; of = k.of; idle = k.idle; few = k.few; levels = k.levels }
 
-pub few_levels : (p : PenPart) (e : Parts) (height : ℕ) → IsKept p e height → height ≤ deepest
+pub few_levels : (p : PenPart) (e : Parts) (height : ℕ) → IsPenAtRest p e height → height ≤ deepest
 few_levels p e height kept = (let low = (levelled e.sheet.tree e.kind (tree_if_lawful e.sheet.tree e.kind kept.idle.state.kept.lawful)).low in omega (arith, low, kept.levels))
 
-pub ready_if : (p : PenPart) (e : Parts) (height free : ℕ) → IsKept p e height → free ≡ length e.book.free → (3 * height + 1 ≤ free → IsReady e) × (IsReady e → 3 * height + 1 ≤ free)
+pub ready_if : (p : PenPart) (e : Parts) (height free : ℕ) → IsPenAtRest p e height → free ≡ length e.book.free → (3 * height + 1 ≤ free → IsReady e) × (IsReady e → 3 * height + 1 ≤ free)
 ready_if p e height free kept is = (
   λ low. omega (arith, low, is, kept.levels),
   λ ready. omega (arith, ready, is, kept.levels),

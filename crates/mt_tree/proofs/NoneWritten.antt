@@ -8,7 +8,7 @@ use Rattle.mt_base.specs.declared.kinds.Kind.{Kind}
 use Rattle.mt_base.specs.declared.widths.Width.{Width}
 use Rattle.mt_base.specs.Width.{columns, first_row, kind_width}
 use Rattle.mt_rows.specs.Plain.{new_sheet}
-use Rattle.mt_rule.specs.Places.{AreOpening, root_at, rows_at, size_of}
+use Rattle.mt_rule.specs.Places.{AreOpening, root_at, first_row_column, table_size}
 use Rattle.mt_tree.specs.Zeros.{AreZero}
 
 zero_anywhere : (words : List ℕ) → AreZero words → (i : ℕ) → slice_index words i ≡ 0
@@ -32,18 +32,18 @@ module _ (width : Width) (rows : ℕ) where
           (λ (at : i ≡ root_at). rw at opening.root)
           (λ (other : i ≡ root_at → ⊥).
           ⊎_elim
-          (λ (low : i < rows_at width). opening.none i other low)
-          (λ (high : rows_at width ≤ i). opening.columns i high ∙ none_used i)
-          (cases_lt i (rows_at width)))
+          (λ (low : i < first_row_column width). opening.none i other low)
+          (λ (high : first_row_column width ≤ i). opening.columns i high ∙ none_used i)
+          (cases_lt i (first_row_column width)))
           (cases_eq i root_at)
 
   -- and so many zeros are the words of an empty tree
-  pub zeros_open : (words : List ℕ) → AreZero words → size_of width rows ≤ length words → AreOpening (new_sheet width rows).tree (take (size_of width rows) words)
+  pub zeros_open : (words : List ℕ) → AreZero words → table_size width rows ≤ length words → AreOpening (new_sheet width rows).tree (take (table_size width rows) words)
   zeros_open words zero enough =
-      let first : List ℕ = take (size_of width rows) words in
-      let each = zero_anywhere first (All-take (λ (word : ℕ). word ≡ 0) (size_of width rows) words zero) in
+      let first : List ℕ = take (table_size width rows) words in
+      let each = zero_anywhere first (All-take (λ (word : ℕ). word ≡ 0) (table_size width rows) words zero) in
       record {
-        size = length-take-le (size_of width rows) words enough;
+        size = length-take-le (table_size width rows) words enough;
         none = λ i other low. each i;
         root = each root_at;
         columns = λ i high. each i ∙ sym (none_used i);

@@ -17,7 +17,7 @@ use Rattle.mt_rows.specs.declared.rows.Life.TheVariants.{New, Live, Dead}
 use Rattle.mt_rows.specs.Levels.{one_if}
 use Rattle.mt_rows.specs.Sheet.{HasDied, IsWhole, Rooted, Sheet, life_of}
 use Rattle.mt_rows.specs.Publish.{IsLawfulOf, LiveAreReached, is_reached, map_by}
-use Rattle.mt_splice.specs.Kept.{IsSpare, IsBookOf}
+use Rattle.mt_splice.specs.Kept.{IsUnheld, IsBookOf}
 use Rattle.mt_splice.proofs.LiveRows.{live_is_reached}
 use Rattle.mt_engine.specs.Engine.{IsEngineState, IsIdle, IsState}
 use Rattle.mt_engine.specs.Heights.{HasHeight}
@@ -27,11 +27,11 @@ use Rattle.mt_pen.specs.Works.{OpensSmall}
 use Rattle.mt_rule.specs.declared.passes.Pass.{Pass}
 use Rattle.mt_rule.specs.declared.views.PenPart.{PenPart}
 use Rattle.mt_rule.specs.declared.views.Shape.{Shape}
-use Rattle.mt_rule.specs.Seats.{least_of, new_pen, opening_life, rooted_in, sheet_of, tree_of}
+use Rattle.mt_rule.specs.Seats.{least_number, new_pen, opening_life, rooted_in, pen_sheet, tree_of}
 use Rattle.mt_rule.specs.Tokens as rule
 use Rattle.mt_rule.specs.Tokens.{shape_opened, pass_in}
 use Rattle.mt_rule.specs.Turns.{IsSeatedAt}
-use Rattle.mt_tree.specs.Behind.{parts_of, IsKept}
+use Rattle.mt_tree.specs.Behind.{parts_of, IsPenAtRest}
 use Rattle.mt_tree.specs.declared.shapes.Shape.{Shape as Shape'}
 use Rattle.mt_tree.specs.declared.trees.Tree.{Tree}
 use Rattle.mt_tree.specs.Trees.{passes_of, place_of, AreAll, IsNew}
@@ -105,19 +105,19 @@ module _ (kind : Kind) (s : Sheet) (passes calls : ℕ) (book : Book) (idle : Is
     reached = booked.reached;
     spare = λ i d low.
         let here = booked.sound.free_rows i d low in
-        subst (IsSpare 0) (sym (free_new (get_or book.free i d) (Contains-get_or book.free i d low) (let h = here.1 in let r = booked.rows in omega (arith, h, r)))) tt;
+        subst (IsUnheld 0) (sym (free_new (get_or book.free i d) (Contains-get_or book.free i d low) (let h = here.1 in let r = booked.rows in omega (arith, h, r)))) tt;
     stamps = subst (All (λ (h : Held). h.stamp < 1)) (sym none_held) (All-nil (λ (h : Held). h.stamp < 1));
   }
 
   grown : length book.held + live_count book ≤ shape.opened
   grown = (let live = live_is_reached s.tree s.lives s.cleared kind book (s.ended + 1) (tree_if_lawful s.tree kind lawful) booked in omega (arith, live, ap length none_held))
 
-  cleared_is : (n : ℕ) → least_of (replicate n 0) ≡ 0
+  cleared_is : (n : ℕ) → least_number (replicate n 0) ≡ 0
   cleared_is zero = refl
   cleared_is (suc zero) = refl
-  cleared_is (suc (suc n)) = zero-min (least_of (replicate (suc n) 0))
+  cleared_is (suc (suc n)) = zero-min (least_number (replicate (suc n) 0))
 
-  state_there : IsEngineState kind (sheet_of pen) book
+  state_there : IsEngineState kind (pen_sheet pen) book
   state_there = subst (λ (x : Rooted × ℕ). IsState kind (Some kind) x.0 pen.lives pen.buried x.1 0 shape.opened book) (λ k. (sym rooted_is k, sym (cleared_is passes) k)) (record {
     told = refl;
     kept = record {
@@ -133,7 +133,7 @@ module _ (kind : Kind) (s : Sheet) (passes calls : ℕ) (book : Book) (idle : Is
   pub opens_small : OpensSmall shape
   opens_small = (let half = (levelled s.tree kind (tree_if_lawful s.tree kind lawful)).half in omega (arith, half))
 
-  kept_there : (height : ℕ) → HasHeight s.tree height → IsKept pen (parts_of pen book) height
+  kept_there : (height : ℕ) → HasHeight s.tree height → IsPenAtRest pen (parts_of pen book) height
   kept_there height high = record {
     dealt = refl;
     of = record { kind = refl; rows = refl; map = ap map_by rooted_is; ended = refl; opened = opens_small };
@@ -142,9 +142,9 @@ module _ (kind : Kind) (s : Sheet) (passes calls : ℕ) (book : Book) (idle : Is
     levels = subst (λ (x : Rooted). HasHeight x height) (sym rooted_is) high;
   }
 
-  pub open_kept : (p : PenPart) (shape' : Shape) (height : ℕ) → shape' ≡ shape → p ≡ record (new_pen shape' s.tree) { dealt = passes } → HasHeight s.tree height → IsKept p (parts_of p book) height
+  pub open_kept : (p : PenPart) (shape' : Shape) (height : ℕ) → shape' ≡ shape → p ≡ record (new_pen shape' s.tree) { dealt = passes } → HasHeight s.tree height → IsPenAtRest p (parts_of p book) height
   open_kept p shape' height shape_is pen_is high =
-      subst (λ (x : PenPart). IsKept x (parts_of x book) height) (sym (pen_is ∙ ap (λ (x : Shape). record (new_pen x s.tree) { dealt = passes }) shape_is)) (kept_there height high)
+      subst (λ (x : PenPart). IsPenAtRest x (parts_of x book) height) (sym (pen_is ∙ ap (λ (x : Shape). record (new_pen x s.tree) { dealt = passes }) shape_is)) (kept_there height high)
 
 -- what a pass of such a list knows
 number_at : (n : ℕ) (ps : List Pass) (i : ℕ) (p : Pass) → map pass_in ps ≡ map new_pass (range_with_len 0 n) → i < n → slice_get ps i ≡ Some p → (pass_in p).number ≡ i

@@ -16,7 +16,7 @@ use Rattle.mt_rule.specs.declared.views.PenPart.{PenPart}
 use Rattle.mt_rule.specs.declared.views.Shape.{Shape}
 use Rattle.mt_rule.specs.Seats.{record_of, records_of, tree_of}
 use Rattle.mt_rule.specs.Tokens.{Identity, tree_in, WasShown}
-use Rattle.mt_tree.specs.Behind.{IsOf}
+use Rattle.mt_tree.specs.Behind.{AreRowsOf}
 
 pub map_is : (shape shape' : Shape) (h : List Moment) (seen : List Record) → shape ≡ shape' → seen ≡ records_of h → last_map (tree_of shape h) ≡ last_map (with_records (tree_of shape' []) seen)
 map_is shape shape' h seen same all = λ i. last_map (record { kind = (same i).kind; rows = (same i).rows; opening = (same i).opening; records = sym all i })
@@ -24,7 +24,7 @@ map_is shape shape' h seen same all = λ i. last_map (record { kind = (same i).k
 pub take_all : {X : Type 0} (xs : List X) (n : ℕ) → n ≡ length xs → take n xs ≡ xs
 take_all xs n is = ap (λ (k : ℕ). take k xs) is ∙ take-length xs
 
-pub asked : (i : Identity) (pen : PenPart) (e : Parts) (p q : known.Pass) (n : ℕ) (query : Query) (value : Option Range) → WasShown (tree_in i) pen p q → pen.shape ≡ i.shape → IsOf pen.shape pen.history e
+pub asked : (i : Identity) (pen : PenPart) (e : Parts) (p q : known.Pass) (n : ℕ) (query : Query) (value : Option Range) → WasShown (tree_in i) pen p q → pen.shape ≡ i.shape → AreRowsOf pen.shape pen.history e
     → n ≡ length pen.history → value ≡ answer (map_by e.sheet.tree) query → Read (tree_in i) p n n n query value q
 asked i pen e p q n query value shown same of count is =
     let saw = shown.saw in

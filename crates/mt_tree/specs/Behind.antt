@@ -14,7 +14,7 @@ use Rattle.mt_rows.specs.Publish.{map_by}
 use Rattle.mt_rule.specs.declared.views.Moment.{Moment}
 use Rattle.mt_rule.specs.declared.views.PenPart.{PenPart}
 use Rattle.mt_rule.specs.declared.views.Shape.{Shape}
-use Rattle.mt_rule.specs.Seats.{no_pen, pen_joined, records_of, sheet_of, tree_of}
+use Rattle.mt_rule.specs.Seats.{no_pen, pen_joined, records_of, pen_sheet, tree_of}
 use Rattle.mt_rule.specs.Tokens.{Identity, IsAlone, identity_of_pen, pen_in}
 use Rattle.mt_tree.specs.declared.behind.Tools.{Tools}
 
@@ -26,16 +26,16 @@ pub record Behind : Type 0 where
 
 -- the rows that the pen knows, with this book
 abbrev pub parts_of : PenPart → Book → Parts
-parts_of p book = record { sheet = sheet_of p; book = book; kind = p.shape.kind }
+parts_of p book = record { sheet = pen_sheet p; book = book; kind = p.shape.kind }
 
 -- what the tools stand for; while a call is at work they are not there
-abbrev pub behind_of : Option Tools → Behind
-behind_of (Some t) = record { table = identity_of_pen t.pen; pen = pen_in t.pen; parts = parts_of (pen_in t.pen) t.book }
-behind_of None = record { table = no_table; pen = no_pen; parts = parts_of no_pen (new_book 0) }
+abbrev pub behind_lock : Option Tools → Behind
+behind_lock (Some t) = record { table = identity_of_pen t.pen; pen = pen_in t.pen; parts = parts_of (pen_in t.pen) t.book }
+behind_lock None = record { table = no_table; pen = no_pen; parts = parts_of no_pen (new_book 0) }
 
 -- The rows are of this tree: they stand for the map after these calls, as many have ended, and they opened with no more rows
 -- than a map of so many ranges may have.
-pub record IsOf (shape : Shape) (history : List Moment) (e : Parts) : Type 0 where
+pub record AreRowsOf (shape : Shape) (history : List Moment) (e : Parts) : Type 0 where
   pub kind : e.kind ≡ shape.kind
   pub rows : e.sheet.tree.rows ≡ shape.rows
   pub map : map_by e.sheet.tree ≡ last_map (tree_of shape history)
@@ -44,16 +44,16 @@ pub record IsOf (shape : Shape) (history : List Moment) (e : Parts) : Type 0 whe
 
 -- No call is in flight, all passes are dealt, the rows are lawful and of the pen's tree, which has no more calls than it may have,
 -- and so many levels; the book is of these rows.
-pub record IsKept (p : PenPart) (e : Parts) (height : ℕ) : Type 0 where
+pub record IsPenAtRest (p : PenPart) (e : Parts) (height : ℕ) : Type 0 where
   pub dealt : p.dealt ≡ p.shape.passes
-  pub of : IsOf p.shape p.history e
+  pub of : AreRowsOf p.shape p.history e
   pub idle : IsIdle e.kind e.sheet e.book
   pub few : length p.history ≤ p.shape.calls
   pub levels : HasHeight e.sheet.tree height
 
 -- While the lock is free no pass is joined with the pen.
 abbrev pub IsAtRest : Option Tools → Type 0
-IsAtRest (Some t) = IsAlone t.pen × IsKept (pen_in t.pen) (parts_of (pen_in t.pen) t.book) t.height
+IsAtRest (Some t) = IsAlone t.pen × IsPenAtRest (pen_in t.pen) (parts_of (pen_in t.pen) t.book) t.height
 IsAtRest None = ⊥
 
 -- what is behind the lock when a pass was shown the history: no section word was loaded since
@@ -65,11 +65,11 @@ abbrev pub IsReady : Parts → Type 0
 IsReady e = HasRoom e.sheet.tree e.book
 
 -- such a store is made, onto nothing or over some range, or it is refused as invalid
-abbrev pub IsStored : Reply → Type 0
-IsStored reply = (reply ≡ replies.Ok) ⊎ ((entry : ℕ) × (reply ≡ replies.Over entry)) ⊎ (reply ≡ replies.Invalid)
+abbrev pub IsStoreReply : Reply → Type 0
+IsStoreReply reply = (reply ≡ replies.Ok) ⊎ ((entry : ℕ) × (reply ≡ replies.Over entry)) ⊎ (reply ≡ replies.Invalid)
 
 -- The words were only read.
-pub record IsRead (b b' : Behind) : Type 0 where
+pub record IsOnlyRead (b b' : Behind) : Type 0 where
   pub table : b'.table ≡ b.table
   pub records : records_of b'.pen.history ≡ records_of b.pen.history
   pub parts : b'.parts ≡ b.parts

@@ -17,7 +17,7 @@ use Rattle.mt_engine.specs.Engine.{TellsBook}
 use Rattle.mt_engine.specs.Rooms.{HasRoom}
 use Rattle.mt_free.specs.Book.{after_reclaim}
 use Rattle.mt_rows.specs.declared.rows.Scan.{Scan}
-use Rattle.mt_rows.specs.Publish.{IsCounted, map_by}
+use Rattle.mt_rows.specs.Publish.{IsRealShortage, map_by}
 pub use Rattle.mt_rule.specs.declared.passes.Pass.{Pass}
 use Rattle.mt_rule.specs.declared.notes.Note.{Note}
 use Rattle.mt_rule.specs.declared.views.TurnView.{TurnView}
@@ -31,7 +31,7 @@ use Rattle.mt_tree.specs.declared.shapes.Done.{Done}
 use Rattle.mt_tree.specs.declared.shapes.Shape.{Shape}
 use Rattle.mt_tree.specs.declared.shapes.Worn.{Worn}
 use Rattle.mt_tree.specs.declared.trees.Tree.{Tree}
-use Rattle.mt_tree.specs.Behind.{Behind, IsKept}
+use Rattle.mt_tree.specs.Behind.{Behind, IsPenAtRest}
 
 abbrev pub place_of : Tree → Identity
 place_of t = identity_of t.table
@@ -133,7 +133,7 @@ pub record WasPrepared (t : Tree) (b b' : Behind) : Type 0 where
 pub record IsShortNow (t : Tree) (p : known.Pass) (b b' : Behind) (shortage : Shortage) : Type 0 where
   pub short : IsShort (limits_after (opened t) (length p.seen)) (map_seen t p) shortage
   pub prepared : WasPrepared t b b'
-  pub counted : IsCounted (record b'.parts.sheet { scan = prepared.scan }) shortage
+  pub counted : IsRealShortage (record b'.parts.sheet { scan = prepared.scan }) shortage
   pub tells : TellsBook b'.parts.book shortage
   pub by : p.standing ≡ None → IfSome shortage.by (λ holder. holder.pass ≢ p.number)
 
@@ -146,7 +146,7 @@ pub record LiesBehind (t : Tree) (calls : List Record) (b : Behind) : Type 0 whe
   pub shape : b.pen.shape ≡ (place_of t).shape
   pub records : records_of b.pen.history ≡ calls
   pub height : ℕ
-  pub kept : IsKept b.pen b.parts height
+  pub kept : IsPenAtRest b.pen b.parts height
 
 -- the call makes the words what it says, and is answered so
 abbrev pub Acts : Behind → Behind → Call → Reply → Type 0
@@ -160,7 +160,7 @@ LeavesRoom scan b = HasRoom b.parts.sheet.tree (after_reclaim b.parts.book scan.
 -- whose section holds rows back, as the scan found it. All words are as they were.
 pub record LacksRows (t : Tree) (b b' : Behind) (scan : Scan) (call : Call) (reply : Reply) : Type 0 where
   pub refused : IsRefused b.parts.kind (limits_after (opened t) (length b.pen.history)) (map_by b.parts.sheet.tree) call reply
-  pub counted : IsCounted (record b'.parts.sheet { scan = scan }) refused.shortage
+  pub counted : IsRealShortage (record b'.parts.sheet { scan = scan }) refused.shortage
   pub tells : TellsBook (after_reclaim b.parts.book scan.least) refused.shortage
   pub kept : b'.parts.sheet.tree ≡ b.parts.sheet.tree
 
@@ -173,7 +173,7 @@ pub record IsDecided (t : Tree) (b b' : Behind) (call : Call) (reply : Reply) : 
   pub lacks : ¬ LeavesRoom scan b → LacksRows t b b' scan call reply
 
 -- A call that wants rows is decided by how many are free. Any other is made, and no section word is loaded for it.
-pub record IsAnswered (t : Tree) (b b' : Behind) (call : Call) (reply : Reply) : Type 0 where
+pub record IsDecidedOrMade (t : Tree) (b b' : Behind) (call : Call) (reply : Reply) : Type 0 where
   pub wants : Wants b.parts.kind (map_by b.parts.sheet.tree) call → IsDecided t b b' call reply
   pub calm : ¬ Wants b.parts.kind (map_by b.parts.sheet.tree) call → Acts b b' call reply × (b'.pen.sections ≡ [])
 
@@ -181,7 +181,7 @@ pub record IsAnswered (t : Tree) (b b' : Behind) (call : Call) (reply : Reply) :
 pub record WasAnsweredBy (t : Tree) (q : known.Pass) (b b' : Behind) (call : Call) (d : Done) : Type 0 where
   pub before : LiesBehind t (take (d.call - 1) q.seen) b
   pub after : LiesBehind t q.seen b'
-  pub answer : IsAnswered t b b' call d.reply
+  pub answer : IsDecidedOrMade t b b' call d.reply
 
 abbrev pub WasAnswered : Tree → known.Pass → Call → Done → Type 0
 WasAnswered t q call d = (b : Behind) × (b' : Behind) × WasAnsweredBy t q b b' call d

@@ -17,13 +17,13 @@ use Rattle.mt_rule.specs.Tokens.{Identity, pass_in, turn_seat}
 use Rattle.mt_rule.specs.Turns.{seated, tries_in}
 use Rattle.mt_tree.specs.declared.behind.Tools.{Tools}
 use Rattle.mt_tree.specs.declared.trees.Tree.{Tree}
-use Rattle.mt_tree.specs.Behind.{behind_of, IsAtRest}
+use Rattle.mt_tree.specs.Behind.{behind_lock, IsAtRest}
 use Rattle.mt_tree.specs.Trees.{opened, passes_of, place_of, IsPassOf}
 
 -- The tools lie behind the tree's lock, and the pass, which is one of the tree's, is the one that works with them.
 pub record IsWorker (t : Tree) (tools : Option Tools) (p : Pass) (table : Identity) (turn : Badge TurnView) : Type 0 where
   pub rest : IsAtRest tools
-  pub of : (behind_of tools).table ≡ place_of t
+  pub of : (behind_lock tools).table ≡ place_of t
   pub pass : IsPassOf t p
   pub table_is : table ≡ place_of t
   pub turn_is : turn ≡ turn_seat p
@@ -51,11 +51,11 @@ records_told (Some t) = t.records
 -- were made, the section words that were loaded last are those of the last scan; where none was, no such word was loaded.
 pub record AreBack (t : Tree) (e : Parts) (tools : Option Tools) (p : Pass) : Type 0 where
   pub rest : IsAtRest tools
-  pub of : (behind_of tools).table ≡ place_of t
-  pub parts : (behind_of tools).parts ≡ record e { sheet = record (unscanned e.sheet) { told = None } }
+  pub of : (behind_lock tools).table ≡ place_of t
+  pub parts : (behind_lock tools).parts ≡ record e { sheet = record (unscanned e.sheet) { told = None } }
   pub pass : IsPassOf t p
   pub sound : known.IsSound (opened t) (pass_in p)
-  pub callers : AllByRecursion (λ r. r.pass < passes_of t) (records_of (behind_of tools).pen.history)
-  pub knows : (told : Told) → e.sheet.told ≡ Some told → (pass_in p ≡ pass_of_told told) × (records_of (behind_of tools).pen.history ≡ told.records)
-  pub scanned : 1 ≤ e.sheet.scans → IsScanOf (behind_of tools).pen.sections (passes_of t) e.sheet.scan
-  pub unscanned : e.sheet.scans ≡ 0 → (behind_of tools).pen.sections ≡ []
+  pub callers : AllByRecursion (λ r. r.pass < passes_of t) (records_of (behind_lock tools).pen.history)
+  pub knows : (told : Told) → e.sheet.told ≡ Some told → (pass_in p ≡ pass_of_told told) × (records_of (behind_lock tools).pen.history ≡ told.records)
+  pub scanned : 1 ≤ e.sheet.scans → IsScanOf (behind_lock tools).pen.sections (passes_of t) e.sheet.scan
+  pub unscanned : e.sheet.scans ≡ 0 → (behind_lock tools).pen.sections ≡ []

@@ -3,11 +3,11 @@
 use Rattle.std.specs.Prelude.{◌≡◌, ℕ, ◌≤◌, All, List, length}
 use Rattle.mt_base.specs.declared.kinds.Kind.{Kind}
 use Rattle.mt_base.specs.Width.{kind_width}
-use Rattle.mt_rule.specs.Places.{size_of}
+use Rattle.mt_rule.specs.Places.{table_size}
 
 abbrev pub AreZero : List ℕ → Type 0
 AreZero words = All (λ word. word ≡ 0) words
 
 -- An empty tree of this kind, of so many rows, can be made over these words: they are as many as those of its table, or more.
 abbrev pub Serve : List ℕ → Kind → ℕ → Type 0
-Serve words kind rows = size_of (kind_width kind) rows ≤ length words
+Serve words kind rows = table_size (kind_width kind) rows ≤ length words

@@ -8,7 +8,7 @@ ghost use Rattle.mt_base.specs.Passes.{Wrote};
 ghost use Rattle.mt_engine.specs.Engine.{is_refusal};
 ghost use Rattle.mt_rule.specs.Seats.{records_of};
 ghost use Rattle.mt_rule.specs.Tokens.{pass_in, WasShown};
-ghost use Rattle.mt_tree.specs.Behind.{after_show, IsReady, IsRead, IsStored};
+ghost use Rattle.mt_tree.specs.Behind.{after_show, IsReady, IsOnlyRead, IsStoreReply};
 ghost use Rattle.mt_tree.specs.Trees.{opened, limit_of, map_seen, passes_of, place_of, IsPassOf, IsShortNow, IsWorn, NamesPass, Rests, WasAnsweredBy, WasPrepared};
 
 use crate::shapes::{Done, Read, Worn};
@@ -37,11 +37,11 @@ pub struct WriterState {
 }
 
 impl Model for WriterState {
-    ghost use Rattle.mt_tree.specs.Behind.{Behind, behind_of, IsAtRest};
+    ghost use Rattle.mt_tree.specs.Behind.{Behind, behind_lock, IsAtRest};
 
     ghost Value = { Behind };
 
-    ghost view = { λ s. behind_of s.tools };
+    ghost view = { λ s. behind_lock s.tools };
 
     ghost invariant = { λ s. IsAtRest s.tools };
 }
@@ -136,7 +136,7 @@ impl WriterState {
         ensures seen { (pass_in pass.new).seen ≡ records_of self.new.pen.history }
         ensures done { IfOk result (λ d. Wrote (opened tree.now) (pass_in pass.old) d.call (StorePre first last entry) d.reply (pass_in pass.new) × (d.call ≤ limit_of tree.now)) }
         ensures named { IfOk result (λ d. NamesPass tree.now d.reply) }
-        ensures stored { IfOk result (λ d. IsStored d.reply) }
+        ensures stored { IfOk result (λ d. IsStoreReply d.reply) }
         ensures worn { IfErr result (λ w. IsWorn tree.now (pass_in pass.old) w (pass_in pass.new) × (self.new ≡ after_show self.old)) }
         ensures kept { IfOk result (λ d. is_refusal d.reply ≡ true → self.new.parts.sheet.tree ≡ self.old.parts.sheet.tree) }
         ensures unscanned { self.new.pen.sections ≡ [] }
@@ -160,7 +160,7 @@ impl WriterState {
     pub(crate) fn ask(&mut self, tree: &Tree, pass: &mut Pass, query: &Query) -> Read<Option<Range>>
         requires table { self.old.table ≡ place_of tree.now }
         requires pass { IsPassOf tree.now pass.old }
-        ensures state { IsRead self.old self.new }
+        ensures state { IsOnlyRead self.old self.new }
         ensures of { IsPassOf tree.now pass.new }
         ensures rests { Rests pass.old pass.new }
         ensures seen { (pass_in pass.new).seen ≡ records_of self.new.pen.history }
@@ -200,7 +200,7 @@ impl WriterState {
     ) -> Result<Vec<Range>, NoMemory>
         requires table { self.old.table ≡ place_of tree.now }
         requires pass { IsPassOf tree.now pass.old }
-        ensures state { IsRead self.old self.new }
+        ensures state { IsOnlyRead self.old self.new }
         ensures of { IsPassOf tree.now pass.new }
         ensures rests { Rests pass.old pass.new }
         ensures seen { (pass_in pass.new).seen ≡ records_of self.new.pen.history }

@@ -16,7 +16,7 @@ ghost use Rattle.mt_check.specs.Check.{form_of};
 ghost use Rattle.mt_rule.specs.Seats.{records_of};
 ghost use Rattle.mt_rule.specs.Tokens.{pass_in};
 ghost use Rattle.mt_tree.specs.declared.shapes.Field.{Field};
-ghost use Rattle.mt_tree.specs.Behind.{behind_of, IsAtRest, IsRead};
+ghost use Rattle.mt_tree.specs.Behind.{behind_lock, IsAtRest, IsOnlyRead};
 ghost use Rattle.mt_tree.specs.Copies.{live_rows, AreWordsOf, IsCopyCounted, IsForRoom, IsFormOf, IsLiveCounted, IsReadyToOpen, IsRefusal, IsRowCount};
 ghost use Rattle.mt_tree.specs.Shapes.{first_bad};
 ghost use Rattle.mt_tree.specs.Trees.{opened, map_seen, place_of, IsPassOf, IsNew, IsOpen, Rests, TriesOnce, steps_made};
@@ -81,13 +81,13 @@ fn check_at_work<W: Writer, K: OfWidth>(
     requires counted { W.steps ≡ steps_made pass.old }
     requires wide { K.wide ≡ kind_width W.table.shape.kind }
     ensures rest { IsAtRest tools.new }
-    ensures read { IsRead (behind_of tools.old) (behind_of tools.new) }
+    ensures read { IsOnlyRead (behind_lock tools.old) (behind_lock tools.new) }
     ensures of { IsPassOf tree.now pass.new }
     ensures rests { Rests pass.old pass.new }
-    ensures seen { (pass_in pass.new).seen ≡ records_of (behind_of tools.new).pen.history }
+    ensures seen { (pass_in pass.new).seen ≡ records_of (behind_lock tools.new).pen.history }
     ensures saw { Saw (opened tree.now) (pass_in pass.old) (pass_in pass.new) }
-    ensures words { AreWordsOf (opened tree.now).kind (opened tree.now).rows (map_seen tree.now (pass_in pass.new)) (behind_of tools.old).parts.sheet.tree }
-    ensures form { result ≡ form_of (tree_as (opened tree.now).kind (behind_of tools.old).parts.sheet.tree) }
+    ensures words { AreWordsOf (opened tree.now).kind (opened tree.now).rows (map_seen tree.now (pass_in pass.new)) (behind_lock tools.old).parts.sheet.tree }
+    ensures form { result ≡ form_of (tree_as (opened tree.now).kind (behind_lock tools.old).parts.sheet.tree) }
 {
     let engine = begin::<W, K>(tools, tree, pass);
     let height = engine.height();
@@ -112,13 +112,13 @@ fn copy_at_work<W: Writer, K: OfWidth>(
     requires rows { sheet_in dst.old ≡ new_sheet (kind_width (opened tree.now).kind) own.old.rows }
     requires book { own.old ≡ new_book own.old.rows }
     ensures rest { IsAtRest tools.new }
-    ensures read { IsRead (behind_of tools.old) (behind_of tools.new) }
+    ensures read { IsOnlyRead (behind_lock tools.old) (behind_lock tools.new) }
     ensures of { IsPassOf tree.now pass.new }
     ensures rests { Rests pass.old pass.new }
-    ensures seen { (pass_in pass.new).seen ≡ records_of (behind_of tools.new).pen.history }
+    ensures seen { (pass_in pass.new).seen ≡ records_of (behind_lock tools.new).pen.history }
     ensures saw { Saw (opened tree.now) (pass_in pass.old) (pass_in pass.new) }
-    ensures words { AreWordsOf (opened tree.now).kind (opened tree.now).rows (map_seen tree.now (pass_in pass.new)) (behind_of tools.old).parts.sheet.tree }
-    ensures live { result ≡ live_rows (behind_of tools.old).parts.sheet.tree }
+    ensures words { AreWordsOf (opened tree.now).kind (opened tree.now).rows (map_seen tree.now (pass_in pass.new)) (behind_lock tools.old).parts.sheet.tree }
+    ensures live { result ≡ live_rows (behind_lock tools.old).parts.sheet.tree }
     ensures copy { result ≤ own.old.rows → IsReadyToOpen (opened tree.now).kind own.old.rows (map_seen tree.now (pass_in pass.new)) (sheet_in dst.new) own.new }
 {
     let engine = begin::<W, K>(tools, tree, pass);
@@ -210,7 +210,7 @@ impl WriterState {
     fn check(&mut self, tree: &Tree, pass: &mut Pass) -> Form
         requires table { self.old.table ≡ place_of tree.now }
         requires pass { IsPassOf tree.now pass.old }
-        ensures state { IsRead self.old self.new }
+        ensures state { IsOnlyRead self.old self.new }
         ensures of { IsPassOf tree.now pass.new }
         ensures rests { Rests pass.old pass.new }
         ensures seen { (pass_in pass.new).seen ≡ records_of self.new.pen.history }
@@ -227,7 +227,7 @@ impl WriterState {
         requires pass { IsPassOf tree.now pass.old }
         requires rows { sheet_in dst.old ≡ new_sheet (kind_width (opened tree.now).kind) own.old.rows }
         requires book { own.old ≡ new_book own.old.rows }
-        ensures state { IsRead self.old self.new }
+        ensures state { IsOnlyRead self.old self.new }
         ensures of { IsPassOf tree.now pass.new }
         ensures rests { Rests pass.old pass.new }
         ensures seen { (pass_in pass.new).seen ≡ records_of self.new.pen.history }
@@ -245,7 +245,7 @@ fn check_under(taken: &mut Taken<WriterState>, tree: &Tree, pass: &mut Pass) -> 
     requires { IsOpen tree.now pass.old taken.old.value taken.old.seat }
     ensures open { IsOpen tree.now pass.new taken.new.value taken.new.seat }
     ensures rests { Rests pass.old pass.new }
-    ensures behind { IsRead taken.old.value taken.new.value }
+    ensures behind { IsOnlyRead taken.old.value taken.new.value }
     ensures pass { pass_in pass.new ≡ pass_in pass.old }
     ensures words { AreWordsOf (opened tree.now).kind (opened tree.now).rows (map_seen tree.now (pass_in pass.new)) taken.old.value.parts.sheet.tree }
     ensures form { result ≡ form_of (tree_as (opened tree.now).kind taken.old.value.parts.sheet.tree) }
@@ -266,7 +266,7 @@ fn copy_under(
     requires book { own.old ≡ new_book own.old.rows }
     ensures open { IsOpen tree.now pass.new taken.new.value taken.new.seat }
     ensures rests { Rests pass.old pass.new }
-    ensures behind { IsRead taken.old.value taken.new.value }
+    ensures behind { IsOnlyRead taken.old.value taken.new.value }
     ensures pass { pass_in pass.new ≡ pass_in pass.old }
     ensures words { AreWordsOf (opened tree.now).kind (opened tree.now).rows (map_seen tree.now (pass_in pass.new)) taken.old.value.parts.sheet.tree }
     ensures live { result ≡ live_rows taken.old.value.parts.sheet.tree }
@@ -282,7 +282,7 @@ impl<'a> Locked<'a, Taken<WriterState>> {
         ensures tree { self.new.tree ≡ self.old.tree }
         ensures rests { Rests self.old.pass.now self.new.pass.now }
         ensures pass { pass_in self.new.pass.now ≡ pass_in self.old.pass.now }
-        ensures behind { IsRead self.old.taken.value self.new.taken.value }
+        ensures behind { IsOnlyRead self.old.taken.value self.new.taken.value }
         ensures words { AreWordsOf (opened self.old.tree.now).kind (opened self.old.tree.now).rows (map_seen self.old.tree.now (pass_in self.old.pass.now)) self.old.taken.value.parts.sheet.tree }
         ensures form { result ≡ form_of (tree_as (opened self.old.tree.now).kind self.old.taken.value.parts.sheet.tree) }
     {
@@ -297,7 +297,7 @@ impl<'a> Locked<'a, Taken<WriterState>> {
         ensures tree { self.new.tree ≡ self.old.tree }
         ensures rests { Rests self.old.pass.now self.new.pass.now }
         ensures pass { pass_in self.new.pass.now ≡ pass_in self.old.pass.now }
-        ensures behind { IsRead self.old.taken.value self.new.taken.value }
+        ensures behind { IsOnlyRead self.old.taken.value self.new.taken.value }
         ensures words { AreWordsOf (opened self.old.tree.now).kind (opened self.old.tree.now).rows (map_seen self.old.tree.now (pass_in self.old.pass.now)) self.old.taken.value.parts.sheet.tree }
         ensures live { result ≡ live_rows self.old.taken.value.parts.sheet.tree }
         ensures copy { result ≤ own.old.rows → IsReadyToOpen (opened self.old.tree.now).kind own.old.rows (map_seen self.old.tree.now (pass_in self.old.pass.now)) (sheet_in dst.new) own.new }
@@ -314,7 +314,7 @@ impl<'a> Locked<'a, Taken<WriterState>> {
         ensures tree { self.new.tree ≡ self.old.tree }
         ensures rests { Rests self.old.pass.now self.new.pass.now }
         ensures pass { pass_in self.new.pass.now ≡ pass_in self.old.pass.now }
-        ensures behind { IsRead self.old.taken.value self.new.taken.value }
+        ensures behind { IsOnlyRead self.old.taken.value self.new.taken.value }
         ensures counted { IsLiveCounted (live_rows self.old.taken.value.parts.sheet.tree) shape.rows result }
         ensures new { IfOk result (λ r. IsNew shape (map_seen self.old.tree.now (pass_in self.old.pass.now)) r.0 r.1.items) }
         ensures room { IfErr result IsForRoom }
@@ -339,7 +339,7 @@ impl<'a> Locked<'a, Taken<WriterState>> {
         ensures tree { self.new.tree ≡ self.old.tree }
         ensures rests { Rests self.old.pass.now self.new.pass.now }
         ensures pass { pass_in self.new.pass.now ≡ pass_in self.old.pass.now }
-        ensures behind { IsRead self.old.taken.value self.new.taken.value }
+        ensures behind { IsOnlyRead self.old.taken.value self.new.taken.value }
         ensures bad { (field : Field) → (result ≡ Err (DupError.BadShape field)) ↔ (first_bad shape ≡ Some field) }
         ensures invalid { (result ≡ Err DupError.Invalid) ↔ ((first_bad shape ≡ None) × (shape.kind ≢ (opened self.old.tree.now).kind)) }
         ensures counted { IsLiveCounted (live_rows self.old.taken.value.parts.sheet.tree) shape.rows result }

@@ -6,7 +6,7 @@ ghost use Rattle.mt_base.specs.Width.{kind_width};
 ghost use Rattle.mt_image.specs.Images.{IsImageOf, IsImageOfMap};
 ghost use Rattle.mt_rule.specs.Seats.{records_of};
 ghost use Rattle.mt_rule.specs.Tokens.{pass_in};
-ghost use Rattle.mt_tree.specs.Behind.{behind_of, IsAtRest, IsRead};
+ghost use Rattle.mt_tree.specs.Behind.{behind_lock, IsAtRest, IsOnlyRead};
 ghost use Rattle.mt_tree.specs.Copies.{AreWordsOf, IsImageIn};
 ghost use Rattle.mt_tree.specs.Trees.{opened, map_seen, place_of, IsPassOf, IsOpen, Rests, TriesOnce, steps_made};
 ghost use Rattle.mt_tree.specs.Works.{IsWorker};
@@ -35,13 +35,13 @@ fn image_at_work<W: Writer, K: OfWidth>(
     requires counted { W.steps ≡ steps_made pass.old }
     requires wide { K.wide ≡ kind_width W.table.shape.kind }
     ensures rest { IsAtRest tools.new }
-    ensures read { IsRead (behind_of tools.old) (behind_of tools.new) }
+    ensures read { IsOnlyRead (behind_lock tools.old) (behind_lock tools.new) }
     ensures of { IsPassOf tree.now pass.new }
     ensures rests { Rests pass.old pass.new }
-    ensures seen { (pass_in pass.new).seen ≡ records_of (behind_of tools.new).pen.history }
+    ensures seen { (pass_in pass.new).seen ≡ records_of (behind_lock tools.new).pen.history }
     ensures saw { Saw (opened tree.now) (pass_in pass.old) (pass_in pass.new) }
-    ensures words { AreWordsOf (opened tree.now).kind (opened tree.now).rows (map_seen tree.now (pass_in pass.new)) (behind_of tools.old).parts.sheet.tree }
-    ensures image { IfOk result (λ bytes. IsImageOf (opened tree.now).kind (behind_of tools.old).parts.sheet.tree bytes.items) }
+    ensures words { AreWordsOf (opened tree.now).kind (opened tree.now).rows (map_seen tree.now (pass_in pass.new)) (behind_lock tools.old).parts.sheet.tree }
+    ensures image { IfOk result (λ bytes. IsImageOf (opened tree.now).kind (behind_lock tools.old).parts.sheet.tree bytes.items) }
 {
     let engine = begin::<W, K>(tools, tree, pass);
     let height = engine.height();
@@ -57,7 +57,7 @@ impl WriterState {
     fn image(&mut self, tree: &Tree, pass: &mut Pass, alloc: Global) -> Result<Vec<u8>, NoMemory>
         requires table { self.old.table ≡ place_of tree.now }
         requires pass { IsPassOf tree.now pass.old }
-        ensures state { IsRead self.old self.new }
+        ensures state { IsOnlyRead self.old self.new }
         ensures of { IsPassOf tree.now pass.new }
         ensures rests { Rests pass.old pass.new }
         ensures seen { (pass_in pass.new).seen ≡ records_of self.new.pen.history }
@@ -79,7 +79,7 @@ fn image_under(
     requires { IsOpen tree.now pass.old taken.old.value taken.old.seat }
     ensures open { IsOpen tree.now pass.new taken.new.value taken.new.seat }
     ensures rests { Rests pass.old pass.new }
-    ensures behind { IsRead taken.old.value taken.new.value }
+    ensures behind { IsOnlyRead taken.old.value taken.new.value }
     ensures pass { pass_in pass.new ≡ pass_in pass.old }
     ensures words { AreWordsOf (opened tree.now).kind (opened tree.now).rows (map_seen tree.now (pass_in pass.new)) taken.old.value.parts.sheet.tree }
     ensures image { IfOk result (λ bytes. IsImageOf (opened tree.now).kind taken.old.value.parts.sheet.tree bytes.items) }
@@ -98,7 +98,7 @@ impl<'a> Locked<'a, Taken<WriterState>> {
         ensures tree { self.new.tree ≡ self.old.tree }
         ensures rests { Rests self.old.pass.now self.new.pass.now }
         ensures pass { pass_in self.new.pass.now ≡ pass_in self.old.pass.now }
-        ensures behind { IsRead self.old.taken.value self.new.taken.value }
+        ensures behind { IsOnlyRead self.old.taken.value self.new.taken.value }
         ensures words { AreWordsOf (opened self.old.tree.now).kind (opened self.old.tree.now).rows (map_seen self.old.tree.now (pass_in self.old.pass.now)) self.old.taken.value.parts.sheet.tree }
         ensures image { IfOk result (λ bytes. IsImageOf (opened self.old.tree.now).kind self.old.taken.value.parts.sheet.tree bytes.items) }
     {

@@ -45,7 +45,7 @@ mod zeros;
 
 pub use behind::WriterState;
 pub use cursors::Cursor;
-pub use locked::{Held, Locked, Write};
+pub use locked::{HoldsLock, Locked, Write};
 pub use mt_base::{Call, Holder, Kind, MOST_ROWS, NoMemory, Query, Range, Reply, Shortage, Steps};
 pub use mt_check::Form;
 pub use mt_read::{Cursor as Walk, Moved};

@@ -9,7 +9,7 @@ ghost use Rattle.mt_base.specs.Passes.{Saw, Wrote};
 ghost use Rattle.mt_engine.specs.Engine.{is_refusal};
 ghost use Rattle.mt_rule.specs.declared.views.TurnView.{TurnView};
 ghost use Rattle.mt_rule.specs.Tokens.{pass_in};
-ghost use Rattle.mt_tree.specs.Behind.{Behind, after_show, IsReady, IsRead, IsStored};
+ghost use Rattle.mt_tree.specs.Behind.{Behind, after_show, IsReady, IsOnlyRead, IsStoreReply};
 ghost use Rattle.mt_tree.specs.Trees.{opened, limit_of, map_seen, passes_of, IsPassOf, IsOpen, IsShortNow, IsWorn, NamesPass, Rests, TriesOnce, WasAnsweredBy, WasPrepared};
 
 use crate::behind::WriterState;
@@ -21,7 +21,7 @@ use std::alloc::Global;
 use std::sync::Wait;
 
 /// What is held while a tree is locked.
-pub trait Held {
+pub trait HoldsLock {
     /// What lies behind the lock.
     ghost behind: { Self → Behind };
 
@@ -29,14 +29,14 @@ pub trait Held {
     ghost seat: { Self → Seat (Option Behind) TurnView };
 }
 
-impl Held for Taken<WriterState> {
+impl HoldsLock for Taken<WriterState> {
     ghost behind = { λ taken. taken.value };
 
     ghost seat = { λ taken. taken.seat };
 }
 
 /// A tree that is locked by a pass, which has seen the whole history.
-pub struct Locked<'a, K: Held> {
+pub struct Locked<'a, K: HoldsLock> {
     pub(crate) tree: &'a Tree,
     pub(crate) pass: &'a mut Pass,
     pub(crate) taken: K,
@@ -102,7 +102,7 @@ fn store_under(
     ensures rests { Rests pass.old pass.new }
     ensures done { IfOk result (λ d. Wrote (opened tree.now) (pass_in pass.old) d.call (StorePre first last entry) d.reply (pass_in pass.new) × (d.call ≤ limit_of tree.now)) }
     ensures named { IfOk result (λ d. NamesPass tree.now d.reply) }
-    ensures stored { IfOk result (λ d. IsStored d.reply) }
+    ensures stored { IfOk result (λ d. IsStoreReply d.reply) }
     ensures worn { IfErr result (λ w. IsWorn tree.now (pass_in pass.old) w (pass_in pass.new) × (taken.new.value ≡ after_show taken.old.value)) }
     ensures kept { IfOk result (λ d. is_refusal d.reply ≡ true → taken.new.value.parts.sheet.tree ≡ taken.old.value.parts.sheet.tree) }
     ensures unscanned { taken.new.value.pen.sections ≡ [] }
@@ -119,7 +119,7 @@ fn ask_under(
     requires { IsOpen tree.now pass.old taken.old.value taken.old.seat }
     ensures open { IsOpen tree.now pass.new taken.new.value taken.new.seat }
     ensures rests { Rests pass.old pass.new }
-    ensures behind { IsRead taken.old.value taken.new.value }
+    ensures behind { IsOnlyRead taken.old.value taken.new.value }
     ensures pass { pass_in pass.new ≡ pass_in pass.old }
     ensures window { (result.lo ≡ length (pass_in pass.old).seen) × (result.hi ≡ result.lo) }
     ensures read { known.Read (opened tree.now) (pass_in pass.old) result.lo result.hi result.lo query.now result.value (pass_in pass.new) }
@@ -152,7 +152,7 @@ fn list_under(
     requires { IsOpen tree.now pass.old taken.old.value taken.old.seat }
     ensures open { IsOpen tree.now pass.new taken.new.value taken.new.seat }
     ensures rests { Rests pass.old pass.new }
-    ensures behind { IsRead taken.old.value taken.new.value }
+    ensures behind { IsOnlyRead taken.old.value taken.new.value }
     ensures pass { pass_in pass.new ≡ pass_in pass.old }
     ensures items { IfOk result (λ ranges. ranges.items ≡ map_seen tree.now (pass_in pass.new)) }
 {
@@ -184,7 +184,7 @@ impl<'a> Locked<'a, Taken<WriterState>> {
         ensures same_reference { self.new.pass.ghost_name ≡ self.old.pass.ghost_name }
         ensures tree { self.new.tree ≡ self.old.tree }
         ensures rests { Rests self.old.pass.now self.new.pass.now }
-        ensures behind { IsRead self.old.taken.value self.new.taken.value }
+        ensures behind { IsOnlyRead self.old.taken.value self.new.taken.value }
         ensures pass { pass_in self.new.pass.now ≡ pass_in self.old.pass.now }
         ensures window { (result.lo ≡ length (pass_in self.old.pass.now).seen) × (result.hi ≡ result.lo) }
         ensures read { known.Read (opened self.old.tree.now) (pass_in self.old.pass.now) result.lo result.hi result.lo query.now result.value (pass_in self.new.pass.now) }
@@ -222,7 +222,7 @@ impl<'a> Locked<'a, Taken<WriterState>> {
         ensures rests { Rests self.old.pass.now self.new.pass.now }
         ensures done { IfOk result (λ d. Wrote (opened self.old.tree.now) (pass_in self.old.pass.now) d.call (StorePre first last entry) d.reply (pass_in self.new.pass.now) × (d.call ≤ limit_of self.old.tree.now)) }
         ensures named { IfOk result (λ d. NamesPass self.old.tree.now d.reply) }
-        ensures stored { IfOk result (λ d. IsStored d.reply) }
+        ensures stored { IfOk result (λ d. IsStoreReply d.reply) }
         ensures worn { IfErr result (λ w. IsWorn self.old.tree.now (pass_in self.old.pass.now) w (pass_in self.new.pass.now) × (self.new.taken.value ≡ after_show self.old.taken.value)) }
         ensures kept { IfOk result (λ d. is_refusal d.reply ≡ true → self.new.taken.value.parts.sheet.tree ≡ self.old.taken.value.parts.sheet.tree) }
         ensures unscanned { self.new.taken.value.pen.sections ≡ [] }
@@ -236,7 +236,7 @@ impl<'a> Locked<'a, Taken<WriterState>> {
         ensures tree { self.new.tree ≡ self.old.tree }
         ensures rests { Rests self.old.pass.now self.new.pass.now }
         ensures pass { pass_in self.new.pass.now ≡ pass_in self.old.pass.now }
-        ensures behind { IsRead self.old.taken.value self.new.taken.value }
+        ensures behind { IsOnlyRead self.old.taken.value self.new.taken.value }
         ensures items { IfOk result (λ ranges. ranges.items ≡ map_seen self.old.tree.now (pass_in self.old.pass.now)) }
     {
         list_under(&mut self.taken, self.tree, self.pass, alloc)

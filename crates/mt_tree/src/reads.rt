@@ -13,7 +13,7 @@ ghost use Rattle.mt_tree.specs.Trees.{opened, IsPassOf, Takes};
 use crate::shapes::Read;
 use crate::trees::Tree;
 use mt_base::{Range, Steps};
-use mt_read::{Answer, Moved};
+use mt_read::{Moved, ReadAnswer};
 use mt_rule::Pass;
 use std::sync::ledger::Ledger;
 
@@ -34,7 +34,7 @@ impl Tree {
         ensures takes { Takes 170 pass.old pass.new }
         ensures steps { steps.new ≤ steps.old + 170 }
     {
-        let Answer { lo, hi, value } = mt_read::load_range(&self.table, pass, index, steps);
+        let ReadAnswer { lo, hi, value } = mt_read::load_range(&self.table, pass, index, steps);
         Read { lo, hi, value }
     }
 
@@ -53,7 +53,7 @@ impl Tree {
         ensures takes { Takes 170 pass.old pass.new }
         ensures steps { steps.new ≤ steps.old + 170 }
     {
-        let Answer { lo, hi, value } = mt_read::load(&self.table, pass, index, steps);
+        let ReadAnswer { lo, hi, value } = mt_read::load(&self.table, pass, index, steps);
         Read { lo, hi, value }
     }
 
@@ -74,7 +74,7 @@ impl Tree {
         ensures takes { Takes 175 pass.old pass.new }
         ensures steps { steps.new ≤ steps.old + 175 }
     {
-        let Answer { lo, hi, value } = mt_read::find(&self.table, pass, index, max, steps);
+        let ReadAnswer { lo, hi, value } = mt_read::find(&self.table, pass, index, max, steps);
         Read { lo, hi, value }
     }
 
@@ -103,7 +103,7 @@ impl Tree {
         ensures takes { Takes 360 pass.old pass.new }
         ensures steps { steps.new ≤ steps.old + 360 }
     {
-        let Answer { lo, hi, value } = mt_read::next(&self.table, pass, index, max, steps)?;
+        let ReadAnswer { lo, hi, value } = mt_read::next(&self.table, pass, index, max, steps)?;
         Ok(Read { lo, hi, value })
     }
 
@@ -132,7 +132,7 @@ impl Tree {
         ensures takes { Takes 360 pass.old pass.new }
         ensures steps { steps.new ≤ steps.old + 360 }
     {
-        let Answer { lo, hi, value } = mt_read::prev(&self.table, pass, index, min, steps)?;
+        let ReadAnswer { lo, hi, value } = mt_read::prev(&self.table, pass, index, min, steps)?;
         Ok(Read { lo, hi, value })
     }
 
@@ -161,7 +161,7 @@ impl Tree {
         ensures takes { Takes 360 pass.old pass.new }
         ensures steps { steps.new ≤ steps.old + 360 }
     {
-        let Answer { lo, hi, value } = mt_read::rfind(&self.table, pass, index, min, steps)?;
+        let ReadAnswer { lo, hi, value } = mt_read::rfind(&self.table, pass, index, min, steps)?;
         Ok(Read { lo, hi, value })
     }
 }

@@ -9,7 +9,7 @@ ghost use Rattle.mt_engine.specs.Engine.{is_refusal, IsApplied};
 ghost use Rattle.mt_rule.specs.Seats.{records_of};
 ghost use Rattle.mt_rule.specs.Tokens.{pass_in, turn_seat, WasShown};
 ghost use Rattle.mt_pen.specs.Sheets.{sheet_told};
-ghost use Rattle.mt_tree.specs.Behind.{behind_of, IsAtRest, IsReady, IsRead, IsStored};
+ghost use Rattle.mt_tree.specs.Behind.{behind_lock, IsAtRest, IsReady, IsOnlyRead, IsStoreReply};
 ghost use Rattle.mt_tree.specs.Trees.{opened, limit_of, map_seen, passes_of, place_of, IsPassOf, IsShortNow, NamesPass, Rests, WasAnsweredBy, WasPrepared, steps_made};
 ghost use Rattle.mt_tree.specs.Works.{AreBack, IsSeatOf, IsWorker, records_told, shown_pass};
 
@@ -45,10 +45,10 @@ pub(crate) fn begin<'a, W: Writer, K: OfWidth>(
     requires counted { W.steps ≡ steps_made pass.old }
     requires wide { K.wide ≡ kind_width W.table.shape.kind }
     ensures away { tools.new ≡ None }
-    ensures kind { result.kind ≡ (behind_of tools.old).parts.kind }
-    ensures book { result.book ≡ (behind_of tools.old).parts.book }
-    ensures sheet { result.sheet ≡ sheet_told W.table (behind_of tools.old).pen (shown_pass (behind_of tools.old).pen (pass_in pass.old)) }
-    ensures shown { WasShown (opened tree.now) (behind_of tools.old).pen (pass_in pass.old) (shown_pass (behind_of tools.old).pen (pass_in pass.old)) }
+    ensures kind { result.kind ≡ (behind_lock tools.old).parts.kind }
+    ensures book { result.book ≡ (behind_lock tools.old).parts.book }
+    ensures sheet { result.sheet ≡ sheet_told W.table (behind_lock tools.old).pen (shown_pass (behind_lock tools.old).pen (pass_in pass.old)) }
+    ensures shown { WasShown (opened tree.now) (behind_lock tools.old).pen (pass_in pass.old) (shown_pass (behind_lock tools.old).pen (pass_in pass.old)) }
 {
     let Some(Tools { pen, book, height }) = tools.take() else {
         unreachable!()
@@ -100,17 +100,17 @@ pub(crate) fn act<W: Writer, K: OfWidth>(
     requires worker { IsWorker tree.now tools.old pass.old W.table W.turn }
     requires counted { W.steps ≡ steps_made pass.old }
     requires wide { K.wide ≡ kind_width W.table.shape.kind }
-    requires room { length (behind_of tools.old).pen.history < limit_of tree.now }
+    requires room { length (behind_lock tools.old).pen.history < limit_of tree.now }
     ensures rest { IsAtRest tools.new }
-    ensures table { (behind_of tools.new).table ≡ place_of tree.now }
+    ensures table { (behind_lock tools.new).table ≡ place_of tree.now }
     ensures of { IsPassOf tree.now pass.new }
     ensures rests { Rests pass.old pass.new }
-    ensures seen { (pass_in pass.new).seen ≡ records_of (behind_of tools.new).pen.history }
-    ensures wrote { known.Wrote (opened tree.now) (pass_in pass.old) (length (behind_of tools.old).pen.history + 1) call.now result (pass_in pass.new) }
+    ensures seen { (pass_in pass.new).seen ≡ records_of (behind_lock tools.new).pen.history }
+    ensures wrote { known.Wrote (opened tree.now) (pass_in pass.old) (length (behind_lock tools.old).pen.history + 1) call.now result (pass_in pass.new) }
     ensures callers { AllByRecursion (λ r. r.pass < passes_of tree.now) (pass_in pass.new).seen }
     ensures named { NamesPass tree.now result }
-    ensures kept { is_refusal result ≡ true → (behind_of tools.new).parts.sheet.tree ≡ (behind_of tools.old).parts.sheet.tree }
-    ensures answered { WasAnsweredBy tree.now (pass_in pass.new) (behind_of tools.old) (behind_of tools.new) call.now (record { call = length (behind_of tools.old).pen.history + 1; reply = result }) }
+    ensures kept { is_refusal result ≡ true → (behind_lock tools.new).parts.sheet.tree ≡ (behind_lock tools.old).parts.sheet.tree }
+    ensures answered { WasAnsweredBy tree.now (pass_in pass.new) (behind_lock tools.old) (behind_lock tools.new) call.now (record { call = length (behind_lock tools.old).pen.history + 1; reply = result }) }
 {
     let engine = begin::<W, K>(tools, tree, pass);
     let (engine, reply) = applied(engine, call);
@@ -130,18 +130,18 @@ pub(crate) fn store_prealloc<W: Writer, K: OfWidth>(
     requires worker { IsWorker tree.now tools.old pass.old W.table W.turn }
     requires counted { W.steps ≡ steps_made pass.old }
     requires wide { K.wide ≡ kind_width W.table.shape.kind }
-    requires room { length (behind_of tools.old).pen.history < limit_of tree.now }
-    requires ready { IsReady (behind_of tools.old).parts }
+    requires room { length (behind_lock tools.old).pen.history < limit_of tree.now }
+    requires ready { IsReady (behind_lock tools.old).parts }
     ensures rest { IsAtRest tools.new }
-    ensures table { (behind_of tools.new).table ≡ place_of tree.now }
+    ensures table { (behind_lock tools.new).table ≡ place_of tree.now }
     ensures of { IsPassOf tree.now pass.new }
     ensures rests { Rests pass.old pass.new }
-    ensures seen { (pass_in pass.new).seen ≡ records_of (behind_of tools.new).pen.history }
-    ensures wrote { known.Wrote (opened tree.now) (pass_in pass.old) (length (behind_of tools.old).pen.history + 1) (StorePre first last entry) result (pass_in pass.new) }
+    ensures seen { (pass_in pass.new).seen ≡ records_of (behind_lock tools.new).pen.history }
+    ensures wrote { known.Wrote (opened tree.now) (pass_in pass.old) (length (behind_lock tools.old).pen.history + 1) (StorePre first last entry) result (pass_in pass.new) }
     ensures named { NamesPass tree.now result }
-    ensures stored { IsStored result }
-    ensures kept { is_refusal result ≡ true → (behind_of tools.new).parts.sheet.tree ≡ (behind_of tools.old).parts.sheet.tree }
-    ensures unscanned { (behind_of tools.new).pen.sections ≡ [] }
+    ensures stored { IsStoreReply result }
+    ensures kept { is_refusal result ≡ true → (behind_lock tools.new).parts.sheet.tree ≡ (behind_lock tools.old).parts.sheet.tree }
+    ensures unscanned { (behind_lock tools.new).pen.sections ≡ [] }
 {
     let mut engine = begin::<W, K>(tools, tree, pass);
     let reply = engine.store_prealloc(first, last, entry);
@@ -160,12 +160,12 @@ pub(crate) fn ask<W: Writer, K: OfWidth>(
     requires counted { W.steps ≡ steps_made pass.old }
     requires wide { K.wide ≡ kind_width W.table.shape.kind }
     ensures rest { IsAtRest tools.new }
-    ensures read { IsRead (behind_of tools.old) (behind_of tools.new) }
+    ensures read { IsOnlyRead (behind_lock tools.old) (behind_lock tools.new) }
     ensures of { IsPassOf tree.now pass.new }
     ensures rests { Rests pass.old pass.new }
-    ensures seen { (pass_in pass.new).seen ≡ records_of (behind_of tools.new).pen.history }
+    ensures seen { (pass_in pass.new).seen ≡ records_of (behind_lock tools.new).pen.history }
     ensures saw { known.Saw (opened tree.now) (pass_in pass.old) (pass_in pass.new) }
-    ensures asked { known.Read (opened tree.now) (pass_in pass.old) (length (behind_of tools.old).pen.history) (length (behind_of tools.old).pen.history) (length (behind_of tools.old).pen.history) query.now result (pass_in pass.new) }
+    ensures asked { known.Read (opened tree.now) (pass_in pass.old) (length (behind_lock tools.old).pen.history) (length (behind_lock tools.old).pen.history) (length (behind_lock tools.old).pen.history) query.now result (pass_in pass.new) }
 {
     let mut engine = begin::<W, K>(tools, tree, pass);
     let range = engine.ask(query);
@@ -183,13 +183,13 @@ pub(crate) fn preallocate<W: Writer, K: OfWidth>(
     requires counted { W.steps ≡ steps_made pass.old }
     requires wide { K.wide ≡ kind_width W.table.shape.kind }
     ensures rest { IsAtRest tools.new }
-    ensures prepared { WasPrepared tree.now (behind_of tools.old) (behind_of tools.new) }
+    ensures prepared { WasPrepared tree.now (behind_lock tools.old) (behind_lock tools.new) }
     ensures of { IsPassOf tree.now pass.new }
     ensures rests { Rests pass.old pass.new }
-    ensures seen { (pass_in pass.new).seen ≡ records_of (behind_of tools.new).pen.history }
+    ensures seen { (pass_in pass.new).seen ≡ records_of (behind_lock tools.new).pen.history }
     ensures saw { known.Saw (opened tree.now) (pass_in pass.old) (pass_in pass.new) }
-    ensures ready { IsOk result ↔ IsReady (behind_of tools.new).parts }
-    ensures short { IfErr result (λ shortage. IsShortNow tree.now (pass_in pass.new) (behind_of tools.old) (behind_of tools.new) shortage) }
+    ensures ready { IsOk result ↔ IsReady (behind_lock tools.new).parts }
+    ensures short { IfErr result (λ shortage. IsShortNow tree.now (pass_in pass.new) (behind_lock tools.old) (behind_lock tools.new) shortage) }
 {
     let mut engine = begin::<W, K>(tools, tree, pass);
     let made = engine.preallocate();
@@ -208,10 +208,10 @@ pub(crate) fn list<W: Writer, K: OfWidth>(
     requires counted { W.steps ≡ steps_made pass.old }
     requires wide { K.wide ≡ kind_width W.table.shape.kind }
     ensures rest { IsAtRest tools.new }
-    ensures read { IsRead (behind_of tools.old) (behind_of tools.new) }
+    ensures read { IsOnlyRead (behind_lock tools.old) (behind_lock tools.new) }
     ensures of { IsPassOf tree.now pass.new }
     ensures rests { Rests pass.old pass.new }
-    ensures seen { (pass_in pass.new).seen ≡ records_of (behind_of tools.new).pen.history }
+    ensures seen { (pass_in pass.new).seen ≡ records_of (behind_lock tools.new).pen.history }
     ensures saw { known.Saw (opened tree.now) (pass_in pass.old) (pass_in pass.new) }
     ensures items { IfOk result (λ ranges. ranges.items ≡ map_seen tree.now (pass_in pass.new)) }
 {

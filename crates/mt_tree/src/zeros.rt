@@ -3,7 +3,7 @@
 ghost use Rattle.std.specs.Prelude.{◌≡◌, ◌≤◌, All, IfOk, map};
 ghost use Rattle.mt_base.specs.Width.{columns, kind_width, most_rows};
 ghost use Rattle.mt_rows.specs.Plain.{new_sheet};
-ghost use Rattle.mt_rule.specs.Places.{AreOpening, size_of};
+ghost use Rattle.mt_rule.specs.Places.{AreOpening, table_size};
 ghost use Rattle.mt_tree.specs.Zeros.{AreZero, Serve};
 
 use mt_base::{FIRST_ROW, Kind, NoMemory, Width, cols, width_of};
@@ -40,7 +40,7 @@ fn widest(kinds: &[Kind]) -> Width
 /// So many words of rows of this width, with those before the first row.
 fn size_of(width: Width, rows: u64) -> usize
     requires { rows ≤ most_rows }
-    ensures { result ≡ size_of width rows }
+    ensures { result ≡ table_size width rows }
 {
     cols(width) as usize * (FIRST_ROW as usize + rows as usize)
 }

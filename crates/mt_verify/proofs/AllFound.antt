@@ -28,12 +28,12 @@ use Rattle.mt_told.specs.declared.told.What.{What}
 use Rattle.mt_told.specs.declared.told.What.TheVariants.{Wrote, Got, Copied, Lawful}
 use Rattle.mt_told.specs.Telling.{IsToldBy}
 use Rattle.mt_verify.specs.AllGone.{HaveGoneTo, OpensGone, listings_by}
-use Rattle.mt_verify.specs.ToldReads.{calls_told as calls_lower, is_got as is_look, numbers_behind, reads_count, reads_told, own_points}
+use Rattle.mt_verify.specs.ToldReads.{calls_of_phases_before as calls_lower, is_got as is_look, numbers_behind, reads_count, reads_told, own_points}
 use Rattle.mt_verify.specs.Going.{Lane}
-use Rattle.mt_verify.specs.GoneTrees.{GoneTree, HasGone, map_of}
+use Rattle.mt_verify.specs.GoneTrees.{GoneTree, HasGone, gone_map}
 use Rattle.mt_verify.specs.Heard.{IsReader, is_got, reads_by}
 use Rattle.mt_verify.specs.Hearing.{AreNotedOf, IsHeardOf, IsNotedOf}
-use Rattle.mt_verify.specs.Histories.{AreRecordsOf, IsRecordOf, IsReplyOf, is_nomem, map_after, record_of, records_of}
+use Rattle.mt_verify.specs.Histories.{AreRecordsOf, IsRecordOf, IsReplyOf, is_nomem, map_after_noted, record_noted, records_noted}
 use Rattle.mt_verify.specs.Looks.{AreLeastOf}
 use Rattle.mt_verify.specs.OwnLines.{calls_below, line_on, lines_on, looks_by_lane, stop_at, stops_told}
 use Rattle.mt_verify.specs.PrintedOrder.{EndsInTree, InPrintedOrder}
@@ -76,11 +76,11 @@ from_mapped f (x ∷ xs) (suc i) y is = from_mapped f xs i y is
 
 -- ---- the trees at the end
 
-as_many_records : (kind : Kind) (m : List Range) (noted : List Noted) → length (records_of kind m noted) ≡ length noted
+as_many_records : (kind : Kind) (m : List Range) (noted : List Noted) → length (records_noted kind m noted) ≡ length noted
 as_many_records kind m [] = refl
-as_many_records kind m (n ∷ noted) = ap suc (as_many_records kind (map_after kind m n) noted)
+as_many_records kind m (n ∷ noted) = ap suc (as_many_records kind (map_after_noted kind m n) noted)
 
-last_is : (rows : ℕ) (g : GoneTree) → last_map (history_by rows g) ≡ map_of g (length g.noted)
+last_is : (rows : ℕ) (g : GoneTree) → last_map (history_by rows g) ≡ gone_map g (length g.noted)
 last_is rows g =
     let whole : histories.until (history_by rows g) (length g.noted) ≡ history_by rows g =
     λ i. record (history_by rows g) { records = take_all (length g.noted) (history_by rows g).records (omega (arith, as_many_records g.kind g.opening g.noted)) i } in
@@ -118,14 +118,14 @@ calls_recorded h tree (t ∷ told) =
     by_what (Lawful count) rest = rest
 
 records_numbered : (told : List Told) (tree : ℕ) (h : History) (n : ℕ) (kind : Kind) (m : List Range) (calls : List Numbered) (noted : List Noted) → AreNotedOf told tree calls noted
-    → ((i : ℕ) (r : Record) → slice_get (records_of kind m noted) i ≡ Some r → reply_in h (n + i) ≡ r.reply) → map (recorded h) (enumerate_from n calls) ≡ enumerate_from n (records_of kind m noted)
+    → ((i : ℕ) (r : Record) → slice_get (records_noted kind m noted) i ≡ Some r → reply_in h (n + i) ≡ r.reply) → map (recorded h) (enumerate_from n calls) ≡ enumerate_from n (records_noted kind m noted)
 records_numbered told tree h n kind m [] [] are replied = refl
 records_numbered told tree h n kind m [] (x ∷ noted) are replied = absurd are
 records_numbered told tree h n kind m (c ∷ calls) [] are replied = absurd are
 records_numbered told tree h n kind m (c ∷ calls) (x ∷ noted) are replied =
     let start : n ≡ n + 0 = omega arith in
-    let first : reply_in h n ≡ (record_of kind m x).reply = ap (reply_in h) start ∙ replied 0 (record_of kind m x) refl in
-    let rest = records_numbered told tree h (n + 1) kind (map_after kind m x) calls noted are.1 (λ i r is.
+    let first : reply_in h n ≡ (record_noted kind m x).reply = ap (reply_in h) start ∙ replied 0 (record_noted kind m x) refl in
+    let rest = records_numbered told tree h (n + 1) kind (map_after_noted kind m x) calls noted are.1 (λ i r is.
     (let next : n + 1 + i ≡ n + suc i = omega arith in
     ap (reply_in h) next ∙ replied (suc i) r is)) in
     λ i. (n, record { pass = sym are.0.lane i; call = sym are.0.call_is i; reply = first i }) ∷ rest i
@@ -186,7 +186,7 @@ module _ (version rows : ℕ) (told : List Told) (tree : ℕ) (g : GoneTree) (ha
   abbrev own : History
   own = history_by rows g
 
-  own_maps : map_at own ≡ map_of g
+  own_maps : map_at own ≡ gone_map g
   own_maps = λ i k. maps_are g.kind rows g.opening g.noted k i
 
   own_once : IsPermutation (enumerate_from 1 own.records) (filter_map (numbered_in own tree) told)
@@ -213,15 +213,15 @@ module _ (version rows : ℕ) (told : List Told) (tree : ℕ) (g : GoneTree) (ha
       own_reply (number, record { lane = t.lane; phase = t.phase; call = call; reply = reply }) (kept_in (numbered_on_told tree) told place t (number, record { lane = t.lane; phase = t.phase; call = call; reply = reply }) is kept)
 
   -- the stop of a line
-  line_stop : (place : ℕ) (t : Told) (s : Stop) → slice_get told place ≡ Some t → t.tree ≡ tree → stop_at (calls_below (lines_on tree told) t.phase) t.what ≡ Some s → decimal (length (map_of g s.at)) ≡ s.count.now
+  line_stop : (place : ℕ) (t : Told) (s : Stop) → slice_get told place ≡ Some t → t.tree ≡ tree → stop_at (calls_below (lines_on tree told) t.phase) t.what ≡ Some s → decimal (length (gone_map g s.at)) ≡ s.count.now
   line_stop place t s is on of =
       let kept : line_on tree t ≡ Some t = rw (eq-eqb t.tree tree on) refl in
       let line = contained (lines_on tree told) t (kept_in (line_on tree) told place t t is kept) in
       let stop = contained (stops_told (lines_on tree told)) s (kept_in (λ (u : Told). stop_at (calls_below (lines_on tree told) u.phase) u.what) (lines_on tree told) line.place t s line.is of) in
       has.counted stop.place s (slice_get_within (stops_told (lines_on tree told)) stop.place s stop.is) stop.is
 
-  counted_so : (t : Told) → decimal (length (map_of g (calls_below (lines_on tree told) t.phase))) ≡ decimal (length (map_at own (calls_lower told tree t.phase)))
-  counted_so t = ap (λ (m : List Range). decimal (length m)) (ap (map_of g) (below_is tree t.phase told) ∙ sym (maps_are g.kind rows g.opening g.noted (calls_lower told tree t.phase)))
+  counted_so : (t : Told) → decimal (length (gone_map g (calls_below (lines_on tree told) t.phase))) ≡ decimal (length (map_at own (calls_lower told tree t.phase)))
+  counted_so t = ap (λ (m : List Range). decimal (length m)) (ap (gone_map g) (below_is tree t.phase told) ∙ sym (maps_are g.kind rows g.opening g.noted (calls_lower told tree t.phase)))
 
   line_right : (place : ℕ) (t : Told) (w : What) → slice_get told place ≡ Some t → t.tree ≡ tree → t.what ≡ w → IsRightCall version own (calls_lower told tree t.phase) w
   line_right place t (Wrote number call reply) is on what =
@@ -262,8 +262,8 @@ module _ (version rows : ℕ) (told : List Told) (tree : ℕ) (g : GoneTree) (ha
   own_least : (lane : ℕ) (l : Lane) (points : List ℕ) → slice_get g.lanes lane ≡ Some l → own_points tree lane told points ≡ l.points → AreLeastOf (map_at own) (own_looks tree lane told points) (own_points tree lane told points)
   own_least lane l points is same =
       subst (λ (m : ℕ → List Range). AreLeastOf m (own_looks tree lane told points) (own_points tree lane told points)) (sym own_maps)
-      (subst (λ (k : List ℕ). AreLeastOf (map_of g) (own_looks tree lane told points) k) (sym same)
-      (subst (λ (x : List Look). AreLeastOf (map_of g) x l.points) (sym (looks_are lane l points is)) (has.least lane l is)))
+      (subst (λ (k : List ℕ). AreLeastOf (gone_map g) (own_looks tree lane told points) k) (sym same)
+      (subst (λ (x : List Look). AreLeastOf (gone_map g) x l.points) (sym (looks_are lane l points is)) (has.least lane l is)))
 
   own_within : (lane : ℕ) (l : Lane) (points : List ℕ) → slice_get g.lanes lane ≡ Some l → All (EndsInTree told) told → All (λ (x : Look). x.hi ≤ length own.records) (own_looks tree lane told points)
   own_within lane l points is ends = all_by (λ (x : Look). x.hi ≤ length own.records) (own_looks tree lane told points) (λ i x at.

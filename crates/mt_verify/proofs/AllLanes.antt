@@ -14,7 +14,7 @@ use Rattle.mt_verify.specs.declared.looks.Look.{Look}
 use Rattle.mt_verify.specs.Choices.{AreFirst}
 use Rattle.mt_verify.specs.LaneReads.{look_of, by_lane, looks_on, points_on, LanesArePicked}
 use Rattle.mt_verify.specs.Looks.{floor_at, IsFirstPoint}
-use Rattle.mt_verify.specs.Points.{point_of, lo_of, number_of, at_place, TellsAt, IsTrueAt, KnowsAt}
+use Rattle.mt_verify.specs.Points.{point_of, lo_of, read_number, at_place, TellsAt, IsTrueAt, KnowsAt}
 use Rattle.mt_verify.proofs.CopiedKinds.{still_there}
 use Rattle.mt_verify.proofs.Runs.{all_at, some_at, placed}
 
@@ -25,9 +25,9 @@ pub record IsReadOf (tree lane k : ℕ) (u : Step) : Type 0 where
   pub on_tree : u.tree ≡ tree
   pub of_lane : u.lane ≡ lane
   pub read : is_read u.outcome ≡ true
-  pub number : number_of u.outcome ≡ k
+  pub number : read_number u.outcome ≡ k
 
-point_is : (o : Outcome) (k : ℕ) → point_of o ≡ Some k → (is_read o ≡ true) × (number_of o ≡ k)
+point_is : (o : Outcome) (k : ℕ) → point_of o ≡ Some k → (is_read o ≡ true) × (read_number o ≡ k)
 point_is (Called n c r) k is = absurd (cc)
 point_is (Looked lo hi n q v) k is = (refl, same_Some n k is)
 point_is (Counted said ranges) k is = absurd (cc)
@@ -117,7 +117,7 @@ floor_below points (suc i) m each = each i (omega arith)
 
 module _ (log : Log) (rows : ℕ) (t : Transcript) (steps : List Step) (trees : List History) (run : IsRunBy log rows t steps trees) (picked : LanesArePicked steps trees) where
   -- a read at a place
-  at_read : (s : Step) (o : Outcome) → s.outcome ≡ o → (i m : ℕ) → slice_get steps i ≡ Some s → lo_of o ≤ m → ((j : ℕ) → j < i → KnowsAt steps i j → at_place number_of steps j ≤ m) → m < number_of o → IsTrueAt steps trees i m → ⊥
+  at_read : (s : Step) (o : Outcome) → s.outcome ≡ o → (i m : ℕ) → slice_get steps i ≡ Some s → lo_of o ≤ m → ((j : ℕ) → j < i → KnowsAt steps i j → at_place read_number steps j ≤ m) → m < read_number o → IsTrueAt steps trees i m → ⊥
   at_read s (Called n c r) same i m is low below lower holds = omega arith
   at_read s (Counted said ranges) same i m is low below lower holds = omega arith
   at_read s (Looked lo hi k q v) same i m is low below lower holds =
@@ -146,10 +146,10 @@ module _ (log : Log) (rows : ℕ) (t : Transcript) (steps : List Step) (trees : 
           let r = read_of s.tree s.lane u n told in
           let here : slice_get steps e ≡ Some u = ap (λ (xs : List Step). slice_get xs e) whole ∙ still_there (get_parts steps i s is).0 (s ∷ (get_parts steps i s is).1) e u at in
           let earlier : e < i = omega (arith, place, slice_get_within (get_parts steps i s is).0 e u at) in
-          let it : at_place number_of steps e ≤ m = below e earlier (record { later = s; earlier = u; at = is; before = here; reads = ap is_read same; read_before = r.read; tree = r.on_tree; knows = inl r.of_lane }) in
-          omega (arith, it, placed number_of steps e u here, r.number)
+          let it : at_place read_number steps e ≤ m = below e earlier (record { later = s; earlier = u; at = is; before = here; reads = ap is_read same; read_before = r.read; tree = r.on_tree; knows = inl r.of_lane }) in
+          omega (arith, it, placed read_number steps e u here, r.number)
 
-  pub all_first : AreFirst (length steps) (at_place lo_of steps) (IsTrueAt steps trees) (KnowsAt steps) (λ i. true) (at_place number_of steps)
+  pub all_first : AreFirst (length steps) (at_place lo_of steps) (IsTrueAt steps trees) (KnowsAt steps) (λ i. true) (at_place read_number steps)
   all_first i m within done low below lower holds =
       let s = some_at steps i within in
-      at_read s.0 s.0.outcome refl i m s.1 (omega (arith, placed lo_of steps i s.0 s.1)) below (omega (arith, placed number_of steps i s.0 s.1)) holds
+      at_read s.0 s.0.outcome refl i m s.1 (omega (arith, placed lo_of steps i s.0 s.1)) below (omega (arith, placed read_number steps i s.0 s.1)) holds

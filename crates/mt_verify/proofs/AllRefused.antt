@@ -15,9 +15,9 @@ use Rattle.mt_log.specs.Text.{listing_text}
 use Rattle.mt_log.specs.Trees.{Declared, Opening, Empty, CopyOf, trees_of}
 use Rattle.mt_told.specs.declared.told.Told.{Told}
 use Rattle.mt_verify.specs.AllGone.{HaveGoneTo, IsGoneTree, IsToldRun, OpensGone, listing_by, listings_by}
-use Rattle.mt_verify.specs.ToldReads.{calls_told as calls_before_told}
-use Rattle.mt_verify.specs.GoneTrees.{CannotGo, GoneTree, map_of}
-use Rattle.mt_verify.specs.Histories.{AreHeard, map_by}
+use Rattle.mt_verify.specs.ToldReads.{calls_of_phases_before as calls_before_told}
+use Rattle.mt_verify.specs.GoneTrees.{CannotGo, GoneTree, gone_map}
+use Rattle.mt_verify.specs.Histories.{AreHeard, map_of_noted}
 use Rattle.mt_verify.specs.Points.{CopiesEarlier}
 use Rattle.mt_verify.proofs.Answered.{heard_maps}
 use Rattle.mt_verify.proofs.OwnStops.{as_many_noted}
@@ -32,8 +32,8 @@ pub record IsHistoryOf (version : ℕ) (g : GoneTree) (h : History) : Type 0 whe
   pub heard : AreHeard version g.noted h.records
 
 -- its maps are those of the tree
-pub maps_are_of : (version : ℕ) (g : GoneTree) (h : History) (k : ℕ) → IsHistoryOf version g h → map_at h k ≡ map_of g k
-maps_are_of version g h k is = heard_maps version h g.noted k is.heard ∙ (λ i. map_by (is.kind i) (is.opening i) g.noted k)
+pub maps_are_of : (version : ℕ) (g : GoneTree) (h : History) (k : ℕ) → IsHistoryOf version g h → map_at h k ≡ gone_map g k
+maps_are_of version g h k is = heard_maps version h g.noted k is.heard ∙ (λ i. map_of_noted (is.kind i) (is.opening i) g.noted k)
 
 -- ---- lists
 
@@ -121,13 +121,13 @@ module _ (log : Log) (rows : ℕ) (told : List Told) (behind : List ℕ) (gone :
   -- ---- listings
 
   -- a history ends with the map that its tree ends with
-  pub ends_so : (tree : ℕ) (d : Declared) (g : GoneTree) (h : History) → slice_get (trees_of log.lines) tree ≡ Some d → slice_get trees tree ≡ Some h → IsGoneTree log.version rows told gone tree d g → last_map h ≡ map_of g (length g.noted)
+  pub ends_so : (tree : ℕ) (d : Declared) (g : GoneTree) (h : History) → slice_get (trees_of log.lines) tree ≡ Some d → slice_get trees tree ≡ Some h → IsGoneTree log.version rows told gone tree d g → last_map h ≡ gone_map g (length g.noted)
   ends_so tree d g h of is_at one =
       let many : length h.records ≡ length g.noted = omega (arith, as_many_calls log rows t steps trees run told is.are few tree h is_at one.has.calls one.has.are, as_many_noted told tree one.has.calls g.noted one.has.heard) in
       let all : map_at h (length g.noted) ≡ last_map h = ap (λ r. last_map (record h { records = r })) (take_all (length g.noted) h.records (omega (arith, many))) in
       sym all ∙ maps_are_of log.version g h (length g.noted) (like tree d g h (λ source lower. alike source) of is_at one)
 
-  last_is : (tree : ℕ) (d : Declared) (g : GoneTree) (h : History) → slice_get (trees_of log.lines) tree ≡ Some d → slice_get gone tree ≡ Some g → slice_get trees tree ≡ Some h → last_map h ≡ map_of g (length g.noted)
+  last_is : (tree : ℕ) (d : Declared) (g : GoneTree) (h : History) → slice_get (trees_of log.lines) tree ≡ Some d → slice_get gone tree ≡ Some g → slice_get trees tree ≡ Some h → last_map h ≡ gone_map g (length g.noted)
   last_is tree d g h of at is_at = ends_so tree d g h of is_at (to.each tree d g of at)
 
   -- the listings of the first trees of a run are those of the trees that were gone through

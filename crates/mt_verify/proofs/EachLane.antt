@@ -10,7 +10,7 @@ use Rattle.mt_log.specs.Run.{Outcome, Called, Looked, Counted, Step, IsRunBy, In
 use Rattle.mt_verify.specs.declared.looks.Look.{Look}
 use Rattle.mt_verify.specs.LaneReads.{look_of, by_lane, looks_on, points_on}
 use Rattle.mt_verify.specs.Looks.{IsTrueOn, MayHave}
-use Rattle.mt_verify.specs.Points.{point_of, lo_of, number_of}
+use Rattle.mt_verify.specs.Points.{point_of, lo_of, read_number}
 use Rattle.mt_verify.proofs.AllLanes.{IsReadOf, read_of, is_own, both_none, both_some}
 use Rattle.mt_verify.proofs.LeastNumbers.{low_at, high_at}
 use Rattle.mt_verify.proofs.Runs.{all_at, some_at}
@@ -41,7 +41,7 @@ has_look tree lane s l k is at =
     record { here = r; low = x.0; told = x.1 }
 
 -- of two reads of which the later knows of the earlier
-pair_of : (o p : Outcome) → is_read o ≡ true → is_read p ≡ true → Follows o p → (number_of o ≤ number_of p) × (number_of o ≤ lo_of p + 1)
+pair_of : (o p : Outcome) → is_read o ≡ true → is_read p ≡ true → Follows o p → (read_number o ≤ read_number p) × (read_number o ≤ lo_of p + 1)
 pair_of (Called m c r) p read read' follows = absurd (cc)
 pair_of (Counted said ranges) p read read' follows = absurd (cc)
 pair_of (Looked lo hi k q v) (Called n c r) read read' follows = absurd (cc)

@@ -7,7 +7,7 @@ use Rattle.std.proofs.lemmas.List.FromFn.{length-enumerate_from}
 use Rattle.std.proofs.lemmas.List.Sorted.{IsPermutation-sym, IsPermutation-trans, IsPermutation-cons, IsPermutation-to_front, length_permutation}
 use Rattle.mt_told.specs.declared.told.Told.{Told}
 use Rattle.mt_verify.specs.declared.calls.Numbered.{Numbered}
-use Rattle.mt_verify.specs.ToldCalls.{AreCallsOf, HasNoPlace, calls_told, filled_from, numbered_on_told, times}
+use Rattle.mt_verify.specs.ToldCalls.{AreCallsOf, HasNoPlace, calls_told, filled_from, numbered_on_told, times_numbered}
 use Rattle.mt_verify.proofs.Placed.{filled_all, times-append, times-permutation, times_below, times_behind, times_free, times_once, times_taken, times_yes}
 
 -- ---- the calls that lines tell, one line after another
@@ -34,18 +34,18 @@ module _ (tree : ℕ) (told : List Told) (i : ℕ) (d : Told) (within : i < leng
       (IsPermutation-trans ((number, call) ∷ before) ((number, call) ∷ calls) (calls ++ (number, call) ∷ []) (IsPermutation-cons (number, call) before calls are) (IsPermutation-sym (calls ++ (number, call) ∷ []) ((number, call) ∷ calls) (IsPermutation-to_front calls (number, call)))))
 
   -- a call counts, besides those before it
-  times_with : (number : ℕ) (call : Numbered) → numbered_on_told tree (get_or told i d) ≡ Some (number, call) → times number (calls_told tree (take i told)) < times number (calls_told tree told)
+  times_with : (number : ℕ) (call : Numbered) → numbered_on_told tree (get_or told i d) ≡ Some (number, call) → times_numbered number (calls_told tree (take i told)) < times_numbered number (calls_told tree told)
   times_with number call is =
       let calls : List (ℕ × Numbered) = calls_told tree (take i told) in
       let rest : List (ℕ × Numbered) = calls_told tree (drop (i + 1) told) in
       let all : calls_told tree told ≡ calls ++ (number, call) ∷ rest = calls_split ∙ ap (λ (o : Option (ℕ × Numbered)). calls ++ cons_option o rest) is in
-      omega (arith, ap (times number) all, times-append number calls ((number, call) ∷ rest), times_yes number call rest)
+      omega (arith, ap (times_numbered number) all, times-append number calls ((number, call) ∷ rest), times_yes number call rest)
 
 -- ---- calls in the order of their numbers
 
 module _ (tree : ℕ) (told : List Told) (list : List Numbered) (are : AreCallsOf tree told list) where
-  times_listed : (number : ℕ) → times number (calls_told tree told) ≡ times number (filled_from 1 (map Some list))
-  times_listed number = times-permutation number (enumerate_from 1 list) (calls_told tree told) are ∙ ap (times number) (sym (filled_all 1 list))
+  times_listed : (number : ℕ) → times_numbered number (calls_told tree told) ≡ times_numbered number (filled_from 1 (map Some list))
+  times_listed number = times-permutation number (enumerate_from 1 list) (calls_told tree told) are ∙ ap (times_numbered number) (sym (filled_all 1 list))
 
   pub as_many : length (calls_told tree told) ≡ length list
   as_many = length_permutation (enumerate_from 1 list) (calls_told tree told) are ∙ length-enumerate_from 1 list
@@ -78,5 +78,5 @@ module _ (tree : ℕ) (told : List Told) (list : List Numbered) (are : AreCallsO
       all_some (x ∷ xs) zero lt = (x, refl)
       all_some (x ∷ xs) (suc k) lt = all_some xs k (omega arith)
 
-      listed_at : (k : ℕ) (xs : List (Option Numbered)) → k < length xs → ((k : ℕ) → k < length xs → (x : Numbered) × (get_or xs k None ≡ Some x)) → 0 < times (1 + k) (filled_from 1 xs)
+      listed_at : (k : ℕ) (xs : List (Option Numbered)) → k < length xs → ((k : ℕ) → k < length xs → (x : Numbered) × (get_or xs k None ≡ Some x)) → 0 < times_numbered (1 + k) (filled_from 1 xs)
       listed_at k xs lt each = let one = each k lt in times_taken 1 k xs one.0 None lt one.1

@@ -16,7 +16,7 @@ use Rattle.mt_told.specs.declared.told.What.{What}
 use Rattle.mt_told.specs.declared.told.What.TheVariants.{Wrote, Got, Copied, Lawful}
 use Rattle.mt_verify.specs.declared.looks.Look.{Look}
 use Rattle.mt_verify.specs.Looks.{IsTrueOn}
-use Rattle.mt_verify.specs.ToldReads.{calls_told, number_for, numbers_behind}
+use Rattle.mt_verify.specs.ToldReads.{calls_of_phases_before, number_for, numbers_behind}
 
 -- what the call of this number was answered
 abbrev pub reply_in : History → ℕ → Reply
@@ -42,7 +42,7 @@ step_in trees all k t =
       lane = t.lane;
       phase = t.phase;
       tree = t.tree;
-      outcome = outcome_in (history_in trees t.tree) (calls_told all t.tree t.phase) k t.what;
+      outcome = outcome_in (history_in trees t.tree) (calls_of_phases_before all t.tree t.phase) k t.what;
     }
 
 -- the steps that are told so, where these are the numbers of the reads
@@ -80,7 +80,7 @@ HasNumber what points = Unit {0}
 abbrev pub AreRight : ℕ → List History → List Told → List Told → List ℕ → Type 0
 AreRight version trees all [] points = points ≡ []
 AreRight version trees all (t ∷ told) points = HasNumber t.what points × (t.tree < length trees)
-    × IsRight version (history_in trees t.tree) (calls_told all t.tree t.phase) (number_for t.what points) t.what
+    × IsRight version (history_in trees t.tree) (calls_of_phases_before all t.tree t.phase) (number_for t.what points) t.what
     × AreRight version trees all told (numbers_behind t.what points)
 
 -- a read of the history: its window ends in it and holds the number, at which it is true

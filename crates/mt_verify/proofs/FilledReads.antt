@@ -13,10 +13,10 @@ use Rattle.mt_told.specs.declared.told.What.TheVariants.{Wrote, Got, Copied, Law
 use Rattle.mt_verify.specs.declared.looks.Look.{Look}
 use Rattle.mt_verify.specs.Looks.{AreLeastOf, IsTrueOn}
 use Rattle.mt_verify.proofs.Runs.{all_at}
-use Rattle.mt_verify.specs.Points.{point_of, points_of, lo_of, number_of}
+use Rattle.mt_verify.specs.Points.{point_of, points_of, lo_of, read_number}
 use Rattle.mt_verify.specs.LaneReads.{look_of, looks_on, points_on}
 use Rattle.mt_verify.specs.Windows.{InNumbers}
-use Rattle.mt_verify.specs.ToldReads.{calls_told, is_got, number_for, numbers_behind, read_by, read_in, reads_count, reads_told}
+use Rattle.mt_verify.specs.ToldReads.{calls_of_phases_before, is_got, number_for, numbers_behind, read_by, read_in, reads_count, reads_told}
 use Rattle.mt_verify.proofs.Filled.{AreRight, EachLater, EndsBefore, EndsIn, HasNumber, IsReadOn, IsRight, ReadsRise, filled, history_in, outcome_in, step_in}
 use Rattle.mt_verify.proofs.Found.{AllReadsOn, AllReadsRise, IsRightCall, IsRightLine}
 
@@ -46,7 +46,7 @@ filled_looks version trees all (t ∷ told) points tree lane right =
       | inl here ↦
           elim (cases_Bool (t.lane == lane)) [
             | inr other ↦ rw (here, other) rest
-            | inl own ↦ rw (here, own) (looks_by version (history_in trees t.tree) (calls_told all t.tree t.phase) (number_for t.what points) t.what right.2 (reads_told tree lane told (numbers_behind t.what points)) (looks_on tree lane (filled trees all told (numbers_behind t.what points))) (sym rest))
+            | inl own ↦ rw (here, own) (looks_by version (history_in trees t.tree) (calls_of_phases_before all t.tree t.phase) (number_for t.what points) t.what right.2 (reads_told tree lane told (numbers_behind t.what points)) (looks_on tree lane (filled trees all told (numbers_behind t.what points))) (sym rest))
           ]
     ]
 
@@ -66,7 +66,7 @@ filled_points trees all (t ∷ told) points tree lane =
       | inl here ↦
           elim (cases_Bool (t.lane == lane)) [
             | inr other ↦ rw (here, other) rest
-            | inl own ↦ rw (here, own) (points_by (history_in trees t.tree) (calls_told all t.tree t.phase) (number_for t.what points) t.what (reads_told tree lane told (numbers_behind t.what points)) (points_on tree lane (filled trees all told (numbers_behind t.what points))) (sym rest))
+            | inl own ↦ rw (here, own) (points_by (history_in trees t.tree) (calls_of_phases_before all t.tree t.phase) (number_for t.what points) t.what (reads_told tree lane told (numbers_behind t.what points)) (points_on tree lane (filled trees all told (numbers_behind t.what points))) (sym rest))
           ]
     ]
 
@@ -107,7 +107,7 @@ lines_right version trees all (t ∷ told) points lines reads count =
     subst (λ (r : Option (Look × ℕ)). AllByRecursion (IsReadOn (history_in trees t.tree)) (cons_option r (reads_told t.tree t.lane told (numbers_behind t.what points)))) (own_read t (number_for t.what points)) (reads t.tree t.lane lines.0.tree) in (
       has.0,
       lines.0.tree,
-      right_by version (history_in trees t.tree) (calls_told all t.tree t.phase) t.what points (reads_told t.tree t.lane told (numbers_behind t.what points)) lines.0.right has.0 own,
+      right_by version (history_in trees t.tree) (calls_of_phases_before all t.tree t.phase) t.what points (reads_told t.tree t.lane told (numbers_behind t.what points)) lines.0.right has.0 own,
       lines_right version trees all told (numbers_behind t.what points) lines.1 (λ tree lane within. reads_behind (λ tree. IsReadOn (history_in trees tree)) told t points tree lane (reads tree lane within)) has.1,
     )
 
@@ -177,7 +177,7 @@ got_of h before k (Copied count) = refl
 got_of h before k (Lawful count) = refl
 
 rise_by : (h h' : History) (before before' k m : ℕ) (w w' : What) → is_got w ≡ true → is_got w' ≡ true → IsLater k m w'
-    → (number_of (outcome_in h before k w) ≤ number_of (outcome_in h' before' m w')) × (number_of (outcome_in h before k w) ≤ lo_of (outcome_in h' before' m w') + 1)
+    → (read_number (outcome_in h before k w) ≤ read_number (outcome_in h' before' m w')) × (read_number (outcome_in h before k w) ≤ lo_of (outcome_in h' before' m w') + 1)
 rise_by h h' before before' k m (Wrote number call reply) w' read read' later = absurd (cc)
 rise_by h h' before before' k m (Copied count) w' read read' later = absurd (cc)
 rise_by h h' before before' k m (Lawful count) w' read read' later = absurd (cc)
@@ -194,8 +194,8 @@ module _ (version : ℕ) (trees : List History) (all : List Told) where
       let m : ℕ = number_for u.what points in
       let h : History = history_in trees t.tree in
       let h' : History = history_in trees u.tree in
-      let before : ℕ = calls_told all t.tree t.phase in
-      let before' : ℕ = calls_told all u.tree u.phase in
+      let before : ℕ = calls_of_phases_before all t.tree t.phase in
+      let before' : ℕ = calls_of_phases_before all u.tree u.phase in
       let rest : List (Look × ℕ) = reads_told t.tree t.lane told (numbers_behind u.what points) in (
         λ tree knows read read'.
             (let got : is_got t.what ≡ true = sym (got_of h before k t.what) ∙ read in
@@ -215,7 +215,7 @@ module _ (version : ℕ) (trees : List History) (all : List Told) where
   filled_rises [] points rises ends right = tt
   filled_rises (t ∷ told) points rises ends right =
       let k : ℕ = number_for t.what points in (
-        later_rise t k told (numbers_behind t.what points) (up_to_of version (history_in trees t.tree) (calls_told all t.tree t.phase) k t.what right.2)
+        later_rise t k told (numbers_behind t.what points) (up_to_of version (history_in trees t.tree) (calls_of_phases_before all t.tree t.phase) k t.what right.2)
             (λ got. lane_later k t.what got (subst (λ (r : Option (Look × ℕ)). EachLater ReadsRise (cons_option r (reads_told t.tree t.lane told (numbers_behind t.what points)))) (own_read t k) (rises t.tree t.lane right.1)))
             ends.0 right.3,
         filled_rises told (numbers_behind t.what points) (λ tree lane within. rising_behind told t points tree lane (rises tree lane within)) ends.1 right.3,
@@ -255,7 +255,7 @@ points_more version h before (Got lo hi query told) (k ∷ points) rest has same
 pub all_points : (version : ℕ) (trees : List History) (all told : List Told) (points : List ℕ) → AreRight version trees all told points → points_of (filled trees all told points) ≡ points
 all_points version trees all [] points right = sym right
 all_points version trees all (t ∷ told) points right =
-    points_more version (history_in trees t.tree) (calls_told all t.tree t.phase) t.what points (points_of (filled trees all told (numbers_behind t.what points))) right.0 (all_points version trees all told (numbers_behind t.what points) right.3)
+    points_more version (history_in trees t.tree) (calls_of_phases_before all t.tree t.phase) t.what points (points_of (filled trees all told (numbers_behind t.what points))) right.0 (all_points version trees all told (numbers_behind t.what points) right.3)
 
 -- ---- places in mapped lists
 

@@ -3,12 +3,12 @@ use Rattle.std.proofs.Common.{◌≡◌, ℕ, suc, ◌<◌, ◌==◌, ◌&&◌, 
 use Rattle.std.specs.List.{AllByRecursion, filter_map}
 use Rattle.std.proofs.lemmas.Bool.{cases_Bool, eqb-true}
 use Rattle.mt_base.specs.History.{History}
-use Rattle.mt_log.specs.Run.{Step, IsTrueOf, calls_before, is_call, numbered_on, record_of}
+use Rattle.mt_log.specs.Run.{Step, IsTrueOf, calls_before, is_call, numbered_on, record_in}
 use Rattle.mt_told.specs.declared.told.Told.{Told}
 use Rattle.mt_told.specs.declared.told.What.{What}
 use Rattle.mt_told.specs.declared.told.What.TheVariants.{Wrote, Got, Copied, Lawful}
 use Rattle.mt_told.specs.Telling.{AreTold}
-use Rattle.mt_verify.specs.ToldReads.{calls_told, is_wrote, number_for, numbers_behind}
+use Rattle.mt_verify.specs.ToldReads.{calls_of_phases_before, is_wrote, number_for, numbers_behind}
 use Rattle.mt_verify.proofs.Filled.{AreRight, IsRight, filled, history_in, numbered_by, numbered_in, outcome_in, step_in}
 use Rattle.mt_verify.proofs.ToldSteps.{IsToldOf}
 
@@ -20,17 +20,17 @@ call_is h before k (Got lo hi query told) = refl
 call_is h before k (Copied count) = refl
 call_is h before k (Lawful count) = refl
 
-pub calls_are : (trees : List History) (all told : List Told) (points : List ℕ) (tree phase : ℕ) → calls_before (filled trees all told points) tree phase ≡ calls_told told tree phase
+pub calls_are : (trees : List History) (all told : List Told) (points : List ℕ) (tree phase : ℕ) → calls_before (filled trees all told points) tree phase ≡ calls_of_phases_before told tree phase
 calls_are trees all [] points tree phase = refl
 calls_are trees all (t ∷ told) points tree phase =
-    let same : is_call (step_in trees all (number_for t.what points) t).outcome ≡ is_wrote t.what = call_is (history_in trees t.tree) (calls_told all t.tree t.phase) (number_for t.what points) t.what in
+    let same : is_call (step_in trees all (number_for t.what points) t).outcome ≡ is_wrote t.what = call_is (history_in trees t.tree) (calls_of_phases_before all t.tree t.phase) (number_for t.what points) t.what in
     let rest = calls_are trees all told (numbers_behind t.what points) tree phase in
     elim (cases_Bool ((t.tree == tree) && (nat_lt t.phase phase && is_wrote t.what))) [
       | inl counts ↦ rw (same, counts) (ap suc rest)
       | inr left ↦ rw (same, left) rest
     ]
 
-numbered_is : (h : History) (lane before k : ℕ) (what : What) → record_of lane (outcome_in h before k what) ≡ numbered_by h lane what
+numbered_is : (h : History) (lane before k : ℕ) (what : What) → record_in lane (outcome_in h before k what) ≡ numbered_by h lane what
 numbered_is h lane before k (Wrote number call reply) = refl
 numbered_is h lane before k (Got lo hi query told) = refl
 numbered_is h lane before k (Copied count) = refl
@@ -43,8 +43,8 @@ calls_numbered trees all (t ∷ told) points tree =
     elim (cases_Bool (t.tree == tree)) [
       | inl here ↦
           let at : t.tree ≡ tree = eqb-true t.tree tree here in
-          let same : record_of t.lane (outcome_in (history_in trees t.tree) (calls_told all t.tree t.phase) (number_for t.what points) t.what) ≡ numbered_by (history_in trees tree) t.lane t.what =
-          numbered_is (history_in trees t.tree) t.lane (calls_told all t.tree t.phase) (number_for t.what points) t.what ∙ ap (λ (n : ℕ). numbered_by (history_in trees n) t.lane t.what) at in
+          let same : record_in t.lane (outcome_in (history_in trees t.tree) (calls_of_phases_before all t.tree t.phase) (number_for t.what points) t.what) ≡ numbered_by (history_in trees tree) t.lane t.what =
+          numbered_is (history_in trees t.tree) t.lane (calls_of_phases_before all t.tree t.phase) (number_for t.what points) t.what ∙ ap (λ (n : ℕ). numbered_by (history_in trees n) t.lane t.what) at in
           rw (here, same, rest) refl
       | inr other ↦ rw (other, rest) refl
     ]
@@ -65,7 +65,7 @@ filled_is_told version trees all (t ∷ told) points right = (
     lane = refl;
     phase = refl;
     tree = refl;
-    outcome = outcome_told version (history_in trees t.tree) (calls_told all t.tree t.phase) (number_for t.what points) t.what right.2;
+    outcome = outcome_told version (history_in trees t.tree) (calls_of_phases_before all t.tree t.phase) (number_for t.what points) t.what right.2;
   },
   filled_is_told version trees all told (numbers_behind t.what points) right.3,
 )
@@ -82,11 +82,11 @@ outcome_true version h before k (Lawful count) right = refl
 -- the step stands in its tree's history, where these lines are told of all trees
 pub record Stands (trees : List History) (all : List Told) (s : Step) : Type 0 where
   pub tree : s.tree < length trees
-  pub true : IsTrueOf (history_in trees s.tree) (calls_told all s.tree s.phase) s.outcome
+  pub true : IsTrueOf (history_in trees s.tree) (calls_of_phases_before all s.tree s.phase) s.outcome
 
 pub filled_stands : (version : ℕ) (trees : List History) (all told : List Told) (points : List ℕ) → AreRight version trees all told points → AllByRecursion (Stands trees all) (filled trees all told points)
 filled_stands version trees all [] points right = tt
 filled_stands version trees all (t ∷ told) points right = (
-  record { tree = right.1; true = outcome_true version (history_in trees t.tree) (calls_told all t.tree t.phase) (number_for t.what points) t.what right.2 },
+  record { tree = right.1; true = outcome_true version (history_in trees t.tree) (calls_of_phases_before all t.tree t.phase) (number_for t.what points) t.what right.2 },
   filled_stands version trees all told (numbers_behind t.what points) right.3,
 )

@@ -6,12 +6,12 @@ use Rattle.std.proofs.lemmas.List.{get_or-replicate}
 use Rattle.std.proofs.lemmas.List.Elements.{All-head, All-tail}
 use Rattle.mt_log.specs.Trees.{most_lanes, most_trees}
 use Rattle.mt_told.specs.declared.told.Told.{Told}
-use Rattle.mt_verify.specs.Heard.{Reads, reads_by}
+use Rattle.mt_verify.specs.Heard.{HasReadBy, reads_by}
 
-pub none_read : (tree lane phase : ℕ) (other : Option ℕ) → tree < most_trees → lane < most_lanes → Reads (get_or (replicate 256 None) (16 * tree + lane) other) phase ↔ (false ≡ true)
+pub none_read : (tree lane phase : ℕ) (other : Option ℕ) → tree < most_trees → lane < most_lanes → HasReadBy (get_or (replicate 256 None) (16 * tree + lane) other) phase ↔ (false ≡ true)
 none_read tree lane phase other below beside =
     let is : get_or (replicate 256 None) (16 * tree + lane) other ≡ None = get_or-replicate 256 (16 * tree + lane) None other (omega arith) in
-    (λ reads. absurd (subst (λ (o : Option ℕ). Reads o phase) is reads), λ no. absurd (cc))
+    (λ reads. absurd (subst (λ (o : Option ℕ). HasReadBy o phase) is reads), λ no. absurd (cc))
 
 -- a lane that there is not has read nothing
 pub no_lane : (tree lane phase : ℕ) (told : List Told) → All (λ t. t.lane < most_lanes) told → most_lanes ≤ lane → list_any (reads_by tree lane phase) told ≡ true → ⊥

@@ -9,7 +9,7 @@ use Rattle.mt_log.specs.Trees.{Declared, Opening, Empty, CopyOf, trees_of}
 use Rattle.mt_told.specs.declared.told.Told.{Told}
 use Rattle.mt_told.specs.declared.told.What.{What}
 use Rattle.mt_told.specs.declared.told.What.TheVariants.{Wrote, Got, Copied, Lawful}
-use Rattle.mt_verify.specs.ToldReads.{calls_told, is_got, reads_count, reads_told, own_points}
+use Rattle.mt_verify.specs.ToldReads.{calls_of_phases_before, is_got, reads_count, reads_told, own_points}
 use Rattle.mt_verify.specs.declared.looks.Look.{Look}
 use Rattle.mt_verify.specs.Looks.{AreLeastOf}
 use Rattle.mt_verify.specs.PrintedOrder.{InPrintedOrder}
@@ -19,7 +19,7 @@ use Rattle.mt_verify.proofs.Filled.{EachLater, IsReadOn, IsRight, ReadsRise, his
 abbrev pub OpensTold : List Told → List History → Opening → History → Type 0
 OpensTold told trees Empty h = h.opening ≡ []
 OpensTold told trees (CopyOf tree phase) h = (source : History) × (slice_get trees tree ≡ Some source)
-    × (h.kind ≡ source.kind) × (h.opening ≡ map_at source (calls_told told tree phase))
+    × (h.kind ≡ source.kind) × (h.opening ≡ map_at source (calls_of_phases_before told tree phase))
 
 -- it is the history of a tree that is declared so
 pub record IsOpened (told : List Told) (trees : List History) (d : Declared) (h : History) : Type 0 where
@@ -35,7 +35,7 @@ IsRightCall version h before (Lawful count) = IsRight version h before 0 (Lawful
 
 pub record IsRightLine (version : ℕ) (trees : List History) (all : List Told) (t : Told) : Type 0 where
   pub tree : t.tree < length trees
-  pub right : IsRightCall version (history_in trees t.tree) (calls_told all t.tree t.phase) t.what
+  pub right : IsRightCall version (history_in trees t.tree) (calls_of_phases_before all t.tree t.phase) t.what
 
 -- each lane's reads on each tree are reads of its history, and keep the order of their numbers
 abbrev pub AllReadsOn : List History → List Told → List ℕ → Type 0

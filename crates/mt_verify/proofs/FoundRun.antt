@@ -23,11 +23,11 @@ use Rattle.mt_told.specs.declared.told.Told.{Told}
 use Rattle.mt_told.specs.declared.told.What.{What}
 use Rattle.mt_told.specs.declared.told.What.TheVariants.{Wrote, Got, Copied, Lawful}
 use Rattle.mt_told.specs.Telling.{AreTold, IsTold}
-use Rattle.mt_verify.specs.ToldReads.{calls_told, is_got, number_for, numbers_behind, reads_told}
+use Rattle.mt_verify.specs.ToldReads.{calls_of_phases_before, is_got, number_for, numbers_behind, reads_told}
 use Rattle.mt_verify.specs.declared.looks.Look.{Look}
 use Rattle.mt_verify.specs.Looks.{ArePicked}
 use Rattle.mt_verify.specs.LaneReads.{LanesArePicked, points_on}
-use Rattle.mt_verify.specs.Points.{AreUpTo, lo_of, number_of, points_of}
+use Rattle.mt_verify.specs.Points.{AreUpTo, lo_of, read_number, points_of}
 use Rattle.mt_verify.specs.Windows as windows
 use Rattle.mt_verify.proofs.Filled.{AreRight, IsRight, EachLater, EndsBefore, EndsIn, filled, history_in, numbered_by, numbered_in, outcome_in, step_in}
 use Rattle.mt_verify.proofs.Found.{AllReadsOn, AllReadsRise, IsFound, own_looks, IsHeldTold, IsOpened, IsRightLine, OpensTold, holder_told, is_told_read}
@@ -51,7 +51,7 @@ some_history trees tree within = elim (slice_get_cases trees tree).1 [
   | inr past ↦ absurd (omega (arith, past.0))
 ]
 
-opens : (told : List Told) (trees : List History) (steps : List Step) (d : Declared) (h : History) → ((tree phase : ℕ) → calls_before steps tree phase ≡ calls_told told tree phase) → IsOpened told trees d h → Opens steps trees d h
+opens : (told : List Told) (trees : List History) (steps : List Step) (d : Declared) (h : History) → ((tree phase : ℕ) → calls_before steps tree phase ≡ calls_of_phases_before told tree phase) → IsOpened told trees d h → Opens steps trees d h
 opens told trees steps d h same is = record { kind = is.kind; opening = opens_as d.opening is.opening }
   where
     opens_as : (o : Opening) → OpensTold told trees o h → OpensAs steps trees o h
@@ -112,7 +112,7 @@ within_at version trees all (t ∷ told) points (suc i) s lo hi q a right is wha
 within_at version trees all (t ∷ told) points zero s lo hi q a right is what =
     let same : t ≡ s = same_Some t s is in
     let got : t.what ≡ Got lo hi q a = ap (λ (x : Told). x.what) same ∙ what in
-    let read = subst (λ (w : What). IsRight version (history_in trees t.tree) (calls_told all t.tree t.phase) (number_for t.what points) w) got right.2 in
+    let read = subst (λ (w : What). IsRight version (history_in trees t.tree) (calls_of_phases_before all t.tree t.phase) (number_for t.what points) w) got right.2 in
     subst (λ (x : Told). hi ≤ length (history_in trees x.tree).records) same read.2
 
 module _ (log : Log) (rows : ℕ) (told : List Told) (trees : List History) (points : List ℕ) (found : IsFound log rows told trees points) where
@@ -152,14 +152,14 @@ module _ (log : Log) (rows : ℕ) (told : List Told) (trees : List History) (poi
   abbrev pub steps : List Step
   steps = filled trees told told points
 
-  same_calls : (tree phase : ℕ) → calls_before steps tree phase ≡ calls_told told tree phase
+  same_calls : (tree phase : ℕ) → calls_before steps tree phase ≡ calls_of_phases_before told tree phase
   same_calls tree phase = calls_are trees told told points tree phase
 
   pub are_told : AreTold log.version told steps
   are_told = filled_is_told log.version trees told told points each_right
 
   in_order : AllPairs InOrder steps
-  in_order = order_joins steps (All-from_recursion _ steps (all_map (Stands trees told) (λ (s : Step). lo_of s.outcome ≤ number_of s.outcome) (λ s stands. from_of (history_in trees s.tree) (calls_told told s.tree s.phase) s.outcome stands.true) steps (filled_stands log.version trees told told points each_right))) (record {
+  in_order = order_joins steps (All-from_recursion _ steps (all_map (Stands trees told) (λ (s : Step). lo_of s.outcome ≤ read_number s.outcome) (λ s stands. from_of (history_in trees s.tree) (calls_of_phases_before told s.tree s.phase) s.outcome stands.true) steps (filled_stands log.version trees told told points each_right))) (record {
     printed = (order_told log.version told steps are_told).0 found.order;
     numbers = pairs_of windows.InNumbers steps (filled_rises log.version trees told told points each_rises ends each_right);
   })
@@ -178,7 +178,7 @@ module _ (log : Log) (rows : ℕ) (told : List Told) (trees : List History) (poi
   any_told lane s t is [] points are = refl
   any_told lane s t is (r ∷ some) points are =
       let q : Step = step_in trees told (number_for r.what points) r in
-      let same : is_read_by lane s q ≡ is_told_read lane t r = read_told lane s t r q is are.0 (got_of (history_in trees r.tree) (calls_told told r.tree r.phase) (number_for r.what points) r.what) in
+      let same : is_read_by lane s q ≡ is_told_read lane t r = read_told lane s t r q is are.0 (got_of (history_in trees r.tree) (calls_of_phases_before told r.tree r.phase) (number_for r.what points) r.what) in
       let rest = any_told lane s t is some (numbers_behind r.what points) are.1 in
       rw (same, rest) refl
 
@@ -190,7 +190,7 @@ module _ (log : Log) (rows : ℕ) (told : List Told) (trees : List History) (poi
 
   held_by : (t : Told) (k : ℕ) → IsTold log.version t (step_in trees told k t) → IsHeldTold told trees t → IsHeldRightly steps (step_in trees told k t)
   held_by t k is held =
-      subst (λ (o : Option Holder). IfSome o (λ holder. (holder.pass ≢ t.lane) × (list_any (is_read_by holder.pass (step_in trees told k t)) steps ≡ true))) (sym (holder_is (history_in trees t.tree) (calls_told told t.tree t.phase) k t.what))
+      subst (λ (o : Option Holder). IfSome o (λ holder. (holder.pass ≢ t.lane) × (list_any (is_read_by holder.pass (step_in trees told k t)) steps ≡ true))) (sym (holder_is (history_in trees t.tree) (calls_of_phases_before told t.tree t.phase) k t.what))
       (if_some_map (holder_told (history_in trees t.tree) t.what) (λ holder both. (both.0, any_told holder.pass (step_in trees told k t) t is told points are_told ∙ both.1)) held)
     where
       if_some_map : {P Q : Holder → Type 0} (o : Option Holder) → ((x : Holder) → P x → Q x) → IfSome o P → IfSome o Q

@@ -8,7 +8,7 @@ use Rattle.mt_told.specs.declared.told.Told.{Told}
 use Rattle.mt_told.specs.declared.told.What.{What}
 use Rattle.mt_verify.specs.declared.windows.Mark.{Mark}
 use Rattle.mt_verify.specs.declared.windows.Marks.{Marks}
-use Rattle.mt_verify.specs.Marked.{Admits, Gather, AreMarked, place_of}
+use Rattle.mt_verify.specs.Marked.{Admits, Gather, AreMarked, lane_place}
 use Rattle.mt_verify.specs.PrintedOrder.{KeepsTo}
 
 module _ {X : Type 0} (P : X → Type 0) where
@@ -62,7 +62,7 @@ module _ (IsOf : ℕ → Told → Type 0) where
 
 pub marked_none : (mark : Mark) → ((w : What) → Admits mark w) → AreMarked (record { lanes = replicate 256 mark; trees = replicate 16 mark; before = replicate 16 mark; phase = 0 }) []
 marked_none mark admits = record {
-  lanes = gather_none (λ place s. place_of s ≡ place) 256 mark admits;
+  lanes = gather_none (λ place s. lane_place s ≡ place) 256 mark admits;
   trees = gather_none (λ tree s. s.tree ≡ tree) 16 mark admits;
   before = gather_none (λ tree s. (s.tree ≡ tree) × (s.phase < 0)) 16 mark admits;
   phase = λ k d lt. absurd (omega arith);
@@ -73,14 +73,14 @@ marked_none mark admits = record {
 abbrev pub marks_after : Marks → Told → ℕ → Mark → Mark → Marks
 marks_after marks t place lane tree = record { lanes = set marks.lanes place lane; trees = set marks.trees t.tree tree; before = marks.before; phase = marks.phase }
 
-pub marked_one : (marks : Marks) (told : List Told) (t : Told) (place : ℕ) (lane tree d e : Mark) → place ≡ place_of t → length marks.lanes ≡ 256 → length marks.trees ≡ 16 → t.tree < 16 → t.lane < 16
+pub marked_one : (marks : Marks) (told : List Told) (t : Told) (place : ℕ) (lane tree d e : Mark) → place ≡ lane_place t → length marks.lanes ≡ 256 → length marks.trees ≡ 16 → t.tree < 16 → t.lane < 16
     → IsWithLine t.what (get_or marks.lanes place d) lane → IsWithLine t.what (get_or marks.trees t.tree e) tree
     → AreMarked marks told → marks.phase ≡ t.phase → AreMarked (marks_after marks t place lane tree) (told ++ t ∷ [])
 marked_one marks told t place lane tree d e at lanes trees tree_below lane_below by_lane by_tree old now =
     let here : place < length marks.lanes = omega (arith, at) in
     let there : t.tree < length marks.trees = omega arith in
     record {
-      lanes = gather_one (λ place s. place_of s ≡ place) marks.lanes told t place lane here (sym at) (λ other is. sym is ∙ sym at) (subst (λ (m : Mark). IsWithLine t.what m lane) (get_or_default marks.lanes place d lane here) by_lane) old.lanes;
+      lanes = gather_one (λ place s. lane_place s ≡ place) marks.lanes told t place lane here (sym at) (λ other is. sym is ∙ sym at) (subst (λ (m : Mark). IsWithLine t.what m lane) (get_or_default marks.lanes place d lane here) by_lane) old.lanes;
       trees = gather_one (λ tree s. s.tree ≡ tree) marks.trees told t t.tree tree there refl (λ other is. sym is) (subst (λ (m : Mark). IsWithLine t.what m tree) (get_or_default marks.trees t.tree e tree there) by_tree) old.trees;
       before = gather_past (λ tree s. (s.tree ≡ tree) × (s.phase < marks.phase)) marks.before told t (λ other is. omega (arith, is.1, now)) old.before;
       phase = All-push (λ (s : Told). s.phase ≤ marks.phase) told t old.phase (omega (arith, now));

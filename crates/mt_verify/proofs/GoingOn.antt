@@ -14,10 +14,10 @@ use Rattle.mt_log.specs.Text.{listing_text}
 use Rattle.mt_log.specs.Trees.{Declared, Opening, Empty, CopyOf, trees_of}
 use Rattle.mt_told.specs.declared.told.Told.{Told}
 use Rattle.mt_verify.specs.AllGone.{HaveGoneTo, IsGoneTree, NoneIsTold, OpensGone, listing_by, listings_by}
-use Rattle.mt_verify.specs.ToldReads.{calls_told}
+use Rattle.mt_verify.specs.ToldReads.{calls_of_phases_before}
 use Rattle.mt_verify.specs.GoneTrees.{CannotGo, GoneTree, IsGoneFrom}
-use Rattle.mt_verify.specs.Openings.{OpensAsMap, opened_with}
-use Rattle.mt_verify.specs.Verifying.{IsCase}
+use Rattle.mt_verify.specs.Openings.{OpensAsMap, just_opened}
+use Rattle.mt_verify.specs.Verifying.{IsOfLog}
 use Rattle.mt_verify.proofs.AllRefused.{ends_so, next_goes, next_listed, none_left}
 use Rattle.mt_verify.proofs.CopiedKinds.{copies_are_alike, still_there}
 use Rattle.mt_verify.proofs.CopiedTrees.{copies_are_earlier, split_get}
@@ -61,7 +61,7 @@ starts log rows told behind = record {
     nothing [] = refl
     nothing (d ∷ declared) = refl
 
-module _ (log : Log) (rows : ℕ) (told : List Told) (behind : List ℕ) (gone : List GoneTree) (rest : List ℕ) (case : IsCase log rows told) (to : HaveGoneTo log rows told behind gone rest) where
+module _ (log : Log) (rows : ℕ) (told : List Told) (behind : List ℕ) (gone : List GoneTree) (rest : List ℕ) (case : IsOfLog log rows told) (to : HaveGoneTo log rows told behind gone rest) where
   -- behind the last tree
   pub nothing_behind : length gone ≡ length (trees_of log.lines) → (rest ≡ [] → ⊥) → NoneIsTold log rows told behind
   nothing_behind all some t steps trees is = some (none_left log rows told behind gone rest to case.few_rows (copies_are_earlier log.lines case.readable) t steps trees is all)
@@ -74,7 +74,7 @@ module _ (log : Log) (rows : ℕ) (told : List Told) (behind : List ℕ) (gone :
       pub opened_kind : (d.opening ≡ Empty → map.kind ≡ d.tree.kind) → map.kind ≡ d.tree.kind
       opened_kind empty = by_opening d.opening refl opens
         where
-          by_opening : (o : Opening) → d.opening ≡ o → OpensGone told gone o (opened_with map) → map.kind ≡ d.tree.kind
+          by_opening : (o : Opening) → d.opening ≡ o → OpensGone told gone o (just_opened map) → map.kind ≡ d.tree.kind
           by_opening Empty of is = empty of
           by_opening (CopyOf source phase) of is =
               let has = copies_are_alike log.lines case.readable (length gone) source phase d at of in
@@ -83,21 +83,21 @@ module _ (log : Log) (rows : ℕ) (told : List Told) (behind : List ℕ) (gone :
       pub opened_map : IsMap map.kind map.ranges
       opened_map = by_opening d.opening opens
         where
-          by_opening : (o : Opening) → OpensGone told gone o (opened_with map) → IsMap map.kind map.ranges
+          by_opening : (o : Opening) → OpensGone told gone o (just_opened map) → IsMap map.kind map.ranges
           by_opening Empty is = subst (IsMap map.kind) (sym is) (empty_is_map map.kind)
           by_opening (CopyOf source phase) is =
               let g : GoneTree = is.0 in
-              let k : ℕ = calls_told told source phase in
+              let k : ℕ = calls_of_phases_before told source phase in
               subst (λ (x : Kind × List Range). IsMap x.0 x.1) (λ i. (sym is.2 i, sym is.3 i)) (all_are_maps g.kind g.opening (take k g.noted) (to.maps source g is.1))
 
       module _ (kind : map.kind ≡ d.tree.kind) where
         pub not_gone : CannotGo log.version rows told (length gone) map.kind map.ranges → NoneIsTold log rows told behind
         not_gone cannot t steps trees is =
-            next_goes log rows told behind gone rest to case.few_rows (copies_are_earlier log.lines case.readable) t steps trees is (length gone) d (opened_with map) at kind opens cannot
+            next_goes log rows told behind gone rest to case.few_rows (copies_are_earlier log.lines case.readable) t steps trees is (length gone) d (just_opened map) at kind opens cannot
 
         module _ (g : GoneTree) (after : Contents) (goes : IsGoneFrom log.version rows told (length gone) map g after) where
           next_gone : IsGoneTree log.version rows told gone (length gone) d g
-          next_gone = record { kind = goes.of_kind ∙ kind; opening = opens_like told gone d.opening (opened_with map) g goes.of_kind goes.opening opens; has = goes.gone }
+          next_gone = record { kind = goes.of_kind ∙ kind; opening = opens_like told gone d.opening (just_opened map) g goes.of_kind goes.opening opens; has = goes.gone }
 
           pub not_listed : ((more : List ℕ) → rest ≡ listing_text (record { name = d.tree.name; kind = d.tree.kind; ranges = after.ranges }) ++ more → ⊥) → NoneIsTold log rows told behind
           not_listed none t steps trees is =

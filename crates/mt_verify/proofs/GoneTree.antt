@@ -11,7 +11,7 @@ use Rattle.mt_verify.specs.declared.stops.Stop.{Stop}
 use Rattle.mt_verify.specs.Going.{AreAnswered, AllStopped, IsGone, IsLastMap, Lane, SomeHasNone, looks_of}
 use Rattle.mt_verify.specs.GoneTrees.{CannotGo, GoneTree, IsGoneFrom, lane_looks}
 use Rattle.mt_verify.specs.Hearing.{AreNotedOf}
-use Rattle.mt_verify.specs.Histories.{map_by}
+use Rattle.mt_verify.specs.Histories.{map_of_noted}
 use Rattle.mt_verify.specs.OwnLines.{lines_on, stops_told}
 use Rattle.mt_verify.specs.Stops.{Passing, SomeMiscounted}
 use Rattle.mt_verify.specs.ToldCalls.{AreCallsOf, calls_told}
@@ -31,7 +31,7 @@ module _ (version rows : ℕ) (told : List Told) (tree : ℕ) (from to : Content
     heard = heard;
     lanes = lanes;
     looks = same ∙ given;
-    why = subst (λ (l : List Stop). (AreAnswered from.kind version rows from.ranges noted (length noted) → ⊥) ⊎ (SomeHasNone (map_by from.kind from.ranges noted) lanes ⊎ SomeMiscounted (map_by from.kind from.ranges noted) l)) (same_stops ∙ told_stops) gone;
+    why = subst (λ (l : List Stop). (AreAnswered from.kind version rows from.ranges noted (length noted) → ⊥) ⊎ (SomeHasNone (map_of_noted from.kind from.ranges noted) lanes ⊎ SomeMiscounted (map_of_noted from.kind from.ranges noted) l)) (same_stops ∙ told_stops) gone;
   }))
 
   pub gone_from : (g : GoneTree) → g ≡ record { kind = from.kind; opening = from.ranges; noted = noted; lanes = lanes } → IsGone from.kind version rows from.ranges noted lanes new true → IsLastMap from.kind from.ranges noted to → IsGoneFrom version rows told tree from g to
@@ -43,7 +43,7 @@ module _ (version rows : ℕ) (told : List Told) (tree : ℕ) (from to : Content
       answered = gone.0;
       looks = same ∙ given;
       least = gone.1;
-      counted = subst (λ (l : List Stop). AllStopped (map_by from.kind from.ranges noted) l) (same_stops ∙ told_stops) gone.2;
+      counted = subst (λ (l : List Stop). AllStopped (map_of_noted from.kind from.ranges noted) l) (same_stops ∙ told_stops) gone.2;
     };
     of_kind = refl;
     opening = refl;

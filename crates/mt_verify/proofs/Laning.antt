@@ -9,16 +9,16 @@ use Rattle.mt_base.specs.declared.ranges.Range.{Range}
 use Rattle.mt_list.specs.ListMap.{Contents}
 use Rattle.mt_verify.specs.declared.looks.Look.{Look}
 use Rattle.mt_verify.specs.declared.noted.Noted.{Noted}
-use Rattle.mt_verify.specs.Histories.{map_after, map_by}
-use Rattle.mt_verify.specs.Looks.{IsOn, IsStuck}
-use Rattle.mt_verify.specs.Going.{Lane, opened_of, IsAnsweredAt, AreAnswered, AreOn, SomeStuck, looks_of, AllLeast, SomeHasNone, AreWithin, SomeWaits, AreDone, AreFresh}
+use Rattle.mt_verify.specs.Histories.{map_after_noted, map_of_noted}
+use Rattle.mt_verify.specs.Looks.{ArePickedBelow, IsStuck}
+use Rattle.mt_verify.specs.Going.{Lane, opened_of, IsAnsweredAt, AreAnswered, AreOn, SomeStuck, looks_of, AllLeast, SomeHasNone, AreWithin, SomeWaits, AreLanesDone, AreFresh}
 use Rattle.mt_verify.proofs.LeastNumbers.{picked_is_least, stuck_has_none}
 
 -- of these lanes the first so many have gone through this number as well
 pub record AreGoing (m : ℕ → List Range) (number count : ℕ) (lanes : List Lane) : Type 0 where
   pub gone : (j : ℕ) (t : Lane) → j < count → slice_get lanes j ≡ Some t
-      → IsOn m (number + 1) (number + 1) t.looks t.points
-  pub rest : (j : ℕ) (t : Lane) → count ≤ j → slice_get lanes j ≡ Some t → IsOn m number number t.looks t.points
+      → ArePickedBelow m (number + 1) (number + 1) t.looks t.points
+  pub rest : (j : ℕ) (t : Lane) → count ≤ j → slice_get lanes j ≡ Some t → ArePickedBelow m number number t.looks t.points
 
 -- ---- one place of a list is set
 
@@ -50,19 +50,19 @@ pub all_gone : (m : ℕ → List Range) (number count : ℕ) (lanes : List Lane)
 all_gone m number count lanes all going j t is = going.gone j t (omega (arith, slice_get_within lanes j t is)) is
 
 module _ (m : ℕ → List Range) (number i : ℕ) (lanes : List Lane) (t t' : Lane) (is : slice_get lanes i ≡ Some t) (same : t'.looks ≡ t.looks) where
-  pub gone_more : AreGoing m number i lanes → IsOn m (number + 1) (number + 1) t.looks t'.points → AreGoing m number (i + 1) (slice_set lanes i t')
+  pub gone_more : AreGoing m number i lanes → ArePickedBelow m (number + 1) (number + 1) t.looks t'.points → AreGoing m number (i + 1) (slice_set lanes i t')
   gone_more going on = record { gone = gone; rest = rest }
     where
-      gone : (j : ℕ) (u : Lane) → j < i + 1 → slice_get (slice_set lanes i t') j ≡ Some u → IsOn m (number + 1) (number + 1) u.looks u.points
+      gone : (j : ℕ) (u : Lane) → j < i + 1 → slice_get (slice_set lanes i t') j ≡ Some u → ArePickedBelow m (number + 1) (number + 1) u.looks u.points
       gone j u below at = elim (cases_lt j i) [
         | inl lower ↦ (let apart : j ≢ i = omega arith in going.gone j u lower (sym (set_there lanes i j t' apart) ∙ at))
         | inr above ↦
             (let here : j ≡ i = omega arith in
             let one : u ≡ t' = same_Some u t' (sym at ∙ (ap (slice_get (slice_set lanes i t')) here ∙ set_here lanes i t t' is)) in
-            subst (λ (x : Lane). IsOn m (number + 1) (number + 1) x.looks x.points) (sym one) (subst (λ (ls : List Look). IsOn m (number + 1) (number + 1) ls t'.points) (sym same) on))
+            subst (λ (x : Lane). ArePickedBelow m (number + 1) (number + 1) x.looks x.points) (sym one) (subst (λ (ls : List Look). ArePickedBelow m (number + 1) (number + 1) ls t'.points) (sym same) on))
       ]
 
-      rest : (j : ℕ) (u : Lane) → i + 1 ≤ j → slice_get (slice_set lanes i t') j ≡ Some u → IsOn m number number u.looks u.points
+      rest : (j : ℕ) (u : Lane) → i + 1 ≤ j → slice_get (slice_set lanes i t') j ≡ Some u → ArePickedBelow m number number u.looks u.points
       rest j u above at = let apart : j ≢ i = omega arith in going.rest j u (omega arith) (sym (set_there lanes i j t' apart) ∙ at)
 
   pub stuck_there : IsStuck m t.looks t'.points → SomeStuck m (slice_set lanes i t')
@@ -70,14 +70,14 @@ module _ (m : ℕ → List Range) (number i : ℕ) (lanes : List Lane) (t t' : L
 
 -- ---- the maps of a tree
 
-pub map_more : (kind : Kind) (opening : List Range) (noted : List Noted) (i : ℕ) (n : Noted) → slice_get noted i ≡ Some n → map_by kind opening noted (i + 1) ≡ map_after kind (map_by kind opening noted i) n
+pub map_more : (kind : Kind) (opening : List Range) (noted : List Noted) (i : ℕ) (n : Noted) → slice_get noted i ≡ Some n → map_of_noted kind opening noted (i + 1) ≡ map_after_noted kind (map_of_noted kind opening noted i) n
 map_more kind opening noted i n is =
-    fold_more (map_after kind) opening noted i n (slice_get_within noted i n is)
-    ∙ ap (map_after kind (map_by kind opening noted i)) (get_or_from_slice_get noted i n n is)
+    fold_more (map_after_noted kind) opening noted i n (slice_get_within noted i n is)
+    ∙ ap (map_after_noted kind (map_of_noted kind opening noted i)) (get_or_from_slice_get noted i n n is)
 
 module _ (kind : Kind) (version rows : ℕ) (opening : List Range) (noted : List Noted) where
   abbrev m : ℕ → List Range
-  m = map_by kind opening noted
+  m = map_of_noted kind opening noted
 
   pub answered_more : (i : ℕ) (n : Noted) → slice_get noted i ≡ Some n → IsAnsweredAt kind version rows (opened_of opening) i (m i) n → AreAnswered kind version rows opening noted i → AreAnswered kind version rows opening noted (i + 1)
   answered_more i n is answer answered j o below at = elim (cases_lt j i) [
@@ -95,7 +95,7 @@ module _ (kind : Kind) (version rows : ℕ) (opening : List Range) (noted : List
   -- ---- where lanes begin, and where they end
 
   pub fresh_is_on : (lanes : List Lane) → AreFresh lanes → AreOn m 0 lanes
-  fresh_is_on lanes fresh j t is = subst (λ (points : List ℕ). IsOn m 0 0 t.looks points) (sym (fresh j t is)) (record {
+  fresh_is_on lanes fresh j t is = subst (λ (points : List ℕ). ArePickedBelow m 0 0 t.looks points) (sym (fresh j t is)) (record {
     picked = record { few = omega arith; each = λ i l below at. absurd (omega arith) };
     below = λ i below. absurd (omega arith);
     room = λ l at. omega arith;
@@ -109,7 +109,7 @@ module _ (kind : Kind) (version rows : ℕ) (opening : List Range) (noted : List
   pub waits_is_none : (lanes : List Lane) (count : ℕ) → AreWithin count lanes → AreOn m (count + 1) lanes → SomeWaits lanes → SomeHasNone m lanes
   waits_is_none lanes count within on w =
       let t = w.lane in
-      let o : IsOn m (count + 1) (count + 1) t.looks t.points = on w.place t w.is in
+      let o : ArePickedBelow m (count + 1) (count + 1) t.looks t.points = on w.place t w.is in
       let few = o.picked.few in
       let next = some_look t.looks (length t.points) (less few w.waits) in
       record {
@@ -132,7 +132,7 @@ module _ (kind : Kind) (version rows : ℕ) (opening : List Range) (noted : List
       some_look (l ∷ looks) zero below = (l, refl)
       some_look (l ∷ looks) (suc i) below = some_look looks i (omega arith)
 
-  pub done_is_least : (lanes : List Lane) (number : ℕ) → AreOn m number lanes → AreDone lanes true → AllLeast m lanes
+  pub done_is_least : (lanes : List Lane) (number : ℕ) → AreOn m number lanes → AreLanesDone lanes true → AllLeast m lanes
   done_is_least lanes number on done j t is = picked_is_least m t.looks t.points (on j t is).picked (done j t is)
 
 -- ---- the loop over the lanes

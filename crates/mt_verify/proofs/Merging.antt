@@ -13,7 +13,7 @@ use Rattle.mt_told.specs.declared.told.What.{What}
 use Rattle.mt_told.specs.declared.told.What.TheVariants.{Wrote, Got, Copied, Lawful}
 use Rattle.mt_verify.specs.declared.looks.Look.{Look}
 use Rattle.mt_verify.specs.ToldReads.{is_got, number_for, numbers_behind, read_by, read_in, reads_count, reads_told, own_points}
-use Rattle.mt_verify.specs.Going.{AreDone, Lane, looks_of}
+use Rattle.mt_verify.specs.Going.{AreLanesDone, Lane, looks_of}
 use Rattle.mt_verify.specs.GoneTrees.{GoneTree, lane_looks}
 use Rattle.mt_verify.specs.LaneReads.{look_by, look_told, looks_told}
 use Rattle.mt_verify.specs.Merging.{cell_of, points_at}
@@ -226,7 +226,7 @@ module _ (gone : List GoneTree) (told : List Told) (looks : (tree : ℕ) (g : Go
   pub points_are : (tree lane : ℕ) (g : GoneTree) (l : Lane) → slice_get gone tree ≡ Some g → slice_get g.lanes lane ≡ Some l → points_at gone tree lane ≡ l.points
   points_are tree lane g l is at = rw (is, at) refl
 
-  pub have_all : ((tree : ℕ) (g : GoneTree) → slice_get gone tree ≡ Some g → AreDone g.lanes true) → HaveAll gone told
+  pub have_all : ((tree : ℕ) (g : GoneTree) → slice_get gone tree ≡ Some g → AreLanesDone g.lanes true) → HaveAll gone told
   have_all done tree lane below within =
       let g : GoneTree = get_or gone tree no_tree in
       let is : slice_get gone tree ≡ Some g = slice_get-get_or gone tree no_tree below in
@@ -235,7 +235,7 @@ module _ (gone : List GoneTree) (told : List Told) (looks : (tree : ℕ) (g : Go
       let own : l.looks ≡ looks_told tree lane told = lane_at tree lane told g.lanes l (looks tree g is) at ∙ lane_is tree lane told in
       ap length (points_are tree lane g l is at) ∙ (done tree g is lane l at ∙ ap length own)
 
-  pub all_own : ((tree : ℕ) (g : GoneTree) → slice_get gone tree ≡ Some g → AreDone g.lanes true) → (used points : List ℕ) → IsMerged gone told used points
+  pub all_own : ((tree : ℕ) (g : GoneTree) → slice_get gone tree ≡ Some g → AreLanesDone g.lanes true) → (used points : List ℕ) → IsMerged gone told used points
       → (tree lane : ℕ) (g : GoneTree) (l : Lane) → slice_get gone tree ≡ Some g → slice_get g.lanes lane ≡ Some l → own_points tree lane told points ≡ l.points
   all_own done used points m tree lane g l is at =
       let below : tree < length gone = slice_get_within gone tree g is in

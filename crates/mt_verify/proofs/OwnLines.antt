@@ -7,7 +7,7 @@ use Rattle.mt_told.specs.declared.told.Told.{Told}
 use Rattle.mt_told.specs.declared.told.What.{What}
 use Rattle.mt_told.specs.declared.told.What.TheVariants.{Wrote, Got, Copied, Lawful}
 use Rattle.mt_verify.specs.declared.looks.Look.{Look}
-use Rattle.mt_verify.specs.ToldReads.{calls_told, is_wrote, number_for, numbers_behind, read_by, reads_told}
+use Rattle.mt_verify.specs.ToldReads.{calls_of_phases_before, is_wrote, number_for, numbers_behind, read_by, reads_told}
 use Rattle.mt_verify.specs.LaneReads.{look_told, looks_told}
 use Rattle.mt_verify.specs.OwnLines.{calls_below, calls_in, lines_on, look_by_lane, looks_by_lane}
 use Rattle.mt_verify.proofs.Found.{own_looks}
@@ -42,7 +42,7 @@ own_is tree lane (t ∷ told) points =
 
 -- ---- calls
 
-pub below_is : (tree phase : ℕ) (told : List Told) → calls_below (lines_on tree told) phase ≡ calls_told told tree phase
+pub below_is : (tree phase : ℕ) (told : List Told) → calls_below (lines_on tree told) phase ≡ calls_of_phases_before told tree phase
 below_is tree phase [] = refl
 below_is tree phase (t ∷ told) =
     let rest = below_is tree phase told in
@@ -55,7 +55,7 @@ below_is tree phase (t ∷ told) =
           ]
     ]
   where
-    by_what : (w : What) → calls_below (lines_on tree told) phase ≡ calls_told told tree phase → calls_in w + calls_below (lines_on tree told) phase ≡ length (if is_wrote w then t ∷ filter (λ (u : Told). (u.tree == tree) && (nat_lt u.phase phase && is_wrote u.what)) told else filter (λ (u : Told). (u.tree == tree) && (nat_lt u.phase phase && is_wrote u.what)) told)
+    by_what : (w : What) → calls_below (lines_on tree told) phase ≡ calls_of_phases_before told tree phase → calls_in w + calls_below (lines_on tree told) phase ≡ length (if is_wrote w then t ∷ filter (λ (u : Told). (u.tree == tree) && (nat_lt u.phase phase && is_wrote u.what)) told else filter (λ (u : Told). (u.tree == tree) && (nat_lt u.phase phase && is_wrote u.what)) told)
     by_what (Wrote number call reply) rest = omega (arith, rest)
     by_what (Got lo hi query a) rest = omega (arith, rest)
     by_what (Copied count) rest = omega (arith, rest)

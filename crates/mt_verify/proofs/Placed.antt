@@ -6,7 +6,7 @@ use Rattle.std.proofs.lemmas.Bool.Decides.{nat_tests}
 use Rattle.std.proofs.lemmas.Bool.{cases_eq}
 use Rattle.std.proofs.lemmas.List.Sums.{sum_by-cons, sum_by-append}
 use Rattle.std.proofs.lemmas.List.Sorted.{IsPermutation-refl, IsPermutation-trans, IsPermutation-cons, IsPermutation-swap, sum_by-IsPermutation}
-use Rattle.mt_verify.specs.ToldCalls.{filled_from, times, HasNoPlace}
+use Rattle.mt_verify.specs.ToldCalls.{filled_from, times_numbered, HasNoPlace}
 
 pub same_number : (n : ℕ) → (n == n) ≡ true
 same_number n = grind (arith, nat_tests)
@@ -23,34 +23,34 @@ module _ {X : Type 0} where
   one_of : ℕ → ℕ × X → ℕ
   one_of number e = cond (e.0 == number) 1 0
 
-  pub times-cons : (number : ℕ) (e : ℕ × X) (calls : List (ℕ × X)) → times number (e ∷ calls) ≡ cond (e.0 == number) 1 0 + times number calls
+  pub times-cons : (number : ℕ) (e : ℕ × X) (calls : List (ℕ × X)) → times_numbered number (e ∷ calls) ≡ cond (e.0 == number) 1 0 + times_numbered number calls
   times-cons number e calls = sum_by-cons (λ (y : ℕ × X). cond (y.0 == number) 1 0) e calls
 
-  pub times-append : (number : ℕ) (xs ys : List (ℕ × X)) → times number (xs ++ ys) ≡ times number xs + times number ys
+  pub times-append : (number : ℕ) (xs ys : List (ℕ × X)) → times_numbered number (xs ++ ys) ≡ times_numbered number xs + times_numbered number ys
   times-append number xs ys = sum_by-append (λ (y : ℕ × X). cond (y.0 == number) 1 0) xs ys
 
-  pub times-permutation : (number : ℕ) (xs ys : List (ℕ × X)) → IsPermutation xs ys → times number ys ≡ times number xs
+  pub times-permutation : (number : ℕ) (xs ys : List (ℕ × X)) → IsPermutation xs ys → times_numbered number ys ≡ times_numbered number xs
   times-permutation number xs ys same = sum_by-IsPermutation (λ (y : ℕ × X). cond (y.0 == number) 1 0) xs ys same
 
-  pub times_yes : (number : ℕ) (x : X) (calls : List (ℕ × X)) → times number ((number, x) ∷ calls) ≡ 1 + times number calls
-  times_yes number x calls = times-cons number (number, x) calls ∙ ap (λ (b : Bool). cond b 1 0 + times number calls) (same_number number)
+  pub times_yes : (number : ℕ) (x : X) (calls : List (ℕ × X)) → times_numbered number ((number, x) ∷ calls) ≡ 1 + times_numbered number calls
+  times_yes number x calls = times-cons number (number, x) calls ∙ ap (λ (b : Bool). cond b 1 0 + times_numbered number calls) (same_number number)
 
-  times_no : (number n : ℕ) (x : X) (calls : List (ℕ × X)) → (n ≡ number → ⊥) → times number ((n, x) ∷ calls) ≡ times number calls
-  times_no number n x calls other = times-cons number (n, x) calls ∙ (ap (λ (b : Bool). cond b 1 0 + times number calls) (other_number n number other) ∙ omega arith)
+  times_no : (number n : ℕ) (x : X) (calls : List (ℕ × X)) → (n ≡ number → ⊥) → times_numbered number ((n, x) ∷ calls) ≡ times_numbered number calls
+  times_no number n x calls other = times-cons number (n, x) calls ∙ (ap (λ (b : Bool). cond b 1 0 + times_numbered number calls) (other_number n number other) ∙ omega arith)
 
   -- no place has a lower number, nor one behind the last
-  pub times_below : (number n : ℕ) (places : List (Option X)) → number < n → times number (filled_from n places) ≡ 0
+  pub times_below : (number n : ℕ) (places : List (Option X)) → number < n → times_numbered number (filled_from n places) ≡ 0
   times_below number n [] low = refl
   times_below number n (None ∷ places) low = times_below number (n + 1) places (omega arith)
   times_below number n (Some x ∷ places) low = times_no number n x (filled_from (n + 1) places) (λ same. omega arith) ∙ times_below number (n + 1) places (omega arith)
 
-  pub times_behind : (number n : ℕ) (places : List (Option X)) → n + length places ≤ number → times number (filled_from n places) ≡ 0
+  pub times_behind : (number n : ℕ) (places : List (Option X)) → n + length places ≤ number → times_numbered number (filled_from n places) ≡ 0
   times_behind number n [] past = refl
   times_behind number n (None ∷ places) past = times_behind number (n + 1) places (omega arith)
   times_behind number n (Some x ∷ places) past = times_no number n x (filled_from (n + 1) places) (λ same. omega arith) ∙ times_behind number (n + 1) places (omega arith)
 
   -- and each number has one place
-  pub times_once : (number n : ℕ) (places : List (Option X)) → times number (filled_from n places) ≤ 1
+  pub times_once : (number n : ℕ) (places : List (Option X)) → times_numbered number (filled_from n places) ≤ 1
   times_once number n [] = omega arith
   times_once number n (None ∷ places) = times_once number (n + 1) places
   times_once number n (Some x ∷ places) = elim (cases_eq n number) [
@@ -63,30 +63,30 @@ module _ {X : Type 0} where
       one_at_most false = omega arith
 
   -- a call that stands in a place counts, and a free place does not
-  pub times_taken : (n k : ℕ) (places : List (Option X)) (x : X) (d : Option X) → k < length places → get_or places k d ≡ Some x → 0 < times (n + k) (filled_from n places)
+  pub times_taken : (n k : ℕ) (places : List (Option X)) (x : X) (d : Option X) → k < length places → get_or places k d ≡ Some x → 0 < times_numbered (n + k) (filled_from n places)
   times_taken n k [] x d within is = absurd (omega arith)
   times_taken n zero (None ∷ places) x d within is = absurd (cc)
   times_taken n zero (Some y ∷ places) x d within is =
       let zero_is : n + 0 ≡ n = omega arith in
-      subst (λ (m : ℕ). 0 < times m ((n, y) ∷ filled_from (n + 1) places)) (sym zero_is) (omega (arith, times_yes n y (filled_from (n + 1) places)))
+      subst (λ (m : ℕ). 0 < times_numbered m ((n, y) ∷ filled_from (n + 1) places)) (sym zero_is) (omega (arith, times_yes n y (filled_from (n + 1) places)))
   times_taken n (suc k) (None ∷ places) x d within is =
       let more : n + 1 + k ≡ n + suc k = omega arith in
-      subst (λ (m : ℕ). 0 < times m (filled_from (n + 1) places)) more (times_taken (n + 1) k places x d (omega arith) is)
+      subst (λ (m : ℕ). 0 < times_numbered m (filled_from (n + 1) places)) more (times_taken (n + 1) k places x d (omega arith) is)
   times_taken n (suc k) (Some y ∷ places) x d within is =
       let more : n + 1 + k ≡ n + suc k = omega arith in
-      let rest = subst (λ (m : ℕ). 0 < times m (filled_from (n + 1) places)) more (times_taken (n + 1) k places x d (omega arith) is) in
+      let rest = subst (λ (m : ℕ). 0 < times_numbered m (filled_from (n + 1) places)) more (times_taken (n + 1) k places x d (omega arith) is) in
       omega (arith, times-cons (n + suc k) (n, y) (filled_from (n + 1) places), rest)
 
-  pub times_free : (n k : ℕ) (places : List (Option X)) (d : Option X) → k < length places → get_or places k d ≡ None → times (n + k) (filled_from n places) ≡ 0
+  pub times_free : (n k : ℕ) (places : List (Option X)) (d : Option X) → k < length places → get_or places k d ≡ None → times_numbered (n + k) (filled_from n places) ≡ 0
   times_free n k [] d within is = absurd (omega arith)
   times_free n zero (None ∷ places) d within is = times_below (n + 0) (n + 1) places (omega arith)
   times_free n zero (Some y ∷ places) d within is = absurd (cc)
   times_free n (suc k) (None ∷ places) d within is =
       let more : n + 1 + k ≡ n + suc k = omega arith in
-      subst (λ (m : ℕ). times m (filled_from (n + 1) places) ≡ 0) more (times_free (n + 1) k places d (omega arith) is)
+      subst (λ (m : ℕ). times_numbered m (filled_from (n + 1) places) ≡ 0) more (times_free (n + 1) k places d (omega arith) is)
   times_free n (suc k) (Some y ∷ places) d within is =
       let more : n + 1 + k ≡ n + suc k = omega arith in
-      times_no (n + suc k) n y (filled_from (n + 1) places) (λ same. omega arith) ∙ subst (λ (m : ℕ). times m (filled_from (n + 1) places) ≡ 0) more (times_free (n + 1) k places d (omega arith) is)
+      times_no (n + suc k) n y (filled_from (n + 1) places) (λ same. omega arith) ∙ subst (λ (m : ℕ). times_numbered m (filled_from (n + 1) places) ≡ 0) more (times_free (n + 1) k places d (omega arith) is)
 
   -- a call is put in a free place
   pub put_one : (n k : ℕ) (places : List (Option X)) (x : X) (d : Option X) → k < length places → get_or places k d ≡ None → IsPermutation (filled_from n (set places k (Some x))) ((n + k, x) ∷ filled_from n places)
@@ -130,4 +130,4 @@ module _ {X : Type 0} where
     where
       some_at : (o : Option X) → get_or places (number - 1) None ≡ o → true ≡ is_some o → HasNoPlace number places
       some_at None is taken = absurd (cc)
-      some_at (Some y) is taken = inr (inr (subst (λ (n : ℕ). 0 < times n (filled_from 1 places)) (place_below number some) (times_taken 1 (number - 1) places y None (omega arith) is)))
+      some_at (Some y) is taken = inr (inr (subst (λ (n : ℕ). 0 < times_numbered n (filled_from 1 places)) (place_below number some) (times_taken 1 (number - 1) places y None (omega arith) is)))

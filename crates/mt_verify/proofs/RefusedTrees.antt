@@ -29,11 +29,11 @@ use Rattle.mt_verify.specs.declared.calls.Numbered.{Numbered}
 use Rattle.mt_verify.specs.declared.looks.Look.{Look}
 use Rattle.mt_verify.specs.declared.noted.Noted.{Noted}
 use Rattle.mt_verify.specs.declared.stops.Stop.{Stop}
-use Rattle.mt_verify.specs.ToldReads.{calls_told as calls_before_told, is_wrote}
+use Rattle.mt_verify.specs.ToldReads.{calls_of_phases_before as calls_before_told, is_wrote}
 use Rattle.mt_verify.specs.Going.{AreAnswered, Lane, SomeHasNone, looks_of}
 use Rattle.mt_verify.specs.GoneTrees.{AreMisheard, CannotGo, IsHindered, lane_looks}
 use Rattle.mt_verify.specs.Heard.{IsReader}
-use Rattle.mt_verify.specs.Histories.{AreHeard, map_by}
+use Rattle.mt_verify.specs.Histories.{AreHeard, map_of_noted}
 use Rattle.mt_verify.specs.LaneReads.{looks_on, points_on}
 use Rattle.mt_verify.specs.Looks.{MayHave}
 use Rattle.mt_verify.specs.OwnLines.{calls_below, line_on, lines_on, looks_by_lane, stop_at, stops_told}
@@ -206,14 +206,14 @@ numbered_step tree s number call r on is = rw (eq-eqb s.tree tree on, is) refl
 module _ (log : Log) (rows : ℕ) (t : Transcript) (steps : List Step) (trees : List History) (run : IsRunBy log rows t steps trees) (told : List Told) (are : AreTold log.version told steps) (few : rows ≤ most_rows)
     (tree : ℕ) (h : History) (is : slice_get trees tree ≡ Some h) where
   -- its lanes may have numbers
-  no_lane : (noted : List Noted) (lanes : List Lane) → AreHeard log.version noted h.records → looks_of lanes ≡ lane_looks tree told → SomeHasNone (map_by h.kind h.opening noted) lanes → ⊥
+  no_lane : (noted : List Noted) (lanes : List Lane) → AreHeard log.version noted h.records → looks_of lanes ≡ lane_looks tree told → SomeHasNone (map_of_noted h.kind h.opening noted) lanes → ⊥
   no_lane noted lanes heard looks some =
       let own : some.lane.looks ≡ looks_on tree some.place steps = lane_at tree some.place told lanes some.lane looks some.is ∙ (lane_is tree some.place told ∙ sym (looks_are_told log.version tree some.place told steps are)) in
-      some.none (λ i. get_or (points_on tree some.place steps) i 0) (subst (λ (l : List Look). MayHave (map_by h.kind h.opening noted) l (λ i. get_or (points_on tree some.place steps) i 0)) (sym own)
-      (may_move (map_at h) (map_by h.kind h.opening noted) (looks_on tree some.place steps) (λ i. get_or (points_on tree some.place steps) i 0) (λ n. heard_maps log.version h noted n heard) (lane_may_have log rows t steps trees run tree some.place h is)))
+      some.none (λ i. get_or (points_on tree some.place steps) i 0) (subst (λ (l : List Look). MayHave (map_of_noted h.kind h.opening noted) l (λ i. get_or (points_on tree some.place steps) i 0)) (sym own)
+      (may_move (map_at h) (map_of_noted h.kind h.opening noted) (looks_on tree some.place steps) (λ i. get_or (points_on tree some.place steps) i 0) (λ n. heard_maps log.version h noted n heard) (lane_may_have log rows t steps trees run tree some.place h is)))
 
   -- its checks and copies tell how many ranges it had
-  no_count : (noted : List Noted) → AreHeard log.version noted h.records → SomeMiscounted (map_by h.kind h.opening noted) (stops_told (lines_on tree told)) → ⊥
+  no_count : (noted : List Noted) → AreHeard log.version noted h.records → SomeMiscounted (map_of_noted h.kind h.opening noted) (stops_told (lines_on tree told)) → ⊥
   no_count noted heard some =
       let stop = stop_is tree told some.place some.stop some.is in
       let s = step_at log.version told steps stop.place stop.line are stop.is in

@@ -8,7 +8,7 @@ use Rattle.mt_log.specs.declared.lines.Log.{Log}
 use Rattle.mt_log.specs.declared.transcripts.Transcript.{Transcript}
 use Rattle.mt_log.specs.Run.{Outcome, Called, Looked, Counted, Step, IsRunBy, InOrder, StandsIn, IsTrueOf, Follows, is_read, shown}
 use Rattle.mt_verify.specs.Choices.{AreChosen, AreFirst}
-use Rattle.mt_verify.specs.Points.{lo_of, hi_of, number_of, at_place, TellsAt, IsTrueAt, KnowsAt, AreAlike}
+use Rattle.mt_verify.specs.Points.{lo_of, hi_of, read_number, at_place, TellsAt, IsTrueAt, KnowsAt, AreAlike}
 use Rattle.mt_verify.proofs.Greedy.{least}
 
 -- ---- a fact of all items, at one of them
@@ -35,30 +35,30 @@ placed f steps i s is = rw is refl
 
 -- ---- one read
 
-pub from_of : (h : History) (before : ℕ) (o : Outcome) → IsTrueOf h before o → lo_of o ≤ number_of o
+pub from_of : (h : History) (before : ℕ) (o : Outcome) → IsTrueOf h before o → lo_of o ≤ read_number o
 from_of h before (Called number call reply) is = omega arith
 from_of h before (Looked lo hi k query value) is = is.0.from
 from_of h before (Counted said ranges) is = omega arith
 
-to_of : (h : History) (before : ℕ) (o : Outcome) → IsTrueOf h before o → number_of o ≤ hi_of o
+to_of : (h : History) (before : ℕ) (o : Outcome) → IsTrueOf h before o → read_number o ≤ hi_of o
 to_of h before (Called number call reply) is = omega arith
 to_of h before (Looked lo hi k query value) is = is.0.to
 to_of h before (Counted said ranges) is = omega arith
 
-tells_of : (h : History) (before : ℕ) (o : Outcome) → IsTrueOf h before o → TellsAt h (number_of o) o
+tells_of : (h : History) (before : ℕ) (o : Outcome) → IsTrueOf h before o → TellsAt h (read_number o) o
 tells_of h before (Called number call reply) is = tt
 tells_of h before (Looked lo hi k query value) is = (is.0.made, ap (shown query) (sym is.0.answered))
 tells_of h before (Counted said ranges) is = tt
 
 -- two reads of which the later knows of the earlier
-rise_of : (o p : Outcome) → is_read o ≡ true → is_read p ≡ true → Follows o p → number_of o ≤ number_of p
+rise_of : (o p : Outcome) → is_read o ≡ true → is_read p ≡ true → Follows o p → read_number o ≤ read_number p
 rise_of (Called number call reply) p read read' follows = absurd (cc)
 rise_of (Counted said ranges) p read read' follows = absurd (cc)
 rise_of (Looked lo hi k query value) (Called number call reply) read read' follows = absurd (cc)
 rise_of (Looked lo hi k query value) (Counted said ranges) read read' follows = absurd (cc)
 rise_of (Looked lo hi k query value) (Looked lo' hi' k' query' value') read read' follows = follows.0
 
-floor_of : (o p : Outcome) → is_read o ≡ true → is_read p ≡ true → Follows o p → number_of o ≤ lo_of p + 1
+floor_of : (o p : Outcome) → is_read o ≡ true → is_read p ≡ true → Follows o p → read_number o ≤ lo_of p + 1
 floor_of (Called number call reply) p read read' follows = absurd (cc)
 floor_of (Counted said ranges) p read read' follows = absurd (cc)
 floor_of (Looked lo hi k query value) (Called number call reply) read read' follows = absurd (cc)
@@ -75,27 +75,27 @@ module _ (log : Log) (rows : ℕ) (t : Transcript) (steps : List Step) (trees : 
   follows : (j i : ℕ) → j < i → (known : KnowsAt steps i j) → Follows known.earlier.outcome known.later.outcome
   follows j i before known = pairs_at InOrder steps j i known.earlier known.later run.order before known.before known.at known.tree known.knows
 
-  pub chosen : AreChosen (length steps) (at_place lo_of steps) (at_place hi_of steps) (IsTrueAt steps trees) (KnowsAt steps) (at_place number_of steps)
+  pub chosen : AreChosen (length steps) (at_place lo_of steps) (at_place hi_of steps) (IsTrueAt steps trees) (KnowsAt steps) (at_place read_number steps)
   chosen = record {
     from = λ i within. let s = some_at steps i within in let h = stands i s.0 s.1 in
-        omega (arith, placed lo_of steps i s.0 s.1, placed number_of steps i s.0 s.1, from_of h.0 _ s.0.outcome h.2);
+        omega (arith, placed lo_of steps i s.0 s.1, placed read_number steps i s.0 s.1, from_of h.0 _ s.0.outcome h.2);
     to = λ i within. let s = some_at steps i within in let h = stands i s.0 s.1 in
-        omega (arith, placed hi_of steps i s.0 s.1, placed number_of steps i s.0 s.1, to_of h.0 _ s.0.outcome h.2);
+        omega (arith, placed hi_of steps i s.0 s.1, placed read_number steps i s.0 s.1, to_of h.0 _ s.0.outcome h.2);
     holds = λ i within s h is at.
         let g = stands i s is in
         let same : g.0 ≡ h = same_Some g.0 h (sym g.1 ∙ at) in
-        subst (λ (n : ℕ). TellsAt h n s.outcome) (sym (placed number_of steps i s is)) (subst (λ (x : History). TellsAt x (number_of s.outcome) s.outcome) same (tells_of g.0 _ s.outcome g.2));
+        subst (λ (n : ℕ). TellsAt h n s.outcome) (sym (placed read_number steps i s is)) (subst (λ (x : History). TellsAt x (read_number s.outcome) s.outcome) same (tells_of g.0 _ s.outcome g.2));
     rise = λ j i before within known.
         omega (
           arith,
-          placed number_of steps j known.earlier known.before,
-          placed number_of steps i known.later known.at,
+          placed read_number steps j known.earlier known.before,
+          placed read_number steps i known.later known.at,
           rise_of known.earlier.outcome known.later.outcome known.read_before known.reads (follows j i before known),
         );
     floor = λ j i before within known.
         omega (
           arith,
-          placed number_of steps j known.earlier known.before,
+          placed read_number steps j known.earlier known.before,
           placed lo_of steps i known.later known.at,
           floor_of known.earlier.outcome known.later.outcome known.read_before known.reads (follows j i before known),
         );
@@ -106,19 +106,19 @@ module _ (log : Log) (rows : ℕ) (t : Transcript) (steps : List Step) (trees : 
 module _ (log : Log) (rows : ℕ) (t' : Transcript) (steps steps' : List Step) (trees trees' : List History)
     (alike : AreAlike steps trees steps' trees') (run' : IsRunBy log rows t' steps' trees') where
   -- the numbers of the one are chosen for the other as well
-  pub chosen_too : AreChosen (length steps) (at_place lo_of steps) (at_place hi_of steps) (IsTrueAt steps trees) (KnowsAt steps) (at_place number_of steps')
+  pub chosen_too : AreChosen (length steps) (at_place lo_of steps) (at_place hi_of steps) (IsTrueAt steps trees) (KnowsAt steps) (at_place read_number steps')
   chosen_too =
       let c = chosen log rows t' steps' trees' run' in
       record {
         from = λ i within. omega (arith, alike.lo i, c.from i (omega (arith, alike.count)));
         to = λ i within. omega (arith, alike.hi i, c.to i (omega (arith, alike.count)));
-        holds = λ i within. alike.truth i (at_place number_of steps' i) (c.holds i (omega (arith, alike.count)));
+        holds = λ i within. alike.truth i (at_place read_number steps' i) (c.holds i (omega (arith, alike.count)));
         rise = λ j i before within known. c.rise j i before (omega (arith, alike.count)) (alike.knows i j known);
         floor = λ j i before within known. omega (arith, alike.lo i, c.floor j i before (omega (arith, alike.count)) (alike.knows i j known));
       }
 
   -- the first numbers are the least
-  pub first_is_least : AreFirst (length steps) (at_place lo_of steps) (IsTrueAt steps trees) (KnowsAt steps) (λ i. true) (at_place number_of steps) → (i : ℕ) → i < length steps → at_place number_of steps i ≤ at_place number_of steps' i
+  pub first_is_least : AreFirst (length steps) (at_place lo_of steps) (IsTrueAt steps trees) (KnowsAt steps) (λ i. true) (at_place read_number steps) → (i : ℕ) → i < length steps → at_place read_number steps i ≤ at_place read_number steps' i
   first_is_least first i within =
-      least (length steps) (at_place lo_of steps) (at_place hi_of steps) (IsTrueAt steps trees) (KnowsAt steps) (λ i. true) (at_place number_of steps) (at_place number_of steps')
+      least (length steps) (at_place lo_of steps) (at_place hi_of steps) (IsTrueAt steps trees) (KnowsAt steps) (λ i. true) (at_place read_number steps) (at_place read_number steps')
       (λ j i before within known is. refl) first chosen_too i within refl

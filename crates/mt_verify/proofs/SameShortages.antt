@@ -3,7 +3,7 @@ use Rattle.std.proofs.Common.{◌≡◌, ℕ, List, [], ◌∷◌, ◌++◌, ref
 use Rattle.std.specs.Fmt.{decimal}
 use Rattle.std.proofs.lemmas.List.{append-nil}
 use Rattle.mt_base.specs.declared.replies.Shortage.{Shortage}
-use Rattle.mt_verify.specs.Heard.{IsSmallShortage, shortage_text}
+use Rattle.mt_verify.specs.Heard.{IsSmallShortage, shortage_printed}
 use Rattle.mt_told.proofs.OneWay.{AreOneNumber, numbers_apart}
 
 behind_space : (r s : List ℕ) → 32 ∷ r ≡ 32 ∷ s → r ≡ s
@@ -12,7 +12,7 @@ behind_space r s same = cc
 behind_word : (r s : List ℕ) → 110 ∷ 111 ∷ 109 ∷ 101 ∷ 109 ∷ 32 ∷ r ≡ 110 ∷ 111 ∷ 109 ∷ 101 ∷ 109 ∷ 32 ∷ s → r ≡ s
 behind_word r s same = cc
 
-pub same_shortages : (s other : Shortage) → IsSmallShortage s → IsSmallShortage other → shortage_text s ≡ shortage_text other → s ≡ record other { by = s.by }
+pub same_shortages : (s other : Shortage) → IsSmallShortage s → IsSmallShortage other → shortage_printed s ≡ shortage_printed other → s ≡ record other { by = s.by }
 same_shortages s other small small' text =
     let last : List ℕ = decimal s.held in
     let last' : List ℕ = decimal other.held in

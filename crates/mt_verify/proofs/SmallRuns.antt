@@ -13,8 +13,8 @@ use Rattle.mt_base.specs.declared.calls.Call.TheVariants.{Store, StorePre, Inser
 use Rattle.mt_base.specs.History.{Record, History, map_at}
 use Rattle.mt_log.specs.LogText.{IsLog}
 use Rattle.mt_log.specs.Phases.{phase_after}
-use Rattle.mt_log.specs.Reading.{Read, after_item, most_scan_steps, nothing_read, scan_steps_of}
-use Rattle.mt_log.specs.Run.{Asked, Outcome, Called, Looked, Counted, Step, AreDone, GoesOn, IsDone, IsRunBy, IsScan, IsTrueOf, OpensAs, asked_from, calls_before, is_answered, lane_after, lane_of, numbered_on, place_behind, place_within, record_of}
+use Rattle.mt_log.specs.Reading.{ReadSoFar, after_item, most_scan_steps, nothing_read, scan_steps_of}
+use Rattle.mt_log.specs.Run.{Asked, Outcome, Called, Looked, Counted, Step, AreDone, ScanGoesOnFrom, IsDone, IsRunBy, AreScanSteps, IsTrueOf, OpensAs, asked_from, calls_before, is_answered, lane_after, lane_of, numbered_on, place_behind, place_within, record_in}
 use Rattle.mt_log.specs.Trees.{Opening, Empty, CopyOf, Declared, trees_of}
 use Rattle.mt_log.specs.declared.lines.Item.{Item}
 use Rattle.mt_log.specs.declared.lines.Item.TheVariants.{Tree, Lane, Join, Dup, Check, Write, Ask, Scan}
@@ -123,14 +123,14 @@ none_known count steps none = subst (Known count) (sym none) (tt, omega arith)
 one_known : (steps : List Step) (s : Step) → steps ≡ s ∷ [] → DoneFits s.outcome → Known 1 steps
 one_known steps s is fits = subst (Known 1) (sym is) ((fits, tt), omega arith)
 
-goes_known : (scans : Option ℕ → List Step → Type 0) (max count : ℕ) → ((at : Option ℕ) (steps : List Step) → scans at steps → Known count steps) → (value : Option Range) (rest : List Step) → GoesOn scans max value rest → Known count rest
+goes_known : (scans : Option ℕ → List Step → Type 0) (max count : ℕ) → ((at : Option ℕ) (steps : List Step) → scans at steps → Known count steps) → (value : Option Range) (rest : List Step) → ScanGoesOnFrom scans max value rest → Known count rest
 goes_known scans max count each None rest none = none_known count rest none
 goes_known scans max count each (Some r) rest scan = each (place_behind max r) rest scan
 
-scan_known : (a : Asked) (tree max count : ℕ) (at : Option ℕ) (steps : List Step) → IsScan a tree max count at steps → Known count steps
+scan_known : (a : Asked) (tree max count : ℕ) (at : Option ℕ) (steps : List Step) → AreScanSteps a tree max count at steps → Known count steps
 scan_known a tree max zero at steps done = none_known 0 steps done
 scan_known a tree max (suc count) at steps done =
-    let more = goes_known (IsScan a tree max count) max count (λ at' rest. scan_known a tree max count at' rest) done.3 done.4 done.6 in
+    let more = goes_known (AreScanSteps a tree max count) max count (λ at' rest. scan_known a tree max count at' rest) done.3 done.4 done.6 in
     subst (Known (suc count)) (sym done.5) ((tt, more.0), omega (arith, more.1))
 
 item_known : (a : Asked) (item : Item) (steps : List Step) → SaysEntry item → IsDone a item steps → Known (steps_by item) steps
@@ -161,11 +161,11 @@ asked_known true a asked steps one others done mine rest =
     subst (Known (one + others)) (sym done.2) (done_append done.0 done.1 first.0 behind.0, omega (arith, length-append done.0 done.1, first.1, behind.1))
 asked_known false a asked steps one others done mine rest = let behind = rest steps done in (behind.0, omega (arith, behind.1))
 
-lines_known : (r : Read) (lane phase : ℕ) (lines : List Line) (steps : List Step) → CanAllFollow r lines → r.scanned ≤ most_scan_steps → AreDone (asked_from lane phase lines) steps → Known (length lines + (most_scan_steps - r.scanned)) steps
+lines_known : (r : ReadSoFar) (lane phase : ℕ) (lines : List Line) (steps : List Step) → CanAllFollow r lines → r.scanned ≤ most_scan_steps → AreDone (asked_from lane phase lines) steps → Known (length lines + (most_scan_steps - r.scanned)) steps
 lines_known r lane phase [] steps follow scanned done = none_known _ steps done
 lines_known r lane phase (line ∷ lines) steps follow scanned done =
     let item : Item = line.item in
-    let next : Read = after_item (at_line line.number r) item in
+    let next : ReadSoFar = after_item (at_line line.number r) item in
     let scans : scan_steps_of item ≤ most_scan_steps - r.scanned = follow.1.follows.scans in
     let a : Asked = record { line = line.number; lane = lane_of lane item; phase = phase; item = item } in
     let all = asked_known (is_answered item) a (asked_from (lane_after lane item) (phase_after phase item) lines) steps
@@ -179,9 +179,9 @@ lines_known r lane phase (line ∷ lines) steps follow scanned done =
 module _ (log : Log) (rows : ℕ) (t : Transcript) (steps : List Step) (trees : List History) (run : IsRunBy log rows t steps trees) (fits : AllByRecursion (λ (s : Step). DoneFits s.outcome) steps) where
   -- a step's call is numbered so, and its entry is of 64 bits
   call_kept : (tree : ℕ) (s : Step) → DoneFits s.outcome → IfSome (numbered_on tree s) (λ e. EntryFits e.1.call)
-  call_kept tree s done = cond_both (s.tree == tree) (record_of s.lane s.outcome) None (λ o. IfSome o (λ (e : ℕ × Record). EntryFits e.1.call)) (λ here. of_record s.lane s.outcome done) (λ there. tt)
+  call_kept tree s done = cond_both (s.tree == tree) (record_in s.lane s.outcome) None (λ o. IfSome o (λ (e : ℕ × Record). EntryFits e.1.call)) (λ here. of_record s.lane s.outcome done) (λ there. tt)
     where
-      of_record : (lane : ℕ) (o : Outcome) → DoneFits o → IfSome (record_of lane o) (λ e. EntryFits e.1.call)
+      of_record : (lane : ℕ) (o : Outcome) → DoneFits o → IfSome (record_in lane o) (λ e. EntryFits e.1.call)
       of_record lane (Called number call reply) done = done
       of_record lane (Looked lo hi k query value) done = tt
       of_record lane (Counted said ranges) done = tt
@@ -230,7 +230,7 @@ module _ (log : Log) (rows : ℕ) (t : Transcript) (steps : List Step) (trees : 
         let kept : All P (filter_map (numbered_on tree) steps) = All-permutation P (enumerate_from 1 h.records) (filter_map (numbered_on tree) steps) (run.once tree h is) listed in
         All-from_recursion (λ (s : Step). IfSome (numbered_on tree s) P) steps (each_was P (numbered_on tree) steps (recursion_from_All P (filter_map (numbered_on tree) steps) kept))
 
-    outcome_small : (h : History) (lane before : ℕ) (o : Outcome) → length steps < 2 ^ 64 → length h.records ≤ length steps → ((k : ℕ) → IsSmallMap h.kind (map_at h k)) → IfSome (record_of lane o) (λ e. e.0 ≤ length steps) → IsTrueOf h before o → IsSmall o
+    outcome_small : (h : History) (lane before : ℕ) (o : Outcome) → length steps < 2 ^ 64 → length h.records ≤ length steps → ((k : ℕ) → IsSmallMap h.kind (map_at h k)) → IfSome (record_in lane o) (λ e. e.0 ≤ length steps) → IsTrueOf h before o → IsSmall o
     outcome_small h lane before (Called number call reply) long few maps numbered holds = omega (arith, numbered, long)
     outcome_small h lane before (Looked lo hi k query value) long few maps numbered holds = (
       omega (arith, holds.0.from, holds.0.to, holds.1, few, long),
@@ -247,7 +247,7 @@ module _ (log : Log) (rows : ℕ) (t : Transcript) (steps : List Step) (trees : 
         let mine = numbers_small s.tree h stands.1 k d within in
         outcome_small h s.lane (calls_before steps s.tree s.phase) s.outcome long (few_records s.tree h stands.1)
         (λ n. map_at_is_small h n (records_fit s.tree h stands.1) (opening_small (s.tree + 1) s.tree h (omega arith) stands.1))
-        (subst (λ (b : Bool). IfSome (if b then record_of s.lane s.outcome else None) (λ (e : ℕ × Record). e.0 ≤ length steps)) (same_number s.tree) mine) stands.2
+        (subst (λ (b : Bool). IfSome (if b then record_in s.lane s.outcome else None) (λ (e : ℕ × Record). e.0 ≤ length steps)) (same_number s.tree) mine) stands.2
 
 pub run_small : (log : Log) (rows : ℕ) (t : Transcript) (steps : List Step) (trees : List History) → IsLog log → length log.lines < 2 ^ 63 → IsRunBy log rows t steps trees
     → ((tree source phase : ℕ) (d : Declared) → slice_get (trees_of log.lines) tree ≡ Some d → d.opening ≡ CopyOf source phase → source < tree) → All (λ (s : Step). IsSmall s.outcome) steps

@@ -4,7 +4,7 @@ use Rattle.std.proofs.lemmas.Bool.{cases_lt, eq-eqb, eqb-true}
 use Rattle.std.proofs.lemmas.Option.{slice_get_within, same_Some}
 use Rattle.mt_base.specs.declared.ranges.Range.{Range}
 use Rattle.mt_verify.specs.declared.stops.Stop.{Stop}
-use Rattle.mt_verify.specs.Stops.{Passing, IsCounted, is_at, HasStopped, AreCounted, AreStopped, SomeMiscounted}
+use Rattle.mt_verify.specs.Stops.{Passing, HasToldCount, is_at, HasStopped, AreCounted, AreStopped, SomeMiscounted}
 use Rattle.mt_verify.proofs.Runs.{some_at}
 
 module _ (m : ℕ → List Range) (number : ℕ) (p : Passing) where
@@ -13,13 +13,13 @@ module _ (m : ℕ → List Range) (number : ℕ) (p : Passing) where
     map_is : m s.at ≡ c
     map_is = ap m here ∙ at
 
-    counted_more : IsCounted c s → AreStopped m number p → AreCounted m p.stops (p.next + 1)
+    counted_more : HasToldCount c s → AreStopped m number p → AreCounted m p.stops (p.next + 1)
     counted_more counted on i t below there = elim (cases_lt i p.next) [
       | inl lower ↦ on.counted i t lower there
       | inr above ↦
           (let place : i ≡ p.next = omega arith in
           let same : t ≡ s = same_Some t s (sym there ∙ (ap (slice_get p.stops) place ∙ is)) in
-          subst (λ (x : Stop). IsCounted (m x.at) x) (sym same) (subst (λ (x : List Range). IsCounted x s) (sym map_is) counted))
+          subst (λ (x : Stop). HasToldCount (m x.at) x) (sym same) (subst (λ (x : List Range). HasToldCount x s) (sym map_is) counted))
     ]
 
     pub stopped_more : (q : Passing) → HasStopped c s p q true → AreStopped m number p → AreStopped m number q
@@ -35,7 +35,7 @@ module _ (m : ℕ → List Range) (number : ℕ) (p : Passing) where
       place = p.next;
       stop = s;
       is = ap (λ (x : List Stop). slice_get x p.next) same ∙ is;
-      wrong = λ counted. wrong (subst (λ (x : List Range). IsCounted x s) map_is counted);
+      wrong = λ counted. wrong (subst (λ (x : List Range). HasToldCount x s) map_is counted);
     }
 
   -- no stop is left at this number

@@ -12,8 +12,8 @@ use Rattle.mt_log.specs.declared.lines.Log.{Log}
 use Rattle.mt_log.specs.declared.transcripts.Entry.{Entry}
 use Rattle.mt_log.specs.declared.transcripts.Transcript.{Transcript}
 use Rattle.mt_log.specs.Phases.{phase_after}
-use Rattle.mt_log.specs.Run.{AreDone, Asked, GoesOn, IsDone, IsRun, IsScan, Looked, Step, asked_from, entry_of, find_at, is_answered, lane_after, lane_of, place_behind, place_within, step_of, steps_of}
-use Rattle.mt_verify.specs.Tellings.{asks_call, calls_told, reads_told, tells_call, tells_read}
+use Rattle.mt_log.specs.Run.{AreDone, Asked, ScanGoesOnFrom, IsDone, IsRun, AreScanSteps, Looked, Step, asked_from, entry_of, find_at, is_answered, lane_after, lane_of, place_behind, place_within, step_of, steps_of}
+use Rattle.mt_verify.specs.Tellings.{asks_call, count_of_calls, reads_told, tells_call, tells_read}
 use Rattle.mt_verify.specs.Points.{IsPointList, point_of, points_of}
 
 -- how many of the steps are told so
@@ -47,12 +47,12 @@ both m n xs ys (calls, reads) (calls', reads') = (
 none_counted : (steps : List Step) → steps ≡ [] → IsCounted 0 steps
 none_counted steps is = subst (IsCounted 0) (sym is) (refl, refl)
 
-goes_on : (a : Asked) (tree max count : ℕ) (value : Option Range) (rest : List Step) → ((at : Option ℕ) (steps : List Step) → IsScan a tree max count at steps → IsCounted 0 steps)
-    → GoesOn (IsScan a tree max count) max value rest → IsCounted 0 rest
+goes_on : (a : Asked) (tree max count : ℕ) (value : Option Range) (rest : List Step) → ((at : Option ℕ) (steps : List Step) → AreScanSteps a tree max count at steps → IsCounted 0 steps)
+    → ScanGoesOnFrom (AreScanSteps a tree max count) max value rest → IsCounted 0 rest
 goes_on a tree max count None rest counted on = none_counted rest on
 goes_on a tree max count (Some r) rest counted on = counted (place_behind max r) rest on
 
-scan_counted : (a : Asked) (tree max count : ℕ) (at : Option ℕ) (steps : List Step) → IsScan a tree max count at steps → IsCounted 0 steps
+scan_counted : (a : Asked) (tree max count : ℕ) (at : Option ℕ) (steps : List Step) → AreScanSteps a tree max count at steps → IsCounted 0 steps
 scan_counted a tree max zero at steps is = none_counted steps is
 scan_counted a tree max (suc count) at steps (lo, hi, k, value, rest, is, on) =
     let first : Step = step_of a tree (Looked lo hi k (find_at at max) value) in
@@ -109,7 +109,7 @@ lines_counted lane phase (line ∷ lines) =
     ∙ sym (one_more (λ l. asks_call l.item) line lines))
 
 -- as many calls are told as the log asks for
-pub calls_are_asked : (log : Log) (rows : ℕ) (t : Transcript) → IsRun log rows t → calls_told t ≡ length (filter (λ l. asks_call l.item) log.lines)
+pub calls_are_asked : (log : Log) (rows : ℕ) (t : Transcript) → IsRun log rows t → count_of_calls t ≡ length (filter (λ l. asks_call l.item) log.lines)
 calls_are_asked log rows t (steps, trees, run) =
     ap (λ (es : List Entry). length (filter a_call es)) run.told ∙ ((all_counted (steps_of log.lines) steps run.asked).0 ∙ lines_counted 0 0 log.lines)
 

@@ -21,7 +21,7 @@ use Rattle.mt_verify.specs.declared.calls.Numbered.{Numbered}
 use Rattle.mt_verify.specs.declared.noted.Heard.{Heard}
 use Rattle.mt_verify.specs.declared.noted.Heard.TheVariants.{Reply as Printed, Short}
 use Rattle.mt_verify.specs.declared.noted.Noted.{Noted}
-use Rattle.mt_verify.specs.Heard.{IsSmallShortage, shortage_text}
+use Rattle.mt_verify.specs.Heard.{IsSmallShortage, shortage_printed}
 use Rattle.mt_verify.specs.Hearing.{AreNotedOf, IsHeardOf}
 use Rattle.mt_verify.specs.Histories.{AreHeard, IsHeard, is_nomem}
 use Rattle.mt_verify.specs.ToldCalls.{AreCallsOf, AreRecordsTold, IsRecordTold, calls_told}
@@ -56,7 +56,7 @@ heard_of version tree told x (Short s) r is prints small =
     let third : third_m (reply_text version r) ≡ true = ap third_m (prints ∙ is.0.is.printed) in
     let nomem : is_nomem r ≡ true = sym (nomem_text version r) ∙ third in
     let other = refusal_of r nomem in
-    let text : shortage_text s ≡ shortage_text other.0 = sym is.0.is.printed ∙ (sym prints ∙ ap (reply_text version) other.1) in
+    let text : shortage_printed s ≡ shortage_printed other.0 = sym is.0.is.printed ∙ (sym prints ∙ ap (reply_text version) other.1) in
     record {
       other = other.0;
       is = other.1;

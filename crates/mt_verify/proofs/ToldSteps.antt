@@ -2,7 +2,7 @@
 use Rattle.std.proofs.Common.{◌≡◌, ◌↔◌, ◌⊎◌, ℕ, zero, suc, ◌==◌, ◌<◌, ◌≤◌, Bool, true, false, List, [], ◌∷◌, Option, Some, None, All, AllPairs, length, get_or, filter_map, if◌then◌else◌, arith, refl, sym, ap, ◌∙◌, subst, inl, inr}
 use Rattle.std.specs.List.{cons_option}
 use Rattle.mt_base.specs.History.{Record}
-use Rattle.mt_log.specs.Run.{Outcome, Called, Looked, Counted, Step, numbered_on, record_of}
+use Rattle.mt_log.specs.Run.{Outcome, Called, Looked, Counted, Step, numbered_on, record_in}
 use Rattle.mt_told.specs.declared.told.Told.{Told}
 use Rattle.mt_told.specs.declared.told.What.{What}
 use Rattle.mt_told.specs.declared.told.What.TheVariants.{Wrote, Got, Copied, Lawful}
@@ -132,7 +132,7 @@ module _ (version tree : ℕ) where
   AreTellable (Some e) None = ⊥
   AreTellable (Some e) (Some r) = IsRecordTold version e r
 
-  one_call : (lane lane' phase : ℕ) (w : What) (o : Outcome) → lane' ≡ lane → IsToldOf version w o → AreTellable (numbered_of lane phase w) (record_of lane' o)
+  one_call : (lane lane' phase : ℕ) (w : What) (o : Outcome) → lane' ≡ lane → IsToldOf version w o → AreTellable (numbered_of lane phase w) (record_in lane' o)
   one_call lane lane' phase (Wrote number call reply) (Called n c r) same is = record { number = is.0; lane = same; call = is.1; reply = is.2 }
   one_call lane lane' phase (Wrote number call reply) (Looked lo hi k q v) same is = absurd is
   one_call lane lane' phase (Wrote number call reply) (Counted s ranges) same is = absurd is
@@ -153,7 +153,7 @@ module _ (version tree : ℕ) where
   one_line : (t : Told) (s : Step) → IsTold version t s → AreTellable (numbered_on_told tree t) (numbered_on tree s)
   one_line t s is =
       let call = one_call t.lane s.lane t.phase t.what s.outcome is.lane is.outcome in
-      subst (λ (n : ℕ). AreTellable (numbered_on_told tree t) (if n == tree then record_of s.lane s.outcome else None)) (sym is.tree) (on_tree (t.tree == tree) (numbered_of t.lane t.phase t.what) (record_of s.lane s.outcome) call)
+      subst (λ (n : ℕ). AreTellable (numbered_on_told tree t) (if n == tree then record_in s.lane s.outcome else None)) (sym is.tree) (on_tree (t.tree == tree) (numbered_of t.lane t.phase t.what) (record_in s.lane s.outcome) call)
 
   one_more_call : (o : Option (ℕ × Numbered)) (p : Option (ℕ × Record)) (calls : List (ℕ × Numbered)) (records : List (ℕ × Record)) → AreTellable o p → AreRecordsTold version calls records → AreRecordsTold version (cons_option o calls) (cons_option p records)
   one_more_call None None calls records one rest = rest

@@ -11,8 +11,8 @@ use Rattle.mt_list.specs.ListMap.{Contents}
 use Rattle.mt_verify.specs.declared.noted.Heard.{Heard}
 use Rattle.mt_verify.specs.declared.noted.Heard.TheVariants.{Reply as Printed, Short}
 use Rattle.mt_verify.specs.declared.noted.Noted.{Noted}
-use Rattle.mt_verify.specs.Going.{Lane, opened_of, IsAnsweredAt, AreAnswered, AreOn, looks_of, SomeStuck, SomeHasNone, AllStopped, IsGone, AreWithin, AreDone, AreFresh, AreFreshStops, AreStopsWithin, AreAt, HavePassedAll}
-use Rattle.mt_verify.specs.Histories.{map_after, map_by, map_heard}
+use Rattle.mt_verify.specs.Going.{Lane, opened_of, IsAnsweredAt, AreAnswered, AreOn, looks_of, SomeStuck, SomeHasNone, AllStopped, IsGone, AreWithin, AreLanesDone, AreFresh, AreFreshStops, AreStopsWithin, AreAt, HavePassedAll}
+use Rattle.mt_verify.specs.Histories.{map_after_noted, map_of_noted, map_heard}
 use Rattle.mt_verify.specs.Stops.{Passing, AreCounted, AreStopped, HavePassedStops, SomeMiscounted}
 use Rattle.mt_verify.proofs.Laning.{map_more, answered_more, not_answered, fresh_is_on, stuck_is_none, waits_is_none, done_is_least, within_still}
 use Rattle.mt_verify.proofs.Runs.{some_at}
@@ -22,7 +22,7 @@ use Rattle.mt_verify.proofs.Runs.{some_at}
 pub record HaveGone (kind : Kind) (version rows : ℕ) (opening : List Range) (noted : List Noted) (count : ℕ)
     (lanes : List Lane) (p : Passing) : Type 0 where
   pub answered : AreAnswered kind version rows opening noted count
-  pub at : AreAt (map_by kind opening noted) (count + 1) lanes p
+  pub at : AreAt (map_of_noted kind opening noted) (count + 1) lanes p
 
 -- a tree while its history is gone through
 pub record Going : Type 0 where
@@ -33,7 +33,7 @@ pub record Going : Type 0 where
 -- so many calls were made, and all have gone through the maps so far
 pub record AllGo (version rows : ℕ) (noted : List Noted) (before : Going) (count : ℕ) (now : Going) : Type 0 where
   pub kind : now.map.kind ≡ before.map.kind
-  pub ranges : now.map.ranges ≡ map_by before.map.kind before.map.ranges noted count
+  pub ranges : now.map.ranges ≡ map_of_noted before.map.kind before.map.ranges noted count
   pub looks : looks_of now.lanes ≡ looks_of before.lanes
   pub stops : now.stops.stops ≡ before.stops.stops
   pub gone : HaveGone before.map.kind version rows before.map.ranges noted count now.lanes now.stops
@@ -58,7 +58,7 @@ Hinders m t = SomeHasNone m t.lanes ⊎ SomeMiscounted m t.stops.stops
 
 module _ (version rows : ℕ) (noted : List Noted) (before : Going) where
   abbrev ms : ℕ → List Range
-  ms = map_by before.map.kind before.map.ranges noted
+  ms = map_of_noted before.map.kind before.map.ranges noted
 
   hindered : (t : Going) → SomeStuck ms t.lanes ⊎ SomeMiscounted ms t.stops.stops → Hinders ms t
   hindered t (inl stuck) = inl (stuck_is_none before.map.kind version rows before.map.ranges noted t.lanes stuck)
@@ -88,14 +88,14 @@ module _ (version rows : ℕ) (noted : List Noted) (before : Going) where
     Answers kind m = IsAnsweredAt kind version rows (opened_of before.map.ranges) i m n
 
     -- the map at hand is the one at the call's number
-    ranges_are : map_after now.map.kind now.map.ranges n ≡ ms (i + 1)
-    ranges_are = (λ k. map_after (go.kind k) (go.ranges k) n) ∙ sym (map_more before.map.kind before.map.ranges noted i n is)
+    ranges_are : map_after_noted now.map.kind now.map.ranges n ≡ ms (i + 1)
+    ranges_are = (λ k. map_after_noted (go.kind k) (go.ranges k) n) ∙ sym (map_more before.map.kind before.map.ranges noted i n is)
 
     pub go_refused : (Answers now.map.kind now.map.ranges → ⊥) → AreAnswered before.map.kind version rows before.map.ranges noted (length noted) → ⊥
     go_refused other =
         not_answered before.map.kind version rows before.map.ranges noted i n is (λ answer. other (subst (λ (x : Kind × List Range). Answers x.0 x.1) (λ k. (sym go.kind k, sym go.ranges k)) answer))
 
-    module _ (after : Contents) (then : Going) (kind : after.kind ≡ now.map.kind) (made : after.ranges ≡ map_after now.map.kind now.map.ranges n) where
+    module _ (after : Contents) (then : Going) (kind : after.kind ≡ now.map.kind) (made : after.ranges ≡ map_after_noted now.map.kind now.map.ranges n) where
       at_next : ms (i + 1) ≡ after.ranges
       at_next = sym (made ∙ ranges_are)
 
@@ -126,7 +126,7 @@ module _ (version rows : ℕ) (noted : List Noted) (before : Going) where
         subst (λ (k : ℕ). AreCounted ms p.stops k) all on.counted)
   ]
 
-  pub go_ends : (i : ℕ) (now : Going) (done : Bool) → length noted ≤ i → i ≤ length noted → AllGo version rows noted before i now → AreWithin (length noted) before.lanes → AreStopsWithin (length noted) before.stops.stops → AreDone now.lanes done
+  pub go_ends : (i : ℕ) (now : Going) (done : Bool) → length noted ≤ i → i ≤ length noted → AllGo version rows noted before i now → AreWithin (length noted) before.lanes → AreStopsWithin (length noted) before.stops.stops → AreLanesDone now.lanes done
       → IsGone before.map.kind version rows before.map.ranges noted now.lanes now.stops done
   go_ends i now true past below go within stops_within are =
       let all : i ≡ length noted = omega arith in (
@@ -141,16 +141,16 @@ module _ (version rows : ℕ) (noted : List Noted) (before : Going) where
 
 -- ---- maps stay maps
 
-after_is_map : (kind : Kind) (m : List Range) (n : Noted) → IsMap kind m → IsMap kind (map_after kind m n)
+after_is_map : (kind : Kind) (m : List Range) (n : Noted) → IsMap kind m → IsMap kind (map_after_noted kind m n)
 after_is_map kind m n is = either n.heard
   where
     either : (h : Heard) → IsMap kind (map_heard h m (acted kind m n.call).0)
     either (Printed bytes) = acted_is_map kind m n.call is
     either (Short s) = is
 
-pub all_are_maps : (kind : Kind) (m : List Range) (noted : List Noted) → IsMap kind m → IsMap kind (fold (map_after kind) m noted)
+pub all_are_maps : (kind : Kind) (m : List Range) (noted : List Noted) → IsMap kind m → IsMap kind (fold (map_after_noted kind) m noted)
 all_are_maps kind m [] is = is
-all_are_maps kind m (n ∷ noted) is = all_are_maps kind (map_after kind m n) noted (after_is_map kind m n is)
+all_are_maps kind m (n ∷ noted) is = all_are_maps kind (map_after_noted kind m n) noted (after_is_map kind m n is)
 
 pub map_by_is_map : (version rows : ℕ) (noted : List Noted) (before : Going) (i : ℕ) (now : Going) → IsMap before.map.kind before.map.ranges → AllGo version rows noted before i now → IsMap now.map.kind now.map.ranges
 map_by_is_map version rows noted before i now is go =

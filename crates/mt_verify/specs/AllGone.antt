@@ -12,13 +12,13 @@ use Rattle.mt_log.specs.Text.{listing_text}
 use Rattle.mt_log.specs.Trees.{Declared, Opening, Empty, CopyOf, trees_of}
 use Rattle.mt_told.specs.declared.told.Told.{Told}
 use Rattle.mt_told.specs.Telling.{AreTold}
-use Rattle.mt_verify.specs.ToldReads.{calls_told}
-use Rattle.mt_verify.specs.GoneTrees.{GoneTree, HasGone, map_of}
+use Rattle.mt_verify.specs.ToldReads.{calls_of_phases_before}
+use Rattle.mt_verify.specs.GoneTrees.{GoneTree, HasGone, gone_map}
 
 -- how a tree opens: empty, or with the map of another tree after the calls that are told of earlier phases
 abbrev pub OpensGone : List Told → List GoneTree → Opening → GoneTree → Type 0
 OpensGone told gone Empty g = g.opening ≡ []
-OpensGone told gone (CopyOf tree phase) g = (source : GoneTree) × (slice_get gone tree ≡ Some source) × (g.kind ≡ source.kind) × (g.opening ≡ map_of source (calls_told told tree phase))
+OpensGone told gone (CopyOf tree phase) g = (source : GoneTree) × (slice_get gone tree ≡ Some source) × (g.kind ≡ source.kind) × (g.opening ≡ gone_map source (calls_of_phases_before told tree phase))
 
 -- it is a tree that is declared so
 pub record IsGoneTree (version rows : ℕ) (told : List Told) (gone : List GoneTree) (tree : ℕ) (d : Declared) (g : GoneTree) : Type 0 where
@@ -28,7 +28,7 @@ pub record IsGoneTree (version rows : ℕ) (told : List Told) (gone : List GoneT
 
 -- a tree at the end
 abbrev pub listing_by : Declared → GoneTree → Listing
-listing_by d g = record { name = d.tree.name; kind = d.tree.kind; ranges = map_of g (length g.noted) }
+listing_by d g = record { name = d.tree.name; kind = d.tree.kind; ranges = gone_map g (length g.noted) }
 
 abbrev pub listings_by : List Declared → List GoneTree → List Listing
 listings_by [] gone = []

@@ -2,8 +2,8 @@
 -- Source: this project's own.
 use Rattle.std.specs.Prelude.{Option, Some, None}
 use Rattle.mt_log.specs.Trees.{Opening, Empty, CopyOf}
-use Rattle.mt_verify.specs.declared.declared.Source.{Source}
+use Rattle.mt_verify.specs.declared.declared.DeclaredSource.{DeclaredSource}
 
-abbrev pub opening_of : Option Source → Opening
+abbrev pub opening_of : Option DeclaredSource → Opening
 opening_of None = Empty
 opening_of (Some source) = CopyOf source.tree source.phase

@@ -7,9 +7,9 @@ use Rattle.mt_list.specs.ListMap.{Contents}
 use Rattle.mt_verify.specs.declared.looks.Look.{Look}
 use Rattle.mt_verify.specs.declared.noted.Noted.{Noted}
 use Rattle.mt_verify.specs.declared.stops.Stop.{Stop}
-use Rattle.mt_verify.specs.Histories.{IsHeardAt, map_by}
-use Rattle.mt_verify.specs.Shortages.{limits_of}
-use Rattle.mt_verify.specs.Looks.{IsOn, IsStuck, MayHave, AreLeastOf}
+use Rattle.mt_verify.specs.Histories.{IsHeardAt, map_of_noted}
+use Rattle.mt_verify.specs.Shortages.{shared_limits}
+use Rattle.mt_verify.specs.Looks.{ArePickedBelow, IsStuck, MayHave, AreLeastOf}
 use Rattle.mt_verify.specs.Stops.{Passing, AreCounted, AreStopped, DoNotFall, SomeMiscounted}
 
 -- the looks of a lane on a tree, and the numbers that the first of them have
@@ -21,7 +21,7 @@ pub record Lane : Type 0 where
 
 -- a call behind so many others was answered by the map before it, or refused for want of rows
 abbrev pub IsAnsweredAt : Kind → ℕ → ℕ → ℕ → ℕ → List Range → Noted → Type 0
-IsAnsweredAt kind version rows opened ended m n = IsHeardAt kind version (limits_of rows opened ended) m n.call n.heard
+IsAnsweredAt kind version rows opened ended m n = IsHeardAt kind version (shared_limits rows opened ended) m n.call n.heard
 
 -- so many rows a tree has at the most that opens with this map
 abbrev pub opened_of : List Range → ℕ
@@ -30,13 +30,13 @@ opened_of opening = length opening / 2 + 2
 -- each of the first so many calls was
 abbrev pub AreAnswered : Kind → ℕ → ℕ → List Range → List Noted → ℕ → Type 0
 AreAnswered kind version rows opening noted count = (i : ℕ) (n : Noted) → i < count → slice_get noted i ≡ Some n
-    → IsAnsweredAt kind version rows (opened_of opening) i (map_by kind opening noted i) n
+    → IsAnsweredAt kind version rows (opened_of opening) i (map_of_noted kind opening noted i) n
 
 -- ---- all lanes at a number
 
 -- each lane has gone through the numbers below this one
 abbrev pub AreOn : (ℕ → List Range) → ℕ → List Lane → Type 0
-AreOn m number lanes = (j : ℕ) (t : Lane) → slice_get lanes j ≡ Some t → IsOn m number number t.looks t.points
+AreOn m number lanes = (j : ℕ) (t : Lane) → slice_get lanes j ≡ Some t → ArePickedBelow m number number t.looks t.points
 
 -- some lane is stuck
 pub record SomeStuck (m : ℕ → List Range) (lanes : List Lane) : Type 0 where
@@ -75,11 +75,11 @@ AllStopped m stops = AreCounted m stops (length stops)
 -- ranges.
 abbrev pub IsGone : Kind → ℕ → ℕ → List Range → List Noted → List Lane → Passing → Bool → Type 0
 IsGone kind version rows opening noted lanes p true =
-    AreAnswered kind version rows opening noted (length noted) × AllLeast (map_by kind opening noted) lanes
-    × AllStopped (map_by kind opening noted) p.stops
+    AreAnswered kind version rows opening noted (length noted) × AllLeast (map_of_noted kind opening noted) lanes
+    × AllStopped (map_of_noted kind opening noted) p.stops
 IsGone kind version rows opening noted lanes p false =
     (AreAnswered kind version rows opening noted (length noted) → ⊥)
-    ⊎ (SomeHasNone (map_by kind opening noted) lanes ⊎ SomeMiscounted (map_by kind opening noted) p.stops)
+    ⊎ (SomeHasNone (map_of_noted kind opening noted) lanes ⊎ SomeMiscounted (map_of_noted kind opening noted) p.stops)
 
 -- no stop has been passed
 pub record AreFreshStops (p : Passing) : Type 0 where
@@ -102,9 +102,9 @@ pub record SomeWaits (lanes : List Lane) : Type 0 where
   pub is : slice_get lanes place ≡ Some lane
   pub waits : length lane.points ≡ length lane.looks → ⊥
 
-abbrev pub AreDone : List Lane → Bool → Type 0
-AreDone lanes true = (j : ℕ) (t : Lane) → slice_get lanes j ≡ Some t → length t.points ≡ length t.looks
-AreDone lanes false = SomeWaits lanes
+abbrev pub AreLanesDone : List Lane → Bool → Type 0
+AreLanesDone lanes true = (j : ℕ) (t : Lane) → slice_get lanes j ≡ Some t → length t.points ≡ length t.looks
+AreLanesDone lanes false = SomeWaits lanes
 
 -- no look has a number yet, and each first look may have any
 abbrev pub AreFresh : List Lane → Type 0
@@ -123,4 +123,4 @@ HavePassedAll m number lanes p false = SomeStuck m lanes ⊎ SomeMiscounted m p.
 -- the map behind all these calls
 pub record IsLastMap (kind : Kind) (opening : List Range) (noted : List Noted) (map : Contents) : Type 0 where
   pub of_kind : map.kind ≡ kind
-  pub ranges : map.ranges ≡ map_by kind opening noted (length noted)
+  pub ranges : map.ranges ≡ map_of_noted kind opening noted (length noted)

@@ -12,7 +12,7 @@ use Rattle.mt_verify.specs.declared.looks.Look.{Look}
 use Rattle.mt_verify.specs.declared.noted.Noted.{Noted}
 use Rattle.mt_verify.specs.Going.{AllLeast, AllStopped, AreAnswered, IsLastMap, Lane, SomeHasNone, looks_of}
 use Rattle.mt_verify.specs.Hearing.{AreNotedOf, SomeMisheard}
-use Rattle.mt_verify.specs.Histories.{map_by}
+use Rattle.mt_verify.specs.Histories.{map_of_noted}
 use Rattle.mt_verify.specs.OwnLines.{lines_on, looks_by_lane, stops_told}
 use Rattle.mt_verify.specs.Stops.{SomeMiscounted}
 use Rattle.mt_verify.specs.ToldCalls.{AreCallsOf}
@@ -25,8 +25,8 @@ pub record GoneTree : Type 0 where
   pub lanes : List Lane
 
 -- the map after so many calls of the tree
-abbrev pub map_of : GoneTree → ℕ → List Range
-map_of g k = map_by g.kind g.opening g.noted k
+abbrev pub gone_map : GoneTree → ℕ → List Range
+gone_map g k = map_of_noted g.kind g.opening g.noted k
 
 -- the reads of each lane of a log, as they are told of a tree
 abbrev pub lane_looks : ℕ → List Told → List (List Look)
@@ -40,8 +40,8 @@ pub record HasGone (version rows : ℕ) (told : List Told) (tree : ℕ) (g : Gon
   pub heard : AreNotedOf told tree calls g.noted
   pub answered : AreAnswered g.kind version rows g.opening g.noted (length g.noted)
   pub looks : looks_of g.lanes ≡ lane_looks tree told
-  pub least : AllLeast (map_of g) g.lanes
-  pub counted : AllStopped (map_of g) (stops_told (lines_on tree told))
+  pub least : AllLeast (gone_map g) g.lanes
+  pub counted : AllStopped (gone_map g) (stops_told (lines_on tree told))
 
 -- from this map on, with that one at its end
 pub record IsGoneFrom (version rows : ℕ) (told : List Told) (tree : ℕ) (from : Contents) (g : GoneTree)
@@ -63,8 +63,8 @@ pub record IsHindered (version rows : ℕ) (told : List Told) (tree : ℕ) (kind
   pub lanes : List Lane
   pub looks : looks_of lanes ≡ lane_looks tree told
   pub why : (AreAnswered kind version rows opening noted (length noted) → ⊥)
-      ⊎ (SomeHasNone (map_by kind opening noted) lanes
-      ⊎ SomeMiscounted (map_by kind opening noted) (stops_told (lines_on tree told)))
+      ⊎ (SomeHasNone (map_of_noted kind opening noted) lanes
+      ⊎ SomeMiscounted (map_of_noted kind opening noted) (stops_told (lines_on tree told)))
 
 pub record AreMisheard (told : List Told) (tree : ℕ) : Type 0 where
   pub calls : List Numbered

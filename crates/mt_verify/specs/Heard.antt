@@ -43,19 +43,19 @@ pub record IsNumberAlone (text : List ℕ) (number : ℕ) : Type 0 where
   pub only : (n : ℕ) → n < 2 ^ 64 → text ≡ decimal n → n ≡ number
 
 -- how it is printed, by a log of any version
-abbrev pub shortage_text : Shortage → List ℕ
-shortage_text s = reply_text 2 (NoNodes s)
+abbrev pub shortage_printed : Shortage → List ℕ
+shortage_printed s = reply_text 2 (NoNodes s)
 
 -- the text says these numbers, and they are the only ones that it says
 pub record SaysShortage (text : List ℕ) (s : Shortage) : Type 0 where
-  pub printed : text ≡ shortage_text s
+  pub printed : text ≡ shortage_printed s
   pub none : s.by ≡ None
-  pub only : (other : Shortage) → IsSmallShortage other → text ≡ shortage_text other → other.held ≡ s.held
+  pub only : (other : Shortage) → IsSmallShortage other → text ≡ shortage_printed other → other.held ≡ s.held
 
 -- The reply that is told is this shortage. Where rows were held, and only there, someone is named: another lane that
 -- had read the tree.
 pub record IsToldShortage (told : List Told) (tree : ℕ) (call : Numbered) (s : Shortage) : Type 0 where
-  pub printed : call.reply.now ≡ shortage_text s
+  pub printed : call.reply.now ≡ shortage_printed s
   pub some : IsSome s.by ↔ (0 < s.held)
   pub by : IfSome s.by (λ holder. IsReader told tree call holder.pass)
 
@@ -66,11 +66,11 @@ pub record IsHeard (told : List Told) (tree : ℕ) (call : Numbered) (s : Shorta
 
 -- ---- the first phases in which lanes read trees
 
-abbrev pub Reads : Option ℕ → ℕ → Type 0
-Reads first phase = IsSomeAnd first (λ p. p ≤ phase)
+abbrev pub HasReadBy : Option ℕ → ℕ → Type 0
+HasReadBy first phase = IsSomeAnd first (λ p. p ≤ phase)
 
 -- each lane has read a tree by a phase exactly where its first phase there is that one or lower
 abbrev pub AreReaders : Readers → List Told → Type 0
 AreReaders readers told = (tree lane phase : ℕ) (other : Option ℕ) → tree < most_trees → lane < most_lanes
-    → Reads (slice_index_or readers.first (16 * tree + lane) other) phase
+    → HasReadBy (slice_index_or readers.first (16 * tree + lane) other) phase
     ↔ (list_any (reads_by tree lane phase) told ≡ true)

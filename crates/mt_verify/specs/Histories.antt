@@ -23,12 +23,12 @@ map_heard (Printed bytes) before after = after
 map_heard (Short s) before after = before
 
 -- the map after one more call
-abbrev pub map_after : Kind → List Range → Noted → List Range
-map_after kind m n = map_heard n.heard m (acted kind m n.call).0
+abbrev pub map_after_noted : Kind → List Range → Noted → List Range
+map_after_noted kind m n = map_heard n.heard m (acted kind m n.call).0
 
 -- the map after the first k calls
-abbrev pub map_by : Kind → List Range → List Noted → ℕ → List Range
-map_by kind opening noted k = fold (map_after kind) opening (take k noted)
+abbrev pub map_of_noted : Kind → List Range → List Noted → ℕ → List Range
+map_of_noted kind opening noted k = fold (map_after_noted kind) opening (take k noted)
 
 -- ---- the history
 
@@ -38,16 +38,16 @@ reply_heard (Printed bytes) answer = answer
 reply_heard (Short s) answer = NoNodes s
 
 -- a call as a record of its tree's history
-abbrev pub record_of : Kind → List Range → Noted → Record
-record_of kind m n = record { pass = n.lane; call = n.call; reply = reply_heard n.heard (acted kind m n.call).1 }
+abbrev pub record_noted : Kind → List Range → Noted → Record
+record_noted kind m n = record { pass = n.lane; call = n.call; reply = reply_heard n.heard (acted kind m n.call).1 }
 
-abbrev pub records_of : Kind → List Range → List Noted → List Record
-records_of kind m [] = []
-records_of kind m (n ∷ noted) = record_of kind m n ∷ records_of kind (map_after kind m n) noted
+abbrev pub records_noted : Kind → List Range → List Noted → List Record
+records_noted kind m [] = []
+records_noted kind m (n ∷ noted) = record_noted kind m n ∷ records_noted kind (map_after_noted kind m n) noted
 
 abbrev pub history_of : Kind → ℕ → List Range → List Noted → History
 history_of kind rows opening noted =
-    record { kind = kind; rows = rows; opening = opening; records = records_of kind opening noted }
+    record { kind = kind; rows = rows; opening = opening; records = records_noted kind opening noted }
 
 -- ---- whether a call was answered so
 

@@ -36,7 +36,7 @@ pub record ArePicked (m : ℕ → List Range) (looks : List Look) (points : List
 
 -- Besides, no number that they have is `top` or above, and the look that comes next, which has room, is true of no map
 -- below this number.
-pub record IsOn (m : ℕ → List Range) (top number : ℕ) (looks : List Look) (points : List ℕ) : Type 0 where
+pub record ArePickedBelow (m : ℕ → List Range) (top number : ℕ) (looks : List Look) (points : List ℕ) : Type 0 where
   pub picked : ArePicked m looks points
   pub below : (i : ℕ) → i < length points → slice_index points i < top
   pub room : (l : Look) → slice_get looks (length points) ≡ Some l → floor_at points (length points) ≤ l.lo + 1
@@ -53,7 +53,7 @@ pub record IsStuck (m : ℕ → List Range) (looks : List Look) (points : List �
 
 -- the look that comes next can have this number
 pub record CanTake (m : ℕ → List Range) (number : ℕ) (looks : List Look) (points : List ℕ) : Type 0 where
-  pub on : IsOn m (number + 1) number looks points
+  pub on : ArePickedBelow m (number + 1) number looks points
   pub look : Look
   pub next : slice_get looks (length points) ≡ Some look
   pub from : look.lo ≤ number
@@ -62,8 +62,8 @@ pub record CanTake (m : ℕ → List Range) (number : ℕ) (looks : List Look) (
 
 -- what one try at a number comes to
 abbrev pub ComesTo : (ℕ → List Range) → ℕ → List Look → List ℕ → Fate → Type 0
-ComesTo m number looks points Took = IsOn m (number + 1) number looks points
-ComesTo m number looks points Waits = IsOn m (number + 1) (number + 1) looks points
+ComesTo m number looks points Took = ArePickedBelow m (number + 1) number looks points
+ComesTo m number looks points Waits = ArePickedBelow m (number + 1) (number + 1) looks points
 ComesTo m number looks points Stuck = IsStuck m looks points
 
 abbrev pub is_took : Fate → Bool
@@ -73,7 +73,7 @@ is_took Stuck = false
 
 -- what a lane comes to at a number: it has gone through it, or it is stuck
 abbrev pub Passed : (ℕ → List Range) → ℕ → List Look → List ℕ → Bool → Type 0
-Passed m number looks points true = IsOn m (number + 1) (number + 1) looks points
+Passed m number looks points true = ArePickedBelow m (number + 1) (number + 1) looks points
 Passed m number looks points false = IsStuck m looks points
 
 -- ---- the looks of a lane as reads, by their places

@@ -22,12 +22,12 @@ Gather IsOf marks told = (place : ℕ) (other : Mark) (w : What) → place < len
     → Admits (slice_index_or marks place other) w ↔ All (λ s. IsOf place s → KeepsTo s.what w) told
 
 -- the place of a lane on a tree among all
-abbrev pub place_of : Told → ℕ
-place_of t = 16 * t.tree + t.lane
+abbrev pub lane_place : Told → ℕ
+lane_place t = 16 * t.tree + t.lane
 
 -- these lines were gone through: what each lane on a tree asks for, each tree, and each tree's lines of earlier phases
 pub record AreMarked (marks : Marks) (told : List Told) : Type 0 where
-  pub lanes : Gather (λ place s. place_of s ≡ place) marks.lanes told
+  pub lanes : Gather (λ place s. lane_place s ≡ place) marks.lanes told
   pub trees : Gather (λ tree s. s.tree ≡ tree) marks.trees told
   pub before : Gather (λ tree s. (s.tree ≡ tree) × (s.phase < marks.phase)) marks.before told
   pub phase : All (λ s. s.phase ≤ marks.phase) told

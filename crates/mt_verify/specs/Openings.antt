@@ -13,9 +13,9 @@ abbrev pub is_call_before : ℕ → ℕ → Told → Bool
 is_call_before tree phase t = (t.tree == tree) && (nat_lt t.phase phase && is_wrote t.what)
 
 -- a tree that has just opened with this map
-abbrev pub opened_with : Contents → GoneTree
-opened_with map = record { kind = map.kind; opening = map.ranges; noted = []; lanes = [] }
+abbrev pub just_opened : Contents → GoneTree
+just_opened map = record { kind = map.kind; opening = map.ranges; noted = []; lanes = [] }
 
 -- the map is the one with which a tree opens that is declared so
 abbrev pub OpensAsMap : List Told → List GoneTree → Declared → Contents → Type 0
-OpensAsMap told gone d map = OpensGone told gone d.opening (opened_with map)
+OpensAsMap told gone d map = OpensGone told gone d.opening (just_opened map)

@@ -66,10 +66,10 @@ hi_of (Called number call reply) = 0
 hi_of (Looked lo hi k query value) = hi
 hi_of (Counted said ranges) = 0
 
-abbrev pub number_of : Outcome → ℕ
-number_of (Called number call reply) = 0
-number_of (Looked lo hi k query value) = k
-number_of (Counted said ranges) = 0
+abbrev pub read_number : Outcome → ℕ
+read_number (Called number call reply) = 0
+read_number (Looked lo hi k query value) = k
+read_number (Counted said ranges) = 0
 
 -- what the step at a place has; 0 where none stands there
 abbrev pub at_place : (Outcome → ℕ) → List Step → ℕ → ℕ
@@ -118,11 +118,11 @@ GoAlike (r ∷ records) [] = ⊥
 GoAlike (r ∷ records) (s ∷ others) = (r.call ≡ s.call) × (is_nomem r.reply ≡ is_nomem s.reply) × GoAlike records others
 
 -- a record's part in the way of the map: its call, and whether that was refused for want of rows
-abbrev pub part_of : Record → Call × Bool
-part_of r = (r.call, is_nomem r.reply)
+abbrev pub map_part : Record → Call × Bool
+map_part r = (r.call, is_nomem r.reply)
 
 abbrev pub numbered_part : ℕ × Record → ℕ × (Call × Bool)
-numbered_part e = (e.0, part_of e.1)
+numbered_part e = (e.0, map_part e.1)
 
 -- ---- runs that are told alike
 

@@ -13,8 +13,8 @@ pub record Passing : Type 0 where
 -- ---- one stop
 
 -- this map has the number of ranges that is told
-abbrev pub IsCounted : List Range → Stop → Type 0
-IsCounted m s = decimal (length m) ≡ s.count.now
+abbrev pub HasToldCount : List Range → Stop → Type 0
+HasToldCount m s = decimal (length m) ≡ s.count.now
 
 abbrev pub is_at : ℕ → Option Stop → Bool
 is_at number None = false
@@ -22,8 +22,8 @@ is_at number (Some s) = s.at == number
 
 -- what a stop comes to with a map
 abbrev pub HasStopped : List Range → Stop → Passing → Passing → Bool → Type 0
-HasStopped m s before after true = IsCounted m s × (after ≡ record { stops = before.stops; next = before.next + 1 })
-HasStopped m s before after false = IsCounted m s → ⊥
+HasStopped m s before after true = HasToldCount m s × (after ≡ record { stops = before.stops; next = before.next + 1 })
+HasStopped m s before after false = HasToldCount m s → ⊥
 
 -- ---- all stops
 
@@ -33,7 +33,7 @@ DoNotFall stops = (i j : ℕ) (s t : Stop) → i < j → slice_get stops i ≡ S
 
 -- each of these stops tells how many ranges the map has there
 abbrev pub AreCounted : (ℕ → List Range) → List Stop → ℕ → Type 0
-AreCounted m stops count = (i : ℕ) (s : Stop) → i < count → slice_get stops i ≡ Some s → IsCounted (m s.at) s
+AreCounted m stops count = (i : ℕ) (s : Stop) → i < count → slice_get stops i ≡ Some s → HasToldCount (m s.at) s
 
 -- the stops that were passed tell so; the others are at this number or above
 pub record AreStopped (m : ℕ → List Range) (number : ℕ) (p : Passing) : Type 0 where
@@ -47,7 +47,7 @@ pub record SomeMiscounted (m : ℕ → List Range) (stops : List Stop) : Type 0 
   pub place : ℕ
   pub stop : Stop
   pub is : slice_get stops place ≡ Some stop
-  pub wrong : IsCounted (m stop.at) stop → ⊥
+  pub wrong : HasToldCount (m stop.at) stop → ⊥
 
 abbrev pub HavePassedStops : (ℕ → List Range) → ℕ → Passing → Bool → Type 0
 HavePassedStops m number p true = AreStopped m (number + 1) p

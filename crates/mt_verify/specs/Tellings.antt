@@ -20,8 +20,8 @@ tells_read (said.Got lo hi value) = true
 tells_read (said.Lawful count) = false
 tells_read (said.Copied count) = false
 
-abbrev pub calls_told : Transcript → ℕ
-calls_told t = length (filter (λ e. tells_call e.said) t.entries)
+abbrev pub count_of_calls : Transcript → ℕ
+count_of_calls t = length (filter (λ e. tells_call e.said) t.entries)
 
 abbrev pub reads_told : Transcript → ℕ
 reads_told t = length (filter (λ e. tells_read e.said) t.entries)

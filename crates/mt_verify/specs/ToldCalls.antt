@@ -37,12 +37,12 @@ filled_from n (None ∷ places) = filled_from (n + 1) places
 filled_from n (Some call ∷ places) = (n, call) ∷ filled_from (n + 1) places
 
 -- how many of these have a number
-abbrev pub times : {X : Type 0} → ℕ → List (ℕ × X) → ℕ
-times number calls = count_by (λ e. e.0 == number) calls
+abbrev pub times_numbered : {X : Type 0} → ℕ → List (ℕ × X) → ℕ
+times_numbered number calls = count_by (λ e. e.0 == number) calls
 
 -- no place has the number, or a call stands there
 abbrev pub HasNoPlace : {X : Type 0} → ℕ → List (Option X) → Type 0
-HasNoPlace number places = (number ≡ 0) ⊎ ((length places < number) ⊎ (0 < times number (filled_from 1 places)))
+HasNoPlace number places = (number ≡ 0) ⊎ ((length places < number) ⊎ (0 < times_numbered number (filled_from 1 places)))
 
 -- ---- the calls of steps that are told so
 

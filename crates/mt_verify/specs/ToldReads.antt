@@ -14,8 +14,8 @@ is_wrote (Copied count) = false
 is_wrote (Lawful count) = false
 
 -- how many calls on a tree are told of earlier phases
-abbrev pub calls_told : List Told → ℕ → ℕ → ℕ
-calls_told told tree phase = length (filter (λ t. (t.tree == tree) && (nat_lt t.phase phase && is_wrote t.what)) told)
+abbrev pub calls_of_phases_before : List Told → ℕ → ℕ → ℕ
+calls_of_phases_before told tree phase = length (filter (λ t. (t.tree == tree) && (nat_lt t.phase phase && is_wrote t.what)) told)
 
 -- of the numbers of reads the one of this line, and those of the lines behind it
 abbrev pub number_for : What → List ℕ → ℕ

@@ -8,7 +8,7 @@ use Rattle.mt_told.specs.declared.told.Told.{Told}
 use Rattle.mt_verify.specs.PrintedOrder.{EndsInTree}
 
 -- They are of the log's trees and lanes, phase by phase, and no window ends behind the last call on its tree.
-pub record IsCase (log : Log) (rows : ℕ) (told : List Told) : Type 0 where
+pub record IsOfLog (log : Log) (rows : ℕ) (told : List Told) : Type 0 where
   pub readable : IsReadable log.lines
   pub few_rows : rows ≤ most_rows
   pub few : length told < 2 ^ 57

@@ -3,7 +3,7 @@
 use Rattle.std.specs.Prelude.{◌≡◌, ℕ, ◌+◌, ◌<◌, ◌≤◌, true, List, AllPairs, length}
 use Rattle.std.specs.List.{filter_map}
 use Rattle.mt_log.specs.Run.{Outcome, Called, Looked, Counted, Step, Knows, is_read, numbered_on}
-use Rattle.mt_verify.specs.Points.{lo_of, number_of}
+use Rattle.mt_verify.specs.Points.{lo_of, read_number}
 
 -- Of two outcomes on a tree the later keeps to the earlier by what is printed: call numbers and windows.
 abbrev pub KeepsTo : Outcome → Outcome → Type 0
@@ -21,8 +21,8 @@ InPrintedOrder s t = s.tree ≡ t.tree → Knows s t → KeepsTo s.outcome t.out
 -- of two reads the number of the later is no lower, and its window begins no more than one below the number of the
 -- earlier
 pub record NumbersRise (s t : Step) : Type 0 where
-  pub rise : number_of s.outcome ≤ number_of t.outcome
-  pub floor : number_of s.outcome ≤ lo_of t.outcome + 1
+  pub rise : read_number s.outcome ≤ read_number t.outcome
+  pub floor : read_number s.outcome ≤ lo_of t.outcome + 1
 
 abbrev pub InNumbers : Step → Step → Type 0
 InNumbers s t = s.tree ≡ t.tree → Knows s t → is_read s.outcome ≡ true → is_read t.outcome ≡ true → NumbersRise s t

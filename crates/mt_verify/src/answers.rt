@@ -6,8 +6,8 @@ ghost use Rattle.mt_base.specs.Map.{IsMap};
 ghost use Rattle.mt_base.specs.Nodes.{IsRefused};
 ghost use Rattle.mt_log.specs.Text.{reply_text};
 ghost use Rattle.mt_verify.specs.Going.{IsAnsweredAt};
-ghost use Rattle.mt_verify.specs.Histories.{map_after};
-ghost use Rattle.mt_verify.specs.Shortages.{limits_of};
+ghost use Rattle.mt_verify.specs.Histories.{map_after_noted};
+ghost use Rattle.mt_verify.specs.Shortages.{shared_limits};
 
 use crate::noted::{Heard, Noted};
 use crate::shortages::is_short;
@@ -47,7 +47,7 @@ fn is_refused(
     ensures kind { map.new.kind ≡ map.old.kind }
     ensures map { map.new.ranges ≡ map.old.ranges }
     ensures refused { IfOk result (λ yes. IsTrue yes
-        ↔ IsRefused map.old.kind (limits_of rows opened ended) map.old.ranges call.now (Reply.NoNodes shortage.now)) }
+        ↔ IsRefused map.old.kind (shared_limits rows opened ended) map.old.ranges call.now (Reply.NoNodes shortage.now)) }
 {
     if !wants_rows(map, kind, call)? {
         return Ok(false);
@@ -71,7 +71,7 @@ pub fn agrees(
     requires opened { opened < 2 ^ 62 }
     requires ended { ended < 2 ^ 57 }
     ensures kind { map.new.kind ≡ map.old.kind }
-    ensures map { OnOk result (map.new.ranges ≡ map_after map.old.kind map.old.ranges noted.now) }
+    ensures map { OnOk result (map.new.ranges ≡ map_after_noted map.old.kind map.old.ranges noted.now) }
     ensures same { IfOk result (λ same. IsTrue same
         ↔ IsAnsweredAt map.old.kind version rows opened ended map.old.ranges noted.now) }
 {

@@ -2,7 +2,7 @@ ghost use Rattle.std.specs.Prelude.{◌≡◌, ℕ, length};
 ghost use Rattle.std.specs.List.{filter};
 ghost use Rattle.mt_log.specs.declared.transcripts.Transcript.{Transcript};
 ghost use Rattle.mt_log.specs.Run.{IsRun};
-ghost use Rattle.mt_verify.specs.Tellings.{asks_call, calls_told};
+ghost use Rattle.mt_verify.specs.Tellings.{asks_call, count_of_calls};
 
 use mt_log::{Item, Line, Log};
 
@@ -22,7 +22,7 @@ fn asking(lines: &[Line]) -> u64
 
 /// How many calls a log asks for: every transcript of a run of it tells so many.
 pub fn calls_of(log: &Log) -> u64
-    ensures { (rows : ℕ) (t : Transcript) → IsRun log.now rows t → calls_told t ≡ result }
+    ensures { (rows : ℕ) (t : Transcript) → IsRun log.now rows t → count_of_calls t ≡ result }
 {
     asking(log.lines.as_slice())
 }

@@ -11,7 +11,7 @@ use std::marker::Model;
 
 /// A copy is of this tree, as it stands when this phase begins.
 #[derive(Clone, Copy)]
-pub struct Source {
+pub struct DeclaredSource {
     pub tree: u32,
     pub phase: u64,
 }
@@ -21,7 +21,7 @@ pub struct Source {
 pub struct Declared {
     pub name: Word,
     pub kind: Kind,
-    pub source: Option<Source>,
+    pub source: Option<DeclaredSource>,
 }
 
 impl Model for Declared {
@@ -48,7 +48,7 @@ fn declared_by(trees: &[Declared], phase: u64, item: &Item) -> Option<Declared>
             Some(Declared {
                 name,
                 kind: source.kind,
-                source: Some(Source { tree: from, phase }),
+                source: Some(DeclaredSource { tree: from, phase }),
             })
         }
         _ => None,

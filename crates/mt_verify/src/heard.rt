@@ -6,7 +6,7 @@ ghost use Rattle.std.specs.List.{list_any};
 ghost use Rattle.mt_log.specs.Trees.{most_lanes, most_trees};
 ghost use Rattle.mt_told.specs.declared.told.Told.{Told};
 ghost use Rattle.mt_base.specs.declared.replies.Shortage.{Shortage};
-ghost use Rattle.mt_verify.specs.Heard.{AreReaders, IsHeard, IsNumberAlone, IsSmallShortage, IsToldShortage, Reads, SaysShortage, reads_by, shortage_text};
+ghost use Rattle.mt_verify.specs.Heard.{AreReaders, IsHeard, IsNumberAlone, IsSmallShortage, IsToldShortage, HasReadBy, SaysShortage, reads_by, shortage_printed};
 
 use crate::calls::Numbered;
 use mt_base::{Holder, Shortage};
@@ -20,7 +20,7 @@ pub struct Readers {
 
 /// The lower of two phases, of which one may be none.
 fn lower(first: Option<u64>, phase: u64) -> Option<u64>
-    ensures { (p : ℕ) → Reads result p ↔ (Reads first p ⊎ (phase ≤ p)) }
+    ensures { (p : ℕ) → HasReadBy result p ↔ (HasReadBy first p ⊎ (phase ≤ p)) }
 {
     match first {
         Some(first) if first <= phase => Some(first),
@@ -115,7 +115,7 @@ fn whole_number(text: &[u8]) -> Option<u64>
 pub fn shortage_in(text: &[u8]) -> Option<Shortage>
     ensures some { IfSome result (λ s. SaysShortage text.now s) }
     ensures small { IfSome result (λ s. IsSmallShortage s) }
-    ensures none { IfNone result ((s : Shortage) → IsSmallShortage s → text.now ≡ shortage_text s → ⊥) }
+    ensures none { IfNone result ((s : Shortage) → IsSmallShortage s → text.now ≡ shortage_printed s → ⊥) }
 {
     let text = behind_word(text, b"nomem ")?;
     let (need, text) = number_before(text, b' ')?;

@@ -2,7 +2,7 @@
 
 ghost use Rattle.std.specs.Prelude.{◌≡◌, ℕ, List, IfOk};
 ghost use Rattle.mt_base.specs.declared.ranges.Range.{Range};
-ghost use Rattle.mt_verify.specs.Going.{AreDone, AreOn, HavePassed, looks_of};
+ghost use Rattle.mt_verify.specs.Going.{AreLanesDone, AreOn, HavePassed, looks_of};
 
 use crate::looks::Look;
 use crate::tracks::advance;
@@ -29,14 +29,14 @@ impl Model for Track {
 impl Track {
     ghost use Rattle.std.specs.Prelude.{◌≡◌, ◌↔◌, ℕ, List, [], IfOk, IsTrue, length};
     ghost use Rattle.mt_base.specs.declared.ranges.Range.{Range};
-    ghost use Rattle.mt_verify.specs.Looks.{IsOn, Passed};
+    ghost use Rattle.mt_verify.specs.Looks.{ArePickedBelow, Passed};
 
     /// The lane goes through a number, whose map this is. It tells whether it is not stuck.
     pub fn advance(&mut self, map: &mut ShelfMap, number: u64) -> Result<bool, NoMemory>
         ensures map { map.new ≡ map.old }
         ensures looks { self.new.looks ≡ self.old.looks }
         ensures passed { IfOk result (λ fine. (m : ℕ → List Range) → m number ≡ map.old.ranges
-            → IsOn m number number self.old.looks self.old.points
+            → ArePickedBelow m number number self.old.looks self.old.points
             → Passed m number self.old.looks self.new.points fine) }
     {
         advance(map, &self.looks, &mut self.points, number)
@@ -85,7 +85,7 @@ pub fn advance_all(map: &mut ShelfMap, tracks: &mut [Track], number: u64) -> Res
 
 /// Whether all looks of all lanes have their numbers.
 pub fn are_done(tracks: &[Track]) -> bool
-    ensures { AreDone tracks.now result }
+    ensures { AreLanesDone tracks.now result }
 {
     for track in tracks {
         if !track.is_done() {

@@ -21,10 +21,10 @@ ghost use Rattle.mt_verify.specs.declared.noted.Noted.{Noted};
 ghost use Rattle.mt_verify.specs.Choices.{AreChosen, AreClosed, AreFirst, IsLate, IsNowhere, Passes};
 ghost use Rattle.mt_verify.specs.Going.{AreAnswered};
 ghost use Rattle.mt_verify.specs.Heard.{IsReader};
-ghost use Rattle.mt_verify.specs.Histories.{AreHeard, AreRecordsOf, history_of, map_by};
+ghost use Rattle.mt_verify.specs.Histories.{AreHeard, AreRecordsOf, history_of, map_of_noted};
 ghost use Rattle.mt_verify.specs.LaneReads.{LanesArePicked, looks_on, looks_told, points_on};
 ghost use Rattle.mt_verify.specs.Looks.{ArePicked, AreLeastOf, IsStuck, MayHave};
-ghost use Rattle.mt_verify.specs.Points.{points_of, AreUpTo, lo_of, hi_of, number_of, at_place, IsTrueAt, KnowsAt, AreAlike, AreToldAlike, CopiesEarlier, HaveHistories, GoAlike, numbered_part};
+ghost use Rattle.mt_verify.specs.Points.{points_of, AreUpTo, lo_of, hi_of, read_number, at_place, IsTrueAt, KnowsAt, AreAlike, AreToldAlike, CopiesEarlier, HaveHistories, GoAlike, numbered_part};
 ghost use Rattle.mt_verify.specs.PrintedOrder.{EndsInTree, InPrintedOrder};
 ghost use Rattle.mt_verify.specs.ToldCalls.{AreRecordsTold, calls_told, numbered_on_told};
 ghost use Rattle.mt_verify.specs.Wanting.{wants};
@@ -67,12 +67,12 @@ pub fn the_points_of_a_run_are_chosen()
     ensures chosen { (log : Log) (rows : ℕ) (t : Transcript) (steps : List Step) (trees : List History)
         → IsRunBy log rows t steps trees
         → AreChosen (length steps) (at_place lo_of steps) (at_place hi_of steps) (IsTrueAt steps trees) (KnowsAt steps)
-        (at_place number_of steps) }
+        (at_place read_number steps) }
     ensures least { (log : Log) (rows : ℕ) (t' : Transcript) (steps steps' : List Step) (trees trees' : List History)
         → AreAlike steps trees steps' trees' → IsRunBy log rows t' steps' trees'
         → AreFirst (length steps) (at_place lo_of steps) (IsTrueAt steps trees) (KnowsAt steps)
-        (λ i. true) (at_place number_of steps)
-        → (i : ℕ) → i < length steps → at_place number_of steps i ≤ at_place number_of steps' i }
+        (λ i. true) (at_place read_number steps)
+        → (i : ℕ) → i < length steps → at_place read_number steps i ≤ at_place read_number steps' i }
 {}
 
 /// Histories of the same calls, of which the same were refused for want of rows, go through the same maps.
@@ -107,7 +107,7 @@ pub fn first_points_are_the_least()
         → IsRunBy log rows t steps trees → IsRunBy log rows t' steps' trees'
         → AreToldAlike steps steps' → CopiesEarlier (trees_of log.lines)
         → AreFirst (length steps) (at_place lo_of steps) (IsTrueAt steps trees) (KnowsAt steps)
-        (λ i. true) (at_place number_of steps)
+        (λ i. true) (at_place read_number steps)
         → AreUpTo (points_of steps) (points_of steps') }
 {}
 
@@ -127,7 +127,7 @@ pub fn answered_calls_are_a_legal_history()
         → AreAnswered kind version rows opening noted (length noted)
         → AreRecordsOf version noted (history_of kind rows opening noted).records }
     ensures maps { (kind : Kind) (rows : ℕ) (opening : List Range) (noted : List Noted) (k : ℕ)
-        → map_at (history_of kind rows opening noted) k ≡ map_by kind opening noted k }
+        → map_at (history_of kind rows opening noted) k ≡ map_of_noted kind opening noted k }
 {}
 
 /// Where a legal history may be told so, whoever held rows in it, these calls are answered, one by one; and its maps
@@ -136,7 +136,7 @@ pub fn a_legal_history_is_answered_calls()
     ensures answered { (version : ℕ) (h : History) (noted : List Noted) → AreHeard version noted h.records → IsLegal h
         → AreAnswered h.kind version h.rows h.opening noted (length noted) }
     ensures maps { (version : ℕ) (h : History) (noted : List Noted) (k : ℕ) → AreHeard version noted h.records
-        → map_at h k ≡ map_by h.kind h.opening noted k }
+        → map_at h k ≡ map_of_noted h.kind h.opening noted k }
 {}
 
 /// The order of a run's steps is that of what is printed and that of the numbers of reads: so the windows can be tested
@@ -144,7 +144,7 @@ pub fn a_legal_history_is_answered_calls()
 #[tactic(auto, using(crate::proofs::Ordered::order_splits, crate::proofs::Ordered::order_joins))]
 pub fn windows_are_tested_apart()
     ensures splits { (steps : List Step) → AllPairs InOrder steps → InBoth steps }
-    ensures joins { (steps : List Step) → All (λ s. lo_of s.outcome ≤ number_of s.outcome) steps → InBoth steps
+    ensures joins { (steps : List Step) → All (λ s. lo_of s.outcome ≤ read_number s.outcome) steps → InBoth steps
         → AllPairs InOrder steps }
 {}
 
@@ -159,7 +159,7 @@ pub fn lanes_are_picked_by_themselves()
     ensures { (log : Log) (rows : ℕ) (t : Transcript) (steps : List Step) (trees : List History)
         → IsRunBy log rows t steps trees → LanesArePicked steps trees
         → AreFirst (length steps) (at_place lo_of steps) (IsTrueAt steps trees) (KnowsAt steps)
-        (λ i. true) (at_place number_of steps) }
+        (λ i. true) (at_place read_number steps) }
 {}
 
 /// In a run each lane's reads on each tree have numbers such as the lane may have.

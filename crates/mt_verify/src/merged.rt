@@ -3,7 +3,7 @@
 ghost use Rattle.std.specs.Prelude.{◌≡◌, ◌+◌, ◌*◌, ◌<◌, ℕ, true, All, IfOk, IsTrue, Some, length, slice_get, slice_index, slice_set};
 ghost use Rattle.mt_log.specs.Trees.{most_lanes};
 ghost use Rattle.mt_verify.specs.ToldReads.{is_got, own_points, reads_count};
-ghost use Rattle.mt_verify.specs.Going.{AreDone, Lane, looks_of};
+ghost use Rattle.mt_verify.specs.Going.{AreLanesDone, Lane, looks_of};
 ghost use Rattle.mt_verify.specs.GoneTrees.{GoneTree, lane_looks};
 ghost use Rattle.mt_verify.specs.Merging.{cell_of, points_at};
 
@@ -64,7 +64,7 @@ pub fn points_of(alloc: Global, told: &[Told], gone: &[Gone]) -> Result<Vec<u64>
     requires lanes { All (λ t. t.lane < most_lanes) told.now }
     requires looks { (tree : ℕ) (g : GoneTree) → slice_get gone.now tree ≡ Some g
         → looks_of g.lanes ≡ lane_looks tree told.now }
-    requires done { (tree : ℕ) (g : GoneTree) → slice_get gone.now tree ≡ Some g → AreDone g.lanes true }
+    requires done { (tree : ℕ) (g : GoneTree) → slice_get gone.now tree ≡ Some g → AreLanesDone g.lanes true }
     ensures count { IfOk result (λ points. length points.items ≡ reads_count told.now) }
     ensures lanes { IfOk result (λ points. (tree lane : ℕ) (g : GoneTree) (l : Lane) → slice_get gone.now tree ≡ Some g
         → slice_get g.lanes lane ≡ Some l → own_points tree lane told.now points.items ≡ l.points) }

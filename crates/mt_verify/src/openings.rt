@@ -3,8 +3,8 @@
 ghost use Rattle.std.specs.Prelude.{◌≡◌, ◌<◌, ℕ, IfOk, length};
 ghost use Rattle.mt_log.specs.Trees.{CopyOf, Empty};
 ghost use Rattle.mt_verify.specs.Openings.{OpensAsMap, is_call_before};
-ghost use Rattle.mt_verify.specs.ToldReads.{calls_told};
-ghost use Rattle.mt_verify.specs.GoneTrees.{map_of};
+ghost use Rattle.mt_verify.specs.ToldReads.{calls_of_phases_before};
+ghost use Rattle.mt_verify.specs.GoneTrees.{gone_map};
 
 use crate::declared::Declared;
 use crate::gone::Gone;
@@ -29,7 +29,7 @@ fn is_call_before(told: &Told, tree: u32, phase: u64) -> bool
 
 /// How many calls on a tree are told of phases before this one.
 fn calls_before(told: &[Told], tree: u32, phase: u64) -> usize
-    ensures { result ≡ calls_told told.now tree phase }
+    ensures { result ≡ calls_of_phases_before told.now tree phase }
 {
     told.iter()
         .filter(|one| is_call_before(one, tree, phase))
@@ -40,7 +40,7 @@ fn calls_before(told: &[Told], tree: u32, phase: u64) -> usize
 #[tactic(auto, using(crate::proofs::OpenedMaps::first_calls))]
 fn map_after(alloc: Global, gone: &Gone, calls: usize) -> Result<ShelfMap, NoMemory>
     ensures kind { IfOk result (λ map. map.kind ≡ gone.now.kind) }
-    ensures map { IfOk result (λ map. map.ranges ≡ map_of gone.now calls) }
+    ensures map { IfOk result (λ map. map.ranges ≡ gone_map gone.now calls) }
 {
     let mut map = gone.opening.copied(alloc)?;
     make_all_again(&mut map, &gone.noted[..calls.min(gone.noted.len())])?;

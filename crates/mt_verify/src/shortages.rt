@@ -3,7 +3,7 @@
 ghost use Rattle.std.specs.Prelude.{◌≡◌, ◌↔◌, ◌+◌, ◌-◌, ◌*◌, ◌^◌, ◌<◌, ◌≤◌, ℕ, List, IsTrue, IfSome, IfNone, length};
 ghost use Rattle.mt_base.specs.declared.ranges.Range.{Range};
 ghost use Rattle.mt_base.specs.Nodes.{IsShort};
-ghost use Rattle.mt_verify.specs.Shortages.{limits_of, MayStand, MayHold};
+ghost use Rattle.mt_verify.specs.Shortages.{shared_limits, MayStand, MayHold};
 
 use mt_base::{Holder, Shortage};
 
@@ -85,7 +85,7 @@ pub fn is_short(rows: u64, opened: u64, ended: u64, count: u64, shortage: &Short
     requires opened { opened < 2 ^ 62 }
     requires ended { ended < 2 ^ 57 }
     ensures { (m : List Range) → length m ≡ count → IsTrue result
-        ↔ IsShort (limits_of rows opened ended) m shortage.now }
+        ↔ IsShort (shared_limits rows opened ended) m shortage.now }
 {
     let Some(levels) = levels_of(shortage.need) else {
         return false;

@@ -1,6 +1,6 @@
 ghost use Rattle.std.specs.Prelude.{◌≡◌, ◌+◌, ◌<◌, ◌≤◌, ℕ, List, true, length, IfOk};
 ghost use Rattle.mt_base.specs.declared.ranges.Range.{Range};
-ghost use Rattle.mt_verify.specs.Looks.{IsOn, CanTake, ComesTo, Passed, is_took};
+ghost use Rattle.mt_verify.specs.Looks.{ArePickedBelow, CanTake, ComesTo, Passed, is_took};
 
 use crate::looks::{Look, is_true};
 use mt_base::NoMemory;
@@ -40,7 +40,7 @@ fn try_next(
     ensures map { map.new ≡ map.old }
     ensures longer { IfOk result (λ fate. is_took fate ≡ true → length points.new.items ≡ length points.old.items + 1) }
     ensures fate { IfOk result (λ fate. (m : ℕ → List Range) → m number ≡ map.old.ranges
-        → IsOn m (number + 1) number looks.now points.old.items → ComesTo m number looks.now points.new.items fate) }
+        → ArePickedBelow m (number + 1) number looks.now points.old.items → ComesTo m number looks.now points.new.items fate) }
 {
     let look = looks[points.len()];
     if number < look.lo {
@@ -65,7 +65,7 @@ pub fn advance(
 ) -> Result<bool, NoMemory>
     ensures map { map.new ≡ map.old }
     ensures passed { IfOk result (λ fine. (m : ℕ → List Range) → m number ≡ map.old.ranges
-        → IsOn m number number looks.now points.old.items → Passed m number looks.now points.new.items fine) }
+        → ArePickedBelow m number number looks.now points.old.items → Passed m number looks.now points.new.items fine) }
 {
     while points.len() < looks.len() {
         match try_next(map, looks, points, number)? {

@@ -13,7 +13,7 @@ ghost use Rattle.mt_verify.specs.ToldReads.{is_wrote};
 ghost use Rattle.mt_verify.specs.Heard.{AreReaders};
 ghost use Rattle.mt_verify.specs.Points.{IsVerdict};
 ghost use Rattle.mt_verify.specs.PrintedOrder.{InPrintedOrder, EndsInTree};
-ghost use Rattle.mt_verify.specs.Verifying.{IsCase};
+ghost use Rattle.mt_verify.specs.Verifying.{IsOfLog};
 
 use crate::declared::{Declared, trees_of};
 use crate::gone::{Gone, Rules, go_tree};
@@ -45,7 +45,7 @@ fn next_tree<'t>(
     gone: &mut Vec<Gone<'t>>,
     rest: &'t [u8],
 ) -> Result<Option<&'t [u8]>, NoMemory>
-    requires case { IsCase log.now rows account.now.told.items }
+    requires case { IsOfLog log.now rows account.now.told.items }
     requires readers { AreReaders readers.now account.now.told.items }
     requires gone { HaveGoneTo log.now rows account.now.told.items account.now.rest.now gone.old.items rest.now }
     requires next { slice_get (trees_of log.now.lines) (length gone.old.items) ≡ Some declared.now }
@@ -82,7 +82,7 @@ fn go_all<'t>(
     account: &Account<'t>,
     trees: &[Declared],
 ) -> Result<Option<Vec<Gone<'t>>>, NoMemory>
-    requires case { IsCase log.now rows account.now.told.items }
+    requires case { IsOfLog log.now rows account.now.told.items }
     requires trees { trees.now ≡ trees_of log.now.lines }
     ensures count { IfOk result (λ found. IfSome found (λ gone. length gone.items ≡ length trees.now)) }
     ensures some { IfOk result (λ found. IfSome found (λ gone. HaveGoneTo log.now rows account.now.told.items account.now.rest.now gone.items [])) }

@@ -4,7 +4,7 @@ ghost use Rattle.std.specs.Prelude.{◌≡◌, ◌↔◌, ◌≤◌, ◌<◌, �
 ghost use Rattle.mt_log.specs.Trees.{most_lanes, most_trees};
 ghost use Rattle.mt_told.specs.declared.told.Told.{Told};
 ghost use Rattle.mt_told.specs.declared.told.What.{What};
-ghost use Rattle.mt_verify.specs.Marked.{Admits, place_of};
+ghost use Rattle.mt_verify.specs.Marked.{Admits, lane_place};
 ghost use Rattle.mt_verify.specs.PrintedOrder.{EndsInTree, EndsWithin, InPrintedOrder, KeepsTo};
 ghost use Rattle.mt_verify.specs.ToldCalls.{calls_told};
 
@@ -87,7 +87,7 @@ struct Marks {
 fn place_of(told: &Told) -> usize
     requires tree { told.now.tree < most_trees }
     requires lane { told.now.lane < most_lanes }
-    ensures place { result ≡ place_of told.now }
+    ensures place { result ≡ lane_place told.now }
     ensures below { result < 256 }
 {
     16 * told.tree as usize + told.lane as usize

@@ -15,7 +15,7 @@ use Rattle.clap.specs.declared.parser.matches.ValueSource.TheVariants.{CommandLi
 use Rattle.clap.specs.declared.builder.value_parser.Reading.TheVariants.{AsWritten}
 use Rattle.clap.proofs.OnLiterals.{clap_on_literals}
 use Rattle.mt_words.specs.Commands.{rows_said}
-use Rattle.mt_words.specs.Grammar.{is_end_of_options, rows_in}
+use Rattle.mt_words.specs.Grammar.{is_end_of_options, rows_given}
 use Rattle.mt_words.specs.declared.commands.Command.{Command}
 use Rattle.mt_words.proofs.Agreements.{Agrees, HasNoEnd}
 use Rattle.mt_words.proofs.NoCommands.{no_rows}
@@ -164,7 +164,7 @@ module _ (verb : Text) (does : ℕ → Command) where
   begun_long name (Some x) true same = rw same tt
 
   abbrev AgreesOn : List Text → Type 0
-  AgreesOn words = Agrees (fault_from shape start words) (option_map does (rows_in (rows_after shape.rules [] words))) (option_map does (rows_said words))
+  AgreesOn words = Agrees (fault_from shape start words) (option_map does (rows_given (rows_after shape.rules [] words))) (option_map does (rows_said words))
 
   -- `--rows=N`
   in_one : (n : Text) (words : List Text) → HasNoEnd words → AgreesOn ((codes "--rows=" ++ n) ∷ words)
@@ -192,7 +192,7 @@ module _ (verb : Text) (does : ℕ → Command) where
     )
     | is_value is ↦ inl (
       starts_rows (next ∷ []) ∙ value_from shape no_shorts next end [] (Some (rows_id, [])) (option rows_id) 1 is refl [],
-      ap (λ (w : Walk). option_map does (rows_in (finished shape.rules w.held))) (value_walked shape no_shorts next end [] (Some (rows_id, [])) (option rows_id) 1 is),
+      ap (λ (w : Walk). option_map does (rows_given (finished shape.rules w.held))) (value_walked shape no_shorts next end [] (Some (rows_id, [])) (option rows_id) 1 is),
     )
   ]
   in_two (next ∷ more ∷ words) (end, ends) = inr (

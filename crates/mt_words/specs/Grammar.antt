@@ -56,8 +56,8 @@ grammar =
     with_subcommand (with_subcommand (with_subcommand (with_subcommand of_logs image_app.top) show_app.top) bulk_app.top) ids_app.top
 
 -- the number of rows that the matches of a subcommand say
-abbrev pub rows_in : List Row → Option ℕ
-rows_in rows = elim (first_of (codes "rows") rows) as (λ _. Option ℕ) [ None ↦ Some most_rows | Some word ↦ rows_word word ]
+abbrev pub rows_given : List Row → Option ℕ
+rows_given rows = elim (first_of (codes "rows") rows) as (λ _. Option ℕ) [ None ↦ Some most_rows | Some word ↦ rows_word word ]
 
 -- the command that they are
 abbrev pub make_in : List Row → Option Command
@@ -75,11 +75,11 @@ ids_in rows = option_and_then (λ lo. option_and_then (λ hi. option_and_then (�
     (first_of (codes "steps") rows)) (first_of (codes "hi") rows)) (first_of (codes "lo") rows)
 
 abbrev pub command_in : Text → List Row → Option Command
-command_in name rows = if bytes_eq name (codes "replay") then option_map Replay (rows_in rows)
+command_in name rows = if bytes_eq name (codes "replay") then option_map Replay (rows_given rows)
     else (if bytes_eq name (codes "make") then make_in rows
     else (if bytes_eq name (codes "trial") then trial_in rows
-    else (if bytes_eq name (codes "verify") then option_map Verify (rows_in rows)
-    else (if bytes_eq name (codes "image") then option_map Image (rows_in rows)
+    else (if bytes_eq name (codes "verify") then option_map Verify (rows_given rows)
+    else (if bytes_eq name (codes "image") then option_map Image (rows_given rows)
     else (if bytes_eq name (codes "show") then Some Show
     else (if bytes_eq name (codes "bulk") then bulk_in rows
     else (if bytes_eq name (codes "ids") then ids_in rows else None)))))))

@@ -3,7 +3,7 @@
 ghost use Rattle.std.specs.Prelude.{◌≡◌, IfOk, false, option_map};
 ghost use Rattle.clap.specs.Words.{app_of, first_of, found_of, new_app, rows_of, rule_of, subcommand_rows_of, with_rule};
 ghost use Rattle.mt_words.specs.Commands.{bulk_with, ids_with, make_with, trial_with};
-ghost use Rattle.mt_words.specs.Grammar.{bulk_app, bulk_in, command_in, command_met, grammar, ids_app, ids_in, make_app, make_in, option_rule, rows_app, rows_in, show_app, trial_app, trial_in, word_rule};
+ghost use Rattle.mt_words.specs.Grammar.{bulk_app, bulk_in, command_in, command_met, grammar, ids_app, ids_in, make_app, make_in, option_rule, rows_app, rows_given, show_app, trial_app, trial_in, word_rule};
 
 use crate::commands::Command;
 use crate::numbers::number_in;
@@ -136,7 +136,7 @@ fn word_of<'a>(matches: &ArgMatches<'a>, name: &str) -> Option<&'a str>
 
 /// How many rows the words say, or all that there may be.
 fn rows_in(matches: &ArgMatches) -> Option<u64>
-    ensures { result ≡ rows_in (rows_of (found_of matches.now)) }
+    ensures { result ≡ rows_given (rows_of (found_of matches.now)) }
 {
     match word_of(matches, "rows") {
         Some(word) => number_in(word, FEWEST_ROWS, MOST_ROWS),
@@ -145,21 +145,21 @@ fn rows_in(matches: &ArgMatches) -> Option<u64>
 }
 
 fn replay_in(matches: &ArgMatches) -> Option<Command>
-    ensures { result ≡ option_map Command.Replay (rows_in (rows_of (found_of matches.now))) }
+    ensures { result ≡ option_map Command.Replay (rows_given (rows_of (found_of matches.now))) }
 {
     let rows = rows_in(matches)?;
     Some(Command::Replay { rows })
 }
 
 fn verify_in(matches: &ArgMatches) -> Option<Command>
-    ensures { result ≡ option_map Command.Verify (rows_in (rows_of (found_of matches.now))) }
+    ensures { result ≡ option_map Command.Verify (rows_given (rows_of (found_of matches.now))) }
 {
     let rows = rows_in(matches)?;
     Some(Command::Verify { rows })
 }
 
 fn image_in(matches: &ArgMatches) -> Option<Command>
-    ensures { result ≡ option_map Command.Image (rows_in (rows_of (found_of matches.now))) }
+    ensures { result ≡ option_map Command.Image (rows_given (rows_of (found_of matches.now))) }
 {
     let rows = rows_in(matches)?;
     Some(Command::Image { rows })

@@ -21,10 +21,10 @@ use Rattle.mt_splice.specs.declared.climbing.Top.{Top}
 use Rattle.mt_splice.specs.declared.decisions.Next.{Next}
 use Rattle.mt_splice.specs.declared.decisions.Next.TheVariants.{Empty, Root as AtRoot, RootAbove, Slot as InSlot, Up}
 use Rattle.mt_splice.specs.declared.ways.Window.{Window}
-use Rattle.mt_splice.specs.steps.Decisions.{IsNext}
+use Rattle.mt_splice.specs.steps.Decisions.{IsNextDecision}
 use Rattle.mt_splice.specs.steps.Ledgers.{was_taken, IsLedger}
 use Rattle.mt_splice.specs.steps.Plans.{Layer, depth_at, heads_at, new_at, level_of, IsPlanned, AreAllHeld, taken_by, windows_by, window_at, windows_above}
-use Rattle.mt_splice.specs.steps.Progress.{Before, IsCase, new_rows_of}
+use Rattle.mt_splice.specs.steps.Progress.{Before, IsInFlight, new_rows_of}
 use Rattle.mt_splice.specs.steps.Runs.{MayBeCut}
 use Rattle.mt_splice.specs.steps.Seen.{Seen}
 use Rattle.mt_splice.specs.steps.Telling.{AreFromBelow, AreAllFromBelow}
@@ -39,7 +39,7 @@ use Rattle.mt_splice.specs.steps.Writes.{IsNewRow}
 -- window of this level is gathered.
 pub record IsClimbing (b : Before) (start : Start) (s : Sheet) (book : Book) (kind : RowKind) (depth : ℕ) (c : Climb) : Type 0 where
   pub layers : List Layer
-  pub case : IsCase b start
+  pub case : IsInFlight b start
   pub of_kind : kind ≡ kind_on start.tree.gapped (length layers)
   pub planned : IsPlanned start layers
   pub held : AreAllHeld start s.tree.table.words (was_taken (taken_by start layers)) layers
@@ -67,7 +67,7 @@ pub record IsNothingLeft (b : Before) (start : Start) (s : Sheet) (book : Book) 
   pub first : low_of start.tree depth from ≡ 0
   pub last : high_of start.tree depth to ≡ top_of start.tree + 1
   pub none : start.map ≡ []
-  pub case : IsCase b start
+  pub case : IsInFlight b start
   pub ledger : IsLedger b s book [] []
   pub windows : c.windows.items ≡ window_at start depth from to ∷ []
   pub made : c.made.items ≡ []
@@ -77,7 +77,7 @@ pub record IsNothingLeft (b : Before) (start : Start) (s : Sheet) (book : Book) 
 pub record IsLevelDrafted (b : Before) (start : Start) (s : Sheet) (book : Book) (depth : ℕ) (c : Climb) (new : List Item) (next : Next) : Type 0 where
   pub l : Layer
   pub lower : List Layer
-  pub case : IsCase b start
+  pub case : IsInFlight b start
   pub at : start.height ≡ depth + length lower
   pub planned : IsPlanned start (l ∷ lower)
   pub held : AreAllHeld start s.tree.table.words (was_taken (taken_by start (l ∷ lower))) (l ∷ lower)
@@ -86,7 +86,7 @@ pub record IsLevelDrafted (b : Before) (start : Start) (s : Sheet) (book : Book)
   pub right : c.ways.right.items ≡ path_in start.tree.table start.tree.root l.to
   pub told : AreAllFromBelow start (l ∷ lower)
   pub up : new ≡ heads_at start (length lower) l
-  pub goes_on : IsNext start.tree.table.width c.ways.left.items c.ways.right.items depth (kind_on start.tree.gapped (length lower)) l.items (length l.ends) next
+  pub goes_on : IsNextDecision start.tree.table.width c.ways.left.items c.ways.right.items depth (kind_on start.tree.gapped (length lower)) l.items (length l.ends) next
   pub windows : c.windows.items ≡ windows_by start (l ∷ lower)
   pub made : c.made.items ≡ new_rows_of s.tree.table (taken_by start (l ∷ lower))
   pub inner : c.inner ≡ inner_of start.tree.gapped
@@ -172,7 +172,7 @@ pub record HasClimbed (b : Before) (start : Start) (s : Sheet) (book : Book) (c 
   pub from : ℕ
   pub to : ℕ
   pub over : ℕ
-  pub case : IsCase b start
+  pub case : IsInFlight b start
   pub stands : Stands start.tree start.height
   pub planned : IsPlanned start layers
   pub told : AreAllFromBelow start layers

@@ -30,9 +30,9 @@ pub record IsNothing (width : Width) (left right : List PathStep) (depth : ℕ) 
 abbrev pub EndsHere : Width → List PathStep → List PathStep → ℕ → ℕ → Type 0
 EndsHere width left right depth pieces = (depth ≡ 0) ⊎ ((pieces ≡ 1) × (((step_at left depth).min ≡ (step_at right depth).min) ⊎ StandForAll width left right depth))
 
-abbrev pub IsNext : Width → List PathStep → List PathStep → ℕ → RowKind → List Item → ℕ → Next → Type 0
-IsNext width left right depth kind items pieces Empty = IsNothing width left right depth kind items
-IsNext width left right depth kind items pieces Root = (IsNothing width left right depth kind items → ⊥) × (pieces ≡ 1) × StandForAll width left right depth
-IsNext width left right depth kind items pieces RootAbove = (IsNothing width left right depth kind items → ⊥) × (depth ≡ 0) × (pieces ≡ 1 → StandForAll width left right depth → ⊥)
-IsNext width left right depth kind items pieces Slot = (IsNothing width left right depth kind items → ⊥) × (0 < depth) × (pieces ≡ 1) × ((step_at left depth).min ≡ (step_at right depth).min) × (StandForAll width left right depth → ⊥)
-IsNext width left right depth kind items pieces Up = (IsNothing width left right depth kind items → ⊥) × (EndsHere width left right depth pieces → ⊥)
+abbrev pub IsNextDecision : Width → List PathStep → List PathStep → ℕ → RowKind → List Item → ℕ → Next → Type 0
+IsNextDecision width left right depth kind items pieces Empty = IsNothing width left right depth kind items
+IsNextDecision width left right depth kind items pieces Root = (IsNothing width left right depth kind items → ⊥) × (pieces ≡ 1) × StandForAll width left right depth
+IsNextDecision width left right depth kind items pieces RootAbove = (IsNothing width left right depth kind items → ⊥) × (depth ≡ 0) × (pieces ≡ 1 → StandForAll width left right depth → ⊥)
+IsNextDecision width left right depth kind items pieces Slot = (IsNothing width left right depth kind items → ⊥) × (0 < depth) × (pieces ≡ 1) × ((step_at left depth).min ≡ (step_at right depth).min) × (StandForAll width left right depth → ⊥)
+IsNextDecision width left right depth kind items pieces Up = (IsNothing width left right depth kind items → ⊥) × (EndsHere width left right depth pieces → ⊥)

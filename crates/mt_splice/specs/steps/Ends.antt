@@ -28,7 +28,7 @@ use Rattle.mt_splice.specs.steps.Work.{Start, Work, with_words, now, Holds}
 use Rattle.mt_splice.specs.steps.Replaced.{IsReplaced}
 use Rattle.mt_splice.specs.steps.Told.{GapsBeside}
 use Rattle.mt_splice.specs.steps.Writes.{child_row, AreChildren}
-use Rattle.mt_splice.specs.steps.Progress.{Before, IsCase, IsProgress, is_taken, new_rows_of}
+use Rattle.mt_splice.specs.steps.Progress.{Before, IsInFlight, IsProgress, is_taken, new_rows_of}
 use Rattle.mt_layout.specs.Sizes.{slots_of}
 
 -- ---- the end
@@ -68,7 +68,7 @@ pub record MayPublishEnd (b : Before) (start : Start) (s : Sheet) (book : Book) 
   -- the heights of the two trees
   pub old : Option ℕ
   pub new : Option ℕ
-  pub case : IsCase b start
+  pub case : IsInFlight b start
   pub progress : IsProgress b s book work
   pub few : length work.taken ≤ 3 * height_in b.sheet.tree.table b.sheet.tree.root + 1
   pub answer : acted b.kind (map_by b.sheet.tree) call ≡ (start.map, reply)

@@ -20,8 +20,8 @@ abbrev pub before_of : Kind → Sheet → Book → ℕ → Before
 before_of kind s book number = record { sheet = s; book = book; kind = kind; number = number }
 
 -- the tree as it is now, with the map that the call makes, and the indexes of what it changes
-abbrev pub start_of : Kind → Sheet → Call → ℕ → ℕ → Start
-start_of kind s call first last = record {
+abbrev pub start_for : Kind → Sheet → Call → ℕ → ℕ → Start
+start_for kind s call first last = record {
   tree = tree_as kind s.tree;
   height = length (path_in s.tree.table s.tree.root 0) - 1;
   map = (acted kind (map_by s.tree) call).0;
@@ -31,10 +31,10 @@ start_of kind s call first last = record {
 
 pub record IsBegunBy (b : Before) (begin : Start) (kind : Kind) (s : Sheet) (book : Book) (number : ℕ) (call : Call) (first last : ℕ) : Type 0 where
   pub before : b ≡ before_of kind s book number
-  pub start : begin ≡ start_of kind s call first last
+  pub start : begin ≡ start_for kind s call first last
 
 -- a store of an entry into the empty tree, where these are the items after it
-pub record IsFirst (b : Before) (start : Start) (s : Sheet) (book : Book) (items : List Item) (call : Call) (reply : Reply) : Type 0 where
+pub record IsFirstStore (b : Before) (start : Start) (s : Sheet) (book : Book) (items : List Item) (call : Call) (reply : Reply) : Type 0 where
   pub right : List PathStep
   pub begun : IsBegunBy b start b.kind s book b.number call start.first start.last
   pub may : MaySplice b.kind s book [] right items b.number call reply

@@ -14,12 +14,12 @@ use Rattle.mt_rows.specs.Laws.{Tree, IsRow, Stands, top_of}
 use Rattle.mt_splice.specs.Fewest.{FewestBelow}
 use Rattle.mt_splice.specs.steps.Told.{told_gap}
 use Rattle.mt_splice.specs.steps.Writes.{IsNewRow}
-use Rattle.mt_splice.specs.steps.Work.{Start, tree_with, rows_at, KeepsWords}
+use Rattle.mt_splice.specs.steps.Work.{Start, tree_with, rows_at, KeepsRowWords}
 
 -- what is known of each row of the tree as it was: it keeps its words, and is not new
 pub record IsOld (start : Start) (words : List ℕ) (is_new : ℕ → Bool) (h : ℕ) (x : Span) : Type 0 where
   pub row : IsRow start.tree h x
-  pub keeps : KeepsWords start.tree start.tree.table.words words (row_in x.word)
+  pub keeps : KeepsRowWords start.tree start.tree.table.words words (row_in x.word)
   pub old : is_new (row_in x.word) ≡ false
 
 -- From a depth down, the rows of the tree as it was stand beside what was written.

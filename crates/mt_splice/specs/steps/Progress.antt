@@ -9,12 +9,12 @@ use Rattle.mt_rows.specs.declared.rows.Life.TheVariants.{Draft}
 use Rattle.mt_rows.specs.Spans.{Table, column, spans_in}
 use Rattle.mt_rows.specs.Levels.{is_row_of}
 use Rattle.mt_rows.specs.Sheet.{Sheet, IsWhole, life_of, is_buried}
-use Rattle.mt_rows.specs.Publish.{tree_as, IsTold, is_reached}
+use Rattle.mt_rows.specs.Publish.{tree_as, IsToldKind, is_reached}
 use Rattle.mt_splice.specs.declared.writes.NewRow.{NewRow}
 use Rattle.mt_splice.specs.steps.Seen.{Seen, passing}
 use Rattle.mt_splice.specs.steps.Work.{Start, Work, with_words}
 use Rattle.mt_splice.specs.steps.Writes.{no_parent}
-use Rattle.mt_splice.specs.Kept.{IsKept, IsUnpublished}
+use Rattle.mt_splice.specs.Kept.{IsConsistent, IsUnpublished}
 
 -- the rows and the book as they were, and the number of the call
 pub record Before : Type 0 where
@@ -24,16 +24,16 @@ pub record Before : Type 0 where
   pub number : ℕ
 
 -- They are kept, and the start is their tree.
-pub record IsBefore (b : Before) (start : Start) : Type 0 where
+pub record IsStartOf (b : Before) (start : Start) : Type 0 where
   pub whole : IsWhole b.sheet
   pub tree : start.tree ≡ tree_as b.kind b.sheet.tree
-  pub kept : IsKept b.kind b.sheet.tree b.sheet.lives b.sheet.buried b.sheet.cleared b.book b.number
+  pub kept : IsConsistent b.kind b.sheet.tree b.sheet.lives b.sheet.buried b.sheet.cleared b.book b.number
 
 -- a call on them is in flight and has published nothing
-pub record IsCase (b : Before) (start : Start) : Type 0 where
-  pub told : IsTold b.sheet.kind b.kind
+pub record IsInFlight (b : Before) (start : Start) : Type 0 where
+  pub told : IsToldKind b.sheet.kind b.kind
   pub unpublished : IsUnpublished b.sheet.in_flight b.sheet.published b.sheet.ended b.number
-  pub was : IsBefore b start
+  pub was : IsStartOf b start
 
 abbrev pub row_seen : Seen → ℕ
 row_seen s = row_in s.at.word

@@ -56,12 +56,12 @@ abbrev pub IsUsed : Work → ℕ → Span → Type 0
 IsUsed s h x = s.used (row_in x.word) ≡ true
 
 -- a row has the words that it had, but for its parent word
-abbrev pub KeepsWords : Tree → List ℕ → List ℕ → ℕ → Type 0
-KeepsWords t words words' row = SameColumns (table_with t.table words) (table_with t.table words') (columns t.table.width) row
+abbrev pub KeepsRowWords : Tree → List ℕ → List ℕ → ℕ → Type 0
+KeepsRowWords t words words' row = SameColumns (table_with t.table words) (table_with t.table words') (columns t.table.width) row
 
 -- The tree's rows are in use and have the words that they had, and the rows taken are others.
 pub record Holds (start : Start) (s : Work) : Type 0 where
   pub stands : Stands start.tree start.height
   pub used : Levels (IsUsed s) start.tree.table start.height (root_of start.tree)
-  pub words : Levels (λ (_ : ℕ) (x : Span). KeepsWords start.tree start.tree.table.words s.words (row_in x.word)) start.tree.table start.height (root_of start.tree)
+  pub words : Levels (λ (_ : ℕ) (x : Span). KeepsRowWords start.tree start.tree.table.words s.words (row_in x.word)) start.tree.table start.height (root_of start.tree)
   pub taken : (row : ℕ) → 1 ≤ passing (is_row_of row) s.taken → times_in (is_row_of row) start.tree start.height ≡ 0

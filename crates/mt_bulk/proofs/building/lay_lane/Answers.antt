@@ -1,7 +1,7 @@
 use Rattle.std.proofs.Common.{◌≡◌, ◌-◌, ◌*◌, ℕ, refl, sym, ap, ◌∙◌, subst, arith}
 use Rattle.std.specs.Prelude.{vec_len, vec_capacity}
 use Rattle.mt_base.specs.Width.{columns, kind_width}
-use Rattle.mt_bulk.specs.Chunks.{ChunkView, IsReady}
+use Rattle.mt_bulk.specs.Chunks.{ChunkView, IsFillable}
 use Rattle.mt_bulk.proofs.Laying.{columns_grow, part_ready}
 use Rattle.mt_bulk.proofs.building.lay_lane.Goals as goal
 
@@ -26,7 +26,7 @@ returns-clause-laid c =
       steps = refl;
       words = c.in_ok-words.ensures.items;
       heads = c.in_ok-heads.ensures.items;
-      ready = subst (λ (v : ChunkView). IsReady v (vec_len words) (vec_capacity words) (vec_len heads) (vec_capacity heads)) (sym c.part.ensures)
+      ready = subst (λ (v : ChunkView). IsFillable v (vec_len words) (vec_capacity words) (vec_len heads) (vec_capacity heads)) (sym c.part.ensures)
           (part_ready l from to (vec_len words) (vec_capacity words) (vec_len heads) (vec_capacity heads) c.requires.leaves c.requires.order c.requires.inside (omega (arith, all, grown, room, empty)) (omega (arith, items, heads_room, heads_empty)));
     }
 

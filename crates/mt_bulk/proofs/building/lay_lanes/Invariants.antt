@@ -1,5 +1,5 @@
 use Rattle.std.proofs.Common.{◌≡◌, ◌≤◌, length, vec_len, vec_capacity}
-use Rattle.mt_bulk.specs.Builds.{AreLaid, AreNumbered, FirstHasRoom, whole_of, words_room}
+use Rattle.mt_bulk.specs.Builds.{AreLaid, AreLanesFrom, FirstHasRoom, whole_of, words_room}
 use Rattle.mt_bulk.proofs.building.lay_lanes.Given as goal
 
 abbrev pub invariant-loop-worker : goal.invariant-loop-worker
@@ -8,7 +8,7 @@ invariant-loop-worker l = record {
   inside : l.from ≤ length l.fn.leaves.ends.items;
   all : l.worker ≡ l.fn.workers → l.from ≡ length l.fn.leaves.ends.items;
   len : vec_len l.lanes ≡ l.worker;
-  numbered : AreNumbered 0 l.lanes.items;
+  numbered : AreLanesFrom 0 l.lanes.items;
   first : FirstHasRoom (words_room l.fn.leaves) (length l.fn.leaves.ends.items) l.lanes.items;
   room : l.fn.workers ≤ vec_capacity l.lanes;
 }

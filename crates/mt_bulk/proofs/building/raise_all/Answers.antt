@@ -2,8 +2,8 @@ use Rattle.std.proofs.Common.{◌≡◌, ◌≢◌, ◌+◌, ◌++◌, ℕ, List
 use Rattle.mt_base.specs.Width.{first_row}
 use Rattle.mt_rows.specs.Spans.{inner_kind}
 use Rattle.mt_bulk.specs.Builds.{AreLevels, above_leaves, whole_of}
-use Rattle.mt_bulk.specs.Bulk.{Built, raised}
-use Rattle.mt_bulk.specs.Chunks.{IsLevel, heads_in, words_in}
+use Rattle.mt_bulk.specs.Bulk.{Built, levels_built}
+use Rattle.mt_bulk.specs.Chunks.{IsLevel, heads_in, chunk_words}
 use Rattle.mt_bulk.proofs.Leveling.{length_heads_in, words_above}
 use Rattle.mt_bulk.proofs.building.raise_all.Goals as goal
 
@@ -42,7 +42,7 @@ raise-requires-clause-room c =
     let count : c.len-count.result ≡ length l.ends.items = c.len-count.ensures ∙ l.ends.ok.0 in
     let more : length l.ends.items ≢ 1 = λ one. c.if-count-eq1.false (count ∙ one) in
     let next : first_row + c.len-count.result ≡ first_row + length l.ends.items = ap (λ (n : ℕ). first_row + n) count in
-    let upper : raised l.kind (inner_kind l.kind) (first_row + c.len-count.result) c.args.heads.now ≡ above_leaves l.kind l.items.items l.ends.items l.parents.items = (λ i. raised l.kind (inner_kind l.kind) (next i) (c.requires.heads i)) in
+    let upper : levels_built l.kind (inner_kind l.kind) (first_row + c.len-count.result) c.args.heads.now ≡ above_leaves l.kind l.items.items l.ends.items l.parents.items = (λ i. levels_built l.kind (inner_kind l.kind) (next i) (c.requires.heads i)) in
     let room = c.requires.room in
     omega (arith, words_above l c.requires.leaves more, ap (λ (b : Built). length b.words) upper, ap length c.requires.words, c.args.words.now.ok.0, room)
 
@@ -52,7 +52,7 @@ returns-clause-root c =
     let count : c.len-count.result ≡ length l.ends.items = c.len-count.ensures ∙ l.ends.ok.0 in
     let more : length l.ends.items ≢ 1 = λ one. c.if-count-eq1.false (count ∙ one) in
     let next : first_row + c.len-count.result ≡ first_row + length l.ends.items = ap (λ (n : ℕ). first_row + n) count in
-    let upper : raised l.kind (inner_kind l.kind) (first_row + c.len-count.result) c.args.heads.now ≡ above_leaves l.kind l.items.items l.ends.items l.parents.items = (λ i. raised l.kind (inner_kind l.kind) (next i) (c.requires.heads i)) in
+    let upper : levels_built l.kind (inner_kind l.kind) (first_row + c.len-count.result) c.args.heads.now ≡ above_leaves l.kind l.items.items l.ends.items l.parents.items = (λ i. levels_built l.kind (inner_kind l.kind) (next i) (c.requires.heads i)) in
     c.raise.ensures.root ∙ (ap (λ (b : Built). b.root) upper ∙ sym (ap (λ (b : Built). b.root) (c.requires.leaves.several more)))
 
 pub returns-clause-words : goal.returns-clause-words
@@ -61,6 +61,6 @@ returns-clause-words c =
     let count : c.len-count.result ≡ length l.ends.items = c.len-count.ensures ∙ l.ends.ok.0 in
     let more : length l.ends.items ≢ 1 = λ one. c.if-count-eq1.false (count ∙ one) in
     let next : first_row + c.len-count.result ≡ first_row + length l.ends.items = ap (λ (n : ℕ). first_row + n) count in
-    let upper : raised l.kind (inner_kind l.kind) (first_row + c.len-count.result) c.args.heads.now ≡ above_leaves l.kind l.items.items l.ends.items l.parents.items = (λ i. raised l.kind (inner_kind l.kind) (next i) (c.requires.heads i)) in
-    c.raise.ensures.words ∙ (ap (λ (x : List ℕ). x ++ (raised l.kind (inner_kind l.kind) (first_row + c.len-count.result) c.args.heads.now).words) c.requires.words
-    ∙ ((λ i. words_in (whole_of l) ++ (upper i).words) ∙ sym (ap (λ (b : Built). b.words) (c.requires.leaves.several more))))
+    let upper : levels_built l.kind (inner_kind l.kind) (first_row + c.len-count.result) c.args.heads.now ≡ above_leaves l.kind l.items.items l.ends.items l.parents.items = (λ i. levels_built l.kind (inner_kind l.kind) (next i) (c.requires.heads i)) in
+    c.raise.ensures.words ∙ (ap (λ (x : List ℕ). x ++ (levels_built l.kind (inner_kind l.kind) (first_row + c.len-count.result) c.args.heads.now).words) c.requires.words
+    ∙ ((λ i. chunk_words (whole_of l) ++ (upper i).words) ∙ sym (ap (λ (b : Built). b.words) (c.requires.leaves.several more))))

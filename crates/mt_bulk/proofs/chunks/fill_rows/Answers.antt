@@ -3,7 +3,7 @@ use Rattle.std.specs.Prelude.{slice_index}
 use Rattle.mt_base.specs.Call.{finds_room}
 use Rattle.mt_base.specs.Width.{columns, kind_width}
 use Rattle.mt_layout.specs.Columns.{RiseFrom}
-use Rattle.mt_bulk.specs.Chunks.{heads_in, view_of, words_in}
+use Rattle.mt_bulk.specs.Chunks.{heads_in, view_of, chunk_words}
 use Rattle.mt_bulk.proofs.Placed.{next_row}
 use Rattle.mt_bulk.proofs.Filling.{next_fill, row_rises, step_heads, step_words}
 use Rattle.mt_bulk.proofs.chunks.fill_rows.Goals as goal
@@ -35,7 +35,7 @@ loop-at-preserved c =
     let words_room = c.push_words.ensures.capacity in
     let inv = c.loop-at.invariant in
     record {
-      words = step_words c.width_of-width.result (kind_width k.tree) w k.kind k.items from at k.parents k.ends c.loop-at-test.true c.requires.rows.parents c.loop-at.words.items c.push_words.new.words.items (c.args.words.now.items ++ words_in k) c.push_words.ensures.words inv.words;
+      words = step_words c.width_of-width.result (kind_width k.tree) w k.kind k.items from at k.parents k.ends c.loop-at-test.true c.requires.rows.parents c.loop-at.words.items c.push_words.new.words.items (c.args.words.now.items ++ chunk_words k) c.push_words.ensures.words inv.words;
       heads = step_heads c.finds_room-gapped.result (finds_room k.tree) c.finds_room-gapped.ensures k.kind k.items from at k.number c.first_index-first.result k.ends c.loop-at-test.true fill.0 fill.1 c.first_index-first.ensures c.loop-at.heads.items c.push_head.new.heads.items (c.args.heads.now.items ++ heads_in k) c.push_head.ensures.heads inv.heads;
       fill = fill.4;
       words_len = omega (arith, words_len, more, same, inv.words_len);

@@ -2,8 +2,8 @@ use Rattle.std.proofs.Common.{◌≡◌, ◌≢◌, ◌+◌, ◌++◌, ℕ, List
 use Rattle.mt_layout.specs.declared.items.Item.{Item}
 use Rattle.mt_rows.specs.Spans.{inner_kind}
 use Rattle.mt_bulk.specs.Builds.{AreLevels}
-use Rattle.mt_bulk.specs.Bulk.{Built, raised}
-use Rattle.mt_bulk.specs.Chunks.{IsLevel, heads_in, words_in}
+use Rattle.mt_bulk.specs.Bulk.{Built, levels_built}
+use Rattle.mt_bulk.specs.Chunks.{IsLevel, heads_in, chunk_words}
 use Rattle.mt_bulk.proofs.Leveling.{first_level, known_level, length_heads_in, some_levels}
 use Rattle.mt_bulk.proofs.Raising.{above_with, view_with}
 use Rattle.mt_bulk.proofs.levels.+raise.Goals as goal
@@ -118,16 +118,16 @@ raise-requires t c =
     let view = view_with tree c.inner_kind-kind.result number items c.deref.result.now c.deref-2.result.now in
     let above : c.deref-3.result.now ≡ heads_in view = c.deref-3.ensures.value ∙ (c.fill_rows.ensures.heads ∙ ap (λ (l : List Item). l ++ heads_in view) laid.0.heads) in
     let next : number + c.len-rows.result ≡ number + length c.deref.result.now = ap (λ (n : ℕ). number + n) many in
-    let upper : raised tree (inner_kind tree) (number + c.len-rows.result) c.deref-3.result.now ≡ above_with tree c.inner_kind-kind.result number items c.deref.result.now c.deref-2.result.now = (λ i. raised tree (inner_kind tree) (next i) (above i)) in
+    let upper : levels_built tree (inner_kind tree) (number + c.len-rows.result) c.deref-3.result.now ≡ above_with tree c.inner_kind-kind.result number items c.deref.result.now c.deref-2.result.now = (λ i. levels_built tree (inner_kind tree) (next i) (above i)) in
     let split = facts.several more in
     let falls = c.decreases in
     let rest = c.in-Some.ensures.cases.1 in
     let all = ap (λ (b : Built). length b.words) split in
-    let both = length-append (words_in view) (above_with tree c.inner_kind-kind.result number items c.deref.result.now c.deref-2.result.now).words in
+    let both = length-append (chunk_words view) (above_with tree c.inner_kind-kind.result number items c.deref.result.now c.deref-2.result.now).words in
     let same_words = ap (λ (b : Built). length b.words) upper in
     let room = c.requires.room in
     let filled = ap length c.fill_rows.ensures.words in
-    let front = length-append c.args.words.now.items (words_in view) in
+    let front = length-append c.args.words.now.items (chunk_words view) in
     let old = c.args.words.now.ok.0 in
     let new = c.fill_rows.new.words.ok.0 in
     let capacity = c.fill_rows.ensures.capacity in
@@ -156,7 +156,7 @@ returns-clause-root t c =
     let view = view_with tree c.inner_kind-kind.result number items c.deref.result.now c.deref-2.result.now in
     let above : c.deref-3.result.now ≡ heads_in view = c.deref-3.ensures.value ∙ (c.fill_rows.ensures.heads ∙ ap (λ (l : List Item). l ++ heads_in view) laid.0.heads) in
     let next : number + c.len-rows.result ≡ number + length c.deref.result.now = ap (λ (n : ℕ). number + n) many in
-    let upper : raised tree (inner_kind tree) (number + c.len-rows.result) c.deref-3.result.now ≡ above_with tree c.inner_kind-kind.result number items c.deref.result.now c.deref-2.result.now = (λ i. raised tree (inner_kind tree) (next i) (above i)) in
+    let upper : levels_built tree (inner_kind tree) (number + c.len-rows.result) c.deref-3.result.now ≡ above_with tree c.inner_kind-kind.result number items c.deref.result.now c.deref-2.result.now = (λ i. levels_built tree (inner_kind tree) (next i) (above i)) in
     let split = facts.several more in
     c.raise.ensures.root ∙ (ap (λ (b : Built). b.root) upper ∙ sym (ap (λ (b : Built). b.root) split))
 
@@ -173,9 +173,9 @@ returns-clause-words t c =
     let view = view_with tree c.inner_kind-kind.result number items c.deref.result.now c.deref-2.result.now in
     let above : c.deref-3.result.now ≡ heads_in view = c.deref-3.ensures.value ∙ (c.fill_rows.ensures.heads ∙ ap (λ (l : List Item). l ++ heads_in view) laid.0.heads) in
     let next : number + c.len-rows.result ≡ number + length c.deref.result.now = ap (λ (n : ℕ). number + n) many in
-    let upper : raised tree (inner_kind tree) (number + c.len-rows.result) c.deref-3.result.now ≡ above_with tree c.inner_kind-kind.result number items c.deref.result.now c.deref-2.result.now = (λ i. raised tree (inner_kind tree) (next i) (above i)) in
+    let upper : levels_built tree (inner_kind tree) (number + c.len-rows.result) c.deref-3.result.now ≡ above_with tree c.inner_kind-kind.result number items c.deref.result.now c.deref-2.result.now = (λ i. levels_built tree (inner_kind tree) (next i) (above i)) in
     let split = facts.several more in
     c.raise.ensures.words
-    ∙ (ap (λ (l : List ℕ). l ++ (raised tree (inner_kind tree) (number + c.len-rows.result) c.deref-3.result.now).words) c.fill_rows.ensures.words
-    ∙ (append_assoc c.args.words.now.items (words_in view) (raised tree (inner_kind tree) (number + c.len-rows.result) c.deref-3.result.now).words
-    ∙ ap (λ (l : List ℕ). c.args.words.now.items ++ l) ((λ i. words_in view ++ (upper i).words) ∙ sym (ap (λ (b : Built). b.words) split))))
+    ∙ (ap (λ (l : List ℕ). l ++ (levels_built tree (inner_kind tree) (number + c.len-rows.result) c.deref-3.result.now).words) c.fill_rows.ensures.words
+    ∙ (append_assoc c.args.words.now.items (chunk_words view) (levels_built tree (inner_kind tree) (number + c.len-rows.result) c.deref-3.result.now).words
+    ∙ ap (λ (l : List ℕ). c.args.words.now.items ++ l) ((λ i. chunk_words view ++ (upper i).words) ∙ sym (ap (λ (b : Built). b.words) split))))

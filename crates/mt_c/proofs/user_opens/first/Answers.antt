@@ -2,15 +2,15 @@ use Rattle.std.proofs.Common.{Some, subst, sym}
 use Rattle.std.proofs.lemmas.List.Elements.{All-pop}
 use Rattle.mt_tree.specs.declared.trees.Tree.{Tree}
 use Rattle.mt_tree.specs.Trees.{IsPassOf, Pass}
-use Rattle.mt_c.specs.Spares.{IsSpare}
+use Rattle.mt_c.specs.Spares.{IsSparePass}
 use Rattle.mt_c.proofs.user_opens.first.Goals as goal
 
 pub shared-requires : goal.shared-requires
-shared-requires c = (All-pop (IsSpare c.args.tree) c.args.passes.items c.pop.new.self.items c.pop.result c.pop.ensures.items c.requires.passes).0
+shared-requires c = (All-pop (IsSparePass c.args.tree) c.args.passes.items c.pop.new.self.items c.pop.result c.pop.ensures.items c.requires.passes).0
 
 pub invariant_of-result : goal.invariant_of-result
 invariant_of-result c =
-    let last : IsSpare c.args.tree c.in-Some.pass = (All-pop (IsSpare c.args.tree) c.args.passes.items c.pop.new.self.items (Some c.in-Some.pass) c.in-Some.ensures.items c.requires.passes).1 in record {
+    let last : IsSparePass c.args.tree c.in-Some.pass = (All-pop (IsSparePass c.args.tree) c.args.passes.items c.pop.new.self.items (Some c.in-Some.pass) c.in-Some.ensures.items c.requires.passes).1 in record {
       of = subst (λ (x : Tree × Pass). IsPassOf x.0 x.1) (λ i. (sym c.in_ok-common.ensures.tree i, sym c.new.ensures.pass i)) last.of;
       seated = c.in_ok-common.ensures.seated;
     }

@@ -3,7 +3,7 @@ use Rattle.std.specs.Prelude.{nat_eq}
 use Rattle.std.specs.Cmp.Lexicographic.{pointwise}
 use Rattle.mt_rows.specs.Sheet.{Rooted}
 use Rattle.mt_check.specs.RowTests.{rise_to, words_of}
-use Rattle.mt_check.specs.Reads.{items_of, holds_no_more, words_made}
+use Rattle.mt_check.specs.Reads.{row_items, holds_no_more, words_of_parts}
 use Rattle.mt_rows.proofs.Loads.{same_tree}
 use Rattle.mt_check.proofs.Unused.{no_more}
 use Rattle.mt_check.proofs.reads.items_in.Goals as goal
@@ -17,8 +17,8 @@ returns-clause-is g c =
     let same = same_tree s (g.R.Rows.sheet c.read_items.new.rows) c.read_items.ensures.rest in
     let many = c.len.ensures.value ∙ ap length c.read_items.ensures.items in
     let rise : c.read_items.result ≡ true = search rules in
-    let rises : rise_to c.args.first c.args.last (items_of t kind row c.args.last) ≡ true = sym c.read_items.ensures.rise ∙ rise in
+    let rises : rise_to c.args.first c.args.last (row_items t kind row c.args.last) ≡ true = sym c.read_items.ensures.rise ∙ rise in
     c.holds_no_more.ensures.is
     ∙ (ap (λ (x : Rooted). holds_no_more x.table kind row c.len.result) same
     ∙ (ap (holds_no_more t kind row) many
-    ∙ (no_more t kind row c.args.last ∙ ap (λ (b : Bool). b && pointwise nat_eq (words_of t row) (words_made t kind row c.args.last)) (sym rises))))
+    ∙ (no_more t kind row c.args.last ∙ ap (λ (b : Bool). b && pointwise nat_eq (words_of t row) (words_of_parts t kind row c.args.last)) (sym rises))))

@@ -1,7 +1,7 @@
 use Rattle.std.proofs.Common.{◌≡◌, ◌≤◌}
-use Rattle.mt_draw.specs.Texts.{longest_at}
+use Rattle.mt_draw.specs.Texts.{longest_slot}
 use Rattle.mt_draw.specs.Trees.{table_of}
 use Rattle.mt_draw.proofs.texts.longest_at.Given as goal
 
 abbrev pub invariant-loop-slot : goal.invariant-loop-slot
-invariant-loop-slot l = (l.best ≡ longest_at (table_of l.tree) l.node l.slot) × (l.best ≤ l.used)
+invariant-loop-slot l = (l.best ≡ longest_slot (table_of l.tree) l.node l.slot) × (l.best ≤ l.used)

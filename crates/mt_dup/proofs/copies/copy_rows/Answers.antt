@@ -3,7 +3,7 @@ use Rattle.mt_free.specs.Book.{Book, new_book}
 use Rattle.mt_rows.specs.Memory.{sheet_in}
 use Rattle.mt_rows.specs.PlainWhole.{rows_whole}
 use Rattle.mt_rows.specs.Sheet.{Sheet}
-use Rattle.mt_dup.specs.Filling.{IsOpen}
+use Rattle.mt_dup.specs.Filling.{IsOpenCopy}
 use Rattle.mt_dup.proofs.WholeCopies.{tree_may, names_many, names_same, may_same}
 use Rattle.mt_dup.proofs.NewTables.{new_open, is_copy, in_order, same_map, may_be_planted, others_new, has_book}
 use Rattle.mt_dup.proofs.copies.copy_rows.Goals as goal
@@ -16,7 +16,7 @@ copy_row-requires-clause-may g c =
     may_same s s₁ c.root.result (one_read s s₁ c.root.ensures.rest) c.root.ensures.word (tree_may c.requires.lawful.0 s (g.met.R.Rows.whole c.args.src.now) c.requires.lawful.1)
 
 pub copy_row-requires-clause-open : goal.copy_row-requires-clause-open
-copy_row-requires-clause-open g c = subst (λ (b : Book). IsOpen b (sheet_in c.args.dst.now)) (sym c.requires.book) (subst (IsOpen (new_book c.args.book.now.rows)) (sym c.requires.rows) (new_open (g.R.Rows.sheet c.args.src.now).tree.table.width c.args.book.now.rows))
+copy_row-requires-clause-open g c = subst (λ (b : Book). IsOpenCopy b (sheet_in c.args.dst.now)) (sym c.requires.book) (subst (IsOpenCopy (new_book c.args.book.now.rows)) (sym c.requires.rows) (new_open (g.R.Rows.sheet c.args.src.now).tree.table.width c.args.book.now.rows))
 
 pub copy_row-requires-clause-room : goal.copy_row-requires-clause-room
 copy_row-requires-clause-room g c =

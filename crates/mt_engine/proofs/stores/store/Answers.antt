@@ -8,7 +8,7 @@ use Rattle.mt_rows.specs.Trees.{height_in}
 use Rattle.mt_engine.specs.Engine.{ChangesEntry, Replaces}
 use Rattle.mt_engine.specs.Plans.{IsStorePlan}
 use Rattle.mt_engine.specs.Rooms.{HasRoom}
-use Rattle.mt_engine.specs.Stores.{IsStored}
+use Rattle.mt_engine.specs.Stores.{IsDoneByStore}
 use Rattle.mt_engine.proofs.Answering.{not_both, at_once, after_scan}
 use Rattle.mt_engine.proofs.Leaving.{refuses}
 use Rattle.mt_engine.proofs.Moments.{tree_in_call}
@@ -65,15 +65,15 @@ returns-clause-done g c =
       | then-wants_by+in_ok-make_room w ↦
           (let wants = store_wants tree c.requires.plan (sym c.wants_by.ensures ∙ w.if-wants_by.true) in
           after_scan c.args.kind s (g.R.Rows.sheet w.make_room.new.rows) s' c.args.book.now w.make_room.new.book book' c.args.event.now.call.now c.args.event.now.reply.now c.requires.unscanned (w.make_room.ensures.scanned c.args.kind c.requires.in_call.state) w.in_ok-make_room.ensures.room wants c.requires.plan.success
-          (subst (λ (b : Book). IsStored c.args.kind (g.R.Rows.sheet w.make_room.new.rows) s' b book' c.args.event.now.call.now c.args.event.now.reply.now) w.book-is
-          (subst (λ (x : Sheet). IsStored c.args.kind x s' c.if-wants_by.book book' c.args.event.now.call.now c.args.event.now.reply.now) (ap g.R.Rows.sheet w.rows-is) c.store_at_hand.ensures.stored)))
+          (subst (λ (b : Book). IsDoneByStore c.args.kind (g.R.Rows.sheet w.make_room.new.rows) s' b book' c.args.event.now.call.now c.args.event.now.reply.now) w.book-is
+          (subst (λ (x : Sheet). IsDoneByStore c.args.kind x s' c.if-wants_by.book book' c.args.event.now.call.now c.args.event.now.reply.now) (ap g.R.Rows.sheet w.rows-is) c.store_at_hand.ensures.stored)))
       | else-wants_by w ↦
           (let not = sym c.wants_by.ensures ∙ w.if-wants_by.false in
           let calm = store_wants_none tree c.requires.plan not in
           let none = store_replaces_none tree c.requires.plan not in
           at_once c.args.kind s s' c.args.book.now book' c.args.event.now.call.now c.args.event.now.reply.now c.requires.unscanned c.requires.plan.success calm none
-          (subst (λ (b : Book). IsStored c.args.kind s s' b book' c.args.event.now.call.now c.args.event.now.reply.now) w.book-is
-          (subst (λ (x : Sheet). IsStored c.args.kind x s' c.if-wants_by.book book' c.args.event.now.call.now c.args.event.now.reply.now) (ap g.R.Rows.sheet w.rows-is) c.store_at_hand.ensures.stored)))
+          (subst (λ (b : Book). IsDoneByStore c.args.kind s s' b book' c.args.event.now.call.now c.args.event.now.reply.now) w.book-is
+          (subst (λ (x : Sheet). IsDoneByStore c.args.kind x s' c.if-wants_by.book book' c.args.event.now.call.now c.args.event.now.reply.now) (ap g.R.Rows.sheet w.rows-is) c.store_at_hand.ensures.stored)))
     ]
 
 pub returns-clause-exact : goal.returns-clause-exact

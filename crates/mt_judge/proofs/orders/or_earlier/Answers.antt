@@ -1,10 +1,10 @@
 use Rattle.std.proofs.Common.{◌≡◌, false, Option, IfSome, subst}
 use Rattle.mt_judge.proofs.Firsts.{told_earlier}
 use Rattle.mt_judge.specs.Faults.{is_of_order}
-use Rattle.mt_judge.specs.declared.causes.Fault.{Fault}
+use Rattle.mt_judge.specs.declared.causes.FoundFault.{FoundFault}
 use Rattle.mt_judge.proofs.orders.or_earlier.Goals as goal
 
 pub returns-in-Some : goal.returns-in-Some
 returns-in-Some c =
-    let other = subst (λ (o : Option Fault). IfSome o (λ fault. is_of_order fault.cause ≡ false)) c.in-Some.is c.requires.other in
+    let other = subst (λ (o : Option FoundFault). IfSome o (λ fault. is_of_order fault.cause ≡ false)) c.in-Some.is c.requires.other in
     rw c.or_earlier.ensures (told_earlier c.args.told.now c.args.found c.in-Some.fault c.requires.order other)

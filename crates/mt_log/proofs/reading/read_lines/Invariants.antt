@@ -1,13 +1,13 @@
 use Rattle.std.proofs.Common.{◌≡◌, ◌+◌, ◌≤◌, ◌==◌, length}
 use Rattle.std.specs.List.{slice_split}
-use Rattle.mt_log.specs.Reader.{IsSound}
+use Rattle.mt_log.specs.Reader.{IsSoundReading}
 use Rattle.mt_log.specs.Reading.{after_pieces, nothing_read}
 use Rattle.mt_log.proofs.reading.read_lines.Given as goal
 
 abbrev pub invariant-loop-line : goal.invariant-loop-line
 invariant-loop-line l =
     (after_pieces l.reader (slice_split (λ b. b == 10) l.rest) ≡ after_pieces nothing_read (slice_split (λ b. b == 10) l.text))
-    × IsSound l.reader
+    × IsSoundReading l.reader
     × (length l.reader.lines + length l.rest ≤ length l.text)
     × (l.reader.next + length l.rest ≤ length l.text + 2)
 

@@ -1,9 +1,9 @@
-use Rattle.mt_rule.specs.Tokens.{identity_of, pen_in, GoesOn, joined_part}
+use Rattle.mt_rule.specs.Tokens.{identity_of, pen_in, KeepsPassOf, joined_part}
 use Rattle.mt_pen.specs.Scans.{HasScanned}
 use Rattle.mt_pen.proofs.scans.scan_sections.Given as goal
 
 abbrev pub invariant-loop-pass : goal.invariant-loop-pass
 invariant-loop-pass l = record {
-  on : GoesOn (identity_of l.table) l.fn.pen l.pen;
+  on : KeepsPassOf (identity_of l.table) l.fn.pen l.pen;
   scanned : HasScanned (pen_in l.fn.pen) (joined_part l.fn.pen) (pen_in l.pen) l.scan l.pass;
 }

@@ -1,5 +1,5 @@
 use Rattle.std.proofs.Common.{◌+◌, ◌<◌, length, arith, ◌∙◌}
-use Rattle.mt_play.specs.Players.{state_of}
+use Rattle.mt_play.specs.Players.{player_state}
 use Rattle.mt_play.proofs.LogPhases.{behind_join, next_begins, phase_ready}
 use Rattle.mt_play.proofs.Turning.{next_turned}
 use Rattle.mt_play.proofs.phases.play_lines.Goals as goal
@@ -17,6 +17,6 @@ loop-from-preserved g c =
       rest = c.in_ok-play_phase.ensures.rest;
       passes = c.in_ok-play_phase.ensures.passes ∙ c.loop-from.invariant.passes;
       rows = c.in_ok-play_phase.ensures.rows ∙ c.loop-from.invariant.rows;
-      played = behind_join c.args.log.now c.phase_end-to.result (c.loop-from.phase + 1) (state_of g.T.Shared.tree g.P.Passage.knows c.play_phase.new.player) here (c.phase_end-to.ensures.join here) c.in_ok-play_phase.ensures.played;
+      played = behind_join c.args.log.now c.phase_end-to.result (c.loop-from.phase + 1) (player_state g.T.Shared.tree g.P.Passage.knows c.play_phase.new.player) here (c.phase_end-to.ensures.join here) c.in_ok-play_phase.ensures.played;
       turned = next_turned (g.G.Gate.passed c.args.gate.now) c.args.log.now c.loop-from.from c.phase_end-to.result c.phase_end-to.ensures.from c.phase_end-to.ensures.within c.phase_end-to.ensures.none c.in_ok-play_phase.ensures.turns here (c.phase_end-to.ensures.join here) c.loop-from.invariant.turned;
     }

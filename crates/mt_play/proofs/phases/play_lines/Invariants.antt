@@ -1,5 +1,5 @@
 use Rattle.std.proofs.Common.{◌≡◌, ◌+◌, ◌-◌, drop, length, take}
-use Rattle.mt_play.specs.Players.{IsAtRest, IsPlayed, state_of}
+use Rattle.mt_play.specs.Players.{IsBetweenPhases, IsPlayed, player_state}
 use Rattle.mt_play.specs.Turns.{AllTurned}
 use Rattle.mt_play.proofs.LogPhases.{BeginsAt}
 use Rattle.mt_play.proofs.phases.play_lines.Given as goal
@@ -7,10 +7,10 @@ use Rattle.mt_play.proofs.phases.play_lines.Given as goal
 abbrev pub invariant-loop-from : goal.invariant-loop-from
 invariant-loop-from g l = record {
   begins : BeginsAt l.log l.from l.phase;
-  rest : IsAtRest g.T.Shared.tree g.P.Passage.knows g.T.Shared.serves g.T.Plays.many l.player;
+  rest : IsBetweenPhases g.T.Shared.tree g.P.Passage.knows g.T.Shared.serves g.T.Plays.many l.player;
   passes : l.player.passes ≡ l.lanes + 1;
   rows : l.player.rows ≡ l.initial.player.rows;
-  played : IsPlayed l.phase (take l.from l.log) (state_of g.T.Shared.tree g.P.Passage.knows l.player);
+  played : IsPlayed l.phase (take l.from l.log) (player_state g.T.Shared.tree g.P.Passage.knows l.player);
   turned : AllTurned (g.G.Gate.passed l.gate) (drop l.from l.log) → AllTurned (g.G.Gate.passed l.gate) l.log;
 }
 

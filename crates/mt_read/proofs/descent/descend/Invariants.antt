@@ -1,14 +1,14 @@
 use Rattle.std.proofs.Common.{◌≡◌, ◌+◌, ◌≤◌}
 use Rattle.mt_rule.specs.Sections.{here}
 use Rattle.mt_rule.specs.Tokens.{identity_of, part_of, IsCounted, Stepped}
-use Rattle.mt_read.specs.Walks.{IsOn, GoesOn, steps_down}
+use Rattle.mt_read.specs.Walks.{IsOnRow, GoesOn, steps_down}
 use Rattle.mt_read.proofs.descent.descend.Given as goal
 
 abbrev pub invariant-loop-pass : goal.invariant-loop-pass
 invariant-loop-pass g l = record {
   stepped : Stepped (identity_of l.table) l.fn.pass l.pass;
   goes : GoesOn (part_of l.fn.pass) (part_of l.pass);
-  on : IsOn (part_of l.pass) l.row;
+  on : IsOnRow (part_of l.pass) l.row;
   since : (here (part_of l.pass)).since ≡ (here (part_of l.fn.pass)).since;
   from : l.row.min ≤ l.index;
   to : l.index ≤ l.row.max;

@@ -1,6 +1,6 @@
 use Rattle.std.proofs.Common.{◌+◌, ◌≤◌}
 use Rattle.mt_rule.specs.Tokens.{identity_of, part_of, IsCounted, Stepped}
-use Rattle.mt_read.specs.Walks.{IsOn, SeesMore}
+use Rattle.mt_read.specs.Walks.{IsOnRow, SeesMore}
 use Rattle.mt_read.proofs.Finding.{PassedBy}
 use Rattle.mt_read.proofs.descent.find_slot.Given as goal
 
@@ -8,7 +8,7 @@ abbrev pub invariant-loop-slot : goal.invariant-loop-slot
 invariant-loop-slot g l = record {
   stepped : Stepped (identity_of l.table) l.fn.pass l.pass;
   sees : SeesMore (part_of l.fn.pass) (part_of l.pass);
-  on : IsOn (part_of l.pass) l.row;
+  on : IsOnRow (part_of l.pass) l.row;
   passed : PassedBy (part_of l.fn.pass) l.index l.slot l.first;
   from : l.first ≤ l.index;
   counted : IsCounted l.fn.pass l.pass l.fn.steps l.steps;

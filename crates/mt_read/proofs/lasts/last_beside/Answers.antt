@@ -9,7 +9,7 @@ use Rattle.mt_rule.specs.Tokens.{part_of}
 use Rattle.mt_read.specs.Walks.{IsUnder}
 use Rattle.mt_read.proofs.Descending.{goes_on, goes_sees, here_more}
 use Rattle.mt_read.proofs.Reading.{kind_goes}
-use Rattle.mt_read.specs.Neighbours.{IsBefore}
+use Rattle.mt_read.specs.Neighbours.{IsLeafBefore}
 use Rattle.mt_read.proofs.Keeping.{goes_marked, goes_unmarked, leaf_parent, under_tells}
 use Rattle.mt_read.proofs.Leaving.{before_leaf, come_beside}
 use Rattle.mt_read.proofs.Preceding.{last_by, lefts_nothing}
@@ -40,7 +40,7 @@ returns-then-is_dead_mark-clause-moved g c =
     let min = c.requires.leaf.on.min in let some = c.requires.some in
     let from : c.in-Some.before.min ≤ c.args.leaf.now.min - 1 = search rules in
     let to : c.args.leaf.now.min - 1 ≤ c.in-Some.before.max = search rules in
-    come_beside IsBefore (here q) q q₃ q₄ goes held (goes_marked q₃ q₄ _ _ _ c.load_parent-parent.ensures.told (here q) mark c.requires.leaf.on.number tells)
+    come_beside IsLeafBefore (here q) q q₃ q₄ goes held (goes_marked q₃ q₄ _ _ _ c.load_parent-parent.ensures.told (here q) mark c.requires.leaf.on.number tells)
     (before_leaf (here q) q₄ c.in-Some.before (leaf_parent q₃ q₄ _ _ _ c.load_parent-parent.ensures.told c.in-Some.before c.last_at-range.ensures.leaf) (omega arith) (omega arith) (omega arith))
 
 pub returns-clause-answer : goal.returns-clause-answer

@@ -5,7 +5,7 @@ use Rattle.mt_base.proofs.Goings.{begins_long}
 use Rattle.mt_rule.specs.Sections.{here}
 use Rattle.mt_rule.specs.Tokens.{part_of}
 use Rattle.mt_read.specs.Answers.{AnswersBy}
-use Rattle.mt_read.specs.Neighbours.{IsBefore}
+use Rattle.mt_read.specs.Neighbours.{IsLeafBefore}
 use Rattle.mt_read.proofs.Descending.{goes_some, place_within}
 use Rattle.mt_read.proofs.Leaving.{kind_beside, left_hole}
 use Rattle.mt_read.proofs.Reading.{kind_told}
@@ -45,4 +45,4 @@ returns-clause-answer g c =
     let first = first_place q c.args.leaf.now c.args.place.now on c.requires.place none.0 in
     let other : c.args.leaf.now.min ≢ 0 = search rules in
     let found = subst (λ (n : ℕ). IfSome c.last_beside.result (AnswersBy q₂ (here q₁) (length q₁.seen) (Rfind (n - 1) 0))) (sym first) c.last_beside.ensures.answer in
-    left_by q q₁ q₂ c.args.place.now none.1 c.last_at.ensures.same c.last_at.ensures.leaf.on.shape.fills (kind_told c.last_beside.result q₁ q₂ _ c.last_beside.ensures.goes c.last_beside.ensures.moved (kind_beside IsBefore (here q₁) q₁ q₂)) c.args.index c.requires.from c.requires.to (omega arith) c.last_beside.result (length q₁.seen) (here q).since (omega arith) found
+    left_by q q₁ q₂ c.args.place.now none.1 c.last_at.ensures.same c.last_at.ensures.leaf.on.shape.fills (kind_told c.last_beside.result q₁ q₂ _ c.last_beside.ensures.goes c.last_beside.ensures.moved (kind_beside IsLeafBefore (here q₁) q₁ q₂)) c.args.index c.requires.from c.requires.to (omega arith) c.last_beside.result (length q₁.seen) (here q).since (omega arith) found

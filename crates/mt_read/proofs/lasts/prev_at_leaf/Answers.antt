@@ -8,7 +8,7 @@ use Rattle.mt_read.specs.Answers.{Answers, AnswersBy}
 use Rattle.mt_read.proofs.Finding.{place_more, sees_on}
 use Rattle.mt_read.proofs.Descending.{goes_on, goes_sees, goes_some, place_within}
 use Rattle.mt_read.proofs.Reading.{kind_goes, kind_told, stood_here}
-use Rattle.mt_read.specs.Neighbours.{IsBefore}
+use Rattle.mt_read.specs.Neighbours.{IsLeafBefore}
 use Rattle.mt_read.proofs.Leaving.{kind_beside, kind_hole, left_prev, prev_left}
 use Rattle.mt_read.proofs.Before.{first_place}
 use Rattle.mt_read.proofs.Preceding.{no_prev, prevs}
@@ -56,7 +56,7 @@ returns-then-place-eq0-2-clause-answer g c =
     let old = on.old in let met = on.met in
     let found = subst (λ (n : ℕ). IfSome c.last_beside.result (AnswersBy q₂ (here q₁) (length q₁.seen) (Rfind (n - 1) 0))) (sym first) c.last_beside.ensures.answer in
     subst (λ (z : PassPart). IfSome c.last_beside.result (Answers q₂ (here z).since (Prev c.args.index 0))) c.find_slot-place.ensures.sees.is
-    (prevs q₁ q₂ place c.args.index c.find_slot-place.ensures.from c.find_slot-place.ensures.to c.find_slot-place.ensures.place on.shape.fills (kind_told c.last_beside.result q₁ q₂ _ c.last_beside.ensures.goes c.last_beside.ensures.moved (kind_beside IsBefore (here q₁) q₁ q₂))
+    (prevs q₁ q₂ place c.args.index c.find_slot-place.ensures.from c.find_slot-place.ensures.to c.find_slot-place.ensures.place on.shape.fills (kind_told c.last_beside.result q₁ q₂ _ c.last_beside.ensures.goes c.last_beside.ensures.moved (kind_beside IsLeafBefore (here q₁) q₁ q₂))
     c.last_beside.result (length q₁.seen) (here q₁).since (omega arith) (omega arith) found)
 
 pub returns-clause-answer : goal.returns-clause-answer

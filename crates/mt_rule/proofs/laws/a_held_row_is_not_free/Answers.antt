@@ -4,7 +4,7 @@ use Rattle.mt_rows.specs.declared.rows.Life.{Life}
 use Rattle.mt_rows.specs.declared.rows.Life.TheVariants.{New, Draft, Live, Dead}
 use Rattle.mt_rows.specs.Sheet.{IsFree, life_of}
 use Rattle.mt_rule.specs.declared.views.PenPart.{PenPart}
-use Rattle.mt_rule.specs.Seats.{least_of}
+use Rattle.mt_rule.specs.Seats.{least_number}
 use Rattle.mt_rule.proofs.laws.a_held_row_is_not_free.Goals as goal
 
 -- a row that died behind all that is cleared
@@ -18,4 +18,4 @@ pub returns : goal.returns
 returns c = λ told s writer reader v w p q j x rule at_v pen at_w pass held.
     let one = ((rule.each writer v at_v).keeper p pen).1 in
     let row = (((rule.each reader w at_w).passes q pass).held j x held).row in
-    subst (λ (part : PenPart). ¬ IsFree (least_of part.cleared) (life_of part.lives x.row)) (sym one) (not_free (least_of rule.part.cleared) x.since (life_of rule.part.lives x.row) row.kept row.life)
+    subst (λ (part : PenPart). ¬ IsFree (least_number part.cleared) (life_of part.lives x.row)) (sym one) (not_free (least_number rule.part.cleared) x.since (life_of rule.part.lives x.row) row.kept row.life)

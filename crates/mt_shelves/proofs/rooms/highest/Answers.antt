@@ -2,7 +2,7 @@ use Rattle.std.proofs.Common.{◌≡◌, ◌+◌, ◌-◌, ◌<◌, ℕ, ◌++�
 use Rattle.mt_base.specs.declared.ranges.Range.{Range}
 use Rattle.mt_base.specs.Holes.{high, highest_in, hole_between, holes_from, kept}
 use Rattle.mt_list.proofs.HolesSought.{none_found}
-use Rattle.mt_shelves.specs.Shelves.{end_of, holes_in, joined, start_of}
+use Rattle.mt_shelves.specs.Shelves.{shelf_end, holes_in, joined, shelf_start}
 use Rattle.mt_shelves.proofs.HolesOnShelves.{found_high, none_high, sought_high}
 use Rattle.mt_shelves.proofs.rooms.highest.Goals as goal
 
@@ -14,7 +14,7 @@ returns-in-Some c =
     let sought : highest_in c.args.window.size (kept c.args.window.size c.args.window.min c.args.window.max (holes_from 0 (c.loop-end.last + 1) (joined (take (at + 1) c.args.shelves.now)))) ≡ high c.args.kind (joined c.args.shelves.now) c.args.window.size c.args.window.min c.args.window.max =
     subst (λ n. highest_in c.args.window.size (kept c.args.window.size c.args.window.min c.args.window.max (holes_from 0 (c.loop-end.last + 1) (joined (take n c.args.shelves.now)))) ≡ high c.args.kind (joined c.args.shelves.now) c.args.window.size c.args.window.min c.args.window.max) next c.loop-end.invariant.answer in
     found_high c.args.kind c.args.shelves.now c.args.window.size c.args.window.min c.args.window.max c.loop-end.last at c.index-shelves-end.result c.requires.are within sought c.in-Some.start
-    (c.in-Some.ensures ∙ ap (λ (m : List Range). highest_in c.args.window.size (kept c.args.window.size c.args.window.min c.args.window.max (holes_in m ++ hole_between (end_of m + 1) (c.loop-end.last + 1)))) c.index-shelves-end.is)
+    (c.in-Some.ensures ∙ ap (λ (m : List Range). highest_in c.args.window.size (kept c.args.window.size c.args.window.min c.args.window.max (holes_in m ++ hole_between (shelf_end m + 1) (c.loop-end.last + 1)))) c.index-shelves-end.is)
 
 pub returns-in_err-last : goal.returns-in_err-last
 returns-in_err-last c =
@@ -23,8 +23,8 @@ returns-in_err-last c =
     let next : c.loop-end.end ≡ at + 1 = omega (arith, c.loop-end-test.true) in
     let sought : highest_in c.args.window.size (kept c.args.window.size c.args.window.min c.args.window.max (holes_from 0 (c.loop-end.last + 1) (joined (take (at + 1) c.args.shelves.now)))) ≡ high c.args.kind (joined c.args.shelves.now) c.args.window.size c.args.window.min c.args.window.max =
     subst (λ n. highest_in c.args.window.size (kept c.args.window.size c.args.window.min c.args.window.max (holes_from 0 (c.loop-end.last + 1) (joined (take n c.args.shelves.now)))) ≡ high c.args.kind (joined c.args.shelves.now) c.args.window.size c.args.window.min c.args.window.max) next c.loop-end.invariant.answer in
-    let none = none_found c.highest_on.result c.in_default.not-Some ∙ (c.highest_on.ensures ∙ ap (λ (m : List Range). highest_in c.args.window.size (kept c.args.window.size c.args.window.min c.args.window.max (holes_in m ++ hole_between (end_of m + 1) (c.loop-end.last + 1)))) c.index-shelves-end.is) in
-    let start : c.extent.result.start ≡ start_of (get_or c.args.shelves.now at c.index-shelves-end.result) = c.extent.ensures.start ∙ ap start_of c.index-shelves-end.is in
+    let none = none_found c.highest_on.result c.in_default.not-Some ∙ (c.highest_on.ensures ∙ ap (λ (m : List Range). highest_in c.args.window.size (kept c.args.window.size c.args.window.min c.args.window.max (holes_in m ++ hole_between (shelf_end m + 1) (c.loop-end.last + 1)))) c.index-shelves-end.is) in
+    let start : c.extent.result.start ≡ shelf_start (get_or c.args.shelves.now at c.index-shelves-end.result) = c.extent.ensures.start ∙ ap shelf_start c.index-shelves-end.is in
     c.from_residual.ensures ∙ none_high c.args.kind c.args.shelves.now c.args.window.size c.args.window.min c.args.window.max c.loop-end.last at c.index-shelves-end.result c.requires.are within sought (omega (arith, c.in_err-last.ensures, start)) none
 
 pub loop-end-preserved : goal.loop-end-preserved
@@ -34,9 +34,9 @@ loop-end-preserved c =
     let next : c.loop-end.end ≡ at + 1 = omega (arith, c.loop-end-test.true) in
     let sought : highest_in c.args.window.size (kept c.args.window.size c.args.window.min c.args.window.max (holes_from 0 (c.loop-end.last + 1) (joined (take (at + 1) c.args.shelves.now)))) ≡ high c.args.kind (joined c.args.shelves.now) c.args.window.size c.args.window.min c.args.window.max =
     subst (λ n. highest_in c.args.window.size (kept c.args.window.size c.args.window.min c.args.window.max (holes_from 0 (c.loop-end.last + 1) (joined (take n c.args.shelves.now)))) ≡ high c.args.kind (joined c.args.shelves.now) c.args.window.size c.args.window.min c.args.window.max) next c.loop-end.invariant.answer in
-    let none = none_found c.highest_on.result c.in_default.not-Some ∙ (c.highest_on.ensures ∙ ap (λ (m : List Range). highest_in c.args.window.size (kept c.args.window.size c.args.window.min c.args.window.max (holes_in m ++ hole_between (end_of m + 1) (c.loop-end.last + 1)))) c.index-shelves-end.is) in
-    let start : c.extent.result.start ≡ start_of (get_or c.args.shelves.now at c.index-shelves-end.result) = c.extent.ensures.start ∙ ap start_of c.index-shelves-end.is in
-    let first : start_of (get_or c.args.shelves.now at c.index-shelves-end.result) ≡ c.in_ok-last.last + 1 = omega (arith, c.in_ok-last.ensures.0, c.in_ok-last.ensures.1, start) in
+    let none = none_found c.highest_on.result c.in_default.not-Some ∙ (c.highest_on.ensures ∙ ap (λ (m : List Range). highest_in c.args.window.size (kept c.args.window.size c.args.window.min c.args.window.max (holes_in m ++ hole_between (shelf_end m + 1) (c.loop-end.last + 1)))) c.index-shelves-end.is) in
+    let start : c.extent.result.start ≡ shelf_start (get_or c.args.shelves.now at c.index-shelves-end.result) = c.extent.ensures.start ∙ ap shelf_start c.index-shelves-end.is in
+    let first : shelf_start (get_or c.args.shelves.now at c.index-shelves-end.result) ≡ c.in_ok-last.last + 1 = omega (arith, c.in_ok-last.ensures.0, c.in_ok-last.ensures.1, start) in
     record {
       bound = omega (arith, within);
       answer = subst (λ n. highest_in c.args.window.size (kept c.args.window.size c.args.window.min c.args.window.max (holes_from 0 n (joined (take at c.args.shelves.now)))) ≡ high c.args.kind (joined c.args.shelves.now) c.args.window.size c.args.window.min c.args.window.max) first

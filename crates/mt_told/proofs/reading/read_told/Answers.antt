@@ -1,7 +1,7 @@
 use Rattle.std.proofs.Common.{arith, ◌≡◌, ◌<◌, ℕ, List, Bor, length, get_or, ap, subst, ◌∙◌}
 use Rattle.std.specs.Prelude.{IfNone, IfSome, Option}
 use Rattle.mt_log.specs.declared.lines.Line.{Line}
-use Rattle.mt_told.specs.Along.{IsLineDone, IsPlacedBy}
+use Rattle.mt_told.specs.Along.{IsLaneLineDone, IsPlacedBy}
 use Rattle.mt_told.specs.Steps.{AddsTold, TellsNotDone}
 use Rattle.mt_told.proofs.LineByLine.{line_goes_on, line_stops, lines_begin, told_by, told_none}
 use Rattle.mt_told.proofs.reading.read_told.Goals as goal
@@ -16,8 +16,8 @@ returns-in_default-clause-none c =
     let line : Line = c.line-item.result in
     let within : l.line-index < length lines = omega (arith, c.loop-line-test.true, ap length c.as_slice-line-items.ensures) in
     let is : line ≡ get_or lines l.line-index line = c.line-item.is ∙ ap (λ (ls : List Line). get_or ls l.line-index line) c.as_slice-line-items.ensures in
-    let none : TellsNotDone (IsLineDone l.stand.lane l.stand.phase line) l.rest.now =
-    subst (λ (o : Option (Bor (List ℕ))). IfNone o (TellsNotDone (IsLineDone l.stand.lane l.stand.phase line) l.rest.now)) c.in_default.is c.in_ok-behind.ensures.none in
+    let none : TellsNotDone (IsLaneLineDone l.stand.lane l.stand.phase line) l.rest.now =
+    subst (λ (o : Option (Bor (List ℕ))). IfNone o (TellsNotDone (IsLaneLineDone l.stand.lane l.stand.phase line) l.rest.now)) c.in_default.is c.in_ok-behind.ensures.none in
     told_none c.args.log.now c.args.text.now (line_stops lines c.args.text.now l.rest.now l.told.items l.stand.lane l.stand.phase l.line-index l.invariant line within is none)
 
 pub loop-line-preserved : goal.loop-line-preserved
@@ -27,8 +27,8 @@ loop-line-preserved c =
     let line : Line = c.line-item.result in
     let within : l.line-index < length lines = omega (arith, c.loop-line-test.true, ap length c.as_slice-line-items.ensures) in
     let is : line ≡ get_or lines l.line-index line = c.line-item.is ∙ ap (λ (ls : List Line). get_or ls l.line-index line) c.as_slice-line-items.ensures in
-    let added : AddsTold (IsLineDone l.stand.lane l.stand.phase line) (IsPlacedBy l.stand.lane l.stand.phase line) l.rest.now l.told.items c.read_line.new.told.items c.in-Some.behind.now =
-    subst (λ (o : Option (Bor (List ℕ))). IfSome o (λ rest. AddsTold (IsLineDone l.stand.lane l.stand.phase line) (IsPlacedBy l.stand.lane l.stand.phase line) l.rest.now l.told.items c.read_line.new.told.items rest.now)) c.in-Some.is c.in_ok-behind.ensures.some in
+    let added : AddsTold (IsLaneLineDone l.stand.lane l.stand.phase line) (IsPlacedBy l.stand.lane l.stand.phase line) l.rest.now l.told.items c.read_line.new.told.items c.in-Some.behind.now =
+    subst (λ (o : Option (Bor (List ℕ))). IfSome o (λ rest. AddsTold (IsLaneLineDone l.stand.lane l.stand.phase line) (IsPlacedBy l.stand.lane l.stand.phase line) l.rest.now l.told.items c.read_line.new.told.items rest.now)) c.in-Some.is c.in_ok-behind.ensures.some in
     rw (c.behind-stand.ensures.lane, c.behind-stand.ensures.phase)
     (line_goes_on lines c.args.text.now l.rest.now l.told.items l.stand.lane l.stand.phase l.line-index l.invariant line within is c.requires c.read_line.new.told.items c.in-Some.behind.now added)
 

@@ -1,6 +1,6 @@
 use Rattle.std.proofs.Common.{◌≡◌}
-use Rattle.mt_verify.specs.Histories.{map_by}
+use Rattle.mt_verify.specs.Histories.{map_of_noted}
 use Rattle.mt_verify.proofs.replays.make_all_again.Given as goal
 
 abbrev pub invariant-loop-one : goal.invariant-loop-one
-invariant-loop-one l = (l.map.kind ≡ l.fn.map.kind) × (l.map.ranges ≡ map_by l.fn.map.kind l.fn.map.ranges l.fn.noted l.one-index)
+invariant-loop-one l = (l.map.kind ≡ l.fn.map.kind) × (l.map.ranges ≡ map_of_noted l.fn.map.kind l.fn.map.ranges l.fn.noted l.one-index)

@@ -4,7 +4,7 @@ use Rattle.std.proofs.lemmas.Option.{slice_get-get_or}
 use Rattle.mt_base.specs.declared.calls.Call.TheVariants.{Store}
 use Rattle.mt_verify.specs.declared.noted.Heard.TheVariants.{Reply as Printed}
 use Rattle.mt_verify.specs.declared.noted.Noted.{Noted}
-use Rattle.mt_verify.specs.Histories.{map_by}
+use Rattle.mt_verify.specs.Histories.{map_of_noted}
 use Rattle.mt_verify.specs.Going.{HavePassedAll, IsAnsweredAt, opened_of}
 use Rattle.mt_verify.proofs.WholeTrees.{Going, map_by_is_map, go_begins, go_hindered_first, go_refused, go_on, go_hindered, go_ends}
 use Rattle.mt_verify.proofs.trees.go_through.Goals as goal
@@ -75,4 +75,4 @@ agrees-requires-clause-map c =
 pub returns-clause-map : goal.returns-clause-map
 returns-clause-map c = λ fine.
     let all : c.loop-i.i ≡ length c.args.noted.now = omega (arith, c.loop-i-test.false) in
-    record { of_kind = c.loop-i.invariant.kind; ranges = c.loop-i.invariant.ranges ∙ ap (λ (k : ℕ). map_by c.args.map.now.kind c.args.map.now.ranges c.args.noted.now k) all }
+    record { of_kind = c.loop-i.invariant.kind; ranges = c.loop-i.invariant.ranges ∙ ap (λ (k : ℕ). map_of_noted c.args.map.now.kind c.args.map.now.ranges c.args.noted.now k) all }

@@ -27,7 +27,7 @@ use Rattle.std_alloc.proofs.BoxSteps.Steps.{box_in}
 use Rattle.std.specs.contracts.alloc.Global as heap
 use Rattle.std.proofs.alloc.Global.TheLaws as heap_laws
 use Rattle.std.specs.contracts.impls.GlobalAllocator.TheImpl.{ghosts, dict}
-use Rattle.mt_c.specs.Owned.{kept_owns, IsOpen, to_free}
+use Rattle.mt_c.specs.Owned.{kept_owns, IsOpenHandle, to_free}
 use Rattle.mt_c.specs.declared.user.User.{User}
 use Rattle.mt_c.specs.contracts.user.User as words
 use Rattle.mt_c.proofs.user.User.TheLaws as words_laws
@@ -42,7 +42,7 @@ E = record { row = words.the_row; laws = words_laws.the_row_laws; al = record { 
 abbrev stayed : Stays f.ended.signature.params f.ended.kept
 stayed = (stay_dropped (plain (λ _. own.the_row)) yes, (stay_dropped (plain (λ _. heap.the_row)) yes, tt))
 
-got : (v : Option User) → IsOpen v → (x : User) × (v ≡ Some x)
+got : (v : Option User) → IsOpenHandle v → (x : User) × (v ≡ Some x)
 got None s = absurd s
 got (Some x) s = (x, refl)
 
@@ -52,8 +52,8 @@ into_parts_spec 𝓤 𝓛 𝓜 𝓡 wired =
     proved_at 𝓛 f.ended stayed c 𝓜 𝓡 (Goes-dropped 𝓛 0 (plain (λ _. own.the_row)) yes (λ κs x w. refl), (Goes-dropped 𝓛 0 (plain (λ _. heap.the_row)) yes (λ κs x w. refl), tt)) f.Key.name code.function (code.unfolded 𝓤 H 𝓜 𝓡 wired) (λ z are.
     let κs = z.0.0 in let h = z.0.3.0 in let a = z.0.3.1.0 in let vs = z.0.4.0 in
     let Post : Val → SProp 𝓤 = (walk_of 𝓛 f.ended stayed c).post z in let Run : List Val → SProp 𝓤 = λ ws. WpFn 𝓤 H 𝓣.C 𝓣.Λ code.function ws Post in
-    qed 𝓛 ((‵ ftrue ⊛ ‵ (owns (types_at f.ended.signature.params κs) z.0.3 z.0.4)) ∷ raw (fact 𝓤 (IsOpen h.value)) ∷ []) ∵ split ! $ drop ! $ move ! (1 ∷ []) $
-    heard ! (IsOpen h.value) (λ live. let x : User = (got h.value live).0 in let same : h.value ≡ Some x = (got h.value live).1 in let v : D E = record { ptr = h.at; alloc = a; value = x } in
+    qed 𝓛 ((‵ ftrue ⊛ ‵ (owns (types_at f.ended.signature.params κs) z.0.3 z.0.4)) ∷ raw (fact 𝓤 (IsOpenHandle h.value)) ∷ []) ∵ split ! $ drop ! $ move ! (1 ∷ []) $
+    heard ! (IsOpenHandle h.value) (λ live. let x : User = (got h.value live).0 in let same : h.value ≡ Some x = (got h.value live).1 in let v : D E = record { ptr = h.at; alloc = a; value = x } in
     fsplit ! $ fsplit ! $ fpick ! (λ vss. fsplit ! $ feq_l ! (λ ev. fsplit ! $ feq_l ! (λ ep. drop ! $
     rewrite ! 0 (λ (y : Option User). ‵ (kept_owns words.the_row h.at y)) same refl $
     in_a_block ! h.at (λ p. box_owns to_free words.the_row p x) (fst∗ 𝓤 (never 𝓤) (sem 𝓛 (to_free (bare (lone words.the_row.mir)) null_ptr))) (λ b o e.

@@ -1,12 +1,12 @@
 use Rattle.std.proofs.Common.{IfOk, IfErr, ap, subst}
 use Rattle.mt_engine.specs.Engine.{Parts}
 use Rattle.mt_tree.specs.Copies.{live_rows}
-use Rattle.mt_c.specs.Copying.{IsCopyIn, Lacks}
+use Rattle.mt_c.specs.Copying.{IsCopyInRows, LacksTree}
 use Rattle.mt_c.specs.Own.{OwnTree}
 use Rattle.mt_c.proofs.own_tree.OwnTree.copy.Goals as goal
 
 pub returns-clause-copy : goal.returns-clause-copy
-returns-clause-copy c = subst (λ (e : Parts). IfOk c.copy_in.result (λ whole. IsCopyIn c.args.rows e whole.value.engine)) (ap (λ (t : OwnTree). t.engine) c.self.view_is) c.copy_in.ensures.copy
+returns-clause-copy c = subst (λ (e : Parts). IfOk c.copy_in.result (λ whole. IsCopyInRows c.args.rows e whole.value.engine)) (ap (λ (t : OwnTree). t.engine) c.self.view_is) c.copy_in.ensures.copy
 
 pub returns-clause-lacks : goal.returns-clause-lacks
-returns-clause-lacks c = subst (λ (e : Parts). IfErr c.copy_in.result (Lacks (live_rows e.sheet.tree) c.args.rows)) (ap (λ (t : OwnTree). t.engine) c.self.view_is) c.copy_in.ensures.lacks
+returns-clause-lacks c = subst (λ (e : Parts). IfErr c.copy_in.result (LacksTree (live_rows e.sheet.tree) c.args.rows)) (ap (λ (t : OwnTree). t.engine) c.self.view_is) c.copy_in.ensures.lacks

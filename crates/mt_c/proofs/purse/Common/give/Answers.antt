@@ -1,7 +1,7 @@
 use Rattle.std.proofs.Common.{All, subst, sym}
 use Rattle.mt_tree.specs.declared.trees.Tree.{Tree}
-use Rattle.mt_c.specs.Spares.{IsSpare}
+use Rattle.mt_c.specs.Spares.{IsSparePass}
 use Rattle.mt_c.proofs.purse.Common.give.Goals as goal
 
 pub give-requires-clause-value : goal.give-requires-clause-value
-give-requires-clause-value c = subst (λ (t : Tree). All (IsSpare t) c.args.taken.value.passes.items) (sym c.args.self.now.of) c.requires.passes
+give-requires-clause-value c = subst (λ (t : Tree). All (IsSparePass t) c.args.taken.value.passes.items) (sym c.args.self.now.of) c.requires.passes

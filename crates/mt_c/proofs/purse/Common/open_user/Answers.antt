@@ -3,15 +3,15 @@ use Rattle.std.proofs.lemmas.List.{nil_from_length}
 use Rattle.mt_tree.specs.Trees.{pass_in}
 use Rattle.mt_c.specs.declared.purse.Common.{Common}
 use Rattle.mt_c.specs.Purses.{known_in}
-use Rattle.mt_c.specs.Spares.{IsSpare}
+use Rattle.mt_c.specs.Spares.{IsSparePass}
 use Rattle.mt_c.proofs.Using.{given_empty}
 use Rattle.mt_c.proofs.purse.Common.open_user.Goals as goal
 
 pub open_user-opened-requires-clause-passes : goal.open_user-opened-requires-clause-passes
-open_user-opened-requires-clause-passes c = subst (λ (x : Common). All (IsSpare x.tree) c.in-Ok.taken.value.passes.items) (sym (c.in-Ok-try_clone.ensures ∙ c.requires.same)) c.in-Ok.ensures.passes
+open_user-opened-requires-clause-passes c = subst (λ (x : Common). All (IsSparePass x.tree) c.in-Ok.taken.value.passes.items) (sym (c.in-Ok-try_clone.ensures ∙ c.requires.same)) c.in-Ok.ensures.passes
 
 pub give-given-requires-clause-passes : goal.give-given-requires-clause-passes
-give-given-requires-clause-passes c = subst (λ (x : Common). All (IsSpare x.tree) c.open_user-opened.new.self.passes.items) (c.in-Ok-try_clone.ensures ∙ c.requires.same) c.open_user-opened.ensures.passes
+give-given-requires-clause-passes c = subst (λ (x : Common). All (IsSparePass x.tree) c.open_user-opened.new.self.passes.items) (c.in-Ok-try_clone.ensures ∙ c.requires.same) c.open_user-opened.ensures.passes
 
 pub returns-then-is_empty-clause-why : goal.returns-then-is_empty-clause-why
 returns-then-is_empty-clause-why c =

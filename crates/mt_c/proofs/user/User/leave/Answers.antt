@@ -1,14 +1,14 @@
 use Rattle.std.proofs.Common.{rules, ◌≡◌, ◌+◌, ℕ, All, ap, subst, sym, ◌∙◌}
 use Rattle.mt_base.specs.Passes as known
 use Rattle.mt_c.specs.declared.purse.Common.{Common}
-use Rattle.mt_c.specs.Spares.{IsSpare}
+use Rattle.mt_c.specs.Spares.{IsSparePass}
 use Rattle.mt_c.specs.Users.{HasLeft, common_of, cuts, known_to, paused, rested}
 use Rattle.mt_c.proofs.Using.{rested_halted}
 use Rattle.mt_c.proofs.user.User.leave.Goals as goal
 
 pub leave_to-requires-clause-passes : goal.leave_to-requires-clause-passes
 leave_to-requires-clause-passes c =
-    subst (λ (x : Common). All (IsSpare x.tree) c.in-Ok.taken.value.passes.items) (sym (ap common_of c.into_inner.ensures ∙ c.take_purse.ensures.common)) c.in-Ok.ensures.passes
+    subst (λ (x : Common). All (IsSparePass x.tree) c.in-Ok.taken.value.passes.items) (sym (ap common_of c.into_inner.ensures ∙ c.take_purse.ensures.common)) c.in-Ok.ensures.passes
 
 pub returns-in-Ok-clause-left : goal.returns-in-Ok-clause-left
 returns-in-Ok-clause-left c =

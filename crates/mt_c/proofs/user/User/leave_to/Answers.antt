@@ -1,11 +1,11 @@
 use Rattle.std.proofs.Common.{All, subst, sym}
 use Rattle.mt_c.specs.declared.purse.Common.{Common}
-use Rattle.mt_c.specs.Spares.{IsSpare}
+use Rattle.mt_c.specs.Spares.{IsSparePass}
 use Rattle.mt_c.proofs.Using.{on}
 use Rattle.mt_c.proofs.user.User.leave_to.Goals as goal
 
 pub leave-requires-clause-passes : goal.leave-requires-clause-passes
-leave-requires-clause-passes c = subst (λ (x : Common). All (IsSpare x.tree) c.args.taken.value.passes.items) (sym c.deref.ensures) c.requires.passes
+leave-requires-clause-passes c = subst (λ (x : Common). All (IsSparePass x.tree) c.args.taken.value.passes.items) (sym c.deref.ensures) c.requires.passes
 
 pub leave-requires-clause-pass : goal.leave-requires-clause-pass
 leave-requires-clause-pass c = on c.deref.ensures c.args.self.of

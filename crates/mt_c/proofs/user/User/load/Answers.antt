@@ -1,7 +1,7 @@
 use Rattle.std.proofs.Common.{Ok, subst, sym}
 use Rattle.mt_base.specs.declared.calls.Query.TheVariants.{Load}
 use Rattle.mt_c.specs.declared.purse.Common.{Common}
-use Rattle.mt_c.specs.Walkers.{IsAnswer, knows}
+use Rattle.mt_c.specs.Walkers.{IsWalkAnswer, knows}
 use Rattle.mt_c.proofs.Using.{on}
 use Rattle.mt_c.proofs.user.User.load.Goals as goal
 
@@ -12,4 +12,4 @@ pub invariant_of-self : goal.invariant_of-self
 invariant_of-self c = record { of = on (sym c.deref.ensures) c.load.ensures.of; seated = c.args.self.now.seated }
 
 pub returns-clause-answer : goal.returns-clause-answer
-returns-clause-answer c = subst (λ (x : Common). IsAnswer x.tree (knows c.args.self.now.walker) (Load c.args.index) (Ok c.load.result) (knows c.load.new.self)) c.deref.ensures c.load.ensures.answer
+returns-clause-answer c = subst (λ (x : Common). IsWalkAnswer x.tree (knows c.args.self.now.walker) (Load c.args.index) (Ok c.load.result) (knows c.load.new.self)) c.deref.ensures c.load.ensures.answer

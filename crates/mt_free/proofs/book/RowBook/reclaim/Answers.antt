@@ -1,5 +1,5 @@
 use Rattle.std.proofs.Common.{◌≡◌, ◌∷◌, ◌++◌, [], arith, ap, sym, ◌∙◌, length}
-use Rattle.mt_free.specs.Book.{IsBook, due, after_reclaim}
+use Rattle.mt_free.specs.Book.{IsBook, reclaimable, after_reclaim}
 use Rattle.mt_free.specs.RowBook.{book_of}
 use Rattle.mt_free.proofs.Books.{book, reclaim_leaves_book, first_due, count_first_due, none_due}
 use Rattle.mt_free.proofs.book.RowBook.reclaim.Goals as goal
@@ -25,11 +25,11 @@ loop-held-preserved c =
 pub returns-clause-freed : goal.returns-clause-freed
 returns-clause-freed c =
     let b = book_of c.loop-held.self-inside in
-    let none : (due c.args.least b.held ≡ []) × (after_reclaim b c.args.least ≡ b) = none_due b c.args.least c.loop-held.invariant.fields.book c.in_default.ensures.later in
+    let none : (reclaimable c.args.least b.held ≡ []) × (after_reclaim b c.args.least ≡ b) = none_due b c.args.least c.loop-held.invariant.fields.book c.in_default.ensures.later in
     rw c.in_default.ensures.none_due (sym none.1 ∙ c.loop-held.invariant.freed)
 
 pub returns-clause-count : goal.returns-clause-count
 returns-clause-count c =
     let b = book_of c.loop-held.self-inside in
-    let none : (due c.args.least b.held ≡ []) × (after_reclaim b c.args.least ≡ b) = none_due b c.args.least c.loop-held.invariant.fields.book c.in_default.ensures.later in
+    let none : (reclaimable c.args.least b.held ≡ []) × (after_reclaim b c.args.least ≡ b) = none_due b c.args.least c.loop-held.invariant.fields.book c.in_default.ensures.later in
     omega (arith, c.loop-held.invariant.counted, ap length none.0)

@@ -1,5 +1,5 @@
 use Rattle.std.proofs.Common.{◌≡◌, ◌+◌, ◌≤◌, length}
-use Rattle.mt_free.specs.Book.{after_reclaim, due}
+use Rattle.mt_free.specs.Book.{after_reclaim, reclaimable}
 use Rattle.mt_free.specs.RowBook.{book_of, IsRowBook}
 use Rattle.mt_free.proofs.book.RowBook.reclaim.Given as goal
 
@@ -7,7 +7,7 @@ abbrev pub invariant-loop-held : goal.invariant-loop-held
 invariant-loop-held l = record {
   fields : IsRowBook l.self-inside;
   freed : after_reclaim (book_of l.self-inside) l.least ≡ after_reclaim l.fn.self l.least;
-  counted : l.count + length (due l.least l.self-inside.held.items) ≡ length (due l.least l.fn.self.held);
+  counted : l.count + length (reclaimable l.least l.self-inside.held.items) ≡ length (reclaimable l.least l.fn.self.held);
   few : l.count + length l.self-inside.held.items ≤ 65504;
 }
 

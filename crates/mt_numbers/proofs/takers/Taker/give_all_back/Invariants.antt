@@ -1,10 +1,10 @@
 -- So far one was given back in each round, while there was one.
 use Rattle.std.proofs.Common.{◌≡◌, ◌-◌, vec_len}
-use Rattle.mt_numbers.specs.Tallies.{IsTold}
+use Rattle.mt_numbers.specs.Tallies.{IsTallied}
 use Rattle.mt_numbers.proofs.takers.Taker.give_all_back.Given as goal
 
 abbrev pub invariant-loop-given : goal.invariant-loop-given
 invariant-loop-given g l =
     (vec_len l.self.held ≡ vec_len l.initial.self.held - l._given)
     × (l.self.tally.taken ≡ l.initial.self.tally.taken)
-    × IsTold l.initial.self.tally l.self.tally (g.N.Numbers.taken l.initial.self.numbers) (g.N.Numbers.taken l.self.numbers) (g.N.Numbers.given_back l.initial.self.numbers) (g.N.Numbers.given_back l.self.numbers)
+    × IsTallied l.initial.self.tally l.self.tally (g.N.Numbers.taken l.initial.self.numbers) (g.N.Numbers.taken l.self.numbers) (g.N.Numbers.given_back l.initial.self.numbers) (g.N.Numbers.given_back l.self.numbers)

@@ -1,10 +1,10 @@
 -- So far no more were taken than rounds went by.
 use Rattle.std.proofs.Common.{◌+◌, ◌≤◌, vec_len}
-use Rattle.mt_numbers.specs.Tallies.{IsTold}
+use Rattle.mt_numbers.specs.Tallies.{IsTallied}
 use Rattle.mt_numbers.proofs.takers.Taker.take_all.Given as goal
 
 abbrev pub invariant-loop-taken : goal.invariant-loop-taken
 invariant-loop-taken g l =
     (vec_len l.self.held ≤ l._taken)
     × (l.self.tally.taken ≤ l.initial.self.tally.taken + l._taken)
-    × IsTold l.initial.self.tally l.self.tally (g.N.Numbers.taken l.initial.self.numbers) (g.N.Numbers.taken l.self.numbers) (g.N.Numbers.given_back l.initial.self.numbers) (g.N.Numbers.given_back l.self.numbers)
+    × IsTallied l.initial.self.tally l.self.tally (g.N.Numbers.taken l.initial.self.numbers) (g.N.Numbers.taken l.self.numbers) (g.N.Numbers.given_back l.initial.self.numbers) (g.N.Numbers.given_back l.self.numbers)

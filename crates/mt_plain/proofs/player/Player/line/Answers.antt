@@ -3,7 +3,7 @@ use Rattle.std.specs.Prelude.{slice_get, slice_set}
 use Rattle.mt_log.specs.declared.lines.Item.{Item}
 use Rattle.mt_log.specs.Run.{place_within}
 use Rattle.mt_log.specs.Trees.{NamesBelow}
-use Rattle.mt_plain.specs.Playing.{TreeState, PlayerState, Does, Reads, read_entry, scan_entries}
+use Rattle.mt_plain.specs.Playing.{TreeState, PlayerState, Does, ReadsOnly, read_entry, scan_entries}
 use Rattle.mt_plain.proofs.Removed.{get_of, set_back}
 use Rattle.mt_plain.proofs.player.Player.line.Goals as goal
 
@@ -17,7 +17,7 @@ returns-in_ok-ask-in-Ask-clause-does g c =
     let back : slice_set trees c.in-Ask.tree c.ask.new.self ≡ trees = ap (λ (x : TreeState). slice_set trees c.in-Ask.tree x) c.in_ok-ask-in-Ask.ensures.kept ∙ set_back trees c.in-Ask.tree t within c.index_mut-in-Ask.ensures.value in
     let old : PlayerState = c.args.self.now in
     let new : PlayerState = record { rows = c.self-in-Ask.inside.rows; trees = slice_set trees c.in-Ask.tree c.ask.new.self; entries = c.ask.new.entries.items } in
-    let reads : Reads old new c.in-Ask.tree (λ x. read_entry c.args.line.now.number x c.in-Ask.query ∷ []) = record {
+    let reads : ReadsOnly old new c.in-Ask.tree (λ x. read_entry c.args.line.now.number x c.in-Ask.query ∷ []) = record {
       asked = t;
       tree_is = ap (λ (ts : List TreeState). slice_get ts c.in-Ask.tree) (sym same) ∙ get_of trees c.in-Ask.tree t within c.index_mut-in-Ask.ensures.value;
       trees = back ∙ same;
@@ -35,7 +35,7 @@ returns-in_ok-scan-in-Scan-clause-does g c =
     let back : slice_set trees c.in-Scan.tree c.scan.new.self ≡ trees = ap (λ (x : TreeState). slice_set trees c.in-Scan.tree x) c.in_ok-scan-in-Scan.ensures.kept ∙ set_back trees c.in-Scan.tree t within c.index_mut-in-Scan.ensures.value in
     let old : PlayerState = c.args.self.now in
     let new : PlayerState = record { rows = c.self-in-Scan.inside.rows; trees = slice_set trees c.in-Scan.tree c.scan.new.self; entries = c.scan.new.entries.items } in
-    let reads : Reads old new c.in-Scan.tree (λ x. scan_entries c.args.line.now.number x c.in-Scan.max c.in-Scan.count (place_within c.in-Scan.index c.in-Scan.max)) = record {
+    let reads : ReadsOnly old new c.in-Scan.tree (λ x. scan_entries c.args.line.now.number x c.in-Scan.max c.in-Scan.count (place_within c.in-Scan.index c.in-Scan.max)) = record {
       asked = t;
       tree_is = ap (λ (ts : List TreeState). slice_get ts c.in-Scan.tree) (sym same) ∙ get_of trees c.in-Scan.tree t within c.index_mut-in-Scan.ensures.value;
       trees = back ∙ same;

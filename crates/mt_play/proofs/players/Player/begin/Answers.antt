@@ -1,7 +1,7 @@
 use Rattle.std.proofs.Common.{◌≡◌, ◌+◌, arith, length, drop, sym, ◌∙◌, subst, ℕ}
 use Rattle.std.specs.Vec.Iter.{into_iter_items}
 use Rattle.mt_play.specs.Makes.{AreMade, kinds_in}
-use Rattle.mt_play.specs.Players.{state_of}
+use Rattle.mt_play.specs.Players.{player_state}
 use Rattle.mt_play.proofs.Beginning.{all_begun, begun_on}
 use Rattle.mt_play.proofs.Making.{line_made}
 use Rattle.mt_play.proofs.players.Player.begin.Goals as goal
@@ -11,9 +11,9 @@ declare-requires-clause-made g c κs lives = (line_made g.T.Shared.tree g.P.Pass
 
 pub loop-line-preserved : goal.loop-line-preserved
 loop-line-preserved g c =
-    let old = state_of g.T.Shared.tree g.P.Passage.knows c.args.self.now in
-    let p = state_of g.T.Shared.tree g.P.Passage.knows c.loop-line.self in
-    let new = state_of g.T.Shared.tree g.P.Passage.knows c.declare.new.self in
+    let old = player_state g.T.Shared.tree g.P.Passage.knows c.args.self.now in
+    let p = player_state g.T.Shared.tree g.P.Passage.knows c.loop-line.self in
+    let new = player_state g.T.Shared.tree g.P.Passage.knows c.declare.new.self in
     let begun = begun_on c.args.lines.now c.loop-line.line-index (length c.loop-line.self.trees.items) c.line-item.result old p (omega (arith, c.loop-line-test.true)) c.line-item.is c.loop-line.invariant.begun
     new (length c.declare.new.self.trees.items) c.in_ok-declare.ensures.begins c.in_ok-declare.ensures.count in
     let made = (line_made g.T.Shared.tree g.P.Passage.knows g.T.Shared.serves g.T.Plays.many c.loop-line.self.rows c.loop-line.self.passes c.args.lines.now c.loop-line.line-index c.line-item.result (into_iter_items c.loop-line.made) (omega (arith, c.loop-line-test.true)) c.line-item.is c.loop-line.invariant.made).1 in
@@ -27,4 +27,4 @@ loop-line-preserved g c =
     }
 
 pub returns-clause-begun : goal.returns-clause-begun
-returns-clause-begun g c = all_begun c.args.lines.now c.loop-line.line-index (length c.loop-line.self.trees.items) (state_of g.T.Shared.tree g.P.Passage.knows c.args.self.now) (state_of g.T.Shared.tree g.P.Passage.knows c.loop-line.self) c.loop-line-test.false c.loop-line.invariant.begun
+returns-clause-begun g c = all_begun c.args.lines.now c.loop-line.line-index (length c.loop-line.self.trees.items) (player_state g.T.Shared.tree g.P.Passage.knows c.args.self.now) (player_state g.T.Shared.tree g.P.Passage.knows c.loop-line.self) c.loop-line-test.false c.loop-line.invariant.begun

@@ -1,7 +1,7 @@
 use Rattle.std.proofs.Common.{◌≡◌, IfOk, map, subst}
 use Rattle.mt_base.specs.History.{last_map}
 use Rattle.mt_play.specs.Trees.{AreAll, IsNewTree, seen_by}
-use Rattle.mt_play.specs.Players.{IsCopyIn, state_of}
+use Rattle.mt_play.specs.Players.{IsCopyIn, player_state}
 use Rattle.mt_play.proofs.Seating.{if_ok}
 use Rattle.mt_play.proofs.Seating.{stands, rests_again, copy_in}
 use Rattle.mt_play.proofs.players.Player.copy_of.Goals as goal
@@ -24,7 +24,7 @@ returns-clause-new g c =
     let t = g.T.Shared.tree c.index.result.now in
     let row = c.index_mut.result.now in
     if_ok (λ made. IsNewTree t.history.kind t.history.rows (last_map (seen_by t.history (map g.P.Passage.knows row.items))) (g.T.Plays.many c.index.result.now) (g.T.Shared.tree made.0) (map g.P.Passage.knows made.1.items))
-    (λ made. IsCopyIn (state_of g.T.Shared.tree g.P.Passage.knows c.args.self.now) c.args.number (g.T.Shared.tree made.0) (map g.P.Passage.knows made.1.items))
+    (λ made. IsCopyIn (player_state g.T.Shared.tree g.P.Passage.knows c.args.self.now) c.args.number (g.T.Shared.tree made.0) (map g.P.Passage.knows made.1.items))
     c.copy_settled.result
     (λ made new. copy_in g.T.Shared.tree g.P.Passage.knows g.T.Shared.serves g.T.Plays.many c.args.self.now c.args.number c.index.result.now row (g.T.Shared.tree made.0) (map g.P.Passage.knows made.1.items) s new)
     c.copy_settled.ensures.new

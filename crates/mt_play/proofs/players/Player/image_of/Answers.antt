@@ -3,7 +3,7 @@ use Rattle.mt_base.specs.declared.kinds.Kind.{Kind}
 use Rattle.mt_base.specs.History.{last_map}
 use Rattle.mt_image.specs.Images.{IsImageOfMap}
 use Rattle.mt_play.specs.Trees.{tracked_of}
-use Rattle.mt_play.specs.Players.{HasImage, state_of}
+use Rattle.mt_play.specs.Players.{HasImage, player_state}
 use Rattle.mt_play.proofs.Seating.{if_ok, seen_kind, stands}
 use Rattle.mt_play.proofs.players.Player.image_of.Goals as goal
 
@@ -20,7 +20,7 @@ returns g c =
     let passes = map g.P.Passage.knows c.index_mut.result.now.items in
     let tracked = tracked_of t passes in
     if_ok (λ v. IsImageOfMap t.history.kind (last_map tracked.history) v.items)
-    (λ v. HasImage (state_of g.T.Shared.tree g.P.Passage.knows c.args.self.now) c.args.number v.items)
+    (λ v. HasImage (player_state g.T.Shared.tree g.P.Passage.knows c.args.self.now) c.args.number v.items)
     c.image_settled.result
     (λ v is. record { tree = tracked; tree_is = s.is; image = subst (λ (k : Kind). IsImageOfMap k (last_map tracked.history) v.items) (seen_kind t.history passes) is })
     c.image_settled.ensures.image

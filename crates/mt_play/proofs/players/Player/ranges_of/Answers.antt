@@ -1,7 +1,7 @@
 use Rattle.std.proofs.Common.{◌≡◌, map}
 use Rattle.mt_base.specs.History.{last_map}
 use Rattle.mt_play.specs.Trees.{seen_by, tracked_of}
-use Rattle.mt_play.specs.Players.{HasRanges, state_of}
+use Rattle.mt_play.specs.Players.{HasRanges, player_state}
 use Rattle.mt_play.proofs.Seating.{if_ok}
 use Rattle.mt_play.proofs.Seating.{stands, rests_again}
 use Rattle.mt_play.proofs.players.Player.ranges_of.Goals as goal
@@ -24,7 +24,7 @@ returns-clause-ranges g c =
     let t = g.T.Shared.tree c.index.result.now in
     let passes = map g.P.Passage.knows c.index_mut.result.now.items in
     if_ok (λ v. v.items ≡ last_map (seen_by t.history passes))
-    (λ v. HasRanges (state_of g.T.Shared.tree g.P.Passage.knows c.args.self.now) c.args.number (λ ranges. v.items ≡ ranges))
+    (λ v. HasRanges (player_state g.T.Shared.tree g.P.Passage.knows c.args.self.now) c.args.number (λ ranges. v.items ≡ ranges))
     c.list_settled.result
     (λ v is. record { tree = tracked_of t passes; tree_is = s.is; holds = is })
     c.list_settled.ensures.ranges

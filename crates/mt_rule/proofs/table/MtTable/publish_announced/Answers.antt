@@ -1,7 +1,7 @@
 use Rattle.std.proofs.Common.{rules, arith, ℕ, ◌<◌, sym, ap, ◌∙◌, subst}
 use Rattle.mt_base.specs.Width.{kind_width}
 use Rattle.mt_rows.specs.Publish.{IsPlaceToPublish}
-use Rattle.mt_rule.specs.Seats.{sheet_of}
+use Rattle.mt_rule.specs.Seats.{pen_sheet}
 use Rattle.mt_rule.specs.Tokens.{pen_in}
 use Rattle.mt_rule.proofs.Counting.{counter_inside}
 use Rattle.mt_rule.proofs.Publishing.{index_of, publishing}
@@ -19,7 +19,7 @@ store-requires g c = elim c.match-place.branch [
         (w.at-is ∙ sym (ap (index_of (kind_width (pen_in c.args.pen.now).shape.kind)) w.in-Root.is)) c.requires.may),
   )
   | in-Slot w ↦
-      let place = subst (IsPlaceToPublish (sheet_of (pen_in c.args.pen.now))) w.in-Slot.is c.requires.may.at in
+      let place = subst (IsPlaceToPublish (pen_sheet (pen_in c.args.pen.now))) w.in-Slot.is c.requires.may.at in
       let at = column_of c.args.self.now c.args.pen.now w.in-Slot.row w.in-Slot.col w.column_index-at.result c.requires.pen place.0 w.column_index-at.ensures in (
         search rules,
         subst (λ (n : ℕ). n < c.args.self.now.table.shared.table_id.words) (sym w.at-is) at.inside,

@@ -1,7 +1,7 @@
 use Rattle.std.proofs.Common.{◌≡◌, [], ap, sym, ◌∙◌}
 use Rattle.atomic_table.specs.Table.{Me}
 use Rattle.mt_rows.specs.Memory.{sheet_in}
-use Rattle.mt_rule.specs.declared.views.Told.{Told}
+use Rattle.mt_rule.specs.declared.views.TableStart.{TableStart}
 use Rattle.mt_rule.specs.declared.views.View.{View}
 use Rattle.mt_rule.specs.Seats.{shape_told, opening_view, new_pen, pen_of}
 use Rattle.mt_rule.proofs.Openings.{starts_so}
@@ -16,7 +16,7 @@ returns-clause-shape c = ap shape_told c.in_ok-table.ensures.5
 pub returns-clause-pen : goal.returns-clause-pen
 returns-clause-pen c =
     let made = c.in_ok-table.ensures in
-    let told : Told = record { kind = c.args.kind; passes = c.args.passes; calls = c.args.calls; rows = c.args.opening } in
+    let told : TableStart = record { kind = c.args.kind; passes = c.args.passes; calls = c.args.calls; rows = c.args.opening } in
     let at : c.of_seat.result.seat.me ≡ (opening_view told, []) = ap (λ s. s.me) c.of_seat.ensures ∙ made.4 in
     let view = ap (λ (m : Me (Unit {0}) View). m.0) at in
     let key = ap shape_told (sym made.5) in (

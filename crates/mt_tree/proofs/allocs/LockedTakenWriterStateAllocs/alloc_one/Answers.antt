@@ -1,6 +1,6 @@
 use Rattle.std.proofs.Common.{sym, ap, subst}
 use Rattle.mt_base.specs.declared.calls.Call.TheVariants.{Alloc}
-use Rattle.mt_ids.specs.Allocation.{IsCalled}
+use Rattle.mt_ids.specs.Allocation.{IsNextCall}
 use Rattle.mt_rule.specs.Tokens.{pass_in}
 use Rattle.mt_tree.specs.declared.trees.Tree.{Tree}
 use Rattle.mt_tree.specs.Allocations.{allocation_of}
@@ -14,5 +14,5 @@ returns-in-Ok-clause-called c =
     let q = pass_in c.act.new.self.pass.now in
     let done = c.in-Ok.done in
     let after = c.in-Ok.ensures in
-    subst (λ (x : Tree). IsCalled (allocation_of t p) (Alloc 1 c.args.min c.args.max c.args.entry) done.reply (allocation_of x q)) (sym (ap (λ r. r.now) after.tree))
+    subst (λ (x : Tree). IsNextCall (allocation_of t p) (Alloc 1 c.args.min c.args.max c.args.entry) done.reply (allocation_of x q)) (sym (ap (λ r. r.now) after.tree))
     (is_called t p q c.args.min c.args.max c.args.entry done.call done.reply after.done.0 after.number after.done.1 after.callers after.named)

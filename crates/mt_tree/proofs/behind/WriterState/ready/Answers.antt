@@ -1,6 +1,6 @@
 use Rattle.std.proofs.Common.{rules, ◌≡◌, ◌+◌, ◌*◌, ◌≤◌, Some, subst, arith}
 use Rattle.std.specs.Prelude.{◌↔◌, IsTrue, nat_le}
-use Rattle.mt_tree.specs.Behind.{Behind, behind_of, IsAtRest, IsReady}
+use Rattle.mt_tree.specs.Behind.{Behind, behind_lock, IsAtRest, IsReady}
 use Rattle.mt_tree.proofs.Ending.{few_levels, ready_if}
 use Rattle.mt_tree.proofs.behind.WriterState.ready.Goals as goal
 
@@ -22,5 +22,5 @@ returns c =
     let rest : IsAtRest (Some t) = subst IsAtRest c.in-Some.is c.self.invariant in
     let room = ready_if _ _ t.height c.free.result rest.1 c.free.ensures in
     let low : IsTrue (nat_le (3 * t.height + 1) c.free.result) ↔ (3 * t.height + 1 ≤ c.free.result) = search rules in
-    let view : behind_of (Some t) ≡ c.args.self.now = search rules in
+    let view : behind_lock (Some t) ≡ c.args.self.now = search rules in
     subst (λ (b : Behind). IsTrue (nat_le (3 * t.height + 1) c.free.result) ↔ IsReady b.parts) view (λ yes. room.0 (low.0 yes), λ ready. low.1 (room.1 ready))

@@ -1,7 +1,7 @@
 use Rattle.std.proofs.Common.{rules, ◌≡◌, Some, sym, ap, ◌∙◌, subst}
 use Rattle.mt_rule.specs.declared.views.PenPart.{PenPart}
 use Rattle.mt_rule.specs.Tokens.{identity_of_pen}
-use Rattle.mt_tree.specs.Behind.{Behind, after_show, behind_of, parts_of, IsAtRest, IsKept}
+use Rattle.mt_tree.specs.Behind.{Behind, after_show, behind_lock, parts_of, IsAtRest, IsPenAtRest}
 use Rattle.mt_tree.proofs.Ending.{kept_shown}
 use Rattle.mt_tree.proofs.behind.WriterState.show.Goals as goal
 
@@ -10,12 +10,12 @@ invariant_of-self c =
     let t = c.in-Some.field-0 in
     let rest : IsAtRest (Some t) = search rules in
     let same = c.split_pen.ensures.pen ∙ c.join_pen-calls.ensures.pen in
-    (c.split_pen.ensures.alone, subst (λ (p : PenPart). IsKept p (parts_of p t.book) t.height) (sym same) (kept_shown _ _ _ rest.1))
+    (c.split_pen.ensures.alone, subst (λ (p : PenPart). IsPenAtRest p (parts_of p t.book) t.height) (sym same) (kept_shown _ _ _ rest.1))
 
 pub returns-clause-state : goal.returns-clause-state
 returns-clause-state c =
     let t = c.in-Some.field-0 in
-    let view : behind_of (Some t) ≡ c.args.self.now = search rules in
+    let view : behind_lock (Some t) ≡ c.args.self.now = search rules in
     let same = c.split_pen.ensures.pen ∙ c.join_pen-calls.ensures.pen in
     let table : identity_of_pen c.split_pen.new.pen ≡ identity_of_pen t.pen = c.split_pen.ensures.of ∙ sym (ap (λ (b : Behind). b.table) view ∙ c.requires.table) in
     (λ k. record { table = table k; pen = same k; parts = parts_of (same k) t.book }) ∙ ap after_show view

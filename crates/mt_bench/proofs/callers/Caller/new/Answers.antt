@@ -1,6 +1,0 @@
-use Rattle.std.proofs.Common.{sym}
-use Rattle.mt_tree.proofs.Lending.{still_of}
-use Rattle.mt_bench.proofs.callers.Caller.new.Goals as goal
-
-pub invariant_of-result : goal.invariant_of-result
-invariant_of-result g c = record { of = still_of _ _ _ (sym c.in-Ok.ensures) c.requires }

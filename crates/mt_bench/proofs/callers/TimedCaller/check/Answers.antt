@@ -1,0 +1,9 @@
+use Rattle.std.proofs.Common.{sym}
+use Rattle.mt_tree.proofs.Lending.{still_of}
+use Rattle.mt_bench.proofs.callers.TimedCaller.check.Goals as goal
+
+pub check-requires : goal.check-requires
+check-requires g c = still_of _ _ _ (sym c.deref.ensures) c.args.self.now.of
+
+pub invariant_of-self : goal.invariant_of-self
+invariant_of-self g c = record { of = still_of _ _ _ c.deref.ensures c.check.ensures.of }
