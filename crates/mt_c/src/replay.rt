@@ -9,7 +9,7 @@ use crate::told::{E2BIG, EDOM, EINVAL, ENOMEM, ERANGE};
 use mt_base::MOST_ROWS;
 use mt_list::ListMap;
 use mt_log::{LogError, read_log, render};
-use mt_plain::play;
+use mt_sequential::play;
 use std::alloc::Global;
 
 /// A log has so many bytes at the most.

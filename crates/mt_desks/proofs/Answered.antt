@@ -2,7 +2,7 @@
 use Rattle.std.proofs.Common.{List, [], ◌∷◌, inl, inr}
 use Rattle.mt_base.specs.Passes.{Pass}
 use Rattle.mt_log.specs.Run.{Asked, Step, IsDone}
-use Rattle.mt_runs.specs.Rooms.{AreDoneEach}
+use Rattle.mt_linearize.specs.Rooms.{AreDoneEach}
 use Rattle.mt_desks.specs.Desks.{SharedTree, IsSomeWorn, IsDoneUnless, AreAnsweredUnless}
 
 done_where_not_worn : (worn : Type 0) (a : Asked) (steps : List Step) → (worn → ⊥) → IsDoneUnless worn a steps → IsDone a a.item steps

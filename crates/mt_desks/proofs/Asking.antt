@@ -8,7 +8,7 @@ use Rattle.mt_log.specs.declared.lines.Item.TheVariants.{Tree, Lane, Join, Dup, 
 use Rattle.mt_log.specs.declared.lines.Line.{Line}
 use Rattle.mt_log.specs.Phases.{AreInPlaceFrom, IsInPlace, phase_after, stepped_after}
 use Rattle.mt_log.specs.Run.{Asked, asked_from, is_answered, lane_after, lane_of}
-use Rattle.mt_runs.specs.Rooms.{asked_of_lane}
+use Rattle.mt_linearize.specs.Rooms.{asked_of_lane}
 use Rattle.mt_desks.specs.Dealing.{IsOnePhase, asked_of, counts_in, is_count, is_join, is_step, lines_of_lane, steps_in}
 
 -- ---- a line is a lane's, or the program's own, or is not answered

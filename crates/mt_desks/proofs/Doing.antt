@@ -18,12 +18,12 @@ use Rattle.mt_log.specs.declared.lines.Line.{Line}
 use Rattle.mt_log.specs.declared.transcripts.Entry.{Entry}
 use Rattle.mt_log.specs.Run.{Asked, Step, Outcome, Looked, IsDone, entry_of, place_within, step_of}
 use Rattle.mt_lanes.specs.Lanes.{Chain}
-use Rattle.mt_runs.specs.Leads.{Leads, by_lane_on, outcomes_of}
-use Rattle.mt_runs.specs.Rooms.{answers_joined}
-use Rattle.mt_runs.proofs.Knowing.{leads_onward}
-use Rattle.mt_runs.proofs.Leading.{learns_none, leads_on, saw_learns}
-use Rattle.mt_runs.proofs.LineSteps.{done_each}
-use Rattle.mt_runs.proofs.Lists.{same_some, set_here, set_there}
+use Rattle.mt_linearize.specs.Leads.{Leads, by_lane_on, outcomes_of}
+use Rattle.mt_linearize.specs.Rooms.{answers_joined}
+use Rattle.mt_linearize.proofs.Knowing.{leads_onward}
+use Rattle.mt_linearize.proofs.Leading.{learns_none, leads_on, saw_learns}
+use Rattle.mt_linearize.proofs.LineSteps.{done_each}
+use Rattle.mt_linearize.proofs.Lists.{same_some, set_here, set_there}
 use Rattle.mt_desks.specs.Dealing.{asked_of, is_step, line_tree}
 use Rattle.mt_desks.specs.Desks.{SharedTree, IsSomeWorn, IsDoneUnless, AreAnsweredUnless, IsDoneOn, IsLineDone, DeskState, DeskDid, IsManned, StillManned, LaneRan}
 use Rattle.mt_desks.specs.Scans.{IsLooked, IsScanDone}

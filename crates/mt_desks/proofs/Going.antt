@@ -10,8 +10,8 @@ use Rattle.mt_lanes.specs.declared.lanes.Lane.{Lane}
 use Rattle.mt_desks.specs.declared.desks.LaneDesk.{LaneDesk}
 use Rattle.mt_desks.specs.Desks.{DeskDid, DeskState, IsManned, IsDeskReady, LaneRan, SharedTree, StillManned, desk_of}
 use Rattle.mt_desks.specs.Phases.{CanPass, IsLaid, LaneWent, pass_at}
-use Rattle.mt_runs.specs.Leads.{Leads, outcomes_of}
-use Rattle.mt_runs.specs.Rooms.{answers_joined}
+use Rattle.mt_linearize.specs.Leads.{Leads, outcomes_of}
+use Rattle.mt_linearize.specs.Rooms.{answers_joined}
 use Rattle.mt_desks.proofs.Doing.{desk_ran, mapped}
 
 some_of : {V : Type 0} (xs : List V) (i : ℕ) → i < length xs → V

@@ -10,9 +10,9 @@ use Rattle.mt_log.specs.declared.lines.Line.{Line}
 use Rattle.mt_log.specs.Phases.{phase_after}
 use Rattle.mt_log.specs.Run.{Asked, asked_from, is_answered, lane_after, lane_of}
 use Rattle.mt_log.specs.Trees.{AreNamedFrom, count_after, most_lanes}
-use Rattle.mt_runs.specs.Lines.{lane_behind}
-use Rattle.mt_runs.proofs.Lists.{both, every}
-use Rattle.mt_runs.proofs.Stretches.{next_lane}
+use Rattle.mt_linearize.specs.Lines.{lane_behind}
+use Rattle.mt_linearize.proofs.Lists.{both, every}
+use Rattle.mt_linearize.proofs.Stretches.{next_lane}
 use Rattle.mt_desks.specs.Dealing.{counts_in, is_step, lanes_in, steps_in}
 use Rattle.mt_desks.proofs.Asking.{counts_placed, steps_of_phase}
 

@@ -7,10 +7,10 @@ use Rattle.mt_base.proofs.Lists.{all_join}
 use Rattle.mt_log.specs.declared.lines.Line.{Line}
 use Rattle.mt_log.specs.declared.transcripts.Entry.{Entry}
 use Rattle.mt_log.specs.Run.{Asked, Step, entry_of, lane_after}
-use Rattle.mt_runs.specs.Rooms.{asked_of_lane, AreDoneEach, rooms_behind, take_turns, lanes_of, answers_joined}
-use Rattle.mt_runs.specs.Tracks.{Pairs}
-use Rattle.mt_runs.proofs.LineSteps.{done_each}
-use Rattle.mt_runs.proofs.Lists.{every}
+use Rattle.mt_linearize.specs.Rooms.{asked_of_lane, AreDoneEach, rooms_behind, take_turns, lanes_of, answers_joined}
+use Rattle.mt_linearize.specs.Tracks.{Pairs}
+use Rattle.mt_linearize.proofs.LineSteps.{done_each}
+use Rattle.mt_linearize.proofs.Lists.{every}
 use Rattle.mt_desks.specs.Dealing.{is_step, steps_in}
 use Rattle.mt_desks.proofs.Asking.{steps_numbered}
 use Rattle.mt_desks.specs.Turns.{first_entries, front_len, in_turn, rest_of, room_at, RoomsHold}

@@ -10,7 +10,7 @@ use Rattle.mt_log.specs.declared.lines.Line.{Line}
 use Rattle.mt_log.specs.Phases.{AreInPlaceFrom, phase_after, stepped_after, stepped_from}
 use Rattle.mt_log.specs.Run.{Asked}
 use Rattle.mt_log.specs.Trees.{AreNamedFrom, Declared, IsReadable, NamesBelow, count_after, declared_by, trees_from, trees_of}
-use Rattle.mt_runs.proofs.Stretches.{named_there, one_declared, placed_there}
+use Rattle.mt_linearize.proofs.Stretches.{named_there, one_declared, placed_there}
 use Rattle.mt_desks.specs.Dealing.{counts_in, is_step, lines_of_lane, steps_in}
 use Rattle.mt_desks.specs.Desks.{AreLines}
 use Rattle.mt_desks.proofs.Asking.{counts_keep, own_keep, steps_keep}

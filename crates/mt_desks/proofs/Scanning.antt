@@ -8,8 +8,8 @@ use Rattle.mt_base.specs.History.{History}
 use Rattle.mt_base.specs.Passes.{Pass}
 use Rattle.mt_log.specs.declared.transcripts.Entry.{Entry}
 use Rattle.mt_log.specs.Run.{Asked, Step, Outcome, Looked, AreScanSteps, entry_of, step_of, find_at, place_behind}
-use Rattle.mt_runs.specs.Leads.{Does, Leads, Learns, by_lane_on, outcomes_of}
-use Rattle.mt_runs.proofs.Leading.{learns_none, leads_last, leads_one, leads_on, stands_otherwise}
+use Rattle.mt_linearize.specs.Leads.{Does, Leads, Learns, by_lane_on, outcomes_of}
+use Rattle.mt_linearize.proofs.Leading.{learns_none, leads_last, leads_one, leads_on, stands_otherwise}
 use Rattle.mt_desks.specs.Scans.{IsLooked, IsScanDone, KeepsOne}
 use Rattle.mt_desks.specs.Walks.{Walk, HasWalkedOn, OpensOnce, opened_at, place_after}
 

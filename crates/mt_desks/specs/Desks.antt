@@ -8,8 +8,8 @@ use Rattle.mt_log.specs.declared.lines.Line.{Line}
 use Rattle.mt_log.specs.declared.transcripts.Entry.{Entry}
 use Rattle.mt_log.specs.Run.{Asked, Step, IsDone, entry_of}
 use Rattle.mt_log.specs.Trees.{NamesBelow}
-use Rattle.mt_runs.specs.Leads.{Leads, outcomes_of}
-use Rattle.mt_runs.specs.Rooms.{answers_joined}
+use Rattle.mt_linearize.specs.Leads.{Leads, outcomes_of}
+use Rattle.mt_linearize.specs.Rooms.{answers_joined}
 use Rattle.mt_desks.specs.Dealing.{asked_of, is_step, room_of}
 
 -- a tree that several share: its history so far, and how many calls it takes at the most

@@ -8,7 +8,7 @@ use Rattle.mt_base.specs.Passes.{Pass, Read}
 use Rattle.mt_log.specs.Run.{Asked, Step, AreScanSteps, entry_of, shown}
 use Rattle.mt_log.specs.declared.transcripts.Entry.{Entry}
 use Rattle.mt_log.specs.declared.transcripts.Said.TheVariants as said
-use Rattle.mt_runs.specs.Leads.{Leads, outcomes_of}
+use Rattle.mt_linearize.specs.Leads.{Leads, outcomes_of}
 use Rattle.mt_desks.specs.Walks.{Walk, OpensOnce}
 
 -- one read, told behind what the room held

@@ -7,7 +7,7 @@ ghost use Rattle.mt_log.specs.declared.lines.Line.{Line};
 ghost use Rattle.mt_log.specs.Phases.{AreInPlaceFrom, stepped_from};
 ghost use Rattle.mt_log.specs.Run.{Asked, asked_from, steps_of};
 ghost use Rattle.mt_log.specs.Trees.{AreNamedFrom, Declared, IsReadable, NamesBelow, most_lanes, trees_from, trees_of};
-ghost use Rattle.mt_runs.specs.Lines.{lane_behind};
+ghost use Rattle.mt_linearize.specs.Lines.{lane_behind};
 ghost use Rattle.mt_desks.specs.Dealing.{counts_in, lanes_in, lines_of_lane, steps_in};
 ghost use Rattle.mt_desks.specs.Desks.{AreLines};
 

@@ -7,8 +7,8 @@ use Rattle.mt_log.specs.declared.transcripts.Transcript.{Transcript}
 use Rattle.mt_verify.specs.Points.{AreLeastPoints}
 use Rattle.mt_verify.specs.Tellings.{count_of_calls, reads_told}
 use Rattle.mt_verify.proofs.Tellings.{reads_are_points}
-use Rattle.mt_words.specs.declared.commands.Command.{Command}
-use Rattle.mt_words.specs.declared.commands.Command.TheVariants.{Replay, Make, Trial, Verify, Image, Show, Bulk, Ids}
+use Rattle.mt_cli.specs.declared.commands.Command.{Command}
+use Rattle.mt_cli.specs.declared.commands.Command.TheVariants.{Replay, Make, Trial, Verify, Image, Show, Bulk, Ids}
 use Rattle.mt_program.specs.Causes.{Ends, EndsMaking, EndsPrint, EndsReading, FailsOn, HasEnded, Streams}
 use Rattle.mt_program.specs.Command.{input_limit}
 use Rattle.mt_program.specs.Headline.{IsOutput, IsVerifiedText, verified_text}

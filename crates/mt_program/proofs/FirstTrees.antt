@@ -12,7 +12,7 @@ use Rattle.mt_log.specs.Phases.{phase_after}
 use Rattle.mt_log.specs.Run.{listings_of}
 use Rattle.mt_log.specs.Trees.{Declared, declared_by, tree_declared_by, trees_from, trees_of}
 use Rattle.mt_base.specs.History.{History}
-use Rattle.mt_play.specs.Images.{IsImageOfRun}
+use Rattle.mt_replay.specs.Images.{IsImageOfRun}
 
 -- a tree that was declared stays
 kept : (d : Declared) (trees : List Declared) (phase : ℕ) (lines : List Line) → trees_from (d ∷ trees) phase lines ≢ []

@@ -8,13 +8,13 @@ use Rattle.mt_bulk.specs.Builds.{TookTurns, refusal, refused_by}
 use Rattle.mt_bulk.specs.Bulk.{rows_in}
 use Rattle.mt_bulk.specs.Items.{is_misplaced, misplaced, misplaced_from}
 use Rattle.mt_bulk.specs.declared.errors.BulkError.TheVariants as errors
-use Rattle.mt_listing.specs.Listings.{IsInForm, IsRefusedListing}
-use Rattle.mt_listing.specs.declared.errors.ListingError.{ListingError}
-use Rattle.mt_listing.specs.declared.errors.ListingError.TheVariants as listings
-use Rattle.mt_listing.proofs.Laws.{few_ranges}
+use Rattle.mt_told.specs.Listings.{IsInForm, IsRefusedListing}
+use Rattle.mt_told.specs.declared.errors.ListingError.{ListingError}
+use Rattle.mt_told.specs.declared.errors.ListingError.TheVariants as listings
+use Rattle.mt_told.proofs.Laws.{few_ranges}
 use Rattle.mt_log.specs.declared.transcripts.Listing.{Listing}
 use Rattle.mt_log.specs.Text.{listing_text}
-use Rattle.mt_texts.specs.Texts.{IsBulkImage}
+use Rattle.mt_commands.specs.Texts.{IsBulkImage}
 use Rattle.mt_program.specs.Causes.{FailsOn, failure_of_listing}
 use Rattle.mt_program.specs.Headline.{IsBuiltImage}
 use Rattle.mt_program.specs.Turns.{IsBuiltBy}

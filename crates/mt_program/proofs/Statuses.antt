@@ -7,8 +7,8 @@ use Rattle.mt_image.specs.declared.errors.ImageError.{ImageError}
 use Rattle.mt_image.specs.Reading.{image_in}
 use Rattle.mt_io.specs.Faults.{Rose}
 use Rattle.mt_log.specs.Text.{text_of}
-use Rattle.mt_words.specs.declared.commands.Command.{Command}
-use Rattle.mt_words.specs.declared.commands.Command.TheVariants.{Replay, Make, Trial, Verify, Image, Show, Bulk, Ids}
+use Rattle.mt_cli.specs.declared.commands.Command.{Command}
+use Rattle.mt_cli.specs.declared.commands.Command.TheVariants.{Replay, Make, Trial, Verify, Image, Show, Bulk, Ids}
 use Rattle.mt_program.specs.Causes.{Ends, EndsMaking, EndsReading, Fails, FailsToRead, HasEnded, RefusesInput, Streams}
 use Rattle.mt_program.specs.Command.{input_limit, longest, reads}
 use Rattle.mt_program.specs.Ending.{ReadsTooMany, ReadsWithin, status_of}

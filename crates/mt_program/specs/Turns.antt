@@ -5,10 +5,10 @@ use Rattle.mt_bulk.specs.Builds.{TookTurns}
 use Rattle.mt_log.specs.declared.lines.Log.{Log}
 use Rattle.mt_log.specs.declared.transcripts.Listing.{Listing}
 use Rattle.mt_log.specs.Reading.{log_of}
-use Rattle.mt_play.specs.Turns.{AllTurned}
-use Rattle.mt_texts.specs.Texts.{IsTurnedTrial}
-use Rattle.mt_words.specs.declared.commands.Command.{Command}
-use Rattle.mt_words.specs.declared.commands.Command.TheVariants.{Replay, Make, Trial, Verify, Image, Show, Bulk, Ids}
+use Rattle.mt_replay.specs.Turns.{AllTurned}
+use Rattle.mt_commands.specs.Texts.{IsTurnedTrial}
+use Rattle.mt_cli.specs.declared.commands.Command.{Command}
+use Rattle.mt_cli.specs.declared.commands.Command.TheVariants.{Replay, Make, Trial, Verify, Image, Show, Bulk, Ids}
 use Rattle.mt_program.specs.Headline.{IsListing}
 
 -- the bytes are a log, each step of which was done by a lane that took both its turns

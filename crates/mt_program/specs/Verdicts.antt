@@ -3,15 +3,15 @@ use Rattle.std.specs.Prelude.{◌≡◌, ◌≢◌, ◌⊎◌, ◌+◌, ◌<◌,
 use Rattle.mt_bulk.specs.Builds.{refusal}
 use Rattle.mt_bulk.specs.declared.errors.BulkError.TheVariants as errors
 use Rattle.mt_image.specs.Reading.{image_in}
-use Rattle.mt_listing.specs.Listings.{IsBadAt}
+use Rattle.mt_told.specs.Listings.{IsBadAt}
 use Rattle.mt_log.specs.Fault.{fault_at}
 use Rattle.mt_log.specs.Reading.{log_of}
 use Rattle.mt_log.specs.Run.{TellsRun}
 use Rattle.mt_log.specs.Trees.{trees_of}
 use Rattle.mt_log.specs.declared.lines.Log.{Log}
 use Rattle.mt_log.specs.declared.transcripts.Listing.{Listing}
-use Rattle.mt_words.specs.declared.commands.Command.{Command}
-use Rattle.mt_words.specs.declared.commands.Command.TheVariants.{Replay, Make, Trial, Verify, Image, Show, Bulk, Ids}
+use Rattle.mt_cli.specs.declared.commands.Command.{Command}
+use Rattle.mt_cli.specs.declared.commands.Command.TheVariants.{Replay, Make, Trial, Verify, Image, Show, Bulk, Ids}
 use Rattle.mt_program.specs.Command.{input_limit}
 use Rattle.mt_program.specs.Ending.{TellsText, failure_text, status_of}
 use Rattle.mt_program.specs.Headline.{IsListing}

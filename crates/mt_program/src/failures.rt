@@ -9,8 +9,8 @@ use mt_base::NoMemory;
 use mt_check::Law;
 use mt_image::ImageError;
 use mt_io::Sink;
-use mt_listing::ListingError;
 use mt_log::{LogError, Why};
+use mt_told::ListingError;
 
 /// Room for the longest line that tells a failure.
 const TEXT_ROOM: usize = 192;

@@ -1,7 +1,7 @@
 ghost use Rattle.std.specs.Prelude.{◌≡◌};
 ghost use Rattle.mt_program.specs.Command.{input_limit};
 
-use mt_words::Command;
+use mt_cli::Command;
 
 /// The most bytes that the input of a command may have: one that reads nothing has none.
 pub fn limit_of(command: &Command) -> usize

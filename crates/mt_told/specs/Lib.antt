@@ -2,6 +2,8 @@ pub mod Along
 pub mod Answers
 pub mod Comparing
 pub mod Fronts
+pub mod ListingFronts
+pub mod Listings
 pub mod Numbers
 pub mod Scans
 pub mod Steps

@@ -10,12 +10,12 @@ ghost use Rattle.mt_tree.specs.Trees.{IsPassOf, pass_in};
 
 use crate::asserts::same;
 use mt_base::{Kind, NoMemory, Query};
+use mt_commands::LaneTree;
 use mt_desks::{LaneDesk, needs_of, run_phase};
 use mt_io::NoGate;
 use mt_lanes::Lane;
 use mt_log::{Answer, Entry, Item, Line, Said};
-use mt_play::Plays;
-use mt_texts::LaneTree;
+use mt_replay::Plays;
 use mt_tree::Pass;
 use std::alloc::Global;
 use std::sync::Wait;

@@ -1,8 +1,8 @@
 //! Texts that are listings, and others.
 
 use crate::asserts::same;
-use mt_listing::{ListingError, read_listing};
 use mt_log::Listing;
+use mt_told::{ListingError, read_listing};
 use std::alloc::{AllocError, Global};
 use std::test::Fail;
 

@@ -1,6 +1,6 @@
 use crate::asserts::same;
 use mt_base::NoMemory;
-use mt_words::{Command, read_words};
+use mt_cli::{Command, read_words};
 use std::alloc::Global;
 use std::process::Abort;
 use std::test::Fail;

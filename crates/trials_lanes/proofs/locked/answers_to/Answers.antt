@@ -6,7 +6,7 @@ use Rattle.mt_lanes.specs.declared.lanes.Lane.{Lane}
 use Rattle.mt_tree.specs.Trees.{Pass}
 use Rattle.trials_lanes.proofs.Closed.{at_only}
 use Rattle.trials_lanes.proofs.locked.answers_to.Goals as goal
-use Rattle.mt_texts.specs.declared.trees.LaneTree.{LaneTree}
+use Rattle.mt_commands.specs.declared.trees.LaneTree.{LaneTree}
 
 pub run_phase-requires-clause-laid : goal.run_phase-requires-clause-laid
 run_phase-requires-clause-laid g c κs within =

@@ -1,0 +1,26 @@
+use Rattle.std.proofs.Common.{rules, ◌≡◌, sym, ap, ◌∙◌, subst}
+use Rattle.mt_base.specs.Passes.{Read}
+use Rattle.mt_base.proofs.Goings.{grew_read, saw_grows}
+use Rattle.mt_tree.specs.declared.trees.Tree.{Tree}
+use Rattle.mt_tree.specs.Trees.{Pass, opened, pass_in, steps_made}
+use Rattle.mt_tree.proofs.Lending.{still_of}
+use Rattle.mt_commands.proofs.trees.ask_under_lock.Goals as goal
+
+pub returns-clause-of : goal.returns-clause-of
+returns-clause-of g c = still_of c.ask-read.new.self.tree.now c.args.tree.now _ (ap (λ b. b.now) c.ask-read.ensures.tree ∙ c.lock-write.ensures.tree) (search rules)
+
+pub returns-clause-rests : goal.returns-clause-rests
+returns-clause-rests g c =
+    let last : c.ask-read.new.self.pass.now ≡ c.pass-1.given.0 = (search rules) in
+    ap steps_made (sym last) ∙ (c.ask-read.ensures.rests.steps ∙ c.lock-write.ensures.tries.steps)
+
+pub returns-clause-read : goal.returns-clause-read
+returns-clause-read g c =
+    let t : Tree = c.args.tree.now in
+    let read = subst (λ (x : Tree). Read (opened x) (pass_in c.lock-write.result.pass.now) c.ask-read.result.lo c.ask-read.result.hi c.ask-read.result.lo c.args.query.now c.ask-read.result.value (pass_in c.ask-read.new.self.pass.now)) c.lock-write.ensures.tree c.ask-read.ensures.read in
+    let last : c.ask-read.new.self.pass.now ≡ c.pass-1.given.0 = (search rules) in (
+      c.ask-read.result.lo,
+      subst (λ (p : Pass). Read (opened t) (pass_in c.args.pass.now) c.ask-read.result.lo c.ask-read.result.hi c.ask-read.result.lo c.args.query.now c.ask-read.result.value (pass_in p)) last
+          (grew_read (opened t) (pass_in c.args.pass.now) (pass_in c.lock-write.result.pass.now) c.ask-read.result.lo c.ask-read.result.hi c.ask-read.result.lo c.args.query.now c.ask-read.result.value (pass_in c.ask-read.new.self.pass.now)
+          (saw_grows (opened t) (pass_in c.args.pass.now) (pass_in c.lock-write.result.pass.now) c.lock-write.ensures.saw) read),
+    )

@@ -1,0 +1,4 @@
+pub mod Only
+pub mod Texts
+pub mod Turns
+pub mod Walks

@@ -1,6 +1,0 @@
-use Rattle.mt_listing.proofs.Words.{no_kind}
-use Rattle.mt_listing.proofs.heads.kind_before.Goals as goal
-
-pub returns-in_err-kind-clause-none : goal.returns-in_err-kind-clause-none
-returns-in_err-kind-clause-none c =
-    rw c.from_residual-in_err-kind.ensures (no_kind c.args.text.now c.in_ok-word.word.now c.in_ok-word.rest.now c.in_ok-word.ensures.some c.in_err-kind.ensures.none)

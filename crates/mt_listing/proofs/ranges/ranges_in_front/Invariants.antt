@@ -1,6 +1,0 @@
-use Rattle.std.specs.Prelude.{◌≡◌, length}
-use Rattle.mt_listing.specs.Fronts.{AreRangesBefore}
-use Rattle.mt_listing.proofs.ranges.ranges_in_front.Given as goal
-
-abbrev pub invariant-loop-line : goal.invariant-loop-line
-invariant-loop-line l = AreRangesBefore l.text l.ranges.items l.rest × (length l.ranges.items ≡ l._line)

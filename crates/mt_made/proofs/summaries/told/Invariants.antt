@@ -1,6 +1,0 @@
-use Rattle.std.proofs.Common.{◌≡◌, take}
-use Rattle.mt_made.specs.Summary.{told}
-use Rattle.mt_made.proofs.summaries.told.Given as goal
-
-abbrev pub invariant-loop-entry : goal.invariant-loop-entry
-invariant-loop-entry l = l.summary ≡ told l.steps (take l.entry-index l.entries)

@@ -1,6 +1,0 @@
-use Rattle.std.proofs.Common.{◌≡◌, map, take}
-use Rattle.mt_plain.specs.Playing.{listing_of}
-use Rattle.mt_plain.proofs.player.list_trees.Given as goal
-
-abbrev pub invariant-loop-at : goal.invariant-loop-at
-invariant-loop-at g l = (l.trees ≡ l.initial.trees) × (l.lists.items ≡ map listing_of (take l.at l.initial.trees))

@@ -1,5 +1,0 @@
-use Rattle.mt_play.proofs.Settling.{SettledSoFar}
-use Rattle.mt_play.proofs.lanes.settle_all.Given as goal
-
-abbrev pub invariant-loop-at : goal.invariant-loop-at
-invariant-loop-at g l = SettledSoFar g.T.Shared.tree g.P.Passage.knows g.T.Shared.serves g.T.Plays.many l.trees l.at l.initial.seats l.seats

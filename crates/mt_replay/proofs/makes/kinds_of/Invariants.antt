@@ -1,0 +1,6 @@
+use Rattle.std.proofs.Common.{◌≡◌, take}
+use Rattle.mt_replay.specs.Makes.{kinds_in}
+use Rattle.mt_replay.proofs.makes.kinds_of.Given as goal
+
+abbrev pub invariant-loop-line : goal.invariant-loop-line
+invariant-loop-line l = l.kinds.items ≡ kinds_in (take l.line-index l.lines)

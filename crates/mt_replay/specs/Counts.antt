@@ -1,0 +1,18 @@
+-- How many ranges a tree had, and after how many of its calls.
+-- Source: this project's own.
+use Rattle.std.specs.Prelude.{◌≡◌, ◌≤◌, List, [], ◌∷◌, length}
+use Rattle.mt_base.specs.History.{History, map_at}
+use Rattle.mt_linearize.specs.Phases.{Tracked}
+use Rattle.mt_replay.specs.declared.counts.Counted.{Counted}
+
+-- The tree has had so many calls, and had so many ranges after them.
+pub record IsCountOf (tree : History) (c : Counted) : Type 0 where
+  pub calls : c.calls ≤ length tree.records
+  pub ranges : c.ranges ≡ length (map_at tree c.calls)
+
+-- of each tree one
+abbrev pub AreCounts : List Tracked → List Counted → Type 0
+AreCounts [] [] = Unit {0}
+AreCounts [] (c ∷ counts) = ⊥
+AreCounts (t ∷ trees) [] = ⊥
+AreCounts (t ∷ trees) (c ∷ counts) = IsCountOf t.history c × AreCounts trees counts

@@ -1,5 +1,0 @@
-use Rattle.mt_runs.proofs.Leading.{phase_settled}
-use Rattle.mt_runs.proofs.lanes.a_phase_ends_where_passes_are_settled.Goals as goal
-
-pub returns : goal.returns
-returns c = phase_settled

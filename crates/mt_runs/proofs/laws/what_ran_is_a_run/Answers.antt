@@ -1,5 +1,0 @@
-use Rattle.mt_runs.proofs.Running.{ran_is_run}
-use Rattle.mt_runs.proofs.laws.what_ran_is_a_run.Goals as goal
-
-pub returns : goal.returns
-returns c = ran_is_run

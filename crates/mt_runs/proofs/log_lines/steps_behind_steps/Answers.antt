@@ -1,5 +1,0 @@
-use Rattle.mt_runs.proofs.Stretches.{done_append}
-use Rattle.mt_runs.proofs.log_lines.steps_behind_steps.Goals as goal
-
-pub returns : goal.returns
-returns c = done_append

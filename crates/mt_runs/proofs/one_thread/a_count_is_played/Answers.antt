@@ -1,5 +1,0 @@
-use Rattle.mt_runs.proofs.Played.{count_played}
-use Rattle.mt_runs.proofs.one_thread.a_count_is_played.Goals as goal
-
-pub returns : goal.returns
-returns c = count_played

@@ -1,5 +1,0 @@
-use Rattle.mt_runs.proofs.Played.{read_played}
-use Rattle.mt_runs.proofs.one_thread.a_read_is_played.Goals as goal
-
-pub returns : goal.returns
-returns c = read_played

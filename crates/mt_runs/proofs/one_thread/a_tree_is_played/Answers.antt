@@ -1,8 +1,0 @@
-use Rattle.mt_runs.proofs.Played.{tree_played, copy_played}
-use Rattle.mt_runs.proofs.one_thread.a_tree_is_played.Goals as goal
-
-pub returns-clause-empty : goal.returns-clause-empty
-returns-clause-empty c = tree_played
-
-pub returns-clause-copy : goal.returns-clause-copy
-returns-clause-copy c = copy_played

@@ -1,5 +1,0 @@
-use Rattle.mt_runs.proofs.Played.{nothing_played}
-use Rattle.mt_runs.proofs.one_thread.nothing_is_played_yet.Goals as goal
-
-pub returns : goal.returns
-returns c = nothing_played

@@ -1,4 +1,0 @@
-use Rattle.mt_texts.proofs.texts.image_of_run.Goals as goal
-
-pub returns-clause-image : goal.returns-clause-image
-returns-clause-image g c = c.play_image.ensures.image

@@ -1,5 +1,0 @@
-use Rattle.std.proofs.Common.{rules}
-use Rattle.mt_texts.proofs.texts.tried.Goals as goal
-
-pub returns-clause-summary : goal.returns-clause-summary
-returns-clause-summary g c = search rules

@@ -1,4 +1,0 @@
-use Rattle.mt_texts.proofs.trees.LaneTreePlaysPass.check.Goals as goal
-
-pub returns-clause-count : goal.returns-clause-count
-returns-clause-count g c = c.check.ensures.form.ranges
