@@ -1,14 +1,5 @@
 -- What queries answer at an index above the greatest one: no range is there, and looking back begins at the greatest.
-use Rattle.std.proofs.Common.{◌≡◌, ℕ, ◌+◌, ◌<◌, ◌≤◌, List, [], ◌∷◌, None, refl, sym, ap, ◌∙◌, inl, inr, arith, nat_lt, nat_le}
-use Rattle.std.specs.Prelude.{Bool, false, ◌&&◌, filter, find, if◌then◌else◌}
-use Rattle.std.specs.List.{AllByRecursion}
-use Rattle.std.proofs.lemmas.Bool.{cases_Bool, and_left, and_right, ltb-true, ltb-false, lt-leb, le-leb, lt-ltb, le-ltb}
-use Rattle.mt_base.specs.declared.kinds.Kind.{Kind}
-use Rattle.mt_base.specs.declared.ranges.Range.{Range}
-use Rattle.mt_base.specs.declared.calls.Query.TheVariants.{Find, Next, Prev, Rfind}
-use Rattle.mt_base.specs.Width.{greatest_of}
-use Rattle.mt_base.specs.Map.{IsMapFrom, IsMap, holds, holding, first_range, last_range}
-use Rattle.mt_base.specs.Call.{answer}
+use Rattle.mt_base.proofs.Prelude.{◌≡◌, ℕ, ◌+◌, ◌<◌, ◌≤◌, List, [], ◌∷◌, None, refl, sym, ap, ◌∙◌, inl, inr, arith, nat_lt, nat_le, Bool, false, ◌&&◌, filter, find, if◌then◌else◌, AllByRecursion, cases_Bool, and_left, and_right, ltb-true, ltb-false, lt-leb, le-leb, lt-ltb, le-ltb, Kind, Range, Find, Next, Prev, Rfind, greatest_of, IsMapFrom, IsMap, holds, holding, first_range, last_range, answer}
 
 -- ---- tests of ranges
 

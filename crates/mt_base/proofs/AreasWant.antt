@@ -1,17 +1,6 @@
 -- A call that stores an entry where it finds room wants rows exactly where it finds some: the map changes there.
-use Rattle.std.proofs.Common.{◌≡◌, ◌≢◌, ◌↔◌, ℕ, ◌+◌, ◌-◌, ◌≤◌, false, List, [], ◌∷◌, Option, Some, None, arith, refl, ◌==◌, cond, subst}
-use Rattle.std.specs.Option.{option_map}
-use Rattle.std.proofs.lemmas.Bool.{cond_both, or_parts}
-use Rattle.mt_base.specs.declared.kinds.Kind.{Kind}
-use Rattle.mt_base.specs.declared.ranges.Range.{Range}
-use Rattle.mt_base.specs.declared.calls.Call.TheVariants.{Alloc, Ralloc}
-use Rattle.mt_base.specs.declared.replies.Reply.{Reply}
+use Rattle.mt_base.proofs.Prelude.{◌≡◌, ◌≢◌, ◌↔◌, ℕ, ◌+◌, ◌-◌, ◌≤◌, false, List, [], ◌∷◌, Option, Some, None, arith, refl, ◌==◌, cond, subst, option_map, cond_both, or_parts, Kind, Range, Alloc, Ralloc, Reply, reserved, IsMap, overlaps, holding, is_held, over, IsRoom, low, high, acted, placed, is_no_area, is_bad_area, Wants}
 use Rattle.mt_base.specs.declared.replies.Reply.TheVariants as reply
-use Rattle.mt_base.specs.Entry.{reserved}
-use Rattle.mt_base.specs.Map.{IsMap, overlaps, holding, is_held, over}
-use Rattle.mt_base.specs.Holes.{IsRoom, low, high}
-use Rattle.mt_base.specs.Call.{acted, placed, is_no_area, is_bad_area}
-use Rattle.mt_base.specs.Nodes.{Wants}
 use Rattle.mt_base.proofs.CallsKeepOrder.{stored_area}
 use Rattle.mt_base.proofs.FreeAreas.{part_is_free, low_is_room, high_is_room}
 use Rattle.mt_base.proofs.ReadingAfterStore.{entry_inside}

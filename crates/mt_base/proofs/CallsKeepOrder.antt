@@ -1,17 +1,5 @@
 -- Every call keeps a map a map.
-use Rattle.std.proofs.Common.{◌≡◌, ℕ, ◌+◌, ◌-◌, ◌≤◌, Bool, true, List, [], ◌∷◌, Option, Some, None, arith, nat_lt, false, not, ◌==◌, ◌||◌, refl}
-use Rattle.std.proofs.lemmas.Bool.{cond_both, ltb-false, eqb-false, or_parts}
-use Rattle.std.specs.List.{AllByRecursion}
-use Rattle.mt_base.specs.declared.kinds.Kind.{Kind}
-use Rattle.mt_base.specs.Width.{greatest_of}
-use Rattle.mt_base.specs.declared.ranges.Range.{Range}
-use Rattle.mt_base.specs.declared.calls.Call.{Call}
-use Rattle.mt_base.specs.declared.calls.Call.TheVariants.{Store, StorePre, Insert, Erase, Alloc, Ralloc, Gap, Rgap, Clear}
-use Rattle.mt_base.specs.declared.replies.Reply.{Reply}
-use Rattle.mt_base.specs.Call.{acted, erased, placed, is_invalid, finds_room, is_no_area, is_bad_area}
-use Rattle.mt_base.specs.Entry.{reserved}
-use Rattle.mt_base.specs.Holes.{IsRoom, low, high}
-use Rattle.mt_base.specs.Map.{IsMapFrom, IsMap, holds, holding, is_held, without, over}
+use Rattle.mt_base.proofs.Prelude.{◌≡◌, ℕ, ◌+◌, ◌-◌, ◌≤◌, Bool, true, List, [], ◌∷◌, Option, Some, None, arith, nat_lt, false, not, ◌==◌, ◌||◌, refl, cond_both, ltb-false, eqb-false, or_parts, AllByRecursion, Kind, greatest_of, Range, Call, Store, StorePre, Insert, Erase, Alloc, Ralloc, Gap, Rgap, Clear, Reply, acted, erased, placed, is_invalid, finds_room, is_no_area, is_bad_area, reserved, IsRoom, low, high, IsMapFrom, IsMap, holds, holding, is_held, without, over}
 use Rattle.mt_base.proofs.FreeAreas.{low_is_room, high_is_room}
 use Rattle.mt_base.proofs.StoredOrder.{IsMapFrom-lower, over_is_map}
 

@@ -1,12 +1,5 @@
 -- The range that a store meets first: a find answers it, and there is one exactly where some range is met.
-use Rattle.std.proofs.Common.{◌≡◌, ℕ, ◌≤◌, Bool, true, false, List, [], ◌∷◌, filter, ◌&&◌, nat_le, refl, inl, inr}
-use Rattle.std.specs.List.{list_any}
-use Rattle.std.specs.Option.{is_some}
-use Rattle.std.proofs.lemmas.Bool.{cases_Bool, le-ltb}
-use Rattle.mt_base.specs.declared.ranges.Range.{Range}
-use Rattle.mt_base.specs.declared.calls.Query.TheVariants.{Find}
-use Rattle.mt_base.specs.Call.{answer}
-use Rattle.mt_base.specs.Map.{first_met, first_range, is_held, overlaps}
+use Rattle.mt_base.proofs.Prelude.{◌≡◌, ℕ, ◌≤◌, Bool, true, false, List, [], ◌∷◌, filter, ◌&&◌, nat_le, refl, inl, inr, list_any, is_some, cases_Bool, le-ltb, Range, Find, answer, first_met, first_range, is_held, overlaps}
 
 pub met_is_found : (m : List Range) (first last : ℕ) → first ≤ last → first_met m first last ≡ answer m (Find first last)
 met_is_found m first last order = rw (le-ltb last first order) refl

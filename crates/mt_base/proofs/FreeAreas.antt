@@ -1,13 +1,5 @@
 -- A search finds room in the window where no range is, and finds the lowest or the highest.
-use Rattle.std.proofs.Common.{◌≡◌, ℕ, ◌+◌, ◌-◌, ◌<◌, ◌≤◌, false, List, [], ◌∷◌, ◌++◌, Option, Some, None, min, max, length, arith, nat_lt, nat_le, refl, inl, inr, subst, zero, suc}
-use Rattle.std.specs.List.{AllByRecursion, slice_get}
-use Rattle.std.specs.Option.{option_map}
-use Rattle.std.proofs.lemmas.Bool.{cond_both, cases_Bool, or_parts, and_left, and_right, ltb-true, leb-true, leb-false, lt-leb, le-leb}
-use Rattle.mt_base.specs.declared.kinds.Kind.{Kind}
-use Rattle.mt_base.specs.declared.ranges.Range.{Range}
-use Rattle.mt_base.specs.Width.{greatest_of}
-use Rattle.mt_base.specs.Map.{IsMapFrom, IsMap, overlaps, is_held}
-use Rattle.mt_base.specs.Holes.{Hole, holes_from, clip, fits, kept, lowest_in, highest_in, low, high, IsRoom, holes_to}
+use Rattle.mt_base.proofs.Prelude.{◌≡◌, ℕ, ◌+◌, ◌-◌, ◌<◌, ◌≤◌, false, List, [], ◌∷◌, ◌++◌, Option, Some, None, min, max, length, arith, nat_lt, nat_le, refl, inl, inr, subst, zero, suc, AllByRecursion, slice_get, option_map, cond_both, cases_Bool, or_parts, and_left, and_right, ltb-true, leb-true, leb-false, lt-leb, le-leb, Kind, Range, greatest_of, IsMapFrom, IsMap, overlaps, is_held, Hole, holes_from, clip, fits, kept, lowest_in, highest_in, low, high, IsRoom, holes_to}
 use Rattle.mt_base.proofs.Lists.{all_map}
 
 abbrev pub holes : Kind → List Range → List Hole

@@ -1,13 +1,5 @@
 -- A pass goes on: what it had seen before a call or a read, and what it came to know, is part of it.
-use Rattle.std.proofs.Common.{◌≡◌, ◌≢◌, ℕ, ◌+◌, ◌≤◌, List, [], ◌++◌, Option, length, arith, refl, sym, ap, ◌∙◌, subst, append_assoc, length-append}
-use Rattle.std.specs.Prelude.{IfSome}
-use Rattle.std.proofs.lemmas.List.{append-nil}
-use Rattle.mt_base.specs.declared.ranges.Range.{Range}
-use Rattle.mt_base.specs.declared.calls.Call.{Call}
-use Rattle.mt_base.specs.declared.calls.Query.{Query}
-use Rattle.mt_base.specs.declared.replies.Reply.{Reply}
-use Rattle.mt_base.specs.History.{Record, History}
-use Rattle.mt_base.specs.Passes.{Pass, Begins, Grows, Learned, Read, Saw, Wrote, holder_of}
+use Rattle.mt_base.proofs.Prelude.{◌≡◌, ◌≢◌, ℕ, ◌+◌, ◌≤◌, List, [], ◌++◌, Option, length, arith, refl, sym, ap, ◌∙◌, subst, append_assoc, length-append, IfSome, append-nil, Range, Call, Query, Reply, Record, History, Pass, Begins, Grows, Learned, Read, Saw, Wrote, holder_of}
 
 pub begins_none : {X : Type 0} (xs : List X) → Begins xs xs
 begins_none xs = ([], sym (append-nil xs))

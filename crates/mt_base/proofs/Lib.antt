@@ -13,3 +13,4 @@ pub mod SharedCalls
 pub mod Shortages
 pub mod StoredOrder
 pub mod WidthBounds
+mod Prelude

@@ -1,7 +1,5 @@
 -- What holds of each item of lists that are joined, and what stands around one item. For the proofs of the crates above.
-use Rattle.std.proofs.Common.{◌≡◌, ℕ, zero, suc, ◌≤◌, List, [], ◌∷◌, ◌++◌, Some, length, inl, inr, refl, ap, arith}
-use Rattle.std.specs.Prelude.{◌⊎◌}
-use Rattle.std.specs.List.{AllByRecursion, slice_get}
+use Rattle.mt_base.proofs.Prelude.{◌≡◌, ℕ, zero, suc, ◌≤◌, List, [], ◌∷◌, ◌++◌, Some, length, inl, inr, refl, ap, arith, ◌⊎◌, AllByRecursion, slice_get}
 
 pub none_or_some : (n : ℕ) → (n ≡ 0) ⊎ (1 ≤ n)
 none_or_some zero = inl refl

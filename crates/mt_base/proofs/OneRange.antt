@@ -1,10 +1,5 @@
 -- At most one range of a map holds an index.
-use Rattle.std.proofs.Common.{◌≡◌, ℕ, ◌+◌, ◌≤◌, suc, zero, true, List, [], ◌∷◌, Some, arith, nat_le, refl, ap}
-use Rattle.std.specs.List.{slice_get}
-use Rattle.std.proofs.lemmas.Bool.{and_parts, leb-true}
-use Rattle.mt_base.specs.declared.kinds.Kind.{Kind}
-use Rattle.mt_base.specs.declared.ranges.Range.{Range}
-use Rattle.mt_base.specs.Map.{IsMapFrom, IsMap, holds}
+use Rattle.mt_base.proofs.Prelude.{◌≡◌, ℕ, ◌+◌, ◌≤◌, suc, zero, true, List, [], ◌∷◌, Some, arith, nat_le, refl, ap, slice_get, and_parts, leb-true, Kind, Range, IsMapFrom, IsMap, holds}
 
 held_from : (r : Range) (index : ℕ) → holds index r ≡ true → r.first ≤ index
 held_from r index held = leb-true r.first index (and_parts (nat_le r.first index) (nat_le index r.last) held).0

@@ -1,17 +1,6 @@
 -- A call that is acted makes the map what it says, is not refused for want of rows, and tells nobody to hold rows.
-use Rattle.std.proofs.Common.{◌≡◌, ℕ, ◌==◌, ◌||◌, List, Option, Some, None, refl, sym, ap, ◌∙◌, subst}
-use Rattle.std.proofs.lemmas.Bool.{cond_both}
-use Rattle.mt_base.specs.declared.ranges.Range.{Range}
-use Rattle.mt_base.specs.declared.kinds.Kind.{Kind}
-use Rattle.mt_base.specs.declared.calls.Call.{Call}
-use Rattle.mt_base.specs.declared.calls.Call.TheVariants.{Store, StorePre, Insert, Erase, Alloc, Ralloc, Gap, Rgap, Clear}
-use Rattle.mt_base.specs.declared.replies.Reply.{Reply}
+use Rattle.mt_base.proofs.Prelude.{◌≡◌, ℕ, ◌==◌, ◌||◌, List, Option, Some, None, refl, sym, ap, ◌∙◌, subst, cond_both, Range, Kind, Call, Store, StorePre, Insert, Erase, Alloc, Ralloc, Gap, Rgap, Clear, Reply, acted, erased, found, is_bad_area, is_invalid, is_no_area, placed, replied, high, low, Record, map_after, map_by_reply, first_met, holding, is_held, holder_of}
 use Rattle.mt_base.specs.declared.replies.Reply.TheVariants as reply
-use Rattle.mt_base.specs.Call.{acted, erased, found, is_bad_area, is_invalid, is_no_area, placed, replied}
-use Rattle.mt_base.specs.Holes.{high, low}
-use Rattle.mt_base.specs.History.{Record, map_after, map_by_reply}
-use Rattle.mt_base.specs.Map.{first_met, holding, is_held}
-use Rattle.mt_base.specs.Passes.{holder_of}
 
 -- the reply tells no shortage
 abbrev IsPlain : Reply → Type 0

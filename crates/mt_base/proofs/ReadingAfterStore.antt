@@ -1,9 +1,5 @@
 -- What a list of ranges holds at an index after a store: from `first` to `last` the entry stored, elsewhere what it held before.
-use Rattle.std.proofs.Common.{◌≡◌, ℕ, ◌+◌, ◌-◌, ◌<◌, ◌≤◌, false, List, [], ◌∷◌, ◌++◌, Option, Some, None, min, max, map, arith, nat_lt, nat_le, ◌==◌, cond, refl, ap, ◌∙◌, inl, inr}
-use Rattle.std.specs.Option.{option_map}
-use Rattle.std.proofs.lemmas.Bool.{cond_both, cases_Bool, and_left, and_right, ltb-true, ltb-false, leb-true, leb-false, le-leb, lt-leb}
-use Rattle.mt_base.specs.declared.ranges.Range.{Range}
-use Rattle.mt_base.specs.Map.{holds, holding, over, parts_below, parts_above, part_stored, cut_below, cut_above}
+use Rattle.mt_base.proofs.Prelude.{◌≡◌, ℕ, ◌+◌, ◌-◌, ◌<◌, ◌≤◌, false, List, [], ◌∷◌, ◌++◌, Option, Some, None, min, max, map, arith, nat_lt, nat_le, ◌==◌, cond, refl, ap, ◌∙◌, inl, inr, option_map, cond_both, cases_Bool, and_left, and_right, ltb-true, ltb-false, leb-true, leb-false, le-leb, lt-leb, Range, holds, holding, over, parts_below, parts_above, part_stored, cut_below, cut_above}
 
 abbrev entry_of : Option Range → Option ℕ
 entry_of held = option_map (λ r. r.entry) held

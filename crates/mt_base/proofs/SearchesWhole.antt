@@ -1,13 +1,5 @@
 -- A search finds the lowest and the highest start of all.
-use Rattle.std.proofs.Common.{◌≡◌, ℕ, zero, suc, ◌+◌, ◌-◌, ◌<◌, ◌≤◌, false, List, [], ◌∷◌, ◌++◌, Some, None, min, max, length, arith, nat_lt, nat_le, refl, sym, ap, ◌∙◌, subst, append-nil, inl, inr}
-use Rattle.std.specs.List.{AllByRecursion, slice_get}
-use Rattle.std.specs.Option.{option_map}
-use Rattle.std.proofs.lemmas.Bool.{cond_both, cases_lt, or_parts, leb-true, leb-false, lt-ltb, le-leb}
-use Rattle.mt_base.specs.declared.kinds.Kind.{Kind}
-use Rattle.mt_base.specs.declared.ranges.Range.{Range}
-use Rattle.mt_base.specs.Width.{greatest_of}
-use Rattle.mt_base.specs.Map.{IsMapFrom, IsMap, overlaps, is_held}
-use Rattle.mt_base.specs.Holes.{Hole, hole_between, holes_from, clip, fits, kept, lowest_in, highest_in, low, high, IsRoom}
+use Rattle.mt_base.proofs.Prelude.{◌≡◌, ℕ, zero, suc, ◌+◌, ◌-◌, ◌<◌, ◌≤◌, false, List, [], ◌∷◌, ◌++◌, Some, None, min, max, length, arith, nat_lt, nat_le, refl, sym, ap, ◌∙◌, subst, append-nil, inl, inr, AllByRecursion, slice_get, option_map, cond_both, cases_lt, or_parts, leb-true, leb-false, lt-ltb, le-leb, Kind, Range, greatest_of, IsMapFrom, IsMap, overlaps, is_held, Hole, hole_between, holes_from, clip, fits, kept, lowest_in, highest_in, low, high, IsRoom}
 use Rattle.mt_base.proofs.FreeAreas.{IsFreeHole, holes_are_free}
 
 -- so many indexes from a start lie in the window, below an end, and are free

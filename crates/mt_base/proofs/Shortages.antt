@@ -1,13 +1,5 @@
 -- A shortage stays one where the limits allow more, and has few rows.
-use Rattle.std.proofs.Common.{◌≡◌, ◌+◌, ◌*◌, ◌/◌, ℕ, zero, suc, ◌<◌, ◌≤◌, Bool, true, List, [], ◌∷◌, length, take, fold, Option, Some, None, IfSome, ap, subst, inl, inr, arith}
-use Rattle.std.specs.List.{slice_get}
-use Rattle.mt_base.specs.declared.ranges.Range.{Range}
-use Rattle.mt_base.specs.declared.replies.Shortage.{Shortage}
-use Rattle.mt_base.specs.declared.replies.Holder.{Holder}
-use Rattle.mt_base.specs.Call.{acted}
-use Rattle.mt_base.specs.History.{Record, History, map_after, map_at, limits_after, IsAnswered, AreLegalFrom, IsLegal}
-use Rattle.mt_base.specs.Nodes.{Limits, IsShort}
-use Rattle.mt_base.specs.Width.{most_taken, most_rows}
+use Rattle.mt_base.proofs.Prelude.{◌≡◌, ◌+◌, ◌*◌, ◌/◌, ℕ, zero, suc, ◌<◌, ◌≤◌, Bool, true, List, [], ◌∷◌, length, take, fold, Option, Some, None, IfSome, ap, subst, inl, inr, arith, slice_get, Range, Shortage, Holder, acted, Record, History, map_after, map_at, limits_after, IsAnswered, AreLegalFrom, IsLegal, Limits, IsShort, most_taken, most_rows}
 
 later_epoch : (by : Option Holder) (ended ended' : ℕ) → ended ≤ ended' → IfSome by (λ h. h.epoch ≤ ended) → IfSome by (λ h. h.epoch ≤ ended')
 later_epoch None ended ended' le epoch = tt

@@ -1,11 +1,5 @@
 -- A store keeps a map a map.
-use Rattle.std.proofs.Common.{ℕ, ◌+◌, ◌-◌, ◌<◌, ◌≤◌, List, [], ◌∷◌, ◌++◌, min, max, map, arith, nat_lt, ◌==◌}
-use Rattle.std.proofs.lemmas.Bool.{cond_both, ltb-true, eqb-false}
-use Rattle.std.specs.List.{AllByRecursion}
-use Rattle.mt_base.specs.declared.kinds.Kind.{Kind}
-use Rattle.mt_base.specs.declared.ranges.Range.{Range}
-use Rattle.mt_base.specs.Width.{greatest_of}
-use Rattle.mt_base.specs.Map.{IsMapFrom, IsMap, over, parts_below, parts_above, part_stored, cut_below, cut_above}
+use Rattle.mt_base.proofs.Prelude.{ℕ, ◌+◌, ◌-◌, ◌<◌, ◌≤◌, List, [], ◌∷◌, ◌++◌, min, max, map, arith, nat_lt, ◌==◌, cond_both, ltb-true, eqb-false, AllByRecursion, Kind, Range, greatest_of, IsMapFrom, IsMap, over, parts_below, parts_above, part_stored, cut_below, cut_above}
 
 -- a map from an index is one from any lower index
 pub IsMapFrom-lower : (m : List Range) (low high : ℕ) → low ≤ high → IsMapFrom high m → IsMapFrom low m

@@ -1,8 +1,5 @@
 -- How wide rows are and how large indexes are, as far as proofs rest on it.
-use Rattle.std.proofs.Common.{◌^◌, ◌<◌, ◌≤◌, arith}
-use Rattle.mt_base.specs.declared.widths.Width.{Width}
-use Rattle.mt_base.specs.declared.widths.Width.TheVariants.{Long, Short}
-use Rattle.mt_base.specs.Width.{columns, greatest, deepest}
+use Rattle.mt_base.proofs.Prelude.{◌^◌, ◌<◌, ◌≤◌, arith, Width, Long, Short, columns, greatest, deepest}
 
 -- an index, and one index more, is a number of the machine
 pub greatest_fits : (width : Width) → greatest width < 2 ^ 64

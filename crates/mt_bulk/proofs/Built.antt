@@ -1,35 +1,8 @@
 -- What is built up of items is a tree that stands for them.
-use Rattle.std.proofs.Common.{◌≡◌, ◌≢◌, ℕ, zero, suc, ◌+◌, ◌*◌, ◌<◌, ◌≤◌, ◌==◌, Bool, true, false, List, [], ◌∷◌, ◌++◌, length, map, refl, sym, ap, ◌∙◌, subst, inl, inr, arith, append-nil, append_assoc, length-append, eq-eqb}
-use Rattle.std.specs.Prelude.{if◌then◌else◌}
-use Rattle.std.specs.List.{AllByRecursion, flat_map, range_with_len}
-use Rattle.std.proofs.lemmas.Bool.{cases_Bool, cases_lt, eqb-true, eqb-false}
-use Rattle.std.proofs.lemmas.List.{length-map}
-use Rattle.std.proofs.lemmas.List.FromFn.{length-range_with_len}
-use Rattle.mt_base.specs.declared.kinds.Kind.{Kind}
-use Rattle.mt_base.specs.declared.widths.Width.{Width}
-use Rattle.mt_base.specs.declared.widths.Width.TheVariants.{Long, Short}
-use Rattle.mt_base.specs.Call.{finds_room}
-use Rattle.mt_base.specs.declared.ranges.Range.{Range}
-use Rattle.mt_base.specs.Entry.{reserved}
-use Rattle.mt_base.specs.Width.{columns, first_row, most_rows, greatest, kind_width}
-use Rattle.mt_layout.specs.declared.items.Item.{Item}
-use Rattle.mt_layout.specs.declared.names.RowKind.{RowKind}
+use Rattle.mt_bulk.proofs.Prelude.{◌≡◌, ◌≢◌, ℕ, zero, suc, ◌+◌, ◌*◌, ◌<◌, ◌≤◌, ◌==◌, Bool, true, false, List, [], ◌∷◌, ◌++◌, length, map, refl, sym, ap, ◌∙◌, subst, inl, inr, arith, append-nil, append_assoc, length-append, eq-eqb, if◌then◌else◌, AllByRecursion, flat_map, range_with_len, cases_Bool, cases_lt, eqb-true, eqb-false, length-map, length-range_with_len, Kind, Width, Long, Short, finds_room, Range, reserved, columns, first_row, most_rows, greatest, kind_width, Item, RowKind, Span, end_of, row_words, FitRow, NoGaps, RiseFrom, name_at, parent_at, slots_of, gaps_of, least_items, spans_from, leaf_range, Apart, layout_of, least-below-slots, some_gaps_of, some_least, length-row_words, Table, inner_kind, inner_of, Levels, map_of, row_in-name_at, Tree, IsRow, IsTended, covers_all, kind_at, kind_on, least_of, least_of_root, Built, built_up, heads, parents_in, size_in, words_of, AllButLast, AreCut, EndsAnyhow, EndsWithEntry, cut}
 use Rattle.mt_layout.specs.declared.names.RowKind.TheVariants as kinds
-use Rattle.mt_layout.specs.declared.spans.Span.{Span}
-use Rattle.mt_layout.specs.Columns.{end_of, row_words, FitRow, NoGaps, RiseFrom}
-use Rattle.mt_layout.specs.Rows.{name_at, parent_at}
-use Rattle.mt_layout.specs.Sizes.{slots_of, gaps_of, least_items}
-use Rattle.mt_layout.specs.Spans.{spans_from, leaf_range, Apart}
-use Rattle.mt_layout.proofs.RowSizes.{layout_of, least-below-slots, some_gaps_of, some_least}
-use Rattle.mt_layout.proofs.RowWords.{length-row_words}
-use Rattle.mt_rows.specs.Spans.{Table, inner_kind, inner_of}
-use Rattle.mt_rows.specs.Levels.{Levels, map_of}
 use Rattle.mt_layout.specs.Rows as names
-use Rattle.mt_layout.proofs.NameLaws.{row_in-name_at}
 use Rattle.mt_rows.specs.Spans as spans
-use Rattle.mt_rows.specs.Laws.{Tree, IsRow, IsTended, covers_all, kind_at, kind_on, least_of, least_of_root}
-use Rattle.mt_bulk.specs.Bulk.{Built, built_up, heads, parents_in, size_in, words_of}
-use Rattle.mt_bulk.specs.Cuts.{AllButLast, AreCut, EndsAnyhow, EndsWithEntry, cut}
 use Rattle.mt_bulk.proofs.Facts.{AreFit, AreWritten, CanBeNamed, IsOfHeight}
 use Rattle.mt_bulk.proofs.Lawful.{made_row}
 use Rattle.mt_bulk.proofs.Placed.{are_written}

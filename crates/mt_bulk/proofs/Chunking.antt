@@ -1,14 +1,5 @@
 -- Chunks that follow each other are one chunk: their words, and their items on the level above, stand one behind another.
-use Rattle.std.proofs.Common.{◌≡◌, ℕ, zero, suc, ◌+◌, ◌-◌, ◌<◌, ◌≤◌, List, [], ◌∷◌, ◌++◌, length, take, drop, refl, sym, ap, ◌∙◌, subst, arith, length-take, length-drop}
-use Rattle.std.specs.Prelude.{slice_index}
-use Rattle.std.proofs.lemmas.List.{drop-drop, take-append-drop}
-use Rattle.mt_base.specs.declared.kinds.Kind.{Kind}
-use Rattle.mt_base.specs.Call.{finds_room}
-use Rattle.mt_base.specs.Width.{kind_width}
-use Rattle.mt_layout.specs.declared.items.Item.{Item}
-use Rattle.mt_layout.specs.declared.names.RowKind.{RowKind}
-use Rattle.mt_bulk.specs.Bulk.{heads, words_of}
-use Rattle.mt_bulk.specs.Chunks.{AreRows, CanFill, ChunkView, begins_at, heads_in, chunk_part, place_at, rows_between, chunk_words}
+use Rattle.mt_bulk.proofs.Prelude.{◌≡◌, ℕ, zero, suc, ◌+◌, ◌-◌, ◌<◌, ◌≤◌, List, [], ◌∷◌, ◌++◌, length, take, drop, refl, sym, ap, ◌∙◌, subst, arith, length-take, length-drop, slice_index, drop-drop, take-append-drop, Kind, finds_room, kind_width, Item, RowKind, heads, words_of, AreRows, CanFill, ChunkView, begins_at, heads_in, chunk_part, place_at, rows_between, chunk_words}
 use Rattle.mt_bulk.proofs.Joining.{behind_rows, heads_in_chunks, words_in_chunks}
 use Rattle.mt_bulk.proofs.Filling.{row_ends, take_both}
 

@@ -1,24 +1,5 @@
 -- How many rows a level of so many rows has above it, and how many words what is built has.
-use Rattle.std.proofs.Common.{◌≡◌, ℕ, zero, suc, ◌+◌, ◌-◌, ◌*◌, ◌<◌, ◌≤◌, ◌==◌, Bool, true, false, List, [], ◌∷◌, length, drop, nat_lt, ne_eqb, refl, sym, ap, ◌∙◌, inl, inr, arith, length-append, length-drop}
-use Rattle.std.specs.Int.{div_ceil}
-use Rattle.std.specs.List.{AllByRecursion, flat_map}
-use Rattle.std.proofs.lemmas.Bool.{cases_Bool, cond_both, ltb-true, ltb-false, eqb-true, eqb-false}
-use Rattle.mt_base.specs.declared.kinds.Kind.{Kind}
-use Rattle.mt_base.specs.declared.widths.Width.{Width}
-use Rattle.mt_base.specs.declared.widths.Width.TheVariants.{Long, Short}
-use Rattle.mt_base.specs.Call.{finds_room}
-use Rattle.mt_base.specs.Width.{columns, kind_width}
-use Rattle.mt_layout.specs.declared.items.Item.{Item}
-use Rattle.mt_layout.specs.declared.names.RowKind.{RowKind}
-use Rattle.mt_layout.specs.Columns.{row_words}
-use Rattle.mt_layout.specs.Sizes.{slots_of, gaps_of}
-use Rattle.mt_layout.specs.Spans.{spans_from, Apart}
-use Rattle.mt_layout.proofs.RowSizes.{layout_of, some_least, least-below-slots}
-use Rattle.mt_layout.proofs.RowWords.{length-row_words}
-use Rattle.mt_rows.specs.Laws.{kind_at}
-use Rattle.mt_rows.specs.Spans.{inner_of}
-use Rattle.mt_bulk.specs.Bulk.{Built, built_up, inner_slots, rows_up, size_in, words_of}
-use Rattle.mt_bulk.specs.Cuts.{cut, inner_count, inner_size}
+use Rattle.mt_bulk.proofs.Prelude.{◌≡◌, ℕ, zero, suc, ◌+◌, ◌-◌, ◌*◌, ◌<◌, ◌≤◌, ◌==◌, Bool, true, false, List, [], ◌∷◌, length, drop, nat_lt, ne_eqb, refl, sym, ap, ◌∙◌, inl, inr, arith, length-append, length-drop, div_ceil, AllByRecursion, flat_map, cases_Bool, cond_both, ltb-true, ltb-false, eqb-true, eqb-false, Kind, Width, Long, Short, finds_room, columns, kind_width, Item, RowKind, row_words, slots_of, gaps_of, spans_from, Apart, layout_of, some_least, least-below-slots, length-row_words, kind_at, inner_of, Built, built_up, inner_slots, rows_up, size_in, words_of, cut, inner_count, inner_size}
 use Rattle.mt_bulk.proofs.Built.{above_of, built_more, both_words, built_top, length_parents, level_cut, more_words, no_words, parents_of, rows_of, upper, Most}
 use Rattle.mt_bulk.proofs.Ends.{inner_within, next_inner_row, none_behind_cut}
 use Rattle.mt_bulk.proofs.Rows.{length_heads}

@@ -1,12 +1,5 @@
 -- Rows are cut one after another: what is behind a place is cut as if nothing stood in front.
-use Rattle.std.proofs.Common.{◌≡◌, ℕ, zero, suc, ◌+◌, ◌-◌, ◌<◌, ◌≤◌, List, [], ◌∷◌, ◌++◌, length, map, replicate, take, drop, refl, sym, ap, ◌∙◌, arith, length-take, length-drop}
-use Rattle.std.specs.List.{range_with_len}
-use Rattle.std.proofs.lemmas.List.{drop-drop, length-replicate}
-use Rattle.mt_layout.specs.Rows.{parent_at}
-use Rattle.mt_layout.specs.declared.items.Item.{Item}
-use Rattle.mt_layout.specs.Spans.{spans_from, Apart}
-use Rattle.mt_bulk.specs.Bulk.{parents_in}
-use Rattle.mt_bulk.specs.Cuts.{cut_by, cut, ends_from, inner_count, inner_size, leaf_size}
+use Rattle.mt_bulk.proofs.Prelude.{◌≡◌, ℕ, zero, suc, ◌+◌, ◌-◌, ◌<◌, ◌≤◌, List, [], ◌∷◌, ◌++◌, length, map, replicate, take, drop, refl, sym, ap, ◌∙◌, arith, length-take, length-drop, range_with_len, drop-drop, length-replicate, parent_at, Item, spans_from, Apart, parents_in, cut_by, cut, ends_from, inner_count, inner_size, leaf_size}
 use Rattle.mt_bulk.proofs.Sizes.{apart_back, inner_sizes, leaf_sizes}
 
 -- a size of some of the items, and of no more than there are

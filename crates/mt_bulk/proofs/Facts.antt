@@ -1,24 +1,5 @@
 -- What proofs say of rows whose words are written in a table, and of the tree that is built.
-use Rattle.std.proofs.Common.{◌≡◌, ◌≢◌, ℕ, zero, suc, ◌+◌, ◌*◌, ◌<◌, ◌≤◌, false, List, [], ◌∷◌, ◌++◌, replicate}
-use Rattle.std.specs.Prelude.{slice_index}
-use Rattle.std.specs.List.{AllByRecursion, flat_map}
-use Rattle.mt_base.specs.declared.kinds.Kind.{Kind}
-use Rattle.mt_base.specs.Call.{finds_room}
-use Rattle.mt_base.specs.Width.{columns, first_row, kind_width, most_rows}
-use Rattle.mt_layout.specs.declared.items.Item.{Item}
-use Rattle.mt_layout.specs.declared.names.RowKind.{RowKind}
-use Rattle.mt_layout.specs.declared.spans.Span.{Span}
-use Rattle.mt_layout.specs.Columns.{end_of, row_words, FitRow}
-use Rattle.mt_layout.specs.Sizes.{slots_of, gaps_of}
-use Rattle.mt_layout.specs.Spans.{spans_from, leaf_range, Apart, EndsFull}
-use Rattle.mt_base.specs.Entry.{reserved}
-use Rattle.mt_base.specs.declared.ranges.Range.{Range}
-use Rattle.mt_layout.specs.Rows.{row_in}
-use Rattle.mt_rows.specs.Levels.{Levels, map_of}
-use Rattle.mt_rows.specs.Replacement.{root_of}
-use Rattle.mt_rows.specs.Laws.{Tree, IsRow, IsTended, top_of}
-use Rattle.mt_rows.specs.Spans.{Table, column}
-use Rattle.mt_bulk.specs.Bulk.{Built}
+use Rattle.mt_bulk.proofs.Prelude.{◌≡◌, ◌≢◌, ℕ, zero, suc, ◌+◌, ◌*◌, ◌<◌, ◌≤◌, false, List, [], ◌∷◌, ◌++◌, replicate, slice_index, AllByRecursion, flat_map, Kind, finds_room, columns, first_row, kind_width, most_rows, Item, RowKind, Span, end_of, row_words, FitRow, slots_of, gaps_of, spans_from, leaf_range, Apart, EndsFull, reserved, Range, row_in, Levels, map_of, root_of, Tree, IsRow, IsTended, top_of, Table, column, Built}
 
 -- the words of a row of this number are those of these items, with some parent word
 abbrev pub IsWritten : Table → RowKind → ℕ → ℕ → List Item → Type 0

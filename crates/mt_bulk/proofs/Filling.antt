@@ -1,18 +1,5 @@
 -- Rows of a chunk, one after another: what each begins with, and what is behind it.
-use Rattle.std.proofs.Common.{◌≡◌, ℕ, zero, suc, ◌+◌, ◌-◌, ◌<◌, ◌≤◌, Bool, List, [], ◌∷◌, ◌++◌, length, map, max, take, drop, refl, sym, ap, ◌∙◌, subst, arith, length-take, length-drop, append_assoc, zero-add}
-use Rattle.std.specs.Prelude.{slice_index, slice_index_or}
-use Rattle.std.proofs.lemmas.List.{drop_all, drop_more, take-append-drop}
-use Rattle.mt_base.specs.declared.kinds.Kind.{Kind}
-use Rattle.mt_base.specs.Width.{columns}
-use Rattle.mt_base.specs.declared.widths.Width.{Width}
-use Rattle.mt_layout.specs.declared.items.Item.{Item}
-use Rattle.mt_layout.specs.declared.names.RowKind.{RowKind}
-use Rattle.mt_layout.specs.Columns.{end_of, row_words, RiseFrom}
-use Rattle.mt_layout.specs.Rows.{name_at}
-use Rattle.mt_layout.specs.Sizes.{slots_of, gaps_of}
-use Rattle.mt_layout.proofs.SpanLists.{after, after-append, after_some}
-use Rattle.mt_bulk.specs.Bulk.{gap_below, greatest_gap, heads, words_of}
-use Rattle.mt_bulk.specs.Chunks.{CanFill, begins_at, rows_between}
+use Rattle.mt_bulk.proofs.Prelude.{◌≡◌, ℕ, zero, suc, ◌+◌, ◌-◌, ◌<◌, ◌≤◌, Bool, List, [], ◌∷◌, ◌++◌, length, map, max, take, drop, refl, sym, ap, ◌∙◌, subst, arith, length-take, length-drop, append_assoc, zero-add, slice_index, slice_index_or, drop_all, drop_more, take-append-drop, Kind, columns, Width, Item, RowKind, end_of, row_words, RiseFrom, name_at, slots_of, gaps_of, after, after-append, after_some, gap_below, greatest_gap, heads, words_of, CanFill, begins_at, rows_between}
 use Rattle.mt_bulk.proofs.Rows.{rise_front}
 
 -- ---- where rows begin

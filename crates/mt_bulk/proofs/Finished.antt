@@ -1,22 +1,5 @@
 -- A bulk build is finished: what is made of the words of `bulk` is built, and refusals.
-use Rattle.std.proofs.Common.{◌≡◌, ℕ, ◌+◌, ◌*◌, ◌/◌, ◌%◌, ◌≤◌, List, [], ◌∷◌, Option, Some, None, length, nat_lt, refl, sym, ap, ◌∙◌, subst, inl, inr, arith}
-use Rattle.std.proofs.lemmas.Bool.{cases_Bool, ltb-true}
-use Rattle.mt_base.specs.declared.kinds.Kind.{Kind}
-use Rattle.mt_base.specs.declared.ranges.Range.{Range}
-use Rattle.mt_base.specs.declared.widths.Width.{Width}
-use Rattle.mt_base.specs.declared.widths.Width.TheVariants.{Long, Short}
-use Rattle.mt_base.specs.Call.{finds_room}
-use Rattle.mt_base.specs.Width.{columns, first_row, greatest_of, kind_width, most_rows}
-use Rattle.mt_layout.specs.Spans.{spans_from, Apart}
-use Rattle.mt_rows.specs.OfWords.{IsMadeOf, tree_made}
-use Rattle.mt_rows.specs.Plain.{new_sheet}
-use Rattle.mt_rows.specs.Publish.{IsLawfulOf, map_by}
-use Rattle.mt_rows.specs.Sheet.{Rooted, Sheet}
-use Rattle.mt_bulk.specs.declared.errors.BulkError.{BulkError}
-use Rattle.mt_bulk.specs.declared.leaves.Leaves.{Leaves}
-use Rattle.mt_bulk.specs.Builds.{HasLeafFacts, IsBuilt, refusal, refused_by, too_many}
-use Rattle.mt_bulk.specs.Bulk.{bulk, rows_in, rows_up}
-use Rattle.mt_bulk.specs.Items.{items_of, misplaced}
+use Rattle.mt_bulk.proofs.Prelude.{◌≡◌, ℕ, ◌+◌, ◌*◌, ◌/◌, ◌%◌, ◌≤◌, List, [], ◌∷◌, Option, Some, None, length, nat_lt, refl, sym, ap, ◌∙◌, subst, inl, inr, arith, cases_Bool, ltb-true, Kind, Range, Width, Long, Short, finds_room, columns, first_row, greatest_of, kind_width, most_rows, spans_from, Apart, IsMadeOf, tree_made, new_sheet, IsLawfulOf, map_by, Rooted, Sheet, BulkError, Leaves, HasLeafFacts, IsBuilt, refusal, refused_by, too_many, bulk, rows_in, rows_up, items_of, misplaced}
 use Rattle.mt_bulk.proofs.Built.{rows_of}
 use Rattle.mt_bulk.proofs.Counts.{length_built}
 use Rattle.mt_bulk.proofs.ItemLaws.{map_items_apart}

@@ -1,15 +1,5 @@
 -- The items of a map fill its indexes, no two holes follow each other, and their ranges are those of the map.
-use Rattle.std.proofs.Common.{◌≡◌, ◌≢◌, ℕ, ◌+◌, ◌-◌, ◌<◌, ◌≤◌, ◌==◌, false, List, [], ◌∷◌, ◌++◌, refl, ap, ◌∙◌, arith, nat_lt, ne_eqb}
-use Rattle.std.specs.List.{AllByRecursion, flat_map}
-use Rattle.std.proofs.lemmas.Bool.{cond_both, ltb-true, ltb-false}
-use Rattle.mt_base.specs.declared.kinds.Kind.{Kind}
-use Rattle.mt_base.specs.declared.ranges.Range.{Range}
-use Rattle.mt_base.specs.Map.{IsMap, IsMapFrom}
-use Rattle.mt_base.specs.Width.{greatest_of}
-use Rattle.mt_base.proofs.Lists.{all_map}
-use Rattle.mt_layout.specs.declared.items.Item.{Item}
-use Rattle.mt_layout.specs.Spans.{spans_from, leaf_range, Fills, Apart}
-use Rattle.mt_bulk.specs.Items.{hole_to, items_between, items_of}
+use Rattle.mt_bulk.proofs.Prelude.{◌≡◌, ◌≢◌, ℕ, ◌+◌, ◌-◌, ◌<◌, ◌≤◌, ◌==◌, false, List, [], ◌∷◌, ◌++◌, refl, ap, ◌∙◌, arith, nat_lt, ne_eqb, AllByRecursion, flat_map, cond_both, ltb-true, ltb-false, Kind, Range, IsMap, IsMapFrom, greatest_of, all_map, Item, spans_from, leaf_range, Fills, Apart, hole_to, items_between, items_of}
 
 abbrev IsBelow : ℕ → Range → Type 0
 IsBelow hi r = r.last < hi

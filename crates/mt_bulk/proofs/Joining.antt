@@ -1,13 +1,5 @@
 -- Rows that are written in chunks are written as one list.
-use Rattle.std.proofs.Common.{◌≡◌, ℕ, zero, suc, ◌+◌, Bool, List, [], ◌∷◌, ◌++◌, length, refl, sym, ap, ◌∙◌, arith, append_assoc}
-use Rattle.mt_base.specs.declared.widths.Width.{Width}
-use Rattle.mt_base.specs.Width.{columns}
-use Rattle.mt_layout.specs.declared.items.Item.{Item}
-use Rattle.mt_layout.specs.declared.names.RowKind.{RowKind}
-use Rattle.mt_layout.specs.Columns.{end_of, row_words}
-use Rattle.mt_layout.specs.Sizes.{slots_of, gaps_of}
-use Rattle.mt_layout.specs.Rows.{name_at}
-use Rattle.mt_bulk.specs.Bulk.{gap_below, heads, words_of}
+use Rattle.mt_bulk.proofs.Prelude.{◌≡◌, ℕ, zero, suc, ◌+◌, Bool, List, [], ◌∷◌, ◌++◌, length, refl, sym, ap, ◌∙◌, arith, append_assoc, Width, columns, Item, RowKind, end_of, row_words, slots_of, gaps_of, name_at, gap_below, heads, words_of}
 
 -- the first index behind rows, the first of which begins at `first`
 abbrev pub behind_rows : ℕ → List (List Item) → ℕ

@@ -1,21 +1,5 @@
 -- A row whose words are written keeps the laws of a row, but for those of parents and gaps.
-use Rattle.std.proofs.Common.{◌≡◌, ◌≢◌, ℕ, zero, suc, ◌+◌, ◌<◌, ◌≤◌, false, List, [], length, refl, sym, ap, ◌∙◌, subst}
-use Rattle.std.specs.Prelude.{slice_index}
-use Rattle.std.specs.List.{AllByRecursion, flat_map}
-use Rattle.mt_base.specs.Entry.{reserved}
-use Rattle.mt_base.specs.Width.{columns, first_row}
-use Rattle.mt_layout.specs.declared.items.Item.{Item}
-use Rattle.mt_layout.specs.declared.names.RowKind.{RowKind}
-use Rattle.mt_layout.specs.declared.spans.Span.{Span}
-use Rattle.mt_layout.specs.Columns.{end_of, items_at, row_words, FitRow, RiseFrom}
-use Rattle.mt_layout.specs.Rows.{name_at, row_in, IsRowNumber}
-use Rattle.mt_layout.specs.Sizes.{slots_of, gaps_of}
-use Rattle.mt_layout.specs.Spans.{spans_from, leaf_range, Apart, EndsFull, Fills}
-use Rattle.mt_layout.proofs.NameLaws.{row_in-name_at, named_kind-name_at}
-use Rattle.mt_layout.proofs.RowSizes.{some_columns}
-use Rattle.mt_layout.proofs.SpanLists.{length-spans_from, spans_fill}
-use Rattle.mt_rows.specs.Spans.{base_of, column, spans_in}
-use Rattle.mt_rows.specs.Laws.{Tree, IsRow, EntryLaw, HoleLaw, kind_on, items_in, least_of}
+use Rattle.mt_bulk.proofs.Prelude.{◌≡◌, ◌≢◌, ℕ, zero, suc, ◌+◌, ◌<◌, ◌≤◌, false, List, [], length, refl, sym, ap, ◌∙◌, subst, slice_index, AllByRecursion, flat_map, reserved, columns, first_row, Item, RowKind, Span, end_of, items_at, row_words, FitRow, RiseFrom, name_at, row_in, IsRowNumber, slots_of, gaps_of, spans_from, leaf_range, Apart, EndsFull, Fills, row_in-name_at, named_kind-name_at, some_columns, length-spans_from, spans_fill, base_of, column, spans_in, Tree, IsRow, EntryLaw, HoleLaw, kind_on, items_in, least_of}
 use Rattle.mt_bulk.proofs.Facts.{IsOfHeight, IsWritten}
 use Rattle.mt_bulk.proofs.Written.{items_read, spans_read}
 

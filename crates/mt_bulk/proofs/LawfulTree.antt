@@ -1,15 +1,5 @@
 -- What is built of ranges in good order is a lawful tree of them.
-use Rattle.std.proofs.Common.{◌≡◌, ℕ, ◌*◌, ◌≤◌, List, [], ◌∷◌, None, length, refl, ◌∙◌, inl, inr}
-use Rattle.mt_base.specs.declared.kinds.Kind.{Kind}
-use Rattle.mt_base.specs.declared.ranges.Range.{Range}
-use Rattle.mt_base.specs.Width.{columns, deepest, kind_width, most_rows}
-use Rattle.mt_rows.specs.Spans.{root_span}
-use Rattle.mt_rows.specs.Trees.{map_in}
-use Rattle.mt_rows.specs.Laws.{Tree, IsLawful}
-use Rattle.mt_rows.proofs.Depth.{ranges_by_depth}
-use Rattle.mt_rows.proofs.NineLevels.{nine_levels}
-use Rattle.mt_bulk.specs.Bulk.{bulk}
-use Rattle.mt_bulk.specs.Items.{misplaced}
+use Rattle.mt_bulk.proofs.Prelude.{◌≡◌, ℕ, ◌*◌, ◌≤◌, List, [], ◌∷◌, None, length, refl, ◌∙◌, inl, inr, Kind, Range, columns, deepest, kind_width, most_rows, root_span, map_in, Tree, IsLawful, ranges_by_depth, nine_levels, bulk, misplaced}
 use Rattle.mt_bulk.proofs.Facts.{StandsFor, tree_built}
 use Rattle.mt_bulk.proofs.Whole.{bulk_stands}
 

@@ -1,22 +1,5 @@
 -- The lanes of the workers: all leaves are laid on them, one chunk behind another, and what they make is that of all leaves.
-use Rattle.std.proofs.Common.{◌≡◌, ℕ, zero, suc, ◌+◌, ◌-◌, ◌*◌, ◌≤◌, ◌==◌, List, [], ◌∷◌, ◌++◌, length, take, drop, refl, sym, ap, ◌∙◌, subst, inl, inr, arith, add-zero, length-append}
-use Rattle.std.specs.Prelude.{◌<◌, All, slice_index_or, vec_len, vec_capacity}
-use Rattle.std.specs.List.{flat_map}
-use Rattle.std.proofs.lemmas.Bool.{cases_Bool, eqb-true, eqb-false}
-use Rattle.std.proofs.lemmas.List.{take_all}
-use Rattle.std.proofs.lemmas.List.Elements.{All-nil, All-cons}
-use Rattle.mt_base.specs.declared.widths.Width.{Width}
-use Rattle.mt_base.specs.declared.widths.Width.TheVariants.{Long, Short}
-use Rattle.mt_base.specs.Call.{finds_room}
-use Rattle.mt_base.specs.Width.{columns, kind_width}
-use Rattle.mt_layout.specs.declared.items.Item.{Item}
-use Rattle.mt_lanes.specs.declared.lanes.Lane.{Lane}
-use Rattle.mt_lanes.specs.Lanes.{CanRun, Chain, EachPlace, RanSteps}
-use Rattle.mt_bulk.specs.declared.desks.LeafDesk.{LeafDesk}
-use Rattle.mt_bulk.specs.Bulk.{Built, heads, words_of}
-use Rattle.mt_bulk.specs.declared.leaves.Leaves.{Leaves}
-use Rattle.mt_bulk.specs.Builds.{AreLaid, HasLeafFacts, AreLanesFrom, FirstHasRoom, IsLeafLane, above_leaves, heads_made, whole_of, words_made, words_room}
-use Rattle.mt_bulk.specs.Chunks.{AreRows, ChunkView, HasFilled, IsFillable, begins_at, heads_in, chunk_part, rows_between, view_of, chunk_words}
+use Rattle.mt_bulk.proofs.Prelude.{◌≡◌, ℕ, zero, suc, ◌+◌, ◌-◌, ◌*◌, ◌≤◌, ◌==◌, List, [], ◌∷◌, ◌++◌, length, take, drop, refl, sym, ap, ◌∙◌, subst, inl, inr, arith, add-zero, length-append, ◌<◌, All, slice_index_or, vec_len, vec_capacity, flat_map, cases_Bool, eqb-true, eqb-false, take_all, All-nil, All-cons, Width, Long, Short, finds_room, columns, kind_width, Item, Lane, CanRun, Chain, EachPlace, RanSteps, LeafDesk, Built, heads, words_of, Leaves, AreLaid, HasLeafFacts, AreLanesFrom, FirstHasRoom, IsLeafLane, above_leaves, heads_made, whole_of, words_made, words_room, AreRows, ChunkView, HasFilled, IsFillable, begins_at, heads_in, chunk_part, rows_between, view_of, chunk_words}
 use Rattle.mt_bulk.proofs.Chunking.{heads_parts, length_part, part_rows, words_parts}
 use Rattle.mt_bulk.proofs.Leveling.{length_heads_in}
 

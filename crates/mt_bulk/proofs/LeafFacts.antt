@@ -1,28 +1,7 @@
 -- What is known of the leaves of ranges in good order, before their rows are filled.
-use Rattle.std.proofs.Common.{◌≡◌, ◌≢◌, ℕ, zero, suc, ◌+◌, ◌*◌, ◌≤◌, ◌==◌, List, [], ◌∷◌, Some, None, length, refl, sym, ap, ◌∙◌, subst, arith, length-append}
-use Rattle.std.specs.List.{AllByRecursion, flat_map}
-use Rattle.mt_base.specs.declared.kinds.Kind.{Kind}
-use Rattle.mt_base.specs.declared.ranges.Range.{Range}
-use Rattle.mt_base.specs.declared.widths.Width.{Width}
-use Rattle.mt_base.specs.declared.widths.Width.TheVariants.{Long, Short}
-use Rattle.mt_base.specs.Call.{finds_room}
-use Rattle.mt_base.specs.Map.{IsMap}
-use Rattle.mt_base.specs.Width.{columns, first_row, greatest_of, kind_width, most_rows}
-use Rattle.mt_layout.specs.declared.items.Item.{Item}
-use Rattle.mt_layout.specs.declared.names.RowKind.TheVariants.{Leaf}
-use Rattle.mt_layout.specs.Sizes.{slots_of}
-use Rattle.mt_layout.proofs.SpanLists.{fills_rise}
-use Rattle.mt_bulk.specs.Builds.{LeafFacts}
-use Rattle.mt_bulk.specs.Bulk.{bulk, parents_over, rows_in, rows_up}
-use Rattle.mt_bulk.specs.Cuts.{cut, ends_from, leaf_size}
-use Rattle.mt_bulk.specs.Items.{items_of, misplaced}
+use Rattle.mt_bulk.proofs.Prelude.{◌≡◌, ◌≢◌, ℕ, zero, suc, ◌+◌, ◌*◌, ◌≤◌, ◌==◌, List, [], ◌∷◌, Some, None, length, refl, sym, ap, ◌∙◌, subst, arith, length-append, AllByRecursion, flat_map, Kind, Range, Width, Long, Short, finds_room, IsMap, columns, first_row, greatest_of, kind_width, most_rows, Item, Leaf, slots_of, fills_rise, LeafFacts, bulk, parents_over, rows_in, rows_up, cut, ends_from, leaf_size, items_of, misplaced, Bool, Result, Ok, Err, IfErr, IfOk, inl, inr, cases_Bool, eqb-true, eqb-false, BulkError, refusal, refused_by, too_many}
 use Rattle.mt_bulk.proofs.Built.{level_cut, rows_of}
-use Rattle.std.specs.Prelude.{Bool, Result, Ok, Err, IfErr, IfOk}
-use Rattle.std.proofs.Common.{inl, inr}
-use Rattle.std.proofs.lemmas.Bool.{cases_Bool, eqb-true, eqb-false}
-use Rattle.mt_bulk.specs.declared.errors.BulkError.{BulkError}
 use Rattle.mt_bulk.specs.declared.errors.BulkError.TheVariants as errors
-use Rattle.mt_bulk.specs.Builds.{refusal, refused_by, too_many}
 use Rattle.mt_bulk.proofs.Counts.{rows_up_more, rows_up_top}
 use Rattle.mt_bulk.proofs.Finished.{apart_items, refused_order, refused_rows, rows_are, rows_counted}
 use Rattle.mt_bulk.proofs.ItemLaws.{map_items_apart, map_items_fill, map_items_ranges}

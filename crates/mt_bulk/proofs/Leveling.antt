@@ -1,20 +1,5 @@
 -- The levels above the leaves, laid before their items are known.
-use Rattle.std.proofs.Common.{◌≡◌, ◌≢◌, ℕ, suc, ◌+◌, ◌*◌, ◌<◌, ◌≤◌, List, [], ◌∷◌, ◌++◌, length, replicate, refl, ap, ◌∙◌, subst, arith, append_assoc, length-append}
-use Rattle.std.proofs.lemmas.List.{length-replicate}
-use Rattle.std.specs.Prelude.{Result, Ok, Err, OnOk}
-use Rattle.std.specs.Int.{div_ceil}
-use Rattle.mt_base.specs.declared.kinds.Kind.{Kind}
-use Rattle.mt_base.specs.Call.{finds_room}
-use Rattle.mt_base.specs.Width.{kind_width}
-use Rattle.mt_layout.specs.declared.items.Item.{Item}
-use Rattle.mt_layout.specs.declared.names.RowKind.{RowKind}
-use Rattle.mt_rows.specs.Spans.{inner_kind}
-use Rattle.mt_bulk.specs.declared.leaves.Leaves.{Leaves}
-use Rattle.mt_bulk.specs.declared.levels.Level.{Level}
-use Rattle.mt_bulk.specs.Bulk.{Built, inner_slots}
-use Rattle.mt_bulk.specs.Builds.{HasLeafFacts, AreLevels, HavePushed, IsLevelOf, above_leaves, whole_of, words_room}
-use Rattle.mt_bulk.specs.Chunks.{ChunkView, IsLevel, heads_in, rows_between, chunk_words}
-use Rattle.mt_bulk.specs.Cuts.{cut, ends_from, inner_size}
+use Rattle.mt_bulk.proofs.Prelude.{◌≡◌, ◌≢◌, ℕ, suc, ◌+◌, ◌*◌, ◌<◌, ◌≤◌, List, [], ◌∷◌, ◌++◌, length, replicate, refl, ap, ◌∙◌, subst, arith, append_assoc, length-append, length-replicate, Result, Ok, Err, OnOk, div_ceil, Kind, finds_room, kind_width, Item, RowKind, inner_kind, Leaves, Level, Built, inner_slots, HasLeafFacts, AreLevels, HavePushed, IsLevelOf, above_leaves, whole_of, words_room, ChunkView, IsLevel, heads_in, rows_between, chunk_words, cut, ends_from, inner_size}
 use Rattle.mt_bulk.proofs.Counts.{half_at_most, length_cut, some_rows}
 use Rattle.mt_bulk.proofs.Raised.{length_ends}
 use Rattle.mt_bulk.proofs.Raising.{LevelFacts, ends_are, raise_facts}

@@ -22,3 +22,4 @@ pub mod Tended
 pub mod TendedRows
 pub mod Whole
 pub mod Written
+mod Prelude

@@ -1,18 +1,5 @@
 -- The words of rows, one row after another, stand where the rows' columns are.
-use Rattle.std.proofs.Common.{◌≡◌, ℕ, ◌+◌, ◌-◌, ◌*◌, ◌<◌, List, [], ◌∷◌, ◌++◌, length, get_or, refl, sym, ap, ◌∙◌, subst, arith, length-append, append_assoc}
-use Rattle.std.specs.Prelude.{slice_index}
-use Rattle.std.proofs.lemmas.List.{get_or_append_left, get_or-append_right}
-use Rattle.mt_base.specs.declared.widths.Width.{Width}
-use Rattle.mt_base.specs.declared.widths.Width.TheVariants.{Long, Short}
-use Rattle.mt_base.specs.Width.{columns}
-use Rattle.mt_layout.specs.declared.items.Item.{Item}
-use Rattle.mt_layout.specs.declared.names.RowKind.{RowKind}
-use Rattle.mt_layout.specs.Columns.{row_words}
-use Rattle.mt_layout.specs.Sizes.{slots_of, gaps_of}
-use Rattle.mt_layout.proofs.RowSizes.{layout_of}
-use Rattle.mt_layout.proofs.RowWords.{length-row_words}
-use Rattle.mt_rows.specs.Spans.{Table}
-use Rattle.mt_bulk.specs.Bulk.{words_of}
+use Rattle.mt_bulk.proofs.Prelude.{◌≡◌, ℕ, ◌+◌, ◌-◌, ◌*◌, ◌<◌, List, [], ◌∷◌, ◌++◌, length, get_or, refl, sym, ap, ◌∙◌, subst, arith, length-append, append_assoc, slice_index, get_or_append_left, get_or-append_right, Width, Long, Short, columns, Item, RowKind, row_words, slots_of, gaps_of, layout_of, length-row_words, Table, words_of}
 use Rattle.mt_bulk.proofs.Facts.{AreFit, AreWritten}
 
 -- a row more is its words more

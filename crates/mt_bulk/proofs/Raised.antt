@@ -1,26 +1,5 @@
 -- What is built up of the items of a level is the words of the level and of those above it, and the level's rows can be filled.
-use Rattle.std.proofs.Common.{◌≡◌, ◌≢◌, ℕ, zero, suc, ◌+◌, ◌-◌, ◌≤◌, ◌==◌, Bool, true, false, List, [], ◌∷◌, ◌++◌, length, take, drop, nat_lt, refl, sym, ap, ◌∙◌, subst, inl, inr, arith, length-append, length-drop}
-use Rattle.std.specs.Prelude.{Any}
-use Rattle.std.specs.List.{AllByRecursion, flat_map}
-use Rattle.std.proofs.lemmas.Bool.{cases_Bool, ltb-true, ltb-false, eqb-false}
-use Rattle.std.proofs.Math.Seq.{take-append_seam, drop-append_seam}
-use Rattle.std.proofs.lemmas.List.{drop-drop}
-use Rattle.mt_base.specs.declared.kinds.Kind.{Kind}
-use Rattle.mt_base.specs.Call.{finds_room}
-use Rattle.mt_base.specs.Width.{kind_width}
-use Rattle.mt_layout.specs.declared.items.Item.{Item}
-use Rattle.mt_layout.specs.declared.names.RowKind.{RowKind}
-use Rattle.mt_layout.specs.Columns.{FitRow, end_of}
-use Rattle.mt_layout.specs.Rows.{name_at}
-use Rattle.mt_layout.specs.Sizes.{slots_of, gaps_of}
-use Rattle.mt_layout.specs.Spans.{spans_from, leaf_range, Apart}
-use Rattle.mt_layout.proofs.SpanLists.{apart_back, apart_front, length-spans_from, spans_from-append, two_hold_an_entry}
-use Rattle.mt_base.proofs.Lists.{all_back}
-use Rattle.mt_layout.proofs.RowSizes.{some_least, least-below-slots}
-use Rattle.mt_rows.specs.Laws.{kind_at}
-use Rattle.mt_bulk.specs.Bulk.{built_up, heads, levels_built, words_of}
-use Rattle.mt_bulk.specs.Chunks.{CanFill, rows_between}
-use Rattle.mt_bulk.specs.Cuts.{ends_from}
+use Rattle.mt_bulk.proofs.Prelude.{◌≡◌, ◌≢◌, ℕ, zero, suc, ◌+◌, ◌-◌, ◌≤◌, ◌==◌, Bool, true, false, List, [], ◌∷◌, ◌++◌, length, take, drop, nat_lt, refl, sym, ap, ◌∙◌, subst, inl, inr, arith, length-append, length-drop, Any, AllByRecursion, flat_map, cases_Bool, ltb-true, ltb-false, eqb-false, take-append_seam, drop-append_seam, drop-drop, Kind, finds_room, kind_width, Item, RowKind, FitRow, end_of, name_at, slots_of, gaps_of, spans_from, leaf_range, Apart, apart_back, apart_front, length-spans_from, spans_from-append, two_hold_an_entry, all_back, some_least, least-below-slots, kind_at, built_up, heads, levels_built, words_of, CanFill, rows_between, ends_from}
 use Rattle.mt_bulk.proofs.Written.{end_anyhow}
 use Rattle.mt_bulk.proofs.Built.{Least, above_of, built_more, built_top, level_cut, level_words, next_of, rows_of}
 use Rattle.mt_bulk.proofs.Counts.{rows_fewer}

@@ -1,23 +1,5 @@
 -- The rows of a level of inner rows: that they can be filled, what the level above is, and what they are with the rows above them.
-use Rattle.std.proofs.Common.{◌≡◌, ℕ, suc, ◌+◌, ◌*◌, ◌<◌, ◌≤◌, ◌==◌, Bool, true, false, List, [], ◌∷◌, ◌++◌, length, refl, sym, ap, ◌∙◌, subst, inl, inr, arith, length-append, eq-eqb, ne_eqb}
-use Rattle.std.proofs.lemmas.Bool.{cases_Bool, eqb-true, eqb-false}
-use Rattle.std.specs.Prelude.{Any}
-use Rattle.std.specs.List.{AllByRecursion}
-use Rattle.mt_base.specs.declared.kinds.Kind.{Kind}
-use Rattle.mt_base.specs.declared.widths.Width.{Width}
-use Rattle.mt_base.specs.Call.{finds_room}
-use Rattle.mt_base.specs.Width.{columns, first_row, kind_width, most_rows}
-use Rattle.mt_layout.specs.declared.items.Item.{Item}
-use Rattle.mt_layout.specs.declared.names.RowKind.{RowKind}
-use Rattle.mt_layout.specs.Columns.{NoGaps, RiseFrom}
-use Rattle.mt_layout.specs.Rows.{name_at}
-use Rattle.mt_layout.specs.Sizes.{gaps_of}
-use Rattle.mt_layout.specs.Spans.{spans_from, Apart}
-use Rattle.mt_rows.specs.Laws.{kind_at}
-use Rattle.mt_rows.specs.Spans.{inner_kind, inner_of}
-use Rattle.mt_bulk.specs.Bulk.{Built, heads, inner_slots, parents_in, parents_over, levels_built, size_in, words_of}
-use Rattle.mt_bulk.specs.Chunks.{AreRows, CanFill, ChunkView, IsLevel, heads_in, rows_between, chunk_words}
-use Rattle.mt_bulk.specs.Cuts.{AreCut, cut, ends_from, inner_size}
+use Rattle.mt_bulk.proofs.Prelude.{◌≡◌, ℕ, suc, ◌+◌, ◌*◌, ◌<◌, ◌≤◌, ◌==◌, Bool, true, false, List, [], ◌∷◌, ◌++◌, length, refl, sym, ap, ◌∙◌, subst, inl, inr, arith, length-append, eq-eqb, ne_eqb, cases_Bool, eqb-true, eqb-false, Any, AllByRecursion, Kind, Width, finds_room, columns, first_row, kind_width, most_rows, Item, RowKind, NoGaps, RiseFrom, name_at, gaps_of, spans_from, Apart, kind_at, inner_kind, inner_of, Built, heads, inner_slots, parents_in, parents_over, levels_built, size_in, words_of, AreRows, CanFill, ChunkView, IsLevel, heads_in, rows_between, chunk_words, AreCut, cut, ends_from, inner_size}
 use Rattle.mt_bulk.proofs.Built.{EndsOf, Least, Most, above_of, both_words, length_parents, level_cut, no_gap_heads, rows_of, rows_within}
 use Rattle.mt_bulk.proofs.Counts.{length_words_few, rows_fewer}
 use Rattle.mt_bulk.proofs.Raised.{IsEntry, can_fill, heads_are_named, length_ends, raised_more, raised_top, rows_back, rows_hold}

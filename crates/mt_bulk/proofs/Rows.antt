@@ -1,21 +1,5 @@
 -- The rows of a level, as they are cut and written, keep the laws of rows.
-use Rattle.std.proofs.Common.{◌≡◌, ◌≢◌, ℕ, zero, suc, ◌+◌, ◌<◌, ◌≤◌, Bool, false, List, [], ◌∷◌, ◌++◌, length, map, replicate, refl, sym, ap, ◌∙◌, subst, arith, append-nil, length-append}
-use Rattle.std.specs.List.{AllByRecursion, flat_map}
-use Rattle.std.proofs.lemmas.Bool.{cond_both}
-use Rattle.mt_base.specs.Entry.{reserved}
-use Rattle.mt_base.specs.Width.{first_row, most_rows}
-use Rattle.mt_base.proofs.Lists.{all_front, all_back}
-use Rattle.mt_layout.specs.declared.items.Item.{Item}
-use Rattle.mt_layout.specs.declared.names.RowKind.{RowKind}
-use Rattle.mt_layout.specs.declared.spans.Span.{Span}
-use Rattle.mt_layout.specs.Columns.{end_of, FitRow, NoGaps, RiseFrom}
-use Rattle.mt_layout.specs.Rows.{name_at}
-use Rattle.mt_layout.specs.Sizes.{least_items}
-use Rattle.mt_layout.specs.Spans.{spans_from, leaf_range, Apart, EndsFull}
-use Rattle.mt_layout.proofs.SpanLists.{apart_front, apart_back, ends_anywhere, length-spans_from, rise_from_zero, spans_from-append, two_hold_an_entry}
-use Rattle.mt_rows.specs.Laws.{Tree, IsRow, covers_all, kind_on, least_of, least_of_root, top_of}
-use Rattle.mt_bulk.specs.Bulk.{heads}
-use Rattle.mt_bulk.specs.Cuts.{AllButLast, EndsWithEntry}
+use Rattle.mt_bulk.proofs.Prelude.{◌≡◌, ◌≢◌, ℕ, zero, suc, ◌+◌, ◌<◌, ◌≤◌, Bool, false, List, [], ◌∷◌, ◌++◌, length, map, replicate, refl, sym, ap, ◌∙◌, subst, arith, append-nil, length-append, AllByRecursion, flat_map, cond_both, reserved, first_row, most_rows, all_front, all_back, Item, RowKind, Span, end_of, FitRow, NoGaps, RiseFrom, name_at, least_items, spans_from, leaf_range, Apart, EndsFull, apart_front, apart_back, ends_anywhere, length-spans_from, rise_from_zero, spans_from-append, two_hold_an_entry, Tree, IsRow, covers_all, kind_on, least_of, least_of_root, top_of, heads, AllButLast, EndsWithEntry}
 use Rattle.mt_bulk.proofs.Facts.{AreFit, AreWritten, IsLeafOf, IsOfHeight}
 use Rattle.mt_bulk.proofs.Lawful.{made_row}
 use Rattle.mt_bulk.proofs.Written.{end_anyhow}

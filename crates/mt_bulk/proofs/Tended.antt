@@ -1,24 +1,5 @@
 -- The parent words and the gap words of rows that are built.
-use Rattle.std.proofs.Common.{◌≡◌, ℕ, zero, suc, ◌+◌, ◌*◌, ◌≤◌, Bool, List, [], ◌∷◌, ◌++◌, length, map, max, refl, sym, ap, ◌∙◌, subst, arith, length-append, append_assoc}
-use Rattle.std.specs.Prelude.{slice_index}
-use Rattle.std.specs.List.{AllByRecursion, range_with_len}
-use Rattle.mt_base.specs.declared.widths.Width.{Width}
-use Rattle.mt_base.specs.Width.{columns}
-use Rattle.mt_layout.specs.declared.items.Item.{Item}
-use Rattle.mt_layout.specs.declared.names.RowKind.{RowKind}
-use Rattle.mt_layout.specs.declared.spans.Span.{Span}
-use Rattle.mt_layout.specs.Columns.{end_of, row_words, FitRow}
-use Rattle.mt_layout.specs.Rows.{name_at, parent_at, row_in}
-use Rattle.mt_layout.specs.Sizes.{slots_of, gaps_of}
-use Rattle.mt_layout.specs.Spans.{spans_from, longest_in}
-use Rattle.mt_layout.proofs.NameLaws.{row_in-name_at}
-use Rattle.mt_layout.proofs.RowSizes.{layout_of, some_columns}
-use Rattle.mt_layout.proofs.RowWords.{length-row_words}
-use Rattle.mt_rows.specs.Spans.{Table, column}
-use Rattle.mt_rows.specs.Levels.{expand}
-use Rattle.mt_rows.specs.Laws.{ParentsFrom, longest_below}
-use Rattle.mt_rows.proofs.Lists.{expand-append}
-use Rattle.mt_bulk.specs.Bulk.{greatest_gap, heads, words_of}
+use Rattle.mt_bulk.proofs.Prelude.{◌≡◌, ℕ, zero, suc, ◌+◌, ◌*◌, ◌≤◌, Bool, List, [], ◌∷◌, ◌++◌, length, map, max, refl, sym, ap, ◌∙◌, subst, arith, length-append, append_assoc, slice_index, AllByRecursion, range_with_len, Width, columns, Item, RowKind, Span, end_of, row_words, FitRow, name_at, parent_at, row_in, slots_of, gaps_of, spans_from, longest_in, row_in-name_at, layout_of, some_columns, length-row_words, Table, column, expand, ParentsFrom, longest_below, expand-append, greatest_gap, heads, words_of}
 use Rattle.mt_bulk.proofs.Placed.{in_middle, next_row}
 
 -- ---- names one after another

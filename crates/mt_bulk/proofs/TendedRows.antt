@@ -1,23 +1,6 @@
 -- Rows that are built have the parent words and the gap words of lawful rows.
-use Rattle.std.proofs.Common.{◌≡◌, ℕ, zero, suc, ◌+◌, ◌-◌, ◌<◌, ◌≤◌, true, List, [], ◌∷◌, length, map, refl, sym, ap, ◌∙◌, subst, arith, append-nil}
-use Rattle.std.specs.List.{AllByRecursion, range_with_len}
-use Rattle.std.proofs.lemmas.List.{length-map}
-use Rattle.std.proofs.lemmas.List.FromFn.{length-range_with_len}
-use Rattle.mt_base.specs.Width.{columns, first_row, most_rows}
-use Rattle.mt_layout.specs.declared.items.Item.{Item}
-use Rattle.mt_layout.specs.declared.names.RowKind.{RowKind}
+use Rattle.mt_bulk.proofs.Prelude.{◌≡◌, ℕ, zero, suc, ◌+◌, ◌-◌, ◌<◌, ◌≤◌, true, List, [], ◌∷◌, length, map, refl, sym, ap, ◌∙◌, subst, arith, append-nil, AllByRecursion, range_with_len, length-map, length-range_with_len, columns, first_row, most_rows, Item, RowKind, Span, end_of, gap_column, longest_hole, FitRow, name_at, parent_at, row_in, IsRowNumber, slots_of, gaps_of, spans_from, longest_in, row_in-name_at, all_gaps_of, gap_within, layout_of, get_or-padded, item_or, used, used-gap, Table, column, inner_of, spans_in, Tree, IsTended, ParentsFrom, GapsFrom, GapLawBy, kind_on, longest_below, greatest_gap, heads, parents_in}
 use Rattle.mt_layout.specs.declared.names.RowKind.TheVariants as kinds
-use Rattle.mt_layout.specs.declared.spans.Span.{Span}
-use Rattle.mt_layout.specs.Columns.{end_of, gap_column, longest_hole, FitRow}
-use Rattle.mt_layout.specs.Rows.{name_at, parent_at, row_in, IsRowNumber}
-use Rattle.mt_layout.specs.Sizes.{slots_of, gaps_of}
-use Rattle.mt_layout.specs.Spans.{spans_from, longest_in}
-use Rattle.mt_layout.proofs.NameLaws.{row_in-name_at}
-use Rattle.mt_layout.proofs.RowSizes.{all_gaps_of, gap_within, layout_of}
-use Rattle.mt_layout.proofs.RowWords.{get_or-padded, item_or, used, used-gap}
-use Rattle.mt_rows.specs.Spans.{Table, column, inner_of, spans_in}
-use Rattle.mt_rows.specs.Laws.{Tree, IsTended, ParentsFrom, GapsFrom, GapLawBy, kind_on, longest_below}
-use Rattle.mt_bulk.specs.Bulk.{greatest_gap, heads, parents_in}
 use Rattle.mt_bulk.proofs.Facts.{AreFit, AreWritten, IsWritten}
 use Rattle.mt_bulk.proofs.Rows.{flat}
 use Rattle.mt_bulk.proofs.Tended.{AreNamed, AreTold, HaveParents, greatest_told, have_back, have_front, named_back, named_front, parents_from, told_back, told_front}

@@ -1,19 +1,6 @@
 -- The tree that is built of ranges in good order stands for them.
-use Rattle.std.proofs.Common.{◌≡◌, ℕ, zero, suc, ◌+◌, ◌*◌, ◌<◌, ◌≤◌, ◌==◌, ◌||◌, false, List, [], ◌∷◌, ◌++◌, Some, None, length, replicate, nat_lt, refl, sym, ap, ◌∙◌, inl, inr, arith, length-append}
-use Rattle.std.specs.List.{AllByRecursion}
-use Rattle.std.proofs.lemmas.Bool.{cond_both, cases_Bool, or_parts, ltb-false, eqb-false}
-use Rattle.std.proofs.lemmas.List.{length-replicate}
-use Rattle.mt_base.specs.declared.kinds.Kind.{Kind}
-use Rattle.mt_base.specs.declared.ranges.Range.{Range}
-use Rattle.mt_base.specs.Entry.{reserved}
-use Rattle.mt_base.specs.Map.{IsMap, IsMapFrom}
-use Rattle.mt_base.specs.Width.{columns, first_row, greatest_of, most_rows, kind_width}
-use Rattle.mt_layout.specs.declared.items.Item.{Item}
-use Rattle.mt_layout.specs.Columns.{NoGaps}
-use Rattle.mt_layout.proofs.SpanLists.{fills_end, fills_rise}
-use Rattle.mt_bulk.specs.Bulk.{bulk}
+use Rattle.mt_bulk.proofs.Prelude.{◌≡◌, ℕ, zero, suc, ◌+◌, ◌*◌, ◌<◌, ◌≤◌, ◌==◌, ◌||◌, false, List, [], ◌∷◌, ◌++◌, Some, None, length, replicate, nat_lt, refl, sym, ap, ◌∙◌, inl, inr, arith, length-append, AllByRecursion, cond_both, cases_Bool, or_parts, ltb-false, eqb-false, length-replicate, Kind, Range, reserved, IsMap, IsMapFrom, columns, first_row, greatest_of, most_rows, kind_width, Item, NoGaps, fills_end, fills_rise, bulk, is_misplaced, items_between, items_of, misplaced, misplaced_from}
 use Rattle.mt_bulk.proofs.Facts.{StandsFor, tree_built}
-use Rattle.mt_bulk.specs.Items.{is_misplaced, items_between, items_of, misplaced, misplaced_from}
 use Rattle.mt_bulk.proofs.Built.{AreOfLeaves, both_words, built_stands}
 use Rattle.mt_bulk.proofs.ItemLaws.{map_items_apart, map_items_fill, map_items_ranges}
 

@@ -1,24 +1,6 @@
 -- Rows of a level whose words are written hold what is to stand on the level below; so a level that is put on top of others
 -- stands for the same map.
-use Rattle.std.proofs.Common.{◌≡◌, ℕ, zero, suc, ◌+◌, ◌≤◌, Bool, List, [], ◌∷◌, ◌++◌, Option, length, refl, sym, ap, ◌∙◌, subst, arith, zero-add}
-use Rattle.std.specs.Prelude.{slice_index}
-use Rattle.std.specs.List.{AllByRecursion, flat_map}
-use Rattle.mt_base.specs.Width.{columns}
-use Rattle.mt_layout.specs.declared.items.Item.{Item}
-use Rattle.mt_layout.specs.declared.names.RowKind.{RowKind}
-use Rattle.mt_layout.specs.declared.spans.Span.{Span}
-use Rattle.mt_layout.specs.Columns.{end_of, items_at, row_words, FitRow}
-use Rattle.mt_layout.specs.Rows.{name_at, IsRowNumber}
-use Rattle.mt_layout.specs.Sizes.{slots_of, gaps_of}
-use Rattle.mt_layout.specs.Spans.{spans_from, leaf_range}
-use Rattle.mt_layout.proofs.NameLaws.{row_in-name_at, named_kind-name_at}
-use Rattle.mt_layout.proofs.OwnColumns.{same_items}
-use Rattle.mt_layout.proofs.ReadBack.{reads_back, row_words-hold}
-use Rattle.mt_layout.proofs.RowSizes.{layout_of}
-use Rattle.mt_layout.proofs.SpanLists.{spans_from-append}
-use Rattle.mt_rows.specs.Spans.{Table, base_of, row_spans, spans_by, spans_in}
-use Rattle.mt_rows.specs.Levels.{expand, map_of, Levels}
-use Rattle.mt_bulk.specs.Bulk.{heads}
+use Rattle.mt_bulk.proofs.Prelude.{◌≡◌, ℕ, zero, suc, ◌+◌, ◌≤◌, Bool, List, [], ◌∷◌, ◌++◌, Option, length, refl, sym, ap, ◌∙◌, subst, arith, zero-add, slice_index, AllByRecursion, flat_map, columns, Item, RowKind, Span, end_of, items_at, row_words, FitRow, name_at, IsRowNumber, slots_of, gaps_of, spans_from, leaf_range, row_in-name_at, named_kind-name_at, same_items, reads_back, row_words-hold, layout_of, spans_from-append, Table, base_of, row_spans, spans_by, spans_in, expand, map_of, Levels, heads}
 use Rattle.mt_bulk.proofs.Facts.{IsWritten, AreWritten, AreFit, CanBeNamed}
 
 pub end_anyhow : (a b : ℕ) (items : List Item) → 1 ≤ length items → end_of a items ≡ end_of b items

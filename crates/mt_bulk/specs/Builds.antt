@@ -2,20 +2,7 @@
 -- Source: this project's own.
 use Rattle.std.specs.Prelude.{◌≡◌, ◌≢◌, ℕ, ◌+◌, ◌*◌, ◌<◌, ◌≤◌, List, [], ◌∷◌, ◌++◌, Option, Some, None, nat_lt, length, vec_len, vec_capacity, if◌then◌else◌}
 use Rattle.std.specs.List.{flat_map}
-use Rattle.mt_base.specs.declared.kinds.Kind.{Kind}
-use Rattle.mt_base.specs.declared.ranges.Range.{Range}
-use Rattle.mt_base.specs.Call.{finds_room}
-use Rattle.mt_base.specs.Width.{columns, first_row, kind_width, most_rows}
-use Rattle.mt_layout.specs.declared.items.Item.{Item}
-use Rattle.mt_layout.specs.declared.names.RowKind.TheVariants.{Leaf}
-use Rattle.mt_layout.specs.Rows.{name_at}
-use Rattle.mt_lanes.specs.declared.lanes.Lane.{Lane}
-use Rattle.mt_rows.specs.Memory.{sheet_in}
-use Rattle.mt_rows.specs.OfWords.{IsMadeOf}
-use Rattle.mt_rows.specs.Plain.{new_sheet}
-use Rattle.mt_rows.specs.Publish.{IsLawfulOf, map_by}
-use Rattle.mt_rows.specs.Sheet.{Sheet}
-use Rattle.mt_rows.specs.Spans.{inner_kind}
+use Rattle.mt_bulk.specs.Prelude.{Kind, Range, finds_room, columns, first_row, kind_width, most_rows, Item, Leaf, name_at, Lane, sheet_in, IsMadeOf, new_sheet, IsLawfulOf, map_by, Sheet, inner_kind}
 use Rattle.mt_bulk.specs.declared.building.Upper.{Upper}
 use Rattle.mt_bulk.specs.declared.desks.LeafDesk.{LeafDesk}
 use Rattle.mt_bulk.specs.declared.errors.BulkError.{BulkError}

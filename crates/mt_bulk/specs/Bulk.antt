@@ -3,18 +3,8 @@
 use Rattle.std.specs.Prelude.{ℕ, Bool, true, false, zero, suc, ◌+◌, ◌/◌, ◌==◌, max, List, [], ◌∷◌, ◌++◌, length, map, if◌then◌else◌}
 use Rattle.std.specs.Int.{div_ceil}
 use Rattle.std.specs.List.{range_with_len}
-use Rattle.mt_base.specs.declared.kinds.Kind.{Kind}
-use Rattle.mt_base.specs.declared.ranges.Range.{Range}
-use Rattle.mt_base.specs.declared.widths.Width.{Width}
-use Rattle.mt_base.specs.Call.{finds_room}
-use Rattle.mt_base.specs.Width.{columns, first_row, kind_width}
-use Rattle.mt_layout.specs.declared.items.Item.{Item}
-use Rattle.mt_layout.specs.declared.names.RowKind.{RowKind}
+use Rattle.mt_bulk.specs.Prelude.{Kind, Range, Width, finds_room, columns, first_row, kind_width, Item, RowKind, end_of, longest_hole, row_words, name_at, parent_at, slots_of, gaps_of, inner_kind, inner_of}
 use Rattle.mt_layout.specs.declared.names.RowKind.TheVariants as kinds
-use Rattle.mt_layout.specs.Columns.{end_of, longest_hole, row_words}
-use Rattle.mt_layout.specs.Rows.{name_at, parent_at}
-use Rattle.mt_layout.specs.Sizes.{slots_of, gaps_of}
-use Rattle.mt_rows.specs.Spans.{inner_kind, inner_of}
 use Rattle.mt_bulk.specs.Cuts.{cut, leaf_size, inner_size}
 use Rattle.mt_bulk.specs.Items.{items_of}
 

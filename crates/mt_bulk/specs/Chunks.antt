@@ -2,14 +2,7 @@
 -- Source: this project's own.
 use Rattle.std.specs.Prelude.{◌≡◌, ◌≢◌, ℕ, zero, suc, ◌+◌, ◌-◌, ◌*◌, ◌<◌, ◌≤◌, ◌++◌, Any, List, [], ◌∷◌, length, map, take, drop, slice_index}
 use Rattle.std.specs.List.{AllByRecursion}
-use Rattle.mt_rows.specs.Spans.{inner_kind}
-use Rattle.mt_base.specs.declared.kinds.Kind.{Kind}
-use Rattle.mt_base.specs.Call.{finds_room}
-use Rattle.mt_base.specs.Width.{columns, first_row, kind_width, most_rows}
-use Rattle.mt_layout.specs.declared.items.Item.{Item}
-use Rattle.mt_layout.specs.declared.names.RowKind.{RowKind}
-use Rattle.mt_layout.specs.Columns.{FitRow, NoGaps, RiseFrom}
-use Rattle.mt_layout.specs.Sizes.{slots_of, gaps_of}
+use Rattle.mt_bulk.specs.Prelude.{inner_kind, Kind, finds_room, columns, first_row, kind_width, most_rows, Item, RowKind, FitRow, NoGaps, RiseFrom, slots_of, gaps_of}
 use Rattle.mt_bulk.specs.declared.chunks.Chunk.{Chunk}
 use Rattle.mt_bulk.specs.Bulk.{heads, levels_built, words_of}
 

@@ -3,8 +3,7 @@
 -- Source: this project's own; the kernel's mab_calc_split keeps a leaf from ending with a slot of no entry.
 use Rattle.std.specs.Prelude.{◌≡◌, ℕ, zero, suc, ◌+◌, ◌-◌, ◌*◌, ◌/◌, ◌<◌, ◌≤◌, ◌==◌, nat_lt, List, [], ◌∷◌, length, map, take, drop, slice_index, if◌then◌else◌}
 use Rattle.std.specs.List.{AllByRecursion, flat_map}
-use Rattle.mt_layout.specs.declared.items.Item.{Item}
-use Rattle.mt_layout.specs.Spans.{spans_from, EndsFull}
+use Rattle.mt_bulk.specs.Prelude.{Item, spans_from, EndsFull}
 
 abbrev pub word_of : List Item → ℕ → ℕ
 word_of items i = slice_index (map (λ x. x.word) items) i

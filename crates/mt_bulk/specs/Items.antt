@@ -1,11 +1,7 @@
 -- The items of a map: its ranges and the holes between them, in order.
 -- Source: the kernel's core-api/maple_tree: a range of no entry is one slot of 0.
 use Rattle.std.specs.Prelude.{ℕ, Bool, ◌+◌, ◌-◌, List, [], ◌∷◌, ◌++◌, Option, Some, None, nat_lt, ◌==◌, ◌||◌, if◌then◌else◌}
-use Rattle.mt_base.specs.declared.kinds.Kind.{Kind}
-use Rattle.mt_base.specs.declared.ranges.Range.{Range}
-use Rattle.mt_base.specs.Entry.{reserved}
-use Rattle.mt_base.specs.Width.{greatest_of}
-use Rattle.mt_layout.specs.declared.items.Item.{Item}
+use Rattle.mt_bulk.specs.Prelude.{Kind, Range, reserved, greatest_of, Item}
 
 -- the hole from `lo` up to, but without, `hi`, where there are such indexes
 abbrev pub hole_to : ℕ → ℕ → List Item

@@ -5,3 +5,4 @@ pub mod Cuts
 pub mod Examples
 pub mod Items
 pub mod Texts
+pub mod Prelude

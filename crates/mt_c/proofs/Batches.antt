@@ -1,15 +1,5 @@
 -- A log that was played or judged.
-use Rattle.std.proofs.Common.{◌≡◌, ◌∙◌, ◌<◌, ◌≤◌, ◌++◌, ℕ, List, Ok, drop, length, subst, sym}
-use Rattle.mt_log.specs.declared.lines.Log.{Log}
-use Rattle.mt_log.specs.declared.transcripts.Transcript.{Transcript}
-use Rattle.mt_log.specs.Reading.{log_of}
-use Rattle.mt_log.specs.Run.{IsRun}
-use Rattle.mt_verify.specs.declared.verdicts.Verdict.{Verdict}
-use Rattle.mt_verify.specs.declared.verdicts.Verdict.TheVariants.{Yes, No}
-use Rattle.mt_verify.specs.Points.{AreLeastPoints, IsVerdict}
-use Rattle.mt_verify.specs.Tellings.{count_of_calls}
-use Rattle.mt_verify.proofs.Tellings.{reads_are_points}
-use Rattle.mt_c.specs.Batch.{IsNoRun, IsBufferShort, IsTextOfRun, IsVerified, WritesText}
+use Rattle.mt_c.proofs.Prelude.{◌≡◌, ◌∙◌, ◌<◌, ◌≤◌, ◌++◌, ℕ, List, Ok, drop, length, subst, sym, Log, Transcript, log_of, IsRun, Verdict, Yes, No, AreLeastPoints, IsVerdict, count_of_calls, reads_are_points, IsNoRun, IsBufferShort, IsTextOfRun, IsVerified, WritesText}
 
 pub writes : (rows : ℕ) (bytes before after text : List ℕ) (used : ℕ) → IsTextOfRun rows bytes text → used ≡ length text → length text ≤ length before
     → after ≡ text ++ drop (length text) before → WritesText rows bytes before after used

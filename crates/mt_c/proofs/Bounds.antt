@@ -1,23 +1,6 @@
 -- A step of a walk that looks no further than an index.
-use Rattle.std.proofs.Common.{◌≡◌, ◌∙◌, ℕ, Option, Some, None, refl, sym, ap, subst}
-use Rattle.std.specs.Prelude.{Ok}
-use Rattle.mt_base.specs.declared.ranges.Range.{Range}
-use Rattle.mt_read.specs.Cursors.{place_behind}
-use Rattle.mt_tree.specs.declared.shapes.Read.{Read}
-use Rattle.mt_tree.specs.declared.trees.Tree.{Tree}
-use Rattle.mt_c.specs.declared.shared_told.CallWindow.{CallWindow}
-use Rattle.mt_c.specs.declared.steps.OutWalk.{OutWalk}
-use Rattle.mt_c.specs.declared.told.OutRange.{OutRange}
-use Rattle.mt_c.specs.declared.user.User.{User}
-use Rattle.mt_c.specs.declared.walker.Walker.{Walker}
-use Rattle.mt_c.specs.Bounded.{IsLeftTo, SharedSteppedTo, SteppedTo, StepsTo, place_to}
-use Rattle.mt_c.specs.Calls.{found_status, no_range, out_of}
-use Rattle.mt_c.specs.Own.{OwnTree}
-use Rattle.mt_c.specs.Shared.{answer_status, common_of, no_window, user_tree, window_of}
-use Rattle.mt_c.specs.Walkers.{StepsFrom, knows}
-use Rattle.mt_c.specs.Walking.{IsStepped, walk_index, walk_from}
+use Rattle.mt_c.proofs.Prelude.{◌≡◌, ◌∙◌, ℕ, Option, Some, None, refl, sym, ap, subst, Ok, Range, place_behind, Read, Tree, CallWindow, OutWalk, OutRange, User, Walker, IsLeftTo, SharedSteppedTo, SteppedTo, StepsTo, place_to, found_status, no_range, out_of, OwnTree, answer_status, common_of, no_window, user_tree, window_of, StepsFrom, knows, IsStepped, walk_index, walk_from, up_to}
 use Rattle.mt_c.proofs.Sharing.{on_closed, on_open}
-use Rattle.mt_list.specs.Places.{up_to}
 
 -- ---- the walk of a pass
 

@@ -1,17 +1,5 @@
 -- A tree that opens with the map of another.
-use Rattle.std.proofs.Common.{◌≡◌, ◌∙◌, ℕ, ◌≤◌, List, Option, Some, None, IfOk, IfErr, refl, sym, ap, subst, arith}
-use Rattle.std.specs.Prelude.{Result, Ok, Err}
-use Rattle.mt_base.specs.declared.kinds.Kind.{Kind}
-use Rattle.mt_base.specs.declared.ranges.Range.{Range}
-use Rattle.mt_free.specs.Book.{Book, live_count}
-use Rattle.mt_rows.specs.Publish.{map_by}
-use Rattle.mt_rows.specs.Sheet.{OnlyReads, Rooted, Sheet}
-use Rattle.mt_engine.specs.Engine.{Parts}
-use Rattle.mt_tree.specs.Copies.{IsReadyToOpen, live_rows}
-use Rattle.mt_c.specs.Calls.{IsAsked}
-use Rattle.mt_c.specs.Copying.{Copied, FitsRows, IsCopyInRows, IsOpenedWith, LacksTree, OpensHandle}
-use Rattle.mt_c.specs.Images.{IsOfImage, LacksImage}
-use Rattle.mt_c.specs.Own.{OwnTree}
+use Rattle.mt_c.proofs.Prelude.{◌≡◌, ◌∙◌, ℕ, ◌≤◌, List, Option, Some, None, IfOk, IfErr, refl, sym, ap, subst, arith, Result, Ok, Err, Kind, Range, Book, live_count, map_by, OnlyReads, Rooted, Sheet, Parts, IsReadyToOpen, live_rows, IsAsked, Copied, FitsRows, IsCopyInRows, IsOpenedWith, LacksTree, OpensHandle, IsOfImage, LacksImage, OwnTree}
 
 pub opened_with : (kind : Kind) (many rows : ℕ) (m : List Range) (s : Sheet) (book : Book) (e : Parts) → many ≡ rows → IsReadyToOpen kind many m s book → OnlyReads s e.sheet → e.kind ≡ kind → IsOpenedWith kind rows m e
 opened_with kind many rows m s book e wanted ready reads same = record {

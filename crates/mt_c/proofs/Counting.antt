@@ -1,16 +1,5 @@
 -- How a tree uses its rows, read off its parts.
-use Rattle.std.proofs.Common.{◌≡◌, ◌∙◌, ℕ, Option, Some, None, length, refl, sym, ap, subst}
-use Rattle.mt_base.specs.declared.kinds.Kind.{Kind}
-use Rattle.mt_free.specs.Book.{Book, live_count}
-use Rattle.mt_rows.specs.Sheet.{Sheet}
-use Rattle.mt_engine.specs.Engine.{IsIdle, Parts}
-use Rattle.mt_engine.specs.Heights.{HasHeight}
-use Rattle.mt_tree.specs.Copies.{live_rows}
-use Rattle.mt_tree.proofs.Forms.{live_as}
-use Rattle.mt_c.specs.declared.stats.OutStats.{OutStats}
-use Rattle.mt_c.specs.Calls.{IsAsked}
-use Rattle.mt_c.specs.Own.{OwnTree}
-use Rattle.mt_c.specs.Stats.{HasStats, TellsTree, no_stats}
+use Rattle.mt_c.proofs.Prelude.{◌≡◌, ◌∙◌, ℕ, Option, Some, None, length, refl, sym, ap, subst, Kind, Book, live_count, Sheet, IsIdle, Parts, HasHeight, live_rows, live_as, OutStats, IsAsked, OwnTree, HasStats, TellsTree, no_stats}
 
 -- rows that were taken out of an engine are as high as its tree
 pub still_high : (e s : Sheet) (height : ℕ) → s ≡ e → HasHeight e.tree height → HasHeight s.tree height

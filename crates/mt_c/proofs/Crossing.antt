@@ -1,8 +1,6 @@
 -- A tree of one thread may go to another thread, and so may a user of one that threads share: nothing that they own names the thread.
 -- Source: this project's own.
-use denote.Param.Send.{IsSend, view_send, sendable}
-use denote.Param.SendFields.{declared_send}
-use Rattle.std.proofs.Crossing.{crosses}
+use Rattle.mt_c.proofs.Prelude.{IsSend, view_send, sendable, declared_send, crosses}
 use Rattle.atomic_table.proofs.badge.Badge.TheSendSync as Badge
 use Rattle.mt_base.proofs.kinds.Kind.TheSendSync as Kind
 use Rattle.mt_engine.proofs.engine.Engine.TheSendSync as Engine

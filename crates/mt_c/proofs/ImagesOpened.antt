@@ -1,20 +1,6 @@
 -- A tree that opens with the map of an image, or why there is none; and an image in a buffer.
-use Rattle.std.proofs.Common.{◌≡◌, ◌≢◌, ℕ, ◌<◌, ◌≤◌, ◌++◌, List, Option, Some, None, drop, length, refl, sym, subst, inl, inr}
-use Rattle.std.specs.Prelude.{◌⊎◌, Result, Ok, Err, IsErr}
-use Rattle.mt_base.specs.declared.kinds.Kind.{Kind}
-use Rattle.mt_image.specs.declared.errors.ImageError.{ImageError}
+use Rattle.mt_c.proofs.Prelude.{◌≡◌, ◌≢◌, ℕ, ◌<◌, ◌≤◌, ◌++◌, List, Option, Some, None, drop, length, refl, sym, subst, inl, inr, ◌⊎◌, Result, Ok, Err, IsErr, Kind, ImageError, IsImageOf, Image, image_in, few_reached, IsLawfulOf, map_by, Rooted, Parts, live_rows, IsAsked, FitsRows, IsOpenedWith, LacksTree, Imaged, IsOfImage, LacksImage, TellsImage, OwnTree}
 use Rattle.mt_image.specs.declared.errors.ImageError.TheVariants as errors
-use Rattle.mt_image.specs.Images.{IsImageOf}
-use Rattle.mt_image.specs.Reading.{Image, image_in}
-use Rattle.mt_image.proofs.FewReached.{few_reached}
-use Rattle.mt_rows.specs.Publish.{IsLawfulOf, map_by}
-use Rattle.mt_rows.specs.Sheet.{Rooted}
-use Rattle.mt_engine.specs.Engine.{Parts}
-use Rattle.mt_tree.specs.Copies.{live_rows}
-use Rattle.mt_c.specs.Calls.{IsAsked}
-use Rattle.mt_c.specs.Copying.{FitsRows, IsOpenedWith, LacksTree}
-use Rattle.mt_c.specs.Images.{Imaged, IsOfImage, LacksImage, TellsImage}
-use Rattle.mt_c.specs.Own.{OwnTree}
 
 -- ---- opening
 

@@ -1,6 +1,5 @@
 -- By the count of what is kept, whether something is.
-use Rattle.std.proofs.Common.{◌≡◌, ◌≢◌, refl, arith, Option, Some, None}
-use Rattle.mt_c.specs.Owned.{open_count, IsOpenHandle}
+use Rattle.mt_c.proofs.Prelude.{◌≡◌, ◌≢◌, refl, arith, Option, Some, None, open_count, IsOpenHandle}
 
 pub none_kept : {A : Type 0} (v : Option A) → open_count v ≡ 0 → v ≡ None
 none_kept None none = refl

@@ -1,8 +1,6 @@
 -- The codes of kinds.
-use Rattle.std.proofs.Common.{◌≢◌, ◌<◌, ℕ, arith}
-use Rattle.mt_base.specs.declared.kinds.Kind.{Kind}
+use Rattle.mt_c.proofs.Prelude.{◌≢◌, ◌<◌, ℕ, arith, Kind, kind_code}
 use Rattle.mt_base.specs.declared.kinds.Kind.TheVariants as kinds
-use Rattle.mt_image.specs.Bytes.{kind_code}
 
 pub no_kind : (code : ℕ) → 3 < code → (kind : Kind) → kind_code kind ≢ code
 no_kind code above kinds.Range same = absurd (omega arith)

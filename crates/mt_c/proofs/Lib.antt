@@ -16,3 +16,4 @@ mod SharedImages
 mod SharedMaps
 mod RowsFor
 mod Using
+mod Prelude

@@ -1,9 +1,5 @@
 -- Which place of a shared tree a user has, read off its pass.
-use Rattle.std.proofs.Common.{◌≡◌, ℕ, Option, Some, None, refl}
-use Rattle.std.specs.Prelude.{◌+◌}
-use Rattle.mt_c.specs.declared.user.User.{User}
-use Rattle.mt_c.specs.Shared.{known_to}
-use Rattle.mt_c.specs.Places.{SharedPlaced}
+use Rattle.mt_c.proofs.Prelude.{◌≡◌, ℕ, Option, Some, None, refl, ◌+◌, User, known_to, SharedPlaced}
 use Rattle.mt_c.proofs.Sharing.{on_closed, on_open}
 
 pub placed_open : (before after : Option User) (u : User) (status place : ℕ) → before ≡ Some u → after ≡ Some u → status ≡ 0 → place ≡ (known_to u).number + 1 → SharedPlaced before after status place

@@ -1,22 +1,5 @@
 -- A tree that is built of ranges, or why there is none.
-use Rattle.std.proofs.Common.{◌≡◌, ◌≢◌, ◌∙◌, ℕ, ◌<◌, List, Option, Some, None, nat_lt, refl, sym, ap, subst, inl, inr, arith}
-use Rattle.std.proofs.lemmas.Bool.{cases_Bool, ltb-true}
-use Rattle.mt_base.specs.declared.kinds.Kind.{Kind}
-use Rattle.mt_base.specs.declared.ranges.Range.{Range}
-use Rattle.mt_base.specs.Width.{most_rows}
-use Rattle.mt_bulk.specs.declared.errors.BulkError.{BulkError}
-use Rattle.mt_bulk.specs.declared.errors.BulkError.TheVariants.{Order, TooMany, NoMemory}
-use Rattle.mt_bulk.specs.Builds.{IsBuilt, refusal, refused_by, too_many}
-use Rattle.mt_bulk.specs.Bulk.{rows_in}
-use Rattle.mt_bulk.specs.Items.{misplaced}
-use Rattle.mt_image.specs.Bytes.{kind_code}
-use Rattle.mt_rows.specs.Publish.{map_by}
-use Rattle.mt_rows.specs.Sheet.{Sheet}
-use Rattle.mt_engine.specs.Engine.{Parts}
-use Rattle.mt_c.specs.declared.building.BuildWhy.{BuildWhy}
-use Rattle.mt_c.specs.Building.{Builds, IsOfRanges, LacksAnyhow, LacksOf, LacksRanges, why_of}
-use Rattle.mt_c.specs.Copying.{FitsRows, IsOpenedWith, LacksTree}
-use Rattle.mt_c.specs.Own.{OwnTree}
+use Rattle.mt_c.proofs.Prelude.{◌≡◌, ◌≢◌, ◌∙◌, ℕ, ◌<◌, List, Option, Some, None, nat_lt, refl, sym, ap, subst, inl, inr, arith, cases_Bool, ltb-true, Kind, Range, most_rows, BulkError, Order, TooMany, NoMemory, IsBuilt, refusal, refused_by, too_many, rows_in, misplaced, kind_code, map_by, Sheet, Parts, BuildWhy, Builds, IsOfRanges, LacksAnyhow, LacksOf, LacksRanges, why_of, FitsRows, IsOpenedWith, LacksTree, OwnTree}
 
 -- ---- what a bulk build answers
 

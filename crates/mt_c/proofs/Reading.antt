@@ -1,21 +1,5 @@
 -- An engine that was taken apart, whose rows were read, and that was put together again.
-use Rattle.std.proofs.Common.{◌≡◌, ◌∙◌, ℕ, Option, Some, sym, ap, subst}
-use Rattle.std.specs.Prelude.{Result, Ok, Err, IsOk}
-use Rattle.mt_base.specs.declared.kinds.Kind.{Kind}
-use Rattle.mt_check.specs.declared.faults.Fault.{Fault}
-use Rattle.mt_check.specs.declared.faults.Form.{Form}
-use Rattle.mt_check.specs.Check.{checked, form_of}
-use Rattle.mt_check.proofs.Forms.{form_by}
-use Rattle.mt_free.specs.Book.{Book}
-use Rattle.mt_rows.specs.declared.rows.Place.TheVariants.{Root}
-use Rattle.mt_rows.specs.Publish.{IsLawfulOf, tree_as, with_published}
-use Rattle.mt_rows.specs.Sheet.{OnlyReads, Rooted, Sheet}
-use Rattle.mt_engine.specs.Engine.{Parts}
-use Rattle.mt_tree.proofs.Forms.{reads_through}
-use Rattle.mt_c.specs.declared.forms.OutForm.{OutForm}
-use Rattle.mt_c.specs.Calls.{IsAsked}
-use Rattle.mt_c.specs.Copying.{Checked, out_form}
-use Rattle.mt_c.specs.Own.{OwnTree}
+use Rattle.mt_c.proofs.Prelude.{◌≡◌, ◌∙◌, ℕ, Option, Some, sym, ap, subst, Result, Ok, Err, IsOk, Kind, Fault, Form, checked, form_of, form_by, Book, Root, IsLawfulOf, tree_as, with_published, OnlyReads, Rooted, Sheet, Parts, reads_through, OutForm, IsAsked, Checked, out_form, OwnTree}
 
 pub asked_as : (e e' : Parts) (s s' : Sheet) (book : Book) (kind : Kind) → s ≡ e.sheet → book ≡ e.book → kind ≡ e.kind → OnlyReads s s' → e'.sheet ≡ s' → e'.book ≡ book → e'.kind ≡ kind → IsAsked e e'
 asked_as e e' s s' book kind taken booked same reads put put_book put_kind = record {

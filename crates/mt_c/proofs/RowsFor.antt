@@ -1,14 +1,5 @@
 -- The rows that surely hold so many ranges.
-use Rattle.std.proofs.Common.{◌≡◌, ℕ, zero, suc, ◌<◌, ◌≤◌, ◌^◌, List, Bool, length, refl, sym, ap, subst, ◌∙◌, arith}
-use Rattle.std.specs.Prelude.{◌+◌, ◌-◌, ◌*◌, if◌then◌else◌}
-use Rattle.std.proofs.lemmas.Bool.{le-leb, lt-leb}
-use Rattle.std.proofs.Math.Nat.{mul_assoc, mul_comm, pow-succ'}
-use Rattle.mt_base.specs.declared.ranges.Range.{Range}
-use Rattle.mt_base.specs.declared.replies.Shortage.{Shortage}
-use Rattle.mt_base.specs.Nodes.{IsShort, Limits}
-use Rattle.mt_base.specs.Width.{most_rows}
-use Rattle.mt_base.proofs.Shortages.{few_unheld}
-use Rattle.mt_c.specs.RowsFor.{level_from, levels_for, levels_from, rows_for, rows_told}
+use Rattle.mt_c.proofs.Prelude.{◌≡◌, ℕ, zero, suc, ◌<◌, ◌≤◌, ◌^◌, List, Bool, length, refl, sym, ap, subst, ◌∙◌, arith, ◌+◌, ◌-◌, ◌*◌, if◌then◌else◌, le-leb, lt-leb, mul_assoc, mul_comm, pow-succ', Range, Shortage, IsShort, Limits, most_rows, few_unheld, level_from, levels_for, levels_from, rows_for, rows_told}
 
 -- ---- levels
 

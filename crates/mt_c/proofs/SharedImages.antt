@@ -1,24 +1,6 @@
 -- A shared tree that opens with the map of an image, or of ranges, or why there is none.
-use Rattle.std.proofs.Common.{◌≡◌, ◌≢◌, ℕ, List, Option, Some, None, refl, sym, ap, subst, inl, inr, arith}
-use Rattle.std.specs.Prelude.{◌⊎◌, Result, Ok, Err, IsErr}
-use Rattle.mt_base.specs.declared.kinds.Kind.{Kind}
-use Rattle.mt_base.specs.declared.ranges.Range.{Range}
-use Rattle.mt_bulk.specs.Builds.{IsBuilt}
-use Rattle.mt_bulk.specs.Bulk.{rows_in}
-use Rattle.mt_bulk.specs.Items.{misplaced}
-use Rattle.mt_image.specs.declared.errors.ImageError.{ImageError}
+use Rattle.mt_c.proofs.Prelude.{◌≡◌, ◌≢◌, ℕ, List, Option, Some, None, refl, sym, ap, subst, inl, inr, arith, ◌⊎◌, Result, Ok, Err, IsErr, Kind, Range, IsBuilt, rows_in, misplaced, ImageError, kind_code, Image, image_in, few_reached, IsLawfulOf, map_by, Rooted, Sheet, Shape, BuildWhy, User, LacksAnyhow, IsFirstOfImage, IsFirstOfRanges, LacksFirstOfImage, LacksFirstOfRanges, LacksMany, OpensUser, SharedBuilds, IsFirstWith, LacksWith, shape_for}
 use Rattle.mt_image.specs.declared.errors.ImageError.TheVariants as errors
-use Rattle.mt_image.specs.Bytes.{kind_code}
-use Rattle.mt_image.specs.Reading.{Image, image_in}
-use Rattle.mt_image.proofs.FewReached.{few_reached}
-use Rattle.mt_rows.specs.Publish.{IsLawfulOf, map_by}
-use Rattle.mt_rows.specs.Sheet.{Rooted, Sheet}
-use Rattle.mt_tree.specs.declared.shapes.Shape.{Shape}
-use Rattle.mt_c.specs.declared.building.BuildWhy.{BuildWhy}
-use Rattle.mt_c.specs.declared.user.User.{User}
-use Rattle.mt_c.specs.Building.{LacksAnyhow}
-use Rattle.mt_c.specs.SharedImages.{IsFirstOfImage, IsFirstOfRanges, LacksFirstOfImage, LacksFirstOfRanges, LacksMany, OpensUser, SharedBuilds}
-use Rattle.mt_c.specs.SharedMaps.{IsFirstWith, LacksWith, shape_for}
 use Rattle.mt_c.proofs.RangesBuilt.{lacks_anyhow}
 
 -- where the rows are fewer than lawful words have in use, they are fewer than those have

@@ -1,20 +1,6 @@
 -- A shared tree that opens with a map, or why there is none.
-use Rattle.std.proofs.Common.{◌≡◌, ◌≢◌, ℕ, Option, Some, None, refl, sym, subst, inl, inr}
-use Rattle.std.specs.Prelude.{◌↔◌, IfOk, Result, Ok, Err}
-use Rattle.mt_base.specs.declared.kinds.Kind.{Kind}
-use Rattle.mt_rows.specs.Publish.{map_by}
-use Rattle.mt_rows.specs.Sheet.{Rooted}
-use Rattle.mt_engine.specs.Engine.{Parts}
-use Rattle.mt_tree.specs.declared.shapes.DupError.{DupError}
+use Rattle.mt_c.proofs.Prelude.{◌≡◌, ◌≢◌, ℕ, Option, Some, None, refl, sym, subst, inl, inr, ◌↔◌, IfOk, Result, Ok, Err, Kind, map_by, Rooted, Parts, DupError, Field, Shape, IsLiveCounted, live_rows, first_bad, User, IsAsked, OwnTree, IsFirstWith, LacksWith, OpensFirst, SharedOfTree, dup_status, shape_for}
 use Rattle.mt_tree.specs.declared.shapes.DupError.TheVariants as errors
-use Rattle.mt_tree.specs.declared.shapes.Field.{Field}
-use Rattle.mt_tree.specs.declared.shapes.Shape.{Shape}
-use Rattle.mt_tree.specs.Copies.{IsLiveCounted, live_rows}
-use Rattle.mt_tree.specs.Shapes.{first_bad}
-use Rattle.mt_c.specs.declared.user.User.{User}
-use Rattle.mt_c.specs.Calls.{IsAsked}
-use Rattle.mt_c.specs.Own.{OwnTree}
-use Rattle.mt_c.specs.SharedMaps.{IsFirstWith, LacksWith, OpensFirst, SharedOfTree, dup_status, shape_for}
 
 -- ---- a user of a tree that was made of rows, or none
 

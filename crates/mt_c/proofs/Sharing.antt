@@ -1,33 +1,5 @@
 -- What the calls of C on a shared tree say, read off what its user does.
-use Rattle.std.proofs.Common.{◌≡◌, ◌≢◌, ◌≤◌, ◌<◌, Bool, ℕ, refl, sym, ap, ◌∙◌, inl, inr, subst, Option, Some, None, []}
-use Rattle.std.specs.Prelude.{◌+◌, IfErr, Ok, Result, nat_le, if◌then◌else◌}
-use Rattle.std.proofs.lemmas.Bool.{le-leb, lt-leb}
-use Rattle.mt_base.specs.declared.calls.Call.{Call}
-use Rattle.mt_base.specs.declared.calls.Query.{Query}
-use Rattle.mt_base.specs.declared.kinds.Kind.{Kind}
-use Rattle.mt_base.specs.declared.calls.Query.TheVariants.{Load}
-use Rattle.mt_base.specs.declared.ranges.Range.{Range}
-use Rattle.mt_image.specs.Bytes.{kind_code}
-use Rattle.mt_rule.specs.declared.busy.Busy.{Busy}
-use Rattle.mt_tree.specs.declared.shapes.Field.{Field}
-use Rattle.mt_tree.specs.declared.shapes.Shape.{Shape}
-use Rattle.mt_tree.specs.Asks.{most_made}
-use Rattle.mt_tree.specs.Shapes.{first_bad}
-use Rattle.mt_tree.specs.declared.shapes.Read.{Read}
-use Rattle.mt_keep.specs.declared.keep.Given.{Given}
-use Rattle.mt_tree.specs.declared.trees.Tree.{Tree}
-use Rattle.mt_tree.specs.Trees.{Takes}
-use Rattle.mt_c.specs.declared.purse.Purse.{Purse}
-use Rattle.mt_c.specs.declared.user.User.{User}
-use Rattle.mt_c.specs.declared.user_opens.Left.{Left}
-use Rattle.mt_c.specs.declared.user_opens.Unchanged.{Unchanged}
-use Rattle.mt_c.specs.declared.shared_told.Outcome.{Outcome}
-use Rattle.mt_c.specs.declared.steps.OutWalk.{OutWalk}
-use Rattle.mt_c.specs.declared.shared_told.CallWindow.{CallWindow}
-use Rattle.mt_c.specs.Receipts.{when_given, when_settled, when_synced, when_tried, when_unchanged}
-use Rattle.mt_c.specs.Shared.{HasLeft, HasSettled, HasShared, HasSynced, HasTried, IsBadShape, IsFirstUser, IsMeant, IsUnchanged, IsOfPurse, IsSettledUser, SettleResult, IsShape, IsSynced, IsWhy, OnUser, WantsNoPlace, SharedAsked, SharedLearned, SharedLeft, SharedNew, SharedOpened, SharedPaused, SharedSettled, SharedStepped, SharedSynced, SharedTried, SharedWith, WentToSettle, answer_status, calls_in_c, common_of, cuts, field_status, known_to, no_outcome, no_window, outcome_of, paused, rested, settled_status, settled_told, synced_status, user_tree, tried_status, unchanged_status, went_on, window_of}
-use Rattle.mt_c.specs.Walkers.{Answer, GaveUp, IsWalkAnswer, IsOnNoWalk, IsTried, StepsFrom, Took, Tried, TriedOnce, WentOnce, knows}
-use Rattle.mt_c.specs.Walking.{walk_index}
+use Rattle.mt_c.proofs.Prelude.{◌≡◌, ◌≢◌, ◌≤◌, ◌<◌, Bool, ℕ, refl, sym, ap, ◌∙◌, inl, inr, subst, Option, Some, None, [], ◌+◌, IfErr, Ok, Result, nat_le, if◌then◌else◌, le-leb, lt-leb, Call, Query, Kind, Load, Range, kind_code, Busy, Field, Shape, most_made, first_bad, Read, Given, Tree, Takes, Purse, User, Left, Unchanged, Outcome, OutWalk, CallWindow, when_given, when_settled, when_synced, when_tried, when_unchanged, HasLeft, HasSettled, HasShared, HasSynced, HasTried, IsBadShape, IsFirstUser, IsMeant, IsUnchanged, IsOfPurse, IsSettledUser, SettleResult, IsShape, IsSynced, IsWhy, OnUser, WantsNoPlace, SharedAsked, SharedLearned, SharedLeft, SharedNew, SharedOpened, SharedPaused, SharedSettled, SharedStepped, SharedSynced, SharedTried, SharedWith, WentToSettle, answer_status, calls_in_c, common_of, cuts, field_status, known_to, no_outcome, no_window, outcome_of, paused, rested, settled_status, settled_told, synced_status, user_tree, tried_status, unchanged_status, went_on, window_of, Answer, GaveUp, IsWalkAnswer, IsOnNoWalk, IsTried, StepsFrom, Took, Tried, TriedOnce, WentOnce, knows, walk_index}
 use Rattle.mt_c.proofs.Using.{took_still}
 
 pub on_open : (before after : Option User) (u v : User) (status : ℕ) (blank : Type 0) (says : User → User → Type 0) → before ≡ Some u → after ≡ Some v → common_of v ≡ common_of u → says u v → OnUser before after status blank says

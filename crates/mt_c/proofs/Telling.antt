@@ -1,14 +1,5 @@
 -- What C is told of a call, read off all that is told.
-use Rattle.std.proofs.Common.{◌≡◌, ◌∙◌, ℕ, ap, refl, sym, subst, Option, Some, None}
-use Rattle.mt_base.specs.declared.calls.Call.{Call}
-use Rattle.mt_base.specs.declared.calls.Query.{Query}
-use Rattle.mt_base.specs.declared.ranges.Range.{Range}
-use Rattle.mt_base.specs.declared.replies.Reply.{Reply}
-use Rattle.mt_c.specs.Own.{OwnTree}
-use Rattle.mt_c.specs.declared.told.OutRange.{OutRange}
-use Rattle.mt_c.specs.declared.told.ToldCall.{ToldCall}
-use Rattle.mt_c.specs.Preparing.{PreCalled, PreMade, pre_status, pre_word}
-use Rattle.mt_c.specs.Calls.{AnswersQuery, AnswersCall, CalledAlone, CalledWord, CalledRange, IsAsked, MadeOrSpent, answered, found_status, no_range, no_told, out_of, told_in_c}
+use Rattle.mt_c.proofs.Prelude.{◌≡◌, ◌∙◌, ℕ, ap, refl, sym, subst, Option, Some, None, Call, Query, Range, Reply, OwnTree, OutRange, ToldCall, PreCalled, PreMade, pre_status, pre_word, AnswersQuery, AnswersCall, CalledAlone, CalledWord, CalledRange, IsAsked, MadeOrSpent, answered, found_status, no_range, no_told, out_of, told_in_c}
 
 -- ---- all that is told
 

@@ -1,56 +1,11 @@
 -- What a user of a shared tree does: which section stands open is no part of what a read says, and where a walk goes on.
-use Rattle.std.proofs.Common.{◌≡◌, ◌∙◌, ℕ, suc, get_or, List, [], ◌∷◌, ◌++◌, ◌<◌, ◌^◌, length, map, refl, sym, ap, subst, arith, Bool, true, false, true≢false, Option, Some, None}
-use Rattle.std.proofs.lemmas.Bool.{eqb-true, le-leb}
-use Rattle.std.proofs.lemmas.List.{length-map, map-append}
-use Rattle.std.proofs.lemmas.List.FromFn.{length-map-range_with_len}
-use Rattle.std.proofs.lemmas.Option.{slice_get-get_or, slice_get-map}
-use Rattle.std.specs.Prelude.{◌↔◌, ◌+◌, ◌≤◌, All, Ok, Err, Result, IfOk, IfErr, IfSome, IsSome, if◌then◌else◌, option_map, slice_get}
-use Rattle.std.specs.declared.snapshot.Snapshot.{Snapshot}
-use Rattle.atomic_table.specs.declared.badge.Badge.{Badge}
-use Rattle.mt_base.specs.declared.calls.Call.{Call}
-use Rattle.mt_base.specs.declared.calls.Query.{Query}
-use Rattle.mt_base.specs.declared.calls.Query.TheVariants.{Load}
-use Rattle.mt_base.specs.declared.ranges.Range.{Range}
-use Rattle.mt_base.specs.History.{History}
+use Rattle.mt_c.proofs.Prelude.{◌≡◌, ◌∙◌, ℕ, suc, get_or, List, [], ◌∷◌, ◌++◌, ◌<◌, ◌^◌, length, map, refl, sym, ap, subst, arith, Bool, true, false, true≢false, Option, Some, None, eqb-true, le-leb, length-map, map-append, length-map-range_with_len, slice_get-get_or, slice_get-map, ◌↔◌, ◌+◌, ◌≤◌, All, Ok, Err, Result, IfOk, IfErr, IfSome, IsSome, if◌then◌else◌, option_map, slice_get, Snapshot, Badge, Call, Query, Load, Range, History, Cursor, KeptLeaf, IsOnKeptLeaf, place_behind, place_from, query_at, WasLeftMarked, WasMoved, HasRead, Given, cuts_of, Sight, Busy, TurnView, part_of, turn_seat, Read, Tree, IsForNeighbour, unbounded, HaveMet, IsNew, IsPassOf, Pass, Takes, TriesOnce, limit_of, passes_of, pass_in, steps_made, opened, IsBusyOf, WasMade, HasWalked, IsWalkOf, Field, MakeError, Shape, first_bad, Common, Purse, User, Left, Walker, IsPurseBusy, IsChairAtPurse, RestsInPurse, WasGiven, WasKept, first_in, no_receipts, IsSparePass, IsKeptWalk, last_index, HasLeft, IsFirstUser, IsOfPurse, IsSettledUser, IsSynced, IsWhy, common_of, cuts, known_to, user_tree, Answer, Continues, GaveUp, GoesFrom, WalkGoesOn, IsWalkAnswer, IsOnNoWalk, IsLeftBy, IsOnAt, IsReadBy, IsStep, IsTried, KnowsAs, Took, Tried, TriedOnce, WentOnce, closed_by, halted, walk_is_at, knows, new_walk, pausing, stands_at}
 use Rattle.mt_base.specs.Passes as known
-use Rattle.mt_read.specs.declared.cursor.Cursor.{Cursor}
-use Rattle.mt_read.specs.declared.cursor.KeptLeaf.{KeptLeaf}
-use Rattle.mt_read.specs.Cursors.{IsOnKeptLeaf, place_behind, place_from, query_at}
-use Rattle.mt_read.specs.Neighbours.{WasLeftMarked, WasMoved}
-use Rattle.mt_read.specs.Windows.{HasRead}
 use Rattle.mt_keep.specs.declared.keep.Busy as away
-use Rattle.mt_keep.specs.declared.keep.Given.{Given}
-use Rattle.mt_keep.specs.Keeping.{cuts_of}
-use Rattle.mt_keep.specs.declared.keep.Sight.{Sight}
-use Rattle.mt_rule.specs.declared.busy.Busy.{Busy}
-use Rattle.mt_rule.specs.declared.views.TurnView.{TurnView}
-use Rattle.mt_rule.specs.Tokens.{part_of, turn_seat}
 use Rattle.mt_rule.specs.Turns as turns
-use Rattle.mt_tree.specs.declared.shapes.Read.{Read}
-use Rattle.mt_tree.specs.declared.trees.Tree.{Tree}
-use Rattle.mt_tree.specs.Asks.{IsForNeighbour, unbounded}
-use Rattle.mt_tree.specs.Meeting.{HaveMet}
-use Rattle.mt_tree.specs.Trees.{IsNew, IsPassOf, Pass, Takes, TriesOnce, limit_of, passes_of, pass_in, steps_made, opened}
-use Rattle.mt_tree.specs.Tries.{IsBusyOf, WasMade}
-use Rattle.mt_tree.specs.Walks.{HasWalked, IsWalkOf}
-use Rattle.mt_tree.specs.declared.shapes.Field.{Field}
-use Rattle.mt_tree.specs.declared.shapes.MakeError.{MakeError}
 use Rattle.mt_tree.specs.declared.shapes.MakeError.TheVariants as make_error
-use Rattle.mt_tree.specs.declared.shapes.Shape.{Shape}
-use Rattle.mt_tree.specs.Shapes.{first_bad}
-use Rattle.mt_c.specs.declared.purse.Common.{Common}
-use Rattle.mt_c.specs.declared.purse.Purse.{Purse}
-use Rattle.mt_c.specs.declared.user.User.{User}
 use Rattle.mt_c.specs.declared.user_acts.Settling.TheVariants as settling
-use Rattle.mt_c.specs.declared.user_opens.Left.{Left}
 use Rattle.mt_c.specs.declared.user_opens.Unchanged.TheVariants as unchanged
-use Rattle.mt_c.specs.declared.walker.Walker.{Walker}
-use Rattle.mt_c.specs.Purses.{IsPurseBusy, IsChairAtPurse, RestsInPurse, WasGiven, WasKept, first_in}
-use Rattle.mt_c.specs.Receipts.{no_receipts}
-use Rattle.mt_c.specs.Spares.{IsSparePass}
-use Rattle.mt_c.specs.KeptWalks.{IsKeptWalk, last_index}
-use Rattle.mt_c.specs.Users.{HasLeft, IsFirstUser, IsOfPurse, IsSettledUser, IsSynced, IsWhy, common_of, cuts, known_to, user_tree}
-use Rattle.mt_c.specs.Walkers.{Answer, Continues, GaveUp, GoesFrom, WalkGoesOn, IsWalkAnswer, IsOnNoWalk, IsLeftBy, IsOnAt, IsReadBy, IsStep, IsTried, KnowsAs, Took, Tried, TriedOnce, WentOnce, closed_by, halted, walk_is_at, knows, new_walk, pausing, stands_at}
 
 -- ---- steps without the lock, and tries for it
 

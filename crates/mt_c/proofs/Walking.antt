@@ -1,19 +1,5 @@
 -- A step of a walk that C keeps.
-use Rattle.std.proofs.Common.{◌≡◌, ◌∙◌, ℕ, ◌≤◌, Option, Some, None, refl, sym, ap, subst}
-use Rattle.std.specs.Prelude.{IfSome}
-use Rattle.std.proofs.lemmas.Bool.{le-leb}
-use Rattle.mt_base.specs.declared.ranges.Range.{Range}
-use Rattle.mt_base.specs.Width.{greatest}
-use Rattle.mt_rows.specs.Publish.{map_by}
-use Rattle.mt_rows.specs.Sheet.{OnlyReads, Rooted, Sheet}
-use Rattle.mt_engine.specs.Engine.{Parts}
-use Rattle.mt_engine.specs.declared.range_walk.RangeWalk.{RangeWalk}
-use Rattle.mt_engine.specs.RangeWalks.{WalksFrom, StepsWithin, found_from, index_behind}
-use Rattle.mt_c.specs.Own.{OwnTree}
-use Rattle.mt_c.specs.Calls.{IsAsked, found_status, no_range, out_of}
-use Rattle.mt_c.specs.Walking.{IsStepped, HasSteppedOn, walk_index, walk_start, last_index_of, walk_from}
-use Rattle.mt_c.specs.declared.told.OutRange.{OutRange}
-use Rattle.mt_c.specs.declared.steps.OutWalk.{OutWalk}
+use Rattle.mt_c.proofs.Prelude.{◌≡◌, ◌∙◌, ℕ, ◌≤◌, Option, Some, None, refl, sym, ap, subst, IfSome, le-leb, Range, greatest, map_by, OnlyReads, Rooted, Sheet, Parts, RangeWalk, WalksFrom, StepsWithin, found_from, index_behind, OwnTree, IsAsked, found_status, no_range, out_of, IsStepped, HasSteppedOn, walk_index, walk_start, last_index_of, walk_from, OutRange, OutWalk}
 
 -- a walk goes on where a tree was only read
 pub walks_if_read : (s s' : Sheet) (walk : RangeWalk) → OnlyReads s s' → WalksFrom s.tree walk → WalksFrom s'.tree walk

@@ -2,13 +2,7 @@
 -- Source: this project's own; the kernel's include/uapi/asm-generic/errno-base.h and errno.h: E2BIG, ENOMEM, EINVAL, EDOM, ERANGE
 -- and EBADMSG.
 use Rattle.std.specs.Prelude.{◌≡◌, ◌⊎◌, ℕ, ◌<◌, ◌≤◌, ◌-◌, ◌^◌, List, ◌++◌, Ok, drop, length}
-use Rattle.mt_base.specs.Width.{most_rows}
-use Rattle.mt_log.specs.declared.lines.Log.{Log}
-use Rattle.mt_log.specs.declared.transcripts.Transcript.{Transcript}
-use Rattle.mt_log.specs.Reading.{log_of}
-use Rattle.mt_log.specs.Run.{IsRun, TellsRun}
-use Rattle.mt_log.specs.Text.{text_of}
-use Rattle.mt_verify.specs.Tellings.{count_of_calls, reads_told}
+use Rattle.mt_c.specs.Prelude.{most_rows, Log, Transcript, log_of, IsRun, TellsRun, text_of, count_of_calls, reads_told}
 
 -- ---- what is refused unread
 

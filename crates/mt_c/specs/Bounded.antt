@@ -1,11 +1,7 @@
 -- Steps of walks that look no further than an index.
 -- Source: the kernel's documentation of the maple tree, mas_find, which looks no further than its max.
 use Rattle.std.specs.Prelude.{◌≡◌, ℕ, Option, Some, None, Ok, nat_le, if◌then◌else◌}
-use Rattle.mt_base.specs.declared.ranges.Range.{Range}
-use Rattle.mt_read.specs.Cursors.{place_behind}
-use Rattle.mt_tree.specs.declared.shapes.Read.{Read}
-use Rattle.mt_tree.specs.declared.trees.Tree.{Tree}
-use Rattle.mt_engine.specs.RangeWalks.{index_behind}
+use Rattle.mt_c.specs.Prelude.{Range, place_behind, Read, Tree, index_behind, up_to}
 use Rattle.mt_c.specs.declared.shared_told.CallWindow.{CallWindow}
 use Rattle.mt_c.specs.declared.steps.OutWalk.{OutWalk}
 use Rattle.mt_c.specs.declared.told.OutRange.{OutRange}
@@ -16,7 +12,6 @@ use Rattle.mt_c.specs.Own.{OwnTree}
 use Rattle.mt_c.specs.Shared.{OnUser, OnlyWalks, answer_status, no_window, user_tree, window_of}
 use Rattle.mt_c.specs.Walkers.{StepsFrom, knows}
 use Rattle.mt_c.specs.Walking.{IsStepped, walk_index, last_index_of, walk_from}
-use Rattle.mt_list.specs.Places.{up_to}
 
 -- the index, where it is max or below
 abbrev pub place_to : ℕ → Option ℕ → Option ℕ

@@ -1,13 +1,6 @@
 -- Trees that are built of ranges, as C has them. Source: this project's own.
 use Rattle.std.specs.Prelude.{◌≡◌, ◌≢◌, ◌⊎◌, ℕ, List, Option, Some, None}
-use Rattle.mt_base.specs.declared.kinds.Kind.{Kind}
-use Rattle.mt_base.specs.declared.ranges.Range.{Range}
-use Rattle.mt_bulk.specs.declared.errors.BulkError.{BulkError}
-use Rattle.mt_bulk.specs.declared.errors.BulkError.TheVariants.{Order, TooMany, NoMemory}
-use Rattle.mt_bulk.specs.Bulk.{rows_in}
-use Rattle.mt_bulk.specs.Items.{misplaced}
-use Rattle.mt_engine.specs.Engine.{Parts}
-use Rattle.mt_image.specs.Bytes.{kind_code}
+use Rattle.mt_c.specs.Prelude.{Kind, Range, BulkError, Order, TooMany, NoMemory, rows_in, misplaced, Parts, kind_code}
 use Rattle.mt_c.specs.declared.building.BuildWhy.{BuildWhy}
 use Rattle.mt_c.specs.declared.told.OutRange.{OutRange}
 use Rattle.mt_c.specs.Copying.{FitsRows, IsOpenedWith}

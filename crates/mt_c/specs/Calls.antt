@@ -2,20 +2,11 @@
 -- Source: the kernel's include/uapi/asm-generic/errno-base.h and errno.h: ENOENT, EBADF, ENOMEM, EBUSY, EEXIST, EINVAL
 -- and EOVERFLOW.
 use Rattle.std.specs.Prelude.{◌≡◌, ℕ, ◌-◌, ◌^◌, ◌<◌, ◌≤◌, Option, Some, None}
-use Rattle.mt_base.specs.declared.calls.Call.{Call}
-use Rattle.mt_base.specs.declared.calls.Query.{Query}
-use Rattle.mt_base.specs.declared.ranges.Range.{Range}
-use Rattle.mt_base.specs.declared.replies.Reply.{Reply}
+use Rattle.mt_c.specs.Prelude.{Call, Query, Range, Reply, Shortage, answer, map_by, OnlyReads, Parts, IsApplied, most_calls}
 use Rattle.mt_base.specs.declared.replies.Reply.TheVariants as answers
-use Rattle.mt_base.specs.declared.replies.Shortage.{Shortage}
-use Rattle.mt_base.specs.Call.{answer}
-use Rattle.mt_rows.specs.Publish.{map_by}
-use Rattle.mt_rows.specs.Sheet.{OnlyReads}
-use Rattle.mt_engine.specs.Engine.{Parts, IsApplied}
 use Rattle.mt_c.specs.Own.{OwnTree}
 use Rattle.mt_c.specs.declared.told.OutRange.{OutRange}
 use Rattle.mt_c.specs.declared.told.ToldCall.{ToldCall}
-use Rattle.mt_rule.specs.Limits.{most_calls}
 
 -- ---- numbers and answers
 

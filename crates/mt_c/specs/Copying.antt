@@ -1,14 +1,7 @@
 -- Trees that open with a map, and the form of a tree's words.
 -- Source: the kernel's lib/maple_tree.c, mtree_dup and mt_validate; the numbers of rows are this project's.
 use Rattle.std.specs.Prelude.{◌≡◌, ◌⊎◌, ℕ, ◌≤◌, List, Option, Some, None}
-use Rattle.mt_base.specs.declared.kinds.Kind.{Kind}
-use Rattle.mt_base.specs.declared.ranges.Range.{Range}
-use Rattle.mt_base.specs.Width.{most_rows}
-use Rattle.mt_check.specs.declared.faults.Form.{Form}
-use Rattle.mt_check.specs.Check.{form_of}
-use Rattle.mt_rows.specs.Publish.{IsLawfulOf, map_by, tree_as}
-use Rattle.mt_engine.specs.Engine.{Parts}
-use Rattle.mt_tree.specs.Copies.{live_rows}
+use Rattle.mt_c.specs.Prelude.{Kind, Range, most_rows, Form, form_of, IsLawfulOf, map_by, tree_as, Parts, live_rows}
 use Rattle.mt_c.specs.declared.forms.OutForm.{OutForm}
 use Rattle.mt_c.specs.Calls.{IsAsked}
 use Rattle.mt_c.specs.Own.{OwnTree}

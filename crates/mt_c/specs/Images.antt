@@ -1,9 +1,6 @@
 -- Images of trees as C has them. Source: this project's own.
 use Rattle.std.specs.Prelude.{◌≡◌, ◌⊎◌, ℕ, ◌<◌, ◌≤◌, List, ◌++◌, Option, Some, None, Ok, IsErr, drop, length}
-use Rattle.mt_image.specs.Images.{IsImageOf}
-use Rattle.mt_image.specs.Reading.{Image, image_in}
-use Rattle.mt_rows.specs.Publish.{map_by}
-use Rattle.mt_engine.specs.Engine.{Parts}
+use Rattle.mt_c.specs.Prelude.{IsImageOf, Image, image_in, map_by, Parts}
 use Rattle.mt_c.specs.Calls.{IsAsked}
 use Rattle.mt_c.specs.Copying.{FitsRows, IsOpenedWith}
 use Rattle.mt_c.specs.Own.{OwnTree}

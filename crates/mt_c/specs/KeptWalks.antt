@@ -3,10 +3,7 @@
 use Rattle.std.specs.Prelude.{◌≡◌, ◌-◌, ◌^◌, ℕ, Option, Some, None, IfSome}
 use Rattle.std.proofs.Props.{props}
 use Rattle.std.specs.Coded.{Coded, Unit-prop, prop_coded}
-use Rattle.mt_read.specs.declared.cursor.Cursor.{Cursor}
-use Rattle.mt_rule.specs.declared.passes.Pass.{Pass}
-use Rattle.mt_tree.specs.Cursors.{apart_prop, ends_prop, fills_prop}
-use Rattle.mt_tree.specs.Walks.{IsWalkOf}
+use Rattle.mt_c.specs.Prelude.{Cursor, Pass, apart_prop, ends_prop, fills_prop, IsWalkOf}
 
 -- walks go on to the last index
 abbrev pub last_index : ℕ

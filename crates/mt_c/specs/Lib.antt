@@ -21,3 +21,4 @@ pub mod SharedMaps
 pub mod SharedImages
 pub mod RowsFor
 pub mod Stats
+pub mod Prelude

@@ -1,12 +1,6 @@
 -- What an open leaves of what C keeps. Source: this project's own; the codes of kinds are those of images.
 use Rattle.std.specs.Prelude.{◌≡◌, ◌≢◌, ◌⊎◌, ℕ, [], Option, Some, None, ◌<◌, ◌≤◌}
-use Rattle.mt_base.specs.declared.kinds.Kind.{Kind}
-use Rattle.mt_base.specs.Width.{kind_width, most_rows}
-use Rattle.mt_free.specs.Book.{new_book}
-use Rattle.mt_rows.specs.Plain.{new_sheet}
-use Rattle.mt_rows.specs.Publish.{map_by}
-use Rattle.mt_engine.specs.Engine.{Parts}
-use Rattle.mt_image.specs.Bytes.{kind_code}
+use Rattle.mt_c.specs.Prelude.{Kind, kind_width, most_rows, new_book, new_sheet, map_by, Parts, kind_code}
 use Rattle.mt_c.specs.Own.{OwnTree}
 
 -- an empty tree in so many rows, none of which was used

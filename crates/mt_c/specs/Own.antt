@@ -1,8 +1,6 @@
 -- What a tree that one thread at a time uses stands for. Source: this project's own.
 use Rattle.std.specs.Prelude.{◌≡◌}
-use Rattle.mt_engine.specs.declared.range_walk.RangeWalk.{RangeWalk}
-use Rattle.mt_engine.specs.Engine.{Parts}
-use Rattle.mt_engine.specs.RangeWalks.{WalksFrom}
+use Rattle.mt_c.specs.Prelude.{RangeWalk, Parts, WalksFrom}
 use Rattle.mt_c.specs.declared.own_tree.OwnTree.TheInside.{Inside}
 
 -- what its engine stands for, and the place of the walk that went last there

@@ -1,15 +1,9 @@
 -- Stores for which rows are found free beforehand, as C has them.
 -- Source: the kernel's documentation of the maple tree, mas_preallocate and mas_store_prealloc.
 use Rattle.std.specs.Prelude.{◌≡◌, ◌⊎◌, ℕ, ◌<◌, ◌≤◌, Option, Some, None}
-use Rattle.mt_base.specs.declared.calls.Call.{Call}
-use Rattle.mt_base.specs.declared.replies.Reply.{Reply}
-use Rattle.mt_engine.specs.Engine.{Parts}
-use Rattle.mt_engine.specs.Prepared.{IsPrestored}
-use Rattle.mt_engine.specs.Rooms.{HasRoom, IsScanned}
+use Rattle.mt_c.specs.Prelude.{Call, Reply, Parts, IsPrestored, HasRoom, IsScanned, IsReady, most_calls}
 use Rattle.mt_c.specs.Own.{OwnTree}
 use Rattle.mt_c.specs.Calls.{status_of, word_in_c}
-use Rattle.mt_tree.specs.Behind.{IsReady}
-use Rattle.mt_rule.specs.Limits.{most_calls}
 
 -- the rows were scanned, and those that no section holds are free
 pub record IsPrepared (t t' : Parts) : Type 0 where

@@ -7,12 +7,8 @@ use Rattle.atomic_table.specs.declared.badge.Badge.{Badge}
 use Rattle.atomic_table.specs.declared.shared.Seat.{Seat}
 use Rattle.mt_base.specs.Passes as known
 use Rattle.mt_keep.specs.declared.keep.Busy.{Busy}
-use Rattle.mt_keep.specs.declared.keep.Given.{Given}
-use Rattle.mt_keep.specs.declared.keep.Sight.{Sight}
+use Rattle.mt_c.specs.Prelude.{Given, Sight, turn_seat, Tree, pass_in}
 use Rattle.mt_keep.specs.Keeping as keep
-use Rattle.mt_rule.specs.Tokens.{turn_seat}
-use Rattle.mt_tree.specs.declared.trees.Tree.{Tree}
-use Rattle.mt_tree.specs.Trees.{pass_in}
 use Rattle.mt_c.specs.declared.purse.Common.{Common}
 use Rattle.mt_c.specs.declared.purse.Purse.{Purse}
 

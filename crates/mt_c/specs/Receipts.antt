@@ -1,9 +1,7 @@
 -- What a user of a shared tree keeps of its last steps at the tree's lock and at the purse. A value of it is made by such a step alone.
 -- Source: this project's own.
 use Rattle.std.specs.Prelude.{ℕ, Some, None, Result, Ok, Err}
-use Rattle.mt_keep.specs.declared.keep.Given.{Given}
-use Rattle.mt_rule.specs.declared.busy.Busy.{Busy}
-use Rattle.mt_tree.specs.declared.trees.Tree.{Tree}
+use Rattle.mt_c.specs.Prelude.{Given, Busy, Tree}
 use Rattle.mt_c.specs.declared.purse.Purse.{Purse}
 use Rattle.mt_c.specs.declared.receipts.Receipts.{Receipts}
 use Rattle.mt_c.specs.declared.user_acts.Settling.{Settling}

@@ -1,7 +1,7 @@
 -- How many rows surely hold so many ranges, while no section holds any.
 -- Source: this project's own: what a call that is refused for want of rows says of its map.
 use Rattle.std.specs.Prelude.{ℕ, zero, suc, ◌+◌, ◌-◌, ◌*◌, ◌/◌, ◌^◌, nat_le, if◌then◌else◌}
-use Rattle.mt_base.specs.Width.{most_rows}
+use Rattle.mt_c.specs.Prelude.{most_rows}
 
 -- one level more, where a tree may have it
 abbrev pub level_from : ℕ → ℕ → ℕ

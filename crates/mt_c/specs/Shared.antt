@@ -2,25 +2,8 @@
 -- Source: this project's own; EBADF, EAGAIN, EDOM, EOVERFLOW, EUSERS, EALREADY and EINPROGRESS are of the kernel's
 -- include/uapi/asm-generic/errno-base.h and errno.h.
 use Rattle.std.specs.Prelude.{◌≡◌, ◌≢◌, ◌⊎◌, ◌+◌, ℕ, [], Option, Some, None, Result, Ok, Err, nat_le, if◌then◌else◌, IfErr}
-use Rattle.mt_base.specs.declared.ranges.Range.{Range}
-use Rattle.mt_base.specs.declared.replies.Holder.{Holder}
-use Rattle.mt_base.specs.declared.calls.Call.{Call}
-use Rattle.mt_base.specs.declared.kinds.Kind.{Kind}
-use Rattle.mt_base.specs.declared.calls.Query.{Query}
-use Rattle.mt_base.specs.declared.calls.Query.TheVariants.{Load}
-use Rattle.mt_image.specs.Bytes.{kind_code}
-use Rattle.mt_keep.specs.declared.keep.Given.{Given}
-use Rattle.mt_rule.specs.declared.busy.Busy.{Busy}
-use Rattle.mt_tree.specs.declared.shapes.Done.{Done}
-use Rattle.mt_tree.specs.declared.shapes.Field.{Field}
+use Rattle.mt_c.specs.Prelude.{Range, Holder, Call, Kind, Query, Load, kind_code, Given, Busy, Done, Field, Read, Shape, Tree, most_made, first_bad, Takes, place_behind}
 use Rattle.mt_tree.specs.declared.shapes.Field.TheVariants as fields
-use Rattle.mt_tree.specs.declared.shapes.Read.{Read}
-use Rattle.mt_tree.specs.declared.shapes.Shape.{Shape}
-use Rattle.mt_tree.specs.declared.trees.Tree.{Tree}
-use Rattle.mt_tree.specs.Asks.{most_made}
-use Rattle.mt_tree.specs.Shapes.{first_bad}
-use Rattle.mt_tree.specs.Trees.{Takes}
-use Rattle.mt_read.specs.Cursors.{place_behind}
 use Rattle.mt_c.specs.declared.purse.Purse.{Purse}
 use Rattle.mt_c.specs.declared.steps.OutWalk.{OutWalk}
 use Rattle.mt_c.specs.declared.user.User.{User}

@@ -1,13 +1,6 @@
 -- Shared trees that open with the map of an image, or of ranges. Source: this project's own.
 use Rattle.std.specs.Prelude.{◌≡◌, ◌⊎◌, ℕ, ◌<◌, List, Option, Some, None, Ok, IsErr}
-use Rattle.mt_base.specs.declared.kinds.Kind.{Kind}
-use Rattle.mt_base.specs.declared.ranges.Range.{Range}
-use Rattle.mt_bulk.specs.Bulk.{rows_in}
-use Rattle.mt_bulk.specs.Items.{misplaced}
-use Rattle.mt_image.specs.Bytes.{kind_code}
-use Rattle.mt_image.specs.Reading.{Image, image_in}
-use Rattle.mt_rows.specs.Publish.{map_by}
-use Rattle.mt_tree.specs.declared.shapes.Shape.{Shape}
+use Rattle.mt_c.specs.Prelude.{Kind, Range, rows_in, misplaced, kind_code, Image, image_in, map_by, Shape}
 use Rattle.mt_c.specs.declared.user.User.{User}
 use Rattle.mt_c.specs.Building.{LacksRanges}
 use Rattle.mt_c.specs.Shared.{IsBadShape}

@@ -1,15 +1,8 @@
 -- Shared trees that open with a map.
 -- Source: this project's own; the kernel's lib/maple_tree.c, mtree_dup.
 use Rattle.std.specs.Prelude.{◌≡◌, ◌⊎◌, ℕ, ◌<◌, List, Option, Some, None}
-use Rattle.mt_base.specs.declared.kinds.Kind.{Kind}
-use Rattle.mt_base.specs.declared.ranges.Range.{Range}
-use Rattle.mt_rows.specs.Publish.{map_by}
-use Rattle.mt_rows.specs.Sheet.{Rooted}
-use Rattle.mt_tree.specs.declared.shapes.DupError.{DupError}
+use Rattle.mt_c.specs.Prelude.{Kind, Range, map_by, Rooted, DupError, Shape, live_rows, first_bad}
 use Rattle.mt_tree.specs.declared.shapes.DupError.TheVariants as errors
-use Rattle.mt_tree.specs.declared.shapes.Shape.{Shape}
-use Rattle.mt_tree.specs.Copies.{live_rows}
-use Rattle.mt_tree.specs.Shapes.{first_bad}
 use Rattle.mt_c.specs.declared.user.User.{User}
 use Rattle.mt_c.specs.Calls.{IsAsked}
 use Rattle.mt_c.specs.Own.{OwnTree}

@@ -1,7 +1,6 @@
 -- A pass of a shared tree that no user has. Source: this project's own.
 use Rattle.std.specs.Prelude.{◌≡◌, None}
-use Rattle.mt_tree.specs.declared.trees.Tree.{Tree}
-use Rattle.mt_tree.specs.Trees.{Pass, IsPassOf, pass_in}
+use Rattle.mt_c.specs.Prelude.{Tree, Pass, IsPassOf, pass_in}
 
 -- It is of this tree, and no section of it stands open.
 pub record IsSparePass (t : Tree) (p : Pass) : Type 0 where

@@ -1,8 +1,6 @@
 -- What is told of how a tree uses its rows. Source: this project's own.
 use Rattle.std.specs.Prelude.{◌≡◌, ℕ, Option, Some, None, length}
-use Rattle.mt_engine.specs.Engine.{Parts}
-use Rattle.mt_engine.specs.Heights.{HasHeight}
-use Rattle.mt_tree.specs.Copies.{live_rows}
+use Rattle.mt_c.specs.Prelude.{Parts, HasHeight, live_rows}
 use Rattle.mt_c.specs.declared.stats.OutStats.{OutStats}
 use Rattle.mt_c.specs.Calls.{IsAsked}
 use Rattle.mt_c.specs.Own.{OwnTree}

@@ -3,16 +3,8 @@
 use Rattle.std.specs.Prelude.{◌≡◌, ◌+◌, ℕ, List, [], ◌∷◌, None, map, ◌++◌, Result, Ok, Err, length}
 use Rattle.std.specs.Arc.{arc_value}
 use Rattle.std.specs.List.{range_with_len}
-use Rattle.mt_base.specs.declared.ranges.Range.{Range}
+use Rattle.mt_c.specs.Prelude.{Range, Given, cuts_of, Busy, Tree, Shape, HaveMet, opened, limit_of, passes_of, IsBusyOf}
 use Rattle.mt_base.specs.Passes as known
-use Rattle.mt_keep.specs.declared.keep.Given.{Given}
-use Rattle.mt_keep.specs.Keeping.{cuts_of}
-use Rattle.mt_rule.specs.declared.busy.Busy.{Busy}
-use Rattle.mt_tree.specs.declared.trees.Tree.{Tree}
-use Rattle.mt_tree.specs.declared.shapes.Shape.{Shape}
-use Rattle.mt_tree.specs.Meeting.{HaveMet}
-use Rattle.mt_tree.specs.Trees.{opened, limit_of, passes_of}
-use Rattle.mt_tree.specs.Tries.{IsBusyOf}
 use Rattle.mt_c.specs.declared.purse.Common.{Common}
 use Rattle.mt_c.specs.declared.purse.Purse.{Purse}
 use Rattle.mt_c.specs.declared.user.User.{User}

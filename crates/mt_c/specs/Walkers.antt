@@ -1,26 +1,9 @@
 -- What a pass of a shared tree does on its walk and off it: reads without the lock, and calls that try for it.
 -- Source: this project's own; the kernel's documentation of the maple tree, mas_find over a struct ma_state that the caller keeps.
 use Rattle.std.specs.Prelude.{◌≡◌, ℕ, ◌+◌, ◌≤◌, ◌==◌, Bool, true, false, Option, Some, None, Result, Ok, Err}
-use Rattle.mt_base.specs.declared.calls.Call.{Call}
-use Rattle.mt_base.specs.declared.calls.Query.{Query}
-use Rattle.mt_base.specs.declared.ranges.Range.{Range}
+use Rattle.mt_c.specs.Prelude.{Call, Query, Range, Cursor, Moved, place_behind, query_at, WasLeftMarked, WasMoved, HasRead, Busy, part_of, turn_seat, Done, Read, Worn, Tree, IsForNeighbour, unbounded, Pass, Takes, pass_in, steps_made, opened, IsBusyOf, WasMade, HasWalked}
 use Rattle.mt_base.specs.Passes as known
-use Rattle.mt_read.specs.declared.cursor.Cursor.{Cursor}
-use Rattle.mt_read.specs.declared.neighbours.Moved.{Moved}
-use Rattle.mt_read.specs.Cursors.{place_behind, query_at}
-use Rattle.mt_read.specs.Neighbours.{WasLeftMarked, WasMoved}
-use Rattle.mt_read.specs.Windows.{HasRead}
-use Rattle.mt_rule.specs.declared.busy.Busy.{Busy}
-use Rattle.mt_rule.specs.Tokens.{part_of, turn_seat}
 use Rattle.mt_rule.specs.Turns as turns
-use Rattle.mt_tree.specs.declared.shapes.Done.{Done}
-use Rattle.mt_tree.specs.declared.shapes.Read.{Read}
-use Rattle.mt_tree.specs.declared.shapes.Worn.{Worn}
-use Rattle.mt_tree.specs.declared.trees.Tree.{Tree}
-use Rattle.mt_tree.specs.Asks.{IsForNeighbour, unbounded}
-use Rattle.mt_tree.specs.Trees.{Pass, Takes, pass_in, steps_made, opened}
-use Rattle.mt_tree.specs.Tries.{IsBusyOf, WasMade}
-use Rattle.mt_tree.specs.Walks.{HasWalked}
 use Rattle.mt_c.specs.declared.walker.Walker.{Walker}
 pub use Rattle.mt_c.specs.KeptWalks.{IsKeptWalk, last_index, walks_coded}
 

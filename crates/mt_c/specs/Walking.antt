@@ -1,10 +1,7 @@
 -- Walks by ranges, as C has them: a walk is an index to go on from, which C keeps.
 -- Source: the kernel's include/linux/maple_tree.h, mas_for_each.
 use Rattle.std.specs.Prelude.{◌≡◌, ℕ, ◌==◌, Option, Some, None, IfSome, if◌then◌else◌}
-use Rattle.mt_base.specs.declared.ranges.Range.{Range}
-use Rattle.mt_base.specs.Width.{greatest}
-use Rattle.mt_rows.specs.Publish.{map_by}
-use Rattle.mt_engine.specs.RangeWalks.{found_from, index_behind, index_in, StepsWithin}
+use Rattle.mt_c.specs.Prelude.{Range, greatest, map_by, found_from, index_behind, index_in, StepsWithin}
 use Rattle.mt_c.specs.declared.told.OutRange.{OutRange}
 use Rattle.mt_c.specs.declared.steps.OutWalk.{OutWalk}
 use Rattle.mt_c.specs.Own.{OwnTree}

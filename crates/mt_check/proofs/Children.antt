@@ -1,32 +1,8 @@
 -- The walk through the children of a row: what each call of it is asked for and leaves.
-use Rattle.std.proofs.Common.{◌≡◌, ◌≢◌, ◌⊎◌, inl, inr, ℕ, zero, suc, ◌+◌, ◌-◌, ◌*◌, ◌^◌, ◌<◌, ◌≤◌, ◌&&◌, List, Option, Some, Bool, true, false, length, refl, sym, ap, ◌∙◌, subst, arith}
-use Rattle.std.specs.Prelude.{Result, Ok, Err, OnOk, max, slice_index_or}
-use Rattle.std.specs.List.{slice_get}
-use Rattle.std.proofs.lemmas.Option.{slice_get_within}
-use Rattle.mt_base.specs.Width.{deepest}
-use Rattle.mt_layout.specs.declared.names.RowKind.{RowKind}
-use Rattle.mt_layout.specs.declared.names.RowKind.TheVariants.{Leaf, Inner, Gapped}
-use Rattle.mt_layout.specs.declared.items.Item.{Item}
-use Rattle.mt_layout.specs.Rows.{parent_at}
-use Rattle.mt_layout.specs.Spans.{spans_from}
-use Rattle.mt_layout.specs.Columns.{gap_column}
-use Rattle.mt_layout.specs.Sizes.{slots_of}
-use Rattle.mt_rows.specs.Spans.{column, spans_in}
-use Rattle.mt_rows.specs.Laws.{Tree, items_in}
-use Rattle.mt_rows.specs.Sheet.{Sheet, OnlyReads}
-use Rattle.mt_check.specs.declared.faults.Fault.{Fault}
-use Rattle.mt_check.specs.declared.faults.Law.TheVariants.{Gaps}
-use Rattle.mt_check.specs.declared.walks.Walk.{Walk}
-use Rattle.mt_check.specs.declared.walks.Visit.{Visit}
-use Rattle.mt_check.specs.declared.walks.Row.{Row}
-use Rattle.mt_check.specs.declared.walks.Below.{Below}
-use Rattle.mt_check.specs.RowTests.{tells_gap}
-use Rattle.mt_check.specs.Check.{own_faults, faults_at}
-use Rattle.mt_check.specs.Walks.{no_item, tree_from, way_of, height_from, LeadsToDepth, depth_from, depth_known, IsEntered, IsAnswerAt, below_at}
+use Rattle.mt_check.proofs.Prelude.{◌≡◌, ◌≢◌, ◌⊎◌, inl, inr, ℕ, zero, suc, ◌+◌, ◌-◌, ◌*◌, ◌^◌, ◌<◌, ◌≤◌, ◌&&◌, List, Option, Some, Bool, true, false, length, refl, sym, ap, ◌∙◌, subst, arith, Result, Ok, Err, OnOk, max, slice_index_or, slice_get, slice_get_within, deepest, RowKind, Leaf, Inner, Gapped, Item, parent_at, spans_from, gap_column, slots_of, column, spans_in, Tree, items_in, Sheet, OnlyReads, Fault, Gaps, Walk, Visit, Row, Below, tells_gap, own_faults, faults_at, no_item, tree_from, way_of, height_from, LeadsToDepth, depth_from, depth_known, IsEntered, IsAnswerAt, below_at, reads_on, same_tree}
 use Rattle.mt_check.proofs.Loaded.{none_read}
 use Rattle.mt_check.proofs.Onward.{first_front, Onward, onward_begins, onward_next}
 use Rattle.mt_check.proofs.Descending.{tree_stays, gap_told, some_left, many_here, child_span, child_leads, child_fault, gap_fault, all_answer, all_depth, rows_add, ranges_add}
-use Rattle.mt_rows.proofs.Loads.{reads_on, same_tree}
 
 -- the walk through a row's children, up to a slot
 pub record Goes (s s' : Sheet) (walk walk' : Walk) (visit : Visit) (row : Row) (slot : ℕ) (below : Below) (gaps : Bool) : Type 0 where

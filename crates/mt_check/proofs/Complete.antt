@@ -1,21 +1,6 @@
 -- Lawful words have no faults.
-use Rattle.std.proofs.Common.{◌≡◌, ℕ, zero, suc, ◌+◌, ◌<◌, ◌≤◌, ◌==◌, List, [], ◌∷◌, ◌++◌, Bool, true, false, refl, ap, ◌∙◌, subst, inl, inr, arith, append-nil}
-use Rattle.std.specs.Prelude.{nat_le}
-use Rattle.std.specs.List.{AllByRecursion}
-use Rattle.std.proofs.lemmas.Bool.{cases_Bool, and_from, le-leb, eq-eqb}
-use Rattle.mt_base.specs.Width.{deepest}
-use Rattle.mt_layout.specs.declared.spans.Span.{Span}
-use Rattle.mt_layout.specs.Rows.{row_in, named_kind, parent_at}
-use Rattle.mt_rows.specs.Spans.{column, inner_of, spans_in, root_span}
-use Rattle.mt_rows.specs.Levels.{Levels}
-use Rattle.mt_rows.specs.Trees.{by_kind}
-use Rattle.mt_rows.specs.Laws.{Tree, IsRow, IsTended, IsLawful, ParentsFrom, GapLaw, GapLawBy, kind_on}
-use Rattle.mt_rows.proofs.Depth.{by_leaf, by_inner, height_by_depth}
-use Rattle.mt_rows.proofs.Joins.{levels_front, levels_back}
-use Rattle.mt_check.specs.declared.faults.Fault.{Fault}
+use Rattle.mt_check.proofs.Prelude.{◌≡◌, ℕ, zero, suc, ◌+◌, ◌<◌, ◌≤◌, ◌==◌, List, [], ◌∷◌, ◌++◌, Bool, true, false, refl, ap, ◌∙◌, subst, inl, inr, arith, append-nil, nat_le, AllByRecursion, cases_Bool, and_from, le-leb, eq-eqb, deepest, Span, row_in, named_kind, parent_at, column, inner_of, spans_in, root_span, Levels, by_kind, Tree, IsRow, IsTended, IsLawful, ParentsFrom, GapLaw, GapLawBy, kind_on, by_leaf, by_inner, height_by_depth, levels_front, levels_back, Fault, depth_at, has_depth, longest_at, has_gaps, Way, at_row, own_faults, gaps_by, faults_below, faults_at, root_way, faults_in}
 use Rattle.mt_check.specs.declared.faults.Law.TheVariants as law
-use Rattle.mt_check.specs.RowTests.{depth_at, has_depth, longest_at, has_gaps}
-use Rattle.mt_check.specs.Check.{Way, at_row, own_faults, gaps_by, faults_below, faults_at, root_way, faults_in}
 use Rattle.mt_check.proofs.Lists.{both_none, holds}
 use Rattle.mt_check.proofs.OneRow.{told_gaps, none_told}
 use Rattle.mt_check.proofs.Longest.{each_longest}

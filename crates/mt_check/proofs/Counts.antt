@@ -1,21 +1,5 @@
 -- How much stands below a row at the most, and what stands in a leaf.
-use Rattle.std.proofs.Common.{◌≡◌, ℕ, zero, suc, ◌+◌, ◌*◌, ◌^◌, ◌<◌, ◌≤◌, ◌==◌, List, [], ◌∷◌, Option, Some, None, not, length, filter, refl, ap, inl, inr, arith, length-append}
-use Rattle.std.specs.List.{flat_map}
-use Rattle.std.proofs.lemmas.Bool.{cases_Bool}
-use Rattle.std.proofs.Math.Nat.{pow-succ', pow-le-pow_right, one-le-pow, mul-le-mul_right}
-use Rattle.mt_base.specs.declared.ranges.Range.{Range}
-use Rattle.mt_base.specs.Width.{columns, deepest}
-use Rattle.mt_base.proofs.WidthBounds.{deepest_fits}
-use Rattle.mt_layout.specs.declared.names.RowKind.{RowKind}
-use Rattle.mt_layout.specs.declared.names.RowKind.TheVariants.{Leaf, Inner, Gapped}
-use Rattle.mt_layout.specs.declared.items.Item.{Item}
-use Rattle.mt_layout.specs.declared.spans.Span.{Span}
-use Rattle.mt_layout.specs.Rows.{named_kind}
-use Rattle.mt_layout.specs.Spans.{spans_from, leaf_range}
-use Rattle.mt_layout.proofs.RowSizes.{some_columns}
-use Rattle.mt_rows.specs.Spans.{Table, spans_in}
-use Rattle.mt_rows.specs.Trees.{by_kind, ranges_of}
-use Rattle.mt_rows.proofs.PlainPlant.{children_few}
+use Rattle.mt_check.proofs.Prelude.{◌≡◌, ℕ, zero, suc, ◌+◌, ◌*◌, ◌^◌, ◌<◌, ◌≤◌, ◌==◌, List, [], ◌∷◌, Option, Some, None, not, length, filter, refl, ap, inl, inr, arith, length-append, flat_map, cases_Bool, pow-succ', pow-le-pow_right, one-le-pow, mul-le-mul_right, Range, columns, deepest, deepest_fits, RowKind, Leaf, Inner, Gapped, Item, Span, named_kind, spans_from, leaf_range, some_columns, Table, spans_in, by_kind, ranges_of, children_few}
 
 -- ---- ranges below a row
 

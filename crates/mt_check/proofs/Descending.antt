@@ -1,41 +1,6 @@
 -- From a row that was entered to its children and back.
-use Rattle.std.proofs.Common.{◌≡◌, ◌≢◌, ℕ, zero, suc, ◌+◌, ◌-◌, ◌^◌, ◌<◌, ◌≤◌, ◌==◌, List, [], ◌∷◌, ◌++◌, Option, Some, None, Bool, true, false, length, get_or, refl, sym, ap, ◌∙◌, subst, inl, inr, arith}
-use Rattle.std.specs.Prelude.{nat_eq, nat_le, slice_index, filter, not, Any, Ok, Err}
-use Rattle.std.specs.List.{slice_get, flat_map, list_any}
-use Rattle.std.specs.Cmp.Lexicographic.{pointwise}
-use Rattle.std.proofs.lemmas.Bool.{cases_Bool, and_parts, eqb-true, eqb-false, not-true}
-use Rattle.std.proofs.lemmas.List.Folds.{Any-from_list_any}
-use Rattle.mt_base.specs.declared.ranges.Range.{Range}
-use Rattle.mt_base.proofs.Lists.{none_or_some}
-use Rattle.mt_base.specs.Width.{deepest}
-use Rattle.mt_layout.specs.declared.names.RowKind.{RowKind}
-use Rattle.mt_layout.specs.declared.names.RowKind.TheVariants.{Leaf, Inner, Gapped}
-use Rattle.mt_layout.specs.declared.items.Item.{Item}
-use Rattle.mt_layout.specs.declared.spans.Span.{Span}
-use Rattle.mt_layout.specs.Rows.{row_in, named_kind, parent_at}
-use Rattle.mt_layout.specs.Columns.{RiseFrom, pivot_column, gap_column, gap_at, item_at, items_from, longest_hole}
-use Rattle.mt_layout.specs.Sizes.{slots_of, gaps_of}
-use Rattle.mt_layout.specs.Spans.{spans_from, leaf_range, longest_in}
-use Rattle.mt_layout.proofs.Reading.{gap_at-some}
-use Rattle.mt_layout.proofs.RowSizes.{some_gaps_of}
-use Rattle.mt_layout.proofs.SpanLists.{fills_rise, length-spans_from}
-use Rattle.mt_rows.specs.Spans.{Table, base_of, column, spans_in}
-use Rattle.mt_rows.specs.Trees.{by_kind, height_of, rows_of, ranges_of}
-use Rattle.mt_rows.specs.Laws.{Tree, top_of, items_in, words_in}
-use Rattle.mt_rows.specs.Sheet.{Sheet, OnlyReads}
-use Rattle.mt_rows.proofs.Deeper.{ranges_of_deeper, rows_of_deeper, height_of_inner, ranges_of_inner, rows_of_inner, of_first_at, by_kind_inner}
-use Rattle.mt_rows.proofs.Depth.{by_leaf}
-use Rattle.mt_rows.proofs.PlainPlant.{rows_fit}
-use Rattle.mt_rows.proofs.Loads.{same_tree}
-use Rattle.mt_check.specs.declared.faults.Fault.{Fault}
+use Rattle.mt_check.proofs.Prelude.{◌≡◌, ◌≢◌, ℕ, zero, suc, ◌+◌, ◌-◌, ◌^◌, ◌<◌, ◌≤◌, ◌==◌, List, [], ◌∷◌, ◌++◌, Option, Some, None, Bool, true, false, length, get_or, refl, sym, ap, ◌∙◌, subst, inl, inr, arith, nat_eq, nat_le, slice_index, filter, not, Any, Ok, Err, slice_get, flat_map, list_any, pointwise, cases_Bool, and_parts, eqb-true, eqb-false, not-true, Any-from_list_any, Range, none_or_some, deepest, RowKind, Leaf, Inner, Gapped, Item, Span, row_in, named_kind, parent_at, RiseFrom, pivot_column, gap_column, gap_at, item_at, items_from, longest_hole, slots_of, gaps_of, spans_from, leaf_range, longest_in, gap_at-some, some_gaps_of, fills_rise, length-spans_from, Table, base_of, column, spans_in, by_kind, height_of, rows_of, ranges_of, Tree, top_of, items_in, words_in, Sheet, OnlyReads, ranges_of_deeper, rows_of_deeper, height_of_inner, ranges_of_inner, rows_of_inner, of_first_at, by_kind_inner, by_leaf, rows_fit, same_tree, Fault, Walk, Visit, Row, Below, depth_at, has_depth, rise_to, words_of, has_pivots, are_apart, has_holes, longest_of, longest_by, longest_at, tells_gap, has_gaps_from, Way, unless, at_row, own_faults, gaps_by, faults_below, faults_at, no_item, tree_from, way_of, height_from, LeadsToDepth, depth_from, depth_known, IsEntered, IsAnswerAt, below_at}
 use Rattle.mt_check.specs.declared.faults.Law.TheVariants as law
-use Rattle.mt_check.specs.declared.walks.Walk.{Walk}
-use Rattle.mt_check.specs.declared.walks.Visit.{Visit}
-use Rattle.mt_check.specs.declared.walks.Row.{Row}
-use Rattle.mt_check.specs.declared.walks.Below.{Below}
-use Rattle.mt_check.specs.RowTests.{depth_at, has_depth, rise_to, words_of, has_pivots, are_apart, has_holes, longest_of, longest_by, longest_at, tells_gap, has_gaps_from}
-use Rattle.mt_check.specs.Check.{Way, unless, at_row, own_faults, gaps_by, faults_below, faults_at}
-use Rattle.mt_check.specs.Walks.{no_item, tree_from, way_of, height_from, LeadsToDepth, depth_from, depth_known, IsEntered, IsAnswerAt, below_at}
 use Rattle.mt_check.proofs.Lists.{both_none}
 use Rattle.mt_check.proofs.OneRow.{spans_are, some_in, rising_fills}
 use Rattle.mt_check.proofs.Passes.{Passes, none_passes}

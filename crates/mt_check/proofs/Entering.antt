@@ -1,26 +1,6 @@
 -- What is told of a row that the walk enters is what its table tells.
-use Rattle.std.proofs.Common.{◌≡◌, ℕ, zero, suc, ◌≤◌, List, [], ◌∷◌, ◌++◌, Option, Some, None, Bool, true, refl, sym, ap, ◌∙◌, arith}
-use Rattle.std.specs.Prelude.{unwrap_or}
-use Rattle.std.specs.List.{slice_get}
-use Rattle.mt_base.specs.Width.{deepest}
-use Rattle.mt_layout.specs.declared.names.RowKind.{RowKind}
-use Rattle.mt_layout.specs.declared.names.RowKind.TheVariants.{Leaf, Inner, Gapped}
-use Rattle.mt_layout.specs.declared.spans.Span.{Span}
-use Rattle.mt_layout.specs.Rows.{row_in, named_kind}
-use Rattle.mt_rows.specs.Spans.{spans_in}
-use Rattle.mt_rows.specs.Trees.{levels_by, of_first, height_of}
-use Rattle.mt_rows.specs.Laws.{Tree}
-use Rattle.mt_check.specs.declared.faults.Law.{Law}
+use Rattle.mt_check.proofs.Prelude.{◌≡◌, ℕ, zero, suc, ◌≤◌, List, [], ◌∷◌, ◌++◌, Option, Some, None, Bool, true, refl, sym, ap, ◌∙◌, arith, unwrap_or, slice_get, deepest, RowKind, Leaf, Inner, Gapped, Span, row_in, named_kind, spans_in, levels_by, of_first, height_of, Tree, Law, Fault, Named, Walk, Visit, Row, names_row, depth_at, has_depth, row_items, broken_words, unless, broken_in, broken_by, at_row, own_faults, way_of, height_from, LeadsToDepth, depth_from, IsEntered}
 use Rattle.mt_check.specs.declared.faults.Law.TheVariants as law
-use Rattle.mt_check.specs.declared.faults.Fault.{Fault}
-use Rattle.mt_check.specs.declared.row_laws.Named.{Named}
-use Rattle.mt_check.specs.declared.walks.Walk.{Walk}
-use Rattle.mt_check.specs.declared.walks.Visit.{Visit}
-use Rattle.mt_check.specs.declared.walks.Row.{Row}
-use Rattle.mt_check.specs.RowTests.{names_row, depth_at, has_depth}
-use Rattle.mt_check.specs.Reads.{row_items, broken_words}
-use Rattle.mt_check.specs.Check.{unless, broken_in, broken_by, at_row, own_faults}
-use Rattle.mt_check.specs.Walks.{way_of, height_from, LeadsToDepth, depth_from, IsEntered}
 
 -- ---- the depth
 

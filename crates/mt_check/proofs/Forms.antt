@@ -1,13 +1,5 @@
 -- What a check of lawful words answers is their form.
-use Rattle.std.proofs.Common.{◌≡◌, ℕ, List, [], ◌∷◌, ap, ◌∙◌}
-use Rattle.std.specs.Prelude.{Ok}
-use Rattle.mt_base.specs.declared.kinds.Kind.{Kind}
-use Rattle.mt_rows.specs.declared.rows.Place.TheVariants.{Root}
-use Rattle.mt_rows.specs.Sheet.{Rooted, Sheet}
-use Rattle.mt_rows.specs.Publish.{tree_as, with_published}
-use Rattle.mt_check.specs.declared.faults.Fault.{Fault}
-use Rattle.mt_check.specs.declared.faults.Form.{Form}
-use Rattle.mt_check.specs.Check.{checked, first_or, faults_in, form_of}
+use Rattle.mt_check.proofs.Prelude.{◌≡◌, ℕ, List, [], ◌∷◌, ap, ◌∙◌, Ok, Kind, Root, Rooted, Sheet, tree_as, with_published, Fault, Form, checked, first_or, faults_in, form_of}
 
 pub form_by : (s read : Sheet) (kind : Kind) (root : ℕ) (form : Form) → read.tree ≡ s.tree → root ≡ s.tree.root → Ok form ≡ checked (tree_as kind (with_published read.tree Root root)) → form ≡ form_of (tree_as kind s.tree)
 form_by s read kind root form same root_is answer = by (faults_in (tree_as kind (with_published read.tree Root root))) answer ∙ ap (λ (t : Rooted). form_of (tree_as kind t)) tree_is

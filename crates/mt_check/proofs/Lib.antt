@@ -15,3 +15,4 @@ pub mod Descending
 pub mod Children
 pub mod Whole
 pub mod Forms
+mod Prelude

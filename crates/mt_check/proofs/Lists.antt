@@ -1,7 +1,5 @@
 -- Lists of laws and faults that are empty.
-use Rattle.std.proofs.Common.{◌≡◌, List, [], ◌∷◌, ◌++◌, Bool, true, false, map, refl, ap, ◌∙◌}
-use Rattle.mt_check.specs.declared.faults.Law.{Law}
-use Rattle.mt_check.specs.Check.{unless}
+use Rattle.mt_check.proofs.Prelude.{◌≡◌, List, [], ◌∷◌, ◌++◌, Bool, true, false, map, refl, ap, ◌∙◌, Law, unless}
 
 pub append_none : {A : Type 0} (xs ys : List A) → xs ++ ys ≡ [] → (xs ≡ []) × (ys ≡ [])
 append_none [] ys none = (refl, none)

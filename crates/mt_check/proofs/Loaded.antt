@@ -1,18 +1,5 @@
 -- Rows of which words were only read.
-use Rattle.std.proofs.Common.{◌≡◌, ℕ, suc, ◌+◌, ◌-◌, ◌<◌, ◌≤◌, ◌==◌, ◌&&◌, Bool, true, List, [], ◌∷◌, ◌++◌, length, nat_lt, refl, sym, ap, ◌∙◌, subst, length-append, inl, inr, arith, lt-ltb}
-use Rattle.std.proofs.Math.Bool.{and_assoc}
-use Rattle.std.proofs.lemmas.Bool.{cases_Bool, ltb-true}
-use Rattle.std.specs.Prelude.{if◌then◌else◌, nat_le}
-use Rattle.mt_layout.specs.declared.items.Item.{Item}
-use Rattle.mt_layout.specs.declared.names.RowKind.{RowKind}
-use Rattle.mt_layout.specs.Columns.{item_at, items_from, pivot_column}
-use Rattle.mt_layout.specs.Sizes.{slots_of, gaps_of}
-use Rattle.mt_layout.proofs.Reading.{read_last, read_more, read_all, ends, goes_on, some_items}
-use Rattle.mt_rows.specs.Spans.{Table, base_of, column}
-use Rattle.mt_rows.specs.Sheet.{Sheet, Rooted, OnlyReads}
-use Rattle.mt_check.specs.Reads.{row_items}
-use Rattle.mt_check.specs.RowTests.{rise_to}
-use Rattle.mt_rows.proofs.Loads.{reads_on, same_tree}
+use Rattle.mt_check.proofs.Prelude.{◌≡◌, ℕ, suc, ◌+◌, ◌-◌, ◌<◌, ◌≤◌, ◌==◌, ◌&&◌, Bool, true, List, [], ◌∷◌, ◌++◌, length, nat_lt, refl, sym, ap, ◌∙◌, subst, length-append, inl, inr, arith, lt-ltb, and_assoc, cases_Bool, ltb-true, if◌then◌else◌, nat_le, Item, RowKind, item_at, items_from, pivot_column, slots_of, gaps_of, read_last, read_more, read_all, ends, goes_on, some_items, Table, base_of, column, Sheet, Rooted, OnlyReads, row_items, rise_to, reads_on, same_tree}
 
 pub none_read : (s : Sheet) → OnlyReads s s
 none_read s = refl

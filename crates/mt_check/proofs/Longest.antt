@@ -1,19 +1,5 @@
 -- By depth and by levels the longest hole below rows is the same.
-use Rattle.std.proofs.Common.{◌≡◌, ℕ, zero, suc, ◌<◌, List, [], ◌∷◌, ◌++◌, Option, Some, Bool, true, false, refl, ap, ◌∙◌, arith}
-use Rattle.std.specs.Prelude.{max}
-use Rattle.std.specs.List.{AllByRecursion}
-use Rattle.mt_layout.specs.declared.names.RowKind.{RowKind}
-use Rattle.mt_layout.specs.declared.names.RowKind.TheVariants.{Leaf}
-use Rattle.mt_layout.specs.declared.spans.Span.{Span}
-use Rattle.mt_layout.specs.Rows.{named_kind}
-use Rattle.mt_layout.specs.Spans.{longest_in}
-use Rattle.mt_rows.specs.Spans.{Table, spans_in, inner_of}
-use Rattle.mt_rows.specs.Levels.{expand, Levels}
-use Rattle.mt_rows.specs.Laws.{Tree, IsRow, longest_below}
-use Rattle.mt_rows.proofs.Depth.{IsLeaf, IsInner, leaves, inners}
-use Rattle.mt_rows.proofs.Joins.{levels_front, levels_back}
-use Rattle.mt_rows.proofs.Longest.{longest_in-append}
-use Rattle.mt_check.specs.RowTests.{longest_of, longest_by, longest_at}
+use Rattle.mt_check.proofs.Prelude.{◌≡◌, ℕ, zero, suc, ◌<◌, List, [], ◌∷◌, ◌++◌, Option, Some, Bool, true, false, refl, ap, ◌∙◌, arith, max, AllByRecursion, RowKind, Leaf, Span, named_kind, longest_in, Table, spans_in, inner_of, expand, Levels, Tree, IsRow, longest_below, IsLeaf, IsInner, leaves, inners, levels_front, levels_back, longest_in-append, longest_of, longest_by, longest_at}
 
 longest_of-append : (f : Span → ℕ) (xs ys : List Span) → longest_of f (xs ++ ys) ≡ max (longest_of f xs) (longest_of f ys)
 longest_of-append f [] ys = omega arith

@@ -1,32 +1,5 @@
 -- What the tests of a row ask is what the laws say.
-use Rattle.std.proofs.Common.{◌≡◌, ◌≢◌, ℕ, ◌+◌, ◌<◌, ◌≤◌, ◌==◌, ◌&&◌, ◌||◌, List, [], ◌∷◌, Option, Some, Bool, true, false, not, length, refl, sym, ap, ◌∙◌, inl, inr, arith}
-use Rattle.std.specs.Prelude.{nat_eq, nat_le, nat_lt, slice_index}
-use Rattle.std.specs.List.{AllByRecursion, flat_map, list_all, list_any}
-use Rattle.std.specs.Cmp.Lexicographic.{pointwise}
-use Rattle.std.proofs.lemmas.Bool.{cases_Bool, and_parts, and_from, leb-true, le-leb, lt-ltb, eqb-true, eqb-false, eq-eqb, ne_eqb, not-true, not_from_false}
-use Rattle.std.proofs.lemmas.List.{ext_get_or}
-use Rattle.std.proofs.lemmas.List.FromFn.{get_or-map-range_with_len, length-map-range_with_len}
-use Rattle.std.proofs.lemmas.Slice.Eq.{slice_eq-Decides}
-use Rattle.std.proofs.lemmas.Bool.Decides.{Decides-eqb}
-use Rattle.mt_base.specs.declared.ranges.Range.{Range}
-use Rattle.mt_base.specs.Entry.{reserved}
-use Rattle.mt_base.specs.Width.{columns}
-use Rattle.mt_layout.specs.declared.names.RowKind.{RowKind}
-use Rattle.mt_layout.specs.declared.names.RowKind.TheVariants.{Inner, Gapped}
-use Rattle.mt_layout.specs.declared.items.Item.{Item}
-use Rattle.mt_layout.specs.declared.spans.Span.{Span}
-use Rattle.mt_layout.specs.Rows.{row_in, named_kind}
-use Rattle.mt_layout.specs.Sizes.{slots_of, gaps_of}
-use Rattle.mt_layout.specs.Columns.{gap_column}
-use Rattle.mt_layout.specs.Spans.{spans_from, leaf_range, Fills, BeginsFull, Apart, EndsFull}
-use Rattle.mt_layout.proofs.SpanLists.{fills_le}
-use Rattle.mt_layout.proofs.Reading.{few_items, some_items}
-use Rattle.mt_layout.proofs.RowSizes.{some_slots_of, layout_of}
-use Rattle.mt_layout.proofs.RowWords.{length-row_words}
-use Rattle.mt_rows.specs.Spans.{Table, base_of, column, spans_by, spans_in}
-use Rattle.mt_rows.specs.Laws.{items_in, GapsFrom, longest_below}
-use Rattle.mt_check.specs.RowTests.{rise_to, words_of, are_apart, has_gaps_from}
-use Rattle.mt_check.specs.Reads.{row_items, words_of_parts}
+use Rattle.mt_check.proofs.Prelude.{◌≡◌, ◌≢◌, ℕ, ◌+◌, ◌<◌, ◌≤◌, ◌==◌, ◌&&◌, ◌||◌, List, [], ◌∷◌, Option, Some, Bool, true, false, not, length, refl, sym, ap, ◌∙◌, inl, inr, arith, nat_eq, nat_le, nat_lt, slice_index, AllByRecursion, flat_map, list_all, list_any, pointwise, cases_Bool, and_parts, and_from, leb-true, le-leb, lt-ltb, eqb-true, eqb-false, eq-eqb, ne_eqb, not-true, not_from_false, ext_get_or, get_or-map-range_with_len, length-map-range_with_len, slice_eq-Decides, Decides-eqb, Range, reserved, columns, RowKind, Inner, Gapped, Item, Span, row_in, named_kind, slots_of, gaps_of, gap_column, spans_from, leaf_range, Fills, BeginsFull, Apart, EndsFull, fills_le, few_items, some_items, some_slots_of, layout_of, length-row_words, Table, base_of, column, spans_by, spans_in, items_in, GapsFrom, longest_below, rise_to, words_of, are_apart, has_gaps_from, row_items, words_of_parts}
 
 -- ---- what stands in a row of a kind
 

@@ -1,22 +1,5 @@
 -- The walk through the children of a row, from a slot on.
-use Rattle.std.proofs.Common.{◌≡◌, ℕ, zero, suc, ◌+◌, ◌<◌, ◌≤◌, ◌&&◌, List, [], ◌∷◌, ◌++◌, Option, Some, Bool, true, false, drop, length, refl, sym, ap, ◌∙◌, arith, length-append}
-use Rattle.std.specs.Prelude.{max}
-use Rattle.std.specs.List.{slice_get, flat_map}
-use Rattle.std.proofs.lemmas.List.{drop_all}
-use Rattle.std.proofs.Math.Bool.{and-true}
-use Rattle.mt_layout.specs.declared.names.RowKind.{RowKind}
-use Rattle.mt_layout.specs.declared.spans.Span.{Span}
-use Rattle.mt_layout.specs.Rows.{parent_at}
-use Rattle.mt_layout.specs.Columns.{gap_column}
-use Rattle.mt_layout.specs.Sizes.{slots_of}
-use Rattle.mt_rows.specs.Spans.{column}
-use Rattle.mt_rows.specs.Trees.{rows_of, ranges_of}
-use Rattle.mt_rows.specs.Laws.{Tree}
-use Rattle.mt_check.specs.declared.faults.Fault.{Fault}
-use Rattle.mt_check.specs.declared.walks.Below.{Below}
-use Rattle.mt_check.specs.RowTests.{longest_of, longest_at, tells_gap, has_gaps_from}
-use Rattle.mt_check.specs.Check.{Way, faults_below, faults_at}
-use Rattle.mt_check.specs.Walks.{height_from, below_at}
+use Rattle.mt_check.proofs.Prelude.{◌≡◌, ℕ, zero, suc, ◌+◌, ◌<◌, ◌≤◌, ◌&&◌, List, [], ◌∷◌, ◌++◌, Option, Some, Bool, true, false, drop, length, refl, sym, ap, ◌∙◌, arith, length-append, max, slice_get, flat_map, drop_all, and-true, RowKind, Span, parent_at, gap_column, slots_of, column, rows_of, ranges_of, Tree, Fault, Below, longest_of, longest_at, tells_gap, has_gaps_from, Way, faults_below, faults_at, height_from, below_at}
 
 drop_at : {A : Type 0} (xs : List A) (i : ℕ) (x : A) → Some x ≡ slice_get xs i → drop i xs ≡ x ∷ drop (i + 1) xs
 drop_at [] i x at = absurd (cc)

@@ -1,27 +1,6 @@
 -- A row that passes all tests of its own words, and the laws that it keeps.
-use Rattle.std.proofs.Common.{◌≡◌, ◌≢◌, ℕ, zero, suc, ◌+◌, ◌<◌, ◌≤◌, ◌==◌, List, [], ◌∷◌, ◌++◌, Option, Some, None, Bool, true, false, not, length, refl, sym, ap, ◌∙◌, subst, arith}
-use Rattle.std.specs.Prelude.{nat_eq, nat_le, nat_lt, if◌then◌else◌}
-use Rattle.std.specs.List.{AllByRecursion, list_any, flat_map}
-use Rattle.std.specs.Cmp.Lexicographic.{pointwise}
-use Rattle.std.proofs.lemmas.Bool.{and_parts, and_from, leb-true, le-leb, leb-false, lt-leb, ltb-true, lt-ltb, eqb-true, eq-eqb}
-use Rattle.mt_base.specs.Entry.{reserved}
-use Rattle.mt_base.specs.Width.{first_row}
-use Rattle.mt_layout.specs.declared.names.RowKind.{RowKind}
-use Rattle.mt_layout.specs.declared.names.RowKind.TheVariants.{Leaf, Inner, Gapped}
-use Rattle.mt_layout.specs.declared.items.Item.{Item}
-use Rattle.mt_layout.specs.declared.spans.Span.{Span}
-use Rattle.mt_layout.specs.Rows.{row_in, named_kind}
-use Rattle.mt_layout.specs.Sizes.{least_items}
-use Rattle.mt_layout.specs.Spans.{spans_from, leaf_range, Fills, EndsFull}
-use Rattle.mt_layout.proofs.SpanLists.{length-spans_from}
-use Rattle.mt_rows.specs.Spans.{column, inner_of, spans_in}
-use Rattle.mt_rows.specs.Trees.{height_in}
-use Rattle.mt_rows.specs.Laws.{Tree, top_of, kind_on, PivotLaw, CountLaw, EntryLaw, HoleLaw, IsRow, covers_all, least_of, least_of_root, items_in, words_in}
-use Rattle.mt_rows.proofs.InnerKinds.{inner_no_leaf}
-use Rattle.mt_check.specs.declared.faults.Law.{Law}
+use Rattle.mt_check.proofs.Prelude.{◌≡◌, ◌≢◌, ℕ, zero, suc, ◌+◌, ◌<◌, ◌≤◌, ◌==◌, List, [], ◌∷◌, ◌++◌, Option, Some, None, Bool, true, false, not, length, refl, sym, ap, ◌∙◌, subst, arith, nat_eq, nat_le, nat_lt, if◌then◌else◌, AllByRecursion, list_any, flat_map, pointwise, and_parts, and_from, leb-true, le-leb, leb-false, lt-leb, ltb-true, lt-ltb, eqb-true, eq-eqb, reserved, first_row, RowKind, Leaf, Inner, Gapped, Item, Span, row_in, named_kind, least_items, spans_from, leaf_range, Fills, EndsFull, length-spans_from, column, inner_of, spans_in, height_in, Tree, top_of, kind_on, PivotLaw, CountLaw, EntryLaw, HoleLaw, IsRow, covers_all, least_of, least_of_root, items_in, words_in, inner_no_leaf, Law, may_stand, may_be_named, names_row, depth_at, has_depth, rise_to, words_of, has_pivots, least_at, least_in_root, has_entries, are_apart, has_holes, Way, unless, broken_in, broken_by, at_row, own_faults}
 use Rattle.mt_check.specs.declared.faults.Law.TheVariants as law
-use Rattle.mt_check.specs.RowTests.{may_stand, may_be_named, names_row, depth_at, has_depth, rise_to, words_of, has_pivots, least_at, least_in_root, has_entries, are_apart, has_holes}
-use Rattle.mt_check.specs.Check.{Way, unless, broken_in, broken_by, at_row, own_faults}
 use Rattle.mt_check.proofs.Lists.{append_none, both_none, map_none, held, holds}
 use Rattle.mt_check.proofs.OneRow.{EndsOr, spans_are, some_in, rising_fills, fills_rising, same_unused, unused_same, entries_all, all_entries, Parted, apart_parted, parted_apart, any_ranges, ranges_any}
 

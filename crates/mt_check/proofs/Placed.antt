@@ -1,19 +1,5 @@
 -- What a row covers as the walk comes to it, and how deep it stands.
-use Rattle.std.proofs.Common.{ℕ, zero, suc, ◌+◌, ◌<◌, ◌≤◌, List, [], ◌∷◌, Option, Some, None, refl, sym, ◌∙◌, subst, arith, append-nil}
-use Rattle.std.specs.List.{AllByRecursion}
-use Rattle.std.proofs.lemmas.Bool.{eq-eqb, ne_eqb}
-use Rattle.mt_base.specs.Width.{deepest}
-use Rattle.mt_layout.specs.declared.names.RowKind.{RowKind}
-use Rattle.mt_layout.specs.declared.names.RowKind.TheVariants.{Leaf, Inner, Gapped}
-use Rattle.mt_layout.specs.declared.spans.Span.{Span}
-use Rattle.mt_layout.specs.Rows.{named_kind}
-use Rattle.mt_layout.specs.Spans.{Fills}
-use Rattle.mt_layout.proofs.SpanLists.{fills_le}
-use Rattle.mt_rows.specs.Spans.{Table, spans_in, root_span}
-use Rattle.mt_rows.specs.Trees.{levels_by, of_first, height_of}
-use Rattle.mt_rows.specs.Laws.{Tree, top_of, IsRow}
-use Rattle.mt_rows.proofs.Once.{IsPart, inner_wide, expand_parts}
-use Rattle.mt_check.specs.RowTests.{depth_at}
+use Rattle.mt_check.proofs.Prelude.{ℕ, zero, suc, ◌+◌, ◌<◌, ◌≤◌, List, [], ◌∷◌, Option, Some, None, refl, sym, ◌∙◌, subst, arith, append-nil, AllByRecursion, eq-eqb, ne_eqb, deepest, RowKind, Leaf, Inner, Gapped, Span, named_kind, Fills, fills_le, Table, spans_in, root_span, levels_by, of_first, height_of, Tree, top_of, IsRow, IsPart, inner_wide, expand_parts, depth_at}
 use Rattle.mt_check.proofs.Passes.{RootCovers}
 
 pub record Placed (t : Tree) (left : ℕ) (x : Span) : Type 0 where

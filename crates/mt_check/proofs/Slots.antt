@@ -1,9 +1,5 @@
 -- What stands in a slot of a row, by the row's items.
-use Rattle.std.proofs.Common.{◌≡◌, ◌≢◌, ℕ, zero, suc, ◌+◌, ◌-◌, ◌<◌, List, [], ◌∷◌, Some, length, get_or, refl, subst, arith}
-use Rattle.std.specs.List.{slice_get}
-use Rattle.mt_layout.specs.declared.items.Item.{Item}
-use Rattle.mt_layout.specs.Columns.{RiseFrom}
-use Rattle.mt_layout.specs.Spans.{spans_from}
+use Rattle.mt_check.proofs.Prelude.{◌≡◌, ◌≢◌, ℕ, zero, suc, ◌+◌, ◌-◌, ◌<◌, List, [], ◌∷◌, Some, length, get_or, refl, subst, arith, slice_get, Item, RiseFrom, spans_from}
 
 pub first_span : (first : ℕ) (items : List Item) (d : Item) → 0 < length items → Some (record { first = first; last = (get_or items 0 d).last; word = (get_or items 0 d).word }) ≡ slice_get (spans_from first items) 0
 first_span first [] d some = absurd (omega arith)

@@ -1,24 +1,6 @@
 -- Words without faults are lawful.
-use Rattle.std.proofs.Common.{◌≡◌, ◌≢◌, ◌⊎◌, ℕ, zero, suc, ◌+◌, ◌-◌, ◌<◌, ◌≤◌, ◌==◌, List, [], ◌∷◌, ◌++◌, Some, Bool, true, false, length, refl, sym, ap, ◌∙◌, subst, inl, inr, arith, append-nil}
-use Rattle.std.specs.Prelude.{nat_le}
-use Rattle.std.specs.List.{AllByRecursion}
-use Rattle.std.proofs.lemmas.Bool.{cases_Bool, and_parts, eqb-true}
-use Rattle.mt_base.specs.Width.{deepest}
-use Rattle.mt_layout.specs.declared.names.RowKind.{RowKind}
-use Rattle.mt_layout.specs.declared.names.RowKind.TheVariants.{Leaf, Inner, Gapped}
-use Rattle.mt_layout.specs.declared.spans.Span.{Span}
-use Rattle.mt_layout.specs.Rows.{row_in, named_kind, parent_at}
-use Rattle.mt_rows.specs.Spans.{column, inner_of, spans_in, root_span}
-use Rattle.mt_rows.specs.Levels.{Levels}
-use Rattle.mt_rows.specs.Trees.{by_kind, height_in}
-use Rattle.mt_rows.specs.Laws.{Tree, IsRow, IsTended, IsLawful, ParentsFrom, GapLaw, GapLawBy}
-use Rattle.mt_rows.proofs.Depth.{by_inner, some_least}
-use Rattle.mt_rows.proofs.Joins.{levels_join}
-use Rattle.mt_rows.proofs.Lists.{levels_none}
-use Rattle.mt_check.specs.declared.faults.Fault.{Fault}
+use Rattle.mt_check.proofs.Prelude.{◌≡◌, ◌≢◌, ◌⊎◌, ℕ, zero, suc, ◌+◌, ◌-◌, ◌<◌, ◌≤◌, ◌==◌, List, [], ◌∷◌, ◌++◌, Some, Bool, true, false, length, refl, sym, ap, ◌∙◌, subst, inl, inr, arith, append-nil, nat_le, AllByRecursion, cases_Bool, and_parts, eqb-true, deepest, RowKind, Leaf, Inner, Gapped, Span, row_in, named_kind, parent_at, column, inner_of, spans_in, root_span, Levels, by_kind, height_in, Tree, IsRow, IsTended, IsLawful, ParentsFrom, GapLaw, GapLawBy, by_inner, some_least, levels_join, levels_none, Fault, depth_at, has_depth, longest_at, has_gaps, Way, at_row, own_faults, gaps_by, faults_below, faults_at, root_way, faults_in}
 use Rattle.mt_check.specs.declared.faults.Law.TheVariants as law
-use Rattle.mt_check.specs.RowTests.{depth_at, has_depth, longest_at, has_gaps}
-use Rattle.mt_check.specs.Check.{Way, at_row, own_faults, gaps_by, faults_below, faults_at, root_way, faults_in}
 use Rattle.mt_check.proofs.Lists.{append_none, map_none, held}
 use Rattle.mt_check.proofs.OneRow.{gaps_told}
 use Rattle.mt_check.proofs.Longest.{each_longest}

@@ -1,25 +1,6 @@
 -- The columns of a row that no item takes.
-use Rattle.std.proofs.Common.{◌≡◌, ◌≢◌, ℕ, zero, suc, ◌+◌, ◌-◌, ◌*◌, ◌<◌, ◌≤◌, ◌==◌, ◌&&◌, List, true, subst, false, min, length, get_or, refl, sym, ap, ◌∙◌, inl, inr, ⊎_elim, arith, zero-add}
-use Rattle.std.specs.Prelude.{nat_eq, nat_le, slice_index}
-use Rattle.std.specs.Cmp.Lexicographic.{pointwise}
-use Rattle.std.proofs.lemmas.Bool.Decides.{same_from_decides}
-use Rattle.std.proofs.lemmas.Bool.{cases_Bool, cases_lt, cases_eq, and_parts, and_from, eqb-true, eq-eqb, ne_eqb}
-use Rattle.std.proofs.lemmas.List.{get_or_past}
-use Rattle.std.proofs.Math.Nat.{min-le_left, min-le_right, min-eq_left}
-use Rattle.mt_base.specs.Width.{columns}
-use Rattle.mt_layout.specs.declared.items.Item.{Item}
-use Rattle.mt_layout.specs.declared.names.RowKind.{RowKind}
-use Rattle.mt_layout.specs.Columns.{pivot_column, slot_column, gap_column, gap_at, item_at, items_from}
-use Rattle.mt_layout.specs.Sizes.{slots_of, gaps_of}
-use Rattle.mt_layout.proofs.Reading.{gap_at-some}
-use Rattle.mt_layout.proofs.RowSizes.{layout_of, slots-fit, all_gaps}
-use Rattle.mt_layout.proofs.RowWords.{item_or, used, length-used, used-pivot, used-slot, used-gap, get_or-padded}
-use Rattle.mt_rows.specs.Spans.{Table, base_of, column}
-use Rattle.mt_rows.specs.Sheet.{Sheet, Rooted, OnlyReads}
-use Rattle.mt_check.specs.RowTests.{words_of}
-use Rattle.mt_check.specs.Reads.{row_items, are_zero, holds_no_more, words_of_parts}
+use Rattle.mt_check.proofs.Prelude.{◌≡◌, ◌≢◌, ℕ, zero, suc, ◌+◌, ◌-◌, ◌*◌, ◌<◌, ◌≤◌, ◌==◌, ◌&&◌, List, true, subst, false, min, length, get_or, refl, sym, ap, ◌∙◌, inl, inr, ⊎_elim, arith, zero-add, nat_eq, nat_le, slice_index, pointwise, same_from_decides, cases_Bool, cases_lt, cases_eq, and_parts, and_from, eqb-true, eq-eqb, ne_eqb, get_or_past, min-le_left, min-le_right, min-eq_left, columns, Item, RowKind, pivot_column, slot_column, gap_column, gap_at, item_at, items_from, slots_of, gaps_of, gap_at-some, layout_of, slots-fit, all_gaps, item_or, used, length-used, used-pivot, used-slot, used-gap, get_or-padded, Table, base_of, column, Sheet, Rooted, OnlyReads, words_of, row_items, are_zero, holds_no_more, words_of_parts, reads_on, same_tree}
 use Rattle.mt_check.proofs.OneRow.{few_of, Unused, same_unused, unused_same}
-use Rattle.mt_rows.proofs.Loads.{reads_on, same_tree}
 
 -- ---- columns that are 0
 

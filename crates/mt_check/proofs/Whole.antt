@@ -1,20 +1,5 @@
 -- The answer to a check, from the walk of the root.
-use Rattle.std.proofs.Common.{◌≡◌, ◌≢◌, ℕ, ◌==◌, List, [], ◌∷◌, Some, false, refl, sym, ap, ◌∙◌, subst}
-use Rattle.std.specs.Prelude.{Result, Ok, Err, IsOk, ◌↔◌}
-use Rattle.std.specs.List.{slice_get}
-use Rattle.std.proofs.lemmas.Bool.{ne_eqb}
-use Rattle.mt_base.specs.declared.kinds.Kind.{Kind}
-use Rattle.mt_base.specs.Width.{kind_width, deepest}
-use Rattle.mt_layout.specs.declared.spans.Span.{Span}
-use Rattle.mt_rows.specs.Spans.{root_span}
-use Rattle.mt_rows.specs.Laws.{Tree, top_of}
-use Rattle.mt_rows.specs.Sheet.{Rooted}
-use Rattle.mt_rows.specs.Publish.{tree_as, IsLawfulOf}
-use Rattle.mt_check.specs.declared.faults.Fault.{Fault}
-use Rattle.mt_check.specs.declared.faults.Form.{Form}
-use Rattle.mt_check.specs.declared.walks.Below.{Below}
-use Rattle.mt_check.specs.Check.{faults_at, root_way, faults_in, form_of, first_or, checked}
-use Rattle.mt_check.specs.Walks.{height_from, IsFaultOrBelow, below_at}
+use Rattle.mt_check.proofs.Prelude.{◌≡◌, ◌≢◌, ℕ, ◌==◌, List, [], ◌∷◌, Some, false, refl, sym, ap, ◌∙◌, subst, Result, Ok, Err, IsOk, ◌↔◌, slice_get, ne_eqb, Kind, kind_width, deepest, Span, root_span, Tree, top_of, Rooted, tree_as, IsLawfulOf, Fault, Form, Below, faults_at, root_way, faults_in, form_of, first_or, checked, height_from, IsFaultOrBelow, below_at}
 use Rattle.mt_check.proofs.Sound.{sound}
 use Rattle.mt_check.proofs.Complete.{complete}
 

@@ -2,13 +2,7 @@
 -- from the left; and the form of a tree that breaks none.
 -- Source: the kernel's lib/maple_tree.c, mt_validate; the order of the laws is this project's.
 use Rattle.std.specs.Prelude.{ℕ, zero, suc, ◌+◌, ◌==◌, nat_le, map, length, List, [], ◌∷◌, ◌++◌, Option, Some, None, Result, Ok, Err, Bool, if◌then◌else◌}
-use Rattle.mt_base.specs.Width.{deepest}
-use Rattle.mt_layout.specs.declared.names.RowKind.{RowKind}
-use Rattle.mt_layout.specs.declared.spans.Span.{Span}
-use Rattle.mt_layout.specs.Rows.{row_in, named_kind, parent_at}
-use Rattle.mt_rows.specs.Spans.{column, spans_in, root_span}
-use Rattle.mt_rows.specs.Trees.{by_kind, map_in, reached_in, height_in}
-use Rattle.mt_rows.specs.Laws.{Tree, top_of, items_in}
+use Rattle.mt_check.specs.Prelude.{deepest, RowKind, Span, row_in, named_kind, parent_at, column, spans_in, root_span, by_kind, map_in, reached_in, height_in, Tree, top_of, items_in}
 use Rattle.mt_check.specs.declared.faults.Law.{Law}
 use Rattle.mt_check.specs.declared.faults.Law.TheVariants.{Name, Depth, Parent, Pivots, Count, Entries, Holes, Gaps}
 use Rattle.mt_check.specs.declared.faults.Fault.{Fault}

@@ -3,12 +3,7 @@
 -- Source: this project's own.
 use Rattle.std.specs.Prelude.{ℕ, ◌+◌, ◌-◌, ◌*◌, List, [], ◌∷◌, ◌++◌, replicate, slice_set}
 use Rattle.std.specs.List.{range_with_len}
-use Rattle.mt_base.specs.declared.kinds.Kind.{Kind}
-use Rattle.mt_base.specs.declared.kinds.Kind.TheVariants.{Range, Alloc, Range32, Alloc32}
-use Rattle.mt_base.specs.Call.{finds_room}
-use Rattle.mt_base.specs.Width.{kind_width, columns, first_row, greatest_of}
-use Rattle.mt_rows.specs.Spans.{base_of}
-use Rattle.mt_rows.specs.Laws.{Tree}
+use Rattle.mt_check.specs.Prelude.{Kind, Range, Alloc, Range32, Alloc32, finds_room, kind_width, columns, first_row, greatest_of, base_of, Tree}
 
 abbrev top : ℕ
 top = greatest_of Range

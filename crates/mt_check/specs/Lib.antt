@@ -3,3 +3,4 @@ pub mod Examples
 pub mod Reads
 pub mod RowTests
 pub mod Walks
+pub mod Prelude

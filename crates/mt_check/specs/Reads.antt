@@ -2,14 +2,7 @@
 -- Source: this project's own.
 use Rattle.std.specs.Prelude.{ℕ, zero, suc, ◌+◌, ◌-◌, ◌*◌, ◌&&◌, ◌==◌, nat_eq, nat_le, min, length, List, Bool, true, ◌++◌}
 use Rattle.std.specs.Cmp.Lexicographic.{pointwise}
-use Rattle.mt_base.specs.declared.widths.Width.{Width}
-use Rattle.mt_base.specs.Width.{columns, greatest}
-use Rattle.mt_layout.specs.declared.names.RowKind.{RowKind}
-use Rattle.mt_layout.specs.declared.items.Item.{Item}
-use Rattle.mt_layout.specs.declared.spans.Span.{Span}
-use Rattle.mt_layout.specs.Columns.{items_at, row_words}
-use Rattle.mt_layout.specs.Sizes.{slots_of, gaps_of}
-use Rattle.mt_rows.specs.Spans.{Table, base_of, column}
+use Rattle.mt_check.specs.Prelude.{Width, columns, greatest, RowKind, Item, Span, items_at, row_words, slots_of, gaps_of, Table, base_of, column}
 use Rattle.mt_check.specs.declared.faults.Law.{Law}
 use Rattle.mt_check.specs.declared.faults.Law.TheVariants.{Parent, Pivots, Count, Entries, Holes}
 use Rattle.mt_check.specs.RowTests.{rise_to, words_of, least_at, has_entries, has_holes}

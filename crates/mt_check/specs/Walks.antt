@@ -2,16 +2,7 @@
 -- Source: this project's own.
 use Rattle.std.specs.Prelude.{◌≡◌, ℕ, ◌+◌, ◌-◌, List, [], Option, Some, None, Result, Ok, Err, length, unwrap_or}
 use Rattle.std.specs.List.{slice_get}
-use Rattle.mt_base.specs.Call.{finds_room}
-use Rattle.mt_base.specs.Width.{deepest}
-use Rattle.mt_layout.specs.declared.names.RowKind.{RowKind}
-use Rattle.mt_layout.specs.declared.names.RowKind.TheVariants.{Leaf, Inner, Gapped}
-use Rattle.mt_layout.specs.declared.items.Item.{Item}
-use Rattle.mt_layout.specs.declared.spans.Span.{Span}
-use Rattle.mt_layout.specs.Rows.{row_in, named_kind}
-use Rattle.mt_rows.specs.Trees.{ranges_of, rows_of, height_of, height_in}
-use Rattle.mt_rows.specs.Laws.{Tree, items_in}
-use Rattle.mt_rows.specs.Sheet.{Rooted}
+use Rattle.mt_check.specs.Prelude.{finds_room, deepest, RowKind, Leaf, Inner, Gapped, Item, Span, row_in, named_kind, ranges_of, rows_of, height_of, height_in, Tree, items_in, Rooted}
 use Rattle.mt_check.specs.declared.faults.Fault.{Fault}
 use Rattle.mt_check.specs.declared.walks.Walk.{Walk}
 use Rattle.mt_check.specs.declared.walks.Visit.{Visit}

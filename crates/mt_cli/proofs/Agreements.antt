@@ -1,9 +1,5 @@
 -- That `clap` and the definition say the same of a list of words.
-use Rattle.std.proofs.Common.{◌≡◌, ◌⊎◌, false, List, [], ◌∷◌, Option, None}
-use Rattle.clap.specs.Kinds.{Kinds}
-use Rattle.clap.specs.Walk.{Text}
-use Rattle.mt_cli.specs.Grammar.{is_end_of_options}
-use Rattle.mt_cli.specs.declared.commands.Command.{Command}
+use Rattle.mt_cli.proofs.Prelude.{◌≡◌, ◌⊎◌, false, List, [], ◌∷◌, Option, None, Kinds, Text, is_end_of_options, Command}
 use Rattle.mt_cli.proofs.Refusals.{IsRefused}
 
 -- no word is `--`

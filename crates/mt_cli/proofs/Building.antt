@@ -1,14 +1,7 @@
 -- A command of `clap` as it is built.
-use Rattle.std.proofs.Common.{◌≡◌, ◌∙◌, true, false, Result, ap, ap₂, codes}
-use Rattle.std.specs.Prelude.{IfOk}
-use Rattle.std.proofs.lemmas.Result.{IfOk-weaker}
-use Rattle.std.proofs.lemmas.Bool.{and_parts}
-use Rattle.clap.specs.Words.{AddsSubcommand, App, app_of, new_app, with_subcommand}
-use Rattle.clap.specs.Simple.{app_of_fields}
+use Rattle.mt_cli.proofs.Prelude.{◌≡◌, ◌∙◌, true, false, Result, ap, ap₂, codes, IfOk, IfOk-weaker, and_parts, AddsSubcommand, App, app_of, new_app, with_subcommand, app_of_fields, is_false, plain_app}
 use Rattle.clap.specs.declared.builder.command.Command.{Command}
 use Rattle.clap.specs.declared.builder.command.Command.TheViews.{out-Command as fields_of}
-use Rattle.clap.proofs.SimpleLemmas.{is_false}
-use Rattle.mt_cli.specs.Grammar.{plain_app}
 
 -- a plain command has no arguments of all its subcommands
 pub local : (c : Command) (a : App) → app_of c ≡ a → a.top.is_plain ≡ true → (fields_of c).has_globals ≡ false

@@ -1,12 +1,5 @@
 -- What the digits of a word write.
-use Rattle.std.proofs.Common.{◌≡◌, ℕ, ◌==◌, ◌≤◌, ◌<◌, ◌^◌, ◌&&◌, true, false, List, [], ◌∷◌, Some, None, length, arith, refl, sym, inl, inr, ◌∙◌}
-use Rattle.std.specs.Prelude.{nat_lt, nat_le, if◌then◌else◌}
-use Rattle.std.specs.Char.{is_ascii_digit, digit_value}
-use Rattle.std.specs.List.{list_all}
-use Rattle.std.specs.Str.Parse.{AllDigits, IsNumeral, digits_value, without_leading_plus}
-use Rattle.std.proofs.lemmas.Bool.{and_parts, cases_lt, leb-true, ltb-true}
-use Rattle.std.proofs.lemmas.Bool.Decides.{nat_tests}
-use Rattle.mt_cli.specs.Numbers.{is_number, number_in}
+use Rattle.mt_cli.proofs.Prelude.{◌≡◌, ℕ, ◌==◌, ◌≤◌, ◌<◌, ◌^◌, ◌&&◌, true, false, List, [], ◌∷◌, Some, None, length, arith, refl, sym, inl, inr, ◌∙◌, nat_lt, nat_le, if◌then◌else◌, is_ascii_digit, digit_value, list_all, AllDigits, IsNumeral, digits_value, without_leading_plus, and_parts, cases_lt, leb-true, ltb-true, nat_tests, is_number, number_in}
 
 is_digit : (byte : ℕ) → is_ascii_digit byte ≡ nat_lt (digit_value byte) 10
 is_digit byte = grind (arith, nat_tests)

@@ -10,3 +10,4 @@ pub mod Replays
 pub mod Shapes
 pub mod Sorts
 pub mod Walks
+mod Prelude

@@ -1,14 +1,5 @@
 -- The numbers of a command lie within their limits.
-use Rattle.std.proofs.Common.{◌≡◌, ◌≤◌, ◌&&◌, ℕ, Bool, true, false, List, [], ◌∷◌, Option, Some, None, drop, take, refl, subst, sym, codes}
-use Rattle.std.specs.Prelude.{IfSome, if◌then◌else◌, nat_le, option_and_then, option_map}
-use Rattle.std.specs.Str.{bytes_eq}
-use Rattle.std.specs.Str.Parse.{digits_value}
-use Rattle.std.proofs.lemmas.Bool.{leb-true}
-use Rattle.mt_base.specs.Width.{most_rows}
-use Rattle.mt_cli.specs.Commands.{IsWithin, bulk_of, command_of, ids_of, make_of, rows_said, rows_word, show_of, trial_of}
-use Rattle.mt_cli.specs.Numbers.{fewest_rows, greatest_number, is_number, most_index, most_lanes, most_steps, most_workers, number_in}
-use Rattle.mt_cli.specs.declared.commands.Command.{Command}
-use Rattle.mt_cli.specs.declared.commands.Command.TheVariants.{Bulk, Ids, Image, Make, Replay, Trial, Verify}
+use Rattle.mt_cli.proofs.Prelude.{◌≡◌, ◌≤◌, ◌&&◌, ℕ, Bool, true, false, List, [], ◌∷◌, Option, Some, None, drop, take, refl, subst, sym, codes, IfSome, if◌then◌else◌, nat_le, option_and_then, option_map, bytes_eq, digits_value, leb-true, most_rows, IsWithin, bulk_of, command_of, ids_of, make_of, rows_said, rows_word, show_of, trial_of, fewest_rows, greatest_number, is_number, most_index, most_lanes, most_steps, most_workers, number_in, Command, Bulk, Ids, Image, Make, Replay, Trial, Verify}
 
 abbrev IsBetween : ℕ → ℕ → ℕ → Type 0
 IsBetween least most n = (least ≤ n) × (n ≤ most)

@@ -1,13 +1,5 @@
 -- Lists of words that are no command for a word in them.
-use Rattle.std.proofs.Common.{◌≡◌, ◌⊎◌, ◌||◌, ℕ, Bool, true, false, List, [], ◌∷◌, Option, Some, None, refl, ap, subst, sym, inl, inr, codes, true≢false}
-use Rattle.std.specs.Prelude.{if◌then◌else◌, option_and_then, option_map}
-use Rattle.std.specs.List.{list_any}
-use Rattle.std.specs.Str.{bytes_eq}
-use Rattle.std.proofs.lemmas.Slice.Eq.{bytes_eq-Decides}
-use Rattle.mt_cli.specs.Commands.{bulk_of, command_of, ids_of, in_two_words, make_of, rows_said, rows_word, show_of, trial_of}
-use Rattle.mt_cli.specs.Grammar.{is_end_of_options}
-use Rattle.mt_cli.specs.Numbers.{greatest_number, is_number, most_index, most_lanes, most_steps, number_in}
-use Rattle.mt_cli.specs.declared.commands.Command.TheVariants.{Ids, Image, Make, Replay, Trial, Verify}
+use Rattle.mt_cli.proofs.Prelude.{◌≡◌, ◌⊎◌, ◌||◌, ℕ, Bool, true, false, List, [], ◌∷◌, Option, Some, None, refl, ap, subst, sym, inl, inr, codes, true≢false, if◌then◌else◌, option_and_then, option_map, list_any, bytes_eq, bytes_eq-Decides, bulk_of, command_of, ids_of, in_two_words, make_of, rows_said, rows_word, show_of, trial_of, is_end_of_options, greatest_number, is_number, most_index, most_lanes, most_steps, number_in, Ids, Image, Make, Replay, Trial, Verify}
 
 abbrev Text : Type 0
 Text = List ℕ

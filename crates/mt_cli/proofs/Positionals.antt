@@ -1,17 +1,5 @@
 -- `make`, `trial`, `show`, `bulk` and `ids` and the words after them: which of them `clap` refuses, and what it tells of the others.
-use Rattle.std.proofs.Common.{◌≡◌, ◌⊎◌, ℕ, false, List, [], ◌∷◌, Option, Some, None, refl, sym, subst, inl, inr, codes, fold}
-use Rattle.clap.specs.Faults.{step_fault}
-use Rattle.clap.specs.Kinds.{Kinds}
-use Rattle.clap.specs.Simple.{Shape}
-use Rattle.clap.specs.Walk.{Held, Row, Step, Text, Walk, after_step, arg_by_long, finished, idle, plain_word, value, walked}
-use Rattle.clap.specs.declared.parser.matches.ValueSource.TheVariants.{CommandLine}
-use Rattle.clap.specs.declared.builder.value_parser.Reading.TheVariants.{AsWritten}
-use Rattle.clap.proofs.OnLiterals.{clap_on_literals}
-use Rattle.mt_cli.specs.Commands.{bulk_of, ids_of, make_of, show_of, trial_of}
-use Rattle.mt_cli.specs.Grammar.{bulk_in, ids_in, is_end_of_options, make_in, trial_in}
-use Rattle.mt_cli.specs.Numbers.{is_number}
-use Rattle.mt_cli.specs.declared.commands.Command.{Command}
-use Rattle.mt_cli.specs.declared.commands.Command.TheVariants.{Show}
+use Rattle.mt_cli.proofs.Prelude.{◌≡◌, ◌⊎◌, ℕ, false, List, [], ◌∷◌, Option, Some, None, refl, sym, subst, inl, inr, codes, fold, step_fault, Kinds, Shape, Held, Row, Step, Text, Walk, after_step, arg_by_long, finished, idle, plain_word, value, walked, CommandLine, AsWritten, clap_on_literals, bulk_of, ids_of, make_of, show_of, trial_of, bulk_in, ids_in, is_end_of_options, make_in, trial_in, is_number, Command, Show}
 use Rattle.mt_cli.proofs.Agreements.{Agrees, HasNoEnd}
 use Rattle.mt_cli.proofs.NoCommands.{bulk_no_workers, ids_no_drop, ids_no_hi, ids_no_lo, ids_no_steps, make_no_lanes, make_no_number, make_no_steps, trial_no_number, trial_no_steps}
 use Rattle.mt_cli.proofs.Refusals.{IsRefused}

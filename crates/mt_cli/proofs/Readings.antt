@@ -1,23 +1,5 @@
 -- What `clap` makes of the words is what they are.
-use Rattle.std.proofs.Common.{◌≡◌, ◌≢◌, ◌∙◌, Bool, true, false, List, [], ◌∷◌, ◌++◌, Option, Some, None, is_some, refl, sym, ap, ap₂, subst, inl, inr, codes, true≢false}
-use Rattle.std.specs.List.{list_any}
-use Rattle.std.specs.Str.{bytes_eq}
-use Rattle.std.proofs.lemmas.Bool.{or_parts}
-use Rattle.std.proofs.lemmas.Slice.Eq.{bytes_eq-Decides}
-use Rattle.clap.specs.Faults.{check_fault, defaults_fault, entered_fault, fault_of, is_simple_and_free, settle_fault, step_fault, turn_fault, walk_fault, word_fault}
-use Rattle.clap.specs.Kinds.{HasKind, Kinds, or_else}
-use Rattle.clap.specs.Simple.{App, HasMatchesOf, Shape, built, entered, names_of, subcommand_of, subcommand_rows_of}
-use Rattle.clap.specs.Values.{kind_of}
-use Rattle.clap.specs.Walk.{Held, Names, Step, Text, Walk, finished, idle, nothing_held, settled, subcommand_met, walk, walk_from, walked}
-use Rattle.clap.specs.declared.error.Error.{Error}
-use Rattle.clap.specs.declared.error.kind.ErrorKind.TheVariants.{OutOfMemory}
-use Rattle.clap.specs.declared.parser.matches.ArgMatches.{ArgMatches}
-use Rattle.clap.proofs.OnLiterals.{clap_on_literals}
-use Rattle.clap.proofs.WalkLemmas.{walk_stopped}
-use Rattle.mt_cli.specs.Commands.{command_of}
-use Rattle.mt_cli.specs.Grammar.{command_met, grammar, is_end_of_options}
-use Rattle.mt_cli.specs.declared.commands.Command.{Command}
-use Rattle.mt_cli.specs.declared.commands.Command.TheVariants.{Image, Replay, Verify}
+use Rattle.mt_cli.proofs.Prelude.{◌≡◌, ◌≢◌, ◌∙◌, Bool, true, false, List, [], ◌∷◌, ◌++◌, Option, Some, None, is_some, refl, sym, ap, ap₂, subst, inl, inr, codes, true≢false, list_any, bytes_eq, or_parts, bytes_eq-Decides, check_fault, defaults_fault, entered_fault, fault_of, is_simple_and_free, settle_fault, step_fault, turn_fault, walk_fault, word_fault, HasKind, Kinds, or_else, App, HasMatchesOf, Shape, built, entered, names_of, subcommand_of, subcommand_rows_of, kind_of, Held, Names, Step, Text, Walk, finished, idle, nothing_held, settled, subcommand_met, walk, walk_from, walked, Error, OutOfMemory, ArgMatches, clap_on_literals, walk_stopped, command_of, command_met, grammar, is_end_of_options, Command, Image, Replay, Verify}
 use Rattle.mt_cli.proofs.Agreements.{Agrees, HasNoEnd}
 use Rattle.mt_cli.proofs.Positionals.{bulk_agrees, ids_agrees, make_agrees, show_agrees, trial_agrees}
 use Rattle.mt_cli.proofs.Refusals.{IsRefused, or_else_none, refused_first}

@@ -1,6 +1,5 @@
 -- Lists of kinds of error that are not empty.
-use Rattle.std.proofs.Common.{◌≡◌, [], ◌∷◌, refl}
-use Rattle.clap.specs.Kinds.{Kinds, or_else}
+use Rattle.mt_cli.proofs.Prelude.{◌≡◌, [], ◌∷◌, refl, Kinds, or_else}
 
 -- there is a kind
 abbrev pub IsRefused : Kinds → Type 0

@@ -1,22 +1,5 @@
 -- `replay`, `verify` or `image` and the words after it: which of them `clap` refuses, and what it tells of the others.
-use Rattle.std.proofs.Common.{◌≡◌, ◌∙◌, ◌⊎◌, ℕ, Bool, true, false, List, [], ◌∷◌, ◌++◌, Option, Some, None, refl, sym, ap, ap₂, subst, inl, inr, codes, true≢false, take-append-drop, take, drop, length}
-use Rattle.std.specs.Str.{bytes_eq}
-use Rattle.std.specs.List.{after_first, before_first, position_or_len}
-use Rattle.std.specs.Prelude.{◌==◌, option_map}
-use Rattle.std.proofs.lemmas.Slice.Eq.{bytes_eq-Decides}
-use Rattle.std.proofs.lemmas.List.{take_all}
-use Rattle.std.proofs.lemmas.List.Sums.{passes_at_first, split_at_first}
-use Rattle.std.proofs.lemmas.Bool.{cases_lt, eqb-true}
-use Rattle.clap.specs.Faults.{long_fault}
-use Rattle.clap.specs.Lexer.{long_of}
-use Rattle.clap.specs.Simple.{Shape}
-use Rattle.clap.specs.Walk.{finished, Row, Text, Walk, arg_by_long, idle, option, rows_after}
-use Rattle.clap.specs.declared.parser.matches.ValueSource.TheVariants.{CommandLine}
-use Rattle.clap.specs.declared.builder.value_parser.Reading.TheVariants.{AsWritten}
-use Rattle.clap.proofs.OnLiterals.{clap_on_literals}
-use Rattle.mt_cli.specs.Commands.{rows_said}
-use Rattle.mt_cli.specs.Grammar.{is_end_of_options, rows_given}
-use Rattle.mt_cli.specs.declared.commands.Command.{Command}
+use Rattle.mt_cli.proofs.Prelude.{◌≡◌, ◌∙◌, ◌⊎◌, ℕ, Bool, true, false, List, [], ◌∷◌, ◌++◌, Option, Some, None, refl, sym, ap, ap₂, subst, inl, inr, codes, true≢false, take-append-drop, take, drop, length, bytes_eq, after_first, before_first, position_or_len, ◌==◌, option_map, bytes_eq-Decides, take_all, passes_at_first, split_at_first, cases_lt, eqb-true, long_fault, long_of, Shape, finished, Row, Text, Walk, arg_by_long, idle, option, rows_after, CommandLine, AsWritten, clap_on_literals, rows_said, is_end_of_options, rows_given, Command}
 use Rattle.mt_cli.proofs.Agreements.{Agrees, HasNoEnd}
 use Rattle.mt_cli.proofs.NoCommands.{no_rows}
 use Rattle.mt_cli.proofs.Refusals.{IsRefused}

@@ -1,9 +1,5 @@
 -- The subcommands as `clap` builds them.
-use Rattle.std.proofs.Common.{◌≡◌, [], ◌∷◌, refl, true, codes}
-use Rattle.clap.specs.Faults.{is_simple_and_free}
-use Rattle.clap.specs.Simple.{Shape, built, built_leaf, inherited, is_simple, marked_built, on_top, with_leaf_noted}
-use Rattle.clap.specs.Words.{Text}
-use Rattle.mt_cli.specs.Grammar.{bulk_app, grammar, ids_app, make_app, rows_app, show_app, trial_app}
+use Rattle.mt_cli.proofs.Prelude.{◌≡◌, [], ◌∷◌, refl, true, codes, is_simple_and_free, Shape, built, built_leaf, inherited, is_simple, marked_built, on_top, with_leaf_noted, Text, bulk_app, grammar, ids_app, make_app, rows_app, show_app, trial_app}
 use Rattle.mt_cli.proofs.Sorts.{NoShorts}
 
 abbrev above : Shape

@@ -1,15 +1,5 @@
 -- What a word is to a command with no short names: an option with a long name, flags that it refuses, or a value.
-use Rattle.std.proofs.Common.{◌≡◌, ℕ, Bool, true, false, zero, suc, List, [], ◌∷◌, length, Option, Some, None, refl, sym, ap, subst, true≢false, eqb-true}
-use Rattle.std.specs.Prelude.{◌==◌, slice_get}
-use Rattle.std.specs.List.{before_first}
-use Rattle.std.specs.Str.{chars}
-use Rattle.clap.specs.Lexer.{long_of, name_and_value, short_of}
-use Rattle.clap.specs.Faults.{bundle_step_fault, flags_fault, word_fault}
-use Rattle.clap.specs.Simple.{Shape}
-use Rattle.clap.specs.Walk.{Held, Names, Row, Rule, Text, Waiting, after_flag, arg_by_short, plain, plain_word, subcommand_met, word_met}
-use Rattle.clap.proofs.WalkLemmas.{bundle_ends}
-use Rattle.mt_cli.specs.Grammar.{is_end_of_options}
-use Rattle.mt_cli.specs.Numbers.{is_number}
+use Rattle.mt_cli.proofs.Prelude.{◌≡◌, ℕ, Bool, true, false, zero, suc, List, [], ◌∷◌, length, Option, Some, None, refl, sym, ap, subst, true≢false, eqb-true, ◌==◌, slice_get, before_first, chars, long_of, name_and_value, short_of, bundle_step_fault, flags_fault, word_fault, Shape, Held, Names, Row, Rule, Text, Waiting, after_flag, arg_by_short, plain, plain_word, subcommand_met, word_met, bundle_ends, is_end_of_options, is_number}
 use Rattle.mt_cli.proofs.Refusals.{IsRefused}
 
 -- what is held between two words

@@ -1,12 +1,5 @@
 -- How a walk over the words of a subcommand goes on, and where it is refused.
-use Rattle.std.proofs.Common.{◌≡◌, ◌∙◌, ℕ, false, List, [], ◌∷◌, Option, Some, None, refl, sym, ap, ap₂, subst}
-use Rattle.std.specs.Prelude.{fold}
-use Rattle.clap.specs.Lexer.{long_of}
-use Rattle.clap.specs.Faults.{check_fault, defaults_fault, long_fault, settle_fault, step_fault, turn_fault, walk_fault, word_fault}
-use Rattle.clap.specs.Kinds.{Kinds, or_else}
-use Rattle.clap.specs.Simple.{Shape}
-use Rattle.clap.specs.Walk.{Held, Row, Step, Text, Waiting, Walk, after_step, arg_by_long, finished, idle, long_word, option, plain_word, positional, settled, subcommand_met, walked}
-use Rattle.mt_cli.specs.Grammar.{is_end_of_options}
+use Rattle.mt_cli.proofs.Prelude.{◌≡◌, ◌∙◌, ℕ, false, List, [], ◌∷◌, Option, Some, None, refl, sym, ap, ap₂, subst, fold, long_of, check_fault, defaults_fault, long_fault, settle_fault, step_fault, turn_fault, walk_fault, word_fault, Kinds, or_else, Shape, Held, Row, Step, Text, Waiting, Walk, after_step, arg_by_long, finished, idle, long_word, option, plain_word, positional, settled, subcommand_met, walked, is_end_of_options}
 use Rattle.mt_cli.proofs.Refusals.{IsRefused, or_else_nested, refused_first, refused_second}
 use Rattle.mt_cli.proofs.Sorts.{IsFlags, IsValue, NoShorts, held}
 

@@ -1,42 +1,9 @@
 -- What a draw, and a number that is given back, make of the tree with one pass: no row is held there, and so none is lacked.
-use Rattle.std.proofs.Common.{◌≡◌, ◌⊎◌, ℕ, zero, suc, ◌+◌, ◌-◌, ◌^◌, ◌<◌, ◌≤◌, ◌==◌, ◌||◌, Bool, true, false, not, nat_lt, List, [], ◌∷◌, ◌++◌, Option, Some, None, Result, Ok, Err, IfOk, IfErr, length, inl, inr, refl, sym, ap, ◌∙◌, subst, arith, length-append}
-use Rattle.std.specs.List.{AllByRecursion}
-use Rattle.std.specs.Option.{unwrap_or}
-use Rattle.std.specs.Prelude.{◌↔◌, IsSome, if◌then◌else◌}
-use Rattle.std.proofs.lemmas.Bool.{le-ltb}
-use Rattle.std.proofs.Math.Dec.{eqb-suc-zero}
-use Rattle.mt_base.specs.declared.calls.Call.{Call}
-use Rattle.mt_base.specs.declared.calls.Call.TheVariants.{Erase}
-use Rattle.mt_base.specs.declared.kinds.Kind.{Kind}
+use Rattle.mt_commands.proofs.Prelude.{◌≡◌, ◌⊎◌, ℕ, zero, suc, ◌+◌, ◌-◌, ◌^◌, ◌<◌, ◌≤◌, ◌==◌, ◌||◌, Bool, true, false, not, nat_lt, List, [], ◌∷◌, ◌++◌, Option, Some, None, Result, Ok, Err, IfOk, IfErr, length, inl, inr, refl, sym, ap, ◌∙◌, subst, arith, length-append, AllByRecursion, unwrap_or, ◌↔◌, IsSome, if◌then◌else◌, le-ltb, eqb-suc-zero, Call, Erase, Kind, Range, Reply, NoNodes, Shortage, acted, finds_room, reserved, History, IsAnswered, Record, limits_after, map_after, map_by_reply, over, IsRefused, Wrote, greatest_of, most_rows, was_acted, Found, IsDrawn, LacksCalls, position_behind, calls_of, drawn, is_bad_draw, is_twofold, Draws, Drawn, Number, Busy, Invalid, Worn, none_lacked, none_short, Done, Tree, allocation_of, is_alone, HasCalled, most_calls, IsWorn, NamesPass, limit_of, map_seen, opened, passes_of, has_called, map_next, none_held, seen_next, was_legal, HasOnePass, found_in, turns_at, Tally, Turns, draws_behind, number_due, map_behind, map_without, tallied, turn}
 use Rattle.mt_base.specs.declared.kinds.Kind.TheVariants as kinds
-use Rattle.mt_base.specs.declared.ranges.Range.{Range}
-use Rattle.mt_base.specs.declared.replies.Reply.{Reply}
-use Rattle.mt_base.specs.declared.replies.Reply.TheVariants.{NoNodes}
-use Rattle.mt_base.specs.declared.replies.Shortage.{Shortage}
-use Rattle.mt_base.specs.Call.{acted, finds_room}
-use Rattle.mt_base.specs.Entry.{reserved}
-use Rattle.mt_base.specs.History.{History, IsAnswered, Record, limits_after, map_after, map_by_reply}
-use Rattle.mt_base.specs.Map.{over}
-use Rattle.mt_base.specs.Nodes.{IsRefused}
 use Rattle.mt_base.specs.Passes as known
-use Rattle.mt_base.specs.Passes.{Wrote}
-use Rattle.mt_base.specs.Width.{greatest_of, most_rows}
-use Rattle.mt_base.proofs.PlainReplies.{was_acted}
-use Rattle.mt_ids.specs.Draws.{Found, IsDrawn, LacksCalls, position_behind, calls_of, drawn, is_bad_draw, is_twofold}
-use Rattle.mt_ids.specs.Window.{Draws}
-use Rattle.mt_ids.specs.declared.ids.Drawn.{Drawn}
-use Rattle.mt_ids.specs.declared.ids.Drawn.TheVariants.{Number, Busy, Invalid, NoNodes as Lacks, Worn}
-use Rattle.mt_ids.proofs.FewRanges.{none_lacked, none_short}
-use Rattle.mt_tree.specs.declared.shapes.Done.{Done}
+use Rattle.mt_ids.specs.declared.ids.Drawn.TheVariants.{NoNodes as Lacks}
 use Rattle.mt_tree.specs.declared.shapes.Worn as worn
-use Rattle.mt_tree.specs.declared.trees.Tree.{Tree}
-use Rattle.mt_tree.specs.Allocations.{allocation_of, is_alone}
-use Rattle.mt_tree.specs.Calls.{HasCalled}
-use Rattle.mt_tree.specs.Shapes.{most_calls}
-use Rattle.mt_tree.specs.Trees.{IsWorn, NamesPass, limit_of, map_seen, opened, passes_of}
-use Rattle.mt_tree.proofs.Allocations.{has_called, map_next, none_held, seen_next, was_legal}
-use Rattle.mt_commands.specs.Only.{HasOnePass, found_in, turns_at}
-use Rattle.mt_commands.specs.Turns.{Tally, Turns, draws_behind, number_due, map_behind, map_without, tallied, turn}
 
 not_zero : (n : ℕ) → 1 ≤ n → (n == 0) ≡ false
 not_zero zero low = absurd (omega arith)

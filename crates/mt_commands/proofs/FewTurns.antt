@@ -1,25 +1,6 @@
 -- So many turns leave no more ranges than these, and the window as it was.
-use Rattle.std.proofs.Common.{◌≡◌, ◌⊎◌, ℕ, zero, suc, ◌+◌, ◌^◌, ◌<◌, ◌≤◌, Bool, true, false, not, List, [], ◌∷◌, ◌++◌, Option, Some, None, length, filter, fold, refl, sym, ap, ◌∙◌, subst, inl, inr, arith}
-use Rattle.std.specs.List.{range_with_len}
-use Rattle.std.proofs.lemmas.Bool.{cond_both}
-use Rattle.std.proofs.lemmas.List.Sums.{fold-append}
-use Rattle.mt_base.specs.declared.kinds.Kind.{Kind}
+use Rattle.mt_commands.proofs.Prelude.{◌≡◌, ◌⊎◌, ℕ, zero, suc, ◌+◌, ◌^◌, ◌<◌, ◌≤◌, Bool, true, false, not, List, [], ◌∷◌, ◌++◌, Option, Some, None, length, filter, fold, refl, sym, ap, ◌∙◌, subst, inl, inr, arith, range_with_len, cond_both, fold-append, Kind, Erase, Range, acted, erased, low, IsMap, holding, holds, greatest_of, acted_is_map, over_is_map, Found, drawn, first_found, from_position, Draws, new_draws, found_is_free, one_range_more, lies_in, IsFew, Turns, draws_behind, number_due, map_behind, map_without, new_turns, tallied, turn, turns, holes}
 use Rattle.mt_base.specs.declared.kinds.Kind.TheVariants as kinds
-use Rattle.mt_base.specs.declared.calls.Call.TheVariants.{Erase}
-use Rattle.mt_base.specs.declared.ranges.Range.{Range}
-use Rattle.mt_base.specs.Call.{acted, erased}
-use Rattle.mt_base.specs.Holes.{low}
-use Rattle.mt_base.specs.Map.{IsMap, holding, holds}
-use Rattle.mt_base.specs.Width.{greatest_of}
-use Rattle.mt_base.proofs.CallsKeepOrder.{acted_is_map}
-use Rattle.mt_base.proofs.StoredOrder.{over_is_map}
-use Rattle.mt_ids.specs.Draws.{Found, drawn, first_found, from_position}
-use Rattle.mt_ids.specs.Window.{Draws, new_draws}
-use Rattle.mt_ids.proofs.FewRanges.{found_is_free, one_range_more}
-use Rattle.mt_ids.proofs.OneCall.{lies_in}
-use Rattle.mt_commands.specs.Only.{IsFew}
-use Rattle.mt_commands.specs.Turns.{Turns, draws_behind, number_due, map_behind, map_without, new_turns, tallied, turn, turns}
-use Rattle.mt_base.proofs.FreeAreas.{holes}
 
 -- ---- a draw
 

@@ -1,12 +1,6 @@
 -- The first number that is drawn of an empty map is the window's first index.
-use Rattle.std.proofs.Common.{◌≡◌, ◌≢◌, ℕ, zero, suc, ◌+◌, ◌-◌, ◌^◌, ◌<◌, ◌≤◌, Bool, true, false, List, [], ◌∷◌, Option, Some, None, max, min, nat_le, refl, sym, ap, ◌∙◌, subst, arith}
-use Rattle.std.specs.Prelude.{IsSome, if◌then◌else◌}
-use Rattle.std.proofs.lemmas.Bool.{le-leb}
+use Rattle.mt_commands.proofs.Prelude.{◌≡◌, ◌≢◌, ℕ, zero, suc, ◌+◌, ◌-◌, ◌^◌, ◌<◌, ◌≤◌, Bool, true, false, List, [], ◌∷◌, Option, Some, None, max, min, nat_le, refl, sym, ap, ◌∙◌, subst, arith, IsSome, if◌then◌else◌, le-leb, Hole, lowest_in, low, Found, drawn, first_found, Draws, new_draws, Tally, Turns, new_turns, or_this, tallied, turn, turns}
 use Rattle.mt_base.specs.declared.kinds.Kind.TheVariants as kinds
-use Rattle.mt_base.specs.Holes.{Hole, lowest_in, low}
-use Rattle.mt_ids.specs.Draws.{Found, drawn, first_found}
-use Rattle.mt_ids.specs.Window.{Draws, new_draws}
-use Rattle.mt_commands.specs.Turns.{Tally, Turns, new_turns, or_this, tallied, turn, turns}
 use Rattle.mt_commands.proofs.FewTurns.{turns_more}
 
 all_free : (lo hi : ℕ) → lo ≤ hi → hi < 2 ^ 64 → low kinds.Alloc [] 1 lo hi ≡ Some lo

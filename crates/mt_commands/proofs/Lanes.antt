@@ -1,17 +1,6 @@
 -- A tree of nodes, as its player knows it.
-use Rattle.std.proofs.Common.{◌≡◌, ℕ, zero, suc, ◌+◌, ◌≤◌, List, length, map, None, refl, sym, ap, ◌∙◌, arith}
-use Rattle.std.specs.List.{range_with_len}
-use Rattle.std.proofs.lemmas.List.{length-map}
-use Rattle.std.proofs.lemmas.Bool.{le-leb}
-use Rattle.mt_base.specs.declared.ranges.Range.{Range}
-use Rattle.mt_base.specs.Passes.{new_pass}
-use Rattle.mt_base.specs.Width.{most_rows}
-use Rattle.mt_replay.specs.Trees.{IsNewTree, calls_taken, fewest_rows, most_passes}
-use Rattle.mt_tree.specs.declared.shapes.Shape.{Shape}
-use Rattle.mt_tree.specs.declared.trees.Tree.{Tree}
+use Rattle.mt_commands.proofs.Prelude.{◌≡◌, ℕ, zero, suc, ◌+◌, ◌≤◌, List, length, map, None, refl, sym, ap, ◌∙◌, arith, range_with_len, length-map, le-leb, Range, new_pass, most_rows, IsNewTree, calls_taken, fewest_rows, most_passes, Shape, Tree, first_bad, IsNew, Pass, limit_of, opened, pass_in, passes_of}
 use Rattle.mt_tree.specs.Shapes as limits
-use Rattle.mt_tree.specs.Shapes.{first_bad}
-use Rattle.mt_tree.specs.Trees.{IsNew, Pass, limit_of, opened, pass_in, passes_of}
 
 -- a player's tree is in range
 pub in_range : (s : Shape) → fewest_rows ≤ s.rows → s.rows ≤ most_rows → 1 ≤ s.passes → s.passes ≤ most_passes → s.calls ≡ calls_taken → first_bad s ≡ None

@@ -7,3 +7,4 @@ pub mod OnlyCalls
 pub mod Running
 pub mod Turning
 pub mod Walking
+mod Prelude

@@ -1,17 +1,6 @@
 -- The only pass of a tree has made all calls of the history.
-use Rattle.std.proofs.Common.{◌≡◌, ℕ, zero, suc, ◌+◌, ◌==◌, ◌<◌, ◌≤◌, Bool, true, false, List, [], ◌∷◌, ◌++◌, length, refl, sym, ap, ◌∙◌, subst, arith, length-append}
-use Rattle.std.specs.Prelude.{if◌then◌else◌}
-use Rattle.std.specs.List.{AllByRecursion, range_with_len}
-use Rattle.std.proofs.lemmas.Bool.{eq-eqb}
-use Rattle.std.proofs.lemmas.List.{append-nil}
-use Rattle.std.proofs.lemmas.List.FromFn.{length-range_with_len}
-use Rattle.mt_base.specs.History.{History, Record}
+use Rattle.mt_commands.proofs.Prelude.{◌≡◌, ℕ, zero, suc, ◌+◌, ◌==◌, ◌<◌, ◌≤◌, Bool, true, false, List, [], ◌∷◌, ◌++◌, length, refl, sym, ap, ◌∙◌, subst, arith, length-append, if◌then◌else◌, AllByRecursion, range_with_len, eq-eqb, append-nil, length-range_with_len, History, Record, Saw, places, places_from, Tree, HasCalled, map_seen, opened, IsOnlyPass}
 use Rattle.mt_base.specs.Passes as known
-use Rattle.mt_base.specs.Passes.{Saw, places, places_from}
-use Rattle.mt_tree.specs.declared.trees.Tree.{Tree}
-use Rattle.mt_tree.specs.Calls.{HasCalled}
-use Rattle.mt_tree.specs.Trees.{map_seen, opened}
-use Rattle.mt_commands.specs.Only.{IsOnlyPass}
 
 places_joined : (n pass : ℕ) (xs ys : List Record) → places_from n pass (xs ++ ys) ≡ places_from n pass xs ++ places_from (n + length xs) pass ys
 places_joined n pass [] ys = let same : n ≡ n + 0 = omega arith in ap (λ (k : ℕ). places_from k pass ys) same

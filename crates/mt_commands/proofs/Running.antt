@@ -1,19 +1,7 @@
 -- Turns one after another, from a tree that was just made.
-use Rattle.std.proofs.Common.{◌≡◌, ℕ, ◌+◌, ◌^◌, ◌<◌, ◌≤◌, List, [], ◌∷◌, Option, Some, None, All, length, map, refl, sym, ap, ◌∙◌, subst, arith, length-append}
-use Rattle.std.specs.List.{range_with_len}
-use Rattle.std.proofs.lemmas.List.{length-map}
+use Rattle.mt_commands.proofs.Prelude.{◌≡◌, ℕ, ◌+◌, ◌^◌, ◌<◌, ◌≤◌, List, [], ◌∷◌, Option, Some, None, All, length, map, refl, sym, ap, ◌∙◌, subst, arith, length-append, range_with_len, length-map, History, Record, last_map, new_pass, with_records, most_rows, Draws, new_draws, Shape, Tree, most_calls, Pass, IsNew, IsPassOf, map_seen, opened, pass_in, passes_of, HasOnePass, IsFew, IsOnlyPass, turns_at, Tally, Turns, no_tally, turn, turns}
 use Rattle.mt_base.specs.declared.kinds.Kind.TheVariants as kinds
-use Rattle.mt_base.specs.History.{History, Record, last_map}
 use Rattle.mt_base.specs.Passes as known
-use Rattle.mt_base.specs.Passes.{new_pass, with_records}
-use Rattle.mt_base.specs.Width.{most_rows}
-use Rattle.mt_ids.specs.Window.{Draws, new_draws}
-use Rattle.mt_tree.specs.declared.shapes.Shape.{Shape}
-use Rattle.mt_tree.specs.declared.trees.Tree.{Tree}
-use Rattle.mt_tree.specs.Shapes.{most_calls}
-use Rattle.mt_tree.specs.Trees.{Pass, IsNew, IsPassOf, map_seen, opened, pass_in, passes_of}
-use Rattle.mt_commands.specs.Only.{HasOnePass, IsFew, IsOnlyPass, turns_at}
-use Rattle.mt_commands.specs.Turns.{Tally, Turns, no_tally, turn, turns}
 use Rattle.mt_commands.proofs.FewTurns.{few_after, turns_more, window_after}
 
 module _ (t : Tree) (p : known.Pass) (d : Draws) (tally : Tally) (lo hi i drops : ℕ) (here : turns_at t p d tally ≡ turns lo hi i drops) where

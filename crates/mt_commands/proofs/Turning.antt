@@ -1,13 +1,6 @@
 -- A turn under the lock, and the lock.
-use Rattle.std.proofs.Common.{◌≡◌, ℕ, ◌+◌, ◌<◌, ◌≤◌, List, Option, length, refl, sym, ap, ◌∙◌, subst, arith}
-use Rattle.std.specs.List.{AllByRecursion}
-use Rattle.mt_base.specs.declared.ranges.Range.{Range}
-use Rattle.mt_base.specs.History.{Record, last_map}
+use Rattle.mt_commands.proofs.Prelude.{◌≡◌, ℕ, ◌+◌, ◌<◌, ◌≤◌, List, Option, length, refl, sym, ap, ◌∙◌, subst, arith, AllByRecursion, Range, Record, last_map, Saw, with_records, Tree, map_seen, opened, passes_of, HasOnePass, IsOnlyPass}
 use Rattle.mt_base.specs.Passes as known
-use Rattle.mt_base.specs.Passes.{Saw, with_records}
-use Rattle.mt_tree.specs.declared.trees.Tree.{Tree}
-use Rattle.mt_tree.specs.Trees.{map_seen, opened, passes_of}
-use Rattle.mt_commands.specs.Only.{HasOnePass, IsOnlyPass}
 use Rattle.mt_commands.proofs.OnlyCalls.{nothing_new, only_locked}
 
 -- the lock shows the only pass what it knew

@@ -1,13 +1,6 @@
 -- A step of a cursor is one of a lane's walk.
-use Rattle.std.proofs.Common.{◌≡◌, ℕ, ◌+◌, ◌≤◌, List, Option, Some, None, refl, sym, ap, ◌∙◌, subst, arith}
-use Rattle.mt_base.specs.declared.ranges.Range.{Range}
-use Rattle.mt_base.specs.declared.calls.Query.{Query}
-use Rattle.mt_base.specs.declared.calls.Query.TheVariants.{Load, Find, Next, Prev, Rfind}
-use Rattle.mt_base.specs.History.{History}
-use Rattle.mt_base.specs.Passes.{Pass, Read}
-use Rattle.mt_log.specs.Run.{find_at}
-use Rattle.mt_tree.specs.Asks.{HasStepped, most_made, opened_with, place_behind, query_at}
-use Rattle.mt_desks.specs.Walks.{Walk, HasWalkedOn, opened_at, place_after}
+use Rattle.mt_commands.proofs.Prelude.{◌≡◌, ℕ, ◌+◌, ◌≤◌, List, Option, Some, None, refl, sym, ap, ◌∙◌, subst, arith, Range, Query, Load, Find, Next, Prev, Rfind, History, Read, find_at, HasStepped, most_made, opened_with, place_behind, query_at, Walk, HasWalkedOn, opened_at, place_after}
+use Rattle.mt_base.specs.Passes.{Pass}
 
 -- any query is answered in so many steps at the most
 pub few_steps : (query : Query) → most_made query ≤ 360

@@ -2,18 +2,8 @@
 -- Source: this project's own.
 use Rattle.std.specs.Prelude.{◌≡◌, ℕ, ◌≤◌, List, [], Option, Some, None, length}
 use Rattle.mt_base.specs.declared.kinds.Kind.TheVariants as kinds
-use Rattle.mt_base.specs.declared.ranges.Range.{Range}
-use Rattle.mt_base.specs.Map.{IsMap}
+use Rattle.mt_commands.specs.Prelude.{Range, IsMap, places, most_rows, Found, Draws, Drawn, Number, Busy, Invalid, NoNodes, Worn, Tree, most_calls, limit_of, map_seen, opened, passes_of}
 use Rattle.mt_base.specs.Passes as known
-use Rattle.mt_base.specs.Passes.{places}
-use Rattle.mt_base.specs.Width.{most_rows}
-use Rattle.mt_ids.specs.Draws.{Found}
-use Rattle.mt_ids.specs.Window.{Draws}
-use Rattle.mt_ids.specs.declared.ids.Drawn.{Drawn}
-use Rattle.mt_ids.specs.declared.ids.Drawn.TheVariants.{Number, Busy, Invalid, NoNodes, Worn}
-use Rattle.mt_tree.specs.declared.trees.Tree.{Tree}
-use Rattle.mt_tree.specs.Shapes.{most_calls}
-use Rattle.mt_tree.specs.Trees.{limit_of, map_seen, opened, passes_of}
 use Rattle.mt_commands.specs.Turns.{Tally, Turns}
 
 -- An allocation tree of as many rows and as many calls as a tree may have, which opened empty and has one pass.

@@ -1,22 +1,7 @@
 -- What the texts are that the program prints.
 -- Source: this project's own; a run is that of the log's definitions.
 use Rattle.std.specs.Prelude.{◌≡◌, ℕ, List, [], ◌∷◌, ◌++◌, Ok, codes}
-use Rattle.mt_base.specs.Width.{kind_width, most_rows}
-use Rattle.mt_base.specs.declared.kinds.Kind.{Kind}
-use Rattle.mt_base.specs.declared.ranges.Range.{Range}
-use Rattle.mt_bulk.specs.Bulk.{bulk}
-use Rattle.mt_image.specs.Images.{IsImageOf}
-use Rattle.mt_image.specs.Reading.{Image, image_in}
-use Rattle.mt_log.specs.declared.transcripts.Transcript.{Transcript}
-use Rattle.mt_log.specs.LogText.{log_text}
-use Rattle.mt_log.specs.Run.{IsRun}
-use Rattle.mt_log.specs.Text.{listing_text}
-use Rattle.mt_workload.specs.Made.{made}
-use Rattle.mt_workload.specs.Summary.{counted, summary_text}
-use Rattle.mt_replay.specs.Turns.{AllTurned}
-use Rattle.mt_rows.specs.OfWords.{tree_made}
-use Rattle.mt_rows.specs.Publish.{map_by}
-use Rattle.mt_rows.specs.Sheet.{Rooted}
+use Rattle.mt_commands.specs.Prelude.{kind_width, most_rows, Kind, Range, bulk, IsImageOf, Image, image_in, Transcript, log_text, IsRun, listing_text, made, counted, summary_text, AllTurned, tree_made, map_by, Rooted}
 
 -- this is the text of the log that is made of a number
 abbrev pub IsMadeText : ℕ → ℕ → ℕ → List ℕ → Type 0

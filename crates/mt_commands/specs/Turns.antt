@@ -5,12 +5,7 @@ use Rattle.std.specs.Fmt.{decimal}
 use Rattle.std.specs.List.{fold, range_with_len, slice_get}
 use Rattle.std.specs.Option.{option_flatten, unwrap_or}
 use Rattle.mt_base.specs.declared.kinds.Kind.TheVariants as kinds
-use Rattle.mt_base.specs.declared.ranges.Range.{Range}
-use Rattle.mt_base.specs.declared.calls.Call.TheVariants.{Erase}
-use Rattle.mt_base.specs.Call.{acted}
-use Rattle.mt_base.specs.Map.{over}
-use Rattle.mt_ids.specs.Draws.{Found, position_behind, drawn}
-use Rattle.mt_ids.specs.Window.{Draws, new_draws}
+use Rattle.mt_commands.specs.Prelude.{Range, Erase, acted, over, Found, position_behind, drawn, Draws, new_draws}
 
 -- The number of each draw so far, if it gave one; the first and the last number; how often the window began anew, and how often no
 -- number was free.

@@ -1,9 +1,5 @@
 -- One lane's answers stand in the order of the log as they are.
-use Rattle.std.proofs.Common.{◌≡◌, ℕ, ◌<◌, List, [], ◌∷◌, ◌++◌, take, drop, arith, refl, sym, ap, ◌∙◌, subst}
-use Rattle.std.specs.List.{AllByRecursion}
-use Rattle.std.proofs.lemmas.Bool.{eq-eqb}
-use Rattle.mt_log.specs.Run.{Asked, Step}
-use Rattle.mt_linearize.specs.Rooms.{asked_of_lane, AreDoneEach, rooms_behind, take_turns, lanes_of, answers_joined}
+use Rattle.mt_desks.proofs.Prelude.{◌≡◌, ℕ, ◌<◌, List, [], ◌∷◌, ◌++◌, take, drop, arith, refl, sym, ap, ◌∙◌, subst, AllByRecursion, eq-eqb, Asked, Step, asked_of_lane, AreDoneEach, rooms_behind, take_turns, lanes_of, answers_joined}
 
 -- the first of a room, and what is behind it
 record First (a : Asked) (rest : List Asked) (answers : List (List Step)) : Type 0 where

@@ -1,9 +1,5 @@
 -- Where no tree is worn, each line is answered.
-use Rattle.std.proofs.Common.{List, [], ◌∷◌, inl, inr}
-use Rattle.mt_base.specs.Passes.{Pass}
-use Rattle.mt_log.specs.Run.{Asked, Step, IsDone}
-use Rattle.mt_linearize.specs.Rooms.{AreDoneEach}
-use Rattle.mt_desks.specs.Desks.{SharedTree, IsSomeWorn, IsDoneUnless, AreAnsweredUnless}
+use Rattle.mt_desks.proofs.Prelude.{List, [], ◌∷◌, inl, inr, Pass, Asked, Step, IsDone, AreDoneEach, SharedTree, IsSomeWorn, IsDoneUnless, AreAnsweredUnless}
 
 done_where_not_worn : (worn : Type 0) (a : Asked) (steps : List Step) → (worn → ⊥) → IsDoneUnless worn a steps → IsDone a a.item steps
 done_where_not_worn worn a steps not_worn (inl d) = d

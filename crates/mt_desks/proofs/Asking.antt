@@ -1,15 +1,6 @@
 -- What a phase's lines ask of the program itself and of its lanes.
-use Rattle.std.proofs.Common.{◌≡◌, ◌≢◌, ◌⊎◌, ℕ, ◌==◌, ◌&&◌, Bool, true, false, List, [], ◌∷◌, ◌++◌, map, refl, sym, ap, ◌∙◌, subst, inl, inr}
-use Rattle.std.specs.List.{AllByRecursion}
-use Rattle.std.proofs.lemmas.Bool.{and_parts, cases_Bool, eqb-true, false≢true, true≢false}
-use Rattle.std.proofs.lemmas.List.Elements.{recursion_from_All}
-use Rattle.mt_log.specs.declared.lines.Item.{Item}
-use Rattle.mt_log.specs.declared.lines.Item.TheVariants.{Tree, Lane, Join, Dup, Check, Write, Ask, Scan}
-use Rattle.mt_log.specs.declared.lines.Line.{Line}
-use Rattle.mt_log.specs.Phases.{AreInPlaceFrom, IsInPlace, phase_after, stepped_after}
-use Rattle.mt_log.specs.Run.{Asked, asked_from, is_answered, lane_after, lane_of}
-use Rattle.mt_linearize.specs.Rooms.{asked_of_lane}
-use Rattle.mt_desks.specs.Dealing.{IsOnePhase, asked_of, counts_in, is_count, is_join, is_step, lines_of_lane, steps_in}
+use Rattle.mt_desks.proofs.Prelude.{◌≡◌, ◌≢◌, ◌⊎◌, ℕ, ◌==◌, ◌&&◌, Bool, true, false, List, [], ◌∷◌, ◌++◌, map, refl, sym, ap, ◌∙◌, subst, inl, inr, AllByRecursion, and_parts, cases_Bool, eqb-true, false≢true, true≢false, recursion_from_All, Item, Tree, Join, Dup, Check, Write, Ask, Scan, Line, AreInPlaceFrom, IsInPlace, phase_after, stepped_after, Asked, asked_from, is_answered, lane_after, lane_of, asked_of_lane, IsOnePhase, asked_of, counts_in, is_count, is_join, is_step, lines_of_lane, steps_in}
+use Rattle.mt_log.specs.declared.lines.Item.TheVariants.{Lane}
 
 -- ---- a line is a lane's, or the program's own, or is not answered
 

@@ -1,18 +1,5 @@
 -- How many lines the lanes have, and how many calls these make.
-use Rattle.std.proofs.Common.{◌≡◌, ℕ, ◌+◌, ◌≤◌, List, [], ◌∷◌, length, arith, sym, ap, ◌∙◌, inl, inr}
-use Rattle.std.proofs.lemmas.Bool.{cases_Bool}
-use Rattle.std.proofs.lemmas.List.{length-map}
-use Rattle.mt_base.specs.Passes.{Pass}
-use Rattle.mt_log.specs.declared.lines.Line.{Line}
-use Rattle.mt_log.specs.Run.{Asked, Step, lane_after}
-use Rattle.mt_linearize.specs.Gone.{sum_below}
-use Rattle.mt_linearize.specs.Leads.{outcomes_of}
-use Rattle.mt_linearize.specs.Rooms.{asked_of_lane, answers_joined}
-use Rattle.mt_linearize.specs.Tracks.{numbers_of}
-use Rattle.mt_linearize.proofs.FewCalls.{line_calls, lines_of_lanes, numbers_long_on}
-use Rattle.mt_linearize.proofs.Totals.{sum_same}
-use Rattle.mt_desks.specs.Dealing.{asked_of, is_step, lines_of_lane, steps_in}
-use Rattle.mt_desks.specs.Desks.{AreAnsweredUnless, IsDoneUnless, IsSomeWorn, SharedTree}
+use Rattle.mt_desks.proofs.Prelude.{◌≡◌, ℕ, ◌+◌, ◌≤◌, List, [], ◌∷◌, length, arith, sym, ap, ◌∙◌, inl, inr, cases_Bool, length-map, Pass, Line, Asked, Step, lane_after, sum_below, outcomes_of, asked_of_lane, answers_joined, numbers_of, line_calls, lines_of_lanes, numbers_long_on, sum_same, asked_of, is_step, lines_of_lane, steps_in, AreAnsweredUnless, IsDoneUnless, IsSomeWorn, SharedTree}
 use Rattle.mt_desks.proofs.Asking.{own_asked}
 
 -- ---- a line makes one call at the most

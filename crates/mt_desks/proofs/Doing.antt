@@ -1,32 +1,5 @@
 -- A line that was done on its tree was done among all trees, and a chain of lines is a lane.
-use Rattle.std.proofs.Common.{◌≡◌, ◌≢◌, ◌⊎◌, ℕ, zero, suc, ◌<◌, ◌≤◌, true, List, [], ◌∷◌, ◌++◌, Option, Some, length, map, take, drop, get_or, slice_get, slice_set, arith, refl, sym, ap, ◌∙◌, subst, inl, inr}
-use Rattle.std.proofs.lemmas.Bool.{false≢true, ne_eqb, cases_eq}
-use Rattle.std.proofs.lemmas.List.{append-nil, length-set, map-append, map-set, take-append-le, take_all}
-use Rattle.std.proofs.lemmas.List.Concat.{flat_map-append}
-use Rattle.std.proofs.lemmas.List.Elements.{filter_map-append}
-use Rattle.std.proofs.lemmas.Option.{slice_get-get_or, slice_get-map, slice_get_within}
-use Rattle.std.specs.List.{AllByRecursion}
-use Rattle.std.specs.Option.{option_map}
-use Rattle.mt_log.specs.Trees.{NamesBelow}
-use Rattle.mt_base.specs.declared.calls.Query.{Query}
-use Rattle.mt_base.specs.declared.ranges.Range.{Range}
-use Rattle.mt_base.specs.Passes.{Pass, Saw}
-use Rattle.mt_base.proofs.Goings.{begins_long}
-use Rattle.mt_log.specs.declared.lines.Item.{Item}
-use Rattle.mt_log.specs.declared.lines.Item.TheVariants.{Write, Ask, Scan}
-use Rattle.mt_log.specs.declared.lines.Line.{Line}
-use Rattle.mt_log.specs.declared.transcripts.Entry.{Entry}
-use Rattle.mt_log.specs.Run.{Asked, Step, Outcome, Looked, IsDone, entry_of, place_within, step_of}
-use Rattle.mt_lanes.specs.Lanes.{Chain}
-use Rattle.mt_linearize.specs.Leads.{Leads, by_lane_on, outcomes_of}
-use Rattle.mt_linearize.specs.Rooms.{answers_joined}
-use Rattle.mt_linearize.proofs.Knowing.{leads_onward}
-use Rattle.mt_linearize.proofs.Leading.{learns_none, leads_on, saw_learns}
-use Rattle.mt_linearize.proofs.LineSteps.{done_each}
-use Rattle.mt_linearize.proofs.Lists.{same_some, set_here, set_there}
-use Rattle.mt_desks.specs.Dealing.{asked_of, is_step, line_tree}
-use Rattle.mt_desks.specs.Desks.{SharedTree, IsSomeWorn, IsDoneUnless, AreAnsweredUnless, IsDoneOn, IsLineDone, DeskState, DeskDid, IsManned, StillManned, LaneRan}
-use Rattle.mt_desks.specs.Scans.{IsLooked, IsScanDone}
+use Rattle.mt_desks.proofs.Prelude.{◌≡◌, ◌≢◌, ◌⊎◌, ℕ, zero, suc, ◌<◌, ◌≤◌, true, List, [], ◌∷◌, ◌++◌, Option, Some, length, map, take, drop, get_or, slice_get, slice_set, arith, refl, sym, ap, ◌∙◌, subst, inl, inr, false≢true, ne_eqb, cases_eq, append-nil, length-set, map-append, map-set, take-append-le, take_all, flat_map-append, filter_map-append, slice_get-get_or, slice_get-map, slice_get_within, AllByRecursion, option_map, NamesBelow, Query, Range, Pass, Saw, begins_long, Item, Write, Ask, Scan, Line, Entry, Asked, Step, Outcome, Looked, IsDone, entry_of, place_within, step_of, Chain, Leads, by_lane_on, outcomes_of, answers_joined, leads_onward, learns_none, leads_on, saw_learns, done_each, same_some, set_here, set_there, asked_of, is_step, line_tree, SharedTree, IsSomeWorn, IsDoneUnless, AreAnsweredUnless, IsDoneOn, IsLineDone, DeskState, DeskDid, IsManned, StillManned, LaneRan, IsLooked, IsScanDone}
 use Rattle.mt_desks.proofs.Scanning.{more_told, step_leads}
 
 -- ---- a line among all trees

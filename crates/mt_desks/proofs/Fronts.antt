@@ -1,11 +1,5 @@
 -- How the front of a room is counted, and one more line is put back.
-use Rattle.std.proofs.Common.{◌≡◌, ◌≢◌, ℕ, zero, suc, ◌+◌, ◌<◌, List, [], ◌∷◌, ◌++◌, true, false, length, drop, get_or, slice_set, arith, refl, ap, ◌∙◌, drop-cons, append_assoc}
-use Rattle.std.proofs.lemmas.Bool.{eq-eqb, ne_eqb}
-use Rattle.mt_log.specs.declared.transcripts.Entry.{Entry}
-use Rattle.mt_log.specs.declared.lines.Line.{Line}
-use Rattle.mt_log.specs.Run.{lane_after}
-use Rattle.mt_desks.specs.Dealing.{is_step}
-use Rattle.mt_desks.specs.Turns.{first_entries, front_len, in_turn, rest_of, room_at}
+use Rattle.mt_desks.proofs.Prelude.{◌≡◌, ◌≢◌, ℕ, zero, suc, ◌+◌, ◌<◌, List, [], ◌∷◌, ◌++◌, true, false, length, drop, get_or, slice_set, arith, refl, ap, ◌∙◌, drop-cons, append_assoc, eq-eqb, ne_eqb, Entry, Line, lane_after, is_step, first_entries, front_len, in_turn, rest_of, room_at}
 
 pub front_more : (line : ℕ) (room : List Entry) (i : ℕ) (d : Entry) → i < length room → (get_or room i d).line ≡ line → i + front_len line (drop i room) ≡ i + 1 + front_len line (drop (i + 1) room)
 front_more line [] i d l same = absurd (omega arith)

@@ -1,17 +1,5 @@
 -- A lane of a phase goes with the passes from the rows, and they are back in them.
-use Rattle.std.proofs.Common.{◌≡◌, ℕ, ◌<◌, List, [], ◌∷◌, Some, length, map, get_or, slice_get, arith, sym, ap, ◌∙◌, subst}
-use Rattle.std.proofs.lemmas.List.{length-map}
-use Rattle.std.proofs.lemmas.Option.{slice_get-get_or}
-use Rattle.std.specs.Vec.{vec_len, vec_capacity}
-use Rattle.mt_base.specs.Passes.{Pass}
-use Rattle.mt_log.specs.declared.lines.Line.{Line}
-use Rattle.mt_lanes.specs.Lanes.{CanRun, Chain}
-use Rattle.mt_lanes.specs.declared.lanes.Lane.{Lane}
-use Rattle.mt_desks.specs.declared.desks.LaneDesk.{LaneDesk}
-use Rattle.mt_desks.specs.Desks.{DeskDid, DeskState, IsManned, IsDeskReady, LaneRan, SharedTree, StillManned, desk_of}
-use Rattle.mt_desks.specs.Phases.{CanPass, IsLaid, LaneWent, pass_at}
-use Rattle.mt_linearize.specs.Leads.{Leads, outcomes_of}
-use Rattle.mt_linearize.specs.Rooms.{answers_joined}
+use Rattle.mt_desks.proofs.Prelude.{◌≡◌, ℕ, ◌<◌, List, [], ◌∷◌, Some, length, map, get_or, slice_get, arith, sym, ap, ◌∙◌, subst, length-map, slice_get-get_or, vec_len, vec_capacity, Pass, Line, CanRun, Chain, Lane, LaneDesk, DeskDid, DeskState, IsManned, IsDeskReady, LaneRan, SharedTree, StillManned, desk_of, CanPass, IsLaid, LaneWent, pass_at, Leads, outcomes_of, answers_joined}
 use Rattle.mt_desks.proofs.Doing.{desk_ran, mapped}
 
 some_of : {V : Type 0} (xs : List V) (i : ℕ) → i < length xs → V

@@ -1,19 +1,5 @@
 -- How many lanes a log has.
-use Rattle.std.proofs.Common.{◌≡◌, ℕ, ◌+◌, ◌<◌, ◌≤◌, true, false, List, [], ◌∷◌, ◌++◌, arith, refl, inl, inr}
-use Rattle.std.specs.Prelude.{max}
-use Rattle.std.specs.List.{AllByRecursion}
-use Rattle.std.proofs.lemmas.Bool.{cases_Bool, false≢true}
-use Rattle.mt_base.proofs.Lists.{all_join}
-use Rattle.mt_log.specs.declared.lines.Item.{Item}
-use Rattle.mt_log.specs.declared.lines.Item.TheVariants.{Dup, Check, Write, Ask, Scan}
-use Rattle.mt_log.specs.declared.lines.Line.{Line}
-use Rattle.mt_log.specs.Phases.{phase_after}
-use Rattle.mt_log.specs.Run.{Asked, asked_from, is_answered, lane_after, lane_of}
-use Rattle.mt_log.specs.Trees.{AreNamedFrom, count_after, most_lanes}
-use Rattle.mt_linearize.specs.Lines.{lane_behind}
-use Rattle.mt_linearize.proofs.Lists.{both, every}
-use Rattle.mt_linearize.proofs.Stretches.{next_lane}
-use Rattle.mt_desks.specs.Dealing.{counts_in, is_step, lanes_in, steps_in}
+use Rattle.mt_desks.proofs.Prelude.{◌≡◌, ℕ, ◌+◌, ◌<◌, ◌≤◌, true, false, List, [], ◌∷◌, ◌++◌, arith, refl, inl, inr, max, AllByRecursion, cases_Bool, false≢true, all_join, Item, Dup, Check, Write, Ask, Scan, Line, phase_after, Asked, asked_from, is_answered, lane_after, lane_of, AreNamedFrom, count_after, most_lanes, lane_behind, both, every, next_lane, counts_in, is_step, lanes_in, steps_in}
 use Rattle.mt_desks.proofs.Asking.{counts_placed, steps_of_phase}
 
 pub some_lane : (here : ℕ) (lines : List Line) → 1 ≤ lanes_in here lines

@@ -1,10 +1,5 @@
 -- Lines that are left from a place on: the next one, and the room that they take.
-use Rattle.std.proofs.Common.{◌≡◌, ℕ, zero, suc, ◌+◌, ◌<◌, true, List, [], ◌∷◌, Some, length, drop, slice_get, arith, sym, ap, ◌∙◌, subst}
-use Rattle.std.proofs.lemmas.Option.{slice_get_within, get_or_from_slice_get}
-use Rattle.mt_log.specs.declared.lines.Line.{Line}
-use Rattle.mt_log.specs.Trees.{NamesBelow}
-use Rattle.mt_desks.specs.Dealing.{is_step, room_for, room_of}
-use Rattle.mt_desks.specs.Desks.{AreLines}
+use Rattle.mt_desks.proofs.Prelude.{◌≡◌, ℕ, zero, suc, ◌+◌, ◌<◌, true, List, [], ◌∷◌, Some, length, drop, slice_get, arith, sym, ap, ◌∙◌, subst, slice_get_within, get_or_from_slice_get, Line, NamesBelow, is_step, room_for, room_of, AreLines}
 
 pub line_at : (lines : List Line) (s : ℕ) (line : Line) (rest : List Line) → drop s lines ≡ line ∷ rest → slice_get lines s ≡ Some line
 line_at [] zero line rest is = absurd (omega (arith, ap length is))

@@ -11,3 +11,4 @@ pub mod Linked
 pub mod Naming
 pub mod Scanning
 pub mod Swapping
+mod Prelude

@@ -1,19 +1,6 @@
 -- The entries put back, line by line, are those of what came of the lines in the log's order.
-use Rattle.std.proofs.Common.{◌≡◌, ◌≢◌, ◌⊎◌, ℕ, ◌==◌, ◌<◌, Bool, true, false, List, [], ◌∷◌, ◌++◌, length, map, take, drop, slice_set, arith, refl, sym, ap, ◌∙◌, subst, inl, inr}
-use Rattle.std.specs.List.{AllByRecursion, filter}
-use Rattle.std.proofs.lemmas.Bool.{cases_Bool, eqb-true, eqb-false, eq-eqb, ne_eqb}
-use Rattle.std.proofs.lemmas.List.{map-append, length-set, get_or-set_same, get_or-set_other}
-use Rattle.mt_base.proofs.Lists.{all_join}
-use Rattle.mt_log.specs.declared.lines.Line.{Line}
-use Rattle.mt_log.specs.declared.transcripts.Entry.{Entry}
-use Rattle.mt_log.specs.Run.{Asked, Step, entry_of, lane_after}
-use Rattle.mt_linearize.specs.Rooms.{asked_of_lane, AreDoneEach, rooms_behind, take_turns, lanes_of, answers_joined}
-use Rattle.mt_linearize.specs.Tracks.{Pairs}
-use Rattle.mt_linearize.proofs.LineSteps.{done_each}
-use Rattle.mt_linearize.proofs.Lists.{every}
-use Rattle.mt_desks.specs.Dealing.{is_step, steps_in}
+use Rattle.mt_desks.proofs.Prelude.{◌≡◌, ◌≢◌, ◌⊎◌, ℕ, ◌==◌, ◌<◌, Bool, true, false, List, [], ◌∷◌, ◌++◌, length, map, take, drop, slice_set, arith, refl, sym, ap, ◌∙◌, subst, inl, inr, AllByRecursion, filter, cases_Bool, eqb-true, eqb-false, eq-eqb, ne_eqb, map-append, length-set, get_or-set_same, get_or-set_other, all_join, Line, Entry, Asked, Step, entry_of, lane_after, asked_of_lane, AreDoneEach, rooms_behind, take_turns, lanes_of, answers_joined, Pairs, done_each, every, is_step, steps_in, first_entries, front_len, in_turn, rest_of, room_at, RoomsHold}
 use Rattle.mt_desks.proofs.Asking.{steps_numbered}
-use Rattle.mt_desks.specs.Turns.{first_entries, front_len, in_turn, rest_of, room_at, RoomsHold}
 
 -- ---- the front of a room
 

@@ -1,18 +1,6 @@
 -- The lines of a phase name trees that are declared when its lanes start.
-use Rattle.std.proofs.Common.{◌≡◌, ℕ, ◌≤◌, true, false, Bool, List, [], ◌∷◌, ◌++◌, length, arith, sym, subst, length-append}
-use Rattle.std.specs.List.{AllByRecursion}
-use Rattle.std.specs.Option.{option_to_list}
-use Rattle.std.proofs.lemmas.List.Elements.{All-from_recursion}
-use Rattle.mt_base.proofs.Lists.{all_join}
-use Rattle.mt_log.specs.declared.lines.Item.{Item}
-use Rattle.mt_log.specs.declared.lines.Item.TheVariants.{Tree, Lane, Join}
-use Rattle.mt_log.specs.declared.lines.Line.{Line}
-use Rattle.mt_log.specs.Phases.{AreInPlaceFrom, phase_after, stepped_after, stepped_from}
-use Rattle.mt_log.specs.Run.{Asked}
-use Rattle.mt_log.specs.Trees.{AreNamedFrom, Declared, IsReadable, NamesBelow, count_after, declared_by, trees_from, trees_of}
-use Rattle.mt_linearize.proofs.Stretches.{named_there, one_declared, placed_there}
-use Rattle.mt_desks.specs.Dealing.{counts_in, is_step, lines_of_lane, steps_in}
-use Rattle.mt_desks.specs.Desks.{AreLines}
+use Rattle.mt_desks.proofs.Prelude.{◌≡◌, ℕ, ◌≤◌, true, false, Bool, List, [], ◌∷◌, ◌++◌, length, arith, sym, subst, length-append, AllByRecursion, option_to_list, All-from_recursion, all_join, Item, Tree, Join, Line, AreInPlaceFrom, phase_after, stepped_after, stepped_from, Asked, AreNamedFrom, Declared, IsReadable, NamesBelow, count_after, declared_by, trees_from, trees_of, named_there, one_declared, placed_there, counts_in, is_step, lines_of_lane, steps_in, AreLines}
+use Rattle.mt_log.specs.declared.lines.Item.TheVariants.{Lane}
 use Rattle.mt_desks.proofs.Asking.{counts_keep, own_keep, steps_keep}
 
 named_on : (m n : ℕ) (item : Item) → m ≤ n → NamesBelow m item → NamesBelow n item

@@ -1,17 +1,5 @@
 -- A scan goes on read after read.
-use Rattle.std.proofs.Common.{◌≡◌, ℕ, zero, suc, List, [], ◌∷◌, ◌++◌, Option, Some, None, map, refl, sym, ap, ◌∙◌, subst, append_assoc, arith}
-use Rattle.std.proofs.lemmas.Bool.{eq-eqb}
-use Rattle.std.proofs.lemmas.List.{append-nil, map-append}
-use Rattle.std.proofs.lemmas.List.Elements.{filter_map-append}
-use Rattle.mt_base.specs.declared.ranges.Range.{Range}
-use Rattle.mt_base.specs.History.{History}
-use Rattle.mt_base.specs.Passes.{Pass}
-use Rattle.mt_log.specs.declared.transcripts.Entry.{Entry}
-use Rattle.mt_log.specs.Run.{Asked, Step, Outcome, Looked, AreScanSteps, entry_of, step_of, find_at, place_behind}
-use Rattle.mt_linearize.specs.Leads.{Does, Leads, Learns, by_lane_on, outcomes_of}
-use Rattle.mt_linearize.proofs.Leading.{learns_none, leads_last, leads_one, leads_on, stands_otherwise}
-use Rattle.mt_desks.specs.Scans.{IsLooked, IsScanDone, KeepsOne}
-use Rattle.mt_desks.specs.Walks.{Walk, HasWalkedOn, OpensOnce, opened_at, place_after}
+use Rattle.mt_desks.proofs.Prelude.{◌≡◌, ℕ, zero, suc, List, [], ◌∷◌, ◌++◌, Option, Some, None, map, refl, sym, ap, ◌∙◌, subst, append_assoc, arith, eq-eqb, append-nil, map-append, filter_map-append, Range, History, Pass, Entry, Asked, Step, Outcome, Looked, AreScanSteps, entry_of, step_of, find_at, place_behind, Does, Leads, Learns, by_lane_on, outcomes_of, learns_none, leads_last, leads_one, leads_on, stands_otherwise, IsLooked, IsScanDone, KeepsOne, Walk, HasWalkedOn, OpensOnce, opened_at, place_after}
 
 -- one step of a line, on its tree
 pub step_leads : (tree : History) (number : ℕ) (a : Asked) (p q : Pass) (o : Outcome) → Does tree p o q → Leads tree p (outcomes_of number a.lane (step_of a number o ∷ [])) q

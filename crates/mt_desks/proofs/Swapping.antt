@@ -1,9 +1,5 @@
 -- One more lane's passes change places.
-use Rattle.std.proofs.Common.{◌≡◌, ℕ, ◌+◌, ◌<◌, List, length, get_or, slice_set, arith, ap, ◌∙◌, subst, inl, inr}
-use Rattle.std.proofs.lemmas.Bool.{cases_eq, cases_lt}
-use Rattle.std.proofs.lemmas.List.{length-set, get_or_default, get_or-set_same, get_or-set_other}
-use Rattle.mt_lanes.specs.Lanes.{EachPlace}
-use Rattle.mt_desks.specs.Passing.{HasSwapped, AllHaveSwapped}
+use Rattle.mt_desks.proofs.Prelude.{◌≡◌, ℕ, ◌+◌, ◌<◌, List, length, get_or, slice_set, arith, ap, ◌∙◌, subst, inl, inr, cases_eq, cases_lt, length-set, get_or_default, get_or-set_same, get_or-set_other, EachPlace, HasSwapped, AllHaveSwapped}
 
 one_swaps : {P V L : Type 0} (items : V → List P) (passes : L → List P) (rows rows' rows'' : List V) (lanes lanes' : List L) (i : ℕ) (d k : L) → i < length lanes → ((tree : ℕ) (v : V) → tree < length rows → i < length (items (get_or rows tree v)))
     → AllHaveSwapped items passes i rows rows' lanes lanes' → HasSwapped items i (length rows') rows' rows'' (passes (get_or lanes' i d)) (passes k) → AllHaveSwapped items passes (i + 1) rows rows'' lanes (slice_set lanes' i k)

@@ -1,11 +1,7 @@
 -- Which of a phase's lines a lane does, how much room their answers take, and how many steps.
 -- Source: this project's own, the language of logs.
 use Rattle.std.specs.Prelude.{◌≡◌, ℕ, Bool, All, List, [], ◌∷◌, ◌+◌, ◌*◌, ◌==◌, ◌&&◌, if◌then◌else◌, false, max, true}
-use Rattle.mt_log.specs.declared.lines.Item.{Item}
-use Rattle.mt_log.specs.declared.lines.Item.TheVariants.{Join, Dup, Check, Write, Ask, Scan}
-use Rattle.mt_log.specs.declared.lines.Line.{Line}
-use Rattle.mt_log.specs.Phases.{stepped_after}
-use Rattle.mt_log.specs.Run.{Asked, lane_after}
+use Rattle.mt_desks.specs.Prelude.{Item, Join, Dup, Check, Write, Ask, Scan, Line, stepped_after, Asked, lane_after}
 
 -- a line that a lane does: a call, a query or a scan
 abbrev pub is_step : Item → Bool

@@ -2,14 +2,7 @@
 -- room held.
 -- Source: this project's own.
 use Rattle.std.specs.Prelude.{◌≡◌, ◌⊎◌, ℕ, true, List, [], ◌∷◌, ◌++◌, Some, None, ◌+◌, ◌<◌, ◌≤◌, All, length, map, take, drop, slice_get, slice_index_or}
-use Rattle.mt_base.specs.History.{History}
-use Rattle.mt_base.specs.Passes.{Pass}
-use Rattle.mt_log.specs.declared.lines.Line.{Line}
-use Rattle.mt_log.specs.declared.transcripts.Entry.{Entry}
-use Rattle.mt_log.specs.Run.{Asked, Step, IsDone, entry_of}
-use Rattle.mt_log.specs.Trees.{NamesBelow}
-use Rattle.mt_linearize.specs.Leads.{Leads, outcomes_of}
-use Rattle.mt_linearize.specs.Rooms.{answers_joined}
+use Rattle.mt_desks.specs.Prelude.{History, Pass, Line, Entry, Asked, Step, IsDone, entry_of, NamesBelow, Leads, outcomes_of, answers_joined}
 use Rattle.mt_desks.specs.Dealing.{asked_of, is_step, room_of}
 
 -- a tree that several share: its history so far, and how many calls it takes at the most

@@ -5,3 +5,4 @@ pub mod Phases
 pub mod Scans
 pub mod Turns
 pub mod Walks
+pub mod Prelude

@@ -1,8 +1,7 @@
 -- What running the lanes of a phase makes of each tree's passes, and of a lane's desk.
 -- Source: this project's own.
 use Rattle.std.specs.Prelude.{◌≡◌, ◌<◌, ◌≤◌, ◌^◌, ◌+◌, ℕ, Some, None, List, length, slice_get, slice_index_or}
-use Rattle.mt_base.specs.Passes.{Pass}
-use Rattle.mt_log.specs.declared.lines.Line.{Line}
+use Rattle.mt_desks.specs.Prelude.{Pass, Line}
 use Rattle.mt_desks.specs.Dealing.{room_of}
 use Rattle.mt_desks.specs.Desks.{AreLines, DeskState, LaneRan}
 

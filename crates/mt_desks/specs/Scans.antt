@@ -1,14 +1,8 @@
 -- What a read and a scan of a lane come to.
 -- Source: this project's own, the language of logs.
 use Rattle.std.specs.Prelude.{◌≡◌, ℕ, List, [], ◌∷◌, ◌++◌, Option, None, map}
-use Rattle.mt_base.specs.declared.ranges.Range.{Range}
-use Rattle.mt_base.specs.declared.calls.Query.{Query}
-use Rattle.mt_base.specs.History.{History}
-use Rattle.mt_base.specs.Passes.{Pass, Read}
-use Rattle.mt_log.specs.Run.{Asked, Step, AreScanSteps, entry_of, shown}
-use Rattle.mt_log.specs.declared.transcripts.Entry.{Entry}
+use Rattle.mt_desks.specs.Prelude.{Range, Query, History, Pass, Read, Asked, Step, AreScanSteps, entry_of, shown, Entry, Leads, outcomes_of}
 use Rattle.mt_log.specs.declared.transcripts.Said.TheVariants as said
-use Rattle.mt_linearize.specs.Leads.{Leads, outcomes_of}
 use Rattle.mt_desks.specs.Walks.{Walk, OpensOnce}
 
 -- one read, told behind what the room held

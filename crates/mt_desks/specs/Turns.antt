@@ -3,10 +3,7 @@
 -- Source: this project's own.
 use Rattle.std.specs.Prelude.{◌≡◌, ℕ, List, [], ◌∷◌, ◌++◌, ◌==◌, ◌<◌, length, map, take, drop, slice_index_or, slice_set, if◌then◌else◌}
 use Rattle.std.specs.List.{prefix_len}
-use Rattle.mt_log.specs.declared.transcripts.Entry.{Entry}
-use Rattle.mt_log.specs.declared.lines.Line.{Line}
-use Rattle.mt_log.specs.Run.{Step, entry_of, lane_after}
-use Rattle.mt_linearize.specs.Rooms.{answers_joined}
+use Rattle.mt_desks.specs.Prelude.{Entry, Line, Step, entry_of, lane_after, answers_joined}
 use Rattle.mt_desks.specs.Dealing.{is_step}
 
 -- how many entries at the front of a room tell of a line

@@ -1,10 +1,7 @@
 -- What a walk over a shared tree's ranges has come to, and what a step makes of it.
 -- Source: the kernel's documentation of the maple tree, mas_for_each, whose state is kept from range to range.
 use Rattle.std.specs.Prelude.{◌≡◌, ◌≢◌, ℕ, ◌+◌, ◌≤◌, List, [], ◌∷◌, ◌++◌, Option, Some, None, length}
-use Rattle.mt_base.specs.declared.ranges.Range.{Range}
-use Rattle.mt_base.specs.History.{History}
-use Rattle.mt_base.specs.Passes.{Pass, Read}
-use Rattle.mt_log.specs.Run.{find_at, place_behind}
+use Rattle.mt_desks.specs.Prelude.{Range, History, Pass, Read, find_at, place_behind}
 
 -- The tree as it opened; which reference to its pass the walk holds, what that pass knows, and how many steps it has made without
 -- the lock; where the walk looks from next, and the bound. The section that stands open for the pass is the walk's own.

@@ -1,19 +1,6 @@
 -- The tree that is drawn of an image has the words that stand in it.
-use Rattle.std.proofs.Common.{◌≡◌, ℕ, zero, suc, ◌*◌, ◌<◌, ◌≤◌, List, ◌++◌, length, replicate, refl, sym, ap, ◌∙◌, inl, inr, arith}
-use Rattle.std.specs.Prelude.{slice_index}
-use Rattle.std.proofs.lemmas.Bool.{cases_lt}
-use Rattle.std.proofs.lemmas.List.{ext_get_or}
-use Rattle.mt_base.specs.Width.{columns, first_row}
-use Rattle.mt_rows.specs.Sheet.{Rooted}
-use Rattle.mt_image.specs.Bytes.{words_of}
-use Rattle.mt_image.specs.Orders.{IsTable}
-use Rattle.mt_image.specs.Reading.{Image}
-use Rattle.mt_draw.specs.declared.forms.PictureForm.{PictureForm}
+use Rattle.mt_draw.proofs.Prelude.{◌≡◌, ℕ, zero, suc, ◌*◌, ◌<◌, ◌≤◌, List, ◌++◌, length, replicate, refl, sym, ap, ◌∙◌, inl, inr, arith, slice_index, cases_lt, ext_get_or, columns, first_row, Rooted, words_of, IsTable, Image, PictureForm, DrawnTree, IsTreeOfImage, IsTreeIn, IsPicture, table_of, dump_head, body_of, tree_text, dump_text}
 use Rattle.mt_draw.specs.declared.forms.PictureForm.TheVariants as forms
-use Rattle.mt_draw.specs.declared.trees.DrawnTree.{DrawnTree}
-use Rattle.mt_draw.specs.Drawn.{IsTreeOfImage, IsTreeIn, IsPicture}
-use Rattle.mt_draw.specs.Trees.{table_of}
-use Rattle.mt_draw.specs.Texts.{dump_head, body_of, tree_text, dump_text}
 
 zero_before : (n at : ℕ) (words : List ℕ) → at < n → slice_index (replicate n 0 ++ words) at ≡ 0
 zero_before zero at words below = absurd (omega arith)

@@ -1,13 +1,5 @@
 -- What the walk gives at a depth above 0.
-use Rattle.std.proofs.Common.{◌≡◌, ◌≢◌, ℕ, zero, suc, ◌+◌, ◌-◌, ◌<◌, List, [], ◌∷◌, Option, Some, refl, ap, ◌∙◌, arith}
-use Rattle.std.specs.List.{flat_map}
-use Rattle.mt_layout.specs.declared.names.RowKind.{RowKind}
-use Rattle.mt_layout.specs.declared.names.RowKind.TheVariants.{Leaf, Inner, Gapped}
-use Rattle.mt_layout.specs.Rows.{named_kind}
-use Rattle.mt_layout.specs.declared.spans.Span.{Span}
-use Rattle.mt_rows.specs.Spans.{Table, spans_in}
-use Rattle.mt_draw.specs.declared.trees.Node.{Node}
-use Rattle.mt_draw.specs.Trees.{node_at, with_below, nodes_of}
+use Rattle.mt_draw.proofs.Prelude.{◌≡◌, ◌≢◌, ℕ, zero, suc, ◌+◌, ◌-◌, ◌<◌, List, [], ◌∷◌, Option, Some, refl, ap, ◌∙◌, arith, flat_map, RowKind, Leaf, Inner, Gapped, named_kind, Span, Table, spans_in, Node, node_at, with_below, nodes_of}
 
 pub nodes_of_deeper : (t : Table) (levels depth : ℕ) (x : Span) → 0 < levels → nodes_of t levels depth x ≡ with_below depth (named_kind x.word) x (flat_map (nodes_of t (levels - 1) (depth + 1)) (spans_in t x))
 nodes_of_deeper t zero depth x deep = absurd (omega arith)

@@ -2,8 +2,7 @@
 -- Source: this project's own.
 use Rattle.std.specs.Prelude.{ℕ, List, [], ◌∷◌, ◌++◌, Option, Some, None, codes, if◌then◌else◌}
 use Rattle.std.specs.Str.{bytes_eq}
-use Rattle.mt_image.specs.Texts.{error_text}
-use Rattle.mt_image.specs.declared.errors.ImageError.{ImageError}
+use Rattle.mt_draw.specs.Prelude.{error_text, ImageError}
 use Rattle.mt_image.specs.declared.errors.ImageError.TheVariants as errors
 use Rattle.mt_draw.specs.declared.forms.PictureForm.{PictureForm}
 use Rattle.mt_draw.specs.declared.forms.PictureForm.TheVariants as forms

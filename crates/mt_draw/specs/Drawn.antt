@@ -1,8 +1,7 @@
 -- What is drawn of an image.
 -- Source: this project's own.
 use Rattle.std.specs.Prelude.{◌≡◌, ℕ, List, Ok}
-use Rattle.mt_rows.specs.Trees.{height_in}
-use Rattle.mt_image.specs.Reading.{Image, image_in}
+use Rattle.mt_draw.specs.Prelude.{height_in, Image, image_in}
 use Rattle.mt_draw.specs.declared.forms.PictureForm.{PictureForm}
 use Rattle.mt_draw.specs.declared.forms.PictureForm.TheVariants as forms
 use Rattle.mt_draw.specs.declared.trees.DrawnTree.{DrawnTree}

@@ -3,3 +3,4 @@ pub mod Drawn
 pub mod Marks
 pub mod Texts
 pub mod Trees
+pub mod Prelude

@@ -1,8 +1,7 @@
 -- What a slot of a row is drawn as.
 -- Source: this project's own.
 use Rattle.std.specs.Prelude.{ℕ, ◌==◌, if◌then◌else◌}
-use Rattle.mt_layout.specs.declared.names.RowKind.{RowKind}
-use Rattle.mt_layout.specs.declared.names.RowKind.TheVariants.{Leaf, Inner, Gapped}
+use Rattle.mt_draw.specs.Prelude.{RowKind, Leaf, Inner, Gapped}
 use Rattle.mt_draw.specs.declared.boxes.Mark.{Mark}
 use Rattle.mt_draw.specs.declared.boxes.Mark.TheVariants.{Hole, Range, Child}
 

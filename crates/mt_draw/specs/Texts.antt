@@ -3,18 +3,7 @@
 use Rattle.std.specs.Prelude.{ℕ, Bool, ◌+◌, ◌-◌, ◌*◌, ◌/◌, ◌%◌, ◌^◌, ◌==◌, min, nat_le, false, true, List, [], ◌∷◌, ◌++◌, codes, length, slice_index_or, if◌then◌else◌}
 use Rattle.std.specs.List.{flat_map, fold, range_with_len}
 use Rattle.std.specs.Fmt.{decimal, digits, padded_integral, format_spec}
-use Rattle.mt_base.specs.declared.kinds.Kind.{Kind}
-use Rattle.mt_base.specs.Call.{finds_room}
-use Rattle.mt_base.specs.Width.{kind_width}
-use Rattle.mt_base.specs.declared.widths.Width.{Width}
-use Rattle.mt_base.specs.declared.widths.Width.TheVariants.{Long, Short}
-use Rattle.mt_layout.specs.declared.names.RowKind.{RowKind}
-use Rattle.mt_layout.specs.declared.names.RowKind.TheVariants.{Leaf, Inner, Gapped}
-use Rattle.mt_layout.specs.declared.spans.Span.{Span}
-use Rattle.mt_layout.specs.Rows.{kind_number, parent_at}
-use Rattle.mt_layout.specs.Sizes.{slots_of}
-use Rattle.mt_rows.specs.Spans.{Table, column, spans_in}
-use Rattle.mt_rows.specs.Trees.{height_in}
+use Rattle.mt_draw.specs.Prelude.{Kind, finds_room, kind_width, Width, Long, Short, RowKind, Leaf, Inner, Gapped, Span, kind_number, parent_at, slots_of, Table, column, spans_in, height_in}
 use Rattle.mt_draw.specs.Trees.{gap_of_slot, nodes_in, table_of}
 use Rattle.mt_draw.specs.declared.trees.Node.{Node}
 use Rattle.mt_draw.specs.declared.trees.DrawnTree.{DrawnTree}

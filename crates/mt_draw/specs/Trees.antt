@@ -2,14 +2,7 @@
 -- Source: this project's own.
 use Rattle.std.specs.Prelude.{ℕ, zero, suc, ◌+◌, List, [], ◌∷◌, Option, Some, None}
 use Rattle.std.specs.List.{flat_map}
-use Rattle.mt_base.specs.Width.{deepest, kind_width}
-use Rattle.mt_layout.specs.declared.names.RowKind.{RowKind}
-use Rattle.mt_layout.specs.declared.names.RowKind.TheVariants.{Leaf, Inner, Gapped}
-use Rattle.mt_layout.specs.declared.spans.Span.{Span}
-use Rattle.mt_layout.specs.Columns.{gap_column}
-use Rattle.mt_layout.specs.Rows.{row_in, named_kind}
-use Rattle.mt_layout.specs.Sizes.{slots_of}
-use Rattle.mt_rows.specs.Spans.{Table, column, spans_in, root_span}
+use Rattle.mt_draw.specs.Prelude.{deepest, kind_width, RowKind, Leaf, Inner, Gapped, Span, gap_column, row_in, named_kind, slots_of, Table, column, spans_in, root_span}
 use Rattle.mt_draw.specs.declared.trees.Node.{Node}
 use Rattle.mt_draw.specs.declared.trees.DrawnTree.{DrawnTree}
 

@@ -1,12 +1,5 @@
 -- A book whose rows are taken one by one.
-use Rattle.std.proofs.Common.{◌≡◌, ◌≢◌, ℕ, zero, suc, ◌+◌, ◌<◌, ◌≤◌, List, [], ◌∷◌, ◌++◌, length, map, refl, sym, ap, ◌∙◌, subst, arith, length-append, append-nil}
-use Rattle.std.specs.List.{All, AllPairs}
-use Rattle.std.proofs.lemmas.List.{same_from_push}
-use Rattle.std.proofs.lemmas.List.Elements.{All-nil, All-cons, All-weaker}
-use Rattle.std.proofs.lemmas.List.Kept.{AllPairs-cons}
-use Rattle.mt_base.specs.Width.{most_rows}
-use Rattle.mt_free.specs.Book.{Held, Book, IsBook, IsRowOf}
-use Rattle.mt_dup.specs.Filling.{rows_above, next_row, IsFilling, HasTaken}
+use Rattle.mt_dup.proofs.Prelude.{◌≡◌, ◌≢◌, ℕ, zero, suc, ◌+◌, ◌<◌, ◌≤◌, List, [], ◌∷◌, ◌++◌, length, map, refl, sym, ap, ◌∙◌, subst, arith, length-append, append-nil, All, AllPairs, same_from_push, All-nil, All-cons, All-weaker, AllPairs-cons, most_rows, Held, Book, IsBook, IsRowOf, rows_above, next_row, IsFilling, HasTaken}
 
 -- the least of the rows is the last
 lowest_last : (low n : ℕ) → rows_above low (suc n) ≡ rows_above (low + 1) n ++ (low ∷ [])

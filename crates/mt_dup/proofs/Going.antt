@@ -1,30 +1,7 @@
 -- The loop over the children of a row: what it has done, child by child.
-use Rattle.std.proofs.Common.{◌≡◌, ◌≢◌, ℕ, ◌+◌, ◌-◌, ◌<◌, ◌≤◌, List, ◌++◌, length, take, refl, sym, ap, ◌∙◌, subst, inl, inr, arith, length-append}
-use Rattle.std.specs.Prelude.{slice_index}
-use Rattle.std.specs.List.{flat_map}
-use Rattle.std.proofs.lemmas.Bool.{cases_eq}
-use Rattle.mt_base.specs.declared.widths.Width.{Width}
-use Rattle.mt_base.specs.Width.{columns, first_row}
-use Rattle.mt_base.proofs.Lists.{all_join}
-use Rattle.mt_free.specs.Book.{Book}
-use Rattle.mt_layout.specs.declared.names.RowKind.TheVariants.{Leaf}
-use Rattle.mt_layout.specs.Columns.{slot_column}
-use Rattle.mt_layout.specs.Rows.{row_in, parent_at}
-use Rattle.mt_layout.specs.Sizes.{slots_of}
-use Rattle.mt_layout.proofs.RowSizes.{slot_within, few_slots_of}
-use Rattle.mt_rows.specs.declared.rows.Life.TheVariants.{Draft}
-use Rattle.mt_rows.specs.Spans.{Table, column}
-use Rattle.mt_rows.specs.Plain.{names_of}
-use Rattle.mt_rows.specs.Sheet.{Rooted, Sheet, OnlyReads, IsWhole, IsPlace, life_of, loaded}
-use Rattle.mt_dup.specs.declared.columns.Pair.{Pair}
-use Rattle.mt_dup.specs.Copy.{with_new_row}
-use Rattle.mt_dup.specs.Filling.{next_row, IsFilling, HasTaken, IsOpenCopy, IsWritten}
-use Rattle.mt_dup.specs.Pairs.{IsWrittenAt}
-use Rattle.mt_dup.specs.Walks.{names_from, names_below, MayCopy, MayCopyBelow, AreNumbered, IsCopied, AreCopied, LeavesCopy, LeavesChildren, IsNoName, KeepsOwn}
+use Rattle.mt_dup.proofs.Prelude.{◌≡◌, ◌≢◌, ℕ, ◌+◌, ◌-◌, ◌<◌, ◌≤◌, List, ◌++◌, length, take, refl, sym, ap, ◌∙◌, subst, inl, inr, arith, length-append, slice_index, flat_map, cases_eq, Width, columns, first_row, all_join, Book, Leaf, slot_column, row_in, parent_at, slots_of, slot_within, few_slots_of, Draft, Table, column, names_of, Rooted, Sheet, OnlyReads, IsWhole, IsPlace, life_of, loaded, Pair, with_new_row, next_row, IsFilling, HasTaken, IsOpenCopy, IsWritten, IsWrittenAt, names_from, names_below, MayCopy, MayCopyBelow, AreNumbered, IsCopied, AreCopied, LeavesCopy, LeavesChildren, IsNoName, KeepsOwn, one_read, reads_on, same_tree, all_at}
 use Rattle.mt_dup.proofs.WrittenRows.{written_rows, written_width, nothing_written, written_on, written_in}
 use Rattle.mt_dup.proofs.Names.{parents_at, more_done, all_done, done_most, names_long, names_at, numbered_front, numbered_back, renamed_parent, SameFrom, copies_stay}
-use Rattle.mt_rows.proofs.Loads.{one_read, reads_on, same_tree}
-use Rattle.mt_rows.proofs.Lists.{all_at}
 
 -- ---- books
 

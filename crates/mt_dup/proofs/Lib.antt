@@ -9,3 +9,4 @@ pub mod RowCopies
 pub mod TreeNames
 pub mod WholeCopies
 pub mod WrittenRows
+mod Prelude

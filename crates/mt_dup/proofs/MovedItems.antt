@@ -1,15 +1,5 @@
 -- The items of a row whose words stand in another row, those in its slots changed.
-use Rattle.std.proofs.Common.{◌≡◌, ℕ, zero, suc, ◌+◌, ◌-◌, ◌*◌, ◌<◌, ◌≤◌, List, [], ◌∷◌, length, map, Bool, true, false, refl, sym, ap, ◌∙◌, ⊎_elim, inl, inr, arith}
-use Rattle.std.specs.Prelude.{slice_index, nat_le, if◌then◌else◌}
-use Rattle.std.proofs.lemmas.Bool.{cases_eq, cases_lt}
-use Rattle.std.proofs.lemmas.List.{get_or_past, length-map}
-use Rattle.mt_layout.specs.declared.items.Item.{Item}
-use Rattle.mt_layout.specs.declared.spans.Span.{Span}
-use Rattle.mt_layout.specs.Columns.{IsLayout, pivot_column, slot_column, gap_column, gap_at, item_at, items_from, items_at, row_words}
-use Rattle.mt_layout.specs.Spans.{spans_from}
-use Rattle.mt_layout.proofs.Reading.{gap_at-none, gap_at-some}
-use Rattle.mt_layout.proofs.RowSizes.{slots-fit, all_gaps}
-use Rattle.mt_layout.proofs.RowWords.{item_or, get_or-padded, used, used-pivot, used-slot, used-gap, length-used}
+use Rattle.mt_dup.proofs.Prelude.{◌≡◌, ℕ, zero, suc, ◌+◌, ◌-◌, ◌*◌, ◌<◌, ◌≤◌, List, [], ◌∷◌, length, map, Bool, true, false, refl, sym, ap, ◌∙◌, ⊎_elim, inl, inr, arith, slice_index, nat_le, if◌then◌else◌, cases_eq, cases_lt, get_or_past, length-map, Item, Span, IsLayout, pivot_column, slot_column, gap_column, gap_at, item_at, items_from, items_at, row_words, spans_from, gap_at-none, gap_at-some, slots-fit, all_gaps, item_or, get_or-padded, used, used-pivot, used-slot, used-gap, length-used}
 
 -- with another word
 abbrev pub put : (ℕ → ℕ) → Item → Item

@@ -1,33 +1,6 @@
 -- A tree whose rows have other numbers, row by row: it stands for the same map, and keeps the same laws.
-use Rattle.std.proofs.Common.{◌≡◌, ◌≢◌, ◌⊎◌, ℕ, zero, suc, ◌+◌, ◌-◌, ◌*◌, ◌<◌, ◌≤◌, List, [], ◌∷◌, ◌++◌, Option, Some, Bool, true, false, length, map, refl, sym, ap, ◌∙◌, subst, inl, inr, arith}
-use Rattle.std.specs.Prelude.{slice_index}
-use Rattle.std.specs.List.{AllByRecursion, flat_map}
-use Rattle.std.proofs.lemmas.Bool.{cases_eq, cases_lt}
-use Rattle.std.proofs.lemmas.List.{map-append, length-map}
-use Rattle.mt_base.specs.declared.widths.Width.{Width}
-use Rattle.mt_base.specs.Entry.{reserved}
-use Rattle.mt_base.specs.Width.{columns, first_row, most_rows}
-use Rattle.mt_layout.specs.declared.names.RowKind.{RowKind}
-use Rattle.mt_layout.specs.declared.names.RowKind.TheVariants.{Leaf, Inner, Gapped}
-use Rattle.mt_layout.specs.declared.items.Item.{Item}
-use Rattle.mt_layout.specs.declared.spans.Span.{Span}
-use Rattle.mt_layout.specs.Columns.{slot_column, gap_column, items_at, row_words}
-use Rattle.mt_layout.specs.Rows.{row_in, named_kind, name_at, IsRowNumber}
-use Rattle.mt_layout.specs.Sizes.{slots_of, gaps_of}
-use Rattle.mt_layout.specs.Spans.{spans_from, leaf_range, longest_in, Fills, Apart, EndsFull}
-use Rattle.mt_layout.proofs.NameLaws.{named_kind-name_at, row_in-name_at}
-use Rattle.mt_layout.proofs.RowSizes.{layout_of, slot_within, few_slots_of, gap_within}
-use Rattle.mt_layout.proofs.SpanLists.{length-spans_from}
-use Rattle.mt_rows.specs.Spans.{base_of, column, spans_by, spans_in, inner_of}
-use Rattle.mt_rows.specs.Levels.{expand, map_of, Levels}
-use Rattle.mt_rows.specs.Trees.{rows_of}
+use Rattle.mt_dup.proofs.Prelude.{◌≡◌, ◌≢◌, ◌⊎◌, ℕ, zero, suc, ◌+◌, ◌-◌, ◌*◌, ◌<◌, ◌≤◌, List, [], ◌∷◌, ◌++◌, Option, Some, Bool, true, false, length, map, refl, sym, ap, ◌∙◌, subst, inl, inr, arith, slice_index, AllByRecursion, flat_map, cases_eq, cases_lt, map-append, length-map, Width, reserved, columns, first_row, most_rows, RowKind, Leaf, Inner, Gapped, Item, Span, slot_column, gap_column, items_at, row_words, row_in, named_kind, name_at, IsRowNumber, slots_of, gaps_of, spans_from, leaf_range, longest_in, Fills, Apart, EndsFull, named_kind-name_at, row_in-name_at, layout_of, slot_within, few_slots_of, gap_within, length-spans_from, base_of, column, spans_by, spans_in, inner_of, expand, map_of, Levels, rows_of, Tree, IsRow, IsTended, ParentsFrom, GapsFrom, GapLawBy, kind_on, least_of, items_in, words_in, longest_below, by_leaf, by_inner, row_most, levels_front, levels_back, levels_here, children_hold, with_new_row, slot_renamed, IsRowCopy}
 use Rattle.mt_rows.specs.Laws as laws
-use Rattle.mt_rows.specs.Laws.{Tree, IsRow, IsTended, ParentsFrom, GapsFrom, GapLawBy, kind_on, least_of, items_in, words_in, longest_below}
-use Rattle.mt_rows.proofs.Depth.{by_leaf, by_inner}
-use Rattle.mt_rows.proofs.FewSpans.{row_most}
-use Rattle.mt_rows.proofs.Joins.{levels_front, levels_back}
-use Rattle.mt_rows.proofs.Lists.{levels_here, children_hold}
-use Rattle.mt_dup.specs.Copy.{with_new_row, slot_renamed, IsRowCopy}
 use Rattle.mt_dup.proofs.Names.{renamed_name, renamed_parent}
 use Rattle.mt_dup.proofs.MovedItems as items
 

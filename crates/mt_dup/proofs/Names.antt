@@ -1,23 +1,5 @@
 -- The names that the walk of a copy comes to, and what it leaves of them.
-use Rattle.std.proofs.Common.{◌≡◌, ◌≢◌, ℕ, zero, suc, ◌+◌, ◌-◌, ◌*◌, ◌%◌, ◌<◌, ◌≤◌, List, [], ◌∷◌, ◌++◌, Some, None, length, take, drop, refl, sym, ap, ◌∙◌, subst, arith, append-nil, length-append, length-take, length-drop}
-use Rattle.std.specs.Prelude.{slice_index}
-use Rattle.std.specs.List.{flat_map, slice_range}
-use Rattle.std.proofs.lemmas.List.{take_more, take_all, get_or-take, get_or-drop}
-use Rattle.std.proofs.lemmas.Grind.{flat_map-append}
-use Rattle.mt_base.specs.declared.widths.Width.{Width}
-use Rattle.mt_base.specs.Width.{columns, first_row}
-use Rattle.mt_layout.specs.declared.names.RowKind.{RowKind}
-use Rattle.mt_layout.specs.declared.names.RowKind.TheVariants.{Leaf, Inner, Gapped}
-use Rattle.mt_layout.specs.Columns.{slot_column}
-use Rattle.mt_layout.specs.Rows.{row_in, named_kind, name_at, kind_number, parent_at}
-use Rattle.mt_layout.specs.Sizes.{slots_of}
-use Rattle.mt_layout.proofs.NameLaws.{Names-named_kind}
-use Rattle.mt_layout.proofs.Places.{row_within}
-use Rattle.mt_layout.proofs.RowSizes.{some_columns, slots_of-columns, slot_within}
-use Rattle.mt_rows.specs.Spans.{Table, base_of, column}
-use Rattle.mt_rows.specs.Plain.{names_of}
-use Rattle.mt_dup.specs.Copy.{with_new_row, IsRowCopy}
-use Rattle.mt_dup.specs.Walks.{names_by, names_from, ParentsAre, AreNumbered, AreCopied}
+use Rattle.mt_dup.proofs.Prelude.{◌≡◌, ◌≢◌, ℕ, zero, suc, ◌+◌, ◌-◌, ◌*◌, ◌%◌, ◌<◌, ◌≤◌, List, [], ◌∷◌, ◌++◌, Some, None, length, take, drop, refl, sym, ap, ◌∙◌, subst, arith, append-nil, length-append, length-take, length-drop, slice_index, flat_map, slice_range, take_more, take_all, get_or-take, get_or-drop, flat_map-append, Width, columns, first_row, RowKind, Leaf, Inner, Gapped, slot_column, row_in, named_kind, name_at, kind_number, parent_at, slots_of, Names-named_kind, row_within, some_columns, slots_of-columns, slot_within, Table, base_of, column, names_of, with_new_row, IsRowCopy, names_by, names_from, ParentsAre, AreNumbered, AreCopied}
 
 -- ---- lists, by index
 

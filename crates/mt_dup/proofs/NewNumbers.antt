@@ -1,14 +1,5 @@
 -- The number that a row gets is the place where the walk comes to it.
-use Rattle.std.proofs.Common.{◌≡◌, ◌≢◌, ◌⊎◌, ℕ, suc, ◌+◌, ◌<◌, ◌≤◌, ◌==◌, List, [], ◌∷◌, ◌++◌, Bool, true, false, length, map, get_or, refl, sym, ap, ◌∙◌, subst, inl, inr, arith, length-append, append_assoc, eq-eqb, ne_eqb}
-use Rattle.std.specs.Prelude.{if◌then◌else◌}
-use Rattle.std.specs.List.{range_with_len, AllByRecursion}
-use Rattle.std.proofs.lemmas.Bool.{cases_Bool, eqb-true, cases_eq}
-use Rattle.mt_base.specs.Width.{first_row}
-use Rattle.mt_base.proofs.Lists.{all_map}
-use Rattle.mt_layout.specs.Rows.{row_in}
-use Rattle.mt_rows.specs.Levels.{one_if, tally}
-use Rattle.mt_rows.proofs.Lists.{tally-append}
-use Rattle.mt_dup.specs.Walks.{AreNumbered}
+use Rattle.mt_dup.proofs.Prelude.{◌≡◌, ◌≢◌, ◌⊎◌, ℕ, suc, ◌+◌, ◌<◌, ◌≤◌, ◌==◌, List, [], ◌∷◌, ◌++◌, Bool, true, false, length, map, get_or, refl, sym, ap, ◌∙◌, subst, inl, inr, arith, length-append, append_assoc, eq-eqb, ne_eqb, if◌then◌else◌, range_with_len, AllByRecursion, cases_Bool, eqb-true, cases_eq, first_row, all_map, row_in, one_if, tally, tally-append, AreNumbered}
 
 abbrev pub times_of : ℕ → List ℕ → ℕ
 times_of row rows = tally (λ (r : ℕ). r == row) rows

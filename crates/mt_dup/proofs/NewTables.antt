@@ -1,27 +1,9 @@
 -- New rows and a new book, before a copy and behind it.
-use Rattle.std.proofs.Common.{◌≡◌, ℕ, zero, suc, ◌+◌, ◌-◌, ◌*◌, ◌<◌, ◌≤◌, List, [], ◌∷◌, false, Option, length, map, get_or, refl, sym, ap, ◌∙◌, subst, inl, inr, arith}
-use Rattle.std.specs.Prelude.{replicate, slice_index}
-use Rattle.std.specs.List.{range_with_len, Contains}
-use Rattle.std.proofs.lemmas.Bool.{cases_lt}
-use Rattle.std.proofs.lemmas.List.FromFn.{length-range_with_len}
-use Rattle.mt_base.specs.declared.kinds.Kind.{Kind}
-use Rattle.mt_base.specs.declared.widths.Width.{Width}
-use Rattle.mt_base.specs.Width.{columns, first_row, most_rows, deepest}
-use Rattle.mt_free.specs.Book.{Book, rows_down, new_book, held_rows, Held, IsOut}
-use Rattle.mt_rows.specs.declared.rows.Life.TheVariants.{New}
-use Rattle.mt_rows.specs.Spans.{column}
-use Rattle.mt_rows.specs.Plain.{new_sheet}
-use Rattle.mt_rows.specs.Sheet.{Sheet, life_of, IsWhole, OnlyReads, loaded}
-use Rattle.mt_rows.specs.Publish.{is_reached, IsReached, IsToldKind, MayPlant, IsLawfulOf, map_by}
-use Rattle.mt_rows.specs.Trees.{reached_in}
-use Rattle.mt_dup.specs.Copy.{AreInOrder, IsNewBut, IsBookOfCopy, IsCopy}
-use Rattle.mt_dup.specs.Filling.{rows_above, next_row, IsFilling, HasTaken, IsOpenCopy, IsOutside, IsWritten}
-use Rattle.mt_dup.specs.Walks.{LeavesCopy, names_from}
+use Rattle.mt_dup.proofs.Prelude.{◌≡◌, ℕ, zero, suc, ◌+◌, ◌-◌, ◌*◌, ◌<◌, ◌≤◌, List, [], ◌∷◌, false, Option, length, map, get_or, refl, sym, ap, ◌∙◌, subst, inl, inr, arith, replicate, slice_index, range_with_len, Contains, cases_lt, length-range_with_len, Kind, Width, columns, first_row, most_rows, deepest, Book, rows_down, new_book, held_rows, Held, IsOut, New, column, new_sheet, Sheet, life_of, IsWhole, OnlyReads, loaded, is_reached, IsReached, IsToldKind, MayPlant, IsLawfulOf, map_by, reached_in, AreInOrder, IsNewBut, IsBookOfCopy, IsCopy, rows_above, next_row, IsFilling, HasTaken, IsOpenCopy, IsOutside, IsWritten, LeavesCopy, names_from, one_read}
 use Rattle.mt_dup.proofs.Filling.{length-rows_above, filling_is_book}
 use Rattle.mt_dup.proofs.Going.{next_after}
 use Rattle.mt_dup.proofs.WholeCopies.{copied_to, Facts, all_names, facts_of, names_many, names_same}
 use Rattle.mt_dup.proofs.WrittenRows.{written_rows, written_width}
-use Rattle.mt_rows.proofs.Loads.{one_read}
 
 -- ---- new
 

@@ -1,31 +1,8 @@
 -- One row is copied, and what stands below it.
-use Rattle.std.proofs.Common.{◌≡◌, ◌≢◌, ℕ, zero, suc, ◌+◌, ◌-◌, ◌<◌, ◌≤◌, ◌∷◌, Option, Some, None, length, refl, sym, ap, ◌∙◌, subst, inl, inr, arith}
-use Rattle.std.specs.List.{AllByRecursion, flat_map}
-use Rattle.mt_base.specs.declared.widths.Width.{Width}
-use Rattle.mt_base.specs.Width.{columns, first_row}
-use Rattle.mt_free.specs.Book.{Book}
-use Rattle.mt_layout.specs.declared.names.RowKind.{RowKind}
-use Rattle.mt_layout.specs.declared.names.RowKind.TheVariants.{Leaf, Inner, Gapped}
-use Rattle.mt_layout.specs.Columns.{slot_column}
-use Rattle.mt_layout.specs.Rows.{row_in, named_kind, name_at, IsRowNumber}
-use Rattle.mt_layout.specs.Sizes.{slots_of}
-use Rattle.mt_layout.proofs.NameLaws.{Names-named_kind}
-use Rattle.mt_layout.proofs.RowSizes.{some_columns, some_slots_of, slots_of-columns, slot_within}
-use Rattle.mt_rows.specs.declared.rows.Life.TheVariants.{Draft}
-use Rattle.mt_rows.specs.Spans.{Table, column}
-use Rattle.mt_rows.specs.Plain.{names_of}
-use Rattle.mt_rows.specs.Sheet.{Rooted, Sheet, OnlyReads, IsWhole, IsPlace, life_of}
-use Rattle.mt_dup.specs.declared.columns.Pair.{Pair}
-use Rattle.mt_dup.specs.declared.walks.Way.{Way}
-use Rattle.mt_dup.specs.Copy.{with_new_row, slot_renamed, IsRowCopy}
-use Rattle.mt_dup.specs.Filling.{next_row, HasTaken, IsOpenCopy, IsWritten}
-use Rattle.mt_dup.specs.Pairs.{HasOwn}
-use Rattle.mt_dup.specs.Walks.{names_by, names_from, names_below, ParentsAre, MayCopy, MayCopyBy, MayCopyBelow, AreNumbered, AreCopied, LeavesCopy, LeavesChildren, HasNames, IsNoName, KeepsOwn}
+use Rattle.mt_dup.proofs.Prelude.{◌≡◌, ◌≢◌, ℕ, zero, suc, ◌+◌, ◌-◌, ◌<◌, ◌≤◌, ◌∷◌, Option, Some, None, length, refl, sym, ap, ◌∙◌, subst, inl, inr, arith, AllByRecursion, flat_map, Width, columns, first_row, Book, RowKind, Leaf, Inner, Gapped, slot_column, row_in, named_kind, name_at, IsRowNumber, slots_of, Names-named_kind, some_columns, some_slots_of, slots_of-columns, slot_within, Draft, Table, column, names_of, Rooted, Sheet, OnlyReads, IsWhole, IsPlace, life_of, Pair, Way, with_new_row, slot_renamed, IsRowCopy, next_row, HasTaken, IsOpenCopy, IsWritten, HasOwn, names_by, names_from, names_below, ParentsAre, MayCopy, MayCopyBy, MayCopyBelow, AreNumbered, AreCopied, LeavesCopy, LeavesChildren, HasNames, IsNoName, KeepsOwn, same_tree, name_some}
 use Rattle.mt_dup.proofs.WrittenRows.{written_width}
 use Rattle.mt_dup.proofs.Names.{names_deeper, names_none, renamed_name}
 use Rattle.mt_dup.proofs.Going.{next_after, open_after}
-use Rattle.mt_rows.proofs.Loads.{same_tree}
-use Rattle.mt_rows.proofs.RowLaws.{name_some}
 
 -- ---- a word that is no name
 

@@ -1,21 +1,5 @@
 -- The names that the walk of a copy comes to in a tree are those of the rows that are reached.
-use Rattle.std.proofs.Common.{◌≡◌, ℕ, zero, suc, ◌+◌, ◌<◌, List, [], ◌∷◌, ◌++◌, Option, map, replicate, refl, sym, ap, ◌∙◌, subst, arith, append-nil}
-use Rattle.std.specs.List.{AllByRecursion, flat_map}
-use Rattle.std.proofs.lemmas.List.{map-append}
-use Rattle.mt_base.proofs.Lists.{all_front, all_back}
-use Rattle.mt_layout.specs.declared.names.RowKind.{RowKind}
-use Rattle.mt_layout.specs.Rows.{row_in, named_kind}
-use Rattle.mt_layout.specs.declared.spans.Span.{Span}
-use Rattle.mt_rows.specs.Spans.{Table, spans_in}
-use Rattle.mt_rows.specs.Levels.{Levels}
-use Rattle.mt_rows.specs.Trees.{rows_of}
-use Rattle.mt_rows.specs.Laws.{Tree, HasWords, IsRow, IsTended, ParentsFrom}
-use Rattle.mt_rows.specs.Sheet.{Rooted}
-use Rattle.mt_rows.proofs.Depth.{by_leaf, by_inner}
-use Rattle.mt_rows.proofs.Joins.{levels_join, levels_front, levels_back}
-use Rattle.mt_rows.proofs.PlainNames.{names_are}
-use Rattle.mt_rows.proofs.Lists.{levels_none, children_hold}
-use Rattle.mt_dup.specs.Walks.{names_by, names_from, ParentsAre, MayCopy, MayCopyBy}
+use Rattle.mt_dup.proofs.Prelude.{◌≡◌, ℕ, zero, suc, ◌+◌, ◌<◌, List, [], ◌∷◌, ◌++◌, Option, map, replicate, refl, sym, ap, ◌∙◌, subst, arith, append-nil, AllByRecursion, flat_map, map-append, all_front, all_back, RowKind, row_in, named_kind, Span, Table, spans_in, Levels, rows_of, Tree, HasWords, IsRow, IsTended, ParentsFrom, Rooted, by_leaf, by_inner, levels_join, levels_front, levels_back, names_are, levels_none, children_hold, names_by, names_from, ParentsAre, MayCopy, MayCopyBy}
 use Rattle.mt_dup.proofs.Names.{names_none}
 
 abbrev pub rooted : Tree → Rooted

@@ -1,32 +1,6 @@
 -- A whole tree is copied.
-use Rattle.std.proofs.Common.{◌≡◌, ◌≢◌, ◌⊎◌, ℕ, ◌+◌, ◌<◌, ◌≤◌, ◌==◌, List, [], ◌∷◌, ◌++◌, Some, false, length, map, refl, sym, ap, ◌∙◌, subst, inl, inr, arith, lt-ltb, eq-eqb, append_assoc}
-use Rattle.std.specs.Prelude.{nat_lt}
-use Rattle.std.specs.List.{AllByRecursion, range_with_len}
-use Rattle.std.proofs.lemmas.Bool.{ltb-true}
-use Rattle.std.proofs.lemmas.List.{length-map}
-use Rattle.mt_base.specs.Call.{finds_room}
-use Rattle.mt_base.specs.declared.kinds.Kind.{Kind}
-use Rattle.mt_base.specs.declared.widths.Width.{Width}
-use Rattle.mt_base.specs.Width.{deepest, first_row, kind_width}
-use Rattle.mt_layout.specs.declared.names.RowKind.{RowKind}
-use Rattle.mt_layout.specs.declared.spans.Span.{Span}
-use Rattle.mt_layout.specs.Rows.{row_in, named_kind}
-use Rattle.mt_rows.specs.declared.rows.Place.TheVariants.{Root}
-use Rattle.mt_rows.specs.Spans.{Table, column, root_span}
-use Rattle.mt_rows.specs.Levels.{Levels, level, one_if}
-use Rattle.mt_rows.specs.Trees.{map_in, reached_in, height_in}
-use Rattle.mt_rows.specs.Laws.{Tree, IsRow, IsTended, Stands, IsLawful, kind_at}
-use Rattle.mt_rows.specs.Sheet.{Rooted, Sheet, OnlyReads, IsWhole}
-use Rattle.mt_rows.specs.Publish.{tree_as, with_published, map_by, is_reached, IsReached, IsLawfulOf, StandsAt}
-use Rattle.mt_rows.specs.Replacement.{root_of}
-use Rattle.mt_rows.proofs.Depth.{ranges_by_depth}
-use Rattle.mt_rows.proofs.Heights.{levels_pair, all_both, level_rows}
-use Rattle.mt_rows.proofs.Lists.{tally-append, levels_here}
-use Rattle.mt_rows.proofs.Once.{once_in}
+use Rattle.mt_dup.proofs.Prelude.{◌≡◌, ◌≢◌, ◌⊎◌, ℕ, ◌+◌, ◌<◌, ◌≤◌, ◌==◌, List, [], ◌∷◌, ◌++◌, Some, false, length, map, refl, sym, ap, ◌∙◌, subst, inl, inr, arith, lt-ltb, eq-eqb, append_assoc, nat_lt, AllByRecursion, range_with_len, ltb-true, length-map, finds_room, Kind, Width, deepest, first_row, kind_width, RowKind, Span, row_in, named_kind, Root, Table, column, root_span, Levels, level, one_if, map_in, reached_in, height_in, Tree, IsRow, IsTended, Stands, IsLawful, kind_at, Rooted, Sheet, OnlyReads, IsWhole, tree_as, with_published, map_by, is_reached, IsReached, IsLawfulOf, StandsAt, root_of, ranges_by_depth, levels_pair, all_both, level_rows, tally-append, levels_here, once_in, same_tree, with_new_row, IsRowCopy, IsCopy, names_from, MayCopy, AreNumbered, IsCopied, AreCopied, LeavesCopy}
 use Rattle.mt_rows.proofs.Reached as reached
-use Rattle.mt_rows.proofs.Loads.{same_tree}
-use Rattle.mt_dup.specs.Copy.{with_new_row, IsRowCopy, IsCopy}
-use Rattle.mt_dup.specs.Walks.{names_from, MayCopy, AreNumbered, IsCopied, AreCopied, LeavesCopy}
 use Rattle.mt_dup.proofs.Names.{names_none}
 use Rattle.mt_dup.proofs.NewNumbers.{times_of, number_in, number_zero, numbered_on, numbered_once, IsGiven, all_given, given_inside, given_outside, numbered_in_order}
 use Rattle.mt_dup.proofs.TreeNames.{may_copy, rows_named, holds_below}

@@ -1,21 +1,5 @@
 -- The columns of one row of a copy, read one by one and written at once.
-use Rattle.std.proofs.Common.{◌≡◌, ℕ, ◌+◌, ◌*◌, ◌<◌, ◌≤◌, ◌⊎◌, List, length, add-zero, refl, sym, ap, ◌∙◌, subst, inl, inr, arith, length-set, get_or-set_other, get_or-set_same}
-use Rattle.std.specs.Prelude.{replicate, slice_index, slice_set}
-use Rattle.std.proofs.lemmas.Bool.{cases_eq, cases_lt}
-use Rattle.std.proofs.lemmas.List.{get_or-replicate, length-replicate}
-use Rattle.mt_base.specs.declared.widths.Width.{Width}
-use Rattle.mt_base.specs.Width.{columns}
-use Rattle.mt_layout.proofs.Places.{place_within, row_within}
-use Rattle.mt_rows.specs.declared.rows.Life.{Life}
-use Rattle.mt_rows.specs.declared.rows.Life.TheVariants.{New, Draft}
-use Rattle.mt_rows.specs.Drafts.{AreDrafted}
-use Rattle.mt_rows.specs.Spans.{column}
-use Rattle.mt_rows.specs.Sheet.{Rooted, Sheet, OnlyReads, IsPlace, life_of, IsFree}
-use Rattle.mt_dup.specs.declared.columns.Pair.{Pair}
-use Rattle.mt_dup.specs.Filling.{IsOutside, IsWritten}
-use Rattle.mt_dup.specs.Pairs.{HasOwn}
-use Rattle.mt_rows.proofs.Loads.{reads_on, same_tree}
-use Rattle.mt_layout.proofs.RowSizes.{some_columns}
+use Rattle.mt_dup.proofs.Prelude.{◌≡◌, ℕ, ◌+◌, ◌*◌, ◌<◌, ◌≤◌, ◌⊎◌, List, length, add-zero, refl, sym, ap, ◌∙◌, subst, inl, inr, arith, length-set, get_or-set_other, get_or-set_same, replicate, slice_index, slice_set, cases_eq, cases_lt, get_or-replicate, length-replicate, Width, columns, place_within, row_within, Life, New, Draft, AreDrafted, column, Rooted, Sheet, OnlyReads, IsPlace, life_of, IsFree, Pair, IsOutside, IsWritten, HasOwn, reads_on, same_tree, some_columns}
 
 -- ---- rows that are written
 

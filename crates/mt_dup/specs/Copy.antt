@@ -2,20 +2,7 @@
 -- Source: the kernel's lib/maple_tree.c, __mt_dup, which copies each node and then writes the new addresses into it.
 use Rattle.std.specs.Prelude.{◌≡◌, ◌↔◌, ℕ, ◌*◌, ◌%◌, ◌<◌, ◌≤◌, false, Some, [], length, map}
 use Rattle.std.specs.List.{range_with_len}
-use Rattle.mt_base.specs.Width.{columns, first_row}
-use Rattle.mt_free.specs.Book.{Book, IsBook, IsOut}
-use Rattle.mt_layout.specs.declared.names.RowKind.{RowKind}
-use Rattle.mt_layout.specs.declared.names.RowKind.TheVariants.{Leaf, Inner, Gapped}
-use Rattle.mt_layout.specs.declared.spans.Span.{Span}
-use Rattle.mt_layout.specs.Columns.{slot_column}
-use Rattle.mt_layout.specs.Rows.{row_in, named_kind, parent_at}
-use Rattle.mt_layout.specs.Sizes.{slots_of}
-use Rattle.mt_rows.specs.Spans.{Table, column}
-use Rattle.mt_rows.specs.Trees.{reached_in}
-use Rattle.mt_rows.specs.Plain.{new_sheet}
-use Rattle.mt_rows.specs.Publish.{is_reached, IsReached, StandsAt}
-use Rattle.mt_rows.specs.Sheet.{Rooted, Sheet, life_of}
-use Rattle.mt_rows.specs.declared.rows.Life.TheVariants.{New, Draft}
+use Rattle.mt_dup.specs.Prelude.{columns, first_row, Book, IsBook, IsOut, RowKind, Leaf, Inner, Gapped, Span, slot_column, row_in, named_kind, parent_at, slots_of, Table, column, reached_in, new_sheet, is_reached, IsReached, StandsAt, Rooted, Sheet, life_of, New, Draft}
 
 -- a name or a parent word of the copy: the row has its new number, and the low byte, which tells a kind or a slot, is the same
 abbrev pub with_new_row : (ℕ → ℕ) → ℕ → ℕ

@@ -1,11 +1,7 @@
 -- A table of rows that is filled from its first row on, and the book of it.
 -- Source: this project's own.
 use Rattle.std.specs.Prelude.{◌≡◌, ◌⊎◌, ℕ, zero, suc, ◌+◌, ◌-◌, ◌<◌, ◌≤◌, List, [], ◌∷◌, length}
-use Rattle.mt_base.specs.Width.{columns, first_row}
-use Rattle.mt_free.specs.Book.{Book}
-use Rattle.mt_rows.specs.declared.rows.Life.TheVariants.{New, Draft}
-use Rattle.mt_rows.specs.Spans.{column}
-use Rattle.mt_rows.specs.Sheet.{Sheet, life_of}
+use Rattle.mt_dup.specs.Prelude.{columns, first_row, Book, New, Draft, column, Sheet, life_of}
 
 -- so many rows from `low` on, the last of them first
 abbrev pub rows_above : ℕ → ℕ → List ℕ

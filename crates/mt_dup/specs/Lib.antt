@@ -2,3 +2,4 @@ pub mod Copy
 pub mod Filling
 pub mod Pairs
 pub mod Walks
+pub mod Prelude

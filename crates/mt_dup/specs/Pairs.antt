@@ -1,8 +1,7 @@
 -- What is written in one row of a copy.
 -- Source: this project's own.
 use Rattle.std.specs.Prelude.{◌≡◌, ◌≢◌, ℕ, ◌<◌}
-use Rattle.mt_base.specs.Width.{columns}
-use Rattle.mt_rows.specs.Spans.{Table, column}
+use Rattle.mt_dup.specs.Prelude.{columns, Table, column}
 use Rattle.mt_dup.specs.declared.columns.Pair.{Pair}
 
 -- the word is in this column of the row, and the row's other columns are as before

@@ -2,15 +2,7 @@
 -- Source: this project's own.
 use Rattle.std.specs.Prelude.{◌≡◌, ◌≢◌, ◌⊎◌, ℕ, zero, suc, ◌+◌, ◌-◌, ◌*◌, ◌<◌, ◌≤◌, List, [], ◌∷◌, Option, Some, None}
 use Rattle.std.specs.List.{AllByRecursion, flat_map}
-use Rattle.mt_base.specs.Width.{columns, first_row}
-use Rattle.mt_layout.specs.declared.names.RowKind.{RowKind}
-use Rattle.mt_layout.specs.declared.names.RowKind.TheVariants.{Leaf}
-use Rattle.mt_layout.specs.Columns.{slot_column}
-use Rattle.mt_layout.specs.Rows.{row_in, named_kind, parent_at}
-use Rattle.mt_layout.specs.Sizes.{slots_of}
-use Rattle.mt_rows.specs.Spans.{Table, column}
-use Rattle.mt_rows.specs.Sheet.{Rooted}
-use Rattle.mt_rows.specs.Plain.{names_of}
+use Rattle.mt_dup.specs.Prelude.{columns, first_row, RowKind, Leaf, slot_column, row_in, named_kind, parent_at, slots_of, Table, column, Rooted, names_of}
 use Rattle.mt_dup.specs.declared.walks.Way.{Way}
 use Rattle.mt_dup.specs.declared.columns.Pair.{Pair}
 use Rattle.mt_dup.specs.Copy.{with_new_row, IsRowCopy}

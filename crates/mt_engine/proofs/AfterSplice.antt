@@ -1,26 +1,5 @@
 -- A call that has replaced rows: the rows and the book by its end.
-use Rattle.std.proofs.Common.{◌≡◌, ℕ, ◌+◌, ◌*◌, ◌-◌, ◌<◌, ◌≤◌, ◌++◌, List, Bool, Option, true, false, length, map, get_or, refl, sym, ap, ◌∙◌, subst, inl, inr, arith, length-append}
-use Rattle.std.specs.List.{All, Contains}
-use Rattle.std.proofs.lemmas.Bool.{cases_Bool}
-use Rattle.std.proofs.lemmas.List.{get_or-map, get_or_append_left, length-map}
-use Rattle.std.proofs.lemmas.List.Elements.{All-append, All-map}
-use Rattle.mt_base.specs.declared.kinds.Kind.{Kind}
-use Rattle.mt_base.specs.declared.calls.Call.{Call}
-use Rattle.mt_base.specs.declared.replies.Reply.{Reply}
-use Rattle.mt_base.specs.declared.ranges.Range.{Range}
-use Rattle.mt_base.specs.Call.{acted}
-use Rattle.mt_base.specs.Width.{deepest, most_taken, first_row}
-use Rattle.mt_free.specs.Book.{Book, Held, IsRowOf, held_rows, live_count}
-use Rattle.mt_rows.specs.declared.rows.Life.{Life}
-use Rattle.mt_rows.specs.declared.rows.Life.TheVariants.{Dead}
-use Rattle.mt_rows.specs.declared.rows.Place.{Place}
-use Rattle.mt_rows.specs.Trees.{height_in}
-use Rattle.mt_rows.specs.Sheet.{Rooted, Sheet, life_of}
-use Rattle.mt_rows.specs.Publish.{IsLawfulOf, LiveAreReached, is_reached, finished, map_by, with_record}
-use Rattle.mt_splice.specs.Kept.{IsBookOf}
-use Rattle.mt_splice.specs.Splice.{IsSpliced}
-use Rattle.mt_engine.specs.Engine.{IsEngineState, IsIdle, TookRows}
-use Rattle.mt_engine.specs.Stores.{IsDoneByStore}
+use Rattle.mt_engine.proofs.Prelude.{◌≡◌, ℕ, ◌+◌, ◌*◌, ◌-◌, ◌<◌, ◌≤◌, ◌++◌, List, Bool, Option, true, false, length, map, get_or, refl, sym, ap, ◌∙◌, subst, inl, inr, arith, length-append, All, Contains, cases_Bool, get_or-map, get_or_append_left, length-map, All-append, All-map, Kind, Call, Reply, Range, acted, deepest, most_taken, first_row, Book, Held, IsRowOf, held_rows, live_count, Life, Dead, Place, height_in, Rooted, Sheet, life_of, IsLawfulOf, LiveAreReached, is_reached, finished, map_by, with_record, IsBookOf, IsSpliced, IsEngineState, IsIdle, TookRows, IsDoneByStore}
 use Rattle.mt_engine.proofs.Levelled.{levelled}
 use Rattle.mt_engine.proofs.Moments.{tree_if_lawful}
 

@@ -1,28 +1,6 @@
 -- What a call has come to by a store, at once or after a scan, and by the end of all ranges.
-use Rattle.std.proofs.Common.{◌≡◌, ◌≢◌, ℕ, ◌+◌, ◌*◌, ◌≤◌, ◌++◌, List, [], Bool, true, false, length, refl, sym, ap, ◌∙◌, subst, inl, arith, append-nil}
-use Rattle.mt_base.specs.declared.calls.Call.{Call}
-use Rattle.mt_base.specs.declared.calls.Call.TheVariants.{Clear}
-use Rattle.mt_base.specs.declared.kinds.Kind.{Kind}
-use Rattle.mt_base.specs.declared.replies.Reply.{Reply}
+use Rattle.mt_engine.proofs.Prelude.{◌≡◌, ◌≢◌, ℕ, ◌+◌, ◌*◌, ◌≤◌, ◌++◌, List, [], Bool, true, false, length, refl, sym, ap, ◌∙◌, subst, inl, arith, append-nil, Call, Clear, Kind, Reply, acted, Wants, greatest, Width, Book, after_reclaim, Place, Root, Scan, height_in, Sheet, OnlyReads, scanned, PathStep, path_in, IsTreeOf, WasScanned, map_by, finished, MayClear, WasPublishedAt, IsSpliced, IsInCall, EndsAnswered, IsEnded, Replaces, is_refusal, MayMendAt, WasWay, IsMendedAt, IsScanned, HasRoom, IsDoneByStore}
 use Rattle.mt_base.specs.declared.replies.Reply.TheVariants as reply
-use Rattle.mt_base.specs.Call.{acted}
-use Rattle.mt_base.specs.Nodes.{Wants}
-use Rattle.mt_base.specs.Width.{greatest}
-use Rattle.mt_base.specs.declared.widths.Width.{Width}
-use Rattle.mt_free.specs.Book.{Book, after_reclaim}
-use Rattle.mt_rows.specs.declared.rows.Place.{Place}
-use Rattle.mt_rows.specs.declared.rows.Place.TheVariants.{Root}
-use Rattle.mt_rows.specs.declared.rows.Scan.{Scan}
-use Rattle.mt_rows.specs.Trees.{height_in}
-use Rattle.mt_rows.specs.Sheet.{Sheet, OnlyReads, scanned}
-use Rattle.mt_path.specs.declared.paths.PathStep.{PathStep}
-use Rattle.mt_path.specs.Paths.{path_in}
-use Rattle.mt_rows.specs.Publish.{IsTreeOf, WasScanned, map_by, finished}
-use Rattle.mt_splice.specs.Splice.{MayClear, WasPublishedAt, IsSpliced}
-use Rattle.mt_engine.specs.Engine.{IsInCall, EndsAnswered, IsEnded, Replaces, is_refusal}
-use Rattle.mt_engine.specs.Mends.{MayMendAt, WasWay, IsMendedAt}
-use Rattle.mt_engine.specs.Rooms.{IsScanned, HasRoom}
-use Rattle.mt_engine.specs.Stores.{IsDoneByStore}
 use Rattle.mt_engine.proofs.AfterSplice.{replaced, stored_by}
 use Rattle.mt_engine.proofs.Moments.{in_call_if_read, unscanned_if_read, answered_after_reads}
 use Rattle.mt_engine.proofs.Scanned.{was_scanned, first_scan}

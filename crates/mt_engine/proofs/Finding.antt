@@ -1,45 +1,11 @@
 -- What a search for room comes to, and an allocation; and how many words a search loads.
-use Rattle.std.proofs.Common.{◌≡◌, ◌≢◌, ℕ, ◌+◌, ◌-◌, ◌*◌, ◌^◌, ◌<◌, ◌≤◌, ◌==◌, ◌||◌, not, true, false, List, Option, Some, None, refl, sym, ap, ◌∙◌, subst, arith}
-use Rattle.std.proofs.lemmas.Bool.{or_parts, eqb-false}
-use Rattle.mt_base.specs.declared.kinds.Kind.{Kind}
-use Rattle.mt_base.specs.declared.ranges.Range.{Range}
-use Rattle.mt_base.specs.declared.calls.Call.{Call}
-use Rattle.mt_base.specs.declared.calls.Call.TheVariants.{Store, StorePre, Insert, Erase, Alloc, Ralloc, Gap, Rgap, Clear}
-use Rattle.mt_base.specs.declared.replies.Reply.{Reply}
+use Rattle.mt_engine.proofs.Prelude.{◌≡◌, ◌≢◌, ℕ, ◌+◌, ◌-◌, ◌*◌, ◌^◌, ◌<◌, ◌≤◌, ◌==◌, ◌||◌, not, true, false, List, Option, Some, None, refl, sym, ap, ◌∙◌, subst, arith, or_parts, eqb-false, Kind, Range, Call, Store, StorePre, Insert, Erase, Alloc, Ralloc, Gap, Rgap, Clear, Reply, Shortage, Width, acted, found, placed, is_no_area, is_bad_area, reserved, IsRoom, IsMap, is_held, over, columns, greatest, greatest_of, is_area, low_is_room, high_is_room, greatest_fits, IsGapped, IsLawfulOf, map_by, Rooted, Sheet, ReadsUpTo, RoseUpTo, height_in, Handle, PathStep, path_in, Sought, Lowest, Highest, Plan, start_to, allocation, search, OnlySearches, is_refusal, most_searched, IsHereAt, IsSearched, IsStoreOf, IsStorePlan, IsDoneBy, StoreBy, within_steps, rose_up}
 use Rattle.mt_base.specs.declared.replies.Reply.TheVariants as reply
-use Rattle.mt_base.specs.declared.replies.Shortage.{Shortage}
-use Rattle.mt_base.specs.declared.widths.Width.{Width}
-use Rattle.mt_base.specs.Call.{acted, found, placed, is_no_area, is_bad_area}
-use Rattle.mt_base.specs.Entry.{reserved}
-use Rattle.mt_base.specs.Holes.{IsRoom}
-use Rattle.mt_base.specs.Map.{IsMap, is_held, over}
-use Rattle.mt_base.specs.Width.{columns, greatest, greatest_of}
-use Rattle.mt_base.proofs.CallsKeepOrder.{is_area}
-use Rattle.mt_base.proofs.FreeAreas.{low_is_room, high_is_room}
-use Rattle.mt_base.proofs.WidthBounds.{greatest_fits}
-use Rattle.mt_gap.specs.Descents.{IsGapped}
-use Rattle.mt_rows.specs.Publish.{IsLawfulOf, map_by}
-use Rattle.mt_rows.specs.Sheet.{Rooted, Sheet, ReadsUpTo, RoseUpTo}
-use Rattle.mt_rows.specs.Trees.{height_in}
-use Rattle.mt_path.specs.declared.handles.Handle.{Handle}
-use Rattle.mt_path.specs.declared.paths.PathStep.{PathStep}
-use Rattle.mt_path.specs.Paths.{path_in}
-use Rattle.mt_engine.specs.declared.areas.Sought.{Sought}
-use Rattle.mt_engine.specs.declared.areas.Sought.TheVariants.{Lowest, Highest}
-use Rattle.mt_engine.specs.declared.plans.Plan.{Plan}
 use Rattle.mt_engine.specs.declared.plans.Plan.TheVariants as plans
-use Rattle.mt_engine.specs.Areas.{start_to, allocation, search}
-use Rattle.mt_engine.specs.Engine.{OnlySearches, is_refusal, most_searched}
-use Rattle.mt_engine.specs.Here.{IsHereAt}
-use Rattle.mt_engine.specs.Plans.{IsSearched, IsStoreOf, IsStorePlan}
-use Rattle.mt_engine.specs.StoreBy.{IsDoneBy}
-use Rattle.mt_engine.specs.declared.store_by.StoreBy.{StoreBy}
 use Rattle.mt_engine.proofs.Moments.{tree_if_lawful}
-use Rattle.mt_gap.proofs.Readings.{within_steps}
 use Rattle.mt_engine.proofs.Planning.{ComesToNothing}
 use Rattle.mt_engine.proofs.Slots.{tree_map}
 use Rattle.mt_engine.proofs.Wanting.{stays_replaces_none}
-use Rattle.mt_path.proofs.Loads.{rose_up}
 
 abbrev pub start_for : Sought → Kind → List Range → ℕ → ℕ → ℕ → Option ℕ
 start_for sought kind = start_to sought (greatest_of kind)

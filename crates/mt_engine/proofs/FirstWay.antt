@@ -1,22 +1,5 @@
 -- The way to the first index: its steps are all in the first slot, and there are as many as the tree has levels.
-use Rattle.std.proofs.Common.{◌≡◌, ℕ, zero, suc, ◌+◌, ◌*◌, List, [], ◌∷◌, Option, Some, None, length, nat_lt, false, refl, sym, ap, ◌∙◌, inl, inr, arith, le-ltb}
-use Rattle.mt_base.specs.declared.kinds.Kind.{Kind}
-use Rattle.mt_base.specs.Width.{deepest}
-use Rattle.mt_layout.specs.declared.names.RowKind.{RowKind}
-use Rattle.mt_layout.specs.declared.names.RowKind.TheVariants.{Leaf, Inner, Gapped}
-use Rattle.mt_layout.specs.declared.spans.Span.{Span}
-use Rattle.mt_layout.specs.Rows.{named_kind}
-use Rattle.mt_rows.specs.Spans.{Table, spans_in, root_span}
-use Rattle.mt_rows.specs.Trees.{by_kind, height_in}
-use Rattle.mt_rows.specs.Laws.{IsTree}
-use Rattle.mt_rows.specs.Sheet.{Rooted}
-use Rattle.mt_rows.specs.Publish.{IsTreeOf, tree_as}
-use Rattle.mt_rows.proofs.Depth.{height_by_depth}
-use Rattle.mt_path.specs.declared.paths.PathStep.{PathStep}
-use Rattle.mt_path.specs.Paths.{slot_for, step_in, below, path_of, path_in, loads_in, loads_on}
-use Rattle.mt_path.proofs.Loads.{loads_in-append}
-use Rattle.mt_path.proofs.Steps.{path_of_none}
-use Rattle.mt_path.proofs.TreePaths.{levels}
+use Rattle.mt_engine.proofs.Prelude.{◌≡◌, ℕ, zero, suc, ◌+◌, ◌*◌, List, [], ◌∷◌, Option, Some, None, length, nat_lt, false, refl, sym, ap, ◌∙◌, inl, inr, arith, le-ltb, Kind, deepest, RowKind, Leaf, Inner, Gapped, Span, named_kind, Table, spans_in, root_span, by_kind, height_in, IsTree, Rooted, IsTreeOf, tree_as, height_by_depth, PathStep, slot_for, step_in, below, path_of, path_in, loads_in, loads_on, loads_in-append, path_of_none, levels}
 
 -- ---- the loads
 

@@ -1,14 +1,5 @@
 -- Rows and a book of which nothing was used yet make an engine.
-use Rattle.std.proofs.Common.{◌≡◌, ℕ, zero, suc, length, refl, ap, arith}
-use Rattle.std.proofs.lemmas.List.Elements.{All-nil}
-use Rattle.mt_base.specs.declared.kinds.Kind.{Kind}
-use Rattle.mt_base.specs.Width.{kind_width}
-use Rattle.mt_free.specs.Book.{Held, IsBook, new_book, rows_down}
-use Rattle.mt_rows.specs.declared.rows.Life.TheVariants.{Dead}
-use Rattle.mt_rows.specs.Plain.{new_sheet}
-use Rattle.mt_rows.specs.Sheet.{life_of}
-use Rattle.mt_splice.proofs.Fresh.{fresh_is_ready}
-use Rattle.mt_engine.specs.Engine.{IsIdle}
+use Rattle.mt_engine.proofs.Prelude.{◌≡◌, ℕ, zero, suc, length, refl, ap, arith, All-nil, Kind, kind_width, Held, IsBook, new_book, rows_down, Dead, new_sheet, life_of, fresh_is_ready, IsIdle}
 
 length-rows_down : (n : ℕ) → length (rows_down n) ≡ n
 length-rows_down zero = refl

@@ -1,19 +1,5 @@
 -- The law of gaps by other words: where each leaf has as long a hole as before, and the rows above are the same.
-use Rattle.std.proofs.Common.{◌≡◌, ℕ, zero, suc, ◌+◌, ◌<◌, ◌≤◌, List, [], ◌∷◌, Bool, false, true, length, max, refl, sym, ap, ◌∙◌, subst, arith}
-use Rattle.std.specs.List.{AllByRecursion}
-use Rattle.mt_base.specs.declared.widths.Width.{Width}
-use Rattle.mt_base.proofs.Lists.{all_map}
-use Rattle.mt_layout.specs.declared.names.RowKind.TheVariants.{Gapped}
-use Rattle.mt_layout.specs.declared.spans.Span.{Span}
-use Rattle.mt_layout.specs.Columns.{gap_column}
-use Rattle.mt_layout.specs.Rows.{row_in}
-use Rattle.mt_layout.specs.Sizes.{slots_of}
-use Rattle.mt_layout.specs.Spans.{longest_in}
-use Rattle.mt_rows.specs.Spans.{Table, column, inner_of, spans_in}
-use Rattle.mt_rows.specs.Levels.{Levels, SameSpans, expand}
-use Rattle.mt_rows.specs.Laws.{Tree, GapLaw, GapLawBy, GapsFrom, longest_below}
-use Rattle.mt_rows.proofs.Joins.{expand_shared, levels_front, levels_back}
-use Rattle.mt_rows.proofs.Longest.{longest_in-append}
+use Rattle.mt_engine.proofs.Prelude.{◌≡◌, ℕ, zero, suc, ◌+◌, ◌<◌, ◌≤◌, List, [], ◌∷◌, Bool, false, true, length, max, refl, sym, ap, ◌∙◌, subst, arith, AllByRecursion, Width, all_map, Gapped, Span, gap_column, row_in, slots_of, longest_in, Table, column, inner_of, spans_in, Levels, SameSpans, expand, Tree, GapLaw, GapLawBy, GapsFrom, longest_below, expand_shared, levels_front, levels_back, longest_in-append}
 
 -- a row above the leaves has the same spans, and the same gap words where it has some
 pub record SameRow (gapped : Bool) (t t' : Table) (x : Span) : Type 0 where

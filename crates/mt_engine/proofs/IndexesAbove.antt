@@ -1,14 +1,6 @@
 -- Indexes above the greatest one of a tree: no range is there, and looking back begins at the greatest.
-use Rattle.std.proofs.Common.{◌≡◌, ℕ, ◌<◌, None, min, refl, sym, ap, ◌∙◌, subst, inl, inr, arith}
-use Rattle.std.proofs.lemmas.Bool.{cases_lt, lt-ltb}
-use Rattle.mt_base.specs.declared.kinds.Kind.{Kind}
-use Rattle.mt_base.specs.declared.widths.Width.{Width}
-use Rattle.mt_base.specs.declared.calls.Query.TheVariants.{Load, Find, Next, Prev, Rfind}
-use Rattle.mt_base.specs.Call.{answer}
-use Rattle.mt_base.specs.Width.{greatest, greatest_of}
+use Rattle.mt_engine.proofs.Prelude.{◌≡◌, ℕ, ◌<◌, None, min, refl, sym, ap, ◌∙◌, subst, inl, inr, arith, cases_lt, lt-ltb, Kind, Width, Load, Find, Next, Prev, Rfind, answer, greatest, greatest_of, IsTreeOf, map_by, Rooted}
 use Rattle.mt_base.proofs.AboveTop as above
-use Rattle.mt_rows.specs.Publish.{IsTreeOf, map_by}
-use Rattle.mt_rows.specs.Sheet.{Rooted}
 use Rattle.mt_engine.proofs.Slots.{tree_map}
 
 module _ (t : Rooted) (tree : (kind : Kind) × IsTreeOf t kind) where

@@ -1,22 +1,6 @@
 -- A hole that ends a leaf ends at the greatest index.
-use Rattle.std.proofs.Common.{◌≡◌, ◌≢◌, ℕ, zero, suc, ◌+◌, ◌<◌, ◌≤◌, List, [], ◌∷◌, length, sym, ap, ◌∙◌, inl, inr, arith}
-use Rattle.std.proofs.lemmas.Bool.{cases_lt}
-use Rattle.std.proofs.lemmas.Option.{slice_get_within}
-use Rattle.mt_base.specs.declared.kinds.Kind.{Kind}
-use Rattle.mt_base.specs.Width.{greatest}
-use Rattle.mt_layout.specs.declared.spans.Span.{Span}
-use Rattle.mt_layout.specs.Spans.{Fills, EndsFull}
-use Rattle.mt_layout.proofs.SpanLists.{fills_le}
-use Rattle.mt_rows.specs.Spans.{spans_in}
-use Rattle.mt_rows.specs.Laws.{Tree, IsRow, IsTree, Stands, top_of}
-use Rattle.mt_rows.specs.Publish.{IsTreeOf, tree_as}
-use Rattle.mt_rows.specs.Sheet.{Rooted}
-use Rattle.mt_path.specs.declared.handles.Handle.{Handle}
-use Rattle.mt_path.specs.declared.paths.PathStep.{PathStep}
-use Rattle.mt_path.specs.Handles.{IsHandleOf}
-use Rattle.mt_path.specs.Paths.{slot_for, span_at, below}
-use Rattle.mt_path.proofs.Places.{at_get, at_within}
-use Rattle.mt_path.proofs.TreePaths.{row_of, place, lawful, holds}
+use Rattle.mt_engine.proofs.Prelude.{◌≡◌, ◌≢◌, ℕ, zero, suc, ◌+◌, ◌<◌, ◌≤◌, List, [], ◌∷◌, length, sym, ap, ◌∙◌, inl, inr, arith, cases_lt, slice_get_within, Kind, greatest, Span, Fills, EndsFull, fills_le, spans_in, Tree, IsRow, IsTree, Stands, top_of, IsTreeOf, tree_as, Rooted, Handle, PathStep, IsHandleOf, slot_for, span_at, below, at_get, at_within, row_of, place, lawful}
+use Rattle.mt_path.proofs.TreePaths.{holds}
 use Rattle.mt_engine.proofs.Slots.{end_is, slot_holds}
 
 -- the last of spans that end with an entry is one

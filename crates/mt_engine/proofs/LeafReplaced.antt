@@ -1,26 +1,5 @@
 -- A path along which the way to an index goes when its leaf was replaced, as the tree tells it.
-use Rattle.std.proofs.Common.{◌≡◌, ◌≢◌, ℕ, suc, ◌+◌, ◌-◌, ◌<◌, ◌≤◌, List, Bool, Some, true, length, sym, ap, ◌∙◌, subst, arith}
-use Rattle.mt_base.specs.declared.kinds.Kind.{Kind}
-use Rattle.mt_base.specs.declared.widths.Width.{Width}
-use Rattle.mt_base.specs.Call.{finds_room}
-use Rattle.mt_base.specs.Width.{columns, greatest}
-use Rattle.mt_layout.specs.declared.names.RowKind.TheVariants.{Gapped}
-use Rattle.mt_layout.specs.Rows.{named_row}
-use Rattle.mt_layout.specs.Columns.{slot_column}
-use Rattle.mt_layout.specs.Sizes.{slots_of}
-use Rattle.mt_path.specs.declared.paths.PathStep.{PathStep}
-use Rattle.mt_path.specs.Paths.{step_at, step_in, path_in}
-use Rattle.mt_path.proofs.TreePaths.{row_of, step_of, levels, step, lawful, slot_used}
-use Rattle.mt_path.proofs.Ways.{some_root, some_tree}
-use Rattle.mt_rows.specs.declared.rows.Place.{Place}
-use Rattle.mt_rows.specs.declared.rows.Place.TheVariants.{Slot}
-use Rattle.mt_rows.specs.Spans.{spans_in}
-use Rattle.mt_rows.specs.Laws.{Tree, IsTree, IsRow, Stands}
-use Rattle.mt_rows.specs.Sheet.{Rooted, word_at}
-use Rattle.mt_rows.specs.Publish.{tree_on, IsTreeOf, IsReached}
-use Rattle.mt_rows.proofs.FewSpans.{row_most}
-use Rattle.mt_gap.specs.Mending.{IsAlong}
-use Rattle.mt_engine.specs.Mends.{WasWay}
+use Rattle.mt_engine.proofs.Prelude.{◌≡◌, ◌≢◌, ℕ, suc, ◌+◌, ◌-◌, ◌<◌, ◌≤◌, List, Bool, Some, true, length, sym, ap, ◌∙◌, subst, arith, Kind, Width, finds_room, columns, greatest, Gapped, named_row, slot_column, slots_of, PathStep, step_at, step_in, path_in, row_of, step_of, levels, step, lawful, slot_used, some_root, some_tree, Place, Slot, spans_in, Tree, IsTree, IsRow, Stands, Rooted, word_at, tree_on, IsTreeOf, IsReached, row_most, IsAlong, WasWay}
 use Rattle.mt_engine.proofs.NewLeaf.{along_now}
 use Rattle.mt_engine.proofs.SameHeight.{levels_same}
 

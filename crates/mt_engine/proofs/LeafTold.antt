@@ -1,29 +1,5 @@
 -- A leaf on the way to an index, whose longest hole was told when it was published.
-use Rattle.std.proofs.Common.{◌≡◌, ◌≢◌, ℕ, ◌+◌, ◌-◌, ◌≤◌, List, [], ◌∷◌, Bool, Some, true, length, refl, sym, ap, ◌∙◌, subst, arith}
-use Rattle.mt_base.specs.declared.kinds.Kind.{Kind}
-use Rattle.mt_base.specs.Call.{finds_room}
-use Rattle.mt_base.specs.Width.{greatest}
-use Rattle.mt_layout.specs.declared.names.RowKind.TheVariants.{Gapped}
-use Rattle.mt_layout.specs.declared.spans.Span.{Span}
-use Rattle.mt_layout.specs.Rows.{row_in, named_kind, named_row}
-use Rattle.mt_layout.specs.Columns.{slot_column}
-use Rattle.mt_layout.specs.Sizes.{slots_of}
-use Rattle.mt_layout.specs.Spans.{longest_in}
-use Rattle.mt_path.specs.declared.paths.PathStep.{PathStep}
-use Rattle.mt_path.specs.Paths.{step_at, step_in, path_in}
-use Rattle.mt_path.specs.Handles.{leaf_in, leaf_spans}
-use Rattle.mt_path.proofs.TreePaths.{rows_at, row_of, step_of, levels, step, place, lawful}
-use Rattle.mt_path.proofs.Ways.{some_root, some_tree}
-use Rattle.mt_rows.specs.declared.rows.Place.{Place}
-use Rattle.mt_rows.specs.Laws.{Tree, IsTree, Stands, kind_on, longest_below}
-use Rattle.mt_rows.specs.Publish.{tree_on, IsTreeOf}
-use Rattle.mt_rows.specs.Replacement.{root_of}
-use Rattle.mt_rows.specs.Sheet.{Rooted, Sheet, word_at}
-use Rattle.mt_rows.proofs.Reached.{OnLevel, one_of_parts, on_level, on_level_law, one_place}
-use Rattle.mt_splice.specs.Splice.{TellsBelow, TellsGapAt}
-use Rattle.mt_gap.specs.Mending.{IsAlong, IsToldWay}
-use Rattle.mt_gap.proofs.Mending.{child_tells}
-use Rattle.mt_engine.specs.Mends.{MayMendAt, WasWay, IsPlaceOfLeaf}
+use Rattle.mt_engine.proofs.Prelude.{◌≡◌, ◌≢◌, ℕ, ◌+◌, ◌-◌, ◌≤◌, List, [], ◌∷◌, Bool, Some, true, length, refl, sym, ap, ◌∙◌, subst, arith, Kind, finds_room, greatest, Gapped, Span, row_in, named_kind, named_row, slot_column, slots_of, longest_in, PathStep, step_at, step_in, path_in, leaf_in, leaf_spans, rows_at, row_of, step_of, levels, step, place, lawful, some_root, some_tree, Place, Tree, IsTree, Stands, kind_on, longest_below, tree_on, IsTreeOf, root_of, Rooted, Sheet, word_at, OnLevel, one_of_parts, on_level, on_level_law, one_place, TellsBelow, TellsGapAt, IsAlong, IsToldWay, child_tells, MayMendAt, WasWay, IsPlaceOfLeaf}
 use Rattle.mt_engine.proofs.LeafReplaced.{goes_along}
 
 -- ---- a row that tells, and the leaf of that number on the way

@@ -1,20 +1,5 @@
 -- A call that publishes nothing: it leaves the map, or is refused for want of rows.
-use Rattle.std.proofs.Common.{◌≡◌, ℕ, ◌≤◌, Option, [], refl, sym, subst, inl, inr, arith, append-nil}
-use Rattle.std.specs.Prelude.{◌⊎◌}
-use Rattle.mt_base.specs.declared.calls.Call.{Call}
-use Rattle.mt_base.specs.declared.kinds.Kind.{Kind}
-use Rattle.mt_base.specs.declared.replies.Reply.{Reply}
-use Rattle.mt_base.specs.declared.replies.Reply.TheVariants.{NoNodes}
-use Rattle.mt_base.specs.declared.replies.Shortage.{Shortage}
-use Rattle.mt_base.specs.Call.{acted}
-use Rattle.mt_base.specs.Nodes.{Wants, IsRefused}
-use Rattle.mt_free.specs.Book.{Book, after_reclaim}
-use Rattle.mt_rows.specs.declared.rows.Scan.{Scan}
-use Rattle.mt_rows.specs.Sheet.{Sheet, IsScan, limits_of, one_more, scanned}
-use Rattle.mt_rows.specs.Publish.{MayFinish, IsFoundShort, IsRealShortage, finished, map_by, with_record}
-use Rattle.mt_engine.specs.Engine.{IsEngineState, IsIdle, IsInCall, IsEnded, EndsAnswered}
-use Rattle.mt_engine.specs.Rooms.{IsScanned, IsShortOf}
-use Rattle.mt_engine.specs.Stores.{IsDoneByStore}
+use Rattle.mt_engine.proofs.Prelude.{◌≡◌, ℕ, ◌≤◌, Option, [], refl, sym, subst, inl, inr, arith, append-nil, ◌⊎◌, Call, Kind, Reply, NoNodes, Shortage, acted, Wants, IsRefused, Book, after_reclaim, Scan, Sheet, IsScan, limits_of, one_more, scanned, MayFinish, IsFoundShort, IsRealShortage, finished, map_by, with_record, IsEngineState, IsIdle, IsInCall, IsEnded, EndsAnswered, IsScanned, IsShortOf, IsDoneByStore}
 use Rattle.mt_engine.proofs.Scanned.{was_scanned, first_scan}
 
 -- the call's reply leaves the map

@@ -1,17 +1,5 @@
 -- How many levels, rows and ranges a lawful tree has.
-use Rattle.std.proofs.Common.{◌≡◌, ℕ, zero, suc, ◌+◌, ◌-◌, ◌*◌, ◌^◌, ◌<◌, ◌≤◌, List, [], length, ap, subst, inl, inr, arith}
-use Rattle.std.specs.Prelude.{◌↔◌}
-use Rattle.std.proofs.Math.Nat.{pow-succ'}
-use Rattle.mt_base.specs.declared.kinds.Kind.{Kind}
-use Rattle.mt_base.specs.declared.ranges.Range.{Range}
-use Rattle.mt_base.specs.Width.{deepest}
-use Rattle.mt_rows.specs.Spans.{root_span}
-use Rattle.mt_rows.specs.Trees.{map_in, reached_in, height_in}
-use Rattle.mt_rows.specs.Laws.{IsTree}
-use Rattle.mt_rows.specs.Sheet.{Rooted}
-use Rattle.mt_rows.specs.Publish.{tree_as, IsTreeOf, map_by}
-use Rattle.mt_rows.proofs.Depth.{height_by_depth}
-use Rattle.mt_rows.proofs.FewRows.{few_rows, row_on_each_level, many_ranges}
+use Rattle.mt_engine.proofs.Prelude.{◌≡◌, ℕ, zero, suc, ◌+◌, ◌-◌, ◌*◌, ◌^◌, ◌<◌, ◌≤◌, List, [], length, ap, subst, inl, inr, arith, ◌↔◌, pow-succ', Kind, Range, deepest, root_span, map_in, reached_in, height_in, IsTree, Rooted, tree_as, IsTreeOf, map_by, height_by_depth, few_rows, row_on_each_level, many_ranges}
 
 pub record Levelled (height rows : ℕ) (m : List Range) : Type 0 where
   pub low : height ≤ deepest

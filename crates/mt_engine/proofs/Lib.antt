@@ -31,3 +31,4 @@ pub mod SpanLists
 pub mod Storing
 pub mod Walking
 pub mod Wanting
+mod Prelude

@@ -1,14 +1,6 @@
 -- What a map has at an index tells what stands at the places of the index: the range in its slot, or the one right behind
 -- the hole there, or right before it.
-use Rattle.std.proofs.Common.{◌≡◌, ◌⊎◌, ℕ, ◌+◌, ◌-◌, ◌<◌, ◌≤◌, ◌&&◌, zero, suc, Bool, true, false, List, [], ◌∷◌, Option, Some, None, take, arith, nat_lt, nat_le, refl, sym, ap, ◌∙◌, subst, inl, inr}
-use Rattle.std.specs.List.{AllByRecursion, slice_get, prefix_len}
-use Rattle.std.proofs.lemmas.Bool.{cases_Bool, cases_lt, or_parts, and_parts, ltb-true, leb-true, lt-ltb, le-ltb, lt-leb, le-leb}
-use Rattle.std.proofs.lemmas.Option.{cond_some}
-use Rattle.mt_base.specs.declared.ranges.Range.{Range}
-use Rattle.mt_base.specs.Map.{IsMapFrom, holds, holding, overlaps, is_held}
-use Rattle.mt_list.specs.Places.{place_below, place_above, last_of, up_to}
-use Rattle.mt_list.proofs.HoldingAtPlace.{holding_at_place}
-use Rattle.mt_base.proofs.Lists.{all_map}
+use Rattle.mt_engine.proofs.Prelude.{◌≡◌, ◌⊎◌, ℕ, ◌+◌, ◌-◌, ◌<◌, ◌≤◌, ◌&&◌, zero, suc, Bool, true, false, List, [], ◌∷◌, Option, Some, None, take, arith, nat_lt, nat_le, refl, sym, ap, ◌∙◌, subst, inl, inr, AllByRecursion, slice_get, prefix_len, cases_Bool, cases_lt, or_parts, and_parts, ltb-true, leb-true, lt-ltb, le-ltb, lt-leb, le-leb, cond_some, Range, IsMapFrom, holds, holding, overlaps, is_held, place_below, place_above, last_of, up_to, holding_at_place, all_map}
 
 -- ---- the ranges beside a span
 

@@ -1,15 +1,6 @@
 -- What a map has at an index answers the queries: the range in the slot of the index, or the one right behind the hole
 -- there, or right before it.
-use Rattle.std.proofs.Common.{◌≡◌, ◌≢◌, ℕ, ◌+◌, ◌-◌, ◌<◌, ◌≤◌, ◌==◌, false, List, [], ◌∷◌, Option, Some, None, take, arith, nat_le, refl, sym, ap, ◌∙◌, subst, inl, inr}
-use Rattle.std.specs.Prelude.{IsSome}
-use Rattle.std.specs.List.{AllByRecursion, slice_get}
-use Rattle.std.proofs.lemmas.Bool.{cases_Bool, eqb-true, eqb-false, and_left, and_right, lt-leb}
-use Rattle.mt_base.specs.declared.ranges.Range.{Range}
-use Rattle.mt_base.specs.Map.{IsMapFrom, holding, holds}
-use Rattle.mt_layout.specs.declared.spans.Span.{Span}
-use Rattle.mt_list.specs.Places.{place_below, place_above, last_of}
-use Rattle.mt_engine.specs.MapSpans.{range_of, IsSpanAt}
-use Rattle.mt_engine.specs.Nearest.{nearest_from, nearest_up_to}
+use Rattle.mt_engine.proofs.Prelude.{◌≡◌, ◌≢◌, ℕ, ◌+◌, ◌-◌, ◌<◌, ◌≤◌, ◌==◌, false, List, [], ◌∷◌, Option, Some, None, take, arith, nat_le, refl, sym, ap, ◌∙◌, subst, inl, inr, IsSome, AllByRecursion, slice_get, cases_Bool, eqb-true, eqb-false, and_left, and_right, lt-leb, Range, IsMapFrom, holding, holds, Span, place_below, place_above, last_of, range_of, IsSpanAt, nearest_from, nearest_up_to}
 use Rattle.mt_engine.proofs.MapPlaces.{Outside, Beside, outside_hole, beside_hole, beside_held, next_place, prev_place, first_place, last_place, first_held, last_held, none_before, none_before_hole, none_behind}
 
 -- a hole holds nothing

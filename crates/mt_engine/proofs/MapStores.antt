@@ -1,13 +1,7 @@
 -- What a store makes of the ranges beside it, and of the range that it covers exactly.
-use Rattle.std.proofs.Common.{◌≡◌, ◌≢◌, ℕ, ◌+◌, ◌-◌, ◌<◌, ◌≤◌, ◌==◌, List, [], ◌∷◌, ◌++◌, Some, min, map, nat_lt, refl, sym, ap, ◌∙◌, subst, inl, inr, arith}
-use Rattle.std.specs.List.{AllByRecursion}
-use Rattle.std.proofs.lemmas.Bool.{cases_Bool, cond_both, lt-ltb, le-ltb, ltb-true, eqb-true, le-leb}
-use Rattle.mt_base.specs.declared.ranges.Range.{Range}
-use Rattle.mt_base.specs.Map.{IsMapFrom, holds, holding, over, without, parts_below, parts_above, part_stored, cut_below}
+use Rattle.mt_engine.proofs.Prelude.{◌≡◌, ◌≢◌, ℕ, ◌+◌, ◌-◌, ◌<◌, ◌≤◌, ◌==◌, List, [], ◌∷◌, ◌++◌, Some, min, map, nat_lt, refl, sym, ap, ◌∙◌, subst, inl, inr, arith, AllByRecursion, cases_Bool, cond_both, lt-ltb, le-ltb, ltb-true, eqb-true, le-leb, Range, IsMapFrom, holds, holding, over, without, parts_below, parts_above, part_stored, cut_below, no_part_below, all_parts_above, without_above}
 use Rattle.mt_engine.proofs.MapPlaces.{Outside, held_from, holds_is}
 use Rattle.mt_engine.proofs.SpanLists.{stops_below}
-use Rattle.mt_list.proofs.StoreAtPlaces.{no_part_below, all_parts_above}
-use Rattle.mt_list.proofs.EraseAtPlace.{without_above}
 
 -- ---- the range that holds an index
 

@@ -1,12 +1,5 @@
 -- The height that is kept is right while the tree's words are as they were.
-use Rattle.std.proofs.Common.{◌≡◌, ℕ, sym, ap, ◌∙◌, subst}
-use Rattle.mt_base.specs.declared.kinds.Kind.{Kind}
-use Rattle.mt_free.specs.Book.{Book}
-use Rattle.mt_rows.specs.Sheet.{Rooted, Sheet, OnlyReads}
-use Rattle.mt_rows.specs.Trees.{height_in}
-use Rattle.mt_engine.specs.Engine.{IsIdle}
-use Rattle.mt_engine.specs.Heights.{HasHeight, IsMeasured}
-use Rattle.mt_engine.specs.Rooms.{IsScanned}
+use Rattle.mt_engine.proofs.Prelude.{◌≡◌, ℕ, sym, ap, ◌∙◌, subst, Kind, Book, Rooted, Sheet, OnlyReads, height_in, IsIdle, HasHeight, IsMeasured, IsScanned}
 
 -- ---- where words were only loaded
 

@@ -1,31 +1,6 @@
 -- A tree whose gap words were mended: it is lawful, and has the same rows and the same map.
-use Rattle.std.proofs.Common.{◌≡◌, ℕ, zero, suc, ◌+◌, ◌≤◌, ◌==◌, List, [], ◌∷◌, ◌++◌, Bool, false, nat_lt, length, refl, sym, ap, ◌∙◌, subst, inl, inr, arith}
-use Rattle.mt_base.specs.declared.kinds.Kind.{Kind}
-use Rattle.mt_base.specs.Call.{finds_room}
-use Rattle.mt_base.specs.Width.{deepest}
-use Rattle.mt_layout.specs.declared.names.RowKind.TheVariants.{Gapped}
-use Rattle.mt_layout.specs.declared.spans.Span.{Span}
-use Rattle.mt_layout.specs.Rows.{row_in}
-use Rattle.mt_layout.proofs.RowSizes.{some_columns, some_slots_of}
-use Rattle.mt_path.specs.declared.paths.PathStep.{PathStep}
-use Rattle.mt_path.specs.Paths.{step_at, path_in}
-use Rattle.mt_rows.specs.Spans.{column, root_span, spans_in}
-use Rattle.mt_rows.specs.Levels.{Levels, expand, is_row_of, tally}
-use Rattle.mt_rows.specs.Laws.{Tree, IsRow, IsTended, IsLawful, Stands, ParentLaw, GapLaw}
-use Rattle.mt_rows.specs.Gaps.{HasGaps}
-use Rattle.mt_rows.specs.Replacement.{root_of}
-use Rattle.mt_rows.specs.Sheet.{Rooted, Sheet, OnlyReads}
-use Rattle.mt_rows.specs.Publish.{tree_on, tree_as, IsLawfulOf, map_by, is_reached}
-use Rattle.mt_rows.specs.Trees.{map_in, reached_in, height_in}
-use Rattle.mt_rows.proofs.Depth.{some_least, ranges_by_depth}
-use Rattle.mt_rows.proofs.Heights.{levels_pair}
-use Rattle.mt_rows.proofs.InnerKinds.{inner_not_named}
-use Rattle.mt_rows.proofs.Joins.{Shared, expand_shared, levels_shared, map_of_shared, times_shared}
-use Rattle.mt_rows.proofs.Lists.{levels_map}
+use Rattle.mt_engine.proofs.Prelude.{◌≡◌, ℕ, zero, suc, ◌+◌, ◌≤◌, ◌==◌, List, [], ◌∷◌, ◌++◌, Bool, false, nat_lt, length, refl, sym, ap, ◌∙◌, subst, inl, inr, arith, Kind, finds_room, deepest, Gapped, Span, row_in, some_columns, some_slots_of, PathStep, step_at, path_in, column, root_span, spans_in, Levels, expand, is_row_of, tally, Tree, IsRow, IsTended, IsLawful, Stands, ParentLaw, GapLaw, HasGaps, root_of, Rooted, Sheet, OnlyReads, tree_on, tree_as, IsLawfulOf, map_by, is_reached, map_in, reached_in, height_in, some_least, ranges_by_depth, levels_pair, inner_not_named, Shared, expand_shared, levels_shared, map_of_shared, times_shared, levels_map, HasParents, KeepsWordsBut, OnlyWords, IsAlong, IsWay, MayMendAt, IsMendedAt}
 use Rattle.mt_rows.proofs.Reached as reached
-use Rattle.mt_splice.specs.Splice.{HasParents}
-use Rattle.mt_gap.specs.Mending.{KeepsWordsBut, OnlyWords, IsAlong, IsWay}
-use Rattle.mt_engine.specs.Mends.{MayMendAt, IsMendedAt}
 use Rattle.mt_engine.proofs.OneWord.{parent_stays_in}
 
 -- ---- a tree without gaps has no gap words

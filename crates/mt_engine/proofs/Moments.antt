@@ -1,15 +1,5 @@
 -- What holds of the rows and the book from the begin of a call on, and of a call whose rows were read before.
-use Rattle.std.proofs.Common.{◌≡◌, ℕ, Bool, Option, Some, refl, sym, ap, ◌∙◌, subst, inl, inr, ⊎_elim}
-use Rattle.mt_base.specs.declared.calls.Call.{Call}
-use Rattle.mt_base.specs.declared.kinds.Kind.{Kind}
-use Rattle.mt_base.specs.declared.replies.Reply.{Reply}
-use Rattle.mt_base.specs.Nodes.{IsMade, one_call_more}
-use Rattle.mt_base.specs.declared.replies.Shortage.{Shortage}
-use Rattle.mt_free.specs.Book.{Book}
-use Rattle.mt_rows.specs.Laws.{Tree, IsLawful, IsTree}
-use Rattle.mt_rows.specs.Publish.{IsLawfulOf, IsTreeOf, tree_as, map_by, finished, IsRealShortage}
-use Rattle.mt_rows.specs.Sheet.{Rooted, Sheet, OnlyReads, begun, limits_of}
-use Rattle.mt_engine.specs.Engine.{IsIdle, IsInCall, IsCarriedOut, IsShortFor, IsEnded, DidOrLacked, IsApplied, EndsAnswered, OnlySearches, OnlySought, StoresExactly}
+use Rattle.mt_engine.proofs.Prelude.{◌≡◌, ℕ, Bool, Option, Some, refl, sym, ap, ◌∙◌, subst, inl, inr, ⊎_elim, Call, Kind, Reply, IsMade, one_call_more, Shortage, Book, Tree, IsLawful, IsTree, IsLawfulOf, IsTreeOf, tree_as, map_by, finished, IsRealShortage, Rooted, Sheet, OnlyReads, begun, limits_of, IsIdle, IsInCall, IsCarriedOut, IsShortFor, IsEnded, DidOrLacked, IsApplied, EndsAnswered, OnlySearches, OnlySought, StoresExactly}
 
 -- ---- the state
 

@@ -1,31 +1,6 @@
 -- A leaf replaced by one store in the slot that it stood in: all rows above it, and their slots, are on the way as before.
-use Rattle.std.proofs.Common.{◌≡◌, ◌≢◌, ℕ, zero, suc, ◌+◌, ◌-◌, ◌*◌, ◌<◌, ◌≤◌, List, [], ◌∷◌, Some, true, length, nat_le, refl, sym, ap, ◌∙◌, subst, inl, inr, arith}
-use Rattle.std.specs.Prelude.{slice_index}
-use Rattle.std.proofs.lemmas.Bool.{cases_Bool, cases_lt}
-use Rattle.mt_base.specs.declared.widths.Width.{Width}
-use Rattle.mt_base.specs.Width.{columns, greatest}
-use Rattle.mt_layout.specs.declared.names.RowKind.TheVariants.{Gapped}
-use Rattle.mt_layout.specs.declared.spans.Span.{Span}
-use Rattle.mt_layout.specs.Rows.{row_in, named_kind, named_row}
-use Rattle.mt_layout.specs.Columns.{pivot_column, items_from}
-use Rattle.mt_layout.specs.Sizes.{slots_of, gaps_of}
-use Rattle.mt_layout.specs.Spans.{spans_from}
-use Rattle.mt_layout.proofs.RowSizes.{slot_within}
-use Rattle.mt_rows.specs.declared.rows.Place.TheVariants.{Slot}
-use Rattle.mt_rows.specs.Spans.{Table, base_of, column, spans_by, spans_in}
-use Rattle.mt_rows.specs.Laws.{Tree, Stands, top_of}
-use Rattle.mt_rows.specs.Sheet.{Rooted, word_at}
-use Rattle.mt_rows.specs.Publish.{tree_on, IsReached}
-use Rattle.mt_rows.specs.Replacement.{root_of}
-use Rattle.mt_rows.proofs.FewSpans.{row_most}
+use Rattle.mt_engine.proofs.Prelude.{◌≡◌, ◌≢◌, ℕ, zero, suc, ◌+◌, ◌-◌, ◌*◌, ◌<◌, ◌≤◌, List, [], ◌∷◌, Some, true, length, nat_le, refl, sym, ap, ◌∙◌, subst, inl, inr, arith, slice_index, cases_Bool, cases_lt, Width, columns, greatest, Gapped, Span, row_in, named_kind, named_row, pivot_column, items_from, slots_of, gaps_of, spans_from, slot_within, Slot, Table, base_of, column, spans_by, spans_in, Tree, Stands, top_of, Rooted, word_at, tree_on, IsReached, root_of, row_most, PathStep, slot_for, span_at, step_in, below, path_in, slot_here, slot_behind, row_next, top_row, rows_at, row_of, step_of, levels, step, place, lawful, slot_used, row_on_top, IsAlong}
 use Rattle.mt_rows.proofs.Reached as reached
-use Rattle.mt_path.specs.declared.paths.PathStep.{PathStep}
-use Rattle.mt_path.specs.Paths.{slot_for, span_at, step_in, below, path_in}
-use Rattle.mt_path.proofs.Places.{slot_here, slot_behind}
-use Rattle.mt_path.proofs.Steps.{row_next}
-use Rattle.mt_path.proofs.TreePaths.{top_row, rows_at, row_of, step_of, levels, step, place, lawful, slot_used}
-use Rattle.mt_path.proofs.Ways.{row_on_top}
-use Rattle.mt_gap.specs.Mending.{IsAlong}
 use Rattle.mt_engine.proofs.SameHeight.{word_in}
 
 -- ---- spans that end at the same indexes

@@ -1,61 +1,13 @@
 -- Another entry of one range, published by one word in the slot of its leaf: the rows stay as they are.
-use Rattle.std.proofs.Common.{◌≡◌, ◌≢◌, ℕ, zero, suc, ◌+◌, ◌*◌, ◌<◌, ◌≤◌, ◌==◌, ◌++◌, List, [], ◌∷◌, Bool, true, false, All, nat_lt, length, max, refl, sym, ap, ◌∙◌, subst, inl, inr, arith, append-nil, get_or-set_other, le-ltb, ne_eqb}
-use Rattle.std.specs.Prelude.{slice_index, slice_set, slice_index_or}
-use Rattle.std.specs.List.{AllByRecursion, Contains}
-use Rattle.std.proofs.lemmas.Bool.{cases_Bool, eqb-false}
-use Rattle.std.proofs.lemmas.List.Elements.{All-weaker, All-contains, All-contains_itself}
-use Rattle.mt_base.specs.declared.widths.Width.{Width}
-use Rattle.mt_base.specs.declared.kinds.Kind.{Kind}
-use Rattle.mt_base.specs.declared.ranges.Range.{Range}
-use Rattle.mt_base.specs.declared.calls.Call.{Call}
-use Rattle.mt_base.specs.declared.calls.Call.TheVariants.{Store}
-use Rattle.mt_base.specs.declared.replies.Reply.{Reply}
-use Rattle.mt_base.specs.Call.{acted, finds_room}
-use Rattle.mt_base.specs.Entry.{reserved}
-use Rattle.mt_base.specs.Map.{over}
-use Rattle.mt_base.proofs.Lists.{all_front, all_back, all_join}
-use Rattle.mt_base.specs.Width.{columns, greatest, greatest_of, first_row}
-use Rattle.mt_free.specs.Book.{Book, Held, IsRowOf}
-use Rattle.mt_layout.specs.declared.names.RowKind.TheVariants.{Leaf, Gapped}
-use Rattle.mt_layout.specs.declared.spans.Span.{Span}
-use Rattle.mt_layout.specs.Columns.{slot_column, gap_column}
-use Rattle.mt_layout.specs.Rows.{row_in}
-use Rattle.mt_layout.specs.Sizes.{slots_of}
-use Rattle.mt_layout.specs.Spans.{hole_length, longest_in}
-use Rattle.mt_layout.proofs.Places.{other_place, other_column}
-use Rattle.mt_layout.proofs.RowSizes.{some_columns, slot_above, slot_within, gap_within}
-use Rattle.mt_rows.specs.declared.rows.Life.{Life}
-use Rattle.mt_rows.specs.declared.rows.Life.TheVariants.{New, Dead}
-use Rattle.mt_rows.specs.declared.rows.Place.{Place}
-use Rattle.mt_rows.specs.declared.rows.Place.TheVariants.{Slot}
-use Rattle.mt_rows.specs.Spans.{Table, column, spans_in}
-use Rattle.mt_rows.specs.Levels.{Levels, is_row_of}
+use Rattle.mt_engine.proofs.Prelude.{◌≡◌, ◌≢◌, ℕ, zero, suc, ◌+◌, ◌*◌, ◌<◌, ◌≤◌, ◌==◌, ◌++◌, List, [], ◌∷◌, Bool, true, false, All, nat_lt, length, max, refl, sym, ap, ◌∙◌, subst, inl, inr, arith, append-nil, get_or-set_other, le-ltb, ne_eqb, slice_index, slice_set, slice_index_or, AllByRecursion, Contains, cases_Bool, eqb-false, All-weaker, All-contains, All-contains_itself, Width, Kind, Range, Call, Store, Reply, acted, finds_room, reserved, over, all_front, all_back, all_join, columns, greatest, greatest_of, first_row, Book, Held, IsRowOf, Leaf, Gapped, Span, slot_column, gap_column, row_in, slots_of, hole_length, longest_in, other_place, other_column, some_columns, slot_above, slot_within, gap_within, Life, New, Dead, Place, Slot, Table, column, spans_in, Levels, is_row_of, height_in, Rooted, Sheet, IsWhole, life_of, with_word, tree_as, map_by, is_reached, MayPublish, Published, with_record, life_after, finished, root_of, IsSlotAt, ReplacesEntry, may_publish, levels_upper, levels_both, levels_pair, level_rows, all_both, upper_both, upper_shared, levels_map, Handle, IsHandleOf, handle_in, slot_for, below, step_in, at_get, row_of, place, IsBookOf, IsUnheld, IsStoreBy, SameHeight, ChangesEntry, IsInCall, IsIdle, IsDoneByStore, row_most, longest_in-append}
 use Rattle.mt_rows.specs.Laws as laws
-use Rattle.mt_rows.specs.Trees.{height_in}
-use Rattle.mt_rows.specs.Sheet.{Rooted, Sheet, IsWhole, life_of, with_word}
-use Rattle.mt_rows.specs.Publish.{tree_as, map_by, is_reached, MayPublish, Published, with_record, life_after, finished}
-use Rattle.mt_rows.specs.Replacement.{root_of, IsSlotAt, ReplacesEntry}
-use Rattle.mt_rows.proofs.ExactStore.{may_publish}
-use Rattle.mt_rows.proofs.Heights.{levels_upper, levels_both, levels_pair, level_rows, all_both, upper_both, upper_shared}
-use Rattle.mt_rows.proofs.Lists.{levels_map}
 use Rattle.mt_rows.proofs.Reached as reached
 use Rattle.mt_rows.proofs.SlotEntry as exact
 use Rattle.mt_rows.proofs.SlotStore as store
-use Rattle.mt_path.specs.declared.handles.Handle.{Handle}
-use Rattle.mt_path.specs.Handles.{IsHandleOf, handle_in}
-use Rattle.mt_path.specs.Paths.{slot_for, below, step_in}
-use Rattle.mt_path.proofs.Places.{at_get}
-use Rattle.mt_path.proofs.TreePaths.{row_of, place, holds}
-use Rattle.mt_splice.specs.Kept.{IsBookOf, IsUnheld}
-use Rattle.mt_splice.specs.Splice.{IsStoreBy}
-use Rattle.mt_engine.specs.Heights.{SameHeight}
-use Rattle.mt_engine.specs.Engine.{ChangesEntry, IsInCall, IsIdle}
-use Rattle.mt_engine.specs.Stores.{IsDoneByStore}
+use Rattle.mt_path.proofs.TreePaths.{holds}
 use Rattle.mt_engine.proofs.GapsStay.{SameGaps, gaps_stay, no_gaps_in_leaves}
 use Rattle.mt_engine.proofs.Slots.{end_is, slot_holds}
 use Rattle.mt_engine.proofs.AfterSplice.{stored_as}
-use Rattle.mt_rows.proofs.FewSpans.{row_most}
-use Rattle.mt_rows.proofs.Longest.{longest_in-append}
 
 -- ---- the parent words beside a slot of a leaf
 

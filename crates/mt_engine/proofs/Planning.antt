@@ -1,37 +1,6 @@
 -- What each call comes to on a tree.
-use Rattle.std.proofs.Common.{◌≡◌, ◌≢◌, ℕ, ◌+◌, ◌<◌, ◌≤◌, ◌==◌, ◌||◌, true, false, List, Option, Some, None, refl, sym, ap, ◌∙◌, subst, inl, inr, arith, ne_eqb}
-use Rattle.std.specs.Prelude.{IsSome, IfSome, is_some}
-use Rattle.std.proofs.lemmas.Bool.{cases_Bool, cases_lt, eqb-true, eqb-false, lt-ltb, le-ltb}
-use Rattle.mt_base.specs.declared.kinds.Kind.{Kind}
-use Rattle.mt_base.specs.declared.widths.Width.{Width}
-use Rattle.mt_base.specs.declared.ranges.Range.{Range}
-use Rattle.mt_base.specs.declared.calls.Call.{Call}
-use Rattle.mt_base.specs.declared.calls.Call.TheVariants.{Store, StorePre, Insert, Erase}
-use Rattle.mt_base.specs.declared.replies.Reply.{Reply}
+use Rattle.mt_engine.proofs.Prelude.{◌≡◌, ◌≢◌, ℕ, ◌+◌, ◌<◌, ◌≤◌, ◌==◌, ◌||◌, true, false, List, Option, Some, None, refl, sym, ap, ◌∙◌, subst, inl, inr, arith, ne_eqb, IsSome, IfSome, is_some, cases_Bool, cases_lt, eqb-true, eqb-false, lt-ltb, le-ltb, Kind, Width, Range, Call, Store, StorePre, Insert, Erase, Reply, acted, erased, is_invalid, replied, IsMapFrom, first_met, holding, is_held, over, Wants, greatest, valid_order, valid_within, valid_entry, is_held_where_met, up_to, first_from_place, IsTreeOf, map_by, Rooted, Sheet, OnlyReads, same_tree, Handle, PathStep, last_step, handle_in, handle_of, path_in, is_refusal, IsHereAt, range_of, IsSpanAt, nearest_from, IsMet, IsStorePlan, is_range_met, IsDoneBy, StoreBy, Write}
 use Rattle.mt_base.specs.declared.replies.Reply.TheVariants as reply
-use Rattle.mt_base.specs.Call.{acted, erased, is_invalid, replied}
-use Rattle.mt_base.specs.Map.{IsMapFrom, first_met, holding, is_held, over}
-use Rattle.mt_base.specs.Nodes.{Wants}
-use Rattle.mt_base.specs.Width.{greatest}
-use Rattle.mt_base.proofs.CallsKeepOrder.{valid_order, valid_within, valid_entry}
-use Rattle.mt_base.proofs.FirstMet.{is_held_where_met}
-use Rattle.mt_list.specs.Places.{up_to}
-use Rattle.mt_list.proofs.QueriesAtPlaces.{first_from_place}
-use Rattle.mt_rows.specs.Publish.{IsTreeOf, map_by}
-use Rattle.mt_rows.specs.Sheet.{Rooted, Sheet, OnlyReads}
-use Rattle.mt_rows.proofs.Loads.{same_tree}
-use Rattle.mt_path.specs.declared.handles.Handle.{Handle}
-use Rattle.mt_path.specs.declared.paths.PathStep.{PathStep}
-use Rattle.mt_path.specs.Handles.{last_step, handle_in, handle_of}
-use Rattle.mt_path.specs.Paths.{path_in}
-use Rattle.mt_engine.specs.Engine.{is_refusal}
-use Rattle.mt_engine.specs.Here.{IsHereAt}
-use Rattle.mt_engine.specs.MapSpans.{range_of, IsSpanAt}
-use Rattle.mt_engine.specs.Nearest.{nearest_from}
-use Rattle.mt_engine.specs.Plans.{IsMet, IsStorePlan, is_range_met}
-use Rattle.mt_engine.specs.StoreBy.{IsDoneBy}
-use Rattle.mt_engine.specs.declared.store_by.StoreBy.{StoreBy}
-use Rattle.mt_engine.specs.declared.store_by.Write.{Write}
 use Rattle.mt_engine.proofs.IndexesAbove.{load_above}
 use Rattle.mt_engine.proofs.MapPlaces.{range_there}
 use Rattle.mt_engine.proofs.MapQueries.{load_hole}

@@ -1,20 +1,5 @@
 -- A call in flight that has come to an end so far, after which words were only loaded.
-use Rattle.std.proofs.Common.{◌≡◌, ℕ, Option, true, sym, ap, ◌∙◌, subst, inl, inr, ⊎_elim}
-use Rattle.mt_base.specs.declared.calls.Call.{Call}
-use Rattle.mt_base.specs.declared.calls.Call.TheVariants.{Store}
-use Rattle.mt_base.specs.declared.kinds.Kind.{Kind}
-use Rattle.mt_base.specs.declared.replies.Reply.{Reply}
-use Rattle.mt_base.specs.declared.replies.Shortage.{Shortage}
-use Rattle.mt_base.specs.Call.{acted}
-use Rattle.mt_base.specs.Nodes.{is_exact_store}
-use Rattle.mt_free.specs.Book.{Book}
-use Rattle.mt_rows.specs.Publish.{MayFinish, IsRealShortage, IsFoundShort, map_by, finished}
-use Rattle.mt_rows.specs.Sheet.{Rooted, Sheet, OnlyReads, begun}
-use Rattle.mt_engine.specs.Engine.{ChangesEntry, StoresExactly, IsCarriedOut, IsShortFor, IsEnded, DidOrLacked, EndsAnswered, is_refusal}
-use Rattle.mt_engine.specs.Heights.{HasHeight, IsMeasured}
-use Rattle.mt_engine.specs.Plans.{IsStoreOf}
-use Rattle.mt_engine.specs.Prepared.{IsPrestored}
-use Rattle.mt_engine.specs.Stores.{IsDoneByStore}
+use Rattle.mt_engine.proofs.Prelude.{◌≡◌, ℕ, Option, true, sym, ap, ◌∙◌, subst, inl, inr, ⊎_elim, Call, Store, Kind, Reply, Shortage, acted, is_exact_store, Book, MayFinish, IsRealShortage, IsFoundShort, map_by, finished, Rooted, Sheet, OnlyReads, begun, ChangesEntry, StoresExactly, IsCarriedOut, IsShortFor, IsEnded, DidOrLacked, EndsAnswered, is_refusal, HasHeight, IsMeasured, IsStoreOf, IsPrestored, IsDoneByStore}
 use Rattle.mt_engine.proofs.Moments.{ended_from, answer_from}
 
 -- ---- read at the end

@@ -1,15 +1,5 @@
 -- What the freeing of held rows that were replaced early enough leaves of a book.
-use Rattle.std.proofs.Common.{◌≡◌, ℕ, ◌+◌, ◌<◌, ◌≤◌, List, [], ◌∷◌, ◌++◌, true, length, map, nat_le, nat_lt, sym, subst, inl, inr, arith, append-nil, length-append}
-use Rattle.std.specs.Prelude.{min}
-use Rattle.std.specs.List.{All}
-use Rattle.std.proofs.lemmas.Bool.{cases_Bool, leb-true, leb-false, ltb-true}
-use Rattle.std.proofs.lemmas.List.Elements.{All-head, All-tail, All-push, All-weaker, Contains-append_left, Contains-append_right, Contains-append_cases, filter_passes}
-use Rattle.mt_free.specs.Book.{Held, Book, IsBook, IsOut, still_held, after_reclaim}
-use Rattle.mt_free.proofs.Books.{book, reclaim_leaves_book, first_due, none_due}
-use Rattle.mt_rows.specs.declared.rows.Life.{Life}
-use Rattle.mt_rows.specs.declared.rows.Life.TheVariants.{New, Draft, Live, Dead}
-use Rattle.mt_rows.specs.Sheet.{life_of}
-use Rattle.mt_splice.specs.Kept.{IsUnheld}
+use Rattle.mt_engine.proofs.Prelude.{◌≡◌, ℕ, ◌+◌, ◌<◌, ◌≤◌, List, [], ◌∷◌, ◌++◌, true, length, map, nat_le, nat_lt, sym, subst, inl, inr, arith, append-nil, length-append, min, All, cases_Bool, leb-true, leb-false, ltb-true, All-head, All-tail, All-push, All-weaker, Contains-append_left, Contains-append_right, Contains-append_cases, filter_passes, Held, Book, IsBook, IsOut, still_held, after_reclaim, book, reclaim_leaves_book, first_due, none_due, Life, New, Draft, Live, Dead, life_of, IsUnheld}
 
 -- the held row died by the call that the book tells, which has ended
 pub record DiedBy (lives : List Life) (all : ℕ) (h : Held) : Type 0 where

@@ -1,37 +1,7 @@
 -- A store in a slot leaves the height: of two slots of a row on the way down, one keeps its word.
-use Rattle.std.proofs.Common.{◌≡◌, ◌≢◌, ℕ, zero, suc, ◌+◌, ◌<◌, List, [], ◌∷◌, Bool, Some, false, length, refl, sym, ap, ◌∙◌, subst, inl, inr, arith}
-use Rattle.std.proofs.lemmas.Bool.{cases_eq}
-use Rattle.mt_base.specs.declared.kinds.Kind.{Kind}
-use Rattle.mt_base.specs.declared.calls.Call.{Call}
-use Rattle.mt_base.specs.declared.replies.Reply.{Reply}
-use Rattle.mt_base.specs.declared.widths.Width.{Width}
-use Rattle.mt_base.specs.Call.{finds_room}
-use Rattle.mt_base.specs.Width.{columns}
-use Rattle.mt_free.specs.Book.{Book}
-use Rattle.mt_layout.specs.declared.names.RowKind.{RowKind}
-use Rattle.mt_layout.specs.declared.spans.Span.{Span}
-use Rattle.mt_layout.specs.Rows.{row_in, named_kind}
-use Rattle.mt_layout.specs.Columns.{slot_column, items_at}
-use Rattle.mt_layout.specs.Sizes.{slots_of, gaps_of}
+use Rattle.mt_engine.proofs.Prelude.{◌≡◌, ◌≢◌, ℕ, zero, suc, ◌+◌, ◌<◌, List, [], ◌∷◌, Bool, Some, false, length, refl, sym, ap, ◌∙◌, subst, inl, inr, arith, cases_eq, Kind, Call, Reply, Width, finds_room, columns, Book, RowKind, Span, row_in, named_kind, slot_column, items_at, slots_of, gaps_of, length-spans_from, Place, Root, Slot, Table, base_of, column, inner_of, spans_by, spans_in, root_span, level, height_in, Tree, IsTree, Stands, Rooted, Sheet, word_at, tree_on, tree_as, IsTreeOf, IsReached, root_of, level_next, inner_not_named, span_at, stands_in, IsSpliced, SameHeight, is_root, two_least}
 use Rattle.mt_layout.proofs.RowSizes as sizes
-use Rattle.mt_layout.proofs.SpanLists.{length-spans_from}
-use Rattle.mt_rows.specs.declared.rows.Place.{Place}
-use Rattle.mt_rows.specs.declared.rows.Place.TheVariants.{Root, Slot}
-use Rattle.mt_rows.specs.Spans.{Table, base_of, column, inner_of, spans_by, spans_in, root_span}
-use Rattle.mt_rows.specs.Levels.{level}
-use Rattle.mt_rows.specs.Trees.{height_in}
-use Rattle.mt_rows.specs.Laws.{Tree, IsTree, Stands}
-use Rattle.mt_rows.specs.Sheet.{Rooted, Sheet, word_at}
-use Rattle.mt_rows.specs.Publish.{tree_on, tree_as, IsTreeOf, IsReached}
-use Rattle.mt_rows.specs.Replacement.{root_of}
-use Rattle.mt_rows.proofs.Heights.{level_next}
-use Rattle.mt_rows.proofs.InnerKinds.{inner_not_named}
 use Rattle.mt_rows.proofs.Reached as reached
-use Rattle.mt_path.specs.Paths.{span_at}
-use Rattle.mt_path.proofs.LeafSlots.{stands_in}
-use Rattle.mt_splice.specs.Splice.{IsSpliced}
-use Rattle.mt_engine.specs.Heights.{SameHeight, is_root}
-use Rattle.mt_splice.proofs.Widens.{two_least}
 
 -- ---- the first two slots of an inner row
 

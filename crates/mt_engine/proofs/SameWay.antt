@@ -1,13 +1,5 @@
 -- The way to the first index of what stands in a slot is the way to each of its indexes.
-use Rattle.std.proofs.Common.{◌≡◌, ◌≢◌, ℕ, ◌≤◌, ap, ◌∙◌, inl, inr, arith}
-use Rattle.mt_base.specs.declared.kinds.Kind.{Kind}
-use Rattle.mt_base.specs.Width.{greatest}
-use Rattle.mt_layout.specs.declared.spans.Span.{Span}
-use Rattle.mt_rows.specs.Laws.{IsTree}
-use Rattle.mt_rows.specs.Publish.{IsTreeOf, tree_as}
-use Rattle.mt_rows.specs.Sheet.{Rooted}
-use Rattle.mt_path.specs.Handles.{handle_in}
-use Rattle.mt_path.specs.Paths.{path_in}
+use Rattle.mt_engine.proofs.Prelude.{◌≡◌, ◌≢◌, ℕ, ◌≤◌, ap, ◌∙◌, inl, inr, arith, Kind, greatest, Span, IsTree, IsTreeOf, tree_as, Rooted, handle_in, path_in}
 use Rattle.mt_path.proofs.SameSlot as slot
 use Rattle.mt_engine.proofs.Slots.{slot_holds}
 

@@ -1,16 +1,5 @@
 -- The rows and the book after a scan, when the held rows that no section holds are free.
-use Rattle.std.proofs.Common.{◌≡◌, ℕ, ◌+◌, ◌≤◌, refl, sym, ap, ◌∙◌, subst, arith}
-use Rattle.std.specs.Prelude.{min}
-use Rattle.std.proofs.lemmas.List.Elements.{All-weaker}
-use Rattle.mt_base.specs.declared.kinds.Kind.{Kind}
-use Rattle.mt_free.specs.Book.{Book, after_reclaim}
-use Rattle.mt_free.proofs.StillOut.{out_after_reclaim}
-use Rattle.mt_rows.specs.declared.rows.Scan.{Scan}
-use Rattle.mt_rows.specs.Sheet.{Sheet, IsScan, life_of, scanned}
-use Rattle.mt_rows.specs.Publish.{WasScanned}
-use Rattle.mt_splice.specs.Kept.{IsBookOf, IsUnheld}
-use Rattle.mt_engine.specs.Engine.{IsEngineState}
-use Rattle.mt_engine.specs.Rooms.{IsScanned}
+use Rattle.mt_engine.proofs.Prelude.{◌≡◌, ℕ, ◌+◌, ◌≤◌, refl, sym, ap, ◌∙◌, subst, arith, min, All-weaker, Kind, Book, after_reclaim, out_after_reclaim, Scan, Sheet, IsScan, life_of, scanned, WasScanned, IsBookOf, IsUnheld, IsEngineState, IsScanned}
 use Rattle.mt_engine.proofs.Reclaims.{Freed, spare_rises, reclaimed}
 
 -- a scan was made, however many there were

@@ -1,23 +1,5 @@
 -- What is true of a tree in which too few rows are free, when the rows that no section holds were freed.
-use Rattle.std.proofs.Common.{◌≡◌, ◌≢◌, ℕ, zero, suc, ◌+◌, ◌-◌, ◌*◌, ◌^◌, ◌<◌, ◌≤◌, List, [], ◌∷◌, ◌++◌, Bool, false, Option, Some, None, length, get_or, refl, sym, ◌∙◌, subst, inl, inr, arith, length-append, nat_lt}
-use Rattle.std.specs.Prelude.{◌↔◌, IsSome, IfSome, if◌then◌else◌}
-use Rattle.std.specs.List.{All, AllPairs}
-use Rattle.std.proofs.lemmas.Bool.{false≢true, lt-ltb}
-use Rattle.std.proofs.lemmas.List.{length-map, get_or-append-add}
-use Rattle.std.proofs.lemmas.List.Elements.{All-map, All-head}
-use Rattle.mt_base.specs.declared.kinds.Kind.{Kind}
-use Rattle.mt_base.specs.declared.replies.Holder.{Holder}
-use Rattle.mt_base.specs.declared.replies.Shortage.{Shortage}
-use Rattle.mt_base.specs.Nodes.{IsShort}
-use Rattle.mt_base.specs.Width.{deepest}
-use Rattle.mt_free.specs.Book.{Held, Book, held_rows}
-use Rattle.mt_rows.specs.declared.rows.Scan.{Scan}
-use Rattle.mt_rows.specs.Trees.{reached_in, height_in}
-use Rattle.mt_rows.specs.Sheet.{Told, Sheet, IsScan, scanned, limits_of}
-use Rattle.mt_rows.specs.Publish.{IsHeldBack, IsRealShortage, map_by}
-use Rattle.mt_splice.proofs.LiveRows.{live_is_reached}
-use Rattle.mt_engine.specs.Engine.{IsEngineState, TellsBook}
-use Rattle.mt_engine.specs.Rooms.{IsScanned, IsShortOf}
+use Rattle.mt_engine.proofs.Prelude.{◌≡◌, ◌≢◌, ℕ, zero, suc, ◌+◌, ◌-◌, ◌*◌, ◌^◌, ◌<◌, ◌≤◌, List, [], ◌∷◌, ◌++◌, Bool, false, Option, Some, None, length, get_or, refl, sym, ◌∙◌, subst, inl, inr, arith, length-append, nat_lt, ◌↔◌, IsSome, IfSome, if◌then◌else◌, All, AllPairs, false≢true, lt-ltb, length-map, get_or-append-add, All-map, All-head, Kind, Holder, Shortage, IsShort, deepest, Held, Book, held_rows, Scan, reached_in, height_in, Told, Sheet, IsScan, scanned, limits_of, IsHeldBack, IsRealShortage, map_by, live_is_reached, IsEngineState, TellsBook, IsScanned, IsShortOf}
 use Rattle.mt_engine.proofs.Levelled.{Levelled, levelled}
 use Rattle.mt_engine.proofs.Moments.{tree_if_lawful}
 use Rattle.mt_engine.proofs.Reclaims.{left_later}

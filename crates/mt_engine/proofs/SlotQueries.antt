@@ -1,26 +1,7 @@
 -- What stands in the slot of an index, and behind it and before it, answers the queries of the map that the words stand for.
-use Rattle.std.proofs.Common.{◌≡◌, ◌≢◌, ℕ, ◌+◌, ◌-◌, ◌≤◌, List, Option, Some, None, arith, refl, sym, ap, ◌∙◌, subst}
-use Rattle.std.specs.Prelude.{IsNone, IfSome, ◌↔◌}
-use Rattle.std.specs.List.{AllByRecursion}
-use Rattle.std.proofs.lemmas.Bool.{le-ltb}
-use Rattle.mt_base.specs.declared.kinds.Kind.{Kind}
-use Rattle.mt_base.specs.declared.ranges.Range.{Range}
-use Rattle.mt_base.specs.declared.calls.Query.TheVariants.{Load, Find, Next, Prev, Rfind}
-use Rattle.mt_base.specs.Call.{answer}
-use Rattle.mt_base.specs.Map.{IsMapFrom}
-use Rattle.mt_base.specs.Width.{greatest}
-use Rattle.mt_list.specs.Places.{up_to, down_to}
-use Rattle.mt_list.proofs.QueriesAtPlaces.{first_from_place, first_above_place, last_below_place, last_up_to_place}
-use Rattle.mt_rows.specs.Publish.{IsTreeOf, map_by}
-use Rattle.mt_rows.specs.Sheet.{Rooted, Sheet, OnlyReads}
-use Rattle.mt_path.specs.declared.handles.Handle.{Handle}
-use Rattle.mt_path.specs.Handles.{handle_in, IsHandleOf}
-use Rattle.mt_engine.specs.MapSpans.{range_of, IsSpanAt}
-use Rattle.mt_engine.specs.Nearest.{nearest_from, nearest_up_to}
-use Rattle.mt_engine.specs.RangeWalks.{range_at}
+use Rattle.mt_engine.proofs.Prelude.{◌≡◌, ◌≢◌, ℕ, ◌+◌, ◌-◌, ◌≤◌, List, Option, Some, None, arith, refl, sym, ap, ◌∙◌, subst, IsNone, IfSome, ◌↔◌, AllByRecursion, le-ltb, Kind, Range, Load, Find, Next, Prev, Rfind, answer, IsMapFrom, greatest, up_to, down_to, first_from_place, first_above_place, last_below_place, last_up_to_place, IsTreeOf, map_by, Rooted, Sheet, OnlyReads, Handle, handle_in, IsHandleOf, range_of, IsSpanAt, nearest_from, nearest_up_to, range_at, reads_on, same_tree}
 use Rattle.mt_engine.proofs.MapQueries as queries
 use Rattle.mt_engine.proofs.Slots.{tree_map, tree_within, slot_tells}
-use Rattle.mt_rows.proofs.Loads.{reads_on, same_tree}
 
 -- ---- what a call that only reads leaves
 

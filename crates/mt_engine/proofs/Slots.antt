@@ -1,31 +1,7 @@
 -- What stands in the slot of an index is what the map has there.
-use Rattle.std.proofs.Common.{◌≡◌, ◌≢◌, ℕ, ◌+◌, ◌-◌, ◌≤◌, List, [], ◌∷◌, ◌++◌, length, refl, sym, ap, ◌∙◌, subst, inl, inr, arith, append-nil, append_assoc}
-use Rattle.std.specs.List.{AllByRecursion}
-use Rattle.mt_base.specs.declared.kinds.Kind.{Kind}
-use Rattle.mt_base.specs.declared.ranges.Range.{Range}
-use Rattle.mt_base.specs.declared.widths.Width.{Width}
-use Rattle.mt_base.specs.Map.{IsMap}
-use Rattle.mt_base.specs.Width.{greatest, deepest}
-use Rattle.mt_base.proofs.Lists.{all_map}
-use Rattle.mt_layout.specs.declared.spans.Span.{Span}
-use Rattle.mt_layout.specs.Spans.{Fills, Apart}
-use Rattle.mt_layout.proofs.SpanLists.{fills_le, apart-append}
-use Rattle.mt_rows.specs.Spans.{spans_in}
-use Rattle.mt_rows.specs.Levels.{expand}
-use Rattle.mt_rows.specs.Trees.{map_in}
-use Rattle.mt_rows.specs.Laws.{Tree, IsTree, IsRow, Stands, top_of}
-use Rattle.mt_rows.specs.Publish.{IsTreeOf, tree_as, map_by}
-use Rattle.mt_rows.specs.Sheet.{Rooted}
-use Rattle.mt_rows.proofs.Depth.{ranges_by_depth}
-use Rattle.mt_rows.proofs.Heights.{level_rows, map_of_split}
-use Rattle.mt_rows.proofs.Lists.{Filled, expand_fills, expand-append}
+use Rattle.mt_engine.proofs.Prelude.{◌≡◌, ◌≢◌, ℕ, ◌+◌, ◌-◌, ◌≤◌, List, [], ◌∷◌, ◌++◌, length, refl, sym, ap, ◌∙◌, subst, inl, inr, arith, append-nil, append_assoc, AllByRecursion, Kind, Range, Width, IsMap, greatest, deepest, all_map, Span, Fills, Apart, fills_le, apart-append, spans_in, expand, map_in, Tree, IsTree, IsRow, Stands, top_of, IsTreeOf, tree_as, map_by, Rooted, ranges_by_depth, level_rows, map_of_split, Filled, expand_fills, expand-append, PathStep, slot_for, span_at, step_in, below, path_in, step_at, last_step, leaf_spans, handle_in, at_parts, At, top_row, rows_at, row_of, levels, step, place, rows_fill, lawful, IsSpanAt}
 use Rattle.mt_rows.proofs.Ranges as maps
-use Rattle.mt_path.specs.declared.paths.PathStep.{PathStep}
-use Rattle.mt_path.specs.Paths.{slot_for, span_at, step_in, below, path_in, step_at}
-use Rattle.mt_path.specs.Handles.{last_step, leaf_spans, handle_in}
-use Rattle.mt_path.proofs.Places.{at_parts, At}
-use Rattle.mt_path.proofs.TreePaths.{top_row, rows_at, row_of, levels, step, place, rows_fill, lawful, holds}
-use Rattle.mt_engine.specs.MapSpans.{IsSpanAt}
+use Rattle.mt_path.proofs.TreePaths.{holds}
 use Rattle.mt_engine.proofs.SpanLists.{ranges, span_tells}
 
 -- ---- what stands in the leaves

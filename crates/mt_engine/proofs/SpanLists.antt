@@ -1,15 +1,5 @@
 -- Spans end to end: the map that they stand for, what it has at an index, and what stands beside a hole.
-use Rattle.std.proofs.Common.{◌≡◌, ◌≢◌, ℕ, ◌+◌, ◌-◌, ◌<◌, ◌≤◌, ◌==◌, List, [], ◌∷◌, ◌++◌, Some, None, false, nat_le, refl, ap, ◌∙◌, subst, inl, inr, arith}
-use Rattle.std.specs.Prelude.{IsSome, is_some}
-use Rattle.std.specs.List.{flat_map}
-use Rattle.std.proofs.lemmas.Bool.{cases_Bool, and_left, and_right, eqb-true, lt-leb, le-leb}
-use Rattle.mt_base.specs.declared.ranges.Range.{Range}
-use Rattle.mt_base.specs.Map.{holds, holding, overlaps, is_held}
-use Rattle.mt_layout.specs.declared.spans.Span.{Span}
-use Rattle.mt_layout.specs.Spans.{leaf_range, Fills, BeginsFull, Apart, EndsFull}
-use Rattle.mt_layout.proofs.SpanLists.{fills_le, full_before_hole, full_behind_hole}
-use Rattle.mt_engine.specs.MapSpans.{range_of, IsSpanAt}
-use Rattle.mt_path.proofs.Places.{At}
+use Rattle.mt_engine.proofs.Prelude.{◌≡◌, ◌≢◌, ℕ, ◌+◌, ◌-◌, ◌<◌, ◌≤◌, ◌==◌, List, [], ◌∷◌, ◌++◌, Some, None, false, nat_le, refl, ap, ◌∙◌, subst, inl, inr, arith, IsSome, is_some, flat_map, cases_Bool, and_left, and_right, eqb-true, lt-leb, le-leb, Range, holds, holding, overlaps, is_held, Span, leaf_range, Fills, BeginsFull, Apart, EndsFull, fills_le, full_before_hole, full_behind_hole, range_of, IsSpanAt, At}
 
 -- the ranges of spans, which are the map that they stand for
 abbrev pub ranges : List Span → List Range

@@ -1,38 +1,5 @@
 -- By what a store is carried out, and what is known then.
-use Rattle.std.proofs.Common.{◌≡◌, ◌≢◌, ℕ, ◌+◌, ◌≤◌, List, Some, None, Option, true, false, length, refl, sym, ap, ◌∙◌, subst, inl, inr, arith, ne_eqb}
-use Rattle.mt_base.specs.declared.calls.Call.{Call}
-use Rattle.mt_base.specs.declared.calls.Call.TheVariants.{Store, StorePre, Insert, Erase, Alloc, Ralloc, Gap, Rgap, Clear}
-use Rattle.mt_base.specs.declared.kinds.Kind.{Kind}
-use Rattle.mt_base.specs.declared.ranges.Range.{Range}
-use Rattle.mt_base.specs.declared.replies.Reply.{Reply}
-use Rattle.mt_base.specs.Call.{acted}
-use Rattle.mt_base.specs.Map.{IsMapFrom, over}
-use Rattle.mt_base.specs.Nodes.{Wants, is_exact_store}
-use Rattle.mt_base.specs.Width.{greatest, deepest}
-use Rattle.mt_free.specs.Book.{Book}
-use Rattle.mt_layout.specs.Rows.{named_kind}
-use Rattle.mt_rows.specs.Spans.{root_span}
-use Rattle.mt_rows.specs.Trees.{height_in}
-use Rattle.mt_rows.specs.Laws.{IsTree}
-use Rattle.mt_rows.specs.Sheet.{Rooted, Sheet}
-use Rattle.mt_rows.specs.Publish.{IsTreeOf, tree_as, map_by}
-use Rattle.mt_rows.proofs.Depth.{height_by_depth}
-use Rattle.mt_path.specs.declared.handles.Handle.{Handle}
-use Rattle.mt_path.specs.declared.paths.PathStep.{PathStep}
-use Rattle.mt_path.specs.Handles.{IsHandleOf}
-use Rattle.mt_path.proofs.Steps.{path_of_none}
-use Rattle.mt_path.proofs.TreePaths.{levels}
-use Rattle.mt_splice.specs.Splice.{IsStoreBy, MayReplace}
-use Rattle.mt_engine.specs.declared.store_by.StoreBy.{StoreBy}
-use Rattle.mt_engine.specs.declared.store_by.StoreBy.TheVariants.{NoWord, OneWord, NewRows}
-use Rattle.mt_engine.specs.declared.store_by.Write.{Write}
-use Rattle.mt_engine.specs.Engine.{IsInCall, Replaces}
-use Rattle.mt_engine.specs.Here.{IsHereAt}
-use Rattle.mt_engine.specs.MapSpans.{range_of}
-use Rattle.mt_engine.specs.Plans.{IsStoreOf, IsStorePlan}
-use Rattle.mt_engine.specs.Rooms.{HasRoom}
-use Rattle.mt_engine.specs.Stores.{is_by_rows, wants_by}
-use Rattle.mt_engine.specs.StoreBy.{IsExactly, IsDoneBy}
+use Rattle.mt_engine.proofs.Prelude.{◌≡◌, ◌≢◌, ℕ, ◌+◌, ◌≤◌, List, Some, None, Option, true, false, length, refl, sym, ap, ◌∙◌, subst, inl, inr, arith, ne_eqb, Call, Store, StorePre, Insert, Erase, Alloc, Ralloc, Gap, Rgap, Clear, Kind, Range, Reply, acted, IsMapFrom, over, Wants, is_exact_store, greatest, deepest, Book, named_kind, root_span, height_in, IsTree, Rooted, Sheet, IsTreeOf, tree_as, map_by, height_by_depth, Handle, PathStep, IsHandleOf, path_of_none, levels, IsStoreBy, MayReplace, StoreBy, NoWord, OneWord, NewRows, Write, IsInCall, Replaces, IsHereAt, range_of, IsStoreOf, IsStorePlan, HasRoom, is_by_rows, wants_by, IsExactly, IsDoneBy}
 use Rattle.mt_engine.proofs.Moments.{tree_in_call}
 use Rattle.mt_engine.proofs.Planning.{span_at_handle}
 use Rattle.mt_engine.proofs.SlotQueries.{not_none}

@@ -1,31 +1,8 @@
 -- A walk over the ranges of a tree: what it still gives, and where it stands after a range.
-use Rattle.std.proofs.Common.{◌≡◌, ◌≢◌, ℕ, zero, suc, ◌+◌, ◌<◌, ◌≤◌, ◌==◌, ◌&&◌, Bool, true, false, List, [], ◌∷◌, ◌++◌, Option, Some, None, nat_le, nat_lt, length, refl, sym, ap, ◌∙◌, subst, inl, inr, arith, append-nil, append_assoc}
-use Rattle.std.specs.Prelude.{◌↔◌, IsNone, IfSome, filter, if◌then◌else◌}
-use Rattle.std.specs.List.{All, AllByRecursion, slice_get}
-use Rattle.std.proofs.lemmas.Bool.{cases_Bool, eqb-true, eqb-false, leb-true, leb-false, le-leb, lt-leb, le-ltb}
-use Rattle.std.proofs.lemmas.List.Elements.{All-head, filter_passes}
-use Rattle.mt_base.specs.declared.kinds.Kind.{Kind}
-use Rattle.mt_base.specs.declared.ranges.Range.{Range}
-use Rattle.mt_base.specs.declared.calls.Query.TheVariants.{Find}
-use Rattle.mt_base.specs.Call.{answer}
-use Rattle.mt_base.specs.Map.{IsMapFrom, first_range}
-use Rattle.mt_base.specs.Width.{greatest}
-use Rattle.mt_list.specs.Places.{place_below, up_to}
-use Rattle.mt_list.proofs.QueriesAtPlaces.{first_from_place}
-use Rattle.mt_rows.specs.Publish.{IsTreeOf, map_by}
-use Rattle.mt_rows.specs.Sheet.{Rooted, Sheet, OnlyReads, ReadsUpTo}
-use Rattle.mt_path.specs.declared.handles.Handle.{Handle}
-use Rattle.mt_path.specs.Handles.{handle_in, IsHandleOf}
-use Rattle.mt_path.proofs.Loads.{no_reads, reads_up, reads_more}
-use Rattle.mt_engine.specs.declared.range_walk.RangeWalk.{RangeWalk}
-use Rattle.mt_engine.specs.Here.{IsHereIf}
-use Rattle.mt_engine.specs.MapSpans.{range_of}
-use Rattle.mt_engine.specs.Nearest.{nearest_from}
-use Rattle.mt_engine.specs.RangeWalks.{found_from, index_behind, range_at, StepsWithin, WalksFrom}
+use Rattle.mt_engine.proofs.Prelude.{◌≡◌, ◌≢◌, ℕ, zero, suc, ◌+◌, ◌<◌, ◌≤◌, ◌==◌, ◌&&◌, Bool, true, false, List, [], ◌∷◌, ◌++◌, Option, Some, None, nat_le, nat_lt, length, refl, sym, ap, ◌∙◌, subst, inl, inr, arith, append-nil, append_assoc, ◌↔◌, IsNone, IfSome, filter, if◌then◌else◌, All, AllByRecursion, slice_get, cases_Bool, eqb-true, eqb-false, leb-true, leb-false, le-leb, lt-leb, le-ltb, All-head, filter_passes, Kind, Range, Find, answer, IsMapFrom, first_range, greatest, place_below, up_to, first_from_place, IsTreeOf, map_by, Rooted, Sheet, OnlyReads, ReadsUpTo, Handle, handle_in, IsHandleOf, no_reads, reads_up, reads_more, RangeWalk, IsHereIf, range_of, nearest_from, found_from, index_behind, range_at, StepsWithin, WalksFrom, reads_on, same_tree}
 use Rattle.mt_engine.proofs.LeafEnds.{hole_ends}
 use Rattle.mt_engine.proofs.SlotQueries.{IsNearest, first_none}
 use Rattle.mt_engine.proofs.Slots.{none_at_root, tree_map, tree_within, slot_tells}
-use Rattle.mt_rows.proofs.Loads.{reads_on, same_tree}
 
 -- ---- the ranges of a map from an index on
 

@@ -1,27 +1,6 @@
 -- Which stores replace rows, and which calls want some.
-use Rattle.std.proofs.Common.{◌≡◌, ◌≢◌, ℕ, ◌+◌, ◌<◌, ◌≤◌, ◌==◌, ◌&&◌, ◌||◌, true, false, not, List, [], ◌∷◌, ◌++◌, Option, Some, None, nat_le, refl, sym, ap, ◌∙◌, inl, inr, arith, ne_eqb, eq-eqb}
-use Rattle.std.specs.Prelude.{◌⊎◌, IsSome, if◌then◌else◌}
-use Rattle.std.specs.List.{AllByRecursion}
-use Rattle.std.specs.Option.{option_map}
-use Rattle.std.proofs.lemmas.Bool.{cases_Bool, cases_lt, and_left, and_right, and_parts, eqb-true, eqb-false, leb-true, lt-leb, le-leb}
-use Rattle.mt_base.specs.declared.calls.Call.{Call}
-use Rattle.mt_base.specs.declared.calls.Call.TheVariants.{Store, StorePre, Insert, Erase, Alloc, Ralloc, Gap, Rgap, Clear}
-use Rattle.mt_base.specs.declared.kinds.Kind.{Kind}
-use Rattle.mt_base.specs.declared.ranges.Range.{Range}
-use Rattle.mt_base.specs.declared.replies.Reply.{Reply}
+use Rattle.mt_engine.proofs.Prelude.{◌≡◌, ◌≢◌, ℕ, ◌+◌, ◌<◌, ◌≤◌, ◌==◌, ◌&&◌, ◌||◌, true, false, not, List, [], ◌∷◌, ◌++◌, Option, Some, None, nat_le, refl, sym, ap, ◌∙◌, inl, inr, arith, ne_eqb, eq-eqb, ◌⊎◌, IsSome, if◌then◌else◌, AllByRecursion, option_map, cases_Bool, cases_lt, and_left, and_right, and_parts, eqb-true, eqb-false, leb-true, lt-leb, le-leb, Call, Store, StorePre, Insert, Erase, Alloc, Ralloc, Gap, Rgap, Clear, Kind, Range, Reply, acted, is_invalid, IsMapFrom, holds, holding, overlaps, is_held, over, Wants, is_exact_store, entry_inside, Span, all_map, IsStoreBy, StoreBy, Replaces, is_refusal, range_of, IsSpanAt, IsStoreOf, is_by_rows, wants_by}
 use Rattle.mt_base.specs.declared.replies.Reply.TheVariants as answers
-use Rattle.mt_base.specs.Call.{acted, is_invalid}
-use Rattle.mt_base.specs.Map.{IsMapFrom, holds, holding, overlaps, is_held, over}
-use Rattle.mt_base.specs.Nodes.{Wants, is_exact_store}
-use Rattle.mt_base.proofs.ReadingAfterStore.{entry_inside}
-use Rattle.mt_layout.specs.declared.spans.Span.{Span}
-use Rattle.mt_base.proofs.Lists.{all_map}
-use Rattle.mt_splice.specs.Splice.{IsStoreBy}
-use Rattle.mt_engine.specs.declared.store_by.StoreBy.{StoreBy}
-use Rattle.mt_engine.specs.Engine.{Replaces, is_refusal}
-use Rattle.mt_engine.specs.MapSpans.{range_of, IsSpanAt}
-use Rattle.mt_engine.specs.Plans.{IsStoreOf}
-use Rattle.mt_engine.specs.Stores.{is_by_rows, wants_by}
 use Rattle.mt_engine.proofs.MapPlaces.{Outside, outside_hole}
 use Rattle.mt_engine.proofs.MapQueries.{load_hole}
 use Rattle.mt_engine.proofs.MapStores.{store_none_beside, stored_holds, stored_some}

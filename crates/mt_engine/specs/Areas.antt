@@ -1,10 +1,7 @@
 -- Which place is sought of those that have room, and by which call.
 -- Source: the kernel's lib/maple_tree.c, mas_empty_area, which finds the lowest, and mas_empty_area_rev, the highest.
 use Rattle.std.specs.Prelude.{ℕ, List, Option}
-use Rattle.mt_base.specs.declared.calls.Call.{Call}
-use Rattle.mt_base.specs.declared.calls.Call.TheVariants.{Alloc, Ralloc, Gap, Rgap}
-use Rattle.mt_base.specs.declared.ranges.Range.{Range}
-use Rattle.mt_base.specs.Holes.{low_to, high_to}
+use Rattle.mt_engine.specs.Prelude.{Call, Alloc, Ralloc, Gap, Rgap, Range, low_to, high_to}
 use Rattle.mt_engine.specs.declared.areas.Sought.{Sought}
 use Rattle.mt_engine.specs.declared.areas.Sought.TheVariants.{Lowest, Highest}
 

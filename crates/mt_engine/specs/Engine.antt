@@ -1,27 +1,8 @@
 -- The rows of a tree and the book of them, between two calls of an engine and within one; and what a call does to them.
 -- Source: this project's own.
 use Rattle.std.specs.Prelude.{◌≡◌, ◌⊎◌, ℕ, ◌+◌, ◌*◌, ◌<◌, ◌≤◌, Bool, true, false, List, [], ◌++◌, All, Option, length}
-use Rattle.mt_base.specs.declared.calls.Call.{Call}
-use Rattle.mt_base.specs.declared.calls.Call.TheVariants.{Store, StorePre, Insert, Erase, Alloc, Ralloc, Gap, Rgap, Clear}
-use Rattle.mt_base.specs.declared.kinds.Kind.{Kind}
-use Rattle.mt_base.specs.declared.ranges.Range.{Range}
-use Rattle.mt_base.specs.declared.replies.Reply.{Reply}
+use Rattle.mt_engine.specs.Prelude.{Call, Store, StorePre, Insert, Erase, Alloc, Ralloc, Gap, Rgap, Clear, Kind, Range, Reply, Shortage, acted, Wants, IsRefused, is_exact_store, columns, most_taken, first_row, Book, Held, live_count, after_reclaim, Leaf, slot_column, slots_of, leaf_in, Life, Dead, height_in, Rooted, Sheet, IsScan, RoseUpTo, life_of, limits_of, with_word, IsToldKind, MayFinish, IsRealShortage, WasScanned, finished, map_by, with_record, IsConsistent}
 use Rattle.mt_base.specs.declared.replies.Reply.TheVariants as answers
-use Rattle.mt_base.specs.declared.replies.Shortage.{Shortage}
-use Rattle.mt_base.specs.Call.{acted}
-use Rattle.mt_base.specs.Nodes.{Wants, IsRefused, is_exact_store}
-use Rattle.mt_base.specs.Width.{columns, most_taken, first_row}
-use Rattle.mt_free.specs.Book.{Book, Held, live_count, after_reclaim}
-use Rattle.mt_layout.specs.declared.names.RowKind.TheVariants.{Leaf}
-use Rattle.mt_layout.specs.Columns.{slot_column}
-use Rattle.mt_layout.specs.Sizes.{slots_of}
-use Rattle.mt_path.specs.Handles.{leaf_in}
-use Rattle.mt_rows.specs.declared.rows.Life.{Life}
-use Rattle.mt_rows.specs.declared.rows.Life.TheVariants.{Dead}
-use Rattle.mt_rows.specs.Trees.{height_in}
-use Rattle.mt_rows.specs.Sheet.{Rooted, Sheet, IsScan, RoseUpTo, life_of, limits_of, with_word}
-use Rattle.mt_rows.specs.Publish.{IsToldKind, MayFinish, IsRealShortage, WasScanned, finished, map_by, with_record}
-use Rattle.mt_splice.specs.Kept.{IsConsistent}
 
 -- what an engine stands for
 pub record Parts : Type 0 where

@@ -2,12 +2,7 @@
 -- Source: the kernel keeps the height in the flags of struct maple_tree, mt_height; that a store in a slot leaves it is this
 -- project's.
 use Rattle.std.specs.Prelude.{◌≡◌, ℕ, Bool, true, false}
-use Rattle.mt_base.specs.declared.kinds.Kind.{Kind}
-use Rattle.mt_free.specs.Book.{Book}
-use Rattle.mt_rows.specs.declared.rows.Place.{Place}
-use Rattle.mt_rows.specs.declared.rows.Place.TheVariants.{Root, Slot}
-use Rattle.mt_rows.specs.Trees.{height_in}
-use Rattle.mt_rows.specs.Sheet.{Rooted, Sheet}
+use Rattle.mt_engine.specs.Prelude.{Kind, Book, Place, Root, Slot, height_in, Rooted, Sheet}
 use Rattle.mt_engine.specs.Engine.{IsIdle}
 
 -- the tree has so many levels

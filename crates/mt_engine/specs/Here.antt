@@ -1,9 +1,7 @@
 -- What stands at an index of a tree: nothing in the empty tree, else a range, or the whole hole around the index.
 -- Source: the kernel's struct ma_state after a walk, whose index and last are those of the entry or of the hole.
 use Rattle.std.specs.Prelude.{◌≡◌, ◌↔◌, ℕ, Option, Some, None, IsNone, IfSome}
-use Rattle.mt_rows.specs.Sheet.{Rooted}
-use Rattle.mt_path.specs.declared.handles.Handle.{Handle}
-use Rattle.mt_path.specs.Handles.{handle_in}
+use Rattle.mt_engine.specs.Prelude.{Rooted, Handle, handle_in}
 
 pub record IsHereAt (t : Rooted) (index : ℕ) (here : Option Handle) : Type 0 where
   pub none : IsNone here ↔ (t.root ≡ 0)

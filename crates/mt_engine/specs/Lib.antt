@@ -11,3 +11,4 @@ pub mod RangeWalks
 pub mod Rooms
 pub mod StoreBy
 pub mod Stores
+pub mod Prelude

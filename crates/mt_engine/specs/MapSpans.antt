@@ -1,9 +1,7 @@
 -- What a map has at an index: the range that holds it, or the whole hole around it.
 -- Source: the kernel's lib/maple_tree.c, mas_walk, which gives the range of an entry, or of the hole around an index.
 use Rattle.std.specs.Prelude.{◌≡◌, ◌≢◌, ℕ, ◌+◌, ◌-◌, ◌<◌, ◌≤◌, List, Some, IsSome, false}
-use Rattle.mt_base.specs.declared.ranges.Range.{Range}
-use Rattle.mt_base.specs.Map.{holding, is_held}
-use Rattle.mt_layout.specs.declared.spans.Span.{Span}
+use Rattle.mt_engine.specs.Prelude.{Range, holding, is_held, Span}
 
 -- the range of a span that is no hole
 abbrev pub range_of : Span → Range

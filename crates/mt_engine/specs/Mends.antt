@@ -1,22 +1,7 @@
 -- The gap words of a tree behind a replacement of rows: which may be wrong, and what is left when they are mended.
 -- Source: the kernel's lib/maple_tree.c, mas_update_gap, which goes up from a leaf that has changed.
 use Rattle.std.specs.Prelude.{◌≡◌, ◌≢◌, ℕ, ◌-◌, ◌<◌, ◌≤◌, Bool, List, length}
-use Rattle.mt_base.specs.declared.kinds.Kind.{Kind}
-use Rattle.mt_base.specs.declared.widths.Width.{Width}
-use Rattle.mt_base.specs.Width.{columns, greatest}
-use Rattle.mt_layout.specs.declared.names.RowKind.TheVariants.{Gapped}
-use Rattle.mt_layout.specs.Columns.{slot_column}
-use Rattle.mt_layout.specs.Sizes.{slots_of}
-use Rattle.mt_path.specs.declared.paths.PathStep.{PathStep}
-use Rattle.mt_path.specs.Paths.{path_in, step_at}
-use Rattle.mt_rows.specs.declared.rows.Place.{Place}
-use Rattle.mt_rows.specs.declared.rows.Place.TheVariants.{Slot}
-use Rattle.mt_rows.specs.Gaps.{HasGapsBut}
-use Rattle.mt_rows.specs.Publish.{tree_as, IsTreeOf, IsLawfulOf, IsReached, LiveAreReached, NoneBuried, map_by, is_reached}
-use Rattle.mt_rows.specs.Sheet.{Rooted, Sheet, word_at}
-use Rattle.mt_rows.specs.Trees.{height_in}
-use Rattle.mt_splice.specs.Splice.{HasParents}
-use Rattle.mt_gap.specs.Mending.{OnlyWords}
+use Rattle.mt_engine.specs.Prelude.{Kind, Width, columns, greatest, Gapped, slot_column, slots_of, PathStep, path_in, step_at, Place, Slot, HasGapsBut, tree_as, IsTreeOf, IsLawfulOf, IsReached, LiveAreReached, NoneBuried, map_by, is_reached, Rooted, Sheet, word_at, height_in, HasParents, OnlyWords}
 
 -- The words are lawful, but that the gap words of slots on the way to an index may be wrong.
 pub record MayMendAt (kind : Kind) (s : Sheet) (index : ℕ) : Type 0 where

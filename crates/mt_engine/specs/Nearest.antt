@@ -2,8 +2,7 @@
 -- Source: the kernel's lib/maple_tree.c, mas_find, which finds the entry at an index or after it, and mas_find_rev, at it
 -- or below.
 use Rattle.std.specs.Prelude.{ℕ, List, Option, take, slice_get}
-use Rattle.mt_base.specs.declared.ranges.Range.{Range}
-use Rattle.mt_list.specs.Places.{place_below, place_above, last_of}
+use Rattle.mt_engine.specs.Prelude.{Range, place_below, place_above, last_of}
 
 -- the first range that ends at the index or above
 abbrev pub nearest_from : List Range → ℕ → Option Range

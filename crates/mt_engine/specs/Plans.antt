@@ -1,21 +1,7 @@
 -- What a call comes to on a tree: nothing, a store, or the end of all ranges.
 -- Source: the kernel's documentation of the maple tree; an erase is a store of no entry over the range.
 use Rattle.std.specs.Prelude.{◌≡◌, ◌≢◌, ◌≤◌, ◌||◌, ◌==◌, not, ℕ, Bool, false, List, Option, Some, None, nat_lt}
-use Rattle.mt_base.specs.declared.calls.Call.{Call}
-use Rattle.mt_base.specs.declared.calls.Call.TheVariants.{Store, StorePre, Insert, Erase, Alloc, Ralloc, Gap, Rgap, Clear}
-use Rattle.mt_base.specs.declared.kinds.Kind.{Kind}
-use Rattle.mt_base.specs.declared.ranges.Range.{Range}
-use Rattle.mt_base.specs.declared.replies.Reply.{Reply}
-use Rattle.mt_base.specs.Call.{acted}
-use Rattle.mt_base.specs.Map.{first_met, is_held}
-use Rattle.mt_base.specs.Nodes.{Wants}
-use Rattle.mt_base.specs.Width.{greatest}
-use Rattle.mt_rows.specs.Sheet.{Rooted, Sheet, RoseUpTo}
-use Rattle.mt_rows.specs.Publish.{map_by}
-use Rattle.mt_path.specs.declared.handles.Handle.{Handle}
-use Rattle.mt_path.specs.declared.paths.PathStep.{PathStep}
-use Rattle.mt_path.specs.Paths.{path_in}
-use Rattle.mt_splice.specs.Splice.{IsStoreBy}
+use Rattle.mt_engine.specs.Prelude.{Call, Store, StorePre, Insert, Erase, Alloc, Ralloc, Gap, Rgap, Clear, Kind, Range, Reply, acted, first_met, is_held, Wants, greatest, Rooted, Sheet, RoseUpTo, map_by, Handle, PathStep, path_in, IsStoreBy}
 use Rattle.mt_engine.specs.Engine.{is_refusal, OnlySearches, most_searched}
 use Rattle.mt_engine.specs.Here.{IsHereAt}
 use Rattle.mt_engine.specs.StoreBy.{IsWriteAt}

@@ -1,13 +1,7 @@
 -- What a store leaves for which rows were found free beforehand.
 -- Source: the kernel's documentation of the maple tree, mas_preallocate and mas_store_prealloc.
 use Rattle.std.specs.Prelude.{◌≡◌, true}
-use Rattle.mt_base.specs.declared.calls.Call.{Call}
-use Rattle.mt_base.specs.declared.kinds.Kind.{Kind}
-use Rattle.mt_base.specs.declared.replies.Reply.{Reply}
-use Rattle.mt_base.specs.Call.{acted}
-use Rattle.mt_free.specs.Book.{Book}
-use Rattle.mt_rows.specs.Sheet.{Sheet}
-use Rattle.mt_rows.specs.Publish.{map_by}
+use Rattle.mt_engine.specs.Prelude.{Call, Kind, Reply, acted, Book, Sheet, map_by}
 use Rattle.mt_engine.specs.Engine.{IsEnded, TookRows, is_refusal}
 
 -- The store did what it says, and one that is refused as invalid left every word. It made no scan, so that no held row is free

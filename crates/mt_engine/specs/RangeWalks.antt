@@ -2,13 +2,7 @@
 -- Source: the kernel's include/linux/maple_tree.h, mas_for_each, whose mas_find goes on in the leaf where it stands.
 use Rattle.std.specs.Prelude.{◌≡◌, ◌≢◌, ◌==◌, ℕ, ◌+◌, ◌≤◌, nat_le, List, Option, Some, None, IfSome, if◌then◌else◌}
 use Rattle.std.specs.Option.{option_map}
-use Rattle.mt_base.specs.declared.ranges.Range.{Range}
-use Rattle.mt_base.specs.declared.calls.Query.TheVariants.{Find}
-use Rattle.mt_base.specs.Call.{answer}
-use Rattle.mt_base.specs.Width.{greatest}
-use Rattle.mt_rows.specs.Sheet.{Rooted, Sheet, ReadsUpTo}
-use Rattle.mt_path.specs.declared.handles.Handle.{Handle}
-use Rattle.mt_path.specs.Handles.{IsHandleOf}
+use Rattle.mt_engine.specs.Prelude.{Range, Find, answer, greatest, Rooted, Sheet, ReadsUpTo, Handle, IsHandleOf}
 use Rattle.mt_engine.specs.MapSpans.{range_of}
 use Rattle.mt_engine.specs.declared.range_walk.RangeWalk.{RangeWalk}
 

@@ -1,13 +1,7 @@
 -- What a scan and the freeing of held rows leave, and what is told where too few rows are free then.
 -- Source: this project's own; the kernel's mas_alloc_nodes asks for the nodes of a whole write at once.
 use Rattle.std.specs.Prelude.{◌≡◌, ◌+◌, ◌*◌, ◌≤◌, length}
-use Rattle.mt_base.specs.declared.kinds.Kind.{Kind}
-use Rattle.mt_base.specs.declared.replies.Shortage.{Shortage}
-use Rattle.mt_base.specs.Nodes.{IsShort}
-use Rattle.mt_free.specs.Book.{Book, after_reclaim}
-use Rattle.mt_rows.specs.Trees.{height_in}
-use Rattle.mt_rows.specs.Sheet.{Rooted, Sheet, IsScan, limits_of, scanned}
-use Rattle.mt_rows.specs.Publish.{IsRealShortage, map_by}
+use Rattle.mt_engine.specs.Prelude.{Kind, Shortage, IsShort, Book, after_reclaim, height_in, Rooted, Sheet, IsScan, limits_of, scanned, IsRealShortage, map_by}
 use Rattle.mt_engine.specs.Engine.{IsEngineState, TellsBook}
 
 -- the rows were scanned, with an answer that a scan may give, and those that no section holds are free

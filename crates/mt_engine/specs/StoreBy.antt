@@ -1,8 +1,7 @@
 -- By what a store can be carried out, as what stands at its first index tells.
 -- Source: the kernel's lib/maple_tree.c, mas_wr_store_entry, which tells a store that changes one slot from others.
 use Rattle.std.specs.Prelude.{◌≡◌, ◌≢◌, ℕ, ◌≤◌, Option, Some, None}
-use Rattle.mt_rows.specs.Sheet.{Rooted}
-use Rattle.mt_path.specs.declared.handles.Handle.{Handle}
+use Rattle.mt_engine.specs.Prelude.{Rooted, Handle}
 use Rattle.mt_engine.specs.Here.{IsHereAt}
 use Rattle.mt_engine.specs.declared.store_by.StoreBy.{StoreBy}
 use Rattle.mt_engine.specs.declared.store_by.StoreBy.TheVariants.{NoWord, OneWord, NewRows}

@@ -1,14 +1,7 @@
 -- What a store is and leaves whose rows are at hand, so that it makes no scan.
 -- Source: this project's own; the kernel's mas_store_prealloc stores with the nodes that mas_preallocate asked for.
 use Rattle.std.specs.Prelude.{◌≡◌, Bool, true, false}
-use Rattle.mt_base.specs.declared.calls.Call.{Call}
-use Rattle.mt_base.specs.declared.calls.Call.TheVariants.{Store, StorePre, Insert, Erase, Alloc, Ralloc, Gap, Rgap, Clear}
-use Rattle.mt_base.specs.declared.kinds.Kind.{Kind}
-use Rattle.mt_base.specs.declared.replies.Reply.{Reply}
-use Rattle.mt_base.specs.Call.{acted}
-use Rattle.mt_free.specs.Book.{Book}
-use Rattle.mt_rows.specs.Sheet.{Sheet}
-use Rattle.mt_rows.specs.Publish.{MayFinish, map_by, finished}
+use Rattle.mt_engine.specs.Prelude.{Call, Store, StorePre, Insert, Erase, Alloc, Ralloc, Gap, Rgap, Clear, Kind, Reply, acted, Book, Sheet, MayFinish, map_by, finished}
 use Rattle.mt_engine.specs.Engine.{IsEnded, TookRows, Replaces}
 use Rattle.mt_engine.specs.Rooms.{HasRoom}
 use Rattle.mt_engine.specs.declared.store_by.StoreBy.{StoreBy}

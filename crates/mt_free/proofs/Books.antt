@@ -1,13 +1,5 @@
 -- Each change of a book leaves a book.
-use Rattle.std.proofs.Common.{◌≡◌, ◌≢◌, ℕ, ◌+◌, ◌<◌, ◌≤◌, suc, zero, List, [], ◌∷◌, ◌++◌, length, map, get_or, arith, refl, ap, append_assoc, append-nil, add-one, length-append}
-use Rattle.std.specs.List.{All, AllPairs, slice_get}
-use Rattle.std.specs.Option.{IfSome}
-use Rattle.std.proofs.lemmas.Bool.{le-leb, lt-leb, le-ltb, lt-ltb}
-use Rattle.std.proofs.lemmas.List.{get_or_append_left, length-map, map_push}
-use Rattle.std.proofs.lemmas.List.Elements.{All-nil, All-cons, All-head, All-tail, All-weaker, All-append, All-push, All-map, All-contains, Contains-push}
-use Rattle.std.proofs.lemmas.List.Kept.{AllPairs-cons}
-use Rattle.std.proofs.lemmas.List.Quantifiers.{all_pairs_push, all_pairs_remove}
-use Rattle.mt_free.specs.Book.{Held, Book, rows_down, IsRowOf, held_rows, IsOut, IsBook, new_book, after_retire, reclaimable, still_held, after_reclaim}
+use Rattle.mt_free.proofs.Prelude.{◌≡◌, ◌≢◌, ℕ, ◌+◌, ◌<◌, ◌≤◌, suc, zero, List, [], ◌∷◌, ◌++◌, length, map, get_or, arith, refl, ap, append_assoc, append-nil, add-one, length-append, All, AllPairs, slice_get, IfSome, le-leb, lt-leb, le-ltb, lt-ltb, get_or_append_left, length-map, map_push, All-nil, All-cons, All-head, All-tail, All-weaker, All-append, All-push, All-map, All-contains, Contains-push, AllPairs-cons, all_pairs_push, all_pairs_remove, Held, Book, rows_down, IsRowOf, held_rows, IsOut, IsBook, new_book, after_retire, reclaimable, still_held, after_reclaim}
 use Rattle.mt_free.proofs.Rows.{AreApart, not_before, not_behind, apart_without, apart_with, apart_are_few}
 
 abbrev pub book : ℕ → List ℕ → List Held → Book

@@ -1,3 +1,4 @@
 pub mod Books
 pub mod Rows
 pub mod StillOut
+mod Prelude

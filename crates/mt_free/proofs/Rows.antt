@@ -1,14 +1,5 @@
 -- Lists of rows in which no row stands twice.
-use Rattle.std.proofs.Common.{◌≡◌, ◌≢◌, ℕ, ◌+◌, ◌-◌, ◌<◌, ◌≤◌, suc, List, [], ◌∷◌, ◌++◌, length, map, take, drop, get_or, arith, sym, ◌∙◌, append_assoc, length-append, refl, inl, inr}
-use Rattle.std.specs.List.{All, AllPairs, Contains}
-use Rattle.std.proofs.lemmas.Bool.{eqb-true}
-use Rattle.std.proofs.lemmas.Bool.Decides.{Decides-eqb}
-use Rattle.std.proofs.lemmas.List.{get_or_append_left, get_or-append-add, get_or_at, get_or-map, get_or_default, take_at, drop_at, length-map}
-use Rattle.std.proofs.lemmas.List.Elements.{All-map, All-contains, Contains-append_cases}
-use Rattle.std.proofs.lemmas.List.Quantifiers.{all_pairs_push, all_pairs_remove}
-use Rattle.std.proofs.lemmas.Map.Made.{IsDistinct-from_AllPairs}
-use Rattle.std.proofs.lemmas.Map.Steps.{length-le_from_distinct_below}
-use Rattle.std.proofs.lemmas.Map.Views.{Contains-from_any}
+use Rattle.mt_free.proofs.Prelude.{◌≡◌, ◌≢◌, ℕ, ◌+◌, ◌-◌, ◌<◌, ◌≤◌, suc, List, [], ◌∷◌, ◌++◌, length, map, take, drop, get_or, arith, sym, ◌∙◌, append_assoc, length-append, refl, inl, inr, All, AllPairs, Contains, eqb-true, Decides-eqb, get_or_append_left, get_or-append-add, get_or_at, get_or-map, get_or_default, take_at, drop_at, length-map, All-map, All-contains, Contains-append_cases, all_pairs_push, all_pairs_remove, IsDistinct-from_AllPairs, length-le_from_distinct_below, Contains-from_any}
 
 abbrev pub AreApart : List ℕ → Type 0
 AreApart xs = AllPairs (λ r s. r ≢ s) xs

@@ -1,9 +1,5 @@
 -- A row that is out stays out until it is retired.
-use Rattle.std.proofs.Common.{◌≢◌, ℕ, Bool, List, [], ◌∷◌, ◌++◌, map, arith, refl, sym, nat_le, nat_lt, ◌∙◌, subst, inl, inr}
-use Rattle.std.specs.List.{All, Contains, filter}
-use Rattle.std.proofs.lemmas.List.{length-map, get_or-map, map_push}
-use Rattle.std.proofs.lemmas.List.Elements.{All-filter, All-map, All-contains, Contains-append_left, Contains-append_cases, Contains-push, Contains-push_cases}
-use Rattle.mt_free.specs.Book.{Held, Book, held_rows, IsOut, after_retire, reclaimable, after_reclaim}
+use Rattle.mt_free.proofs.Prelude.{◌≢◌, ℕ, Bool, List, [], ◌∷◌, ◌++◌, map, arith, refl, sym, nat_le, nat_lt, ◌∙◌, subst, inl, inr, All, Contains, filter, length-map, get_or-map, map_push, All-filter, All-map, All-contains, Contains-append_left, Contains-append_cases, Contains-push, Contains-push_cases, Held, Book, held_rows, IsOut, after_retire, reclaimable, after_reclaim}
 
 pub out_after_take : (b : Book) (taken row : ℕ) → IsOut (record b { free = b.free ++ taken ∷ [] }) row → IsOut b row × (row ≢ taken)
 out_after_take b taken row out = (

@@ -1,20 +1,5 @@
 -- Gap words mended on a path that goes along a way, whose leaf may be another.
-use Rattle.std.proofs.Common.{◌≡◌, ℕ, ◌+◌, ◌-◌, ◌<◌, ◌≤◌, Bool, List, length, sym, ap, ◌∙◌, subst, inl, inr, arith}
-use Rattle.mt_layout.specs.declared.names.RowKind.{RowKind}
-use Rattle.mt_layout.specs.declared.names.RowKind.TheVariants.{Leaf, Inner, Gapped}
-use Rattle.mt_layout.specs.Columns.{gap_column}
-use Rattle.mt_layout.specs.Sizes.{slots_of}
-use Rattle.mt_path.specs.declared.paths.PathStep.{PathStep}
-use Rattle.mt_path.specs.Paths.{step_at, path_in}
-use Rattle.mt_rows.specs.Gaps.{HasGaps}
-use Rattle.mt_rows.specs.Laws.{Stands}
-use Rattle.mt_rows.specs.Levels.{Levels}
-use Rattle.mt_rows.specs.Publish.{tree_on}
-use Rattle.mt_rows.specs.Replacement.{root_of}
-use Rattle.mt_rows.specs.Sheet.{Sheet, IsPlace, MayTend, IsWhole, with_word, loaded, tended}
-use Rattle.mt_rows.specs.Spans.{Table}
-use Rattle.mt_rows.proofs.Joins.{Shared}
-use Rattle.mt_gap.specs.Mending.{told_by, KeepsWordsBut, IsAlong, IsWay, IsToldWay, MayTell, MayMend, IsMended}
+use Rattle.mt_gap.proofs.Prelude.{◌≡◌, ℕ, ◌+◌, ◌-◌, ◌<◌, ◌≤◌, Bool, List, length, sym, ap, ◌∙◌, subst, inl, inr, arith, RowKind, Leaf, Inner, Gapped, gap_column, slots_of, PathStep, step_at, path_in, HasGaps, Stands, Levels, tree_on, root_of, Sheet, IsPlace, MayTend, IsWhole, with_word, loaded, tended, Table, Shared, told_by, KeepsWordsBut, IsAlong, IsWay, IsToldWay, MayTell, MayMend, IsMended}
 use Rattle.mt_gap.proofs.MendWay.{HasMended, RootIs, level_low, may_mend_at, mended_at, begin_way, end_way, end_spans, two_levels}
 
 -- ---- what a row tells does not depend on the slot

@@ -1,34 +1,9 @@
 -- Loops over the slots of a row: what is asked of the children before a slot, and what one more changes.
-use Rattle.std.proofs.Common.{◌≡◌, ℕ, zero, suc, ◌+◌, ◌-◌, ◌^◌, ◌<◌, ◌≤◌, ◌&&◌, Bool, List, [], ◌∷◌, ◌++◌, true, false, max, Option, Some, None, length, take, refl, sym, ap, ◌∙◌, subst, inl, inr, arith, append-nil, append_assoc, length-append}
-use Rattle.std.specs.Prelude.{if◌then◌else◌, nat_le, slice_index}
-use Rattle.std.specs.List.{AllByRecursion, flat_map}
-use Rattle.std.specs.Option.{option_or, is_some}
-use Rattle.std.proofs.lemmas.Bool.{cases_Bool, lt-leb}
-use Rattle.std.proofs.lemmas.Grind.{flat_map-append}
-use Rattle.mt_base.specs.declared.widths.Width.{Width}
-use Rattle.mt_layout.specs.declared.items.Item.{Item}
-use Rattle.mt_layout.specs.declared.names.RowKind.{RowKind}
-use Rattle.mt_layout.specs.declared.names.RowKind.TheVariants.{Leaf, Inner, Gapped}
-use Rattle.mt_layout.specs.Columns.{pivot_column, items_from, items_at}
-use Rattle.mt_layout.specs.Rows.{row_in, named_kind}
-use Rattle.mt_layout.specs.Sizes.{slots_of, gaps_of}
-use Rattle.mt_layout.proofs.Reading.{gap_at-none}
-use Rattle.mt_layout.proofs.RowSizes.{no_gaps_of}
-use Rattle.mt_path.specs.declared.paths.PathStep.{PathStep}
-use Rattle.mt_rows.specs.Spans.{Table, base_of}
-use Rattle.mt_layout.specs.declared.spans.Span.{Span}
-use Rattle.mt_layout.specs.Spans.{hole_length, longest_in}
-use Rattle.mt_base.specs.Holes.{Hole, kept, lowest_in, highest_in}
-use Rattle.mt_gap.specs.declared.children.Child.{Child}
-use Rattle.mt_gap.specs.Below.{leaf_hole, child_hole}
-use Rattle.mt_gap.specs.Children.{children_from, children_by, children_in}
-use Rattle.mt_gap.specs.Mending.{longest_gap, told_by}
-use Rattle.mt_gap.specs.Narrow.{may_have, inside, narrow, narrow_up, next_up, has_sure}
+use Rattle.mt_gap.proofs.Prelude.{◌≡◌, ℕ, zero, suc, ◌+◌, ◌-◌, ◌^◌, ◌<◌, ◌≤◌, ◌&&◌, Bool, List, [], ◌∷◌, ◌++◌, true, false, max, Option, Some, None, length, take, refl, sym, ap, ◌∙◌, subst, inl, inr, arith, append-nil, append_assoc, length-append, if◌then◌else◌, nat_le, slice_index, AllByRecursion, flat_map, option_or, is_some, cases_Bool, lt-leb, flat_map-append, Width, Item, RowKind, Leaf, Inner, Gapped, pivot_column, items_from, items_at, row_in, named_kind, slots_of, gaps_of, gap_at-none, no_gaps_of, PathStep, Table, base_of, Span, hole_length, longest_in, Hole, kept, lowest_in, highest_in, Child, leaf_hole, child_hole, children_from, children_by, children_in, longest_gap, told_by, may_have, inside, narrow, narrow_up, next_up, has_sure, longest_in-append}
 use Rattle.mt_gap.proofs.ChildLists.{spans, spans-append}
 use Rattle.mt_gap.proofs.Kept.{kept-append}
 use Rattle.mt_gap.proofs.NarrowedUp.{highest_back, highest_more}
 use Rattle.mt_gap.proofs.RowLoops.{narrow_stops, narrow_goes_on}
-use Rattle.mt_rows.proofs.Longest.{longest_in-append}
 
 -- ---- from the left
 

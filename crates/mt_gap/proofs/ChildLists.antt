@@ -1,22 +1,5 @@
 -- Children of rows: the spans that they are, and the gap words of a row that keeps the law of gaps.
-use Rattle.std.proofs.Common.{◌≡◌, ℕ, suc, ◌+◌, Bool, true, List, [], ◌∷◌, ◌++◌, Option, Some, None, refl, sym, ap, ◌∙◌, subst}
-use Rattle.std.specs.List.{AllByRecursion, flat_map}
-use Rattle.mt_base.specs.Holes.{Hole}
-use Rattle.mt_base.proofs.Lists.{all_join}
-use Rattle.mt_layout.specs.declared.items.Item.{Item}
-use Rattle.mt_layout.specs.declared.names.RowKind.{RowKind}
-use Rattle.mt_layout.specs.declared.names.RowKind.TheVariants.{Gapped}
-use Rattle.mt_layout.specs.declared.spans.Span.{Span}
-use Rattle.mt_layout.specs.Rows.{row_in, named_kind}
-use Rattle.mt_layout.specs.Sizes.{slots_of}
-use Rattle.mt_layout.specs.Spans.{spans_from}
-use Rattle.mt_rows.specs.Spans.{Table, inner_of, spans_by, spans_in}
-use Rattle.mt_rows.specs.Levels.{expand}
-use Rattle.mt_rows.specs.Laws.{Tree, IsRow, IsTended, GapsFrom, GapLawBy, longest_below}
-use Rattle.mt_gap.specs.declared.children.Child.{Child}
-use Rattle.mt_gap.specs.Below.{leaf_hole, child_hole}
-use Rattle.mt_gap.specs.Children.{children_from, children_by, children_in, children_below}
-use Rattle.mt_rows.proofs.RowGaps.{AreGapsAt, gaps_read}
+use Rattle.mt_gap.proofs.Prelude.{◌≡◌, ℕ, suc, ◌+◌, Bool, true, List, [], ◌∷◌, ◌++◌, Option, Some, None, refl, sym, ap, ◌∙◌, subst, AllByRecursion, flat_map, Hole, all_join, Item, RowKind, Gapped, Span, row_in, named_kind, slots_of, spans_from, Table, inner_of, spans_by, spans_in, expand, Tree, IsRow, IsTended, GapsFrom, GapLawBy, longest_below, Child, leaf_hole, child_hole, children_from, children_by, children_in, children_below, AreGapsAt, gaps_read}
 
 abbrev pub spans : List Child → List Span
 spans [] = []

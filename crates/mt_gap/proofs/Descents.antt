@@ -1,32 +1,5 @@
 -- A search from level to level: what it asks keeps the answer, and at most two rows of a level are asked.
-use Rattle.std.proofs.Common.{◌≡◌, ◌≢◌, ℕ, zero, suc, ◌+◌, ◌-◌, ◌*◌, ◌<◌, ◌≤◌, Bool, true, All, List, [], ◌∷◌, Option, length, take, refl, sym, ap, ◌∙◌, subst, inl, inr, arith}
-use Rattle.std.specs.List.{AllByRecursion, flat_map}
-use Rattle.std.proofs.lemmas.Bool.{cases_Bool}
-use Rattle.std.proofs.lemmas.List.Elements.{All-nil, All-cons}
-use Rattle.mt_base.specs.Holes.{Hole, low_to, high_to, lowest_in, highest_in, holes_to, holes_from}
-use Rattle.mt_base.specs.Width.{columns, deepest, greatest}
-use Rattle.mt_layout.specs.declared.spans.Span.{Span}
-use Rattle.mt_layout.proofs.NameLaws.{Names-named_kind}
-use Rattle.mt_layout.proofs.RowSizes.{some_columns}
-use Rattle.mt_rows.specs.Spans.{Table, root_span}
-use Rattle.mt_rows.specs.Levels.{map_of, Levels}
-use Rattle.mt_rows.specs.Laws.{Tree, IsRow, IsTended, IsLawful, Stands}
-use Rattle.mt_rows.specs.Publish.{tree_on, map_by}
-use Rattle.mt_rows.specs.Sheet.{Rooted, Sheet, ReadsUpTo, loaded}
-use Rattle.mt_rows.specs.Trees.{map_in, height_in}
-use Rattle.mt_rows.proofs.Depth.{ranges_by_depth, height_by_depth}
-use Rattle.mt_rows.proofs.InnerKinds.{inner_not_named}
-use Rattle.mt_rows.proofs.Joins.{levels_join, levels_front, levels_back}
-use Rattle.mt_rows.proofs.Lists.{levels_here, levels_none}
-use Rattle.mt_rows.proofs.Ranges.{rows_filled}
-use Rattle.mt_path.proofs.Kept.{tree_kept}
-use Rattle.mt_path.proofs.Loads.{no_reads, one_read, reads_more, reads_up}
-use Rattle.mt_gap.specs.declared.children.Child.{Child}
-use Rattle.mt_gap.specs.declared.windows.Window.{Window}
-use Rattle.mt_gap.specs.Below.{leaf_hole, child_hole}
-use Rattle.mt_gap.specs.Children.{children_below, root_child}
-use Rattle.mt_gap.specs.Descents.{IsGapped, MayLoad, picked, place_in, LoadedUpTo, Visited, Arrives, AreLeaves}
-use Rattle.mt_gap.specs.Narrow.{may_have, inside, narrow, narrow_up}
+use Rattle.mt_gap.proofs.Prelude.{◌≡◌, ◌≢◌, ℕ, zero, suc, ◌+◌, ◌-◌, ◌*◌, ◌<◌, ◌≤◌, Bool, true, All, List, [], ◌∷◌, Option, length, take, refl, sym, ap, ◌∙◌, subst, inl, inr, arith, AllByRecursion, flat_map, cases_Bool, All-nil, All-cons, Hole, low_to, high_to, lowest_in, highest_in, holes_to, holes_from, columns, deepest, greatest, Span, Names-named_kind, some_columns, Table, root_span, map_of, Levels, Tree, IsRow, IsTended, IsLawful, Stands, tree_on, map_by, Rooted, Sheet, ReadsUpTo, loaded, map_in, height_in, ranges_by_depth, height_by_depth, inner_not_named, levels_join, levels_front, levels_back, levels_here, levels_none, rows_filled, tree_kept, no_reads, one_read, reads_more, reads_up, Child, Window, leaf_hole, child_hole, children_below, root_child, IsGapped, MayLoad, picked, place_in, LoadedUpTo, Visited, Arrives, AreLeaves, may_have, inside, narrow, narrow_up}
 use Rattle.mt_gap.proofs.HolesBelow.{holes_below, holes_are, one_hole}
 use Rattle.mt_gap.proofs.ChildLists.{spans, spans_below, gaps_below, holes_of_children}
 use Rattle.mt_gap.proofs.Narrowed.{Rising, narrow_keeps, narrow_two, rising_narrow, rising_expand}

@@ -1,19 +1,5 @@
 -- The gap words of a row, those of slots in which nothing stands among them.
-use Rattle.std.proofs.Common.{◌≡◌, ℕ, zero, suc, ◌+◌, ◌-◌, ◌<◌, ◌≤◌, List, [], ◌∷◌, length, max, refl, sym, ◌∙◌, arith}
-use Rattle.std.specs.Prelude.{slice_index}
-use Rattle.mt_base.specs.Width.{columns}
-use Rattle.mt_layout.specs.declared.items.Item.{Item}
-use Rattle.mt_layout.specs.declared.names.RowKind.TheVariants.{Gapped}
-use Rattle.mt_layout.specs.Columns.{gap_column, items_at, row_words}
-use Rattle.mt_layout.specs.Sizes.{slots_of, gaps_of}
-use Rattle.mt_layout.proofs.Reading.{few_items, gap_at-some}
-use Rattle.mt_layout.proofs.RowSizes.{layout_of, all_gaps_of, some_gaps_of, gap_within}
-use Rattle.mt_layout.proofs.RowWords.{item_or, get_or-padded, used, used-gap}
-use Rattle.mt_path.specs.declared.paths.PathStep.{PathStep}
-use Rattle.mt_rows.specs.Spans.{Table, base_of, column}
-use Rattle.mt_gap.specs.Children.{children_from, row_children}
-use Rattle.mt_gap.specs.Mending.{longest_gap, most_gap, told_by, MayTell}
-use Rattle.mt_gap.specs.Slots.{gap_in}
+use Rattle.mt_gap.proofs.Prelude.{◌≡◌, ℕ, zero, suc, ◌+◌, ◌-◌, ◌<◌, ◌≤◌, List, [], ◌∷◌, length, max, refl, sym, ◌∙◌, arith, slice_index, columns, Item, Gapped, gap_column, items_at, row_words, slots_of, gaps_of, few_items, gap_at-some, layout_of, all_gaps_of, some_gaps_of, gap_within, item_or, get_or-padded, used, used-gap, PathStep, Table, base_of, column, children_from, row_children, longest_gap, most_gap, told_by, MayTell, gap_in}
 
 -- ---- of items, and behind them
 

@@ -1,17 +1,5 @@
 -- The holes of the map below rows are what stands as 0 in their leaves: no hole reaches over a leaf's end.
-use Rattle.std.proofs.Common.{◌≡◌, ◌≢◌, ℕ, zero, suc, ◌+◌, ◌-◌, ◌<◌, ◌≤◌, ◌==◌, List, [], ◌∷◌, ◌++◌, false, refl, sym, ap, ◌∙◌, subst, inl, inr, arith, append-nil}
-use Rattle.std.specs.List.{AllByRecursion, flat_map}
-use Rattle.std.proofs.lemmas.Bool.{cases_Bool, lt-ltb, le-ltb, eqb-true}
-use Rattle.mt_layout.specs.declared.spans.Span.{Span}
-use Rattle.mt_layout.specs.Spans.{leaf_range, Fills, Apart}
-use Rattle.mt_rows.specs.Spans.{spans_in, Table}
-use Rattle.mt_rows.specs.Levels.{expand, map_of, Levels}
-use Rattle.mt_rows.specs.Laws.{Tree, IsRow, top_of}
-use Rattle.mt_rows.proofs.Lists.{fills_le, expand_fills}
-use Rattle.mt_rows.proofs.Ranges.{rows_filled}
-use Rattle.mt_base.specs.Holes.{hole_between, holes_from, holes_to, Hole}
-use Rattle.mt_gap.specs.Below.{leaf_hole}
-use Rattle.mt_layout.proofs.SpanLists.{apart-append}
+use Rattle.mt_gap.proofs.Prelude.{◌≡◌, ◌≢◌, ℕ, zero, suc, ◌+◌, ◌-◌, ◌<◌, ◌≤◌, ◌==◌, List, [], ◌∷◌, ◌++◌, false, refl, sym, ap, ◌∙◌, subst, inl, inr, arith, append-nil, AllByRecursion, flat_map, cases_Bool, lt-ltb, le-ltb, eqb-true, Span, leaf_range, Fills, Apart, spans_in, Table, expand, map_of, Levels, Tree, IsRow, top_of, fills_le, expand_fills, rows_filled, hole_between, holes_from, holes_to, Hole, leaf_hole, apart-append}
 
 -- the holes below rows of a height; leaves have the height 0
 abbrev pub holes_below : Table → ℕ → List Span → List Hole

@@ -1,19 +1,5 @@
 -- What is kept of holes: of those out of the window and the short ones nothing, of a long one in the window something.
-use Rattle.std.proofs.Common.{◌≡◌, ℕ, zero, suc, ◌+◌, ◌-◌, ◌<◌, ◌≤◌, ◌==◌, List, [], ◌∷◌, ◌++◌, min, max, nat_le, map, length, Some, refl, sym, ap, ◌∙◌, inl, inr, arith, filter}
-use Rattle.std.specs.List.{AllByRecursion, flat_map}
-use Rattle.std.proofs.lemmas.List.{map-append}
-use Rattle.std.proofs.lemmas.List.Elements.{filter-append}
-use Rattle.std.proofs.lemmas.Grind.{flat_map-append}
-use Rattle.std.proofs.lemmas.Bool.{cases_Bool, lt-leb, leb-true, leb-false}
-use Rattle.mt_layout.specs.declared.spans.Span.{Span}
-use Rattle.mt_layout.specs.Spans.{Fills, longest_in}
-use Rattle.mt_rows.specs.Spans.{Table}
-use Rattle.mt_rows.specs.Levels.{expand, Levels}
-use Rattle.mt_rows.specs.Laws.{Tree, IsRow, longest_below}
-use Rattle.mt_rows.proofs.Lists.{all_map, fills_le, expand_fills, expand-append}
-use Rattle.mt_rows.proofs.Ranges.{rows_filled}
-use Rattle.mt_base.specs.Holes.{Hole, clip, fits, kept, lowest_in}
-use Rattle.mt_gap.specs.Below.{leaf_hole}
+use Rattle.mt_gap.proofs.Prelude.{◌≡◌, ℕ, zero, suc, ◌+◌, ◌-◌, ◌<◌, ◌≤◌, ◌==◌, List, [], ◌∷◌, ◌++◌, min, max, nat_le, map, length, Some, refl, sym, ap, ◌∙◌, inl, inr, arith, filter, AllByRecursion, flat_map, map-append, filter-append, flat_map-append, cases_Bool, lt-leb, leb-true, leb-false, Span, Fills, longest_in, Table, expand, Levels, Tree, IsRow, longest_below, all_map, fills_le, expand_fills, expand-append, rows_filled, Hole, clip, fits, kept, lowest_in, leaf_hole}
 use Rattle.mt_gap.proofs.HolesBelow.{holes_below}
 
 pub kept-append : (n lo hi : ℕ) (xs ys : List Hole) → kept n lo hi (xs ++ ys) ≡ kept n lo hi xs ++ kept n lo hi ys

@@ -1,24 +1,5 @@
 -- One level lower, row by row.
-use Rattle.std.proofs.Common.{◌≡◌, ℕ, zero, suc, ◌+◌, ◌-◌, ◌*◌, ◌<◌, ◌≤◌, List, [], ◌∷◌, ◌++◌, true, false, Option, Some, None, length, drop, take, refl, sym, ap, ◌∙◌, subst, inl, inr, arith, append_assoc, append-nil, length-append}
-use Rattle.std.specs.Prelude.{slice_index_or}
-use Rattle.std.specs.List.{flat_map}
-use Rattle.std.specs.Option.{option_or, is_some}
-use Rattle.std.proofs.lemmas.Bool.{cases_Bool}
-use Rattle.std.proofs.lemmas.List.{take-append-drop}
-use Rattle.std.proofs.lemmas.Grind.{flat_map-append}
-use Rattle.mt_base.specs.Holes.{Hole, kept, lowest_in, highest_in}
-use Rattle.mt_base.specs.Width.{columns}
-use Rattle.mt_layout.proofs.Places.{one_row_more}
-use Rattle.mt_rows.specs.Spans.{Table}
-use Rattle.mt_rows.specs.Sheet.{Rooted, Sheet, ReadsUpTo}
-use Rattle.mt_path.proofs.Kept.{tree_kept}
-use Rattle.mt_path.proofs.Loads.{no_reads, reads_more, reads_up}
-use Rattle.mt_gap.specs.declared.children.Child.{Child}
-use Rattle.mt_gap.specs.declared.windows.Window.{Window}
-use Rattle.mt_gap.specs.Below.{child_hole}
-use Rattle.mt_gap.specs.Children.{children_in, children_below}
-use Rattle.mt_gap.specs.Descents.{LoadedUpTo, picked}
-use Rattle.mt_gap.specs.Narrow.{narrow, narrow_up, has_sure}
+use Rattle.mt_gap.proofs.Prelude.{◌≡◌, ℕ, zero, suc, ◌+◌, ◌-◌, ◌*◌, ◌<◌, ◌≤◌, List, [], ◌∷◌, ◌++◌, true, false, Option, Some, None, length, drop, take, refl, sym, ap, ◌∙◌, subst, inl, inr, arith, append_assoc, append-nil, length-append, slice_index_or, flat_map, option_or, is_some, cases_Bool, take-append-drop, flat_map-append, Hole, kept, lowest_in, highest_in, columns, one_row_more, Table, Rooted, Sheet, ReadsUpTo, tree_kept, no_reads, reads_more, reads_up, Child, Window, child_hole, children_in, children_below, LoadedUpTo, picked, narrow, narrow_up, has_sure}
 use Rattle.mt_gap.proofs.Kept.{kept-append}
 use Rattle.mt_gap.proofs.NarrowedUp.{highest_back, highest_more}
 use Rattle.mt_gap.proofs.RowLoops.{drop_at, narrow_stops, narrow_goes_on}

@@ -18,3 +18,4 @@ pub mod Along
 pub mod SlotsRight
 pub mod MendGaps
 pub mod OneWay
+mod Prelude

@@ -1,40 +1,5 @@
 -- All gap words of a path's rows mended: what holds from one slot to the next, and from one row to the next.
-use Rattle.std.proofs.Common.{◌≡◌, ◌≢◌, ℕ, zero, suc, ◌+◌, ◌-◌, ◌<◌, ◌≤◌, List, [], ◌∷◌, Bool, true, false, Some, None, length, refl, sym, ap, ◌∙◌, subst, ⊎_elim, inl, inr, arith}
-use Rattle.std.specs.Prelude.{◌⊎◌, slice_index_or}
-use Rattle.std.specs.List.{AllByRecursion}
-use Rattle.std.proofs.lemmas.Bool.{cases_Bool, cases_eq}
-use Rattle.mt_base.specs.declared.widths.Width.{Width}
-use Rattle.mt_base.specs.Width.{deepest, greatest}
-use Rattle.mt_layout.specs.declared.names.RowKind.{RowKind}
-use Rattle.mt_layout.specs.declared.names.RowKind.TheVariants.{Leaf, Inner, Gapped}
-use Rattle.mt_layout.specs.declared.spans.Span.{Span}
-use Rattle.mt_layout.specs.Columns.{gap_column}
-use Rattle.mt_layout.specs.Rows.{row_in, named_kind}
-use Rattle.mt_layout.specs.Sizes.{slots_of}
-use Rattle.mt_layout.proofs.NameLaws.{Names-named_kind}
-use Rattle.mt_layout.proofs.RowSizes.{some_columns, some_slots_of, gap_within}
-use Rattle.mt_layout.proofs.SpanLists.{fills_le}
-use Rattle.mt_path.specs.declared.paths.PathStep.{PathStep}
-use Rattle.mt_path.specs.Paths.{step_in, span_at, step_at, path_in}
-use Rattle.mt_path.proofs.TreePaths.{top_row, rows_at, row_of, levels, step, place, lawful, reached, root_leads, rows_fill, step_of}
-use Rattle.mt_rows.specs.Gaps.{covers, HasGaps}
-use Rattle.mt_rows.specs.Laws.{Tree, IsRow, Stands, GapLaw, kind_on, longest_below, top_of}
-use Rattle.mt_rows.specs.Levels.{Levels}
-use Rattle.mt_rows.specs.Publish.{tree_on, LiveAreReached, NoneBuried}
-use Rattle.mt_rows.specs.Replacement.{root_of}
-use Rattle.mt_rows.specs.Sheet.{Rooted, Sheet, IsPlace, OnlyReads, MayTend, IsWhole, life_of, is_buried, with_word, word_at, loaded}
-use Rattle.mt_rows.specs.Spans.{Table, root_span, spans_in, spans_by, row_spans}
-use Rattle.mt_rows.proofs.Depth.{height_by_depth}
-use Rattle.mt_rows.proofs.FewSpans.{row_most}
-use Rattle.mt_rows.proofs.GapStore.{all_spans_stay, still_stands}
-use Rattle.mt_rows.proofs.Joins.{Shared}
-use Rattle.mt_rows.proofs.Lists.{levels_here, levels_map}
-use Rattle.mt_rows.proofs.PlainReached.{levels_from}
-use Rattle.mt_rows.proofs.Reached.{IsOneOf, OnLevel, on_level_reached, one_of_parts, reached_number, times_reached, levels_at}
-use Rattle.mt_gap.specs.declared.children.Child.{Child}
-use Rattle.mt_gap.specs.Children.{row_children}
-use Rattle.mt_gap.specs.Mended.{AreRight, IsMendedSlot, HasMendedRows}
-use Rattle.mt_gap.specs.Mending.{told_by, GapLawBeside, IsLiveRow, IsGapIn, KeepsOtherWords, MayMendGaps, MayTell, MayMend, IsMended}
+use Rattle.mt_gap.proofs.Prelude.{◌≡◌, ◌≢◌, ℕ, zero, suc, ◌+◌, ◌-◌, ◌<◌, ◌≤◌, List, [], ◌∷◌, Bool, true, false, Some, None, length, refl, sym, ap, ◌∙◌, subst, ⊎_elim, inl, inr, arith, ◌⊎◌, slice_index_or, AllByRecursion, cases_Bool, cases_eq, Width, deepest, greatest, RowKind, Leaf, Inner, Gapped, Span, gap_column, row_in, named_kind, slots_of, Names-named_kind, some_columns, some_slots_of, gap_within, fills_le, PathStep, step_in, span_at, step_at, path_in, top_row, rows_at, row_of, levels, step, place, lawful, reached, root_leads, rows_fill, step_of, covers, HasGaps, Tree, IsRow, Stands, GapLaw, kind_on, longest_below, top_of, Levels, tree_on, LiveAreReached, NoneBuried, root_of, Rooted, Sheet, IsPlace, OnlyReads, MayTend, IsWhole, life_of, is_buried, with_word, word_at, loaded, Table, root_span, spans_in, spans_by, row_spans, height_by_depth, row_most, all_spans_stay, still_stands, Shared, levels_here, levels_map, levels_from, IsOneOf, OnLevel, on_level_reached, one_of_parts, reached_number, times_reached, levels_at, Child, row_children, AreRight, IsMendedSlot, HasMendedRows, told_by, GapLawBeside, IsLiveRow, IsGapIn, KeepsOtherWords, MayMendGaps, MayTell, MayMend, IsMended}
 use Rattle.mt_gap.proofs.ChildLists.{spans, no_child}
 use Rattle.mt_gap.proofs.Mending.{begins_at, child_tells, covers_is, levels_below, one_over}
 use Rattle.mt_gap.proofs.MendWay.{RootIs, no_root, not_gapped, only_loaded, gap_stored, only_next, paths_shared, plain_law, root_named, row_may_tell, shared_self, shared_twice}

@@ -1,42 +1,5 @@
 -- Gap words mended on the way to an index: what holds from one row to the next.
-use Rattle.std.proofs.Common.{◌≡◌, ◌≢◌, ℕ, zero, suc, ◌+◌, ◌-◌, ◌*◌, ◌^◌, ◌<◌, ◌≤◌, ◌==◌, List, [], ◌∷◌, Bool, true, false, Some, length, refl, sym, ap, ◌∙◌, subst, ⊎_elim, inl, inr, arith, append-nil, get_or-set_other}
-use Rattle.std.specs.Prelude.{◌⊎◌, slice_index, slice_set}
-use Rattle.std.specs.List.{AllByRecursion, flat_map}
-use Rattle.std.proofs.lemmas.Bool.{cases_Bool, cases_eq}
-use Rattle.mt_base.specs.declared.widths.Width.{Width}
-use Rattle.mt_base.specs.Width.{columns, deepest, greatest, first_row}
-use Rattle.mt_base.proofs.WidthBounds.{greatest_fits}
-use Rattle.mt_layout.specs.declared.names.RowKind.{RowKind}
-use Rattle.mt_layout.specs.declared.names.RowKind.TheVariants.{Leaf, Gapped}
-use Rattle.mt_layout.specs.declared.spans.Span.{Span}
-use Rattle.mt_layout.specs.Columns.{gap_column}
-use Rattle.mt_layout.specs.Rows.{row_in, named_kind}
-use Rattle.mt_layout.specs.Sizes.{slots_of}
-use Rattle.mt_layout.specs.Spans.{Fills, leaf_range, longest_in}
-use Rattle.mt_layout.proofs.NameLaws.{Names-named_kind}
-use Rattle.mt_layout.proofs.Places.{same_place}
-use Rattle.mt_layout.proofs.RowSizes.{some_columns, some_slots_of, gap_within}
-use Rattle.mt_layout.proofs.SpanLists.{fills_le}
-use Rattle.mt_path.specs.declared.paths.PathStep.{PathStep}
-use Rattle.mt_path.specs.Paths.{step_in, slot_for, step_at, span_at, path_in, path_of, below}
-use Rattle.mt_path.proofs.Steps.{Leads, path_of_leaf, path_of_inner, row_here, child_at, child_leads}
-use Rattle.mt_path.proofs.TreePaths.{top_row, row_of, step_of, levels, step, place, lawful, reached, root_leads}
-use Rattle.mt_rows.specs.Gaps.{HasGaps}
-use Rattle.mt_rows.specs.Laws.{Tree, IsRow, Stands, GapLaw, kind_on, longest_below, top_of}
-use Rattle.mt_rows.specs.Levels.{expand, Levels, SameSpans, times, is_row_of}
-use Rattle.mt_rows.specs.Publish.{tree_on, LiveAreReached, NoneBuried}
-use Rattle.mt_rows.specs.Replacement.{root_of}
-use Rattle.mt_rows.specs.Sheet.{Rooted, Sheet, MayTend, IsWhole, life_of, is_buried, with_word, word_at, loaded}
-use Rattle.mt_rows.specs.Spans.{Table, base_of, root_span, spans_in, spans_by, row_spans}
-use Rattle.mt_rows.proofs.FewSpans.{row_most}
-use Rattle.mt_rows.proofs.GapStore.{all_spans_stay, still_stands}
-use Rattle.mt_rows.proofs.Depth.{height_by_depth}
-use Rattle.mt_rows.proofs.InnerKinds.{inner_no_leaf}
-use Rattle.mt_rows.proofs.Lists.{levels_here, levels_map}
-use Rattle.mt_rows.proofs.Joins.{Shared, expand_shared, levels_front, levels_back, times_shared}
-use Rattle.mt_rows.proofs.Reached.{OnLevel, on_level_reached, times_reached, reached_number}
-use Rattle.mt_rows.specs.declared.rows.Life.TheVariants.{Live}
-use Rattle.mt_gap.specs.Mending.{told_by, IsGapOn, KeepsWordsBut, OnlyWords, IsWay, MayTell, MayMend, IsMended}
+use Rattle.mt_gap.proofs.Prelude.{◌≡◌, ◌≢◌, ℕ, zero, suc, ◌+◌, ◌-◌, ◌*◌, ◌^◌, ◌<◌, ◌≤◌, ◌==◌, List, [], ◌∷◌, Bool, true, false, Some, length, refl, sym, ap, ◌∙◌, subst, ⊎_elim, inl, inr, arith, append-nil, get_or-set_other, ◌⊎◌, slice_index, slice_set, AllByRecursion, flat_map, cases_Bool, cases_eq, Width, columns, deepest, greatest, first_row, greatest_fits, RowKind, Leaf, Gapped, Span, gap_column, row_in, named_kind, slots_of, Fills, leaf_range, longest_in, Names-named_kind, same_place, some_columns, some_slots_of, gap_within, fills_le, PathStep, step_in, slot_for, step_at, span_at, path_in, path_of, below, Leads, path_of_leaf, path_of_inner, row_here, child_at, child_leads, top_row, row_of, step_of, levels, step, place, lawful, reached, root_leads, HasGaps, Tree, IsRow, Stands, GapLaw, kind_on, longest_below, top_of, expand, Levels, SameSpans, times, is_row_of, tree_on, LiveAreReached, NoneBuried, root_of, Rooted, Sheet, MayTend, IsWhole, life_of, is_buried, with_word, word_at, loaded, Table, base_of, root_span, spans_in, spans_by, row_spans, row_most, all_spans_stay, still_stands, height_by_depth, inner_no_leaf, levels_here, levels_map, Shared, expand_shared, levels_front, levels_back, times_shared, OnLevel, on_level_reached, times_reached, reached_number, Live, told_by, IsGapOn, KeepsWordsBut, OnlyWords, IsWay, MayTell, MayMend, IsMended}
 use Rattle.mt_gap.proofs.Mending.{IsMendedUpTo, on, is_step, is_used, told, mended_next, begun_mending, all_mended}
 use Rattle.mt_gap.proofs.GapWords.{tells_all}
 

@@ -1,38 +1,5 @@
 -- Gap words mended from the leaf of an index upwards, one row a level.
-use Rattle.std.proofs.Common.{◌≡◌, ◌≢◌, ℕ, zero, suc, ◌+◌, ◌<◌, ◌≤◌, List, [], ◌∷◌, ◌++◌, Bool, true, false, nat_le, max, length, refl, sym, ap, ◌∙◌, subst, ⊎_elim, inl, inr, arith, append-nil}
-use Rattle.std.specs.Prelude.{◌⊎◌}
-use Rattle.std.specs.List.{AllByRecursion}
-use Rattle.std.proofs.lemmas.Bool.{cases_Bool, cases_eq, leb-false, leb-true}
-use Rattle.mt_layout.specs.declared.names.RowKind.TheVariants.{Gapped}
-use Rattle.mt_layout.specs.declared.spans.Span.{Span}
-use Rattle.mt_layout.specs.Columns.{gap_column}
-use Rattle.mt_layout.specs.Rows.{row_in}
-use Rattle.mt_layout.specs.Sizes.{slots_of}
-use Rattle.mt_layout.specs.Spans.{Fills, longest_in}
-use Rattle.mt_layout.proofs.SpanLists.{fills_le}
-use Rattle.mt_layout.proofs.RowSizes.{gap_within}
-use Rattle.mt_path.specs.declared.paths.PathStep.{PathStep}
-use Rattle.mt_path.specs.Paths.{step_in, slot_for}
-use Rattle.mt_path.proofs.TreePaths.{rows_at, row_of, step_of, step, place, lawful, child, slot_used, rows_fill}
-use Rattle.mt_rows.specs.Gaps.{covers, GapsFromBut, KeepsGaps, HasGaps, GapLawBut}
-use Rattle.mt_rows.specs.Laws.{Tree, HasWords, IsRow, Stands, GapLaw, GapsFrom, kind_on, longest_below, top_of}
-use Rattle.mt_rows.specs.Levels.{expand, level, Levels}
-use Rattle.mt_rows.specs.Publish.{tree_on}
-use Rattle.mt_rows.specs.Replacement.{root_of}
-use Rattle.mt_rows.specs.Sheet.{Rooted, with_word}
-use Rattle.mt_rows.specs.Spans.{Table, column, spans_in, spans_by}
-use Rattle.mt_rows.proofs.FewSpans.{row_most}
-use Rattle.mt_rows.proofs.GapStore.{others_keep, other_gap, this_gap, all_spans_stay}
-use Rattle.mt_rows.proofs.Heights.{levels_lower}
-use Rattle.mt_rows.proofs.Joins.{Shared, levels_front, levels_back, levels_shared}
-use Rattle.mt_rows.proofs.Lists.{levels_map}
-use Rattle.mt_rows.proofs.Longest.{longest_none, longest_below-append}
-use Rattle.mt_rows.proofs.PlainReached.{levels_from}
-use Rattle.mt_rows.proofs.Reached.{IsOneOf, OnLevel, on_level_law, one_place, one_of_parts, levels_at}
-use Rattle.mt_rows.proofs.RowGaps.{covers_it}
-use Rattle.mt_gap.specs.declared.children.Child.{Child}
-use Rattle.mt_gap.specs.Children.{children_in, children_by}
-use Rattle.mt_gap.specs.Mending.{longest_gap, told_by}
+use Rattle.mt_gap.proofs.Prelude.{◌≡◌, ◌≢◌, ℕ, zero, suc, ◌+◌, ◌<◌, ◌≤◌, List, [], ◌∷◌, ◌++◌, Bool, true, false, nat_le, max, length, refl, sym, ap, ◌∙◌, subst, ⊎_elim, inl, inr, arith, append-nil, ◌⊎◌, AllByRecursion, cases_Bool, cases_eq, leb-false, leb-true, Gapped, Span, gap_column, row_in, slots_of, Fills, longest_in, fills_le, gap_within, PathStep, step_in, slot_for, rows_at, row_of, step_of, step, place, lawful, child, slot_used, rows_fill, covers, GapsFromBut, KeepsGaps, HasGaps, GapLawBut, Tree, HasWords, IsRow, Stands, GapLaw, GapsFrom, kind_on, longest_below, top_of, expand, level, Levels, tree_on, root_of, Rooted, with_word, Table, column, spans_in, spans_by, row_most, others_keep, other_gap, this_gap, all_spans_stay, levels_lower, Shared, levels_front, levels_back, levels_shared, levels_map, longest_none, longest_below-append, levels_from, IsOneOf, OnLevel, on_level_law, one_place, one_of_parts, levels_at, covers_it, Child, children_in, children_by, longest_gap, told_by}
 use Rattle.mt_gap.proofs.ChildLists.{spans, GapIs, row_gaps, spans_of_row}
 use Rattle.mt_gap.proofs.SlotMended.{but_stays, law_stays, slot_mended, law_beside}
 

@@ -1,17 +1,5 @@
 -- A search that goes into narrowed rows alone has the answer of all rows, and goes into two rows of a level at the most.
-use Rattle.std.proofs.Common.{◌≡◌, ℕ, ◌+◌, ◌<◌, ◌≤◌, ◌&&◌, ◌⊎◌, List, [], ◌∷◌, ◌++◌, Bool, true, false, nat_le, length, refl, sym, ap, ◌∙◌, inl, inr, ⊎_elim, arith}
-use Rattle.std.specs.List.{AllByRecursion}
-use Rattle.std.proofs.lemmas.Bool.{cases_Bool, leb-true, leb-false}
-use Rattle.mt_layout.specs.declared.spans.Span.{Span}
-use Rattle.mt_layout.specs.Spans.{Fills}
-use Rattle.mt_rows.specs.Spans.{Table, spans_in}
-use Rattle.mt_rows.specs.Levels.{expand, Levels}
-use Rattle.mt_rows.specs.Laws.{Tree, IsRow}
-use Rattle.mt_rows.proofs.Lists.{Filled}
-use Rattle.mt_rows.proofs.Joins.{levels_front, levels_back}
-use Rattle.mt_base.specs.Holes.{Hole, kept, lowest_in}
-use Rattle.mt_gap.specs.declared.children.Child.{Child}
-use Rattle.mt_gap.specs.Narrow.{meets, may_have, inside, narrow}
+use Rattle.mt_gap.proofs.Prelude.{◌≡◌, ℕ, ◌+◌, ◌<◌, ◌≤◌, ◌&&◌, ◌⊎◌, List, [], ◌∷◌, ◌++◌, Bool, true, false, nat_le, length, refl, sym, ap, ◌∙◌, inl, inr, ⊎_elim, arith, AllByRecursion, cases_Bool, leb-true, leb-false, Span, Fills, Table, spans_in, expand, Levels, Tree, IsRow, Filled, levels_front, levels_back, Hole, kept, lowest_in, Child, meets, may_have, inside, narrow}
 use Rattle.mt_gap.proofs.HolesBelow.{holes_below}
 use Rattle.mt_gap.proofs.ChildLists.{spans, GapIs}
 use Rattle.mt_gap.proofs.Kept.{kept-append, holes_below-append, Between, holes_between, longest_of, longest_is, none_short, none_below, none_above, some_inside}

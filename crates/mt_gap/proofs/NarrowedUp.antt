@@ -1,16 +1,5 @@
 -- The search for the highest place.
-use Rattle.std.proofs.Common.{◌≡◌, ℕ, suc, ◌+◌, ◌-◌, ◌<◌, ◌≤◌, List, [], ◌∷◌, ◌++◌, length, refl, sym, ap, ◌∙◌, subst, inl, inr, ⊎_elim, arith, append_assoc, append-nil}
-use Rattle.std.specs.List.{AllByRecursion, slice_get}
-use Rattle.std.specs.Option.{option_map}
-use Rattle.std.proofs.lemmas.Bool.{cases_Bool}
-use Rattle.mt_base.specs.Holes.{Hole, kept, highest_in}
-use Rattle.mt_layout.specs.declared.spans.Span.{Span}
-use Rattle.mt_rows.specs.Spans.{Table}
-use Rattle.mt_rows.specs.Levels.{Levels}
-use Rattle.mt_rows.specs.Laws.{Tree, IsRow}
-use Rattle.mt_rows.proofs.Joins.{levels_join, levels_front, levels_back}
-use Rattle.mt_gap.specs.declared.children.Child.{Child}
-use Rattle.mt_gap.specs.Narrow.{may_have, inside, narrow_up}
+use Rattle.mt_gap.proofs.Prelude.{◌≡◌, ℕ, suc, ◌+◌, ◌-◌, ◌<◌, ◌≤◌, List, [], ◌∷◌, ◌++◌, length, refl, sym, ap, ◌∙◌, subst, inl, inr, ⊎_elim, arith, append_assoc, append-nil, AllByRecursion, slice_get, option_map, cases_Bool, Hole, kept, highest_in, Span, Table, Levels, Tree, IsRow, levels_join, levels_front, levels_back, Child, may_have, inside, narrow_up}
 use Rattle.mt_gap.proofs.HolesBelow.{holes_below}
 use Rattle.mt_gap.proofs.ChildLists.{spans, GapIs, spans-append}
 use Rattle.mt_gap.proofs.Narrowed.{Rising, may_is, in_not, rising_more, kept_below, kept_cons, passed, answers}

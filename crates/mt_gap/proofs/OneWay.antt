@@ -1,45 +1,7 @@
 -- A search that goes into one row in each level: what it has seen of a row, and how far it has come.
-use Rattle.std.proofs.Common.{◌≡◌, ◌≢◌, ℕ, zero, suc, ◌+◌, ◌*◌, ◌<◌, ◌≤◌, ◌⊎◌, List, [], ◌∷◌, ◌++◌, Bool, true, false, Option, Some, None, length, take, refl, sym, ap, ◌∙◌, subst, inl, inr, arith, append_assoc, append-nil, length-append}
-use Rattle.std.specs.List.{AllByRecursion, flat_map}
-use Rattle.std.proofs.lemmas.Bool.{cases_Bool}
-use Rattle.std.proofs.lemmas.List.{take_more}
-use Rattle.mt_base.specs.declared.kinds.Kind.{Kind}
-use Rattle.mt_base.specs.Holes.{low_to, lowest_in}
-use Rattle.mt_base.specs.Width.{columns, deepest, greatest}
-use Rattle.mt_layout.specs.declared.names.RowKind.{RowKind}
-use Rattle.mt_layout.specs.declared.names.RowKind.TheVariants.{Leaf, Gapped}
-use Rattle.mt_layout.specs.declared.spans.Span.{Span}
-use Rattle.mt_layout.specs.Rows.{row_in, named_kind}
-use Rattle.mt_layout.specs.Spans.{Fills}
-use Rattle.mt_layout.proofs.Places.{one_row_more}
-use Rattle.mt_rows.specs.Laws.{Tree, IsRow, Stands, top_of}
-use Rattle.mt_rows.specs.Publish.{tree_on, IsTreeOf, map_by}
-use Rattle.mt_rows.specs.Sheet.{Rooted, Sheet, ReadsUpTo, loaded}
-use Rattle.mt_rows.specs.Spans.{root_span, spans_in}
-use Rattle.mt_rows.specs.Trees.{height_in}
-use Rattle.mt_rows.proofs.Depth.{height_by_depth}
-use Rattle.mt_rows.proofs.Lists.{levels_here}
-use Rattle.mt_path.specs.declared.handles.Handle.{Handle}
-use Rattle.mt_path.specs.declared.paths.PathStep.{PathStep}
-use Rattle.mt_path.specs.Handles.{handle_in}
-use Rattle.mt_path.specs.Paths.{path_in, step_at, no_step, row_on, below, slot_for, span_at, step_in}
-use Rattle.mt_path.specs.Walks.{EntersLeaf}
-use Rattle.mt_path.proofs.Kept.{tree_kept}
-use Rattle.mt_path.proofs.Loads.{no_reads, one_read, reads_more, reads_up}
+use Rattle.mt_gap.proofs.Prelude.{◌≡◌, ◌≢◌, ℕ, zero, suc, ◌+◌, ◌*◌, ◌<◌, ◌≤◌, ◌⊎◌, List, [], ◌∷◌, ◌++◌, Bool, true, false, Option, Some, None, length, take, refl, sym, ap, ◌∙◌, subst, inl, inr, arith, append_assoc, append-nil, length-append, AllByRecursion, flat_map, cases_Bool, take_more, Kind, low_to, lowest_in, columns, deepest, greatest, RowKind, Leaf, Gapped, Span, row_in, named_kind, Fills, one_row_more, Tree, IsRow, Stands, top_of, tree_on, IsTreeOf, map_by, Rooted, Sheet, ReadsUpTo, loaded, root_span, spans_in, height_in, height_by_depth, levels_here, Handle, PathStep, handle_in, path_in, step_at, no_step, row_on, below, slot_for, span_at, step_in, EntersLeaf, tree_kept, no_reads, one_read, reads_more, reads_up, at_slot, at_parts, at_once, at_within, At, row_next, row_of, levels, step, row_on_top, some_root, Child, Below, Window, leaf_hole, child_hole, children_in, children_by, children_below, row_children, root_child, IsGapped, MayLoad, picked, place_in, AreLeaves, may_have, narrow, has_sure, into_one_more, with_room, StandsInSlot, AreAsked, IsSearchedBelow, IsWayTo, EndsInLeaf, IsAreaAt}
 use Rattle.mt_path.proofs.Places as places
-use Rattle.mt_path.proofs.Places.{at_slot, at_parts, at_once, at_within, At}
-use Rattle.mt_path.proofs.Steps.{row_next}
-use Rattle.mt_path.proofs.TreePaths.{row_of, levels, step}
-use Rattle.mt_path.proofs.Ways.{row_on_top, some_root}
-use Rattle.mt_gap.specs.declared.children.Child.{Child}
-use Rattle.mt_gap.specs.declared.ways.Below.{Below}
 use Rattle.mt_gap.specs.declared.ways.Below.TheVariants as below_row
-use Rattle.mt_gap.specs.declared.windows.Window.{Window}
-use Rattle.mt_gap.specs.Below.{leaf_hole, child_hole}
-use Rattle.mt_gap.specs.Children.{children_in, children_by, children_below, row_children, root_child}
-use Rattle.mt_gap.specs.Descents.{IsGapped, MayLoad, picked, place_in, AreLeaves}
-use Rattle.mt_gap.specs.Narrow.{may_have, narrow, has_sure}
-use Rattle.mt_gap.specs.Ways.{into_one_more, with_room, StandsInSlot, AreAsked, IsSearchedBelow, IsWayTo, EndsInLeaf, IsAreaAt}
 use Rattle.mt_gap.proofs.HolesBelow.{holes_below}
 use Rattle.mt_gap.proofs.ChildLists.{spans, spans-append, spans_of_row, holes_of_children}
 use Rattle.mt_gap.proofs.Descents.{Asks, asks_root, come_root, gapped_words, low_empty, low_next, leaves_have, row_may_load}

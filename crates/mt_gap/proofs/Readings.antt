@@ -1,8 +1,5 @@
 -- Loads of a row's words, counted.
-use Rattle.std.proofs.Common.{◌≡◌, ℕ, ◌+◌, ◌-◌, ◌*◌, ◌≤◌, sym, subst, arith}
-use Rattle.std.proofs.Math.Nat.{mul-le-mul_left}
-use Rattle.mt_rows.specs.Sheet.{Sheet, loaded, ReadsUpTo}
-use Rattle.mt_path.proofs.Loads.{no_reads, one_read, reads_more, reads_up}
+use Rattle.mt_gap.proofs.Prelude.{◌≡◌, ℕ, ◌+◌, ◌-◌, ◌*◌, ◌≤◌, sym, subst, arith, mul-le-mul_left, Sheet, loaded, ReadsUpTo, no_reads, one_read, reads_more, reads_up}
 
 pub one_load : (n : ℕ) (s t : Sheet) → 1 ≤ n → t ≡ loaded s → ReadsUpTo n s t
 one_load n s t low is = reads_up 1 n s t low (one_read s t is)

@@ -1,16 +1,6 @@
 -- Loops over a row's children.
-use Rattle.std.proofs.Common.{◌≡◌, ℕ, zero, suc, ◌+◌, ◌-◌, ◌<◌, ◌≤◌, ◌==◌, List, [], ◌∷◌, ◌++◌, true, false, append-nil, Some, None, length, take, drop, refl, sym, ap, ◌∙◌, subst, inl, inr, arith, length-append}
-use Rattle.std.specs.Prelude.{slice_index_or}
-use Rattle.std.specs.List.{flat_map, slice_get}
-use Rattle.std.proofs.lemmas.Bool.{cases_Bool}
-use Rattle.std.proofs.lemmas.List.{take-append-drop}
-use Rattle.std.proofs.lemmas.Grind.{flat_map-append}
-use Rattle.mt_layout.specs.declared.spans.Span.{Span}
-use Rattle.mt_base.specs.Holes.{Hole, clip, fits, kept, lowest_in, highest_in}
-use Rattle.mt_gap.specs.declared.children.Child.{Child}
-use Rattle.mt_gap.specs.Below.{leaf_hole, child_hole}
+use Rattle.mt_gap.proofs.Prelude.{◌≡◌, ℕ, zero, suc, ◌+◌, ◌-◌, ◌<◌, ◌≤◌, ◌==◌, List, [], ◌∷◌, ◌++◌, true, false, append-nil, Some, None, length, take, drop, refl, sym, ap, ◌∙◌, subst, inl, inr, arith, length-append, slice_index_or, flat_map, slice_get, cases_Bool, take-append-drop, flat_map-append, Span, Hole, clip, fits, kept, lowest_in, highest_in, Child, leaf_hole, child_hole, may_have, inside, narrow, has_sure}
 use Rattle.mt_gap.proofs.NarrowedUp.{highest_back}
-use Rattle.mt_gap.specs.Narrow.{may_have, inside, narrow, has_sure}
 use Rattle.mt_gap.proofs.Kept.{kept-append}
 
 pub drop_at : {A : Type 0} (xs : List A) (i : ℕ) (d : A) → i < length xs → drop i xs ≡ slice_index_or xs i d ∷ drop (suc i) xs

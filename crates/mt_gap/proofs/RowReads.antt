@@ -1,23 +1,5 @@
 -- A row's slots read one after another.
-use Rattle.std.proofs.Common.{◌≡◌, ℕ, suc, ◌+◌, ◌-◌, ◌*◌, ◌<◌, ◌≤◌, List, [], ◌∷◌, ◌++◌, length, nat_le, refl, sym, ap, ◌∙◌, subst, inl, inr, arith, append_assoc, append-nil, length-append}
-use Rattle.std.proofs.lemmas.Bool.{cases_Bool, leb-true, leb-false}
-use Rattle.mt_base.specs.declared.widths.Width.{Width}
-use Rattle.mt_layout.specs.declared.items.Item.{Item}
-use Rattle.mt_layout.specs.declared.names.RowKind.{RowKind}
-use Rattle.mt_layout.specs.declared.names.RowKind.TheVariants.{Leaf, Inner, Gapped}
-use Rattle.mt_base.specs.Width.{columns}
-use Rattle.mt_layout.specs.Columns.{items_from}
-use Rattle.mt_layout.specs.Sizes.{slots_of, gaps_of}
-use Rattle.mt_layout.proofs.Reading.{IsItem, goes_on, ends}
-use Rattle.mt_layout.proofs.Places.{one_row_more}
-use Rattle.mt_layout.proofs.RowSizes.{sizes, all_gaps_of, few_slots_of}
-use Rattle.mt_rows.specs.Spans.{base_of}
-use Rattle.mt_rows.specs.Sheet.{Rooted, Sheet, ReadsUpTo}
-use Rattle.mt_gap.specs.declared.children.Child.{Child}
-use Rattle.mt_gap.specs.Children.{children_from, row_children}
-use Rattle.mt_gap.specs.Slots.{last_in, child_in}
-use Rattle.mt_path.proofs.Kept.{tree_kept}
-use Rattle.mt_path.proofs.Loads.{no_reads, reads_more, reads_up}
+use Rattle.mt_gap.proofs.Prelude.{◌≡◌, ℕ, suc, ◌+◌, ◌-◌, ◌*◌, ◌<◌, ◌≤◌, List, [], ◌∷◌, ◌++◌, length, nat_le, refl, sym, ap, ◌∙◌, subst, inl, inr, arith, append_assoc, append-nil, length-append, cases_Bool, leb-true, leb-false, Width, Item, RowKind, Leaf, Inner, Gapped, columns, items_from, slots_of, gaps_of, IsItem, goes_on, ends, one_row_more, sizes, all_gaps_of, few_slots_of, base_of, Rooted, Sheet, ReadsUpTo, Child, children_from, row_children, last_in, child_in, tree_kept, no_reads, reads_more, reads_up}
 
 -- a pivot and a slot, and a gap where there is one
 abbrev pub loads_for : RowKind → ℕ

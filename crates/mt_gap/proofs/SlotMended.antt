@@ -1,20 +1,5 @@
 -- A row whose gap word is mended in the slot that covers an index keeps the law of gaps.
-use Rattle.std.proofs.Common.{◌≡◌, ◌≢◌, ℕ, ◌+◌, ◌<◌, ◌≤◌, ◌&&◌, ◌⊎◌, List, [], ◌∷◌, ◌++◌, Bool, true, false, nat_le, length, refl, sym, ◌∙◌, subst, inl, inr, arith}
-use Rattle.std.specs.List.{AllByRecursion}
-use Rattle.std.proofs.lemmas.Bool.{lt-leb}
-use Rattle.mt_layout.specs.declared.names.RowKind.TheVariants.{Gapped}
-use Rattle.mt_layout.specs.declared.spans.Span.{Span}
-use Rattle.mt_layout.specs.Columns.{gap_column}
-use Rattle.mt_layout.specs.Sizes.{slots_of}
-use Rattle.mt_layout.specs.Spans.{Fills}
-use Rattle.mt_layout.proofs.SpanLists.{fills_le}
-use Rattle.mt_rows.specs.Gaps.{covers, GapsFromBut}
-use Rattle.mt_rows.specs.Laws.{GapsFrom, longest_below}
-use Rattle.mt_rows.specs.Levels.{Levels}
-use Rattle.mt_rows.specs.Spans.{Table, column}
-use Rattle.mt_path.proofs.Places.{At}
-use Rattle.mt_rows.proofs.Joins.{Shared, levels_front, levels_back}
-use Rattle.mt_rows.proofs.Longest.{longest_shared}
+use Rattle.mt_gap.proofs.Prelude.{◌≡◌, ◌≢◌, ℕ, ◌+◌, ◌<◌, ◌≤◌, ◌&&◌, ◌⊎◌, List, [], ◌∷◌, ◌++◌, Bool, true, false, nat_le, length, refl, sym, ◌∙◌, subst, inl, inr, arith, AllByRecursion, lt-leb, Gapped, Span, gap_column, slots_of, Fills, fills_le, covers, GapsFromBut, GapsFrom, longest_below, Levels, Table, column, At, Shared, levels_front, levels_back, longest_shared}
 
 -- ---- what covers an index
 

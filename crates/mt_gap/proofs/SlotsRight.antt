@@ -1,27 +1,5 @@
 -- A gap word that is stored in a slot of a row of a tree makes that slot right, and leaves all others as they were.
-use Rattle.std.proofs.Common.{◌≡◌, ◌≢◌, ℕ, zero, suc, ◌+◌, ◌<◌, true, List, [], ◌∷◌, length, refl, sym, ap, ◌∙◌, subst, ⊎_elim, inl, inr, arith}
-use Rattle.std.specs.Prelude.{◌⊎◌}
-use Rattle.std.proofs.lemmas.Bool.{cases_eq}
-use Rattle.mt_layout.specs.declared.names.RowKind.TheVariants.{Gapped}
-use Rattle.mt_layout.specs.declared.spans.Span.{Span}
-use Rattle.mt_layout.specs.Columns.{gap_column}
-use Rattle.mt_layout.specs.Rows.{row_in}
-use Rattle.mt_layout.specs.Sizes.{slots_of}
-use Rattle.mt_layout.proofs.RowSizes.{gap_within}
-use Rattle.mt_path.specs.Paths.{span_at}
-use Rattle.mt_rows.specs.Laws.{Tree, HasWords, IsRow, Stands, GapLaw, GapsFrom, longest_below}
-use Rattle.mt_rows.specs.Levels.{Levels}
-use Rattle.mt_rows.specs.Publish.{tree_on}
-use Rattle.mt_rows.specs.Replacement.{root_of}
-use Rattle.mt_rows.specs.Sheet.{Rooted, with_word}
-use Rattle.mt_rows.specs.Spans.{Table, column, spans_in}
-use Rattle.mt_rows.proofs.FewSpans.{row_most}
-use Rattle.mt_rows.proofs.GapStore.{others_keep, other_gap, this_gap, all_spans_stay}
-use Rattle.mt_rows.proofs.Joins.{Shared, levels_front, levels_back, levels_shared}
-use Rattle.mt_rows.proofs.Longest.{longest_shared}
-use Rattle.mt_rows.proofs.PlainReached.{levels_from}
-use Rattle.mt_rows.proofs.Reached.{IsOneOf, OnLevel, on_level_law, one_place, levels_at}
-use Rattle.mt_gap.specs.Mended.{AreRight}
+use Rattle.mt_gap.proofs.Prelude.{◌≡◌, ◌≢◌, ℕ, zero, suc, ◌+◌, ◌<◌, true, List, [], ◌∷◌, length, refl, sym, ap, ◌∙◌, subst, ⊎_elim, inl, inr, arith, ◌⊎◌, cases_eq, Gapped, Span, gap_column, row_in, slots_of, gap_within, span_at, Tree, HasWords, IsRow, Stands, GapLaw, GapsFrom, longest_below, Levels, tree_on, root_of, Rooted, with_word, Table, column, spans_in, row_most, others_keep, other_gap, this_gap, all_spans_stay, Shared, levels_front, levels_back, levels_shared, longest_shared, levels_from, IsOneOf, OnLevel, on_level_law, one_place, levels_at, AreRight}
 use Rattle.mt_gap.proofs.Mending.{levels_below}
 
 -- ---- what stands in a slot

@@ -1,18 +1,5 @@
 -- What a row tells, read off its children one after another.
-use Rattle.std.proofs.Common.{◌≡◌, ℕ, ◌^◌, ◌<◌, ◌≤◌, List, Option, sym, ap, ◌∙◌, subst}
-use Rattle.std.specs.List.{AllByRecursion}
-use Rattle.mt_layout.specs.declared.names.RowKind.{RowKind}
-use Rattle.mt_layout.specs.declared.names.RowKind.TheVariants.{Leaf, Gapped}
-use Rattle.mt_layout.specs.declared.spans.Span.{Span}
-use Rattle.mt_layout.specs.Columns.{gap_column}
-use Rattle.mt_layout.specs.Sizes.{slots_of}
-use Rattle.mt_layout.specs.Spans.{longest_in}
-use Rattle.mt_path.specs.declared.paths.PathStep.{PathStep}
-use Rattle.mt_rows.specs.Sheet.{Sheet, MayTend, ReadsUpTo, tended}
-use Rattle.mt_rows.specs.Spans.{Table, row_spans}
-use Rattle.mt_gap.specs.declared.children.Child.{Child}
-use Rattle.mt_gap.specs.Children.{row_children}
-use Rattle.mt_gap.specs.Mending.{told_by, MayTell, MayMend, IsMended}
+use Rattle.mt_gap.proofs.Prelude.{◌≡◌, ℕ, ◌^◌, ◌<◌, ◌≤◌, List, Option, sym, ap, ◌∙◌, subst, AllByRecursion, RowKind, Leaf, Gapped, Span, gap_column, slots_of, longest_in, PathStep, Sheet, MayTend, ReadsUpTo, tended, Table, row_spans, Child, row_children, told_by, MayTell, MayMend, IsMended}
 use Rattle.mt_gap.proofs.ChildLists.{spans, spans_are}
 
 -- ---- a leaf

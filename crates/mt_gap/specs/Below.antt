@@ -1,8 +1,7 @@
 -- The holes below rows of a height: what stands in leaves as 0, from the left.
 -- Source: the kernel's core-api/maple_tree: a range of no entry is a slot of 0.
 use Rattle.std.specs.Prelude.{◌==◌, List, [], ◌∷◌, if◌then◌else◌}
-use Rattle.mt_base.specs.Holes.{Hole}
-use Rattle.mt_layout.specs.declared.spans.Span.{Span}
+use Rattle.mt_gap.specs.Prelude.{Hole, Span}
 use Rattle.mt_gap.specs.declared.children.Child.{Child}
 
 -- the hole that a leaf's span is, and none of an entry

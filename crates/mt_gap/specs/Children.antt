@@ -2,13 +2,7 @@
 -- Source: the kernel's include/linux/maple_tree.h, the gaps of maple_arange_64 beside its slots.
 use Rattle.std.specs.Prelude.{ℕ, ◌+◌, List, [], ◌∷◌, Option, Some, None}
 use Rattle.std.specs.List.{flat_map}
-use Rattle.mt_layout.specs.declared.items.Item.{Item}
-use Rattle.mt_layout.specs.declared.names.RowKind.{RowKind}
-use Rattle.mt_layout.specs.declared.spans.Span.{Span}
-use Rattle.mt_layout.specs.Columns.{items_at}
-use Rattle.mt_layout.specs.Rows.{row_in, named_kind}
-use Rattle.mt_layout.specs.Sizes.{slots_of, gaps_of}
-use Rattle.mt_rows.specs.Spans.{Table, base_of, root_span}
+use Rattle.mt_gap.specs.Prelude.{Item, RowKind, Span, items_at, row_in, named_kind, slots_of, gaps_of, Table, base_of, root_span}
 use Rattle.mt_gap.specs.declared.children.Child.{Child}
 
 -- items with their first indexes and their gap words; the first begins at `first`, each other behind the one before

@@ -2,17 +2,7 @@
 -- Source: this project's own.
 use Rattle.std.specs.Prelude.{◌≡◌, ℕ, ◌+◌, ◌*◌, ◌≤◌, true, All, List, [], ◌∷◌, Option, Some, length}
 use Rattle.std.specs.List.{flat_map}
-use Rattle.mt_base.specs.declared.kinds.Kind.{Kind}
-use Rattle.mt_base.specs.Call.{finds_room}
-use Rattle.mt_base.specs.Holes.{Hole, kept, holes_to}
-use Rattle.mt_base.specs.Width.{columns, greatest}
-use Rattle.mt_layout.specs.declared.names.RowKind.{RowKind}
-use Rattle.mt_layout.specs.declared.names.RowKind.TheVariants.{Leaf}
-use Rattle.mt_layout.specs.declared.spans.Span.{Span}
-use Rattle.mt_layout.specs.Rows.{row_in, named_kind}
-use Rattle.mt_rows.specs.Publish.{IsLawfulOf, map_by}
-use Rattle.mt_rows.specs.Sheet.{Sheet, Rooted, IsPlace, ReadsUpTo}
-use Rattle.mt_rows.specs.Trees.{height_in}
+use Rattle.mt_gap.specs.Prelude.{Kind, finds_room, Hole, kept, holes_to, columns, greatest, RowKind, Leaf, Span, row_in, named_kind, IsLawfulOf, map_by, Sheet, Rooted, IsPlace, ReadsUpTo, height_in}
 use Rattle.mt_gap.specs.declared.children.Child.{Child}
 use Rattle.mt_gap.specs.declared.windows.Window.{Window}
 use Rattle.mt_gap.specs.Below.{child_hole}

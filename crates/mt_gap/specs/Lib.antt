@@ -6,3 +6,4 @@ pub mod Mending
 pub mod Narrow
 pub mod Slots
 pub mod Ways
+pub mod Prelude

@@ -2,22 +2,7 @@
 -- Source: this project's own.
 use Rattle.std.specs.Prelude.{◌≡◌, ◌⊎◌, ℕ, zero, suc, ◌+◌, ◌<◌, ◌≤◌, true, false, List, [], ◌∷◌, length}
 use Rattle.std.specs.List.{AllByRecursion}
-use Rattle.mt_base.specs.Width.{greatest}
-use Rattle.mt_layout.specs.declared.names.RowKind.{RowKind}
-use Rattle.mt_layout.specs.declared.names.RowKind.TheVariants.{Gapped}
-use Rattle.mt_layout.specs.declared.spans.Span.{Span}
-use Rattle.mt_layout.specs.Columns.{gap_column}
-use Rattle.mt_layout.specs.Rows.{row_in}
-use Rattle.mt_layout.specs.Sizes.{slots_of}
-use Rattle.mt_path.specs.declared.paths.PathStep.{PathStep}
-use Rattle.mt_path.specs.Paths.{span_at, path_in}
-use Rattle.mt_rows.specs.Gaps.{covers}
-use Rattle.mt_rows.specs.Laws.{Tree, Stands, longest_below, kind_on}
-use Rattle.mt_rows.specs.Levels.{Levels, SameSpans}
-use Rattle.mt_rows.specs.Publish.{tree_on}
-use Rattle.mt_rows.specs.Replacement.{root_of}
-use Rattle.mt_rows.specs.Sheet.{Sheet}
-use Rattle.mt_rows.specs.Spans.{column, spans_in}
+use Rattle.mt_gap.specs.Prelude.{greatest, RowKind, Gapped, Span, gap_column, row_in, slots_of, PathStep, span_at, path_in, covers, Tree, Stands, longest_below, kind_on, Levels, SameSpans, tree_on, root_of, Sheet, column, spans_in}
 use Rattle.mt_gap.specs.Mending.{OnlyWords, KeepsOtherWords, IsLiveRow}
 
 -- the gap word of a slot is the longest hole below it; a leaf has no gap words

@@ -2,24 +2,7 @@
 -- Source: the kernel's lib/maple_tree.c, mas_parent_gap and mas_update_gap.
 use Rattle.std.specs.Prelude.{◌≡◌, ◌⊎◌, ℕ, zero, suc, ◌+◌, ◌^◌, ◌<◌, ◌≤◌, Bool, false, List, [], ◌∷◌, length, max}
 use Rattle.std.specs.List.{AllByRecursion}
-use Rattle.mt_base.specs.Width.{columns, greatest}
-use Rattle.mt_layout.specs.declared.names.RowKind.{RowKind}
-use Rattle.mt_layout.specs.declared.names.RowKind.TheVariants.{Leaf, Inner, Gapped}
-use Rattle.mt_layout.specs.declared.spans.Span.{Span}
-use Rattle.mt_layout.specs.Columns.{gap_column}
-use Rattle.mt_layout.specs.Sizes.{slots_of}
-use Rattle.mt_layout.specs.Spans.{longest_in}
-use Rattle.mt_path.specs.declared.paths.PathStep.{PathStep}
-use Rattle.mt_path.specs.Paths.{step_at, path_in}
-use Rattle.mt_path.specs.Handles.{leaf_in, leaf_spans}
-use Rattle.mt_rows.specs.Gaps.{covers, HasGapsBut}
-use Rattle.mt_rows.specs.Laws.{Tree, Stands, GapLaw}
-use Rattle.mt_rows.specs.Levels.{Levels}
-use Rattle.mt_rows.specs.Publish.{tree_on, LiveAreReached, NoneBuried}
-use Rattle.mt_rows.specs.Replacement.{root_of}
-use Rattle.mt_rows.specs.Spans.{Table, row_spans}
-use Rattle.mt_rows.specs.Sheet.{Sheet, Rooted, IsPlace, MayTend, life_of, is_buried, word_at, with_word}
-use Rattle.mt_rows.specs.declared.rows.Life.TheVariants.{Live}
+use Rattle.mt_gap.specs.Prelude.{columns, greatest, RowKind, Leaf, Inner, Gapped, Span, gap_column, slots_of, longest_in, PathStep, step_at, path_in, leaf_in, leaf_spans, covers, HasGapsBut, Tree, Stands, GapLaw, Levels, tree_on, LiveAreReached, NoneBuried, root_of, Table, row_spans, Sheet, Rooted, IsPlace, MayTend, life_of, is_buried, word_at, with_word, Live}
 use Rattle.mt_gap.specs.declared.children.Child.{Child}
 use Rattle.mt_gap.specs.Children.{row_children}
 use Rattle.mt_gap.specs.Slots.{gap_in}

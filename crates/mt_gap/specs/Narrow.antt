@@ -2,7 +2,7 @@
 -- Source: the kernel's lib/maple_tree.c, mas_anode_descend and mas_rev_awalk: a gap word tells whether room can be below a slot.
 use Rattle.std.specs.Prelude.{ℕ, ◌&&◌, Bool, List, [], ◌∷◌, ◌++◌, fold, nat_le, if◌then◌else◌}
 use Rattle.std.specs.List.{list_any}
-use Rattle.mt_layout.specs.declared.spans.Span.{Span}
+use Rattle.mt_gap.specs.Prelude.{Span}
 use Rattle.mt_gap.specs.declared.children.Child.{Child}
 
 -- the span has an index of the window

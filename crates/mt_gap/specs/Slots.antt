@@ -1,10 +1,7 @@
 -- What is read of one slot of a row: where it ends, and what stands there.
 -- Source: the kernel's lib/maple_tree.c, mas_safe_pivot, and the slots and gaps of include/linux/maple_tree.h.
 use Rattle.std.specs.Prelude.{ℕ, ◌+◌, nat_lt, if◌then◌else◌}
-use Rattle.mt_layout.specs.declared.names.RowKind.{RowKind}
-use Rattle.mt_layout.specs.Columns.{pivot_column, slot_column, gap_at}
-use Rattle.mt_layout.specs.Sizes.{slots_of, gaps_of}
-use Rattle.mt_rows.specs.Spans.{Table, base_of, column}
+use Rattle.mt_gap.specs.Prelude.{RowKind, pivot_column, slot_column, gap_at, slots_of, gaps_of, Table, base_of, column}
 use Rattle.mt_gap.specs.declared.children.Child.{Child}
 
 -- the last index of what stands in a slot of a row of this kind that ends at `max`

@@ -2,17 +2,7 @@
 -- Source: the kernel's lib/maple_tree.c, mas_empty_area, which stores where its search has come to.
 use Rattle.std.specs.Prelude.{◌≡◌, ℕ, ◌+◌, ◌<◌, ◌≤◌, ◌↔◌, ◌++◌, List, [], ◌∷◌, Some, None, IsNone, IfSome, length, take, if◌then◌else◌}
 use Rattle.std.specs.List.{flat_map}
-use Rattle.mt_base.specs.Holes.{lowest_in}
-use Rattle.mt_base.specs.Width.{greatest}
-use Rattle.mt_layout.specs.declared.names.RowKind.TheVariants.{Leaf}
-use Rattle.mt_layout.specs.declared.spans.Span.{Span}
-use Rattle.mt_layout.specs.Rows.{named_kind}
-use Rattle.mt_layout.specs.Spans.{Fills}
-use Rattle.mt_rows.specs.Sheet.{Rooted}
-use Rattle.mt_rows.specs.Spans.{root_span, spans_in}
-use Rattle.mt_path.specs.declared.paths.PathStep.{PathStep}
-use Rattle.mt_path.specs.Handles.{handle_in}
-use Rattle.mt_path.specs.Paths.{path_in, row_on}
+use Rattle.mt_gap.specs.Prelude.{lowest_in, greatest, Leaf, Span, named_kind, Fills, Rooted, root_span, spans_in, PathStep, handle_in, path_in, row_on}
 use Rattle.mt_gap.specs.declared.children.Child.{Child}
 use Rattle.mt_gap.specs.declared.searches.SoughtArea.{SoughtArea}
 use Rattle.mt_gap.specs.declared.ways.Below.{Below}

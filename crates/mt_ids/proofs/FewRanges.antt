@@ -1,20 +1,6 @@
 -- A draw adds one range at the most, and so a tree that nobody else holds rows of does not lack rows.
-use Rattle.std.proofs.Common.{◌≡◌, ℕ, ◌+◌, ◌-◌, ◌*◌, ◌/◌, ◌<◌, ◌≤◌, ◌==◌, Bool, true, false, List, [], ◌∷◌, ◌++◌, Some, length, ap, subst, nat_lt, nat_le, inl, inr, arith, length-append}
-use Rattle.std.proofs.lemmas.Bool.{cases_lt, cond_both, or_parts, lt-ltb, le-ltb, le-leb}
-use Rattle.mt_base.specs.declared.kinds.Kind.{Kind}
-use Rattle.mt_base.specs.declared.ranges.Range.{Range}
-use Rattle.mt_base.specs.declared.replies.Reply.{Reply}
+use Rattle.mt_ids.proofs.Prelude.{◌≡◌, ℕ, ◌+◌, ◌-◌, ◌*◌, ◌/◌, ◌<◌, ◌≤◌, ◌==◌, Bool, true, false, List, [], ◌∷◌, ◌++◌, Some, length, ap, subst, nat_lt, nat_le, inl, inr, arith, length-append, cases_lt, cond_both, or_parts, lt-ltb, le-ltb, le-leb, Kind, Range, Reply, Shortage, low, IsMap, over, overlaps, is_held, parts_below, parts_above, part_stored, IsShort, Limits, most_rows, low_is_room, few_unheld, Allocation, limits_at, IsDrawShort, Draws}
 use Rattle.mt_base.specs.declared.replies.Reply.TheVariants as replies
-use Rattle.mt_base.specs.declared.replies.Shortage.{Shortage}
-use Rattle.mt_base.specs.Holes.{low}
-use Rattle.mt_base.specs.Map.{IsMap, over, overlaps, is_held, parts_below, parts_above, part_stored}
-use Rattle.mt_base.specs.Nodes.{IsShort, Limits}
-use Rattle.mt_base.specs.Width.{most_rows}
-use Rattle.mt_base.proofs.FreeAreas.{low_is_room}
-use Rattle.mt_base.proofs.Shortages.{few_unheld}
-use Rattle.mt_ids.specs.Allocation.{Allocation, limits_at}
-use Rattle.mt_ids.specs.Draws.{IsDrawShort}
-use Rattle.mt_ids.specs.Window.{Draws}
 
 -- ---- how many ranges
 

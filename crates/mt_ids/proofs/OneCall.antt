@@ -1,24 +1,6 @@
 -- What one call for one index answers, by the map.
-use Rattle.std.proofs.Common.{◌≡◌, ◌≢◌, ℕ, ◌+◌, ◌-◌, ◌≤◌, ◌==◌, ◌||◌, Bool, true, false, not, List, [], ◌∷◌, Option, Some, None, min, max, nat_lt, refl, sym, ap, ◌∙◌, subst, inl, inr, arith}
-use Rattle.std.proofs.lemmas.Bool.{cond_both, le-ltb, leb-true}
-use Rattle.mt_base.specs.declared.kinds.Kind.{Kind}
-use Rattle.mt_base.specs.declared.ranges.Range.{Range}
-use Rattle.mt_base.specs.declared.calls.Call.TheVariants.{Alloc}
-use Rattle.mt_base.specs.declared.replies.Reply.{Reply}
+use Rattle.mt_ids.proofs.Prelude.{◌≡◌, ◌≢◌, ℕ, ◌+◌, ◌-◌, ◌≤◌, ◌==◌, ◌||◌, Bool, true, false, not, List, [], ◌∷◌, Option, Some, None, min, max, nat_lt, refl, sym, ap, ◌∙◌, subst, inl, inr, arith, cond_both, le-ltb, leb-true, Kind, Range, Alloc, Reply, Shortage, acted, finds_room, is_bad_area, placed, reserved, map_after, map_by_reply, Hole, clip, fits, kept, low, lowest_in, over, Changes, IsRefused, greatest_of, Allocation, IsNextCall, limits_at, recorded, is_bad_draw, LiesIn, Draws, holes}
 use Rattle.mt_base.specs.declared.replies.Reply.TheVariants as reply
-use Rattle.mt_base.specs.declared.replies.Shortage.{Shortage}
-use Rattle.mt_base.specs.Call.{acted, finds_room, is_bad_area, placed}
-use Rattle.mt_base.specs.Entry.{reserved}
-use Rattle.mt_base.specs.History.{map_after, map_by_reply}
-use Rattle.mt_base.specs.Holes.{Hole, clip, fits, kept, low, lowest_in}
-use Rattle.mt_base.specs.Map.{over}
-use Rattle.mt_base.specs.Nodes.{Changes, IsRefused}
-use Rattle.mt_base.specs.Width.{greatest_of}
-use Rattle.mt_ids.specs.Allocation.{Allocation, IsNextCall, limits_at, recorded}
-use Rattle.mt_ids.specs.Draws.{is_bad_draw}
-use Rattle.mt_ids.specs.Runs.{LiesIn}
-use Rattle.mt_ids.specs.Window.{Draws}
-use Rattle.mt_base.proofs.FreeAreas.{holes}
 
 -- ---- which calls are invalid
 

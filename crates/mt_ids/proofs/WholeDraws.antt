@@ -1,17 +1,6 @@
 -- What a whole draw comes to, of one call or of two.
-use Rattle.std.proofs.Common.{◌≡◌, ℕ, ◌+◌, ◌-◌, ◌<◌, ◌≤◌, ◌&&◌, not, Bool, true, false, List, Option, Some, None, Result, Ok, Err, IfOk, IfErr, IfSome, refl, sym, ap, ◌∙◌, subst, arith}
-use Rattle.std.specs.Prelude.{if◌then◌else◌}
-use Rattle.std.specs.Option.{unwrap_or}
-use Rattle.mt_base.specs.declared.calls.Call.TheVariants.{Alloc}
-use Rattle.mt_base.specs.declared.ranges.Range.{Range}
-use Rattle.mt_base.specs.declared.replies.Reply.{Reply}
+use Rattle.mt_ids.proofs.Prelude.{◌≡◌, ℕ, ◌+◌, ◌-◌, ◌<◌, ◌≤◌, ◌&&◌, not, Bool, true, false, List, Option, Some, None, Result, Ok, Err, IfOk, IfErr, IfSome, refl, sym, ap, ◌∙◌, subst, arith, if◌then◌else◌, unwrap_or, Alloc, Range, Reply, low, IsRefused, Allocation, Made, IsAfter, IsNextCall, IsSince, limits_at, AreMade, IsDrawn, calls_of, drawn, first_found, from_position, is_bad_draw, is_past, is_twofold, last_start, came_by, came_to, after_reply, after_answer, IsBeforeLast, IsLastAnswer, Draws}
 use Rattle.mt_base.specs.declared.replies.Reply.TheVariants as reply
-use Rattle.mt_base.specs.Holes.{low}
-use Rattle.mt_base.specs.Nodes.{IsRefused}
-use Rattle.mt_ids.specs.Allocation.{Allocation, Made, IsAfter, IsNextCall, IsSince, limits_at}
-use Rattle.mt_ids.specs.Draws.{AreMade, IsDrawn, calls_of, drawn, first_found, from_position, is_bad_draw, is_past, is_twofold, last_start}
-use Rattle.mt_ids.specs.Runs.{came_by, came_to, after_reply, after_answer, IsBeforeLast, IsLastAnswer}
-use Rattle.mt_ids.specs.Window.{Draws}
 use Rattle.mt_ids.proofs.OneCall.{Answers, LacksNow, one_call, lies}
 
 -- the tree had no more calls left

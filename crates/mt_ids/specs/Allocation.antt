@@ -1,14 +1,7 @@
 -- A tree as one sees it who takes single indexes of it.
 -- Source: the kernel's lib/maple_tree.c, mas_alloc_cyclic, which takes one index at a time.
 use Rattle.std.specs.Prelude.{◌≡◌, ℕ, ◌+◌, ◌/◌, ◌<◌, Bool, true, List, Option, Some}
-use Rattle.mt_base.specs.declared.kinds.Kind.{Kind}
-use Rattle.mt_base.specs.declared.ranges.Range.{Range}
-use Rattle.mt_base.specs.declared.calls.Call.{Call}
-use Rattle.mt_base.specs.declared.replies.Reply.{Reply}
-use Rattle.mt_base.specs.declared.replies.Reply.TheVariants.{NoNodes}
-use Rattle.mt_base.specs.declared.replies.Shortage.{Shortage}
-use Rattle.mt_base.specs.History.{Record, IsAnswered, map_after}
-use Rattle.mt_base.specs.Nodes.{Limits}
+use Rattle.mt_ids.specs.Prelude.{Kind, Range, Call, Reply, NoNodes, Shortage, Record, IsAnswered, map_after, Limits}
 
 -- a call and what it was answered
 pub record Made : Type 0 where

@@ -3,18 +3,8 @@
 -- Source: the kernel's lib/maple_tree.c, mtree_alloc_cyclic.
 use Rattle.std.specs.Prelude.{◌≡◌, ℕ, ◌+◌, ◌-◌, ◌<◌, ◌≤◌, ◌==◌, ◌&&◌, ◌||◌, not, nat_lt, Bool, true, false, List, Option, Some, None, if◌then◌else◌}
 use Rattle.std.specs.Option.{unwrap_or}
-use Rattle.mt_base.specs.declared.kinds.Kind.{Kind}
-use Rattle.mt_base.specs.declared.ranges.Range.{Range}
-use Rattle.mt_base.specs.declared.calls.Call.TheVariants.{Alloc}
-use Rattle.mt_base.specs.declared.replies.Reply.{Reply}
+use Rattle.mt_ids.specs.Prelude.{Kind, Range, Alloc, Reply, Shortage, finds_room, reserved, low, over, IsRefused, greatest_of}
 use Rattle.mt_base.specs.declared.replies.Reply.TheVariants as reply
-use Rattle.mt_base.specs.declared.replies.Shortage.{Shortage}
-use Rattle.mt_base.specs.Call.{finds_room}
-use Rattle.mt_base.specs.Entry.{reserved}
-use Rattle.mt_base.specs.Holes.{low}
-use Rattle.mt_base.specs.Map.{over}
-use Rattle.mt_base.specs.Nodes.{IsRefused}
-use Rattle.mt_base.specs.Width.{greatest_of}
 use Rattle.mt_ids.specs.Allocation.{Allocation, limits_at}
 use Rattle.mt_ids.specs.Window.{Draws}
 use Rattle.mt_ids.specs.declared.ids.Drawn.{Drawn}

@@ -1,7 +1,7 @@
 -- What the last answer of a draw comes to.
 -- Source: this project's own.
 use Rattle.std.specs.Prelude.{◌≡◌, ℕ, ◌+◌, ◌≤◌, Bool, None, Result, Ok, Err}
-use Rattle.mt_base.specs.declared.replies.Reply.{Reply}
+use Rattle.mt_ids.specs.Prelude.{Reply}
 use Rattle.mt_base.specs.declared.replies.Reply.TheVariants as reply
 use Rattle.mt_ids.specs.Allocation.{Allocation, IsSince}
 use Rattle.mt_ids.specs.Draws.{position_behind, calls_of, from_position, last_start}

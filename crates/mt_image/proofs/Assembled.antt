@@ -1,15 +1,6 @@
 -- The words behind the head, and the rows made of them.
-use Rattle.std.proofs.Common.{◌≡◌, ℕ, zero, suc, ◌+◌, ◌*◌, ◌/◌, ◌%◌, ◌≤◌, List, ◌++◌, Some, Ok, Err, length, drop, replicate, refl, sym, ap, ◌∙◌, subst, arith, length-append}
-use Rattle.std.proofs.lemmas.List.{drop_at, length-replicate}
-use Rattle.mt_base.specs.declared.kinds.Kind.{Kind}
-use Rattle.mt_base.specs.Width.{columns, first_row, kind_width, most_rows}
-use Rattle.mt_rows.specs.Sheet.{OnlyReads, Rooted, Sheet}
-use Rattle.mt_rows.specs.OfWords.{IsMadeOf, tree_made}
-use Rattle.mt_rows.specs.Publish.{tree_as}
-use Rattle.mt_check.specs.Check.{checked}
-use Rattle.mt_image.specs.Reading.{HoldImage, behind_head, image_in, lawful, number_at, numbers_from, image_tree, image_words}
+use Rattle.mt_image.proofs.Prelude.{◌≡◌, ℕ, zero, suc, ◌+◌, ◌*◌, ◌/◌, ◌%◌, ◌≤◌, List, ◌++◌, Some, Ok, Err, length, drop, replicate, refl, sym, ap, ◌∙◌, subst, arith, length-append, drop_at, length-replicate, Kind, columns, first_row, kind_width, most_rows, OnlyReads, Rooted, Sheet, IsMadeOf, tree_made, tree_as, checked, HoldImage, behind_head, image_in, lawful, number_at, numbers_from, image_tree, image_words, ImageError}
 use Rattle.mt_image.proofs.Sizes.{divided, nothing_left}
-use Rattle.mt_image.specs.declared.errors.ImageError.{ImageError}
 
 pub numbers_length : (bytes : List ℕ) (at n : ℕ) → length (numbers_from bytes at n) ≡ n
 unfolding numbers_from

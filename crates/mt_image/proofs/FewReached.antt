@@ -1,17 +1,5 @@
 -- No row of a lawful tree is reached twice, and no more are reached than there are.
-use Rattle.std.proofs.Common.{◌≡◌, ◌≢◌, ℕ, ◌+◌, ◌<◌, ◌≤◌, ◌==◌, List, [], ◌∷◌, length, refl, sym, ap, inl, inr, arith, eq-eqb}
-use Rattle.std.specs.List.{AllByRecursion, AllPairs}
-use Rattle.std.proofs.lemmas.Bool.{cases_eq}
-use Rattle.std.proofs.lemmas.List.Elements.{All-from_recursion}
-use Rattle.std.proofs.lemmas.List.Kept.{AllPairs-cons}
-use Rattle.mt_base.specs.declared.kinds.Kind.{Kind}
-use Rattle.mt_base.specs.Width.{first_row}
-use Rattle.mt_free.proofs.Rows.{apart_are_few}
-use Rattle.mt_rows.specs.Levels.{one_if}
-use Rattle.mt_rows.specs.Trees.{reached_in}
-use Rattle.mt_rows.specs.Sheet.{Rooted}
-use Rattle.mt_rows.specs.Publish.{tree_as, IsLawfulOf}
-use Rattle.mt_rows.proofs.Once.{once_in}
+use Rattle.mt_image.proofs.Prelude.{◌≡◌, ◌≢◌, ℕ, ◌+◌, ◌<◌, ◌≤◌, ◌==◌, List, [], ◌∷◌, length, refl, sym, ap, inl, inr, arith, eq-eqb, AllByRecursion, AllPairs, cases_eq, All-from_recursion, AllPairs-cons, Kind, first_row, apart_are_few, one_if, reached_in, Rooted, tree_as, IsLawfulOf, once_in}
 use Rattle.mt_rows.proofs.Reached as reached
 use Rattle.mt_image.proofs.Places.{times_of}
 

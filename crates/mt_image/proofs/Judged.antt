@@ -1,18 +1,5 @@
 -- What the check of rows and their walk say of an image.
-use Rattle.std.proofs.Common.{◌≡◌, ℕ, List, Option, Ok, Err, sym, ap, ◌∙◌, subst}
-use Rattle.mt_base.specs.declared.kinds.Kind.{Kind}
-use Rattle.mt_base.specs.declared.widths.Width.{Width}
-use Rattle.mt_base.specs.Width.{first_row, kind_width}
-use Rattle.mt_check.specs.Check.{checked}
-use Rattle.mt_check.specs.declared.faults.Fault.{Fault}
-use Rattle.mt_check.specs.declared.faults.Form.{Form}
-use Rattle.mt_rows.specs.Trees.{reached_in}
-use Rattle.mt_rows.specs.Sheet.{Rooted}
-use Rattle.mt_rows.specs.Publish.{tree_as, with_published}
-use Rattle.mt_rows.specs.declared.rows.Place.TheVariants.{Root}
-use Rattle.mt_image.specs.Orders.{stray_from, stray_in}
-use Rattle.mt_image.specs.Reading.{lawful, placed}
-use Rattle.mt_image.specs.declared.errors.ImageError.TheVariants.{Broken}
+use Rattle.mt_image.proofs.Prelude.{◌≡◌, ℕ, List, Option, Ok, Err, sym, ap, ◌∙◌, subst, Kind, Width, first_row, kind_width, checked, Fault, Form, reached_in, Rooted, tree_as, with_published, Root, stray_from, stray_in, lawful, placed, Broken}
 
 pub told_fault : (kind : Kind) (t : Rooted) (root : ℕ) (e : Fault) → root ≡ t.root → Err e ≡ checked (tree_as kind (with_published t Root root)) → lawful (record { kind = kind; tree = t }) (checked (tree_as kind t)) ≡ Err (Broken e.row e.law)
 told_fault kind t root e is fault =

@@ -11,3 +11,4 @@ pub mod Sizes
 pub mod Judged
 pub mod Assembled
 pub mod Written
+mod Prelude

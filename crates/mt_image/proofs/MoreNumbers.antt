@@ -1,6 +1,5 @@
 -- Numbers that are read one after another.
-use Rattle.std.proofs.Common.{◌≡◌, ℕ, zero, suc, ◌+◌, ◌*◌, List, [], ◌∷◌, ◌++◌, refl, ap, ◌∙◌, arith}
-use Rattle.mt_image.specs.Reading.{number_at, numbers_from}
+use Rattle.mt_image.proofs.Prelude.{◌≡◌, ℕ, zero, suc, ◌+◌, ◌*◌, List, [], ◌∷◌, ◌++◌, refl, ap, ◌∙◌, arith, number_at, numbers_from}
 
 -- one number more at the end
 pub number_more : (bytes : List ℕ) (at n : ℕ) → numbers_from bytes at (suc n) ≡ numbers_from bytes at n ++ (number_at bytes (at + 8 * n) ∷ [])

@@ -1,10 +1,5 @@
 -- Numbers that are written as bytes are read back.
-use Rattle.std.proofs.Common.{◌≡◌, ℕ, ◌+◌, ◌-◌, ◌^◌, ◌<◌, List, [], ◌∷◌, ◌++◌, length, take, drop, refl, sym, ap, ◌∙◌, arith, length-append, append_assoc}
-use Rattle.std.specs.List.{AllByRecursion, flat_map, slice_range}
-use Rattle.std.specs.Int.{w64, to_le_bytes, from_le_bytes}
-use Rattle.std.proofs.lemmas.List.{drop_at}
-use Rattle.std.proofs.lemmas.Nat.{from_le_bytes-to_le_bytes_8}
-use Rattle.mt_image.specs.Reading.{number_at, numbers_from}
+use Rattle.mt_image.proofs.Prelude.{◌≡◌, ℕ, ◌+◌, ◌-◌, ◌^◌, ◌<◌, List, [], ◌∷◌, ◌++◌, length, take, drop, refl, sym, ap, ◌∙◌, arith, length-append, append_assoc, AllByRecursion, flat_map, slice_range, w64, to_le_bytes, from_le_bytes, drop_at, from_le_bytes-to_le_bytes_8, number_at, numbers_from}
 
 eight : (n : ℕ) → length (to_le_bytes w64 n) ≡ 8
 eight n = refl

@@ -1,39 +1,6 @@
 -- Of two trees in the order of the walk, one of which is a copy of the other, the words are the same.
-use Rattle.std.proofs.Common.{◌≡◌, ◌≢◌, ◌⊎◌, ℕ, zero, suc, ◌+◌, ◌-◌, ◌*◌, ◌/◌, ◌%◌, ◌<◌, ◌≤◌, List, [], ◌∷◌, Option, Some, length, map, drop, get_or, refl, sym, ap, ◌∙◌, subst, inl, inr, arith, length-drop}
-use Rattle.std.specs.Prelude.{slice_index}
-use Rattle.std.specs.List.{range_with_len, slice_get}
-use Rattle.std.proofs.lemmas.Bool.{cases_eq, cases_lt}
-use Rattle.std.proofs.lemmas.List.{ext_get_or, get_or-drop}
-use Rattle.mt_base.specs.declared.kinds.Kind.{Kind}
-use Rattle.mt_base.specs.declared.widths.Width.{Width}
-use Rattle.mt_base.specs.declared.widths.Width.TheVariants.{Long, Short}
-use Rattle.mt_base.specs.Width.{columns, first_row}
-use Rattle.mt_layout.specs.declared.items.Item.{Item}
-use Rattle.mt_layout.specs.declared.names.RowKind.{RowKind}
-use Rattle.mt_layout.specs.declared.names.RowKind.TheVariants.{Leaf, Inner, Gapped}
-use Rattle.mt_layout.specs.declared.spans.Span.{Span}
-use Rattle.mt_layout.specs.Columns.{IsLayout, slot_column, row_words}
-use Rattle.mt_layout.specs.Rows.{row_in, parent_at}
-use Rattle.mt_layout.specs.Sizes.{slots_of, gaps_of}
-use Rattle.mt_layout.specs.Spans.{spans_from}
-use Rattle.mt_layout.proofs.NameLaws.{Names-named_kind}
-use Rattle.mt_layout.proofs.RowSizes.{layout_of, few_slots_of, slot_within}
-use Rattle.mt_layout.proofs.RowWords.{item_or, get_or-padded, used, used-slot}
-use Rattle.mt_layout.proofs.SpanLists.{length-spans_from}
-use Rattle.mt_rows.specs.Spans.{Table, column, spans_by, spans_in, root_span, inner_of}
-use Rattle.mt_rows.specs.Levels.{Levels, level}
-use Rattle.mt_rows.specs.Trees.{reached_in}
-use Rattle.mt_rows.specs.Laws.{Tree, IsRow, IsTended, Stands, ParentsFrom, kind_on, items_in}
-use Rattle.mt_rows.specs.Replacement.{root_of}
-use Rattle.mt_rows.specs.Sheet.{Rooted}
-use Rattle.mt_rows.specs.Publish.{tree_as, StandsAt}
-use Rattle.mt_rows.proofs.FewSpans.{row_most}
-use Rattle.mt_rows.proofs.Heights.{level_next}
-use Rattle.mt_rows.proofs.InnerKinds.{inner_no_leaf}
+use Rattle.mt_image.proofs.Prelude.{◌≡◌, ◌≢◌, ◌⊎◌, ℕ, zero, suc, ◌+◌, ◌-◌, ◌*◌, ◌/◌, ◌%◌, ◌<◌, ◌≤◌, List, [], ◌∷◌, Option, Some, length, map, drop, get_or, refl, sym, ap, ◌∙◌, subst, inl, inr, arith, length-drop, slice_index, range_with_len, slice_get, cases_eq, cases_lt, ext_get_or, get_or-drop, Kind, Width, Long, Short, columns, first_row, Item, RowKind, Leaf, Inner, Gapped, Span, IsLayout, slot_column, row_words, row_in, parent_at, slots_of, gaps_of, spans_from, Names-named_kind, layout_of, few_slots_of, slot_within, item_or, get_or-padded, used, used-slot, length-spans_from, Table, column, spans_by, spans_in, root_span, inner_of, Levels, level, reached_in, Tree, IsRow, IsTended, Stands, ParentsFrom, kind_on, items_in, root_of, Rooted, tree_as, StandsAt, row_most, level_next, inner_no_leaf, image_of, image_parts, words_of, with_new_row, slot_renamed, IsCopy, IsGood}
 use Rattle.mt_rows.proofs.Reached as reached
-use Rattle.mt_image.specs.Bytes.{image_of, image_parts, words_of}
-use Rattle.mt_dup.specs.Copy.{with_new_row, slot_renamed, IsCopy}
-use Rattle.mt_image.specs.Orders.{IsGood}
 use Rattle.mt_image.proofs.Places.{times_of, in_range, fixed, as_many}
 
 -- ---- words that stay

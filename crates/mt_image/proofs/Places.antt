@@ -1,10 +1,5 @@
 -- Rows at their places of a walk.
-use Rattle.std.proofs.Common.{◌≡◌, ℕ, zero, suc, ◌+◌, ◌<◌, ◌≤◌, ◌==◌, true, List, [], ◌∷◌, ◌++◌, Some, None, map, refl, ap, ◌∙◌, subst, inl, inr, arith, eq-eqb}
-use Rattle.std.specs.List.{range_with_len}
-use Rattle.std.proofs.lemmas.Bool.{cases_Bool, cases_eq, eqb-true}
-use Rattle.mt_rows.specs.Levels.{one_if, tally}
-use Rattle.mt_rows.proofs.Lists.{tally-append}
-use Rattle.mt_image.specs.Orders.{stray_from}
+use Rattle.mt_image.proofs.Prelude.{◌≡◌, ℕ, zero, suc, ◌+◌, ◌<◌, ◌≤◌, ◌==◌, true, List, [], ◌∷◌, ◌++◌, Some, None, map, refl, ap, ◌∙◌, subst, inl, inr, arith, eq-eqb, range_with_len, cases_Bool, cases_eq, eqb-true, one_if, tally, tally-append, stray_from}
 
 abbrev pub times_of : ℕ → List ℕ → ℕ
 times_of row rows = tally (λ (r : ℕ). r == row) rows

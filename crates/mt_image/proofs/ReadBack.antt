@@ -1,21 +1,6 @@
 -- An image is read as the tree that it was made of, and what is read as a tree is its image.
-use Rattle.std.proofs.Common.{◌≡◌, ℕ, suc, ◌*◌, ◌^◌, ◌<◌, ◌==◌, true, false, List, [], ◌∷◌, ◌++◌, Some, Ok, length, drop, get_or, replicate, codes, nat_lt, refl, sym, ap, ◌∙◌, arith, append-nil, length-append, length-drop, eq-eqb, le-ltb}
-use Rattle.std.specs.List.{flat_map}
-use Rattle.std.specs.Int.{w64, to_le_bytes}
-use Rattle.mt_base.specs.declared.kinds.Kind.{Kind}
+use Rattle.mt_image.proofs.Prelude.{◌≡◌, ℕ, suc, ◌*◌, ◌^◌, ◌<◌, ◌==◌, true, false, List, [], ◌∷◌, ◌++◌, Some, Ok, length, drop, get_or, replicate, codes, nat_lt, refl, sym, ap, ◌∙◌, arith, append-nil, length-append, length-drop, eq-eqb, le-ltb, flat_map, w64, to_le_bytes, Kind, Range, Width, columns, first_row, kind_width, most_rows, Fault, checked, first_or, form_of, complete, Rooted, tree_as, map_by, image_of, kind_code, words_of, IsImageOf, IsImageOfMap, IsOrderedCopy, IsGood, number_at, numbers_from, kind_numbered, image_tree, lawful, placed, image_length, image_of_kind, image_in}
 use Rattle.mt_base.specs.declared.kinds.Kind.TheVariants as kinds
-use Rattle.mt_base.specs.declared.ranges.Range.{Range}
-use Rattle.mt_base.specs.declared.widths.Width.{Width}
-use Rattle.mt_base.specs.Width.{columns, first_row, kind_width, most_rows}
-use Rattle.mt_check.specs.declared.faults.Fault.{Fault}
-use Rattle.mt_check.specs.Check.{checked, first_or, form_of}
-use Rattle.mt_check.proofs.Complete.{complete}
-use Rattle.mt_rows.specs.Sheet.{Rooted}
-use Rattle.mt_rows.specs.Publish.{tree_as, map_by}
-use Rattle.mt_image.specs.Bytes.{image_of, kind_code, words_of}
-use Rattle.mt_image.specs.Images.{IsImageOf, IsImageOfMap, IsOrderedCopy}
-use Rattle.mt_image.specs.Orders.{IsGood}
-use Rattle.mt_image.specs.Reading.{number_at, numbers_from, kind_numbered, image_tree, lawful, placed, image_length, image_of_kind, image_in}
 use Rattle.mt_image.proofs.Numbers.{numbers_read}
 use Rattle.mt_image.proofs.Sizes.{words_left}
 use Rattle.mt_image.proofs.WalkOrder.{in_order}

@@ -1,23 +1,5 @@
 -- What is read as an image is written as the same bytes.
-use Rattle.std.proofs.Common.{◌≡◌, ℕ, zero, suc, ◌+◌, ◌-◌, ◌*◌, ◌^◌, ◌<◌, ◌≤◌, ◌==◌, Bool, true, false, List, [], ◌∷◌, ◌++◌, Option, Some, None, Result, Ok, Err, length, take, drop, replicate, codes, nat_lt, refl, sym, ap, ◌∙◌, subst, inl, inr, arith, length-append, length-drop, length-take}
-use Rattle.std.specs.Prelude.{IsOk}
-use Rattle.std.specs.List.{AllByRecursion, find, flat_map, slice_range}
-use Rattle.std.specs.Int.{w64, from_le_bytes, to_le_bytes}
-use Rattle.std.specs.Str.{bytes_eq}
-use Rattle.std.proofs.lemmas.Bool.{and_parts, cases_Bool, eqb-true, ltb-false}
-use Rattle.std.proofs.lemmas.List.{drop-drop, drop_all, drop_at, get_or-drop, length-replicate, take-append-drop}
-use Rattle.std.proofs.lemmas.Nat.{le_bytes_8}
-use Rattle.mt_base.specs.declared.kinds.Kind.{Kind}
-use Rattle.mt_base.specs.Width.{columns, first_row, kind_width, most_rows}
-use Rattle.mt_check.specs.declared.faults.Fault.{Fault}
-use Rattle.mt_check.specs.declared.faults.Form.{Form}
-use Rattle.mt_check.specs.Check.{checked}
-use Rattle.mt_check.proofs.Whole.{ok_lawful}
-use Rattle.mt_rows.specs.Sheet.{Rooted}
-use Rattle.mt_rows.specs.Publish.{tree_as}
-use Rattle.mt_image.specs.Bytes.{image_of, kind_code, words_of}
-use Rattle.mt_image.specs.Orders.{IsGood, IsTable, stray_in}
-use Rattle.mt_image.specs.Reading.{AreBytes, Image, number_at, numbers_from, all_kinds, kind_numbered, image_tree, lawful, placed, image_length, image_of_kind, image_in}
+use Rattle.mt_image.proofs.Prelude.{◌≡◌, ℕ, zero, suc, ◌+◌, ◌-◌, ◌*◌, ◌^◌, ◌<◌, ◌≤◌, ◌==◌, Bool, true, false, List, [], ◌∷◌, ◌++◌, Option, Some, None, Result, Ok, Err, length, take, drop, replicate, codes, nat_lt, refl, sym, ap, ◌∙◌, subst, inl, inr, arith, length-append, length-drop, length-take, IsOk, AllByRecursion, find, flat_map, slice_range, w64, from_le_bytes, to_le_bytes, bytes_eq, and_parts, cases_Bool, eqb-true, ltb-false, drop-drop, drop_all, drop_at, get_or-drop, length-replicate, take-append-drop, le_bytes_8, Kind, columns, first_row, kind_width, most_rows, Fault, Form, checked, ok_lawful, Rooted, tree_as, image_of, kind_code, words_of, IsGood, IsTable, stray_in, AreBytes, Image, number_at, numbers_from, all_kinds, kind_numbered, image_tree, lawful, placed, image_length, image_of_kind, image_in}
 use Rattle.mt_image.proofs.Assembled.{numbers_length}
 use Rattle.mt_image.proofs.Sizes.{all_words}
 use Rattle.mt_image.proofs.WalkOrder.{not_stray}

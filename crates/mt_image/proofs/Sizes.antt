@@ -1,10 +1,5 @@
 -- How large an image is, by the width of its rows.
-use Rattle.std.proofs.Common.{◌≡◌, ℕ, ◌+◌, ◌-◌, ◌*◌, ◌/◌, ◌%◌, ◌^◌, ◌<◌, ◌≤◌, arith}
-use Rattle.mt_base.specs.declared.widths.Width.{Width}
-use Rattle.mt_base.specs.declared.widths.Width.TheVariants.{Long, Short}
-use Rattle.mt_base.specs.declared.kinds.Kind.{Kind}
-use Rattle.mt_base.specs.Width.{columns, first_row, kind_width, most_rows}
-use Rattle.mt_image.specs.Reading.{image_length}
+use Rattle.mt_image.proofs.Prelude.{◌≡◌, ℕ, ◌+◌, ◌-◌, ◌*◌, ◌/◌, ◌%◌, ◌^◌, ◌<◌, ◌≤◌, arith, Width, Long, Short, Kind, columns, first_row, kind_width, most_rows, image_length}
 
 words_few : (width : Width) (rows : ℕ) → rows ≤ most_rows → rows * columns width ≤ most_rows * 64
 words_few Long rows few = omega arith

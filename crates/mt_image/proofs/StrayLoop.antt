@@ -1,8 +1,5 @@
 -- The rows of a walk, compared one after another.
-use Rattle.std.proofs.Common.{◌≡◌, ◌≢◌, ℕ, zero, suc, ◌+◌, ◌-◌, ◌<◌, ◌≤◌, ◌==◌, true, false, List, [], ◌∷◌, Option, Some, None, drop, refl, ap, ◌∙◌, arith, eq-eqb, ne_eqb}
-use Rattle.std.specs.List.{slice_get}
-use Rattle.mt_base.specs.Width.{first_row}
-use Rattle.mt_image.specs.Orders.{stray_from}
+use Rattle.mt_image.proofs.Prelude.{◌≡◌, ◌≢◌, ℕ, zero, suc, ◌+◌, ◌-◌, ◌<◌, ◌≤◌, ◌==◌, true, false, List, [], ◌∷◌, Option, Some, None, drop, refl, ap, ◌∙◌, arith, eq-eqb, ne_eqb, slice_get, first_row, stray_from}
 
 -- what is found from a place on
 abbrev pub from_place : List ℕ → ℕ → ℕ → Option ℕ

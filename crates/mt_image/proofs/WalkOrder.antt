@@ -1,11 +1,5 @@
 -- The rows of a lawful tree, none of which is stray, are in the order of the walk.
-use Rattle.std.proofs.Common.{◌≡◌, None, ap, ◌∙◌}
-use Rattle.mt_base.specs.declared.kinds.Kind.{Kind}
-use Rattle.mt_base.specs.Width.{first_row}
-use Rattle.mt_rows.specs.Trees.{reached_in}
-use Rattle.mt_rows.specs.Sheet.{Rooted}
-use Rattle.mt_rows.specs.Publish.{IsLawfulOf}
-use Rattle.mt_image.specs.Orders.{AreRowsInOrder, stray_from, stray_in}
+use Rattle.mt_image.proofs.Prelude.{◌≡◌, None, ap, ◌∙◌, Kind, first_row, reached_in, Rooted, IsLawfulOf, AreRowsInOrder, stray_from, stray_in}
 use Rattle.mt_image.proofs.FewReached.{reached_once, reached_inside}
 use Rattle.mt_image.proofs.Places.{whole_in_order, stray_none}
 

@@ -1,19 +1,5 @@
 -- What is written is the image of a copy in the order of the walk.
-use Rattle.std.proofs.Common.{◌≡◌, ℕ, zero, suc, ◌-◌, ◌*◌, ◌^◌, ◌<◌, ◌≤◌, false, List, [], ◌∷◌, ◌++◌, length, take, drop, replicate, codes, refl, sym, ap, ◌∙◌, subst, inl, inr, arith, append_assoc, length-drop}
-use Rattle.std.specs.Prelude.{slice_index}
-use Rattle.std.specs.List.{AllByRecursion, flat_map, range_with_len}
-use Rattle.std.specs.Int.{w64, to_le_bytes}
-use Rattle.std.proofs.lemmas.Bool.{cases_Bool, cases_lt, ltb-true}
-use Rattle.std.proofs.lemmas.List.{ext_get_or, length-map, take_all}
-use Rattle.mt_base.specs.declared.kinds.Kind.{Kind}
-use Rattle.mt_base.specs.Width.{columns, first_row, kind_width, most_rows}
-use Rattle.mt_rows.specs.declared.rows.Place.TheVariants.{Root}
-use Rattle.mt_rows.specs.Trees.{reached_in}
-use Rattle.mt_rows.specs.Sheet.{Rooted, Sheet, IsWhole}
-use Rattle.mt_rows.specs.Publish.{with_published, map_by, is_reached, IsLawfulOf, MayPlant}
-use Rattle.mt_dup.specs.Copy.{AreInOrder, IsCopy, IsNewBut}
-use Rattle.mt_image.specs.Bytes.{image_parts, kind_code, tree_with_words, words_of}
-use Rattle.mt_image.specs.Images.{IsOrderedCopy}
+use Rattle.mt_image.proofs.Prelude.{◌≡◌, ℕ, zero, suc, ◌-◌, ◌*◌, ◌^◌, ◌<◌, ◌≤◌, false, List, [], ◌∷◌, ◌++◌, length, take, drop, replicate, codes, refl, sym, ap, ◌∙◌, subst, inl, inr, arith, append_assoc, length-drop, slice_index, AllByRecursion, flat_map, range_with_len, w64, to_le_bytes, cases_Bool, cases_lt, ltb-true, ext_get_or, length-map, take_all, Kind, columns, first_row, kind_width, most_rows, Root, reached_in, Rooted, Sheet, IsWhole, with_published, map_by, is_reached, IsLawfulOf, MayPlant, AreInOrder, IsCopy, IsNewBut, image_parts, kind_code, tree_with_words, words_of, IsOrderedCopy}
 use Rattle.mt_image.proofs.FewReached.{few_reached, reached_inside}
 use Rattle.mt_image.proofs.Places.{times_of}
 use Rattle.mt_image.proofs.Sizes.{before_rows, long_enough}

@@ -3,10 +3,8 @@
 use Rattle.std.specs.Prelude.{ℕ, ◌*◌, List, ◌∷◌, ◌++◌, codes, drop}
 use Rattle.std.specs.List.{flat_map}
 use Rattle.std.specs.Int.{w64, to_le_bytes}
-use Rattle.mt_base.specs.declared.kinds.Kind.{Kind}
+use Rattle.mt_image.specs.Prelude.{Kind, columns, first_row, kind_width, Rooted}
 use Rattle.mt_base.specs.declared.kinds.Kind.TheVariants as kinds
-use Rattle.mt_base.specs.Width.{columns, first_row, kind_width}
-use Rattle.mt_rows.specs.Sheet.{Rooted}
 
 -- the number of a kind
 abbrev pub kind_code : Kind → ℕ

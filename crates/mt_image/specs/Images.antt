@@ -1,11 +1,7 @@
 -- What an image of a tree is, where only its words or its map are known.
 -- Source: this project's own.
 use Rattle.std.specs.Prelude.{◌≡◌, ℕ, List}
-use Rattle.mt_base.specs.declared.kinds.Kind.{Kind}
-use Rattle.mt_base.specs.declared.ranges.Range.{Range}
-use Rattle.mt_dup.specs.Copy.{IsCopy}
-use Rattle.mt_rows.specs.Publish.{map_by}
-use Rattle.mt_rows.specs.Sheet.{Rooted}
+use Rattle.mt_image.specs.Prelude.{Kind, Range, IsCopy, map_by, Rooted}
 use Rattle.mt_image.specs.Bytes.{image_of}
 use Rattle.mt_image.specs.Orders.{IsGood}
 

@@ -3,3 +3,4 @@ pub mod Images
 pub mod Orders
 pub mod Reading
 pub mod Texts
+pub mod Prelude

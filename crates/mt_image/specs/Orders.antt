@@ -2,11 +2,7 @@
 -- Source: this project's own.
 use Rattle.std.specs.Prelude.{◌≡◌, ℕ, zero, suc, ◌+◌, ◌*◌, ◌^◌, ◌<◌, ◌≤◌, ◌==◌, List, [], ◌∷◌, ◌++◌, Option, Some, None, length, replicate, if◌then◌else◌}
 use Rattle.std.specs.List.{AllByRecursion, range_with_len}
-use Rattle.mt_base.specs.declared.kinds.Kind.{Kind}
-use Rattle.mt_base.specs.Width.{columns, first_row, most_rows}
-use Rattle.mt_rows.specs.Trees.{reached_in}
-use Rattle.mt_rows.specs.Sheet.{Rooted}
-use Rattle.mt_rows.specs.Publish.{IsLawfulOf}
+use Rattle.mt_image.specs.Prelude.{Kind, columns, first_row, most_rows, reached_in, Rooted, IsLawfulOf}
 use Rattle.mt_image.specs.Bytes.{words_of}
 
 -- the walk comes to all rows, and to the first first, to the next next, and so on

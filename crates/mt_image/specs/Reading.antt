@@ -4,15 +4,8 @@ use Rattle.std.specs.Prelude.{ℕ, zero, suc, ◌+◌, ◌*◌, ◌==◌, ◌<�
 use Rattle.std.specs.List.{find, slice_range}
 use Rattle.std.specs.Int.{w64, from_le_bytes}
 use Rattle.std.specs.Str.{bytes_eq}
-use Rattle.mt_base.specs.declared.kinds.Kind.{Kind}
+use Rattle.mt_image.specs.Prelude.{Kind, columns, first_row, kind_width, most_rows, Fault, Form, checked, IsMadeOf, Rooted, Sheet, tree_as}
 use Rattle.mt_base.specs.declared.kinds.Kind.TheVariants as kinds
-use Rattle.mt_base.specs.Width.{columns, first_row, kind_width, most_rows}
-use Rattle.mt_check.specs.declared.faults.Fault.{Fault}
-use Rattle.mt_check.specs.declared.faults.Form.{Form}
-use Rattle.mt_check.specs.Check.{checked}
-use Rattle.mt_rows.specs.OfWords.{IsMadeOf}
-use Rattle.mt_rows.specs.Sheet.{Rooted, Sheet}
-use Rattle.mt_rows.specs.Publish.{tree_as}
 use Rattle.mt_image.specs.Bytes.{kind_code, tree_with_words}
 use Rattle.mt_image.specs.Orders.{stray_in}
 use Rattle.mt_image.specs.declared.errors.ImageError.{ImageError}

@@ -2,8 +2,7 @@
 -- Source: this project's own.
 use Rattle.std.specs.Prelude.{ℕ, List, ◌++◌, codes}
 use Rattle.std.specs.Fmt.{decimal}
-use Rattle.mt_check.specs.declared.faults.Law.{Law}
-use Rattle.mt_check.specs.declared.faults.Law.TheVariants.{Name, Depth, Parent, Pivots, Count, Entries, Holes, Gaps}
+use Rattle.mt_image.specs.Prelude.{Law, Name, Depth, Parent, Pivots, Count, Entries, Holes, Gaps}
 use Rattle.mt_image.specs.declared.errors.ImageError.{ImageError}
 use Rattle.mt_image.specs.declared.errors.ImageError.TheVariants.{Length, Head, Broken, Stray, NoMemory}
 

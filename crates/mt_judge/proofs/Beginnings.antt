@@ -1,19 +1,5 @@
 -- The log of the first lines of another can be read, and nothing is told of no lines.
-use Rattle.std.proofs.Common.{◌≡◌, ℕ, zero, suc, ◌+◌, ◌≤◌, ◌<◌, Bool, List, [], ◌∷◌, ◌++◌, length, length-append, take, subst, sym, refl, inl, inr, arith}
-use Rattle.std.specs.Option.{option_to_list}
-use Rattle.std.proofs.lemmas.Bool.{cases_lt}
-use Rattle.std.proofs.lemmas.List.{take_all}
-use Rattle.std.proofs.lemmas.List.Elements.{All-nil}
-use Rattle.std.specs.List.{All}
-use Rattle.mt_log.specs.declared.lines.Line.{Line}
-use Rattle.mt_log.specs.declared.lines.Log.{Log}
-use Rattle.mt_log.specs.Phases.{AreInPlaceFrom, phase_after, stepped_after}
-use Rattle.mt_log.specs.Run.{Step}
-use Rattle.mt_log.specs.Trees.{AreNamedFrom, Declared, IsReadable, NumbersRiseFrom, count_after, declared_by, most_trees, trees_from, trees_of}
-use Rattle.mt_told.specs.declared.told.Told.{Told}
-use Rattle.mt_told.specs.Telling.{FitsLine, IsToldBy, TellsNone, spelling_of}
-use Rattle.mt_told.proofs.LineByLine.{lines_begin, told_by}
-use Rattle.mt_judge.specs.Judged.{StopsAt, log_of_first}
+use Rattle.mt_judge.proofs.Prelude.{◌≡◌, ℕ, zero, suc, ◌+◌, ◌≤◌, ◌<◌, Bool, List, [], ◌∷◌, ◌++◌, length, length-append, take, subst, sym, refl, inl, inr, arith, option_to_list, cases_lt, take_all, All-nil, All, Line, Log, AreInPlaceFrom, phase_after, stepped_after, Step, AreNamedFrom, Declared, IsReadable, NumbersRiseFrom, count_after, declared_by, most_trees, trees_from, trees_of, Told, FitsLine, IsToldBy, TellsNone, spelling_of, lines_begin, told_by, StopsAt, log_of_first}
 
 named_first : (k count : ℕ) (lines : List Line) → AreNamedFrom count lines → AreNamedFrom count (take k lines)
 named_first zero count lines named = tt

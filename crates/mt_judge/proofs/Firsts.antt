@@ -1,15 +1,5 @@
 -- The first line that does not keep to those before it.
-use Rattle.std.proofs.Common.{◌≡◌, ℕ, ◌+◌, ◌-◌, ◌^◌, ◌<◌, ◌≤◌, Bool, true, false, List, Option, Some, None, length, take, get_or, min, slice_get, refl, sym, subst, inl, inr, ◌∙◌, arith}
-use Rattle.std.specs.Prelude.{if◌then◌else◌, nat_lt}
-use Rattle.std.specs.List.{AllPairs}
-use Rattle.std.proofs.lemmas.Bool.{cases_lt, ltb-false, true≢false}
-use Rattle.std.proofs.lemmas.List.{get_or-take, length-take, take_all, take-take}
-use Rattle.std.proofs.lemmas.Option.{slice_get-get_or}
-use Rattle.mt_told.specs.declared.told.Told.{Told}
-use Rattle.mt_verify.specs.PrintedOrder.{InPrintedOrder}
-use Rattle.mt_judge.specs.Faults.{KeepsOrder, earlier, is_of_order, order_cause}
-use Rattle.mt_judge.specs.Orders.{IsFirstOut, IsInOrder}
-use Rattle.mt_judge.specs.declared.causes.FoundFault.{FoundFault}
+use Rattle.mt_judge.proofs.Prelude.{◌≡◌, ℕ, ◌+◌, ◌-◌, ◌^◌, ◌<◌, ◌≤◌, Bool, true, false, List, Option, Some, None, length, take, get_or, min, slice_get, refl, sym, subst, inl, inr, ◌∙◌, arith, if◌then◌else◌, nat_lt, AllPairs, cases_lt, ltb-false, true≢false, get_or-take, length-take, take_all, take-take, slice_get-get_or, Told, InPrintedOrder, KeepsOrder, earlier, is_of_order, order_cause, IsFirstOut, IsInOrder, FoundFault}
 
 pairs_first : {X : Type 0} (R : X → X → Type 0) (k : ℕ) (xs : List X) → AllPairs R xs → AllPairs R (take k xs)
 pairs_first R k xs h i j d lt within =

@@ -1,10 +1,5 @@
 -- A judgment on a text that tells of a whole log, and on one that stops.
-use Rattle.std.proofs.Common.{◌≡◌, ℕ, List, inl, inr}
-use Rattle.mt_log.specs.declared.lines.Log.{Log}
-use Rattle.mt_told.specs.declared.told.Told.{Told}
-use Rattle.mt_told.specs.Telling.{IsToldBy}
-use Rattle.mt_judge.specs.Judged.{IsFound, IsJudged, KeepsOrderIn, StopsAt, TellsForm, tally_of}
-use Rattle.mt_judge.specs.declared.judging.Judgment.{Judgment}
+use Rattle.mt_judge.proofs.Prelude.{◌≡◌, ℕ, List, inl, inr, Log, Told, IsToldBy, IsFound, IsJudged, KeepsOrderIn, StopsAt, TellsForm, tally_of, Judgment}
 
 pub judged_whole : (log : Log) (rows : ℕ) (text rest : List ℕ) (told : List Told) (j : Judgment) → IsToldBy log text told rest → IsFound log rows text j.found → KeepsOrderIn told j.found → j.tally ≡ tally_of told → IsJudged log rows text j
 judged_whole log rows text rest told j by found order tally = record { found = found; tally = (told, rest, tally, inl (by, order)) }

@@ -2,3 +2,4 @@ pub mod Beginnings
 pub mod Firsts
 pub mod Judgments
 pub mod Pairs
+mod Prelude

@@ -1,9 +1,7 @@
 -- Which lines are told as wrong, and of which causes.
 -- Source: this project's own.
 use Rattle.std.specs.Prelude.{◌≡◌, ℕ, ◌+◌, ◌≤◌, Bool, true, false, List, Option, Some, None, IfSome, if◌then◌else◌, nat_lt, slice_get}
-use Rattle.mt_told.specs.declared.told.Told.{Told}
-use Rattle.mt_told.specs.declared.told.What.{What}
-use Rattle.mt_told.specs.declared.told.What.TheVariants.{Wrote, Got, Copied, Lawful}
+use Rattle.mt_judge.specs.Prelude.{Told, What, Wrote, Got, Copied, Lawful}
 use Rattle.mt_judge.specs.Orders.{IsFirstOut, IsInOrder}
 use Rattle.mt_judge.specs.declared.causes.Cause.{Cause}
 use Rattle.mt_judge.specs.declared.causes.Cause.TheVariants.{Below, Form, NoEntry, Order}

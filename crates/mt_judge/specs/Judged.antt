@@ -2,15 +2,7 @@
 -- Source: this project's own.
 use Rattle.std.specs.Prelude.{◌≡◌, ◌⊎◌, ℕ, ◌+◌, ◌<◌, nat_lt, Bool, true, false, List, ◌++◌, Some, None, Ok, codes, length, take}
 use Rattle.std.specs.List.{filter}
-use Rattle.mt_log.specs.declared.lines.Log.{Log}
-use Rattle.mt_log.specs.Reading.{log_of}
-use Rattle.mt_told.specs.declared.told.Told.{Told}
-use Rattle.mt_told.specs.declared.told.What.{What}
-use Rattle.mt_told.specs.declared.told.What.TheVariants.{Wrote, Got, Copied, Lawful}
-use Rattle.mt_told.specs.Telling.{IsToldBy, TellsNone}
-use Rattle.mt_verify.specs.declared.verdicts.Verdict.TheVariants.{Yes, No}
-use Rattle.mt_verify.specs.ToldReads.{is_got, is_wrote}
-use Rattle.mt_verify.specs.Points.{IsVerdict}
+use Rattle.mt_judge.specs.Prelude.{Log, log_of, Told, What, Wrote, Got, Copied, Lawful, IsToldBy, TellsNone, Yes, No, is_got, is_wrote, IsVerdict}
 use Rattle.mt_judge.specs.Faults.{KeepsOrder, is_of_form}
 use Rattle.mt_judge.specs.Orders.{IsInOrder}
 use Rattle.mt_judge.specs.declared.judging.Found.{Found}

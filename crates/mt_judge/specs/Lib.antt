@@ -4,3 +4,4 @@ pub mod Judged
 pub mod Orders
 pub mod Printed
 pub mod Words
+pub mod Prelude

@@ -1,8 +1,7 @@
 -- Whether the lines of a transcript keep to those that they know of, and the first that does not.
 -- Source: this project's own.
 use Rattle.std.specs.Prelude.{ℕ, ◌+◌, ◌<◌, List, AllPairs, length, take}
-use Rattle.mt_told.specs.declared.told.Told.{Told}
-use Rattle.mt_verify.specs.PrintedOrder.{InPrintedOrder}
+use Rattle.mt_judge.specs.Prelude.{Told, InPrintedOrder}
 
 abbrev pub IsInOrder : List Told → Type 0
 IsInOrder told = AllPairs InPrintedOrder told

@@ -2,7 +2,7 @@
 -- Source: this project's own.
 use Rattle.std.specs.Prelude.{◌≡◌, ℕ, ◌≤◌, List, [], ◌∷◌, codes}
 use Rattle.std.specs.Str.Parse.{IsNumeral, digits_value, without_leading_plus}
-use Rattle.mt_base.specs.Width.{most_rows}
+use Rattle.mt_judge.specs.Prelude.{most_rows}
 
 -- a word writes this number
 pub record WritesRows (word : List ℕ) (rows : ℕ) : Type 0 where

@@ -1,16 +1,6 @@
 -- Each step at a keep keeps its rule.
-use Rattle.std.proofs.Common.{◌≡◌, ◌≢◌, Bool, ℕ, zero, suc, List, [], ◌∷◌, ◌++◌, set, get_or, true, false, true≢false, refl, sym, ap, ◌∙◌, subst, arith, Option, Some, None}
-use Rattle.std.proofs.lemmas.Option.{none-some}
-use mathlib.Core.Option.{none, some, some-ne-none, some-injective}
+use Rattle.mt_keep.proofs.Prelude.{◌≡◌, ◌≢◌, Bool, ℕ, zero, suc, List, [], ◌∷◌, ◌++◌, set, get_or, true, false, true≢false, refl, sym, ap, ◌∙◌, subst, arith, Option, Some, None, none-some, none, some, some-ne-none, some-injective, get_elem?, at_longer, set_else, State, Me, Act, Valid, step, keeps, takes, gives, stepped, carried_after, Allows, Splits, opening, Snapshot, each_set, each_split, Sight, Start, waiting, one_further, cuts_in, holding, given_back, refused, taken_bit, last_of, Visit, HasGrabbed, SeatFits, HasOneHolder, grabs, releases}
 use mathlib.Core.Option as maybe
-use lib.ListN.{get_elem?}
-use Rattle.atomic_table.proofs.Lists.{at_longer, set_else}
-use Rattle.atomic_table.specs.Table.{State, Me, Act, Valid, step, keeps, takes, gives, stepped, carried_after, Allows, Splits, opening}
-use Rattle.std.specs.declared.snapshot.Snapshot.{Snapshot}
-use Rattle.mt_rule.proofs.Viewing.{each_set, each_split}
-use Rattle.mt_keep.specs.declared.keep.Sight.{Sight}
-use Rattle.mt_keep.specs.declared.keep.Start.{Start}
-use Rattle.mt_keep.specs.Keeping.{waiting, one_further, cuts_in, holding, given_back, refused, taken_bit, last_of, Visit, HasGrabbed, SeatFits, HasOneHolder, grabs, releases}
 
 off : false ≡ true → ⊥
 off e = true≢false (sym e)

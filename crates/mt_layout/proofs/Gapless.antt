@@ -1,11 +1,5 @@
 -- Items that tell no gap, alone and in parts; they are one with their spans. For the proofs of the crates above.
-use Rattle.std.proofs.Common.{◌≡◌, ℕ, zero, suc, ◌+◌, List, [], ◌∷◌, ◌++◌, map, take, drop, nat_le, refl, sym, ap, ◌∙◌, inl, inr}
-use Rattle.std.specs.Prelude.{slice_index}
-use Rattle.std.proofs.lemmas.Bool.{cases_Bool}
-use Rattle.mt_layout.specs.declared.items.Item.{Item}
-use Rattle.mt_layout.specs.Columns.{pivot_column, items_from, items_at, NoGaps}
-use Rattle.mt_layout.specs.declared.spans.Span.{Span}
-use Rattle.mt_layout.specs.Spans.{spans_from, Fills}
+use Rattle.mt_layout.proofs.Prelude.{◌≡◌, ℕ, zero, suc, ◌+◌, List, [], ◌∷◌, ◌++◌, map, take, drop, nat_le, refl, sym, ap, ◌∙◌, inl, inr, slice_index, cases_Bool, Item, pivot_column, items_from, items_at, NoGaps, Span, spans_from, Fills}
 
 pub no_gaps-cons : (x : Item) (items : List Item) → x.gap ≡ 0 → NoGaps items → NoGaps (x ∷ items)
 no_gaps-cons x items here behind = λ i. here i ∷ behind i

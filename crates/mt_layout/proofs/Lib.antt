@@ -8,3 +8,4 @@ pub mod RowSizes
 pub mod RowWords
 pub mod SpanLists
 pub mod Writing
+mod Prelude

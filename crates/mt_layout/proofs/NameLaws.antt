@@ -1,8 +1,5 @@
 -- Names are read back as what they were made of, and nothing else is read as a name.
-use Rattle.std.proofs.Common.{◌≡◌, ℕ, ◌<◌, Some, None, arith}
-use Rattle.std.proofs.lemmas.Grind.{common_steps}
-use Rattle.mt_layout.specs.declared.names.RowKind.{RowKind}
-use Rattle.mt_layout.specs.Rows.{IsRowNumber, Names, name_at, row_in, named_row, named_kind, parent_at, dead_mark}
+use Rattle.mt_layout.proofs.Prelude.{◌≡◌, ℕ, ◌<◌, Some, None, arith, common_steps, RowKind, IsRowNumber, Names, name_at, row_in, named_row, named_kind, parent_at, dead_mark}
 
 pub named_kind-name_at : (row : ℕ) (kind : RowKind) → IsRowNumber row → named_kind (name_at row kind) ≡ Some kind
 named_kind-name_at row kind here = grind (arith, common_steps)

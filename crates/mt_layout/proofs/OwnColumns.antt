@@ -1,9 +1,5 @@
 -- The items of a row are in its own columns.
-use Rattle.std.proofs.Common.{◌≡◌, ℕ, zero, suc, ◌+◌, ◌<◌, List, [], ◌∷◌, refl, sym, ap, ◌∙◌, ⊎_elim, arith}
-use Rattle.std.proofs.lemmas.Bool.{cases_eq}
-use Rattle.std.specs.Prelude.{slice_index}
-use Rattle.mt_layout.specs.declared.items.Item.{Item}
-use Rattle.mt_layout.specs.Columns.{IsLayout, pivot_column, slot_column, gap_column, gap_at, item_at, items_from, items_at}
+use Rattle.mt_layout.proofs.Prelude.{◌≡◌, ℕ, zero, suc, ◌+◌, ◌<◌, List, [], ◌∷◌, refl, sym, ap, ◌∙◌, ⊎_elim, arith, cases_eq, slice_index, Item, IsLayout, pivot_column, slot_column, gap_column, gap_at, item_at, items_from, items_at}
 use Rattle.mt_layout.proofs.Reading.{gap_at-none, gap_at-some}
 use Rattle.mt_layout.proofs.RowSizes.{slots-fit, all_gaps}
 

@@ -1,10 +1,5 @@
 -- Where the words of rows stand: column c of row r is the word columns * r + c. What is told is so for every number of columns.
-use Rattle.std.proofs.Common.{◌≡◌, ◌≢◌, ℕ, ◌+◌, ◌*◌, ◌/◌, ◌%◌, ◌<◌, ◌≤◌, ap, sym, subst, ◌∙◌, arith}
-use Rattle.std.proofs.Math.Nat.{mul_comm, mul-le-mul_left, mul-add}
-use Rattle.std.proofs.lemmas.Nat.{mul-add-lt, div-mul-add, mod-mul-add}
-use Rattle.mt_base.specs.declared.widths.Width.{Width}
-use Rattle.mt_base.specs.Width.{columns, first_row}
-use Rattle.mt_base.proofs.WidthBounds.{many_columns}
+use Rattle.mt_layout.proofs.Prelude.{◌≡◌, ◌≢◌, ℕ, ◌+◌, ◌*◌, ◌/◌, ◌%◌, ◌<◌, ◌≤◌, ap, sym, subst, ◌∙◌, arith, mul_comm, mul-le-mul_left, mul-add, mul-add-lt, div-mul-add, mod-mul-add, Width, columns, first_row, many_columns}
 
 -- ---- of so many words to a row
 

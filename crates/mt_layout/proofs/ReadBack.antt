@@ -1,10 +1,5 @@
 -- The words of a row, read back, give its items.
-use Rattle.std.proofs.Common.{◌≡◌, ℕ, zero, suc, ◌+◌, ◌<◌, ◌≤◌, true, false, List, [], ◌∷◌, drop, length, get_or, refl, sym, ap, ◌∙◌, ⊎_elim, arith, zero-add, lt-ltb, le-ltb, ◌-◌}
-use Rattle.std.proofs.lemmas.Bool.{cases_lt, cases_eq}
-use Rattle.std.proofs.lemmas.List.{drop_more, drop_all}
-use Rattle.std.specs.Prelude.{nat_lt}
-use Rattle.mt_layout.specs.declared.items.Item.{Item}
-use Rattle.mt_layout.specs.Columns.{IsLayout, pivot_column, slot_column, gap_column, gap_at, items_from, items_at, row_words, RiseFrom, end_of, FitRow}
+use Rattle.mt_layout.proofs.Prelude.{◌≡◌, ℕ, zero, suc, ◌+◌, ◌<◌, ◌≤◌, true, false, List, [], ◌∷◌, drop, length, get_or, refl, sym, ap, ◌∙◌, ⊎_elim, arith, zero-add, lt-ltb, le-ltb, ◌-◌, cases_lt, cases_eq, drop_more, drop_all, nat_lt, Item, IsLayout, pivot_column, slot_column, gap_column, gap_at, items_from, items_at, row_words, RiseFrom, end_of, FitRow}
 use Rattle.mt_layout.proofs.Reading.{gap_at-none, gap_at-some, IsItem, ends, goes_on}
 use Rattle.mt_layout.proofs.RowWords.{item_or, used, used-pivot, used-slot, used-gap, get_or-padded, get_or-zeros, get_or-field}
 use Rattle.mt_layout.proofs.RowSizes.{all_gaps}

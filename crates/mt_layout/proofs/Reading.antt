@@ -1,9 +1,5 @@
 -- How the items of a row are read off its words, one after another.
-use Rattle.std.proofs.Common.{◌≡◌, ℕ, zero, suc, ◌+◌, ◌-◌, ◌<◌, ◌≤◌, true, false, List, [], ◌∷◌, ◌++◌, length, refl, sym, ◌∙◌, inl, inr, arith, append-nil, append_assoc, lt-ltb, le-ltb, le-leb, ◌==◌, eq-eqb, ne_eqb}
-use Rattle.std.proofs.lemmas.Bool.{cases_Bool, lt-leb}
-use Rattle.std.specs.Prelude.{if◌then◌else◌, nat_lt, nat_le, slice_index}
-use Rattle.mt_layout.specs.declared.items.Item.{Item}
-use Rattle.mt_layout.specs.Columns.{pivot_column, gap_column, gap_at, item_at, items_from}
+use Rattle.mt_layout.proofs.Prelude.{◌≡◌, ℕ, zero, suc, ◌+◌, ◌-◌, ◌<◌, ◌≤◌, true, false, List, [], ◌∷◌, ◌++◌, length, refl, sym, ◌∙◌, inl, inr, arith, append-nil, append_assoc, lt-ltb, le-ltb, le-leb, ◌==◌, eq-eqb, ne_eqb, cases_Bool, lt-leb, if◌then◌else◌, nat_lt, nat_le, slice_index, Item, pivot_column, gap_column, gap_at, item_at, items_from}
 
 -- a row without gaps has none, and another's are in its columns
 pub gap_at-none : (slots gaps : ℕ) (w : List ℕ) (base i : ℕ) → gaps ≡ 0 → gap_at slots gaps w base i ≡ 0

@@ -1,13 +1,6 @@
 -- What proofs use of the sizes of rows, so that none of them names a number.
-use Rattle.std.proofs.Common.{◌≡◌, ◌≢◌, ℕ, ◌+◌, ◌*◌, ◌<◌, ◌≤◌, Some, inl, inr, refl, ap, arith}
-use Rattle.std.specs.Prelude.{◌⊎◌}
-use Rattle.mt_base.specs.declared.widths.Width.{Width}
-use Rattle.mt_base.specs.declared.widths.Width.TheVariants.{Long, Short}
-use Rattle.mt_base.specs.Width.{columns}
-use Rattle.mt_layout.specs.declared.names.RowKind.{RowKind}
+use Rattle.mt_layout.proofs.Prelude.{◌≡◌, ◌≢◌, ℕ, ◌+◌, ◌*◌, ◌<◌, ◌≤◌, Some, inl, inr, refl, ap, arith, ◌⊎◌, Width, Long, Short, columns, RowKind, IsLayout, slot_column, gap_column, slots_of, gaps_of, least_items, run_room}
 use Rattle.mt_layout.specs.declared.names.RowKind.TheVariants as kinds
-use Rattle.mt_layout.specs.Columns.{IsLayout, slot_column, gap_column}
-use Rattle.mt_layout.specs.Sizes.{slots_of, gaps_of, least_items, run_room}
 
 -- What proofs use of these numbers: two full rows and eight items more can be gathered, two short rows and two items fit into
 -- one row, and the columns of a row are its parent word, its pivots, its slots and its gaps.

@@ -1,9 +1,5 @@
 -- What the words of a row are, column by column.
-use Rattle.std.proofs.Common.{◌≡◌, ℕ, zero, suc, ◌+◌, ◌-◌, ◌*◌, ◌<◌, ◌≤◌, ◌==◌, List, [], ◌∷◌, ◌++◌, map, take, length, replicate, get_or, refl, sym, ap, ◌∙◌, ⊎_elim, arith, length-append, length-take, false, ne_eqb}
-use Rattle.std.proofs.lemmas.Bool.{cases_lt, cases_eq}
-use Rattle.std.proofs.lemmas.List.{get_or_append_left, get_or-append_right, get_or-take, ext_get_or, length-map, length-replicate}
-use Rattle.mt_layout.specs.declared.items.Item.{Item}
-use Rattle.mt_layout.specs.Columns.{IsLayout, pivot_column, slot_column, gap_column, padded_to, pivot_words, slot_words, gap_words, row_words}
+use Rattle.mt_layout.proofs.Prelude.{◌≡◌, ℕ, zero, suc, ◌+◌, ◌-◌, ◌*◌, ◌<◌, ◌≤◌, ◌==◌, List, [], ◌∷◌, ◌++◌, map, take, length, replicate, get_or, refl, sym, ap, ◌∙◌, ⊎_elim, arith, length-append, length-take, false, ne_eqb, cases_lt, cases_eq, get_or_append_left, get_or-append_right, get_or-take, ext_get_or, length-map, length-replicate, Item, IsLayout, pivot_column, slot_column, gap_column, padded_to, pivot_words, slot_words, gap_words, row_words}
 use Rattle.mt_layout.proofs.RowSizes.{some_slots, slots-fit, all_gaps}
 
 -- item k, and one of zeros where there is none

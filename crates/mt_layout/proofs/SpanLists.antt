@@ -1,14 +1,6 @@
 -- Lists of spans: how they fill indexes, the items that they are made of, and the holes in them. For the proofs of the crates
 -- above.
-use Rattle.std.proofs.Common.{◌≡◌, ◌≢◌, ℕ, zero, suc, ◌+◌, ◌<◌, ◌≤◌, ◌==◌, List, [], ◌∷◌, ◌++◌, length, map, take, drop, refl, sym, ap, ◌∙◌, subst, inl, inr, arith}
-use Rattle.std.specs.Prelude.{slice_index_or}
-use Rattle.std.specs.List.{flat_map}
-use Rattle.std.proofs.lemmas.Bool.{cases_Bool, eqb-true}
-use Rattle.mt_base.specs.declared.ranges.Range.{Range}
-use Rattle.mt_layout.specs.declared.items.Item.{Item}
-use Rattle.mt_layout.specs.declared.spans.Span.{Span}
-use Rattle.mt_layout.specs.Columns.{RiseFrom, end_of}
-use Rattle.mt_layout.specs.Spans.{spans_from, leaf_range, Fills, BeginsFull, Apart, EndsFull}
+use Rattle.mt_layout.proofs.Prelude.{◌≡◌, ◌≢◌, ℕ, zero, suc, ◌+◌, ◌<◌, ◌≤◌, ◌==◌, List, [], ◌∷◌, ◌++◌, length, map, take, drop, refl, sym, ap, ◌∙◌, subst, inl, inr, arith, slice_index_or, flat_map, cases_Bool, eqb-true, Range, Item, Span, RiseFrom, end_of, spans_from, leaf_range, Fills, BeginsFull, Apart, EndsFull}
 
 -- ---- spans end to end
 

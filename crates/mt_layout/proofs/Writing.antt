@@ -1,11 +1,7 @@
 -- How the columns of a row are written, item after item.
-use Rattle.std.proofs.Common.{◌≡◌, ℕ, ◌+◌, ◌-◌, ◌*◌, ◌<◌, ◌≤◌, List, [], length, take, drop, replicate, get_or, refl, ap, ◌∙◌, arith, length-drop, length-take-le, append-nil}
-use Rattle.std.proofs.lemmas.List.{get_or-take, drop_all}
-use Rattle.mt_layout.specs.declared.items.Item.{Item}
-use Rattle.mt_layout.specs.Columns.{IsLayout, pivot_column, slot_column, gap_column, row_words}
+use Rattle.mt_layout.proofs.Prelude.{◌≡◌, ℕ, ◌+◌, ◌-◌, ◌*◌, ◌<◌, ◌≤◌, List, [], length, take, drop, replicate, get_or, refl, ap, ◌∙◌, arith, length-drop, length-take-le, append-nil, get_or-take, drop_all, Item, IsLayout, pivot_column, slot_column, gap_column, row_words, put_mid}
 use Rattle.mt_layout.proofs.RowWords.{item_or, used, length-used, is_used}
 use Rattle.mt_layout.proofs.RowSizes.{some_slots, few_gaps}
-use borrow.Rule.Slice.PartMut.{put_mid}
 
 -- the parent word and the first n items are written
 pub record Written (slots gaps parent : ℕ) (items : List Item) (n : ℕ) (w : List ℕ) : Type 0 where

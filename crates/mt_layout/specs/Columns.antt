@@ -2,8 +2,7 @@
 -- Source: the kernel's lib/maple_tree.c, ma_pivots, ma_slots and ma_gaps of maple_range_64 and maple_arange_64.
 -- A row has so many slots, and as many gaps or none. Column c of the row that begins at `base` is the word base + c.
 use Rattle.std.specs.Prelude.{◌≡◌, ℕ, zero, suc, ◌+◌, ◌-◌, ◌*◌, ◌≤◌, ◌<◌, ◌==◌, List, [], ◌∷◌, ◌++◌, length, map, take, replicate, nat_le, slice_index, if◌then◌else◌}
-use Rattle.mt_base.specs.declared.widths.Width.{Width}
-use Rattle.mt_base.specs.Width.{columns}
+use Rattle.mt_layout.specs.Prelude.{Width, columns}
 use Rattle.mt_layout.specs.declared.items.Item.{Item}
 use Rattle.mt_layout.specs.declared.names.RowKind.{RowKind}
 use Rattle.mt_layout.specs.Sizes.{slots_of, gaps_of}

@@ -1,7 +1,7 @@
 -- Names of rows, parent words and the dead mark: how the words of a tree lead from row to row.
 -- Source: the kernel's include/linux/maple_tree.h and lib/maple_tree.c, node types and encoded nodes of 256 bytes.
 use Rattle.std.specs.Prelude.{◌≡◌, ℕ, Bool, Option, Some, None, ◌+◌, ◌*◌, ◌/◌, ◌%◌, ◌<◌, ◌≤◌, ◌==◌, ◌&&◌, nat_le, nat_lt, is_some, if◌then◌else◌}
-use Rattle.mt_base.specs.Width.{most_rows, first_row}
+use Rattle.mt_layout.specs.Prelude.{most_rows, first_row}
 use Rattle.mt_layout.specs.declared.names.RowKind.{RowKind}
 use Rattle.mt_layout.specs.declared.names.RowKind.TheVariants as kinds
 

@@ -2,8 +2,7 @@
 -- Source: the kernel's include/linux/maple_tree.h, MAPLE_RANGE64_SLOTS and MAPLE_ARANGE64_SLOTS; the sizes of narrow rows, the least
 -- numbers of items and the rooms are this project's.
 use Rattle.std.specs.Prelude.{ℕ}
-use Rattle.mt_base.specs.declared.widths.Width.{Width}
-use Rattle.mt_base.specs.declared.widths.Width.TheVariants.{Long, Short}
+use Rattle.mt_layout.specs.Prelude.{Width, Long, Short}
 use Rattle.mt_layout.specs.declared.names.RowKind.{RowKind}
 use Rattle.mt_layout.specs.declared.names.RowKind.TheVariants as kinds
 

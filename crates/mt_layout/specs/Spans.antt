@@ -1,7 +1,7 @@
 -- Items with their first indexes, as they stand end to end in a row or in a few rows next to each other.
 -- Source: the kernel's core-api/maple_tree: a node's ranges follow each other, and a range of no entry is one slot of 0.
 use Rattle.std.specs.Prelude.{◌≡◌, ◌≢◌, ℕ, ◌+◌, ◌-◌, ◌≤◌, ◌==◌, max, List, [], ◌∷◌, if◌then◌else◌}
-use Rattle.mt_base.specs.declared.ranges.Range.{Range}
+use Rattle.mt_layout.specs.Prelude.{Range}
 use Rattle.mt_layout.specs.declared.items.Item.{Item}
 use Rattle.mt_layout.specs.declared.spans.Span.{Span}
 

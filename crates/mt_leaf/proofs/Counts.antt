@@ -1,9 +1,5 @@
 -- How many items a store on one leaf or on two gives, fewer where it ends with a hole.
-use Rattle.std.proofs.Common.{◌≡◌, ℕ, ◌+◌, ◌*◌, ◌<◌, ◌≤◌, ◌==◌, List, [], ◌∷◌, ◌++◌, true, length, nat_lt, refl, sym, ap, ◌∙◌, subst, inl, inr, arith, length-append, append-nil}
-use Rattle.std.proofs.lemmas.Bool.{cases_Bool, ltb-true, eqb-true}
-use Rattle.mt_layout.specs.declared.spans.Span.{Span}
-use Rattle.mt_layout.specs.Spans.{Fills, EndsFull}
-use Rattle.mt_leaf.specs.Edits.{spans_below, spans_above, span_above, span_stored, stored, holes_joined, edited, starting, ends_with_hole}
+use Rattle.mt_leaf.proofs.Prelude.{◌≡◌, ℕ, ◌+◌, ◌*◌, ◌<◌, ◌≤◌, ◌==◌, List, [], ◌∷◌, ◌++◌, true, length, nat_lt, refl, sym, ap, ◌∙◌, subst, inl, inr, arith, length-append, append-nil, cases_Bool, ltb-true, eqb-true, Span, Fills, EndsFull, spans_below, spans_above, span_above, span_stored, stored, holes_joined, edited, starting, ends_with_hole}
 use Rattle.mt_leaf.proofs.Joined.{length_joined}
 use Rattle.mt_leaf.proofs.Holes.{ends_joined, ends-append, full_no_hole}
 use Rattle.mt_leaf.proofs.Stored.{none_below, none_above, all_above, length_above, length_edited, below-append, above-append, above-starting, fills_starting}

@@ -1,11 +1,6 @@
 -- Where rows end: beside a hole stands an entry, and where two or three rows are given, fewer would not do.
-use Rattle.std.proofs.Common.{◌≡◌, ◌≢◌, ℕ, zero, suc, ◌+◌, ◌-◌, ◌*◌, ◌/◌, ◌<◌, ◌≤◌, List, [], ◌∷◌, Bool, true, false, length, max, refl, sym, subst, arith, inl, inr, ◌∙◌, ⊎_elim}
-use Rattle.std.proofs.lemmas.Bool.{cases_Bool, cases_lt}
-use Rattle.mt_layout.specs.declared.items.Item.{Item}
-use Rattle.mt_layout.specs.Spans.{spans_from, Apart}
-use Rattle.mt_leaf.specs.declared.cuts.Towards.{Towards}
+use Rattle.mt_leaf.proofs.Prelude.{◌≡◌, ◌≢◌, ℕ, zero, suc, ◌+◌, ◌-◌, ◌*◌, ◌/◌, ◌<◌, ◌≤◌, List, [], ◌∷◌, Bool, true, false, length, max, refl, sym, subst, arith, inl, inr, ◌∙◌, ⊎_elim, cases_Bool, cases_lt, Item, spans_from, Apart, Towards, word_of, IsEnd, IsLaterEnd, IsPiece, ArePieces, IsCut, MeetAt, first_place, half_place, last_place}
 use Rattle.mt_leaf.specs.declared.cuts.Towards.TheVariants as towards
-use Rattle.mt_leaf.specs.Cuts.{word_of, IsEnd, IsLaterEnd, IsPiece, ArePieces, IsCut, MeetAt, first_place, half_place, last_place}
 
 -- in front of a hole stands an entry
 full_before : (items : List Item) (first i : ℕ) → Apart (spans_from first items) → i + 1 < length items → word_of items (i + 1) ≡ 0 → word_of items i ≢ 0

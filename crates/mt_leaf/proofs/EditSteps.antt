@@ -1,17 +1,6 @@
 -- The items that an edit pushes are those of the store, so what it makes is the store with holes joined. `pushed_edit` is for
 -- callers that push items which they read elsewhere.
-use Rattle.std.proofs.Common.{◌≡◌, ℕ, suc, ◌+◌, ◌-◌, ◌<◌, ◌≤◌, nat_lt, nat_le, min, max, List, [], ◌∷◌, ◌++◌, length, get_or, take, drop, fold, refl, sym, ap, ◌∙◌, subst, inl, inr, arith, append-nil}
-use Rattle.std.proofs.lemmas.Bool.{cases_Bool, ltb-true, ltb-false, lt-ltb, le-ltb, leb-true, leb-false, le-leb}
-use Rattle.std.proofs.lemmas.Grind.{fold-append}
-use Rattle.std.proofs.lemmas.List.{drop_more}
-use Rattle.mt_layout.specs.declared.items.Item.{Item}
-use Rattle.mt_layout.specs.declared.spans.Span.{Span}
-use Rattle.mt_layout.specs.Columns.{RiseFrom, end_of, NoGaps}
-use Rattle.mt_layout.specs.Spans.{spans_from}
-use Rattle.mt_layout.proofs.Gapless.{no_gaps-cons, no_gap_first, no_gaps-append, no_gaps-take, no_gaps-drop}
-use Rattle.mt_layout.proofs.SpanLists.{after, after_some, spans-append, rise_fills}
-use Rattle.mt_leaf.specs.Edits.{spans_below, spans_above, span_stored, stored, holes_joined, edited}
-use Rattle.mt_leaf.specs.Places.{slot_reaching, slot_above, first_of, with_joined, cut_item, items_below}
+use Rattle.mt_leaf.proofs.Prelude.{◌≡◌, ℕ, suc, ◌+◌, ◌-◌, ◌<◌, ◌≤◌, nat_lt, nat_le, min, max, List, [], ◌∷◌, ◌++◌, length, get_or, take, drop, fold, refl, sym, ap, ◌∙◌, subst, inl, inr, arith, append-nil, cases_Bool, ltb-true, ltb-false, lt-ltb, le-ltb, leb-true, leb-false, le-leb, fold-append, drop_more, Item, Span, RiseFrom, end_of, NoGaps, spans_from, no_gaps-cons, no_gap_first, no_gaps-append, no_gaps-take, no_gaps-drop, after, after_some, spans-append, rise_fills, spans_below, spans_above, span_stored, stored, holes_joined, edited, slot_reaching, slot_above, first_of, with_joined, cut_item, items_below}
 use Rattle.mt_leaf.proofs.Stored.{none_below, all_above}
 use Rattle.mt_leaf.proofs.Pushes.{all_pushed, no_gaps-with_joined, no_gaps-pushed}
 

@@ -1,15 +1,5 @@
 -- Of items that rise, only the one in the slot that reaches an index can begin at it.
-use Rattle.std.proofs.Common.{◌≡◌, ℕ, suc, ◌+◌, ◌<◌, ◌≤◌, ◌==◌, ◌&&◌, not, nat_lt, Bool, true, false, Option, Some, None, List, [], ◌∷◌, length, get_or, drop, refl, sym, ap, ◌∙◌, inl, inr, arith, if◌then◌else◌}
-use Rattle.std.specs.List.{position, position_or_len}
-use Rattle.std.specs.Option.{option_map}
-use Rattle.std.proofs.lemmas.Bool.{cases_Bool, ltb-true, ltb-false, lt-ltb, le-ltb, eqb-true, eqb-false, ne_eqb, eq-eqb}
-use Rattle.std.proofs.lemmas.List.{drop_more, drop_all}
-use Rattle.mt_layout.specs.declared.items.Item.{Item}
-use Rattle.mt_layout.specs.declared.spans.Span.{Span}
-use Rattle.mt_layout.specs.Columns.{RiseFrom}
-use Rattle.mt_layout.specs.Spans.{spans_from}
-use Rattle.mt_leaf.specs.Edits.{exact_slot_of}
-use Rattle.mt_leaf.specs.Places.{slot_reaching, first_of}
+use Rattle.mt_leaf.proofs.Prelude.{◌≡◌, ℕ, suc, ◌+◌, ◌<◌, ◌≤◌, ◌==◌, ◌&&◌, not, nat_lt, Bool, true, false, Option, Some, None, List, [], ◌∷◌, length, get_or, drop, refl, sym, ap, ◌∙◌, inl, inr, arith, if◌then◌else◌, position, position_or_len, option_map, cases_Bool, ltb-true, ltb-false, lt-ltb, le-ltb, eqb-true, eqb-false, ne_eqb, eq-eqb, drop_more, drop_all, Item, Span, RiseFrom, spans_from, exact_slot_of, slot_reaching, first_of}
 
 abbrev is_exact : ℕ → ℕ → Span → Bool
 is_exact first last x = (x.first == first) && ((x.last == last) && not (x.word == 0))

@@ -1,9 +1,5 @@
 -- Whether spans end with a hole, also where they are joined. For the proofs of the crates above, too.
-use Rattle.std.proofs.Common.{◌≡◌, ◌≢◌, ◌≤◌, ◌==◌, ◌&&◌, List, [], ◌∷◌, ◌++◌, true, false, length, refl, ◌∙◌, inl, inr, arith}
-use Rattle.std.proofs.lemmas.Bool.{cases_Bool, eqb-true, eqb-false}
-use Rattle.mt_layout.specs.declared.spans.Span.{Span}
-use Rattle.mt_layout.specs.Spans.{EndsFull}
-use Rattle.mt_leaf.specs.Edits.{join, holes_joined, ends_with_hole}
+use Rattle.mt_leaf.proofs.Prelude.{◌≡◌, ◌≢◌, ◌≤◌, ◌==◌, ◌&&◌, List, [], ◌∷◌, ◌++◌, true, false, length, refl, ◌∙◌, inl, inr, arith, cases_Bool, eqb-true, eqb-false, Span, EndsFull, join, holes_joined, ends_with_hole}
 
 -- ---- what spans end with
 

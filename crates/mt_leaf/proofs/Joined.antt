@@ -1,11 +1,5 @@
 -- Spans with the holes that follow each other joined: they stand for the same ranges, and no two holes meet.
-use Rattle.std.proofs.Common.{◌≡◌, ℕ, ◌+◌, ◌≤◌, ◌==◌, ◌&&◌, List, [], ◌∷◌, ◌++◌, length, refl, sym, ap, ◌∙◌, inl, inr, arith}
-use Rattle.std.specs.List.{flat_map}
-use Rattle.std.proofs.lemmas.Bool.{cases_Bool, eqb-false, eqb-true}
-use Rattle.mt_base.specs.declared.ranges.Range.{Range}
-use Rattle.mt_layout.specs.declared.spans.Span.{Span}
-use Rattle.mt_layout.specs.Spans.{leaf_range, Fills, BeginsFull, Apart}
-use Rattle.mt_leaf.specs.Edits.{join, holes_joined}
+use Rattle.mt_leaf.proofs.Prelude.{◌≡◌, ℕ, ◌+◌, ◌≤◌, ◌==◌, ◌&&◌, List, [], ◌∷◌, ◌++◌, length, refl, sym, ap, ◌∙◌, inl, inr, arith, flat_map, cases_Bool, eqb-false, eqb-true, Range, Span, leaf_range, Fills, BeginsFull, Apart, join, holes_joined}
 
 ranges_join : (x : Span) (xs : List Span) → flat_map leaf_range (join x xs) ≡ leaf_range x ++ flat_map leaf_range xs
 ranges_join x [] = refl

@@ -7,3 +7,4 @@ pub mod Joined
 pub mod Pushes
 pub mod Slots
 pub mod Stored
+mod Prelude

@@ -1,18 +1,6 @@
 -- An item pushed behind others: as one with the last of them where both are holes. What is pushed so has the spans of all,
 -- joined. Public: edits of items that a caller reads elsewhere are made of these.
-use Rattle.std.proofs.Common.{if◌then◌else◌, ◌≡◌, ◌≢◌, ℕ, suc, ◌+◌, ◌-◌, ◌<◌, ◌≤◌, ◌==◌, ◌&&◌, List, [], ◌∷◌, ◌++◌, true, length, get_or, set, take, drop, fold, refl, sym, ap, ◌∙◌, subst, inl, inr, arith, append-nil, append_assoc}
-use Rattle.std.specs.List.{refill}
-use Rattle.std.proofs.lemmas.Bool.{cases_Bool, eq-eqb, eqb-true}
-use Rattle.std.proofs.lemmas.List.{drop_all, take_all, length-set}
-use Rattle.mt_layout.specs.declared.items.Item.{Item}
-use Rattle.mt_layout.specs.declared.spans.Span.{Span}
-use Rattle.mt_layout.specs.Columns.{NoGaps}
-use Rattle.mt_layout.specs.Spans.{spans_from, BeginsFull, Apart, EndsFull}
-use Rattle.mt_layout.proofs.Gapless.{no_gaps-cons, no_gap_first, no_gaps_behind}
-use Rattle.mt_layout.proofs.SpanLists.{after, after-append, spans-append}
-use Rattle.mt_leaf.specs.Cuts.{word_of}
-use Rattle.mt_leaf.specs.Edits.{join, holes_joined, ends_with_hole}
-use Rattle.mt_leaf.specs.Places.{with_joined}
+use Rattle.mt_leaf.proofs.Prelude.{if◌then◌else◌, ◌≡◌, ◌≢◌, ℕ, suc, ◌+◌, ◌-◌, ◌<◌, ◌≤◌, ◌==◌, ◌&&◌, List, [], ◌∷◌, ◌++◌, true, length, get_or, set, take, drop, fold, refl, sym, ap, ◌∙◌, subst, inl, inr, arith, append-nil, append_assoc, refill, cases_Bool, eq-eqb, eqb-true, drop_all, take_all, length-set, Item, Span, NoGaps, spans_from, BeginsFull, Apart, EndsFull, no_gaps-cons, no_gap_first, no_gaps_behind, after, after-append, spans-append, word_of, join, holes_joined, ends_with_hole, with_joined}
 use Rattle.mt_leaf.proofs.Holes.{ends-append, full_no_hole}
 use Rattle.mt_leaf.proofs.Joined.{joined_apart}
 

@@ -1,13 +1,5 @@
 -- The slots that a search by greatest indexes finds: where a store begins and ends.
-use Rattle.std.proofs.Common.{◌≡◌, ℕ, zero, suc, ◌+◌, ◌-◌, ◌<◌, ◌≤◌, Bool, true, false, nat_lt, List, [], ◌∷◌, length, get_or, refl, arith}
-use Rattle.std.specs.List.{prefix_len}
-use Rattle.std.specs.List.Sorted.{IsNonDecreasingBy, IsPartitionPoint}
-use Rattle.std.proofs.lemmas.List.Sums.{prefix_len_is, prefix_len_passes, prefix_len-le-length}
-use Rattle.std.proofs.lemmas.Bool.{ltb-true}
-use Rattle.mt_layout.specs.declared.items.Item.{Item}
-use Rattle.mt_layout.specs.Columns.{RiseFrom}
-use Rattle.mt_layout.proofs.SpanLists.{rise_from_zero}
-use Rattle.mt_leaf.specs.Places.{slot_reaching, first_of}
+use Rattle.mt_leaf.proofs.Prelude.{◌≡◌, ℕ, zero, suc, ◌+◌, ◌-◌, ◌<◌, ◌≤◌, Bool, true, false, nat_lt, List, [], ◌∷◌, length, get_or, refl, arith, prefix_len, IsNonDecreasingBy, IsPartitionPoint, prefix_len_is, prefix_len_passes, prefix_len-le-length, ltb-true, Item, RiseFrom, rise_from_zero, slot_reaching, first_of}
 
 pub no_item : Item
 no_item = record { last = 0; word = 0; gap = 0 }

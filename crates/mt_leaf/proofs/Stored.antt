@@ -1,14 +1,5 @@
 -- A store on spans: what they stand for, what they fill, and how many they are.
-use Rattle.std.proofs.Common.{◌≡◌, ℕ, ◌+◌, ◌-◌, ◌<◌, ◌≤◌, ◌==◌, List, [], ◌∷◌, ◌++◌, length, min, max, nat_lt, refl, sym, ap, ◌∙◌, subst, inl, inr, arith, length-append}
-use Rattle.std.specs.List.{flat_map}
-use Rattle.std.proofs.lemmas.Grind.{flat_map-append}
-use Rattle.std.proofs.lemmas.Bool.{cases_Bool, ltb-true, ltb-false, lt-ltb, le-ltb}
-use Rattle.mt_base.specs.Map.{over, parts_below, parts_above, cut_below, cut_above}
-use Rattle.mt_base.specs.declared.ranges.Range.{Range}
-use Rattle.mt_layout.specs.declared.spans.Span.{Span}
-use Rattle.mt_layout.specs.Spans.{leaf_range, Fills}
-use Rattle.mt_leaf.specs.Edits.{span_below, span_above, spans_below, spans_above, span_stored, stored, edited, starting}
-use Rattle.mt_layout.proofs.SpanLists.{fills-append, fills_le}
+use Rattle.mt_leaf.proofs.Prelude.{◌≡◌, ℕ, ◌+◌, ◌-◌, ◌<◌, ◌≤◌, ◌==◌, List, [], ◌∷◌, ◌++◌, length, min, max, nat_lt, refl, sym, ap, ◌∙◌, subst, inl, inr, arith, length-append, flat_map, flat_map-append, cases_Bool, ltb-true, ltb-false, lt-ltb, le-ltb, over, parts_below, parts_above, cut_below, cut_above, Range, Span, leaf_range, Fills, span_below, span_above, spans_below, spans_above, span_stored, stored, edited, starting, fills-append, fills_le}
 use Rattle.mt_leaf.proofs.Joined.{ranges_joined, fills_joined, length_joined}
 
 -- ---- the ranges

@@ -1,21 +1,5 @@
 -- What stands in a row of an extent, by its pivots and slots alone.
-use Rattle.std.proofs.Common.{◌≡◌, ℕ, zero, suc, ◌+◌, ◌*◌, ◌<◌, List, [], ◌∷◌, ap, subst, sym, refl, Some, Option, arith, nat_le, inl, inr}
-use Rattle.std.specs.Prelude.{slice_index}
-use Rattle.std.proofs.lemmas.Bool.{cases_Bool}
-use Rattle.mt_base.specs.declared.kinds.Kind.{Kind}
-use Rattle.mt_base.specs.declared.widths.Width.{Width}
-use Rattle.mt_base.specs.Width.{columns, greatest}
-use Rattle.mt_layout.specs.declared.names.RowKind.{RowKind}
-use Rattle.mt_layout.specs.Rows.{row_in, named_kind}
-use Rattle.mt_layout.specs.Sizes.{slots_of, gaps_of}
-use Rattle.mt_layout.specs.Columns.{pivot_column, slot_column, items_from}
-use Rattle.mt_layout.specs.declared.spans.Span.{Span}
-use Rattle.mt_layout.specs.Spans.{spans_from, Fills, Apart, EndsFull}
-use Rattle.mt_layout.proofs.RowSizes.{slots_of-columns}
-use Rattle.mt_rows.specs.Spans.{Table, column, spans_by, spans_in}
-use Rattle.mt_rows.specs.Laws.{kind_at}
-use Rattle.mt_life.specs.declared.views.Extent.{Extent}
-use Rattle.mt_life.specs.Known.{extent_at, spans_at, Shape}
+use Rattle.mt_life.proofs.Prelude.{◌≡◌, ℕ, zero, suc, ◌+◌, ◌*◌, ◌<◌, List, [], ◌∷◌, ap, subst, sym, refl, Some, Option, arith, nat_le, inl, inr, slice_index, cases_Bool, Kind, Width, columns, greatest, RowKind, row_in, named_kind, slots_of, gaps_of, pivot_column, slot_column, items_from, Span, spans_from, Fills, Apart, EndsFull, slots_of-columns, Table, column, spans_by, spans_in, kind_at, Extent, extent_at, spans_at, Shape}
 
 -- a row that is named as one of its level has the spans of its extent
 pub spans_named : (kind : Kind) (t : Table) (level : ℕ) (x : Span) → named_kind x.word ≡ Some (kind_at kind level) → spans_at kind t (row_in x.word) (extent_at x level) ≡ spans_in t x

@@ -1,27 +1,5 @@
 -- A publishing store carries what is known of rows from before it to after it.
-use Rattle.std.proofs.Common.{◌≡◌, ◌≢◌, ℕ, suc, ◌+◌, ◌-◌, ◌≤◌, List, true, false, sym, ap, ◌∙◌, subst, inl, inr, ⊎_elim, arith}
-use Rattle.std.proofs.lemmas.Bool.{cases_Bool, cases_eq}
-use Rattle.std.specs.List.{AllByRecursion, flat_map}
-use Rattle.mt_base.specs.declared.kinds.Kind.{Kind}
-use Rattle.mt_base.specs.declared.calls.Call.{Call}
-use Rattle.mt_base.specs.declared.replies.Reply.{Reply}
-use Rattle.mt_base.specs.Map.{IsMap}
-use Rattle.mt_base.specs.Width.{kind_width}
-use Rattle.mt_layout.specs.Rows.{row_in}
-use Rattle.mt_layout.specs.declared.spans.Span.{Span}
-use Rattle.mt_layout.specs.Spans.{leaf_range}
-use Rattle.mt_rows.specs.declared.rows.Place.{Place}
-use Rattle.mt_rows.specs.declared.rows.Life.TheVariants.{Live, Dead}
-use Rattle.mt_rows.specs.Laws.{Tree, Stands, kind_at}
-use Rattle.mt_rows.specs.Sheet.{Rooted, Sheet, life_of, is_buried}
-use Rattle.mt_rows.specs.Publish.{tree_as, is_reached, IsReached, with_published, with_record, MayPublish, Published, StandsAt}
-use Rattle.mt_rows.proofs.Lists.{all_map}
-use Rattle.mt_rows.proofs.Reached.{stands_at, reached_times, reached_on_level}
-use Rattle.mt_rows.proofs.Published.{published_width}
-use Rattle.mt_life.specs.declared.views.Extent.{Extent}
-use Rattle.mt_life.specs.declared.views.Moment.{Moment}
-use Rattle.mt_life.specs.Moments.{moment_of, PartOf}
-use Rattle.mt_life.specs.Known.{State, state_of, extent_at, spans_at, Later, IsLive, HasRow, HasPart, calls, Child, Shape, Known, HasExtentsOf}
+use Rattle.mt_life.proofs.Prelude.{◌≡◌, ◌≢◌, ℕ, suc, ◌+◌, ◌-◌, ◌≤◌, List, true, false, sym, ap, ◌∙◌, subst, inl, inr, ⊎_elim, arith, cases_Bool, cases_eq, AllByRecursion, flat_map, Kind, Call, Reply, IsMap, kind_width, row_in, Span, leaf_range, Place, Live, Dead, Tree, Stands, kind_at, Rooted, Sheet, life_of, is_buried, tree_as, is_reached, IsReached, with_published, with_record, MayPublish, Published, StandsAt, all_map, stands_at, reached_times, reached_on_level, published_width, Extent, Moment, moment_of, PartOf, State, state_of, extent_at, spans_at, Later, IsLive, HasRow, HasPart, calls, Child, Shape, Known, HasExtentsOf}
 use Rattle.mt_life.proofs.Alike.{two_slots, same_spans_at, shape_moves}
 use Rattle.mt_life.proofs.Fitting.{placed}
 use Rattle.mt_life.proofs.Reaching.{PlaceOf, place_of, extent_reached, root_reached, map_here, shape_reached, leaf_reached, inner_reached}

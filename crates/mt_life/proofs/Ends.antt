@@ -1,17 +1,5 @@
 -- A call that begins or ends, and a scan, leave what is known of rows.
-use Rattle.std.proofs.Common.{◌≡◌, ℕ, ◌+◌, ◌-◌, ◌<◌, ◌≤◌, Bool, true, false, refl, sym, ap, ◌∙◌, subst, ⊎_elim, arith}
-use Rattle.std.proofs.lemmas.Bool.{cases_lt}
-use Rattle.mt_base.specs.declared.kinds.Kind.{Kind}
-use Rattle.mt_base.specs.declared.calls.Call.{Call}
-use Rattle.mt_base.specs.declared.replies.Reply.{Reply}
-use Rattle.mt_base.specs.Map.{IsMap}
-use Rattle.mt_rows.specs.declared.rows.Scan.{Scan}
-use Rattle.mt_rows.specs.Levels.{one_if}
-use Rattle.mt_rows.specs.Sheet.{is_buried, Sheet, MayBegin, begun, scanned}
-use Rattle.mt_rows.specs.Publish.{MayFinish, finished}
-use Rattle.mt_life.specs.declared.views.Extent.{Extent}
-use Rattle.mt_life.specs.declared.views.Moment.{Moment}
-use Rattle.mt_life.specs.Known.{State, state_of, with_cleared, HasRow, HasPart, calls, Known, Goes}
+use Rattle.mt_life.proofs.Prelude.{◌≡◌, ℕ, ◌+◌, ◌-◌, ◌<◌, ◌≤◌, Bool, true, false, refl, sym, ap, ◌∙◌, subst, ⊎_elim, arith, cases_lt, Kind, Call, Reply, IsMap, Scan, one_if, is_buried, Sheet, MayBegin, begun, scanned, MayFinish, finished, Extent, Moment, State, state_of, with_cleared, HasRow, HasPart, calls, Known, Goes}
 use Rattle.mt_life.proofs.Staying.{true_false}
 
 module _ (kind : Kind) (s : State) (e : ℕ → Extent) (m m' : ℕ → Moment) (known : Known kind s e m) (ended : ℕ) (in_flight published : Bool) (cleared : ℕ) where

@@ -1,28 +1,5 @@
 -- What is known of rows tells where each row that is reached stands.
-use Rattle.std.proofs.Common.{◌≡◌, ◌≢◌, ℕ, zero, suc, ◌≤◌, List, [], ◌∷◌, length, length-append, refl, sym, ap, ◌∙◌, subst, ⊎_elim, arith}
-use Rattle.std.specs.Prelude.{◌*◌}
-use Rattle.std.specs.List.{AllByRecursion}
-use Rattle.mt_base.specs.declared.kinds.Kind.{Kind}
-use Rattle.mt_base.specs.declared.widths.Width.{Width}
-use Rattle.mt_base.specs.Call.{finds_room}
-use Rattle.mt_base.specs.Width.{kind_width, most_rows}
-use Rattle.mt_layout.specs.Rows.{row_in}
-use Rattle.mt_layout.specs.Sizes.{slots_of}
-use Rattle.mt_layout.specs.declared.spans.Span.{Span}
-use Rattle.mt_rows.specs.Spans.{inner_kind, spans_in}
-use Rattle.mt_rows.specs.Levels.{expand, level, Levels}
-use Rattle.mt_rows.specs.Laws.{Tree, IsRow, IsTree, Stands}
-use Rattle.mt_rows.specs.Publish.{tree_as}
-use Rattle.mt_rows.specs.Replacement.{root_of}
-use Rattle.mt_rows.proofs.Lists.{all_expand}
-use Rattle.mt_rows.proofs.Heights.{level_rows}
-use Rattle.mt_rows.proofs.InnerKinds.{inner_not_named}
-use Rattle.mt_rows.proofs.Depth.{some_least}
-use Rattle.mt_rows.proofs.NineLevels.{few_slots_passed}
-use Rattle.mt_rows.proofs.Reached.{all_one_of, OnLevel}
-use Rattle.mt_life.specs.declared.views.Extent.{Extent}
-use Rattle.mt_life.specs.declared.views.Moment.{Moment}
-use Rattle.mt_life.specs.Known.{State, spans_at, IsLive, Child, Known}
+use Rattle.mt_life.proofs.Prelude.{◌≡◌, ◌≢◌, ℕ, zero, suc, ◌≤◌, List, [], ◌∷◌, length, length-append, refl, sym, ap, ◌∙◌, subst, ⊎_elim, arith, ◌*◌, AllByRecursion, Kind, Width, finds_room, kind_width, most_rows, row_in, slots_of, Span, inner_kind, spans_in, expand, level, Levels, Tree, IsRow, IsTree, Stands, tree_as, root_of, all_expand, level_rows, inner_not_named, some_least, few_slots_passed, all_one_of, OnLevel, Extent, Moment, State, spans_at, IsLive, Child, Known}
 use Rattle.mt_life.proofs.Alike.{spans_named}
 
 module _ (kind : Kind) (s : State) (e : ℕ → Extent) (m : ℕ → Moment) (known : Known kind s e m) where

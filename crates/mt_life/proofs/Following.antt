@@ -1,19 +1,5 @@
 -- The extents after a publishing store: of each row that is reached its place, of each other what it was.
-use Rattle.std.proofs.Common.{◌≡◌, ◌⊎◌, ℕ, zero, suc, ◌+◌, ◌<◌, ◌≤◌, List, [], ◌∷◌, length, get_or, true, false, refl, sym, ap, ◌∙◌, subst, inl, inr, ⊎_elim, arith}
-use Rattle.std.proofs.lemmas.List.{get_or_past}
-use Rattle.std.proofs.lemmas.Bool.{cases_Bool, cases_lt}
-use Rattle.mt_base.specs.declared.kinds.Kind.{Kind}
-use Rattle.mt_base.specs.Width.{first_row}
-use Rattle.mt_layout.specs.Rows.{row_in}
-use Rattle.mt_layout.specs.declared.spans.Span.{Span}
-use Rattle.mt_rows.specs.Trees.{height_in}
-use Rattle.mt_rows.specs.Laws.{Tree, IsTree, Stands}
-use Rattle.mt_rows.specs.Sheet.{Rooted}
-use Rattle.mt_rows.specs.Publish.{tree_as, is_reached, StandsAt}
-use Rattle.mt_rows.specs.Replacement.{root_of}
-use Rattle.mt_rows.proofs.Reached.{OnLevel, on_level, on_level_law, on_level_reached, reached_times, times_reached, reached_on_level, one_place}
-use Rattle.mt_life.specs.declared.views.Extent.{Extent}
-use Rattle.mt_life.specs.Known.{extent_at, extent_of, nowhere, HasExtentsOf}
+use Rattle.mt_life.proofs.Prelude.{◌≡◌, ◌⊎◌, ℕ, zero, suc, ◌+◌, ◌<◌, ◌≤◌, List, [], ◌∷◌, length, get_or, true, false, refl, sym, ap, ◌∙◌, subst, inl, inr, ⊎_elim, arith, get_or_past, cases_Bool, cases_lt, Kind, first_row, row_in, Span, height_in, Tree, IsTree, Stands, Rooted, tree_as, is_reached, StandsAt, root_of, OnLevel, on_level, on_level_law, on_level_reached, reached_times, times_reached, reached_on_level, one_place, Extent, extent_at, extent_of, nowhere, HasExtentsOf}
 use Rattle.mt_life.proofs.Staying.{true_false}
 
 module _ (kind : Kind) (t : Rooted) (h : ℕ) (stands : Stands (tree_as kind t) h) (before : ℕ → Extent) where

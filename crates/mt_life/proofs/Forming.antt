@@ -1,33 +1,5 @@
 -- A publishing store keeps a row's pivots and which of its slots are 0.
-use Rattle.std.proofs.Common.{◌≡◌, ◌≢◌, ℕ, zero, suc, ◌+◌, ◌-◌, ◌<◌, ◌≤◌, ◌==◌, List, [], ◌∷◌, map, Bool, true, false, Some, None, length, refl, sym, ap, ◌∙◌, subst, ⊎_elim, arith, get_or, get_or-set_other}
-use Rattle.std.proofs.lemmas.Bool.{cases_eq}
-use Rattle.std.proofs.lemmas.Option.{slice_get-get_or}
-use Rattle.std.specs.List.{slice_get}
-use Rattle.mt_base.specs.declared.kinds.Kind.{Kind}
-use Rattle.mt_base.specs.declared.calls.Call.{Call}
-use Rattle.mt_base.specs.declared.replies.Reply.{Reply}
-use Rattle.mt_layout.specs.declared.names.RowKind.{RowKind}
-use Rattle.mt_layout.specs.Rows.{row_in, named_kind}
-use Rattle.mt_layout.specs.Columns.{slot_column}
-use Rattle.mt_layout.specs.Sizes.{slots_of}
-use Rattle.mt_layout.specs.declared.spans.Span.{Span}
-use Rattle.mt_layout.proofs.Places.{other_column}
-use Rattle.mt_rows.specs.declared.rows.Place.{Place}
-use Rattle.mt_rows.specs.declared.rows.Place.TheVariants.{Root, Slot}
-use Rattle.mt_rows.specs.declared.rows.Life.TheVariants.{Live, Dead}
-use Rattle.mt_rows.specs.Spans.{base_of, column, spans_in}
-use Rattle.mt_rows.specs.Laws.{Tree, Stands, kind_at}
-use Rattle.mt_rows.specs.Sheet.{Rooted, Sheet, life_of}
-use Rattle.mt_rows.specs.Levels.{one_if}
-use Rattle.mt_rows.specs.Publish.{tree_as, with_published, with_record, MayPublish, Published, StandsAt, is_reached}
-use Rattle.mt_rows.specs.Replacement.{root_of}
-use Rattle.mt_rows.proofs.PlainNames.{slot_read}
-use Rattle.mt_rows.proofs.Reached.{OnLevel, stands_at, on_level, on_level_law, one_place}
-use Rattle.mt_rows.proofs.Published.{published_rows, published_width}
-use Rattle.mt_life.specs.declared.views.Extent.{Extent}
-use Rattle.mt_life.specs.declared.views.Moment.{Moment}
-use Rattle.mt_life.specs.Moments.{moment_of}
-use Rattle.mt_life.specs.Known.{State, state_of, Later, HasRow, Known, HasExtentsOf, SameForm, Goes}
+use Rattle.mt_life.proofs.Prelude.{◌≡◌, ◌≢◌, ℕ, zero, suc, ◌+◌, ◌-◌, ◌<◌, ◌≤◌, ◌==◌, List, [], ◌∷◌, map, Bool, true, false, Some, None, length, refl, sym, ap, ◌∙◌, subst, ⊎_elim, arith, get_or, get_or-set_other, cases_eq, slice_get-get_or, slice_get, Kind, Call, Reply, RowKind, row_in, named_kind, slot_column, slots_of, Span, other_column, Place, Root, Slot, Live, Dead, base_of, column, spans_in, Tree, Stands, kind_at, Rooted, Sheet, life_of, one_if, tree_as, with_published, with_record, MayPublish, Published, StandsAt, is_reached, root_of, slot_read, OnLevel, stands_at, on_level, on_level_law, one_place, published_rows, published_width, Extent, Moment, moment_of, State, state_of, Later, HasRow, Known, HasExtentsOf, SameForm, Goes}
 use Rattle.mt_life.proofs.Alike.{two_slots}
 use Rattle.mt_life.proofs.Staying.{true_false, IsAt, at_or_not, others_stay, place_stays, on}
 use Rattle.mt_life.proofs.Turning.{later_cases, any, dead_stays, later_stays}

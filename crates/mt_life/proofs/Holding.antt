@@ -1,25 +1,5 @@
 -- What is known of rows is enough for a section that holds some.
-use Rattle.std.proofs.Common.{◌≡◌, ◌≢◌, ℕ, suc, ◌+◌, ◌-◌, ◌<◌, ◌≤◌, Bool, true, false, Some, None, refl, sym, ap, ◌∙◌, subst, inl, inr, ⊎_elim, arith}
-use Rattle.std.proofs.lemmas.Bool.{cases_lt, cases_Bool}
-use Rattle.mt_base.specs.declared.kinds.Kind.{Kind}
-use Rattle.mt_base.specs.declared.widths.Width.{Width}
-use Rattle.mt_base.specs.Width.{columns, deepest}
-use Rattle.mt_layout.specs.declared.names.RowKind.{RowKind}
-use Rattle.mt_layout.specs.Rows.{row_in, dead_mark}
-use Rattle.mt_layout.specs.Sizes.{slots_of}
-use Rattle.mt_layout.specs.declared.spans.Span.{Span}
-use Rattle.mt_rows.specs.declared.rows.Life.{Life}
-use Rattle.mt_rows.specs.declared.rows.Life.TheVariants.{New, Draft, Live, Dead}
-use Rattle.mt_rows.specs.Spans.{Table, root_span}
-use Rattle.mt_rows.specs.Levels.{one_if}
-use Rattle.mt_rows.specs.Laws.{kind_at}
-use Rattle.mt_rows.specs.Sheet.{life_of, is_buried, word_at}
-use Rattle.mt_rows.proofs.Reached.{IsOneOf, all_one_of}
-use Rattle.mt_life.specs.declared.views.Extent.{Extent}
-use Rattle.mt_life.specs.declared.views.Held.{Held}
-use Rattle.mt_life.specs.declared.views.Moment.{Moment}
-use Rattle.mt_life.specs.Known.{State, begun_calls, extent_at, spans_at, Alive, Later, IsLive, HasRow, HasPart, calls, Child, Known, SameForm, Shape, Goes}
-use Rattle.mt_life.specs.Holding.{copy_of, come, died_by, as_known_now, Snapshot, HoldsRow, LeadsTo, LeafTells}
+use Rattle.mt_life.proofs.Prelude.{◌≡◌, ◌≢◌, ℕ, suc, ◌+◌, ◌-◌, ◌<◌, ◌≤◌, Bool, true, false, Some, None, refl, sym, ap, ◌∙◌, subst, inl, inr, ⊎_elim, arith, cases_lt, cases_Bool, Kind, Width, columns, deepest, RowKind, row_in, dead_mark, slots_of, Span, Life, New, Draft, Live, Dead, Table, root_span, one_if, kind_at, life_of, is_buried, word_at, IsOneOf, all_one_of, Extent, Held, Moment, State, begun_calls, extent_at, spans_at, Alive, Later, IsLive, HasRow, HasPart, calls, Child, Known, SameForm, Shape, Goes, copy_of, come, died_by, as_known_now, Snapshot, HoldsRow, LeadsTo, LeafTells}
 use Rattle.mt_life.proofs.Turning.{later_cases, any}
 
 form_same : (t : Table) (kind : RowKind) (row : ℕ) → SameForm t t kind row

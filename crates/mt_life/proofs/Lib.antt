@@ -13,3 +13,4 @@ pub mod Starting
 pub mod Staying
 pub mod Turning
 pub mod Writing
+mod Prelude

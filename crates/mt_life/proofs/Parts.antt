@@ -1,22 +1,5 @@
 -- What a tree says of its leaves and of its inner rows.
-use Rattle.std.proofs.Common.{◌≡◌, ◌⊎◌, ℕ, suc, ◌+◌, ◌-◌, ◌<◌, ◌≤◌, List, [], ◌∷◌, ◌++◌, map, refl, sym, ap, ◌∙◌, subst, inl, inr, arith}
-use Rattle.std.specs.List.{AllByRecursion, flat_map}
-use Rattle.std.proofs.lemmas.Grind.{flat_map-append}
-use Rattle.mt_base.specs.declared.ranges.Range.{Range}
-use Rattle.mt_base.specs.Width.{deepest}
-use Rattle.mt_layout.specs.declared.spans.Span.{Span}
-use Rattle.mt_layout.specs.Spans.{leaf_range, Fills}
-use Rattle.mt_rows.specs.Spans.{spans_in, root_span}
-use Rattle.mt_rows.specs.Levels.{expand, level, map_of}
-use Rattle.mt_rows.specs.Trees.{map_in, height_in}
-use Rattle.mt_rows.specs.Laws.{Tree, IsRow, Stands, top_of}
-use Rattle.mt_rows.specs.Replacement.{root_of}
-use Rattle.mt_rows.proofs.Lists.{all_map, all_front, all_back, all_join, fills_le, expand-append}
-use Rattle.mt_rows.proofs.Between.{fills_split, Between, leaf_between, map_between}
-use Rattle.mt_rows.proofs.Heights.{level_next, map_of_split, levels_upper, level_rows, level_fills}
-use Rattle.mt_rows.proofs.Depth.{ranges_by_depth}
-use Rattle.mt_rows.proofs.Reached.{IsOneOf, parts_of_one, one_of_expand, OnLevel, words, height_is, all_of_each}
-use Rattle.mt_life.specs.Moments.{Cut, PartOf, moment_of, first_index}
+use Rattle.mt_life.proofs.Prelude.{◌≡◌, ◌⊎◌, ℕ, suc, ◌+◌, ◌-◌, ◌<◌, ◌≤◌, List, [], ◌∷◌, ◌++◌, map, refl, sym, ap, ◌∙◌, subst, inl, inr, arith, AllByRecursion, flat_map, flat_map-append, Range, deepest, Span, leaf_range, Fills, spans_in, root_span, expand, level, map_of, map_in, height_in, Tree, IsRow, Stands, top_of, root_of, all_map, all_front, all_back, all_join, fills_le, expand-append, fills_split, Between, leaf_between, map_between, level_next, map_of_split, levels_upper, level_rows, level_fills, ranges_by_depth, IsOneOf, parts_of_one, one_of_expand, OnLevel, words, height_is, all_of_each, Cut, PartOf, moment_of, first_index}
 
 all_mapped : {A B : Type 0} (P : B → Type 0) (f : A → B) (xs : List A) → AllByRecursion (λ (x : A). P (f x)) xs → AllByRecursion P (map f xs)
 all_mapped P f [] each = tt

@@ -1,27 +1,5 @@
 -- What is known of the rows of a tree that are reached.
-use Rattle.std.proofs.Common.{◌≡◌, ◌≢◌, ℕ, zero, suc, ◌+◌, ◌<◌, List, refl, sym, ap, ◌∙◌, subst, inl, ⊎_elim, arith}
-use Rattle.std.specs.List.{AllByRecursion, flat_map}
-use Rattle.mt_base.specs.declared.kinds.Kind.{Kind}
-use Rattle.mt_base.specs.Map.{IsMap}
-use Rattle.mt_base.specs.Width.{deepest, kind_width}
-use Rattle.mt_layout.specs.Rows.{row_in}
-use Rattle.mt_layout.specs.declared.spans.Span.{Span}
-use Rattle.mt_layout.specs.Spans.{leaf_range, Fills, Apart, EndsFull}
-use Rattle.mt_rows.specs.declared.rows.Life.{Life}
-use Rattle.mt_rows.specs.declared.rows.Life.TheVariants.{Live}
-use Rattle.mt_rows.specs.Spans.{spans_in, root_span}
-use Rattle.mt_rows.specs.Trees.{map_in}
-use Rattle.mt_rows.specs.Laws.{Tree, IsTree, Stands, IsRow}
-use Rattle.mt_rows.specs.Sheet.{Rooted, life_of}
-use Rattle.mt_rows.specs.Publish.{tree_as, is_reached, IsReached, StandsAt, map_by}
-use Rattle.mt_rows.specs.Replacement.{root_of}
-use Rattle.mt_rows.proofs.Lists.{all_map}
-use Rattle.mt_rows.proofs.Ranges.{tree_map}
-use Rattle.mt_rows.proofs.Reached.{OnLevel, stands_at, on_level_law, on_level_reached, reached_times, times_reached, reached_on_level, reached_number}
-use Rattle.mt_life.specs.declared.views.Extent.{Extent}
-use Rattle.mt_life.specs.declared.views.Moment.{Moment}
-use Rattle.mt_life.specs.Moments.{moment_of, PartOf}
-use Rattle.mt_life.specs.Known.{extent_at, spans_at, IsLive, HasRow, HasPart, Child, Shape}
+use Rattle.mt_life.proofs.Prelude.{◌≡◌, ◌≢◌, ℕ, zero, suc, ◌+◌, ◌<◌, List, refl, sym, ap, ◌∙◌, subst, inl, ⊎_elim, arith, AllByRecursion, flat_map, Kind, IsMap, deepest, kind_width, row_in, Span, leaf_range, Fills, Apart, EndsFull, Life, Live, spans_in, root_span, map_in, Tree, IsTree, Stands, IsRow, Rooted, life_of, tree_as, is_reached, IsReached, StandsAt, map_by, root_of, all_map, tree_map, OnLevel, stands_at, on_level_law, on_level_reached, reached_times, times_reached, reached_on_level, reached_number, Extent, Moment, moment_of, PartOf, extent_at, spans_at, IsLive, HasRow, HasPart, Child, Shape}
 use Rattle.mt_life.proofs.Alike.{spans_named}
 use Rattle.mt_life.proofs.Parts.{leaf_part, children_stand}
 use Rattle.mt_life.proofs.Staying.{true_false, none_reached}

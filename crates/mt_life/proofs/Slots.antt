@@ -1,21 +1,5 @@
 -- Rows of the same form have the same slots, with their own words.
-use Rattle.std.proofs.Common.{◌≡◌, ℕ, zero, suc, ◌+◌, ◌<◌, ◌==◌, List, [], ◌∷◌, nat_le, Some, None, refl, sym, ap, ◌∙◌, subst, inl, inr, arith}
-use Rattle.std.specs.Prelude.{slice_index}
-use Rattle.std.specs.List.{slice_get}
-use Rattle.std.proofs.lemmas.Bool.{cases_Bool}
-use Rattle.std.proofs.lemmas.Option.{slice_get_within}
-use Rattle.mt_base.specs.declared.kinds.Kind.{Kind}
-use Rattle.mt_base.specs.declared.widths.Width.{Width}
-use Rattle.mt_layout.specs.Sizes.{slots_of, gaps_of}
-use Rattle.mt_layout.specs.Columns.{pivot_column, slot_column, items_from, items_at}
-use Rattle.mt_layout.specs.declared.spans.Span.{Span}
-use Rattle.mt_layout.specs.Spans.{spans_from}
-use Rattle.mt_layout.proofs.Reading.{few_items}
-use Rattle.mt_layout.proofs.SpanLists.{length-spans_from}
-use Rattle.mt_rows.specs.Spans.{Table, base_of, column}
-use Rattle.mt_rows.specs.Laws.{kind_at}
-use Rattle.mt_life.specs.declared.views.Extent.{Extent}
-use Rattle.mt_life.specs.Known.{spans_at, SameForm}
+use Rattle.mt_life.proofs.Prelude.{◌≡◌, ℕ, zero, suc, ◌+◌, ◌<◌, ◌==◌, List, [], ◌∷◌, nat_le, Some, None, refl, sym, ap, ◌∙◌, subst, inl, inr, arith, slice_index, slice_get, cases_Bool, slice_get_within, Kind, Width, slots_of, gaps_of, pivot_column, slot_column, items_from, items_at, Span, spans_from, few_items, length-spans_from, Table, base_of, column, kind_at, Extent, spans_at, SameForm}
 
 -- the spans with these words from the i-th on
 abbrev reword : (ℕ → ℕ) → ℕ → List Span → List Span

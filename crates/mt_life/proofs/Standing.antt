@@ -1,28 +1,5 @@
 -- A draft, a burying and a tending leave the words a tree: they keep all laws but those of parents and gaps.
-use Rattle.std.proofs.Common.{◌≡◌, ◌≢◌, ℕ, zero, suc, ◌<◌, Bool, true, false, List, length, Some, refl, sym, ap, ◌∙◌, subst, inl, inr, ⊎_elim, arith}
-use Rattle.std.proofs.lemmas.Bool.{cases_eq}
-use Rattle.mt_base.specs.declared.kinds.Kind.{Kind}
-use Rattle.mt_base.specs.Call.{finds_room}
-use Rattle.mt_base.specs.Width.{columns}
-use Rattle.mt_layout.specs.declared.names.RowKind.TheVariants.{Gapped}
-use Rattle.mt_layout.specs.Rows.{row_in, dead_mark}
-use Rattle.mt_layout.specs.Columns.{gap_column}
-use Rattle.mt_layout.specs.Sizes.{slots_of}
-use Rattle.mt_layout.specs.declared.spans.Span.{Span}
-use Rattle.mt_rows.specs.Spans.{spans_in}
-use Rattle.mt_rows.specs.Levels.{SameColumns, SameSpans}
-use Rattle.mt_rows.specs.Laws.{Tree, HasWords, IsTree, IsRow, Stands, kind_at, kind_on}
-use Rattle.mt_rows.specs.Sheet.{Rooted, Sheet, IsPlace, IsFree, MayBury, MayTend, IsGapOf, life_of, with_word, drafted, after_bury, tended}
-use Rattle.mt_rows.specs.Publish.{tree_as, tree_on, IsTreeOf}
-use Rattle.mt_rows.specs.Replacement.{root_of}
-use Rattle.mt_rows.proofs.Frames.{same_spans}
-use Rattle.mt_rows.proofs.GapStore.{spans_stay, row_stays}
-use Rattle.mt_rows.proofs.Heights.{levels_pair}
-use Rattle.mt_rows.proofs.Joins.{Shared, levels_shared}
-use Rattle.mt_rows.proofs.RowLaws.{with_words, row_keeps}
-use Rattle.mt_life.specs.declared.views.Extent.{Extent}
-use Rattle.mt_life.specs.declared.views.Moment.{Moment}
-use Rattle.mt_life.specs.Known.{state_of, IsFull, spans_at, IsLive, Child, Known}
+use Rattle.mt_life.proofs.Prelude.{◌≡◌, ◌≢◌, ℕ, zero, suc, ◌<◌, Bool, true, false, List, length, Some, refl, sym, ap, ◌∙◌, subst, inl, inr, ⊎_elim, arith, cases_eq, Kind, finds_room, columns, Gapped, row_in, dead_mark, gap_column, slots_of, Span, spans_in, SameColumns, SameSpans, Tree, HasWords, IsTree, IsRow, Stands, kind_at, kind_on, Rooted, Sheet, IsPlace, IsFree, MayBury, MayTend, IsGapOf, life_of, with_word, drafted, after_bury, tended, tree_as, tree_on, IsTreeOf, root_of, same_spans, spans_stay, row_stays, levels_pair, Shared, levels_shared, with_words, row_keeps, Extent, Moment, state_of, IsFull, spans_at, IsLive, Child, Known}
 use Rattle.mt_life.proofs.Alike.{spans_named}
 use Rattle.mt_life.proofs.Fitting.{all_fit}
 use Rattle.mt_life.proofs.Writing.{gap_fits, gap_row, row_others, col_others}

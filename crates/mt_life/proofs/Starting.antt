@@ -1,24 +1,5 @@
 -- Before the first call all is known of the rows of lawful words.
-use Rattle.std.proofs.Common.{◌≡◌, ◌≢◌, ℕ, zero, suc, ◌+◌, ◌<◌, ◌≤◌, List, [], ◌∷◌, length, false, sym, ap, ◌∙◌, subst, inl, inr, ⊎_elim, arith}
-use Rattle.mt_base.specs.declared.kinds.Kind.{Kind}
-use Rattle.mt_base.specs.Map.{IsMap}
-use Rattle.mt_layout.specs.Rows.{row_in, dead_mark, parent_at}
-use Rattle.mt_layout.specs.declared.spans.Span.{Span}
-use Rattle.mt_layout.proofs.RowSizes.{few_slots_of}
-use Rattle.mt_rows.specs.declared.rows.Life.TheVariants.{Live, Dead}
-use Rattle.mt_rows.specs.Spans.{Table, column, spans_in}
-use Rattle.mt_rows.specs.Levels.{level, Levels}
-use Rattle.mt_rows.specs.Laws.{Tree, IsTree, IsLawful, Stands, IsTended, ParentsFrom, kind_on}
-use Rattle.mt_rows.specs.Sheet.{Rooted, life_of, is_buried}
-use Rattle.mt_rows.specs.Publish.{tree_as, is_reached, IsReached, IsLawfulOf, LiveAreReached, NoneBuried}
-use Rattle.mt_rows.specs.Replacement.{root_of}
-use Rattle.mt_rows.proofs.FewSpans.{row_most}
-use Rattle.mt_rows.proofs.Heights.{level_next, level_rows}
-use Rattle.mt_rows.proofs.Reached.{IsOneOf, all_one_of, expand_one_of, OnLevel, on_level_law, reached_times, reached_on_level, one_place}
-use Rattle.mt_life.specs.declared.views.Extent.{Extent}
-use Rattle.mt_life.specs.declared.views.Moment.{Moment}
-use Rattle.mt_life.specs.Moments.{moment_of}
-use Rattle.mt_life.specs.Known.{State, HasRow, calls, Known, HasExtentsOf}
+use Rattle.mt_life.proofs.Prelude.{◌≡◌, ◌≢◌, ℕ, zero, suc, ◌+◌, ◌<◌, ◌≤◌, List, [], ◌∷◌, length, false, sym, ap, ◌∙◌, subst, inl, inr, ⊎_elim, arith, Kind, IsMap, row_in, dead_mark, parent_at, Span, few_slots_of, Live, Dead, Table, column, spans_in, level, Levels, Tree, IsTree, IsLawful, Stands, IsTended, ParentsFrom, kind_on, Rooted, life_of, is_buried, tree_as, is_reached, IsReached, IsLawfulOf, LiveAreReached, NoneBuried, root_of, row_most, level_next, level_rows, IsOneOf, all_one_of, expand_one_of, OnLevel, on_level_law, reached_times, reached_on_level, one_place, Extent, Moment, moment_of, State, HasRow, calls, Known, HasExtentsOf}
 use Rattle.mt_life.proofs.Reaching.{PlaceOf, place_of, root_reached, map_here, shape_reached, leaf_reached, inner_reached}
 use Rattle.mt_life.proofs.Staying.{true_false, none_reached}
 use Rattle.mt_life.proofs.Turning.{later_cases}

@@ -1,23 +1,5 @@
 -- The row in whose slot a word is published stays where it is; the words of other rows stay.
-use Rattle.std.proofs.Common.{◌≡◌, ◌≢◌, ◌⊎◌, ℕ, zero, suc, ◌+◌, ◌-◌, ◌<◌, List, Some, Bool, true, false, refl, sym, ◌∙◌, subst, inl, inr, ⊎_elim, arith, get_or-set_other}
-use Rattle.std.specs.List.{slice_get}
-use Rattle.std.proofs.lemmas.Bool.{cases_eq}
-use Rattle.mt_base.specs.declared.kinds.Kind.{Kind}
-use Rattle.mt_base.specs.Width.{columns}
-use Rattle.mt_layout.specs.Rows.{row_in}
-use Rattle.mt_layout.specs.declared.spans.Span.{Span}
-use Rattle.mt_layout.proofs.Places.{other_place, other_column}
-use Rattle.mt_layout.proofs.RowSizes.{some_columns, slot_above}
-use Rattle.mt_rows.specs.declared.rows.Place.{Place}
-use Rattle.mt_rows.specs.declared.rows.Place.TheVariants.{Root, Slot}
-use Rattle.mt_rows.specs.Spans.{Table, base_of, column, root_span}
-use Rattle.mt_rows.specs.Levels.{IsBelow, SameSpans}
-use Rattle.mt_rows.specs.Laws.{Tree, IsTree, Stands}
-use Rattle.mt_rows.specs.Sheet.{Rooted, Sheet}
-use Rattle.mt_rows.specs.Publish.{tree_as, is_reached, IsReached, IsPlaceToPublish, LiveAreReached, with_published}
-use Rattle.mt_rows.specs.Replacement.{root_of}
-use Rattle.mt_rows.proofs.Frames.{same_spans}
-use Rattle.mt_rows.proofs.Reached.{OnLevel, below_on_level, below_low, one_place, on_level_reached, times_reached}
+use Rattle.mt_life.proofs.Prelude.{◌≡◌, ◌≢◌, ◌⊎◌, ℕ, zero, suc, ◌+◌, ◌-◌, ◌<◌, List, Some, Bool, true, false, refl, sym, ◌∙◌, subst, inl, inr, ⊎_elim, arith, get_or-set_other, slice_get, cases_eq, Kind, columns, row_in, Span, other_place, other_column, some_columns, slot_above, Place, Root, Slot, Table, base_of, column, root_span, IsBelow, SameSpans, Tree, IsTree, Stands, Rooted, Sheet, tree_as, is_reached, IsReached, IsPlaceToPublish, LiveAreReached, with_published, root_of, same_spans, OnLevel, below_on_level, below_low, one_place, on_level_reached, times_reached}
 
 pub true_false : (b : Bool) → b ≡ true → b ≡ false → ⊥
 true_false b t f = let e : true ≡ false = sym t ∙ f in cc

@@ -1,17 +1,6 @@
 -- What a publishing store makes of lives.
-use Rattle.std.proofs.Common.{◌≡◌, ◌⊎◌, ℕ, ◌+◌, ◌≤◌, true, false, refl, sym, ap, ◌∙◌, subst, inl, inr, ⊎_elim, arith}
-use Rattle.std.proofs.lemmas.Bool.{cases_Bool}
-use Rattle.mt_base.specs.declared.kinds.Kind.{Kind}
-use Rattle.mt_base.specs.declared.calls.Call.{Call}
-use Rattle.mt_base.specs.declared.replies.Reply.{Reply}
-use Rattle.mt_rows.specs.declared.rows.Place.{Place}
-use Rattle.mt_rows.specs.declared.rows.Life.{Life}
-use Rattle.mt_rows.specs.declared.rows.Life.TheVariants.{New, Draft, Live, Dead}
-use Rattle.mt_rows.specs.Sheet.{Rooted, Sheet, life_of, is_buried}
-use Rattle.mt_rows.specs.Publish.{LiveAreReached, is_reached, with_published, MayPublish, Published}
-use Rattle.mt_life.specs.Known.{Later, HasRow}
+use Rattle.mt_life.proofs.Prelude.{◌≡◌, ◌⊎◌, ℕ, ◌+◌, ◌≤◌, true, false, refl, sym, ap, ◌∙◌, subst, inl, inr, ⊎_elim, arith, cases_Bool, Kind, Call, Reply, Place, Life, New, Draft, Live, Dead, Rooted, Sheet, life_of, is_buried, LiveAreReached, is_reached, with_published, MayPublish, Published, Later, HasRow, published_rows}
 use Rattle.mt_life.proofs.Staying.{true_false}
-use Rattle.mt_rows.proofs.Published.{published_rows}
 
 pub later_cases : (d : ℕ) (l : Life) → Later d l → (l ≡ Live) ⊎ ((e : ℕ) × (l ≡ Dead e) × (d ≤ e))
 later_cases d New h = absurd h

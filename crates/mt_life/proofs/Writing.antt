@@ -1,33 +1,6 @@
 -- A draft, a burying and a tending leave what is known of rows.
-use Rattle.std.proofs.Common.{◌≡◌, ◌≢◌, ◌⊎◌, ℕ, zero, suc, ◌+◌, ◌-◌, ◌*◌, ◌<◌, ◌≤◌, ◌==◌, List, [], ◌∷◌, ◌++◌, Bool, true, false, Some, None, length, refl, sym, ap, ◌∙◌, subst, inl, inr, ⊎_elim, arith, get_or-set_other, get_or-set_same}
-use Rattle.std.specs.Prelude.{slice_set}
-use Rattle.std.proofs.lemmas.Bool.{cases_eq}
-use Rattle.std.specs.List.{AllByRecursion, flat_map}
-use Rattle.mt_base.specs.declared.ranges.Range.{Range}
-use Rattle.mt_base.specs.declared.kinds.Kind.{Kind}
-use Rattle.mt_base.specs.Call.{finds_room}
-use Rattle.mt_base.specs.Width.{columns, first_row, deepest}
+use Rattle.mt_life.proofs.Prelude.{◌≡◌, ◌≢◌, ◌⊎◌, ℕ, zero, suc, ◌+◌, ◌-◌, ◌*◌, ◌<◌, ◌≤◌, ◌==◌, List, [], ◌∷◌, ◌++◌, Bool, true, false, Some, None, length, refl, sym, ap, ◌∙◌, subst, inl, inr, ⊎_elim, arith, get_or-set_other, get_or-set_same, slice_set, cases_eq, AllByRecursion, flat_map, Range, Kind, finds_room, columns, first_row, deepest, row_in, named_kind, dead_mark, Span, leaf_range, other_place, other_column, place_within, some_columns, gap_above, Life, New, Draft, Live, Dead, Table, base_of, column, spans_in, root_span, IsBelow, ranges_of, map_in, map_by, kind_at, Rooted, Sheet, IsPlace, IsFree, MayBury, MayTend, IsGapOf, life_of, is_buried, word_at, drafted, after_bury, tended, by_leaf, by_inner, all_map, one_of_get, all_one_of, Extent, Moment, PartOf, State, state_of, IsFull, spans_at, Later, IsLive, HasRow, HasPart, calls, Child, Known, Goes}
 use Rattle.mt_layout.specs.declared.names.RowKind.TheVariants as kinds
-use Rattle.mt_layout.specs.Rows.{row_in, named_kind, dead_mark}
-use Rattle.mt_layout.specs.declared.spans.Span.{Span}
-use Rattle.mt_layout.specs.Spans.{leaf_range}
-use Rattle.mt_layout.proofs.Places.{other_place, other_column, place_within}
-use Rattle.mt_layout.proofs.RowSizes.{some_columns, gap_above}
-use Rattle.mt_rows.specs.declared.rows.Life.{Life}
-use Rattle.mt_rows.specs.declared.rows.Life.TheVariants.{New, Draft, Live, Dead}
-use Rattle.mt_rows.specs.Spans.{Table, base_of, column, spans_in, root_span}
-use Rattle.mt_rows.specs.Levels.{IsBelow}
-use Rattle.mt_rows.specs.Trees.{ranges_of, map_in}
-use Rattle.mt_rows.specs.Publish.{map_by}
-use Rattle.mt_rows.specs.Laws.{kind_at}
-use Rattle.mt_rows.specs.Sheet.{Rooted, Sheet, IsPlace, IsFree, MayBury, MayTend, IsGapOf, life_of, is_buried, word_at, drafted, after_bury, tended}
-use Rattle.mt_rows.proofs.Depth.{by_leaf, by_inner}
-use Rattle.mt_rows.proofs.Lists.{all_map}
-use Rattle.mt_rows.proofs.Reached.{one_of_get, all_one_of}
-use Rattle.mt_life.specs.declared.views.Extent.{Extent}
-use Rattle.mt_life.specs.declared.views.Moment.{Moment}
-use Rattle.mt_life.specs.Moments.{PartOf}
-use Rattle.mt_life.specs.Known.{State, state_of, IsFull, spans_at, Later, IsLive, HasRow, HasPart, calls, Child, Known, Goes}
 use Rattle.mt_life.proofs.Alike.{SameSlots, two_slots, spans_named, same_spans_at, shape_moves}
 use Rattle.mt_life.proofs.Fitting.{children_known}
 use Rattle.mt_life.proofs.Staying.{true_false}

@@ -1,17 +1,5 @@
 -- What a call on a map comes to in the history of its tree, where nobody else holds rows.
-use Rattle.std.proofs.Common.{◌≡◌, ◌↔◌, ℕ, ◌+◌, ◌/◌, ◌<◌, true, List, [], ◌∷◌, Option, Some, None, IsSome, length, arith, refl, sym, ◌∙◌, subst, inl, inr, length-append}
-use Rattle.std.proofs.lemmas.List.Sums.{fold-append}
-use Rattle.mt_base.specs.declared.ranges.Range.{Range}
-use Rattle.mt_base.specs.declared.calls.Call.{Call}
-use Rattle.mt_base.specs.declared.replies.Holder.{Holder}
-use Rattle.mt_base.specs.declared.replies.Reply.{Reply}
-use Rattle.mt_base.specs.declared.replies.Shortage.{Shortage}
-use Rattle.mt_base.specs.Call.{acted}
-use Rattle.mt_base.specs.History.{History, Record, last_map, map_after}
-use Rattle.mt_base.specs.Nodes.{Limits, IsMade, IsRefused, IsShort, one_call_more}
-use Rattle.mt_base.proofs.PlainReplies.{was_acted}
-use Rattle.mt_base.proofs.Shortages.{still_short}
-use Rattle.mt_linearize.specs.OneThread.{AreLimits, MayLimit, IsNext, with_call}
+use Rattle.mt_linearize.proofs.Prelude.{◌≡◌, ◌↔◌, ℕ, ◌+◌, ◌/◌, ◌<◌, true, List, [], ◌∷◌, Option, Some, None, IsSome, length, arith, refl, sym, ◌∙◌, subst, inl, inr, length-append, fold-append, Range, Call, Holder, Reply, Shortage, acted, History, Record, last_map, map_after, Limits, IsMade, IsRefused, IsShort, one_call_more, was_acted, still_short, AreLimits, MayLimit, IsNext, with_call}
 
 abbrev record_of : ℕ → Call → Reply → Record
 record_of pass call r = record { pass = pass; call = call; reply = r }

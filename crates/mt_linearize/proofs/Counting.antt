@@ -1,14 +1,5 @@
 -- How many calls were made before a phase: as many as the tree's history then held.
-use Rattle.std.proofs.Common.{◌≡◌, ℕ, ◌+◌, ◌<◌, ◌≤◌, ◌==◌, ◌&&◌, nat_lt, Bool, true, false, List, [], ◌∷◌, ◌++◌, length, take, cond, arith, refl, sym, ap, ◌∙◌, subst, inl, inr, length-append}
-use Rattle.std.specs.List.{AllByRecursion, cons_option, filter}
-use Rattle.std.proofs.lemmas.Bool.{cases_Bool, lt-ltb, le-ltb}
-use Rattle.std.proofs.lemmas.List.{take-append-le, take_all}
-use Rattle.std.proofs.lemmas.List.Elements.{filter-append}
-use Rattle.mt_base.specs.History.{Record, History, map_at, last_map}
-use Rattle.mt_base.specs.Passes.{Begins, with_records}
-use Rattle.mt_log.specs.Run.{Outcome, Called, Looked, Counted, Step, calls_before, is_call}
-use Rattle.mt_linearize.specs.Phases.{Counts}
-use Rattle.mt_linearize.specs.Tracks.{CountsAt, call_number}
+use Rattle.mt_linearize.proofs.Prelude.{◌≡◌, ℕ, ◌+◌, ◌<◌, ◌≤◌, ◌==◌, ◌&&◌, nat_lt, Bool, true, false, List, [], ◌∷◌, ◌++◌, length, take, cond, arith, refl, sym, ap, ◌∙◌, subst, inl, inr, length-append, AllByRecursion, cons_option, filter, cases_Bool, lt-ltb, le-ltb, take-append-le, take_all, filter-append, Record, History, map_at, last_map, Begins, with_records, Outcome, Called, Looked, Counted, Step, calls_before, is_call, Counts, CountsAt, call_number}
 use Rattle.mt_linearize.proofs.Once.{numbers_on}
 
 abbrev called_before : ℕ → ℕ → Step → Bool

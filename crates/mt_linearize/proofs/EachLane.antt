@@ -1,10 +1,5 @@
 -- From the steps of each lane on a tree to all steps on it.
-use Rattle.std.proofs.Common.{◌≡◌, ℕ, ◌<◌, ◌==◌, true, false, List, [], ◌∷◌, refl, sym, inl, inr, ◌⊎◌}
-use Rattle.std.specs.List.{AllByRecursion}
-use Rattle.std.proofs.lemmas.Bool.{cases_Bool, eqb-true, eqb-false, eq-eqb}
-use Rattle.mt_log.specs.Run.{Outcome, Step}
-use Rattle.mt_linearize.specs.Leads.{outcomes_of}
-use Rattle.mt_linearize.specs.Tracks.{Pairs, On}
+use Rattle.mt_linearize.proofs.Prelude.{◌≡◌, ℕ, ◌<◌, ◌==◌, true, false, List, [], ◌∷◌, refl, sym, inl, inr, ◌⊎◌, AllByRecursion, cases_Bool, eqb-true, eqb-false, eq-eqb, Outcome, Step, outcomes_of, Pairs, On}
 use Rattle.mt_linearize.proofs.Lists.{every, every_of}
 
 -- what holds of the steps of a lane holds of those behind the first step

@@ -1,15 +1,5 @@
 -- The lanes make no more calls than they have lines.
-use Rattle.std.proofs.Common.{◌≡◌, ◌≢◌, ℕ, zero, suc, ◌+◌, ◌<◌, ◌≤◌, ◌==◌, List, [], ◌∷◌, ◌++◌, Option, Some, None, length, arith, refl, sym, ap, ◌∙◌, inl, inr, length-append}
-use Rattle.std.specs.List.{AllByRecursion, cons_option, filter_map}
-use Rattle.std.proofs.lemmas.Bool.{cases_Bool, eqb-true, eqb-false, eq-eqb, ne_eqb}
-use Rattle.std.proofs.lemmas.List.Elements.{filter_map-append}
-use Rattle.mt_log.specs.declared.lines.Item.{Item}
-use Rattle.mt_log.specs.declared.lines.Item.TheVariants.{Tree, Lane, Join, Dup, Check, Write, Ask, Scan}
-use Rattle.mt_log.specs.Run.{Asked, Outcome, Step, IsDone, place_within}
-use Rattle.mt_linearize.specs.Gone.{sum_below}
-use Rattle.mt_linearize.specs.Leads.{by_lane_on, outcomes_of}
-use Rattle.mt_linearize.specs.Rooms.{asked_of_lane, AreDoneEach, answers_joined}
-use Rattle.mt_linearize.specs.Tracks.{call_number, numbers_of}
+use Rattle.mt_linearize.proofs.Prelude.{◌≡◌, ◌≢◌, ℕ, zero, suc, ◌+◌, ◌<◌, ◌≤◌, ◌==◌, List, [], ◌∷◌, ◌++◌, Option, Some, None, length, arith, refl, sym, ap, ◌∙◌, inl, inr, length-append, AllByRecursion, cons_option, filter_map, cases_Bool, eqb-true, eqb-false, eq-eqb, ne_eqb, filter_map-append, Item, Tree, Lane, Join, Dup, Check, Write, Ask, Scan, Asked, Outcome, Step, IsDone, place_within, sum_below, by_lane_on, outcomes_of, asked_of_lane, AreDoneEach, answers_joined, call_number, numbers_of}
 use Rattle.mt_linearize.proofs.LineSteps.{scan_each}
 use Rattle.mt_linearize.proofs.Totals.{sum_none, sum_same}
 

@@ -1,13 +1,5 @@
 -- What a pass was answered stands in the tree's whole history: each call is the record of its number, and each read is true.
-use Rattle.std.proofs.Common.{◌≡◌, ℕ, ◌+◌, ◌<◌, List, [], ◌∷◌, ◌++◌, length, take, arith, sym, ap, ◌∙◌, subst, append_assoc, length-append}
-use Rattle.std.specs.List.{AllByRecursion}
-use Rattle.std.proofs.lemmas.List.{take-append-le}
-use Rattle.mt_base.specs.History.{Record, History}
-use Rattle.mt_base.specs.Passes.{Pass, Begins, IsSettled, with_records}
-use Rattle.mt_log.specs.Run.{Outcome, Called, Looked, Counted, Step}
-use Rattle.mt_linearize.specs.Leads.{Does, Leads, outcomes_of}
-use Rattle.mt_linearize.specs.Phases.{Tracked, IsPhaseOn}
-use Rattle.mt_linearize.specs.Tracks.{StandsInHistory, On}
+use Rattle.mt_linearize.proofs.Prelude.{◌≡◌, ℕ, ◌+◌, ◌<◌, List, [], ◌∷◌, ◌++◌, length, take, arith, sym, ap, ◌∙◌, subst, append_assoc, length-append, AllByRecursion, take-append-le, Record, History, Pass, Begins, IsSettled, with_records, Outcome, Called, Looked, Counted, Step, Does, Leads, outcomes_of, Tracked, IsPhaseOn, StandsInHistory, On}
 use Rattle.mt_linearize.proofs.Knowing.{does_onward, leads_onward}
 use Rattle.mt_linearize.proofs.LanePasses.{Lane, lane_in}
 use Rattle.mt_linearize.proofs.EachLane.{each_on}

@@ -1,23 +1,5 @@
 -- A pass that has seen its tree's whole history: what a call, a read and the others' calls make of it.
-use Rattle.std.proofs.Common.{◌≡◌, ◌≢◌, ℕ, zero, suc, ◌+◌, ◌<◌, ◌≤◌, ◌==◌, List, [], ◌∷◌, ◌++◌, Option, Some, None, length, map, fold, take, get_or, slice_get, arith, refl, sym, ap, ◌∙◌, subst, inl, inr, length-append}
-use Rattle.std.specs.Prelude.{IfSome}
-use Rattle.std.specs.List.{All, range_with_len, Contains}
-use Rattle.std.proofs.lemmas.Bool.{cases_Bool, eqb-true, eqb-false}
-use Rattle.std.proofs.lemmas.List.{append-nil, take_all}
-use Rattle.std.proofs.lemmas.List.Elements.{All-push}
-use Rattle.std.proofs.lemmas.List.FromFn.{length-map-range_with_len}
-use Rattle.std.proofs.lemmas.Option.{slice_get-get_or}
-use Rattle.mt_base.specs.declared.ranges.Range.{Range}
-use Rattle.mt_base.specs.declared.calls.Call.{Call}
-use Rattle.mt_base.specs.declared.calls.Query.{Query}
-use Rattle.mt_base.specs.declared.replies.Reply.{Reply}
-use Rattle.mt_base.specs.declared.replies.Holder.{Holder}
-use Rattle.mt_base.specs.Call.{answer}
-use Rattle.mt_base.specs.History.{Record, History, AreLegalFrom, IsAnswered, IsLegal, last_map, limits_after, map_after}
-use Rattle.mt_base.specs.Passes.{Pass, IsSettled, Read, Saw, Wrote, holder_of, places, places_from, with_records}
-use Rattle.mt_base.proofs.Goings.{begins_none}
-use Rattle.mt_linearize.specs.Leads.{Learns}
-use Rattle.mt_linearize.specs.OneThread.{IsNext, informed, known_to_all, with_call}
+use Rattle.mt_linearize.proofs.Prelude.{◌≡◌, ◌≢◌, ℕ, zero, suc, ◌+◌, ◌<◌, ◌≤◌, ◌==◌, List, [], ◌∷◌, ◌++◌, Option, Some, None, length, map, fold, take, get_or, slice_get, arith, refl, sym, ap, ◌∙◌, subst, inl, inr, length-append, IfSome, All, range_with_len, Contains, cases_Bool, eqb-true, eqb-false, append-nil, take_all, All-push, length-map-range_with_len, slice_get-get_or, Range, Call, Query, Reply, Holder, answer, Record, History, AreLegalFrom, IsAnswered, IsLegal, last_map, limits_after, map_after, Pass, IsSettled, Read, Saw, Wrote, holder_of, places, places_from, with_records, begins_none, Learns, IsNext, informed, known_to_all, with_call}
 use Rattle.mt_linearize.proofs.Lists.{same_some}
 
 -- ---- a list by numbers

@@ -1,14 +1,5 @@
 -- What a pass knows when a step begins, and of the steps behind it: from these the steps of one lane follow each other.
-use Rattle.std.proofs.Common.{◌≡◌, ℕ, ◌+◌, ◌<◌, ◌≤◌, max, List, [], ◌∷◌, ◌++◌, length, arith, ap, ◌∙◌, append_assoc, length-append}
-use Rattle.std.specs.List.{AllByRecursion}
-use Rattle.mt_base.specs.declared.calls.Call.{Call}
-use Rattle.mt_base.specs.declared.replies.Reply.{Reply}
-use Rattle.mt_base.specs.History.{History}
-use Rattle.mt_base.specs.Passes.{Pass, Grows, Begins, Wrote}
-use Rattle.mt_base.proofs.Goings.{begins_long, begins_on}
-use Rattle.mt_log.specs.Run.{Outcome, Called, Looked, Counted, Follows}
-use Rattle.mt_linearize.specs.Leads.{Does, Leads}
-use Rattle.mt_linearize.specs.Tracks.{Pairs}
+use Rattle.mt_linearize.proofs.Prelude.{◌≡◌, ℕ, ◌+◌, ◌<◌, ◌≤◌, max, List, [], ◌∷◌, ◌++◌, length, arith, ap, ◌∙◌, append_assoc, length-append, AllByRecursion, Call, Reply, History, Pass, Grows, Begins, Wrote, begins_long, begins_on, Outcome, Called, Looked, Counted, Follows, Does, Leads, Pairs}
 use Rattle.mt_linearize.proofs.Lists.{every}
 
 -- ---- a pass goes on

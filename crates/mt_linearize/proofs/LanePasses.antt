@@ -1,12 +1,5 @@
 -- The pass of a lane before and after a phase.
-use Rattle.std.proofs.Common.{◌≡◌, ℕ, zero, suc, ◌<◌, ◌≤◌, List, [], ◌∷◌, Some, length, slice_get, arith, refl, subst}
-use Rattle.std.specs.List.{All}
-use Rattle.std.proofs.lemmas.Option.{slice_get_within, get_or_from_slice_get}
-use Rattle.mt_base.specs.History.{Record}
-use Rattle.mt_base.specs.Passes.{Pass, Begins, IsSettled}
-use Rattle.mt_log.specs.Run.{Step}
-use Rattle.mt_linearize.specs.Leads.{Leads, outcomes_of}
-use Rattle.mt_linearize.specs.Phases.{Tracked, IsPhaseOn}
+use Rattle.mt_linearize.proofs.Prelude.{◌≡◌, ℕ, zero, suc, ◌<◌, ◌≤◌, List, [], ◌∷◌, Some, length, slice_get, arith, refl, subst, All, slice_get_within, get_or_from_slice_get, Record, Pass, Begins, IsSettled, Step, Leads, outcomes_of, Tracked, IsPhaseOn}
 use Rattle.mt_linearize.proofs.Knowing.{Onward, leads_onward}
 
 pub all_at : {X : Type 0} (P : X → Type 0) (xs : List X) (i : ℕ) (x : X) → All P xs → slice_get xs i ≡ Some x → P x

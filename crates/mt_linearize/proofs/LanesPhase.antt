@@ -1,18 +1,5 @@
 -- The steps of a phase's lanes, behind those that count, are a phase.
-use Rattle.std.proofs.Common.{◌≡◌, ℕ, ◌<◌, ◌==◌, true, false, List, [], ◌∷◌, ◌++◌, Some, length, slice_get, sym, ap, ◌∙◌, subst, inl, inr}
-use Rattle.std.specs.List.{All, AllByRecursion}
-use Rattle.std.proofs.lemmas.Bool.{cases_Bool}
-use Rattle.std.proofs.lemmas.List.Elements.{All-from_recursion, recursion_from_All, filter_map-append}
-use Rattle.mt_base.specs.History.{History, last_map}
-use Rattle.mt_base.specs.Passes.{Pass}
-use Rattle.mt_base.proofs.Lists.{all_join}
-use Rattle.mt_log.specs.Phases.{stepped_after}
-use Rattle.mt_log.specs.Run.{Asked, Outcome, Called, Looked, Counted, Step, AreDone}
-use Rattle.mt_log.specs.Trees.{NamesBelow}
-use Rattle.mt_linearize.specs.Gone.{CountsRanges, IsPhaseGone}
-use Rattle.mt_linearize.specs.Leads.{Leads, by_lane_on, outcomes_of}
-use Rattle.mt_linearize.specs.Phases.{Tracked, IsPhase, IsPhaseOn, Counts}
-use Rattle.mt_linearize.specs.Rooms.{asked_of_lane, AreDoneEach, take_turns, lanes_of, answers_joined}
+use Rattle.mt_linearize.proofs.Prelude.{◌≡◌, ℕ, ◌<◌, ◌==◌, true, false, List, [], ◌∷◌, ◌++◌, Some, length, slice_get, sym, ap, ◌∙◌, subst, inl, inr, All, AllByRecursion, cases_Bool, All-from_recursion, recursion_from_All, filter_map-append, History, last_map, Pass, all_join, stepped_after, Asked, Outcome, Called, Looked, Counted, Step, AreDone, NamesBelow, CountsRanges, IsPhaseGone, Leads, by_lane_on, outcomes_of, Tracked, IsPhase, IsPhaseOn, Counts, asked_of_lane, AreDoneEach, take_turns, lanes_of, answers_joined}
 use Rattle.mt_linearize.proofs.Leading.{learns_none, leads_on, phase_settled}
 use Rattle.mt_linearize.proofs.LineSteps.{IsUncounted, steps_named, steps_placed, steps_uncounted}
 use Rattle.mt_linearize.proofs.Lists.{every, same_some}

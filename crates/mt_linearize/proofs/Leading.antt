@@ -1,13 +1,5 @@
 -- A lane's pass goes on: one stretch behind another, and one step behind others.
-use Rattle.std.proofs.Common.{◌≡◌, ℕ, List, [], ◌∷◌, ◌++◌, Option, Some, length, slice_get, arith, refl, ap, ◌∙◌}
-use Rattle.std.specs.List.{All}
-use Rattle.std.proofs.lemmas.Option.{slice_get_within}
-use Rattle.mt_base.specs.History.{Record, History}
-use Rattle.mt_base.specs.Passes.{Pass, Learned, Saw, Settled, with_records}
-use Rattle.mt_base.proofs.Goings.{begins_none, grows_none, grows_on, learned_grows, saw_grows}
-use Rattle.mt_log.specs.Run.{Outcome, Step}
-use Rattle.mt_linearize.specs.Leads.{Learns, Does, Leads, outcomes_of}
-use Rattle.mt_linearize.specs.Phases.{IsPhaseOn, Counts}
+use Rattle.mt_linearize.proofs.Prelude.{◌≡◌, ℕ, List, [], ◌∷◌, ◌++◌, Option, Some, length, slice_get, arith, refl, ap, ◌∙◌, All, slice_get_within, Record, History, Pass, Learned, Saw, Settled, with_records, begins_none, grows_none, grows_on, learned_grows, saw_grows, Outcome, Step, Learns, Does, Leads, outcomes_of, IsPhaseOn, Counts}
 use Rattle.mt_linearize.proofs.LanePasses.{some_at}
 
 pub learns_none : (p : Pass) → Learns p p

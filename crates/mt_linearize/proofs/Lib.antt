@@ -23,3 +23,4 @@ pub mod Totals
 pub mod Tracking
 pub mod WorkedPhase
 pub mod WorkedPlay
+mod Prelude

@@ -1,15 +1,5 @@
 -- The steps that came of a line are of its lane and its phase, on the tree that it names.
-use Rattle.std.proofs.Common.{◌≡◌, ℕ, zero, suc, ◌<◌, true, false, List, [], ◌∷◌, Option, Some, None, refl, sym, subst}
-use Rattle.std.specs.List.{All, AllByRecursion}
-use Rattle.std.proofs.lemmas.List.Elements.{All-from_recursion}
-use Rattle.mt_base.specs.declared.calls.Query.{Query}
-use Rattle.mt_base.specs.declared.ranges.Range.{Range}
-use Rattle.mt_base.proofs.Lists.{all_join}
-use Rattle.mt_log.specs.declared.lines.Item.{Item}
-use Rattle.mt_log.specs.declared.lines.Item.TheVariants.{Tree, Lane, Join, Dup, Check, Write, Ask, Scan}
-use Rattle.mt_log.specs.Phases.{stepped_after}
-use Rattle.mt_log.specs.Run.{Asked, Outcome, Called, Looked, Counted, Step, IsDone, AreScanSteps, ScanGoesOnFrom, AreDone, find_at, place_behind, place_within, step_of}
-use Rattle.mt_log.specs.Trees.{NamesBelow}
+use Rattle.mt_linearize.proofs.Prelude.{◌≡◌, ℕ, zero, suc, ◌<◌, true, false, List, [], ◌∷◌, Option, Some, None, refl, sym, subst, All, AllByRecursion, All-from_recursion, Query, Range, all_join, Item, Tree, Lane, Join, Dup, Check, Write, Ask, Scan, stepped_after, Asked, Outcome, Called, Looked, Counted, Step, IsDone, AreScanSteps, ScanGoesOnFrom, AreDone, find_at, place_behind, place_within, step_of, NamesBelow}
 
 -- the tree on which a line's steps are
 abbrev IsOn : Item → ℕ → Type 0

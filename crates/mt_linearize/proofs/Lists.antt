@@ -1,10 +1,5 @@
 -- Of each one, and of each two, of a list, and of a list one of whose places is set.
-use Rattle.std.proofs.Common.{◌≡◌, ◌≢◌, ℕ, zero, suc, List, [], ◌∷◌, ◌++◌, Some, slice_get, slice_set, arith, refl, ap}
-use Rattle.std.specs.List.{AllByRecursion, AllPairs}
-use Rattle.std.proofs.lemmas.List.Elements.{All-from_recursion}
-use Rattle.std.proofs.lemmas.List.Kept.{AllPairs-cons}
-use Rattle.mt_base.proofs.Lists.{all_join}
-use Rattle.mt_linearize.specs.Tracks.{Pairs}
+use Rattle.mt_linearize.proofs.Prelude.{◌≡◌, ◌≢◌, ℕ, zero, suc, List, [], ◌∷◌, ◌++◌, Some, slice_get, slice_set, arith, refl, ap, AllByRecursion, AllPairs, All-from_recursion, AllPairs-cons, all_join, Pairs}
 
 pub same_some : {X : Type 0} (x y : X) → Some x ≡ Some y → x ≡ y
 same_some x y e = cc

@@ -1,23 +1,6 @@
 -- The calls of a tree stand in its history, each once, in the order of their numbers.
-use Rattle.std.proofs.Common.{◌≡◌, ◌≢◌, ℕ, suc, ◌+◌, ◌-◌, ◌<◌, ◌==◌, List, [], ◌∷◌, ◌++◌, Option, Some, None, length, map, get_or, slice_get, arith, refl, sym, ap, ◌∙◌, subst, append_assoc, length-append, inl, inr}
-use Rattle.std.specs.Prelude.{if◌then◌else◌}
-use Rattle.std.specs.List.{AllByRecursion, filter_map, flat_map, cons_option, enumerate_from, range_with_len}
-use Rattle.std.specs.List.Sorted.{IsPermutation}
-use Rattle.std.proofs.lemmas.Bool.{cases_Bool, eqb-true, eq-eqb, ne_eqb}
-use Rattle.std.proofs.lemmas.List.{append-nil, get_or_at}
-use Rattle.std.proofs.lemmas.List.Elements.{filter_map-append}
-use Rattle.std.proofs.lemmas.List.Sorted.{IsPermutation-refl, IsPermutation-cons, IsPermutation-trans, IsPermutation-map, length_permutation}
-use Rattle.std.proofs.lemmas.List.FromFn.{length-range_with_len}
-use Rattle.std.proofs.lemmas.Option.{slice_get_within}
-use Rattle.mt_base.specs.declared.calls.Call.TheVariants.{Clear}
+use Rattle.mt_linearize.proofs.Prelude.{◌≡◌, ◌≢◌, ℕ, suc, ◌+◌, ◌-◌, ◌<◌, ◌==◌, List, [], ◌∷◌, ◌++◌, Option, Some, None, length, map, get_or, slice_get, arith, refl, sym, ap, ◌∙◌, subst, append_assoc, length-append, inl, inr, if◌then◌else◌, AllByRecursion, filter_map, flat_map, cons_option, enumerate_from, range_with_len, IsPermutation, cases_Bool, eqb-true, eq-eqb, ne_eqb, append-nil, get_or_at, filter_map-append, IsPermutation-refl, IsPermutation-cons, IsPermutation-trans, IsPermutation-map, length_permutation, length-range_with_len, slice_get_within, Clear, Record, History, Pass, IsSettled, flat_same, one_more, each_once, Outcome, Called, Looked, Counted, Step, record_in, numbered_on, Does, Leads, by_lane_on, outcomes_of, Tracked, IsPhaseOn, IsRecordAt, StandsInHistory, On, OwnCalls, Tracks, call_number, numbers_of}
 use Rattle.mt_base.specs.declared.replies.Reply.TheVariants as replies
-use Rattle.mt_base.specs.History.{Record, History}
-use Rattle.mt_base.specs.Passes.{Pass, IsSettled}
-use Rattle.mt_base.proofs.SharedCalls.{flat_same, one_more, each_once}
-use Rattle.mt_log.specs.Run.{Outcome, Called, Looked, Counted, Step, record_in, numbered_on}
-use Rattle.mt_linearize.specs.Leads.{Does, Leads, by_lane_on, outcomes_of}
-use Rattle.mt_linearize.specs.Phases.{Tracked, IsPhaseOn}
-use Rattle.mt_linearize.specs.Tracks.{IsRecordAt, StandsInHistory, On, OwnCalls, Tracks, call_number, numbers_of}
 use Rattle.mt_linearize.proofs.LanePasses.{Lane, lane_in}
 use Rattle.mt_linearize.proofs.Lists.{same_some}
 

@@ -1,13 +1,6 @@
 -- A phase lies between the calls that were made before it and those that were made when it has gone by, and its steps are in
 -- order.
-use Rattle.std.proofs.Common.{◌≡◌, ℕ, ◌<◌, ◌≤◌, List, length, arith, ap, inl, inr}
-use Rattle.std.specs.List.{AllByRecursion}
-use Rattle.mt_base.specs.Passes.{Pass, IsSettled}
-use Rattle.mt_base.proofs.Goings.{begins_long}
-use Rattle.mt_log.specs.Run.{Outcome, Called, Looked, Counted, Step, Follows, Knows}
-use Rattle.mt_linearize.specs.Leads.{outcomes_of}
-use Rattle.mt_linearize.specs.Phases.{Tracked, IsPhaseOn}
-use Rattle.mt_linearize.specs.Tracks.{Pairs, On, TellsUpTo, OrderOn}
+use Rattle.mt_linearize.proofs.Prelude.{◌≡◌, ℕ, ◌<◌, ◌≤◌, List, length, arith, ap, inl, inr, AllByRecursion, Pass, IsSettled, begins_long, Outcome, Called, Looked, Counted, Step, Follows, Knows, outcomes_of, Tracked, IsPhaseOn, Pairs, On, TellsUpTo, OrderOn}
 use Rattle.mt_linearize.proofs.Knowing.{Behind, Known, leads_behind, leads_known, leads_follow}
 use Rattle.mt_linearize.proofs.LanePasses.{Lane, lane_in, phase_begins}
 use Rattle.mt_linearize.proofs.EachLane.{OneLane, each_on, pairs_on}

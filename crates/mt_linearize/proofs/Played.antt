@@ -1,28 +1,5 @@
 -- What one thread has played so far goes on, and is a run of the log in the end.
-use Rattle.std.proofs.Common.{◌≡◌, ◌⊎◌, ℕ, ◌+◌, ◌<◌, Bool, true, false, List, [], ◌∷◌, ◌++◌, Some, length, map, slice_get, arith, refl, sym, ap, ◌∙◌, subst, append_assoc, inl, inr, length-append}
-use Rattle.std.specs.Prelude.{slice_set}
-use Rattle.std.specs.List.{AllByRecursion}
-use Rattle.std.proofs.lemmas.List.{append-nil, length-map, length-set, map-append}
-use Rattle.std.proofs.lemmas.List.Elements.{All-from_recursion, recursion_from_All}
-use Rattle.std.proofs.lemmas.Option.{slice_get_within}
-use Rattle.mt_base.specs.declared.kinds.Kind.{Kind}
-use Rattle.mt_base.specs.declared.ranges.Range.{Range}
-use Rattle.mt_base.specs.declared.calls.Call.{Call}
-use Rattle.mt_base.specs.declared.calls.Query.{Query}
-use Rattle.mt_base.specs.declared.replies.Reply.{Reply}
-use Rattle.mt_base.specs.Call.{answer}
-use Rattle.mt_base.specs.History.{History, last_map}
-use Rattle.mt_base.specs.Passes.{IsSettled}
-use Rattle.mt_log.specs.declared.lines.Log.{Log}
-use Rattle.mt_log.specs.declared.transcripts.Said.{Said}
-use Rattle.mt_log.specs.declared.transcripts.Transcript.{Transcript}
-use Rattle.mt_log.specs.declared.trees.KnownTree.{KnownTree}
-use Rattle.mt_log.specs.Run.{Outcome, Called, Looked, Counted, Step, AreDone, IsRun, entry_of, listings_of, steps_of}
-use Rattle.mt_log.specs.Trees.{Declared, Empty, CopyOf, trees_of}
-use Rattle.mt_linearize.specs.Leads.{Leads}
-use Rattle.mt_linearize.specs.OneThread.{HasPlayed, IsNext, known_to_all, step_of_line, with_call}
-use Rattle.mt_linearize.specs.Phases.{Tracked, IsPhase, IsPhaseOn, histories_of, new_history, new_tracked}
-use Rattle.mt_linearize.specs.Tracks.{Ran}
+use Rattle.mt_linearize.proofs.Prelude.{◌≡◌, ◌⊎◌, ℕ, ◌+◌, ◌<◌, Bool, true, false, List, [], ◌∷◌, ◌++◌, Some, length, map, slice_get, arith, refl, sym, ap, ◌∙◌, subst, append_assoc, inl, inr, length-append, slice_set, AllByRecursion, append-nil, length-map, length-set, map-append, All-from_recursion, recursion_from_All, slice_get_within, Kind, Range, Call, Query, Reply, answer, History, last_map, IsSettled, Log, Said, Transcript, KnownTree, Outcome, Called, Looked, Counted, Step, AreDone, IsRun, entry_of, listings_of, steps_of, Declared, Empty, CopyOf, trees_of, Leads, HasPlayed, IsNext, known_to_all, step_of_line, with_call, Tracked, IsPhase, IsPhaseOn, histories_of, new_history, new_tracked, Ran}
 use Rattle.mt_linearize.proofs.Informed.{informed_are_settled}
 use Rattle.mt_linearize.proofs.LanePasses.{some_at}
 use Rattle.mt_linearize.proofs.Leading.{learns_none}

@@ -1,22 +1,5 @@
 -- One thread goes on: one more tree, one more step, one more phase.
-use Rattle.std.proofs.Common.{◌≡◌, ◌≢◌, ◌⊎◌, ℕ, ◌+◌, ◌<◌, ◌==◌, true, false, List, [], ◌∷◌, ◌++◌, Some, length, map, slice_get, arith, refl, sym, ap, ◌∙◌, subst, inl, inr}
-use Rattle.std.proofs.lemmas.Bool.{cases_Bool, eqb-true, eqb-false, eq-eqb}
-use Rattle.std.proofs.lemmas.List.{append-nil, length-map}
-use Rattle.std.proofs.lemmas.List.Elements.{All-push, filter_map-append}
-use Rattle.std.proofs.lemmas.List.FromFn.{length-map-range_with_len}
-use Rattle.std.proofs.lemmas.Option.{slice_get_within, slice_get-map}
-use Rattle.mt_base.specs.declared.ranges.Range.{Range}
-use Rattle.mt_base.specs.declared.calls.Call.{Call}
-use Rattle.mt_base.specs.declared.calls.Query.{Query}
-use Rattle.mt_base.specs.declared.replies.Reply.{Reply}
-use Rattle.mt_base.specs.Call.{answer}
-use Rattle.mt_base.specs.History.{Record, History, last_map}
-use Rattle.mt_base.specs.Passes.{Pass, IsSettled, with_records}
-use Rattle.mt_log.specs.declared.transcripts.Said.{Said}
-use Rattle.mt_log.specs.Run.{Outcome, Called, Looked, Counted, Step}
-use Rattle.mt_linearize.specs.Leads.{Learns, Does, Leads, by_lane_on, outcomes_of}
-use Rattle.mt_linearize.specs.OneThread.{IsNext, informed, known_to_all, step_of_line, with_call}
-use Rattle.mt_linearize.specs.Phases.{Tracked, IsPhase, IsPhaseOn, Counts}
+use Rattle.mt_linearize.proofs.Prelude.{◌≡◌, ◌≢◌, ◌⊎◌, ℕ, ◌+◌, ◌<◌, ◌==◌, true, false, List, [], ◌∷◌, ◌++◌, Some, length, map, slice_get, arith, refl, sym, ap, ◌∙◌, subst, inl, inr, cases_Bool, eqb-true, eqb-false, eq-eqb, append-nil, length-map, All-push, filter_map-append, length-map-range_with_len, slice_get_within, slice_get-map, Range, Call, Query, Reply, answer, Record, History, last_map, Pass, IsSettled, with_records, Said, Outcome, Called, Looked, Counted, Step, Learns, Does, Leads, by_lane_on, outcomes_of, IsNext, informed, known_to_all, step_of_line, with_call, Tracked, IsPhase, IsPhaseOn, Counts}
 use Rattle.mt_linearize.proofs.Informed.{informed_learns, informed_reads, informed_wrote, numbered_at, settled_next}
 use Rattle.mt_linearize.proofs.LanePasses.{some_at}
 use Rattle.mt_linearize.proofs.Leading.{leads_last, leads_push, learns_none}

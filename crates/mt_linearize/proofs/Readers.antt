@@ -1,18 +1,5 @@
 -- Where rows were held, the holder's lane has read.
-use Rattle.std.proofs.Common.{◌≡◌, ◌≢◌, ℕ, ◌+◌, ◌<◌, ◌≤◌, ◌==◌, ◌||◌, true, false, List, [], ◌∷◌, ◌++◌, Option, Some, None, length, get_or, slice_get, arith, refl, sym, ap, ◌∙◌, subst, inl, inr, length-append}
-use Rattle.std.specs.Prelude.{IfSome}
-use Rattle.std.specs.List.{All, AllByRecursion, list_any, Contains}
-use Rattle.std.proofs.lemmas.Bool.{cases_Bool, le-leb, or_left, or_right}
-use Rattle.std.proofs.lemmas.List.{get_or_at}
-use Rattle.std.proofs.lemmas.List.Folds.{list_any-append}
-use Rattle.std.proofs.lemmas.Option.{slice_get_within}
-use Rattle.mt_base.specs.declared.replies.Holder.{Holder}
-use Rattle.mt_base.specs.History.{Record, History}
-use Rattle.mt_base.specs.Passes.{Pass, NamesReader, IsSettled, holder_of}
-use Rattle.mt_log.specs.Run.{Outcome, Called, Looked, Counted, Step, holder_in, is_read, is_read_by, IsHeldRightly}
-use Rattle.mt_linearize.specs.Leads.{Does, Leads, outcomes_of}
-use Rattle.mt_linearize.specs.Phases.{Tracked, IsPhaseOn}
-use Rattle.mt_linearize.specs.Tracks.{IsRecordAt, StandsInHistory, On, OwnReads, reads_on}
+use Rattle.mt_linearize.proofs.Prelude.{◌≡◌, ◌≢◌, ℕ, ◌+◌, ◌<◌, ◌≤◌, ◌==◌, ◌||◌, true, false, List, [], ◌∷◌, ◌++◌, Option, Some, None, length, get_or, slice_get, arith, refl, sym, ap, ◌∙◌, subst, inl, inr, length-append, IfSome, All, AllByRecursion, list_any, Contains, cases_Bool, le-leb, or_left, or_right, get_or_at, list_any-append, slice_get_within, Holder, Record, History, Pass, NamesReader, IsSettled, holder_of, Outcome, Called, Looked, Counted, Step, holder_in, is_read, is_read_by, IsHeldRightly, Does, Leads, outcomes_of, Tracked, IsPhaseOn, IsRecordAt, StandsInHistory, On, OwnReads, reads_on}
 use Rattle.mt_linearize.proofs.Knowing.{does_onward}
 use Rattle.mt_linearize.proofs.LanePasses.{Lane, lane_in}
 use Rattle.mt_linearize.proofs.EachLane.{each_on}

@@ -1,12 +1,5 @@
 -- What is put back is what came of the lines in the log's order, and in each lane what came of it there.
-use Rattle.std.proofs.Common.{◌≡◌, ◌≢◌, ◌⊎◌, ℕ, ◌==◌, true, false, List, [], ◌∷◌, ◌++◌, take, refl, sym, ap, ◌∙◌, subst, inl, inr}
-use Rattle.std.specs.List.{AllByRecursion}
-use Rattle.std.proofs.lemmas.Bool.{cases_Bool, eqb-true, eqb-false, eq-eqb, ne_eqb}
-use Rattle.std.proofs.lemmas.List.Elements.{filter_map-append}
-use Rattle.mt_log.specs.declared.lines.Item.{Item}
-use Rattle.mt_log.specs.Run.{Asked, Step, IsDone, AreDone}
-use Rattle.mt_linearize.specs.Leads.{by_lane_on, outcomes_of}
-use Rattle.mt_linearize.specs.Rooms.{asked_of_lane, AreDoneEach, rooms_behind, take_turns, lanes_of, answers_joined}
+use Rattle.mt_linearize.proofs.Prelude.{◌≡◌, ◌≢◌, ◌⊎◌, ℕ, ◌==◌, true, false, List, [], ◌∷◌, ◌++◌, take, refl, sym, ap, ◌∙◌, subst, inl, inr, AllByRecursion, cases_Bool, eqb-true, eqb-false, eq-eqb, ne_eqb, filter_map-append, Item, Asked, Step, IsDone, AreDone, by_lane_on, outcomes_of, asked_of_lane, AreDoneEach, rooms_behind, take_turns, lanes_of, answers_joined}
 use Rattle.mt_linearize.proofs.LineSteps.{done_each}
 
 -- ---- what came of a line is of its lane

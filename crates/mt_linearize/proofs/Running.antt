@@ -1,19 +1,6 @@
 -- All trees go on from phase to phase, and are a run of the log when there are no more.
-use Rattle.std.proofs.Common.{◌≡◌, ℕ, ◌+◌, ◌<◌, ◌≤◌, List, [], ◌++◌, Some, length, map, get_or, slice_get, arith, refl, sym, ap, ◌∙◌, subst}
-use Rattle.std.specs.List.{All, AllByRecursion}
-use Rattle.std.proofs.lemmas.List.{length-map}
-use Rattle.std.proofs.lemmas.List.Elements.{All-from_recursion, recursion_from_All}
-use Rattle.std.proofs.lemmas.Option.{slice_get_within, slice_get-get_or, slice_get-map}
+use Rattle.mt_linearize.proofs.Prelude.{◌≡◌, ℕ, ◌+◌, ◌<◌, ◌≤◌, List, [], ◌++◌, Some, length, map, get_or, slice_get, arith, refl, sym, ap, ◌∙◌, subst, All, AllByRecursion, length-map, All-from_recursion, recursion_from_All, slice_get_within, slice_get-get_or, slice_get-map, Record, History, IsLegal, map_at, Begins, with_records, all_join, Log, Transcript, Outcome, Called, Looked, Counted, Step, Opens, OpensAs, IsTrueOf, StandsIn, IsHeldRightly, IsRun, AreDone, calls_before, steps_of, entry_of, listings_of, Opening, Empty, CopyOf, Declared, trees_of, Tracked, IsPhase, IsPhaseOn, histories_of, TellsUpTo, OrderOn, StandsInHistory, CountsAt, Tracks, IsPlaced, HasBegun, Ran}
 use Rattle.mt_base.specs.declared.kinds.Kind.TheVariants as kinds
-use Rattle.mt_base.specs.History.{Record, History, IsLegal, map_at}
-use Rattle.mt_base.specs.Passes.{Begins, with_records}
-use Rattle.mt_base.proofs.Lists.{all_join}
-use Rattle.mt_log.specs.declared.lines.Log.{Log}
-use Rattle.mt_log.specs.declared.transcripts.Transcript.{Transcript}
-use Rattle.mt_log.specs.Run.{Outcome, Called, Looked, Counted, Step, Opens, OpensAs, IsTrueOf, StandsIn, IsHeldRightly, IsRun, AreDone, calls_before, steps_of, entry_of, listings_of}
-use Rattle.mt_log.specs.Trees.{Opening, Empty, CopyOf, Declared, trees_of}
-use Rattle.mt_linearize.specs.Phases.{Tracked, IsPhase, IsPhaseOn, histories_of}
-use Rattle.mt_linearize.specs.Tracks.{TellsUpTo, OrderOn, StandsInHistory, CountsAt, Tracks, IsPlaced, HasBegun, Ran}
 use Rattle.mt_linearize.proofs.Counting.{before_within, before_kept, map_stays}
 use Rattle.mt_linearize.proofs.LanePasses.{some_at, phase_begins}
 use Rattle.mt_linearize.proofs.Lists.{same_some, every, pairs_all}

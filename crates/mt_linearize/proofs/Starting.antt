@@ -1,19 +1,5 @@
 -- One more tree, which is empty or a copy.
-use Rattle.std.proofs.Common.{◌≡◌, ◌⊎◌, ℕ, zero, suc, ◌+◌, ◌<◌, ◌≤◌, List, [], ◌∷◌, ◌++◌, Some, length, map, get_or, slice_get, arith, refl, sym, ap, ◌∙◌, subst, inl, inr, length-append}
-use Rattle.std.specs.List.{All, AllByRecursion, range_with_len, Contains}
-use Rattle.std.proofs.lemmas.Bool.{ne_eqb}
-use Rattle.std.proofs.lemmas.List.FromFn.{length-map-range_with_len}
-use Rattle.std.proofs.lemmas.Option.{slice_get_within, slice_get-get_or}
-use Rattle.mt_base.specs.declared.kinds.Kind.{Kind}
-use Rattle.mt_base.specs.declared.ranges.Range.{Range}
-use Rattle.mt_base.specs.History.{History, last_map}
-use Rattle.mt_base.specs.Passes.{Pass, IsSettled, new_pass, places}
-use Rattle.mt_log.specs.declared.trees.KnownTree.{KnownTree}
-use Rattle.mt_log.specs.Run.{Step, Opens, OpensAs, calls_before}
-use Rattle.mt_log.specs.Trees.{Opening, Empty, CopyOf, Declared}
-use Rattle.mt_linearize.specs.Leads.{outcomes_of}
-use Rattle.mt_linearize.specs.Phases.{Tracked, histories_of, new_history, new_tracked}
-use Rattle.mt_linearize.specs.Tracks.{Pairs, OrderOn, On, Tracks, IsPlaced, HasBegun, Ran, numbers_of}
+use Rattle.mt_linearize.proofs.Prelude.{◌≡◌, ◌⊎◌, ℕ, zero, suc, ◌+◌, ◌<◌, ◌≤◌, List, [], ◌∷◌, ◌++◌, Some, length, map, get_or, slice_get, arith, refl, sym, ap, ◌∙◌, subst, inl, inr, length-append, All, AllByRecursion, range_with_len, Contains, ne_eqb, length-map-range_with_len, slice_get_within, slice_get-get_or, Kind, Range, History, last_map, Pass, IsSettled, new_pass, places, KnownTree, Step, Opens, OpensAs, calls_before, Opening, Empty, CopyOf, Declared, outcomes_of, Tracked, histories_of, new_history, new_tracked, Pairs, OrderOn, On, Tracks, IsPlaced, HasBegun, Ran, numbers_of}
 use Rattle.mt_linearize.proofs.Counting.{all_before, whole}
 use Rattle.mt_linearize.proofs.Lists.{same_some, every}
 use Rattle.mt_linearize.proofs.Once.{numbers_long}

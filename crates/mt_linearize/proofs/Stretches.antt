@@ -1,18 +1,5 @@
 -- A log by stretches of its lines, one behind another.
-use Rattle.std.proofs.Common.{◌≡◌, ◌≢◌, ℕ, ◌+◌, ◌<◌, Bool, false, List, [], ◌∷◌, ◌++◌, Option, Some, length, map, arith, refl, sym, ap, ◌∙◌, subst, append_assoc, length-append, inl, inr}
-use Rattle.std.specs.List.{AllByRecursion}
-use Rattle.std.specs.Option.{option_to_list}
-use Rattle.std.proofs.lemmas.Bool.{cases_Bool}
-use Rattle.std.proofs.lemmas.List.{length-map}
-use Rattle.mt_log.specs.declared.lines.Item.{Item}
-use Rattle.mt_log.specs.declared.lines.Item.TheVariants.{Tree, Lane, Join, Dup}
-use Rattle.mt_log.specs.declared.lines.Line.{Line}
-use Rattle.mt_log.specs.Phases.{AreInPlaceFrom, IsInPlace, phase_after, stepped_after, stepped_from}
-use Rattle.mt_log.specs.Reader.{least_behind}
-use Rattle.mt_log.specs.Run.{Asked, Step, AreDone, asked_from, is_answered, lane_after, lane_of, steps_of}
-use Rattle.mt_log.specs.Trees.{AreNamedFrom, CopyOf, Declared, Empty, IsReadable, NamesBelow, NumbersRiseFrom, count_after, declared_by, most_lanes, renamed, trees_from, trees_of}
-use Rattle.mt_linearize.specs.Lines.{asked_by, lane_behind, phase_behind}
-use Rattle.mt_linearize.specs.Tracks.{Pairs}
+use Rattle.mt_linearize.proofs.Prelude.{◌≡◌, ◌≢◌, ℕ, ◌+◌, ◌<◌, Bool, false, List, [], ◌∷◌, ◌++◌, Option, Some, length, map, arith, refl, sym, ap, ◌∙◌, subst, append_assoc, length-append, inl, inr, AllByRecursion, option_to_list, cases_Bool, length-map, Item, Tree, Lane, Join, Dup, Line, AreInPlaceFrom, IsInPlace, phase_after, stepped_after, stepped_from, least_behind, Asked, Step, AreDone, asked_from, is_answered, lane_after, lane_of, steps_of, AreNamedFrom, CopyOf, Declared, Empty, IsReadable, NamesBelow, NumbersRiseFrom, count_after, declared_by, most_lanes, renamed, trees_from, trees_of, asked_by, lane_behind, phase_behind, Pairs}
 use Rattle.mt_linearize.proofs.LanePasses.{some_at}
 
 -- ---- one stretch behind another

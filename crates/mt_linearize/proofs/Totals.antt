@@ -1,19 +1,5 @@
 -- A tree has as many calls as its settled passes have made, and passes that made none leave it as it is.
-use Rattle.std.proofs.Common.{◌≡◌, ◌≢◌, ◌⊎◌, ℕ, zero, suc, ◌+◌, ◌<◌, ◌≤◌, ◌==◌, List, [], ◌∷◌, ◌++◌, Some, length, slice_get, arith, refl, sym, ap, ◌∙◌, subst, inl, inr, length-append}
-use Rattle.std.specs.List.{AllByRecursion}
-use Rattle.std.proofs.lemmas.Bool.{cases_Bool, eqb-true, eqb-false}
-use Rattle.std.proofs.lemmas.List.{append-nil}
-use Rattle.std.proofs.lemmas.List.Elements.{recursion_from_All}
-use Rattle.std.proofs.lemmas.Option.{slice_get_within}
-use Rattle.mt_base.specs.History.{Record, History}
-use Rattle.mt_base.specs.Passes.{Pass, Begins, IsSettled, Saw, Settled, places, places_from, with_records}
-use Rattle.mt_base.proofs.Goings.{begins_none, begins_on, begins_long}
-use Rattle.mt_base.proofs.SharedCalls.{place_taken, place_left}
-use Rattle.mt_log.specs.Run.{Step}
-use Rattle.mt_linearize.specs.Gone.{HaveGone, OnlySaw, sum_below}
-use Rattle.mt_linearize.specs.Leads.{outcomes_of}
-use Rattle.mt_linearize.specs.Rooms.{answers_joined}
-use Rattle.mt_linearize.specs.Tracks.{numbers_of}
+use Rattle.mt_linearize.proofs.Prelude.{◌≡◌, ◌≢◌, ◌⊎◌, ℕ, zero, suc, ◌+◌, ◌<◌, ◌≤◌, ◌==◌, List, [], ◌∷◌, ◌++◌, Some, length, slice_get, arith, refl, sym, ap, ◌∙◌, subst, inl, inr, length-append, AllByRecursion, cases_Bool, eqb-true, eqb-false, append-nil, recursion_from_All, slice_get_within, Record, History, Pass, Begins, IsSettled, Saw, Settled, places, places_from, with_records, begins_none, begins_on, begins_long, place_taken, place_left, Step, HaveGone, OnlySaw, sum_below, outcomes_of, answers_joined, numbers_of}
 use Rattle.mt_linearize.proofs.LanePasses.{all_at, some_at}
 use Rattle.mt_linearize.proofs.Once.{leads_number}
 

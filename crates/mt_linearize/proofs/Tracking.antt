@@ -1,13 +1,5 @@
 -- A tree goes on from phase to phase.
-use Rattle.std.proofs.Common.{◌≡◌, ℕ, ◌<◌, ◌≤◌, List, ◌++◌, length, arith, sym, subst}
-use Rattle.std.specs.List.{AllByRecursion}
-use Rattle.std.proofs.lemmas.List.Elements.{recursion_from_All}
-use Rattle.mt_base.specs.History.{Record, History}
-use Rattle.mt_base.specs.Passes.{Begins, with_records}
-use Rattle.mt_base.proofs.Lists.{all_join}
-use Rattle.mt_log.specs.Run.{Step, IsHeldRightly, calls_before}
-use Rattle.mt_linearize.specs.Phases.{Tracked, IsPhaseOn, Counts}
-use Rattle.mt_linearize.specs.Tracks.{OrderOn, On, StandsInHistory, CountsAt, TellsUpTo, Tracks, IsPlaced, OwnReads}
+use Rattle.mt_linearize.proofs.Prelude.{◌≡◌, ℕ, ◌<◌, ◌≤◌, List, ◌++◌, length, arith, sym, subst, AllByRecursion, recursion_from_All, Record, History, Begins, with_records, all_join, Step, IsHeldRightly, calls_before, Tracked, IsPhaseOn, Counts, OrderOn, On, StandsInHistory, CountsAt, TellsUpTo, Tracks, IsPlaced, OwnReads}
 use Rattle.mt_linearize.proofs.Counting.{old_count, new_count}
 use Rattle.mt_linearize.proofs.Holding.{holds_more, phase_holds}
 use Rattle.mt_linearize.proofs.LanePasses.{phase_begins}

@@ -1,23 +1,11 @@
 -- A worked phase of two lanes.
-use Rattle.std.proofs.Common.{◌≡◌, ℕ, zero, suc, List, [], ◌∷◌, ◌++◌, Some, length, slice_get, arith, refl, sym}
-use Rattle.std.proofs.lemmas.Bool.{ne_eqb}
-use Rattle.std.proofs.lemmas.List.Elements.{All-from_recursion}
+use Rattle.mt_linearize.proofs.Prelude.{◌≡◌, ℕ, zero, suc, List, [], ◌∷◌, ◌++◌, Some, length, slice_get, arith, refl, sym, ne_eqb, All-from_recursion, Range, Record, History, Pass, IsSettled, Saw, Settled, begins_none, Asked, Called, Looked, Counted, Step, AreDone, HaveGone, CountsRanges, IsPhaseGone, Leads, outcomes_of, IsNext, informed, known_to_all, step_of_line, Tracked, IsPhase, asked_of_lane, AreDoneEach, answers_joined}
 use Rattle.mt_base.specs.declared.calls.Call.TheVariants as calls
 use Rattle.mt_base.specs.declared.calls.Query.TheVariants as queries
 use Rattle.mt_base.specs.declared.kinds.Kind.TheVariants as kinds
-use Rattle.mt_base.specs.declared.ranges.Range.{Range}
 use Rattle.mt_base.specs.declared.replies.Reply.TheVariants as replies
-use Rattle.mt_base.specs.History.{Record, History}
-use Rattle.mt_base.specs.Passes.{Pass, IsSettled, Saw, Settled}
-use Rattle.mt_base.proofs.Goings.{begins_none}
 use Rattle.mt_log.specs.declared.lines.Item.TheVariants as items
 use Rattle.mt_log.specs.declared.transcripts.Said.TheVariants as said
-use Rattle.mt_log.specs.Run.{Asked, Called, Looked, Counted, Step, AreDone}
-use Rattle.mt_linearize.specs.Gone.{HaveGone, CountsRanges, IsPhaseGone}
-use Rattle.mt_linearize.specs.Leads.{Leads, outcomes_of}
-use Rattle.mt_linearize.specs.OneThread.{IsNext, informed, known_to_all, step_of_line}
-use Rattle.mt_linearize.specs.Phases.{Tracked, IsPhase}
-use Rattle.mt_linearize.specs.Rooms.{asked_of_lane, AreDoneEach, answers_joined}
 use Rattle.mt_linearize.proofs.Answered.{done_is_next}
 use Rattle.mt_linearize.proofs.Informed.{informed_are_settled, informed_reads, informed_saw, informed_wrote, settled_next}
 use Rattle.mt_linearize.proofs.LanesPhase.{lanes_phase}

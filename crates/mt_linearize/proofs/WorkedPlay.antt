@@ -1,20 +1,12 @@
 -- A worked play, step by step.
-use Rattle.std.proofs.Common.{true, false, List, [], ◌∷◌, Some, arith, refl}
+use Rattle.mt_linearize.proofs.Prelude.{true, false, List, [], ◌∷◌, Some, arith, refl, Range, Record, History, Log, Transcript, KnownTree, Called, Looked, Counted, Step, AreDone, IsRun, steps_of, Declared, Empty, CopyOf, HasPlayed, IsNext, step_of_line}
 use Rattle.mt_base.specs.declared.kinds.Kind.TheVariants as kinds
-use Rattle.mt_base.specs.declared.ranges.Range.{Range}
 use Rattle.mt_base.specs.declared.calls.Call.TheVariants as calls
 use Rattle.mt_base.specs.declared.calls.Query.TheVariants as queries
 use Rattle.mt_base.specs.declared.replies.Reply.TheVariants as replies
-use Rattle.mt_base.specs.History.{Record, History}
 use Rattle.mt_log.specs.declared.lines.Item.TheVariants as items
-use Rattle.mt_log.specs.declared.lines.Log.{Log}
 use Rattle.mt_log.specs.declared.transcripts.Answer.TheVariants as answers
 use Rattle.mt_log.specs.declared.transcripts.Said.TheVariants as said
-use Rattle.mt_log.specs.declared.transcripts.Transcript.{Transcript}
-use Rattle.mt_log.specs.declared.trees.KnownTree.{KnownTree}
-use Rattle.mt_log.specs.Run.{Called, Looked, Counted, Step, AreDone, IsRun, steps_of}
-use Rattle.mt_log.specs.Trees.{Declared, Empty, CopyOf}
-use Rattle.mt_linearize.specs.OneThread.{HasPlayed, IsNext, step_of_line}
 use Rattle.mt_linearize.proofs.Answered.{done_is_next}
 use Rattle.mt_linearize.proofs.Played.{call_played, copy_played, count_played, nothing_played, phase_played, played_is_run, read_played, tree_played}
 

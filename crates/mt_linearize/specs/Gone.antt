@@ -1,11 +1,7 @@
 -- How far the lanes of a phase have come on a tree before its passes are settled, and what of the phase was counted as it began.
 -- Source: this project's own. No two lanes are compared.
 use Rattle.std.specs.Prelude.{◌≡◌, ◌⊎◌, ℕ, zero, suc, ◌+◌, List, Some, length, slice_get}
-use Rattle.mt_base.specs.declared.ranges.Range.{Range}
-use Rattle.mt_base.specs.History.{History, last_map}
-use Rattle.mt_base.specs.Passes.{Pass, Saw, Settled, with_records}
-use Rattle.mt_log.specs.declared.transcripts.Said.{Said}
-use Rattle.mt_log.specs.Run.{Counted, Step}
+use Rattle.mt_linearize.specs.Prelude.{Range, History, last_map, Pass, Saw, Settled, with_records, Said, Counted, Step}
 use Rattle.mt_linearize.specs.Leads.{Leads, outcomes_of}
 use Rattle.mt_linearize.specs.Phases.{Tracked}
 use Rattle.mt_linearize.specs.Rooms.{answers_joined}

@@ -1,9 +1,7 @@
 -- What a lane's pass on a tree goes through from one moment to another: the lane's steps on this tree, in order.
 -- Source: this project's own.
 use Rattle.std.specs.Prelude.{◌≡◌, ℕ, ◌==◌, List, [], ◌∷◌, Option, Some, None, filter_map, if◌then◌else◌}
-use Rattle.mt_base.specs.History.{History}
-use Rattle.mt_base.specs.Passes.{Pass, Grows, Wrote, Read}
-use Rattle.mt_log.specs.Run.{Outcome, Called, Looked, Counted, Step}
+use Rattle.mt_linearize.specs.Prelude.{History, Pass, Grows, Wrote, Read, Outcome, Called, Looked, Counted, Step}
 
 -- The pass learned of others, or its section was closed: it made no call and opened no section.
 pub record Learns (p q : Pass) : Type 0 where

@@ -5,3 +5,4 @@ pub mod OneThread
 pub mod Phases
 pub mod Rooms
 pub mod Tracks
+pub mod Prelude

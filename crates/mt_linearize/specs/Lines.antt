@@ -1,9 +1,7 @@
 -- Where a log stands behind its first lines: in which lane, and in which phase.
 -- Source: this project's own, the language of logs.
 use Rattle.std.specs.Prelude.{ℕ, List, [], ◌∷◌, if◌then◌else◌}
-use Rattle.mt_log.specs.declared.lines.Line.{Line}
-use Rattle.mt_log.specs.Phases.{phase_after}
-use Rattle.mt_log.specs.Run.{Asked, is_answered, lane_after, lane_of}
+use Rattle.mt_linearize.specs.Prelude.{Line, phase_after, Asked, is_answered, lane_after, lane_of}
 
 -- the lane behind these lines, where the log stood in this one before them
 abbrev pub lane_behind : ℕ → List Line → ℕ

@@ -3,12 +3,7 @@
 -- Source: this project's own.
 use Rattle.std.specs.Prelude.{◌≡◌, ℕ, ◌+◌, ◌/◌, ◌<◌, ◌≤◌, Bool, false, List, [], ◌∷◌, ◌++◌, Option, Some, None, length, map}
 use Rattle.std.specs.List.{range_with_len}
-use Rattle.mt_base.specs.declared.ranges.Range.{Range}
-use Rattle.mt_base.specs.History.{Record, History, IsAnswered, last_map, limits_after}
-use Rattle.mt_base.specs.Nodes.{Limits}
-use Rattle.mt_base.specs.Passes.{Pass, holder_of, places, with_records}
-use Rattle.mt_log.specs.Run.{Outcome, Step}
-use Rattle.mt_log.specs.Trees.{Declared}
+use Rattle.mt_linearize.specs.Prelude.{Range, Record, History, IsAnswered, last_map, limits_after, Limits, Pass, holder_of, places, with_records, Outcome, Step, Declared}
 use Rattle.mt_linearize.specs.Phases.{Tracked, IsPhase}
 use Rattle.mt_linearize.specs.Tracks.{Ran}
 

@@ -3,11 +3,7 @@
 -- Source: this project's own. No two lanes are compared.
 use Rattle.std.specs.Prelude.{◌≡◌, ℕ, ◌<◌, All, List, [], length, map, slice_get, Some}
 use Rattle.std.specs.List.{range_with_len}
-use Rattle.mt_base.specs.declared.kinds.Kind.{Kind}
-use Rattle.mt_base.specs.declared.ranges.Range.{Range}
-use Rattle.mt_base.specs.History.{History, last_map}
-use Rattle.mt_base.specs.Passes.{Pass, IsSettled, new_pass, with_records}
-use Rattle.mt_log.specs.Run.{Outcome, Called, Looked, Counted, Step}
+use Rattle.mt_linearize.specs.Prelude.{Kind, Range, History, last_map, Pass, IsSettled, new_pass, with_records, Outcome, Called, Looked, Counted, Step}
 use Rattle.mt_linearize.specs.Leads.{Leads, outcomes_of}
 
 -- a tree's history so far, and all its passes, each at the place of its number

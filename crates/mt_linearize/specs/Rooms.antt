@@ -1,7 +1,7 @@
 -- How what the lanes were answered, each in a room of its own, is put back in the order of the log.
 -- Source: this project's own.
 use Rattle.std.specs.Prelude.{ℕ, List, [], ◌∷◌, ◌++◌, ◌==◌, take, drop, map, filter, flat_map, if◌then◌else◌}
-use Rattle.mt_log.specs.Run.{Asked, Step, IsDone}
+use Rattle.mt_linearize.specs.Prelude.{Asked, Step, IsDone}
 
 -- what one lane is asked
 abbrev pub asked_of_lane : ℕ → List Asked → List Asked

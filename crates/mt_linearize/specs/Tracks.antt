@@ -3,10 +3,7 @@
 -- Source: this project's own.
 use Rattle.std.specs.Prelude.{◌≡◌, ℕ, Bool, List, [], ◌∷◌, ◌++◌, Option, Some, None, ◌+◌, ◌==◌, ◌<◌, ◌≤◌, ◌&&◌, true, filter_map, length, slice_get}
 use Rattle.std.specs.List.{AllByRecursion, Contains, list_any}
-use Rattle.mt_base.specs.History.{Record, History, IsTrueRead, map_at}
-use Rattle.mt_base.specs.Passes.{Pass, IsSettled}
-use Rattle.mt_log.specs.Run.{Outcome, Called, Looked, Counted, Step, Follows, Knows, Opens, IsHeldRightly, calls_before, is_read}
-use Rattle.mt_log.specs.Trees.{Opening, Empty, CopyOf, Declared}
+use Rattle.mt_linearize.specs.Prelude.{Record, History, IsTrueRead, map_at, Pass, IsSettled, Outcome, Called, Looked, Counted, Step, Follows, Knows, Opens, IsHeldRightly, calls_before, is_read, Opening, Empty, CopyOf, Declared}
 use Rattle.mt_linearize.specs.Leads.{outcomes_of}
 use Rattle.mt_linearize.specs.Phases.{Tracked, histories_of}
 

@@ -1,11 +1,5 @@
 -- The range that an erase removes stands at the place of its index.
-use Rattle.std.proofs.Common.{◌≡◌, ℕ, ◌+◌, ◌<◌, suc, zero, List, [], ◌∷◌, Some, length, remove, true, arith, nat_lt, nat_le, refl, ap, sym}
-use Rattle.std.specs.List.{slice_get}
-use Rattle.std.proofs.lemmas.Option.{cond_some}
-use Rattle.std.proofs.lemmas.Bool.{cond_both, and_right, ltb-true, ltb-false, lt-leb, le-leb}
-use Rattle.mt_base.specs.declared.ranges.Range.{Range}
-use Rattle.mt_base.specs.Map.{IsMapFrom, holding, without}
-use Rattle.mt_list.specs.Places.{place_below, up_to}
+use Rattle.mt_list.proofs.Prelude.{◌≡◌, ℕ, ◌+◌, ◌<◌, suc, zero, List, [], ◌∷◌, Some, length, remove, true, arith, nat_lt, nat_le, refl, ap, sym, slice_get, cond_some, cond_both, and_right, ltb-true, ltb-false, lt-leb, le-leb, Range, IsMapFrom, holding, without, place_below, up_to}
 use Rattle.mt_list.proofs.HoldingAtPlace.{holding_at_place}
 
 -- a map from above the index loses nothing

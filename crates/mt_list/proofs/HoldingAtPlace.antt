@@ -1,10 +1,5 @@
 -- The range that holds an index stands at the index's place.
-use Rattle.std.proofs.Common.{◌≡◌, ℕ, ◌+◌, ◌<◌, ◌≤◌, suc, List, [], ◌∷◌, None, arith, nat_lt, nat_le, refl, inl, inr}
-use Rattle.std.specs.List.{slice_get}
-use Rattle.std.proofs.lemmas.Bool.{cond_both, cases_Bool, ltb-true, ltb-false, lt-leb, le-leb}
-use Rattle.mt_base.specs.declared.ranges.Range.{Range}
-use Rattle.mt_base.specs.Map.{IsMapFrom, holding}
-use Rattle.mt_list.specs.Places.{place_below, up_to}
+use Rattle.mt_list.proofs.Prelude.{◌≡◌, ℕ, ◌+◌, ◌<◌, ◌≤◌, suc, List, [], ◌∷◌, None, arith, nat_lt, nat_le, refl, inl, inr, slice_get, cond_both, cases_Bool, ltb-true, ltb-false, lt-leb, le-leb, Range, IsMapFrom, holding, place_below, up_to}
 
 -- no range of a map from above the index holds it
 none_holds : (m : List Range) (low index : ℕ) → index < low → IsMapFrom low m → holding m index ≡ None

@@ -1,16 +1,5 @@
 -- A search goes over the holes from below or from above, and what it has before it has the answer.
-use Rattle.std.proofs.Common.{◌≡◌, ℕ, zero, suc, ◌+◌, ◌-◌, ◌^◌, ◌<◌, ◌≤◌, List, [], ◌∷◌, ◌++◌, Option, Some, None, map, filter, length, get_or, drop, drop-cons, arith, refl, sym, ap, ◌∙◌, subst, append_assoc, append-nil, length-append}
-use Rattle.std.specs.List.{AllByRecursion, slice_get}
-use Rattle.std.specs.Option.{option_map}
-use Rattle.std.proofs.lemmas.Bool.{le-ltb}
-use Rattle.std.proofs.lemmas.List.{map-append}
-use Rattle.std.proofs.lemmas.List.Elements.{filter-append}
-use Rattle.mt_base.specs.declared.kinds.Kind.{Kind}
-use Rattle.mt_base.specs.declared.ranges.Range.{Range}
-use Rattle.mt_base.specs.Width.{greatest_of, kind_width}
-use Rattle.mt_base.proofs.WidthBounds.{greatest_fits}
-use Rattle.mt_base.specs.Holes.{Hole, hole_between, holes_from, clip, fits, kept, lowest_in, highest_in, low, high}
-use Rattle.mt_base.specs.Map.{IsMapFrom, IsMap}
+use Rattle.mt_list.proofs.Prelude.{◌≡◌, ℕ, zero, suc, ◌+◌, ◌-◌, ◌^◌, ◌<◌, ◌≤◌, List, [], ◌∷◌, ◌++◌, Option, Some, None, map, filter, length, get_or, drop, drop-cons, arith, refl, sym, ap, ◌∙◌, subst, append_assoc, append-nil, length-append, AllByRecursion, slice_get, option_map, le-ltb, map-append, filter-append, Kind, Range, greatest_of, kind_width, greatest_fits, Hole, hole_between, holes_from, clip, fits, kept, lowest_in, highest_in, low, high, IsMapFrom, IsMap}
 
 -- ---- holes joined
 

@@ -7,3 +7,4 @@ pub mod Replaced
 pub mod RisingRanges
 pub mod StoreAtPlaces
 pub mod TwoMaps
+mod Prelude

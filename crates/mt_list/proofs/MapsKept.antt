@@ -1,14 +1,5 @@
 -- What a call leaves is a map of the same kind.
-use Rattle.std.proofs.Common.{◌≡◌, ℕ, ◌+◌, ◌-◌, ◌≤◌, false, List, Option, Some, None, OnSome, IfSome, IfNone, arith, sym, subst}
-use Rattle.mt_base.specs.declared.kinds.Kind.{Kind}
-use Rattle.mt_base.specs.declared.ranges.Range.{Range}
-use Rattle.mt_base.specs.Width.{greatest_of}
-use Rattle.mt_base.specs.Holes.{low, high}
-use Rattle.mt_base.specs.Call.{is_invalid, is_bad_area}
-use Rattle.mt_base.specs.Map.{IsMap, over, without}
-use Rattle.mt_base.proofs.StoredOrder.{over_is_map}
-use Rattle.mt_base.proofs.CallsKeepOrder.{without_is_map, valid_order, valid_within, stored_area}
-use Rattle.mt_base.proofs.FreeAreas.{low_is_room, high_is_room}
+use Rattle.mt_list.proofs.Prelude.{◌≡◌, ℕ, ◌+◌, ◌-◌, ◌≤◌, false, List, Option, Some, None, OnSome, IfSome, IfNone, arith, sym, subst, Kind, Range, greatest_of, low, high, is_invalid, is_bad_area, IsMap, over, without, over_is_map, without_is_map, valid_order, valid_within, stored_area, low_is_room, high_is_room}
 
 -- after a store that is not invalid
 pub stored_is_map : (kind : Kind) (m after : List Range) (first last entry : ℕ) → is_invalid kind first last entry ≡ false → IsMap kind m → after ≡ over m first last entry → IsMap kind after

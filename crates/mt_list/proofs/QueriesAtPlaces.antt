@@ -1,11 +1,5 @@
 -- The range that answers a query stands at the place of its index, or just before that place.
-use Rattle.std.proofs.Common.{◌≡◌, ℕ, ◌+◌, ◌<◌, ◌≤◌, suc, zero, Bool, true, false, List, [], ◌∷◌, take, filter, not, ◌&&◌, arith, nat_lt, nat_le, refl, ap, inl, inr}
-use Rattle.std.specs.List.{slice_get, prefix_len, list_any}
-use Rattle.std.specs.Option.{is_some}
-use Rattle.std.proofs.lemmas.Bool.{cond_both, cases_Bool, cases_lt, and_left, and_right, ltb-false, leb-true, leb-false, lt-leb, le-leb, le-ltb, lt-ltb}
-use Rattle.mt_base.specs.declared.ranges.Range.{Range}
-use Rattle.mt_base.specs.Map.{IsMapFrom, overlaps, is_held, first_range, last_range}
-use Rattle.mt_list.specs.Places.{place_below, place_above, last_of, up_to, down_to}
+use Rattle.mt_list.proofs.Prelude.{◌≡◌, ℕ, ◌+◌, ◌<◌, ◌≤◌, suc, zero, Bool, true, false, List, [], ◌∷◌, take, filter, not, ◌&&◌, arith, nat_lt, nat_le, refl, ap, inl, inr, slice_get, prefix_len, list_any, is_some, cond_both, cases_Bool, cases_lt, and_left, and_right, ltb-false, leb-true, leb-false, lt-leb, le-leb, le-ltb, lt-ltb, Range, IsMapFrom, overlaps, is_held, first_range, last_range, place_below, place_above, last_of, up_to, down_to}
 use Rattle.mt_list.proofs.StoreAtPlaces.{last_of_is_at_end}
 
 -- no range of a map from above `max` begins at `max` or below

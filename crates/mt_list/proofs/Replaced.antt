@@ -1,8 +1,5 @@
 -- A part of a list replaced in place: what is too much is put in behind, what is too little is closed up.
-use Rattle.std.proofs.Common.{◌≡◌, ℕ, ◌+◌, ◌-◌, ◌<◌, ◌≤◌, List, [], ◌∷◌, ◌++◌, min, length, take, drop, get_or, insert, arith, sym, ap, ◌∙◌, append_assoc, length-append}
-use Rattle.std.specs.List.{copy_within}
-use Rattle.std.proofs.lemmas.List.{take-append-drop, length-take, take_at, drop_at, take_more, take_all, take_rest, length-take-le, length-drop, take-append-le, drop-drop, take-take}
-use Rattle.mt_base.specs.declared.ranges.Range.{Range}
+use Rattle.mt_list.proofs.Prelude.{◌≡◌, ℕ, ◌+◌, ◌-◌, ◌<◌, ◌≤◌, List, [], ◌∷◌, ◌++◌, min, length, take, drop, get_or, insert, arith, sym, ap, ◌∙◌, append_assoc, length-append, copy_within, take-append-drop, length-take, take_at, drop_at, take_more, take_all, take_rest, length-take-le, length-drop, take-append-le, drop-drop, take-take, Range}
 
 -- ---- pieces put in one by one
 

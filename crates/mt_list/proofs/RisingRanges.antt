@@ -1,10 +1,5 @@
 -- In a map the first and the last indexes rise, so that a partition point is the end of the front that passes.
-use Rattle.std.proofs.Common.{◌≡◌, ℕ, ◌+◌, ◌<◌, ◌≤◌, suc, zero, Bool, true, false, List, [], ◌∷◌, length, get_or, arith}
-use Rattle.std.specs.List.{prefix_len}
-use Rattle.std.specs.List.Sorted.{IsNonDecreasingBy, IsPartitionPoint}
-use Rattle.std.proofs.lemmas.List.Sums.{prefix_len_is}
-use Rattle.mt_base.specs.declared.ranges.Range.{Range}
-use Rattle.mt_base.specs.Map.{IsMapFrom}
+use Rattle.mt_list.proofs.Prelude.{◌≡◌, ℕ, ◌+◌, ◌<◌, ◌≤◌, suc, zero, Bool, true, false, List, [], ◌∷◌, length, get_or, arith, prefix_len, IsNonDecreasingBy, IsPartitionPoint, prefix_len_is, Range, IsMapFrom}
 
 -- each range of a map from `low` lies at `low` or above
 at_or_above : (m : List Range) (low k : ℕ) (d : Range) → IsMapFrom low m → k < length m → (low ≤ (get_or m k d).first) × ((get_or m k d).first ≤ (get_or m k d).last)

@@ -1,10 +1,5 @@
 -- A store changes the ranges from the place below its first index up to the place above its last.
-use Rattle.std.proofs.Common.{◌≡◌, ℕ, ◌+◌, ◌-◌, ◌<◌, ◌≤◌, suc, List, [], ◌∷◌, ◌++◌, min, max, length, take, drop, arith, nat_lt, nat_le, refl, ap, append_assoc, inl, inr}
-use Rattle.std.specs.List.{slice_get}
-use Rattle.std.proofs.lemmas.Bool.{cond_both, ltb-true, ltb-false, leb-true, leb-false, lt-ltb, le-ltb, le-leb, cases_Bool}
-use Rattle.mt_base.specs.declared.ranges.Range.{Range}
-use Rattle.mt_base.specs.Map.{IsMapFrom, over, parts_below, parts_above, part_stored}
-use Rattle.mt_list.specs.Places.{place_below, place_above, piece_below, piece_above, last_of}
+use Rattle.mt_list.proofs.Prelude.{◌≡◌, ℕ, ◌+◌, ◌-◌, ◌<◌, ◌≤◌, suc, List, [], ◌∷◌, ◌++◌, min, max, length, take, drop, arith, nat_lt, nat_le, refl, ap, append_assoc, inl, inr, slice_get, cond_both, ltb-true, ltb-false, leb-true, leb-false, lt-ltb, le-ltb, le-leb, cases_Bool, Range, IsMapFrom, over, parts_below, parts_above, part_stored, place_below, place_above, piece_below, piece_above, last_of}
 
 -- a map from `first` or above has no part below `first`
 pub no_part_below : (m : List Range) (low first : ℕ) → first ≤ low → IsMapFrom low m → parts_below m first ≡ []

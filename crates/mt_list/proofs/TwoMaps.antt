@@ -1,14 +1,5 @@
 -- A map with limits that refuses nothing for want of rows goes as one without.
-use Rattle.std.proofs.Common.{◌≡◌, true, List, [], ◌∷◌, Option, Some, None, refl, sym, ap, ◌∙◌, inl, inr, subst}
-use Rattle.std.specs.List.{AllByRecursion}
-use Rattle.mt_base.specs.declared.ranges.Range.{Range}
-use Rattle.mt_base.specs.declared.kinds.Kind.{Kind}
-use Rattle.mt_base.specs.declared.calls.Call.{Call}
-use Rattle.mt_base.specs.declared.replies.Reply.{Reply}
-use Rattle.mt_base.specs.declared.replies.Reply.TheVariants.{NoNodes}
-use Rattle.mt_base.specs.Call.{acted}
-use Rattle.mt_base.specs.Nodes.{Limits, IsMade, one_call_more}
-use Rattle.mt_list.specs.Plays.{is_done, CallsLeadTo}
+use Rattle.mt_list.proofs.Prelude.{◌≡◌, true, List, [], ◌∷◌, Option, Some, None, refl, sym, ap, ◌∙◌, inl, inr, subst, AllByRecursion, Range, Kind, Call, Reply, NoNodes, acted, Limits, IsMade, one_call_more, is_done, CallsLeadTo}
 
 -- a call that is not refused does what it says
 made_as_said : (kind : Kind) (limits : Option Limits) (m next : List Range) (call : Call) (reply : Reply) → IsMade kind limits m call next reply → is_done reply ≡ true → acted kind m call ≡ (next, reply)

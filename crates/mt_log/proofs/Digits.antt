@@ -1,17 +1,5 @@
-use Rattle.std.proofs.Common.{◌≡◌, ℕ, zero, suc, ◌+◌, ◌*◌, ◌≤◌, ◌<◌, ◌^◌, Bool, true, false, List, [], ◌∷◌, Option, Some, None, Ok, length, get_or, take, arith, ap, refl, sym, ◌∙◌, lit<, inl, inr}
-use Rattle.std.specs.Prelude.{nat_lt, SomeIff}
-use Rattle.std.specs.Char.{is_ascii_digit, is_ascii_hexdigit, digit_value}
-use Rattle.std.specs.List.{list_all}
-use Rattle.std.specs.Option.{ok_or}
-use Rattle.std.specs.Str.Parse.{AllDigits, digits_value}
-use Rattle.std.proofs.Math.Nat.{pow-le-pow_right}
-use Rattle.std.proofs.lemmas.Bool.{and_parts, cases_lt, le-leb, lt-ltb, le-ltb, ltb-true}
-use Rattle.std.proofs.lemmas.Bool.Decides.{nat_tests}
-use Rattle.std.proofs.lemmas.List.{length-take, take_all}
-use Rattle.std.proofs.lemmas.Int.Digits.{digits_value-lt, digits_value_more, digits_more}
-use Rattle.std.proofs.lemmas.Str.Parse.{digits_value-take-le}
+use Rattle.mt_log.proofs.Prelude.{◌≡◌, ℕ, zero, suc, ◌+◌, ◌*◌, ◌≤◌, ◌<◌, ◌^◌, Bool, true, false, List, [], ◌∷◌, Option, Some, None, Ok, length, get_or, take, arith, ap, refl, sym, ◌∙◌, lit<, inl, inr, nat_lt, SomeIff, is_ascii_digit, is_ascii_hexdigit, digit_value, list_all, ok_or, AllDigits, digits_value, pow-le-pow_right, and_parts, cases_lt, le-leb, lt-ltb, le-ltb, ltb-true, nat_tests, length-take, take_all, digits_value-lt, digits_value_more, digits_more, digits_value-take-le, decimal_read, hexadecimal_read}
 use Rattle.mt_log.specs.declared.faults.Why.TheVariants as why
-use Rattle.mt_log.specs.Reading.{decimal_read, hexadecimal_read}
 
 -- what tells the digits of a radix
 abbrev pub TellsDigits : ℕ → (ℕ → Bool) → Type 0

@@ -1,11 +1,6 @@
-use Rattle.std.proofs.Common.{◌≡◌, ℕ, List, ◌∷◌, ◌++◌, length, sym, Result, Ok, Err, take, refl}
-use Rattle.std.proofs.lemmas.List.{take_at}
-use Rattle.mt_log.specs.declared.faults.Why.{Why}
+use Rattle.mt_log.proofs.Prelude.{◌≡◌, ℕ, List, ◌∷◌, ◌++◌, length, sym, Result, Ok, Err, take, refl, take_at, Why, Keyword, ◌>>=◌, ReadSoFar, item_of, item_by, keyword_read, tree_item, dup_item, check_item, lane_item, join_item, range_item, area_item, area_entry_item, index_item, bound_item, scan_item, whole_item}
 use Rattle.mt_log.specs.declared.faults.Why.TheVariants as why
-use Rattle.mt_log.specs.declared.keywords.Keyword.{Keyword}
 use Rattle.mt_log.specs.declared.keywords.Keyword.TheVariants.{Tree}
-use Rattle.mt_log.specs.Fault.{◌>>=◌}
-use Rattle.mt_log.specs.Reading.{ReadSoFar, item_of, item_by, keyword_read, tree_item, dup_item, check_item, lane_item, join_item, range_item, area_item, area_entry_item, index_item, bound_item, scan_item, whole_item}
 
 -- no word takes six fields or more
 too_many : (k : Keyword) (r : ReadSoFar) (a b c d e f : List ℕ) (more : List (List ℕ)) → item_by k r (a ∷ b ∷ c ∷ d ∷ e ∷ f ∷ more) ≡ Err why.Fields

@@ -1,16 +1,5 @@
 -- Which lines can be read behind what was read: those that may follow, and say names and numbers that can be written.
-use Rattle.std.proofs.Common.{◌≡◌, ℕ, ◌≤◌, ◌<◌, ◌^◌, true, List, [], ◌∷◌, Some, slice_get}
-use Rattle.mt_base.specs.declared.calls.Call.{Call}
-use Rattle.mt_base.specs.declared.calls.Call.TheVariants.{Store, StorePre, Insert, Erase, Alloc, Ralloc, Gap, Rgap, Clear}
-use Rattle.mt_base.specs.declared.calls.Query.{Query}
-use Rattle.mt_base.specs.declared.calls.Query.TheVariants.{Load, Find, Next, Prev, Rfind}
-use Rattle.mt_log.specs.Name.{is_name}
-use Rattle.mt_log.specs.Reader.{MayFollow}
-use Rattle.mt_log.specs.Reading.{ReadSoFar, after_item, declared_place}
-use Rattle.mt_log.specs.declared.lines.Item.{Item}
-use Rattle.mt_log.specs.declared.lines.Item.TheVariants.{Tree, Lane, Join, Dup, Check, Write, Ask, Scan}
-use Rattle.mt_log.specs.declared.lines.Line.{Line}
-use Rattle.mt_log.specs.declared.trees.KnownTree.{KnownTree}
+use Rattle.mt_log.proofs.Prelude.{◌≡◌, ℕ, ◌≤◌, ◌<◌, ◌^◌, true, List, [], ◌∷◌, Some, slice_get, Call, Store, StorePre, Insert, Erase, Alloc, Ralloc, Gap, Rgap, Clear, Query, Load, Find, Next, Prev, Rfind, is_name, MayFollow, ReadSoFar, after_item, declared_place, Item, Tree, Lane, Join, Dup, Check, Write, Ask, Scan, Line, KnownTree}
 
 -- a number that a field can say
 abbrev pub IsNumber : ℕ → Type 0

@@ -1,19 +1,5 @@
 -- What a table from names to kinds tells of the list of trees that it stands for.
-use Rattle.std.proofs.Common.{◌≡◌, ℕ, ◌<◌, true, List, [], ◌∷◌, ◌++◌, Some, None, Ok, arith, length, map, position, slice_get, refl, sym, ap, ◌∙◌}
-use Rattle.std.specs.Option.{option_map}
-use Rattle.std.proofs.lemmas.Bool.{lt-ltb}
-use Rattle.std.proofs.lemmas.Slice.Eq.{bytes_eq-Decides}
-use Rattle.std.specs.Str.{bytes_eq}
-use Rattle.std.specs.Map.{keys_of}
-use Rattle.std.proofs.lemmas.List.{length-map, map-append}
-use Rattle.std.proofs.lemmas.Option.{slice_get-map}
-use Rattle.indexmap.specs.IndexMap.{insert_entry}
-use Rattle.indexmap.proofs.MapLemmas.{Missing-position, insert_entry-absent}
-use Rattle.mt_base.specs.declared.kinds.Kind.{Kind}
-use Rattle.mt_log.specs.declared.trees.KnownTree.{KnownTree}
-use Rattle.mt_log.specs.Indexed.{known}
-use Rattle.mt_log.specs.Name.{is_name}
-use Rattle.mt_log.specs.Reading.{declared_place, tree_read}
+use Rattle.mt_log.proofs.Prelude.{◌≡◌, ℕ, ◌<◌, true, List, [], ◌∷◌, ◌++◌, Some, None, Ok, arith, length, map, position, slice_get, refl, sym, ap, ◌∙◌, option_map, lt-ltb, bytes_eq-Decides, bytes_eq, keys_of, length-map, map-append, slice_get-map, insert_entry, Missing-position, insert_entry-absent, Kind, KnownTree, known, is_name, declared_place, tree_read}
 
 pub as_many : (entries : List (List ℕ × Kind)) → length (map known entries) ≡ length entries
 as_many entries = length-map entries known

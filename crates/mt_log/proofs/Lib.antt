@@ -14,3 +14,4 @@ pub mod Readable
 pub mod RoundTrip
 pub mod Soundness
 pub mod Tails
+mod Prelude

@@ -1,13 +1,4 @@
-use Rattle.std.proofs.Common.{◌≡◌, ℕ, ◌-◌, ◌≤◌, ◌<◌, true, [], ◌∷◌, List, ◌++◌, length, take, drop, replicate, ap, arith, ◌∙◌, refl}
-use Rattle.std.proofs.lemmas.List.{drop-replicate, take_at}
-use Rattle.std.proofs.lemmas.Bool.{and_parts, leb-true}
-use Rattle.std.proofs.lemmas.Grind.{common_steps}
-use Rattle.std.specs.List.{list_all}
-use Rattle.std.specs.Str.{IsAscii, IsUtf8}
-use Rattle.std.proofs.lemmas.Str.{IsUtf8-from_ascii}
-use Rattle.std.proofs.lemmas.Str.Ascii.{IsAscii-nil, IsAscii-cons}
-use Rattle.std.proofs.lemmas.Bool.Decides.{nat_tests}
-use Rattle.mt_log.specs.Name.{padded, IsPadded, is_name, is_name_byte}
+use Rattle.mt_log.proofs.Prelude.{◌≡◌, ℕ, ◌-◌, ◌≤◌, ◌<◌, true, [], ◌∷◌, List, ◌++◌, length, take, drop, replicate, ap, arith, ◌∙◌, refl, drop-replicate, take_at, and_parts, leb-true, common_steps, list_all, IsAscii, IsUtf8, IsUtf8-from_ascii, IsAscii-nil, IsAscii-cons, nat_tests, padded, IsPadded, is_name, is_name_byte}
 
 pub name_is_short : (name : List ℕ) → is_name name ≡ true → length name ≤ 16
 name_is_short name h = leb-true (length name) 16 (and_parts _ _ (and_parts _ _ h).0).1

@@ -1,10 +1,4 @@
-use Rattle.std.proofs.Common.{◌≡◌, ◌⊎◌, ℕ, ◌+◌, ◌<◌, ◌≤◌, Bool, true, false, List, [], ◌∷◌, Ok, Err, Result, length, arith, refl, cond, ap, length-append}
-use Rattle.std.specs.List.{slice_split, onto_first}
-use Rattle.mt_log.specs.declared.faults.Why.{Why}
-use Rattle.mt_log.specs.declared.faults.Why.TheVariants.{NoNewline}
-use Rattle.mt_log.specs.declared.lines.Item.{Item}
-use Rattle.mt_log.specs.Fault.{fault_at, on_line, ◌>>=◌}
-use Rattle.mt_log.specs.Reading.{ReadSoFar, is_skipped, after_skipped, after_item, after_line, after_pieces, log_of_pieces, headed, version_in, item_of, fields_of}
+use Rattle.mt_log.proofs.Prelude.{◌≡◌, ◌⊎◌, ℕ, ◌+◌, ◌<◌, ◌≤◌, Bool, true, false, List, [], ◌∷◌, Ok, Err, Result, length, arith, refl, cond, ap, length-append, slice_split, onto_first, Why, NoNewline, Item, fault_at, on_line, ◌>>=◌, ReadSoFar, is_skipped, after_skipped, after_item, after_line, after_pieces, log_of_pieces, headed, version_in, item_of, fields_of}
 
 -- there is a first part
 some_part : (p : ℕ → Bool) (xs : List ℕ) → (part : List ℕ) × (parts : List (List ℕ)) × (slice_split p xs ≡ part ∷ parts)

@@ -1,23 +1,6 @@
 -- The fields of a line that can follow are read as this line.
-use Rattle.std.proofs.Common.{◌≡◌, ℕ, ◌+◌, ◌-◌, ◌≤◌, ◌<◌, true, false, List, [], ◌∷◌, Some, None, Ok, length, map, slice_get, codes, arith, refl, inl, inr}
-use Rattle.std.specs.Fmt.{decimal}
-use Rattle.std.proofs.lemmas.Bool.{le-leb, lt-ltb}
-use Rattle.std.proofs.lemmas.Option.{slice_get-map, slice_get_cases}
-use Rattle.mt_base.specs.Text.{kind_text}
-use Rattle.mt_base.specs.declared.calls.Call.{Call}
-use Rattle.mt_base.specs.declared.calls.Call.TheVariants.{Store, StorePre, Insert, Erase, Alloc, Ralloc, Gap, Rgap, Clear}
-use Rattle.mt_base.specs.declared.calls.Query.{Query}
-use Rattle.mt_base.specs.declared.calls.Query.TheVariants.{Load, Find, Next, Prev, Rfind}
-use Rattle.mt_base.specs.declared.kinds.Kind.{Kind}
+use Rattle.mt_log.proofs.Prelude.{◌≡◌, ℕ, ◌+◌, ◌-◌, ◌≤◌, ◌<◌, true, false, List, [], ◌∷◌, Some, None, Ok, length, map, slice_get, codes, arith, refl, inl, inr, decimal, le-leb, lt-ltb, slice_get-map, slice_get_cases, kind_text, Call, Store, StorePre, Insert, Erase, Alloc, Ralloc, Gap, Rgap, Clear, Query, Load, Find, Next, Prev, Rfind, Kind, call_fields, query_fields, item_fields, tree_name, is_name, ReadSoFar, before_steps, room_for_tree, room_for_scan, most_scan_steps, declared_place, tree_read, new_name_read, kind_read, keyword_read, item_of, item_by, tree_item, dup_item, check_item, lane_item, join_item, range_item, area_of, area_item, area_entry_item, index_item, bound_item, scan_item, whole_item, most_lanes, most_trees, Item, Tree, Lane, Join, Dup, Check, Write, Ask, Scan, KnownTree, NumberedTree}
 use Rattle.mt_base.specs.declared.kinds.Kind.TheVariants as kinds
-use Rattle.mt_log.specs.LogText.{call_fields, query_fields, item_fields, tree_name}
-use Rattle.mt_log.specs.Name.{is_name}
-use Rattle.mt_log.specs.Reading.{ReadSoFar, before_steps, room_for_tree, room_for_scan, most_scan_steps, declared_place, tree_read, new_name_read, kind_read, keyword_read, item_of, item_by, tree_item, dup_item, check_item, lane_item, join_item, range_item, area_of, area_item, area_entry_item, index_item, bound_item, scan_item, whole_item}
-use Rattle.mt_log.specs.Trees.{most_lanes, most_trees}
-use Rattle.mt_log.specs.declared.lines.Item.{Item}
-use Rattle.mt_log.specs.declared.lines.Item.TheVariants.{Tree, Lane, Join, Dup, Check, Write, Ask, Scan}
-use Rattle.mt_log.specs.declared.trees.KnownTree.{KnownTree}
-use Rattle.mt_log.specs.declared.trees.NumberedTree.{NumberedTree}
 use Rattle.mt_log.proofs.Following.{AreNamed, CallSays, CanFollow, IsNumber, QuerySays}
 use Rattle.mt_log.proofs.PrintedNumbers.{count_reads, entry_reads, index_reads, lane_reads, size_reads}
 

@@ -1,15 +1,5 @@
 -- Lines are cut at their ends, and fields at their spaces, as they were joined.
-use Rattle.std.proofs.Common.{◌≡◌, ℕ, ◌≤◌, ◌<◌, ◌^◌, Bool, true, false, List, [], ◌∷◌, ◌++◌, arith, refl, ap, ◌∙◌}
-use Rattle.std.specs.Prelude.{◌==◌, nat_lt}
-use Rattle.std.specs.Fmt.{decimal}
-use Rattle.std.specs.List.{list_all, slice_split, join_with_byte}
-use Rattle.std.specs.Str.Parse.{AllDigits}
-use Rattle.std.proofs.lemmas.Bool.{and_parts, lt-ltb}
-use Rattle.std.proofs.lemmas.Bool.Decides.{nat_tests}
-use Rattle.std.proofs.lemmas.Fmt.{decimal_is_IsNumeral}
-use Rattle.std.proofs.lemmas.Str.Parse.{digit_from_value}
-use Rattle.mt_log.specs.Name.{is_name, is_name_byte}
-use Rattle.mt_log.specs.Reading.{fields_of}
+use Rattle.mt_log.proofs.Prelude.{◌≡◌, ℕ, ◌≤◌, ◌<◌, ◌^◌, Bool, true, false, List, [], ◌∷◌, ◌++◌, arith, refl, ap, ◌∙◌, ◌==◌, nat_lt, decimal, list_all, slice_split, join_with_byte, AllDigits, and_parts, lt-ltb, nat_tests, decimal_is_IsNumeral, digit_from_value, is_name, is_name_byte, fields_of}
 
 -- each byte is above this one
 abbrev pub are_above : ℕ → List ℕ → Bool

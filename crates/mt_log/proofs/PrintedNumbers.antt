@@ -1,18 +1,5 @@
 -- A number in print reads as this number.
-use Rattle.std.proofs.Common.{◌≡◌, ℕ, ◌-◌, ◌≤◌, ◌<◌, ◌^◌, Bool, true, false, List, [], ◌∷◌, Ok, length, take, codes, arith, refl}
-use Rattle.std.specs.Prelude.{◌&&◌, nat_eq}
-use Rattle.std.specs.Char.{digit_value, is_ascii_digit}
-use Rattle.std.specs.Fmt.{decimal}
-use Rattle.std.specs.Str.{bytes_eq}
-use Rattle.std.specs.Str.Parse.{AllDigits, digits_value}
-use Rattle.std.proofs.lemmas.Bool.{le-leb, lt-ltb}
-use Rattle.std.proofs.lemmas.Bool.Decides.{nat_tests}
-use Rattle.std.proofs.lemmas.Fmt.{decimal_is_IsNumeral, length-decimal-le}
-use Rattle.std.proofs.lemmas.Str.Parse.{digit_from_value}
-use Rattle.mt_base.specs.declared.kinds.Kind.{Kind}
-use Rattle.mt_base.specs.Width.{greatest_of}
-use Rattle.mt_log.specs.Reading.{decimal_read, number_read, index_read, size_read, entry_number_read, count_read, lane_number_read}
-use Rattle.mt_log.specs.Trees.{most_lanes}
+use Rattle.mt_log.proofs.Prelude.{◌≡◌, ℕ, ◌-◌, ◌≤◌, ◌<◌, ◌^◌, Bool, true, false, List, [], ◌∷◌, Ok, length, take, codes, arith, refl, ◌&&◌, nat_eq, digit_value, is_ascii_digit, decimal, bytes_eq, AllDigits, digits_value, le-leb, lt-ltb, nat_tests, decimal_is_IsNumeral, length-decimal-le, digit_from_value, Kind, greatest_of, decimal_read, number_read, index_read, size_read, entry_number_read, count_read, lane_number_read, most_lanes}
 use Rattle.mt_log.proofs.Digits.{tells_decimal, told_all}
 
 -- ---- digits are no word

@@ -1,20 +1,5 @@
 -- Each declared tree is the first of its name, and stays so with one more tree of a new name.
-use Rattle.std.proofs.Common.{◌≡◌, ◌⊎◌, ℕ, zero, suc, ◌<◌, Bool, true, false, List, [], ◌∷◌, ◌++◌, Some, None, length, position, slice_get, add-zero, arith, inl, inr, not, refl, sym, ap, ◌∙◌, subst}
-use Rattle.std.specs.Prelude.{◌==◌}
-use Rattle.std.specs.List.{position_or_len}
-use Rattle.std.specs.Str.{bytes_eq}
-use Rattle.std.proofs.lemmas.Bool.{cases_lt, eq-eqb, lt-ltb}
-use Rattle.std.proofs.lemmas.Bool.Decides.{nat_tests}
-use Rattle.std.proofs.lemmas.List.{append-nil, length_push, length-map, map-append}
-use Rattle.std.proofs.lemmas.List.Folds.{position_or_len_push}
-use Rattle.std.proofs.lemmas.List.Sums.{prefix_len-le-length}
-use Rattle.mt_log.specs.LogText.{names_after}
-use Rattle.mt_log.specs.Name.{is_name}
-use Rattle.mt_log.specs.Reading.{ReadSoFar, declared_place}
-use Rattle.mt_log.specs.Trees.{known_after, renamed}
-use Rattle.mt_log.specs.declared.lines.Item.{Item}
-use Rattle.mt_log.specs.declared.lines.Item.TheVariants.{Tree, Dup}
-use Rattle.mt_log.specs.declared.trees.KnownTree.{KnownTree}
+use Rattle.mt_log.proofs.Prelude.{◌≡◌, ◌⊎◌, ℕ, zero, suc, ◌<◌, Bool, true, false, List, [], ◌∷◌, ◌++◌, Some, None, length, position, slice_get, add-zero, arith, inl, inr, not, refl, sym, ap, ◌∙◌, subst, ◌==◌, position_or_len, bytes_eq, cases_lt, eq-eqb, lt-ltb, nat_tests, append-nil, length_push, length-map, map-append, position_or_len_push, prefix_len-le-length, names_after, is_name, ReadSoFar, declared_place, known_after, renamed, Item, Tree, Dup, KnownTree}
 use Rattle.mt_log.proofs.Following.{AreNamed, CanFollow}
 use Rattle.mt_log.proofs.Parts.{place_is}
 use Rattle.mt_log.proofs.PrintedItems.{names_of, some_tree}

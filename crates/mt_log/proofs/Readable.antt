@@ -1,12 +1,5 @@
 -- Lines that can follow, one behind the other, are those of a log that can be read.
-use Rattle.std.proofs.Common.{ℕ, ◌≤◌, List, [], ◌∷◌, ◌++◌, append_assoc, arith, sym, subst}
-use Rattle.std.proofs.lemmas.List.{append-nil}
-use Rattle.mt_log.specs.LogText.{IsLog, log_text}
-use Rattle.mt_log.specs.Reader.{IsSoundReading}
-use Rattle.mt_log.specs.Reading.{ReadSoFar, after_item, nothing_read}
-use Rattle.mt_log.specs.Trees.{IsReadable}
-use Rattle.mt_log.specs.declared.lines.Line.{Line}
-use Rattle.mt_log.specs.declared.lines.Log.{Log}
+use Rattle.mt_log.proofs.Prelude.{ℕ, ◌≤◌, List, [], ◌∷◌, ◌++◌, append_assoc, arith, sym, subst, append-nil, IsLog, log_text, IsSoundReading, ReadSoFar, after_item, nothing_read, IsReadable, Line, Log}
 use Rattle.mt_log.proofs.Following.{CanAllFollow, at_line}
 use Rattle.mt_log.proofs.Pieces.{IsVersion}
 use Rattle.mt_log.proofs.RoundTrip.{at_line_too, prints}

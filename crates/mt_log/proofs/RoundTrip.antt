@@ -1,26 +1,6 @@
 -- A log in print reads as this very log.
-use Rattle.std.proofs.Common.{◌≡◌, inl, inr, ℕ, zero, suc, ◌+◌, ◌-◌, ◌<◌, true, false, List, [], ◌∷◌, ◌++◌, Ok, length, replicate, codes, add-zero, append_assoc, arith, refl, sym, ap, ◌∙◌}
-use Rattle.std.specs.Prelude.{◌==◌}
-use Rattle.std.specs.Fmt.{decimal}
-use Rattle.std.specs.List.{join_with_byte, slice_split}
-use Rattle.std.proofs.lemmas.Fmt.{decimal_digit}
-use Rattle.std.proofs.lemmas.List.{append-nil}
-use Rattle.mt_base.specs.Text.{kind_text}
-use Rattle.mt_base.specs.declared.calls.Call.{Call}
-use Rattle.mt_base.specs.declared.calls.Call.TheVariants.{Store, StorePre, Insert, Erase, Alloc, Ralloc, Gap, Rgap, Clear}
-use Rattle.mt_base.specs.declared.calls.Query.{Query}
-use Rattle.mt_base.specs.declared.calls.Query.TheVariants.{Load, Find, Next, Prev, Rfind}
-use Rattle.mt_base.specs.declared.kinds.Kind.{Kind}
+use Rattle.mt_log.proofs.Prelude.{◌≡◌, inl, inr, ℕ, zero, suc, ◌+◌, ◌-◌, ◌<◌, true, false, List, [], ◌∷◌, ◌++◌, Ok, length, replicate, codes, add-zero, append_assoc, arith, refl, sym, ap, ◌∙◌, ◌==◌, decimal, join_with_byte, slice_split, decimal_digit, append-nil, kind_text, Call, Store, StorePre, Insert, Erase, Alloc, Ralloc, Gap, Rgap, Clear, Query, Load, Find, Next, Prev, Rfind, Kind, ◌>>=◌, IsLog, call_fields, query_fields, item_fields, line_text, lines_text, log_text, tree_name, names_after, ReadSoFar, after_item, after_line, after_pieces, after_skipped, fields_of, is_skipped, log_of, nothing_read, known_after, Item, Tree, Lane, Join, Dup, Check, Write, Ask, Scan, Line, Log, KnownTree}
 use Rattle.mt_base.specs.declared.kinds.Kind.TheVariants as kinds
-use Rattle.mt_log.specs.Fault.{◌>>=◌}
-use Rattle.mt_log.specs.LogText.{IsLog, call_fields, query_fields, item_fields, line_text, lines_text, log_text, tree_name, names_after}
-use Rattle.mt_log.specs.Reading.{ReadSoFar, after_item, after_line, after_pieces, after_skipped, fields_of, is_skipped, log_of, nothing_read}
-use Rattle.mt_log.specs.Trees.{known_after}
-use Rattle.mt_log.specs.declared.lines.Item.{Item}
-use Rattle.mt_log.specs.declared.lines.Item.TheVariants.{Tree, Lane, Join, Dup, Check, Write, Ask, Scan}
-use Rattle.mt_log.specs.declared.lines.Line.{Line}
-use Rattle.mt_log.specs.declared.lines.Log.{Log}
-use Rattle.mt_log.specs.declared.trees.KnownTree.{KnownTree}
 use Rattle.mt_log.proofs.Following.{AreNamed, CallSays, CanAllFollow, CanFollow, IsNumber, QuerySays, at_line}
 use Rattle.mt_log.proofs.LogsRead.{log_follows}
 use Rattle.mt_log.proofs.Pieces.{IsVersion, behind_header, first_line}

@@ -1,16 +1,5 @@
 -- What a reader knows holds of each line that it reads.
-use Rattle.std.proofs.Common.{◌≡◌, inl, inr, ℕ, ◌<◌, ◌≤◌, ◌+◌, Bool, false, List, [], ◌∷◌, ◌++◌, Option, Some, None, length, map, slice_get, length-append, arith, refl, sym, ap, ◌∙◌, subst}
-use Rattle.std.specs.Option.{option_map, option_to_list}
-use Rattle.std.proofs.lemmas.List.{append-nil, map-append, length-map}
-use Rattle.std.proofs.lemmas.Option.{slice_get_cases}
-use Rattle.mt_log.specs.declared.lines.Item.{Item}
-use Rattle.mt_log.specs.declared.lines.Item.TheVariants.{Tree, Dup}
-use Rattle.mt_log.specs.declared.lines.Line.{Line}
-use Rattle.mt_log.specs.declared.trees.KnownTree.{KnownTree}
-use Rattle.mt_log.specs.Phases.{AreInPlaceFrom, IsInPlace, phase_after, stepped_after, stepped_from}
-use Rattle.mt_log.specs.Reader.{HasTreeRoom, IsSoundReading, MayFollow, least_behind}
-use Rattle.mt_log.specs.Reading.{ReadSoFar, after_item, nothing_read}
-use Rattle.mt_log.specs.Trees.{Declared, Opening, AreNamedFrom, NamesBelow, NumbersRiseFrom, count_after, declared_by, known_after, tree_declared_by, most_trees, opening_by, renamed, trees_from, trees_of}
+use Rattle.mt_log.proofs.Prelude.{◌≡◌, inl, inr, ℕ, ◌<◌, ◌≤◌, ◌+◌, Bool, false, List, [], ◌∷◌, ◌++◌, Option, Some, None, length, map, slice_get, length-append, arith, refl, sym, ap, ◌∙◌, subst, option_map, option_to_list, append-nil, map-append, length-map, slice_get_cases, Item, Tree, Dup, Line, KnownTree, AreInPlaceFrom, IsInPlace, phase_after, stepped_after, stepped_from, HasTreeRoom, IsSoundReading, MayFollow, least_behind, ReadSoFar, after_item, nothing_read, Declared, Opening, AreNamedFrom, NamesBelow, NumbersRiseFrom, count_after, declared_by, known_after, tree_declared_by, most_trees, opening_by, renamed, trees_from, trees_of}
 
 -- ---- the trees with one more line
 

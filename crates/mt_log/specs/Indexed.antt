@@ -1,7 +1,7 @@
 -- A table from names to kinds as the list of trees that it stands for.
 -- Source: this project's own.
 use Rattle.std.specs.Prelude.{ℕ, List}
-use Rattle.mt_base.specs.declared.kinds.Kind.{Kind}
+use Rattle.mt_log.specs.Prelude.{Kind}
 use Rattle.mt_log.specs.declared.trees.KnownTree.{KnownTree}
 
 abbrev pub known : List ℕ × Kind → KnownTree

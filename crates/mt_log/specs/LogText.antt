@@ -3,11 +3,7 @@
 use Rattle.std.specs.Prelude.{◌≡◌, ℕ, List, [], ◌∷◌, ◌++◌, ◌-◌, Ok, replicate, slice_get, codes, unwrap_or}
 use Rattle.std.specs.Fmt.{decimal}
 use Rattle.std.specs.List.{join_with_byte}
-use Rattle.mt_base.specs.Text.{kind_text}
-use Rattle.mt_base.specs.declared.calls.Call.{Call}
-use Rattle.mt_base.specs.declared.calls.Call.TheVariants.{Store, StorePre, Insert, Erase, Alloc, Ralloc, Gap, Rgap, Clear}
-use Rattle.mt_base.specs.declared.calls.Query.{Query}
-use Rattle.mt_base.specs.declared.calls.Query.TheVariants.{Load, Find, Next, Prev, Rfind}
+use Rattle.mt_log.specs.Prelude.{kind_text, Call, Store, StorePre, Insert, Erase, Alloc, Ralloc, Gap, Rgap, Clear, Query, Load, Find, Next, Prev, Rfind}
 use Rattle.mt_log.specs.Reading.{log_of}
 use Rattle.mt_log.specs.declared.lines.Item.{Item}
 use Rattle.mt_log.specs.declared.lines.Item.TheVariants.{Tree, Lane, Join, Dup, Check, Write, Ask, Scan}

@@ -6,14 +6,8 @@ use Rattle.std.specs.Option.{ok_or, option_map, option_and_then}
 use Rattle.std.specs.Char.{is_ascii_digit, is_ascii_hexdigit}
 use Rattle.std.specs.Str.{bytes_eq}
 use Rattle.std.specs.Str.Parse.{digits_value}
-use Rattle.mt_base.specs.declared.kinds.Kind.{Kind}
+use Rattle.mt_log.specs.Prelude.{Kind, Call, Store, StorePre, Insert, Erase, Alloc, Ralloc, Gap, Rgap, Clear, Query, Load, Find, Next, Prev, Rfind, kind_text, greatest_of}
 use Rattle.mt_base.specs.declared.kinds.Kind.TheVariants as kinds
-use Rattle.mt_base.specs.declared.calls.Call.{Call}
-use Rattle.mt_base.specs.declared.calls.Call.TheVariants.{Store, StorePre, Insert, Erase, Alloc, Ralloc, Gap, Rgap, Clear}
-use Rattle.mt_base.specs.declared.calls.Query.{Query}
-use Rattle.mt_base.specs.declared.calls.Query.TheVariants.{Load, Find, Next, Prev, Rfind}
-use Rattle.mt_base.specs.Text.{kind_text}
-use Rattle.mt_base.specs.Width.{greatest_of}
 use Rattle.mt_log.specs.Keywords.{keywords, named}
 use Rattle.mt_log.specs.Name.{is_name}
 use Rattle.mt_log.specs.Phases.{stepped_after}

@@ -1,19 +1,6 @@
 -- What a call of a pass adds to the count of its calls.
-use Rattle.std.specs.Prelude.{All, IfErr, IfOk, MatchOption, Option, Some, None, Result, Ok, Err, is_some, map}
-use Rattle.std.specs.List.{AllByRecursion}
-use Rattle.std.proofs.lemmas.List.Elements.{All-from_recursion}
-use Rattle.std.proofs.Common.{◌≡◌, ℕ, ◌+◌, ◌==◌, ◌≤◌, Bool, true, List, [], ◌∷◌, ◌++◌, length, length-append, if◌then◌else◌, eq-eqb, refl, sym, ap, ◌∙◌, subst, arith}
-use Rattle.mt_base.specs.declared.calls.Call.{Call}
-use Rattle.mt_base.specs.declared.calls.Call.TheVariants.{Erase}
+use Rattle.mt_numbers.proofs.Prelude.{All, IfErr, IfOk, MatchOption, Option, Some, None, Result, Ok, Err, is_some, map, AllByRecursion, All-from_recursion, ◌≡◌, ℕ, ◌+◌, ◌==◌, ◌≤◌, Bool, true, List, [], ◌∷◌, ◌++◌, length, length-append, if◌then◌else◌, eq-eqb, refl, sym, ap, ◌∙◌, subst, arith, Call, Erase, Reply, Record, History, Pass, Saw, Wrote, new_pass, places, places_from, Done, Worn, Tree, limit_of, opened, IsWorn, asking, count_of, gave_one, given_back_by, removed, number_taken, started, taken_by, took_one, AskedForNumber, GaveBack, KnowsItsOwn}
 use Rattle.mt_base.specs.declared.kinds.Kind.TheVariants as kinds
-use Rattle.mt_base.specs.declared.replies.Reply.{Reply}
-use Rattle.mt_base.specs.History.{Record, History}
-use Rattle.mt_base.specs.Passes.{Pass, Saw, Wrote, new_pass, places, places_from}
-use Rattle.mt_tree.specs.declared.shapes.Done.{Done}
-use Rattle.mt_tree.specs.declared.shapes.Worn.{Worn}
-use Rattle.mt_tree.specs.declared.trees.Tree.{Tree}
-use Rattle.mt_tree.specs.Trees.{limit_of, opened, IsWorn}
-use Rattle.mt_numbers.specs.Calls.{asking, count_of, gave_one, given_back_by, removed, number_taken, started, taken_by, took_one, AskedForNumber, GaveBack, KnowsItsOwn}
 use Rattle.mt_numbers.proofs.Telling.{asked_tells, gave_tells}
 
 abbrev any : Record → Bool

@@ -1,21 +1,6 @@
 -- What the reply of a call tells, which the map before it answered.
-use Rattle.std.specs.Prelude.{Option, Some, None, take, fold}
-use Rattle.std.proofs.Common.{◌≡◌, ℕ, ◌+◌, ◌-◌, List, [], ◌∷◌, ◌++◌, length, inl, inr, refl, sym, ap, ◌∙◌, subst, arith}
-use Rattle.std.proofs.Math.Seq.{take-append_seam}
-use Rattle.mt_base.specs.declared.calls.Call.{Call}
-use Rattle.mt_base.specs.declared.calls.Call.TheVariants.{Erase}
-use Rattle.mt_base.specs.declared.kinds.Kind.{Kind}
+use Rattle.mt_numbers.proofs.Prelude.{Option, Some, None, take, fold, ◌≡◌, ℕ, ◌+◌, ◌-◌, List, [], ◌∷◌, ◌++◌, length, inl, inr, refl, sym, ap, ◌∙◌, subst, arith, take-append_seam, Call, Erase, Kind, Range, Reply, acted, erased, placed, AreLegalFrom, History, IsAnswered, IsLegal, Record, limits_after, map_after, map_at, holding, Limits, Pass, Wrote, with_records, last_is_answered, asking, lowest_free, number_taken, was_there, TellsLowest, TellsTaken, TAKEN}
 use Rattle.mt_base.specs.declared.kinds.Kind.TheVariants as kinds
-use Rattle.mt_base.specs.declared.ranges.Range.{Range}
-use Rattle.mt_base.specs.declared.replies.Reply.{Reply}
-use Rattle.mt_base.specs.Call.{acted, erased, placed}
-use Rattle.mt_base.specs.History.{AreLegalFrom, History, IsAnswered, IsLegal, Record, limits_after, map_after, map_at}
-use Rattle.mt_base.specs.Map.{holding}
-use Rattle.mt_base.specs.Nodes.{Limits}
-use Rattle.mt_base.specs.Passes.{Pass, Wrote, with_records}
-use Rattle.mt_tree.proofs.Allocations.{last_is_answered}
-use Rattle.mt_numbers.specs.Calls.{asking, lowest_free, number_taken, was_there, TellsLowest, TellsTaken}
-use Rattle.mt_numbers.specs.declared.shared.TheConstants.{TAKEN}
 
 -- ---- the map before the last call
 

@@ -1,14 +1,6 @@
 -- The rows on a path end at the greatest index or below. For the proofs of the crates above, too.
-use Rattle.std.proofs.Common.{◌≡◌, ℕ, ◌+◌, ◌<◌, ◌≤◌, List, length, sym, ap, subst, inl, inr, arith}
-use Rattle.mt_base.specs.declared.kinds.Kind.{Kind}
-use Rattle.mt_base.specs.Width.{greatest, deepest}
-use Rattle.mt_layout.specs.Rows.{named_kind}
-use Rattle.mt_rows.specs.Spans.{root_span}
+use Rattle.mt_path.proofs.Prelude.{◌≡◌, ℕ, ◌+◌, ◌<◌, ◌≤◌, List, length, sym, ap, subst, inl, inr, arith, Kind, greatest, deepest, named_kind, root_span, Rooted, IsTreeOf, tree_as, PathStep, path_in, step_at}
 use Rattle.mt_rows.specs.Laws as laws
-use Rattle.mt_rows.specs.Sheet.{Rooted}
-use Rattle.mt_rows.specs.Publish.{IsTreeOf, tree_as}
-use Rattle.mt_path.specs.declared.paths.PathStep.{PathStep}
-use Rattle.mt_path.specs.Paths.{path_in, step_at}
 use Rattle.mt_path.proofs.Places.{at_within}
 use Rattle.mt_path.proofs.Steps.{path_of_none}
 use Rattle.mt_path.proofs.TreePaths.{rows_at, row_of, step_of, levels, step, place}

@@ -1,21 +1,5 @@
 -- What is known in a walk before it enters a row, and what it leaves: its steps so far, and how many words were loaded.
-use Rattle.std.proofs.Common.{◌≡◌, ◌≢◌, ℕ, ◌+◌, ◌-◌, ◌<◌, ◌≤◌, List, [], ◌∷◌, ◌++◌, Some, length, take, refl, sym, ap, ◌∙◌, subst, arith}
-use Rattle.std.specs.Prelude.{IsSome}
-use Rattle.std.proofs.lemmas.List.{length_push, take_more, take_all}
-use Rattle.mt_base.specs.declared.kinds.Kind.{Kind}
-use Rattle.mt_base.specs.Width.{greatest, deepest}
-use Rattle.mt_layout.specs.declared.names.RowKind.{RowKind}
-use Rattle.mt_layout.specs.declared.names.RowKind.TheVariants.{Leaf}
-use Rattle.mt_layout.specs.declared.spans.Span.{Span}
-use Rattle.mt_layout.specs.Rows.{named_kind}
-use Rattle.mt_rows.specs.Publish.{IsTreeOf}
-use Rattle.mt_rows.specs.Sheet.{Rooted, Sheet, IsPlace, loaded, ReadsUpTo}
-use Rattle.mt_path.specs.declared.paths.PathStep.{PathStep}
-use Rattle.mt_path.specs.declared.rows.Row.{Row}
-use Rattle.mt_path.specs.declared.rows.Found.{Found}
-use Rattle.mt_path.specs.Handles.{handle_in}
-use Rattle.mt_path.specs.Paths.{path_in, step_at, no_step, loads_in, loads_on}
-use Rattle.mt_path.specs.Walks.{row_for, found_span, IsFoundSlot, IsOnWay, IsAtEnd}
+use Rattle.mt_path.proofs.Prelude.{◌≡◌, ◌≢◌, ℕ, ◌+◌, ◌-◌, ◌<◌, ◌≤◌, List, [], ◌∷◌, ◌++◌, Some, length, take, refl, sym, ap, ◌∙◌, subst, arith, IsSome, length_push, take_more, take_all, Kind, greatest, deepest, RowKind, Leaf, Span, named_kind, IsTreeOf, Rooted, Sheet, IsPlace, loaded, ReadsUpTo, PathStep, Row, Found, handle_in, path_in, step_at, no_step, loads_in, loads_on, row_for, found_span, IsFoundSlot, IsOnWay, IsAtEnd}
 use Rattle.mt_path.proofs.Kept.{tree_kept}
 use Rattle.mt_path.proofs.Loads.{one_read, reads_more, reads_up, reads_next, loads_in-push, loads_in-some}
 use Rattle.mt_path.proofs.Ways as ways

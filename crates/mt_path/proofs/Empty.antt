@@ -1,24 +1,6 @@
 -- The path to an index is empty where the tree's map is. For the proofs of the crates above, too.
-use Rattle.std.proofs.Common.{◌≡◌, ◌≢◌, ℕ, zero, suc, ◌+◌, ◌<◌, ◌≤◌, List, [], ◌∷◌, ◌++◌, length, refl, sym, ap, ◌∙◌, inl, inr, arith}
-use Rattle.std.specs.Prelude.{◌↔◌}
-use Rattle.std.specs.List.{flat_map}
-use Rattle.std.proofs.lemmas.Grind.{flat_map-append}
-use Rattle.mt_base.specs.declared.kinds.Kind.{Kind}
-use Rattle.mt_base.specs.Width.{greatest, deepest}
-use Rattle.mt_base.proofs.Lists.{all_map}
-use Rattle.mt_layout.specs.Rows.{named_kind}
-use Rattle.mt_layout.specs.declared.spans.Span.{Span}
-use Rattle.mt_layout.specs.Spans.{leaf_range, Fills}
-use Rattle.mt_rows.specs.Spans.{spans_in, root_span}
-use Rattle.mt_rows.specs.Levels.{expand, map_of, Levels}
-use Rattle.mt_rows.specs.Trees.{map_in}
+use Rattle.mt_path.proofs.Prelude.{◌≡◌, ◌≢◌, ℕ, zero, suc, ◌+◌, ◌<◌, ◌≤◌, List, [], ◌∷◌, ◌++◌, length, refl, sym, ap, ◌∙◌, inl, inr, arith, ◌↔◌, flat_map, flat_map-append, Kind, greatest, deepest, all_map, named_kind, Span, leaf_range, Fills, spans_in, root_span, expand, map_of, Levels, map_in, Rooted, IsTreeOf, tree_as, Filled, expand_fills, ranges_by_depth, PathStep, path_in}
 use Rattle.mt_rows.specs.Laws as laws
-use Rattle.mt_rows.specs.Sheet.{Rooted}
-use Rattle.mt_rows.specs.Publish.{IsTreeOf, tree_as}
-use Rattle.mt_rows.proofs.Lists.{Filled, expand_fills}
-use Rattle.mt_rows.proofs.Depth.{ranges_by_depth}
-use Rattle.mt_path.specs.declared.paths.PathStep.{PathStep}
-use Rattle.mt_path.specs.Paths.{path_in}
 use Rattle.mt_path.proofs.Steps.{path_of_none}
 use Rattle.mt_path.proofs.TreePaths.{levels}
 

@@ -1,18 +1,5 @@
 -- The slots before and behind an index's in its leaf, and what stands there. For the proofs of the crates above, too.
-use Rattle.std.proofs.Common.{◌≡◌, ◌≢◌, ℕ, suc, ◌+◌, ◌-◌, ◌^◌, ◌<◌, ◌≤◌, List, Some, true, false, length, refl, sym, ap, ◌∙◌, subst, arith}
-use Rattle.std.specs.Prelude.{◌↔◌, IsNone}
-use Rattle.mt_base.specs.declared.kinds.Kind.{Kind}
-use Rattle.mt_base.specs.Width.{greatest}
-use Rattle.mt_base.proofs.WidthBounds.{greatest_fits}
-use Rattle.mt_layout.specs.declared.names.RowKind.TheVariants.{Leaf}
-use Rattle.mt_layout.specs.declared.spans.Span.{Span}
-use Rattle.mt_layout.specs.Sizes.{slots_of}
-use Rattle.mt_rows.specs.Publish.{IsTreeOf}
-use Rattle.mt_rows.specs.Sheet.{Rooted}
-use Rattle.mt_path.specs.declared.handles.Handle.{Handle}
-use Rattle.mt_path.specs.declared.paths.PathStep.{PathStep}
-use Rattle.mt_path.specs.Handles.{leaf_spans, leaf_in, handle_in, IsHandleOf, IsStepOfLeaf}
-use Rattle.mt_path.specs.Paths.{span_at}
+use Rattle.mt_path.proofs.Prelude.{◌≡◌, ◌≢◌, ℕ, suc, ◌+◌, ◌-◌, ◌^◌, ◌<◌, ◌≤◌, List, Some, true, false, length, refl, sym, ap, ◌∙◌, subst, arith, ◌↔◌, IsNone, Kind, greatest, greatest_fits, Leaf, Span, slots_of, IsTreeOf, Rooted, Handle, PathStep, leaf_spans, leaf_in, handle_in, IsHandleOf, IsStepOfLeaf, span_at}
 use Rattle.mt_path.proofs.LeafSlots.{fills_within, fills_next, fills_more, fills_slot}
 use Rattle.mt_path.proofs.LeafSteps.{IsStepTo, step_to, leaf_of_other, here_in, slot_low}
 

@@ -1,13 +1,5 @@
 -- What stays where rows were only read. For the proofs of the crates above, too.
-use Rattle.std.proofs.Common.{◌≡◌, ℕ, List, sym, ap, ◌∙◌, subst}
-use Rattle.mt_base.specs.declared.kinds.Kind.{Kind}
-use Rattle.mt_rows.specs.Sheet.{Rooted, Sheet, IsPlace, word_at, OnlyReads, ReadsUpTo}
-use Rattle.mt_rows.specs.Publish.{IsTreeOf}
-use Rattle.mt_path.specs.declared.handles.Handle.{Handle}
-use Rattle.mt_path.specs.declared.paths.PathStep.{PathStep}
-use Rattle.mt_path.specs.Handles.{IsHandleOf, IsStepOfLeaf}
-use Rattle.mt_path.specs.Paths.{path_in}
-use Rattle.mt_rows.proofs.Loads.{same_tree}
+use Rattle.mt_path.proofs.Prelude.{◌≡◌, ℕ, List, sym, ap, ◌∙◌, subst, Kind, Rooted, Sheet, IsPlace, word_at, OnlyReads, ReadsUpTo, IsTreeOf, Handle, PathStep, IsHandleOf, IsStepOfLeaf, path_in, same_tree}
 
 pub tree_kept : (n : ℕ) (s s' : Sheet) → ReadsUpTo n s s' → s'.tree ≡ s.tree
 tree_kept n s s' reads = same_tree s s' reads.rest

@@ -1,12 +1,5 @@
 -- What stands in the slots of a row, and spans that fill a row's indexes slot by slot. For the proofs of the crates above, too.
-use Rattle.std.proofs.Common.{◌≡◌, ◌≢◌, ℕ, zero, suc, ◌+◌, ◌<◌, ◌≤◌, List, [], ◌∷◌, length, nat_lt, nat_le, true, false, refl, ap, ◌∙◌, subst, inl, inr, arith, lt-ltb, le-ltb}
-use Rattle.std.specs.Prelude.{slice_index, if◌then◌else◌}
-use Rattle.std.proofs.lemmas.Bool.{cases_Bool}
-use Rattle.mt_layout.specs.declared.spans.Span.{Span}
-use Rattle.mt_layout.specs.Columns.{pivot_column, slot_column, items_from}
-use Rattle.mt_layout.specs.Spans.{Fills, spans_from}
-use Rattle.mt_layout.proofs.SpanLists.{fills_le}
-use Rattle.mt_path.specs.Paths.{slot_for, span_at}
+use Rattle.mt_path.proofs.Prelude.{◌≡◌, ◌≢◌, ℕ, zero, suc, ◌+◌, ◌<◌, ◌≤◌, List, [], ◌∷◌, length, nat_lt, nat_le, true, false, refl, ap, ◌∙◌, subst, inl, inr, arith, lt-ltb, le-ltb, slice_index, if◌then◌else◌, cases_Bool, Span, pivot_column, slot_column, items_from, Fills, spans_from, fills_le, slot_for, span_at}
 use Rattle.mt_path.proofs.Places.{slot_here, slot_behind}
 
 -- ---- the columns of a slot

@@ -1,34 +1,11 @@
 -- The leaf of an index: where it stands, what it holds, and what it shares with the leaf of another index. For the proofs of the crates above, too.
-use Rattle.std.proofs.Common.{◌≡◌, ◌≢◌, ℕ, zero, suc, ◌+◌, ◌-◌, ◌^◌, ◌<◌, ◌≤◌, List, Option, Some, Bool, length, nat_lt, true, false, refl, sym, ap, ◌∙◌, subst, arith, lt-ltb, le-ltb}
-use Rattle.std.specs.Prelude.{if◌then◌else◌}
-use Rattle.std.proofs.lemmas.Option.{slice_get_within}
-use Rattle.mt_base.specs.declared.kinds.Kind.{Kind}
-use Rattle.mt_base.specs.Width.{greatest, columns, first_row}
-use Rattle.mt_base.proofs.WidthBounds.{greatest_fits}
-use Rattle.mt_layout.specs.declared.names.RowKind.{RowKind}
-use Rattle.mt_layout.specs.declared.names.RowKind.TheVariants.{Leaf}
-use Rattle.mt_layout.specs.declared.spans.Span.{Span}
-use Rattle.mt_layout.specs.declared.items.Item.{Item}
-use Rattle.mt_layout.specs.Columns.{items_at}
-use Rattle.mt_layout.specs.Rows.{named_kind}
-use Rattle.mt_layout.specs.Sizes.{slots_of, gaps_of}
-use Rattle.mt_layout.specs.Spans.{Fills}
-use Rattle.mt_layout.proofs.NameLaws.{Names-named_kind}
-use Rattle.mt_layout.proofs.RowSizes.{slots_of-columns}
-use Rattle.mt_layout.proofs.SpanLists.{length-spans_from}
-use Rattle.mt_rows.specs.Spans.{Table, base_of, column, spans_by, spans_in}
+use Rattle.mt_path.proofs.Prelude.{◌≡◌, ◌≢◌, ℕ, zero, suc, ◌+◌, ◌-◌, ◌^◌, ◌<◌, ◌≤◌, List, Option, Some, Bool, length, nat_lt, true, false, refl, sym, ap, ◌∙◌, subst, arith, lt-ltb, le-ltb, if◌then◌else◌, slice_get_within, Kind, greatest, columns, first_row, greatest_fits, RowKind, Leaf, Span, Item, items_at, named_kind, slots_of, gaps_of, Fills, Names-named_kind, slots_of-columns, length-spans_from, Table, base_of, column, spans_by, spans_in, IsTreeOf, tree_as, Rooted, IsPlace, word_at, PathStep, leaf_spans, leaf_in, IsStepOfLeaf, slot_for, span_at, step_in, path_in, step_at, row_most}
 use Rattle.mt_rows.specs.Laws as laws
-use Rattle.mt_rows.specs.Publish.{IsTreeOf, tree_as}
-use Rattle.mt_rows.specs.Sheet.{Rooted, IsPlace, word_at}
-use Rattle.mt_path.specs.declared.paths.PathStep.{PathStep}
-use Rattle.mt_path.specs.Handles.{leaf_spans, leaf_in, IsStepOfLeaf}
-use Rattle.mt_path.specs.Paths.{slot_for, span_at, step_in, path_in, step_at}
 use Rattle.mt_path.proofs.Places.{At, at_get, at_within}
 use Rattle.mt_path.proofs.Steps.{rows_agree}
 use Rattle.mt_path.proofs.TreePaths.{rooted, top_row, rows_at, row_of, levels, step, place as place_at, lawful, holds, root_leads}
 use Rattle.mt_path.proofs.LeafSlots.{StandsIn, stands_in, fills_within, fills_next}
 use Rattle.mt_path.proofs.Ways.{some_tree}
-use Rattle.mt_rows.proofs.FewSpans.{row_most}
 
 -- ---- a leaf of a tree
 

@@ -15,3 +15,4 @@ pub mod HandleSteps
 pub mod Empty
 pub mod Bounds
 pub mod SameSlot
+mod Prelude

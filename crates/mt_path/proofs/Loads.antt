@@ -1,12 +1,5 @@
 -- How many words were loaded. For the proofs of the crates above, too.
-use Rattle.std.proofs.Common.{◌≡◌, ℕ, ◌+◌, ◌<◌, ◌≤◌, List, [], ◌∷◌, ◌++◌, Option, Some, None, length, take, drop, map, sum, refl, sym, ap, ◌∙◌, subst, arith}
-use Rattle.std.specs.Option.{option_map}
-use Rattle.std.proofs.lemmas.List.{map-append, take-append-drop}
-use Rattle.std.proofs.lemmas.List.Sums.{sum_by-append}
-use Rattle.mt_rows.specs.Sheet.{Sheet, loaded, one_more, RoseUpTo, ReadsUpTo}
-use Rattle.mt_path.specs.declared.paths.PathStep.{PathStep}
-use Rattle.mt_path.specs.Paths.{loads_in}
-use Rattle.mt_rows.proofs.Loads.{reads_on}
+use Rattle.mt_path.proofs.Prelude.{◌≡◌, ℕ, ◌+◌, ◌<◌, ◌≤◌, List, [], ◌∷◌, ◌++◌, Option, Some, None, length, take, drop, map, sum, refl, sym, ap, ◌∙◌, subst, arith, option_map, map-append, take-append-drop, sum_by-append, Sheet, loaded, one_more, RoseUpTo, ReadsUpTo, PathStep, loads_in, reads_on}
 
 -- ---- counts
 

@@ -1,28 +1,6 @@
 -- A row that is searched from its middle: where the pivot before a slot is below an index, so are all before that.
-use Rattle.std.proofs.Common.{◌≡◌, ℕ, zero, suc, ◌+◌, ◌-◌, ◌<◌, ◌≤◌, List, [], ◌∷◌, Option, Some, true, length, nat_lt, refl, sym, ap, ◌∙◌, subst, inl, inr, arith, lt-ltb}
-use Rattle.std.specs.Prelude.{slice_index}
-use Rattle.std.proofs.lemmas.Bool.{cases_lt}
-use Rattle.mt_base.specs.declared.kinds.Kind.{Kind}
-use Rattle.mt_base.specs.Width.{columns, greatest}
-use Rattle.mt_layout.specs.declared.items.Item.{Item}
-use Rattle.mt_layout.specs.declared.names.RowKind.{RowKind}
-use Rattle.mt_layout.specs.declared.spans.Span.{Span}
-use Rattle.mt_layout.specs.Columns.{items_from, items_at}
-use Rattle.mt_layout.specs.Rows.{row_in}
-use Rattle.mt_layout.specs.Sizes.{slots_of, gaps_of}
-use Rattle.mt_layout.specs.Spans.{Fills, spans_from}
-use Rattle.mt_layout.proofs.Reading.{few_items}
-use Rattle.mt_layout.proofs.RowSizes.{layout_of, slots_of-columns}
-use Rattle.mt_layout.proofs.RowWords.{item_or, get_or-padded, used, used-pivot}
-use Rattle.mt_layout.proofs.SpanLists.{length-spans_from}
+use Rattle.mt_path.proofs.Prelude.{◌≡◌, ℕ, zero, suc, ◌+◌, ◌-◌, ◌<◌, ◌≤◌, List, [], ◌∷◌, Option, Some, true, length, nat_lt, refl, sym, ap, ◌∙◌, subst, inl, inr, arith, lt-ltb, slice_index, cases_lt, Kind, columns, greatest, Item, RowKind, Span, items_from, items_at, row_in, slots_of, gaps_of, Fills, spans_from, few_items, layout_of, slots_of-columns, item_or, get_or-padded, used, used-pivot, length-spans_from, IsTreeOf, tree_as, Rooted, Table, base_of, column, spans_by, Row, spans_behind, IsLawfulRow, IsPassed, slot_for, span_at, spans_of, IsOnWay}
 use Rattle.mt_rows.specs.Laws as laws
-use Rattle.mt_rows.specs.Publish.{IsTreeOf, tree_as}
-use Rattle.mt_rows.specs.Sheet.{Rooted}
-use Rattle.mt_rows.specs.Spans.{Table, base_of, column, spans_by}
-use Rattle.mt_path.specs.declared.rows.Row.{Row}
-use Rattle.mt_path.specs.Middles.{spans_behind, IsLawfulRow, IsPassed}
-use Rattle.mt_path.specs.Paths.{slot_for, span_at}
-use Rattle.mt_path.specs.Walks.{spans_of, IsOnWay}
 use Rattle.mt_path.proofs.LeafSlots.{fills_within, stands_in}
 use Rattle.mt_path.proofs.Searches.{PassedIn, pass}
 use Rattle.mt_path.proofs.TreePaths.{rooted, row_of, levels, lawful}

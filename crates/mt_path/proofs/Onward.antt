@@ -1,26 +1,10 @@
 -- A path that goes on to another index from a row which covers both.
-use Rattle.std.proofs.Common.{◌≡◌, ◌≢◌, ◌==◌, ℕ, zero, suc, ◌+◌, ◌-◌, ◌<◌, ◌≤◌, List, [], ◌∷◌, ◌++◌, Some, Bool, true, false, length, take, drop, get_or, refl, sym, ap, ◌∙◌, subst, inl, inr, arith, length-append, eq-eqb, ne_eqb}
-use Rattle.std.specs.Prelude.{IsSome, is_some}
-use Rattle.std.specs.List.{AllByRecursion}
-use Rattle.std.proofs.lemmas.Bool.{cases_lt}
-use Rattle.std.proofs.lemmas.List.{ext_get_or, get_or-take, get_or_append_left, get_or-append_right, get_or_at, length-take-le, take-take}
-use Rattle.mt_base.specs.declared.kinds.Kind.{Kind}
-use Rattle.mt_base.specs.Width.{greatest}
-use Rattle.mt_layout.specs.declared.names.RowKind.{RowKind}
-use Rattle.mt_layout.specs.declared.names.RowKind.TheVariants.{Leaf}
-use Rattle.mt_layout.specs.declared.spans.Span.{Span}
-use Rattle.mt_layout.specs.Rows.{named_kind}
+use Rattle.mt_path.proofs.Prelude.{◌≡◌, ◌≢◌, ◌==◌, ℕ, zero, suc, ◌+◌, ◌-◌, ◌<◌, ◌≤◌, List, [], ◌∷◌, ◌++◌, Some, Bool, true, false, length, take, drop, get_or, refl, sym, ap, ◌∙◌, subst, inl, inr, arith, length-append, eq-eqb, ne_eqb, IsSome, is_some, AllByRecursion, cases_lt, ext_get_or, get_or-take, get_or_append_left, get_or-append_right, get_or_at, length-take-le, take-take, Kind, greatest, RowKind, Leaf, Span, named_kind, IsTreeOf, tree_as, Rooted, Sheet, ReadsUpTo, PathStep, step_in, path_in, step_at, no_step, loads_in, loads_on, Covers, IsDeepestOver, ReadsBelow, row_as, row_for, IsOnWay, all_at}
 use Rattle.mt_rows.specs.Laws as laws
-use Rattle.mt_rows.specs.Publish.{IsTreeOf, tree_as}
-use Rattle.mt_rows.specs.Sheet.{Rooted, Sheet, ReadsUpTo}
-use Rattle.mt_path.specs.declared.paths.PathStep.{PathStep}
-use Rattle.mt_path.specs.Paths.{step_in, path_in, step_at, no_step, loads_in, loads_on, Covers, IsDeepestOver, ReadsBelow}
-use Rattle.mt_path.specs.Walks.{row_as, row_for, IsOnWay}
 use Rattle.mt_path.proofs.Kept.{tree_kept}
 use Rattle.mt_path.proofs.Loads.{reads_more, reads_up, loads_in-parts, loads_in-take}
 use Rattle.mt_path.proofs.TreePaths.{rooted, top_row, row_of, step_of, levels, step, lawful, inside_agree}
 use Rattle.mt_path.proofs.Ways.{row_on_top, row_named, some_root, some_tree, root_named, empty_path}
-use Rattle.mt_rows.proofs.Lists.{all_at}
 
 -- ---- steps taken off the end
 

@@ -1,12 +1,5 @@
 -- Where the span that holds an index stands among spans end to end. For the proofs of the crates above, too.
-use Rattle.std.proofs.Common.{◌≡◌, ℕ, suc, ◌+◌, ◌<◌, ◌≤◌, List, [], ◌∷◌, ◌++◌, Bool, true, false, cond, length, nat_lt, refl, sym, ap, ◌∙◌, subst, ⊎_elim, arith, ◌-◌, append_assoc, Some, lt-ltb, le-ltb}
-use Rattle.std.specs.List.{take_while, slice_get}
-use Rattle.std.proofs.lemmas.List.Sums.{take_while-cons}
-use Rattle.std.proofs.lemmas.Bool.{cases_lt}
-use Rattle.mt_layout.specs.declared.spans.Span.{Span}
-use Rattle.mt_layout.specs.Spans.{Fills}
-use Rattle.mt_layout.proofs.SpanLists.{fills_le, fills_split}
-use Rattle.mt_path.specs.Paths.{slot_for, span_at}
+use Rattle.mt_path.proofs.Prelude.{◌≡◌, ℕ, suc, ◌+◌, ◌<◌, ◌≤◌, List, [], ◌∷◌, ◌++◌, Bool, true, false, cond, length, nat_lt, refl, sym, ap, ◌∙◌, subst, ⊎_elim, arith, ◌-◌, append_assoc, Some, lt-ltb, le-ltb, take_while, slice_get, take_while-cons, cases_lt, Span, Fills, fills_le, fills_split, slot_for, span_at}
 
 -- Of spans that fill the indexes from `lo` up to, but without, `hi`, this one holds the index.
 pub record At (lo hi : ℕ) (xs : List Span) (index : ℕ) (x : Span) : Type 0 where

@@ -1,19 +1,5 @@
 -- The indexes of what stands in one slot of a leaf have the same way. For the proofs of the crates above, too.
-use Rattle.std.proofs.Common.{◌≡◌, ◌≢◌, ℕ, ◌+◌, ◌-◌, ◌<◌, ◌≤◌, List, Option, length, refl, sym, ap, ◌∙◌, subst, inl, inr, arith}
-use Rattle.std.proofs.lemmas.Bool.{cases_lt}
-use Rattle.std.proofs.lemmas.List.{ext_get_or}
-use Rattle.mt_base.specs.declared.kinds.Kind.{Kind}
-use Rattle.mt_base.specs.Width.{greatest}
-use Rattle.mt_layout.specs.declared.spans.Span.{Span}
-use Rattle.mt_layout.specs.Spans.{Fills}
-use Rattle.mt_rows.specs.Spans.{spans_by, spans_in}
-use Rattle.mt_layout.specs.declared.names.RowKind.{RowKind}
-use Rattle.mt_rows.specs.Laws.{Tree, IsTree, Stands, top_of}
-use Rattle.mt_rows.specs.Publish.{IsTreeOf, tree_as}
-use Rattle.mt_rows.specs.Sheet.{Rooted}
-use Rattle.mt_path.specs.declared.paths.PathStep.{PathStep}
-use Rattle.mt_path.specs.Handles.{leaf_spans, leaf_in, last_step, IsStepOfLeaf}
-use Rattle.mt_path.specs.Paths.{slot_for, span_at, step_in, step_at, below, path_in, no_step}
+use Rattle.mt_path.proofs.Prelude.{◌≡◌, ◌≢◌, ℕ, ◌+◌, ◌-◌, ◌<◌, ◌≤◌, List, Option, length, refl, sym, ap, ◌∙◌, subst, inl, inr, arith, cases_lt, ext_get_or, Kind, greatest, Span, Fills, spans_by, spans_in, RowKind, Tree, IsTree, Stands, top_of, IsTreeOf, tree_as, Rooted, PathStep, leaf_spans, leaf_in, last_step, IsStepOfLeaf, slot_for, span_at, step_in, step_at, below, path_in, no_step}
 use Rattle.mt_path.proofs.Places.{At, slot_is, at_within}
 use Rattle.mt_path.proofs.TreePaths.{row_of, step_of, levels, step, lawful, holds, inside_agree}
 use Rattle.mt_path.proofs.LeafSteps.{step_to}

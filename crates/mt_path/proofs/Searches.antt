@@ -1,19 +1,5 @@
 -- How a row is searched for an index: slot by slot, up to the first pivot that is not below it.
-use Rattle.std.proofs.Common.{◌≡◌, ℕ, suc, ◌+◌, ◌-◌, ◌<◌, ◌≤◌, List, [], ◌∷◌, true, false, refl, sym, ap, ◌∙◌, subst, ⊎_elim, arith, lt-ltb, le-ltb}
-use Rattle.std.specs.Prelude.{nat_lt, slice_index}
-use Rattle.std.proofs.lemmas.Bool.{cases_lt}
-use Rattle.mt_layout.specs.declared.items.Item.{Item}
-use Rattle.mt_layout.specs.Columns.{pivot_column, slot_column, item_at, items_from, items_at}
-use Rattle.mt_layout.specs.declared.spans.Span.{Span}
-use Rattle.mt_layout.specs.Spans.{spans_from}
-use Rattle.mt_layout.proofs.Reading.{IsItem, ends, goes_on}
-use Rattle.mt_layout.specs.Sizes.{slots_of, gaps_of}
-use Rattle.mt_rows.specs.Spans.{Table, base_of, column}
-use Rattle.mt_path.specs.declared.paths.PathStep.{PathStep}
-use Rattle.mt_path.specs.declared.rows.Row.{Row}
-use Rattle.mt_path.specs.declared.rows.Found.{Found}
-use Rattle.mt_path.specs.Paths.{slot_for, span_at}
-use Rattle.mt_path.specs.Walks.{IsFoundSlot}
+use Rattle.mt_path.proofs.Prelude.{◌≡◌, ℕ, suc, ◌+◌, ◌-◌, ◌<◌, ◌≤◌, List, [], ◌∷◌, true, false, refl, sym, ap, ◌∙◌, subst, ⊎_elim, arith, lt-ltb, le-ltb, nat_lt, slice_index, cases_lt, Item, pivot_column, slot_column, item_at, items_from, items_at, Span, spans_from, IsItem, ends, goes_on, slots_of, gaps_of, Table, base_of, column, PathStep, Row, Found, slot_for, span_at, IsFoundSlot}
 use Rattle.mt_path.proofs.Places.{slot_here, slot_behind}
 
 module _ (slots gaps : ℕ) (w : List ℕ) (base max : ℕ) where

@@ -1,21 +1,5 @@
 -- The rows on the path to an index, level by level. For the proofs of the crates above, too.
-use Rattle.std.proofs.Common.{◌≡◌, ◌≢◌, ℕ, zero, suc, ◌+◌, ◌<◌, ◌≤◌, List, [], ◌∷◌, ◌++◌, Option, Some, None, length, refl, sym, ap, ◌∙◌, subst, arith, append-nil, append_assoc}
-use Rattle.mt_base.proofs.Lists.{all_map}
-use Rattle.mt_layout.specs.declared.names.RowKind.{RowKind}
-use Rattle.mt_layout.specs.declared.names.RowKind.TheVariants.{Leaf}
-use Rattle.mt_layout.specs.Rows.{named_kind}
-use Rattle.mt_layout.specs.declared.spans.Span.{Span}
-use Rattle.mt_layout.specs.Spans.{Fills}
-use Rattle.mt_rows.specs.Spans.{Table, spans_in, inner_of}
-use Rattle.mt_rows.specs.Levels.{expand, level, Levels, IsBelow}
-use Rattle.mt_rows.specs.Trees.{by_kind}
-use Rattle.mt_rows.specs.Laws.{Tree, IsRow}
-use Rattle.mt_rows.proofs.InnerKinds.{inner_no_leaf, inner_not_named}
-use Rattle.mt_rows.proofs.Lists.{Filled, expand_fills, levels_here}
-use Rattle.mt_rows.proofs.Joins.{level-append, levels_front, levels_back}
-use Rattle.mt_rows.proofs.Deeper.{by_kind_inner}
-use Rattle.mt_path.specs.declared.paths.PathStep.{PathStep}
-use Rattle.mt_path.specs.Paths.{slot_for, span_at, step_in, below, path_of, step_at, row_on}
+use Rattle.mt_path.proofs.Prelude.{◌≡◌, ◌≢◌, ℕ, zero, suc, ◌+◌, ◌<◌, ◌≤◌, List, [], ◌∷◌, ◌++◌, Option, Some, None, length, refl, sym, ap, ◌∙◌, subst, arith, append-nil, append_assoc, all_map, RowKind, Leaf, named_kind, Span, Fills, Table, spans_in, inner_of, expand, level, Levels, IsBelow, by_kind, Tree, IsRow, inner_no_leaf, inner_not_named, Filled, expand_fills, levels_here, level-append, levels_front, levels_back, by_kind_inner, PathStep, slot_for, span_at, step_in, below, path_of, step_at, row_on}
 use Rattle.mt_path.proofs.Places.{At, at_slot, at_parts, at_get, at_within, slot_is}
 
 -- ---- one step

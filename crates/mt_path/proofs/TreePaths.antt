@@ -1,20 +1,6 @@
 -- Paths from the root of a tree: how many steps, where each row stands, what two paths share, and the rows beside. For the
 -- proofs of the crates above, too.
-use Rattle.std.proofs.Common.{◌≡◌, ℕ, suc, ◌+◌, ◌-◌, ◌<◌, ◌≤◌, List, [], ◌∷◌, ◌++◌, length, refl, sym, ap, ◌∙◌, subst, arith, append_assoc}
-use Rattle.std.proofs.lemmas.Option.{slice_get_within}
-use Rattle.mt_base.specs.Width.{deepest}
-use Rattle.mt_layout.specs.Sizes.{slots_of}
-use Rattle.mt_layout.specs.Columns.{slot_column}
-use Rattle.mt_layout.specs.declared.spans.Span.{Span}
-use Rattle.mt_layout.specs.Spans.{Fills}
-use Rattle.mt_layout.proofs.SpanLists.{fills_split}
-use Rattle.mt_rows.specs.Spans.{spans_in, root_span}
-use Rattle.mt_rows.specs.Levels.{level, IsBelow}
-use Rattle.mt_rows.specs.Laws.{Tree, IsRow, Stands, top_of, kind_on}
-use Rattle.mt_rows.specs.Publish.{IsSlotOf}
-use Rattle.mt_rows.specs.Sheet.{Rooted}
-use Rattle.mt_path.specs.declared.paths.PathStep.{PathStep}
-use Rattle.mt_path.specs.Paths.{slot_for, span_at, step_in, below, path_in, step_at, row_on}
+use Rattle.mt_path.proofs.Prelude.{◌≡◌, ℕ, suc, ◌+◌, ◌-◌, ◌<◌, ◌≤◌, List, [], ◌∷◌, ◌++◌, length, refl, sym, ap, ◌∙◌, subst, arith, append_assoc, slice_get_within, deepest, slots_of, slot_column, Span, Fills, fills_split, spans_in, root_span, level, IsBelow, Tree, IsRow, Stands, top_of, kind_on, IsSlotOf, Rooted, PathStep, slot_for, span_at, step_in, below, path_in, step_at, row_on}
 use Rattle.mt_path.proofs.Places.{At, at_slot, at_once, at_get, first_behind, last_before}
 use Rattle.mt_path.proofs.Steps.{Leads, row_here, child_at, path_length, path_step, row_leads, level_fills, row_at, row_next, row_below, rows_agree, steps_agree}
 

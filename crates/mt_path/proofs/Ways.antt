@@ -1,27 +1,6 @@
 -- The rows on the way to an index: the root, the row below each, and the leaf at the end. For the proofs of the crates above, too.
-use Rattle.std.proofs.Common.{◌≡◌, ◌≢◌, ℕ, zero, suc, ◌+◌, ◌-◌, ◌<◌, ◌≤◌, List, [], Option, Some, None, true, false, length, refl, sym, ap, ◌∙◌, subst, inl, inr, arith}
-use Rattle.std.specs.Prelude.{◌↔◌, IsSome, IsNone, IfSome, is_some}
-use Rattle.std.specs.Option.{option_map}
-use Rattle.mt_base.specs.declared.kinds.Kind.{Kind}
-use Rattle.mt_base.specs.Width.{greatest, deepest}
-use Rattle.mt_layout.specs.declared.names.RowKind.{RowKind}
-use Rattle.mt_layout.specs.declared.names.RowKind.TheVariants.{Leaf}
-use Rattle.mt_layout.specs.declared.spans.Span.{Span}
-use Rattle.mt_layout.specs.Rows.{row_in, named_kind}
-use Rattle.mt_layout.specs.Sizes.{slots_of}
-use Rattle.mt_layout.proofs.NameLaws.{Names-named_kind}
-use Rattle.mt_layout.proofs.RowSizes.{some_columns}
+use Rattle.mt_path.proofs.Prelude.{◌≡◌, ◌≢◌, ℕ, zero, suc, ◌+◌, ◌-◌, ◌<◌, ◌≤◌, List, [], Option, Some, None, true, false, length, refl, sym, ap, ◌∙◌, subst, inl, inr, arith, ◌↔◌, IsSome, IsNone, IfSome, is_some, option_map, Kind, greatest, deepest, RowKind, Leaf, Span, row_in, named_kind, slots_of, Names-named_kind, some_columns, IsTreeOf, tree_as, Rooted, IsPlace, Table, row_spans, spans_by, spans_in, root_span, leaf_low, PathStep, Row, Found, leaf_spans, leaf_in, slot_for, span_at, step_in, below, path_in, step_at, row_on, row_as, row_for, spans_of, found_span, IsFoundSlot, IsOnWay, IsAtEnd}
 use Rattle.mt_rows.specs.Laws as laws
-use Rattle.mt_rows.specs.Publish.{IsTreeOf, tree_as}
-use Rattle.mt_rows.specs.Sheet.{Rooted, IsPlace}
-use Rattle.mt_rows.specs.Spans.{Table, row_spans, spans_by, spans_in, root_span}
-use Rattle.mt_rows.proofs.InnerKinds.{leaf_low}
-use Rattle.mt_path.specs.declared.paths.PathStep.{PathStep}
-use Rattle.mt_path.specs.declared.rows.Row.{Row}
-use Rattle.mt_path.specs.declared.rows.Found.{Found}
-use Rattle.mt_path.specs.Handles.{leaf_spans, leaf_in}
-use Rattle.mt_path.specs.Paths.{slot_for, span_at, step_in, below, path_in, step_at, row_on}
-use Rattle.mt_path.specs.Walks.{row_as, row_for, spans_of, found_span, IsFoundSlot, IsOnWay, IsAtEnd}
 use Rattle.mt_path.proofs.Steps.{path_of_none, row_next}
 use Rattle.mt_path.proofs.TreePaths.{rooted, top_row, row_of, levels, step, place as place_of_row, lawful}
 

@@ -1,11 +1,7 @@
 -- Where an index stands in a tree: the leaf that covers it, the slot there, and what stands in it.
 -- Source: the kernel's struct ma_state, whose node, offset, index and last a walk sets.
 use Rattle.std.specs.Prelude.{◌≡◌, ◌≢◌, ℕ, ◌-◌, ◌≤◌, ◌<◌, List, length}
-use Rattle.mt_base.specs.Width.{greatest}
-use Rattle.mt_layout.specs.declared.names.RowKind.TheVariants.{Leaf}
-use Rattle.mt_layout.specs.declared.spans.Span.{Span}
-use Rattle.mt_rows.specs.Spans.{Table, row_spans}
-use Rattle.mt_rows.specs.Sheet.{Rooted}
+use Rattle.mt_path.specs.Prelude.{greatest, Leaf, Span, Table, row_spans, Rooted}
 use Rattle.mt_path.specs.declared.paths.PathStep.{PathStep}
 use Rattle.mt_path.specs.declared.handles.Handle.{Handle}
 use Rattle.mt_path.specs.Paths.{path_in, step_at, span_at}

@@ -2,3 +2,4 @@ pub mod Middles
 pub mod Handles
 pub mod Paths
 pub mod Walks
+pub mod Prelude

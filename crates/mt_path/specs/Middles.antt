@@ -1,12 +1,7 @@
 -- What is known of a row before it is searched from a slot on that is not its first.
 -- Source: this project's own.
 use Rattle.std.specs.Prelude.{◌≡◌, ℕ, ◌+◌, ◌-◌, ◌<◌, List, slice_index}
-use Rattle.mt_base.specs.Width.{columns}
-use Rattle.mt_layout.specs.declared.spans.Span.{Span}
-use Rattle.mt_layout.specs.Columns.{items_from, items_at, row_words}
-use Rattle.mt_layout.specs.Sizes.{slots_of, gaps_of}
-use Rattle.mt_layout.specs.Spans.{Fills, spans_from}
-use Rattle.mt_rows.specs.Spans.{Table, base_of, column}
+use Rattle.mt_path.specs.Prelude.{columns, Span, items_from, items_at, row_words, slots_of, gaps_of, Fills, spans_from, Table, base_of, column}
 use Rattle.mt_path.specs.declared.rows.Row.{Row}
 use Rattle.mt_path.specs.Paths.{slot_for, span_at}
 use Rattle.mt_path.specs.Walks.{spans_of}

@@ -2,12 +2,7 @@
 -- Source: the kernel's lib/maple_tree.c, mas_walk, mas_next_node and mas_prev_node.
 use Rattle.std.specs.Prelude.{◌≡◌, ℕ, zero, suc, ◌+◌, ◌<◌, ◌≤◌, List, [], ◌∷◌, ◌++◌, drop, length, take_while, nat_lt, slice_index_or, sum, map}
 use Rattle.std.specs.List.{AllByRecursion}
-use Rattle.mt_base.specs.Width.{deepest}
-use Rattle.mt_layout.specs.declared.spans.Span.{Span}
-use Rattle.mt_layout.specs.Rows.{row_in, named_kind}
-use Rattle.mt_rows.specs.Spans.{Table, spans_in, root_span}
-use Rattle.mt_rows.specs.Sheet.{Sheet, ReadsUpTo}
-use Rattle.mt_rows.specs.Trees.{by_kind}
+use Rattle.mt_path.specs.Prelude.{deepest, Span, row_in, named_kind, Table, spans_in, root_span, Sheet, ReadsUpTo, by_kind}
 use Rattle.mt_path.specs.declared.paths.PathStep.{PathStep}
 
 -- the slot that holds an index: that of the first span which ends at it or above

@@ -2,14 +2,7 @@
 -- Source: the kernel's lib/maple_tree.c, mtree_range_walk.
 use Rattle.std.specs.Prelude.{◌≡◌, ℕ, ◌<◌, List, length, take, Option, Some}
 use Rattle.std.specs.Option.{option_map}
-use Rattle.mt_layout.specs.declared.names.RowKind.{RowKind}
-use Rattle.mt_layout.specs.declared.names.RowKind.TheVariants.{Leaf}
-use Rattle.mt_layout.specs.declared.spans.Span.{Span}
-use Rattle.mt_layout.specs.Rows.{row_in, named_kind}
-use Rattle.mt_layout.specs.Sizes.{slots_of}
-use Rattle.mt_layout.specs.Columns.{slot_column}
-use Rattle.mt_rows.specs.Sheet.{Rooted, IsPlace}
-use Rattle.mt_rows.specs.Spans.{Table, column, row_spans, root_span}
+use Rattle.mt_path.specs.Prelude.{RowKind, Leaf, Span, row_in, named_kind, slots_of, slot_column, Rooted, IsPlace, Table, column, row_spans, root_span}
 use Rattle.mt_path.specs.declared.paths.PathStep.{PathStep}
 use Rattle.mt_path.specs.declared.rows.Row.{Row}
 use Rattle.mt_path.specs.declared.rows.Found.{Found}

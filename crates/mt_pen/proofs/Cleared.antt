@@ -1,15 +1,5 @@
 -- What the section words of all passes clear.
-use Rattle.std.proofs.Common.{◌≡◌, ◌⊎◌, ℕ, zero, suc, ◌+◌, ◌*◌, ◌<◌, ◌≤◌, List, [], ◌∷◌, length, min, refl, ◌∙◌, arith, inl, inr, length-set}
-use Rattle.std.specs.Prelude.{slice_set, slice_index}
-use Rattle.std.proofs.lemmas.List.{get_or-set_same}
-use Rattle.std.proofs.lemmas.Bool.Decides.{nat_tests, eqb_tells}
-use Rattle.mt_rows.specs.declared.rows.Scan.{Scan}
-use Rattle.mt_rule.specs.declared.views.PenPart.{PenPart}
-use Rattle.mt_rule.specs.declared.views.PassPart.{PassPart}
-use Rattle.mt_rule.specs.Scans.{least_from, lesser}
-use Rattle.mt_rule.specs.Seats.{least_number}
-use Rattle.mt_rule.specs.Steps.{raised}
-use Rattle.mt_pen.specs.Scans.{cleared_from, AreWordsFrom}
+use Rattle.mt_pen.proofs.Prelude.{◌≡◌, ◌⊎◌, ℕ, zero, suc, ◌+◌, ◌*◌, ◌<◌, ◌≤◌, List, [], ◌∷◌, length, min, refl, ◌∙◌, arith, inl, inr, length-set, slice_set, slice_index, get_or-set_same, nat_tests, eqb_tells, Scan, PenPart, PassPart, least_from, lesser, least_number, raised, cleared_from, AreWordsFrom}
 
 -- ---- lists of numbers
 

@@ -1,26 +1,8 @@
 -- How a call of the writer's rows ends.
-use Rattle.std.proofs.Common.{◌≡◌, ◌⊎◌, ℕ, ◌+◌, ◌/◌, ◌++◌, Bool, true, false, Some, [], ◌∷◌, length, refl, sym, ap, subst, ◌∙◌, arith, inl, inr, if◌then◌else◌}
-use Rattle.std.proofs.lemmas.List.{map-append}
-use Rattle.mt_base.specs.declared.calls.Call.{Call}
-use Rattle.mt_base.specs.declared.replies.Reply.{Reply}
-use Rattle.mt_base.specs.declared.kinds.Kind.{Kind}
-use Rattle.mt_base.specs.Call.{acted}
+use Rattle.mt_pen.proofs.Prelude.{◌≡◌, ◌⊎◌, ℕ, ◌+◌, ◌/◌, ◌++◌, Bool, true, false, Some, [], ◌∷◌, length, refl, sym, ap, subst, ◌∙◌, arith, inl, inr, if◌then◌else◌, map-append, Call, Reply, Kind, acted, Scan, MayFinish, LeavesMap, map_by, with_record, finished, Sheet, Told, Moment, PenPart, PassPart, MayEnd, EndsQuietly, known_by, rooted_in, moment, record_of, records_of, pen_ended, pass_ended, pass_recorded, quiet_moment, Identity, told_of, caller_of, sheet_worked, IsWorked, still_short}
 use Rattle.mt_base.specs.Passes as known
-use Rattle.mt_rows.specs.declared.rows.Scan.{Scan}
 use Rattle.mt_rows.specs.Publish as rows
-use Rattle.mt_rows.specs.Publish.{MayFinish, LeavesMap, map_by, with_record, finished}
-use Rattle.mt_rows.specs.Sheet.{Sheet, Told}
-use Rattle.mt_rule.specs.declared.views.Moment.{Moment}
-use Rattle.mt_rule.specs.declared.views.PenPart.{PenPart}
-use Rattle.mt_rule.specs.declared.views.PassPart.{PassPart}
 use Rattle.mt_rule.specs.Ends as ends
-use Rattle.mt_rule.specs.Ends.{MayEnd, EndsQuietly}
-use Rattle.mt_rule.specs.Seats.{known_by, rooted_in, moment, record_of, records_of}
-use Rattle.mt_rule.specs.Steps.{pen_ended, pass_ended, pass_recorded, quiet_moment}
-use Rattle.mt_rule.specs.Tokens.{Identity}
-use Rattle.mt_pen.specs.Sheets.{told_of, caller_of, sheet_worked}
-use Rattle.mt_pen.specs.Works.{IsWorked}
-use Rattle.mt_base.proofs.Shortages.{still_short}
 use Rattle.mt_pen.proofs.Telling.{found_loaded, told_least}
 
 -- the shortage that the rows tell is one under the tree's limits

@@ -1,12 +1,5 @@
 -- A pen that goes on with the same pass.
-use Rattle.std.proofs.Common.{◌≡◌, ◌⊎◌, ℕ, ◌+◌, ◌*◌, ◌≤◌, ap, subst, ◌∙◌}
-use Rattle.mt_rule.specs.declared.views.PenPart.{PenPart}
-use Rattle.mt_rule.specs.declared.views.PassPart.{PassPart}
-use Rattle.mt_rule.specs.declared.pens.Pen.{Pen}
-use Rattle.mt_rule.specs.Places.{section_word}
-use Rattle.mt_rule.specs.Tokens.{Identity, KeepsPassOf}
-use Rattle.mt_rows.specs.declared.rows.Scan.{Scan}
-use Rattle.mt_pen.specs.Scans.{IsWordOf, HasScanned}
+use Rattle.mt_pen.proofs.Prelude.{◌≡◌, ◌⊎◌, ℕ, ◌+◌, ◌*◌, ◌≤◌, ap, subst, ◌∙◌, PenPart, PassPart, Pen, section_word, Identity, KeepsPassOf, Scan, IsWordOf, HasScanned}
 
 pub goes_on : (t : Identity) (a b c : Pen) → KeepsPassOf t a b → KeepsPassOf t b c → KeepsPassOf t a c
 goes_on t a b c x y = record { of = y.of; joined = y.joined; pass = y.pass ∙ x.pass; turn = y.turn ∙ x.turn }

@@ -4,3 +4,4 @@ pub mod Going
 pub mod Scanning
 pub mod Telling
 pub mod Working
+mod Prelude

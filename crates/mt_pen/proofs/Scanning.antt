@@ -1,15 +1,5 @@
 -- Section words one by one.
-use Rattle.std.proofs.Common.{◌≡◌, ℕ, suc, ◌+◌, List, [], ◌∷◌, ◌++◌, length, refl, sym, ap, subst, ◌∙◌, arith, length-append, append_assoc, append-nil, map}
-use Rattle.mt_base.specs.declared.replies.Holder.{Holder}
-use Rattle.mt_rows.specs.declared.rows.Scan.{Scan}
-use Rattle.mt_rule.specs.declared.views.PenPart.{PenPart}
-use Rattle.mt_rule.specs.declared.views.PassPart.{PassPart}
-use Rattle.mt_rule.specs.declared.views.SectionWord.{SectionWord}
-use Rattle.mt_rule.specs.Scans.{least_from, lesser, none_open, scan_of, loaded_word, words_from, last_loaded, last_words, IsScanOf}
-use Rattle.mt_rule.specs.Steps.{pen_scanned, raised, with_loaded}
-use Rattle.mt_pen.specs.Scans.{cleared_from, loaded_from, IsWordOf, AreWordsFrom, HasScanned}
-use Rattle.std.specs.Prelude.{drop, slice_set, slice_index}
-use Rattle.std.proofs.Math.Seq.{drop-append_seam}
+use Rattle.mt_pen.proofs.Prelude.{◌≡◌, ℕ, suc, ◌+◌, List, [], ◌∷◌, ◌++◌, length, refl, sym, ap, subst, ◌∙◌, arith, length-append, append_assoc, append-nil, map, Holder, Scan, PenPart, PassPart, SectionWord, least_from, lesser, none_open, scan_of, loaded_word, words_from, last_loaded, last_words, IsScanOf, pen_scanned, raised, with_loaded, cleared_from, loaded_from, IsWordOf, AreWordsFrom, HasScanned, drop, slice_set, slice_index, drop-append_seam}
 
 -- ---- the words that were loaded last
 

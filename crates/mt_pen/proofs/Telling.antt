@@ -1,16 +1,5 @@
 -- What a scan tells: the least epoch with its holder, who was found with a section open.
-use Rattle.std.proofs.Common.{◌≡◌, ◌≢◌, ◌⊎◌, ℕ, suc, ◌+◌, ◌-◌, ◌/◌, ◌^◌, ◌<◌, ◌≤◌, ◌==◌, ◌&&◌, ◌||◌, Bool, true, false, Option, Some, None, IfSome, nat_lt, List, [], ◌∷◌, length, refl, sym, ap, subst, ◌∙◌, arith, inl, inr, if◌then◌else◌}
-use Rattle.std.specs.List.{Contains}
-use Rattle.std.proofs.lemmas.Bool.Decides.{nat_tests}
-use Rattle.std.proofs.lemmas.Bool.{eqb-true, eqb-false}
-use Rattle.mt_base.specs.declared.replies.Holder.{Holder}
-use Rattle.mt_rows.specs.declared.rows.Scan.{Scan}
-use Rattle.mt_rule.specs.declared.views.PenPart.{PenPart}
-use Rattle.mt_rule.specs.declared.views.PassPart.{PassPart}
-use Rattle.mt_rule.specs.Places.{section_word}
-use Rattle.mt_rule.specs.Scans.{least_from, lesser, none_open}
-use Rattle.mt_rule.specs.Steps.{with_loaded}
-use Rattle.mt_pen.specs.Scans.{loaded_from, epoch_told, is_among, is_loaded, IsWordOf, AreWordsFrom}
+use Rattle.mt_pen.proofs.Prelude.{◌≡◌, ◌≢◌, ◌⊎◌, ℕ, suc, ◌+◌, ◌-◌, ◌/◌, ◌^◌, ◌<◌, ◌≤◌, ◌==◌, ◌&&◌, ◌||◌, Bool, true, false, Option, Some, None, IfSome, nat_lt, List, [], ◌∷◌, length, refl, sym, ap, subst, ◌∙◌, arith, inl, inr, if◌then◌else◌, Contains, nat_tests, eqb-true, eqb-false, Holder, Scan, PenPart, PassPart, section_word, least_from, lesser, none_open, with_loaded, loaded_from, epoch_told, is_among, is_loaded, IsWordOf, AreWordsFrom}
 
 holder_at : ℕ → ℕ → Holder
 holder_at pass word = record { pass = pass; epoch = word / 2 }

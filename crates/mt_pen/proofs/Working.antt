@@ -1,21 +1,5 @@
 -- What the writer's rows keep, over each step.
-use Rattle.std.proofs.Common.{◌≡◌, ◌≢◌, ℕ, zero, suc, ◌+◌, ◌<◌, ◌≤◌, ◌++◌, Bool, true, false, Some, None, List, [], ◌∷◌, length, min, refl, sym, subst, ◌∙◌, arith, length-set, length-append, if◌then◌else◌}
-use Rattle.std.specs.Prelude.{slice_set, slice_index}
-use Rattle.mt_rows.specs.declared.rows.Life.{Life}
-use Rattle.mt_rows.specs.declared.rows.Life.TheVariants.{Draft, Dead}
-use Rattle.mt_rows.specs.declared.rows.Scan.{Scan}
-use Rattle.mt_rows.specs.Levels.{one_if}
-use Rattle.mt_rows.specs.Sheet.{life_of, IsScan, Told}
-use Rattle.mt_rule.specs.declared.views.Moment.{Moment}
-use Rattle.mt_rule.specs.declared.views.PenPart.{PenPart}
-use Rattle.mt_rule.specs.declared.views.PassPart.{PassPart}
-use Rattle.mt_rule.specs.Scans.{none_open, scan_of}
-use Rattle.mt_rule.specs.Seats.{known_by, least_number}
-use Rattle.mt_rule.specs.Steps.{pen_drafted, pen_tended, pen_ended}
-use Rattle.mt_rule.specs.Tokens.{Identity}
-use Rattle.mt_pen.specs.Scans.{HasScanned, loaded_from, epoch_told, is_loaded}
-use Rattle.mt_pen.specs.Sheets.{told_of}
-use Rattle.mt_pen.specs.Works.{IsWorked}
+use Rattle.mt_pen.proofs.Prelude.{◌≡◌, ◌≢◌, ℕ, zero, suc, ◌+◌, ◌<◌, ◌≤◌, ◌++◌, Bool, true, false, Some, None, List, [], ◌∷◌, length, min, refl, sym, subst, ◌∙◌, arith, length-set, length-append, if◌then◌else◌, slice_set, slice_index, Life, Draft, Dead, Scan, one_if, life_of, IsScan, Told, Moment, PenPart, PassPart, none_open, scan_of, known_by, least_number, pen_drafted, pen_tended, pen_ended, Identity, HasScanned, loaded_from, epoch_told, is_loaded, told_of, IsWorked}
 use Rattle.mt_pen.proofs.Cleared.{all_of, least_least, least_kept, cleared_count, cleared_most, cleared_kept, cleared_low}
 use Rattle.mt_pen.proofs.Scanning.{is_scan}
 use Rattle.mt_pen.proofs.Telling.{Tells, tells, words_least, words_loaded}

@@ -1,13 +1,7 @@
 -- What a scan of all section words makes of what the pen knows.
 -- Source: this project's own; the kernel frees nodes when every reader has left its RCU read-side section.
 use Rattle.std.specs.Prelude.{◌≡◌, ◌⊎◌, ℕ, ◌+◌, ◌-◌, ◌*◌, ◌^◌, ◌≤◌, ◌==◌, List, [], ◌∷◌, ◌++◌, Some, None, Bool, true, false, ◌&&◌, ◌||◌, Option, length, slice_index, slice_set}
-use Rattle.mt_base.specs.declared.replies.Holder.{Holder}
-use Rattle.mt_rows.specs.declared.rows.Scan.{Scan}
-use Rattle.mt_rule.specs.declared.views.PenPart.{PenPart}
-use Rattle.mt_rule.specs.declared.views.PassPart.{PassPart}
-use Rattle.mt_rule.specs.Places.{section_word}
-use Rattle.mt_rule.specs.Scans.{scan_of, words_from}
-use Rattle.mt_rule.specs.Steps.{raised, with_loaded}
+use Rattle.mt_pen.specs.Prelude.{Holder, Scan, PenPart, PassPart, section_word, scan_of, words_from, raised, with_loaded}
 
 -- what was known to be cleared, and which sections were found open, after the words of the passes from this one on
 abbrev pub cleared_from : ℕ → ℕ → List ℕ → List ℕ → List ℕ

@@ -2,12 +2,7 @@
 -- Source: this project's own.
 use Rattle.std.specs.Prelude.{◌≡◌, ℕ, Some, length}
 use Rattle.mt_base.specs.Passes as known
-use Rattle.mt_rows.specs.declared.rows.Scan.{Scan}
-use Rattle.mt_rows.specs.Sheet.{Sheet, Caller, Told}
-use Rattle.mt_rule.specs.declared.views.PenPart.{PenPart}
-use Rattle.mt_rule.specs.Scans.{none_open}
-use Rattle.mt_rule.specs.Seats.{records_of, pen_sheet}
-use Rattle.mt_rule.specs.Tokens.{Identity}
+use Rattle.mt_pen.specs.Prelude.{Scan, Sheet, Caller, Told, PenPart, none_open, records_of, pen_sheet, Identity}
 
 -- a number that no other table has
 abbrev pub table_number : Identity → ℕ

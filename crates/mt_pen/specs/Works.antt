@@ -2,19 +2,8 @@
 -- for.
 -- Source: this project's own.
 use Rattle.std.proofs.Common.{◌≡◌, ℕ, ◌+◌, ◌/◌, ◌<◌, ◌≤◌, Bool, true, false, List, [], ◌∷◌, length, slice_index, refl, arith}
-use Rattle.mt_base.specs.Width.{kind_width, first_row, most_rows}
+use Rattle.mt_pen.specs.Prelude.{kind_width, first_row, most_rows, Life, New, Draft, Live, Dead, Scan, one_if, HasDied, IsWhole, life_of, Shape, PenPart, table_size, IsScanOf, least_number, Identity}
 use Rattle.mt_base.specs.Passes as known
-use Rattle.mt_rows.specs.declared.rows.Life.{Life}
-use Rattle.mt_rows.specs.declared.rows.Life.TheVariants.{New, Draft, Live, Dead}
-use Rattle.mt_rows.specs.declared.rows.Scan.{Scan}
-use Rattle.mt_rows.specs.Levels.{one_if}
-use Rattle.mt_rows.specs.Sheet.{HasDied, IsWhole, life_of}
-use Rattle.mt_rule.specs.declared.views.Shape.{Shape}
-use Rattle.mt_rule.specs.declared.views.PenPart.{PenPart}
-use Rattle.mt_rule.specs.Places.{table_size}
-use Rattle.mt_rule.specs.Scans.{IsScanOf}
-use Rattle.mt_rule.specs.Seats.{least_number}
-use Rattle.mt_rule.specs.Tokens.{Identity}
 use Rattle.mt_pen.specs.Scans.{epoch_told, is_loaded}
 use Rattle.mt_pen.specs.Sheets.{sheet_worked}
 

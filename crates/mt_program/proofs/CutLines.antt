@@ -1,9 +1,5 @@
 -- Where an input is cut, byte by byte.
-use Rattle.std.proofs.Common.{◌≡◌, ◌∙◌, ◌<◌, ◌++◌, ℕ, suc, Bool, true, false, List, [], ◌∷◌, Option, Some, None, append-nil, append_assoc, ap, drop, drop-cons, get_or, length, refl, subst, sym, take}
-use Rattle.std.specs.Prelude.{◌==◌, ◌&&◌, option_map}
-use Rattle.std.proofs.Math.Seq.{drop-length, take-suc}
-use Rattle.std.proofs.lemmas.List.{take_rest}
-use Rattle.mt_program.specs.Parts.{with_byte_before, is_cut, parts_from}
+use Rattle.mt_program.proofs.Prelude.{◌≡◌, ◌∙◌, ◌<◌, ◌++◌, ℕ, suc, Bool, true, false, List, [], ◌∷◌, Option, Some, None, append-nil, append_assoc, ap, drop, drop-cons, get_or, length, refl, subst, sym, take, ◌==◌, ◌&&◌, option_map, drop-length, take-suc, take_rest, with_byte_before, is_cut, parts_from}
 
 -- these bytes are in front of the first part
 abbrev pub before : List ℕ → List ℕ × List ℕ → List ℕ × List ℕ

@@ -1,21 +1,5 @@
 -- How a run that prints ends, by how its printing ended.
-use Rattle.std.proofs.Common.{◌≡◌, ◌∙◌, ℕ, List, Option, Some, None, Result, Ok, Err, ap, ap₂, inr, IsErrAnd, length, refl, subst, sym}
-use Rattle.mt_log.specs.Reading.{log_of}
-use Rattle.mt_log.specs.Run.{IsRun}
-use Rattle.mt_log.specs.declared.lines.Log.{Log}
-use Rattle.mt_log.specs.declared.transcripts.Transcript.{Transcript}
-use Rattle.mt_verify.specs.Points.{AreLeastPoints}
-use Rattle.mt_verify.specs.Tellings.{count_of_calls, reads_told}
-use Rattle.mt_verify.proofs.Tellings.{reads_are_points}
-use Rattle.mt_cli.specs.declared.commands.Command.{Command}
-use Rattle.mt_cli.specs.declared.commands.Command.TheVariants.{Replay, Make, Trial, Verify, Image, Show, Bulk, Ids}
-use Rattle.mt_program.specs.Causes.{Ends, EndsMaking, EndsPrint, EndsReading, FailsOn, HasEnded, Streams}
-use Rattle.mt_program.specs.Command.{input_limit}
-use Rattle.mt_program.specs.Headline.{IsOutput, IsVerifiedText, verified_text}
-use Rattle.mt_program.specs.Input.{ReadsAll}
-use Rattle.mt_program.specs.Parts.{parts_at_cut}
-use Rattle.mt_program.specs.Verdicts.{RefusesBytes}
-use Rattle.mt_program.specs.declared.failures.Failure.{Failure}
+use Rattle.mt_program.proofs.Prelude.{◌≡◌, ◌∙◌, ℕ, List, Option, Some, None, Result, Ok, Err, ap, ap₂, inr, IsErrAnd, length, refl, subst, sym, log_of, IsRun, Log, Transcript, AreLeastPoints, count_of_calls, reads_told, reads_are_points, Command, Replay, Make, Trial, Verify, Image, Show, Bulk, Ids, Ends, EndsMaking, EndsPrint, EndsReading, FailsOn, HasEnded, Streams, input_limit, IsOutput, IsVerifiedText, verified_text, ReadsAll, parts_at_cut, RefusesBytes, Failure}
 use Rattle.mt_program.specs.declared.failures.Failure.TheVariants as failures
 
 -- what a command prints of its bytes went to the sink

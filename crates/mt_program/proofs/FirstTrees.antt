@@ -1,18 +1,5 @@
 -- A log declares a tree where a line does so behind none that was declared.
-use Rattle.std.specs.Prelude.{◌||◌}
-use Rattle.std.proofs.Common.{◌≡◌, ◌≢◌, ◌∙◌, ℕ, Bool, true, false, List, [], ◌∷◌, ◌++◌, Option, Some, None, refl, sym, ap, subst, true≢false, slice_get}
-use Rattle.std.specs.List.{list_any}
-use Rattle.std.specs.Option.{is_some, option_to_list}
-use Rattle.mt_log.specs.declared.lines.Item.{Item}
-use Rattle.mt_log.specs.declared.lines.Item.TheVariants.{Tree, Lane, Join, Dup, Check, Write, Ask, Scan}
-use Rattle.mt_log.specs.declared.lines.Line.{Line}
-use Rattle.mt_log.specs.declared.lines.Log.{Log}
-use Rattle.mt_log.specs.declared.transcripts.Listing.{Listing}
-use Rattle.mt_log.specs.Phases.{phase_after}
-use Rattle.mt_log.specs.Run.{listings_of}
-use Rattle.mt_log.specs.Trees.{Declared, declared_by, tree_declared_by, trees_from, trees_of}
-use Rattle.mt_base.specs.History.{History}
-use Rattle.mt_replay.specs.Images.{IsImageOfRun}
+use Rattle.mt_program.proofs.Prelude.{◌||◌, ◌≡◌, ◌≢◌, ◌∙◌, ℕ, Bool, true, false, List, [], ◌∷◌, ◌++◌, Option, Some, None, refl, sym, ap, subst, true≢false, slice_get, list_any, is_some, option_to_list, Item, Tree, Lane, Join, Dup, Check, Write, Ask, Scan, Line, Log, Listing, phase_after, listings_of, Declared, declared_by, tree_declared_by, trees_from, trees_of, History, IsImageOfRun}
 
 -- a tree that was declared stays
 kept : (d : Declared) (trees : List Declared) (phase : ℕ) (lines : List Line) → trees_from (d ∷ trees) phase lines ≢ []

@@ -1,12 +1,5 @@
 -- What was read and written so far, piece by piece.
-use Rattle.std.proofs.Common.{◌≡◌, Result, Ok, Err, IfErr, IsErrAnd, ◌≤◌, ◌+◌, ℕ, List, [], ◌++◌, Option, length, take, drop, append_assoc, take-append-drop, sym, ap, subst, append-nil, ◌∙◌, refl, arith, length-append}
-use Rattle.std.specs.Io.KnownBytes.{Appends, Consumes, IsAtEnd, Keeps}
-use Rattle.std.proofs.KnownBytes.{Appends-nil, Appends-trans, Appends-kept, Consumes-nil, Consumes-trans, Consumes-kept}
-use Rattle.std.proofs.lemmas.List.{take_rest}
-use Rattle.mt_program.specs.Ending.{ReadsNoFurther, ReadsTooMany, ReadsWithin}
-use Rattle.mt_io.specs.Faults.{Rose}
-use Rattle.mt_program.specs.Input.{ReadsAll, ReadFails}
-use Rattle.mt_program.specs.declared.streams.ReadError.{ReadError}
+use Rattle.mt_program.proofs.Prelude.{◌≡◌, Result, Ok, Err, IfErr, IsErrAnd, ◌≤◌, ◌+◌, ℕ, List, [], ◌++◌, Option, length, take, drop, append_assoc, take-append-drop, sym, ap, subst, append-nil, ◌∙◌, refl, arith, length-append, Appends, Consumes, IsAtEnd, Keeps, Appends-nil, Appends-trans, Appends-kept, Consumes-nil, Consumes-trans, Consumes-kept, take_rest, ReadsNoFurther, ReadsTooMany, ReadsWithin, Rose, ReadsAll, ReadFails, ReadError}
 use Rattle.mt_program.specs.declared.streams.ReadError.TheVariants as reads
 
 -- one more piece was read

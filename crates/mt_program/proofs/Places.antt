@@ -1,24 +1,7 @@
 -- Listings of which a tree is built, or none is, and the place of a range as a line of the text.
-use Rattle.std.proofs.Common.{◌≡◌, ℕ, ◌+◌, ◌<◌, ◌≤◌, ◌^◌, Bool, true, false, List, [], ◌∷◌, Option, Some, None, length, ap, refl, arith}
-use Rattle.std.specs.Prelude.{if◌then◌else◌, nat_lt}
-use Rattle.mt_base.specs.declared.kinds.Kind.{Kind}
-use Rattle.mt_base.specs.declared.ranges.Range.{Range}
-use Rattle.mt_base.specs.Width.{most_rows}
-use Rattle.mt_bulk.specs.Builds.{TookTurns, refusal, refused_by}
-use Rattle.mt_bulk.specs.Bulk.{rows_in}
-use Rattle.mt_bulk.specs.Items.{is_misplaced, misplaced, misplaced_from}
+use Rattle.mt_program.proofs.Prelude.{◌≡◌, ℕ, ◌+◌, ◌<◌, ◌≤◌, ◌^◌, Bool, true, false, List, [], ◌∷◌, Option, Some, None, length, ap, refl, arith, if◌then◌else◌, nat_lt, Kind, Range, most_rows, TookTurns, refusal, refused_by, rows_in, is_misplaced, misplaced, misplaced_from, IsInForm, IsRefusedListing, ListingError, few_ranges, Listing, listing_text, IsBulkImage, FailsOn, failure_of_listing, IsBuiltImage, IsBuiltBy, IsUnbuilt, IsUnbuiltAt}
 use Rattle.mt_bulk.specs.declared.errors.BulkError.TheVariants as errors
-use Rattle.mt_told.specs.Listings.{IsInForm, IsRefusedListing}
-use Rattle.mt_told.specs.declared.errors.ListingError.{ListingError}
 use Rattle.mt_told.specs.declared.errors.ListingError.TheVariants as listings
-use Rattle.mt_told.proofs.Laws.{few_ranges}
-use Rattle.mt_log.specs.declared.transcripts.Listing.{Listing}
-use Rattle.mt_log.specs.Text.{listing_text}
-use Rattle.mt_commands.specs.Texts.{IsBulkImage}
-use Rattle.mt_program.specs.Causes.{FailsOn, failure_of_listing}
-use Rattle.mt_program.specs.Headline.{IsBuiltImage}
-use Rattle.mt_program.specs.Turns.{IsBuiltBy}
-use Rattle.mt_program.specs.Verdicts.{IsUnbuilt, IsUnbuiltAt}
 use Rattle.mt_program.specs.declared.failures.Unbuilt.TheVariants as unbuilt
 
 -- it is the place of one of the ranges

@@ -1,22 +1,5 @@
 -- From how a run ended to what its status says.
-use Rattle.std.proofs.Common.{◌≡◌, ◌≢◌, ◌⊎◌, ◌<◌, ◌≤◌, ◌++◌, ◌∙◌, ℕ, Bool, true, false, List, [], length, Option, Some, None, Result, Ok, Err, refl, sym, ap, subst, inl, inr, arith, append-nil, length-append, true≢false}
-use Rattle.std.specs.Prelude.{IfSome, OnOk, is_ok}
-use Rattle.std.specs.Io.KnownBytes.{Appends, Consumes, IsAtEnd}
-use Rattle.std.proofs.KnownBytes.{Consumes-nil}
-use Rattle.mt_image.specs.declared.errors.ImageError.{ImageError}
-use Rattle.mt_image.specs.Reading.{image_in}
-use Rattle.mt_io.specs.Faults.{Rose}
-use Rattle.mt_log.specs.Text.{text_of}
-use Rattle.mt_cli.specs.declared.commands.Command.{Command}
-use Rattle.mt_cli.specs.declared.commands.Command.TheVariants.{Replay, Make, Trial, Verify, Image, Show, Bulk, Ids}
-use Rattle.mt_program.specs.Causes.{Ends, EndsMaking, EndsReading, Fails, FailsToRead, HasEnded, RefusesInput, Streams}
-use Rattle.mt_program.specs.Command.{input_limit, longest, reads}
-use Rattle.mt_program.specs.Ending.{ReadsTooMany, ReadsWithin, status_of}
-use Rattle.mt_program.specs.Headline.{IsOutput, Prints, WritesOutput, WritesPart}
-use Rattle.mt_program.specs.Input.{ReadsAll}
-use Rattle.mt_program.specs.Turns.{HasTurned, HaveTurned, IsBuiltBy, IsTurnedLog}
-use Rattle.mt_program.specs.Verdicts.{IsDue, AreBytesRefused, AreBytesTaken, IsToldOf, IsUnverified, RefusesBytes, TakesBytes}
-use Rattle.mt_program.specs.declared.failures.Failure.{Failure}
+use Rattle.mt_program.proofs.Prelude.{◌≡◌, ◌≢◌, ◌⊎◌, ◌<◌, ◌≤◌, ◌++◌, ◌∙◌, ℕ, Bool, true, false, List, [], length, Option, Some, None, Result, Ok, Err, refl, sym, ap, subst, inl, inr, arith, append-nil, length-append, true≢false, IfSome, OnOk, is_ok, Appends, Consumes, IsAtEnd, Consumes-nil, ImageError, image_in, Rose, text_of, Command, Replay, Make, Trial, Verify, Image, Show, Bulk, Ids, Ends, EndsMaking, EndsReading, Fails, FailsToRead, HasEnded, RefusesInput, Streams, input_limit, longest, reads, ReadsTooMany, ReadsWithin, status_of, IsOutput, Prints, WritesOutput, WritesPart, ReadsAll, HasTurned, HaveTurned, IsBuiltBy, IsTurnedLog, IsDue, AreBytesRefused, AreBytesTaken, IsToldOf, IsUnverified, RefusesBytes, TakesBytes, Failure}
 use Rattle.mt_program.specs.declared.failures.Failure.TheVariants as failures
 use Rattle.mt_program.proofs.FirstTrees.{has_tree}
 

@@ -1,19 +1,12 @@
 -- What each end of a run says of its words, its source and its sink.
 use Rattle.std.specs.Prelude.{◌≡◌, ◌⊎◌, ◌++◌, ℕ, List, Option, Some, None, Result, Ok, Err}
 use Rattle.std.specs.Io.KnownBytes.{Appends}
-use Rattle.mt_io.specs.Faults.{Rose}
-use Rattle.mt_image.specs.declared.errors.ImageError.{ImageError}
+use Rattle.mt_program.specs.Prelude.{Rose, ImageError, ListingError, LogError, Command, Replay, Make, Trial, Verify, Image, Show, Bulk, Ids, IsIdsText, IsMadeText, IsTrialText}
 use Rattle.mt_image.specs.declared.errors.ImageError.TheVariants as images
-use Rattle.mt_told.specs.declared.errors.ListingError.{ListingError}
 use Rattle.mt_told.specs.declared.errors.ListingError.TheVariants as listings
-use Rattle.mt_log.specs.declared.faults.LogError.{LogError}
 use Rattle.mt_log.specs.declared.faults.LogError.TheVariants as logs
-use Rattle.mt_cli.specs.declared.commands.Command.{Command}
-use Rattle.mt_cli.specs.declared.commands.Command.TheVariants.{Replay, Make, Trial, Verify, Image, Show, Bulk, Ids}
 use Rattle.mt_program.specs.Command.{input_limit}
 use Rattle.mt_program.specs.Ending.{ReadsTooMany, ReadsWithin}
-use Rattle.mt_commands.specs.Turns.{IsIdsText}
-use Rattle.mt_commands.specs.Texts.{IsMadeText, IsTrialText}
 use Rattle.mt_program.specs.Headline.{IsOutput}
 use Rattle.mt_program.specs.Input.{ReadsAll}
 use Rattle.mt_program.specs.Verdicts.{RefusesBytes}

@@ -1,7 +1,6 @@
 -- Which commands read the source, and how much of it.
 use Rattle.std.specs.Prelude.{ℕ, Bool, true, false, Option, Some, None}
-use Rattle.mt_cli.specs.declared.commands.Command.{Command}
-use Rattle.mt_cli.specs.declared.commands.Command.TheVariants.{Replay, Make, Trial, Verify, Image, Show, Bulk, Ids}
+use Rattle.mt_program.specs.Prelude.{Command, Replay, Make, Trial, Verify, Image, Show, Bulk, Ids}
 
 -- the words are a command that reads the source
 abbrev pub reads : Option Command → Bool

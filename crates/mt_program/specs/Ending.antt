@@ -2,10 +2,7 @@
 use Rattle.std.specs.Prelude.{◌≡◌, ◌⊎◌, ℕ, List, [], ◌∷◌, ◌++◌, Option, ◌+◌, ◌≤◌, length, codes}
 use Rattle.std.specs.Fmt.{decimal}
 use Rattle.std.specs.Io.KnownBytes.{Appends, Consumes}
-use Rattle.mt_io.specs.Faults.{Rose}
-use Rattle.mt_image.specs.declared.errors.ImageError.{ImageError}
-use Rattle.mt_image.specs.Texts.{error_text}
-use Rattle.mt_log.specs.Fault.{why_text}
+use Rattle.mt_program.specs.Prelude.{Rose, ImageError, error_text, why_text}
 use Rattle.mt_program.specs.declared.failures.Failure.{Failure}
 use Rattle.mt_program.specs.declared.failures.Failure.TheVariants as failures
 use Rattle.mt_program.specs.declared.failures.Unbuilt.{Unbuilt}

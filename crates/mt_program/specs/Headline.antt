@@ -2,20 +2,7 @@
 -- what its command makes of a number, how much a transcript of a run tells, or the listing of the tree whose image it read.
 use Rattle.std.specs.Prelude.{◌≡◌, ℕ, List, [], ◌∷◌, ◌++◌, Option, Some, None, Ok, IfSome, codes}
 use Rattle.std.specs.Fmt.{decimal}
-use Rattle.mt_log.specs.declared.lines.Log.{Log}
-use Rattle.mt_bulk.specs.Builds.{refusal}
-use Rattle.mt_told.specs.Listings.{IsInForm}
-use Rattle.mt_log.specs.Reading.{log_of}
-use Rattle.mt_log.specs.Run.{IsRun, TellsRun}
-use Rattle.mt_log.specs.Text.{listing_text, text_of}
-use Rattle.mt_log.specs.declared.transcripts.Listing.{Listing}
-use Rattle.mt_log.specs.declared.transcripts.Transcript.{Transcript}
-use Rattle.mt_replay.specs.Images.{IsImageOfRun}
-use Rattle.mt_commands.specs.Turns.{IsIdsText}
-use Rattle.mt_commands.specs.Texts.{IsBulkImage, IsImageListing, IsMadeText, IsTrialText}
-use Rattle.mt_verify.specs.Tellings.{count_of_calls, reads_told}
-use Rattle.mt_cli.specs.declared.commands.Command.{Command}
-use Rattle.mt_cli.specs.declared.commands.Command.TheVariants.{Replay, Make, Trial, Verify, Image, Show, Bulk, Ids}
+use Rattle.mt_program.specs.Prelude.{Log, refusal, IsInForm, log_of, IsRun, TellsRun, listing_text, text_of, Listing, Transcript, IsImageOfRun, IsIdsText, IsBulkImage, IsImageListing, IsMadeText, IsTrialText, count_of_calls, reads_told, Command, Replay, Make, Trial, Verify, Image, Show, Bulk, Ids}
 use Rattle.mt_program.specs.Parts.{AreParts}
 
 -- this is the text of a run of the log that these bytes are, over trees of so many rows

@@ -2,7 +2,7 @@
 use Rattle.std.specs.Prelude.{◌≡◌, ◌≤◌, ℕ, List, length}
 use Rattle.std.specs.declared.option.Option.{Option}
 use Rattle.std.specs.Io.KnownBytes.{Consumes, IsAtEnd}
-use Rattle.mt_io.specs.Faults.{Rose}
+use Rattle.mt_program.specs.Prelude.{Rose}
 use Rattle.mt_program.specs.Ending.{ReadsTooMany, ReadsWithin}
 use Rattle.mt_program.specs.declared.streams.ReadError.{ReadError}
 use Rattle.mt_program.specs.declared.streams.ReadError.TheVariants as reads

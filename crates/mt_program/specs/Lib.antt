@@ -6,3 +6,4 @@ pub mod Input
 pub mod Parts
 pub mod Turns
 pub mod Verdicts
+pub mod Prelude

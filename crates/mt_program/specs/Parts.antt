@@ -1,8 +1,7 @@
 -- How an input is cut into a log and the text of a transcript: at the first line that is `---`.
 use Rattle.std.specs.Prelude.{◌≡◌, ◌&&◌, ◌==◌, ◌+◌, ℕ, Bool, true, List, [], ◌∷◌, Option, Some, None, Ok, codes, drop, if◌then◌else◌, length, nat_eq, option_map}
 use Rattle.std.specs.List.{filter, starts_with}
-use Rattle.mt_log.specs.Reading.{log_of}
-use Rattle.mt_log.specs.declared.lines.Log.{Log}
+use Rattle.mt_program.specs.Prelude.{log_of, Log}
 
 -- the line that cuts begins here: three hyphens, ended by LF
 abbrev pub is_cut : List ℕ → Bool

@@ -1,14 +1,7 @@
 -- Which turns of the gate a command's lanes or workers took.
 -- Source: this project's own.
 use Rattle.std.specs.Prelude.{◌≡◌, ◌≤◌, ℕ, List, Option, Some, None, Ok, IfSome, length}
-use Rattle.mt_bulk.specs.Builds.{TookTurns}
-use Rattle.mt_log.specs.declared.lines.Log.{Log}
-use Rattle.mt_log.specs.declared.transcripts.Listing.{Listing}
-use Rattle.mt_log.specs.Reading.{log_of}
-use Rattle.mt_replay.specs.Turns.{AllTurned}
-use Rattle.mt_commands.specs.Texts.{IsTurnedTrial}
-use Rattle.mt_cli.specs.declared.commands.Command.{Command}
-use Rattle.mt_cli.specs.declared.commands.Command.TheVariants.{Replay, Make, Trial, Verify, Image, Show, Bulk, Ids}
+use Rattle.mt_program.specs.Prelude.{TookTurns, Log, Listing, log_of, AllTurned, IsTurnedTrial, Command, Replay, Make, Trial, Verify, Image, Show, Bulk, Ids}
 use Rattle.mt_program.specs.Headline.{IsListing}
 
 -- the bytes are a log, each step of which was done by a lane that took both its turns

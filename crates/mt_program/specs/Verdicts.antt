@@ -1,17 +1,7 @@
 -- What a command says of the bytes that it read: it takes them, or refuses them for a cause; and which status they call for.
 use Rattle.std.specs.Prelude.{◌≡◌, ◌≢◌, ◌⊎◌, ◌+◌, ◌<◌, ◌≤◌, ℕ, List, [], Option, Some, None, Ok, Err, length, IfSome, IsOk}
-use Rattle.mt_bulk.specs.Builds.{refusal}
+use Rattle.mt_program.specs.Prelude.{refusal, image_in, IsBadAt, fault_at, log_of, TellsRun, trees_of, Log, Listing, Command, Replay, Make, Trial, Verify, Image, Show, Bulk, Ids}
 use Rattle.mt_bulk.specs.declared.errors.BulkError.TheVariants as errors
-use Rattle.mt_image.specs.Reading.{image_in}
-use Rattle.mt_told.specs.Listings.{IsBadAt}
-use Rattle.mt_log.specs.Fault.{fault_at}
-use Rattle.mt_log.specs.Reading.{log_of}
-use Rattle.mt_log.specs.Run.{TellsRun}
-use Rattle.mt_log.specs.Trees.{trees_of}
-use Rattle.mt_log.specs.declared.lines.Log.{Log}
-use Rattle.mt_log.specs.declared.transcripts.Listing.{Listing}
-use Rattle.mt_cli.specs.declared.commands.Command.{Command}
-use Rattle.mt_cli.specs.declared.commands.Command.TheVariants.{Replay, Make, Trial, Verify, Image, Show, Bulk, Ids}
 use Rattle.mt_program.specs.Command.{input_limit}
 use Rattle.mt_program.specs.Ending.{TellsText, failure_text, status_of}
 use Rattle.mt_program.specs.Headline.{IsListing}

@@ -1,22 +1,5 @@
 -- The place before another, and what a leaf tells of the last range before an index.
-use Rattle.std.proofs.Common.{◌≡◌, ◌≢◌, ℕ, suc, ◌+◌, ◌-◌, ◌<◌, true, List, length, nat_lt, Some, sym, ap, ◌∙◌, arith, lt-ltb}
-use Rattle.std.specs.Prelude.{slice_index}
-use Rattle.std.proofs.lemmas.Option.{get_or_from_slice_get, slice_get-get_or, slice_get_within}
-use Rattle.mt_layout.specs.declared.spans.Span.{Span}
-use Rattle.mt_layout.specs.Columns.{pivot_column, items_at}
-use Rattle.mt_layout.specs.Sizes.{slots_of, gaps_of}
-use Rattle.mt_layout.proofs.SpanLists.{length-spans_from}
-use Rattle.mt_life.specs.declared.views.Held.{Held}
-use Rattle.mt_life.specs.Holding.{copy_of}
-use Rattle.mt_life.proofs.Slots.{span_in_slot}
-use Rattle.mt_path.specs.Paths.{span_at, no_span}
-use Rattle.mt_path.proofs.LeafSlots.{StandsIn, fills_first, fills_next, stands_in}
-use Rattle.mt_rows.specs.Spans.{base_of}
-use Rattle.mt_rule.specs.declared.views.PassPart.{PassPart}
-use Rattle.mt_rule.specs.Sections.{here, kind_of, spans_here}
-use Rattle.mt_read.specs.declared.descent.Row.{Row}
-use Rattle.mt_read.specs.declared.descent.SlotPlace.{SlotPlace}
-use Rattle.mt_read.specs.Walks.{IsOnRow, IsPlaceIn}
+use Rattle.mt_read.proofs.Prelude.{◌≡◌, ◌≢◌, ℕ, suc, ◌+◌, ◌-◌, ◌<◌, true, List, length, nat_lt, Some, sym, ap, ◌∙◌, arith, lt-ltb, slice_index, get_or_from_slice_get, slice_get-get_or, slice_get_within, Span, pivot_column, items_at, slots_of, gaps_of, length-spans_from, Held, copy_of, span_in_slot, span_at, no_span, StandsIn, fills_first, fills_next, stands_in, base_of, PassPart, here, kind_of, spans_here, Row, SlotPlace, IsOnRow, IsPlaceIn}
 
 -- ---- the first place
 

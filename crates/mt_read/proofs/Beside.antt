@@ -1,25 +1,5 @@
 -- The place behind another, as the code finds it.
-use Rattle.std.proofs.Common.{◌≡◌, ◌≢◌, ℕ, suc, ◌+◌, ◌<◌, List, [], ◌∷◌, ◌++◌, true, false, length, nat_lt, Some, refl, sym, ap, ◌∙◌, subst, arith, lt-ltb, le-ltb}
-use Rattle.std.specs.Prelude.{slice_index}
-use Rattle.std.specs.List.{slice_get}
-use Rattle.std.proofs.lemmas.Option.{slice_get_within, get_or_from_slice_get}
-use Rattle.mt_base.proofs.Lists.{get_parts}
-use Rattle.mt_layout.specs.declared.spans.Span.{Span}
-use Rattle.mt_layout.specs.Columns.{pivot_column, items_at}
-use Rattle.mt_layout.specs.Sizes.{slots_of, gaps_of}
-use Rattle.mt_layout.specs.Spans.{Fills}
-use Rattle.mt_layout.proofs.SpanLists.{length-spans_from}
-use Rattle.mt_life.specs.declared.views.Held.{Held}
-use Rattle.mt_life.specs.Holding.{copy_of}
-use Rattle.mt_life.proofs.Slots.{span_in_slot}
-use Rattle.mt_path.specs.Paths.{span_at, no_span}
-use Rattle.mt_path.proofs.LeafSlots.{StandsIn, stands_in}
-use Rattle.mt_rows.specs.Spans.{base_of}
-use Rattle.mt_rule.specs.declared.views.PassPart.{PassPart}
-use Rattle.mt_rule.specs.Sections.{here, kind_of, spans_here}
-use Rattle.mt_read.specs.declared.descent.Row.{Row}
-use Rattle.mt_read.specs.declared.descent.SlotPlace.{SlotPlace}
-use Rattle.mt_read.specs.Walks.{IsOnRow, IsPlaceIn}
+use Rattle.mt_read.proofs.Prelude.{◌≡◌, ◌≢◌, ℕ, suc, ◌+◌, ◌<◌, List, [], ◌∷◌, ◌++◌, true, false, length, nat_lt, Some, refl, sym, ap, ◌∙◌, subst, arith, lt-ltb, le-ltb, slice_index, slice_get, slice_get_within, get_or_from_slice_get, get_parts, Span, pivot_column, items_at, slots_of, gaps_of, Fills, length-spans_from, Held, copy_of, span_in_slot, span_at, no_span, StandsIn, stands_in, base_of, PassPart, here, kind_of, spans_here, Row, SlotPlace, IsOnRow, IsPlaceIn}
 
 get_seam : (front : List Span) (x y : Span) (back : List Span) (i : ℕ) → length front ≡ i → slice_get (front ++ (x ∷ y ∷ back)) (i + 1) ≡ Some y
 get_seam [] x y back i at = let one : i + 1 ≡ suc 0 = omega arith in ap (slice_get (x ∷ y ∷ back)) one

@@ -1,24 +1,5 @@
 -- What begins behind an index, or before it, by the leaf that covers it.
-use Rattle.std.proofs.Common.{◌≡◌, ◌⊎◌, ℕ, ◌+◌, ◌≤◌, List, [], length, Option, Some, None, sym, ap, ◌∙◌, subst, inl, inr, arith}
-use Rattle.std.specs.Prelude.{IfSome}
-use Rattle.std.specs.List.{slice_get}
-use Rattle.mt_base.specs.declared.kinds.Kind.{Kind}
-use Rattle.mt_base.specs.declared.ranges.Range.{Range}
-use Rattle.mt_base.specs.declared.calls.Query.{Query}
-use Rattle.mt_base.specs.declared.calls.Query.TheVariants.{Find, Next}
-use Rattle.mt_base.specs.Call.{answer}
-use Rattle.mt_base.specs.Map.{IsMap}
-use Rattle.mt_base.specs.Width.{greatest_of}
-use Rattle.mt_base.proofs.Goings.{begins_long}
-use Rattle.mt_layout.specs.Spans.{Fills}
-use Rattle.mt_life.specs.declared.views.Held.{Held}
-use Rattle.mt_life.specs.Holding.{Snapshot, copy_of}
-use Rattle.mt_life.specs.Known.{spans_at}
-use Rattle.mt_rule.specs.declared.views.PassPart.{PassPart}
-use Rattle.mt_rule.specs.Sections.{LoadedParent, here, moment_seen, spans_here}
-use Rattle.mt_read.specs.declared.descent.SlotPlace.{SlotPlace}
-use Rattle.mt_read.specs.Answers.{Answers, AnswersBy}
-use Rattle.mt_read.specs.Walks.{GoesOn, IsPlaceIn}
+use Rattle.mt_read.proofs.Prelude.{◌≡◌, ◌⊎◌, ℕ, ◌+◌, ◌≤◌, List, [], length, Option, Some, None, sym, ap, ◌∙◌, subst, inl, inr, arith, IfSome, slice_get, Kind, Range, Query, Find, Next, answer, IsMap, greatest_of, begins_long, Fills, Held, Snapshot, copy_of, spans_at, PassPart, LoadedParent, here, moment_seen, spans_here, SlotPlace, Answers, AnswersBy, GoesOn, IsPlaceIn}
 use Rattle.mt_read.proofs.Keeping.{answers_later}
 use Rattle.mt_read.proofs.NextAnswers.{next_is, none_behind}
 use Rattle.mt_read.proofs.Reading.{answers_from, nothing_found, nothing_is_a_map}

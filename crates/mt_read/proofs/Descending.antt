@@ -1,38 +1,5 @@
 -- How a walk comes from a row to the one below.
-use Rattle.std.proofs.Common.{◌≡◌, ◌≢◌, ℕ, zero, suc, ◌+◌, ◌*◌, ◌<◌, ◌≤◌, List, [], ◌∷◌, length, Option, Some, None, refl, sym, ap, ◌∙◌, subst, arith}
-use Rattle.std.specs.Prelude.{IfSome}
-use Rattle.std.specs.List.{slice_get}
-use mathlib.Core.Option.{some}
-use lib.ListN.{get_elem?}
-use Rattle.std.proofs.Math.Nat.{mul-add}
-use Rattle.std.proofs.lemmas.Option.{slice_get_within}
-use Rattle.mt_base.specs.declared.kinds.Kind.{Kind}
-use Rattle.mt_base.specs.declared.widths.Width.{Width}
-use Rattle.mt_base.specs.Call.{finds_room}
-use Rattle.mt_base.specs.Width.{greatest, greatest_of, kind_width}
-use Rattle.mt_base.proofs.Lists.{get_parts}
-use Rattle.mt_base.proofs.Goings.{begins_on}
-use Rattle.mt_layout.specs.declared.names.RowKind.TheVariants.{Leaf}
-use Rattle.mt_layout.specs.declared.spans.Span.{Span}
-use Rattle.mt_layout.specs.Columns.{slot_column}
-use Rattle.mt_layout.specs.Rows.{named_kind, row_in}
-use Rattle.mt_layout.specs.Sizes.{slots_of}
-use Rattle.mt_layout.specs.Spans.{Fills}
-use Rattle.mt_layout.proofs.RowSizes.{few_slots_of}
-use Rattle.mt_layout.proofs.SpanLists.{fills_le, fills_split}
-use Rattle.mt_rows.specs.Laws.{kind_at}
-use Rattle.mt_rows.specs.Spans.{inner_kind}
-use Rattle.mt_rows.proofs.InnerKinds.{leaf_low}
-use Rattle.mt_life.specs.declared.views.Held.{Held}
-use Rattle.mt_rule.specs.declared.views.PassPart.{PassPart}
-use Rattle.mt_rule.specs.declared.views.Shape.{Shape}
-use Rattle.mt_rule.specs.Places.{column_at, IsRowAt}
-use Rattle.mt_rule.specs.Sections.{Comes, LoadedChild, LoadedEntry, LoadedRootRow, LoadedSlot, held_behind, floor_or, IsAt, Reads, here, kind_of, slots_in, spans_here, with_seen}
-use Rattle.mt_read.specs.declared.descent.Row.{Row}
-use Rattle.mt_read.specs.declared.descent.SlotPlace.{SlotPlace}
-use Rattle.mt_read.specs.Walks.{GoesOn, GoesOnTo, IsOnRow, IsPlaceIn, IsUnder, SeesMore, WasMarked, steps_down}
-use Rattle.mt_life.proofs.Slots.{span_in_slot}
-use Rattle.mt_life.specs.Holding.{copy_of}
+use Rattle.mt_read.proofs.Prelude.{◌≡◌, ◌≢◌, ℕ, zero, suc, ◌+◌, ◌*◌, ◌<◌, ◌≤◌, List, [], ◌∷◌, length, Option, Some, None, refl, sym, ap, ◌∙◌, subst, arith, IfSome, slice_get, some, get_elem?, mul-add, slice_get_within, Kind, Width, finds_room, greatest, greatest_of, kind_width, get_parts, begins_on, Leaf, Span, slot_column, named_kind, row_in, slots_of, Fills, few_slots_of, fills_le, fills_split, kind_at, inner_kind, leaf_low, Held, PassPart, Shape, column_at, IsRowAt, Comes, LoadedChild, LoadedEntry, LoadedRootRow, LoadedSlot, held_behind, floor_or, IsAt, Reads, here, kind_of, slots_in, spans_here, with_seen, Row, SlotPlace, GoesOn, GoesOnTo, IsOnRow, IsPlaceIn, IsUnder, SeesMore, WasMarked, steps_down, span_in_slot, copy_of}
 use Rattle.mt_read.proofs.Finding.{count_is, slots_counted}
 
 -- ---- leaves and inner rows

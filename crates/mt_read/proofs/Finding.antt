@@ -1,28 +1,5 @@
 -- How a slot is found in the row that a section is at.
-use Rattle.std.proofs.Common.{◌≡◌, ℕ, ◌+◌, ◌-◌, ◌<◌, ◌≤◌, List, Some, sym, ap, ◌∙◌, subst, arith, ◌*◌}
-use Rattle.std.specs.Prelude.{slice_index}
-use Rattle.std.specs.List.{slice_get}
-use Rattle.mt_base.specs.declared.widths.Width.{Width}
-use Rattle.mt_base.specs.Width.{kind_width, columns}
-use Rattle.mt_base.proofs.Goings.{begins_long, begins_on}
-use Rattle.mt_layout.specs.declared.spans.Span.{Span}
-use Rattle.mt_layout.specs.Columns.{pivot_column, items_from}
-use Rattle.mt_layout.specs.Sizes.{slots_of, gaps_of}
-use Rattle.mt_layout.specs.Spans.{Fills, spans_from}
-use Rattle.mt_life.specs.declared.views.Held.{Held}
-use Rattle.mt_life.specs.Holding.{copy_of}
-use Rattle.mt_path.specs.Paths.{slot_for, span_at}
-use Rattle.mt_path.proofs.Places.{at_slot, at_get}
-use Rattle.mt_path.proofs.Searches.{Passed, Ends, passed_more, ends_at_pivot, ends_at_last}
-use Rattle.mt_rows.specs.Spans.{base_of}
-use Rattle.mt_rule.specs.declared.passes.Pass.{Pass}
-use Rattle.mt_rule.specs.declared.views.PassPart.{PassPart}
-use Rattle.mt_rule.specs.Places.{column_at}
-use Rattle.mt_rule.specs.Sections.{LoadedPivot, here, kind_of, slots_in, spans_here, with_seen}
-use Rattle.mt_rule.specs.Tokens.{Identity, IsPassOf, part_of}
-use Rattle.mt_read.specs.declared.descent.Row.{Row}
-use Rattle.mt_read.specs.declared.descent.SlotPlace.{SlotPlace}
-use Rattle.mt_read.specs.Walks.{IsOnRow, IsPlaceIn, SeesMore}
+use Rattle.mt_read.proofs.Prelude.{◌≡◌, ℕ, ◌+◌, ◌-◌, ◌<◌, ◌≤◌, List, Some, sym, ap, ◌∙◌, subst, arith, ◌*◌, slice_index, slice_get, Width, kind_width, columns, begins_long, begins_on, Span, pivot_column, items_from, slots_of, gaps_of, Fills, spans_from, Held, copy_of, slot_for, span_at, at_slot, at_get, Passed, Ends, passed_more, ends_at_pivot, ends_at_last, base_of, Pass, PassPart, column_at, LoadedPivot, here, kind_of, slots_in, spans_here, with_seen, Identity, IsPassOf, part_of, Row, SlotPlace, IsOnRow, IsPlaceIn, SeesMore}
 
 -- ---- the pass has only seen more
 

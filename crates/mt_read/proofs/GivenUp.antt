@@ -1,21 +1,6 @@
 -- What is left of a read that was given up, and a bound of what begins behind an index.
-use Rattle.std.proofs.Common.{◌≡◌, ℕ, [], ◌∷◌, length, Option, refl, sym, ap, ◌∙◌, subst, arith}
-use Rattle.std.proofs.lemmas.List.{length-map}
-use Rattle.mt_base.specs.declared.kinds.Kind.{Kind}
-use Rattle.mt_base.specs.declared.ranges.Range.{Range}
-use Rattle.mt_base.specs.declared.calls.Query.{Query}
-use Rattle.mt_base.specs.declared.calls.Query.TheVariants.{Next, Prev, Rfind}
-use Rattle.mt_base.specs.Map.{IsMap}
+use Rattle.mt_read.proofs.Prelude.{◌≡◌, ℕ, [], ◌∷◌, length, Option, refl, sym, ap, ◌∙◌, subst, arith, length-map, Kind, Range, Query, Next, Prev, Rfind, IsMap, greatest_of, begins_long, PassPart, known_by, record_of, moment_seen, Identity, tree_in, Answers, not_below, within, LeftMarked, WasLeftMarked, WasMoved, asked, Began, Ended}
 use Rattle.mt_base.specs.Passes as known
-use Rattle.mt_base.specs.Width.{greatest_of}
-use Rattle.mt_base.proofs.Goings.{begins_long}
-use Rattle.mt_rule.specs.declared.views.PassPart.{PassPart}
-use Rattle.mt_rule.specs.Seats.{known_by, record_of}
-use Rattle.mt_rule.specs.Sections.{moment_seen}
-use Rattle.mt_rule.specs.Tokens.{Identity, tree_in}
-use Rattle.mt_read.specs.Answers.{Answers, not_below, within}
-use Rattle.mt_read.specs.Neighbours.{LeftMarked, WasLeftMarked, WasMoved, asked}
-use Rattle.mt_read.specs.Windows.{Began, Ended}
 use Rattle.mt_read.proofs.LastAnswers.{prev_within, rfind_within}
 use Rattle.mt_read.proofs.NextAnswers.{next_within}
 use Rattle.mt_read.proofs.Windows.{has_read, marks_after}

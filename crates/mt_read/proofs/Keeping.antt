@@ -1,27 +1,6 @@
 -- What is known of a kept leaf, from step to step.
-use Rattle.std.proofs.Common.{◌≡◌, ◌≢◌, ℕ, suc, ◌≤◌, ◌==◌, true, false, List, length, Option, Some, None, refl, sym, ap, ◌∙◌, subst, arith, append-nil, [], ◌∷◌}
-use Rattle.std.specs.Prelude.{IfSome}
-use Rattle.std.proofs.lemmas.Bool.{eq-eqb, ne_eqb}
-use Rattle.mt_base.specs.declared.ranges.Range.{Range}
-use Rattle.mt_base.specs.declared.calls.Query.{Query}
-use Rattle.mt_base.specs.Call.{answer}
-use Rattle.mt_base.specs.Map.{IsMap}
-use Rattle.mt_base.specs.Passes.{Begins}
-use Rattle.mt_base.specs.Width.{kind_width}
-use Rattle.mt_base.proofs.Goings.{begins_long}
-use Rattle.mt_layout.specs.Rows.{dead_mark}
-use Rattle.mt_life.specs.declared.views.Held.{Held}
+use Rattle.mt_read.proofs.Prelude.{◌≡◌, ◌≢◌, ℕ, suc, ◌≤◌, ◌==◌, true, false, List, length, Option, Some, None, refl, sym, ap, ◌∙◌, subst, arith, append-nil, [], ◌∷◌, IfSome, eq-eqb, ne_eqb, Range, Query, answer, IsMap, Begins, kind_width, begins_long, dead_mark, Held, Moment, PassPart, Shape, column_at, IsAt, LoadedParent, ParentTells, here, marks_with, moment_seen, with_seen, Row, KeptLeaf, Answers, LeafAnswers, IsOnKeptLeaf, GoesOn, GoesOnTo, IsOnLeaf, IsUnder, WasMarked}
 use Rattle.mt_life.specs.declared.views.Moment as life
-use Rattle.mt_rule.specs.declared.views.Moment.{Moment}
-use Rattle.mt_rule.specs.declared.views.PassPart.{PassPart}
-use Rattle.mt_rule.specs.declared.views.Shape.{Shape}
-use Rattle.mt_rule.specs.Places.{column_at}
-use Rattle.mt_rule.specs.Sections.{IsAt, LoadedParent, ParentTells, here, marks_with, moment_seen, with_seen}
-use Rattle.mt_read.specs.declared.descent.Row.{Row}
-use Rattle.mt_read.specs.declared.cursor.KeptLeaf.{KeptLeaf}
-use Rattle.mt_read.specs.Answers.{Answers, LeafAnswers}
-use Rattle.mt_read.specs.Cursors.{IsOnKeptLeaf}
-use Rattle.mt_read.specs.Walks.{GoesOn, GoesOnTo, IsOnLeaf, IsUnder, WasMarked}
 use Rattle.mt_read.proofs.Descending.{goes_by}
 use Rattle.mt_read.proofs.Moments.{moment_stays}
 

@@ -1,16 +1,5 @@
 -- What a map has before an index, by what it has in the slot that holds the index.
-use Rattle.std.proofs.Common.{◌≡◌, ℕ, suc, ◌+◌, ◌-◌, ◌<◌, ◌≤◌, ◌&&◌, Bool, true, false, List, [], ◌∷◌, ◌++◌, Option, Some, None, length, arith, nat_lt, nat_le, refl, sym, ap, ◌∙◌, inl, inr}
-use Rattle.std.specs.Prelude.{filter}
-use Rattle.std.specs.List.{AllByRecursion, slice_get}
-use Rattle.std.proofs.lemmas.Bool.{cases_Bool, ltb-true, ltb-false, and_left, and_right, leb-true, lt-ltb, le-ltb, lt-leb, le-leb}
-use Rattle.mt_base.specs.declared.ranges.Range.{Range}
-use Rattle.mt_base.specs.declared.kinds.Kind.{Kind}
-use Rattle.mt_base.specs.declared.calls.Query.TheVariants.{Prev, Rfind}
-use Rattle.mt_base.specs.Call.{answer}
-use Rattle.mt_base.specs.Map.{IsMap, IsMapFrom, last_range}
-use Rattle.mt_base.proofs.Lists.{all_map}
-use Rattle.mt_life.specs.Moments.{IsPart}
-use Rattle.mt_read.specs.Answers.{not_below}
+use Rattle.mt_read.proofs.Prelude.{◌≡◌, ℕ, suc, ◌+◌, ◌-◌, ◌<◌, ◌≤◌, ◌&&◌, Bool, true, false, List, [], ◌∷◌, ◌++◌, Option, Some, None, length, arith, nat_lt, nat_le, refl, sym, ap, ◌∙◌, inl, inr, filter, AllByRecursion, slice_get, cases_Bool, ltb-true, ltb-false, and_left, and_right, leb-true, lt-ltb, le-ltb, lt-leb, le-leb, Range, Kind, Prev, Rfind, answer, IsMap, IsMapFrom, last_range, all_map, IsPart, not_below}
 use Rattle.mt_read.proofs.MapAnswers.{Beside, Outside, same_filter, none_pass}
 
 -- ---- the last range of a list

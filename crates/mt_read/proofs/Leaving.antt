@@ -1,29 +1,5 @@
 -- What a section has when it leaves a leaf that is marked then.
-use Rattle.std.proofs.Common.{◌≡◌, ◌≢◌, ℕ, ◌+◌, ◌-◌, ◌<◌, ◌≤◌, List, Option, Some, None, sym, ap, ◌∙◌, subst, arith}
-use Rattle.std.specs.Prelude.{IfNone}
-use Rattle.std.specs.List.{flat_map, slice_get}
-use Rattle.mt_base.specs.declared.kinds.Kind.{Kind}
-use Rattle.mt_base.specs.declared.calls.Query.{Query}
-use Rattle.mt_base.specs.declared.calls.Query.TheVariants.{Next, Prev, Rfind}
-use Rattle.mt_base.specs.Call.{answer}
-use Rattle.mt_base.specs.Width.{greatest_of}
-use Rattle.mt_layout.specs.declared.spans.Span.{Span}
-use Rattle.mt_layout.specs.Columns.{slot_column}
-use Rattle.mt_layout.specs.Sizes.{slots_of}
-use Rattle.mt_layout.specs.Spans.{leaf_range, Fills}
-use Rattle.mt_rows.specs.Laws.{kind_at}
-use Rattle.mt_rows.specs.Spans.{column}
-use Rattle.mt_life.specs.declared.views.Extent.{Extent}
-use Rattle.mt_life.specs.declared.views.Held.{Held}
-use Rattle.mt_life.specs.Holding.{copy_of}
-use Rattle.mt_life.specs.Known.{spans_at}
-use Rattle.mt_life.proofs.Slots.{slot_of_form}
-use Rattle.mt_rule.specs.declared.views.PassPart.{PassPart}
-use Rattle.mt_rule.specs.Sections.{here, spans_here}
-use Rattle.mt_read.specs.declared.descent.Row.{Row}
-use Rattle.mt_read.specs.declared.descent.SlotPlace.{SlotPlace}
-use Rattle.mt_read.specs.Neighbours.{IsLeafBefore, IsBehind, IsLeafOver, LeftHole, LeftMarked, MarkedBeside}
-use Rattle.mt_read.specs.Walks.{GoesOn, IsOnLeaf, IsPlaceIn, IsSameHold, IsUnder, SeesMore, WasMarked, WasRead}
+use Rattle.mt_read.proofs.Prelude.{◌≡◌, ◌≢◌, ℕ, ◌+◌, ◌-◌, ◌<◌, ◌≤◌, List, Option, Some, None, sym, ap, ◌∙◌, subst, arith, IfNone, flat_map, slice_get, Kind, Query, Next, Prev, Rfind, answer, greatest_of, Span, slot_column, slots_of, leaf_range, Fills, kind_at, column, Extent, Held, copy_of, spans_at, slot_of_form, PassPart, here, spans_here, Row, SlotPlace, IsLeafBefore, IsBehind, IsLeafOver, LeftHole, LeftMarked, MarkedBeside, GoesOn, IsOnLeaf, IsPlaceIn, IsSameHold, IsUnder, SeesMore, WasMarked, WasRead}
 use Rattle.mt_read.proofs.Descending.{goes_on, goes_sees, here_more, marked_then}
 use Rattle.mt_read.proofs.Finding.{on_more}
 use Rattle.mt_read.proofs.Reading.{kind_goes, no_entry, span_of}

@@ -19,3 +19,4 @@ pub mod Standing
 pub mod Stepping
 pub mod Upward
 pub mod Windows
+mod Prelude

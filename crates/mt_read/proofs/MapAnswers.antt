@@ -1,20 +1,5 @@
 -- What a map answers, by what it has over a few indexes: a range of just these, or none.
-use Rattle.std.proofs.Common.{◌≡◌, ◌≢◌, ◌⊎◌, ℕ, ◌+◌, ◌<◌, ◌≤◌, ◌&&◌, ◌==◌, Bool, true, false, List, [], ◌∷◌, ◌++◌, Option, Some, None, arith, nat_lt, nat_le, refl, sym, ap, ◌∙◌, subst, inl, inr}
-use Rattle.std.specs.Prelude.{filter, if◌then◌else◌}
-use Rattle.std.specs.List.{AllByRecursion}
-use Rattle.std.proofs.lemmas.Bool.{cases_Bool, cases_lt, and_left, and_right, ltb-true, leb-false, lt-ltb, le-ltb, lt-leb, le-leb, eq-eqb, ne_eqb}
-use Rattle.mt_base.specs.declared.ranges.Range.{Range}
-use Rattle.mt_base.specs.declared.kinds.Kind.{Kind}
-use Rattle.mt_base.specs.declared.calls.Query.TheVariants.{Load, Find}
-use Rattle.mt_base.specs.Call.{answer}
-use Rattle.mt_base.specs.Map.{IsMap, IsMapFrom, holds, holding, first_range}
-use Rattle.mt_base.specs.Width.{greatest_of}
-use Rattle.mt_base.proofs.AboveTop.{none_found_above}
-use Rattle.mt_base.proofs.Lists.{all_map, all_front, all_back, all_join}
-use Rattle.mt_layout.specs.declared.spans.Span.{Span}
-use Rattle.mt_layout.specs.Spans.{leaf_range}
-use Rattle.mt_life.specs.Moments.{IsPart}
-use Rattle.mt_read.specs.Answers.{within}
+use Rattle.mt_read.proofs.Prelude.{◌≡◌, ◌≢◌, ◌⊎◌, ℕ, ◌+◌, ◌<◌, ◌≤◌, ◌&&◌, ◌==◌, Bool, true, false, List, [], ◌∷◌, ◌++◌, Option, Some, None, arith, nat_lt, nat_le, refl, sym, ap, ◌∙◌, subst, inl, inr, filter, if◌then◌else◌, AllByRecursion, cases_Bool, cases_lt, and_left, and_right, ltb-true, leb-false, lt-ltb, le-ltb, lt-leb, le-leb, eq-eqb, ne_eqb, Range, Kind, Load, Find, answer, IsMap, IsMapFrom, holds, holding, first_range, greatest_of, none_found_above, all_map, all_front, all_back, all_join, Span, leaf_range, IsPart, within}
 
 -- ---- the ranges of a map beside some indexes
 

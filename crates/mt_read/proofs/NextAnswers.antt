@@ -1,16 +1,5 @@
 -- What a map has behind an index, by what it has in the slot that holds the index.
-use Rattle.std.proofs.Common.{◌≡◌, ℕ, ◌+◌, ◌<◌, ◌≤◌, ◌&&◌, Bool, true, false, List, [], ◌∷◌, None, arith, nat_lt, nat_le, refl, sym, ap, ◌∙◌, inl, inr}
-use Rattle.std.specs.Prelude.{filter}
-use Rattle.std.specs.List.{AllByRecursion}
-use Rattle.std.proofs.lemmas.Bool.{cases_Bool, and_left, and_right, ltb-true, leb-false, lt-ltb, le-ltb, lt-leb, le-leb}
-use Rattle.mt_base.specs.declared.ranges.Range.{Range}
-use Rattle.mt_base.specs.declared.kinds.Kind.{Kind}
-use Rattle.mt_base.specs.declared.calls.Query.TheVariants.{Find, Next}
-use Rattle.mt_base.specs.Call.{answer}
-use Rattle.mt_base.specs.Map.{IsMap, IsMapFrom, first_range}
-use Rattle.mt_base.specs.Width.{greatest_of}
-use Rattle.mt_base.proofs.Lists.{all_map}
-use Rattle.mt_read.specs.Answers.{within}
+use Rattle.mt_read.proofs.Prelude.{◌≡◌, ℕ, ◌+◌, ◌<◌, ◌≤◌, ◌&&◌, Bool, true, false, List, [], ◌∷◌, None, arith, nat_lt, nat_le, refl, sym, ap, ◌∙◌, inl, inr, filter, AllByRecursion, cases_Bool, and_left, and_right, ltb-true, leb-false, lt-ltb, le-ltb, lt-leb, le-leb, Range, Kind, Find, Next, answer, IsMap, IsMapFrom, first_range, greatest_of, all_map, within}
 use Rattle.mt_read.proofs.MapAnswers.{Beside, find_test, same_filter, none_pass}
 
 abbrev pub next_test : ℕ → ℕ → Range → Bool

@@ -1,31 +1,6 @@
 -- What a leaf, and the leaf before it, tell of the last range before an index.
-use Rattle.std.proofs.Common.{◌≡◌, ◌≢◌, ◌⊎◌, ⊎_elim, ℕ, ◌+◌, ◌-◌, ◌<◌, ◌≤◌, List, [], ◌∷◌, ◌++◌, length, Option, Some, None, inl, inr, sym, ap, ◌∙◌, subst, arith}
-use Rattle.std.specs.Prelude.{IfSome, IfNone}
-use Rattle.std.specs.List.{AllByRecursion, slice_get}
-use Rattle.mt_base.specs.declared.kinds.Kind.{Kind}
-use Rattle.mt_base.specs.declared.ranges.Range.{Range}
-use Rattle.mt_base.specs.declared.widths.Width.{Width}
-use Rattle.mt_base.specs.declared.calls.Query.{Query}
-use Rattle.mt_base.specs.declared.calls.Query.TheVariants.{Prev, Rfind}
-use Rattle.mt_base.specs.Call.{answer}
-use Rattle.mt_base.specs.Map.{IsMap}
-use Rattle.mt_base.specs.Width.{greatest, greatest_of, kind_width}
-use Rattle.mt_base.proofs.Lists.{get_parts, all_back}
-use Rattle.mt_base.proofs.Goings.{begins_long}
-use Rattle.mt_layout.specs.declared.spans.Span.{Span}
-use Rattle.mt_layout.specs.Spans.{Fills, EndsFull, leaf_range}
-use Rattle.mt_layout.proofs.SpanLists.{fills_split, full_back, none_filled}
-use Rattle.mt_life.specs.declared.views.Held.{Held}
+use Rattle.mt_read.proofs.Prelude.{◌≡◌, ◌≢◌, ◌⊎◌, ⊎_elim, ℕ, ◌+◌, ◌-◌, ◌<◌, ◌≤◌, List, [], ◌∷◌, ◌++◌, length, Option, Some, None, inl, inr, sym, ap, ◌∙◌, subst, arith, IfSome, IfNone, AllByRecursion, slice_get, Kind, Range, Width, Query, Prev, Rfind, answer, IsMap, greatest, greatest_of, kind_width, get_parts, all_back, begins_long, Span, Fills, EndsFull, leaf_range, fills_split, full_back, none_filled, Held, Snapshot, copy_of, HasPart, SameForm, spans_at, Cut, IsPart, kind_at, PassPart, LoadedParent, here, moment_seen, spans_here, SlotPlace, Answers, AnswersBy, LeafAnswers, GoesOn, IsPlaceIn, IsSameHold, SeesMore, WasRead}
 use Rattle.mt_life.specs.declared.views.Moment as life
-use Rattle.mt_life.specs.Holding.{Snapshot, copy_of}
-use Rattle.mt_life.specs.Known.{HasPart, SameForm, spans_at}
-use Rattle.mt_life.specs.Moments.{Cut, IsPart}
-use Rattle.mt_rows.specs.Laws.{kind_at}
-use Rattle.mt_rule.specs.declared.views.PassPart.{PassPart}
-use Rattle.mt_rule.specs.Sections.{LoadedParent, here, moment_seen, spans_here}
-use Rattle.mt_read.specs.declared.descent.SlotPlace.{SlotPlace}
-use Rattle.mt_read.specs.Answers.{Answers, AnswersBy, LeafAnswers}
-use Rattle.mt_read.specs.Walks.{GoesOn, IsPlaceIn, IsSameHold, SeesMore, WasRead}
 use Rattle.mt_read.proofs.Crossing.{beside_by}
 use Rattle.mt_read.proofs.Descending.{span_within}
 use Rattle.mt_read.proofs.LastAnswers.{prev_is, prev_none, rfind_all, rfind_hole, rfind_none, rfind_range}

@@ -1,34 +1,5 @@
 -- What a load of a leaf's slot tells.
-use Rattle.std.proofs.Common.{◌≡◌, ◌≢◌, ℕ, ◌+◌, ◌*◌, ◌≤◌, ◌==◌, List, [], length, nat_lt, Option, Some, None, inl, inr, refl, sym, ap, ◌∙◌, subst, arith}
-use Rattle.std.specs.Prelude.{IfNone, IfSome, slice_index}
-use Rattle.std.specs.List.{slice_get}
-use Rattle.std.proofs.lemmas.Bool.{cases_Bool, eqb-true, eqb-false, eq-eqb, ne_eqb}
-use Rattle.mt_base.specs.declared.kinds.Kind.{Kind}
-use Rattle.mt_base.specs.declared.ranges.Range.{Range}
-use Rattle.mt_base.specs.declared.calls.Query.{Query}
-use Rattle.mt_base.specs.declared.calls.Query.TheVariants.{Load, Find}
-use Rattle.mt_base.specs.Map.{IsMap}
-use Rattle.mt_base.specs.Call.{answer}
-use Rattle.mt_base.specs.Width.{columns, greatest_of, kind_width}
-use Rattle.mt_base.proofs.Goings.{begins_long}
-use Rattle.mt_layout.specs.declared.names.RowKind.TheVariants.{Leaf}
-use Rattle.mt_layout.specs.declared.spans.Span.{Span}
-use Rattle.mt_layout.specs.Columns.{slot_column}
-use Rattle.mt_layout.specs.Sizes.{slots_of}
-use Rattle.mt_life.specs.declared.views.Extent.{Extent}
-use Rattle.mt_life.specs.declared.views.Held.{Held}
-use Rattle.mt_life.specs.Holding.{Snapshot, copy_of}
-use Rattle.mt_life.specs.Known.{HasPart, SameForm, spans_at}
-use Rattle.mt_life.proofs.Slots.{slot_of_form, hole_of_form}
-use Rattle.mt_rows.specs.Laws.{kind_at}
-use Rattle.mt_rows.specs.Spans.{column}
-use Rattle.mt_rule.specs.declared.views.PassPart.{PassPart}
-use Rattle.mt_rule.specs.Places.{column_at}
-use Rattle.mt_rule.specs.Sections.{LoadedEntry, LoadedSlot, here, moment_seen, slots_in}
-use Rattle.mt_read.specs.declared.descent.Row.{Row}
-use Rattle.mt_read.specs.declared.descent.SlotPlace.{SlotPlace}
-use Rattle.mt_read.specs.Answers.{Answers, LeafAnswers}
-use Rattle.mt_read.specs.Walks.{GoesOn, IsOnRow, IsOnLeaf, IsPlaceIn, IsSameHold, SeesMore, WasRead, range_or_hole}
+use Rattle.mt_read.proofs.Prelude.{◌≡◌, ◌≢◌, ℕ, ◌+◌, ◌*◌, ◌≤◌, ◌==◌, List, [], length, nat_lt, Option, Some, None, inl, inr, refl, sym, ap, ◌∙◌, subst, arith, IfNone, IfSome, slice_index, slice_get, cases_Bool, eqb-true, eqb-false, eq-eqb, ne_eqb, Kind, Range, Query, Load, Find, IsMap, answer, columns, greatest_of, kind_width, begins_long, Leaf, Span, slot_column, slots_of, Extent, Held, Snapshot, copy_of, HasPart, SameForm, spans_at, slot_of_form, hole_of_form, kind_at, column, PassPart, column_at, LoadedEntry, LoadedSlot, here, moment_seen, slots_in, Row, SlotPlace, Answers, LeafAnswers, GoesOn, IsOnRow, IsOnLeaf, IsPlaceIn, IsSameHold, SeesMore, WasRead, range_or_hole}
 use Rattle.mt_read.proofs.Descending.{place_within}
 use Rattle.mt_read.proofs.Standing.{form_on}
 use Rattle.mt_read.proofs.SlotAnswers.{load_entry, load_none, find_entry, find_end, find_behind, behind_in}

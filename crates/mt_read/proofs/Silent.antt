@@ -1,18 +1,5 @@
 -- A leaf of whose ranges none answers.
-use Rattle.std.proofs.Common.{◌≡◌, ℕ, ◌+◌, ◌≤◌, ◌==◌, Bool, true, false, List, [], ◌∷◌, ◌++◌, Some, None, refl, sym, ap, ◌∙◌, subst, arith, nat_lt, nat_le}
-use Rattle.std.specs.Prelude.{if◌then◌else◌}
-use Rattle.std.specs.List.{AllByRecursion, flat_map, slice_get}
-use Rattle.std.proofs.lemmas.Bool.{and_left, eq-eqb, le-ltb, lt-leb}
-use Rattle.std.proofs.lemmas.Grind.{flat_map-append}
-use Rattle.mt_base.specs.declared.ranges.Range.{Range}
-use Rattle.mt_base.specs.declared.calls.Query.TheVariants.{Next, Prev, Rfind}
-use Rattle.mt_base.specs.Call.{answer}
-use Rattle.mt_base.specs.Map.{first_range, last_range}
-use Rattle.mt_base.proofs.Lists.{all_map, all_join, get_parts}
-use Rattle.mt_layout.specs.declared.spans.Span.{Span}
-use Rattle.mt_layout.specs.Spans.{leaf_range, Fills}
-use Rattle.mt_layout.proofs.SpanLists.{fills_split, none_filled}
-use Rattle.mt_rows.proofs.Between.{Between, leaf_between}
+use Rattle.mt_read.proofs.Prelude.{◌≡◌, ℕ, ◌+◌, ◌≤◌, ◌==◌, Bool, true, false, List, [], ◌∷◌, ◌++◌, Some, None, refl, sym, ap, ◌∙◌, subst, arith, nat_lt, nat_le, if◌then◌else◌, AllByRecursion, flat_map, slice_get, and_left, eq-eqb, le-ltb, lt-leb, flat_map-append, Range, Next, Prev, Rfind, answer, first_range, last_range, all_map, all_join, get_parts, Span, leaf_range, Fills, fills_split, none_filled, Between, leaf_between}
 use Rattle.mt_read.proofs.LastAnswers.{prev_test, rfind_all, rfind_test}
 use Rattle.mt_read.proofs.MapAnswers.{none_pass}
 use Rattle.mt_read.proofs.NextAnswers.{next_test}

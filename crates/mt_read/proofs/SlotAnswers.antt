@@ -1,25 +1,6 @@
 -- What a leaf tells of a map by one of its slots, and by the one behind it.
-use Rattle.std.proofs.Common.{◌≡◌, ◌≢◌, ℕ, suc, ◌+◌, ◌<◌, ◌≤◌, ◌==◌, Bool, true, false, List, [], ◌∷◌, ◌++◌, length, Some, None, inl, inr, refl, sym, ap, ◌∙◌, subst, arith, append_assoc}
-use Rattle.std.specs.Prelude.{if◌then◌else◌}
-use Rattle.std.specs.List.{AllByRecursion, flat_map, slice_get}
-use Rattle.std.proofs.lemmas.Bool.{cases_lt}
-use Rattle.std.proofs.lemmas.Grind.{flat_map-append}
-use Rattle.mt_base.specs.declared.ranges.Range.{Range}
-use Rattle.mt_base.specs.declared.kinds.Kind.{Kind}
-use Rattle.mt_base.specs.declared.widths.Width.{Width}
-use Rattle.mt_base.specs.declared.calls.Query.TheVariants.{Load, Find}
-use Rattle.mt_base.specs.Call.{answer}
-use Rattle.mt_base.specs.Map.{IsMap}
-use Rattle.mt_base.specs.Width.{greatest, greatest_of, kind_width}
-use Rattle.mt_base.proofs.Lists.{all_map, all_join, get_parts}
-use Rattle.mt_layout.specs.declared.spans.Span.{Span}
-use Rattle.mt_layout.specs.Spans.{leaf_range, Fills, Apart, BeginsFull, EndsFull}
-use Rattle.mt_layout.proofs.SpanLists.{fills_le, fills_split, none_filled, full_back, full_behind_hole}
-use Rattle.mt_rows.specs.Spans.{Table}
-use Rattle.mt_rows.proofs.Between.{Between, leaf_between}
-use Rattle.mt_life.specs.declared.views.Extent.{Extent}
-use Rattle.mt_life.specs.Known.{Shape, spans_at}
-use Rattle.mt_life.specs.Moments.{IsPart}
+use Rattle.mt_read.proofs.Prelude.{◌≡◌, ◌≢◌, ℕ, suc, ◌+◌, ◌<◌, ◌≤◌, ◌==◌, Bool, true, false, List, [], ◌∷◌, ◌++◌, length, Some, None, inl, inr, refl, sym, ap, ◌∙◌, subst, arith, append_assoc, if◌then◌else◌, AllByRecursion, flat_map, slice_get, cases_lt, flat_map-append, Range, Kind, Width, Load, Find, answer, IsMap, greatest, greatest_of, kind_width, all_map, all_join, get_parts, Span, leaf_range, Fills, Apart, BeginsFull, EndsFull, fills_le, fills_split, none_filled, full_back, full_behind_hole, Table, Between, leaf_between, Extent, spans_at, IsPart}
+use Rattle.mt_life.specs.Known.{Shape}
 use Rattle.mt_read.proofs.MapAnswers.{range_part, hole_part, load_hole, load_range, find_range, find_none, find_hole}
 
 abbrev ranges : List Span → List Range

@@ -1,19 +1,5 @@
 -- What a map answers at an index above the greatest, by what it answers at the index that is walked to.
-use Rattle.std.proofs.Common.{◌≡◌, ℕ, ◌<◌, ◌≤◌, ◌&&◌, Bool, true, false, List, [], ◌∷◌, Option, Some, None, arith, nat_lt, nat_le, refl, sym, ap, ◌∙◌, inl, inr}
-use Rattle.std.specs.Prelude.{filter, find, IfSome, if◌then◌else◌}
-use Rattle.std.specs.List.{AllByRecursion}
-use Rattle.std.proofs.Math.Nat.{min-eq_left}
-use Rattle.std.proofs.lemmas.Bool.{cases_Bool, cases_lt, and_left, and_right, and_parts, le-ltb, lt-leb, le-leb}
-use Rattle.mt_base.specs.declared.ranges.Range.{Range}
-use Rattle.mt_base.specs.declared.kinds.Kind.{Kind}
-use Rattle.mt_base.specs.declared.calls.Query.TheVariants.{Load, Find, Next, Rfind}
-use Rattle.mt_base.specs.Call.{answer}
-use Rattle.mt_base.specs.Map.{IsMap, holds, first_range}
-use Rattle.mt_base.specs.Width.{greatest_of}
-use Rattle.mt_base.proofs.AboveTop.{none_found_above, none_holds_above, none_next_above, rfind_above}
-use Rattle.mt_base.proofs.Lists.{all_map}
-use Rattle.mt_read.specs.Answers.{not_below}
-use Rattle.mt_read.specs.Walks.{sought}
+use Rattle.mt_read.proofs.Prelude.{◌≡◌, ℕ, ◌<◌, ◌≤◌, ◌&&◌, Bool, true, false, List, [], ◌∷◌, Option, Some, None, arith, nat_lt, nat_le, refl, sym, ap, ◌∙◌, inl, inr, filter, find, IfSome, if◌then◌else◌, AllByRecursion, min-eq_left, cases_Bool, cases_lt, and_left, and_right, and_parts, le-ltb, lt-leb, le-leb, Range, Kind, Load, Find, Next, Rfind, answer, IsMap, holds, first_range, greatest_of, none_found_above, none_holds_above, none_next_above, rfind_above, all_map, not_below, sought}
 use Rattle.mt_read.proofs.MapAnswers.{Ordered, find_is, find_test, in_order, none_pass}
 
 -- ---- the index that is walked to

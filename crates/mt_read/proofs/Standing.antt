@@ -1,25 +1,6 @@
 -- What a leaf that stood at a moment tells of the map there, by the slots that it had when a section came to it.
-use Rattle.std.proofs.Common.{◌≡◌, ℕ, suc, ◌+◌, ◌*◌, ◌<◌, ◌≤◌, ◌==◌, Bool, true, List, [], ◌∷◌, Some, None, refl, sym, ◌∙◌, subst}
-use Rattle.std.specs.Prelude.{if◌then◌else◌}
-use Rattle.std.specs.List.{AllByRecursion, slice_get}
-use Rattle.std.proofs.lemmas.Bool.{eq-eqb}
-use Rattle.mt_base.specs.declared.kinds.Kind.{Kind}
-use Rattle.mt_base.specs.declared.widths.Width.{Width}
-use Rattle.mt_base.specs.Map.{IsMap}
-use Rattle.mt_base.specs.Width.{greatest_of}
-use Rattle.mt_layout.specs.declared.names.RowKind.{RowKind}
-use Rattle.mt_layout.specs.declared.spans.Span.{Span}
-use Rattle.mt_layout.specs.Columns.{slot_column}
-use Rattle.mt_layout.specs.Sizes.{slots_of}
-use Rattle.mt_layout.specs.Spans.{leaf_range, Fills}
-use Rattle.mt_life.specs.declared.views.Held.{Held}
+use Rattle.mt_read.proofs.Prelude.{◌≡◌, ℕ, suc, ◌+◌, ◌*◌, ◌<◌, ◌≤◌, ◌==◌, Bool, true, List, [], ◌∷◌, Some, None, refl, sym, ◌∙◌, subst, if◌then◌else◌, AllByRecursion, slice_get, eq-eqb, Kind, Width, IsMap, greatest_of, RowKind, Span, slot_column, slots_of, leaf_range, Fills, Held, Snapshot, copy_of, SameForm, spans_at, IsPart, slot_of_form, hole_of_form, kind_at, Table, column}
 use Rattle.mt_life.specs.declared.views.Moment as life
-use Rattle.mt_life.specs.Holding.{Snapshot, copy_of}
-use Rattle.mt_life.specs.Known.{SameForm, spans_at}
-use Rattle.mt_life.specs.Moments.{IsPart}
-use Rattle.mt_life.proofs.Slots.{slot_of_form, hole_of_form}
-use Rattle.mt_rows.specs.Laws.{kind_at}
-use Rattle.mt_rows.specs.Spans.{Table, column}
 use Rattle.mt_read.proofs.MapAnswers.{Beside, beside}
 use Rattle.mt_read.proofs.SlotAnswers.{narrow}
 

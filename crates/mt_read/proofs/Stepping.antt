@@ -1,21 +1,6 @@
 -- What a step of a cursor makes of its pass.
-use Rattle.std.proofs.Common.{◌≡◌, ℕ, ◌+◌, ◌≤◌, max, List, [], ◌∷◌, length, Option, Some, None, refl, sym, ap, ◌∙◌, subst, arith, append-nil}
-use Rattle.std.specs.Prelude.{IfSome}
-use Rattle.std.proofs.lemmas.List.{length-map}
-use Rattle.mt_base.specs.declared.ranges.Range.{Range}
-use Rattle.mt_base.specs.declared.calls.Query.{Query}
-use Rattle.mt_base.specs.declared.calls.Query.TheVariants.{Find}
-use Rattle.mt_base.specs.Call.{answer}
-use Rattle.mt_base.specs.History.{map_at}
+use Rattle.mt_read.proofs.Prelude.{◌≡◌, ℕ, ◌+◌, ◌≤◌, max, List, [], ◌∷◌, length, Option, Some, None, refl, sym, ap, ◌∙◌, subst, arith, append-nil, IfSome, length-map, Range, Query, Find, answer, map_at, begins_long, begins_on, PassPart, Shape, known_by, record_of, tree_of, LoadedBegun, moment_seen, Identity, tree_in, Resumed, epoch_or, opened_with, query_at, GoesOnTo}
 use Rattle.mt_base.specs.Passes as known
-use Rattle.mt_base.proofs.Goings.{begins_long, begins_on}
-use Rattle.mt_rule.specs.declared.views.PassPart.{PassPart}
-use Rattle.mt_rule.specs.declared.views.Shape.{Shape}
-use Rattle.mt_rule.specs.Seats.{known_by, record_of, tree_of}
-use Rattle.mt_rule.specs.Sections.{LoadedBegun, moment_seen}
-use Rattle.mt_rule.specs.Tokens.{Identity, tree_in}
-use Rattle.mt_read.specs.Cursors.{Resumed, epoch_or, opened_with, query_at}
-use Rattle.mt_read.specs.Walks.{GoesOnTo}
 use Rattle.mt_read.proofs.Windows.{begins_records}
 
 -- what the query at a place is

@@ -1,22 +1,5 @@
 -- What a read at the index that is walked to answers of an index above the greatest.
-use Rattle.std.proofs.Common.{◌≡◌, ℕ, ◌<◌, ◌≤◌, Option, Some, None, refl, sym, ap, ◌∙◌, arith, lt-ltb, le-ltb}
-use Rattle.std.specs.Prelude.{IfSome}
-use Rattle.mt_base.specs.declared.kinds.Kind.{Kind}
-use Rattle.mt_base.specs.declared.ranges.Range.{Range}
-use Rattle.mt_base.specs.declared.calls.Query.{Query}
-use Rattle.mt_base.specs.declared.calls.Query.TheVariants.{Load, Find, Next, Prev, Rfind}
-use Rattle.mt_base.specs.Width.{greatest_of}
-use Rattle.mt_base.specs.Call.{answer}
-use Rattle.mt_base.specs.Map.{IsMap}
-use Rattle.mt_base.proofs.AboveTop.{prev_above}
-use Rattle.mt_rule.specs.declared.passes.Pass.{Pass}
-use Rattle.mt_rule.specs.declared.views.PassPart.{PassPart}
-use Rattle.mt_rule.specs.declared.views.Shape.{Shape}
-use Rattle.mt_rule.specs.Sections.{moment_seen}
-use Rattle.mt_rule.specs.Tokens.{Identity, IsPassOf, part_of}
-use Rattle.mt_read.specs.Answers.{Answers, not_below}
-use Rattle.mt_read.specs.Neighbours.{asked}
-use Rattle.mt_read.specs.Walks.{sought}
+use Rattle.mt_read.proofs.Prelude.{◌≡◌, ℕ, ◌<◌, ◌≤◌, Option, Some, None, refl, sym, ap, ◌∙◌, arith, lt-ltb, le-ltb, IfSome, Kind, Range, Query, Load, Find, Next, Prev, Rfind, greatest_of, answer, IsMap, prev_above, Pass, PassPart, Shape, moment_seen, Identity, IsPassOf, part_of, Answers, not_below, asked, sought}
 use Rattle.mt_read.proofs.Finding.{shape_is}
 use Rattle.mt_read.proofs.Sought as maps
 

@@ -1,25 +1,6 @@
 -- What a section's beginning, a walk and its end make of a read.
-use Rattle.std.proofs.Common.{◌≡◌, ℕ, ◌+◌, ◌≤◌, max, List, [], ◌∷◌, ◌++◌, length, Option, Some, None, refl, sym, ap, ◌∙◌, subst, arith}
-use Rattle.std.proofs.lemmas.List.{length-map, map-append}
-use Rattle.mt_base.specs.declared.ranges.Range.{Range}
-use Rattle.mt_base.specs.declared.calls.Query.{Query}
-use Rattle.mt_base.specs.declared.calls.Query.TheVariants.{Find}
-use Rattle.mt_base.specs.Call.{answer}
-use Rattle.mt_base.specs.declared.kinds.Kind.{Kind}
-use Rattle.mt_base.specs.History.{map_at}
-use Rattle.mt_base.specs.Map.{IsMap}
+use Rattle.mt_read.proofs.Prelude.{◌≡◌, ℕ, ◌+◌, ◌≤◌, max, List, [], ◌∷◌, ◌++◌, length, Option, Some, None, refl, sym, ap, ◌∙◌, subst, arith, length-map, map-append, Range, Query, Find, answer, Kind, map_at, IsMap, greatest_of, begins_long, begins_on, Moment, PassPart, Shape, known_by, record_of, records_of, tree_of, HasBecome, LoadedBegun, LoadedCommits, closed_section, moment_seen, opened_section, with_seen, Identity, tree_in, Answers, within, GoesOnTo, Began, Ended, HasRead}
 use Rattle.mt_base.specs.Passes as known
-use Rattle.mt_base.specs.Width.{greatest_of}
-use Rattle.mt_base.proofs.Goings.{begins_long, begins_on}
-use Rattle.mt_rule.specs.declared.views.Moment.{Moment}
-use Rattle.mt_rule.specs.declared.views.PassPart.{PassPart}
-use Rattle.mt_rule.specs.declared.views.Shape.{Shape}
-use Rattle.mt_rule.specs.Seats.{known_by, record_of, records_of, tree_of}
-use Rattle.mt_rule.specs.Sections.{HasBecome, LoadedBegun, LoadedCommits, closed_section, moment_seen, opened_section, with_seen}
-use Rattle.mt_rule.specs.Tokens.{Identity, tree_in}
-use Rattle.mt_read.specs.Answers.{Answers, within}
-use Rattle.mt_read.specs.Walks.{GoesOnTo}
-use Rattle.mt_read.specs.Windows.{Began, Ended, HasRead}
 use Rattle.mt_read.proofs.MapAnswers.{find_within}
 
 -- ---- a section's beginning and its end

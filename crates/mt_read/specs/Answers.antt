@@ -1,14 +1,7 @@
 -- What an answer of a pass is worth.
 -- Source: the kernel's documentation of the maple tree, mtree_load, mt_find, mt_next and mt_prev.
 use Rattle.std.specs.Prelude.{◌≡◌, ◌⊎◌, ℕ, [], ◌≤◌, ◌&&◌, nat_le, Option, Some, None, length, if◌then◌else◌}
-use Rattle.mt_base.specs.declared.ranges.Range.{Range}
-use Rattle.mt_base.specs.declared.calls.Query.{Query}
-use Rattle.mt_base.specs.Call.{answer}
-use Rattle.mt_base.specs.Map.{IsMap}
-use Rattle.mt_life.specs.declared.views.Held.{Held}
-use Rattle.mt_life.specs.Holding.{Snapshot}
-use Rattle.mt_rule.specs.declared.views.PassPart.{PassPart}
-use Rattle.mt_rule.specs.Sections.{here, moment_seen}
+use Rattle.mt_read.specs.Prelude.{Range, Query, answer, IsMap, Held, Snapshot, PassPart, here, moment_seen}
 
 -- The range answers the query after some number of calls, no fewer than these, that the pass has seen.
 pub record Answers (q : PassPart) (least : ℕ) (query : Query) (value : Option Range) : Type 0 where

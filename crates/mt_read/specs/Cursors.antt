@@ -1,12 +1,8 @@
 -- What a cursor keeps from step to step, and what a step makes of a pass.
 -- Source: the kernel's documentation of the maple tree, mas_find, which goes on from the node that it is at, and mas_pause.
 use Rattle.std.specs.Prelude.{◌≡◌, ◌⊎◌, ℕ, ◌+◌, ◌<◌, ◌≤◌, List, [], ◌∷◌, ◌++◌, Option, Some, None, IfSome, length, nat_le, nat_lt, if◌then◌else◌}
-use Rattle.mt_base.specs.declared.calls.Query.{Query}
-use Rattle.mt_base.specs.declared.calls.Query.TheVariants.{Find}
-use Rattle.mt_base.specs.declared.ranges.Range.{Range}
+use Rattle.mt_read.specs.Prelude.{Query, Find, Range, PassPart, HasBecome, here, opened_section, with_seen}
 use Rattle.mt_base.specs.Passes as known
-use Rattle.mt_rule.specs.declared.views.PassPart.{PassPart}
-use Rattle.mt_rule.specs.Sections.{HasBecome, here, opened_section, with_seen}
 use Rattle.mt_read.specs.declared.cursor.KeptLeaf.{KeptLeaf}
 use Rattle.mt_read.specs.declared.cursor.Cursor.{Cursor}
 use Rattle.mt_read.specs.Walks.{IsOnLeaf}

@@ -3,3 +3,4 @@ pub mod Cursors
 pub mod Neighbours
 pub mod Walks
 pub mod Windows
+pub mod Prelude

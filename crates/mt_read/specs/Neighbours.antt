@@ -2,18 +2,8 @@
 -- Source: this project's own; the kernel's mas_next begins again at the root where it finds a node dead.
 use Rattle.std.specs.Prelude.{◌≡◌, ◌≢◌, ℕ, ◌+◌, ◌-◌, ◌<◌, ◌≤◌, List, ◌∷◌, None, length, nat_lt, if◌then◌else◌}
 use Rattle.std.specs.List.{flat_map}
-use Rattle.mt_base.specs.declared.kinds.Kind.{Kind}
-use Rattle.mt_base.specs.declared.ranges.Range.{Range}
-use Rattle.mt_base.specs.declared.calls.Query.{Query}
-use Rattle.mt_base.specs.declared.calls.Query.TheVariants.{Load, Find, Next, Prev, Rfind}
-use Rattle.mt_base.specs.Call.{answer}
-use Rattle.mt_base.specs.History.{History}
+use Rattle.mt_read.specs.Prelude.{Kind, Range, Query, Load, Find, Next, Prev, Rfind, answer, History, greatest_of, leaf_range, Held, PassPart, here, spans_here}
 use Rattle.mt_base.specs.Passes as known
-use Rattle.mt_base.specs.Width.{greatest_of}
-use Rattle.mt_layout.specs.Spans.{leaf_range}
-use Rattle.mt_life.specs.declared.views.Held.{Held}
-use Rattle.mt_rule.specs.declared.views.PassPart.{PassPart}
-use Rattle.mt_rule.specs.Sections.{here, spans_here}
 use Rattle.mt_read.specs.declared.descent.SlotPlace.{SlotPlace}
 use Rattle.mt_read.specs.Walks.{GoesOn, IsSameHold, IsUnder, WasMarked, WasRead, sought}
 use Rattle.mt_read.specs.Windows.{Began, Ended}

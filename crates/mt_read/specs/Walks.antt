@@ -4,18 +4,7 @@ use Rattle.std.specs.Prelude.{◌≡◌, ℕ, suc, ◌*◌, ◌<◌, ◌≤◌, 
 use Rattle.std.specs.List.{slice_get}
 use mathlib.Core.Option.{some}
 use lib.ListN.{get_elem?}
-use Rattle.mt_base.specs.declared.kinds.Kind.{Kind}
-use Rattle.mt_base.specs.declared.ranges.Range.{Range}
-use Rattle.mt_base.specs.Passes.{Begins}
-use Rattle.mt_base.specs.Width.{greatest_of, kind_width}
-use Rattle.mt_layout.specs.Sizes.{slots_of}
-use Rattle.mt_life.specs.declared.views.Held.{Held}
-use Rattle.mt_life.specs.Holding.{copy_of}
-use Rattle.mt_life.specs.Known.{HasRow, Shape, spans_at}
-use Rattle.mt_rows.specs.Spans.{inner_kind}
-use Rattle.mt_rule.specs.declared.views.PassPart.{PassPart}
-use Rattle.mt_rule.specs.Places.{IsRowAt}
-use Rattle.mt_rule.specs.Sections.{IsAt, IsLeafRead, Reads, here, kind_of, spans_here, with_seen}
+use Rattle.mt_read.specs.Prelude.{Kind, Range, Begins, greatest_of, kind_width, slots_of, Held, copy_of, HasRow, Shape, spans_at, inner_kind, PassPart, IsRowAt, IsAt, IsLeafRead, Reads, here, kind_of, spans_here, with_seen}
 use Rattle.mt_read.specs.declared.descent.Row.{Row}
 use Rattle.mt_read.specs.declared.descent.SlotPlace.{SlotPlace}
 

@@ -2,8 +2,7 @@
 -- Source: this project's own; the kernel's readers walk between rcu_read_lock and rcu_read_unlock.
 use Rattle.std.specs.Prelude.{◌≡◌, ℕ, ◌+◌, ◌≤◌, [], ◌∷◌, ◌++◌, None, length}
 use Rattle.mt_base.specs.Passes as known
-use Rattle.mt_rule.specs.declared.views.PassPart.{PassPart}
-use Rattle.mt_rule.specs.Sections.{HasBecome, with_seen, opened_section, closed_section}
+use Rattle.mt_read.specs.Prelude.{PassPart, HasBecome, with_seen, opened_section, closed_section}
 
 -- The section was opened at the number of ended calls, all of which the pass has seen, and one more at the most.
 pub record Began (epoch : ℕ) (q q' : PassPart) : Type 0 where

@@ -1,34 +1,7 @@
 -- What the lines of a phase make of a player as the phase begins, one line after another.
-use Rattle.std.proofs.Common.{drop-cons, ◌≡◌, ℕ, suc, ◌+◌, ◌<◌, ◌≤◌, false, List, [], ◌∷◌, ◌++◌, Option, Some, None, length, map, take, drop, All, slice_get, get_or, arith, refl, sym, ap, ◌∙◌, subst, inl, inr, append_assoc}
-use Rattle.std.specs.List.{AllByRecursion}
-use Rattle.std.specs.Option.{option_map, option_to_list}
-use Rattle.std.proofs.lemmas.Bool.{cases_Bool}
-use Rattle.std.proofs.lemmas.List.{append-nil, length-map, map-append, take_all, take_more}
-use Rattle.std.proofs.lemmas.List.Elements.{All-append, All-from_recursion, All-nil, recursion_from_All}
-use Rattle.std.proofs.lemmas.Option.{slice_get-map, slice_get_within}
-use Rattle.mt_base.specs.declared.kinds.Kind.{Kind}
-use Rattle.mt_base.specs.declared.ranges.Range.{Range}
-use Rattle.mt_base.specs.History.{last_map}
-use Rattle.mt_log.specs.declared.lines.Item.{Item}
-use Rattle.mt_log.specs.declared.lines.Item.TheVariants.{Tree, Lane, Join, Dup, Check, Write, Ask, Scan}
-use Rattle.mt_log.specs.declared.lines.Line.{Line}
-use Rattle.mt_log.specs.declared.transcripts.Entry.{Entry}
+use Rattle.mt_replay.proofs.Prelude.{drop-cons, ◌≡◌, ℕ, suc, ◌+◌, ◌<◌, ◌≤◌, false, List, [], ◌∷◌, ◌++◌, Option, Some, None, length, map, take, drop, All, slice_get, get_or, arith, refl, sym, ap, ◌∙◌, subst, inl, inr, append_assoc, AllByRecursion, option_map, option_to_list, cases_Bool, append-nil, length-map, map-append, take_all, take_more, All-append, All-from_recursion, All-nil, recursion_from_All, slice_get-map, slice_get_within, Kind, Range, last_map, Item, Tree, Join, Dup, Check, Write, Ask, Scan, Line, Entry, KnownTree, Asked, Step, Counted, AreDone, entry_of, AreNamedFrom, Declared, Empty, CopyOf, NamesBelow, count_after, declared_by, renamed, trees_of, CountsRanges, phase_behind, step_of_line, Tracked, new_tracked, Ran, some_at, same_some, empty_ran, copy_ran, still, done_append, phase_append, trees_more, IsOnePhase, asked_of, counts_in, is_count, is_join, same_phase, PlayerState, BeginsPhase, Checks, Copies, IsBegun, IsPhaseBegun, IsPlayedBy}
+use Rattle.mt_log.specs.declared.lines.Item.TheVariants.{Lane}
 use Rattle.mt_log.specs.declared.transcripts.Said.TheVariants as said
-use Rattle.mt_log.specs.declared.trees.KnownTree.{KnownTree}
-use Rattle.mt_log.specs.Run.{Asked, Step, Counted, AreDone, entry_of}
-use Rattle.mt_log.specs.Trees.{AreNamedFrom, Declared, Empty, CopyOf, NamesBelow, count_after, declared_by, renamed, trees_of}
-use Rattle.mt_linearize.specs.Gone.{CountsRanges}
-use Rattle.mt_linearize.specs.Lines.{phase_behind}
-use Rattle.mt_linearize.specs.OneThread.{step_of_line}
-use Rattle.mt_linearize.specs.Phases.{Tracked, new_tracked}
-use Rattle.mt_linearize.specs.Tracks.{Ran}
-use Rattle.mt_linearize.proofs.LanePasses.{some_at}
-use Rattle.mt_linearize.proofs.Lists.{same_some}
-use Rattle.mt_linearize.proofs.Starting.{empty_ran, copy_ran, still}
-use Rattle.mt_linearize.proofs.Stretches.{done_append, phase_append, trees_more}
-use Rattle.mt_desks.specs.Dealing.{IsOnePhase, asked_of, counts_in, is_count, is_join}
-use Rattle.mt_desks.proofs.Asking.{same_phase}
-use Rattle.mt_replay.specs.Players.{PlayerState, BeginsPhase, Checks, Copies, IsBegun, IsPhaseBegun, IsPlayedBy}
 
 -- ---- lines of one phase
 

@@ -1,17 +1,5 @@
 -- The lanes of a phase make no more calls of a tree than the phase has lines, so no tree is worn.
-use Rattle.std.proofs.Common.{◌≡◌, ℕ, ◌+◌, ◌≤◌, List, length, arith}
-use Rattle.mt_base.specs.Passes.{Pass, IsSettled}
-use Rattle.mt_log.specs.declared.lines.Line.{Line}
-use Rattle.mt_log.specs.Run.{Asked, Step}
-use Rattle.mt_linearize.specs.Gone.{IsPhaseGone, sum_below}
-use Rattle.mt_linearize.specs.Leads.{outcomes_of}
-use Rattle.mt_linearize.specs.Phases.{Tracked}
-use Rattle.mt_linearize.specs.Rooms.{asked_of_lane, answers_joined}
-use Rattle.mt_linearize.specs.Tracks.{numbers_of}
-use Rattle.mt_linearize.proofs.FewCalls.{lines_of_lanes, sum_upto}
-use Rattle.mt_linearize.proofs.Totals.{lanes_calls}
-use Rattle.mt_desks.specs.Dealing.{steps_in}
-use Rattle.mt_desks.specs.Desks.{AreAnsweredUnless, IsSomeWorn, SharedTree}
+use Rattle.mt_replay.proofs.Prelude.{◌≡◌, ℕ, ◌+◌, ◌≤◌, List, length, arith, Pass, IsSettled, Line, Asked, Step, IsPhaseGone, sum_below, outcomes_of, Tracked, asked_of_lane, answers_joined, numbers_of, lines_of_lanes, sum_upto, lanes_calls, steps_in, AreAnsweredUnless, IsSomeWorn, SharedTree}
 use Rattle.mt_desks.proofs.Calls as calls
 
 pub few_calls : (trees : List SharedTree) (passes : ℕ → List Pass) (number phase : ℕ) (lines : List Line) (answers : ℕ → List (List Step)) (b a : Tracked)

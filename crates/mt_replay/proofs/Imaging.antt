@@ -1,16 +1,5 @@
 -- The image of a player's first tree is one of a run of its log.
-use Rattle.std.proofs.Common.{◌≡◌, ◌≢◌, ℕ, ◌<◌, List, [], ◌∷◌, Some, length, slice_get, arith, refl, subst}
-use Rattle.mt_base.specs.declared.kinds.Kind.{Kind}
-use Rattle.mt_base.specs.History.{last_map}
-use Rattle.mt_image.specs.Images.{IsImageOfMap}
-use Rattle.mt_log.specs.declared.lines.Line.{Line}
-use Rattle.mt_log.specs.declared.lines.Log.{Log}
-use Rattle.mt_log.specs.declared.transcripts.Transcript.{Transcript}
-use Rattle.mt_log.specs.Run.{listings_of}
-use Rattle.mt_log.specs.Trees.{Declared, trees_of}
-use Rattle.mt_linearize.specs.Phases.{Tracked, histories_of}
-use Rattle.mt_replay.specs.Images.{IsImageOfRun}
-use Rattle.mt_replay.specs.Players.{PlayerState, HasImage, IsPlayed}
+use Rattle.mt_replay.proofs.Prelude.{◌≡◌, ◌≢◌, ℕ, ◌<◌, List, [], ◌∷◌, Some, length, slice_get, arith, refl, subst, Kind, last_map, IsImageOfMap, Line, Log, Transcript, listings_of, Declared, trees_of, Tracked, histories_of, IsImageOfRun, PlayerState, HasImage, IsPlayed}
 use Rattle.mt_replay.proofs.LogPhases.{run_of}
 
 some_declared : (declared : List Declared) (trees : List Tracked) → length trees ≡ length declared → declared ≢ [] → 0 < length trees

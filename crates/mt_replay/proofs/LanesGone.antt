@@ -1,24 +1,5 @@
 -- The lanes of a phase ran at their desks, and what they were answered was told.
-use Rattle.std.proofs.Common.{◌≡◌, ◌≢◌, ℕ, ◌+◌, ◌<◌, ◌≤◌, List, [], ◌++◌, length, map, get_or, arith, ap, ◌∙◌, subst, inl, inr, Vec, Global, Result, Ok, Err}
-use Rattle.std.specs.Result.{OnOk}
-use Rattle.std.specs.List.{AllByRecursion}
-use Rattle.std.proofs.lemmas.Bool.{cases_eq}
-use Rattle.mt_base.specs.Passes.{Pass}
-use Rattle.mt_log.specs.declared.lines.Line.{Line}
-use Rattle.mt_log.specs.declared.transcripts.Entry.{Entry}
-use Rattle.mt_log.specs.Run.{Asked, entry_of}
-use Rattle.mt_linearize.specs.Rooms.{answers_joined}
-use Rattle.mt_linearize.proofs.LanePasses.{some_at}
-use Rattle.mt_linearize.proofs.Lists.{every}
-use Rattle.mt_lanes.specs.declared.lanes.Lane.{Lane}
-use Rattle.mt_desks.specs.declared.desks.LaneDesk.{LaneDesk}
-use Rattle.mt_desks.specs.Dealing.{lanes_in, steps_in}
-use Rattle.mt_desks.specs.Desks.{SharedTree}
-use Rattle.mt_desks.specs.Phases.{AtEach, CanPass, FromEach, LaneWent, pass_at}
-use Rattle.mt_desks.specs.Turns.{in_turn}
-use Rattle.mt_desks.proofs.Laning.{steps_lanes}
-use Rattle.mt_replay.specs.Lanes.{AreLanesFor, AreManned, CanDo, HaveRun, room_before}
-use Rattle.mt_replay.specs.Players.{rows_known}
+use Rattle.mt_replay.proofs.Prelude.{◌≡◌, ◌≢◌, ℕ, ◌+◌, ◌<◌, ◌≤◌, List, [], ◌++◌, length, map, get_or, arith, ap, ◌∙◌, subst, inl, inr, Vec, Global, Result, Ok, Err, OnOk, AllByRecursion, cases_eq, Pass, Line, Entry, Asked, entry_of, answers_joined, some_at, every, Lane, LaneDesk, lanes_in, steps_in, SharedTree, AtEach, CanPass, FromEach, LaneWent, pass_at, in_turn, steps_lanes, AreLanesFor, AreManned, CanDo, HaveRun, room_before, rows_known}
 use Rattle.mt_replay.proofs.LanesRun.{have_run, state}
 use Rattle.mt_replay.proofs.Manning.{manned_still, wide}
 use Rattle.mt_replay.proofs.Telling.{told_alone, told_together}

@@ -1,28 +1,5 @@
 -- What came of each lane at its desk is what came of all lanes on each tree.
-use Rattle.std.proofs.Common.{◌≡◌, ◌⊎◌, ℕ, ◌+◌, ◌<◌, ◌≤◌, List, [], ◌∷◌, ◌++◌, Some, length, map, take, get_or, slice_get, arith, refl, sym, ap, ◌∙◌, subst, inl, inr, Vec, Global}
-use Rattle.std.specs.List.{AllByRecursion}
-use Rattle.std.proofs.lemmas.Bool.{cases_lt, ne_eqb}
-use Rattle.std.proofs.lemmas.List.{get_or_default, length-map, take_all}
-use Rattle.std.proofs.lemmas.Option.{slice_get-get_or, slice_get-map, slice_get_within}
-use Rattle.std.specs.Option.{option_map}
-use Rattle.mt_base.specs.Passes.{Pass}
-use Rattle.mt_log.specs.declared.lines.Line.{Line}
-use Rattle.mt_log.specs.declared.transcripts.Entry.{Entry}
-use Rattle.mt_log.specs.Run.{Asked, Step, entry_of}
-use Rattle.mt_linearize.specs.Gone.{HaveGone}
-use Rattle.mt_linearize.specs.Leads.{Leads, outcomes_of}
-use Rattle.mt_linearize.specs.Rooms.{asked_of_lane, AreDoneEach, answers_joined, lanes_of, take_turns}
-use Rattle.mt_linearize.proofs.LanePasses.{some_at}
-use Rattle.mt_linearize.proofs.Leading.{learns_none}
-use Rattle.mt_linearize.proofs.Lists.{same_some}
-use Rattle.mt_lanes.specs.declared.lanes.Lane.{Lane}
-use Rattle.mt_desks.specs.declared.desks.LaneDesk.{LaneDesk}
-use Rattle.mt_desks.specs.Dealing.{asked_of, lines_of_lane, steps_in}
-use Rattle.mt_desks.specs.Desks.{AreAnsweredUnless, DeskState, IsSomeWorn, SharedTree, desk_of}
-use Rattle.mt_desks.specs.Phases.{FromEach, LaneWent, pass_at}
-use Rattle.mt_replay.specs.Lanes.{AreLanesFor, HaveRun, IsLaneFor, IsPassAt, room_before}
-use Rattle.mt_replay.specs.Players.{rows_known}
-use Rattle.mt_desks.proofs.Asking.{own_asked}
+use Rattle.mt_replay.proofs.Prelude.{◌≡◌, ◌⊎◌, ℕ, ◌+◌, ◌<◌, ◌≤◌, List, [], ◌∷◌, ◌++◌, Some, length, map, take, get_or, slice_get, arith, refl, sym, ap, ◌∙◌, subst, inl, inr, Vec, Global, AllByRecursion, cases_lt, ne_eqb, get_or_default, length-map, take_all, slice_get-get_or, slice_get-map, slice_get_within, option_map, Pass, Line, Entry, Asked, Step, entry_of, HaveGone, Leads, outcomes_of, asked_of_lane, AreDoneEach, answers_joined, lanes_of, take_turns, some_at, learns_none, same_some, Lane, LaneDesk, asked_of, lines_of_lane, steps_in, AreAnsweredUnless, DeskState, IsSomeWorn, SharedTree, desk_of, FromEach, LaneWent, pass_at, AreLanesFor, HaveRun, IsLaneFor, IsPassAt, room_before, rows_known, own_asked}
 
 abbrev pub state : {R P T : Type 0} → (T → SharedTree) → (P → Pass) → LaneDesk R P T → DeskState
 state tree knows d = desk_of tree knows d.lane d.phase d.trees.now d.lines.all d.passes.items d.room.items

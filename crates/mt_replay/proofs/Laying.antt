@@ -1,13 +1,5 @@
 -- One lane more is at its desk.
-use Rattle.std.proofs.Common.{◌≡◌, ℕ, zero, suc, ◌<◌, List, [], ◌∷◌, ◌++◌, length, get_or, arith, refl, subst, inl, inr, length-append}
-use Rattle.std.proofs.lemmas.Bool.{cases_eq}
-use Rattle.mt_log.specs.declared.lines.Line.{Line}
-use Rattle.mt_log.specs.declared.transcripts.Entry.{Entry}
-use Rattle.mt_lanes.specs.declared.lanes.Lane.{Lane}
-use Rattle.mt_desks.specs.declared.desks.LaneDesk.{LaneDesk}
-use Rattle.mt_desks.specs.Dealing.{lines_of_lane}
-use Rattle.mt_desks.specs.Phases.{AtEach}
-use Rattle.mt_replay.specs.Lanes.{AreLanesFor, IsLaneFor, room_before}
+use Rattle.mt_replay.proofs.Prelude.{◌≡◌, ℕ, zero, suc, ◌<◌, List, [], ◌∷◌, ◌++◌, length, get_or, arith, refl, subst, inl, inr, length-append, cases_eq, Line, Entry, Lane, LaneDesk, lines_of_lane, AtEach, AreLanesFor, IsLaneFor, room_before}
 
 -- one more at the end
 first_ones : {X : Type 0} (xs : List X) (x d : X) (i : ℕ) → i < length xs → get_or (xs ++ x ∷ []) i d ≡ get_or xs i d

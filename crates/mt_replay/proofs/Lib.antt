@@ -17,3 +17,4 @@ pub mod Staying
 pub mod Telling
 pub mod TreeRows
 pub mod Turning
+mod Prelude

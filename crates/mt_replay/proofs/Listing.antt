@@ -1,15 +1,5 @@
 -- A player's trees listed one after another are the trees at the end of a log.
-use Rattle.std.proofs.Common.{◌≡◌, ℕ, zero, suc, ◌+◌, ◌<◌, ◌≤◌, List, [], ◌∷◌, ◌++◌, Some, length, map, take, slice_get, get_or, arith, refl, sym, ap, ◌∙◌}
-use Rattle.std.proofs.lemmas.List.{take_all, take_more}
-use Rattle.std.proofs.lemmas.Option.{get_or_from_slice_get, slice_get_read, slice_get_within}
-use Rattle.mt_base.specs.declared.ranges.Range.{Range}
-use Rattle.mt_base.specs.History.{last_map}
-use Rattle.mt_log.specs.declared.transcripts.Listing.{Listing}
-use Rattle.mt_log.specs.declared.trees.KnownTree.{KnownTree}
-use Rattle.mt_log.specs.Run.{listings_of}
-use Rattle.mt_log.specs.Trees.{Declared}
-use Rattle.mt_linearize.specs.Phases.{Tracked, histories_of}
-use Rattle.mt_replay.specs.Players.{PlayerState, HasRanges}
+use Rattle.mt_replay.proofs.Prelude.{◌≡◌, ℕ, zero, suc, ◌+◌, ◌<◌, ◌≤◌, List, [], ◌∷◌, ◌++◌, Some, length, map, take, slice_get, get_or, arith, refl, sym, ap, ◌∙◌, take_all, take_more, get_or_from_slice_get, slice_get_read, slice_get_within, Range, last_map, Listing, KnownTree, listings_of, Declared, Tracked, histories_of, PlayerState, HasRanges}
 
 abbrev pub listed : List KnownTree → List Tracked → List Listing
 listed [] trees = []

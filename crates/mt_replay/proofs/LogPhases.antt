@@ -1,30 +1,5 @@
 -- The phases of a log, one behind another.
-use Rattle.std.proofs.Common.{◌≡◌, ℕ, zero, suc, ◌+◌, ◌-◌, ◌<◌, ◌≤◌, Bool, true, false, List, [], ◌∷◌, ◌++◌, Some, length, map, take, drop, get_or, slice_get, slice_range, arith, refl, sym, ap, ◌∙◌, subst, append_assoc, length-append}
-use Rattle.std.proofs.lemmas.Bool.{false≢true}
-use Rattle.std.proofs.lemmas.List.{append-nil, take-append-drop}
-use Rattle.std.proofs.lemmas.Option.{slice_get_within, get_or_from_slice_get}
-use Rattle.mt_log.specs.declared.lines.Item.{Item}
-use Rattle.mt_log.specs.declared.lines.Item.TheVariants.{Join}
-use Rattle.mt_log.specs.declared.lines.Line.{Line}
-use Rattle.mt_log.specs.Phases.{AreInPlaceFrom, stepped_from}
-use Rattle.mt_log.specs.declared.lines.Log.{Log}
-use Rattle.mt_log.specs.declared.transcripts.Transcript.{Transcript}
-use Rattle.mt_log.specs.Run.{Step, AreDone, IsRun, listings_of, steps_of}
-use Rattle.mt_log.specs.Trees.{IsReadable, most_lanes, trees_from, trees_of}
-use Rattle.mt_linearize.specs.Lines.{lane_behind, phase_behind}
-use Rattle.mt_linearize.specs.Tracks.{Ran}
-use Rattle.mt_linearize.specs.Phases.{histories_of}
-use Rattle.mt_linearize.proofs.LanePasses.{some_at}
-use Rattle.mt_linearize.proofs.Running.{ran_is_run}
-use Rattle.mt_linearize.proofs.Stretches.{asked_more, lane_more, phase_append, phase_more, stepped_more, stretch_apart, trees_behind, trees_more}
-use Rattle.mt_desks.specs.Dealing.{IsOnePhase, is_join, lanes_in}
-use Rattle.mt_desks.proofs.Asking.{same_phase}
-use Rattle.mt_desks.proofs.Laning.{few_lanes, lanes_before, lanes_behind, some_lane}
-use Rattle.mt_desks.proofs.Naming.{own_lines, phase_named, phase_placed}
-use Rattle.mt_replay.specs.Lanes.{CanDo, IsPhaseBehind}
-use Rattle.mt_replay.specs.Phases.{NoJoinBetween}
-use Rattle.mt_replay.specs.Players.{IsBegun, IsPlayed, PlayerState}
-use Rattle.mt_replay.specs.Trees.{calls_taken}
+use Rattle.mt_replay.proofs.Prelude.{◌≡◌, ℕ, zero, suc, ◌+◌, ◌-◌, ◌<◌, ◌≤◌, Bool, true, false, List, [], ◌∷◌, ◌++◌, Some, length, map, take, drop, get_or, slice_get, slice_range, arith, refl, sym, ap, ◌∙◌, subst, append_assoc, length-append, false≢true, append-nil, take-append-drop, slice_get_within, get_or_from_slice_get, Item, Join, Line, AreInPlaceFrom, stepped_from, Log, Transcript, Step, AreDone, IsRun, listings_of, steps_of, IsReadable, most_lanes, trees_from, trees_of, lane_behind, phase_behind, Ran, histories_of, some_at, ran_is_run, asked_more, lane_more, phase_append, phase_more, stepped_more, stretch_apart, trees_behind, trees_more, IsOnePhase, is_join, lanes_in, same_phase, few_lanes, lanes_before, lanes_behind, some_lane, own_lines, phase_named, phase_placed, CanDo, IsPhaseBehind, NoJoinBetween, IsBegun, IsPlayed, PlayerState, calls_taken}
 
 -- A phase of this number begins at this place of a log.
 pub record BeginsAt (log : List Line) (from phase : ℕ) : Type 0 where

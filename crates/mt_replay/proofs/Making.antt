@@ -1,10 +1,5 @@
 -- The empty trees of a phase: each is of the kind that stands at its place.
-use Rattle.std.proofs.Common.{◌≡◌, ℕ, suc, ◌+◌, ◌<◌, ◌≤◌, List, [], ◌∷◌, ◌++◌, Result, IfOk, length, take, drop, get_or, slice_range, arith, refl, sym, ap, ◌∙◌, subst, drop-cons, length-take, length-drop, ◌-◌, Vec, Global}
-use Rattle.mt_base.specs.declared.kinds.Kind.{Kind}
-use Rattle.mt_base.specs.Passes.{Pass}
-use Rattle.mt_log.specs.declared.lines.Line.{Line}
-use Rattle.mt_desks.specs.Desks.{SharedTree}
-use Rattle.mt_replay.specs.Makes.{AreMade, BeginAs, IsMade, declared_kind, kinds_in}
+use Rattle.mt_replay.proofs.Prelude.{◌≡◌, ℕ, suc, ◌+◌, ◌<◌, ◌≤◌, List, [], ◌∷◌, ◌++◌, Result, IfOk, length, take, drop, get_or, slice_range, arith, refl, sym, ap, ◌∙◌, subst, drop-cons, length-take, length-drop, ◌-◌, Vec, Global, Kind, Pass, Line, SharedTree, AreMade, BeginAs, IsMade, declared_kind, kinds_in}
 use Rattle.mt_replay.proofs.LogPhases.{front_and_phase}
 
 module _ {P T E : Type 0} (tree : T → SharedTree) (knows : P → Pass) (serves : T → P → Type 0) (many : T → ℕ) (rows passes : ℕ) where

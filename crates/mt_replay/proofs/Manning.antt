@@ -1,24 +1,5 @@
 -- The seats of the trees' passes before the lanes of a phase run, and behind them.
-use Rattle.std.proofs.Common.{◌≡◌, ◌⊎◌, ℕ, ◌+◌, ◌<◌, ◌≤◌, ◌==◌, ◌&&◌, List, [], ◌∷◌, Some, None, length, map, get_or, slice_get, arith, sym, ap, ◌∙◌, subst, inl, inr, Vec, Global}
-use Rattle.std.specs.List.{All}
-use Rattle.std.specs.Vec.{vec_len, vec_capacity}
-use Rattle.std.proofs.lemmas.Bool.{cases_Bool, cases_lt}
-use Rattle.std.proofs.lemmas.Option.{slice_get_within, get_or_from_slice_get}
-use Rattle.mt_base.specs.Passes.{Pass}
-use Rattle.mt_log.specs.declared.lines.Line.{Line}
-use Rattle.mt_log.specs.declared.transcripts.Entry.{Entry}
-use Rattle.mt_log.specs.Run.{lane_after}
-use Rattle.mt_linearize.specs.Leads.{outcomes_of}
-use Rattle.mt_linearize.specs.Rooms.{answers_joined}
-use Rattle.mt_linearize.proofs.Knowing.{leads_onward}
-use Rattle.mt_linearize.proofs.LanePasses.{some_at}
-use Rattle.mt_lanes.specs.declared.lanes.Lane.{Lane}
-use Rattle.mt_desks.specs.declared.desks.LaneDesk.{LaneDesk}
-use Rattle.mt_desks.specs.Dealing.{is_step, lines_of_lane}
-use Rattle.mt_desks.specs.Desks.{SharedTree}
-use Rattle.mt_desks.specs.Phases.{AtEach, CanPass, IsLaid, pass_at}
-use Rattle.mt_replay.specs.Lanes.{AreLanesFor, AreManned, CanDo, HaveRun, IsLaneFor, room_before}
-use Rattle.mt_replay.specs.Players.{rows_known}
+use Rattle.mt_replay.proofs.Prelude.{◌≡◌, ◌⊎◌, ℕ, ◌+◌, ◌<◌, ◌≤◌, ◌==◌, ◌&&◌, List, [], ◌∷◌, Some, None, length, map, get_or, slice_get, arith, sym, ap, ◌∙◌, subst, inl, inr, Vec, Global, All, vec_len, vec_capacity, cases_Bool, cases_lt, slice_get_within, get_or_from_slice_get, Pass, Line, Entry, lane_after, outcomes_of, answers_joined, leads_onward, some_at, Lane, LaneDesk, is_step, lines_of_lane, SharedTree, AtEach, CanPass, IsLaid, pass_at, AreLanesFor, AreManned, CanDo, HaveRun, IsLaneFor, room_before, rows_known}
 use Rattle.mt_replay.proofs.LanesRun.{mapped_at}
 
 own_short : (lane here : ℕ) (lines : List Line) → length (lines_of_lane lane here lines) ≤ length lines

@@ -1,34 +1,6 @@
 -- Where the lanes of a phase have run and then all passes are settled, the phase's lines are played.
-use Rattle.std.proofs.Common.{◌≡◌, ℕ, ◌+◌, ◌<◌, ◌≤◌, true, false, List, [], ◌∷◌, ◌++◌, Some, length, map, slice_get, arith, sym, ap, ◌∙◌, subst, inl, inr, append_assoc, length-append}
-use Rattle.std.specs.List.{AllByRecursion}
-use Rattle.std.proofs.lemmas.Bool.{cases_Bool}
-use Rattle.std.proofs.lemmas.List.{map-append}
-use Rattle.std.proofs.lemmas.Option.{slice_get_within}
-use Rattle.mt_base.specs.Passes.{Pass, IsSettled}
-use Rattle.mt_log.specs.declared.lines.Line.{Line}
-use Rattle.mt_log.specs.declared.transcripts.Entry.{Entry}
-use Rattle.mt_log.specs.declared.trees.KnownTree.{KnownTree}
-use Rattle.mt_log.specs.Phases.{stepped_after}
-use Rattle.mt_log.specs.Run.{Asked, Step, AreDone, entry_of, lane_after, steps_of}
-use Rattle.mt_log.specs.Trees.{NamesBelow, trees_from, trees_of}
-use Rattle.mt_linearize.specs.Gone.{IsPhaseGone}
-use Rattle.mt_linearize.specs.Phases.{IsPhase, Tracked}
-use Rattle.mt_linearize.specs.Rooms.{asked_of_lane, AreDoneEach, take_turns, lanes_of, answers_joined}
-use Rattle.mt_linearize.proofs.LanePasses.{all_at, some_at}
-use Rattle.mt_linearize.proofs.Running.{phase_ran}
-use Rattle.mt_linearize.proofs.Stretches.{asked_behind, done_append, trees_behind}
-use Rattle.mt_desks.specs.Dealing.{counts_in, is_step, steps_in}
-use Rattle.mt_desks.specs.Desks.{IsSomeWorn, SharedTree}
-use Rattle.mt_replay.specs.Lanes.{AreSettled, HaveRun, IsPhaseBehind}
-use Rattle.mt_replay.specs.Players.{IsPhaseBegun, IsPlayed, PlayerState, tracked_in}
-use Rattle.mt_replay.specs.Trees.{calls_taken, seen_by, tracked_of}
+use Rattle.mt_replay.proofs.Prelude.{◌≡◌, ℕ, ◌+◌, ◌<◌, ◌≤◌, true, false, List, [], ◌∷◌, ◌++◌, Some, length, map, slice_get, arith, sym, ap, ◌∙◌, subst, inl, inr, append_assoc, length-append, AllByRecursion, cases_Bool, map-append, slice_get_within, Pass, IsSettled, Line, Entry, KnownTree, stepped_after, Asked, Step, AreDone, entry_of, lane_after, steps_of, NamesBelow, trees_from, trees_of, IsPhaseGone, IsPhase, Tracked, asked_of_lane, AreDoneEach, take_turns, lanes_of, answers_joined, all_at, some_at, phase_ran, asked_behind, done_append, trees_behind, counts_in, is_step, steps_in, IsSomeWorn, SharedTree, AreSettled, HaveRun, IsPhaseBehind, IsPhaseBegun, IsPlayed, PlayerState, tracked_in, calls_taken, seen_by, tracked_of, lanes_phase, seen_within, none_worn, counts_first, all_placed, all_named}
 use Rattle.mt_replay.proofs.FewCalls.{few_calls}
-use Rattle.mt_linearize.proofs.LanesPhase.{lanes_phase}
-use Rattle.mt_linearize.proofs.Totals.{seen_within}
-use Rattle.mt_desks.proofs.Answered.{none_worn}
-use Rattle.mt_desks.proofs.Asking.{counts_first}
-use Rattle.mt_desks.proofs.Laning.{all_placed}
-use Rattle.mt_desks.proofs.Naming.{all_named}
 use Rattle.mt_replay.proofs.Seating.{tracked_at, tracked_long}
 use Rattle.mt_replay.proofs.TreeRows.{Found, all_from, found, leads_seen, seen_otherwise}
 

@@ -1,25 +1,5 @@
 -- A player behind the lanes of a phase.
-use Rattle.std.proofs.Common.{◌≡◌, ℕ, ◌+◌, ◌<◌, List, ◌++◌, Some, None, length, map, get_or, slice_get, arith, sym, ap, ◌∙◌, subst, Vec, Global}
-use Rattle.std.specs.List.{All}
-use Rattle.std.proofs.lemmas.List.{length-map}
-use Rattle.std.proofs.lemmas.Option.{slice_get_within}
-use Rattle.mt_base.specs.Passes.{Begins, Pass, IsSettled, Settled}
-use Rattle.mt_base.specs.History.{Record}
-use Rattle.mt_base.proofs.Goings.{begins_on}
-use Rattle.mt_log.specs.declared.lines.Line.{Line}
-use Rattle.mt_log.specs.declared.transcripts.Entry.{Entry}
-use Rattle.mt_log.specs.Run.{Step}
-use Rattle.mt_linearize.specs.Phases.{Tracked}
-use Rattle.mt_linearize.specs.Leads.{outcomes_of}
-use Rattle.mt_linearize.specs.Rooms.{answers_joined}
-use Rattle.mt_linearize.proofs.Knowing.{leads_onward}
-use Rattle.mt_linearize.proofs.LanePasses.{all_at, some_at}
-use Rattle.mt_linearize.proofs.Totals.{seen_begins}
-use Rattle.mt_desks.specs.Desks.{SharedTree}
-use Rattle.mt_replay.specs.declared.players.Player.{Player}
-use Rattle.mt_replay.specs.Lanes.{AreManned, AreSettled, HaveGoneBy, IsPhaseBehind}
-use Rattle.mt_replay.specs.Players.{IsBetweenPhases, IsBegun, IsPhaseBegun, IsClosed, IsPlayed, rows_known, player_state, tracked_in}
-use Rattle.mt_replay.specs.Trees.{AreAll, calls_taken, seen_by, tracked_of}
+use Rattle.mt_replay.proofs.Prelude.{◌≡◌, ℕ, ◌+◌, ◌<◌, List, ◌++◌, Some, None, length, map, get_or, slice_get, arith, sym, ap, ◌∙◌, subst, Vec, Global, All, length-map, slice_get_within, Begins, Pass, IsSettled, Settled, Record, begins_on, Line, Entry, Step, Tracked, outcomes_of, answers_joined, leads_onward, all_at, some_at, seen_begins, SharedTree, Player, AreManned, AreSettled, HaveGoneBy, IsPhaseBehind, IsBetweenPhases, IsBegun, IsPhaseBegun, IsClosed, IsPlayed, rows_known, player_state, tracked_in, AreAll, calls_taken, seen_by, tracked_of}
 use Rattle.mt_replay.proofs.LanesRun.{mapped_at, of_mapped, within_mapped}
 use Rattle.mt_replay.proofs.PhasePlayed.{phase_played, stands}
 use Rattle.mt_replay.proofs.Recounting.{HasGrown, counts_grow}

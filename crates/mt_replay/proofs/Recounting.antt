@@ -1,14 +1,6 @@
 -- The ranges of trees as they were counted: so many they had after so many calls, whatever is called behind these.
-use Rattle.std.proofs.Common.{◌≡◌, ℕ, zero, suc, List, [], ◌∷◌, ◌++◌, Some, length, slice_get, slice_set, arith, refl, sym, ap, ◌∙◌, subst}
-use Rattle.std.proofs.lemmas.List.{take_all}
-use Rattle.mt_base.specs.History.{History, last_map, map_at}
-use Rattle.mt_base.specs.Passes.{Begins, with_records}
-use Rattle.mt_base.proofs.Goings.{begins_long}
-use Rattle.mt_linearize.specs.Phases.{Tracked}
-use Rattle.mt_linearize.proofs.Counting.{map_stays}
-use Rattle.mt_linearize.proofs.Lists.{same_some}
+use Rattle.mt_replay.proofs.Prelude.{◌≡◌, ℕ, zero, suc, List, [], ◌∷◌, ◌++◌, Some, length, slice_get, slice_set, arith, refl, sym, ap, ◌∙◌, subst, take_all, History, last_map, map_at, Begins, with_records, begins_long, Tracked, map_stays, same_some, AreCounts, IsCountOf}
 use Rattle.mt_replay.specs.declared.counts.Counted.{Counted}
-use Rattle.mt_replay.specs.Counts.{AreCounts, IsCountOf}
 
 map_last : (h : History) → map_at h (length h.records) ≡ last_map h
 map_last h = ap (λ rs. last_map (with_records h rs)) (take_all (length h.records) h.records (omega arith))

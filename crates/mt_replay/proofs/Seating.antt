@@ -1,30 +1,7 @@
 -- A player's trees, and the rows of seats beside them.
-use Rattle.std.proofs.Common.{◌≡◌, ℕ, zero, Result, Ok, Err, IfOk, suc, ◌+◌, ◌<◌, ◌≤◌, List, [], ◌∷◌, ◌++◌, Some, None, length, map, All, slice_get, slice_set, get_or, arith, refl, sym, ap, ◌∙◌, subst, inl, inr, length-append, Vec, Global}
-use Rattle.std.specs.List.{AllByRecursion, range_with_len}
-use Rattle.std.specs.Option.{option_map}
-use Rattle.std.specs.Vec.{with_item}
-use Rattle.std.proofs.Math.Seq.{map-set_same}
-use Rattle.std.proofs.lemmas.Bool.{cases_eq}
-use Rattle.std.proofs.lemmas.List.{get_or_default, get_or-set_other, get_or-set_same, length-map, length-set, map-append}
-use Rattle.std.proofs.lemmas.List.Elements.{All-from_recursion, All-push}
-use Rattle.std.proofs.lemmas.Option.{slice_get_read, slice_get-map}
-use Rattle.mt_base.specs.declared.kinds.Kind.{Kind}
-use Rattle.mt_base.specs.declared.ranges.Range.{Range}
-use Rattle.mt_base.specs.History.{History, last_map}
-use Rattle.mt_base.specs.Passes.{Pass, IsSettled, new_pass}
-use Rattle.mt_log.specs.declared.transcripts.Entry.{Entry}
+use Rattle.mt_replay.proofs.Prelude.{◌≡◌, ℕ, zero, Result, Ok, Err, IfOk, suc, ◌+◌, ◌<◌, ◌≤◌, List, [], ◌∷◌, ◌++◌, Some, None, length, map, All, slice_get, slice_set, get_or, arith, refl, sym, ap, ◌∙◌, subst, inl, inr, length-append, Vec, Global, AllByRecursion, range_with_len, option_map, with_item, map-set_same, cases_eq, get_or_default, get_or-set_other, get_or-set_same, length-map, length-set, map-append, All-from_recursion, All-push, slice_get_read, slice_get-map, Kind, Range, History, last_map, Pass, IsSettled, new_pass, Entry, KnownTree, renamed, Tracked, new_history, new_tracked, all_at, new_is_settled, SharedTree, Player, AreCounts, IsCountOf, AreAll, IsNewTree, calls_taken, seen_by, tracked_of, PlayerState, Checks, Copies, HasRanges, IsBetweenPhases, IsClosed, IsCopyIn, rows_known, player_state, tracked_in}
 use Rattle.mt_log.specs.declared.transcripts.Said.TheVariants as said
-use Rattle.mt_log.specs.declared.trees.KnownTree.{KnownTree}
-use Rattle.mt_log.specs.Trees.{renamed}
-use Rattle.mt_linearize.specs.Phases.{Tracked, new_history, new_tracked}
-use Rattle.mt_linearize.proofs.LanePasses.{all_at}
-use Rattle.mt_linearize.proofs.Starting.{new_is_settled}
-use Rattle.mt_desks.specs.Desks.{SharedTree}
 use Rattle.mt_replay.specs.declared.counts.Counted.{Counted}
-use Rattle.mt_replay.specs.declared.players.Player.{Player}
-use Rattle.mt_replay.specs.Counts.{AreCounts, IsCountOf}
-use Rattle.mt_replay.specs.Trees.{AreAll, IsNewTree, calls_taken, seen_by, tracked_of}
-use Rattle.mt_replay.specs.Players.{PlayerState, Checks, Copies, HasRanges, IsBetweenPhases, IsClosed, IsCopyIn, rows_known, player_state, tracked_in}
 use Rattle.mt_replay.proofs.Recounting.{count_at, counts_long, counts_push, counts_set}
 
 -- ---- side by side

@@ -1,14 +1,5 @@
 -- The trees are settled one by one, each with the row of its passes.
-use Rattle.std.proofs.Common.{◌≡◌, ℕ, ◌+◌, ◌<◌, ◌≤◌, List, [], ◌∷◌, ◌++◌, length, map, take, drop, get_or, slice_set, arith, refl, sym, ap, ◌∙◌, subst, inl, inr, Vec, Global}
-use Rattle.std.proofs.lemmas.Bool.{cases_eq}
-use Rattle.std.proofs.lemmas.List.{length-map, length-set, get_or_default, get_or-set_same, get_or-set_other}
-use Rattle.std.specs.Vec.{with_items}
-use Rattle.mt_base.specs.Passes.{Pass, Settled}
-use Rattle.mt_linearize.proofs.LanePasses.{some_at}
-use Rattle.mt_desks.specs.Desks.{SharedTree}
-use Rattle.mt_replay.specs.Lanes.{AreSettled}
-use Rattle.mt_replay.specs.Players.{rows_known}
-use Rattle.mt_replay.specs.Trees.{AreAll, seen_by}
+use Rattle.mt_replay.proofs.Prelude.{◌≡◌, ℕ, ◌+◌, ◌<◌, ◌≤◌, List, [], ◌∷◌, ◌++◌, length, map, take, drop, get_or, slice_set, arith, refl, sym, ap, ◌∙◌, subst, inl, inr, Vec, Global, cases_eq, length-map, length-set, get_or_default, get_or-set_same, get_or-set_other, with_items, Pass, Settled, some_at, SharedTree, AreSettled, rows_known, AreAll, seen_by}
 use Rattle.mt_replay.proofs.LanesRun.{of_mapped, within_mapped}
 
 take_front : {X : Type 0} (xs ys : List X) → take (length xs) (xs ++ ys) ≡ xs

@@ -1,15 +1,5 @@
 -- A tree's settled passes stay as they are where one of them has seen the whole history by itself and all are settled again.
-use Rattle.std.proofs.Common.{◌≡◌, ◌⊎◌, ℕ, zero, suc, ◌-◌, ◌<◌, ◌≤◌, List, [], ◌∷◌, ◌++◌, Some, length, map, take, drop, slice_get, slice_set, get_or, arith, refl, sym, ap, ◌∙◌, subst, inl, inr, Vec, Global}
-use Rattle.std.proofs.lemmas.List.{length-set, map-set, length-map, take-append-le, take_all}
-use Rattle.std.specs.Option.{option_map}
-use Rattle.std.proofs.lemmas.Option.{slice_get_read, slice_get-map}
-use Rattle.mt_base.specs.History.{Record, History}
-use Rattle.mt_base.specs.Passes.{Pass, IsSettled, Saw, Settled, with_records}
-use Rattle.mt_linearize.specs.Gone.{OnlySaw}
-use Rattle.mt_linearize.proofs.LanePasses.{all_at}
-use Rattle.mt_linearize.proofs.Lists.{same_some, set_here}
-use Rattle.mt_linearize.proofs.Totals.{stay}
-use Rattle.mt_replay.specs.Trees.{seen_by}
+use Rattle.mt_replay.proofs.Prelude.{◌≡◌, ◌⊎◌, ℕ, zero, suc, ◌-◌, ◌<◌, ◌≤◌, List, [], ◌∷◌, ◌++◌, Some, length, map, take, drop, slice_get, slice_set, get_or, arith, refl, sym, ap, ◌∙◌, subst, inl, inr, Vec, Global, length-set, map-set, length-map, take-append-le, take_all, option_map, slice_get_read, slice_get-map, Record, History, Pass, IsSettled, Saw, Settled, with_records, OnlySaw, all_at, same_some, set_here, stay, seen_by}
 
 -- how many calls the tree has is not read
 saw_in : (h : History) (records : List Record) (p q : Pass) → Saw h p q → Saw (with_records h records) p q

@@ -1,18 +1,5 @@
 -- What the lanes were answered is told behind what was told before, in the order of the log.
-use Rattle.std.proofs.Common.{◌≡◌, ◌≢◌, ℕ, zero, suc, ◌+◌, ◌<◌, List, [], ◌∷◌, ◌++◌, length, map, get_or, arith, refl, sym, ap, ◌∙◌, subst}
-use Rattle.std.specs.List.{AllByRecursion}
-use Rattle.std.proofs.lemmas.List.{get_or-map, length-map}
-use Rattle.mt_log.specs.declared.lines.Line.{Line}
-use Rattle.mt_log.specs.declared.transcripts.Entry.{Entry}
-use Rattle.mt_log.specs.Run.{Asked, Step, entry_of}
-use Rattle.mt_linearize.specs.Rooms.{asked_of_lane, AreDoneEach, take_turns, lanes_of, answers_joined}
-use Rattle.mt_linearize.specs.Tracks.{Pairs}
-use Rattle.mt_linearize.proofs.Lists.{every}
-use Rattle.mt_desks.specs.Dealing.{steps_in}
-use Rattle.mt_desks.specs.Turns.{in_turn, room_at}
-use Rattle.mt_desks.proofs.Linked.{answers_told}
-use Rattle.mt_replay.specs.Lanes.{room_before}
-use Rattle.mt_desks.proofs.Alone.{in_order, all_its_own}
+use Rattle.mt_replay.proofs.Prelude.{◌≡◌, ◌≢◌, ℕ, zero, suc, ◌+◌, ◌<◌, List, [], ◌∷◌, ◌++◌, length, map, get_or, arith, refl, sym, ap, ◌∙◌, subst, AllByRecursion, get_or-map, length-map, Line, Entry, Asked, Step, entry_of, asked_of_lane, AreDoneEach, take_turns, lanes_of, answers_joined, Pairs, every, steps_in, in_turn, room_at, answers_told, room_before, in_order, all_its_own}
 
 -- what stands in the rooms of several lanes before they start
 empty_before : (lane : ℕ) → room_before [] lane ≡ []

@@ -1,16 +1,5 @@
 -- Trees and the rows of their passes, place by place.
-use Rattle.std.proofs.Common.{◌≡◌, ℕ, zero, suc, List, [], ◌∷◌, Some, slice_get, arith, refl, sym}
-use Rattle.std.specs.List.{All}
-use Rattle.std.proofs.lemmas.Option.{slice_get-get_or, slice_get_within}
-use Rattle.mt_base.specs.History.{Record, History}
-use Rattle.mt_base.specs.Passes.{Pass, with_records}
-use Rattle.mt_log.specs.Run.{Outcome, Called, Looked, Counted}
-use Rattle.mt_linearize.specs.Leads.{Does, Leads}
-use Rattle.mt_linearize.specs.Phases.{Tracked}
-use Rattle.mt_linearize.proofs.Lists.{same_some}
-use Rattle.mt_desks.specs.Desks.{SharedTree}
-use Rattle.mt_replay.specs.Players.{tracked_in}
-use Rattle.mt_replay.specs.Trees.{seen_by, tracked_of}
+use Rattle.mt_replay.proofs.Prelude.{◌≡◌, ℕ, zero, suc, List, [], ◌∷◌, Some, slice_get, arith, refl, sym, All, slice_get-get_or, slice_get_within, Record, History, Pass, with_records, Outcome, Called, Looked, Counted, Does, Leads, Tracked, same_some, SharedTree, tracked_in, seen_by, tracked_of}
 
 pub all_from : {X : Type 0} (P : X → Type 0) (xs : List X) → ((i : ℕ) (x : X) → slice_get xs i ≡ Some x → P x) → All P xs
 all_from P xs h = λ i d within. h i _ (slice_get-get_or xs i d within)

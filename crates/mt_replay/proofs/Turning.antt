@@ -1,20 +1,5 @@
 -- The turns of a phase's lanes, and of all phases of a log.
-use Rattle.std.proofs.Common.{◌≡◌, ℕ, zero, suc, ◌+◌, ◌*◌, ◌-◌, ◌<◌, ◌≤◌, ◌==◌, ◌&&◌, true, false, List, [], ◌∷◌, ◌++◌, length, take, drop, max, get_or, slice_range, arith, refl, sym, ap, ◌∙◌, subst, inl, inr}
-use Rattle.std.proofs.lemmas.Bool.{cases_Bool, cases_lt, eq-eqb, false≢true, ne_eqb}
-use Rattle.std.proofs.lemmas.List.{drop_more, take-append-drop}
-use Rattle.mt_log.specs.declared.lines.Item.{Item}
-use Rattle.mt_log.specs.declared.lines.Item.TheVariants.{Join}
-use Rattle.mt_log.specs.declared.lines.Line.{Line}
-use Rattle.mt_log.specs.declared.transcripts.Entry.{Entry}
-use Rattle.mt_log.specs.Run.{lane_after}
-use Rattle.mt_linearize.proofs.LanePasses.{some_at}
-use Rattle.mt_lanes.specs.declared.lanes.Lane.{Lane}
-use Rattle.mt_desks.specs.declared.desks.LaneDesk.{LaneDesk}
-use Rattle.mt_desks.specs.Dealing.{IsOnePhase, is_join, is_step, lanes_in, lines_of_lane}
-use Rattle.mt_desks.specs.Phases.{FromEach}
-use Rattle.mt_replay.specs.Lanes.{AreLanesFor, IsLaneFor, room_before}
-use Rattle.mt_replay.specs.Phases.{NoJoinBetween}
-use Rattle.mt_replay.specs.Turns.{AllTurned, AreTurned, PhaseTurned, done_behind}
+use Rattle.mt_replay.proofs.Prelude.{◌≡◌, ℕ, zero, suc, ◌+◌, ◌*◌, ◌-◌, ◌<◌, ◌≤◌, ◌==◌, ◌&&◌, true, false, List, [], ◌∷◌, ◌++◌, length, take, drop, max, get_or, slice_range, arith, refl, sym, ap, ◌∙◌, subst, inl, inr, cases_Bool, cases_lt, eq-eqb, false≢true, ne_eqb, drop_more, take-append-drop, Item, Join, Line, Entry, lane_after, some_at, Lane, LaneDesk, IsOnePhase, is_join, is_step, lanes_in, lines_of_lane, FromEach, AreLanesFor, IsLaneFor, room_before, NoJoinBetween, AllTurned, AreTurned, PhaseTurned, done_behind}
 use Rattle.mt_replay.proofs.LogPhases.{join_is, no_joins}
 
 -- ---- the lanes of a phase

@@ -1,8 +1,7 @@
 -- How many ranges a tree had, and after how many of its calls.
 -- Source: this project's own.
 use Rattle.std.specs.Prelude.{◌≡◌, ◌≤◌, List, [], ◌∷◌, length}
-use Rattle.mt_base.specs.History.{History, map_at}
-use Rattle.mt_linearize.specs.Phases.{Tracked}
+use Rattle.mt_replay.specs.Prelude.{History, map_at, Tracked}
 use Rattle.mt_replay.specs.declared.counts.Counted.{Counted}
 
 -- The tree has had so many calls, and had so many ranges after them.

@@ -2,21 +2,7 @@
 -- Source: this project's own.
 use Rattle.std.specs.Prelude.{◌≡◌, ◌≢◌, ◌+◌, ◌<◌, ◌≤◌, ◌++◌, ℕ, zero, suc, Some, None, false, All, List, [], length, map, slice_get, slice_index_or, vec_len, vec_capacity, Vec}
 use Rattle.std.specs.Global.{Global}
-use Rattle.mt_base.specs.Passes.{Pass, Settled}
-use Rattle.mt_log.specs.declared.lines.Line.{Line}
-use Rattle.mt_log.specs.declared.transcripts.Entry.{Entry}
-use Rattle.mt_log.specs.Phases.{AreInPlaceFrom}
-use Rattle.mt_log.specs.Run.{Step, entry_of}
-use Rattle.mt_log.specs.Trees.{AreNamedFrom, most_lanes, trees_of}
-use Rattle.mt_linearize.specs.Gone.{HaveGone}
-use Rattle.mt_linearize.specs.Lines.{lane_behind, phase_behind}
-use Rattle.mt_linearize.specs.Rooms.{asked_of_lane, AreDoneEach, take_turns, lanes_of, answers_joined}
-use Rattle.mt_linearize.specs.Tracks.{Pairs}
-use Rattle.mt_lanes.specs.declared.lanes.Lane.{Lane}
-use Rattle.mt_desks.specs.declared.desks.LaneDesk.{LaneDesk}
-use Rattle.mt_desks.specs.Dealing.{IsOnePhase, lanes_in, lines_of_lane, room_of, steps_in}
-use Rattle.mt_desks.specs.Desks.{AreAnsweredUnless, AreLines, IsSomeWorn, SharedTree}
-use Rattle.mt_desks.specs.Phases.{AtEach}
+use Rattle.mt_replay.specs.Prelude.{Pass, Settled, Line, Entry, AreInPlaceFrom, Step, entry_of, AreNamedFrom, most_lanes, trees_of, HaveGone, lane_behind, phase_behind, asked_of_lane, AreDoneEach, take_turns, lanes_of, answers_joined, Pairs, Lane, LaneDesk, IsOnePhase, lanes_in, lines_of_lane, room_of, steps_in, AreAnsweredUnless, AreLines, IsSomeWorn, SharedTree, AtEach}
 use Rattle.mt_replay.specs.Players.{rows_known}
 use Rattle.mt_replay.specs.Trees.{AreAll, calls_taken, seen_by}
 

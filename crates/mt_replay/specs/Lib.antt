@@ -6,3 +6,4 @@ pub mod Phases
 pub mod Players
 pub mod Trees
 pub mod Turns
+pub mod Prelude

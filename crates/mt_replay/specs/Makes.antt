@@ -3,12 +3,7 @@
 use Rattle.std.specs.Prelude.{◌≡◌, ℕ, IfOk, List, [], ◌∷◌, Result, length, map, take, Vec}
 use Rattle.std.specs.Global.{Global}
 use Rattle.std.specs.List.{flat_map}
-use Rattle.mt_base.specs.declared.kinds.Kind.{Kind}
-use Rattle.mt_base.specs.Passes.{Pass}
-use Rattle.mt_log.specs.declared.lines.Item.{Item}
-use Rattle.mt_log.specs.declared.lines.Item.TheVariants.{Tree}
-use Rattle.mt_log.specs.declared.lines.Line.{Line}
-use Rattle.mt_desks.specs.Desks.{SharedTree}
+use Rattle.mt_replay.specs.Prelude.{Kind, Pass, Item, Tree, Line, SharedTree}
 use Rattle.mt_replay.specs.Trees.{AreAll, IsNewTree}
 
 -- the kind of the empty tree that a line declares, if it declares one

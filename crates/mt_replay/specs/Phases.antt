@@ -1,8 +1,7 @@
 -- That a stretch of a log is of one phase.
 -- Source: this project's own, the language of logs.
 use Rattle.std.specs.Prelude.{◌≡◌, ◌≤◌, ◌<◌, ℕ, false, List, slice_index_or}
-use Rattle.mt_log.specs.declared.lines.Line.{Line}
-use Rattle.mt_desks.specs.Dealing.{is_join}
+use Rattle.mt_replay.specs.Prelude.{Line, is_join}
 
 -- none of the lines from one place of a log to another ends a phase
 abbrev pub NoJoinBetween : List Line → ℕ → ℕ → Type 0

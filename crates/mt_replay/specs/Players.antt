@@ -2,26 +2,8 @@
 -- Source: this project's own.
 use Rattle.std.specs.Prelude.{◌≡◌, ◌<◌, ◌≤◌, ℕ, All, List, [], ◌∷◌, ◌++◌, Some, None, length, map, slice_get, slice_index_or, Vec}
 use Rattle.std.specs.Global.{Global}
-use Rattle.mt_base.specs.declared.kinds.Kind.{Kind}
-use Rattle.mt_base.specs.declared.ranges.Range.{Range}
-use Rattle.mt_base.specs.History.{last_map}
-use Rattle.mt_base.specs.Passes.{Pass, IsSettled}
-use Rattle.mt_base.specs.Width.{most_rows}
-use Rattle.mt_image.specs.Images.{IsImageOfMap}
-use Rattle.mt_log.specs.declared.lines.Item.{Item}
-use Rattle.mt_log.specs.declared.lines.Item.TheVariants.{Tree, Dup, Check}
-use Rattle.mt_log.specs.declared.lines.Line.{Line}
-use Rattle.mt_log.specs.declared.transcripts.Entry.{Entry}
-use Rattle.mt_log.specs.declared.transcripts.Said.{Said}
+use Rattle.mt_replay.specs.Prelude.{Kind, Range, last_map, Pass, IsSettled, most_rows, IsImageOfMap, Item, Tree, Dup, Check, Line, Entry, Said, KnownTree, Step, AreDone, entry_of, steps_of, renamed, trees_of, CountsRanges, Tracked, new_tracked, Ran, counts_in, SharedTree}
 use Rattle.mt_log.specs.declared.transcripts.Said.TheVariants as said
-use Rattle.mt_log.specs.declared.trees.KnownTree.{KnownTree}
-use Rattle.mt_log.specs.Run.{Step, AreDone, entry_of, steps_of}
-use Rattle.mt_log.specs.Trees.{renamed, trees_of}
-use Rattle.mt_linearize.specs.Gone.{CountsRanges}
-use Rattle.mt_linearize.specs.Phases.{Tracked, new_tracked}
-use Rattle.mt_linearize.specs.Tracks.{Ran}
-use Rattle.mt_desks.specs.Dealing.{counts_in}
-use Rattle.mt_desks.specs.Desks.{SharedTree}
 use Rattle.mt_replay.specs.declared.players.Player.{Player}
 use Rattle.mt_replay.specs.Counts.{AreCounts}
 use Rattle.mt_replay.specs.Trees.{AreAll, IsNewTree, calls_taken, fewest_rows, most_passes, tracked_of}

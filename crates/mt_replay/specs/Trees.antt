@@ -2,13 +2,7 @@
 -- Source: this project's own.
 use Rattle.std.specs.Prelude.{◌≡◌, ◌+◌, ◌-◌, ◌^◌, ℕ, Some, All, List, [], ◌∷◌, length, map, slice_get}
 use Rattle.std.specs.List.{range_with_len}
-use Rattle.mt_base.specs.declared.kinds.Kind.{Kind}
-use Rattle.mt_base.specs.declared.ranges.Range.{Range}
-use Rattle.mt_base.specs.History.{History, last_map}
-use Rattle.mt_base.specs.Passes.{Pass, new_pass, with_records}
-use Rattle.mt_log.specs.Trees.{most_lanes}
-use Rattle.mt_linearize.specs.Phases.{Tracked, new_history}
-use Rattle.mt_desks.specs.Desks.{SharedTree}
+use Rattle.mt_replay.specs.Prelude.{Kind, Range, History, last_map, Pass, new_pass, with_records, most_lanes, Tracked, new_history, SharedTree}
 
 -- a tree of a player has four rows at least, as many as the first call may need
 abbrev pub fewest_rows : ℕ

@@ -1,10 +1,7 @@
 -- Which turns of the gate the lanes of a log take.
 -- Source: this project's own, the language of logs.
 use Rattle.std.specs.Prelude.{◌≡◌, ◌<◌, ◌+◌, ◌*◌, ◌==◌, ◌&&◌, ℕ, true, List, [], ◌∷◌, length, if◌then◌else◌}
-use Rattle.mt_log.specs.declared.lines.Item.{Item}
-use Rattle.mt_log.specs.declared.lines.Line.{Line}
-use Rattle.mt_log.specs.Run.{lane_after}
-use Rattle.mt_desks.specs.Dealing.{is_join, is_step, lines_of_lane}
+use Rattle.mt_replay.specs.Prelude.{Item, Line, lane_after, is_join, is_step, lines_of_lane}
 
 -- each lane took both turns of each of its lines of a phase
 abbrev pub PhaseTurned : (ℕ → ℕ → Type 0) → List Line → Type 0

@@ -1,15 +1,5 @@
 -- Where the ranges of a map lie, and a store that leaves what lies below it and above it.
-use Rattle.std.proofs.Common.{◌≡◌, ℕ, zero, suc, ◌+◌, ◌-◌, ◌<◌, ◌≤◌, ◌==◌, List, [], ◌∷◌, ◌++◌, min, max, nat_lt, false, refl, ap, ◌∙◌, inl, inr, arith, append-nil, append_assoc}
-use Rattle.std.specs.List.{AllByRecursion, flat_map}
-use Rattle.std.proofs.lemmas.Bool.{cases_Bool, lt-ltb, le-ltb}
-use Rattle.mt_base.specs.declared.ranges.Range.{Range}
-use Rattle.mt_base.specs.Map.{over, parts_below, parts_above, part_stored, cut_below, cut_above}
-use Rattle.mt_base.proofs.Lists.{all_map}
-use Rattle.mt_layout.specs.declared.spans.Span.{Span}
-use Rattle.mt_layout.specs.Spans.{leaf_range, Fills}
-use Rattle.mt_layout.proofs.SpanLists.{fills_le}
-use Rattle.mt_rows.specs.Levels.{expand, map_of, Levels}
-use Rattle.mt_rows.specs.Laws.{Tree, IsRow}
+use Rattle.mt_rows.proofs.Prelude.{◌≡◌, ℕ, zero, suc, ◌+◌, ◌-◌, ◌<◌, ◌≤◌, ◌==◌, List, [], ◌∷◌, ◌++◌, min, max, nat_lt, false, refl, ap, ◌∙◌, inl, inr, arith, append-nil, append_assoc, AllByRecursion, flat_map, cases_Bool, lt-ltb, le-ltb, Range, over, parts_below, parts_above, part_stored, cut_below, cut_above, all_map, Span, leaf_range, Fills, fills_le, expand, map_of, Levels, Tree, IsRow}
 use Rattle.mt_rows.proofs.Lists.{Filled, expand_fills}
 -- this stands below; here it is for the crates above
 pub use Rattle.mt_layout.proofs.SpanLists.{fills_split}

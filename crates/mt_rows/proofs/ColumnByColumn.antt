@@ -1,15 +1,6 @@
 -- The columns of a row are drafted one after another.
-use Rattle.std.proofs.Common.{◌≡◌, ◌≢◌, ◌⊎◌, ℕ, zero, suc, ◌+◌, ◌*◌, ◌<◌, ◌≤◌, List, [], ◌∷◌, length, refl, sym, ap, ◌∙◌, arith, subst, ⊎_elim, inl, inr, get_or-set_other, get_or-set_same, set, length-set}
-use Rattle.std.specs.Prelude.{slice_index, slice_set}
-use Rattle.std.proofs.lemmas.Bool.{cases_eq}
-use Rattle.mt_base.specs.declared.widths.Width.{Width}
-use Rattle.mt_base.specs.Width.{columns, first_row}
-use Rattle.mt_layout.proofs.Places.{place_within}
-use Rattle.mt_rows.specs.declared.rows.Life.{Life}
+use Rattle.mt_rows.proofs.Prelude.{◌≡◌, ◌≢◌, ◌⊎◌, ℕ, zero, suc, ◌+◌, ◌*◌, ◌<◌, ◌≤◌, List, [], ◌∷◌, length, refl, sym, ap, ◌∙◌, arith, subst, ⊎_elim, inl, inr, get_or-set_other, get_or-set_same, set, length-set, slice_index, slice_set, cases_eq, Width, columns, first_row, place_within, Life, AreDrafted, base_of, Sheet, IsFree, IsPlace, IsWhole, drafted, life_of}
 use Rattle.mt_rows.specs.declared.rows.Life.TheVariants.{Draft, New}
-use Rattle.mt_rows.specs.Drafts.{AreDrafted}
-use Rattle.mt_rows.specs.Spans.{base_of}
-use Rattle.mt_rows.specs.Sheet.{Sheet, IsFree, IsPlace, IsWhole, drafted, life_of}
 
 set_twice : (l : List Life) (i : ℕ) (x : Life) → set (set l i x) i x ≡ set l i x
 set_twice [] i x = refl

@@ -1,13 +1,5 @@
 -- What the definitions by depth give at a depth above 0.
-use Rattle.std.proofs.Common.{◌≡◌, ◌≢◌, ℕ, zero, suc, ◌+◌, ◌-◌, ◌<◌, List, [], ◌∷◌, Option, Some, refl, ap, ◌∙◌, arith}
-use Rattle.std.specs.List.{flat_map, slice_get}
-use Rattle.mt_layout.specs.declared.names.RowKind.{RowKind}
-use Rattle.mt_layout.specs.declared.names.RowKind.TheVariants.{Leaf, Inner, Gapped}
-use Rattle.mt_layout.specs.Rows.{row_in, named_kind, named_row}
-use Rattle.mt_layout.specs.declared.spans.Span.{Span}
-use Rattle.mt_layout.specs.Spans.{leaf_range}
-use Rattle.mt_rows.specs.Spans.{Table, spans_in}
-use Rattle.mt_rows.specs.Trees.{by_kind, ranges_of, rows_of, levels_by, of_first, height_of}
+use Rattle.mt_rows.proofs.Prelude.{◌≡◌, ◌≢◌, ℕ, zero, suc, ◌+◌, ◌-◌, ◌<◌, List, [], ◌∷◌, Option, Some, refl, ap, ◌∙◌, arith, flat_map, slice_get, RowKind, Leaf, Inner, Gapped, row_in, named_kind, named_row, Span, leaf_range, Table, spans_in, by_kind, ranges_of, rows_of, levels_by, of_first, height_of}
 
 pub ranges_of_deeper : (t : Table) (depth : ℕ) (x : Span) → 0 < depth → ranges_of t depth x ≡ by_kind (named_kind x.word) (flat_map leaf_range (spans_in t x)) (flat_map (ranges_of t (depth - 1)) (spans_in t x))
 ranges_of_deeper t zero x deep = absurd (omega arith)

@@ -1,19 +1,6 @@
 -- By depth and by levels the words stand for the same: ranges, rows and height.
-use Rattle.std.proofs.Common.{◌≡◌, ℕ, zero, suc, Bool, ◌+◌, ◌<◌, ◌≤◌, ◌==◌, List, [], ◌∷◌, ◌++◌, Option, Some, length, refl, sym, ap, ◌∙◌, inl, inr, arith, append-nil}
-use Rattle.std.specs.List.{AllByRecursion, flat_map}
-use Rattle.std.proofs.lemmas.Bool.{cases_Bool}
-use Rattle.std.proofs.lemmas.Grind.{flat_map-append}
-use Rattle.mt_base.proofs.Lists.{all_map, all_front, all_back}
-use Rattle.mt_layout.specs.declared.names.RowKind.{RowKind}
-use Rattle.mt_layout.specs.declared.names.RowKind.TheVariants.{Leaf}
-use Rattle.mt_layout.specs.Rows.{row_in, named_kind}
+use Rattle.mt_rows.proofs.Prelude.{◌≡◌, ℕ, zero, suc, Bool, ◌+◌, ◌<◌, ◌≤◌, ◌==◌, List, [], ◌∷◌, ◌++◌, Option, Some, length, refl, sym, ap, ◌∙◌, inl, inr, arith, append-nil, AllByRecursion, flat_map, cases_Bool, flat_map-append, all_map, all_front, all_back, RowKind, Leaf, row_in, named_kind, Span, leaf_range, Table, spans_in, inner_of, expand, map_of, Levels, one_if, tally, times, is_row_of, by_kind, ranges_of, rows_of, levels_by, of_first, height_of, Tree, IsRow, kind_on, covers_all, least_of_root, least_of}
 use Rattle.mt_layout.proofs.RowSizes as sizes
-use Rattle.mt_layout.specs.declared.spans.Span.{Span}
-use Rattle.mt_layout.specs.Spans.{leaf_range}
-use Rattle.mt_rows.specs.Spans.{Table, spans_in, inner_of}
-use Rattle.mt_rows.specs.Levels.{expand, map_of, Levels, one_if, tally, times, is_row_of}
-use Rattle.mt_rows.specs.Trees.{by_kind, ranges_of, rows_of, levels_by, of_first, height_of}
-use Rattle.mt_rows.specs.Laws.{Tree, IsRow, kind_on, covers_all, least_of_root, least_of}
 use Rattle.mt_rows.proofs.Deeper.{by_kind_inner, levels_by_kind_inner}
 use Rattle.mt_rows.proofs.InnerKinds.{inner_no_leaf}
 use Rattle.mt_rows.proofs.Lists.{tally-append}

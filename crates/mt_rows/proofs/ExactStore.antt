@@ -1,36 +1,12 @@
 -- A store of an entry over just the indexes of a range may be published by one store of its slot.
-use Rattle.std.proofs.Common.{◌≡◌, ◌≢◌, ℕ, zero, ◌+◌, ◌<◌, ◌≤◌, ◌==◌, List, ◌∷◌, ◌++◌, Bool, true, false, map, refl, sym, ap, ◌∙◌, subst, inl, inr, arith, ne_eqb, le-ltb}
-use Rattle.std.proofs.lemmas.Bool.{cases_Bool, eqb-true}
-use Rattle.std.proofs.lemmas.List.{map-append}
-use Rattle.mt_base.specs.declared.ranges.Range.{Range}
-use Rattle.mt_base.specs.declared.widths.Width.{Width}
-use Rattle.mt_base.specs.declared.kinds.Kind.{Kind}
-use Rattle.mt_base.specs.declared.calls.Call.{Call}
-use Rattle.mt_base.specs.declared.calls.Call.TheVariants.{Store}
-use Rattle.mt_base.specs.Entry.{reserved}
-use Rattle.mt_base.specs.Map.{first_met, over}
-use Rattle.mt_base.specs.Call.{acted, replied}
-use Rattle.mt_base.specs.Width.{kind_width, greatest, greatest_of, deepest, first_row}
-use Rattle.mt_layout.specs.Rows.{row_in}
-use Rattle.mt_layout.specs.Columns.{slot_column}
-use Rattle.mt_layout.specs.declared.names.RowKind.TheVariants.{Leaf}
-use Rattle.mt_layout.specs.declared.spans.Span.{Span}
-use Rattle.mt_layout.specs.Sizes.{slots_of}
-use Rattle.mt_layout.proofs.RowSizes.{slot_within}
-use Rattle.mt_rows.specs.declared.rows.Place.TheVariants.{Slot}
-use Rattle.mt_rows.specs.Spans.{spans_in, root_span}
-use Rattle.mt_rows.specs.Levels.{level, map_of}
+use Rattle.mt_rows.proofs.Prelude.{◌≡◌, ◌≢◌, ℕ, zero, ◌+◌, ◌<◌, ◌≤◌, ◌==◌, List, ◌∷◌, ◌++◌, Bool, true, false, map, refl, sym, ap, ◌∙◌, subst, inl, inr, arith, ne_eqb, le-ltb, cases_Bool, eqb-true, map-append, Range, Width, Kind, Call, Store, reserved, first_met, over, acted, replied, kind_width, greatest, greatest_of, deepest, first_row, row_in, slot_column, Leaf, Span, slots_of, slot_within, Slot, spans_in, root_span, level, map_of, Sheet, Rooted, IsWhole, with_word, tree_as, IsToldKind, LiveAreReached, NoneBuried, MayPublish, IsPlaceToPublish, IsReached, StandsAt, KeepsPlace, SameHoles, ChangesRows, map_by, root_of, IsSlotAt}
 use Rattle.mt_rows.specs.Laws as laws
-use Rattle.mt_rows.specs.Sheet.{Sheet, Rooted, IsWhole, with_word}
-use Rattle.mt_rows.specs.Publish.{tree_as, IsToldKind, LiveAreReached, NoneBuried, MayPublish, IsPlaceToPublish, IsReached, StandsAt, KeepsPlace, SameHoles, ChangesRows, map_by}
-use Rattle.mt_rows.specs.Replacement.{root_of, IsSlotAt}
 use Rattle.mt_rows.proofs.Depth.{ranges_by_depth}
 use Rattle.mt_rows.proofs.Heights.{level_shared_above}
 use Rattle.mt_rows.proofs.SlotStore as store
 use Rattle.mt_rows.proofs.SlotEntry as exact
 use Rattle.mt_rows.proofs.Reached as reached
 use Rattle.mt_rows.proofs.FewSpans.{row_most}
-use Rattle.mt_layout.proofs.RowSizes.{slot_within}
 
 module _ (kind : Kind) (s : Sheet) (h slot entry : ℕ) (leaf item : Span) (whole : IsWhole s) (live : LiveAreReached s.tree s.lives) (none_buried : NoneBuried s.tree.rows s.buried) (told : IsToldKind s.kind kind) (width : s.tree.table.width ≡ kind_width kind)
     (stands : laws.Stands (tree_as kind s.tree) h) (at : IsSlotAt (tree_as kind s.tree) h leaf slot item) (old : item.word ≢ 0) (new : entry ≢ 0) (free : reserved entry ≡ false) where

@@ -1,24 +1,6 @@
 -- A tree has few rows beside its ranges: every inner row but the root has four children or more, and every leaf but the
 -- root three entries or more, since no two holes follow each other.
-use Rattle.std.proofs.Common.{◌≡◌, ◌≢◌, ℕ, zero, suc, ◌+◌, ◌*◌, ◌/◌, ◌^◌, ◌<◌, ◌≤◌, ◌==◌, List, [], ◌∷◌, ◌++◌, Bool, length, refl, sym, ap, ◌∙◌, subst, inl, inr, arith, append-nil, length-append}
-use Rattle.std.specs.Prelude.{if◌then◌else◌}
-use Rattle.std.specs.List.{AllByRecursion, flat_map}
-use Rattle.std.proofs.lemmas.Bool.{cases_Bool, eqb-true}
-use Rattle.std.proofs.lemmas.Grind.{flat_map-append}
-use Rattle.std.proofs.Math.Nat.{pow-succ'}
-use Rattle.mt_base.specs.declared.ranges.Range.{Range}
-use Rattle.mt_base.specs.Width.{deepest}
-use Rattle.mt_layout.specs.declared.names.RowKind.TheVariants.{Leaf}
-use Rattle.mt_layout.specs.Sizes.{least_items}
-use Rattle.mt_layout.specs.Rows.{row_in, named_kind}
-use Rattle.mt_layout.specs.declared.spans.Span.{Span}
-use Rattle.mt_layout.specs.Spans.{leaf_range, Fills, BeginsFull, Apart}
-use Rattle.mt_layout.proofs.RowSizes.{least_six}
-use Rattle.mt_rows.specs.Spans.{Table, spans_in, root_span}
-use Rattle.mt_rows.specs.Levels.{expand, map_of, Levels}
-use Rattle.mt_rows.specs.Trees.{rows_of, map_in, reached_in}
-use Rattle.mt_rows.specs.Laws.{Tree, IsRow, Stands, top_of}
-use Rattle.mt_rows.specs.Replacement.{root_of}
+use Rattle.mt_rows.proofs.Prelude.{◌≡◌, ◌≢◌, ℕ, zero, suc, ◌+◌, ◌*◌, ◌/◌, ◌^◌, ◌<◌, ◌≤◌, ◌==◌, List, [], ◌∷◌, ◌++◌, Bool, length, refl, sym, ap, ◌∙◌, subst, inl, inr, arith, append-nil, length-append, if◌then◌else◌, AllByRecursion, flat_map, cases_Bool, eqb-true, flat_map-append, pow-succ', Range, deepest, Leaf, least_items, row_in, named_kind, Span, leaf_range, Fills, BeginsFull, Apart, least_six, Table, spans_in, root_span, expand, map_of, Levels, rows_of, map_in, reached_in, Tree, IsRow, Stands, top_of, root_of}
 use Rattle.mt_rows.proofs.Depth.{IsLeaf, IsInner, leaves, inners, by_leaf, by_inner, ranges_by_depth, some_least}
 use Rattle.mt_rows.proofs.Once.{IsPart, inner_wide, expand_parts, rows_wide, wide_fills}
 use Rattle.mt_rows.proofs.NineLevels.{expand_four}

@@ -1,12 +1,5 @@
 -- No more spans stand in a row than it has slots, whatever its words are.
-use Rattle.std.proofs.Common.{◌≡◌, ℕ, ◌≤◌, length, sym, ap, ◌∙◌, subst}
-use Rattle.mt_layout.specs.declared.spans.Span.{Span}
-use Rattle.mt_layout.specs.Rows.{row_in}
-use Rattle.mt_layout.specs.Sizes.{slots_of, gaps_of}
-use Rattle.mt_layout.proofs.Reading.{few_items}
-use Rattle.mt_layout.proofs.SpanLists.{length-spans_from}
-use Rattle.mt_rows.specs.Spans.{base_of, spans_by, spans_in}
-use Rattle.mt_rows.specs.Laws.{Tree, NameLaw, kind_on, items_in}
+use Rattle.mt_rows.proofs.Prelude.{◌≡◌, ℕ, ◌≤◌, length, sym, ap, ◌∙◌, subst, Span, row_in, slots_of, gaps_of, few_items, length-spans_from, base_of, spans_by, spans_in, Tree, NameLaw, kind_on, items_in}
 
 pub row_most : {t : Tree} {h : ℕ} {x : Span} → NameLaw t h x → length (spans_in t.table x) ≤ slots_of t.table.width (kind_on t.gapped h)
 row_most {t} {h} {x} name =

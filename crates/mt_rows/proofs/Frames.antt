@@ -1,20 +1,5 @@
 -- The words of rows that are not reached do not count.
-use Rattle.std.proofs.Common.{◌≡◌, ℕ, zero, suc, ◌*◌, List, [], ◌∷◌, ◌++◌, Option, Some, None, refl, ap, sym, subst, ◌∙◌}
-use Rattle.std.specs.List.{AllByRecursion, flat_map}
-use Rattle.mt_base.specs.declared.widths.Width.{Width}
-use Rattle.mt_base.specs.Width.{columns}
-use Rattle.mt_base.proofs.Lists.{all_front, all_back}
-use Rattle.mt_layout.specs.declared.names.RowKind.{RowKind}
-use Rattle.mt_layout.specs.declared.names.RowKind.TheVariants.{Leaf, Inner, Gapped}
-use Rattle.mt_layout.specs.Rows.{row_in, named_kind}
-use Rattle.mt_layout.proofs.RowSizes.{layout_of}
-use Rattle.mt_layout.proofs.OwnColumns.{same_items}
-use Rattle.mt_layout.specs.declared.spans.Span.{Span}
-use Rattle.mt_layout.specs.Spans.{spans_from, leaf_range}
-use Rattle.mt_layout.specs.Sizes.{slots_of, gaps_of}
-use Rattle.mt_rows.specs.Spans.{Table, row_spans, spans_by, spans_in}
-use Rattle.mt_rows.specs.Levels.{SameColumns, SameSpans}
-use Rattle.mt_rows.specs.Trees.{by_kind, ranges_of, rows_of}
+use Rattle.mt_rows.proofs.Prelude.{◌≡◌, ℕ, zero, suc, ◌*◌, List, [], ◌∷◌, ◌++◌, Option, Some, None, refl, ap, sym, subst, ◌∙◌, AllByRecursion, flat_map, Width, columns, all_front, all_back, RowKind, Leaf, Inner, Gapped, row_in, named_kind, layout_of, same_items, Span, spans_from, leaf_range, slots_of, gaps_of, Table, row_spans, spans_by, spans_in, SameColumns, SameSpans, by_kind, ranges_of, rows_of}
 
 abbrev Agree : Table → Table → ℕ → Type 0
 Agree t t' row = SameColumns t t' (columns t.width) row

@@ -1,25 +1,5 @@
 -- One store of a gap word in a slot of a row that is reached: the tree keeps its rows and what stands in them.
-use Rattle.std.proofs.Common.{◌≡◌, ◌≢◌, ℕ, suc, ◌+◌, ◌*◌, ◌<◌, ◌≤◌, List, Option, true, length, sym, ap, ◌∙◌, subst, ⊎_elim, arith, get_or-set_other, get_or-set_same, refl}
-use Rattle.std.specs.Prelude.{slice_index, slice_set}
-use Rattle.std.proofs.lemmas.Bool.{cases_eq}
-use Rattle.mt_base.specs.declared.widths.Width.{Width}
-use Rattle.mt_base.specs.Width.{columns, first_row}
-use Rattle.mt_layout.specs.declared.names.RowKind.{RowKind}
-use Rattle.mt_layout.specs.declared.names.RowKind.TheVariants.{Gapped}
-use Rattle.mt_layout.specs.declared.spans.Span.{Span}
-use Rattle.mt_layout.specs.Columns.{gap_column, row_words}
-use Rattle.mt_layout.specs.Rows.{row_in}
-use Rattle.mt_layout.specs.Sizes.{slots_of, gaps_of}
-use Rattle.mt_layout.specs.Spans.{spans_from, Fills}
-use Rattle.mt_layout.proofs.Places.{other_place, place_within}
-use Rattle.mt_layout.proofs.RowSizes.{some_slots_of, all_gaps_of, gap_within}
-use Rattle.mt_layout.proofs.SpanLists.{length-spans_from}
-use Rattle.mt_rows.specs.Spans.{base_of, column, spans_by, spans_in}
-use Rattle.mt_rows.specs.Levels.{Levels, SameColumns, SameSpans}
-use Rattle.mt_rows.specs.Laws.{Tree, HasWords, IsRow, Stands, least_of, items_in, words_in}
-use Rattle.mt_rows.specs.Publish.{tree_on}
-use Rattle.mt_rows.specs.Replacement.{root_of}
-use Rattle.mt_rows.specs.Sheet.{Rooted, with_word}
+use Rattle.mt_rows.proofs.Prelude.{◌≡◌, ◌≢◌, ℕ, suc, ◌+◌, ◌*◌, ◌<◌, ◌≤◌, List, Option, true, length, sym, ap, ◌∙◌, subst, ⊎_elim, arith, get_or-set_other, get_or-set_same, refl, slice_index, slice_set, cases_eq, Width, columns, first_row, RowKind, Gapped, Span, gap_column, row_words, row_in, slots_of, gaps_of, spans_from, Fills, other_place, place_within, some_slots_of, all_gaps_of, gap_within, length-spans_from, base_of, column, spans_by, spans_in, Levels, SameColumns, SameSpans, Tree, HasWords, IsRow, Stands, least_of, items_in, words_in, tree_on, root_of, Rooted, with_word}
 use Rattle.mt_rows.proofs.FewSpans.{row_most}
 use Rattle.mt_rows.proofs.Frames.{same_spans}
 use Rattle.mt_rows.proofs.GapWords.{put_gap, spans_from-put_gap, other_column, gap_here, items_at-put_gap, row_words-put_gap, row_words-gap_inside}

@@ -1,13 +1,5 @@
 -- The gap word of one slot is stored: the item in that slot has another gap, and nothing else of its row changes.
-use Rattle.std.proofs.Common.{◌≡◌, ◌≢◌, ℕ, zero, suc, ◌+◌, ◌-◌, ◌*◌, ◌<◌, ◌≤◌, ◌==◌, List, [], ◌∷◌, ◌++◌, false, length, map, take, replicate, refl, sym, ap, ◌∙◌, subst, arith, length-append, get_or-set_other, get_or-set_same, ne_eqb}
-use Rattle.std.specs.Prelude.{slice_index, slice_set}
-use Rattle.std.proofs.lemmas.List.{length-map, set-append_right}
-use Rattle.mt_layout.specs.declared.items.Item.{Item}
-use Rattle.mt_layout.specs.declared.spans.Span.{Span}
-use Rattle.mt_layout.specs.Columns.{pivot_column, slot_column, gap_column, gap_at, item_at, items_at, padded_to, pivot_words, slot_words, gap_words, row_words}
-use Rattle.mt_layout.specs.Spans.{spans_from}
-use Rattle.mt_layout.proofs.Reading.{gap_at-some}
-use Rattle.mt_layout.proofs.RowWords.{length-pivots, length-slots}
+use Rattle.mt_rows.proofs.Prelude.{◌≡◌, ◌≢◌, ℕ, zero, suc, ◌+◌, ◌-◌, ◌*◌, ◌<◌, ◌≤◌, ◌==◌, List, [], ◌∷◌, ◌++◌, false, length, map, take, replicate, refl, sym, ap, ◌∙◌, subst, arith, length-append, get_or-set_other, get_or-set_same, ne_eqb, slice_index, slice_set, length-map, set-append_right, Item, Span, pivot_column, slot_column, gap_column, gap_at, item_at, items_at, padded_to, pivot_words, slot_words, gap_words, row_words, spans_from, gap_at-some, length-pivots, length-slots}
 use Rattle.mt_rows.proofs.SlotWords.{padded_to-set}
 use Rattle.mt_rows.proofs.OneItem.{put_one, put_one-same, put_one-set, items_at-put_one}
 

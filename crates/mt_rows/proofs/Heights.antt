@@ -1,12 +1,5 @@
 -- A tree split at a depth: its upper levels, and what stands below them.
-use Rattle.std.proofs.Common.{◌≡◌, ℕ, zero, suc, ◌+◌, List, [], ◌∷◌, Bool, false, refl, sym, ap, ◌∙◌, subst, arith}
-use Rattle.std.specs.List.{AllByRecursion}
-use Rattle.mt_base.proofs.Lists.{all_map}
-use Rattle.mt_layout.specs.declared.spans.Span.{Span}
-use Rattle.mt_layout.specs.Spans.{Fills}
-use Rattle.mt_rows.specs.Spans.{Table}
-use Rattle.mt_rows.specs.Levels.{expand, level, map_of, Levels, tally, times}
-use Rattle.mt_rows.specs.Laws.{Tree, IsRow}
+use Rattle.mt_rows.proofs.Prelude.{◌≡◌, ℕ, zero, suc, ◌+◌, List, [], ◌∷◌, Bool, false, refl, sym, ap, ◌∙◌, subst, arith, AllByRecursion, all_map, Span, Fills, Table, expand, level, map_of, Levels, tally, times, Tree, IsRow}
 use Rattle.mt_rows.proofs.Lists.{Filled, expand_fills}
 use Rattle.mt_rows.proofs.Joins.{Shared, expand_shared}
 use Rattle.mt_rows.proofs.Once.{tally_nowhere}

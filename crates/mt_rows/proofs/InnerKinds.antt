@@ -1,8 +1,5 @@
 -- The inner rows of a tree are no leaves.
-use Rattle.std.proofs.Common.{◌≡◌, ◌≢◌, ℕ, zero, suc, Bool, true, false, Some, refl}
-use Rattle.mt_layout.specs.declared.names.RowKind.TheVariants.{Leaf}
-use Rattle.mt_rows.specs.Spans.{inner_of}
-use Rattle.mt_rows.specs.Laws.{kind_on}
+use Rattle.mt_rows.proofs.Prelude.{◌≡◌, ◌≢◌, ℕ, zero, suc, Bool, true, false, Some, refl, Leaf, inner_of, kind_on}
 
 pub inner_no_leaf : (gapped : Bool) → inner_of gapped ≢ Leaf
 inner_no_leaf false = λ e. cc

@@ -1,12 +1,5 @@
 -- Rows of a height side by side: what stands for them together, and what two tables that share their spans have in common.
-use Rattle.std.proofs.Common.{◌≡◌, ℕ, zero, suc, ◌+◌, List, [], ◌∷◌, ◌++◌, Bool, refl, sym, ap, ◌∙◌, subst, arith}
-use Rattle.std.specs.List.{AllByRecursion, flat_map}
-use Rattle.std.proofs.lemmas.Grind.{flat_map-append}
-use Rattle.mt_base.proofs.Lists.{all_front, all_back, all_join}
-use Rattle.mt_layout.specs.declared.spans.Span.{Span}
-use Rattle.mt_layout.specs.Spans.{leaf_range}
-use Rattle.mt_rows.specs.Spans.{Table}
-use Rattle.mt_rows.specs.Levels.{expand, level, map_of, Levels, tally, times, SameSpans}
+use Rattle.mt_rows.proofs.Prelude.{◌≡◌, ℕ, zero, suc, ◌+◌, List, [], ◌∷◌, ◌++◌, Bool, refl, sym, ap, ◌∙◌, subst, arith, AllByRecursion, flat_map, flat_map-append, all_front, all_back, all_join, Span, leaf_range, Table, expand, level, map_of, Levels, tally, times, SameSpans}
 use Rattle.mt_rows.proofs.Lists.{tally-append, expand-append}
 
 pub map_of-append : (t : Table) (h : ℕ) (xs ys : List Span) → map_of t h (xs ++ ys) ≡ map_of t h xs ++ map_of t h ys

@@ -38,3 +38,4 @@ pub mod SlotChild
 pub mod SlotEntry
 pub mod SlotStore
 pub mod SlotWords
+mod Prelude

@@ -1,11 +1,5 @@
 -- What stands in rows side by side, and what holds of the rows of a level.
-use Rattle.std.proofs.Common.{◌≡◌, ℕ, zero, suc, ◌+◌, ◌<◌, List, [], ◌∷◌, ◌++◌, Bool, length, get_or, subst, arith, append-nil}
-use Rattle.std.specs.List.{AllByRecursion}
-use Rattle.std.proofs.lemmas.Grind.{flat_map-append}
-use Rattle.mt_layout.specs.declared.spans.Span.{Span}
-use Rattle.mt_rows.specs.Spans.{Table, spans_in}
-use Rattle.mt_layout.specs.Spans.{Fills}
-use Rattle.mt_rows.specs.Levels.{expand, Levels, tally}
+use Rattle.mt_rows.proofs.Prelude.{◌≡◌, ℕ, zero, suc, ◌+◌, ◌<◌, List, [], ◌∷◌, ◌++◌, Bool, length, get_or, subst, arith, append-nil, AllByRecursion, flat_map-append, Span, Table, spans_in, Fills, expand, Levels, tally}
 -- these stand below; here they are for the crates above
 pub use Rattle.mt_base.proofs.Lists.{all_map, all_front, all_back, all_join}
 pub use Rattle.mt_layout.proofs.SpanLists.{fills_le, fills-append}

@@ -1,6 +1,5 @@
 -- Calls that only load: one behind another, and what they leave. For the proofs of the crates above.
-use Rattle.std.proofs.Common.{◌≡◌, ℕ, Option, sym, ap, ◌∙◌}
-use Rattle.mt_rows.specs.Sheet.{Sheet, OnlyReads, loaded}
+use Rattle.mt_rows.proofs.Prelude.{◌≡◌, ℕ, Option, sym, ap, ◌∙◌, Sheet, OnlyReads, loaded}
 
 pub one_read : (s s' : Sheet) → s' ≡ loaded s → OnlyReads s s'
 one_read s s' is = is ∙ ap (λ (r : Option ℕ). record s { reads = r }) (sym (ap (λ (x : Sheet). x.reads) is))

@@ -1,10 +1,5 @@
 -- The longest hole below rows: side by side, and by two tables that share their spans.
-use Rattle.std.proofs.Common.{◌≡◌, ℕ, zero, suc, List, [], ◌∷◌, ◌++◌, max, refl, ap, ◌∙◌, arith}
-use Rattle.mt_layout.specs.declared.spans.Span.{Span}
-use Rattle.mt_layout.specs.Spans.{longest_in}
-use Rattle.mt_rows.specs.Spans.{Table}
-use Rattle.mt_rows.specs.Levels.{expand, Levels}
-use Rattle.mt_rows.specs.Laws.{longest_below}
+use Rattle.mt_rows.proofs.Prelude.{◌≡◌, ℕ, zero, suc, List, [], ◌∷◌, ◌++◌, max, refl, ap, ◌∙◌, arith, Span, longest_in, Table, expand, Levels, longest_below}
 use Rattle.mt_rows.proofs.Joins.{Shared, expand_shared}
 use Rattle.mt_rows.proofs.Lists.{expand-append}
 

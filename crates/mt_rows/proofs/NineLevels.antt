@@ -1,25 +1,7 @@
 -- A tree of as many rows as can be named has nine levels at the most: each level below the first two has as many times the
 -- rows of the one above it as an inner row has items at the least, or more, and no row is reached twice. So a way from the
 -- root passes few slots.
-use Rattle.std.proofs.Common.{◌≡◌, ℕ, zero, suc, ◌+◌, ◌-◌, ◌*◌, ◌^◌, ◌<◌, ◌≤◌, ◌==◌, List, [], ◌∷◌, Bool, length, nat_lt, refl, subst, inl, inr, ⊎_elim, arith, length-append}
-use Rattle.std.proofs.Math.Nat.{mul-le-mul_left}
-use Rattle.std.specs.Prelude.{if◌then◌else◌, true, false}
-use Rattle.std.specs.List.{AllByRecursion}
-use Rattle.std.proofs.lemmas.Bool.{cases_Bool, cases_lt, lt-ltb, ltb-true, ltb-false, le-ltb, eqb-false}
-use Rattle.mt_base.specs.declared.widths.Width.{Width}
-use Rattle.mt_base.specs.declared.widths.Width.TheVariants.{Long, Short}
-use Rattle.mt_base.specs.Width.{deepest, most_rows, first_row}
-use Rattle.mt_base.proofs.Lists.{all_map}
-use Rattle.mt_layout.specs.Rows.{row_in}
-use Rattle.mt_layout.proofs.NameLaws.{Names-named_kind}
-use Rattle.mt_layout.proofs.RowSizes.{least_four}
-use Rattle.mt_layout.specs.declared.spans.Span.{Span}
-use Rattle.mt_layout.specs.Spans.{Fills}
-use Rattle.mt_layout.specs.Sizes.{least_items, slots_of}
-use Rattle.mt_rows.specs.Spans.{spans_in, root_span, inner_of}
-use Rattle.mt_rows.specs.Levels.{expand, level, Levels, tally, is_row_of}
-use Rattle.mt_rows.specs.Laws.{Tree, IsRow, top_of, kind_on, least_of_root}
-use Rattle.mt_rows.specs.Replacement.{root_of}
+use Rattle.mt_rows.proofs.Prelude.{◌≡◌, ℕ, zero, suc, ◌+◌, ◌-◌, ◌*◌, ◌^◌, ◌<◌, ◌≤◌, ◌==◌, List, [], ◌∷◌, Bool, length, nat_lt, refl, subst, inl, inr, ⊎_elim, arith, length-append, mul-le-mul_left, if◌then◌else◌, true, false, AllByRecursion, cases_Bool, cases_lt, lt-ltb, ltb-true, ltb-false, le-ltb, eqb-false, Width, Long, Short, deepest, most_rows, first_row, all_map, row_in, Names-named_kind, least_four, Span, Fills, least_items, slots_of, spans_in, root_span, inner_of, expand, level, Levels, tally, is_row_of, Tree, IsRow, top_of, kind_on, least_of_root, root_of}
 use Rattle.mt_rows.proofs.Heights.{times_split, level_rows}
 use Rattle.mt_rows.proofs.Once.{IsPart, inner_wide, expand_parts, rows_wide, wide_fills, once}
 use Rattle.mt_rows.proofs.Reached.{here_le}

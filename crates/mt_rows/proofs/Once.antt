@@ -1,23 +1,5 @@
 -- No row is reached twice, since each row's first pivot lies inside the row's own range.
-use Rattle.std.proofs.Common.{◌≡◌, ◌≢◌, ◌⊎◌, ℕ, zero, suc, ◌+◌, ◌-◌, ◌<◌, ◌≤◌, ◌==◌, List, [], ◌∷◌, Option, Some, None, Bool, false, length, nat_le, refl, ap, subst, inl, inr, ⊎_elim, arith}
-use Rattle.std.specs.Prelude.{if◌then◌else◌, slice_index}
-use Rattle.std.specs.List.{AllByRecursion}
-use Rattle.std.proofs.lemmas.Bool.{cases_Bool, eqb-true, leb-false}
-use Rattle.mt_base.specs.declared.widths.Width.{Width}
-use Rattle.mt_base.specs.Width.{deepest}
-use Rattle.mt_base.proofs.Lists.{all_map, all_front, all_back, all_join}
-use Rattle.mt_layout.specs.declared.names.RowKind.{RowKind}
-use Rattle.mt_layout.specs.Rows.{row_in, named_kind}
-use Rattle.mt_layout.specs.Columns.{items_from, items_at}
-use Rattle.mt_layout.proofs.RowSizes.{least-below-slots, some_least}
-use Rattle.mt_layout.specs.declared.spans.Span.{Span}
-use Rattle.mt_layout.specs.Spans.{spans_from, Fills}
-use Rattle.mt_layout.specs.Sizes.{slots_of, gaps_of, least_items}
-use Rattle.mt_layout.proofs.SpanLists.{fills_le}
-use Rattle.mt_rows.specs.Spans.{Table, base_of, column, spans_by, spans_in, root_span}
-use Rattle.mt_rows.specs.Levels.{expand, Levels, one_if, tally, times, is_row_of}
-use Rattle.mt_rows.specs.Trees.{reached_in}
-use Rattle.mt_rows.specs.Laws.{Tree, IsRow, Stands, top_of, kind_on, covers_all, least_of_root}
+use Rattle.mt_rows.proofs.Prelude.{◌≡◌, ◌≢◌, ◌⊎◌, ℕ, zero, suc, ◌+◌, ◌-◌, ◌<◌, ◌≤◌, ◌==◌, List, [], ◌∷◌, Option, Some, None, Bool, false, length, nat_le, refl, ap, subst, inl, inr, ⊎_elim, arith, if◌then◌else◌, slice_index, AllByRecursion, cases_Bool, eqb-true, leb-false, Width, deepest, all_map, all_front, all_back, all_join, RowKind, row_in, named_kind, items_from, items_at, least-below-slots, some_least, Span, spans_from, Fills, slots_of, gaps_of, least_items, fills_le, Table, base_of, column, spans_by, spans_in, root_span, expand, Levels, one_if, tally, times, is_row_of, reached_in, Tree, IsRow, Stands, top_of, kind_on, covers_all, least_of_root}
 use Rattle.mt_rows.proofs.Lists.{Filled, expand_fills, levels_map, levels_here}
 use Rattle.mt_rows.proofs.Depth.{rows_by_depth}
 

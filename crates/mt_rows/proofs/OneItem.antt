@@ -1,8 +1,5 @@
 -- One item of a list is changed, and with it one item of those that are read off a row's words.
-use Rattle.std.proofs.Common.{◌≡◌, ◌≢◌, ℕ, zero, suc, ◌+◌, ◌<◌, List, [], ◌∷◌, Bool, true, false, map, refl, ap, arith}
-use Rattle.std.specs.Prelude.{if◌then◌else◌, nat_le, slice_index, slice_set}
-use Rattle.mt_layout.specs.declared.items.Item.{Item}
-use Rattle.mt_layout.specs.Columns.{pivot_column, item_at, items_from, items_at}
+use Rattle.mt_rows.proofs.Prelude.{◌≡◌, ◌≢◌, ℕ, zero, suc, ◌+◌, ◌<◌, List, [], ◌∷◌, Bool, true, false, map, refl, ap, arith, if◌then◌else◌, nat_le, slice_index, slice_set, Item, pivot_column, item_at, items_from, items_at}
 
 abbrev pub put_one : (Item → Item) → ℕ → List Item → List Item
 put_one f n [] = []

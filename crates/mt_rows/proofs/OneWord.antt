@@ -1,13 +1,5 @@
 -- One word of a row is written: what stands in the other rows stays, and by a parent word what stands in its own row.
-use Rattle.std.proofs.Common.{◌≢◌, ℕ, ◌+◌, ◌<◌, refl, get_or-set_other, arith}
-use Rattle.mt_base.specs.Width.{columns}
-use Rattle.mt_layout.proofs.Places.{same_place, other_place}
-use Rattle.mt_layout.proofs.RowSizes.{some_columns}
-use Rattle.mt_layout.specs.Rows.{row_in}
-use Rattle.mt_layout.specs.declared.spans.Span.{Span}
-use Rattle.mt_rows.specs.Spans.{base_of}
-use Rattle.mt_rows.specs.Levels.{SameSpans}
-use Rattle.mt_rows.specs.Sheet.{Rooted, with_word}
+use Rattle.mt_rows.proofs.Prelude.{◌≢◌, ℕ, ◌+◌, ◌<◌, refl, get_or-set_other, arith, columns, same_place, other_place, some_columns, row_in, Span, base_of, SameSpans, Rooted, with_word}
 use Rattle.mt_rows.proofs.Frames.{same_spans}
 
 pub other_row_stays : (t : Rooted) (row col word : ℕ) (x : Span) → row_in x.word ≢ row → col < columns t.table.width → SameSpans t.table (with_word t row col word).table x

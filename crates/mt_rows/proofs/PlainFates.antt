@@ -1,25 +1,6 @@
 -- What rows in memory stand for after a row's fate has changed.
-use Rattle.std.proofs.Common.{◌≡◌, ℕ, zero, suc, ◌+◌, ◌*◌, ◌<◌, ◌≤◌, Option, Some, None, List, [], ◌∷◌, Bool, true, false, map, refl, sym, ap, ◌∙◌, subst, inl, inr, arith}
-use Rattle.std.specs.Prelude.{slice_index, slice_index_or, slice_set, replicate, nat_le, if◌then◌else◌}
-use Rattle.std.proofs.lemmas.Bool.{cases_Bool, cases_lt, leb-true, ltb-false, le-leb, lt-leb, lt-ltb, le-ltb}
-use Rattle.std.proofs.lemmas.List.{map-set, get_or_past}
-use Rattle.std.proofs.Math.Seq.{map-set_same}
+use Rattle.mt_rows.proofs.Prelude.{◌≡◌, ℕ, zero, suc, ◌+◌, ◌*◌, ◌<◌, ◌≤◌, Option, Some, None, List, [], ◌∷◌, Bool, true, false, map, refl, sym, ap, ◌∙◌, subst, inl, inr, arith, slice_index, slice_index_or, slice_set, replicate, nat_le, if◌then◌else◌, cases_Bool, cases_lt, leb-true, ltb-false, le-leb, lt-leb, lt-ltb, le-ltb, map-set, get_or_past, map-set_same, Fate, New, Draft, Live, Buried, Kind, Call, Reply, columns, first_row, named_row, Place, Slot, State, one_if, Sheet, IsPlace, IsFree, MayBury, life_of, is_buried, word_at, MayFinish, life_at, life_in, buried_in, past_of, fate_of, sheet_of, IsPlain, names_buried, buried_by, opens, IsPlaceOfTree}
 use Rattle.mt_rows.specs.declared.rows.Life.TheVariants as lives
-use Rattle.mt_rows.specs.declared.plain.Fate.{Fate}
-use Rattle.mt_rows.specs.declared.plain.Fate.TheVariants.{New, Draft, Live, Buried}
-use Rattle.mt_base.specs.declared.kinds.Kind.{Kind}
-use Rattle.mt_base.specs.declared.calls.Call.{Call}
-use Rattle.mt_base.specs.declared.replies.Reply.{Reply}
-use Rattle.mt_base.specs.Width.{columns, first_row}
-use Rattle.mt_layout.specs.Rows.{named_row}
-use Rattle.mt_rows.specs.declared.rows.Place.{Place}
-use Rattle.mt_rows.specs.declared.rows.Place.TheVariants.{Slot}
-use Rattle.mt_rows.specs.declared.plain.State.{State}
-use Rattle.mt_rows.specs.Levels.{one_if}
-use Rattle.mt_rows.specs.Sheet.{Sheet, IsPlace, IsFree, MayBury, life_of, is_buried, word_at}
-use Rattle.mt_rows.specs.Publish.{MayFinish}
-use Rattle.mt_rows.specs.PlainWhole.{life_at}
-use Rattle.mt_rows.specs.Plain.{life_in, buried_in, past_of, fate_of, sheet_of, IsPlain, names_buried, buried_by, opens, IsPlaceOfTree}
 
 -- a fate that reads as another leaves what was read
 pub map-replicate : {A B : Type 0} (f : A → B) (n : ℕ) (a : A) → map f (replicate n a) ≡ replicate n (f a)

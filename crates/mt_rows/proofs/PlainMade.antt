@@ -1,31 +1,7 @@
 -- Rows that are made of words: which of them are live, and how many.
-use Rattle.std.proofs.Common.{◌≡◌, ◌≢◌, ◌⊎◌, ℕ, zero, suc, ◌+◌, ◌*◌, ◌/◌, ◌<◌, ◌≤◌, ◌==◌, List, [], ◌∷◌, ◌++◌, Option, Some, None, false, length, map, take, filter, refl, sym, ap, ◌∙◌, inl, inr, arith}
-use Rattle.std.specs.Prelude.{slice_index_or, slice_set, replicate, nat_lt, cond, if◌then◌else◌}
-use Rattle.std.specs.List.{AllByRecursion, fold}
-use Rattle.std.proofs.lemmas.Bool.{cases_Bool, cases_lt, cases_eq, ltb-true, ltb-false, lt-ltb, le-ltb, eq-eqb, ne_eqb}
-use Rattle.std.proofs.lemmas.List.{get_or-replicate, length-replicate, length-append, take_all, take-replicate, length-map}
-use Rattle.std.proofs.lemmas.List.Filters.{length-filter_more}
-use Rattle.std.proofs.Math.Nat.{mul-div_cancel_left, mul-le-mul_left, mul-add}
-use Rattle.mt_base.specs.declared.widths.Width.{Width}
-use Rattle.mt_base.specs.Width.{columns, deepest, first_row}
-use Rattle.mt_layout.proofs.RowSizes.{some_columns}
-use Rattle.mt_layout.specs.declared.names.RowKind.{RowKind}
-use Rattle.mt_layout.specs.declared.spans.Span.{Span}
-use Rattle.mt_layout.specs.Rows.{row_in, named_kind}
+use Rattle.mt_rows.proofs.Prelude.{◌≡◌, ◌≢◌, ◌⊎◌, ℕ, zero, suc, ◌+◌, ◌*◌, ◌/◌, ◌<◌, ◌≤◌, ◌==◌, List, [], ◌∷◌, ◌++◌, Option, Some, None, false, length, map, take, filter, refl, sym, ap, ◌∙◌, inl, inr, arith, slice_index_or, slice_set, replicate, nat_lt, cond, if◌then◌else◌, AllByRecursion, fold, cases_Bool, cases_lt, cases_eq, ltb-true, ltb-false, lt-ltb, le-ltb, eq-eqb, ne_eqb, get_or-replicate, length-replicate, length-append, take_all, take-replicate, length-map, length-filter_more, mul-div_cancel_left, mul-le-mul_left, mul-add, Width, columns, deepest, first_row, some_columns, RowKind, Span, row_in, named_kind, Fate, New, Draft, Live, Buried, State, Table, root_span, one_if, tally, reached_in, Sheet, Rooted, life_of, tree_as, is_reached, root_of, life_at, life_in, buried_in, past_of, sheet_of, IsPlain, new_sheet, is_draft, names_of, enlivened_by, enlivened, is_live, renewed, walked_fates, tree_made, IsMadeOf}
 use Rattle.mt_rows.specs.declared.rows.Life.TheVariants as lives
-use Rattle.mt_rows.specs.declared.plain.Fate.{Fate}
-use Rattle.mt_rows.specs.declared.plain.Fate.TheVariants.{New, Draft, Live, Buried}
-use Rattle.mt_rows.specs.declared.plain.State.{State}
-use Rattle.mt_rows.specs.Spans.{Table, root_span}
-use Rattle.mt_rows.specs.Levels.{one_if, tally}
-use Rattle.mt_rows.specs.Trees.{reached_in}
 use Rattle.mt_rows.specs.Laws as laws
-use Rattle.mt_rows.specs.Sheet.{Sheet, Rooted, life_of}
-use Rattle.mt_rows.specs.Publish.{tree_as, is_reached}
-use Rattle.mt_rows.specs.Replacement.{root_of}
-use Rattle.mt_rows.specs.PlainWhole.{life_at}
-use Rattle.mt_rows.specs.Plain.{life_in, buried_in, past_of, sheet_of, IsPlain, new_sheet, is_draft, names_of, enlivened_by, enlivened}
-use Rattle.mt_rows.specs.OfWords.{is_live, renewed, walked_fates, tree_made, IsMadeOf}
 use Rattle.mt_rows.proofs.Lists.{levels_map}
 use Rattle.mt_rows.proofs.Reached as reached
 use Rattle.mt_rows.proofs.PlainWalk.{fate_at, Ready, walk_one, no_name}

@@ -1,26 +1,5 @@
 -- The words in the slots of an inner row are those of its items, and zeros behind them.
-use Rattle.std.proofs.Common.{◌≡◌, ℕ, zero, suc, ◌+◌, ◌-◌, ◌*◌, ◌<◌, ◌≤◌, List, [], ◌∷◌, ◌++◌, Option, Some, Bool, true, false, length, map, drop, replicate, refl, sym, ap, ◌∙◌, arith, length-append, length-take, length-drop}
-use Rattle.std.specs.Prelude.{slice_index}
-use Rattle.std.specs.List.{slice_get, slice_range}
-use Rattle.std.proofs.lemmas.Option.{slice_get_within}
-use Rattle.std.proofs.lemmas.List.{ext_get_or, get_or-take, get_or-drop, length-map, length-replicate}
-use Rattle.mt_base.specs.declared.widths.Width.{Width}
-use Rattle.mt_base.specs.Width.{columns, first_row}
-use Rattle.mt_layout.specs.declared.names.RowKind.{RowKind}
-use Rattle.mt_layout.specs.declared.names.RowKind.TheVariants.{Inner, Gapped}
-use Rattle.mt_layout.specs.declared.items.Item.{Item}
-use Rattle.mt_layout.specs.Columns.{IsLayout, slot_column, row_words}
-use Rattle.mt_layout.specs.Rows.{row_in}
-use Rattle.mt_layout.specs.declared.spans.Span.{Span}
-use Rattle.mt_layout.specs.Spans.{spans_from}
-use Rattle.mt_layout.proofs.RowWords.{item_or, get_or-padded, get_or-field, used, used-slot}
-use Rattle.mt_layout.proofs.Places.{row_within}
-use Rattle.mt_layout.specs.Sizes.{slots_of, gaps_of}
-use Rattle.mt_layout.proofs.RowSizes.{layout_of, some_slots, slots-fit, slot_within}
-use Rattle.mt_layout.proofs.SpanLists.{length-spans_from, spans-words}
-use Rattle.mt_rows.specs.Spans.{column, spans_by, spans_in, inner_of}
-use Rattle.mt_rows.specs.Laws.{Tree, HasWords, IsRow, kind_on, items_in}
-use Rattle.mt_rows.specs.Plain.{names_of}
+use Rattle.mt_rows.proofs.Prelude.{◌≡◌, ℕ, zero, suc, ◌+◌, ◌-◌, ◌*◌, ◌<◌, ◌≤◌, List, [], ◌∷◌, ◌++◌, Option, Some, Bool, true, false, length, map, drop, replicate, refl, sym, ap, ◌∙◌, arith, length-append, length-take, length-drop, slice_index, slice_get, slice_range, slice_get_within, ext_get_or, get_or-take, get_or-drop, length-map, length-replicate, Width, columns, first_row, RowKind, Inner, Gapped, Item, IsLayout, slot_column, row_words, row_in, Span, spans_from, item_or, get_or-padded, get_or-field, used, used-slot, row_within, slots_of, gaps_of, layout_of, some_slots, slots-fit, slot_within, length-spans_from, spans-words, column, spans_by, spans_in, inner_of, Tree, HasWords, IsRow, kind_on, items_in, names_of}
 use Rattle.mt_rows.proofs.FewSpans.{row_most}
 
 -- the word of an item is in its slot

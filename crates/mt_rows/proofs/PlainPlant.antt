@@ -1,35 +1,6 @@
 -- The rows that are reached: how many there are at the most, and what becomes of the fates when each is made live.
-use Rattle.std.proofs.Common.{◌≡◌, ◌≢◌, ◌⊎◌, ℕ, zero, suc, ◌+◌, ◌-◌, ◌*◌, ◌^◌, ◌<◌, ◌≤◌, ◌==◌, List, [], ◌∷◌, Option, Some, None, Bool, true, false, length, map, take, refl, sym, ap, ◌∙◌, subst, inl, inr, arith, length-append, length-set, get_or-set_same, get_or-set_other, zero-add}
-use Rattle.std.specs.Prelude.{slice_index, slice_index_or, slice_set, nat_le, nat_lt, if◌then◌else◌}
-use Rattle.std.specs.List.{flat_map, fold}
-use Rattle.std.proofs.lemmas.Bool.{cases_Bool, cases_eq, cases_lt, eq-eqb, ne_eqb, lt-ltb, le-ltb}
-use Rattle.std.proofs.lemmas.List.{get_or_past}
-use Rattle.std.proofs.lemmas.List.Folds.{length-flat_map-take}
-use Rattle.std.proofs.Math.Nat.{pow-succ', pow-le-pow_right, one-le-pow, mul-le-mul_right, mul-add}
-use Rattle.mt_base.specs.declared.kinds.Kind.{Kind}
-use Rattle.mt_base.specs.declared.widths.Width.{Width}
-use Rattle.mt_base.specs.Width.{columns, deepest, first_row}
-use Rattle.mt_layout.proofs.RowSizes.{slots_of-columns, some_columns}
-use Rattle.mt_base.proofs.WidthBounds.{many_columns, deepest_fits}
-use Rattle.mt_layout.specs.declared.names.RowKind.{RowKind}
-use Rattle.mt_layout.specs.declared.names.RowKind.TheVariants.{Leaf, Inner, Gapped}
-use Rattle.mt_layout.specs.Columns.{items_from, items_at, pivot_column}
-use Rattle.mt_layout.specs.Rows.{row_in, named_kind}
-use Rattle.mt_layout.specs.declared.spans.Span.{Span}
-use Rattle.mt_layout.specs.Sizes.{slots_of, gaps_of}
-use Rattle.mt_layout.proofs.SpanLists.{length-spans_from}
-use Rattle.mt_rows.specs.Spans.{Table, base_of, spans_by, spans_in}
-use Rattle.mt_rows.specs.Trees.{by_kind, rows_of, reached_in}
-use Rattle.mt_rows.specs.Levels.{one_if, tally}
-use Rattle.mt_rows.specs.Sheet.{Sheet, life_of}
-use Rattle.mt_rows.specs.Publish.{LiveAreReached, is_reached, MayPlant, Planted}
-use Rattle.mt_rows.specs.declared.rows.Life.{Life}
+use Rattle.mt_rows.proofs.Prelude.{◌≡◌, ◌≢◌, ◌⊎◌, ℕ, zero, suc, ◌+◌, ◌-◌, ◌*◌, ◌^◌, ◌<◌, ◌≤◌, ◌==◌, List, [], ◌∷◌, Option, Some, None, Bool, true, false, length, map, take, refl, sym, ap, ◌∙◌, subst, inl, inr, arith, length-append, length-set, get_or-set_same, get_or-set_other, zero-add, slice_index, slice_index_or, slice_set, nat_le, nat_lt, if◌then◌else◌, flat_map, fold, cases_Bool, cases_eq, cases_lt, eq-eqb, ne_eqb, lt-ltb, le-ltb, get_or_past, length-flat_map-take, pow-succ', pow-le-pow_right, one-le-pow, mul-le-mul_right, mul-add, Kind, Width, columns, deepest, first_row, slots_of-columns, some_columns, many_columns, deepest_fits, RowKind, Leaf, Inner, Gapped, items_from, items_at, pivot_column, row_in, named_kind, Span, slots_of, gaps_of, length-spans_from, Table, base_of, spans_by, spans_in, by_kind, rows_of, reached_in, one_if, tally, Sheet, life_of, LiveAreReached, is_reached, MayPlant, Planted, Life, Fate, New, Draft, Live, Buried, State, life_in, buried_in, past_of, fate_of, sheet_of, IsPlain, life_at}
 use Rattle.mt_rows.specs.declared.rows.Life.TheVariants as lives
-use Rattle.mt_rows.specs.declared.plain.Fate.{Fate}
-use Rattle.mt_rows.specs.declared.plain.Fate.TheVariants.{New, Draft, Live, Buried}
-use Rattle.mt_rows.specs.declared.plain.State.{State}
-use Rattle.mt_rows.specs.Plain.{life_in, buried_in, past_of, fate_of, sheet_of, IsPlain}
-use Rattle.mt_rows.specs.PlainWhole.{life_at}
 use Rattle.mt_rows.proofs.PlainFates.{buried-kept, either_same}
 use Rattle.mt_rows.proofs.Deeper.{rows_of_inner}
 

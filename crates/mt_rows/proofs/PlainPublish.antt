@@ -1,24 +1,7 @@
 -- What a publishing store leaves: the rows that are reached are live, and the buried rows are dead.
-use Rattle.std.proofs.Common.{◌≡◌, ℕ, ◌+◌, ◌*◌, ◌<◌, ◌≤◌, Bool, true, false, length, refl, sym, ap, ◌∙◌, subst, inl, inr, arith, length-set}
-use Rattle.std.specs.Prelude.{if◌then◌else◌}
-use Rattle.std.proofs.lemmas.Bool.{cases_lt, le-leb, le-ltb, lt-ltb}
-use Rattle.std.proofs.lemmas.List.{get_or_past}
-use Rattle.mt_base.specs.declared.kinds.Kind.{Kind}
-use Rattle.mt_base.specs.declared.calls.Call.{Call}
-use Rattle.mt_base.specs.declared.replies.Reply.{Reply}
-use Rattle.mt_base.specs.Width.{columns, deepest, first_row}
-use Rattle.mt_rows.specs.declared.rows.Place.{Place}
-use Rattle.mt_rows.specs.declared.rows.Place.TheVariants.{Root, Slot}
+use Rattle.mt_rows.proofs.Prelude.{◌≡◌, ℕ, ◌+◌, ◌*◌, ◌<◌, ◌≤◌, Bool, true, false, length, refl, sym, ap, ◌∙◌, subst, inl, inr, arith, length-set, if◌then◌else◌, cases_lt, le-leb, le-ltb, lt-ltb, get_or_past, Kind, Call, Reply, columns, deepest, first_row, Place, Root, Slot, Fate, New, Draft, Live, Buried, State, Table, one_if, Sheet, Rooted, life_of, is_buried, tree_as, with_published, with_record, life_after, IsPlaceToPublish, ChangesRows, MayPublish, Published, life_in, buried_in, past_of, fate_of, sheet_of, IsPlain, enlivened, opens}
 use Rattle.mt_rows.specs.declared.rows.Life.TheVariants as lives
-use Rattle.mt_rows.specs.declared.plain.Fate.{Fate}
-use Rattle.mt_rows.specs.declared.plain.Fate.TheVariants.{New, Draft, Live, Buried}
-use Rattle.mt_rows.specs.declared.plain.State.{State}
-use Rattle.mt_rows.specs.Spans.{Table}
-use Rattle.mt_rows.specs.Levels.{one_if}
 use Rattle.mt_rows.specs.Laws as laws
-use Rattle.mt_rows.specs.Sheet.{Sheet, Rooted, life_of, is_buried}
-use Rattle.mt_rows.specs.Publish.{tree_as, with_published, with_record, life_after, IsPlaceToPublish, ChangesRows, MayPublish, Published}
-use Rattle.mt_rows.specs.Plain.{life_in, buried_in, past_of, fate_of, sheet_of, IsPlain, enlivened, opens}
 use Rattle.mt_rows.proofs.PlainFates.{one_at_most, life_told, buried_told}
 use Rattle.mt_rows.proofs.PlainWalk.{fate_at}
 use Rattle.mt_rows.proofs.PlainRoot.{Before, Reaches, root_reaches}

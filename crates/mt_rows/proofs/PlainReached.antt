@@ -1,23 +1,7 @@
 -- What a publishing store is asked for makes the rows that are reached from a word ready for the walk of drafts.
-use Rattle.std.proofs.Common.{◌≡◌, ◌⊎◌, ℕ, zero, suc, ◌+◌, ◌<◌, ◌≤◌, List, [], ◌∷◌, Option, Some, Bool, true, false, refl, sym, ap, ◌∙◌, subst, inl, inr, arith}
-use Rattle.std.specs.Prelude.{nat_le, if◌then◌else◌}
-use Rattle.std.specs.List.{AllByRecursion}
-use Rattle.std.proofs.lemmas.Bool.{cases_Bool, leb-false, lt-ltb}
-use Rattle.mt_base.specs.declared.kinds.Kind.{Kind}
-use Rattle.mt_base.specs.Width.{first_row}
-use Rattle.mt_layout.specs.declared.names.RowKind.{RowKind}
-use Rattle.mt_layout.specs.Rows.{row_in, named_kind}
-use Rattle.mt_layout.specs.declared.spans.Span.{Span}
+use Rattle.mt_rows.proofs.Prelude.{◌≡◌, ◌⊎◌, ℕ, zero, suc, ◌+◌, ◌<◌, ◌≤◌, List, [], ◌∷◌, Option, Some, Bool, true, false, refl, sym, ap, ◌∙◌, subst, inl, inr, arith, nat_le, if◌then◌else◌, AllByRecursion, cases_Bool, leb-false, lt-ltb, Kind, first_row, RowKind, row_in, named_kind, Span, Fate, New, Draft, Live, Buried, Table, row_spans, spans_by, spans_in, level, Levels, SameSpans, Sheet, Rooted, life_of, is_buried, tree_as, LiveAreReached, IsReached, is_reached, ChangesRows, root_of, life_in, buried_in}
 use Rattle.mt_rows.specs.declared.rows.Life.TheVariants as lives
-use Rattle.mt_rows.specs.declared.plain.Fate.{Fate}
-use Rattle.mt_rows.specs.declared.plain.Fate.TheVariants.{New, Draft, Live, Buried}
-use Rattle.mt_rows.specs.Spans.{Table, row_spans, spans_by, spans_in}
-use Rattle.mt_rows.specs.Levels.{level, Levels, SameSpans}
 use Rattle.mt_rows.specs.Laws as laws
-use Rattle.mt_rows.specs.Sheet.{Sheet, Rooted, life_of, is_buried}
-use Rattle.mt_rows.specs.Publish.{tree_as, LiveAreReached, IsReached, is_reached, ChangesRows}
-use Rattle.mt_rows.specs.Replacement.{root_of}
-use Rattle.mt_rows.specs.Plain.{life_in, buried_in}
 use Rattle.mt_rows.proofs.Heights.{level_next}
 use Rattle.mt_rows.proofs.Reached as reached
 use Rattle.mt_rows.proofs.PlainWalk.{fate_at, AllLive, Ready}

@@ -1,17 +1,6 @@
 -- A root word is published: the rows that are reached from it are live after the walk of drafts, and no other fate changes.
-use Rattle.std.proofs.Common.{◌≡◌, ◌⊎◌, ℕ, zero, ◌≤◌, List, false, refl, ap, ◌∙◌, inl, inr, arith}
-use Rattle.std.proofs.lemmas.Bool.{cases_Bool}
-use Rattle.mt_base.specs.declared.kinds.Kind.{Kind}
-use Rattle.mt_base.specs.Width.{deepest}
-use Rattle.mt_rows.specs.declared.plain.Fate.{Fate}
-use Rattle.mt_rows.specs.declared.plain.Fate.TheVariants.{Live}
-use Rattle.mt_rows.specs.Spans.{root_span}
-use Rattle.mt_rows.specs.Levels.{Levels}
+use Rattle.mt_rows.proofs.Prelude.{◌≡◌, ◌⊎◌, ℕ, zero, ◌≤◌, List, false, refl, ap, ◌∙◌, inl, inr, arith, cases_Bool, Kind, deepest, Fate, Live, root_span, Levels, Sheet, Rooted, life_of, is_buried, tree_as, LiveAreReached, IsReached, is_reached, ChangesRows, root_of, life_in, buried_in, enlivened}
 use Rattle.mt_rows.specs.Laws as laws
-use Rattle.mt_rows.specs.Sheet.{Sheet, Rooted, life_of, is_buried}
-use Rattle.mt_rows.specs.Publish.{tree_as, LiveAreReached, IsReached, is_reached, ChangesRows}
-use Rattle.mt_rows.specs.Replacement.{root_of}
-use Rattle.mt_rows.specs.Plain.{life_in, buried_in, enlivened}
 use Rattle.mt_rows.proofs.Reached as reached
 use Rattle.mt_rows.proofs.PlainWalk.{fate_at, Ready, walk_one, no_name}
 use Rattle.mt_rows.proofs.PlainReached.{levels_from, ready_at}

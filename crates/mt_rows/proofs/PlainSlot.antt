@@ -1,26 +1,6 @@
 -- A word is published in a slot: the rows that are reached are live after the walk of drafts, and no other fate changes.
-use Rattle.std.proofs.Common.{◌≡◌, ℕ, zero, suc, ◌+◌, ◌-◌, ◌<◌, ◌≤◌, List, [], ◌∷◌, ◌++◌, Option, Some, None, Bool, true, false, refl, sym, ap, ◌∙◌, subst, inl, inr, arith, ne_eqb, length-set}
-use Rattle.std.specs.Prelude.{slice_index_or, slice_set, is_some, if◌then◌else◌}
-use Rattle.std.proofs.lemmas.Bool.{cases_Bool}
-use Rattle.std.proofs.lemmas.List.{set-get_or}
-use Rattle.std.proofs.lemmas.Option.{slice_get-get_or}
-use Rattle.mt_base.specs.Width.{deepest, first_row}
-use Rattle.mt_layout.specs.declared.names.RowKind.{RowKind}
-use Rattle.mt_layout.specs.Columns.{slot_column}
-use Rattle.mt_layout.specs.Rows.{row_in, named_kind, named_row, name_at}
-use Rattle.mt_layout.specs.declared.spans.Span.{Span}
-use Rattle.mt_layout.specs.Spans.{Fills}
-use Rattle.mt_layout.proofs.NameLaws.{Names-named_kind}
-use Rattle.mt_layout.specs.Sizes.{slots_of}
-use Rattle.mt_rows.specs.declared.plain.Fate.TheVariants.{Live}
-use Rattle.mt_rows.specs.Spans.{base_of, spans_in, root_span}
-use Rattle.mt_rows.specs.Levels.{level, Levels, tally, times, is_row_of, IsBelow, SameSpans}
+use Rattle.mt_rows.proofs.Prelude.{◌≡◌, ℕ, zero, suc, ◌+◌, ◌-◌, ◌<◌, ◌≤◌, List, [], ◌∷◌, ◌++◌, Option, Some, None, Bool, true, false, refl, sym, ap, ◌∙◌, subst, inl, inr, arith, ne_eqb, length-set, slice_index_or, slice_set, is_some, if◌then◌else◌, cases_Bool, set-get_or, slice_get-get_or, deepest, first_row, RowKind, slot_column, row_in, named_kind, named_row, name_at, Span, Fills, Names-named_kind, slots_of, Live, base_of, spans_in, root_span, level, Levels, tally, times, is_row_of, IsBelow, SameSpans, Sheet, Rooted, is_buried, word_at, with_word, tree_as, IsReached, is_reached, IsSlotOf, ChangesRows, root_of, IsSlotAt, with_child, ReplacesChild, enlivened, buried_by, opens, Slot}
 use Rattle.mt_rows.specs.Laws as laws
-use Rattle.mt_rows.specs.Sheet.{Sheet, Rooted, is_buried, word_at, with_word}
-use Rattle.mt_rows.specs.Publish.{tree_as, IsReached, is_reached, IsSlotOf, ChangesRows}
-use Rattle.mt_rows.specs.Replacement.{root_of, IsSlotAt, with_child, ReplacesChild}
-use Rattle.mt_rows.specs.Plain.{enlivened, buried_by, opens}
-use Rattle.mt_rows.specs.declared.rows.Place.TheVariants.{Slot}
 use Rattle.mt_rows.proofs.Lists.{levels_here}
 use Rattle.mt_rows.proofs.Joins.{levels_front, levels_back}
 use Rattle.mt_rows.proofs.Heights.{level_next, times_split, levels_lower, levels_upper, level_fills, times_upper_shared}

@@ -1,20 +1,5 @@
 -- The walk that makes drafts live: what is reached from a word is live then, and no other fate has changed.
-use Rattle.std.proofs.Common.{◌≡◌, ◌⊎◌, ℕ, zero, suc, ◌+◌, ◌<◌, ◌≤◌, ◌==◌, List, [], ◌∷◌, ◌++◌, Option, Some, Bool, length, map, replicate, refl, sym, ap, ◌∙◌, subst, inl, inr, arith, append-nil, eqb-true, eq-eqb, ne_eqb, get_or-set_same, get_or-set_other}
-use Rattle.std.specs.Prelude.{slice_index_or, slice_set, if◌then◌else◌}
-use Rattle.std.specs.List.{AllByRecursion, fold}
-use Rattle.std.proofs.lemmas.Bool.{cases_eq, cases_lt}
-use Rattle.std.proofs.lemmas.List.{get_or_past}
-use Rattle.std.proofs.lemmas.List.Sums.{fold-append}
-use Rattle.mt_base.proofs.Lists.{all_join, none_or_some}
-use Rattle.mt_layout.specs.Rows.{row_in, named_kind}
-use Rattle.mt_layout.specs.declared.names.RowKind.{RowKind}
-use Rattle.mt_layout.specs.declared.spans.Span.{Span}
-use Rattle.mt_rows.specs.Spans.{Table, spans_in, inner_of}
-use Rattle.mt_rows.specs.Levels.{expand, Levels, one_if, tally, times, is_row_of}
-use Rattle.mt_rows.specs.Laws.{Tree, HasWords, IsRow, kind_on}
-use Rattle.mt_rows.specs.declared.plain.Fate.{Fate}
-use Rattle.mt_rows.specs.declared.plain.Fate.TheVariants.{New, Draft, Live}
-use Rattle.mt_rows.specs.Plain.{is_draft, names_of, enlivened_by, enlivened}
+use Rattle.mt_rows.proofs.Prelude.{◌≡◌, ◌⊎◌, ℕ, zero, suc, ◌+◌, ◌<◌, ◌≤◌, ◌==◌, List, [], ◌∷◌, ◌++◌, Option, Some, Bool, length, map, replicate, refl, sym, ap, ◌∙◌, subst, inl, inr, arith, append-nil, eqb-true, eq-eqb, ne_eqb, get_or-set_same, get_or-set_other, slice_index_or, slice_set, if◌then◌else◌, AllByRecursion, fold, cases_eq, cases_lt, get_or_past, fold-append, all_join, none_or_some, row_in, named_kind, RowKind, Span, Table, spans_in, inner_of, expand, Levels, one_if, tally, times, is_row_of, Tree, HasWords, IsRow, kind_on, Fate, New, Draft, Live, is_draft, names_of, enlivened_by, enlivened}
 use Rattle.mt_rows.proofs.Joins.{times-append, levels_front, levels_back}
 use Rattle.mt_rows.proofs.Reached.{IsOneOf, one_of_expand, all_one_of, tally_place, times_some}
 use Rattle.mt_rows.proofs.PlainNames.{names_are}

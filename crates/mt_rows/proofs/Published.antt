@@ -1,9 +1,5 @@
 -- A word that is published changes neither how many rows there are nor how wide they are.
-use Rattle.std.proofs.Common.{◌≡◌, ℕ, refl}
-use Rattle.mt_rows.specs.declared.rows.Place.{Place}
-use Rattle.mt_rows.specs.declared.rows.Place.TheVariants.{Root, Slot}
-use Rattle.mt_rows.specs.Publish.{with_published}
-use Rattle.mt_rows.specs.Sheet.{Rooted}
+use Rattle.mt_rows.proofs.Prelude.{◌≡◌, ℕ, refl, Place, Root, Slot, with_published, Rooted}
 
 pub published_rows : (t : Rooted) (place : Place) (word : ℕ) → (with_published t place word).rows ≡ t.rows
 published_rows t Root word = refl

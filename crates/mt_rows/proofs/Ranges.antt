@@ -1,20 +1,5 @@
 -- Words stand for maps: each range stands behind the one before it, and none ends above the greatest index.
-use Rattle.std.proofs.Common.{◌≡◌, ℕ, zero, suc, ◌+◌, ◌≤◌, ◌==◌, List, [], ◌∷◌, refl, sym, subst, inl, inr, arith}
-use Rattle.std.specs.List.{AllByRecursion, flat_map}
-use Rattle.std.proofs.lemmas.Bool.{cases_Bool, eqb-false}
-use Rattle.mt_base.specs.declared.ranges.Range.{Range}
-use Rattle.mt_base.specs.declared.kinds.Kind.{Kind}
-use Rattle.mt_base.specs.declared.widths.Width.{Width}
-use Rattle.mt_base.specs.Map.{IsMapFrom, IsMap}
-use Rattle.mt_base.proofs.StoredOrder.{IsMapFrom-lower}
-use Rattle.mt_base.specs.Width.{greatest, kind_width, deepest}
-use Rattle.mt_base.proofs.Lists.{all_map}
-use Rattle.mt_layout.specs.declared.spans.Span.{Span}
-use Rattle.mt_layout.specs.Spans.{leaf_range, Fills}
-use Rattle.mt_rows.specs.Spans.{Table, root_span}
-use Rattle.mt_rows.specs.Levels.{expand, map_of, Levels}
-use Rattle.mt_rows.specs.Trees.{map_in}
-use Rattle.mt_rows.specs.Laws.{Tree, IsRow, Stands, top_of}
+use Rattle.mt_rows.proofs.Prelude.{◌≡◌, ℕ, zero, suc, ◌+◌, ◌≤◌, ◌==◌, List, [], ◌∷◌, refl, sym, subst, inl, inr, arith, AllByRecursion, flat_map, cases_Bool, eqb-false, Range, Kind, Width, IsMapFrom, IsMap, IsMapFrom-lower, greatest, kind_width, deepest, all_map, Span, leaf_range, Fills, Table, root_span, expand, map_of, Levels, map_in, Tree, IsRow, Stands, top_of}
 use Rattle.mt_rows.proofs.Lists.{Filled, expand_fills}
 use Rattle.mt_rows.proofs.Depth.{ranges_by_depth}
 use Rattle.mt_rows.proofs.Between.{Between, map_between}

@@ -1,19 +1,6 @@
 -- A row that is reached stands on a level of the tree, and just once.
-use Rattle.std.proofs.Common.{◌≡◌, ◌≢◌, ◌⊎◌, ℕ, zero, suc, ◌+◌, ◌<◌, ◌≤◌, ◌==◌, List, [], ◌∷◌, ◌++◌, Some, Bool, true, false, refl, sym, ap, ◌∙◌, subst, inl, inr, arith, eq-eqb, lt-ltb}
-use Rattle.std.specs.List.{AllByRecursion, slice_get}
-use Rattle.std.proofs.lemmas.Bool.{cases_Bool, eqb-true, ltb-true, ltb-false}
-use Rattle.mt_base.specs.Width.{deepest, first_row}
-use Rattle.mt_layout.specs.declared.names.RowKind.TheVariants.{Leaf}
-use Rattle.mt_layout.specs.Rows.{row_in, named_kind}
-use Rattle.mt_layout.proofs.NameLaws.{Names-named_kind}
-use Rattle.mt_layout.specs.declared.spans.Span.{Span}
-use Rattle.mt_rows.specs.Spans.{Table, spans_in, root_span}
-use Rattle.mt_rows.specs.Levels.{expand, level, Levels, one_if, tally, times, is_row_of, IsBelow}
-use Rattle.mt_rows.specs.Trees.{reached_in, height_in}
-use Rattle.mt_rows.specs.Laws.{Tree, IsRow, Stands, kind_on}
+use Rattle.mt_rows.proofs.Prelude.{◌≡◌, ◌≢◌, ◌⊎◌, ℕ, zero, suc, ◌+◌, ◌<◌, ◌≤◌, ◌==◌, List, [], ◌∷◌, ◌++◌, Some, Bool, true, false, refl, sym, ap, ◌∙◌, subst, inl, inr, arith, eq-eqb, lt-ltb, AllByRecursion, slice_get, cases_Bool, eqb-true, ltb-true, ltb-false, deepest, first_row, Leaf, row_in, named_kind, Names-named_kind, Span, Table, spans_in, root_span, expand, level, Levels, one_if, tally, times, is_row_of, IsBelow, reached_in, height_in, Tree, IsRow, Stands, kind_on, is_reached, StandsAt, root_of}
 use Rattle.mt_rows.specs.Sheet as sheet
-use Rattle.mt_rows.specs.Publish.{is_reached, StandsAt}
-use Rattle.mt_rows.specs.Replacement.{root_of}
 use Rattle.mt_rows.proofs.Depth.{rows_by_depth, height_by_depth}
 use Rattle.mt_rows.proofs.Once.{once}
 use Rattle.mt_rows.proofs.Heights.{level_rows}

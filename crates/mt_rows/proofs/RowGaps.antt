@@ -1,19 +1,6 @@
 -- The gaps of the items that are read off a row stand in the row's gap columns, and a span covers its indexes. For the proofs of the
 -- crates above.
-use Rattle.std.proofs.Common.{◌≡◌, ℕ, zero, suc, ◌+◌, ◌*◌, ◌≤◌, List, [], ◌∷◌, true, nat_le, refl, inl, inr}
-use Rattle.std.specs.Prelude.{slice_index}
-use Rattle.std.proofs.lemmas.Bool.{cases_Bool, le-leb}
-use Rattle.mt_base.specs.declared.widths.Width.{Width}
-use Rattle.mt_base.specs.Width.{columns}
-use Rattle.mt_layout.specs.declared.items.Item.{Item}
-use Rattle.mt_layout.specs.declared.names.RowKind.TheVariants.{Gapped}
-use Rattle.mt_layout.specs.Columns.{gap_column, pivot_column, items_from}
-use Rattle.mt_layout.specs.Sizes.{slots_of, gaps_of}
-use Rattle.mt_layout.specs.declared.spans.Span.{Span}
-use Rattle.mt_layout.proofs.Reading.{gap_at-some}
-use Rattle.mt_layout.proofs.RowSizes.{some_gaps_of}
-use Rattle.mt_rows.specs.Spans.{Table, column}
-use Rattle.mt_rows.specs.Gaps.{covers}
+use Rattle.mt_rows.proofs.Prelude.{◌≡◌, ℕ, zero, suc, ◌+◌, ◌*◌, ◌≤◌, List, [], ◌∷◌, true, nat_le, refl, inl, inr, slice_index, cases_Bool, le-leb, Width, columns, Item, Gapped, gap_column, pivot_column, items_from, slots_of, gaps_of, Span, gap_at-some, some_gaps_of, Table, column, covers}
 
 -- the span covers each of its indexes
 pub covers_it : (index : ℕ) (x : Span) → x.first ≤ index → index ≤ x.last → covers index x ≡ true

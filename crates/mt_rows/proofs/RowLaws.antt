@@ -1,25 +1,5 @@
 -- A row keeps its laws while its columns stay, and while just the word of one of its slots changes.
-use Rattle.std.proofs.Common.{◌≡◌, ◌≢◌, ℕ, zero, suc, ◌+◌, ◌*◌, ◌<◌, ◌≤◌, ◌==◌, List, [], ◌∷◌, false, Option, length, refl, sym, ap, ◌∙◌, subst, ⊎_elim, arith, length-append, ne_eqb, get_or-set_other, get_or-set_same, Some, None}
-use Rattle.std.specs.Prelude.{slice_index, slice_set}
-use Rattle.std.specs.List.{AllByRecursion, flat_map}
-use Rattle.std.proofs.lemmas.Bool.{cases_eq}
-use Rattle.mt_base.specs.declared.widths.Width.{Width}
-use Rattle.mt_base.specs.Width.{columns, first_row}
-use Rattle.mt_base.specs.Entry.{reserved}
-use Rattle.mt_layout.specs.declared.names.RowKind.{RowKind}
-use Rattle.mt_layout.specs.Rows.{row_in, named_kind}
-use Rattle.mt_layout.specs.Columns.{slot_column, items_at, row_words}
-use Rattle.mt_layout.proofs.OwnColumns.{same_items}
-use Rattle.mt_layout.proofs.Places.{other_place, place_within}
-use Rattle.mt_layout.specs.declared.items.Item.{Item}
-use Rattle.mt_layout.specs.declared.spans.Span.{Span}
-use Rattle.mt_layout.specs.Spans.{spans_from, leaf_range, Fills, BeginsFull, Apart, EndsFull}
-use Rattle.mt_layout.specs.Sizes.{slots_of, gaps_of}
-use Rattle.mt_layout.proofs.RowSizes.{layout_of, some_slots_of, slot_within}
-use Rattle.mt_layout.proofs.SpanLists.{length-spans_from}
-use Rattle.mt_rows.specs.Spans.{base_of, column, spans_by, spans_in}
-use Rattle.mt_rows.specs.Levels.{SameColumns, SameSpans}
-use Rattle.mt_rows.specs.Laws.{Tree, HasWords, IsRow, EntryLaw, HoleLaw, kind_on, least_of, items_in, words_in}
+use Rattle.mt_rows.proofs.Prelude.{◌≡◌, ◌≢◌, ℕ, zero, suc, ◌+◌, ◌*◌, ◌<◌, ◌≤◌, ◌==◌, List, [], ◌∷◌, false, Option, length, refl, sym, ap, ◌∙◌, subst, ⊎_elim, arith, length-append, ne_eqb, get_or-set_other, get_or-set_same, Some, None, slice_index, slice_set, AllByRecursion, flat_map, cases_eq, Width, columns, first_row, reserved, RowKind, row_in, named_kind, slot_column, items_at, row_words, same_items, other_place, place_within, Item, Span, spans_from, leaf_range, Fills, BeginsFull, Apart, EndsFull, slots_of, gaps_of, layout_of, some_slots_of, slot_within, length-spans_from, base_of, column, spans_by, spans_in, SameColumns, SameSpans, Tree, HasWords, IsRow, EntryLaw, HoleLaw, kind_on, least_of, items_in, words_in}
 use Rattle.mt_rows.proofs.Frames.{same_spans}
 use Rattle.mt_rows.proofs.SlotWords.{put_item, put_span, spans_from-put, other_column, slot_here, items_at-put, row_words-parent, row_words-put, row_words-inside}
 use Rattle.mt_rows.proofs.FewSpans.{row_most}

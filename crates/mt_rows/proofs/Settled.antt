@@ -1,11 +1,5 @@
 -- Two trees, where what is reached in one and what is taken make up what is reached in the other and what is gone.
-use Rattle.std.proofs.Common.{◌≡◌, ℕ, ◌+◌, ◌==◌, ◌&&◌, Bool, true, refl, sym, ap, ◌∙◌, arith, eq-eqb}
-use Rattle.std.proofs.lemmas.Bool.{and_parts, eqb-true}
-use Rattle.mt_layout.specs.Rows.{row_in}
-use Rattle.mt_layout.specs.declared.spans.Span.{Span}
-use Rattle.mt_rows.specs.Levels.{times, is_row_of}
-use Rattle.mt_rows.specs.Laws.{Tree, Stands}
-use Rattle.mt_rows.specs.Replacement.{root_of}
+use Rattle.mt_rows.proofs.Prelude.{◌≡◌, ℕ, ◌+◌, ◌==◌, ◌&&◌, Bool, true, refl, sym, ap, ◌∙◌, arith, eq-eqb, and_parts, eqb-true, row_in, Span, times, is_row_of, Tree, Stands, root_of}
 use Rattle.mt_rows.proofs.Reached.{OnLevel, times_some, times_place, one_place}
 
 -- what passes the one test passes the other

@@ -1,14 +1,5 @@
 -- What stands below a slot is replaced by one store of the slot's word.
-use Rattle.std.proofs.Common.{◌≡◌, ◌⊎◌, ⊎_elim, ℕ, zero, suc, ◌+◌, ◌≤◌, ◌<◌, List, [], ◌∷◌, ◌++◌, Bool, refl, sym, ap, ◌∙◌, subst, arith}
-use Rattle.mt_base.specs.declared.ranges.Range.{Range}
-use Rattle.mt_base.proofs.Lists.{all_map}
-use Rattle.mt_layout.specs.Rows.{row_in}
-use Rattle.mt_layout.specs.declared.spans.Span.{Span}
-use Rattle.mt_layout.proofs.SpanLists.{fills_split}
-use Rattle.mt_rows.specs.Spans.{Table}
-use Rattle.mt_rows.specs.Levels.{level, map_of, Levels, tally, times}
-use Rattle.mt_rows.specs.Laws.{Tree, HasWords, IsRow, Stands, top_of}
-use Rattle.mt_rows.specs.Replacement.{root_of, IsSlotAt, with_slot, with_child, IsNewBelow, ReplacesChild}
+use Rattle.mt_rows.proofs.Prelude.{◌≡◌, ◌⊎◌, ⊎_elim, ℕ, zero, suc, ◌+◌, ◌≤◌, ◌<◌, List, [], ◌∷◌, ◌++◌, Bool, refl, sym, ap, ◌∙◌, subst, arith, Range, all_map, row_in, Span, fills_split, Table, level, map_of, Levels, tally, times, Tree, HasWords, IsRow, Stands, top_of, root_of, IsSlotAt, with_slot, with_child, IsNewBelow, ReplacesChild}
 use Rattle.mt_rows.proofs.Lists.{levels_map}
 use Rattle.mt_rows.proofs.Joins.{Shared, map_of-append, times-append, levels_join, levels_front, levels_back, map_of_shared, times_shared, levels_shared}
 use Rattle.mt_rows.proofs.Once.{times_nowhere}

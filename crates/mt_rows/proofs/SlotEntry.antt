@@ -1,16 +1,5 @@
 -- An entry is replaced by another by one store of its slot, and nothing else changes.
-use Rattle.std.proofs.Common.{◌≡◌, ◌≢◌, ℕ, zero, ◌+◌, ◌≤◌, ◌==◌, List, [], ◌∷◌, ◌++◌, Bool, false, refl, sym, ap, ◌∙◌, arith, ne_eqb}
-use Rattle.std.specs.List.{flat_map}
-use Rattle.std.proofs.lemmas.Grind.{flat_map-append}
-use Rattle.mt_base.specs.declared.ranges.Range.{Range}
-use Rattle.mt_base.specs.Entry.{reserved}
-use Rattle.mt_base.specs.Map.{over}
-use Rattle.mt_layout.specs.declared.spans.Span.{Span}
-use Rattle.mt_layout.specs.Spans.{leaf_range}
-use Rattle.mt_layout.proofs.SpanLists.{fills_le, fills_split}
-use Rattle.mt_rows.specs.Levels.{map_of, tally, times}
-use Rattle.mt_rows.specs.Laws.{Tree, HasWords, IsRow, Stands, top_of}
-use Rattle.mt_rows.specs.Replacement.{root_of, IsSlotAt, with_slot, with_child, ReplacesEntry}
+use Rattle.mt_rows.proofs.Prelude.{◌≡◌, ◌≢◌, ℕ, zero, ◌+◌, ◌≤◌, ◌==◌, List, [], ◌∷◌, ◌++◌, Bool, false, refl, sym, ap, ◌∙◌, arith, ne_eqb, flat_map, flat_map-append, Range, reserved, over, Span, leaf_range, fills_le, fills_split, map_of, tally, times, Tree, HasWords, IsRow, Stands, top_of, root_of, IsSlotAt, with_slot, with_child, ReplacesEntry}
 use Rattle.mt_rows.proofs.Between.{leaf_between, over_between, over_exact}
 use Rattle.mt_rows.proofs.Heights.{map_of_split, times_split, levels_both, times_upper_shared}
 use Rattle.mt_rows.proofs.RowLaws.{leaf_put}

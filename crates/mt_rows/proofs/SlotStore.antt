@@ -1,16 +1,5 @@
 -- One store in a slot of a row that is reached: what stands on the levels of the tree then.
-use Rattle.std.proofs.Common.{◌≡◌, ℕ, zero, suc, ◌+◌, ◌<◌, ◌≤◌, ◌==◌, List, ◌∷◌, ◌++◌, Bool, false, length, refl, sym, ap, ◌∙◌, subst, arith, append_assoc, eq-eqb}
-use Rattle.std.specs.List.{AllByRecursion}
-use Rattle.std.proofs.lemmas.Bool.{eqb-false}
-use Rattle.std.proofs.lemmas.Option.{slice_get_within}
-use Rattle.mt_base.proofs.Lists.{all_map, all_front, all_back, all_join, get_parts}
-use Rattle.mt_layout.specs.Rows.{row_in}
-use Rattle.mt_layout.specs.declared.spans.Span.{Span}
-use Rattle.mt_layout.specs.Spans.{Fills}
-use Rattle.mt_rows.specs.Spans.{spans_in, root_span}
-use Rattle.mt_rows.specs.Levels.{expand, level, one_if, tally, times, is_row_of, SameSpans}
-use Rattle.mt_rows.specs.Laws.{Tree, HasWords, IsRow, Stands, top_of}
-use Rattle.mt_rows.specs.Replacement.{root_of, IsSlotAt, with_slot, with_child}
+use Rattle.mt_rows.proofs.Prelude.{◌≡◌, ℕ, zero, suc, ◌+◌, ◌<◌, ◌≤◌, ◌==◌, List, ◌∷◌, ◌++◌, Bool, false, length, refl, sym, ap, ◌∙◌, subst, arith, append_assoc, eq-eqb, AllByRecursion, eqb-false, slice_get_within, all_map, all_front, all_back, all_join, get_parts, row_in, Span, Fills, spans_in, root_span, expand, level, one_if, tally, times, is_row_of, SameSpans, Tree, HasWords, IsRow, Stands, top_of, root_of, IsSlotAt, with_slot, with_child}
 use Rattle.mt_rows.proofs.Lists.{tally-append, expand-append, Filled, expand_fills}
 use Rattle.mt_rows.proofs.Joins.{Shared, expand_shared}
 use Rattle.mt_rows.proofs.Once.{once, tally_nowhere}

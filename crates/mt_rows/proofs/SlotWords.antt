@@ -1,16 +1,7 @@
 -- The word of one slot is stored: the item in that slot has another word, and nothing else of its row changes.
-use Rattle.std.proofs.Common.{◌≡◌, ◌≢◌, ℕ, zero, suc, ◌+◌, ◌-◌, ◌<◌, ◌≤◌, ◌==◌, List, [], ◌∷◌, ◌++◌, length, map, take, replicate, refl, sym, ap, ◌∙◌, subst, ⊎_elim, arith, length-append, length-set, get_or-set_other, get_or-set_same}
-use Rattle.std.specs.Prelude.{if◌then◌else◌, slice_index, slice_set}
-use Rattle.std.proofs.lemmas.Bool.{cases_eq}
-use Rattle.std.proofs.lemmas.List.{length-map, set-append_left, set-append_right}
-use Rattle.mt_layout.specs.declared.items.Item.{Item}
-use Rattle.mt_layout.specs.declared.spans.Span.{Span}
-use Rattle.mt_layout.specs.Columns.{pivot_column, slot_column, gap_column, gap_at, item_at, items_at, padded_to, pivot_words, slot_words, gap_words, row_words}
-use Rattle.mt_layout.specs.Spans.{spans_from}
-use Rattle.mt_layout.proofs.Reading.{gap_at-none, gap_at-some}
+use Rattle.mt_rows.proofs.Prelude.{◌≡◌, ◌≢◌, ℕ, zero, suc, ◌+◌, ◌-◌, ◌<◌, ◌≤◌, ◌==◌, List, [], ◌∷◌, ◌++◌, length, map, take, replicate, refl, sym, ap, ◌∙◌, subst, ⊎_elim, arith, length-append, length-set, get_or-set_other, get_or-set_same, if◌then◌else◌, slice_index, slice_set, cases_eq, length-map, set-append_left, set-append_right, Item, Span, pivot_column, slot_column, gap_column, gap_at, item_at, items_at, padded_to, pivot_words, slot_words, gap_words, row_words, spans_from, gap_at-none, gap_at-some, length-pivots, length-padded}
 -- this stands below; here it is for the crates above
 pub use Rattle.mt_layout.proofs.SpanLists.{length-spans_from}
-use Rattle.mt_layout.proofs.RowWords.{length-pivots, length-padded}
 use Rattle.mt_rows.proofs.OneItem.{put_one, put_one-same, put_one-set, items_at-put_one}
 
 -- ---- the word of one item of a list

@@ -1,17 +1,6 @@
 -- Words of which only the first are written down: those behind them are 0.
-use Rattle.std.proofs.Common.{◌≡◌, ◌≢◌, ℕ, zero, suc, ◌+◌, ◌-◌, ◌*◌, ◌<◌, ◌≤◌, List, [], ◌∷◌, ◌++◌, length, take, drop, length-append, refl, sym, ap, ◌∙◌, ◌⊎◌, inl, inr, ⊎_elim, arith, get_or-set_other, get_or-set_same}
-use Rattle.std.specs.Prelude.{replicate, slice_index, slice_set}
-use Rattle.std.specs.List.{slice_range}
-use Rattle.std.proofs.Math.ListN.{get_or-eq_default}
-use Rattle.std.proofs.lemmas.Bool.{cases_eq}
-use Rattle.std.proofs.lemmas.List.{take_more, get_or-drop, length-drop, get_or_append_left, get_or-append-add}
-use Rattle.mt_base.specs.declared.widths.Width.{Width}
-use Rattle.mt_base.specs.Width.{columns}
-use Rattle.mt_layout.specs.declared.names.RowKind.{RowKind}
+use Rattle.mt_rows.proofs.Prelude.{◌≡◌, ◌≢◌, ℕ, zero, suc, ◌+◌, ◌-◌, ◌*◌, ◌<◌, ◌≤◌, List, [], ◌∷◌, ◌++◌, length, take, drop, length-append, refl, sym, ap, ◌∙◌, ◌⊎◌, inl, inr, ⊎_elim, arith, get_or-set_other, get_or-set_same, replicate, slice_index, slice_set, slice_range, get_or-eq_default, cases_eq, take_more, get_or-drop, length-drop, get_or_append_left, get_or-append-add, Width, columns, RowKind, slots_of, names_of, with_zeros, ArePut}
 use Rattle.mt_layout.specs.declared.names.RowKind.TheVariants as kinds
-use Rattle.mt_layout.specs.Sizes.{slots_of}
-use Rattle.mt_rows.specs.Plain.{names_of}
-use Rattle.mt_rows.specs.Words.{with_zeros, ArePut}
 
 -- ---- zeros behind a list
 

@@ -1,12 +1,7 @@
 -- The law of gaps while gap words are still to be mended: it may fail in the slots on the way to an index.
 -- Source: the kernel's lib/maple_tree.c, mas_update_gap, which goes up from a leaf that has changed.
 use Rattle.std.specs.Prelude.{◌≡◌, ◌⊎◌, ℕ, zero, suc, ◌+◌, ◌&&◌, nat_le, Bool, true, false, List, [], ◌∷◌}
-use Rattle.mt_layout.specs.declared.names.RowKind.{RowKind}
-use Rattle.mt_layout.specs.declared.names.RowKind.TheVariants.{Leaf, Inner, Gapped}
-use Rattle.mt_layout.specs.declared.spans.Span.{Span}
-use Rattle.mt_layout.specs.Columns.{gap_column}
-use Rattle.mt_layout.specs.Rows.{row_in}
-use Rattle.mt_layout.specs.Sizes.{slots_of}
+use Rattle.mt_rows.specs.Prelude.{RowKind, Leaf, Inner, Gapped, Span, gap_column, row_in, slots_of}
 use Rattle.mt_rows.specs.Laws.{Tree, Stands, GapLaw, longest_below}
 use Rattle.mt_rows.specs.Levels.{Levels}
 use Rattle.mt_rows.specs.Replacement.{root_of}

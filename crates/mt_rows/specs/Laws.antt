@@ -3,18 +3,7 @@
 -- greatest index, and the least numbers of items, are this project's.
 use Rattle.std.specs.Prelude.{◌≡◌, ◌≢◌, ◌⊎◌, ℕ, zero, suc, ◌+◌, ◌*◌, ◌<◌, ◌≤◌, ◌==◌, ◌&&◌, List, [], ◌∷◌, Some, Bool, false, length, slice_index, if◌then◌else◌}
 use Rattle.std.specs.List.{AllByRecursion, flat_map}
-use Rattle.mt_base.specs.declared.kinds.Kind.{Kind}
-use Rattle.mt_base.specs.Call.{finds_room}
-use Rattle.mt_base.specs.Entry.{reserved}
-use Rattle.mt_base.specs.Width.{columns, greatest, deepest, first_row}
-use Rattle.mt_layout.specs.declared.names.RowKind.{RowKind}
-use Rattle.mt_layout.specs.declared.names.RowKind.TheVariants.{Leaf, Inner, Gapped}
-use Rattle.mt_layout.specs.declared.items.Item.{Item}
-use Rattle.mt_layout.specs.Sizes.{slots_of, gaps_of, least_items}
-use Rattle.mt_layout.specs.Columns.{items_at, row_words, gap_column}
-use Rattle.mt_layout.specs.Rows.{row_in, named_kind, parent_at}
-use Rattle.mt_layout.specs.declared.spans.Span.{Span}
-use Rattle.mt_layout.specs.Spans.{leaf_range, longest_in, Fills, Apart, EndsFull}
+use Rattle.mt_rows.specs.Prelude.{Kind, finds_room, reserved, columns, greatest, deepest, first_row, RowKind, Leaf, Inner, Gapped, Item, slots_of, gaps_of, least_items, items_at, row_words, gap_column, row_in, named_kind, parent_at, Span, leaf_range, longest_in, Fills, Apart, EndsFull}
 use Rattle.mt_rows.specs.Spans.{Table, base_of, column, inner_of, spans_in, root_span}
 use Rattle.mt_rows.specs.Levels.{Levels, expand}
 

@@ -1,11 +1,7 @@
 -- A tree by its levels: the rows of a height are a list of spans, and what stands in them is the list one level lower.
 use Rattle.std.specs.Prelude.{◌≡◌, ◌≢◌, ℕ, zero, suc, ◌+◌, ◌<◌, ◌==◌, List, [], ◌∷◌, Bool, true, false, Some}
 use Rattle.std.specs.List.{AllByRecursion, flat_map, slice_get}
-use Rattle.mt_base.specs.declared.ranges.Range.{Range}
-use Rattle.mt_layout.specs.declared.names.RowKind.TheVariants.{Leaf}
-use Rattle.mt_layout.specs.Rows.{row_in, named_kind}
-use Rattle.mt_layout.specs.declared.spans.Span.{Span}
-use Rattle.mt_layout.specs.Spans.{leaf_range}
+use Rattle.mt_rows.specs.Prelude.{Range, Leaf, row_in, named_kind, Span, leaf_range}
 use Rattle.mt_rows.specs.Spans.{Table, column, spans_in}
 
 -- what stands in rows

@@ -13,3 +13,4 @@ pub mod Sheet
 pub mod Spans
 pub mod Trees
 pub mod Words
+pub mod Prelude

@@ -1,9 +1,7 @@
 -- Rows in memory that are made of given words.
 -- Source: this project's own.
 use Rattle.std.specs.Prelude.{◌≡◌, ℕ, ◌+◌, ◌*◌, ◌/◌, ◌<◌, ◌≤◌, List, ◌++◌, Bool, true, false, length, replicate, if◌then◌else◌}
-use Rattle.mt_base.specs.declared.kinds.Kind.{Kind}
-use Rattle.mt_base.specs.declared.widths.Width.{Width}
-use Rattle.mt_base.specs.Width.{columns, deepest, first_row}
+use Rattle.mt_rows.specs.Prelude.{Kind, Width, columns, deepest, first_row}
 use Rattle.mt_rows.specs.declared.rows.Life.TheVariants as lives
 use Rattle.mt_rows.specs.declared.plain.Fate.{Fate}
 use Rattle.mt_rows.specs.declared.plain.Fate.TheVariants.{New, Draft, Live, Buried}

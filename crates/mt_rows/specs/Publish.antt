@@ -2,19 +2,7 @@
 -- Source: this project's own; the kernel's mas_replace_node publishes a subtree by one store of its parent's slot.
 use Rattle.std.specs.Prelude.{◌≡◌, ◌≢◌, ◌⊎◌, ℕ, ◌+◌, ◌*◌, ◌<◌, ◌≤◌, ◌==◌, Bool, true, false, List, [], ◌∷◌, ◌++◌, All, AllPairs, Option, Some, None, IfSome, length, map, nat_lt, if◌then◌else◌}
 use Rattle.std.specs.Option.{option_map}
-use Rattle.mt_base.specs.declared.kinds.Kind.{Kind}
-use Rattle.mt_base.specs.declared.ranges.Range.{Range}
-use Rattle.mt_base.specs.declared.calls.Call.{Call}
-use Rattle.mt_base.specs.declared.replies.Reply.{Reply}
-use Rattle.mt_base.specs.declared.replies.Shortage.{Shortage}
-use Rattle.mt_base.specs.Width.{kind_width, first_row}
-use Rattle.mt_base.specs.Call.{acted, finds_room}
-use Rattle.mt_base.specs.Nodes.{IsRefused}
-use Rattle.mt_layout.specs.declared.names.RowKind.{RowKind}
-use Rattle.mt_layout.specs.declared.spans.Span.{Span}
-use Rattle.mt_layout.specs.Rows.{row_in, named_kind, dead_mark}
-use Rattle.mt_layout.specs.Sizes.{slots_of}
-use Rattle.mt_layout.specs.Columns.{slot_column}
+use Rattle.mt_rows.specs.Prelude.{Kind, Range, Call, Reply, Shortage, kind_width, first_row, acted, finds_room, IsRefused, RowKind, Span, row_in, named_kind, dead_mark, slots_of, slot_column}
 use Rattle.mt_rows.specs.declared.rows.Life.{Life}
 use Rattle.mt_rows.specs.declared.rows.Life.TheVariants.{Draft, Live, Dead}
 use Rattle.mt_rows.specs.declared.rows.Place.{Place}

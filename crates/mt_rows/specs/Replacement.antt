@@ -2,11 +2,7 @@
 -- Source: the kernel's lib/maple_tree.c, mas_replace_node and mas_wr_slot_store.
 use Rattle.std.specs.Prelude.{◌≡◌, ◌⊎◌, ℕ, ◌+◌, ◌<◌, ◌≤◌, Bool, List, [], ◌∷◌, ◌++◌, Some, slice_set}
 use Rattle.std.specs.List.{AllByRecursion, slice_get}
-use Rattle.mt_base.specs.declared.ranges.Range.{Range}
-use Rattle.mt_layout.specs.declared.spans.Span.{Span}
-use Rattle.mt_layout.specs.Rows.{row_in}
-use Rattle.mt_layout.specs.Sizes.{slots_of}
-use Rattle.mt_layout.specs.Columns.{slot_column}
+use Rattle.mt_rows.specs.Prelude.{Range, Span, row_in, slots_of, slot_column}
 use Rattle.mt_rows.specs.Spans.{base_of, spans_in, root_span}
 use Rattle.mt_rows.specs.Levels.{level, map_of, times, is_row_of}
 use Rattle.mt_rows.specs.Laws.{Tree, Stands, kind_on}

@@ -2,16 +2,7 @@
 -- Source: this project's own; the kernel's writers replace nodes under a lock, and free them after a grace period.
 use Rattle.std.specs.Prelude.{◌≡◌, ◌≢◌, ◌⊎◌, ℕ, ◌+◌, ◌-◌, ◌*◌, ◌^◌, ◌<◌, ◌≤◌, Bool, true, false, List, Option, Some, None, length, min, slice_index_or, slice_set}
 use Rattle.std.specs.Option.{option_map}
-use Rattle.mt_base.specs.declared.kinds.Kind.{Kind}
-use Rattle.mt_base.specs.declared.replies.Holder.{Holder}
-use Rattle.mt_base.specs.Width.{columns, most_rows, first_row}
-use Rattle.mt_base.specs.Nodes.{Limits}
-use Rattle.mt_base.specs.History.{Record}
-use Rattle.mt_layout.specs.declared.names.RowKind.TheVariants.{Gapped}
-use Rattle.mt_layout.specs.Rows.{row_in, named_kind, dead_mark}
-use Rattle.mt_layout.specs.Sizes.{slots_of}
-use Rattle.mt_layout.specs.Columns.{gap_column}
-use Rattle.mt_layout.specs.declared.spans.Span.{Span}
+use Rattle.mt_rows.specs.Prelude.{Kind, Holder, columns, most_rows, first_row, Limits, Record, Gapped, row_in, named_kind, dead_mark, slots_of, gap_column, Span}
 use Rattle.mt_rows.specs.Spans.{Table, column, base_of, spans_in, root_span}
 use Rattle.mt_rows.specs.Levels.{IsBelow, one_if}
 use Rattle.mt_rows.specs.declared.rows.Life.{Life}

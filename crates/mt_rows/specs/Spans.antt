@@ -1,17 +1,8 @@
 -- The spans of a row, read off the words of a tree.
 -- Source: the kernel's include/linux/maple_tree.h, the layout of its nodes.
 use Rattle.std.specs.Prelude.{ℕ, Bool, true, false, ◌+◌, ◌*◌, List, [], Option, Some, None, slice_index}
-use Rattle.mt_base.specs.declared.kinds.Kind.{Kind}
-use Rattle.mt_base.specs.declared.widths.Width.{Width}
-use Rattle.mt_base.specs.Call.{finds_room}
-use Rattle.mt_base.specs.Width.{columns, greatest}
-use Rattle.mt_layout.specs.declared.names.RowKind.{RowKind}
+use Rattle.mt_rows.specs.Prelude.{Kind, Width, finds_room, columns, greatest, RowKind, row_in, named_kind, slots_of, gaps_of, items_at, Span, spans_from}
 use Rattle.mt_layout.specs.declared.names.RowKind.TheVariants as kinds
-use Rattle.mt_layout.specs.Rows.{row_in, named_kind}
-use Rattle.mt_layout.specs.Sizes.{slots_of, gaps_of}
-use Rattle.mt_layout.specs.Columns.{items_at}
-use Rattle.mt_layout.specs.declared.spans.Span.{Span}
-use Rattle.mt_layout.specs.Spans.{spans_from}
 
 -- The words of a tree's rows: column c of row r is the word columns * r + c.
 pub record Table : Type 0 where

@@ -2,13 +2,7 @@
 -- Source: the kernel's core-api/maple_tree: a tree of nodes whose leaves hold the entries.
 use Rattle.std.specs.Prelude.{ℕ, zero, suc, ◌+◌, List, [], ◌∷◌, Option, Some, None}
 use Rattle.std.specs.List.{flat_map}
-use Rattle.mt_base.specs.declared.ranges.Range.{Range}
-use Rattle.mt_base.specs.Width.{deepest}
-use Rattle.mt_layout.specs.declared.names.RowKind.{RowKind}
-use Rattle.mt_layout.specs.declared.names.RowKind.TheVariants.{Leaf, Inner, Gapped}
-use Rattle.mt_layout.specs.Rows.{row_in, named_kind}
-use Rattle.mt_layout.specs.declared.spans.Span.{Span}
-use Rattle.mt_layout.specs.Spans.{leaf_range}
+use Rattle.mt_rows.specs.Prelude.{Range, deepest, RowKind, Leaf, Inner, Gapped, row_in, named_kind, Span, leaf_range}
 use Rattle.mt_rows.specs.Spans.{Table, spans_in, root_span}
 
 -- what a row gives: for a leaf by its spans, for an inner row by its children

@@ -1,17 +1,5 @@
 -- Beginnings of a history, the places of a pass's calls in it, and legal histories that grow.
-use Rattle.std.proofs.Common.{◌≡◌, ◌≢◌, ℕ, ◌+◌, ◌<◌, ◌≤◌, ◌==◌, List, [], ◌∷◌, ◌++◌, Bool, true, false, length, refl, sym, ap, ◌∙◌, subst, arith, append-nil, length-append}
-use Rattle.std.specs.Prelude.{nat_lt, fold}
-use Rattle.std.specs.List.{AllByRecursion}
-use Rattle.std.proofs.lemmas.Bool.{ne_eqb, eq-eqb}
-use Rattle.std.proofs.lemmas.List.{map-append, length-map}
-use Rattle.mt_base.specs.declared.ranges.Range.{Range}
-use Rattle.mt_base.specs.History.{Record, History, IsAnswered, AreLegalFrom, IsLegal, limits_after, last_map, map_after}
-use Rattle.mt_base.specs.Passes.{Begins, places_from, places, longer}
-use Rattle.mt_base.proofs.Goings.{begins_none}
-use Rattle.mt_base.proofs.Lists.{all_join}
-use Rattle.mt_rule.specs.declared.views.Moment.{Moment}
-use Rattle.mt_rule.specs.declared.views.Shape.{Shape}
-use Rattle.mt_rule.specs.Seats.{record_of, records_of, tree_of, longer_history}
+use Rattle.mt_rule.proofs.Prelude.{◌≡◌, ◌≢◌, ℕ, ◌+◌, ◌<◌, ◌≤◌, ◌==◌, List, [], ◌∷◌, ◌++◌, Bool, true, false, length, refl, sym, ap, ◌∙◌, subst, arith, append-nil, length-append, nat_lt, fold, AllByRecursion, ne_eqb, eq-eqb, map-append, length-map, Range, Record, History, IsAnswered, AreLegalFrom, IsLegal, limits_after, last_map, map_after, Begins, places_from, places, longer, begins_none, all_join, Moment, Shape, record_of, records_of, tree_of, longer_history}
 
 -- ---- beginnings
 

@@ -1,32 +1,5 @@
 -- A step of the pen carries what every seat knows: what it has to show, and that the rule is then kept.
-use Rattle.std.proofs.Common.{◌≡◌, ◌≢◌, ℕ, zero, suc, ◌+◌, ◌*◌, ◌<◌, ◌≤◌, List, [], ◌∷◌, length, set, sym, ap, ◌∙◌, subst, inl, inr, ⊎_elim, arith, append-nil, length-set, get_or-set_other, get_or-set_same, Some, false}
-use Rattle.std.proofs.lemmas.Bool.{cases_eq}
-use mathlib.Core.Option.{some}
-use lib.ListN.{get_elem?}
-use Rattle.std.specs.Prelude.{slice_index, slice_set}
-use Rattle.std.specs.List.{Contains}
-use Rattle.atomic_table.specs.Table.{State}
-use Rattle.mt_base.specs.declared.replies.Holder.{Holder}
-use Rattle.mt_base.specs.Passes.{Begins, places}
-use Rattle.mt_base.proofs.Goings.{begins_on}
-use Rattle.mt_life.specs.declared.views.Extent.{Extent}
-use Rattle.mt_life.specs.declared.views.Held.{Held}
-use Rattle.mt_life.specs.Known.{Goes, Known}
-use Rattle.mt_life.proofs.Holding.{holds_on}
-use Rattle.mt_rows.specs.Levels.{one_if}
-use Rattle.mt_rows.specs.Sheet.{HasDied, life_of}
-use Rattle.mt_rule.specs.declared.views.Moment.{Moment}
-use Rattle.mt_rule.specs.declared.views.TableStart.{TableStart}
-use Rattle.mt_rule.specs.declared.views.View.{View}
-use Rattle.mt_rule.specs.declared.views.PenPart.{PenPart}
-use Rattle.mt_rule.specs.declared.views.PassPart.{PassPart}
-use Rattle.mt_base.specs.declared.widths.Width.{Width}
-use Rattle.mt_base.specs.Width.{kind_width}
-use Rattle.mt_rule.specs.Limits.{most_calls, most_passes}
-use Rattle.mt_layout.proofs.Places.{words_before}
-use Rattle.mt_rule.specs.Places.{commits_at, begun_at, root_at, section_at, first_row_column, table_size, section_word, IsSectionWord}
-use Rattle.mt_rule.specs.Seats.{least_number, moment_at, records_of, shape_told, state_in}
-use Rattle.mt_rule.specs.Rule.{begun_by, IsOneHistory, IsSoundPen, WordsFit, HasFloor, IsHeldBy, PassFits, ViewFits, IsKept}
+use Rattle.mt_rule.proofs.Prelude.{◌≡◌, ◌≢◌, ℕ, zero, suc, ◌+◌, ◌*◌, ◌<◌, ◌≤◌, List, [], ◌∷◌, length, set, sym, ap, ◌∙◌, subst, inl, inr, ⊎_elim, arith, append-nil, length-set, get_or-set_other, get_or-set_same, Some, false, cases_eq, some, get_elem?, slice_index, slice_set, Contains, State, Holder, Begins, places, begins_on, Extent, Held, Goes, Known, holds_on, one_if, HasDied, life_of, Moment, TableStart, View, PenPart, PassPart, Width, kind_width, most_calls, most_passes, words_before, commits_at, begun_at, root_at, section_at, first_row_column, table_size, section_word, IsSectionWord, least_number, moment_at, records_of, shape_told, state_in, begun_by, IsOneHistory, IsSoundPen, WordsFit, HasFloor, IsHeldBy, PassFits, ViewFits, IsKept}
 use Rattle.mt_rule.proofs.Viewing.{each_set, pen_is, seat_fits}
 
 abbrev pub St : Type 0

@@ -1,13 +1,5 @@
 -- Stores of the words that count calls and name the root: the table's words still fit.
-use Rattle.std.proofs.Common.{◌≡◌, ◌≢◌, ℕ, ◌<◌, ◌≤◌, List, length, sym, ap, ◌∙◌, subst, arith, length-set, get_or-set_other, get_or-set_same}
-use Rattle.std.specs.Prelude.{slice_index, slice_set}
-use Rattle.mt_base.specs.Width.{kind_width}
-use Rattle.mt_layout.proofs.Places.{words_before, words_in_all}
-use Rattle.mt_rule.specs.declared.views.PenPart.{PenPart}
-use Rattle.mt_rule.specs.Places.{begun_at, commits_at, root_at, section_at, IsSectionWord, IsUnnamed}
-use Rattle.mt_rule.specs.declared.table.MtTable.{MtTable}
-use Rattle.mt_rule.specs.Rule.{begun_by, WordsFit}
-use Rattle.mt_rule.specs.Seats.{shape_told}
+use Rattle.mt_rule.proofs.Prelude.{◌≡◌, ◌≢◌, ℕ, ◌<◌, ◌≤◌, List, length, sym, ap, ◌∙◌, subst, arith, length-set, get_or-set_other, get_or-set_same, slice_index, slice_set, kind_width, words_before, words_in_all, PenPart, begun_at, commits_at, root_at, section_at, IsSectionWord, IsUnnamed, MtTable, begun_by, WordsFit, shape_told}
 use Rattle.mt_rule.proofs.Carrying.{section_later, shaped_as}
 
 pub counter_inside : (t : MtTable) (i : ℕ) → i < 3 → i < t.table.shared.table_id.words

@@ -1,35 +1,5 @@
 -- A call begins, and a call ends: where it has published nothing its end is its event, which leaves the map.
-use Rattle.std.proofs.Common.{◌≡◌, ℕ, ◌+◌, ◌-◌, ◌^◌, ◌<◌, ◌≤◌, List, [], ◌∷◌, ◌++◌, Bool, true, false, true≢false, length, refl, sym, ap, ◌∙◌, subst, inl, inr, ⊎_elim, arith, append-nil, Some, None, Option}
-use Rattle.std.specs.Prelude.{slice_set, IfSome, if◌then◌else◌, nat_lt}
-use Rattle.std.specs.List.{Contains}
-use mathlib.Core.Option.{none}
-use Rattle.atomic_table.specs.Table.{Me, step, keeps, Allows}
-use Rattle.mt_base.specs.declared.ranges.Range.{Range}
-use Rattle.mt_base.specs.declared.calls.Call.{Call}
-use Rattle.mt_base.specs.declared.calls.Call.TheVariants.{Gap}
-use Rattle.mt_base.specs.declared.replies.Holder.{Holder}
-use Rattle.mt_base.specs.declared.replies.Reply.{Reply}
-use Rattle.mt_base.specs.Call.{acted}
-use Rattle.mt_base.specs.History.{IsAnswered, last_map, limits_after, map_after, map_by_reply}
-use Rattle.mt_base.specs.Nodes.{IsRefused}
-use Rattle.mt_base.specs.Passes.{holder_of}
-use Rattle.mt_base.proofs.PlainReplies.{was_acted}
-use Rattle.mt_base.proofs.Goings.{begins_none}
-use Rattle.mt_life.specs.declared.views.Extent.{Extent}
-use Rattle.mt_life.specs.Known.{Goes, Known, calls}
-use Rattle.mt_life.proofs.Ends.{begin_turns, finish_turns}
-use Rattle.mt_rows.specs.Levels.{one_if}
-use Rattle.mt_rows.specs.Publish.{MayFinish, NoneBuried, map_by}
-use Rattle.mt_rows.specs.Sheet.{life_of}
-use Rattle.mt_rule.specs.declared.views.Moment.{Moment}
-use Rattle.mt_rule.specs.declared.views.TableStart.{TableStart}
-use Rattle.mt_rule.specs.declared.views.View.{View}
-use Rattle.mt_rule.specs.declared.views.PenPart.{PenPart}
-use Rattle.mt_rule.specs.declared.views.PassPart.{PassPart}
-use Rattle.mt_rule.specs.Ends.{EndsQuietly, IsPenShort, MayEnd}
-use Rattle.mt_rule.specs.Rule.{IsKept, IsSoundPen, PassFits, WordsFit}
-use Rattle.mt_rule.specs.Seats.{HasPass, HasPen, cuts_at, moment_at, pass_of, pen_of, record_of, rooted_in, pen_sheet, state_in, tree_of}
-use Rattle.mt_rule.specs.Steps.{begins_call, ends_call, pass_recorded, pen_begun, quiet_moment}
+use Rattle.mt_rule.proofs.Prelude.{◌≡◌, ℕ, ◌+◌, ◌-◌, ◌^◌, ◌<◌, ◌≤◌, List, [], ◌∷◌, ◌++◌, Bool, true, false, true≢false, length, refl, sym, ap, ◌∙◌, subst, inl, inr, ⊎_elim, arith, append-nil, Some, None, Option, slice_set, IfSome, if◌then◌else◌, nat_lt, Contains, none, Me, step, keeps, Allows, Range, Call, Gap, Holder, Reply, acted, IsAnswered, last_map, limits_after, map_after, map_by_reply, IsRefused, holder_of, was_acted, begins_none, Extent, Goes, Known, calls, begin_turns, finish_turns, one_if, MayFinish, NoneBuried, map_by, life_of, Moment, TableStart, View, PenPart, PassPart, EndsQuietly, IsPenShort, MayEnd, IsKept, IsSoundPen, PassFits, WordsFit, HasPass, HasPen, cuts_at, moment_at, pass_of, pen_of, record_of, rooted_in, pen_sheet, state_in, tree_of, begins_call, ends_call, pass_recorded, pen_begun, quiet_moment}
 use Rattle.mt_rule.proofs.Carrying.{Carries, carries_life, carry, carry_pair, pass_carried, recast, shaped_as, stays_put, still_history, still_sound}
 use Rattle.mt_rule.proofs.Counting.{counter_sections, counter_set, here, there}
 use Rattle.mt_rule.proofs.Lives.{died_later}

@@ -1,20 +1,5 @@
 -- A row that keeps its form has the same spans but for their words, each in the same slot.
-use Rattle.std.proofs.Common.{◌≡◌, ℕ, zero, suc, ◌+◌, ◌*◌, ◌<◌, List, [], ◌∷◌, Bool, true, false, length, nat_le, refl, sym, ap, ◌∙◌, subst, arith, Some}
-use Rattle.std.specs.Prelude.{slice_index, if◌then◌else◌}
-use Rattle.std.specs.List.{slice_get}
-use Rattle.mt_base.specs.declared.kinds.Kind.{Kind}
-use Rattle.mt_base.specs.declared.widths.Width.{Width}
-use Rattle.mt_base.specs.Width.{columns}
-use Rattle.mt_layout.specs.declared.items.Item.{Item}
-use Rattle.mt_layout.specs.declared.names.RowKind.{RowKind}
-use Rattle.mt_layout.specs.declared.spans.Span.{Span}
-use Rattle.mt_layout.specs.Columns.{pivot_column, slot_column, item_at, items_from}
-use Rattle.mt_layout.specs.Sizes.{slots_of, gaps_of}
-use Rattle.mt_layout.specs.Spans.{spans_from}
-use Rattle.mt_rows.specs.Laws.{kind_at}
-use Rattle.mt_life.specs.declared.views.Extent.{Extent}
-use Rattle.mt_life.specs.Known.{SameForm, spans_at}
-use Rattle.mt_rule.specs.Places.{column_at}
+use Rattle.mt_rule.proofs.Prelude.{◌≡◌, ℕ, zero, suc, ◌+◌, ◌*◌, ◌<◌, List, [], ◌∷◌, Bool, true, false, length, nat_le, refl, sym, ap, ◌∙◌, subst, arith, Some, slice_index, if◌then◌else◌, slice_get, Kind, Width, columns, Item, RowKind, Span, pivot_column, slot_column, item_at, items_from, slots_of, gaps_of, spans_from, kind_at, Extent, SameForm, spans_at, column_at}
 
 -- ---- the span in a slot
 

@@ -18,3 +18,4 @@ pub mod Viewing
 pub mod Writing
 pub mod WritingRows
 pub mod WritingScans
+mod Prelude

@@ -1,9 +1,5 @@
 -- Lists of what rows are, made by the row's number.
-use Rattle.std.proofs.Common.{◌≡◌, ℕ, zero, suc, ◌+◌, ◌≤◌, List, [], ◌∷◌, Bool, false, map, replicate, refl, arith}
-use Rattle.mt_rows.specs.declared.rows.Life.{Life}
-use Rattle.mt_rows.specs.declared.rows.Life.TheVariants.{New, Draft, Live, Dead}
-use Rattle.mt_rows.specs.Levels.{one_if}
-use Rattle.mt_rows.specs.Sheet.{HasDied, is_buried, life_of}
+use Rattle.mt_rule.proofs.Prelude.{◌≡◌, ℕ, zero, suc, ◌+◌, ◌≤◌, List, [], ◌∷◌, Bool, false, map, replicate, refl, arith, Life, New, Draft, Live, Dead, one_if, HasDied, is_buried, life_of}
 
 -- each life of a list, and that of a row behind them
 pub every_life : (P : Life → Type 0) (f : ℕ → Life) → ((k : ℕ) → P (f k)) → P New → (ks : List ℕ) (row : ℕ) → P (life_of (map f ks) row)

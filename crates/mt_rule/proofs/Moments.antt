@@ -1,14 +1,5 @@
 -- The moments of a beginning of a history are those of the whole, and the moment of one call more.
-use Rattle.std.proofs.Common.{◌≡◌, ℕ, ◌+◌, ◌≤◌, List, [], ◌∷◌, ◌++◌, length, map, take, get_or, sym, ap, ◌∙◌, arith, length-append}
-use Rattle.std.specs.Prelude.{fold}
-use Rattle.std.proofs.lemmas.List.{get_or_append_left, length-map, map-append, take-append-le, take_all}
-use Rattle.std.proofs.lemmas.List.Sums.{fold-append}
-use Rattle.std.proofs.Math.Seq.{get_or-append_seam}
-use Rattle.mt_base.specs.History.{last_map, map_after, map_at}
-use Rattle.mt_base.specs.Passes.{Begins}
-use Rattle.mt_rule.specs.declared.views.Moment.{Moment}
-use Rattle.mt_rule.specs.declared.views.Shape.{Shape}
-use Rattle.mt_rule.specs.Seats.{record_of, records_of, tree_of, cuts_of, cuts_at, moment_at}
+use Rattle.mt_rule.proofs.Prelude.{◌≡◌, ℕ, ◌+◌, ◌≤◌, List, [], ◌∷◌, ◌++◌, length, map, take, get_or, sym, ap, ◌∙◌, arith, length-append, fold, get_or_append_left, length-map, map-append, take-append-le, take_all, fold-append, get_or-append_seam, last_map, map_after, map_at, Begins, Moment, Shape, record_of, records_of, tree_of, cuts_of, cuts_at, moment_at}
 
 -- ---- the records of the first k moments, and where the leaves began
 

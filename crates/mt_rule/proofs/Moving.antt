@@ -1,31 +1,6 @@
 -- The rule is kept where a seat is cut in two, and where two are joined, and by the loads that show a pass more of the history.
-use Rattle.std.proofs.Common.{◌≡◌, ℕ, ◌+◌, ◌<◌, List, [], refl, sym, ap, ◌∙◌, subst, arith, length, set, get_or, Some, None}
-use Rattle.std.specs.Prelude.{false}
-use mathlib.Core.Option.{none, some-ne-none}
-use lib.Seq.{set-get_or}
-use Rattle.std.proofs.lemmas.List.{length-map}
-use Rattle.std.proofs.lemmas.Option.{none-some}
-use Rattle.atomic_table.specs.Table.{Me, step, keeps, Allows, Splits, Joins}
-use Rattle.mt_base.specs.History.{History, IsLegal}
-use Rattle.mt_base.specs.Passes.{Begins}
+use Rattle.mt_rule.proofs.Prelude.{◌≡◌, ℕ, ◌+◌, ◌<◌, List, [], refl, sym, ap, ◌∙◌, subst, arith, length, set, get_or, Some, None, false, none, some-ne-none, set-get_or, length-map, none-some, Me, step, keeps, Allows, Splits, Joins, History, IsLegal, Begins, begins_long, begins_none, all_map, Extent, Moment, TableStart, Shape, View, PenPart, PassPart, NotePart, SectionWord, HasPen, HasPass, HasNote, pen_of, pass_of, note_of, new_part, record_of, records_of, tree_of, known_by, longer_history, no_view, dealing_view, dealt_view, pen_joined, with_pass, with_note, without_pass, pass_alone, note_alone, section_at, IsOneHistory, IsSoundPen, WordsFit, PassFits, ViewFits, IsKept, all_seen, taught, sees_all, learns, WasShown, one_if}
 use Rattle.mt_base.specs.Passes as ways
-use Rattle.mt_base.proofs.Goings.{begins_long, begins_none}
-use Rattle.mt_base.proofs.Lists.{all_map}
-use Rattle.mt_life.specs.declared.views.Extent.{Extent}
-use Rattle.mt_rule.specs.declared.views.Moment.{Moment}
-use Rattle.mt_rule.specs.declared.views.TableStart.{TableStart}
-use Rattle.mt_rule.specs.declared.views.Shape.{Shape}
-use Rattle.mt_rule.specs.declared.views.View.{View}
-use Rattle.mt_rule.specs.declared.views.PenPart.{PenPart}
-use Rattle.mt_rule.specs.declared.views.PassPart.{PassPart}
-use Rattle.mt_rule.specs.declared.views.NotePart.{NotePart}
-use Rattle.mt_rule.specs.declared.views.SectionWord.{SectionWord}
-use Rattle.mt_rule.specs.Seats.{HasPen, HasPass, HasNote, pen_of, pass_of, note_of, new_part, record_of, records_of, tree_of, known_by, longer_history, no_view, dealing_view, dealt_view, pen_joined, with_pass, with_note, without_pass, pass_alone, note_alone}
-use Rattle.mt_rule.specs.Places.{section_at}
-use Rattle.mt_rule.specs.Rule.{IsOneHistory, IsSoundPen, WordsFit, PassFits, ViewFits, IsKept}
-use Rattle.mt_rule.specs.Steps.{all_seen, taught, sees_all, learns}
-use Rattle.mt_rule.specs.Tokens.{WasShown}
-use Rattle.mt_rows.specs.Levels.{one_if}
 use Rattle.mt_rule.proofs.Beginnings.{begins_records, longer_fits, places_none, legal_within}
 use Rattle.mt_rule.proofs.Viewing.{each_set, each_split, each_join, other_view, pen_is, pass_is, note_is, owned, owned_here, owned_else, stays, nothing_fits, seat_fits, seen_fits}
 use Rattle.mt_rule.proofs.Carrying.{St, recast, reseated, still_history, still_sound}

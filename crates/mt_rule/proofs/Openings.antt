@@ -1,39 +1,5 @@
 -- The rule holds at the start: the table's words are the rows that the tree opens with, and there is no call and no pass.
-use Rattle.std.proofs.Common.{◌≡◌, ◌≢◌, ℕ, zero, suc, ◌+◌, ◌*◌, ◌<◌, ◌≤◌, List, [], ◌∷◌, Bool, true, false, length, map, replicate, refl, sym, ap, ◌∙◌, subst, inl, arith}
-use Rattle.std.specs.Prelude.{slice_index, if◌then◌else◌}
-use Rattle.std.specs.List.{range_with_len}
-use Rattle.std.proofs.lemmas.List.{length-replicate}
-use Rattle.std.proofs.lemmas.List.FromFn.{get_or-map-range_with_len, length-map-range_with_len}
-use Rattle.std.proofs.lemmas.Option.{none-some}
-use mathlib.Core.Option.{some, some-ne-none, some-injective}
-use lib.ListN.{get_elem?}
-use Rattle.atomic_table.specs.Table.{opening}
-use Rattle.mt_base.specs.declared.kinds.Kind.{Kind}
-use Rattle.mt_base.specs.declared.widths.Width.{Width}
-use Rattle.mt_base.specs.Width.{columns, first_row, most_rows}
-use Rattle.mt_layout.proofs.Places.{words_before}
-use Rattle.mt_life.specs.declared.views.Extent.{Extent}
-use Rattle.mt_life.specs.Known.{Known, nowhere}
-use Rattle.mt_life.specs.Moments.{moment_of}
-use Rattle.mt_life.proofs.Following.{follow}
-use Rattle.mt_life.proofs.Starting.{starts}
-use Rattle.mt_rows.specs.declared.rows.Life.{Life}
-use Rattle.mt_rows.specs.declared.rows.Life.TheVariants.{New, Draft, Live, Dead}
-use Rattle.mt_rows.specs.Laws.{IsTree}
-use Rattle.mt_rows.specs.Memory.{sheet_in}
-use Rattle.mt_rows.specs.PlainWhole.{rows_whole}
-use Rattle.mt_rows.specs.Publish.{IsLawfulOf, LiveAreReached, is_reached, tree_as}
-use Rattle.mt_rows.specs.Sheet.{HasDied, Rooted, life_of}
-use Rattle.mt_rule.specs.declared.views.TableStart.{TableStart}
-use Rattle.mt_rule.specs.declared.views.Shape.{Shape}
-use Rattle.mt_rule.specs.declared.views.View.{View}
-use Rattle.mt_rule.specs.declared.views.PenPart.{PenPart}
-use Rattle.mt_rule.specs.Limits.{most_passes}
-use Rattle.mt_rule.specs.Places.{AreOpening, first_row_column, root_at, section_at}
-use Rattle.mt_rule.specs.Rule.{IsKept, IsSoundPen, ViewFits, WordsFit}
-use Rattle.mt_rule.specs.Seats.{moment_at, new_pen, opening_life, opening_view, rooted_in, shape_opening, shape_told, state_in}
-use Rattle.mt_rule.specs.Tokens.{MayOpen}
-use Rattle.mt_rows.proofs.PlainMade.{lawful_tree}
+use Rattle.mt_rule.proofs.Prelude.{◌≡◌, ◌≢◌, ℕ, zero, suc, ◌+◌, ◌*◌, ◌<◌, ◌≤◌, List, [], ◌∷◌, Bool, true, false, length, map, replicate, refl, sym, ap, ◌∙◌, subst, inl, arith, slice_index, if◌then◌else◌, range_with_len, length-replicate, get_or-map-range_with_len, length-map-range_with_len, none-some, some, some-ne-none, some-injective, get_elem?, opening, Kind, Width, columns, first_row, most_rows, words_before, Extent, Known, nowhere, moment_of, follow, starts, Life, New, Draft, Live, Dead, IsTree, sheet_in, rows_whole, IsLawfulOf, LiveAreReached, is_reached, tree_as, HasDied, Rooted, life_of, TableStart, Shape, View, PenPart, most_passes, AreOpening, first_row_column, root_at, section_at, IsKept, IsSoundPen, ViewFits, WordsFit, moment_at, new_pen, opening_life, opening_view, rooted_in, shape_opening, shape_told, state_in, MayOpen, lawful_tree}
 use Rattle.mt_rule.proofs.Lives.{every_life, none_marked}
 use Rattle.mt_rule.proofs.Viewing.{pen_is}
 

@@ -1,44 +1,5 @@
 -- A call publishes: the history is one call longer, and all that is known of rows is known after it.
-use Rattle.std.proofs.Common.{◌≡◌, ℕ, ◌+◌, ◌*◌, ◌<◌, ◌≤◌, List, [], ◌∷◌, ◌++◌, Bool, true, false, true≢false, length, map, replicate, set, refl, sym, ap, ◌∙◌, subst, inl, arith, length-set, Some}
-use Rattle.std.specs.Prelude.{slice_index, slice_set, if◌then◌else◌}
-use Rattle.std.specs.List.{range_with_len}
-use Rattle.std.proofs.lemmas.List.{length-replicate}
-use Rattle.std.proofs.lemmas.List.FromFn.{get_or-map-range_with_len, length-map-range_with_len}
-use mathlib.Core.Option.{none}
-use Rattle.atomic_table.specs.Table.{Me, step, keeps, Allows}
-use Rattle.mt_base.specs.declared.ranges.Range.{Range}
-use Rattle.mt_base.specs.declared.calls.Call.{Call}
-use Rattle.mt_base.specs.declared.kinds.Kind.{Kind}
-use Rattle.mt_base.specs.declared.replies.Reply.{Reply}
-use Rattle.mt_base.specs.declared.widths.Width.{Width}
-use Rattle.mt_base.specs.History.{last_map}
-use Rattle.mt_base.specs.Width.{kind_width, columns, first_row}
-use Rattle.mt_base.proofs.PlainReplies.{IsActed, was_acted}
-use Rattle.mt_layout.proofs.Places.{place_behind, place_within}
-use Rattle.mt_life.specs.declared.views.Extent.{Extent}
-use Rattle.mt_life.specs.Known.{HasExtentsOf, Goes, Known}
-use Rattle.mt_life.specs.Moments.{cuts_by, moment_of}
-use Rattle.mt_life.proofs.Carrying.{carried}
-use Rattle.mt_life.proofs.Following.{follow}
-use Rattle.mt_life.proofs.Forming.{goes}
-use Rattle.mt_life.proofs.Turning.{live_reached_after}
-use Rattle.mt_rows.specs.declared.rows.Life.{Life}
-use Rattle.mt_rows.specs.declared.rows.Life.TheVariants.{New, Live, Dead}
-use Rattle.mt_rows.specs.declared.rows.Place.{Place}
-use Rattle.mt_rows.specs.declared.rows.Place.TheVariants.{Root, Slot}
-use Rattle.mt_rows.specs.Laws.{IsTree}
-use Rattle.mt_rows.specs.Levels.{one_if}
-use Rattle.mt_rows.specs.Publish.{MayPublish, Published, is_reached, life_after, map_by, tree_as, with_published}
-use Rattle.mt_rows.specs.Sheet.{HasDied, IsWhole, Rooted, Sheet, is_buried, life_of}
-use Rattle.mt_rule.specs.declared.views.Moment.{Moment}
-use Rattle.mt_rule.specs.declared.views.TableStart.{TableStart}
-use Rattle.mt_rule.specs.declared.views.View.{View}
-use Rattle.mt_rule.specs.declared.views.PenPart.{PenPart}
-use Rattle.mt_rule.specs.declared.views.PassPart.{PassPart}
-use Rattle.mt_rule.specs.Places.{column_at, root_at, section_at}
-use Rattle.mt_rule.specs.Rule.{IsKept, IsSoundPen, WordsFit}
-use Rattle.mt_rule.specs.Seats.{HasPass, HasPen, moment_at, pass_of, pen_of, record_of, rooted_in, pen_sheet, state_in, tree_of}
-use Rattle.mt_rule.specs.Steps.{pass_recorded, publishes}
+use Rattle.mt_rule.proofs.Prelude.{◌≡◌, ℕ, ◌+◌, ◌*◌, ◌<◌, ◌≤◌, List, [], ◌∷◌, ◌++◌, Bool, true, false, true≢false, length, map, replicate, set, refl, sym, ap, ◌∙◌, subst, inl, arith, length-set, Some, slice_index, slice_set, if◌then◌else◌, range_with_len, length-replicate, get_or-map-range_with_len, length-map-range_with_len, none, Me, step, keeps, Allows, Range, Call, Kind, Reply, Width, last_map, kind_width, columns, first_row, IsActed, was_acted, place_behind, place_within, Extent, HasExtentsOf, Goes, Known, cuts_by, moment_of, carried, follow, goes, live_reached_after, Life, New, Live, Dead, Place, Root, Slot, IsTree, one_if, MayPublish, Published, is_reached, life_after, map_by, tree_as, with_published, HasDied, IsWhole, Rooted, Sheet, is_buried, life_of, Moment, TableStart, View, PenPart, PassPart, column_at, root_at, section_at, IsKept, IsSoundPen, WordsFit, HasPass, HasPen, moment_at, pass_of, pen_of, record_of, rooted_in, pen_sheet, state_in, tree_of, pass_recorded, publishes}
 use Rattle.mt_rule.proofs.Carrying.{Carries, carry_pair, column_set, least_low, recast, sections_set, shaped_as}
 use Rattle.mt_rule.proofs.Counting.{counter_sections, counter_set, here, there}
 use Rattle.mt_rule.proofs.Lives.{every_life, none_marked}

@@ -1,29 +1,5 @@
 -- The words that a pass loads and stores stand in its table.
-use Rattle.std.proofs.Common.{◌≡◌, ℕ, ◌+◌, ◌*◌, ◌<◌, List, length, sym, ap, ◌∙◌, subst, arith}
-use Rattle.mt_base.specs.declared.kinds.Kind.{Kind}
-use Rattle.mt_base.specs.declared.widths.Width.{Width}
-use Rattle.mt_base.specs.Width.{columns, first_row, kind_width}
-use Rattle.mt_layout.specs.declared.names.RowKind.{RowKind}
-use Rattle.mt_layout.specs.Columns.{pivot_column, slot_column}
-use Rattle.mt_layout.specs.Sizes.{slots_of, gaps_of}
-use Rattle.mt_layout.proofs.Places.{place_within, words_in_all}
-use Rattle.mt_layout.proofs.Reading.{few_items}
-use Rattle.mt_layout.proofs.RowSizes.{slots_of-columns}
-use Rattle.mt_layout.proofs.SpanLists.{length-spans_from}
-use Rattle.mt_layout.specs.Columns.{items_at}
-use Rattle.mt_rows.specs.Laws.{kind_at}
-use Rattle.mt_life.specs.declared.views.Extent.{Extent}
-use Rattle.mt_life.specs.declared.views.Held.{Held}
-use Rattle.mt_life.specs.Known.{HasRow, spans_at}
-use Rattle.mt_rule.specs.declared.passes.Pass.{Pass}
-use Rattle.mt_rule.specs.declared.places.RowAt.{RowAt}
-use Rattle.mt_rule.specs.declared.table.MtTable.{MtTable}
-use Rattle.mt_rule.specs.declared.views.Shape.{Shape}
-use Rattle.mt_rule.specs.Limits.{most_passes}
-use Rattle.mt_rule.specs.Places.{column_at, section_at, table_size, IsRowAt}
-use Rattle.mt_rule.specs.Seats.{shape_told}
-use Rattle.mt_rule.specs.Sections.{slots_in, spans_here}
-use Rattle.mt_rule.specs.Tokens.{Identity, identity_of, part_of, IsPassOf}
+use Rattle.mt_rule.proofs.Prelude.{◌≡◌, ℕ, ◌+◌, ◌*◌, ◌<◌, List, length, sym, ap, ◌∙◌, subst, arith, Kind, Width, columns, first_row, kind_width, RowKind, pivot_column, slot_column, slots_of, gaps_of, place_within, words_in_all, few_items, slots_of-columns, length-spans_from, items_at, kind_at, Extent, Held, HasRow, spans_at, Pass, RowAt, MtTable, Shape, most_passes, column_at, section_at, table_size, IsRowAt, shape_told, slots_in, spans_here, Identity, identity_of, part_of, IsPassOf}
 
 pivot_within : (width : Width) (kind : RowKind) (i : ℕ) → i + 1 < slots_of width kind → pivot_column i < columns width
 pivot_within width kind i low = omega (arith, slots_of-columns width kind)

@@ -1,45 +1,6 @@
 -- Each step of a pass that reads without the lock keeps the rule, and tells what it is said to tell.
-use Rattle.std.proofs.Common.{◌≡◌, ◌≢◌, ℕ, zero, suc, ◌+◌, ◌-◌, ◌*◌, ◌<◌, ◌≤◌, List, [], ◌∷◌, Bool, true, false, Option, Some, None, length, refl, sym, ap, ◌∙◌, subst, arith, length-set, inl, inr}
-use Rattle.std.specs.Prelude.{IfSome, slice_index, slice_set}
-use Rattle.std.specs.List.{Contains, slice_get}
-use Rattle.std.proofs.lemmas.Bool.{cases_Bool, cases_eq}
-use Rattle.std.proofs.lemmas.List.{set-get_or, get_or-set_same, get_or-set_other}
-use Rattle.std.proofs.lemmas.List.Elements.{Contains-append_left, Contains-push}
-use Rattle.std.proofs.lemmas.Option.{none-some}
-use mathlib.Core.Option.{none, some, some-ne-none, some-injective}
-use lib.ListN.{get_elem?}
-use Rattle.atomic_table.specs.Table.{Me, Act, step, stepped, carried_after, Valid, keeps, Allows}
-use Rattle.mt_base.specs.declared.replies.Holder.{Holder}
-use Rattle.mt_base.specs.declared.widths.Width.{Width}
+use Rattle.mt_rule.proofs.Prelude.{◌≡◌, ◌≢◌, ℕ, zero, suc, ◌+◌, ◌-◌, ◌*◌, ◌<◌, ◌≤◌, List, [], ◌∷◌, Bool, true, false, Option, Some, None, length, refl, sym, ap, ◌∙◌, subst, arith, length-set, inl, inr, IfSome, slice_index, slice_set, Contains, slice_get, cases_Bool, cases_eq, set-get_or, get_or-set_same, get_or-set_other, Contains-append_left, Contains-push, none-some, none, some, some-ne-none, some-injective, get_elem?, Me, Act, step, stepped, carried_after, Valid, keeps, Allows, Holder, Width, kind_width, first_row, begins_long, begins_none, pivot_column, slot_column, dead_mark, named_kind, row_in, slots_of, place_behind, words_before, words_in_all, Live, Dead, one_if, life_of, word_at, inner_kind, root_span, map_in, one_of_get, Extent, Held, HoldsRow, Snapshot, come, as_known_now, calls, extent_at, spans_at, few_slots_below, child_held, leaf_held, marked_held, renewed_held, root_held, unmarked_held, Moment, Shape, TableStart, View, PenPart, PassPart, commits_at, begun_at, root_at, section_at, section_word, IsSectionWord, column_at, HasPass, known_by, least_number, moment_at, pass_of, state_in, tree_of, begun_by, HasFloor, IsHeldBy, IsKept, IsOneHistory, IsOpenAt, IsSoundPen, PassFits, ViewFits, WordsFit, IsAt, held_behind, closed_section, floor_or, here, kind_of, opened_section, slots_in, spans_here, IsLeafRead, ParentTells, marks_with, loads_begun, loads_commits, loads_parent, loads_pivot, loads_root, loads_slot, opens_section, closes_section}
 use Rattle.mt_base.specs.Passes as known
-use Rattle.mt_base.specs.Width.{kind_width, first_row}
-use Rattle.mt_base.proofs.Goings.{begins_long, begins_none}
-use Rattle.mt_layout.specs.Columns.{pivot_column, slot_column}
-use Rattle.mt_layout.specs.Rows.{dead_mark, named_kind, row_in}
-use Rattle.mt_layout.specs.Sizes.{slots_of}
-use Rattle.mt_layout.proofs.Places.{place_behind, words_before, words_in_all}
-use Rattle.mt_rows.specs.declared.rows.Life.TheVariants.{Live, Dead}
-use Rattle.mt_rows.specs.Levels.{one_if}
-use Rattle.mt_rows.specs.Sheet.{life_of, word_at}
-use Rattle.mt_rows.specs.Spans.{inner_kind, root_span}
-use Rattle.mt_rows.specs.Trees.{map_in}
-use Rattle.mt_rows.proofs.Reached.{one_of_get}
-use Rattle.mt_life.specs.declared.views.Extent.{Extent}
-use Rattle.mt_life.specs.declared.views.Held.{Held}
-use Rattle.mt_life.specs.Holding.{HoldsRow, Snapshot, come, as_known_now}
-use Rattle.mt_life.specs.Known.{calls, extent_at, spans_at}
-use Rattle.mt_life.proofs.Fitting.{few_slots_below}
-use Rattle.mt_life.proofs.Holding.{child_held, leaf_held, marked_held, renewed_held, root_held, unmarked_held}
-use Rattle.mt_rule.specs.declared.views.Moment.{Moment}
-use Rattle.mt_rule.specs.declared.views.Shape.{Shape}
-use Rattle.mt_rule.specs.declared.views.TableStart.{TableStart}
-use Rattle.mt_rule.specs.declared.views.View.{View}
-use Rattle.mt_rule.specs.declared.views.PenPart.{PenPart}
-use Rattle.mt_rule.specs.declared.views.PassPart.{PassPart}
-use Rattle.mt_rule.specs.Places.{commits_at, begun_at, root_at, section_at, section_word, IsSectionWord, column_at}
-use Rattle.mt_rule.specs.Seats.{HasPass, known_by, least_number, moment_at, pass_of, state_in, tree_of}
-use Rattle.mt_rule.specs.Rule.{begun_by, HasFloor, IsHeldBy, IsKept, IsOneHistory, IsOpenAt, IsSoundPen, PassFits, ViewFits, WordsFit}
-use Rattle.mt_rule.specs.Sections.{IsAt, held_behind, closed_section, floor_or, here, kind_of, opened_section, slots_in, spans_here, IsLeafRead, ParentTells, marks_with, loads_begun, loads_commits, loads_parent, loads_pivot, loads_root, loads_slot, opens_section, closes_section}
 use Rattle.mt_rule.proofs.Beginnings.{legal_within}
 use Rattle.mt_rule.proofs.Carrying.{St, least_low, recast}
 use Rattle.mt_rule.proofs.Holding.{pivot_now, slot_now}

@@ -1,24 +1,5 @@
 -- A call is in the history: what the pass whose call it is knows then, and what is left to the others.
-use Rattle.std.proofs.Common.{◌≡◌, ◌≢◌, ℕ, ◌+◌, ◌<◌, ◌≤◌, List, [], ◌∷◌, ◌++◌, length, sym, ap, ◌∙◌, subst, arith, append-nil, length-append, Some, false}
-use Rattle.std.specs.Prelude.{slice_index, IfSome}
-use Rattle.std.specs.List.{AllByRecursion, Contains}
-use Rattle.mt_base.specs.declared.replies.Holder.{Holder}
-use Rattle.mt_base.specs.History.{Record, IsAnswered, IsLegal, last_map, limits_after, map_at}
-use Rattle.mt_base.specs.Passes.{holder_of, places}
-use Rattle.mt_base.proofs.Goings.{begins_long}
-use Rattle.mt_life.specs.declared.views.Extent.{Extent}
-use Rattle.mt_life.specs.declared.views.Held.{Held}
-use Rattle.mt_life.specs.Known.{calls}
-use Rattle.mt_life.proofs.Holding.{holds_on}
-use Rattle.mt_rows.specs.Levels.{one_if}
-use Rattle.mt_rows.specs.Publish.{map_by}
-use Rattle.mt_rule.specs.declared.views.Moment.{Moment}
-use Rattle.mt_rule.specs.declared.views.Shape.{Shape}
-use Rattle.mt_rule.specs.declared.views.PenPart.{PenPart}
-use Rattle.mt_rule.specs.declared.views.PassPart.{PassPart}
-use Rattle.mt_rule.specs.Rule.{begun_by, IsHeldBy, IsOneHistory, IsSoundPen, PassFits}
-use Rattle.mt_rule.specs.Seats.{moment_at, record_of, records_of, rooted_in, state_in, tree_of}
-use Rattle.mt_rule.specs.Steps.{pass_recorded}
+use Rattle.mt_rule.proofs.Prelude.{◌≡◌, ◌≢◌, ℕ, ◌+◌, ◌<◌, ◌≤◌, List, [], ◌∷◌, ◌++◌, length, sym, ap, ◌∙◌, subst, arith, append-nil, length-append, Some, false, slice_index, IfSome, AllByRecursion, Contains, Holder, Record, IsAnswered, IsLegal, last_map, limits_after, map_at, holder_of, places, begins_long, Extent, Held, calls, holds_on, one_if, map_by, Moment, Shape, PenPart, PassPart, begun_by, IsHeldBy, IsOneHistory, IsSoundPen, PassFits, moment_at, record_of, records_of, rooted_in, state_in, tree_of, pass_recorded}
 use Rattle.mt_rule.proofs.Beginnings.{all_more, legal_next, places_mine, places_other}
 use Rattle.mt_rule.proofs.Carrying.{Carries, Stays, least_low, shaped_as}
 use Rattle.mt_rule.proofs.Moments.{map_now}

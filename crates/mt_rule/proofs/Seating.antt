@@ -1,16 +1,5 @@
 -- Passes that are dealt, and then seated at the turn one by one.
-use Rattle.std.proofs.Common.{◌≡◌, ℕ, zero, suc, ◌+◌, ◌<◌, List, [], ◌∷◌, ◌++◌, length, map, set, get_or, take, sym, ap, ◌∙◌, subst, arith, Some}
-use Rattle.std.specs.Prelude.{All}
-use Rattle.std.specs.List.{AllByRecursion, range_with_len}
-use Rattle.std.proofs.lemmas.List.{map-append}
-use Rattle.std.proofs.lemmas.List.Elements.{All-push}
-use Rattle.std.proofs.lemmas.List.FromFn.{map-range_with_len_more}
-use Rattle.atomic_table.specs.declared.badge.Badge.{Badge}
-use Rattle.mt_rule.specs.declared.passes.Pass.{Pass}
-use Rattle.mt_rule.specs.declared.views.View.{View}
-use Rattle.mt_rule.specs.declared.views.PenPart.{PenPart}
-use Rattle.mt_rule.specs.Seats.{known_by, part_in, pass_or}
-use Rattle.mt_rule.specs.Tokens.{Identity, IsPassOf, pass_in, tree_seat}
+use Rattle.mt_rule.proofs.Prelude.{◌≡◌, ℕ, zero, suc, ◌+◌, ◌<◌, List, [], ◌∷◌, ◌++◌, length, map, set, get_or, take, sym, ap, ◌∙◌, subst, arith, Some, All, AllByRecursion, range_with_len, map-append, All-push, map-range_with_len_more, Badge, Pass, View, PenPart, known_by, part_in, pass_or, Identity, IsPassOf, pass_in, tree_seat}
 
 -- ---- one more is dealt
 

@@ -1,15 +1,7 @@
 -- Each step at the turn keeps its rule.
-use Rattle.std.proofs.Common.{◌≡◌, ◌≢◌, Bool, ℕ, zero, suc, List, [], ◌∷◌, set, get_or, true, false, true≢false, refl, sym, ap, ◌∙◌, subst, arith, Option, Some, None}
-use mathlib.Core.Option.{none, some, some-ne-none, some-injective}
+use Rattle.mt_rule.proofs.Prelude.{◌≡◌, ◌≢◌, Bool, ℕ, zero, suc, List, [], ◌∷◌, set, get_or, true, false, true≢false, refl, sym, ap, ◌∙◌, subst, arith, Option, Some, None, none, some, some-ne-none, some-injective, get_elem?, at_longer, set_else, State, Me, Act, Valid, step, keeps, takes, gives, stepped, carried_after, Allows, Splits, opening, MtTable, TurnView, Identity, served, waiting, seated, counting, seat_beside, tries_in, holding_view, given_back, refused, taken_bit, HasGrabbed, SeatFits, IsTurnKept, grabs, releases}
 use mathlib.Core.Option as maybe
-use lib.ListN.{get_elem?}
-use Rattle.atomic_table.proofs.Lists.{at_longer, set_else}
-use Rattle.atomic_table.specs.Table.{State, Me, Act, Valid, step, keeps, takes, gives, stepped, carried_after, Allows, Splits, opening}
 use Rattle.std.specs.declared.snapshot.Snapshot.{Snapshot}
-use Rattle.mt_rule.specs.declared.table.MtTable.{MtTable}
-use Rattle.mt_rule.specs.declared.views.TurnView.{TurnView}
-use Rattle.mt_rule.specs.Tokens.{Identity}
-use Rattle.mt_rule.specs.Turns.{served, waiting, seated, counting, seat_beside, tries_in, holding_view, given_back, refused, taken_bit, HasGrabbed, SeatFits, IsTurnKept, grabs, releases}
 use Rattle.mt_rule.proofs.Viewing.{each_set, each_split}
 
 off : false ≡ true → ⊥

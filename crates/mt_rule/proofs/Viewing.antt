@@ -1,23 +1,6 @@
 -- Lists of views of which one or two change, and the parts of a view.
-use Rattle.std.proofs.Common.{◌≡◌, ◌≢◌, ◌⊎◌, ℕ, zero, suc, ◌≤◌, ◌==◌, List, [], ◌∷◌, ◌++◌, length, set, refl, sym, ap, ◌∙◌, subst, inl, inr, ⊎_elim, arith, length-set, Some}
-use Rattle.std.specs.Prelude.{if◌then◌else◌, slice_index, Option}
-use Rattle.std.proofs.lemmas.Bool.{ne_eqb, eq-eqb}
-use Rattle.std.proofs.lemmas.Option.{none-some}
-use mathlib.Core.Option.{some, some-ne-none, some-injective}
-use lib.ListN.{get_elem?}
-use Rattle.atomic_table.proofs.Lists.{at_set}
-use Rattle.mt_base.specs.Passes.{Begins}
+use Rattle.mt_rule.proofs.Prelude.{◌≡◌, ◌≢◌, ◌⊎◌, ℕ, zero, suc, ◌≤◌, ◌==◌, List, [], ◌∷◌, ◌++◌, length, set, refl, sym, ap, ◌∙◌, subst, inl, inr, ⊎_elim, arith, length-set, Some, if◌then◌else◌, slice_index, Option, ne_eqb, eq-eqb, none-some, some, some-ne-none, some-injective, get_elem?, at_set, Begins, begins_long, Extent, View, PenPart, PassPart, NotePart, Moment, section_at, section_word, pen_or, pass_or, note_or, no_view, records_of, begun_by, PassFits, ViewFits}
 use Rattle.mt_base.specs.Passes as known
-use Rattle.mt_base.proofs.Goings.{begins_long}
-use Rattle.mt_life.specs.declared.views.Extent.{Extent}
-use Rattle.mt_rule.specs.declared.views.View.{View}
-use Rattle.mt_rule.specs.declared.views.PenPart.{PenPart}
-use Rattle.mt_rule.specs.declared.views.PassPart.{PassPart}
-use Rattle.mt_rule.specs.declared.views.NotePart.{NotePart}
-use Rattle.mt_rule.specs.declared.views.Moment.{Moment}
-use Rattle.mt_rule.specs.Places.{section_at, section_word}
-use Rattle.mt_rule.specs.Seats.{pen_or, pass_or, note_or, no_view, records_of}
-use Rattle.mt_rule.specs.Rule.{begun_by, PassFits, ViewFits}
 use Rattle.mt_rule.proofs.Beginnings.{places_within}
 
 -- ---- lists of views

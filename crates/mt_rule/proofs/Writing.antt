@@ -1,26 +1,5 @@
 -- The pen's loads, and its stores that publish nothing, keep the rule and tell what they are said to tell.
-use Rattle.std.proofs.Common.{◌≡◌, ℕ, ◌+◌, ◌<◌, ◌≤◌, List, set, refl, sym, ap, ◌∙◌, subst, arith}
-use mathlib.Core.Option.{some, none}
-use lib.ListN.{get_elem?}
-use lib.Seq.{set-get_or}
-use Rattle.std.specs.Prelude.{slice_index, slice_set}
-use Rattle.atomic_table.specs.Table.{Me, step, keeps, Allows}
-use Rattle.mt_base.specs.declared.widths.Width.{Width}
-use Rattle.mt_base.specs.Width.{kind_width, first_row}
-use Rattle.mt_layout.proofs.Places.{place_behind, place_within, words_in_all}
-use Rattle.mt_rows.specs.Sheet.{IsPlace}
-use Rattle.mt_rule.specs.declared.views.TableStart.{TableStart}
-use Rattle.mt_rule.specs.declared.views.View.{View}
-use Rattle.mt_rule.specs.declared.views.PenPart.{PenPart}
-use Rattle.mt_rule.specs.declared.views.Shape.{Shape}
-use Rattle.mt_rule.specs.declared.table.MtTable.{MtTable}
-use Rattle.mt_rule.specs.declared.pens.Pen.{Pen}
-use Rattle.mt_rule.specs.Limits.{most_passes}
-use Rattle.mt_rule.specs.Places.{root_at, first_row_column, section_at, table_size, column_at}
-use Rattle.mt_rule.specs.Seats.{HasPen, pen_of, rooted_in, shape_told}
-use Rattle.mt_rule.specs.Tokens.{Identity, identity_of, IsPenOf, pen_in}
-use Rattle.mt_rule.specs.Rule.{IsKept, ViewFits}
-use Rattle.mt_rule.specs.Steps.{looks, looks_at_root}
+use Rattle.mt_rule.proofs.Prelude.{◌≡◌, ℕ, ◌+◌, ◌<◌, ◌≤◌, List, set, refl, sym, ap, ◌∙◌, subst, arith, some, none, get_elem?, set-get_or, slice_index, slice_set, Me, step, keeps, Allows, Width, kind_width, first_row, place_behind, place_within, words_in_all, IsPlace, TableStart, View, PenPart, Shape, MtTable, Pen, most_passes, root_at, first_row_column, section_at, table_size, column_at, HasPen, pen_of, rooted_in, shape_told, Identity, identity_of, IsPenOf, pen_in, IsKept, ViewFits, looks, looks_at_root}
 use Rattle.mt_rule.proofs.Carrying.{St, recast, reseated}
 use Rattle.mt_rule.proofs.Viewing.{each_set}
 

@@ -1,39 +1,8 @@
 -- The pen's stores in drafts and in columns that no reader follows: which rows are reached does not change, and all that the pen
 -- knows stays true.
-use Rattle.std.proofs.Common.{◌≡◌, ◌≢◌, ℕ, zero, suc, ◌<◌, ◌≤◌, ◌==◌, List, [], ◌∷◌, ◌++◌, Bool, true, length, refl, sym, ap, ◌∙◌, subst, ⊎_elim, arith, length-set, get_or-set_other, get_or-set_same, Some}
-use mathlib.Core.Option.{none}
-use Rattle.std.specs.Prelude.{slice_index, slice_set, nat_lt}
-use Rattle.std.specs.List.{AllByRecursion, flat_map}
-use Rattle.std.proofs.lemmas.Bool.{cases_eq}
-use Rattle.atomic_table.specs.Table.{step, stepped, keeps, Allows}
-use Rattle.mt_base.specs.declared.kinds.Kind.{Kind}
-use Rattle.mt_base.specs.Call.{finds_room}
-use Rattle.mt_base.specs.Width.{deepest, kind_width}
-use Rattle.mt_layout.specs.Rows.{row_in, named_kind, dead_mark}
-use Rattle.mt_layout.specs.declared.spans.Span.{Span}
-use Rattle.mt_layout.proofs.RowSizes.{gap_above}
-use Rattle.mt_rows.specs.declared.rows.Life.{Life}
-use Rattle.mt_rows.specs.declared.rows.Life.TheVariants.{New, Draft, Live}
-use Rattle.mt_rows.specs.Spans.{Table, spans_in, root_span}
-use Rattle.mt_rows.specs.Levels.{tally}
-use Rattle.mt_rows.specs.Trees.{rows_of, reached_in}
-use Rattle.mt_rows.specs.Laws.{kind_at}
-use Rattle.mt_rows.specs.Publish.{IsTreeOf, LiveAreReached}
-use Rattle.mt_rows.specs.Sheet.{IsPlace, IsFree, IsGapOf, MayBury, MayTend, HasDied, life_of}
-use Rattle.mt_rows.proofs.Depth.{by_leaf, by_inner}
-use Rattle.mt_life.specs.declared.views.Extent.{Extent}
+use Rattle.mt_rule.proofs.Prelude.{◌≡◌, ◌≢◌, ℕ, zero, suc, ◌<◌, ◌≤◌, ◌==◌, List, [], ◌∷◌, ◌++◌, Bool, true, length, refl, sym, ap, ◌∙◌, subst, ⊎_elim, arith, length-set, get_or-set_other, get_or-set_same, Some, none, slice_index, slice_set, nat_lt, AllByRecursion, flat_map, cases_eq, step, stepped, keeps, Allows, Kind, finds_room, deepest, kind_width, row_in, named_kind, dead_mark, Span, gap_above, Life, New, Draft, Live, Table, spans_in, root_span, tally, rows_of, reached_in, kind_at, IsTreeOf, LiveAreReached, IsPlace, IsFree, IsGapOf, MayBury, MayTend, HasDied, life_of, by_leaf, by_inner, Extent, IsFull, IsLive, HasRow, Child, Known, Goes, spans_at, SameSlots, spans_named, same_spans_at, two_slots, children_known, draft_stands, bury_stands, tend_stands, draft_leaves, bury_leaves, tend_leaves, row_others, col_others, gap_row, TableStart, PenPart, column_at, first_row_column, table_size, HasPen, pen_of, least_number, moment_at, rooted_in, pen_sheet, state_in, IsSoundPen, IsKept, pen_drafted, pen_buried, pen_tended, drafts, finds_drafted, buries, tends}
 use Rattle.mt_life.specs.declared.views.Moment.{Moment}
-use Rattle.mt_life.specs.Known.{State, IsFull, IsLive, HasRow, Child, Known, Goes, spans_at}
-use Rattle.mt_life.proofs.Alike.{SameSlots, spans_named, same_spans_at, two_slots}
-use Rattle.mt_life.proofs.Fitting.{children_known}
-use Rattle.mt_life.proofs.Standing.{draft_stands, bury_stands, tend_stands}
-use Rattle.mt_life.proofs.Writing.{draft_leaves, bury_leaves, tend_leaves, row_others, col_others, gap_row}
-use Rattle.mt_rule.specs.declared.views.TableStart.{TableStart}
-use Rattle.mt_rule.specs.declared.views.PenPart.{PenPart}
-use Rattle.mt_rule.specs.Places.{column_at, first_row_column, table_size}
-use Rattle.mt_rule.specs.Seats.{HasPen, pen_of, least_number, moment_at, rooted_in, pen_sheet, state_in}
-use Rattle.mt_rule.specs.Rule.{IsSoundPen, IsKept}
-use Rattle.mt_rule.specs.Steps.{pen_drafted, pen_buried, pen_tended, drafts, finds_drafted, buries, tends}
+use Rattle.mt_life.specs.Known.{State}
 use Rattle.mt_rule.proofs.Carrying.{recast, carry, carries_life, stays_put, still_history, column_set, sections_set}
 use Rattle.mt_rule.proofs.Writing.{M, unchanged}
 

@@ -1,28 +1,5 @@
 -- A load of a section word: what the pen then knows of the pass's reach.
-use Rattle.std.proofs.Common.{◌≡◌, ◌≢◌, ◌⊎◌, ℕ, zero, suc, ◌+◌, ◌*◌, ◌/◌, ◌<◌, ◌≤◌, List, [], ◌∷◌, length, set, refl, sym, ap, ◌∙◌, subst, inl, inr, ⊎_elim, arith, length-set, get_or-set_other, get_or-set_same, Option, Some, None, max}
-use mathlib.Core.Option.{none}
-use lib.Seq.{set-get_or}
-use Rattle.std.specs.Prelude.{slice_index, slice_set, IfSome}
-use Rattle.std.specs.List.{Contains}
-use Rattle.std.proofs.lemmas.Bool.{cases_eq, ne_eqb}
-use Rattle.std.proofs.lemmas.Option.{IfSome_then, none-some}
-use Rattle.atomic_table.specs.Table.{step, keeps, Allows}
-use Rattle.mt_base.specs.declared.replies.Holder.{Holder}
-use Rattle.mt_base.specs.History.{Record}
-use Rattle.mt_base.specs.Passes.{holder_of}
-use Rattle.mt_life.specs.declared.views.Extent.{Extent}
-use Rattle.mt_life.specs.Known.{Known, Goes}
-use Rattle.mt_life.proofs.Ends.{raise_turns}
-use Rattle.mt_rows.proofs.Lists.{all_map}
-use native.Mathlib.Decide.{dec_le}
-use Rattle.mt_rule.specs.declared.views.TableStart.{TableStart}
-use Rattle.mt_rule.specs.declared.views.View.{View}
-use Rattle.mt_rule.specs.declared.views.PenPart.{PenPart}
-use Rattle.mt_rule.specs.declared.views.PassPart.{PassPart}
-use Rattle.mt_rule.specs.Places.{section_at, section_word, IsSectionWord}
-use Rattle.mt_rule.specs.Seats.{HasPen, pen_of, pass_of, least_number, moment_at, records_of, state_in}
-use Rattle.mt_rule.specs.Rule.{IsOneHistory, IsSoundPen, PassFits, WordsFit, IsKept}
-use Rattle.mt_rule.specs.Steps.{raised, with_loaded, pen_scanned, loads_section}
+use Rattle.mt_rule.proofs.Prelude.{◌≡◌, ◌≢◌, ◌⊎◌, ℕ, zero, suc, ◌+◌, ◌*◌, ◌/◌, ◌<◌, ◌≤◌, List, [], ◌∷◌, length, set, refl, sym, ap, ◌∙◌, subst, inl, inr, ⊎_elim, arith, length-set, get_or-set_other, get_or-set_same, Option, Some, None, max, none, set-get_or, slice_index, slice_set, IfSome, Contains, cases_eq, ne_eqb, IfSome_then, none-some, step, keeps, Allows, Holder, Record, holder_of, Extent, Known, Goes, raise_turns, all_map, dec_le, TableStart, View, PenPart, PassPart, section_at, section_word, IsSectionWord, HasPen, pen_of, pass_of, least_number, moment_at, records_of, state_in, IsOneHistory, IsSoundPen, PassFits, WordsFit, IsKept, raised, with_loaded, pen_scanned, loads_section}
 use Rattle.mt_rule.proofs.Carrying.{Stays, recast, carry, carries_life, still_sound}
 use Rattle.mt_rule.proofs.Writing.{M}
 

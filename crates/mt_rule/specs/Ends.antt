@@ -2,14 +2,7 @@
 -- Source: this project's own.
 use Rattle.std.specs.Prelude.{◌≡◌, ◌⊎◌, ◌-◌, ◌^◌, true, false, Some, None, IfSome}
 use Rattle.std.specs.List.{Contains}
-use Rattle.mt_base.specs.declared.calls.Call.{Call}
-use Rattle.mt_base.specs.declared.replies.Holder.{Holder}
-use Rattle.mt_base.specs.declared.replies.Reply.{Reply}
-use Rattle.mt_base.specs.Call.{acted}
-use Rattle.mt_base.specs.History.{limits_after}
-use Rattle.mt_base.specs.Nodes.{IsRefused}
-use Rattle.mt_rows.specs.declared.rows.Scan.{Scan}
-use Rattle.mt_rows.specs.Publish.{IsRealShortage, NoneBuried, map_by}
+use Rattle.mt_rule.specs.Prelude.{Call, Holder, Reply, acted, limits_after, IsRefused, Scan, IsRealShortage, NoneBuried, map_by}
 use Rattle.mt_rule.specs.declared.views.PenPart.{PenPart}
 use Rattle.mt_rule.specs.Scans.{IsScanOf}
 use Rattle.mt_rule.specs.Seats.{rooted_in, pen_sheet, tree_of}

@@ -1,11 +1,7 @@
 -- Where the words of a tree's table stand: each named word has one index.
 -- Source: this project's own. Each pass's section word has a cache line of its own, so that readers share none.
 use Rattle.std.specs.Prelude.{◌≡◌, ◌≢◌, ◌⊎◌, ℕ, ◌+◌, ◌*◌, ◌<◌, ◌≤◌, List, Option, Some, None, length, slice_index, ◌%◌, ◌/◌, ◌-◌}
-use Rattle.mt_base.specs.declared.widths.Width.{Width}
-use Rattle.mt_base.specs.Width.{columns, first_row}
-use Rattle.mt_rows.specs.declared.rows.Place.{Place}
-use Rattle.mt_rows.specs.declared.rows.Place.TheVariants.{Root, Slot}
-use Rattle.mt_rows.specs.Sheet.{Rooted, IsPlace, word_at}
+use Rattle.mt_rule.specs.Prelude.{Width, columns, first_row, Place, Root, Slot, Rooted, IsPlace, word_at}
 use Rattle.mt_rule.specs.declared.places.RowAt.{RowAt}
 
 -- how many calls have ended, how many have begun, and the name of the root row

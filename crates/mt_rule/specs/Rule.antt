@@ -6,17 +6,7 @@ use Rattle.std.specs.List.{AllByRecursion, Contains}
 use mathlib.Core.Option.{some}
 use lib.ListN.{get_elem?}
 use Rattle.atomic_table.specs.Table.{State}
-use Rattle.mt_base.specs.declared.replies.Holder.{Holder}
-use Rattle.mt_base.specs.History.{Record, IsLegal}
-use Rattle.mt_base.specs.Passes.{Begins, places, holder_of}
-use Rattle.mt_base.specs.Width.{kind_width, first_row, most_rows}
-use Rattle.mt_life.specs.declared.views.Extent.{Extent}
-use Rattle.mt_life.specs.declared.views.Held.{Held}
-use Rattle.mt_life.specs.Known.{Known}
-use Rattle.mt_life.specs.Holding.{HoldsRow}
-use Rattle.mt_rows.specs.Levels.{one_if}
-use Rattle.mt_rows.specs.Publish.{IsTreeOf, LiveAreReached}
-use Rattle.mt_rows.specs.Sheet.{HasDied, life_of}
+use Rattle.mt_rule.specs.Prelude.{Holder, Record, IsLegal, Begins, places, holder_of, kind_width, first_row, most_rows, Extent, Held, Known, HoldsRow, one_if, IsTreeOf, LiveAreReached, HasDied, life_of}
 use Rattle.mt_rule.specs.declared.views.TableStart.{TableStart}
 use Rattle.mt_rule.specs.declared.views.View.{View}
 use Rattle.mt_rule.specs.declared.views.PenPart.{PenPart}

@@ -1,7 +1,7 @@
 -- What the section words of all passes show that were loaded one after another.
 -- Source: this project's own; the kernel frees nodes when every reader has left its RCU read-side section.
 use Rattle.std.specs.Prelude.{◌≡◌, ℕ, ◌+◌, ◌-◌, ◌/◌, ◌^◌, ◌≤◌, ◌==◌, List, [], ◌∷◌, Some, None, drop, length, map, nat_lt, if◌then◌else◌}
-use Rattle.mt_rows.specs.declared.rows.Scan.{Scan}
+use Rattle.mt_rule.specs.Prelude.{Scan}
 use Rattle.mt_rule.specs.declared.views.SectionWord.{SectionWord}
 
 -- no section is open

@@ -2,22 +2,10 @@
 -- Source: this project's own.
 use Rattle.std.specs.Prelude.{◌≡◌, ℕ, ◌+◌, List, [], ◌∷◌, length, map, min, nat_lt, replicate, slice_index_or, true, false, Option, Some, None, if◌then◌else◌}
 use Rattle.std.specs.List.{range_with_len}
-use Rattle.mt_base.specs.Width.{kind_width, first_row}
-use Rattle.mt_base.specs.declared.calls.Call.{Call}
-use Rattle.mt_base.specs.declared.kinds.Kind.{Kind}
+use Rattle.mt_rule.specs.Prelude.{kind_width, first_row, Call, Kind, Reply, Record, History, map_at, State, cuts_by, Life, New, Live, sheet_in, map_by, is_reached, Rooted, Sheet, reached_in}
 use Rattle.mt_base.specs.declared.kinds.Kind.TheVariants as kinds
-use Rattle.mt_base.specs.declared.replies.Reply.{Reply}
-use Rattle.mt_base.specs.History.{Record, History, map_at}
 use Rattle.mt_base.specs.Passes as known
 use Rattle.mt_life.specs.declared.views.Moment as life
-use Rattle.mt_life.specs.Known.{State}
-use Rattle.mt_life.specs.Moments.{cuts_by}
-use Rattle.mt_rows.specs.declared.rows.Life.{Life}
-use Rattle.mt_rows.specs.declared.rows.Life.TheVariants.{New, Live}
-use Rattle.mt_rows.specs.Memory.{sheet_in}
-use Rattle.mt_rows.specs.Publish.{map_by, is_reached}
-use Rattle.mt_rows.specs.Sheet.{Rooted, Sheet}
-use Rattle.mt_rows.specs.Trees.{reached_in}
 use Rattle.mt_rule.specs.declared.views.TableStart.{TableStart}
 use Rattle.mt_rule.specs.declared.views.Shape.{Shape}
 use Rattle.mt_rule.specs.declared.views.Moment.{Moment}

@@ -4,22 +4,9 @@ use Rattle.std.specs.Prelude.{◌≡◌, ◌≢◌, ℕ, ◌+◌, ◌*◌, ◌^�
 use mathlib.Core.Option.{some}
 use lib.ListN.{get_elem?}
 use Rattle.atomic_table.specs.Table.{Step}
-use Rattle.mt_base.specs.declared.widths.Width.TheVariants.{Long}
-use Rattle.mt_base.specs.Map.{IsMap}
-use Rattle.mt_base.specs.Passes.{Begins}
+use Rattle.mt_rule.specs.Prelude.{Long, IsMap, Begins, kind_width, greatest, RowKind, Span, slot_column, dead_mark, named_kind, row_in, slots_of, Held, Snapshot, copy_of, HasPart, HasRow, SameForm, Shape, spans_at, kind_at, inner_kind}
 use Rattle.mt_base.specs.Passes as known
-use Rattle.mt_base.specs.Width.{kind_width, greatest}
-use Rattle.mt_layout.specs.declared.names.RowKind.{RowKind}
-use Rattle.mt_layout.specs.declared.spans.Span.{Span}
-use Rattle.mt_layout.specs.Columns.{slot_column}
-use Rattle.mt_layout.specs.Rows.{dead_mark, named_kind, row_in}
-use Rattle.mt_layout.specs.Sizes.{slots_of}
-use Rattle.mt_life.specs.declared.views.Held.{Held}
 use Rattle.mt_life.specs.declared.views.Moment as life
-use Rattle.mt_life.specs.Holding.{Snapshot, copy_of}
-use Rattle.mt_life.specs.Known.{HasPart, HasRow, SameForm, Shape, spans_at}
-use Rattle.mt_rows.specs.Laws.{kind_at}
-use Rattle.mt_rows.specs.Spans.{inner_kind}
 use Rattle.mt_rule.specs.declared.views.Moment.{Moment}
 use Rattle.mt_rule.specs.declared.views.PassPart.{PassPart}
 use Rattle.mt_rule.specs.Places.{column_at}

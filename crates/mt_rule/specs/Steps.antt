@@ -2,19 +2,8 @@
 -- Source: this project's own; the order of a write's steps is that of the kernel's mas_replace_node.
 use Rattle.std.specs.Prelude.{◌≡◌, ◌≢◌, ℕ, ◌+◌, ◌/◌, ◌≤◌, ◌==◌, ◌∷◌, ◌++◌, [], List, Some, None, max, length, slice_index, slice_set, true, false, if◌then◌else◌}
 use Rattle.atomic_table.specs.Table.{Me, Step}
-use Rattle.mt_base.specs.declared.calls.Call.{Call}
-use Rattle.mt_base.specs.declared.replies.Holder.{Holder}
-use Rattle.mt_base.specs.declared.replies.Reply.{Reply}
-use Rattle.mt_base.specs.Passes.{Begins}
+use Rattle.mt_rule.specs.Prelude.{Call, Holder, Reply, Begins, kind_width, dead_mark, Extent, cuts_by, Draft, Place, Published, IsWhole}
 use Rattle.mt_base.specs.Passes as known
-use Rattle.mt_base.specs.Width.{kind_width}
-use Rattle.mt_layout.specs.Rows.{dead_mark}
-use Rattle.mt_life.specs.declared.views.Extent.{Extent}
-use Rattle.mt_life.specs.Moments.{cuts_by}
-use Rattle.mt_rows.specs.declared.rows.Life.TheVariants.{Draft}
-use Rattle.mt_rows.specs.declared.rows.Place.{Place}
-use Rattle.mt_rows.specs.Publish.{Published}
-use Rattle.mt_rows.specs.Sheet.{IsWhole}
 use Rattle.mt_rule.specs.declared.views.Moment.{Moment}
 use Rattle.mt_rule.specs.declared.views.View.{View}
 use Rattle.mt_rule.specs.declared.views.PenPart.{PenPart}

@@ -4,13 +4,8 @@ use Rattle.std.specs.Prelude.{◌≡◌, ℕ, ◌+◌, ◌≤◌, List, [], fals
 use Rattle.std.specs.List.{Contains}
 use Rattle.atomic_table.specs.Seated.{TableId}
 use Rattle.atomic_table.specs.declared.badge.Badge.{Badge}
-use Rattle.mt_base.specs.declared.kinds.Kind.{Kind}
-use Rattle.mt_base.specs.History.{Record, History}
+use Rattle.mt_rule.specs.Prelude.{Kind, Record, History, Sheet, Holder, Extent, IsLawfulOf}
 use Rattle.mt_base.specs.Passes as known
-use Rattle.mt_rows.specs.Sheet.{Sheet}
-use Rattle.mt_base.specs.declared.replies.Holder.{Holder}
-use Rattle.mt_life.specs.declared.views.Extent.{Extent}
-use Rattle.mt_rows.specs.Publish.{IsLawfulOf}
 use Rattle.mt_rule.specs.declared.views.Shape.{Shape}
 use Rattle.mt_rule.specs.declared.views.PenPart.{PenPart}
 use Rattle.mt_rule.specs.declared.views.PassPart.{PassPart}

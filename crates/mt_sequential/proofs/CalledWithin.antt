@@ -1,15 +1,5 @@
 -- A line makes one call at the most, and each line of a log that can be read is played behind the lines before it.
-use Rattle.std.proofs.Common.{◌≡◌, ℕ, zero, suc, ◌+◌, ◌<◌, List, [], ◌∷◌, ◌++◌, Some, All, length, get_or, take, drop, refl, arith, ap, sym, ◌∙◌, subst}
-use Rattle.std.specs.Prelude.{slice_get}
-use Rattle.std.specs.List.{AllByRecursion}
-use Rattle.std.proofs.lemmas.List.{take_more}
-use Rattle.std.proofs.lemmas.List.Elements.{All-push, All-set, All-weaker, recursion_from_All}
-use Rattle.mt_log.specs.declared.lines.Item.{Item}
-use Rattle.mt_log.specs.declared.lines.Item.TheVariants.{Tree, Lane, Join, Dup, Check, Write, Ask, Scan}
-use Rattle.mt_log.specs.declared.lines.Line.{Line}
-use Rattle.mt_log.specs.Trees.{IsReadable, NamesBelow, trees_of}
-use Rattle.mt_linearize.proofs.Stretches.{line_named, line_placed, line_lane}
-use Rattle.mt_sequential.specs.Playing.{TreeState, PlayerState, Does, AreBoth, HasHistory, IsDeclaredSo, IsPlayed, IsCalledWithin}
+use Rattle.mt_sequential.proofs.Prelude.{◌≡◌, ℕ, zero, suc, ◌+◌, ◌<◌, List, [], ◌∷◌, ◌++◌, Some, All, length, get_or, take, drop, refl, arith, ap, sym, ◌∙◌, subst, slice_get, AllByRecursion, take_more, All-push, All-set, All-weaker, recursion_from_All, Item, Tree, Lane, Join, Dup, Check, Write, Ask, Scan, Line, IsReadable, NamesBelow, trees_of, line_named, line_placed, line_lane, TreeState, PlayerState, Does, AreBoth, HasHistory, IsDeclaredSo, IsPlayed, IsCalledWithin}
 use Rattle.mt_sequential.proofs.PlayedLines.{both_get, line_played}
 
 -- ---- calls

@@ -2,3 +2,4 @@ pub mod CalledWithin
 pub mod PlayedLines
 pub mod Removed
 pub mod Scanning
+mod Prelude

@@ -1,34 +1,6 @@
 -- What is played of one line more is what came of the lines.
-use Rattle.std.proofs.Common.{◌≡◌, ℕ, zero, suc, ◌+◌, ◌<◌, Bool, true, false, List, [], ◌∷◌, ◌++◌, Option, Some, None, length, map, arith, ap, sym, ◌∙◌, refl, subst, append_assoc, length-append}
-use Rattle.std.specs.Prelude.{slice_get, slice_set}
-use Rattle.std.specs.Option.{option_map, option_to_list}
-use Rattle.std.proofs.lemmas.List.{append-nil, map-append}
-use Rattle.mt_base.specs.declared.kinds.Kind.{Kind}
-use Rattle.mt_base.specs.declared.ranges.Range.{Range}
-use Rattle.mt_base.specs.declared.calls.Call.{Call}
-use Rattle.mt_base.specs.declared.calls.Query.{Query}
-use Rattle.mt_base.specs.Call.{answer}
-use Rattle.mt_base.specs.History.{Record, History, last_map}
-use Rattle.mt_base.specs.Nodes.{Limits, IsMade}
-use Rattle.mt_log.specs.declared.lines.Item.{Item}
-use Rattle.mt_log.specs.declared.lines.Item.TheVariants.{Tree, Lane, Join, Dup, Check, Write, Ask, Scan}
-use Rattle.mt_log.specs.declared.lines.Line.{Line}
-use Rattle.mt_log.specs.declared.lines.Log.{Log}
-use Rattle.mt_log.specs.declared.names.Word.{Word}
-use Rattle.mt_log.specs.declared.transcripts.Entry.{Entry}
+use Rattle.mt_sequential.proofs.Prelude.{◌≡◌, ℕ, zero, suc, ◌+◌, ◌<◌, Bool, true, false, List, [], ◌∷◌, ◌++◌, Option, Some, None, length, map, arith, ap, sym, ◌∙◌, refl, subst, append_assoc, length-append, slice_get, slice_set, option_map, option_to_list, append-nil, map-append, Kind, Range, Call, Query, answer, Record, History, last_map, Limits, IsMade, Item, Tree, Lane, Join, Dup, Check, Write, Ask, Scan, Line, Log, Word, Entry, Transcript, KnownTree, IsInPlace, phase_after, stepped_after, stepped_from, Asked, Step, Called, Looked, Counted, ScanGoesOnFrom, AreScanSteps, AreDone, IsRun, entry_of, find_at, listings_of, place_behind, place_within, shown, steps_of, Declared, Empty, CopyOf, declared_by, most_lanes, renamed, trees_of, asked_by, lane_behind, phase_behind, HasPlayed, MayLimit, IsNext, step_of_line, with_call, new_history, made_is_next, limits_next, call_played, count_played, phase_played, read_played, tree_played, copy_played, nothing_played, as_declared, as_large, played_is_run, asked_more, trees_more, phase_more, stepped_more, done_append, TreeState, PlayerState, Copies, Checks, Calls, Does, AreBoth, HasHistory, IsDeclaredSo, IsPlayedBy, IsPlayed, with_entry, read_entry, scan_entries, entries_behind, listing_of}
 use Rattle.mt_log.specs.declared.transcripts.Said.TheVariants as said
-use Rattle.mt_log.specs.declared.transcripts.Transcript.{Transcript}
-use Rattle.mt_log.specs.declared.trees.KnownTree.{KnownTree}
-use Rattle.mt_log.specs.Phases.{IsInPlace, phase_after, stepped_after, stepped_from}
-use Rattle.mt_log.specs.Run.{Asked, Step, Called, Looked, Counted, ScanGoesOnFrom, AreScanSteps, AreDone, IsRun, entry_of, find_at, listings_of, place_behind, place_within, shown, steps_of}
-use Rattle.mt_log.specs.Trees.{Declared, Empty, CopyOf, declared_by, most_lanes, renamed, trees_of}
-use Rattle.mt_linearize.specs.Lines.{asked_by, lane_behind, phase_behind}
-use Rattle.mt_linearize.specs.OneThread.{HasPlayed, MayLimit, IsNext, step_of_line, with_call}
-use Rattle.mt_linearize.specs.Phases.{new_history}
-use Rattle.mt_linearize.proofs.Answered.{made_is_next, limits_next}
-use Rattle.mt_linearize.proofs.Played.{call_played, count_played, phase_played, read_played, tree_played, copy_played, nothing_played, as_declared, as_large, played_is_run}
-use Rattle.mt_linearize.proofs.Stretches.{asked_more, trees_more, phase_more, stepped_more, done_append}
-use Rattle.mt_sequential.specs.Playing.{TreeState, PlayerState, Copies, Checks, Calls, Does, AreBoth, HasHistory, IsDeclaredSo, IsPlayedBy, IsPlayed, with_entry, read_entry, scan_entries, entries_behind, listing_of}
 
 -- ---- two lists, place by place
 

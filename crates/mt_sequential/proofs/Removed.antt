@@ -1,6 +1,5 @@
 -- A tree that is taken out of a list, or lent, and put back.
-use Rattle.std.proofs.Common.{◌≡◌, ℕ, zero, suc, ◌<◌, List, [], ◌∷◌, Some, length, get_or, sym, ap, arith}
-use Rattle.std.specs.Prelude.{insert, remove, slice_get, slice_set}
+use Rattle.mt_sequential.proofs.Prelude.{◌≡◌, ℕ, zero, suc, ◌<◌, List, [], ◌∷◌, Some, length, get_or, sym, ap, arith, insert, remove, slice_get, slice_set}
 
 pub put_back : {X : Type 0} (xs : List X) (i : ℕ) (x : X) → i < length xs → x ≡ get_or xs i x → insert (remove xs i) i x ≡ xs
 put_back [] i x within is = absurd (omega arith)

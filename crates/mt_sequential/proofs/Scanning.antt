@@ -1,10 +1,5 @@
 -- One step of a scan, and what is told of the rest of it.
-use Rattle.std.proofs.Common.{◌≡◌, ℕ, suc, List, [], ◌∷◌, ◌++◌, Option, Some, None, sym, ap, ◌∙◌, append_assoc}
-use Rattle.mt_base.specs.declared.ranges.Range.{Range}
-use Rattle.mt_base.specs.Call.{answer}
-use Rattle.mt_log.specs.declared.transcripts.Entry.{Entry}
-use Rattle.mt_log.specs.Run.{find_at, place_behind}
-use Rattle.mt_sequential.specs.Playing.{TreeState, read_entry, scan_entries, entries_behind}
+use Rattle.mt_sequential.proofs.Prelude.{◌≡◌, ℕ, suc, List, [], ◌∷◌, ◌++◌, Option, Some, None, sym, ap, ◌∙◌, append_assoc, Range, answer, Entry, find_at, place_behind, TreeState, read_entry, scan_entries, entries_behind}
 
 module _ (line : ℕ) (t : TreeState) (max k left : ℕ) (at : Option ℕ) (more : k ≡ suc left) (before after : List Entry) (told : after ≡ before ++ read_entry line t (find_at at max) ∷ []) where
   rest_is : (value : Option Range) → value ≡ answer t.map.ranges (find_at at max) → scan_entries line t max k at ≡ read_entry line t (find_at at max) ∷ entries_behind (scan_entries line t max left) max value

@@ -1,17 +1,5 @@
 -- Which shelves a query's answer hangs on.
-use Rattle.std.proofs.Common.{◌≡◌, ℕ, zero, suc, ◌+◌, ◌-◌, ◌<◌, ◌≤◌, ◌&&◌, Bool, true, false, List, [], ◌∷◌, ◌++◌, Option, Some, None, length, filter, find, take, drop, get_or, nat_lt, nat_le, refl, sym, ap, ◌∙◌, subst, inl, inr, arith, length-append}
-use Rattle.std.specs.List.{AllByRecursion, slice_get}
-use Rattle.std.specs.Option.{is_some}
-use Rattle.std.proofs.lemmas.Bool.{and_left, and_right, cases_Bool, lt-leb, le-ltb}
-use Rattle.std.proofs.lemmas.List.{append-nil}
-use Rattle.std.proofs.lemmas.List.Elements.{filter-append}
-use Rattle.mt_base.specs.declared.calls.Query.{Query}
-use Rattle.mt_base.specs.declared.calls.Query.TheVariants.{Load, Find, Next, Prev, Rfind}
-use Rattle.mt_base.specs.declared.ranges.Range.{Range}
-use Rattle.mt_base.specs.Call.{answer}
-use Rattle.mt_base.specs.Map.{IsMapFrom, first_range, holds, last_range}
-use Rattle.mt_list.proofs.HolesSought.{get_behind}
-use Rattle.mt_shelves.specs.Shelves.{AreRising, BeginAbove, EndBelow, LooksDown, LooksUp, begins_above, ends_below, joined}
+use Rattle.mt_shelves.proofs.Prelude.{◌≡◌, ℕ, zero, suc, ◌+◌, ◌-◌, ◌<◌, ◌≤◌, ◌&&◌, Bool, true, false, List, [], ◌∷◌, ◌++◌, Option, Some, None, length, filter, find, take, drop, get_or, nat_lt, nat_le, refl, sym, ap, ◌∙◌, subst, inl, inr, arith, length-append, AllByRecursion, slice_get, is_some, and_left, and_right, cases_Bool, lt-leb, le-ltb, append-nil, filter-append, Query, Load, Find, Next, Prev, Rfind, Range, answer, IsMapFrom, first_range, holds, last_range, get_behind, AreRising, BeginAbove, EndBelow, LooksDown, LooksUp, begins_above, ends_below, joined}
 use Rattle.mt_shelves.proofs.LyingBeside.{before_reach, behind_reach, joined_drop, joined_parts, joined_take, rise_back, rise_front}
 
 -- ---- the first and the last that pass

@@ -1,15 +1,5 @@
 -- What edits of shelves make of all ranges.
-use Rattle.std.proofs.Common.{◌≡◌, ℕ, zero, suc, ◌+◌, ◌-◌, ◌<◌, ◌≤◌, List, [], ◌∷◌, ◌++◌, length, filter, map, min, take, drop, set, insert, remove, get_or, nat_lt, refl, sym, ap, ◌∙◌, subst, arith, append_assoc, add-one, length-append}
-use Rattle.std.specs.List.{slice_range}
-use Rattle.std.proofs.Math.Seq.{drop-append-add, take-append_seam}
-use Rattle.std.proofs.lemmas.Bool.{le-ltb, lt-ltb}
-use Rattle.std.proofs.lemmas.List.{append-nil, drop-drop, drop-set-lt, drop_more, length-take-le, map-append, take-append-drop, take-set, take_more_set}
-use Rattle.std.proofs.lemmas.List.Elements.{filter-append}
-use Rattle.mt_base.specs.declared.ranges.Range.{Range}
-use Rattle.mt_base.specs.Map.{IsMapFrom, cut_above, cut_below, over, part_stored, parts_above, parts_below}
-use Rattle.mt_list.proofs.HolesSought.{IsMapFrom-front}
-use Rattle.mt_list.proofs.StoreAtPlaces.{all_parts_above, no_part_below}
-use Rattle.mt_shelves.specs.Shelves.{AllFilled, AreRising, BeginAbove, EndBelow, IsBrought, joined}
+use Rattle.mt_shelves.proofs.Prelude.{◌≡◌, ℕ, zero, suc, ◌+◌, ◌-◌, ◌<◌, ◌≤◌, List, [], ◌∷◌, ◌++◌, length, filter, map, min, take, drop, set, insert, remove, get_or, nat_lt, refl, sym, ap, ◌∙◌, subst, arith, append_assoc, add-one, length-append, slice_range, drop-append-add, take-append_seam, le-ltb, lt-ltb, append-nil, drop-drop, drop-set-lt, drop_more, length-take-le, map-append, take-append-drop, take-set, take_more_set, filter-append, Range, IsMapFrom, cut_above, cut_below, over, part_stored, parts_above, parts_below, IsMapFrom-front, all_parts_above, no_part_below, AllFilled, AreRising, BeginAbove, EndBelow, IsBrought, joined}
 use Rattle.mt_shelves.proofs.LyingBeside.{filled_at, joined-append, joined_drop, joined_parts, rise_back, rise_front}
 use Rattle.mt_shelves.proofs.MapParts.{IsMapFrom-back}
 

@@ -1,13 +1,5 @@
 -- An index lies on the first shelf that does not end below it, if on any.
-use Rattle.std.proofs.Common.{◌≡◌, ℕ, ◌+◌, ◌<◌, ◌≤◌, false, List, [], ◌∷◌, ◌++◌, None, length, take, drop, set, get_or, not, nat_le, refl, sym, ap, ◌∙◌, subst, arith}
-use Rattle.std.proofs.lemmas.Bool.{and_right, lt-leb}
-use Rattle.std.proofs.lemmas.List.{drop_all, get_or_default}
-use Rattle.std.proofs.lemmas.List.Elements.{filter-append}
-use Rattle.mt_base.specs.declared.calls.Query.TheVariants.{Load}
-use Rattle.mt_base.specs.declared.ranges.Range.{Range}
-use Rattle.mt_base.specs.Map.{IsMapFrom, holding, holds, without}
-use Rattle.mt_list.proofs.EraseAtPlace.{without_above}
-use Rattle.mt_shelves.specs.Shelves.{AreRising, EndBelow, ends_below, joined}
+use Rattle.mt_shelves.proofs.Prelude.{◌≡◌, ℕ, ◌+◌, ◌<◌, ◌≤◌, false, List, [], ◌∷◌, ◌++◌, None, length, take, drop, set, get_or, not, nat_le, refl, sym, ap, ◌∙◌, subst, arith, and_right, lt-leb, drop_all, get_or_default, filter-append, Load, Range, IsMapFrom, holding, holds, without, without_above, AreRising, EndBelow, ends_below, joined}
 use Rattle.mt_shelves.proofs.Answering.{ends_up, start_up}
 use Rattle.mt_shelves.proofs.Editing.{from_above, joined_at, joined_set}
 use Rattle.mt_shelves.proofs.LyingBeside.{behind_reach, joined_drop, rise_back}

@@ -1,16 +1,5 @@
 -- The holes of a map, shelf by shelf, and which shelves have no room.
-use Rattle.std.proofs.Common.{◌≡◌, ℕ, ◌+◌, ◌<◌, ◌≤◌, ◌^◌, false, List, [], ◌∷◌, ◌++◌, Some, None, length, min, max, take, drop, get_or, nat_le, nat_lt, refl, sym, ap, ◌∙◌, subst, inl, inr, arith, append_assoc}
-use Rattle.std.specs.List.{AllByRecursion}
-use Rattle.std.proofs.lemmas.Bool.{cases_Bool, cond_both, leb-false, lt-leb, ltb-false, ltb-true}
-use Rattle.std.proofs.lemmas.List.{append-nil, drop_more}
-use Rattle.mt_base.specs.declared.kinds.Kind.{Kind}
-use Rattle.mt_base.specs.declared.ranges.Range.{Range}
-use Rattle.mt_base.specs.Holes.{Hole, clip, fits, high, hole_between, holes_from, kept, highest_in, low, lowest_in}
-use Rattle.mt_base.specs.Map.{IsMapFrom}
-use Rattle.mt_base.specs.Width.{greatest_of, kind_width}
-use Rattle.mt_base.proofs.WidthBounds.{greatest_fits}
-use Rattle.mt_list.proofs.HolesSought.{highest_back, highest_before, kept-append, lowest_behind, lowest_front, no_hole}
-use Rattle.mt_shelves.specs.Shelves.{AreShelves, AreHolesUpTo, shelf_end, has_room, holes_after, holes_in, joined, shelf_start}
+use Rattle.mt_shelves.proofs.Prelude.{◌≡◌, ℕ, ◌+◌, ◌<◌, ◌≤◌, ◌^◌, false, List, [], ◌∷◌, ◌++◌, Some, None, length, min, max, take, drop, get_or, nat_le, nat_lt, refl, sym, ap, ◌∙◌, subst, inl, inr, arith, append_assoc, AllByRecursion, cases_Bool, cond_both, leb-false, lt-leb, ltb-false, ltb-true, append-nil, drop_more, Kind, Range, Hole, clip, fits, high, hole_between, holes_from, kept, highest_in, low, lowest_in, IsMapFrom, greatest_of, kind_width, greatest_fits, highest_back, highest_before, kept-append, lowest_behind, lowest_front, no_hole, AreShelves, AreHolesUpTo, shelf_end, has_room, holes_after, holes_in, joined, shelf_start}
 use Rattle.mt_shelves.proofs.LyingBeside.{filled_at, joined_drop, joined_parts, joined_take, rise_back, rise_front}
 
 -- ---- holes, shelf by shelf

@@ -6,3 +6,4 @@ pub mod Editing
 pub mod ErasingThere
 pub mod ShelvesKept
 pub mod HolesOnShelves
+mod Prelude

@@ -1,11 +1,5 @@
 -- The longest hole between ranges, one range after another.
-use Rattle.std.proofs.Common.{◌≡◌, ℕ, ◌+◌, ◌-◌, ◌<◌, ◌≤◌, List, ◌∷◌, ◌++◌, length, drop, get_or, nat_lt, sym, subst, arith}
-use Rattle.std.proofs.lemmas.Bool.{cond_both, ltb-true}
-use Rattle.std.proofs.lemmas.List.{drop_more}
-use Rattle.mt_base.specs.declared.ranges.Range.{Range}
-use Rattle.mt_base.specs.Holes.{Hole}
-use Rattle.mt_base.specs.Map.{IsMapFrom}
-use Rattle.mt_shelves.specs.Shelves.{AreHolesUpTo, holes_after}
+use Rattle.mt_shelves.proofs.Prelude.{◌≡◌, ℕ, ◌+◌, ◌-◌, ◌<◌, ◌≤◌, List, ◌∷◌, ◌++◌, length, drop, get_or, nat_lt, sym, subst, arith, cond_both, ltb-true, drop_more, Range, Hole, IsMapFrom, AreHolesUpTo, holes_after}
 
 -- so far: the ranges from a place on are above this index, and holes are no longer than some length where those behind are not
 pub record IsLongest (ranges : List Range) (index at last longest : ℕ) : Type 0 where

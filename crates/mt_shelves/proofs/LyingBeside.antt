@@ -1,12 +1,5 @@
 -- What lies before a shelf that ends below an index, and behind one that begins above one.
-use Rattle.std.proofs.Common.{◌≡◌, ℕ, zero, suc, ◌+◌, ◌<◌, ◌≤◌, true, false, List, [], ◌∷◌, ◌++◌, length, take, drop, get_or, sym, ap, ◌∙◌, subst, arith}
-use Rattle.std.proofs.lemmas.Bool.{ltb-true, ltb-false}
-use Rattle.std.proofs.lemmas.Grind.{flat_map-append}
-use Rattle.std.proofs.lemmas.List.{append-nil, drop_more, take_more, take-append-drop}
-use Rattle.mt_base.specs.declared.ranges.Range.{Range}
-use Rattle.mt_base.specs.Map.{IsMapFrom}
-use Rattle.mt_list.proofs.HolesSought.{IsMapFrom-front}
-use Rattle.mt_shelves.specs.Shelves.{AllFilled, AreRising, BeginAbove, EndBelow, begins_above, ends_below, joined}
+use Rattle.mt_shelves.proofs.Prelude.{◌≡◌, ℕ, zero, suc, ◌+◌, ◌<◌, ◌≤◌, true, false, List, [], ◌∷◌, ◌++◌, length, take, drop, get_or, sym, ap, ◌∙◌, subst, arith, ltb-true, ltb-false, flat_map-append, append-nil, drop_more, take_more, take-append-drop, Range, IsMapFrom, IsMapFrom-front, AllFilled, AreRising, BeginAbove, EndBelow, begins_above, ends_below, joined}
 use Rattle.mt_shelves.proofs.MapParts.{IsMapFrom-back}
 
 -- ---- one list of ranges

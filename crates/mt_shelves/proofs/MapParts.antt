@@ -1,11 +1,5 @@
 -- The parts of a map are maps.
-use Rattle.std.proofs.Common.{ℕ, ◌+◌, Bool, List, [], ◌∷◌, ◌++◌, filter, take, drop, not, sym, subst, arith}
-use Rattle.std.proofs.lemmas.Bool.{cond_both}
-use Rattle.std.proofs.lemmas.List.{take-append-drop}
-use Rattle.mt_base.specs.declared.ranges.Range.{Range}
-use Rattle.mt_base.specs.Map.{IsMapFrom, holds, without}
-use Rattle.mt_base.proofs.StoredOrder.{IsMapFrom-lower}
-use Rattle.mt_list.proofs.HolesSought.{IsMapFrom-front}
+use Rattle.mt_shelves.proofs.Prelude.{ℕ, ◌+◌, Bool, List, [], ◌∷◌, ◌++◌, filter, take, drop, not, sym, subst, arith, cond_both, take-append-drop, Range, IsMapFrom, holds, without, IsMapFrom-lower, IsMapFrom-front}
 
 pub IsMapFrom-back : (low : ℕ) (front back : List Range) → IsMapFrom low (front ++ back) → IsMapFrom low back
 IsMapFrom-back low [] back rise = rise

@@ -1,15 +1,5 @@
 -- What a call leaves on the shelves is a map of the same kind.
-use Rattle.std.proofs.Common.{◌≡◌, ℕ, suc, not, ◌+◌, ◌<◌, ◌≤◌, ◌^◌, ◌==◌, Bool, List, [], ◌∷◌, ◌++◌, Option, Some, None, OnSome, IfNone, length, filter, take, drop, get_or, nat_lt, sym, ap, ◌∙◌, subst, inl, inr, arith, length-append}
-use Rattle.std.proofs.lemmas.Bool.{cases_Bool, cond_both, ltb-true, ltb-false}
-use Rattle.std.proofs.lemmas.List.{length-map}
-use Rattle.mt_base.specs.declared.kinds.Kind.{Kind}
-use Rattle.mt_base.specs.declared.ranges.Range.{Range}
-use Rattle.mt_base.specs.Map.{IsMap, IsMapFrom, cut_above, over, part_stored, parts_above, parts_below, holds, without}
-use Rattle.mt_base.specs.Width.{greatest_of}
-use Rattle.mt_base.proofs.StoredOrder.{over_is_map}
-use Rattle.mt_list.proofs.MapsKept.{erased_is_map}
-use Rattle.mt_list.proofs.StoreAtPlaces.{no_part_below}
-use Rattle.mt_shelves.specs.Shelves.{AllFilled, AreRising, IsShelfMap, joined}
+use Rattle.mt_shelves.proofs.Prelude.{◌≡◌, ℕ, suc, not, ◌+◌, ◌<◌, ◌≤◌, ◌^◌, ◌==◌, Bool, List, [], ◌∷◌, ◌++◌, Option, Some, None, OnSome, IfNone, length, filter, take, drop, get_or, nat_lt, sym, ap, ◌∙◌, subst, inl, inr, arith, length-append, cases_Bool, cond_both, ltb-true, ltb-false, length-map, Kind, Range, IsMap, IsMapFrom, cut_above, over, part_stored, parts_above, parts_below, holds, without, greatest_of, over_is_map, erased_is_map, no_part_below, AllFilled, AreRising, IsShelfMap, joined}
 use Rattle.mt_shelves.proofs.LyingBeside.{joined_parts, joined_take}
 
 pub fewer_so_far : (shelves : List (List Range)) (i : ℕ) → length (joined (take i shelves)) ≤ length (joined shelves)

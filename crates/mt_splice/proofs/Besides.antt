@@ -1,29 +1,6 @@
 -- The row beside a window is taken in, and the run may be cut.
-use Rattle.std.proofs.Common.{◌≡◌, ◌≢◌, ◌⊎◌, ℕ, zero, suc, ◌+◌, ◌-◌, ◌<◌, ◌≤◌, ◌==◌, ◌&&◌, List, [], ◌∷◌, ◌++◌, Bool, true, false, length, refl, sym, ap, ◌∙◌, subst, inl, inr, arith, append_assoc, length-append, ne_eqb, eq-eqb}
-use Rattle.std.specs.Prelude.{if◌then◌else◌}
-use Rattle.std.specs.List.{flat_map}
-use Rattle.std.proofs.lemmas.Grind.{flat_map-append}
-use Rattle.mt_base.specs.declared.ranges.Range.{Range}
-use Rattle.mt_base.specs.Entry.{reserved}
-use Rattle.mt_base.proofs.Lists.{all_join}
-use Rattle.mt_layout.specs.declared.spans.Span.{Span}
-use Rattle.mt_layout.specs.Sizes.{slots_of, least_items}
-use Rattle.mt_layout.specs.Spans.{leaf_range, Fills, EndsFull}
-use Rattle.mt_layout.proofs.RowSizes.{sizes}
-use Rattle.mt_layout.proofs.SpanLists.{fills-append, some_filled, full-append, two_hold_an_entry}
-use Rattle.mt_rows.specs.Spans.{spans_in}
-use Rattle.mt_rows.specs.Levels.{expand}
-use Rattle.mt_rows.specs.Laws.{Tree, IsRow, top_of, kind_on, covers_all, least_of_root, least_of}
-use Rattle.mt_rows.proofs.FewSpans.{row_most}
-use Rattle.mt_rows.proofs.Lists.{expand-append}
-use Rattle.mt_leaf.specs.Edits.{holes_joined}
-use Rattle.mt_leaf.proofs.Holes.{ends_joined, full_unless_hole, no_hole_ends}
-use Rattle.mt_leaf.proofs.Joined.{ranges_joined, fills_joined, apart_joined, length_joined, length_joins}
-use Rattle.mt_path.proofs.TreePaths.{place, lawful}
-use Rattle.mt_splice.specs.steps.Work.{Start, rows_at}
-use Rattle.mt_splice.specs.steps.Runs.{MayBeIn, most_in_three, span_to, MayBeCut}
+use Rattle.mt_splice.proofs.Prelude.{◌≡◌, ◌≢◌, ◌⊎◌, ℕ, zero, suc, ◌+◌, ◌-◌, ◌<◌, ◌≤◌, ◌==◌, ◌&&◌, List, [], ◌∷◌, ◌++◌, Bool, true, false, length, refl, sym, ap, ◌∙◌, subst, inl, inr, arith, append_assoc, length-append, ne_eqb, eq-eqb, if◌then◌else◌, flat_map, flat_map-append, Range, reserved, all_join, Span, slots_of, least_items, leaf_range, Fills, EndsFull, sizes, fills-append, some_filled, full-append, two_hold_an_entry, spans_in, expand, Tree, IsRow, top_of, kind_on, covers_all, least_of_root, least_of, row_most, expand-append, holes_joined, ends_joined, full_unless_hole, no_hole_ends, ranges_joined, fills_joined, apart_joined, length_joined, length_joins, place, lawful, Start, rows_at, MayBeIn, most_in_three, span_to, MayBeCut, before, behind, row_at, low_of, high_of, StandFor, Gathered}
 use Rattle.mt_splice.proofs.EditedRegions.{all_joined}
-use Rattle.mt_splice.specs.steps.Windows.{before, behind, row_at, low_of, high_of, StandFor, Gathered}
 use Rattle.mt_splice.proofs.Windows.{begins_behind, row_behind, ahead_within, ends_ahead, row_ahead}
 use Rattle.mt_splice.proofs.TakenIn.{beside}
 

@@ -1,24 +1,5 @@
 -- A store within a call: the call begins, rows are only read, then replaced, and the rows are ready once more when it ends.
-use Rattle.std.proofs.Common.{◌≡◌, ℕ, ◌+◌, List, Option, false, sym, ap, ◌∙◌, subst, inl, inr}
-use Rattle.mt_base.specs.declared.kinds.Kind.{Kind}
-use Rattle.mt_base.specs.declared.calls.Call.{Call}
-use Rattle.mt_base.specs.declared.replies.Reply.{Reply}
-use Rattle.mt_free.specs.Book.{Book}
-use Rattle.mt_layout.specs.declared.items.Item.{Item}
-use Rattle.mt_layout.specs.Spans.{spans_from}
-use Rattle.mt_leaf.specs.Edits.{edited}
-use Rattle.mt_rows.specs.Laws.{Tree, IsLawful, IsTree}
-use Rattle.mt_rows.specs.Sheet.{Rooted, Sheet, OnlyReads}
-use Rattle.mt_rows.specs.Publish.{tree_as, IsToldKind, IsTreeOf, IsLawfulOf}
-use Rattle.mt_rows.specs.declared.rows.Place.{Place}
-use Rattle.mt_rows.specs.declared.rows.Place.TheVariants.{Root, Slot}
-use Rattle.mt_rows.proofs.Loads.{reads_on, same_tree}
-use Rattle.mt_path.specs.declared.paths.PathStep.{PathStep}
-use Rattle.mt_path.specs.Paths.{path_in}
-use Rattle.mt_path.specs.Handles.{last_step}
-use Rattle.mt_splice.specs.Splice.{IsSpliced, WasPublishedAt, MaySplice, MayReplace, region_of}
-use Rattle.mt_splice.specs.Kept.{IsConsistent}
-use Rattle.mt_splice.specs.steps.Regions.{AreEnds}
+use Rattle.mt_splice.proofs.Prelude.{◌≡◌, ℕ, ◌+◌, List, Option, false, sym, ap, ◌∙◌, subst, inl, inr, Kind, Call, Reply, Book, Item, spans_from, edited, Tree, IsLawful, IsTree, Rooted, Sheet, OnlyReads, tree_as, IsToldKind, IsTreeOf, IsLawfulOf, Place, Root, Slot, reads_on, same_tree, PathStep, path_in, last_step, IsSpliced, WasPublishedAt, MaySplice, MayReplace, region_of, IsConsistent, AreEnds}
 
 -- no call is in flight, and the tree is kept
 pub record IsBetweenCalls (kind : Kind) (s : Sheet) (book : Book) : Type 0 where

@@ -1,13 +1,5 @@
 -- Rows buried one by one: what may still be buried, and what was.
-use Rattle.std.proofs.Common.{[], ◌≡◌, ℕ, zero, suc, ◌≤◌, List, ◌∷◌, ◌++◌, Option, refl, sym, ap, ◌∙◌, subst, ⊎_elim, arith}
-use Rattle.std.specs.Prelude.{All, Contains}
-use Rattle.std.specs.List.{AllByRecursion}
-use Rattle.std.proofs.lemmas.List.{map-append}
-use Rattle.std.proofs.lemmas.List.Elements.{All-append, Contains-append_left, Contains-append_cases}
-use Rattle.mt_base.proofs.Lists.{all_map, all_front}
-use Rattle.mt_free.specs.Book.{Book, Held, IsOut, held_rows, after_retire}
-use Rattle.mt_rows.specs.Sheet.{Sheet, OnlyReads, MayBury, after_bury}
-use Rattle.mt_splice.specs.steps.Burials.{after_burials, after_retirals, EachOnce, MayBeBuried, MayBuryAll, AreBuriedAll}
+use Rattle.mt_splice.proofs.Prelude.{[], ◌≡◌, ℕ, zero, suc, ◌≤◌, List, ◌∷◌, ◌++◌, Option, refl, sym, ap, ◌∙◌, subst, ⊎_elim, arith, All, Contains, AllByRecursion, map-append, All-append, Contains-append_left, Contains-append_cases, all_map, all_front, Book, Held, IsOut, held_rows, after_retire, Sheet, OnlyReads, MayBury, after_bury, after_burials, after_retirals, EachOnce, MayBeBuried, MayBuryAll, AreBuriedAll}
 
 -- ---- what may be buried
 

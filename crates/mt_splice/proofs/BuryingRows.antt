@@ -1,27 +1,5 @@
 -- The rows of windows buried along one walk each.
-use Rattle.std.proofs.Common.{[], ◌≡◌, ℕ, ◌+◌, ◌-◌, ◌<◌, ◌≤◌, List, ◌∷◌, ◌++◌, length, map, refl, sym, ap, ◌∙◌, subst, ⊎_elim, arith, Bool, true, false}
-use Rattle.std.specs.Prelude.{◌↔◌}
-use Rattle.std.specs.Bool.{OnTrue}
-use Rattle.std.proofs.lemmas.Bool.{cases_lt}
-use Rattle.std.proofs.lemmas.List.{map-append}
-use Rattle.mt_base.specs.declared.kinds.Kind.{Kind}
-use Rattle.mt_base.specs.declared.widths.Width.{Width}
-use Rattle.mt_base.specs.Width.{greatest}
-use Rattle.mt_free.specs.Book.{Book, after_retire}
-use Rattle.mt_layout.specs.declared.spans.Span.{Span}
-use Rattle.mt_layout.specs.Rows.{row_in}
-use Rattle.mt_layout.proofs.SpanLists.{fills_le}
-use Rattle.mt_path.specs.declared.paths.PathStep.{PathStep}
-use Rattle.mt_path.specs.Paths.{path_in, step_at, step_in}
-use Rattle.mt_path.proofs.TreePaths.{levels, step, place}
-use Rattle.mt_path.proofs.Ways.{some_root, some_tree}
-use Rattle.mt_rows.specs.Laws.{Tree, Stands, top_of}
-use Rattle.mt_rows.specs.Publish.{IsTreeOf, tree_as}
-use Rattle.mt_rows.specs.Sheet.{Rooted, Sheet, OnlyReads, after_bury}
-use Rattle.mt_splice.specs.declared.ways.Window.{Window}
-use Rattle.mt_splice.specs.steps.Burials.{MayBeBuried, MayBuryAll, AreBuriedAll, numbers_between, numbers_in, numbers_in_all, IsWindowOn, IsStretchOn, AreWindowsOn}
-use Rattle.mt_splice.specs.steps.Windows.{between, row_at, low_of, high_of}
-use Rattle.mt_splice.specs.steps.Work.{rows_at}
+use Rattle.mt_splice.proofs.Prelude.{[], ◌≡◌, ℕ, ◌+◌, ◌-◌, ◌<◌, ◌≤◌, List, ◌∷◌, ◌++◌, length, map, refl, sym, ap, ◌∙◌, subst, ⊎_elim, arith, Bool, true, false, ◌↔◌, OnTrue, cases_lt, map-append, Kind, Width, greatest, Book, after_retire, Span, row_in, fills_le, PathStep, path_in, step_at, step_in, levels, step, place, some_root, some_tree, Tree, Stands, top_of, IsTreeOf, tree_as, Rooted, Sheet, OnlyReads, after_bury, Window, MayBeBuried, MayBuryAll, AreBuriedAll, numbers_between, numbers_in, numbers_in_all, IsWindowOn, IsStretchOn, AreWindowsOn, between, row_at, low_of, high_of, rows_at}
 use Rattle.mt_splice.proofs.Burials.{may_first, may_front, may_then, may_later, reads_buried, one_buried, more_buried}
 use Rattle.mt_splice.proofs.KeptTrees.{SameTree, buried_tree, same_kind}
 use Rattle.mt_splice.proofs.Windows.{begins_behind, ends_ahead}

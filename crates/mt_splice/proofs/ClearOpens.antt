@@ -1,32 +1,5 @@
 -- A tree is to be emptied: no row is drafted, and the windows are those of all its levels.
-use Rattle.std.proofs.Common.{◌≡◌, ℕ, suc, ◌+◌, ◌-◌, ◌≤◌, List, [], length, refl, sym, ap, ◌∙◌, subst, inl, arith}
-use Rattle.mt_base.specs.declared.calls.Call.{Call}
-use Rattle.mt_base.specs.declared.kinds.Kind.{Kind}
-use Rattle.mt_base.specs.declared.ranges.Range.{Range}
-use Rattle.mt_base.specs.declared.replies.Reply.{Reply}
-use Rattle.mt_base.specs.declared.widths.Width.{Width}
-use Rattle.mt_base.specs.Call.{acted}
-use Rattle.mt_base.specs.Width.{deepest, greatest}
-use Rattle.mt_free.specs.Book.{Book}
-use Rattle.mt_path.specs.declared.paths.PathStep.{PathStep}
-use Rattle.mt_path.specs.Paths.{path_in}
-use Rattle.mt_path.proofs.Places.{at_within}
-use Rattle.mt_path.proofs.TreePaths.{levels, place}
-use Rattle.mt_rows.specs.declared.rows.Place.TheVariants.{Root}
-use Rattle.mt_rows.specs.Laws.{Tree, Stands, top_of}
-use Rattle.mt_rows.specs.Publish.{map_by, tree_as}
-use Rattle.mt_rows.specs.Sheet.{IsWhole, OnlyReads, Rooted, Sheet}
-use Rattle.mt_rows.specs.Spans.{inner_kind}
-use Rattle.mt_rows.proofs.Loads.{reads_on, same_tree}
-use Rattle.mt_splice.specs.declared.climbing.Climb.{Climb}
-use Rattle.mt_splice.specs.declared.climbing.Top.{Top}
-use Rattle.mt_splice.specs.Splice.{MayClear}
-use Rattle.mt_splice.specs.steps.Climbing.{HasClimbed, windows_over}
-use Rattle.mt_splice.specs.steps.Entries.{IsBegunBy, before_of, start_for}
-use Rattle.mt_splice.specs.steps.Progress.{Before}
-use Rattle.mt_splice.specs.steps.Replacing.{IsAnswer}
-use Rattle.mt_splice.specs.steps.Windows.{high_of, low_of, row_at}
-use Rattle.mt_splice.specs.steps.Work.{Start, rows_at}
+use Rattle.mt_splice.proofs.Prelude.{◌≡◌, ℕ, suc, ◌+◌, ◌-◌, ◌≤◌, List, [], length, refl, sym, ap, ◌∙◌, subst, inl, arith, Call, Kind, Range, Reply, Width, acted, deepest, greatest, Book, PathStep, path_in, at_within, levels, place, Root, Tree, Stands, top_of, map_by, tree_as, IsWhole, OnlyReads, Rooted, Sheet, inner_kind, reads_on, same_tree, Climb, Top, MayClear, HasClimbed, windows_over, IsBegunBy, before_of, start_for, Before, IsAnswer, high_of, low_of, row_at, Start, rows_at}
 use Rattle.mt_splice.proofs.Clearing.{left_levels}
 use Rattle.mt_splice.proofs.Climbed.{ledger_reads}
 use Rattle.mt_splice.proofs.SpliceBegins.{case_of, nothing_done, stands_at_start}

@@ -1,25 +1,8 @@
 -- A tree is to be emptied: nothing was done yet, and the paths lead to its first leaf and to its last.
-use Rattle.std.proofs.Common.{[], ◌≡◌, ℕ, ◌+◌, ◌≤◌, List, length, refl, sym, ap, ◌∙◌, subst, inl, inr, arith}
-use Rattle.mt_base.specs.declared.kinds.Kind.{Kind}
-use Rattle.mt_base.specs.declared.ranges.Range.{Range}
-use Rattle.mt_base.specs.declared.calls.Call.{Call}
-use Rattle.mt_base.specs.declared.replies.Reply.{Reply}
-use Rattle.mt_base.specs.Width.{greatest}
-use Rattle.mt_free.specs.Book.{Book}
-use Rattle.mt_rows.specs.declared.rows.Place.TheVariants.{Root}
-use Rattle.mt_rows.specs.Laws.{Tree, IsTree, Stands}
-use Rattle.mt_rows.specs.Sheet.{Rooted, Sheet, OnlyReads}
-use Rattle.mt_rows.specs.Publish.{tree_as, IsTreeOf, map_by}
-use Rattle.mt_path.specs.declared.paths.PathStep.{PathStep}
-use Rattle.mt_path.specs.Paths.{path_in}
-use Rattle.mt_path.proofs.Empty.{empty_together}
+use Rattle.mt_splice.proofs.Prelude.{[], ◌≡◌, ℕ, ◌+◌, ◌≤◌, List, length, refl, sym, ap, ◌∙◌, subst, inl, inr, arith, Kind, Range, Call, Reply, greatest, Book, Root, Tree, IsTree, Stands, Rooted, Sheet, OnlyReads, tree_as, IsTreeOf, map_by, PathStep, path_in, empty_together, Start, MayClear, IsSpliced, start_for, same_tree}
 use Rattle.mt_path.proofs.TreePaths as paths
-use Rattle.mt_splice.specs.steps.Work.{Start}
-use Rattle.mt_splice.specs.Splice.{MayClear, IsSpliced}
-use Rattle.mt_splice.specs.steps.Entries.{start_for}
 use Rattle.mt_splice.proofs.BetweenCalls.{lawful_tree}
 use Rattle.mt_splice.proofs.SpliceBegins.{stands_at_start}
-use Rattle.mt_rows.proofs.Loads.{same_tree}
 
 module _ {kind : Kind} {s : Sheet} {book : Book} {number : ℕ} {call : Call} {reply : Reply} (may : MayClear kind s book number call reply) where
   abbrev t : Tree

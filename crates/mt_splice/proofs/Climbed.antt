@@ -1,49 +1,6 @@
 -- The climb: what its steps ask, and what a level comes to.
-use Rattle.std.proofs.Common.{◌≡◌, ℕ, zero, suc, ◌+◌, ◌*◌, ◌-◌, ◌<◌, ◌≤◌, List, [], ◌∷◌, ◌++◌, length, refl, sym, ap, ◌∙◌, subst, inl, ⊎_elim, arith}
-use Rattle.std.specs.Prelude.{All, ◌||◌}
-use Rattle.std.specs.List.{flat_map}
-use Rattle.mt_base.specs.declared.widths.Width.{Width}
-use Rattle.mt_base.specs.Width.{columns, greatest}
-use Rattle.mt_free.specs.Book.{Book}
-use Rattle.mt_layout.specs.declared.items.Item.{Item}
-use Rattle.mt_layout.specs.declared.names.RowKind.{RowKind}
-use Rattle.mt_layout.specs.declared.names.RowKind.TheVariants.{Leaf}
-use Rattle.mt_layout.specs.declared.spans.Span.{Span}
-use Rattle.mt_layout.specs.Sizes.{slots_of}
-use Rattle.mt_layout.specs.Spans.{leaf_range, spans_from, Apart, Fills}
-use Rattle.mt_layout.proofs.RowSizes.{sizes}
-use Rattle.mt_layout.proofs.SpanLists.{apart_anywhere, length-spans_from}
-use Rattle.mt_path.specs.declared.paths.PathStep.{PathStep}
-use Rattle.mt_path.specs.Paths.{step_at, step_in}
-use Rattle.mt_path.proofs.Places.{at_within}
-use Rattle.mt_path.proofs.TreePaths.{levels, place}
-use Rattle.mt_rows.specs.Laws.{Stands, kind_on, top_of}
-use Rattle.mt_rows.specs.Levels.{expand}
-use Rattle.mt_rows.specs.Publish.{is_reached}
-use Rattle.mt_rows.specs.Sheet.{Rooted, Sheet, OnlyReads, IsFree, life_of}
-use Rattle.mt_rows.specs.Spans.{Table, column, inner_of}
-use Rattle.mt_rows.proofs.InnerKinds.{leaf_low}
-use Rattle.mt_splice.specs.declared.climbing.Climb.{Climb}
-use Rattle.mt_splice.specs.declared.decisions.Next.{Next}
-use Rattle.mt_splice.specs.declared.decisions.Next.TheVariants.{Up}
-use Rattle.mt_splice.specs.declared.ways.Window.{Window}
-use Rattle.mt_splice.specs.declared.writes.NewRow.{NewRow}
-use Rattle.mt_splice.specs.Fewest.{IsCutOf}
-use Rattle.mt_splice.specs.steps.Climbing.{IsClimbing, IsNothingLeft, IsLevelDrafted}
-use Rattle.mt_splice.specs.steps.Decisions.{IsNothing, EndsHere, IsNextDecision, item_words}
-use Rattle.mt_splice.specs.steps.Drafting.{AreRowsTaken, noted_rows, MayDraftRows, AreRowsDrafted}
-use Rattle.mt_splice.specs.steps.Layers.{heads}
-use Rattle.mt_splice.specs.steps.Ledgers.{was_taken, IsLedger}
-use Rattle.mt_splice.specs.steps.Looking.{IsNowOf, MayLook, MayGather, items_above}
-use Rattle.mt_splice.specs.steps.Plans.{Layer, depth_at, begin_at, new_at, level_of, IsLayer, AreAllHeld, newest_first, taken_by, windows_by, window_at}
-use Rattle.mt_splice.specs.steps.Progress.{Before, IsProgress, new_rows_of}
-use Rattle.mt_splice.specs.steps.Runs.{MayBeIn, MayBeCut}
-use Rattle.mt_splice.specs.steps.Seen.{Seen}
-use Rattle.mt_splice.specs.steps.Widening.{IsWidened, IsWindow, MayWiden}
-use Rattle.mt_splice.specs.steps.Windows.{before, behind, in_place, row_at, low_of, high_of, Gathered}
-use Rattle.mt_splice.specs.steps.Work.{Start, rows_at, tree_with}
+use Rattle.mt_splice.proofs.Prelude.{◌≡◌, ℕ, zero, suc, ◌+◌, ◌*◌, ◌-◌, ◌<◌, ◌≤◌, List, [], ◌∷◌, ◌++◌, length, refl, sym, ap, ◌∙◌, subst, inl, ⊎_elim, arith, All, ◌||◌, flat_map, Width, columns, greatest, Book, Item, RowKind, Leaf, Span, slots_of, leaf_range, spans_from, Apart, Fills, sizes, apart_anywhere, length-spans_from, PathStep, step_at, step_in, at_within, levels, place, Stands, kind_on, top_of, expand, is_reached, Rooted, Sheet, OnlyReads, IsFree, life_of, Table, column, inner_of, leaf_low, Climb, Next, Up, Window, NewRow, IsCutOf, IsClimbing, IsNothingLeft, IsLevelDrafted, IsNothing, EndsHere, IsNextDecision, item_words, AreRowsTaken, noted_rows, MayDraftRows, AreRowsDrafted, heads, was_taken, IsLedger, IsNowOf, MayLook, MayGather, items_above, Layer, depth_at, begin_at, new_at, level_of, IsLayer, AreAllHeld, newest_first, taken_by, windows_by, window_at, Before, IsProgress, new_rows_of, MayBeIn, MayBeCut, Seen, IsWidened, IsWindow, MayWiden, before, behind, in_place, row_at, low_of, high_of, Gathered, Start, rows_at, tree_with, AreAmongOld, AreFromBelow}
 use Rattle.mt_splice.proofs.Besides.{begin_within, low_enough, some_gathered}
-use Rattle.mt_splice.specs.steps.Telling.{AreAmongOld, AreFromBelow}
 use Rattle.mt_splice.proofs.DraftedLedger.{taken_behind, all_held_stay, ledger_then, taken_stay, held_then, noted_then, width_then}
 use Rattle.mt_splice.proofs.FromBelow.{gathered_from, widened_from}
 use Rattle.mt_splice.proofs.Heads.{heads_fill, length-heads}

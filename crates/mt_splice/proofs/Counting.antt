@@ -1,9 +1,5 @@
 -- How long a list of numbers is in which each number of a span stands once, and no other.
-use Rattle.std.proofs.Common.{◌≡◌, ◌≢◌, ℕ, zero, suc, ◌+◌, ◌<◌, ◌≤◌, ◌==◌, List, [], ◌∷◌, length, refl, subst, inl, inr, arith, eq-eqb}
-use Rattle.std.specs.List.{AllPairs, Contains}
-use Rattle.std.proofs.lemmas.Bool.{cases_Bool, eqb-true, eqb-false}
-use Rattle.mt_rows.specs.Levels.{tally}
-use Rattle.mt_rows.proofs.Reached.{IsOneOf, tally_some, tally_place}
+use Rattle.mt_splice.proofs.Prelude.{◌≡◌, ◌≢◌, ℕ, zero, suc, ◌+◌, ◌<◌, ◌≤◌, ◌==◌, List, [], ◌∷◌, length, refl, subst, inl, inr, arith, eq-eqb, AllPairs, Contains, cases_Bool, eqb-true, eqb-false, tally, IsOneOf, tally_some, tally_place}
 use Rattle.mt_splice.proofs.EndLists.{one_contains, contains_one}
 
 -- how often a number stands in a list

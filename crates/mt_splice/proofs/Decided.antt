@@ -1,18 +1,6 @@
 -- How a level goes on, told by cases.
-use Rattle.std.proofs.Common.{◌≡◌, ℕ, List, refl}
-use Rattle.mt_base.specs.declared.widths.Width.{Width}
-use Rattle.mt_free.specs.Book.{Book}
-use Rattle.mt_layout.specs.declared.items.Item.{Item}
-use Rattle.mt_layout.specs.declared.names.RowKind.{RowKind}
-use Rattle.mt_path.specs.declared.paths.PathStep.{PathStep}
-use Rattle.mt_rows.specs.Sheet.{Sheet}
-use Rattle.mt_splice.specs.declared.climbing.Climb.{Climb}
-use Rattle.mt_splice.specs.declared.decisions.Next.{Next}
-use Rattle.mt_splice.specs.declared.decisions.Next.TheVariants.{Empty, Root, RootAbove, Slot, Up}
-use Rattle.mt_splice.specs.steps.Climbing.{IsLevelDrafted, IsLevelDone}
-use Rattle.mt_splice.specs.steps.Decisions.{IsNothing, IsNextDecision}
-use Rattle.mt_splice.specs.steps.Progress.{Before}
-use Rattle.mt_splice.specs.steps.Work.{Start}
+use Rattle.mt_splice.proofs.Prelude.{◌≡◌, ℕ, List, refl, Width, Book, Item, RowKind, PathStep, Sheet, Climb, Next, Empty, RootAbove, Up, IsLevelDrafted, IsLevelDone, IsNothing, IsNextDecision, Before, Start}
+use Rattle.mt_splice.specs.declared.decisions.Next.TheVariants.{Root, Slot}
 
 pub some_left : {width : Width} {left right : List PathStep} {depth : ℕ} {kind : RowKind} {items : List Item} (pieces : ℕ) (next : Next) → (next ≡ Empty → ⊥) → IsNextDecision width left right depth kind items pieces next → IsNothing width left right depth kind items → ⊥
 some_left pieces Empty some goes = absurd (some refl)

@@ -1,34 +1,5 @@
 -- The rows of a level drafted, by the ledger: they hold their parts of the items, and those drafted before keep their words.
-use Rattle.std.proofs.Common.{◌≡◌, ℕ, zero, suc, ◌+◌, ◌-◌, ◌<◌, ◌≤◌, List, [], ◌∷◌, ◌++◌, Bool, true, false, length, refl, sym, ap, ◌∙◌, subst, arith, append_assoc, append-nil}
-use Rattle.std.specs.Prelude.{◌||◌, slice_index}
-use Rattle.std.proofs.lemmas.Bool.{ltb-true, lt-ltb}
-use Rattle.mt_base.specs.declared.widths.Width.{Width}
-use Rattle.mt_base.specs.Width.{columns, first_row}
-use Rattle.mt_free.specs.Book.{Book}
-use Rattle.mt_layout.specs.declared.items.Item.{Item}
-use Rattle.mt_layout.specs.declared.names.RowKind.{RowKind}
-use Rattle.mt_layout.specs.declared.spans.Span.{Span}
-use Rattle.mt_layout.specs.Columns.{end_of, row_words}
-use Rattle.mt_layout.specs.Rows.{name_at}
-use Rattle.mt_layout.specs.Sizes.{slots_of, gaps_of}
-use Rattle.mt_layout.specs.Spans.{spans_from}
-use Rattle.mt_layout.proofs.NameLaws.{row_in-name_at}
-use Rattle.mt_layout.proofs.SpanLists.{after, after_some, fills_rise, length-spans_from, rise_from_zero}
-use Rattle.mt_rows.specs.Laws.{Tree, kind_on}
-use Rattle.mt_rows.specs.Levels.{is_row_of}
-use Rattle.mt_rows.specs.Publish.{is_reached}
-use Rattle.mt_rows.specs.Sheet.{Rooted, Sheet}
-use Rattle.mt_rows.specs.Spans.{Table, column, inner_of}
-use Rattle.mt_rows.proofs.Lists.{tally-append}
-use Rattle.mt_splice.specs.declared.writes.NewRow.{NewRow}
-use Rattle.mt_splice.specs.steps.Drafting.{IsRowTaken, AreRowsTaken, noted_row, noted_rows}
-use Rattle.mt_splice.specs.steps.Layers.{part_of, heads, AreHeld}
-use Rattle.mt_splice.specs.steps.Ledgers.{was_taken, IsLedger}
-use Rattle.mt_splice.specs.steps.Plans.{Layer, newest_first, AreAllHeld}
-use Rattle.mt_splice.specs.steps.Progress.{Before, IsStartOf, new_row_by, new_rows_of}
-use Rattle.mt_splice.specs.steps.Seen.{Seen, passing}
-use Rattle.mt_splice.specs.steps.Work.{Start, tree_with}
-use Rattle.mt_splice.specs.steps.Writes.{IsNewRow, no_parent}
+use Rattle.mt_splice.proofs.Prelude.{◌≡◌, ℕ, zero, suc, ◌+◌, ◌-◌, ◌<◌, ◌≤◌, List, [], ◌∷◌, ◌++◌, Bool, true, false, length, refl, sym, ap, ◌∙◌, subst, arith, append_assoc, append-nil, ◌||◌, slice_index, ltb-true, lt-ltb, Width, columns, first_row, Book, Item, RowKind, Span, end_of, row_words, name_at, slots_of, gaps_of, spans_from, row_in-name_at, after, after_some, fills_rise, length-spans_from, rise_from_zero, Tree, kind_on, is_row_of, is_reached, Rooted, Sheet, Table, column, inner_of, tally-append, NewRow, IsRowTaken, AreRowsTaken, noted_row, noted_rows, part_of, heads, AreHeld, was_taken, IsLedger, Layer, newest_first, AreAllHeld, Before, IsStartOf, new_row_by, new_rows_of, Seen, passing, Start, tree_with, IsNewRow, no_parent}
 use Rattle.mt_splice.proofs.LevelRows.{new_rows_stay}
 use Rattle.mt_splice.proofs.LevelRuns.{AreParts, IsPart, length-part}
 use Rattle.mt_splice.proofs.StepSeen.{not_both, seen_here, seen_more}

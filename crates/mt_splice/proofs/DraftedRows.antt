@@ -1,25 +1,5 @@
 -- The rows of a level drafted one by one: what was drafted, and what is still to be.
-use Rattle.std.proofs.Common.{[], ◌≡◌, ◌≢◌, ℕ, ◌+◌, ◌-◌, ◌^◌, ◌<◌, ◌≤◌, List, ◌∷◌, ◌++◌, length, take, drop, refl, sym, ap, ◌∙◌, subst, ⊎_elim, arith, get_or, append_assoc, append-nil, length-append}
-use Rattle.std.specs.Prelude.{Any, All, slice_index_or}
-use Rattle.std.proofs.lemmas.Bool.{cases_eq}
-use Rattle.std.proofs.lemmas.List.{drop_more, drop_all, get_or_append_left}
-use Rattle.mt_base.specs.Width.{first_row}
-use Rattle.mt_base.proofs.WidthBounds.{greatest_fits}
-use Rattle.mt_free.specs.Book.{Book}
-use Rattle.mt_layout.specs.declared.items.Item.{Item}
-use Rattle.mt_layout.specs.declared.names.RowKind.{RowKind}
-use Rattle.mt_layout.specs.declared.names.RowKind.TheVariants.{Leaf}
-use Rattle.mt_layout.specs.Columns.{RiseFrom, end_of}
-use Rattle.mt_layout.specs.Rows.{name_at}
-use Rattle.mt_layout.proofs.SpanLists.{after, after-append, after_some, fills_rise, last_ends}
-use Rattle.mt_leaf.specs.Places.{first_of}
-use Rattle.mt_rows.specs.Sheet.{Sheet, IsWhole, IsFree, life_of}
-use Rattle.mt_rows.proofs.InnerKinds.{leaf_low}
-use Rattle.mt_splice.specs.declared.writes.NewRow.{NewRow}
-use Rattle.mt_splice.specs.Fewest.{IsCutOf}
-use Rattle.mt_splice.specs.steps.Drafting.{IsRowTaken, noted_row, IsPieceDrafted, AreRowsTaken, noted_rows, MayDraftRows, AreRowsDrafted}
-use Rattle.mt_splice.specs.steps.Layers.{part_of, head, heads}
-use Rattle.mt_splice.specs.steps.Told.{told_gap}
+use Rattle.mt_splice.proofs.Prelude.{[], ◌≡◌, ◌≢◌, ℕ, ◌+◌, ◌-◌, ◌^◌, ◌<◌, ◌≤◌, List, ◌∷◌, ◌++◌, length, take, drop, refl, sym, ap, ◌∙◌, subst, ⊎_elim, arith, get_or, append_assoc, append-nil, length-append, Any, All, slice_index_or, cases_eq, drop_more, drop_all, get_or_append_left, first_row, greatest_fits, Book, Item, RowKind, Leaf, RiseFrom, end_of, name_at, after, after-append, after_some, fills_rise, last_ends, first_of, Sheet, IsWhole, IsFree, life_of, leaf_low, NewRow, IsCutOf, IsRowTaken, noted_row, IsPieceDrafted, AreRowsTaken, noted_rows, MayDraftRows, AreRowsDrafted, part_of, head, heads, told_gap}
 use Rattle.mt_splice.proofs.Drafts.{is_draft, other_life}
 use Rattle.mt_splice.proofs.LevelRuns.{AreParts, IsPart, length-part, take_part, cut_makes_parts}
 use Rattle.mt_splice.proofs.LevelSteps.{first_after, first_inside}

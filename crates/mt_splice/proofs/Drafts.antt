@@ -1,20 +1,5 @@
 -- A row that was drafted, and what stays.
-use Rattle.std.proofs.Common.{◌≡◌, ◌≢◌, ◌⊎◌, ℕ, ◌+◌, ◌*◌, ◌<◌, ◌≤◌, List, length, inl, inr, sym, ap, ◌∙◌, arith, subst, ⊎_elim, get_or-set_other, get_or-set_same, set, length-set}
-use Rattle.std.specs.Prelude.{slice_index}
-use Rattle.std.proofs.lemmas.Bool.{cases_eq, cases_lt}
-use Rattle.mt_base.specs.declared.widths.Width.{Width}
-use Rattle.mt_base.specs.Width.{columns, most_rows, first_row}
-use Rattle.mt_layout.specs.declared.items.Item.{Item}
-use Rattle.mt_layout.specs.declared.names.RowKind.{RowKind}
-use Rattle.mt_layout.specs.Columns.{row_words}
-use Rattle.mt_layout.specs.Sizes.{slots_of, gaps_of}
-use Rattle.mt_layout.proofs.Places.{other_place, place_within, row_within}
-use Rattle.mt_rows.specs.declared.rows.Life.{Life}
-use Rattle.mt_rows.specs.declared.rows.Life.TheVariants.{Draft, New}
-use Rattle.mt_rows.specs.Drafts.{AreDrafted}
-use Rattle.mt_rows.specs.Spans.{Table, column}
-use Rattle.mt_rows.specs.Sheet.{Sheet, Rooted, IsWhole, HasDied, life_of}
-use Rattle.mt_splice.specs.steps.Writes.{OnlyDrafts, no_parent, new_words, IsRowDrafted}
+use Rattle.mt_splice.proofs.Prelude.{◌≡◌, ◌≢◌, ◌⊎◌, ℕ, ◌+◌, ◌*◌, ◌<◌, ◌≤◌, List, length, inl, inr, sym, ap, ◌∙◌, arith, subst, ⊎_elim, get_or-set_other, get_or-set_same, set, length-set, slice_index, cases_eq, cases_lt, Width, columns, most_rows, first_row, Item, RowKind, row_words, slots_of, gaps_of, other_place, place_within, row_within, Life, Draft, New, AreDrafted, Table, column, Sheet, Rooted, IsWhole, HasDied, life_of, OnlyDrafts, no_parent, new_words, IsRowDrafted}
 
 -- ---- one word is written
 

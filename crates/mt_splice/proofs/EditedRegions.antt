@@ -1,36 +1,7 @@
 -- The spans of the leaves at a store's ends after the store: those of all leaves from the one to the other.
-use Rattle.std.proofs.Common.{◌≡◌, ℕ, ◌+◌, ◌-◌, ◌≤◌, ◌==◌, ◌&&◌, List, [], ◌∷◌, ◌++◌, Bool, true, false, length, nat_lt, refl, sym, ap, ◌∙◌, subst, inl, inr, arith, append-nil, append_assoc}
-use Rattle.std.specs.Prelude.{if◌then◌else◌, ◌<◌}
-use Rattle.std.specs.List.{AllByRecursion}
-use Rattle.std.proofs.lemmas.Bool.{cases_Bool, eqb-true, eqb-false}
-use Rattle.mt_base.proofs.Lists.{all_map, all_front, all_back, all_join}
-use Rattle.mt_layout.specs.declared.names.RowKind.TheVariants.{Leaf}
-use Rattle.mt_layout.specs.declared.spans.Span.{Span}
-use Rattle.mt_layout.specs.Rows.{row_in}
-use Rattle.mt_layout.specs.Spans.{Fills}
-use Rattle.mt_layout.specs.Sizes.{slots_of}
-use Rattle.mt_layout.proofs.RowSizes.{sizes}
-use Rattle.mt_layout.proofs.SpanLists.{fills-append, fills_le}
-use Rattle.mt_rows.specs.Spans.{spans_in}
-use Rattle.mt_rows.specs.Levels.{expand}
-use Rattle.mt_rows.specs.Laws.{Tree, IsRow, Stands, top_of}
-use Rattle.mt_rows.specs.Replacement.{root_of}
-use Rattle.mt_rows.proofs.Lists.{Filled, expand_fills, expand-append}
-use Rattle.mt_rows.proofs.Heights.{level_rows}
-use Rattle.mt_leaf.specs.Edits.{spans_below, spans_above, span_stored, stored, join, holes_joined, edited, starting, ends_with_hole}
-use Rattle.mt_leaf.proofs.Stored.{length_edited, stored_between}
-use Rattle.mt_leaf.proofs.Counts.{two_short, two_to_a_hole}
-use Rattle.mt_path.specs.declared.paths.PathStep.{PathStep}
-use Rattle.mt_path.specs.Paths.{step_in, step_at, path_in}
-use Rattle.mt_path.proofs.TreePaths.{row_of, step, place, lawful, levels}
-use Rattle.mt_splice.specs.Splice.{region_of}
-use Rattle.mt_path.specs.Handles.{last_step, leaf_spans}
-use Rattle.mt_splice.specs.steps.Work.{rows_at}
-use Rattle.mt_splice.specs.steps.Runs.{most_items, most_before_hole}
-use Rattle.mt_path.proofs.Places.{At}
+use Rattle.mt_splice.proofs.Prelude.{◌≡◌, ℕ, ◌+◌, ◌-◌, ◌≤◌, ◌==◌, ◌&&◌, List, [], ◌∷◌, ◌++◌, Bool, true, false, length, nat_lt, refl, sym, ap, ◌∙◌, subst, inl, inr, arith, append-nil, append_assoc, if◌then◌else◌, ◌<◌, AllByRecursion, cases_Bool, eqb-true, eqb-false, all_map, all_front, all_back, all_join, Leaf, Span, row_in, Fills, slots_of, sizes, fills-append, fills_le, spans_in, expand, Tree, IsRow, Stands, top_of, root_of, Filled, expand_fills, expand-append, level_rows, spans_below, spans_above, span_stored, stored, join, holes_joined, edited, starting, ends_with_hole, length_edited, stored_between, two_short, two_to_a_hole, PathStep, step_in, step_at, path_in, row_of, step, place, lawful, levels, region_of, last_step, leaf_spans, rows_at, most_items, most_before_hole, At, row_most}
 use Rattle.mt_splice.proofs.Splits.{split_more}
 use Rattle.mt_splice.proofs.PathRows.{rows_in_order, spans_of_step, leaf_numbered}
-use Rattle.mt_rows.proofs.FewSpans.{row_most}
 use Rattle.mt_splice.proofs.Stretches.{IsStretch}
 
 -- The spans of leaves after a store, of which the last leaf ended at `last`: where others stand behind it, they end with

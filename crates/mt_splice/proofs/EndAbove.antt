@@ -1,39 +1,5 @@
 -- Where rows that replace the root stand in a new one: the tree then, and its law of gaps.
-use Rattle.std.proofs.Common.{◌≡◌, ℕ, suc, ◌+◌, ◌<◌, ◌≤◌, List, [], ◌∷◌, ◌++◌, true, Some, length, refl, sym, ap, ◌∙◌, subst, arith, append-nil}
-use Rattle.mt_base.specs.Width.{deepest, most_rows}
-use Rattle.mt_free.specs.Book.{Book}
-use Rattle.mt_layout.specs.declared.items.Item.{Item}
-use Rattle.mt_layout.specs.declared.names.RowKind.{RowKind}
-use Rattle.mt_layout.specs.declared.spans.Span.{Span}
-use Rattle.mt_layout.specs.Columns.{end_of}
-use Rattle.mt_layout.specs.Rows.{name_at}
-use Rattle.mt_layout.specs.Sizes.{slots_of}
-use Rattle.mt_layout.specs.Spans.{spans_from}
-use Rattle.mt_layout.proofs.NameLaws.{row_in-name_at}
-use Rattle.mt_layout.proofs.RowSizes.{sizes}
-use Rattle.mt_layout.proofs.SpanLists.{fills_end}
-use Rattle.mt_rows.specs.declared.rows.Place.TheVariants.{Root}
-use Rattle.mt_rows.specs.Laws.{Tree, IsRow, GapLaw, kind_on, top_of}
-use Rattle.mt_rows.specs.Levels.{expand, Levels}
-use Rattle.mt_rows.specs.Publish.{tree_as, with_published}
-use Rattle.mt_rows.specs.Sheet.{Sheet}
-use Rattle.mt_rows.specs.Spans.{Table, inner_of, spans_in}
-use Rattle.mt_rows.proofs.NineLevels.{nine_levels}
-use Rattle.mt_splice.specs.declared.climbing.Climb.{Climb}
-use Rattle.mt_splice.specs.declared.climbing.Top.{Top}
-use Rattle.mt_splice.specs.steps.Burials.{AreBuriedAll, numbers_in_all}
-use Rattle.mt_splice.specs.steps.Climbing.{HasClimbed, EndsAbove}
-use Rattle.mt_splice.specs.steps.Layers.{Stand}
-use Rattle.mt_splice.specs.steps.Ledgers.{was_taken, work_of}
-use Rattle.mt_splice.specs.steps.Plans.{AreAllHeld, IsPlanned, begin_at, depth_at, gone_by, heads_at, level_of, new_at, taken_by}
-use Rattle.mt_splice.specs.steps.Progress.{Before, is_taken}
-use Rattle.mt_splice.specs.steps.Replaced.{IsReplaced, with_root}
-use Rattle.mt_splice.specs.steps.Seen.{Seen, passing}
-use Rattle.mt_splice.specs.steps.Telling.{AreAllFromBelow}
-use Rattle.mt_splice.specs.steps.Told.{GapsBeside, TellGaps}
-use Rattle.mt_splice.specs.steps.Windows.{high_of, low_of}
-use Rattle.mt_splice.specs.steps.Work.{Start, Work, tree_with}
-use Rattle.mt_splice.specs.steps.Writes.{IsNewRow}
+use Rattle.mt_splice.proofs.Prelude.{◌≡◌, ℕ, suc, ◌+◌, ◌<◌, ◌≤◌, List, [], ◌∷◌, ◌++◌, true, Some, length, refl, sym, ap, ◌∙◌, subst, arith, append-nil, deepest, most_rows, Book, Item, RowKind, Span, end_of, name_at, slots_of, spans_from, row_in-name_at, sizes, fills_end, Root, Tree, IsRow, GapLaw, kind_on, top_of, expand, Levels, tree_as, with_published, Sheet, Table, inner_of, spans_in, nine_levels, Climb, Top, AreBuriedAll, numbers_in_all, HasClimbed, EndsAbove, Stand, was_taken, work_of, AreAllHeld, IsPlanned, begin_at, depth_at, gone_by, heads_at, level_of, new_at, taken_by, Before, is_taken, IsReplaced, with_root, Seen, passing, AreAllFromBelow, GapsBeside, TellGaps, high_of, low_of, Start, Work, tree_with, IsNewRow}
 use Rattle.mt_splice.proofs.DraftedLedger.{new_row_stays}
 use Rattle.mt_splice.proofs.EndForms as forms
 use Rattle.mt_splice.proofs.EndGaps.{root_laws}

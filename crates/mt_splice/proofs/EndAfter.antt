@@ -1,34 +1,5 @@
 -- What stands after the store that publishes, and after parent words were written.
-use Rattle.std.specs.List.{slice_get}
-use Rattle.std.proofs.Common.{◌≡◌, ℕ, zero, suc, ◌+◌, ◌<◌, ◌≤◌, List, [], ◌∷◌, Option, Some, None, Bool, true, false, refl, sym, ap, ◌∙◌, subst, inl, inr, arith}
-use Rattle.std.proofs.lemmas.Bool.{cases_Bool}
-use Rattle.mt_base.specs.declared.kinds.Kind.{Kind}
-use Rattle.mt_base.specs.declared.widths.Width.{Width}
-use Rattle.mt_base.specs.Width.{columns, first_row}
-use Rattle.mt_layout.specs.declared.spans.Span.{Span}
-use Rattle.mt_layout.specs.Rows.{row_in}
-use Rattle.mt_layout.specs.Columns.{slot_column}
-use Rattle.mt_layout.specs.Sizes.{slots_of}
-use Rattle.mt_layout.proofs.RowSizes.{slot_above}
-use Rattle.mt_rows.specs.declared.rows.Place.{Place}
-use Rattle.mt_rows.specs.declared.rows.Place.TheVariants.{Root, Slot}
-use Rattle.mt_rows.specs.Spans.{Table, column, root_span}
-use Rattle.mt_rows.specs.Laws.{Tree}
-use Rattle.mt_rows.specs.Sheet.{Rooted, Sheet, life_of, is_buried, word_at}
-use Rattle.mt_rows.specs.Publish.{tree_as, is_reached, map_by, with_record, with_published, life_after, Published, IsPlaceToPublish}
-use Rattle.mt_rows.specs.Replacement.{root_of}
-use Rattle.mt_splice.specs.Splice.{TellsBelow, TellsGapAt}
-use Rattle.mt_splice.specs.steps.Work.{Start, Work, tree_with, with_words, KeepsRowWords}
-use Rattle.mt_splice.specs.steps.Progress.{is_taken}
-use Rattle.mt_splice.specs.steps.Replaced.{StandsAs, FewestAs, count_in}
-use Rattle.mt_splice.specs.steps.Ends.{HoldsAs, OnlyParents}
-use Rattle.mt_rows.specs.Levels.{IsBelow, SameSpans, is_row_of}
-use Rattle.mt_rows.proofs.Frames.{same_spans}
-use Rattle.mt_rows.proofs.Reached.{height_is}
-use Rattle.mt_rows.proofs.Joins.{Shared}
-use Rattle.mt_rows.proofs.Longest.{longest_shared}
-use Rattle.mt_rows.proofs.Published.{published_rows, published_width}
-use Rattle.mt_splice.specs.steps.Told.{GapsBeside}
+use Rattle.mt_splice.proofs.Prelude.{slice_get, ◌≡◌, ℕ, zero, suc, ◌+◌, ◌<◌, ◌≤◌, List, [], ◌∷◌, Option, Some, None, Bool, true, false, refl, sym, ap, ◌∙◌, subst, inl, inr, arith, cases_Bool, Kind, Width, columns, first_row, Span, row_in, slot_column, slots_of, slot_above, Place, Root, Slot, Table, column, root_span, Tree, Rooted, Sheet, life_of, is_buried, word_at, tree_as, is_reached, map_by, with_record, with_published, life_after, Published, IsPlaceToPublish, root_of, TellsBelow, TellsGapAt, Start, Work, tree_with, with_words, KeepsRowWords, is_taken, StandsAs, FewestAs, count_in, HoldsAs, OnlyParents, IsBelow, SameSpans, is_row_of, same_spans, height_is, Shared, longest_shared, published_rows, published_width, GapsBeside}
 use Rattle.mt_splice.proofs.EndGaps.{AllKeep, levels_all, gaps_kept}
 use Rattle.mt_splice.proofs.FewestRows.{SameNews, fewest_later}
 use Rattle.mt_splice.proofs.Drafts.{same_column}

@@ -1,23 +1,5 @@
 -- Where one row is the root, or nothing is left: the law of gaps then, and that nothing takes the tree's place.
-use Rattle.std.proofs.Common.{◌≡◌, suc, ◌++◌, Some, None, length, ap, ◌∙◌, subst, arith}
-use Rattle.mt_free.specs.Book.{Book}
-use Rattle.mt_rows.specs.declared.rows.Place.TheVariants.{Root}
-use Rattle.mt_rows.specs.Laws.{GapLaw}
-use Rattle.mt_rows.specs.Levels.{Levels}
-use Rattle.mt_rows.specs.Publish.{tree_as, with_published}
-use Rattle.mt_rows.specs.Sheet.{Sheet}
-use Rattle.mt_splice.specs.declared.climbing.Climb.{Climb}
-use Rattle.mt_splice.specs.declared.climbing.Top.{Top}
-use Rattle.mt_splice.specs.steps.Burials.{AreBuriedAll, numbers_in_all}
-use Rattle.mt_splice.specs.steps.Climbing.{HasClimbed, EndsEmpty, EndsAtRoot}
-use Rattle.mt_splice.specs.steps.Ledgers.{was_taken, work_of}
-use Rattle.mt_splice.specs.steps.Plans.{AreAllHeld, IsPlanned, gone_by, taken_by}
-use Rattle.mt_splice.specs.steps.Progress.{Before, is_taken}
-use Rattle.mt_splice.specs.steps.Replaced.{IsReplaced}
-use Rattle.mt_splice.specs.steps.Seen.{passing}
-use Rattle.mt_splice.specs.steps.Telling.{AreAllFromBelow}
-use Rattle.mt_splice.specs.steps.Told.{GapsBeside}
-use Rattle.mt_splice.specs.steps.Work.{Start, Work, tree_with}
+use Rattle.mt_splice.proofs.Prelude.{◌≡◌, suc, ◌++◌, Some, None, length, ap, ◌∙◌, subst, arith, Book, Root, GapLaw, Levels, tree_as, with_published, Sheet, Climb, Top, AreBuriedAll, numbers_in_all, HasClimbed, EndsEmpty, EndsAtRoot, was_taken, work_of, AreAllHeld, IsPlanned, gone_by, taken_by, Before, is_taken, IsReplaced, passing, AreAllFromBelow, GapsBeside, Start, Work, tree_with}
 use Rattle.mt_splice.proofs.EndForms as forms
 use Rattle.mt_splice.proofs.EndGaps.{root_laws}
 use Rattle.mt_splice.proofs.Ended.{taken, gone, ledger_then, held_then, holds_then, passing_all, root_level, gone_above}

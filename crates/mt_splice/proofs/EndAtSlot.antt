@@ -1,43 +1,5 @@
 -- Where one row takes the place of one, in a slot of the row above: the slot, the law of gaps, and what the row there tells.
-use Rattle.std.proofs.Common.{[], ◌≡◌, ℕ, suc, List, ◌∷◌, ◌++◌, false, true, Some, length, refl, sym, ap, ◌∙◌, subst, arith, append-nil}
-use Rattle.mt_base.specs.Call.{finds_room}
-use Rattle.mt_free.specs.Book.{Book}
-use Rattle.mt_layout.specs.declared.items.Item.{Item}
-use Rattle.mt_layout.specs.declared.names.RowKind.{RowKind}
-use Rattle.mt_layout.specs.declared.names.RowKind.TheVariants.{Gapped}
-use Rattle.mt_layout.specs.declared.spans.Span.{Span}
-use Rattle.mt_layout.specs.Rows.{row_in}
-use Rattle.mt_layout.specs.Spans.{spans_from}
-use Rattle.mt_path.specs.declared.paths.PathStep.{PathStep}
-use Rattle.mt_path.specs.Paths.{step_in}
-use Rattle.mt_path.proofs.TreePaths.{place}
-use Rattle.mt_rows.specs.declared.rows.Place.{Place}
-use Rattle.mt_rows.specs.declared.rows.Place.TheVariants.{Slot}
-use Rattle.mt_rows.specs.Laws.{Tree, GapLaw, kind_on, longest_below}
-use Rattle.mt_rows.specs.Levels.{Levels, is_row_of, tally, times}
-use Rattle.mt_rows.specs.Publish.{StandsAt, tree_as, with_published}
-use Rattle.mt_rows.specs.Replacement.{IsSlotAt, root_of, with_child}
-use Rattle.mt_rows.specs.Sheet.{Sheet}
-use Rattle.mt_rows.specs.Spans.{inner_of}
-use Rattle.mt_rows.proofs.Heights.{level_next, times_split}
-use Rattle.mt_rows.proofs.Joins.{levels_shared}
-use Rattle.mt_rows.proofs.Lists.{tally-append}
-use Rattle.mt_rows.proofs.Reached.{one_of_parts, stands_at, times_in_once}
-use Rattle.mt_splice.specs.declared.climbing.Climb.{Climb}
-use Rattle.mt_splice.specs.declared.climbing.Top.{Top}
-use Rattle.mt_splice.specs.Splice.{TellsBelow}
-use Rattle.mt_splice.specs.steps.Burials.{AreBuriedAll, numbers_in_all}
-use Rattle.mt_splice.specs.steps.Climbing.{HasClimbed, EndsInSlot}
-use Rattle.mt_splice.specs.steps.Ends.{IsEndPlace}
-use Rattle.mt_splice.specs.steps.Ledgers.{was_taken, work_of}
-use Rattle.mt_splice.specs.steps.Plans.{AreAllHeld, begin_at, gone_by, heads_at}
-use Rattle.mt_splice.specs.steps.Progress.{Before, is_taken}
-use Rattle.mt_splice.specs.steps.Replaced.{IsReplaced}
-use Rattle.mt_splice.specs.steps.Seen.{passing}
-use Rattle.mt_splice.specs.steps.Telling.{AreAllFromBelow}
-use Rattle.mt_splice.specs.steps.Told.{GapsBeside, TellGaps}
-use Rattle.mt_splice.specs.steps.Windows.{before, behind, high_of, in_place, low_of, row_at}
-use Rattle.mt_splice.specs.steps.Work.{Start, Work, rows_at, tree_with}
+use Rattle.mt_splice.proofs.Prelude.{[], ◌≡◌, ℕ, suc, List, ◌∷◌, ◌++◌, false, true, Some, length, refl, sym, ap, ◌∙◌, subst, arith, append-nil, finds_room, Book, Item, RowKind, Gapped, Span, row_in, spans_from, PathStep, step_in, place, Place, Slot, Tree, GapLaw, kind_on, longest_below, Levels, is_row_of, tally, times, StandsAt, tree_as, with_published, IsSlotAt, root_of, with_child, Sheet, inner_of, level_next, times_split, levels_shared, tally-append, one_of_parts, stands_at, times_in_once, Climb, Top, TellsBelow, AreBuriedAll, numbers_in_all, HasClimbed, EndsInSlot, IsEndPlace, was_taken, work_of, AreAllHeld, begin_at, gone_by, heads_at, Before, is_taken, IsReplaced, passing, AreAllFromBelow, GapsBeside, TellGaps, before, behind, high_of, in_place, low_of, row_at, Start, Work, rows_at, tree_with}
 use Rattle.mt_splice.proofs.EndForms as forms
 use Rattle.mt_splice.proofs.Ended.{taken, gone, ledger_then, planned, high, within, old_beside, tree_stands, has, same_levels, words, held_stored, stand_below, x_is, level_is, slot_replaces, gone_above}
 use Rattle.mt_splice.proofs.LayerGaps.{KeepGaps, each_old, old_laws, planned_tell}

@@ -1,15 +1,5 @@
 -- A book stays one while rows are taken from the end of its free rows, and others are retired.
-use Rattle.std.proofs.Common.{◌≡◌, ℕ, ◌≤◌, List, [], ◌∷◌, ◌++◌, map, refl, sym, ap, subst, inl, inr, arith, eq-eqb, append_assoc, append-nil}
-use Rattle.std.specs.Prelude.{◌==◌}
-use Rattle.std.specs.List.{All}
-use Rattle.std.proofs.lemmas.List.Elements.{All-push}
-use Rattle.mt_free.specs.Book.{Book, Held, IsBook, IsOut, after_retire}
-use Rattle.mt_free.proofs.Books.{book, take_leaves_book, retire_leaves_book}
-use Rattle.mt_free.proofs.StillOut.{out_after_retire}
-use Rattle.mt_rows.specs.Levels.{one_if, is_row_of}
-use Rattle.mt_rows.proofs.Reached.{IsOneOf}
-use Rattle.mt_splice.specs.steps.Seen.{Seen, passing}
-use Rattle.mt_splice.specs.steps.Progress.{row_seen, stamped}
+use Rattle.mt_splice.proofs.Prelude.{◌≡◌, ℕ, ◌≤◌, List, [], ◌∷◌, ◌++◌, map, refl, sym, ap, subst, inl, inr, arith, eq-eqb, append_assoc, append-nil, ◌==◌, All, All-push, Book, Held, IsBook, IsOut, after_retire, book, take_leaves_book, retire_leaves_book, out_after_retire, one_if, is_row_of, IsOneOf, Seen, passing, row_seen, stamped}
 use Rattle.mt_splice.proofs.EndLists.{seen_some}
 
 pub taken_leave_book : (rows : ℕ) (free taken : List ℕ) (held : List Held) → IsBook (book rows (free ++ taken) held) → IsBook (book rows free held)

@@ -1,43 +1,8 @@
 -- What a replacement leaves in lives and in the book, and where it published.
-use Rattle.std.proofs.Common.{◌≡◌, ◌≢◌, ℕ, zero, suc, ◌+◌, ◌*◌, ◌<◌, ◌≤◌, List, ◌++◌, Option, Some, None, Bool, true, false, map, refl, sym, ap, ◌∙◌, subst, inl, inr, arith, append_assoc}
-use Rattle.std.specs.Prelude.{if◌then◌else◌}
-use Rattle.std.specs.List.{All, AllPairs, Contains}
-use Rattle.std.proofs.lemmas.Bool.{cases_Bool, cases_eq}
-use Rattle.std.proofs.lemmas.List.{length-map, map-append}
-use Rattle.std.proofs.lemmas.List.Elements.{All-weaker, All-append, All-contains, Contains-append_left, Contains-append_right, Contains-append_cases}
-use Rattle.mt_base.specs.declared.ranges.Range.{Range}
-use Rattle.mt_base.specs.declared.replies.Reply.{Reply}
-use Rattle.mt_base.specs.declared.widths.Width.{Width}
-use Rattle.mt_base.specs.Call.{acted}
-use Rattle.mt_base.specs.Width.{columns, first_row}
-use Rattle.mt_layout.specs.Rows.{row_in, dead_mark}
-use Rattle.mt_free.specs.Book.{Book, Held, IsBook, IsOut, held_rows}
-use Rattle.mt_rows.specs.declared.rows.Life.TheVariants.{Live, Dead}
-use Rattle.mt_rows.specs.declared.rows.Place.{Place}
-use Rattle.mt_rows.specs.declared.rows.Place.TheVariants.{Root, Slot}
-use Rattle.mt_rows.specs.Spans.{column, root_span}
-use Rattle.mt_layout.specs.declared.spans.Span.{Span}
-use Rattle.mt_rows.specs.Gaps.{KeepsGaps, HasGapsBut}
-use Rattle.mt_rows.specs.Levels.{Levels, is_row_of}
-use Rattle.mt_rows.proofs.Heights.{levels_pair}
-use Rattle.mt_rows.specs.Trees.{height_in}
+use Rattle.mt_splice.proofs.Prelude.{◌≡◌, ◌≢◌, ℕ, zero, suc, ◌+◌, ◌*◌, ◌<◌, ◌≤◌, List, ◌++◌, Option, Some, None, Bool, true, false, map, refl, sym, ap, ◌∙◌, subst, inl, inr, arith, append_assoc, if◌then◌else◌, All, AllPairs, Contains, cases_Bool, cases_eq, length-map, map-append, All-weaker, All-append, All-contains, Contains-append_left, Contains-append_right, Contains-append_cases, Range, Reply, Width, acted, columns, first_row, row_in, dead_mark, Book, Held, IsBook, IsOut, held_rows, Live, Dead, Place, Root, Slot, column, root_span, Span, KeepsGaps, HasGapsBut, Levels, is_row_of, levels_pair, height_in, Rooted, Sheet, life_of, is_buried, word_at, tree_as, IsTreeOf, LiveAreReached, NoneBuried, is_reached, IsReached, map_by, with_published, life_after, IsPlaceToPublish, passing, Work, now, Before, is_taken, row_seen, stamped, root_of, Shared, levels_from, name_some, WasPublishedAt, IsBooked, HasParents, HasFewest, IsSpliced, is_unreached, GapsBeside, IsUnheld, IsBookOf, StandsAs, FewestAs, count_in, IsChildSlot, IsEndPlace, IsTop}
 use Rattle.mt_rows.specs.Laws as laws
-use Rattle.mt_rows.specs.Sheet.{Rooted, Sheet, life_of, is_buried, word_at}
-use Rattle.mt_rows.specs.Publish.{tree_as, IsTreeOf, LiveAreReached, NoneBuried, is_reached, IsReached, map_by, with_published, life_after, IsPlaceToPublish}
 use Rattle.mt_rows.proofs.Reached as reached
-use Rattle.mt_splice.specs.steps.Seen.{passing}
-use Rattle.mt_splice.specs.steps.Work.{Work, now}
-use Rattle.mt_splice.specs.steps.Progress.{Before, is_taken, row_seen, stamped}
-use Rattle.mt_rows.specs.Replacement.{root_of}
-use Rattle.mt_rows.proofs.Joins.{Shared}
-use Rattle.mt_rows.proofs.PlainReached.{levels_from}
-use Rattle.mt_rows.proofs.RowLaws.{name_some}
-use Rattle.mt_splice.specs.Splice.{WasPublishedAt, IsBooked, HasParents, HasFewest, IsSpliced, is_unreached}
-use Rattle.mt_splice.specs.steps.Told.{GapsBeside}
 use Rattle.mt_splice.proofs.FewestRows.{SameNews, fewest_later}
-use Rattle.mt_splice.specs.Kept.{IsUnheld, IsBookOf}
-use Rattle.mt_splice.specs.steps.Replaced.{StandsAs, FewestAs, count_in}
-use Rattle.mt_splice.specs.steps.Ends.{IsChildSlot, IsEndPlace, IsTop}
 use Rattle.mt_splice.proofs.Drafts.{other_row, other_column}
 use Rattle.mt_splice.proofs.EndTrees.{is_tree, none_or_some, count_reached}
 use Rattle.mt_splice.proofs.EndHoles.{at_on_level, child_on_level}

@@ -1,20 +1,5 @@
 -- The ways in which a replacement ends, each as a tree, or the empty one, in place of another.
-use Rattle.std.proofs.Common.{◌≡◌, ℕ, suc, ◌+◌, [], Option, Some, None, Bool, refl, sym, ap, ◌∙◌, subst, arith}
-use Rattle.mt_layout.specs.declared.spans.Span.{Span}
-use Rattle.mt_free.specs.Book.{Book}
-use Rattle.mt_rows.specs.declared.rows.Place.TheVariants.{Root, Slot}
-use Rattle.mt_rows.specs.Levels.{is_row_of}
-use Rattle.mt_rows.specs.Laws.{Tree, HasWords, kind_on}
-use Rattle.mt_rows.specs.Sheet.{Sheet}
-use Rattle.mt_rows.specs.Publish.{tree_as, tree_on, with_published}
-use Rattle.mt_path.specs.declared.paths.PathStep.{PathStep}
-use Rattle.mt_splice.specs.steps.Seen.{passing}
-use Rattle.mt_splice.specs.steps.Work.{Start, Work, tree_with, now, times_in}
-use Rattle.mt_splice.specs.steps.Progress.{Before, IsStartOf, IsProgress}
-use Rattle.mt_splice.specs.steps.Replaced.{IsReplaced, with_root}
-use Rattle.mt_splice.specs.steps.Ends.{IsEndPlace}
-use Rattle.mt_splice.specs.Splice.{TellsBelow}
-use Rattle.mt_splice.specs.steps.Told.{GapsBeside}
+use Rattle.mt_splice.proofs.Prelude.{◌≡◌, ℕ, suc, ◌+◌, [], Option, Some, None, Bool, refl, sym, ap, ◌∙◌, subst, arith, Span, Book, Root, Slot, is_row_of, Tree, HasWords, kind_on, Sheet, tree_as, tree_on, with_published, PathStep, passing, Start, Work, tree_with, now, times_in, Before, IsStartOf, IsProgress, IsReplaced, with_root, IsEndPlace, TellsBelow, GapsBeside}
 use Rattle.mt_splice.proofs.StoredWords.{IsStepIn, column_of, with_step, words_of}
 
 -- the tree by the words now is the sheet's

@@ -1,32 +1,8 @@
 -- The law of gaps at the end of a replacement: at a new root, and after parent words were written.
-use Rattle.std.proofs.Common.{[], ◌≡◌, ℕ, zero, suc, ◌+◌, ◌<◌, ◌≤◌, List, ◌∷◌, Some, Bool, length, refl, sym, ap, ◌∙◌, subst, inl, inr, arith}
-use Rattle.std.specs.List.{AllByRecursion}
-use Rattle.std.specs.Prelude.{◌⊎◌}
-use Rattle.mt_base.specs.declared.widths.Width.{Width}
-use Rattle.mt_base.specs.Width.{columns}
-use Rattle.mt_layout.specs.declared.names.RowKind.{RowKind}
-use Rattle.mt_layout.specs.declared.names.RowKind.TheVariants.{Leaf, Inner, Gapped}
-use Rattle.mt_layout.specs.declared.spans.Span.{Span}
-use Rattle.mt_layout.specs.Rows.{row_in}
-use Rattle.mt_layout.specs.Columns.{gap_column}
-use Rattle.mt_layout.specs.Sizes.{slots_of, gaps_of}
-use Rattle.mt_layout.proofs.RowSizes.{sizes, some_gaps_of}
-use Rattle.mt_rows.specs.Spans.{Table, column, inner_of, spans_in}
-use Rattle.mt_rows.specs.Levels.{expand, Levels}
-use Rattle.mt_rows.specs.Laws.{Tree, IsRow, GapLaw, top_of}
-use Rattle.mt_rows.specs.Gaps.{GapsFromBut, GapLawButBy, KeepsGaps}
-use Rattle.mt_rows.proofs.FewSpans.{row_most}
-use Rattle.mt_rows.proofs.Frames.{same_spans}
-use Rattle.mt_rows.proofs.Joins.{Shared, levels_shared}
-use Rattle.mt_rows.proofs.Lists.{levels_map}
-use Rattle.mt_rows.proofs.Heights.{levels_pair}
-use Rattle.mt_rows.proofs.Longest.{longest_shared}
-use Rattle.mt_splice.specs.steps.Work.{Start, Work, now, table_with, tree_with}
-use Rattle.mt_splice.specs.steps.Told.{GapsAs}
+use Rattle.mt_splice.proofs.Prelude.{[], ◌≡◌, ℕ, zero, suc, ◌+◌, ◌<◌, ◌≤◌, List, ◌∷◌, Some, Bool, length, refl, sym, ap, ◌∙◌, subst, inl, inr, arith, AllByRecursion, ◌⊎◌, Width, columns, RowKind, Leaf, Inner, Gapped, Span, row_in, gap_column, slots_of, gaps_of, sizes, some_gaps_of, Table, column, inner_of, spans_in, expand, Levels, Tree, IsRow, GapLaw, top_of, GapsFromBut, GapLawButBy, KeepsGaps, row_most, same_spans, Shared, levels_shared, levels_map, levels_pair, longest_shared, Start, Work, now, table_with, tree_with, GapsAs, with_root}
 use Rattle.mt_splice.proofs.GapRows.{Kept, gap_law_stays}
 use Rattle.mt_splice.proofs.RootEndings.{at_root}
 use Rattle.mt_splice.proofs.SlotGaps.{weaker}
-use Rattle.mt_splice.specs.steps.Replaced.{with_root}
 
 -- ---- at a new root all rows keep the law
 

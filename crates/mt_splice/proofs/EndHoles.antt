@@ -1,22 +1,7 @@
 -- A name stored in a slot in place of another leaves which slots of each row are 0.
-use Rattle.std.proofs.Common.{◌≡◌, ◌≢◌, ◌⊎◌, ℕ, zero, suc, ◌==◌, List, [], ◌∷◌, ◌++◌, length, Some, Bool, map, refl, sym, ap, ◌∙◌, subst, inl, inr, arith, ne_eqb}
-use Rattle.std.specs.List.{slice_get}
-use Rattle.std.proofs.lemmas.Bool.{cases_Bool, eqb-true}
-use Rattle.std.proofs.lemmas.List.{map-append}
-use Rattle.mt_layout.specs.declared.spans.Span.{Span}
-use Rattle.mt_layout.specs.Rows.{row_in}
-use Rattle.mt_rows.specs.declared.rows.Place.TheVariants.{Slot}
-use Rattle.mt_rows.specs.Spans.{Table, spans_in}
-use Rattle.mt_rows.specs.Levels.{level}
-use Rattle.mt_rows.specs.Laws.{Tree, HasWords, Stands, kind_on}
-use Rattle.mt_rows.specs.Sheet.{Rooted}
-use Rattle.mt_rows.specs.Publish.{SameHoles, StandsAt, with_published}
-use Rattle.mt_rows.specs.Replacement.{root_of}
-use Rattle.mt_rows.proofs.Heights.{level_next}
+use Rattle.mt_splice.proofs.Prelude.{◌≡◌, ◌≢◌, ◌⊎◌, ℕ, zero, suc, ◌==◌, List, [], ◌∷◌, ◌++◌, length, Some, Bool, map, refl, sym, ap, ◌∙◌, subst, inl, inr, arith, ne_eqb, slice_get, cases_Bool, eqb-true, map-append, Span, row_in, Slot, Table, spans_in, level, Tree, HasWords, Stands, kind_on, Rooted, SameHoles, StandsAt, with_published, root_of, level_next, name_some, IsChildSlot}
 use Rattle.mt_rows.proofs.SlotStore as store
 use Rattle.mt_rows.proofs.Reached as reached
-use Rattle.mt_rows.proofs.RowLaws.{name_some}
-use Rattle.mt_splice.specs.steps.Ends.{IsChildSlot}
 use Rattle.mt_splice.proofs.StoredWords.{words_of}
 
 -- spans of the same row with the same ends hold the same

@@ -1,17 +1,5 @@
 -- Rows on the levels of a tree: each has one parent, and one slot in it.
-use Rattle.std.proofs.Common.{◌≡◌, ℕ, zero, suc, ◌+◌, ◌≤◌, ◌==◌, ◌&&◌, List, [], ◌∷◌, Some, Bool, true, refl, sym, ap, ◌∙◌, subst, inl, inr, arith, eq-eqb}
-use Rattle.std.specs.List.{slice_get}
-use Rattle.std.proofs.lemmas.Bool.{and_parts, eqb-true}
-use Rattle.mt_layout.specs.Rows.{row_in, parent_at}
-use Rattle.mt_layout.specs.declared.spans.Span.{Span}
-use Rattle.mt_rows.specs.Spans.{Table, column, spans_in}
-use Rattle.mt_rows.specs.Levels.{expand, level, Levels, tally, times, is_row_of}
-use Rattle.mt_rows.specs.Laws.{Tree, Stands, ParentsFrom}
-use Rattle.mt_rows.specs.Replacement.{root_of}
-use Rattle.mt_rows.proofs.Lists.{tally-append}
-use Rattle.mt_rows.proofs.Heights.{level_next, times_split}
-use Rattle.mt_rows.proofs.Reached.{IsOneOf, OnLevel, one_of_get, one_of_expand, tally_some, times_in_once, one_place, here_le, all_of_each}
-use Rattle.mt_rows.proofs.Settled.{Implies}
+use Rattle.mt_splice.proofs.Prelude.{◌≡◌, ℕ, zero, suc, ◌+◌, ◌≤◌, ◌==◌, ◌&&◌, List, [], ◌∷◌, Some, Bool, true, refl, sym, ap, ◌∙◌, subst, inl, inr, arith, eq-eqb, slice_get, and_parts, eqb-true, row_in, parent_at, Span, Table, column, spans_in, expand, level, Levels, tally, times, is_row_of, Tree, Stands, ParentsFrom, root_of, tally-append, level_next, times_split, IsOneOf, OnLevel, one_of_get, one_of_expand, tally_some, times_in_once, one_place, here_le, all_of_each, Implies}
 
 -- ---- the very place of a span, whose height is k
 

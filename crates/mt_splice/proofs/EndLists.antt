@@ -1,16 +1,5 @@
 -- The rows that were seen, as a list of numbers, and rows of the book.
-use Rattle.std.proofs.Common.{◌≡◌, ◌≢◌, ℕ, zero, suc, ◌+◌, ◌<◌, ◌≤◌, ◌==◌, List, [], ◌∷◌, ◌++◌, Bool, length, map, refl, sym, ap, ◌∙◌, subst, inl, inr, arith, eq-eqb, length-append}
-use Rattle.std.specs.Prelude.{slice_index_or}
-use Rattle.std.specs.List.{All, AllPairs, Contains}
-use Rattle.std.proofs.lemmas.Bool.{eqb-true}
-use Rattle.std.proofs.lemmas.List.{get_or_append_left, get_or-append-add}
-use Rattle.std.proofs.lemmas.List.Elements.{All-from_recursion}
-use Rattle.mt_layout.specs.Rows.{row_in}
-use Rattle.mt_free.specs.Book.{Held}
-use Rattle.mt_rows.specs.Levels.{is_row_of}
-use Rattle.mt_rows.proofs.Reached.{IsOneOf, tally_some, tally_place, all_of_each}
-use Rattle.mt_splice.specs.steps.Seen.{Seen, passing}
-use Rattle.mt_splice.specs.steps.Progress.{row_seen, stamped}
+use Rattle.mt_splice.proofs.Prelude.{◌≡◌, ◌≢◌, ℕ, zero, suc, ◌+◌, ◌<◌, ◌≤◌, ◌==◌, List, [], ◌∷◌, ◌++◌, Bool, length, map, refl, sym, ap, ◌∙◌, subst, inl, inr, arith, eq-eqb, length-append, slice_index_or, All, AllPairs, Contains, eqb-true, get_or_append_left, get_or-append-add, All-from_recursion, row_in, Held, is_row_of, IsOneOf, tally_some, tally_place, all_of_each, Seen, passing, row_seen, stamped}
 
 -- ---- one of a list
 

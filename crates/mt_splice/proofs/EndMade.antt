@@ -1,13 +1,5 @@
 -- The inner rows that were taken, in the list of those whose children are to be tended.
-use Rattle.std.proofs.Common.{◌≡◌, ℕ, zero, suc, ◌≤◌, ◌==◌, List, [], ◌∷◌, Some, Bool, length, refl, sym, subst, inl, inr, arith, eq-eqb}
-use Rattle.std.specs.List.{slice_get}
-use Rattle.mt_rows.specs.Spans.{Table, spans_in}
-use Rattle.mt_rows.specs.Levels.{tally, is_row_of}
-use Rattle.mt_rows.proofs.Lists.{tally-append}
-use Rattle.mt_rows.proofs.Reached.{IsOneOf, one_of_left, one_of_right, one_of_either}
-use Rattle.mt_splice.specs.declared.writes.NewRow.{NewRow}
-use Rattle.mt_splice.specs.steps.Seen.{Seen, passing}
-use Rattle.mt_splice.specs.steps.Progress.{row_seen, new_row_by, new_rows_of}
+use Rattle.mt_splice.proofs.Prelude.{◌≡◌, ℕ, zero, suc, ◌≤◌, ◌==◌, List, [], ◌∷◌, Some, Bool, length, refl, sym, subst, inl, inr, arith, eq-eqb, slice_get, Table, spans_in, tally, is_row_of, tally-append, IsOneOf, one_of_left, one_of_right, one_of_either, NewRow, Seen, passing, row_seen, new_row_by, new_rows_of}
 use Rattle.mt_splice.proofs.EndLevels.{get_once}
 
 abbrev pub new_row : Table → Seen → NewRow

@@ -1,37 +1,7 @@
 -- When a replacement is published and the children of its new inner rows are tended, all parent words are right.
-use Rattle.std.proofs.Common.{◌≡◌, ◌≢◌, ◌⊎◌, ℕ, zero, suc, ◌+◌, ◌-◌, ◌<◌, ◌≤◌, List, [], ◌∷◌, Option, Some, None, true, false, length, refl, sym, ap, ◌∙◌, subst, inl, inr, arith}
-use Rattle.std.specs.Prelude.{nat_lt, is_some, if◌then◌else◌}
-use Rattle.std.specs.List.{slice_get}
-use Rattle.std.proofs.lemmas.Bool.{cases_Bool}
-use Rattle.std.proofs.lemmas.Option.{slice_get_within}
-use Rattle.mt_base.specs.declared.widths.Width.{Width}
-use Rattle.mt_base.specs.Width.{columns, first_row}
-use Rattle.mt_layout.specs.declared.names.RowKind.{RowKind}
-use Rattle.mt_layout.specs.declared.spans.Span.{Span}
-use Rattle.mt_layout.specs.Rows.{row_in, named_kind, named_row, parent_at}
-use Rattle.mt_layout.specs.Columns.{slot_column}
-use Rattle.mt_rows.specs.declared.rows.Life.TheVariants.{Draft, Live}
-use Rattle.mt_rows.specs.declared.rows.Place.{Place}
-use Rattle.mt_rows.specs.declared.rows.Place.TheVariants.{Root, Slot}
-use Rattle.mt_rows.specs.Spans.{Table, column, inner_kind, spans_in, root_span}
-use Rattle.mt_layout.specs.Sizes.{slots_of}
-use Rattle.mt_layout.proofs.RowSizes.{some_columns}
-use Rattle.mt_rows.specs.Levels.{Levels, is_row_of}
+use Rattle.mt_splice.proofs.Prelude.{◌≡◌, ◌≢◌, ◌⊎◌, ℕ, zero, suc, ◌+◌, ◌-◌, ◌<◌, ◌≤◌, List, [], ◌∷◌, Option, Some, None, true, false, length, refl, sym, ap, ◌∙◌, subst, inl, inr, arith, nat_lt, is_some, if◌then◌else◌, slice_get, cases_Bool, slice_get_within, Width, columns, first_row, RowKind, Span, row_in, named_kind, named_row, parent_at, slot_column, Draft, Live, Place, Root, Slot, Table, column, inner_kind, spans_in, root_span, slots_of, some_columns, Levels, is_row_of, Rooted, Sheet, IsPlace, life_of, is_buried, tree_as, with_published, Published, IsPlaceToPublish, root_of, same_spans, Shared, levels_shared, NewRow, Seen, passing, Work, now, child_word, child_row, AreChildren, Before, is_taken, row_seen, HasParents, StandsAs, count_in, HoldsAs, IsEndPlace, IsTop, OnlyParents, MayTendRows, AreRowsTended, MayTendTop, MayTendTopAt, IsTopTendedAt, row_most, levels_at, published_rows, published_width}
 use Rattle.mt_rows.specs.Laws as laws
-use Rattle.mt_rows.specs.Sheet.{Rooted, Sheet, IsPlace, life_of, is_buried}
-use Rattle.mt_rows.specs.Publish.{tree_as, with_published, Published, IsPlaceToPublish}
-use Rattle.mt_rows.specs.Replacement.{root_of}
-use Rattle.mt_rows.proofs.Frames.{same_spans}
-use Rattle.mt_rows.proofs.Joins.{Shared, levels_shared}
 use Rattle.mt_rows.proofs.Reached as reached
-use Rattle.mt_splice.specs.declared.writes.NewRow.{NewRow}
-use Rattle.mt_splice.specs.steps.Seen.{Seen, passing}
-use Rattle.mt_splice.specs.steps.Work.{Work, now}
-use Rattle.mt_splice.specs.steps.Writes.{child_word, child_row, AreChildren}
-use Rattle.mt_splice.specs.steps.Progress.{Before, is_taken, row_seen}
-use Rattle.mt_splice.specs.Splice.{HasParents}
-use Rattle.mt_splice.specs.steps.Replaced.{StandsAs, count_in}
-use Rattle.mt_splice.specs.steps.Ends.{HoldsAs, IsEndPlace, IsTop, OnlyParents, MayTendRows, AreRowsTended, MayTendTop, MayTendTopAt, IsTopTendedAt}
 use Rattle.mt_splice.proofs.Drafts.{other_row}
 use Rattle.mt_splice.proofs.EndTending.{only_width, kept_column, only_more, top_only, top_kept}
 use Rattle.mt_splice.proofs.Moments.{old_shared, old_level}
@@ -44,9 +14,6 @@ use Rattle.mt_splice.proofs.EndWords.{slot_word}
 use Rattle.mt_splice.proofs.EndAfter.{above_in}
 use Rattle.mt_splice.proofs.EndFacts.{life_if_reached, root_counts, root_named}
 use Rattle.mt_splice.proofs.EndPublish as ends
-use Rattle.mt_rows.proofs.FewSpans.{row_most}
-use Rattle.mt_rows.proofs.Reached.{levels_at}
-use Rattle.mt_rows.proofs.Published.{published_rows, published_width}
 use Rattle.mt_splice.proofs.StoredWords.{words_of}
 
 -- ---- the end of a replacement

@@ -1,44 +1,11 @@
 -- When all new rows are written and all old rows are buried, one store may publish them.
-use Rattle.std.proofs.Common.{◌≡◌, ◌≢◌, ℕ, suc, ◌+◌, ◌<◌, ◌≤◌, List, [], ◌∷◌, Option, Some, None, Bool, true, false, nat_lt, refl, sym, ap, ◌∙◌, subst, inl, inr, arith, lt-ltb}
-use Rattle.std.specs.Prelude.{if◌then◌else◌}
-use Rattle.std.proofs.lemmas.Bool.{cases_Bool, ltb-true}
-use Rattle.mt_base.specs.declared.kinds.Kind.{Kind}
-use Rattle.mt_base.specs.declared.widths.Width.{Width}
-use Rattle.mt_base.specs.declared.ranges.Range.{Range}
-use Rattle.mt_base.specs.declared.calls.Call.{Call}
-use Rattle.mt_base.specs.declared.replies.Reply.{Reply}
-use Rattle.mt_base.specs.Call.{acted}
-use Rattle.mt_base.specs.Width.{columns, first_row}
-use Rattle.mt_layout.specs.declared.spans.Span.{Span}
-use Rattle.mt_layout.specs.Rows.{row_in}
-use Rattle.mt_layout.specs.Columns.{slot_column}
-use Rattle.mt_layout.specs.Sizes.{slots_of}
-use Rattle.mt_layout.proofs.RowSizes.{slot_within}
-use Rattle.mt_free.specs.Book.{Book}
-use Rattle.std.proofs.lemmas.Option.{slice_get_within}
-use Rattle.mt_rows.specs.declared.rows.Life.TheVariants.{Draft, Live}
-use Rattle.mt_rows.specs.declared.rows.Place.{Place}
-use Rattle.mt_rows.specs.declared.rows.Place.TheVariants.{Root, Slot}
-use Rattle.mt_rows.specs.Spans.{spans_in}
-use Rattle.mt_rows.specs.Levels.{tally, is_row_of}
-use Rattle.mt_rows.specs.Laws.{HasWords, Stands, kind_on}
+use Rattle.mt_splice.proofs.Prelude.{◌≡◌, ◌≢◌, ℕ, suc, ◌+◌, ◌<◌, ◌≤◌, List, [], ◌∷◌, Option, Some, None, Bool, true, false, nat_lt, refl, sym, ap, ◌∙◌, subst, inl, inr, arith, lt-ltb, if◌then◌else◌, cases_Bool, ltb-true, Kind, Width, Range, Call, Reply, acted, columns, first_row, Span, row_in, slot_column, slots_of, slot_within, Book, slice_get_within, Draft, Live, Place, Root, Slot, spans_in, tally, is_row_of, HasWords, Stands, kind_on, Rooted, Sheet, life_of, is_buried, tree_as, IsToldKind, LiveAreReached, is_reached, IsReached, map_by, StandsAt, KeepsPlace, SameHoles, IsKnown, ChangesRows, MayPublish, IsPlaceToPublish, IsSlotOf, with_published, Implies, NewRow, Seen, passing, Start, Work, now, times_in, Before, IsProgress, is_taken, is_gone, StandsAs, count_in, map_as, HoldsAs, IsChildSlot, IsEndPlace, IsTop, MayPublishEnd, row_most, published_rows}
 use Rattle.mt_rows.specs.Laws as laws
-use Rattle.mt_rows.specs.Sheet.{Rooted, Sheet, life_of, is_buried}
-use Rattle.mt_rows.specs.Publish.{tree_as, IsToldKind, LiveAreReached, is_reached, IsReached, map_by, StandsAt, KeepsPlace, SameHoles, IsKnown, ChangesRows, MayPublish, IsPlaceToPublish, IsSlotOf, with_published}
 use Rattle.mt_rows.proofs.Reached as reached
-use Rattle.mt_rows.proofs.Settled.{Implies}
-use Rattle.mt_splice.specs.declared.writes.NewRow.{NewRow}
-use Rattle.mt_splice.specs.steps.Seen.{Seen, passing}
-use Rattle.mt_splice.specs.steps.Work.{Start, Work, now, times_in}
-use Rattle.mt_splice.specs.steps.Progress.{Before, IsProgress, is_taken, is_gone}
-use Rattle.mt_splice.specs.steps.Replaced.{StandsAs, count_in, map_as}
-use Rattle.mt_splice.specs.steps.Ends.{HoldsAs, IsChildSlot, IsEndPlace, IsTop, MayPublishEnd}
 use Rattle.mt_splice.proofs.Moments.{old_stands, old_times, old_map}
 use Rattle.mt_splice.proofs.EndForms.{now_is, has_words}
 use Rattle.mt_splice.proofs.EndTrees.{is_tree, map_is, count_once, reached_count, count_reached, unreached_count, count_unreached, count_number, none_or_some, placed_count, stays}
 use Rattle.mt_splice.proofs.EndHoles.{same_place_spans, at_one, at_on_level, slot_holes}
-use Rattle.mt_rows.proofs.FewSpans.{row_most}
-use Rattle.mt_rows.proofs.Published.{published_rows}
 use Rattle.mt_splice.proofs.StoredWords.{words_of}
 
 -- ---- the tree as it was, by the words then and now

@@ -1,26 +1,5 @@
 -- The children of inner rows are tended, row by row.
-use Rattle.std.proofs.Common.{◌≡◌, ◌≢◌, ℕ, zero, suc, ◌+◌, ◌-◌, ◌*◌, ◌<◌, ◌≤◌, List, [], ◌∷◌, Some, Bool, length, refl, sym, ap, ◌∙◌, subst, ⊎_elim, inl, arith, length-set}
-use Rattle.std.specs.Prelude.{false, slice_index_or, slice_set}
-use Rattle.std.specs.List.{slice_get}
-use Rattle.std.proofs.lemmas.Option.{slice_get_within}
-use Rattle.std.proofs.lemmas.Bool.{cases_eq}
-use Rattle.mt_base.specs.declared.widths.Width.{Width}
-use Rattle.mt_base.specs.Width.{columns, first_row}
-use Rattle.mt_layout.specs.declared.names.RowKind.{RowKind}
-use Rattle.mt_layout.specs.Rows.{row_in, named_row, parent_at}
-use Rattle.mt_layout.specs.Columns.{slot_column}
-use Rattle.mt_rows.specs.declared.rows.Life.{Life}
-use Rattle.mt_rows.specs.declared.rows.Life.TheVariants.{New}
-use Rattle.mt_rows.specs.declared.rows.Place.{Place}
-use Rattle.mt_rows.specs.declared.rows.Place.TheVariants.{Root, Slot}
-use Rattle.mt_layout.specs.Sizes.{slots_of}
-use Rattle.mt_layout.proofs.RowSizes.{some_columns, slot_above, slot_within}
-use Rattle.mt_rows.specs.Spans.{column}
-use Rattle.mt_rows.specs.Sheet.{Rooted, Sheet, IsWhole, IsPlace, MayTend, life_of, is_buried, tended}
-use Rattle.mt_splice.specs.declared.writes.NewRow.{NewRow}
-use Rattle.mt_splice.specs.steps.Work.{with_words}
-use Rattle.mt_splice.specs.steps.Writes.{child_word, child_row, IsChild, AreChildren, AreTended}
-use Rattle.mt_splice.specs.steps.Ends.{OnlyParents, MayTendRows, AreRowsTended, MayTendTop, MayTendTopAt, IsTopTended, IsTopTendedAt}
+use Rattle.mt_splice.proofs.Prelude.{◌≡◌, ◌≢◌, ℕ, zero, suc, ◌+◌, ◌-◌, ◌*◌, ◌<◌, ◌≤◌, List, [], ◌∷◌, Some, Bool, length, refl, sym, ap, ◌∙◌, subst, ⊎_elim, inl, arith, length-set, false, slice_index_or, slice_set, slice_get, slice_get_within, cases_eq, Width, columns, first_row, RowKind, row_in, named_row, parent_at, slot_column, Life, New, Place, Root, Slot, slots_of, some_columns, slot_above, slot_within, column, Rooted, Sheet, IsWhole, IsPlace, MayTend, life_of, is_buried, tended, NewRow, with_words, child_word, child_row, IsChild, AreChildren, AreTended, OnlyParents, MayTendRows, AreRowsTended, MayTendTop, MayTendTopAt, IsTopTended, IsTopTendedAt}
 use Rattle.mt_splice.proofs.Drafts.{other_row, other_column, same_column}
 use Rattle.mt_splice.proofs.Tending.{own_parent}
 

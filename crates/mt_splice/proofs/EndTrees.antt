@@ -1,18 +1,6 @@
 -- A tree of a height or the empty tree: which rows are reached, and where they stand.
-use Rattle.std.proofs.Common.{◌≡◌, ◌⊎◌, ℕ, zero, suc, ◌+◌, ◌<◌, ◌≤◌, [], Option, Some, None, Bool, true, false, refl, ap, ◌∙◌, inl, inr, arith}
-use Rattle.std.proofs.lemmas.Bool.{cases_Bool}
-use Rattle.mt_layout.specs.Rows.{row_in}
-use Rattle.mt_layout.specs.declared.spans.Span.{Span}
-use Rattle.mt_base.specs.Width.{deepest, first_row}
-use Rattle.mt_rows.specs.Spans.{Table, root_span}
-use Rattle.mt_rows.specs.Levels.{is_row_of}
-use Rattle.mt_rows.specs.Trees.{map_in, height_in}
-use Rattle.mt_rows.specs.Laws.{Tree, IsTree}
-use Rattle.mt_rows.specs.Publish.{is_reached, StandsAt}
-use Rattle.mt_rows.proofs.Depth.{ranges_by_depth}
+use Rattle.mt_splice.proofs.Prelude.{◌≡◌, ◌⊎◌, ℕ, zero, suc, ◌+◌, ◌<◌, ◌≤◌, [], Option, Some, None, Bool, true, false, refl, ap, ◌∙◌, inl, inr, arith, cases_Bool, row_in, Span, deepest, first_row, Table, root_span, is_row_of, map_in, height_in, Tree, IsTree, is_reached, StandsAt, ranges_by_depth, Implies, stays_in_place, StandsAs, count_in, map_as}
 use Rattle.mt_rows.proofs.Reached as reached
-use Rattle.mt_rows.proofs.Settled.{Implies, stays_in_place}
-use Rattle.mt_splice.specs.steps.Replaced.{StandsAs, count_in, map_as}
 use Rattle.mt_splice.proofs.StoredWords.{words_of}
 
 -- ---- the empty tree

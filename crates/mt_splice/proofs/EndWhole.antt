@@ -1,31 +1,7 @@
 -- From a replacement that is written and buried to one that is done.
-use Rattle.std.proofs.Common.{◌≡◌, ◌≢◌, ℕ, suc, inl, ◌+◌, ◌<◌, ◌≤◌, List, Option, Some, None, true, refl, sym, ap, ◌∙◌, subst, arith}
-use Rattle.std.specs.Prelude.{slice_index_or}
-use Rattle.mt_base.specs.declared.calls.Call.{Call}
-use Rattle.mt_base.specs.declared.replies.Reply.{Reply}
-use Rattle.mt_base.specs.Width.{first_row}
-use Rattle.mt_layout.specs.declared.names.RowKind.{RowKind}
-use Rattle.mt_layout.specs.Rows.{row_in, dead_mark}
-use Rattle.mt_free.specs.Book.{Book}
-use Rattle.mt_rows.specs.Laws.{Tree}
-use Rattle.mt_rows.specs.declared.rows.Life.{Life}
-use Rattle.mt_rows.specs.declared.rows.Life.TheVariants.{New, Live, Dead}
-use Rattle.mt_rows.specs.declared.rows.Place.{Place}
-use Rattle.mt_rows.specs.declared.rows.Place.TheVariants.{Root, Slot}
-use Rattle.mt_rows.specs.Spans.{column, inner_kind, inner_of}
-use Rattle.mt_rows.specs.Levels.{is_row_of}
+use Rattle.mt_splice.proofs.Prelude.{◌≡◌, ◌≢◌, ℕ, suc, inl, ◌+◌, ◌<◌, ◌≤◌, List, Option, Some, None, true, refl, sym, ap, ◌∙◌, subst, arith, slice_index_or, Call, Reply, first_row, RowKind, row_in, dead_mark, Book, Tree, Life, New, Live, Dead, Place, Root, Slot, column, inner_kind, inner_of, is_row_of, Sheet, life_of, word_at, tree_as, is_reached, with_published, MayPublish, Published, NewRow, passing, Start, now, child_row, Before, row_seen, HasParents, IsSpliced, TellsBelow, TellsGapAt, StandsAs, count_in, IsEndPlace, MayPublishEnd, MayTendRows, AreRowsTended, MayTendTopAt, IsTopTendedAt}
 use Rattle.mt_rows.specs.Laws as laws
-use Rattle.mt_rows.specs.Sheet.{Sheet, life_of, word_at}
-use Rattle.mt_rows.specs.Publish.{tree_as, is_reached, with_published, MayPublish, Published}
 use Rattle.mt_rows.proofs.Reached as reached
-use Rattle.mt_splice.specs.declared.writes.NewRow.{NewRow}
-use Rattle.mt_splice.specs.steps.Seen.{passing}
-use Rattle.mt_splice.specs.steps.Work.{Start, now}
-use Rattle.mt_splice.specs.steps.Writes.{child_row}
-use Rattle.mt_splice.specs.steps.Progress.{Before, row_seen}
-use Rattle.mt_splice.specs.Splice.{HasParents, IsSpliced, TellsBelow, TellsGapAt}
-use Rattle.mt_splice.specs.steps.Replaced.{StandsAs, count_in}
-use Rattle.mt_splice.specs.steps.Ends.{IsEndPlace, MayPublishEnd, MayTendRows, AreRowsTended, MayTendTopAt, IsTopTendedAt}
 use Rattle.mt_splice.proofs.EndHoles.{at_on_level}
 use Rattle.mt_splice.proofs.EndLists.{seen_some}
 use Rattle.mt_splice.proofs.EndMade.{made_seen}

@@ -1,15 +1,5 @@
 -- The word in a slot's column is that of the span that stands in the slot.
-use Rattle.std.proofs.Common.{◌≡◌, ℕ, zero, suc, ◌+◌, List, [], ◌∷◌, Option, Some, Bool, true, false, nat_le, ap, ◌∙◌, subst, arith}
-use Rattle.std.specs.Prelude.{slice_index, if◌then◌else◌}
-use Rattle.std.specs.List.{slice_get}
-use Rattle.mt_layout.specs.declared.items.Item.{Item}
-use Rattle.mt_layout.specs.declared.names.RowKind.{RowKind}
-use Rattle.mt_layout.specs.declared.spans.Span.{Span}
-use Rattle.mt_layout.specs.Rows.{row_in, named_kind}
-use Rattle.mt_layout.specs.Columns.{pivot_column, slot_column, item_at, items_from}
-use Rattle.mt_layout.specs.Spans.{spans_from}
-use Rattle.mt_rows.specs.Spans.{Table, base_of, column, spans_by, spans_in}
-use Rattle.mt_layout.specs.Sizes.{slots_of, gaps_of}
+use Rattle.mt_splice.proofs.Prelude.{◌≡◌, ℕ, zero, suc, ◌+◌, List, [], ◌∷◌, Option, Some, Bool, true, false, nat_le, ap, ◌∙◌, subst, arith, slice_index, if◌then◌else◌, slice_get, Item, RowKind, Span, row_in, named_kind, pivot_column, slot_column, item_at, items_from, spans_from, Table, base_of, column, spans_by, spans_in, slots_of, gaps_of}
 
 module _ (slots gaps : ℕ) (w : List ℕ) (base max : ℕ) where
   one_word : (first i k last : ℕ) (y : Span) → slice_get (spans_from first (item_at slots gaps w base i last ∷ [])) k ≡ Some y → slice_index w (base + slot_column slots (i + k)) ≡ y.word

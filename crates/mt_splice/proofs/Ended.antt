@@ -1,44 +1,5 @@
 -- The end of a climb: what is to be buried, and what stands when it is and the word is published.
-use Rattle.std.proofs.Common.{◌≡◌, ℕ, zero, suc, ◌+◌, ◌-◌, ◌<◌, ◌≤◌, List, [], ◌∷◌, ◌++◌, Bool, true, Some, length, map, refl, sym, ap, ◌∙◌, subst, ⊎_elim, arith, append-nil, append_assoc, length-append}
-use Rattle.std.specs.List.{AllByRecursion}
-use Rattle.std.proofs.lemmas.Bool.{cases_lt}
-use Rattle.std.proofs.lemmas.List.{map-append}
-use Rattle.mt_base.specs.Width.{columns}
-use Rattle.mt_free.specs.Book.{Book}
-use Rattle.mt_layout.specs.declared.spans.Span.{Span}
-use Rattle.mt_layout.specs.Columns.{slot_column}
-use Rattle.mt_layout.specs.Rows.{row_in}
-use Rattle.mt_layout.specs.Sizes.{slots_of}
-use Rattle.mt_layout.proofs.RowSizes.{slot_within}
-use Rattle.mt_layout.specs.Spans.{Fills}
-use Rattle.mt_path.specs.Paths.{slot_for}
-use Rattle.mt_path.proofs.TreePaths.{place, child, lawful}
-use Rattle.mt_rows.specs.declared.rows.Place.TheVariants.{Root}
-use Rattle.mt_rows.specs.Laws.{HasWords, Tree, Stands, kind_on, top_of}
-use Rattle.mt_rows.specs.Levels.{is_row_of, level, tally, times}
-use Rattle.mt_rows.specs.Publish.{IsTreeOf, is_reached, tree_as, with_published}
-use Rattle.mt_rows.specs.Replacement.{root_of, with_child}
-use Rattle.mt_rows.specs.Sheet.{Rooted, Sheet}
-use Rattle.mt_rows.specs.Spans.{column, inner_of, root_span, spans_in}
-use Rattle.mt_base.proofs.Lists.{all_back}
-use Rattle.mt_rows.proofs.FewSpans.{row_most}
-use Rattle.mt_rows.proofs.Heights.{level_next}
-use Rattle.mt_rows.proofs.Lists.{tally-append}
-use Rattle.mt_rows.proofs.Reached.{times_in_once}
-use Rattle.mt_splice.specs.declared.climbing.Climb.{Climb}
-use Rattle.mt_splice.specs.declared.climbing.Top.{Top}
-use Rattle.mt_splice.specs.declared.ways.Window.{Window}
-use Rattle.mt_splice.specs.steps.Burials.{MayBuryAll, AreBuriedAll, rows_on, numbers_in, numbers_in_all, IsWindowOn, AreWindowsOn}
-use Rattle.mt_splice.specs.steps.Climbing.{HasClimbed, EndsAtRoot, EndsInSlot}
-use Rattle.mt_splice.specs.steps.Ledgers.{was_taken, work_of, IsLedger}
-use Rattle.mt_splice.specs.steps.Layers.{Beside, Stand}
-use Rattle.mt_splice.specs.steps.Looking.{IsNowOf}
-use Rattle.mt_splice.specs.steps.Plans.{Layer, depth_at, level_of, IsPlanned, AreAllHeld, seen_at, taken_by, gone_by, window_at, windows_by, windows_above}
-use Rattle.mt_splice.specs.steps.Progress.{Before, row_seen, new_rows_of}
-use Rattle.mt_splice.specs.steps.Replaced.{IsReplaced}
-use Rattle.mt_splice.specs.steps.Seen.{Seen, passing}
-use Rattle.mt_splice.specs.steps.Windows.{before, behind, between, row_at, low_of, high_of, in_place}
-use Rattle.mt_splice.specs.steps.Work.{Start, Work, Holds, rows_at, times_in, tree_with}
+use Rattle.mt_splice.proofs.Prelude.{◌≡◌, ℕ, zero, suc, ◌+◌, ◌-◌, ◌<◌, ◌≤◌, List, [], ◌∷◌, ◌++◌, Bool, true, Some, length, map, refl, sym, ap, ◌∙◌, subst, ⊎_elim, arith, append-nil, append_assoc, length-append, AllByRecursion, cases_lt, map-append, columns, Book, Span, slot_column, row_in, slots_of, slot_within, Fills, slot_for, place, child, lawful, Root, HasWords, Tree, Stands, kind_on, top_of, is_row_of, level, tally, times, IsTreeOf, is_reached, tree_as, with_published, root_of, with_child, Rooted, Sheet, column, inner_of, root_span, spans_in, all_back, row_most, level_next, tally-append, times_in_once, Climb, Top, Window, MayBuryAll, AreBuriedAll, rows_on, numbers_in, numbers_in_all, IsWindowOn, AreWindowsOn, HasClimbed, EndsAtRoot, EndsInSlot, was_taken, work_of, IsLedger, Beside, Stand, IsNowOf, Layer, depth_at, level_of, IsPlanned, AreAllHeld, seen_at, taken_by, gone_by, window_at, windows_by, windows_above, Before, row_seen, new_rows_of, IsReplaced, Seen, passing, before, behind, between, row_at, low_of, high_of, in_place, Start, Work, Holds, rows_at, times_in, tree_with}
 use Rattle.mt_splice.proofs.EndForms as forms
 use Rattle.mt_splice.proofs.DraftedLedger.{all_held_stay}
 use Rattle.mt_splice.proofs.Drafts.{other_row}

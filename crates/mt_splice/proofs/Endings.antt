@@ -1,29 +1,8 @@
 -- The layers up to the root: in a slot the rows above stay, and one row that stands for every index is the root.
-use Rattle.std.proofs.Common.{◌≡◌, ℕ, zero, suc, ◌+◌, ◌≤◌, ◌<◌, List, [], ◌∷◌, ◌++◌, Bool, true, false, Some, nat_lt, length, refl, sym, ap, ◌∙◌, subst, arith, append-nil}
-use Rattle.std.specs.List.{AllByRecursion}
-use Rattle.mt_base.proofs.Lists.{all_map}
-use Rattle.mt_base.specs.Width.{deepest}
-use Rattle.mt_layout.specs.declared.items.Item.{Item}
-use Rattle.mt_layout.specs.declared.spans.Span.{Span}
-use Rattle.mt_layout.specs.Rows.{row_in}
-use Rattle.mt_layout.specs.Sizes.{slots_of}
-use Rattle.mt_layout.specs.Spans.{spans_from, Fills}
-use Rattle.mt_rows.specs.Levels.{expand, map_of, Levels, one_if, times, is_row_of}
-use Rattle.mt_rows.specs.Laws.{IsRow, Stands, top_of, kind_on}
-use Rattle.mt_rows.specs.Replacement.{root_of}
-use Rattle.mt_rows.proofs.Heights.{level_next}
-use Rattle.mt_rows.proofs.Lists.{levels_map}
-use Rattle.mt_rows.proofs.RowLaws.{row_keeps}
-use Rattle.mt_path.proofs.TreePaths.{rows_fill}
-use Rattle.mt_splice.specs.Fewest.{FewestBelow}
-use Rattle.mt_splice.specs.steps.Replaced.{IsReplaced, with_root}
-use Rattle.mt_splice.specs.steps.Seen.{Seen, passing}
-use Rattle.mt_splice.specs.steps.Work.{Start, tree_with, rows_at}
+use Rattle.mt_splice.proofs.Prelude.{◌≡◌, ℕ, zero, suc, ◌+◌, ◌≤◌, ◌<◌, List, [], ◌∷◌, ◌++◌, Bool, true, false, Some, nat_lt, length, refl, sym, ap, ◌∙◌, subst, arith, append-nil, AllByRecursion, all_map, deepest, Item, Span, row_in, slots_of, spans_from, Fills, expand, map_of, Levels, one_if, times, is_row_of, IsRow, Stands, top_of, kind_on, root_of, level_next, levels_map, row_keeps, rows_fill, FewestBelow, IsReplaced, with_root, Seen, passing, Start, tree_with, rows_at, Stand, before, behind, low_of, high_of, in_place}
 use Rattle.mt_splice.proofs.FewestRows.{none_new, one_new}
 use Rattle.mt_splice.proofs.RootEndings.{root_is}
 use Rattle.mt_splice.proofs.Splits.{fills_none}
-use Rattle.mt_splice.specs.steps.Layers.{Stand}
-use Rattle.mt_splice.specs.steps.Windows.{before, behind, low_of, high_of, in_place}
 
 -- A row of a depth above is as it was, but that it may hold other children: it is lawful, and not new.
 pub record IsAbove (start : Start) (words : List ℕ) (is_new : ℕ → Bool) (h : ℕ) (x : Span) : Type 0 where

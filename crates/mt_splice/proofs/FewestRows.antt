@@ -1,20 +1,5 @@
 -- The new rows of a level stay the fewest, as the levels above them are replaced.
-use Rattle.std.proofs.Common.{◌≡◌, ◌≢◌, ℕ, zero, suc, ◌≤◌, List, [], ◌∷◌, ◌++◌, Bool, true, false, refl, sym, ◌∙◌, subst, length, arith, append-nil}
-use Rattle.std.specs.List.{AllByRecursion}
-use Rattle.mt_base.proofs.Lists.{all_front, all_back}
-use Rattle.mt_base.specs.declared.widths.Width.{Width}
-use Rattle.mt_layout.specs.declared.items.Item.{Item}
-use Rattle.mt_layout.specs.declared.names.RowKind.{RowKind}
-use Rattle.mt_layout.specs.declared.names.RowKind.TheVariants.{Leaf, Inner, Gapped}
-use Rattle.mt_layout.specs.Sizes.{slots_of}
-use Rattle.mt_layout.specs.declared.spans.Span.{Span}
-use Rattle.mt_layout.specs.Rows.{row_in}
-use Rattle.mt_layout.specs.Spans.{spans_from}
-use Rattle.mt_rows.specs.Spans.{Table}
-use Rattle.mt_rows.specs.Levels.{expand, Levels}
-use Rattle.mt_rows.specs.Laws.{kind_on}
-use Rattle.mt_rows.proofs.Joins.{Shared, expand_shared}
-use Rattle.mt_splice.specs.Fewest.{IsCutOf, AreFewestOf, FewestBelow}
+use Rattle.mt_splice.proofs.Prelude.{◌≡◌, ◌≢◌, ℕ, zero, suc, ◌≤◌, List, [], ◌∷◌, ◌++◌, Bool, true, false, refl, sym, ◌∙◌, subst, length, arith, append-nil, AllByRecursion, all_front, all_back, Width, Item, RowKind, Leaf, Inner, Gapped, slots_of, Span, row_in, spans_from, Table, expand, Levels, kind_on, Shared, expand_shared, IsCutOf, AreFewestOf, FewestBelow}
 
 -- rows are new as they were
 abbrev pub SameNews : (ℕ → Bool) → (ℕ → Bool) → ℕ → Span → Type 0

@@ -1,41 +1,5 @@
 -- The first leaf of an empty tree, drafted, may be published as its root.
-use Rattle.std.proofs.Common.{◌≡◌, ℕ, ◌+◌, ◌-◌, ◌<◌, ◌≤◌, List, [], ◌∷◌, Some, None, true, length, take, refl, sym, ap, ◌∙◌, subst, arith}
-use Rattle.std.specs.List.{flat_map}
-use Rattle.std.specs.Prelude.{◌≢◌, All, Any}
-use Rattle.std.proofs.Math.Seq.{take-length}
-use Rattle.mt_base.specs.declared.calls.Call.{Call}
-use Rattle.mt_base.specs.declared.kinds.Kind.{Kind}
-use Rattle.mt_base.specs.declared.replies.Reply.{Reply}
-use Rattle.mt_free.specs.Book.{Book}
-use Rattle.mt_layout.specs.declared.items.Item.{Item}
-use Rattle.mt_layout.specs.declared.names.RowKind.{RowKind}
-use Rattle.mt_layout.specs.declared.names.RowKind.TheVariants.{Leaf}
-use Rattle.mt_layout.specs.declared.spans.Span.{Span}
-use Rattle.mt_layout.specs.Columns.{RiseFrom, end_of}
-use Rattle.mt_layout.specs.Rows.{name_at, row_in}
-use Rattle.mt_layout.specs.Sizes.{slots_of}
-use Rattle.mt_layout.specs.Spans.{leaf_range, spans_from}
-use Rattle.mt_layout.proofs.NameLaws.{row_in-name_at}
-use Rattle.mt_layout.proofs.RowSizes.{sizes}
-use Rattle.mt_layout.proofs.SpanLists.{after, fills_after, fills_end, fills_rise, length-spans_from}
-use Rattle.mt_path.specs.declared.paths.PathStep.{PathStep}
-use Rattle.mt_rows.specs.declared.rows.Place.TheVariants.{Root}
-use Rattle.mt_rows.specs.Laws.{Tree, IsRow, top_of}
-use Rattle.mt_rows.specs.Levels.{expand, map_of, tally}
-use Rattle.mt_rows.specs.Sheet.{IsFree, IsWhole, Sheet, life_of}
-use Rattle.mt_splice.specs.declared.writes.NewRow.{NewRow}
-use Rattle.mt_splice.specs.Fewest.{FewestBelow}
-use Rattle.mt_splice.specs.Splice.{MaySplice}
-use Rattle.mt_splice.specs.steps.Drafting.{AreRowsTaken, IsPieceDrafted, IsRowTaken}
-use Rattle.mt_splice.specs.steps.Ends.{MayPublishEnd}
-use Rattle.mt_splice.specs.steps.Entries.{IsFirstStore}
-use Rattle.mt_splice.specs.steps.Layers.{AreHeld, part_of}
-use Rattle.mt_splice.specs.steps.Ledgers.{IsLedger, was_taken, work_of}
-use Rattle.mt_splice.specs.steps.Progress.{Before, is_taken}
-use Rattle.mt_splice.specs.steps.Replaced.{IsReplaced, with_root}
-use Rattle.mt_splice.specs.steps.Runs.{MayBeCut}
-use Rattle.mt_splice.specs.steps.Seen.{Seen}
-use Rattle.mt_splice.specs.steps.Work.{Start, Work, tree_with}
+use Rattle.mt_splice.proofs.Prelude.{◌≡◌, ℕ, ◌+◌, ◌-◌, ◌<◌, ◌≤◌, List, [], ◌∷◌, Some, None, true, length, take, refl, sym, ap, ◌∙◌, subst, arith, flat_map, ◌≢◌, All, Any, take-length, Call, Kind, Reply, Book, Item, RowKind, Leaf, Span, RiseFrom, end_of, name_at, row_in, slots_of, leaf_range, spans_from, row_in-name_at, sizes, after, fills_after, fills_end, fills_rise, length-spans_from, PathStep, Root, Tree, IsRow, top_of, expand, map_of, tally, IsFree, IsWhole, Sheet, life_of, NewRow, FewestBelow, MaySplice, AreRowsTaken, IsPieceDrafted, IsRowTaken, MayPublishEnd, IsFirstStore, AreHeld, part_of, IsLedger, was_taken, work_of, Before, is_taken, IsReplaced, with_root, MayBeCut, Seen, Start, Work, tree_with}
 use Rattle.mt_splice.proofs.DraftedLedger.{held_then, ledger_then, width_then}
 use Rattle.mt_splice.proofs.EndForms.{ends_at_root, gaps_at_root}
 use Rattle.mt_splice.proofs.EndGaps.{root_laws}

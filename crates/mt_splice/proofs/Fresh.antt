@@ -1,14 +1,6 @@
 -- Rows and a book of which nothing was used yet stand for the empty map, and are ready for a call.
-use Rattle.std.proofs.Common.{◌≡◌, ℕ, zero, suc, ◌+◌, ◌-◌, ◌<◌, ◌≤◌, false, refl, sym, subst, inl, ⊎_elim, arith, replicate}
-use Rattle.std.specs.Prelude.{Contains, slice_index_or}
-use Rattle.std.proofs.lemmas.Bool.{cases_lt}
-use Rattle.std.proofs.lemmas.List.Elements.{All-nil}
-use Rattle.mt_base.specs.declared.kinds.Kind.{Kind}
-use Rattle.mt_base.specs.Width.{kind_width, first_row}
-use Rattle.mt_free.specs.Book.{Held, rows_down, IsBook, new_book}
+use Rattle.mt_splice.proofs.Prelude.{◌≡◌, ℕ, zero, suc, ◌+◌, ◌-◌, ◌<◌, ◌≤◌, false, refl, sym, subst, inl, ⊎_elim, arith, replicate, Contains, slice_index_or, cases_lt, All-nil, Kind, kind_width, first_row, Held, rows_down, IsBook, new_book, new_sheet, IsUnheld}
 use Rattle.mt_rows.specs.declared.rows.Life.TheVariants as lives
-use Rattle.mt_rows.specs.Plain.{new_sheet}
-use Rattle.mt_splice.specs.Kept.{IsUnheld}
 use Rattle.mt_splice.proofs.BetweenCalls.{IsBetweenCalls}
 
 same_anywhere : {X : Type 0} (n i : ℕ) (x : X) → slice_index_or (replicate n x) i x ≡ x

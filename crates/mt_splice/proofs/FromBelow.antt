@@ -1,21 +1,5 @@
 -- The items of a climb are new rows among old ones, also when the row beside is taken in, and one level up.
-use Rattle.std.proofs.Common.{◌≡◌, ℕ, suc, ◌+◌, ◌-◌, ◌<◌, ◌≤◌, List, [], ◌∷◌, ◌++◌, length, take, drop, refl, sym, ap, ◌∙◌, subst, inl, inr, arith, append_assoc}
-use Rattle.mt_layout.specs.declared.items.Item.{Item}
-use Rattle.mt_layout.specs.declared.names.RowKind.{RowKind}
-use Rattle.mt_layout.specs.declared.spans.Span.{Span}
-use Rattle.mt_layout.specs.Spans.{spans_from, Fills}
-use Rattle.mt_layout.proofs.SpanLists.{after, fills-append, spans-take, spans-drop}
-use Rattle.mt_path.specs.declared.paths.PathStep.{PathStep}
-use Rattle.mt_path.specs.Paths.{step_at}
-use Rattle.mt_rows.specs.Laws.{Tree, Stands, kind_on, top_of}
-use Rattle.mt_splice.specs.steps.Looking.{items_above}
-use Rattle.mt_splice.specs.steps.Plans.{Layer, level_of}
-use Rattle.mt_splice.specs.steps.Telling.{AreOld, AreAmongOld, AreFromBelow}
-use Rattle.mt_splice.specs.steps.Told.{HadGaps}
-use Rattle.mt_splice.specs.steps.Widening.{IsWithBehind, IsWithBefore, IsWidened, IsWindow, MayWiden}
-use Rattle.mt_splice.specs.steps.Windows.{low_of, high_of, Gathered}
-use Rattle.mt_splice.specs.steps.Work.{Start}
-use Rattle.mt_splice.specs.steps.Writes.{items_of_row}
+use Rattle.mt_splice.proofs.Prelude.{◌≡◌, ℕ, suc, ◌+◌, ◌-◌, ◌<◌, ◌≤◌, List, [], ◌∷◌, ◌++◌, length, take, drop, refl, sym, ap, ◌∙◌, subst, inl, inr, arith, append_assoc, Item, RowKind, Span, spans_from, Fills, after, fills-append, spans-take, spans-drop, PathStep, step_at, Tree, Stands, kind_on, top_of, items_above, Layer, level_of, AreOld, AreAmongOld, AreFromBelow, HadGaps, IsWithBehind, IsWithBefore, IsWidened, IsWindow, MayWiden, low_of, high_of, Gathered, Start, items_of_row}
 use Rattle.mt_splice.proofs.Besides.{begin_within, low_enough}
 use Rattle.mt_splice.proofs.OldRows.{row_is_old, row_fills, take_old, drop_old, join_old}
 use Rattle.mt_splice.proofs.Raised.{begin_there, fills_taken, fills_dropped}

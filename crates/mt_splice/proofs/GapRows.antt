@@ -1,28 +1,5 @@
 -- The gaps of items, and the law of gaps of a row by its items.
-use Rattle.std.proofs.Common.{◌≡◌, ℕ, zero, suc, ◌+◌, ◌*◌, List, [], ◌∷◌, Option, Some, fold, map, max, refl, sym, ap, ◌∙◌, subst, arith, append-nil}
-use Rattle.std.specs.List.{AllByRecursion}
-use Rattle.mt_base.specs.declared.widths.Width.{Width}
-use Rattle.mt_base.specs.Width.{columns}
-use Rattle.mt_layout.specs.declared.items.Item.{Item}
-use Rattle.mt_layout.specs.declared.names.RowKind.{RowKind}
-use Rattle.mt_layout.specs.declared.names.RowKind.TheVariants.{Leaf, Inner, Gapped}
-use Rattle.mt_layout.specs.declared.spans.Span.{Span}
-use Rattle.mt_layout.specs.Rows.{row_in, named_kind}
-use Rattle.mt_layout.specs.Columns.{longest_hole}
-use Rattle.mt_layout.specs.Sizes.{slots_of, gaps_of}
-use Rattle.mt_layout.specs.Spans.{spans_from, longest_in}
-use Rattle.mt_layout.proofs.OwnColumns.{same_items}
-use Rattle.mt_layout.proofs.RowSizes.{layout_of}
-use Rattle.mt_rows.specs.Spans.{Table, inner_of, spans_by, spans_in}
-use Rattle.mt_rows.specs.Levels.{expand, Levels, SameColumns}
-use Rattle.mt_rows.specs.Laws.{Tree, IsRow, GapLaw, GapLawBy, GapsFrom, items_in, longest_below}
-use Rattle.mt_rows.proofs.Joins.{Shared, expand_shared, levels_front, levels_back}
-use Rattle.mt_rows.proofs.Frames.{same_spans}
-use Rattle.mt_rows.proofs.Lists.{levels_map}
-use Rattle.mt_rows.proofs.RowGaps.{AreGapsAt, gaps_read}
-use Rattle.mt_rows.proofs.Longest.{longest_below-append, longest_none, longest_shared}
-use Rattle.mt_splice.specs.steps.Told.{longest_holes, TellGaps}
-use Rattle.mt_splice.specs.steps.Work.{table_with, tree_with}
+use Rattle.mt_splice.proofs.Prelude.{◌≡◌, ℕ, zero, suc, ◌+◌, ◌*◌, List, [], ◌∷◌, Option, Some, fold, map, max, refl, sym, ap, ◌∙◌, subst, arith, append-nil, AllByRecursion, Width, columns, Item, RowKind, Leaf, Inner, Gapped, Span, row_in, named_kind, longest_hole, slots_of, gaps_of, spans_from, longest_in, same_items, layout_of, Table, inner_of, spans_by, spans_in, expand, Levels, SameColumns, Tree, IsRow, GapLaw, GapLawBy, GapsFrom, items_in, longest_below, Shared, expand_shared, levels_front, levels_back, same_spans, levels_map, AreGapsAt, gaps_read, longest_below-append, longest_none, longest_shared, longest_holes, TellGaps, table_with, tree_with}
 
 -- ---- the longest hole below rows
 

@@ -1,16 +1,5 @@
 -- The items of a row behind a slot.
-use Rattle.std.proofs.Common.{◌≡◌, ℕ, zero, suc, ◌+◌, ◌-◌, ◌<◌, ◌≤◌, List, [], length, take, drop, nat_le, refl, sym, ap, ◌∙◌, arith, inl, inr}
-use Rattle.std.specs.Prelude.{slice_index}
-use Rattle.std.proofs.lemmas.Bool.{cases_Bool}
-use Rattle.std.proofs.lemmas.List.{take_all, length-take}
-use Rattle.std.proofs.Math.ListN.{drop_of_length-le}
-use Rattle.mt_layout.specs.declared.items.Item.{Item}
-use Rattle.mt_layout.specs.declared.names.RowKind.{RowKind}
-use Rattle.mt_layout.specs.Columns.{items_from, pivot_column}
-use Rattle.mt_layout.proofs.Reading.{few_items}
-use Rattle.mt_rows.specs.Spans.{Table, base_of}
-use Rattle.mt_layout.specs.Sizes.{slots_of, gaps_of}
-use Rattle.mt_splice.specs.steps.Writes.{items_of_row}
+use Rattle.mt_splice.proofs.Prelude.{◌≡◌, ℕ, zero, suc, ◌+◌, ◌-◌, ◌<◌, ◌≤◌, List, [], length, take, drop, nat_le, refl, sym, ap, ◌∙◌, arith, inl, inr, slice_index, cases_Bool, take_all, length-take, drop_of_length-le, Item, RowKind, items_from, pivot_column, few_items, Table, base_of, slots_of, gaps_of, items_of_row}
 
 module _ (slots gaps : ℕ) (w : List ℕ) (base max : ℕ) where
   pub drop_from : (k left i : ℕ) → k < length (items_from slots gaps w base max left i) → drop k (items_from slots gaps w base max left i) ≡ items_from slots gaps w base max (left - k) (i + k)

@@ -1,35 +1,5 @@
 -- The rows of windows buried and retired, by the ledger.
-use Rattle.std.proofs.Common.{◌≡◌, ℕ, zero, suc, ◌+◌, ◌-◌, ◌<◌, ◌≤◌, List, [], ◌∷◌, ◌++◌, true, length, map, nat_lt, refl, sym, ap, ◌∙◌, subst, arith, append_assoc, append-nil, length-append, eq-eqb}
-use Rattle.std.specs.List.{AllByRecursion}
-use Rattle.std.proofs.lemmas.List.{map-append}
-use Rattle.mt_base.specs.declared.widths.Width.{Width}
-use Rattle.mt_base.specs.Width.{columns, greatest}
-use Rattle.mt_base.proofs.Lists.{all_front, all_back}
-use Rattle.mt_free.specs.Book.{Book, IsOut, after_retire}
-use Rattle.mt_layout.specs.declared.spans.Span.{Span}
-use Rattle.mt_layout.specs.Rows.{row_in, dead_mark}
-use Rattle.mt_layout.proofs.SpanLists.{fills_le}
-use Rattle.mt_path.specs.Paths.{path_in}
-use Rattle.mt_path.proofs.TreePaths.{levels, place}
-use Rattle.mt_rows.specs.Laws.{Tree, Stands, top_of}
-use Rattle.mt_rows.specs.Levels.{is_row_of, one_if}
-use Rattle.mt_rows.specs.Publish.{is_reached}
-use Rattle.mt_rows.specs.Replacement.{root_of}
-use Rattle.mt_rows.specs.Sheet.{Sheet, MayBury, after_bury}
-use Rattle.mt_rows.specs.Spans.{Table, column}
-use Rattle.mt_rows.proofs.Heights.{level_rows}
-use Rattle.mt_rows.proofs.Lists.{tally-append}
-use Rattle.mt_rows.proofs.Reached.{on_level_reached, times_reached}
-use Rattle.mt_splice.specs.declared.ways.Window.{Window}
-use Rattle.mt_splice.specs.Kept.{IsUnpublished}
-use Rattle.mt_splice.specs.steps.Burials.{after_burials, after_retirals, EachOnce, MayBuryAll, rows_on, numbers_in, numbers_in_all, IsWindowOn, AreWindowsOn}
-use Rattle.mt_splice.specs.steps.Ledgers.{was_taken, IsLedger}
-use Rattle.mt_splice.specs.steps.Looking.{IsNowOf}
-use Rattle.mt_splice.specs.steps.Plans.{Layer, depth_at, old_at, IsPlanned, AreAllHeld, seen_at, gone_by, window_at, windows_by}
-use Rattle.mt_splice.specs.steps.Progress.{Before, IsStartOf, row_seen}
-use Rattle.mt_splice.specs.steps.Seen.{Seen, passing}
-use Rattle.mt_splice.specs.steps.Windows.{before, behind, between, row_at}
-use Rattle.mt_splice.specs.steps.Work.{Start, rows_at, tree_with}
+use Rattle.mt_splice.proofs.Prelude.{◌≡◌, ℕ, zero, suc, ◌+◌, ◌-◌, ◌<◌, ◌≤◌, List, [], ◌∷◌, ◌++◌, true, length, map, nat_lt, refl, sym, ap, ◌∙◌, subst, arith, append_assoc, append-nil, length-append, eq-eqb, AllByRecursion, map-append, Width, columns, greatest, all_front, all_back, Book, IsOut, after_retire, Span, row_in, dead_mark, fills_le, path_in, levels, place, Tree, Stands, top_of, is_row_of, one_if, is_reached, root_of, Sheet, MayBury, after_bury, Table, column, level_rows, tally-append, on_level_reached, times_reached, Window, IsUnpublished, after_burials, after_retirals, EachOnce, MayBuryAll, rows_on, numbers_in, numbers_in_all, IsWindowOn, AreWindowsOn, was_taken, IsLedger, IsNowOf, Layer, depth_at, old_at, IsPlanned, AreAllHeld, seen_at, gone_by, window_at, windows_by, Before, IsStartOf, row_seen, Seen, passing, before, behind, between, row_at, Start, rows_at, tree_with}
 use Rattle.mt_splice.proofs.DraftedLedger.{all_held_stay}
 use Rattle.mt_splice.proofs.EndLevels.{levels_each}
 use Rattle.mt_splice.proofs.EndLists.{contains_seen}

@@ -1,17 +1,7 @@
 -- The items that new rows are one level up stand for what these hold.
-use Rattle.std.proofs.Common.{◌≡◌, ℕ, suc, ◌+◌, ◌-◌, ◌<◌, ◌≤◌, List, [], ◌∷◌, ◌++◌, length, drop, refl, sym, ap, ◌∙◌, subst, arith, take-append-drop}
-use Rattle.std.proofs.Math.Seq.{drop-drop}
-use Rattle.mt_layout.specs.declared.items.Item.{Item}
-use Rattle.mt_layout.specs.declared.names.RowKind.{RowKind}
-use Rattle.mt_layout.specs.Columns.{end_of}
-use Rattle.mt_layout.specs.Spans.{spans_from, Fills}
-use Rattle.mt_layout.proofs.SpanLists.{after, after-append, after_some, fills_le, fills_after}
-use Rattle.mt_rows.specs.Laws.{Tree, kind_on}
-use Rattle.mt_splice.specs.Fewest.{IsCutOf}
-use Rattle.mt_splice.specs.steps.Runs.{MayBeCut}
+use Rattle.mt_splice.proofs.Prelude.{◌≡◌, ℕ, suc, ◌+◌, ◌-◌, ◌<◌, ◌≤◌, List, [], ◌∷◌, ◌++◌, length, drop, refl, sym, ap, ◌∙◌, subst, arith, take-append-drop, drop-drop, Item, RowKind, end_of, spans_from, Fills, after, after-append, after_some, fills_le, fills_after, Tree, kind_on, IsCutOf, MayBeCut, part_of, heads}
 use Rattle.mt_splice.proofs.LevelRuns.{AreParts, length-part, cut_makes_parts}
 use Rattle.mt_splice.proofs.Gathering.{none_behind}
-use Rattle.mt_splice.specs.steps.Layers.{part_of, heads}
 
 pub drop_part : (items : List Item) (from to : ℕ) → from ≤ to → drop from items ≡ part_of items from to ++ drop to items
 drop_part items from to order =

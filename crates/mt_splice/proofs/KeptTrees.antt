@@ -1,23 +1,5 @@
 -- A tree whose rows keep their words but for parent words: it stands, and its levels and paths are the same.
-use Rattle.std.proofs.Common.{◌≡◌, ◌≢◌, ℕ, ◌+◌, ◌≤◌, List, [], ◌∷◌, refl, sym, ◌∙◌, subst, inr, ⊎_elim, arith}
-use Rattle.std.proofs.lemmas.Bool.{cases_eq}
-use Rattle.mt_base.specs.declared.kinds.Kind.{Kind}
-use Rattle.mt_base.specs.Width.{columns, deepest, greatest}
-use Rattle.mt_layout.specs.Rows.{row_in, dead_mark}
-use Rattle.mt_layout.proofs.RowSizes.{some_columns}
-use Rattle.mt_path.specs.Paths.{path_in}
-use Rattle.mt_path.proofs.TreePaths.{top_row, root_leads}
-use Rattle.mt_rows.specs.Laws.{Tree, IsRow, Stands, top_of}
-use Rattle.mt_rows.specs.Levels.{Levels, SameColumns}
-use Rattle.mt_rows.specs.Publish.{IsTreeOf, tree_as}
-use Rattle.mt_rows.specs.Replacement.{root_of}
-use Rattle.mt_rows.specs.Sheet.{Rooted, Sheet, after_bury, with_word}
-use Rattle.mt_rows.specs.Spans.{column}
-use Rattle.mt_rows.proofs.Heights.{level_shared, levels_upper}
-use Rattle.mt_rows.proofs.Joins.{Shared}
-use Rattle.mt_rows.proofs.Lists.{levels_map}
-use Rattle.mt_splice.specs.steps.Burials.{after_burials, rows_on}
-use Rattle.mt_splice.specs.steps.Work.{table_with, tree_with, rows_at}
+use Rattle.mt_splice.proofs.Prelude.{◌≡◌, ◌≢◌, ℕ, ◌+◌, ◌≤◌, List, [], ◌∷◌, refl, sym, ◌∙◌, subst, inr, ⊎_elim, arith, cases_eq, Kind, columns, deepest, greatest, row_in, dead_mark, some_columns, path_in, top_row, root_leads, Tree, IsRow, Stands, top_of, Levels, SameColumns, IsTreeOf, tree_as, root_of, Rooted, Sheet, after_bury, with_word, column, level_shared, levels_upper, Shared, levels_map, after_burials, rows_on, table_with, tree_with, rows_at}
 use Rattle.mt_splice.proofs.Drafts.{other_row, other_column}
 use Rattle.mt_splice.proofs.Moments.{RowsKeep, rows_shared, rows_stay}
 use Rattle.mt_splice.proofs.PathsNow.{path_shared}

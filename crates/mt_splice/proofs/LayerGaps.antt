@@ -1,29 +1,5 @@
 -- The law of gaps in a plan that is drafted: by the words then, all rows of the top layer's level, and all below, keep it.
-use Rattle.std.proofs.Common.{[], ◌≡◌, ℕ, zero, suc, ◌+◌, ◌≤◌, List, ◌∷◌, ◌++◌, Bool, length, drop, refl, sym, ◌∙◌, subst, inl, arith}
-use Rattle.std.specs.List.{AllByRecursion}
-use Rattle.mt_base.proofs.Lists.{all_map, all_front, all_back, all_join}
-use Rattle.mt_layout.specs.declared.items.Item.{Item}
-use Rattle.mt_layout.specs.declared.names.RowKind.{RowKind}
-use Rattle.mt_layout.specs.declared.names.RowKind.TheVariants.{Leaf, Inner, Gapped}
-use Rattle.mt_layout.specs.declared.spans.Span.{Span}
-use Rattle.mt_layout.specs.Columns.{end_of}
-use Rattle.mt_layout.specs.Rows.{name_at}
-use Rattle.mt_layout.specs.Spans.{spans_from, Fills}
-use Rattle.mt_layout.proofs.SpanLists.{after, after_some}
-use Rattle.mt_rows.specs.Laws.{Tree, IsRow, GapLaw, kind_on, longest_below}
-use Rattle.mt_rows.specs.Levels.{expand, Levels, IsBelow}
-use Rattle.mt_rows.specs.Replacement.{root_of}
-use Rattle.mt_rows.specs.Spans.{Table, inner_of, root_span}
-use Rattle.mt_rows.proofs.Heights.{level_next, levels_lower}
-use Rattle.mt_rows.proofs.Joins.{Shared, levels_join}
-use Rattle.mt_rows.proofs.Reached.{below_on_level}
-use Rattle.mt_splice.specs.steps.Layers.{AreHeld, Beside, IsOld, head, heads, part_of}
-use Rattle.mt_splice.specs.steps.Plans.{Layer, AreAllHeld, IsLayer, IsPlanned, begin_at, depth_at, heads_at, level_of, new_at, old_at}
-use Rattle.mt_splice.specs.steps.Telling.{AreOld, AreAmongOld, AreAllFromBelow}
-use Rattle.mt_splice.specs.steps.Told.{HadGaps, TellGaps}
-use Rattle.mt_splice.specs.steps.Windows.{before, behind, in_place}
-use Rattle.mt_splice.specs.steps.Work.{Start, rows_at, tree_with}
-use Rattle.mt_splice.specs.steps.Writes.{IsNewRow}
+use Rattle.mt_splice.proofs.Prelude.{[], ◌≡◌, ℕ, zero, suc, ◌+◌, ◌≤◌, List, ◌∷◌, ◌++◌, Bool, length, drop, refl, sym, ◌∙◌, subst, inl, arith, AllByRecursion, all_map, all_front, all_back, all_join, Item, RowKind, Leaf, Inner, Gapped, Span, end_of, name_at, spans_from, Fills, after, after_some, Tree, IsRow, GapLaw, kind_on, longest_below, expand, Levels, IsBelow, root_of, Table, inner_of, root_span, level_next, levels_lower, Shared, levels_join, below_on_level, AreHeld, Beside, IsOld, head, heads, part_of, Layer, AreAllHeld, IsLayer, IsPlanned, begin_at, depth_at, heads_at, level_of, new_at, old_at, AreOld, AreAmongOld, AreAllFromBelow, HadGaps, TellGaps, before, behind, in_place, Start, rows_at, tree_with, IsNewRow}
 use Rattle.mt_splice.proofs.GapRows.{gap_laws_stay, row_keeps_gaps, tells_later}
 use Rattle.mt_splice.proofs.Heads.{drop_part, heads_fill}
 use Rattle.mt_splice.proofs.Layers.{level_holds}

@@ -1,24 +1,6 @@
 -- A layer in the place of its window: the level with it stands for the map, where the level below with its layer does.
-use Rattle.std.proofs.Common.{◌≡◌, ℕ, suc, ◌+◌, ◌≤◌, List, ◌++◌, Bool, false, refl, sym, ap, ◌∙◌, subst, arith}
-use Rattle.std.specs.List.{AllByRecursion, flat_map}
-use Rattle.mt_base.proofs.Lists.{all_map, all_front, all_back, all_join}
-use Rattle.mt_layout.specs.declared.items.Item.{Item}
-use Rattle.mt_layout.specs.declared.spans.Span.{Span}
-use Rattle.mt_layout.specs.Rows.{row_in}
-use Rattle.mt_layout.specs.Spans.{leaf_range, spans_from, Fills}
-use Rattle.mt_layout.proofs.SpanLists.{fills-append}
-use Rattle.mt_rows.specs.Levels.{expand, map_of, Levels, tally, times, SameSpans}
-use Rattle.mt_rows.specs.Laws.{Tree, IsRow, top_of, kind_on}
-use Rattle.mt_rows.specs.Replacement.{root_of}
-use Rattle.mt_rows.proofs.Frames.{same_spans}
-use Rattle.mt_rows.proofs.Heights.{level_next}
-use Rattle.mt_rows.proofs.Joins.{expand_shared}
-use Rattle.mt_rows.proofs.Lists.{tally-append, expand-append}
-use Rattle.mt_splice.specs.Fewest.{AreFewestOf, FewestBelow}
-use Rattle.mt_splice.specs.steps.Work.{Start, tree_with, rows_at}
+use Rattle.mt_splice.proofs.Prelude.{◌≡◌, ℕ, suc, ◌+◌, ◌≤◌, List, ◌++◌, Bool, false, refl, sym, ap, ◌∙◌, subst, arith, AllByRecursion, flat_map, all_map, all_front, all_back, all_join, Item, Span, row_in, leaf_range, spans_from, Fills, fills-append, expand, map_of, Levels, tally, times, SameSpans, Tree, IsRow, top_of, kind_on, root_of, same_spans, level_next, expand_shared, tally-append, expand-append, AreFewestOf, FewestBelow, Start, tree_with, rows_at, IsOld, Beside, Stand, before, behind, between, low_of, high_of, in_place, in_rows, Gathered}
 use Rattle.mt_splice.proofs.Moments.{row_stays}
-use Rattle.mt_splice.specs.steps.Layers.{IsOld, Beside, Stand}
-use Rattle.mt_splice.specs.steps.Windows.{before, behind, between, low_of, high_of, in_place, in_rows, Gathered}
 use Rattle.mt_splice.proofs.WindowRows.{window_parts, before_fills, behind_fills}
 use Rattle.mt_splice.proofs.Parts.{AreNew}
 

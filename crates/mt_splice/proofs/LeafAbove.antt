@@ -1,16 +1,6 @@
 -- The items of a leaf that end above an index are pushed, from the slot on that holds it.
-use Rattle.std.proofs.Common.{◌≡◌, ℕ, ◌+◌, ◌-◌, ◌<◌, ◌≤◌, List, [], ◌∷◌, length, nat_lt, drop, fold, sym, ap, ◌∙◌, inl, inr, arith}
-use Rattle.std.specs.Prelude.{if◌then◌else◌}
-use Rattle.std.proofs.lemmas.Bool.{cases_Bool, ltb-true, ltb-false}
-use Rattle.mt_layout.specs.declared.items.Item.{Item}
-use Rattle.mt_layout.specs.declared.names.RowKind.TheVariants.{Leaf}
-use Rattle.mt_layout.specs.Columns.{item_at, pivot_column}
-use Rattle.mt_layout.specs.Sizes.{slots_of, gaps_of, run_room}
-use Rattle.mt_leaf.specs.Places.{slot_above, with_joined}
-use Rattle.mt_path.specs.declared.paths.PathStep.{PathStep}
-use Rattle.mt_rows.specs.Spans.{Table, base_of, column}
-use Rattle.mt_rows.specs.Sheet.{Rooted, Sheet, OnlyReads}
-use Rattle.mt_splice.specs.steps.Regions.{IsLeafStep, leaf_items}
+use Rattle.mt_splice.proofs.Prelude.{◌≡◌, ℕ, ◌+◌, ◌-◌, ◌<◌, ◌≤◌, List, [], ◌∷◌, length, nat_lt, drop, fold, sym, ap, ◌∙◌, inl, inr, arith, if◌then◌else◌, cases_Bool, ltb-true, ltb-false, Item, Leaf, item_at, pivot_column, slots_of, gaps_of, run_room, with_joined, PathStep, Table, base_of, column, Rooted, Sheet, OnlyReads, IsLeafStep, leaf_items}
+use Rattle.mt_leaf.specs.Places.{slot_above}
 use Rattle.mt_splice.proofs.Gathering.{items_behind}
 use Rattle.mt_splice.proofs.LeafItems.{ending_above, above_slot, one_above}
 use Rattle.mt_splice.proofs.LeafRegions.{leaf_slot, leaf_used, leaf_rise}

@@ -1,13 +1,6 @@
 -- Items of a leaf below an index and above one, by the slot that holds it.
-use Rattle.std.proofs.Common.{◌≡◌, ℕ, zero, suc, ◌+◌, ◌-◌, ◌<◌, ◌≤◌, List, [], ◌∷◌, ◌++◌, Bool, cond, length, nat_lt, nat_le, take, drop, fold, refl, sym, ap, ◌∙◌, inl, inr, arith, append-nil}
-use Rattle.std.specs.Prelude.{slice_index}
-use Rattle.std.specs.List.{prefix_len, filter}
-use Rattle.std.proofs.lemmas.Bool.{cases_Bool, ltb-true, ltb-false, lt-ltb, le-ltb, lt-leb, le-leb}
-use Rattle.mt_layout.specs.declared.items.Item.{Item}
-use Rattle.mt_layout.specs.declared.spans.Span.{Span}
-use Rattle.mt_layout.specs.Columns.{RiseFrom, pivot_column, item_at, items_from}
-use Rattle.mt_layout.specs.Spans.{spans_from, BeginsFull, Apart}
-use Rattle.mt_leaf.specs.Places.{slot_reaching, slot_above, first_of, with_joined, cut_item, items_below}
+use Rattle.mt_splice.proofs.Prelude.{◌≡◌, ℕ, zero, suc, ◌+◌, ◌-◌, ◌<◌, ◌≤◌, List, [], ◌∷◌, ◌++◌, Bool, cond, length, nat_lt, nat_le, take, drop, fold, refl, sym, ap, ◌∙◌, inl, inr, arith, append-nil, slice_index, prefix_len, filter, cases_Bool, ltb-true, ltb-false, lt-ltb, le-ltb, lt-leb, le-leb, Item, Span, RiseFrom, pivot_column, item_at, items_from, spans_from, BeginsFull, Apart, slot_reaching, first_of, with_joined, cut_item, items_below}
+use Rattle.mt_leaf.specs.Places.{slot_above}
 
 -- ---- the slot that holds an index
 

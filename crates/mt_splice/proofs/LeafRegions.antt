@@ -1,39 +1,7 @@
 -- The leaves at a store's ends: where they stand, and what is made of what stands in them below the store and above it.
-use Rattle.std.proofs.Common.{[], ◌≡◌, ◌≢◌, ℕ, ◌+◌, ◌-◌, ◌<◌, ◌≤◌, ◌==◌, ◌&&◌, ◌++◌, List, ◌∷◌, Bool, true, false, length, nat_lt, take, drop, fold, refl, sym, ap, ◌∙◌, subst, inl, inr, arith, length-take}
-use Rattle.std.specs.Prelude.{slice_index, if◌then◌else◌}
-use Rattle.std.proofs.lemmas.Bool.{cases_Bool, eqb-true, eqb-false, ltb-true, ltb-false}
-use Rattle.std.proofs.lemmas.List.Folds.{length-prefix_len}
-use Rattle.mt_base.specs.declared.kinds.Kind.{Kind}
-use Rattle.mt_base.specs.declared.widths.Width.{Width}
-use Rattle.mt_base.specs.Width.{deepest, first_row}
-use Rattle.mt_layout.specs.declared.items.Item.{Item}
-use Rattle.mt_layout.specs.declared.names.RowKind.TheVariants.{Leaf}
-use Rattle.mt_layout.specs.declared.spans.Span.{Span}
-use Rattle.mt_layout.specs.Rows.{row_in, named_kind}
-use Rattle.mt_layout.specs.Columns.{RiseFrom, slot_column, gap_at, item_at, items_from}
-use Rattle.mt_layout.specs.Sizes.{slots_of, gaps_of, run_room}
-use Rattle.mt_layout.specs.Spans.{Fills, spans_from, Apart}
-use Rattle.mt_layout.proofs.NameLaws.{Names-named_kind}
-use Rattle.mt_layout.proofs.Reading.{few_items}
-use Rattle.mt_layout.proofs.RowSizes.{sizes, no_gaps_of}
-use Rattle.mt_layout.proofs.SpanLists.{after, fills_after, fills_rise, length-spans_from, spans-append}
-use Rattle.mt_leaf.specs.Edits.{spans_below, spans_above, span_stored, stored, holes_joined, edited, starting}
-use Rattle.mt_leaf.specs.Places.{slot_reaching, slot_above, first_of, with_joined, items_below}
-use Rattle.mt_leaf.proofs.Counts.{stored_two}
-use Rattle.mt_leaf.proofs.EditSteps.{item_stored, items_below-spans, after-items_below, items_above-spans}
-use Rattle.mt_leaf.proofs.Pushes.{pushed_onto}
-use Rattle.mt_rows.specs.Spans.{root_span, base_of, spans_in}
-use Rattle.mt_rows.specs.Laws.{Tree, IsTree, IsRow, Stands, top_of}
-use Rattle.mt_rows.specs.Sheet.{Rooted, IsPlace, word_at}
-use Rattle.mt_rows.specs.Publish.{tree_as}
-use Rattle.mt_path.specs.declared.paths.PathStep.{PathStep}
-use Rattle.mt_path.specs.Paths.{slot_for, path_in, step_at, step_in}
-use Rattle.mt_path.specs.Handles.{last_step, leaf_spans}
-use Rattle.mt_path.proofs.Places.{at_once, At}
-use Rattle.mt_path.proofs.Steps.{path_of_none}
-use Rattle.mt_path.proofs.TreePaths.{row_of, rows_at, step_of, step, place, lawful, levels, slot_used, rows_fill, right_begins}
-use Rattle.mt_splice.specs.Splice.{region_of}
-use Rattle.mt_splice.specs.steps.Regions.{AreEnds, IsLeafStep, leaf_items}
+use Rattle.mt_splice.proofs.Prelude.{[], ◌≡◌, ◌≢◌, ℕ, ◌+◌, ◌-◌, ◌<◌, ◌≤◌, ◌==◌, ◌&&◌, ◌++◌, List, ◌∷◌, Bool, true, false, length, nat_lt, take, drop, fold, refl, sym, ap, ◌∙◌, subst, inl, inr, arith, length-take, slice_index, if◌then◌else◌, cases_Bool, eqb-true, eqb-false, ltb-true, ltb-false, length-prefix_len, Kind, Width, deepest, first_row, Item, Leaf, Span, row_in, named_kind, RiseFrom, slot_column, gap_at, item_at, items_from, slots_of, gaps_of, run_room, Fills, spans_from, Apart, Names-named_kind, few_items, sizes, no_gaps_of, after, fills_after, fills_rise, length-spans_from, spans-append, spans_below, spans_above, span_stored, stored, holes_joined, edited, starting, slot_reaching, first_of, with_joined, items_below, stored_two, item_stored, items_below-spans, after-items_below, items_above-spans, pushed_onto, root_span, base_of, spans_in, Tree, IsTree, IsRow, Stands, top_of, Rooted, IsPlace, word_at, tree_as, PathStep, slot_for, path_in, step_at, step_in, last_step, leaf_spans, at_once, At, path_of_none, row_of, step_of, step, place, lawful, levels, slot_used, rows_fill, right_begins, region_of, AreEnds, IsLeafStep, leaf_items}
+use Rattle.mt_leaf.specs.Places.{slot_above}
+use Rattle.mt_path.proofs.TreePaths.{rows_at}
 use Rattle.mt_splice.proofs.Gathering.{drop_from}
 use Rattle.mt_splice.proofs.LeafItems.{spans-prefix, first_of-take, first_reaching, length-items_below, apart_below, whole_below, part_below, item_in}
 use Rattle.mt_splice.proofs.PathRows.{rows_in_order, spans_of_step, leaf_numbered}

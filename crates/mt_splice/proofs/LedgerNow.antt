@@ -1,23 +1,5 @@
 -- What the ledger tells while rows are drafted: the tree as it was stands beside them, and is read as it was.
-use Rattle.std.proofs.Common.{◌≡◌, ℕ, ◌<◌, ◌≤◌, List, Bool, true, false, sym, ap, ◌∙◌, subst, ⊎_elim}
-use Rattle.std.specs.Prelude.{◌||◌}
-use Rattle.std.proofs.lemmas.Bool.{lt-ltb}
-use Rattle.mt_base.specs.Width.{columns}
-use Rattle.mt_free.specs.Book.{Book}
-use Rattle.mt_layout.specs.declared.spans.Span.{Span}
-use Rattle.mt_layout.specs.Rows.{row_in}
-use Rattle.mt_rows.specs.Laws.{Tree, Stands}
-use Rattle.mt_rows.specs.Levels.{is_row_of}
-use Rattle.mt_rows.specs.Publish.{IsTreeOf, is_reached}
-use Rattle.mt_rows.specs.Replacement.{root_of}
-use Rattle.mt_rows.specs.Sheet.{Sheet}
-use Rattle.mt_rows.specs.Spans.{Table, column}
-use Rattle.mt_rows.proofs.Reached.{OnLevel, on_level_reached, times_reached}
-use Rattle.mt_splice.specs.steps.Ledgers.{was_taken, work_of, IsLedger}
-use Rattle.mt_splice.specs.steps.Looking.{IsNowOf}
-use Rattle.mt_splice.specs.steps.Progress.{Before, IsStartOf}
-use Rattle.mt_splice.specs.steps.Seen.{Seen, passing}
-use Rattle.mt_splice.specs.steps.Work.{Start, KeepsRowWords, Holds, times_in}
+use Rattle.mt_splice.proofs.Prelude.{◌≡◌, ℕ, ◌<◌, ◌≤◌, List, Bool, true, false, sym, ap, ◌∙◌, subst, ⊎_elim, ◌||◌, lt-ltb, columns, Book, Span, row_in, Tree, Stands, is_row_of, IsTreeOf, is_reached, root_of, Sheet, Table, column, OnLevel, on_level_reached, times_reached, was_taken, work_of, IsLedger, IsNowOf, Before, IsStartOf, Seen, passing, Start, KeepsRowWords, Holds, times_in}
 use Rattle.mt_splice.proofs.EndLevels.{levels_each}
 use Rattle.mt_splice.proofs.EndTrees.{none_or_some}
 use Rattle.mt_splice.proofs.Ledgers.{items_by_ledger}

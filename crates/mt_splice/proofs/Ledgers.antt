@@ -1,27 +1,9 @@
 -- What today's ledger of a replacement tells: the old rows stand beside the new ones, and are read as they were.
-use Rattle.std.proofs.Common.{◌≡◌, ℕ, ◌+◌, ◌≤◌, false, nat_lt, refl, sym, ap, ◌∙◌, ⊎_elim, arith}
-use Rattle.mt_free.specs.Book.{Book}
-use Rattle.mt_layout.specs.declared.names.RowKind.{RowKind}
-use Rattle.mt_layout.specs.declared.spans.Span.{Span}
-use Rattle.mt_layout.specs.Rows.{row_in}
-use Rattle.mt_rows.specs.Spans.{Table}
-use Rattle.mt_rows.specs.Levels.{Levels, is_row_of}
-use Rattle.mt_rows.specs.Laws.{IsRow, top_of}
-use Rattle.mt_rows.specs.Replacement.{root_of}
-use Rattle.mt_rows.specs.Sheet.{Sheet}
-use Rattle.mt_rows.proofs.Heights.{level_rows, levels_pair}
-use Rattle.mt_rows.proofs.Reached.{OnLevel, on_level_reached}
-use Rattle.mt_path.specs.Paths.{path_in}
-use Rattle.mt_splice.specs.steps.Progress.{Before, IsStartOf, IsProgress, is_taken}
-use Rattle.mt_splice.specs.steps.Seen.{passing}
-use Rattle.mt_splice.specs.steps.Work.{Start, Work, KeepsRowWords, Holds}
-use Rattle.mt_splice.specs.steps.Writes.{items_of_row}
+use Rattle.mt_splice.proofs.Prelude.{◌≡◌, ℕ, ◌+◌, ◌≤◌, false, nat_lt, refl, sym, ap, ◌∙◌, ⊎_elim, arith, Book, RowKind, Span, row_in, Table, Levels, is_row_of, IsRow, top_of, root_of, Sheet, level_rows, levels_pair, OnLevel, on_level_reached, path_in, Before, IsStartOf, IsProgress, is_taken, passing, Start, Work, KeepsRowWords, Holds, items_of_row, IsOld, Beside, row_at}
 use Rattle.mt_splice.proofs.EndTrees.{none_or_some}
 use Rattle.mt_splice.proofs.EndLevels.{levels_each}
 use Rattle.mt_splice.proofs.Rises.{row_keeps_words}
 use Rattle.mt_splice.proofs.Steps.{table_now}
-use Rattle.mt_splice.specs.steps.Layers.{IsOld, Beside}
-use Rattle.mt_splice.specs.steps.Windows.{row_at}
 use Rattle.mt_splice.proofs.ReadsNow.{items_now}
 
 -- the tree's rows keep their words, and none of them was taken

@@ -1,12 +1,5 @@
 -- Paths through the tree while it is replaced: they are those through the tree as it was; and the row behind another.
-use Rattle.std.proofs.Common.{◌≡◌, ℕ, ◌≤◌, sym, ap, ◌∙◌, subst, inr}
-use Rattle.mt_free.specs.Book.{Book}
-use Rattle.mt_rows.specs.Laws.{Tree, Stands, top_of}
-use Rattle.mt_rows.specs.Sheet.{Rooted, Sheet}
-use Rattle.mt_rows.specs.Publish.{IsTreeOf}
-use Rattle.mt_path.specs.Paths.{path_in}
-use Rattle.mt_splice.specs.steps.Work.{Start, Work, Holds}
-use Rattle.mt_splice.specs.steps.Progress.{Before, IsStartOf, IsProgress}
+use Rattle.mt_splice.proofs.Prelude.{◌≡◌, ℕ, ◌≤◌, sym, ap, ◌∙◌, subst, inr, Book, Tree, Stands, top_of, Rooted, Sheet, IsTreeOf, path_in, Start, Work, Holds, Before, IsStartOf, IsProgress}
 use Rattle.mt_splice.proofs.EndForms.{now_is}
 use Rattle.mt_splice.proofs.Moments.{old_stands}
 use Rattle.mt_splice.proofs.PathsNow.{path_now}

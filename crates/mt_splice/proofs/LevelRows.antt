@@ -1,17 +1,5 @@
 -- A row that was written keeps the laws of rows, and holds its items.
-use Rattle.std.proofs.Common.{[], ◌≡◌, ◌≢◌, ℕ, zero, suc, ◌+◌, ◌==◌, List, ◌∷◌, ◌++◌, true, inl, inr, length, refl, ap, arith}
-use Rattle.std.specs.Prelude.{Any}
-use Rattle.std.proofs.lemmas.Bool.{cases_Bool, eqb-false}
-use Rattle.std.specs.List.{flat_map}
-use Rattle.mt_base.specs.Width.{columns}
-use Rattle.mt_layout.specs.declared.items.Item.{Item}
-use Rattle.mt_layout.specs.declared.spans.Span.{Span}
-use Rattle.mt_layout.specs.Spans.{spans_from, leaf_range}
-use Rattle.mt_rows.specs.Spans.{Table}
-use Rattle.mt_rows.specs.Levels.{SameColumns, SameSpans}
-use Rattle.mt_rows.proofs.Frames.{same_spans}
-use Rattle.mt_splice.specs.steps.Seen.{Seen}
-use Rattle.mt_splice.specs.steps.Progress.{row_seen, new_row_by, new_rows_of}
+use Rattle.mt_splice.proofs.Prelude.{[], ◌≡◌, ◌≢◌, ℕ, zero, suc, ◌+◌, ◌==◌, List, ◌∷◌, ◌++◌, true, inl, inr, length, refl, ap, arith, Any, cases_Bool, eqb-false, flat_map, columns, Item, Span, spans_from, leaf_range, Table, SameColumns, SameSpans, same_spans, Seen, row_seen, new_row_by, new_rows_of}
 use Rattle.mt_splice.proofs.StepSeen.{was_seen, seen_here, seen_more}
 
 -- ---- inner rows that were written before

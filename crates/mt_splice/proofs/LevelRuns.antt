@@ -1,22 +1,6 @@
 -- The items of a level by their parts, each of which stands in a row.
-use Rattle.std.proofs.Common.{◌≡◌, ◌≢◌, ℕ, zero, suc, ◌+◌, ◌-◌, ◌<◌, ◌≤◌, List, [], ◌∷◌, ◌++◌, Bool, true, false, length, map, take, drop, get_or, refl, sym, ap, ◌∙◌, subst, ⊎_elim, arith, append-nil, length-append, take-append-drop, length-take-le, length-drop}
-use Rattle.std.specs.Prelude.{if◌then◌else◌}
-use Rattle.std.specs.List.{AllByRecursion}
-use Rattle.std.proofs.lemmas.Bool.{cases_lt}
-use Rattle.std.proofs.lemmas.List.{take_all, take-take, drop-take, drop-drop, take-map, drop-map, get_or-take, get_or-drop}
-use Rattle.mt_base.specs.declared.widths.Width.{Width}
-use Rattle.mt_base.proofs.Lists.{all_front, all_back}
-use Rattle.mt_layout.specs.declared.items.Item.{Item}
-use Rattle.mt_layout.specs.declared.spans.Span.{Span}
-use Rattle.mt_layout.specs.declared.names.RowKind.{RowKind}
-use Rattle.mt_layout.specs.Sizes.{slots_of, least_items}
-use Rattle.mt_layout.specs.Spans.{spans_from, Fills, Apart, EndsFull}
-use Rattle.mt_layout.proofs.RowSizes.{some_least}
-use Rattle.mt_layout.proofs.SpanLists.{length-spans_from, after, after-append, spans-append, fills_after, fills_items, apart_front, apart_back, full_back, two_hold_an_entry}
-use Rattle.mt_leaf.specs.Cuts.{word_of, IsPiece, ArePieces}
-use Rattle.mt_rows.specs.Laws.{Tree, top_of, kind_on, least_of, least_of_root, covers_all}
-use Rattle.mt_splice.specs.Fewest.{IsCutOf}
-use Rattle.mt_splice.specs.steps.Runs.{MayBeIn, most_in_three, MayBeLeaves, span_to, MayBeCut}
+use Rattle.mt_splice.proofs.Prelude.{◌≡◌, ◌≢◌, ℕ, zero, suc, ◌+◌, ◌-◌, ◌<◌, ◌≤◌, List, [], ◌∷◌, ◌++◌, Bool, true, false, length, map, take, drop, get_or, refl, sym, ap, ◌∙◌, subst, ⊎_elim, arith, append-nil, length-append, take-append-drop, length-take-le, length-drop, if◌then◌else◌, AllByRecursion, cases_lt, take_all, take-take, drop-take, take-map, drop-map, get_or-take, get_or-drop, Width, all_front, all_back, Item, Span, RowKind, slots_of, least_items, spans_from, Fills, Apart, EndsFull, some_least, length-spans_from, after, after-append, spans-append, fills_after, fills_items, apart_front, apart_back, full_back, two_hold_an_entry, word_of, IsPiece, ArePieces, Tree, top_of, kind_on, least_of, least_of_root, covers_all, IsCutOf, MayBeIn, most_in_three, MayBeLeaves, span_to, MayBeCut}
+use Rattle.std.proofs.lemmas.List.{drop-drop}
 
 ends_full : (lo k : ℕ) (xs : List Item) → k + 1 ≡ length xs → get_or (map (λ (x : Item). x.word) xs) k 0 ≢ 0 → EndsFull (spans_from lo xs)
 ends_full lo k [] at full = tt

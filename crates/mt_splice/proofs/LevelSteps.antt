@@ -1,9 +1,5 @@
 -- The rows of a level written one by one.
-use Rattle.std.proofs.Common.{[], ◌≡◌, ℕ, zero, suc, ◌+◌, ◌<◌, ◌≤◌, List, ◌∷◌, length, take, refl, arith}
-use Rattle.mt_layout.specs.declared.items.Item.{Item}
-use Rattle.mt_layout.specs.Spans.{spans_from, Fills}
-use Rattle.mt_layout.proofs.SpanLists.{fills_le, after}
-use Rattle.mt_leaf.specs.Places.{first_of}
+use Rattle.mt_splice.proofs.Prelude.{[], ◌≡◌, ℕ, zero, suc, ◌+◌, ◌<◌, ◌≤◌, List, ◌∷◌, length, take, refl, arith, Item, spans_from, Fills, fills_le, after, first_of}
 
 -- ---- where a part begins
 

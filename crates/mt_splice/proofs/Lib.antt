@@ -91,3 +91,4 @@ pub mod Windows
 pub mod WorkedRows
 pub mod Written
 pub mod WrittenRows
+mod Prelude

@@ -1,19 +1,5 @@
 -- The rows that a book counts as live are those that are reached.
-use Rattle.std.proofs.Common.{◌≡◌, ℕ, zero, suc, ◌+◌, ◌<◌, ◌≤◌, ◌==◌, List, ◌++◌, length, refl, ap, inl, inr, arith, length-append}
-use Rattle.std.specs.List.{All, Contains}
-use Rattle.std.proofs.lemmas.Bool.{ltb-true, lt-ltb}
-use Rattle.std.proofs.lemmas.List.{length-map}
-use Rattle.std.proofs.lemmas.List.Elements.{All-map, All-append, All-contains, Contains-append_left, Contains-append_right, Contains-append_cases}
-use Rattle.mt_base.specs.declared.kinds.Kind.{Kind}
-use Rattle.mt_base.specs.Width.{first_row}
-use Rattle.mt_free.specs.Book.{Book, Held, IsOut, IsRowOf, held_rows, live_count}
-use Rattle.mt_rows.specs.Trees.{reached_in}
-use Rattle.mt_rows.specs.declared.rows.Life.{Life}
-use Rattle.mt_rows.specs.Sheet.{Rooted}
-use Rattle.mt_rows.specs.Publish.{tree_as, IsTreeOf, IsReached}
-use Rattle.mt_rows.proofs.Lists.{tally-append}
-use Rattle.mt_rows.proofs.Once.{once_in}
-use Rattle.mt_splice.specs.Kept.{IsBookOf}
+use Rattle.mt_splice.proofs.Prelude.{◌≡◌, ℕ, zero, suc, ◌+◌, ◌<◌, ◌≤◌, ◌==◌, List, ◌++◌, length, refl, ap, inl, inr, arith, length-append, All, Contains, ltb-true, lt-ltb, length-map, All-map, All-append, All-contains, Contains-append_left, Contains-append_right, Contains-append_cases, Kind, first_row, Book, Held, IsOut, IsRowOf, held_rows, live_count, reached_in, Life, Rooted, tree_as, IsTreeOf, IsReached, tally-append, once_in, IsBookOf}
 use Rattle.mt_splice.proofs.Counting.{times_of, contains_times, times_contains, apart_once, span_length}
 
 -- no row is reached twice, also where the tree is empty

@@ -1,22 +1,5 @@
 -- What the code asks where it looks at the rows of a window and at those beside it.
-use Rattle.std.proofs.Common.{◌≡◌, ℕ, suc, ◌+◌, ◌-◌, ◌<◌, ◌≤◌, List, Bool, true, false, length, sym, ap, ◌∙◌, subst, ⊎_elim, arith}
-use Rattle.std.specs.Prelude.{◌↔◌}
-use Rattle.std.proofs.lemmas.Bool.{cases_lt}
-use Rattle.mt_base.specs.declared.widths.Width.{Width}
-use Rattle.mt_base.specs.Width.{greatest, first_row}
-use Rattle.mt_layout.specs.declared.items.Item.{Item}
-use Rattle.mt_layout.specs.declared.names.RowKind.{RowKind}
-use Rattle.mt_layout.specs.Sizes.{slots_of, run_room}
-use Rattle.mt_layout.proofs.RowSizes.{sizes}
-use Rattle.mt_rows.specs.Laws.{top_of, kind_on}
-use Rattle.mt_rows.specs.Sheet.{Rooted}
-use Rattle.mt_path.specs.declared.paths.PathStep.{PathStep}
-use Rattle.mt_path.specs.Paths.{step_at, path_in}
-use Rattle.mt_splice.specs.steps.Looking.{MayLook, MayGather}
-use Rattle.mt_splice.specs.steps.TakingIn.{short_run, beside_items}
-use Rattle.mt_splice.specs.steps.Widening.{wants_row, MayWiden, IsWindow}
-use Rattle.mt_splice.specs.steps.Work.{Start}
-use Rattle.mt_splice.specs.steps.Writes.{items_of_row}
+use Rattle.mt_splice.proofs.Prelude.{◌≡◌, ℕ, suc, ◌+◌, ◌-◌, ◌<◌, ◌≤◌, List, Bool, true, false, length, sym, ap, ◌∙◌, subst, ⊎_elim, arith, ◌↔◌, cases_lt, Width, greatest, first_row, Item, RowKind, slots_of, run_room, sizes, top_of, kind_on, Rooted, PathStep, step_at, path_in, MayLook, MayGather, short_run, beside_items, wants_row, MayWiden, IsWindow, Start, items_of_row}
 use Rattle.mt_splice.proofs.Besides.{begin_within, low_enough}
 use Rattle.mt_splice.proofs.Raised.{deep, number, left_slot, more_right, none_right}
 use Rattle.mt_splice.proofs.ReadsNow.{items_of_path}

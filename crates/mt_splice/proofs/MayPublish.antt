@@ -1,33 +1,5 @@
 -- When the rows of a climb are drafted and those of its windows buried, one word may be published.
-use Rattle.std.proofs.Common.{◌≡◌, ℕ, suc, ◌+◌, List, [], ◌∷◌, true, Option, Some, None, length, refl, sym, ap, ◌∙◌, subst, ⊎_elim, arith}
-use Rattle.std.specs.List.{AllByRecursion}
-use Rattle.mt_base.specs.declared.calls.Call.{Call}
-use Rattle.mt_base.specs.declared.replies.Reply.{Reply}
-use Rattle.mt_free.specs.Book.{Book}
-use Rattle.mt_layout.specs.declared.spans.Span.{Span}
-use Rattle.mt_layout.specs.Rows.{name_at, row_in}
-use Rattle.mt_layout.proofs.NameLaws.{row_in-name_at}
-use Rattle.mt_rows.specs.declared.rows.Place.{Place}
-use Rattle.mt_rows.specs.declared.rows.Place.TheVariants.{Root, Slot}
-use Rattle.mt_rows.specs.Laws.{Tree}
-use Rattle.mt_rows.specs.Publish.{tree_as, with_published}
-use Rattle.mt_rows.specs.Sheet.{Rooted, Sheet}
-use Rattle.mt_rows.specs.Spans.{inner_of}
-use Rattle.mt_rows.specs.Trees.{height_in}
-use Rattle.mt_rows.proofs.Reached.{height_is}
-use Rattle.mt_splice.specs.declared.climbing.Climb.{Climb}
-use Rattle.mt_splice.specs.declared.climbing.Top.{Top}
-use Rattle.mt_splice.specs.Splice.{TellsGapAt, TellsBelow}
-use Rattle.mt_splice.specs.steps.Burials.{AreBuriedAll, numbers_in_all}
-use Rattle.mt_splice.specs.steps.Climbing.{HasClimbed, EndsEmpty, EndsAtRoot, EndsAbove, EndsInSlot}
-use Rattle.mt_splice.specs.steps.Ends.{IsEndPlace, IsTop, MayPublishEnd}
-use Rattle.mt_splice.specs.steps.Ledgers.{was_taken, work_of}
-use Rattle.mt_splice.specs.steps.Plans.{Layer, AreAllHeld, IsPlanned, level_of, new_at}
-use Rattle.mt_splice.specs.steps.Progress.{Before, is_taken}
-use Rattle.mt_splice.specs.steps.Replaced.{IsReplaced}
-use Rattle.mt_splice.specs.steps.Replacing.{IsAnswer}
-use Rattle.mt_splice.specs.steps.Told.{GapsBeside}
-use Rattle.mt_splice.specs.steps.Work.{Start, Work}
+use Rattle.mt_splice.proofs.Prelude.{◌≡◌, ℕ, suc, ◌+◌, List, [], ◌∷◌, true, Option, Some, None, length, refl, sym, ap, ◌∙◌, subst, ⊎_elim, arith, AllByRecursion, Call, Reply, Book, Span, name_at, row_in, row_in-name_at, Place, Root, Slot, Tree, tree_as, with_published, Rooted, Sheet, inner_of, height_in, height_is, Climb, Top, TellsGapAt, TellsBelow, AreBuriedAll, numbers_in_all, HasClimbed, EndsEmpty, EndsAtRoot, EndsAbove, EndsInSlot, IsEndPlace, IsTop, MayPublishEnd, was_taken, work_of, Layer, AreAllHeld, IsPlanned, level_of, new_at, Before, is_taken, IsReplaced, IsAnswer, GapsBeside, Start, Work}
 use Rattle.mt_splice.proofs.EndAbove.{above_gaps, above_replaces, is_new}
 use Rattle.mt_splice.proofs.EndAtRoot.{nothing_replaces, root_keeps_gaps}
 use Rattle.mt_splice.proofs.EndAtSlot.{in_slot_gaps, in_slot_replaces, in_slot_tells, slot_is_place}

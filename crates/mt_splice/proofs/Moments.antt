@@ -1,18 +1,5 @@
 -- From one moment of a replacement to a later one: what stands in rows in use stays, and with it the tree as it was.
-use Rattle.std.proofs.Common.{◌≡◌, ℕ, ◌+◌, List, Bool, true, refl}
-use Rattle.mt_layout.specs.declared.spans.Span.{Span}
-use Rattle.mt_layout.specs.Rows.{row_in}
-use Rattle.mt_rows.specs.Levels.{map_of, Levels}
-use Rattle.mt_rows.specs.Publish.{is_reached}
-use Rattle.mt_rows.specs.Laws.{Tree, IsRow, Stands}
-use Rattle.mt_rows.specs.Replacement.{root_of}
-use Rattle.mt_rows.proofs.Lists.{levels_map}
-use Rattle.mt_rows.proofs.Joins.{Shared, map_of_shared, times_shared, levels_shared}
-use Rattle.mt_rows.proofs.Frames.{same_spans}
-use Rattle.mt_rows.proofs.Heights.{levels_upper, levels_pair, level_shared}
-use Rattle.mt_rows.proofs.RowLaws.{row_keeps}
-use Rattle.mt_rows.proofs.Reached.{times_reached, on_level_reached}
-use Rattle.mt_splice.specs.steps.Work.{Start, Work, table_with, tree_with, now, rows_at, times_in, IsUsed, KeepsRowWords, Holds}
+use Rattle.mt_splice.proofs.Prelude.{◌≡◌, ℕ, ◌+◌, List, Bool, true, refl, Span, row_in, map_of, Levels, is_reached, Tree, IsRow, Stands, root_of, levels_map, Shared, map_of_shared, times_shared, levels_shared, same_spans, levels_upper, levels_pair, level_shared, row_keeps, times_reached, on_level_reached, Start, Work, table_with, tree_with, now, rows_at, times_in, IsUsed, KeepsRowWords, Holds}
 use Rattle.mt_splice.proofs.EndLevels.{levels_each}
 use Rattle.mt_splice.proofs.StoredWords.{words_of}
 

@@ -1,21 +1,5 @@
 -- A row that was written keeps the laws of rows (as it stands in mt_splice, LevelRows).
-use Rattle.std.proofs.Common.{[], ◌≡◌, ◌≢◌, ℕ, zero, suc, ◌+◌, ◌-◌, ◌<◌, ◌≤◌, List, false, Some, length, refl, sym, ap, ◌∙◌, subst, arith}
-use Rattle.std.specs.Prelude.{slice_index}
-use Rattle.std.specs.List.{AllByRecursion, flat_map}
-use Rattle.mt_base.specs.Entry.{reserved}
-use Rattle.mt_base.specs.Width.{first_row}
-use Rattle.mt_layout.specs.declared.items.Item.{Item}
-use Rattle.mt_layout.specs.declared.spans.Span.{Span}
-use Rattle.mt_layout.specs.declared.names.RowKind.{RowKind}
-use Rattle.mt_layout.specs.Rows.{name_at}
-use Rattle.mt_layout.specs.Columns.{end_of}
-use Rattle.mt_layout.specs.Spans.{spans_from, leaf_range, Fills, Apart, EndsFull}
-use Rattle.mt_layout.proofs.NameLaws.{row_in-name_at}
-use Rattle.mt_layout.proofs.SpanLists.{fills_end}
-use Rattle.mt_rows.specs.Spans.{spans_in}
-use Rattle.mt_rows.specs.Laws.{Tree, IsRow, EntryLaw, HoleLaw, kind_on, least_of, words_in}
-use Rattle.mt_splice.specs.steps.Writes.{IsNewRow}
-use Rattle.mt_splice.specs.steps.Runs.{MayBeIn, MayBeLeaves, span_to}
+use Rattle.mt_splice.proofs.Prelude.{[], ◌≡◌, ◌≢◌, ℕ, zero, suc, ◌+◌, ◌-◌, ◌<◌, ◌≤◌, List, false, Some, length, refl, sym, ap, ◌∙◌, subst, arith, slice_index, AllByRecursion, flat_map, reserved, first_row, Item, Span, RowKind, name_at, end_of, spans_from, leaf_range, Fills, Apart, EndsFull, row_in-name_at, fills_end, spans_in, Tree, IsRow, EntryLaw, HoleLaw, kind_on, least_of, words_in, IsNewRow, MayBeIn, MayBeLeaves, span_to}
 use Rattle.mt_splice.proofs.LevelRuns.{IsRun}
 use Rattle.mt_splice.proofs.WrittenRows.{new_named, new_spans, new_unused}
 

@@ -1,15 +1,5 @@
 -- A row that was written keeps the law of gaps, and the item that it is one level up tells its gap.
-use Rattle.std.proofs.Common.{[], ◌≡◌, ℕ, zero, suc, List, ◌∷◌, refl, sym, subst, ◌≢◌}
-use Rattle.mt_layout.specs.declared.items.Item.{Item}
-use Rattle.mt_layout.specs.declared.names.RowKind.{RowKind}
-use Rattle.mt_layout.specs.declared.names.RowKind.TheVariants.{Leaf, Inner, Gapped}
-use Rattle.mt_layout.specs.declared.spans.Span.{Span}
-use Rattle.mt_layout.specs.Sizes.{gaps_of}
-use Rattle.mt_layout.specs.Spans.{spans_from}
-use Rattle.mt_layout.proofs.RowSizes.{some_gaps_of}
-use Rattle.mt_rows.specs.Spans.{Table, spans_in}
-use Rattle.mt_splice.specs.steps.Work.{Start, Work, now}
-use Rattle.mt_splice.specs.steps.Told.{TellGaps, told_gap}
+use Rattle.mt_splice.proofs.Prelude.{[], ◌≡◌, ℕ, zero, suc, List, ◌∷◌, refl, sym, subst, ◌≢◌, Item, RowKind, Leaf, Inner, Gapped, Span, gaps_of, spans_from, some_gaps_of, Table, spans_in, Start, Work, now, TellGaps, told_gap}
 use Rattle.mt_splice.proofs.GapRows.{leaf_longest, inner_longest}
 use Rattle.mt_splice.proofs.WrittenRows.{as_held}
 

@@ -1,26 +1,5 @@
 -- Items of the rows of the tree as it was: they tell their gaps, and so do parts of them, and those of two rows side by side.
-use Rattle.std.proofs.Common.{◌≡◌, ℕ, suc, ◌+◌, ◌≤◌, List, ◌++◌, take, drop, refl, sym, ◌∙◌, subst, ⊎_elim, arith, take-append-drop}
-use Rattle.std.specs.List.{AllByRecursion}
-use Rattle.mt_base.proofs.Lists.{all_front, all_back, all_join}
-use Rattle.mt_layout.specs.declared.items.Item.{Item}
-use Rattle.mt_layout.specs.declared.spans.Span.{Span}
-use Rattle.mt_layout.specs.Spans.{spans_from, Fills}
-use Rattle.mt_layout.proofs.SpanLists.{after, spans-take, spans-drop}
-use Rattle.mt_path.specs.declared.paths.PathStep.{PathStep}
-use Rattle.mt_path.specs.Paths.{path_in, step_at, step_in}
-use Rattle.mt_path.proofs.TreePaths.{lawful, place}
-use Rattle.mt_rows.specs.Laws.{Tree, IsRow, Stands, GapLaw, kind_on, top_of}
-use Rattle.mt_rows.specs.Levels.{IsBelow}
-use Rattle.mt_rows.specs.Replacement.{root_of}
-use Rattle.mt_rows.specs.Spans.{inner_of, root_span, spans_in}
-use Rattle.mt_rows.proofs.Heights.{level_next, level_rows}
-use Rattle.mt_rows.proofs.Reached.{IsOneOf, all_of_each, all_one_of, level_is_below, one_of_expand, one_of_parts}
-use Rattle.mt_splice.specs.steps.Plans.{depth_at}
-use Rattle.mt_splice.specs.steps.Telling.{AreOld}
-use Rattle.mt_splice.specs.steps.Told.{HadGaps}
-use Rattle.mt_splice.specs.steps.Windows.{row_at}
-use Rattle.mt_splice.specs.steps.Work.{Start, rows_at}
-use Rattle.mt_splice.specs.steps.Writes.{items_of_row}
+use Rattle.mt_splice.proofs.Prelude.{◌≡◌, ℕ, suc, ◌+◌, ◌≤◌, List, ◌++◌, take, drop, refl, sym, ◌∙◌, subst, ⊎_elim, arith, take-append-drop, AllByRecursion, all_front, all_back, all_join, Item, Span, spans_from, Fills, after, spans-take, spans-drop, PathStep, path_in, step_at, step_in, lawful, place, Tree, IsRow, Stands, GapLaw, kind_on, top_of, IsBelow, root_of, inner_of, root_span, spans_in, level_next, level_rows, IsOneOf, all_of_each, all_one_of, level_is_below, one_of_expand, one_of_parts, depth_at, AreOld, HadGaps, row_at, Start, rows_at, items_of_row}
 use Rattle.mt_splice.proofs.GapRows.{row_tells}
 use Rattle.mt_splice.proofs.Raised.{begin_there}
 use Rattle.mt_splice.proofs.ToldRows.{tells_append, tells_take, tells_drop}

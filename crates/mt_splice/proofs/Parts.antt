@@ -1,23 +1,8 @@
 -- Rows that hold the parts of a level's items are a layer.
-use Rattle.std.proofs.Common.{◌≡◌, ℕ, ◌+◌, List, [], ◌∷◌, ◌++◌, Bool, true, length, drop, sym, ap, ◌∙◌, subst, arith}
-use Rattle.std.specs.List.{AllByRecursion}
-use Rattle.mt_layout.specs.declared.items.Item.{Item}
-use Rattle.mt_layout.specs.declared.names.RowKind.{RowKind}
-use Rattle.mt_layout.specs.declared.spans.Span.{Span}
-use Rattle.mt_layout.specs.Columns.{end_of}
-use Rattle.mt_layout.specs.Rows.{row_in}
-use Rattle.mt_layout.specs.Spans.{spans_from, Fills}
-use Rattle.mt_layout.proofs.NameLaws.{row_in-name_at}
-use Rattle.mt_layout.proofs.SpanLists.{after, after_some, spans-append, length-spans_from}
-use Rattle.mt_rows.specs.Levels.{expand}
-use Rattle.mt_rows.specs.Laws.{Tree, IsRow, kind_on}
-use Rattle.mt_splice.specs.Fewest.{IsCutOf}
-use Rattle.mt_splice.specs.steps.Runs.{MayBeCut}
-use Rattle.mt_splice.specs.steps.Work.{Start, tree_with}
+use Rattle.mt_splice.proofs.Prelude.{◌≡◌, ℕ, ◌+◌, List, [], ◌∷◌, ◌++◌, Bool, true, length, drop, sym, ap, ◌∙◌, subst, arith, AllByRecursion, Item, RowKind, Span, end_of, row_in, spans_from, Fills, row_in-name_at, after, after_some, spans-append, length-spans_from, expand, Tree, IsRow, kind_on, IsCutOf, MayBeCut, Start, tree_with, AreHeld, part_of, heads}
 use Rattle.mt_splice.proofs.Gathering.{none_behind}
 use Rattle.mt_splice.proofs.LevelRuns.{AreParts, length-part, cut_makes_parts}
 use Rattle.mt_splice.proofs.WrittenRows.{new_spans}
-use Rattle.mt_splice.specs.steps.Layers.{AreHeld, part_of, heads}
 use Rattle.mt_splice.proofs.Heads.{drop_part, heads_fill, length-heads}
 use Rattle.mt_splice.proofs.NewRows.{new_lawful}
 

@@ -1,24 +1,5 @@
 -- The rows of two paths: where they stand, in which order, and what lies before and behind them one level lower.
-use Rattle.std.proofs.Common.{[], ◌≡◌, ℕ, suc, ◌+◌, ◌<◌, ◌≤◌, List, ◌∷◌, ◌++◌, Option, Some, length, take, drop, refl, sym, ap, ◌∙◌, ⊎_elim, arith, append_assoc}
-use Rattle.std.proofs.lemmas.Bool.{cases_lt}
-use Rattle.std.proofs.Math.Seq.{take-append_seam, drop-append-add}
-use Rattle.mt_layout.specs.declared.names.RowKind.{RowKind}
-use Rattle.mt_layout.specs.Rows.{row_in, named_kind}
-use Rattle.mt_layout.specs.declared.spans.Span.{Span}
-use Rattle.mt_layout.specs.Spans.{Fills}
-use Rattle.mt_layout.proofs.SpanLists.{fills-append, fills_le}
-use Rattle.mt_rows.specs.Spans.{Table, spans_by, spans_in}
-use Rattle.mt_rows.specs.Levels.{expand}
-use Rattle.mt_rows.specs.Laws.{Tree, Stands, top_of}
-use Rattle.mt_rows.specs.Replacement.{root_of}
-use Rattle.mt_rows.proofs.Lists.{expand-append}
-use Rattle.mt_rows.proofs.Heights.{level_next}
-use Rattle.mt_rows.proofs.Reached.{one_of_parts, one_place}
-use Rattle.mt_path.specs.declared.paths.PathStep.{PathStep}
-use Rattle.mt_path.specs.Paths.{step_in}
-use Rattle.mt_path.proofs.Places.{At}
-use Rattle.mt_path.proofs.TreePaths.{row_of, place, child}
-use Rattle.mt_splice.specs.steps.Work.{rows_at}
+use Rattle.mt_splice.proofs.Prelude.{[], ◌≡◌, ℕ, suc, ◌+◌, ◌<◌, ◌≤◌, List, ◌∷◌, ◌++◌, Option, Some, length, take, drop, refl, sym, ap, ◌∙◌, ⊎_elim, arith, append_assoc, cases_lt, take-append_seam, drop-append-add, RowKind, row_in, named_kind, Span, Fills, fills-append, fills_le, Table, spans_by, spans_in, expand, Tree, Stands, top_of, root_of, expand-append, level_next, one_of_parts, one_place, PathStep, step_in, At, row_of, place, child, rows_at}
 use Rattle.mt_splice.proofs.Splits.{split_more}
 use Rattle.mt_splice.proofs.Stretches.{spans_on, IsStretch}
 

@@ -1,19 +1,5 @@
 -- The path to an index is the same by the words now.
-use Rattle.std.proofs.Common.{◌≡◌, ℕ, zero, suc, ◌<◌, ◌≤◌, List, [], ◌∷◌, sym, ap, ◌∙◌, subst, arith, append-nil}
-use Rattle.mt_layout.specs.declared.spans.Span.{Span}
-use Rattle.mt_layout.specs.Rows.{row_in}
-use Rattle.mt_rows.specs.Spans.{Table, inner_of, spans_in}
-use Rattle.mt_rows.specs.Levels.{Levels, SameSpans}
-use Rattle.mt_base.specs.Width.{deepest}
-use Rattle.mt_rows.specs.Laws.{Tree, top_of}
-use Rattle.mt_rows.proofs.Joins.{Shared, levels_front, levels_back}
-use Rattle.mt_rows.proofs.Lists.{levels_here}
-use Rattle.mt_rows.proofs.InnerKinds.{inner_no_leaf}
-use Rattle.mt_path.specs.declared.paths.PathStep.{PathStep}
-use Rattle.mt_path.specs.Paths.{slot_for, span_at, step_in, below, path_of, path_in}
-use Rattle.mt_path.proofs.Steps.{Leads, path_of_leaf, path_of_inner, child_at, child_leads, row_here}
-use Rattle.mt_path.proofs.TreePaths.{root_leads, top_row}
-use Rattle.mt_splice.specs.steps.Work.{Start, Work, now, Holds}
+use Rattle.mt_splice.proofs.Prelude.{◌≡◌, ℕ, zero, suc, ◌<◌, ◌≤◌, List, [], ◌∷◌, sym, ap, ◌∙◌, subst, arith, append-nil, Span, row_in, Table, inner_of, spans_in, Levels, SameSpans, deepest, Tree, top_of, Shared, levels_front, levels_back, levels_here, inner_no_leaf, PathStep, slot_for, span_at, step_in, below, path_of, path_in, Leads, path_of_leaf, path_of_inner, child_at, child_leads, row_here, root_leads, top_row, Start, Work, now, Holds}
 use Rattle.mt_splice.proofs.Moments.{old_shared}
 
 module _ (t : Tree) (t' : Table) where

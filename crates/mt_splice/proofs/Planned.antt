@@ -1,16 +1,5 @@
 -- A plan that is drafted: the level of its top layer stands for the map.
-use Rattle.std.proofs.Common.{◌≡◌, ℕ, suc, ◌+◌, ◌≤◌, List, [], ◌∷◌, ◌++◌, Bool, length, refl, sym, ◌∙◌, subst, arith}
-use Rattle.mt_layout.specs.declared.spans.Span.{Span}
-use Rattle.mt_rows.specs.Levels.{tally}
-use Rattle.mt_rows.specs.Spans.{inner_of}
-use Rattle.mt_rows.specs.Laws.{Tree, kind_on}
-use Rattle.mt_rows.proofs.Lists.{tally-append}
-use Rattle.mt_splice.specs.steps.Runs.{MayBeCut}
-use Rattle.mt_splice.specs.steps.Seen.{Seen, passing}
-use Rattle.mt_splice.specs.steps.Work.{Start, tree_with}
-use Rattle.mt_splice.specs.steps.Layers.{AreHeld, Beside, Stand}
-use Rattle.mt_splice.specs.steps.Plans.{Layer, depth_at, begin_at, new_at, old_at, level_of, IsLayer, IsPlanned, AreAllHeld, seen_at, newest_first, taken_by, gone_by}
-use Rattle.mt_splice.specs.steps.Windows.{high_of}
+use Rattle.mt_splice.proofs.Prelude.{◌≡◌, ℕ, suc, ◌+◌, ◌≤◌, List, [], ◌∷◌, ◌++◌, Bool, length, refl, sym, ◌∙◌, subst, arith, Span, tally, inner_of, Tree, kind_on, tally-append, MayBeCut, Seen, passing, Start, tree_with, AreHeld, Beside, Stand, Layer, depth_at, begin_at, new_at, old_at, level_of, IsLayer, IsPlanned, AreAllHeld, seen_at, newest_first, taken_by, gone_by, high_of}
 use Rattle.mt_splice.proofs.Layers.{stand_leaves, stand_up}
 use Rattle.mt_splice.proofs.Parts.{layer_is_new, AreNew}
 

@@ -1,27 +1,6 @@
 -- Up to the next level: the new rows are gathered with what stands beside them in the rows above.
-use Rattle.std.proofs.Common.{◌≡◌, ℕ, suc, ◌+◌, ◌-◌, ◌<◌, ◌≤◌, List, [], ◌∷◌, ◌++◌, length, take, drop, refl, sym, ap, ◌∙◌, subst, inr, ⊎_elim, arith, length-append, length-take, length-drop}
-use Rattle.std.proofs.lemmas.Bool.{cases_lt}
-use Rattle.mt_base.specs.Width.{first_row}
-use Rattle.mt_layout.specs.declared.items.Item.{Item}
-use Rattle.mt_layout.specs.declared.names.RowKind.{RowKind}
-use Rattle.mt_layout.specs.declared.spans.Span.{Span}
-use Rattle.mt_layout.specs.Sizes.{slots_of}
-use Rattle.mt_layout.specs.Spans.{spans_from, Fills}
-use Rattle.mt_layout.proofs.NameLaws.{Names-named_kind}
-use Rattle.mt_layout.proofs.SpanLists.{after, fills_le, some_filled, none_filled, length-spans_from, spans-take, spans-drop}
-use Rattle.mt_rows.specs.Spans.{spans_in}
-use Rattle.mt_rows.specs.Levels.{expand}
-use Rattle.mt_rows.specs.Laws.{Tree, IsRow, Stands, top_of, kind_on}
-use Rattle.mt_rows.proofs.FewSpans.{row_most}
-use Rattle.mt_path.specs.declared.paths.PathStep.{PathStep}
-use Rattle.mt_path.specs.Paths.{step_in, step_at, path_in}
-use Rattle.mt_path.proofs.TreePaths.{levels, lawful, place, slot_used}
-use Rattle.mt_splice.specs.steps.Decisions.{EndsHere}
-use Rattle.mt_splice.specs.steps.Work.{Start, rows_at}
-use Rattle.mt_splice.specs.steps.Writes.{items_of_row}
+use Rattle.mt_splice.proofs.Prelude.{◌≡◌, ℕ, suc, ◌+◌, ◌-◌, ◌<◌, ◌≤◌, List, [], ◌∷◌, ◌++◌, length, take, drop, refl, sym, ap, ◌∙◌, subst, inr, ⊎_elim, arith, length-append, length-take, length-drop, cases_lt, first_row, Item, RowKind, Span, slots_of, spans_from, Fills, Names-named_kind, after, fills_le, some_filled, none_filled, length-spans_from, spans-take, spans-drop, spans_in, expand, Tree, IsRow, Stands, top_of, kind_on, row_most, PathStep, step_in, step_at, path_in, levels, lawful, place, slot_used, EndsHere, Start, rows_at, items_of_row, before, behind, row_at, low_of, high_of, in_place, Gathered, IsWindow, MayWiden}
 use Rattle.mt_splice.proofs.TakenIn.{spans_behind}
-use Rattle.mt_splice.specs.steps.Windows.{before, behind, row_at, low_of, high_of, in_place, Gathered}
-use Rattle.mt_splice.specs.steps.Widening.{IsWindow, MayWiden}
 use Rattle.mt_splice.proofs.Windows.{level_above, fills_above, fills_before, fills_behind}
 use Rattle.mt_splice.proofs.Besides.{begin_within}
 use Rattle.mt_splice.proofs.Widened.{step_is, spans_of}

@@ -1,14 +1,5 @@
 -- The items of a row that are still to be read, from a slot on.
-use Rattle.std.proofs.Common.{◌≡◌, ℕ, suc, ◌+◌, ◌-◌, ◌<◌, ◌≤◌, List, [], ◌∷◌, ◌++◌, length, take, nat_lt, sym, ap, ◌∙◌, arith, append_assoc, append-nil, length-append, ◌⊎◌, ⊎_elim}
-use Rattle.std.specs.Prelude.{if◌then◌else◌}
-use Rattle.std.proofs.Math.Seq.{take-nil}
-use Rattle.mt_layout.specs.declared.items.Item.{Item}
-use Rattle.mt_layout.specs.declared.names.RowKind.{RowKind}
-use Rattle.mt_layout.specs.Columns.{item_at, items_from, pivot_column}
-use Rattle.mt_layout.specs.Sizes.{slots_of, gaps_of, run_room}
-use Rattle.mt_layout.proofs.Reading.{IsItem, ends, goes_on}
-use Rattle.mt_rows.specs.Spans.{Table, base_of, column}
-use Rattle.mt_rows.specs.Sheet.{Sheet, OnlyReads}
+use Rattle.mt_splice.proofs.Prelude.{◌≡◌, ℕ, suc, ◌+◌, ◌-◌, ◌<◌, ◌≤◌, List, [], ◌∷◌, ◌++◌, length, take, nat_lt, sym, ap, ◌∙◌, arith, append_assoc, append-nil, length-append, ◌⊎◌, ⊎_elim, if◌then◌else◌, take-nil, Item, RowKind, item_at, items_from, pivot_column, slots_of, gaps_of, run_room, IsItem, ends, goes_on, Table, base_of, column, Sheet, OnlyReads}
 
 abbrev pub unread : ℕ → ℕ → List ℕ → ℕ → ℕ → ℕ → ℕ → List Item
 unread slots gaps w base max to i = take (to - i) (items_from slots gaps w base max (slots - i) i)

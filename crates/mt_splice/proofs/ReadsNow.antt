@@ -1,24 +1,5 @@
 -- While new rows are written beside the tree's rows, what is read is what stood in the tree as it was.
-use Rattle.std.proofs.Common.{◌≡◌, ◌⊎◌, ℕ, suc, ◌+◌, ◌-◌, ◌<◌, ◌≤◌, List, ◌++◌, take, drop, true, false, sym, ap, ◌∙◌, subst, inl, inr, arith}
-use Rattle.mt_base.specs.declared.widths.Width.{Width}
-use Rattle.mt_base.specs.Width.{columns, greatest}
-use Rattle.mt_layout.specs.declared.items.Item.{Item}
-use Rattle.mt_layout.specs.declared.names.RowKind.{RowKind}
-use Rattle.mt_layout.specs.declared.spans.Span.{Span}
-use Rattle.mt_layout.specs.Sizes.{slots_of, gaps_of}
-use Rattle.mt_layout.proofs.RowSizes.{layout_of}
-use Rattle.mt_layout.proofs.OwnColumns.{same_items}
-use Rattle.mt_rows.specs.Spans.{Table, base_of}
-use Rattle.mt_rows.specs.Levels.{SameColumns}
-use Rattle.mt_rows.specs.Laws.{Stands, top_of}
-use Rattle.mt_rows.specs.Sheet.{Rooted}
-use Rattle.mt_path.specs.declared.paths.PathStep.{PathStep}
-use Rattle.mt_path.specs.Paths.{path_in, step_at}
-use Rattle.mt_splice.specs.steps.TakingIn.{short_run, beside_items}
-use Rattle.mt_splice.specs.steps.Work.{Start, table_with}
-use Rattle.mt_splice.specs.steps.Looking.{IsNowOf, items_above}
-use Rattle.mt_splice.specs.steps.Writes.{items_of_row}
-use Rattle.mt_splice.specs.steps.Widening.{wants_row, IsWidened, MayWiden, IsWindow}
+use Rattle.mt_splice.proofs.Prelude.{◌≡◌, ◌⊎◌, ℕ, suc, ◌+◌, ◌-◌, ◌<◌, ◌≤◌, List, ◌++◌, take, drop, true, false, sym, ap, ◌∙◌, subst, inl, inr, arith, Width, columns, greatest, Item, RowKind, Span, slots_of, gaps_of, layout_of, same_items, Table, base_of, SameColumns, Stands, top_of, Rooted, PathStep, path_in, step_at, short_run, beside_items, Start, table_with, IsNowOf, items_above, items_of_row, wants_row, IsWidened, MayWiden, IsWindow}
 use Rattle.mt_splice.proofs.Windows.{ahead_within}
 use Rattle.mt_splice.proofs.Besides.{begin_within, low_enough}
 use Rattle.mt_splice.proofs.Widened.{step_is, first_step}

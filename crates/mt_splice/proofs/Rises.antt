@@ -1,17 +1,5 @@
 -- A row of the tree that stays has the words that it had.
-use Rattle.std.proofs.Common.{◌≡◌, ℕ, ◌+◌, ◌≤◌, List, ◌∷◌, subst, arith}
-use Rattle.std.specs.List.{AllByRecursion}
-use Rattle.mt_base.proofs.Lists.{all_back}
-use Rattle.mt_layout.specs.declared.spans.Span.{Span}
-use Rattle.mt_layout.specs.Rows.{row_in}
-use Rattle.mt_rows.specs.Laws.{top_of}
-use Rattle.mt_rows.specs.Replacement.{root_of}
-use Rattle.mt_rows.proofs.Heights.{level_rows}
-use Rattle.mt_path.specs.declared.paths.PathStep.{PathStep}
-use Rattle.mt_path.specs.Paths.{path_in}
-use Rattle.mt_path.proofs.Places.{At}
-use Rattle.mt_path.proofs.TreePaths.{row_of, place}
-use Rattle.mt_splice.specs.steps.Work.{Start, Work, rows_at, KeepsRowWords, Holds}
+use Rattle.mt_splice.proofs.Prelude.{◌≡◌, ℕ, ◌+◌, ◌≤◌, List, ◌∷◌, subst, arith, AllByRecursion, all_back, Span, row_in, top_of, root_of, level_rows, PathStep, path_in, At, row_of, place, Start, Work, rows_at, KeepsRowWords, Holds}
 use Rattle.mt_splice.proofs.Moments.{RowsKeep}
 
 module _ (start : Start) (s : Work) (holds : Holds start s) (path : List PathStep) (i : ℕ) (within : i ≤ top_of start.tree) (is_path : path ≡ path_in start.tree.table start.tree.root i) (d k : ℕ) (levels : start.height ≡ d + k) where

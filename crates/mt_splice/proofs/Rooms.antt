@@ -1,26 +1,5 @@
 -- Room for what a climb does: rows in the book, and places for its notes and its windows.
-use Rattle.std.proofs.Common.{◌≡◌, ℕ, zero, suc, ◌+◌, ◌*◌, ◌<◌, ◌≤◌, List, [], ◌∷◌, length, map, refl, sym, ap, ◌∙◌, arith, length-append}
-use Rattle.std.specs.Prelude.{All}
-use Rattle.std.proofs.lemmas.List.{length-map}
-use Rattle.mt_base.specs.Width.{deepest, most_taken}
-use Rattle.mt_free.specs.Book.{Book}
-use Rattle.mt_layout.specs.declared.items.Item.{Item}
-use Rattle.mt_layout.specs.declared.names.RowKind.{RowKind}
-use Rattle.mt_layout.specs.declared.spans.Span.{Span}
-use Rattle.mt_layout.proofs.SpanLists.{length-spans_from}
-use Rattle.mt_path.proofs.TreePaths.{levels}
-use Rattle.mt_rows.specs.Laws.{kind_on}
-use Rattle.mt_rows.specs.Sheet.{Sheet, IsFree, life_of}
-use Rattle.mt_rows.specs.Spans.{Table, inner_of}
-use Rattle.mt_splice.specs.declared.climbing.Climb.{Climb}
-use Rattle.mt_splice.specs.declared.decisions.Next.{Next}
-use Rattle.mt_splice.specs.steps.Climbing.{IsClimbing, IsNothingLeft, IsLevelDrafted}
-use Rattle.mt_splice.specs.steps.Layers.{heads}
-use Rattle.mt_splice.specs.steps.Ledgers.{IsLedger}
-use Rattle.mt_splice.specs.steps.Plans.{Layer, depth_at, begin_at, new_at, IsPlanned, newest_first, taken_by, window_at, windows_by}
-use Rattle.mt_splice.specs.steps.Progress.{Before, IsStartOf, row_seen, new_row_by, new_rows_of}
-use Rattle.mt_splice.specs.steps.Seen.{Seen}
-use Rattle.mt_splice.specs.steps.Work.{Start}
+use Rattle.mt_splice.proofs.Prelude.{◌≡◌, ℕ, zero, suc, ◌+◌, ◌*◌, ◌<◌, ◌≤◌, List, [], ◌∷◌, length, map, refl, sym, ap, ◌∙◌, arith, length-append, All, length-map, deepest, most_taken, Book, Item, RowKind, Span, length-spans_from, levels, kind_on, Sheet, IsFree, life_of, Table, inner_of, Climb, Next, IsClimbing, IsNothingLeft, IsLevelDrafted, heads, IsLedger, Layer, depth_at, begin_at, new_at, IsPlanned, newest_first, taken_by, window_at, windows_by, Before, IsStartOf, row_seen, new_row_by, new_rows_of, Seen, Start}
 use Rattle.mt_splice.proofs.Besides.{begin_within}
 use Rattle.mt_splice.proofs.Heads.{length-heads}
 use Rattle.mt_splice.proofs.Steps.{all_free, rows_now}

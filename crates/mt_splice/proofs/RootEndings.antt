@@ -1,14 +1,5 @@
 -- A replacement ends at the root: by one row that covers all, by a root above several rows, or with no row at all.
-use Rattle.std.proofs.Common.{[], ◌≡◌, ℕ, List, ◌∷◌, refl, ap, subst}
-use Rattle.mt_layout.specs.declared.spans.Span.{Span}
-use Rattle.mt_rows.specs.Spans.{root_span}
-use Rattle.mt_rows.specs.Levels.{Levels}
-use Rattle.mt_rows.specs.Laws.{Tree, IsRow, top_of}
-use Rattle.mt_rows.specs.Replacement.{root_of}
-use Rattle.mt_rows.proofs.Lists.{levels_map}
-use Rattle.mt_rows.proofs.RowLaws.{row_keeps}
-use Rattle.mt_splice.specs.steps.Work.{Start, Work, now}
-use Rattle.mt_splice.specs.steps.Replaced.{with_root}
+use Rattle.mt_splice.proofs.Prelude.{[], ◌≡◌, ℕ, List, ◌∷◌, refl, ap, subst, Span, root_span, Levels, Tree, IsRow, top_of, root_of, levels_map, row_keeps, Start, Work, now, with_root}
 
 -- ---- another root word
 

@@ -1,21 +1,5 @@
 -- What a store makes of the empty tree is enough for a row and not too much.
-use Rattle.std.proofs.Common.{[], ◌≡◌, ◌≢◌, ℕ, ◌+◌, ◌-◌, ◌≤◌, ◌==◌, List, ◌∷◌, false, length, refl, sym, ◌∙◌, arith, ne_eqb, eq-eqb}
-use Rattle.std.specs.List.{flat_map}
-use Rattle.mt_base.specs.declared.ranges.Range.{Range}
-use Rattle.mt_base.specs.Entry.{reserved}
-use Rattle.mt_base.specs.Map.{over}
-use Rattle.mt_layout.specs.declared.names.RowKind.TheVariants.{Leaf}
-use Rattle.mt_layout.specs.declared.spans.Span.{Span}
-use Rattle.mt_layout.specs.Spans.{leaf_range, Fills}
-use Rattle.mt_layout.proofs.RowSizes.{sizes}
-use Rattle.mt_layout.proofs.SpanLists.{some_filled}
-use Rattle.mt_rows.specs.Laws.{Tree, top_of, least_of_root, least_of}
-use Rattle.mt_leaf.specs.Edits.{stored, edited}
-use Rattle.mt_leaf.proofs.Stored.{ranges_edited, fills_edited, length_edited}
-use Rattle.mt_leaf.proofs.Joined.{apart_joined}
-use Rattle.mt_path.specs.declared.paths.PathStep.{PathStep}
-use Rattle.mt_splice.specs.Splice.{region_of}
-use Rattle.mt_splice.specs.steps.Runs.{span_to, MayBeCut}
+use Rattle.mt_splice.proofs.Prelude.{[], ◌≡◌, ◌≢◌, ℕ, ◌+◌, ◌-◌, ◌≤◌, ◌==◌, List, ◌∷◌, false, length, refl, sym, ◌∙◌, arith, ne_eqb, eq-eqb, flat_map, Range, reserved, over, Leaf, Span, leaf_range, Fills, sizes, some_filled, Tree, top_of, least_of_root, least_of, stored, edited, ranges_edited, fills_edited, length_edited, apart_joined, PathStep, region_of, span_to, MayBeCut}
 use Rattle.mt_splice.proofs.EditedRegions.{all_edited}
 
 all_enough : (t : Tree) (height lo hi : ℕ) (run : List Span) → lo ≡ 0 → hi ≡ top_of t + 1 → least_of_root height ≤ length run → least_of t height (span_to lo hi) ≤ length run

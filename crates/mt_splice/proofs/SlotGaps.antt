@@ -1,34 +1,6 @@
 -- The law of gaps after one store in a slot: above it holds but in the slots that cover what was replaced.
-use Rattle.std.proofs.Common.{◌≡◌, ◌⊎◌, ℕ, zero, suc, ◌+◌, ◌<◌, ◌≤◌, List, [], ◌∷◌, ◌++◌, Bool, true, false, Option, Some, refl, sym, ◌∙◌, subst, inl, inr, ⊎_elim, arith}
-use Rattle.std.specs.Prelude.{nat_le}
-use Rattle.std.specs.List.{AllByRecursion, slice_get}
-use Rattle.std.proofs.lemmas.Bool.{cases_Bool, eqb-true, eqb-false, leb-false, lt-leb}
-use Rattle.mt_base.proofs.Lists.{all_front, all_back, all_join}
-use Rattle.mt_layout.specs.declared.items.Item.{Item}
-use Rattle.mt_layout.specs.declared.names.RowKind.{RowKind}
-use Rattle.mt_layout.specs.declared.names.RowKind.TheVariants.{Leaf, Inner, Gapped}
-use Rattle.mt_layout.specs.declared.spans.Span.{Span}
-use Rattle.mt_layout.specs.Rows.{row_in, named_kind}
-use Rattle.mt_layout.specs.Sizes.{slots_of, gaps_of}
-use Rattle.mt_layout.specs.Spans.{spans_from, Fills}
-use Rattle.mt_layout.proofs.SpanLists.{fills_le, fills_split}
-use Rattle.mt_rows.specs.Spans.{Table, base_of, inner_of, spans_by, spans_in}
-use Rattle.mt_rows.specs.Levels.{expand, level, Levels}
-use Rattle.mt_rows.specs.Laws.{Tree, HasWords, IsRow, Stands, GapLaw, GapLawBy, GapsFrom, items_in, longest_below}
-use Rattle.mt_rows.specs.Gaps.{covers, GapsFromBut, GapLawBut, GapLawButBy, KeepsGaps}
-use Rattle.mt_rows.specs.Replacement.{root_of, IsSlotAt, with_slot}
-use Rattle.mt_rows.proofs.Joins.{Shared, levels_front, levels_back}
-use Rattle.mt_rows.proofs.Lists.{levels_map}
-use Rattle.mt_rows.proofs.Heights.{level_next, level_rows, levels_both, levels_lower, levels_upper, upper_both, upper_more, upper_shared, all_both}
-use Rattle.mt_rows.proofs.PlainReached.{levels_from}
-use Rattle.mt_rows.proofs.Reached.{IsOneOf, OnLevel, all_one_of, one_of_expand, one_of_parts, on_level_law, one_place, all_of_each}
-use Rattle.mt_rows.proofs.FewSpans.{row_most}
-use Rattle.mt_rows.proofs.RowLaws.{others_keep, slot_fits}
+use Rattle.mt_splice.proofs.Prelude.{◌≡◌, ◌⊎◌, ℕ, zero, suc, ◌+◌, ◌<◌, ◌≤◌, List, [], ◌∷◌, ◌++◌, Bool, true, false, Option, Some, refl, sym, ◌∙◌, subst, inl, inr, ⊎_elim, arith, nat_le, AllByRecursion, slice_get, cases_Bool, eqb-true, eqb-false, leb-false, lt-leb, all_front, all_back, all_join, Item, RowKind, Leaf, Inner, Gapped, Span, row_in, named_kind, slots_of, gaps_of, spans_from, Fills, fills_le, fills_split, Table, base_of, inner_of, spans_by, spans_in, expand, level, Levels, Tree, HasWords, IsRow, Stands, GapLaw, GapLawBy, GapsFrom, items_in, longest_below, covers, GapsFromBut, GapLawBut, GapLawButBy, KeepsGaps, root_of, IsSlotAt, with_slot, Shared, levels_front, levels_back, levels_map, level_next, level_rows, levels_both, levels_lower, levels_upper, upper_both, upper_more, upper_shared, all_both, levels_from, IsOneOf, OnLevel, all_one_of, one_of_expand, one_of_parts, on_level_law, one_place, all_of_each, row_most, others_keep, slot_fits, put_item, items_at-put, AreGapsAt, gaps_read, covers_it, longest_shared, TellGaps}
 use Rattle.mt_rows.proofs.SlotStore as store
-use Rattle.mt_rows.proofs.SlotWords.{put_item, items_at-put}
-use Rattle.mt_rows.proofs.RowGaps.{AreGapsAt, gaps_read, covers_it}
-use Rattle.mt_rows.proofs.Longest.{longest_shared}
-use Rattle.mt_splice.specs.steps.Told.{TellGaps}
 use Rattle.mt_splice.proofs.GapRows.{row_tells, items_same}
 
 -- ---- spans that cover an index, and those that do not

@@ -1,28 +1,7 @@
 -- One store in the slot above the top layer: by the words then, the rows below it are as they were, and those above hold the new row.
-use Rattle.std.proofs.Common.{◌≡◌, ◌≢◌, ℕ, suc, ◌+◌, ◌<◌, ◌≤◌, List, [], ◌∷◌, ◌++◌, Bool, refl, sym, ap, ◌∙◌, subst, arith, ne_eqb, slice_set}
-use Rattle.std.specs.List.{AllByRecursion, slice_get}
-use Rattle.mt_base.proofs.Lists.{all_map}
-use Rattle.mt_layout.specs.declared.spans.Span.{Span}
-use Rattle.mt_layout.specs.Columns.{slot_column}
-use Rattle.mt_layout.specs.Rows.{row_in}
-use Rattle.mt_layout.specs.Sizes.{slots_of}
-use Rattle.mt_rows.specs.Spans.{base_of, spans_in}
-use Rattle.mt_rows.specs.Levels.{expand, Levels, SameSpans}
-use Rattle.mt_rows.specs.Laws.{Tree, HasWords, IsRow, Stands, top_of, kind_on}
-use Rattle.mt_rows.specs.Replacement.{root_of, IsSlotAt, with_child}
-use Rattle.mt_rows.proofs.Frames.{same_spans}
-use Rattle.mt_rows.proofs.Heights.{level_next, level_rows, all_both}
-use Rattle.mt_rows.proofs.Joins.{expand_shared}
-use Rattle.mt_rows.proofs.Reached.{one_of_parts, one_place}
-use Rattle.mt_rows.proofs.RowLaws.{others_keep, row_put}
+use Rattle.mt_splice.proofs.Prelude.{◌≡◌, ◌≢◌, ℕ, suc, ◌+◌, ◌<◌, ◌≤◌, List, [], ◌∷◌, ◌++◌, Bool, refl, sym, ap, ◌∙◌, subst, arith, ne_eqb, slice_set, AllByRecursion, slice_get, all_map, Span, slot_column, row_in, slots_of, base_of, spans_in, expand, Levels, SameSpans, Tree, HasWords, IsRow, Stands, top_of, kind_on, root_of, IsSlotAt, with_child, same_spans, level_next, level_rows, all_both, expand_shared, one_of_parts, one_place, others_keep, row_put, slot_for, at_get, At, place, child, Start, tree_with, rows_at, IsOld, Beside, Stand, row_at, in_place}
 use Rattle.mt_rows.proofs.SlotStore as store
-use Rattle.mt_path.specs.Paths.{slot_for}
-use Rattle.mt_path.proofs.Places.{at_get, At}
-use Rattle.mt_path.proofs.TreePaths.{place, child}
-use Rattle.mt_splice.specs.steps.Work.{Start, tree_with, rows_at}
 use Rattle.mt_splice.proofs.EndLevels.{levels_each}
-use Rattle.mt_splice.specs.steps.Layers.{IsOld, Beside, Stand}
-use Rattle.mt_splice.specs.steps.Windows.{row_at, in_place}
 use Rattle.mt_splice.proofs.Endings.{stand_same, stand_to_root, IsAbove}
 use Rattle.mt_splice.proofs.Windows.{once}
 

@@ -1,36 +1,6 @@
 -- A replacement begins: nothing was done yet, and the leaves' items are to stand in the tree, or in the first leaf of all.
-use Rattle.std.proofs.Common.{[], ◌≡◌, ◌≢◌, ℕ, ◌+◌, ◌-◌, ◌≤◌, ◌==◌, List, ◌∷◌, None, true, false, length, refl, sym, ap, ◌∙◌, subst, inl, inr, arith, append-nil}
-use Rattle.std.specs.Prelude.{◌||◌}
-use Rattle.std.specs.List.{flat_map}
-use Rattle.std.proofs.lemmas.Bool.{eqb-true}
-use Rattle.mt_base.specs.declared.kinds.Kind.{Kind}
-use Rattle.mt_base.specs.declared.ranges.Range.{Range}
-use Rattle.mt_base.specs.declared.calls.Call.{Call}
-use Rattle.mt_base.specs.declared.replies.Reply.{Reply}
-use Rattle.mt_base.specs.Call.{acted}
-use Rattle.mt_base.specs.Map.{over}
-use Rattle.mt_base.specs.Width.{deepest}
-use Rattle.mt_layout.specs.declared.items.Item.{Item}
-use Rattle.mt_layout.specs.declared.spans.Span.{Span}
-use Rattle.mt_layout.specs.Rows.{named_kind}
-use Rattle.mt_layout.specs.Spans.{leaf_range, spans_from}
-use Rattle.mt_leaf.specs.Edits.{edited}
-use Rattle.mt_free.specs.Book.{Book}
-use Rattle.mt_rows.specs.Spans.{Table, root_span}
-use Rattle.mt_rows.specs.Laws.{Tree, Stands, IsLawful, top_of}
-use Rattle.mt_rows.specs.Sheet.{Sheet, IsWhole}
-use Rattle.mt_rows.specs.Publish.{tree_as, IsToldKind, map_by, is_reached}
-use Rattle.mt_path.specs.declared.paths.PathStep.{PathStep}
-use Rattle.mt_path.specs.Paths.{path_in}
-use Rattle.mt_path.proofs.Steps.{path_of_none}
+use Rattle.mt_splice.proofs.Prelude.{[], ◌≡◌, ◌≢◌, ℕ, ◌+◌, ◌-◌, ◌≤◌, ◌==◌, List, ◌∷◌, None, true, false, length, refl, sym, ap, ◌∙◌, subst, inl, inr, arith, append-nil, ◌||◌, flat_map, eqb-true, Kind, Range, Call, Reply, acted, over, deepest, Item, Span, named_kind, leaf_range, spans_from, edited, Book, Table, root_span, Tree, Stands, IsLawful, top_of, Sheet, IsWhole, tree_as, IsToldKind, map_by, is_reached, PathStep, path_in, path_of_none, Start, Work, IsConsistent, IsUnpublished, MaySplice, region_of, before_of, start_for, IsBegunBy, IsFirstStore, last_step, MayBeCut, Before, IsInFlight, IsProgress}
 use Rattle.mt_path.proofs.TreePaths as paths
-use Rattle.mt_splice.specs.steps.Work.{Start, Work}
-use Rattle.mt_splice.specs.Kept.{IsConsistent, IsUnpublished}
-use Rattle.mt_splice.specs.Splice.{MaySplice, region_of}
-use Rattle.mt_splice.specs.steps.Entries.{before_of, start_for, IsBegunBy, IsFirstStore}
-use Rattle.mt_path.specs.Handles.{last_step}
-use Rattle.mt_splice.specs.steps.Runs.{MayBeCut}
-use Rattle.mt_splice.specs.steps.Progress.{Before, IsInFlight, IsProgress}
 use Rattle.mt_splice.proofs.EndTrees.{map_is}
 use Rattle.mt_splice.proofs.Runs.{empty_run}
 use Rattle.mt_splice.proofs.StepSeen.{not_both}

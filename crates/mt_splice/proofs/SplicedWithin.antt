@@ -1,23 +1,6 @@
 -- What a replacement says of the indexes of the leaves that it replaces, it says of those that the store changes.
-use Rattle.std.proofs.Common.{◌≡◌, ℕ, ◌-◌, ◌≤◌, List, Bool, true, length, ap, ◌∙◌, subst, inl, inr, arith}
-use Rattle.mt_base.specs.declared.kinds.Kind.{Kind}
-use Rattle.mt_base.specs.declared.calls.Call.{Call}
-use Rattle.mt_base.specs.declared.replies.Reply.{Reply}
-use Rattle.mt_base.specs.Width.{greatest}
-use Rattle.mt_free.specs.Book.{Book}
-use Rattle.mt_layout.specs.Rows.{row_in}
-use Rattle.mt_rows.specs.declared.rows.Place.{Place}
-use Rattle.mt_rows.specs.Gaps.{KeepsGaps, HasGapsBut}
-use Rattle.mt_rows.specs.Laws.{Tree, IsLawful, Stands, top_of}
-use Rattle.mt_rows.specs.Publish.{tree_as, IsLawfulOf}
-use Rattle.mt_rows.specs.Replacement.{root_of}
-use Rattle.mt_rows.specs.Sheet.{Rooted, Sheet}
-use Rattle.mt_rows.proofs.Lists.{levels_map}
-use Rattle.mt_path.specs.declared.paths.PathStep.{PathStep}
-use Rattle.mt_path.specs.Handles.{last_step}
-use Rattle.mt_path.specs.Paths.{path_in, step_at}
+use Rattle.mt_splice.proofs.Prelude.{◌≡◌, ℕ, ◌-◌, ◌≤◌, List, Bool, true, length, ap, ◌∙◌, subst, inl, inr, arith, Kind, Call, Reply, greatest, Book, row_in, Place, KeepsGaps, HasGapsBut, Tree, IsLawful, Stands, top_of, tree_as, IsLawfulOf, root_of, Rooted, Sheet, levels_map, PathStep, last_step, path_in, step_at, MayReplace, IsSpliced, is_unreached}
 use Rattle.mt_path.proofs.TreePaths as paths
-use Rattle.mt_splice.specs.Splice.{MayReplace, IsSpliced, is_unreached}
 use Rattle.mt_splice.proofs.SlotGaps.{weaker}
 use Rattle.mt_splice.proofs.SpliceBegins.{no_path}
 

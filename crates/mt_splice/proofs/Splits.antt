@@ -1,8 +1,5 @@
 -- Two ways to part spans that stand end to end.
-use Rattle.std.proofs.Common.{◌≡◌, ℕ, ◌+◌, ◌≤◌, List, [], ◌∷◌, ◌++◌, refl, sym, ap, ◌∙◌, subst, arith, append-nil}
-use Rattle.mt_layout.specs.declared.spans.Span.{Span}
-use Rattle.mt_layout.specs.Spans.{Fills}
-use Rattle.mt_layout.proofs.SpanLists.{fills_le}
+use Rattle.mt_splice.proofs.Prelude.{◌≡◌, ℕ, ◌+◌, ◌≤◌, List, [], ◌∷◌, ◌++◌, refl, sym, ap, ◌∙◌, subst, arith, append-nil, Span, Fills, fills_le}
 
 -- of two ways to part a list, the one that goes further has a middle
 pub split_more : (lo end end' : ℕ) (xs ys xs' ys' : List Span) → xs ++ ys ≡ xs' ++ ys' → Fills lo end xs → Fills lo end' xs' → end ≤ end'

@@ -1,11 +1,5 @@
 -- Which rows were seen, by their numbers.
-use Rattle.std.proofs.Common.{◌≡◌, ◌≢◌, ℕ, zero, suc, ◌+◌, ◌==◌, List, [], ◌∷◌, ◌++◌, Bool, true, false, map, sym, ap, ◌∙◌, ⊎_elim, arith, eq-eqb, lt-ltb}
-use Rattle.std.specs.Prelude.{nat_lt, Contains}
-use Rattle.std.proofs.lemmas.Bool.{cases_Bool, eqb-true, eqb-false, ne_eqb, ltb-true, ltb-false, le-ltb}
-use Rattle.mt_rows.specs.Levels.{one_if, is_row_of}
-use Rattle.mt_rows.proofs.Lists.{tally-append}
-use Rattle.mt_splice.specs.steps.Seen.{Seen, passing}
-use Rattle.mt_splice.specs.steps.Progress.{row_seen}
+use Rattle.mt_splice.proofs.Prelude.{◌≡◌, ◌≢◌, ℕ, zero, suc, ◌+◌, ◌==◌, List, [], ◌∷◌, ◌++◌, Bool, true, false, map, sym, ap, ◌∙◌, ⊎_elim, arith, eq-eqb, lt-ltb, nat_lt, Contains, cases_Bool, eqb-true, eqb-false, ne_eqb, ltb-true, ltb-false, le-ltb, one_if, is_row_of, tally-append, Seen, passing, row_seen}
 
 -- a row of this number was seen
 abbrev pub was_seen : List Seen → ℕ → Bool

@@ -1,29 +1,5 @@
 -- One step of a replacement: a row is written, or is buried and retired, or words are loaded.
-use Rattle.std.proofs.Common.{[], ◌≡◌, ◌≢◌, ℕ, ◌+◌, ◌<◌, ◌≤◌, List, ◌∷◌, ◌++◌, Bool, true, false, Option, length, map, refl, sym, ap, ◌∙◌, subst, ⊎_elim, arith, get_or, get_or-set_same, get_or-set_other, set, length-set, append_assoc, length-append}
-use Rattle.std.specs.Prelude.{◌||◌, Contains, All, slice_index_or, if◌then◌else◌}
-use Rattle.std.proofs.lemmas.Bool.{cases_Bool, cases_eq}
-use Rattle.std.proofs.lemmas.List.{map_push, map-append, get_or_append_left, get_or-append-add, get_or_default}
-use Rattle.std.proofs.lemmas.List.Elements.{All-contains, All-append, All-map, Contains-append_left, Contains-append_right, Contains-append_cases}
-use Rattle.mt_base.specs.declared.widths.Width.{Width}
-use Rattle.mt_base.specs.Width.{columns, first_row}
-use Rattle.mt_layout.specs.declared.items.Item.{Item}
-use Rattle.mt_layout.specs.declared.names.RowKind.{RowKind}
-use Rattle.mt_layout.specs.Rows.{row_in, dead_mark, name_at}
-use Rattle.mt_layout.proofs.NameLaws.{row_in-name_at}
-use Rattle.mt_layout.proofs.RowSizes.{some_columns}
-use Rattle.mt_free.specs.Book.{Book, Held, IsRowOf, IsOut, held_rows, after_retire}
-use Rattle.mt_free.proofs.Rows.{AreApart}
-use Rattle.mt_rows.specs.declared.rows.Life.{Life}
-use Rattle.mt_rows.specs.declared.rows.Life.TheVariants.{New, Draft, Live, Dead}
-use Rattle.mt_rows.specs.Spans.{column, base_of}
-use Rattle.mt_rows.specs.Sheet.{Rooted, Sheet, IsFree, MayBury, OnlyReads, life_of, is_buried, after_bury}
-use Rattle.mt_rows.specs.Publish.{is_reached}
-use Rattle.mt_rows.specs.Laws.{Tree}
-use Rattle.mt_splice.specs.steps.Seen.{Seen}
-use Rattle.mt_splice.specs.steps.Work.{Start, Work, table_with, with_words}
-use Rattle.mt_splice.specs.steps.Writes.{no_parent, IsRowDrafted}
-use Rattle.mt_splice.specs.Kept.{IsUnheld, IsUnpublished}
-use Rattle.mt_splice.specs.steps.Progress.{Before, IsStartOf, IsProgress, row_seen, is_taken, is_gone, stamped}
+use Rattle.mt_splice.proofs.Prelude.{[], ◌≡◌, ◌≢◌, ℕ, ◌+◌, ◌<◌, ◌≤◌, List, ◌∷◌, ◌++◌, Bool, true, false, Option, length, map, refl, sym, ap, ◌∙◌, subst, ⊎_elim, arith, get_or, get_or-set_same, get_or-set_other, set, length-set, append_assoc, length-append, ◌||◌, Contains, All, slice_index_or, if◌then◌else◌, cases_Bool, cases_eq, map_push, map-append, get_or_append_left, get_or-append-add, get_or_default, All-contains, All-append, All-map, Contains-append_left, Contains-append_right, Contains-append_cases, Width, columns, first_row, Item, RowKind, row_in, dead_mark, name_at, row_in-name_at, some_columns, Book, Held, IsRowOf, IsOut, held_rows, after_retire, AreApart, Life, New, Draft, Live, Dead, column, base_of, Rooted, Sheet, IsFree, MayBury, OnlyReads, life_of, is_buried, after_bury, is_reached, Tree, Seen, Start, Work, table_with, with_words, no_parent, IsRowDrafted, IsUnheld, IsUnpublished, Before, IsStartOf, IsProgress, row_seen, is_taken, is_gone, stamped}
 use Rattle.mt_splice.proofs.Drafts.{other_row, other_column, same_column, is_draft, other_life, whole_then}
 use Rattle.mt_splice.proofs.StepSeen.{was_seen, not_both, seen_here, seen_other, seen_before, seen_not_here, seen_last, seen_not_last, seen_front, seen_front_not_last, listed_seen, not_listed}
 

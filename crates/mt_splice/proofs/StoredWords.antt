@@ -1,16 +1,5 @@
 -- A tree by its rows, words and root word, and the word in the slot of a path's row.
-use Rattle.std.specs.Prelude.{◌≡◌, ℕ, ◌+◌, slice_set}
-use Rattle.mt_layout.specs.Rows.{row_in}
-use Rattle.mt_layout.specs.declared.spans.Span.{Span}
-use Rattle.mt_rows.specs.Laws.{Tree}
-use Rattle.mt_rows.specs.Replacement.{IsSlotAt}
-use Rattle.mt_path.specs.declared.paths.PathStep.{PathStep}
-use Rattle.mt_layout.specs.Columns.{slot_column}
-use Rattle.mt_layout.specs.declared.names.RowKind.{RowKind}
-use Rattle.mt_layout.specs.Sizes.{slots_of}
-use Rattle.mt_rows.specs.Spans.{base_of}
-use Rattle.mt_splice.specs.steps.Work.{tree_with}
-use Rattle.mt_rows.specs.Sheet.{Rooted}
+use Rattle.mt_splice.proofs.Prelude.{◌≡◌, ℕ, ◌+◌, slice_set, row_in, Span, Tree, IsSlotAt, PathStep, slot_column, RowKind, slots_of, base_of, tree_with, Rooted}
 
 -- the rows, the words and the root word of a tree
 abbrev pub words_of : Tree → Rooted

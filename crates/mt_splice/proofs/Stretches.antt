@@ -1,12 +1,5 @@
 -- Rows next to each other on a level.
-use Rattle.std.specs.Prelude.{List, ◌≡◌, ℕ, ◌+◌, ◌++◌}
-use Rattle.mt_layout.specs.declared.names.RowKind.{RowKind}
-use Rattle.mt_layout.specs.declared.spans.Span.{Span}
-use Rattle.mt_rows.specs.Spans.{Table, row_spans}
-use Rattle.mt_path.specs.declared.paths.PathStep.{PathStep}
-use Rattle.mt_layout.specs.Spans.{Fills}
-use Rattle.mt_rows.specs.Laws.{Tree, top_of}
-use Rattle.mt_splice.specs.steps.Work.{rows_at}
+use Rattle.mt_splice.proofs.Prelude.{List, ◌≡◌, ℕ, ◌+◌, ◌++◌, RowKind, Span, Table, row_spans, PathStep, Fills, Tree, top_of, rows_at}
 
 -- of the rows of a level, those that cover the indexes from lo up to, but without, hi
 pub record IsStretch (t : Tree) (depth lo hi : ℕ) (front old back : List Span) : Type 0 where

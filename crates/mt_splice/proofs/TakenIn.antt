@@ -1,14 +1,5 @@
 -- The items of a row taken in beside others, as spans.
-use Rattle.std.proofs.Common.{[], ◌≡◌, ℕ, Bool, true, false, zero, suc, ◌+◌, ◌-◌, List, ◌∷◌, ◌++◌, length, sym, ap, ◌∙◌, refl, arith}
-use Rattle.mt_layout.specs.declared.items.Item.{Item}
-use Rattle.mt_layout.specs.Spans.{spans_from, Fills}
-use Rattle.mt_layout.proofs.SpanLists.{fills_after, spans-append}
-use Rattle.mt_leaf.specs.Edits.{holes_joined, ends_with_hole}
-use Rattle.mt_leaf.proofs.Pushes.{pushed_onto}
-use Rattle.mt_rows.specs.Laws.{kind_on}
-use Rattle.mt_splice.specs.steps.Runs.{MayBeIn}
-use Rattle.mt_splice.specs.steps.TakingIn.{is_hole_at, beside_items}
-use Rattle.mt_layout.specs.declared.spans.Span.{Span}
+use Rattle.mt_splice.proofs.Prelude.{[], ◌≡◌, ℕ, Bool, true, false, zero, suc, ◌+◌, ◌-◌, List, ◌∷◌, ◌++◌, length, sym, ap, ◌∙◌, refl, arith, Item, spans_from, Fills, fills_after, spans-append, holes_joined, ends_with_hole, pushed_onto, kind_on, MayBeIn, is_hole_at, beside_items, Span}
 
 -- the spans of rows of a height that stand beside each other
 abbrev pub beside : ℕ → List Span → List Span → List Span

@@ -1,21 +1,5 @@
 -- The parent words of a row's children written one by one.
-use Rattle.std.proofs.Common.{◌≡◌, ◌≢◌, ℕ, ◌+◌, ◌*◌, ◌<◌, List, length, refl, sym, ap, ◌∙◌, subst, inl, ⊎_elim, arith, length-set}
-use Rattle.std.specs.Prelude.{Some, Bool, false, slice_index_or, slice_set}
-use Rattle.std.proofs.lemmas.Bool.{cases_eq}
-use Rattle.mt_rows.specs.declared.rows.Life.{Life}
-use Rattle.mt_rows.specs.declared.rows.Life.TheVariants.{New}
-use Rattle.mt_base.specs.declared.widths.Width.{Width}
-use Rattle.mt_base.specs.Width.{columns, first_row}
-use Rattle.mt_base.proofs.WidthBounds.{few_columns}
-use Rattle.mt_layout.specs.declared.names.RowKind.{RowKind}
-use Rattle.mt_layout.specs.Rows.{named_row, parent_at, dead_mark}
-use Rattle.mt_layout.specs.Columns.{slot_column}
-use Rattle.mt_layout.specs.Sizes.{slots_of}
-use Rattle.mt_layout.proofs.RowSizes.{some_columns, slot_above, slot_within}
-use Rattle.mt_rows.specs.Spans.{Table, base_of, column}
-use Rattle.mt_rows.specs.Sheet.{Rooted, Sheet, IsWhole, MayTend, loaded, tended}
-use Rattle.mt_splice.specs.steps.Work.{with_words}
-use Rattle.mt_splice.specs.steps.Writes.{child_word, child_row, AreChildren, AreTended}
+use Rattle.mt_splice.proofs.Prelude.{◌≡◌, ◌≢◌, ℕ, ◌+◌, ◌*◌, ◌<◌, List, length, refl, sym, ap, ◌∙◌, subst, inl, ⊎_elim, arith, length-set, Some, Bool, false, slice_index_or, slice_set, cases_eq, Life, New, Width, columns, first_row, few_columns, RowKind, named_row, parent_at, dead_mark, slot_column, slots_of, some_columns, slot_above, slot_within, Table, base_of, column, Rooted, Sheet, IsWhole, MayTend, loaded, tended, with_words, child_word, child_row, AreChildren, AreTended}
 use Rattle.mt_splice.proofs.Drafts.{wrote, plain, other_row, other_column, same_column}
 
 -- of the children the first ones are tended

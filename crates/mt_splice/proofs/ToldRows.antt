@@ -1,25 +1,5 @@
 -- Items that tell their gaps: at a later moment, side by side, and in the rows of the tree as it was.
-use Rattle.std.proofs.Common.{[], refl, ◌≡◌, ℕ, Bool, true, false, suc, ◌+◌, ◌≤◌, List, ◌∷◌, ◌++◌, take, drop, sym, ap, ◌∙◌, subst, inl, inr, arith}
-use Rattle.std.proofs.lemmas.List.{map-append, take-map, drop-map}
-use Rattle.mt_layout.specs.declared.items.Item.{Item}
-use Rattle.mt_layout.specs.declared.names.RowKind.{RowKind}
-use Rattle.mt_layout.specs.declared.names.RowKind.TheVariants.{Leaf, Inner, Gapped}
-use Rattle.mt_layout.specs.declared.spans.Span.{Span}
-use Rattle.mt_layout.specs.Spans.{spans_from}
-use Rattle.mt_layout.proofs.SpanLists.{spans-take}
-use Rattle.mt_rows.specs.Spans.{Table, inner_of}
-use Rattle.mt_rows.specs.Levels.{Levels}
-use Rattle.mt_rows.specs.Laws.{Tree, IsLawful, IsTended, Stands, GapLaw, top_of, longest_below}
-use Rattle.mt_rows.specs.Replacement.{root_of}
-use Rattle.mt_rows.proofs.Lists.{levels_map}
-use Rattle.mt_rows.specs.Trees.{height_in}
-use Rattle.mt_rows.proofs.Reached.{height_is}
-use Rattle.mt_path.specs.declared.paths.PathStep.{PathStep}
-use Rattle.mt_path.specs.Paths.{path_in}
-use Rattle.mt_splice.specs.steps.Work.{Start, Work, Holds}
-use Rattle.mt_splice.specs.steps.Progress.{Before, IsStartOf}
-use Rattle.mt_splice.specs.steps.TakingIn.{beside_items}
-use Rattle.mt_splice.specs.steps.Told.{longest_holes, TellGaps, HadGaps}
+use Rattle.mt_splice.proofs.Prelude.{[], refl, ◌≡◌, ℕ, Bool, true, false, suc, ◌+◌, ◌≤◌, List, ◌∷◌, ◌++◌, take, drop, sym, ap, ◌∙◌, subst, inl, inr, arith, map-append, take-map, drop-map, Item, RowKind, Leaf, Inner, Gapped, Span, spans_from, spans-take, Table, inner_of, Levels, Tree, IsLawful, IsTended, Stands, GapLaw, top_of, longest_below, root_of, levels_map, height_in, height_is, PathStep, path_in, Start, Work, Holds, Before, IsStartOf, beside_items, longest_holes, TellGaps, HadGaps}
 use Rattle.mt_splice.proofs.Rises.{row_here}
 
 -- ---- side by side

@@ -1,45 +1,6 @@
 -- Where a climb ends: what is to be published, and which windows are to be buried.
-use Rattle.std.proofs.Common.{◌≡◌, ℕ, zero, suc, ◌+◌, ◌*◌, ◌-◌, ◌<◌, ◌≤◌, List, [], ◌∷◌, ◌++◌, length, take, refl, sym, ap, ◌∙◌, subst, inl, inr, ⊎_elim, arith, append-nil, Bool, true, eq-eqb}
-use Rattle.std.specs.Prelude.{slice_index_or, if◌then◌else◌}
-use Rattle.std.proofs.Math.Seq.{take-length}
-use Rattle.std.proofs.lemmas.Bool.{cases_lt}
-use Rattle.mt_base.specs.declared.widths.Width.{Width}
-use Rattle.mt_base.specs.Width.{columns}
-use Rattle.mt_free.specs.Book.{Book}
-use Rattle.mt_layout.specs.declared.items.Item.{Item}
-use Rattle.mt_layout.specs.declared.spans.Span.{Span}
-use Rattle.mt_layout.specs.declared.names.RowKind.{RowKind}
-use Rattle.mt_layout.specs.Columns.{RiseFrom, end_of, slot_column}
-use Rattle.mt_layout.specs.Rows.{name_at}
-use Rattle.mt_layout.specs.Sizes.{slots_of, least_items}
-use Rattle.mt_layout.specs.Spans.{spans_from, Fills}
-use Rattle.mt_layout.proofs.RowSizes.{sizes}
-use Rattle.mt_layout.proofs.SpanLists.{after, fills_after, fills_end, fills_rise, length-spans_from}
-use Rattle.mt_path.specs.declared.paths.PathStep.{PathStep}
-use Rattle.mt_path.specs.Paths.{path_in, row_on, step_at}
-use Rattle.mt_path.proofs.Places.{at_within}
-use Rattle.mt_path.proofs.TreePaths.{place, child, lawful, same_row, slot_used}
-use Rattle.mt_rows.specs.declared.rows.Place.TheVariants.{Root, Slot}
-use Rattle.mt_rows.specs.Laws.{Tree, Stands, covers_all, kind_on, top_of}
-use Rattle.mt_rows.specs.Sheet.{Sheet}
-use Rattle.mt_rows.specs.Spans.{Table, column, inner_of, spans_in}
-use Rattle.mt_rows.proofs.FewSpans.{row_most}
-use Rattle.mt_splice.specs.declared.climbing.Climb.{Climb}
-use Rattle.mt_splice.specs.declared.climbing.Top.{Top}
-use Rattle.mt_splice.specs.declared.decisions.Next.{Next}
-use Rattle.mt_splice.specs.declared.decisions.Next.TheVariants.{Root as AtRoot, RootAbove, Slot as InSlot}
-use Rattle.mt_splice.specs.declared.writes.NewRow.{NewRow}
-use Rattle.mt_splice.specs.steps.Climbing.{IsNothingLeft, IsLevelDrafted, HasClimbed, windows_over}
-use Rattle.mt_splice.specs.steps.Drafting.{IsRowTaken, AreRowsTaken, noted_row, noted_rows, IsPieceDrafted}
-use Rattle.mt_splice.specs.steps.Layers.{AreHeld, part_of, heads}
-use Rattle.mt_splice.specs.steps.Ledgers.{was_taken, IsLedger}
-use Rattle.mt_splice.specs.steps.Plans.{depth_at, begin_at, new_at, level_of, AreAllHeld, newest_first, taken_by, windows_by, windows_above}
-use Rattle.mt_splice.specs.steps.Progress.{Before, new_rows_of}
-use Rattle.mt_splice.specs.steps.Runs.{span_to, MayBeCut}
-use Rattle.mt_splice.specs.steps.Seen.{Seen}
-use Rattle.mt_splice.specs.steps.Windows.{row_at, low_of, high_of, Gathered}
-use Rattle.mt_splice.specs.steps.Writes.{IsNewRow}
-use Rattle.mt_splice.specs.steps.Work.{Start, rows_at, tree_with}
+use Rattle.mt_splice.proofs.Prelude.{◌≡◌, ℕ, zero, suc, ◌+◌, ◌*◌, ◌-◌, ◌<◌, ◌≤◌, List, [], ◌∷◌, ◌++◌, length, take, refl, sym, ap, ◌∙◌, subst, inl, inr, ⊎_elim, arith, append-nil, Bool, true, eq-eqb, slice_index_or, if◌then◌else◌, take-length, cases_lt, Width, columns, Book, Item, Span, RowKind, RiseFrom, end_of, slot_column, name_at, slots_of, least_items, spans_from, Fills, sizes, after, fills_after, fills_end, fills_rise, length-spans_from, PathStep, path_in, row_on, step_at, at_within, place, child, lawful, same_row, slot_used, Root, Slot, Tree, Stands, covers_all, kind_on, top_of, Sheet, Table, column, inner_of, spans_in, row_most, Climb, Top, Next, RootAbove, NewRow, IsNothingLeft, IsLevelDrafted, HasClimbed, windows_over, IsRowTaken, AreRowsTaken, noted_row, noted_rows, IsPieceDrafted, AreHeld, part_of, heads, was_taken, IsLedger, depth_at, begin_at, new_at, level_of, AreAllHeld, newest_first, taken_by, windows_by, windows_above, Before, new_rows_of, span_to, MayBeCut, Seen, row_at, low_of, high_of, Gathered, IsNewRow, Start, rows_at, tree_with}
+use Rattle.mt_splice.specs.declared.decisions.Next.TheVariants.{Root as AtRoot, Slot as InSlot}
 use Rattle.mt_splice.proofs.Besides.{begin_within}
 use Rattle.mt_splice.proofs.DraftedLedger.{taken_behind, all_held_stay, ledger_then, taken_stay, width_then, held_then, noted_then}
 use Rattle.mt_splice.proofs.Heads.{heads_fill, length-heads}

@@ -1,33 +1,6 @@
 -- A level's items, widened, may be cut into rows, or are one hole of every index.
-use Rattle.std.proofs.Common.{◌≡◌, ◌≢◌, ◌⊎◌, ℕ, zero, suc, ◌+◌, ◌-◌, ◌<◌, ◌≤◌, ◌||◌, List, [], ◌∷◌, Bool, true, false, length, refl, sym, ap, ◌∙◌, subst, inl, inr, ⊎_elim, arith, ne_eqb}
-use Rattle.std.specs.List.{flat_map}
-use Rattle.std.proofs.lemmas.Bool.{ltb-true, ltb-false}
-use Rattle.mt_base.specs.declared.ranges.Range.{Range}
-use Rattle.mt_base.specs.Width.{greatest}
-use Rattle.mt_layout.specs.declared.items.Item.{Item}
-use Rattle.mt_layout.specs.declared.names.RowKind.{RowKind}
-use Rattle.mt_layout.specs.declared.names.RowKind.TheVariants.{Leaf}
-use Rattle.mt_layout.specs.declared.spans.Span.{Span}
-use Rattle.mt_layout.specs.Sizes.{slots_of, least_items}
-use Rattle.mt_layout.specs.Spans.{leaf_range, spans_from, Fills, EndsFull}
-use Rattle.mt_layout.proofs.RowSizes.{sizes}
-use Rattle.mt_layout.proofs.SpanLists.{length-spans_from, two_hold_an_entry}
-use Rattle.mt_leaf.specs.Edits.{ends_with_hole}
-use Rattle.mt_leaf.proofs.Holes.{full_unless_hole, no_hole_ends}
-use Rattle.mt_rows.specs.Spans.{spans_by, spans_in}
-use Rattle.mt_rows.specs.Laws.{Tree, IsRow, Stands, top_of, kind_on, least_of_root}
-use Rattle.mt_path.specs.declared.paths.PathStep.{PathStep}
-use Rattle.mt_path.specs.Paths.{step_in, step_at, path_in}
-use Rattle.mt_path.proofs.TreePaths.{step, place, lawful}
-use Rattle.mt_path.proofs.Places.{at_within}
-use Rattle.mt_splice.specs.steps.Decisions.{item_words}
-use Rattle.mt_splice.specs.steps.Runs.{MayBeIn, most_in_three, MayBeCut}
-use Rattle.mt_splice.specs.steps.TakingIn.{short_run, holed_run}
-use Rattle.mt_splice.specs.steps.Work.{Start, rows_at}
-use Rattle.mt_splice.specs.steps.Writes.{items_of_row}
+use Rattle.mt_splice.proofs.Prelude.{◌≡◌, ◌≢◌, ◌⊎◌, ℕ, zero, suc, ◌+◌, ◌-◌, ◌<◌, ◌≤◌, ◌||◌, List, [], ◌∷◌, Bool, true, false, length, refl, sym, ap, ◌∙◌, subst, inl, inr, ⊎_elim, arith, ne_eqb, flat_map, ltb-true, ltb-false, Range, greatest, Item, RowKind, Leaf, Span, slots_of, least_items, leaf_range, spans_from, Fills, EndsFull, sizes, length-spans_from, two_hold_an_entry, ends_with_hole, full_unless_hole, no_hole_ends, spans_by, spans_in, Tree, IsRow, Stands, top_of, kind_on, least_of_root, PathStep, step_in, step_at, path_in, step, place, lawful, at_within, item_words, MayBeIn, most_in_three, MayBeCut, short_run, holed_run, Start, rows_at, items_of_row, row_at, low_of, high_of, Gathered, wants_row, IsAlone, IsWithBehind, IsWithBefore, IsWidened, MayWiden, IsWindow}
 use Rattle.mt_splice.proofs.TakenIn.{ends_at_last, beside_spans, beside}
-use Rattle.mt_splice.specs.steps.Windows.{row_at, low_of, high_of, Gathered}
-use Rattle.mt_splice.specs.steps.Widening.{wants_row, IsAlone, IsWithBehind, IsWithBefore, IsWidened, MayWiden, IsWindow}
 use Rattle.mt_splice.proofs.Windows.{ahead_within, begins_behind, ends_ahead}
 use Rattle.mt_splice.proofs.Besides.{begin_within, low_enough, some_gathered, cut_of, least_enough, all_enough, leaf_entry, takes_behind, cut_behind, takes_before, cut_before, row_fit}
 use Rattle.mt_splice.proofs.StoredWords.{words_of}

@@ -1,16 +1,5 @@
 -- The rows of a window: what they are, and how one is made of others.
-use Rattle.std.proofs.Common.{[], ◌≡◌, ℕ, ◌+◌, ◌-◌, ◌<◌, ◌≤◌, List, ◌∷◌, ◌++◌, length, take, drop, refl, sym, ap, ◌∙◌, subst, ⊎_elim, arith, append_assoc, length-append, length-drop}
-use Rattle.std.proofs.lemmas.Bool.{cases_lt}
-use Rattle.std.proofs.Math.Seq.{drop-append_seam, take-append_seam}
-use Rattle.mt_layout.specs.declared.spans.Span.{Span}
-use Rattle.mt_layout.specs.Spans.{Fills}
-use Rattle.mt_layout.proofs.SpanLists.{fills_le}
-use Rattle.mt_rows.specs.Laws.{Tree, Stands, top_of}
-use Rattle.mt_path.specs.Paths.{slot_for}
-use Rattle.mt_path.proofs.Places.{At}
-use Rattle.mt_path.proofs.TreePaths.{place, inside_agree}
-use Rattle.mt_splice.specs.steps.Windows.{before, behind, between, row_at, low_of, high_of}
-use Rattle.mt_splice.specs.steps.Work.{rows_at}
+use Rattle.mt_splice.proofs.Prelude.{[], ◌≡◌, ℕ, ◌+◌, ◌-◌, ◌<◌, ◌≤◌, List, ◌∷◌, ◌++◌, length, take, drop, refl, sym, ap, ◌∙◌, subst, ⊎_elim, arith, append_assoc, length-append, length-drop, cases_lt, drop-append_seam, take-append_seam, Span, Fills, fills_le, Tree, Stands, top_of, slot_for, At, place, inside_agree, before, behind, between, row_at, low_of, high_of, rows_at}
 use Rattle.mt_splice.proofs.PathRows.{stretch_between}
 use Rattle.mt_splice.proofs.Windows.{at_before, at_behind, once, row_behind, ends_ahead}
 use Rattle.mt_splice.proofs.Stretches.{IsStretch}

@@ -1,17 +1,6 @@
 -- The rows of a level before the one that holds an index, and those behind it: on the level below, and beside.
-use Rattle.std.proofs.Common.{◌≡◌, ℕ, suc, ◌+◌, ◌-◌, ◌<◌, ◌≤◌, List, [], ◌∷◌, ◌++◌, sym, ap, ◌∙◌, subst, arith, append_assoc}
-use Rattle.mt_layout.specs.declared.spans.Span.{Span}
-use Rattle.mt_layout.specs.Spans.{Fills}
-use Rattle.mt_layout.proofs.SpanLists.{fills-append, fills_split}
-use Rattle.mt_rows.specs.Spans.{spans_in}
-use Rattle.mt_rows.specs.Levels.{expand}
-use Rattle.mt_rows.specs.Laws.{Tree, Stands, top_of}
-use Rattle.mt_path.specs.Paths.{slot_for}
-use Rattle.mt_path.proofs.Places.{at_once, At}
-use Rattle.mt_path.proofs.TreePaths.{place, child, rows_fill, next_row, row_before}
-use Rattle.mt_splice.specs.steps.Work.{rows_at}
+use Rattle.mt_splice.proofs.Prelude.{◌≡◌, ℕ, suc, ◌+◌, ◌-◌, ◌<◌, ◌≤◌, List, [], ◌∷◌, ◌++◌, sym, ap, ◌∙◌, subst, arith, append_assoc, Span, Fills, fills-append, fills_split, spans_in, expand, Tree, Stands, top_of, slot_for, at_once, At, place, child, rows_fill, next_row, row_before, rows_at, before, behind, row_at, low_of, high_of, in_place, in_rows}
 use Rattle.mt_splice.proofs.PathRows.{lower_parts, take_slot, drop_slot}
-use Rattle.mt_splice.specs.steps.Windows.{before, behind, row_at, low_of, high_of, in_place, in_rows}
 
 pub at_before : {lo hi i : ℕ} {xs : List Span} {x : Span} (at : At lo hi xs i x) → at.front ≡ before i xs
 at_before {lo} {hi} {i} {xs} {x} at = sym (take_slot xs at.front at.back x (slot_for xs i) at.parts (sym at.slot))

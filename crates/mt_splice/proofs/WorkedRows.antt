@@ -1,14 +1,5 @@
 -- Definitions of the write path on worked rows.
-use Rattle.std.proofs.Common.{◌≡◌, ℕ, List, [], ◌∷◌, refl}
-use Rattle.mt_layout.specs.declared.items.Item.{Item}
-use Rattle.mt_layout.specs.declared.names.RowKind.TheVariants.{Leaf, Inner}
-use Rattle.mt_layout.specs.declared.spans.Span.{Span}
-use Rattle.mt_layout.specs.Rows.{name_at}
-use Rattle.mt_splice.specs.steps.Burials.{after_retirals}
-use Rattle.mt_splice.specs.steps.Drafting.{noted_rows}
-use Rattle.mt_splice.specs.steps.Layers.{heads}
-use Rattle.mt_splice.specs.steps.Plans.{newest_first}
-use Rattle.mt_splice.specs.steps.Windows.{before, behind, between}
+use Rattle.mt_splice.proofs.Prelude.{◌≡◌, ℕ, List, [], ◌∷◌, refl, Item, Leaf, Inner, Span, name_at, after_retirals, noted_rows, heads, newest_first, before, behind, between}
 
 abbrev row : ℕ → ℕ → ℕ → Span
 row first last word = record { first = first; last = last; word = word }

@@ -1,8 +1,5 @@
 -- One level of a replacement: the gathered spans are written in rows, and the rows that these replace are buried.
-use Rattle.std.proofs.Common.{◌≡◌, ℕ, refl, ap, eq-eqb}
-use Rattle.mt_layout.specs.declared.spans.Span.{Span}
-use Rattle.mt_layout.specs.Rows.{row_in}
-use Rattle.mt_rows.specs.Levels.{one_if, is_row_of}
+use Rattle.mt_splice.proofs.Prelude.{◌≡◌, ℕ, refl, ap, eq-eqb, Span, row_in, one_if, is_row_of}
 
 -- ---- the level is written
 

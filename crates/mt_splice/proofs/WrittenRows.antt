@@ -1,22 +1,6 @@
 -- What stands in a row that was written: its items, and the words that they make.
-use Rattle.std.proofs.Common.{◌≡◌, ℕ, zero, suc, ◌+◌, ◌*◌, ◌<◌, ◌≤◌, List, [], ◌∷◌, ◌++◌, Option, Some, length, map, take, ◌-◌, refl, sym, ap, ◌∙◌, subst, arith, zero-add}
-use Rattle.std.specs.Prelude.{slice_index}
-use Rattle.mt_base.specs.Width.{columns}
-use Rattle.mt_layout.specs.declared.items.Item.{Item}
-use Rattle.mt_layout.specs.declared.spans.Span.{Span}
-use Rattle.mt_layout.specs.declared.names.RowKind.{RowKind}
-use Rattle.mt_layout.specs.Rows.{name_at, named_kind, row_in}
-use Rattle.mt_layout.specs.Columns.{FitRow, NoGaps, RiseFrom, end_of, padded_to, row_words, items_at}
-use Rattle.mt_layout.specs.Sizes.{slots_of, gaps_of}
-use Rattle.mt_layout.specs.Spans.{spans_from}
-use Rattle.mt_layout.proofs.Gapless.{no_gaps-cons}
-use Rattle.mt_layout.proofs.NameLaws.{named_kind-name_at, row_in-name_at}
-use Rattle.mt_layout.proofs.OwnColumns.{same_items}
-use Rattle.mt_layout.proofs.ReadBack.{Holds, reads_back, row_words-hold}
-use Rattle.mt_layout.proofs.RowSizes.{layout_of, some_columns}
-use Rattle.mt_rows.specs.Spans.{Table, column, spans_by, spans_in}
-use Rattle.mt_rows.specs.Laws.{items_in, words_in}
-use Rattle.mt_splice.specs.steps.Writes.{IsNewRow, no_parent, new_words}
+use Rattle.mt_splice.proofs.Prelude.{◌≡◌, ℕ, zero, suc, ◌+◌, ◌*◌, ◌<◌, ◌≤◌, List, [], ◌∷◌, ◌++◌, Option, Some, length, map, take, ◌-◌, refl, sym, ap, ◌∙◌, subst, arith, zero-add, slice_index, columns, Item, Span, RowKind, name_at, named_kind, row_in, FitRow, NoGaps, RiseFrom, end_of, padded_to, row_words, items_at, slots_of, gaps_of, spans_from, no_gaps-cons, named_kind-name_at, row_in-name_at, same_items, reads_back, row_words-hold, layout_of, some_columns, Table, column, spans_by, spans_in, items_in, words_in, IsNewRow, no_parent, new_words}
+use Rattle.mt_layout.proofs.ReadBack.{Holds}
 
 -- ---- items as a row holds them that has so many columns of gaps
 

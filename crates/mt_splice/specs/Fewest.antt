@@ -2,18 +2,7 @@
 -- Source: this project's own; the kernel's mab_calc_split cuts a big node's items into two nodes, or three.
 use Rattle.std.specs.Prelude.{◌≡◌, ◌≢◌, ℕ, zero, suc, Bool, true, false, List, [], ◌++◌, length}
 use Rattle.std.specs.List.{AllByRecursion}
-use Rattle.mt_base.specs.declared.widths.Width.{Width}
-use Rattle.mt_layout.specs.declared.items.Item.{Item}
-use Rattle.mt_layout.specs.declared.names.RowKind.{RowKind}
-use Rattle.mt_layout.specs.declared.names.RowKind.TheVariants.{Leaf}
-use Rattle.mt_layout.specs.declared.spans.Span.{Span}
-use Rattle.mt_layout.specs.Rows.{row_in}
-use Rattle.mt_layout.specs.Sizes.{slots_of, least_items}
-use Rattle.mt_layout.specs.Spans.{spans_from}
-use Rattle.mt_rows.specs.Spans.{Table}
-use Rattle.mt_rows.specs.Levels.{expand}
-use Rattle.mt_rows.specs.Laws.{kind_on}
-use Rattle.mt_leaf.specs.Cuts.{IsCut}
+use Rattle.mt_splice.specs.Prelude.{Width, Item, RowKind, Leaf, Span, row_in, slots_of, least_items, spans_from, Table, expand, kind_on, IsCut}
 
 -- the items are cut into the fewest rows of a kind at these places
 pub record IsCutOf (width : Width) (kind : RowKind) (items : List Item) (ends : List ℕ) : Type 0 where

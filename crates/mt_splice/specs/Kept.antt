@@ -1,13 +1,7 @@
 -- A tree whose words, rows and book agree, and a call in flight on it.
 -- Source: this project's own; the kernel's writers hold the tree's lock, and free nodes after a grace period.
 use Rattle.std.specs.Prelude.{◌≡◌, ◌+◌, ◌<◌, ◌≤◌, ℕ, Bool, true, false, List, All}
-use Rattle.mt_base.specs.declared.kinds.Kind.{Kind}
-use Rattle.mt_base.specs.Width.{first_row}
-use Rattle.mt_free.specs.Book.{Book, Held, IsBook, IsOut}
-use Rattle.mt_rows.specs.declared.rows.Life.{Life}
-use Rattle.mt_rows.specs.declared.rows.Life.TheVariants.{New, Draft, Live, Dead}
-use Rattle.mt_rows.specs.Sheet.{Rooted, life_of}
-use Rattle.mt_rows.specs.Publish.{IsLawfulOf, IsReached, LiveAreReached, NoneBuried}
+use Rattle.mt_splice.specs.Prelude.{Kind, first_row, Book, Held, IsBook, IsOut, Life, New, Draft, Live, Dead, Rooted, life_of, IsLawfulOf, IsReached, LiveAreReached, NoneBuried}
 
 -- a row that no reader can hold: it was never used, or its death is cleared
 abbrev pub IsUnheld : ℕ → Life → Type 0

@@ -2,34 +2,7 @@
 -- Source: the kernel's lib/maple_tree.c, mas_wr_spanning_store, mas_split and mas_rebalance; that every such store is
 -- published by one store of one word is this project's.
 use Rattle.std.specs.Prelude.{◌≡◌, ◌≢◌, ◌⊎◌, ℕ, ◌+◌, ◌*◌, ◌<◌, ◌≤◌, ◌==◌, Bool, true, false, List, [], ◌∷◌, ◌++◌, All, Contains, length, map, if◌then◌else◌}
-use Rattle.mt_base.specs.declared.kinds.Kind.{Kind}
-use Rattle.mt_base.specs.declared.ranges.Range.{Range}
-use Rattle.mt_base.specs.declared.calls.Call.{Call}
-use Rattle.mt_base.specs.declared.replies.Reply.{Reply}
-use Rattle.mt_base.specs.Entry.{reserved}
-use Rattle.mt_base.specs.Map.{over}
-use Rattle.mt_base.specs.Call.{acted, finds_room}
-use Rattle.mt_base.specs.Width.{columns, greatest, first_row}
-use Rattle.mt_layout.specs.declared.items.Item.{Item}
-use Rattle.mt_layout.specs.declared.spans.Span.{Span}
-use Rattle.mt_layout.specs.Rows.{row_in, dead_mark}
-use Rattle.mt_layout.specs.Spans.{spans_from}
-use Rattle.mt_free.specs.Book.{Book}
-use Rattle.mt_rows.specs.declared.rows.Life.TheVariants.{Live, Dead}
-use Rattle.mt_rows.specs.declared.rows.Place.{Place}
-use Rattle.mt_rows.specs.declared.rows.Place.TheVariants.{Root, Slot}
-use Rattle.mt_rows.specs.Spans.{Table, column}
-use Rattle.mt_rows.specs.Gaps.{HasGapsBut}
-use Rattle.mt_rows.specs.Levels.{Levels}
-use Rattle.mt_rows.specs.Trees.{height_in}
-use Rattle.mt_rows.specs.Laws.{Tree, Stands, ParentLaw, longest_below}
-use Rattle.mt_rows.specs.Sheet.{Rooted, Sheet, life_of, word_at}
-use Rattle.mt_rows.specs.Publish.{tree_as, IsToldKind, IsTreeOf, StandsAt, map_by, is_reached, IsReached, LiveAreReached, NoneBuried, with_record}
-use Rattle.mt_rows.specs.Replacement.{root_of}
-use Rattle.mt_leaf.specs.Edits.{edited, starting}
-use Rattle.mt_path.specs.declared.paths.PathStep.{PathStep}
-use Rattle.mt_path.specs.Paths.{path_in}
-use Rattle.mt_path.specs.Handles.{last_step, leaf_spans}
+use Rattle.mt_splice.specs.Prelude.{Kind, Range, Call, Reply, reserved, over, acted, finds_room, columns, greatest, first_row, Item, Span, row_in, dead_mark, spans_from, Book, Live, Dead, Place, Root, Slot, Table, column, HasGapsBut, Levels, height_in, Tree, Stands, ParentLaw, longest_below, Rooted, Sheet, life_of, word_at, tree_as, IsToldKind, IsTreeOf, StandsAt, map_by, is_reached, IsReached, LiveAreReached, NoneBuried, with_record, root_of, edited, starting, PathStep, path_in, last_step, leaf_spans}
 use Rattle.mt_splice.specs.Fewest.{FewestBelow}
 use Rattle.mt_splice.specs.Kept.{IsBookOf, IsConsistent, IsUnpublished}
 

@@ -1,15 +1,7 @@
 -- Answers stand at the front of a text in one way.
-use Rattle.std.proofs.Common.{◌≡◌, ◌≢◌, ℕ, true, List, ◌∷◌, ◌++◌, Option, Some, None, get_or, append_assoc, codes, refl, sym, ap, ◌∙◌, arith}
-use Rattle.std.specs.Fmt.{decimal}
-use Rattle.mt_base.specs.declared.ranges.Range.{Range}
-use Rattle.mt_base.specs.declared.calls.Query.{Query}
-use Rattle.mt_base.specs.declared.calls.Query.TheVariants.{Load, Find, Next, Prev, Rfind}
-use Rattle.mt_log.specs.declared.transcripts.Answer.{Answer}
+use Rattle.mt_told.proofs.Prelude.{◌≡◌, ◌≢◌, ℕ, true, List, ◌∷◌, ◌++◌, Option, Some, None, get_or, append_assoc, codes, refl, sym, ap, ◌∙◌, arith, decimal, Range, Query, Load, Find, Next, Prev, Rfind, Answer, shown, shown_range, IsAnswerBefore, IsEntryBefore, IsFoundBefore, answer_line, entry_line, tells_entry, IsNumberBefore, IsSmallRange}
 use Rattle.mt_log.specs.declared.transcripts.Answer.TheVariants as answers
-use Rattle.mt_log.specs.Run.{shown, shown_range}
-use Rattle.mt_told.specs.Answers.{IsAnswerBefore, IsEntryBefore, IsFoundBefore, answer_line, entry_line, range_line, tells_entry}
-use Rattle.mt_told.specs.Fronts.{IsNumberBefore}
-use Rattle.mt_told.specs.Telling.{IsSmallRange}
+use Rattle.mt_told.specs.Answers.{range_line}
 
 -- ---- the texts, grouped to the right
 

@@ -1,18 +1,6 @@
 -- Where what is read ends, it shows that the text is no listing.
-use Rattle.std.proofs.Common.{◌≡◌, ◌≢◌, ℕ, zero, suc, ◌+◌, ◌-◌, ◌≤◌, ◌<◌, ◌^◌, true, List, [], ◌∷◌, ◌++◌, codes, length, take, drop, append_assoc, refl, sym, ap, ◌∙◌, subst, inl, inr, arith, replicate, take-append-drop}
-use Rattle.std.specs.Prelude.{◌==◌}
-use Rattle.std.specs.List.{flat_map}
-use Rattle.std.proofs.lemmas.Bool.{eqb-true, ltb-true}
-use Rattle.std.proofs.lemmas.Grind.{flat_map-append}
-use Rattle.std.proofs.lemmas.List.{append-nil, length-append, length-replicate}
+use Rattle.mt_told.proofs.Prelude.{◌≡◌, ◌≢◌, ℕ, zero, suc, ◌+◌, ◌-◌, ◌≤◌, ◌<◌, ◌^◌, true, List, [], ◌∷◌, ◌++◌, codes, length, take, drop, append_assoc, refl, sym, ap, ◌∙◌, subst, inl, inr, arith, replicate, take-append-drop, ◌==◌, flat_map, eqb-true, ltb-true, flat_map-append, append-nil, length-append, length-replicate, Range, range_text, Listing, listing_text, range_line, AreRangesBefore, BeginsWithNoHead, BeginsWithNoRange, IsHead, IsHeadBefore, HasNoByte, head_text, AreSmall, BeginsListing, IsBadAt, IsInForm, IsListing, ended_lines, first_lines, Head}
 use Rattle.mt_base.specs.declared.kinds.Kind.TheVariants as kinds
-use Rattle.mt_base.specs.declared.ranges.Range.{Range}
-use Rattle.mt_base.specs.Text.{range_text}
-use Rattle.mt_log.specs.declared.transcripts.Listing.{Listing}
-use Rattle.mt_log.specs.Text.{listing_text, range_line}
-use Rattle.mt_told.specs.ListingFronts.{AreRangesBefore, BeginsWithNoHead, BeginsWithNoRange, IsHead, IsHeadBefore, HasNoByte, head_text}
-use Rattle.mt_told.specs.Listings.{AreSmall, BeginsListing, IsBadAt, IsInForm, IsListing, ended_lines, first_lines}
-use Rattle.mt_told.specs.declared.heads.Head.{Head}
 use Rattle.mt_told.proofs.FirstLines.{head_in_line, head_is_line, head_words, heads_apart}
 use Rattle.mt_told.proofs.Lines.{HasLine, ended_behind, ended_of_ranges, few_of_ranges, first_line, first_of_piece, firsts_behind, firsts_of_ranges, none_ended}
 use Rattle.mt_told.proofs.RangeLines.{range_in_line, ranges_apart}

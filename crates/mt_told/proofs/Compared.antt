@@ -1,11 +1,5 @@
 -- Lines of a listing, one behind the other, stand at the front of a text in one way.
-use Rattle.std.proofs.Common.{◌≡◌, ℕ, ◌+◌, ◌<◌, List, ◌∷◌, ◌++◌, Option, Some, None, IfNone, length, get_or, drop, append_assoc, sym, ap, ◌∙◌}
-use Rattle.std.specs.List.{flat_map}
-use Rattle.std.proofs.lemmas.List.{append_cancel_left, drop_more}
-use Rattle.mt_base.specs.declared.ranges.Range.{Range}
-use Rattle.mt_log.specs.declared.transcripts.Listing.{Listing}
-use Rattle.mt_log.specs.Text.{listing_text, range_line}
-use Rattle.mt_told.specs.Comparing.{head_line}
+use Rattle.mt_told.proofs.Prelude.{◌≡◌, ℕ, ◌+◌, ◌<◌, List, ◌∷◌, ◌++◌, Option, Some, None, IfNone, length, get_or, drop, append_assoc, sym, ap, ◌∙◌, flat_map, append_cancel_left, drop_more, Range, Listing, listing_text, range_line, head_line}
 
 -- ---- ranges
 

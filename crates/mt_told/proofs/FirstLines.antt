@@ -1,16 +1,6 @@
 -- First lines stand at the front of a text in one way.
-use Rattle.std.proofs.Common.{◌≡◌, ◌≢◌, ℕ, ◌<◌, ◌^◌, true, List, [], ◌∷◌, ◌++◌, append_assoc, codes, refl, sym, ap, ◌∙◌, arith}
-use Rattle.std.specs.Fmt.{decimal}
-use Rattle.std.proofs.lemmas.List.{append_cancel_left}
-use Rattle.mt_base.specs.declared.kinds.Kind.{Kind}
-use Rattle.mt_base.specs.Text.{kind_text}
-use Rattle.mt_log.specs.Name.{is_name}
-use Rattle.mt_log.proofs.PrintedLines.{number_is_field}
-use Rattle.mt_told.specs.Fronts.{IsNumberBefore}
-use Rattle.mt_told.specs.Comparing.{head_line}
+use Rattle.mt_told.proofs.Prelude.{◌≡◌, ◌≢◌, ℕ, ◌<◌, ◌^◌, true, List, [], ◌∷◌, ◌++◌, append_assoc, codes, refl, sym, ap, ◌∙◌, arith, decimal, append_cancel_left, Kind, kind_text, is_name, number_is_field, IsNumberBefore, head_line, BeginsWithNoHead, IsHead, IsHeadBefore, IsKindBefore, IsNameBefore, HasNoByte, head_text, Head}
 use Rattle.mt_told.proofs.OneWay.{numbers_apart}
-use Rattle.mt_told.specs.ListingFronts.{BeginsWithNoHead, IsHead, IsHeadBefore, IsKindBefore, IsNameBefore, HasNoByte, head_text}
-use Rattle.mt_told.specs.declared.heads.Head.{Head}
 use Rattle.mt_told.proofs.Words.{kind_lacks, kinds_apart, lacked, lacked_by_both, name_lacks, names_apart}
 
 abbrev tree : List ℕ

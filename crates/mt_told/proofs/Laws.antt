@@ -1,15 +1,5 @@
 -- A text is one listing, and shows at one line that it is none.
-use Rattle.std.proofs.Common.{◌≡◌, ℕ, ◌<◌, ◌≤◌, List, [], ◌∷◌, length, sym, ap, ◌∙◌, inl, inr, arith}
-use Rattle.std.specs.List.{flat_map}
-use Rattle.std.proofs.lemmas.Bool.{cases_lt}
-use Rattle.std.proofs.lemmas.List.{length-append}
-use Rattle.mt_base.specs.declared.kinds.Kind.{Kind}
-use Rattle.mt_base.specs.declared.ranges.Range.{Range}
-use Rattle.mt_log.specs.declared.transcripts.Listing.{Listing}
-use Rattle.mt_base.specs.Text.{range_text}
-use Rattle.mt_log.specs.Text.{listing_text, range_line}
-use Rattle.mt_told.specs.ListingFronts.{head_text}
-use Rattle.mt_told.specs.Listings.{AreSmall, BeginsListing, IsBadAt, IsInForm}
+use Rattle.mt_told.proofs.Prelude.{◌≡◌, ℕ, ◌<◌, ◌≤◌, List, [], ◌∷◌, length, sym, ap, ◌∙◌, inl, inr, arith, flat_map, cases_lt, length-append, Kind, Range, Listing, range_text, listing_text, range_line, head_text, AreSmall, BeginsListing, IsBadAt, IsInForm}
 use Rattle.mt_told.proofs.Bad.{head_good, head_of, whole}
 use Rattle.mt_told.proofs.FirstLines.{heads_apart}
 use Rattle.mt_told.proofs.RangeLines.{filled, one_range, ranges_apart}

@@ -13,3 +13,4 @@ pub mod Spelled
 pub mod Stepped
 pub mod Versions
 pub mod Words
+mod Prelude

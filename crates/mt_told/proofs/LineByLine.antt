@@ -1,30 +1,8 @@
 -- What a text tells, line of the log by line.
-use Rattle.std.proofs.Common.{◌≡◌, ℕ, ◌+◌, ◌<◌, ◌≤◌, Bool, true, false, cond, List, [], ◌∷◌, ◌++◌, length, length-append, get_or, drop, append_assoc, map, refl, sym, ap, ◌∙◌, subst, inl, inr, arith, ◌-◌}
-use Rattle.std.proofs.lemmas.Bool.{cases_lt}
-use Rattle.std.specs.Prelude.{All, AllPairs}
-use Rattle.std.specs.List.{flat_map}
-use Rattle.std.specs.Option.{option_to_list}
-use Rattle.std.proofs.lemmas.List.{append-nil, drop_all, drop_more, get_or_append_left, get_or-append-add, get_or-append_right, length-map}
-use Rattle.std.proofs.lemmas.List.Elements.{All-append, All-cons, All-get_or, All-nil, All-weaker}
-use Rattle.std.proofs.lemmas.Option.{slice_get_cases}
-use Rattle.mt_base.specs.declared.calls.Call.{Call}
-use Rattle.mt_base.specs.declared.calls.Query.{Query}
-use Rattle.mt_log.specs.declared.lines.Item.{Item}
-use Rattle.mt_log.specs.declared.lines.Item.TheVariants.{Tree, Lane, Join, Dup, Check, Write, Ask, Scan}
-use Rattle.mt_log.specs.declared.lines.Line.{Line}
-use Rattle.mt_log.specs.declared.lines.Log.{Log}
+use Rattle.mt_told.proofs.Prelude.{◌≡◌, ℕ, ◌+◌, ◌<◌, ◌≤◌, Bool, true, false, cond, List, [], ◌∷◌, ◌++◌, length, length-append, get_or, drop, append_assoc, map, refl, sym, ap, ◌∙◌, subst, inl, inr, arith, ◌-◌, cases_lt, All, AllPairs, flat_map, option_to_list, append-nil, drop_all, drop_more, get_or_append_left, get_or-append-add, get_or-append_right, length-map, All-append, All-cons, All-get_or, All-nil, All-weaker, slice_get_cases, Call, Query, Item, Tree, Lane, Join, Dup, Check, Write, Ask, Scan, Line, Log, phase_after, AreDone, Asked, Called, Counted, IsDone, Looked, Outcome, Step, asked_from, is_answered, lane_after, lane_of, step_of, steps_of, AreNamedFrom, CopyOf, Declared, IsReadable, NamesBelow, count_after, declared_by, most_lanes, renamed, trees_from, trees_of, IsLaneLineDone, IsPlacedBy, IsScanAt, AddsTold, AllFit, IsOutcomeOf, IsStepAt, IsToldAt, TellsDone, TellsNotDone, steps_text, AreSpelled, FitsLine, HasForm, IsToldBy, Spelling, TellsNone, told_text, LinePlace, Told}
 use Rattle.mt_log.specs.declared.transcripts.Said.TheVariants as said
-use Rattle.mt_log.specs.Phases.{phase_after}
-use Rattle.mt_log.specs.Run.{AreDone, Asked, Called, Counted, IsDone, Looked, Outcome, Step, asked_from, is_answered, lane_after, lane_of, step_of, steps_of}
-use Rattle.mt_log.specs.Trees.{AreNamedFrom, CopyOf, Declared, IsReadable, NamesBelow, count_after, declared_by, most_lanes, renamed, trees_from, trees_of}
 use Rattle.mt_told.proofs.Stepped.{nothing_told, steps_text-append, told_text-append}
-use Rattle.mt_told.specs.Along.{IsLaneLineDone, IsPlacedBy}
-use Rattle.mt_told.specs.Scans.{IsScanAt}
-use Rattle.mt_told.specs.Steps.{AddsTold, AllFit, IsOutcomeOf, IsStepAt, IsToldAt, TellsDone, TellsNotDone, steps_text}
-use Rattle.mt_told.specs.Telling.{AreSpelled, FitsLine, HasForm, IsToldBy, Spelling, TellsNone, told_text}
 use Rattle.mt_told.specs.declared.steps.Deed.TheVariants as deeds
-use Rattle.mt_told.specs.declared.steps.LinePlace.{LinePlace}
-use Rattle.mt_told.specs.declared.told.Told.{Told}
 
 -- ---- steps that are done so, and so
 

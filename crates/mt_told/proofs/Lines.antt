@@ -1,13 +1,5 @@
 -- The first lines of a text, and how many of its lines are ended.
-use Rattle.std.proofs.Common.{◌≡◌, ◌≢◌, ◌⊎◌, ℕ, zero, suc, ◌+◌, ◌≤◌, true, false, List, [], ◌∷◌, ◌++◌, length, take, append_assoc, refl, sym, ap, ◌∙◌, inl, inr, arith}
-use Rattle.std.specs.Prelude.{◌==◌}
-use Rattle.std.specs.List.{flat_map}
-use Rattle.std.proofs.lemmas.Bool.{cases_Bool, eqb-true}
-use Rattle.mt_base.specs.declared.ranges.Range.{Range}
-use Rattle.mt_base.specs.Text.{range_text}
-use Rattle.mt_log.specs.Text.{range_line}
-use Rattle.mt_told.specs.ListingFronts.{HasNoByte}
-use Rattle.mt_told.specs.Listings.{AreSmall, ended_lines, first_lines}
+use Rattle.mt_told.proofs.Prelude.{◌≡◌, ◌≢◌, ◌⊎◌, ℕ, zero, suc, ◌+◌, ◌≤◌, true, false, List, [], ◌∷◌, ◌++◌, length, take, append_assoc, refl, sym, ap, ◌∙◌, inl, inr, arith, ◌==◌, flat_map, cases_Bool, eqb-true, Range, range_text, range_line, HasNoByte, AreSmall, ended_lines, first_lines}
 use Rattle.mt_told.proofs.RangeLines.{range_in_line}
 
 -- ---- one line

@@ -1,18 +1,5 @@
 -- What stands at the front of a text stands there in one way.
-use Rattle.std.proofs.Common.{◌≡◌, ◌≢◌, ℕ, suc, ◌+◌, ◌-◌, ◌<◌, ◌^◌, Bool, true, false, List, [], ◌∷◌, ◌++◌, Some, None, length, get_or, take, drop, refl, sym, ap, ◌∙◌, inl, inr, arith}
-use Rattle.std.specs.Prelude.{◌==◌, position}
-use Rattle.std.specs.Char.{is_ascii_digit}
-use Rattle.std.specs.Fmt.{decimal}
-use Rattle.std.specs.List.{position_or_len, prefix_len}
-use Rattle.std.specs.Str.{bytes_eq}
-use Rattle.std.proofs.lemmas.Bool.{cases_lt, eqb-true, lt-ltb}
-use Rattle.std.proofs.lemmas.Fmt.{decimal_injective}
-use Rattle.std.proofs.lemmas.List.{drop_at, drop_more, get_or-take, get_or_at, length-append, length-take, take_at, take-append-drop, take_rest}
-use Rattle.std.proofs.lemmas.List.Quantifiers.{position-Some}
-use Rattle.std.proofs.lemmas.List.Sums.{fails_before_first}
-use Rattle.std.proofs.lemmas.Slice.Eq.{bytes_eq-Decides}
-use Rattle.mt_told.specs.Fronts.{IsInLine, IsLineBefore, IsNumberBefore}
-use Rattle.mt_told.specs.Numbers.{EndsNumber}
+use Rattle.mt_told.proofs.Prelude.{◌≡◌, ◌≢◌, ℕ, suc, ◌+◌, ◌-◌, ◌<◌, ◌^◌, Bool, true, false, List, [], ◌∷◌, ◌++◌, Some, None, length, get_or, take, drop, refl, sym, ap, ◌∙◌, inl, inr, arith, ◌==◌, position, is_ascii_digit, decimal, position_or_len, prefix_len, bytes_eq, cases_lt, eqb-true, lt-ltb, decimal_injective, drop_at, drop_more, get_or-take, get_or_at, length-append, length-take, take_at, take-append-drop, take_rest, position-Some, fails_before_first, bytes_eq-Decides, IsInLine, IsLineBefore, IsNumberBefore, EndsNumber}
 use Rattle.mt_told.proofs.Spelled.{digits_up_to, number_told}
 
 cong_cons : (a b : ℕ) (xs ys : List ℕ) → a ≡ b → xs ≡ ys → a ∷ xs ≡ b ∷ ys

@@ -1,21 +1,7 @@
 -- What came of a deed stands at the front of a text in one way.
-use Rattle.std.proofs.Common.{◌≡◌, ◌≢◌, ℕ, zero, suc, ◌/◌, ◌%◌, ◌<◌, ◌≤◌, Bool, true, false, cond, List, [], ◌∷◌, ◌++◌, Bor, length, length-append, append_assoc, codes, sym, ap, ◌∙◌, arith, rules}
-use Rattle.std.specs.Prelude.{◌==◌}
-use Rattle.std.specs.Fmt.{decimal, digit_glyph, digits, digits_onto}
-use Rattle.std.proofs.lemmas.Bool.Decides.{nat_tests}
-use Rattle.mt_base.specs.declared.calls.Call.{Call}
-use Rattle.mt_base.specs.declared.ranges.Range.{Range}
-use Rattle.mt_base.specs.declared.replies.Reply.{Reply}
+use Rattle.mt_told.proofs.Prelude.{◌≡◌, ◌≢◌, ℕ, zero, suc, ◌/◌, ◌%◌, ◌<◌, ◌≤◌, Bool, true, false, cond, List, [], ◌∷◌, ◌++◌, Bor, length, length-append, append_assoc, codes, sym, ap, ◌∙◌, arith, rules, ◌==◌, decimal, digit_glyph, digits, digits_onto, nat_tests, Call, Range, Reply, range_text, Said, Outcome, Called, Looked, Counted, reply_text, IsInLine, IsLineBefore, IsNumberBefore, IsOutcomeOf, TellsOf, outcome_text, FitsLine, IsSpelledOf, Spelling, spelled, Wrote, Copied, Lawful}
 use Rattle.mt_base.specs.declared.replies.Reply.TheVariants as replies
-use Rattle.mt_base.specs.Text.{range_text}
-use Rattle.mt_log.specs.declared.transcripts.Said.{Said}
-use Rattle.mt_log.specs.Run.{Outcome, Called, Looked, Counted}
-use Rattle.mt_log.specs.Text.{reply_text}
-use Rattle.mt_told.specs.Fronts.{IsInLine, IsLineBefore, IsNumberBefore}
-use Rattle.mt_told.specs.Steps.{IsOutcomeOf, TellsOf, outcome_text}
-use Rattle.mt_told.specs.Telling.{FitsLine, IsSpelledOf, Spelling, spelled}
 use Rattle.mt_told.specs.declared.steps.Deed.TheVariants as deeds
-use Rattle.mt_told.specs.declared.told.What.TheVariants.{Wrote, Copied, Lawful}
 
 -- ---- no reply ends a line
 

@@ -1,17 +1,6 @@
 -- Lines of ranges stand at the front of a text in one way.
-use Rattle.std.proofs.Common.{◌≡◌, ℕ, ◌<◌, ◌^◌, List, [], ◌∷◌, ◌++◌, Some, append_assoc, arith, length, refl, sym, ap, ◌∙◌}
-use Rattle.std.specs.Fmt.{decimal}
-use Rattle.std.specs.List.{flat_map}
-use Rattle.std.proofs.lemmas.Grind.{flat_map-append}
-use Rattle.std.proofs.lemmas.List.{length-append}
-use Rattle.mt_base.specs.declared.ranges.Range.{Range}
-use Rattle.mt_base.specs.Text.{range_text}
-use Rattle.mt_log.specs.Text.{range_line}
-use Rattle.mt_told.specs.Fronts.{IsNumberBefore}
-use Rattle.mt_told.specs.Telling.{IsSmallRange}
+use Rattle.mt_told.proofs.Prelude.{◌≡◌, ℕ, ◌<◌, ◌^◌, List, [], ◌∷◌, ◌++◌, Some, append_assoc, arith, length, refl, sym, ap, ◌∙◌, decimal, flat_map, flat_map-append, length-append, Range, range_text, range_line, IsNumberBefore, IsSmallRange, AreRangesBefore, BeginsWithNoRange, IsRangeLineBefore, HasNoByte, AreSmall}
 use Rattle.mt_told.proofs.OneWay.{numbers_apart}
-use Rattle.mt_told.specs.ListingFronts.{AreRangesBefore, BeginsWithNoRange, IsRangeLineBefore, HasNoByte}
-use Rattle.mt_told.specs.Listings.{AreSmall}
 use Rattle.mt_told.proofs.FirstLines.{number_lacks, space}
 use Rattle.mt_told.proofs.Words.{lacked_by_both}
 

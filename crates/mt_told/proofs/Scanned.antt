@@ -1,22 +1,7 @@
 -- The lines of a scan, from its steps: the text tells how many there are.
-use Rattle.std.proofs.Common.{◌≡◌, ℕ, zero, suc, ◌+◌, ◌<◌, ◌≤◌, List, [], ◌∷◌, ◌++◌, Option, Some, None, get_or, append_assoc, refl, sym, ap, ◌∙◌, subst, arith}
-use Rattle.std.specs.Prelude.{All}
-use Rattle.std.specs.List.{flat_map}
-use Rattle.std.proofs.lemmas.List.{append-nil}
-use Rattle.std.proofs.lemmas.List.Elements.{All-head, All-nil, All-push, All-tail}
-use Rattle.mt_base.specs.declared.ranges.Range.{Range}
+use Rattle.mt_told.proofs.Prelude.{◌≡◌, ℕ, zero, suc, ◌+◌, ◌<◌, ◌≤◌, List, [], ◌∷◌, ◌++◌, Option, Some, None, get_or, append_assoc, refl, sym, ap, ◌∙◌, subst, arith, All, flat_map, append-nil, All-head, All-nil, All-push, All-tail, Range, ScanGoesOnFrom, Outcome, Called, Looked, Counted, Step, find_at, place_behind, place_within, shown, IsScanAt, IsScanFrom, range_told, AddsTold, AllFit, IsOutcomeOf, IsStepAt, IsToldAt, TellsDone, TellsNotDone, TellsStepAt, step_at_place, steps_text, AreSpelled, FitsLine, IsSpelled, IsSpelledOf, Spelling, told_text, Stretch, Look, LinePlace, Told, What, Wrote, Got, Copied, Lawful}
 use Rattle.mt_log.specs.declared.transcripts.Answer.TheVariants as answers
-use Rattle.mt_log.specs.Run.{ScanGoesOnFrom, Outcome, Called, Looked, Counted, Step, find_at, place_behind, place_within, shown}
 use Rattle.mt_told.proofs.Stepped.{nothing_told, steps_text-append, told_text-append}
-use Rattle.mt_told.specs.Scans.{IsScanAt, IsScanFrom, range_told}
-use Rattle.mt_told.specs.Steps.{AddsTold, AllFit, IsOutcomeOf, IsStepAt, IsToldAt, TellsDone, TellsNotDone, TellsStepAt, step_at_place, steps_text}
-use Rattle.mt_told.specs.Telling.{AreSpelled, FitsLine, IsSpelled, IsSpelledOf, Spelling, told_text}
-use Rattle.mt_told.specs.declared.scans.Stretch.{Stretch}
-use Rattle.mt_told.specs.declared.steps.Deed.TheVariants.{Look}
-use Rattle.mt_told.specs.declared.steps.LinePlace.{LinePlace}
-use Rattle.mt_told.specs.declared.told.Told.{Told}
-use Rattle.mt_told.specs.declared.told.What.{What}
-use Rattle.mt_told.specs.declared.told.What.TheVariants.{Wrote, Got, Copied, Lawful}
 
 -- ---- what a find of a scan was told
 

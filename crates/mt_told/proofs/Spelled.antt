@@ -1,17 +1,5 @@
 -- A number in print in front of a text is the digits there.
-use Rattle.std.proofs.Common.{◌≡◌, ℕ, zero, suc, ◌+◌, ◌<◌, ◌^◌, true, List, [], ◌∷◌, ◌++◌, length, get_or, take, drop, refl, sym, ap, ◌∙◌, subst, inl, inr, arith}
-use Rattle.std.specs.Prelude.{take_while}
-use Rattle.std.specs.List.{prefix_len}
-use Rattle.std.specs.Char.{digit_value, is_ascii_digit}
-use Rattle.std.specs.Fmt.{decimal}
-use Rattle.std.specs.Str.Parse.{AllDigits, digits_value}
-use Rattle.std.proofs.lemmas.Bool.{cases_Bool, lt-ltb, ltb-true}
-use Rattle.std.proofs.lemmas.Fmt.{decimal_is_IsNumeral, decimal_nonempty, first_decimal, decimal_digit, decimal-digits_value}
-use Rattle.std.proofs.lemmas.List.{take_at}
-use Rattle.std.proofs.lemmas.List.Folds.{length-prefix_len}
-use Rattle.std.proofs.lemmas.Str.Parse.{IsNumeralModel, numerals_by_value, tells_digits}
-use Rattle.mt_told.specs.Numbers.{EndsNumber}
-use Rattle.mt_log.proofs.Digits.{tells_decimal}
+use Rattle.mt_told.proofs.Prelude.{◌≡◌, ℕ, zero, suc, ◌+◌, ◌<◌, ◌^◌, true, List, [], ◌∷◌, ◌++◌, length, get_or, take, drop, refl, sym, ap, ◌∙◌, subst, inl, inr, arith, take_while, prefix_len, digit_value, is_ascii_digit, decimal, AllDigits, digits_value, cases_Bool, lt-ltb, ltb-true, decimal_is_IsNumeral, decimal_nonempty, first_decimal, decimal_digit, decimal-digits_value, take_at, length-prefix_len, IsNumeralModel, numerals_by_value, tells_digits, EndsNumber, tells_decimal}
 
 own : IsNumeralModel (AllDigits 10) (digits_value 10)
 own = numerals_by_value (AllDigits 10) tells_digits

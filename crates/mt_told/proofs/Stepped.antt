@@ -1,15 +1,5 @@
 -- A step's line stands at the front of a text in one way.
-use Rattle.std.proofs.Common.{◌≡◌, ℕ, List, [], ◌∷◌, ◌++◌, length, length-append, append_assoc, refl, sym, ap, ◌∙◌, subst, arith}
-use Rattle.std.specs.List.{flat_map}
-use Rattle.std.specs.Fmt.{decimal}
-use Rattle.std.proofs.lemmas.List.{append-nil, append_cancel_left}
-use Rattle.mt_log.specs.Run.{Outcome, Step, entry_of}
-use Rattle.mt_told.specs.Steps.{AllFit, IsStepAt, TellsDone, TellsNotDone, TellsNothingOf, TellsOf, TellsStepAt, outcome_text, step_at_place, steps_text, told_at}
-use Rattle.mt_told.specs.Telling.{AreSpelled, FitsLine, HasForm, IsSpelled, Spelling, spelled_line, told_text, what_text}
-use Rattle.mt_told.specs.declared.steps.Deed.{Deed}
-use Rattle.mt_told.specs.declared.steps.LinePlace.{LinePlace}
-use Rattle.mt_told.specs.declared.told.Told.{Told}
-use Rattle.mt_told.specs.declared.told.What.{What}
+use Rattle.mt_told.proofs.Prelude.{◌≡◌, ℕ, List, [], ◌∷◌, ◌++◌, length, length-append, append_assoc, refl, sym, ap, ◌∙◌, subst, arith, flat_map, decimal, append-nil, append_cancel_left, Outcome, Step, entry_of, AllFit, IsStepAt, TellsDone, TellsNotDone, TellsNothingOf, TellsOf, TellsStepAt, outcome_text, step_at_place, steps_text, told_at, AreSpelled, FitsLine, HasForm, IsSpelled, Spelling, spelled_line, told_text, what_text, Deed, LinePlace, Told, What}
 
 pub steps_text-append : (sp : Spelling) (first second : List Step) (after : List ℕ) → steps_text sp (first ++ second) ++ after ≡ steps_text sp first ++ (steps_text sp second ++ after)
 steps_text-append sp [] second after = refl

@@ -1,18 +1,7 @@
 -- What a text tells of a log, as the log's version writes it.
-use Rattle.std.proofs.Common.{◌≡◌, ℕ, List, [], ◌∷◌, ◌++◌, length, map, refl, sym, ap, ◌∙◌}
-use Rattle.std.specs.Prelude.{All}
-use Rattle.std.specs.List.{flat_map}
-use Rattle.std.specs.Fmt.{decimal}
-use Rattle.std.proofs.lemmas.List.Elements.{All-weaker}
-use Rattle.mt_log.specs.declared.lines.Log.{Log}
-use Rattle.mt_log.specs.declared.transcripts.Entry.{Entry}
-use Rattle.mt_log.specs.declared.transcripts.Said.{Said}
+use Rattle.mt_told.proofs.Prelude.{◌≡◌, ℕ, List, [], ◌∷◌, ◌++◌, length, map, refl, sym, ap, ◌∙◌, All, flat_map, decimal, All-weaker, Log, Entry, Said, Outcome, Called, Looked, Counted, Step, AreDone, entry_of, steps_of, entry_text, said_text, Told, AreTold, FitsLine, IsSmall, IsToldBy, TellsNone, TellsSteps, spelled, spelled_line, spelling_of}
 use Rattle.mt_log.specs.declared.transcripts.Said.TheVariants as said
-use Rattle.mt_log.specs.Run.{Outcome, Called, Looked, Counted, Step, AreDone, entry_of, steps_of}
-use Rattle.mt_log.specs.Text.{entry_text, said_text}
 use Rattle.mt_told.proofs.Outcomes.{number_in_line, reply_in_line}
-use Rattle.mt_told.specs.declared.told.Told.{Told}
-use Rattle.mt_told.specs.Telling.{AreTold, FitsLine, IsSmall, IsToldBy, TellsNone, TellsSteps, spelled, spelled_line, spelling_of}
 
 said_so : (version : ℕ) (s : Said) → spelled (spelling_of version) s ≡ said_text version s
 said_so version (said.Wrote number reply) = refl

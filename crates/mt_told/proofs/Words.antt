@@ -1,19 +1,6 @@
 -- Words at the front of a text stand there in one way.
-use Rattle.std.proofs.Common.{◌≡◌, ◌≢◌, ℕ, suc, ◌+◌, ◌-◌, ◌<◌, ◌≤◌, Bool, true, false, List, [], ◌∷◌, ◌++◌, Some, None, codes, length, get_or, take, drop, refl, sym, ap, ◌∙◌, inl, inr, arith, true≢false}
-use Rattle.std.specs.Prelude.{◌==◌, nat_lt, position, if◌then◌else◌}
-use Rattle.std.specs.List.{position_or_len}
-use Rattle.std.specs.Str.{bytes_eq}
-use Rattle.std.proofs.lemmas.Bool.{and_parts, cases_lt, eqb-true, lt-ltb, ltb-true}
-use Rattle.std.proofs.lemmas.List.{drop_more, get_or-take, get_or_at, length-append, length-take, take-append-drop, take_rest}
-use Rattle.std.proofs.lemmas.List.Quantifiers.{position-Some}
-use Rattle.std.proofs.lemmas.List.Sums.{fails_before_first}
-use Rattle.std.proofs.lemmas.Slice.Eq.{bytes_eq-Decides}
-use Rattle.mt_base.specs.declared.kinds.Kind.{Kind}
+use Rattle.mt_told.proofs.Prelude.{◌≡◌, ◌≢◌, ℕ, suc, ◌+◌, ◌-◌, ◌<◌, ◌≤◌, Bool, true, false, List, [], ◌∷◌, ◌++◌, Some, None, codes, length, get_or, take, drop, refl, sym, ap, ◌∙◌, inl, inr, arith, true≢false, ◌==◌, nat_lt, position, if◌then◌else◌, position_or_len, bytes_eq, and_parts, cases_lt, eqb-true, lt-ltb, ltb-true, drop_more, get_or-take, get_or_at, length-append, length-take, take-append-drop, take_rest, position-Some, fails_before_first, bytes_eq-Decides, Kind, kind_text, is_name, are_above, name_is_field, IsKindBefore, IsNameBefore, IsWordBefore, HasNoByte}
 use Rattle.mt_base.specs.declared.kinds.Kind.TheVariants as kinds
-use Rattle.mt_base.specs.Text.{kind_text}
-use Rattle.mt_log.specs.Name.{is_name}
-use Rattle.mt_log.proofs.PrintedLines.{are_above, name_is_field}
-use Rattle.mt_told.specs.ListingFronts.{IsKindBefore, IsNameBefore, IsWordBefore, HasNoByte}
 
 cons_is : (a b : ℕ) (xs ys : List ℕ) → a ≡ b → xs ≡ ys → a ∷ xs ≡ b ∷ ys
 cons_is a b xs ys first rest = cc

@@ -1,9 +1,7 @@
 -- What is read off a text of a line of the log.
 -- Source: this project's own.
 use Rattle.std.specs.Prelude.{◌≡◌, ℕ, ◌<◌, List, [], ◌∷◌}
-use Rattle.mt_log.specs.declared.lines.Line.{Line}
-use Rattle.mt_log.specs.Run.{AreDone, Step, asked_from, lane_of}
-use Rattle.mt_log.specs.Trees.{NamesBelow}
+use Rattle.mt_told.specs.Prelude.{Line, AreDone, Step, asked_from, lane_of, NamesBelow}
 use Rattle.mt_told.specs.Telling.{HasForm}
 use Rattle.mt_told.specs.declared.told.Told.{Told}
 

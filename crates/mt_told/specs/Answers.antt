@@ -1,13 +1,8 @@
 -- What a query is told, at the front of a text.
 -- Source: this project's own.
 use Rattle.std.specs.Prelude.{◌≡◌, ℕ, ◌<◌, ◌^◌, Bool, true, false, List, [], ◌∷◌, ◌++◌, Option, Some}
-use Rattle.mt_base.specs.declared.ranges.Range.{Range}
-use Rattle.mt_base.specs.declared.calls.Query.{Query}
-use Rattle.mt_base.specs.declared.calls.Query.TheVariants.{Load}
-use Rattle.mt_log.specs.declared.transcripts.Answer.{Answer}
+use Rattle.mt_told.specs.Prelude.{Range, Query, Load, Answer, shown, shown_range, answer_text}
 use Rattle.mt_log.specs.declared.transcripts.Answer.TheVariants as answers
-use Rattle.mt_log.specs.Run.{shown, shown_range}
-use Rattle.mt_log.specs.Text.{answer_text}
 use Rattle.mt_told.specs.Telling.{IsSmallRange}
 
 -- an answer and its LF

@@ -2,8 +2,7 @@
 -- Source: this project's own.
 use Rattle.std.specs.Prelude.{ℕ, List, [], ◌∷◌, ◌++◌, codes}
 use Rattle.std.specs.Fmt.{decimal}
-use Rattle.mt_base.specs.declared.kinds.Kind.{Kind}
-use Rattle.mt_base.specs.Text.{kind_text}
+use Rattle.mt_told.specs.Prelude.{Kind, kind_text}
 
 -- the line of a tree of so many ranges
 abbrev pub head_line : List ℕ → Kind → ℕ → List ℕ

@@ -8,3 +8,4 @@ pub mod Numbers
 pub mod Scans
 pub mod Steps
 pub mod Telling
+pub mod Prelude

@@ -2,11 +2,7 @@
 -- Source: this project's own.
 use Rattle.std.specs.Prelude.{◌≡◌, ◌≢◌, ℕ, ◌<◌, ◌^◌, true, List, ◌∷◌, ◌++◌, Some}
 use Rattle.std.specs.List.{AllByRecursion, flat_map}
-use Rattle.mt_base.specs.declared.kinds.Kind.{Kind}
-use Rattle.mt_base.specs.declared.ranges.Range.{Range}
-use Rattle.mt_base.specs.Text.{kind_text}
-use Rattle.mt_log.specs.Name.{is_name}
-use Rattle.mt_log.specs.Text.{range_line}
+use Rattle.mt_told.specs.Prelude.{Kind, Range, kind_text, is_name, range_line}
 use Rattle.mt_told.specs.Comparing.{head_line}
 use Rattle.mt_told.specs.Telling.{IsSmallRange}
 use Rattle.mt_told.specs.Listings.{AreSmall}

@@ -2,10 +2,7 @@
 -- Source: this project's own, the form in which its program lists a tree.
 use Rattle.std.specs.Prelude.{◌≡◌, ◌==◌, ℕ, zero, suc, ◌<◌, ◌+◌, ◌^◌, true, List, [], ◌∷◌, ◌++◌, Some, filter, length, if◌then◌else◌}
 use Rattle.std.specs.List.{AllByRecursion}
-use Rattle.mt_base.specs.declared.ranges.Range.{Range}
-use Rattle.mt_log.specs.declared.transcripts.Listing.{Listing}
-use Rattle.mt_log.specs.Name.{is_name}
-use Rattle.mt_log.specs.Text.{listing_text}
+use Rattle.mt_told.specs.Prelude.{Range, Listing, is_name, listing_text}
 use Rattle.mt_told.specs.Telling.{IsSmallRange}
 use Rattle.mt_told.specs.declared.errors.ListingError.{ListingError}
 use Rattle.mt_told.specs.declared.errors.ListingError.TheVariants.{Bad, NoMemory}

@@ -1,10 +1,8 @@
 -- What is read off a text of a scan.
 -- Source: this project's own.
 use Rattle.std.specs.Prelude.{ℕ, List, Option, Some, None}
-use Rattle.mt_base.specs.declared.ranges.Range.{Range}
-use Rattle.mt_log.specs.declared.lines.Item.TheVariants.{Scan}
+use Rattle.mt_told.specs.Prelude.{Range, Scan, Step, AreScanSteps, place_within}
 use Rattle.mt_log.specs.declared.transcripts.Answer.TheVariants as answers
-use Rattle.mt_log.specs.Run.{Step, AreScanSteps, place_within}
 use Rattle.mt_told.specs.declared.scans.Stretch.{Stretch}
 use Rattle.mt_told.specs.declared.steps.LinePlace.{LinePlace}
 use Rattle.mt_told.specs.declared.told.What.{What}

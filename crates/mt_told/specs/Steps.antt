@@ -2,9 +2,8 @@
 -- Source: this project's own.
 use Rattle.std.specs.Prelude.{◌≡◌, ℕ, ◌+◌, ◌≤◌, List, [], ◌∷◌, ◌++◌, All, length, map}
 use Rattle.std.specs.List.{flat_map}
-use Rattle.mt_log.specs.declared.lines.Item.{Item}
+use Rattle.mt_told.specs.Prelude.{Item, Asked, Outcome, Called, Looked, Counted, Step, entry_of, said_of}
 use Rattle.mt_log.specs.declared.transcripts.Said.TheVariants as said
-use Rattle.mt_log.specs.Run.{Asked, Outcome, Called, Looked, Counted, Step, entry_of, said_of}
 use Rattle.mt_told.specs.declared.steps.Deed.{Deed}
 use Rattle.mt_told.specs.declared.steps.Deed.TheVariants.{Call, Look, Copy, Check}
 use Rattle.mt_told.specs.declared.steps.LinePlace.{LinePlace}

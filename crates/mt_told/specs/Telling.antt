@@ -3,15 +3,8 @@
 use Rattle.std.specs.Prelude.{◌≡◌, ℕ, ◌<◌, ◌≤◌, ◌^◌, List, [], ◌∷◌, ◌++◌, Option, Some, None, All, AllPairs, codes, length, map}
 use Rattle.std.specs.List.{flat_map}
 use Rattle.std.specs.Fmt.{decimal}
-use Rattle.mt_base.specs.declared.ranges.Range.{Range}
-use Rattle.mt_base.specs.declared.replies.Reply.{Reply}
-use Rattle.mt_log.specs.declared.lines.Log.{Log}
-use Rattle.mt_log.specs.declared.transcripts.Entry.{Entry}
-use Rattle.mt_log.specs.declared.transcripts.Said.{Said}
+use Rattle.mt_told.specs.Prelude.{Range, Reply, Log, Entry, Said, Outcome, Called, Looked, Counted, Step, AreDone, entry_of, shown, steps_of, answer_text, reply_text, most_lanes, trees_of}
 use Rattle.mt_log.specs.declared.transcripts.Said.TheVariants as said
-use Rattle.mt_log.specs.Run.{Outcome, Called, Looked, Counted, Step, AreDone, entry_of, shown, steps_of}
-use Rattle.mt_log.specs.Text.{answer_text, reply_text}
-use Rattle.mt_log.specs.Trees.{most_lanes, trees_of}
 use Rattle.mt_told.specs.Fronts.{IsInLine}
 use Rattle.mt_told.specs.declared.told.Told.{Told}
 use Rattle.mt_told.specs.declared.told.What.{What}

@@ -1,30 +1,6 @@
 -- What a call under the lock is to who draws numbers from the tree.
-use Rattle.std.proofs.Common.{◌≡◌, ◌≢◌, ℕ, zero, suc, ◌+◌, ◌-◌, ◌<◌, ◌≤◌, true, false, List, [], ◌∷◌, ◌++◌, Option, Some, None, IfSome, length, fold, inl, inr, refl, sym, ap, ◌∙◌, subst, arith, length-append}
-use Rattle.std.specs.Prelude.{◌↔◌, IsSome, slice_get}
-use Rattle.std.specs.List.{AllByRecursion}
-use Rattle.std.specs.Option.{option_map}
-use Rattle.std.proofs.lemmas.List.{append-nil}
-use Rattle.std.proofs.lemmas.Bool.{cond_both, eqb-true}
-use Rattle.std.proofs.lemmas.List.Sums.{fold-append}
-use Rattle.mt_base.specs.declared.calls.Call.{Call}
-use Rattle.mt_base.specs.declared.calls.Call.TheVariants.{Alloc}
-use Rattle.mt_base.specs.declared.kinds.Kind.{Kind}
-use Rattle.mt_base.specs.declared.ranges.Range.{Range}
-use Rattle.mt_base.specs.declared.replies.Holder.{Holder}
-use Rattle.mt_base.specs.declared.replies.Reply.{Reply}
-use Rattle.mt_base.specs.declared.replies.Reply.TheVariants.{NoNodes}
-use Rattle.mt_base.specs.declared.replies.Shortage.{Shortage}
-use Rattle.mt_base.specs.Call.{acted, is_bad_area, placed}
-use Rattle.mt_base.specs.Holes.{low}
-use Rattle.mt_base.specs.History.{AreLegalFrom, History, IsAnswered, IsLegal, Record, last_map, limits_after, map_after}
+use Rattle.mt_tree.proofs.Prelude.{◌≡◌, ◌≢◌, ℕ, zero, suc, ◌+◌, ◌-◌, ◌<◌, ◌≤◌, true, false, List, [], ◌∷◌, ◌++◌, Option, Some, None, IfSome, length, fold, inl, inr, refl, sym, ap, ◌∙◌, subst, arith, length-append, ◌↔◌, IsSome, slice_get, AllByRecursion, option_map, append-nil, cond_both, eqb-true, fold-append, Call, Alloc, Kind, Range, Holder, Reply, NoNodes, Shortage, acted, is_bad_area, placed, low, AreLegalFrom, History, IsAnswered, IsLegal, Record, last_map, limits_after, map_after, Saw, Wrote, holder_of, with_records, IsNextCall, Worn, Tree, allocation_of, is_alone, last_made, HasCalled, IsWorn, NamesPass, limit_of, map_seen, opened, passes_of}
 use Rattle.mt_base.specs.Passes as known
-use Rattle.mt_base.specs.Passes.{Saw, Wrote, holder_of, with_records}
-use Rattle.mt_ids.specs.Allocation.{IsNextCall}
-use Rattle.mt_tree.specs.declared.shapes.Worn.{Worn}
-use Rattle.mt_tree.specs.declared.trees.Tree.{Tree}
-use Rattle.mt_tree.specs.Allocations.{allocation_of, is_alone, last_made}
-use Rattle.mt_tree.specs.Calls.{HasCalled}
-use Rattle.mt_tree.specs.Trees.{IsWorn, NamesPass, limit_of, map_seen, opened, passes_of}
 
 -- ---- the last call of a history
 

@@ -1,29 +1,6 @@
 -- How a call at work is answered: what lay behind the lock before it, and what it left there.
-use Rattle.std.proofs.Common.{◌≡◌, ℕ, ◌+◌, ◌*◌, ◌-◌, ◌/◌, ◌≤◌, ◌∷◌, ◌++◌, List, [], Bool, true, Option, take, length, sym, ap, ◌∙◌, subst, ⊎_elim, arith}
-use Rattle.std.proofs.Math.Seq.{take-append_seam}
-use Rattle.std.proofs.lemmas.List.{length-map}
-use Rattle.mt_base.specs.declared.calls.Call.{Call}
-use Rattle.mt_base.specs.declared.kinds.Kind.{Kind}
-use Rattle.mt_base.specs.declared.replies.Reply.{Reply}
-use Rattle.mt_base.specs.Call.{acted}
-use Rattle.mt_base.specs.History.{Record}
-use Rattle.mt_base.specs.Nodes.{IsShort, Wants}
+use Rattle.mt_tree.proofs.Prelude.{◌≡◌, ℕ, ◌+◌, ◌*◌, ◌-◌, ◌/◌, ◌≤◌, ◌∷◌, ◌++◌, List, [], Bool, true, Option, take, length, sym, ap, ◌∙◌, subst, ⊎_elim, arith, take-append_seam, length-map, Call, Kind, Reply, acted, Record, IsShort, Wants, still_short, Parts, IsApplied, IsCarriedOut, IsShortFor, TellsBook, Book, after_reclaim, map_by, IsRealShortage, Rooted, Sheet, height_in, Pass, Shape, record_of, records_of, Identity, pass_in, Tools, Tree, Behind, behind_lock, opened, Acts, IsDecidedOrMade, LacksRows, LeavesRoom, WasAnsweredBy, AreBack}
 use Rattle.mt_base.specs.Passes as known
-use Rattle.mt_base.proofs.Shortages.{still_short}
-use Rattle.mt_engine.specs.Engine.{Parts, IsApplied, IsCarriedOut, IsShortFor, TellsBook}
-use Rattle.mt_free.specs.Book.{Book, after_reclaim}
-use Rattle.mt_rows.specs.Publish.{map_by, IsRealShortage}
-use Rattle.mt_rows.specs.Sheet.{Rooted, Sheet}
-use Rattle.mt_rows.specs.Trees.{height_in}
-use Rattle.mt_rule.specs.declared.passes.Pass.{Pass}
-use Rattle.mt_rule.specs.declared.views.Shape.{Shape}
-use Rattle.mt_rule.specs.Seats.{record_of, records_of}
-use Rattle.mt_rule.specs.Tokens.{Identity, pass_in}
-use Rattle.mt_tree.specs.declared.behind.Tools.{Tools}
-use Rattle.mt_tree.specs.declared.trees.Tree.{Tree}
-use Rattle.mt_tree.specs.Behind.{Behind, behind_lock}
-use Rattle.mt_tree.specs.Trees.{opened, Acts, IsDecidedOrMade, LacksRows, LeavesRoom, WasAnsweredBy}
-use Rattle.mt_tree.specs.Works.{AreBack}
 use Rattle.mt_tree.proofs.AtWork.{AtWork, at_rest, count_is, rows_still, same_shape, shape_is, tree_is}
 use Rattle.mt_tree.proofs.Calling.{known_then, seen_then, tree_back}
 

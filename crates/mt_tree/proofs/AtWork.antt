@@ -1,28 +1,6 @@
 -- A call at work: the rows that it begins with, and what they tell.
-use Rattle.std.proofs.Common.{◌≡◌, ℕ, ◌≤◌, ◌<◌, ◌∷◌, ◌++◌, [], Option, Some, None, length, refl, sym, ap, ◌∙◌, subst, arith}
-use Rattle.std.proofs.lemmas.List.{length-map, length-append}
-use Rattle.atomic_table.specs.declared.badge.Badge.{Badge}
-use Rattle.mt_base.specs.declared.calls.Call.{Call}
-use Rattle.mt_base.specs.declared.replies.Reply.{Reply}
-use Rattle.mt_base.specs.History.{History, last_map}
+use Rattle.mt_tree.proofs.Prelude.{◌≡◌, ℕ, ◌≤◌, ◌<◌, ◌∷◌, ◌++◌, [], Option, Some, None, length, refl, sym, ap, ◌∙◌, subst, arith, length-map, length-append, Badge, Call, Reply, History, last_map, with_records, Parts, sheet_told, shown_all, told_of, map_by, with_record, Rooted, Sheet, Told, Pass, PenPart, Shape, TurnView, most_calls, record_of, records_of, Identity, pass_in, turn_seat, WasShown, Tools, Tree, Behind, behind_lock, parts_of, IsAtRest, IsPenAtRest, limit_of, opened, passes_of, place_of, IsPassOf, records_told, shown_pass, IsSeatOf, IsWorker}
 use Rattle.mt_base.specs.Passes as known
-use Rattle.mt_base.specs.Passes.{with_records}
-use Rattle.mt_engine.specs.Engine.{Parts}
-use Rattle.mt_pen.specs.Sheets.{sheet_told, shown_all, told_of}
-use Rattle.mt_rows.specs.Publish.{map_by, with_record}
-use Rattle.mt_rows.specs.Sheet.{Rooted, Sheet, Told}
-use Rattle.mt_rule.specs.declared.passes.Pass.{Pass}
-use Rattle.mt_rule.specs.declared.views.PenPart.{PenPart}
-use Rattle.mt_rule.specs.declared.views.Shape.{Shape}
-use Rattle.mt_rule.specs.declared.views.TurnView.{TurnView}
-use Rattle.mt_rule.specs.Limits.{most_calls}
-use Rattle.mt_rule.specs.Seats.{record_of, records_of}
-use Rattle.mt_rule.specs.Tokens.{Identity, pass_in, turn_seat, WasShown}
-use Rattle.mt_tree.specs.declared.behind.Tools.{Tools}
-use Rattle.mt_tree.specs.declared.trees.Tree.{Tree}
-use Rattle.mt_tree.specs.Behind.{Behind, behind_lock, parts_of, IsAtRest, IsPenAtRest}
-use Rattle.mt_tree.specs.Trees.{limit_of, opened, passes_of, place_of, IsPassOf}
-use Rattle.mt_tree.specs.Works.{records_told, shown_pass, IsSeatOf, IsWorker}
 use Rattle.mt_tree.proofs.Reading.{map_is}
 
 -- the tree's table is i, this lies behind its lock, and the rows with which a call of the pass begins are e

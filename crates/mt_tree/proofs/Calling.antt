@@ -1,40 +1,7 @@
 -- A call at work was made by its pass, and the rows that a read saw lie behind the lock again.
-use Rattle.std.proofs.Common.{◌≡◌, ◌≢◌, ℕ, ◌+◌, ◌/◌, ◌≤◌, ◌<◌, ◌∷◌, ◌++◌, List, [], Bool, true, false, Option, Some, None, length, refl, sym, ap, ◌∙◌, subst, inl, inr, arith}
-use Rattle.std.specs.Prelude.{◌↔◌, IfErr, IfSome, IsOk, Result, Ok, Err, if◌then◌else◌}
-use Rattle.std.proofs.lemmas.List.{append-nil, length-map, length-append}
-use Rattle.mt_base.specs.declared.calls.Call.{Call}
-use Rattle.mt_base.specs.declared.calls.Call.TheVariants.{StorePre}
-use Rattle.mt_base.specs.declared.calls.Query.{Query}
-use Rattle.mt_base.specs.declared.kinds.Kind.{Kind}
-use Rattle.mt_base.specs.declared.ranges.Range.{Range}
-use Rattle.mt_base.specs.declared.replies.Holder.{Holder}
-use Rattle.mt_base.specs.declared.replies.Reply.{Reply}
+use Rattle.mt_tree.proofs.Prelude.{◌≡◌, ◌≢◌, ℕ, ◌+◌, ◌/◌, ◌≤◌, ◌<◌, ◌∷◌, ◌++◌, List, [], Bool, true, false, Option, Some, None, length, refl, sym, ap, ◌∙◌, subst, inl, inr, arith, ◌↔◌, IfErr, IfSome, IsOk, Result, Ok, Err, if◌then◌else◌, append-nil, length-map, length-append, Call, StorePre, Query, Kind, Range, Holder, Reply, Shortage, acted, answer, is_invalid, replied, Record, first_met, over, IsShort, Saw, Read, Wrote, places, with_records, holder_of, saw_wrote, still_short, Parts, DidOrLacked, IsEnded, TellsBook, is_refusal, HasRoom, IsScanned, IsShortOf, Book, after_reclaim, unscanned, map_by, IsRealShortage, OnlyReads, Rooted, Sheet, Pass, Shape, record_of, records_of, pen_sheet, Identity, pass_in, places_last, Tools, Tree, Behind, behind_lock, IsOnlyRead, IsReady, IsStoreReply, map_seen, opened, passes_of, place_of, IsShortNow, NamesPass, WasPrepared, pass_of_told, shown_pass, AreBack}
 use Rattle.mt_base.specs.declared.replies.Reply.TheVariants as replies
-use Rattle.mt_base.specs.declared.replies.Shortage.{Shortage}
-use Rattle.mt_base.specs.Call.{acted, answer, is_invalid, replied}
-use Rattle.mt_base.specs.History.{Record}
-use Rattle.mt_base.specs.Map.{first_met, over}
-use Rattle.mt_base.specs.Nodes.{IsShort}
 use Rattle.mt_base.specs.Passes as known
-use Rattle.mt_base.specs.Passes.{Saw, Read, Wrote, places, with_records, holder_of}
-use Rattle.mt_base.proofs.Goings.{saw_wrote}
-use Rattle.mt_base.proofs.Shortages.{still_short}
-use Rattle.mt_engine.specs.Engine.{Parts, DidOrLacked, IsEnded, TellsBook, is_refusal}
-use Rattle.mt_engine.specs.Rooms.{HasRoom, IsScanned, IsShortOf}
-use Rattle.mt_free.specs.Book.{Book, after_reclaim}
-use Rattle.mt_pen.specs.Sheets.{unscanned}
-use Rattle.mt_rows.specs.Publish.{map_by, IsRealShortage}
-use Rattle.mt_rows.specs.Sheet.{OnlyReads, Rooted, Sheet}
-use Rattle.mt_rule.specs.declared.passes.Pass.{Pass}
-use Rattle.mt_rule.specs.declared.views.Shape.{Shape}
-use Rattle.mt_rule.specs.Seats.{record_of, records_of, pen_sheet}
-use Rattle.mt_rule.specs.Tokens.{Identity, pass_in}
-use Rattle.mt_rule.proofs.Beginnings.{places_last}
-use Rattle.mt_tree.specs.declared.behind.Tools.{Tools}
-use Rattle.mt_tree.specs.declared.trees.Tree.{Tree}
-use Rattle.mt_tree.specs.Behind.{Behind, behind_lock, IsOnlyRead, IsReady, IsStoreReply}
-use Rattle.mt_tree.specs.Trees.{map_seen, opened, passes_of, place_of, IsShortNow, NamesPass, WasPrepared}
-use Rattle.mt_tree.specs.Works.{pass_of_told, shown_pass, AreBack}
 use Rattle.mt_tree.proofs.AtWork.{AtWork, count_is, passes_is, told_at, told_is, told_after, told_more, tree_is, map_shown, shape_is, same_parts}
 use Rattle.mt_tree.proofs.NoShortage.{applied_among, applied_other, made_named, named_if, scan_among, scan_other, IsAmong, IsOther}
 use Rattle.mt_tree.proofs.Reading.{asked}

@@ -1,23 +1,5 @@
 -- A copy of a tree is ready to open a tree with.
-use Rattle.std.proofs.Common.{◌≡◌, ℕ, zero, suc, ◌+◌, ◌<◌, ◌≤◌, Bool, true, false, List, [], length, get_or, replicate, refl, sym, ap, ◌∙◌, subst, arith}
-use Rattle.std.specs.Prelude.{All, Contains, slice_index_or, if◌then◌else◌}
-use Rattle.std.proofs.lemmas.List.Elements.{All-nil, Contains-get_or}
-use Rattle.mt_base.specs.declared.kinds.Kind.{Kind}
-use Rattle.mt_base.specs.declared.ranges.Range.{Range}
-use Rattle.mt_base.specs.Width.{first_row}
-use Rattle.mt_free.specs.Book.{Book, Held, IsBook, live_count}
-use Rattle.mt_rows.specs.declared.rows.Life.TheVariants.{New, Live, Dead}
-use Rattle.mt_rows.specs.declared.rows.Place.TheVariants.{Root}
-use Rattle.mt_rows.specs.Sheet.{Rooted, Sheet, life_of}
-use Rattle.mt_rows.specs.Publish.{LiveAreReached, MayPlant, Planted, is_reached, map_by, with_published}
-use Rattle.mt_rows.specs.Trees.{reached_in}
-use Rattle.mt_dup.specs.Copy.{IsNewBut, IsBookOfCopy}
-use Rattle.mt_splice.specs.Kept.{IsUnheld, IsBookOf}
-use Rattle.mt_splice.proofs.LiveRows.{live_is_reached}
-use Rattle.mt_engine.specs.Engine.{IsIdle}
-use Rattle.mt_engine.proofs.Levelled.{levelled}
-use Rattle.mt_engine.proofs.Moments.{tree_if_lawful}
-use Rattle.mt_tree.specs.Copies.{IsReadyToOpen}
+use Rattle.mt_tree.proofs.Prelude.{◌≡◌, ℕ, zero, suc, ◌+◌, ◌<◌, ◌≤◌, Bool, true, false, List, [], length, get_or, replicate, refl, sym, ap, ◌∙◌, subst, arith, All, Contains, slice_index_or, if◌then◌else◌, All-nil, Contains-get_or, Kind, Range, first_row, Book, Held, IsBook, live_count, New, Live, Dead, Root, Rooted, Sheet, life_of, LiveAreReached, MayPlant, Planted, is_reached, map_by, with_published, reached_in, IsNewBut, IsBookOfCopy, IsUnheld, IsBookOf, live_is_reached, IsIdle, levelled, tree_if_lawful, IsReadyToOpen}
 
 same_anywhere : {X : Type 0} (n i : ℕ) (x : X) → slice_index_or (replicate n x) i x ≡ x
 same_anywhere zero i x = refl

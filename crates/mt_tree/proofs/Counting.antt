@@ -1,5 +1,5 @@
 -- What a ledger is raised by is what a pass counts.
-use Rattle.std.proofs.Common.{◌≡◌, ◌⊎◌, ℕ, ◌+◌, ◌≤◌, inl, inr, ⊎_elim, arith}
+use Rattle.mt_tree.proofs.Prelude.{◌≡◌, ◌⊎◌, ℕ, ◌+◌, ◌≤◌, inl, inr, ⊎_elim, arith}
 
 -- few steps of the ledger are few of the pass
 pub brief : (over other : Type 0) (before after steps steps' most : ℕ) → after + steps ≡ before + steps' → (over → (steps' ≤ steps + most) ⊎ other) → over → (after ≤ before + most) ⊎ other

@@ -1,29 +1,7 @@
 -- What the end of the rows tells is all that is kept behind the lock.
-use Rattle.std.proofs.Common.{◌≡◌, ℕ, ◌+◌, ◌*◌, ◌≤◌, false, List, Option, Some, None, length, refl, sym, ap, ◌∙◌, subst, arith}
-use Rattle.std.specs.Prelude.{IfSome}
-use Rattle.std.proofs.lemmas.List.{length-map}
-use Rattle.mt_base.specs.declared.kinds.Kind.{Kind}
-use Rattle.mt_base.specs.History.{Record, last_map}
+use Rattle.mt_tree.proofs.Prelude.{◌≡◌, ℕ, ◌+◌, ◌*◌, ◌≤◌, false, List, Option, Some, None, length, refl, sym, ap, ◌∙◌, subst, arith, IfSome, length-map, Kind, Record, last_map, deepest, Parts, IsIdle, HasHeight, Book, Extent, sheet_told, told_of, unscanned, HasSeenAll, OpensSmall, one_if, map_by, Sheet, Told, PenPart, Shape, pen_joined, record_of, records_of, pen_sheet, tree_of, rooted_in, Identity, levelled, tree_if_lawful, parts_of, IsPenAtRest, IsReady, pass_of_told, records_told}
 use Rattle.mt_base.specs.Passes as known
-use Rattle.mt_base.specs.Width.{deepest}
-use Rattle.mt_engine.specs.Engine.{Parts, IsIdle}
-use Rattle.mt_engine.specs.Heights.{HasHeight}
-use Rattle.mt_free.specs.Book.{Book}
-use Rattle.mt_life.specs.declared.views.Extent.{Extent}
-use Rattle.mt_pen.specs.Sheets.{sheet_told, told_of, unscanned, HasSeenAll}
-use Rattle.mt_pen.specs.Works.{OpensSmall}
-use Rattle.mt_rows.specs.Levels.{one_if}
-use Rattle.mt_rows.specs.Publish.{map_by}
-use Rattle.mt_rows.specs.Sheet.{Sheet, Told}
-use Rattle.mt_rule.specs.declared.views.PenPart.{PenPart}
-use Rattle.mt_rule.specs.declared.views.Shape.{Shape}
 use Rattle.mt_rule.specs.Rule as rule
-use Rattle.mt_rule.specs.Seats.{pen_joined, record_of, records_of, pen_sheet, tree_of, rooted_in}
-use Rattle.mt_rule.specs.Tokens.{Identity}
-use Rattle.mt_engine.proofs.Levelled.{levelled}
-use Rattle.mt_engine.proofs.Moments.{tree_if_lawful}
-use Rattle.mt_tree.specs.Behind.{parts_of, IsPenAtRest, IsReady}
-use Rattle.mt_tree.specs.Works.{pass_of_told, records_told}
 use Rattle.mt_tree.proofs.Reading.{take_all}
 use Rattle.mt_tree.proofs.Lists.{some_same}
 

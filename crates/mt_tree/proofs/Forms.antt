@@ -1,33 +1,10 @@
 -- What is told of the words behind the lock: their form, their image, how many rows they have, and of a copy.
-use Rattle.std.proofs.Common.{◌≡◌, ◌≢◌, ◌↔◌, ℕ, List, Some, None, length, refl, sym, ap, ◌∙◌, subst, ◌≤◌}
-use Rattle.std.specs.Prelude.{◌<◌, Result, Ok, Err}
-use Rattle.mt_base.specs.declared.kinds.Kind.{Kind}
-use Rattle.mt_base.specs.declared.ranges.Range.{Range}
+use Rattle.mt_tree.proofs.Prelude.{◌≡◌, ◌≢◌, ◌↔◌, ℕ, List, Some, None, length, refl, sym, ap, ◌∙◌, subst, ◌≤◌, ◌<◌, Result, Ok, Err, Kind, Range, Rooted, Sheet, OnlyReads, reached_in, tree_as, map_by, IsLawfulOf, Book, live_count, IsIdle, Parts, HasHeight, Tree, Behind, Field, first_bad, IsImageOf, IsImageOfMap, image_of_map, few_reached, DupError, live_rows, AreWordsOf, IsCopyCounted, IsFormOf, IsImageIn, IsLiveCounted, IsReadyToOpen, IsRefusal, IsRowCount, opened, Form, form_of, idle_if_read, Identity}
 use Rattle.mt_base.specs.Passes as known
-use Rattle.mt_rows.specs.Sheet.{Rooted, Sheet, OnlyReads}
-use Rattle.mt_rows.specs.Trees.{reached_in}
-use Rattle.mt_rows.specs.Publish.{tree_as, map_by, IsLawfulOf}
-use Rattle.mt_free.specs.Book.{Book, live_count}
-use Rattle.mt_engine.specs.Engine.{IsIdle, Parts}
-use Rattle.mt_engine.specs.Heights.{HasHeight}
 use Rattle.mt_tree.proofs.Copying.{live_reached}
-use Rattle.mt_tree.specs.declared.trees.Tree.{Tree}
-use Rattle.mt_tree.specs.Behind.{Behind}
-use Rattle.mt_tree.specs.declared.shapes.Field.{Field}
 use Rattle.mt_tree.specs.declared.shapes.Shape.{Shape}
-use Rattle.mt_tree.specs.Shapes.{first_bad}
-use Rattle.mt_image.specs.Images.{IsImageOf, IsImageOfMap}
-use Rattle.mt_image.proofs.ReadBack.{image_of_map}
-use Rattle.mt_image.proofs.FewReached.{few_reached}
-use Rattle.mt_tree.specs.declared.shapes.DupError.{DupError}
 use Rattle.mt_tree.specs.declared.shapes.DupError.TheVariants as errors
-use Rattle.mt_tree.specs.Copies.{live_rows, AreWordsOf, IsCopyCounted, IsFormOf, IsImageIn, IsLiveCounted, IsReadyToOpen, IsRefusal, IsRowCount}
-use Rattle.mt_tree.specs.Trees.{opened}
 use Rattle.mt_tree.proofs.AtWork.{AtWork, kind_still, rows_still, tree_is}
-use Rattle.mt_check.specs.declared.faults.Form.{Form}
-use Rattle.mt_check.specs.Check.{form_of}
-use Rattle.mt_engine.proofs.Moments.{idle_if_read}
-use Rattle.mt_rule.specs.Tokens.{Identity}
 
 -- ---- rows that were only read
 

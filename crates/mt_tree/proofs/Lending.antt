@@ -1,21 +1,6 @@
 -- A tree that was lent is the same tree, of which its passes are; and one that is locked goes on from what its pass has seen.
-use Rattle.std.proofs.Common.{◌≡◌, ℕ, ◌+◌, ◌≤◌, List, Option, Result, Ok, Err, IfOk, IfErr, length, sym, ap, ◌∙◌, arith, subst}
-use Rattle.std.proofs.lemmas.List.{length-map}
-use Rattle.atomic_table.specs.declared.shared.Seat.{Seat}
-use Rattle.mt_base.specs.History.{Record}
+use Rattle.mt_tree.proofs.Prelude.{◌≡◌, ℕ, ◌+◌, ◌≤◌, List, Option, Result, Ok, Err, IfOk, IfErr, length, sym, ap, ◌∙◌, arith, subst, length-map, Seat, Record, Book, Rooted, Sheet, Pass, TurnView, record_of, records_of, pass_in, Done, Worn, Tree, Behind, after_show, AreWordsOf, IsReadyToOpen, map_seen, opened, IsOpen, IsPassOf, IsWorn, Rests, TriesOnce}
 use Rattle.mt_base.specs.Passes as known
-use Rattle.mt_free.specs.Book.{Book}
-use Rattle.mt_rows.specs.Sheet.{Rooted, Sheet}
-use Rattle.mt_rule.specs.declared.passes.Pass.{Pass}
-use Rattle.mt_rule.specs.declared.views.TurnView.{TurnView}
-use Rattle.mt_rule.specs.Seats.{record_of, records_of}
-use Rattle.mt_rule.specs.Tokens.{pass_in}
-use Rattle.mt_tree.specs.declared.shapes.Done.{Done}
-use Rattle.mt_tree.specs.declared.shapes.Worn.{Worn}
-use Rattle.mt_tree.specs.declared.trees.Tree.{Tree}
-use Rattle.mt_tree.specs.Behind.{Behind, after_show}
-use Rattle.mt_tree.specs.Copies.{AreWordsOf, IsReadyToOpen}
-use Rattle.mt_tree.specs.Trees.{map_seen, opened, IsOpen, IsPassOf, IsWorn, Rests, TriesOnce}
 use Rattle.mt_tree.proofs.Trying.{tries_once}
 
 pub still_of : (t t' : Tree) (p : Pass) → t ≡ t' → IsPassOf t p → IsPassOf t' p

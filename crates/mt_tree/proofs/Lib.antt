@@ -15,3 +15,4 @@ pub mod Reading
 pub mod Settling
 pub mod Showing
 mod Trying
+mod Prelude

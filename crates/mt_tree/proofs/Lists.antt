@@ -1,6 +1,5 @@
 -- Elements of lists, and what an optional value is.
-use Rattle.std.proofs.Common.{◌≡◌, ◌≢◌, ◌⊎◌, ℕ, zero, suc, List, [], ◌∷◌, Option, Some, None, set, ap, inl, inr, ⊎_elim, arith, refl}
-use Rattle.std.specs.Prelude.{slice_get, option_map, unwrap_or}
+use Rattle.mt_tree.proofs.Prelude.{◌≡◌, ◌≢◌, ◌⊎◌, ℕ, zero, suc, List, [], ◌∷◌, Option, Some, None, set, ap, inl, inr, ⊎_elim, arith, refl, slice_get, option_map, unwrap_or}
 
 pub no_some : {A : Type 0} (a : A) → None ≡ Some a → ⊥
 no_some a e = absurd (cc)

@@ -1,18 +1,5 @@
 -- What a map answers is no shortage; and whoever is told to hold rows is not a caller that has no section open.
-use Rattle.std.proofs.Common.{◌≡◌, ◌≢◌, ℕ, ◌<◌, Bool, true, false, List, Option, Some, None, refl, sym, ap, ◌∙◌, subst, inl, inr}
-use Rattle.std.specs.Prelude.{IfSome, nat_lt, if◌then◌else◌}
-use Rattle.mt_base.specs.declared.calls.Call.{Call}
-use Rattle.mt_base.specs.declared.kinds.Kind.{Kind}
-use Rattle.mt_base.specs.declared.ranges.Range.{Range}
-use Rattle.mt_base.specs.declared.replies.Holder.{Holder}
-use Rattle.mt_base.specs.declared.replies.Reply.{Reply}
-use Rattle.mt_base.specs.Call.{acted}
-use Rattle.mt_base.specs.Passes.{holder_of}
-use Rattle.mt_base.proofs.PlainReplies.{was_acted}
-use Rattle.mt_engine.specs.Engine.{DidOrLacked}
-use Rattle.mt_free.specs.Book.{Book}
-use Rattle.mt_rows.specs.Publish.{map_by}
-use Rattle.mt_rows.specs.Sheet.{IsScan, Sheet, Told}
+use Rattle.mt_tree.proofs.Prelude.{◌≡◌, ◌≢◌, ℕ, ◌<◌, Bool, true, false, List, Option, Some, None, refl, sym, ap, ◌∙◌, subst, inl, inr, IfSome, nat_lt, if◌then◌else◌, Call, Kind, Range, Holder, Reply, acted, holder_of, was_acted, DidOrLacked, Book, map_by, IsScan, Sheet, Told}
 
 -- the pass is not the one that holds rows
 abbrev pub IsOther : Option Holder → ℕ → Type 0

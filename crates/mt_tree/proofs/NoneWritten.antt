@@ -1,15 +1,5 @@
 -- Zeros serve as the words of a tree of which nothing was used.
-use Rattle.std.proofs.Common.{◌≡◌, ℕ, ◌+◌, ◌*◌, ◌<◌, ◌≤◌, List, length, get_or, take, ⊎_elim, sym, ◌∙◌, refl, arith}
-use Rattle.std.specs.Prelude.{All, slice_index}
-use Rattle.std.proofs.lemmas.Bool.{cases_eq, cases_lt}
-use Rattle.std.proofs.lemmas.List.{get_or_past, length-take-le}
-use Rattle.std.proofs.lemmas.List.Elements.{All-from_get_or, All-more, All-replicate, All-take, All-weaker}
-use Rattle.mt_base.specs.declared.kinds.Kind.{Kind}
-use Rattle.mt_base.specs.declared.widths.Width.{Width}
-use Rattle.mt_base.specs.Width.{columns, first_row, kind_width}
-use Rattle.mt_rows.specs.Plain.{new_sheet}
-use Rattle.mt_rule.specs.Places.{AreOpening, root_at, first_row_column, table_size}
-use Rattle.mt_tree.specs.Zeros.{AreZero}
+use Rattle.mt_tree.proofs.Prelude.{◌≡◌, ℕ, ◌+◌, ◌*◌, ◌<◌, ◌≤◌, List, length, get_or, take, ⊎_elim, sym, ◌∙◌, refl, arith, All, slice_index, cases_eq, cases_lt, get_or_past, length-take-le, All-from_get_or, All-more, All-replicate, All-take, All-weaker, Kind, Width, columns, first_row, kind_width, new_sheet, AreOpening, root_at, first_row_column, table_size, AreZero}
 
 zero_anywhere : (words : List ℕ) → AreZero words → (i : ℕ) → slice_index words i ≡ 0
 zero_anywhere words zero i =

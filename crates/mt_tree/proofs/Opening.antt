@@ -1,40 +1,8 @@
 -- A tree that opens: its pen, its rows and its passes.
-use Rattle.std.proofs.Common.{◌≡◌, ℕ, zero, suc, ◌+◌, ◌<◌, ◌≤◌, Bool, true, false, List, [], ◌∷◌, Option, Some, length, map, get_or, replicate, refl, sym, ap, ◌∙◌, subst, arith}
-use Rattle.std.specs.Prelude.{All, Contains, slice_get, slice_index_or, option_map, unwrap_or, if◌then◌else◌}
-use Rattle.std.specs.List.{range_with_len}
-use Rattle.std.proofs.Math.Nat.{zero-min}
-use Rattle.std.proofs.lemmas.List.{length-map}
-use Rattle.std.proofs.lemmas.List.Elements.{All-nil, Contains-get_or}
-use Rattle.std.proofs.lemmas.Option.{slice_get-map, slice_get-get_or, slice_get_within}
-use Rattle.std.proofs.lemmas.List.FromFn.{get_or-map-range_with_len}
-use Rattle.mt_base.specs.declared.kinds.Kind.{Kind}
+use Rattle.mt_tree.proofs.Prelude.{◌≡◌, ℕ, zero, suc, ◌+◌, ◌<◌, ◌≤◌, Bool, true, false, List, [], ◌∷◌, Option, Some, length, map, get_or, replicate, refl, sym, ap, ◌∙◌, subst, arith, All, Contains, slice_get, slice_index_or, option_map, unwrap_or, if◌then◌else◌, range_with_len, zero-min, length-map, All-nil, Contains-get_or, slice_get-map, slice_get-get_or, slice_get_within, get_or-map-range_with_len, Kind, new_pass, first_row, Book, Held, live_count, Life, New, Live, Dead, one_if, HasDied, IsWhole, Rooted, Sheet, life_of, IsLawfulOf, LiveAreReached, is_reached, map_by, IsUnheld, IsBookOf, live_is_reached, IsEngineState, IsIdle, IsState, HasHeight, levelled, tree_if_lawful, OpensSmall, Pass, PenPart, Shape, least_number, new_pen, opening_life, rooted_in, pen_sheet, tree_of, shape_opened, pass_in, IsSeatedAt, parts_of, IsPenAtRest, Tree, passes_of, place_of, AreAll, IsNew}
 use Rattle.mt_base.specs.Passes as known
-use Rattle.mt_base.specs.Passes.{new_pass}
-use Rattle.mt_base.specs.Width.{first_row}
-use Rattle.mt_free.specs.Book.{Book, Held, live_count}
-use Rattle.mt_rows.specs.declared.rows.Life.{Life}
-use Rattle.mt_rows.specs.declared.rows.Life.TheVariants.{New, Live, Dead}
-use Rattle.mt_rows.specs.Levels.{one_if}
-use Rattle.mt_rows.specs.Sheet.{HasDied, IsWhole, Rooted, Sheet, life_of}
-use Rattle.mt_rows.specs.Publish.{IsLawfulOf, LiveAreReached, is_reached, map_by}
-use Rattle.mt_splice.specs.Kept.{IsUnheld, IsBookOf}
-use Rattle.mt_splice.proofs.LiveRows.{live_is_reached}
-use Rattle.mt_engine.specs.Engine.{IsEngineState, IsIdle, IsState}
-use Rattle.mt_engine.specs.Heights.{HasHeight}
-use Rattle.mt_engine.proofs.Levelled.{levelled}
-use Rattle.mt_engine.proofs.Moments.{tree_if_lawful}
-use Rattle.mt_pen.specs.Works.{OpensSmall}
-use Rattle.mt_rule.specs.declared.passes.Pass.{Pass}
-use Rattle.mt_rule.specs.declared.views.PenPart.{PenPart}
-use Rattle.mt_rule.specs.declared.views.Shape.{Shape}
-use Rattle.mt_rule.specs.Seats.{least_number, new_pen, opening_life, rooted_in, pen_sheet, tree_of}
 use Rattle.mt_rule.specs.Tokens as rule
-use Rattle.mt_rule.specs.Tokens.{shape_opened, pass_in}
-use Rattle.mt_rule.specs.Turns.{IsSeatedAt}
-use Rattle.mt_tree.specs.Behind.{parts_of, IsPenAtRest}
 use Rattle.mt_tree.specs.declared.shapes.Shape.{Shape as Shape'}
-use Rattle.mt_tree.specs.declared.trees.Tree.{Tree}
-use Rattle.mt_tree.specs.Trees.{passes_of, place_of, AreAll, IsNew}
 
 same_anywhere : {X : Type 0} (n i : ℕ) (x : X) → slice_index_or (replicate n x) i x ≡ x
 same_anywhere zero i x = refl

@@ -1,22 +1,6 @@
 -- A read under the lock is one of the whole history.
-use Rattle.std.proofs.Common.{◌≡◌, ℕ, ◌≤◌, List, [], Option, length, take, sym, ap, ◌∙◌, arith}
-use Rattle.std.proofs.Math.Seq.{take-length}
-use Rattle.std.proofs.lemmas.List.{length-map}
-use Rattle.mt_base.specs.declared.ranges.Range.{Range}
-use Rattle.mt_base.specs.declared.calls.Query.{Query}
-use Rattle.mt_base.specs.Call.{answer}
-use Rattle.mt_base.specs.History.{Record, last_map, map_at}
+use Rattle.mt_tree.proofs.Prelude.{◌≡◌, ℕ, ◌≤◌, List, [], Option, length, take, sym, ap, ◌∙◌, arith, take-length, length-map, Range, Query, answer, Record, last_map, map_at, Read, with_records, saw_grows, begins_long, map_by, Parts, Moment, PenPart, Shape, record_of, records_of, tree_of, Identity, tree_in, WasShown, AreRowsOf}
 use Rattle.mt_base.specs.Passes as known
-use Rattle.mt_base.specs.Passes.{Read, with_records}
-use Rattle.mt_base.proofs.Goings.{saw_grows, begins_long}
-use Rattle.mt_rows.specs.Publish.{map_by}
-use Rattle.mt_engine.specs.Engine.{Parts}
-use Rattle.mt_rule.specs.declared.views.Moment.{Moment}
-use Rattle.mt_rule.specs.declared.views.PenPart.{PenPart}
-use Rattle.mt_rule.specs.declared.views.Shape.{Shape}
-use Rattle.mt_rule.specs.Seats.{record_of, records_of, tree_of}
-use Rattle.mt_rule.specs.Tokens.{Identity, tree_in, WasShown}
-use Rattle.mt_tree.specs.Behind.{AreRowsOf}
 
 pub map_is : (shape shape' : Shape) (h : List Moment) (seen : List Record) → shape ≡ shape' → seen ≡ records_of h → last_map (tree_of shape h) ≡ last_map (with_records (tree_of shape' []) seen)
 map_is shape shape' h seen same all = λ i. last_map (record { kind = (same i).kind; rows = (same i).rows; opening = (same i).opening; records = sym all i })

@@ -1,26 +1,6 @@
 -- All passes see the whole history, one after another.
-use Rattle.std.proofs.Common.{◌≡◌, ◌≢◌, ℕ, zero, suc, ◌+◌, ◌<◌, ◌≤◌, List, [], ◌∷◌, Option, Some, None, length, map, set, get_or, refl, sym, ap, ◌∙◌, subst, ⊎_elim, arith, length-set}
-use Rattle.std.specs.Prelude.{All, slice_get, IfSome}
-use Rattle.std.specs.List.{Contains}
-use Rattle.std.proofs.lemmas.List.{length-map}
-use Rattle.std.proofs.lemmas.List.Elements.{All-from_recursion}
-use Rattle.std.proofs.lemmas.Option.{slice_get-map, slice_get-get_or, slice_get_within}
-use Rattle.mt_base.specs.declared.replies.Holder.{Holder}
-use Rattle.mt_base.specs.History.{Record, History, IsLegal}
+use Rattle.mt_tree.proofs.Prelude.{◌≡◌, ◌≢◌, ℕ, zero, suc, ◌+◌, ◌<◌, ◌≤◌, List, [], ◌∷◌, Option, Some, None, length, map, set, get_or, refl, sym, ap, ◌∙◌, subst, ⊎_elim, arith, length-set, All, slice_get, IfSome, Contains, length-map, All-from_recursion, slice_get-map, slice_get-get_or, slice_get_within, Holder, Record, History, IsLegal, Saw, Settled, IsSettled, NamesReader, places, with_records, holder_of, new_pass, all_map, Pass, PenPart, Shape, IsOneHistory, pen_joined, record_of, records_of, pass_in, shown_with, Tree, Behind, after_show, Shown, AreShown, HaveMet, opened, passes_of, seen_by, IsPassOf, AreAll}
 use Rattle.mt_base.specs.Passes as known
-use Rattle.mt_base.specs.Passes.{Saw, Settled, IsSettled, NamesReader, places, with_records, holder_of, new_pass}
-use Rattle.mt_base.proofs.Lists.{all_map}
-use Rattle.mt_rule.specs.declared.passes.Pass.{Pass}
-use Rattle.mt_rule.specs.declared.views.PenPart.{PenPart}
-use Rattle.mt_rule.specs.declared.views.Shape.{Shape}
-use Rattle.mt_rule.specs.Rule.{IsOneHistory}
-use Rattle.mt_rule.specs.Seats.{pen_joined, record_of, records_of}
-use Rattle.mt_rule.specs.Tokens.{pass_in}
-use Rattle.mt_rule.proofs.Moving.{shown_with}
-use Rattle.mt_tree.specs.declared.trees.Tree.{Tree}
-use Rattle.mt_tree.specs.Behind.{Behind, after_show}
-use Rattle.mt_tree.specs.Meeting.{Shown, AreShown, HaveMet}
-use Rattle.mt_tree.specs.Trees.{opened, passes_of, seen_by, IsPassOf, AreAll}
 use Rattle.mt_tree.proofs.Lists.{some_same, get_set, from_map}
 
 -- the passes below n have seen the history, and what the others know is as before

@@ -1,16 +1,6 @@
 -- A pass that was joined with the pen and parted from it knows what the pen showed it.
-use Rattle.std.proofs.Common.{◌≡◌, ◌<◌, List, sym, ap, ◌∙◌, subst, arith}
-use Rattle.std.specs.List.{AllByRecursion}
-use Rattle.mt_base.proofs.Lists.{all_map}
-use Rattle.mt_base.specs.History.{History, Record}
+use Rattle.mt_tree.proofs.Prelude.{◌≡◌, ◌<◌, List, sym, ap, ◌∙◌, subst, arith, AllByRecursion, all_map, History, Record, PassPart, PenPart, Shape, known_by, pen_joined, records_of, WasShown, Tree, opened, passes_of, place_of}
 use Rattle.mt_base.specs.Passes as known
-use Rattle.mt_rule.specs.declared.views.PassPart.{PassPart}
-use Rattle.mt_rule.specs.declared.views.PenPart.{PenPart}
-use Rattle.mt_rule.specs.declared.views.Shape.{Shape}
-use Rattle.mt_rule.specs.Seats.{known_by, pen_joined, records_of}
-use Rattle.mt_rule.specs.Tokens.{WasShown}
-use Rattle.mt_tree.specs.declared.trees.Tree.{Tree}
-use Rattle.mt_tree.specs.Trees.{opened, passes_of, place_of}
 
 pub shown_parted : (tree : History) (pen pen' : PenPart) (p : known.Pass) (before joined q : PassPart) → WasShown tree pen p (known_by joined) → joined ≡ record before { seen = pen.history; ended = pen.ended } → pen' ≡ pen_joined pen
     → q ≡ record joined { ended = pen'.ended } → WasShown tree pen p (known_by q)

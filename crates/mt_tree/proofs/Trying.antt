@@ -1,17 +1,6 @@
 -- A pass that has gone for the lock is one of its tree's, and knows what it knew.
-use Rattle.std.proofs.Common.{◌≡◌, ℕ, zero, suc, ◌≤◌, ◌<◌, List, [], ◌∷◌, Option, Some, Result, Ok, Err, IfOk, IfErr, length, map, set, get_or, refl, sym, ap, ◌∙◌, subst, arith}
-use Rattle.std.specs.Prelude.{All, slice_get}
-use Rattle.mt_base.specs.declared.calls.Call.{Call}
+use Rattle.mt_tree.proofs.Prelude.{◌≡◌, ℕ, zero, suc, ◌≤◌, ◌<◌, List, [], ◌∷◌, Option, Some, Result, Ok, Err, IfOk, IfErr, length, map, set, get_or, refl, sym, ap, ◌∙◌, subst, arith, All, slice_get, Call, Pass, pass_in, steps_made, turn_seat, IsSeatedAt, tried, Done, Worn, Tree, Behind, after_show, opened, limit_of, AreAll, IsPassOf, IsWorn, NamesPass, Rests, TriesOnce, WasAnsweredBy, WasMade, first_tried}
 use Rattle.mt_base.specs.Passes as known
-use Rattle.mt_rule.specs.declared.passes.Pass.{Pass}
-use Rattle.mt_rule.specs.Tokens.{pass_in, steps_made, turn_seat}
-use Rattle.mt_rule.specs.Turns.{IsSeatedAt, tried}
-use Rattle.mt_tree.specs.declared.shapes.Done.{Done}
-use Rattle.mt_tree.specs.declared.shapes.Worn.{Worn}
-use Rattle.mt_tree.specs.declared.trees.Tree.{Tree}
-use Rattle.mt_tree.specs.Behind.{Behind, after_show}
-use Rattle.mt_tree.specs.Trees.{opened, limit_of, AreAll, IsPassOf, IsWorn, NamesPass, Rests, TriesOnce, WasAnsweredBy}
-use Rattle.mt_tree.specs.Tries.{WasMade, first_tried}
 use Rattle.mt_tree.proofs.Lists.{some_same}
 
 abbrev IsSeated : Tree → Pass → Type 0

@@ -2,9 +2,8 @@
 -- Source: this project's own; the kernel's mtree_alloc_cyclic makes its calls under one lock.
 use Rattle.std.specs.Prelude.{ℕ, ◌-◌, ◌==◌, Bool, false, List, Option, Some, None, length, slice_get}
 use Rattle.std.specs.Option.{option_map}
-use Rattle.mt_base.specs.History.{Record}
+use Rattle.mt_tree.specs.Prelude.{Record, Allocation, Made}
 use Rattle.mt_base.specs.Passes as known
-use Rattle.mt_ids.specs.Allocation.{Allocation, Made}
 use Rattle.mt_tree.specs.declared.trees.Tree.{Tree}
 use Rattle.mt_tree.specs.Trees.{limit_of, map_seen, opened, passes_of}
 

@@ -2,10 +2,7 @@
 -- dead; and what a step of a cursor makes of its pass.
 -- Source: the kernel's core-api/maple_tree, mt_next, mt_prev, mas_find_rev and mas_find.
 use Rattle.std.specs.Prelude.{◌≡◌, ℕ}
-use Rattle.mt_base.specs.declared.kinds.Kind.{Kind}
-use Rattle.mt_base.specs.Width.{greatest_of}
-use Rattle.mt_base.specs.declared.calls.Query.{Query}
-use Rattle.mt_base.specs.declared.calls.Query.TheVariants.{Load, Find, Next, Prev, Rfind}
+use Rattle.mt_tree.specs.Prelude.{Kind, greatest_of, Query, Load, Find, Next, Prev, Rfind}
 use Rattle.mt_tree.specs.declared.cursors.Cursor.{Cursor}
 use Rattle.mt_tree.specs.Trees.{pass_in}
 pub use Rattle.mt_read.specs.Cursors.{HasStepped, opened_with, place_behind, query_at}

@@ -2,20 +2,8 @@
 -- calls.
 -- Source: this project's own; the kernel's ma_lock guards the whole tree.
 use Rattle.std.specs.Prelude.{◌≡◌, ◌⊎◌, ℕ, ◌+◌, ◌/◌, ◌≤◌, Option, Some, None, List, length}
-use Rattle.mt_base.specs.declared.replies.Reply.{Reply}
+use Rattle.mt_tree.specs.Prelude.{Reply, last_map, Parts, IsIdle, HasHeight, HasRoom, Book, new_book, no_table, map_by, Moment, PenPart, Shape, no_pen, pen_joined, records_of, pen_sheet, tree_of, Identity, IsAlone, identity_of_pen, pen_in}
 use Rattle.mt_base.specs.declared.replies.Reply.TheVariants as replies
-use Rattle.mt_base.specs.History.{last_map}
-use Rattle.mt_engine.specs.Engine.{Parts, IsIdle}
-use Rattle.mt_engine.specs.Heights.{HasHeight}
-use Rattle.mt_engine.specs.Rooms.{HasRoom}
-use Rattle.mt_free.specs.Book.{Book, new_book}
-use Rattle.mt_pen.specs.Writers.{no_table}
-use Rattle.mt_rows.specs.Publish.{map_by}
-use Rattle.mt_rule.specs.declared.views.Moment.{Moment}
-use Rattle.mt_rule.specs.declared.views.PenPart.{PenPart}
-use Rattle.mt_rule.specs.declared.views.Shape.{Shape}
-use Rattle.mt_rule.specs.Seats.{no_pen, pen_joined, records_of, pen_sheet, tree_of}
-use Rattle.mt_rule.specs.Tokens.{Identity, IsAlone, identity_of_pen, pen_in}
 use Rattle.mt_tree.specs.declared.behind.Tools.{Tools}
 
 -- the table that is written, what its pen knows, and the rows with their book

@@ -3,7 +3,7 @@
 use Rattle.std.proofs.Common.{◌≡◌, ℕ, zero, suc, ◌+◌, List, [], ◌∷◌, ◌++◌, length, sym, ap, ◌∙◌, subst, arith, length-append}
 use Rattle.std.specs.List.{AllByRecursion, range_with_len}
 use Rattle.std.proofs.lemmas.List.{append-nil, append_assoc}
-use Rattle.mt_base.specs.History.{Record}
+use Rattle.mt_tree.specs.Prelude.{Record}
 use Rattle.mt_base.specs.Passes as known
 
 -- The pass has made some calls, and no other pass has; nothing else of it has changed.

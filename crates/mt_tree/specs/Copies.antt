@@ -1,16 +1,7 @@
 -- What is told of the words of a tree without showing them: their form, and how many rows they have.
 -- Source: this project's own.
 use Rattle.std.specs.Prelude.{◌≡◌, ◌≢◌, ℕ, ◌+◌, ◌/◌, ◌<◌, ◌≤◌, List, Option, Some, None, Result, Err, IsOk, length}
-use Rattle.mt_base.specs.declared.kinds.Kind.{Kind}
-use Rattle.mt_base.specs.declared.ranges.Range.{Range}
-use Rattle.mt_check.specs.declared.faults.Form.{Form}
-use Rattle.mt_engine.specs.Engine.{IsIdle}
-use Rattle.mt_free.specs.Book.{Book}
-use Rattle.mt_check.specs.Check.{form_of}
-use Rattle.mt_rows.specs.Publish.{tree_as, IsLawfulOf, map_by}
-use Rattle.mt_rows.specs.Sheet.{Rooted, Sheet}
-use Rattle.mt_rows.specs.Trees.{reached_in}
-use Rattle.mt_image.specs.Images.{IsImageOf}
+use Rattle.mt_tree.specs.Prelude.{Kind, Range, Form, IsIdle, Book, form_of, tree_as, IsLawfulOf, map_by, Rooted, Sheet, reached_in, IsImageOf}
 use Rattle.mt_tree.specs.declared.shapes.Shape.{Shape}
 use Rattle.mt_tree.specs.Shapes.{first_bad}
 use Rattle.mt_tree.specs.declared.shapes.DupError.{DupError}

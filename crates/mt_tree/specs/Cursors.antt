@@ -2,8 +2,7 @@
 -- Source: this project's own.
 use Rattle.std.specs.Prelude.{ℕ, ◌+◌, ◌≤◌, List, [], ◌∷◌, ◌≡◌}
 use Rattle.std.specs.Coded.{×_prop, →_prop, Unit-prop, le_prop, Coded-set, coded_ℕ}
-use Rattle.mt_layout.specs.declared.spans.Span.{Span}
-use Rattle.mt_layout.specs.Spans.{Apart, BeginsFull, EndsFull, Fills}
+use Rattle.mt_tree.specs.Prelude.{Span, Apart, BeginsFull, EndsFull, Fills}
 
 pub fills_prop : (lo hi : ℕ) (xs : List Span) → IsProp (Fills lo hi xs)
 fills_prop lo hi [] = Coded-set coded_ℕ lo hi

@@ -11,3 +11,4 @@ pub mod Tries
 pub mod Walks
 pub mod Works
 pub mod Zeros
+pub mod Prelude

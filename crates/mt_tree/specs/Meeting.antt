@@ -1,10 +1,8 @@
 -- Passes of a tree that meet under its lock: each then sees its whole history.
 -- Source: this project's own.
 use Rattle.std.specs.Prelude.{◌≡◌, ℕ, ◌<◌, All, List, Some, length, slice_get}
-use Rattle.mt_base.specs.History.{Record}
+use Rattle.mt_tree.specs.Prelude.{Record, PenPart, WasShown}
 use Rattle.mt_base.specs.Passes as known
-use Rattle.mt_rule.specs.declared.views.PenPart.{PenPart}
-use Rattle.mt_rule.specs.Tokens.{WasShown}
 use Rattle.mt_tree.specs.declared.trees.Tree.{Tree}
 use Rattle.mt_tree.specs.Trees.{Pass, pass_in, opened, passes_of, place_of}
 

@@ -3,30 +3,11 @@
 use Rattle.std.specs.Prelude.{◌≡◌, ◌≢◌, ◌⊎◌, ℕ, ◌+◌, ◌-◌, ◌^◌, ◌≤◌, ◌<◌, Option, Some, None, IfSome, List, [], ◌∷◌, All, length, map, slice_get, take}
 use Rattle.std.specs.List.{range_with_len}
 use Rattle.atomic_table.specs.declared.shared.Seat.{Seat}
-use Rattle.mt_base.specs.declared.calls.Call.{Call}
-use Rattle.mt_base.specs.declared.ranges.Range.{Range}
-use Rattle.mt_base.specs.declared.replies.Holder.{Holder}
-use Rattle.mt_base.specs.declared.replies.Reply.{Reply}
-use Rattle.mt_base.specs.declared.replies.Shortage.{Shortage}
-use Rattle.mt_base.specs.Call.{acted}
-use Rattle.mt_base.specs.History.{History, Record, last_map, limits_after}
-use Rattle.mt_base.specs.Nodes.{IsRefused, IsShort, Wants}
+use Rattle.mt_tree.specs.Prelude.{Call, Range, Holder, Reply, Shortage, acted, History, Record, last_map, limits_after, IsRefused, IsShort, Wants, holder_of, with_records, new_pass, TellsBook, HasRoom, after_reclaim, Scan, IsRealShortage, map_by, Note, TurnView, IsScanOf, records_of, Identity, identity_of, tree_in, turn_seat, IsSeatedAt, IsTakenOf, tried}
 use Rattle.mt_base.specs.Passes as known
-use Rattle.mt_base.specs.Passes.{holder_of, with_records, new_pass}
-use Rattle.mt_engine.specs.Engine.{TellsBook}
-use Rattle.mt_engine.specs.Rooms.{HasRoom}
-use Rattle.mt_free.specs.Book.{after_reclaim}
-use Rattle.mt_rows.specs.declared.rows.Scan.{Scan}
-use Rattle.mt_rows.specs.Publish.{IsRealShortage, map_by}
 pub use Rattle.mt_rule.specs.declared.passes.Pass.{Pass}
-use Rattle.mt_rule.specs.declared.notes.Note.{Note}
-use Rattle.mt_rule.specs.declared.views.TurnView.{TurnView}
-use Rattle.mt_rule.specs.Scans.{IsScanOf}
-use Rattle.mt_rule.specs.Seats.{records_of}
 use Rattle.mt_rule.specs.Tokens as rule
-use Rattle.mt_rule.specs.Tokens.{Identity, identity_of, tree_in, turn_seat}
 pub use Rattle.mt_rule.specs.Tokens.{pass_in, steps_made}
-use Rattle.mt_rule.specs.Turns.{IsSeatedAt, IsTakenOf, tried}
 use Rattle.mt_tree.specs.declared.shapes.Done.{Done}
 use Rattle.mt_tree.specs.declared.shapes.Shape.{Shape}
 use Rattle.mt_tree.specs.declared.shapes.Worn.{Worn}

@@ -1,12 +1,8 @@
 -- A call that is tried under a lock of its own, and what it makes of the pass where the lock was free.
 -- Source: this project's own; the kernel's spin_trylock.
 use Rattle.std.specs.Prelude.{◌≤◌, List, [], ◌∷◌, IfOk, IfErr, Result}
-use Rattle.mt_base.specs.declared.calls.Call.{Call}
+use Rattle.mt_tree.specs.Prelude.{Call, Wrote, Busy, Pass, IsBusyAt, tried}
 use Rattle.mt_base.specs.Passes as known
-use Rattle.mt_base.specs.Passes.{Wrote}
-use Rattle.mt_rule.specs.declared.busy.Busy.{Busy}
-use Rattle.mt_rule.specs.declared.passes.Pass.{Pass}
-use Rattle.mt_rule.specs.Turns.{IsBusyAt, tried}
 use Rattle.mt_tree.specs.declared.shapes.Done.{Done}
 use Rattle.mt_tree.specs.declared.shapes.Worn.{Worn}
 use Rattle.mt_tree.specs.declared.trees.Tree.{Tree}

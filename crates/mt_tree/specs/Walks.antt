@@ -1,11 +1,8 @@
 -- What a step over a pass and a walk, each kept by the caller, makes of both.
 -- Source: the kernel's documentation of the maple tree, mas_find over a struct ma_state that the caller keeps.
 use Rattle.std.specs.Prelude.{◌≡◌, ◌⊎◌, ℕ, ◌+◌, ◌≤◌, IfSome, Option, Some}
-use Rattle.mt_base.specs.declared.ranges.Range.{Range}
+use Rattle.mt_tree.specs.Prelude.{Range, Cursor, HasStepped, IsCursorOf, IsOver, IsOverPlace, LeafWasMarked, MarksKeptLeaf, epoch_or, place_behind, query_at, part_of}
 use Rattle.mt_base.specs.Passes as known
-use Rattle.mt_read.specs.declared.cursor.Cursor.{Cursor}
-use Rattle.mt_read.specs.Cursors.{HasStepped, IsCursorOf, IsOver, IsOverPlace, LeafWasMarked, MarksKeptLeaf, epoch_or, place_behind, query_at}
-use Rattle.mt_rule.specs.Tokens.{part_of}
 use Rattle.mt_tree.specs.declared.shapes.Read.{Read}
 use Rattle.mt_tree.specs.declared.trees.Tree.{Tree}
 use Rattle.mt_tree.specs.Trees.{Pass, Takes, pass_in, steps_made, opened}

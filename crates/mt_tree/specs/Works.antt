@@ -3,18 +3,8 @@
 use Rattle.std.specs.Prelude.{◌≡◌, ◌≤◌, ◌<◌, Option, Some, None, List, [], ◌∷◌, length}
 use Rattle.std.specs.List.{AllByRecursion}
 use Rattle.atomic_table.specs.declared.badge.Badge.{Badge}
-use Rattle.mt_base.specs.History.{Record}
+use Rattle.mt_tree.specs.Prelude.{Record, Parts, unscanned, Told, Pass, PenPart, TurnView, IsScanOf, records_of, Identity, pass_in, turn_seat, seated, tries_in}
 use Rattle.mt_base.specs.Passes as known
-use Rattle.mt_engine.specs.Engine.{Parts}
-use Rattle.mt_pen.specs.Sheets.{unscanned}
-use Rattle.mt_rows.specs.Sheet.{Told}
-use Rattle.mt_rule.specs.declared.passes.Pass.{Pass}
-use Rattle.mt_rule.specs.declared.views.PenPart.{PenPart}
-use Rattle.mt_rule.specs.declared.views.TurnView.{TurnView}
-use Rattle.mt_rule.specs.Scans.{IsScanOf}
-use Rattle.mt_rule.specs.Seats.{records_of}
-use Rattle.mt_rule.specs.Tokens.{Identity, pass_in, turn_seat}
-use Rattle.mt_rule.specs.Turns.{seated, tries_in}
 use Rattle.mt_tree.specs.declared.behind.Tools.{Tools}
 use Rattle.mt_tree.specs.declared.trees.Tree.{Tree}
 use Rattle.mt_tree.specs.Behind.{behind_lock, IsAtRest}

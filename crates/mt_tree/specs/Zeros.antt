@@ -1,9 +1,7 @@
 -- Words that are all 0, over which empty trees are made.
 -- Source: this project's own.
 use Rattle.std.specs.Prelude.{◌≡◌, ℕ, ◌≤◌, All, List, length}
-use Rattle.mt_base.specs.declared.kinds.Kind.{Kind}
-use Rattle.mt_base.specs.Width.{kind_width}
-use Rattle.mt_rule.specs.Places.{table_size}
+use Rattle.mt_tree.specs.Prelude.{Kind, kind_width, table_size}
 
 abbrev pub AreZero : List ℕ → Type 0
 AreZero words = All (λ word. word ≡ 0) words

@@ -1,49 +1,10 @@
 -- Trees that were gone through make what is found of a text.
-use Rattle.std.proofs.Common.{◌≡◌, ◌≢◌, ℕ, zero, suc, ◌+◌, ◌-◌, ◌<◌, ◌≤◌, ◌==◌, ◌&&◌, ◌||◌, true, false, List, [], ◌∷◌, Option, Some, None, length, map, nat_le, slice_get, get_or, refl, sym, ap, ◌∙◌, subst, inl, inr, arith}
-use Rattle.std.specs.Prelude.{All, AllPairs, IfSome, IsPermutation}
-use Rattle.std.specs.Fmt.{decimal}
-use Rattle.std.specs.List.{AllByRecursion, Contains, cons_option, enumerate_from, filter_map, list_any}
-use Rattle.std.specs.Option.{option_map, unwrap_or}
-use Rattle.std.proofs.lemmas.Bool.{cases_Bool, cases_lt, eq-eqb, eqb-true}
-use Rattle.std.proofs.lemmas.List.{length-map, take_all}
-use Rattle.std.proofs.lemmas.List.Elements.{recursion_from_All}
-use Rattle.std.proofs.lemmas.List.FromFn.{length-map-range_with_len}
-use Rattle.std.proofs.lemmas.List.Sorted.{Contains-permutation, IsPermutation-map, IsPermutation-sym}
-use Rattle.std.proofs.lemmas.Option.{same_Some, slice_get-map, slice_get_within, slice_get-get_or}
-use Rattle.mt_base.specs.declared.kinds.Kind.{Kind}
-use Rattle.mt_base.specs.declared.ranges.Range.{Range}
-use Rattle.mt_base.specs.declared.calls.Call.{Call}
-use Rattle.mt_base.specs.declared.replies.Holder.{Holder}
-use Rattle.mt_base.specs.declared.replies.Reply.{Reply}
+use Rattle.mt_verify.proofs.Prelude.{◌≡◌, ◌≢◌, ℕ, zero, suc, ◌+◌, ◌-◌, ◌<◌, ◌≤◌, ◌==◌, ◌&&◌, ◌||◌, true, false, List, [], ◌∷◌, Option, Some, None, length, map, nat_le, slice_get, get_or, refl, sym, ap, ◌∙◌, subst, inl, inr, arith, All, AllPairs, IfSome, IsPermutation, decimal, AllByRecursion, Contains, cons_option, enumerate_from, filter_map, list_any, option_map, unwrap_or, cases_Bool, cases_lt, eq-eqb, eqb-true, length-map, take_all, recursion_from_All, length-map-range_with_len, Contains-permutation, IsPermutation-map, IsPermutation-sym, same_Some, slice_get-map, slice_get_within, slice_get-get_or, Kind, Range, Call, Holder, Reply, Record, History, IsLegal, last_map, map_at, holder_of, Log, listings_of, reply_text, Declared, Opening, Empty, CopyOf, most_lanes, trees_of, Told, What, Wrote, Got, Copied, Lawful, IsToldBy, HaveGoneTo, OpensGone, listings_by, numbers_behind, reads_count, reads_told, own_points, Lane, GoneTree, HasGone, gone_map, IsReader, reads_by, AreNotedOf, IsHeardOf, IsNotedOf, AreRecordsOf, IsRecordOf, IsReplyOf, is_nomem, map_after_noted, record_noted, records_noted, AreLeastOf, calls_below, line_on, lines_on, looks_by_lane, stop_at, stops_told, EndsInTree, InPrintedOrder, calls_told, numbered_of, numbered_on_told, Numbered, Look, Heard, Short, Noted, Stop, history_of}
 use Rattle.mt_base.specs.declared.replies.Reply.TheVariants as replies
 use Rattle.mt_base.specs.History as histories
-use Rattle.mt_base.specs.History.{Record, History, IsLegal, last_map, map_at}
-use Rattle.mt_base.specs.Passes.{holder_of}
-use Rattle.mt_log.specs.declared.lines.Log.{Log}
-use Rattle.mt_log.specs.Run.{listings_of}
-use Rattle.mt_log.specs.Text.{reply_text}
-use Rattle.mt_log.specs.Trees.{Declared, Opening, Empty, CopyOf, most_lanes, trees_of}
-use Rattle.mt_told.specs.declared.told.Told.{Told}
-use Rattle.mt_told.specs.declared.told.What.{What}
-use Rattle.mt_told.specs.declared.told.What.TheVariants.{Wrote, Got, Copied, Lawful}
-use Rattle.mt_told.specs.Telling.{IsToldBy}
-use Rattle.mt_verify.specs.AllGone.{HaveGoneTo, OpensGone, listings_by}
-use Rattle.mt_verify.specs.ToldReads.{calls_of_phases_before as calls_lower, is_got as is_look, numbers_behind, reads_count, reads_told, own_points}
-use Rattle.mt_verify.specs.Going.{Lane}
-use Rattle.mt_verify.specs.GoneTrees.{GoneTree, HasGone, gone_map}
-use Rattle.mt_verify.specs.Heard.{IsReader, is_got, reads_by}
-use Rattle.mt_verify.specs.Hearing.{AreNotedOf, IsHeardOf, IsNotedOf}
-use Rattle.mt_verify.specs.Histories.{AreRecordsOf, IsRecordOf, IsReplyOf, is_nomem, map_after_noted, record_noted, records_noted}
-use Rattle.mt_verify.specs.Looks.{AreLeastOf}
-use Rattle.mt_verify.specs.OwnLines.{calls_below, line_on, lines_on, looks_by_lane, stop_at, stops_told}
-use Rattle.mt_verify.specs.PrintedOrder.{EndsInTree, InPrintedOrder}
-use Rattle.mt_verify.specs.ToldCalls.{calls_told, numbered_of, numbered_on_told}
-use Rattle.mt_verify.specs.declared.calls.Numbered.{Numbered}
-use Rattle.mt_verify.specs.declared.looks.Look.{Look}
-use Rattle.mt_verify.specs.declared.noted.Heard.{Heard}
-use Rattle.mt_verify.specs.declared.noted.Heard.TheVariants.{Reply as Printed, Short}
-use Rattle.mt_verify.specs.declared.noted.Noted.{Noted}
-use Rattle.mt_verify.specs.declared.stops.Stop.{Stop}
+use Rattle.mt_verify.specs.ToldReads.{calls_of_phases_before as calls_lower, is_got as is_look}
+use Rattle.mt_verify.specs.Heard.{is_got}
+use Rattle.mt_verify.specs.declared.noted.Heard.TheVariants.{Reply as Printed}
 use Rattle.mt_verify.proofs.Filled.{history_in, numbered_by, numbered_in, reply_in}
 use Rattle.mt_verify.proofs.Found.{IsFound, IsHeldTold, IsOpened, IsRightCall, IsRightLine, OpensTold, holder_told, is_told_read, own_looks}
 use Rattle.mt_verify.proofs.Answered.{answered_are_records, answered_is_legal, maps_are}
@@ -55,7 +16,6 @@ use Rattle.mt_verify.proofs.OwnLines.{below_is, lane_is, own_is}
 use Rattle.mt_verify.proofs.OwnStops.{windows_within}
 use Rattle.mt_verify.proofs.RefusedTrees.{kept_in, lane_at}
 use Rattle.mt_verify.proofs.Runs.{all_at, some_at}
-use Rattle.mt_verify.specs.Histories.{history_of}
 
 -- the history that a tree has gone through
 abbrev pub history_by : ℕ → GoneTree → History

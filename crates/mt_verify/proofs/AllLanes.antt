@@ -1,20 +1,5 @@
 -- Where each lane's reads on each tree have the first numbers that do for the lane by itself, all reads of a run have.
-use Rattle.std.proofs.Common.{◌≡◌, ℕ, zero, suc, ◌+◌, ◌<◌, ◌≤◌, ◌==◌, true, List, [], ◌∷◌, ◌++◌, Option, Some, None, length, get_or, slice_get, refl, sym, ap, ◌∙◌, subst, inl, inr, arith}
-use Rattle.std.specs.List.{cons_option}
-use Rattle.std.proofs.lemmas.Bool.{cases_Bool, eq-eqb, eqb-true}
-use Rattle.std.proofs.lemmas.List.{get_or_append_left, get_or_at, length-append}
-use Rattle.std.proofs.lemmas.List.Elements.{filter_map-append}
-use Rattle.std.proofs.lemmas.Option.{slice_get_within, same_Some}
-use Rattle.mt_base.specs.History.{History, map_at}
-use Rattle.mt_base.proofs.Lists.{get_parts}
-use Rattle.mt_log.specs.declared.lines.Log.{Log}
-use Rattle.mt_log.specs.declared.transcripts.Transcript.{Transcript}
-use Rattle.mt_log.specs.Run.{Outcome, Called, Looked, Counted, Step, IsRunBy, StandsIn, is_read, shown}
-use Rattle.mt_verify.specs.declared.looks.Look.{Look}
-use Rattle.mt_verify.specs.Choices.{AreFirst}
-use Rattle.mt_verify.specs.LaneReads.{look_of, by_lane, looks_on, points_on, LanesArePicked}
-use Rattle.mt_verify.specs.Looks.{floor_at, IsFirstPoint}
-use Rattle.mt_verify.specs.Points.{point_of, lo_of, read_number, at_place, TellsAt, IsTrueAt, KnowsAt}
+use Rattle.mt_verify.proofs.Prelude.{◌≡◌, ℕ, zero, suc, ◌+◌, ◌<◌, ◌≤◌, ◌==◌, true, List, [], ◌∷◌, ◌++◌, Option, Some, None, length, get_or, slice_get, refl, sym, ap, ◌∙◌, subst, inl, inr, arith, cons_option, cases_Bool, eq-eqb, eqb-true, get_or_append_left, get_or_at, length-append, filter_map-append, slice_get_within, same_Some, History, map_at, get_parts, Log, Transcript, Outcome, Called, Looked, Counted, Step, IsRunBy, StandsIn, is_read, shown, Look, AreFirst, look_of, by_lane, looks_on, points_on, LanesArePicked, floor_at, IsFirstPoint, point_of, lo_of, read_number, at_place, TellsAt, IsTrueAt, KnowsAt}
 use Rattle.mt_verify.proofs.CopiedKinds.{still_there}
 use Rattle.mt_verify.proofs.Runs.{all_at, some_at, placed}
 

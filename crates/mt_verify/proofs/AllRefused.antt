@@ -1,24 +1,6 @@
 -- In every run that is told so the trees are those that were gone through: where that goes no further, there is no run.
-use Rattle.std.proofs.Common.{◌≡◌, ℕ, zero, suc, ◌<◌, ◌≤◌, List, [], ◌∷◌, ◌++◌, Some, length, drop, slice_get, refl, sym, ap, ◌∙◌, subst, arith}
-use Rattle.std.specs.List.{flat_map}
-use Rattle.std.proofs.lemmas.List.{append_assoc, take_all}
-use Rattle.std.proofs.lemmas.Option.{same_Some, slice_get_within}
-use Rattle.mt_base.specs.declared.kinds.Kind.{Kind}
-use Rattle.mt_base.specs.declared.ranges.Range.{Range}
-use Rattle.mt_base.specs.History.{History, last_map, map_at}
-use Rattle.mt_base.specs.Width.{most_rows}
-use Rattle.mt_log.specs.declared.lines.Log.{Log}
-use Rattle.mt_log.specs.declared.transcripts.Listing.{Listing}
-use Rattle.mt_log.specs.declared.transcripts.Transcript.{Transcript}
-use Rattle.mt_log.specs.Run.{IsRunBy, OpensAs, Step, listings_of}
-use Rattle.mt_log.specs.Text.{listing_text}
-use Rattle.mt_log.specs.Trees.{Declared, Opening, Empty, CopyOf, trees_of}
-use Rattle.mt_told.specs.declared.told.Told.{Told}
-use Rattle.mt_verify.specs.AllGone.{HaveGoneTo, IsGoneTree, IsToldRun, OpensGone, listing_by, listings_by}
+use Rattle.mt_verify.proofs.Prelude.{◌≡◌, ℕ, zero, suc, ◌<◌, ◌≤◌, List, [], ◌∷◌, ◌++◌, Some, length, drop, slice_get, refl, sym, ap, ◌∙◌, subst, arith, flat_map, append_assoc, take_all, same_Some, slice_get_within, Kind, Range, History, last_map, map_at, most_rows, Log, Listing, Transcript, IsRunBy, OpensAs, Step, listings_of, listing_text, Declared, Opening, Empty, CopyOf, trees_of, Told, HaveGoneTo, IsGoneTree, IsToldRun, OpensGone, listing_by, listings_by, CannotGo, GoneTree, gone_map, AreHeard, map_of_noted, CopiesEarlier}
 use Rattle.mt_verify.specs.ToldReads.{calls_of_phases_before as calls_before_told}
-use Rattle.mt_verify.specs.GoneTrees.{CannotGo, GoneTree, gone_map}
-use Rattle.mt_verify.specs.Histories.{AreHeard, map_of_noted}
-use Rattle.mt_verify.specs.Points.{CopiesEarlier}
 use Rattle.mt_verify.proofs.Answered.{heard_maps}
 use Rattle.mt_verify.proofs.OwnStops.{as_many_noted}
 use Rattle.mt_verify.proofs.RefusedTrees.{as_many_before, can_go}

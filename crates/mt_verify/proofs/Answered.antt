@@ -1,24 +1,8 @@
 -- Calls that are answered one by one as the maps before them answer are a legal history of their tree, and each history that
 -- a transcript may tell so is legal only where they are.
-use Rattle.std.proofs.Common.{◌≡◌, ◌⊎◌, ℕ, zero, suc, ◌+◌, ◌<◌, ◌≤◌, true, false, List, [], ◌∷◌, Option, Some, None, IfSome, length, slice_get, take, refl, sym, ap, ◌∙◌, subst, inl, inr, arith}
-use Rattle.std.specs.Prelude.{◌↔◌, IsSome, fold}
-use Rattle.std.proofs.lemmas.Option.{slice_get_within, same_Some}
-use Rattle.mt_base.specs.declared.kinds.Kind.{Kind}
-use Rattle.mt_base.specs.declared.ranges.Range.{Range}
-use Rattle.mt_base.specs.declared.calls.Call.{Call}
-use Rattle.mt_base.specs.declared.replies.Holder.{Holder}
-use Rattle.mt_base.specs.declared.replies.Reply.{Reply}
-use Rattle.mt_base.specs.declared.replies.Shortage.{Shortage}
-use Rattle.mt_base.specs.Call.{acted}
+use Rattle.mt_verify.proofs.Prelude.{◌≡◌, ◌⊎◌, ℕ, zero, suc, ◌+◌, ◌<◌, ◌≤◌, true, false, List, [], ◌∷◌, Option, Some, None, IfSome, length, slice_get, take, refl, sym, ap, ◌∙◌, subst, inl, inr, arith, ◌↔◌, IsSome, fold, slice_get_within, same_Some, Kind, Range, Call, Holder, Reply, Shortage, acted, Record, History, IsLegal, AreLegalFrom, IsAnswered, limits_after, map_at, map_by_reply, Limits, IsShort, IsRefused, reply_text, Heard, Short, Noted, AreAnswered, IsAnsweredAt, opened_of, map_heard, map_after_noted, map_of_noted, reply_heard, record_noted, records_noted, history_of, IsHeardAt, is_nomem, IsShortAs, IsHeard, AreHeard, IsReplyOf, AreRecordsOf}
 use Rattle.mt_base.specs.History as histories
-use Rattle.mt_base.specs.History.{Record, History, IsLegal, AreLegalFrom, IsAnswered, limits_after, map_at, map_by_reply}
-use Rattle.mt_base.specs.Nodes.{Limits, IsShort, IsRefused}
-use Rattle.mt_log.specs.Text.{reply_text}
-use Rattle.mt_verify.specs.declared.noted.Heard.{Heard}
-use Rattle.mt_verify.specs.declared.noted.Heard.TheVariants.{Reply as Printed, Short}
-use Rattle.mt_verify.specs.declared.noted.Noted.{Noted}
-use Rattle.mt_verify.specs.Going.{AreAnswered, IsAnsweredAt, opened_of}
-use Rattle.mt_verify.specs.Histories.{map_heard, map_after_noted, map_of_noted, reply_heard, record_noted, records_noted, history_of, IsHeardAt, is_nomem, IsShortAs, IsHeard, AreHeard, IsReplyOf, AreRecordsOf}
+use Rattle.mt_verify.specs.declared.noted.Heard.TheVariants.{Reply as Printed}
 use Rattle.mt_verify.proofs.Refusing.{acted_plainly}
 use Rattle.mt_verify.proofs.SameMaps.{stays, goes}
 

@@ -1,14 +1,6 @@
 -- In a log that can be read a copy is of a tree that is declared before it.
-use Rattle.std.proofs.Common.{◌≡◌, ℕ, zero, suc, ◌+◌, ◌<◌, List, [], ◌∷◌, ◌++◌, Option, Some, length, map, slice_get, refl, sym, ap, ◌∙◌, subst, inl, inr, arith}
-use Rattle.std.specs.Prelude.{◌⊎◌, option_to_list}
-use Rattle.std.proofs.lemmas.List.{append-nil, length_push, length-map}
-use Rattle.std.proofs.lemmas.Option.{same_Some}
-use Rattle.mt_log.specs.declared.lines.Item.{Item}
-use Rattle.mt_log.specs.declared.lines.Item.TheVariants.{Tree, Lane, Join, Dup, Check, Write, Ask, Scan}
-use Rattle.mt_log.specs.declared.lines.Line.{Line}
-use Rattle.mt_log.specs.Phases.{phase_after}
-use Rattle.mt_log.specs.Trees.{Declared, Empty, CopyOf, IsReadable, NamesBelow, AreNamedFrom, count_after, declared_by, renamed, trees_from, trees_of}
-use Rattle.mt_verify.specs.Points.{CopiesEarlier}
+use Rattle.mt_verify.proofs.Prelude.{◌≡◌, ℕ, zero, suc, ◌+◌, ◌<◌, List, [], ◌∷◌, ◌++◌, Option, Some, length, map, slice_get, refl, sym, ap, ◌∙◌, subst, inl, inr, arith, ◌⊎◌, option_to_list, append-nil, length_push, length-map, same_Some, Item, Tree, Join, Dup, Check, Write, Ask, Scan, Line, phase_after, Declared, Empty, CopyOf, IsReadable, NamesBelow, AreNamedFrom, count_after, declared_by, renamed, trees_from, trees_of, CopiesEarlier}
+use Rattle.mt_log.specs.declared.lines.Item.TheVariants.{Lane}
 use Rattle.mt_verify.proofs.Runs.{some_at}
 
 -- what stands in a list with one more behind it

@@ -1,17 +1,5 @@
 -- Lines are counted one after another, phase by phase.
-use Rattle.std.proofs.Common.{◌≡◌, ℕ, ◌+◌, ◌<◌, ◌≤◌, List, [], ◌∷◌, ◌++◌, Option, Some, None, length, get_or, take, drop, refl, sym, ap, ◌∙◌, subst, inl, inr, arith}
-use Rattle.std.specs.List.{AllByRecursion, AllPairs, filter_map, cons_option}
-use Rattle.std.specs.Option.{option_to_list}
-use Rattle.std.proofs.lemmas.Bool.{cases_lt, lt-ltb, le-ltb}
-use Rattle.std.proofs.lemmas.List.{take-append-drop, take_more, take_all, drop_more, get_or-drop, length-drop, get_or_default}
-use Rattle.std.proofs.lemmas.List.Elements.{filter_map-append, recursion_from_All}
-use Rattle.mt_base.proofs.Lists.{all_join, all_map}
-use Rattle.mt_told.specs.declared.told.Told.{Told}
-use Rattle.mt_told.specs.declared.told.What.{What}
-use Rattle.mt_told.specs.declared.told.What.TheVariants.{Wrote, Got, Copied, Lawful}
-use Rattle.mt_verify.specs.declared.counts.Counting.{Counting}
-use Rattle.mt_verify.specs.declared.stops.Stop.{Stop}
-use Rattle.mt_verify.specs.OwnLines.{calls_below, calls_in, entered, stop_at, stops_told}
+use Rattle.mt_verify.proofs.Prelude.{◌≡◌, ℕ, ◌+◌, ◌<◌, ◌≤◌, List, [], ◌∷◌, ◌++◌, Option, Some, None, length, get_or, take, drop, refl, sym, ap, ◌∙◌, subst, inl, inr, arith, AllByRecursion, AllPairs, filter_map, cons_option, option_to_list, cases_lt, lt-ltb, le-ltb, take-append-drop, take_more, take_all, drop_more, get_or-drop, length-drop, get_or_default, filter_map-append, recursion_from_All, all_join, all_map, Told, What, Wrote, Got, Copied, Lawful, Counting, Stop, calls_below, calls_in, entered, stop_at, stops_told}
 
 -- how many calls these lines tell, and how many of lower phases than this one
 abbrev pub calls_of : List Told → ℕ

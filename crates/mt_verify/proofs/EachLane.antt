@@ -1,16 +1,5 @@
 -- The numbers of a run's reads are, for each lane on each tree, such as the lane's looks may have.
-use Rattle.std.proofs.Common.{◌≡◌, ℕ, zero, suc, ◌+◌, ◌<◌, ◌≤◌, true, List, [], ◌∷◌, Option, Some, None, get_or, slice_get, refl, sym, ap, ◌∙◌, subst, inl, arith}
-use Rattle.std.specs.List.{All, AllPairs, cons_option}
-use Rattle.std.proofs.lemmas.Bool.{eq-eqb}
-use Rattle.std.proofs.lemmas.Option.{same_Some}
-use Rattle.mt_base.specs.History.{History, map_at}
-use Rattle.mt_log.specs.declared.lines.Log.{Log}
-use Rattle.mt_log.specs.declared.transcripts.Transcript.{Transcript}
-use Rattle.mt_log.specs.Run.{Outcome, Called, Looked, Counted, Step, IsRunBy, InOrder, StandsIn, IsTrueOf, Follows, is_read, shown}
-use Rattle.mt_verify.specs.declared.looks.Look.{Look}
-use Rattle.mt_verify.specs.LaneReads.{look_of, by_lane, looks_on, points_on}
-use Rattle.mt_verify.specs.Looks.{IsTrueOn, MayHave}
-use Rattle.mt_verify.specs.Points.{point_of, lo_of, read_number}
+use Rattle.mt_verify.proofs.Prelude.{◌≡◌, ℕ, zero, suc, ◌+◌, ◌<◌, ◌≤◌, true, List, [], ◌∷◌, Option, Some, None, get_or, slice_get, refl, sym, ap, ◌∙◌, subst, inl, arith, All, AllPairs, cons_option, eq-eqb, same_Some, History, map_at, Log, Transcript, Outcome, Called, Looked, Counted, Step, IsRunBy, InOrder, StandsIn, IsTrueOf, Follows, is_read, shown, Look, look_of, by_lane, looks_on, points_on, IsTrueOn, MayHave, point_of, lo_of, read_number}
 use Rattle.mt_verify.proofs.AllLanes.{IsReadOf, read_of, is_own, both_none, both_some}
 use Rattle.mt_verify.proofs.LeastNumbers.{low_at, high_at}
 use Rattle.mt_verify.proofs.Runs.{all_at, some_at}

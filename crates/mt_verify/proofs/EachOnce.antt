@@ -1,13 +1,5 @@
 -- Calls of a tree that are told, each once, in the order of their numbers.
-use Rattle.std.proofs.Common.{◌≡◌, ℕ, zero, suc, ◌+◌, ◌<◌, List, [], ◌∷◌, ◌++◌, Option, Some, None, length, map, get_or, take, drop, Contains, IsPermutation, arith, refl, sym, ap, ◌∙◌, subst, inl, inr}
-use Rattle.std.specs.List.{cons_option, enumerate_from}
-use Rattle.std.proofs.lemmas.List.{length-map, take-append-drop, take_more, drop_more, append-nil}
-use Rattle.std.proofs.lemmas.List.Elements.{filter_map-append}
-use Rattle.std.proofs.lemmas.List.FromFn.{length-enumerate_from}
-use Rattle.std.proofs.lemmas.List.Sorted.{IsPermutation-sym, IsPermutation-trans, IsPermutation-cons, IsPermutation-to_front, length_permutation}
-use Rattle.mt_told.specs.declared.told.Told.{Told}
-use Rattle.mt_verify.specs.declared.calls.Numbered.{Numbered}
-use Rattle.mt_verify.specs.ToldCalls.{AreCallsOf, HasNoPlace, calls_told, filled_from, numbered_on_told, times_numbered}
+use Rattle.mt_verify.proofs.Prelude.{◌≡◌, ℕ, zero, suc, ◌+◌, ◌<◌, List, [], ◌∷◌, ◌++◌, Option, Some, None, length, map, get_or, take, drop, Contains, IsPermutation, arith, refl, sym, ap, ◌∙◌, subst, inl, inr, cons_option, enumerate_from, length-map, take-append-drop, take_more, drop_more, append-nil, filter_map-append, length-enumerate_from, IsPermutation-sym, IsPermutation-trans, IsPermutation-cons, IsPermutation-to_front, length_permutation, Told, Numbered, AreCallsOf, HasNoPlace, calls_told, filled_from, numbered_on_told, times_numbered}
 use Rattle.mt_verify.proofs.Placed.{filled_all, times-append, times-permutation, times_below, times_behind, times_free, times_once, times_taken, times_yes}
 
 -- ---- the calls that lines tell, one line after another

@@ -1,22 +1,9 @@
 -- The steps of a run, put together from what a text tells, from the histories of its trees and from numbers for its
 -- reads; and when what is told is right.
-use Rattle.std.specs.Prelude.{◌≡◌, ℕ, ◌+◌, ◌-◌, ◌<◌, ◌≤◌, ◌==◌, true, List, [], ◌∷◌, Option, Some, None, length, option_map, slice_get, unwrap_or, if◌then◌else◌}
-use Rattle.std.specs.Fmt.{decimal}
-use Rattle.std.specs.List.{AllByRecursion}
+use Rattle.mt_verify.proofs.Prelude.{◌≡◌, ℕ, ◌+◌, ◌-◌, ◌<◌, ◌≤◌, ◌==◌, true, List, [], ◌∷◌, Option, Some, None, length, option_map, slice_get, unwrap_or, if◌then◌else◌, decimal, AllByRecursion, Reply, answer, Record, History, map_at, Outcome, Called, Looked, Counted, Step, shown, reply_text, Told, What, Wrote, Got, Copied, Lawful, Look, IsTrueOn, calls_of_phases_before, number_for, numbers_behind}
 use Rattle.mt_base.specs.declared.kinds.Kind.TheVariants as kinds
-use Rattle.mt_base.specs.declared.replies.Reply.{Reply}
 use Rattle.mt_base.specs.declared.replies.Reply.TheVariants as replies
-use Rattle.mt_base.specs.Call.{answer}
-use Rattle.mt_base.specs.History.{Record, History, map_at}
 use Rattle.mt_log.specs.declared.transcripts.Said.TheVariants as said
-use Rattle.mt_log.specs.Run.{Outcome, Called, Looked, Counted, Step, shown}
-use Rattle.mt_log.specs.Text.{reply_text}
-use Rattle.mt_told.specs.declared.told.Told.{Told}
-use Rattle.mt_told.specs.declared.told.What.{What}
-use Rattle.mt_told.specs.declared.told.What.TheVariants.{Wrote, Got, Copied, Lawful}
-use Rattle.mt_verify.specs.declared.looks.Look.{Look}
-use Rattle.mt_verify.specs.Looks.{IsTrueOn}
-use Rattle.mt_verify.specs.ToldReads.{calls_of_phases_before, number_for, numbers_behind}
 
 -- what the call of this number was answered
 abbrev pub reply_in : History → ℕ → Reply

@@ -1,22 +1,6 @@
 -- The reads of steps that are filled in are those of the lanes, with their numbers; each is right, and they keep the order.
-use Rattle.std.proofs.Common.{◌≡◌, ℕ, zero, suc, ◌+◌, ◌<◌, ◌≤◌, ◌==◌, true, List, [], ◌∷◌, Option, Some, None, length, map, slice_get, get_or, refl, sym, ap, ◌∙◌, subst, inl, inr, arith}
-use Rattle.std.specs.List.{All, AllByRecursion, AllPairs, cons_option, slice_index}
-use Rattle.std.proofs.lemmas.List.{length-map}
-use Rattle.std.proofs.lemmas.List.Elements.{All-from_recursion, recursion_from_All}
-use Rattle.std.proofs.lemmas.Bool.{cases_Bool, eq-eqb}
-use Rattle.mt_base.proofs.Lists.{all_map}
-use Rattle.mt_base.specs.History.{History, map_at}
-use Rattle.mt_log.specs.Run.{is_read}
-use Rattle.mt_told.specs.declared.told.Told.{Told}
-use Rattle.mt_told.specs.declared.told.What.{What}
-use Rattle.mt_told.specs.declared.told.What.TheVariants.{Wrote, Got, Copied, Lawful}
-use Rattle.mt_verify.specs.declared.looks.Look.{Look}
-use Rattle.mt_verify.specs.Looks.{AreLeastOf, IsTrueOn}
+use Rattle.mt_verify.proofs.Prelude.{◌≡◌, ℕ, zero, suc, ◌+◌, ◌<◌, ◌≤◌, ◌==◌, true, List, [], ◌∷◌, Option, Some, None, length, map, slice_get, get_or, refl, sym, ap, ◌∙◌, subst, inl, inr, arith, All, AllByRecursion, AllPairs, cons_option, slice_index, length-map, All-from_recursion, recursion_from_All, cases_Bool, eq-eqb, all_map, History, map_at, is_read, Told, What, Wrote, Got, Copied, Lawful, Look, AreLeastOf, IsTrueOn, point_of, points_of, lo_of, read_number, look_of, looks_on, points_on, InNumbers, calls_of_phases_before, is_got, number_for, numbers_behind, read_by, read_in, reads_count, reads_told}
 use Rattle.mt_verify.proofs.Runs.{all_at}
-use Rattle.mt_verify.specs.Points.{point_of, points_of, lo_of, read_number}
-use Rattle.mt_verify.specs.LaneReads.{look_of, looks_on, points_on}
-use Rattle.mt_verify.specs.Windows.{InNumbers}
-use Rattle.mt_verify.specs.ToldReads.{calls_of_phases_before, is_got, number_for, numbers_behind, read_by, read_in, reads_count, reads_told}
 use Rattle.mt_verify.proofs.Filled.{AreRight, EachLater, EndsBefore, EndsIn, HasNumber, IsReadOn, IsRight, ReadsRise, filled, history_in, outcome_in, step_in}
 use Rattle.mt_verify.proofs.Found.{AllReadsOn, AllReadsRise, IsRightCall, IsRightLine}
 

@@ -1,14 +1,5 @@
 -- Steps that are filled in from histories are told so, and stand in these histories.
-use Rattle.std.proofs.Common.{◌≡◌, ℕ, suc, ◌<◌, ◌==◌, ◌&&◌, List, [], ◌∷◌, length, nat_lt, refl, ap, ◌∙◌, inl, inr, arith}
-use Rattle.std.specs.List.{AllByRecursion, filter_map}
-use Rattle.std.proofs.lemmas.Bool.{cases_Bool, eqb-true}
-use Rattle.mt_base.specs.History.{History}
-use Rattle.mt_log.specs.Run.{Step, IsTrueOf, calls_before, is_call, numbered_on, record_in}
-use Rattle.mt_told.specs.declared.told.Told.{Told}
-use Rattle.mt_told.specs.declared.told.What.{What}
-use Rattle.mt_told.specs.declared.told.What.TheVariants.{Wrote, Got, Copied, Lawful}
-use Rattle.mt_told.specs.Telling.{AreTold}
-use Rattle.mt_verify.specs.ToldReads.{calls_of_phases_before, is_wrote, number_for, numbers_behind}
+use Rattle.mt_verify.proofs.Prelude.{◌≡◌, ℕ, suc, ◌<◌, ◌==◌, ◌&&◌, List, [], ◌∷◌, length, nat_lt, refl, ap, ◌∙◌, inl, inr, arith, AllByRecursion, filter_map, cases_Bool, eqb-true, History, Step, IsTrueOf, calls_before, is_call, numbered_on, record_in, Told, What, Wrote, Got, Copied, Lawful, AreTold, calls_of_phases_before, is_wrote, number_for, numbers_behind}
 use Rattle.mt_verify.proofs.Filled.{AreRight, IsRight, filled, history_in, numbered_by, numbered_in, outcome_in, step_in}
 use Rattle.mt_verify.proofs.ToldSteps.{IsToldOf}
 

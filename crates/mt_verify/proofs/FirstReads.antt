@@ -1,12 +1,5 @@
 -- In which phase each lane reads each tree first.
-use Rattle.std.proofs.Common.{◌≡◌, ◌↔◌, ℕ, ◌+◌, ◌*◌, ◌<◌, ◌≤◌, true, false, List, [], ◌∷◌, Option, None, All, get_or, replicate, arith, subst, inl, inr}
-use Rattle.std.specs.List.{list_any}
-use Rattle.std.proofs.lemmas.Bool.{and_parts, cases_Bool, eqb-true}
-use Rattle.std.proofs.lemmas.List.{get_or-replicate}
-use Rattle.std.proofs.lemmas.List.Elements.{All-head, All-tail}
-use Rattle.mt_log.specs.Trees.{most_lanes, most_trees}
-use Rattle.mt_told.specs.declared.told.Told.{Told}
-use Rattle.mt_verify.specs.Heard.{HasReadBy, reads_by}
+use Rattle.mt_verify.proofs.Prelude.{◌≡◌, ◌↔◌, ℕ, ◌+◌, ◌*◌, ◌<◌, ◌≤◌, true, false, List, [], ◌∷◌, Option, None, All, get_or, replicate, arith, subst, inl, inr, list_any, and_parts, cases_Bool, eqb-true, get_or-replicate, All-head, All-tail, most_lanes, most_trees, Told, HasReadBy, reads_by}
 
 pub none_read : (tree lane phase : ℕ) (other : Option ℕ) → tree < most_trees → lane < most_lanes → HasReadBy (get_or (replicate 256 None) (16 * tree + lane) other) phase ↔ (false ≡ true)
 none_read tree lane phase other below beside =

@@ -1,18 +1,5 @@
 -- What is found of a text that tells a run: histories of the log's trees, and numbers of the reads.
-use Rattle.std.specs.Prelude.{◌≡◌, ◌≢◌, ℕ, ◌<◌, ◌≤◌, ◌==◌, ◌&&◌, Bool, true, List, [], Option, Some, None, All, AllPairs, IfSome, IsPermutation, length, map, nat_le, slice_get}
-use Rattle.std.specs.List.{AllByRecursion, enumerate_from, filter_map, list_any}
-use Rattle.mt_base.specs.declared.replies.Holder.{Holder}
-use Rattle.mt_base.specs.History.{History, IsLegal, map_at}
-use Rattle.mt_base.specs.Passes.{holder_of}
-use Rattle.mt_log.specs.declared.lines.Log.{Log}
-use Rattle.mt_log.specs.Trees.{Declared, Opening, Empty, CopyOf, trees_of}
-use Rattle.mt_told.specs.declared.told.Told.{Told}
-use Rattle.mt_told.specs.declared.told.What.{What}
-use Rattle.mt_told.specs.declared.told.What.TheVariants.{Wrote, Got, Copied, Lawful}
-use Rattle.mt_verify.specs.ToldReads.{calls_of_phases_before, is_got, reads_count, reads_told, own_points}
-use Rattle.mt_verify.specs.declared.looks.Look.{Look}
-use Rattle.mt_verify.specs.Looks.{AreLeastOf}
-use Rattle.mt_verify.specs.PrintedOrder.{InPrintedOrder}
+use Rattle.mt_verify.proofs.Prelude.{◌≡◌, ◌≢◌, ℕ, ◌<◌, ◌≤◌, ◌==◌, ◌&&◌, Bool, true, List, [], Option, Some, None, All, AllPairs, IfSome, IsPermutation, length, map, nat_le, slice_get, AllByRecursion, enumerate_from, filter_map, list_any, Holder, History, IsLegal, map_at, holder_of, Log, Declared, Opening, Empty, CopyOf, trees_of, Told, What, Wrote, Got, Copied, Lawful, calls_of_phases_before, is_got, reads_count, reads_told, own_points, Look, AreLeastOf, InPrintedOrder}
 use Rattle.mt_verify.proofs.Filled.{EachLater, IsReadOn, IsRight, ReadsRise, history_in, numbered_in, reply_in}
 
 -- how a history opens: empty, or with the map of another tree after the calls that are told of earlier phases

@@ -1,33 +1,5 @@
 -- What is found of a text makes a run of it.
-use Rattle.std.proofs.Common.{◌≡◌, ◌≢◌, ℕ, zero, suc, ◌+◌, ◌-◌, ◌<◌, ◌≤◌, ◌==◌, true, List, [], ◌∷◌, Option, Some, None, length, map, slice_get, get_or, refl, sym, ap, ◌∙◌, subst, inl, inr, arith}
-use Rattle.std.specs.Prelude.{IfSome, All, AllPairs}
-use Rattle.std.specs.List.{AllByRecursion, Contains, enumerate_from, filter_map, list_any, cons_option}
-use Rattle.std.specs.List.Sorted.{IsPermutation}
-use Rattle.std.proofs.lemmas.Bool.{cases_Bool, eqb-true}
-use Rattle.std.proofs.lemmas.Option.{same_Some, slice_get_cases, get_or_from_slice_get, slice_get-get_or}
-use Rattle.std.proofs.lemmas.List.Elements.{All-from_recursion, recursion_from_All, Contains-get_or}
-use Rattle.std.proofs.lemmas.List.FromFn.{length-enumerate_from, get_or-enumerate_from}
-use Rattle.std.proofs.lemmas.List.Sorted.{Contains-permutation}
-use Rattle.mt_base.specs.declared.calls.Call.TheVariants.{Clear}
-use Rattle.mt_base.specs.declared.calls.Query.{Query}
-use Rattle.mt_base.specs.declared.replies.Reply.TheVariants.{Ok}
-use Rattle.mt_log.specs.declared.transcripts.Answer.{Answer}
-use Rattle.mt_base.specs.declared.replies.Holder.{Holder}
-use Rattle.mt_base.proofs.Lists.{all_map}
-use Rattle.mt_base.specs.History.{Record, History, map_at}
-use Rattle.mt_log.specs.declared.lines.Log.{Log}
-use Rattle.mt_log.specs.declared.transcripts.Transcript.{Transcript}
-use Rattle.mt_log.specs.Run.{Step, IsHeldRightly, IsRunBy, IsTrueOf, Opens, OpensAs, StandsIn, InOrder, calls_before, entry_of, holder_in, is_read, is_read_by, listings_of, numbered_on, AreDone, steps_of}
-use Rattle.mt_log.specs.Trees.{Declared, IsReadable, Opening, Empty, CopyOf, trees_of}
-use Rattle.mt_told.specs.declared.told.Told.{Told}
-use Rattle.mt_told.specs.declared.told.What.{What}
-use Rattle.mt_told.specs.declared.told.What.TheVariants.{Wrote, Got, Copied, Lawful}
-use Rattle.mt_told.specs.Telling.{AreTold, IsTold}
-use Rattle.mt_verify.specs.ToldReads.{calls_of_phases_before, is_got, number_for, numbers_behind, reads_told}
-use Rattle.mt_verify.specs.declared.looks.Look.{Look}
-use Rattle.mt_verify.specs.Looks.{ArePicked}
-use Rattle.mt_verify.specs.LaneReads.{LanesArePicked, points_on}
-use Rattle.mt_verify.specs.Points.{AreUpTo, lo_of, read_number, points_of}
+use Rattle.mt_verify.proofs.Prelude.{◌≡◌, ◌≢◌, ℕ, zero, suc, ◌+◌, ◌-◌, ◌<◌, ◌≤◌, ◌==◌, true, List, [], ◌∷◌, Option, Some, None, length, map, slice_get, get_or, refl, sym, ap, ◌∙◌, subst, inl, inr, arith, IfSome, All, AllPairs, AllByRecursion, Contains, enumerate_from, filter_map, list_any, cons_option, IsPermutation, cases_Bool, eqb-true, same_Some, slice_get_cases, get_or_from_slice_get, slice_get-get_or, All-from_recursion, recursion_from_All, Contains-get_or, length-enumerate_from, get_or-enumerate_from, Contains-permutation, Clear, Query, Ok, Answer, Holder, all_map, Record, History, map_at, Log, Transcript, Step, IsHeldRightly, IsRunBy, IsTrueOf, Opens, OpensAs, StandsIn, InOrder, calls_before, entry_of, holder_in, is_read, is_read_by, listings_of, numbered_on, AreDone, steps_of, Declared, IsReadable, Opening, Empty, CopyOf, trees_of, Told, What, Wrote, Got, Copied, Lawful, AreTold, IsTold, calls_of_phases_before, is_got, number_for, numbers_behind, reads_told, Look, ArePicked, LanesArePicked, points_on, AreUpTo, lo_of, read_number, points_of}
 use Rattle.mt_verify.specs.Windows as windows
 use Rattle.mt_verify.proofs.Filled.{AreRight, IsRight, EachLater, EndsBefore, EndsIn, filled, history_in, numbered_by, numbered_in, outcome_in, step_in}
 use Rattle.mt_verify.proofs.Found.{AllReadsOn, AllReadsRise, IsFound, own_looks, IsHeldTold, IsOpened, IsRightLine, OpensTold, holder_told, is_told_read}

@@ -1,22 +1,5 @@
 -- What is found of a text is the verdict on it.
-use Rattle.std.proofs.Common.{◌≡◌, ℕ, List, [], ◌++◌, length, map, get_or, sym, ap, ◌∙◌, subst, arith, IsPermutation}
-use Rattle.std.specs.List.{All, AllPairs, enumerate_from, flat_map, filter_map}
-use Rattle.std.proofs.lemmas.List.{append-nil}
-use Rattle.std.proofs.lemmas.List.FromFn.{length-enumerate_from}
-use Rattle.std.proofs.lemmas.List.Sorted.{length_permutation}
-use Rattle.mt_base.specs.History.{History, Record}
-use Rattle.mt_log.specs.declared.lines.Log.{Log}
-use Rattle.mt_log.specs.declared.transcripts.Transcript.{Transcript}
-use Rattle.mt_log.specs.Run.{Outcome, Called, Looked, Counted, Step, IsRun, IsRunBy, IsTrueOf, calls_before, entry_of, listings_of, numbered_on}
-use Rattle.mt_log.specs.Text.{entry_text, listing_text, text_of}
-use Rattle.mt_log.specs.Trees.{IsReadable, trees_of}
-use Rattle.mt_told.specs.declared.told.Told.{Told}
-use Rattle.mt_told.proofs.Versions.{none_told, only_told, printed_told}
-use Rattle.mt_told.specs.Telling.{AreTold, IsSmall, IsToldBy, TellsNone, spelling_of}
-use Rattle.mt_verify.specs.AllGone.{HaveGoneTo, IsToldRun, NoneIsTold, listings_by}
-use Rattle.mt_verify.specs.GoneTrees.{GoneTree}
-use Rattle.mt_verify.specs.Points.{AreLeastPoints, AreUpTo}
-use Rattle.mt_verify.specs.PrintedOrder.{EndsInTree, InPrintedOrder}
+use Rattle.mt_verify.proofs.Prelude.{◌≡◌, ℕ, List, [], ◌++◌, length, map, get_or, sym, ap, ◌∙◌, subst, arith, IsPermutation, All, AllPairs, enumerate_from, flat_map, filter_map, append-nil, length-enumerate_from, length_permutation, History, Record, Log, Transcript, Outcome, Called, Looked, Counted, Step, IsRun, IsRunBy, IsTrueOf, calls_before, entry_of, listings_of, numbered_on, entry_text, listing_text, text_of, IsReadable, trees_of, Told, none_told, only_told, printed_told, AreTold, IsSmall, IsToldBy, TellsNone, spelling_of, HaveGoneTo, IsToldRun, NoneIsTold, listings_by, GoneTree, AreLeastPoints, AreUpTo, EndsInTree, InPrintedOrder}
 use Rattle.mt_verify.specs.Windows as of_steps
 use Rattle.mt_verify.proofs.AllFound.{history_by, listings_are}
 use Rattle.mt_verify.proofs.Filled.{filled}

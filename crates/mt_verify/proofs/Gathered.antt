@@ -1,15 +1,5 @@
 -- Lines that are gone through one by one, and what is asked for by them.
-use Rattle.std.proofs.Common.{◌≡◌, ◌↔◌, ℕ, ◌<◌, ◌≤◌, List, [], ◌∷◌, ◌++◌, length, get_or, set, replicate, All, inl, inr, arith, refl, sym, ap, ◌∙◌, subst, get_or-set_same, get_or-set_other}
-use Rattle.std.proofs.lemmas.List.{length_push, length-set, get_or_default, length-replicate, get_or-replicate, get_or_append_left, get_or_push}
-use Rattle.std.proofs.lemmas.Bool.{cases_eq}
-use Rattle.std.proofs.lemmas.List.Elements.{All-push}
-use Rattle.mt_log.specs.Trees.{most_lanes}
-use Rattle.mt_told.specs.declared.told.Told.{Told}
-use Rattle.mt_told.specs.declared.told.What.{What}
-use Rattle.mt_verify.specs.declared.windows.Mark.{Mark}
-use Rattle.mt_verify.specs.declared.windows.Marks.{Marks}
-use Rattle.mt_verify.specs.Marked.{Admits, Gather, AreMarked, lane_place}
-use Rattle.mt_verify.specs.PrintedOrder.{KeepsTo}
+use Rattle.mt_verify.proofs.Prelude.{◌≡◌, ◌↔◌, ℕ, ◌<◌, ◌≤◌, List, [], ◌∷◌, ◌++◌, length, get_or, set, replicate, All, inl, inr, arith, refl, sym, ap, ◌∙◌, subst, get_or-set_same, get_or-set_other, length_push, length-set, get_or_default, length-replicate, get_or-replicate, get_or_append_left, get_or_push, cases_eq, All-push, most_lanes, Told, What, Mark, Marks, Admits, Gather, AreMarked, lane_place, KeepsTo}
 
 module _ {X : Type 0} (P : X → Type 0) where
   pub all_but_last : (xs : List X) (y : X) → All P (xs ++ y ∷ []) → All P xs

@@ -1,23 +1,5 @@
 -- The tree of a log that comes next is gone through, behind those that were.
-use Rattle.std.proofs.Common.{◌≡◌, ℕ, ◌<◌, List, [], ◌∷◌, ◌++◌, Some, length, take, slice_get, refl, sym, ap, ◌∙◌, subst, inl, inr, arith}
-use Rattle.std.specs.List.{flat_map}
-use Rattle.std.proofs.lemmas.Grind.{flat_map-append}
-use Rattle.std.proofs.lemmas.List.{append-nil, append_assoc}
-use Rattle.std.proofs.lemmas.Option.{same_Some, slice_get_within}
-use Rattle.mt_base.specs.declared.kinds.Kind.{Kind}
-use Rattle.mt_base.specs.declared.ranges.Range.{Range}
-use Rattle.mt_base.specs.Map.{IsMap}
-use Rattle.mt_list.specs.ListMap.{Contents}
-use Rattle.mt_log.specs.declared.lines.Log.{Log}
-use Rattle.mt_log.specs.declared.transcripts.Listing.{Listing}
-use Rattle.mt_log.specs.Text.{listing_text}
-use Rattle.mt_log.specs.Trees.{Declared, Opening, Empty, CopyOf, trees_of}
-use Rattle.mt_told.specs.declared.told.Told.{Told}
-use Rattle.mt_verify.specs.AllGone.{HaveGoneTo, IsGoneTree, NoneIsTold, OpensGone, listing_by, listings_by}
-use Rattle.mt_verify.specs.ToldReads.{calls_of_phases_before}
-use Rattle.mt_verify.specs.GoneTrees.{CannotGo, GoneTree, IsGoneFrom}
-use Rattle.mt_verify.specs.Openings.{OpensAsMap, just_opened}
-use Rattle.mt_verify.specs.Verifying.{IsOfLog}
+use Rattle.mt_verify.proofs.Prelude.{◌≡◌, ℕ, ◌<◌, List, [], ◌∷◌, ◌++◌, Some, length, take, slice_get, refl, sym, ap, ◌∙◌, subst, inl, inr, arith, flat_map, flat_map-append, append-nil, append_assoc, same_Some, slice_get_within, Kind, Range, IsMap, Contents, Log, Listing, listing_text, Declared, Opening, Empty, CopyOf, trees_of, Told, HaveGoneTo, IsGoneTree, NoneIsTold, OpensGone, listing_by, listings_by, calls_of_phases_before, CannotGo, GoneTree, IsGoneFrom, OpensAsMap, just_opened, IsOfLog}
 use Rattle.mt_verify.proofs.AllRefused.{ends_so, next_goes, next_listed, none_left}
 use Rattle.mt_verify.proofs.CopiedKinds.{copies_are_alike, still_there}
 use Rattle.mt_verify.proofs.CopiedTrees.{copies_are_earlier, split_get}

@@ -1,20 +1,5 @@
 -- What a tree comes to that was gone through, put together.
-use Rattle.std.proofs.Common.{◌≡◌, ◌⊎◌, ℕ, zero, suc, List, [], ◌∷◌, ◌++◌, length, take, false, true, refl, sym, ap, ◌∙◌, subst, inr, arith}
-use Rattle.std.specs.List.{enumerate_from}
-use Rattle.std.proofs.lemmas.List.FromFn.{length-enumerate_from}
-use Rattle.std.proofs.lemmas.List.Sorted.{length_permutation}
-use Rattle.mt_list.specs.ListMap.{Contents}
-use Rattle.mt_told.specs.declared.told.Told.{Told}
-use Rattle.mt_verify.specs.declared.calls.Numbered.{Numbered}
-use Rattle.mt_verify.specs.declared.noted.Noted.{Noted}
-use Rattle.mt_verify.specs.declared.stops.Stop.{Stop}
-use Rattle.mt_verify.specs.Going.{AreAnswered, AllStopped, IsGone, IsLastMap, Lane, SomeHasNone, looks_of}
-use Rattle.mt_verify.specs.GoneTrees.{CannotGo, GoneTree, IsGoneFrom, lane_looks}
-use Rattle.mt_verify.specs.Hearing.{AreNotedOf}
-use Rattle.mt_verify.specs.Histories.{map_of_noted}
-use Rattle.mt_verify.specs.OwnLines.{lines_on, stops_told}
-use Rattle.mt_verify.specs.Stops.{Passing, SomeMiscounted}
-use Rattle.mt_verify.specs.ToldCalls.{AreCallsOf, calls_told}
+use Rattle.mt_verify.proofs.Prelude.{◌≡◌, ◌⊎◌, ℕ, zero, suc, List, [], ◌∷◌, ◌++◌, length, take, false, true, refl, sym, ap, ◌∙◌, subst, inr, arith, enumerate_from, length-enumerate_from, length_permutation, Contents, Told, Numbered, Noted, Stop, AreAnswered, AllStopped, IsGone, IsLastMap, Lane, SomeHasNone, looks_of, CannotGo, GoneTree, IsGoneFrom, lane_looks, AreNotedOf, map_of_noted, lines_on, stops_told, Passing, SomeMiscounted, AreCallsOf, calls_told}
 use Rattle.mt_verify.proofs.OwnStops.{as_many_noted}
 
 pub many_noted : (told : List Told) (tree : ℕ) (calls : List Numbered) (noted : List Noted) → AreCallsOf tree told calls → AreNotedOf told tree calls noted → length noted ≡ length (calls_told tree told)

@@ -1,17 +1,5 @@
 -- The calls of a history stand by their numbers as they are told.
-use Rattle.std.proofs.Common.{◌≡◌, ℕ, zero, suc, ◌+◌, ◌<◌, List, [], ◌∷◌, Some, length, slice_get, get_or, refl, sym, ap, ◌∙◌, subst, arith}
-use Rattle.std.specs.List.{Contains, enumerate_from, filter_map}
-use Rattle.std.specs.List.Sorted.{IsPermutation}
-use Rattle.std.proofs.lemmas.Option.{same_Some, slice_get_within, get_or_from_slice_get, slice_get-get_or}
-use Rattle.std.proofs.lemmas.List.Elements.{Contains-get_or}
-use Rattle.std.proofs.lemmas.List.FromFn.{length-enumerate_from, get_or-enumerate_from}
-use Rattle.std.proofs.lemmas.List.Sorted.{Contains-permutation, IsPermutation-sym, length_permutation}
-use Rattle.mt_base.specs.History.{Record}
-use Rattle.mt_log.specs.Run.{Step, numbered_on}
-use Rattle.mt_log.specs.Text.{reply_text}
-use Rattle.mt_told.specs.declared.told.Told.{Told}
-use Rattle.mt_verify.specs.declared.calls.Numbered.{Numbered}
-use Rattle.mt_verify.specs.ToldCalls.{AreCallsOf, AreRecordsTold, IsRecordTold, calls_told}
+use Rattle.mt_verify.proofs.Prelude.{◌≡◌, ℕ, zero, suc, ◌+◌, ◌<◌, List, [], ◌∷◌, Some, length, slice_get, get_or, refl, sym, ap, ◌∙◌, subst, arith, Contains, enumerate_from, filter_map, IsPermutation, same_Some, slice_get_within, get_or_from_slice_get, slice_get-get_or, Contains-get_or, length-enumerate_from, get_or-enumerate_from, Contains-permutation, IsPermutation-sym, length_permutation, Record, Step, numbered_on, reply_text, Told, Numbered, AreCallsOf, AreRecordsTold, IsRecordTold, calls_told}
 use Rattle.mt_verify.proofs.ToldSteps.{as_many_told}
 
 -- ---- places

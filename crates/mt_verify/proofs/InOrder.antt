@@ -1,7 +1,5 @@
 -- Lines in order, pair by pair, as one more is gone through.
-use Rattle.std.proofs.Common.{ℕ, ◌+◌, ◌<◌, List, length, get_or, take, All, AllPairs, arith, sym, subst}
-use Rattle.std.proofs.lemmas.List.{length-take, take_more, get_or-take, get_or_default}
-use Rattle.std.proofs.lemmas.List.Quantifiers.{all_pairs_push}
+use Rattle.mt_verify.proofs.Prelude.{ℕ, ◌+◌, ◌<◌, List, length, get_or, take, All, AllPairs, arith, sym, subst, length-take, take_more, get_or-take, get_or_default, all_pairs_push}
 
 module _ {X : Type 0} (R : X → X → Type 0) (xs : List X) where
   pub pairs_more : (i : ℕ) (d : X) → i < length xs → AllPairs R (take i xs) → All (λ x. R x (get_or xs i d)) (take i xs) → AllPairs R (take (i + 1) xs)

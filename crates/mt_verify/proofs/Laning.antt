@@ -1,17 +1,5 @@
 -- All lanes go through the maps of a tree.
-use Rattle.std.proofs.Common.{◌≡◌, ◌≢◌, ℕ, zero, suc, ◌+◌, ◌<◌, ◌≤◌, true, List, [], ◌∷◌, Option, Some, None, length, slice_get, slice_set, refl, sym, ap, ◌∙◌, subst, inl, inr, arith}
-use Rattle.std.specs.Prelude.{option_map}
-use Rattle.std.proofs.lemmas.Bool.{cases_lt}
-use Rattle.std.proofs.lemmas.List.Sums.{fold_more}
-use Rattle.std.proofs.lemmas.Option.{slice_get_within, slice_get-map, none-some, same_Some, get_or_from_slice_get}
-use Rattle.mt_base.specs.declared.kinds.Kind.{Kind}
-use Rattle.mt_base.specs.declared.ranges.Range.{Range}
-use Rattle.mt_list.specs.ListMap.{Contents}
-use Rattle.mt_verify.specs.declared.looks.Look.{Look}
-use Rattle.mt_verify.specs.declared.noted.Noted.{Noted}
-use Rattle.mt_verify.specs.Histories.{map_after_noted, map_of_noted}
-use Rattle.mt_verify.specs.Looks.{ArePickedBelow, IsStuck}
-use Rattle.mt_verify.specs.Going.{Lane, opened_of, IsAnsweredAt, AreAnswered, AreOn, SomeStuck, looks_of, AllLeast, SomeHasNone, AreWithin, SomeWaits, AreLanesDone, AreFresh}
+use Rattle.mt_verify.proofs.Prelude.{◌≡◌, ◌≢◌, ℕ, zero, suc, ◌+◌, ◌<◌, ◌≤◌, true, List, [], ◌∷◌, Option, Some, None, length, slice_get, slice_set, refl, sym, ap, ◌∙◌, subst, inl, inr, arith, option_map, cases_lt, fold_more, slice_get_within, slice_get-map, none-some, same_Some, get_or_from_slice_get, Kind, Range, Contents, Look, Noted, map_after_noted, map_of_noted, ArePickedBelow, IsStuck, Lane, opened_of, IsAnsweredAt, AreAnswered, AreOn, SomeStuck, looks_of, AllLeast, SomeHasNone, AreWithin, SomeWaits, AreLanesDone, AreFresh}
 use Rattle.mt_verify.proofs.LeastNumbers.{picked_is_least, stuck_has_none}
 
 -- of these lanes the first so many have gone through this number as well

@@ -57,3 +57,4 @@ pub mod FoundVerdict
 pub mod Tellings
 pub mod Filled
 pub mod Found
+mod Prelude

@@ -1,14 +1,6 @@
 -- A read of a lower phase ends where no read of a higher phase begins below it: between them would stand a call that the one of
 -- them should know of.
-use Rattle.std.proofs.Common.{◌≡◌, ℕ, ◌+◌, ◌<◌, ◌≤◌, List, Some, slice_get, refl, sym, ap, ◌∙◌, subst, inl, inr, arith}
-use Rattle.std.specs.List.{AllPairs}
-use Rattle.std.proofs.lemmas.Bool.{cases_lt}
-use Rattle.mt_base.specs.declared.calls.Query.{Query}
-use Rattle.mt_log.specs.declared.transcripts.Answer.{Answer}
-use Rattle.mt_told.specs.declared.told.Told.{Told}
-use Rattle.mt_told.specs.declared.told.What.{What}
-use Rattle.mt_told.specs.declared.told.What.TheVariants.{Wrote, Got, Copied, Lawful}
-use Rattle.mt_verify.specs.PrintedOrder.{InPrintedOrder, KeepsTo}
+use Rattle.mt_verify.proofs.Prelude.{◌≡◌, ℕ, ◌+◌, ◌<◌, ◌≤◌, List, Some, slice_get, refl, sym, ap, ◌∙◌, subst, inl, inr, arith, AllPairs, cases_lt, Query, Answer, Told, What, Wrote, Got, Copied, Lawful, InPrintedOrder, KeepsTo}
 use Rattle.mt_verify.proofs.Runs.{pairs_at}
 
 abbrev pub call_of : What → ℕ

@@ -1,13 +1,5 @@
 -- Marks: what lines ask for of those that know of them.
-use Rattle.std.proofs.Common.{◌≡◌, ◌↔◌, ℕ, ◌<◌, max, List, Bor, Option, Some, IfSome, arith, sym, subst}
-use Rattle.mt_base.specs.declared.calls.Call.{Call}
-use Rattle.mt_base.specs.declared.calls.Query.{Query}
-use Rattle.mt_log.specs.declared.transcripts.Answer.{Answer}
-use Rattle.mt_told.specs.declared.told.What.{What}
-use Rattle.mt_told.specs.declared.told.What.TheVariants.{Wrote, Got, Copied, Lawful}
-use Rattle.mt_verify.specs.declared.windows.Mark.{Mark}
-use Rattle.mt_verify.specs.Marked.{Admits}
-use Rattle.mt_verify.specs.PrintedOrder.{KeepsTo}
+use Rattle.mt_verify.proofs.Prelude.{◌≡◌, ◌↔◌, ℕ, ◌<◌, max, List, Bor, Option, Some, IfSome, arith, sym, subst, Call, Query, Answer, What, Wrote, Got, Copied, Lawful, Mark, Admits, KeepsTo}
 
 -- this is the greater of two numbers, of which one may be none
 abbrev pub IsGreatest : Option ℕ → ℕ → ℕ → Type 0

@@ -1,23 +1,6 @@
 -- The numbers of reads, put together line by line from those of each lane on each tree.
-use Rattle.std.proofs.Common.{◌≡◌, ◌⊎◌, ℕ, suc, ◌+◌, ◌*◌, ◌<◌, ◌==◌, true, false, List, [], ◌∷◌, ◌++◌, Option, Some, None, length, filter, map, replicate, set, slice_get, get_or, take, drop, refl, sym, ap, ◌∙◌, subst, inl, inr, arith, get_or-set_same, get_or-set_other, length-append, drop-cons}
-use Rattle.std.specs.List.{cons_option, slice_index}
-use Rattle.std.proofs.lemmas.Bool.{cases_Bool, eqb-false, eqb-true, eq-eqb}
-use Rattle.std.proofs.lemmas.List.{append-nil, get_or-replicate, length-map, length-replicate, length-set, take_all, take_more, take-append-drop}
-use Rattle.std.proofs.lemmas.List.Elements.{filter-append, filter_map-append}
-use Rattle.std.proofs.lemmas.List.FromFn.{length-map-range_with_len}
-use Rattle.std.proofs.lemmas.Option.{slice_get-get_or, slice_get_within}
+use Rattle.mt_verify.proofs.Prelude.{◌≡◌, ◌⊎◌, ℕ, suc, ◌+◌, ◌*◌, ◌<◌, ◌==◌, true, false, List, [], ◌∷◌, ◌++◌, Option, Some, None, length, filter, map, replicate, set, slice_get, get_or, take, drop, refl, sym, ap, ◌∙◌, subst, inl, inr, arith, get_or-set_same, get_or-set_other, length-append, drop-cons, cons_option, slice_index, cases_Bool, eqb-false, eqb-true, eq-eqb, append-nil, get_or-replicate, length-map, length-replicate, length-set, take_all, take_more, take-append-drop, filter-append, filter_map-append, length-map-range_with_len, slice_get-get_or, slice_get_within, most_lanes, Told, What, Wrote, Got, Copied, Lawful, Look, is_got, number_for, numbers_behind, read_by, read_in, reads_count, reads_told, own_points, AreLanesDone, Lane, looks_of, GoneTree, lane_looks, look_by, look_told, looks_told, cell_of, points_at, lines_on, looks_by_lane}
 use Rattle.mt_base.specs.declared.kinds.Kind.TheVariants as kinds
-use Rattle.mt_log.specs.Trees.{most_lanes}
-use Rattle.mt_told.specs.declared.told.Told.{Told}
-use Rattle.mt_told.specs.declared.told.What.{What}
-use Rattle.mt_told.specs.declared.told.What.TheVariants.{Wrote, Got, Copied, Lawful}
-use Rattle.mt_verify.specs.declared.looks.Look.{Look}
-use Rattle.mt_verify.specs.ToldReads.{is_got, number_for, numbers_behind, read_by, read_in, reads_count, reads_told, own_points}
-use Rattle.mt_verify.specs.Going.{AreLanesDone, Lane, looks_of}
-use Rattle.mt_verify.specs.GoneTrees.{GoneTree, lane_looks}
-use Rattle.mt_verify.specs.LaneReads.{look_by, look_told, looks_told}
-use Rattle.mt_verify.specs.Merging.{cell_of, points_at}
-use Rattle.mt_verify.specs.OwnLines.{lines_on, looks_by_lane}
 use Rattle.mt_verify.proofs.Filled.{HasNumber}
 use Rattle.mt_verify.proofs.FilledReads.{has_number, second_of}
 use Rattle.mt_verify.proofs.OwnLines.{lane_is}

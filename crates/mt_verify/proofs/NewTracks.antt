@@ -1,10 +1,5 @@
 -- One more lane is given its looks.
-use Rattle.std.proofs.Common.{◌≡◌, ℕ, zero, suc, ◌+◌, List, [], ◌∷◌, ◌++◌, Some, map, sym, ap, ◌∙◌, arith}
-use Rattle.std.specs.List.{range_with_len}
-use Rattle.std.proofs.lemmas.List.{map-append}
-use Rattle.std.proofs.lemmas.List.FromFn.{map-range_with_len_more}
-use Rattle.mt_verify.specs.declared.looks.Look.{Look}
-use Rattle.mt_verify.specs.Going.{AreFresh, Lane, looks_of}
+use Rattle.mt_verify.proofs.Prelude.{◌≡◌, ℕ, zero, suc, ◌+◌, List, [], ◌∷◌, ◌++◌, Some, map, sym, ap, ◌∙◌, arith, range_with_len, map-append, map-range_with_len_more, Look, AreFresh, Lane, looks_of}
 
 pub looks_more : (f : ℕ → List Look) (n : ℕ) (lanes : List Lane) (t : Lane) → looks_of lanes ≡ map f (range_with_len 0 n) → t.looks ≡ f n → looks_of (lanes ++ t ∷ []) ≡ map f (range_with_len 0 (n + 1))
 looks_more f n lanes t same one =

@@ -1,10 +1,5 @@
 -- Calls are heard one after another.
-use Rattle.std.proofs.Common.{ℕ, ◌+◌, ◌<◌, List, [], ◌∷◌, ◌++◌, length, get_or, take, sym, subst}
-use Rattle.std.proofs.lemmas.List.{take_more}
-use Rattle.mt_told.specs.declared.told.Told.{Told}
-use Rattle.mt_verify.specs.declared.calls.Numbered.{Numbered}
-use Rattle.mt_verify.specs.declared.noted.Noted.{Noted}
-use Rattle.mt_verify.specs.Hearing.{AreNotedOf, IsNotedOf}
+use Rattle.mt_verify.proofs.Prelude.{ℕ, ◌+◌, ◌<◌, List, [], ◌∷◌, ◌++◌, length, get_or, take, sym, subst, take_more, Told, Numbered, Noted, AreNotedOf, IsNotedOf}
 
 one_more : (told : List Told) (tree : ℕ) (calls : List Numbered) (noted : List Noted) (call : Numbered) (n : Noted) → AreNotedOf told tree calls noted → IsNotedOf told tree call n → AreNotedOf told tree (calls ++ call ∷ []) (noted ++ n ∷ [])
 one_more told tree [] [] call n are is = (is, tt)

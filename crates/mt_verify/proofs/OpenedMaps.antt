@@ -1,12 +1,5 @@
 -- Calls that are made again lead to the map after so many of them.
-use Rattle.std.proofs.Common.{◌≡◌, ℕ, zero, suc, List, [], ◌∷◌, length, take, min, ap, ◌∙◌, arith}
-use Rattle.std.specs.Prelude.{fold}
-use Rattle.std.proofs.lemmas.List.{take_all}
-use Rattle.std.proofs.Math.Seq.{take-nil}
-use Rattle.mt_base.specs.declared.kinds.Kind.{Kind}
-use Rattle.mt_base.specs.declared.ranges.Range.{Range}
-use Rattle.mt_verify.specs.declared.noted.Noted.{Noted}
-use Rattle.mt_verify.specs.Histories.{map_after_noted, map_of_noted}
+use Rattle.mt_verify.proofs.Prelude.{◌≡◌, ℕ, zero, suc, List, [], ◌∷◌, length, take, min, ap, ◌∙◌, arith, fold, take_all, take-nil, Kind, Range, Noted, map_after_noted, map_of_noted}
 
 take_min : {X : Type 0} (k : ℕ) (xs : List X) → take (min k (length xs)) xs ≡ take k xs
 take_min zero xs =

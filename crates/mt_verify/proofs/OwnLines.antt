@@ -1,15 +1,5 @@
 -- What is told of a tree is told by its own lines.
-use Rattle.std.proofs.Common.{◌≡◌, ℕ, ◌+◌, ◌==◌, ◌&&◌, List, [], ◌∷◌, length, filter, map, nat_lt, refl, ap, inl, inr, arith}
-use Rattle.std.specs.List.{cons_option}
-use Rattle.std.specs.Prelude.{if◌then◌else◌}
-use Rattle.std.proofs.lemmas.Bool.{cases_Bool}
-use Rattle.mt_told.specs.declared.told.Told.{Told}
-use Rattle.mt_told.specs.declared.told.What.{What}
-use Rattle.mt_told.specs.declared.told.What.TheVariants.{Wrote, Got, Copied, Lawful}
-use Rattle.mt_verify.specs.declared.looks.Look.{Look}
-use Rattle.mt_verify.specs.ToldReads.{calls_of_phases_before, is_wrote, number_for, numbers_behind, read_by, reads_told}
-use Rattle.mt_verify.specs.LaneReads.{look_told, looks_told}
-use Rattle.mt_verify.specs.OwnLines.{calls_below, calls_in, lines_on, look_by_lane, looks_by_lane}
+use Rattle.mt_verify.proofs.Prelude.{◌≡◌, ℕ, ◌+◌, ◌==◌, ◌&&◌, List, [], ◌∷◌, length, filter, map, nat_lt, refl, ap, inl, inr, arith, cons_option, if◌then◌else◌, cases_Bool, Told, What, Wrote, Got, Copied, Lawful, Look, calls_of_phases_before, is_wrote, number_for, numbers_behind, read_by, reads_told, look_told, looks_told, calls_below, calls_in, lines_on, look_by_lane, looks_by_lane}
 use Rattle.mt_verify.proofs.Found.{own_looks}
 
 -- ---- reads

@@ -1,23 +1,5 @@
 -- The lines of one tree: their order, their stops and their windows.
-use Rattle.std.proofs.Common.{◌≡◌, ℕ, suc, ◌+◌, ◌≤◌, ◌==◌, List, [], ◌∷◌, Option, Some, None, length, slice_get, refl, sym, ap, ◌∙◌, subst, inl, inr, arith}
-use Rattle.std.specs.List.{All, AllByRecursion, AllPairs, cons_option, filter_map}
-use Rattle.std.proofs.lemmas.Bool.{cases_Bool, cases_lt, le-ltb, lt-ltb}
-use Rattle.std.proofs.lemmas.Option.{same_Some}
-use Rattle.mt_told.specs.declared.told.Told.{Told}
-use Rattle.mt_told.specs.declared.told.What.{What}
-use Rattle.mt_told.specs.declared.told.What.TheVariants.{Wrote, Got, Copied, Lawful}
-use Rattle.mt_verify.specs.declared.calls.Numbered.{Numbered}
-use Rattle.mt_verify.specs.declared.looks.Look.{Look}
-use Rattle.mt_verify.specs.declared.noted.Noted.{Noted}
-use Rattle.mt_verify.specs.declared.stops.Stop.{Stop}
-use Rattle.mt_verify.specs.Going.{AreStopsWithin, AreWithin, Lane, looks_of}
-use Rattle.mt_verify.specs.GoneTrees.{lane_looks}
-use Rattle.mt_verify.specs.Hearing.{AreNotedOf}
-use Rattle.mt_verify.specs.LaneReads.{look_told}
-use Rattle.mt_verify.specs.OwnLines.{calls_below, calls_in, line_on, lines_on, look_by_lane, looks_by_lane, stop_at, stops_told}
-use Rattle.mt_verify.specs.PrintedOrder.{EndsInTree, EndsWithin}
-use Rattle.mt_verify.specs.Stops.{DoNotFall}
-use Rattle.mt_verify.specs.ToldCalls.{calls_told, numbered_of}
+use Rattle.mt_verify.proofs.Prelude.{◌≡◌, ℕ, suc, ◌+◌, ◌≤◌, ◌==◌, List, [], ◌∷◌, Option, Some, None, length, slice_get, refl, sym, ap, ◌∙◌, subst, inl, inr, arith, All, AllByRecursion, AllPairs, cons_option, filter_map, cases_Bool, cases_lt, le-ltb, lt-ltb, same_Some, Told, What, Wrote, Got, Copied, Lawful, Numbered, Look, Noted, Stop, AreStopsWithin, AreWithin, Lane, looks_of, lane_looks, AreNotedOf, look_told, calls_below, calls_in, line_on, lines_on, look_by_lane, looks_by_lane, stop_at, stops_told, EndsInTree, EndsWithin, DoNotFall, calls_told, numbered_of}
 use Rattle.mt_verify.proofs.Filled.{EachLater}
 use Rattle.mt_verify.proofs.CountedLines.{calls_of}
 use Rattle.mt_verify.proofs.FilledReads.{each_later, pairs_of}

@@ -1,17 +1,5 @@
 -- Where a lane can have no numbers, no run is told alike; and a run whose lanes are picked has the least points of all that are.
-use Rattle.std.proofs.Common.{◌≡◌, ℕ, suc, ◌==◌, List, [], ◌∷◌, Some, None, get_or, slice_get, cond, refl, sym, subst, arith}
-use Rattle.std.specs.List.{cons_option}
-use Rattle.std.proofs.lemmas.Option.{slice_get_within}
-use Rattle.mt_base.specs.declared.ranges.Range.{Range}
-use Rattle.mt_base.specs.History.{History, map_at}
-use Rattle.mt_log.specs.declared.lines.Log.{Log}
-use Rattle.mt_log.specs.declared.transcripts.Transcript.{Transcript}
-use Rattle.mt_log.specs.Run.{Outcome, Called, Looked, Counted, Step, IsRunBy}
-use Rattle.mt_log.specs.Trees.{IsReadable}
-use Rattle.mt_verify.specs.declared.looks.Look.{Look}
-use Rattle.mt_verify.specs.LaneReads.{LanesArePicked, look_of, by_lane, looks_on, points_on}
-use Rattle.mt_verify.specs.Looks.{MayHave}
-use Rattle.mt_verify.specs.Points.{points_of, AreUpTo, OutcomesAlike, StepsAlike, AreToldAlike, HaveHistories}
+use Rattle.mt_verify.proofs.Prelude.{◌≡◌, ℕ, suc, ◌==◌, List, [], ◌∷◌, Some, None, get_or, slice_get, cond, refl, sym, subst, arith, cons_option, slice_get_within, Range, History, map_at, Log, Transcript, Outcome, Called, Looked, Counted, Step, IsRunBy, IsReadable, Look, LanesArePicked, look_of, by_lane, looks_on, points_on, MayHave, points_of, AreUpTo, OutcomesAlike, StepsAlike, AreToldAlike, HaveHistories}
 use Rattle.mt_verify.proofs.Alike.{run_histories, same_below, way_maps}
 use Rattle.mt_verify.proofs.AllLanes.{all_first}
 use Rattle.mt_verify.proofs.CopiedTrees.{copies_are_earlier}

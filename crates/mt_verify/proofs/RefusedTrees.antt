@@ -1,44 +1,6 @@
 -- Where a tree cannot be gone through, no run is told so.
-use Rattle.std.proofs.Common.{◌≡◌, ℕ, zero, suc, ◌+◌, ◌<◌, ◌≤◌, ◌==◌, ◌&&◌, true, List, [], ◌∷◌, ◌++◌, Option, Some, None, length, nat_lt, slice_get, get_or, refl, sym, ap, ◌∙◌, subst, inl, inr, arith, codes}
-use Rattle.std.specs.Prelude.{IfSome}
-use Rattle.std.specs.Fmt.{decimal}
-use Rattle.std.specs.List.{Contains, cons_option, enumerate_from, filter_map}
-use Rattle.std.proofs.lemmas.Bool.{cases_Bool, eqb-true, eq-eqb}
-use Rattle.std.proofs.lemmas.List.{length-map, get_or-map}
-use Rattle.std.proofs.lemmas.List.FromFn.{get_or-map-range_with_len, length-map-range_with_len}
-use Rattle.std.proofs.lemmas.List.Sorted.{Contains-permutation, IsPermutation-sym}
-use Rattle.std.proofs.lemmas.Option.{same_Some, slice_get_within, get_or_from_slice_get}
-use Rattle.mt_base.specs.declared.calls.Call.{Call}
-use Rattle.mt_base.specs.declared.ranges.Range.{Range}
-use Rattle.mt_base.specs.declared.replies.Holder.{Holder}
-use Rattle.mt_base.specs.declared.replies.Reply.{Reply}
-use Rattle.mt_base.specs.Call.{answer}
-use Rattle.mt_base.specs.History.{History, IsLegal, map_at}
-use Rattle.mt_base.specs.Passes.{holder_of}
-use Rattle.mt_base.specs.Width.{most_rows}
-use Rattle.mt_log.specs.declared.lines.Log.{Log}
-use Rattle.mt_log.specs.declared.transcripts.Transcript.{Transcript}
-use Rattle.mt_log.specs.Run.{Outcome, Called, Looked, Counted, Step, IsHeldRightly, IsRunBy, IsTrueOf, StandsIn, calls_before, holder_in, is_call, numbered_on, shown}
-use Rattle.mt_log.specs.Text.{reply_text}
-use Rattle.mt_log.specs.Trees.{most_lanes}
-use Rattle.mt_told.specs.declared.told.Told.{Told}
-use Rattle.mt_told.specs.declared.told.What.{What}
-use Rattle.mt_told.specs.declared.told.What.TheVariants.{Wrote, Got, Copied, Lawful}
-use Rattle.mt_told.specs.Telling.{AreTold, IsTold}
-use Rattle.mt_verify.specs.declared.calls.Numbered.{Numbered}
-use Rattle.mt_verify.specs.declared.looks.Look.{Look}
-use Rattle.mt_verify.specs.declared.noted.Noted.{Noted}
-use Rattle.mt_verify.specs.declared.stops.Stop.{Stop}
-use Rattle.mt_verify.specs.ToldReads.{calls_of_phases_before as calls_before_told, is_wrote}
-use Rattle.mt_verify.specs.Going.{AreAnswered, Lane, SomeHasNone, looks_of}
-use Rattle.mt_verify.specs.GoneTrees.{AreMisheard, CannotGo, IsHindered, lane_looks}
-use Rattle.mt_verify.specs.Heard.{IsReader}
-use Rattle.mt_verify.specs.Histories.{AreHeard, map_of_noted}
-use Rattle.mt_verify.specs.LaneReads.{looks_on, points_on}
-use Rattle.mt_verify.specs.Looks.{MayHave}
-use Rattle.mt_verify.specs.OwnLines.{calls_below, line_on, lines_on, looks_by_lane, stop_at, stops_told}
-use Rattle.mt_verify.specs.Stops.{SomeMiscounted}
-use Rattle.mt_verify.specs.ToldCalls.{calls_told, numbered_of, numbered_on_told}
+use Rattle.mt_verify.proofs.Prelude.{◌≡◌, ℕ, zero, suc, ◌+◌, ◌<◌, ◌≤◌, ◌==◌, ◌&&◌, true, List, [], ◌∷◌, ◌++◌, Option, Some, None, length, nat_lt, slice_get, get_or, refl, sym, ap, ◌∙◌, subst, inl, inr, arith, codes, IfSome, decimal, Contains, cons_option, enumerate_from, filter_map, cases_Bool, eqb-true, eq-eqb, length-map, get_or-map, get_or-map-range_with_len, length-map-range_with_len, Contains-permutation, IsPermutation-sym, same_Some, slice_get_within, get_or_from_slice_get, Call, Range, Holder, Reply, answer, History, IsLegal, map_at, holder_of, most_rows, Log, Transcript, Outcome, Called, Looked, Counted, Step, IsHeldRightly, IsRunBy, IsTrueOf, StandsIn, calls_before, holder_in, is_call, numbered_on, shown, reply_text, most_lanes, Told, What, Wrote, Got, Copied, Lawful, AreTold, IsTold, Numbered, Look, Noted, Stop, is_wrote, AreAnswered, Lane, SomeHasNone, looks_of, AreMisheard, CannotGo, IsHindered, lane_looks, IsReader, AreHeard, map_of_noted, looks_on, points_on, MayHave, calls_below, line_on, lines_on, looks_by_lane, stop_at, stops_told, SomeMiscounted, calls_told, numbered_of, numbered_on_told}
+use Rattle.mt_verify.specs.ToldReads.{calls_of_phases_before as calls_before_told}
 use Rattle.mt_verify.proofs.ToldSteps.{IsToldOf}
 use Rattle.mt_verify.proofs.Answered.{heard_maps, legal_is_answered}
 use Rattle.mt_verify.proofs.EachLane.{lane_may_have}

@@ -1,20 +1,6 @@
 -- No call is answered by a map as one that is refused for want of rows, and when one is refused.
-use Rattle.std.proofs.Common.{◌≡◌, ◌↔◌, ℕ, ◌==◌, ◌||◌, Bool, true, false, List, Option, Some, None, refl, sym, ap, ◌∙◌, subst}
-use Rattle.std.specs.Prelude.{IsTrue}
-use Rattle.std.proofs.lemmas.Bool.{cond_both}
-use Rattle.mt_base.specs.declared.ranges.Range.{Range}
-use Rattle.mt_base.specs.declared.kinds.Kind.{Kind}
-use Rattle.mt_base.specs.declared.calls.Call.{Call}
-use Rattle.mt_base.specs.declared.calls.Call.TheVariants.{Store, StorePre, Insert, Erase, Alloc, Ralloc, Gap, Rgap, Clear}
-use Rattle.mt_base.specs.declared.replies.Reply.{Reply}
+use Rattle.mt_verify.proofs.Prelude.{◌≡◌, ◌↔◌, ℕ, ◌==◌, ◌||◌, Bool, true, false, List, Option, Some, None, refl, sym, ap, ◌∙◌, subst, IsTrue, cond_both, Range, Kind, Call, Store, StorePre, Insert, Erase, Alloc, Ralloc, Gap, Rgap, Clear, Reply, Shortage, acted, erased, found, is_bad_area, is_invalid, is_no_area, placed, replied, high, low, IsMap, first_met, holding, is_held, Limits, Wants, IsShort, IsRefused, is_nomem, wants}
 use Rattle.mt_base.specs.declared.replies.Reply.TheVariants as reply
-use Rattle.mt_base.specs.declared.replies.Shortage.{Shortage}
-use Rattle.mt_base.specs.Call.{acted, erased, found, is_bad_area, is_invalid, is_no_area, placed, replied}
-use Rattle.mt_base.specs.Holes.{high, low}
-use Rattle.mt_base.specs.Map.{IsMap, first_met, holding, is_held}
-use Rattle.mt_base.specs.Nodes.{Limits, Wants, IsShort, IsRefused}
-use Rattle.mt_verify.specs.Histories.{is_nomem}
-use Rattle.mt_verify.specs.Wanting.{wants}
 use Rattle.mt_verify.proofs.Wanted.{wants_is}
 
 -- ---- no call is answered so

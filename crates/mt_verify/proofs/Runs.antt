@@ -1,14 +1,6 @@
 -- The reads of a run: their numbers are chosen as its order says, and where they are the first that do, they are the least of
 -- all runs whose reads are alike.
-use Rattle.std.proofs.Common.{◌≡◌, ℕ, ◌+◌, ◌<◌, ◌≤◌, true, List, Some, length, get_or, slice_get, refl, sym, ap, ◌∙◌, subst, inl, inr, arith}
-use Rattle.std.specs.List.{All, AllPairs}
-use Rattle.std.proofs.lemmas.Option.{slice_get_within, slice_get_cases, get_or_from_slice_get, same_Some}
-use Rattle.mt_base.specs.History.{History}
-use Rattle.mt_log.specs.declared.lines.Log.{Log}
-use Rattle.mt_log.specs.declared.transcripts.Transcript.{Transcript}
-use Rattle.mt_log.specs.Run.{Outcome, Called, Looked, Counted, Step, IsRunBy, InOrder, StandsIn, IsTrueOf, Follows, is_read, shown}
-use Rattle.mt_verify.specs.Choices.{AreChosen, AreFirst}
-use Rattle.mt_verify.specs.Points.{lo_of, hi_of, read_number, at_place, TellsAt, IsTrueAt, KnowsAt, AreAlike}
+use Rattle.mt_verify.proofs.Prelude.{◌≡◌, ℕ, ◌+◌, ◌<◌, ◌≤◌, true, List, Some, length, get_or, slice_get, refl, sym, ap, ◌∙◌, subst, inl, inr, arith, All, AllPairs, slice_get_within, slice_get_cases, get_or_from_slice_get, same_Some, History, Log, Transcript, Outcome, Called, Looked, Counted, Step, IsRunBy, InOrder, StandsIn, IsTrueOf, Follows, is_read, shown, AreChosen, AreFirst, lo_of, hi_of, read_number, at_place, TellsAt, IsTrueAt, KnowsAt, AreAlike}
 use Rattle.mt_verify.proofs.Greedy.{least}
 
 -- ---- a fact of all items, at one of them

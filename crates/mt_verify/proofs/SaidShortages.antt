@@ -1,11 +1,5 @@
 -- What bytes say of a call that was refused for want of rows.
-use Rattle.std.proofs.Common.{◌≡◌, ℕ, ◌<◌, ◌^◌, List, [], ◌∷◌, ◌++◌, None, length, refl, sym, ap, ◌∙◌}
-use Rattle.std.specs.Fmt.{decimal}
-use Rattle.std.proofs.lemmas.List.{append-nil}
-use Rattle.mt_told.specs.Fronts.{IsNumberBefore}
-use Rattle.mt_verify.specs.Heard.{IsNumberAlone, SaysShortage}
-use Rattle.mt_told.specs.Numbers.{EndsNumber}
-use Rattle.mt_told.proofs.OneWay.{numbers_apart}
+use Rattle.mt_verify.proofs.Prelude.{◌≡◌, ℕ, ◌<◌, ◌^◌, List, [], ◌∷◌, ◌++◌, None, length, refl, sym, ap, ◌∙◌, decimal, append-nil, IsNumberBefore, IsNumberAlone, SaysShortage, EndsNumber, numbers_apart}
 
 -- a number that is a whole text is in front of nothing
 at_end : (n : ℕ) → decimal n ++ [] ≡ decimal n

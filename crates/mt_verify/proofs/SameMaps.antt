@@ -1,16 +1,5 @@
 -- Histories of the same calls, of which the same were refused for want of rows, go through the same maps.
-use Rattle.std.proofs.Common.{◌≡◌, ℕ, zero, suc, true, false, List, [], ◌∷◌, take, refl, sym, ap, ◌∙◌, inl, inr}
-use Rattle.std.specs.Prelude.{fold}
-use Rattle.std.proofs.lemmas.Bool.{cases_Bool}
-use Rattle.mt_base.specs.declared.ranges.Range.{Range}
-use Rattle.mt_base.specs.declared.kinds.Kind.{Kind}
-use Rattle.mt_base.specs.declared.calls.Call.{Call}
-use Rattle.mt_base.specs.declared.replies.Reply.{Reply}
-use Rattle.mt_base.specs.declared.replies.Reply.TheVariants.{NoNodes}
-use Rattle.mt_base.specs.Call.{acted}
-use Rattle.mt_base.specs.History.{Record, History, map_after, map_at, map_by_reply}
-use Rattle.mt_verify.specs.Histories.{is_nomem}
-use Rattle.mt_verify.specs.Points.{GoAlike}
+use Rattle.mt_verify.proofs.Prelude.{◌≡◌, ℕ, zero, suc, true, false, List, [], ◌∷◌, take, refl, sym, ap, ◌∙◌, inl, inr, fold, cases_Bool, Range, Kind, Call, Reply, NoNodes, acted, Record, History, map_after, map_at, map_by_reply, is_nomem, GoAlike}
 
 pub stays : (r : Reply) (before after : List Range) → is_nomem r ≡ true → map_by_reply r before after ≡ before
 stays (NoNodes shortage) before after is = refl

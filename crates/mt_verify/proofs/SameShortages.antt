@@ -1,10 +1,5 @@
 -- Two shortages of small numbers that print one text have the same numbers.
-use Rattle.std.proofs.Common.{◌≡◌, ℕ, List, [], ◌∷◌, ◌++◌, refl, sym, ◌∙◌}
-use Rattle.std.specs.Fmt.{decimal}
-use Rattle.std.proofs.lemmas.List.{append-nil}
-use Rattle.mt_base.specs.declared.replies.Shortage.{Shortage}
-use Rattle.mt_verify.specs.Heard.{IsSmallShortage, shortage_printed}
-use Rattle.mt_told.proofs.OneWay.{AreOneNumber, numbers_apart}
+use Rattle.mt_verify.proofs.Prelude.{◌≡◌, ℕ, List, [], ◌∷◌, ◌++◌, refl, sym, ◌∙◌, decimal, append-nil, Shortage, IsSmallShortage, shortage_printed, AreOneNumber, numbers_apart}
 
 behind_space : (r s : List ℕ) → 32 ∷ r ≡ 32 ∷ s → r ≡ s
 behind_space r s same = cc

@@ -1,23 +1,5 @@
 -- Maps whose numbers are of 64 bits, as calls of 64 bits leave them.
-use Rattle.std.proofs.Common.{ℕ, zero, suc, ◌+◌, ◌<◌, ◌≤◌, ◌^◌, ◌==◌, ◌||◌, ◌&&◌, nat_lt, nat_le, if◌then◌else◌, Bool, true, false, List, [], ◌∷◌, ◌++◌, Option, Some, None, map, fold, take, filter, find, slice_get, arith}
-use Rattle.std.proofs.lemmas.Bool.{cond_both}
-use Rattle.std.specs.List.{AllByRecursion}
-use Rattle.mt_base.specs.declared.kinds.Kind.{Kind}
-use Rattle.mt_base.specs.declared.ranges.Range.{Range}
-use Rattle.mt_base.specs.declared.calls.Call.{Call}
-use Rattle.mt_base.specs.declared.calls.Call.TheVariants.{Store, StorePre, Insert, Erase, Alloc, Ralloc, Gap, Rgap, Clear}
-use Rattle.mt_base.specs.declared.calls.Query.{Query}
-use Rattle.mt_base.specs.declared.calls.Query.TheVariants.{Load, Find, Next, Prev, Rfind}
-use Rattle.mt_base.specs.declared.replies.Reply.{Reply}
-use Rattle.mt_base.specs.declared.replies.Reply.TheVariants.{NoNodes}
-use Rattle.mt_base.specs.Call.{acted, answer, erased, placed, is_invalid, is_bad_area}
-use Rattle.mt_base.specs.History.{Record, History, map_after, map_at, map_by_reply}
-use Rattle.mt_base.specs.Holes.{low, high}
-use Rattle.mt_base.specs.Map.{IsMap, IsMapFrom, cut_below, cut_above, first_range, last_range, holding, holds, is_held, over, part_stored, parts_above, parts_below}
-use Rattle.mt_base.specs.Width.{greatest_of, kind_width}
-use Rattle.mt_base.proofs.CallsKeepOrder.{acted_is_map}
-use Rattle.mt_base.proofs.WidthBounds.{greatest_fits}
-use Rattle.mt_told.specs.Telling.{IsSmallRange}
+use Rattle.mt_verify.proofs.Prelude.{ℕ, zero, suc, ◌+◌, ◌<◌, ◌≤◌, ◌^◌, ◌==◌, ◌||◌, ◌&&◌, nat_lt, nat_le, if◌then◌else◌, Bool, true, false, List, [], ◌∷◌, ◌++◌, Option, Some, None, map, fold, take, filter, find, slice_get, arith, cond_both, AllByRecursion, Kind, Range, Call, Store, StorePre, Insert, Erase, Alloc, Ralloc, Gap, Rgap, Clear, Query, Load, Find, Next, Prev, Rfind, Reply, NoNodes, acted, answer, erased, placed, is_invalid, is_bad_area, Record, History, map_after, map_at, map_by_reply, low, high, IsMap, IsMapFrom, cut_below, cut_above, first_range, last_range, holding, holds, is_held, over, part_stored, parts_above, parts_below, greatest_of, kind_width, acted_is_map, greatest_fits, IsSmallRange}
 
 -- the entry of a call is of 64 bits
 abbrev pub EntryFits : Call → Type 0

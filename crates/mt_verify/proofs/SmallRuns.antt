@@ -1,29 +1,6 @@
 -- The numbers of a run of a log that can be read are of 64 bits.
-use Rattle.std.proofs.Common.{◌≡◌, ℕ, zero, suc, ◌+◌, ◌-◌, ◌==◌, ◌<◌, ◌≤◌, ◌^◌, if◌then◌else◌, Bool, true, false, List, [], ◌∷◌, ◌++◌, Option, Some, None, IfSome, All, length, get_or, slice_get, arith, refl, sym, subst, length-append}
-use Rattle.std.specs.List.{AllByRecursion, cons_option, enumerate_from, filter_map}
-use Rattle.std.proofs.lemmas.Bool.{cond_both}
-use Rattle.std.proofs.lemmas.List.Elements.{All-from_recursion, recursion_from_All}
-use Rattle.std.proofs.lemmas.List.FromFn.{length-enumerate_from}
-use Rattle.std.proofs.lemmas.List.Sorted.{All-permutation, IsPermutation-sym, length_permutation}
-use Rattle.std.proofs.lemmas.Option.{slice_get_within}
-use Rattle.mt_base.specs.declared.kinds.Kind.{Kind}
-use Rattle.mt_base.specs.declared.ranges.Range.{Range}
-use Rattle.mt_base.specs.declared.calls.Call.{Call}
-use Rattle.mt_base.specs.declared.calls.Call.TheVariants.{Store, StorePre, Insert, Erase, Alloc, Ralloc, Gap, Rgap, Clear}
-use Rattle.mt_base.specs.History.{Record, History, map_at}
-use Rattle.mt_log.specs.LogText.{IsLog}
-use Rattle.mt_log.specs.Phases.{phase_after}
-use Rattle.mt_log.specs.Reading.{ReadSoFar, after_item, most_scan_steps, nothing_read, scan_steps_of}
-use Rattle.mt_log.specs.Run.{Asked, Outcome, Called, Looked, Counted, Step, AreDone, ScanGoesOnFrom, IsDone, IsRunBy, AreScanSteps, IsTrueOf, OpensAs, asked_from, calls_before, is_answered, lane_after, lane_of, numbered_on, place_behind, place_within, record_in}
-use Rattle.mt_log.specs.Trees.{Opening, Empty, CopyOf, Declared, trees_of}
-use Rattle.mt_log.specs.declared.lines.Item.{Item}
-use Rattle.mt_log.specs.declared.lines.Item.TheVariants.{Tree, Lane, Join, Dup, Check, Write, Ask, Scan}
-use Rattle.mt_log.specs.declared.lines.Line.{Line}
-use Rattle.mt_log.specs.declared.lines.Log.{Log}
-use Rattle.mt_log.specs.declared.transcripts.Transcript.{Transcript}
-use Rattle.mt_log.proofs.Following.{CallSays, CanAllFollow, ItemSays, at_line}
-use Rattle.mt_log.proofs.LogsRead.{log_follows}
-use Rattle.mt_told.specs.Telling.{IsSmall, IsSmallRange}
+use Rattle.mt_verify.proofs.Prelude.{◌≡◌, ℕ, zero, suc, ◌+◌, ◌-◌, ◌==◌, ◌<◌, ◌≤◌, ◌^◌, if◌then◌else◌, Bool, true, false, List, [], ◌∷◌, ◌++◌, Option, Some, None, IfSome, All, length, get_or, slice_get, arith, refl, sym, subst, length-append, AllByRecursion, cons_option, enumerate_from, filter_map, cond_both, All-from_recursion, recursion_from_All, length-enumerate_from, All-permutation, IsPermutation-sym, length_permutation, slice_get_within, Kind, Range, Call, Store, StorePre, Insert, Erase, Alloc, Ralloc, Gap, Rgap, Clear, Record, History, map_at, IsLog, phase_after, ReadSoFar, after_item, most_scan_steps, nothing_read, scan_steps_of, Asked, Outcome, Called, Looked, Counted, Step, AreDone, ScanGoesOnFrom, IsDone, IsRunBy, AreScanSteps, IsTrueOf, OpensAs, asked_from, calls_before, is_answered, lane_after, lane_of, numbered_on, place_behind, place_within, record_in, Opening, Empty, CopyOf, Declared, trees_of, Item, Tree, Join, Dup, Check, Write, Ask, Scan, Line, Log, Transcript, CallSays, CanAllFollow, ItemSays, at_line, log_follows, IsSmall, IsSmallRange}
+use Rattle.mt_log.specs.declared.lines.Item.TheVariants.{Lane}
 use Rattle.mt_verify.proofs.Placed.{same_number}
 use Rattle.mt_verify.proofs.Runs.{some_at}
 use Rattle.mt_verify.proofs.SmallMaps.{EntryFits, IsSmallMap, answer_is_small, map_at_is_small, nothing_is_small}

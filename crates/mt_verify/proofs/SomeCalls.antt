@@ -1,12 +1,5 @@
 -- Where the calls of steps stand by their numbers in a history, so do the calls that are told of them in some list.
-use Rattle.std.proofs.Common.{◌≡◌, ℕ, ◌+◌, ◌<◌, List, [], ◌∷◌, length, map, get_or, set, refl, sym, ap, ◌∙◌, subst, arith}
-use Rattle.std.specs.List.{enumerate_from, swap}
-use Rattle.std.specs.List.Sorted.{IsPermutation}
-use Rattle.std.proofs.lemmas.List.{length-map, map-set, get_or-map}
-use Rattle.std.proofs.lemmas.List.Sorted.{IsPermutation-keeps, IsPermutation-refl, IsPermutation-swap, IsPermutation-sym, IsPermutation-trans}
-use Rattle.mt_base.specs.History.{Record}
-use Rattle.mt_verify.specs.declared.calls.Numbered.{Numbered}
-use Rattle.mt_verify.specs.ToldCalls.{AreRecordsTold}
+use Rattle.mt_verify.proofs.Prelude.{◌≡◌, ℕ, ◌+◌, ◌<◌, List, [], ◌∷◌, length, map, get_or, set, refl, sym, ap, ◌∙◌, subst, arith, enumerate_from, swap, IsPermutation, length-map, map-set, get_or-map, IsPermutation-keeps, IsPermutation-refl, IsPermutation-swap, IsPermutation-sym, IsPermutation-trans, Record, Numbered, AreRecordsTold}
 
 map_swap : {X Y : Type 0} (f : X → Y) (xs : List X) (i j : ℕ) → i < length xs → j < length xs → map f (swap xs i j) ≡ swap (map f xs) i j
 map_swap f [] i j low high = refl

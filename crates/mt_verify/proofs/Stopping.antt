@@ -1,10 +1,5 @@
 -- Stops are passed at the numbers of calls at which they are.
-use Rattle.std.proofs.Common.{◌≡◌, ℕ, ◌+◌, ◌≤◌, true, false, List, Option, Some, None, slice_get, refl, sym, ap, ◌∙◌, subst, inl, inr, arith}
-use Rattle.std.proofs.lemmas.Bool.{cases_lt, eq-eqb, eqb-true}
-use Rattle.std.proofs.lemmas.Option.{slice_get_within, same_Some}
-use Rattle.mt_base.specs.declared.ranges.Range.{Range}
-use Rattle.mt_verify.specs.declared.stops.Stop.{Stop}
-use Rattle.mt_verify.specs.Stops.{Passing, HasToldCount, is_at, HasStopped, AreCounted, AreStopped, SomeMiscounted}
+use Rattle.mt_verify.proofs.Prelude.{◌≡◌, ℕ, ◌+◌, ◌≤◌, true, false, List, Option, Some, None, slice_get, refl, sym, ap, ◌∙◌, subst, inl, inr, arith, cases_lt, eq-eqb, eqb-true, slice_get_within, same_Some, Range, Stop, Passing, HasToldCount, is_at, HasStopped, AreCounted, AreStopped, SomeMiscounted}
 use Rattle.mt_verify.proofs.Runs.{some_at}
 
 module _ (m : ℕ → List Range) (number : ℕ) (p : Passing) where

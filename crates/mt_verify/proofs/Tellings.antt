@@ -1,20 +1,7 @@
 -- A transcript of a run tells as many calls as its log asks for, and as many reads as there are points.
-use Rattle.std.proofs.Common.{◌≡◌, ◌∙◌, ◌+◌, ◌++◌, ℕ, zero, suc, Bool, true, false, List, [], ◌∷◌, length, map, Option, Some, None, refl, sym, ap, subst, arith, length-append}
-use Rattle.std.specs.Prelude.{if◌then◌else◌}
-use Rattle.std.specs.List.{filter}
-use Rattle.std.proofs.lemmas.List.{map-append}
-use Rattle.std.proofs.lemmas.List.Elements.{filter-append, filter_map-append}
-use Rattle.mt_base.specs.declared.ranges.Range.{Range}
-use Rattle.mt_log.specs.declared.lines.Item.{Item}
-use Rattle.mt_log.specs.declared.lines.Item.TheVariants.{Tree, Lane, Join, Dup, Check, Write, Ask, Scan}
-use Rattle.mt_log.specs.declared.lines.Line.{Line}
-use Rattle.mt_log.specs.declared.lines.Log.{Log}
-use Rattle.mt_log.specs.declared.transcripts.Entry.{Entry}
-use Rattle.mt_log.specs.declared.transcripts.Transcript.{Transcript}
-use Rattle.mt_log.specs.Phases.{phase_after}
-use Rattle.mt_log.specs.Run.{AreDone, Asked, ScanGoesOnFrom, IsDone, IsRun, AreScanSteps, Looked, Step, asked_from, entry_of, find_at, is_answered, lane_after, lane_of, place_behind, place_within, step_of, steps_of}
-use Rattle.mt_verify.specs.Tellings.{asks_call, count_of_calls, reads_told, tells_call, tells_read}
-use Rattle.mt_verify.specs.Points.{IsPointList, point_of, points_of}
+use Rattle.mt_verify.proofs.Prelude.{◌≡◌, ◌∙◌, ◌+◌, ◌++◌, ℕ, zero, suc, Bool, true, false, List, [], ◌∷◌, length, map, Option, Some, None, refl, sym, ap, subst, arith, length-append, if◌then◌else◌, filter, map-append, filter-append, filter_map-append, Range, Item, Tree, Join, Dup, Check, Write, Ask, Scan, Line, Log, Entry, Transcript, phase_after, AreDone, Asked, ScanGoesOnFrom, IsDone, IsRun, AreScanSteps, Looked, Step, asked_from, entry_of, find_at, is_answered, lane_after, lane_of, place_behind, place_within, step_of, steps_of, asks_call, count_of_calls, tells_call, tells_read, IsPointList, point_of, points_of}
+use Rattle.mt_log.specs.declared.lines.Item.TheVariants.{Lane}
+use Rattle.mt_verify.specs.Tellings.{reads_told}
 
 -- how many of the steps are told so
 abbrev told : (Entry → Bool) → List Step → ℕ

@@ -1,18 +1,6 @@
 -- Runs that are told by one list are told alike.
-use Rattle.std.proofs.Common.{◌≡◌, ℕ, ◌==◌, ◌++◌, Bool, false, List, [], ◌∷◌, codes, refl, sym, ap, ◌∙◌}
-use Rattle.std.specs.Fmt.{decimal}
-use Rattle.std.proofs.lemmas.Bool.{cond_both}
-use Rattle.mt_base.specs.declared.replies.Reply.{Reply}
+use Rattle.mt_verify.proofs.Prelude.{◌≡◌, ℕ, ◌==◌, ◌++◌, Bool, false, List, [], ◌∷◌, codes, refl, sym, ap, ◌∙◌, decimal, cond_both, Reply, range_text, Outcome, Called, Looked, Counted, Step, reply_text, Told, What, Wrote, Got, Copied, Lawful, AreTold, is_nomem, OutcomesAlike, AreToldAlike}
 use Rattle.mt_base.specs.declared.replies.Reply.TheVariants as replies
-use Rattle.mt_base.specs.Text.{range_text}
-use Rattle.mt_log.specs.Run.{Outcome, Called, Looked, Counted, Step}
-use Rattle.mt_log.specs.Text.{reply_text}
-use Rattle.mt_told.specs.declared.told.Told.{Told}
-use Rattle.mt_told.specs.declared.told.What.{What}
-use Rattle.mt_told.specs.declared.told.What.TheVariants.{Wrote, Got, Copied, Lawful}
-use Rattle.mt_told.specs.Telling.{AreTold}
-use Rattle.mt_verify.specs.Histories.{is_nomem}
-use Rattle.mt_verify.specs.Points.{OutcomesAlike, AreToldAlike}
 use Rattle.mt_verify.proofs.ToldSteps.{IsToldOf}
 
 -- ---- a refusal for want of rows is told by its text

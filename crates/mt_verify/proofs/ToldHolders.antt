@@ -1,16 +1,6 @@
 -- Who held rows, among steps that are told so.
-use Rattle.std.proofs.Common.{◌≡◌, ◌≢◌, ◌↔◌, ℕ, ◌==◌, ◌&&◌, ◌||◌, Bool, true, List, [], ◌∷◌, Option, Some, None, IfSome, refl, sym, ap, ◌∙◌}
-use Rattle.std.specs.Prelude.{nat_le, if◌then◌else◌}
-use Rattle.std.specs.List.{list_any}
-use Rattle.mt_base.specs.declared.replies.Holder.{Holder}
-use Rattle.mt_log.specs.Run.{Outcome, Called, Looked, Counted, Step, IsHeldRightly, holder_in, is_read, is_read_by}
-use Rattle.mt_told.specs.declared.told.Told.{Told}
-use Rattle.mt_told.specs.declared.told.What.{What}
-use Rattle.mt_told.specs.declared.told.What.TheVariants.{Wrote, Got, Copied, Lawful}
-use Rattle.mt_told.specs.Telling.{AreTold, IsTold}
-use Rattle.mt_verify.specs.declared.calls.Numbered.{Numbered}
-use Rattle.mt_verify.specs.Heard.{IsReader, is_got, reads_by}
-use Rattle.mt_verify.specs.ToldCalls.{numbered_of, numbered_on_told}
+use Rattle.mt_verify.proofs.Prelude.{◌≡◌, ◌≢◌, ◌↔◌, ℕ, ◌==◌, ◌&&◌, ◌||◌, Bool, true, List, [], ◌∷◌, Option, Some, None, IfSome, refl, sym, ap, ◌∙◌, nat_le, if◌then◌else◌, list_any, Holder, Outcome, Called, Looked, Counted, Step, IsHeldRightly, holder_in, is_read, is_read_by, Told, What, Wrote, Got, Copied, Lawful, AreTold, IsTold, Numbered, IsReader, reads_by, numbered_of, numbered_on_told}
+use Rattle.mt_verify.specs.Heard.{is_got}
 use Rattle.mt_verify.proofs.ToldSteps.{IsToldOf}
 use Rattle.mt_verify.proofs.Placed.{same_number}
 

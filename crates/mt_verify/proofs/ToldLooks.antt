@@ -1,12 +1,5 @@
 -- The reads of a lane on a tree are those that the text tells.
-use Rattle.std.proofs.Common.{◌≡◌, ℕ, ◌==◌, List, [], ◌∷◌, Some, None, cond, refl}
-use Rattle.std.specs.List.{cons_option}
-use Rattle.mt_log.specs.Run.{Outcome, Called, Looked, Counted, Step}
-use Rattle.mt_told.specs.declared.told.Told.{Told}
-use Rattle.mt_told.specs.declared.told.What.{What}
-use Rattle.mt_told.specs.declared.told.What.TheVariants.{Wrote, Got, Copied, Lawful}
-use Rattle.mt_told.specs.Telling.{IsTold, AreTold}
-use Rattle.mt_verify.specs.LaneReads.{look_of, by_lane, looks_on, look_told, look_by, looks_told}
+use Rattle.mt_verify.proofs.Prelude.{◌≡◌, ℕ, ◌==◌, List, [], ◌∷◌, Some, None, cond, refl, cons_option, Outcome, Called, Looked, Counted, Step, Told, What, Wrote, Got, Copied, Lawful, IsTold, AreTold, look_of, by_lane, looks_on, look_told, look_by, looks_told}
 use Rattle.mt_verify.proofs.ToldSteps.{IsToldOf}
 
 -- ---- steps that are told so

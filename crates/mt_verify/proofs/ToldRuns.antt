@@ -1,30 +1,6 @@
 -- What is found of a tree holds of its history in every run that is told so.
-use Rattle.std.proofs.Common.{◌≡◌, ◌⊎◌, ℕ, zero, suc, ◌+◌, ◌<◌, ◌≤◌, Bool, true, false, List, [], ◌∷◌, ◌++◌, Some, length, slice_get, refl, sym, ap, ◌∙◌, subst, inl, inr, arith, codes}
-use Rattle.std.specs.Prelude.{◌↔◌, IsSome}
-use Rattle.std.specs.List.{filter_map}
-use Rattle.std.proofs.lemmas.Option.{same_Some}
-use Rattle.mt_base.specs.declared.replies.Reply.{Reply}
-use Rattle.mt_base.specs.declared.replies.Reply.TheVariants.{NoNodes}
-use Rattle.mt_base.specs.declared.replies.Shortage.{Shortage}
-use Rattle.mt_base.specs.declared.ranges.Range.{Range}
-use Rattle.mt_base.specs.Call.{acted}
-use Rattle.mt_base.specs.History.{Record, History, IsLegal, AreLegalFrom, limits_after, map_after}
-use Rattle.mt_base.specs.Nodes.{Limits, IsShort, IsRefused}
-use Rattle.mt_base.specs.Width.{most_rows}
-use Rattle.mt_log.specs.declared.lines.Log.{Log}
-use Rattle.mt_log.specs.declared.transcripts.Transcript.{Transcript}
-use Rattle.mt_log.specs.Run.{IsRunBy, Step, numbered_on}
-use Rattle.mt_log.specs.Text.{reply_text}
-use Rattle.mt_told.specs.declared.told.Told.{Told}
-use Rattle.mt_told.specs.Telling.{AreTold}
-use Rattle.mt_verify.specs.declared.calls.Numbered.{Numbered}
-use Rattle.mt_verify.specs.declared.noted.Heard.{Heard}
-use Rattle.mt_verify.specs.declared.noted.Heard.TheVariants.{Reply as Printed, Short}
-use Rattle.mt_verify.specs.declared.noted.Noted.{Noted}
-use Rattle.mt_verify.specs.Heard.{IsSmallShortage, shortage_printed}
-use Rattle.mt_verify.specs.Hearing.{AreNotedOf, IsHeardOf}
-use Rattle.mt_verify.specs.Histories.{AreHeard, IsHeard, is_nomem}
-use Rattle.mt_verify.specs.ToldCalls.{AreCallsOf, AreRecordsTold, IsRecordTold, calls_told}
+use Rattle.mt_verify.proofs.Prelude.{◌≡◌, ◌⊎◌, ℕ, zero, suc, ◌+◌, ◌<◌, ◌≤◌, Bool, true, false, List, [], ◌∷◌, ◌++◌, Some, length, slice_get, refl, sym, ap, ◌∙◌, subst, inl, inr, arith, codes, ◌↔◌, IsSome, filter_map, same_Some, Reply, NoNodes, Shortage, Range, acted, Record, History, IsLegal, AreLegalFrom, limits_after, map_after, Limits, IsShort, IsRefused, most_rows, Log, Transcript, IsRunBy, Step, numbered_on, reply_text, Told, AreTold, Numbered, Heard, Short, Noted, IsSmallShortage, shortage_printed, AreNotedOf, IsHeardOf, AreHeard, IsHeard, is_nomem, AreCallsOf, AreRecordsTold, IsRecordTold, calls_told}
+use Rattle.mt_verify.specs.declared.noted.Heard.TheVariants.{Reply as Printed}
 use Rattle.mt_verify.proofs.HeardCalls.{as_many_records, record_told}
 use Rattle.mt_verify.proofs.Refusing.{acted_plainly}
 use Rattle.mt_verify.proofs.SameShortages.{same_shortages}

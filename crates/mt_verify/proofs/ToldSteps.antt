@@ -1,16 +1,7 @@
 -- Steps that are told so: their order and their calls are those of the text.
-use Rattle.std.proofs.Common.{◌≡◌, ◌↔◌, ◌⊎◌, ℕ, zero, suc, ◌==◌, ◌<◌, ◌≤◌, Bool, true, false, List, [], ◌∷◌, Option, Some, None, All, AllPairs, length, get_or, filter_map, if◌then◌else◌, arith, refl, sym, ap, ◌∙◌, subst, inl, inr}
-use Rattle.std.specs.List.{cons_option}
-use Rattle.mt_base.specs.History.{Record}
-use Rattle.mt_log.specs.Run.{Outcome, Called, Looked, Counted, Step, numbered_on, record_in}
-use Rattle.mt_told.specs.declared.told.Told.{Told}
-use Rattle.mt_told.specs.declared.told.What.{What}
-use Rattle.mt_told.specs.declared.told.What.TheVariants.{Wrote, Got, Copied, Lawful}
-use Rattle.mt_told.specs.Telling.{AreTold, IsSpelledOf, IsTold, spelling_of}
-use Rattle.mt_verify.specs.declared.calls.Numbered.{Numbered}
+use Rattle.mt_verify.proofs.Prelude.{◌≡◌, ◌↔◌, ◌⊎◌, ℕ, zero, suc, ◌==◌, ◌<◌, ◌≤◌, Bool, true, false, List, [], ◌∷◌, Option, Some, None, All, AllPairs, length, get_or, filter_map, if◌then◌else◌, arith, refl, sym, ap, ◌∙◌, subst, inl, inr, cons_option, Record, Outcome, Called, Looked, Counted, Step, numbered_on, record_in, Told, What, Wrote, Got, Copied, Lawful, AreTold, IsSpelledOf, IsTold, spelling_of, Numbered, AreRecordsTold, IsRecordTold, calls_told, numbered_of, numbered_on_told}
 use Rattle.mt_verify.specs.PrintedOrder as of_text
 use Rattle.mt_verify.specs.Windows as of_steps
-use Rattle.mt_verify.specs.ToldCalls.{AreRecordsTold, IsRecordTold, calls_told, numbered_of, numbered_on_told}
 
 -- as this version of logs writes it
 abbrev pub IsToldOf : ℕ → What → Outcome → Type 0

@@ -1,19 +1,6 @@
 -- The lanes and the stops of a tree go through its whole history.
-use Rattle.std.proofs.Common.{◌≡◌, ◌⊎◌, ℕ, ◌+◌, ◌≤◌, Bool, true, false, List, [], ◌∷◌, Some, length, map, slice_get, take, refl, sym, ap, ◌∙◌, subst, inl, inr, arith}
-use Rattle.std.specs.Prelude.{fold}
-use Rattle.std.proofs.lemmas.Bool.{cases_lt}
-use Rattle.mt_base.specs.declared.kinds.Kind.{Kind}
-use Rattle.mt_base.specs.declared.ranges.Range.{Range}
-use Rattle.mt_base.specs.Call.{acted}
-use Rattle.mt_base.specs.Map.{IsMap}
-use Rattle.mt_base.proofs.CallsKeepOrder.{acted_is_map}
-use Rattle.mt_list.specs.ListMap.{Contents}
-use Rattle.mt_verify.specs.declared.noted.Heard.{Heard}
-use Rattle.mt_verify.specs.declared.noted.Heard.TheVariants.{Reply as Printed, Short}
-use Rattle.mt_verify.specs.declared.noted.Noted.{Noted}
-use Rattle.mt_verify.specs.Going.{Lane, opened_of, IsAnsweredAt, AreAnswered, AreOn, looks_of, SomeStuck, SomeHasNone, AllStopped, IsGone, AreWithin, AreLanesDone, AreFresh, AreFreshStops, AreStopsWithin, AreAt, HavePassedAll}
-use Rattle.mt_verify.specs.Histories.{map_after_noted, map_of_noted, map_heard}
-use Rattle.mt_verify.specs.Stops.{Passing, AreCounted, AreStopped, HavePassedStops, SomeMiscounted}
+use Rattle.mt_verify.proofs.Prelude.{◌≡◌, ◌⊎◌, ℕ, ◌+◌, ◌≤◌, Bool, true, false, List, [], ◌∷◌, Some, length, map, slice_get, take, refl, sym, ap, ◌∙◌, subst, inl, inr, arith, fold, cases_lt, Kind, Range, acted, IsMap, acted_is_map, Contents, Heard, Short, Noted, Lane, opened_of, IsAnsweredAt, AreAnswered, AreOn, looks_of, SomeStuck, SomeHasNone, AllStopped, IsGone, AreWithin, AreLanesDone, AreFresh, AreFreshStops, AreStopsWithin, AreAt, HavePassedAll, map_after_noted, map_of_noted, map_heard, Passing, AreCounted, AreStopped, HavePassedStops, SomeMiscounted}
+use Rattle.mt_verify.specs.declared.noted.Heard.TheVariants.{Reply as Printed}
 use Rattle.mt_verify.proofs.Laning.{map_more, answered_more, not_answered, fresh_is_on, stuck_is_none, waits_is_none, done_is_least, within_still}
 use Rattle.mt_verify.proofs.Runs.{some_at}
 

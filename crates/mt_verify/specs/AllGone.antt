@@ -2,16 +2,7 @@
 -- Source: this project's own.
 use Rattle.std.specs.Prelude.{◌≡◌, ℕ, List, [], ◌∷◌, ◌++◌, Some, length, slice_get}
 use Rattle.std.specs.List.{flat_map}
-use Rattle.mt_base.specs.History.{History}
-use Rattle.mt_base.specs.Map.{IsMap}
-use Rattle.mt_log.specs.declared.lines.Log.{Log}
-use Rattle.mt_log.specs.declared.transcripts.Listing.{Listing}
-use Rattle.mt_log.specs.declared.transcripts.Transcript.{Transcript}
-use Rattle.mt_log.specs.Run.{IsRunBy, Step}
-use Rattle.mt_log.specs.Text.{listing_text}
-use Rattle.mt_log.specs.Trees.{Declared, Opening, Empty, CopyOf, trees_of}
-use Rattle.mt_told.specs.declared.told.Told.{Told}
-use Rattle.mt_told.specs.Telling.{AreTold}
+use Rattle.mt_verify.specs.Prelude.{History, IsMap, Log, Listing, Transcript, IsRunBy, Step, listing_text, Declared, Opening, Empty, CopyOf, trees_of, Told, AreTold}
 use Rattle.mt_verify.specs.ToldReads.{calls_of_phases_before}
 use Rattle.mt_verify.specs.GoneTrees.{GoneTree, HasGone, gone_map}
 

@@ -1,7 +1,7 @@
 -- How a declared tree opens, as the code keeps it.
 -- Source: this project's own.
 use Rattle.std.specs.Prelude.{Option, Some, None}
-use Rattle.mt_log.specs.Trees.{Opening, Empty, CopyOf}
+use Rattle.mt_verify.specs.Prelude.{Opening, Empty, CopyOf}
 use Rattle.mt_verify.specs.declared.declared.DeclaredSource.{DeclaredSource}
 
 abbrev pub opening_of : Option DeclaredSource → Opening

@@ -1,9 +1,7 @@
 -- How all lanes go through a tree's maps, and what the tree's calls and reads come to.
 -- Source: this project's own.
 use Rattle.std.specs.Prelude.{◌≡◌, ◌⊎◌, ℕ, ◌+◌, ◌/◌, ◌<◌, ◌≤◌, Bool, true, false, List, [], Some, length, map, slice_get}
-use Rattle.mt_base.specs.declared.kinds.Kind.{Kind}
-use Rattle.mt_base.specs.declared.ranges.Range.{Range}
-use Rattle.mt_list.specs.ListMap.{Contents}
+use Rattle.mt_verify.specs.Prelude.{Kind, Range, Contents}
 use Rattle.mt_verify.specs.declared.looks.Look.{Look}
 use Rattle.mt_verify.specs.declared.noted.Noted.{Noted}
 use Rattle.mt_verify.specs.declared.stops.Stop.{Stop}

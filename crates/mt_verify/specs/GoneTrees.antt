@@ -2,11 +2,7 @@
 -- Source: this project's own.
 use Rattle.std.specs.Prelude.{◌≡◌, ◌⊎◌, ℕ, List, length, map}
 use Rattle.std.specs.List.{range_with_len}
-use Rattle.mt_base.specs.declared.kinds.Kind.{Kind}
-use Rattle.mt_base.specs.declared.ranges.Range.{Range}
-use Rattle.mt_list.specs.ListMap.{Contents}
-use Rattle.mt_log.specs.Trees.{most_lanes}
-use Rattle.mt_told.specs.declared.told.Told.{Told}
+use Rattle.mt_verify.specs.Prelude.{Kind, Range, Contents, most_lanes, Told}
 use Rattle.mt_verify.specs.declared.calls.Numbered.{Numbered}
 use Rattle.mt_verify.specs.declared.looks.Look.{Look}
 use Rattle.mt_verify.specs.declared.noted.Noted.{Noted}

@@ -1,12 +1,11 @@
 -- What is heard of the calls of a tree, by what a text tells of their replies.
 -- Source: this project's own.
 use Rattle.std.specs.Prelude.{◌≡◌, ℕ, List, [], ◌∷◌, ◌++◌, Some, codes, slice_get}
-use Rattle.mt_told.specs.declared.told.Told.{Told}
+use Rattle.mt_verify.specs.Prelude.{Told, Shortage}
 use Rattle.mt_verify.specs.declared.calls.Numbered.{Numbered}
 use Rattle.mt_verify.specs.declared.noted.Heard.{Heard}
 use Rattle.mt_verify.specs.declared.noted.Heard.TheVariants.{Reply as Printed, Short}
 use Rattle.mt_verify.specs.declared.noted.Noted.{Noted}
-use Rattle.mt_base.specs.declared.replies.Shortage.{Shortage}
 use Rattle.mt_verify.specs.Heard.{IsHeard, IsSmallShortage, IsToldShortage}
 
 -- the reply as it is printed, where it does not begin as a refusal for want of rows; or the refusal

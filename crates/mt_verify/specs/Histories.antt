@@ -1,16 +1,7 @@
 -- The calls of a tree, as a transcript tells them, and the history that they are.
 -- Source: this project's own.
 use Rattle.std.specs.Prelude.{◌≡◌, ◌↔◌, ℕ, ◌<◌, Bool, true, false, List, [], ◌∷◌, IsSome, IfSome, fold, take}
-use Rattle.mt_base.specs.declared.kinds.Kind.{Kind}
-use Rattle.mt_base.specs.declared.ranges.Range.{Range}
-use Rattle.mt_base.specs.declared.calls.Call.{Call}
-use Rattle.mt_base.specs.declared.replies.Reply.{Reply}
-use Rattle.mt_base.specs.declared.replies.Reply.TheVariants.{NoNodes}
-use Rattle.mt_base.specs.declared.replies.Shortage.{Shortage}
-use Rattle.mt_base.specs.Call.{acted}
-use Rattle.mt_base.specs.History.{Record, History}
-use Rattle.mt_base.specs.Nodes.{Limits, IsRefused}
-use Rattle.mt_log.specs.Text.{reply_text}
+use Rattle.mt_verify.specs.Prelude.{Kind, Range, Call, Reply, NoNodes, Shortage, acted, Record, History, Limits, IsRefused, reply_text}
 use Rattle.mt_verify.specs.declared.noted.Heard.{Heard}
 use Rattle.mt_verify.specs.declared.noted.Heard.TheVariants.{Reply as Printed, Short}
 use Rattle.mt_verify.specs.declared.noted.Noted.{Noted}

@@ -2,11 +2,7 @@
 -- Source: this project's own.
 use Rattle.std.specs.Prelude.{◌≡◌, ℕ, ◌==◌, List, Option, Some, None, slice_get, if◌then◌else◌}
 use Rattle.std.specs.List.{filter_map}
-use Rattle.mt_base.specs.History.{History, map_at}
-use Rattle.mt_log.specs.Run.{Outcome, Called, Looked, Counted, Step, shown}
-use Rattle.mt_told.specs.declared.told.Told.{Told}
-use Rattle.mt_told.specs.declared.told.What.{What}
-use Rattle.mt_told.specs.declared.told.What.TheVariants.{Wrote, Got, Copied, Lawful}
+use Rattle.mt_verify.specs.Prelude.{History, map_at, Outcome, Called, Looked, Counted, Step, shown, Told, What, Wrote, Got, Copied, Lawful}
 use Rattle.mt_verify.specs.declared.looks.Look.{Look}
 use Rattle.mt_verify.specs.Looks.{ArePicked}
 use Rattle.mt_verify.specs.Points.{point_of}

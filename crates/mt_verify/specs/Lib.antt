@@ -23,3 +23,4 @@ pub mod Openings
 pub mod Merging
 pub mod Verifying
 pub mod Tellings
+pub mod Prelude

@@ -1,9 +1,7 @@
 -- The reads of one lane on one tree, and how a lane goes through the tree's maps from number to number.
 -- Source: this project's own.
 use Rattle.std.specs.Prelude.{◌≡◌, ◌⊎◌, ℕ, zero, suc, ◌+◌, ◌<◌, ◌≤◌, Bool, true, false, List, Some, length, option_map, slice_get, slice_index, unwrap_or}
-use Rattle.mt_base.specs.declared.ranges.Range.{Range}
-use Rattle.mt_base.specs.Call.{answer}
-use Rattle.mt_log.specs.Run.{shown}
+use Rattle.mt_verify.specs.Prelude.{Range, answer, shown}
 use Rattle.mt_verify.specs.Choices.{AreChosen}
 use Rattle.mt_verify.specs.declared.looks.Look.{Look}
 use Rattle.mt_verify.specs.declared.tracks.Fate.{Fate}

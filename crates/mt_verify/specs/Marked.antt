@@ -1,10 +1,7 @@
 -- What lines ask for of those that know of them, gathered in marks.
 -- Source: this project's own.
 use Rattle.std.specs.Prelude.{◌≡◌, ◌↔◌, ℕ, ◌+◌, ◌*◌, ◌<◌, ◌≤◌, List, length, slice_index_or, All, IfSome}
-use Rattle.mt_log.specs.Trees.{most_lanes}
-use Rattle.mt_told.specs.declared.told.Told.{Told}
-use Rattle.mt_told.specs.declared.told.What.{What}
-use Rattle.mt_told.specs.declared.told.What.TheVariants.{Wrote, Got, Copied, Lawful}
+use Rattle.mt_verify.specs.Prelude.{most_lanes, Told, What, Wrote, Got, Copied, Lawful}
 use Rattle.mt_verify.specs.declared.windows.Mark.{Mark}
 use Rattle.mt_verify.specs.declared.windows.Marks.{Marks}
 use Rattle.mt_verify.specs.PrintedOrder.{KeepsTo}

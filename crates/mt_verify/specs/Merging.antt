@@ -2,7 +2,7 @@
 -- on each tree.
 -- Source: this project's own.
 use Rattle.std.specs.Prelude.{ℕ, ◌+◌, ◌*◌, List, [], option_map, slice_get, unwrap_or}
-use Rattle.mt_log.specs.Trees.{most_lanes}
+use Rattle.mt_verify.specs.Prelude.{most_lanes}
 use Rattle.mt_verify.specs.Going.{Lane}
 use Rattle.mt_verify.specs.GoneTrees.{GoneTree}
 

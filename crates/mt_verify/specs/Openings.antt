@@ -1,9 +1,7 @@
 -- The map with which a tree opens.
 -- Source: this project's own.
 use Rattle.std.specs.Prelude.{ℕ, ◌==◌, ◌&&◌, Bool, List, [], nat_lt}
-use Rattle.mt_list.specs.ListMap.{Contents}
-use Rattle.mt_log.specs.Trees.{Declared}
-use Rattle.mt_told.specs.declared.told.Told.{Told}
+use Rattle.mt_verify.specs.Prelude.{Contents, Declared, Told}
 use Rattle.mt_verify.specs.AllGone.{OpensGone}
 use Rattle.mt_verify.specs.ToldReads.{is_wrote}
 use Rattle.mt_verify.specs.GoneTrees.{GoneTree}

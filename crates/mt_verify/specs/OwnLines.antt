@@ -2,9 +2,7 @@
 -- Source: this project's own.
 use Rattle.std.specs.Prelude.{ℕ, ◌+◌, ◌==◌, List, [], ◌∷◌, Option, Some, None, nat_lt, if◌then◌else◌}
 use Rattle.std.specs.List.{filter_map}
-use Rattle.mt_told.specs.declared.told.Told.{Told}
-use Rattle.mt_told.specs.declared.told.What.{What}
-use Rattle.mt_told.specs.declared.told.What.TheVariants.{Wrote, Got, Copied, Lawful}
+use Rattle.mt_verify.specs.Prelude.{Told, What, Wrote, Got, Copied, Lawful}
 use Rattle.mt_verify.specs.LaneReads.{look_told}
 use Rattle.mt_verify.specs.declared.counts.Counting.{Counting}
 use Rattle.mt_verify.specs.declared.looks.Look.{Look}

@@ -2,14 +2,7 @@
 -- Source: this project's own.
 use Rattle.std.specs.Prelude.{◌≡◌, ℕ, ◌<◌, ◌≤◌, Bool, true, List, [], ◌∷◌, Option, Some, None, length, slice_get, option_map, unwrap_or, IsPermutation}
 use Rattle.std.specs.List.{enumerate_from, filter_map}
-use Rattle.mt_base.specs.declared.calls.Call.{Call}
-use Rattle.mt_base.specs.Call.{answer}
-use Rattle.mt_base.specs.History.{Record, History, map_at}
-use Rattle.mt_log.specs.declared.lines.Log.{Log}
-use Rattle.mt_log.specs.declared.transcripts.Transcript.{Transcript}
-use Rattle.mt_log.specs.Run.{Outcome, Called, Looked, Counted, Step, IsRun, IsRunBy, Opens, Knows, is_read, numbered_on, shown}
-use Rattle.mt_log.specs.Text.{text_of}
-use Rattle.mt_log.specs.Trees.{Declared, CopyOf, trees_of}
+use Rattle.mt_verify.specs.Prelude.{Call, answer, Record, History, map_at, Log, Transcript, Outcome, Called, Looked, Counted, Step, IsRun, IsRunBy, Opens, Knows, is_read, numbered_on, shown, text_of, Declared, CopyOf, trees_of}
 use Rattle.mt_verify.specs.Histories.{is_nomem}
 use Rattle.mt_verify.specs.declared.verdicts.Verdict.{Verdict}
 use Rattle.mt_verify.specs.declared.verdicts.Verdict.TheVariants.{Yes, No}

@@ -1,9 +1,7 @@
 -- The order of what a text tells, by call numbers and windows: what is tested before any map is made.
 -- Source: this project's own.
 use Rattle.std.specs.Prelude.{◌≡◌, ◌⊎◌, ℕ, ◌<◌, ◌≤◌, List, length}
-use Rattle.mt_told.specs.declared.told.Told.{Told}
-use Rattle.mt_told.specs.declared.told.What.{What}
-use Rattle.mt_told.specs.declared.told.What.TheVariants.{Wrote, Got, Copied, Lawful}
+use Rattle.mt_verify.specs.Prelude.{Told, What, Wrote, Got, Copied, Lawful}
 use Rattle.mt_verify.specs.ToldCalls.{calls_told}
 
 -- Of two lines on one tree the later knows of the earlier where both are of one lane, or the earlier's phase is lower.

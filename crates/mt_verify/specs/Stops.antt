@@ -2,7 +2,7 @@
 -- Source: this project's own.
 use Rattle.std.specs.Prelude.{◌≡◌, ℕ, ◌+◌, ◌==◌, ◌<◌, ◌≤◌, Bool, true, false, List, Option, Some, None, length, slice_get}
 use Rattle.std.specs.Fmt.{decimal}
-use Rattle.mt_base.specs.declared.ranges.Range.{Range}
+use Rattle.mt_verify.specs.Prelude.{Range}
 use Rattle.mt_verify.specs.declared.stops.Stop.{Stop}
 
 -- the stops of a tree, and how many of them were passed

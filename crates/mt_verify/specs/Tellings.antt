@@ -2,11 +2,8 @@
 -- Source: this project's own.
 use Rattle.std.specs.Prelude.{ℕ, Bool, true, false, length}
 use Rattle.std.specs.List.{filter}
-use Rattle.mt_log.specs.declared.lines.Item.{Item}
-use Rattle.mt_log.specs.declared.lines.Item.TheVariants.{Write}
-use Rattle.mt_log.specs.declared.transcripts.Said.{Said}
+use Rattle.mt_verify.specs.Prelude.{Item, Write, Said, Transcript}
 use Rattle.mt_log.specs.declared.transcripts.Said.TheVariants as said
-use Rattle.mt_log.specs.declared.transcripts.Transcript.{Transcript}
 
 abbrev pub tells_call : Said → Bool
 tells_call (said.Wrote call reply) = true

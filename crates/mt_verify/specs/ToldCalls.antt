@@ -2,11 +2,7 @@
 -- Source: this project's own.
 use Rattle.std.specs.Prelude.{◌≡◌, ◌⊎◌, ℕ, ◌+◌, ◌==◌, ◌<◌, List, [], ◌∷◌, Option, Some, None, IsPermutation, count_by, length, if◌then◌else◌}
 use Rattle.std.specs.List.{enumerate_from, filter_map}
-use Rattle.mt_base.specs.History.{Record}
-use Rattle.mt_log.specs.Text.{reply_text}
-use Rattle.mt_told.specs.declared.told.Told.{Told}
-use Rattle.mt_told.specs.declared.told.What.{What}
-use Rattle.mt_told.specs.declared.told.What.TheVariants.{Wrote, Got, Copied, Lawful}
+use Rattle.mt_verify.specs.Prelude.{Record, reply_text, Told, What, Wrote, Got, Copied, Lawful}
 use Rattle.mt_verify.specs.declared.calls.Numbered.{Numbered}
 
 -- a call, by its number

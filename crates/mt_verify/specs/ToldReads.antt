@@ -2,9 +2,7 @@
 -- Source: this project's own.
 use Rattle.std.specs.Prelude.{ℕ, ◌==◌, ◌&&◌, Bool, true, false, List, [], ◌∷◌, Option, Some, None, nat_lt, length, map, if◌then◌else◌}
 use Rattle.std.specs.List.{cons_option, filter}
-use Rattle.mt_told.specs.declared.told.Told.{Told}
-use Rattle.mt_told.specs.declared.told.What.{What}
-use Rattle.mt_told.specs.declared.told.What.TheVariants.{Wrote, Got, Copied, Lawful}
+use Rattle.mt_verify.specs.Prelude.{Told, What, Wrote, Got, Copied, Lawful}
 use Rattle.mt_verify.specs.declared.looks.Look.{Look}
 
 abbrev pub is_wrote : What → Bool

@@ -1,10 +1,7 @@
 -- What is known of the lines of a text when the trees of its log are gone through.
 -- Source: this project's own.
 use Rattle.std.specs.Prelude.{◌<◌, ◌≤◌, ◌^◌, ℕ, List, All, AllPairs, length}
-use Rattle.mt_base.specs.Width.{most_rows}
-use Rattle.mt_log.specs.declared.lines.Log.{Log}
-use Rattle.mt_log.specs.Trees.{IsReadable, most_lanes, trees_of}
-use Rattle.mt_told.specs.declared.told.Told.{Told}
+use Rattle.mt_verify.specs.Prelude.{most_rows, Log, IsReadable, most_lanes, trees_of, Told}
 use Rattle.mt_verify.specs.PrintedOrder.{EndsInTree}
 
 -- They are of the log's trees and lanes, phase by phase, and no window ends behind the last call on its tree.

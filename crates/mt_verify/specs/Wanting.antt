@@ -1,16 +1,8 @@
 -- Whether a call wants rows, as a test of the map before it.
 -- Source: this project's own.
 use Rattle.std.specs.Prelude.{ℕ, Bool, true, false, not, ◌==◌, ◌||◌, ◌&&◌, List, is_some, if◌then◌else◌}
-use Rattle.mt_base.specs.declared.ranges.Range.{Range}
-use Rattle.mt_base.specs.declared.kinds.Kind.{Kind}
-use Rattle.mt_base.specs.declared.calls.Call.{Call}
-use Rattle.mt_base.specs.declared.calls.Call.TheVariants.{Store, StorePre, Insert, Erase, Alloc, Ralloc, Gap, Rgap, Clear}
-use Rattle.mt_base.specs.declared.replies.Reply.{Reply}
+use Rattle.mt_verify.specs.Prelude.{Range, Kind, Call, Store, StorePre, Insert, Erase, Alloc, Ralloc, Gap, Rgap, Clear, Reply, is_invalid, is_bad_area, low, high, holding, is_held, is_exactly}
 use Rattle.mt_base.specs.declared.replies.Reply.TheVariants as replies
-use Rattle.mt_base.specs.Call.{is_invalid, is_bad_area}
-use Rattle.mt_base.specs.Holes.{low, high}
-use Rattle.mt_base.specs.Map.{holding, is_held}
-use Rattle.mt_base.specs.Nodes.{is_exactly}
 
 -- a store of a hole where a range is met, or of an entry over other indexes than just those of one range
 abbrev pub store_wants : List Range → ℕ → ℕ → ℕ → Bool

@@ -2,7 +2,7 @@
 -- Source: this project's own.
 use Rattle.std.specs.Prelude.{◌≡◌, ℕ, ◌+◌, ◌<◌, ◌≤◌, true, List, AllPairs, length}
 use Rattle.std.specs.List.{filter_map}
-use Rattle.mt_log.specs.Run.{Outcome, Called, Looked, Counted, Step, Knows, is_read, numbered_on}
+use Rattle.mt_verify.specs.Prelude.{Outcome, Called, Looked, Counted, Step, Knows, is_read, numbered_on}
 use Rattle.mt_verify.specs.Points.{lo_of, read_number}
 
 -- Of two outcomes on a tree the later keeps to the earlier by what is printed: call numbers and windows.

@@ -1,10 +1,5 @@
 -- A summary that is counted entry by entry.
-use Rattle.std.proofs.Common.{◌≡◌, ℕ, ◌+◌, ◌<◌, Bool, true, false, List, length, take, cond, codes, get_or, arith, refl, sym, ap, ◌∙◌}
-use Rattle.std.specs.Str.{bytes_eq}
-use Rattle.std.proofs.lemmas.List.Sums.{count_by-le-length, count_by_more_no, count_by_more_yes}
-use Rattle.mt_log.specs.declared.transcripts.Entry.{Entry}
-use Rattle.mt_workload.specs.Counting.{AreBelow, with_one_counted}
-use Rattle.mt_workload.specs.Summary.{said_word, times_told, told}
+use Rattle.mt_workload.proofs.Prelude.{◌≡◌, ℕ, ◌+◌, ◌<◌, Bool, true, false, List, length, take, cond, codes, get_or, arith, refl, sym, ap, ◌∙◌, bytes_eq, count_by-le-length, count_by_more_no, count_by_more_yes, Entry, AreBelow, with_one_counted, said_word, times_told, told}
 
 -- no word is told more often than there are entries
 few_times : (word : List ℕ) (entries : List Entry) (bound : ℕ) → length entries < bound → times_told word entries < bound

@@ -1,9 +1,5 @@
 -- One step more, and one lane more.
-use Rattle.std.proofs.Common.{◌≡◌, ℕ, suc, ◌+◌, ◌-◌, ◌≤◌, ◌<◌, List, [], ◌∷◌, ◌++◌, append_assoc, arith, refl, sym, ap, ◌∙◌}
-use Rattle.std.proofs.lemmas.List.{append-nil}
-use Rattle.mt_log.specs.declared.lines.Item.{Item}
-use Rattle.mt_log.specs.declared.lines.Item.TheVariants.{Lane}
-use Rattle.mt_workload.specs.Made.{lanes_from, step, steps}
+use Rattle.mt_workload.proofs.Prelude.{◌≡◌, ℕ, suc, ◌+◌, ◌-◌, ◌≤◌, ◌<◌, List, [], ◌∷◌, ◌++◌, append_assoc, arith, refl, sym, ap, ◌∙◌, append-nil, Item, Lane, lanes_from, step, steps}
 
 one_left : (count done : ℕ) → done < count → count - done ≡ suc (count - (done + 1))
 one_left count done within = omega arith

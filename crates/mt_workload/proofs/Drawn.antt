@@ -1,8 +1,5 @@
 -- What is drawn is below what it is drawn below.
-use Rattle.std.proofs.Common.{ℕ, ◌*◌, ◌/◌, ◌^◌, ◌<◌, arith}
-use Rattle.std.proofs.Math.Nat.{div-lt_iff_lt-mul, mul-lt-mul_of_pos_right, mul_comm}
-use Rattle.std.proofs.lemmas.Nat.{mul-lt}
-use Rattle.mt_workload.specs.Draws.{draw_below, next_state}
+use Rattle.mt_workload.proofs.Prelude.{ℕ, ◌*◌, ◌/◌, ◌^◌, ◌<◌, arith, div-lt_iff_lt-mul, mul-lt-mul_of_pos_right, mul_comm, mul-lt, draw_below, next_state}
 
 pub product_fits : (state count : ℕ) → state < 2 ^ 31 → count < 2 ^ 32 → state * count < 2 ^ 64
 product_fits state count small few = omega (arith, mul-lt state count (2 ^ 31) (2 ^ 32) small few)

@@ -3,3 +3,4 @@ pub mod Dealing
 pub mod Drawn
 pub mod MadeLogs
 pub mod Numbered
+mod Prelude

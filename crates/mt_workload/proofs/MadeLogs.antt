@@ -1,23 +1,6 @@
 -- The log that is made of a number is one that can be read, and has as many lines as it is asked for.
-use Rattle.std.proofs.Common.{◌≡◌, ℕ, zero, suc, ◌+◌, ◌*◌, ◌/◌, ◌%◌, ◌≤◌, ◌<◌, Bool, true, false, List, [], ◌∷◌, ◌++◌, None, length, min, cond, codes, arith, inl, inr, refl, sym, ap, ◌∙◌, subst}
-use Rattle.std.specs.Prelude.{◌==◌, nat_le}
-use Rattle.std.proofs.lemmas.Bool.{cases_lt, le-ltb, lt-ltb}
-use Rattle.std.proofs.lemmas.List.{append-nil, length-append}
-use Rattle.mt_base.specs.declared.calls.Call.{Call}
-use Rattle.mt_base.specs.declared.calls.Call.TheVariants.{Erase, Alloc, Ralloc}
-use Rattle.mt_base.specs.declared.calls.Query.TheVariants.{Load, Find}
+use Rattle.mt_workload.proofs.Prelude.{◌≡◌, ℕ, zero, suc, ◌+◌, ◌*◌, ◌/◌, ◌%◌, ◌≤◌, ◌<◌, Bool, true, false, List, [], ◌∷◌, ◌++◌, None, length, min, cond, codes, arith, inl, inr, refl, sym, ap, ◌∙◌, subst, ◌==◌, nat_le, cases_lt, le-ltb, lt-ltb, append-nil, length-append, Call, Erase, Alloc, Ralloc, Load, Find, IsInPlace, HasTreeRoom, ReadSoFar, after_item, most_scan_steps, nothing_read, scan_steps_of, IsReadable, NamesBelow, known_after, tree_declared_by, most_lanes, Item, Tree, Lane, Write, Ask, Scan, KnownTree, CallSays, CanAllFollow, CanFollow, IsNumber, ItemSays, at_line, are_readable, Drawing, draw_below, area_step, drawn_entry, drawn_size, index_step, lanes_from, last_index, made, numbered, step, step_by, steps, steps_of_lane, store_step}
 use Rattle.mt_base.specs.declared.kinds.Kind.TheVariants as kinds
-use Rattle.mt_log.specs.Phases.{IsInPlace}
-use Rattle.mt_log.specs.Reader.{HasTreeRoom}
-use Rattle.mt_log.specs.Reading.{ReadSoFar, after_item, most_scan_steps, nothing_read, scan_steps_of}
-use Rattle.mt_log.specs.Trees.{IsReadable, NamesBelow, known_after, tree_declared_by, most_lanes}
-use Rattle.mt_log.specs.declared.lines.Item.{Item}
-use Rattle.mt_log.specs.declared.lines.Item.TheVariants.{Tree, Lane, Write, Ask, Scan}
-use Rattle.mt_log.specs.declared.trees.KnownTree.{KnownTree}
-use Rattle.mt_log.proofs.Following.{CallSays, CanAllFollow, CanFollow, IsNumber, ItemSays, at_line}
-use Rattle.mt_log.proofs.Readable.{are_readable}
-use Rattle.mt_workload.specs.Draws.{Drawing, draw_below}
-use Rattle.mt_workload.specs.Made.{area_step, drawn_entry, drawn_size, index_step, lanes_from, last_index, made, numbered, step, step_by, steps, steps_of_lane, store_step}
 use Rattle.mt_workload.proofs.Drawn.{below_below}
 use Rattle.mt_workload.proofs.Numbered.{length-numbered}
 

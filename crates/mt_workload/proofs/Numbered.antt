@@ -1,9 +1,5 @@
 -- Lines that are numbered one by one.
-use Rattle.std.proofs.Common.{◌≡◌, ℕ, suc, ◌+◌, add-zero, List, [], ◌∷◌, ◌++◌, length, map, arith, ap, refl, ◌∙◌, sym}
-use Rattle.std.proofs.lemmas.List.{map-append, length-map}
-use Rattle.mt_log.specs.declared.lines.Item.{Item}
-use Rattle.mt_log.specs.declared.lines.Line.{Line}
-use Rattle.mt_workload.specs.Made.{numbered}
+use Rattle.mt_workload.proofs.Prelude.{◌≡◌, ℕ, suc, ◌+◌, add-zero, List, [], ◌∷◌, ◌++◌, length, map, arith, ap, refl, ◌∙◌, sym, map-append, length-map, Item, Line, numbered}
 
 abbrev the_line : ℕ → Item → Line
 the_line number item = record { number = number; item = item }

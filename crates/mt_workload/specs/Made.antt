@@ -1,14 +1,8 @@
 -- The log that is made of a number: so many steps on one tree, dealt out to so many lanes.
 -- Source: this project's own.
 use Rattle.std.specs.Prelude.{ℕ, zero, suc, List, [], ◌∷◌, ◌++◌, ◌+◌, ◌-◌, ◌/◌, ◌%◌, ◌==◌, nat_le, nat_lt, codes, if◌then◌else◌}
-use Rattle.mt_base.specs.declared.calls.Call.{Call}
-use Rattle.mt_base.specs.declared.calls.Call.TheVariants.{Store, Erase, Alloc, Ralloc}
-use Rattle.mt_base.specs.declared.calls.Query.TheVariants.{Load, Find}
+use Rattle.mt_workload.specs.Prelude.{Call, Store, Erase, Alloc, Ralloc, Load, Find, Item, Tree, Lane, Write, Ask, Scan, Line, Log}
 use Rattle.mt_base.specs.declared.kinds.Kind.TheVariants as kinds
-use Rattle.mt_log.specs.declared.lines.Item.{Item}
-use Rattle.mt_log.specs.declared.lines.Item.TheVariants.{Tree, Lane, Write, Ask, Scan}
-use Rattle.mt_log.specs.declared.lines.Line.{Line}
-use Rattle.mt_log.specs.declared.lines.Log.{Log}
 use Rattle.mt_workload.specs.Draws.{Drawing, draw_below, given, ◌>>=◌}
 
 -- the greatest index that is asked for

@@ -3,14 +3,9 @@
 use Rattle.std.specs.Prelude.{ℕ, List, ◌++◌, count_by, sum_by, length, codes}
 use Rattle.std.specs.Fmt.{decimal}
 use Rattle.std.specs.Str.{bytes_eq}
-use Rattle.mt_base.specs.declared.replies.Reply.{Reply}
+use Rattle.mt_workload.specs.Prelude.{Reply, Answer, Entry, Said, Wrote, Got, Lawful, Copied, Transcript}
 use Rattle.mt_base.specs.declared.replies.Reply.TheVariants as replies
-use Rattle.mt_log.specs.declared.transcripts.Answer.{Answer}
 use Rattle.mt_log.specs.declared.transcripts.Answer.TheVariants as answers
-use Rattle.mt_log.specs.declared.transcripts.Entry.{Entry}
-use Rattle.mt_log.specs.declared.transcripts.Said.{Said}
-use Rattle.mt_log.specs.declared.transcripts.Said.TheVariants.{Wrote, Got, Lawful, Copied}
-use Rattle.mt_log.specs.declared.transcripts.Transcript.{Transcript}
 use Rattle.mt_workload.specs.declared.summaries.Summary.{Summary}
 
 -- a store counts as done, whatever it overwrote

@@ -1,14 +1,5 @@
 -- A tree that was checked keeps the laws and has the form that was told: the tests ask for no other proof of it.
-use Rattle.std.proofs.Common.{◌≡◌, ℕ, List, [], ◌∷◌, sym, ap, ◌∙◌, subst}
-use Rattle.std.specs.Prelude.{Ok}
-use Rattle.mt_base.specs.declared.kinds.Kind.{Kind}
-use Rattle.mt_rows.specs.declared.rows.Place.TheVariants.{Root}
-use Rattle.mt_rows.specs.Sheet.{Rooted, Sheet, OnlyReads}
-use Rattle.mt_rows.specs.Publish.{tree_as, with_published, IsLawfulOf}
-use Rattle.mt_check.specs.declared.faults.Fault.{Fault}
-use Rattle.mt_check.specs.declared.faults.Form.{Form}
-use Rattle.mt_check.specs.Check.{checked, first_or, faults_in, form_of}
-use Rattle.mt_rows.proofs.Loads.{same_tree}
+use Rattle.trials_engine.proofs.Prelude.{◌≡◌, ℕ, List, [], ◌∷◌, sym, ap, ◌∙◌, subst, Ok, Kind, Root, Rooted, Sheet, OnlyReads, tree_as, with_published, IsLawfulOf, Fault, Form, checked, first_or, faults_in, form_of, same_tree}
 
 module _ (s s' : Sheet) (root : ℕ) (kind : Kind) (reads : OnlyReads s s') (root_is : s.tree.root ≡ root) where
   tree_is : with_published s.tree Root root ≡ s'.tree

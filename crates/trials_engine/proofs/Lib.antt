@@ -1,1 +1,2 @@
 pub mod CheckedTrees
+mod Prelude

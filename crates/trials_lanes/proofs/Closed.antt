@@ -1,9 +1,6 @@
 -- Passes that have seen nothing have no section open, and one lane's pass serves its tree.
-use Rattle.std.specs.List.{AllByRecursion}
-use Rattle.std.proofs.lemmas.List.Elements.{All-from_recursion}
-use Rattle.std.proofs.Common.{◌≡◌, ◌<◌, ℕ, zero, suc, List, [], ◌∷◌, None, All, map, arith, refl, sym, subst, slice_index_or}
-use Rattle.mt_base.specs.Passes.{Pass, new_pass}
-use Rattle.mt_desks.specs.Phases.{AtEach, CanPass}
+use Rattle.trials_lanes.proofs.Prelude.{AllByRecursion, All-from_recursion, ◌≡◌, ◌<◌, ℕ, zero, suc, List, [], ◌∷◌, None, All, map, arith, refl, sym, subst, slice_index_or, new_pass, AtEach, CanPass}
+use Rattle.mt_base.specs.Passes.{Pass}
 
 new_closed : (ns : List ℕ) → AllByRecursion (λ (p : Pass). p.standing ≡ None) (map new_pass ns)
 new_closed [] = tt

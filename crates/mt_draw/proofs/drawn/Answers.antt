@@ -1,4 +1,4 @@
-use Rattle.std.proofs.Common.{string_bytes}
+use Rattle.mt_draw.proofs.Prelude.{string_bytes}
 use Rattle.mt_draw.proofs.Tables.{drawn_is}
 use Rattle.mt_draw.proofs.drawn.Goals as goal
 

@@ -1,7 +1,4 @@
-use Rattle.std.proofs.Common.{arith}
-use Rattle.mt_rows.specs.Memory.{sheet_in}
-use Rattle.mt_image.specs.Reading.{AreBytes}
-use Rattle.mt_image.proofs.Rewritten.{read_is_good}
+use Rattle.mt_draw.proofs.Prelude.{arith, sheet_in, AreBytes, read_is_good}
 use Rattle.mt_draw.proofs.read_tree.Goals as goal
 
 pub of-requires : goal.of-requires

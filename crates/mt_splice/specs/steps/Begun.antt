@@ -2,9 +2,7 @@
 -- Source: this project's own.
 use Rattle.std.specs.Prelude.{false, [], None}
 use Rattle.mt_base.specs.declared.kinds.Kind.TheVariants as trees
-use Rattle.mt_base.specs.Width.{kind_width}
-use Rattle.mt_rows.specs.Sheet.{Rooted, Sheet}
-use Rattle.mt_rows.specs.Publish.{tree_as}
+use Rattle.mt_splice.specs.Prelude.{kind_width, Rooted, Sheet, tree_as}
 use Rattle.mt_splice.specs.steps.Progress.{Before}
 use Rattle.mt_splice.specs.steps.Work.{Start}
 

@@ -2,14 +2,7 @@
 -- Source: the kernel's lib/maple_tree.c, mas_topiary_replace, which marks the nodes that a new subtree replaces.
 use Rattle.std.specs.Prelude.{◌≡◌, ℕ, ◌-◌, ◌<◌, ◌≤◌, List, [], ◌∷◌, ◌++◌, All, Contains, length, map}
 use Rattle.std.specs.List.{AllByRecursion}
-use Rattle.mt_base.specs.Width.{greatest}
-use Rattle.mt_free.specs.Book.{Book, Held, IsOut, after_retire}
-use Rattle.mt_layout.specs.declared.spans.Span.{Span}
-use Rattle.mt_layout.specs.Rows.{row_in}
-use Rattle.mt_path.specs.Paths.{path_in, step_at}
-use Rattle.mt_rows.specs.Levels.{level}
-use Rattle.mt_rows.specs.Spans.{root_span}
-use Rattle.mt_rows.specs.Sheet.{Rooted, Sheet, OnlyReads, MayBury, after_bury}
+use Rattle.mt_splice.specs.Prelude.{greatest, Book, Held, IsOut, after_retire, Span, row_in, path_in, step_at, level, root_span, Rooted, Sheet, OnlyReads, MayBury, after_bury}
 use Rattle.mt_splice.specs.declared.ways.Window.{Window}
 use Rattle.mt_splice.specs.steps.Windows.{between}
 

@@ -1,13 +1,7 @@
 -- How a replacement goes on at a level.
 -- Source: the kernel's lib/maple_tree.c, mas_spanning_rebalance, which goes up until one node takes the place of one.
 use Rattle.std.specs.Prelude.{◌≡◌, ◌⊎◌, ℕ, ◌<◌, List, [], ◌∷◌, map}
-use Rattle.mt_base.specs.declared.widths.Width.{Width}
-use Rattle.mt_base.specs.Width.{greatest}
-use Rattle.mt_layout.specs.declared.items.Item.{Item}
-use Rattle.mt_layout.specs.declared.names.RowKind.{RowKind}
-use Rattle.mt_layout.specs.declared.names.RowKind.TheVariants.{Leaf}
-use Rattle.mt_path.specs.declared.paths.PathStep.{PathStep}
-use Rattle.mt_path.specs.Paths.{step_at}
+use Rattle.mt_splice.specs.Prelude.{Width, greatest, Item, RowKind, Leaf, PathStep, step_at}
 use Rattle.mt_splice.specs.declared.decisions.Next.{Next}
 use Rattle.mt_splice.specs.declared.decisions.Next.TheVariants.{Empty, Root, RootAbove, Slot, Up}
 

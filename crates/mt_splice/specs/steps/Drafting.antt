@@ -1,13 +1,7 @@
 -- The rows of a level drafted one after the other: what is done to the rows and to the book, and what they are one level up.
 -- Source: the kernel's lib/maple_tree.c, mab_mas_cp, which writes a big node's items into one, two or three nodes.
 use Rattle.std.specs.Prelude.{◌≡◌, ℕ, ◌+◌, ◌-◌, ◌≤◌, List, [], ◌∷◌, ◌++◌, All, length}
-use Rattle.mt_free.specs.Book.{Book, IsRowOf}
-use Rattle.mt_layout.specs.declared.items.Item.{Item}
-use Rattle.mt_layout.specs.declared.names.RowKind.{RowKind}
-use Rattle.mt_layout.specs.declared.names.RowKind.TheVariants.{Leaf, Inner, Gapped}
-use Rattle.mt_layout.specs.Spans.{spans_from}
-use Rattle.mt_rows.specs.Laws.{Tree, kind_on, top_of}
-use Rattle.mt_rows.specs.Sheet.{Sheet, IsFree, life_of}
+use Rattle.mt_splice.specs.Prelude.{Book, IsRowOf, Item, RowKind, Leaf, Inner, Gapped, spans_from, Tree, kind_on, top_of, Sheet, IsFree, life_of}
 use Rattle.mt_splice.specs.declared.writes.NewRow.{NewRow}
 use Rattle.mt_splice.specs.Fewest.{IsCutOf}
 use Rattle.mt_splice.specs.steps.Layers.{part_of, head, heads}

@@ -3,25 +3,7 @@
 -- of children that have moved.
 use Rattle.std.specs.Prelude.{◌≡◌, ◌≢◌, ℕ, suc, ◌+◌, ◌-◌, ◌*◌, ◌<◌, ◌≤◌, true, false, List, Option, Some, None, length}
 use Rattle.std.specs.List.{slice_get}
-use Rattle.mt_base.specs.declared.calls.Call.{Call}
-use Rattle.mt_base.specs.declared.replies.Reply.{Reply}
-use Rattle.mt_base.specs.Call.{acted}
-use Rattle.mt_base.specs.Width.{columns}
-use Rattle.mt_layout.specs.declared.names.RowKind.{RowKind}
-use Rattle.mt_layout.specs.declared.spans.Span.{Span}
-use Rattle.mt_layout.specs.Rows.{row_in, named_row, parent_at}
-use Rattle.mt_layout.specs.Columns.{slot_column}
-use Rattle.mt_free.specs.Book.{Book}
-use Rattle.mt_rows.specs.declared.rows.Life.TheVariants.{Live}
-use Rattle.mt_rows.specs.declared.rows.Place.{Place}
-use Rattle.mt_rows.specs.declared.rows.Place.TheVariants.{Root, Slot}
-use Rattle.mt_rows.specs.Spans.{column}
-use Rattle.mt_rows.specs.Levels.{is_row_of}
-use Rattle.mt_rows.specs.Trees.{height_in}
-use Rattle.mt_rows.specs.Laws.{Tree, kind_on}
-use Rattle.mt_rows.specs.Sheet.{Sheet, IsPlace, life_of, is_buried}
-use Rattle.mt_rows.specs.Publish.{tree_as, map_by, with_published}
-use Rattle.mt_rows.specs.Replacement.{IsSlotAt}
+use Rattle.mt_splice.specs.Prelude.{Call, Reply, acted, columns, RowKind, Span, row_in, named_row, parent_at, slot_column, Book, Live, Place, Root, Slot, column, is_row_of, height_in, Tree, kind_on, Sheet, IsPlace, life_of, is_buried, tree_as, map_by, with_published, IsSlotAt, slots_of}
 use Rattle.mt_splice.specs.declared.writes.NewRow.{NewRow}
 use Rattle.mt_splice.specs.steps.Seen.{passing}
 use Rattle.mt_splice.specs.steps.Work.{Start, Work, with_words, now, Holds}
@@ -29,7 +11,6 @@ use Rattle.mt_splice.specs.steps.Replaced.{IsReplaced}
 use Rattle.mt_splice.specs.steps.Told.{GapsBeside}
 use Rattle.mt_splice.specs.steps.Writes.{child_row, AreChildren}
 use Rattle.mt_splice.specs.steps.Progress.{Before, IsInFlight, IsProgress, is_taken, new_rows_of}
-use Rattle.mt_layout.specs.Sizes.{slots_of}
 
 -- ---- the end
 

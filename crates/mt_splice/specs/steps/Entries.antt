@@ -1,16 +1,7 @@
 -- What a replacement begins with, told by the entry that begins it.
 -- Source: this project's own.
 use Rattle.std.specs.Prelude.{◌≡◌, ◌-◌, ℕ, List, [], length}
-use Rattle.mt_base.specs.declared.calls.Call.{Call}
-use Rattle.mt_base.specs.declared.kinds.Kind.{Kind}
-use Rattle.mt_base.specs.Call.{acted}
-use Rattle.mt_free.specs.Book.{Book}
-use Rattle.mt_path.specs.Paths.{path_in}
-use Rattle.mt_rows.specs.Sheet.{Sheet}
-use Rattle.mt_rows.specs.Publish.{map_by, tree_as}
-use Rattle.mt_base.specs.declared.replies.Reply.{Reply}
-use Rattle.mt_layout.specs.declared.items.Item.{Item}
-use Rattle.mt_path.specs.declared.paths.PathStep.{PathStep}
+use Rattle.mt_splice.specs.Prelude.{Call, Kind, acted, Book, path_in, Sheet, map_by, tree_as, Reply, Item, PathStep}
 use Rattle.mt_splice.specs.steps.Progress.{Before}
 use Rattle.mt_splice.specs.Splice.{MaySplice}
 use Rattle.mt_splice.specs.steps.Work.{Start}

@@ -2,15 +2,7 @@
 -- Source: the kernel's lib/maple_tree.c, mas_wmb_replace, which puts a subtree of new nodes in the place of old ones.
 use Rattle.std.specs.Prelude.{◌≡◌, ℕ, ◌+◌, ◌<◌, ◌≤◌, Bool, true, false, List, [], ◌∷◌, take, drop, ◌-◌}
 use Rattle.std.specs.List.{AllByRecursion}
-use Rattle.mt_base.specs.Width.{first_row}
-use Rattle.mt_layout.specs.declared.items.Item.{Item}
-use Rattle.mt_layout.specs.declared.spans.Span.{Span}
-use Rattle.mt_layout.specs.declared.names.RowKind.{RowKind}
-use Rattle.mt_layout.specs.Columns.{end_of}
-use Rattle.mt_layout.specs.Rows.{row_in, name_at}
-use Rattle.mt_layout.specs.Spans.{Fills}
-use Rattle.mt_rows.specs.Levels.{map_of, Levels, times}
-use Rattle.mt_rows.specs.Laws.{Tree, IsRow, Stands, top_of}
+use Rattle.mt_splice.specs.Prelude.{first_row, Item, Span, RowKind, end_of, row_in, name_at, Fills, map_of, Levels, times, Tree, IsRow, Stands, top_of}
 use Rattle.mt_splice.specs.Fewest.{FewestBelow}
 use Rattle.mt_splice.specs.steps.Told.{told_gap}
 use Rattle.mt_splice.specs.steps.Writes.{IsNewRow}

@@ -1,10 +1,7 @@
 -- The ledger of a replacement: which rows it has taken, and which are gone.
 -- Source: this project's own; the kernel keeps the old and the new nodes in lib/maple_tree.c, struct maple_subtree_state.
 use Rattle.std.specs.Prelude.{◌||◌, ℕ, Bool, List, nat_lt}
-use Rattle.mt_free.specs.Book.{Book}
-use Rattle.mt_rows.specs.Levels.{is_row_of}
-use Rattle.mt_rows.specs.Publish.{is_reached}
-use Rattle.mt_rows.specs.Sheet.{Sheet}
+use Rattle.mt_splice.specs.Prelude.{Book, is_row_of, is_reached, Sheet}
 use Rattle.mt_splice.specs.steps.Progress.{Before, IsProgress}
 use Rattle.mt_splice.specs.steps.Seen.{Seen, passing}
 use Rattle.mt_splice.specs.steps.Work.{Work}

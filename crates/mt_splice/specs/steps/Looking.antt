@@ -1,16 +1,7 @@
 -- The rows of a level looked at while others are written beside them: what is asked, and what is gathered one level up.
 -- Source: the kernel's lib/maple_tree.c, mas_spanning_rebalance, which reads the old nodes while it builds the new ones.
 use Rattle.std.specs.Prelude.{◌≡◌, ℕ, suc, ◌+◌, ◌≤◌, List, ◌++◌, length, take, drop}
-use Rattle.mt_base.specs.declared.kinds.Kind.{Kind}
-use Rattle.mt_layout.specs.declared.items.Item.{Item}
-use Rattle.mt_layout.specs.declared.names.RowKind.{RowKind}
-use Rattle.mt_layout.specs.declared.spans.Span.{Span}
-use Rattle.mt_layout.specs.Rows.{row_in}
-use Rattle.mt_rows.specs.Laws.{top_of, kind_on}
-use Rattle.mt_rows.specs.Publish.{IsTreeOf}
-use Rattle.mt_rows.specs.Sheet.{Rooted}
-use Rattle.mt_path.specs.declared.paths.PathStep.{PathStep}
-use Rattle.mt_path.specs.Paths.{path_in, step_at}
+use Rattle.mt_splice.specs.Prelude.{Kind, Item, RowKind, Span, row_in, top_of, kind_on, IsTreeOf, Rooted, PathStep, path_in, step_at}
 use Rattle.mt_splice.specs.steps.Widening.{IsWindow, MayWiden}
 use Rattle.mt_splice.specs.steps.Windows.{row_at}
 use Rattle.mt_splice.specs.steps.Work.{Start}

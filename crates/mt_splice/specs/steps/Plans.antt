@@ -2,12 +2,7 @@
 -- place, and the rows that it stands in. The top layer is the first of the list, and a layer's height is the number of those behind it.
 -- Source: the kernel's lib/maple_tree.c, mas_spanning_rebalance, which builds a subtree level by level.
 use Rattle.std.specs.Prelude.{◌≡◌, ℕ, zero, suc, ◌-◌, ◌≤◌, Bool, List, [], ◌∷◌, ◌++◌, length, map}
-use Rattle.mt_layout.specs.declared.items.Item.{Item}
-use Rattle.mt_layout.specs.declared.spans.Span.{Span}
-use Rattle.mt_layout.specs.Spans.{spans_from}
-use Rattle.mt_rows.specs.Spans.{inner_of}
-use Rattle.mt_rows.specs.Laws.{kind_on}
-use Rattle.mt_path.specs.Paths.{step_in}
+use Rattle.mt_splice.specs.Prelude.{Item, Span, spans_from, inner_of, kind_on, step_in}
 use Rattle.mt_splice.specs.declared.ways.Window.{Window}
 use Rattle.mt_splice.specs.Fewest.{IsCutOf}
 use Rattle.mt_splice.specs.steps.Layers.{AreHeld, heads}

@@ -1,15 +1,7 @@
 -- What a replacement has done to the rows and to the book, beside what it has done to the tree.
 -- Source: this project's own.
 use Rattle.std.specs.Prelude.{◌≡◌, ℕ, zero, suc, ◌+◌, ◌<◌, ◌≤◌, ◌||◌, Bool, true, false, List, [], ◌∷◌, ◌++◌, length, map, nat_lt, if◌then◌else◌}
-use Rattle.mt_base.specs.declared.kinds.Kind.{Kind}
-use Rattle.mt_base.specs.Width.{columns, first_row}
-use Rattle.mt_layout.specs.Rows.{row_in, dead_mark}
-use Rattle.mt_free.specs.Book.{Book, Held}
-use Rattle.mt_rows.specs.declared.rows.Life.TheVariants.{Draft}
-use Rattle.mt_rows.specs.Spans.{Table, column, spans_in}
-use Rattle.mt_rows.specs.Levels.{is_row_of}
-use Rattle.mt_rows.specs.Sheet.{Sheet, IsWhole, life_of, is_buried}
-use Rattle.mt_rows.specs.Publish.{tree_as, IsToldKind, is_reached}
+use Rattle.mt_splice.specs.Prelude.{Kind, columns, first_row, row_in, dead_mark, Book, Held, Draft, Table, column, spans_in, is_row_of, Sheet, IsWhole, life_of, is_buried, tree_as, IsToldKind, is_reached}
 use Rattle.mt_splice.specs.declared.writes.NewRow.{NewRow}
 use Rattle.mt_splice.specs.steps.Seen.{Seen, passing}
 use Rattle.mt_splice.specs.steps.Work.{Start, Work, with_words}

@@ -1,16 +1,7 @@
 -- The leaves at the ends of a store, and their items.
 -- Source: the kernel's lib/maple_tree.c, mas_wr_spanning_store, which takes the two end nodes of a store.
 use Rattle.std.specs.Prelude.{◌≡◌, ◌≢◌, ◌≤◌, ℕ, List}
-use Rattle.mt_base.specs.declared.kinds.Kind.{Kind}
-use Rattle.mt_base.specs.Width.{greatest}
-use Rattle.mt_layout.specs.declared.items.Item.{Item}
-use Rattle.mt_layout.specs.declared.names.RowKind.TheVariants.{Leaf}
-use Rattle.mt_rows.specs.Spans.{Table}
-use Rattle.mt_rows.specs.Sheet.{Rooted}
-use Rattle.mt_rows.specs.Publish.{IsTreeOf}
-use Rattle.mt_path.specs.declared.paths.PathStep.{PathStep}
-use Rattle.mt_path.specs.Paths.{path_in}
-use Rattle.mt_path.specs.Handles.{last_step}
+use Rattle.mt_splice.specs.Prelude.{Kind, greatest, Item, Leaf, Table, Rooted, IsTreeOf, PathStep, path_in, last_step}
 use Rattle.mt_splice.specs.steps.Writes.{items_of_row}
 
 -- the paths to the ends of a store

@@ -1,11 +1,7 @@
 -- What stands after a replacement.
 -- Source: this project's own.
 use Rattle.std.specs.Prelude.{◌≡◌, ℕ, ◌+◌, ◌≤◌, Bool, List, [], Option, Some, None, nat_lt}
-use Rattle.mt_base.specs.declared.ranges.Range.{Range}
-use Rattle.mt_layout.specs.declared.spans.Span.{Span}
-use Rattle.mt_rows.specs.Levels.{map_of, is_row_of}
-use Rattle.mt_rows.specs.Laws.{Tree, Stands}
-use Rattle.mt_rows.specs.Replacement.{root_of}
+use Rattle.mt_splice.specs.Prelude.{Range, Span, map_of, is_row_of, Tree, Stands, root_of}
 use Rattle.mt_splice.specs.Fewest.{FewestBelow}
 use Rattle.mt_splice.specs.steps.Seen.{Seen, passing}
 use Rattle.mt_splice.specs.steps.Work.{times_in}

@@ -1,10 +1,7 @@
 -- A replacement under way, level by level: what holds between its steps.
 -- Source: the kernel's lib/maple_tree.c, mas_spanning_rebalance, which goes up level by level.
 use Rattle.std.specs.Prelude.{◌≡◌}
-use Rattle.mt_base.specs.declared.calls.Call.{Call}
-use Rattle.mt_base.specs.declared.replies.Reply.{Reply}
-use Rattle.mt_base.specs.Call.{acted}
-use Rattle.mt_rows.specs.Publish.{map_by}
+use Rattle.mt_splice.specs.Prelude.{Call, Reply, acted, map_by}
 use Rattle.mt_splice.specs.steps.Work.{Start}
 use Rattle.mt_splice.specs.steps.Progress.{Before}
 

@@ -3,14 +3,7 @@
 -- slot of no entry.
 use Rattle.std.specs.Prelude.{◌≡◌, ◌≢◌, ℕ, zero, suc, ◌+◌, ◌-◌, ◌*◌, ◌≤◌, false, List, [], length}
 use Rattle.std.specs.List.{AllByRecursion, flat_map}
-use Rattle.mt_base.specs.Entry.{reserved}
-use Rattle.mt_base.specs.declared.widths.Width.{Width}
-use Rattle.mt_layout.specs.declared.names.RowKind.{RowKind}
-use Rattle.mt_layout.specs.declared.names.RowKind.TheVariants.{Leaf}
-use Rattle.mt_layout.specs.declared.spans.Span.{Span}
-use Rattle.mt_layout.specs.Sizes.{slots_of}
-use Rattle.mt_layout.specs.Spans.{leaf_range, Fills, Apart, EndsFull}
-use Rattle.mt_rows.specs.Laws.{Tree, top_of, kind_on, least_of}
+use Rattle.mt_splice.specs.Prelude.{reserved, Width, RowKind, Leaf, Span, slots_of, leaf_range, Fills, Apart, EndsFull, Tree, top_of, kind_on, least_of}
 
 -- The most items that are to stand in the rows of a level: those of two full rows but one of each, and three in the place
 -- of these two. In leaves the three are what a store writes and what it leaves in front and behind; in inner rows they are

@@ -1,8 +1,7 @@
 -- Rows that were seen at a height: those that a replacement has taken, and those that are gone.
 -- Source: this project's own.
 use Rattle.std.specs.Prelude.{ℕ, Bool, List}
-use Rattle.mt_layout.specs.declared.spans.Span.{Span}
-use Rattle.mt_rows.specs.Levels.{tally}
+use Rattle.mt_splice.specs.Prelude.{Span, tally}
 
 pub record Seen : Type 0 where
   pub height : ℕ

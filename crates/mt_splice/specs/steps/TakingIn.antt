@@ -2,12 +2,7 @@
 -- Source: the kernel's lib/maple_tree.c, mas_rebalance, which takes the right neighbour first.
 use Rattle.std.specs.Prelude.{ℕ, ◌-◌, ◌==◌, Bool, false, nat_lt, List, ◌++◌, fold, length, slice_get}
 use Rattle.std.specs.Option.{option_map_or}
-use Rattle.mt_base.specs.declared.widths.Width.{Width}
-use Rattle.mt_layout.specs.declared.items.Item.{Item}
-use Rattle.mt_layout.specs.declared.names.RowKind.{RowKind}
-use Rattle.mt_layout.specs.declared.names.RowKind.TheVariants.{Leaf, Inner, Gapped}
-use Rattle.mt_leaf.specs.Places.{with_joined}
-use Rattle.mt_layout.specs.Sizes.{least_items}
+use Rattle.mt_splice.specs.Prelude.{Width, Item, RowKind, Leaf, Inner, Gapped, with_joined, least_items}
 
 abbrev pub is_hole_at : List Item → ℕ → Bool
 is_hole_at items i = option_map_or (λ (x : Item). x.word == 0) (slice_get items i) false

@@ -2,10 +2,7 @@
 -- Source: the kernel's lib/maple_tree.c, mas_leaf_max_gap and ma_max_gap, by which a node's gap is told to its parent.
 use Rattle.std.specs.Prelude.{◌≡◌, ℕ, List, [], ◌∷◌, ◌++◌, length}
 use Rattle.std.specs.List.{AllByRecursion}
-use Rattle.mt_layout.specs.declared.items.Item.{Item}
-use Rattle.mt_layout.specs.Spans.{spans_from, Fills}
-use Rattle.mt_rows.specs.Levels.{IsBelow}
-use Rattle.mt_rows.specs.Spans.{inner_of, root_span}
+use Rattle.mt_splice.specs.Prelude.{Item, spans_from, Fills, IsBelow, inner_of, root_span}
 use Rattle.mt_splice.specs.steps.Plans.{Layer, depth_at, begin_at, heads_at}
 use Rattle.mt_splice.specs.steps.Told.{TellGaps}
 use Rattle.mt_splice.specs.steps.Windows.{high_of}

@@ -1,17 +1,7 @@
 -- Items whose gaps are told, and the law of gaps while a tree is replaced.
 -- Source: the kernel's lib/maple_tree.c, mas_leaf_max_gap and ma_max_gap, by which a node's gap is told to its parent.
 use Rattle.std.specs.Prelude.{◌≡◌, ◌≤◌, ℕ, Bool, List, [], ◌∷◌, Option, Some, None, fold, map, max}
-use Rattle.mt_layout.specs.declared.items.Item.{Item}
-use Rattle.mt_layout.specs.declared.names.RowKind.{RowKind}
-use Rattle.mt_layout.specs.declared.names.RowKind.TheVariants.{Leaf, Inner, Gapped}
-use Rattle.mt_layout.specs.declared.spans.Span.{Span}
-use Rattle.mt_layout.specs.Columns.{longest_hole}
-use Rattle.mt_layout.specs.Spans.{spans_from}
-use Rattle.mt_rows.specs.Spans.{Table}
-use Rattle.mt_rows.specs.Levels.{Levels}
-use Rattle.mt_rows.specs.Laws.{Tree, GapLaw, longest_below}
-use Rattle.mt_rows.specs.Gaps.{KeepsGaps}
-use Rattle.mt_rows.specs.Replacement.{root_of}
+use Rattle.mt_splice.specs.Prelude.{Item, RowKind, Leaf, Inner, Gapped, Span, longest_hole, spans_from, Table, Levels, Tree, GapLaw, longest_below, KeepsGaps, root_of}
 use Rattle.mt_splice.specs.steps.Work.{Start}
 
 -- ---- the gaps of items

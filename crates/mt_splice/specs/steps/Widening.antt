@@ -2,16 +2,7 @@
 -- leaf would end with a hole.
 -- Source: the kernel's lib/maple_tree.c, mas_rebalance, which takes the right neighbour first.
 use Rattle.std.specs.Prelude.{◌≡◌, ◌⊎◌, ℕ, suc, ◌+◌, ◌-◌, ◌<◌, ◌≤◌, ◌||◌, Bool, true, false, List, length}
-use Rattle.mt_base.specs.declared.widths.Width.{Width}
-use Rattle.mt_base.specs.Width.{greatest}
-use Rattle.mt_layout.specs.declared.items.Item.{Item}
-use Rattle.mt_layout.specs.declared.names.RowKind.{RowKind}
-use Rattle.mt_layout.specs.declared.spans.Span.{Span}
-use Rattle.mt_layout.specs.Spans.{spans_from, EndsFull}
-use Rattle.mt_rows.specs.Laws.{top_of, kind_on}
-use Rattle.mt_rows.specs.Sheet.{Rooted}
-use Rattle.mt_path.specs.declared.paths.PathStep.{PathStep}
-use Rattle.mt_path.specs.Paths.{path_in, step_at}
+use Rattle.mt_splice.specs.Prelude.{Width, greatest, Item, RowKind, Span, spans_from, EndsFull, top_of, kind_on, Rooted, PathStep, path_in, step_at}
 use Rattle.mt_splice.specs.steps.Runs.{most_items, most_before_hole}
 use Rattle.mt_splice.specs.steps.TakingIn.{short_run, holed_run, beside_items}
 use Rattle.mt_splice.specs.steps.Work.{Start}

@@ -3,13 +3,7 @@
 -- Source: the kernel's lib/maple_tree.c, mas_wr_spanning_store, which goes by a left and a right state.
 use Rattle.std.specs.Prelude.{◌≡◌, ℕ, zero, suc, ◌+◌, ◌-◌, ◌<◌, ◌≤◌, List, ◌++◌, take, drop}
 use Rattle.std.specs.List.{flat_map}
-use Rattle.mt_base.specs.declared.ranges.Range.{Range}
-use Rattle.mt_layout.specs.declared.spans.Span.{Span}
-use Rattle.mt_layout.specs.Spans.{leaf_range, Fills}
-use Rattle.mt_rows.specs.Spans.{root_span}
-use Rattle.mt_rows.specs.Levels.{expand}
-use Rattle.mt_rows.specs.Laws.{Tree, Stands, top_of}
-use Rattle.mt_path.specs.Paths.{slot_for, row_on}
+use Rattle.mt_splice.specs.Prelude.{Range, Span, leaf_range, Fills, root_span, expand, Tree, Stands, top_of, slot_for, row_on}
 use Rattle.mt_splice.specs.steps.Work.{Start, rows_at}
 use Rattle.mt_splice.specs.steps.Runs.{MayBeIn}
 

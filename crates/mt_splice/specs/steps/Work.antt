@@ -1,15 +1,7 @@
 -- What a replacement begins with, and what it has done so far.
 -- Source: this project's own; the kernel keeps the old and the new nodes in lib/maple_tree.c, struct maple_subtree_state.
 use Rattle.std.specs.Prelude.{◌≡◌, ℕ, ◌≤◌, Bool, true, List}
-use Rattle.mt_base.specs.declared.ranges.Range.{Range}
-use Rattle.mt_base.specs.Width.{columns}
-use Rattle.mt_layout.specs.declared.spans.Span.{Span}
-use Rattle.mt_layout.specs.Rows.{row_in}
-use Rattle.mt_rows.specs.Spans.{Table}
-use Rattle.mt_rows.specs.Levels.{level, Levels, times, is_row_of, SameColumns}
-use Rattle.mt_rows.specs.Laws.{Tree, Stands}
-use Rattle.mt_rows.specs.Replacement.{root_of}
-use Rattle.mt_rows.specs.Sheet.{Rooted}
+use Rattle.mt_splice.specs.Prelude.{Range, columns, Span, row_in, Table, level, Levels, times, is_row_of, SameColumns, Tree, Stands, root_of, Rooted}
 use Rattle.mt_splice.specs.steps.Seen.{Seen, passing}
 
 -- the tree as it was, its height, the map that is to be, and the first and the last index of what is to change

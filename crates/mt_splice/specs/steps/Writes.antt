@@ -1,15 +1,7 @@
 -- A row written anew, and the items of a row read.
 -- Source: the kernel's lib/maple_tree.c, mab_mas_cp and mas_mab_cp: a node's slots are copied out and written into a new node.
 use Rattle.std.specs.Prelude.{◌≡◌, ◌≢◌, ℕ, ◌+◌, ◌<◌, ◌≤◌, false, Some, List, length, slice_index, slice_set}
-use Rattle.mt_base.specs.Width.{columns, first_row}
-use Rattle.mt_layout.specs.declared.items.Item.{Item}
-use Rattle.mt_layout.specs.declared.names.RowKind.{RowKind}
-use Rattle.mt_layout.specs.Rows.{IsRowNumber, row_in, named_row, parent_at}
-use Rattle.mt_layout.specs.Columns.{RiseFrom, row_words, items_at, slot_column}
-use Rattle.mt_rows.specs.declared.rows.Life.TheVariants.{Draft, Live}
-use Rattle.mt_rows.specs.Spans.{Table, base_of, column}
-use Rattle.mt_rows.specs.Sheet.{Sheet, IsPlace, life_of, is_buried}
-use Rattle.mt_layout.specs.Sizes.{slots_of, gaps_of}
+use Rattle.mt_splice.specs.Prelude.{columns, first_row, Item, RowKind, IsRowNumber, row_in, named_row, parent_at, RiseFrom, row_words, items_at, slot_column, Draft, Live, Table, base_of, column, Sheet, IsPlace, life_of, is_buried, slots_of, gaps_of}
 use Rattle.mt_splice.specs.steps.Work.{with_words}
 
 -- ---- rows

@@ -1,5 +1,5 @@
 -- the cursor walks over the same tree, by the same pass
-use Rattle.std.proofs.Common.{◌≡◌}
+use Rattle.mt_bench.proofs.Prelude.{◌≡◌}
 use Rattle.mt_bench.proofs.callers.take_all.Given as goal
 
 abbrev pub invariant-loop : goal.invariant-loop

@@ -1,6 +1,5 @@
 -- the pass that the cursor had is of the tree over which it walked
-use Rattle.std.proofs.Common.{rules, ap, ◌∙◌}
-use Rattle.mt_tree.proofs.Lending.{still_of}
+use Rattle.mt_bench.proofs.Prelude.{rules, ap, ◌∙◌, still_of}
 use Rattle.mt_bench.proofs.callers.visit_counted.Goals as goal
 
 pub returns : goal.returns

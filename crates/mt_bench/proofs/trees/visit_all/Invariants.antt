@@ -1,5 +1,4 @@
-use Rattle.mt_rows.specs.Sheet.{OnlyReads}
-use Rattle.mt_engine.specs.RangeWalks.{WalksFrom}
+use Rattle.mt_bench.proofs.Prelude.{OnlyReads, WalksFrom}
 use Rattle.mt_bench.proofs.trees.visit_all.Given as goal
 
 -- the engine was only read, and the walk is one of its tree

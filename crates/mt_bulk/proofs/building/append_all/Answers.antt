@@ -1,8 +1,4 @@
-use Rattle.std.proofs.Common.{◌≡◌, ◌+◌, ◌≤◌, take, length, ap, ◌∙◌, arith, length-append}
-use Rattle.std.specs.Prelude.{slice_index_or}
-use Rattle.mt_lanes.specs.declared.lanes.Lane.{Lane}
-use Rattle.mt_bulk.specs.declared.desks.LeafDesk.{LeafDesk}
-use Rattle.mt_bulk.specs.Builds.{heads_made, words_made}
+use Rattle.mt_bulk.proofs.Prelude.{◌≡◌, ◌+◌, ◌≤◌, take, length, ap, ◌∙◌, arith, length-append, slice_index_or, Lane, LeafDesk, heads_made, words_made}
 use Rattle.mt_bulk.proofs.Laying.{fits_in}
 use Rattle.mt_bulk.proofs.building.append_all.Goals as goal
 

@@ -1,6 +1,4 @@
-use Rattle.std.proofs.Common.{◌≡◌, ◌≤◌, ◌++◌, take}
-use Rattle.std.specs.Prelude.{vec_capacity}
-use Rattle.mt_bulk.specs.Builds.{heads_made, words_made}
+use Rattle.mt_bulk.proofs.Prelude.{◌≡◌, ◌≤◌, ◌++◌, take, vec_capacity, heads_made, words_made}
 use Rattle.mt_bulk.proofs.building.append_all.Given as goal
 
 abbrev pub invariant-loop-lane : goal.invariant-loop-lane

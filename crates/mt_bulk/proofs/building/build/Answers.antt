@@ -1,5 +1,4 @@
-use Rattle.std.proofs.Common.{length, sym, ap, ◌∙◌, arith}
-use Rattle.std.proofs.lemmas.Bool.{eqb-true}
+use Rattle.mt_bulk.proofs.Prelude.{length, sym, ap, ◌∙◌, arith, eqb-true}
 use Rattle.mt_bulk.proofs.Finished.{none_refused}
 use Rattle.mt_bulk.proofs.building.build.Goals as goal
 

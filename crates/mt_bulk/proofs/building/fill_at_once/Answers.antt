@@ -1,5 +1,4 @@
-use Rattle.std.proofs.Common.{◌∙◌, ℕ, length, subst, arith, zero-add}
-use Rattle.mt_bulk.specs.Builds.{whole_of, words_room}
+use Rattle.mt_bulk.proofs.Prelude.{◌∙◌, ℕ, length, subst, arith, zero-add, whole_of, words_room}
 use Rattle.mt_bulk.proofs.Laying.{all_made, laid_can_run, took_turns}
 use Rattle.mt_bulk.proofs.building.fill_at_once.Goals as goal
 

@@ -1,5 +1,4 @@
-use Rattle.std.proofs.Common.{◌∙◌}
-use Rattle.mt_rows.specs.Memory.{sheet_in}
+use Rattle.mt_bulk.proofs.Prelude.{◌∙◌, sheet_in}
 use Rattle.mt_bulk.proofs.Finished.{built_in, table_for}
 use Rattle.mt_bulk.proofs.building.finish.Goals as goal
 

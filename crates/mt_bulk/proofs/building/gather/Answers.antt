@@ -1,5 +1,4 @@
-use Rattle.std.proofs.Common.{ap, arith}
-use Rattle.std.specs.Prelude.{vec_len, vec_capacity}
+use Rattle.mt_bulk.proofs.Prelude.{ap, arith, vec_len, vec_capacity}
 use Rattle.mt_bulk.proofs.Laying.{first_has, room_behind}
 use Rattle.mt_bulk.proofs.building.gather.Goals as goal
 

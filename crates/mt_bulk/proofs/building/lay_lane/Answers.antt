@@ -1,7 +1,4 @@
-use Rattle.std.proofs.Common.{◌≡◌, ◌-◌, ◌*◌, ℕ, refl, sym, ap, ◌∙◌, subst, arith}
-use Rattle.std.specs.Prelude.{vec_len, vec_capacity}
-use Rattle.mt_base.specs.Width.{columns, kind_width}
-use Rattle.mt_bulk.specs.Chunks.{ChunkView, IsFillable}
+use Rattle.mt_bulk.proofs.Prelude.{◌≡◌, ◌-◌, ◌*◌, ℕ, refl, sym, ap, ◌∙◌, subst, arith, vec_len, vec_capacity, columns, kind_width, ChunkView, IsFillable}
 use Rattle.mt_bulk.proofs.Laying.{columns_grow, part_ready}
 use Rattle.mt_bulk.proofs.building.lay_lane.Goals as goal
 

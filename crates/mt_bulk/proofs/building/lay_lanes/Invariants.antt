@@ -1,5 +1,4 @@
-use Rattle.std.proofs.Common.{◌≡◌, ◌≤◌, length, vec_len, vec_capacity}
-use Rattle.mt_bulk.specs.Builds.{AreLaid, AreLanesFrom, FirstHasRoom, whole_of, words_room}
+use Rattle.mt_bulk.proofs.Prelude.{◌≡◌, ◌≤◌, length, vec_len, vec_capacity, AreLaid, AreLanesFrom, FirstHasRoom, whole_of, words_room}
 use Rattle.mt_bulk.proofs.building.lay_lanes.Given as goal
 
 abbrev pub invariant-loop-worker : goal.invariant-loop-worker

@@ -1,9 +1,4 @@
-use Rattle.std.proofs.Common.{◌≡◌, ◌≢◌, ◌+◌, ◌++◌, ℕ, List, length, sym, ap, ◌∙◌, subst, arith}
-use Rattle.mt_base.specs.Width.{first_row}
-use Rattle.mt_rows.specs.Spans.{inner_kind}
-use Rattle.mt_bulk.specs.Builds.{AreLevels, above_leaves, whole_of}
-use Rattle.mt_bulk.specs.Bulk.{Built, levels_built}
-use Rattle.mt_bulk.specs.Chunks.{IsLevel, heads_in, chunk_words}
+use Rattle.mt_bulk.proofs.Prelude.{◌≡◌, ◌≢◌, ◌+◌, ◌++◌, ℕ, List, length, sym, ap, ◌∙◌, subst, arith, first_row, inner_kind, AreLevels, above_leaves, whole_of, Built, levels_built, IsLevel, heads_in, chunk_words}
 use Rattle.mt_bulk.proofs.Leveling.{length_heads_in, words_above}
 use Rattle.mt_bulk.proofs.building.raise_all.Goals as goal
 

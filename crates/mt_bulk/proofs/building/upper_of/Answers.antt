@@ -1,8 +1,4 @@
-use Rattle.std.proofs.Common.{◌≡◌, ◌+◌, ℕ, length, sym, ap, ◌∙◌, subst, arith}
-use Rattle.mt_base.specs.declared.widths.Width.{Width}
-use Rattle.mt_base.specs.Width.{first_row}
-use Rattle.mt_rows.specs.Plain.{new_sheet}
-use Rattle.mt_bulk.specs.Builds.{AreLevels}
+use Rattle.mt_bulk.proofs.Prelude.{◌≡◌, ◌+◌, ℕ, length, sym, ap, ◌∙◌, subst, arith, Width, first_row, new_sheet, AreLevels}
 use Rattle.mt_bulk.proofs.building.upper_of.Goals as goal
 
 pub levels_over-requires-clause-some : goal.levels_over-requires-clause-some

@@ -1,9 +1,4 @@
-use Rattle.std.proofs.Common.{◌≡◌, ◌+◌, ◌-◌, ◌*◌, ◌++◌, ℕ, take, drop, sym, ap, ◌∙◌, subst, arith}
-use Rattle.std.specs.Prelude.{slice_index}
-use Rattle.mt_base.specs.Call.{finds_room}
-use Rattle.mt_base.specs.Width.{columns, kind_width}
-use Rattle.mt_layout.specs.Columns.{RiseFrom}
-use Rattle.mt_bulk.specs.Chunks.{heads_in, view_of, chunk_words}
+use Rattle.mt_bulk.proofs.Prelude.{◌≡◌, ◌+◌, ◌-◌, ◌*◌, ◌++◌, ℕ, take, drop, sym, ap, ◌∙◌, subst, arith, slice_index, finds_room, columns, kind_width, RiseFrom, heads_in, view_of, chunk_words}
 use Rattle.mt_bulk.proofs.Placed.{next_row}
 use Rattle.mt_bulk.proofs.Filling.{next_fill, row_rises, step_heads, step_words}
 use Rattle.mt_bulk.proofs.chunks.fill_rows.Goals as goal

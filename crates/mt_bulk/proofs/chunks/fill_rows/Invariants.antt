@@ -1,9 +1,4 @@
-use Rattle.std.proofs.Common.{◌≡◌, ◌++◌, ◌≤◌, ◌+◌, ◌*◌, drop, length}
-use Rattle.std.specs.Prelude.{vec_len, vec_capacity}
-use Rattle.mt_base.specs.Call.{finds_room}
-use Rattle.mt_base.specs.Width.{columns, kind_width}
-use Rattle.mt_bulk.specs.Bulk.{heads, words_of}
-use Rattle.mt_bulk.specs.Chunks.{CanFill, begins_at, heads_in, rows_between, view_of, chunk_words}
+use Rattle.mt_bulk.proofs.Prelude.{◌≡◌, ◌++◌, ◌≤◌, ◌+◌, ◌*◌, drop, length, vec_len, vec_capacity, finds_room, columns, kind_width, heads, words_of, CanFill, begins_at, heads_in, rows_between, view_of, chunk_words}
 use Rattle.mt_bulk.proofs.chunks.fill_rows.Given as goal
 
 abbrev pub invariant-loop-at : goal.invariant-loop-at

@@ -1,5 +1,4 @@
-use Rattle.std.proofs.Common.{◌≡◌, drop, max}
-use Rattle.mt_bulk.specs.Bulk.{greatest_gap}
+use Rattle.mt_bulk.proofs.Prelude.{◌≡◌, drop, max, greatest_gap}
 use Rattle.mt_bulk.proofs.chunks.greatest_gap.Given as goal
 
 abbrev pub invariant-loop-at : goal.invariant-loop-at

@@ -1,6 +1,4 @@
-use Rattle.std.proofs.Common.{◌≡◌, ◌+◌, ℕ, List, [], ◌∷◌, ◌++◌, drop, sym, ap, ◌∙◌, arith, append_assoc}
-use Rattle.std.proofs.lemmas.List.{take_rest}
-use Rattle.mt_bulk.specs.Cuts.{cut, ends_from, leaf_size}
+use Rattle.mt_bulk.proofs.Prelude.{◌≡◌, ◌+◌, ℕ, List, [], ◌∷◌, ◌++◌, drop, sym, ap, ◌∙◌, arith, append_assoc, take_rest, cut, ends_from, leaf_size}
 use Rattle.mt_bulk.proofs.Ends.{leaf_within, next_leaf_end}
 use Rattle.mt_bulk.proofs.cuts.leaf_ends.Goals as goal
 

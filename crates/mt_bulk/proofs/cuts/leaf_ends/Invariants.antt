@@ -1,5 +1,4 @@
-use Rattle.std.proofs.Common.{◌≡◌, ◌++◌, ◌≤◌, ◌-◌, drop, length}
-use Rattle.mt_bulk.specs.Cuts.{cut, ends_from, leaf_size}
+use Rattle.mt_bulk.proofs.Prelude.{◌≡◌, ◌++◌, ◌≤◌, ◌-◌, drop, length, cut, ends_from, leaf_size}
 use Rattle.mt_bulk.proofs.cuts.leaf_ends.Given as goal
 
 abbrev pub invariant-loop-at : goal.invariant-loop-at

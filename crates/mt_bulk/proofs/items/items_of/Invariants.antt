@@ -1,7 +1,4 @@
-use Rattle.std.proofs.Common.{◌≡◌, ◌+◌, ◌*◌, ◌≤◌, ◌++◌, drop, length}
-use Rattle.std.specs.Prelude.{vec_len, vec_capacity}
-use Rattle.mt_base.specs.Width.{greatest_of}
-use Rattle.mt_bulk.specs.Items.{items_between, items_of, low_behind, misplaced, misplaced_from}
+use Rattle.mt_bulk.proofs.Prelude.{◌≡◌, ◌+◌, ◌*◌, ◌≤◌, ◌++◌, drop, length, vec_len, vec_capacity, greatest_of, items_between, items_of, low_behind, misplaced, misplaced_from}
 use Rattle.mt_bulk.proofs.items.items_of.Given as goal
 
 abbrev pub invariant-loop-at : goal.invariant-loop-at

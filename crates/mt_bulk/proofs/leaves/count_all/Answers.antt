@@ -1,4 +1,4 @@
-use Rattle.std.proofs.Common.{length, arith}
+use Rattle.mt_bulk.proofs.Prelude.{length, arith}
 use Rattle.mt_bulk.proofs.LeafFacts.{few_leaves, refused_over, some_ends}
 use Rattle.mt_bulk.proofs.leaves.count_all.Goals as goal
 

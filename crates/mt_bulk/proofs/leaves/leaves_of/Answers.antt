@@ -1,12 +1,4 @@
-use Rattle.std.proofs.Common.{◌≡◌, ◌+◌, ℕ, List, length, sym, ap, ◌∙◌, subst, arith}
-use Rattle.mt_base.specs.Width.{first_row, kind_width}
-use Rattle.mt_layout.specs.declared.items.Item.{Item}
-use Rattle.mt_layout.specs.declared.names.RowKind.TheVariants.{Leaf}
-use Rattle.mt_layout.specs.Sizes.{slots_of}
-use Rattle.mt_layout.specs.Spans.{spans_from, Apart}
-use Rattle.mt_bulk.specs.Bulk.{parents_over, rows_up}
-use Rattle.mt_base.specs.Call.{finds_room}
-use Rattle.mt_bulk.specs.Cuts.{cut, ends_from, leaf_size}
+use Rattle.mt_bulk.proofs.Prelude.{◌≡◌, ◌+◌, ℕ, List, length, sym, ap, ◌∙◌, subst, arith, first_row, kind_width, Item, Leaf, slots_of, spans_from, Apart, parents_over, rows_up, finds_room, cut, ends_from, leaf_size}
 use Rattle.mt_bulk.proofs.Finished.{apart_items}
 use Rattle.mt_bulk.proofs.LeafFacts.{leaf_facts}
 use Rattle.mt_bulk.proofs.leaves.leaves_of.Goals as goal

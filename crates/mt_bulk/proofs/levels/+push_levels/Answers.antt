@@ -1,4 +1,4 @@
-use Rattle.std.proofs.Common.{sym, ◌∙◌, arith}
+use Rattle.mt_bulk.proofs.Prelude.{sym, ◌∙◌, arith}
 use Rattle.mt_bulk.proofs.Leveling.{pushed_top, then_pushed}
 use Rattle.mt_bulk.proofs.levels.+push_levels.Goals as goal
 

@@ -1,9 +1,4 @@
-use Rattle.std.proofs.Common.{◌≡◌, ◌≢◌, ◌+◌, ◌++◌, ℕ, List, length, sym, ap, ◌∙◌, subst, arith, length-append, append_assoc}
-use Rattle.mt_layout.specs.declared.items.Item.{Item}
-use Rattle.mt_rows.specs.Spans.{inner_kind}
-use Rattle.mt_bulk.specs.Builds.{AreLevels}
-use Rattle.mt_bulk.specs.Bulk.{Built, levels_built}
-use Rattle.mt_bulk.specs.Chunks.{IsLevel, heads_in, chunk_words}
+use Rattle.mt_bulk.proofs.Prelude.{◌≡◌, ◌≢◌, ◌+◌, ◌++◌, ℕ, List, length, sym, ap, ◌∙◌, subst, arith, length-append, append_assoc, Item, inner_kind, AreLevels, Built, levels_built, IsLevel, heads_in, chunk_words}
 use Rattle.mt_bulk.proofs.Leveling.{first_level, known_level, length_heads_in, some_levels}
 use Rattle.mt_bulk.proofs.Raising.{above_with, view_with}
 use Rattle.mt_bulk.proofs.levels.+raise.Goals as goal

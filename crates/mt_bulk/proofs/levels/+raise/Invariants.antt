@@ -1,4 +1,4 @@
-use Rattle.std.proofs.Common.{length}
+use Rattle.mt_bulk.proofs.Prelude.{length}
 use Rattle.mt_bulk.proofs.levels.+raise.Given as goal
 
 abbrev pub decreases-raise : goal.decreases-raise

@@ -1,5 +1,4 @@
-use Rattle.std.proofs.Common.{◌≡◌, ◌+◌, ◌-◌, ℕ, List, [], ◌∷◌, ◌++◌, drop, sym, ap, ◌∙◌, arith, append_assoc}
-use Rattle.mt_bulk.specs.Cuts.{cut, ends_from, inner_size, inner_count}
+use Rattle.mt_bulk.proofs.Prelude.{◌≡◌, ◌+◌, ◌-◌, ℕ, List, [], ◌∷◌, ◌++◌, drop, sym, ap, ◌∙◌, arith, append_assoc, cut, ends_from, inner_size, inner_count}
 use Rattle.mt_bulk.proofs.Ends.{ends_onward, count_within}
 use Rattle.mt_bulk.proofs.levels.inner_ends.Goals as goal
 

@@ -1,6 +1,4 @@
-use Rattle.std.proofs.Common.{◌≡◌, ◌++◌, ◌≤◌, ◌-◌, List, drop, length}
-use Rattle.mt_layout.specs.declared.items.Item.{Item}
-use Rattle.mt_bulk.specs.Cuts.{cut, ends_from, inner_size}
+use Rattle.mt_bulk.proofs.Prelude.{◌≡◌, ◌++◌, ◌≤◌, ◌-◌, List, drop, length, Item, cut, ends_from, inner_size}
 use Rattle.mt_bulk.proofs.levels.inner_ends.Given as goal
 
 abbrev pub invariant-loop-at : goal.invariant-loop-at

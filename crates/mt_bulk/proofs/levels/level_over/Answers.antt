@@ -1,4 +1,4 @@
-use Rattle.std.proofs.Common.{arith}
+use Rattle.mt_bulk.proofs.Prelude.{arith}
 use Rattle.mt_bulk.proofs.Leveling.{few_over}
 use Rattle.mt_bulk.proofs.levels.level_over.Goals as goal
 

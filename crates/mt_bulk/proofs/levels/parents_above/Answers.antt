@@ -1,8 +1,4 @@
-use Rattle.std.proofs.Common.{◌≡◌, ◌+◌, ◌-◌, ℕ, List, ◌++◌, map, drop, sym, ap, ◌∙◌, arith, append_assoc}
-use Rattle.std.specs.List.{range_with_len}
-use Rattle.mt_layout.specs.Rows.{parent_at}
-use Rattle.mt_bulk.specs.Bulk.{parents_in}
-use Rattle.mt_bulk.specs.Cuts.{cut, inner_size, inner_count}
+use Rattle.mt_bulk.proofs.Prelude.{◌≡◌, ◌+◌, ◌-◌, ℕ, List, ◌++◌, map, drop, sym, ap, ◌∙◌, arith, append_assoc, range_with_len, parent_at, parents_in, cut, inner_size, inner_count}
 use Rattle.mt_bulk.proofs.Ends.{parents_onward, count_within}
 use Rattle.mt_bulk.proofs.levels.parents_above.Goals as goal
 

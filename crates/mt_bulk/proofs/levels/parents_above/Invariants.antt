@@ -1,7 +1,4 @@
-use Rattle.std.proofs.Common.{◌≡◌, ◌++◌, ◌≤◌, ◌-◌, ◌+◌, List, drop, length}
-use Rattle.mt_layout.specs.declared.items.Item.{Item}
-use Rattle.mt_bulk.specs.Bulk.{parents_in}
-use Rattle.mt_bulk.specs.Cuts.{cut, inner_size}
+use Rattle.mt_bulk.proofs.Prelude.{◌≡◌, ◌++◌, ◌≤◌, ◌-◌, ◌+◌, List, drop, length, Item, parents_in, cut, inner_size}
 use Rattle.mt_bulk.proofs.levels.parents_above.Given as goal
 
 abbrev pub invariant-loop-at : goal.invariant-loop-at

@@ -1,7 +1,4 @@
-use Rattle.std.proofs.Common.{◌≡◌, ◌++◌, ℕ, List, [], ◌∷◌, map, sym, ap, ◌∙◌, append_assoc, zero-add}
-use Rattle.std.specs.List.{range_with_len}
-use Rattle.std.proofs.lemmas.List.FromFn.{map-range_with_len_more}
-use Rattle.mt_layout.specs.Rows.{parent_at}
+use Rattle.mt_bulk.proofs.Prelude.{◌≡◌, ◌++◌, ℕ, List, [], ◌∷◌, map, sym, ap, ◌∙◌, append_assoc, zero-add, range_with_len, map-range_with_len_more, parent_at}
 use Rattle.mt_bulk.proofs.levels.push_parents.Goals as goal
 
 pub loop-slot-preserved : goal.loop-slot-preserved

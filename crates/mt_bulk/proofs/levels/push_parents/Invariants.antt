@@ -1,6 +1,4 @@
-use Rattle.std.proofs.Common.{◌≡◌, ◌++◌, map}
-use Rattle.std.specs.List.{range_with_len}
-use Rattle.mt_layout.specs.Rows.{parent_at}
+use Rattle.mt_bulk.proofs.Prelude.{◌≡◌, ◌++◌, map, range_with_len, parent_at}
 use Rattle.mt_bulk.proofs.levels.push_parents.Given as goal
 
 abbrev pub invariant-loop-slot : goal.invariant-loop-slot

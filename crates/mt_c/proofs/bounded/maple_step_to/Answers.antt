@@ -1,4 +1,4 @@
-use Rattle.std.proofs.Common.{rules}
+use Rattle.mt_c.proofs.Prelude.{rules}
 use Rattle.mt_c.proofs.Bounds.{stepped_open}
 use Rattle.mt_c.proofs.bounded.maple_step_to.Goals as goal
 

@@ -1,4 +1,4 @@
-use Rattle.std.proofs.Common.{rules}
+use Rattle.mt_c.proofs.Prelude.{rules}
 use Rattle.mt_c.proofs.RangesBuilt.{why_refused}
 use Rattle.mt_c.proofs.building.built.Goals as goal
 

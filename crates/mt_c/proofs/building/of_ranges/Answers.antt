@@ -1,5 +1,4 @@
-use Rattle.std.proofs.Common.{map}
-use Rattle.mt_rows.specs.Memory.{sheet_in}
+use Rattle.mt_c.proofs.Prelude.{map, sheet_in}
 use Rattle.mt_c.specs.Building as defined
 use Rattle.mt_c.proofs.RangesBuilt.{lacks_anyhow, ranges_lack}
 use Rattle.mt_c.proofs.building.of_ranges.Goals as goal

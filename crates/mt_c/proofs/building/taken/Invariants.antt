@@ -1,4 +1,4 @@
-use Rattle.std.proofs.Common.{◌≡◌, map, take}
+use Rattle.mt_c.proofs.Prelude.{◌≡◌, map, take}
 use Rattle.mt_c.specs.Building as defined
 use Rattle.mt_c.proofs.building.taken.Given as goal
 

@@ -1,8 +1,4 @@
-use Rattle.std.proofs.Common.{length, ap, ◌∙◌, arith}
-use Rattle.mt_free.specs.Book.{Book}
-use Rattle.mt_rows.specs.Memory.{sheet_in}
-use Rattle.mt_dup.proofs.NewTables.{new_long}
-use Rattle.mt_tree.proofs.Copying.{ready}
+use Rattle.mt_c.proofs.Prelude.{length, ap, ◌∙◌, arith, Book, sheet_in, new_long, ready}
 use Rattle.mt_c.proofs.copies.copy_into.Goals as goal
 
 pub copy_rows-root-requires-clause-room : goal.copy_rows-root-requires-clause-room

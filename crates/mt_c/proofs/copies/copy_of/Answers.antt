@@ -1,6 +1,4 @@
-use Rattle.std.proofs.Common.{◌∙◌}
-use Rattle.mt_rows.specs.Memory.{sheet_in}
-use Rattle.mt_tree.proofs.Forms.{high_as, live_as}
+use Rattle.mt_c.proofs.Prelude.{◌∙◌, sheet_in, high_as, live_as}
 use Rattle.mt_c.proofs.Copying.{copy_told, lacks_told, used_count}
 use Rattle.mt_c.proofs.copies.copy_of.Goals as goal
 

@@ -1,5 +1,4 @@
-use Rattle.std.proofs.Common.{ap}
-use Rattle.mt_free.specs.Book.{Book}
+use Rattle.mt_c.proofs.Prelude.{ap, Book}
 use Rattle.mt_c.proofs.Copying.{opened_with}
 use Rattle.mt_c.proofs.copies.engine_with.Goals as goal
 

@@ -1,4 +1,4 @@
-use Rattle.std.proofs.Common.{rules, refl}
+use Rattle.mt_c.proofs.Prelude.{rules, refl}
 use Rattle.mt_c.proofs.Copying.{copied_made, copied_none}
 use Rattle.mt_c.proofs.copies.maple_copy.Goals as goal
 

@@ -1,4 +1,4 @@
-use Rattle.mt_tree.proofs.Forms.{high_as}
+use Rattle.mt_c.proofs.Prelude.{high_as}
 use Rattle.mt_c.proofs.Reading.{form_there}
 use Rattle.mt_c.proofs.forms.check_of.Goals as goal
 

@@ -1,6 +1,4 @@
-use Rattle.std.proofs.Common.{ap}
-use Rattle.mt_rows.specs.Memory.{sheet_in}
-use Rattle.mt_rows.specs.Sheet.{Sheet}
+use Rattle.mt_c.proofs.Prelude.{ap, sheet_in, Sheet}
 use Rattle.mt_c.proofs.Reading.{form_told}
 use Rattle.mt_c.proofs.forms.check_rows.Goals as goal
 

@@ -1,4 +1,4 @@
-use Rattle.std.proofs.Common.{rules, refl}
+use Rattle.mt_c.proofs.Prelude.{rules, refl}
 use Rattle.mt_c.proofs.Reading.{checked_open}
 use Rattle.mt_c.proofs.forms.maple_check.Goals as goal
 

@@ -1,4 +1,4 @@
-use Rattle.mt_tree.proofs.Forms.{high_as}
+use Rattle.mt_c.proofs.Prelude.{high_as}
 use Rattle.mt_c.proofs.images.image_of.Goals as goal
 
 pub of_height-requires-clause-height : goal.of_height-requires-clause-height

@@ -1,4 +1,4 @@
-use Rattle.std.proofs.Common.{ap, ℕ, ◌+◌, ◌*◌, ◌/◌}
+use Rattle.mt_c.proofs.Prelude.{ap, ℕ, ◌+◌, ◌*◌, ◌/◌}
 use Rattle.mt_c.proofs.RowsFor.{enough}
 use Rattle.mt_c.proofs.rows_for.maple_rows_for.Goals as goal
 

@@ -1,4 +1,4 @@
-use Rattle.std.proofs.Common.{◌∙◌, Some, ap, refl, sym}
+use Rattle.mt_c.proofs.Prelude.{◌∙◌, Some, ap, refl, sym}
 use Rattle.mt_c.proofs.Sharing.{learned_no, learned_yes}
 use Rattle.mt_c.proofs.shared.learn.Goals as goal
 

@@ -1,4 +1,4 @@
-use Rattle.std.proofs.Common.{◌∙◌, Ok, Some, ap, sym}
+use Rattle.mt_c.proofs.Prelude.{◌∙◌, Ok, Some, ap, sym}
 use Rattle.mt_c.proofs.Sharing.{asked_open}
 use Rattle.mt_c.proofs.shared.load.Goals as goal
 

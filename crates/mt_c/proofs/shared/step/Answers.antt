@@ -1,6 +1,5 @@
-use Rattle.std.proofs.Common.{◌∙◌, Some, ap, sym}
+use Rattle.mt_c.proofs.Prelude.{◌∙◌, Some, ap, sym, walk_from}
 use Rattle.mt_c.proofs.Sharing.{stepped_open}
-use Rattle.mt_c.specs.Walking.{walk_from}
 use Rattle.mt_c.proofs.shared.step.Goals as goal
 
 pub returns : goal.returns

@@ -1,4 +1,4 @@
-use Rattle.mt_rows.specs.Memory.{sheet_in}
+use Rattle.mt_c.proofs.Prelude.{sheet_in}
 use Rattle.mt_c.proofs.SharedImages.{image_lacks}
 use Rattle.mt_c.proofs.shared_images.of_image.Goals as goal
 

@@ -1,5 +1,4 @@
-use Rattle.std.proofs.Common.{map}
-use Rattle.mt_rows.specs.Memory.{sheet_in}
+use Rattle.mt_c.proofs.Prelude.{map, sheet_in}
 use Rattle.mt_c.specs.Building as building
 use Rattle.mt_c.proofs.SharedImages.{no_ranges, ranges_lack}
 use Rattle.mt_c.proofs.shared_images.of_ranges.Goals as goal

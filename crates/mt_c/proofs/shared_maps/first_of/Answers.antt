@@ -1,8 +1,4 @@
-use Rattle.std.proofs.Common.{IfOk, subst}
-use Rattle.mt_rows.specs.Publish.{map_by}
-use Rattle.mt_rows.specs.Sheet.{Sheet}
-use Rattle.mt_c.specs.SharedMaps.{IsFirstWith}
-use Rattle.mt_tree.proofs.Forms.{high_as}
+use Rattle.mt_c.proofs.Prelude.{IfOk, subst, map_by, Sheet, IsFirstWith, high_as}
 use Rattle.mt_c.proofs.shared_maps.first_of.Goals as goal
 
 pub of_height-requires-clause-height : goal.of_height-requires-clause-height

@@ -1,6 +1,4 @@
-use Rattle.std.proofs.Common.{refl}
-use Rattle.mt_rows.specs.Memory.{sheet_in}
-use Rattle.mt_rows.specs.Publish.{map_by}
+use Rattle.mt_c.proofs.Prelude.{refl, sheet_in, map_by}
 use Rattle.mt_c.proofs.SharedMaps.{good_shape, lacks_with}
 use Rattle.mt_c.proofs.Using.{is_first, new_spare}
 use Rattle.mt_c.proofs.shared_maps.first_with.Goals as goal

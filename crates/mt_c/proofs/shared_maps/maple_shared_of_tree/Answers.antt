@@ -1,4 +1,4 @@
-use Rattle.std.proofs.Common.{rules, refl}
+use Rattle.mt_c.proofs.Prelude.{rules, refl}
 use Rattle.mt_c.proofs.SharedMaps.{of_made, of_none}
 use Rattle.mt_c.proofs.shared_maps.maple_shared_of_tree.Goals as goal
 

@@ -1,4 +1,4 @@
-use Rattle.std.proofs.Common.{refl}
+use Rattle.mt_c.proofs.Prelude.{refl}
 use Rattle.mt_c.proofs.Sharing.{left_done}
 use Rattle.mt_c.proofs.shared_opens.maple_leave.Goals as goal
 

@@ -1,4 +1,4 @@
-use Rattle.std.proofs.Common.{Some, ap, refl, sym, ◌∙◌}
+use Rattle.mt_c.proofs.Prelude.{Some, ap, refl, sym, ◌∙◌}
 use Rattle.mt_c.proofs.Sharing.{with_made}
 use Rattle.mt_c.proofs.shared_opens.maple_share.Goals as goal
 

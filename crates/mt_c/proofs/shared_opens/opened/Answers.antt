@@ -1,5 +1,4 @@
-use Rattle.std.proofs.Common.{rules, refl}
-use Rattle.mt_tree.specs.declared.shapes.Shape.{Shape}
+use Rattle.mt_c.proofs.Prelude.{rules, refl, Shape}
 use Rattle.mt_c.proofs.Sharing.{new_bad, new_short}
 use Rattle.mt_c.proofs.shared_opens.opened.Goals as goal
 

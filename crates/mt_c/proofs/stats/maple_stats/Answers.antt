@@ -1,4 +1,4 @@
-use Rattle.std.proofs.Common.{rules, refl}
+use Rattle.mt_c.proofs.Prelude.{rules, refl}
 use Rattle.mt_c.proofs.Counting.{stats_open}
 use Rattle.mt_c.proofs.stats.maple_stats.Goals as goal
 

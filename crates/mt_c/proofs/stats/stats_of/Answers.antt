@@ -1,4 +1,4 @@
-use Rattle.mt_rows.specs.Memory.{sheet_in}
+use Rattle.mt_c.proofs.Prelude.{sheet_in}
 use Rattle.mt_c.proofs.Counting.{still_high, tells_tree}
 use Rattle.mt_c.proofs.stats.stats_of.Goals as goal
 

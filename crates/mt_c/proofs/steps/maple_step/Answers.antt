@@ -1,4 +1,4 @@
-use Rattle.std.proofs.Common.{rules}
+use Rattle.mt_c.proofs.Prelude.{rules}
 use Rattle.mt_c.proofs.Walking.{stepped_open}
 use Rattle.mt_c.proofs.steps.maple_step.Goals as goal
 

@@ -1,8 +1,4 @@
-use Rattle.std.proofs.Common.{Some, subst, sym}
-use Rattle.std.proofs.lemmas.List.Elements.{All-pop}
-use Rattle.mt_tree.specs.declared.trees.Tree.{Tree}
-use Rattle.mt_tree.specs.Trees.{IsPassOf, Pass}
-use Rattle.mt_c.specs.Spares.{IsSparePass}
+use Rattle.mt_c.proofs.Prelude.{Some, subst, sym, All-pop, Tree, IsPassOf, Pass, IsSparePass}
 use Rattle.mt_c.proofs.user_opens.first.Goals as goal
 
 pub shared-requires : goal.shared-requires

@@ -1,10 +1,4 @@
-use Rattle.std.proofs.Common.{◌≡◌, ap, ◌∙◌}
-use Rattle.std.specs.Prelude.{unwrap_or}
-use Rattle.std.proofs.lemmas.Result.{err_from_is_err_and}
-use Rattle.mt_base.specs.Width.{greatest}
-use Rattle.mt_rows.specs.Sheet.{Rooted}
-use Rattle.mt_rows.specs.Publish.{tree_as}
-use Rattle.mt_check.specs.Walks.{height_from}
+use Rattle.mt_check.proofs.Prelude.{◌≡◌, ap, ◌∙◌, unwrap_or, err_from_is_err_and, greatest, Rooted, tree_as, height_from}
 use Rattle.mt_check.proofs.Whole.{ok_lawful, empty_checked, fault_checked, form_checked}
 use Rattle.mt_check.proofs.checks.check.Goals as goal
 

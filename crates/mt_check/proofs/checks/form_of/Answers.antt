@@ -1,5 +1,4 @@
-use Rattle.std.proofs.Common.{sym, ap, ◌∙◌}
-use Rattle.mt_rows.specs.Sheet.{Sheet}
+use Rattle.mt_check.proofs.Prelude.{sym, ap, ◌∙◌, Sheet}
 use Rattle.mt_check.proofs.Forms.{form_by}
 use Rattle.mt_check.proofs.checks.form_of.Goals as goal
 

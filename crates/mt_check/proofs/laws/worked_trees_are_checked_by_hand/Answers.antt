@@ -1,6 +1,4 @@
-use Rattle.std.proofs.Common.{refl}
-use Rattle.mt_check.specs.Check.{faults_at, faults_in}
-use Rattle.mt_check.specs.RowTests.{longest_at}
+use Rattle.mt_check.proofs.Prelude.{refl, faults_at, faults_in, longest_at}
 use Rattle.mt_check.proofs.laws.worked_trees_are_checked_by_hand.Goals as goal
 
 pub returns-clause-leaf : goal.returns-clause-leaf

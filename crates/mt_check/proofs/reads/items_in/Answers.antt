@@ -1,10 +1,4 @@
-use Rattle.std.proofs.Common.{◌≡◌, ◌&&◌, Bool, true, length, sym, ap, ◌∙◌, rules}
-use Rattle.std.specs.Prelude.{nat_eq}
-use Rattle.std.specs.Cmp.Lexicographic.{pointwise}
-use Rattle.mt_rows.specs.Sheet.{Rooted}
-use Rattle.mt_check.specs.RowTests.{rise_to, words_of}
-use Rattle.mt_check.specs.Reads.{row_items, holds_no_more, words_of_parts}
-use Rattle.mt_rows.proofs.Loads.{same_tree}
+use Rattle.mt_check.proofs.Prelude.{◌≡◌, ◌&&◌, Bool, true, length, sym, ap, ◌∙◌, rules, nat_eq, pointwise, Rooted, rise_to, words_of, row_items, holds_no_more, words_of_parts, same_tree}
 use Rattle.mt_check.proofs.Unused.{no_more}
 use Rattle.mt_check.proofs.reads.items_in.Goals as goal
 

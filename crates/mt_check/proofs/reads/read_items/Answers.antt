@@ -1,6 +1,4 @@
-use Rattle.std.proofs.Common.{arith, ◌<◌}
-use Rattle.std.proofs.lemmas.Grind.{common_steps}
-use Rattle.mt_layout.specs.Sizes.{slots_of}
+use Rattle.mt_check.proofs.Prelude.{arith, ◌<◌, common_steps, slots_of}
 use Rattle.mt_check.proofs.Loaded.{one_more_read, last_read, one_more_rises, last_rises}
 use Rattle.mt_check.proofs.reads.read_items.Goals as goal
 

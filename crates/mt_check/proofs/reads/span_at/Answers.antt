@@ -1,4 +1,4 @@
-use Rattle.std.proofs.Common.{Some, slice_index_or, ◌∙◌}
+use Rattle.mt_check.proofs.Prelude.{Some, slice_index_or, ◌∙◌}
 use Rattle.mt_check.proofs.Slots.{span_fits, slot_span}
 use Rattle.mt_check.proofs.reads.span_at.Goals as goal
 

@@ -1,4 +1,4 @@
-use Rattle.std.proofs.Common.{◌≡◌, false, drop}
+use Rattle.mt_check.proofs.Prelude.{◌≡◌, false, drop}
 use Rattle.mt_check.specs.RowTests as tests
 use Rattle.mt_check.proofs.row_laws.are_apart.Given as goal
 

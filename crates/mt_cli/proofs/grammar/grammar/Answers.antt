@@ -1,6 +1,4 @@
-use Rattle.std.proofs.Common.{◌∙◌, ap, ap₂, refl}
-use Rattle.clap.specs.Words.{App, with_subcommand}
-use Rattle.mt_cli.specs.Grammar.{bulk_app, ids_app, image_app, make_app, replay_app, show_app, trial_app, verify_app}
+use Rattle.mt_cli.proofs.Prelude.{◌∙◌, ap, ap₂, refl, App, with_subcommand, bulk_app, ids_app, image_app, make_app, replay_app, show_app, trial_app, verify_app}
 use Rattle.mt_cli.proofs.Building.{local, plain, with_sub}
 use Rattle.mt_cli.proofs.grammar.grammar.Goals as goal
 

@@ -1,6 +1,4 @@
-use Rattle.std.proofs.Common.{◌∙◌}
-use Rattle.clap.specs.Words.{found_of}
-use Rattle.clap.proofs.WalkLemmas.{first_value-rows}
+use Rattle.mt_cli.proofs.Prelude.{◌∙◌, found_of, first_value-rows}
 use Rattle.mt_cli.proofs.grammar.word_of.Goals as goal
 
 pub returns : goal.returns

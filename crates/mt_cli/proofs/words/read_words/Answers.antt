@@ -1,6 +1,4 @@
-use Rattle.std.proofs.Common.{sym, ◌∙◌, map, string_bytes}
-use Rattle.clap.proofs.WalkLemmas.{list_any-map}
-use Rattle.mt_cli.specs.Grammar.{is_end_of_options}
+use Rattle.mt_cli.proofs.Prelude.{sym, ◌∙◌, map, string_bytes, list_any-map, is_end_of_options}
 use Rattle.mt_cli.proofs.Limits.{command_within}
 use Rattle.mt_cli.proofs.NoCommands.{ended}
 use Rattle.mt_cli.proofs.Readings.{refused, taken}

@@ -1,4 +1,4 @@
-use Rattle.mt_rows.specs.Memory.{sheet_in}
+use Rattle.mt_commands.proofs.Prelude.{sheet_in}
 use Rattle.mt_commands.proofs.Building.{bulk_image}
 use Rattle.mt_commands.proofs.built.built_image.Goals as goal
 

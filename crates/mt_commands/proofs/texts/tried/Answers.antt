@@ -1,4 +1,4 @@
-use Rattle.std.proofs.Common.{rules}
+use Rattle.mt_commands.proofs.Prelude.{rules}
 use Rattle.mt_commands.proofs.texts.tried.Goals as goal
 
 pub returns-clause-summary : goal.returns-clause-summary

@@ -1,9 +1,4 @@
-use Rattle.std.proofs.Common.{rules, ◌≡◌, sym, ap, ◌∙◌, subst}
-use Rattle.mt_base.specs.Passes.{Read}
-use Rattle.mt_base.proofs.Goings.{grew_read, saw_grows}
-use Rattle.mt_tree.specs.declared.trees.Tree.{Tree}
-use Rattle.mt_tree.specs.Trees.{Pass, opened, pass_in, steps_made}
-use Rattle.mt_tree.proofs.Lending.{still_of}
+use Rattle.mt_commands.proofs.Prelude.{rules, ◌≡◌, sym, ap, ◌∙◌, subst, Read, grew_read, saw_grows, Tree, Pass, opened, pass_in, steps_made, still_of}
 use Rattle.mt_commands.proofs.trees.ask_under_lock.Goals as goal
 
 pub returns-clause-of : goal.returns-clause-of

@@ -1,6 +1,4 @@
-use Rattle.std.proofs.Common.{arith}
-use Rattle.mt_base.proofs.Goings.{grew_read}
-use Rattle.mt_tree.specs.Trees.{opened, pass_in}
+use Rattle.mt_commands.proofs.Prelude.{arith, grew_read, opened, pass_in}
 use Rattle.mt_commands.proofs.Walking.{few_steps}
 use Rattle.mt_commands.proofs.trees.look.Goals as goal
 

@@ -1,4 +1,4 @@
-use Rattle.mt_tree.specs.Trees.{pass_in}
+use Rattle.mt_commands.proofs.Prelude.{pass_in}
 use Rattle.mt_commands.proofs.Drawing.{given_back}
 use Rattle.mt_commands.proofs.turns.give_back.Goals as goal
 

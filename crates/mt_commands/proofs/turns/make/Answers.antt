@@ -1,4 +1,4 @@
-use Rattle.std.proofs.Common.{Err, ap, ◌∙◌}
+use Rattle.mt_commands.proofs.Prelude.{Err, ap, ◌∙◌}
 use Rattle.mt_commands.proofs.turns.make.Goals as goal
 
 pub unreachable-requires : goal.unreachable-requires

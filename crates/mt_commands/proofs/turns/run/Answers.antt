@@ -1,7 +1,4 @@
-use Rattle.std.proofs.Common.{rules, ◌≡◌, ◌≤◌, ◌+◌, ◌*◌, ◌<◌, ◌^◌, ℕ, length, refl, sym, ap, ◌∙◌, subst, arith}
-use Rattle.mt_tree.specs.Trees.{map_seen, pass_in}
-use Rattle.mt_commands.specs.Only.{turns_at}
-use Rattle.mt_commands.specs.Turns.{turns}
+use Rattle.mt_commands.proofs.Prelude.{rules, ◌≡◌, ◌≤◌, ◌+◌, ◌*◌, ◌<◌, ◌^◌, ℕ, length, refl, sym, ap, ◌∙◌, subst, arith, map_seen, pass_in, turns_at, turns}
 use Rattle.mt_commands.proofs.Running.{at_start, few_now, one_turn_more, tally_now, window_now}
 use Rattle.mt_commands.proofs.turns.run.Goals as goal
 

@@ -1,7 +1,4 @@
-use Rattle.std.proofs.Common.{◌≡◌, ◌+◌, ◌*◌, ◌≤◌, length}
-use Rattle.mt_tree.specs.Trees.{IsPassOf, pass_in}
-use Rattle.mt_commands.specs.Only.{IsOnlyPass, turns_at}
-use Rattle.mt_commands.specs.Turns.{turns}
+use Rattle.mt_commands.proofs.Prelude.{◌≡◌, ◌+◌, ◌*◌, ◌≤◌, length, IsPassOf, pass_in, IsOnlyPass, turns_at, turns}
 use Rattle.mt_commands.proofs.turns.run.Given as goal
 
 abbrev pub invariant-loop-i : goal.invariant-loop-i

@@ -1,13 +1,5 @@
-use Rattle.std.proofs.Common.{rules, ◌≡◌, ◌≤◌, ◌+◌, ℕ, List, length, refl, sym, ap, ◌∙◌, subst, arith}
-use Rattle.mt_base.specs.declared.ranges.Range.{Range}
-use Rattle.mt_base.specs.History.{Record}
+use Rattle.mt_commands.proofs.Prelude.{rules, ◌≡◌, ◌≤◌, ◌+◌, ℕ, List, length, refl, sym, ap, ◌∙◌, subst, arith, Range, Record, Tree, most_calls, map_seen, pass_in, still_of, HasOnePass, IsFew, turns_at, Turns, turn}
 use Rattle.mt_base.specs.Passes as known
-use Rattle.mt_tree.specs.declared.trees.Tree.{Tree}
-use Rattle.mt_tree.specs.Shapes.{most_calls}
-use Rattle.mt_tree.specs.Trees.{map_seen, pass_in}
-use Rattle.mt_tree.proofs.Lending.{still_of}
-use Rattle.mt_commands.specs.Only.{HasOnePass, IsFew, turns_at}
-use Rattle.mt_commands.specs.Turns.{Turns, turn}
 use Rattle.mt_commands.proofs.Turning.{shows_same}
 use Rattle.mt_commands.proofs.turns.turn.Goals as goal
 

@@ -1,13 +1,6 @@
-use Rattle.std.proofs.Common.{◌≡◌, ◌≤◌, ◌+◌, ℕ, List, Some, length, refl, sym, ap, ◌∙◌, subst, arith}
-use Rattle.mt_base.specs.declared.calls.Call.TheVariants.{Erase}
+use Rattle.mt_commands.proofs.Prelude.{◌≡◌, ◌≤◌, ◌+◌, ℕ, List, Some, length, refl, sym, ap, ◌∙◌, subst, arith, Erase, Range, acted, Tree, map_seen, pass_in, HasOnePass, IsFew, found_in, map_behind, map_without}
 use Rattle.mt_base.specs.declared.kinds.Kind.TheVariants as kinds
-use Rattle.mt_base.specs.declared.ranges.Range.{Range}
-use Rattle.mt_base.specs.Call.{acted}
 use Rattle.mt_base.specs.Passes as known
-use Rattle.mt_tree.specs.declared.trees.Tree.{Tree}
-use Rattle.mt_tree.specs.Trees.{map_seen, pass_in}
-use Rattle.mt_commands.specs.Only.{HasOnePass, IsFew, found_in}
-use Rattle.mt_commands.specs.Turns.{map_behind, map_without}
 use Rattle.mt_commands.proofs.Drawing.{turned}
 use Rattle.mt_commands.proofs.FewTurns.{drawn_few}
 use Rattle.mt_commands.proofs.OnlyCalls.{only_on}

@@ -1,5 +1,4 @@
-use Rattle.std.proofs.Common.{ap}
-use Rattle.mt_desks.specs.Walks.{Walk}
+use Rattle.mt_commands.proofs.Prelude.{ap, Walk}
 use Rattle.mt_commands.proofs.walks.scan_by.Goals as goal
 
 pub returns-clause-same_reference : goal.returns-clause-same_reference

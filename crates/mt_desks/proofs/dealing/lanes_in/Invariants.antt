@@ -1,6 +1,4 @@
-use Rattle.std.proofs.Common.{◌≡◌, ◌≤◌, drop}
-use Rattle.std.specs.Prelude.{max}
-use Rattle.mt_desks.specs.Dealing.{lanes_in}
+use Rattle.mt_desks.proofs.Prelude.{◌≡◌, ◌≤◌, drop, max, lanes_in}
 use Rattle.mt_desks.proofs.dealing.lanes_in.Given as goal
 
 abbrev pub invariant-loop-line : goal.invariant-loop-line

@@ -1,5 +1,4 @@
-use Rattle.std.proofs.Common.{◌<◌, ℕ, length, arith, get_or, refl}
-use Rattle.std.proofs.lemmas.Option.{slice_get-get_or, slice_get_read}
+use Rattle.mt_desks.proofs.Prelude.{◌<◌, ℕ, length, arith, get_or, refl, slice_get-get_or, slice_get_read}
 use Rattle.mt_desks.proofs.Doing.{line_done_at, named_below}
 use Rattle.mt_desks.proofs.desks.answer_line.Goals as goal
 

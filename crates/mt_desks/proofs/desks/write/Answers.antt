@@ -1,6 +1,4 @@
-use Rattle.std.proofs.Common.{[], ◌∷◌, refl, inl}
-use Rattle.mt_log.specs.declared.lines.Item.TheVariants.{Write}
-use Rattle.mt_log.specs.Run.{Asked, Called, step_of}
+use Rattle.mt_desks.proofs.Prelude.{[], ◌∷◌, refl, inl, Write, Asked, Called, step_of}
 use Rattle.mt_desks.proofs.Doing.{worn_line}
 use Rattle.mt_desks.proofs.Scanning.{step_leads}
 use Rattle.mt_desks.proofs.desks.write.Goals as goal

@@ -1,5 +1,4 @@
-use Rattle.std.proofs.Common.{◌≡◌, ◌+◌, ◌≤◌, drop, length}
-use Rattle.mt_desks.specs.Dealing.{lines_of_lane, room_of}
+use Rattle.mt_desks.proofs.Prelude.{◌≡◌, ◌+◌, ◌≤◌, drop, length, lines_of_lane, room_of}
 use Rattle.mt_desks.proofs.own_lines.needs_of.Given as goal
 
 abbrev pub invariant-loop-line : goal.invariant-loop-line

@@ -1,5 +1,4 @@
-use Rattle.std.proofs.Common.{◌≡◌, length}
-use Rattle.mt_desks.specs.Dealing.{lines_of_lane}
+use Rattle.mt_desks.proofs.Prelude.{◌≡◌, length, lines_of_lane}
 use Rattle.mt_desks.proofs.own_lines.next_of_lane.Given as goal
 
 abbrev pub invariant-loop-line : goal.invariant-loop-line

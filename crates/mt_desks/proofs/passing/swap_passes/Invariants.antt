@@ -1,4 +1,4 @@
-use Rattle.mt_desks.specs.Passing.{HasSwapped}
+use Rattle.mt_desks.proofs.Prelude.{HasSwapped}
 use Rattle.mt_desks.proofs.passing.swap_passes.Given as goal
 
 abbrev pub invariant-loop-tree : goal.invariant-loop-tree

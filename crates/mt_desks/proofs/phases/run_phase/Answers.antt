@@ -1,6 +1,4 @@
-use Rattle.std.proofs.Common.{◌≡◌, ◌<◌, List, length, arith, ap, ◌∙◌, get_or, Vec, Global}
-use Rattle.mt_lanes.specs.declared.lanes.Lane.{Lane}
-use Rattle.mt_desks.specs.declared.desks.LaneDesk.{LaneDesk}
+use Rattle.mt_desks.proofs.Prelude.{◌≡◌, ◌<◌, List, length, arith, ap, ◌∙◌, get_or, Vec, Global, Lane, LaneDesk}
 use Rattle.mt_desks.proofs.Going.{can_run, has_run, lane_goes, still_passes}
 use Rattle.mt_desks.proofs.phases.run_phase.Goals as goal
 

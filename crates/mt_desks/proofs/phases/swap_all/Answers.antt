@@ -1,7 +1,4 @@
-use Rattle.std.proofs.Common.{◌≡◌, List, arith, get_or}
-use Rattle.std.proofs.Common.{Vec, Global}
-use Rattle.mt_lanes.specs.declared.lanes.Lane.{Lane}
-use Rattle.mt_desks.specs.declared.desks.LaneDesk.{LaneDesk}
+use Rattle.mt_desks.proofs.Prelude.{◌≡◌, List, arith, get_or, Vec, Global, Lane, LaneDesk}
 use Rattle.mt_desks.proofs.Swapping.{lane_swaps}
 use Rattle.mt_desks.proofs.phases.swap_all.Goals as goal
 

@@ -1,6 +1,4 @@
-use Rattle.std.proofs.Common.{◌≡◌}
-use Rattle.mt_lanes.specs.Lanes.{EachPlace}
-use Rattle.mt_desks.specs.Passing.{AllHaveSwapped}
+use Rattle.mt_desks.proofs.Prelude.{◌≡◌, EachPlace, AllHaveSwapped}
 use Rattle.mt_desks.proofs.phases.swap_all.Given as goal
 
 abbrev pub invariant-loop-lane : goal.invariant-loop-lane

@@ -1,5 +1,4 @@
-use Rattle.std.proofs.Common.{◌≡◌, ℕ, zero, suc, ◌+◌, ◌-◌, Some, None, arith, refl}
-use Rattle.mt_desks.specs.Walks.{Walk}
+use Rattle.mt_desks.proofs.Prelude.{◌≡◌, ℕ, zero, suc, ◌+◌, ◌-◌, Some, None, arith, refl, Walk}
 use Rattle.mt_desks.proofs.Scanning.{same_walk, scan_ends, scan_starts, walk_finds_none, walk_scans_on, walk_starts}
 use Rattle.mt_desks.proofs.scans.read_on.Goals as goal
 

@@ -1,8 +1,4 @@
-use Rattle.std.proofs.Common.{◌≡◌, ℕ, ◌+◌, ◌-◌, ◌*◌, ◌≤◌}
-use Rattle.std.specs.Vec.{vec_len, vec_capacity}
-use Rattle.mt_log.specs.declared.lines.Item.{Item}
-use Rattle.mt_desks.specs.Scans.{KeepsOne}
-use Rattle.mt_desks.specs.Walks.{Walk}
+use Rattle.mt_desks.proofs.Prelude.{◌≡◌, ℕ, ◌+◌, ◌-◌, ◌*◌, ◌≤◌, vec_len, vec_capacity, Item, KeepsOne, Walk}
 use Rattle.mt_desks.proofs.Scanning.{IsSameWalk, ScansSoFar}
 use Rattle.mt_desks.proofs.scans.read_on.Given as goal
 

@@ -1,5 +1,4 @@
-use Rattle.std.proofs.Common.{◌≡◌, ◌+◌, drop}
-use Rattle.mt_desks.specs.Turns.{front_len}
+use Rattle.mt_desks.proofs.Prelude.{◌≡◌, ◌+◌, drop, front_len}
 use Rattle.mt_desks.proofs.turns.front_len.Given as goal
 
 abbrev pub invariant-loop-count : goal.invariant-loop-count

@@ -1,5 +1,4 @@
-use Rattle.std.proofs.Common.{◌≡◌, ◌++◌, drop, map}
-use Rattle.mt_desks.specs.Turns.{in_turn}
+use Rattle.mt_desks.proofs.Prelude.{◌≡◌, ◌++◌, drop, map, in_turn}
 use Rattle.mt_desks.proofs.turns.put_back.Given as goal
 
 abbrev pub invariant-loop-line : goal.invariant-loop-line

@@ -1,7 +1,4 @@
-use Rattle.std.proofs.Common.{◌≡◌, List, [], ap, ◌∙◌, map, get_or, slice_set, Bor}
-use Rattle.std.proofs.lemmas.List.{map-set, get_or-map}
-use Rattle.mt_log.specs.declared.transcripts.Entry.{Entry}
-use Rattle.mt_desks.specs.Turns.{room_at}
+use Rattle.mt_desks.proofs.Prelude.{◌≡◌, List, [], ap, ◌∙◌, map, get_or, slice_set, Bor, map-set, get_or-map, Entry, room_at}
 use Rattle.mt_desks.proofs.turns.take_front.Goals as goal
 
 abbrev shown : Bor (List Entry) → List Entry

@@ -1,6 +1,4 @@
-use Rattle.std.proofs.Common.{◌≡◌, ◌≤◌}
-use Rattle.mt_draw.specs.Texts.{longest_slot}
-use Rattle.mt_draw.specs.Trees.{table_of}
+use Rattle.mt_draw.proofs.Prelude.{◌≡◌, ◌≤◌, longest_slot, table_of}
 use Rattle.mt_draw.proofs.texts.longest_at.Given as goal
 
 abbrev pub invariant-loop-slot : goal.invariant-loop-slot

@@ -1,11 +1,4 @@
-use Rattle.std.proofs.Common.{◌≡◌, ◌++◌, ◌∷◌, [], List, ap, ◌∙◌, sym, take, ◌-◌, ◌+◌, ◌<◌, arith, append_assoc}
-use Rattle.std.specs.List.{flat_map}
-use Rattle.std.proofs.lemmas.List.{take_all}
-use Rattle.mt_layout.specs.Rows.{row_in}
-use Rattle.mt_rows.specs.Spans.{Table}
-use Rattle.mt_rows.proofs.Deeper.{row_named}
-use Rattle.mt_draw.specs.declared.trees.Node.{Node}
-use Rattle.mt_draw.specs.Trees.{nodes_of}
+use Rattle.mt_draw.proofs.Prelude.{◌≡◌, ◌++◌, ◌∷◌, [], List, ap, ◌∙◌, sym, take, ◌-◌, ◌+◌, ◌<◌, arith, append_assoc, flat_map, take_all, row_in, Table, row_named, Node, nodes_of}
 use Rattle.mt_draw.proofs.Walks.{nodes_of_inner}
 use Rattle.mt_draw.proofs.trees.+push_nodes.Goals as goal
 

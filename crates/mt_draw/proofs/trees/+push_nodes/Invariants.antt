@@ -1,6 +1,4 @@
-use Rattle.std.proofs.Common.{◌≡◌, ◌-◌, ◌+◌, ◌++◌, take}
-use Rattle.std.specs.List.{flat_map}
-use Rattle.mt_draw.specs.Trees.{nodes_of}
+use Rattle.mt_draw.proofs.Prelude.{◌≡◌, ◌-◌, ◌+◌, ◌++◌, take, flat_map, nodes_of}
 use Rattle.mt_draw.proofs.trees.+push_nodes.Given as goal
 
 abbrev pub decreases-push_nodes : goal.decreases-push_nodes

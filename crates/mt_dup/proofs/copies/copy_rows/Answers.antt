@@ -1,13 +1,7 @@
-use Rattle.std.proofs.Common.{length, sym, ap, subst, arith}
-use Rattle.mt_free.specs.Book.{Book, new_book}
-use Rattle.mt_rows.specs.Memory.{sheet_in}
-use Rattle.mt_rows.specs.PlainWhole.{rows_whole}
-use Rattle.mt_rows.specs.Sheet.{Sheet}
-use Rattle.mt_dup.specs.Filling.{IsOpenCopy}
+use Rattle.mt_dup.proofs.Prelude.{length, sym, ap, subst, arith, Book, new_book, sheet_in, rows_whole, Sheet, IsOpenCopy, one_read}
 use Rattle.mt_dup.proofs.WholeCopies.{tree_may, names_many, names_same, may_same}
 use Rattle.mt_dup.proofs.NewTables.{new_open, is_copy, in_order, same_map, may_be_planted, others_new, has_book}
 use Rattle.mt_dup.proofs.copies.copy_rows.Goals as goal
-use Rattle.mt_rows.proofs.Loads.{one_read}
 
 pub copy_row-requires-clause-may : goal.copy_row-requires-clause-may
 copy_row-requires-clause-may g c =

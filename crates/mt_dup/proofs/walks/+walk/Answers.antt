@@ -1,16 +1,5 @@
-use Rattle.std.proofs.Common.{◌≡◌, ◌≢◌, ◌+◌, ◌-◌, ◌<◌, ◌≤◌, None, length, refl, sym, ap, ◌∙◌, subst, rules, arith}
-use Rattle.mt_layout.specs.declared.names.RowKind.TheVariants.{Leaf}
-use Rattle.mt_layout.specs.Rows.{named_kind}
-use Rattle.mt_rows.proofs.Deeper.{row_named}
-use Rattle.mt_rows.specs.Memory.{sheet_in}
-use Rattle.mt_rows.specs.PlainWhole.{rows_whole}
-use Rattle.mt_rows.specs.Sheet.{Rooted}
-use Rattle.mt_dup.specs.declared.columns.Pair.{Pair}
-use Rattle.mt_dup.specs.Filling.{next_row, HasTaken}
-use Rattle.mt_dup.specs.Pairs.{IsWrittenAt}
-use Rattle.mt_dup.specs.Walks.{names_from, names_below, MayCopy, LeavesCopy, LeavesChildren}
+use Rattle.mt_dup.proofs.Prelude.{◌≡◌, ◌≢◌, ◌+◌, ◌-◌, ◌<◌, ◌≤◌, None, length, refl, sym, ap, ◌∙◌, subst, rules, arith, Leaf, named_kind, row_named, sheet_in, rows_whole, Rooted, Pair, next_row, HasTaken, IsWrittenAt, names_from, names_below, MayCopy, LeavesCopy, LeavesChildren, same_tree}
 use Rattle.mt_dup.proofs.Names.{names_none}
-use Rattle.mt_rows.proofs.Loads.{same_tree}
 use Rattle.mt_dup.proofs.WrittenRows.{written_width}
 use Rattle.mt_dup.proofs.Going.{Begins, Going, going_loaded, slots_in, none_taken, taken_more, loaded_is, may_child, open_child, room_child, wide_child, going_next}
 use Rattle.mt_dup.proofs.RowCopies.{none_copied, length_is, row_place, children_asked, row_copied}

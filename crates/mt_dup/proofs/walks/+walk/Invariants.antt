@@ -1,5 +1,4 @@
-use Rattle.std.proofs.Common.{◌+◌, ◌*◌}
-use Rattle.mt_rows.specs.Memory.{sheet_in}
+use Rattle.mt_dup.proofs.Prelude.{◌+◌, ◌*◌, sheet_in}
 use Rattle.mt_dup.proofs.Going.{Going}
 use Rattle.mt_dup.proofs.walks.+walk.Given as goal
 

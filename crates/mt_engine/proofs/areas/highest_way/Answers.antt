@@ -1,9 +1,4 @@
-use Rattle.std.proofs.Common.{◌≤◌, sym, ap, subst}
-use Rattle.mt_base.specs.declared.kinds.Kind.{Kind}
-use Rattle.mt_base.specs.Width.{greatest}
-use Rattle.mt_rows.specs.Publish.{IsTreeOf}
-use Rattle.mt_rows.specs.Sheet.{Rooted, Sheet}
-use Rattle.mt_gap.specs.Ways.{IsAreaAt}
+use Rattle.mt_engine.proofs.Prelude.{◌≤◌, sym, ap, subst, Kind, greatest, IsTreeOf, Rooted, Sheet, IsAreaAt}
 use Rattle.mt_engine.proofs.Finding.{highest_within}
 use Rattle.mt_engine.proofs.Moments.{tree_if_lawful}
 use Rattle.mt_engine.proofs.areas.highest_way.Goals as goal

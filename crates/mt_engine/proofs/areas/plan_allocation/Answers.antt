@@ -1,4 +1,4 @@
-use Rattle.std.proofs.Common.{arith, Some, sym, ◌∙◌}
+use Rattle.mt_engine.proofs.Prelude.{arith, Some, sym, ◌∙◌}
 use Rattle.mt_engine.proofs.Finding.{good_area, is_gapped, window_within, start_is, place_fits, place_plan}
 use Rattle.mt_engine.proofs.areas.plan_allocation.Goals as goal
 

@@ -1,5 +1,4 @@
-use Rattle.std.proofs.Common.{Some, None, sym, ◌∙◌}
-use Rattle.mt_rows.specs.Publish.{map_by}
+use Rattle.mt_engine.proofs.Prelude.{Some, None, sym, ◌∙◌, map_by}
 use Rattle.mt_engine.proofs.Finding.{is_gapped, start_is, search_tells}
 use Rattle.mt_engine.proofs.areas.plan_search.Goals as goal
 

@@ -1,6 +1,4 @@
-use Rattle.std.proofs.Common.{sym, ap, subst}
-use Rattle.mt_rows.specs.Sheet.{Rooted, Sheet}
-use Rattle.mt_engine.specs.Heights.{HasHeight}
+use Rattle.mt_engine.proofs.Prelude.{sym, ap, subst, Rooted, Sheet, HasHeight}
 use Rattle.mt_engine.proofs.Moments.{in_call_begun, applied_by}
 use Rattle.mt_engine.proofs.ReadAfter.{measured_end}
 use Rattle.mt_engine.proofs.calls.apply.Goals as goal

@@ -1,15 +1,5 @@
-use Rattle.std.proofs.Common.{◌≡◌, true, refl, sym, ap, ◌∙◌, subst}
-use Rattle.mt_base.specs.declared.calls.Call.{Call}
-use Rattle.mt_base.specs.declared.calls.Call.TheVariants.{Store, Clear}
-use Rattle.mt_base.specs.declared.replies.Reply.TheVariants.{NoNodes}
+use Rattle.mt_engine.proofs.Prelude.{◌≡◌, true, refl, sym, ap, ◌∙◌, subst, Call, Store, Clear, NoNodes, map_by, Rooted, height_in, Nothing, OnlySearches, is_refusal, HasHeight, IsPlan, IsSearched, IsStorePlan, same_tree}
 use Rattle.mt_base.specs.declared.replies.Reply.TheVariants as reply
-use Rattle.mt_rows.specs.Publish.{map_by}
-use Rattle.mt_rows.specs.Sheet.{Rooted}
-use Rattle.mt_rows.specs.Trees.{height_in}
-use Rattle.mt_engine.specs.declared.plans.Plan.TheVariants.{Nothing}
-use Rattle.mt_engine.specs.Engine.{OnlySearches, is_refusal}
-use Rattle.mt_engine.specs.Heights.{HasHeight}
-use Rattle.mt_engine.specs.Plans.{IsPlan, IsSearched, IsStorePlan}
 use Rattle.mt_engine.proofs.Answering.{not_both, may_clear_now, cleared_now}
 use Rattle.mt_engine.proofs.Finding.{store_is_no_search, success_is_not_busy, shortage_is_not_busy}
 use Rattle.mt_engine.proofs.Leaving.{leaves}
@@ -17,7 +7,6 @@ use Rattle.mt_engine.proofs.Measured.{empty_height}
 use Rattle.mt_engine.proofs.Moments.{in_call_if_read, unscanned_if_read, answered_after_reads, tree_if_lawful}
 use Rattle.mt_engine.proofs.ReadAfter.{answered_before_reads, refusal_stays, stores_exactly}
 use Rattle.mt_engine.proofs.calls.perform.Goals as goal
-use Rattle.mt_rows.proofs.Loads.{same_tree}
 
 pub plan_of-requires-clause-tree : goal.plan_of-requires-clause-tree
 plan_of-requires-clause-tree g c = c.requires.in_call.state.kept.lawful

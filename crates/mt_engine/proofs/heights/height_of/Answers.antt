@@ -1,5 +1,4 @@
-use Rattle.std.proofs.Common.{ℕ, ◌+◌, ◌*◌, refl, sym, ap, ◌∙◌, subst}
-use Rattle.mt_rows.specs.Sheet.{ReadsUpTo}
+use Rattle.mt_engine.proofs.Prelude.{ℕ, ◌+◌, ◌*◌, refl, sym, ap, ◌∙◌, subst, ReadsUpTo}
 use Rattle.mt_engine.proofs.FirstWay.{loads_on_first, way_height}
 use Rattle.mt_engine.proofs.heights.height_of.Goals as goal
 

@@ -1,4 +1,4 @@
-use Rattle.std.proofs.Common.{sym, ◌∙◌}
+use Rattle.mt_engine.proofs.Prelude.{sym, ◌∙◌}
 use Rattle.mt_engine.proofs.Walking.{none_listed, one_more_listed, fewer_left, all_listed}
 use Rattle.mt_engine.proofs.lists.list.Goals as goal
 

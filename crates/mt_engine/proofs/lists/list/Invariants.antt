@@ -1,5 +1,4 @@
-use Rattle.std.proofs.Common.{length}
-use Rattle.mt_rows.specs.Publish.{map_by}
+use Rattle.mt_engine.proofs.Prelude.{length, map_by}
 use Rattle.mt_engine.proofs.Walking.{AreListed, ranges_from}
 use Rattle.mt_engine.proofs.lists.list.Given as goal
 

@@ -1,10 +1,4 @@
-use Rattle.std.proofs.Common.{◌≡◌, ◌-◌, ◌<◌, length, true, false, refl, sym, ◌∙◌, subst}
-use Rattle.mt_base.specs.declared.widths.Width.{Width}
-use Rattle.mt_base.specs.Call.{finds_room}
-use Rattle.mt_layout.specs.declared.names.RowKind.TheVariants.{Gapped}
-use Rattle.mt_layout.specs.Sizes.{slots_of}
-use Rattle.mt_path.specs.Paths.{step_at}
-use Rattle.mt_engine.specs.Mends.{IsPlaceOfLeaf}
+use Rattle.mt_engine.proofs.Prelude.{◌≡◌, ◌-◌, ◌<◌, length, true, false, refl, sym, ◌∙◌, subst, Width, finds_room, Gapped, slots_of, step_at, IsPlaceOfLeaf}
 use Rattle.mt_engine.proofs.LeafReplaced.{above_slot}
 use Rattle.mt_engine.proofs.LeafTold.{told_way}
 use Rattle.mt_engine.proofs.Mended.{none_to_mend, mended}

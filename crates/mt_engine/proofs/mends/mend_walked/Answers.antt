@@ -1,4 +1,4 @@
-use Rattle.mt_base.specs.Call.{finds_room}
+use Rattle.mt_engine.proofs.Prelude.{finds_room}
 use Rattle.mt_engine.proofs.Mended.{along_at, is_way, mended}
 use Rattle.mt_engine.proofs.mends.mend_walked.Goals as goal
 

@@ -1,6 +1,4 @@
-use Rattle.std.proofs.Common.{Option, ap, sym, ◌∙◌}
-use Rattle.mt_path.specs.declared.handles.Handle.{Handle}
-use Rattle.mt_engine.specs.Plans.{is_range_met}
+use Rattle.mt_engine.proofs.Prelude.{Option, ap, sym, ◌∙◌, Handle, is_range_met}
 use Rattle.mt_engine.proofs.Planning.{met_none, met_nearest}
 use Rattle.mt_engine.proofs.plans.met.Goals as goal
 

@@ -1,4 +1,4 @@
-use Rattle.std.proofs.Common.{refl, sym, ◌∙◌}
+use Rattle.mt_engine.proofs.Prelude.{refl, sym, ◌∙◌}
 use Rattle.mt_base.specs.declared.replies.Reply.TheVariants as reply
 use Rattle.mt_engine.proofs.Slots.{none_at_root}
 use Rattle.mt_engine.proofs.plans.plan_clear.Goals as goal

@@ -1,5 +1,4 @@
-use Rattle.std.proofs.Common.{ℕ, ◌<◌, ◌≤◌, ap, subst}
-use Rattle.std.specs.Prelude.{is_some}
+use Rattle.mt_engine.proofs.Prelude.{ℕ, ◌<◌, ◌≤◌, ap, subst, is_some}
 use Rattle.mt_engine.proofs.Planning.{erase_above, erase_nothing, erase_hole, erase_plan}
 use Rattle.mt_engine.proofs.plans.plan_erase.Goals as goal
 

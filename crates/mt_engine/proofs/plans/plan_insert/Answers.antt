@@ -1,4 +1,4 @@
-use Rattle.std.proofs.Common.{sym, ◌∙◌}
+use Rattle.mt_engine.proofs.Prelude.{sym, ◌∙◌}
 use Rattle.mt_engine.proofs.Planning.{first_within, insert_exists, insert_plan}
 use Rattle.mt_engine.proofs.plans.plan_insert.Goals as goal
 

@@ -1,6 +1,4 @@
-use Rattle.std.proofs.Common.{sym, subst}
-use Rattle.mt_base.specs.declared.calls.Call.{Call}
-use Rattle.mt_engine.specs.Plans.{IsPlan}
+use Rattle.mt_engine.proofs.Prelude.{sym, subst, Call, IsPlan}
 use Rattle.mt_engine.proofs.plans.plan_of.Goals as goal
 
 pub returns-in-Clear-clause-plan : goal.returns-in-Clear-clause-plan

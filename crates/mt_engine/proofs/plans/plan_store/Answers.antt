@@ -1,6 +1,4 @@
-use Rattle.std.proofs.Common.{sym, ap, ◌∙◌}
-use Rattle.mt_base.specs.Call.{replied}
-use Rattle.mt_engine.specs.Here.{IsHereAt}
+use Rattle.mt_engine.proofs.Prelude.{sym, ap, ◌∙◌, replied, IsHereAt}
 use Rattle.mt_engine.proofs.Planning.{first_within, store_invalid, store_pre_invalid, store_meets, store_plan, store_pre_plan}
 use Rattle.mt_engine.proofs.plans.plan_store.Goals as goal
 

@@ -1,15 +1,8 @@
-use Rattle.std.proofs.Common.{sym, ap, ◌∙◌, subst}
-use Rattle.mt_base.specs.declared.calls.Call.TheVariants.{StorePre}
-use Rattle.mt_rows.specs.Sheet.{Rooted}
-use Rattle.mt_rows.specs.Trees.{height_in}
-use Rattle.mt_engine.specs.declared.plans.Plan.TheVariants.{Nothing}
-use Rattle.mt_engine.specs.Plans.{IsPlan, IsStorePlan}
-use Rattle.mt_engine.specs.Rooms.{HasRoom}
+use Rattle.mt_engine.proofs.Prelude.{sym, ap, ◌∙◌, subst, StorePre, Rooted, height_in, Nothing, IsPlan, IsStorePlan, HasRoom, same_tree}
 use Rattle.mt_engine.proofs.Leaving.{stays_stored}
 use Rattle.mt_engine.proofs.Moments.{tree_in_call, in_call_if_read, tree_if_lawful}
 use Rattle.mt_engine.proofs.ReadAfter.{stored_after_reads, stored_before_reads}
 use Rattle.mt_engine.proofs.prepared.perform_prepared.Goals as goal
-use Rattle.mt_rows.proofs.Loads.{same_tree}
 
 pub plan_store-requires-clause-tree : goal.plan_store-requires-clause-tree
 plan_store-requires-clause-tree g c = tree_in_call c.args.kind (g.R.Rows.sheet c.args.rows.now) c.args.book.now c.requires.in_call

@@ -1,8 +1,4 @@
-use Rattle.std.proofs.Common.{sym, ap, subst}
-use Rattle.mt_base.specs.declared.calls.Call.TheVariants.{StorePre}
-use Rattle.mt_rows.specs.Sheet.{Rooted, Sheet}
-use Rattle.mt_engine.specs.Heights.{HasHeight}
-use Rattle.mt_engine.specs.Rooms.{HasRoom}
+use Rattle.mt_engine.proofs.Prelude.{sym, ap, subst, StorePre, Rooted, Sheet, HasHeight, HasRoom}
 use Rattle.mt_engine.proofs.Moments.{in_call_begun}
 use Rattle.mt_engine.proofs.ReadAfter.{prestored_by, measured_end}
 use Rattle.mt_engine.proofs.prepared.store_prepared.Goals as goal

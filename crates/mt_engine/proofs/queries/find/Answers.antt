@@ -1,4 +1,4 @@
-use Rattle.std.proofs.Common.{ℕ, ◌<◌, ◌≤◌, subst, ◌∙◌}
+use Rattle.mt_engine.proofs.Prelude.{ℕ, ◌<◌, ◌≤◌, subst, ◌∙◌}
 use Rattle.mt_engine.proofs.IndexesAbove.{find_above}
 use Rattle.mt_engine.proofs.SlotQueries.{handle_of, handle_kept, find_found}
 use Rattle.mt_engine.proofs.queries.find.Goals as goal

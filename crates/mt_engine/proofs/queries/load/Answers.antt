@@ -1,7 +1,4 @@
-use Rattle.std.proofs.Common.{ap, refl, ◌≡◌, ◌≢◌, ℕ, ◌<◌, ◌≤◌, subst, ◌∙◌, Some}
-use Rattle.mt_layout.specs.declared.spans.Span.{Span}
-use Rattle.mt_path.specs.Handles.{handle_in}
-use Rattle.mt_engine.specs.MapSpans.{range_of}
+use Rattle.mt_engine.proofs.Prelude.{ap, refl, ◌≡◌, ◌≢◌, ℕ, ◌<◌, ◌≤◌, subst, ◌∙◌, Some, Span, handle_in, range_of}
 use Rattle.mt_engine.proofs.IndexesAbove.{load_above}
 use Rattle.mt_engine.proofs.SlotQueries.{handle_of, load_held, load_hole}
 use Rattle.mt_engine.proofs.queries.load.Goals as goal

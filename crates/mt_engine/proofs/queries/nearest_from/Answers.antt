@@ -1,4 +1,4 @@
-use Rattle.std.proofs.Common.{ap, ◌∙◌, Some}
+use Rattle.mt_engine.proofs.Prelude.{ap, ◌∙◌, Some}
 use Rattle.mt_engine.proofs.queries.nearest_from.Goals as goal
 
 pub returns-in_err-found-clause-range : goal.returns-in_err-found-clause-range

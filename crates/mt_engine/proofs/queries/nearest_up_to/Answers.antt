@@ -1,4 +1,4 @@
-use Rattle.std.proofs.Common.{ap, ◌∙◌, Some, refl}
+use Rattle.mt_engine.proofs.Prelude.{ap, ◌∙◌, Some, refl}
 use Rattle.mt_engine.proofs.SlotQueries.{last_here, last_none, last_before, not_none}
 use Rattle.mt_engine.proofs.queries.nearest_up_to.Goals as goal
 

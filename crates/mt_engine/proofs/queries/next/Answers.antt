@@ -1,4 +1,4 @@
-use Rattle.std.proofs.Common.{ℕ, ◌<◌, ◌≤◌, subst, ◌∙◌, refl}
+use Rattle.mt_engine.proofs.Prelude.{ℕ, ◌<◌, ◌≤◌, subst, ◌∙◌, refl}
 use Rattle.mt_engine.proofs.IndexesAbove.{next_above}
 use Rattle.mt_engine.proofs.SlotQueries.{handle_of, handle_kept, not_none, next_none, above_kept, next_found}
 use Rattle.mt_engine.proofs.queries.next.Goals as goal

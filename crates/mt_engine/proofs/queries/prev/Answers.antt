@@ -1,7 +1,4 @@
-use Rattle.std.proofs.Common.{ℕ, ◌<◌, ◌≤◌, subst, ap, ◌∙◌, refl}
-use Rattle.mt_base.specs.declared.calls.Query.TheVariants.{Rfind}
-use Rattle.mt_base.specs.Call.{answer}
-use Rattle.mt_rows.specs.Publish.{map_by}
+use Rattle.mt_engine.proofs.Prelude.{ℕ, ◌<◌, ◌≤◌, subst, ap, ◌∙◌, refl, Rfind, answer, map_by}
 use Rattle.mt_engine.proofs.IndexesAbove.{prev_above}
 use Rattle.mt_engine.proofs.SlotQueries.{handle_of, handle_kept, not_none, prev_none, below_kept, prev_found}
 use Rattle.mt_engine.proofs.queries.prev.Goals as goal

@@ -1,4 +1,4 @@
-use Rattle.std.proofs.Common.{min, arith, ap, ◌∙◌}
+use Rattle.mt_engine.proofs.Prelude.{min, arith, ap, ◌∙◌}
 use Rattle.mt_engine.proofs.IndexesAbove.{rfind_from, rfind_none}
 use Rattle.mt_engine.proofs.SlotQueries.{handle_of, handle_kept, rfind_found}
 use Rattle.mt_engine.proofs.queries.rfind.Goals as goal

@@ -1,5 +1,4 @@
-use Rattle.std.proofs.Common.{arith}
-use Rattle.mt_path.proofs.Loads.{no_reads, reads_up}
+use Rattle.mt_engine.proofs.Prelude.{arith, no_reads, reads_up}
 use Rattle.mt_engine.proofs.SlotQueries.{first_here, from_behind, handle_behind}
 use Rattle.mt_engine.proofs.queries.slot_from.Goals as goal
 

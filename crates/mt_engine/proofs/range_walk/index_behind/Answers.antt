@@ -1,5 +1,4 @@
-use Rattle.std.proofs.Common.{arith}
-use Rattle.mt_base.proofs.WidthBounds.{greatest_fits}
+use Rattle.mt_engine.proofs.Prelude.{arith, greatest_fits}
 use Rattle.mt_engine.proofs.range_walk.index_behind.Goals as goal
 
 pub overflow_add-result : goal.overflow_add-result

@@ -1,9 +1,4 @@
-use Rattle.std.proofs.Common.{◌≤◌, Some, ap, ◌∙◌, subst, sym}
-use Rattle.mt_base.specs.declared.widths.Width.{Width}
-use Rattle.mt_base.specs.Width.{greatest}
-use Rattle.mt_rows.specs.Sheet.{Rooted}
-use Rattle.mt_rows.proofs.Loads.{same_tree}
-use Rattle.mt_engine.specs.RangeWalks.{index_behind, range_at}
+use Rattle.mt_engine.proofs.Prelude.{◌≤◌, Some, ap, ◌∙◌, subst, sym, Width, greatest, Rooted, same_tree, index_behind, range_at}
 use Rattle.mt_engine.proofs.Walking.{ends_within, walks_on}
 use Rattle.mt_engine.proofs.range_walk.next_range.Goals as goal
 

@@ -1,13 +1,7 @@
-use Rattle.std.proofs.Common.{sym, ap, ◌∙◌, subst}
-use Rattle.std.specs.Prelude.{IfSome}
-use Rattle.mt_rows.specs.Sheet.{Rooted}
-use Rattle.mt_path.specs.Handles.{IsHandleOf}
-use Rattle.mt_engine.specs.RangeWalks.{range_at}
-use Rattle.mt_engine.specs.Nearest.{nearest_from}
+use Rattle.mt_engine.proofs.Prelude.{sym, ap, ◌∙◌, subst, IfSome, Rooted, IsHandleOf, range_at, nearest_from, same_tree}
 use Rattle.mt_engine.proofs.SlotQueries.{IsNearest}
 use Rattle.mt_engine.proofs.Walking.{none_found, here_is, nearest_found, steps_within}
 use Rattle.mt_engine.proofs.range_walk.slot_found.Goals as goal
-use Rattle.mt_rows.proofs.Loads.{same_tree}
 
 pub returns-in_err-here-clause-range : goal.returns-in_err-here-clause-range
 returns-in_err-here-clause-range g c =

@@ -1,8 +1,4 @@
-use Rattle.std.proofs.Common.{◌≢◌, Option, sym, subst}
-use Rattle.std.specs.Prelude.{IfSome}
-use Rattle.mt_path.specs.declared.handles.Handle.{Handle}
-use Rattle.mt_rows.specs.Sheet.{ReadsUpTo}
-use Rattle.mt_engine.specs.Here.{IsHereIf}
+use Rattle.mt_engine.proofs.Prelude.{◌≢◌, Option, sym, subst, IfSome, Handle, ReadsUpTo, IsHereIf}
 use Rattle.mt_engine.proofs.Walking.{none_here, next_within, last_is, here_behind, here_at, none_read}
 use Rattle.mt_engine.proofs.range_walk.slot_next.Goals as goal
 

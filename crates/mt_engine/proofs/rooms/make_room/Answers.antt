@@ -1,7 +1,4 @@
-use Rattle.std.proofs.Common.{refl, ap, arith, ◌+◌, ◌*◌}
-use Rattle.std.proofs.lemmas.Bool.{lt-ltb, le-ltb}
-use Rattle.mt_rows.specs.Trees.{height_in}
-use Rattle.mt_rows.specs.Sheet.{Sheet}
+use Rattle.mt_engine.proofs.Prelude.{refl, ap, arith, ◌+◌, ◌*◌, lt-ltb, le-ltb, height_in, Sheet}
 use Rattle.mt_engine.proofs.Scanned.{is_scanned}
 use Rattle.mt_engine.proofs.Shortages.{low_height, short_after}
 use Rattle.mt_engine.proofs.rooms.make_room.Goals as goal

@@ -1,9 +1,4 @@
-use Rattle.std.proofs.Common.{ℕ, ◌+◌, ◌^◌, ◌<◌, ap, ◌∙◌, arith}
-use Rattle.mt_base.specs.declared.widths.Width.{Width}
-use Rattle.mt_layout.specs.declared.names.RowKind.TheVariants.{Leaf}
-use Rattle.mt_layout.specs.Sizes.{slots_of}
-use Rattle.mt_layout.proofs.RowSizes.{few_slots_of}
-use Rattle.mt_path.proofs.HandleSteps.{slot_fits}
+use Rattle.mt_engine.proofs.Prelude.{ℕ, ◌+◌, ◌^◌, ◌<◌, ap, ◌∙◌, arith, Width, Leaf, slots_of, few_slots_of, slot_fits}
 use Rattle.mt_engine.proofs.stores.place_of.Goals as goal
 
 column_fits : (width : Width) (slot : ℕ) → slot < slots_of width Leaf → slots_of width Leaf + slot < 2 ^ 32

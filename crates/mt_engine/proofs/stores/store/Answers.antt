@@ -1,14 +1,4 @@
-use Rattle.std.proofs.Common.{◌≡◌, true, sym, ap, ◌∙◌, subst}
-use Rattle.std.proofs.lemmas.Result.{err_from_is_err_and}
-use Rattle.mt_base.specs.Nodes.{Wants, is_exact_store}
-use Rattle.mt_free.specs.Book.{Book}
-use Rattle.mt_rows.specs.Publish.{map_by}
-use Rattle.mt_rows.specs.Sheet.{Rooted, Sheet}
-use Rattle.mt_rows.specs.Trees.{height_in}
-use Rattle.mt_engine.specs.Engine.{ChangesEntry, Replaces}
-use Rattle.mt_engine.specs.Plans.{IsStorePlan}
-use Rattle.mt_engine.specs.Rooms.{HasRoom}
-use Rattle.mt_engine.specs.Stores.{IsDoneByStore}
+use Rattle.mt_engine.proofs.Prelude.{◌≡◌, true, sym, ap, ◌∙◌, subst, err_from_is_err_and, Wants, is_exact_store, Book, map_by, Rooted, Sheet, height_in, ChangesEntry, Replaces, IsStorePlan, HasRoom, IsDoneByStore}
 use Rattle.mt_engine.proofs.Answering.{not_both, at_once, after_scan}
 use Rattle.mt_engine.proofs.Leaving.{refuses}
 use Rattle.mt_engine.proofs.Moments.{tree_in_call}

@@ -1,9 +1,4 @@
-use Rattle.std.proofs.Common.{List, sym, ap, ◌∙◌, subst}
-use Rattle.mt_base.specs.declared.ranges.Range.{Range}
-use Rattle.mt_base.specs.declared.replies.Reply.{Reply}
-use Rattle.mt_base.specs.Nodes.{is_exact_store}
-use Rattle.mt_rows.specs.declared.rows.Place.{Place}
-use Rattle.mt_rows.specs.Publish.{MayPublish, Published, map_by}
+use Rattle.mt_engine.proofs.Prelude.{List, sym, ap, ◌∙◌, subst, Range, Reply, is_exact_store, Place, MayPublish, Published, map_by}
 use Rattle.mt_engine.proofs.Answering.{not_both, may_mend, was_way, rows_stored}
 use Rattle.mt_engine.proofs.Leaving.{stays_stored}
 use Rattle.mt_engine.proofs.Moments.{tree_in_call}

@@ -1,4 +1,4 @@
-use Rattle.std.proofs.Common.{◌-◌, arith, ◌∙◌}
+use Rattle.mt_free.proofs.Prelude.{◌-◌, arith, ◌∙◌}
 use Rattle.mt_free.proofs.Books.{rows_down_more}
 use Rattle.mt_free.proofs.book.all_rows.Goals as goal
 

@@ -1,6 +1,4 @@
-use Rattle.std.proofs.Common.{◌≡◌, ◌≤◌, ◌+◌, ◌++◌, vec_len}
-use Rattle.std.specs.Vec.{vec_capacity}
-use Rattle.mt_free.specs.Book.{rows_down}
+use Rattle.mt_free.proofs.Prelude.{◌≡◌, ◌≤◌, ◌+◌, ◌++◌, vec_len, vec_capacity, rows_down}
 use Rattle.mt_free.proofs.book.all_rows.Given as goal
 
 abbrev pub invariant-loop-n : goal.invariant-loop-n

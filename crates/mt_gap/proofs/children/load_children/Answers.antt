@@ -1,12 +1,4 @@
-use Rattle.std.proofs.Common.{◌≡◌, ◌<◌, ◌++◌, List, [], ◌∷◌, ap, ◌∙◌, arith}
-use Rattle.mt_base.specs.declared.widths.Width.{Width}
-use Rattle.mt_layout.specs.declared.names.RowKind.TheVariants.{Gapped}
-use Rattle.mt_layout.specs.Sizes.{slots_of}
-use Rattle.mt_path.proofs.Kept.{tree_kept}
-use Rattle.mt_path.proofs.Loads.{reads_more}
-use Rattle.mt_rows.specs.Sheet.{Rooted}
-use Rattle.mt_gap.specs.declared.children.Child.{Child}
-use Rattle.mt_gap.specs.Slots.{child_in}
+use Rattle.mt_gap.proofs.Prelude.{◌≡◌, ◌<◌, ◌++◌, List, [], ◌∷◌, ap, ◌∙◌, arith, Width, Gapped, slots_of, tree_kept, reads_more, Rooted, Child, child_in}
 use Rattle.mt_gap.proofs.RowReads.{same_read, read_on, read_last}
 use Rattle.mt_gap.proofs.children.load_children.Goals as goal
 

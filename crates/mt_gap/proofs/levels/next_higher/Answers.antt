@@ -1,8 +1,4 @@
-use Rattle.std.proofs.Common.{rules, length, take, sym, ap, ◌∙◌, subst, ◌≤◌}
-use Rattle.std.specs.Prelude.{slice_index_or}
-use Rattle.mt_rows.specs.Sheet.{Rooted}
-use Rattle.mt_gap.specs.Children.{children_in}
-use Rattle.mt_gap.specs.Narrow.{narrow_up}
+use Rattle.mt_gap.proofs.Prelude.{rules, length, take, sym, ap, ◌∙◌, subst, ◌≤◌, slice_index_or, Rooted, children_in, narrow_up}
 use Rattle.mt_gap.proofs.ChildLists.{no_child}
 use Rattle.mt_gap.proofs.LevelLoops.{tree_loaded, loaded_next, higher_room, higher_on}
 use Rattle.mt_gap.proofs.levels.next_higher.Goals as goal

@@ -1,4 +1,4 @@
-use Rattle.mt_gap.specs.Descents.{LoadedUpTo}
+use Rattle.mt_gap.proofs.Prelude.{LoadedUpTo}
 use Rattle.mt_gap.proofs.LevelLoops.{AskedHigher}
 use Rattle.mt_gap.proofs.levels.next_higher.Given as goal
 

@@ -1,8 +1,4 @@
-use Rattle.std.proofs.Common.{◌+◌, ◌≤◌, ◌++◌, length, sym, ap, ◌∙◌, subst, arith}
-use Rattle.std.specs.Prelude.{slice_index_or}
-use Rattle.mt_rows.specs.Sheet.{Rooted}
-use Rattle.mt_gap.specs.Children.{children_in}
-use Rattle.mt_gap.specs.Narrow.{narrow, has_sure}
+use Rattle.mt_gap.proofs.Prelude.{◌+◌, ◌≤◌, ◌++◌, length, sym, ap, ◌∙◌, subst, arith, slice_index_or, Rooted, children_in, narrow, has_sure}
 use Rattle.mt_gap.proofs.ChildLists.{no_child}
 use Rattle.mt_gap.proofs.LevelLoops.{tree_loaded, loaded_next, loaded_few, lower_room, lower_stops, lower_on}
 use Rattle.mt_gap.proofs.levels.next_lower.Goals as goal

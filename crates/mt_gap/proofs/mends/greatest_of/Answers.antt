@@ -1,14 +1,4 @@
-use Rattle.std.proofs.Common.{◌≡◌, ◌+◌, max, suc, refl, rules, sym, ap, ◌∙◌, arith}
-use Rattle.mt_base.specs.declared.widths.Width.{Width}
-use Rattle.mt_base.specs.Width.{columns}
-use Rattle.mt_layout.specs.declared.names.RowKind.TheVariants.{Gapped}
-use Rattle.mt_layout.specs.Sizes.{slots_of}
-use Rattle.mt_layout.proofs.RowSizes.{slots_of-columns}
-use Rattle.mt_path.proofs.Kept.{place_kept, tree_kept}
-use Rattle.mt_path.proofs.Loads.{no_reads, reads_more, reads_up, one_read}
-use Rattle.mt_rows.specs.Sheet.{Rooted}
-use Rattle.mt_gap.specs.Mending.{most_gap}
-use Rattle.mt_gap.specs.Slots.{gap_in}
+use Rattle.mt_gap.proofs.Prelude.{◌≡◌, ◌+◌, max, suc, refl, rules, sym, ap, ◌∙◌, arith, Width, columns, Gapped, slots_of, slots_of-columns, place_kept, tree_kept, no_reads, reads_more, reads_up, one_read, Rooted, most_gap, gap_in}
 use Rattle.mt_gap.proofs.mends.greatest_of.Goals as goal
 
 pub loop-slot-init : goal.loop-slot-init

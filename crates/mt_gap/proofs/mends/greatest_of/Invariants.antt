@@ -1,6 +1,4 @@
-use Rattle.std.specs.Prelude.{◌≡◌}
-use Rattle.mt_rows.specs.Sheet.{ReadsUpTo}
-use Rattle.mt_gap.specs.Mending.{most_gap}
+use Rattle.mt_gap.proofs.Prelude.{◌≡◌, ReadsUpTo, most_gap}
 use Rattle.mt_gap.proofs.mends.greatest_of.Given as goal
 
 abbrev pub invariant-loop-slot : goal.invariant-loop-slot

@@ -1,15 +1,4 @@
-use Rattle.std.proofs.Common.{◌≡◌, ℕ, ◌^◌, ◌<◌, ◌≤◌, List, max, rules, sym, ap, ◌∙◌, subst, arith}
-use Rattle.std.specs.List.{AllByRecursion}
-use Rattle.mt_base.specs.declared.widths.Width.{Width}
-use Rattle.mt_layout.specs.declared.names.RowKind.TheVariants.{Leaf}
-use Rattle.mt_layout.specs.declared.spans.Span.{Span}
-use Rattle.mt_layout.specs.Sizes.{slots_of}
-use Rattle.mt_layout.specs.Spans.{hole_length, longest_in}
-use Rattle.mt_path.proofs.Kept.{tree_kept}
-use Rattle.mt_path.proofs.Loads.{reads_more, one_read}
-use Rattle.mt_rows.specs.Sheet.{Rooted}
-use Rattle.mt_gap.specs.declared.children.Child.{Child}
-use Rattle.mt_gap.specs.Slots.{child_in, word_in}
+use Rattle.mt_gap.proofs.Prelude.{◌≡◌, ℕ, ◌^◌, ◌<◌, ◌≤◌, List, max, rules, sym, ap, ◌∙◌, subst, arith, AllByRecursion, Width, Leaf, Span, slots_of, hole_length, longest_in, tree_kept, reads_more, one_read, Rooted, Child, child_in, word_in}
 use Rattle.mt_gap.proofs.ChildLists.{spans, spans_are}
 use Rattle.mt_gap.proofs.RowReads.{same_read, read_on, read_last, read_part, read_all}
 use Rattle.mt_gap.proofs.Asking.{LongestIs, longest_on, hole_fits, child_rises}

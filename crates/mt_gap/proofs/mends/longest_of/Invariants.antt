@@ -1,4 +1,4 @@
-use Rattle.mt_layout.specs.declared.names.RowKind.TheVariants.{Leaf}
+use Rattle.mt_gap.proofs.Prelude.{Leaf}
 use Rattle.mt_gap.proofs.Asking.{LongestIs}
 use Rattle.mt_gap.proofs.RowReads.{IsReadTo}
 use Rattle.mt_gap.proofs.mends.longest_of.Given as goal

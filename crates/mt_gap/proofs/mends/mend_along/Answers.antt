@@ -1,12 +1,4 @@
-use Rattle.std.proofs.Common.{◌≡◌, ◌<◌, ◌-◌, ℕ, IsTrue, List, Some, length, sym, subst, rules, arith}
-use Rattle.mt_layout.specs.declared.names.RowKind.TheVariants.{Gapped}
-use Rattle.mt_layout.specs.Columns.{gap_column}
-use Rattle.mt_layout.specs.Rows.{named_kind}
-use Rattle.mt_layout.specs.Sizes.{slots_of}
-use Rattle.mt_path.specs.declared.paths.PathStep.{PathStep}
-use Rattle.mt_path.specs.Paths.{step_at}
-use Rattle.mt_rows.specs.Sheet.{MayTend, tended}
-use Rattle.mt_gap.specs.Mending.{MayMend, IsMended}
+use Rattle.mt_gap.proofs.Prelude.{◌≡◌, ◌<◌, ◌-◌, ℕ, IsTrue, List, Some, length, sym, subst, rules, arith, Gapped, gap_column, named_kind, slots_of, PathStep, step_at, MayTend, tended, MayMend, IsMended}
 use Rattle.mt_gap.proofs.Along.{HasMendedOn, level_within, words_on, may_mend_on, mended_on, spans_on, leaf_below, first_slot, first_tend, told_first}
 use Rattle.mt_gap.proofs.MendWay.{end_way, nothing_to_mend, spans_loaded}
 use Rattle.mt_gap.proofs.mends.mend_along.Goals as goal

@@ -1,6 +1,4 @@
-use Rattle.std.proofs.Common.{ℕ, ◌-◌}
-use Rattle.mt_layout.specs.declared.names.RowKind.TheVariants.{Gapped}
-use Rattle.mt_path.specs.Paths.{step_at}
+use Rattle.mt_gap.proofs.Prelude.{ℕ, ◌-◌, Gapped, step_at}
 use Rattle.mt_gap.proofs.Along.{HasMendedOn}
 use Rattle.mt_gap.proofs.mends.mend_along.Given as goal
 

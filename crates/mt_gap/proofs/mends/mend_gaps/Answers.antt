@@ -1,7 +1,4 @@
-use Rattle.std.proofs.Common.{◌≡◌, IsTrue, Some, sym, subst, rules, arith}
-use Rattle.mt_layout.specs.declared.names.RowKind.TheVariants.{Gapped}
-use Rattle.mt_layout.specs.Rows.{named_kind}
-use Rattle.mt_gap.specs.Mended.{HasMendedRows}
+use Rattle.mt_gap.proofs.Prelude.{◌≡◌, IsTrue, Some, sym, subst, rules, arith, Gapped, named_kind, HasMendedRows}
 use Rattle.mt_gap.proofs.MendWay.{spans_loaded}
 use Rattle.mt_gap.proofs.MendGaps.{begin_rows, end_rows, end_row_spans, mended_below, no_rows_to_mend}
 use Rattle.mt_gap.proofs.mends.mend_gaps.Goals as goal

@@ -1,4 +1,4 @@
-use Rattle.mt_gap.specs.Mended.{HasMendedRows}
+use Rattle.mt_gap.proofs.Prelude.{HasMendedRows}
 use Rattle.mt_gap.proofs.mends.mend_gaps.Given as goal
 
 abbrev pub invariant-loop-level : goal.invariant-loop-level

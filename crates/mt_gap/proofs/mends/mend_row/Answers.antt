@@ -1,13 +1,4 @@
-use Rattle.std.proofs.Common.{◌≢◌, ◌<◌, None, List, length, sym, ap, ◌∙◌, subst, arith}
-use Rattle.std.specs.Prelude.{slice_index_or}
-use Rattle.mt_path.specs.declared.paths.PathStep.{PathStep}
-use Rattle.mt_path.specs.Paths.{step_at}
-use Rattle.mt_layout.specs.declared.names.RowKind.TheVariants.{Gapped}
-use Rattle.mt_layout.specs.Rows.{named_kind}
-use Rattle.mt_rows.specs.Sheet.{IsPlace}
-use Rattle.mt_rows.specs.Spans.{row_spans}
-use Rattle.mt_gap.specs.declared.children.Child.{Child}
-use Rattle.mt_gap.specs.Mending.{MayMend, IsMended}
+use Rattle.mt_gap.proofs.Prelude.{◌≢◌, ◌<◌, None, List, length, sym, ap, ◌∙◌, subst, arith, slice_index_or, PathStep, step_at, Gapped, named_kind, IsPlace, row_spans, Child, MayMend, IsMended}
 use Rattle.mt_gap.proofs.ChildLists.{no_child}
 use Rattle.mt_gap.proofs.MendGaps.{above, above_place, still_mended, children_are, child_named, may_mend_child, child_mended, children_stay, children_mended, step_to}
 use Rattle.mt_gap.proofs.mends.mend_row.Goals as goal

@@ -1,8 +1,4 @@
-use Rattle.std.proofs.Common.{◌≡◌, ◌+◌}
-use Rattle.mt_layout.specs.declared.names.RowKind.TheVariants.{Gapped}
-use Rattle.mt_rows.specs.Sheet.{Sheet}
-use Rattle.mt_rows.specs.Spans.{row_spans}
-use Rattle.mt_gap.specs.Mended.{HasMendedRows}
+use Rattle.mt_gap.proofs.Prelude.{◌≡◌, ◌+◌, Gapped, Sheet, row_spans, HasMendedRows}
 use Rattle.mt_gap.proofs.ChildLists.{spans}
 use Rattle.mt_gap.proofs.mends.mend_row.Given as goal
 

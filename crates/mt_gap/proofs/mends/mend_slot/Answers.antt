@@ -1,10 +1,4 @@
-use Rattle.std.proofs.Common.{◌<◌, sym, ap, subst}
-use Rattle.mt_base.specs.Width.{columns}
-use Rattle.mt_layout.specs.declared.names.RowKind.TheVariants.{Gapped}
-use Rattle.mt_layout.specs.Columns.{gap_column}
-use Rattle.mt_layout.specs.Sizes.{slots_of}
-use Rattle.mt_path.proofs.Kept.{tree_kept}
-use Rattle.mt_rows.specs.Sheet.{Rooted}
+use Rattle.mt_gap.proofs.Prelude.{◌<◌, sym, ap, subst, columns, Gapped, gap_column, slots_of, tree_kept, Rooted}
 use Rattle.mt_gap.proofs.Tells.{may_tend, is_mended}
 use Rattle.mt_gap.proofs.mends.mend_slot.Goals as goal
 

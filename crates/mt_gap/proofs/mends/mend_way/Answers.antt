@@ -1,9 +1,4 @@
-use Rattle.std.proofs.Common.{◌≡◌, ◌<◌, ◌-◌, ℕ, IsTrue, List, Some, length, sym, subst, rules, arith}
-use Rattle.mt_layout.specs.declared.names.RowKind.TheVariants.{Leaf, Gapped}
-use Rattle.mt_layout.specs.Rows.{named_kind}
-use Rattle.mt_path.specs.declared.paths.PathStep.{PathStep}
-use Rattle.mt_path.specs.Paths.{step_at}
-use Rattle.mt_gap.specs.Mending.{MayMend, IsMended}
+use Rattle.mt_gap.proofs.Prelude.{◌≡◌, ◌<◌, ◌-◌, ℕ, IsTrue, List, Some, length, sym, subst, rules, arith, Leaf, Gapped, named_kind, PathStep, step_at, MayMend, IsMended}
 use Rattle.mt_gap.proofs.Along.{HasMendedOn, level_within, words_on, may_mend_on, mended_on, begin_on, end_on, spans_on}
 use Rattle.mt_gap.proofs.MendWay.{nothing_to_mend, spans_loaded}
 use Rattle.mt_gap.proofs.mends.mend_way.Goals as goal

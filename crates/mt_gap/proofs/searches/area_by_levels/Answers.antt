@@ -1,8 +1,4 @@
-use Rattle.std.proofs.Common.{◌≤◌, sym, ap, subst}
-use Rattle.mt_base.specs.declared.kinds.Kind.{Kind}
-use Rattle.mt_base.specs.Width.{greatest}
-use Rattle.mt_rows.specs.Publish.{IsTreeOf}
-use Rattle.mt_rows.specs.Sheet.{Rooted, Sheet}
+use Rattle.mt_gap.proofs.Prelude.{◌≤◌, sym, ap, subst, Kind, greatest, IsTreeOf, Rooted, Sheet}
 use Rattle.mt_gap.proofs.OneWay.{some_kind, low_within}
 use Rattle.mt_gap.proofs.searches.area_by_levels.Goals as goal
 

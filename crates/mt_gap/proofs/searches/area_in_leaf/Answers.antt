@@ -1,11 +1,4 @@
-use Rattle.std.proofs.Common.{◌≤◌, sym, ap, ◌∙◌, subst}
-use Rattle.mt_base.specs.declared.kinds.Kind.{Kind}
-use Rattle.mt_base.specs.Width.{greatest}
-use Rattle.mt_rows.specs.Publish.{IsTreeOf}
-use Rattle.mt_rows.specs.Sheet.{Rooted, Sheet}
-use Rattle.mt_path.specs.Handles.{handle_in}
-use Rattle.mt_path.specs.Paths.{path_in}
-use Rattle.mt_path.specs.Walks.{EntersLeaf}
+use Rattle.mt_gap.proofs.Prelude.{◌≤◌, sym, ap, ◌∙◌, subst, Kind, greatest, IsTreeOf, Rooted, Sheet, handle_in, path_in, EntersLeaf}
 use Rattle.mt_gap.proofs.OneWay.{some_kind, start_within, enters_leaf, is_area}
 use Rattle.mt_gap.proofs.searches.area_in_leaf.Goals as goal
 

@@ -1,11 +1,4 @@
-use Rattle.std.proofs.Common.{sym, ap, ◌∙◌, subst, ◌+◌}
-use Rattle.std.specs.Prelude.{slice_index_or}
-use Rattle.std.specs.List.{flat_map}
-use Rattle.mt_base.specs.Holes.{highest_in}
-use Rattle.mt_rows.specs.Sheet.{Rooted}
-use Rattle.mt_gap.specs.Below.{child_hole}
-use Rattle.mt_gap.specs.Children.{children_in}
-use Rattle.mt_gap.specs.Descents.{picked}
+use Rattle.mt_gap.proofs.Prelude.{sym, ap, ◌∙◌, subst, ◌+◌, slice_index_or, flat_map, highest_in, Rooted, child_hole, children_in, picked}
 use Rattle.mt_gap.proofs.ChildLists.{no_child}
 use Rattle.mt_gap.proofs.LevelLoops.{FoundHigh, tree_loaded, loaded_next, high_one}
 use Rattle.mt_gap.proofs.searches.highest_in_leaves.Goals as goal

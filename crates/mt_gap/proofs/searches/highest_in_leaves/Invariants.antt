@@ -1,4 +1,4 @@
-use Rattle.mt_gap.specs.Descents.{LoadedUpTo}
+use Rattle.mt_gap.proofs.Prelude.{LoadedUpTo}
 use Rattle.mt_gap.proofs.LevelLoops.{FoundHigh}
 use Rattle.mt_gap.proofs.searches.highest_in_leaves.Given as goal
 

@@ -1,13 +1,4 @@
-use Rattle.std.proofs.Common.{All, List, length, sym, ap, ◌∙◌, subst}
-use Rattle.mt_base.specs.Holes.{low_to, lowest_in}
-use Rattle.mt_base.specs.Width.{greatest}
-use Rattle.std.specs.List.{flat_map}
-use Rattle.mt_rows.specs.Publish.{map_by}
-use Rattle.mt_rows.specs.Sheet.{Rooted}
-use Rattle.mt_gap.specs.declared.children.Child.{Child}
-use Rattle.mt_gap.specs.Below.{child_hole}
-use Rattle.mt_gap.specs.Children.{children_below}
-use Rattle.mt_gap.specs.Descents.{LoadedUpTo, MayLoad, picked, place_in}
+use Rattle.mt_gap.proofs.Prelude.{All, List, length, sym, ap, ◌∙◌, subst, low_to, lowest_in, greatest, flat_map, map_by, Rooted, Child, child_hole, children_below, LoadedUpTo, MayLoad, picked, place_in}
 use Rattle.mt_gap.proofs.Descents.{leaves_may_load, place_found, few_steps, stepped_reads, same_before, low_in_tree}
 use Rattle.mt_gap.proofs.searches.lowest.Goals as goal
 

@@ -1,11 +1,4 @@
-use Rattle.std.proofs.Common.{◌+◌, length, sym, ap, ◌∙◌, arith}
-use Rattle.std.specs.Prelude.{slice_index_or}
-use Rattle.std.specs.List.{flat_map}
-use Rattle.mt_base.specs.Holes.{lowest_in}
-use Rattle.mt_rows.specs.Sheet.{Rooted}
-use Rattle.mt_gap.specs.Below.{child_hole}
-use Rattle.mt_gap.specs.Children.{children_in}
-use Rattle.mt_gap.specs.Descents.{picked}
+use Rattle.mt_gap.proofs.Prelude.{◌+◌, length, sym, ap, ◌∙◌, arith, slice_index_or, flat_map, lowest_in, Rooted, child_hole, children_in, picked}
 use Rattle.mt_gap.proofs.ChildLists.{no_child}
 use Rattle.mt_gap.proofs.LevelLoops.{tree_loaded, loaded_next, loaded_few, low_found, low_not_found}
 use Rattle.mt_gap.proofs.searches.lowest_in_leaves.Goals as goal

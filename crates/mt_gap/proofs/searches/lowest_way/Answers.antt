@@ -1,8 +1,4 @@
-use Rattle.std.proofs.Common.{rules, sym, ap, ◌∙◌}
-use Rattle.mt_base.specs.Holes.{low_to}
-use Rattle.mt_base.specs.Width.{greatest}
-use Rattle.mt_rows.specs.Publish.{map_by}
-use Rattle.mt_rows.specs.Sheet.{Rooted}
+use Rattle.mt_gap.proofs.Prelude.{rules, sym, ap, ◌∙◌, low_to, greatest, map_by, Rooted}
 use Rattle.mt_gap.proofs.Descents.{low_in_tree}
 use Rattle.mt_gap.proofs.OneWay.{same_begin, same_end, few_nowhere, few_leaf, few_levels}
 use Rattle.mt_gap.proofs.searches.lowest_way.Goals as goal

@@ -1,9 +1,4 @@
-use Rattle.std.proofs.Common.{◌≤◌, All, IsTrue, List, [], length, take, sym, ap, ◌∙◌, subst, rules}
-use Rattle.mt_base.specs.Holes.{highest_in}
-use Rattle.mt_gap.specs.declared.children.Child.{Child}
-use Rattle.mt_gap.specs.Children.{children_below}
-use Rattle.mt_gap.specs.Descents.{LoadedUpTo, MayLoad, AreLeaves, place_in}
-use Rattle.mt_gap.specs.Narrow.{narrow_up}
+use Rattle.mt_gap.proofs.Prelude.{◌≤◌, All, IsTrue, List, [], length, take, sym, ap, ◌∙◌, subst, rules, highest_in, Child, children_below, LoadedUpTo, MayLoad, AreLeaves, place_in, narrow_up}
 use Rattle.mt_gap.proofs.Descents.{all_may_load, arrives, come_root, high_come, come_high_few}
 use Rattle.mt_gap.proofs.searches.to_highest.Goals as goal
 

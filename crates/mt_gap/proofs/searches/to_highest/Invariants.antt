@@ -1,5 +1,4 @@
-use Rattle.mt_base.specs.Holes.{highest_in}
-use Rattle.mt_gap.specs.Descents.{place_in}
+use Rattle.mt_gap.proofs.Prelude.{highest_in, place_in}
 use Rattle.mt_gap.proofs.Descents.{HasCome}
 use Rattle.mt_gap.proofs.searches.to_highest.Given as goal
 

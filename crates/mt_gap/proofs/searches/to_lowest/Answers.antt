@@ -1,9 +1,4 @@
-use Rattle.std.proofs.Common.{◌≤◌, All, IsTrue, List, length, sym, ap, ◌∙◌, subst, rules}
-use Rattle.mt_base.specs.Holes.{lowest_in}
-use Rattle.mt_gap.specs.declared.children.Child.{Child}
-use Rattle.mt_gap.specs.Children.{children_below}
-use Rattle.mt_gap.specs.Descents.{LoadedUpTo, MayLoad, AreLeaves, place_in}
-use Rattle.mt_gap.specs.Narrow.{narrow}
+use Rattle.mt_gap.proofs.Prelude.{◌≤◌, All, IsTrue, List, length, sym, ap, ◌∙◌, subst, rules, lowest_in, Child, children_below, LoadedUpTo, MayLoad, AreLeaves, place_in, narrow}
 use Rattle.mt_gap.proofs.Descents.{all_may_load, arrives, come_root, low_come, come_low_few}
 use Rattle.mt_gap.proofs.searches.to_lowest.Goals as goal
 

@@ -1,7 +1,5 @@
 use Rattle.mt_gap.proofs.OneWay.{goes_root, ends_in_leaf, may_load_it, goes_nowhere, goes_below}
-use Rattle.std.proofs.Common.{ℕ, subst, sym}
-use Rattle.mt_layout.specs.declared.names.RowKind.TheVariants.{Gapped}
-use Rattle.mt_rows.specs.Sheet.{IsPlace}
+use Rattle.mt_gap.proofs.Prelude.{ℕ, subst, sym, Gapped, IsPlace}
 use Rattle.mt_gap.proofs.ways.go_one_way.Goals as goal
 
 pub loop-init : goal.loop-init

@@ -1,13 +1,4 @@
-use Rattle.std.proofs.Common.{◌≡◌, ◌<◌, [], ◌∷◌, ap, ◌∙◌, arith}
-use Rattle.mt_base.specs.declared.widths.Width.{Width}
-use Rattle.mt_layout.specs.declared.names.RowKind.TheVariants.{Gapped}
-use Rattle.mt_layout.specs.Sizes.{slots_of}
-use Rattle.mt_path.proofs.Kept.{tree_kept}
-use Rattle.mt_path.proofs.Loads.{reads_more}
-use Rattle.mt_rows.specs.Sheet.{Rooted}
-use Rattle.mt_gap.specs.Slots.{child_in}
-use Rattle.mt_gap.specs.Narrow.{has_sure}
-use Rattle.mt_gap.specs.Ways.{with_room}
+use Rattle.mt_gap.proofs.Prelude.{◌≡◌, ◌<◌, [], ◌∷◌, ap, ◌∙◌, arith, Width, Gapped, slots_of, tree_kept, reads_more, Rooted, child_in, has_sure, with_room}
 use Rattle.mt_gap.proofs.RowReads.{same_read, read_on, read_last, read_part, read_all}
 use Rattle.mt_gap.proofs.OneWay.{HasSeen, seen_on, seen_stops, seen_all}
 use Rattle.mt_gap.proofs.ways.look_below.Goals as goal

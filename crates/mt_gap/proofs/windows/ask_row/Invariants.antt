@@ -1,4 +1,4 @@
-use Rattle.mt_layout.specs.declared.names.RowKind.TheVariants.{Gapped}
+use Rattle.mt_gap.proofs.Prelude.{Gapped}
 use Rattle.mt_gap.proofs.Asking.{HasAsked}
 use Rattle.mt_gap.proofs.RowReads.{IsReadTo}
 use Rattle.mt_gap.proofs.windows.ask_row.Given as goal

@@ -1,12 +1,4 @@
-use Rattle.std.proofs.Common.{◌≡◌, ◌<◌, ◌≤◌, length, sym, ap, ◌∙◌, subst, arith}
-use Rattle.mt_base.specs.declared.widths.Width.{Width}
-use Rattle.mt_layout.specs.declared.names.RowKind.TheVariants.{Gapped}
-use Rattle.mt_layout.specs.Sizes.{slots_of}
-use Rattle.mt_path.proofs.Kept.{tree_kept}
-use Rattle.mt_path.proofs.Loads.{reads_more, reads_up}
-use Rattle.mt_rows.specs.Sheet.{Rooted}
-use Rattle.mt_gap.specs.Slots.{child_in}
-use Rattle.mt_gap.specs.Narrow.{next_up, narrow_up}
+use Rattle.mt_gap.proofs.Prelude.{◌≡◌, ◌<◌, ◌≤◌, length, sym, ap, ◌∙◌, subst, arith, Width, Gapped, slots_of, tree_kept, reads_more, reads_up, Rooted, child_in, next_up, narrow_up}
 use Rattle.mt_gap.proofs.RowReads.{same_read, read_on, read_last, read_part, read_all}
 use Rattle.mt_gap.proofs.Asking.{HasAskedUp, up_room, up_on}
 use Rattle.mt_gap.proofs.windows.ask_row_up.Goals as goal

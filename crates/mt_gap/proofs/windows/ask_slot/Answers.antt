@@ -1,7 +1,4 @@
-use Rattle.std.proofs.Common.{[], ◌∷◌, refl, ◌∙◌}
-use Rattle.mt_layout.specs.declared.names.RowKind.TheVariants.{Gapped}
-use Rattle.mt_gap.specs.Slots.{child_in}
-use Rattle.mt_gap.specs.Narrow.{may_have}
+use Rattle.mt_gap.proofs.Prelude.{[], ◌∷◌, refl, ◌∙◌, Gapped, child_in, may_have}
 use Rattle.mt_gap.proofs.Asking.{one_asked, room_some}
 use Rattle.mt_gap.proofs.windows.ask_slot.Goals as goal
 

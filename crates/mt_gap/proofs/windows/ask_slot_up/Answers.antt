@@ -1,8 +1,4 @@
-use Rattle.std.proofs.Common.{◌++◌, [], ◌∷◌, sym, ◌∙◌}
-use Rattle.std.specs.Prelude.{if◌then◌else◌}
-use Rattle.mt_layout.specs.declared.names.RowKind.TheVariants.{Gapped}
-use Rattle.mt_gap.specs.Slots.{child_in}
-use Rattle.mt_gap.specs.Narrow.{may_have}
+use Rattle.mt_gap.proofs.Prelude.{◌++◌, [], ◌∷◌, sym, ◌∙◌, if◌then◌else◌, Gapped, child_in, may_have}
 use Rattle.mt_gap.proofs.Asking.{one_up, one_up_room, room_some}
 use Rattle.mt_gap.proofs.windows.ask_slot_up.Goals as goal
 

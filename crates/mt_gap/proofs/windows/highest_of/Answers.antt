@@ -1,12 +1,4 @@
-use Rattle.std.proofs.Common.{◌≡◌, ℕ, ◌<◌, ap, ◌∙◌, arith}
-use Rattle.mt_base.specs.declared.widths.Width.{Width}
-use Rattle.mt_base.specs.Holes.{kept, highest_in}
-use Rattle.mt_layout.specs.Sizes.{slots_of}
-use Rattle.mt_path.proofs.Kept.{tree_kept}
-use Rattle.mt_path.proofs.Loads.{reads_more, reads_up, one_read}
-use Rattle.mt_rows.specs.Sheet.{Rooted}
-use Rattle.mt_gap.specs.Below.{leaf_hole}
-use Rattle.mt_gap.specs.Slots.{child_in, word_in}
+use Rattle.mt_gap.proofs.Prelude.{◌≡◌, ℕ, ◌<◌, ap, ◌∙◌, arith, Width, kept, highest_in, slots_of, tree_kept, reads_more, reads_up, one_read, Rooted, leaf_hole, child_in, word_in}
 use Rattle.mt_gap.proofs.RowReads.{loads_for, two_loads_of, same_read, read_on, read_last, read_all}
 use Rattle.mt_gap.proofs.Asking.{HighIs, high_on, high_of_all}
 use Rattle.mt_gap.proofs.windows.highest_of.Goals as goal

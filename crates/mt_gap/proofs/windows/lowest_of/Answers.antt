@@ -1,12 +1,4 @@
-use Rattle.std.proofs.Common.{◌≡◌, ℕ, ◌<◌, sym, ap, ◌∙◌, arith}
-use Rattle.mt_base.specs.declared.widths.Width.{Width}
-use Rattle.mt_base.specs.Holes.{kept, lowest_in}
-use Rattle.mt_layout.specs.Sizes.{slots_of}
-use Rattle.mt_path.proofs.Kept.{tree_kept}
-use Rattle.mt_path.proofs.Loads.{reads_more, reads_up, one_read}
-use Rattle.mt_rows.specs.Sheet.{Rooted}
-use Rattle.mt_gap.specs.Below.{leaf_hole}
-use Rattle.mt_gap.specs.Slots.{child_in, word_in}
+use Rattle.mt_gap.proofs.Prelude.{◌≡◌, ℕ, ◌<◌, sym, ap, ◌∙◌, arith, Width, kept, lowest_in, slots_of, tree_kept, reads_more, reads_up, one_read, Rooted, leaf_hole, child_in, word_in}
 use Rattle.mt_gap.proofs.RowReads.{loads_for, two_loads_of, same_read, read_on, read_last, read_part, read_all}
 use Rattle.mt_gap.proofs.Asking.{NoneLow, none_low_on, low_here, low_nowhere}
 use Rattle.mt_gap.proofs.windows.lowest_of.Goals as goal

@@ -1,9 +1,4 @@
-use Rattle.std.proofs.Common.{◌≡◌, ℕ, Some, true, false, refl, sym, ap, ◌∙◌}
-use Rattle.mt_layout.specs.declared.names.RowKind.TheVariants.{Gapped}
-use Rattle.mt_rows.specs.Sheet.{Rooted, Sheet}
-use Rattle.mt_gap.specs.declared.children.Child.{Child}
-use Rattle.mt_gap.specs.Slots.{child_in, word_in, gap_in}
-use Rattle.mt_gap.specs.Narrow.{may_have}
+use Rattle.mt_gap.proofs.Prelude.{◌≡◌, ℕ, Some, true, false, refl, sym, ap, ◌∙◌, Gapped, Rooted, Sheet, Child, child_in, word_in, gap_in, may_have}
 use Rattle.mt_gap.proofs.windows.room_in_slot.Goals as goal
 
 pub returns-then-not-may_have-clause-child : goal.returns-then-not-may_have-clause-child

@@ -1,5 +1,4 @@
-use Rattle.std.proofs.Common.{◌≡◌, ◌+◌, ◌*◌, suc, [], ◌∷◌, ◌++◌, sym, ap, ◌∙◌, arith}
-use Rattle.mt_image.specs.Reading.{number_at, numbers_from}
+use Rattle.mt_image.proofs.Prelude.{◌≡◌, ◌+◌, ◌*◌, suc, [], ◌∷◌, ◌++◌, sym, ap, ◌∙◌, arith, number_at, numbers_from}
 use Rattle.mt_image.proofs.MoreNumbers.{no_numbers, number_more}
 use Rattle.mt_image.proofs.bytes.read_numbers.Goals as goal
 

@@ -1,12 +1,4 @@
-use Rattle.std.proofs.Common.{Err, ◌≡◌, Some, None, Ok, ap, subst, ◌∙◌}
-use Rattle.mt_base.specs.Width.{first_row}
-use Rattle.mt_rows.specs.Memory.{sheet_in}
-use Rattle.std.proofs.lemmas.Result.{err_from_is_err_and}
-use Rattle.mt_check.specs.Check.{checked}
-use Rattle.mt_rows.specs.Sheet.{Rooted, Sheet}
-use Rattle.mt_rows.specs.Publish.{tree_as, with_published}
-use Rattle.mt_rows.specs.declared.rows.Place.TheVariants.{Root}
-use Rattle.mt_image.specs.Orders.{stray_from}
+use Rattle.mt_image.proofs.Prelude.{Err, ◌≡◌, Some, None, Ok, ap, subst, ◌∙◌, first_row, sheet_in, err_from_is_err_and, checked, Rooted, Sheet, tree_as, with_published, Root, stray_from}
 use Rattle.mt_image.proofs.Judged.{told_fault, told_walk}
 use Rattle.mt_image.proofs.reading.check_rows.Goals as goal
 

@@ -1,7 +1,4 @@
-use Rattle.std.proofs.Common.{ap, sym, ◌∙◌}
-use Rattle.std.proofs.lemmas.Result.{err_from_is_err_and}
-use Rattle.mt_rows.specs.Memory.{sheet_in}
-use Rattle.mt_rows.specs.Sheet.{Rooted, Sheet}
+use Rattle.mt_image.proofs.Prelude.{ap, sym, ◌∙◌, err_from_is_err_and, sheet_in, Rooted, Sheet}
 use Rattle.mt_image.proofs.Assembled.{image_is, no_image_is, still_made, tree_is, words_few, words_whole}
 use Rattle.mt_image.proofs.reading.read_image.Goals as goal
 

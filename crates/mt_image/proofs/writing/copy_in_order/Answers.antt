@@ -1,9 +1,4 @@
-use Rattle.std.proofs.Common.{◌^◌, ◌<◌, length, ap, subst, ◌∙◌, arith}
-use Rattle.std.specs.List.{AllByRecursion}
-use Rattle.mt_free.specs.Book.{Book}
-use Rattle.mt_rows.specs.Memory.{sheet_in}
-use Rattle.mt_rows.specs.PlainWhole.{rows_whole}
-use Rattle.mt_dup.proofs.NewTables.{new_long}
+use Rattle.mt_image.proofs.Prelude.{◌^◌, ◌<◌, length, ap, subst, ◌∙◌, arith, AllByRecursion, Book, sheet_in, rows_whole, new_long}
 use Rattle.mt_image.proofs.Written.{few_live, ordered}
 use Rattle.mt_image.proofs.writing.copy_in_order.Goals as goal
 

@@ -1,5 +1,4 @@
-use Rattle.std.proofs.Common.{◌++◌, codes, refl, ap, ◌∙◌}
-use Rattle.mt_base.specs.Width.{columns}
+use Rattle.mt_image.proofs.Prelude.{◌++◌, codes, refl, ap, ◌∙◌, columns}
 use Rattle.mt_image.proofs.Written.{all_written}
 use Rattle.mt_image.proofs.writing.image_bytes.Goals as goal
 

@@ -1,7 +1,4 @@
-use Rattle.std.proofs.Common.{length, ap, ◌∙◌, sym}
-use Rattle.mt_check.specs.declared.faults.Form.{Form}
-use Rattle.mt_rows.specs.Sheet.{Sheet}
-use Rattle.mt_rows.specs.Trees.{reached_in}
+use Rattle.mt_image.proofs.Prelude.{length, ap, ◌∙◌, sym, Form, Sheet, reached_in}
 use Rattle.mt_image.proofs.writing.write_image.Goals as goal
 
 pub copy_in_order-requires-clause-live : goal.copy_in_order-requires-clause-live

@@ -1,6 +1,5 @@
-use Rattle.std.proofs.Common.{ℕ, List, Global, IfNone, string_bytes, sym, subst}
+use Rattle.mt_judge.proofs.Prelude.{ℕ, List, Global, IfNone, string_bytes, sym, subst, AskRows}
 use Rattle.mt_judge.proofs.Pairs.{two_words}
-use Rattle.mt_judge.specs.Words.{AskRows}
 use Rattle.mt_judge.proofs.cuts.rows_of.Goals as goal
 
 pub returns-in-len2-clause-none : goal.returns-in-len2-clause-none

@@ -1,4 +1,4 @@
-use Rattle.std.proofs.Common.{◌≤◌}
+use Rattle.mt_judge.proofs.Prelude.{◌≤◌}
 use Rattle.mt_judge.proofs.forms.fault_of.Given as goal
 
 abbrev pub invariant-finds : goal.invariant-finds

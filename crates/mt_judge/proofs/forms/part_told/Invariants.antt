@@ -1,4 +1,4 @@
-use Rattle.std.proofs.Common.{◌-◌}
+use Rattle.mt_judge.proofs.Prelude.{◌-◌}
 use Rattle.mt_judge.proofs.Beginnings.{StopsWithin}
 use Rattle.mt_judge.proofs.forms.part_told.Given as goal
 

@@ -1,6 +1,4 @@
-use Rattle.std.proofs.Common.{sym, subst}
-use Rattle.mt_log.specs.declared.lines.Log.{Log}
-use Rattle.mt_log.specs.Trees.{IsReadable}
+use Rattle.mt_judge.proofs.Prelude.{sym, subst, Log, IsReadable}
 use Rattle.mt_judge.proofs.Beginnings.{readable_first}
 use Rattle.mt_judge.proofs.forms.read_first.Goals as goal
 

@@ -1,6 +1,4 @@
-use Rattle.std.proofs.Common.{List, Some, inr, subst}
-use Rattle.mt_told.specs.declared.told.Told.{Told}
-use Rattle.mt_judge.specs.Faults.{KeepsOrder}
+use Rattle.mt_judge.proofs.Prelude.{List, Some, inr, subst, Told, KeepsOrder}
 use Rattle.mt_judge.proofs.judging.fault_in.Goals as goal
 
 pub returns-in-Some : goal.returns-in-Some

@@ -1,5 +1,4 @@
-use Rattle.std.proofs.Common.{◌+◌, ◌-◌, ◌/◌, arith}
-use Rattle.std.proofs.lemmas.Bool.{iff_false}
+use Rattle.mt_judge.proofs.Prelude.{◌+◌, ◌-◌, ◌/◌, arith, iff_false}
 use Rattle.mt_judge.proofs.Firsts.{lies_within, phases_first}
 use Rattle.mt_judge.proofs.orders.first_out.Goals as goal
 

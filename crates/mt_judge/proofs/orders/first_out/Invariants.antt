@@ -1,4 +1,4 @@
-use Rattle.std.proofs.Common.{◌-◌}
+use Rattle.mt_judge.proofs.Prelude.{◌-◌}
 use Rattle.mt_judge.proofs.Firsts.{LiesWithin}
 use Rattle.mt_judge.proofs.orders.first_out.Given as goal
 

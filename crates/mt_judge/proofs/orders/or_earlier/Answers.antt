@@ -1,7 +1,5 @@
-use Rattle.std.proofs.Common.{◌≡◌, false, Option, IfSome, subst}
+use Rattle.mt_judge.proofs.Prelude.{◌≡◌, false, Option, IfSome, subst, is_of_order, FoundFault}
 use Rattle.mt_judge.proofs.Firsts.{told_earlier}
-use Rattle.mt_judge.specs.Faults.{is_of_order}
-use Rattle.mt_judge.specs.declared.causes.FoundFault.{FoundFault}
 use Rattle.mt_judge.proofs.orders.or_earlier.Goals as goal
 
 pub returns-in-Some : goal.returns-in-Some

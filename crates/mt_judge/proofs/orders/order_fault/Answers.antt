@@ -1,4 +1,4 @@
-use Rattle.std.proofs.Common.{◌∙◌}
+use Rattle.mt_judge.proofs.Prelude.{◌∙◌}
 use Rattle.mt_judge.proofs.Firsts.{first_told}
 use Rattle.mt_judge.proofs.orders.order_fault.Goals as goal
 

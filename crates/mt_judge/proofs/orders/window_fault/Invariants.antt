@@ -1,4 +1,4 @@
-use Rattle.mt_judge.specs.Faults.{KeepsOrder}
+use Rattle.mt_judge.proofs.Prelude.{KeepsOrder}
 use Rattle.mt_judge.proofs.orders.window_fault.Given as goal
 
 abbrev pub invariant-loop-tree : goal.invariant-loop-tree

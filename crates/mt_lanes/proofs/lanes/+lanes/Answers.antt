@@ -1,4 +1,4 @@
-use Rattle.mt_lanes.specs.Lanes.{RanSteps}
+use Rattle.mt_lanes.proofs.Prelude.{RanSteps}
 use Rattle.mt_lanes.proofs.Lined.{each_behind}
 use Rattle.mt_lanes.proofs.lanes.+lanes.Goals as goal
 

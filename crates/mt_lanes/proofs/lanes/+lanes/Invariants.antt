@@ -1,4 +1,4 @@
-use Rattle.std.proofs.Common.{◌+◌, ◌*◌, length}
+use Rattle.mt_lanes.proofs.Prelude.{◌+◌, ◌*◌, length}
 use Rattle.mt_lanes.proofs.lanes.+lanes.Given as goal
 
 abbrev pub decreases-run_beside-rest : goal.decreases-run_beside-rest

@@ -1,5 +1,4 @@
-use Rattle.std.proofs.Common.{◌≡◌, ◌<◌, ◌*◌, ℕ}
-use Rattle.mt_lanes.specs.Lanes.{Chain}
+use Rattle.mt_lanes.proofs.Prelude.{◌≡◌, ◌<◌, ◌*◌, ℕ, Chain}
 use Rattle.mt_lanes.proofs.lanes.run_lane.Given as goal
 
 abbrev pub invariant-loop-step : goal.invariant-loop-step

@@ -1,5 +1,4 @@
-use Rattle.std.proofs.Common.{◌≡◌, ◌+◌, ◌≤◌, max, drop}
-use Rattle.mt_layout.specs.Columns.{RiseFrom, longest_hole}
+use Rattle.mt_layout.proofs.Prelude.{◌≡◌, ◌+◌, ◌≤◌, max, drop, RiseFrom, longest_hole}
 use Rattle.mt_layout.proofs.items.gap_of.Given as goal
 
 abbrev pub invariant-loop-item : goal.invariant-loop-item

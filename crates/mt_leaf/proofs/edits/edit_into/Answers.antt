@@ -1,7 +1,4 @@
-use Rattle.std.proofs.Common.{◌≡◌, [], drop, take, fold, length, length-drop, ◌-◌, arith}
-use Rattle.std.proofs.lemmas.List.{take_all}
-use Rattle.mt_layout.specs.declared.items.Item.{Item}
-use Rattle.mt_leaf.specs.Places.{slot_above, with_joined, items_below}
+use Rattle.mt_leaf.proofs.Prelude.{◌≡◌, [], drop, take, fold, length, length-drop, ◌-◌, arith, take_all, Item, slot_above, with_joined, items_below}
 use Rattle.mt_leaf.proofs.EditSteps.{item_stored, pushed_edit, no_gaps-edit}
 use Rattle.mt_leaf.proofs.edits.edit_into.Goals as goal
 

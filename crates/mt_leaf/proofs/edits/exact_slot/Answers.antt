@@ -1,5 +1,4 @@
-use Rattle.std.proofs.Common.{sym, ◌∙◌}
-use Rattle.mt_layout.specs.Columns.{RiseFrom}
+use Rattle.mt_leaf.proofs.Prelude.{sym, ◌∙◌, RiseFrom}
 use Rattle.mt_leaf.proofs.ExactSlot.{none_reaches, exact, not_exact}
 use Rattle.mt_leaf.proofs.edits.exact_slot.Goals as goal
 use Rattle.mt_leaf.proofs.edits.exact_slot.Goals.{else-begin-first-via-then-begin-first+then-item-last+else-item-ne0, else-begin-first-via-then-begin-first+else-item-last, else-begin-first-via-else-begin-first}

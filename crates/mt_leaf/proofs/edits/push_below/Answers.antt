@@ -1,4 +1,4 @@
-use Rattle.std.proofs.Common.{◌<◌, length, arith}
+use Rattle.mt_leaf.proofs.Prelude.{◌<◌, length, arith}
 use Rattle.mt_leaf.proofs.EditSteps.{below_cut, reaching_some}
 use Rattle.mt_leaf.proofs.edits.push_below.Goals as goal
 

@@ -1,4 +1,4 @@
-use Rattle.std.proofs.lemmas.Bool.{iff_false}
+use Rattle.mt_leaf.proofs.Prelude.{iff_false}
 use Rattle.mt_leaf.proofs.Pushes.{hole_written, pushed}
 use Rattle.mt_leaf.proofs.edits.push_joined.Goals as goal
 use Rattle.mt_leaf.proofs.edits.push_joined.Goals.{else-item-eq0-via-then-item-eq0+else-ends_with_hole, else-item-eq0-via-else-item-eq0}

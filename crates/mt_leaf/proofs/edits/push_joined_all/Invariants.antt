@@ -1,5 +1,4 @@
-use Rattle.std.proofs.Common.{◌≡◌, ◌≤◌, ◌+◌, fold, length, take}
-use Rattle.mt_leaf.specs.Places.{with_joined}
+use Rattle.mt_leaf.proofs.Prelude.{◌≡◌, ◌≤◌, ◌+◌, fold, length, take, with_joined}
 use Rattle.mt_leaf.proofs.edits.push_joined_all.Given as goal
 
 abbrev pub invariant-loop-item : goal.invariant-loop-item

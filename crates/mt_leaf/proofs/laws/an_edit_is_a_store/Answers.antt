@@ -1,4 +1,4 @@
-use Rattle.mt_leaf.specs.Edits.{stored}
+use Rattle.mt_leaf.proofs.Prelude.{stored}
 use Rattle.mt_leaf.proofs.Joined.{apart_joined}
 use Rattle.mt_leaf.proofs.Stored.{ranges_edited, fills_edited, length_edited}
 use Rattle.mt_leaf.proofs.laws.an_edit_is_a_store.Goals as goal

@@ -1,5 +1,4 @@
-use Rattle.std.proofs.Common.{rules, nat_le, sym}
-use Rattle.std.proofs.lemmas.List.Sorted.{IsPartitionedBy-leb, IsPartitionPoint-from_clause}
+use Rattle.mt_leaf.proofs.Prelude.{rules, nat_le, sym, IsPartitionedBy-leb, IsPartitionPoint-from_clause}
 use Rattle.mt_leaf.proofs.Slots.{lasts_rise, partition_point_is}
 use Rattle.mt_leaf.proofs.places.slot_above.Goals as goal
 

@@ -1,5 +1,4 @@
-use Rattle.std.proofs.Common.{rules, nat_lt, sym}
-use Rattle.std.proofs.lemmas.List.Sorted.{IsPartitionedBy-ltb, IsPartitionPoint-from_clause}
+use Rattle.mt_leaf.proofs.Prelude.{rules, nat_lt, sym, IsPartitionedBy-ltb, IsPartitionPoint-from_clause}
 use Rattle.mt_leaf.proofs.Slots.{lasts_rise, partition_point_is}
 use Rattle.mt_leaf.proofs.places.slot_reaching.Goals as goal
 

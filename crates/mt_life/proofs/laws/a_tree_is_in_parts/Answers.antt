@@ -1,15 +1,4 @@
-use Rattle.std.proofs.Common.{ℕ, suc, ◌+◌}
-use Rattle.std.specs.List.{AllByRecursion}
-use Rattle.mt_base.specs.declared.kinds.Kind.{Kind}
-use Rattle.mt_layout.specs.declared.spans.Span.{Span}
-use Rattle.mt_layout.specs.Spans.{Fills}
-use Rattle.mt_rows.specs.Spans.{spans_in}
-use Rattle.mt_rows.specs.Laws.{NameLaw, Stands}
-use Rattle.mt_rows.specs.Publish.{tree_as, StandsAt}
-use Rattle.mt_rows.specs.Replacement.{root_of}
-use Rattle.mt_rows.specs.Sheet.{Rooted}
-use Rattle.mt_rows.proofs.Lists.{all_map}
-use Rattle.mt_rows.proofs.Reached.{OnLevel, on_level, on_level_law, stands_at}
+use Rattle.mt_life.proofs.Prelude.{ℕ, suc, ◌+◌, AllByRecursion, Kind, Span, Fills, spans_in, NameLaw, Stands, tree_as, StandsAt, root_of, Rooted, all_map, OnLevel, on_level, on_level_law, stands_at}
 use Rattle.mt_life.proofs.Reaching.{shape_here}
 use Rattle.mt_life.proofs.Parts.{leaf_part, children_stand}
 use Rattle.mt_life.proofs.laws.a_tree_is_in_parts.Goals as goal

@@ -1,7 +1,4 @@
-use Rattle.std.proofs.Common.{◌≡◌, ◌≢◌, ℕ, sym, subst, arith, refl}
-use Rattle.mt_rows.specs.Publish.{tree_as}
-use Rattle.mt_rows.specs.Trees.{height_in}
-use Rattle.mt_rows.proofs.Reached.{on_level, height_is}
+use Rattle.mt_life.proofs.Prelude.{◌≡◌, ◌≢◌, ℕ, sym, subst, arith, refl, tree_as, height_in, on_level, height_is}
 use Rattle.mt_life.proofs.Fitting.{placed}
 use Rattle.mt_life.proofs.laws.extents_are_places.Goals as goal
 

@@ -1,5 +1,4 @@
-use Rattle.mt_rows.proofs.Reached.{one_of_get}
-use Rattle.mt_life.specs.Known.{spans_at}
+use Rattle.mt_life.proofs.Prelude.{one_of_get, spans_at}
 use Rattle.mt_life.proofs.Holding.{root_held, child_held, leaf_held, renewed_held, marked_held, unmarked_held}
 use Rattle.mt_life.proofs.laws.held_rows_tell.Goals as goal
 

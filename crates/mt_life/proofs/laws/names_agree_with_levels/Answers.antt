@@ -1,12 +1,4 @@
-use Rattle.std.proofs.Common.{◌≡◌, ℕ, Some, sym, ap, ◌∙◌}
-use Rattle.mt_base.specs.declared.kinds.Kind.{Kind}
-use Rattle.mt_layout.specs.Rows.{row_in, named_kind}
-use Rattle.mt_layout.specs.declared.spans.Span.{Span}
-use Rattle.mt_rows.specs.declared.rows.Life.{Life}
-use Rattle.mt_rows.specs.Laws.{kind_at}
-use Rattle.mt_rows.proofs.Lists.{all_map}
-use Rattle.mt_life.specs.declared.views.Extent.{Extent}
-use Rattle.mt_life.specs.Known.{State, spans_at, IsLive, Later, Child}
+use Rattle.mt_life.proofs.Prelude.{◌≡◌, ℕ, Some, sym, ap, ◌∙◌, Kind, row_in, named_kind, Span, Life, kind_at, all_map, Extent, State, spans_at, IsLive, Later, Child}
 use Rattle.mt_life.proofs.laws.names_agree_with_levels.Goals as goal
 
 -- a child is named as one of its level, and stands there

@@ -1,4 +1,4 @@
-use Rattle.std.proofs.Common.{refl}
+use Rattle.mt_linearize.proofs.Prelude.{refl}
 use Rattle.mt_linearize.proofs.WorkedPhase.{worked_phase}
 use Rattle.mt_linearize.proofs.lanes.a_worked_phase.Goals as goal
 

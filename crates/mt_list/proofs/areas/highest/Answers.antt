@@ -1,4 +1,4 @@
-use Rattle.std.proofs.Common.{arith, sym, ◌∙◌}
+use Rattle.mt_list.proofs.Prelude.{arith, sym, ◌∙◌}
 use Rattle.mt_list.proofs.HolesSought.{found_down, sought_on_down, none_down, none_found}
 use Rattle.mt_list.proofs.areas.highest.Goals as goal
 

@@ -1,4 +1,4 @@
-use Rattle.std.proofs.Common.{length}
+use Rattle.mt_list.proofs.Prelude.{length}
 use Rattle.mt_list.proofs.HolesSought.{IsSoughtDown}
 use Rattle.mt_list.proofs.areas.highest.Given as goal
 

@@ -1,4 +1,4 @@
-use Rattle.std.proofs.Common.{arith, ◌∙◌}
+use Rattle.mt_list.proofs.Prelude.{arith, ◌∙◌}
 use Rattle.mt_list.proofs.HolesSought.{none_up_at, none_found}
 use Rattle.mt_list.proofs.areas.lowest.Goals as goal
 

@@ -1,4 +1,4 @@
-use Rattle.std.proofs.Common.{drop}
+use Rattle.mt_list.proofs.Prelude.{drop}
 use Rattle.mt_list.proofs.HolesSought.{IsSoughtUp}
 use Rattle.mt_list.proofs.areas.lowest.Given as goal
 

@@ -1,6 +1,4 @@
-use Rattle.std.proofs.Common.{◌≡◌, Some, ap, sym, ◌∙◌}
-use Rattle.std.specs.List.{slice_get}
-use Rattle.mt_list.specs.Places.{place_below, up_to}
+use Rattle.mt_list.proofs.Prelude.{◌≡◌, Some, ap, sym, ◌∙◌, slice_get, place_below, up_to}
 use Rattle.mt_list.proofs.EraseAtPlace.{without_at_place}
 use Rattle.mt_list.proofs.edits.erase.Goals as goal
 

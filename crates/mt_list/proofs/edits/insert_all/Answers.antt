@@ -1,5 +1,4 @@
-use Rattle.std.proofs.Common.{◌∙◌, ◌<◌, ◌≤◌, length, arith}
-use Rattle.std.proofs.lemmas.List.{get_or_default}
+use Rattle.mt_list.proofs.Prelude.{◌∙◌, ◌<◌, ◌≤◌, length, arith, get_or_default}
 use Rattle.mt_list.proofs.Replaced.{one_more_piece}
 use Rattle.mt_list.proofs.edits.insert_all.Goals as goal
 

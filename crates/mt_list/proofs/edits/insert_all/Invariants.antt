@@ -1,4 +1,4 @@
-use Rattle.std.proofs.Common.{◌≡◌, ◌+◌, ◌≤◌, ◌++◌, length, take, drop, vec_len, vec_capacity}
+use Rattle.mt_list.proofs.Prelude.{◌≡◌, ◌+◌, ◌≤◌, ◌++◌, length, take, drop, vec_len, vec_capacity}
 use Rattle.mt_list.proofs.edits.insert_all.Given as goal
 
 abbrev pub invariant-loop-i : goal.invariant-loop-i

@@ -1,4 +1,4 @@
-use Rattle.std.proofs.Common.{arith}
+use Rattle.mt_list.proofs.Prelude.{arith}
 use Rattle.mt_list.proofs.Replaced.{replaced}
 use Rattle.mt_list.proofs.edits.replace.Goals as goal
 

@@ -1,5 +1,4 @@
-use Rattle.std.proofs.Common.{rules, nat_le, sym}
-use Rattle.std.proofs.lemmas.List.Sorted.{IsPartitionedBy-leb, IsPartitionPoint-from_clause}
+use Rattle.mt_list.proofs.Prelude.{rules, nat_le, sym, IsPartitionedBy-leb, IsPartitionPoint-from_clause}
 use Rattle.mt_list.proofs.RisingRanges.{firsts_rise, partition_point_is}
 use Rattle.mt_list.proofs.places.place_above.Goals as goal
 

@@ -1,6 +1,4 @@
-use Rattle.std.proofs.Common.{sym, ◌∙◌}
-use Rattle.std.proofs.lemmas.Bool.{eqb-true}
-use Rattle.std.proofs.lemmas.List.{length-map}
+use Rattle.mt_log.proofs.Prelude.{sym, ◌∙◌, eqb-true, length-map}
 use Rattle.mt_log.proofs.FirstFields.{first_of}
 use Rattle.mt_log.proofs.fields.gather.Goals as goal
 

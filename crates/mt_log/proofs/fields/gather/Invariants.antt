@@ -1,5 +1,4 @@
-use Rattle.std.proofs.Common.{◌≡◌, ◌++◌, map, length}
-use Rattle.mt_log.specs.Reading.{fields_of}
+use Rattle.mt_log.proofs.Prelude.{◌≡◌, ◌++◌, map, length, fields_of}
 use Rattle.mt_log.proofs.fields.gather.Given as goal
 
 abbrev pub invariant-loop-rest : goal.invariant-loop-rest

@@ -1,5 +1,4 @@
-use Rattle.std.proofs.Common.{rules}
-use Rattle.mt_log.specs.Reading.{item_by}
+use Rattle.mt_log.proofs.Prelude.{rules, item_by}
 use Rattle.mt_log.proofs.items.item_by.Goals as goal
 
 pub returns-in_ok-area-in-Ralloc-clause-item : goal.returns-in_ok-area-in-Ralloc-clause-item

@@ -1,5 +1,4 @@
-use Rattle.std.proofs.Common.{rules}
-use Rattle.mt_log.specs.Reading.{index_read}
+use Rattle.mt_log.proofs.Prelude.{rules, index_read}
 use Rattle.mt_log.proofs.numbers.index_of.Goals as goal
 
 pub returns : goal.returns

@@ -1,4 +1,4 @@
-use Rattle.std.proofs.Common.{rules, arith, get_or, refl}
+use Rattle.mt_log.proofs.Prelude.{rules, arith, get_or, refl}
 use Rattle.mt_log.proofs.Digits.{one_more, stopped}
 use Rattle.mt_log.proofs.numbers.short_value_of.Goals as goal
 

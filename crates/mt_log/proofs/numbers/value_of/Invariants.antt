@@ -1,4 +1,4 @@
-use Rattle.std.proofs.Common.{take}
+use Rattle.mt_log.proofs.Prelude.{take}
 use Rattle.mt_log.proofs.Digits.{IsRead}
 use Rattle.mt_log.proofs.numbers.value_of.Given as goal
 

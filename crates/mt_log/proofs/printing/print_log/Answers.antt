@@ -1,6 +1,4 @@
-use Rattle.std.proofs.Common.{◌≡◌, arith}
-use Rattle.std.proofs.lemmas.Grind.{common_steps}
-use Rattle.mt_log.specs.LogText.{log_text}
+use Rattle.mt_log.proofs.Prelude.{◌≡◌, arith, common_steps, log_text}
 use Rattle.mt_log.proofs.RoundTrip.{reads_again}
 use Rattle.mt_log.proofs.printing.print_log.Goals as goal
 

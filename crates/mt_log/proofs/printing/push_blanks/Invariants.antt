@@ -1,4 +1,4 @@
-use Rattle.std.proofs.Common.{◌≡◌, ◌++◌, replicate}
+use Rattle.mt_log.proofs.Prelude.{◌≡◌, ◌++◌, replicate}
 use Rattle.mt_log.proofs.printing.push_blanks.Given as goal
 
 abbrev pub invariant-loop-blank : goal.invariant-loop-blank

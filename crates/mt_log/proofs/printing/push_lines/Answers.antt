@@ -1,5 +1,4 @@
-use Rattle.std.proofs.Common.{arith}
-use Rattle.std.proofs.lemmas.Grind.{common_steps}
+use Rattle.mt_log.proofs.Prelude.{arith, common_steps}
 use Rattle.mt_log.proofs.printing.push_lines.Goals as goal
 
 pub loop-line-preserved : goal.loop-line-preserved

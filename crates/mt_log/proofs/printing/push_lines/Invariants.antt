@@ -1,5 +1,4 @@
-use Rattle.std.proofs.Common.{◌≡◌, ◌++◌, [], drop}
-use Rattle.mt_log.specs.LogText.{lines_text}
+use Rattle.mt_log.proofs.Prelude.{◌≡◌, ◌++◌, [], drop, lines_text}
 use Rattle.mt_log.proofs.printing.push_lines.Given as goal
 
 -- what is printed, and what is to be printed from here on, make the whole

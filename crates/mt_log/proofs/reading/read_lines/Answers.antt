@@ -1,4 +1,4 @@
-use Rattle.std.proofs.Common.{arith}
+use Rattle.mt_log.proofs.Prelude.{arith}
 use Rattle.mt_log.proofs.Pieces.{first_line, one_more, last_piece, left_over}
 use Rattle.mt_log.proofs.Soundness.{sound_nothing}
 use Rattle.mt_log.proofs.reading.read_lines.Goals as goal

@@ -1,7 +1,4 @@
-use Rattle.std.proofs.Common.{◌≡◌, ◌+◌, ◌≤◌, ◌==◌, length}
-use Rattle.std.specs.List.{slice_split}
-use Rattle.mt_log.specs.Reader.{IsSoundReading}
-use Rattle.mt_log.specs.Reading.{after_pieces, nothing_read}
+use Rattle.mt_log.proofs.Prelude.{◌≡◌, ◌+◌, ◌≤◌, ◌==◌, length, slice_split, IsSoundReading, after_pieces, nothing_read}
 use Rattle.mt_log.proofs.reading.read_lines.Given as goal
 
 abbrev pub invariant-loop-line : goal.invariant-loop-line

@@ -1,6 +1,4 @@
-use Rattle.std.proofs.Common.{◌≡◌, ◌++◌, take}
-use Rattle.std.specs.List.{flat_map}
-use Rattle.mt_log.specs.Text.{entry_text}
+use Rattle.mt_log.proofs.Prelude.{◌≡◌, ◌++◌, take, flat_map, entry_text}
 use Rattle.mt_log.proofs.rendering.push_entries.Given as goal
 
 abbrev pub invariant-loop-entry : goal.invariant-loop-entry

@@ -1,6 +1,4 @@
-use Rattle.std.proofs.Common.{◌≡◌, ◌++◌, take}
-use Rattle.std.specs.List.{flat_map}
-use Rattle.mt_log.specs.Text.{listing_text}
+use Rattle.mt_log.proofs.Prelude.{◌≡◌, ◌++◌, take, flat_map, listing_text}
 use Rattle.mt_log.proofs.rendering.push_listings.Given as goal
 
 abbrev pub invariant-loop-listing : goal.invariant-loop-listing

@@ -1,6 +1,4 @@
-use Rattle.std.proofs.Common.{◌≡◌, ◌++◌, take}
-use Rattle.std.specs.List.{flat_map}
-use Rattle.mt_log.specs.Text.{range_line}
+use Rattle.mt_log.proofs.Prelude.{◌≡◌, ◌++◌, take, flat_map, range_line}
 use Rattle.mt_log.proofs.rendering.push_ranges.Given as goal
 
 abbrev pub invariant-loop-range : goal.invariant-loop-range

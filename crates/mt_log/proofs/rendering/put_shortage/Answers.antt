@@ -1,5 +1,4 @@
-use Rattle.std.proofs.Common.{arith}
-use Rattle.std.proofs.lemmas.Grind.{common_steps}
+use Rattle.mt_log.proofs.Prelude.{arith, common_steps}
 use Rattle.mt_log.proofs.rendering.put_shortage.Goals as goal
 
 pub returns-clause-text : goal.returns-clause-text

@@ -1,5 +1,5 @@
 -- The cursor walks over the same tree, by the same pass.
-use Rattle.std.proofs.Common.{◌≡◌}
+use Rattle.mt_numbers.proofs.Prelude.{◌≡◌}
 use Rattle.mt_numbers.proofs.readers.rises.Given as goal
 
 abbrev pub invariant-loop-number : goal.invariant-loop-number

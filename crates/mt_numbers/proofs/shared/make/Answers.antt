@@ -1,6 +1,5 @@
 -- New passes have made no calls.
-use Rattle.std.specs.List.{range_with_len}
-use Rattle.mt_tree.specs.Trees.{pass_in}
+use Rattle.mt_numbers.proofs.Prelude.{range_with_len, pass_in}
 use Rattle.mt_numbers.proofs.Counting.{new_passes}
 use Rattle.mt_numbers.proofs.shared.make.Goals as goal
 

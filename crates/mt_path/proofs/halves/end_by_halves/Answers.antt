@@ -1,4 +1,4 @@
-use Rattle.std.proofs.Common.{lit≤}
+use Rattle.mt_path.proofs.Prelude.{lit≤}
 use Rattle.mt_path.proofs.HalfWalks.{at_leaf, leaf_kind, shallow, is_place, reaches, is_lawful, may_load, handle_here, path_is}
 use Rattle.mt_path.proofs.halves.end_by_halves.Goals as goal
 

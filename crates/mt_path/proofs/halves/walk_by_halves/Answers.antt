@@ -1,7 +1,5 @@
-use Rattle.std.proofs.Common.{◌≡◌, ◌≢◌, rules, refl, sym, ◌∙◌, arith, lit≤}
-use denote.Enum.Bare.{same_true}
+use Rattle.mt_path.proofs.Prelude.{◌≡◌, ◌≢◌, rules, refl, sym, ◌∙◌, arith, lit≤, same_true, Leaf}
 use Rattle.mt_layout.specs.contracts.names.RowKind.{the_type}
-use Rattle.mt_layout.specs.declared.names.RowKind.TheVariants.{Leaf}
 use Rattle.mt_path.proofs.HalfWalks.{at_root, shallow, is_place, reaches, is_lawful, may_load, has_child, handle_here, reads', path_is, goes_on}
 use Rattle.mt_path.proofs.Ways.{empty_path}
 use Rattle.mt_path.proofs.halves.walk_by_halves.Goals as goal

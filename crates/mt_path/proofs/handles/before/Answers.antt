@@ -1,9 +1,6 @@
-use Rattle.std.proofs.Common.{◌-◌, ap, ◌∙◌, arith}
-use Rattle.mt_path.specs.declared.paths.PathStep.{PathStep}
-use Rattle.mt_rows.specs.Sheet.{Rooted}
+use Rattle.mt_path.proofs.Prelude.{◌-◌, ap, ◌∙◌, arith, PathStep, Rooted, same_tree}
 use Rattle.mt_path.proofs.HandleSteps.{handle_within, handle_before}
 use Rattle.mt_path.proofs.LeafSteps.{here_in}
-use Rattle.mt_rows.proofs.Loads.{same_tree}
 use Rattle.mt_path.proofs.handles.before.Goals as goal
 
 pub handle_far-requires-clause-index : goal.handle_far-requires-clause-index

@@ -1,13 +1,6 @@
-use Rattle.std.proofs.Common.{◌+◌, ap, ◌∙◌, sym, subst, arith}
-use Rattle.mt_base.specs.Width.{greatest}
-use Rattle.mt_layout.specs.declared.names.RowKind.TheVariants.{Leaf}
-use Rattle.mt_layout.proofs.RowSizes.{slots_of-room}
-use Rattle.mt_rows.specs.Sheet.{Rooted}
-use Rattle.mt_path.specs.declared.paths.PathStep.{PathStep}
-use Rattle.mt_path.specs.Handles.{IsStepOfLeaf}
+use Rattle.mt_path.proofs.Prelude.{◌+◌, ap, ◌∙◌, sym, subst, arith, greatest, Leaf, slots_of-room, Rooted, PathStep, IsStepOfLeaf, same_tree}
 use Rattle.mt_path.proofs.HandleSteps.{one_behind, slot_fits, step_behind, handle_behind}
 use Rattle.mt_path.proofs.LeafSteps.{here_in}
-use Rattle.mt_rows.proofs.Loads.{same_tree}
 use Rattle.mt_path.proofs.handles.behind.Goals as goal
 
 pub overflow_add-last : goal.overflow_add-last

@@ -1,7 +1,5 @@
-use Rattle.std.proofs.Common.{◌≡◌, ◌≢◌, rules, sym, arith}
-use denote.Enum.Bare.{same_true}
+use Rattle.mt_path.proofs.Prelude.{◌≡◌, ◌≢◌, rules, sym, arith, same_true, Leaf}
 use Rattle.mt_layout.specs.contracts.names.RowKind.{the_type}
-use Rattle.mt_layout.specs.declared.names.RowKind.TheVariants.{Leaf}
 use Rattle.mt_path.proofs.Descents.{may_find, reaches, may_load, has_child, handle_here, not_deepest, passage_ends, passage_goes_on}
 use Rattle.mt_path.proofs.handles.handle_at.Goals as goal
 

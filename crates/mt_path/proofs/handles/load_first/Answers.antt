@@ -1,4 +1,4 @@
-use Rattle.std.proofs.Common.{◌+◌, ℕ, ap, ◌∙◌, arith}
+use Rattle.mt_path.proofs.Prelude.{◌+◌, ℕ, ap, ◌∙◌, arith}
 use Rattle.mt_path.proofs.LeafSteps.{pivot_place, first_is_behind, first_fits}
 use Rattle.mt_path.proofs.handles.load_first.Goals as goal
 

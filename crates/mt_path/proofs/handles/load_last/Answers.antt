@@ -1,7 +1,4 @@
-use Rattle.std.proofs.Common.{ap, ◌∙◌, arith}
-use Rattle.mt_base.specs.declared.widths.Width.{Width}
-use Rattle.mt_layout.specs.declared.names.RowKind.TheVariants.{Leaf}
-use Rattle.mt_layout.specs.Sizes.{slots_of}
+use Rattle.mt_path.proofs.Prelude.{ap, ◌∙◌, arith, Width, Leaf, slots_of}
 use Rattle.mt_path.proofs.LeafSteps.{last_place, last_is_pivot, last_is_max}
 use Rattle.mt_path.proofs.handles.load_last.Goals as goal
 

@@ -1,8 +1,4 @@
-use Rattle.std.proofs.Common.{ℕ, ◌+◌, sym, ap, ◌∙◌, subst}
-use Rattle.mt_base.specs.declared.widths.Width.{Width}
-use Rattle.mt_layout.specs.declared.names.RowKind.TheVariants.{Leaf}
-use Rattle.mt_layout.specs.Sizes.{slots_of}
-use Rattle.mt_rows.specs.Sheet.{IsPlace, word_at}
+use Rattle.mt_path.proofs.Prelude.{ℕ, ◌+◌, sym, ap, ◌∙◌, subst, Width, Leaf, slots_of, IsPlace, word_at}
 use Rattle.mt_path.proofs.LeafSteps.{slot_place, word_is}
 use Rattle.mt_path.proofs.handles.load_word.Goals as goal
 

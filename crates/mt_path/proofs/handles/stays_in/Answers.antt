@@ -1,7 +1,4 @@
-use Rattle.std.proofs.Common.{ℕ, ◌<◌, ◌≤◌, length, arith, rules, sym, subst}
-use Rattle.mt_path.specs.declared.paths.PathStep.{PathStep}
-use Rattle.mt_path.specs.Handles.{leaf_spans, IsStepOfLeaf}
-use Rattle.mt_path.specs.Paths.{span_at}
+use Rattle.mt_path.proofs.Prelude.{ℕ, ◌<◌, ◌≤◌, length, arith, rules, sym, subst, PathStep, leaf_spans, IsStepOfLeaf, span_at}
 use Rattle.mt_path.proofs.SameSlot.{last_is_leaf, stays}
 use Rattle.mt_path.proofs.handles.stays_in.Goals as goal
 

@@ -1,4 +1,4 @@
-use Rattle.std.proofs.Common.{refl, sym, ◌∙◌}
+use Rattle.mt_path.proofs.Prelude.{refl, sym, ◌∙◌}
 use Rattle.mt_path.proofs.Descents.{walk_reads}
 use Rattle.mt_path.proofs.Ways.{empty_path}
 use Rattle.mt_path.proofs.handles.walk_to.Goals as goal

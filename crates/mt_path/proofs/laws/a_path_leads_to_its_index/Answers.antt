@@ -1,5 +1,4 @@
-use Rattle.std.proofs.Common.{◌≤◌, sym, subst}
-use Rattle.mt_path.specs.declared.paths.PathStep.{PathStep}
+use Rattle.mt_path.proofs.Prelude.{◌≤◌, sym, subst, PathStep}
 use Rattle.mt_path.proofs.TreePaths.{levels, step, place}
 use Rattle.mt_path.proofs.laws.a_path_leads_to_its_index.Goals as goal
 

@@ -1,5 +1,4 @@
-use Rattle.std.proofs.Common.{◌≡◌, ℕ, ◌+◌, ◌-◌, sym, ap, ◌∙◌, subst, arith}
-use Rattle.mt_path.specs.declared.paths.PathStep.{PathStep}
+use Rattle.mt_path.proofs.Prelude.{◌≡◌, ℕ, ◌+◌, ◌-◌, sym, ap, ◌∙◌, subst, arith, PathStep}
 use Rattle.mt_path.proofs.TreePaths.{row_of, step_of, step, place, right_begins, left_ends}
 use Rattle.mt_path.proofs.laws.neighbours_stand_side_by_side.Goals as goal
 

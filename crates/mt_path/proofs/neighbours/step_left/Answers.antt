@@ -1,7 +1,4 @@
-use Rattle.std.proofs.Common.{◌≤◌, ◌-◌, List, subst, sym, arith}
-use Rattle.mt_base.specs.Width.{greatest}
-use Rattle.mt_path.specs.declared.paths.PathStep.{PathStep}
-use Rattle.mt_path.specs.Paths.{step_at}
+use Rattle.mt_path.proofs.Prelude.{◌≤◌, ◌-◌, List, subst, sym, arith, greatest, PathStep, step_at}
 use Rattle.mt_path.proofs.Bounds.{inside}
 use Rattle.mt_path.proofs.neighbours.step_left.Goals as goal
 

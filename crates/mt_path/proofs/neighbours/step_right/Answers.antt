@@ -1,8 +1,4 @@
-use Rattle.std.proofs.Common.{◌≤◌, List, ap, ◌∙◌, subst, sym, arith}
-use Rattle.mt_base.proofs.WidthBounds.{greatest_fits}
-use Rattle.mt_base.specs.Width.{greatest}
-use Rattle.mt_path.specs.declared.paths.PathStep.{PathStep}
-use Rattle.mt_path.specs.Paths.{step_at}
+use Rattle.mt_path.proofs.Prelude.{◌≤◌, List, ap, ◌∙◌, subst, sym, arith, greatest_fits, greatest, PathStep, step_at}
 use Rattle.mt_path.proofs.Bounds.{inside}
 use Rattle.mt_path.proofs.neighbours.step_right.Goals as goal
 

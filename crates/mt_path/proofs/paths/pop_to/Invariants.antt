@@ -1,4 +1,4 @@
-use Rattle.std.proofs.Common.{length}
+use Rattle.mt_path.proofs.Prelude.{length}
 use Rattle.mt_path.proofs.Onward.{IsPopped}
 use Rattle.mt_path.proofs.paths.pop_to.Given as goal
 

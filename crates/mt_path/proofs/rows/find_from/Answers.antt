@@ -1,7 +1,4 @@
-use Rattle.std.proofs.Common.{◌≡◌, ℕ, ◌+◌, ◌-◌, ◌<◌, ap, ◌∙◌, arith}
-use Rattle.mt_base.specs.declared.widths.Width.{Width}
-use Rattle.mt_layout.specs.Sizes.{slots_of}
-use Rattle.mt_layout.proofs.RowSizes.{some_slots_of}
+use Rattle.mt_path.proofs.Prelude.{◌≡◌, ℕ, ◌+◌, ◌-◌, ◌<◌, ap, ◌∙◌, arith, Width, slots_of, some_slots_of}
 use Rattle.mt_path.proofs.Kept.{word_kept}
 use Rattle.mt_path.proofs.Loads.{reads_next, reads_up}
 use Rattle.mt_path.proofs.Searches.{found_of, found_at_pivot, found_at_last, pass}

@@ -1,5 +1,4 @@
-use Rattle.std.proofs.Common.{◌-◌}
-use Rattle.mt_rows.specs.Sheet.{ReadsUpTo}
+use Rattle.mt_path.proofs.Prelude.{◌-◌, ReadsUpTo}
 use Rattle.mt_path.proofs.Searches.{PassedIn}
 use Rattle.mt_path.proofs.rows.find_from.Given as goal
 

@@ -1,9 +1,4 @@
-use Rattle.std.proofs.Common.{◌≡◌, ◌+◌, ◌-◌, ◌<◌, ◌/◌, sym, ap, ◌∙◌, subst, arith}
-use Rattle.mt_base.specs.declared.widths.Width.{Width}
-use Rattle.mt_layout.specs.Sizes.{slots_of}
-use Rattle.mt_layout.proofs.RowSizes.{least-below-slots, some_least}
-use Rattle.mt_rows.specs.Sheet.{Rooted}
-use Rattle.mt_path.specs.Middles.{IsPassed}
+use Rattle.mt_path.proofs.Prelude.{◌≡◌, ◌+◌, ◌-◌, ◌<◌, ◌/◌, sym, ap, ◌∙◌, subst, arith, Width, slots_of, least-below-slots, some_least, Rooted, IsPassed}
 use Rattle.mt_path.proofs.Kept.{tree_kept}
 use Rattle.mt_path.proofs.Loads.{one_read, reads_more, reads_up}
 use Rattle.mt_path.proofs.Middles.{none_passed, passed_to}

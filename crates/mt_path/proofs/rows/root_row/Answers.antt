@@ -1,6 +1,4 @@
-use Rattle.std.proofs.Common.{ap, ◌∙◌}
-use Rattle.mt_base.specs.Width.{greatest}
-use Rattle.mt_path.specs.Walks.{row_for}
+use Rattle.mt_path.proofs.Prelude.{ap, ◌∙◌, greatest, row_for}
 use Rattle.mt_path.proofs.Ways.{no_row, begins_if}
 use Rattle.mt_path.proofs.rows.root_row.Goals as goal
 

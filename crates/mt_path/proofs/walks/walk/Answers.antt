@@ -1,6 +1,4 @@
-use Rattle.std.proofs.Common.{refl, sym, ap, ◌∙◌}
-use Rattle.mt_rows.specs.Sheet.{Sheet}
-use Rattle.mt_path.specs.Paths.{path_in}
+use Rattle.mt_path.proofs.Prelude.{refl, sym, ap, ◌∙◌, Sheet, path_in}
 use Rattle.mt_path.proofs.Empty.{empty_together}
 use Rattle.mt_path.proofs.Ways.{empty_path}
 use Rattle.mt_path.proofs.walks.walk.Goals as goal

@@ -1,8 +1,4 @@
-use Rattle.std.proofs.Common.{◌+◌, ◌==◌, length, take, sym, ap, ◌∙◌, subst}
-use Rattle.mt_rows.specs.Sheet.{Rooted}
-use Rattle.mt_path.specs.declared.rows.Row.{Row}
-use Rattle.mt_path.specs.Paths.{path_in}
-use Rattle.mt_path.specs.Walks.{IsOnWay}
+use Rattle.mt_path.proofs.Prelude.{◌+◌, ◌==◌, length, take, sym, ap, ◌∙◌, subst, Rooted, Row, path_in, IsOnWay}
 use Rattle.mt_path.proofs.Kept.{tree_kept}
 use Rattle.mt_path.proofs.Onward.{no_rows, named_root, onward_front, onward_way, onward_near}
 use Rattle.mt_path.proofs.walks.walk_on.Goals as goal

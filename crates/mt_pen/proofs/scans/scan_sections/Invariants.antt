@@ -1,5 +1,4 @@
-use Rattle.mt_rule.specs.Tokens.{identity_of, pen_in, KeepsPassOf, joined_part}
-use Rattle.mt_pen.specs.Scans.{HasScanned}
+use Rattle.mt_pen.proofs.Prelude.{identity_of, pen_in, KeepsPassOf, joined_part, HasScanned}
 use Rattle.mt_pen.proofs.scans.scan_sections.Given as goal
 
 abbrev pub invariant-loop-pass : goal.invariant-loop-pass

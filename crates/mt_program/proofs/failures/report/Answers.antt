@@ -1,4 +1,4 @@
-use Rattle.std.proofs.Common.{rules}
+use Rattle.mt_program.proofs.Prelude.{rules}
 use Rattle.mt_program.proofs.failures.report.Goals as goal
 
 pub returns-clause-told : goal.returns-clause-told

@@ -1,7 +1,4 @@
-use Rattle.std.proofs.Common.{◌≡◌, ◌+◌, ◌&&◌, ℕ, List, arith, false, get_or, refl, subst, suc}
-use Rattle.std.specs.Prelude.{◌==◌}
-use Rattle.std.proofs.lemmas.List.{take_rest}
-use Rattle.mt_program.specs.Parts.{is_cut}
+use Rattle.mt_program.proofs.Prelude.{◌≡◌, ◌+◌, ◌&&◌, ℕ, List, arith, false, get_or, refl, subst, suc, ◌==◌, take_rest, is_cut}
 use Rattle.mt_program.proofs.CutLines.{IsSoFar, cut_steps}
 use Rattle.mt_program.proofs.parts.cut.Goals as goal
 

@@ -1,5 +1,4 @@
-use Rattle.std.proofs.Common.{subst, sym}
-use Rattle.mt_program.specs.Headline.{IsOutput}
+use Rattle.mt_program.proofs.Prelude.{subst, sym, IsOutput}
 use Rattle.mt_program.proofs.Endings.{fails_so, reading_ends, refused_ends}
 use Rattle.mt_program.proofs.Statuses.{has_turned}
 use Rattle.mt_program.proofs.program.answer.Goals as goal

@@ -1,5 +1,4 @@
-use Rattle.std.proofs.Common.{◌∙◌, subst, sym}
-use Rattle.mt_commands.specs.Turns.{IsIdsText}
+use Rattle.mt_program.proofs.Prelude.{◌∙◌, subst, sym, IsIdsText}
 use Rattle.mt_program.proofs.Endings.{making_ends}
 use Rattle.mt_program.proofs.program.cycle.Goals as goal
 

@@ -1,5 +1,4 @@
-use Rattle.std.proofs.Common.{◌≡◌, ◌⊎◌, ◌∙◌, ◌<◌, ◌≤◌, ℕ, ap, inl, subst, sym}
-use Rattle.mt_program.specs.Verdicts.{IsDue}
+use Rattle.mt_program.proofs.Prelude.{◌≡◌, ◌⊎◌, ◌∙◌, ◌<◌, ◌≤◌, ℕ, ap, inl, subst, sym, IsDue}
 use Rattle.mt_program.proofs.Statuses as statuses
 use Rattle.mt_program.proofs.program.mtreplay.Goals as goal
 

@@ -1,5 +1,4 @@
-use Rattle.std.proofs.Common.{◌∙◌, subst, sym}
-use Rattle.mt_commands.specs.Texts.{IsTrialText}
+use Rattle.mt_program.proofs.Prelude.{◌∙◌, subst, sym, IsTrialText}
 use Rattle.mt_program.proofs.Endings.{making_ends}
 use Rattle.mt_program.proofs.program.trial.Goals as goal
 

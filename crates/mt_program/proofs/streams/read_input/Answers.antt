@@ -1,5 +1,4 @@
-use Rattle.std.proofs.Common.{◌∙◌, arith}
-use Rattle.std.proofs.lemmas.Grind.{common_steps}
+use Rattle.mt_program.proofs.Prelude.{◌∙◌, arith, common_steps}
 use Rattle.mt_program.proofs.Pieces.{read_more, read_too_many, read_within, reads_no_further, fault_fails}
 use Rattle.mt_program.proofs.streams.read_input.Goals as goal
 

@@ -1,5 +1,4 @@
-use Rattle.std.proofs.Common.{◌≡◌, ◌≤◌, length}
-use Rattle.std.specs.Io.KnownBytes.{Consumes}
+use Rattle.mt_program.proofs.Prelude.{◌≡◌, ◌≤◌, length, Consumes}
 use Rattle.mt_program.proofs.streams.read_input.Given as goal
 
 -- each turn read at least one byte, and no call of the source failed

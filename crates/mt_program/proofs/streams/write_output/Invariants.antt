@@ -1,4 +1,4 @@
-use Rattle.std.proofs.Common.{◌≡◌, length}
+use Rattle.mt_program.proofs.Prelude.{◌≡◌, length}
 use Rattle.mt_program.proofs.Pieces.{HasAppended}
 use Rattle.mt_program.proofs.streams.write_output.Given as goal
 

@@ -1,4 +1,4 @@
-use Rattle.std.proofs.Common.{sym, ◌∙◌}
+use Rattle.mt_program.proofs.Prelude.{sym, ◌∙◌}
 use Rattle.mt_program.proofs.FirstTrees.{none_declared, some_declared}
 use Rattle.mt_program.proofs.treeless.declares_tree.Goals as goal
 

@@ -1,14 +1,4 @@
-use Rattle.std.proofs.Common.{rules, arith, ◌≡◌, ◌≢◌, ◌∙◌, length, ap, subst}
-use Rattle.mt_base.specs.declared.kinds.Kind.{Kind}
-use Rattle.mt_base.specs.declared.calls.Query.TheVariants.{Find}
-use Rattle.mt_base.specs.Width.{greatest_of}
-use Rattle.mt_base.proofs.Goings.{begins_long}
-use Rattle.mt_layout.specs.Rows.{dead_mark}
-use Rattle.mt_life.specs.declared.views.Held.{Held}
-use Rattle.mt_rule.specs.declared.views.PassPart.{PassPart}
-use Rattle.mt_rule.specs.Sections.{here}
-use Rattle.mt_rule.specs.Tokens.{part_of}
-use Rattle.mt_read.specs.Answers.{Answers}
+use Rattle.mt_read.proofs.Prelude.{rules, arith, ◌≡◌, ◌≢◌, ◌∙◌, length, ap, subst, Kind, Find, greatest_of, begins_long, dead_mark, Held, PassPart, here, part_of, Answers}
 use Rattle.mt_read.proofs.Descending.{goes_on, goes_sees, here_more, marked_same, marked_then}
 use Rattle.mt_read.proofs.Keeping.{answers_live, goes_marked, goes_unmarked, parent_tells}
 use Rattle.mt_read.proofs.cursor.first_at_kept.Goals as goal

@@ -1,6 +1,4 @@
-use Rattle.std.proofs.Common.{inl, subst, sym}
-use Rattle.mt_rule.specs.Tokens.{part_of}
-use Rattle.mt_read.specs.Walks.{GoesOnTo}
+use Rattle.mt_read.proofs.Prelude.{inl, subst, sym, part_of, GoesOnTo}
 use Rattle.mt_read.proofs.Descending.{goes_to, marks_are}
 use Rattle.mt_read.proofs.cursor.first_behind.Goals as goal
 

@@ -1,12 +1,4 @@
-use Rattle.std.proofs.Common.{arith, ◌≡◌, ◌∙◌, ◌+◌, Option, refl, ap, subst, sym}
-use Rattle.std.specs.Prelude.{IsSome}
-use Rattle.mt_base.specs.Width.{kind_width}
-use Rattle.mt_layout.specs.declared.names.RowKind.{RowKind}
-use Rattle.mt_life.specs.declared.views.Held.{Held}
-use Rattle.mt_rule.specs.declared.views.PassPart.{PassPart}
-use Rattle.mt_rule.specs.Places.{column_at}
-use Rattle.mt_rule.specs.Sections.{LoadedChild}
-use Rattle.mt_rule.specs.Tokens.{part_of}
+use Rattle.mt_read.proofs.Prelude.{arith, ◌≡◌, ◌∙◌, ◌+◌, Option, refl, ap, subst, sym, IsSome, kind_width, RowKind, Held, PassPart, column_at, LoadedChild, part_of}
 use Rattle.mt_read.proofs.Descending.{slot_is, slot_fits, column_of_slot, inner_level, child_on, goes_sees, goes_down, goes_on, here_more, level_down}
 use Rattle.mt_read.proofs.descent.child_at.Goals as goal
 

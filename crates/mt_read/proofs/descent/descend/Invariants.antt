@@ -1,7 +1,4 @@
-use Rattle.std.proofs.Common.{◌≡◌, ◌+◌, ◌≤◌}
-use Rattle.mt_rule.specs.Sections.{here}
-use Rattle.mt_rule.specs.Tokens.{identity_of, part_of, IsCounted, Stepped}
-use Rattle.mt_read.specs.Walks.{IsOnRow, GoesOn, steps_down}
+use Rattle.mt_read.proofs.Prelude.{◌≡◌, ◌+◌, ◌≤◌, here, identity_of, part_of, IsCounted, Stepped, IsOnRow, GoesOn, steps_down}
 use Rattle.mt_read.proofs.descent.descend.Given as goal
 
 abbrev pub invariant-loop-pass : goal.invariant-loop-pass

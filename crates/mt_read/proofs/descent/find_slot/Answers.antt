@@ -1,8 +1,4 @@
-use Rattle.std.proofs.Common.{rules, arith, ◌≡◌, ◌-◌, Some, ◌∙◌, refl, sym}
-use Rattle.std.specs.List.{slice_get}
-use Rattle.mt_layout.proofs.RowSizes.{few_slots_of, some_slots_of}
-use Rattle.mt_rule.specs.Sections.{here, kind_of, spans_here}
-use Rattle.mt_rule.specs.Tokens.{part_of}
+use Rattle.mt_read.proofs.Prelude.{rules, arith, ◌≡◌, ◌-◌, Some, ◌∙◌, refl, sym, slice_get, few_slots_of, some_slots_of, here, kind_of, spans_here, part_of}
 use Rattle.mt_read.proofs.Finding.{sees_on, on_more, place_more, pivot_is, count_is, slots_counted, one_passed, found_at_pivot, found_at_last}
 use Rattle.mt_read.proofs.descent.find_slot.Goals as goal
 

@@ -1,6 +1,4 @@
-use Rattle.std.proofs.Common.{◌+◌, ◌≤◌}
-use Rattle.mt_rule.specs.Tokens.{identity_of, part_of, IsCounted, Stepped}
-use Rattle.mt_read.specs.Walks.{IsOnRow, SeesMore}
+use Rattle.mt_read.proofs.Prelude.{◌+◌, ◌≤◌, identity_of, part_of, IsCounted, Stepped, IsOnRow, SeesMore}
 use Rattle.mt_read.proofs.Finding.{PassedBy}
 use Rattle.mt_read.proofs.descent.find_slot.Given as goal
 

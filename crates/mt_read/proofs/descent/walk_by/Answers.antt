@@ -1,8 +1,4 @@
-use Rattle.std.proofs.Common.{rules, arith, ◌≡◌, ◌∙◌, sym, ap}
-use Rattle.mt_base.specs.Width.{kind_width}
-use Rattle.mt_rule.specs.declared.views.Shape.{Shape}
-use Rattle.mt_rule.specs.Sections.{here}
-use Rattle.mt_rule.specs.Tokens.{identity_of, part_of}
+use Rattle.mt_read.proofs.Prelude.{rules, arith, ◌≡◌, ◌∙◌, sym, ap, kind_width, Shape, here, identity_of, part_of}
 use Rattle.mt_read.proofs.Finding.{shape_is}
 use Rattle.mt_read.proofs.Descending.{root_on, root_under, goes_root, goes_on}
 use Rattle.mt_read.proofs.descent.walk_by.Goals as goal

@@ -1,11 +1,4 @@
-use Rattle.std.proofs.Common.{◌≡◌, Option, Some, None, sym, subst}
-use Rattle.std.specs.Prelude.{IfSome, IfNone}
-use Rattle.mt_base.specs.declared.ranges.Range.{Range}
-use Rattle.mt_base.specs.declared.calls.Query.TheVariants.{Rfind}
-use Rattle.mt_rule.specs.Sections.{here}
-use Rattle.mt_rule.specs.Tokens.{part_of}
-use Rattle.mt_read.specs.Answers.{LeafAnswers}
-use Rattle.mt_read.specs.Walks.{WasRead}
+use Rattle.mt_read.proofs.Prelude.{◌≡◌, Option, Some, None, sym, subst, IfSome, IfNone, Range, Rfind, here, part_of, LeafAnswers, WasRead}
 use Rattle.mt_read.proofs.Descending.{goes_on, goes_sees}
 use Rattle.mt_read.proofs.Preceding.{last_before, last_here}
 use Rattle.mt_read.proofs.lasts.last_at.Goals as goal

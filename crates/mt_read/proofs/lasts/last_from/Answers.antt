@@ -1,11 +1,4 @@
-use Rattle.std.proofs.Common.{rules, arith, ◌≡◌, ◌≢◌, ◌-◌, ◌∙◌, ℕ, length, refl, sym, subst, None}
-use Rattle.std.specs.Prelude.{IfSome}
-use Rattle.mt_base.specs.declared.calls.Query.TheVariants.{Rfind}
-use Rattle.mt_base.proofs.Goings.{begins_long}
-use Rattle.mt_rule.specs.Sections.{here}
-use Rattle.mt_rule.specs.Tokens.{part_of}
-use Rattle.mt_read.specs.Answers.{AnswersBy}
-use Rattle.mt_read.specs.Neighbours.{IsLeafBefore}
+use Rattle.mt_read.proofs.Prelude.{rules, arith, ◌≡◌, ◌≢◌, ◌-◌, ◌∙◌, ℕ, length, refl, sym, subst, None, IfSome, Rfind, begins_long, here, part_of, AnswersBy, IsLeafBefore}
 use Rattle.mt_read.proofs.Descending.{goes_some, place_within}
 use Rattle.mt_read.proofs.Leaving.{kind_beside, left_hole}
 use Rattle.mt_read.proofs.Reading.{kind_told}

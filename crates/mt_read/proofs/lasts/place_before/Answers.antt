@@ -1,9 +1,4 @@
-use Rattle.std.proofs.Common.{rules, arith, ◌≡◌, ◌≢◌, ◌+◌, ◌-◌, ◌<◌, ap, ◌∙◌}
-use Rattle.std.specs.Prelude.{slice_index}
-use Rattle.mt_base.specs.Width.{kind_width}
-use Rattle.mt_base.proofs.WidthBounds.{greatest_fits}
-use Rattle.mt_rule.specs.Sections.{here}
-use Rattle.mt_rule.specs.Tokens.{part_of}
+use Rattle.mt_read.proofs.Prelude.{rules, arith, ◌≡◌, ◌≢◌, ◌+◌, ◌-◌, ◌<◌, ap, ◌∙◌, slice_index, kind_width, greatest_fits, here, part_of}
 use Rattle.mt_read.proofs.Finding.{column_is, place_more, slots_are}
 use Rattle.mt_read.proofs.Descending.{place_within}
 use Rattle.mt_read.proofs.Before.{first_before, first_some, pivot_before, used}

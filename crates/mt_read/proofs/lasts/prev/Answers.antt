@@ -1,11 +1,4 @@
-use Rattle.std.proofs.Common.{rules, ℕ, sym, subst, length, Option}
-use Rattle.mt_base.specs.declared.ranges.Range.{Range}
-use Rattle.mt_base.specs.declared.calls.Query.TheVariants.{Prev}
-use Rattle.mt_rule.specs.Tokens.{identity_of, part_of}
-use Rattle.mt_read.specs.Answers.{Answers}
-use Rattle.mt_read.specs.Neighbours.{LeftMarked, asked}
-use Rattle.mt_read.specs.Walks.{GoesOn}
-use Rattle.mt_read.specs.Windows.{Began}
+use Rattle.mt_read.proofs.Prelude.{rules, ℕ, sym, subst, length, Option, Range, Prev, identity_of, part_of, Answers, LeftMarked, asked, GoesOn, Began}
 use Rattle.mt_read.proofs.Finding.{shape_is}
 use Rattle.mt_read.proofs.Windows.{has_read, read_by}
 use Rattle.mt_read.proofs.GivenUp.{prev_bounded, was_left, was_moved}

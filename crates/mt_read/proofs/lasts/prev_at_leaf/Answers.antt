@@ -1,14 +1,7 @@
-use Rattle.std.proofs.Common.{rules, arith, ◌≡◌, ◌≢◌, ◌-◌, ◌∙◌, ℕ, length, sym, ap, subst, None}
-use Rattle.std.specs.Prelude.{IfSome}
-use Rattle.mt_base.specs.declared.calls.Query.TheVariants.{Prev, Rfind}
-use Rattle.mt_rule.specs.declared.views.PassPart.{PassPart}
-use Rattle.mt_rule.specs.Sections.{here}
-use Rattle.mt_rule.specs.Tokens.{part_of}
-use Rattle.mt_read.specs.Answers.{Answers, AnswersBy}
+use Rattle.mt_read.proofs.Prelude.{rules, arith, ◌≡◌, ◌≢◌, ◌-◌, ◌∙◌, ℕ, length, sym, ap, subst, None, IfSome, Prev, Rfind, PassPart, here, part_of, Answers, AnswersBy, IsLeafBefore}
 use Rattle.mt_read.proofs.Finding.{place_more, sees_on}
 use Rattle.mt_read.proofs.Descending.{goes_on, goes_sees, goes_some, place_within}
 use Rattle.mt_read.proofs.Reading.{kind_goes, kind_told, stood_here}
-use Rattle.mt_read.specs.Neighbours.{IsLeafBefore}
 use Rattle.mt_read.proofs.Leaving.{kind_beside, kind_hole, left_prev, prev_left}
 use Rattle.mt_read.proofs.Before.{first_place}
 use Rattle.mt_read.proofs.Preceding.{no_prev, prevs}

@@ -1,11 +1,4 @@
-use Rattle.std.proofs.Common.{rules, arith, ◌≡◌, ◌≤◌, ◌∙◌, [], length, ap, subst, sym}
-use Rattle.std.specs.Prelude.{IfNone}
-use Rattle.mt_base.specs.declared.calls.Query.{Query}
-use Rattle.mt_base.specs.declared.calls.Query.TheVariants.{Prev}
-use Rattle.mt_base.specs.Width.{greatest, greatest_of}
-use Rattle.mt_rule.specs.Sections.{here, moment_seen}
-use Rattle.mt_rule.specs.Tokens.{identity_of, part_of}
-use Rattle.mt_read.specs.Neighbours.{LeftMarked}
+use Rattle.mt_read.proofs.Prelude.{rules, arith, ◌≡◌, ◌≤◌, ◌∙◌, [], length, ap, subst, sym, IfNone, Query, Prev, greatest, greatest_of, here, moment_seen, identity_of, part_of, LeftMarked}
 use Rattle.mt_read.proofs.Descending.{goes_some}
 use Rattle.mt_read.proofs.Leaving.{left_then}
 use Rattle.mt_read.proofs.Crossing.{from_fewer}

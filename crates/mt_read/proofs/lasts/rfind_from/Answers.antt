@@ -1,13 +1,6 @@
-use Rattle.std.proofs.Common.{rules, ℕ, ◌≡◌, ◌≤◌, [], length, sym, subst}
-use Rattle.std.specs.Prelude.{IfNone}
-use Rattle.mt_base.specs.declared.calls.Query.TheVariants.{Rfind}
-use Rattle.mt_life.specs.declared.views.Held.{Held}
-use Rattle.mt_rule.specs.Sections.{here, moment_seen}
-use Rattle.mt_rule.specs.Tokens.{identity_of, part_of}
+use Rattle.mt_read.proofs.Prelude.{rules, ℕ, ◌≡◌, ◌≤◌, [], length, sym, subst, IfNone, Rfind, Held, here, moment_seen, identity_of, part_of, LeftMarked, IsOnLeaf}
 use Rattle.mt_read.proofs.Descending.{goes_some, goes_sees, here_more}
 use Rattle.mt_read.proofs.Leaving.{rfind_left}
-use Rattle.mt_read.specs.Neighbours.{LeftMarked}
-use Rattle.mt_read.specs.Walks.{IsOnLeaf}
 use Rattle.mt_read.proofs.Crossing.{from_fewer}
 use Rattle.mt_read.proofs.Preceding.{lefts_nothing, only_answers}
 use Rattle.mt_read.proofs.Upward.{rfinds_sought, sought_is, sought_within}

@@ -1,17 +1,5 @@
-use Rattle.std.proofs.Common.{rules, ◌≡◌, ◌≢◌, ◌+◌, ◌<◌, ◌≤◌, ◌∙◌, ℕ, [], length, sym, ap, subst, arith}
-use Rattle.mt_base.specs.declared.kinds.Kind.{Kind}
-use Rattle.mt_base.specs.declared.calls.Query.TheVariants.{Find}
-use Rattle.mt_base.specs.Width.{greatest_of, kind_width}
-use Rattle.mt_layout.specs.Rows.{dead_mark}
-use Rattle.mt_life.specs.declared.views.Held.{Held}
-use Rattle.mt_rule.specs.declared.views.PassPart.{PassPart}
-use Rattle.mt_rule.specs.Places.{column_at}
-use Rattle.mt_rule.specs.Sections.{IsAt, here, moment_seen}
-use Rattle.mt_rule.specs.Tokens.{part_of}
-use Rattle.mt_read.specs.Answers.{AnswersBy}
-use Rattle.mt_read.specs.Walks.{IsUnder}
+use Rattle.mt_read.proofs.Prelude.{rules, ◌≡◌, ◌≢◌, ◌+◌, ◌<◌, ◌≤◌, ◌∙◌, ℕ, [], length, sym, ap, subst, arith, Kind, Find, greatest_of, kind_width, dead_mark, Held, PassPart, column_at, IsAt, here, moment_seen, part_of, AnswersBy, IsUnder, IsBehind}
 use Rattle.mt_read.proofs.Descending.{goes_on, goes_sees, here_more}
-use Rattle.mt_read.specs.Neighbours.{IsBehind}
 use Rattle.mt_read.proofs.Keeping.{goes_marked, goes_unmarked, leaf_parent, under_tells}
 use Rattle.mt_read.proofs.Leaving.{behind_leaf, come_beside}
 use Rattle.mt_read.proofs.Reading.{kind_goes}

@@ -1,14 +1,4 @@
-use Rattle.std.proofs.Common.{rules, ◌≡◌, ap, ℕ, sym, subst, length, Option}
-use Rattle.mt_base.specs.declared.ranges.Range.{Range}
-use Rattle.mt_base.specs.Width.{greatest_of}
-use Rattle.mt_base.specs.declared.calls.Query.TheVariants.{Next}
-use Rattle.mt_base.specs.declared.kinds.Kind.{Kind}
-use Rattle.mt_rule.specs.declared.views.PassPart.{PassPart}
-use Rattle.mt_rule.specs.Tokens.{identity_of, part_of}
-use Rattle.mt_read.specs.Answers.{Answers}
-use Rattle.mt_read.specs.Neighbours.{LeftMarked, WasLeftMarked, asked}
-use Rattle.mt_read.specs.Walks.{GoesOn}
-use Rattle.mt_read.specs.Windows.{Began}
+use Rattle.mt_read.proofs.Prelude.{rules, ◌≡◌, ap, ℕ, sym, subst, length, Option, Range, greatest_of, Next, Kind, PassPart, identity_of, part_of, Answers, LeftMarked, WasLeftMarked, asked, GoesOn, Began}
 use Rattle.mt_read.proofs.Finding.{shape_is}
 use Rattle.mt_read.proofs.Reading.{kind_goes}
 use Rattle.mt_read.proofs.Windows.{has_read, read_by}

@@ -1,12 +1,4 @@
-use Rattle.std.proofs.Common.{rules, arith, ◌≡◌, ◌+◌, ◌∙◌, ℕ, length, inr, sym, ap, subst, None}
-use Rattle.std.specs.Prelude.{IfSome}
-use Rattle.mt_base.specs.declared.calls.Query.TheVariants.{Find, Next}
-use Rattle.mt_base.specs.Width.{greatest, greatest_of}
-use Rattle.mt_rule.specs.declared.views.PassPart.{PassPart}
-use Rattle.mt_rule.specs.Sections.{here}
-use Rattle.mt_rule.specs.Tokens.{part_of}
-use Rattle.mt_read.specs.Answers.{Answers, AnswersBy, LeafAnswers}
-use Rattle.mt_read.specs.Neighbours.{IsBehind}
+use Rattle.mt_read.proofs.Prelude.{rules, arith, ◌≡◌, ◌+◌, ◌∙◌, ℕ, length, inr, sym, ap, subst, None, IfSome, Find, Next, greatest, greatest_of, PassPart, here, part_of, Answers, AnswersBy, LeafAnswers, IsBehind}
 use Rattle.mt_read.proofs.Finding.{place_more, sees_on}
 use Rattle.mt_read.proofs.Descending.{goes_on, goes_sees, goes_some, place_within}
 use Rattle.mt_read.proofs.Reading.{kind_goes, kind_told, stood_here}

@@ -1,12 +1,4 @@
-use Rattle.std.proofs.Common.{rules, ℕ, ◌≡◌, ◌≤◌, [], length, subst}
-use Rattle.std.specs.Prelude.{IfNone, IfSome}
-use Rattle.mt_base.specs.declared.kinds.Kind.{Kind}
-use Rattle.mt_base.specs.declared.calls.Query.TheVariants.{Next}
-use Rattle.mt_base.specs.Width.{greatest_of}
-use Rattle.mt_rule.specs.Sections.{here, moment_seen}
-use Rattle.mt_rule.specs.Tokens.{identity_of, part_of}
-use Rattle.mt_read.specs.Answers.{Answers}
-use Rattle.mt_read.specs.Neighbours.{LeftMarked}
+use Rattle.mt_read.proofs.Prelude.{rules, ℕ, ◌≡◌, ◌≤◌, [], length, subst, IfNone, IfSome, Kind, Next, greatest_of, here, moment_seen, identity_of, part_of, Answers, LeftMarked}
 use Rattle.mt_read.proofs.Descending.{goes_some}
 use Rattle.mt_read.proofs.Leaving.{left_then}
 use Rattle.mt_read.proofs.Reading.{kind_goes}

@@ -1,9 +1,4 @@
-use Rattle.std.proofs.Common.{ℕ, sym, subst, length, Option}
-use Rattle.mt_base.specs.declared.ranges.Range.{Range}
-use Rattle.mt_base.specs.declared.calls.Query.TheVariants.{Find}
-use Rattle.mt_rule.specs.Tokens.{identity_of, part_of}
-use Rattle.mt_read.specs.Answers.{Answers}
-use Rattle.mt_read.specs.Windows.{Began}
+use Rattle.mt_read.proofs.Prelude.{ℕ, sym, subst, length, Option, Range, Find, identity_of, part_of, Answers, Began}
 use Rattle.mt_read.proofs.Finding.{shape_is}
 use Rattle.mt_read.proofs.Reading.{kind_goes}
 use Rattle.mt_read.proofs.Windows.{bounded, read_by}

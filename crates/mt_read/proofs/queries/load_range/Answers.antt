@@ -1,7 +1,4 @@
-use Rattle.std.proofs.Common.{ℕ, sym, subst}
-use Rattle.mt_rule.specs.Tokens.{identity_of, part_of}
-use Rattle.mt_base.specs.declared.calls.Query.TheVariants.{Load}
-use Rattle.mt_read.specs.Windows.{Began}
+use Rattle.mt_read.proofs.Prelude.{ℕ, sym, subst, identity_of, part_of, Load, Began}
 use Rattle.mt_read.proofs.Finding.{shape_is}
 use Rattle.mt_read.proofs.Windows.{read_by}
 use Rattle.mt_read.proofs.queries.load_range.Goals as goal

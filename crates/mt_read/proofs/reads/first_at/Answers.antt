@@ -1,7 +1,4 @@
-use Rattle.std.proofs.Common.{◌≤◌, ◌∙◌, Option, subst}
-use Rattle.std.specs.Prelude.{IfSome}
-use Rattle.mt_base.specs.declared.ranges.Range.{Range}
-use Rattle.mt_rule.specs.Tokens.{part_of}
+use Rattle.mt_read.proofs.Prelude.{◌≤◌, ◌∙◌, Option, subst, IfSome, Range, part_of}
 use Rattle.mt_read.proofs.Reading.{ends_in_leaf, finds_here, finds_none, finds_behind, kind_goes}
 use Rattle.mt_read.proofs.Descending.{goes_on, goes_sees}
 use Rattle.mt_read.proofs.reads.first_at.Goals as goal

@@ -1,11 +1,4 @@
-use Rattle.std.proofs.Common.{◌≤◌, Option, length, subst, sym}
-use Rattle.mt_base.specs.declared.ranges.Range.{Range}
-use Rattle.mt_base.specs.declared.calls.Query.TheVariants.{Find}
-use Rattle.mt_base.specs.Width.{greatest_of}
-use Rattle.mt_life.specs.declared.views.Held.{Held}
-use Rattle.mt_rule.specs.Sections.{here}
-use Rattle.mt_rule.specs.Tokens.{identity_of, part_of}
-use Rattle.mt_read.specs.Answers.{Answers}
+use Rattle.mt_read.proofs.Prelude.{◌≤◌, Option, length, subst, sym, Range, Find, greatest_of, Held, here, identity_of, part_of, Answers}
 use Rattle.mt_read.proofs.Descending.{goes_on, goes_sees, here_more}
 use Rattle.mt_read.proofs.Reading.{answers_from}
 use Rattle.mt_read.proofs.Upward.{finds_sought, sought_within}

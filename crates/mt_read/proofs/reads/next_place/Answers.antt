@@ -1,12 +1,4 @@
-use Rattle.std.proofs.Common.{arith, ◌≢◌, ◌+◌, sym, ap, ◌∙◌, refl}
-use Rattle.std.specs.Prelude.{slice_index}
-use Rattle.mt_base.specs.Width.{kind_width}
-use Rattle.mt_base.proofs.WidthBounds.{greatest_fits}
-use Rattle.mt_layout.specs.declared.names.RowKind.{RowKind}
-use Rattle.mt_layout.specs.Sizes.{slots_of}
-use Rattle.mt_layout.proofs.RowSizes.{few_slots_of}
-use Rattle.mt_rule.specs.Sections.{here, kind_of}
-use Rattle.mt_rule.specs.Tokens.{part_of}
+use Rattle.mt_read.proofs.Prelude.{arith, ◌≢◌, ◌+◌, sym, ap, ◌∙◌, refl, slice_index, kind_width, greatest_fits, RowKind, slots_of, few_slots_of, here, kind_of, part_of}
 use Rattle.mt_read.proofs.Finding.{count_is, column_is, slots_are, place_more}
 use Rattle.mt_read.proofs.Descending.{place_within}
 use Rattle.mt_read.proofs.Beside.{used, last_behind, pivot_behind}

@@ -1,7 +1,4 @@
-use Rattle.mt_layout.specs.declared.names.RowKind.{RowKind}
-use Rattle.std.proofs.Common.{arith, sym, ap, ◌∙◌}
-use Rattle.mt_layout.specs.Sizes.{slots_of}
-use Rattle.mt_rule.specs.Tokens.{part_of}
+use Rattle.mt_read.proofs.Prelude.{RowKind, arith, sym, ap, ◌∙◌, slots_of, part_of}
 use Rattle.mt_read.proofs.Descending.{goes_entry, slot_fits, slot_is, column_of_slot}
 use Rattle.mt_read.proofs.Reading.{leaf_kind, was_read}
 use Rattle.mt_read.proofs.reads.range_at.Goals as goal

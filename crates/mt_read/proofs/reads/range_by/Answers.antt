@@ -1,15 +1,4 @@
-use Rattle.std.proofs.Common.{arith, ◌≡◌, ◌≤◌, ◌∙◌, ℕ, Option, ap, length, subst, sym}
-use Rattle.std.specs.Prelude.{min}
-use Rattle.mt_base.specs.declared.kinds.Kind.{Kind}
-use Rattle.mt_base.specs.declared.widths.Width.{Width}
-use Rattle.mt_base.specs.declared.ranges.Range.{Range}
-use Rattle.mt_base.specs.Width.{greatest, kind_width}
-use Rattle.mt_base.specs.declared.calls.Query.TheVariants.{Load}
-use Rattle.mt_rule.specs.declared.views.PassPart.{PassPart}
-use Rattle.mt_rule.specs.Sections.{here}
-use Rattle.mt_rule.specs.Tokens.{identity_of, part_of}
-use Rattle.mt_read.specs.Answers.{Answers}
-use Rattle.mt_read.specs.Walks.{sought}
+use Rattle.mt_read.proofs.Prelude.{arith, ◌≡◌, ◌≤◌, ◌∙◌, ℕ, Option, ap, length, subst, sym, min, Kind, Width, Range, greatest, kind_width, Load, PassPart, here, identity_of, part_of, Answers, sought}
 use Rattle.mt_read.proofs.Descending.{goes_on, goes_sees}
 use Rattle.mt_read.proofs.Reading.{loads, answers_from}
 use Rattle.mt_read.proofs.Upward.{loads_sought, sought_within}

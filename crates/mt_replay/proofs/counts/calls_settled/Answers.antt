@@ -1,4 +1,4 @@
-use Rattle.std.proofs.Common.{length, arith, ap, ◌∙◌, inr}
+use Rattle.mt_replay.proofs.Prelude.{length, arith, ap, ◌∙◌, inr}
 use Rattle.mt_replay.proofs.Staying.{row_stays}
 use Rattle.mt_replay.proofs.counts.calls_settled.Goals as goal
 

@@ -1,5 +1,4 @@
-use Rattle.std.proofs.Common.{◌≡◌, ◌≤◌, length, map, take}
-use Rattle.std.specs.Vec.{vec_capacity}
+use Rattle.mt_replay.proofs.Prelude.{◌≡◌, ◌≤◌, length, map, take, vec_capacity}
 use Rattle.mt_replay.proofs.lanes.gather.Given as goal
 
 abbrev pub invariant-loop-lane : goal.invariant-loop-lane

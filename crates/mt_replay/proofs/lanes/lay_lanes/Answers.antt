@@ -1,4 +1,4 @@
-use Rattle.std.proofs.Common.{arith, sym, ap, ◌∙◌}
+use Rattle.mt_replay.proofs.Prelude.{arith, sym, ap, ◌∙◌}
 use Rattle.mt_replay.proofs.Laying.{lane_more}
 use Rattle.mt_replay.proofs.Telling.{room_behind}
 use Rattle.mt_replay.proofs.lanes.lay_lanes.Goals as goal

@@ -1,6 +1,4 @@
-use Rattle.std.proofs.Common.{◌≡◌, ◌≤◌, length}
-use Rattle.std.specs.Vec.{vec_capacity}
-use Rattle.mt_replay.specs.Lanes.{AreLanesFor, room_before}
+use Rattle.mt_replay.proofs.Prelude.{◌≡◌, ◌≤◌, length, vec_capacity, AreLanesFor, room_before}
 use Rattle.mt_replay.proofs.lanes.lay_lanes.Given as goal
 
 abbrev pub invariant-loop-lane : goal.invariant-loop-lane

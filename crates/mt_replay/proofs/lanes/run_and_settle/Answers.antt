@@ -1,6 +1,4 @@
-use Rattle.std.proofs.Common.{ℕ, ◌+◌, get_or, sym, subst}
-use Rattle.mt_replay.specs.Trees.{AreAll}
-use Rattle.mt_replay.specs.Players.{rows_known}
+use Rattle.mt_replay.proofs.Prelude.{ℕ, ◌+◌, get_or, sym, subst, AreAll, rows_known}
 use Rattle.mt_replay.proofs.PlayerGone.{manned_settled}
 use Rattle.mt_replay.proofs.lanes.run_and_settle.Goals as goal
 

@@ -1,7 +1,4 @@
-use Rattle.std.proofs.Common.{ℕ, List, length, ap, ◌∙◌}
-use Rattle.std.proofs.lemmas.Bool.{eq-eqb, ne_eqb}
-use Rattle.mt_lanes.specs.declared.lanes.Lane.{Lane}
-use Rattle.mt_desks.specs.declared.desks.LaneDesk.{LaneDesk}
+use Rattle.mt_replay.proofs.Prelude.{ℕ, List, length, ap, ◌∙◌, eq-eqb, ne_eqb, Lane, LaneDesk}
 use Rattle.mt_replay.proofs.LanesGone.{lanes_gone, ok_from}
 use Rattle.mt_replay.proofs.Manning.{lanes_laid, lanes_pass, rows_wide}
 use Rattle.mt_replay.proofs.Settling.{written_row}

@@ -1,5 +1,4 @@
-use Rattle.std.proofs.Common.{◌≡◌, length, arith, ap, ◌∙◌, get_or, Vec, Global}
-use Rattle.std.specs.Vec.{with_items}
+use Rattle.mt_replay.proofs.Prelude.{◌≡◌, length, arith, ap, ◌∙◌, get_or, Vec, Global, with_items}
 use Rattle.mt_replay.proofs.Settling.{none_settled, one_settled, all_settled, written_row}
 use Rattle.mt_replay.proofs.lanes.settle_all.Goals as goal
 

@@ -1,5 +1,4 @@
-use Rattle.std.proofs.Common.{◌≡◌, take}
-use Rattle.mt_replay.specs.Makes.{kinds_in}
+use Rattle.mt_replay.proofs.Prelude.{◌≡◌, take, kinds_in}
 use Rattle.mt_replay.proofs.makes.kinds_of.Given as goal
 
 abbrev pub invariant-loop-line : goal.invariant-loop-line

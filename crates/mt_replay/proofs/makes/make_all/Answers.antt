@@ -1,6 +1,4 @@
-use Rattle.std.proofs.Common.{◌≡◌, ◌+◌, ◌-◌, ◌/◌, ◌≤◌, ℕ, List, length, slice_range, take, arith, sym, subst, vec_len}
-use Rattle.mt_base.specs.declared.kinds.Kind.{Kind}
-use Rattle.mt_replay.specs.Makes.{AreMade}
+use Rattle.mt_replay.proofs.Prelude.{◌≡◌, ◌+◌, ◌-◌, ◌/◌, ◌≤◌, ℕ, List, length, slice_range, take, arith, sym, subst, vec_len, Kind, AreMade}
 use Rattle.mt_replay.proofs.Making.{more_made, slice_long}
 use Rattle.mt_replay.proofs.makes.make_all.Goals as goal
 

@@ -1,5 +1,4 @@
-use Rattle.std.proofs.Common.{◌≤◌, ◌-◌, length, take}
-use Rattle.mt_replay.specs.Makes.{AreMade}
+use Rattle.mt_replay.proofs.Prelude.{◌≤◌, ◌-◌, length, take, AreMade}
 use Rattle.mt_replay.proofs.makes.make_all.Given as goal
 
 abbrev pub invariant-loop-alloc : goal.invariant-loop-alloc

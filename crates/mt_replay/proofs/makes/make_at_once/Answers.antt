@@ -1,4 +1,4 @@
-use Rattle.std.proofs.Common.{rules}
+use Rattle.mt_replay.proofs.Prelude.{rules}
 use Rattle.mt_replay.proofs.Making.{made_by_places}
 use Rattle.mt_replay.proofs.makes.make_at_once.Goals as goal
 

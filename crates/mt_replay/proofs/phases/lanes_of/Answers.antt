@@ -1,4 +1,4 @@
-use Rattle.std.proofs.Common.{arith}
+use Rattle.mt_replay.proofs.Prelude.{arith}
 use Rattle.mt_replay.proofs.LogPhases.{log_lanes}
 use Rattle.mt_replay.proofs.phases.lanes_of.Goals as goal
 

@@ -1,4 +1,4 @@
-use Rattle.mt_replay.specs.Phases.{NoJoinBetween}
+use Rattle.mt_replay.proofs.Prelude.{NoJoinBetween}
 use Rattle.mt_replay.proofs.phases.phase_end.Given as goal
 
 abbrev pub invariant-loop-at : goal.invariant-loop-at

@@ -1,6 +1,4 @@
-use Rattle.std.proofs.Common.{refl, ap, ◌∙◌}
-use Rattle.mt_log.specs.Trees.{trees_of}
-use Rattle.mt_replay.specs.Players.{player_state}
+use Rattle.mt_replay.proofs.Prelude.{refl, ap, ◌∙◌, trees_of, player_state}
 use Rattle.mt_replay.proofs.LogPhases.{run_of}
 use Rattle.mt_replay.proofs.phases.play.Goals as goal
 

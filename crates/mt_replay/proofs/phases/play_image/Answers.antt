@@ -1,6 +1,4 @@
-use Rattle.std.proofs.Common.{length}
-use Rattle.mt_replay.specs.Images.{IsImageOfRun}
-use Rattle.mt_replay.specs.Players.{HasImage, player_state}
+use Rattle.mt_replay.proofs.Prelude.{length, IsImageOfRun, HasImage, player_state}
 use Rattle.mt_replay.proofs.Imaging.{image_of_run, some_tree}
 use Rattle.mt_replay.proofs.PlayerGone.{tracked_count}
 use Rattle.mt_replay.proofs.Seating.{if_ok}

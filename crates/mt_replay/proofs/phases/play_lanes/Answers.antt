@@ -1,6 +1,4 @@
-use Rattle.std.proofs.Common.{◌≡◌, ◌+◌, length, sym, ap, ◌∙◌, Vec, Global}
-use Rattle.std.specs.Vec.{with_items}
-use Rattle.std.proofs.lemmas.Result.{on_ok_weaker}
+use Rattle.mt_replay.proofs.Prelude.{◌≡◌, ◌+◌, length, sym, ap, ◌∙◌, Vec, Global, with_items, on_ok_weaker}
 use Rattle.mt_replay.proofs.PlayerGone.{gone_same, manned_of, played_gone, rests_gone}
 use Rattle.mt_replay.proofs.Settling.{written_row}
 use Rattle.mt_replay.proofs.phases.play_lanes.Goals as goal

@@ -1,5 +1,4 @@
-use Rattle.std.proofs.Common.{◌+◌, ◌<◌, length, arith, ◌∙◌}
-use Rattle.mt_replay.specs.Players.{player_state}
+use Rattle.mt_replay.proofs.Prelude.{◌+◌, ◌<◌, length, arith, ◌∙◌, player_state}
 use Rattle.mt_replay.proofs.LogPhases.{behind_join, next_begins, phase_ready}
 use Rattle.mt_replay.proofs.Turning.{next_turned}
 use Rattle.mt_replay.proofs.phases.play_lines.Goals as goal

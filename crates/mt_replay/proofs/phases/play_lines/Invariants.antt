@@ -1,6 +1,4 @@
-use Rattle.std.proofs.Common.{◌≡◌, ◌+◌, ◌-◌, drop, length, take}
-use Rattle.mt_replay.specs.Players.{IsBetweenPhases, IsPlayed, player_state}
-use Rattle.mt_replay.specs.Turns.{AllTurned}
+use Rattle.mt_replay.proofs.Prelude.{◌≡◌, ◌+◌, ◌-◌, drop, length, take, IsBetweenPhases, IsPlayed, player_state, AllTurned}
 use Rattle.mt_replay.proofs.LogPhases.{BeginsAt}
 use Rattle.mt_replay.proofs.phases.play_lines.Given as goal
 

@@ -1,7 +1,4 @@
-use Rattle.std.proofs.Common.{◌+◌, List, length, take, slice_range, subst}
-use Rattle.std.proofs.lemmas.Result.{on_ok_weaker}
-use Rattle.mt_log.specs.declared.lines.Line.{Line}
-use Rattle.mt_replay.specs.Players.{IsPlayed, player_state}
+use Rattle.mt_replay.proofs.Prelude.{◌+◌, List, length, take, slice_range, subst, on_ok_weaker, Line, IsPlayed, player_state}
 use Rattle.mt_replay.proofs.LogPhases.{can_do, front_and_phase}
 use Rattle.mt_replay.proofs.PlayerGone.{tracked_count}
 use Rattle.mt_replay.proofs.phases.play_phase.Goals as goal

@@ -1,6 +1,4 @@
-use Rattle.std.proofs.Common.{IfOk, map, arith, subst}
-use Rattle.mt_base.specs.History.{last_map}
-use Rattle.mt_replay.specs.Trees.{IsNewTree}
+use Rattle.mt_replay.proofs.Prelude.{IfOk, map, arith, subst, last_map, IsNewTree}
 use Rattle.mt_replay.proofs.Staying.{row_stays}
 use Rattle.mt_replay.proofs.rows.copy_settled.Goals as goal
 

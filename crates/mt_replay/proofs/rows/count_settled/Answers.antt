@@ -1,5 +1,4 @@
-use Rattle.std.proofs.Common.{length, arith, ap, ◌∙◌, inr}
-use Rattle.mt_base.specs.History.{last_map}
+use Rattle.mt_replay.proofs.Prelude.{length, arith, ap, ◌∙◌, inr, last_map}
 use Rattle.mt_replay.proofs.Staying.{row_stays}
 use Rattle.mt_replay.proofs.rows.count_settled.Goals as goal
 

@@ -1,5 +1,4 @@
-use Rattle.std.proofs.Common.{◌≡◌, IfOk, arith, subst, inr}
-use Rattle.mt_base.specs.History.{last_map}
+use Rattle.mt_replay.proofs.Prelude.{◌≡◌, IfOk, arith, subst, inr, last_map}
 use Rattle.mt_replay.proofs.Staying.{row_stays}
 use Rattle.mt_replay.proofs.rows.list_settled.Goals as goal
 

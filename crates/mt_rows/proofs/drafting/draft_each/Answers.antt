@@ -1,5 +1,4 @@
-use Rattle.std.proofs.Common.{◌+◌, subst, sym}
-use Rattle.mt_rows.specs.Sheet.{Sheet}
+use Rattle.mt_rows.proofs.Prelude.{◌+◌, subst, sym, Sheet}
 use Rattle.mt_rows.proofs.ColumnByColumn.{AreDraftedFirst, all_drafted, first_drafted, free_next, next_drafted, place_next}
 use Rattle.mt_rows.proofs.drafting.draft_each.Goals as goal
 

@@ -1,8 +1,4 @@
-use Rattle.std.proofs.Common.{ℕ, sym, subst}
-use Rattle.mt_base.specs.declared.calls.Call.TheVariants.{Store}
-use Rattle.mt_base.specs.Call.{acted}
-use Rattle.mt_rows.specs.declared.rows.Place.TheVariants.{Slot}
-use Rattle.mt_rows.specs.Publish.{MayPublish, map_by}
+use Rattle.mt_rows.proofs.Prelude.{ℕ, sym, subst, Store, acted, Slot, MayPublish, map_by}
 use Rattle.mt_rows.proofs.ExactStore.{may_publish}
 use Rattle.mt_rows.proofs.laws.an_exact_store_may_be_published.Goals as goal
 

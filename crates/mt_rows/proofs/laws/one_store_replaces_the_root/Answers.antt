@@ -1,5 +1,4 @@
-use Rattle.mt_base.specs.Width.{deepest}
-use Rattle.mt_rows.specs.Spans.{root_span}
+use Rattle.mt_rows.proofs.Prelude.{deepest, root_span}
 use Rattle.mt_rows.proofs.Depth.{ranges_by_depth}
 use Rattle.mt_rows.proofs.laws.one_store_replaces_the_root.Goals as goal
 

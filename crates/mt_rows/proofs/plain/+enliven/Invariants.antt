@@ -1,7 +1,4 @@
-use Rattle.std.proofs.Common.{◌≡◌, ◌-◌, ℕ, List, take}
-use Rattle.std.specs.List.{fold}
-use Rattle.mt_rows.specs.declared.plain.Fate.{Fate}
-use Rattle.mt_rows.specs.Plain.{enlivened}
+use Rattle.mt_rows.proofs.Prelude.{◌≡◌, ◌-◌, ℕ, List, take, fold, Fate, enlivened}
 use Rattle.mt_rows.proofs.plain.+enliven.Given as goal
 
 abbrev pub decreases-enliven : goal.decreases-enliven

@@ -1,12 +1,4 @@
-use Rattle.std.proofs.Common.{◌≡◌, ◌<◌, ◌+◌, ◌-◌, ◌^◌, ℕ, List, ap, sym, ◌∙◌, refl, suc, length, slice_set, arith}
-use Rattle.std.specs.List.{fold, flat_map}
-use Rattle.std.proofs.lemmas.List.{take_all}
-use Rattle.mt_layout.specs.Rows.{row_in}
-use Rattle.mt_layout.specs.declared.spans.Span.{Span}
-use Rattle.mt_rows.specs.Spans.{Table, base_of, spans_in}
-use Rattle.mt_rows.specs.Trees.{rows_of}
-use Rattle.mt_rows.specs.declared.plain.Fate.{Fate}
-use Rattle.mt_rows.specs.declared.plain.Fate.TheVariants.{Live}
+use Rattle.mt_rows.proofs.Prelude.{◌≡◌, ◌<◌, ◌+◌, ◌-◌, ◌^◌, ℕ, List, ap, sym, ◌∙◌, refl, suc, length, slice_set, arith, fold, flat_map, take_all, row_in, Span, Table, base_of, spans_in, rows_of, Fate, Live}
 use Rattle.mt_rows.proofs.Deeper.{rows_of_inner, row_named}
 use Rattle.mt_rows.proofs.PlainPlant.{one_more_fits}
 use Rattle.mt_rows.proofs.Frames.{same_spans}

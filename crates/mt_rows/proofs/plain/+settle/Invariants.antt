@@ -1,8 +1,4 @@
-use Rattle.std.proofs.Common.{◌≡◌, ◌+◌, ◌-◌, ℕ, List, length, slice_set, take}
-use Rattle.std.specs.List.{fold, flat_map}
-use Rattle.mt_rows.specs.Trees.{rows_of}
-use Rattle.mt_rows.specs.declared.plain.Fate.{Fate}
-use Rattle.mt_rows.specs.declared.plain.Fate.TheVariants.{Live}
+use Rattle.mt_rows.proofs.Prelude.{◌≡◌, ◌+◌, ◌-◌, ℕ, List, length, slice_set, take, fold, flat_map, rows_of, Fate, Live}
 use Rattle.mt_rows.proofs.plain.+settle.Given as goal
 
 abbrev pub decreases-settle : goal.decreases-settle

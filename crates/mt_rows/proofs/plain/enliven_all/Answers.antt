@@ -1,10 +1,4 @@
-use Rattle.std.proofs.Common.{◌≡◌, List, length, map, filter, ◌∙◌, ap, rules}
-use Rattle.std.specs.Prelude.{replicate}
-use Rattle.mt_base.specs.Width.{deepest}
-use Rattle.mt_rows.specs.declared.plain.Fate.{Fate}
-use Rattle.mt_rows.specs.declared.plain.Fate.TheVariants.{Draft}
-use Rattle.mt_rows.specs.OfWords.{is_live, renewed, walked_fates}
-use Rattle.mt_rows.specs.Plain.{enlivened}
+use Rattle.mt_rows.proofs.Prelude.{◌≡◌, List, length, map, filter, ◌∙◌, ap, rules, replicate, deepest, Fate, Draft, is_live, renewed, walked_fates, enlivened}
 use Rattle.mt_rows.proofs.plain.enliven_all.Goals as goal
 
 pub returns-clause-fates : goal.returns-clause-fates

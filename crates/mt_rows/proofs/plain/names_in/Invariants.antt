@@ -1,5 +1,4 @@
-use Rattle.std.proofs.Common.{◌≡◌, ◌+◌, length}
-use Rattle.std.specs.List.{slice_range}
+use Rattle.mt_rows.proofs.Prelude.{◌≡◌, ◌+◌, length, slice_range}
 use Rattle.mt_rows.proofs.plain.names_in.Given as goal
 
 abbrev pub invariant-loop-at : goal.invariant-loop-at

@@ -1,9 +1,4 @@
-use Rattle.std.proofs.Common.{◌<◌, ◌∙◌, ap, length, slice_set, arith}
-use Rattle.std.specs.Prelude.{slice_index_or}
-use Rattle.std.proofs.lemmas.List.{get_or_default}
-use Rattle.std.proofs.lemmas.List.Edits.{map_over_more}
-use Rattle.mt_rows.specs.declared.plain.Fate.TheVariants.{New}
-use Rattle.mt_rows.specs.OfWords.{renewed}
+use Rattle.mt_rows.proofs.Prelude.{◌<◌, ◌∙◌, ap, length, slice_set, arith, slice_index_or, get_or_default, map_over_more, New, renewed}
 use Rattle.mt_rows.proofs.plain.renew.Goals as goal
 
 pub loop-fate-preserved : goal.loop-fate-preserved

@@ -1,5 +1,4 @@
-use Rattle.std.proofs.Common.{◌≡◌, ◌++◌, map, take, drop}
-use Rattle.mt_rows.specs.OfWords.{renewed}
+use Rattle.mt_rows.proofs.Prelude.{◌≡◌, ◌++◌, map, take, drop, renewed}
 use Rattle.mt_rows.proofs.plain.renew.Given as goal
 
 abbrev pub invariant-loop-fate : goal.invariant-loop-fate

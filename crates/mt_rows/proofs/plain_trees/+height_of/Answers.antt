@@ -1,6 +1,4 @@
-use Rattle.std.proofs.Common.{◌≡◌, ◌+◌, ◌-◌, ◌<◌, ℕ, ap, ◌∙◌, sym, arith}
-use Rattle.mt_rows.specs.Spans.{Table, spans_in}
-use Rattle.mt_rows.specs.Trees.{height_of, of_first}
+use Rattle.mt_rows.proofs.Prelude.{◌≡◌, ◌+◌, ◌-◌, ◌<◌, ℕ, ap, ◌∙◌, sym, arith, Table, spans_in, height_of, of_first}
 use Rattle.mt_rows.proofs.Deeper.{height_of_inner, of_first_at}
 use Rattle.mt_rows.proofs.plain_trees.+height_of.Goals as goal
 

@@ -1,9 +1,4 @@
-use Rattle.std.proofs.Common.{◌++◌, List, ap, ◌∙◌, sym, ◌-◌, ◌<◌, arith}
-use Rattle.std.specs.List.{flat_map}
-use Rattle.std.proofs.lemmas.List.{take_all}
-use Rattle.mt_base.specs.declared.ranges.Range.{Range}
-use Rattle.mt_rows.specs.Spans.{Table}
-use Rattle.mt_rows.specs.Trees.{ranges_of}
+use Rattle.mt_rows.proofs.Prelude.{◌++◌, List, ap, ◌∙◌, sym, ◌-◌, ◌<◌, arith, flat_map, take_all, Range, Table, ranges_of}
 use Rattle.mt_rows.proofs.Deeper.{ranges_of_inner}
 use Rattle.mt_rows.proofs.plain_trees.+push_ranges.Goals as goal
 

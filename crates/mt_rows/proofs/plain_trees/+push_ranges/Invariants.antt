@@ -1,6 +1,4 @@
-use Rattle.std.proofs.Common.{◌≡◌, ◌-◌, ◌++◌, take}
-use Rattle.std.specs.List.{flat_map}
-use Rattle.mt_rows.specs.Trees.{ranges_of}
+use Rattle.mt_rows.proofs.Prelude.{◌≡◌, ◌-◌, ◌++◌, take, flat_map, ranges_of}
 use Rattle.mt_rows.proofs.plain_trees.+push_ranges.Given as goal
 
 abbrev pub decreases-push_ranges : goal.decreases-push_ranges

@@ -1,9 +1,4 @@
-use Rattle.std.proofs.Common.{◌≡◌, ◌++◌, ◌∷◌, [], ℕ, List, ap, ◌∙◌, sym, take, ◌-◌, ◌<◌, arith, append_assoc}
-use Rattle.std.specs.List.{flat_map}
-use Rattle.std.proofs.lemmas.List.{take_all}
-use Rattle.mt_layout.specs.Rows.{row_in}
-use Rattle.mt_rows.specs.Spans.{Table}
-use Rattle.mt_rows.specs.Trees.{rows_of}
+use Rattle.mt_rows.proofs.Prelude.{◌≡◌, ◌++◌, ◌∷◌, [], ℕ, List, ap, ◌∙◌, sym, take, ◌-◌, ◌<◌, arith, append_assoc, flat_map, take_all, row_in, Table, rows_of}
 use Rattle.mt_rows.proofs.Deeper.{rows_of_inner, row_named}
 use Rattle.mt_rows.proofs.plain_trees.+push_rows.Goals as goal
 

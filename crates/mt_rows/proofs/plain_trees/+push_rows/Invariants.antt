@@ -1,6 +1,4 @@
-use Rattle.std.proofs.Common.{◌≡◌, ◌-◌, ◌++◌, take}
-use Rattle.std.specs.List.{flat_map}
-use Rattle.mt_rows.specs.Trees.{rows_of}
+use Rattle.mt_rows.proofs.Prelude.{◌≡◌, ◌-◌, ◌++◌, take, flat_map, rows_of}
 use Rattle.mt_rows.proofs.plain_trees.+push_rows.Given as goal
 
 abbrev pub decreases-push_rows : goal.decreases-push_rows

@@ -1,5 +1,4 @@
-use Rattle.std.proofs.Common.{◌-◌}
-use Rattle.mt_layout.specs.Sizes.{slots_of}
+use Rattle.mt_rows.proofs.Prelude.{◌-◌, slots_of}
 use Rattle.mt_rows.proofs.plain_trees.+push_spans.Given as goal
 
 abbrev pub decreases-push_spans : goal.decreases-push_spans

@@ -1,6 +1,4 @@
-use Rattle.std.proofs.Common.{◌≡◌, ◌++◌, take}
-use Rattle.std.specs.List.{flat_map}
-use Rattle.mt_layout.specs.Spans.{leaf_range}
+use Rattle.mt_rows.proofs.Prelude.{◌≡◌, ◌++◌, take, flat_map, leaf_range}
 use Rattle.mt_rows.proofs.plain_trees.push_leaf_ranges.Given as goal
 
 abbrev pub invariant-loop-span : goal.invariant-loop-span

@@ -1,5 +1,4 @@
-use Rattle.std.proofs.Common.{◌≡◌, ◌<◌, ◌≤◌, ℕ, length}
-use Rattle.std.specs.Prelude.{slice_index}
+use Rattle.mt_rows.proofs.Prelude.{◌≡◌, ◌<◌, ◌≤◌, ℕ, length, slice_index}
 use Rattle.mt_rows.proofs.words.clear_first.Given as goal
 
 abbrev pub invariant-loop-at : goal.invariant-loop-at

@@ -1,5 +1,4 @@
-use Rattle.std.proofs.Common.{◌∙◌, ap, length, length-append, arith}
-use Rattle.mt_rows.specs.Words.{with_zeros}
+use Rattle.mt_rows.proofs.Prelude.{◌∙◌, ap, length, length-append, arith, with_zeros}
 use Rattle.mt_rows.proofs.ZeroWords.{zeros_push}
 use Rattle.mt_rows.proofs.words.write_zeros.Goals as goal
 

@@ -1,6 +1,4 @@
-use Rattle.std.proofs.Common.{◌≡◌, ◌≤◌, length}
-use Rattle.std.specs.Vec.{vec_capacity}
-use Rattle.mt_rows.specs.Words.{with_zeros}
+use Rattle.mt_rows.proofs.Prelude.{◌≡◌, ◌≤◌, length, vec_capacity, with_zeros}
 use Rattle.mt_rows.proofs.words.write_zeros.Given as goal
 
 abbrev pub invariant-loop : goal.invariant-loop

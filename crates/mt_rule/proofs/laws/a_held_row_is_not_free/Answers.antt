@@ -1,10 +1,4 @@
-use Rattle.std.proofs.Common.{ℕ, ◌+◌, ◌≤◌, sym, subst, arith}
-use Rattle.mt_life.specs.Known.{Later}
-use Rattle.mt_rows.specs.declared.rows.Life.{Life}
-use Rattle.mt_rows.specs.declared.rows.Life.TheVariants.{New, Draft, Live, Dead}
-use Rattle.mt_rows.specs.Sheet.{IsFree, life_of}
-use Rattle.mt_rule.specs.declared.views.PenPart.{PenPart}
-use Rattle.mt_rule.specs.Seats.{least_number}
+use Rattle.mt_rule.proofs.Prelude.{ℕ, ◌+◌, ◌≤◌, sym, subst, arith, Later, Life, New, Draft, Live, Dead, IsFree, life_of, PenPart, least_number}
 use Rattle.mt_rule.proofs.laws.a_held_row_is_not_free.Goals as goal
 
 -- a row that died behind all that is cleared

@@ -1,5 +1,4 @@
-use Rattle.std.proofs.Common.{◌≡◌, map, take}
-use Rattle.mt_sequential.specs.Playing.{listing_of}
+use Rattle.mt_sequential.proofs.Prelude.{◌≡◌, map, take, listing_of}
 use Rattle.mt_sequential.proofs.player.list_trees.Given as goal
 
 abbrev pub invariant-loop-at : goal.invariant-loop-at

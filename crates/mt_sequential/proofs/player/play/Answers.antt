@@ -1,6 +1,4 @@
-use Rattle.std.proofs.Common.{List, map, refl, ap, ◌∙◌, subst}
-use Rattle.mt_log.specs.declared.lines.Line.{Line}
-use Rattle.mt_sequential.specs.Playing.{PlayerState, IsPlayed, listing_of}
+use Rattle.mt_sequential.proofs.Prelude.{List, map, refl, ap, ◌∙◌, subst, Line, PlayerState, IsPlayed, listing_of}
 use Rattle.mt_sequential.proofs.PlayedLines.{run_of}
 use Rattle.mt_sequential.proofs.player.play.Goals as goal
 

@@ -1,7 +1,4 @@
-use Rattle.std.proofs.Common.{◌<◌, ℕ, List, length, take, All, arith, refl, ◌∙◌, subst, sym}
-use Rattle.std.proofs.lemmas.List.Elements.{All-nil}
-use Rattle.mt_log.specs.declared.lines.Line.{Line}
-use Rattle.mt_sequential.specs.Playing.{IsCalledWithin}
+use Rattle.mt_sequential.proofs.Prelude.{◌<◌, ℕ, List, length, take, All, arith, refl, ◌∙◌, subst, sym, All-nil, Line, IsCalledWithin}
 use Rattle.mt_sequential.proofs.CalledWithin.{names_known, one_call_at_most, one_more_played}
 use Rattle.mt_sequential.proofs.PlayedLines.{none_played}
 use Rattle.mt_sequential.proofs.player.play_lines.Goals as goal

@@ -1,5 +1,4 @@
-use Rattle.std.proofs.Common.{◌≡◌, All, take}
-use Rattle.mt_sequential.specs.Playing.{IsPlayed, IsCalledWithin}
+use Rattle.mt_sequential.proofs.Prelude.{◌≡◌, All, take, IsPlayed, IsCalledWithin}
 use Rattle.mt_sequential.proofs.player.play_lines.Given as goal
 
 -- the lines so far were played, and no tree was called more often than there were lines

@@ -1,5 +1,4 @@
-use Rattle.std.proofs.Common.{◌≡◌, ◌<◌, length}
-use Rattle.mt_shelves.specs.Shelves.{AllFilled, joined}
+use Rattle.mt_shelves.proofs.Prelude.{◌≡◌, ◌<◌, length, AllFilled, joined}
 use Rattle.mt_shelves.proofs.edits.cut_up.Given as goal
 
 abbrev pub invariant-loop : goal.invariant-loop

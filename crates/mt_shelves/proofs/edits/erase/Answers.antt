@@ -1,7 +1,4 @@
-use Rattle.std.proofs.Common.{◌≡◌, ◌<◌, List, [], length, ap, sym, ◌∙◌}
-use Rattle.mt_base.specs.declared.ranges.Range.{Range}
-use Rattle.mt_base.specs.Map.{holding, without}
-use Rattle.mt_shelves.specs.Shelves.{joined}
+use Rattle.mt_shelves.proofs.Prelude.{◌≡◌, ◌<◌, List, [], length, ap, sym, ◌∙◌, Range, holding, without, joined}
 use Rattle.mt_shelves.proofs.ErasingThere.{end_held, shelf_held, shelf_without, within_there}
 use Rattle.mt_shelves.proofs.edits.erase.Goals as goal
 

@@ -1,7 +1,4 @@
-use Rattle.std.proofs.Common.{◌≡◌, List, ◌++◌, ◌∷◌, take, drop, ap, ◌∙◌}
-use Rattle.std.specs.List.{slice_range}
-use Rattle.mt_base.specs.declared.ranges.Range.{Range}
-use Rattle.mt_shelves.specs.Shelves.{joined}
+use Rattle.mt_shelves.proofs.Prelude.{◌≡◌, List, ◌++◌, ◌∷◌, take, drop, ap, ◌∙◌, slice_range, Range, joined}
 use Rattle.mt_shelves.proofs.Editing.{brought, put_together}
 use Rattle.mt_shelves.proofs.edits.join.Goals as goal
 

@@ -1,4 +1,4 @@
-use Rattle.std.proofs.Common.{◌-◌, arith}
+use Rattle.mt_shelves.proofs.Prelude.{◌-◌, arith}
 use Rattle.mt_shelves.proofs.Editing.{fewer_above, fewer_below}
 use Rattle.mt_shelves.proofs.edits.site.Goals as goal
 

@@ -1,6 +1,4 @@
-use Rattle.std.proofs.Common.{List, ap, ◌∙◌}
-use Rattle.mt_base.specs.declared.ranges.Range.{Range}
-use Rattle.mt_base.specs.Map.{over}
+use Rattle.mt_shelves.proofs.Prelude.{List, ap, ◌∙◌, Range, over}
 use Rattle.mt_shelves.proofs.Editing.{over_there}
 use Rattle.mt_shelves.proofs.edits.store_there.Goals as goal
 

@@ -1,6 +1,4 @@
-use Rattle.std.proofs.Common.{◌≡◌, ◌<◌, length, get_or, ap, sym, ◌∙◌, arith}
-use Rattle.std.proofs.lemmas.Bool.{eqb-false, eqb-true}
-use Rattle.mt_shelves.specs.Shelves.{joined}
+use Rattle.mt_shelves.proofs.Prelude.{◌≡◌, ◌<◌, length, get_or, ap, sym, ◌∙◌, arith, eqb-false, eqb-true, joined}
 use Rattle.mt_shelves.proofs.Editing.{all_filled, none_removed}
 use Rattle.mt_shelves.proofs.edits.tidy.Goals as goal
 

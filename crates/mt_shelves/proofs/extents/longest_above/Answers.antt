@@ -1,5 +1,4 @@
-use Rattle.std.proofs.Common.{arith}
-use Rattle.std.proofs.lemmas.Grind.{common_steps}
+use Rattle.mt_shelves.proofs.Prelude.{arith, common_steps}
 use Rattle.mt_shelves.proofs.LongestHole.{longest_more}
 use Rattle.mt_shelves.proofs.extents.longest_above.Goals as goal
 

@@ -1,4 +1,4 @@
-use Rattle.std.proofs.Common.{◌≤◌, ◌-◌, length}
+use Rattle.mt_shelves.proofs.Prelude.{◌≤◌, ◌-◌, length}
 use Rattle.mt_shelves.proofs.places.place_above.Given as goal
 
 abbrev pub invariant-loop-end : goal.invariant-loop-end

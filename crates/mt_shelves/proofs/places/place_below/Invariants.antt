@@ -1,5 +1,4 @@
-use Rattle.std.proofs.Common.{◌≡◌, ◌≤◌, ◌<◌, ◌-◌, [], false, get_or, length, take}
-use Rattle.mt_shelves.specs.Shelves.{EndBelow, ends_below, joined}
+use Rattle.mt_shelves.proofs.Prelude.{◌≡◌, ◌≤◌, ◌<◌, ◌-◌, [], false, get_or, length, take, EndBelow, ends_below, joined}
 use Rattle.mt_shelves.proofs.places.place_below.Given as goal
 
 abbrev pub invariant-loop-low : goal.invariant-loop-low

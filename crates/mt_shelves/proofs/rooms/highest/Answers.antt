@@ -1,8 +1,4 @@
-use Rattle.std.proofs.Common.{◌≡◌, ◌+◌, ◌-◌, ◌<◌, ℕ, ◌++◌, List, length, take, get_or, ap, ◌∙◌, subst, arith}
-use Rattle.mt_base.specs.declared.ranges.Range.{Range}
-use Rattle.mt_base.specs.Holes.{high, highest_in, hole_between, holes_from, kept}
-use Rattle.mt_list.proofs.HolesSought.{none_found}
-use Rattle.mt_shelves.specs.Shelves.{shelf_end, holes_in, joined, shelf_start}
+use Rattle.mt_shelves.proofs.Prelude.{◌≡◌, ◌+◌, ◌-◌, ◌<◌, ℕ, ◌++◌, List, length, take, get_or, ap, ◌∙◌, subst, arith, Range, high, highest_in, hole_between, holes_from, kept, none_found, shelf_end, holes_in, joined, shelf_start}
 use Rattle.mt_shelves.proofs.HolesOnShelves.{found_high, none_high, sought_high}
 use Rattle.mt_shelves.proofs.rooms.highest.Goals as goal
 

@@ -1,6 +1,4 @@
-use Rattle.std.proofs.Common.{◌≡◌, ◌+◌, ◌≤◌, length, take}
-use Rattle.mt_base.specs.Holes.{high, highest_in, holes_from, kept}
-use Rattle.mt_shelves.specs.Shelves.{joined}
+use Rattle.mt_shelves.proofs.Prelude.{◌≡◌, ◌+◌, ◌≤◌, length, take, high, highest_in, holes_from, kept, joined}
 use Rattle.mt_shelves.proofs.rooms.highest.Given as goal
 
 abbrev pub invariant-loop-end : goal.invariant-loop-end

@@ -1,7 +1,4 @@
-use Rattle.std.proofs.Common.{◌+◌, ◌∙◌, sym, ap}
-use Rattle.mt_base.specs.Holes.{highest_in, hole_between, kept}
-use Rattle.mt_list.proofs.HolesSought.{none_found}
-use Rattle.mt_shelves.specs.Shelves.{has_room}
+use Rattle.mt_shelves.proofs.Prelude.{◌+◌, ◌∙◌, sym, ap, highest_in, hole_between, kept, none_found, has_room}
 use Rattle.mt_shelves.proofs.HolesOnShelves.{found_on_down, none_on_down}
 use Rattle.mt_shelves.proofs.rooms.highest_on.Goals as goal
 

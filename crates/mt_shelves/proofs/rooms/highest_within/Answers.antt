@@ -1,7 +1,4 @@
-use Rattle.std.proofs.Common.{◌≡◌, ◌+◌, ◌-◌, ◌∙◌, sym, subst, arith}
-use Rattle.mt_base.specs.Holes.{highest_in, hole_between, kept}
-use Rattle.mt_base.specs.Map.{IsMapFrom}
-use Rattle.mt_list.proofs.HolesSought.{IsMapFrom-front, none_found}
+use Rattle.mt_shelves.proofs.Prelude.{◌≡◌, ◌+◌, ◌-◌, ◌∙◌, sym, subst, arith, highest_in, hole_between, kept, IsMapFrom, IsMapFrom-front, none_found}
 use Rattle.mt_shelves.proofs.HolesOnShelves.{begins_behind, found_last, sought_last}
 use Rattle.mt_shelves.proofs.rooms.highest_within.Goals as goal
 

@@ -1,7 +1,4 @@
-use Rattle.std.proofs.Common.{◌≡◌, length}
-use Rattle.mt_base.specs.Holes.{highest_in, kept}
-use Rattle.mt_base.specs.Map.{IsMapFrom}
-use Rattle.mt_shelves.specs.Shelves.{holes_in}
+use Rattle.mt_shelves.proofs.Prelude.{◌≡◌, length, highest_in, kept, IsMapFrom, holes_in}
 use Rattle.mt_shelves.proofs.rooms.highest_within.Given as goal
 
 abbrev pub invariant-loop-range : goal.invariant-loop-range

@@ -1,9 +1,4 @@
-use Rattle.std.proofs.Common.{◌≡◌, ◌+◌, ◌++◌, List, drop, get_or, sym, ap, ◌∙◌, subst, arith}
-use Rattle.mt_base.specs.declared.ranges.Range.{Range}
-use Rattle.mt_base.specs.Holes.{hole_between, holes_from, kept, low, lowest_in}
-use Rattle.mt_base.specs.Width.{greatest_of}
-use Rattle.mt_list.proofs.HolesSought.{none_found}
-use Rattle.mt_shelves.specs.Shelves.{shelf_end, holes_in, joined, shelf_start}
+use Rattle.mt_shelves.proofs.Prelude.{◌≡◌, ◌+◌, ◌++◌, List, drop, get_or, sym, ap, ◌∙◌, subst, arith, Range, hole_between, holes_from, kept, low, lowest_in, greatest_of, none_found, shelf_end, holes_in, joined, shelf_start}
 use Rattle.mt_shelves.proofs.HolesOnShelves.{found_low, none_low, sought_low}
 use Rattle.mt_shelves.proofs.rooms.lowest.Goals as goal
 

@@ -1,7 +1,4 @@
-use Rattle.std.proofs.Common.{◌≡◌, ◌+◌, drop}
-use Rattle.mt_base.specs.Holes.{holes_from, kept, low, lowest_in}
-use Rattle.mt_base.specs.Width.{greatest_of}
-use Rattle.mt_shelves.specs.Shelves.{joined}
+use Rattle.mt_shelves.proofs.Prelude.{◌≡◌, ◌+◌, drop, holes_from, kept, low, lowest_in, greatest_of, joined}
 use Rattle.mt_shelves.proofs.rooms.lowest.Given as goal
 
 abbrev pub invariant-loop-shelf : goal.invariant-loop-shelf

@@ -1,7 +1,4 @@
-use Rattle.std.proofs.Common.{◌≡◌, ◌+◌, drop}
-use Rattle.mt_base.specs.Holes.{kept, lowest_in}
-use Rattle.mt_base.specs.Map.{IsMapFrom}
-use Rattle.mt_shelves.specs.Shelves.{holes_after}
+use Rattle.mt_shelves.proofs.Prelude.{◌≡◌, ◌+◌, drop, kept, lowest_in, IsMapFrom, holes_after}
 use Rattle.mt_shelves.proofs.rooms.lowest_after.Given as goal
 
 abbrev pub invariant-loop-range : goal.invariant-loop-range

@@ -1,7 +1,4 @@
-use Rattle.std.proofs.Common.{◌∙◌, sym, ap}
-use Rattle.mt_base.specs.Holes.{hole_between, kept, lowest_in}
-use Rattle.mt_list.proofs.HolesSought.{none_found}
-use Rattle.mt_shelves.specs.Shelves.{has_room}
+use Rattle.mt_shelves.proofs.Prelude.{◌∙◌, sym, ap, hole_between, kept, lowest_in, none_found, has_room}
 use Rattle.mt_shelves.proofs.HolesOnShelves.{none_on}
 use Rattle.mt_shelves.proofs.rooms.lowest_on.Goals as goal
 

@@ -1,7 +1,4 @@
-use Rattle.std.proofs.Common.{◌≡◌, List, refl, sym, ap, ◌∙◌, get_or}
-use Rattle.mt_base.specs.declared.ranges.Range.{Range}
-use Rattle.mt_base.specs.Call.{answer}
-use Rattle.mt_shelves.specs.Shelves.{ends_below}
+use Rattle.mt_shelves.proofs.Prelude.{◌≡◌, List, refl, sym, ap, ◌∙◌, get_or, Range, answer, ends_below}
 use Rattle.mt_shelves.proofs.Answering.{ends_up, found_up, more_up, none_found, some_found, start_up}
 use Rattle.mt_shelves.proofs.walks.first_answer.Goals as goal
 use Rattle.mt_shelves.proofs.walks.first_answer.Goals.{then-is_some-via-then-is_some, then-is_some-via-else-is_some+then-not-ends_below}

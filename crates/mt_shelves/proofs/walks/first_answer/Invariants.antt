@@ -1,6 +1,4 @@
-use Rattle.std.proofs.Common.{◌≡◌, drop, length}
-use Rattle.mt_base.specs.Call.{answer}
-use Rattle.mt_shelves.specs.Shelves.{joined}
+use Rattle.mt_shelves.proofs.Prelude.{◌≡◌, drop, length, answer, joined}
 use Rattle.mt_shelves.proofs.walks.first_answer.Given as goal
 
 abbrev pub invariant-loop-at : goal.invariant-loop-at

@@ -1,7 +1,4 @@
-use Rattle.std.proofs.Common.{◌≡◌, ◌+◌, ◌-◌, ◌<◌, ℕ, List, length, sym, ap, ◌∙◌, get_or, subst, arith}
-use Rattle.mt_base.specs.declared.ranges.Range.{Range}
-use Rattle.mt_base.specs.Call.{answer}
-use Rattle.mt_shelves.specs.Shelves.{begins_above}
+use Rattle.mt_shelves.proofs.Prelude.{◌≡◌, ◌+◌, ◌-◌, ◌<◌, ℕ, List, length, sym, ap, ◌∙◌, get_or, subst, arith, Range, answer, begins_above}
 use Rattle.mt_shelves.proofs.Answering.{IsBefore, ends_down, found_down, more_down, none_found, some_found, start_down}
 use Rattle.mt_shelves.proofs.walks.last_answer.Goals as goal
 use Rattle.mt_shelves.proofs.walks.last_answer.Goals.{then-is_some-via-then-is_some, then-is_some-via-else-is_some+then-not-begins_above}

@@ -1,6 +1,4 @@
-use Rattle.std.proofs.Common.{◌≡◌, ◌≤◌, take, length}
-use Rattle.mt_base.specs.Call.{answer}
-use Rattle.mt_shelves.specs.Shelves.{joined}
+use Rattle.mt_shelves.proofs.Prelude.{◌≡◌, ◌≤◌, take, length, answer, joined}
 use Rattle.mt_shelves.proofs.walks.last_answer.Given as goal
 
 abbrev pub invariant-loop-end : goal.invariant-loop-end

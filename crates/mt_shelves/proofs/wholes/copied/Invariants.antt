@@ -1,4 +1,4 @@
-use Rattle.std.proofs.Common.{◌≡◌, take}
+use Rattle.mt_shelves.proofs.Prelude.{◌≡◌, take}
 use Rattle.mt_shelves.proofs.wholes.copied.Given as goal
 
 abbrev pub invariant-loop-shelf : goal.invariant-loop-shelf

@@ -1,5 +1,4 @@
-use Rattle.std.proofs.Common.{◌≡◌, length, take}
-use Rattle.mt_shelves.specs.Shelves.{joined}
+use Rattle.mt_shelves.proofs.Prelude.{◌≡◌, length, take, joined}
 use Rattle.mt_shelves.proofs.wholes.count.Given as goal
 
 abbrev pub invariant-loop-shelf : goal.invariant-loop-shelf

@@ -1,5 +1,4 @@
-use Rattle.std.proofs.Common.{length, sym, ◌∙◌, arith}
-use Rattle.std.proofs.lemmas.Bool.{eqb-false}
+use Rattle.mt_splice.proofs.Prelude.{length, sym, ◌∙◌, arith, eqb-false}
 use Rattle.mt_splice.proofs.BuryingRows.{this_may, above_tree, above_on, above_may, all_windows}
 use Rattle.mt_splice.proofs.burying.+bury.Goals as goal
 

@@ -1,4 +1,4 @@
-use Rattle.std.proofs.Common.{◌<◌, arith}
+use Rattle.mt_splice.proofs.Prelude.{◌<◌, arith}
 use Rattle.mt_splice.proofs.BuryingRows.{stretch_first_may, stretch_first, far_tree, far_path, far_deep, far_less, far_leads, next_deep, stretch_next_may, stretch_later, stretch_next}
 use Rattle.mt_splice.proofs.burying.bury_stretch.Goals as goal
 

@@ -1,4 +1,4 @@
-use Rattle.std.proofs.Common.{◌-◌}
+use Rattle.mt_splice.proofs.Prelude.{◌-◌}
 use Rattle.mt_splice.proofs.BuryingRows.{IsStretchSoFar}
 use Rattle.mt_splice.proofs.burying.bury_stretch.Given as goal
 

@@ -1,5 +1,4 @@
-use Rattle.mt_base.specs.Width.{greatest}
-use Rattle.mt_splice.specs.steps.Entries.{before_of, start_for}
+use Rattle.mt_splice.proofs.Prelude.{greatest, before_of, start_for}
 use Rattle.mt_splice.proofs.clears.clear.Given as goal
 
 abbrev pub ghosts-clear_as : goal.ghosts-clear_as

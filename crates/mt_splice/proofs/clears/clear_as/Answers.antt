@@ -1,7 +1,4 @@
-use Rattle.std.proofs.Common.{◌+◌, ◌-◌, ◌++◌, List, length, refl, sym, ap, ◌∙◌, arith}
-use Rattle.mt_splice.specs.declared.ways.Window.{Window}
-use Rattle.mt_splice.specs.steps.Climbing.{windows_over}
-use Rattle.mt_splice.specs.steps.Progress.{Before}
+use Rattle.mt_splice.proofs.Prelude.{◌+◌, ◌-◌, ◌++◌, List, length, refl, sym, ap, ◌∙◌, arith, Window, windows_over, Before}
 use Rattle.mt_splice.proofs.Clearing.{tree_to_clear, tree_still, path_still}
 use Rattle.mt_splice.proofs.ClearOpens.{clear_answer, clear_deep, clear_high, clear_noted}
 use Rattle.mt_splice.proofs.clears.clear_as.Goals as goal

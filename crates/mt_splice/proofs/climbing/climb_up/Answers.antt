@@ -1,8 +1,5 @@
-use denote.Enum.Bare.{differs_false}
-use Rattle.std.proofs.Common.{rules, ◌∙◌, refl, sym, ap, arith}
-use Rattle.mt_rows.specs.Sheet.{Sheet}
+use Rattle.mt_splice.proofs.Prelude.{differs_false, rules, ◌∙◌, refl, sym, ap, arith, Sheet, Up}
 use Rattle.mt_splice.specs.contracts.decisions.Next.{the_type}
-use Rattle.mt_splice.specs.declared.decisions.Next.TheVariants.{Up}
 use Rattle.mt_splice.proofs.Climbed.{leaves_deep, may_gather, climbs_up}
 use Rattle.mt_splice.proofs.climbing.climb_up.Goals as goal
 

@@ -1,5 +1,4 @@
-use Rattle.std.proofs.Common.{◌≡◌}
-use Rattle.mt_splice.specs.steps.Climbing.{IsClimbing}
+use Rattle.mt_splice.proofs.Prelude.{◌≡◌, IsClimbing}
 use Rattle.mt_splice.proofs.climbing.climb_up.Given as goal
 
 abbrev pub invariant-loop-rows : goal.invariant-loop-rows

@@ -1,10 +1,5 @@
-use denote.Enum.Bare.{same_true, same_false}
-use Rattle.std.proofs.Common.{rules, ◌∙◌, ◌≤◌, length, refl, sym, ap, subst, arith}
-use Rattle.std.specs.Prelude.{All}
-use Rattle.mt_rows.specs.Sheet.{Sheet, IsFree, life_of}
-use Rattle.mt_path.specs.declared.paths.PathStep.{PathStep}
+use Rattle.mt_splice.proofs.Prelude.{same_true, same_false, rules, ◌∙◌, ◌≤◌, length, refl, sym, ap, subst, arith, All, Sheet, IsFree, life_of, PathStep, Empty}
 use Rattle.mt_splice.specs.contracts.decisions.Next.{the_type}
-use Rattle.mt_splice.specs.declared.decisions.Next.TheVariants.{Empty}
 use Rattle.mt_splice.proofs.Climbed.{look_of, some_items, few_items, apart_items, left_deep, right_deep, drafts, nothing_left, level_drafted}
 use Rattle.mt_splice.proofs.Decided.{some_left, drafted_is_done}
 use Rattle.mt_splice.proofs.DraftedRows.{drafts_bury_none}

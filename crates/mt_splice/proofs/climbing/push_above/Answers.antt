@@ -1,4 +1,4 @@
-use Rattle.std.proofs.Common.{arith}
+use Rattle.mt_splice.proofs.Prelude.{arith}
 use Rattle.mt_splice.proofs.WholeLevels.{none_noted, one_noted, all_noted}
 use Rattle.mt_splice.proofs.climbing.push_above.Goals as goal
 

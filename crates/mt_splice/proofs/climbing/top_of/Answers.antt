@@ -1,4 +1,4 @@
-use Rattle.std.proofs.Common.{◌≤◌, length, refl, ap, rules, arith}
+use Rattle.mt_splice.proofs.Prelude.{◌≤◌, length, refl, ap, rules, arith}
 use Rattle.mt_splice.proofs.Rooms.{root_free, root_note, windows_room, left_long, right_long, none_room, none_left_long, none_right_long, still_free}
 use Rattle.mt_splice.proofs.Topped.{ends_empty, ends_at_root, ends_in_slot, ends_above, many_new, new_some, new_rises, slot_fits}
 use Rattle.mt_splice.proofs.climbing.top_of.Goals as goal

@@ -1,4 +1,4 @@
-use Rattle.std.proofs.Common.{◌∙◌}
+use Rattle.mt_splice.proofs.Prelude.{◌∙◌}
 use Rattle.mt_splice.proofs.DraftedRows.{piece_drafted}
 use Rattle.mt_splice.proofs.drafting.draft_piece.Goals as goal
 

@@ -1,4 +1,4 @@
-use Rattle.std.proofs.Common.{◌<◌, length, ap, arith}
+use Rattle.mt_splice.proofs.Prelude.{◌<◌, length, ap, arith}
 use Rattle.mt_splice.proofs.DraftedRows.{none_so_far, next_fits, rise_now, entry_now, one_so_far, all_drafted}
 use Rattle.mt_splice.proofs.drafting.draft_rows.Goals as goal
 

@@ -1,4 +1,4 @@
-use Rattle.std.proofs.Common.{sym, ◌∙◌}
+use Rattle.mt_splice.proofs.Prelude.{sym, ◌∙◌}
 use Rattle.mt_splice.proofs.Openings.{some_path}
 use Rattle.mt_splice.proofs.leaves.fill_leaves.Goals as goal
 

@@ -1,4 +1,4 @@
-use Rattle.std.proofs.Common.{arith}
+use Rattle.mt_splice.proofs.Prelude.{arith}
 use Rattle.mt_splice.proofs.LeafRegions.{some_long}
 use Rattle.mt_splice.proofs.leaves.leaf_of.Goals as goal
 

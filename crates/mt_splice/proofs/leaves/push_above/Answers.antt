@@ -1,10 +1,4 @@
-use Rattle.std.proofs.Common.{fold, ap, sym, ◌∙◌, arith}
-use Rattle.mt_base.specs.declared.widths.Width.{Width}
-use Rattle.mt_layout.specs.declared.names.RowKind.TheVariants.{Leaf}
-use Rattle.mt_layout.specs.Sizes.{slots_of}
-use Rattle.mt_leaf.specs.Places.{with_joined}
-use Rattle.mt_rows.specs.Sheet.{Rooted}
-use Rattle.mt_rows.proofs.Loads.{same_tree}
+use Rattle.mt_splice.proofs.Prelude.{fold, ap, sym, ◌∙◌, arith, Width, Leaf, slots_of, with_joined, Rooted, same_tree}
 use Rattle.mt_splice.proofs.LeafRegions.{leaf_row}
 use Rattle.mt_splice.proofs.LeafAbove.{one_pushed, last_pushed, one_more_pushed, all_pushed_above, from_slot}
 use Rattle.mt_splice.proofs.leaves.push_above.Goals as goal

@@ -1,8 +1,4 @@
-use Rattle.std.proofs.Common.{◌+◌, List, ap, ◌∙◌, arith}
-use Rattle.mt_layout.specs.declared.items.Item.{Item}
-use Rattle.mt_leaf.specs.Places.{first_of}
-use Rattle.mt_rows.specs.Sheet.{Rooted, word_at}
-use Rattle.mt_rows.proofs.Loads.{same_tree}
+use Rattle.mt_splice.proofs.Prelude.{◌+◌, List, ap, ◌∙◌, arith, Item, first_of, Rooted, word_at, same_tree}
 use Rattle.mt_splice.proofs.LeafRegions.{leaf_row, leaf_read, room_first, read_first, read_many, first_low, read_whole, read_part, slot_small, slot_place, slot_word}
 use Rattle.mt_splice.proofs.leaves.push_below.Goals as goal
 

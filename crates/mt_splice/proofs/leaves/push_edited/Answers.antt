@@ -1,10 +1,4 @@
-use Rattle.std.proofs.Common.{length, sym, ap, ◌∙◌, arith}
-use Rattle.mt_layout.specs.declared.names.RowKind.TheVariants.{Leaf}
-use Rattle.mt_layout.specs.Sizes.{slots_of}
-use Rattle.mt_layout.specs.Spans.{spans_from}
-use Rattle.mt_path.specs.declared.paths.PathStep.{PathStep}
-use Rattle.mt_rows.specs.Sheet.{Rooted}
-use Rattle.mt_rows.proofs.Loads.{same_tree}
+use Rattle.mt_splice.proofs.Prelude.{length, sym, ap, ◌∙◌, arith, Leaf, slots_of, spans_from, PathStep, Rooted, same_tree}
 use Rattle.mt_splice.proofs.LeafRegions.{left_leaf_step, right_leaf_step, right_some, leaf_read, room_below, some_with_joined, leaves_edited}
 use Rattle.mt_splice.proofs.leaves.push_edited.Goals as goal
 

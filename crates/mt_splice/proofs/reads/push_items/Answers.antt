@@ -1,6 +1,4 @@
-use Rattle.std.proofs.Common.{arith, ◌<◌}
-use Rattle.std.proofs.lemmas.Grind.{common_steps}
-use Rattle.mt_layout.specs.Sizes.{slots_of}
+use Rattle.mt_splice.proofs.Prelude.{arith, ◌<◌, common_steps, slots_of}
 use Rattle.mt_splice.proofs.Readings.{last_read}
 use Rattle.mt_splice.proofs.reads.push_items.Goals as goal
 

@@ -1,6 +1,4 @@
-use Rattle.std.proofs.Common.{◌∙◌, ap}
-use Rattle.mt_free.specs.Book.{Book}
-use Rattle.mt_splice.specs.steps.Burials.{numbers_in_all}
+use Rattle.mt_splice.proofs.Prelude.{◌∙◌, ap, Book, numbers_in_all}
 use Rattle.mt_splice.proofs.Burials.{retirals_free}
 use Rattle.mt_splice.proofs.Ended.{may_bury_windows, tree_now, windows_on}
 use Rattle.mt_splice.proofs.MayPublish.{may_publish_end, top_told}

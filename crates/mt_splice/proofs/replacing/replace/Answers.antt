@@ -1,4 +1,4 @@
-use Rattle.std.proofs.Common.{arith}
+use Rattle.mt_splice.proofs.Prelude.{arith}
 use Rattle.mt_splice.proofs.Climbed.{leaves_deep}
 use Rattle.mt_splice.proofs.replacing.replace.Goals as goal
 

@@ -1,4 +1,4 @@
-use Rattle.std.proofs.Common.{◌∙◌, refl}
+use Rattle.mt_splice.proofs.Prelude.{◌∙◌, refl}
 use Rattle.mt_splice.proofs.BetweenCalls.{tree_to_replace, ends_are, may_splice, spliced_after_reads}
 use Rattle.mt_splice.proofs.SplicedWithin.{range_replaced}
 use Rattle.mt_splice.proofs.splices.replace_range.Goals as goal

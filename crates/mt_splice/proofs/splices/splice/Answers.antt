@@ -1,5 +1,4 @@
-use Rattle.std.proofs.Common.{List, ◌++◌, ap, ◌∙◌}
-use Rattle.mt_layout.specs.declared.items.Item.{Item}
+use Rattle.mt_splice.proofs.Prelude.{List, ◌++◌, ap, ◌∙◌, Item}
 use Rattle.mt_splice.proofs.SpliceBegins.{asked_so}
 use Rattle.mt_splice.proofs.SplicedWithin.{spliced_by}
 use Rattle.mt_splice.proofs.splices.splice.Goals as goal

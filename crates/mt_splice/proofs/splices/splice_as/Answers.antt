@@ -1,5 +1,4 @@
-use Rattle.std.proofs.Common.{sym, ◌∙◌, ap, refl}
-use Rattle.mt_splice.specs.steps.Progress.{Before}
+use Rattle.mt_splice.proofs.Prelude.{sym, ◌∙◌, ap, refl, Before}
 use Rattle.mt_splice.proofs.Openings.{answer_is, climb_begins, some_path}
 use Rattle.mt_splice.proofs.SpliceBegins.{first_may_begin}
 use Rattle.mt_splice.proofs.splices.splice_as.Goals as goal

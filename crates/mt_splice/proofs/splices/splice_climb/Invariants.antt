@@ -1,5 +1,4 @@
-use Rattle.mt_path.specs.Handles.{last_step}
-use Rattle.mt_splice.specs.steps.Entries.{before_of, start_for}
+use Rattle.mt_splice.proofs.Prelude.{last_step, before_of, start_for}
 use Rattle.mt_splice.proofs.splices.splice_climb.Given as goal
 
 abbrev pub ghosts-splice_as : goal.ghosts-splice_as

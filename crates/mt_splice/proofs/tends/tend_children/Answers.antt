@@ -1,11 +1,4 @@
-use Rattle.std.proofs.Common.{◌≡◌, ℕ, ◌+◌, ap, sym, ◌∙◌}
-use Rattle.std.specs.Prelude.{Some}
-use Rattle.mt_base.specs.declared.widths.Width.{Width}
-use Rattle.mt_layout.specs.Rows.{named_row}
-use Rattle.mt_rows.specs.Spans.{column}
-use Rattle.mt_rows.specs.Sheet.{Rooted}
-use Rattle.mt_layout.specs.Sizes.{slots_of}
-use Rattle.mt_splice.specs.steps.Writes.{child_word}
+use Rattle.mt_splice.proofs.Prelude.{◌≡◌, ℕ, ◌+◌, ap, sym, ◌∙◌, Some, Width, named_row, column, Rooted, slots_of, child_word}
 use Rattle.mt_splice.proofs.Tending.{one_more_tended}
 use Rattle.mt_splice.proofs.tends.tend_children.Goals as goal
 

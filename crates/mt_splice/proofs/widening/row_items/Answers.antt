@@ -1,6 +1,4 @@
-use Rattle.std.proofs.Common.{◌≡◌, ◌++◌, ap, ◌∙◌}
-use Rattle.mt_base.specs.declared.widths.Width.{Width}
-use Rattle.mt_layout.specs.Sizes.{slots_of}
+use Rattle.mt_splice.proofs.Prelude.{◌≡◌, ◌++◌, ap, ◌∙◌, Width, slots_of}
 use Rattle.mt_splice.proofs.Gathering.{whole_row}
 use Rattle.mt_splice.proofs.widening.row_items.Goals as goal
 

@@ -1,4 +1,4 @@
-use Rattle.std.proofs.Common.{length, ap, arith}
+use Rattle.mt_splice.proofs.Prelude.{length, ap, arith}
 use Rattle.mt_splice.proofs.Gathering.{few_in_row}
 use Rattle.mt_splice.proofs.widening.take_behind.Goals as goal
 

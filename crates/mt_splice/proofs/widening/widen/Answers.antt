@@ -1,5 +1,4 @@
-use Rattle.std.proofs.Common.{inl, inr, ◌∙◌, refl}
-use Rattle.mt_rows.proofs.Loads.{same_tree}
+use Rattle.mt_splice.proofs.Prelude.{inl, inr, ◌∙◌, refl, same_tree}
 use Rattle.mt_splice.proofs.Looks.{is_less, is_more, left_deep, right_deep, low_end, row_behind, row_before, room_if_wanted, room_if_short, wanted, short, path_before, all_behind, all_before}
 use Rattle.mt_splice.proofs.widening.widen.Goals as goal
 

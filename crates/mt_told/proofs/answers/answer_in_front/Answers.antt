@@ -1,4 +1,4 @@
-use Rattle.std.proofs.lemmas.Option.{IfSome_then}
+use Rattle.mt_told.proofs.Prelude.{IfSome_then}
 use Rattle.mt_told.proofs.Answered.{found_answered}
 use Rattle.mt_told.proofs.answers.answer_in_front.Goals as goal
 

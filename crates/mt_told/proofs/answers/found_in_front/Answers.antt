@@ -1,4 +1,4 @@
-use Rattle.std.proofs.Common.{sym, ◌∙◌}
+use Rattle.mt_told.proofs.Prelude.{sym, ◌∙◌}
 use Rattle.mt_told.proofs.Answered.{entry_found}
 use Rattle.mt_told.proofs.answers.found_in_front.Goals as goal
 

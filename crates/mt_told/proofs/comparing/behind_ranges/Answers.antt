@@ -1,6 +1,4 @@
-use Rattle.std.proofs.Common.{get_or}
-use Rattle.std.proofs.lemmas.List.{get_or_default}
-use Rattle.mt_base.specs.declared.ranges.Range.{Range}
+use Rattle.mt_told.proofs.Prelude.{get_or, get_or_default, Range}
 use Rattle.mt_told.proofs.Compared.{ranges_go_on}
 use Rattle.mt_told.proofs.comparing.behind_ranges.Goals as goal
 

@@ -1,6 +1,4 @@
-use Rattle.std.proofs.Common.{◌≡◌, ◌++◌, ◌∙◌, List, ℕ, ap, length, sym}
-use Rattle.mt_log.specs.declared.transcripts.Listing.{Listing}
-use Rattle.mt_told.specs.Comparing.{head_line}
+use Rattle.mt_told.proofs.Prelude.{◌≡◌, ◌++◌, ◌∙◌, List, ℕ, ap, length, sym, Listing, head_line}
 use Rattle.mt_told.proofs.Compared.{no_head, no_listing}
 use Rattle.mt_told.proofs.comparing.listing_in_front.Goals as goal
 

@@ -1,4 +1,4 @@
-use Rattle.std.proofs.Common.{sym}
+use Rattle.mt_told.proofs.Prelude.{sym}
 use Rattle.mt_told.proofs.OneWay.{line_before}
 use Rattle.mt_told.proofs.fronts.line_in_front.Goals as goal
 

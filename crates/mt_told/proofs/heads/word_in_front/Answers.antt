@@ -1,4 +1,4 @@
-use Rattle.std.proofs.Common.{sym}
+use Rattle.mt_told.proofs.Prelude.{sym}
 use Rattle.mt_told.proofs.Words.{word_before}
 use Rattle.mt_told.proofs.heads.word_in_front.Goals as goal
 

@@ -1,5 +1,4 @@
-use Rattle.std.proofs.Common.{◌≡◌, ◌≢◌, ◌∙◌, [], length, arith, ap, sym, true≢false}
-use Rattle.std.specs.Prelude.{◌==◌}
+use Rattle.mt_told.proofs.Prelude.{◌≡◌, ◌≢◌, ◌∙◌, [], length, arith, ap, sym, true≢false, ◌==◌}
 use Rattle.mt_told.proofs.Bad.{in_form, no_head, no_more}
 use Rattle.mt_told.proofs.listings.read_listing.Goals as goal
 use Rattle.mt_told.proofs.listings.read_listing.Goals.{then-found-head-via-then-found-head, then-found-head-via-else-found-head+then-not-is_empty}

@@ -1,8 +1,4 @@
-use Rattle.std.proofs.Common.{◌≡◌, ℕ, ◌++◌, List, take, drop, sym, ap, ◌∙◌, subst}
-use Rattle.std.specs.Fmt.{decimal}
-use Rattle.std.proofs.lemmas.Bool.{iff_false}
-use Rattle.std.proofs.lemmas.List.{take-append-drop}
-use Rattle.mt_told.specs.Numbers.{EndsNumber}
+use Rattle.mt_told.proofs.Prelude.{◌≡◌, ℕ, ◌++◌, List, take, drop, sym, ap, ◌∙◌, subst, decimal, iff_false, take-append-drop, EndsNumber}
 use Rattle.mt_told.proofs.Spelled.{digits_of, printed_as, in_front, front_told}
 use Rattle.mt_told.proofs.numbers.number_in_front.Goals as goal
 

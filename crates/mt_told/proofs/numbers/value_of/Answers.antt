@@ -1,5 +1,4 @@
-use Rattle.std.proofs.Common.{rules, arith, get_or, refl}
-use Rattle.mt_log.proofs.Digits.{one_more, stopped}
+use Rattle.mt_told.proofs.Prelude.{rules, arith, get_or, refl, one_more, stopped}
 use Rattle.mt_told.proofs.numbers.value_of.Goals as goal
 
 pub returns-in_err-value : goal.returns-in_err-value

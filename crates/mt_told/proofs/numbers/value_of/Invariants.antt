@@ -1,5 +1,4 @@
-use Rattle.std.proofs.Common.{take}
-use Rattle.mt_log.proofs.Digits.{IsRead}
+use Rattle.mt_told.proofs.Prelude.{take, IsRead}
 use Rattle.mt_told.proofs.numbers.value_of.Given as goal
 
 abbrev pub invariant-loop-byte : goal.invariant-loop-byte

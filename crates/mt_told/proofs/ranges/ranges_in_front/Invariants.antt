@@ -1,5 +1,4 @@
-use Rattle.std.specs.Prelude.{◌≡◌, length}
-use Rattle.mt_told.specs.ListingFronts.{AreRangesBefore}
+use Rattle.mt_told.proofs.Prelude.{◌≡◌, length, AreRangesBefore}
 use Rattle.mt_told.proofs.ranges.ranges_in_front.Given as goal
 
 abbrev pub invariant-loop-line : goal.invariant-loop-line

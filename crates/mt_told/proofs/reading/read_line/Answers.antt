@@ -1,7 +1,4 @@
-use Rattle.std.proofs.Common.{◌≡◌, false, ap, inl, inr}
-use Rattle.mt_log.specs.Run.{is_answered}
-use Rattle.std.proofs.lemmas.Option.{IfSome_then}
-use Rattle.std.proofs.lemmas.Result.{IfOk-weaker}
+use Rattle.mt_told.proofs.Prelude.{◌≡◌, false, ap, inl, inr, is_answered, IfSome_then, IfOk-weaker}
 use Rattle.mt_told.proofs.LineByLine.{call_line, check_line, copy_line, look_line, quiet_line, scan_line}
 use Rattle.mt_told.proofs.reading.read_line.Goals as goal
 

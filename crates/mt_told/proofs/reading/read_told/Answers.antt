@@ -1,8 +1,4 @@
-use Rattle.std.proofs.Common.{arith, ◌≡◌, ◌<◌, ℕ, List, Bor, length, get_or, ap, subst, ◌∙◌}
-use Rattle.std.specs.Prelude.{IfNone, IfSome, Option}
-use Rattle.mt_log.specs.declared.lines.Line.{Line}
-use Rattle.mt_told.specs.Along.{IsLaneLineDone, IsPlacedBy}
-use Rattle.mt_told.specs.Steps.{AddsTold, TellsNotDone}
+use Rattle.mt_told.proofs.Prelude.{arith, ◌≡◌, ◌<◌, ℕ, List, Bor, length, get_or, ap, subst, ◌∙◌, IfNone, IfSome, Option, Line, IsLaneLineDone, IsPlacedBy, AddsTold, TellsNotDone}
 use Rattle.mt_told.proofs.LineByLine.{line_goes_on, line_stops, lines_begin, told_by, told_none}
 use Rattle.mt_told.proofs.reading.read_told.Goals as goal
 

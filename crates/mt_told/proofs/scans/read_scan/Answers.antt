@@ -1,11 +1,5 @@
-use Rattle.std.proofs.Common.{◌≡◌, subst, sym}
-use Rattle.std.specs.Prelude.{Some, None}
-use Rattle.mt_base.specs.declared.calls.Query.{Query}
-use Rattle.mt_log.specs.Run.{find_at}
+use Rattle.mt_told.proofs.Prelude.{◌≡◌, subst, sym, Some, None, Query, find_at, range_told, IsStepAt, TellsNotDone, TellsStepAt, Look}
 use Rattle.mt_told.proofs.Scanned.{all_told, goes_on_behind, last_told, scan_begins, stops}
-use Rattle.mt_told.specs.Scans.{range_told}
-use Rattle.mt_told.specs.Steps.{IsStepAt, TellsNotDone, TellsStepAt}
-use Rattle.mt_told.specs.declared.steps.Deed.TheVariants.{Look}
 use Rattle.mt_told.proofs.scans.read_scan.Goals as goal
 
 pub loop-step-init : goal.loop-step-init

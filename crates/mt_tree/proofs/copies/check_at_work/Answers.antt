@@ -1,5 +1,4 @@
-use Rattle.std.proofs.Common.{sym, ap, ◌∙◌}
-use Rattle.mt_rows.specs.Sheet.{Sheet}
+use Rattle.mt_tree.proofs.Prelude.{sym, ap, ◌∙◌, Sheet}
 use Rattle.mt_tree.proofs.AtWork.{at_work, kind_still, seat_of, still_few}
 use Rattle.mt_tree.proofs.Calling.{map_still, only_read, saw_all, seen_still, told_still}
 use Rattle.mt_tree.proofs.Forms.{form_behind, high_as, idle_as, lawful_as, reads_through, words_behind}

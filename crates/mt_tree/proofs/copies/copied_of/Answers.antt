@@ -1,10 +1,4 @@
-use Rattle.std.proofs.Common.{ℕ, sym, ap, ◌∙◌, subst}
-use Rattle.mt_check.specs.declared.faults.Form.{Form}
-use Rattle.mt_free.specs.Book.{Book}
-use Rattle.mt_rows.specs.Memory.{sheet_in}
-use Rattle.mt_rows.specs.Publish.{map_by}
-use Rattle.mt_rows.specs.Sheet.{Sheet}
-use Rattle.mt_tree.specs.Copies.{live_rows, IsLiveCounted}
+use Rattle.mt_tree.proofs.Prelude.{ℕ, sym, ap, ◌∙◌, subst, Form, Book, sheet_in, map_by, Sheet, live_rows, IsLiveCounted}
 use Rattle.mt_tree.proofs.Forms.{copy_ready}
 use Rattle.mt_tree.proofs.copies.copied_of.Goals as goal
 

@@ -1,10 +1,4 @@
-use Rattle.std.proofs.Common.{sym, ap, ◌∙◌}
-use Rattle.mt_base.specs.declared.widths.Width.{Width}
-use Rattle.mt_base.specs.Width.{kind_width}
-use Rattle.mt_rows.specs.Memory.{sheet_in}
-use Rattle.mt_rows.specs.Plain.{new_sheet}
-use Rattle.mt_rows.specs.Publish.{map_by}
-use Rattle.mt_rows.specs.Sheet.{Sheet}
+use Rattle.mt_tree.proofs.Prelude.{sym, ap, ◌∙◌, Width, kind_width, sheet_in, new_sheet, map_by, Sheet}
 use Rattle.mt_tree.proofs.AtWork.{at_work, kind_still, rows_still, seat_of, still_few}
 use Rattle.mt_tree.proofs.Calling.{map_still, only_read, saw_all, seen_still, told_still}
 use Rattle.mt_tree.proofs.Forms.{high_as, idle_as, lawful_as, live_as, live_behind, ready_there, reads_through, words_behind}

@@ -1,6 +1,4 @@
-use Rattle.std.proofs.Common.{sym, ap, ◌∙◌}
-use Rattle.std.proofs.lemmas.Result.{IfOk-weaker}
-use Rattle.mt_rows.specs.Sheet.{Sheet}
+use Rattle.mt_tree.proofs.Prelude.{sym, ap, ◌∙◌, IfOk-weaker, Sheet}
 use Rattle.mt_tree.proofs.AtWork.{at_work, kind_still, seat_of, still_few}
 use Rattle.mt_tree.proofs.Calling.{map_still, only_read, saw_all, seen_still, told_still}
 use Rattle.mt_tree.proofs.Forms.{image_behind, high_as, idle_as, lawful_as, reads_through, words_behind}

@@ -1,6 +1,4 @@
-use Rattle.std.proofs.Common.{subst}
-use Rattle.mt_engine.specs.Heights.{HasHeight}
-use Rattle.mt_rows.specs.Sheet.{Sheet}
+use Rattle.mt_tree.proofs.Prelude.{subst, HasHeight, Sheet}
 use Rattle.mt_tree.proofs.make.measured.Goals as goal
 
 pub returns-clause-height : goal.returns-clause-height

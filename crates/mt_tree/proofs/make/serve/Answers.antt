@@ -1,7 +1,5 @@
-use Rattle.std.proofs.Common.{rules, ◌≡◌, All, length, sym, subst}
-use Rattle.mt_rule.specs.Tokens.{identity_of, IsPassOf}
-use Rattle.mt_rule.specs.Turns.{IsSeatedAt}
-use Rattle.mt_rule.proofs.Returned.{come_back}
+use Rattle.mt_tree.proofs.Prelude.{rules, ◌≡◌, All, length, sym, subst, identity_of, IsSeatedAt, come_back}
+use Rattle.mt_rule.specs.Tokens.{IsPassOf}
 use Rattle.mt_tree.proofs.make.serve.Goals as goal
 
 pub returns-clause-seated : goal.returns-clause-seated

@@ -1,7 +1,4 @@
-use Rattle.std.proofs.Common.{◌<◌, List, sym, subst}
-use Rattle.std.specs.List.{AllByRecursion}
-use Rattle.mt_base.specs.History.{Record}
-use Rattle.mt_tree.specs.Trees.{passes_of}
+use Rattle.mt_tree.proofs.Prelude.{◌<◌, List, sym, subst, AllByRecursion, Record, passes_of}
 use Rattle.mt_tree.proofs.Answering.{was_answered}
 use Rattle.mt_tree.proofs.AtWork.{at_work, one_more_fits, seat_of}
 use Rattle.mt_tree.proofs.Calling.{by_answer, named_by_answer, refused_still, seen_then, tree_back, wrote}

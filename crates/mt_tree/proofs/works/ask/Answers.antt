@@ -1,5 +1,4 @@
-use Rattle.std.proofs.Common.{ap}
-use Rattle.mt_rows.specs.Sheet.{Sheet}
+use Rattle.mt_tree.proofs.Prelude.{ap, Sheet}
 use Rattle.mt_tree.proofs.AtWork.{at_work, seat_of, still_few}
 use Rattle.mt_tree.proofs.Calling.{answered, only_read, saw_all, seen_still, told_still}
 use Rattle.mt_tree.proofs.works.ask.Goals as goal

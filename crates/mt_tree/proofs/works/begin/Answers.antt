@@ -1,7 +1,4 @@
-use Rattle.std.proofs.Common.{rules, Some, sym, subst}
-use Rattle.mt_engine.specs.Heights.{HasHeight}
-use Rattle.mt_rows.specs.Sheet.{Sheet}
-use Rattle.mt_tree.specs.Behind.{IsAtRest}
+use Rattle.mt_tree.proofs.Prelude.{rules, Some, sym, subst, HasHeight, Sheet, IsAtRest}
 use Rattle.mt_tree.proofs.works.begin.Goals as goal
 
 pub of_height-requires-clause-height : goal.of_height-requires-clause-height

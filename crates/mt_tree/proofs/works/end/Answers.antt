@@ -1,14 +1,5 @@
-use Rattle.std.proofs.Common.{◌≡◌, ℕ, ◌≤◌, ◌<◌, None, [], length, sym, ap, ◌∙◌, subst}
-use Rattle.std.specs.List.{AllByRecursion}
-use Rattle.mt_base.specs.Passes.{IsSound}
-use Rattle.mt_engine.specs.Engine.{IsIdle}
-use Rattle.mt_pen.specs.Sheets.{sheet_told, unscanned}
-use Rattle.mt_pen.specs.Works.{OpensSmall}
-use Rattle.mt_rows.specs.Sheet.{Sheet}
-use Rattle.mt_rule.specs.Scans.{IsScanOf}
-use Rattle.mt_rule.specs.Seats.{records_of}
-use Rattle.mt_rule.specs.Tokens.{Identity, IsPassOf, pen_in, pass_in, tree_in}
-use Rattle.mt_tree.specs.Works.{IsSeatOf, records_told}
+use Rattle.mt_tree.proofs.Prelude.{◌≡◌, ℕ, ◌≤◌, ◌<◌, None, [], length, sym, ap, ◌∙◌, subst, AllByRecursion, IsSound, IsIdle, sheet_told, unscanned, OpensSmall, Sheet, IsScanOf, records_of, Identity, pen_in, pass_in, tree_in, IsSeatOf, records_told}
+use Rattle.mt_rule.specs.Tokens.{IsPassOf}
 use Rattle.mt_tree.proofs.Ending.{kept_again, knows_again, parts_again}
 use Rattle.mt_tree.proofs.works.end.Goals as goal
 

@@ -1,7 +1,4 @@
-use Rattle.std.proofs.Common.{◌≡◌, List, ap, subst}
-use Rattle.std.specs.Prelude.{IfOk}
-use Rattle.mt_base.specs.declared.ranges.Range.{Range}
-use Rattle.mt_rows.specs.Sheet.{Sheet}
+use Rattle.mt_tree.proofs.Prelude.{◌≡◌, List, ap, subst, IfOk, Range, Sheet}
 use Rattle.mt_tree.proofs.AtWork.{at_work, seat_of, still_few}
 use Rattle.mt_tree.proofs.Calling.{map_still, only_read, saw_all, seen_still, told_still}
 use Rattle.mt_tree.proofs.works.list.Goals as goal

@@ -1,9 +1,4 @@
-use Rattle.std.proofs.Common.{sym, subst}
-use Rattle.mt_base.specs.declared.calls.Call.TheVariants.{StorePre}
-use Rattle.mt_engine.specs.Rooms.{HasRoom}
-use Rattle.mt_free.specs.Book.{Book}
-use Rattle.mt_rows.specs.Publish.{map_by}
-use Rattle.mt_rows.specs.Sheet.{Rooted}
+use Rattle.mt_tree.proofs.Prelude.{sym, subst, StorePre, HasRoom, Book, map_by, Rooted}
 use Rattle.mt_tree.proofs.AtWork.{at_work, one_more_fits, seat_of, tree_is}
 use Rattle.mt_tree.proofs.Calling.{by_acts, is_stored, named_by_acts, seen_then, tree_back, wrote}
 use Rattle.mt_tree.proofs.works.store_prealloc.Goals as goal

@@ -1,10 +1,5 @@
-use Rattle.std.proofs.Common.{◌≤◌, subst}
-use Rattle.std.specs.Prelude.{All}
-use Rattle.std.proofs.lemmas.List.{take_all}
-use Rattle.mt_base.specs.declared.kinds.Kind.{Kind}
+use Rattle.mt_tree.proofs.Prelude.{◌≤◌, subst, All, take_all, Kind, Width, columns, kind_width}
 use Rattle.mt_base.specs.declared.kinds.Kind.TheVariants.{Range}
-use Rattle.mt_base.specs.declared.widths.Width.{Width}
-use Rattle.mt_base.specs.Width.{columns, kind_width}
 use Rattle.mt_tree.proofs.NoneWritten.{one_more_within}
 use Rattle.mt_tree.proofs.zeros.widest.Goals as goal
 

@@ -1,8 +1,4 @@
-use Rattle.std.proofs.Common.{◌↔◌, Bool, sym, subst}
-use Rattle.std.specs.Prelude.{IfOk, IsTrue}
-use Rattle.mt_verify.specs.declared.noted.Heard.{Heard}
-use Rattle.mt_verify.specs.Histories.{IsHeardAt}
-use Rattle.mt_verify.specs.Shortages.{shared_limits}
+use Rattle.mt_verify.proofs.Prelude.{◌↔◌, Bool, sym, subst, IfOk, IsTrue, Heard, IsHeardAt, shared_limits}
 use Rattle.mt_verify.proofs.answers.agrees.Goals as goal
 
 pub returns-in-Short-clause-same : goal.returns-in-Short-clause-same

@@ -1,7 +1,4 @@
-use Rattle.std.proofs.Common.{◌∙◌, List, ap, length, sym}
-use Rattle.std.specs.List.{filter}
-use Rattle.mt_log.specs.declared.lines.Line.{Line}
-use Rattle.mt_verify.specs.Tellings.{asks_call}
+use Rattle.mt_verify.proofs.Prelude.{◌∙◌, List, ap, length, sym, filter, Line, asks_call}
 use Rattle.mt_verify.proofs.Tellings.{calls_are_asked}
 use Rattle.mt_verify.proofs.asking.calls_of.Goals as goal
 

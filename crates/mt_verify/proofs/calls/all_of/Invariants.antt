@@ -1,4 +1,4 @@
-use Rattle.std.proofs.Common.{◌≡◌, Some, map, take}
+use Rattle.mt_verify.proofs.Prelude.{◌≡◌, Some, map, take}
 use Rattle.mt_verify.proofs.calls.all_of.Given as goal
 
 abbrev pub invariant-loop-place : goal.invariant-loop-place

@@ -1,6 +1,5 @@
-use Rattle.std.proofs.Common.{◌≡◌, ◌∙◌, ℕ, List, Option, Some, None, Result, Ok, Err, Contains, IfOk, MatchOption, IsPermutation, map, arith, ap, subst}
-use Rattle.mt_verify.specs.declared.calls.Numbered.{Numbered}
-use Rattle.mt_verify.specs.ToldCalls.{AreCallsOf, calls_told, filled_from}
+use Rattle.mt_verify.proofs.Prelude.{◌≡◌, ◌∙◌, ℕ, List, Option, Some, None, Result, Err, Contains, IfOk, MatchOption, IsPermutation, map, arith, ap, subst, Numbered, AreCallsOf, calls_told, filled_from}
+use Rattle.std.proofs.Common.{Ok}
 use Rattle.mt_verify.proofs.EachOnce.{as_many, none_with_free}
 use Rattle.mt_verify.proofs.Placed.{filled_all}
 use Rattle.mt_verify.proofs.calls.calls_in.Goals as goal

@@ -1,6 +1,4 @@
-use Rattle.std.proofs.Common.{◌+◌, List, Option, IsPermutation, arith, take, sym, subst}
-use Rattle.mt_verify.specs.declared.calls.Numbered.{Numbered}
-use Rattle.mt_verify.specs.ToldCalls.{calls_told, filled_from}
+use Rattle.mt_verify.proofs.Prelude.{◌+◌, List, Option, IsPermutation, arith, take, sym, subst, Numbered, calls_told, filled_from}
 use Rattle.mt_verify.proofs.EachOnce.{call_less, call_more, none_without_place}
 use Rattle.mt_verify.proofs.calls.fill.Goals.{in-Some+else-not-put, in_default}
 use Rattle.mt_verify.proofs.calls.fill.Goals as goal

@@ -1,5 +1,4 @@
-use Rattle.std.proofs.Common.{IsPermutation, take}
-use Rattle.mt_verify.specs.ToldCalls.{calls_told, filled_from}
+use Rattle.mt_verify.proofs.Prelude.{IsPermutation, take, calls_told, filled_from}
 use Rattle.mt_verify.proofs.calls.fill.Given as goal
 
 abbrev pub invariant-loop-one : goal.invariant-loop-one

@@ -1,5 +1,4 @@
-use Rattle.std.proofs.Common.{◌≡◌, [], length}
-use Rattle.mt_verify.specs.ToldCalls.{filled_from}
+use Rattle.mt_verify.proofs.Prelude.{◌≡◌, [], length, filled_from}
 use Rattle.mt_verify.proofs.calls.places.Given as goal
 
 abbrev pub invariant-loop : goal.invariant-loop

@@ -1,11 +1,4 @@
-use Rattle.std.proofs.Common.{◌≡◌, ◌+◌, ◌<◌, [], ◌++◌, length, take, get_or, sym, ap, ◌∙◌, subst, arith}
-use Rattle.std.proofs.lemmas.List.{length-take}
-use Rattle.mt_base.specs.declared.calls.Call.TheVariants.{Store}
-use Rattle.mt_told.specs.declared.told.Told.{Told}
-use Rattle.mt_told.specs.declared.told.What.TheVariants.{Wrote}
-use Rattle.mt_verify.specs.declared.counts.Counting.{Counting}
-use Rattle.std.specs.Option.{option_to_list}
-use Rattle.mt_verify.specs.OwnLines.{calls_in, entered, stop_at}
+use Rattle.mt_verify.proofs.Prelude.{◌≡◌, ◌+◌, ◌<◌, [], ◌++◌, length, take, get_or, sym, ap, ◌∙◌, subst, arith, length-take, Store, Told, Wrote, Counting, option_to_list, calls_in, entered, stop_at}
 use Rattle.mt_verify.proofs.CountedLines.{IsCounting, counted_more, entering, few_calls}
 use Rattle.mt_verify.proofs.counts.stops_of.Goals as goal
 

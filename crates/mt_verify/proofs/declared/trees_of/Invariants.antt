@@ -1,5 +1,4 @@
-use Rattle.std.proofs.Common.{◌≡◌, ◌≤◌, drop}
-use Rattle.mt_log.specs.Trees.{trees_from, trees_of}
+use Rattle.mt_verify.proofs.Prelude.{◌≡◌, ◌≤◌, drop, trees_from, trees_of}
 use Rattle.mt_verify.proofs.declared.trees_of.Given as goal
 
 abbrev pub invariant-loop-line : goal.invariant-loop-line

@@ -1,15 +1,4 @@
-use Rattle.std.proofs.Common.{◌≡◌, Bool, true, false, List, drop, length, map, sym, ap, ◌∙◌, subst, arith}
-use Rattle.std.specs.List.{AllPairs, range_with_len}
-use Rattle.mt_log.specs.Trees.{most_lanes}
-use Rattle.std.proofs.lemmas.List.{length-map}
-use Rattle.mt_list.specs.ListMap.{Contents}
-use Rattle.mt_told.specs.declared.told.Told.{Told}
-use Rattle.mt_verify.specs.declared.noted.Noted.{Noted}
-use Rattle.mt_verify.specs.Going.{AreStopsWithin, IsGone, IsLastMap, Lane, looks_of}
-use Rattle.mt_verify.specs.GoneTrees.{lane_looks}
-use Rattle.mt_verify.specs.OwnLines.{lines_on, looks_by_lane, stops_told}
-use Rattle.mt_verify.specs.Stops.{DoNotFall}
-use Rattle.mt_verify.specs.ToldCalls.{calls_told}
+use Rattle.mt_verify.proofs.Prelude.{◌≡◌, Bool, true, false, List, drop, length, map, sym, ap, ◌∙◌, subst, arith, AllPairs, range_with_len, most_lanes, length-map, Contents, Told, Noted, AreStopsWithin, IsGone, IsLastMap, Lane, looks_of, lane_looks, lines_on, looks_by_lane, stops_told, DoNotFall, calls_told}
 use Rattle.mt_verify.proofs.GoneTree.{front_is, gone_from, hindered_by, many_noted}
 use Rattle.mt_verify.proofs.OwnStops.{NoLower, own_rises, stops_rise, stops_within, windows_within}
 use Rattle.mt_verify.proofs.gone.go_calls.Goals as goal

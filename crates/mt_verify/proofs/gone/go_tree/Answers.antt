@@ -1,7 +1,4 @@
-use Rattle.std.proofs.Common.{List, sym, ◌∙◌, subst}
-use Rattle.std.specs.Prelude.{IfSome}
-use Rattle.mt_verify.specs.declared.calls.Numbered.{Numbered}
-use Rattle.mt_verify.specs.Hearing.{AreNotedOf}
+use Rattle.mt_verify.proofs.Prelude.{List, sym, ◌∙◌, subst, IfSome, Numbered, AreNotedOf}
 use Rattle.mt_verify.proofs.gone.go_tree.Goals as goal
 
 pub go_calls-requires-clause-heard : goal.go_calls-requires-clause-heard

@@ -1,6 +1,4 @@
-use Rattle.std.proofs.Common.{take, sym, subst}
-use Rattle.std.proofs.lemmas.List.{take_more}
-use Rattle.mt_verify.specs.Heard.{AreReaders}
+use Rattle.mt_verify.proofs.Prelude.{take, sym, subst, take_more, AreReaders}
 use Rattle.mt_verify.proofs.heard.readers_of.Goals as goal
 
 pub loop-one-preserved : goal.loop-one-preserved

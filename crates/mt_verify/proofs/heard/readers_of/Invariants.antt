@@ -1,5 +1,4 @@
-use Rattle.std.proofs.Common.{take}
-use Rattle.mt_verify.specs.Heard.{AreReaders}
+use Rattle.mt_verify.proofs.Prelude.{take, AreReaders}
 use Rattle.mt_verify.proofs.heard.readers_of.Given as goal
 
 abbrev pub invariant-loop-one : goal.invariant-loop-one

@@ -1,4 +1,4 @@
-use Rattle.std.proofs.Common.{refl, arith}
+use Rattle.mt_verify.proofs.Prelude.{refl, arith}
 use Rattle.mt_verify.proofs.heard.shortage_heard.Goals as goal
 
 pub returns-clause-some : goal.returns-clause-some

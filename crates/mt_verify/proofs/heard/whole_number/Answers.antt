@@ -1,5 +1,4 @@
-use Rattle.std.proofs.Common.{rules, length, sym}
-use Rattle.std.proofs.lemmas.Bool.{eqb-false}
+use Rattle.mt_verify.proofs.Prelude.{rules, length, sym, eqb-false}
 use Rattle.mt_verify.proofs.SaidShortages.{not_whole}
 use Rattle.mt_verify.proofs.heard.whole_number.Goals as goal
 

@@ -1,7 +1,4 @@
-use Rattle.std.proofs.Common.{List, take}
-use Rattle.mt_told.specs.declared.told.Told.{Told}
-use Rattle.mt_verify.specs.Heard.{AreReaders}
-use Rattle.mt_verify.specs.Hearing.{AreNotedOf}
+use Rattle.mt_verify.proofs.Prelude.{List, take, Told, AreReaders, AreNotedOf}
 use Rattle.mt_verify.proofs.hearing.all_noted.Given as goal
 
 abbrev pub invariant-loop-call : goal.invariant-loop-call

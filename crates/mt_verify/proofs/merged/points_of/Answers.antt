@@ -1,13 +1,4 @@
-use Rattle.std.proofs.Common.{◌≡◌, ◌+◌, ◌<◌, ℕ, List, ◌++◌, [], ◌∷◌, true, length, set, take, get_or, sym, ap, ◌∙◌, subst, Vec, Global}
-use Rattle.std.specs.List.{slice_index}
-use Rattle.std.specs.Vec.{with_items}
-use Rattle.std.proofs.lemmas.List.{take_all, take_more, with_items_is}
-use Rattle.mt_base.specs.declared.calls.Call.TheVariants.{Store}
-use Rattle.mt_log.specs.Trees.{most_lanes}
-use Rattle.mt_told.specs.declared.told.Told.{Told}
-use Rattle.mt_told.specs.declared.told.What.TheVariants.{Wrote}
-use Rattle.mt_verify.specs.ToldReads.{is_got}
-use Rattle.mt_verify.specs.Merging.{cell_of, points_at}
+use Rattle.mt_verify.proofs.Prelude.{◌≡◌, ◌+◌, ◌<◌, ℕ, List, ◌++◌, [], ◌∷◌, true, length, set, take, get_or, sym, ap, ◌∙◌, subst, Vec, Global, slice_index, with_items, take_all, take_more, with_items_is, Store, most_lanes, Told, Wrote, is_got, cell_of, points_at}
 use Rattle.mt_verify.proofs.Merging.{IsMerged, all_own, has_next, have_all, idle, merged_by, one_more}
 use Rattle.mt_verify.proofs.merged.points_of.Goals as goal
 use Rattle.mt_verify.proofs.merged.points_of.Goals.{then-is_read+in_ok-push, else-is_read}

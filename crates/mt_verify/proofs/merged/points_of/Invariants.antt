@@ -1,4 +1,4 @@
-use Rattle.std.proofs.Common.{take}
+use Rattle.mt_verify.proofs.Prelude.{take}
 use Rattle.mt_verify.proofs.Merging.{IsMerged}
 use Rattle.mt_verify.proofs.merged.points_of.Given as goal
 

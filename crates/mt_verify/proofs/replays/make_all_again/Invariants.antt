@@ -1,5 +1,4 @@
-use Rattle.std.proofs.Common.{◌≡◌}
-use Rattle.mt_verify.specs.Histories.{map_of_noted}
+use Rattle.mt_verify.proofs.Prelude.{◌≡◌, map_of_noted}
 use Rattle.mt_verify.proofs.replays.make_all_again.Given as goal
 
 abbrev pub invariant-loop-one : goal.invariant-loop-one

@@ -1,5 +1,4 @@
-use Rattle.mt_log.proofs.LogsRead.{log_follows}
-use Rattle.mt_log.proofs.Readable.{are_readable}
+use Rattle.mt_verify.proofs.Prelude.{log_follows, are_readable}
 use Rattle.mt_verify.proofs.CopiedTrees.{copies_are_earlier}
 use Rattle.mt_verify.proofs.SmallRuns.{run_small}
 use Rattle.mt_verify.proofs.small.the_numbers_of_a_run_are_small.Goals as goal

@@ -1,11 +1,5 @@
-use Rattle.std.proofs.Common.{◌≡◌, ℕ, ◌+◌, ◌/◌, [], Some, length, get_or, slice_get, inl, inr, sym, ap, ◌∙◌, subst, arith}
-use Rattle.std.proofs.lemmas.Bool.{iff_false}
-use Rattle.std.proofs.lemmas.Option.{slice_get-get_or}
-use Rattle.mt_base.specs.declared.calls.Call.TheVariants.{Store}
+use Rattle.mt_verify.proofs.Prelude.{◌≡◌, ℕ, ◌+◌, ◌/◌, [], Some, length, get_or, slice_get, inl, inr, sym, ap, ◌∙◌, subst, arith, iff_false, slice_get-get_or, Store, Noted, map_of_noted, HavePassedAll, IsAnsweredAt, opened_of}
 use Rattle.mt_verify.specs.declared.noted.Heard.TheVariants.{Reply as Printed}
-use Rattle.mt_verify.specs.declared.noted.Noted.{Noted}
-use Rattle.mt_verify.specs.Histories.{map_of_noted}
-use Rattle.mt_verify.specs.Going.{HavePassedAll, IsAnsweredAt, opened_of}
 use Rattle.mt_verify.proofs.WholeTrees.{Going, map_by_is_map, go_begins, go_hindered_first, go_refused, go_on, go_hindered, go_ends}
 use Rattle.mt_verify.proofs.trees.go_through.Goals as goal
 

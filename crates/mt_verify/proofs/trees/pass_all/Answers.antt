@@ -1,6 +1,4 @@
-use Rattle.std.proofs.Common.{ap, sym, ◌∙◌, subst}
-use Rattle.mt_list.specs.ListMap.{Contents}
-use Rattle.mt_verify.specs.Going.{HavePassed}
+use Rattle.mt_verify.proofs.Prelude.{ap, sym, ◌∙◌, subst, Contents, HavePassed}
 use Rattle.mt_verify.proofs.WholeTrees.{pass_both}
 use Rattle.mt_verify.proofs.trees.pass_all.Goals as goal
 

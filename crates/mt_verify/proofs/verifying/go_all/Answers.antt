@@ -1,10 +1,4 @@
-use Rattle.std.proofs.Common.{◌≡◌, ◌+◌, ℕ, true, false, Bor, List, [], ◌∷◌, Option, Some, length, slice_get, refl, sym, ap, ◌∙◌, subst, arith}
-use Rattle.std.specs.Prelude.{◌==◌, IfSome}
-use Rattle.std.proofs.lemmas.Bool.{eqb-true, true≢false}
-use Rattle.std.proofs.lemmas.Option.{slice_get-get_or}
-use Rattle.mt_log.specs.Trees.{Declared}
-use Rattle.mt_verify.specs.AllGone.{HaveGoneTo}
-use Rattle.mt_verify.specs.GoneTrees.{GoneTree}
+use Rattle.mt_verify.proofs.Prelude.{◌≡◌, ◌+◌, ℕ, true, false, Bor, List, [], ◌∷◌, Option, Some, length, slice_get, refl, sym, ap, ◌∙◌, subst, arith, ◌==◌, IfSome, eqb-true, true≢false, slice_get-get_or, Declared, HaveGoneTo, GoneTree}
 use Rattle.mt_verify.proofs.GoingOn.{nothing_behind, starts}
 use Rattle.mt_verify.proofs.verifying.go_all.Goals as goal
 

@@ -1,5 +1,4 @@
-use Rattle.std.proofs.Common.{◌≡◌, length}
-use Rattle.mt_verify.specs.AllGone.{HaveGoneTo}
+use Rattle.mt_verify.proofs.Prelude.{◌≡◌, length, HaveGoneTo}
 use Rattle.mt_verify.proofs.verifying.go_all.Given as goal
 
 abbrev pub invariant-loop-declared : goal.invariant-loop-declared

@@ -1,15 +1,4 @@
-use Rattle.std.proofs.Common.{◌≡◌, ℕ, List, [], Option, Some, Vec, Global, length, slice_get, sym, ap, ◌∙◌, subst}
-use Rattle.std.specs.Prelude.{IfNone, IfSome}
-use Rattle.std.specs.List.{All, AllPairs}
-use Rattle.std.proofs.lemmas.Bool.{true≢false}
-use Rattle.mt_log.specs.Trees.{trees_of}
-use Rattle.mt_told.specs.declared.told.Told.{Told}
-use Rattle.mt_verify.specs.AllGone.{HaveGoneTo, NoneIsTold}
-use Rattle.mt_verify.specs.ToldReads.{reads_count, own_points}
-use Rattle.mt_verify.specs.Going.{Lane}
-use Rattle.mt_verify.specs.GoneTrees.{GoneTree, HasGone, lane_looks}
-use Rattle.mt_verify.specs.Points.{AreLeastPoints}
-use Rattle.mt_verify.specs.PrintedOrder.{EndsInTree, InPrintedOrder}
+use Rattle.mt_verify.proofs.Prelude.{◌≡◌, ℕ, List, [], Option, Some, Vec, Global, length, slice_get, sym, ap, ◌∙◌, subst, IfNone, IfSome, All, AllPairs, true≢false, trees_of, Told, HaveGoneTo, NoneIsTold, reads_count, own_points, Lane, GoneTree, HasGone, lane_looks, AreLeastPoints, EndsInTree, InPrintedOrder}
 use Rattle.mt_verify.proofs.AllFound.{all_found, has_gone}
 use Rattle.mt_verify.proofs.FoundVerdict.{is_least, no_run, not_ended, not_in_order}
 use Rattle.mt_verify.proofs.verifying.judge.Goals as goal

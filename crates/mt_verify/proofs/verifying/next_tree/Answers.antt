@@ -1,12 +1,4 @@
-use Rattle.std.proofs.Common.{◌≡◌, ℕ, List, ◌++◌, Option, length, sym, ap, ◌∙◌, subst, arith}
-use Rattle.std.specs.Prelude.{IfNone, IfSome}
-use Rattle.std.proofs.lemmas.Option.{slice_get_within}
-use Rattle.mt_log.specs.Trees.{Declared, trees_of}
-use Rattle.mt_told.specs.declared.told.Told.{Told}
-use Rattle.mt_log.specs.Text.{listing_text}
-use Rattle.mt_verify.specs.AllGone.{HaveGoneTo}
-use Rattle.mt_verify.specs.GoneTrees.{CannotGo, GoneTree, IsGoneFrom}
-use Rattle.mt_verify.specs.Openings.{OpensAsMap}
+use Rattle.mt_verify.proofs.Prelude.{◌≡◌, ℕ, List, ◌++◌, Option, length, sym, ap, ◌∙◌, subst, arith, IfNone, IfSome, slice_get_within, Declared, trees_of, Told, listing_text, HaveGoneTo, CannotGo, GoneTree, IsGoneFrom, OpensAsMap}
 use Rattle.mt_verify.proofs.GoingOn.{goes_on, has_source, not_gone, not_listed, opened_kind}
 use Rattle.mt_verify.proofs.verifying.next_tree.Goals as goal
 

@@ -1,9 +1,4 @@
-use Rattle.std.proofs.Common.{Option, length, ap, subst, arith}
-use Rattle.std.specs.Prelude.{IfNone}
-use Rattle.mt_log.proofs.LogsRead.{log_follows}
-use Rattle.mt_log.proofs.Readable.{are_readable}
-use Rattle.mt_told.specs.declared.reading.Account.{Account}
-use Rattle.mt_told.specs.Telling.{TellsNone}
+use Rattle.mt_verify.proofs.Prelude.{Option, length, ap, subst, arith, IfNone, log_follows, are_readable, Account, TellsNone}
 use Rattle.mt_verify.proofs.CopiedTrees.{copies_are_earlier}
 use Rattle.mt_verify.proofs.FoundVerdict.{no_steps}
 use Rattle.mt_verify.proofs.SmallRuns.{run_small}

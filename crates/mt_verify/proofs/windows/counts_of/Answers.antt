@@ -1,5 +1,4 @@
-use Rattle.std.proofs.Common.{◌≢◌, ◌∙◌, ◌<◌, length, arith, get_or-set_other, get_or-set_same, below_more}
-use Rattle.std.proofs.lemmas.List.{length-set}
+use Rattle.mt_verify.proofs.Prelude.{◌≢◌, ◌∙◌, ◌<◌, length, arith, get_or-set_other, get_or-set_same, below_more, length-set}
 use Rattle.mt_verify.proofs.windows.counts_of.Goals as goal
 
 pub loop-tree-preserved : goal.loop-tree-preserved

@@ -1,5 +1,4 @@
-use Rattle.std.proofs.Common.{◌≡◌, ℕ, ◌<◌, length, slice_index}
-use Rattle.mt_verify.specs.ToldCalls.{calls_told}
+use Rattle.mt_verify.proofs.Prelude.{◌≡◌, ℕ, ◌<◌, length, slice_index, calls_told}
 use Rattle.mt_verify.proofs.windows.counts_of.Given as goal
 
 abbrev pub invariant-loop-tree : goal.invariant-loop-tree

@@ -1,6 +1,4 @@
-use Rattle.std.proofs.Common.{ℕ, ◌<◌, get_or}
-use Rattle.mt_told.specs.declared.told.Told.{Told}
-use Rattle.mt_verify.specs.PrintedOrder.{EndsInTree}
+use Rattle.mt_verify.proofs.Prelude.{ℕ, ◌<◌, get_or, Told, EndsInTree}
 use Rattle.mt_verify.proofs.windows.windows_end.Given as goal
 
 abbrev pub invariant-loop-one : goal.invariant-loop-one

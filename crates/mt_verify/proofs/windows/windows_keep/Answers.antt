@@ -1,8 +1,4 @@
-use Rattle.std.proofs.Common.{◌≡◌, ℕ, ◌<◌, ◌≤◌, List, AllPairs, length, take, get_or, arith, refl, sym, subst, IsTrue}
-use Rattle.std.proofs.lemmas.List.{take_more}
-use Rattle.mt_told.specs.declared.told.Told.{Told}
-use Rattle.mt_verify.specs.Marked.{AreMarked}
-use Rattle.mt_verify.specs.PrintedOrder.{InPrintedOrder}
+use Rattle.mt_verify.proofs.Prelude.{◌≡◌, ℕ, ◌<◌, ◌≤◌, List, AllPairs, length, take, get_or, arith, refl, sym, subst, IsTrue, take_more, Told, AreMarked, InPrintedOrder}
 use Rattle.mt_verify.proofs.InOrder.{pairs_at, pairs_more, pairs_before}
 use Rattle.mt_verify.proofs.windows.windows_keep.Goals as goal
 

@@ -1,7 +1,4 @@
-use Rattle.std.proofs.Common.{ℕ, ◌<◌, ◌≤◌, length, take, AllPairs, get_or}
-use Rattle.mt_told.specs.declared.told.Told.{Told}
-use Rattle.mt_verify.specs.Marked.{AreMarked}
-use Rattle.mt_verify.specs.PrintedOrder.{InPrintedOrder}
+use Rattle.mt_verify.proofs.Prelude.{ℕ, ◌<◌, ◌≤◌, length, take, AllPairs, get_or, Told, AreMarked, InPrintedOrder}
 use Rattle.mt_verify.proofs.windows.windows_keep.Given as goal
 
 abbrev pub invariant-loop-one : goal.invariant-loop-one

@@ -1,5 +1,4 @@
-use Rattle.std.proofs.Common.{inl, refl}
-use Rattle.mt_log.proofs.Readable.{is_log}
+use Rattle.mt_workload.proofs.Prelude.{inl, refl, is_log}
 use Rattle.mt_workload.proofs.MadeLogs.{made_follows, made_is_readable}
 use Rattle.mt_workload.proofs.making.made_log.Goals as goal
 

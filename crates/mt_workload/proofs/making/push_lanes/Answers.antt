@@ -1,5 +1,4 @@
-use Rattle.std.proofs.Common.{sym, ◌∙◌}
-use Rattle.mt_workload.specs.Made.{steps_of_lane}
+use Rattle.mt_workload.proofs.Prelude.{sym, ◌∙◌, steps_of_lane}
 use Rattle.mt_workload.proofs.Dealing.{lane_more, lanes_none}
 use Rattle.mt_workload.proofs.making.push_lanes.Goals as goal
 

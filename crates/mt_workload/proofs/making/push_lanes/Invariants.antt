@@ -1,5 +1,4 @@
-use Rattle.std.proofs.Common.{◌≡◌, ◌-◌, ◌++◌}
-use Rattle.mt_workload.specs.Made.{lanes_from, steps_of_lane}
+use Rattle.mt_workload.proofs.Prelude.{◌≡◌, ◌-◌, ◌++◌, lanes_from, steps_of_lane}
 use Rattle.mt_workload.proofs.making.push_lanes.Given as goal
 
 -- the lanes so far, and those that are drawn from here on, are all

@@ -1,5 +1,4 @@
-use Rattle.std.proofs.Common.{◌≡◌, ◌++◌, ◌∷◌, [], ap, sym, ◌∙◌}
-use Rattle.mt_workload.specs.Made.{step}
+use Rattle.mt_workload.proofs.Prelude.{◌≡◌, ◌++◌, ◌∷◌, [], ap, sym, ◌∙◌, step}
 use Rattle.mt_workload.proofs.Dealing.{state_more, state_none, step_more, steps_none}
 use Rattle.mt_workload.proofs.making.push_steps.Goals as goal
 

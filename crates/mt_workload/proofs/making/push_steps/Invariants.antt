@@ -1,5 +1,4 @@
-use Rattle.std.proofs.Common.{◌≡◌, ◌-◌, ◌++◌}
-use Rattle.mt_workload.specs.Made.{steps}
+use Rattle.mt_workload.proofs.Prelude.{◌≡◌, ◌-◌, ◌++◌, steps}
 use Rattle.mt_workload.proofs.making.push_steps.Given as goal
 
 -- the steps so far, and those that are drawn from here on, are all

@@ -1,5 +1,4 @@
-use Rattle.std.proofs.Common.{◌≡◌, ◌*◌, ◌≤◌, ◌^◌, length, take}
-use Rattle.std.specs.Prelude.{sum_by}
+use Rattle.mt_workload.proofs.Prelude.{◌≡◌, ◌*◌, ◌≤◌, ◌^◌, length, take, sum_by}
 use Rattle.mt_workload.proofs.summaries.ranges_of.Given as goal
 
 abbrev pub invariant-loop-listing : goal.invariant-loop-listing

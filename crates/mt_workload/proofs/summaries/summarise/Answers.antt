@@ -1,4 +1,4 @@
-use Rattle.std.proofs.Common.{refl}
+use Rattle.mt_workload.proofs.Prelude.{refl}
 use Rattle.mt_workload.proofs.summaries.summarise.Goals as goal
 
 pub returns : goal.returns

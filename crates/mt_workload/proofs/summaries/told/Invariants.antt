@@ -1,5 +1,4 @@
-use Rattle.std.proofs.Common.{◌≡◌, take}
-use Rattle.mt_workload.specs.Summary.{told}
+use Rattle.mt_workload.proofs.Prelude.{◌≡◌, take, told}
 use Rattle.mt_workload.proofs.summaries.told.Given as goal
 
 abbrev pub invariant-loop-entry : goal.invariant-loop-entry

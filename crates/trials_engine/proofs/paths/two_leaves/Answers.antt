@@ -1,6 +1,4 @@
-use Rattle.mt_rows.specs.Memory.{sheet_in}
-use Rattle.mt_rows.specs.Publish.{tree_as}
-use Rattle.mt_rows.proofs.PlainMade.{lawful_tree}
+use Rattle.trials_engine.proofs.Prelude.{sheet_in, tree_as, lawful_tree}
 use Rattle.trials_engine.proofs.paths.two_leaves.Goals as goal
 
 pub returns : goal.returns

@@ -1,6 +1,4 @@
-use Rattle.std.proofs.Common.{refl, ap}
-use Rattle.mt_rows.specs.Memory.{sheet_in}
-use Rattle.mt_rows.specs.Sheet.{Sheet}
+use Rattle.trials_engine.proofs.Prelude.{refl, ap, sheet_in, Sheet}
 use Rattle.trials_engine.proofs.CheckedTrees.{lawful_as_checked, form_as_checked}
 use Rattle.trials_engine.proofs.small_trees.checked_rows.Goals as goal
 

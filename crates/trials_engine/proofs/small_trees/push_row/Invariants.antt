@@ -1,5 +1,4 @@
-use Rattle.mt_rows.specs.Memory.{sheet_in}
-use Rattle.mt_rows.specs.Sheet.{IsPlace, OnlyReads}
+use Rattle.trials_engine.proofs.Prelude.{sheet_in, IsPlace, OnlyReads}
 use Rattle.trials_engine.proofs.small_trees.push_row.Given as goal
 
 abbrev pub invariant-loop-col : goal.invariant-loop-col

@@ -1,5 +1,4 @@
-use Rattle.std.proofs.Common.{◌≡◌}
-use Rattle.mt_engine.specs.RangeWalks.{WalksFrom}
+use Rattle.trials_engine.proofs.Prelude.{◌≡◌, WalksFrom}
 use Rattle.trials_engine.proofs.tests.expect_walk.Given as goal
 
 abbrev pub invariant-loop-range : goal.invariant-loop-range

@@ -1,10 +1,6 @@
-use Rattle.std.proofs.Common.{List, [], ◌∷◌, ◌++◌, Vec, ap, sym, subst, ◌∙◌}
-use Rattle.std.specs.Global.{Global}
-use Rattle.mt_desks.specs.Phases.{CanPass}
-use Rattle.mt_tree.specs.Trees.{IsPassOf, Pass, pass_in}
+use Rattle.trials_lanes.proofs.Prelude.{List, [], ◌∷◌, ◌++◌, Vec, ap, sym, subst, ◌∙◌, Global, CanPass, IsPassOf, Pass, pass_in, LaneTree}
 use Rattle.trials_lanes.proofs.Closed.{can_pass_one}
 use Rattle.trials_lanes.proofs.locked.answers.Goals as goal
-use Rattle.mt_commands.specs.declared.trees.LaneTree.{LaneTree}
 
 pub answers_to-requires-clause-can : goal.answers_to-requires-clause-can
 answers_to-requires-clause-can g c κs within =

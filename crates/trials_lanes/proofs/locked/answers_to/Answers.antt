@@ -1,12 +1,6 @@
-use Rattle.std.proofs.Common.{length}
-use Rattle.std.specs.Vec.{vec_len, vec_capacity}
-use Rattle.mt_desks.specs.declared.desks.LaneDesk.{LaneDesk}
-use Rattle.mt_desks.specs.Phases.{IsLaid}
-use Rattle.mt_lanes.specs.declared.lanes.Lane.{Lane}
-use Rattle.mt_tree.specs.Trees.{Pass}
+use Rattle.trials_lanes.proofs.Prelude.{length, vec_len, vec_capacity, LaneDesk, IsLaid, Lane, Pass, LaneTree}
 use Rattle.trials_lanes.proofs.Closed.{at_only}
 use Rattle.trials_lanes.proofs.locked.answers_to.Goals as goal
-use Rattle.mt_commands.specs.declared.trees.LaneTree.{LaneTree}
 
 pub run_phase-requires-clause-laid : goal.run_phase-requires-clause-laid
 run_phase-requires-clause-laid g c κs within =

@@ -1,4 +1,4 @@
-use Rattle.mt_tree.specs.Trees.{IsPassOf}
+use Rattle.trials_lanes.proofs.Prelude.{IsPassOf}
 use Rattle.trials_lanes.proofs.locked.fill.Given as goal
 
 abbrev pub invariant-loop-n : goal.invariant-loop-n

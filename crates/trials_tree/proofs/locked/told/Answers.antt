@@ -1,6 +1,4 @@
-use Rattle.std.proofs.Common.{rules, ◌≡◌, ap, ◌∙◌, subst}
-use Rattle.mt_tree.specs.Trees.{IsPassOf}
-use Rattle.mt_tree.proofs.Lending.{still_of}
+use Rattle.trials_tree.proofs.Prelude.{rules, ◌≡◌, ap, ◌∙◌, subst, IsPassOf, still_of}
 use Rattle.trials_tree.proofs.locked.told.Goals as goal
 
 pub returns-in_err-image : goal.returns-in_err-image

@@ -1,4 +1,4 @@
-use Rattle.mt_tree.specs.Trees.{IsPassOf}
+use Rattle.trials_tree.proofs.Prelude.{IsPassOf}
 use Rattle.trials_tree.proofs.shared.expect_above.Given as goal
 
 abbrev pub invariant-loop-asked : goal.invariant-loop-asked

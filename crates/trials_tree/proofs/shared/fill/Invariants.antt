@@ -1,4 +1,4 @@
-use Rattle.mt_tree.specs.Trees.{IsPassOf}
+use Rattle.trials_tree.proofs.Prelude.{IsPassOf}
 use Rattle.trials_tree.proofs.shared.fill.Given as goal
 
 abbrev pub invariant-loop-i : goal.invariant-loop-i

@@ -1,5 +1,4 @@
-use Rattle.std.proofs.Common.{rules, ap, ◌∙◌}
-use Rattle.mt_tree.proofs.Lending.{still_of}
+use Rattle.trials_tree.proofs.Prelude.{rules, ap, ◌∙◌, still_of}
 use Rattle.trials_tree.proofs.shared.found.Goals as goal
 
 pub returns : goal.returns

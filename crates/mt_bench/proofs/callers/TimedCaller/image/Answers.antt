@@ -1,5 +1,4 @@
-use Rattle.std.proofs.Common.{sym}
-use Rattle.mt_tree.proofs.Lending.{still_of}
+use Rattle.mt_bench.proofs.Prelude.{sym, still_of}
 use Rattle.mt_bench.proofs.callers.TimedCaller.image.Goals as goal
 
 pub image-requires : goal.image-requires

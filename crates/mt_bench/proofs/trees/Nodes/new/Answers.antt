@@ -1,11 +1,4 @@
-use Rattle.std.proofs.Common.{sym, subst, ap, ◌∙◌, arith}
-use Rattle.mt_base.specs.declared.widths.Width.{Width}
-use Rattle.mt_free.specs.Book.{Book}
-use Rattle.mt_free.proofs.Books.{new_is_book}
-use Rattle.mt_rows.specs.Plain.{new_sheet}
-use Rattle.mt_rows.specs.Sheet.{Sheet}
-use Rattle.mt_engine.specs.Engine.{IsIdle}
-use Rattle.mt_engine.proofs.FreshEngine.{fresh_is_idle}
+use Rattle.mt_bench.proofs.Prelude.{sym, subst, ap, ◌∙◌, arith, Width, Book, new_is_book, new_sheet, Sheet, IsIdle, fresh_is_idle}
 use Rattle.mt_bench.proofs.trees.Nodes.new.Goals as goal
 
 pub new-requires-2 : goal.new-requires-2

@@ -1,15 +1,5 @@
-use mir.Raw.{raw}
-use base.Shift.{Keyless}
-use denote.Memory.{lone}
-use denote.RawPtr.{Ptr}
-use denote.Struct.Struct.{exits_of}
-use denote.Struct.Owning.{shape, fields, to}
-use denote.Param.Send.{IsSend, AllSend, owning_send, struct_send, sendable}
-use Rattle.std.specs.Prelude.{Option, Some, None}
+use Rattle.mt_c.proofs.Prelude.{raw, Keyless, lone, Ptr, exits_of, shape, fields, to, IsSend, AllSend, owning_send, struct_send, sendable, Option, Some, None, quiet, lies, kept_owns, OwnTree}
 use Rattle.std.proofs.Crossing as heap
-use Rattle.std_alloc.proofs.SendSync.{quiet, lies}
-use Rattle.mt_c.specs.Owned.{kept_owns}
-use Rattle.mt_c.specs.Own.{OwnTree}
 use Rattle.mt_c.specs.contracts.own_tree.OwnTree as tree
 use Rattle.mt_c.specs.contracts.kept.KeptTree.{the_row, the_type}
 use Rattle.mt_c.proofs.Crossing.{tree_sent}

@@ -1,15 +1,5 @@
-use mir.Raw.{raw}
-use base.Shift.{Keyless}
-use denote.Memory.{lone}
-use denote.RawPtr.{Ptr}
-use denote.Struct.Struct.{exits_of}
-use denote.Struct.Owning.{shape, fields, to}
-use denote.Param.Send.{IsSend, AllSend, owning_send, struct_send, sendable}
-use Rattle.std.specs.Prelude.{Option, Some, None}
+use Rattle.mt_c.proofs.Prelude.{raw, Keyless, lone, Ptr, exits_of, shape, fields, to, IsSend, AllSend, owning_send, struct_send, sendable, Option, Some, None, quiet, lies, kept_owns, User}
 use Rattle.std.proofs.Crossing as heap
-use Rattle.std_alloc.proofs.SendSync.{quiet, lies}
-use Rattle.mt_c.specs.Owned.{kept_owns}
-use Rattle.mt_c.specs.declared.user.User.{User}
 use Rattle.mt_c.specs.contracts.user.User as user
 use Rattle.mt_c.proofs.Crossing.{user_sent}
 use Rattle.mt_c.specs.contracts.kept_user.KeptUser.{the_row, the_type}

@@ -1,7 +1,4 @@
-use Rattle.std.proofs.Common.{◌≡◌, ap, subst}
-use Rattle.mt_engine.specs.Engine.{Parts}
-use Rattle.mt_c.specs.Calls.{answered}
-use Rattle.mt_c.specs.Own.{OwnTree}
+use Rattle.mt_c.proofs.Prelude.{◌≡◌, ap, subst, Parts, answered, OwnTree}
 use Rattle.mt_c.proofs.own_tree.OwnTree.ask.Goals as goal
 
 pub returns-clause-answer : goal.returns-clause-answer

@@ -1,5 +1,4 @@
-use Rattle.std.proofs.Common.{ap}
-use Rattle.mt_c.specs.Own.{OwnTree}
+use Rattle.mt_c.proofs.Prelude.{ap, OwnTree}
 use Rattle.mt_c.proofs.Reading.{form_in}
 use Rattle.mt_c.proofs.own_tree.OwnTree.check.Goals as goal
 

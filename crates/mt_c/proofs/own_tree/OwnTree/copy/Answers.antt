@@ -1,8 +1,4 @@
-use Rattle.std.proofs.Common.{IfOk, IfErr, ap, subst}
-use Rattle.mt_engine.specs.Engine.{Parts}
-use Rattle.mt_tree.specs.Copies.{live_rows}
-use Rattle.mt_c.specs.Copying.{IsCopyInRows, LacksTree}
-use Rattle.mt_c.specs.Own.{OwnTree}
+use Rattle.mt_c.proofs.Prelude.{IfOk, IfErr, ap, subst, Parts, live_rows, IsCopyInRows, LacksTree, OwnTree}
 use Rattle.mt_c.proofs.own_tree.OwnTree.copy.Goals as goal
 
 pub returns-clause-copy : goal.returns-clause-copy

@@ -1,7 +1,4 @@
-use Rattle.std.proofs.Common.{ap}
-use Rattle.mt_base.specs.declared.kinds.Kind.{Kind}
-use Rattle.mt_c.specs.Own.{OwnTree}
-use Rattle.mt_c.specs.SharedMaps.{shape_for}
+use Rattle.mt_c.proofs.Prelude.{ap, Kind, OwnTree, shape_for}
 use Rattle.mt_c.proofs.SharedMaps.{first_told}
 use Rattle.mt_c.proofs.own_tree.OwnTree.share.Goals as goal
 

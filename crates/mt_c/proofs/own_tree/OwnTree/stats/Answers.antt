@@ -1,5 +1,4 @@
-use Rattle.std.proofs.Common.{ap}
-use Rattle.mt_c.specs.Own.{OwnTree}
+use Rattle.mt_c.proofs.Prelude.{ap, OwnTree}
 use Rattle.mt_c.proofs.Counting.{stats_there}
 use Rattle.mt_c.proofs.own_tree.OwnTree.stats.Goals as goal
 

@@ -1,4 +1,4 @@
-use Rattle.mt_c.specs.Own.{own_of}
+use Rattle.mt_c.proofs.Prelude.{own_of}
 use Rattle.mt_c.proofs.Walking.{stepped}
 use Rattle.mt_c.proofs.own_tree.OwnTree.step.Goals as goal
 

@@ -1,10 +1,5 @@
-use Rattle.std.proofs.Common.{◌<◌, ◌∙◌, ℕ, refl, sym, ap, subst}
-use Rattle.mt_base.specs.declared.calls.Call.TheVariants.{StorePre}
-use Rattle.mt_engine.specs.Engine.{Parts}
-use Rattle.mt_c.specs.Own.{OwnTree}
-use Rattle.mt_c.specs.Preparing.{IsPreCalled}
+use Rattle.mt_c.proofs.Prelude.{◌<◌, ◌∙◌, ℕ, refl, sym, ap, subst, StorePre, Parts, OwnTree, IsPreCalled, IsReady}
 use Rattle.mt_c.proofs.own_tree.OwnTree.store_prealloc.Goals as goal
-use Rattle.mt_tree.specs.Behind.{IsReady}
 
 pub returns-then-not-ready : goal.returns-then-not-ready
 returns-then-not-ready c = (

@@ -1,6 +1,4 @@
-use Rattle.std.proofs.Common.{All, subst, sym}
-use Rattle.mt_tree.specs.declared.trees.Tree.{Tree}
-use Rattle.mt_c.specs.Spares.{IsSparePass}
+use Rattle.mt_c.proofs.Prelude.{All, subst, sym, Tree, IsSparePass}
 use Rattle.mt_c.proofs.purse.Common.give.Goals as goal
 
 pub give-requires-clause-value : goal.give-requires-clause-value

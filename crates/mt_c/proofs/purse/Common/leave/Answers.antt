@@ -1,7 +1,5 @@
-use Rattle.std.proofs.Common.{ap}
-use Rattle.std.proofs.lemmas.List.Elements.{All-push, All-same}
+use Rattle.mt_c.proofs.Prelude.{ap, All-push, All-same, IsSparePass}
 use Rattle.mt_base.specs.Passes as known
-use Rattle.mt_c.specs.Spares.{IsSparePass}
 use Rattle.mt_c.proofs.purse.Common.leave.Goals as goal
 
 pub give-given-requires-clause-passes : goal.give-given-requires-clause-passes

@@ -1,9 +1,4 @@
-use Rattle.std.proofs.Common.{rules, ◌≡◌, ◌∙◌, All, [], ap, map, subst, sym}
-use Rattle.std.proofs.lemmas.List.{nil_from_length}
-use Rattle.mt_tree.specs.Trees.{pass_in}
-use Rattle.mt_c.specs.declared.purse.Common.{Common}
-use Rattle.mt_c.specs.Purses.{known_in}
-use Rattle.mt_c.specs.Spares.{IsSparePass}
+use Rattle.mt_c.proofs.Prelude.{rules, ◌≡◌, ◌∙◌, All, [], ap, map, subst, sym, nil_from_length, pass_in, Common, known_in, IsSparePass}
 use Rattle.mt_c.proofs.Using.{given_empty}
 use Rattle.mt_c.proofs.purse.Common.open_user.Goals as goal
 

@@ -1,7 +1,4 @@
-use Rattle.std.proofs.Common.{All, subst}
-use Rattle.std.specs.Prelude.{IfOk}
-use Rattle.mt_tree.specs.declared.trees.Tree.{Tree}
-use Rattle.mt_c.specs.Spares.{IsSparePass}
+use Rattle.mt_c.proofs.Prelude.{All, subst, IfOk, Tree, IsSparePass}
 use Rattle.mt_c.proofs.purse.Common.take.Goals as goal
 
 pub returns-clause-passes : goal.returns-clause-passes

@@ -1,9 +1,4 @@
-use Rattle.std.proofs.Common.{[], ap, sym, ◌++◌, ◌∙◌, ◌∷◌}
-use Rattle.std.proofs.lemmas.List.Elements.{All-same}
-use Rattle.std.specs.Arc.{arc_value}
-use Rattle.mt_tree.specs.Trees.{Pass}
-use Rattle.mt_c.specs.declared.user.User.{User}
-use Rattle.mt_c.specs.Spares.{IsSparePass}
+use Rattle.mt_c.proofs.Prelude.{[], ap, sym, ◌++◌, ◌∙◌, ◌∷◌, All-same, arc_value, Pass, User, IsSparePass}
 use Rattle.mt_c.proofs.purse.Purse.open_user.Goals as goal
 
 pub returns-in-Err-clause-passes : goal.returns-in-Err-clause-passes

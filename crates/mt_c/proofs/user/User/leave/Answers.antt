@@ -1,8 +1,5 @@
-use Rattle.std.proofs.Common.{rules, ◌≡◌, ◌+◌, ℕ, All, ap, subst, sym, ◌∙◌}
+use Rattle.mt_c.proofs.Prelude.{rules, ◌≡◌, ◌+◌, ℕ, All, ap, subst, sym, ◌∙◌, Common, IsSparePass, HasLeft, common_of, cuts, known_to, paused, rested}
 use Rattle.mt_base.specs.Passes as known
-use Rattle.mt_c.specs.declared.purse.Common.{Common}
-use Rattle.mt_c.specs.Spares.{IsSparePass}
-use Rattle.mt_c.specs.Users.{HasLeft, common_of, cuts, known_to, paused, rested}
 use Rattle.mt_c.proofs.Using.{rested_halted}
 use Rattle.mt_c.proofs.user.User.leave.Goals as goal
 

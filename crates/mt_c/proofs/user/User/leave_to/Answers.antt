@@ -1,6 +1,4 @@
-use Rattle.std.proofs.Common.{All, subst, sym}
-use Rattle.mt_c.specs.declared.purse.Common.{Common}
-use Rattle.mt_c.specs.Spares.{IsSparePass}
+use Rattle.mt_c.proofs.Prelude.{All, subst, sym, Common, IsSparePass}
 use Rattle.mt_c.proofs.Using.{on}
 use Rattle.mt_c.proofs.user.User.leave_to.Goals as goal
 

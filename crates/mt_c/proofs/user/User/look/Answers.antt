@@ -1,7 +1,4 @@
-use Rattle.std.proofs.Common.{Ok, subst, sym}
-use Rattle.mt_base.specs.declared.calls.Query.TheVariants.{Load}
-use Rattle.mt_c.specs.declared.purse.Common.{Common}
-use Rattle.mt_c.specs.Walkers.{IsWalkAnswer, knows}
+use Rattle.mt_c.proofs.Prelude.{Ok, subst, sym, Load, Common, IsWalkAnswer, knows}
 use Rattle.mt_c.proofs.Using.{on}
 use Rattle.mt_c.proofs.user.User.look.Goals as goal
 

@@ -1,4 +1,4 @@
-use Rattle.std.proofs.Common.{Err, [], ap, refl, ◌≡◌}
+use Rattle.mt_c.proofs.Prelude.{Err, [], ap, refl, ◌≡◌}
 use Rattle.mt_tree.specs.declared.shapes.MakeError.TheVariants as make_error
 use Rattle.mt_c.proofs.Using.{is_first, new_spare, none_bad, none_short}
 use Rattle.mt_c.proofs.user.User.open.Goals as goal

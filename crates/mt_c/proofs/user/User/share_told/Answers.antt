@@ -1,5 +1,4 @@
-use Rattle.std.proofs.Common.{ap}
-use Rattle.mt_c.specs.Receipts.{when_given}
+use Rattle.mt_c.proofs.Prelude.{ap, when_given}
 use Rattle.mt_c.proofs.user.User.share_told.Goals as goal
 
 pub returns-in-Ok-clause-pass : goal.returns-in-Ok-clause-pass

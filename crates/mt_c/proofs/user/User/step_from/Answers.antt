@@ -1,6 +1,4 @@
-use Rattle.std.proofs.Common.{subst, sym}
-use Rattle.mt_c.specs.declared.purse.Common.{Common}
-use Rattle.mt_c.specs.Walkers.{StepsFrom}
+use Rattle.mt_c.proofs.Prelude.{subst, sym, Common, StepsFrom}
 use Rattle.mt_c.proofs.Using.{on}
 use Rattle.mt_c.proofs.user.User.step_from.Goals as goal
 

@@ -1,7 +1,4 @@
-use Rattle.std.proofs.Common.{All, subst}
-use Rattle.std.specs.Prelude.{IfOk}
-use Rattle.mt_c.specs.declared.purse.Common.{Common}
-use Rattle.mt_c.specs.Spares.{IsSparePass}
+use Rattle.mt_c.proofs.Prelude.{All, subst, IfOk, Common, IsSparePass}
 use Rattle.mt_c.proofs.user.User.take_purse.Goals as goal
 
 pub returns-clause-passes : goal.returns-clause-passes

@@ -1,4 +1,4 @@
-use Rattle.std.proofs.Common.{rules, ◌≡◌, None, Some, refl}
+use Rattle.mt_c.proofs.Prelude.{rules, ◌≡◌, None, Some, refl}
 use Rattle.mt_c.proofs.Using.{ends_walk, is_step, keeps_walk, last_none, last_one, left_off, left_on, paused_knows, same_knows}
 use Rattle.mt_c.proofs.walker.Walker.step.Goals as goal
 

@@ -1,5 +1,4 @@
-use Rattle.std.proofs.Common.{rules, refl}
-use Rattle.mt_c.specs.Bounded.{place_to}
+use Rattle.mt_c.proofs.Prelude.{rules, refl, place_to}
 use Rattle.mt_c.proofs.Bounds.{steps_on}
 use Rattle.mt_c.proofs.walker.Walker.step_to.Goals as goal
 

@@ -1,11 +1,4 @@
-use Rattle.std.proofs.Common.{◌≢◌, ◌≤◌, ◌==◌, ◌&&◌, List, length, filter, not, sym, ap, ◌∙◌, subst, rules, arith}
-use Rattle.std.specs.Prelude.{Ok, Any}
-use Rattle.std.proofs.lemmas.Result.{err_from_is_err_and}
-use Rattle.mt_layout.specs.declared.items.Item.{Item}
-use Rattle.mt_layout.specs.Columns.{RiseFrom, longest_hole}
-use Rattle.mt_check.specs.declared.walks.Below.{Below}
-use Rattle.mt_check.specs.Walks.{tree_from, IsAnswerAt}
-use Rattle.mt_rows.proofs.Loads.{reads_on}
+use Rattle.mt_check.proofs.Prelude.{◌≢◌, ◌≤◌, ◌==◌, ◌&&◌, List, length, filter, not, sym, ap, ◌∙◌, subst, rules, arith, Ok, Any, err_from_is_err_and, Item, RiseFrom, longest_hole, Below, tree_from, IsAnswerAt, reads_on}
 use Rattle.mt_check.proofs.Descending.{risen, leaf_entry, leaf_answer, leaf_depth}
 use Rattle.mt_check.proofs.Children.{child_low, child_falls, child_depth, child_answer, rows_fit_in, ranges_fit_in, goes_next, gaps_answer, last_answer, last_depth, inner_walk, still_leads, still_entered, answer_back, depth_back, walk_back, own_first, not_leaf}
 use Rattle.mt_check.proofs.walks.Walk.+walk.Goals as goal

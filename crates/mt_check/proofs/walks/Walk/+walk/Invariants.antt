@@ -1,4 +1,4 @@
-use Rattle.std.proofs.Common.{◌+◌, ◌*◌}
+use Rattle.mt_check.proofs.Prelude.{◌+◌, ◌*◌}
 use Rattle.mt_check.proofs.Children.{Goes}
 use Rattle.mt_check.proofs.walks.Walk.+walk.Given as goal
 

@@ -1,8 +1,4 @@
-use Rattle.std.proofs.Common.{◌≡◌, true, refl, rules}
-use Rattle.std.specs.Prelude.{unwrap_or}
-use Rattle.mt_check.specs.declared.walks.Row.{Row}
-use Rattle.mt_check.specs.RowTests.{names_row, depth_at, has_depth}
-use Rattle.mt_check.specs.Walks.{tree_from}
+use Rattle.mt_check.proofs.Prelude.{◌≡◌, true, refl, rules, unwrap_or, Row, names_row, depth_at, has_depth, tree_from}
 use Rattle.mt_check.proofs.Entering.{entered, first_broken}
 use Rattle.mt_check.proofs.walks.Walk.enter.Goals as goal
 

@@ -1,8 +1,4 @@
-use Rattle.std.proofs.Common.{Err, refl, sym, ap, ◌∙◌, arith}
-use Rattle.mt_base.specs.Width.{most_rows}
-use Rattle.mt_image.proofs.FewReached.{few_reached}
-use Rattle.mt_rows.specs.Memory.{sheet_in}
-use Rattle.mt_replay.specs.Trees.{calls_taken}
+use Rattle.mt_commands.proofs.Prelude.{Err, refl, sym, ap, ◌∙◌, arith, most_rows, few_reached, sheet_in, calls_taken}
 use Rattle.mt_commands.proofs.Lanes.{in_range, many, new_tree}
 use Rattle.mt_commands.proofs.trees.LaneTree.of_rows.Goals as goal
 

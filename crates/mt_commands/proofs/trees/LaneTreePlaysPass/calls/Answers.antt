@@ -1,7 +1,5 @@
-use Rattle.std.proofs.Common.{rules, ◌≡◌, length, sym, ap, ◌∙◌}
+use Rattle.mt_commands.proofs.Prelude.{rules, ◌≡◌, length, sym, ap, ◌∙◌, pass_in, still_of}
 use Rattle.mt_base.specs.Passes as known
-use Rattle.mt_tree.specs.Trees.{pass_in}
-use Rattle.mt_tree.proofs.Lending.{still_of}
 use Rattle.mt_commands.proofs.trees.LaneTreePlaysPass.calls.Goals as goal
 
 pub returns-clause-of : goal.returns-clause-of

@@ -1,7 +1,5 @@
-use Rattle.std.proofs.Common.{ℕ, Err, map, sym, ap, ◌∙◌, subst, arith}
-use Rattle.mt_base.specs.declared.kinds.Kind.{Kind}
-use Rattle.mt_replay.specs.Trees.{IsNewTree, map_seen}
-use Rattle.mt_tree.specs.Trees.{limit_of, opened, pass_in}
+use Rattle.mt_commands.proofs.Prelude.{ℕ, Err, map, sym, ap, ◌∙◌, subst, arith, Kind, IsNewTree, limit_of, opened, pass_in}
+use Rattle.mt_replay.specs.Trees.{map_seen}
 use Rattle.mt_commands.proofs.Lanes.{many, new_tree}
 use Rattle.mt_commands.proofs.trees.LaneTreePlaysPass.copy.Goals as goal
 

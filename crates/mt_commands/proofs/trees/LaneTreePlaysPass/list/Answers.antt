@@ -1,9 +1,5 @@
-use Rattle.std.proofs.Common.{rules, ◌≡◌, sym, ap, ◌∙◌, subst}
-use Rattle.std.specs.Prelude.{IfOk}
+use Rattle.mt_commands.proofs.Prelude.{rules, ◌≡◌, sym, ap, ◌∙◌, subst, IfOk, Tree, map_seen, pass_in, still_of}
 use Rattle.mt_base.specs.Passes as known
-use Rattle.mt_tree.specs.declared.trees.Tree.{Tree}
-use Rattle.mt_tree.specs.Trees.{map_seen, pass_in}
-use Rattle.mt_tree.proofs.Lending.{still_of}
 use Rattle.mt_commands.proofs.trees.LaneTreePlaysPass.list.Goals as goal
 
 pub returns-clause-of : goal.returns-clause-of

@@ -1,5 +1,4 @@
-use Rattle.std.proofs.Common.{Err, refl, sym, ap, ◌∙◌}
-use Rattle.mt_replay.specs.Trees.{calls_taken}
+use Rattle.mt_commands.proofs.Prelude.{Err, refl, sym, ap, ◌∙◌, calls_taken}
 use Rattle.mt_commands.proofs.Lanes.{in_range, many}
 use Rattle.mt_commands.proofs.trees.LaneTreePlaysPass.make.Goals as goal
 

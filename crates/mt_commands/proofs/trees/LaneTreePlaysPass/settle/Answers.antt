@@ -1,4 +1,4 @@
-use Rattle.std.proofs.Common.{rules}
+use Rattle.mt_commands.proofs.Prelude.{rules}
 use Rattle.mt_commands.proofs.trees.LaneTreePlaysPass.settle.Goals as goal
 
 pub returns-clause-settled : goal.returns-clause-settled

@@ -1,10 +1,4 @@
-use Rattle.std.proofs.Common.{rules, ◌≡◌, ℕ, ◌+◌, ◌*◌, ◌≤◌, Option, sym, ap, ◌∙◌, subst}
-use Rattle.mt_log.specs.declared.lines.Item.TheVariants.{Scan}
-use Rattle.mt_log.specs.Run.{Asked}
-use Rattle.mt_tree.specs.declared.trees.Tree.{Tree}
-use Rattle.mt_tree.specs.Trees.{Pass, opened, pass_in, steps_made}
-use Rattle.mt_tree.proofs.Lending.{still_of}
-use Rattle.mt_desks.specs.Scans.{IsScanDone}
+use Rattle.mt_commands.proofs.Prelude.{rules, ◌≡◌, ℕ, ◌+◌, ◌*◌, ◌≤◌, Option, sym, ap, ◌∙◌, subst, Scan, Asked, Tree, Pass, opened, pass_in, steps_made, still_of, IsScanDone}
 use Rattle.mt_commands.proofs.trees.LaneTreeSharedPass.scan.Goals as goal
 
 pub scan_by-requires-clause-own : goal.scan_by-requires-clause-own

@@ -1,6 +1,5 @@
-use Rattle.std.proofs.Common.{sym, ap, ◌∙◌}
+use Rattle.mt_commands.proofs.Prelude.{sym, ap, ◌∙◌, opened, steps_made}
 use Rattle.mt_base.specs.Passes.{Pass}
-use Rattle.mt_tree.specs.Trees.{opened, steps_made}
 use Rattle.mt_commands.proofs.walks.CursorWalksLaneTree.close.Goals as goal
 
 pub returns-clause-closed : goal.returns-clause-closed

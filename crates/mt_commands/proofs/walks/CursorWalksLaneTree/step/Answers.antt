@@ -1,6 +1,5 @@
-use Rattle.std.proofs.Common.{sym, ap, ◌∙◌}
+use Rattle.mt_commands.proofs.Prelude.{sym, ap, ◌∙◌, opened, pass_in, steps_made}
 use Rattle.mt_base.specs.Passes.{Pass}
-use Rattle.mt_tree.specs.Trees.{opened, pass_in, steps_made}
 use Rattle.mt_commands.proofs.Walking.{walked}
 use Rattle.mt_commands.proofs.walks.CursorWalksLaneTree.step.Goals as goal
 

@@ -1,5 +1,4 @@
-use Rattle.std.proofs.Common.{◌≡◌, ◌≤◌, length}
-use Rattle.std.specs.Vec.{vec_len, vec_capacity}
+use Rattle.mt_desks.proofs.Prelude.{◌≡◌, ◌≤◌, length, vec_len, vec_capacity}
 use Rattle.mt_desks.proofs.desks.LaneDesk.new.Given as goal
 
 abbrev pub invariant-loop-tree : goal.invariant-loop-tree

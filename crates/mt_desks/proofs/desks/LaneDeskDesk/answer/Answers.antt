@@ -1,4 +1,4 @@
-use Rattle.std.proofs.Common.{◌≡◌, length, arith, refl, sym, ◌∙◌}
+use Rattle.mt_desks.proofs.Prelude.{◌≡◌, length, arith, refl, sym, ◌∙◌}
 use Rattle.mt_desks.proofs.Doing.{written_back}
 use Rattle.mt_desks.proofs.LeftLines.{behind_line, is_line, line_at, room_from, some_left}
 use Rattle.mt_desks.proofs.desks.LaneDeskDesk.answer.Goals as goal

@@ -1,7 +1,4 @@
-use Rattle.std.proofs.Common.{take}
-use Rattle.std.specs.List.{flat_map}
-use Rattle.std.specs.Fmt.{HasWritten, IsPlainFormatter}
-use Rattle.mt_draw.specs.Texts.{slot_line}
+use Rattle.mt_draw.proofs.Prelude.{take, flat_map, HasWritten, IsPlainFormatter, slot_line}
 use Rattle.mt_draw.proofs.texts.EntriesDisplay.fmt.Given as goal
 
 abbrev pub invariant-loop-span : goal.invariant-loop-span

@@ -1,7 +1,4 @@
-use Rattle.std.proofs.Common.{ℕ, ◌++◌, codes, rules}
-use Rattle.std.proofs.Output.{has_written_append, has_written_of_eq}
-use Rattle.std.specs.Fmt.{decimal}
-use Rattle.mt_draw.specs.Trees.{gap_of_slot, table_of}
+use Rattle.mt_draw.proofs.Prelude.{ℕ, ◌++◌, codes, rules, has_written_append, has_written_of_eq, decimal, gap_of_slot, table_of}
 use Rattle.mt_draw.proofs.Loops.{text_grows}
 use Rattle.mt_draw.proofs.texts.GapsDisplay.fmt.Goals as goal
 

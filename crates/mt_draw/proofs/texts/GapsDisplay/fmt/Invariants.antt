@@ -1,7 +1,4 @@
-use Rattle.std.proofs.Common.{◌++◌, codes}
-use Rattle.std.specs.List.{flat_map, range_with_len}
-use Rattle.std.specs.Fmt.{HasWritten, IsPlainFormatter, decimal}
-use Rattle.mt_draw.specs.Trees.{gap_of_slot, table_of}
+use Rattle.mt_draw.proofs.Prelude.{◌++◌, codes, flat_map, range_with_len, HasWritten, IsPlainFormatter, decimal, gap_of_slot, table_of}
 use Rattle.mt_draw.proofs.texts.GapsDisplay.fmt.Given as goal
 
 abbrev pub invariant-loop-i : goal.invariant-loop-i

@@ -1,5 +1,4 @@
-use Rattle.std.proofs.Common.{ℕ, codes, rules}
-use Rattle.std.proofs.Output.{has_written_append, has_written_of_eq}
+use Rattle.mt_draw.proofs.Prelude.{ℕ, codes, rules, has_written_append, has_written_of_eq}
 use Rattle.mt_draw.proofs.Loops.{text_grows}
 use Rattle.mt_draw.proofs.texts.IndentDisplay.fmt.Goals as goal
 

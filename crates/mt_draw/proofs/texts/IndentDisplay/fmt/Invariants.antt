@@ -1,5 +1,4 @@
-use Rattle.std.specs.Fmt.{HasWritten, IsPlainFormatter}
-use Rattle.mt_draw.specs.Texts.{indent_text}
+use Rattle.mt_draw.proofs.Prelude.{HasWritten, IsPlainFormatter, indent_text}
 use Rattle.mt_draw.proofs.texts.IndentDisplay.fmt.Given as goal
 
 abbrev pub invariant-loop-i : goal.invariant-loop-i

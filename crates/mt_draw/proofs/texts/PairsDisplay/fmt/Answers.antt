@@ -1,6 +1,4 @@
-use Rattle.std.proofs.Common.{ℕ, rules}
-use Rattle.std.proofs.Output.{has_written_append, has_written_of_eq}
-use Rattle.mt_draw.specs.Texts.{pair_text, slot_at}
+use Rattle.mt_draw.proofs.Prelude.{ℕ, rules, has_written_append, has_written_of_eq, pair_text, slot_at}
 use Rattle.mt_draw.proofs.Loops.{text_grows}
 use Rattle.mt_draw.proofs.texts.PairsDisplay.fmt.Goals as goal
 

@@ -1,6 +1,4 @@
-use Rattle.std.specs.List.{flat_map, range_with_len}
-use Rattle.std.specs.Fmt.{HasWritten, IsPlainFormatter}
-use Rattle.mt_draw.specs.Texts.{pair_text, slot_at}
+use Rattle.mt_draw.proofs.Prelude.{flat_map, range_with_len, HasWritten, IsPlainFormatter, pair_text, slot_at}
 use Rattle.mt_draw.proofs.texts.PairsDisplay.fmt.Given as goal
 
 abbrev pub invariant-loop-i : goal.invariant-loop-i

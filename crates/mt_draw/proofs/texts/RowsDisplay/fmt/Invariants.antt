@@ -1,8 +1,4 @@
-use Rattle.std.proofs.Common.{take}
-use Rattle.std.specs.List.{flat_map}
-use Rattle.std.specs.Fmt.{HasWritten, IsPlainFormatter}
-use Rattle.mt_draw.specs.Texts.{row_text}
-use Rattle.mt_draw.specs.Trees.{table_of}
+use Rattle.mt_draw.proofs.Prelude.{take, flat_map, HasWritten, IsPlainFormatter, row_text, table_of}
 use Rattle.mt_draw.proofs.texts.RowsDisplay.fmt.Given as goal
 
 abbrev pub invariant-loop-node : goal.invariant-loop-node

@@ -1,10 +1,4 @@
-use Rattle.std.proofs.Common.{◌≡◌, ◌*◌, ◌<◌, ◌≤◌, ◌++◌, length, ap, sym, subst, ◌∙◌}
-use Rattle.mt_base.specs.Width.{columns, deepest, first_row, greatest, kind_width}
-use Rattle.std.specs.Prelude.{slice_index}
-use Rattle.mt_rows.specs.Memory.{sheet_in}
-use Rattle.mt_rows.specs.Sheet.{Sheet, Rooted}
-use Rattle.mt_rows.specs.Trees.{height_in}
-use Rattle.mt_draw.specs.Trees.{nodes_of}
+use Rattle.mt_draw.proofs.Prelude.{◌≡◌, ◌*◌, ◌<◌, ◌≤◌, ◌++◌, length, ap, sym, subst, ◌∙◌, columns, deepest, first_row, greatest, kind_width, slice_index, sheet_in, Sheet, Rooted, height_in, nodes_of}
 use Rattle.mt_draw.proofs.Tables.{words_are}
 use Rattle.mt_draw.proofs.trees.DrawnTree.of.Goals as goal
 

@@ -1,6 +1,4 @@
-use Rattle.std.proofs.Common.{subst}
-use Rattle.mt_engine.specs.Engine.{Parts}
-use Rattle.mt_engine.specs.Heights.{HasHeight}
+use Rattle.mt_engine.proofs.Prelude.{subst, Parts, HasHeight}
 use Rattle.mt_engine.proofs.engine.Engine.height.Goals as goal
 
 pub returns : goal.returns

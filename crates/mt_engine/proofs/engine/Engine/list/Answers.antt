@@ -1,7 +1,4 @@
-use Rattle.std.proofs.Common.{◌≡◌, subst}
-use Rattle.std.specs.Prelude.{IfOk}
-use Rattle.mt_rows.specs.Publish.{map_by}
-use Rattle.mt_engine.specs.Engine.{Parts}
+use Rattle.mt_engine.proofs.Prelude.{◌≡◌, subst, IfOk, map_by, Parts}
 use Rattle.mt_engine.proofs.Measured.{measured_if_read}
 use Rattle.mt_engine.proofs.engine.Engine.list.Goals as goal
 

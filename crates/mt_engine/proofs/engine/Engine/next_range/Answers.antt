@@ -1,8 +1,4 @@
-use Rattle.std.proofs.Common.{ap, ◌∙◌}
-use Rattle.mt_base.specs.Width.{greatest}
-use Rattle.mt_rows.specs.Publish.{map_by}
-use Rattle.mt_engine.specs.Engine.{Parts}
-use Rattle.mt_engine.specs.RangeWalks.{found_from}
+use Rattle.mt_engine.proofs.Prelude.{ap, ◌∙◌, greatest, map_by, Parts, found_from}
 use Rattle.mt_engine.proofs.Measured.{measured_if_read}
 use Rattle.mt_engine.proofs.engine.Engine.next_range.Goals as goal
 

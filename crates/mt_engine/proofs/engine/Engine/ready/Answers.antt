@@ -1,7 +1,4 @@
-use Rattle.std.proofs.Common.{ℕ, ◌+◌, ◌*◌, ◌≤◌, length, subst}
-use Rattle.std.specs.Prelude.{◌↔◌, IsTrue}
-use Rattle.mt_engine.specs.Engine.{Parts}
-use Rattle.mt_engine.specs.Rooms.{HasRoom}
+use Rattle.mt_engine.proofs.Prelude.{ℕ, ◌+◌, ◌*◌, ◌≤◌, length, subst, ◌↔◌, IsTrue, Parts, HasRoom}
 use Rattle.mt_engine.proofs.Shortages.{low_height}
 use Rattle.mt_engine.proofs.engine.Engine.ready.Goals as goal
 

@@ -1,6 +1,4 @@
-use Rattle.std.proofs.Common.{sym, subst}
-use Rattle.mt_engine.specs.Engine.{Parts}
-use Rattle.mt_engine.specs.Rooms.{HasRoom}
+use Rattle.mt_engine.proofs.Prelude.{sym, subst, Parts, HasRoom}
 use Rattle.mt_engine.proofs.engine.Engine.store_prealloc.Goals as goal
 
 pub store_prepared-requires-clause-room : goal.store_prepared-requires-clause-room

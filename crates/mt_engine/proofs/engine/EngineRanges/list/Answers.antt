@@ -1,6 +1,4 @@
-use Rattle.std.proofs.Common.{ap}
-use Rattle.mt_rows.specs.Publish.{map_by}
-use Rattle.mt_rows.specs.Sheet.{Sheet}
+use Rattle.mt_engine.proofs.Prelude.{ap, map_by, Sheet}
 use Rattle.mt_engine.proofs.engine.EngineRanges.list.Goals as goal
 
 pub returns-clause-map : goal.returns-clause-map

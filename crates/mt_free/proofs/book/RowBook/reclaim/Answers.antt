@@ -1,6 +1,4 @@
-use Rattle.std.proofs.Common.{◌≡◌, ◌∷◌, ◌++◌, [], arith, ap, sym, ◌∙◌, length}
-use Rattle.mt_free.specs.Book.{IsBook, reclaimable, after_reclaim}
-use Rattle.mt_free.specs.RowBook.{book_of}
+use Rattle.mt_free.proofs.Prelude.{◌≡◌, ◌∷◌, ◌++◌, [], arith, ap, sym, ◌∙◌, length, IsBook, reclaimable, after_reclaim, book_of}
 use Rattle.mt_free.proofs.Books.{book, reclaim_leaves_book, first_due, count_first_due, none_due}
 use Rattle.mt_free.proofs.book.RowBook.reclaim.Goals as goal
 

@@ -1,6 +1,4 @@
-use Rattle.std.proofs.Common.{◌≡◌, ◌+◌, ◌≤◌, length}
-use Rattle.mt_free.specs.Book.{after_reclaim, reclaimable}
-use Rattle.mt_free.specs.RowBook.{book_of, IsRowBook}
+use Rattle.mt_free.proofs.Prelude.{◌≡◌, ◌+◌, ◌≤◌, length, after_reclaim, reclaimable, book_of, IsRowBook}
 use Rattle.mt_free.proofs.book.RowBook.reclaim.Given as goal
 
 abbrev pub invariant-loop-held : goal.invariant-loop-held

@@ -1,5 +1,4 @@
-use Rattle.std.proofs.Common.{arith}
-use Rattle.mt_free.specs.RowBook.{book_of}
+use Rattle.mt_free.proofs.Prelude.{arith, book_of}
 use Rattle.mt_free.proofs.Books.{out_has_room, retire_leaves_book}
 use Rattle.mt_free.proofs.book.RowBook.retire.Goals as goal
 

@@ -1,5 +1,4 @@
-use Rattle.std.proofs.Common.{◌++◌, [], ◌∷◌}
-use Rattle.mt_free.specs.Book.{IsBook}
+use Rattle.mt_free.proofs.Prelude.{◌++◌, [], ◌∷◌, IsBook}
 use Rattle.mt_free.proofs.Books.{book, take_leaves_book, taken_is_out}
 use Rattle.mt_free.proofs.book.RowBook.take.Goals as goal
 

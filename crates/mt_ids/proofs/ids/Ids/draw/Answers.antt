@@ -1,6 +1,4 @@
-use Rattle.std.proofs.Common.{refl, subst}
-use Rattle.mt_ids.specs.Runs.{IsLastAnswer}
-use Rattle.mt_ids.specs.Window.{Draws}
+use Rattle.mt_ids.proofs.Prelude.{refl, subst, IsLastAnswer, Draws}
 use Rattle.mt_ids.proofs.WholeDraws.{busy_before, last_lies, position_lies}
 use Rattle.mt_ids.proofs.ids.Ids.draw.Goals as goal
 

@@ -1,8 +1,4 @@
-use Rattle.std.proofs.Common.{true, sym, subst, arith}
-use Rattle.mt_ids.specs.Draws.{IsDrawn}
-use Rattle.mt_ids.specs.Runs.{after_answer, came_to, IsBeforeLast, IsLastAnswer}
-use Rattle.mt_ids.specs.Window.{Draws}
-use Rattle.mt_ids.specs.declared.ids.Drawn.{Drawn}
+use Rattle.mt_ids.proofs.Prelude.{true, sym, subst, arith, IsDrawn, after_answer, came_to, IsBeforeLast, IsLastAnswer, Draws, Drawn}
 use Rattle.mt_ids.proofs.WholeDraws.{last_lies, made_after, second_is_last}
 use Rattle.mt_ids.proofs.ids.Ids.draw_anew.Goals as goal
 

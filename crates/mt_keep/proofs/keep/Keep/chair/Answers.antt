@@ -1,5 +1,4 @@
-use Rattle.std.proofs.Common.{rules, ap, ◌∙◌, ◌∷◌, []}
-use Rattle.mt_keep.specs.Keeping.{cuts_in}
+use Rattle.mt_keep.proofs.Prelude.{rules, ap, ◌∙◌, ◌∷◌, [], cuts_in}
 use Rattle.mt_keep.proofs.Taking.{seated_views}
 use Rattle.mt_keep.proofs.keep.Keep.chair.Goals as goal
 

@@ -1,5 +1,4 @@
-use Rattle.std.proofs.Common.{rules, ap, ◌∙◌, ◌∷◌, []}
-use Rattle.mt_keep.specs.Keeping.{cuts_in}
+use Rattle.mt_keep.proofs.Prelude.{rules, ap, ◌∙◌, ◌∷◌, [], cuts_in}
 use Rattle.mt_keep.proofs.Taking.{given_views, released, releases_value}
 use Rattle.mt_keep.proofs.keep.Keep.give.Goals as goal
 

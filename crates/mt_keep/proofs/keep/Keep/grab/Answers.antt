@@ -1,5 +1,4 @@
-use Rattle.std.proofs.Common.{rules}
-use Rattle.std.proofs.lemmas.Bool.{eqb-true}
+use Rattle.mt_keep.proofs.Prelude.{rules, eqb-true}
 use Rattle.mt_keep.proofs.Taking.{grabs_value, has_grabbed}
 use Rattle.mt_keep.proofs.keep.Keep.grab.Goals as goal
 

@@ -1,7 +1,4 @@
-use Rattle.std.proofs.Common.{rules, ap, sym, ◌∙◌, ◌∷◌, ◌≡◌, [], Some, subst}
-use Rattle.atomic_table.specs.Table.{rest}
-use Rattle.mt_rule.proofs.Turning.{same_value}
-use Rattle.mt_keep.specs.Keeping.{holding}
+use Rattle.mt_keep.proofs.Prelude.{rules, ap, sym, ◌∙◌, ◌∷◌, ◌≡◌, [], Some, subst, rest, same_value, holding}
 use Rattle.mt_keep.proofs.Taking.{same_snap}
 use Rattle.mt_keep.proofs.keep.Keep.grabbed.Goals as goal
 

@@ -1,4 +1,4 @@
-use Rattle.std.proofs.Common.{ap, sym, ◌∙◌, ◌∷◌, ◌++◌, [], Some, subst}
+use Rattle.mt_keep.proofs.Prelude.{ap, sym, ◌∙◌, ◌∷◌, ◌++◌, [], Some, subst}
 use Rattle.mt_keep.proofs.Taking.{keep_starts_with}
 use Rattle.mt_keep.proofs.keep.Keep.make.Goals as goal
 

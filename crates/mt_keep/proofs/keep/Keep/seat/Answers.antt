@@ -1,5 +1,4 @@
-use Rattle.std.proofs.Common.{rules, ap, sym, ◌∙◌, ◌≡◌, ◌∷◌, []}
-use Rattle.mt_keep.specs.Keeping.{cuts_in, cuts_of, one_further, waiting}
+use Rattle.mt_keep.proofs.Prelude.{rules, ap, sym, ◌∙◌, ◌≡◌, ◌∷◌, [], cuts_in, cuts_of, one_further, waiting}
 use Rattle.mt_keep.proofs.Taking.{sits, only_sight, seated_views}
 use Rattle.mt_keep.proofs.keep.Keep.seat.Goals as goal
 

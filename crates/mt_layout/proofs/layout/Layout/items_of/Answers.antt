@@ -1,4 +1,4 @@
-use Rattle.std.proofs.Common.{arith, zero-add}
+use Rattle.mt_layout.proofs.Prelude.{arith, zero-add}
 use Rattle.mt_layout.proofs.Reading.{read_last, read_more, read_all}
 use Rattle.mt_layout.proofs.layout.Layout.items_of.Goals as goal
 

@@ -1,5 +1,4 @@
-use Rattle.std.proofs.Common.{◌≡◌, ◌-◌, ◌++◌, length}
-use Rattle.mt_layout.specs.Columns.{items_from, items_at}
+use Rattle.mt_layout.proofs.Prelude.{◌≡◌, ◌-◌, ◌++◌, length, items_from, items_at}
 use Rattle.mt_layout.proofs.layout.Layout.items_of.Given as goal
 
 abbrev pub invariant-loop-i : goal.invariant-loop-i

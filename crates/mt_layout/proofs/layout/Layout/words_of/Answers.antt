@@ -1,4 +1,4 @@
-use Rattle.std.proofs.Common.{arith, rules, length-set, ◌≡◌, ◌+◌, ◌*◌, ◌-◌, ◌≤◌, length, replicate, ℕ}
+use Rattle.mt_layout.proofs.Prelude.{arith, rules, length-set, ◌≡◌, ◌+◌, ◌*◌, ◌-◌, ◌≤◌, length, replicate, ℕ}
 use Rattle.mt_layout.proofs.RowSizes.{slots-fit}
 use Rattle.mt_layout.proofs.Writing.{all_written}
 use Rattle.mt_layout.proofs.ReadBack.{reads_back, row_words-hold}

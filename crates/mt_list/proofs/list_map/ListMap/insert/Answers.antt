@@ -1,4 +1,4 @@
-use Rattle.std.proofs.Common.{sym, ◌∙◌}
+use Rattle.mt_list.proofs.Prelude.{sym, ◌∙◌}
 use Rattle.mt_list.proofs.MapsKept.{stored_is_map}
 use Rattle.mt_list.proofs.list_map.ListMap.insert.Goals as goal
 

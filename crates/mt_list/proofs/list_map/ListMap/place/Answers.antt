@@ -1,7 +1,4 @@
-use Rattle.std.proofs.Common.{◌+◌, ◌≤◌, IfSome, ap, subst, sym}
-use Rattle.mt_base.specs.declared.kinds.Kind.{Kind}
-use Rattle.mt_base.specs.Width.{greatest_of}
-use Rattle.mt_list.specs.ListMap.{Contents}
+use Rattle.mt_list.proofs.Prelude.{◌+◌, ◌≤◌, IfSome, ap, subst, sym, Kind, greatest_of, Contents}
 use Rattle.mt_list.proofs.MapsKept.{placed_is_map}
 use Rattle.mt_list.proofs.list_map.ListMap.place.Goals as goal
 

@@ -1,4 +1,4 @@
-use Rattle.std.proofs.Common.{◌+◌, ◌≤◌, ◌∷◌, length, drop, arith, ap, ◌∙◌}
+use Rattle.mt_log.proofs.Prelude.{◌+◌, ◌≤◌, ◌∷◌, length, drop, arith, ap, ◌∙◌}
 use Rattle.mt_log.proofs.Tails.{nothing_behind}
 use Rattle.mt_log.proofs.line_ends.LineEnd.begin.Goals as goal
 

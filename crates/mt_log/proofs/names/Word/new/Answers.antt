@@ -1,4 +1,4 @@
-use Rattle.std.proofs.Common.{rules, sym, ◌∙◌}
+use Rattle.mt_log.proofs.Prelude.{rules, sym, ◌∙◌}
 use Rattle.mt_log.proofs.Padding.{padded_in_zeros, take_name}
 use Rattle.mt_log.proofs.names.Word.new.Goals as goal
 

@@ -1,4 +1,4 @@
-use Rattle.std.proofs.Common.{rules}
+use Rattle.mt_log.proofs.Prelude.{rules}
 use Rattle.mt_log.proofs.Indexed.{first_of_name}
 use Rattle.mt_log.proofs.trees.Trees.first_of_name.Goals as goal
 

@@ -1,5 +1,5 @@
 -- So far no more faults were seen than rounds went by.
-use Rattle.std.proofs.Common.{◌≤◌}
+use Rattle.mt_numbers.proofs.Prelude.{◌≤◌}
 use Rattle.mt_numbers.proofs.readers.ReadingThread.count_faults.Given as goal
 
 abbrev pub invariant-loop-read : goal.invariant-loop-read

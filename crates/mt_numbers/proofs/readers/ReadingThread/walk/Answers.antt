@@ -1,6 +1,5 @@
 -- The pass that the cursor had is of the tree over which it walked.
-use Rattle.std.proofs.Common.{rules, ap, ◌∙◌}
-use Rattle.mt_tree.proofs.Lending.{still_of}
+use Rattle.mt_numbers.proofs.Prelude.{rules, ap, ◌∙◌, still_of}
 use Rattle.mt_numbers.proofs.readers.ReadingThread.walk.Goals as goal
 
 pub invariant_of-self : goal.invariant_of-self

@@ -1,6 +1,5 @@
 -- What the call was answered tells what was given back.
-use Rattle.std.proofs.Common.{rules}
-use Rattle.mt_tree.specs.Trees.{pass_in}
+use Rattle.mt_numbers.proofs.Prelude.{rules, pass_in}
 use Rattle.mt_numbers.proofs.Counting.{gave}
 use Rattle.mt_numbers.proofs.shared.CallerNumbers.give_back.Goals as goal
 

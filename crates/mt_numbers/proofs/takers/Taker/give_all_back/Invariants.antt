@@ -1,6 +1,5 @@
 -- So far one was given back in each round, while there was one.
-use Rattle.std.proofs.Common.{◌≡◌, ◌-◌, vec_len}
-use Rattle.mt_numbers.specs.Tallies.{IsTallied}
+use Rattle.mt_numbers.proofs.Prelude.{◌≡◌, ◌-◌, vec_len, IsTallied}
 use Rattle.mt_numbers.proofs.takers.Taker.give_all_back.Given as goal
 
 abbrev pub invariant-loop-given : goal.invariant-loop-given

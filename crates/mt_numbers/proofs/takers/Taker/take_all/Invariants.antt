@@ -1,6 +1,5 @@
 -- So far no more were taken than rounds went by.
-use Rattle.std.proofs.Common.{◌+◌, ◌≤◌, vec_len}
-use Rattle.mt_numbers.specs.Tallies.{IsTallied}
+use Rattle.mt_numbers.proofs.Prelude.{◌+◌, ◌≤◌, vec_len, IsTallied}
 use Rattle.mt_numbers.proofs.takers.Taker.take_all.Given as goal
 
 abbrev pub invariant-loop-taken : goal.invariant-loop-taken

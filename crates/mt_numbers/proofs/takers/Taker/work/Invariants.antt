@@ -1,6 +1,5 @@
 -- Between two rounds nothing is held, and what the tally tells is what was taken and given back since the first.
-use Rattle.std.proofs.Common.{◌≡◌, ◌+◌, ◌*◌, ◌≤◌, vec_len}
-use Rattle.mt_numbers.specs.declared.takers.TheConstants.{HELD}
+use Rattle.mt_numbers.proofs.Prelude.{◌≡◌, ◌+◌, ◌*◌, ◌≤◌, vec_len, HELD}
 use Rattle.mt_numbers.proofs.takers.Taker.work.Given as goal
 
 abbrev pub invariant-loop-round : goal.invariant-loop-round

@@ -1,9 +1,4 @@
-use Rattle.std.proofs.Common.{◌+◌, subst, sym}
-use Rattle.mt_rows.specs.Sheet.{Sheet}
-use Rattle.mt_rows.proofs.ColumnByColumn.{AreDraftedFirst, all_drafted, first_drafted, free_next, next_drafted, place_next}
-use Rattle.mt_rule.specs.Tokens.{pen_in, joined_in}
-use Rattle.mt_pen.specs.Sheets.{sheet_worked}
-use Rattle.mt_pen.specs.Works.{worked_whole}
+use Rattle.mt_pen.proofs.Prelude.{◌+◌, subst, sym, Sheet, AreDraftedFirst, all_drafted, first_drafted, free_next, next_drafted, place_next, pen_in, joined_in, sheet_worked, worked_whole}
 use Rattle.mt_pen.proofs.rows.PenRowsRows.draft_row.Goals as goal
 
 pub loop-col-init : goal.loop-col-init

@@ -1,6 +1,4 @@
-use Rattle.mt_rows.proofs.ColumnByColumn.{AreDraftedFirst}
-use Rattle.mt_rule.specs.Tokens.{pen_in, joined_in}
-use Rattle.mt_pen.specs.Sheets.{sheet_worked}
+use Rattle.mt_pen.proofs.Prelude.{AreDraftedFirst, pen_in, joined_in, sheet_worked}
 use Rattle.mt_pen.proofs.rows.PenRowsRows.draft_row.Given as goal
 
 abbrev pub invariant-loop-col : goal.invariant-loop-col

@@ -1,6 +1,4 @@
-use Rattle.std.proofs.Common.{◌∙◌}
-use Rattle.mt_rule.specs.Steps.{quiet_moment}
-use Rattle.mt_rule.specs.Tokens.{pen_in, joined_part, joined_in}
+use Rattle.mt_pen.proofs.Prelude.{◌∙◌, quiet_moment, pen_in, joined_part, joined_in}
 use Rattle.mt_pen.proofs.Finishing.{may_end, ended_sheet, ended_steps}
 use Rattle.mt_pen.proofs.Working.{worked_end}
 use Rattle.mt_pen.proofs.rows.PenRowsRows.finish.Goals as goal

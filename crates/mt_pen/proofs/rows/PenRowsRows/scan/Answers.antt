@@ -1,6 +1,4 @@
-use Rattle.std.proofs.Common.{ap, sym, subst, ◌∙◌, arith}
-use Rattle.mt_rule.specs.Tokens.{Identity, pen_in, joined_part}
-use Rattle.mt_pen.specs.Scans.{HasScanned}
+use Rattle.mt_pen.proofs.Prelude.{ap, sym, subst, ◌∙◌, arith, Identity, pen_in, joined_part, HasScanned}
 use Rattle.mt_pen.proofs.Working.{worked_scan, scan_kept, scan_cleared, scan_answers}
 use Rattle.mt_pen.proofs.rows.PenRowsRows.scan.Goals as goal
 

@@ -1,9 +1,4 @@
-use Rattle.std.proofs.Common.{Option, length, sym, subst, ap}
-use Rattle.mt_base.specs.declared.calls.Query.TheVariants.{Find}
-use Rattle.mt_base.specs.declared.ranges.Range.{Range}
-use Rattle.mt_rule.specs.declared.views.PassPart.{PassPart}
-use Rattle.mt_rule.specs.Tokens.{part_of}
-use Rattle.mt_read.specs.Answers.{Answers}
+use Rattle.mt_read.proofs.Prelude.{Option, length, sym, subst, ap, Find, Range, PassPart, part_of, Answers}
 use Rattle.mt_read.proofs.Windows.{bounded}
 use Rattle.mt_read.proofs.cursor.Cursor.look.Goals as goal
 

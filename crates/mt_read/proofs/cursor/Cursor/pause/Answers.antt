@@ -1,4 +1,4 @@
-use Rattle.std.proofs.Common.{rules}
+use Rattle.mt_read.proofs.Prelude.{rules}
 use Rattle.mt_read.proofs.cursor.Cursor.pause.Goals as goal
 
 pub returns-clause-cursor : goal.returns-clause-cursor

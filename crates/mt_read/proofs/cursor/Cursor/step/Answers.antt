@@ -1,8 +1,4 @@
-use Rattle.std.proofs.Common.{arith, ◌≡◌, ◌∙◌, ap, sym, length, Some, None}
-use Rattle.mt_rule.specs.Tokens.{identity_of, part_of}
-use Rattle.mt_rule.specs.Sections.{moment_seen}
-use Rattle.mt_read.specs.Cursors.{query_at}
-use Rattle.mt_read.specs.declared.cursor.Cursor.{Cursor}
+use Rattle.mt_read.proofs.Prelude.{arith, ◌≡◌, ◌∙◌, ap, sym, length, Some, None, identity_of, part_of, moment_seen, query_at, Cursor}
 use Rattle.mt_read.proofs.Finding.{shape_is}
 use Rattle.mt_read.proofs.Keeping.{nothing_goes}
 use Rattle.mt_read.proofs.Stepping.{asks_nothing, asks_there, read_step}

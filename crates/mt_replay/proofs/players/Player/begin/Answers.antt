@@ -1,7 +1,4 @@
-use Rattle.std.proofs.Common.{◌≡◌, ◌+◌, arith, length, drop, sym, ◌∙◌, subst, ℕ}
-use Rattle.std.specs.Vec.Iter.{into_iter_items}
-use Rattle.mt_replay.specs.Makes.{AreMade, kinds_in}
-use Rattle.mt_replay.specs.Players.{player_state}
+use Rattle.mt_replay.proofs.Prelude.{◌≡◌, ◌+◌, arith, length, drop, sym, ◌∙◌, subst, ℕ, into_iter_items, AreMade, kinds_in, player_state}
 use Rattle.mt_replay.proofs.Beginning.{all_begun, begun_on}
 use Rattle.mt_replay.proofs.Making.{line_made}
 use Rattle.mt_replay.proofs.players.Player.begin.Goals as goal

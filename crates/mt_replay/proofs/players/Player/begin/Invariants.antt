@@ -1,7 +1,4 @@
-use Rattle.std.proofs.Common.{drop, length}
-use Rattle.std.specs.Vec.Iter.{into_iter_items}
-use Rattle.mt_replay.specs.Makes.{AreMade, kinds_in}
-use Rattle.mt_replay.specs.Players.{IsBetweenPhases, player_state}
+use Rattle.mt_replay.proofs.Prelude.{drop, length, into_iter_items, AreMade, kinds_in, IsBetweenPhases, player_state}
 use Rattle.mt_replay.proofs.Beginning.{HasBegun}
 use Rattle.mt_replay.proofs.players.Player.begin.Given as goal
 

@@ -1,7 +1,4 @@
-use Rattle.std.proofs.Common.{[], ◌∷◌, ◌++◌, length, map, arith, refl, sym, ap, ◌∙◌, subst}
-use Rattle.std.proofs.lemmas.Option.{slice_get_read}
-use Rattle.mt_base.specs.History.{last_map}
-use Rattle.mt_replay.specs.Trees.{AreAll}
+use Rattle.mt_replay.proofs.Prelude.{[], ◌∷◌, ◌++◌, length, map, arith, refl, sym, ap, ◌∙◌, subst, slice_get_read, last_map, AreAll}
 use Rattle.mt_replay.proofs.Seating.{copies, new_settled}
 use Rattle.mt_replay.proofs.players.Player.copy.Goals as goal
 

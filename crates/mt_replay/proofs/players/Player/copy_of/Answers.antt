@@ -1,7 +1,4 @@
-use Rattle.std.proofs.Common.{◌≡◌, IfOk, map, subst}
-use Rattle.mt_base.specs.History.{last_map}
-use Rattle.mt_replay.specs.Trees.{AreAll, IsNewTree, seen_by}
-use Rattle.mt_replay.specs.Players.{IsCopyIn, player_state}
+use Rattle.mt_replay.proofs.Prelude.{◌≡◌, IfOk, map, subst, last_map, AreAll, IsNewTree, seen_by, IsCopyIn, player_state}
 use Rattle.mt_replay.proofs.Seating.{if_ok}
 use Rattle.mt_replay.proofs.Seating.{stands, rests_again, copy_in}
 use Rattle.mt_replay.proofs.players.Player.copy_of.Goals as goal

@@ -1,5 +1,4 @@
-use Rattle.std.proofs.Common.{arith, map}
-use Rattle.mt_replay.specs.Trees.{tracked_of}
+use Rattle.mt_replay.proofs.Prelude.{arith, map, tracked_of}
 use Rattle.mt_replay.proofs.Seating.{counts_here, count_in, stands, rests_counted}
 use Rattle.mt_replay.proofs.players.Player.count_of.Goals as goal
 

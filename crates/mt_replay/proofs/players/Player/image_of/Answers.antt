@@ -1,9 +1,4 @@
-use Rattle.std.proofs.Common.{map, subst}
-use Rattle.mt_base.specs.declared.kinds.Kind.{Kind}
-use Rattle.mt_base.specs.History.{last_map}
-use Rattle.mt_image.specs.Images.{IsImageOfMap}
-use Rattle.mt_replay.specs.Trees.{tracked_of}
-use Rattle.mt_replay.specs.Players.{HasImage, player_state}
+use Rattle.mt_replay.proofs.Prelude.{map, subst, Kind, last_map, IsImageOfMap, tracked_of, HasImage, player_state}
 use Rattle.mt_replay.proofs.Seating.{if_ok, seen_kind, stands}
 use Rattle.mt_replay.proofs.players.Player.image_of.Goals as goal
 

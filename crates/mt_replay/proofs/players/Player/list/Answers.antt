@@ -1,8 +1,4 @@
-use Rattle.std.proofs.Common.{◌≡◌, ◌<◌, List, length, arith, get_or, ap, ◌∙◌, subst}
-use Rattle.mt_base.specs.declared.ranges.Range.{Range}
-use Rattle.mt_log.specs.declared.trees.KnownTree.{KnownTree}
-use Rattle.mt_replay.specs.declared.players.Player.{Player}
-use Rattle.mt_replay.specs.Players.{PlayerState, HasRanges, player_state}
+use Rattle.mt_replay.proofs.Prelude.{◌≡◌, ◌<◌, List, length, arith, get_or, ap, ◌∙◌, subst, Range, KnownTree, Player, PlayerState, HasRanges, player_state}
 use Rattle.mt_replay.proofs.Listing.{all_listed, one_listed}
 use Rattle.mt_replay.proofs.Seating.{counts_too, state_stays}
 use Rattle.mt_replay.proofs.players.Player.list.Goals as goal

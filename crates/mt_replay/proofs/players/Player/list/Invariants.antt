@@ -1,5 +1,4 @@
-use Rattle.std.proofs.Common.{◌≡◌, take}
-use Rattle.mt_replay.specs.Players.{IsBetweenPhases, rows_known, player_state}
+use Rattle.mt_replay.proofs.Prelude.{◌≡◌, take, IsBetweenPhases, rows_known, player_state}
 use Rattle.mt_replay.proofs.Listing.{listed}
 use Rattle.mt_replay.proofs.players.Player.list.Given as goal
 

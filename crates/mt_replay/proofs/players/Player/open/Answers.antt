@@ -1,7 +1,4 @@
-use Rattle.std.proofs.Common.{[], IfOk, arith, refl, subst}
-use Rattle.std.specs.Vec.Iter.{into_iter_items}
-use Rattle.mt_linearize.specs.Phases.{new_tracked}
-use Rattle.mt_replay.specs.Makes.{IsMade}
+use Rattle.mt_replay.proofs.Prelude.{[], IfOk, arith, refl, subst, into_iter_items, new_tracked, IsMade}
 use Rattle.mt_replay.proofs.Making.{first_made, first_there}
 use Rattle.mt_replay.proofs.Seating.{rests_with, state_with}
 use Rattle.mt_replay.proofs.players.Player.open.Goals as goal

@@ -1,7 +1,4 @@
-use Rattle.std.proofs.Common.{◌≡◌, map}
-use Rattle.mt_base.specs.History.{last_map}
-use Rattle.mt_replay.specs.Trees.{seen_by, tracked_of}
-use Rattle.mt_replay.specs.Players.{HasRanges, player_state}
+use Rattle.mt_replay.proofs.Prelude.{◌≡◌, map, last_map, seen_by, tracked_of, HasRanges, player_state}
 use Rattle.mt_replay.proofs.Seating.{if_ok}
 use Rattle.mt_replay.proofs.Seating.{stands, rests_again}
 use Rattle.mt_replay.proofs.players.Player.ranges_of.Goals as goal

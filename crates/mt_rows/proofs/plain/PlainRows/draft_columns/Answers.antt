@@ -1,8 +1,4 @@
-use Rattle.std.proofs.Common.{ℕ, subst, refl}
-use Rattle.mt_rows.specs.Plain.{sheet_of, past_of}
-use Rattle.mt_rows.specs.declared.plain.Fate.TheVariants.{Draft}
-use Rattle.mt_rows.specs.Memory.{sheet_in}
-use Rattle.mt_rows.specs.Words.{ArePut}
+use Rattle.mt_rows.proofs.Prelude.{ℕ, subst, refl, sheet_of, past_of, Draft, sheet_in, ArePut}
 use Rattle.mt_rows.proofs.PlainFates.{lives-set, drafted_buried}
 use Rattle.mt_rows.proofs.plain.PlainRows.draft_columns.Goals as goal
 

@@ -1,8 +1,4 @@
-use Rattle.std.proofs.Common.{◌≡◌, ◌+◌, ◌*◌, ◌∙◌, ap, rules, map}
-use Rattle.std.specs.Prelude.{Some, replicate}
-use Rattle.mt_base.specs.Width.{columns, first_row}
-use Rattle.mt_rows.specs.Plain.{new_sheet, life_in, buried_in}
-use Rattle.mt_rows.specs.declared.plain.Fate.TheVariants.{New}
+use Rattle.mt_rows.proofs.Prelude.{◌≡◌, ◌+◌, ◌*◌, ◌∙◌, ap, rules, map, Some, replicate, columns, first_row, new_sheet, life_in, buried_in, New}
 use Rattle.mt_rows.proofs.PlainFates.{map-replicate}
 use Rattle.mt_rows.proofs.plain.PlainRows.of_width.Goals as goal
 

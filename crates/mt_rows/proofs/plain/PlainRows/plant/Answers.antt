@@ -1,13 +1,4 @@
-use Rattle.std.proofs.Common.{◌≡◌, ◌∙◌, ap, [], length, refl}
-use Rattle.std.specs.Vec.{with_items}
-use Rattle.std.proofs.lemmas.List.{with_items_is}
-use Rattle.mt_base.specs.Width.{deepest}
-use Rattle.mt_base.specs.declared.widths.Width.{Width}
-use Rattle.mt_rows.specs.declared.plain.State.{State}
-use Rattle.mt_rows.specs.Plain.{sheet_of}
-use Rattle.mt_rows.specs.Spans.{root_span}
-use Rattle.mt_rows.specs.Trees.{rows_of, reached_in}
-use Rattle.mt_rows.specs.Memory.{sheet_in}
+use Rattle.mt_rows.proofs.Prelude.{◌≡◌, ◌∙◌, ap, [], length, refl, with_items, with_items_is, deepest, Width, State, sheet_of, root_span, rows_of, reached_in, sheet_in}
 use Rattle.mt_rows.proofs.PlainPlant.{settled, planted_plain, planted_is}
 use Rattle.mt_rows.proofs.plain.PlainRows.plant.Goals as goal
 

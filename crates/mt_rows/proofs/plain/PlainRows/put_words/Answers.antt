@@ -1,9 +1,4 @@
-use Rattle.std.proofs.Common.{◌≡◌, ◌*◌, ◌/◌, ◌++◌, length, map, filter, take, ◌∙◌, arith}
-use Rattle.std.specs.Vec.{with_items}
-use Rattle.std.proofs.lemmas.List.{with_items_is}
-use Rattle.mt_base.specs.Width.{columns, first_row}
-use Rattle.mt_rows.specs.declared.plain.State.{State}
-use Rattle.mt_rows.specs.OfWords.{is_live, renewed, walked_fates}
+use Rattle.mt_rows.proofs.Prelude.{◌≡◌, ◌*◌, ◌/◌, ◌++◌, length, map, filter, take, ◌∙◌, arith, with_items, with_items_is, columns, first_row, State, is_live, renewed, walked_fates}
 use Rattle.mt_rows.proofs.PlainMade.{made_plain, made_is}
 use Rattle.mt_rows.proofs.plain.PlainRows.put_words.Goals as goal
 

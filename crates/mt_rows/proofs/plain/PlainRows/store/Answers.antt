@@ -1,10 +1,4 @@
-use Rattle.std.proofs.Common.{◌∙◌, Bool, List, refl, ap, sym}
-use Rattle.std.specs.Prelude.{if◌then◌else◌}
-use Rattle.mt_base.specs.Width.{deepest}
-use Rattle.mt_layout.specs.Rows.{named_row}
-use Rattle.mt_rows.specs.declared.plain.Fate.{Fate}
-use Rattle.mt_rows.specs.Plain.{names_buried}
-use Rattle.mt_rows.specs.Memory.{sheet_in}
+use Rattle.mt_rows.proofs.Prelude.{◌∙◌, Bool, List, refl, ap, sym, if◌then◌else◌, deepest, named_row, Fate, names_buried, sheet_in}
 use Rattle.mt_rows.proofs.PlainFates.{store_opens}
 use Rattle.mt_rows.proofs.plain.PlainRows.store.Goals as goal
 

@@ -1,7 +1,4 @@
-use Rattle.std.proofs.Common.{◌≡◌, slice_set, ◌∙◌, refl, arith}
-use Rattle.mt_layout.specs.Rows.{dead_mark}
-use Rattle.mt_rows.specs.Plain.{sheet_of}
-use Rattle.mt_rows.specs.Memory.{sheet_in}
+use Rattle.mt_rows.proofs.Prelude.{◌≡◌, slice_set, ◌∙◌, refl, arith, dead_mark, sheet_of, sheet_in}
 use Rattle.mt_rows.proofs.PlainFates.{buried_lives, buried_buried}
 use Rattle.mt_rows.proofs.plain.PlainRowsRows.bury.Goals as goal
 

@@ -1,7 +1,4 @@
-use Rattle.std.proofs.Common.{slice_set, ◌∙◌, refl}
-use Rattle.mt_rows.specs.Plain.{sheet_of, past_of}
-use Rattle.mt_rows.specs.declared.plain.Fate.TheVariants.{Draft}
-use Rattle.mt_rows.specs.Memory.{sheet_in}
+use Rattle.mt_rows.proofs.Prelude.{slice_set, ◌∙◌, refl, sheet_of, past_of, Draft, sheet_in}
 use Rattle.mt_rows.proofs.PlainFates.{lives-set, drafted_buried}
 use Rattle.mt_rows.proofs.plain.PlainRowsRows.draft.Goals as goal
 

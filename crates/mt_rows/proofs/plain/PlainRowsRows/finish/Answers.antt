@@ -1,6 +1,4 @@
-use Rattle.std.proofs.Common.{◌+◌, false, refl, arith}
-use Rattle.mt_rows.specs.Plain.{sheet_of}
-use Rattle.mt_rows.specs.Memory.{sheet_in}
+use Rattle.mt_rows.proofs.Prelude.{◌+◌, false, refl, arith, sheet_of, sheet_in}
 use Rattle.mt_rows.proofs.PlainFates.{buried_before, finished_lives, finished_buried, either_same}
 use Rattle.mt_rows.proofs.plain.PlainRowsRows.finish.Goals as goal
 

@@ -1,9 +1,4 @@
-use Rattle.std.proofs.Common.{◌≡◌, ◌∙◌, ap, length}
-use Rattle.std.specs.Vec.{with_items}
-use Rattle.std.proofs.lemmas.List.{with_items_is}
-use Rattle.mt_rows.specs.declared.plain.State.{State}
-use Rattle.mt_rows.specs.Plain.{sheet_of, enlivened}
-use Rattle.mt_rows.specs.Memory.{sheet_in}
+use Rattle.mt_rows.proofs.Prelude.{◌≡◌, ◌∙◌, ap, length, with_items, with_items_is, State, sheet_of, enlivened, sheet_in}
 use Rattle.mt_rows.proofs.PlainPublish.{published_plain, published_is}
 use Rattle.mt_rows.proofs.plain.PlainRowsRows.publish.Goals as goal
 

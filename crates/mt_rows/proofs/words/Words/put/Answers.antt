@@ -1,6 +1,4 @@
-use Rattle.std.proofs.Common.{◌≡◌, ◌+◌, ◌++◌, ℕ, List, length, sym, ap, ◌∙◌, subst, length-append, arith}
-use Rattle.std.proofs.lemmas.List.{with_items_is}
-use Rattle.mt_rows.specs.Words.{Listed, listed, with_zeros, ArePut}
+use Rattle.mt_rows.proofs.Prelude.{◌≡◌, ◌+◌, ◌++◌, ℕ, List, length, sym, ap, ◌∙◌, subst, length-append, arith, with_items_is, Listed, listed, with_zeros, ArePut}
 use Rattle.mt_rows.proofs.ZeroWords.{zeros_long, zeros_fit, appended_put, overwritten_put}
 use Rattle.mt_rows.proofs.words.Words.put.Goals as goal
 

@@ -1,6 +1,4 @@
-use Rattle.std.proofs.Common.{◌<◌, ◌+◌, ◌∙◌, ap, length, arith}
-use Rattle.std.proofs.lemmas.List.{length-set}
-use Rattle.mt_rows.specs.Words.{Listed}
+use Rattle.mt_rows.proofs.Prelude.{◌<◌, ◌+◌, ◌∙◌, ap, length, arith, length-set, Listed}
 use Rattle.mt_rows.proofs.ZeroWords.{zeros_long, zeros_fit}
 use Rattle.mt_rows.proofs.words.Words.set.Goals as goal
 

@@ -1,5 +1,4 @@
-use Rattle.std.proofs.Common.{ap, length, arith}
-use Rattle.mt_rows.specs.Words.{Listed}
+use Rattle.mt_rows.proofs.Prelude.{ap, length, arith, Listed}
 use Rattle.mt_rows.proofs.ZeroWords.{zeros_long}
 use Rattle.mt_rows.proofs.words.Words.set_last.Goals as goal
 

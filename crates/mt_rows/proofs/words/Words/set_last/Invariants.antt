@@ -1,4 +1,4 @@
-use Rattle.std.proofs.Common.{◌≡◌, ◌+◌, ◌++◌, length, take}
+use Rattle.mt_rows.proofs.Prelude.{◌≡◌, ◌+◌, ◌++◌, length, take}
 use Rattle.mt_rows.proofs.words.Words.set_last.Given as goal
 
 abbrev pub invariant-loop-i : goal.invariant-loop-i

@@ -1,5 +1,4 @@
-use Rattle.std.proofs.Common.{rules, arith, ◌≡◌}
-use Rattle.mt_layout.specs.Rows.{dead_mark}
+use Rattle.mt_rule.proofs.Prelude.{rules, arith, ◌≡◌, dead_mark}
 use Rattle.mt_rule.proofs.Writing.{column_of}
 use Rattle.mt_rule.proofs.WritingRows.{burying}
 use Rattle.mt_rule.proofs.table.MtTable.bury_at.Goals as goal

@@ -1,4 +1,4 @@
-use Rattle.std.proofs.Common.{rules}
+use Rattle.mt_rule.proofs.Prelude.{rules}
 use Rattle.mt_rule.proofs.ReadingPlaces.{section_below}
 use Rattle.mt_rule.proofs.ReadingSteps.{closing_at}
 use Rattle.mt_rule.proofs.table.MtTable.close_section.Goals as goal

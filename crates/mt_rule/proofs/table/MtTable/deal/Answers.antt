@@ -1,4 +1,4 @@
-use Rattle.std.proofs.Common.{rules}
+use Rattle.mt_rule.proofs.Prelude.{rules}
 use Rattle.mt_rule.proofs.Moving.{dealing}
 use Rattle.mt_rule.proofs.table.MtTable.deal.Goals as goal
 

@@ -1,4 +1,4 @@
-use Rattle.std.proofs.Common.{rules}
+use Rattle.mt_rule.proofs.Prelude.{rules}
 use Rattle.mt_rule.proofs.Writing.{column_of}
 use Rattle.mt_rule.proofs.WritingRows.{drafting}
 use Rattle.mt_rule.proofs.table.MtTable.draft_at.Goals as goal

@@ -1,4 +1,4 @@
-use Rattle.std.proofs.Common.{rules}
+use Rattle.mt_rule.proofs.Prelude.{rules}
 use Rattle.mt_rule.proofs.Writing.{column_of}
 use Rattle.mt_rule.proofs.WritingRows.{finding_drafted}
 use Rattle.mt_rule.proofs.table.MtTable.finds_drafted.Goals as goal

@@ -1,4 +1,4 @@
-use Rattle.std.proofs.Common.{rules}
+use Rattle.mt_rule.proofs.Prelude.{rules}
 use Rattle.mt_rule.proofs.Moving.{learning}
 use Rattle.mt_rule.proofs.Moving.{note_joining}
 use Rattle.mt_rule.proofs.table.MtTable.join_note.Goals as goal

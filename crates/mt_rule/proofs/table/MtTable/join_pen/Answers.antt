@@ -1,10 +1,4 @@
-use Rattle.std.proofs.Common.{rules, ap, sym, ◌∙◌, ◌≡◌, subst, List}
-use Rattle.mt_rule.specs.declared.views.View.{View}
-use Rattle.mt_rule.specs.declared.views.PenPart.{PenPart}
-use Rattle.mt_rule.specs.declared.views.PassPart.{PassPart}
-use Rattle.mt_rule.specs.Seats.{known_by, pen_of, pass_of, part_in, pass_or, pen_joined, with_pass}
-use Rattle.mt_rule.specs.Steps.{all_seen}
-use Rattle.mt_rule.specs.Tokens.{Identity, identity_of, tree_in, pen_in, part_of, WasShown}
+use Rattle.mt_rule.proofs.Prelude.{rules, ap, sym, ◌∙◌, ◌≡◌, subst, List, View, PenPart, PassPart, known_by, pen_of, pass_of, part_in, pass_or, pen_joined, with_pass, all_seen, Identity, identity_of, tree_in, pen_in, part_of, WasShown}
 use Rattle.mt_rule.proofs.Moving.{joining, seeing, shown_with, was_shown}
 use Rattle.mt_rule.proofs.table.MtTable.join_pen.Goals as goal
 

@@ -1,4 +1,4 @@
-use Rattle.std.proofs.Common.{rules}
+use Rattle.mt_rule.proofs.Prelude.{rules}
 use Rattle.mt_rule.proofs.ReadingSteps.{commits}
 use Rattle.mt_rule.proofs.table.MtTable.load_commits.Goals as goal
 

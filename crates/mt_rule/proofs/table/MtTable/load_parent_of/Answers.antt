@@ -1,4 +1,4 @@
-use Rattle.std.proofs.Common.{rules}
+use Rattle.mt_rule.proofs.Prelude.{rules}
 use Rattle.mt_rule.proofs.ReadingPlaces.{column_below, row_here}
 use Rattle.mt_rule.proofs.ReadingSteps.{parents}
 use Rattle.mt_rule.proofs.table.MtTable.load_parent_of.Goals as goal

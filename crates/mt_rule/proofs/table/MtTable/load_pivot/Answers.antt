@@ -1,6 +1,4 @@
-use Rattle.std.proofs.Common.{rules}
-use Rattle.mt_rule.specs.Sections.{here}
-use Rattle.mt_rule.specs.Tokens.{part_of}
+use Rattle.mt_rule.proofs.Prelude.{rules, here, part_of}
 use Rattle.mt_rule.proofs.ReadingPlaces.{column_below, pivot_low, row_here}
 use Rattle.mt_rule.proofs.ReadingSteps.{pivots}
 use Rattle.mt_rule.proofs.table.MtTable.load_pivot.Goals as goal

@@ -1,4 +1,4 @@
-use Rattle.std.proofs.Common.{rules}
+use Rattle.mt_rule.proofs.Prelude.{rules}
 use Rattle.mt_rule.proofs.ReadingSteps.{roots}
 use Rattle.mt_rule.proofs.table.MtTable.load_root.Goals as goal
 

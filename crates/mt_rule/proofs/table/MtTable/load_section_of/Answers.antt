@@ -1,4 +1,4 @@
-use Rattle.std.proofs.Common.{rules}
+use Rattle.mt_rule.proofs.Prelude.{rules}
 use Rattle.mt_rule.proofs.Writing.{section_inside}
 use Rattle.mt_rule.proofs.WritingScans.{scanning}
 use Rattle.mt_rule.proofs.table.MtTable.load_section_of.Goals as goal

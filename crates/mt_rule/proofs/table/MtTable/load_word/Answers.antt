@@ -1,7 +1,4 @@
-use Rattle.std.proofs.Common.{rules, subst}
-use Rattle.mt_rule.specs.Places.{IsWordPlace}
-use Rattle.mt_rule.specs.Seats.{rooted_in}
-use Rattle.mt_rule.specs.Tokens.{pen_in}
+use Rattle.mt_rule.proofs.Prelude.{rules, subst, IsWordPlace, rooted_in, pen_in}
 use Rattle.mt_rule.proofs.Writing.{column_of, looking, looking_at_root, root_inside}
 use Rattle.mt_rule.proofs.table.MtTable.load_word.Goals as goal
 

@@ -1,7 +1,4 @@
-use Rattle.std.proofs.Common.{◌≡◌, IfOk, subst}
-use Rattle.mt_rows.specs.declared.plain.PlainRows.{PlainRows}
-use Rattle.mt_rows.specs.Memory.{sheet_in}
-use Rattle.mt_rule.specs.Tokens.{identity_of, shape_opened}
+use Rattle.mt_rule.proofs.Prelude.{◌≡◌, IfOk, subst, PlainRows, sheet_in, identity_of, shape_opened}
 use Rattle.mt_rule.proofs.table.MtTable.make.Goals as goal
 
 pub returns-clause-shape : goal.returns-clause-shape

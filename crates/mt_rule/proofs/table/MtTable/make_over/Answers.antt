@@ -1,8 +1,4 @@
-use Rattle.std.proofs.Common.{rules, refl}
-use Rattle.mt_base.specs.Passes.{new_pass}
-use Rattle.mt_rows.specs.Memory.{sheet_in}
-use Rattle.mt_rule.specs.Seats.{new_pen}
-use Rattle.mt_rule.specs.Tokens.{identity_of, IsPassOf, pass_in, pen_in}
+use Rattle.mt_rule.proofs.Prelude.{rules, refl, new_pass, sheet_in, new_pen, identity_of, IsPassOf, pass_in, pen_in}
 use Rattle.mt_rule.proofs.Seating.{all_dealt, map_dealt, pen_dealt}
 use Rattle.mt_rule.proofs.table.MtTable.make_over.Goals as goal
 

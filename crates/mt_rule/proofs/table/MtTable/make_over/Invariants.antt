@@ -1,10 +1,4 @@
-use Rattle.std.proofs.Common.{◌≡◌, length, map, vec_capacity}
-use Rattle.std.specs.Prelude.{All}
-use Rattle.std.specs.List.{range_with_len}
-use Rattle.mt_base.specs.Passes.{new_pass}
-use Rattle.mt_rows.specs.Memory.{sheet_in}
-use Rattle.mt_rule.specs.Seats.{new_pen}
-use Rattle.mt_rule.specs.Tokens.{identity_of, IsPassOf, pass_in, pen_in, IsPenOf, IsAlone}
+use Rattle.mt_rule.proofs.Prelude.{◌≡◌, length, map, vec_capacity, All, range_with_len, new_pass, sheet_in, new_pen, identity_of, IsPassOf, pass_in, pen_in, IsPenOf, IsAlone}
 use Rattle.mt_rule.proofs.table.MtTable.make_over.Given as goal
 
 abbrev pub invariant-loop-number : goal.invariant-loop-number

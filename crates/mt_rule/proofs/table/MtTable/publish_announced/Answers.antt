@@ -1,8 +1,4 @@
-use Rattle.std.proofs.Common.{rules, arith, ℕ, ◌<◌, sym, ap, ◌∙◌, subst}
-use Rattle.mt_base.specs.Width.{kind_width}
-use Rattle.mt_rows.specs.Publish.{IsPlaceToPublish}
-use Rattle.mt_rule.specs.Seats.{pen_sheet}
-use Rattle.mt_rule.specs.Tokens.{pen_in}
+use Rattle.mt_rule.proofs.Prelude.{rules, arith, ℕ, ◌<◌, sym, ap, ◌∙◌, subst, kind_width, IsPlaceToPublish, pen_sheet, pen_in}
 use Rattle.mt_rule.proofs.Counting.{counter_inside}
 use Rattle.mt_rule.proofs.Publishing.{index_of, publishing}
 use Rattle.mt_rule.proofs.Writing.{column_of}

@@ -1,4 +1,4 @@
-use Rattle.std.proofs.Common.{rules}
+use Rattle.mt_rule.proofs.Prelude.{rules}
 use Rattle.mt_rule.proofs.Moving.{noting}
 use Rattle.mt_rule.proofs.table.MtTable.split_note.Goals as goal
 

@@ -1,4 +1,4 @@
-use Rattle.std.proofs.Common.{rules}
+use Rattle.mt_rule.proofs.Prelude.{rules}
 use Rattle.mt_rule.proofs.Moving.{parting, seeing}
 use Rattle.mt_rule.proofs.table.MtTable.split_pen.Goals as goal
 

@@ -1,4 +1,4 @@
-use Rattle.std.proofs.Common.{rules, arith}
+use Rattle.mt_rule.proofs.Prelude.{rules, arith}
 use Rattle.mt_rule.proofs.Counting.{counter_inside}
 use Rattle.mt_rule.proofs.Ending.{ending}
 use Rattle.mt_rule.proofs.table.MtTable.store_announced.Goals as goal

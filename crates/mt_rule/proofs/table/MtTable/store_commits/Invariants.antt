@@ -1,4 +1,4 @@
-use Rattle.mt_rows.specs.declared.rows.Place.TheVariants.{Root}
+use Rattle.mt_rule.proofs.Prelude.{Root}
 use Rattle.mt_rule.proofs.table.MtTable.store_commits.Given as goal
 
 abbrev pub ghosts-store_announced : goal.ghosts-store_announced

@@ -1,4 +1,4 @@
-use Rattle.std.proofs.Common.{rules}
+use Rattle.mt_rule.proofs.Prelude.{rules}
 use Rattle.mt_rule.proofs.Writing.{column_of}
 use Rattle.mt_rule.proofs.WritingRows.{tending}
 use Rattle.mt_rule.proofs.table.MtTable.tend_at.Goals as goal

@@ -1,9 +1,4 @@
-use Rattle.std.proofs.Common.{◌≡◌, [], ap, sym, ◌∙◌}
-use Rattle.atomic_table.specs.Table.{Me}
-use Rattle.mt_rows.specs.Memory.{sheet_in}
-use Rattle.mt_rule.specs.declared.views.TableStart.{TableStart}
-use Rattle.mt_rule.specs.declared.views.View.{View}
-use Rattle.mt_rule.specs.Seats.{shape_told, opening_view, new_pen, pen_of}
+use Rattle.mt_rule.proofs.Prelude.{◌≡◌, [], ap, sym, ◌∙◌, Me, sheet_in, TableStart, View, shape_told, opening_view, new_pen, pen_of}
 use Rattle.mt_rule.proofs.Openings.{starts_so}
 use Rattle.mt_rule.proofs.table.MtTable.with_pen.Goals as goal
 

@@ -1,4 +1,4 @@
-use Rattle.std.proofs.Common.{rules}
+use Rattle.mt_rule.proofs.Prelude.{rules}
 use Rattle.mt_rule.proofs.Turning.{releases_value}
 use Rattle.mt_rule.proofs.turn.Turn.given.Goals as goal
 

@@ -1,5 +1,4 @@
-use Rattle.std.proofs.Common.{rules}
-use Rattle.std.proofs.lemmas.Bool.{eqb-true}
+use Rattle.mt_rule.proofs.Prelude.{rules, eqb-true}
 use Rattle.mt_rule.proofs.Turning.{grabs_value, has_grabbed}
 use Rattle.mt_rule.proofs.turn.Turn.grab.Goals as goal
 

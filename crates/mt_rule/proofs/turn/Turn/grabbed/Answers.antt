@@ -1,5 +1,4 @@
-use Rattle.std.proofs.Common.{rules, ap, sym, ◌∙◌, ◌∷◌, ◌≡◌, [], Some}
-use Rattle.atomic_table.specs.Table.{rest}
+use Rattle.mt_rule.proofs.Prelude.{rules, ap, sym, ◌∙◌, ◌∷◌, ◌≡◌, [], Some, rest}
 use Rattle.mt_rule.proofs.Turning.{same_value}
 use Rattle.mt_rule.proofs.turn.Turn.grabbed.Goals as goal
 

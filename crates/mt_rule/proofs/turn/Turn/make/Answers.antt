@@ -1,7 +1,4 @@
-use Rattle.std.proofs.Common.{ap, sym, ◌∙◌, ◌∷◌, ◌++◌, [], Some, subst}
-use Rattle.std.specs.Prelude.{All}
-use Rattle.mt_rule.specs.Tokens.{Identity, IsPassOf, identity_of}
-use Rattle.mt_rule.specs.Turns.{served}
+use Rattle.mt_rule.proofs.Prelude.{ap, sym, ◌∙◌, ◌∷◌, ◌++◌, [], Some, subst, All, Identity, IsPassOf, identity_of, served}
 use Rattle.mt_rule.proofs.Turning.{turn_starts_with}
 use Rattle.mt_rule.proofs.turn.Turn.make.Goals as goal
 

@@ -1,5 +1,4 @@
-use Rattle.std.proofs.Common.{rules, ap, sym, ◌∙◌, ◌≡◌}
-use Rattle.mt_rule.specs.Turns.{seated, tries_of}
+use Rattle.mt_rule.proofs.Prelude.{rules, ap, sym, ◌∙◌, ◌≡◌, seated, tries_of}
 use Rattle.mt_rule.proofs.Turning.{sits, only_view}
 use Rattle.mt_rule.proofs.turn.Turn.seat.Goals as goal
 

@@ -1,7 +1,4 @@
-use Rattle.std.proofs.Common.{rules, refl, sym, ap, ◌∙◌, get_or, length-set}
-use Rattle.std.proofs.lemmas.List.Elements.{All-set}
-use Rattle.mt_rule.specs.Tokens.{IsPassOf, pass_in}
-use Rattle.mt_rule.specs.Turns.{IsSeatedAt, counting, seated, served}
+use Rattle.mt_rule.proofs.Prelude.{rules, refl, sym, ap, ◌∙◌, get_or, length-set, All-set, IsPassOf, pass_in, IsSeatedAt, counting, seated, served}
 use Rattle.mt_rule.proofs.Seating.{map_set_same, take_set, same_known, still_of}
 use Rattle.mt_rule.proofs.Turning.{waits}
 use Rattle.mt_rule.proofs.turn.Turn.seat_all.Goals as goal

@@ -1,8 +1,4 @@
-use Rattle.std.proofs.Common.{◌≡◌, [], length, map, take}
-use Rattle.std.specs.Prelude.{All}
-use Rattle.std.specs.List.{AllByRecursion}
-use Rattle.mt_rule.specs.Tokens.{IsPassOf, pass_in}
-use Rattle.mt_rule.specs.Turns.{seated, served, IsSeatedAt}
+use Rattle.mt_rule.proofs.Prelude.{◌≡◌, [], length, map, take, All, AllByRecursion, IsPassOf, pass_in, seated, served, IsSeatedAt}
 use Rattle.mt_rule.proofs.turn.Turn.seat_all.Given as goal
 
 abbrev pub invariant-loop-i : goal.invariant-loop-i

@@ -1,4 +1,4 @@
-use Rattle.std.proofs.Common.{rules, ◌∷◌, [], ap, ◌∙◌}
+use Rattle.mt_rule.proofs.Prelude.{rules, ◌∷◌, [], ap, ◌∙◌}
 use Rattle.mt_rule.proofs.Turning.{sits, sits_beside}
 use Rattle.mt_rule.proofs.turn.Turn.seat_one.Goals as goal
 

@@ -1,4 +1,4 @@
-use Rattle.std.proofs.Common.{◌≡◌, [], false}
+use Rattle.mt_rule.proofs.Prelude.{◌≡◌, [], false}
 use Rattle.mt_rule.proofs.turn.Turn.take.Given as goal
 
 abbrev pub invariant-loop : goal.invariant-loop

@@ -1,9 +1,4 @@
-use Rattle.std.proofs.Common.{◌≡◌, List, ap, sym, ◌∙◌, subst, refl}
-use Rattle.mt_base.specs.declared.kinds.Kind.{Kind}
-use Rattle.mt_base.specs.declared.ranges.Range.{Range}
-use Rattle.mt_linearize.specs.OneThread.{MayLimit}
-use Rattle.mt_linearize.specs.Phases.{new_history}
-use Rattle.mt_sequential.specs.Playing.{TreeState}
+use Rattle.mt_sequential.proofs.Prelude.{◌≡◌, List, ap, sym, ◌∙◌, subst, refl, Kind, Range, MayLimit, new_history, TreeState}
 use Rattle.mt_sequential.proofs.player.Played.copy.Goals as goal
 
 pub returns : goal.returns

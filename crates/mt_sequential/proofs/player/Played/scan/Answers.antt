@@ -1,7 +1,4 @@
-use Rattle.std.proofs.Common.{◌≡◌, ℕ, suc, ◌+◌, ◌-◌, [], ◌∷◌, ◌++◌, Some, None, arith, sym, ap, subst, ◌∙◌, append-nil}
-use Rattle.mt_base.specs.Call.{answer}
-use Rattle.mt_log.specs.Run.{find_at}
-use Rattle.mt_sequential.specs.Playing.{TreeState, read_entry, scan_entries}
+use Rattle.mt_sequential.proofs.Prelude.{◌≡◌, ℕ, suc, ◌+◌, ◌-◌, [], ◌∷◌, ◌++◌, Some, None, arith, sym, ap, subst, ◌∙◌, append-nil, answer, find_at, TreeState, read_entry, scan_entries}
 use Rattle.mt_sequential.proofs.Scanning.{scan_ends, scan_goes_on}
 use Rattle.mt_sequential.proofs.player.Played.scan.Goals as goal
 

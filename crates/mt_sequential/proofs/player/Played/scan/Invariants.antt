@@ -1,7 +1,4 @@
-use Rattle.std.proofs.Common.{◌≡◌, ◌-◌, ◌++◌, List}
-use Rattle.mt_log.specs.declared.transcripts.Entry.{Entry}
-use Rattle.mt_log.specs.Run.{place_within}
-use Rattle.mt_sequential.specs.Playing.{scan_entries}
+use Rattle.mt_sequential.proofs.Prelude.{◌≡◌, ◌-◌, ◌++◌, List, Entry, place_within, scan_entries}
 use Rattle.mt_sequential.proofs.player.Played.scan.Given as goal
 
 -- what is left of the scan makes it whole

@@ -1,7 +1,5 @@
-use Rattle.std.proofs.Common.{◌≡◌, ◌<◌, List, [], ◌∷◌, ◌++◌, length, ap, sym, ◌∙◌, subst}
-use Rattle.std.specs.Prelude.{slice_get}
+use Rattle.mt_sequential.proofs.Prelude.{◌≡◌, ◌<◌, List, [], ◌∷◌, ◌++◌, length, ap, sym, ◌∙◌, subst, slice_get, TreeState, PlayerState, with_entry}
 use Rattle.mt_log.specs.declared.transcripts.Said.TheVariants as said
-use Rattle.mt_sequential.specs.Playing.{TreeState, PlayerState, with_entry}
 use Rattle.mt_sequential.proofs.Removed.{get_of}
 use Rattle.mt_sequential.proofs.player.Player.copy.Goals as goal
 

@@ -1,9 +1,4 @@
-use Rattle.std.proofs.Common.{◌≡◌, ◌<◌, List, [], ◌∷◌, ◌++◌, length, ap, sym, ◌∙◌, subst}
-use Rattle.std.specs.Prelude.{slice_get, slice_set}
-use Rattle.mt_log.specs.declared.lines.Item.{Item}
-use Rattle.mt_log.specs.Run.{place_within}
-use Rattle.mt_log.specs.Trees.{NamesBelow}
-use Rattle.mt_sequential.specs.Playing.{TreeState, PlayerState, Does, ReadsOnly, read_entry, scan_entries}
+use Rattle.mt_sequential.proofs.Prelude.{◌≡◌, ◌<◌, List, [], ◌∷◌, ◌++◌, length, ap, sym, ◌∙◌, subst, slice_get, slice_set, Item, place_within, NamesBelow, TreeState, PlayerState, Does, ReadsOnly, read_entry, scan_entries}
 use Rattle.mt_sequential.proofs.Removed.{get_of, set_back}
 use Rattle.mt_sequential.proofs.player.Player.line.Goals as goal
 

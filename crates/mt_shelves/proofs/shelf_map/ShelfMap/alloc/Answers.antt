@@ -1,11 +1,4 @@
-use Rattle.std.proofs.Common.{◌+◌, ◌≤◌, List, IfSome, ap, subst, sym, ◌∙◌}
-use Rattle.mt_base.specs.declared.kinds.Kind.{Kind}
-use Rattle.mt_base.specs.declared.ranges.Range.{Range}
-use Rattle.mt_base.specs.Holes.{low}
-use Rattle.mt_base.specs.Width.{greatest_of}
-use Rattle.mt_list.specs.ListMap.{Contents}
-use Rattle.mt_list.proofs.MapsKept.{low_fits}
-use Rattle.mt_shelves.specs.Shelves.{joined}
+use Rattle.mt_shelves.proofs.Prelude.{◌+◌, ◌≤◌, List, IfSome, ap, subst, sym, ◌∙◌, Kind, Range, low, greatest_of, Contents, low_fits, joined}
 use Rattle.mt_shelves.proofs.shelf_map.ShelfMap.alloc.Goals as goal
 
 pub place-requires-clause-within : goal.place-requires-clause-within

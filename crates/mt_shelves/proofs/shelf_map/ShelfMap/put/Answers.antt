@@ -1,7 +1,4 @@
-use Rattle.std.proofs.Common.{◌≤◌, ap, subst, sym, arith}
-use Rattle.mt_base.specs.declared.kinds.Kind.{Kind}
-use Rattle.mt_base.specs.Width.{greatest_of}
-use Rattle.mt_list.specs.ListMap.{Contents}
+use Rattle.mt_shelves.proofs.Prelude.{◌≤◌, ap, subst, sym, arith, Kind, greatest_of, Contents}
 use Rattle.mt_shelves.proofs.ShelvesKept.{put_in}
 use Rattle.mt_shelves.proofs.shelf_map.ShelfMap.put.Goals as goal
 

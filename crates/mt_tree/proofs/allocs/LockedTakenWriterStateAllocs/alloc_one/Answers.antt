@@ -1,9 +1,4 @@
-use Rattle.std.proofs.Common.{sym, ap, subst}
-use Rattle.mt_base.specs.declared.calls.Call.TheVariants.{Alloc}
-use Rattle.mt_ids.specs.Allocation.{IsNextCall}
-use Rattle.mt_rule.specs.Tokens.{pass_in}
-use Rattle.mt_tree.specs.declared.trees.Tree.{Tree}
-use Rattle.mt_tree.specs.Allocations.{allocation_of}
+use Rattle.mt_tree.proofs.Prelude.{sym, ap, subst, Alloc, IsNextCall, pass_in, Tree, allocation_of}
 use Rattle.mt_tree.proofs.Allocations.{is_called}
 use Rattle.mt_tree.proofs.allocs.LockedTakenWriterStateAllocs.alloc_one.Goals as goal
 

@@ -1,4 +1,4 @@
-use Rattle.std.proofs.Common.{rules}
+use Rattle.mt_tree.proofs.Prelude.{rules}
 use Rattle.mt_tree.proofs.behind.WriterState.act.Goals as goal
 use Rattle.mt_tree.proofs.behind.WriterState.act.Goals.{in-Long, in-Short}
 

@@ -1,8 +1,4 @@
-use Rattle.std.proofs.Common.{ap, ◌∙◌}
-use Rattle.mt_check.specs.Check.{form_of}
-use Rattle.mt_rows.specs.Publish.{tree_as}
-use Rattle.mt_tree.specs.Behind.{Behind}
-use Rattle.mt_tree.specs.Trees.{opened}
+use Rattle.mt_tree.proofs.Prelude.{ap, ◌∙◌, form_of, tree_as, Behind, opened}
 use Rattle.mt_tree.proofs.behind.WriterState.check.Goals as goal
 
 pub returns-in-Long-clause-form : goal.returns-in-Long-clause-form

@@ -1,6 +1,4 @@
-use Rattle.std.proofs.Common.{ap, ◌∙◌}
-use Rattle.mt_tree.specs.Behind.{Behind}
-use Rattle.mt_tree.specs.Copies.{live_rows}
+use Rattle.mt_tree.proofs.Prelude.{ap, ◌∙◌, Behind, live_rows}
 use Rattle.mt_tree.proofs.behind.WriterState.copy.Goals as goal
 
 pub returns-in-Long-clause-live : goal.returns-in-Long-clause-live

@@ -1,5 +1,4 @@
-use Rattle.mt_rule.specs.Tokens.{steps_made, turn_seat}
-use Rattle.mt_tree.specs.Trees.{place_of}
+use Rattle.mt_tree.proofs.Prelude.{steps_made, turn_seat, place_of}
 use Rattle.mt_tree.proofs.behind.WriterState.copy.Given as goal
 
 abbrev pub ghosts-copy_at_work : goal.ghosts-copy_at_work

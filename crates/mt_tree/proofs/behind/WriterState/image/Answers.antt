@@ -1,7 +1,4 @@
-use Rattle.std.proofs.Common.{IfOk, subst}
-use Rattle.mt_image.specs.Images.{IsImageOf}
-use Rattle.mt_tree.specs.Behind.{Behind}
-use Rattle.mt_tree.specs.Trees.{opened}
+use Rattle.mt_tree.proofs.Prelude.{IfOk, subst, IsImageOf, Behind, opened}
 use Rattle.mt_tree.proofs.behind.WriterState.image.Goals as goal
 
 pub returns-in-Long-clause-image : goal.returns-in-Long-clause-image

@@ -1,5 +1,4 @@
-use Rattle.std.proofs.Common.{ap, ◌∙◌}
-use Rattle.mt_tree.specs.Behind.{after_show}
+use Rattle.mt_tree.proofs.Prelude.{ap, ◌∙◌, after_show}
 use Rattle.mt_tree.proofs.Settling.{have_met}
 use Rattle.mt_tree.proofs.behind.WriterState.meet.Goals as goal
 

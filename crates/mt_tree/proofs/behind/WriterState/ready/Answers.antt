@@ -1,6 +1,4 @@
-use Rattle.std.proofs.Common.{rules, ◌≡◌, ◌+◌, ◌*◌, ◌≤◌, Some, subst, arith}
-use Rattle.std.specs.Prelude.{◌↔◌, IsTrue, nat_le}
-use Rattle.mt_tree.specs.Behind.{Behind, behind_lock, IsAtRest, IsReady}
+use Rattle.mt_tree.proofs.Prelude.{rules, ◌≡◌, ◌+◌, ◌*◌, ◌≤◌, Some, subst, arith, ◌↔◌, IsTrue, nat_le, Behind, behind_lock, IsAtRest, IsReady}
 use Rattle.mt_tree.proofs.Ending.{few_levels, ready_if}
 use Rattle.mt_tree.proofs.behind.WriterState.ready.Goals as goal
 

@@ -1,7 +1,4 @@
-use Rattle.std.proofs.Common.{rules, ◌≡◌, Some, sym, ap, ◌∙◌, subst}
-use Rattle.mt_rule.specs.declared.views.PenPart.{PenPart}
-use Rattle.mt_rule.specs.Tokens.{identity_of_pen}
-use Rattle.mt_tree.specs.Behind.{Behind, after_show, behind_lock, parts_of, IsAtRest, IsPenAtRest}
+use Rattle.mt_tree.proofs.Prelude.{rules, ◌≡◌, Some, sym, ap, ◌∙◌, subst, PenPart, identity_of_pen, Behind, after_show, behind_lock, parts_of, IsAtRest, IsPenAtRest}
 use Rattle.mt_tree.proofs.Ending.{kept_shown}
 use Rattle.mt_tree.proofs.behind.WriterState.show.Goals as goal
 

@@ -1,4 +1,4 @@
-use Rattle.std.proofs.Common.{rules}
+use Rattle.mt_tree.proofs.Prelude.{rules}
 use Rattle.mt_tree.proofs.Settling.{still_all, settled}
 use Rattle.mt_tree.proofs.behind.WriterState.show_all.Goals as goal
 

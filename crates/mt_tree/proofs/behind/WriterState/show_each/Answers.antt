@@ -1,7 +1,4 @@
-use Rattle.std.proofs.Common.{rules, ap, ◌∙◌}
-use Rattle.mt_rule.specs.Tokens.{turn_seat}
-use Rattle.mt_rule.proofs.Seating.{map_set_same}
-use Rattle.mt_tree.specs.Behind.{after_show}
+use Rattle.mt_tree.proofs.Prelude.{rules, ap, ◌∙◌, turn_seat, map_set_same, after_show}
 use Rattle.mt_tree.proofs.Settling.{one_more, shown_since, still_of, all_shown}
 use Rattle.mt_tree.proofs.behind.WriterState.show_each.Goals as goal
 

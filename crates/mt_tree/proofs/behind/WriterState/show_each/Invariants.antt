@@ -1,6 +1,4 @@
-use Rattle.std.proofs.Common.{◌≡◌, length, map}
-use Rattle.mt_rule.specs.Tokens.{turn_seat}
-use Rattle.mt_tree.specs.Behind.{after_show}
+use Rattle.mt_tree.proofs.Prelude.{◌≡◌, length, map, turn_seat, after_show}
 use Rattle.mt_tree.proofs.Settling.{Seeing}
 use Rattle.mt_tree.proofs.behind.WriterState.show_each.Given as goal
 

@@ -1,5 +1,4 @@
-use Rattle.std.proofs.Common.{rules, sym, subst}
-use Rattle.mt_tree.specs.Behind.{Behind, IsReady}
+use Rattle.mt_tree.proofs.Prelude.{rules, sym, subst, Behind, IsReady}
 use Rattle.mt_tree.proofs.behind.WriterState.store_prealloc.Goals as goal
 use Rattle.mt_tree.proofs.behind.WriterState.store_prealloc.Goals.{in-Long, in-Short}
 

@@ -1,6 +1,4 @@
-use Rattle.std.proofs.Common.{ap}
-use Rattle.mt_free.specs.Book.{Book}
-use Rattle.mt_tree.specs.Trees.{map_seen, pass_in}
+use Rattle.mt_tree.proofs.Prelude.{ap, Book, map_seen, pass_in}
 use Rattle.mt_tree.proofs.Forms.{ready_for}
 use Rattle.mt_tree.proofs.copies.Locked+Taken+WriterState.copied.Goals as goal
 

@@ -1,4 +1,4 @@
-use Rattle.std.proofs.Common.{rules}
+use Rattle.mt_tree.proofs.Prelude.{rules}
 use Rattle.mt_tree.proofs.cursors.Cursor.close.Goals as goal
 
 pub returns-clause-closed : goal.returns-clause-closed

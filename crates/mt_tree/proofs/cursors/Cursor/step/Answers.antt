@@ -1,4 +1,4 @@
-use Rattle.std.proofs.Common.{rules}
+use Rattle.mt_tree.proofs.Prelude.{rules}
 use Rattle.mt_tree.proofs.cursors.Cursor.step.Goals as goal
 
 pub invariant_of-self : goal.invariant_of-self

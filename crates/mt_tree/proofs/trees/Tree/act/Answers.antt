@@ -1,8 +1,5 @@
-use Rattle.std.proofs.Common.{◌≤◌, IfOk, IfErr, subst}
-use Rattle.std.proofs.lemmas.Result.{IfErr-weaker}
+use Rattle.mt_tree.proofs.Prelude.{◌≤◌, IfOk, IfErr, subst, IfErr-weaker, pass_in, opened, limit_of, IsWorn}
 use Rattle.mt_base.specs.Passes as known
-use Rattle.mt_rule.specs.Tokens.{pass_in}
-use Rattle.mt_tree.specs.Trees.{opened, limit_of, IsWorn}
 use Rattle.mt_tree.proofs.Trying.{tries_once}
 use Rattle.mt_tree.proofs.trees.Tree.act.Goals as goal
 

@@ -1,9 +1,5 @@
-use Rattle.std.proofs.Common.{rules, ◌≡◌, sym, ap, ◌∙◌, subst}
+use Rattle.mt_tree.proofs.Prelude.{rules, ◌≡◌, sym, ap, ◌∙◌, subst, form_of, tree_as, Tree, opened, pass_in, IsPassOf}
 use Rattle.mt_base.specs.Passes as known
-use Rattle.mt_check.specs.Check.{form_of}
-use Rattle.mt_rows.specs.Publish.{tree_as}
-use Rattle.mt_tree.specs.declared.trees.Tree.{Tree}
-use Rattle.mt_tree.specs.Trees.{opened, pass_in, IsPassOf}
 use Rattle.mt_tree.proofs.Forms.{form_known}
 use Rattle.mt_tree.proofs.Lending.{still_of, tried_there, words_there}
 use Rattle.mt_tree.proofs.trees.Tree.check.Goals as goal

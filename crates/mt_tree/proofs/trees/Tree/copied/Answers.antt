@@ -1,7 +1,4 @@
-use Rattle.std.proofs.Common.{ap}
-use Rattle.mt_free.specs.Book.{Book}
-use Rattle.mt_rule.specs.Tokens.{pass_in}
-use Rattle.mt_tree.specs.Trees.{map_seen}
+use Rattle.mt_tree.proofs.Prelude.{ap, Book, pass_in, map_seen}
 use Rattle.mt_tree.proofs.Forms.{ready_for}
 use Rattle.mt_tree.proofs.trees.Tree.copied.Goals as goal
 

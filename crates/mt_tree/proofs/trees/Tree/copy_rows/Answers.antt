@@ -1,10 +1,5 @@
-use Rattle.std.proofs.Common.{rules, ◌≡◌, sym, ap, ◌∙◌, subst}
+use Rattle.mt_tree.proofs.Prelude.{rules, ◌≡◌, sym, ap, ◌∙◌, subst, kind_width, sheet_in, new_sheet, Tree, opened, pass_in, IsPassOf}
 use Rattle.mt_base.specs.Passes as known
-use Rattle.mt_base.specs.Width.{kind_width}
-use Rattle.mt_rows.specs.Memory.{sheet_in}
-use Rattle.mt_rows.specs.Plain.{new_sheet}
-use Rattle.mt_tree.specs.declared.trees.Tree.{Tree}
-use Rattle.mt_tree.specs.Trees.{opened, pass_in, IsPassOf}
 use Rattle.mt_tree.proofs.Forms.{count_known}
 use Rattle.mt_tree.proofs.Lending.{copy_there, still_of, tried_there, words_there}
 use Rattle.mt_tree.proofs.trees.Tree.copy_rows.Goals as goal

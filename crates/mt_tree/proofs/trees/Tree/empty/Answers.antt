@@ -1,9 +1,4 @@
-use Rattle.std.proofs.Common.{rules, sym, subst}
-use Rattle.mt_free.specs.Book.{Book}
-use Rattle.mt_free.proofs.Books.{new_is_book}
-use Rattle.mt_rows.specs.Sheet.{Sheet}
-use Rattle.mt_engine.specs.Engine.{IsIdle}
-use Rattle.mt_engine.proofs.FreshEngine.{fresh_is_idle}
+use Rattle.mt_tree.proofs.Prelude.{rules, sym, subst, Book, new_is_book, Sheet, IsIdle, fresh_is_idle}
 use Rattle.mt_tree.proofs.trees.Tree.empty.Goals as goal
 
 pub open-requires-clause-idle : goal.open-requires-clause-idle

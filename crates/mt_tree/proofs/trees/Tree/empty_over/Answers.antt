@@ -1,10 +1,4 @@
-use Rattle.std.proofs.Common.{rules, ◌∙◌, sym, ap, subst}
-use Rattle.mt_engine.proofs.FreshEngine.{fresh_is_idle}
-use Rattle.mt_engine.specs.Engine.{IsIdle}
-use Rattle.mt_free.proofs.Books.{new_is_book}
-use Rattle.mt_free.specs.Book.{Book}
-use Rattle.mt_rows.specs.Memory.{sheet_in}
-use Rattle.mt_rows.specs.Sheet.{Sheet}
+use Rattle.mt_tree.proofs.Prelude.{rules, ◌∙◌, sym, ap, subst, fresh_is_idle, IsIdle, new_is_book, Book, sheet_in, Sheet}
 use Rattle.mt_tree.proofs.trees.Tree.empty_over.Goals as goal
 
 pub measured-height-requires : goal.measured-height-requires

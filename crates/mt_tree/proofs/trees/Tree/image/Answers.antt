@@ -1,9 +1,5 @@
-use Rattle.std.proofs.Common.{rules, ◌≡◌, sym, ap, ◌∙◌, subst}
-use Rattle.std.proofs.lemmas.Result.{IfOk-weaker}
+use Rattle.mt_tree.proofs.Prelude.{rules, ◌≡◌, sym, ap, ◌∙◌, subst, IfOk-weaker, IsImageOf, Tree, opened, pass_in, IsPassOf}
 use Rattle.mt_base.specs.Passes as known
-use Rattle.mt_image.specs.Images.{IsImageOf}
-use Rattle.mt_tree.specs.declared.trees.Tree.{Tree}
-use Rattle.mt_tree.specs.Trees.{opened, pass_in, IsPassOf}
 use Rattle.mt_tree.proofs.Forms.{image_known, map_imaged}
 use Rattle.mt_tree.proofs.Lending.{still_of, tried_there, words_there}
 use Rattle.mt_tree.proofs.trees.Tree.image.Goals as goal

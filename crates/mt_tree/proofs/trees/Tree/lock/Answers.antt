@@ -1,7 +1,5 @@
-use Rattle.std.proofs.Common.{rules, subst}
+use Rattle.mt_tree.proofs.Prelude.{rules, subst, pass_in, opened}
 use Rattle.mt_base.specs.Passes as known
-use Rattle.mt_rule.specs.Tokens.{pass_in}
-use Rattle.mt_tree.specs.Trees.{opened}
 use Rattle.mt_tree.proofs.Showing.{callers_shown}
 use Rattle.mt_tree.proofs.Trying.{tries_once}
 use Rattle.mt_tree.proofs.trees.Tree.lock.Goals as goal

@@ -1,12 +1,4 @@
-use Rattle.std.proofs.Common.{IfOk, sym, ap, subst}
-use Rattle.mt_engine.specs.Engine.{IsIdle}
-use Rattle.mt_engine.specs.Heights.{HasHeight}
-use Rattle.mt_free.specs.Book.{Book}
-use Rattle.mt_rows.specs.declared.plain.PlainRows.{PlainRows}
-use Rattle.mt_rows.specs.Memory.{sheet_in}
-use Rattle.mt_rows.specs.Publish.{map_by}
-use Rattle.mt_rows.specs.Sheet.{Sheet}
-use Rattle.mt_tree.specs.Trees.{IsNew}
+use Rattle.mt_tree.proofs.Prelude.{IfOk, sym, ap, subst, IsIdle, HasHeight, Book, PlainRows, sheet_in, map_by, Sheet, IsNew}
 use Rattle.mt_tree.proofs.trees.Tree.open.Goals as goal
 
 pub open_over-requires-clause-idle : goal.open_over-requires-clause-idle

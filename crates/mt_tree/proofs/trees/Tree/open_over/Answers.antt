@@ -1,8 +1,4 @@
-use Rattle.std.proofs.Common.{sym, subst}
-use Rattle.mt_pen.specs.Works.{OpensSmall}
-use Rattle.mt_rows.specs.Memory.{sheet_in}
-use Rattle.mt_rows.specs.PlainWhole.{rows_whole}
-use Rattle.mt_rule.specs.Tokens.{identity_of, pen_in}
+use Rattle.mt_tree.proofs.Prelude.{sym, subst, OpensSmall, sheet_in, rows_whole, identity_of, pen_in}
 use Rattle.mt_tree.proofs.Opening.{new_tree, open_kept, opens_small}
 use Rattle.mt_tree.proofs.trees.Tree.open_over.Goals as goal
 

@@ -1,4 +1,4 @@
-use Rattle.std.proofs.Common.{arith}
+use Rattle.mt_tree.proofs.Prelude.{arith}
 use Rattle.mt_tree.proofs.Counting.{brief}
 use Rattle.mt_tree.proofs.trees.Tree.step.Goals as goal
 

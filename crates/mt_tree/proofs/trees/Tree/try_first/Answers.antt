@@ -1,5 +1,4 @@
-use Rattle.std.proofs.Common.{◌∙◌}
-use Rattle.std.proofs.lemmas.Result.{IfOk-weaker}
+use Rattle.mt_tree.proofs.Prelude.{◌∙◌, IfOk-weaker}
 use Rattle.mt_tree.proofs.Trying.{all_gone, first_gone, known_gone}
 use Rattle.mt_tree.proofs.trees.Tree.try_first.Goals as goal
 

@@ -1,7 +1,5 @@
-use Rattle.std.proofs.Common.{◌∷◌, map, ◌∙◌, subst}
+use Rattle.mt_tree.proofs.Prelude.{◌∷◌, map, ◌∙◌, subst, pass_in, turn_seat, HaveMet}
 use Rattle.mt_base.specs.Passes as known
-use Rattle.mt_rule.specs.Tokens.{pass_in, turn_seat}
-use Rattle.mt_tree.specs.Meeting.{HaveMet}
 use Rattle.mt_tree.proofs.trees.Tree.try_meet.Goals as goal
 
 pub returns-clause-met : goal.returns-clause-met

@@ -1,8 +1,5 @@
-use Rattle.std.proofs.Common.{List, map, ap, ◌∙◌, subst}
-use Rattle.mt_base.proofs.SharedCalls.{each_once}
+use Rattle.mt_tree.proofs.Prelude.{List, map, ap, ◌∙◌, subst, each_once, pass_in, turn_seat, seen_by}
 use Rattle.mt_base.specs.Passes as known
-use Rattle.mt_rule.specs.Tokens.{pass_in, turn_seat}
-use Rattle.mt_tree.specs.Trees.{seen_by}
 use Rattle.mt_tree.proofs.trees.Tree.try_settle.Goals as goal
 
 pub returns-clause-settled : goal.returns-clause-settled

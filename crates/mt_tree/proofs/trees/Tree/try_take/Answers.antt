@@ -1,5 +1,4 @@
-use Rattle.std.proofs.Common.{◌∙◌}
-use Rattle.std.proofs.lemmas.Result.{IfOk-weaker}
+use Rattle.mt_tree.proofs.Prelude.{◌∙◌, IfOk-weaker}
 use Rattle.mt_tree.proofs.Trying.{tried_knows, tried_of, tried_once}
 use Rattle.mt_tree.proofs.trees.Tree.try_take.Goals as goal
 

@@ -1,7 +1,4 @@
-use Rattle.std.proofs.Common.{◌≡◌, ℕ, true, false, inl, inr, arith, subst}
-use Rattle.std.specs.List.{list_any}
-use Rattle.std.proofs.lemmas.Bool.{cases_lt}
-use Rattle.mt_verify.specs.Heard.{reads_by}
+use Rattle.mt_verify.proofs.Prelude.{◌≡◌, ℕ, true, false, inl, inr, arith, subst, list_any, cases_lt, reads_by}
 use Rattle.mt_verify.proofs.FirstReads.{no_lane}
 use Rattle.mt_verify.proofs.heard.Readers.beside.Goals.{else-other-lane-via-then-other-lane+else-has_read, else-other-lane-via-else-other-lane}
 use Rattle.mt_verify.proofs.heard.Readers.beside.Goals as goal

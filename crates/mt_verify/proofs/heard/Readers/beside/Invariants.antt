@@ -1,7 +1,4 @@
-use Rattle.std.proofs.Common.{◌≡◌, ◌≢◌, ℕ, ◌<◌, List, true}
-use Rattle.std.specs.List.{list_any}
-use Rattle.mt_told.specs.declared.told.Told.{Told}
-use Rattle.mt_verify.specs.Heard.{AreReaders, reads_by}
+use Rattle.mt_verify.proofs.Prelude.{◌≡◌, ◌≢◌, ℕ, ◌<◌, List, true, list_any, Told, AreReaders, reads_by}
 use Rattle.mt_verify.proofs.heard.Readers.beside.Given as goal
 
 abbrev pub invariant-loop-other : goal.invariant-loop-other

@@ -1,6 +1,4 @@
-use Rattle.std.proofs.Common.{sym, subst, Option, ℕ}
-use Rattle.std.proofs.lemmas.Bool.{leb-true, le-leb}
-use Rattle.mt_verify.specs.Heard.{HasReadBy}
+use Rattle.mt_verify.proofs.Prelude.{sym, subst, Option, ℕ, leb-true, le-leb, HasReadBy}
 use Rattle.mt_verify.proofs.heard.Readers.has_read.Goals as goal
 
 pub returns-in-Some : goal.returns-in-Some

@@ -1,5 +1,4 @@
-use Rattle.std.proofs.Common.{sym, ◌∙◌, subst}
-use Rattle.mt_verify.specs.Stops.{HasStopped}
+use Rattle.mt_verify.proofs.Prelude.{sym, ◌∙◌, subst, HasStopped}
 use Rattle.mt_verify.proofs.Stopping.{stop_here, pass_more, stopped_all, stopped_wrong}
 use Rattle.mt_verify.proofs.stops.Stops.pass.Goals as goal
 

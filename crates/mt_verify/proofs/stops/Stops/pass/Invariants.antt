@@ -1,4 +1,4 @@
-use Rattle.std.proofs.Common.{◌-◌, length}
+use Rattle.mt_verify.proofs.Prelude.{◌-◌, length}
 use Rattle.mt_verify.proofs.Stopping.{PassesOn}
 use Rattle.mt_verify.proofs.stops.Stops.pass.Given as goal
 

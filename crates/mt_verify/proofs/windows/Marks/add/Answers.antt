@@ -1,4 +1,4 @@
-use Rattle.std.proofs.Common.{arith}
+use Rattle.mt_verify.proofs.Prelude.{arith}
 use Rattle.mt_verify.proofs.Gathered.{marked_one}
 use Rattle.mt_verify.proofs.windows.Marks.add.Goals as goal
 

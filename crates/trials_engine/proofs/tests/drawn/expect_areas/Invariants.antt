@@ -1,4 +1,4 @@
-use Rattle.std.proofs.Common.{◌≡◌, ◌+◌, ◌*◌}
+use Rattle.trials_engine.proofs.Prelude.{◌≡◌, ◌+◌, ◌*◌}
 use Rattle.trials_engine.proofs.tests.drawn.expect_areas.Given as goal
 
 abbrev pub invariant-loop : goal.invariant-loop

@@ -1,4 +1,4 @@
-use Rattle.std.proofs.Common.{◌≡◌, ◌+◌}
+use Rattle.trials_engine.proofs.Prelude.{◌≡◌, ◌+◌}
 use Rattle.trials_engine.proofs.tests.drawn.fill.Given as goal
 
 abbrev pub invariant-loop-n : goal.invariant-loop-n

@@ -1,4 +1,4 @@
-use Rattle.std.proofs.Common.{◌≡◌}
+use Rattle.trials_engine.proofs.Prelude.{◌≡◌}
 use Rattle.trials_engine.proofs.tests.replaced.played.Given as goal
 
 abbrev pub invariant-loop-call : goal.invariant-loop-call

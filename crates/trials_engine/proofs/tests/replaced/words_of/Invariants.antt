@@ -1,6 +1,4 @@
-use Rattle.std.proofs.Common.{◌≡◌}
-use Rattle.mt_rows.specs.Memory.{sheet_in}
-use Rattle.mt_rows.specs.Sheet.{OnlyReads}
+use Rattle.trials_engine.proofs.Prelude.{◌≡◌, sheet_in, OnlyReads}
 use Rattle.trials_engine.proofs.tests.replaced.words_of.Given as goal
 
 abbrev pub invariant-loop-n : goal.invariant-loop-n

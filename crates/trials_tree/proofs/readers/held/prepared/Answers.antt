@@ -1,6 +1,4 @@
-use Rattle.std.proofs.Common.{rules, ◌≡◌, ap, ◌∙◌, subst}
-use Rattle.mt_tree.specs.Trees.{IsPassOf}
-use Rattle.mt_tree.proofs.Lending.{still_of}
+use Rattle.trials_tree.proofs.Prelude.{rules, ◌≡◌, ap, ◌∙◌, subst, IsPassOf, still_of}
 use Rattle.trials_tree.proofs.readers.held.prepared.Goals as goal
 
 pub returns : goal.returns

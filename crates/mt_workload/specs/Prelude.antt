@@ -1,0 +1,14 @@
+-- What the definitions beside this file take from the toolchain and from the crates below, under one name. Declares nothing.
+pub use Rattle.mt_base.specs.declared.calls.Call.{Call}
+pub use Rattle.mt_base.specs.declared.calls.Call.TheVariants.{Alloc, Erase, Ralloc, Store}
+pub use Rattle.mt_base.specs.declared.calls.Query.TheVariants.{Find, Load}
+pub use Rattle.mt_base.specs.declared.replies.Reply.{Reply}
+pub use Rattle.mt_log.specs.declared.lines.Item.{Item}
+pub use Rattle.mt_log.specs.declared.lines.Item.TheVariants.{Ask, Lane, Scan, Tree, Write}
+pub use Rattle.mt_log.specs.declared.lines.Line.{Line}
+pub use Rattle.mt_log.specs.declared.lines.Log.{Log}
+pub use Rattle.mt_log.specs.declared.transcripts.Answer.{Answer}
+pub use Rattle.mt_log.specs.declared.transcripts.Entry.{Entry}
+pub use Rattle.mt_log.specs.declared.transcripts.Said.{Said}
+pub use Rattle.mt_log.specs.declared.transcripts.Said.TheVariants.{Copied, Got, Lawful, Wrote}
+pub use Rattle.mt_log.specs.declared.transcripts.Transcript.{Transcript}
