@@ -83,7 +83,7 @@ fn picture(alloc: Global, tree: &DrawnTree) -> Result<String, AllocError> {
 /// The tree whose image these bytes are.
 fn read_tree(alloc: Global, bytes: &[u8]) -> Result<DrawnTree, DrawFailure>
     ensures tree { IfOk result (λ tree. IsTreeIn bytes.now tree) }
-    ensures no_image { (error : ImageError) → result ≡ Err (Failure.NoImage error) → image_in bytes.now ≡ Err error }
+    ensures no_image { (error : ImageError) → result ≡ Err (DrawFailure.NoImage error) → image_in bytes.now ≡ Err error }
 {
     let (kind, rows) = read_image(alloc, bytes)?;
     Ok(DrawnTree::of(alloc, kind, rows)?)
@@ -91,7 +91,7 @@ fn read_tree(alloc: Global, bytes: &[u8]) -> Result<DrawnTree, DrawFailure>
 
 /// What is written of a tree.
 fn text_of(alloc: Global, form: PictureForm, tree: &DrawnTree) -> Result<String, AllocError>
-    ensures { form ≡ Form.Text → IfOk result (λ text. string_bytes text ≡ tree_text tree.now) }
+    ensures { form ≡ PictureForm.Text → IfOk result (λ text. string_bytes text ≡ tree_text tree.now) }
 {
     match form {
         PictureForm::Help => String::from_str(alloc, HELP),
@@ -110,7 +110,7 @@ fn text_of(alloc: Global, form: PictureForm, tree: &DrawnTree) -> Result<String,
 /// What is written of the tree whose image these bytes are.
 fn drawn(alloc: Global, form: PictureForm, bytes: &[u8]) -> Result<String, DrawFailure>
     ensures drawn { IfOk result (λ text. IsPicture form bytes.now (string_bytes text)) }
-    ensures no_image { (error : ImageError) → result ≡ Err (Failure.NoImage error) → image_in bytes.now ≡ Err error }
+    ensures no_image { (error : ImageError) → result ≡ Err (DrawFailure.NoImage error) → image_in bytes.now ≡ Err error }
 {
     let tree = read_tree(alloc, bytes)?;
     Ok(text_of(alloc, form, &tree)?)
