@@ -3,6 +3,7 @@
 ghost use Rattle.std.specs.Prelude.{◌≡◌, None};
 ghost use Rattle.mt_tree.specs.Trees.{IsPassOf};
 ghost use Rattle.mt_c.specs.Bounded as defined;
+ghost use Rattle.mt_list.specs.Places as places;
 ghost use Rattle.mt_c.specs.Bounded.{SharedSteppedTo, SteppedTo, StepsTo};
 ghost use Rattle.mt_c.specs.Users.{common_of, user_tree};
 
@@ -19,7 +20,7 @@ use std::alloc::Global;
 
 /// The range, where it begins at `max` or below.
 fn up_to(found: Option<Range>, max: u64) -> Option<Range>
-    ensures { result ≡ defined.up_to max found }
+    ensures { result ≡ places.up_to max found }
 {
     match found {
         Some(range) if range.first <= max => Some(range),

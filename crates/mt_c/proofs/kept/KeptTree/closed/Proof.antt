@@ -19,8 +19,8 @@ use types.Part.{agg}
 use denote.Triple.Walked.{Stays, walk_of}
 use denote.Steps.{nothing}
 use Rattle.mt_c.specs.contracts.kept.KeptTree.closed as f
-use Rattle.mt_c.proofs.kept.KeptTreeTree.closed.Statement.{statement}
-use Rattle.mt_c.proofs.kept.KeptTreeTree.closed.Code as code
+use Rattle.mt_c.proofs.kept.KeptTree.closed.Statement.{statement}
+use Rattle.mt_c.proofs.kept.KeptTree.closed.Code as code
 
 abbrev stayed : Stays f.ended.signature.params f.ended.kept
 stayed = tt

@@ -31,8 +31,8 @@ use Rattle.mt_c.specs.contracts.own_tree.OwnTree as words
 use Rattle.mt_c.proofs.own_tree.OwnTree.TheLaws as words_laws
 use Rattle.mt_c.specs.contracts.kept.KeptTree as own
 use Rattle.mt_c.specs.contracts.kept.KeptTree.of_parts as f
-use Rattle.mt_c.proofs.kept.KeptTreeTree.of_parts.Statement.{statement}
-use Rattle.mt_c.proofs.kept.KeptTreeTree.of_parts.Code as code
+use Rattle.mt_c.proofs.kept.KeptTree.of_parts.Statement.{statement}
+use Rattle.mt_c.proofs.kept.KeptTree.of_parts.Code as code
 
 abbrev E : Bx
 E = record { row = words.the_row; laws = words_laws.the_row_laws; al = record { row = heap.the_row; laws = heap_laws.the_row_laws; g = ghosts; d = dict; drops = impl [] tnil dnil } }

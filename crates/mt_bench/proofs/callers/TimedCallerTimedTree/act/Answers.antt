@@ -1,5 +1,5 @@
 use Rattle.mt_bench.proofs.Prelude.{sym, still_of}
-use Rattle.mt_bench.proofs.callers.TimedCallerTree.act.Goals as goal
+use Rattle.mt_bench.proofs.callers.TimedCallerTimedTree.act.Goals as goal
 
 pub act-requires : goal.act-requires
 act-requires g c = still_of _ _ _ (sym c.deref.ensures) c.args.self.now.of

@@ -1,5 +1,5 @@
 use Rattle.mt_bench.proofs.Prelude.{sym, still_of}
-use Rattle.mt_bench.proofs.callers.TimedCallerTree.visit.Goals as goal
+use Rattle.mt_bench.proofs.callers.TimedCallerTimedTree.visit.Goals as goal
 
 pub visit_counted-requires-clause-of : goal.visit_counted-requires-clause-of
 visit_counted-requires-clause-of g c = still_of _ _ _ (sym c.deref.ensures) c.args.self.now.of

@@ -1,5 +1,5 @@
 use Rattle.mt_bench.proofs.Prelude.{sym, still_of}
-use Rattle.mt_bench.proofs.callers.TimedCallerTree.load.Goals as goal
+use Rattle.mt_bench.proofs.callers.TimedCallerTimedTree.load.Goals as goal
 
 pub load_counted-requires-clause-of : goal.load_counted-requires-clause-of
 load_counted-requires-clause-of g c = still_of _ _ _ (sym c.deref.ensures) c.args.self.now.of

@@ -1,4 +1,4 @@
-use Rattle.mt_bench.proofs.callers.TimedCallerTree.load.Given as goal
+use Rattle.mt_bench.proofs.callers.TimedCallerTimedTree.load.Given as goal
 
 abbrev pub ghosts-load_counted : goal.ghosts-load_counted
 ghosts-load_counted g a = record { name = a.blank.name; parts = a.blank.parts }

@@ -1,4 +1,4 @@
-use Rattle.mt_bench.proofs.callers.TimedCallerTree.visit.Given as goal
+use Rattle.mt_bench.proofs.callers.TimedCallerTimedTree.visit.Given as goal
 
 abbrev pub ghosts-visit_counted : goal.ghosts-visit_counted
 ghosts-visit_counted g a = record { name = a.blank.name; parts = a.blank.parts }
