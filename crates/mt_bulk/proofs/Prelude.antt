@@ -12,7 +12,6 @@ pub use Rattle.mt_base.proofs.Lists.{all_back, all_front, all_map}
 pub use Rattle.mt_base.specs.Map.{IsMap, IsMapFrom}
 pub use Rattle.mt_base.specs.Width.{deepest, greatest}
 pub use Rattle.mt_base.specs.declared.widths.Width.TheVariants.{Long, Short}
-pub use Rattle.mt_lanes.specs.Lanes.{CanRun, Chain, EachPlace, RanSteps}
 pub use Rattle.mt_layout.proofs.NameLaws.{named_kind-name_at, row_in-name_at}
 pub use Rattle.mt_layout.proofs.OwnColumns.{same_items}
 pub use Rattle.mt_layout.proofs.ReadBack.{reads_back, row_words-hold}
@@ -46,3 +45,4 @@ pub use Rattle.mt_bulk.specs.declared.desks.LeafDesk.{LeafDesk}
 pub use Rattle.mt_bulk.specs.declared.errors.BulkError.{BulkError}
 pub use Rattle.mt_bulk.specs.declared.leaves.Leaves.{Leaves}
 pub use Rattle.mt_bulk.specs.declared.levels.Level.{Level}
+pub use Rattle.mt_lanes.specs.Lanes.{CanRun, Chain, EachPlace, RanSteps}

@@ -5,7 +5,6 @@ pub use Rattle.mt_base.specs.Width.{columns, first_row, greatest_of, kind_width,
 pub use Rattle.mt_base.specs.declared.kinds.Kind.{Kind}
 pub use Rattle.mt_base.specs.declared.ranges.Range.{Range}
 pub use Rattle.mt_base.specs.declared.widths.Width.{Width}
-pub use Rattle.mt_lanes.specs.declared.lanes.Lane.{Lane}
 pub use Rattle.mt_layout.specs.Columns.{FitRow, NoGaps, RiseFrom, end_of, longest_hole, row_words}
 pub use Rattle.mt_layout.specs.Rows.{name_at, parent_at}
 pub use Rattle.mt_layout.specs.Sizes.{gaps_of, slots_of}
@@ -19,3 +18,4 @@ pub use Rattle.mt_rows.specs.Plain.{new_sheet}
 pub use Rattle.mt_rows.specs.Publish.{IsLawfulOf, map_by}
 pub use Rattle.mt_rows.specs.Sheet.{Sheet}
 pub use Rattle.mt_rows.specs.Spans.{inner_kind, inner_of}
+pub use Rattle.mt_lanes.specs.declared.lanes.Lane.{Lane}

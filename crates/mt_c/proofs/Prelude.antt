@@ -25,16 +25,12 @@ pub use Rattle.mt_base.specs.History.{History}
 pub use Rattle.mt_base.specs.Nodes.{IsShort, Limits}
 pub use Rattle.mt_base.specs.declared.calls.Call.TheVariants.{StorePre}
 pub use Rattle.mt_base.specs.declared.widths.Width.{Width}
-pub use Rattle.mt_verify.proofs.Tellings.{reads_are_points}
-pub use Rattle.mt_verify.specs.Points.{AreLeastPoints, IsVerdict}
-pub use Rattle.mt_verify.specs.declared.verdicts.Verdict.{Verdict}
-pub use Rattle.mt_verify.specs.declared.verdicts.Verdict.TheVariants.{No, Yes}
-pub use Rattle.mt_free.proofs.Books.{new_is_book}
-pub use Rattle.mt_free.specs.Book.{Book, live_count}
 pub use Rattle.mt_rows.specs.Memory.{sheet_in}
 pub use Rattle.mt_rows.specs.Publish.{with_published}
 pub use Rattle.mt_rows.specs.Sheet.{Sheet}
 pub use Rattle.mt_rows.specs.declared.rows.Place.TheVariants.{Root}
+pub use Rattle.mt_free.proofs.Books.{new_is_book}
+pub use Rattle.mt_free.specs.Book.{Book, live_count}
 pub use Rattle.mt_check.proofs.Forms.{form_by}
 pub use Rattle.mt_check.specs.Check.{checked}
 pub use Rattle.mt_check.specs.declared.faults.Fault.{Fault}
@@ -53,6 +49,10 @@ pub use Rattle.mt_tree.proofs.Forms.{high_as, live_as, reads_through}
 pub use Rattle.mt_tree.specs.Copies.{IsLiveCounted, IsReadyToOpen}
 pub use Rattle.mt_tree.specs.Trees.{IsNew, TriesOnce}
 pub use Rattle.mt_tree.specs.declared.shapes.MakeError.{MakeError}
+pub use Rattle.mt_verify.proofs.Tellings.{reads_are_points}
+pub use Rattle.mt_verify.specs.Points.{AreLeastPoints, IsVerdict}
+pub use Rattle.mt_verify.specs.declared.verdicts.Verdict.{Verdict}
+pub use Rattle.mt_verify.specs.declared.verdicts.Verdict.TheVariants.{No, Yes}
 pub use Rattle.mt_c.specs.Batch.{IsBufferShort, IsNoRun, IsTextOfRun, IsVerified, WritesText}
 pub use Rattle.mt_c.specs.Bounded.{IsLeftTo, SharedSteppedTo, SteppedTo, StepsTo, place_to}
 pub use Rattle.mt_c.specs.Building.{Builds, IsOfRanges, LacksAnyhow, LacksOf, LacksRanges, why_of}

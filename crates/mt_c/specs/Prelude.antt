@@ -9,17 +9,10 @@ pub use Rattle.mt_base.specs.declared.ranges.Range.{Range}
 pub use Rattle.mt_base.specs.declared.replies.Holder.{Holder}
 pub use Rattle.mt_base.specs.declared.replies.Reply.{Reply}
 pub use Rattle.mt_base.specs.declared.replies.Shortage.{Shortage}
-pub use Rattle.mt_log.specs.Reading.{log_of}
-pub use Rattle.mt_log.specs.Run.{IsRun, TellsRun}
-pub use Rattle.mt_log.specs.Text.{text_of}
-pub use Rattle.mt_log.specs.declared.lines.Log.{Log}
-pub use Rattle.mt_log.specs.declared.transcripts.Transcript.{Transcript}
-pub use Rattle.mt_verify.specs.Tellings.{count_of_calls, reads_told}
-pub use Rattle.mt_list.specs.Places.{up_to}
-pub use Rattle.mt_free.specs.Book.{new_book}
 pub use Rattle.mt_rows.specs.Plain.{new_sheet}
 pub use Rattle.mt_rows.specs.Publish.{IsLawfulOf, map_by, tree_as}
 pub use Rattle.mt_rows.specs.Sheet.{OnlyReads, Rooted}
+pub use Rattle.mt_free.specs.Book.{new_book}
 pub use Rattle.mt_check.specs.Check.{form_of}
 pub use Rattle.mt_check.specs.declared.faults.Form.{Form}
 pub use Rattle.mt_image.specs.Bytes.{kind_code}
@@ -62,3 +55,10 @@ pub use Rattle.mt_tree.specs.declared.trees.Tree.{Tree}
 pub use Rattle.mt_keep.specs.Keeping.{cuts_of}
 pub use Rattle.mt_keep.specs.declared.keep.Given.{Given}
 pub use Rattle.mt_keep.specs.declared.keep.Sight.{Sight}
+pub use Rattle.mt_log.specs.Reading.{log_of}
+pub use Rattle.mt_log.specs.Run.{IsRun, TellsRun}
+pub use Rattle.mt_log.specs.Text.{text_of}
+pub use Rattle.mt_log.specs.declared.lines.Log.{Log}
+pub use Rattle.mt_log.specs.declared.transcripts.Transcript.{Transcript}
+pub use Rattle.mt_verify.specs.Tellings.{count_of_calls, reads_told}
+pub use Rattle.mt_list.specs.Places.{up_to}

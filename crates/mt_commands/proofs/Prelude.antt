@@ -27,12 +27,6 @@ pub use Rattle.mt_base.specs.declared.calls.Query.TheVariants.{Find, Load, Next,
 pub use Rattle.mt_base.specs.declared.replies.Reply.{Reply}
 pub use Rattle.mt_base.specs.declared.replies.Reply.TheVariants.{NoNodes}
 pub use Rattle.mt_base.specs.declared.replies.Shortage.{Shortage}
-pub use Rattle.mt_log.specs.Run.{Asked, find_at}
-pub use Rattle.mt_log.specs.declared.lines.Item.TheVariants.{Scan}
-pub use Rattle.mt_commands.specs.Only.{HasOnePass, IsFew, IsOnlyPass, found_in, turns_at}
-pub use Rattle.mt_commands.specs.Prelude.{Busy, Drawn, Draws, Erase, Found, Invalid, IsImageOf, IsMap, Kind, Number, Range, Rooted, Tree, Walk, Worn, acted, drawn, limit_of, map_by, map_seen, most_calls, most_rows, new_draws, opened, over, pass_in, passes_of, places, position_behind, steps_made}
-pub use Rattle.mt_commands.specs.Texts.{IsBulkImage, bulk_tree}
-pub use Rattle.mt_commands.specs.Turns.{Tally, Turns, draws_behind, map_behind, map_without, new_turns, no_tally, number_due, or_this, tallied, turn, turns}
 pub use Rattle.mt_rows.specs.Memory.{sheet_in}
 pub use Rattle.mt_rows.specs.Sheet.{Sheet}
 pub use Rattle.mt_image.proofs.FewReached.{few_reached}
@@ -40,8 +34,6 @@ pub use Rattle.mt_bulk.specs.Builds.{IsBuilt}
 pub use Rattle.mt_ids.proofs.FewRanges.{found_is_free, none_lacked, none_short, one_range_more}
 pub use Rattle.mt_ids.proofs.OneCall.{lies_in}
 pub use Rattle.mt_ids.specs.Draws.{IsDrawn, LacksCalls, calls_of, first_found, from_position, is_bad_draw, is_twofold}
-pub use Rattle.mt_desks.specs.Scans.{IsScanDone}
-pub use Rattle.mt_desks.specs.Walks.{HasWalkedOn, opened_at, place_after}
 pub use Rattle.mt_tree.proofs.Allocations.{has_called, map_next, none_held, seen_next, was_legal}
 pub use Rattle.mt_tree.proofs.Lending.{still_of}
 pub use Rattle.mt_tree.specs.Allocations.{allocation_of, is_alone}
@@ -51,4 +43,12 @@ pub use Rattle.mt_tree.specs.Shapes.{first_bad}
 pub use Rattle.mt_tree.specs.Trees.{IsNew, IsPassOf, IsWorn, NamesPass, Pass}
 pub use Rattle.mt_tree.specs.declared.shapes.Done.{Done}
 pub use Rattle.mt_tree.specs.declared.shapes.Shape.{Shape}
+pub use Rattle.mt_log.specs.Run.{Asked, find_at}
+pub use Rattle.mt_log.specs.declared.lines.Item.TheVariants.{Scan}
+pub use Rattle.mt_desks.specs.Scans.{IsScanDone}
+pub use Rattle.mt_desks.specs.Walks.{HasWalkedOn, opened_at, place_after}
 pub use Rattle.mt_replay.specs.Trees.{IsNewTree, calls_taken, fewest_rows, most_passes}
+pub use Rattle.mt_commands.specs.Only.{HasOnePass, IsFew, IsOnlyPass, found_in, turns_at}
+pub use Rattle.mt_commands.specs.Prelude.{Busy, Drawn, Draws, Erase, Found, Invalid, IsImageOf, IsMap, Kind, Number, Range, Rooted, Tree, Walk, Worn, acted, drawn, limit_of, map_by, map_seen, most_calls, most_rows, new_draws, opened, over, pass_in, passes_of, places, position_behind, steps_made}
+pub use Rattle.mt_commands.specs.Texts.{IsBulkImage, bulk_tree}
+pub use Rattle.mt_commands.specs.Turns.{Tally, Turns, draws_behind, map_behind, map_without, new_turns, no_tally, number_due, or_this, tallied, turn, turns}

@@ -12,8 +12,6 @@ pub use Rattle.std.specs.Vec.{vec_capacity, vec_len}
 pub use Rattle.mt_base.proofs.Goings.{begins_long}
 pub use Rattle.mt_base.proofs.Lists.{all_join}
 pub use Rattle.mt_base.specs.Passes.{Saw}
-pub use Rattle.mt_lanes.specs.Lanes.{CanRun, Chain, EachPlace}
-pub use Rattle.mt_lanes.specs.declared.lanes.Lane.{Lane}
 pub use Rattle.mt_log.specs.Phases.{AreInPlaceFrom, IsInPlace, phase_after, stepped_from}
 pub use Rattle.mt_log.specs.Run.{Called, Looked, Outcome, asked_from, is_answered, lane_of, place_within, step_of}
 pub use Rattle.mt_log.specs.Trees.{AreNamedFrom, Declared, IsReadable, count_after, declared_by, most_lanes, trees_from, trees_of}
@@ -30,6 +28,8 @@ pub use Rattle.mt_linearize.specs.Leads.{Does, Learns, by_lane_on}
 pub use Rattle.mt_linearize.specs.Lines.{lane_behind}
 pub use Rattle.mt_linearize.specs.Rooms.{AreDoneEach, asked_of_lane, lanes_of, rooms_behind, take_turns}
 pub use Rattle.mt_linearize.specs.Tracks.{Pairs, numbers_of}
+pub use Rattle.mt_lanes.specs.Lanes.{CanRun, Chain, EachPlace}
+pub use Rattle.mt_lanes.specs.declared.lanes.Lane.{Lane}
 pub use Rattle.mt_desks.specs.Dealing.{IsOnePhase, asked_of, counts_in, is_count, is_join, is_step, lanes_in, line_tree, lines_of_lane, room_for, room_of, steps_in}
 pub use Rattle.mt_desks.specs.Desks.{AreAnsweredUnless, AreLines, DeskDid, DeskState, IsDeskReady, IsDoneOn, IsDoneUnless, IsLineDone, IsManned, IsSomeWorn, LaneRan, SharedTree, StillManned, desk_of}
 pub use Rattle.mt_desks.specs.Passing.{AllHaveSwapped, HasSwapped}

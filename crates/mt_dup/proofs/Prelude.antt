@@ -14,7 +14,6 @@ pub use Rattle.mt_base.specs.Entry.{reserved}
 pub use Rattle.mt_base.specs.Width.{deepest, kind_width, most_rows}
 pub use Rattle.mt_base.specs.declared.kinds.Kind.{Kind}
 pub use Rattle.mt_base.specs.declared.widths.Width.{Width}
-pub use Rattle.mt_free.specs.Book.{Held, IsRowOf, held_rows, new_book, rows_down}
 pub use Rattle.mt_layout.proofs.NameLaws.{Names-named_kind, named_kind-name_at, row_in-name_at}
 pub use Rattle.mt_layout.proofs.Places.{place_within, row_within}
 pub use Rattle.mt_layout.proofs.Reading.{gap_at-none, gap_at-some}
@@ -48,6 +47,7 @@ pub use Rattle.mt_rows.specs.Spans.{base_of, inner_of, root_span, spans_by, span
 pub use Rattle.mt_rows.specs.Trees.{height_in, map_in, rows_of}
 pub use Rattle.mt_rows.specs.declared.rows.Life.{Life}
 pub use Rattle.mt_rows.specs.declared.rows.Place.TheVariants.{Root}
+pub use Rattle.mt_free.specs.Book.{Held, IsRowOf, held_rows, new_book, rows_down}
 pub use Rattle.mt_dup.specs.Copy.{AreInOrder, IsBookOfCopy, IsCopy, IsNewBut, IsRowCopy, slot_renamed, with_new_row}
 pub use Rattle.mt_dup.specs.Filling.{HasTaken, IsFilling, IsOpenCopy, IsOutside, IsWritten, next_row, rows_above}
 pub use Rattle.mt_dup.specs.Pairs.{HasOwn, IsWrittenAt}

@@ -24,14 +24,6 @@ pub use Rattle.mt_base.specs.Width.{deepest, greatest_of, kind_width}
 pub use Rattle.mt_base.specs.declared.calls.Query.TheVariants.{Load, Next, Prev, Rfind}
 pub use Rattle.mt_base.specs.declared.replies.Holder.{Holder}
 pub use Rattle.mt_base.specs.declared.replies.Reply.TheVariants.{NoNodes}
-pub use Rattle.mt_list.proofs.EraseAtPlace.{without_above}
-pub use Rattle.mt_list.proofs.HoldingAtPlace.{holding_at_place}
-pub use Rattle.mt_list.proofs.QueriesAtPlaces.{first_above_place, first_from_place, last_below_place, last_up_to_place}
-pub use Rattle.mt_list.proofs.StoreAtPlaces.{all_parts_above, no_part_below}
-pub use Rattle.mt_list.specs.Places.{down_to, up_to}
-pub use Rattle.mt_free.proofs.Books.{book, first_due, none_due, reclaim_leaves_book}
-pub use Rattle.mt_free.proofs.StillOut.{out_after_reclaim}
-pub use Rattle.mt_free.specs.Book.{IsBook, IsOut, IsRowOf, held_rows, new_book, rows_down, still_held}
 pub use Rattle.mt_layout.proofs.Places.{other_column, other_place}
 pub use Rattle.mt_layout.proofs.RowSizes.{few_slots_of, gap_within, slot_above, slot_within, some_columns, some_slots_of}
 pub use Rattle.mt_layout.proofs.SpanLists.{apart-append, fills_le, full_before_hole, full_behind_hole, length-spans_from}
@@ -63,6 +55,9 @@ pub use Rattle.mt_rows.specs.Spans.{Table, base_of, column, inner_of, root_span,
 pub use Rattle.mt_rows.specs.Trees.{by_kind, map_in, reached_in}
 pub use Rattle.mt_rows.specs.declared.rows.Life.TheVariants.{Draft, Live, New}
 pub use Rattle.mt_rows.specs.declared.rows.Scan.{Scan}
+pub use Rattle.mt_free.proofs.Books.{book, first_due, none_due, reclaim_leaves_book}
+pub use Rattle.mt_free.proofs.StillOut.{out_after_reclaim}
+pub use Rattle.mt_free.specs.Book.{IsBook, IsOut, IsRowOf, held_rows, new_book, rows_down, still_held}
 pub use Rattle.mt_path.proofs.HandleSteps.{slot_fits}
 pub use Rattle.mt_path.proofs.LeafSlots.{stands_in}
 pub use Rattle.mt_path.proofs.Loads.{loads_in-append, no_reads, reads_more, reads_up, rose_up}
@@ -105,3 +100,8 @@ pub use Rattle.mt_engine.specs.declared.range_walk.RangeWalk.{RangeWalk}
 pub use Rattle.mt_engine.specs.declared.store_by.StoreBy.{StoreBy}
 pub use Rattle.mt_engine.specs.declared.store_by.StoreBy.TheVariants.{NewRows, NoWord, OneWord}
 pub use Rattle.mt_engine.specs.declared.store_by.Write.{Write}
+pub use Rattle.mt_list.proofs.EraseAtPlace.{without_above}
+pub use Rattle.mt_list.proofs.HoldingAtPlace.{holding_at_place}
+pub use Rattle.mt_list.proofs.QueriesAtPlaces.{first_above_place, first_from_place, last_below_place, last_up_to_place}
+pub use Rattle.mt_list.proofs.StoreAtPlaces.{all_parts_above, no_part_below}
+pub use Rattle.mt_list.specs.Places.{down_to, up_to}

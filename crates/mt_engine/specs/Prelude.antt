@@ -12,8 +12,6 @@ pub use Rattle.mt_base.specs.declared.ranges.Range.{Range}
 pub use Rattle.mt_base.specs.declared.replies.Reply.{Reply}
 pub use Rattle.mt_base.specs.declared.replies.Shortage.{Shortage}
 pub use Rattle.mt_base.specs.declared.widths.Width.{Width}
-pub use Rattle.mt_list.specs.Places.{last_of, place_above, place_below}
-pub use Rattle.mt_free.specs.Book.{Book, Held, after_reclaim, live_count}
 pub use Rattle.mt_layout.specs.Columns.{slot_column}
 pub use Rattle.mt_layout.specs.Sizes.{slots_of}
 pub use Rattle.mt_layout.specs.declared.names.RowKind.TheVariants.{Gapped, Leaf}
@@ -26,6 +24,7 @@ pub use Rattle.mt_rows.specs.declared.rows.Life.{Life}
 pub use Rattle.mt_rows.specs.declared.rows.Life.TheVariants.{Dead}
 pub use Rattle.mt_rows.specs.declared.rows.Place.{Place}
 pub use Rattle.mt_rows.specs.declared.rows.Place.TheVariants.{Root, Slot}
+pub use Rattle.mt_free.specs.Book.{Book, Held, after_reclaim, live_count}
 pub use Rattle.mt_path.specs.Handles.{IsHandleOf, handle_in, leaf_in}
 pub use Rattle.mt_path.specs.Paths.{path_in, step_at}
 pub use Rattle.mt_path.specs.declared.handles.Handle.{Handle}
@@ -33,3 +32,4 @@ pub use Rattle.mt_path.specs.declared.paths.PathStep.{PathStep}
 pub use Rattle.mt_gap.specs.Mending.{OnlyWords}
 pub use Rattle.mt_splice.specs.Kept.{IsConsistent}
 pub use Rattle.mt_splice.specs.Splice.{HasParents, IsStoreBy}
+pub use Rattle.mt_list.specs.Places.{last_of, place_above, place_below}

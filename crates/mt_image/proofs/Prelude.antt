@@ -12,8 +12,6 @@ pub use Rattle.std.specs.Prelude.{IsOk, slice_index}
 pub use Rattle.std.specs.Str.{bytes_eq}
 pub use Rattle.mt_base.specs.declared.widths.Width.{Width}
 pub use Rattle.mt_base.specs.declared.widths.Width.TheVariants.{Long, Short}
-pub use Rattle.mt_free.proofs.Rows.{apart_are_few}
-pub use Rattle.mt_free.specs.Book.{Book}
 pub use Rattle.mt_layout.proofs.NameLaws.{Names-named_kind}
 pub use Rattle.mt_layout.proofs.RowSizes.{few_slots_of, layout_of, slot_within}
 pub use Rattle.mt_layout.proofs.RowWords.{get_or-padded, item_or, used, used-slot}
@@ -41,6 +39,8 @@ pub use Rattle.mt_rows.specs.Replacement.{root_of}
 pub use Rattle.mt_rows.specs.Sheet.{IsWhole, OnlyReads}
 pub use Rattle.mt_rows.specs.Spans.{Table, column, inner_of, root_span, spans_by, spans_in}
 pub use Rattle.mt_rows.specs.declared.rows.Place.TheVariants.{Root}
+pub use Rattle.mt_free.proofs.Rows.{apart_are_few}
+pub use Rattle.mt_free.specs.Book.{Book}
 pub use Rattle.mt_check.proofs.Complete.{complete}
 pub use Rattle.mt_check.proofs.Whole.{ok_lawful}
 pub use Rattle.mt_check.specs.Check.{first_or, form_of}

@@ -12,6 +12,10 @@ pub use Rattle.mt_base.specs.History.{History}
 pub use Rattle.mt_base.specs.Width.{most_rows}
 pub use Rattle.mt_base.specs.declared.kinds.Kind.{Kind}
 pub use Rattle.mt_base.specs.declared.ranges.Range.{Range}
+pub use Rattle.mt_bulk.specs.Builds.{refused_by}
+unfoldable pub use Rattle.mt_bulk.specs.Builds.{refusal}
+pub use Rattle.mt_bulk.specs.Bulk.{rows_in}
+pub use Rattle.mt_bulk.specs.Items.{is_misplaced, misplaced, misplaced_from}
 pub use Rattle.mt_log.specs.Phases.{phase_after}
 pub use Rattle.mt_log.specs.Run.{listings_of}
 pub use Rattle.mt_log.specs.Trees.{Declared, declared_by, tree_declared_by, trees_from}
@@ -33,7 +37,3 @@ pub use Rattle.mt_program.specs.Turns.{HasTurned, HaveTurned, IsBuiltBy, IsTurne
 pub use Rattle.mt_program.specs.Verdicts.{AreBytesRefused, AreBytesTaken, IsDue, IsToldOf, IsUnbuilt, IsUnbuiltAt, IsUnverified, RefusesBytes, TakesBytes}
 pub use Rattle.mt_program.specs.declared.failures.Failure.{Failure}
 pub use Rattle.mt_program.specs.declared.streams.ReadError.{ReadError}
-pub use Rattle.mt_bulk.specs.Builds.{refused_by}
-unfoldable pub use Rattle.mt_bulk.specs.Builds.{refusal}
-pub use Rattle.mt_bulk.specs.Bulk.{rows_in}
-pub use Rattle.mt_bulk.specs.Items.{is_misplaced, misplaced, misplaced_from}

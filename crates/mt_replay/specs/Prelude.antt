@@ -4,7 +4,7 @@ pub use Rattle.mt_base.specs.Passes.{IsSettled, Pass, Settled, new_pass, with_re
 pub use Rattle.mt_base.specs.Width.{most_rows}
 pub use Rattle.mt_base.specs.declared.kinds.Kind.{Kind}
 pub use Rattle.mt_base.specs.declared.ranges.Range.{Range}
-pub use Rattle.mt_lanes.specs.declared.lanes.Lane.{Lane}
+pub use Rattle.mt_image.specs.Images.{IsImageOfMap}
 pub use Rattle.mt_log.specs.Phases.{AreInPlaceFrom}
 pub use Rattle.mt_log.specs.Run.{AreDone, IsRun, Step, entry_of, lane_after, steps_of}
 pub use Rattle.mt_log.specs.Trees.{AreNamedFrom, most_lanes, renamed, trees_of}
@@ -22,7 +22,7 @@ pub use Rattle.mt_linearize.specs.Lines.{lane_behind, phase_behind}
 pub use Rattle.mt_linearize.specs.Phases.{Tracked, new_history, new_tracked}
 pub use Rattle.mt_linearize.specs.Rooms.{AreDoneEach, answers_joined, asked_of_lane, lanes_of, take_turns}
 pub use Rattle.mt_linearize.specs.Tracks.{Pairs, Ran}
-pub use Rattle.mt_image.specs.Images.{IsImageOfMap}
+pub use Rattle.mt_lanes.specs.declared.lanes.Lane.{Lane}
 pub use Rattle.mt_desks.specs.Dealing.{IsOnePhase, counts_in, is_join, is_step, lanes_in, lines_of_lane, room_of, steps_in}
 pub use Rattle.mt_desks.specs.Desks.{AreAnsweredUnless, AreLines, IsSomeWorn, SharedTree}
 pub use Rattle.mt_desks.specs.Phases.{AtEach}

@@ -15,10 +15,6 @@ pub use denote.Enum.Bare.{differs_false, same_false, same_true}
 pub use Rattle.mt_base.proofs.Lists.{all_back, all_front, all_join, all_map}
 pub use Rattle.mt_base.proofs.WidthBounds.{few_columns, greatest_fits}
 pub use Rattle.mt_base.specs.Width.{deepest, most_rows, most_taken}
-pub use Rattle.mt_free.proofs.Books.{book, retire_leaves_book, take_leaves_book}
-pub use Rattle.mt_free.proofs.Rows.{AreApart}
-pub use Rattle.mt_free.proofs.StillOut.{out_after_retire}
-pub use Rattle.mt_free.specs.Book.{held_rows, live_count, new_book, rows_down}
 pub use Rattle.mt_layout.proofs.Gapless.{no_gaps-cons}
 pub use Rattle.mt_layout.proofs.NameLaws.{Names-named_kind, named_kind-name_at, row_in-name_at}
 pub use Rattle.mt_layout.proofs.OwnColumns.{same_items}
@@ -60,6 +56,10 @@ pub use Rattle.mt_rows.specs.Replacement.{with_child, with_slot}
 pub use Rattle.mt_rows.specs.Sheet.{HasDied, MayTend, loaded, tended, with_word}
 pub use Rattle.mt_rows.specs.Spans.{inner_kind, row_spans, spans_by}
 pub use Rattle.mt_rows.specs.Trees.{map_in, reached_in}
+pub use Rattle.mt_free.proofs.Books.{book, retire_leaves_book, take_leaves_book}
+pub use Rattle.mt_free.proofs.Rows.{AreApart}
+pub use Rattle.mt_free.proofs.StillOut.{out_after_retire}
+pub use Rattle.mt_free.specs.Book.{held_rows, live_count, new_book, rows_down}
 pub use Rattle.mt_leaf.proofs.Counts.{stored_two, two_short, two_to_a_hole}
 pub use Rattle.mt_leaf.proofs.EditSteps.{after-items_below, item_stored, items_above-spans, items_below-spans}
 pub use Rattle.mt_leaf.proofs.Holes.{ends_joined, full_unless_hole, no_hole_ends}

@@ -8,7 +8,6 @@ pub use Rattle.mt_base.specs.declared.kinds.Kind.{Kind}
 pub use Rattle.mt_base.specs.declared.ranges.Range.{Range}
 pub use Rattle.mt_base.specs.declared.replies.Reply.{Reply}
 pub use Rattle.mt_base.specs.declared.widths.Width.{Width}
-pub use Rattle.mt_free.specs.Book.{Book, Held, IsBook, IsOut, IsRowOf, after_retire}
 pub use Rattle.mt_layout.specs.Columns.{RiseFrom, end_of, items_at, longest_hole, row_words, slot_column}
 pub use Rattle.mt_layout.specs.Rows.{IsRowNumber, dead_mark, name_at, named_row, parent_at, row_in}
 pub use Rattle.mt_layout.specs.Sizes.{gaps_of, least_items, slots_of}
@@ -29,6 +28,7 @@ pub use Rattle.mt_rows.specs.declared.rows.Life.{Life}
 pub use Rattle.mt_rows.specs.declared.rows.Life.TheVariants.{Dead, Draft, Live, New}
 pub use Rattle.mt_rows.specs.declared.rows.Place.{Place}
 pub use Rattle.mt_rows.specs.declared.rows.Place.TheVariants.{Root, Slot}
+pub use Rattle.mt_free.specs.Book.{Book, Held, IsBook, IsOut, IsRowOf, after_retire}
 pub use Rattle.mt_leaf.specs.Cuts.{IsCut}
 pub use Rattle.mt_leaf.specs.Edits.{edited, starting}
 pub use Rattle.mt_leaf.specs.Places.{with_joined}

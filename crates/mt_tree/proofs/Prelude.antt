@@ -27,8 +27,6 @@ pub use Rattle.mt_base.specs.Width.{columns, deepest, first_row}
 pub use Rattle.mt_base.specs.declared.calls.Call.TheVariants.{Alloc, StorePre}
 pub use Rattle.mt_base.specs.declared.replies.Reply.TheVariants.{NoNodes}
 pub use Rattle.mt_base.specs.declared.widths.Width.{Width}
-pub use Rattle.mt_free.proofs.Books.{new_is_book}
-pub use Rattle.mt_free.specs.Book.{Held, IsBook, live_count}
 pub use Rattle.mt_rows.specs.Levels.{one_if}
 pub use Rattle.mt_rows.specs.Memory.{sheet_in}
 pub use Rattle.mt_rows.specs.Plain.{new_sheet}
@@ -40,13 +38,14 @@ pub use Rattle.mt_rows.specs.declared.plain.PlainRows.{PlainRows}
 pub use Rattle.mt_rows.specs.declared.rows.Life.{Life}
 pub use Rattle.mt_rows.specs.declared.rows.Life.TheVariants.{Dead, Live, New}
 pub use Rattle.mt_rows.specs.declared.rows.Place.TheVariants.{Root}
+pub use Rattle.mt_free.proofs.Books.{new_is_book}
+pub use Rattle.mt_free.specs.Book.{Held, IsBook, live_count}
 pub use Rattle.mt_life.specs.declared.views.Extent.{Extent}
 pub use Rattle.mt_dup.proofs.NewTables.{new_long}
 pub use Rattle.mt_dup.specs.Copy.{IsBookOfCopy, IsNewBut}
 pub use Rattle.mt_image.proofs.FewReached.{few_reached}
 pub use Rattle.mt_image.proofs.ReadBack.{image_of_map}
 pub use Rattle.mt_image.specs.Images.{IsImageOfMap}
-pub use Rattle.mt_ids.specs.Allocation.{IsNextCall}
 pub use Rattle.mt_splice.proofs.LiveRows.{live_is_reached}
 pub use Rattle.mt_splice.specs.Kept.{IsBookOf, IsUnheld}
 pub use Rattle.mt_engine.proofs.FreshEngine.{fresh_is_idle}
@@ -66,6 +65,7 @@ pub use Rattle.mt_rule.specs.Tokens.{shape_opened, steps_made}
 pub use Rattle.mt_rule.specs.declared.views.PassPart.{PassPart}
 pub use Rattle.mt_pen.specs.Sheets.{HasSeenAll, sheet_told, shown_all, told_of}
 pub use Rattle.mt_pen.specs.Works.{OpensSmall}
+pub use Rattle.mt_ids.specs.Allocation.{IsNextCall}
 pub use Rattle.mt_tree.specs.Allocations.{allocation_of, is_alone, last_made}
 pub use Rattle.mt_tree.specs.Behind.{AreRowsOf, Behind, IsAtRest, IsOnlyRead, IsPenAtRest, IsReady, IsStoreReply, after_show, behind_lock, parts_of}
 pub use Rattle.mt_tree.specs.Calls.{HasCalled}

@@ -12,17 +12,16 @@ pub use Rattle.mt_base.specs.declared.ranges.Range.{Range}
 pub use Rattle.mt_base.specs.declared.replies.Holder.{Holder}
 pub use Rattle.mt_base.specs.declared.replies.Reply.{Reply}
 pub use Rattle.mt_base.specs.declared.replies.Shortage.{Shortage}
-pub use Rattle.mt_free.specs.Book.{Book, after_reclaim, new_book}
 pub use Rattle.mt_layout.specs.Spans.{Apart, BeginsFull, EndsFull, Fills}
 pub use Rattle.mt_layout.specs.declared.spans.Span.{Span}
 pub use Rattle.mt_rows.specs.Publish.{IsLawfulOf, IsRealShortage, map_by, tree_as}
 pub use Rattle.mt_rows.specs.Sheet.{Rooted, Sheet, Told}
 pub use Rattle.mt_rows.specs.Trees.{reached_in}
 pub use Rattle.mt_rows.specs.declared.rows.Scan.{Scan}
+pub use Rattle.mt_free.specs.Book.{Book, after_reclaim, new_book}
 pub use Rattle.mt_check.specs.Check.{form_of}
 pub use Rattle.mt_check.specs.declared.faults.Form.{Form}
 pub use Rattle.mt_image.specs.Images.{IsImageOf}
-pub use Rattle.mt_ids.specs.Allocation.{Allocation, Made}
 pub use Rattle.mt_engine.specs.Engine.{IsIdle, Parts, TellsBook}
 pub use Rattle.mt_engine.specs.Heights.{HasHeight}
 pub use Rattle.mt_engine.specs.Rooms.{HasRoom}
@@ -38,7 +37,8 @@ pub use Rattle.mt_rule.specs.declared.views.Moment.{Moment}
 pub use Rattle.mt_rule.specs.declared.views.PenPart.{PenPart}
 pub use Rattle.mt_rule.specs.declared.views.Shape.{Shape}
 pub use Rattle.mt_rule.specs.declared.views.TurnView.{TurnView}
-pub use Rattle.mt_read.specs.Cursors.{HasStepped, IsCursorOf, IsOver, IsOverPlace, LeafWasMarked, MarksKeptLeaf, epoch_or, place_behind, query_at}
-pub use Rattle.mt_read.specs.declared.cursor.Cursor.{Cursor}
 pub use Rattle.mt_pen.specs.Sheets.{unscanned}
 pub use Rattle.mt_pen.specs.Writers.{no_table}
+pub use Rattle.mt_read.specs.Cursors.{HasStepped, IsCursorOf, IsOver, IsOverPlace, LeafWasMarked, MarksKeptLeaf, epoch_or, place_behind, query_at}
+pub use Rattle.mt_read.specs.declared.cursor.Cursor.{Cursor}
+pub use Rattle.mt_ids.specs.Allocation.{Allocation, Made}

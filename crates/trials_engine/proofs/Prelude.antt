@@ -3,8 +3,6 @@ pub use Rattle.std.proofs.Common.{List, [], ap, refl, subst, sym, ℕ, ◌*◌, 
 pub use Rattle.std.specs.Prelude.{Ok}
 pub use Rattle.mt_base.specs.declared.kinds.Kind.{Kind}
 pub use Rattle.mt_base.specs.declared.widths.Width.{Width}
-pub use Rattle.mt_free.proofs.Books.{new_is_book}
-pub use Rattle.mt_free.specs.Book.{Book}
 pub use Rattle.mt_rows.proofs.Loads.{same_tree}
 pub use Rattle.mt_rows.proofs.PlainMade.{lawful_tree}
 pub use Rattle.mt_rows.specs.Memory.{sheet_in}
@@ -12,6 +10,8 @@ pub use Rattle.mt_rows.specs.Plain.{new_sheet}
 pub use Rattle.mt_rows.specs.Publish.{IsLawfulOf, tree_as, with_published}
 pub use Rattle.mt_rows.specs.Sheet.{IsPlace, OnlyReads, Rooted, Sheet}
 pub use Rattle.mt_rows.specs.declared.rows.Place.TheVariants.{Root}
+pub use Rattle.mt_free.proofs.Books.{new_is_book}
+pub use Rattle.mt_free.specs.Book.{Book}
 pub use Rattle.mt_check.specs.Check.{checked, faults_in, first_or, form_of}
 pub use Rattle.mt_check.specs.declared.faults.Fault.{Fault}
 pub use Rattle.mt_check.specs.declared.faults.Form.{Form}

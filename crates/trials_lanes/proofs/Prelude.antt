@@ -5,8 +5,8 @@ pub use Rattle.std.specs.Global.{Global}
 pub use Rattle.std.specs.List.{AllByRecursion}
 pub use Rattle.std.specs.Vec.{vec_capacity, vec_len}
 pub use Rattle.mt_base.specs.Passes.{new_pass}
+pub use Rattle.mt_tree.specs.Trees.{IsPassOf, Pass, pass_in}
 pub use Rattle.mt_lanes.specs.declared.lanes.Lane.{Lane}
-pub use Rattle.mt_commands.specs.declared.trees.LaneTree.{LaneTree}
 pub use Rattle.mt_desks.specs.Phases.{AtEach, CanPass, IsLaid}
 pub use Rattle.mt_desks.specs.declared.desks.LaneDesk.{LaneDesk}
-pub use Rattle.mt_tree.specs.Trees.{IsPassOf, Pass, pass_in}
+pub use Rattle.mt_commands.specs.declared.trees.LaneTree.{LaneTree}
