@@ -1,5 +1,5 @@
 -- What stands in a row of an extent, by its pivots and slots alone.
-use Rattle.mt_life.proofs.Prelude.{◌≡◌, ℕ, zero, suc, ◌+◌, ◌*◌, ◌<◌, List, [], ◌∷◌, ap, subst, sym, refl, Some, Option, arith, nat_le, inl, inr, slice_index, cases_Bool, Kind, Width, columns, greatest, RowKind, row_in, named_kind, slots_of, gaps_of, pivot_column, slot_column, items_from, Span, spans_from, Fills, Apart, EndsFull, slots_of-columns, Table, column, spans_by, spans_in, kind_at, Extent, extent_at, spans_at, Shape}
+use Rattle.mt_life.proofs.Prelude.{◌≡◌, ℕ, zero, suc, ◌+◌, ◌*◌, ◌<◌, ◌≤◌, ◌∙◌, List, [], ◌∷◌, length, ap, subst, sym, refl, Some, Option, arith, nat_le, inl, inr, slice_index, cases_Bool, Kind, Width, columns, greatest, RowKind, row_in, named_kind, slots_of, gaps_of, pivot_column, slot_column, items_from, Span, spans_from, Fills, Apart, EndsFull, slots_of-columns, Table, column, spans_by, spans_in, kind_at, Extent, extent_at, spans_at, Shape}
 
 -- a row that is named as one of its level has the spans of its extent
 pub spans_named : (kind : Kind) (t : Table) (level : ℕ) (x : Span) → named_kind x.word ≡ Some (kind_at kind level) → spans_at kind t (row_in x.word) (extent_at x level) ≡ spans_in t x
@@ -35,9 +35,12 @@ same_spans_at kind width width' w w' row e one =
     → spans_at kind (record { width = v; words = w' }) row e ≡ spans_at kind (record { width = width; words = w }) row e) (sym one)
     (λ same. let slots : ℕ = slots_of width (kind_at kind e.level) in from slots (gaps_of width (kind_at kind e.level)) (columns width * row) w w' same e.first e.last slots 0 (omega arith))
 
-pub shape_moves : (kind : Kind) (t t' : Table) (row : ℕ) (e : Extent) → t'.width ≡ t.width → spans_at kind t' row e ≡ spans_at kind t row e → Shape kind t row e → Shape kind t' row e
-shape_moves kind t t' row e width same shape = record {
+pub shape_moves : (kind : Kind) (t t' : Table) (row : ℕ) (e : Extent) → t'.width ≡ t.width → spans_at kind t' row e ≡ spans_at kind t row e → SameSlots t t' (kind_at kind e.level) row → Shape kind t row e → Shape kind t' row e
+shape_moves kind t t' row e width same slots shape = record {
   fills = subst (Fills e.first (e.last + 1)) (sym same) shape.fills;
   apart = λ leaf. subst Apart (sym same) (shape.apart leaf);
   ends = λ leaf low. subst EndsFull (sym same) (shape.ends leaf (subst (λ (w : Width). e.last < greatest w) width low));
+  unused = λ i inner behind.
+      let inner' : i + 1 < slots_of t.width (kind_at kind e.level) = subst (λ (w : Width). i + 1 < slots_of w (kind_at kind e.level)) width inner in
+      slots (pivot_column i) (omega arith) (omega arith) ∙ shape.unused i inner' (subst (λ (xs : List Span). length xs ≤ i) same behind);
 }

@@ -1,6 +1,6 @@
 -- A publishing store carries what is known of rows from before it to after it.
 use Rattle.mt_life.proofs.Prelude.{◌≡◌, ◌≢◌, ℕ, suc, ◌+◌, ◌-◌, ◌≤◌, List, true, false, sym, ap, ◌∙◌, subst, inl, inr, ⊎_elim, arith, cases_Bool, cases_eq, AllByRecursion, flat_map, Kind, Call, Reply, IsMap, kind_width, row_in, Span, leaf_range, Place, Live, Dead, Tree, Stands, kind_at, Rooted, Sheet, life_of, is_buried, tree_as, is_reached, IsReached, with_published, with_record, MayPublish, Published, StandsAt, all_map, stands_at, reached_times, reached_on_level, published_width, Extent, Moment, moment_of, PartOf, State, state_of, extent_at, spans_at, Later, IsLive, HasRow, HasPart, calls, Child, Shape, Known, HasExtentsOf}
-use Rattle.mt_life.proofs.Alike.{two_slots, same_spans_at, shape_moves}
+use Rattle.mt_life.proofs.Alike.{SameSlots, two_slots, same_spans_at, shape_moves}
 use Rattle.mt_life.proofs.Fitting.{placed}
 use Rattle.mt_life.proofs.Reaching.{PlaceOf, place_of, extent_reached, root_reached, map_here, shape_reached, leaf_reached, inner_reached}
 use Rattle.mt_life.proofs.Staying.{true_false, IsAt, others_stay, parents_stay, none_reached, place_stays}
@@ -91,11 +91,13 @@ module _ (kind : Kind) (s s' : Sheet) (place : Place) (word : ℕ) (call : Call)
         (later_cases 0 (life_of s.lives row) later)
   ]
 
-  spans_stay : (row : ℕ) (e : Extent) → is_reached t' row ≡ false → spans_at kind t'.table row e ≡ spans_at kind s.tree.table row e
-  spans_stay row e not =
+  slots_stay : (row : ℕ) (e : Extent) → is_reached t' row ≡ false → SameSlots s.tree.table t'.table (kind_at kind e.level) row
+  slots_stay row e not =
       let off : IsAt place row → ⊥ = λ at. true_false (is_reached t' row) (place_stays kind s place word row may.at may.live may.tree.words may.after at) not in
-      same_spans_at kind s.tree.table.width t'.table.width s.tree.table.words t'.table.words row e (published_width s.tree place word)
-      (λ c above low. others_stay s place word row c may.at off (two_slots s.tree.table.width (kind_at kind e.level) c low))
+      λ c above low. others_stay s place word row c may.at off (two_slots s.tree.table.width (kind_at kind e.level) c low)
+
+  spans_stay : (row : ℕ) (e : Extent) → is_reached t' row ≡ false → spans_at kind t'.table row e ≡ spans_at kind s.tree.table row e
+  spans_stay row e not = same_spans_at kind s.tree.table.width t'.table.width s.tree.table.words t'.table.words row e (published_width s.tree place word) (slots_stay row e not)
 
   leaf_stays : (row k : ℕ) → is_reached t' row ≡ false → k ≤ s.ended → HasPart kind s.tree.table row (before row) (m k) → HasPart kind t'.table row (after row) (m' k)
   leaf_stays row k not le leaf =
@@ -143,7 +145,7 @@ module _ (kind : Kind) (s s' : Sheet) (place : Place) (word : ℕ) (call : Call)
       (λ (old : life_of s.lives row ≡ Dead dead.0). subst (Later 0) (sym old) (omega arith))
       (λ (dies : Died row dead.0). subst (Later 0) (sym dies.0) tt) was.1 in
       subst (Shape kind t'.table row) (sym (follows.others row was.0))
-      (shape_moves kind s.tree.table t'.table row (before row) (published_width s.tree place word) (spans_stay row (before row) was.0) (known.shape row has later_before)))
+      (shape_moves kind s.tree.table t'.table row (before row) (published_width s.tree place word) (spans_stay row (before row) was.0) (slots_stay row (before row) was.0) (known.shape row has later_before)))
       (later_cases 0 (life_of s'.lives row) later)
 
   wide_after : t'.table.width ≡ kind_width kind

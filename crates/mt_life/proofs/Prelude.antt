@@ -16,12 +16,14 @@ pub use Rattle.mt_base.specs.declared.replies.Reply.{Reply}
 pub use Rattle.mt_base.specs.declared.widths.Width.{Width}
 pub use Rattle.mt_layout.proofs.Places.{other_column, other_place, place_within}
 pub use Rattle.mt_layout.proofs.Reading.{few_items}
-pub use Rattle.mt_layout.proofs.RowSizes.{few_slots_of, gap_above, slot_above, slots_of-columns, some_columns}
+pub use Rattle.mt_layout.proofs.RowSizes.{few_slots_of, gap_above, layout_of, slot_above, slots_of-columns, some_columns}
+pub use Rattle.mt_layout.proofs.RowWords.{get_or-padded, item_or, used, used-pivot}
 pub use Rattle.mt_layout.proofs.SpanLists.{length-spans_from}
 pub use Rattle.mt_layout.specs.Columns.{gap_column, items_at, items_from, pivot_column, slot_column}
 pub use Rattle.mt_layout.specs.Rows.{dead_mark, named_kind, parent_at, row_in}
 pub use Rattle.mt_layout.specs.Sizes.{gaps_of, slots_of}
 pub use Rattle.mt_layout.specs.Spans.{Apart, EndsFull, Fills, leaf_range, spans_from}
+pub use Rattle.mt_layout.specs.declared.items.Item.{Item}
 pub use Rattle.mt_layout.specs.declared.names.RowKind.{RowKind}
 pub use Rattle.mt_layout.specs.declared.names.RowKind.TheVariants.{Gapped}
 pub use Rattle.mt_layout.specs.declared.spans.Span.{Span}

@@ -1,5 +1,5 @@
 -- What is known of the rows of a tree that are reached.
-use Rattle.mt_life.proofs.Prelude.{◌≡◌, ◌≢◌, ℕ, zero, suc, ◌+◌, ◌<◌, List, refl, sym, ap, ◌∙◌, subst, inl, ⊎_elim, arith, AllByRecursion, flat_map, Kind, IsMap, deepest, kind_width, row_in, Span, leaf_range, Fills, Apart, EndsFull, Life, Live, spans_in, root_span, map_in, Tree, IsTree, Stands, IsRow, Rooted, life_of, tree_as, is_reached, IsReached, StandsAt, map_by, root_of, all_map, tree_map, OnLevel, stands_at, on_level_law, on_level_reached, reached_times, times_reached, reached_on_level, reached_number, Extent, Moment, moment_of, PartOf, extent_at, spans_at, IsLive, HasRow, HasPart, Child, Shape}
+use Rattle.mt_life.proofs.Prelude.{◌≡◌, ◌≢◌, ℕ, zero, suc, ◌+◌, ◌-◌, ◌<◌, ◌≤◌, List, [], ◌∷◌, length, refl, sym, ap, ◌∙◌, subst, inl, ⊎_elim, arith, AllByRecursion, flat_map, Kind, IsMap, columns, deepest, kind_width, Item, pivot_column, items_at, slots_of, gaps_of, few_items, layout_of, slots_of-columns, item_or, get_or-padded, used, used-pivot, length-spans_from, kind_at, row_in, Span, leaf_range, Fills, Apart, EndsFull, Life, Live, spans_in, root_span, base_of, column, map_in, Tree, IsTree, Stands, IsRow, Rooted, life_of, tree_as, is_reached, IsReached, StandsAt, map_by, root_of, all_map, tree_map, OnLevel, stands_at, on_level_law, on_level_reached, reached_times, times_reached, reached_on_level, reached_number, Extent, Moment, moment_of, PartOf, extent_at, spans_at, IsLive, HasRow, HasPart, Child, Shape}
 use Rattle.mt_life.proofs.Alike.{spans_named}
 use Rattle.mt_life.proofs.Parts.{leaf_part, children_stand}
 use Rattle.mt_life.proofs.Staying.{true_false, none_reached}
@@ -9,17 +9,41 @@ use Rattle.mt_life.proofs.Staying.{true_false, none_reached}
 spans_here : (kind : Kind) (t : Rooted) (k : ℕ) (x : Span) → IsRow (tree_as kind t) k x → spans_at kind t.table (row_in x.word) (extent_at x k) ≡ spans_in t.table x
 spans_here kind t k x row = spans_named kind t.table k x row.name.named
 
+none_past : (items : List Item) (k : ℕ) → length items ≤ k → (item_or items k).last ≡ 0
+none_past [] k high = refl
+none_past (x ∷ items) zero high = absurd (omega arith)
+none_past (x ∷ items) (suc k) high = none_past items k (omega arith)
+
+-- a pivot behind what stands in it is 0
+unused_here : (kind : Kind) (t : Rooted) (k : ℕ) (x : Span) → IsRow (tree_as kind t) k x → (i : ℕ) → i + 1 < slots_of t.table.width (kind_at kind k)
+    → length (spans_at kind t.table (row_in x.word) (extent_at x k)) ≤ i → column t.table (row_in x.word) (pivot_column i) ≡ 0
+unused_here kind t k x row i inner behind =
+    let width = t.table.width in
+    let form = kind_at kind k in
+    let slots = slots_of width form in
+    let gaps = gaps_of width form in
+    let base = base_of t.table (row_in x.word) in
+    let parent = column t.table (row_in x.word) 0 in
+    let items : List Item = items_at slots gaps t.table.words base x.last in
+    let fit = few_items slots gaps t.table.words base x.last slots 0 in
+    let long = length-spans_from x.first items in
+    let words = used (columns width) slots gaps parent items (layout_of width form) fit in
+    row.pivots.unused (1 + i) (omega (arith, slots_of-columns width form))
+    ∙ (get_or-padded words (columns width - length words) (1 + i) ∙ (used-pivot (columns width) slots gaps parent items (layout_of width form) fit i inner ∙ none_past items i (omega (arith, long, behind))))
+
 -- a row that stands in a tree has the shape of its extent
 pub shape_here : (kind : Kind) (t : Rooted) (k : ℕ) (x : Span) → IsRow (tree_as kind t) k x → Shape kind t.table (row_in x.word) (extent_at x k)
 shape_here kind t zero x row = let same = sym (spans_here kind t zero x row) in record {
   fills = subst (Fills x.first (x.last + 1)) same row.pivots.fills;
   apart = λ _. subst Apart same row.holes.apart;
   ends = λ _ low. subst EndsFull same (row.holes.ends low);
+  unused = unused_here kind t zero x row;
 }
 shape_here kind t (suc k) x row = let same = sym (spans_here kind t (suc k) x row) in record {
   fills = subst (Fills x.first (x.last + 1)) same row.pivots.fills;
   apart = λ none. absurd (omega arith);
   ends = λ none _. absurd (omega arith);
+  unused = unused_here kind t (suc k) x row;
 }
 
 pub map_here : (kind : Kind) (t : Rooted) → t.table.width ≡ kind_width kind → IsTree (tree_as kind t) → IsMap kind (map_by t)

@@ -109,7 +109,7 @@ module _ (kind : Kind) (s : State) (e : ℕ → Extent) (m : ℕ → Moment) (kn
       current = known.current ∙ map_kept;
       maps = known.maps;
       root = λ some. let root = known.root some in (root.0, root.1, live_child root.0 (root_span s.tree.table s.tree.root) root.2);
-      shape = λ row has later. shape_moves kind s.tree.table u.tree.table row (e row) refl (spans_stay row has later) (known.shape row has (subst (Later 0) (sym (was row (life_of lives row) has refl later)) later));
+      shape = λ row has later. shape_moves kind s.tree.table u.tree.table row (e row) refl (spans_stay row has later) (leaves.slots row has later) (known.shape row has (subst (Later 0) (sym (was row (life_of lives row) has refl later)) later));
       dead = λ row d has dead. known.dead row d has (was row (Dead d) has dead (omega arith));
       marks = λ row d has dead waits. let before = was row (Dead d) has dead (omega arith) in leaves.frozen row d 0 has before waits (some_columns s.tree.table.width) ∙ known.marks row d has before waits;
       buried = leaves.buried;

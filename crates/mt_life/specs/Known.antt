@@ -7,6 +7,7 @@ use Rattle.mt_base.specs.Map.{IsMap}
 use Rattle.mt_base.specs.Width.{kind_width, columns, greatest, deepest, first_row}
 use Rattle.mt_layout.specs.declared.names.RowKind.{RowKind}
 use Rattle.mt_layout.specs.Rows.{row_in, named_kind, dead_mark}
+use Rattle.mt_layout.specs.Columns.{pivot_column}
 use Rattle.mt_layout.specs.Sizes.{slots_of}
 use Rattle.mt_layout.specs.declared.spans.Span.{Span}
 use Rattle.mt_layout.specs.Spans.{leaf_range, Fills, Apart, EndsFull}
@@ -41,11 +42,12 @@ spans_at kind t row e = row_spans t row (kind_at kind e.level) e.first e.last
 abbrev pub HasRow : ℕ → ℕ → Type 0
 HasRow rows row = (first_row ≤ row) × (row < first_row + rows)
 
--- The spans fill the extent, and a leaf's holes stand apart and do not end it below the greatest index.
+-- The spans fill the extent, and a leaf's holes stand apart and do not end it below the greatest index. A pivot behind the spans is 0.
 pub record Shape (kind : Kind) (t : Table) (row : ℕ) (e : Extent) : Type 0 where
   pub fills : Fills e.first (e.last + 1) (spans_at kind t row e)
   pub apart : e.level ≡ 0 → Apart (spans_at kind t row e)
   pub ends : e.level ≡ 0 → e.last < greatest t.width → EndsFull (spans_at kind t row e)
+  pub unused : (i : ℕ) → i + 1 < slots_of t.width (kind_at kind e.level) → length (spans_at kind t row e) ≤ i → column t row (pivot_column i) ≡ 0
 
 -- the leaf has what the map had there at the moment
 abbrev pub HasPart : Kind → Table → ℕ → Extent → Moment → Type 0

@@ -1,7 +1,8 @@
 -- What is known in a walk before it enters a row, and what it leaves: its steps so far, and how many words were loaded.
-use Rattle.mt_path.proofs.Prelude.{◌≡◌, ◌≢◌, ℕ, ◌+◌, ◌-◌, ◌<◌, ◌≤◌, List, [], ◌∷◌, ◌++◌, Some, length, take, refl, sym, ap, ◌∙◌, subst, arith, IsSome, length_push, take_more, take_all, Kind, greatest, deepest, RowKind, Leaf, Span, named_kind, IsTreeOf, Rooted, Sheet, IsPlace, loaded, ReadsUpTo, PathStep, Row, Found, handle_in, path_in, step_at, no_step, loads_in, loads_on, row_for, found_span, IsFoundSlot, IsOnWay, IsAtEnd}
+use Rattle.mt_path.proofs.Prelude.{◌≡◌, ◌≢◌, ℕ, ◌+◌, ◌-◌, ◌<◌, ◌≤◌, List, [], ◌∷◌, ◌++◌, Some, length, take, refl, sym, ap, ◌∙◌, subst, arith, IsSome, length_push, take_more, take_all, Kind, greatest, deepest, RowKind, Leaf, Span, named_kind, IsTreeOf, Rooted, Sheet, IsPlace, loaded, ReadsUpTo, PathStep, Row, Found, handle_in, IsLawfulRow, path_in, step_at, no_step, loads_at, loads_in, loads_on, row_for, found_span, IsFoundSlot, IsOnWay, IsAtEnd}
 use Rattle.mt_path.proofs.Kept.{tree_kept}
 use Rattle.mt_path.proofs.Loads.{one_read, reads_more, reads_up, reads_next, loads_in-push, loads_in-some}
+use Rattle.mt_path.proofs.Middles.{lawful_row}
 use Rattle.mt_path.proofs.Ways as ways
 
 -- the steps so far are the front of the path, and the row is the next on it
@@ -30,15 +31,18 @@ module _ (s s' : Sheet) (kind : Kind) (tree : IsTreeOf s.tree kind) (index : ℕ
   pub reaches : index ≤ row.max
   reaches = ways.covers s.tree kind tree index within depth row way
 
-  module _ (found : Found) (at : IsFoundSlot s'.tree.table row index found) (s₁ : Sheet) (reads₁ : ReadsUpTo (found.step.slot + 1) s' s₁) where
+  pub may_seek : IsLawfulRow s'.tree.table row
+  may_seek = subst (λ (t : Rooted). IsLawfulRow t.table row) (sym same) (lawful_row s.tree kind tree index within depth row way)
+
+  module _ (found : Found) (at : IsFoundSlot s'.tree.table row index found) (s₁ : Sheet) (reads₁ : ReadsUpTo (loads_at found.step) s' s₁) where
     there : IsFoundSlot s.tree.table row index found
     there = subst (λ (t : Rooted). IsFoundSlot t.table row index found) same at
 
-    pub reads_row : ReadsUpTo (n + (found.step.slot + 1)) s s₁
-    reads_row = reads_more n (found.step.slot + 1) s s' s₁ reads reads₁
+    pub reads_row : ReadsUpTo (n + loads_at found.step) s s₁
+    reads_row = reads_more n (loads_at found.step) s s' s₁ reads reads₁
 
     same₁ : s₁.tree ≡ s.tree
-    same₁ = tree_kept (n + (found.step.slot + 1)) s s₁ reads_row
+    same₁ = tree_kept (n + loads_at found.step) s s₁ reads_row
 
     pub step_here : found.step ≡ step_at (path_in s.tree.table s.tree.root index) depth
     step_here = ways.step_is s.tree kind tree index within depth row way found there
@@ -58,12 +62,12 @@ module _ (s s' : Sheet) (kind : Kind) (tree : IsTreeOf s.tree kind) (index : ℕ
         let more : take (depth + 1) path ≡ take depth path ++ (step_at path depth ∷ []) = take_more path depth no_step low in
         (λ i. front i ++ (step_here i ∷ [])) ∙ (ap (λ (k : ℕ). take k path ++ (step_at path depth ∷ [])) long ∙ sym more)
 
-    pub loads_more : loads_in (take (depth + 1) (path_in s.tree.table s.tree.root index)) ≡ loads_in (take depth (path_in s.tree.table s.tree.root index)) + (found.step.slot + 2)
+    pub loads_more : loads_in (take (depth + 1) (path_in s.tree.table s.tree.root index)) ≡ loads_in (take depth (path_in s.tree.table s.tree.root index)) + (loads_at found.step + 1)
     loads_more =
         let path = path_in s.tree.table s.tree.root index in
         let low = way.low in
         let more : take (depth + 1) path ≡ take depth path ++ (step_at path depth ∷ []) = take_more path depth no_step low in
-        ap loads_in more ∙ (loads_in-push (take depth path) (step_at path depth) ∙ ap (λ (p : PathStep). loads_in (take depth path) + (p.slot + 2)) (sym step_here))
+        ap loads_in more ∙ (loads_in-push (take depth path) (step_at path depth) ∙ ap (λ (p : PathStep). loads_in (take depth path) + (loads_at p + 1)) (sym step_here))
 
     pub ends_here : row.kind ≡ Leaf → IsAtEnd s.tree index found
     ends_here = ways.at_end s.tree kind tree index within depth row way found there
@@ -77,10 +81,10 @@ module _ (s s' : Sheet) (kind : Kind) (tree : IsTreeOf s.tree kind) (index : ℕ
       span_is : span ≡ found_span s.tree.table row.kind found
       span_is = is ∙ ap (λ (t : Rooted). found_span t.table row.kind found) same₁
 
-      pub reads_span : ReadsUpTo (n + (found.step.slot + 2)) s s₂
+      pub reads_span : ReadsUpTo (n + (loads_at found.step + 1)) s s₂
       reads_span =
-          let all = reads_next (n + (found.step.slot + 1)) s s₁ s₂ reads_row loads in
-          reads_up (n + (found.step.slot + 1) + 1) (n + (found.step.slot + 2)) s s₂ (omega arith) all
+          let all = reads_next (n + loads_at found.step) s s₁ s₂ reads_row loads in
+          reads_up (n + loads_at found.step + 1) (n + (loads_at found.step + 1)) s s₂ (omega arith) all
 
       pub has_child : row.kind ≢ Leaf → IsSome (named_kind span.word)
       has_child other = subst (λ (x : Span). IsSome (named_kind x.word)) (sym span_is) (ways.child_named s.tree kind tree index within depth row way found there other)
@@ -104,7 +108,7 @@ module _ (s s' : Sheet) (kind : Kind) (tree : IsTreeOf s.tree kind) (index : ℕ
   pub shallow : length steps < deepest
   shallow = ways.shallow s.tree kind tree index within (length steps) row descends.way
 
-  module _ (found : Found) (at : IsFoundSlot s'.tree.table row index found) (s₁ : Sheet) (reads₁ : ReadsUpTo (found.step.slot + 1) s' s₁) (steps' : List PathStep) (pushed : steps' ≡ steps ++ (found.step ∷ [])) where
+  module _ (found : Found) (at : IsFoundSlot s'.tree.table row index found) (s₁ : Sheet) (reads₁ : ReadsUpTo (loads_at found.step) s' s₁) (steps' : List PathStep) (pushed : steps' ≡ steps ++ (found.step ∷ [])) where
     abbrev path : List PathStep
     path = path_in s.tree.table s.tree.root index
 
@@ -114,7 +118,7 @@ module _ (s s' : Sheet) (kind : Kind) (tree : IsTreeOf s.tree kind) (index : ℕ
     long : length steps' ≡ length steps + 1
     long = ap length pushed ∙ length_push steps found.step
 
-    loads' : loads_in steps' ≡ loads_in steps + (found.step.slot + 2)
+    loads' : loads_in steps' ≡ loads_in steps + (loads_at found.step + 1)
     loads' = ap loads_in pushed ∙ loads_in-push steps found.step
 
     pub descent_ends : row.kind ≡ Leaf → steps' ≡ path
@@ -124,7 +128,7 @@ module _ (s s' : Sheet) (kind : Kind) (tree : IsTreeOf s.tree kind) (index : ℕ
     descent_reads =
         let all = loads' in
         let more = descends.more in
-        reads_up (so_far + (found.step.slot + 1)) (loads_in steps' - loads_in begun - 1) s s₁ (omega arith) (reads_row s s' kind tree index within so_far descends.reads (length steps) row descends.way found at s₁ reads₁)
+        reads_up (so_far + loads_at found.step) (loads_in steps' - loads_in begun - 1) s s₁ (omega arith) (reads_row s s' kind tree index within so_far descends.reads (length steps) row descends.way found at s₁ reads₁)
 
     pub descent_goes_on : row.kind ≢ Leaf → (span : Span) → span ≡ found_span s₁.tree.table row.kind found → (s₂ : Sheet) → s₂ ≡ loaded s₁ → (child : Row) → Some child ≡ row_for span
         → Descends s s₂ index (entered + 1) begun steps' child
@@ -139,7 +143,7 @@ module _ (s s' : Sheet) (kind : Kind) (tree : IsTreeOf s.tree kind) (index : ℕ
               (goes_on s s' kind tree index within so_far descends.reads (length steps) row descends.way found at s₁ reads₁ span is s₂ loads other child named);
           deep = omega arith;
           more = omega arith;
-          reads = reads_up (so_far + (found.step.slot + 2)) (loads_in steps' - loads_in begun) s s₂ (omega arith)
+          reads = reads_up (so_far + (loads_at found.step + 1)) (loads_in steps' - loads_in begun) s s₂ (omega arith)
               (reads_span s s' kind tree index within so_far descends.reads (length steps) row descends.way found at s₁ reads₁ span is s₂ loads);
         }
 
@@ -163,12 +167,12 @@ module _ (s s' : Sheet) (kind : Kind) (tree : IsTreeOf s.tree kind) (index : ℕ
   pub not_deepest : entered < deepest
   not_deepest = ways.shallow s.tree kind tree index within entered row passes.way
 
-  module _ (found : Found) (at : IsFoundSlot s'.tree.table row index found) (s₁ : Sheet) (reads₁ : ReadsUpTo (found.step.slot + 1) s' s₁)
+  module _ (found : Found) (at : IsFoundSlot s'.tree.table row index found) (s₁ : Sheet) (reads₁ : ReadsUpTo (loads_at found.step) s' s₁)
       (span : Span) (is : span ≡ found_span s₁.tree.table row.kind found) (s₂ : Sheet) (loads : s₂ ≡ loaded s₁) where
     reads₂ : ReadsUpTo (loads_on (take (entered + 1) (path_in s.tree.table s.tree.root index))) s s₂
     reads₂ =
         let more = loads_more s s' kind tree index within loads_before passes.reads entered row passes.way found at s₁ reads₁ in
-        reads_up (loads_before + (found.step.slot + 2)) (loads_on (take (entered + 1) (path_in s.tree.table s.tree.root index))) s s₂ (omega arith)
+        reads_up (loads_before + (loads_at found.step + 1)) (loads_on (take (entered + 1) (path_in s.tree.table s.tree.root index))) s s₂ (omega arith)
         (reads_span s s' kind tree index within loads_before passes.reads entered row passes.way found at s₁ reads₁ span is s₂ loads)
 
     pub passage_ends : row.kind ≡ Leaf → ReadsUpTo (loads_on (path_in s.tree.table s.tree.root index)) s s₂

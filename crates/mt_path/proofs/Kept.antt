@@ -1,8 +1,11 @@
 -- What stays where rows were only read. For the proofs of the crates above, too.
-use Rattle.mt_path.proofs.Prelude.{◌≡◌, ℕ, List, sym, ap, ◌∙◌, subst, Kind, Rooted, Sheet, IsPlace, word_at, OnlyReads, ReadsUpTo, IsTreeOf, Handle, PathStep, IsHandleOf, IsStepOfLeaf, path_in, same_tree}
+use Rattle.mt_path.proofs.Prelude.{◌≡◌, ℕ, List, sym, ap, ◌∙◌, subst, Kind, Width, Rooted, Sheet, IsPlace, word_at, OnlyReads, ReadsUpTo, IsTreeOf, Handle, PathStep, IsHandleOf, IsStepOfLeaf, path_in, same_tree}
 
 pub tree_kept : (n : ℕ) (s s' : Sheet) → ReadsUpTo n s s' → s'.tree ≡ s.tree
 tree_kept n s s' reads = same_tree s s' reads.rest
+
+pub width_kept : (n : ℕ) (s s' : Sheet) (width : Width) → ReadsUpTo n s s' → width ≡ s.tree.table.width → width ≡ s'.tree.table.width
+width_kept n s s' width reads is = is ∙ ap (λ (t : Rooted). t.table.width) (sym (tree_kept n s s' reads))
 
 pub is_tree_kept : (s s' : Sheet) (kind : Kind) → OnlyReads s s' → IsTreeOf s.tree kind → IsTreeOf s'.tree kind
 is_tree_kept s s' kind only tree = subst (λ (t : Rooted). IsTreeOf t kind) (sym (same_tree s s' only)) tree

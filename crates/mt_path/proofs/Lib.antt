@@ -10,7 +10,7 @@ pub mod Onward
 pub mod LeafSlots
 pub mod LeafSteps
 pub mod Middles
-mod HalfWalks
+pub mod Groups
 pub mod HandleSteps
 pub mod Empty
 pub mod Bounds

@@ -1,5 +1,5 @@
 -- How many words were loaded. For the proofs of the crates above, too.
-use Rattle.mt_path.proofs.Prelude.{◌≡◌, ℕ, ◌+◌, ◌<◌, ◌≤◌, List, [], ◌∷◌, ◌++◌, Option, Some, None, length, take, drop, map, sum, refl, sym, ap, ◌∙◌, subst, arith, option_map, map-append, take-append-drop, sum_by-append, Sheet, loaded, one_more, RoseUpTo, ReadsUpTo, PathStep, loads_in, reads_on}
+use Rattle.mt_path.proofs.Prelude.{◌≡◌, ℕ, ◌+◌, ◌<◌, ◌≤◌, List, [], ◌∷◌, ◌++◌, Option, Some, None, length, take, drop, map, sum, refl, sym, ap, ◌∙◌, subst, arith, option_map, le-max_left, map-append, take-append-drop, sum_by-append, Sheet, loaded, one_more, RoseUpTo, ReadsUpTo, PathStep, loads_at, loads_in, reads_on}
 
 -- ---- counts
 
@@ -51,10 +51,10 @@ reads_next n s s' s'' reads is = reads_more n 1 s s' s'' reads (one_read s' s'' 
 
 pub loads_in-append : (xs ys : List PathStep) → loads_in (xs ++ ys) ≡ loads_in xs + loads_in ys
 loads_in-append xs ys =
-    ap sum (map-append (λ (s : PathStep). s.slot + 2) xs ys)
-    ∙ sum_by-append (λ (n : ℕ). n) (map (λ (s : PathStep). s.slot + 2) xs) (map (λ (s : PathStep). s.slot + 2) ys)
+    ap sum (map-append (λ (s : PathStep). loads_at s + 1) xs ys)
+    ∙ sum_by-append (λ (n : ℕ). n) (map (λ (s : PathStep). loads_at s + 1) xs) (map (λ (s : PathStep). loads_at s + 1) ys)
 
-pub loads_in-push : (steps : List PathStep) (s : PathStep) → loads_in (steps ++ (s ∷ [])) ≡ loads_in steps + (s.slot + 2)
+pub loads_in-push : (steps : List PathStep) (s : PathStep) → loads_in (steps ++ (s ∷ [])) ≡ loads_in steps + (loads_at s + 1)
 loads_in-push steps s = let both = loads_in-append steps (s ∷ []) in omega arith
 
 pub loads_in-parts : (n : ℕ) (steps : List PathStep) → loads_in steps ≡ loads_in (take n steps) + loads_in (drop n steps)
@@ -63,6 +63,6 @@ loads_in-parts n steps = ap loads_in (sym (take-append-drop n steps)) ∙ loads_
 pub loads_in-take : (n : ℕ) (steps : List PathStep) → loads_in (take n steps) ≤ loads_in steps
 loads_in-take n steps = let parts = loads_in-parts n steps in omega arith
 
-pub loads_in-some : (steps : List PathStep) → 0 < length steps → 2 ≤ loads_in steps
+pub loads_in-some : (steps : List PathStep) → 0 < length steps → 14 ≤ loads_in steps
 loads_in-some [] some = absurd (omega arith)
-loads_in-some (s ∷ steps) some = let both = loads_in-append (s ∷ []) steps in omega arith
+loads_in-some (s ∷ steps) some = let both = loads_in-append (s ∷ []) steps in omega (arith, le-max_left 13 (s.slot + 1))

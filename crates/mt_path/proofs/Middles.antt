@@ -8,7 +8,7 @@ use Rattle.mt_path.proofs.Ways.{named, some_root, some_tree}
 
 -- ---- spans end to end rise
 
-rising : (lo hi : ℕ) (xs : List Span) (i k : ℕ) → Fills lo hi xs → i ≤ k → k < length xs → (span_at xs i).last ≤ (span_at xs k).last
+pub rising : (lo hi : ℕ) (xs : List Span) (i k : ℕ) → Fills lo hi xs → i ≤ k → k < length xs → (span_at xs i).last ≤ (span_at xs k).last
 rising lo hi [] i k fills low below = absurd (omega arith)
 rising lo hi (x ∷ xs) zero zero fills low below = omega arith
 rising lo hi (x ∷ xs) zero (suc k) fills low below =
@@ -18,7 +18,7 @@ rising lo hi (x ∷ xs) zero (suc k) fills low below =
 rising lo hi (x ∷ xs) (suc i) zero fills low below = absurd (omega arith)
 rising lo hi (x ∷ xs) (suc i) (suc k) fills low below = rising (x.last + 1) hi xs i k fills.2 (omega arith) (omega arith)
 
-none_past : (items : List Item) (k : ℕ) → length items ≤ k → (item_or items k).last ≡ 0
+pub none_past : (items : List Item) (k : ℕ) → length items ≤ k → (item_or items k).last ≡ 0
 none_past [] k high = refl
 none_past (x ∷ items) zero high = absurd (omega arith)
 none_past (x ∷ items) (suc k) high = none_past items k (omega arith)
@@ -56,13 +56,13 @@ module _ (t : Table) (row : Row) where
       none_more k = omega arith
 
   module _ (lawful : IsLawfulRow t row) where
-    fit : length items ≤ slots
+    pub fit : length items ≤ slots
     fit = few_items slots gaps t.words (base_of t row.number) row.max slots 0
 
-    long : length (spans_of t row) ≡ length items
+    pub long : length (spans_of t row) ≡ length items
     long = length-spans_from row.min items
 
-    pivot_of : (k : ℕ) → k + 1 < slots → pivot k ≡ (item_or items k).last
+    pub pivot_of : (k : ℕ) → k + 1 < slots → pivot k ≡ (item_or items k).last
     pivot_of k inner =
         let words = used (columns t.width) slots gaps (column t row.number 0) items (layout_of t.width row.kind) fit in
         lawful.unused (1 + k) (omega (arith, slots_of-columns t.width row.kind))
@@ -75,7 +75,7 @@ module _ (t : Table) (row : Row) where
       | inr high ↦ let zero = none_past items k high in let is = pivot_of k inner in absurd (omega arith)
     ]
 
-    last_is : (k : ℕ) → k + 1 < slots → k < length (spans_of t row) → (span_at (spans_of t row) k).last ≡ pivot k
+    pub last_is : (k : ℕ) → k + 1 < slots → k < length (spans_of t row) → (span_at (spans_of t row) k).last ≡ pivot k
     last_is k inner below =
         let test : nat_lt (k + 1) slots ≡ true = lt-ltb (k + 1) slots inner in
         let here = stands_in slots gaps t.words (base_of t row.number) row.max slots 0 row.min k k (omega arith) (omega arith) (omega (arith, long)) in

@@ -1,6 +1,6 @@
 -- The way down from the root of a tree to the leaf that covers an index, and the slot there.
 -- Source: the kernel's lib/maple_tree.c, mas_walk, mas_next_node and mas_prev_node.
-use Rattle.std.specs.Prelude.{◌≡◌, ℕ, zero, suc, ◌+◌, ◌<◌, ◌≤◌, List, [], ◌∷◌, ◌++◌, drop, length, take_while, nat_lt, slice_index_or, sum, map}
+use Rattle.std.specs.Prelude.{◌≡◌, ℕ, zero, suc, ◌+◌, ◌<◌, ◌≤◌, List, [], ◌∷◌, ◌++◌, drop, length, take_while, nat_lt, slice_index_or, sum, map, max}
 use Rattle.std.specs.List.{AllByRecursion}
 use Rattle.mt_path.specs.Prelude.{deepest, Span, row_in, named_kind, Table, spans_in, root_span, Sheet, ReadsUpTo, by_kind}
 use Rattle.mt_path.specs.declared.paths.PathStep.{PathStep}
@@ -40,9 +40,14 @@ no_step = record { row = 0; slot = 0; min = 0; max = 0 }
 abbrev pub step_at : List PathStep → ℕ → PathStep
 step_at path level = slice_index_or path level no_step
 
--- how many words a walk loads: in each row its pivots up to the index and one slot, and before them the root word
+-- So many words of a row are loaded at the most to find the slot of a step: thirteen, or where pivots are loaded one by one, those up
+-- to the slot's.
+abbrev pub loads_at : PathStep → ℕ
+loads_at s = max 13 (s.slot + 1)
+
+-- how many words a walk loads at the most: in each row those and one slot, and before them the root word
 abbrev pub loads_in : List PathStep → ℕ
-loads_in steps = sum (map (λ s. s.slot + 2) steps)
+loads_in steps = sum (map (λ s. loads_at s + 1) steps)
 
 abbrev pub loads_on : List PathStep → ℕ
 loads_on path = 1 + loads_in path

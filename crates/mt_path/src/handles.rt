@@ -7,11 +7,12 @@ ghost use Rattle.mt_rows.specs.Publish.{IsTreeOf};
 ghost use Rattle.mt_rows.specs.Sheet.{OnlyReads, ReadsUpTo, loaded};
 ghost use Rattle.mt_path.specs.Handles.{leaf_spans, handle_in, last_step, IsHandleOf, IsStepOfLeaf};
 ghost use Rattle.mt_path.specs.Paths.{path_in, span_at, loads_on};
+ghost use Rattle.mt_path.specs.Walks.{EntersLeaf};
 
 use crate::paths::{Path, PathStep};
-use crate::rows::{child_for, find_slot, load_found, root_row};
+use crate::rows::{child_for, find_along, find_slot, load_found, root_row};
 use crate::walks::{descend, walk_on};
-use mt_base::{DEEPEST, top};
+use mt_base::{DEEPEST, Width, top};
 use mt_layout::{RowKind, Span, slots};
 use mt_rows::Rows;
 
@@ -24,8 +25,10 @@ pub struct Handle {
 
 // ---- of an index
 
-/// The slot of the leaf that holds an index, and what stands there; none in the empty tree. No path is kept.
-pub fn handle_at<R: Rows>(rows: &mut R, index: u64) -> Option<Handle>
+/// The slot of the leaf that holds an index, and what stands there, in rows of this width.
+#[inline(always)]
+fn handle_by<R: Rows>(rows: &mut R, width: Width, index: u64) -> Option<Handle>
+    requires width { width ≡ (R.sheet rows.old).tree.table.width }
     requires tree { (kind : Kind) × IsTreeOf (R.sheet rows.old).tree kind }
     requires index { index ≤ greatest (R.sheet rows.old).tree.table.width }
     ensures none { IsNone result ↔ ((R.sheet rows.old).tree.root ≡ 0) }
@@ -35,8 +38,8 @@ pub fn handle_at<R: Rows>(rows: &mut R, index: u64) -> Option<Handle>
 {
     let mut row = root_row(rows)?;
     for _ in 0..DEEPEST {
-        let found = find_slot(rows, row, index);
-        let span = load_found(rows, row.kind, found);
+        let found = find_slot(rows, width, row, index);
+        let span = load_found(rows, width, row.kind, found);
         if row.kind == RowKind::Leaf {
             return Some(Handle {
                 leaf: found.step,
@@ -48,7 +51,52 @@ pub fn handle_at<R: Rows>(rows: &mut R, index: u64) -> Option<Handle>
     unreachable!()
 }
 
+/// The same, where the width is looked at once and not in each row.
+#[inline(always)]
+fn handle_for<R: Rows>(rows: &mut R, index: u64) -> Option<Handle>
+    requires tree { (kind : Kind) × IsTreeOf (R.sheet rows.old).tree kind }
+    requires index { index ≤ greatest (R.sheet rows.old).tree.table.width }
+    ensures none { IsNone result ↔ ((R.sheet rows.old).tree.root ≡ 0) }
+    ensures some { IfSome result (λ handle. handle ≡ handle_in (R.sheet rows.old).tree index) }
+    ensures rest { OnlyReads (R.sheet rows.old) (R.sheet rows.new) }
+    ensures reads { ReadsUpTo (loads_on (path_in (R.sheet rows.old).tree.table (R.sheet rows.old).tree.root index)) (R.sheet rows.old) (R.sheet rows.new) }
+{
+    match rows.width() {
+        Width::Long => handle_by(rows, Width::Long, index),
+        Width::Short => handle_by(rows, Width::Short, index),
+    }
+}
+
+/// The same as a call, apart from who wants it seldom.
+#[inline(never)]
+fn handle_apart<R: Rows>(rows: &mut R, index: u64) -> Option<Handle>
+    requires tree { (kind : Kind) × IsTreeOf (R.sheet rows.old).tree kind }
+    requires index { index ≤ greatest (R.sheet rows.old).tree.table.width }
+    ensures none { IsNone result ↔ ((R.sheet rows.old).tree.root ≡ 0) }
+    ensures some { IfSome result (λ handle. handle ≡ handle_in (R.sheet rows.old).tree index) }
+    ensures rest { OnlyReads (R.sheet rows.old) (R.sheet rows.new) }
+    ensures reads { ReadsUpTo (loads_on (path_in (R.sheet rows.old).tree.table (R.sheet rows.old).tree.root index)) (R.sheet rows.old) (R.sheet rows.new) }
+{
+    handle_for(rows, index)
+}
+
+/// The slot of the leaf that holds an index, and what stands there; none in the empty tree. No path is kept. What is found is taken
+/// apart at once, so that steps within a leaf, which are many, make no room for it.
+#[inline(always)]
+pub fn handle_at<R: Rows>(rows: &mut R, index: u64) -> Option<Handle>
+    requires tree { (kind : Kind) × IsTreeOf (R.sheet rows.old).tree kind }
+    requires index { index ≤ greatest (R.sheet rows.old).tree.table.width }
+    ensures none { IsNone result ↔ ((R.sheet rows.old).tree.root ≡ 0) }
+    ensures some { IfSome result (λ handle. handle ≡ handle_in (R.sheet rows.old).tree index) }
+    ensures rest { OnlyReads (R.sheet rows.old) (R.sheet rows.new) }
+    ensures reads { ReadsUpTo (loads_on (path_in (R.sheet rows.old).tree.table (R.sheet rows.old).tree.root index)) (R.sheet rows.old) (R.sheet rows.new) }
+{
+    let there = handle_apart(rows, index)?;
+    Some(there)
+}
+
 /// What stands at an index; none in the empty tree. Where it stands is not told.
+#[inline(always)]
 pub fn span_for<R: Rows>(rows: &mut R, index: u64) -> Option<Span>
     requires tree { (kind : Kind) × IsTreeOf (R.sheet rows.old).tree kind }
     requires index { index ≤ greatest (R.sheet rows.old).tree.table.width }
@@ -57,16 +105,8 @@ pub fn span_for<R: Rows>(rows: &mut R, index: u64) -> Option<Span>
     ensures rest { OnlyReads (R.sheet rows.old) (R.sheet rows.new) }
     ensures reads { ReadsUpTo (loads_on (path_in (R.sheet rows.old).tree.table (R.sheet rows.old).tree.root index)) (R.sheet rows.old) (R.sheet rows.new) }
 {
-    let mut row = root_row(rows)?;
-    for _ in 0..DEEPEST {
-        let found = find_slot(rows, row, index);
-        let span = load_found(rows, row.kind, found);
-        if row.kind == RowKind::Leaf {
-            return Some(span);
-        }
-        row = child_for(span);
-    }
-    unreachable!()
+    let handle = handle_for(rows, index)?;
+    Some(handle.span)
 }
 
 /// The way to an index, into an empty path, and the slot at its end and what stands there; none in the empty tree.
@@ -82,10 +122,28 @@ pub fn walk_to<R: Rows>(rows: &mut R, index: u64, path: &mut Path) -> Option<Han
 {
     let row = root_row(rows)?;
     let found = descend(rows, row, index, path);
+    let width = rows.width();
     Some(Handle {
         leaf: found.step,
-        span: load_found(rows, RowKind::Leaf, found),
+        span: load_found(rows, width, RowKind::Leaf, found),
     })
+}
+
+/// Ends the way to an index, in the leaf that the way enters last, and gives the slot there and what stands in it.
+pub fn end_walk<R: Rows>(rows: &mut R, leaf: Span, index: u64, path: &mut Path) -> Handle
+    requires tree { (kind : Kind) × IsTreeOf (R.sheet rows.old).tree kind }
+    requires index { index ≤ greatest (R.sheet rows.old).tree.table.width }
+    requires way { EntersLeaf (R.sheet rows.old).tree index path.old.items leaf }
+    ensures path { path.new.items ≡ path_in (R.sheet rows.old).tree.table (R.sheet rows.old).tree.root index }
+    ensures handle { result ≡ handle_in (R.sheet rows.old).tree index }
+    ensures rest { OnlyReads (R.sheet rows.old) (R.sheet rows.new) }
+{
+    let found = descend(rows, child_for(leaf), index, path);
+    let width = rows.width();
+    Handle {
+        leaf: found.step,
+        span: load_found(rows, width, RowKind::Leaf, found),
+    }
 }
 
 // ---- of a slot of a leaf
@@ -164,22 +222,35 @@ fn load_word<R: Rows>(rows: &mut R, leaf: PathStep) -> u64
     rows.load(leaf.row, column)
 }
 
-/// What stands in the slot of a leaf.
-pub fn load_span<R: Rows>(rows: &mut R, leaf: PathStep) -> Span
+/// The slot of another leaf that holds an index, and what stands there. A walk goes to one leaf after the other, so its way is foretold
+/// where rows are searched pivot by pivot.
+#[inline(never)]
+fn walk_far<R: Rows>(rows: &mut R, index: u64) -> Option<Handle>
     requires tree { (kind : Kind) × IsTreeOf (R.sheet rows.old).tree kind }
-    requires leaf { IsStepOfLeaf (R.sheet rows.old).tree leaf }
-    ensures span { result ≡ span_at (leaf_spans (R.sheet rows.old).tree.table leaf) leaf.slot }
+    requires index { index ≤ greatest (R.sheet rows.old).tree.table.width }
+    ensures none { IsNone result ↔ ((R.sheet rows.old).tree.root ≡ 0) }
+    ensures some { IfSome result (λ handle. handle ≡ handle_in (R.sheet rows.old).tree index) }
     ensures rest { OnlyReads (R.sheet rows.old) (R.sheet rows.new) }
-    ensures reads { ReadsUpTo 3 (R.sheet rows.old) (R.sheet rows.new) }
+    ensures reads { ReadsUpTo (loads_on (path_in (R.sheet rows.old).tree.table (R.sheet rows.old).tree.root index)) (R.sheet rows.old) (R.sheet rows.new) }
 {
-    let first = load_first(rows, leaf);
-    let last = load_last(rows, leaf);
-    let word = load_word(rows, leaf);
-    Span { first, last, word }
+    let width = rows.width();
+    let mut row = root_row(rows)?;
+    for _ in 0..DEEPEST {
+        let found = find_along(rows, row, index);
+        let span = load_found(rows, width, row.kind, found);
+        if row.kind == RowKind::Leaf {
+            return Some(Handle {
+                leaf: found.step,
+                span,
+            });
+        }
+        row = child_for(span);
+    }
+    unreachable!()
 }
 
-/// The slot of another leaf that holds an index, and what stands there. It is apart from the steps within a leaf, which are
-/// many, so that they make no room for what it finds.
+/// The same, taken apart at once, so that steps within a leaf, which are many, make no room for it.
+#[inline(always)]
 fn handle_far<R: Rows>(rows: &mut R, index: u64) -> Option<Handle>
     requires tree { (kind : Kind) × IsTreeOf (R.sheet rows.old).tree kind }
     requires index { index ≤ greatest (R.sheet rows.old).tree.table.width }
@@ -188,12 +259,13 @@ fn handle_far<R: Rows>(rows: &mut R, index: u64) -> Option<Handle>
     ensures rest { OnlyReads (R.sheet rows.old) (R.sheet rows.new) }
     ensures reads { ReadsUpTo (loads_on (path_in (R.sheet rows.old).tree.table (R.sheet rows.old).tree.root index)) (R.sheet rows.old) (R.sheet rows.new) }
 {
-    let far = handle_at(rows, index)?;
+    let far = walk_far(rows, index)?;
     Some(far)
 }
 
 /// What stands behind a handle: in the next slot of its leaf, or in the first slot of the leaf behind. There is none where
 /// the handle's span ends at the greatest index.
+#[inline(always)]
 pub fn behind<R: Rows>(rows: &mut R, here: &Handle) -> Option<Handle>
     requires tree { (kind : Kind) × IsTreeOf (R.sheet rows.old).tree kind }
     requires here { IsHandleOf (R.sheet rows.old).tree here.now }

@@ -1,6 +1,6 @@
 //! The rows on the way to an index: what names them, and where the index stands in one.
 
-ghost use Rattle.std.specs.Prelude.{◌≡◌, ◌+◌, ◌-◌, ◌<◌, ◌≤◌, ◌↔◌, ℕ, Some, IsNone, IsSome, IfSome};
+ghost use Rattle.std.specs.Prelude.{◌≡◌, ◌+◌, ◌-◌, ◌<◌, ◌≤◌, ◌↔◌, ℕ, length, Some, IsNone, IsSome, IfSome};
 ghost use Rattle.mt_base.specs.declared.kinds.Kind.{Kind};
 ghost use Rattle.mt_base.specs.Width.{greatest};
 ghost use Rattle.mt_layout.specs.Rows.{named_kind};
@@ -8,10 +8,12 @@ ghost use Rattle.mt_layout.specs.Sizes.{slots_of};
 ghost use Rattle.mt_rows.specs.Publish.{IsTreeOf};
 ghost use Rattle.mt_rows.specs.Sheet.{IsPlace, ReadsUpTo, loaded};
 ghost use Rattle.mt_path.specs.Middles.{IsLawfulRow, IsPassed};
-ghost use Rattle.mt_path.specs.Walks.{row_for, found_span, IsFoundSlot, IsOnWay};
+ghost use Rattle.mt_path.specs.Paths.{loads_at, slot_for, span_at};
+ghost use Rattle.mt_path.specs.Walks.{row_for, spans_of, found_span, IsFoundSlot, IsOnWay};
 
 use crate::paths::PathStep;
-use mt_base::top;
+use crate::seeks::seek;
+use mt_base::{Width, top};
 use mt_layout::{RowKind, Span, kind_of, row_of, slots};
 use mt_rows::Rows;
 
@@ -33,6 +35,7 @@ pub(crate) struct Found {
 }
 
 /// The row that a span names, or none where its word is no name.
+#[inline(always)]
 fn row_for(span: Span) -> Option<Row>
     ensures { result ≡ row_for span }
 {
@@ -47,6 +50,7 @@ fn row_for(span: Span) -> Option<Row>
 }
 
 /// The row that a span names, which stands below another.
+#[inline(always)]
 pub(crate) fn child_for(span: Span) -> Row
     requires { IsSome (named_kind span.word) }
     ensures { Some result ≡ row_for span }
@@ -58,6 +62,7 @@ pub(crate) fn child_for(span: Span) -> Row
 }
 
 /// The root, or none where the tree is empty.
+#[inline(always)]
 pub(crate) fn root_row<R: Rows>(rows: &mut R) -> Option<Row>
     requires tree { (kind : Kind) × IsTreeOf (R.sheet rows.old).tree kind }
     ensures none { IsNone result ↔ ((R.sheet rows.old).tree.root ≡ 0) }
@@ -73,6 +78,7 @@ pub(crate) fn root_row<R: Rows>(rows: &mut R) -> Option<Row>
 }
 
 /// The step in this slot of a row, and the first and the last index of what stands there.
+#[inline(always)]
 fn found_in(row: Row, slot: u32, first: u64, last: u64) -> Found
     ensures { result ≡ record { step = record { row = row.number; slot = slot; min = row.min; max = row.max }; first = first; last = last } }
 {
@@ -85,6 +91,37 @@ fn found_in(row: Row, slot: u32, first: u64, last: u64) -> Found
         },
         first,
         last,
+    }
+}
+
+/// The first index of what stands in a slot of a row.
+#[inline(always)]
+fn first_in<R: Rows>(rows: &mut R, row: Row, slot: u32) -> u64
+    requires row { IsPlace (R.sheet rows.old).tree row.number 0 }
+    requires lawful { IsLawfulRow (R.sheet rows.old).tree.table row }
+    requires slot { slot < length (spans_of (R.sheet rows.old).tree.table row) }
+    ensures first { result ≡ (span_at (spans_of (R.sheet rows.old).tree.table row) slot).first }
+    ensures reads { ReadsUpTo 1 (R.sheet rows.old) (R.sheet rows.new) }
+{
+    let before = rows.load(row.number, slot);
+    if slot == 0 { row.min } else { before + 1 }
+}
+
+/// The last index of what stands in a slot of a row.
+#[inline(always)]
+fn last_in<R: Rows>(rows: &mut R, width: Width, row: Row, slot: u32) -> u64
+    requires width { width ≡ (R.sheet rows.old).tree.table.width }
+    requires row { IsPlace (R.sheet rows.old).tree row.number 0 }
+    requires lawful { IsLawfulRow (R.sheet rows.old).tree.table row }
+    requires slot { slot < length (spans_of (R.sheet rows.old).tree.table row) }
+    ensures last { result ≡ (span_at (spans_of (R.sheet rows.old).tree.table row) slot).last }
+    ensures reads { ReadsUpTo 1 (R.sheet rows.old) (R.sheet rows.new) }
+{
+    let pivot = rows.load(row.number, 1 + slot);
+    if slot + 1 < slots(width, row.kind) {
+        pivot
+    } else {
+        row.max
     }
 }
 
@@ -111,41 +148,44 @@ fn find_from<R: Rows>(rows: &mut R, row: Row, index: u64, from: u32, first: u64)
     found_in(row, last_slot, first, row.max)
 }
 
-/// The slot of a row that holds an index: the first whose pivot is not below it. No pivot behind that is loaded.
-pub(crate) fn find_slot<R: Rows>(rows: &mut R, row: Row, index: u64) -> Found
+/// The slot of a row that holds an index: the first whose pivot is not below it. No pivot behind that is loaded. The branches are
+/// foretold well where a walk has come to the slot before, or to the next.
+pub(crate) fn find_along<R: Rows>(rows: &mut R, row: Row, index: u64) -> Found
     requires row { IsPlace (R.sheet rows.old).tree row.number 0 }
     requires index { index ≤ row.max }
     ensures found { IsFoundSlot (R.sheet rows.old).tree.table row index result }
-    ensures reads { ReadsUpTo (result.step.slot + 1) (R.sheet rows.old) (R.sheet rows.new) }
+    ensures reads { ReadsUpTo (loads_at result.step) (R.sheet rows.old) (R.sheet rows.new) }
 {
     find_from(rows, row, index, 0, row.min)
 }
 
-/// The same, where the pivot before the middle slot is loaded first: if it is below the index, the slot is sought from the middle
-/// on. The pivot of a slot in which nothing stands is 0.
-pub(crate) fn find_in_half<R: Rows>(rows: &mut R, row: Row, index: u64) -> Found
+/// The slot of a row that holds an index: the first whose pivot is not below it. It is found by groups of slots, with no branch
+/// on a pivot, and by no more loads than thirteen.
+#[inline(always)]
+pub(crate) fn find_slot<R: Rows>(rows: &mut R, width: Width, row: Row, index: u64) -> Found
+    requires width { width ≡ (R.sheet rows.old).tree.table.width }
     requires row { IsPlace (R.sheet rows.old).tree row.number 0 }
     requires lawful { IsLawfulRow (R.sheet rows.old).tree.table row }
     requires index { index ≤ row.max }
     ensures found { IsFoundSlot (R.sheet rows.old).tree.table row index result }
-    ensures reads { ReadsUpTo (result.step.slot + 2) (R.sheet rows.old) (R.sheet rows.new) }
+    ensures reads { ReadsUpTo (loads_at result.step) (R.sheet rows.old) (R.sheet rows.new) }
 {
-    let middle = slots(rows.width(), row.kind) / 2;
-    let pivot = rows.load(row.number, middle);
-    if pivot == 0 || index <= pivot {
-        return find_from(rows, row, index, 0, row.min);
-    }
-    find_from(rows, row, index, middle, pivot + 1)
+    let slot = seek(rows, width, row, index);
+    let first = first_in(rows, row, slot);
+    let last = last_in(rows, width, row, slot);
+    found_in(row, slot, first, last)
 }
 
 /// What stands in the slot where an index was found.
-pub(crate) fn load_found<R: Rows>(rows: &mut R, kind: RowKind, found: Found) -> Span
+#[inline(always)]
+pub(crate) fn load_found<R: Rows>(rows: &mut R, width: Width, kind: RowKind, found: Found) -> Span
+    requires width { width ≡ (R.sheet rows.old).tree.table.width }
     requires row { IsPlace (R.sheet rows.old).tree found.step.row 0 }
     requires slot { found.step.slot < slots_of (R.sheet rows.old).tree.table.width kind }
     ensures span { result ≡ found_span (R.sheet rows.old).tree.table kind found }
     ensures rest { R.sheet rows.new ≡ loaded (R.sheet rows.old) }
 {
-    let column = slots(rows.width(), kind) + found.step.slot;
+    let column = slots(width, kind) + found.step.slot;
     Span {
         first: found.first,
         last: found.last,

@@ -13,13 +13,14 @@ ghost use Rattle.mt_path.specs.Walks.{IsOnWay, IsAtEnd};
 
 use crate::paths::{Path, pop_to};
 use crate::rows::{Found, Row, child_for, find_slot, load_found, root_row};
-use mt_base::DEEPEST;
+use mt_base::{DEEPEST, Width};
 use mt_layout::{RowKind, kind_of};
 use mt_rows::Rows;
 
-/// Walks down from a row on the way to an index, and appends the steps from there on. Gives where the index stands in its
-/// leaf, whose slot is not loaded.
-pub(crate) fn descend<R: Rows>(rows: &mut R, row: Row, index: u64, path: &mut Path) -> Found
+/// Walks down from a row on the way to an index, over rows of this width, and appends the steps from there on.
+#[inline(always)]
+fn descend_by<R: Rows>(rows: &mut R, width: Width, row: Row, index: u64, path: &mut Path) -> Found
+    requires width { width ≡ (R.sheet rows.old).tree.table.width }
     requires tree { (kind : Kind) × IsTreeOf (R.sheet rows.old).tree kind }
     requires index { index ≤ greatest (R.sheet rows.old).tree.table.width }
     requires front { path.old.items ≡ take (length path.old.items) (path_in (R.sheet rows.old).tree.table (R.sheet rows.old).tree.root index) }
@@ -30,14 +31,31 @@ pub(crate) fn descend<R: Rows>(rows: &mut R, row: Row, index: u64, path: &mut Pa
 {
     let mut row = row;
     for _ in 0..DEEPEST {
-        let found = find_slot(rows, row, index);
+        let found = find_slot(rows, width, row, index);
         path.push(found.step);
         if row.kind == RowKind::Leaf {
             return found;
         }
-        row = child_for(load_found(rows, row.kind, found));
+        row = child_for(load_found(rows, width, row.kind, found));
     }
     unreachable!()
+}
+
+/// Walks down from a row on the way to an index, and appends the steps from there on. Gives where the index stands in its
+/// leaf, whose slot is not loaded. The width is looked at once, and not in each row.
+pub(crate) fn descend<R: Rows>(rows: &mut R, row: Row, index: u64, path: &mut Path) -> Found
+    requires tree { (kind : Kind) × IsTreeOf (R.sheet rows.old).tree kind }
+    requires index { index ≤ greatest (R.sheet rows.old).tree.table.width }
+    requires front { path.old.items ≡ take (length path.old.items) (path_in (R.sheet rows.old).tree.table (R.sheet rows.old).tree.root index) }
+    requires way { IsOnWay (R.sheet rows.old).tree index (length path.old.items) row }
+    ensures path { path.new.items ≡ path_in (R.sheet rows.old).tree.table (R.sheet rows.old).tree.root index }
+    ensures end { IsAtEnd (R.sheet rows.old).tree index result }
+    ensures reads { ReadsUpTo (loads_in path.new.items - loads_in path.old.items - 1) (R.sheet rows.old) (R.sheet rows.new) }
+{
+    match rows.width() {
+        Width::Long => descend_by(rows, Width::Long, row, index, path),
+        Width::Short => descend_by(rows, Width::Short, row, index, path),
+    }
 }
 
 /// The way to an index, and the slot of the leaf that holds it. It is empty where the tree is.

@@ -82,10 +82,15 @@ module _ (q q' : PassPart) (row : Row) (place : SlotPlace) (col name : ℕ) (on 
   pub comes_to : LoadedChild (column_at (kind_width q.shape.kind) row.at.number col) name q q'
   comes_to = told.child (inner_level q row on inner)
 
+  -- it covers just the place
+  pub child_ends : ((here q').extent.first ≡ place.first) × ((here q').extent.last ≡ place.last)
+  child_ends =
+      let word : column_at (kind_width q.shape.kind) row.at.number col ≡ column_at (kind_width q.shape.kind) (here q).row (slot_column (slots_in q (here q)) place.slot) = (λ i. column_at (kind_width q.shape.kind) (on.number i) (column i)) in
+      comes_to.covers place.slot _ word is.stands
+
   pub child_on : (child : Row) → IsNamed name row.width place.first place.last child → IsOnRow q' child
   child_on child named =
-      let word : column_at (kind_width q.shape.kind) row.at.number col ≡ column_at (kind_width q.shape.kind) (here q).row (slot_column (slots_in q (here q)) place.slot) = (λ i. column_at (kind_width q.shape.kind) (on.number i) (column i)) in
-      let covers = comes_to.covers place.slot _ word is.stands in
+      let covers = child_ends in
       let ends = (place_within q row place on is).2 in let within = on.within in
       let shape : q'.shape ≡ q.shape = ap (λ (z : PassPart). z.shape) comes_to.reads.is in
       on_come q' child name (here q).since row.width place.first place.last comes_to.at comes_to.comes named (on.wide ∙ ap (λ (s : Shape). kind_width s.kind) (sym shape)) covers.0 covers.1

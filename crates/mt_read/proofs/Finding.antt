@@ -1,10 +1,13 @@
 -- How a slot is found in the row that a section is at.
-use Rattle.mt_read.proofs.Prelude.{◌≡◌, ℕ, ◌+◌, ◌-◌, ◌<◌, ◌≤◌, List, Some, sym, ap, ◌∙◌, subst, arith, ◌*◌, slice_index, slice_get, Width, kind_width, columns, begins_long, begins_on, Span, pivot_column, items_from, slots_of, gaps_of, Fills, spans_from, Held, copy_of, slot_for, span_at, at_slot, at_get, Passed, Ends, passed_more, ends_at_pivot, ends_at_last, base_of, Pass, PassPart, column_at, LoadedPivot, here, kind_of, slots_in, spans_here, with_seen, Identity, IsPassOf, part_of, Row, SlotPlace, IsOnRow, IsPlaceIn, SeesMore}
+use Rattle.mt_read.proofs.Prelude.{length, ◌≡◌, ℕ, ◌+◌, ◌-◌, ◌<◌, ◌≤◌, List, Some, refl, sym, ap, ◌∙◌, subst, arith, ◌*◌, slice_index, slice_get, Width, kind_width, columns, Begins, begins_long, begins_none, begins_on, Span, pivot_column, items_from, slots_of, gaps_of, Fills, spans_from, Held, copy_of, slot_for, span_at, at_slot, at_get, Passed, Ends, passed_more, ends_at_pivot, ends_at_last, IsSought, row_at, here_used, base_of, column, Pass, PassPart, column_at, LoadedPivot, here, kind_of, slots_in, spans_here, touched, with_seen, Identity, IsPassOf, part_of, Row, SlotPlace, Spot, IsAtSpot, row_here, IsOnRow, IsPlaceIn, SeesMore}
 
 -- ---- the pass has only seen more
 
 pub sees_on : (q q' q'' : PassPart) → SeesMore q q' → SeesMore q' q'' → SeesMore q q''
 sees_on q q' q'' s t = record { is = t.is ∙ ap (λ (z : PassPart). record (with_seen z q''.seen) { steps = q''.steps }) s.is; seen = begins_on q.seen q'.seen q''.seen s.seen t.seen }
+
+pub sees_none : (q : PassPart) → SeesMore q q
+sees_none q = record { is = refl; seen = begins_none q.seen }
 
 pub on_more : (q q' : PassPart) (row : Row) → SeesMore q q' → IsOnRow q row → IsOnRow q' row
 on_more q q' row s on =
@@ -27,6 +30,27 @@ on_more q q' row s on =
 
 pub place_more : (q q' : PassPart) (place : SlotPlace) → SeesMore q q' → IsPlaceIn q place → IsPlaceIn q' place
 place_more q q' place s is = subst (λ (z : PassPart). IsPlaceIn z place) (sym s.is) (record { word = is.word; stands = is.stands })
+
+-- ---- a row of which no ends are kept
+
+pub spot_more : (q q' : PassPart) (spot : Spot) → SeesMore q q' → IsAtSpot q spot → IsAtSpot q' spot
+spot_more q q' spot s at =
+    let same : here q' ≡ here q = ap here s.is in
+    subst (λ (x : Held). IsOnRow q' (record { at = spot.at; kind = spot.kind; width = spot.width; min = x.extent.first; max = x.extent.last })) (sym same) (on_more q q' (row_here q spot) s at)
+
+-- a row whose ends are kept is at its spot
+pub on_spot : (q : PassPart) (row : Row) → IsOnRow q row → IsAtSpot q (record { at = row.at; kind = row.kind; width = row.width })
+on_spot q row on = subst (IsOnRow q) (λ i. record { at = row.at; kind = row.kind; width = row.width; min = on.min i; max = on.max i }) on
+
+-- a word of no interest was loaded
+pub touched_sees : (q q' : PassPart) → q' ≡ touched q → SeesMore q q'
+touched_sees q q' is =
+    let seen : q'.seen ≡ q.seen = ap (λ (z : PassPart). z.seen) is in
+    let steps : q'.steps ≡ q.steps + 1 = ap (λ (z : PassPart). z.steps) is in
+    record {
+      is = is ∙ (λ i. record q { seen = sym seen i; steps = sym steps i });
+      seen = subst (Begins q.seen) (sym seen) (begins_none q.seen);
+    }
 
 -- ---- the row's columns
 
@@ -114,3 +138,41 @@ module _ (q : PassPart) (row : Row) (on : IsOnRow q row) where
   -- the code's number of slots
   pub count_is : (n : ℕ) → n ≡ slots_of row.width row.kind → n ≡ slots_of (here q).width (kind_of q (here q))
   count_is n count = slots_counted q row on n count ∙ slots_are q row on
+
+-- ---- by groups of slots
+
+module _ (q : PassPart) (row : Row) (on : IsOnRow q row) where
+  abbrev z : Held
+  z = here q
+
+  -- the row, as walks of one thread have it, may be searched
+  pub is_sought : IsSought (copy_of z) (row_at z.row (kind_of q z) z.extent.first z.extent.last)
+  is_sought = record { fills = on.shape.fills; unused = on.shape.unused }
+
+  pub column_kept : (q' : PassPart) (col word : ℕ) → SeesMore q q' → word ≡ column (copy_of (here q')) (here q').row col → word ≡ column (copy_of z) z.row col
+  column_kept q' col word s is = is ∙ ap (λ (p : PassPart). column (copy_of (here p)) (here p).row col) s.is
+
+  -- what stands in a slot of the row, by its ends
+  pub place_in : (index slot first last : ℕ) → z.extent.first ≤ index → index ≤ z.extent.last → slot ≡ slot_for (spans_here q z) index
+      → first ≡ (span_at (spans_here q z) slot).first → last ≡ (span_at (spans_here q z) slot).last → IsPlaceIn q (record { slot = slot; first = first; last = last }) × (first ≤ index) × (index ≤ last)
+  place_in index slot first last from to same begins ends =
+      let all = spans_here q z in
+      let at = at_slot z.extent.first (z.extent.last + 1) all index on.shape.fills from (omega arith) in
+      let got = at_get z.extent.first (z.extent.last + 1) all index (span_at all (slot_for all index)) at in
+      let got' : slice_get all slot ≡ Some (span_at all slot) = subst (λ (n : ℕ). slice_get all n ≡ Some (span_at all n)) (sym same) got in
+      let first_is : first ≡ (span_at all (slot_for all index)).first = begins ∙ ap (λ (n : ℕ). (span_at all n).first) same in
+      let last_is : last ≡ (span_at all (slot_for all index)).last = ends ∙ ap (λ (n : ℕ). (span_at all n).last) same in
+      let low = at.from in let high = at.to in (
+        record { word = (span_at all slot).word; stands = got' ∙ (λ i. Some (record { first = sym begins i; last = sym ends i; word = (span_at all slot).word })) },
+        omega arith,
+        omega arith,
+      )
+
+  pub slot_used : (index slot : ℕ) → index ≤ z.extent.last → slot ≡ slot_for (spans_here q z) index → slot < length (spans_here q z)
+  slot_used index slot to same = let used = here_used (copy_of z) (row_at z.row (kind_of q z) z.extent.first z.extent.last) is_sought index to in omega arith
+
+  pub span_kept : (q' : PassPart) (slot : ℕ) → SeesMore q q' → span_at (spans_here q' (here q')) slot ≡ span_at (spans_here q z) slot
+  span_kept q' slot s = ap (λ (p : PassPart). span_at (spans_here p (here p)) slot) s.is
+
+  pub used_kept : (q' : PassPart) (slot : ℕ) → SeesMore q q' → slot < length (spans_here q z) → slot < length (spans_here q' (here q'))
+  used_kept q' slot s used = subst (λ (p : PassPart). slot < length (spans_here p (here p))) (sym s.is) used

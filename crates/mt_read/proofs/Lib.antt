@@ -13,6 +13,7 @@ pub mod MapAnswers
 pub mod Reading
 pub mod NextAnswers
 pub mod SlotAnswers
+mod Spots
 pub mod Sought
 pub mod Silent
 pub mod Standing

@@ -1,6 +1,7 @@
 pub mod Answers
 pub mod Cursors
 pub mod Neighbours
+pub mod Seeks
 pub mod Walks
 pub mod Windows
 pub mod Prelude

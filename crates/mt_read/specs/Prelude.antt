@@ -8,6 +8,8 @@ pub use Rattle.mt_base.specs.declared.calls.Query.{Query}
 pub use Rattle.mt_base.specs.declared.calls.Query.TheVariants.{Find, Load, Next, Prev, Rfind}
 pub use Rattle.mt_base.specs.declared.kinds.Kind.{Kind}
 pub use Rattle.mt_base.specs.declared.ranges.Range.{Range}
+pub use Rattle.mt_base.specs.declared.widths.Width.{Width}
+pub use Rattle.mt_base.specs.declared.widths.Width.TheVariants.{Long, Short}
 pub use Rattle.mt_layout.specs.Sizes.{slots_of}
 pub use Rattle.mt_layout.specs.Spans.{leaf_range}
 pub use Rattle.mt_rows.specs.Spans.{inner_kind}

@@ -12,7 +12,7 @@ ghost use Rattle.mt_read.specs.Walks.{GoesOn, GoesOnTo, WasMarked};
 
 use crate::answers::ReadAnswer;
 use crate::bounds::{not_below, within};
-use crate::descent::{Row, find_slot, sought, walk};
+use crate::descent::{Row, find_along, sought, walk_along};
 use crate::reads::first_at;
 use mt_base::{Range, Steps};
 use mt_layout::is_dead_mark;
@@ -55,7 +55,7 @@ fn first_at_kept<L: Ledger>(
     ensures steps { steps.new ≤ steps.old + 35 }
 {
     let leaf = kept.leaf;
-    let place = find_slot(table, pass, &leaf, index, steps);
+    let place = find_along(table, pass, &leaf, index, steps);
     let range = first_at(table, pass, &leaf, &place, index, steps);
     let parent = table.load_parent(pass, leaf.at, steps);
     if is_dead_mark(leaf.at.number, parent) {
@@ -85,13 +85,13 @@ fn first_anew<L: Ledger>(
     ensures steps { steps.new ≤ steps.old + 163 }
 {
     let to = sought(table, index);
-    let Some(leaf) = walk(table, pass, to, steps) else {
+    let Some(leaf) = walk_along(table, pass, to, steps) else {
         return Found {
             range: None,
             leaf: None,
         };
     };
-    let place = find_slot(table, pass, &leaf, to, steps);
+    let place = find_along(table, pass, &leaf, to, steps);
     let range = first_at(table, pass, &leaf, &place, to, steps);
     Found {
         range: not_below(range, index, index),

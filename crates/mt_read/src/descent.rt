@@ -10,6 +10,7 @@ ghost use Rattle.mt_rule.specs.Sections.{IsAt, here, slots_in, moment_seen};
 ghost use Rattle.mt_rule.specs.Tokens.{identity_of, part_of, IsPassOf, Stepped, IsCounted};
 ghost use Rattle.mt_read.specs.Walks.{GoesOn, IsOnRow, IsOnLeaf, IsPlaceIn, IsUnder, SeesMore, sought, steps_down};
 
+use crate::seeks::{Spot, first_in, last_in, seek};
 use mt_base::{Steps, Width, top};
 use mt_layout::{RowKind, kind_of, row_of, slots};
 use mt_rule::{MtTable, Pass, RowAt};
@@ -52,6 +53,7 @@ pub fn width_with<const COLS: u32>() -> Width
 }
 
 /// The row of this width with this name, which covers `min` to `max`.
+#[inline(always)]
 fn row_named(name: u64, width: Width, min: u64, max: u64) -> Row
     requires name { IsSome (named_kind name) }
     ensures number { result.at.number ≡ row_in name }
@@ -77,7 +79,42 @@ fn row_named(name: u64, width: Width, min: u64, max: u64) -> Row
 }
 
 /// The slot that holds an index, of the row that the section is at: the first whose pivot is not below it.
+#[inline(always)]
 pub fn find_slot<L: Ledger>(
+    table: &MtTable,
+    pass: &mut Pass,
+    row: &Row,
+    index: u64,
+    steps: &mut Steps<L>,
+) -> SlotPlace
+    requires pass { IsPassOf (identity_of table.now) pass.old }
+    requires on { IsOnRow (part_of pass.old) row.now }
+    requires from { row.now.min ≤ index }
+    requires to { index ≤ row.now.max }
+    ensures stepped { Stepped (identity_of table.now) pass.old pass.new }
+    ensures sees { SeesMore (part_of pass.old) (part_of pass.new) }
+    ensures on { IsOnRow (part_of pass.new) row.now }
+    ensures place { IsPlaceIn (part_of pass.new) result }
+    ensures from { result.first ≤ index }
+    ensures to { index ≤ result.last }
+    ensures pivots { steps.new + 1 ≤ steps.old + slots_in (part_of pass.old) (here (part_of pass.old)) }
+    ensures counted { IsCounted pass.old pass.new steps.old steps.new }
+    ensures steps { steps.new ≤ steps.old + 31 }
+{
+    let spot = Spot {
+        at: row.at,
+        kind: row.kind,
+        width: row.width,
+    };
+    let slot = seek(table, pass, spot, index, steps);
+    let first = first_in(table, pass, spot, row.min, slot, steps);
+    let last = last_in(table, pass, spot, row.max, slot, steps);
+    SlotPlace { slot, first, last }
+}
+
+/// The slot that holds an index, of the row that the section is at, pivot by pivot: the branches are foretold well where the row was
+/// searched before.
+pub fn find_along<L: Ledger>(
     table: &MtTable,
     pass: &mut Pass,
     row: &Row,
@@ -118,8 +155,38 @@ pub fn find_slot<L: Ledger>(
     }
 }
 
+/// The same in one way or the other: pivot by pivot where a walk goes from range to range, and else by groups of slots.
+#[inline(always)]
+fn find_by<const ALONG: bool, L: Ledger>(
+    table: &MtTable,
+    pass: &mut Pass,
+    row: &Row,
+    index: u64,
+    steps: &mut Steps<L>,
+) -> SlotPlace
+    requires pass { IsPassOf (identity_of table.now) pass.old }
+    requires on { IsOnRow (part_of pass.old) row.now }
+    requires from { row.now.min ≤ index }
+    requires to { index ≤ row.now.max }
+    ensures stepped { Stepped (identity_of table.now) pass.old pass.new }
+    ensures sees { SeesMore (part_of pass.old) (part_of pass.new) }
+    ensures on { IsOnRow (part_of pass.new) row.now }
+    ensures place { IsPlaceIn (part_of pass.new) result }
+    ensures from { result.first ≤ index }
+    ensures to { index ≤ result.last }
+    ensures pivots { steps.new + 1 ≤ steps.old + slots_in (part_of pass.old) (here (part_of pass.old)) }
+    ensures counted { IsCounted pass.old pass.new steps.old steps.new }
+    ensures steps { steps.new ≤ steps.old + 31 }
+{
+    if ALONG {
+        return find_along(table, pass, row, index, steps);
+    }
+    find_slot(table, pass, row, index, steps)
+}
+
 /// The row below an inner row that covers an index there.
-fn child_at<L: Ledger>(
+#[inline(always)]
+fn child_at<const ALONG: bool, L: Ledger>(
     table: &MtTable,
     pass: &mut Pass,
     row: &Row,
@@ -141,14 +208,15 @@ fn child_at<L: Ledger>(
     ensures counted { IsCounted pass.old pass.new steps.old steps.new }
     ensures steps { steps.new + steps_down (part_of pass.new) ≤ steps.old + steps_down (part_of pass.old) }
 {
-    let place = find_slot(table, pass, row, index, steps);
+    let place = find_by::<ALONG, L>(table, pass, row, index, steps);
     let column = slots(row.width, row.kind) + place.slot;
     let name = table.load_slot(pass, row.at, column, steps);
     row_named(name, row.width, place.first, place.last)
 }
 
 /// The leaf that covers an index, by a walk from the row that the section is at.
-fn descend<L: Ledger>(
+#[inline(always)]
+fn descend<const ALONG: bool, L: Ledger>(
     table: &MtTable,
     pass: &mut Pass,
     row: Row,
@@ -170,13 +238,13 @@ fn descend<L: Ledger>(
 {
     let mut row = row;
     while row.kind != RowKind::Leaf {
-        row = child_at(table, pass, &row, index, steps);
+        row = child_at::<ALONG, L>(table, pass, &row, index, steps);
     }
     row
 }
 
 /// The leaf that covers an index, by a walk from the root over rows of so many words; none where the tree is empty.
-pub fn walk_by<const COLS: u32, L: Ledger>(
+pub fn walk_by<const COLS: u32, const ALONG: bool, L: Ledger>(
     table: &MtTable,
     pass: &mut Pass,
     index: u64,
@@ -203,7 +271,34 @@ pub fn walk_by<const COLS: u32, L: Ledger>(
         return None;
     }
     let root = row_named(name, width, 0, top(width));
-    Some(descend(table, pass, root, index, steps))
+    Some(descend::<ALONG, L>(table, pass, root, index, steps))
+}
+
+/// The leaf that covers an index, by a walk from the root that searches rows in one way or the other.
+fn walk_as<const ALONG: bool, L: Ledger>(
+    table: &MtTable,
+    pass: &mut Pass,
+    index: u64,
+    steps: &mut Steps<L>,
+) -> Option<Row>
+    requires pass { IsPassOf (identity_of table.now) pass.old }
+    requires open { (part_of pass.old).standing ≢ None }
+    requires index { index ≤ greatest_of (part_of pass.old).shape.kind }
+    ensures stepped { Stepped (identity_of table.now) pass.old pass.new }
+    ensures goes { GoesOn (part_of pass.old) (part_of pass.new) }
+    ensures empty { IfNone result ((moment_seen (part_of pass.new) (length (part_of pass.new).seen)).ranges ≡ []) }
+    ensures leaf { IfSome result (IsOnLeaf (part_of pass.new)) }
+    ensures since { IfSome result (λ leaf. length (part_of pass.old).seen ≤ (here (part_of pass.new)).since) }
+    ensures under { IfSome result (λ leaf. IsAt (part_of pass.old) → IsUnder (part_of pass.new) (here (part_of pass.old))) }
+    ensures from { IfSome result (λ leaf. leaf.min ≤ index) }
+    ensures to { IfSome result (λ leaf. index ≤ leaf.max) }
+    ensures counted { IsCounted pass.old pass.new steps.old steps.new }
+    ensures steps { steps.new ≤ steps.old + 129 }
+{
+    match table.width() {
+        Width::Long => walk_by::<32, ALONG, L>(table, pass, index, steps),
+        Width::Short => walk_by::<64, ALONG, L>(table, pass, index, steps),
+    }
 }
 
 /// The leaf that covers an index, by a walk from the root; none where the tree is empty.
@@ -227,8 +322,29 @@ pub fn walk<L: Ledger>(
     ensures counted { IsCounted pass.old pass.new steps.old steps.new }
     ensures steps { steps.new ≤ steps.old + 129 }
 {
-    match table.width() {
-        Width::Long => walk_by::<32, L>(table, pass, index, steps),
-        Width::Short => walk_by::<64, L>(table, pass, index, steps),
-    }
+    walk_as::<false, L>(table, pass, index, steps)
+}
+
+/// The same, for who comes from the leaf before: the branches on pivots are foretold well then.
+pub fn walk_along<L: Ledger>(
+    table: &MtTable,
+    pass: &mut Pass,
+    index: u64,
+    steps: &mut Steps<L>,
+) -> Option<Row>
+    requires pass { IsPassOf (identity_of table.now) pass.old }
+    requires open { (part_of pass.old).standing ≢ None }
+    requires index { index ≤ greatest_of (part_of pass.old).shape.kind }
+    ensures stepped { Stepped (identity_of table.now) pass.old pass.new }
+    ensures goes { GoesOn (part_of pass.old) (part_of pass.new) }
+    ensures empty { IfNone result ((moment_seen (part_of pass.new) (length (part_of pass.new).seen)).ranges ≡ []) }
+    ensures leaf { IfSome result (IsOnLeaf (part_of pass.new)) }
+    ensures since { IfSome result (λ leaf. length (part_of pass.old).seen ≤ (here (part_of pass.new)).since) }
+    ensures under { IfSome result (λ leaf. IsAt (part_of pass.old) → IsUnder (part_of pass.new) (here (part_of pass.old))) }
+    ensures from { IfSome result (λ leaf. leaf.min ≤ index) }
+    ensures to { IfSome result (λ leaf. index ≤ leaf.max) }
+    ensures counted { IsCounted pass.old pass.new steps.old steps.new }
+    ensures steps { steps.new ≤ steps.old + 129 }
+{
+    walk_as::<true, L>(table, pass, index, steps)
 }

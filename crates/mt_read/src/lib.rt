@@ -5,11 +5,13 @@ mod answers;
 mod bounds;
 mod cursor;
 mod descent;
+mod entries;
 mod lasts;
 mod neighbours;
 mod queries;
 mod reads;
 mod sections;
+mod seeks;
 
 pub use answers::ReadAnswer;
 pub use cursor::Cursor;

@@ -9,18 +9,12 @@ ghost use Rattle.mt_read.specs.Windows.{HasRead};
 
 use crate::answers::ReadAnswer;
 use crate::bounds::within;
+use crate::entries::entry_of;
 use crate::reads::{first_from, range_of};
 use crate::sections::Section;
 use mt_base::{Range, Steps};
 use mt_rule::{MtTable, Pass};
 use std::sync::ledger::Ledger;
-
-/// The entry of a range.
-fn entry_of(range: Option<Range>) -> Option<u64>
-    ensures { result ≡ option_map (λ r. r.entry) range }
-{
-    range.map(|r| r.entry)
-}
 
 /// The range that an index lies in. There is none where it lies in a hole.
 pub fn load_range<L: Ledger>(
@@ -55,13 +49,16 @@ pub fn load<L: Ledger>(
     ensures read { (k : ℕ) × (range : Option Range) × Read (tree_in (identity_of table.now)) (pass_in pass.old) result.lo result.hi k (Load index) range (pass_in pass.new) × (result.value ≡ option_map (λ r. r.entry) range) }
     ensures section { HasRead result.lo result.hi (pass_in pass.old) (pass_in pass.new) }
     ensures counted { IsCounted pass.old pass.new steps.old steps.new }
-    ensures steps { steps.new ≤ steps.old + 170 }
+    ensures steps { steps.new ≤ steps.old + 95 }
 {
-    let answer = load_range(table, pass, index, steps);
+    let section = Section::begin(table, pass, steps);
+    let lo = section.epoch();
+    let entry = entry_of(table, pass, index, steps);
+    let hi = section.end(table, pass, steps);
     ReadAnswer {
-        lo: answer.lo,
-        hi: answer.hi,
-        value: entry_of(answer.value),
+        lo,
+        hi,
+        value: entry,
     }
 }
 

@@ -175,7 +175,7 @@ fn range_by<const COLS: u32, L: Ledger>(
 {
     let width = width_with::<COLS>();
     let to = index.min(top(width));
-    let found = walk_by::<COLS, L>(table, pass, to, steps)?;
+    let found = walk_by::<COLS, false, L>(table, pass, to, steps)?;
     let leaf = leaf_with(width, found);
     let place = find_slot(table, pass, &leaf, to, steps);
     let range = range_at(table, pass, &leaf, &place, steps);

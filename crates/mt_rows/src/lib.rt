@@ -1,7 +1,6 @@
 //! The words of a tree's rows: what they stand for, and the trait through which they are read and written.
 #![tactic(auto)]
 
-mod drafting;
 mod items;
 mod kinds;
 pub mod laws;
@@ -12,7 +11,6 @@ mod row_widths;
 mod rows;
 mod words;
 
-pub use drafting::draft_each;
 pub use items::{load_item, load_item_of};
 pub use kinds::inner_kind;
 pub use plain::PlainRows;

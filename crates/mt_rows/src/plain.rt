@@ -194,7 +194,7 @@ fn enliven_all(width: Width, words: &Words, root: u64, fates: &mut [Fate]) -> u6
 impl PlainRows {
     ghost use Rattle.std.specs.Prelude.{◌≡◌, ℕ, ◌*◌, ◌/◌, ◌%◌, ◌<◌, ◌≤◌, IfOk, true, false, length, slice_index, if◌then◌else◌};
     ghost use Rattle.mt_base.specs.declared.kinds.Kind.{Kind};
-    ghost use Rattle.mt_base.specs.declared.widths.Width.TheVariants.{Long, Short};
+    ghost use Rattle.mt_base.specs.declared.widths.Width.TheVariants.{Long};
     ghost use Rattle.mt_base.specs.Width.{columns, deepest, first_row, most_rows};
     ghost use Rattle.mt_rows.specs.OfWords.{IsMadeOf};
     ghost use Rattle.mt_rows.specs.Plain.{new_sheet, IsPlaceOfTree, opens};
@@ -213,18 +213,6 @@ impl PlainRows {
         ensures { IfOk result (λ p. sheet_in p ≡ new_sheet Long rows) }
     {
         PlainRows::of_width(alloc, Width::Long, rows)
-    }
-
-    /// As `new`, but of narrow rows.
-    ///
-    /// # Errors
-    ///
-    /// `NoMemory` where memory ran out.
-    pub fn short(alloc: Global, rows: u64) -> Result<PlainRows, NoMemory>
-        requires { rows ≤ most_rows }
-        ensures { IfOk result (λ p. sheet_in p ≡ new_sheet Short rows) }
-    {
-        PlainRows::of_width(alloc, Width::Short, rows)
     }
 
     /// As `new`, but of rows of this width.
@@ -379,7 +367,10 @@ impl Rows for PlainRows {
 
     fn load(&mut self, row: u32, col: u32) -> u64 {
         self.state.reads.tick();
-        self.state.words.get(self.state.width.place_of(row, col))
+        let begin = self.state.width.place_of(row, 0);
+        self.state
+            .words
+            .get_in(begin, self.state.width.cols(), col as usize)
     }
 
     fn root(&mut self) -> u64 {

@@ -45,6 +45,13 @@ impl RowWidth {
         self.width
     }
 
+    /// How many words a row has.
+    pub fn cols(&self) -> usize
+        ensures { result ≡ columns self.now }
+    {
+        self.cols
+    }
+
     /// Where the word in this column of this row stands.
     pub fn place_of(&self, row: u32, col: u32) -> usize
         requires row { row < first_row + most_rows }

@@ -87,6 +87,31 @@ impl Words {
         self.written.get(at).copied().unwrap_or(0)
     }
 
+    /// The same, for the few rows that were not written to their end.
+    #[inline(never)]
+    #[cold]
+    fn get_apart(&self, at: usize) -> u64
+        ensures { result ≡ slice_index self.now.items at }
+    {
+        self.get(at)
+    }
+
+    /// The word in a column of a row of so many words, which begins at a place. One look at where the row ends serves for all of its
+    /// columns, where several are loaded.
+    #[inline(always)]
+    #[tactic(auto, using(crate::proofs::ZeroWords::zeros_behind, crate::proofs::ZeroWords::zeros_long))]
+    pub(crate) fn get_in(&self, begin: usize, cols: usize, col: usize) -> u64
+        requires column { col < cols }
+        requires row { begin + cols ≤ length self.now.items }
+        ensures { result ≡ slice_index self.now.items (begin + col) }
+    {
+        let written = self.written.as_slice();
+        if begin + cols <= written.len() {
+            return written[begin + col];
+        }
+        self.get_apart(begin + col)
+    }
+
     /// Writes a word at a place.
     #[tactic(auto, using(crate::proofs::ZeroWords::zeros_set_next, crate::proofs::ZeroWords::zeros_reach, crate::proofs::ZeroWords::zeros_fit, crate::proofs::ZeroWords::zeros_long))]
     pub(crate) fn set(&mut self, at: usize, word: u64)

@@ -32,6 +32,9 @@ module _ (t : MtTable) (p : Pass) (of : IsPassOf (identity_of t) p) where
       let words = t.words in
       omega arith
 
+  pub any_low : (col : ℕ) → col < columns (kind_width (part_of p).shape.kind) → col < columns t.width
+  any_low col = subst (λ (w : Width). col < columns w) (sym width_is)
+
   pub pivot_low : (x : Held) (i col : ℕ) → col ≡ pivot_column i → i + 1 < slots_in (part_of p) x → col < columns t.width
   pivot_low x i col is low = subst (λ (w : Width). col < columns w) (sym width_is) (let within = pivot_within (kind_width (part_of p).shape.kind) (kind_at (part_of p).shape.kind x.extent.level) i low in omega arith)
 

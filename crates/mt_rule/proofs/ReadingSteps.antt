@@ -1,5 +1,5 @@
 -- Each step of a pass that reads without the lock keeps the rule, and tells what it is said to tell.
-use Rattle.mt_rule.proofs.Prelude.{◌≡◌, ◌≢◌, ℕ, zero, suc, ◌+◌, ◌-◌, ◌*◌, ◌<◌, ◌≤◌, List, [], ◌∷◌, Bool, true, false, Option, Some, None, length, refl, sym, ap, ◌∙◌, subst, arith, length-set, inl, inr, IfSome, slice_index, slice_set, Contains, slice_get, cases_Bool, cases_eq, set-get_or, get_or-set_same, get_or-set_other, Contains-append_left, Contains-push, none-some, none, some, some-ne-none, some-injective, get_elem?, Me, Act, step, stepped, carried_after, Valid, keeps, Allows, Holder, Width, kind_width, first_row, begins_long, begins_none, pivot_column, slot_column, dead_mark, named_kind, row_in, slots_of, place_behind, words_before, words_in_all, Live, Dead, one_if, life_of, word_at, inner_kind, root_span, map_in, one_of_get, Extent, Held, HoldsRow, Snapshot, come, as_known_now, calls, extent_at, spans_at, few_slots_below, child_held, leaf_held, marked_held, renewed_held, root_held, unmarked_held, Moment, Shape, TableStart, View, PenPart, PassPart, commits_at, begun_at, root_at, section_at, section_word, IsSectionWord, column_at, HasPass, known_by, least_number, moment_at, pass_of, state_in, tree_of, begun_by, HasFloor, IsHeldBy, IsKept, IsOneHistory, IsOpenAt, IsSoundPen, PassFits, ViewFits, WordsFit, IsAt, held_behind, closed_section, floor_or, here, kind_of, opened_section, slots_in, spans_here, IsLeafRead, ParentTells, marks_with, loads_begun, loads_commits, loads_parent, loads_pivot, loads_root, loads_slot, opens_section, closes_section}
+use Rattle.mt_rule.proofs.Prelude.{◌≡◌, ◌≢◌, ℕ, zero, suc, ◌+◌, ◌-◌, ◌*◌, ◌<◌, ◌≤◌, List, [], ◌∷◌, Bool, true, false, Option, Some, None, length, refl, sym, ap, ◌∙◌, subst, arith, length-set, inl, inr, IfSome, slice_index, slice_set, Contains, slice_get, cases_Bool, cases_eq, set-get_or, get_or-set_same, get_or-set_other, Contains-append_left, Contains-push, none-some, none, some, some-ne-none, some-injective, get_elem?, Me, Act, step, stepped, carried_after, Valid, keeps, Allows, Holder, Width, kind_width, first_row, begins_long, begins_none, pivot_column, slot_column, dead_mark, named_kind, row_in, slots_of, place_behind, words_before, words_in_all, Live, Dead, one_if, life_of, word_at, inner_kind, root_span, map_in, one_of_get, Extent, Held, HoldsRow, Snapshot, come, as_known_now, calls, extent_at, spans_at, few_slots_below, child_held, leaf_held, marked_held, renewed_held, root_held, unmarked_held, Moment, Shape, TableStart, View, PenPart, PassPart, commits_at, begun_at, root_at, section_at, section_word, IsSectionWord, column_at, HasPass, known_by, least_number, moment_at, pass_of, state_in, tree_of, begun_by, HasFloor, IsHeldBy, IsKept, IsOneHistory, IsOpenAt, IsSoundPen, PassFits, ViewFits, WordsFit, IsAt, held_behind, closed_section, floor_or, here, kind_of, opened_section, slots_in, spans_here, IsLeafRead, ParentTells, marks_with, loads_begun, loads_commits, loads_parent, loads_pivot, loads_root, loads_slot, opens_section, closes_section, touches}
 use Rattle.mt_base.specs.Passes as known
 use Rattle.mt_rule.proofs.Beginnings.{legal_within}
 use Rattle.mt_rule.proofs.Carrying.{St, least_low, recast}
@@ -368,6 +368,7 @@ module _ (told : TableStart) (slots by : ℕ) (me : M) (is : HasPass me.0) (stan
               last = refl;
               level = subst (λ (e : Extent). slots_of (kind_width p₀.shape.kind) (inner_kind p₀.shape.kind) * e.level ≤ 128) holds.extent
                   (few_slots_below p₀.shape.kind (state_in p₀) r₁.extents (moment_at p₀.shape p₀.history) r₁.sound.known r₁.sound.tree.words r₁.sound.rows there);
+              low = root.1;
             };
           },
         ),
@@ -384,6 +385,20 @@ roots told slots by me is stands s r₀ _ at _ = elim (cases_eq (slice_index s.w
 -- the words of rows are those that the pen knows
 word_now : (ws : List ℕ) (p : PenPart) (row col : ℕ) → WordsFit ws p → first_row ≤ row → slice_index ws (column_at (kind_width p.shape.kind) row col) ≡ slice_index p.words (column_at (kind_width p.shape.kind) row col)
 word_now ws p row col fit low = fit.columns (column_at (kind_width p.shape.kind) row col) (place_behind (kind_width p.shape.kind) row first_row col low)
+
+-- a word of no interest
+pub touches_at : (told : TableStart) (slots by : ℕ) (me : M) (word : ℕ) → HasPass me.0 → Allows (IsKept told) slots by me word (λ n. n) (touches (step slots word 0 0 none) me)
+touches_at told slots by me word is s r₀ _ at _ =
+    let q = pass_of me.0 in
+    let p : PenPart = part_by told s r₀ by me.0 at q is in
+    let r : IsKept told s = kept_by told s r₀ by me.0 at q is in
+    let f : PassFits r.extents p q = (r.each by me.0 at).passes q is in (
+      record me.0 { pass = Some (counted q q) },
+      keeps,
+      tt,
+      loads_to told s r₀ by me.0 at q is word q refl refl f,
+      (record { view = refl; slots = refl; counted = refl }, refl),
+    )
 
 -- a pivot is as it was
 pub pivots : (told : TableStart) (slots by : ℕ) (me : M) (word row col : ℕ) → HasPass me.0 → IsAt (pass_of me.0) → row ≡ (here (pass_of me.0)).row

@@ -4,7 +4,7 @@ pub use Rattle.mt_base.specs.History.{History, IsLegal, Record, limits_after, ma
 pub use Rattle.mt_base.specs.Map.{IsMap}
 pub use Rattle.mt_base.specs.Nodes.{IsRefused}
 pub use Rattle.mt_base.specs.Passes.{Begins, holder_of, places}
-pub use Rattle.mt_base.specs.Width.{columns, first_row, greatest, kind_width, most_rows}
+pub use Rattle.mt_base.specs.Width.{columns, deepest, first_row, greatest, kind_width, most_rows}
 pub use Rattle.mt_base.specs.declared.calls.Call.{Call}
 pub use Rattle.mt_base.specs.declared.kinds.Kind.{Kind}
 pub use Rattle.mt_base.specs.declared.replies.Holder.{Holder}

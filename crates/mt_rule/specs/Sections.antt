@@ -4,7 +4,7 @@ use Rattle.std.specs.Prelude.{◌≡◌, ◌≢◌, ℕ, ◌+◌, ◌*◌, ◌^�
 use mathlib.Core.Option.{some}
 use lib.ListN.{get_elem?}
 use Rattle.atomic_table.specs.Table.{Step}
-use Rattle.mt_rule.specs.Prelude.{Long, IsMap, Begins, kind_width, greatest, RowKind, Span, slot_column, dead_mark, named_kind, row_in, slots_of, Held, Snapshot, copy_of, HasPart, HasRow, SameForm, Shape, spans_at, kind_at, inner_kind}
+use Rattle.mt_rule.specs.Prelude.{Long, IsMap, Begins, kind_width, greatest, deepest, RowKind, Span, slot_column, dead_mark, named_kind, row_in, slots_of, Held, Snapshot, copy_of, HasPart, HasRow, SameForm, Shape, spans_at, kind_at, inner_kind}
 use Rattle.mt_base.specs.Passes as known
 use Rattle.mt_life.specs.declared.views.Moment as life
 use Rattle.mt_rule.specs.declared.views.Moment.{Moment}
@@ -114,6 +114,10 @@ opened_section q = record q { opened = q.opened ++ q.epoch ∷ []; standing = So
 abbrev pub closed_section : PassPart → PassPart
 closed_section q = record q { standing = None; floor = None; held = []; steps = q.steps + 1 }
 
+-- A word of no interest was loaded.
+abbrev pub touched : PassPart → PassPart
+touched q = record q { steps = q.steps + 1 }
+
 abbrev pub floor_or : Option ℕ → ℕ → Option ℕ
 floor_or None n = Some n
 floor_or (Some floor) n = Some floor
@@ -131,6 +135,7 @@ pub record LoadedRootRow (found : ℕ) (q q' : PassPart) : Type 0 where
   pub first : (here q').extent.first ≡ 0
   pub last : (here q').extent.last ≡ greatest (kind_width q'.shape.kind)
   pub level : slots_of (kind_width q'.shape.kind) (inner_kind q'.shape.kind) * (here q').extent.level ≤ 128
+  pub low : (here q').extent.level < deepest
 
 pub record LoadedRoot (found : ℕ) (q q' : PassPart) : Type 0 where
   pub empty : found ≡ 0 → LoadedNoRoot q q'
@@ -200,6 +205,9 @@ loads_root step me found me' = OfPass me me' × LoadedRoot found (pass_of me.0) 
 
 abbrev pub loads_pivot : Step (Unit {0}) → Seat → ℕ → Seat → Type 0
 loads_pivot step me found me' = OfPass me me' × LoadedPivot step.word found (pass_of me.0) (pass_of me'.0)
+
+abbrev pub touches : Step (Unit {0}) → Seat → ℕ → Seat → Type 0
+touches step me found me' = OfPass me me' × (pass_of me'.0 ≡ touched (pass_of me.0))
 
 abbrev pub loads_slot : Step (Unit {0}) → Seat → ℕ → Seat → Type 0
 loads_slot step me found me' = OfPass me me' × LoadedSlot step.word found (pass_of me.0) (pass_of me'.0)

@@ -276,6 +276,15 @@ impl Play<(), View> for LoadsPivot {
     ghost then = { loads_pivot };
 }
 
+/// A pass loads a word of which it wants to know nothing.
+pub(crate) struct Touches;
+
+impl Play<(), View> for Touches {
+    ghost use Rattle.mt_rule.specs.Sections.{touches};
+
+    ghost then = { touches };
+}
+
 /// A pass loads a slot of that row.
 pub(crate) struct LoadsSlot;
 

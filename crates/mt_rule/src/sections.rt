@@ -6,14 +6,14 @@ ghost use Rattle.mt_base.specs.Width.{columns, first_row, kind_width, most_rows}
 ghost use Rattle.mt_layout.specs.Columns.{pivot_column, slot_column};
 ghost use Rattle.mt_life.specs.Known.{HasRow};
 ghost use Rattle.mt_rule.specs.Places.{column_at, IsRowAt};
-ghost use Rattle.mt_rule.specs.Sections.{IsAt, here, slots_in, spans_here, opened_section, closed_section, LoadedBegun, LoadedCommits, LoadedParent, LoadedPivot, LoadedRoot, LoadedSlot};
+ghost use Rattle.mt_rule.specs.Sections.{IsAt, here, slots_in, spans_here, opened_section, closed_section, touched, LoadedBegun, LoadedCommits, LoadedParent, LoadedPivot, LoadedRoot, LoadedSlot};
 ghost use Rattle.mt_rule.specs.Tokens.{identity_of, part_of, pass_in, steps_made, tree_in, IsPassOf, Stepped};
 
 use crate::passes::Pass;
 use crate::places::RowAt;
 use crate::rule::{
     Announced, ClosesSection, LoadsBegun, LoadsCommits, LoadsParent, LoadsPivot, LoadsRoot,
-    LoadsSlot, OpensSection,
+    LoadsSlot, OpensSection, Touches,
 };
 use crate::table::{BEGUN, COMMITS, MtTable, ROOT, section_index};
 use atomic_table::Badge;
@@ -111,6 +111,26 @@ impl MtTable {
         let word = self.table.shared.load::<LoadsPivot>(&mut seat, at);
         pass.seat = seat.into_badge();
         word
+    }
+
+    /// Loads a column of a row of which nothing is told, so that its line is at hand when one beside it is loaded.
+    #[inline(always)]
+    pub fn touch<L: Ledger>(&self, pass: &mut Pass, row: RowAt, col: u32, steps: &mut Steps<L>)
+        requires pass { IsPassOf (identity_of self.now) pass.old }
+        requires base { IsRowAt (kind_width (part_of pass.old).shape.kind) row }
+        requires row { HasRow (part_of pass.old).shape.rows row.number }
+        requires column { col < columns (kind_width (part_of pass.old).shape.kind) }
+        ensures stepped { Stepped (identity_of self.now) pass.old pass.new }
+        ensures part { part_of pass.new ≡ touched (part_of pass.old) }
+        ensures counted { steps_made pass.new ≡ steps_made pass.old + 1 }
+        ensures steps { steps.new ≡ steps.old + 1 }
+    {
+        steps.tick();
+        let badge = mem::replace(&mut pass.seat, Badge::blank());
+        let mut seat = badge.into_seat::<()>();
+        let at = self.column_in(row, col);
+        self.table.shared.load::<Touches>(&mut seat, at);
+        pass.seat = seat.into_badge();
     }
 
     /// The slot column of an item of the row that the section is at. Of an inner row it comes to the child.

@@ -1,68 +1,91 @@
-use Rattle.mt_read.proofs.Prelude.{rules, arith, ◌≡◌, ◌-◌, Some, ◌∙◌, refl, sym, slice_get, few_slots_of, some_slots_of, here, kind_of, spans_here, part_of}
-use Rattle.mt_read.proofs.Finding.{sees_on, on_more, place_more, pivot_is, count_is, slots_counted, one_passed, found_at_pivot, found_at_last}
+use Rattle.mt_read.proofs.Prelude.{ap, ◌∙◌, refl, sym, arith, Span, Held, part_of}
+use Rattle.mt_read.proofs.Finding.{on_spot, on_more, sees_on, place_more, place_in, slot_used, slots_counted, span_kept, used_kept}
+use Rattle.mt_read.proofs.Descending.{here_more}
 use Rattle.mt_read.proofs.descent.find_slot.Goals as goal
 
-pub returns-then-index-pivot-clause-place : goal.returns-then-index-pivot-clause-place
-returns-then-index-pivot-clause-place g c =
-    let q = part_of c.args.pass.now in
-    let on = c.requires.on in
-    let min = on.min in let max = on.max in
-    let count = count_is q c.args.row.now on c.slots-last_slot.result c.slots-last_slot.ensures in
-    let is = pivot_is q c.args.row.now on _ _ c.loop-slot.slot _ c.loop-slot.invariant.sees c.load_pivot-pivot.ensures.told in
-    place_more q (part_of c.load_pivot-pivot.new.pass) _ (sees_on _ _ _ c.loop-slot.invariant.sees c.load_pivot-pivot.ensures.told.reads) (found_at_pivot q c.args.index c.loop-slot.slot c.loop-slot.first c.load_pivot-pivot.result on.shape.fills (omega arith) is (omega arith) c.if-index-pivot.true (omega arith) c.loop-slot.invariant.passed)
+pub seek-slot-requires-clause-on : goal.seek-slot-requires-clause-on
+seek-slot-requires-clause-on g c = on_spot (part_of c.args.pass.now) c.args.row.now c.requires.on
 
-pub loop-slot-preserved : goal.loop-slot-preserved
-loop-slot-preserved g c =
+pub first_in-first-requires-clause-slot : goal.first_in-first-requires-clause-slot
+first_in-first-requires-clause-slot g c =
     let q = part_of c.args.pass.now in
     let on = c.requires.on in
     let max = on.max in
-    let count = count_is q c.args.row.now on c.slots-last_slot.result c.slots-last_slot.ensures in
-    let is = pivot_is q c.args.row.now on _ _ c.loop-slot.slot _ c.loop-slot.invariant.sees c.load_pivot-pivot.ensures.told in
-    record {
-      stepped = search rules;
-      sees = sees_on _ _ _ c.loop-slot.invariant.sees c.load_pivot-pivot.ensures.told.reads;
-      on = on_more _ _ _ c.load_pivot-pivot.ensures.told.reads c.loop-slot.invariant.on;
-      passed = one_passed q c.args.index c.loop-slot.slot c.loop-slot.first c.load_pivot-pivot.result (omega arith) is c.if-index-pivot.false (omega arith) c.loop-slot.invariant.passed;
-      from = omega arith;
-      counted = omega arith;
-      steps = omega arith;
-    }
+    let seek = c.seek-slot in
+    used_kept q c.args.row.now on (part_of seek.new.pass) seek.result seek.ensures.sees (slot_used q c.args.row.now on c.args.index seek.result (omega (arith, c.requires.to)) seek.ensures.slot)
+
+pub first_in-first-requires-clause-min : goal.first_in-first-requires-clause-min
+first_in-first-requires-clause-min g c =
+    let same = here_more _ _ c.seek-slot.ensures.sees in
+    c.requires.on.min ∙ ap (λ (x : Held). x.extent.first) (sym same)
+
+pub last_in-last-requires-clause-slot : goal.last_in-last-requires-clause-slot
+last_in-last-requires-clause-slot g c =
+    let q = part_of c.args.pass.now in
+    let on = c.requires.on in
+    let max = on.max in
+    let seek = c.seek-slot in
+    let q₁ = part_of seek.new.pass in
+    let q₂ = part_of c.first_in-first.new.pass in
+    used_kept q c.args.row.now on q₂ seek.result (sees_on q q₁ q₂ seek.ensures.sees c.first_in-first.ensures.sees) (slot_used q c.args.row.now on c.args.index seek.result (omega (arith, c.requires.to)) seek.ensures.slot)
+
+pub last_in-last-requires-clause-max : goal.last_in-last-requires-clause-max
+last_in-last-requires-clause-max g c =
+    let same = here_more _ _ (sees_on _ _ _ c.seek-slot.ensures.sees c.first_in-first.ensures.sees) in
+    c.requires.on.max ∙ ap (λ (x : Held). x.extent.last) (sym same)
+
+pub returns-clause-sees : goal.returns-clause-sees
+returns-clause-sees g c = sees_on _ _ _ (sees_on _ _ _ c.seek-slot.ensures.sees c.first_in-first.ensures.sees) c.last_in-last.ensures.sees
+
+pub returns-clause-on : goal.returns-clause-on
+returns-clause-on g c = on_more _ _ _ (sees_on _ _ _ (sees_on _ _ _ c.seek-slot.ensures.sees c.first_in-first.ensures.sees) c.last_in-last.ensures.sees) c.requires.on
+
+pub returns-clause-pivots : goal.returns-clause-pivots
+returns-clause-pivots g c =
+    let count = slots_counted (part_of c.args.pass.now) c.args.row.now c.requires.on _ refl in
+    let few = c.seek-slot.ensures.few in let first = c.first_in-first.ensures.steps in let last = c.last_in-last.ensures.steps in
+    omega arith
 
 pub returns-clause-place : goal.returns-clause-place
 returns-clause-place g c =
     let q = part_of c.args.pass.now in
     let on = c.requires.on in
-    let min = on.min in let max = on.max in
-    let count = count_is q c.args.row.now on c.slots-last_slot.result c.slots-last_slot.ensures in
-    let end : c.loop-slot.slot ≡ c.slots-last_slot.result - 1 = omega arith in
-    let some = some_slots_of (here q).width (kind_of q (here q)) in
-    let place = found_at_last q c.args.index c.loop-slot.slot c.loop-slot.first on.shape.fills (omega arith) (omega arith) (omega arith) c.loop-slot.invariant.passed in
-    place_more q (part_of c.loop-slot.pass) _ c.loop-slot.invariant.sees (record { word = place.word; stands = (λ i. slice_get (spans_here q (here q)) (sym end i)) ∙ (place.stands ∙ (λ i. Some (record { first = c.loop-slot.first; last = sym max i; word = place.word }))) })
+    let min = on.min in
+    let max = on.max in
+    let seek = c.seek-slot in
+    let q₁ = part_of seek.new.pass in
+    let q₂ = part_of c.first_in-first.new.pass in
+    let q₃ = part_of c.last_in-last.new.pass in
+    let s₂ = sees_on q q₁ q₂ seek.ensures.sees c.first_in-first.ensures.sees in
+    let s₃ = sees_on q q₂ q₃ s₂ c.last_in-last.ensures.sees in
+    place_more q q₃ _ s₃ (place_in q c.args.row.now on c.args.index seek.result c.first_in-first.result c.last_in-last.result (omega (arith, c.requires.from)) (omega (arith, c.requires.to)) seek.ensures.slot
+    (c.first_in-first.ensures.first ∙ ap (λ (x : Span). x.first) (span_kept q c.args.row.now on q₁ seek.result seek.ensures.sees))
+    (c.last_in-last.ensures.last ∙ ap (λ (x : Span). x.last) (span_kept q c.args.row.now on q₂ seek.result s₂))).0
 
-pub returns-then-index-pivot-clause-on : goal.returns-then-index-pivot-clause-on
-returns-then-index-pivot-clause-on g c = on_more _ _ _ c.load_pivot-pivot.ensures.told.reads c.loop-slot.invariant.on
+pub returns-clause-from : goal.returns-clause-from
+returns-clause-from g c =
+    let q = part_of c.args.pass.now in
+    let on = c.requires.on in
+    let min = on.min in
+    let max = on.max in
+    let seek = c.seek-slot in
+    let q₁ = part_of seek.new.pass in
+    let q₂ = part_of c.first_in-first.new.pass in
+    let s₂ = sees_on q q₁ q₂ seek.ensures.sees c.first_in-first.ensures.sees in
+    (place_in q c.args.row.now on c.args.index seek.result c.first_in-first.result c.last_in-last.result (omega (arith, c.requires.from)) (omega (arith, c.requires.to)) seek.ensures.slot
+    (c.first_in-first.ensures.first ∙ ap (λ (x : Span). x.first) (span_kept q c.args.row.now on q₁ seek.result seek.ensures.sees))
+    (c.last_in-last.ensures.last ∙ ap (λ (x : Span). x.last) (span_kept q c.args.row.now on q₂ seek.result s₂))).1
 
-pub overflow_sub-last_slot : goal.overflow_sub-last_slot
-overflow_sub-last_slot g c = let some = some_slots_of c.args.row.now.width c.args.row.now.kind in omega arith
-
-pub load_pivot-pivot-requires-clause-pivot : goal.load_pivot-pivot-requires-clause-pivot
-load_pivot-pivot-requires-clause-pivot g c =
-    let count = slots_counted (part_of c.loop-slot.pass) c.args.row.now c.loop-slot.invariant.on c.slots-last_slot.result c.slots-last_slot.ensures in
-    (c.loop-slot.slot, refl, omega arith)
-
-pub returns-then-index-pivot-clause-pivots : goal.returns-then-index-pivot-clause-pivots
-returns-then-index-pivot-clause-pivots g c =
-    let count = slots_counted (part_of c.args.pass.now) c.args.row.now c.requires.on c.slots-last_slot.result c.slots-last_slot.ensures in
-    omega arith
-
-pub returns-then-index-pivot-clause-steps : goal.returns-then-index-pivot-clause-steps
-returns-then-index-pivot-clause-steps g c = let few = few_slots_of c.args.row.now.width c.args.row.now.kind in omega arith
-
-pub returns-clause-pivots : goal.returns-clause-pivots
-returns-clause-pivots g c =
-    let count = slots_counted (part_of c.args.pass.now) c.args.row.now c.requires.on c.slots-last_slot.result c.slots-last_slot.ensures in
-    let some = some_slots_of c.args.row.now.width c.args.row.now.kind in
-    omega arith
-
-pub returns-clause-steps : goal.returns-clause-steps
-returns-clause-steps g c = let few = few_slots_of c.args.row.now.width c.args.row.now.kind in omega arith
+pub returns-clause-to : goal.returns-clause-to
+returns-clause-to g c =
+    let q = part_of c.args.pass.now in
+    let on = c.requires.on in
+    let min = on.min in
+    let max = on.max in
+    let seek = c.seek-slot in
+    let q₁ = part_of seek.new.pass in
+    let q₂ = part_of c.first_in-first.new.pass in
+    let s₂ = sees_on q q₁ q₂ seek.ensures.sees c.first_in-first.ensures.sees in
+    (place_in q c.args.row.now on c.args.index seek.result c.first_in-first.result c.last_in-last.result (omega (arith, c.requires.from)) (omega (arith, c.requires.to)) seek.ensures.slot
+    (c.first_in-first.ensures.first ∙ ap (λ (x : Span). x.first) (span_kept q c.args.row.now on q₁ seek.result seek.ensures.sees))
+    (c.last_in-last.ensures.last ∙ ap (λ (x : Span). x.last) (span_kept q c.args.row.now on q₂ seek.result s₂))).2
