@@ -2,7 +2,7 @@
 
 ghost use Rattle.mt_rows.specs.Sheet.{OnlyReads};
 
-use mt_base::{Call, Kind, MOST_ROWS, NoMemory, Query, Range, Reply, width_of};
+use mt_base::{Call, Kind, MOST_ROWS, NoMemory, Range, Reply, width_of};
 use mt_engine::Engine;
 use mt_free::RowBook;
 use mt_rows::PlainRows;
@@ -78,9 +78,7 @@ impl TimedTree for Nodes {
     }
 
     fn load(&mut self, index: u64) -> u64 {
-        self.engine
-            .ask(&Query::Load { index })
-            .map_or(0, |range| range.entry)
+        self.engine.load(index).unwrap_or(0)
     }
 
     fn visit(&mut self) -> Visit {

@@ -1,5 +1,5 @@
 -- What a search for room comes to, and an allocation; and how many words a search loads.
-use Rattle.mt_engine.proofs.Prelude.{◌≡◌, ◌≢◌, ℕ, ◌+◌, ◌-◌, ◌*◌, ◌^◌, ◌<◌, ◌≤◌, ◌==◌, ◌||◌, not, true, false, List, Option, Some, None, refl, sym, ap, ◌∙◌, subst, arith, or_parts, eqb-false, Kind, Range, Call, Store, StorePre, Insert, Erase, Alloc, Ralloc, Gap, Rgap, Clear, Reply, Shortage, Width, acted, found, placed, is_no_area, is_bad_area, reserved, IsRoom, IsMap, is_held, over, columns, greatest, greatest_of, is_area, low_is_room, high_is_room, greatest_fits, IsGapped, IsLawfulOf, map_by, Rooted, Sheet, ReadsUpTo, RoseUpTo, height_in, Handle, PathStep, path_in, Sought, Lowest, Highest, Plan, start_to, allocation, search, OnlySearches, is_refusal, most_searched, IsHereAt, IsSearched, IsStoreOf, IsStorePlan, IsDoneBy, StoreBy, within_steps, rose_up}
+use Rattle.mt_engine.proofs.Prelude.{◌≡◌, ◌≢◌, ℕ, ◌+◌, ◌-◌, ◌*◌, ◌^◌, ◌<◌, ◌≤◌, ◌==◌, ◌||◌, not, true, false, List, Option, Some, None, refl, sym, ap, ◌∙◌, subst, arith, or_parts, eqb-false, Kind, Range, Call, Store, StorePre, Insert, Erase, Alloc, Ralloc, Gap, Rgap, Clear, Reply, Shortage, Width, acted, found, placed, is_no_area, is_bad_area, reserved, IsRoom, IsMap, is_held, over, columns, greatest, greatest_of, is_area, low_is_room, high_is_room, greatest_fits, IsGapped, IsLawfulOf, map_by, Rooted, Sheet, ReadsUpTo, RoseUpTo, height_in, Handle, PathStep, path_in, Sought, Lowest, Highest, Plan, start_to, allocation, search, OnlySearches, is_refusal, most_searched, IsHereAt, IsSearched, IsStoreOf, IsStorePlan, IsDoneBy, StoreBy, rose_up}
 use Rattle.mt_base.specs.declared.replies.Reply.TheVariants as reply
 use Rattle.mt_engine.specs.declared.plans.Plan.TheVariants as plans
 use Rattle.mt_engine.proofs.Moments.{tree_if_lawful}
@@ -24,10 +24,6 @@ module _ (t : Rooted) (kind : Kind) (lawful : IsLawfulOf t kind) (size lo hi : �
   -- its holes are searched
   pub is_gapped : is_no_area kind size lo hi ≡ false → IsGapped t
   is_gapped area = record { kind = kind; room = (is_area kind size lo hi area).finds; lawful = lawful }
-
-  -- and its window lies in the tree
-  pub window_within : is_no_area kind size lo hi ≡ false → hi ≤ greatest t.table.width
-  window_within area = subst (λ (w : Width). hi ≤ greatest w) (sym lawful.width) (is_area kind size lo hi area).within
 
   -- what is found up to the greatest index of the words is what is found in a tree of this kind
   pub start_is : (sought : Sought) (start : Option ℕ) → start ≡ start_to sought (greatest t.table.width) (map_by t) size lo hi → start_for sought kind (map_by t) size lo hi ≡ start
@@ -55,13 +51,6 @@ allocation_busy sought kind m size lo hi entry good none = allocation_stays soug
 room_is : (sought : Sought) (kind : Kind) (m : List Range) (size lo hi start : ℕ) → IsMap kind m → 1 ≤ size → start_for sought kind m size lo hi ≡ Some start → IsRoom m size lo hi start
 room_is Lowest kind m size lo hi start map some is = low_is_room kind m size lo hi start map some is
 room_is Highest kind m size lo hi start map some is = high_is_room kind m size lo hi start map some is
-
--- the highest place of a window that lies in the tree lies there too
-pub highest_within : (t : Rooted) (size lo hi start : ℕ) → IsGapped t → 1 ≤ size → hi ≤ greatest t.table.width → Some start ≡ start_to Highest (greatest t.table.width) (map_by t) size lo hi → start ≤ greatest t.table.width
-highest_within t size lo hi start tree some within is =
-    let found = start_is t tree.kind tree.lawful size lo hi Highest (Some start) is in
-    let room = room_is Highest tree.kind (map_by t) size lo hi start (tree_map t tree.kind (tree_if_lawful t tree.kind tree.lawful)) some found in
-    let to = room.to in omega arith
 
 module _ (t : Rooted) (kind : Kind) (lawful : IsLawfulOf t kind) (sought : Sought) (size lo hi : ℕ) (area : is_no_area kind size lo hi ≡ false) (start : ℕ) (is : start_for sought kind (map_by t) size lo hi ≡ Some start) where
   room : IsRoom (map_by t) size lo hi start
@@ -126,11 +115,6 @@ few_loaded s s' reads = twice (3 * height_in s.tree.table s.tree.root * columns 
   where
     twice : (n : ℕ) → RoseUpTo n s.reads s'.reads → RoseUpTo (2 * n) s.reads s'.reads
     twice n rose = rose_up n (2 * n) s.reads s'.reads (omega arith) rose
-
-pub few_searched : (s s' : Sheet) (old new : ℕ) → new ≤ old + 3 * height_in s.tree.table s.tree.root → ReadsUpTo (columns s.tree.table.width * (new - old) + 1) s s' → ReadsUpTo (most_searched s.tree) s s'
-few_searched s s' old new steps reads =
-    let few = within_steps (columns s.tree.table.width) (3 * height_in s.tree.table s.tree.root) old new s s' steps reads in
-    record { rest = few.rest; reads = few_loaded s s' few }
 
 pub none_loaded : (s : Sheet) → RoseFew s s
 none_loaded s = rose_none (most_searched s.tree) s.reads

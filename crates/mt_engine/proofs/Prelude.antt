@@ -1,14 +1,13 @@
 -- What the proofs beside this file take from the toolchain, from the crates below and from this crate's definitions, under one name. Declares nothing.
-pub use Rattle.std.proofs.Common.{Bool, List, None, Option, Some, [], ap, append-nil, append_assoc, arith, eq-eqb, false, get_or, get_or-set_other, inl, inr, length, length-append, map, max, min, nat_le, nat_lt, ne_eqb, not, refl, subst, suc, sym, take, true, zero, ℕ, ⊎_elim, ◌&&◌, ◌*◌, ◌++◌, ◌+◌, ◌-◌, ◌<◌, ◌==◌, ◌^◌, ◌||◌, ◌∙◌, ◌∷◌, ◌≡◌, ◌≢◌, ◌≤◌}
+pub use Rattle.std.proofs.Common.{Bool, List, None, Option, Some, [], ap, append-nil, append_assoc, arith, drop, eq-eqb, false, get_or, get_or-set_other, inl, inr, length, length-append, map, max, min, nat_le, nat_lt, ne_eqb, not, refl, subst, suc, sym, take, true, zero, ℕ, ⊎_elim, ◌&&◌, ◌*◌, ◌++◌, ◌+◌, ◌-◌, ◌<◌, ◌==◌, ◌^◌, ◌||◌, ◌∙◌, ◌∷◌, ◌≡◌, ◌≢◌, ◌≤◌}
 pub use Rattle.std.proofs.Math.Nat.{pow-succ'}
 pub use Rattle.std.proofs.lemmas.Bool.{and_left, and_parts, and_right, cases_Bool, cases_eq, cases_lt, cond_both, eqb-false, eqb-true, false≢true, le-leb, le-ltb, leb-false, leb-true, lt-leb, lt-ltb, ltb-true, or_parts}
-pub use Rattle.std.proofs.lemmas.List.{get_or-append-add, get_or-map, get_or_append_left, length-map}
+pub use Rattle.std.proofs.lemmas.List.{get_or-append-add, get_or-map, get_or_append_left, length-drop, length-map, length_push}
 pub use Rattle.std.proofs.lemmas.List.Elements.{All-append, All-contains, All-contains_itself, All-head, All-map, All-nil, All-push, All-tail, All-weaker, Contains-append_cases, Contains-append_left, Contains-append_right, filter_passes}
 pub use Rattle.std.proofs.lemmas.Option.{cond_some, slice_get_within}
 pub use Rattle.std.proofs.lemmas.Result.{err_from_is_err_and}
 pub use Rattle.std.specs.List.{All, AllByRecursion, AllPairs, Contains, flat_map, prefix_len, slice_get}
-pub use Rattle.std.specs.Option.{option_map}
-pub use Rattle.std.specs.Prelude.{IfOk, IfSome, IsNone, IsSome, IsTrue, filter, if◌then◌else◌, is_some, slice_index, slice_index_or, slice_set, ◌↔◌, ◌⊎◌}
+pub use Rattle.std.specs.Prelude.{IfOk, IfSome, IsNone, IsSome, IsTrue, filter, if◌then◌else◌, is_some, option_map, slice_index, slice_index_or, slice_set, ◌↔◌, ◌⊎◌}
 pub use Rattle.mt_base.proofs.CallsKeepOrder.{is_area, valid_entry, valid_order, valid_within}
 pub use Rattle.mt_base.proofs.FirstMet.{is_held_where_met}
 pub use Rattle.mt_base.proofs.FreeAreas.{high_is_room, low_is_room}
@@ -21,7 +20,7 @@ pub use Rattle.mt_base.specs.Holes.{IsRoom}
 pub use Rattle.mt_base.specs.Map.{IsMap, IsMapFrom, cut_below, first_range, holds, over, overlaps, part_stored, parts_above, parts_below, without}
 pub use Rattle.mt_base.specs.Nodes.{IsMade, one_call_more}
 pub use Rattle.mt_base.specs.Width.{deepest, greatest_of, kind_width}
-pub use Rattle.mt_base.specs.declared.calls.Query.TheVariants.{Load, Next, Prev, Rfind}
+pub use Rattle.mt_base.specs.declared.calls.Query.TheVariants.{Next, Prev, Rfind}
 pub use Rattle.mt_base.specs.declared.replies.Holder.{Holder}
 pub use Rattle.mt_base.specs.declared.replies.Reply.TheVariants.{NoNodes}
 pub use Rattle.mt_layout.proofs.Places.{other_column, other_place}
@@ -69,16 +68,16 @@ pub use Rattle.mt_path.specs.Handles.{handle_of, last_step, leaf_spans}
 pub use Rattle.mt_path.specs.Paths.{below, loads_in, loads_on, slot_for, span_at, step_in}
 unfoldable pub use Rattle.mt_path.specs.Paths.{path_of}
 pub use Rattle.mt_gap.proofs.Mending.{child_tells}
-pub use Rattle.mt_gap.proofs.Readings.{within_steps}
 pub use Rattle.mt_gap.specs.Descents.{IsGapped}
 pub use Rattle.mt_gap.specs.Mending.{IsAlong, IsToldWay, IsWay, KeepsWordsBut}
-pub use Rattle.mt_gap.specs.Ways.{IsAreaAt}
 pub use Rattle.mt_splice.proofs.Fresh.{fresh_is_ready}
 pub use Rattle.mt_splice.proofs.LiveRows.{live_is_reached}
 pub use Rattle.mt_splice.proofs.Widens.{two_least}
 pub use Rattle.mt_splice.specs.Kept.{IsBookOf, IsUnheld}
 pub use Rattle.mt_splice.specs.Splice.{IsSpliced, MayClear, MayReplace, TellsBelow, TellsGapAt, WasPublishedAt}
 pub use Rattle.mt_engine.specs.Areas.{allocation, search, start_to}
+pub use Rattle.mt_engine.specs.Batches.{Stepped, entries_put, entry_or_zero, found_then, ranges_put}
+unfoldable pub use Rattle.mt_engine.specs.Batches.{steps_from}
 pub use Rattle.mt_engine.specs.Engine.{ChangesEntry, DidOrLacked, EndsAnswered, IsApplied, IsCarriedOut, IsEnded, IsEngineState, IsIdle, IsInCall, IsShortFor, OnlySearches, OnlySought, Parts, Replaces, StoresExactly, TellsBook, TookRows, is_refusal, most_searched}
 pub use Rattle.mt_engine.specs.Heights.{HasHeight, IsMeasured, SameHeight, is_root}
 pub use Rattle.mt_engine.specs.Here.{IsHereAt, IsHereIf}
@@ -86,7 +85,7 @@ pub use Rattle.mt_engine.specs.MapSpans.{IsSpanAt, range_of}
 pub use Rattle.mt_engine.specs.Mends.{IsMendedAt, IsPlaceOfLeaf, MayMendAt, WasWay}
 pub use Rattle.mt_engine.specs.Nearest.{nearest_from, nearest_up_to}
 pub use Rattle.mt_engine.specs.Plans.{IsMet, IsPlan, IsSearched, IsStoreOf, IsStorePlan, is_range_met}
-pub use Rattle.mt_engine.specs.Prelude.{Alloc, Book, Call, Clear, Dead, Erase, Find, Gap, Gapped, Handle, HasParents, Held, Insert, IsHandleOf, IsLawfulOf, IsReached, IsRealShortage, IsRefused, IsScan, IsShort, IsStoreBy, IsTreeOf, Kind, Leaf, Life, LiveAreReached, MayFinish, OnlyWords, PathStep, Place, Ralloc, Range, ReadsUpTo, Reply, Rgap, Root, Rooted, RoseUpTo, Sheet, Shortage, Slot, Span, Store, StorePre, Wants, WasScanned, Width, acted, after_reclaim, answer, columns, finished, first_met, first_row, greatest, handle_in, height_in, holding, is_exact_store, is_held, is_reached, last_of, leaf_in, life_of, limits_of, live_count, map_by, most_taken, path_in, place_above, place_below, scanned, slot_column, slots_of, step_at, tree_as, with_record, with_word, word_at}
+pub use Rattle.mt_engine.specs.Prelude.{Alloc, Book, Call, Clear, Dead, Erase, Find, Gap, Gapped, Handle, HasParents, Held, Insert, IsHandleOf, IsLawfulOf, IsReached, IsRealShortage, IsRefused, IsScan, IsShort, IsStoreBy, IsTreeOf, Kind, Leaf, Life, LiveAreReached, Load, MayFinish, OnlyWords, PathStep, Place, Ralloc, Range, ReadsUpTo, Reply, Rgap, Root, Rooted, RoseUpTo, Sheet, Shortage, Slot, Span, Store, StorePre, Wants, WasScanned, Width, acted, after_reclaim, answer, columns, finished, first_met, first_row, greatest, handle_in, height_in, holding, is_exact_store, is_held, is_reached, last_of, leaf_in, life_of, limits_of, live_count, map_by, most_taken, path_in, place_above, place_below, scanned, slot_column, slots_of, step_at, tree_as, with_record, with_word, word_at}
 pub use Rattle.mt_engine.specs.Prepared.{IsPrestored}
 pub use Rattle.mt_engine.specs.RangeWalks.{StepsWithin, WalksFrom, found_from, index_behind, range_at}
 pub use Rattle.mt_engine.specs.Rooms.{HasRoom, IsScanned, IsShortOf}

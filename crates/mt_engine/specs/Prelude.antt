@@ -6,7 +6,7 @@ pub use Rattle.mt_base.specs.Nodes.{IsRefused, IsShort, Wants, is_exact_store}
 pub use Rattle.mt_base.specs.Width.{columns, first_row, greatest, most_taken}
 pub use Rattle.mt_base.specs.declared.calls.Call.{Call}
 pub use Rattle.mt_base.specs.declared.calls.Call.TheVariants.{Alloc, Clear, Erase, Gap, Insert, Ralloc, Rgap, Store, StorePre}
-pub use Rattle.mt_base.specs.declared.calls.Query.TheVariants.{Find}
+pub use Rattle.mt_base.specs.declared.calls.Query.TheVariants.{Find, Load}
 pub use Rattle.mt_base.specs.declared.kinds.Kind.{Kind}
 pub use Rattle.mt_base.specs.declared.ranges.Range.{Range}
 pub use Rattle.mt_base.specs.declared.replies.Reply.{Reply}

@@ -2,7 +2,6 @@
 
 ghost use Rattle.std.specs.Prelude.{◌≡◌, ◌+◌, ◌*◌, ◌<◌, ◌≤◌, List, [], IsNone, IfSome};
 ghost use Rattle.std.specs.Option.{option_map};
-ghost use Rattle.mt_base.specs.Holes.{high_to};
 ghost use Rattle.mt_base.specs.Width.{columns, greatest};
 ghost use Rattle.mt_rows.specs.Publish.{IsLawfulOf, map_by};
 ghost use Rattle.mt_rows.specs.Sheet.{OnlyReads, ReadsUpTo};
@@ -18,8 +17,8 @@ ghost use Rattle.mt_engine.specs.Plans.{IsPlan, IsSearched};
 use crate::plans::Plan;
 use crate::store_by::{Write, store_by};
 use mt_base::{Kind, Reply, Steps, is_bad_area, is_no_area};
-use mt_gap::{SoughtArea, highest, lowest, lowest_way};
-use mt_path::{Path, walk_to};
+use mt_gap::{SoughtArea, highest, highest_way, lowest, lowest_way};
+use mt_path::Path;
 use mt_rows::Rows;
 use mt_splice::Edit;
 use std::marker::Brand;
@@ -73,28 +72,6 @@ fn start_of<R: Rows>(rows: &mut R, sought: Sought, wanted: Wanted) -> Option<u64
     start_by::<R, Brand>(rows, sought, wanted, Blank::new(1))
 }
 
-/// The highest place, with the way to it, which is walked when the place is found.
-#[tactic(auto, using(crate::proofs::Finding::few_searched))]
-fn highest_way<R: Rows, L: Ledger>(
-    rows: &mut R,
-    wanted: Wanted,
-    steps: &mut Steps<L>,
-    path: &mut Path,
-) -> Option<SoughtArea>
-    requires tree { IsGapped (R.sheet rows.old).tree }
-    requires size { 1 ≤ wanted.size }
-    requires within { wanted.max ≤ greatest (R.sheet rows.old).tree.table.width }
-    requires empty { path.old.items ≡ [] }
-    ensures start { option_map (λ (area : SoughtArea). area.start) result ≡ high_to (greatest (R.sheet rows.old).tree.table.width) (map_by (R.sheet rows.old).tree) wanted.size wanted.min wanted.max }
-    ensures way { IfSome result (λ area. IsAreaAt (R.sheet rows.old).tree path.new.items area) }
-    ensures rest { OnlyReads (R.sheet rows.old) (R.sheet rows.new) }
-    ensures reads { IsNone result → ReadsUpTo (most_searched (R.sheet rows.old).tree) (R.sheet rows.old) (R.sheet rows.new) }
-{
-    let start = highest(rows, wanted.size, wanted.min, wanted.max, steps)?;
-    let here = walk_to(rows, start, path);
-    Some(SoughtArea { start, here })
-}
-
 /// The place that is sought, with the way to it, by a blank for a count of the steps, of which nothing is told.
 fn area_by<R: Rows, L: Ledger>(
     rows: &mut R,
@@ -108,7 +85,6 @@ fn area_by<R: Rows, L: Ledger>(
     requires some { 0 < blank.parts }
     requires tree { IsGapped (R.sheet rows.old).tree }
     requires size { 1 ≤ wanted.size }
-    requires within { wanted.max ≤ greatest (R.sheet rows.old).tree.table.width }
     requires empty { path.old.items ≡ [] }
     ensures start { option_map (λ (area : SoughtArea). area.start) result ≡ start_to sought (greatest (R.sheet rows.old).tree.table.width) (map_by (R.sheet rows.old).tree) wanted.size wanted.min wanted.max }
     ensures way { IfSome result (λ area. IsAreaAt (R.sheet rows.old).tree path.new.items area) }
@@ -116,12 +92,10 @@ fn area_by<R: Rows, L: Ledger>(
     ensures reads { IsNone result → ReadsUpTo (most_searched (R.sheet rows.old).tree) (R.sheet rows.old) (R.sheet rows.new) }
 {
     let mut steps = Steps::<L>::new(blank);
+    let Wanted { size, min, max } = wanted;
     match sought {
-        Sought::Lowest => {
-            let Wanted { size, min, max } = wanted;
-            lowest_way(rows, size, min, max, &mut steps, path)
-        }
-        Sought::Highest => highest_way(rows, wanted, &mut steps, path),
+        Sought::Lowest => lowest_way(rows, size, min, max, &mut steps, path),
+        Sought::Highest => highest_way(rows, size, min, max, &mut steps, path),
     }
 }
 
@@ -134,7 +108,6 @@ fn area_of<R: Rows>(
 ) -> Option<SoughtArea>
     requires tree { IsGapped (R.sheet rows.old).tree }
     requires size { 1 ≤ wanted.size }
-    requires within { wanted.max ≤ greatest (R.sheet rows.old).tree.table.width }
     requires empty { path.old.items ≡ [] }
     ensures start { option_map (λ (area : SoughtArea). area.start) result ≡ start_to sought (greatest (R.sheet rows.old).tree.table.width) (map_by (R.sheet rows.old).tree) wanted.size wanted.min wanted.max }
     ensures way { IfSome result (λ area. IsAreaAt (R.sheet rows.old).tree path.new.items area) }

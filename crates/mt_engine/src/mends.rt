@@ -12,7 +12,7 @@ ghost use Rattle.mt_engine.specs.Mends.{MayMendAt, WasWay, IsPlaceOfLeaf, IsMend
 use mt_base::{Kind, Width, finds_room};
 use mt_gap::{mend_along, mend_way};
 use mt_layout::{RowKind, slots};
-use mt_path::{Path, walk_by_halves};
+use mt_path::{Path, walk_to};
 use mt_rows::{Place, Rows};
 use mt_splice::Spliced;
 
@@ -49,7 +49,7 @@ fn mend_walked<R: Rows>(rows: &mut R, index: u64)
     ensures { (kind : Kind) → MayMendAt kind (R.sheet rows.old) index → IsMendedAt kind (R.sheet rows.old) (R.sheet rows.new) }
 {
     let mut path = Path::new();
-    walk_by_halves(rows, index, &mut path);
+    walk_to(rows, index, &mut path);
     mend_way(rows, &path, leaf_on(&path));
 }
 

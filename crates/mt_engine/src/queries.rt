@@ -1,6 +1,6 @@
 //! The queries of a map, answered by the words of a tree.
 
-ghost use Rattle.std.specs.Prelude.{◌≡◌, ◌≢◌, ℕ, ◌≤◌, IfSome};
+ghost use Rattle.std.specs.Prelude.{◌≡◌, ◌≢◌, ℕ, ◌≤◌, IfSome, option_map};
 ghost use Rattle.mt_base.specs.declared.kinds.Kind.{Kind};
 ghost use Rattle.mt_base.specs.declared.calls.Query.TheVariants.{Load, Find, Next, Prev, Rfind};
 ghost use Rattle.mt_base.specs.Call.{answer};
@@ -92,7 +92,8 @@ fn nearest_up_to<R: Rows>(rows: &mut R, here: &Handle) -> Option<Range>
     Some(range_in(found.span))
 }
 
-/// The range that holds an index.
+/// The range that holds an index. It is part of its callers, so that the ends are not sought where the entry alone is wanted.
+#[inline(always)]
 fn load<R: Rows>(rows: &mut R, index: u64) -> Option<Range>
     requires tree { (kind : Kind) × IsTreeOf (R.sheet rows.old).tree kind }
     ensures answer { result ≡ answer (map_by (R.sheet rows.old).tree) (Load index) }
@@ -106,6 +107,15 @@ fn load<R: Rows>(rows: &mut R, index: u64) -> Option<Range>
         return None;
     }
     Some(range_in(here))
+}
+
+/// The entry that an index holds.
+pub fn entry_at<R: Rows>(rows: &mut R, index: u64) -> Option<u64>
+    requires tree { (kind : Kind) × IsTreeOf (R.sheet rows.old).tree kind }
+    ensures entry { result ≡ option_map (λ r. r.entry) (answer (map_by (R.sheet rows.old).tree) (Load index)) }
+    ensures rest { OnlyReads (R.sheet rows.old) (R.sheet rows.new) }
+{
+    load(rows, index).map(|range| range.entry)
 }
 
 /// The first range that ends at `index` or above and begins at `max` or below, where `index` is at most `max`.

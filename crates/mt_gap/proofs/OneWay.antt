@@ -1,12 +1,14 @@
 -- A search that goes into one row in each level: what it has seen of a row, and how far it has come.
-use Rattle.mt_gap.proofs.Prelude.{◌≡◌, ◌≢◌, ℕ, zero, suc, ◌+◌, ◌*◌, ◌<◌, ◌≤◌, ◌⊎◌, List, [], ◌∷◌, ◌++◌, Bool, true, false, Option, Some, None, length, take, refl, sym, ap, ◌∙◌, subst, inl, inr, arith, append_assoc, append-nil, length-append, AllByRecursion, flat_map, cases_Bool, take_more, Kind, low_to, lowest_in, columns, deepest, greatest, RowKind, Leaf, Gapped, Span, row_in, named_kind, Fills, one_row_more, Tree, IsRow, Stands, top_of, tree_on, IsTreeOf, map_by, Rooted, Sheet, ReadsUpTo, loaded, root_span, spans_in, height_in, height_by_depth, levels_here, Handle, PathStep, handle_in, path_in, step_at, no_step, row_on, below, slot_for, span_at, step_in, EntersLeaf, tree_kept, no_reads, one_read, reads_more, reads_up, at_slot, at_parts, at_once, at_within, At, row_next, row_of, levels, step, row_on_top, some_root, Child, Below, Window, leaf_hole, child_hole, children_in, children_by, children_below, row_children, root_child, IsGapped, MayLoad, picked, place_in, AreLeaves, may_have, narrow, has_sure, into_one_more, with_room, StandsInSlot, AreAsked, IsSearchedBelow, IsWayTo, EndsInLeaf, IsAreaAt}
+use Rattle.mt_gap.proofs.Prelude.{◌≡◌, ◌≢◌, ℕ, zero, suc, ◌+◌, ◌*◌, ◌<◌, ◌≤◌, ◌⊎◌, List, [], ◌∷◌, ◌++◌, Bool, true, false, Option, Some, None, length, max, min, nat_le, take, refl, sym, ap, ◌∙◌, subst, inl, inr, arith, append_assoc, append-nil, length-append, AllByRecursion, flat_map, cases_Bool, leb-true, leb-false, take_more, Kind, Hole, clip, kept, lowest_in, highest_in, columns, deepest, greatest, RowKind, Leaf, Gapped, Span, row_in, named_kind, Fills, one_row_more, Tree, IsRow, Stands, top_of, tree_on, IsTreeOf, Rooted, Sheet, ReadsUpTo, loaded, root_span, spans_in, height_in, height_by_depth, levels_here, Handle, PathStep, handle_in, path_in, step_at, no_step, row_on, below, slot_for, span_at, step_in, EntersLeaf, tree_kept, no_reads, one_read, reads_more, reads_up, at_slot, at_parts, at_once, at_within, At, row_next, row_of, levels, step, row_on_top, some_root, Child, Below, Side, Window, leaf_hole, child_hole, children_in, children_by, children_below, row_children, root_child, IsGapped, MayLoad, picked, AreLeaves, may_have, inside, narrow, narrow_up, next_up, has_sure, into_one_more, with_room, with_room_up, asked_for, pick_for, sought_in, sought_to, StandsInSlot, AreAsked, IsSearchedBelow, IsWayTo, EndsInLeaf, IsAreaAt}
 use Rattle.mt_path.proofs.Places as places
 use Rattle.mt_gap.specs.declared.ways.Below.TheVariants as below_row
+use Rattle.mt_gap.specs.declared.ways.Side.TheVariants as sides
+use Rattle.mt_gap.proofs.Asking.{ask_on, ask_stops, one_asked, up-append}
 use Rattle.mt_gap.proofs.HolesBelow.{holes_below}
 use Rattle.mt_gap.proofs.ChildLists.{spans, spans-append, spans_of_row, holes_of_children}
-use Rattle.mt_gap.proofs.Descents.{Asks, asks_root, come_root, gapped_words, low_empty, low_next, leaves_have, row_may_load}
-use Rattle.mt_gap.proofs.Asking.{ask_on, ask_stops, one_asked}
+use Rattle.mt_gap.proofs.Descents.{Asks, asks_root, come_root, gapped_words, high_empty, high_in_tree, high_next, low_empty, low_in_tree, low_next, leaves_have, row_may_load}
 use Rattle.mt_gap.proofs.Kept.{Between, leaf_between, holes_between, lowest_between}
+use Rattle.mt_gap.proofs.NarrowedUp.{highest_more}
 
 -- ---- in a row
 
@@ -48,6 +50,40 @@ module _ (w : Window) (before : List Child) (x : Child) (slot : ℕ) (count : le
     | inr not ↦ (rw not (subst (λ (l : List Child). AreAsked (before ++ (x ∷ [])) l b) (sym (append-nil asked)) (widen before (x ∷ []) asked b is)))
   ]
 
+-- ---- from the right
+
+-- what is gone into of these
+abbrev pub HasSeenUp : Window → Below → List Child → Type 0
+HasSeenUp w b before = AreAsked before (narrow_up w.size w.lo w.hi [] before) b
+
+module _ (w : Window) (b : Below) (before : List Child) (seen : HasSeenUp w b before) (x : Child) (slot : ℕ) (count : length before ≡ slot) where
+  abbrev taken_up : List Child
+  taken_up = narrow_up w.size w.lo w.hi [] before
+
+  with_one_up : AreAsked (before ++ (x ∷ [])) (next_up w.size w.lo w.hi taken_up x) (with_room_up w slot x b)
+  with_one_up = elim (cases_Bool (may_have w.size w.lo w.hi x)) [
+    | inl may ↦ elim (cases_Bool (inside w.lo w.hi x)) [
+      | inl in_it ↦ (rw (may, in_it) (record {
+        child = x;
+        alone = refl;
+        is = refl;
+        stands = record { front = before; back = []; parts = refl; count = count };
+      }))
+      | inr over ↦ (rw (may, over) (taken w before x slot count taken_up b seen))
+    ]
+    | inr not ↦ (rw not (widen before (x ∷ []) taken_up b seen))
+  ]
+
+  pub seen_up : (after : Below) → after ≡ with_room_up w slot x b → HasSeenUp w after (before ++ (x ∷ []))
+  seen_up after is =
+      subst (λ (l : List Child). AreAsked (before ++ (x ∷ [])) l after) (sym (up-append w.size w.lo w.hi [] before (x ∷ [])))
+      (subst (AreAsked (before ++ (x ∷ [])) (next_up w.size w.lo w.hi taken_up x)) (sym is) with_one_up)
+
+pub seen_all_up : (w : Window) (b : Below) (before all : List Child) → HasSeenUp w b before → before ≡ all → IsSearchedBelow sides.High w all b
+seen_all_up w b before all seen same = subst (λ (l : List Child). IsSearchedBelow sides.High w l b) same seen
+
+-- ---- from the left
+
 -- none of these is sure, and what is gone into of them
 abbrev pub HasSeen : Window → Below → List Child → Type 0
 HasSeen w b before = AreAsked before (narrow w.size w.lo w.hi before) b × (has_sure w.size w.lo w.hi before ≡ false)
@@ -67,14 +103,14 @@ module _ (w : Window) (b : Below) (before : List Child) (seen : HasSeen w b befo
       let on = ask_on w.size w.lo w.hi [] asked before (refl, seen.1) x more sure refl found not in
       (subst (λ (l : List Child). AreAsked (before ++ (x ∷ [])) l after) on.0 here, on.1)
 
-  pub seen_stops : (rest all : List Child) → before ++ (x ∷ rest) ≡ all → sure ≡ true → IsSearchedBelow w all after
+  pub seen_stops : (rest all : List Child) → before ++ (x ∷ rest) ≡ all → sure ≡ true → IsSearchedBelow sides.Low w all after
   seen_stops rest all all_is stops =
       let on = ask_stops w.size w.lo w.hi [] asked before (refl, seen.1) x more rest all sure all_is refl found stops in
       let parts : (before ++ (x ∷ [])) ++ rest ≡ all = append_assoc before (x ∷ []) rest ∙ all_is in
       subst (λ (l : List Child). AreAsked all l after) on.0 (subst (λ (l : List Child). AreAsked l more after) parts (widen (before ++ (x ∷ [])) rest more after here))
 
-pub seen_all : (w : Window) (b : Below) (before all : List Child) → HasSeen w b before → before ≡ all → IsSearchedBelow w all b
-seen_all w b before all seen same = subst (λ (l : List Child). IsSearchedBelow w l b) same seen.0
+pub seen_all : (w : Window) (b : Below) (before all : List Child) → HasSeen w b before → before ≡ all → IsSearchedBelow sides.Low w all b
+seen_all w b before all seen same = subst (λ (l : List Child). IsSearchedBelow sides.Low w l b) same seen.0
 
 -- ---- from level to level
 
@@ -163,11 +199,16 @@ module _ (t : Rooted) (h : ℕ) (stands : Stands (tree_on true t) h) where
       enters = enters_on;
     }
 
+-- one level lower
+next_for : (side : Side) (t : Tree) (w : Window) → t.gapped ≡ true → 1 ≤ w.size → (xs : List Child) (answer : Option ℕ) (level : ℕ) → Asks t (pick_for side w) w answer level xs → (AreLeaves xs → ⊥) → Asks t (pick_for side w) w answer (level + 1) (asked_for side w (children_below t.table xs))
+next_for sides.Low t w gapped some xs answer level asks not = low_next t w gapped some xs answer level asks not
+next_for sides.High t w gapped some xs answer level asks not = high_next t w gapped some xs answer level asks not
+
 -- a search that has gone into one row in each level so far
-pub record GoesOn (s s' : Sheet) (w : Window) (level : ℕ) (path : List PathStep) (x : Span) : Type 0 where
+pub record GoesOn (side : Side) (s s' : Sheet) (w : Window) (level : ℕ) (path : List PathStep) (x : Span) : Type 0 where
   pub child : Child
   pub is : child.span ≡ x
-  pub asks : Asks (tree_on true s.tree) lowest_in w (place_in lowest_in w s.tree) level (child ∷ [])
+  pub asks : Asks (tree_on true s.tree) (pick_for side w) w (sought_in side w s.tree) level (child ∷ [])
   pub leads : IsWayTo s.tree path x
   pub long : length path ≡ level
   pub reads : ReadsUpTo (columns s.tree.table.width * level) s s'
@@ -175,24 +216,24 @@ pub record GoesOn (s s' : Sheet) (w : Window) (level : ℕ) (path : List PathSte
 standing : (t : Rooted) → IsGapped t → t.root ≢ 0 → (h : ℕ) × Stands (tree_on true t) h
 standing t tree some = elim (gapped_words t tree) [ inl empty ↦ absurd (some empty) | inr full ↦ (full.0, full.1) ]
 
-pub goes_root : (s : Sheet) (w : Window) (path : List PathStep) (x : Span) → IsGapped s.tree → s.tree.root ≢ 0 → x ≡ root_span s.tree.table s.tree.root → path ≡ [] → GoesOn s s w 0 path x
-goes_root s w path x tree some is none =
+pub goes_root : (side : Side) (s : Sheet) (w : Window) (path : List PathStep) (x : Span) → IsGapped s.tree → s.tree.root ≢ 0 → x ≡ root_span s.tree.table s.tree.root → path ≡ [] → GoesOn side s s w 0 path x
+goes_root side s w path x tree some is none =
     let full = standing s.tree tree some in
     record {
       child = root_child s.tree.table s.tree.root;
       is = sym is;
-      asks = (come_root s w lowest_in 0 (root_child s.tree.table s.tree.root ∷ []) tree some refl).asks;
+      asks = (come_root s w (pick_for side w) 0 (root_child s.tree.table s.tree.root ∷ []) tree some refl).asks;
       leads = subst (λ (l : List PathStep). IsWayTo s.tree l x) (sym none) (subst (IsWayTo s.tree []) (sym is) (leads_root s.tree full.0 full.1));
       long = ap length none;
       reads = reads_up 0 (columns s.tree.table.width * 0) s s (omega arith) (no_reads s);
     }
 
-module _ (s s' : Sheet) (w : Window) (size : 1 ≤ w.size) (tree : IsGapped s.tree) (some : s.tree.root ≢ 0) (level : ℕ) (path : List PathStep) (x : Span) (goes : GoesOn s s' w level path x) where
+module _ (side : Side) (s s' : Sheet) (w : Window) (size : 1 ≤ w.size) (tree : IsGapped s.tree) (some : s.tree.root ≢ 0) (level : ℕ) (path : List PathStep) (x : Span) (goes : GoesOn side s s' w level path x) where
   abbrev whole : Tree
   whole = tree_on true s.tree
 
   abbrev answer : Option ℕ
-  answer = place_in lowest_in w s.tree
+  answer = sought_in side w s.tree
 
   pub same_tree : s'.tree ≡ s.tree
   same_tree = tree_kept (columns s.tree.table.width * level) s s' goes.reads
@@ -221,7 +262,7 @@ module _ (s s' : Sheet) (w : Window) (size : 1 ≤ w.size) (tree : IsGapped s.tr
       reads_up (columns s.tree.table.width * level) (height_in s.tree.table s.tree.root * columns s.tree.table.width) s s' (times (columns s.tree.table.width) level (height_in s.tree.table s.tree.root) (omega arith)) goes.reads
 
   -- a row without gaps is a leaf
-  pub ends_in_leaf : named_kind x.word ≢ Some Gapped → EndsInLeaf s.tree w path x
+  pub ends_in_leaf : named_kind x.word ≢ Some Gapped → EndsInLeaf side s.tree w path x
   ends_in_leaf other =
       let leaf = is_leaf goes.asks.left row_here in
       record {
@@ -229,8 +270,8 @@ module _ (s s' : Sheet) (w : Window) (size : 1 ≤ w.size) (tree : IsGapped s.tr
         is_leaf = leaf;
         row = row_may_load true s.tree goes.asks.left x row_here;
         fills = row_here.pivots.fills;
-        found = ap (λ (l : List Child). picked lowest_in w (flat_map child_hole l)) (ap (children_in s.tree.table) (sym goes.is) ∙ sym (append-nil (children_in s.tree.table goes.child.span)))
-            ∙ leaves_have whole lowest_in w answer goes.asks.left (goes.child ∷ []) (ap (λ (y : Span). named_kind y.word) goes.is ∙ leaf) goes.asks.rows goes.asks.found;
+        found = ap (λ (l : List Child). picked (pick_for side w) w (flat_map child_hole l)) (ap (children_in s.tree.table) (sym goes.is) ∙ sym (append-nil (children_in s.tree.table goes.child.span)))
+            ∙ leaves_have whole (pick_for side w) w answer goes.asks.left (goes.child ∷ []) (ap (λ (y : Span). named_kind y.word) goes.is ∙ leaf) goes.asks.rows goes.asks.found;
       }
     where
       is_leaf : (left : ℕ) → IsRow whole left x → named_kind x.word ≡ Some Leaf
@@ -257,18 +298,18 @@ module _ (s s' : Sheet) (w : Window) (size : 1 ≤ w.size) (tree : IsGapped s.tr
     not_leaves : AreLeaves (goes.child ∷ []) → ⊥
     not_leaves leaf = let clash : Some Gapped ≡ Some Leaf = sym gapped ∙ (ap (λ (y : Span). named_kind y.word) (sym goes.is) ∙ leaf) in cc
 
-    asked_are : narrow w.size w.lo w.hi (children_below s.tree.table (goes.child ∷ [])) ≡ narrow w.size w.lo w.hi xs
-    asked_are = ap (narrow w.size w.lo w.hi) (append-nil (children_in s.tree.table goes.child.span) ∙ (ap (children_in s.tree.table) goes.is ∙ sym children_are))
+    asked_are : asked_for side w (children_below s.tree.table (goes.child ∷ [])) ≡ asked_for side w xs
+    asked_are = ap (asked_for side w) (append-nil (children_in s.tree.table goes.child.span) ∙ (ap (children_in s.tree.table) goes.is ∙ sym children_are))
 
-    asks_next : (next : List Child) → narrow w.size w.lo w.hi xs ≡ next → Asks whole lowest_in w answer (level + 1) next
-    asks_next next is = subst (Asks whole lowest_in w answer (level + 1)) (asked_are ∙ is) (low_next whole w refl size (goes.child ∷ []) answer level goes.asks not_leaves)
+    asks_next : (next : List Child) → asked_for side w xs ≡ next → Asks whole (pick_for side w) w answer (level + 1) next
+    asks_next next is = subst (Asks whole (pick_for side w) w answer (level + 1)) (asked_are ∙ is) (next_for side whole w refl size (goes.child ∷ []) answer level goes.asks not_leaves)
 
-    pub goes_nowhere : IsSearchedBelow w xs below_row.Nothing → answer ≡ None
+    pub goes_nowhere : IsSearchedBelow side w xs below_row.Nothing → answer ≡ None
     goes_nowhere none =
         let asks = asks_next [] none in
-        sym (leaves_have whole lowest_in w answer asks.left [] tt asks.rows asks.found)
+        sym (leaves_have whole (pick_for side w) w answer asks.left [] tt asks.rows asks.found)
 
-    pub goes_below : (slot : ℕ) (y : Span) → IsSearchedBelow w xs (below_row.One slot y) → (path' : List PathStep) → path' ≡ path ++ (record { row = row; slot = slot; min = x.first; max = x.last } ∷ []) → GoesOn s s'' w (level + 1) path' y
+    pub goes_below : (slot : ℕ) (y : Span) → IsSearchedBelow side w xs (below_row.One slot y) → (path' : List PathStep) → path' ≡ path ++ (record { row = row; slot = slot; min = x.first; max = x.last } ∷ []) → GoesOn side s s'' w (level + 1) path' y
     goes_below slot y one path' pushed =
         let asks = asks_next (one.child ∷ []) one.alone in
         let full = standing s.tree tree some in
@@ -302,9 +343,39 @@ module _ (s s' : Sheet) (w : Window) (size : 1 ≤ w.size) (tree : IsGapped s.tr
 pub some_kind : (t : Rooted) → IsGapped t → (kind : Kind) × IsTreeOf t kind
 some_kind t tree = (tree.kind, record { width = tree.lawful.width; words = elim tree.lawful.words [ inl empty ↦ inl empty | inr full ↦ inr (full.0, full.1) ] })
 
-module _ (t : Rooted) (w : Window) (path : List PathStep) (leaf : Span) (ends : EndsInLeaf t w path leaf) (size : 1 ≤ w.size) (start : ℕ) (is : Some start ≡ picked lowest_in w (flat_map child_hole (children_in t.table leaf))) where
+-- ---- a place lies where the holes do
+
+highest_between : (n lo hi a b start : ℕ) (xs : List Hole) → 1 ≤ n → AllByRecursion (Between a b) xs → highest_in n (kept n lo hi xs) ≡ Some start → (a ≤ start) × (start < b)
+highest_between n lo hi a b start [] some each is = absurd (cc)
+highest_between n lo hi a b start (x ∷ xs) some each is =
+    let begins = each.0.0 in let ends = each.0.2 in
+    elim (cases_Bool (nat_le (max lo x.first + n) (min hi x.last + 1))) [
+      | inl whole ↦ (
+          let room = leb-true (max lo x.first + n) (min hi x.last + 1) whole in
+          let first : kept n lo hi (x ∷ xs) ≡ clip lo hi x ∷ kept n lo hi xs = (rw whole refl) in
+          by_rest (kept n lo hi xs)
+          (λ none.
+          let one : kept n lo hi (x ∷ xs) ≡ clip lo hi x ∷ [] = first ∙ ap (λ (l : List Hole). clip lo hi x ∷ l) none in
+          let here : Some (min hi x.last + 1 - n) ≡ Some start = ap (highest_in n) (sym one) ∙ is in
+          let same : min hi x.last + 1 - n ≡ start = cc in
+          (omega arith, omega arith))
+          (λ more. highest_between n lo hi a b start xs some each.1 (sym (ap (highest_in n) first ∙ highest_more n (clip lo hi x) (kept n lo hi xs) more) ∙ is)))
+      | inr less ↦ (let short = leb-false (max lo x.first + n) (min hi x.last + 1) less in
+          let without : kept n lo hi (x ∷ xs) ≡ kept n lo hi xs = (rw less refl) in
+          highest_between n lo hi a b start xs some each.1 (ap (highest_in n) (sym without) ∙ is))
+    ]
+  where
+    by_rest : {P : Type 0} (l : List Hole) → (l ≡ [] → P) → (0 < length l → P) → P
+    by_rest [] none more = none refl
+    by_rest (y ∷ l) none more = more (omega arith)
+
+place_between : (side : Side) (w : Window) (a b start : ℕ) (xs : List Hole) → 1 ≤ w.size → AllByRecursion (Between a b) xs → picked (pick_for side w) w xs ≡ Some start → (a ≤ start) × (start < b)
+place_between sides.Low w a b start xs some each is = lowest_between w.size w.lo w.hi a b start xs some each is
+place_between sides.High w a b start xs some each is = highest_between w.size w.lo w.hi a b start xs some each is
+
+module _ (side : Side) (t : Rooted) (w : Window) (path : List PathStep) (leaf : Span) (ends : EndsInLeaf side t w path leaf) (size : 1 ≤ w.size) (start : ℕ) (is : Some start ≡ picked (pick_for side w) w (flat_map child_hole (children_in t.table leaf))) where
   in_leaf : (leaf.first ≤ start) × (start < leaf.last + 1)
-  in_leaf = lowest_between w.size w.lo w.hi leaf.first (leaf.last + 1) start (flat_map child_hole (children_in t.table leaf)) size
+  in_leaf = place_between side w leaf.first (leaf.last + 1) start (flat_map child_hole (children_in t.table leaf)) size
       (subst (AllByRecursion (Between leaf.first (leaf.last + 1))) (sym (holes_of_children (children_in t.table leaf) ∙ ap (flat_map leaf_hole) (spans_of_row t.table leaf))) (leaf_between leaf.first (leaf.last + 1) (spans_in t.table leaf) ends.fills))
       (sym is)
 
@@ -328,21 +399,30 @@ module _ (t : Rooted) (w : Window) (path : List PathStep) (leaf : Span) (ends : 
   }
 
 -- every place lies in the tree
-pub low_within : (t : Rooted) (n lo hi start : ℕ) → IsGapped t → 1 ≤ n → Some start ≡ low_to (greatest t.table.width) (map_by t) n lo hi → start ≤ greatest t.table.width
-low_within t n lo hi start tree some is = elim (cases_root t.root) [
+pub place_within : (side : Side) (t : Rooted) (w : Window) (start : ℕ) → IsGapped t → 1 ≤ w.size → Some start ≡ sought_to side w t → start ≤ greatest t.table.width
+place_within side t w start tree some is = elim (cases_root t.root) [
   | inl empty ↦ (
       let hole : AllByRecursion (Between 0 (greatest t.table.width + 1)) (flat_map child_hole (record { span = record { first = 0; last = greatest t.table.width; word = 0 }; gap = 0 } ∷ [])) = ((omega arith, omega arith, omega arith), tt) in
-      let found = lowest_between n lo hi 0 (greatest t.table.width + 1) start (flat_map child_hole (record { span = record { first = 0; last = greatest t.table.width; word = 0 }; gap = 0 } ∷ [])) some hole (low_empty t (record { size = n; lo = lo; hi = hi }) empty ∙ sym is) in
+      let found = place_between side w 0 (greatest t.table.width + 1) start (flat_map child_hole (record { span = record { first = 0; last = greatest t.table.width; word = 0 }; gap = 0 } ∷ [])) some hole (empty_for side t w empty ∙ sym is) in
       let high = found.1 in omega arith)
   | inr more ↦ (
-      let asks = asks_root t tree more (record { size = n; lo = lo; hi = hi }) lowest_in in
-      let found = lowest_between n lo hi 0 (greatest t.table.width + 1) start (holes_below t.table asks.left (root_span t.table t.root ∷ [])) some (holes_between (tree_on true t) asks.left 0 (greatest t.table.width + 1) (root_span t.table t.root ∷ []) asks.rows (refl, omega arith, refl)) (asks.found ∙ sym is) in
+      let asks = asks_root t tree more w (pick_for side w) in
+      let found = place_between side w 0 (greatest t.table.width + 1) start (holes_below t.table asks.left (root_span t.table t.root ∷ [])) some (holes_between (tree_on true t) asks.left 0 (greatest t.table.width + 1) (root_span t.table t.root ∷ []) asks.rows (refl, omega arith, refl)) (asks.found ∙ sym is) in
       let high = found.1 in omega arith)
 ]
   where
     cases_root : (n : ℕ) → (n ≡ 0) ⊎ (n ≢ 0)
     cases_root zero = inl refl
     cases_root (suc n) = inr (λ e. omega arith)
+
+    empty_for : (side : Side) (t : Rooted) (w : Window) → t.root ≡ 0 → picked (pick_for side w) w (flat_map child_hole (record { span = record { first = 0; last = greatest t.table.width; word = 0 }; gap = 0 } ∷ [])) ≡ sought_to side w t
+    empty_for sides.Low t w empty = low_empty t w empty
+    empty_for sides.High t w empty = high_empty t w empty
+
+-- the place in a tree is the place by its map
+pub sought_is : (side : Side) (w : Window) (t : Rooted) → sought_in side w t ≡ sought_to side w t
+sought_is sides.Low w t = low_in_tree w t
+sought_is sides.High w t = high_in_tree w t
 
 -- ---- how many words were loaded
 

@@ -10,7 +10,7 @@ pub use Rattle.std.specs.Option.{is_some, option_map, option_or}
 pub use Rattle.std.specs.Prelude.{if◌then◌else◌, slice_index, slice_index_or, slice_set, ◌⊎◌}
 pub use Rattle.mt_base.proofs.Lists.{all_join}
 pub use Rattle.mt_base.proofs.WidthBounds.{greatest_fits}
-pub use Rattle.mt_base.specs.Holes.{clip, fits, high_to, highest_in, hole_between, holes_from, low_to}
+pub use Rattle.mt_base.specs.Holes.{clip, fits, high_to, hole_between, holes_from, low_to}
 pub use Rattle.mt_base.specs.Width.{deepest, first_row}
 pub use Rattle.mt_base.specs.declared.widths.Width.{Width}
 pub use Rattle.mt_layout.proofs.NameLaws.{Names-named_kind}
@@ -56,9 +56,10 @@ unfoldable pub use Rattle.mt_gap.specs.Descents.{place_in}
 pub use Rattle.mt_gap.specs.Mended.{AreRight, HasMendedRows, IsMendedSlot}
 pub use Rattle.mt_gap.specs.Mending.{GapLawBeside, IsAlong, IsGapIn, IsGapOn, IsLiveRow, IsMended, IsToldWay, IsWay, KeepsOtherWords, KeepsWordsBut, MayMend, MayMendGaps, MayTell, OnlyWords, longest_gap, most_gap, told_by}
 pub use Rattle.mt_gap.specs.Narrow.{has_sure, inside, may_have, meets, narrow, narrow_up, next_up}
-pub use Rattle.mt_gap.specs.Prelude.{Fills, GapLaw, Gapped, Hole, Inner, IsPlace, Item, Kind, Leaf, Levels, Live, LiveAreReached, MayTend, NoneBuried, PathStep, ReadsUpTo, Rooted, RowKind, SameSpans, Sheet, Span, Stands, Table, Tree, base_of, column, columns, covers, gap_column, gaps_of, greatest, handle_in, height_in, holes_to, is_buried, items_at, kept, kind_on, life_of, longest_below, longest_in, lowest_in, map_by, named_kind, path_in, pivot_column, root_of, root_span, row_in, row_on, row_spans, slots_of, span_at, spans_in, step_at, tree_on, with_word, word_at}
+pub use Rattle.mt_gap.specs.Prelude.{Fills, GapLaw, Gapped, Hole, Inner, IsPlace, Item, Kind, Leaf, Levels, Live, LiveAreReached, MayTend, NoneBuried, PathStep, ReadsUpTo, Rooted, RowKind, SameSpans, Sheet, Span, Stands, Table, Tree, base_of, column, columns, covers, gap_column, gaps_of, greatest, handle_in, height_in, highest_in, holes_to, is_buried, items_at, kept, kind_on, life_of, longest_below, longest_in, lowest_in, map_by, named_kind, path_in, pivot_column, root_of, root_span, row_in, row_on, row_spans, slots_of, span_at, spans_in, step_at, tree_on, with_word, word_at}
 pub use Rattle.mt_gap.specs.Slots.{child_in, gap_in, last_in, word_in}
-pub use Rattle.mt_gap.specs.Ways.{AreAsked, EndsInLeaf, IsAreaAt, IsSearchedBelow, IsWayTo, StandsInSlot, into_one_more, with_room}
+pub use Rattle.mt_gap.specs.Ways.{AreAsked, EndsInLeaf, IsAreaAt, IsSearchedBelow, IsWayTo, StandsInSlot, asked_for, into_one_more, pick_for, sought_in, sought_to, with_room, with_room_up}
 pub use Rattle.mt_gap.specs.declared.children.Child.{Child}
 pub use Rattle.mt_gap.specs.declared.ways.Below.{Below}
+pub use Rattle.mt_gap.specs.declared.ways.Side.{Side}
 pub use Rattle.mt_gap.specs.declared.windows.Window.{Window}

@@ -1,6 +1,6 @@
 -- What the definitions beside this file take from the toolchain and from the crates below, under one name. Declares nothing.
 pub use Rattle.mt_base.specs.Call.{finds_room}
-pub use Rattle.mt_base.specs.Holes.{Hole, holes_to, kept, lowest_in}
+pub use Rattle.mt_base.specs.Holes.{Hole, highest_in, holes_to, kept, lowest_in}
 pub use Rattle.mt_base.specs.Width.{columns, greatest}
 pub use Rattle.mt_base.specs.declared.kinds.Kind.{Kind}
 pub use Rattle.mt_layout.specs.Columns.{gap_at, gap_column, items_at, pivot_column, slot_column}

@@ -1,19 +1,21 @@
 -- A search that goes into one row in each level: what it goes into below a row, and where it ends, with the way there.
--- Source: the kernel's lib/maple_tree.c, mas_empty_area, which stores where its search has come to.
-use Rattle.std.specs.Prelude.{◌≡◌, ℕ, ◌+◌, ◌<◌, ◌≤◌, ◌↔◌, ◌++◌, List, [], ◌∷◌, Some, None, IsNone, IfSome, length, take, if◌then◌else◌}
+-- Source: the kernel's lib/maple_tree.c, mas_empty_area and mas_empty_area_rev, which store where their search has come to.
+use Rattle.std.specs.Prelude.{◌≡◌, ℕ, ◌+◌, ◌<◌, ◌≤◌, ◌↔◌, ◌++◌, List, [], ◌∷◌, Option, Some, None, IsNone, IfSome, length, take, if◌then◌else◌}
 use Rattle.std.specs.List.{flat_map}
-use Rattle.mt_gap.specs.Prelude.{lowest_in, greatest, Leaf, Span, named_kind, Fills, Rooted, root_span, spans_in, PathStep, handle_in, path_in, row_on}
+use Rattle.mt_gap.specs.Prelude.{Hole, holes_to, lowest_in, highest_in, greatest, Leaf, Span, named_kind, Fills, map_by, Rooted, root_span, spans_in, PathStep, handle_in, path_in, row_on}
 use Rattle.mt_gap.specs.declared.children.Child.{Child}
 use Rattle.mt_gap.specs.declared.searches.SoughtArea.{SoughtArea}
 use Rattle.mt_gap.specs.declared.ways.Below.{Below}
 use Rattle.mt_gap.specs.declared.ways.Below.TheVariants as below
+use Rattle.mt_gap.specs.declared.ways.Side.{Side}
+use Rattle.mt_gap.specs.declared.ways.Side.TheVariants as side
 use Rattle.mt_gap.specs.declared.ways.End.{End}
 use Rattle.mt_gap.specs.declared.ways.End.TheVariants as end
 use Rattle.mt_gap.specs.declared.windows.Window.{Window}
 use Rattle.mt_gap.specs.Below.{child_hole}
 use Rattle.mt_gap.specs.Children.{children_in}
 use Rattle.mt_gap.specs.Descents.{MayLoad, picked, place_in}
-use Rattle.mt_gap.specs.Narrow.{may_have, narrow}
+use Rattle.mt_gap.specs.Narrow.{may_have, inside, narrow, narrow_up}
 
 -- what is gone into, with one more
 abbrev pub into_one_more : ℕ → Span → Below → Below
@@ -24,6 +26,10 @@ into_one_more slot x below.More = below.More
 -- the same, if it may have room
 abbrev pub with_room : Window → ℕ → Child → Below → Below
 with_room w slot x b = if may_have w.size w.lo w.hi x then into_one_more slot x.span b else b
+
+-- from the right: one that lies in the window stands for all before it
+abbrev pub with_room_up : Window → ℕ → Child → Below → Below
+with_room_up w slot x b = if may_have w.size w.lo w.hi x then (if inside w.lo w.hi x then below.One slot x.span else into_one_more slot x.span b) else b
 
 -- the child stands in this slot
 pub record StandsInSlot (xs : List Child) (slot : ℕ) (x : Child) : Type 0 where
@@ -45,9 +51,27 @@ AreAsked xs asked below.Nothing = asked ≡ []
 AreAsked xs asked (below.One slot span) = IsOne xs asked slot span
 AreAsked xs asked below.More = 2 ≤ length asked
 
+-- which of a row's children are asked, for the lowest place and for the highest
+abbrev pub asked_for : Side → Window → List Child → List Child
+asked_for side.Low w xs = narrow w.size w.lo w.hi xs
+asked_for side.High w xs = narrow_up w.size w.lo w.hi [] xs
+
+-- which of the holes that have room is picked, and where in it
+abbrev pub pick_for : Side → Window → List Hole → Option ℕ
+pick_for side.Low w = lowest_in
+pick_for side.High w = highest_in w.size
+
+-- the place that is sought in a tree
+abbrev pub sought_in : Side → Window → Rooted → Option ℕ
+sought_in side w t = place_in (pick_for side w) w t
+
+-- the same by the map
+abbrev pub sought_to : Side → Window → Rooted → Option ℕ
+sought_to side w t = picked (pick_for side w) w (holes_to (greatest t.table.width) (map_by t))
+
 -- what a search goes into below a row with these children
-abbrev pub IsSearchedBelow : Window → List Child → Below → Type 0
-IsSearchedBelow w xs b = AreAsked xs (narrow w.size w.lo w.hi xs) b
+abbrev pub IsSearchedBelow : Side → Window → List Child → Below → Type 0
+IsSearchedBelow side w xs b = AreAsked xs (asked_for side w xs) b
 
 -- The way to each index of a row goes by these steps and enters the row then.
 pub record IsWayTo (t : Rooted) (path : List PathStep) (x : Span) : Type 0 where
@@ -56,18 +80,18 @@ pub record IsWayTo (t : Rooted) (path : List PathStep) (x : Span) : Type 0 where
   pub low : (index : ℕ) → x.first ≤ index → index ≤ x.last → length path < length (path_in t.table t.root index)
   pub enters : (index : ℕ) → x.first ≤ index → index ≤ x.last → row_on t.table (length path) (root_span t.table t.root) index ≡ x
 
--- the leaf that has the lowest place, if there is one, and the way there
-pub record EndsInLeaf (t : Rooted) (w : Window) (path : List PathStep) (leaf : Span) : Type 0 where
+-- the leaf that has the place, if there is one, and the way there
+pub record EndsInLeaf (side : Side) (t : Rooted) (w : Window) (path : List PathStep) (leaf : Span) : Type 0 where
   pub leads : IsWayTo t path leaf
   pub is_leaf : named_kind leaf.word ≡ Some Leaf
   pub row : MayLoad t leaf
   pub fills : Fills leaf.first (leaf.last + 1) (spans_in t.table leaf)
-  pub found : picked lowest_in w (flat_map child_hole (children_in t.table leaf)) ≡ place_in lowest_in w t
+  pub found : picked (pick_for side w) w (flat_map child_hole (children_in t.table leaf)) ≡ sought_in side w t
 
-abbrev pub EndsIn : Rooted → Window → List PathStep → End → Type 0
-EndsIn t w path end.Nowhere = place_in lowest_in w t ≡ None
-EndsIn t w path (end.Leaf leaf) = EndsInLeaf t w path leaf
-EndsIn t w path end.Branch = Unit {0}
+abbrev pub EndsIn : Side → Rooted → Window → List PathStep → End → Type 0
+EndsIn side t w path end.Nowhere = sought_in side w t ≡ None
+EndsIn side t w path (end.Leaf leaf) = EndsInLeaf side t w path leaf
+EndsIn side t w path end.Branch = Unit {0}
 
 -- the path leads to where the area starts, and this stands there
 pub record IsAreaAt (t : Rooted) (path : List PathStep) (area : SoughtArea) : Type 0 where

@@ -9,4 +9,4 @@ mod ways;
 mod windows;
 
 pub use mends::{mend_along, mend_gaps, mend_way};
-pub use searches::{SoughtArea, highest, lowest, lowest_way};
+pub use searches::{SoughtArea, highest, highest_way, lowest, lowest_way};

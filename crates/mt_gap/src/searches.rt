@@ -12,16 +12,16 @@ ghost use Rattle.mt_gap.specs.declared.children.Child.{Child};
 ghost use Rattle.mt_gap.specs.Below.{child_hole};
 ghost use Rattle.mt_gap.specs.Children.{children_in, children_below, root_child};
 ghost use Rattle.mt_gap.specs.Descents.{IsGapped, LoadedUpTo, MayLoad, picked, place_in, Arrives, AreLeaves};
-ghost use Rattle.mt_gap.specs.Ways.{EndsInLeaf, IsAreaAt};
+ghost use Rattle.mt_gap.specs.Ways.{pick_for, sought_in, sought_to, EndsInLeaf, IsAreaAt};
 ghost use Rattle.mt_gap.specs.declared.searches.SoughtArea.{SoughtArea};
 
 use crate::children::Child;
 use crate::levels::{next_higher, next_lower};
-use crate::ways::{End, go_one_way};
+use crate::ways::{End, Side, go_one_way};
 use crate::windows::{Asked, Window, high_place, highest_of, low_place, lowest_of};
 use mt_base::{DEEPEST, Steps, Width, top};
 use mt_layout::{RowKind, Span, kind_of, row_of};
-use mt_path::{Handle, Path, end_by_halves, walk_by_halves};
+use mt_path::{Handle, Path, end_walk, walk_to};
 use mt_rows::Rows;
 use std::sync::ledger::Ledger;
 
@@ -203,81 +203,6 @@ pub fn lowest<R: Rows, L: Ledger>(
     lowest_in_leaves(rows, &leaves, window, steps)
 }
 
-/// The lowest place in a leaf, to which the path leads, and the end of the way there.
-fn area_in_leaf<R: Rows>(
-    rows: &mut R,
-    leaf: Span,
-    window: Window,
-    path: &mut Path,
-) -> Option<SoughtArea>
-    requires tree { IsGapped (R.sheet rows.old).tree }
-    requires size { 1 ≤ window.size }
-    requires leaf { EndsInLeaf (R.sheet rows.old).tree window path.old.items leaf }
-    ensures place { option_map (λ (area : SoughtArea). area.start) result ≡ place_in lowest_in window (R.sheet rows.old).tree }
-    ensures way { IfSome result (λ area. IsAreaAt (R.sheet rows.old).tree path.new.items area) }
-    ensures rest { OnlyReads (R.sheet rows.old) (R.sheet rows.new) }
-    ensures reads { IsNone result → ReadsUpTo (columns (R.sheet rows.old).tree.table.width) (R.sheet rows.old) (R.sheet rows.new) }
-{
-    let start = lowest_in_leaf(rows, leaf, window)?;
-    let here = end_by_halves(rows, leaf, start, path);
-    Some(SoughtArea {
-        start,
-        here: Some(here),
-    })
-}
-
-/// The lowest place where a search goes into more than one row of a level, and the way there, which is walked then.
-#[tactic(auto, using(crate::proofs::Readings::within_steps))]
-fn area_by_levels<R: Rows, L: Ledger>(
-    rows: &mut R,
-    window: Window,
-    steps: &mut Steps<L>,
-    path: &mut Path,
-) -> Option<SoughtArea>
-    requires tree { IsGapped (R.sheet rows.old).tree }
-    requires size { 1 ≤ window.size }
-    ensures place { let t = (R.sheet rows.old).tree in option_map (λ (area : SoughtArea). area.start) result ≡ low_to (greatest t.table.width) (map_by t) window.size window.lo window.hi }
-    ensures way { IfSome result (λ area. IsAreaAt (R.sheet rows.old).tree path.new.items area) }
-    ensures rest { OnlyReads (R.sheet rows.old) (R.sheet rows.new) }
-    ensures reads { IsNone result → ReadsUpTo (3 * height_in (R.sheet rows.old).tree.table (R.sheet rows.old).tree.root * columns (R.sheet rows.old).tree.table.width + 1) (R.sheet rows.old) (R.sheet rows.new) }
-{
-    let start = lowest(rows, window.size, window.lo, window.hi, steps)?;
-    path.clear();
-    let here = walk_by_halves(rows, start, path);
-    Some(SoughtArea { start, here })
-}
-
-/// The same as `lowest`, with the way to the place and what stands there. Where the search went into one row in each level, no row
-/// on the way is walked again but the leaf.
-pub fn lowest_way<R: Rows, L: Ledger>(
-    rows: &mut R,
-    size: u64,
-    lo: u64,
-    hi: u64,
-    steps: &mut Steps<L>,
-    path: &mut Path,
-) -> Option<SoughtArea>
-    requires tree { IsGapped (R.sheet rows.old).tree }
-    requires size { 1 ≤ size }
-    requires empty { path.old.items ≡ [] }
-    ensures place { let t = (R.sheet rows.old).tree in option_map (λ (area : SoughtArea). area.start) result ≡ low_to (greatest t.table.width) (map_by t) size lo hi }
-    ensures way { IfSome result (λ area. IsAreaAt (R.sheet rows.old).tree path.new.items area) }
-    ensures rest { OnlyReads (R.sheet rows.old) (R.sheet rows.new) }
-    ensures reads { IsNone result → ReadsUpTo (2 * (3 * height_in (R.sheet rows.old).tree.table (R.sheet rows.old).tree.root * columns (R.sheet rows.old).tree.table.width + 1)) (R.sheet rows.old) (R.sheet rows.new) }
-{
-    let window = Window { size, lo, hi };
-    let word = rows.root();
-    if word == 0 {
-        return area_by_levels(rows, window, steps, path);
-    }
-    let root = whole(rows.width(), word).span;
-    match go_one_way(rows, root, window, path) {
-        End::Nowhere => None,
-        End::Leaf { leaf } => area_in_leaf(rows, leaf, window, path),
-        End::Branch => area_by_levels(rows, window, steps, path),
-    }
-}
-
 /// The highest start of so many indexes that lie in one hole and in the window `lo` to `hi`, and none where no hole has room.
 /// Each row that is loaded is a step, and beside their words the root word alone is loaded.
 pub fn highest<R: Rows, L: Ledger>(
@@ -301,4 +226,152 @@ pub fn highest<R: Rows, L: Ledger>(
     }
     let leaves = to_highest(rows, root, window, steps);
     highest_in_leaves(rows, &leaves, window, steps)
+}
+
+/// The place in a leaf that is sought.
+fn place_in_leaf<R: Rows>(rows: &mut R, side: Side, leaf: Span, window: Window) -> Option<u64>
+    requires row { MayLoad (R.sheet rows.old).tree leaf }
+    requires size { 1 ≤ window.size }
+    ensures place { result ≡ picked (pick_for side window) window (flat_map child_hole (children_in (R.sheet rows.old).tree.table leaf)) }
+    ensures reads { ReadsUpTo (columns (R.sheet rows.old).tree.table.width) (R.sheet rows.old) (R.sheet rows.new) }
+{
+    match side {
+        Side::Low => lowest_in_leaf(rows, leaf, window),
+        Side::High => highest_in_leaf(rows, leaf, window),
+    }
+}
+
+/// The place in a leaf, to which the path leads, and the end of the way there.
+fn area_in_leaf<R: Rows>(
+    rows: &mut R,
+    side: Side,
+    leaf: Span,
+    window: Window,
+    path: &mut Path,
+) -> Option<SoughtArea>
+    requires tree { IsGapped (R.sheet rows.old).tree }
+    requires size { 1 ≤ window.size }
+    requires leaf { EndsInLeaf side (R.sheet rows.old).tree window path.old.items leaf }
+    ensures place { option_map (λ (area : SoughtArea). area.start) result ≡ sought_in side window (R.sheet rows.old).tree }
+    ensures way { IfSome result (λ area. IsAreaAt (R.sheet rows.old).tree path.new.items area) }
+    ensures rest { OnlyReads (R.sheet rows.old) (R.sheet rows.new) }
+    ensures reads { IsNone result → ReadsUpTo (columns (R.sheet rows.old).tree.table.width) (R.sheet rows.old) (R.sheet rows.new) }
+{
+    let start = place_in_leaf(rows, side, leaf, window)?;
+    let here = end_walk(rows, leaf, start, path);
+    Some(SoughtArea {
+        start,
+        here: Some(here),
+    })
+}
+
+/// The place that is sought, by a search from level to level.
+fn place_by_levels<R: Rows, L: Ledger>(
+    rows: &mut R,
+    side: Side,
+    window: Window,
+    steps: &mut Steps<L>,
+) -> Option<u64>
+    requires tree { IsGapped (R.sheet rows.old).tree }
+    requires size { 1 ≤ window.size }
+    ensures place { result ≡ sought_to side window (R.sheet rows.old).tree }
+    ensures steps { steps.new ≤ steps.old + 3 * height_in (R.sheet rows.old).tree.table (R.sheet rows.old).tree.root }
+    ensures reads { ReadsUpTo (columns (R.sheet rows.old).tree.table.width * (steps.new - steps.old) + 1) (R.sheet rows.old) (R.sheet rows.new) }
+{
+    match side {
+        Side::Low => lowest(rows, window.size, window.lo, window.hi, steps),
+        Side::High => highest(rows, window.size, window.lo, window.hi, steps),
+    }
+}
+
+/// The place where a search goes into more than one row of a level, and the way there, which is walked then.
+#[tactic(auto, using(crate::proofs::Readings::within_steps))]
+fn area_by_levels<R: Rows, L: Ledger>(
+    rows: &mut R,
+    side: Side,
+    window: Window,
+    steps: &mut Steps<L>,
+    path: &mut Path,
+) -> Option<SoughtArea>
+    requires tree { IsGapped (R.sheet rows.old).tree }
+    requires size { 1 ≤ window.size }
+    ensures place { option_map (λ (area : SoughtArea). area.start) result ≡ sought_to side window (R.sheet rows.old).tree }
+    ensures way { IfSome result (λ area. IsAreaAt (R.sheet rows.old).tree path.new.items area) }
+    ensures rest { OnlyReads (R.sheet rows.old) (R.sheet rows.new) }
+    ensures reads { IsNone result → ReadsUpTo (3 * height_in (R.sheet rows.old).tree.table (R.sheet rows.old).tree.root * columns (R.sheet rows.old).tree.table.width + 1) (R.sheet rows.old) (R.sheet rows.new) }
+{
+    let start = place_by_levels(rows, side, window, steps)?;
+    path.clear();
+    let here = walk_to(rows, start, path);
+    Some(SoughtArea { start, here })
+}
+
+/// The place that is sought, with the way to it and what stands there. Where the search went into one row in each level, no row on
+/// the way is walked again but the leaf.
+fn way_for<R: Rows, L: Ledger>(
+    rows: &mut R,
+    side: Side,
+    window: Window,
+    steps: &mut Steps<L>,
+    path: &mut Path,
+) -> Option<SoughtArea>
+    requires tree { IsGapped (R.sheet rows.old).tree }
+    requires size { 1 ≤ window.size }
+    requires empty { path.old.items ≡ [] }
+    ensures place { option_map (λ (area : SoughtArea). area.start) result ≡ sought_to side window (R.sheet rows.old).tree }
+    ensures way { IfSome result (λ area. IsAreaAt (R.sheet rows.old).tree path.new.items area) }
+    ensures rest { OnlyReads (R.sheet rows.old) (R.sheet rows.new) }
+    ensures reads { IsNone result → ReadsUpTo (2 * (3 * height_in (R.sheet rows.old).tree.table (R.sheet rows.old).tree.root * columns (R.sheet rows.old).tree.table.width + 1)) (R.sheet rows.old) (R.sheet rows.new) }
+{
+    let word = rows.root();
+    if word == 0 {
+        return area_by_levels(rows, side, window, steps, path);
+    }
+    let root = whole(rows.width(), word).span;
+    match go_one_way(rows, side, root, window, path) {
+        End::Nowhere => None,
+        End::Leaf { leaf } => area_in_leaf(rows, side, leaf, window, path),
+        End::Branch => area_by_levels(rows, side, window, steps, path),
+    }
+}
+
+/// The same as `lowest`, with the way to the place and what stands there. Where the search went into one row in each level, no row
+/// on the way is walked again but the leaf.
+pub fn lowest_way<R: Rows, L: Ledger>(
+    rows: &mut R,
+    size: u64,
+    lo: u64,
+    hi: u64,
+    steps: &mut Steps<L>,
+    path: &mut Path,
+) -> Option<SoughtArea>
+    requires tree { IsGapped (R.sheet rows.old).tree }
+    requires size { 1 ≤ size }
+    requires empty { path.old.items ≡ [] }
+    ensures place { let t = (R.sheet rows.old).tree in option_map (λ (area : SoughtArea). area.start) result ≡ low_to (greatest t.table.width) (map_by t) size lo hi }
+    ensures way { IfSome result (λ area. IsAreaAt (R.sheet rows.old).tree path.new.items area) }
+    ensures rest { OnlyReads (R.sheet rows.old) (R.sheet rows.new) }
+    ensures reads { IsNone result → ReadsUpTo (2 * (3 * height_in (R.sheet rows.old).tree.table (R.sheet rows.old).tree.root * columns (R.sheet rows.old).tree.table.width + 1)) (R.sheet rows.old) (R.sheet rows.new) }
+{
+    way_for(rows, Side::Low, Window { size, lo, hi }, steps, path)
+}
+
+/// The same as `highest`, likewise.
+pub fn highest_way<R: Rows, L: Ledger>(
+    rows: &mut R,
+    size: u64,
+    lo: u64,
+    hi: u64,
+    steps: &mut Steps<L>,
+    path: &mut Path,
+) -> Option<SoughtArea>
+    requires tree { IsGapped (R.sheet rows.old).tree }
+    requires size { 1 ≤ size }
+    requires empty { path.old.items ≡ [] }
+    ensures place { let t = (R.sheet rows.old).tree in option_map (λ (area : SoughtArea). area.start) result ≡ high_to (greatest t.table.width) (map_by t) size lo hi }
+    ensures way { IfSome result (λ area. IsAreaAt (R.sheet rows.old).tree path.new.items area) }
+    ensures rest { OnlyReads (R.sheet rows.old) (R.sheet rows.new) }
+    ensures reads { IsNone result → ReadsUpTo (2 * (3 * height_in (R.sheet rows.old).tree.table (R.sheet rows.old).tree.root * columns (R.sheet rows.old).tree.table.width + 1)) (R.sheet rows.old) (R.sheet rows.new) }
+{
+    way_for(rows, Side::High, Window { size, lo, hi }, steps, path)
 }

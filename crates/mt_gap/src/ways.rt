@@ -12,7 +12,8 @@ ghost use Rattle.mt_gap.specs.Children.{row_children};
 ghost use Rattle.mt_gap.specs.Descents.{IsGapped};
 ghost use Rattle.mt_gap.specs.Narrow.{has_sure};
 ghost use Rattle.mt_gap.specs.Slots.{child_in};
-ghost use Rattle.mt_gap.specs.Ways.{into_one_more, with_room, IsSearchedBelow, EndsIn};
+ghost use Rattle.mt_gap.specs.declared.ways.Side.TheVariants as sides;
+ghost use Rattle.mt_gap.specs.Ways.{into_one_more, with_room, with_room_up, IsSearchedBelow, EndsIn};
 
 use crate::children::load_last;
 use crate::windows::{Window, is_inside, room_in_slot};
@@ -27,6 +28,13 @@ pub(crate) enum Below {
     Nothing,
     One { slot: u32, span: Span },
     More,
+}
+
+/// Which place is sought of those that have room.
+#[derive(Clone, Copy, Debug, PartialEq, Eq)]
+pub(crate) enum Side {
+    Low,
+    High,
 }
 
 /// Where a search comes to that goes into one row in each level: nowhere, to a leaf, or to a row below which it goes into more.
@@ -73,10 +81,10 @@ fn take_slot<R: Rows>(
     is_inside(window, first, last)
 }
 
-/// What a search goes into below a row with gaps, which covers the indexes from `first` to `max`.
-fn look_below<R: Rows>(rows: &mut R, row: u32, first: u64, max: u64, window: Window) -> Below
+/// What a search for the lowest place goes into below a row with gaps, which covers the indexes from `first` to `max`.
+fn look_low<R: Rows>(rows: &mut R, row: u32, first: u64, max: u64, window: Window) -> Below
     requires row { IsPlace (R.sheet rows.old).tree row 0 }
-    ensures below { IsSearchedBelow window (row_children (R.sheet rows.old).tree.table row Gapped first max) result }
+    ensures below { IsSearchedBelow sides.Low window (row_children (R.sheet rows.old).tree.table row Gapped first max) result }
     ensures reads { ReadsUpTo (columns (R.sheet rows.old).tree.table.width) (R.sheet rows.old) (R.sheet rows.new) }
 {
     let width = rows.width();
@@ -95,6 +103,75 @@ fn look_below<R: Rows>(rows: &mut R, row: u32, first: u64, max: u64, window: Win
     below
 }
 
+/// Takes what stands in a slot of a row with gaps, where it may have room: if it lies in the window it stands for all before it.
+fn take_slot_up<R: Rows>(
+    rows: &mut R,
+    width: Width,
+    row: u32,
+    slot: u32,
+    first: u64,
+    last: u64,
+    window: Window,
+    below: &mut Below,
+)
+    requires width { width ≡ (R.sheet rows.old).tree.table.width }
+    requires row { IsPlace (R.sheet rows.old).tree row 0 }
+    requires slot { slot < slots_of (R.sheet rows.old).tree.table.width Gapped }
+    ensures below { below.new ≡ with_room_up window slot (child_in (R.sheet rows.old).tree.table Gapped row slot first last) below.old }
+    ensures reads { ReadsUpTo 2 (R.sheet rows.old) (R.sheet rows.new) }
+{
+    let Some(child) = room_in_slot(rows, width, row, slot, first, last, window) else {
+        return;
+    };
+    *below = if is_inside(window, first, last) {
+        Below::One {
+            slot,
+            span: child.span,
+        }
+    } else {
+        one_more(*below, slot, child.span)
+    };
+}
+
+/// What a search for the highest place goes into below a row with gaps, which covers the indexes from `first` to `max`.
+fn look_high<R: Rows>(rows: &mut R, row: u32, first: u64, max: u64, window: Window) -> Below
+    requires row { IsPlace (R.sheet rows.old).tree row 0 }
+    ensures below { IsSearchedBelow sides.High window (row_children (R.sheet rows.old).tree.table row Gapped first max) result }
+    ensures reads { ReadsUpTo (columns (R.sheet rows.old).tree.table.width) (R.sheet rows.old) (R.sheet rows.new) }
+{
+    let width = rows.width();
+    let mut below = Below::Nothing;
+    let mut begin = first;
+    for slot in 0..slots(width, RowKind::Gapped) {
+        let last = load_last(rows, width, RowKind::Gapped, row, max, slot);
+        take_slot_up(rows, width, row, slot, begin, last, window, &mut below);
+        if max <= last {
+            return below;
+        }
+        begin = last + 1;
+    }
+    below
+}
+
+/// What a search goes into below a row with gaps.
+fn look_below<R: Rows>(
+    rows: &mut R,
+    side: Side,
+    row: u32,
+    first: u64,
+    max: u64,
+    window: Window,
+) -> Below
+    requires row { IsPlace (R.sheet rows.old).tree row 0 }
+    ensures below { IsSearchedBelow side window (row_children (R.sheet rows.old).tree.table row Gapped first max) result }
+    ensures reads { ReadsUpTo (columns (R.sheet rows.old).tree.table.width) (R.sheet rows.old) (R.sheet rows.new) }
+{
+    match side {
+        Side::Low => look_low(rows, row, first, max, window),
+        Side::High => look_high(rows, row, first, max, window),
+    }
+}
+
 /// The row that a span names, if it is one with gaps.
 fn gapped_row(span: Span) -> Option<u32>
     ensures some { IfSome result (λ row. (row ≡ row_in span.word) × (named_kind span.word ≡ Some Gapped)) }
@@ -107,13 +184,19 @@ fn gapped_row(span: Span) -> Option<u32>
 }
 
 /// Goes down from the root as long as there is one row to go into, and puts the steps to where that ends into an empty path.
-pub(crate) fn go_one_way<R: Rows>(rows: &mut R, root: Span, window: Window, path: &mut Path) -> End
+pub(crate) fn go_one_way<R: Rows>(
+    rows: &mut R,
+    side: Side,
+    root: Span,
+    window: Window,
+    path: &mut Path,
+) -> End
     requires tree { IsGapped (R.sheet rows.old).tree }
     requires some { (R.sheet rows.old).tree.root ≢ 0 }
     requires root { root ≡ root_span (R.sheet rows.old).tree.table (R.sheet rows.old).tree.root }
     requires size { 1 ≤ window.size }
     requires empty { path.old.items ≡ [] }
-    ensures end { EndsIn (R.sheet rows.old).tree window path.new.items result }
+    ensures end { EndsIn side (R.sheet rows.old).tree window path.new.items result }
     ensures reads { ReadsUpTo (height_in (R.sheet rows.old).tree.table (R.sheet rows.old).tree.root * columns (R.sheet rows.old).tree.table.width) (R.sheet rows.old) (R.sheet rows.new) }
 {
     let mut at = root;
@@ -121,7 +204,7 @@ pub(crate) fn go_one_way<R: Rows>(rows: &mut R, root: Span, window: Window, path
         let Some(row) = gapped_row(at) else {
             return End::Leaf { leaf: at };
         };
-        match look_below(rows, row, at.first, at.last, window) {
+        match look_below(rows, side, row, at.first, at.last, window) {
             Below::Nothing => return End::Nowhere,
             Below::More => return End::Branch,
             Below::One { slot, span } => {

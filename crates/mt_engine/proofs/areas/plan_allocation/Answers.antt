@@ -1,16 +1,11 @@
 use Rattle.mt_engine.proofs.Prelude.{arith, Some, sym, ◌∙◌}
-use Rattle.mt_engine.proofs.Finding.{good_area, is_gapped, window_within, start_is, place_fits, place_plan}
+use Rattle.mt_engine.proofs.Finding.{good_area, is_gapped, start_is, place_fits, place_plan}
 use Rattle.mt_engine.proofs.areas.plan_allocation.Goals as goal
 
 pub area_of-requires-clause-tree : goal.area_of-requires-clause-tree
 area_of-requires-clause-tree g c =
     let good = sym c.is_bad_area.ensures ∙ c.if-is_bad_area.false in
     is_gapped (g.R.Rows.sheet c.args.rows.now).tree c.args.kind c.requires.tree c.args.wanted.size c.args.wanted.min c.args.wanted.max (good_area c.args.kind c.args.wanted.size c.args.wanted.min c.args.wanted.max c.args.entry good).0
-
-pub area_of-requires-clause-within : goal.area_of-requires-clause-within
-area_of-requires-clause-within g c =
-    let good = sym c.is_bad_area.ensures ∙ c.if-is_bad_area.false in
-    window_within (g.R.Rows.sheet c.args.rows.now).tree c.args.kind c.requires.tree c.args.wanted.size c.args.wanted.min c.args.wanted.max (good_area c.args.kind c.args.wanted.size c.args.wanted.min c.args.wanted.max c.args.entry good).0
 
 pub overflow_add-edit : goal.overflow_add-edit
 overflow_add-edit g c =

@@ -8,4 +8,4 @@ returns-clause-height g c = c.len.ensures.value ∙ way_height c.requires.tree.0
 pub returns-clause-reads : goal.returns-clause-reads
 returns-clause-reads g c =
     subst (λ (n : ℕ). ReadsUpTo n (g.R.Rows.sheet c.args.rows.now) (g.R.Rows.sheet c.walk.new.rows))
-    (loads_on_first (g.R.Rows.sheet c.args.rows.now).tree c.walk.result.items c.walk.ensures.path ∙ ap (λ (n : ℕ). 2 * n + 1) (sym c.len.ensures.value)) c.walk.ensures.reads
+    (loads_on_first (g.R.Rows.sheet c.args.rows.now).tree c.walk.result.items c.walk.ensures.path ∙ ap (λ (n : ℕ). 14 * n + 1) (sym c.len.ensures.value)) c.walk.ensures.reads

@@ -2,29 +2,29 @@ use Rattle.mt_gap.proofs.Prelude.{◌≤◌, sym, ap, ◌∙◌, subst, Kind, gr
 use Rattle.mt_gap.proofs.OneWay.{some_kind, start_within, enters_leaf, is_area}
 use Rattle.mt_gap.proofs.searches.area_in_leaf.Goals as goal
 
-pub end_by_halves-here-requires-clause-tree : goal.end_by_halves-here-requires-clause-tree
-end_by_halves-here-requires-clause-tree g c =
+pub end_walk-here-requires-clause-tree : goal.end_walk-here-requires-clause-tree
+end_walk-here-requires-clause-tree g c =
     let s = g.R.Rows.sheet c.args.rows.now in
-    let same = ap (λ (r : Sheet). r.tree) c.lowest_in_leaf.ensures.reads.rest in
+    let same = ap (λ (r : Sheet). r.tree) c.place_in_leaf.ensures.reads.rest in
     subst (λ (t : Rooted). (kind : Kind) × IsTreeOf t kind) (sym same) (some_kind s.tree c.requires.tree)
 
-pub end_by_halves-here-requires-clause-index : goal.end_by_halves-here-requires-clause-index
-end_by_halves-here-requires-clause-index g c =
+pub end_walk-here-requires-clause-index : goal.end_walk-here-requires-clause-index
+end_walk-here-requires-clause-index g c =
     let s = g.R.Rows.sheet c.args.rows.now in
-    let same = ap (λ (r : Sheet). r.tree) c.lowest_in_leaf.ensures.reads.rest in
+    let same = ap (λ (r : Sheet). r.tree) c.place_in_leaf.ensures.reads.rest in
     subst (λ (t : Rooted). c.in_ok-start.start ≤ greatest t.table.width) (sym same)
-    (start_within s.tree c.args.window c.args.path.now.items c.args.leaf c.requires.leaf c.requires.size c.in_ok-start.start c.in_ok-start.ensures.place)
+    (start_within c.args.side s.tree c.args.window c.args.path.now.items c.args.leaf c.requires.leaf c.requires.size c.in_ok-start.start c.in_ok-start.ensures.place)
 
-pub end_by_halves-here-requires-clause-way : goal.end_by_halves-here-requires-clause-way
-end_by_halves-here-requires-clause-way g c =
+pub end_walk-here-requires-clause-way : goal.end_walk-here-requires-clause-way
+end_walk-here-requires-clause-way g c =
     let s = g.R.Rows.sheet c.args.rows.now in
-    let same = ap (λ (r : Sheet). r.tree) c.lowest_in_leaf.ensures.reads.rest in
-    subst (λ (t : Rooted). EntersLeaf t c.in_ok-start.start c.args.path.now.items c.args.leaf) (sym same) (enters_leaf s.tree c.args.window c.args.path.now.items c.args.leaf c.requires.leaf c.requires.size c.in_ok-start.start c.in_ok-start.ensures.place)
+    let same = ap (λ (r : Sheet). r.tree) c.place_in_leaf.ensures.reads.rest in
+    subst (λ (t : Rooted). EntersLeaf t c.in_ok-start.start c.args.path.now.items c.args.leaf) (sym same) (enters_leaf c.args.side s.tree c.args.window c.args.path.now.items c.args.leaf c.requires.leaf c.requires.size c.in_ok-start.start c.in_ok-start.ensures.place)
 
 pub returns-clause-way : goal.returns-clause-way
 returns-clause-way g c =
     let s = g.R.Rows.sheet c.args.rows.now in
-    let same = ap (λ (r : Sheet). r.tree) c.lowest_in_leaf.ensures.reads.rest in
-    is_area s.tree c.args.window c.args.path.now.items c.args.leaf c.requires.leaf c.requires.size c.in_ok-start.start c.in_ok-start.ensures.place c.end_by_halves-here.new.path.items c.end_by_halves-here.result
-    (c.end_by_halves-here.ensures.path ∙ ap (λ (t : Rooted). path_in t.table t.root c.in_ok-start.start) same)
-    (c.end_by_halves-here.ensures.handle ∙ ap (λ (t : Rooted). handle_in t c.in_ok-start.start) same)
+    let same = ap (λ (r : Sheet). r.tree) c.place_in_leaf.ensures.reads.rest in
+    is_area c.args.side s.tree c.args.window c.args.path.now.items c.args.leaf c.requires.leaf c.requires.size c.in_ok-start.start c.in_ok-start.ensures.place c.end_walk-here.new.path.items c.end_walk-here.result
+    (c.end_walk-here.ensures.path ∙ ap (λ (t : Rooted). path_in t.table t.root c.in_ok-start.start) same)
+    (c.end_walk-here.ensures.handle ∙ ap (λ (t : Rooted). handle_in t c.in_ok-start.start) same)

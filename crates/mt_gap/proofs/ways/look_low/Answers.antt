@@ -1,7 +1,7 @@
 use Rattle.mt_gap.proofs.Prelude.{◌≡◌, ◌<◌, [], ◌∷◌, ap, ◌∙◌, arith, Width, Gapped, slots_of, tree_kept, reads_more, Rooted, child_in, has_sure, with_room}
 use Rattle.mt_gap.proofs.RowReads.{same_read, read_on, read_last, read_part, read_all}
 use Rattle.mt_gap.proofs.OneWay.{HasSeen, seen_on, seen_stops, seen_all}
-use Rattle.mt_gap.proofs.ways.look_below.Goals as goal
+use Rattle.mt_gap.proofs.ways.look_low.Goals as goal
 
 pub returns-then-take_slot-clause-below : goal.returns-then-take_slot-clause-below
 returns-then-take_slot-clause-below g c =
