@@ -1,8 +1,8 @@
 -- A call at work was made by its pass, and the rows that a read saw lie behind the lock again.
-use Rattle.mt_tree.proofs.Prelude.{◌≡◌, ◌≢◌, ℕ, ◌+◌, ◌/◌, ◌≤◌, ◌<◌, ◌∷◌, ◌++◌, List, [], Bool, true, false, Option, Some, None, length, refl, sym, ap, ◌∙◌, subst, inl, inr, arith, ◌↔◌, IfErr, IfSome, IsOk, Result, Ok, Err, if◌then◌else◌, append-nil, length-map, length-append, Call, StorePre, Query, Kind, Range, Holder, Reply, Shortage, acted, answer, is_invalid, replied, Record, first_met, over, IsShort, Saw, Read, Wrote, places, with_records, holder_of, saw_wrote, still_short, Parts, DidOrLacked, IsEnded, TellsBook, is_refusal, HasRoom, IsScanned, IsShortOf, Book, after_reclaim, unscanned, map_by, IsRealShortage, OnlyReads, Rooted, Sheet, Pass, Shape, record_of, records_of, pen_sheet, Identity, pass_in, places_last, Tools, Tree, Behind, behind_lock, IsOnlyRead, IsReady, IsStoreReply, map_seen, opened, passes_of, place_of, IsShortNow, NamesPass, WasPrepared, pass_of_told, shown_pass, AreBack}
+use Rattle.mt_tree.proofs.Prelude.{◌≡◌, ◌≢◌, ℕ, ◌+◌, ◌/◌, ◌≤◌, ◌<◌, ◌∷◌, ◌++◌, List, [], Bool, true, false, Option, Some, None, length, refl, sym, ap, ◌∙◌, subst, inl, inr, arith, ◌↔◌, IfErr, IfSome, IsOk, Result, Ok, Err, if◌then◌else◌, append-nil, length-map, length-append, Call, StorePre, Query, Kind, Range, Holder, Reply, Shortage, acted, answer, is_invalid, replied, Record, first_met, over, IsShort, Saw, Read, Wrote, places, with_records, holder_of, saw_wrote, still_short, Parts, DidOrLacked, IsEnded, TellsBook, is_refusal, HasRoom, IsScanned, IsShortOf, Book, after_reclaim, unscanned, map_by, IsRealShortage, OnlyReads, Rooted, Sheet, Pass, Shape, record_of, records_of, pen_sheet, Identity, pass_in, places_last, Tools, Tree, Behind, behind_lock, IsOnlyRead, IsReady, IsStoreReply, IsLeastBy, map_seen, opened, passes_of, place_of, IsShortNow, NamesPass, WasPrepared, pass_of_told, shown_pass, AreBack}
 use Rattle.mt_base.specs.declared.replies.Reply.TheVariants as replies
 use Rattle.mt_base.specs.Passes as known
-use Rattle.mt_tree.proofs.AtWork.{AtWork, count_is, passes_is, told_at, told_is, told_after, told_more, tree_is, map_shown, shape_is, same_parts}
+use Rattle.mt_tree.proofs.AtWork.{AtWork, at_rest, count_is, passes_is, told_at, told_is, told_after, told_more, tree_is, map_shown, shape_is, same_parts, same_shape}
 use Rattle.mt_tree.proofs.NoShortage.{applied_among, applied_other, made_named, named_if, scan_among, scan_other, IsAmong, IsOther}
 use Rattle.mt_tree.proofs.Reading.{asked}
 
@@ -153,6 +153,20 @@ module _ (t : Tree) (i : Identity) (b : Behind) (p : known.Pass) (e e' : Parts) 
           least = scan.answer.least;
           of = subst (λ (n : ℕ). IsAmong e'.sheet.scan.by n) (passes_is t i b p e w) (scan_among e.sheet.shared e'.sheet (told_at t i b p e w) e.sheet.told scan.answer (told_is t i b p e w));
           freed = ap (λ (x : Parts). x.book) back.parts ∙ (scan.freed ∙ ap (λ (x : Book). after_reclaim x e'.sheet.scan.least) w.book);
+        }
+
+    -- between two moments after all that the pass has then seen
+    pub least_by : (least : ℕ) → least ≡ e'.sheet.scan.least → IsLeastBy t q.seen b (behind_lock tools) least
+    unfolding was_prepared
+    least_by least is =
+        let rest = at_rest tools back.rest in
+        let known = known_still told_scanned in
+        let there : q.seen ≡ records_of (behind_lock tools).pen.history = seen_still told_scanned in
+        record {
+          before = record { table = w.table; shape = shape_is t i b p e w; records = sym known.1 ∙ sym there; height = w.height; kept = w.kept };
+          after = record { table = back.of; shape = same_shape tools ∙ ap (λ (x : Identity). x.shape) back.of; records = sym there; height = rest.0; kept = rest.1 };
+          prepared = was_prepared;
+          told = is;
         }
 
     pub made_ready : (result : Result (Unit {0}) Shortage) → IsOk result ↔ HasRoom e'.sheet.tree e'.book → IsOk result ↔ IsReady (behind_lock tools).parts

@@ -8,6 +8,7 @@ pub mod Ending
 pub mod Forms
 pub mod Lending
 pub mod Lists
+pub mod Looking
 pub mod NoShortage
 pub mod NoneWritten
 pub mod Opening

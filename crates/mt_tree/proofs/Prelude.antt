@@ -1,7 +1,7 @@
 -- What the proofs beside this file take from the toolchain, from the crates below and from this crate's definitions, under one name. Declares nothing.
 pub use Rattle.atomic_table.specs.declared.badge.Badge.{Badge}
 pub use Rattle.atomic_table.specs.declared.shared.Seat.{Seat}
-pub use Rattle.std.proofs.Common.{Bool, IfErr, IfOk, List, None, Option, Some, [], ap, arith, false, fold, get_or, inl, inr, length, length-set, map, refl, replicate, rules, set, subst, suc, sym, take, true, zero, ℕ, ⊎_elim, ◌*◌, ◌++◌, ◌+◌, ◌-◌, ◌/◌, ◌<◌, ◌∙◌, ◌∷◌, ◌≡◌, ◌≢◌, ◌≤◌, ◌⊎◌}
+pub use Rattle.std.proofs.Common.{Bool, IfErr, IfOk, List, None, Option, Some, [], ap, arith, false, fold, get_or, inl, inr, length, length-set, map, min, refl, replicate, rules, set, subst, suc, sym, take, true, zero, ℕ, ⊎_elim, ◌*◌, ◌++◌, ◌+◌, ◌-◌, ◌/◌, ◌<◌, ◌∙◌, ◌∷◌, ◌≡◌, ◌≢◌, ◌≤◌, ◌⊎◌}
 pub use Rattle.std.proofs.Math.Nat.{zero-min}
 pub use Rattle.std.proofs.Math.Seq.{take-append_seam, take-length}
 pub use Rattle.std.proofs.lemmas.Bool.{cases_eq, cases_lt, cond_both, eqb-true}
@@ -51,6 +51,7 @@ pub use Rattle.mt_splice.specs.Kept.{IsBookOf, IsUnheld}
 pub use Rattle.mt_engine.proofs.FreshEngine.{fresh_is_idle}
 pub use Rattle.mt_engine.proofs.Levelled.{levelled}
 pub use Rattle.mt_engine.proofs.Moments.{idle_if_read, tree_if_lawful}
+pub use Rattle.mt_engine.proofs.Scanned.{is_scanned}
 pub use Rattle.mt_engine.specs.Engine.{DidOrLacked, IsApplied, IsCarriedOut, IsEnded, IsEngineState, IsShortFor, IsState, is_refusal}
 pub use Rattle.mt_engine.specs.Rooms.{IsScanned, IsShortOf}
 pub use Rattle.mt_rule.proofs.Beginnings.{places_last}
@@ -70,6 +71,7 @@ pub use Rattle.mt_tree.specs.Allocations.{allocation_of, is_alone, last_made}
 pub use Rattle.mt_tree.specs.Behind.{AreRowsOf, Behind, IsAtRest, IsOnlyRead, IsPenAtRest, IsReady, IsStoreReply, after_show, behind_lock, parts_of}
 pub use Rattle.mt_tree.specs.Calls.{HasCalled}
 pub use Rattle.mt_tree.specs.Copies.{AreWordsOf, IsCopyCounted, IsFormOf, IsImageIn, IsLiveCounted, IsReadyToOpen, IsRefusal, IsRowCount, live_rows}
+pub use Rattle.mt_tree.specs.Looks.{IsLeastBy, IsOldest, IsStatsOf, TellsRows}
 pub use Rattle.mt_tree.specs.Meeting.{AreShown, HaveMet, Shown}
 pub use Rattle.mt_tree.specs.Prelude.{Book, Call, Form, HasHeight, HasRoom, History, Holder, Identity, IsIdle, IsImageOf, IsLawfulOf, IsRealShortage, IsScanOf, IsSeatedAt, IsShort, Kind, Moment, Parts, Pass, PenPart, Query, Range, Record, Reply, Rooted, Shape, Sheet, Shortage, TellsBook, Told, TurnView, Wants, WasShown, Wrote, acted, after_reclaim, form_of, holder_of, identity_of, identity_of_pen, kind_width, last_map, limits_after, map_by, new_pass, pass_in, pen_in, pen_joined, pen_sheet, reached_in, records_of, table_size, tree_as, tree_in, tree_of, tried, turn_seat, unscanned, with_records}
 pub use Rattle.mt_tree.specs.Shapes.{first_bad}
@@ -81,5 +83,6 @@ pub use Rattle.mt_tree.specs.declared.behind.Tools.{Tools}
 pub use Rattle.mt_tree.specs.declared.shapes.Done.{Done}
 pub use Rattle.mt_tree.specs.declared.shapes.DupError.{DupError}
 pub use Rattle.mt_tree.specs.declared.shapes.Field.{Field}
+pub use Rattle.mt_tree.specs.declared.shapes.Stats.{Stats}
 pub use Rattle.mt_tree.specs.declared.shapes.Worn.{Worn}
 pub use Rattle.mt_tree.specs.declared.trees.Tree.{Tree}

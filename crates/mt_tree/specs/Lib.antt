@@ -5,6 +5,7 @@ pub mod Calls
 pub mod Copies
 pub mod Cursors
 pub mod Meeting
+pub mod Looks
 pub mod Shapes
 pub mod Trees
 pub mod Tries

@@ -81,7 +81,7 @@ impl WriterState {
     }
 
     /// How many calls have ended.
-    fn calls(&self) -> u64
+    pub(crate) fn calls(&self) -> u64
         ensures { result ≡ length self.now.pen.history }
     {
         let Some(tools) = &self.tools else {

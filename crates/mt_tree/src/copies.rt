@@ -132,7 +132,7 @@ fn copy_at_work<W: Writer, K: OfWidth>(
 }
 
 /// Why there is no copy of this shape of a tree of this kind, whatever its rows.
-fn refusal(shape: &Shape, kind: Kind) -> Option<DupError>
+pub(crate) fn refusal(shape: &Shape, kind: Kind) -> Option<DupError>
     ensures { IsRefusal shape.now kind result }
 {
     if let Some(field) = shape.first_bad() {
@@ -145,7 +145,7 @@ fn refusal(shape: &Shape, kind: Kind) -> Option<DupError>
 }
 
 /// New rows for a tree of this shape, which is in range, and their book.
-fn room(alloc: Global, shape: &Shape) -> Result<(PlainRows, RowBook), NoMemory>
+pub(crate) fn room(alloc: Global, shape: &Shape) -> Result<(PlainRows, RowBook), NoMemory>
     requires { first_bad shape.now ≡ None }
     ensures rows { IfOk result (λ r. sheet_in r.0 ≡ new_sheet (kind_width shape.now.kind) shape.now.rows) }
     ensures book { IfOk result (λ r. r.1 ≡ new_book shape.now.rows) }
@@ -158,7 +158,7 @@ fn room(alloc: Global, shape: &Shape) -> Result<(PlainRows, RowBook), NoMemory>
 /// Opens a tree of this shape with a copy of a tree that has so many rows in use, which was made where they are no more than it
 /// is to have.
 #[tactic(auto, using(crate::proofs::Forms::copy_made, crate::proofs::Forms::copy_few, crate::proofs::Forms::copy_lacks_memory))]
-fn open_copy(
+pub(crate) fn open_copy(
     alloc: Global,
     shape: Shape,
     live: u64,
@@ -207,7 +207,7 @@ fn copied_of(
 
 impl WriterState {
     /// The form of the tree's words.
-    fn check(&mut self, tree: &Tree, pass: &mut Pass) -> Form
+    pub(crate) fn check(&mut self, tree: &Tree, pass: &mut Pass) -> Form
         requires table { self.old.table ≡ place_of tree.now }
         requires pass { IsPassOf tree.now pass.old }
         ensures state { IsOnlyRead self.old self.new }
@@ -222,7 +222,13 @@ impl WriterState {
     }
 
     /// Copies the tree into new rows, where they are as many as it has in use. Answers how many it has.
-    fn copy(&mut self, tree: &Tree, pass: &mut Pass, dst: &mut PlainRows, own: &mut RowBook) -> u64
+    pub(crate) fn copy(
+        &mut self,
+        tree: &Tree,
+        pass: &mut Pass,
+        dst: &mut PlainRows,
+        own: &mut RowBook,
+    ) -> u64
         requires table { self.old.table ≡ place_of tree.now }
         requires pass { IsPassOf tree.now pass.old }
         requires rows { sheet_in dst.old ≡ new_sheet (kind_width (opened tree.now).kind) own.old.rows }

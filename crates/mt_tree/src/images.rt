@@ -54,7 +54,12 @@ fn image_at_work<W: Writer, K: OfWidth>(
 
 impl WriterState {
     /// The image of the tree's words.
-    fn image(&mut self, tree: &Tree, pass: &mut Pass, alloc: Global) -> Result<Vec<u8>, NoMemory>
+    pub(crate) fn image(
+        &mut self,
+        tree: &Tree,
+        pass: &mut Pass,
+        alloc: Global,
+    ) -> Result<Vec<u8>, NoMemory>
         requires table { self.old.table ≡ place_of tree.now }
         requires pass { IsPassOf tree.now pass.old }
         ensures state { IsOnlyRead self.old self.new }

@@ -50,8 +50,8 @@ impl Tree {
         ensures read { (k : ℕ) × (range : Option Range) × known.Read (opened self.now) (pass_in pass.old) result.lo result.hi k (Load index) range (pass_in pass.new) × (result.value ≡ option_map (λ r. r.entry) range) }
         ensures section { HasRead result.lo result.hi (pass_in pass.old) (pass_in pass.new) }
         ensures counted { IsCounted pass.old pass.new steps.old steps.new }
-        ensures takes { Takes 170 pass.old pass.new }
-        ensures steps { steps.new ≤ steps.old + 170 }
+        ensures takes { Takes 95 pass.old pass.new }
+        ensures steps { steps.new ≤ steps.old + 95 }
     {
         let ReadAnswer { lo, hi, value } = mt_read::load(&self.table, pass, index, steps);
         Read { lo, hi, value }

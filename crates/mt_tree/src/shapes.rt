@@ -114,3 +114,15 @@ pub struct Read<T> {
     pub hi: u64,
     pub value: T,
 }
+
+/// How a tree uses its rows: how many it has, and how many of these are free, in use, and held back; how many levels it has, and how
+/// many calls have ended.
+#[derive(Clone, Copy, Debug, PartialEq, Eq)]
+pub struct Stats {
+    pub rows: u64,
+    pub free: u64,
+    pub live: u64,
+    pub held: u64,
+    pub height: u64,
+    pub calls: u64,
+}

@@ -1,0 +1,17 @@
+use Rattle.mt_tree.proofs.Prelude.{subst, IfOk-weaker, opened, pass_in}
+use Rattle.mt_base.specs.Passes as known
+use Rattle.mt_tree.proofs.Forms.{image_known, map_imaged}
+use Rattle.mt_tree.proofs.Trying.{tries_once}
+use Rattle.mt_tree.proofs.trees.Tree.try_image.Goals as goal
+
+pub returns-clause-saw : goal.returns-clause-saw
+returns-clause-saw c = subst (λ (p : known.Pass). known.Saw (opened c.args.self.now) p (pass_in c.image-image.new.pass)) c.in_ok-taken.ensures.known c.image-image.ensures.saw
+
+pub returns-clause-tries : goal.returns-clause-tries
+returns-clause-tries c = tries_once _ _ _ c.in_ok-taken.ensures.tries c.image-image.ensures.rests
+
+pub returns-clause-map : goal.returns-clause-map
+returns-clause-map c = IfOk-weaker c.image-image.result _ _ (λ bytes image. map_imaged _ _ _ _ bytes.items c.image-image.ensures.words image) c.image-image.ensures.image
+
+pub returns-clause-image : goal.returns-clause-image
+returns-clause-image c = IfOk-weaker c.image-image.result _ _ (λ bytes image. image_known _ _ _ _ bytes.items c.image-image.ensures.words image) c.image-image.ensures.image

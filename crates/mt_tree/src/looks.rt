@@ -1,0 +1,147 @@
+//! How a tree uses its rows, and since when its sections stand open, for a program that cannot wait.
+
+ghost use Rattle.std.specs.Prelude.{◌≡◌, IfErr, IfOk};
+ghost use Rattle.mt_base.specs.Passes.{Saw};
+ghost use Rattle.mt_base.specs.Width.{kind_width};
+ghost use Rattle.mt_base.specs.declared.kinds.Kind.{Kind};
+ghost use Rattle.mt_engine.specs.Engine.{IsEngineState};
+ghost use Rattle.mt_engine.specs.Rooms.{IsScanned};
+ghost use Rattle.mt_rule.specs.Seats.{records_of};
+ghost use Rattle.mt_rule.specs.Tokens.{pass_in};
+ghost use Rattle.mt_rule.specs.Turns.{tried};
+ghost use Rattle.mt_tree.specs.Behind.{behind_lock, IsAtRest, IsPenAtRest};
+ghost use Rattle.mt_tree.specs.Looks.{IsLeastBy, IsOldest, IsStatsOf, TellsRows};
+ghost use Rattle.mt_tree.specs.Trees.{opened, place_of, IsPassOf, Rests, TriesOnce, steps_made};
+ghost use Rattle.mt_tree.specs.Tries.{IsBusyOf};
+ghost use Rattle.mt_tree.specs.Works.{IsWorker};
+
+use crate::behind::{Tools, WriterState};
+use crate::shapes::Stats;
+use crate::trees::Tree;
+use crate::works::{begin, by_width, end};
+use mt_base::Width;
+use mt_engine::Engine;
+use mt_free::RowBook;
+use mt_pen::Writer;
+use mt_rows::Rows;
+use mt_rule::{Busy, LongRows, OfWidth, Pass, ShortRows};
+use std::marker::Brand;
+
+/// Loads the section words, and frees the rows that no section holds. Answers the least epoch at which a section stands open.
+fn clear_old<R: Rows>(rows: &mut R, book: &mut RowBook) -> u64
+    requires { (kind : Kind) × IsEngineState kind (R.sheet rows.old) book.old }
+    ensures scanned { (kind : Kind) → IsEngineState kind (R.sheet rows.old) book.old → IsScanned kind (R.sheet rows.old) (R.sheet rows.new) book.old book.new }
+    ensures least { result ≡ (R.sheet rows.new).scan.least }
+{
+    let scan = rows.scan();
+    book.reclaim(scan.least);
+    scan.least
+}
+
+/// The same of the rows behind the lock.
+fn oldest_at_work<W: Writer, K: OfWidth>(
+    tools: &mut Option<Tools>,
+    tree: &Tree,
+    pass: &mut Pass,
+) -> u64
+    requires worker { IsWorker tree.now tools.old pass.old W.table W.turn }
+    requires counted { W.steps ≡ steps_made pass.old }
+    requires wide { K.wide ≡ kind_width W.table.shape.kind }
+    ensures rest { IsAtRest tools.new }
+    ensures table { (behind_lock tools.new).table ≡ place_of tree.now }
+    ensures of { IsPassOf tree.now pass.new }
+    ensures rests { Rests pass.old pass.new }
+    ensures seen { (pass_in pass.new).seen ≡ records_of (behind_lock tools.new).pen.history }
+    ensures saw { Saw (opened tree.now) (pass_in pass.old) (pass_in pass.new) }
+    ensures least { IsLeastBy tree.now (pass_in pass.new).seen (behind_lock tools.old) (behind_lock tools.new) result }
+{
+    let engine = begin::<W, K>(tools, tree, pass);
+    let height = engine.height();
+    let (mut rows, mut book) = engine.parts();
+    let least = clear_old(&mut rows, &mut book);
+    let engine = Engine::of_height(rows, book, tree.shape.kind, height);
+    end(tools, tree, engine, pass);
+    least
+}
+
+impl WriterState {
+    /// Frees the rows that no section holds. Answers the least epoch at which a section stands open.
+    fn oldest(&mut self, tree: &Tree, pass: &mut Pass) -> u64
+        requires table { self.old.table ≡ place_of tree.now }
+        requires pass { IsPassOf tree.now pass.old }
+        ensures table { self.new.table ≡ place_of tree.now }
+        ensures of { IsPassOf tree.now pass.new }
+        ensures rests { Rests pass.old pass.new }
+        ensures seen { (pass_in pass.new).seen ≡ records_of self.new.pen.history }
+        ensures saw { Saw (opened tree.now) (pass_in pass.old) (pass_in pass.new) }
+        ensures least { IsLeastBy tree.now (pass_in pass.new).seen self.old self.new result }
+    {
+        by_width!(tree, oldest_at_work(&mut self.tools, tree, pass))
+    }
+
+    /// How the tree uses its rows.
+    fn stats(&self, tree: &Tree) -> Stats
+        requires { self.now.table ≡ place_of tree.now }
+        ensures shape { self.now.pen.shape ≡ (place_of tree.now).shape }
+        ensures kept { IsPenAtRest self.now.pen self.now.parts result.height }
+        ensures rows { TellsRows self.now result }
+    {
+        let calls = self.calls();
+        let Some(tools) = &self.tools else {
+            unreachable!()
+        };
+        Stats {
+            rows: tree.shape.rows,
+            free: tools.book.free(),
+            live: tools.book.live(),
+            held: tools.book.held(),
+            height: tools.height,
+            calls,
+        }
+    }
+}
+
+impl Tree {
+    /// How the tree uses its rows after all that the pass has then seen, if the lock is free. It does not wait.
+    ///
+    /// # Errors
+    ///
+    /// `Busy` where the lock was found taken, by the one try that was made; nothing is changed, and the pass has seen no more.
+    pub fn try_stats(&self, pass: &mut Pass) -> Result<Stats, Busy>
+        requires { IsPassOf self.now pass.old }
+        ensures of { IsPassOf self.now pass.new }
+        ensures saw { IfOk result (λ _. Saw (opened self.now) (pass_in pass.old) (pass_in pass.new)) }
+        ensures stats { IfOk result (IsStatsOf self.now (pass_in pass.new)) }
+        ensures busy { IfErr result (IsBusyOf self.now) }
+        ensures kept { IfErr result (λ _. pass.new ≡ tried pass.old) }
+        ensures tries { TriesOnce pass.old pass.new }
+    {
+        let mut taken = self.try_take(pass)?;
+        let stats = taken.value.stats(self);
+        taken.value.show(self, pass);
+        self.turn.give(taken);
+        Ok(stats)
+    }
+
+    /// How many calls had ended at the least when a section was opened that stands open now, if the lock is free: where none stands
+    /// open, so many are all. It does not wait. It frees the rows that no section holds.
+    ///
+    /// # Errors
+    ///
+    /// `Busy` where the lock was found taken, by the one try that was made; nothing is changed, and the pass has seen no more.
+    pub fn try_oldest(&self, pass: &mut Pass) -> Result<u64, Busy>
+        requires { IsPassOf self.now pass.old }
+        ensures of { IsPassOf self.now pass.new }
+        ensures saw { IfOk result (λ _. Saw (opened self.now) (pass_in pass.old) (pass_in pass.new)) }
+        ensures oldest { IfOk result (IsOldest self.now (pass_in pass.new)) }
+        ensures busy { IfErr result (IsBusyOf self.now) }
+        ensures kept { IfErr result (λ _. pass.new ≡ tried pass.old) }
+        ensures tries { TriesOnce pass.old pass.new }
+    {
+        let mut taken = self.try_take(pass)?;
+        let least = taken.value.oldest(self, pass);
+        let calls = taken.value.calls();
+        self.turn.give(taken);
+        Ok(least.min(calls))
+    }
+}
