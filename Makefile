@@ -2,8 +2,8 @@
 #
 #     make install PREFIX=/usr/local
 #
-#   lib/       libmaple.a and libmaple.so, each both archives and c/wait.c in one, with the calls of the headers and no other name, and
-#              maple.pc
+#   lib/       libmaple.a and libmaple.so, each both archives and c/wait.c in one, with the calls of the headers and no other name;
+#              libmaple_debug.a, whose calls look for faults of the program first (c/debug.c); and maple.pc
 #   include/   the headers
 #   bin/       mtreplay, mt_judge and mt_draw, linked with no library: those whose object files the gate or ./build left
 #   share/     the manual page and the words that bash completes; the Rust crate, the examples in C and the licences in share/maple
@@ -23,11 +23,10 @@ programs = mtreplay mt_judge mt_draw
 library:
 	mkdir -p $(made)
 	source bench/archives.sh && make_archive > $(made)/archives
-	gcc -std=c99 -O2 -fPIC -Wall -Wextra -Werror -Iinclude -c -o $(made)/wait.o c/wait.c
-	ld -r --whole-archive -o $(made)/maple.o $(made)/wait.o $$(tail -n 2 $(made)/archives)
-	objcopy --wildcard --keep-global-symbol='maple_*' $(made)/maple.o
-	rm -f $(made)/libmaple.a
+	source bench/archives.sh && whole_object $(made) maple.o $$(tail -n 2 $(made)/archives) && debug_object $(made) maple.o maple_debug.o
+	rm -f $(made)/libmaple{,_debug}.a
 	ar rcs $(made)/libmaple.a $(made)/maple.o
+	ar rcs $(made)/libmaple_debug.a $(made)/maple_debug.o
 	gcc -shared -Wl,-soname,$(soname) -Wl,-z,defs -o $(made)/libmaple.so.$(version) $(made)/maple.o
 
 # An object file that is older than what it is made of is of another commit.
@@ -46,7 +45,7 @@ programs:
 install: library programs
 	install -d $(to)/{include,bin,lib/pkgconfig,share/maple/{examples,rust/src},share/man/man1,share/bash-completion/completions}
 	install -m 644 include/*.h $(to)/include
-	install -m 644 $(made)/libmaple.a $(to)/lib
+	install -m 644 $(made)/libmaple{,_debug}.a $(to)/lib
 	install $(made)/libmaple.so.$(version) $(to)/lib
 	ln -sf libmaple.so.$(version) $(to)/lib/$(soname)
 	ln -sf $(soname) $(to)/lib/libmaple.so

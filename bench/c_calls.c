@@ -8,6 +8,7 @@ static void ask(struct maple_tree *t) {
     struct maple_range got;
     uint32_t status = maple_load(t, index, &got);
     same_found(status, &got, load(index), __LINE__);
+    SAME("an entry", maple_entry(t, index), status ? 0 : got.entry);
     status = maple_find(t, index, other, &got);
     same_found(status, &got, find(index, other), __LINE__);
     status = maple_next(t, index, other, &got);
@@ -110,6 +111,36 @@ static void enough_rows(uint32_t kind) {
 }
 
 /* Opens another tree with the same map, in one of three ways, each refused first where it has to be. */
+/* A tree that keeps its reserve is emptied in any order, and refuses nothing that adds no range. */
+static void emptied(uint32_t kind) {
+    struct maple_tree t = {0};
+    struct maple_range was;
+    uint64_t rows = 20 + draw(40), old;
+    SAME("nothing for ever", maple_may_add(UINT64_MAX - 1, UINT64_MAX), 0);
+    SAME("open", maple_open(&t, kind, rows), 0);
+    for (int round = 0; round < 20; round++) {
+        while (maple_may_add(rows, count)) {
+            uint64_t first = draw(SPAN), last = first + draw(9);
+            SAME("a store in reserve", maple_store(&t, first, last, 8, &old), 0); over(first, last, 8);
+        }
+        for (uint64_t left = draw(2) ? 0 : draw(count); count > left;) {
+            const struct maple_range r = list[draw(count)];
+            uint64_t cut = draw(3) ? r.last : r.first + draw(r.last - r.first + 1);
+            SAME("exactly", maple_store(&t, r.first, r.last, 4 * draw(2000) + 1, &old), 0);
+            SAME("its entry", old, r.entry); over(r.first, r.last, 4);
+            SAME("exactly", maple_store(&t, r.first, r.last, 4, &old), 0);
+            if (draw(2)) {
+                SAME("its begin goes", maple_store(&t, r.first, cut, 0, &old), 0); over(r.first, cut, 0);
+            } else {
+                SAME("an erase", maple_erase(&t, cut, &was), 0); over(r.first, r.last, 0);
+            }
+        }
+    }
+    SAME("clear", maple_clear(&t), 0);
+    count = 0;
+    maple_close(&t);
+}
+
 static void again(struct maple_tree *t, struct maple_tree *other, uint32_t kind) {
     static uint8_t bytes[1 << 22], more[1 << 22];
     struct maple_form form, read;
@@ -214,6 +245,7 @@ static void closed(struct maple_tree *t) {
     SAME("closed", maple_alloc(t, 1, 0, 9, 4, &word), EBADF); SAME("closed", maple_ralloc(t, 1, 0, 9, 4, &word), EBADF);
     SAME("closed", maple_gap(t, 1, 0, 9, &word), EBADF); SAME("closed", maple_rgap(t, 1, 0, 9, &word), EBADF);
     SAME("closed", maple_clear(t), EBADF); SAME("closed", maple_load(t, 1, &r), EBADF);
+    SAME("closed", maple_entry(t, 1), 0);
     SAME("closed", maple_find(t, 1, 9, &r), EBADF); SAME("closed", maple_next(t, 1, 9, &r), EBADF);
     SAME("closed", maple_prev(t, 1, 0, &r), EBADF); SAME("closed", maple_rfind(t, 1, 0, &r), EBADF);
     SAME("closed", maple_preallocate(t), EBADF); SAME("closed", maple_store_prealloc(t, 1, 2, 3, &word), EBADF);
@@ -305,6 +337,7 @@ int main(int argc, char **argv) {
     for (uint32_t kind = 0; kind < 4; kind++) {
         struct maple_tree trees[2] = {{0}, {0}}, *t = trees, *other = trees + 1;
         enough_rows(kind);
+        for (int n = 0; n < 20; n++) emptied(kind);
         SAME("open", maple_open(t, kind, 4096), 0);
         rows_in(t, 4096);
         for (uint64_t step = 0; step < steps; step++) {

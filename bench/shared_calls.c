@@ -178,6 +178,80 @@ static void meet(void) {
     SAME("one free place", places, 1);
 }
 
+/* What is told of the whole tree, as one of one thread that is built anew tells of its own. */
+static void whole(void) {
+    static uint8_t bytes[1 << 22];
+    struct maple_tree t = {0};
+    struct maple_user *u = any();
+    struct maple_form form, other = {7, 7, 7};
+    struct maple_stats stats;
+    struct maple_walk walk = {0};
+    struct maple_read got;
+    uint64_t calls = 7;
+    size_t used = 7, i;
+    SAME("checked", draw(2) ? maple_shared_check(u, &form) : maple_wait_check(u, &form), 0);
+    SAME("so many ranges", form.ranges, count);
+    SAME("stats", draw(2) ? maple_shared_stats(u, &stats) : maple_wait_stats(u, &stats), 0);
+    SAME("all rows", stats.free + stats.live + stats.held, stats.rows); SAME("so many", stats.rows, 4096);
+    SAME("in use", stats.live, form.rows); SAME("levels", stats.height, form.height); SAME("calls", stats.calls, made);
+    SAME("all calls", draw(2) ? maple_oldest(u, &calls) : maple_wait_oldest(u, &calls), 0); SAME("so many", calls, made);
+    SAME("stats", maple_shared_stats(u, &stats), 0); SAME("none held", stats.held, 0);
+    bytes[0] = 77;
+    SAME("no room", maple_shared_image(u, bytes, 3, &used), ERANGE); SAME("as before", bytes[0], 77);
+    SAME("so many bytes", used >= form.rows * 256, 1);
+    SAME("an image", draw(2) ? maple_shared_image(u, bytes, used, &used) : maple_wait_image(u, bytes, used, &used), 0);
+    SAME("opened", maple_open_image(&t, bytes, used, 4096), 0);
+    SAME("its form", maple_check(&t, &other), 0); SAME("its rows", other.rows, form.rows); SAME("its ranges", other.ranges, form.ranges);
+    for (i = 0; i < count; i++) {
+        struct maple_range range;
+        SAME("a step", maple_step(&t, &walk, &range), 0);
+        same_range(&range, list + i, __LINE__);
+    }
+    maple_close(&t);
+    walk = (struct maple_walk){0};
+    if (maple_shared_step(users, &walk, &got) == 0) {
+        uint64_t began = made;
+        struct maple_done done;
+        SAME("a call since", maple_try_store(users + 1, list[0].first, list[0].last, list[0].entry, &done), 0);
+        same_done(&done, list[0].entry, 0, __LINE__);
+        SAME("since that step", maple_oldest(users + 1, &calls), 0); SAME("so many", calls, began);
+        SAME("it gives up its walk", maple_pause(users), 0);
+        SAME("all again", maple_oldest(users + 1, &calls), 0); SAME("so many", calls, made);
+    }
+}
+
+/* A copy of the tree has its map, and goes on by itself. */
+static void copies(void) {
+    struct maple_user *u = any(), copy = {0}, other = {0};
+    struct maple_walk walk = {0};
+    struct maple_form form;
+    struct maple_stats stats;
+    struct maple_read got;
+    struct maple_done done;
+    SAME("its form", maple_shared_check(u, &form), 0);
+    SAME("no such rows", maple_shared_copy(u, &copy, 3, 2, 9), EDOM); SAME("nor so many", maple_shared_copy(u, &copy, MAPLE_MOST_ROWS + 1, 2, 9), EDOM);
+    SAME("no users", maple_shared_copy(u, &copy, 4096, 0, 9), EUSERS); SAME("no calls", maple_shared_copy(u, &copy, 4096, 2, 0), EOVERFLOW);
+    if (form.rows > 4) SAME("too few rows", maple_shared_copy(u, &copy, form.rows - 1, 2, 9), EDOM);
+    SAME("so none", maple_pause(&copy), EBADF);
+    SAME("of none", maple_shared_copy(&copy, &other, 4096, 2, 9), EBADF); SAME("none", maple_pause(&other), EBADF);
+    SAME("copied", draw(2) ? maple_shared_copy(u, &copy, form.rows > 4 ? form.rows + draw(2) : 4, 2, 9) : maple_wait_copy(u, &copy, 5000, 2, 9), 0);
+    SAME("copied twice", maple_shared_copy(u, &copy, 4096, 2, 9), EALREADY);
+    SAME("another user", maple_share(&copy, &other), 0);
+    for (size_t i = 0; i < count; i++) {
+        struct maple_range range;
+        SAME("a step", maple_shared_step(&other, &walk, &got), 0);
+        range = (struct maple_range){got.first, got.last, got.entry};
+        same_range(&range, list + i, __LINE__);
+        SAME("no call yet", got.lo | got.hi, 0);
+    }
+    SAME("no more", maple_shared_step(&other, &walk, &got), ENOENT);
+    SAME("its stats", maple_shared_stats(&other, &stats), 0); SAME("in use", stats.live, form.rows); SAME("no calls", stats.calls, 0);
+    SAME("its first call", maple_try_clear(&copy, &done), 0); SAME("is the first", done.call, 1);
+    SAME("its form", maple_shared_check(u, &form), 0); SAME("the other has its ranges", form.ranges, count);
+    maple_shared_close(&copy);
+    maple_shared_close(&other);
+}
+
 /* One more user comes to the last place, and goes. */
 static void come_and_go(void) {
     struct maple_user *last = users + USERS - 1, more = {0};
@@ -254,6 +328,10 @@ static void closed(struct maple_user *u) {
     struct maple_done d = {7, 7, 7, 7, 7, 7, 7, 7, 7, 7, 7};
     struct maple_user other = {0};
     struct maple_walk walk = {5, 0};
+    struct maple_form form = {7, 7, 7};
+    struct maple_stats stats = {7, 7, 7, 7, 7, 7};
+    uint8_t byte[1] = {7};
+    size_t used = 7;
     uint64_t calls = 7, places = 7;
 #define CLOSED(made_by) SAME("closed", made_by, EBADF)
 #define NO_READ(made_by) CLOSED(made_by); none_read(&r, __LINE__); r.hi = 7
@@ -270,6 +348,11 @@ static void closed(struct maple_user *u) {
     CLOSED(maple_share(u, &other)); CLOSED(maple_leave(&other)); CLOSED(maple_leave(u)); CLOSED(maple_learn(u, 0));
     CLOSED(maple_sync(u, &calls)); SAME("no calls", calls, 0); calls = 7;
     CLOSED(maple_settle(u, &calls, &places)); SAME("no calls", calls, 0); SAME("no places", places, 0);
+    calls = 7;
+    CLOSED(maple_oldest(u, &calls)); SAME("no calls", calls, 0);
+    CLOSED(maple_shared_check(u, &form)); SAME("no form", form.height | form.rows | form.ranges, 0);
+    CLOSED(maple_shared_stats(u, &stats)); SAME("no stats", stats.rows | stats.free | stats.live | stats.held | stats.height | stats.calls, 0);
+    CLOSED(maple_shared_image(u, byte, 1, &used)); SAME("no bytes", used, 0); SAME("as before", byte[0], 7);
     maple_shared_close(u);
 }
 
@@ -348,6 +431,8 @@ int main(int argc, char **argv) {
             if (step % 10 == 9) walk_to(any());
             if (step % 1000 == 999) walks(any());
             if (step % 3000 == 2999) of_tree(kind);
+            if (step % 1000 == 499) whole();
+            if (step % 2000 == 999) copies();
         }
         SAME("clear", EITHER(clear, any(), &done), 0); same_done(&done, 0, 0, __LINE__);
         count = 0;

@@ -1,8 +1,10 @@
 /* Reads of a shared tree in a signal handler, and the stack that each call takes: shared_signals SAMPLES.
  * One thread makes calls without end; another sends it a signal as soon as the last was handled. The handler makes each kind of read in
  * turn, by a user that it has for itself, and holds what it is told against what the thread stores: so many samples, of which more than
- * 100 have to be in the midst of a call, and errno has to stay. Then each call is made on a stack of a known pattern, on trees of two
- * kinds that change meanwhile. It prints the bytes of stack, and says what was wrong first and exits with 1. */
+ * 100 have to be in the midst of a call, and errno has to stay. Each time it also reads and stores by the thread's own user, which is
+ * EDEADLK where that is at work, more than 100 times, and else done, and leaves it as it was. Then each call is made on a stack of a
+ * known pattern, on trees of two kinds that change meanwhile. It prints the bytes of stack, and says what was wrong first and exits
+ * with 1. */
 #define _GNU_SOURCE
 #include "maple_shared.h"
 #include <inttypes.h>
@@ -16,7 +18,7 @@
 enum { PLACES = 100, READS = 7, STACK = 1 << 17, ROUNDS = 4000, PATTERN = 0xa5 };
 
 static struct maple_user writer, handlers;
-static volatile sig_atomic_t handled, wrong, in_midst, given_up;
+static volatile sig_atomic_t handled, wrong, in_midst, given_up, at_work;
 static uint64_t floor_seen, state = 7;
 
 static void fail(const char *what, uint64_t number)
@@ -56,6 +58,29 @@ static uint32_t read_so(int which, uint64_t place, struct maple_walk *walk, stru
     }
 }
 
+/* By the user that the thread was perhaps in a call with: it is told, and has not changed. */
+static void sample_its_own(uint64_t place)
+{
+    struct maple_user before = writer;
+    struct maple_read read = {7, 7, 7, 7, 7};
+    struct maple_done made = {7, 7, 7, 7, 7, 7, 7, 7, 7, 7, 7};
+    struct maple_user more = {0, 0};
+    uint64_t calls = 7;
+    uint32_t status = maple_shared_load(&writer, 10 * place + 5, &read);
+    if (status == EDEADLK) {
+        at_work = at_work + 1;
+        wrong |= (read.lo | read.hi | read.first | read.last | read.entry) != 0;
+        wrong |= maple_try_store(&writer, 1, 2, 1, &made) != EDEADLK || (made.call | made.word | made.need) != 0;
+        wrong |= maple_sync(&writer, &calls) != EDEADLK || calls != 0;
+        wrong |= maple_share(&writer, &more) != EDEADLK || more.open != 0 || maple_leave(&writer) != EDEADLK;
+        wrong |= maple_shared_open(&writer, MAPLE_RANGE, 10, 1, 9) != EDEADLK;
+        maple_shared_close(&writer);
+        wrong |= memcmp(&before, &writer, sizeof before) != 0;
+    } else {
+        wrong |= status != (read.entry ? 0 : ENOENT) || !is_of(&read, place);
+    }
+}
+
 static void sample(int number)
 {
     static uint64_t turn;
@@ -74,6 +99,7 @@ static void sample(int number)
         floor_seen = read.lo;
         in_midst = in_midst + (read.hi > read.lo);
     }
+    sample_its_own(place);
     wrong |= errno != before;
     handled = handled + 1;
 }
@@ -113,6 +139,7 @@ static void samples(int most)
     maple_shared_close(&handlers);
     maple_shared_close(&writer);
     if (in_midst <= 100) fail("too few samples were in the midst of a call", (uint64_t)in_midst);
+    if (at_work <= 100) fail("too few samples found the thread's user at work", (uint64_t)at_work);
 }
 
 /* ---- stacks */
@@ -270,6 +297,7 @@ int main(int argc, char **argv)
 {
     samples(argc > 1 ? atoi(argv[1]) : 30000);
     stacks();
-    printf("bytes of stack\n%d samples, %d in the midst of a call, %d given up\n", (int)handled, (int)in_midst, (int)given_up);
+    printf("bytes of stack\n%d samples, %d in the midst of a call, %d given up, %d found the thread's user at work\n", (int)handled, (int)in_midst,
+           (int)given_up, (int)at_work);
     return 0;
 }

@@ -25,6 +25,9 @@
  *     process with threads.
  *   - malloc, realloc and free are of one allocator, and align a block to each power of two up to 16 that divides its size.
  * A closed tree is no fault: each call returns EBADF for it. A call that is to open an open tree returns EALREADY.
+ * While a program is tested it may be linked with -lmaple_debug. It has the same calls, which look at their handles first, and abort where
+ * a handle was copied and both are used, was closed by a copy, was not zeroed, is in calls of two threads, or is used by a signal handler
+ * that interrupted a call on it.
  */
 #ifndef MAPLE_H
 #define MAPLE_H
@@ -97,6 +100,17 @@ enum {
  * many ranges in it, where no walk or read of another user holds nodes. UINT64_MAX: no tree has so many nodes. The result is half the
  * ranges and some, for trees at their worst; mostly a node has 4 to 10 ranges. */
 uint64_t maple_rows_for(uint64_t ranges);
+
+/* The reserve of a tree that can always be emptied. In a full tree an erase may be refused too (ENOMEM): it may want rows that are not
+ * free. Whoever asks this before each call that may add ranges, with the ranges that are there (maple_check tells them, and insert and
+ * alloc add one, an erase takes one, a store adds two at the most, and of 0 one), and makes it only where the answer is yes, is refused no
+ * call for want of rows: neither those, nor an erase, in whichever order down to the empty map, nor a store over exactly one range, nor a
+ * store of 0 that adds none; in a shared tree while no walk or read of another user holds rows. It costs room: such a tree is full at two
+ * ranges a row. maple_clear, maple_copy and an overwrite of exactly one range are never refused for want of rows, also without it. */
+static inline int maple_may_add(uint64_t rows, uint64_t ranges)
+{
+    return ranges < UINT64_MAX - 1 && maple_rows_for(ranges + 2) <= rows;
+}
 
 /* ---- entries: any number but 0 and the reserved ones, which are below 4096 and 2 above a multiple of 4. These functions make neither. */
 
@@ -204,6 +218,9 @@ uint32_t maple_store_prealloc(struct maple_tree *tree, uint64_t first, uint64_t 
     MAPLE_NONNULL MAPLE_CHECKED;
 
 /* ---- reads (queries). None takes memory or changes a range. 0; ENOENT: there is no such range; EBADF: the tree is closed. */
+
+/* The entry at index, 0: there is none, or the tree is closed. It takes less than the range that holds it. */
+uint64_t maple_entry(struct maple_tree *tree, uint64_t index) MAPLE_NONNULL;
 
 /* The range that holds index. */
 uint32_t maple_load(struct maple_tree *tree, uint64_t index, struct maple_range *range) MAPLE_NONNULL;

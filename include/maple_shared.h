@@ -16,7 +16,7 @@
  * thread, and with the last one the tree's memory is given back.
  *
  * Memory. maple_shared_open takes that of the whole tree, once for all calls. maple_share takes that of a user, and maple_leave may take
- * some. No other call takes any.
+ * some. maple_shared_image takes some while it runs. No other call takes any.
  *
  * Memory order. Calls and reads load and store words as memory_order_seq_cst of C. So what a thread wrote before a call is visible
  *   - after each later call of the tree;
@@ -24,13 +24,15 @@
  *   - to whoever has seen the call: by maple_learn or maple_sync, or by a read whose lo is no less than the number of the call.
  * So an entry may be a pointer to what was written before it was stored. What a reader does with it afterwards holds back no call.
  * Whoever removed an entry by the call c may free what it points to once each reader has made a read whose lo is no less than c, and uses
- * nothing that it read before that one (examples/c/reclaim.c). The thread sanitizer sees nothing of the archive: where it is on,
+ * nothing that it read before that one (examples/c/reclaim.c). Or once maple_oldest returns c or more, where each reader uses what a step
+ * returned only in the walk that it has not given up (examples/c/oldest.c). The thread sanitizer sees nothing of the archive: where it is on,
  * maple_tsan.h reports these orders to it.
  *
  * Signals. A signal handler may make a read by a user that no interrupted call works on: for example one that its thread keeps for its
  * handlers (examples/c/profiler.c). The read ends within 361 steps at the tree, also where the interrupted thread has the tree's lock, and
  * changes no errno. Where it returns EAGAIN a handler gives up, for no bound on repeats is known. Stack, measured: a read takes less than
  * MAPLE_READ_STACK bytes, any other call of this header or of maple.h less than MAPLE_CALL_STACK.
+ * A call on a user on which the interrupted call works returns EDEADLK, and leaves the user as it was.
  *
  * Rules that a program keeps, which nothing checks, in addition to those of maple.h on pointers, forks and malloc:
  *   - A struct maple_user is zeroed before its first call (= {0}). Then only these calls read and write it. It is not changed, and not
@@ -45,7 +47,8 @@
  * Not promised: that a try ever gets the lock, and so how long a maple_wait_store waits; how often a next, prev or rfind gives up before
  * it has an answer; that memory does not run out where a call takes some.
  *
- * Every call returns a number of Linux's errno.h, and 0 where it was done. It returns EBADF where the user is closed, which stays closed.
+ * Every call returns a number of Linux's errno.h, and 0 where it was done. It returns EBADF where the user is closed, which stays closed,
+ * and EDEADLK where it interrupted, in a signal handler, a call on the same user.
  * Further results go to its last pointers, which it always writes: zeros where there is no result.
  */
 #ifndef MAPLE_SHARED_H
@@ -58,7 +61,7 @@
 extern "C" {
 #endif
 
-/* A user of a shared tree. Zeroed it is closed. */
+/* A user of a shared tree. Zeroed it is closed. The second word is 1 where it is open, and 2 while a call works on it. */
 struct maple_user {
     void *at;
     uint64_t open;
@@ -111,6 +114,14 @@ uint32_t maple_shared_open_image(struct maple_user *user, const uint8_t *bytes, 
  * fault at is 0. */
 uint32_t maple_shared_build(struct maple_user *user, uint32_t kind, const struct maple_range *ranges, size_t count, uint64_t rows,
                             uint32_t users, uint64_t calls, uint64_t *at) MAPLE_NONNULL MAPLE_CHECKED;
+
+/* Opens a shared tree with the map that the tree of user has, of its kind, and its first user, copy: under the lock of user's tree, where
+ * that is free. user has then seen the whole history, and its walk is given up. The copy has no calls yet. So a tree goes on in more rows
+ * (examples/c/grow.c).
+ * 0; EAGAIN: another user has the lock; EBADF: user is closed; EALREADY, EDOM, EUSERS, EOVERFLOW and ENOMEM as of maple_shared_open, and
+ * EDOM too where the rows are fewer than the tree has in use. The copy stayed as it was but for 0. */
+uint32_t maple_shared_copy(struct maple_user *user, struct maple_user *copy, uint64_t rows, uint32_t users, uint64_t calls)
+    MAPLE_NONNULL MAPLE_CHECKED;
 
 /* Opens another user of the same tree, at a free place. Any user may do this, and stays as it was.
  * 0; EALREADY: the other is open; EUSERS: no place is free; EAGAIN: another user is at the places, try again; EBADF: the user is closed;
@@ -224,6 +235,25 @@ uint32_t maple_sync(struct maple_user *user, uint64_t *calls) MAPLE_NONNULL MAPL
  * 0; EAGAIN: another user has the lock, or is at the places. */
 uint32_t maple_settle(struct maple_user *user, uint64_t *calls, uint64_t *places) MAPLE_NONNULL MAPLE_CHECKED;
 
+/* How far the readers are: each walk or read of any user that has not given its leaf back began when calls or more had ended, and where
+ * there is none, calls are all that were made, which this user has then seen. So whoever removed an entry by the call c, and finds calls
+ * to be c or more, may free what it points to, where each reader uses it only in the walk whose step told it (maple_shared_step): until
+ * maple_pause, the end of the walk or any other call of its user. A load gives its leaf back before it answers, and so holds nothing.
+ * Rows that no reader holds are free for calls then. 0; EAGAIN: another user has the lock. */
+uint32_t maple_oldest(struct maple_user *user, uint64_t *calls) MAPLE_NONNULL MAPLE_CHECKED;
+
+/* ---- the whole tree, under its lock: no call is made meanwhile, and the user has then seen the whole history. Each gives up the walk of
+ * its user. 0; EAGAIN: another user has the lock; EBADF. */
+
+/* As maple_check: tests each word of the tree, and tells its form. */
+uint32_t maple_shared_check(struct maple_user *user, struct maple_form *form) MAPLE_NONNULL MAPLE_CHECKED;
+
+/* As maple_stats: tells how the tree uses its rows. Held ones are free again where a call looks for rows and no reader holds them. */
+uint32_t maple_shared_stats(struct maple_user *user, struct maple_stats *stats) MAPLE_NONNULL MAPLE_CHECKED;
+
+/* As maple_image: writes the image of the tree to out. ERANGE: out has fewer bytes, and used tells how many it must have; ENOMEM. */
+uint32_t maple_shared_image(struct maple_user *user, uint8_t *out, size_t room, size_t *used) MAPLE_NONNULL MAPLE_CHECKED;
+
 /* ---- calls that wait. Each is the call of its name that tries, but never returns EAGAIN or EINPROGRESS: it tries again.
  *
  * Between two tries it pauses the processor, then yields it, and at last sleeps, up to a millisecond at a time (c/wait.c). So a thread that
@@ -257,12 +287,22 @@ uint32_t maple_wait_rfind(struct maple_user *user, uint64_t index, uint64_t min,
 uint32_t maple_wait_share(struct maple_user *user, struct maple_user *other) MAPLE_NONNULL MAPLE_CHECKED;
 uint32_t maple_wait_leave(struct maple_user *user) MAPLE_NONNULL MAPLE_CHECKED;
 
+/* As maple_shared_copy, waiting for the lock. */
+uint32_t maple_wait_copy(struct maple_user *user, struct maple_user *copy, uint64_t rows, uint32_t users, uint64_t calls)
+    MAPLE_NONNULL MAPLE_CHECKED;
+
 /* As maple_learn, but it waits until that many calls have ended: for ever, where that many are never made. */
 uint32_t maple_wait_learn(struct maple_user *user, uint64_t calls) MAPLE_NONNULL MAPLE_CHECKED;
 
 /* As maple_sync and maple_settle, but they wait for the lock, and for the places. */
 uint32_t maple_wait_sync(struct maple_user *user, uint64_t *calls) MAPLE_NONNULL MAPLE_CHECKED;
 uint32_t maple_wait_settle(struct maple_user *user, uint64_t *calls, uint64_t *places) MAPLE_NONNULL MAPLE_CHECKED;
+
+/* As maple_oldest, maple_shared_check, maple_shared_stats and maple_shared_image, waiting for the lock. */
+uint32_t maple_wait_oldest(struct maple_user *user, uint64_t *calls) MAPLE_NONNULL MAPLE_CHECKED;
+uint32_t maple_wait_check(struct maple_user *user, struct maple_form *form) MAPLE_NONNULL MAPLE_CHECKED;
+uint32_t maple_wait_stats(struct maple_user *user, struct maple_stats *stats) MAPLE_NONNULL MAPLE_CHECKED;
+uint32_t maple_wait_image(struct maple_user *user, uint8_t *out, size_t room, size_t *used) MAPLE_NONNULL MAPLE_CHECKED;
 
 #if defined(__SANITIZE_THREAD__)
 #include "maple_tsan.h"

@@ -3,7 +3,8 @@
  * maple_shared.h includes this where the thread sanitizer is on. The sanitizer sees nothing of the archive, so this reports to it how the
  * calls of a shared tree order what threads write:
  *   - what is before a store of an entry happens before what is after a read that returns the entry;
- *   - what is before a call happens before what is after a later call, or after a maple_learn, maple_sync or maple_settle that is done.
+ *   - what is before a call happens before what is after a later call, or after a maple_learn, maple_sync or maple_settle that is done;
+ *   - what a reader does before it gives its walk up happens before what is after a maple_oldest that is done.
  * It knows neither trees nor the numbers of calls. Entries that are the same modulo 251, and the calls of all trees, are one to it. So it
  * assumes some orders that do not hold, and misses none that holds. */
 #ifndef MAPLE_TSAN_H
@@ -12,13 +13,20 @@
 void __tsan_acquire(void *at);
 void __tsan_release(void *at);
 
-/* The sanitizer's names of orders: the first byte is all calls, each other one is entries. One array for the whole program. */
-__attribute__((weak)) char maple_tsan_orders[252];
+/* The sanitizer's names of orders: the first byte is all calls, the last is all walks that were given up, each other one is entries. One
+ * array for the whole program. */
+enum { MAPLE_TSAN_WALKS = 252 };
+__attribute__((weak)) char maple_tsan_orders[MAPLE_TSAN_WALKS + 1];
 
 static inline void maple_tsan_release(uint64_t entry)
 {
     __tsan_release(maple_tsan_orders);
     __tsan_release(maple_tsan_orders + 1 + entry % 251);
+}
+
+static inline void maple_tsan_given_up(void)
+{
+    __tsan_release(maple_tsan_orders + MAPLE_TSAN_WALKS);
 }
 
 static inline void maple_tsan_acquire(uint64_t entry)
@@ -29,6 +37,7 @@ static inline void maple_tsan_acquire(uint64_t entry)
 #define MAPLE_TSAN_CALL(name, params, args, entry)               \
     static inline uint32_t maple_tsan_##name params              \
     {                                                            \
+        maple_tsan_given_up();                                   \
         maple_tsan_release(entry);                               \
         uint32_t status = maple_##name args;                     \
         if (done->call) __tsan_acquire(maple_tsan_orders);       \
@@ -40,6 +49,7 @@ static inline void maple_tsan_acquire(uint64_t entry)
 #define MAPLE_TSAN_READ(name, params, args)                      \
     static inline uint32_t maple_tsan_##name params              \
     {                                                            \
+        maple_tsan_given_up();                                   \
         uint32_t status = maple_##name args;                     \
         maple_tsan_acquire(read->entry);                         \
         return status;                                           \
@@ -47,9 +57,25 @@ static inline void maple_tsan_acquire(uint64_t entry)
 #define MAPLE_TSAN_SEEN(name, params, args)                      \
     static inline uint32_t maple_tsan_##name params              \
     {                                                            \
+        maple_tsan_given_up();                                   \
         uint32_t status = maple_##name args;                     \
         if (status == 0) __tsan_acquire(maple_tsan_orders);      \
         return status;                                           \
+    }
+#define MAPLE_TSAN_OLDEST(name, params, args)                                   \
+    static inline uint32_t maple_tsan_##name params                             \
+    {                                                                           \
+        maple_tsan_given_up();                                                  \
+        uint32_t status = maple_##name args;                                    \
+        if (status == 0) __tsan_acquire(maple_tsan_orders);                     \
+        if (status == 0) __tsan_acquire(maple_tsan_orders + MAPLE_TSAN_WALKS);  \
+        return status;                                                          \
+    }
+#define MAPLE_TSAN_END(name, params, args)                       \
+    static inline uint32_t maple_tsan_##name params              \
+    {                                                            \
+        maple_tsan_given_up();                                   \
+        return maple_##name args;                                \
     }
 #define MAPLE_AT struct maple_user *user, uint64_t first, uint64_t last, uint64_t entry
 #define MAPLE_IN struct maple_user *user, uint64_t size, uint64_t min, uint64_t max
@@ -79,10 +105,28 @@ MAPLE_TSAN_SEEN(sync, (struct maple_user *user, uint64_t *calls), (user, calls))
 MAPLE_TSAN_SEEN(wait_sync, (struct maple_user *user, uint64_t *calls), (user, calls))
 MAPLE_TSAN_SEEN(settle, (struct maple_user *user, uint64_t *calls, uint64_t *places), (user, calls, places))
 MAPLE_TSAN_SEEN(wait_settle, (struct maple_user *user, uint64_t *calls, uint64_t *places), (user, calls, places))
+MAPLE_TSAN_SEEN(shared_check, (struct maple_user *user, struct maple_form *form), (user, form))
+MAPLE_TSAN_SEEN(wait_check, (struct maple_user *user, struct maple_form *form), (user, form))
+MAPLE_TSAN_SEEN(shared_stats, (struct maple_user *user, struct maple_stats *stats), (user, stats))
+MAPLE_TSAN_SEEN(wait_stats, (struct maple_user *user, struct maple_stats *stats), (user, stats))
+MAPLE_TSAN_SEEN(shared_image, (struct maple_user *user, uint8_t *out, size_t room, size_t *used), (user, out, room, used))
+MAPLE_TSAN_SEEN(wait_image, (struct maple_user *user, uint8_t *out, size_t room, size_t *used), (user, out, room, used))
+MAPLE_TSAN_OLDEST(oldest, (struct maple_user *user, uint64_t *calls), (user, calls))
+MAPLE_TSAN_OLDEST(wait_oldest, (struct maple_user *user, uint64_t *calls), (user, calls))
+MAPLE_TSAN_END(pause, (struct maple_user *user), (user))
+MAPLE_TSAN_END(leave, (struct maple_user *user), (user))
+MAPLE_TSAN_END(wait_leave, (struct maple_user *user), (user))
+static inline void maple_tsan_shared_close(struct maple_user *user)
+{
+    maple_tsan_given_up();
+    maple_shared_close(user);
+}
 #undef MAPLE_TSAN_CALLS
 #undef MAPLE_TSAN_CALL
 #undef MAPLE_TSAN_READ
 #undef MAPLE_TSAN_SEEN
+#undef MAPLE_TSAN_OLDEST
+#undef MAPLE_TSAN_END
 #undef MAPLE_AT
 #undef MAPLE_IN
 #undef MAPLE_TO
@@ -121,5 +165,17 @@ MAPLE_TSAN_SEEN(wait_settle, (struct maple_user *user, uint64_t *calls, uint64_t
 #define maple_wait_learn(...) maple_tsan_wait_learn(__VA_ARGS__)
 #define maple_wait_sync(...) maple_tsan_wait_sync(__VA_ARGS__)
 #define maple_wait_settle(...) maple_tsan_wait_settle(__VA_ARGS__)
+#define maple_oldest(...) maple_tsan_oldest(__VA_ARGS__)
+#define maple_wait_oldest(...) maple_tsan_wait_oldest(__VA_ARGS__)
+#define maple_shared_check(...) maple_tsan_shared_check(__VA_ARGS__)
+#define maple_wait_check(...) maple_tsan_wait_check(__VA_ARGS__)
+#define maple_shared_stats(...) maple_tsan_shared_stats(__VA_ARGS__)
+#define maple_wait_stats(...) maple_tsan_wait_stats(__VA_ARGS__)
+#define maple_shared_image(...) maple_tsan_shared_image(__VA_ARGS__)
+#define maple_wait_image(...) maple_tsan_wait_image(__VA_ARGS__)
+#define maple_shared_close(...) maple_tsan_shared_close(__VA_ARGS__)
+#define maple_pause(...) maple_tsan_pause(__VA_ARGS__)
+#define maple_leave(...) maple_tsan_leave(__VA_ARGS__)
+#define maple_wait_leave(...) maple_tsan_wait_leave(__VA_ARGS__)
 
 #endif

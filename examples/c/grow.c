@@ -3,8 +3,7 @@
  *
  * With one thread: maple_copy into another tree, which takes its place.
  *
- * With threads: one writer, and readers that take no lock. The writer opens a tree with twice the nodes. It copies the map by a walk, since
- * nobody else writes. It opens a user of the new tree for each reader, and then publishes the number of the newest tree. A reader looks
+ * With threads: one writer, and readers that take no lock. The writer copies the tree into one with twice the nodes. It opens a user of the new tree for each reader, and then publishes the number of the newest tree. A reader looks
  * at that number before it reads. Where it has risen the reader leaves the old tree for the new one; the old tree's memory is given back
  * with its last user. What a reader found in the old tree was true until then.
  *     cc grow.c $(pkg-config --cflags --libs maple) -pthread && ./a.out */
@@ -88,12 +87,8 @@ static void *reads(void *at)
 static void grow(void)
 {
     struct maple_user more = {0, 0};
-    struct maple_walk walk = {0, 0};
-    struct maple_read read;
-    struct maple_done done;
     if (newest + 1 == TREES) stop("no more trees", TREES);
-    must("open", maple_shared_open(&more, MAPLE_RANGE, rows *= 2, READERS + 1, MAPLE_MOST_CALLS));
-    while (maple_shared_step(&writer, &walk, &read) == 0) must("copy", maple_wait_store(&more, read.first, read.last, read.entry, &done));
+    must("copy", maple_wait_copy(&writer, &more, rows *= 2, READERS + 1, MAPLE_MOST_CALLS));
     for (struct reader *it = readers; it < readers + READERS; it++) must("share", maple_wait_share(&more, &it->users[newest + 1]));
     maple_shared_close(&writer);
     writer = more;

@@ -1,5 +1,5 @@
 -- A step of a walk that looks no further than an index.
-use Rattle.mt_c.proofs.Prelude.{◌≡◌, ◌∙◌, ℕ, Option, Some, None, refl, sym, ap, subst, Ok, Range, place_behind, Read, Tree, CallWindow, OutWalk, OutRange, User, Walker, IsLeftTo, SharedSteppedTo, SteppedTo, StepsTo, place_to, found_status, no_range, out_of, OwnTree, answer_status, common_of, no_window, user_tree, window_of, StepsFrom, knows, IsStepped, walk_index, walk_from, up_to}
+use Rattle.mt_c.proofs.Prelude.{◌≡◌, ◌∙◌, ℕ, Option, Some, None, refl, sym, ap, subst, Ok, Range, place_behind, Read, Tree, CallWindow, OutWalk, OutRange, User, UserHandle, Walker, IsLeftTo, SharedSteppedTo, SteppedTo, StepsTo, place_to, found_status, no_range, out_of, refusal, OwnTree, answer_status, common_of, no_window, user_tree, window_of, StepsFrom, knows, IsStepped, walk_index, walk_from, up_to}
 use Rattle.mt_c.proofs.Sharing.{on_closed, on_open}
 
 -- ---- the walk of a pass
@@ -36,12 +36,12 @@ module _ (max : ℕ) (walk walk' : OutWalk) (before after : Option OwnTree) (sta
   pub stepped_closed : before ≡ None → after ≡ None → status ≡ 9 → out ≡ no_range → walk' ≡ walk → SteppedTo max walk before after status out walk'
   stepped_closed was is number shown stays = subst (λ (x : Option OwnTree × Option OwnTree). SteppedTo max walk x.0 x.1 status out walk') (λ i. (sym was i, sym is i)) (refl, number, shown, stays)
 
-module _ (max : ℕ) (w w' : OutWalk) (before after : Option User) (status : ℕ) (out : CallWindow) where
-  pub shared_open : (from : Option ℕ) (u v : User) (r : Read (Option Range)) → from ≡ walk_index w → before ≡ Some u → after ≡ Some v → common_of v ≡ common_of u → v.chair ≡ u.chair → v.receipts ≡ u.receipts
+module _ (max : ℕ) (w w' : OutWalk) (before after : UserHandle) (status : ℕ) (out : CallWindow) where
+  pub shared_open : (from : Option ℕ) (u v : User) (r : Read (Option Range)) → from ≡ walk_index w → before.kept.value ≡ Some u → after.kept.value ≡ Some v → common_of v ≡ common_of u → v.chair ≡ u.chair → v.receipts ≡ u.receipts
       → StepsTo (user_tree u) u.walker max (place_to max from) r v.walker → status ≡ answer_status (Ok r) → out ≡ window_of (Ok r) → w' ≡ walk_from (place_behind r.value max) → SharedSteppedTo max w w' before after status out
   shared_open from u v r place was is common chair kept said number shown behind =
       let stepped = subst (λ (i : Option ℕ). StepsTo (user_tree u) u.walker max (place_to max i) r v.walker) place said in
       on_open before after u v status _ _ was is common (r, stepped, record { common = common; chair = chair; receipts = kept }, number, shown, behind)
 
-  pub shared_closed : before ≡ None → after ≡ None → status ≡ 9 → out ≡ no_window → w' ≡ w → SharedSteppedTo max w w' before after status out
+  pub shared_closed : before.kept.value ≡ None → after ≡ before → status ≡ refusal after.state → out ≡ no_window → w' ≡ w → SharedSteppedTo max w w' before after status out
   shared_closed was is number shown same = on_closed before after status _ _ was is number (shown, same)

@@ -3,9 +3,11 @@ mod Bounds
 mod Copying
 mod Counting
 mod Crossing
+mod Duplicating
 mod ImagesOpened
 mod Keeping
 mod KindCodes
+mod Looking
 mod RangesBuilt
 mod Reading
 mod Telling

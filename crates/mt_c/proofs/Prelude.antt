@@ -1,6 +1,6 @@
 -- What the proofs beside this file take from the toolchain, from the crates below and from this crate's definitions, under one name. Declares nothing.
 pub use Rattle.atomic_table.specs.declared.badge.Badge.{Badge}
-pub use Rattle.std.proofs.Common.{All, Bool, IfErr, List, None, Option, Some, [], ap, arith, drop, false, get_or, inl, inr, length, map, nat_lt, refl, rules, subst, suc, sym, take, true, true≢false, zero, ℕ, ◌++◌, ◌/◌, ◌<◌, ◌^◌, ◌∙◌, ◌∷◌, ◌≡◌, ◌≢◌, ◌≤◌}
+pub use Rattle.std.proofs.Common.{All, Bool, List, None, Option, Some, [], ap, arith, drop, false, get_or, inl, inr, length, map, nat_lt, refl, rules, subst, suc, sym, take, true, true≢false, zero, ℕ, ◌++◌, ◌/◌, ◌<◌, ◌^◌, ◌∙◌, ◌∷◌, ◌≡◌, ◌≢◌, ◌≤◌}
 pub use Rattle.std.proofs.Crossing.{crosses}
 pub use Rattle.std.proofs.Math.Nat.{mul_assoc, mul_comm, pow-succ'}
 pub use Rattle.std.proofs.lemmas.Bool.{cases_Bool, eqb-true, le-leb, lt-leb, ltb-true}
@@ -9,7 +9,8 @@ pub use Rattle.std.proofs.lemmas.List.Elements.{All-pop, All-push, All-same}
 pub use Rattle.std.proofs.lemmas.List.FromFn.{length-map-range_with_len}
 pub use Rattle.std.proofs.lemmas.Option.{slice_get-get_or, slice_get-map}
 pub use Rattle.std.specs.Arc.{arc_value}
-pub use Rattle.std.specs.Prelude.{Err, IfOk, IfSome, IsErr, IsOk, IsSome, Ok, Result, if◌then◌else◌, nat_le, option_map, slice_get, ◌*◌, ◌+◌, ◌-◌, ◌↔◌, ◌⊎◌}
+pub use Rattle.std.specs.Option.{option_map, option_or}
+pub use Rattle.std.specs.Prelude.{Err, IfErr, IfOk, IfSome, IsErr, IsOk, IsSome, Ok, Result, if◌then◌else◌, nat_le, slice_get, ◌*◌, ◌+◌, ◌-◌, ◌==◌, ◌↔◌, ◌⊎◌}
 pub use Rattle.std.specs.declared.snapshot.Snapshot.{Snapshot}
 pub use Rattle.std_alloc.proofs.SendSync.{lies, quiet}
 pub use base.Shift.{Keyless}
@@ -38,7 +39,6 @@ pub use Rattle.mt_dup.proofs.NewTables.{new_long}
 pub use Rattle.mt_image.proofs.FewReached.{few_reached}
 pub use Rattle.mt_image.specs.declared.errors.ImageError.{ImageError}
 pub use Rattle.mt_bulk.specs.Builds.{IsBuilt, refused_by, too_many}
-unfoldable pub use Rattle.mt_bulk.specs.Builds.{refusal}
 pub use Rattle.mt_engine.proofs.FreshEngine.{fresh_is_idle}
 pub use Rattle.mt_engine.specs.Engine.{IsIdle}
 pub use Rattle.mt_rule.specs.declared.views.TurnView.{TurnView}
@@ -46,8 +46,8 @@ pub use Rattle.mt_read.specs.Cursors.{IsOnKeptLeaf, place_from}
 pub use Rattle.mt_read.specs.declared.cursor.KeptLeaf.{KeptLeaf}
 pub use Rattle.mt_tree.proofs.Copying.{ready}
 pub use Rattle.mt_tree.proofs.Forms.{high_as, live_as, reads_through}
-pub use Rattle.mt_tree.specs.Copies.{IsLiveCounted, IsReadyToOpen}
-pub use Rattle.mt_tree.specs.Trees.{IsNew, TriesOnce}
+pub use Rattle.mt_tree.specs.Copies.{IsCopyCounted, IsLiveCounted, IsReadyToOpen}
+pub use Rattle.mt_tree.specs.Trees.{TriesOnce}
 pub use Rattle.mt_tree.specs.declared.shapes.MakeError.{MakeError}
 pub use Rattle.mt_verify.proofs.Tellings.{reads_are_points}
 pub use Rattle.mt_verify.specs.Points.{AreLeastPoints, IsVerdict}
@@ -56,25 +56,27 @@ pub use Rattle.mt_verify.specs.declared.verdicts.Verdict.TheVariants.{No, Yes}
 pub use Rattle.mt_c.specs.Batch.{IsBufferShort, IsNoRun, IsTextOfRun, IsVerified, WritesText}
 pub use Rattle.mt_c.specs.Bounded.{IsLeftTo, SharedSteppedTo, SteppedTo, StepsTo, place_to}
 pub use Rattle.mt_c.specs.Building.{Builds, IsOfRanges, LacksAnyhow, LacksOf, LacksRanges, why_of}
-pub use Rattle.mt_c.specs.Calls.{AnswersCall, AnswersQuery, CalledAlone, CalledRange, CalledWord, IsAsked, MadeOrSpent, found_status, no_range, no_told, out_of, told_in_c}
+pub use Rattle.mt_c.specs.Calls.{AnswersCall, AnswersQuery, CalledAlone, CalledRange, CalledWord, EntryTold, IsAsked, MadeOrSpent, entry_or_none, found_status, no_range, no_told, out_of, told_in_c}
 unfoldable pub use Rattle.mt_c.specs.Calls.{answered}
-pub use Rattle.mt_c.specs.Copying.{Checked, Copied, FitsRows, IsCopyInRows, IsOpenedWith, LacksTree, OpensHandle, out_form}
+pub use Rattle.mt_c.specs.Copying.{Checked, Copied, FitsRows, IsCopyInRows, IsOpenedWith, LacksTree, OpensHandle, no_form, out_form}
+pub use Rattle.mt_c.specs.Duplicates.{CopiesTo, HasCopied, IsMadeIn, LacksCopy, Made, SawAtMost, SharedCopied, TriedAtMost}
 pub use Rattle.mt_c.specs.Images.{Imaged, IsOfImage, LacksImage, TellsImage}
 pub use Rattle.mt_c.specs.KeptWalks.{IsKeptWalk, last_index}
+pub use Rattle.mt_c.specs.Looks.{HasFound, IsFormSeen, IsFoundIn, IsImageSeen, MadeImage, PutsBytes, SharedChecked, SharedImaged, SharedOldest, SharedStats, TellsBytes, TellsCalls, TellsForm, TellsStats, when_found}
 pub use Rattle.mt_c.specs.Own.{OwnTree, own_of}
-pub use Rattle.mt_c.specs.Owned.{IsOpenHandle, kept_owns, open_count}
+pub use Rattle.mt_c.specs.Owned.{IsOpenHandle, is_kept, kept_owns, open_count, refusal, unopened}
 pub use Rattle.mt_c.specs.Places.{SharedPlaced}
-pub use Rattle.mt_c.specs.Prelude.{BulkError, Busy, Call, Cursor, DupError, Field, Form, Given, HasHeight, HasRead, HasWalked, HaveMet, Image, IsBusyOf, IsForNeighbour, IsImageOf, IsLawfulOf, IsPassOf, IsReady, IsRun, IsWalkOf, Kind, Load, Log, NoMemory, OnlyReads, Order, Parts, Pass, Query, Range, RangeWalk, Read, Reply, Rooted, Shape, Shortage, Sight, StepsWithin, Takes, TooMany, Transcript, Tree, WalksFrom, WasLeftMarked, WasMade, WasMoved, count_of_calls, cuts_of, first_bad, form_of, found_from, greatest, image_in, index_behind, kind_code, limit_of, live_rows, log_of, map_by, misplaced, most_made, most_rows, new_sheet, opened, part_of, pass_in, passes_of, place_behind, query_at, rows_in, steps_made, tree_as, turn_seat, unbounded, up_to}
+pub use Rattle.mt_c.specs.Prelude.{BulkError, Busy, Call, Cursor, DupError, Field, Form, Given, HasHeight, HasRead, HasWalked, HaveMet, Image, IsBusyOf, IsForNeighbour, IsImageIn, IsImageOf, IsLawfulOf, IsNew, IsOldest, IsPassOf, IsReady, IsRun, IsStatsOf, IsWalkOf, Kind, Load, Log, NoMemory, OnlyReads, Order, Parts, Pass, Query, Range, RangeWalk, Read, Reply, Rooted, Shape, Shortage, Sight, Stats, StepsWithin, Takes, TooMany, Transcript, Tree, WalksFrom, WasLeftMarked, WasMade, WasMoved, count_of_calls, cuts_of, first_bad, form_of, found_from, greatest, image_in, index_behind, kind_code, limit_of, live_rows, log_of, map_by, map_seen, misplaced, most_made, most_rows, new_sheet, opened, part_of, pass_in, passes_of, place_behind, query_at, rows_in, steps_made, tree_as, turn_seat, unbounded, up_to}
 pub use Rattle.mt_c.specs.Preparing.{IsPreCalled, PreCalled, PreMade, pre_status, pre_word}
 pub use Rattle.mt_c.specs.Purses.{IsChairAtPurse, IsPurseBusy, RestsInPurse, WasGiven, WasKept, first_in, known_in}
 pub use Rattle.mt_c.specs.Receipts.{no_receipts, when_given, when_settled, when_synced, when_tried, when_unchanged}
 pub use Rattle.mt_c.specs.RowsFor.{level_from, levels_for, levels_from, rows_for, rows_told}
-pub use Rattle.mt_c.specs.Shared.{HasSettled, HasShared, HasSynced, HasTried, IsBadShape, IsFirstUser, IsMeant, IsOfPurse, IsSettledUser, IsShape, IsSynced, IsUnchanged, IsWhy, OnUser, SettleResult, SharedAsked, SharedLearned, SharedLeft, SharedNew, SharedOpened, SharedPaused, SharedSettled, SharedStepped, SharedSynced, SharedTried, SharedWith, WantsNoPlace, WentToSettle, answer_status, calls_in_c, common_of, field_status, known_to, no_outcome, no_window, outcome_of, paused, rested, settled_status, settled_told, synced_status, tried_status, unchanged_status, user_tree, went_on, window_of}
-pub use Rattle.mt_c.specs.SharedImages.{IsFirstOfImage, IsFirstOfRanges, LacksFirstOfImage, LacksFirstOfRanges, LacksMany, OpensUser, SharedBuilds}
-pub use Rattle.mt_c.specs.SharedMaps.{IsFirstWith, LacksWith, OpensFirst, SharedOfTree, dup_status, shape_for}
+pub use Rattle.mt_c.specs.Shared.{HasSettled, HasShared, HasSynced, HasTried, IfClosed, IsBadShape, IsFirstUser, IsMeant, IsOfPurse, IsSettledUser, IsShape, IsShut, IsSynced, IsUnchanged, IsWhy, LeftBy, OnKept, OnUser, OpensBeside, OpensOther, SettleResult, SharedAsked, SharedClosed, SharedKept, SharedLearned, SharedLeft, SharedNew, SharedOpened, SharedPaused, SharedSettled, SharedStepped, SharedSynced, SharedTried, SharedWith, StaysAs, WantsNoPlace, WentToSettle, answer_status, calls_in_c, field_status, no_outcome, no_window, outcome_of, rested, settled_status, settled_told, synced_status, tried_status, unchanged_status, went_on, window_of}
+pub use Rattle.mt_c.specs.SharedImages.{BuildsIf, BuildsSo, IsFirstOfImage, IsFirstOfRanges, LacksFirstOfImage, LacksFirstOfRanges, LacksMany, OpensSo, OpensUser, SharedBuilds}
+pub use Rattle.mt_c.specs.SharedMaps.{IsFirstWith, LacksWith, OpensFirst, OpensWith, SharedOfTree, dup_status, shape_for}
 pub use Rattle.mt_c.specs.Spares.{IsSparePass}
 pub use Rattle.mt_c.specs.Stats.{HasStats, TellsTree, no_stats}
-pub use Rattle.mt_c.specs.Users.{HasLeft, cuts}
+pub use Rattle.mt_c.specs.Users.{HasLeft, common_of, cuts, known_to, paused, user_tree}
 pub use Rattle.mt_c.specs.Walkers.{Answer, Continues, GaveUp, GoesFrom, IsLeftBy, IsOnAt, IsOnNoWalk, IsReadBy, IsStep, IsTried, IsWalkAnswer, KnowsAs, StepsFrom, Took, Tried, TriedOnce, WalkGoesOn, WentOnce, closed_by, halted, knows, new_walk, pausing, stands_at, walk_is_at}
 pub use Rattle.mt_c.specs.Walking.{HasSteppedOn, IsStepped, last_index_of, walk_from, walk_index, walk_start}
 pub use Rattle.mt_c.specs.declared.building.BuildWhy.{BuildWhy}
@@ -88,6 +90,7 @@ pub use Rattle.mt_c.specs.declared.steps.OutWalk.{OutWalk}
 pub use Rattle.mt_c.specs.declared.told.OutRange.{OutRange}
 pub use Rattle.mt_c.specs.declared.told.ToldCall.{ToldCall}
 pub use Rattle.mt_c.specs.declared.user.User.{User}
+pub use Rattle.mt_c.specs.declared.user_handle.UserHandle.{UserHandle}
 pub use Rattle.mt_c.specs.declared.user_opens.Left.{Left}
 pub use Rattle.mt_c.specs.declared.user_opens.Unchanged.{Unchanged}
 pub use Rattle.mt_c.specs.declared.walker.Walker.{Walker}

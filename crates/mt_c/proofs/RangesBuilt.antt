@@ -1,5 +1,6 @@
 -- A tree that is built of ranges, or why there is none.
-use Rattle.mt_c.proofs.Prelude.{◌≡◌, ◌≢◌, ◌∙◌, ℕ, ◌<◌, List, Option, Some, None, nat_lt, refl, sym, ap, subst, inl, inr, arith, cases_Bool, ltb-true, Kind, Range, most_rows, BulkError, Order, TooMany, NoMemory, IsBuilt, refusal, refused_by, too_many, rows_in, misplaced, kind_code, map_by, Sheet, Parts, BuildWhy, Builds, IsOfRanges, LacksAnyhow, LacksOf, LacksRanges, why_of, FitsRows, IsOpenedWith, LacksTree, OwnTree}
+use Rattle.mt_c.proofs.Prelude.{◌≡◌, ◌≢◌, ◌∙◌, ℕ, ◌<◌, List, Option, Some, None, nat_lt, refl, sym, ap, subst, inl, inr, arith, cases_Bool, ltb-true, Kind, Range, most_rows, BulkError, Order, TooMany, NoMemory, IsBuilt, refused_by, too_many, rows_in, misplaced, kind_code, map_by, Sheet, Parts, BuildWhy, Builds, IsOfRanges, LacksAnyhow, LacksOf, LacksRanges, why_of, FitsRows, IsOpenedWith, LacksTree, OwnTree}
+use Rattle.mt_bulk.specs.Builds.{refusal}
 
 -- ---- what a bulk build answers
 

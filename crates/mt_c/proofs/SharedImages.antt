@@ -1,5 +1,5 @@
 -- A shared tree that opens with the map of an image, or of ranges, or why there is none.
-use Rattle.mt_c.proofs.Prelude.{◌≡◌, ◌≢◌, ℕ, List, Option, Some, None, refl, sym, ap, subst, inl, inr, arith, ◌⊎◌, Result, Ok, Err, IsErr, Kind, Range, IsBuilt, rows_in, misplaced, ImageError, kind_code, Image, image_in, few_reached, IsLawfulOf, map_by, Rooted, Sheet, Shape, BuildWhy, User, LacksAnyhow, IsFirstOfImage, IsFirstOfRanges, LacksFirstOfImage, LacksFirstOfRanges, LacksMany, OpensUser, SharedBuilds, IsFirstWith, LacksWith, shape_for}
+use Rattle.mt_c.proofs.Prelude.{◌≡◌, ◌≢◌, ℕ, List, Option, Some, None, refl, sym, ap, subst, inl, inr, arith, ◌⊎◌, Result, Ok, Err, IsErr, Kind, Range, IsBuilt, rows_in, misplaced, ImageError, kind_code, Image, image_in, few_reached, IsLawfulOf, map_by, Rooted, Sheet, Shape, BuildWhy, User, UserHandle, LacksAnyhow, unopened, IfClosed, BuildsIf, BuildsSo, IsFirstOfImage, IsFirstOfRanges, LacksFirstOfImage, LacksFirstOfRanges, LacksMany, OpensSo, OpensUser, SharedBuilds, IsFirstWith, LacksWith, shape_for}
 use Rattle.mt_image.specs.declared.errors.ImageError.TheVariants as errors
 use Rattle.mt_c.proofs.RangesBuilt.{lacks_anyhow}
 
@@ -45,23 +45,31 @@ module _ (code rows passes calls : ℕ) (m : List Range) where
 
 -- ---- what C keeps
 
-module _ (is : User → Type 0) (lacks : ℕ → Type 0) (before after : Option User) (status : ℕ) where
-  pub opens_busy : (u : User) → before ≡ Some u → after ≡ Some u → status ≡ 114 → OpensUser is lacks before after status
-  opens_busy u was stays number = rw was (stays, number)
+module _ (is : User → Type 0) (lacks : ℕ → Type 0) (before after : UserHandle) (status : ℕ) where
+  pub opens_busy : (number : ℕ) → unopened before.state ≡ Some number → after ≡ before → status ≡ number → OpensUser is lacks before after status
+  opens_busy number taken same told = subst (λ (o : Option ℕ). IfClosed o before after status (OpensSo is lacks after.kept.value status)) (sym taken) (same, told)
 
-  pub opens_made : (u : User) → before ≡ None → after ≡ Some u → status ≡ 0 → is u → OpensUser is lacks before after status
-  opens_made u was made number ok = rw (was, made) (number, ok)
+  opens_so : (o : Option User) → before.state ≡ 0 → after.kept.value ≡ o → OpensSo is lacks o status → OpensUser is lacks before after status
+  opens_so o closed made so =
+      subst (λ (x : Option ℕ × Option User). IfClosed x.0 before after status (OpensSo is lacks x.1 status)) (λ i. (sym (ap unopened closed) i, sym made i)) so
 
-  pub opens_none : before ≡ None → after ≡ None → lacks status → OpensUser is lacks before after status
-  opens_none was stays why = rw (was, stays) why
+  pub opens_made : (u : User) → before.state ≡ 0 → after.kept.value ≡ Some u → status ≡ 0 → is u → OpensUser is lacks before after status
+  opens_made u closed made number ok = opens_so (Some u) closed made (number, ok)
 
-module _ (code rows passes calls : ℕ) (m : List Range) (before after : Option User) (status at : ℕ) where
-  pub builds_busy : (u : User) → before ≡ Some u → after ≡ Some u → status ≡ 114 → at ≡ 0 → SharedBuilds code rows passes calls m before after status at
-  builds_busy u was stays number place = rw was (stays, number, place)
+  pub opens_none : before.state ≡ 0 → after.kept.value ≡ None → lacks status → OpensUser is lacks before after status
+  opens_none closed none why = opens_so None closed none why
 
-  pub builds_made : (u : User) → before ≡ None → after ≡ Some u → status ≡ 0 → at ≡ 0 → IsFirstOfRanges code rows passes calls m u → SharedBuilds code rows passes calls m before after status at
-  builds_made u was made number place ok = rw (was, made) (number, place, ok)
+module _ (code rows passes calls : ℕ) (m : List Range) (before after : UserHandle) (status at : ℕ) where
+  pub builds_busy : (number : ℕ) → unopened before.state ≡ Some number → after ≡ before → status ≡ number → at ≡ 0 → SharedBuilds code rows passes calls m before after status at
+  builds_busy number taken same told place = subst (λ (o : Option ℕ). BuildsIf o before after status at (BuildsSo code rows passes calls m after.kept.value status at)) (sym taken) (same, told, place)
 
-  pub builds_none : (why : BuildWhy) → before ≡ None → after ≡ None → status ≡ why.status → at ≡ why.at → LacksFirstOfRanges code rows passes calls m why.status why.at → SharedBuilds code rows passes calls m before after status at
-  builds_none why was stays number place lacks =
-      subst (λ (x : Option User × (Option User × (ℕ × ℕ))). SharedBuilds code rows passes calls m x.0 x.1.0 x.1.1.0 x.1.1.1) (λ i. (sym was i, (sym stays i, (sym number i, sym place i)))) lacks
+  builds_so : (o : Option User) → before.state ≡ 0 → after.kept.value ≡ o → BuildsSo code rows passes calls m o status at → SharedBuilds code rows passes calls m before after status at
+  builds_so o closed made so =
+      subst (λ (x : Option ℕ × Option User). BuildsIf x.0 before after status at (BuildsSo code rows passes calls m x.1 status at)) (λ i. (sym (ap unopened closed) i, sym made i)) so
+
+  pub builds_made : (u : User) → before.state ≡ 0 → after.kept.value ≡ Some u → status ≡ 0 → at ≡ 0 → IsFirstOfRanges code rows passes calls m u → SharedBuilds code rows passes calls m before after status at
+  builds_made u closed made number place ok = builds_so (Some u) closed made (number, place, ok)
+
+  pub builds_none : (why : BuildWhy) → before.state ≡ 0 → after.kept.value ≡ None → status ≡ why.status → at ≡ why.at → LacksFirstOfRanges code rows passes calls m why.status why.at → SharedBuilds code rows passes calls m before after status at
+  builds_none why closed none number place lacks =
+      builds_so None closed none (subst (λ (x : ℕ × ℕ). LacksFirstOfRanges code rows passes calls m x.0 x.1) (λ i. (sym number i, sym place i)) lacks)

@@ -1,5 +1,5 @@
 -- A shared tree that opens with a map, or why there is none.
-use Rattle.mt_c.proofs.Prelude.{◌≡◌, ◌≢◌, ℕ, Option, Some, None, refl, sym, subst, inl, inr, ◌↔◌, IfOk, Result, Ok, Err, Kind, map_by, Rooted, Parts, DupError, Field, Shape, IsLiveCounted, live_rows, first_bad, User, IsAsked, OwnTree, IsFirstWith, LacksWith, OpensFirst, SharedOfTree, dup_status, shape_for}
+use Rattle.mt_c.proofs.Prelude.{◌≡◌, ◌≢◌, ℕ, Option, Some, None, refl, sym, ap, subst, inl, inr, ◌↔◌, IfOk, Result, Ok, Err, Kind, map_by, Rooted, Parts, DupError, Field, Shape, IsLiveCounted, live_rows, first_bad, User, UserHandle, IsAsked, OwnTree, unopened, IfClosed, IsFirstWith, LacksWith, OpensFirst, OpensWith, SharedOfTree, dup_status, shape_for}
 use Rattle.mt_tree.specs.declared.shapes.DupError.TheVariants as errors
 
 -- ---- a user of a tree that was made of rows, or none
@@ -32,20 +32,28 @@ first_told e t shape rows passes calls made user_of is same first =
 
 -- ---- what C keeps
 
-module _ (rows passes calls : ℕ) (before after : Option OwnTree) (other other' : Option User) (status : ℕ) where
+module _ (rows passes calls : ℕ) (before after : Option OwnTree) (other other' : UserHandle) (status : ℕ) where
   pub of_closed : before ≡ None → after ≡ None → other' ≡ other → status ≡ 9 → SharedOfTree rows passes calls before after other other' status
   of_closed was is same number = subst (λ (x : Option OwnTree). SharedOfTree rows passes calls x after other other' status) (sym was) (is, same, number)
 
   module _ (t t' : OwnTree) (was : before ≡ Some t) (is : after ≡ Some t') (asked : IsAsked t.engine t'.engine) where
-    opens : OpensFirst (shape_for t.engine.kind rows passes calls) t.engine.sheet.tree other other' status → SharedOfTree rows passes calls before after other other' status
+    abbrev shape : Shape
+    shape = shape_for t.engine.kind rows passes calls
+
+    opens : OpensFirst shape t.engine.sheet.tree other other' status → SharedOfTree rows passes calls before after other other' status
     opens so = subst (λ (x : Option OwnTree × Option OwnTree). SharedOfTree rows passes calls x.0 x.1 other other' status) (λ i. (sym was i, sym is i)) (asked, so)
 
-    pub of_made : (u : User) → other ≡ None → other' ≡ Some u → status ≡ 0 → IsFirstWith (shape_for t.engine.kind rows passes calls) (map_by t.engine.sheet.tree) u → SharedOfTree rows passes calls before after other other' status
-    of_made u none made number first = opens (rw (none, made) (number, first))
+    opens_so : (o : Option User) → other.state ≡ 0 → other'.kept.value ≡ o → OpensWith shape t.engine.sheet.tree o status → SharedOfTree rows passes calls before after other other' status
+    opens_so o closed made so =
+        opens (subst (λ (x : Option ℕ × Option User). IfClosed x.0 other other' status (OpensWith shape t.engine.sheet.tree x.1 status)) (λ i. (sym (ap unopened closed) i, sym made i)) so)
 
-    pub of_none : other ≡ None → other' ≡ None → LacksWith (shape_for t.engine.kind rows passes calls) t.engine.sheet.tree status → SharedOfTree rows passes calls before after other other' status
-    of_none none stays lacks = opens (rw (none, stays) lacks)
+    pub of_made : (u : User) → other.state ≡ 0 → other'.kept.value ≡ Some u → status ≡ 0 → IsFirstWith shape (map_by t.engine.sheet.tree) u → SharedOfTree rows passes calls before after other other' status
+    of_made u closed made number first = opens_so (Some u) closed made (number, first)
 
-  -- the user was open, and the tree is as it was
-  pub of_open : (t : OwnTree) (o : User) → before ≡ Some t → after ≡ Some t → other ≡ Some o → other' ≡ Some o → status ≡ 114 → SharedOfTree rows passes calls before after other other' status
-  of_open t o was is there stays number = opens t t was is (record { rest = refl; book = refl; kind = refl }) (rw there (stays, number))
+    pub of_none : other.state ≡ 0 → other'.kept.value ≡ None → LacksWith shape t.engine.sheet.tree status → SharedOfTree rows passes calls before after other other' status
+    of_none closed none lacks = opens_so None closed none lacks
+
+  -- the user was not closed, and the tree is as it was
+  pub of_open : (t : OwnTree) (number : ℕ) → before ≡ Some t → after ≡ Some t → unopened other.state ≡ Some number → other' ≡ other → status ≡ number → SharedOfTree rows passes calls before after other other' status
+  of_open t number was is taken same told =
+      opens t t was is (record { rest = refl; book = refl; kind = refl }) (subst (λ (o : Option ℕ). IfClosed o other other' status (OpensWith (shape t t was is (record { rest = refl; book = refl; kind = refl })) t.engine.sheet.tree other'.kept.value status)) (sym taken) (same, told))

@@ -6,6 +6,7 @@ use Rattle.mt_c.specs.declared.shared_told.CallWindow.{CallWindow}
 use Rattle.mt_c.specs.declared.steps.OutWalk.{OutWalk}
 use Rattle.mt_c.specs.declared.told.OutRange.{OutRange}
 use Rattle.mt_c.specs.declared.user.User.{User}
+use Rattle.mt_c.specs.declared.user_handle.UserHandle.{UserHandle}
 use Rattle.mt_c.specs.declared.walker.Walker.{Walker}
 use Rattle.mt_c.specs.Calls.{found_status, no_range, out_of}
 use Rattle.mt_c.specs.Own.{OwnTree}
@@ -40,6 +41,6 @@ pub record StepsTo (t : Tree) (w : Walker) (max : ℕ) (place : Option ℕ) (r :
   pub left : IsLeftTo (place_behind r.value max) there w'
 
 -- `SteppedTo` of a user of a shared tree. Where the user is closed the walk is as it was.
-abbrev pub SharedSteppedTo : ℕ → OutWalk → OutWalk → Option User → Option User → ℕ → CallWindow → Type 0
+abbrev pub SharedSteppedTo : ℕ → OutWalk → OutWalk → UserHandle → UserHandle → ℕ → CallWindow → Type 0
 SharedSteppedTo max w w' before after status out =
     OnUser before after status ((out ≡ no_window) × (w' ≡ w)) (λ u v. (r : Read (Option Range)) × StepsTo (user_tree u) u.walker max (place_to max (walk_index w)) r v.walker × OnlyWalks u v × (status ≡ answer_status (Ok r)) × (out ≡ window_of (Ok r)) × (w' ≡ walk_from (place_behind r.value max)))

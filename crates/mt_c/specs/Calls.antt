@@ -2,7 +2,7 @@
 -- Source: the kernel's include/uapi/asm-generic/errno-base.h and errno.h: ENOENT, EBADF, ENOMEM, EBUSY, EEXIST, EINVAL
 -- and EOVERFLOW.
 use Rattle.std.specs.Prelude.{◌≡◌, ℕ, ◌-◌, ◌^◌, ◌<◌, ◌≤◌, Option, Some, None}
-use Rattle.mt_c.specs.Prelude.{Call, Query, Range, Reply, Shortage, answer, map_by, OnlyReads, Parts, IsApplied, most_calls}
+use Rattle.mt_c.specs.Prelude.{Call, Query, Load, Range, Reply, Shortage, answer, map_by, OnlyReads, Parts, IsApplied, most_calls}
 use Rattle.mt_base.specs.declared.replies.Reply.TheVariants as answers
 use Rattle.mt_c.specs.Own.{OwnTree}
 use Rattle.mt_c.specs.declared.told.OutRange.{OutRange}
@@ -134,3 +134,14 @@ AnswersQuery query None after status out = (after ≡ None) × (status ≡ 9) ×
 AnswersQuery query (Some t) None status out = ⊥
 AnswersQuery query (Some t) (Some t') status out =
     IsAsked t.engine t'.engine × (status ≡ found_status (answered t.engine query)) × (out ≡ out_of (answered t.engine query))
+
+-- the entry of a range, and 0 where there is none
+abbrev pub entry_or_none : Option Range → ℕ
+entry_or_none None = 0
+entry_or_none (Some r) = r.entry
+
+-- The entry that an index holds is told: 0 where it lies in a hole, and by what is closed.
+abbrev pub EntryTold : ℕ → Option OwnTree → Option OwnTree → ℕ → Type 0
+EntryTold index None after entry = (after ≡ None) × (entry ≡ 0)
+EntryTold index (Some t) None entry = ⊥
+EntryTold index (Some t) (Some t') entry = IsAsked t.engine t'.engine × (entry ≡ entry_or_none (answered t.engine (Load index)))

@@ -21,4 +21,6 @@ pub mod SharedMaps
 pub mod SharedImages
 pub mod RowsFor
 pub mod Stats
+pub mod Looks
+pub mod Duplicates
 pub mod Prelude

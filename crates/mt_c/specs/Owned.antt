@@ -3,7 +3,7 @@ use base.Fml.{Fml, ftrue}
 use denote.RattleType.{RattleType}
 use denote.RawPtr.{Ptr}
 use mir.Syntax.{Ty}
-use Rattle.std.specs.Prelude.{ℕ, Option, Some, None}
+use Rattle.std.specs.Prelude.{ℕ, ◌==◌, Bool, true, false, Option, Some, None, if◌then◌else◌}
 use Rattle.std.specs.contracts.impls.GlobalAllocator.TheImpl.{ghosts}
 use Rattle.std_alloc.specs.Box.Ownership.{box_owns}
 
@@ -20,6 +20,19 @@ kept_owns R p (Some x) = box_owns to_free R p x
 abbrev pub IsOpenHandle : {A : Type 0} → Option A → Type 0
 IsOpenHandle None = ⊥
 IsOpenHandle (Some x) = Unit {0}
+
+-- whether something is kept
+abbrev pub is_kept : {A : Type 0} → Option A → Bool
+is_kept None = false
+is_kept (Some x) = true
+
+-- The number for a handle of this state that has no user: EBADF where it is closed, and EDEADLK where a call works on that.
+abbrev pub refusal : ℕ → ℕ
+refusal state = if state == 0 then 9 else 35
+
+-- The number for one that is to be opened and is not closed: EALREADY where it has a user.
+abbrev pub unopened : ℕ → Option ℕ
+unopened state = if state == 0 then None else (if state == 1 then Some 114 else Some 35)
 
 -- how many are kept
 abbrev pub open_count : {A : Type 0} → Option A → ℕ

@@ -38,11 +38,12 @@ pub use Rattle.mt_read.specs.declared.cursor.Cursor.{Cursor}
 pub use Rattle.mt_read.specs.declared.neighbours.Moved.{Moved}
 pub use Rattle.mt_tree.specs.Asks.{IsForNeighbour, most_made, unbounded}
 pub use Rattle.mt_tree.specs.Behind.{IsReady}
-pub use Rattle.mt_tree.specs.Copies.{live_rows}
+pub use Rattle.mt_tree.specs.Copies.{IsFormOf, IsImageIn, IsRowCount, live_rows}
 pub use Rattle.mt_tree.specs.Cursors.{apart_prop, ends_prop, fills_prop}
+pub use Rattle.mt_tree.specs.Looks.{IsOldest, IsStatsOf}
 pub use Rattle.mt_tree.specs.Meeting.{HaveMet}
 pub use Rattle.mt_tree.specs.Shapes.{first_bad}
-pub use Rattle.mt_tree.specs.Trees.{IsPassOf, Pass, Takes, limit_of, opened, pass_in, passes_of, steps_made}
+pub use Rattle.mt_tree.specs.Trees.{IsNew, IsPassOf, Pass, Takes, limit_of, map_seen, opened, pass_in, passes_of, steps_made}
 pub use Rattle.mt_tree.specs.Tries.{IsBusyOf, WasMade}
 pub use Rattle.mt_tree.specs.Walks.{HasWalked, IsWalkOf}
 pub use Rattle.mt_tree.specs.declared.shapes.Done.{Done}
@@ -50,6 +51,7 @@ pub use Rattle.mt_tree.specs.declared.shapes.DupError.{DupError}
 pub use Rattle.mt_tree.specs.declared.shapes.Field.{Field}
 pub use Rattle.mt_tree.specs.declared.shapes.Read.{Read}
 pub use Rattle.mt_tree.specs.declared.shapes.Shape.{Shape}
+pub use Rattle.mt_tree.specs.declared.shapes.Stats.{Stats}
 pub use Rattle.mt_tree.specs.declared.shapes.Worn.{Worn}
 pub use Rattle.mt_tree.specs.declared.trees.Tree.{Tree}
 pub use Rattle.mt_keep.specs.Keeping.{cuts_of}

@@ -7,6 +7,7 @@ use Rattle.mt_tree.specs.declared.shapes.Field.TheVariants as fields
 use Rattle.mt_c.specs.declared.purse.Purse.{Purse}
 use Rattle.mt_c.specs.declared.steps.OutWalk.{OutWalk}
 use Rattle.mt_c.specs.declared.user.User.{User}
+use Rattle.mt_c.specs.declared.user_handle.UserHandle.{UserHandle}
 use Rattle.mt_c.specs.declared.told.OutRange.{OutRange}
 use Rattle.mt_c.specs.declared.user_acts.Settling.{Settling}
 use Rattle.mt_c.specs.declared.user_opens.Left.{Left}
@@ -16,6 +17,7 @@ use Rattle.mt_c.specs.declared.shared_told.Outcome.{Outcome}
 use Rattle.mt_c.specs.declared.shared_told.CallWindow.{CallWindow}
 use Rattle.mt_c.specs.Calls.{found_status, no_range, out_of, range_in_c, shortage_of, status_of, word_in_c}
 use Rattle.mt_c.specs.KeptWalks.{last_index}
+use Rattle.mt_c.specs.Owned.{refusal, unopened}
 use Rattle.mt_c.specs.Receipts.{when_given, when_settled, when_synced, when_tried, when_unchanged}
 pub use Rattle.mt_c.specs.Users.{HasLeft, IsFirstUser, IsOfPurse, IsSame, IsSettledUser, IsSynced, IsWhy, OnlyWalks, WantsNoPlace, WentToSettle, common_of, cuts, known_to, paused, rested, user_tree}
 use Rattle.mt_c.specs.Walkers.{Answer, GaveUp, IsWalkAnswer, IsOnNoWalk, StepsFrom, Took, Tried, IsTried, TriedOnce, WentOnce}
@@ -23,12 +25,27 @@ use Rattle.mt_c.specs.Walking.{walk_index, walk_from}
 
 -- ---- users
 
--- A call on what C keeps, and the number that C gets. A closed one is EBADF, with a blank beside, and stays closed; an open one
--- stays open, and is of the same tree and at the same purse.
-abbrev pub OnUser : Option User → Option User → ℕ → Type 0 → (User → User → Type 0) → Type 0
-OnUser None after status blank says = (after ≡ None) × (status ≡ 9) × blank
-OnUser (Some u) None status blank says = ⊥
-OnUser (Some u) (Some v) status blank says = (common_of v ≡ common_of u) × says u v
+-- A call on what C keeps. One that has a user has it still, and that is of the same tree and at the same purse.
+abbrev pub OnKept : Option User → Option User → Type 0 → (User → User → Type 0) → Type 0
+OnKept None after none says = none
+OnKept (Some u) None none says = ⊥
+OnKept (Some u) (Some v) none says = (common_of v ≡ common_of u) × says u v
+
+-- One that has no user stays as it was, and the number says why: it is closed (EBADF), or a call works on its user (EDEADLK).
+abbrev pub StaysAs : UserHandle → UserHandle → ℕ → Type 0
+StaysAs before after status = (after ≡ before) × (status ≡ refusal after.state)
+
+-- The same with a blank beside.
+abbrev pub OnUser : UserHandle → UserHandle → ℕ → Type 0 → (User → User → Type 0) → Type 0
+OnUser before after status blank says = OnKept before.kept.value after.kept.value (StaysAs before after status × blank) says
+
+-- An open of what C keeps of a user. One that is not closed stays as it was: it is open (EALREADY), or a call works on its user.
+abbrev pub IfClosed : Option ℕ → UserHandle → UserHandle → ℕ → Type 0 → Type 0
+IfClosed None before after status opens = opens
+IfClosed (Some number) before after status opens = (after ≡ before) × (status ≡ number)
+
+abbrev pub OnClosed : UserHandle → UserHandle → ℕ → Type 0 → Type 0
+OnClosed before after status opens = IfClosed (unopened before.state) before after status opens
 
 -- ---- reads
 
@@ -49,7 +66,7 @@ window_of (Err m) = window m.lo m.begun no_range
 
 -- A query of a user of a shared tree, which is on no walk then. It takes so many steps at the most, does not go for the lock, and is given
 -- up for a leaf that was found marked alone. It makes no step at the purse, and so leaves all other passes.
-abbrev pub SharedAsked : Query → Option User → Option User → ℕ → CallWindow → Type 0
+abbrev pub SharedAsked : Query → UserHandle → UserHandle → ℕ → CallWindow → Type 0
 SharedAsked query before after status out =
     OnUser before after status (out ≡ no_window) (λ u v. (answer : Answer) × IsWalkAnswer (user_tree u) (known_to u) query answer (known_to v) × IsOnNoWalk v.walker × Took (most_made query) u.walker v.walker.pass × IfErr answer (GaveUp query u.walker v.walker) × OnlyWalks u v × (status ≡ answer_status answer) × (out ≡ window_of answer))
 
@@ -58,18 +75,18 @@ abbrev pub went_on : Option Range → OutWalk
 went_on found = walk_from (place_behind found last_index)
 
 -- The user has given up its walk: no section of it stands open. Its pass has made one step for that, and has not gone for the lock.
-abbrev pub SharedPaused : Option User → Option User → ℕ → Type 0
+abbrev pub SharedPaused : UserHandle → UserHandle → ℕ → Type 0
 SharedPaused before after status = OnUser before after status (Unit {0}) (λ u v. (known_to v ≡ rested u) × IsOnNoWalk v.walker × Takes 1 u.walker.pass v.walker.pass × OnlyWalks u v × (status ≡ 0))
 
 -- A step of a walk of C's: it goes on behind what was found, and the user keeps its place where a range was found. Where the user is
 -- closed the walk is as it was.
-abbrev pub SharedStepped : OutWalk → OutWalk → Option User → Option User → ℕ → CallWindow → Type 0
+abbrev pub SharedStepped : OutWalk → OutWalk → UserHandle → UserHandle → ℕ → CallWindow → Type 0
 SharedStepped w w' before after status out =
     OnUser before after status ((out ≡ no_window) × (w' ≡ w)) (λ u v. (r : Read (Option Range)) × StepsFrom (user_tree u) u.walker (walk_index w) r v.walker × OnlyWalks u v × (status ≡ answer_status (Ok r)) × (out ≡ window_of (Ok r)) × (w' ≡ went_on r.value))
 
 -- The user looked how many calls had ended, by a read, and has seen those: 0 where they are so many as it was to learn, else
 -- EINPROGRESS.
-abbrev pub SharedLearned : ℕ → Option User → Option User → ℕ → Type 0
+abbrev pub SharedLearned : ℕ → UserHandle → UserHandle → ℕ → Type 0
 SharedLearned calls before after status =
     OnUser before after status (Unit {0}) (λ u v. (r : Read (Option Range)) × IsWalkAnswer (user_tree u) (known_to u) (Load 0) (Ok r) (known_to v) × IsOnNoWalk v.walker × Took 170 u.walker v.walker.pass × OnlyWalks u v × (status ≡ (if nat_le calls r.lo then 0 else 115)))
 
@@ -113,7 +130,7 @@ outcome_of (Err busy) = no_outcome
 abbrev pub HasTried : Call → ℕ → Outcome → User → User → Type 0
 HasTried call status out u v = (tried : Tried) × IsTried (user_tree u) (paused u) call tried (known_to v) × TriedOnce u.walker v.walker × (v.chair ≡ u.chair) × (v.receipts ≡ when_tried tried u.receipts) × (status ≡ tried_status tried) × (out ≡ outcome_of tried)
 
-abbrev pub SharedTried : Call → Option User → Option User → ℕ → Outcome → Type 0
+abbrev pub SharedTried : Call → UserHandle → UserHandle → ℕ → Outcome → Type 0
 SharedTried call before after status out = OnUser before after status (out ≡ no_outcome) (HasTried call status out)
 
 -- ---- users that come and go
@@ -145,10 +162,8 @@ abbrev pub SharedNew : ℕ → ℕ → ℕ → ℕ → Option User → ℕ → T
 SharedNew code rows passes calls (Some u) status = (status ≡ 0) × (shape : Shape) × IsShape code rows passes calls shape × IsFirstUser shape [] u
 SharedNew code rows passes calls None status = LacksShape code rows passes calls status
 
--- One that is open is EALREADY, and stays as it was.
-abbrev pub SharedOpened : ℕ → ℕ → ℕ → ℕ → Option User → Option User → ℕ → Type 0
-SharedOpened code rows passes calls (Some u) after status = (after ≡ Some u) × (status ≡ 114)
-SharedOpened code rows passes calls None after status = SharedNew code rows passes calls after status
+abbrev pub SharedOpened : ℕ → ℕ → ℕ → ℕ → UserHandle → UserHandle → ℕ → Type 0
+SharedOpened code rows passes calls before after status = OnClosed before after status (SharedNew code rows passes calls after.kept.value status)
 
 -- Why no user was opened, or none has left: another had the purse (EAGAIN), it was empty (EUSERS), or memory ran out (ENOMEM).
 abbrev pub unchanged_status : Unchanged → ℕ
@@ -168,19 +183,41 @@ HasStayed u v status = (why : Unchanged) × IsWhy (common_of u) (cuts u) why × 
 abbrev pub HasShared : User → User → User → Type 0
 HasShared u v w = (given : Given Purse Tree) × IsOfPurse (common_of u) (cuts u) w given × (cuts v ≡ cuts u + 2) × (v.receipts ≡ when_given given u.receipts)
 
--- One user is opened beside another, of the same tree, with a pass of its purse. It stays as it was where it is open, and where none is opened.
-abbrev pub SharedWith : Option User → Option User → Option User → Option User → ℕ → Type 0
-SharedWith None after other other' status = (after ≡ None) × (other' ≡ other) × (status ≡ 9)
-SharedWith (Some u) None other other' status = ⊥
-SharedWith (Some u) (Some v) (Some o) other' status = (v ≡ u) × (other' ≡ Some o) × (status ≡ 114)
-SharedWith (Some u) (Some v) None (Some w) status = (status ≡ 0) × IsSame u v × (common_of w ≡ common_of u) × HasShared u v w
-SharedWith (Some u) (Some v) None None status = IsSame u v × IsUnchanged u v status
+-- One user is opened beside another, of the same tree, with a pass of its purse; or none is.
+abbrev pub OpensBeside : User → User → Option User → ℕ → Type 0
+OpensBeside u v (Some w) status = (status ≡ 0) × IsSame u v × (common_of w ≡ common_of u) × HasShared u v w
+OpensBeside u v None status = IsSame u v × IsUnchanged u v status
+
+-- Where the other is not closed the user is as it was.
+abbrev pub OpensOther : Option ℕ → User → User → UserHandle → UserHandle → ℕ → Type 0
+OpensOther None u v other other' status = OpensBeside u v other'.kept.value status
+OpensOther (Some number) u v other other' status = (v ≡ u) × (other' ≡ other) × (status ≡ number)
+
+abbrev pub SharedKept : Option User → Option User → Type 0 → (User → User → Type 0) → Type 0
+SharedKept None after none says = none
+SharedKept (Some u) None none says = ⊥
+SharedKept (Some u) (Some v) none says = says u v
+
+abbrev pub SharedWith : UserHandle → UserHandle → UserHandle → UserHandle → ℕ → Type 0
+SharedWith before after other other' status =
+    SharedKept before.kept.value after.kept.value (StaysAs before after status × (other' ≡ other)) (λ u v. OpensOther (unopened other.state) u v other other' status)
 
 -- A user has left its pass in the purse, no section of it standing open, and is closed; or it is open as it was, but for its walk, which is paused.
-abbrev pub SharedLeft : Option User → Option User → ℕ → Type 0
-SharedLeft None after status = (after ≡ None) × (status ≡ 9)
-SharedLeft (Some u) None status = (status ≡ 0) × (left : Left) × HasLeft (common_of u) (cuts u + 1) (rested u) left
-SharedLeft (Some u) (Some v) status = (common_of v ≡ common_of u) × (known_to v ≡ paused u) × Took 0 u.walker v.walker.pass × HasStayed u v status
+abbrev pub LeftBy : Option User → Option User → Type 0 → ℕ → ℕ → Type 0
+LeftBy None after none state status = none
+LeftBy (Some u) None none state status = (status ≡ 0) × (state ≡ 0) × (left : Left) × HasLeft (common_of u) (cuts u + 1) (rested u) left
+LeftBy (Some u) (Some v) none state status = (common_of v ≡ common_of u) × (known_to v ≡ paused u) × Took 0 u.walker v.walker.pass × HasStayed u v status
+
+abbrev pub SharedLeft : UserHandle → UserHandle → ℕ → Type 0
+SharedLeft before after status = LeftBy before.kept.value after.kept.value (StaysAs before after status) after.state status
+
+-- A user is closed at once; one on which a call works stays as it was.
+abbrev pub IsShut : Option User → UserHandle → UserHandle → Type 0
+IsShut None before after = after ≡ before
+IsShut (Some u) before after = (after.kept.value ≡ None) × (after.state ≡ 0)
+
+abbrev pub SharedClosed : UserHandle → UserHandle → Type 0
+SharedClosed before after = IsShut before.kept.value before after
 
 abbrev pub synced_status : Result ℕ Busy → ℕ
 synced_status (Ok calls) = 0
@@ -193,7 +230,7 @@ calls_in_c (Err busy) = 0
 abbrev pub HasSynced : ℕ → ℕ → User → User → Type 0
 HasSynced status calls u v = (synced : Result ℕ Busy) × IsSynced (user_tree u) (paused u) synced (known_to v) × WentOnce u.walker v.walker × (v.chair ≡ u.chair) × (v.receipts ≡ when_synced synced u.receipts) × (status ≡ synced_status synced) × (calls ≡ calls_in_c synced)
 
-abbrev pub SharedSynced : Option User → Option User → ℕ → ℕ → Type 0
+abbrev pub SharedSynced : UserHandle → UserHandle → ℕ → ℕ → Type 0
 SharedSynced before after status calls = OnUser before after status (calls ≡ 0) (HasSynced status calls)
 
 abbrev pub SettleResult : Type 0
@@ -211,5 +248,5 @@ abbrev pub HasSettled : ℕ → ℕ → ℕ → User → User → Type 0
 HasSettled status calls passes u v =
     (settled : SettleResult) × IsSettledUser (common_of u) (cuts u) (paused u) settled (known_to v) × WentToSettle settled u.walker v.walker × (cuts v ≡ cuts u + 1) × (v.receipts ≡ when_settled settled u.receipts) × (status ≡ settled_status settled) × (calls ≡ (settled_told settled).0) × (passes ≡ (settled_told settled).1)
 
-abbrev pub SharedSettled : Option User → Option User → ℕ → ℕ → ℕ → Type 0
+abbrev pub SharedSettled : UserHandle → UserHandle → ℕ → ℕ → ℕ → Type 0
 SharedSettled before after status calls passes = OnUser before after status ((calls ≡ 0) × (passes ≡ 0)) (HasSettled status calls passes)

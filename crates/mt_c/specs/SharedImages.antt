@@ -2,8 +2,10 @@
 use Rattle.std.specs.Prelude.{◌≡◌, ◌⊎◌, ℕ, ◌<◌, List, Option, Some, None, Ok, IsErr}
 use Rattle.mt_c.specs.Prelude.{Kind, Range, rows_in, misplaced, kind_code, Image, image_in, map_by, Shape}
 use Rattle.mt_c.specs.declared.user.User.{User}
+use Rattle.mt_c.specs.declared.user_handle.UserHandle.{UserHandle}
 use Rattle.mt_c.specs.Building.{LacksRanges}
-use Rattle.mt_c.specs.Shared.{IsBadShape}
+use Rattle.mt_c.specs.Owned.{unopened}
+use Rattle.mt_c.specs.Shared.{IsBadShape, OnClosed}
 use Rattle.mt_c.specs.SharedMaps.{IsFirstWith, shape_for}
 
 -- Why none of this shape has a map that needs so many rows: the number of a field that is out of range; EDOM where the rows are fewer; or
@@ -11,12 +13,13 @@ use Rattle.mt_c.specs.SharedMaps.{IsFirstWith, shape_for}
 abbrev pub LacksMany : Shape → ℕ → ℕ → Type 0
 LacksMany shape many status = IsBadShape shape status ⊎ (((status ≡ 33) × (shape.rows < many)) ⊎ (status ≡ 12))
 
--- An open of what C keeps of a user: the first of a tree that is so, or the number that says why there is none. One that is open is
--- EALREADY, and stays as it was.
-abbrev pub OpensUser : (User → Type 0) → (ℕ → Type 0) → Option User → Option User → ℕ → Type 0
-OpensUser is lacks (Some u) after status = (after ≡ Some u) × (status ≡ 114)
-OpensUser is lacks None (Some u) status = (status ≡ 0) × is u
-OpensUser is lacks None None status = lacks status
+-- The first user of a tree that is so is opened, or the number says why there is none.
+abbrev pub OpensSo : (User → Type 0) → (ℕ → Type 0) → Option User → ℕ → Type 0
+OpensSo is lacks (Some u) status = (status ≡ 0) × is u
+OpensSo is lacks None status = lacks status
+
+abbrev pub OpensUser : (User → Type 0) → (ℕ → Type 0) → UserHandle → UserHandle → ℕ → Type 0
+OpensUser is lacks before after status = OnClosed before after status (OpensSo is lacks after.kept.value status)
 
 -- ---- images
 
@@ -40,8 +43,15 @@ abbrev pub LacksFirstOfRanges : ℕ → ℕ → ℕ → ℕ → List Range → �
 LacksFirstOfRanges code rows passes calls m status at =
     LacksRanges code rows m status at ⊎ ((kind : Kind) × (kind_code kind ≡ code) × (at ≡ 0) × LacksMany (shape_for kind rows passes calls) (rows_in kind m) status)
 
--- Where a tree opens, or one is open, no place is told.
-abbrev pub SharedBuilds : ℕ → ℕ → ℕ → ℕ → List Range → Option User → Option User → ℕ → ℕ → Type 0
-SharedBuilds code rows passes calls m (Some u) after status at = (after ≡ Some u) × (status ≡ 114) × (at ≡ 0)
-SharedBuilds code rows passes calls m None (Some u) status at = (status ≡ 0) × (at ≡ 0) × IsFirstOfRanges code rows passes calls m u
-SharedBuilds code rows passes calls m None None status at = LacksFirstOfRanges code rows passes calls m status at
+-- Where a tree opens no place is told.
+abbrev pub BuildsSo : ℕ → ℕ → ℕ → ℕ → List Range → Option User → ℕ → ℕ → Type 0
+BuildsSo code rows passes calls m (Some u) status at = (status ≡ 0) × (at ≡ 0) × IsFirstOfRanges code rows passes calls m u
+BuildsSo code rows passes calls m None status at = LacksFirstOfRanges code rows passes calls m status at
+
+-- nor where one is not closed
+abbrev pub BuildsIf : Option ℕ → UserHandle → UserHandle → ℕ → ℕ → Type 0 → Type 0
+BuildsIf None before after status at builds = builds
+BuildsIf (Some number) before after status at builds = (after ≡ before) × (status ≡ number) × (at ≡ 0)
+
+abbrev pub SharedBuilds : ℕ → ℕ → ℕ → ℕ → List Range → UserHandle → UserHandle → ℕ → ℕ → Type 0
+SharedBuilds code rows passes calls m before after status at = BuildsIf (unopened before.state) before after status at (BuildsSo code rows passes calls m after.kept.value status at)

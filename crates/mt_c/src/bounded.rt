@@ -111,11 +111,11 @@ pub extern "C" fn maple_shared_step_to(
     max: u64,
     read: &mut CallWindow,
 ) -> u32
-    ensures { SharedSteppedTo max walk.old walk.new user.old.kept.value user.new.kept.value result read.new }
+    ensures { SharedSteppedTo max walk.old walk.new user.old user.new result read.new }
 {
     let Some(mut whole) = user.take(alloc) else {
         *read = seen(0, 0, no_range());
-        return EBADF;
+        return user.refusal();
     };
     let found = whole.step_to(walk.index(), max);
     user.put(whole);

@@ -1,6 +1,6 @@
 //! Calls and queries of what C keeps.
 
-ghost use Rattle.mt_c.specs.Calls.{AnswersCall, AnswersQuery, no_told, told_in_c};
+ghost use Rattle.mt_c.specs.Calls.{AnswersCall, AnswersQuery, EntryTold, no_told, told_in_c};
 
 use crate::handle::Handle;
 use crate::own_tree::OwnTree;
@@ -38,4 +38,17 @@ pub fn ask(alloc: Global, tree: &mut Handle, query: &Query, range: &mut OutRange
     tree.put(whole);
     *range = out_of(found);
     found_status(found)
+}
+
+/// Tells the entry that an index holds.
+#[tactic(auto, using(crate::proofs::Telling::entry_open, crate::proofs::Telling::entry_closed))]
+pub fn entry(alloc: Global, tree: &mut Handle, index: u64) -> u64
+    ensures { EntryTold index tree.old.kept.value tree.new.kept.value result }
+{
+    let Some(mut whole) = tree.take(alloc) else {
+        return 0;
+    };
+    let found = whole.load(index);
+    tree.put(whole);
+    found.unwrap_or(0)
 }

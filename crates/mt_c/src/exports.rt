@@ -2,9 +2,9 @@
 
 ghost use Rattle.mt_base.specs.declared.calls.Call.TheVariants.{Store, StorePre, Insert, Erase, Alloc, Ralloc, Gap, Rgap, Clear};
 ghost use Rattle.mt_base.specs.declared.calls.Query.TheVariants.{Load, Find, Next, Prev, Rfind};
-ghost use Rattle.mt_c.specs.Calls.{CalledAlone, CalledWord, CalledRange, AnswersQuery};
+ghost use Rattle.mt_c.specs.Calls.{CalledAlone, CalledWord, CalledRange, AnswersQuery, EntryTold};
 
-use crate::calls::{ask, call};
+use crate::calls::{ask, call, entry};
 use crate::handle::Handle;
 use crate::told::OutRange;
 use mt_base::{Call, Query};
@@ -191,6 +191,14 @@ pub extern "C" fn maple_load(
     ensures { AnswersQuery (Load index) tree.old.kept.value tree.new.kept.value result range.new }
 {
     ask(alloc, tree, &Query::Load { index }, range)
+}
+
+/// The entry at `index`, and 0 where there is none or the tree is closed.
+#[unsafe(no_mangle)]
+pub extern "C" fn maple_entry(alloc: Global, tree: &mut Handle, index: u64) -> u64
+    ensures { EntryTold index tree.old.kept.value tree.new.kept.value result }
+{
+    entry(alloc, tree, index)
 }
 
 /// The first range that ends at `index` or above and begins at `max` or below, where `index` is at most `max`.

@@ -29,7 +29,7 @@ pub struct OutForm {
 }
 
 /// What is told where there is no form.
-fn no_form() -> OutForm
+pub fn no_form() -> OutForm
     ensures { result ≡ defined.no_form }
 {
     OutForm {
@@ -40,7 +40,7 @@ fn no_form() -> OutForm
 }
 
 /// A form as C has it.
-fn out_form(form: &Form) -> OutForm
+pub fn out_form(form: &Form) -> OutForm
     ensures { result ≡ defined.out_form form.now }
 {
     OutForm {

@@ -1,6 +1,7 @@
 //! What is done with a tree that one thread at a time uses.
 
-ghost use Rattle.std.specs.Prelude.{◌≡◌, ◌↔◌, ◌≤◌, IfOk, IsTrue};
+ghost use Rattle.std.specs.Prelude.{◌≡◌, ◌↔◌, ◌≤◌, IfOk, IsTrue, option_map};
+ghost use Rattle.mt_base.specs.declared.calls.Query.TheVariants.{Load};
 ghost use Rattle.mt_base.specs.declared.calls.Call.TheVariants.{StorePre};
 ghost use Rattle.mt_base.specs.Width.{most_rows};
 ghost use Rattle.mt_c.specs.Calls.{MadeOrSpent, IsAsked, answered};
@@ -68,6 +69,15 @@ impl OwnTree {
         ensures rest { IsAsked self.old.engine self.new.engine }
     {
         self.engine.ask(query)
+    }
+
+    /// The entry that an index holds.
+    #[tactic(auto, unfolding(crate::specs::Calls::answered))]
+    pub fn load(&mut self, index: u64) -> Option<u64>
+        ensures entry { result ≡ option_map (λ r. r.entry) (answered self.old.engine (Load index)) }
+        ensures rest { IsAsked self.old.engine self.new.engine }
+    {
+        self.engine.load(index)
     }
 
     /// Makes it ready for a store, if the rows that no section holds are enough.

@@ -2,7 +2,6 @@
 
 ghost use Rattle.mt_c.specs.Places.{SharedPlaced};
 
-use crate::told::EBADF;
 use crate::user_handle::UserHandle;
 use std::alloc::Global;
 
@@ -10,11 +9,11 @@ use std::alloc::Global;
 #[tactic(auto, using(crate::proofs::Placing::placed_open, crate::proofs::Placing::placed_closed))]
 #[unsafe(no_mangle)]
 pub extern "C" fn maple_place(alloc: Global, user: &mut UserHandle, place: &mut u64) -> u32
-    ensures { SharedPlaced user.old.kept.value user.new.kept.value result place.new }
+    ensures { SharedPlaced user.old user.new result place.new }
 {
     let Some(whole) = user.take(alloc) else {
         *place = 0;
-        return EBADF;
+        return user.refusal();
     };
     *place = whole.walker.pass.number() as u64 + 1;
     user.put(whole);

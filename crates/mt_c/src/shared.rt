@@ -7,7 +7,7 @@ use crate::shared_told::{
     CallWindow, EINPROGRESS, Outcome, answer_told, no_outcome, place_behind, seen,
 };
 use crate::steps::OutWalk;
-use crate::told::{EBADF, no_range};
+use crate::told::no_range;
 use crate::user_handle::UserHandle;
 use mt_base::{Call, Query};
 use std::alloc::Global;
@@ -15,11 +15,11 @@ use std::alloc::Global;
 /// Asks one query of what C keeps.
 #[tactic(auto, using(crate::proofs::Sharing::asked_open, crate::proofs::Sharing::asked_closed))]
 pub fn ask(alloc: Global, user: &mut UserHandle, query: &Query, out: &mut CallWindow) -> u32
-    ensures { SharedAsked query.now user.old.kept.value user.new.kept.value result out.new }
+    ensures { SharedAsked query.now user.old user.new result out.new }
 {
     let Some(mut whole) = user.take(alloc) else {
         *out = seen(0, 0, no_range());
-        return EBADF;
+        return user.refusal();
     };
     let answer = whole.ask(query);
     user.put(whole);
@@ -31,11 +31,11 @@ pub fn ask(alloc: Global, user: &mut UserHandle, query: &Query, out: &mut CallWi
 /// Tells the range that an index lies in.
 #[tactic(auto, using(crate::proofs::Sharing::asked_open, crate::proofs::Sharing::asked_closed))]
 pub fn load(alloc: Global, user: &mut UserHandle, index: u64, out: &mut CallWindow) -> u32
-    ensures { SharedAsked (Load index) user.old.kept.value user.new.kept.value result out.new }
+    ensures { SharedAsked (Load index) user.old user.new result out.new }
 {
     let Some(mut whole) = user.take(alloc) else {
         *out = seen(0, 0, no_range());
-        return EBADF;
+        return user.refusal();
     };
     let read = whole.load(index);
     user.put(whole);
@@ -47,10 +47,10 @@ pub fn load(alloc: Global, user: &mut UserHandle, index: u64, out: &mut CallWind
 /// Gives up the walk of what C keeps.
 #[tactic(auto, using(crate::proofs::Sharing::paused_open, crate::proofs::Sharing::paused_closed))]
 pub fn pause(alloc: Global, user: &mut UserHandle) -> u32
-    ensures { SharedPaused user.old.kept.value user.new.kept.value result }
+    ensures { SharedPaused user.old user.new result }
 {
     let Some(mut whole) = user.take(alloc) else {
-        return EBADF;
+        return user.refusal();
     };
     whole.rest();
     user.put(whole);
@@ -60,11 +60,11 @@ pub fn pause(alloc: Global, user: &mut UserHandle) -> u32
 /// Makes one step of a walk of C's.
 #[tactic(auto, using(crate::proofs::Sharing::stepped_open, crate::proofs::Sharing::stepped_closed))]
 pub fn step(alloc: Global, user: &mut UserHandle, walk: &mut OutWalk, out: &mut CallWindow) -> u32
-    ensures { SharedStepped walk.old walk.new user.old.kept.value user.new.kept.value result out.new }
+    ensures { SharedStepped walk.old walk.new user.old user.new result out.new }
 {
     let Some(mut whole) = user.take(alloc) else {
         *out = seen(0, 0, no_range());
-        return EBADF;
+        return user.refusal();
     };
     let read = whole.step_from(walk.index());
     user.put(whole);
@@ -77,10 +77,10 @@ pub fn step(alloc: Global, user: &mut UserHandle, walk: &mut OutWalk, out: &mut 
 /// Looks how many calls have ended.
 #[tactic(auto, using(crate::proofs::Sharing::learned_yes, crate::proofs::Sharing::learned_no, crate::proofs::Sharing::learned_closed))]
 pub fn learn(alloc: Global, user: &mut UserHandle, calls: u64) -> u32
-    ensures { SharedLearned calls user.old.kept.value user.new.kept.value result }
+    ensures { SharedLearned calls user.old user.new result }
 {
     let Some(mut whole) = user.take(alloc) else {
-        return EBADF;
+        return user.refusal();
     };
     let read = whole.look();
     user.put(whole);
@@ -90,11 +90,11 @@ pub fn learn(alloc: Global, user: &mut UserHandle, calls: u64) -> u32
 /// Sees the whole history, if the tree's lock is free.
 #[tactic(auto, using(crate::proofs::Sharing::synced_open, crate::proofs::Sharing::synced_closed))]
 pub fn sync(alloc: Global, user: &mut UserHandle, calls: &mut u64) -> u32
-    ensures { SharedSynced user.old.kept.value user.new.kept.value result calls.new }
+    ensures { SharedSynced user.old user.new result calls.new }
 {
     let Some(mut whole) = user.take(alloc) else {
         *calls = 0;
-        return EBADF;
+        return user.refusal();
     };
     let (told, status) = whole.sync_told();
     user.put(whole);
@@ -105,12 +105,12 @@ pub fn sync(alloc: Global, user: &mut UserHandle, calls: &mut u64) -> u32
 /// Sees the whole history, and so do the passes in the purse, if neither that nor the tree's lock is taken.
 #[tactic(auto, using(crate::proofs::Sharing::settled_open, crate::proofs::Sharing::settled_closed))]
 pub fn settle(alloc: Global, user: &mut UserHandle, calls: &mut u64, passes: &mut u64) -> u32
-    ensures { SharedSettled user.old.kept.value user.new.kept.value result calls.new passes.new }
+    ensures { SharedSettled user.old user.new result calls.new passes.new }
 {
     let Some(mut whole) = user.take(alloc) else {
         *calls = 0;
         *passes = 0;
-        return EBADF;
+        return user.refusal();
     };
     let (told, met, status) = whole.settle_told();
     user.put(whole);
@@ -122,11 +122,11 @@ pub fn settle(alloc: Global, user: &mut UserHandle, calls: &mut u64, passes: &mu
 /// Makes one call of what C keeps, if the tree's lock is free.
 #[tactic(auto, using(crate::proofs::Sharing::tried_open, crate::proofs::Sharing::tried_closed))]
 pub fn try_call(alloc: Global, user: &mut UserHandle, call: &Call, out: &mut Outcome) -> u32
-    ensures { SharedTried call.now user.old.kept.value user.new.kept.value result out.new }
+    ensures { SharedTried call.now user.old user.new result out.new }
 {
     let Some(mut whole) = user.take(alloc) else {
         *out = no_outcome();
-        return EBADF;
+        return user.refusal();
     };
     let (outcome, status) = whole.try_told(call);
     user.put(whole);

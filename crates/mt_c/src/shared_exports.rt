@@ -19,7 +19,7 @@ pub extern "C" fn maple_shared_load(
     index: u64,
     read: &mut CallWindow,
 ) -> u32
-    ensures { SharedAsked (Load index) user.old.kept.value user.new.kept.value result read.new }
+    ensures { SharedAsked (Load index) user.old user.new result read.new }
 {
     load(alloc, user, index, read)
 }
@@ -33,7 +33,7 @@ pub extern "C" fn maple_shared_find(
     max: u64,
     read: &mut CallWindow,
 ) -> u32
-    ensures { SharedAsked (Find index max) user.old.kept.value user.new.kept.value result read.new }
+    ensures { SharedAsked (Find index max) user.old user.new result read.new }
 {
     ask(alloc, user, &Query::Find { index, max }, read)
 }
@@ -47,7 +47,7 @@ pub extern "C" fn maple_shared_next(
     max: u64,
     read: &mut CallWindow,
 ) -> u32
-    ensures { SharedAsked (Next index max) user.old.kept.value user.new.kept.value result read.new }
+    ensures { SharedAsked (Next index max) user.old user.new result read.new }
 {
     ask(alloc, user, &Query::Next { index, max }, read)
 }
@@ -61,7 +61,7 @@ pub extern "C" fn maple_shared_prev(
     min: u64,
     read: &mut CallWindow,
 ) -> u32
-    ensures { SharedAsked (Prev index min) user.old.kept.value user.new.kept.value result read.new }
+    ensures { SharedAsked (Prev index min) user.old user.new result read.new }
 {
     ask(alloc, user, &Query::Prev { index, min }, read)
 }
@@ -75,7 +75,7 @@ pub extern "C" fn maple_shared_rfind(
     min: u64,
     read: &mut CallWindow,
 ) -> u32
-    ensures { SharedAsked (Rfind index min) user.old.kept.value user.new.kept.value result read.new }
+    ensures { SharedAsked (Rfind index min) user.old user.new result read.new }
 {
     ask(alloc, user, &Query::Rfind { index, min }, read)
 }
@@ -89,7 +89,7 @@ pub extern "C" fn maple_shared_step(
     walk: &mut OutWalk,
     read: &mut CallWindow,
 ) -> u32
-    ensures { SharedStepped walk.old walk.new user.old.kept.value user.new.kept.value result read.new }
+    ensures { SharedStepped walk.old walk.new user.old user.new result read.new }
 {
     step(alloc, user, walk, read)
 }
@@ -97,7 +97,7 @@ pub extern "C" fn maple_shared_step(
 /// Gives up the walk of the user, and the leaf that it keeps.
 #[unsafe(no_mangle)]
 pub extern "C" fn maple_pause(alloc: Global, user: &mut UserHandle) -> u32
-    ensures { SharedPaused user.old.kept.value user.new.kept.value result }
+    ensures { SharedPaused user.old user.new result }
 {
     pause(alloc, user)
 }
@@ -105,7 +105,7 @@ pub extern "C" fn maple_pause(alloc: Global, user: &mut UserHandle) -> u32
 /// The user has then seen so many calls, where it answers 0.
 #[unsafe(no_mangle)]
 pub extern "C" fn maple_learn(alloc: Global, user: &mut UserHandle, calls: u64) -> u32
-    ensures { SharedLearned calls user.old.kept.value user.new.kept.value result }
+    ensures { SharedLearned calls user.old user.new result }
 {
     learn(alloc, user, calls)
 }
@@ -113,7 +113,7 @@ pub extern "C" fn maple_learn(alloc: Global, user: &mut UserHandle, calls: u64) 
 /// The user has then seen the whole history, of so many calls, where it answers 0.
 #[unsafe(no_mangle)]
 pub extern "C" fn maple_sync(alloc: Global, user: &mut UserHandle, calls: &mut u64) -> u32
-    ensures { SharedSynced user.old.kept.value user.new.kept.value result calls.new }
+    ensures { SharedSynced user.old user.new result calls.new }
 {
     sync(alloc, user, calls)
 }
@@ -126,7 +126,7 @@ pub extern "C" fn maple_settle(
     calls: &mut u64,
     places: &mut u64,
 ) -> u32
-    ensures { SharedSettled user.old.kept.value user.new.kept.value result calls.new places.new }
+    ensures { SharedSettled user.old user.new result calls.new places.new }
 {
     settle(alloc, user, calls, places)
 }
@@ -141,7 +141,7 @@ pub extern "C" fn maple_try_store(
     entry: u64,
     done: &mut Outcome,
 ) -> u32
-    ensures { SharedTried (Store first last entry) user.old.kept.value user.new.kept.value result done.new }
+    ensures { SharedTried (Store first last entry) user.old user.new result done.new }
 {
     try_call(alloc, user, &Call::Store { first, last, entry }, done)
 }
@@ -156,7 +156,7 @@ pub extern "C" fn maple_try_store_pre(
     entry: u64,
     done: &mut Outcome,
 ) -> u32
-    ensures { SharedTried (StorePre first last entry) user.old.kept.value user.new.kept.value result done.new }
+    ensures { SharedTried (StorePre first last entry) user.old user.new result done.new }
 {
     try_call(alloc, user, &Call::StorePre { first, last, entry }, done)
 }
@@ -171,7 +171,7 @@ pub extern "C" fn maple_try_insert(
     entry: u64,
     done: &mut Outcome,
 ) -> u32
-    ensures { SharedTried (Insert first last entry) user.old.kept.value user.new.kept.value result done.new }
+    ensures { SharedTried (Insert first last entry) user.old user.new result done.new }
 {
     try_call(alloc, user, &Call::Insert { first, last, entry }, done)
 }
@@ -184,7 +184,7 @@ pub extern "C" fn maple_try_erase(
     index: u64,
     done: &mut Outcome,
 ) -> u32
-    ensures { SharedTried (Erase index) user.old.kept.value user.new.kept.value result done.new }
+    ensures { SharedTried (Erase index) user.old user.new result done.new }
 {
     try_call(alloc, user, &Call::Erase { index }, done)
 }
@@ -200,7 +200,7 @@ pub extern "C" fn maple_try_alloc(
     entry: u64,
     done: &mut Outcome,
 ) -> u32
-    ensures { SharedTried (Alloc size min max entry) user.old.kept.value user.new.kept.value result done.new }
+    ensures { SharedTried (Alloc size min max entry) user.old user.new result done.new }
 {
     try_call(
         alloc,
@@ -226,7 +226,7 @@ pub extern "C" fn maple_try_ralloc(
     entry: u64,
     done: &mut Outcome,
 ) -> u32
-    ensures { SharedTried (Ralloc size min max entry) user.old.kept.value user.new.kept.value result done.new }
+    ensures { SharedTried (Ralloc size min max entry) user.old user.new result done.new }
 {
     try_call(
         alloc,
@@ -251,7 +251,7 @@ pub extern "C" fn maple_try_gap(
     max: u64,
     done: &mut Outcome,
 ) -> u32
-    ensures { SharedTried (Gap size min max) user.old.kept.value user.new.kept.value result done.new }
+    ensures { SharedTried (Gap size min max) user.old user.new result done.new }
 {
     try_call(alloc, user, &Call::Gap { size, min, max }, done)
 }
@@ -266,7 +266,7 @@ pub extern "C" fn maple_try_rgap(
     max: u64,
     done: &mut Outcome,
 ) -> u32
-    ensures { SharedTried (Rgap size min max) user.old.kept.value user.new.kept.value result done.new }
+    ensures { SharedTried (Rgap size min max) user.old user.new result done.new }
 {
     try_call(alloc, user, &Call::Rgap { size, min, max }, done)
 }
@@ -274,7 +274,7 @@ pub extern "C" fn maple_try_rgap(
 /// Removes every range.
 #[unsafe(no_mangle)]
 pub extern "C" fn maple_try_clear(alloc: Global, user: &mut UserHandle, done: &mut Outcome) -> u32
-    ensures { SharedTried Clear user.old.kept.value user.new.kept.value result done.new }
+    ensures { SharedTried Clear user.old user.new result done.new }
 {
     try_call(alloc, user, &Call::Clear, done)
 }

@@ -8,7 +8,7 @@ use crate::building::{BuildWhy, built};
 use crate::images::status_for;
 use crate::opens::kind_of;
 use crate::shared_maps::boxed_with;
-use crate::told::{EALREADY, EINVAL, OutRange};
+use crate::told::{EINVAL, OutRange};
 use crate::user::User;
 use crate::user_handle::UserHandle;
 use mt_image::read_image;
@@ -87,11 +87,10 @@ pub extern "C" fn maple_shared_open_image(
     users: u32,
     calls: u64,
 ) -> u32
-    ensures { OpensUser (IsFirstOfImage bytes.now rows users calls) (LacksFirstOfImage bytes.now rows users calls) user.old.kept.value user.new.kept.value result }
+    ensures { OpensUser (IsFirstOfImage bytes.now rows users calls) (LacksFirstOfImage bytes.now rows users calls) user.old user.new result }
 {
-    if let Some(whole) = user.take(alloc) {
-        user.put(whole);
-        return EALREADY;
+    if let Some(status) = user.unopened() {
+        return status;
     }
     match of_image(alloc, bytes, rows, users, calls) {
         Ok(whole) => {
@@ -116,12 +115,11 @@ pub extern "C" fn maple_shared_build(
     calls: u64,
     at: &mut u64,
 ) -> u32
-    ensures { SharedBuilds kind rows users calls (map building.range_from_c ranges.now) user.old.kept.value user.new.kept.value result at.new }
+    ensures { SharedBuilds kind rows users calls (map building.range_from_c ranges.now) user.old user.new result at.new }
 {
     *at = 0;
-    if let Some(whole) = user.take(alloc) {
-        user.put(whole);
-        return EALREADY;
+    if let Some(status) = user.unopened() {
+        return status;
     }
     match of_ranges(alloc, kind, rows, users, calls, ranges) {
         Ok(whole) => {

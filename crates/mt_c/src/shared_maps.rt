@@ -11,7 +11,7 @@ ghost use Rattle.mt_c.specs.SharedMaps.{IsFirstWith, LacksWith, SharedOfTree, sh
 use crate::handle::Handle;
 use crate::own_tree::OwnTree;
 use crate::shared_told::field_status;
-use crate::told::{EALREADY, EBADF, EDOM, EINVAL, ENOMEM};
+use crate::told::{EBADF, EDOM, EINVAL, ENOMEM};
 use crate::user::User;
 use crate::user_handle::UserHandle;
 use crate::user_opens::first;
@@ -22,7 +22,7 @@ use mt_tree::{DupError, Shape, Tree};
 use std::alloc::Global;
 
 /// The number that C gets where no tree is made.
-fn status_for(why: DupError) -> u32
+pub fn status_for(why: DupError) -> u32
     ensures { result ≡ defined.dup_status why }
 {
     match why {
@@ -127,15 +127,14 @@ pub extern "C" fn maple_shared_of_tree(
     users: u32,
     calls: u64,
 ) -> u32
-    ensures { SharedOfTree rows users calls tree.old.kept.value tree.new.kept.value user.old.kept.value user.new.kept.value result }
+    ensures { SharedOfTree rows users calls tree.old.kept.value tree.new.kept.value user.old user.new result }
 {
     let Some(mut whole) = tree.take(alloc) else {
         return EBADF;
     };
-    if let Some(there) = user.take(alloc) {
+    if let Some(status) = user.unopened() {
         tree.put(whole);
-        user.put(there);
-        return EALREADY;
+        return status;
     }
     let made = whole.share(alloc, rows, users, calls);
     tree.put(whole);

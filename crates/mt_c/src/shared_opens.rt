@@ -4,11 +4,11 @@ ghost use Rattle.std.specs.Prelude.{◌≡◌, [], Err, None, Some, IfOk};
 ghost use Rattle.mt_tree.specs.Shapes.{first_bad};
 ghost use Rattle.mt_tree.specs.declared.shapes.Field.{Field};
 ghost use Rattle.mt_tree.specs.declared.shapes.MakeError.TheVariants as make_error;
-ghost use Rattle.mt_c.specs.Shared.{IsFirstUser, SharedLeft, SharedNew, SharedOpened, SharedWith};
+ghost use Rattle.mt_c.specs.Shared.{IsFirstUser, SharedClosed, SharedLeft, SharedNew, SharedOpened, SharedWith};
 
 use crate::opens::kind_of;
 use crate::shared_told::field_status;
-use crate::told::{EALREADY, EBADF, EINVAL, ENOMEM};
+use crate::told::{EINVAL, ENOMEM};
 use crate::user::User;
 use crate::user_handle::UserHandle;
 use mt_tree::{MakeError, Shape};
@@ -59,11 +59,10 @@ pub extern "C" fn maple_shared_open(
     users: u32,
     calls: u64,
 ) -> u32
-    ensures { SharedOpened kind rows users calls user.old.kept.value user.new.kept.value result }
+    ensures { SharedOpened kind rows users calls user.old user.new result }
 {
-    if let Some(whole) = user.take(alloc) {
-        user.put(whole);
-        return EALREADY;
+    if let Some(status) = user.unopened() {
+        return status;
     }
     let (made, status) = opened(alloc, kind, rows, users, calls);
     user.set(made);
@@ -74,15 +73,14 @@ pub extern "C" fn maple_shared_open(
 #[tactic(auto, using(crate::proofs::Sharing::with_closed, crate::proofs::Sharing::with_busy, crate::proofs::Sharing::with_made, crate::proofs::Sharing::with_none))]
 #[unsafe(no_mangle)]
 pub extern "C" fn maple_share(alloc: Global, user: &mut UserHandle, other: &mut UserHandle) -> u32
-    ensures { SharedWith user.old.kept.value user.new.kept.value other.old.kept.value other.new.kept.value result }
+    ensures { SharedWith user.old user.new other.old other.new result }
 {
     let Some(mut whole) = user.take(alloc) else {
-        return EBADF;
+        return user.refusal();
     };
-    if let Some(open) = other.take(alloc) {
-        other.put(open);
+    if let Some(status) = other.unopened() {
         user.put(whole);
-        return EALREADY;
+        return status;
     }
     let made = whole.share_told(alloc);
     user.put(whole);
@@ -99,13 +97,16 @@ pub extern "C" fn maple_share(alloc: Global, user: &mut UserHandle, other: &mut 
 #[tactic(auto, using(crate::proofs::Sharing::left_closed, crate::proofs::Sharing::left_done, crate::proofs::Sharing::left_open))]
 #[unsafe(no_mangle)]
 pub extern "C" fn maple_leave(alloc: Global, user: &mut UserHandle) -> u32
-    ensures { SharedLeft user.old.kept.value user.new.kept.value result }
+    ensures { SharedLeft user.old user.new result }
 {
     let Some(whole) = user.take(alloc) else {
-        return EBADF;
+        return user.refusal();
     };
     match User::leave(whole) {
-        Ok(_) => 0,
+        Ok(_) => {
+            user.close();
+            0
+        }
         Err((mut whole, why)) => {
             let status = whole.refused(why);
             user.put(whole);
@@ -115,12 +116,14 @@ pub extern "C" fn maple_leave(alloc: Global, user: &mut UserHandle) -> u32
 }
 
 /// Closes a user, whose place in the tree is then lost. The last one gives the tree's memory back.
+#[tactic(auto, using(crate::proofs::Sharing::shut_none, crate::proofs::Sharing::shut_open))]
 #[unsafe(no_mangle)]
 pub extern "C" fn maple_shared_close(alloc: Global, user: &mut UserHandle)
-    ensures { user.new.kept.value ≡ None }
+    ensures { SharedClosed user.old user.new }
 {
     if let Some(mut whole) = user.take(alloc) {
         // a section that stood open would hold rows for good
         whole.rest();
+        user.close();
     }
 }

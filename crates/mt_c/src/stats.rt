@@ -27,7 +27,7 @@ pub struct OutStats {
 }
 
 /// What is told where there is no tree.
-fn no_stats() -> OutStats
+pub fn no_stats() -> OutStats
     ensures { result ≡ defined.no_stats }
 {
     OutStats {

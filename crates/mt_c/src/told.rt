@@ -38,6 +38,9 @@ pub const EBADMSG: u32 = 74;
 /// The tree has had all its calls, or would have too few or too many.
 pub const EOVERFLOW: u32 = 75;
 
+/// A call works on the user already: this one was made in a signal handler.
+pub const EDEADLK: u32 = 35;
+
 /// What is to be opened is open.
 pub const EALREADY: u32 = 114;
 

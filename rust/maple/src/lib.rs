@@ -105,6 +105,24 @@ pub fn rows_for(ranges: u64) -> Option<u64> {
     Some(unsafe { raw::maple_rows_for(ranges) }).filter(|rows| *rows <= MOST_ROWS)
 }
 
+/// Whether a tree of so many rows keeps its reserve where a call adds to so many ranges two at the most, as a store does. Whoever asks it
+/// before each call that may add ranges can always empty the tree: no erase is refused, in whichever order, nor a store over exactly
+/// one range, nor one of nothing that adds no range; of a shared tree while no reader holds rows.
+///
+/// ```
+/// use maple::{entries::of_value, may_add, Kind, Tree};
+/// let mut tree = Tree::new(Kind::Range, 20).unwrap();
+/// let mut ranges = 0;
+/// while may_add(20, ranges) {
+///     tree.store(10 * ranges..10 * ranges + 5, of_value(ranges)).unwrap();
+///     ranges += 1;
+/// }
+/// assert!((0..ranges).rev().all(|n| tree.erase(10 * n).is_ok()));
+/// ```
+pub fn may_add(rows: u64, ranges: u64) -> bool {
+    ranges.checked_add(2).and_then(rows_for).is_some_and(|least| least <= rows)
+}
+
 /// How a tree uses its nodes.
 #[derive(Clone, Copy, Debug, PartialEq, Eq)]
 pub struct Stats {

@@ -124,6 +124,7 @@ extern "C" {
     pub fn maple_preallocate(tree: Tree) -> u32;
     pub fn maple_store_prealloc(tree: Tree, first: u64, last: u64, entry: u64, old: *mut u64) -> u32;
 
+    pub fn maple_entry(tree: Tree, index: u64) -> u64;
     pub fn maple_load(tree: Tree, index: u64, range: *mut RawRange) -> u32;
     pub fn maple_find(tree: Tree, index: u64, max: u64, range: *mut RawRange) -> u32;
     pub fn maple_next(tree: Tree, index: u64, max: u64, range: *mut RawRange) -> u32;
@@ -148,6 +149,7 @@ extern "C" {
 
     pub fn maple_shared_open(user: User, kind: u32, rows: u64, users: u32, calls: u64) -> u32;
     pub fn maple_shared_of_tree(tree: Tree, user: User, rows: u64, users: u32, calls: u64) -> u32;
+    pub fn maple_shared_copy(user: User, copy: User, rows: u64, users: u32, calls: u64) -> u32;
     pub fn maple_share(user: User, other: User) -> u32;
     pub fn maple_leave(user: User) -> u32;
     pub fn maple_shared_close(user: User);
@@ -169,4 +171,8 @@ extern "C" {
     pub fn maple_learn(user: User, calls: u64) -> u32;
     pub fn maple_sync(user: User, calls: *mut u64) -> u32;
     pub fn maple_settle(user: User, calls: *mut u64, places: *mut u64) -> u32;
+    pub fn maple_oldest(user: User, calls: *mut u64) -> u32;
+    pub fn maple_shared_check(user: User, form: *mut RawForm) -> u32;
+    pub fn maple_shared_stats(user: User, stats: *mut RawStats) -> u32;
+    pub fn maple_shared_image(user: User, out: *mut u8, room: usize, used: *mut usize) -> u32;
 }

@@ -1,10 +1,10 @@
 //! Trees that threads share.
 
-use crate::errors::{done, opened, ENOENT};
-use crate::raw::{self, RawDone, RawRead, RawUser};
+use crate::errors::{done, opened, ENOENT, ERANGE};
+use crate::raw::{self, RawDone, RawForm, RawRead, RawStats, RawUser};
 use crate::waits::until_done;
 use crate::windows::{ends, Walk};
-use crate::{Error, Kind, OpenError, Range, Shortage};
+use crate::{CheckError, Error, Form, Kind, OpenError, Range, Shortage, Stats};
 use std::fmt;
 use std::iter::FusedIterator;
 use std::num::NonZeroU64;
@@ -69,7 +69,9 @@ impl Shared {
     /// ```
     pub fn new(kind: Kind, rows: u64, users: u32) -> Result<Shared, OpenError> {
         // SAFETY: the user is closed.
-        Shared::opened_by(users, |user, users, calls| unsafe { raw::maple_shared_open(user, kind as u32, rows, users, calls) })
+        Shared::opened_by(users, |user, users, calls| unsafe {
+            raw::maple_shared_open(user, kind as u32, rows, users, calls)
+        })
     }
 
     /// Makes a tree by what opens a closed user for a number of users and calls; one place is the tree's own.
@@ -121,6 +123,115 @@ impl Shared {
         // SAFETY: the user is open, the pointers are of three objects, and nobody else uses them now.
         until_done(|| unsafe { raw::maple_settle(&mut *first, &mut calls, &mut places) });
         (calls, places)
+    }
+
+    /// How the tree uses its rows, looked at under the lock as soon as that is free.
+    ///
+    /// ```
+    /// use maple::{entries::of_value, Kind, Lock, Shared};
+    /// let shared = Shared::new(Kind::Range, 100, 1)?;
+    /// shared.writer(Lock::Waits)?.store(3..=5, of_value(1)).unwrap();
+    /// let stats = shared.stats();
+    /// assert_eq!((stats.rows, stats.free, stats.live, stats.calls), (100, 99, 1, 1));
+    /// # Ok::<(), maple::OpenError>(())
+    /// ```
+    pub fn stats(&self) -> Stats {
+        let (mut first, mut told) = (self.first(), RawStats::default());
+        // SAFETY: the user is open, and the pointers are of two objects that nobody else uses now.
+        until_done(|| unsafe { raw::maple_shared_stats(&mut *first, &mut told) });
+        let RawStats { rows, free, live, held, height, calls } = told;
+        Stats { rows, free, live, held, height, calls }
+    }
+
+    /// Tests each word of the tree, under the lock as soon as that is free, and tells its form.
+    ///
+    /// ```
+    /// use maple::{entries::of_value, Kind, Lock, Shared};
+    /// let shared = Shared::new(Kind::Range, 100, 1)?;
+    /// shared.writer(Lock::Waits)?.store(3..=5, of_value(1)).unwrap();
+    /// let form = shared.check().unwrap();
+    /// assert_eq!((form.height, form.rows, form.ranges), (1, 1, 1));
+    /// # Ok::<(), maple::OpenError>(())
+    /// ```
+    pub fn check(&self) -> Result<Form, CheckError> {
+        let (mut first, mut form) = (self.first(), RawForm::default());
+        // SAFETY: the user is open, and the pointers are of two objects that nobody else uses now.
+        match until_done(|| unsafe { raw::maple_shared_check(&mut *first, &mut form) }) {
+            0 => Ok(Form { height: form.height, rows: form.rows, ranges: form.ranges }),
+            _ => Err(CheckError::Broken),
+        }
+    }
+
+    /// The image of the tree, written under the lock as soon as that is free: [`Tree::of_image`](crate::Tree::of_image) opens
+    /// one with its map.
+    ///
+    /// ```
+    /// use maple::{entries::of_value, Kind, Lock, Shared, Tree};
+    /// let shared = Shared::new(Kind::Range, 100, 1)?;
+    /// shared.writer(Lock::Waits)?.store(3..=5, of_value(1)).unwrap();
+    /// assert_eq!(Tree::of_image(&shared.image()?, 100)?.get(4), of_value(1));
+    /// # Ok::<(), maple::OpenError>(())
+    /// ```
+    pub fn image(&self) -> Result<Vec<u8>, OpenError> {
+        let (mut first, mut out, mut used) = (self.first(), Vec::new(), 0);
+        loop {
+            // SAFETY: the user is open, and the pointers are of objects that nobody else uses now.
+            let status =
+                until_done(|| unsafe { raw::maple_shared_image(&mut *first, out.as_mut_ptr(), out.len(), &mut used) });
+            match status {
+                0 => {
+                    out.truncate(used);
+                    return Ok(out);
+                }
+                ERANGE => out.resize(used, 0),
+                _ => return Err(OpenError::NoMemory),
+            }
+        }
+    }
+
+    /// A shared tree with its map, copied under the lock as soon as that is free, in so many rows, no fewer than this one has in use,
+    /// for so many readers and writers at a time: so a tree goes on in more rows.
+    ///
+    /// ```
+    /// use maple::{entries::of_value, Kind, Lock, OpenError, Shared};
+    /// let shared = Shared::new(Kind::Range, 4, 1)?;
+    /// let mut writer = shared.writer(Lock::Waits)?;
+    /// let stored = (0..100).take_while(|n| writer.store(10 * n..10 * n + 5, of_value(*n)).is_ok()).count();
+    /// let more = shared.copy(100, 1)?;
+    /// assert!(more.writer(Lock::Waits)?.store(1000..1005, of_value(7)).is_ok());
+    /// assert_eq!(more.check().unwrap().ranges, stored as u64 + 1);
+    /// assert_eq!(more.copy(3, 1).err(), Some(OpenError::Rows));
+    /// # Ok::<(), OpenError>(())
+    /// ```
+    pub fn copy(&self, rows: u64, users: u32) -> Result<Shared, OpenError> {
+        let mut first = self.first();
+        Shared::opened_by(users, |user, users, calls| {
+            // SAFETY: the first user is open and the other closed, and nobody else uses them now.
+            until_done(|| unsafe { raw::maple_shared_copy(&mut *first, user, rows, users, calls) })
+        })
+    }
+
+    /// How many calls had ended at the least when an iterator over a reader's ranges began that holds its leaf still: all that
+    /// were made, where there is none. What was removed by a call of this number or a lower one is in no such iterator's hands.
+    ///
+    /// ```
+    /// use maple::{entries::of_value, Kind, Lock, Shared};
+    /// let shared = Shared::new(Kind::Range, 100, 2)?;
+    /// let (mut writer, mut reader) = (shared.writer(Lock::Waits)?, shared.reader()?);
+    /// (0..9).for_each(|n| assert!(writer.store(10 * n..10 * n + 5, of_value(n)).is_ok()));
+    /// let mut steps = reader.iter();
+    /// assert_eq!(steps.next().map(|range| range.first), Some(0));
+    /// assert_eq!(writer.erase(0).map(|range| range.is_some()), Ok(true));
+    /// assert_eq!(shared.oldest(), 9);
+    /// drop(steps);
+    /// assert_eq!(shared.oldest(), 10);
+    /// # Ok::<(), maple::OpenError>(())
+    /// ```
+    pub fn oldest(&self) -> u64 {
+        let (mut first, mut calls) = (self.first(), 0);
+        // SAFETY: the user is open, and the pointers are of two objects that nobody else uses now.
+        until_done(|| unsafe { raw::maple_oldest(&mut *first, &mut calls) });
+        calls
     }
 }
 

@@ -411,9 +411,10 @@ impl Tree {
         self.ask(|tree, found| unsafe { raw::maple_load(tree, index, found) })
     }
 
-    /// The entry at an index: of the range that [`load`](Tree::load) returns.
+    /// The entry at an index: of the range that [`load`](Tree::load) returns, in less time.
     pub fn get(&self, index: u64) -> Option<NonZeroU64> {
-        self.load(index).map(|range| range.entry)
+        // SAFETY: the tree is open, and nobody else uses it now.
+        NonZeroU64::new(unsafe { raw::maple_entry(&mut *self.raw.borrow_mut(), index) })
     }
 
     /// Whether it has no range.
