@@ -1,5 +1,5 @@
 -- A search that goes into one row in each level: what it has seen of a row, and how far it has come.
-use Rattle.mt_gap.proofs.Prelude.{◌≡◌, ◌≢◌, ℕ, zero, suc, ◌+◌, ◌*◌, ◌<◌, ◌≤◌, ◌⊎◌, List, [], ◌∷◌, ◌++◌, Bool, true, false, Option, Some, None, length, max, min, nat_le, take, refl, sym, ap, ◌∙◌, subst, inl, inr, arith, append_assoc, append-nil, length-append, AllByRecursion, flat_map, cases_Bool, leb-true, leb-false, take_more, Kind, Hole, clip, kept, lowest_in, highest_in, columns, deepest, greatest, RowKind, Leaf, Gapped, Span, row_in, named_kind, Fills, one_row_more, Tree, IsRow, Stands, top_of, tree_on, IsTreeOf, Rooted, Sheet, ReadsUpTo, loaded, root_span, spans_in, height_in, height_by_depth, levels_here, Handle, PathStep, handle_in, path_in, step_at, no_step, row_on, below, slot_for, span_at, step_in, EntersLeaf, tree_kept, no_reads, one_read, reads_more, reads_up, at_slot, at_parts, at_once, at_within, At, row_next, row_of, levels, step, row_on_top, some_root, Child, Below, Side, Window, leaf_hole, child_hole, children_in, children_by, children_below, row_children, root_child, IsGapped, MayLoad, picked, AreLeaves, may_have, inside, narrow, narrow_up, next_up, has_sure, into_one_more, with_room, with_room_up, asked_for, pick_for, sought_in, sought_to, StandsInSlot, AreAsked, IsSearchedBelow, IsWayTo, EndsInLeaf, IsAreaAt}
+use Rattle.mt_gap.proofs.Prelude.{◌≡◌, ◌≢◌, ℕ, zero, suc, ◌+◌, ◌-◌, ◌*◌, ◌<◌, ◌≤◌, ◌⊎◌, List, [], ◌∷◌, ◌++◌, Bool, true, false, Option, Some, None, length, max, min, nat_le, take, refl, sym, ap, ◌∙◌, subst, inl, inr, arith, append_assoc, append-nil, length-append, AllByRecursion, flat_map, cases_Bool, leb-true, leb-false, take_more, Kind, Hole, clip, kept, lowest_in, highest_in, columns, deepest, greatest, RowKind, Leaf, Gapped, Span, row_in, named_kind, Fills, one_row_more, Tree, IsRow, Stands, top_of, tree_on, IsTreeOf, Rooted, Sheet, ReadsUpTo, loaded, root_span, spans_in, height_in, height_by_depth, levels_here, Handle, PathStep, handle_in, path_in, step_at, no_step, row_on, below, slot_for, span_at, step_in, EntersLeaf, tree_kept, no_reads, one_read, reads_more, reads_up, at_slot, at_parts, at_once, at_within, At, row_next, row_of, levels, step, row_on_top, some_root, Child, Below, Side, Window, leaf_hole, child_hole, children_in, children_by, children_below, row_children, root_child, IsGapped, MayLoad, picked, AreLeaves, may_have, inside, narrow, narrow_up, next_up, has_sure, into_one_more, with_room, with_room_up, asked_for, pick_for, sought_in, sought_to, StandsInSlot, AreAsked, IsSearchedBelow, IsWayTo, EndsInLeaf, IsAreaAt}
 use Rattle.mt_path.proofs.Places as places
 use Rattle.mt_gap.specs.declared.ways.Below.TheVariants as below_row
 use Rattle.mt_gap.specs.declared.ways.Side.TheVariants as sides
@@ -140,14 +140,14 @@ module _ (t : Rooted) (h : ℕ) (stands : Stands (tree_on true t) h) where
       at : At x.first (x.last + 1) (spans_in t.table x) index y
       at = at_parts x.first (x.last + 1) (spans_in t.table x) index front y back fills parts from upto
 
-      inside : (x.first ≤ y.first) × (y.last < x.last + 1)
-      inside = at_within x.first (x.last + 1) (spans_in t.table x) index y at
+      in_row : (x.first ≤ y.first) × (y.last < x.last + 1)
+      in_row = at_within x.first (x.last + 1) (spans_in t.table x) index y at
 
       first_in : x.first ≤ index
-      first_in = let low = inside.0 in omega arith
+      first_in = let low = in_row.0 in omega arith
 
       last_in_row : index ≤ x.last
-      last_in_row = let high = inside.1 in omega arith
+      last_in_row = let high = in_row.1 in omega arith
 
       within_top : index ≤ top_of tree
       within_top = let last = last_in_row in let all = leads.within in omega arith
@@ -193,7 +193,7 @@ module _ (t : Rooted) (h : ℕ) (stands : Stands (tree_on true t) h) where
 
     leads_on : y.first ≤ y.last → IsWayTo t (path ++ (one ∷ [])) y
     leads_on order = record {
-      within = (let high = (inside y.last order (omega arith)).1 in let all = leads.within in omega arith);
+      within = (let high = (in_row y.last order (omega arith)).1 in let all = leads.within in omega arith);
       front = front_on;
       low = low_on;
       enters = enters_on;
@@ -203,6 +203,11 @@ module _ (t : Rooted) (h : ℕ) (stands : Stands (tree_on true t) h) where
 next_for : (side : Side) (t : Tree) (w : Window) → t.gapped ≡ true → 1 ≤ w.size → (xs : List Child) (answer : Option ℕ) (level : ℕ) → Asks t (pick_for side w) w answer level xs → (AreLeaves xs → ⊥) → Asks t (pick_for side w) w answer (level + 1) (asked_for side w (children_below t.table xs))
 next_for sides.Low t w gapped some xs answer level asks not = low_next t w gapped some xs answer level asks not
 next_for sides.High t w gapped some xs answer level asks not = high_next t w gapped some xs answer level asks not
+
+-- of no holes none is picked
+none_picked : (side : Side) (w : Window) → pick_for side w [] ≡ None
+none_picked sides.Low w = refl
+none_picked sides.High w = refl
 
 -- a search that has gone into one row in each level so far
 pub record GoesOn (side : Side) (s s' : Sheet) (w : Window) (level : ℕ) (path : List PathStep) (x : Span) : Type 0 where
@@ -307,7 +312,7 @@ module _ (side : Side) (s s' : Sheet) (w : Window) (size : 1 ≤ w.size) (tree :
     pub goes_nowhere : IsSearchedBelow side w xs below_row.Nothing → answer ≡ None
     goes_nowhere none =
         let asks = asks_next [] none in
-        sym (leaves_have whole (pick_for side w) w answer asks.left [] tt asks.rows asks.found)
+        sym (leaves_have whole (pick_for side w) w answer asks.left [] tt asks.rows asks.found) ∙ none_picked side w
 
     pub goes_below : (slot : ℕ) (y : Span) → IsSearchedBelow side w xs (below_row.One slot y) → (path' : List PathStep) → path' ≡ path ++ (record { row = row; slot = slot; min = x.first; max = x.last } ∷ []) → GoesOn side s s'' w (level + 1) path' y
     goes_below slot y one path' pushed =

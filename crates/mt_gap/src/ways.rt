@@ -56,6 +56,16 @@ fn one_more(below: Below, slot: u32, span: Span) -> Below
     }
 }
 
+/// The same from the right: what stands in a slot that lies in the window stands for all before it.
+fn one_more_up(below: Below, slot: u32, span: Span, sure: bool) -> Below
+    ensures { result ≡ (if sure then Below.One slot span else into_one_more slot span below) }
+{
+    if sure {
+        return Below::One { slot, span };
+    }
+    one_more(below, slot, span)
+}
+
 /// Takes what stands in a slot of a row with gaps, where it may have room, and tells whether it lies in the window then.
 fn take_slot<R: Rows>(
     rows: &mut R,
@@ -123,14 +133,7 @@ fn take_slot_up<R: Rows>(
     let Some(child) = room_in_slot(rows, width, row, slot, first, last, window) else {
         return;
     };
-    *below = if is_inside(window, first, last) {
-        Below::One {
-            slot,
-            span: child.span,
-        }
-    } else {
-        one_more(*below, slot, child.span)
-    };
+    *below = one_more_up(*below, slot, child.span, is_inside(window, first, last));
 }
 
 /// What a search for the highest place goes into below a row with gaps, which covers the indexes from `first` to `max`.
