@@ -9,7 +9,7 @@ pub use Rattle.std.proofs.lemmas.List.Elements.{All-pop, All-push, All-same}
 pub use Rattle.std.proofs.lemmas.List.FromFn.{length-map-range_with_len}
 pub use Rattle.std.proofs.lemmas.Option.{slice_get-get_or, slice_get-map}
 pub use Rattle.std.specs.Arc.{arc_value}
-pub use Rattle.std.specs.Option.{option_map, option_or}
+pub use Rattle.std.specs.Option.{option_map, unwrap_or}
 pub use Rattle.std.specs.Prelude.{Err, IfErr, IfOk, IfSome, IsErr, IsOk, IsSome, Ok, Result, if◌then◌else◌, nat_le, slice_get, ◌*◌, ◌+◌, ◌-◌, ◌==◌, ◌↔◌, ◌⊎◌}
 pub use Rattle.std.specs.declared.snapshot.Snapshot.{Snapshot}
 pub use Rattle.std_alloc.proofs.SendSync.{lies, quiet}
