@@ -10,7 +10,7 @@ first_slot (x ∷ xs) = let none : nat_lt x.last 0 ≡ false = le-ltb x.last 0 (
 one_more : (s : PathStep) (steps : List PathStep) → s.slot ≡ 0 → loads_in steps ≡ 14 * length steps → loads_in (s ∷ steps) ≡ 14 * length (s ∷ steps)
 one_more s steps first many =
     let parts = loads_in-append (s ∷ []) steps in
-    let one : loads_in (s ∷ []) ≡ 14 = ap (λ (n : ℕ). max 13 (n + 1) + 1 + 0) first in
+    let one : loads_in (s ∷ []) ≡ 14 = ap (λ (n : ℕ). 0 + (max 13 (n + 1) + 1)) first in
     omega (arith, parts, one, many)
 
 -- a step of the way to the first index, before others

@@ -1,6 +1,5 @@
 pub mod AfterSplice
 pub mod Answering
-mod Batching
 pub mod Finding
 pub mod FirstWay
 pub mod FreshEngine

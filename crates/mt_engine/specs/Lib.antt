@@ -1,5 +1,4 @@
 pub mod Areas
-pub mod Batches
 pub mod Engine
 pub mod Heights
 pub mod Here

@@ -1,6 +1,6 @@
 //! A tree on one thread.
 
-ghost use Rattle.std.specs.Prelude.{◌≡◌, ◌↔◌, ◌+◌, ◌-◌, ◌*◌, ◌^◌, ◌<◌, ◌≤◌, Some, IsTrue, IsOk, IfOk, IfErr, IfSome, OnOk, OnErr, length, option_map};
+ghost use Rattle.std.specs.Prelude.{◌≡◌, ◌↔◌, ◌+◌, ◌-◌, ◌*◌, ◌^◌, ◌<◌, ◌≤◌, Some, IsTrue, IsOk, IfOk, IfErr, IfSome, OnOk, OnErr, option_map};
 ghost use Rattle.mt_base.specs.declared.calls.Call.TheVariants.{StorePre};
 ghost use Rattle.mt_base.specs.declared.calls.Query.TheVariants.{Load};
 ghost use Rattle.mt_base.specs.Call.{answer};
@@ -9,7 +9,6 @@ ghost use Rattle.mt_base.specs.Width.{greatest};
 ghost use Rattle.mt_rows.specs.Publish.{map_by};
 ghost use Rattle.mt_rows.specs.Sheet.{OnlyReads, ReadsUpTo, limits_of};
 ghost use Rattle.mt_rows.specs.Trees.{height_in};
-ghost use Rattle.mt_engine.specs.Batches.{count_put, entries_put, ranges_put, steps_from};
 ghost use Rattle.mt_engine.specs.Engine.{IsIdle, IsApplied};
 ghost use Rattle.mt_engine.specs.Heights.{HasHeight};
 ghost use Rattle.mt_engine.specs.Prepared.{IsPrestored};
@@ -20,7 +19,7 @@ use crate::heights::height_of;
 use crate::prepared::store_prepared;
 use crate::range_walk::{RangeWalk, next_range, walk_from};
 use crate::rooms::{has_room, make_room};
-use crate::{batches, calls, lists, queries};
+use crate::{calls, lists, queries};
 use mt_base::{Call, Kind, NoMemory, Query, Range, Reply, Shortage};
 use mt_free::RowBook;
 use mt_list::Ranges;
@@ -175,33 +174,6 @@ impl<R: Rows> Engine<R> {
         ensures kind { self.new.kind ≡ self.old.kind }
     {
         queries::entry_at(&mut self.rows, index)
-    }
-
-    /// The entries at these indexes, as many as there are places for, and how many: 0 where an index lies in a hole. The places
-    /// behind stay as they were.
-    pub fn load_many(&mut self, indexes: &[u64], entries: &mut [u64]) -> usize
-        ensures entries { entries.new ≡ entries_put (map_by self.old.sheet.tree) indexes.now entries.old }
-        ensures count { result ≡ count_put indexes.now entries.old }
-        ensures rest { OnlyReads self.old.sheet self.new.sheet }
-        ensures book { self.new.book ≡ self.old.book }
-        ensures kind { self.new.kind ≡ self.old.kind }
-    {
-        batches::load_many(&mut self.rows, indexes, entries)
-    }
-
-    /// What so many calls of `next_range` find as there are places, and how many ranges there were: fewer only where the map has no
-    /// more, and then the walk has ended. The places behind stay as they were. With no place the walk stays.
-    pub fn step_many(&mut self, walk: &mut RangeWalk, ranges: &mut [Range]) -> usize
-        requires { WalksFrom self.old.sheet.tree walk.old }
-        ensures ranges { ranges.new ≡ ranges_put (steps_from (map_by self.old.sheet.tree) (greatest self.old.sheet.tree.table.width) (length ranges.old) walk.old.next).found ranges.old }
-        ensures count { result ≡ length (steps_from (map_by self.old.sheet.tree) (greatest self.old.sheet.tree.table.width) (length ranges.old) walk.old.next).found }
-        ensures next { walk.new.next ≡ (steps_from (map_by self.old.sheet.tree) (greatest self.old.sheet.tree.table.width) (length ranges.old) walk.old.next).next }
-        ensures walk { WalksFrom self.new.sheet.tree walk.new }
-        ensures rest { OnlyReads self.old.sheet self.new.sheet }
-        ensures book { self.new.book ≡ self.old.book }
-        ensures kind { self.new.kind ≡ self.old.kind }
-    {
-        batches::step_many(&mut self.rows, walk, ranges)
     }
 
     /// A walk over the ranges from an index on; there is none where the index is above the greatest one. It loads nothing.

@@ -2,7 +2,6 @@
 #![tactic(auto)]
 
 mod areas;
-mod batches;
 mod calls;
 mod engine;
 mod heights;
