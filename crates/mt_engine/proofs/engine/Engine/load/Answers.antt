@@ -1,4 +1,4 @@
-use Rattle.mt_engine.proofs.Prelude.{ap, ◌∙◌, option_map, Range, Load, answer, map_by, Parts}
+use Rattle.mt_engine.proofs.Prelude.{◌≤◌, ap, subst, ◌∙◌, option_map, Range, Load, answer, greatest, path_in, loads_on, ReadsUpTo, map_by, Parts}
 use Rattle.mt_engine.proofs.Measured.{measured_if_read}
 use Rattle.mt_engine.proofs.engine.Engine.load.Goals as goal
 
@@ -7,3 +7,8 @@ invariant_of-self g c = measured_if_read c.self.inside.kind (g.R.Rows.sheet c.se
 
 pub returns-clause-entry : goal.returns-clause-entry
 returns-clause-entry g c = c.entry_at.ensures.entry ∙ ap (λ (e : Parts). option_map (λ (r : Range). r.entry) (answer (map_by e.sheet.tree) (Load c.args.index))) c.self.view_is
+
+pub returns-clause-reads : goal.returns-clause-reads
+returns-clause-reads g c =
+    subst (λ (e : Parts). c.args.index ≤ greatest e.sheet.tree.table.width → ReadsUpTo (loads_on (path_in e.sheet.tree.table e.sheet.tree.root c.args.index)) e.sheet (g.R.Rows.sheet c.entry_at.new.rows))
+    c.self.view_is c.entry_at.ensures.reads
