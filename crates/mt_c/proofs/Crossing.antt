@@ -7,10 +7,10 @@ use Rattle.mt_engine.proofs.engine.Engine.TheSendSync as Engine
 use Rattle.mt_engine.proofs.range_walk.RangeWalk.TheSendSync as RangeWalk
 use Rattle.mt_keep.proofs.keep.Busy.TheSendSync as Unpursed
 use Rattle.mt_keep.specs.contracts.keep.Given as given
-use Rattle.mt_rows.proofs.plain.Fate.TheSendSync as Fate
 use Rattle.mt_rows.proofs.row_widths.RowWidth.TheSendSync as RowWidth
 use Rattle.mt_rows.proofs.rows.Scan.TheSendSync as Scan
 use Rattle.mt_rows.proofs.words.Words.TheSendSync as Words
+use Rattle.mt_rows.specs.contracts.fates.Fates as fated
 use Rattle.mt_rows.specs.contracts.plain.PlainRows as rows
 use Rattle.mt_rows.specs.contracts.plain.State as state
 use Rattle.mt_rows.specs.contracts.reads.Reads as counted
@@ -24,13 +24,16 @@ use Rattle.mt_c.specs.contracts.purse.Purse as purse
 use Rattle.mt_c.specs.contracts.receipts.Receipts as receipts
 use Rattle.mt_c.specs.contracts.user.User as user
 
--- The count of reads stands over a `Snapshot`, whose `Send` is in `crosses` alone, where no check of a struct's fields looks. So
--- what stands over that count is shown here, up to the tree.
+-- The count of reads and the fates of rows stand over a `Snapshot`, whose `Send` is in `crosses` alone, where no check of a struct's
+-- fields looks. So what stands over them is shown here, up to the tree.
 reads_sent : IsSend counted.the_row
 reads_sent = search (sendable, crosses)
 
+fates_sent : IsSend fated.the_row
+fates_sent = search (sendable, crosses)
+
 state_sent : IsSend state.the_row
-state_sent = declared_send state.the_type (search (sendable, crosses, reads_sent, RowWidth.the_send, Words.the_send, Fate.the_send, Scan.the_send) depth 20)
+state_sent = declared_send state.the_type (search (sendable, crosses, reads_sent, fates_sent, RowWidth.the_send, Words.the_send, Scan.the_send) depth 20)
 
 rows_sent : IsSend rows.the_row
 rows_sent = declared_send rows.the_type (state_sent, tt)

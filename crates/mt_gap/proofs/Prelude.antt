@@ -29,9 +29,8 @@ pub use Rattle.mt_rows.proofs.InnerKinds.{inner_no_leaf, inner_not_named}
 pub use Rattle.mt_rows.proofs.Joins.{Shared, expand_shared, levels_back, levels_front, levels_join, levels_shared, times_shared}
 pub use Rattle.mt_rows.proofs.Lists.{Filled, all_map, expand-append, expand_fills, levels_here, levels_map, levels_none}
 pub use Rattle.mt_rows.proofs.Longest.{longest_below-append, longest_in-append, longest_none, longest_shared}
-pub use Rattle.mt_rows.proofs.PlainReached.{levels_from}
 pub use Rattle.mt_rows.proofs.Ranges.{rows_filled}
-pub use Rattle.mt_rows.proofs.Reached.{IsOneOf, OnLevel, levels_at, on_level_law, on_level_reached, one_of_parts, one_place, reached_number, times_reached}
+pub use Rattle.mt_rows.proofs.Reached.{IsOneOf, OnLevel, levels_at, levels_from, on_level_law, on_level_reached, one_of_parts, one_place, reached_number, times_reached}
 pub use Rattle.mt_rows.proofs.RowGaps.{AreGapsAt, covers_it, gaps_read}
 pub use Rattle.mt_rows.specs.Gaps.{GapLawBut, GapsFromBut, HasGaps, KeepsGaps}
 pub use Rattle.mt_rows.specs.Laws.{GapLawBy, GapsFrom, HasWords, IsLawful, IsRow, IsTended, top_of}

@@ -4,8 +4,7 @@ use Rattle.mt_rows.proofs.FewSpans.{row_most}
 use Rattle.mt_rows.proofs.Frames.{same_spans}
 use Rattle.mt_rows.proofs.GapWords.{put_gap, spans_from-put_gap, other_column, gap_here, items_at-put_gap, row_words-put_gap, row_words-gap_inside}
 use Rattle.mt_rows.proofs.Joins.{Shared, levels_shared}
-use Rattle.mt_rows.proofs.PlainReached.{levels_from}
-use Rattle.mt_rows.proofs.Reached.{OnLevel, on_level_law, one_place}
+use Rattle.mt_rows.proofs.Reached.{OnLevel, levels_from, on_level_law, one_place}
 use Rattle.mt_rows.proofs.RowLaws.{row_keeps}
 
 gap_fits : (width : Width) (row rows slot : ℕ) → slot < slots_of width Gapped → row < first_row + rows → columns width * row + gap_column (slots_of width Gapped) slot < columns width * (first_row + rows)

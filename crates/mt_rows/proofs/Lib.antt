@@ -24,10 +24,6 @@ pub mod PlainMade
 pub mod PlainNames
 pub mod PlainPlant
 pub mod PlainPublish
-pub mod PlainReached
-pub mod PlainRoot
-pub mod PlainSlot
-pub mod PlainWalk
 pub mod Published
 pub mod Ranges
 pub mod Reached

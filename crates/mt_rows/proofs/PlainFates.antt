@@ -1,5 +1,5 @@
 -- What rows in memory stand for after a row's fate has changed.
-use Rattle.mt_rows.proofs.Prelude.{◌≡◌, ℕ, zero, suc, ◌+◌, ◌*◌, ◌<◌, ◌≤◌, Option, Some, None, List, [], ◌∷◌, Bool, true, false, map, refl, sym, ap, ◌∙◌, subst, inl, inr, arith, slice_index, slice_index_or, slice_set, replicate, nat_le, if◌then◌else◌, cases_Bool, cases_lt, leb-true, ltb-false, le-leb, lt-leb, lt-ltb, le-ltb, map-set, get_or_past, map-set_same, Fate, New, Draft, Live, Buried, Kind, Call, Reply, columns, first_row, named_row, Place, Slot, State, one_if, Sheet, IsPlace, IsFree, MayBury, life_of, is_buried, word_at, MayFinish, life_at, life_in, buried_in, past_of, fate_of, sheet_of, IsPlain, names_buried, buried_by, opens, IsPlaceOfTree}
+use Rattle.mt_rows.proofs.Prelude.{◌≡◌, ℕ, zero, suc, ◌+◌, ◌<◌, ◌≤◌, List, [], ◌∷◌, Bool, true, false, map, refl, sym, ap, ◌∙◌, subst, inl, inr, arith, slice_index_or, slice_set, replicate, nat_le, if◌then◌else◌, cases_Bool, cases_lt, leb-true, ltb-false, le-leb, lt-leb, lt-ltb, le-ltb, map-set, get_or_past, map-set_same, Fate, New, Draft, Live, Buried, Kind, Call, Reply, first_row, State, one_if, Sheet, IsFree, MayBury, life_of, is_buried, MayFinish, life_at, life_in, buried_in, past_of, fate_of, sheet_of, IsPlain}
 use Rattle.mt_rows.specs.declared.rows.Life.TheVariants as lives
 
 -- a fate that reads as another leaves what was read
@@ -143,18 +143,3 @@ module _ (p : State) (s : Sheet) (kind : Kind) (call : Call) (reply : Reply) (pl
 pub either_same : {A : Type 0} (b : Bool) (a : A) → a ≡ (if b then a else a)
 either_same true a = refl
 either_same false a = refl
-
--- ---- a word in place of another
-
-pub store_opens : (p : State) (s : Sheet) (place : Place) (row col at old : ℕ) → IsPlain p → sheet_of p ≡ s → s.published ≡ false → IsPlaceOfTree s.tree place → place ≡ Slot row col → at ≡ columns p.width * row + col → old ≡ slice_index p.words.items at
-    → opens s place ≡ names_buried p.ended p.fates.items (named_row old)
-store_opens p s place row col at old plain is before inside slot at_is read =
-    let here : IsPlace (sheet_of p).tree row col = subst (λ (s : Sheet). IsPlace s.tree row col) (sym is) (subst (IsPlaceOfTree s.tree) slot inside) in
-    let word : old ≡ word_at s.tree row col = read ∙ (ap (λ (n : ℕ). slice_index p.words.items n) at_is ∙ ap (λ (s : Sheet). word_at s.tree row col) is) in
-    ap (opens s) slot ∙ (ap (λ (n : ℕ). buried_by s (named_row n)) (sym word) ∙ by (named_row old))
-  where
-    by : (name : Option ℕ) → buried_by s name ≡ names_buried p.ended p.fates.items name
-    by None = refl
-    by (Some r) =
-        let past : past_of p ≡ p.ended = ap (λ (b : Bool). p.ended + one_if b) (ap (λ (s : Sheet). s.published) is ∙ before) ∙ omega arith in
-        ap (λ (s : Sheet). is_buried s.buried r) (sym is) ∙ (buried_told p r ∙ ap (λ (n : ℕ). buried_in n (fate_of p r)) past)

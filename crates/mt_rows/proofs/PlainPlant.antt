@@ -1,5 +1,5 @@
 -- The rows that are reached: how many there are at the most, and what becomes of the fates when each is made live.
-use Rattle.mt_rows.proofs.Prelude.{◌≡◌, ◌≢◌, ◌⊎◌, ℕ, zero, suc, ◌+◌, ◌-◌, ◌*◌, ◌^◌, ◌<◌, ◌≤◌, ◌==◌, List, [], ◌∷◌, Option, Some, None, Bool, true, false, length, map, take, refl, sym, ap, ◌∙◌, subst, inl, inr, arith, length-append, length-set, get_or-set_same, get_or-set_other, zero-add, slice_index, slice_index_or, slice_set, nat_le, nat_lt, if◌then◌else◌, flat_map, fold, cases_Bool, cases_eq, cases_lt, eq-eqb, ne_eqb, lt-ltb, le-ltb, get_or_past, length-flat_map-take, pow-succ', pow-le-pow_right, one-le-pow, mul-le-mul_right, mul-add, Kind, Width, columns, deepest, first_row, slots_of-columns, some_columns, many_columns, deepest_fits, RowKind, Leaf, Inner, Gapped, items_from, items_at, pivot_column, row_in, named_kind, Span, slots_of, gaps_of, length-spans_from, Table, base_of, spans_by, spans_in, by_kind, rows_of, reached_in, one_if, tally, Sheet, life_of, LiveAreReached, is_reached, MayPlant, Planted, Life, Fate, New, Draft, Live, Buried, State, life_in, buried_in, past_of, fate_of, sheet_of, IsPlain, life_at}
+use Rattle.mt_rows.proofs.Prelude.{◌≡◌, ◌≢◌, ◌⊎◌, ℕ, zero, suc, ◌+◌, ◌-◌, ◌*◌, ◌^◌, ◌<◌, ◌≤◌, ◌==◌, List, [], ◌∷◌, Option, Some, None, Bool, true, false, length, map, take, refl, sym, ap, ◌∙◌, subst, inl, inr, arith, length-append, length-set, get_or-set_same, get_or-set_other, zero-add, slice_index, slice_index_or, slice_set, nat_le, nat_lt, if◌then◌else◌, flat_map, cases_Bool, cases_eq, cases_lt, eq-eqb, ne_eqb, lt-ltb, le-ltb, get_or_past, length-flat_map-take, pow-succ', pow-le-pow_right, one-le-pow, mul-le-mul_right, mul-add, Kind, Width, columns, deepest, first_row, slots_of-columns, some_columns, many_columns, deepest_fits, RowKind, Leaf, Inner, Gapped, items_from, items_at, pivot_column, row_in, named_kind, Span, slots_of, gaps_of, length-spans_from, Table, base_of, spans_by, spans_in, by_kind, rows_of, reached_in, one_if, tally, Sheet, life_of, LiveAreReached, is_reached, MayPlant, Planted, Life, Fate, New, Draft, Live, Buried, State, life_in, buried_in, past_of, fate_of, sheet_of, IsPlain, life_at, Fated, enlivened}
 use Rattle.mt_rows.specs.declared.rows.Life.TheVariants as lives
 use Rattle.mt_rows.proofs.PlainFates.{buried-kept, either_same}
 use Rattle.mt_rows.proofs.Deeper.{rows_of_inner}
@@ -72,19 +72,16 @@ module _ (t : Table) (depth : ℕ) (x : Span) (kind : RowKind) (deep : 0 < depth
 
 -- ---- each row made live
 
-abbrev pub settled : List Fate → List ℕ → List Fate
-settled fates rows = fold (λ (fs : List Fate) (row : ℕ). slice_set fs row Live) fates rows
-
-pub settled_length : (rows : List ℕ) (fates : List Fate) → length (settled fates rows) ≡ length fates
-settled_length [] fates = refl
-settled_length (r ∷ rows) fates = settled_length rows (slice_set fates r Live) ∙ length-set fates r Live
+pub enlivened_length : (rows : List ℕ) (fates : List Fate) → length (enlivened fates rows) ≡ length fates
+enlivened_length [] fates = refl
+enlivened_length (r ∷ rows) fates = enlivened_length rows (slice_set fates r Live) ∙ length-set fates r Live
 
 -- a row that is counted is live then, and each other row keeps its fate
-pub settled_fate : (rows : List ℕ) (fates : List Fate) (row : ℕ) → row < length fates
-    → slice_index_or (settled fates rows) row New ≡ (if nat_lt 0 (tally (λ (r : ℕ). r == row) rows) then Live else slice_index_or fates row New)
-settled_fate [] fates row within = refl
-settled_fate (r ∷ rows) fates row within =
-    settled_fate rows (slice_set fates r Live) row (omega (arith, length-set fates r Live)) ∙ elim (cases_eq r row) [
+pub enlivened_fate : (rows : List ℕ) (fates : List Fate) (row : ℕ) → row < length fates
+    → slice_index_or (enlivened fates rows) row New ≡ (if nat_lt 0 (tally (λ (r : ℕ). r == row) rows) then Live else slice_index_or fates row New)
+enlivened_fate [] fates row within = refl
+enlivened_fate (r ∷ rows) fates row within =
+    enlivened_fate rows (slice_set fates r Live) row (omega (arith, length-set fates r Live)) ∙ elim (cases_eq r row) [
       | inl here ↦
           let at : slice_index_or (slice_set fates r Live) row New ≡ Live = ap (λ (k : ℕ). slice_index_or (slice_set fates r Live) k New) (sym here) ∙ get_or-set_same fates r Live New (omega arith) in
           rw (at, eq-eqb r row here, lt-ltb 0 (1 + tally (λ (r : ℕ). r == row) rows) (omega arith)) (sym (either_same (nat_lt 0 (tally (λ (r : ℕ). r == row) rows)) Live))
@@ -93,35 +90,35 @@ settled_fate (r ∷ rows) fates row within =
     ]
 
 -- no fate is new but for rows made live
-pub settled_or_kept : (rows : List ℕ) (fates : List Fate) (row : ℕ) → (slice_index_or (settled fates rows) row New ≡ Live) ⊎ (slice_index_or (settled fates rows) row New ≡ slice_index_or fates row New)
-settled_or_kept rows fates row = elim (cases_lt row (length fates)) [
-  | inl within ↦ by (nat_lt 0 (tally (λ (r : ℕ). r == row) rows)) (settled_fate rows fates row within)
-  | inr beyond ↦ inr (get_or_past (settled fates rows) row New (omega (arith, settled_length rows fates)) ∙ sym (get_or_past fates row New beyond))
+pub enlivened_or_kept : (rows : List ℕ) (fates : List Fate) (row : ℕ) → (slice_index_or (enlivened fates rows) row New ≡ Live) ⊎ (slice_index_or (enlivened fates rows) row New ≡ slice_index_or fates row New)
+enlivened_or_kept rows fates row = elim (cases_lt row (length fates)) [
+  | inl within ↦ by (nat_lt 0 (tally (λ (r : ℕ). r == row) rows)) (enlivened_fate rows fates row within)
+  | inr beyond ↦ inr (get_or_past (enlivened fates rows) row New (omega (arith, enlivened_length rows fates)) ∙ sym (get_or_past fates row New beyond))
 ]
   where
-    by : (b : Bool) → slice_index_or (settled fates rows) row New ≡ (if b then Live else slice_index_or fates row New)
-        → (slice_index_or (settled fates rows) row New ≡ Live) ⊎ (slice_index_or (settled fates rows) row New ≡ slice_index_or fates row New)
+    by : (b : Bool) → slice_index_or (enlivened fates rows) row New ≡ (if b then Live else slice_index_or fates row New)
+        → (slice_index_or (enlivened fates rows) row New ≡ Live) ⊎ (slice_index_or (enlivened fates rows) row New ≡ slice_index_or fates row New)
     by true is = inl is
     by false is = inr is
 
 -- where no row was buried by a call to come, none is so then
-pub settled_buried : (past : ℕ) (rows : List ℕ) (fates : List Fate) → ((row : ℕ) → buried_in past (slice_index_or fates row New) ≡ false) → map (buried_in past) (settled fates rows) ≡ map (buried_in past) fates
-settled_buried past [] fates none = refl
-settled_buried past (r ∷ rows) fates none =
-    settled_buried past rows (slice_set fates r Live) (λ row. kept row (settled_or_kept (r ∷ []) fates row)) ∙ buried-kept past fates r Live (sym (none r))
+pub enlivened_buried : (past : ℕ) (rows : List ℕ) (fates : List Fate) → ((row : ℕ) → buried_in past (slice_index_or fates row New) ≡ false) → map (buried_in past) (enlivened fates rows) ≡ map (buried_in past) fates
+enlivened_buried past [] fates none = refl
+enlivened_buried past (r ∷ rows) fates none =
+    enlivened_buried past rows (slice_set fates r Live) (λ row. kept row (enlivened_or_kept (r ∷ []) fates row)) ∙ buried-kept past fates r Live (sym (none r))
   where
-    kept : (row : ℕ) → (slice_index_or (settled fates (r ∷ [])) row New ≡ Live) ⊎ (slice_index_or (settled fates (r ∷ [])) row New ≡ slice_index_or fates row New) → buried_in past (slice_index_or (slice_set fates r Live) row New) ≡ false
+    kept : (row : ℕ) → (slice_index_or (enlivened fates (r ∷ [])) row New ≡ Live) ⊎ (slice_index_or (enlivened fates (r ∷ [])) row New ≡ slice_index_or fates row New) → buried_in past (slice_index_or (slice_set fates r Live) row New) ≡ false
     kept row (inl live) = ap (buried_in past) live
     kept row (inr same) = ap (buried_in past) same ∙ none row
 
 -- ---- by the sheet
 
--- p with another root word and count, and the fates of q
-abbrev pub planted : State → ℕ → ℕ → State → State
-planted p root opened q = record p { root = root; opened = opened; fates = q.fates }
+-- with another root word and other fates
+abbrev pub planted : State → ℕ → Fated → State
+planted p root f = record p { root = root; fates = f }
 
-module _ (p q : State) (s : Sheet) (kind : Kind) (root opened : ℕ) (plain : IsPlain p) (is : sheet_of p ≡ s) (may : MayPlant kind s root)
-    (counted : opened ≡ length (reached_in (sheet_of p).tree.table root)) (settles : q.fates.items ≡ settled p.fates.items (reached_in (sheet_of p).tree.table root)) where
+module _ (p : State) (f : Fated) (s : Sheet) (kind : Kind) (root : ℕ) (plain : IsPlain p) (is : sheet_of p ≡ s) (may : MayPlant kind s root)
+    (counted : f.opened ≡ length (reached_in (sheet_of p).tree.table root)) (settles : f.items ≡ enlivened p.fates.items (reached_in (sheet_of p).tree.table root)) where
   reached : List ℕ
   reached = reached_in (sheet_of p).tree.table root
 
@@ -139,13 +136,13 @@ module _ (p q : State) (s : Sheet) (kind : Kind) (root opened : ℕ) (plain : Is
           let low : call ≤ p.ended + 0 = subst (λ (b : Bool). call ≤ p.ended + one_if b) idle (plain.buried row call at).2 in
           le-ltb (past_of p) call (omega arith)
 
-  buried_stays : (row call : ℕ) → slice_index_or q.fates.items row New ≡ Buried call → (first_row ≤ row) × (1 ≤ call) × (call ≤ p.ended + one_if p.in_flight)
-  buried_stays row call at = by (settled_or_kept (reached_in (sheet_of p).tree.table root) p.fates.items row)
+  buried_stays : (row call : ℕ) → slice_index_or f.items row New ≡ Buried call → (first_row ≤ row) × (1 ≤ call) × (call ≤ p.ended + one_if p.in_flight)
+  buried_stays row call at = by (enlivened_or_kept (reached_in (sheet_of p).tree.table root) p.fates.items row)
     where
-      same : slice_index_or q.fates.items row New ≡ slice_index_or (settled p.fates.items (reached_in (sheet_of p).tree.table root)) row New
+      same : slice_index_or f.items row New ≡ slice_index_or (enlivened p.fates.items (reached_in (sheet_of p).tree.table root)) row New
       same = ap (λ (l : List Fate). slice_index_or l row New) settles
 
-      by : (slice_index_or (settled p.fates.items (reached_in (sheet_of p).tree.table root)) row New ≡ Live) ⊎ (slice_index_or (settled p.fates.items (reached_in (sheet_of p).tree.table root)) row New ≡ fate_of p row)
+      by : (slice_index_or (enlivened p.fates.items (reached_in (sheet_of p).tree.table root)) row New ≡ Live) ⊎ (slice_index_or (enlivened p.fates.items (reached_in (sheet_of p).tree.table root)) row New ≡ fate_of p row)
           → (first_row ≤ row) × (1 ≤ call) × (call ≤ p.ended + one_if p.in_flight)
       by (inl live) = let e = same in absurd (cc)
       by (inr kept) = plain.buried row call (sym kept ∙ (sym same ∙ at))
@@ -165,50 +162,50 @@ module _ (p q : State) (s : Sheet) (kind : Kind) (root opened : ℕ) (plain : Is
           let low : call ≤ p.ended + 0 = subst (λ (b : Bool). call ≤ p.ended + one_if b) idle known.2 in
           absurd (omega arith)
 
-  none_settled : root ≡ 0 → settled p.fates.items (reached_in (sheet_of p).tree.table root) ≡ p.fates.items
-  none_settled empty = ap (λ (r : ℕ). settled p.fates.items (reached_in (sheet_of p).tree.table r)) empty
+  none_reached : root ≡ 0 → enlivened p.fates.items (reached_in (sheet_of p).tree.table root) ≡ p.fates.items
+  none_reached empty = ap (λ (r : ℕ). enlivened p.fates.items (reached_in (sheet_of p).tree.table r)) empty
 
-  pub planted_plain : IsPlain (planted p root opened q)
+  pub planted_plain : IsPlain (planted p root f)
   planted_plain = record {
     few = plain.few;
     words = plain.words;
-    fates = ap length settles ∙ (settled_length (reached_in (sheet_of p).tree.table root) p.fates.items ∙ plain.fates);
+    fates = ap length settles ∙ (enlivened_length (reached_in (sheet_of p).tree.table root) p.fates.items ∙ plain.fates);
     cleared = plain.cleared;
     room = plain.room;
     calm = plain.calm;
     buried = buried_stays;
-    fresh = λ row first none empty alive. not_live row (ap (life_in (past_of p)) (sym (ap (λ (l : List Fate). slice_index_or l row New) (settles ∙ none_settled empty)) ∙ alive));
+    fresh = λ row first none empty alive. not_live row (ap (life_in (past_of p)) (sym (ap (λ (l : List Fate). slice_index_or l row New) (settles ∙ none_reached empty)) ∙ alive));
   }
 
-  life_after : (row : ℕ) → row < first_row + p.rows → life_in (past_of p) (slice_index_or q.fates.items row New) ≡ (if nat_lt 0 (tally (λ (r : ℕ). r == row) (reached_in (sheet_of p).tree.table root)) then lives.Live else life_in (past_of p) (fate_of p row))
+  life_after : (row : ℕ) → row < first_row + p.rows → life_in (past_of p) (slice_index_or f.items row New) ≡ (if nat_lt 0 (tally (λ (r : ℕ). r == row) (reached_in (sheet_of p).tree.table root)) then lives.Live else life_in (past_of p) (fate_of p row))
   life_after row within =
       ap (λ (l : List Fate). life_in (past_of p) (slice_index_or l row New)) settles
-      ∙ (ap (life_in (past_of p)) (settled_fate (reached_in (sheet_of p).tree.table root) p.fates.items row (let size = plain.fates in omega arith))
+      ∙ (ap (life_in (past_of p)) (enlivened_fate (reached_in (sheet_of p).tree.table root) p.fates.items row (let size = plain.fates in omega arith))
       ∙ by (nat_lt 0 (tally (λ (r : ℕ). r == row) (reached_in (sheet_of p).tree.table root))))
     where
       by : (b : Bool) → life_in (past_of p) (if b then Live else fate_of p row) ≡ (if b then lives.Live else life_in (past_of p) (fate_of p row))
       by true = refl
       by false = refl
 
-  life_told : (row : ℕ) → row < first_row + p.rows → life_of (sheet_of (planted p root opened q)).lives row ≡ (if is_reached (sheet_of (planted p root opened q)).tree row then lives.Live else life_in (past_of p) (fate_of p row))
-  life_told row within = life_at (past_of p) q.fates.items row ∙ life_after row within
+  life_told : (row : ℕ) → row < first_row + p.rows → life_of (sheet_of (planted p root f)).lives row ≡ (if is_reached (sheet_of (planted p root f)).tree row then lives.Live else life_in (past_of p) (fate_of p row))
+  life_told row within = life_at (past_of p) f.items row ∙ life_after row within
 
-  live_are_reached : LiveAreReached (sheet_of (planted p root opened q)).tree (sheet_of (planted p root opened q)).lives
+  live_are_reached : LiveAreReached (sheet_of (planted p root f)).tree (sheet_of (planted p root f)).lives
   live_are_reached row first within = (
-    λ alive. elim (cases_Bool (is_reached (sheet_of (planted p root opened q)).tree row)) [
+    λ alive. elim (cases_Bool (is_reached (sheet_of (planted p root f)).tree row)) [
       | inl is ↦ is
       | inr not ↦ absurd (not_live row (sym (life_told row within ∙ ap (λ (b : Bool). if b then lives.Live else life_in (past_of p) (fate_of p row)) not) ∙ alive))
     ],
     λ is. life_told row within ∙ ap (λ (b : Bool). if b then lives.Live else life_in (past_of p) (fate_of p row)) is,
   )
 
-  pub planted_is : Planted s (sheet_of (planted p root opened q)) root
-  planted_is = subst (λ (s : Sheet). Planted s (sheet_of (planted p root opened q)) root) is (record {
+  pub planted_is : Planted s (sheet_of (planted p root f)) root
+  planted_is = subst (λ (s : Sheet). Planted s (sheet_of (planted p root f)) root) is (record {
     rest =
-        let buried = ap (map (buried_in (past_of p))) settles ∙ settled_buried (past_of p) (reached_in (sheet_of p).tree.table root) p.fates.items none_buried in
-        λ i. record (sheet_of (planted p root opened q)) { buried = buried i; opened = counted i };
+        let buried = ap (map (buried_in (past_of p))) settles ∙ enlivened_buried (past_of p) (reached_in (sheet_of p).tree.table root) p.fates.items none_buried in
+        λ i. record (sheet_of (planted p root f)) { buried = buried i; opened = counted i };
     lives = λ row first within.
-        life_at (past_of p) q.fates.items row ∙ (life_after row within
+        life_at (past_of p) f.items row ∙ (life_after row within
         ∙ ap (λ (l : Life). if nat_lt 0 (tally (λ (r : ℕ). r == row) (reached_in (sheet_of p).tree.table root)) then lives.Live else l) (sym (life_at (past_of p) p.fates.items row)));
     live = live_are_reached;
   })

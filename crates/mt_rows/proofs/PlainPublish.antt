@@ -1,11 +1,8 @@
 -- What a publishing store leaves: the rows that are reached are live, and the buried rows are dead.
-use Rattle.mt_rows.proofs.Prelude.{◌≡◌, ℕ, ◌+◌, ◌*◌, ◌<◌, ◌≤◌, Bool, true, false, length, refl, sym, ap, ◌∙◌, subst, inl, inr, arith, length-set, if◌then◌else◌, cases_lt, le-leb, le-ltb, lt-ltb, get_or_past, Kind, Call, Reply, columns, deepest, first_row, Place, Root, Slot, Fate, New, Draft, Live, Buried, State, Table, one_if, Sheet, Rooted, life_of, is_buried, tree_as, with_published, with_record, life_after, IsPlaceToPublish, ChangesRows, MayPublish, Published, life_in, buried_in, past_of, fate_of, sheet_of, IsPlain, enlivened, opens}
+use Rattle.mt_rows.proofs.Prelude.{◌≡◌, ℕ, ◌+◌, ◌<◌, ◌≤◌, ◌==◌, List, Bool, true, false, refl, sym, ap, ◌∙◌, inl, inr, arith, nat_lt, slice_index_or, if◌then◌else◌, cases_lt, le-leb, le-ltb, lt-ltb, Kind, Call, Reply, first_row, Place, Fate, New, Draft, Live, Buried, State, one_if, tally, reached_in, Sheet, Rooted, life_of, is_buried, is_reached, with_published, with_record, life_after, MayPublish, Published, life_in, buried_in, past_of, fate_of, sheet_of, IsPlain, Fated, enlivened}
 use Rattle.mt_rows.specs.declared.rows.Life.TheVariants as lives
-use Rattle.mt_rows.specs.Laws as laws
 use Rattle.mt_rows.proofs.PlainFates.{one_at_most, life_told, buried_told}
-use Rattle.mt_rows.proofs.PlainWalk.{fate_at}
-use Rattle.mt_rows.proofs.PlainRoot.{Before, Reaches, root_reaches}
-use Rattle.mt_rows.proofs.PlainSlot.{slot_reaches}
+use Rattle.mt_rows.proofs.PlainPlant.{enlivened_length, enlivened_fate, enlivened_or_kept}
 use Rattle.mt_rows.proofs.Published.{published_rows}
 
 -- ---- fates once the call has published
@@ -27,36 +24,23 @@ none_buried ended Draft low = refl
 none_buried ended Live low = refl
 none_buried ended (Buried call) low = le-ltb (ended + 1) call (low call refl)
 
-buried_fate : (past : ℕ) (f : Fate) → buried_in past f ≡ true → (call : ℕ) × (f ≡ Buried call)
-buried_fate past New is = absurd (cc)
-buried_fate past Draft is = absurd (cc)
-buried_fate past Live is = absurd (cc)
-buried_fate past (Buried call) is = (call, refl)
+-- ---- the rows then
 
--- ---- the walk at any place
+-- the fates once the rows are live that are reached
+abbrev pub lively : State → Fated
+lively p = record p.fates { items = enlivened p.fates.items (reached_in (sheet_of p).tree.table p.root) }
 
-place_reaches : (b : Before) (place : Place) (word levels : ℕ) → ((r : ℕ) → is_buried b.sheet.buried r ≡ true → (first_row ≤ r) × (r < first_row + b.sheet.tree.rows)) → IsPlaceToPublish b.sheet place
-    → ChangesRows b.sheet (with_published b.sheet.tree place word) → laws.IsTree (tree_as b.kind (with_published b.sheet.tree place word)) → levels ≡ (if opens b.sheet place then deepest else 0)
-    → Reaches (with_published b.sheet.tree place word) b.fates (enlivened (with_published b.sheet.tree place word).table levels word b.fates)
-place_reaches b Root word levels inside at rows tree walks = root_reaches b word levels (omega arith) tree rows
-place_reaches b (Slot row col) word levels inside at rows tree walks =
-    slot_reaches b inside word levels row col at.2 rows tree (
-      (λ opened. let all : levels ≡ deepest = walks ∙ ap (λ (b : Bool). if b then deepest else 0) opened in omega arith),
-      (λ closed. walks ∙ ap (λ (b : Bool). if b then deepest else 0) closed),
-    )
-
--- ---- the rows after the walk
-
--- p with the fates of q, once it has published
-abbrev pub published : State → State → State
-published p q = record p { fates = q.fates; published = true }
+abbrev pub published : State → State
+published p = record p { fates = lively p; published = true }
 
 -- p is what the sheet tells, with the word stored
-module _ (p q : State) (s : Sheet) (kind : Kind) (place : Place) (word levels : ℕ) (call : Call) (reply : Reply) (plain : IsPlain p) (is : sheet_of p ≡ record s { tree = with_published s.tree place word })
-    (may : MayPublish kind s place word call reply) (walks : levels ≡ (if opens s place then deepest else 0)) (walked : q.fates.items ≡ enlivened (sheet_of p).tree.table levels word p.fates.items)
-    (long : length q.fates.items ≡ length p.fates.items) where
+module _ (p : State) (s : Sheet) (kind : Kind) (place : Place) (word : ℕ) (call : Call) (reply : Reply) (plain : IsPlain p) (is : sheet_of p ≡ record s { tree = with_published s.tree place word })
+    (may : MayPublish kind s place word call reply) where
   abbrev after : Rooted
   after = with_published s.tree place word
+
+  abbrev reached : List ℕ
+  reached = reached_in (sheet_of p).tree.table p.root
 
   silent : p.published ≡ false
   silent = ap (λ (s : Sheet). s.published) is ∙ may.before
@@ -73,50 +57,14 @@ module _ (p q : State) (s : Sheet) (kind : Kind) (place : Place) (word levels : 
   low : (row call : ℕ) → fate_of p row ≡ Buried call → call ≤ p.ended + 1
   low row call at = let most = (plain.buried row call at).2 in omega (arith, one_at_most p.in_flight)
 
-  inside : (row : ℕ) → is_buried s.buried row ≡ true → (first_row ≤ row) × (row < first_row + s.tree.rows)
-  inside row buried =
-      let fate = buried_fate (past_of p) (fate_of p row) (sym (buried_are row) ∙ buried) in
-      let rows : p.rows ≡ s.tree.rows = ap (λ (s : Sheet). s.tree.rows) is ∙ published_rows s.tree place word in
-      let size = plain.fates in (
-        (plain.buried row fate.0 fate.1).0,
-        elim (cases_lt row (length p.fates.items)) [ inl within ↦ omega arith | inr beyond ↦ let new = get_or_past p.fates.items row New beyond in let at = fate.1 in absurd (cc) ],
-      )
+  buried_stays : (row call : ℕ) → slice_index_or (enlivened p.fates.items reached) row New ≡ Buried call → fate_of p row ≡ Buried call
+  buried_stays row call at = elim (enlivened_or_kept reached p.fates.items row) [ inl live ↦ absurd (cc) | inr kept ↦ sym kept ∙ at ]
 
-  table_is : (sheet_of p).tree.table ≡ after.table
-  table_is = ap (λ (s : Sheet). s.tree.table) is
-
-  has_after : laws.HasWords (tree_as kind after)
-  has_after = sym (ap (λ (t : Table). length t.words) table_is) ∙ (plain.words ∙ ap (λ (s : Sheet). columns s.tree.table.width * (first_row + s.tree.rows)) is)
-
-  has : (place : Place) → laws.HasWords (tree_as kind (with_published s.tree place word)) → laws.HasWords (tree_as kind s.tree)
-  has Root long = long
-  has (Slot row col) long = sym (length-set s.tree.table.words _ word) ∙ long
-
-  before : Before
-  before = record {
-    kind = kind;
-    sheet = s;
-    past = past_of p;
-    fates = p.fates.items;
-    lives_are = lives_are;
-    buried_are = buried_are;
-    live = may.live;
-    has = has place has_after;
-    tree = may.tree.words;
-  }
-
-  reaches : Reaches after p.fates.items q.fates.items
-  unfolding before
-  reaches = subst (Reaches after p.fates.items) (sym (walked ∙ ap (λ (t : Table). enlivened t levels word p.fates.items) table_is)) (place_reaches before place word levels inside may.at may.rows may.after walks)
-
-  buried_stays : (row call : ℕ) → fate_at q.fates.items row ≡ Buried call → fate_of p row ≡ Buried call
-  buried_stays row call at = elim (reaches row) [ inl here ↦ let live = here.1 in absurd (cc) | inr not ↦ sym not.1 ∙ at ]
-
-  pub published_plain : IsPlain (published p q)
+  pub published_plain : IsPlain (published p)
   published_plain = record {
     few = plain.few;
     words = plain.words;
-    fates = long ∙ plain.fates;
+    fates = enlivened_length reached p.fates.items ∙ plain.fates;
     cleared = plain.cleared;
     room = plain.room;
     calm = λ idle. let in_flight : p.in_flight ≡ true = ap (λ (s : Sheet). s.in_flight) is ∙ may.in_flight in absurd (cc);
@@ -124,24 +72,28 @@ module _ (p q : State) (s : Sheet) (kind : Kind) (place : Place) (word levels : 
     fresh = λ row first idle empty alive. let in_flight : p.in_flight ≡ true = ap (λ (s : Sheet). s.in_flight) is ∙ may.in_flight in absurd (cc);
   }
 
-  fate_low : (row call : ℕ) → fate_at q.fates.items row ≡ Buried call → call ≤ p.ended + 1
+  fate_low : (row call : ℕ) → slice_index_or (enlivened p.fates.items reached) row New ≡ Buried call → call ≤ p.ended + 1
   fate_low row call at = low row call (buried_stays row call at)
 
   ended_is : p.ended ≡ s.ended
   ended_is = ap (λ (s : Sheet). s.ended) is
 
-  lives_after : (row : ℕ) → life_in (p.ended + 1) (fate_at q.fates.items row) ≡ life_after s after row
-  lives_after row = elim (reaches row) [
-    | inl here ↦ ap (life_in (p.ended + 1)) here.1 ∙ rw here.0 refl
-    | inr not ↦
-        ap (life_in (p.ended + 1)) not.1
-        ∙ (unreached_life (past_of p) p.ended (fate_of p row) past_is (low row)
-        ∙ rw not.0 (λ i. if sym (buried_are row) i then lives.Dead (ended_is i + 1) else sym (lives_are row) i))
-  ]
+  reached_is : (row : ℕ) → nat_lt 0 (tally (λ (r : ℕ). r == row) reached) ≡ is_reached after row
+  reached_is row = ap (λ (s : Sheet). is_reached s.tree row) is
 
-  pub published_is : Published s (sheet_of (published p q)) place word call reply
+  lives_after : (row : ℕ) → row < first_row + s.tree.rows → life_in (p.ended + 1) (slice_index_or (enlivened p.fates.items reached) row New) ≡ life_after s after row
+  lives_after row within =
+      let rows : p.rows ≡ s.tree.rows = ap (λ (s : Sheet). s.tree.rows) is ∙ published_rows s.tree place word in
+      let size = plain.fates in
+      ap (life_in (p.ended + 1)) (enlivened_fate reached p.fates.items row (omega arith) ∙ ap (λ (b : Bool). if b then Live else fate_of p row) (reached_is row)) ∙ by (is_reached after row)
+    where
+      by : (b : Bool) → life_in (p.ended + 1) (if b then Live else fate_of p row) ≡ (if b then lives.Live else (if is_buried s.buried row then lives.Dead (s.ended + 1) else life_of s.lives row))
+      by true = refl
+      by false = unreached_life (past_of p) p.ended (fate_of p row) past_is (low row) ∙ (λ i. if sym (buried_are row) i then lives.Dead (ended_is i + 1) else sym (lives_are row) i)
+
+  pub published_is : Published s (sheet_of (published p)) place word call reply
   published_is = record {
-    rest = λ i. record (is i) { published = true; lives = (sheet_of (published p q)).lives; buried = (sheet_of (published p q)).buried; told = with_record (is i).told call reply };
-    lives = λ row first within. life_told (published p q) row ∙ lives_after row;
-    buried = λ row first within. buried_told (published p q) row ∙ none_buried p.ended (fate_at q.fates.items row) (fate_low row);
+    rest = λ i. record (is i) { published = true; lives = (sheet_of (published p)).lives; buried = (sheet_of (published p)).buried; told = with_record (is i).told call reply };
+    lives = λ row first within. life_told (published p) row ∙ lives_after row within;
+    buried = λ row first within. buried_told (published p) row ∙ none_buried p.ended (slice_index_or (enlivened p.fates.items reached) row New) (fate_low row);
   }

@@ -33,13 +33,13 @@ pub use Rattle.mt_layout.specs.Columns.{IsLayout, gap_at, gap_words, item_at, it
 pub use Rattle.mt_layout.specs.Rows.{name_at}
 pub use Rattle.mt_layout.specs.Spans.{BeginsFull}
 pub use Rattle.mt_rows.specs.Drafts.{AreDrafted}
+pub use Rattle.mt_rows.specs.Fates.{Fated, enlivened}
 pub use Rattle.mt_rows.specs.Gaps.{covers}
 pub use Rattle.mt_rows.specs.Laws.{EntryLaw, HasWords, HoleLaw, IsRow, NameLaw, Stands, Tree, covers_all, items_in, kind_on, least_of, least_of_root, longest_below, top_of, words_in}
 pub use Rattle.mt_rows.specs.Levels.{IsBelow, Levels, SameColumns, SameSpans, expand, is_row_of, level, map_of, one_if, tally, times}
 pub use Rattle.mt_rows.specs.Memory.{sheet_in}
-pub use Rattle.mt_rows.specs.OfWords.{IsMadeOf, is_live, renewed, tree_made}
-unfoldable pub use Rattle.mt_rows.specs.OfWords.{walked_fates}
-pub use Rattle.mt_rows.specs.Plain.{IsPlaceOfTree, IsPlain, buried_by, buried_in, enlivened, enlivened_by, fate_of, is_draft, life_in, names_buried, names_of, new_sheet, opens, past_of, sheet_of}
+pub use Rattle.mt_rows.specs.OfWords.{IsMadeOf, tree_made}
+pub use Rattle.mt_rows.specs.Plain.{IsPlaceOfTree, IsPlain, buried_in, fate_of, life_in, names_of, new_sheet, past_of, sheet_of}
 pub use Rattle.mt_rows.specs.PlainWhole.{life_at}
 pub use Rattle.mt_rows.specs.Prelude.{Apart, Call, EndsFull, Fills, Gapped, Inner, Item, Kind, Leaf, Range, Reply, RowKind, Span, Width, acted, columns, dead_mark, deepest, first_row, gap_column, gaps_of, greatest, items_at, kind_width, leaf_range, least_items, longest_in, most_rows, named_kind, named_row, reserved, row_in, row_words, slot_column, slots_of, spans_from}
 pub use Rattle.mt_rows.specs.Publish.{ChangesRows, IsPlaceToPublish, IsReached, IsSlotOf, IsToldKind, KeepsPlace, LiveAreReached, MayFinish, MayPlant, MayPublish, NoneBuried, Planted, Published, SameHoles, StandsAt, is_reached, life_after, map_by, tree_as, tree_on, with_published, with_record}
@@ -48,8 +48,8 @@ pub use Rattle.mt_rows.specs.Sheet.{IsFree, IsPlace, IsWhole, MayBury, OnlyReads
 pub use Rattle.mt_rows.specs.Spans.{Table, base_of, column, inner_of, root_span, row_spans, spans_by, spans_in}
 pub use Rattle.mt_rows.specs.Trees.{by_kind, height_in, height_of, levels_by, map_in, of_first, ranges_of, reached_in, rows_of}
 pub use Rattle.mt_rows.specs.Words.{ArePut, Listed, listed, with_zeros}
-pub use Rattle.mt_rows.specs.declared.plain.Fate.{Fate}
-pub use Rattle.mt_rows.specs.declared.plain.Fate.TheVariants.{Buried, Draft, Live, New}
+pub use Rattle.mt_rows.specs.declared.fates.Fate.{Fate}
+pub use Rattle.mt_rows.specs.declared.fates.Fate.TheVariants.{Buried, Draft, Live, New}
 pub use Rattle.mt_rows.specs.declared.plain.State.{State}
 pub use Rattle.mt_rows.specs.declared.rows.Life.{Life}
 pub use Rattle.mt_rows.specs.declared.rows.Place.{Place}

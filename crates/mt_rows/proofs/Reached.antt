@@ -3,7 +3,7 @@ use Rattle.mt_rows.proofs.Prelude.{◌≡◌, ◌≢◌, ◌⊎◌, ℕ, zero, s
 use Rattle.mt_rows.specs.Sheet as sheet
 use Rattle.mt_rows.proofs.Depth.{rows_by_depth, height_by_depth}
 use Rattle.mt_rows.proofs.Once.{once}
-use Rattle.mt_rows.proofs.Heights.{level_rows}
+use Rattle.mt_rows.proofs.Heights.{level_next, level_rows}
 use Rattle.mt_rows.proofs.InnerKinds.{inner_not_named}
 
 -- ---- one of a list
@@ -130,6 +130,18 @@ tally_place p (x ∷ xs) some = elim (cases_Bool (p x)) [
   | inl passes ↦ (x, inl refl, passes)
   | inr fails ↦ let place = tally_place p xs (let behind : 1 ≤ 0 + tally p xs = subst (λ (b : Bool). 1 ≤ one_if b + tally p xs) fails some in omega arith) in (place.0, inr place.1, place.2)
 ]
+
+all_from : {A : Type 0} (P : A → Type 0) (xs : List A) → ((x : A) → IsOneOf x xs → P x) → AllByRecursion P xs
+all_from P [] f = tt
+all_from P (x ∷ xs) f = (f x (inl refl), all_from P xs (λ y one. f y (inr one)))
+
+-- what holds of each row that stands low enough holds below these
+pub levels_from : (P : ℕ → Span → Type 0) (t : Table) (h : ℕ) (xs : List Span) (k d : ℕ) → h ≡ d + k → ((m : ℕ) (x : Span) → m ≤ k → OnLevel t h xs m x → P m x) → Levels P t k (level t d xs)
+levels_from P t h xs zero d height each = all_from (P zero) (level t d xs) (λ x one. each zero x (omega arith) (record { depth = d; height = height; one = one }))
+levels_from P t h xs (suc k) d height each = (
+  all_from (P (suc k)) (level t d xs) (λ x one. each (suc k) x (omega arith) (record { depth = d; height = height; one = one })),
+  subst (Levels P t k) (level_next t d xs) (levels_from P t h xs k (suc d) (omega arith) (λ m x low on. each m x (omega arith) on)),
+)
 
 pub times_place : (p : ℕ → Span → Bool) (t : Table) (h : ℕ) (xs : List Span) → 1 ≤ times p t h xs → (k : ℕ) × (x : Span) × OnLevel t h xs k x × (p k x ≡ true)
 times_place p t zero xs some = let place = tally_place (p zero) xs some in (zero, place.0, record { depth = zero; height = omega arith; one = place.1 }, place.2)

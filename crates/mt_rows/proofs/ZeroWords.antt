@@ -1,6 +1,5 @@
 -- Words of which only the first are written down: those behind them are 0.
-use Rattle.mt_rows.proofs.Prelude.{◌≡◌, ◌≢◌, ℕ, zero, suc, ◌+◌, ◌-◌, ◌*◌, ◌<◌, ◌≤◌, List, [], ◌∷◌, ◌++◌, length, take, drop, length-append, refl, sym, ap, ◌∙◌, ◌⊎◌, inl, inr, ⊎_elim, arith, get_or-set_other, get_or-set_same, replicate, slice_index, slice_set, slice_range, get_or-eq_default, cases_eq, take_more, get_or-drop, length-drop, get_or_append_left, get_or-append-add, Width, columns, RowKind, slots_of, names_of, with_zeros, ArePut}
-use Rattle.mt_layout.specs.declared.names.RowKind.TheVariants as kinds
+use Rattle.mt_rows.proofs.Prelude.{◌≡◌, ◌≢◌, ℕ, zero, suc, ◌+◌, ◌-◌, ◌<◌, ◌≤◌, List, [], ◌∷◌, ◌++◌, length, length-append, refl, sym, ap, ◌∙◌, ◌⊎◌, inl, inr, ⊎_elim, arith, get_or-set_other, get_or-set_same, replicate, slice_index, slice_set, get_or-eq_default, cases_eq, get_or_append_left, get_or-append-add, with_zeros, ArePut}
 
 -- ---- zeros behind a list
 
@@ -97,24 +96,3 @@ one_more_zero w at within zeros k low = ⊎_elim
 
 pub others_stay : (w before : List ℕ) (at : ℕ) → ((k : ℕ) → at ≤ k → slice_index w k ≡ slice_index before k) → (k : ℕ) → at + 1 ≤ k → slice_index (slice_set w at 0) k ≡ slice_index before k
 others_stay w before at same k high = get_or-set_other w at k 0 0 (λ is. omega arith) ∙ same k (omega arith)
-
--- ---- the words in a row's slots
-
--- one word more
-pub range_more : (w : List ℕ) (from at : ℕ) → from ≤ at → at < length w → slice_range w from (at + 1) ≡ slice_range w from at ++ (slice_index w at ∷ [])
-range_more w from at low within =
-    let next : at + 1 - from ≡ at - from + 1 = omega arith in
-    let there : from + (at - from) ≡ at = omega arith in
-    let inside : at - from < length (drop from w) = omega (arith, length-drop from w) in
-    ap (λ (n : ℕ). take n (drop from w)) next
-    ∙ (take_more (drop from w) (at - from) 0 inside
-    ∙ ap (λ (x : ℕ). take (at - from) (drop from w) ++ (x ∷ [])) (get_or-drop from w (at - from) 0 ∙ ap (slice_index w) there))
-
-pub none_in_range : (w : List ℕ) (from : ℕ) → slice_range w from from ≡ []
-none_in_range w from = let none : from - from ≡ 0 = omega arith in ap (λ (n : ℕ). take n (drop from w)) none
-
-pub names_of_inner : (width : Width) (w : List ℕ) (row : ℕ) (kind : RowKind) → kind ≢ kinds.Leaf
-    → names_of (record { width = width; words = w }) row kind ≡ slice_range w (columns width * row + slots_of width kind) (columns width * row + 2 * slots_of width kind)
-names_of_inner width w row kinds.Leaf inner = absurd (inner refl)
-names_of_inner width w row kinds.Inner inner = refl
-names_of_inner width w row kinds.Gapped inner = refl

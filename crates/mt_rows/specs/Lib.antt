@@ -1,4 +1,5 @@
 pub mod Drafts
+pub mod Fates
 pub mod Gaps
 pub mod Laws
 pub mod Levels

@@ -1,36 +1,12 @@
 -- Rows in memory that are made of given words.
 -- Source: this project's own.
-use Rattle.std.specs.Prelude.{◌≡◌, ℕ, ◌+◌, ◌*◌, ◌/◌, ◌<◌, ◌≤◌, List, ◌++◌, Bool, true, false, length, replicate, if◌then◌else◌}
-use Rattle.mt_rows.specs.Prelude.{Kind, Width, columns, deepest, first_row}
+use Rattle.std.specs.Prelude.{◌≡◌, ℕ, ◌+◌, ◌*◌, ◌/◌, ◌<◌, ◌≤◌, List, ◌++◌, length, replicate, if◌then◌else◌}
+use Rattle.mt_rows.specs.Prelude.{Kind, Width, columns, first_row}
 use Rattle.mt_rows.specs.declared.rows.Life.TheVariants as lives
-use Rattle.mt_rows.specs.declared.plain.Fate.{Fate}
-use Rattle.mt_rows.specs.declared.plain.Fate.TheVariants.{New, Draft, Live, Buried}
-use Rattle.mt_rows.specs.Spans.{Table}
 use Rattle.mt_rows.specs.Trees.{reached_in}
 use Rattle.mt_rows.specs.Sheet.{Sheet, Rooted, life_of}
 use Rattle.mt_rows.specs.Publish.{IsLawfulOf, is_reached}
-use Rattle.mt_rows.specs.Plain.{new_sheet, enlivened}
-
--- ---- fates
-
-abbrev pub is_live : Fate → Bool
-is_live New = false
-is_live Draft = false
-is_live Live = true
-is_live (Buried call) = false
-
--- a draft is new again
-abbrev pub renewed : Fate → Fate
-renewed New = New
-renewed Draft = New
-renewed Live = Live
-renewed (Buried call) = Buried call
-
--- of so many rows, those that are reached from the root word are live; to be walked, all are drafts
-unfoldable pub walked_fates : Table → ℕ → ℕ → List Fate
-walked_fates t root many = enlivened t deepest root (replicate many Draft)
-
--- ---- the rows
+use Rattle.mt_rows.specs.Plain.{new_sheet}
 
 abbrev pub tree_made : Width → ℕ → List ℕ → Rooted
 tree_made width root words = record {

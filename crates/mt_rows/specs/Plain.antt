@@ -1,18 +1,18 @@
 -- What rows in memory stand for. Source: this project's own.
-use Rattle.std.specs.Prelude.{◌≡◌, ◌≢◌, ℕ, ◌+◌, ◌-◌, ◌*◌, ◌^◌, ◌<◌, ◌≤◌, Bool, true, false, Option, Some, None, List, [], zero, suc, length, map, replicate, nat_le, nat_lt, slice_index_or, slice_set, if◌then◌else◌}
-use Rattle.std.specs.List.{fold, slice_range}
-use Rattle.mt_rows.specs.Prelude.{Width, columns, most_rows, first_row, RowKind, slots_of, row_in, named_kind, named_row}
+use Rattle.std.specs.Prelude.{◌≡◌, ◌≢◌, ℕ, ◌+◌, ◌-◌, ◌*◌, ◌^◌, ◌<◌, ◌≤◌, Bool, true, false, Some, None, List, [], length, map, replicate, nat_le, nat_lt, slice_index_or, if◌then◌else◌}
+use Rattle.std.specs.List.{slice_range}
+use Rattle.mt_rows.specs.Prelude.{Width, columns, most_rows, first_row, RowKind, slots_of}
 use Rattle.mt_layout.specs.declared.names.RowKind.TheVariants as kinds
 use Rattle.mt_rows.specs.declared.rows.Place.{Place}
 use Rattle.mt_rows.specs.declared.rows.Place.TheVariants.{Root, Slot}
 use Rattle.mt_rows.specs.declared.rows.Life.{Life}
 use Rattle.mt_rows.specs.declared.rows.Life.TheVariants as lives
-use Rattle.mt_rows.specs.declared.plain.Fate.{Fate}
-use Rattle.mt_rows.specs.declared.plain.Fate.TheVariants.{New, Draft, Live, Buried}
+use Rattle.mt_rows.specs.declared.fates.Fate.{Fate}
+use Rattle.mt_rows.specs.declared.fates.Fate.TheVariants.{New, Draft, Live, Buried}
 use Rattle.mt_rows.specs.declared.plain.State.{State}
 use Rattle.mt_rows.specs.Spans.{Table, base_of}
 use Rattle.mt_rows.specs.Levels.{one_if}
-use Rattle.mt_rows.specs.Sheet.{Rooted, Sheet, IsPlace, is_buried, word_at}
+use Rattle.mt_rows.specs.Sheet.{Rooted, Sheet, IsPlace}
 
 -- A row that a call buried is dead once that call has published or ended, as the first `past` calls have.
 abbrev pub life_in : ℕ → Fate → Life
@@ -41,7 +41,7 @@ sheet_of p = record {
   published = p.published;
   lives = map (life_in (past_of p)) p.fates.items;
   buried = map (buried_in (past_of p)) p.fates.items;
-  opened = p.opened;
+  opened = p.fates.opened;
   cleared = p.cleared;
   shared = false;
   scan = p.scan;
@@ -82,45 +82,10 @@ new_sheet width rows = record {
   told = None;
 }
 
--- ---- the drafts that are reached from a word
-
-abbrev pub is_draft : Fate → Bool
-is_draft New = false
-is_draft Draft = true
-is_draft Live = false
-is_draft (Buried call) = false
-
 -- the words in the slots of an inner row, which name its children
 abbrev pub names_of : Table → ℕ → RowKind → List ℕ
 names_of t row kinds.Leaf = []
 names_of t row kind = slice_range t.words (base_of t row + slots_of t.width kind) (base_of t row + 2 * slots_of t.width kind)
-
-abbrev pub enlivened_by : Table → (ℕ → List Fate → List Fate) → Option RowKind → ℕ → List Fate → List Fate
-enlivened_by t below None row fates = fates
-enlivened_by t below (Some kind) row fates =
-    if is_draft (slice_index_or fates row New)
-    then fold (λ (fs : List Fate) (word : ℕ). below word fs) (slice_set fates row Live) (names_of t row kind)
-    else fates
-
--- A draft that a word names is live, and so are the drafts below it, at most so many levels deep.
-abbrev pub enlivened : Table → ℕ → ℕ → List Fate → List Fate
-enlivened t zero word fates = fates
-enlivened t (suc depth) word fates = enlivened_by t (enlivened t depth) (named_kind word) (row_in word) fates
-
--- the row, where there is one, was buried by a call behind the first `past`
-abbrev pub names_buried : ℕ → List Fate → Option ℕ → Bool
-names_buried past fates None = false
-names_buried past fates (Some row) = buried_in past (slice_index_or fates row New)
-
--- the word names a row that the call in flight has buried
-abbrev pub buried_by : Sheet → Option ℕ → Bool
-buried_by s None = false
-buried_by s (Some row) = is_buried s.buried row
-
--- drafts may be reached by a word that is stored at the place
-abbrev pub opens : Sheet → Place → Bool
-opens s Root = true
-opens s (Slot row col) = buried_by s (named_row (word_at s.tree row col))
 
 abbrev pub IsPlaceOfTree : Rooted → Place → Type 0
 IsPlaceOfTree t Root = Unit {0}

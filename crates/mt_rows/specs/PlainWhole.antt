@@ -3,8 +3,8 @@ use Rattle.std.specs.Prelude.{◌≡◌, ℕ, zero, suc, ◌+◌, ◌≤◌, Boo
 use Rattle.std.proofs.Common.{sym, ◌∙◌, subst}
 use Rattle.std.proofs.lemmas.List.{length-map}
 use Rattle.mt_rows.specs.declared.rows.Life.TheVariants as lives
-use Rattle.mt_rows.specs.declared.plain.Fate.{Fate}
-use Rattle.mt_rows.specs.declared.plain.Fate.TheVariants.{New, Draft, Live, Buried}
+use Rattle.mt_rows.specs.declared.fates.Fate.{Fate}
+use Rattle.mt_rows.specs.declared.fates.Fate.TheVariants.{New, Draft, Live, Buried}
 use Rattle.mt_rows.specs.declared.plain.State.{State}
 use Rattle.mt_rows.specs.declared.plain.PlainRows.{PlainRows}
 use Rattle.mt_rows.specs.Levels.{one_if}

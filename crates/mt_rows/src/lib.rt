@@ -1,6 +1,7 @@
 //! The words of a tree's rows: what they stand for, and the trait through which they are read and written.
 #![tactic(auto)]
 
+mod fates;
 mod items;
 mod kinds;
 pub mod laws;

@@ -137,14 +137,6 @@ impl Words {
         }
     }
 
-    /// The words up to the last one that was written.
-    #[tactic(auto, using(crate::proofs::ZeroWords::zeros_behind))]
-    pub(crate) fn written(&self) -> &[u64]
-        ensures { (at : ℕ) → slice_index result.now at ≡ slice_index self.now.items at }
-    {
-        self.written.as_slice()
-    }
-
     /// All words, each written down.
     pub(crate) fn into_vec(self) -> Vec<u64>
         ensures { result.items ≡ self.items }

@@ -39,9 +39,8 @@ pub use Rattle.mt_rows.proofs.Loads.{reads_on, same_tree}
 pub use Rattle.mt_rows.proofs.Longest.{longest_below-append, longest_none, longest_shared}
 pub use Rattle.mt_rows.proofs.NineLevels.{nine_levels}
 pub use Rattle.mt_rows.proofs.Once.{once_in}
-pub use Rattle.mt_rows.proofs.PlainReached.{levels_from}
 pub use Rattle.mt_rows.proofs.Published.{published_rows, published_width}
-pub use Rattle.mt_rows.proofs.Reached.{IsOneOf, OnLevel, all_of_each, all_one_of, below_on_level, height_is, here_le, level_is_below, levels_at, on_level_law, on_level_reached, one_of_either, one_of_expand, one_of_get, one_of_left, one_of_parts, one_of_right, one_place, stands_at, tally_place, tally_some, times_in_once, times_reached}
+pub use Rattle.mt_rows.proofs.Reached.{IsOneOf, OnLevel, all_of_each, all_one_of, below_on_level, height_is, here_le, level_is_below, levels_at, levels_from, on_level_law, on_level_reached, one_of_either, one_of_expand, one_of_get, one_of_left, one_of_parts, one_of_right, one_place, stands_at, tally_place, tally_some, times_in_once, times_reached}
 pub use Rattle.mt_rows.proofs.RowGaps.{AreGapsAt, covers_it, gaps_read}
 pub use Rattle.mt_rows.proofs.RowLaws.{name_some, others_keep, row_keeps, row_put, slot_fits}
 pub use Rattle.mt_rows.proofs.Settled.{Implies, stays_in_place}

@@ -9,8 +9,9 @@ returns c =
     let lives = buried_lives p (sheet_in c.args.self.now) c.args.row refl c.requires in
     let buried = buried_buried p (sheet_in c.args.self.now) c.args.row refl c.requires in
     let words = c.set.ensures ∙ (λ i. slice_set p.words.items (c.place_of-at.ensures i) (mark i)) in
-    λ i. record (sheet_of p) {
+    (λ i. sheet_of (record p { words = c.set.new.self; fates = c.turn.ensures i }))
+    ∙ (λ i. record (sheet_of p) {
       tree = record { rows = p.rows; table = record { width = p.width; words = words i }; root = p.root };
       lives = lives i;
       buried = buried i;
-    }
+    })
