@@ -3,9 +3,10 @@
  *
  * With one thread: maple_copy into another tree, which takes its place.
  *
- * With threads: one writer, and readers that take no lock. The writer copies the tree into one with twice the nodes. It opens a user of the new tree for each reader, and then publishes the number of the newest tree. A reader looks
- * at that number before it reads. Where it has risen the reader leaves the old tree for the new one; the old tree's memory is given back
- * with its last user. What a reader found in the old tree was true until then.
+ * With threads: one writer, and readers that take no lock. The writer copies the tree into one with twice the nodes. It opens a user of the
+ * new tree for each reader, and then publishes the number of the newest tree. A reader looks at that number before it reads. Where it has
+ * risen the reader leaves the old tree for the new one; the old tree's memory is given back with its last user. What a reader found in the
+ * old tree was true until then.
  *     cc grow.c $(pkg-config --cflags --libs maple) -pthread && ./a.out */
 #include <errno.h>
 #include <inttypes.h>
