@@ -1,6 +1,6 @@
 //! A user of a shared tree as C has it.
 
-ghost use Rattle.std.specs.Prelude.{◌≡◌, ◌==◌, ℕ, Option, Some, None, MatchOption, Unit};
+ghost use Rattle.std.specs.Prelude.{◌≡◌, ◌==◌, ℕ, Option, Some, None, MatchOption};
 ghost use Rattle.mt_c.specs.Owned.{is_kept, refusal, unopened};
 
 use crate::kept_user::KeptUser;
