@@ -116,6 +116,7 @@ impl UserHandle {
     pub fn take(&mut self, alloc: Global) -> Option<Box<User>>
         ensures user { MatchOption result (self.old.kept.value ≡ None) (λ whole. self.old.kept.value ≡ Some whole.value) }
         ensures same { MatchOption result (self.new ≡ self.old) (λ _. Unit {0}) }
+        ensures state { MatchOption result (Unit {0}) (λ _. self.new.state ≡ 2) }
         ensures closed { self.new.kept.value ≡ None }
     {
         if self.state != OPEN {
