@@ -1,5 +1,5 @@
 -- A call at work was made by its pass, and the rows that a read saw lie behind the lock again.
-use Rattle.mt_tree.proofs.Prelude.{◌≡◌, ◌≢◌, ℕ, ◌+◌, ◌/◌, ◌≤◌, ◌<◌, ◌∷◌, ◌++◌, List, [], Bool, true, false, Option, Some, None, length, refl, sym, ap, ◌∙◌, subst, inl, inr, arith, ◌↔◌, IfErr, IfSome, IsOk, Result, Ok, Err, if◌then◌else◌, append-nil, length-map, length-append, Call, StorePre, Query, Kind, Range, Holder, Reply, Shortage, acted, answer, is_invalid, replied, Record, first_met, over, IsShort, Saw, Read, Wrote, places, with_records, holder_of, saw_wrote, still_short, Parts, DidOrLacked, IsEnded, TellsBook, is_refusal, HasRoom, IsScanned, IsShortOf, Book, after_reclaim, unscanned, map_by, IsRealShortage, OnlyReads, Rooted, Sheet, Pass, Shape, record_of, records_of, pen_sheet, Identity, pass_in, places_last, Tools, Tree, Behind, behind_lock, IsOnlyRead, IsReady, IsStoreReply, IsLeastBy, map_seen, opened, passes_of, place_of, IsShortNow, NamesPass, WasPrepared, pass_of_told, shown_pass, AreBack}
+use Rattle.mt_tree.proofs.Prelude.{◌≡◌, ◌≢◌, ℕ, ◌+◌, ◌/◌, ◌≤◌, ◌<◌, ◌∷◌, ◌++◌, List, [], Bool, true, false, Option, Some, None, length, refl, sym, ap, ◌∙◌, subst, inl, inr, arith, ◌↔◌, IfErr, IfSome, IsOk, Result, Ok, Err, if◌then◌else◌, append-nil, length-map, length-append, Call, StorePre, Query, Kind, Range, Holder, Reply, Shortage, acted, answer, is_invalid, replied, Record, first_met, over, IsShort, Saw, Read, Wrote, places, holder_of, saw_wrote, still_short, Parts, DidOrLacked, IsEnded, TellsBook, is_refusal, HasRoom, IsScanned, IsShortOf, Book, after_reclaim, unscanned, map_by, IsRealShortage, OnlyReads, Rooted, Sheet, Pass, Shape, record_of, records_of, pen_sheet, Identity, pass_in, places_last, Tools, Tree, Behind, behind_lock, IsOnlyRead, IsReady, IsStoreReply, IsLeastBy, map_seen, opened, passes_of, place_of, IsShortNow, NamesPass, WasPrepared, pass_of_told, shown_pass, AreBack}
 use Rattle.mt_base.specs.declared.replies.Reply.TheVariants as replies
 use Rattle.mt_base.specs.Passes as known
 use Rattle.mt_tree.proofs.AtWork.{AtWork, at_rest, count_is, passes_is, told_at, told_is, told_after, told_more, tree_is, map_shown, shape_is, same_parts, same_shape}

@@ -1,5 +1,5 @@
 -- A pass that has gone for the lock is one of its tree's, and knows what it knew.
-use Rattle.mt_tree.proofs.Prelude.{◌≡◌, ℕ, zero, suc, ◌≤◌, ◌<◌, List, [], ◌∷◌, Option, Some, Result, Ok, Err, IfOk, IfErr, length, map, set, get_or, refl, sym, ap, ◌∙◌, subst, arith, All, slice_get, Call, Pass, pass_in, steps_made, turn_seat, IsSeatedAt, tried, Done, Worn, Tree, Behind, after_show, opened, limit_of, AreAll, IsPassOf, IsWorn, NamesPass, Rests, TriesOnce, WasAnsweredBy, WasMade, first_tried}
+use Rattle.mt_tree.proofs.Prelude.{◌≡◌, ℕ, zero, suc, ◌≤◌, ◌<◌, List, [], ◌∷◌, Some, Result, Ok, Err, IfOk, IfErr, length, map, set, get_or, refl, sym, ap, ◌∙◌, subst, arith, slice_get, Call, Pass, pass_in, steps_made, turn_seat, IsSeatedAt, tried, Done, Worn, Tree, Behind, after_show, opened, limit_of, AreAll, IsPassOf, IsWorn, NamesPass, Rests, TriesOnce, WasAnsweredBy, WasMade, first_tried}
 use Rattle.mt_base.specs.Passes as known
 use Rattle.mt_tree.proofs.Lists.{some_same}
 
