@@ -2,7 +2,10 @@
 -- Source: this project's own.
 use Rattle.std.specs.Prelude.{◌≡◌, ◌⊎◌, ℕ, ◌+◌, ◌*◌, ◌<◌, ◌≤◌, Bool, true, false, List, [], ◌++◌, All, Option, length}
 use Rattle.mt_engine.specs.Prelude.{Call, Store, StorePre, Insert, Erase, Alloc, Ralloc, Gap, Rgap, Clear, Kind, Range, Reply, Shortage, acted, Wants, IsRefused, is_exact_store, columns, most_taken, first_row, Book, Held, live_count, after_reclaim, Leaf, slot_column, slots_of, leaf_in, Life, Dead, height_in, Rooted, Sheet, IsScan, RoseUpTo, life_of, limits_of, with_word, IsToldKind, MayFinish, IsRealShortage, WasScanned, finished, map_by, with_record, IsConsistent}
+use Rattle.mt_base.specs.Width.{greatest}
 use Rattle.mt_base.specs.declared.replies.Reply.TheVariants as answers
+use Rattle.mt_path.specs.Paths.{path_in, loads_on}
+use Rattle.mt_rows.specs.Sheet.{ReadsUpTo}
 
 -- what an engine stands for
 pub record Parts : Type 0 where
@@ -141,6 +144,10 @@ pub record OnlySought (s s' : Sheet) (book book' : Book) : Type 0 where
   pub tree : s'.tree ≡ s.tree
   pub same_book : book' ≡ book
   pub reads : RoseUpTo (most_searched s.tree) s.reads s'.reads
+
+-- A load of an index in the tree makes no more loads than the way to it takes.
+abbrev pub LoadsItsWay : ℕ → Sheet → Sheet → Type 0
+LoadsItsWay index s s' = index ≤ greatest s.tree.table.width → ReadsUpTo (loads_on (path_in s.tree.table s.tree.root index)) s s'
 
 -- the words with another entry in the slot in which an index stands
 abbrev pub with_entry_at : Rooted → ℕ → ℕ → Rooted

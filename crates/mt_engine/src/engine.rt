@@ -6,11 +6,10 @@ ghost use Rattle.mt_base.specs.declared.calls.Query.TheVariants.{Load};
 ghost use Rattle.mt_base.specs.Call.{answer};
 ghost use Rattle.mt_base.specs.Nodes.{IsMade, one_call_more};
 ghost use Rattle.mt_base.specs.Width.{greatest};
-ghost use Rattle.mt_path.specs.Paths.{path_in, loads_on};
 ghost use Rattle.mt_rows.specs.Publish.{map_by};
 ghost use Rattle.mt_rows.specs.Sheet.{OnlyReads, ReadsUpTo, limits_of};
 ghost use Rattle.mt_rows.specs.Trees.{height_in};
-ghost use Rattle.mt_engine.specs.Engine.{IsIdle, IsApplied};
+ghost use Rattle.mt_engine.specs.Engine.{IsIdle, IsApplied, LoadsItsWay};
 ghost use Rattle.mt_engine.specs.Heights.{HasHeight};
 ghost use Rattle.mt_engine.specs.Prepared.{IsPrestored};
 ghost use Rattle.mt_engine.specs.Rooms.{HasRoom, IsScanned, IsShortOf};
@@ -171,7 +170,7 @@ impl<R: Rows> Engine<R> {
     pub fn load(&mut self, index: u64) -> Option<u64>
         ensures entry { result ≡ option_map (λ r. r.entry) (answer (map_by self.old.sheet.tree) (Load index)) }
         ensures rest { OnlyReads self.old.sheet self.new.sheet }
-        ensures reads { index ≤ greatest self.old.sheet.tree.table.width → ReadsUpTo (loads_on (path_in self.old.sheet.tree.table self.old.sheet.tree.root index)) self.old.sheet self.new.sheet }
+        ensures reads { LoadsItsWay index self.old.sheet self.new.sheet }
         ensures book { self.new.book ≡ self.old.book }
         ensures kind { self.new.kind ≡ self.old.kind }
     {

@@ -9,7 +9,7 @@ ghost use Rattle.mt_list.specs.Places.{up_to, down_to};
 ghost use Rattle.mt_rows.specs.Publish.{IsTreeOf, map_by};
 ghost use Rattle.mt_rows.specs.Sheet.{OnlyReads, ReadsUpTo};
 ghost use Rattle.mt_path.specs.Handles.{handle_in, IsHandleOf};
-ghost use Rattle.mt_path.specs.Paths.{path_in, loads_on};
+ghost use Rattle.mt_engine.specs.Engine.{LoadsItsWay};
 ghost use Rattle.mt_engine.specs.MapSpans.{range_of};
 ghost use Rattle.mt_engine.specs.Nearest.{nearest_from, nearest_up_to};
 ghost use Rattle.mt_engine.specs.RangeWalks.{range_at};
@@ -99,7 +99,7 @@ fn load<R: Rows>(rows: &mut R, index: u64) -> Option<Range>
     requires tree { (kind : Kind) × IsTreeOf (R.sheet rows.old).tree kind }
     ensures answer { result ≡ answer (map_by (R.sheet rows.old).tree) (Load index) }
     ensures rest { OnlyReads (R.sheet rows.old) (R.sheet rows.new) }
-    ensures reads { index ≤ greatest (R.sheet rows.old).tree.table.width → ReadsUpTo (loads_on (path_in (R.sheet rows.old).tree.table (R.sheet rows.old).tree.root index)) (R.sheet rows.old) (R.sheet rows.new) }
+    ensures reads { LoadsItsWay index (R.sheet rows.old) (R.sheet rows.new) }
 {
     if index > top_of(rows) {
         return None;
@@ -116,7 +116,7 @@ pub fn entry_at<R: Rows>(rows: &mut R, index: u64) -> Option<u64>
     requires tree { (kind : Kind) × IsTreeOf (R.sheet rows.old).tree kind }
     ensures entry { result ≡ option_map (λ r. r.entry) (answer (map_by (R.sheet rows.old).tree) (Load index)) }
     ensures rest { OnlyReads (R.sheet rows.old) (R.sheet rows.new) }
-    ensures reads { index ≤ greatest (R.sheet rows.old).tree.table.width → ReadsUpTo (loads_on (path_in (R.sheet rows.old).tree.table (R.sheet rows.old).tree.root index)) (R.sheet rows.old) (R.sheet rows.new) }
+    ensures reads { LoadsItsWay index (R.sheet rows.old) (R.sheet rows.new) }
 {
     load(rows, index).map(|range| range.entry)
 }

@@ -1,4 +1,5 @@
-use Rattle.mt_engine.proofs.Prelude.{◌≤◌, ap, subst, ◌∙◌, option_map, Range, Load, answer, greatest, path_in, loads_on, ReadsUpTo, map_by, Parts}
+use Rattle.mt_engine.proofs.Prelude.{ap, subst, ◌∙◌, option_map, Range, Load, answer, map_by, Parts}
+use Rattle.mt_engine.specs.Engine.{LoadsItsWay}
 use Rattle.mt_engine.proofs.Measured.{measured_if_read}
 use Rattle.mt_engine.proofs.engine.Engine.load.Goals as goal
 
@@ -9,6 +10,4 @@ pub returns-clause-entry : goal.returns-clause-entry
 returns-clause-entry g c = c.entry_at.ensures.entry ∙ ap (λ (e : Parts). option_map (λ (r : Range). r.entry) (answer (map_by e.sheet.tree) (Load c.args.index))) c.self.view_is
 
 pub returns-clause-reads : goal.returns-clause-reads
-returns-clause-reads g c =
-    subst (λ (e : Parts). c.args.index ≤ greatest e.sheet.tree.table.width → ReadsUpTo (loads_on (path_in e.sheet.tree.table e.sheet.tree.root c.args.index)) e.sheet (g.R.Rows.sheet c.entry_at.new.rows))
-    c.self.view_is c.entry_at.ensures.reads
+returns-clause-reads g c = subst (λ (e : Parts). LoadsItsWay c.args.index e.sheet (g.R.Rows.sheet c.entry_at.new.rows)) c.self.view_is c.entry_at.ensures.reads
