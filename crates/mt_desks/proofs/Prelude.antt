@@ -20,7 +20,8 @@ pub use Rattle.mt_linearize.proofs.FewCalls.{line_calls, lines_of_lanes, numbers
 pub use Rattle.mt_linearize.proofs.Knowing.{leads_onward}
 pub use Rattle.mt_linearize.proofs.Leading.{leads_last, leads_on, leads_one, learns_none, saw_learns, stands_otherwise}
 pub use Rattle.mt_linearize.proofs.LineSteps.{done_each}
-pub use Rattle.mt_linearize.proofs.Lists.{both, every, same_some, set_here, set_there}
+pub use Rattle.mt_log.proofs.PlacesSet.{set_here, set_there}
+pub use Rattle.mt_linearize.proofs.Lists.{both, every, same_some}
 pub use Rattle.mt_linearize.proofs.Stretches.{named_there, next_lane, one_declared, placed_there}
 pub use Rattle.mt_linearize.proofs.Totals.{sum_same}
 pub use Rattle.mt_linearize.specs.Gone.{sum_below}

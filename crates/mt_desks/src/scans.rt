@@ -3,37 +3,15 @@
 ghost use Rattle.std.specs.Prelude.{◌≡◌, ℕ, ◌+◌, ◌*◌, ◌<◌, ◌≤◌, None, Option, vec_len, vec_capacity};
 ghost use Rattle.mt_base.specs.Passes.{Pass};
 ghost use Rattle.mt_log.specs.declared.lines.Item.{Item};
-ghost use Rattle.mt_log.specs.Run.{find_at, shown, shown_range};
+ghost use Rattle.mt_log.specs.Run.{find_at, shown};
 ghost use Rattle.mt_desks.specs.Scans.{IsLooked, IsScanDone, KeepsOne};
 ghost use Rattle.mt_desks.specs.Walks.{OpensOnce, place_after};
 
 use crate::shared::{Passage, Shared};
 use crate::walks::Walks;
 use mt_base::{Query, Range};
-use mt_log::{Answer, Entry, Said};
+use mt_log::{Answer, Entry, Said, shown};
 use std::sync::Wait;
-
-/// What a query is told of a range: a load is told its entry alone.
-fn told_of(query: &Query, range: Range) -> Answer
-    ensures { result ≡ shown_range query.now range }
-{
-    match query {
-        Query::Load { .. } => Answer::Entry(range.entry),
-        Query::Find { .. } | Query::Next { .. } | Query::Prev { .. } | Query::Rfind { .. } => {
-            Answer::Range(range)
-        }
-    }
-}
-
-/// What a query is told.
-fn shown(query: &Query, value: Option<Range>) -> Answer
-    ensures { result ≡ shown query.now value }
-{
-    match value {
-        Some(range) => told_of(query, range),
-        None => Answer::None,
-    }
-}
 
 /// What a find of a scan is told, wherever it looks from.
 fn found(value: Option<Range>) -> Answer

@@ -1,5 +1,5 @@
 -- Of each one, and of each two, of a list, and of a list one of whose places is set.
-use Rattle.mt_linearize.proofs.Prelude.{◌≡◌, ◌≢◌, ℕ, zero, suc, List, [], ◌∷◌, ◌++◌, Some, slice_get, slice_set, arith, refl, ap, AllByRecursion, AllPairs, All-from_recursion, AllPairs-cons, all_join, Pairs}
+use Rattle.mt_linearize.proofs.Prelude.{◌≡◌, List, [], ◌∷◌, ◌++◌, Some, arith, AllByRecursion, AllPairs, All-from_recursion, AllPairs-cons, all_join, Pairs}
 
 pub same_some : {X : Type 0} (x y : X) → Some x ≡ Some y → x ≡ y
 same_some x y e = cc
@@ -30,17 +30,3 @@ pairs_append R (x ∷ xs) ys h k across = (all_join (R x) xs ys h.0 across.0, pa
 pub pairs_all : {X : Type 0} (R : X → X → Type 0) (xs : List X) → Pairs R xs → AllPairs R xs
 pairs_all R [] h = λ i j d l m. absurd (omega arith)
 pairs_all R (x ∷ xs) h = AllPairs-cons R x xs (All-from_recursion (R x) xs h.0) (pairs_all R xs h.1)
-
--- ---- one place of a list is set
-
-pub set_here : {X : Type 0} (xs : List X) (i : ℕ) (x y : X) → slice_get xs i ≡ Some x → slice_get (slice_set xs i y) i ≡ Some y
-set_here [] i x y is = absurd (cc)
-set_here (z ∷ xs) zero x y is = refl
-set_here (z ∷ xs) (suc i) x y is = set_here xs i x y is
-
-pub set_there : {X : Type 0} (xs : List X) (i j : ℕ) (y : X) → j ≢ i → slice_get (slice_set xs i y) j ≡ slice_get xs j
-set_there [] i j y apart = refl
-set_there (z ∷ xs) zero zero y apart = absurd (apart refl)
-set_there (z ∷ xs) zero (suc j) y apart = refl
-set_there (z ∷ xs) (suc i) zero y apart = refl
-set_there (z ∷ xs) (suc i) (suc j) y apart = set_there xs i j y (λ same. apart (ap suc same))

@@ -3,7 +3,8 @@ use Rattle.mt_linearize.proofs.Prelude.{◌≡◌, ◌⊎◌, ℕ, ◌+◌, ◌<
 use Rattle.mt_linearize.proofs.Informed.{informed_are_settled}
 use Rattle.mt_linearize.proofs.LanePasses.{some_at}
 use Rattle.mt_linearize.proofs.Leading.{learns_none}
-use Rattle.mt_linearize.proofs.Lists.{same_some, set_here, set_there}
+use Rattle.mt_log.proofs.PlacesSet.{set_here, set_there}
+use Rattle.mt_linearize.proofs.Lists.{same_some}
 use Rattle.mt_linearize.proofs.Playing.{KnownAt, Replaced, call_makes, count_makes, known_at, known_of, one_step, read_makes}
 use Rattle.mt_linearize.proofs.Running.{phase_ran, ran_is_run}
 use Rattle.mt_linearize.proofs.Starting.{copy_ran, empty_ran, idle, nothing_ran, pushed}

@@ -6,6 +6,7 @@ pub mod LogsRead
 pub mod Padding
 pub mod Parts
 pub mod Pieces
+pub mod PlacesSet
 pub mod PrintedItems
 pub mod PrintedLines
 pub mod PrintedNumbers

@@ -1,6 +1,7 @@
 //! The log that the program reads, the transcript that it writes, and when a transcript is a run of a log.
 #![tactic(auto)]
 
+mod answers;
 mod areas;
 mod between_phases;
 mod cuts;
@@ -20,6 +21,7 @@ mod rendering;
 mod transcripts;
 mod trees;
 
+pub use answers::shown;
 pub use faults::{LogError, Why};
 pub use line_ends::{LineEnd, ROOM};
 pub use lines::{Item, Line, Lines, Log};

@@ -24,7 +24,8 @@ pub use Rattle.mt_linearize.proofs.Knowing.{leads_onward}
 pub use Rattle.mt_linearize.proofs.LanePasses.{all_at, some_at}
 pub use Rattle.mt_linearize.proofs.LanesPhase.{lanes_phase}
 pub use Rattle.mt_linearize.proofs.Leading.{learns_none}
-pub use Rattle.mt_linearize.proofs.Lists.{every, same_some, set_here}
+pub use Rattle.mt_log.proofs.PlacesSet.{set_here}
+pub use Rattle.mt_linearize.proofs.Lists.{every, same_some}
 pub use Rattle.mt_linearize.proofs.Running.{phase_ran, ran_is_run}
 pub use Rattle.mt_linearize.proofs.Starting.{copy_ran, empty_ran, new_is_settled, still}
 pub use Rattle.mt_linearize.proofs.Stretches.{asked_behind, asked_more, done_append, lane_more, phase_append, phase_more, stepped_more, stretch_apart, trees_behind, trees_more}

@@ -2,7 +2,7 @@
 
 ghost use Rattle.std.specs.Prelude.{◌≡◌, ◌<◌, ◌≤◌, ◌-◌, ◌^◌, ℕ, All, [], map, length, IfOk};
 ghost use Rattle.mt_base.specs.Width.{most_rows};
-ghost use Rattle.mt_log.specs.Run.{IsRun, shown_range};
+ghost use Rattle.mt_log.specs.Run.{IsRun};
 ghost use Rattle.mt_log.specs.Trees.{IsReadable};
 ghost use Rattle.mt_sequential.specs.Playing.{IsPlayed, listing_of};
 
@@ -10,7 +10,7 @@ use crate::maps::Plain;
 use crate::scans::{find_at, place_behind, place_within};
 use mt_base::{Call, Kind, NoMemory, Query, Range};
 use mt_log::{
-    Answer, Entries, Entry, Item, Line, Listing, Listings, Log, RangeList, Said, Transcript, Word,
+    Entries, Entry, Item, Line, Listing, Listings, Log, RangeList, Said, Transcript, Word, shown,
 };
 use std::alloc::Global;
 use std::marker::Model;
@@ -106,10 +106,7 @@ impl<M: Plain> Played<M> {
         ensures told { OnOk result (entries.new.items ≡ entries.old.items ++ read_entry line self.old query.now ∷ []) }
     {
         let found = self.map.ask(query);
-        let value = match found {
-            Some(range) => told_of(query, range),
-            None => Answer::None,
-        };
+        let value = shown(query, found);
         let said = Said::Got {
             lo: self.calls,
             hi: self.calls,
@@ -153,18 +150,6 @@ impl<M: Plain> Played<M> {
             kind: self.kind,
             ranges,
         })
-    }
-}
-
-/// What a query is told of a range: a load is told its entry alone.
-fn told_of(query: &Query, range: Range) -> Answer
-    ensures { result ≡ shown_range query.now range }
-{
-    match query {
-        Query::Load { .. } => Answer::Entry(range.entry),
-        Query::Find { .. } | Query::Next { .. } | Query::Prev { .. } | Query::Rfind { .. } => {
-            Answer::Range(range)
-        }
     }
 }
 

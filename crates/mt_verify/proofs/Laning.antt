@@ -1,5 +1,6 @@
 -- All lanes go through the maps of a tree.
 use Rattle.mt_verify.proofs.Prelude.{◌≡◌, ◌≢◌, ℕ, zero, suc, ◌+◌, ◌<◌, ◌≤◌, true, List, [], ◌∷◌, Option, Some, None, length, slice_get, slice_set, refl, sym, ap, ◌∙◌, subst, inl, inr, arith, option_map, cases_lt, fold_more, slice_get_within, slice_get-map, none-some, same_Some, get_or_from_slice_get, Kind, Range, Contents, Look, Noted, map_after_noted, map_of_noted, ArePickedBelow, IsStuck, Lane, opened_of, IsAnsweredAt, AreAnswered, AreOn, SomeStuck, looks_of, AllLeast, SomeHasNone, AreWithin, SomeWaits, AreLanesDone, AreFresh}
+use Rattle.mt_log.proofs.PlacesSet.{set_here, set_there}
 use Rattle.mt_verify.proofs.LeastNumbers.{picked_is_least, stuck_has_none}
 
 -- of these lanes the first so many have gone through this number as well
@@ -7,20 +8,6 @@ pub record AreGoing (m : ℕ → List Range) (number count : ℕ) (lanes : List 
   pub gone : (j : ℕ) (t : Lane) → j < count → slice_get lanes j ≡ Some t
       → ArePickedBelow m (number + 1) (number + 1) t.looks t.points
   pub rest : (j : ℕ) (t : Lane) → count ≤ j → slice_get lanes j ≡ Some t → ArePickedBelow m number number t.looks t.points
-
--- ---- one place of a list is set
-
-pub set_here : {X : Type 0} (xs : List X) (i : ℕ) (x y : X) → slice_get xs i ≡ Some x → slice_get (slice_set xs i y) i ≡ Some y
-set_here [] i x y is = absurd (cc)
-set_here (z ∷ xs) zero x y is = refl
-set_here (z ∷ xs) (suc i) x y is = set_here xs i x y is
-
-pub set_there : {X : Type 0} (xs : List X) (i j : ℕ) (y : X) → j ≢ i → slice_get (slice_set xs i y) j ≡ slice_get xs j
-set_there [] i j y apart = refl
-set_there (z ∷ xs) zero zero y apart = absurd (apart refl)
-set_there (z ∷ xs) zero (suc j) y apart = refl
-set_there (z ∷ xs) (suc i) zero y apart = refl
-set_there (z ∷ xs) (suc i) (suc j) y apart = set_there xs i j y (λ same. apart (ap suc same))
 
 pub looks_stay : (lanes : List Lane) (i : ℕ) (t t' : Lane) → slice_get lanes i ≡ Some t → t'.looks ≡ t.looks → looks_of (slice_set lanes i t') ≡ looks_of lanes
 looks_stay [] i t t' is same = refl
