@@ -34,8 +34,8 @@ pub use Rattle.mt_log.specs.declared.lines.Item.TheVariants.{Ask, Check, Dup, Jo
 pub use Rattle.mt_told.specs.Along.{IsLaneLineDone, IsPlacedBy}
 pub use Rattle.mt_told.specs.Answers.{IsAnswerBefore, IsEntryBefore, IsFoundBefore, answer_line, entry_line, tells_entry}
 pub use Rattle.mt_told.specs.Comparing.{head_line}
-pub use Rattle.mt_told.specs.Fronts.{IsInLine, IsLineBefore, IsNumberBefore}
-pub use Rattle.mt_told.specs.ListingFronts.{AreRangesBefore, BeginsWithNoHead, BeginsWithNoRange, HasNoByte, IsHead, IsHeadBefore, IsKindBefore, IsNameBefore, IsRangeLineBefore, IsWordBefore, head_text}
+pub use Rattle.mt_told.specs.Fronts.{HasNoByte, IsInLine, IsLineBefore, IsNumberBefore}
+pub use Rattle.mt_told.specs.ListingFronts.{AreRangesBefore, BeginsWithNoHead, BeginsWithNoRange, IsHead, IsHeadBefore, IsKindBefore, IsNameBefore, IsRangeLineBefore, IsWordBefore, head_text}
 pub use Rattle.mt_told.specs.Listings.{AreSmall, BeginsListing, IsBadAt, IsInForm, IsListing, ended_lines, first_lines}
 pub use Rattle.mt_told.specs.Numbers.{EndsNumber}
 pub use Rattle.mt_told.specs.Prelude.{Answer, AreDone, Asked, Called, Counted, Entry, Item, Kind, Line, Listing, Load, Log, Looked, NamesBelow, Outcome, Query, Range, Reply, Said, Scan, Step, asked_from, entry_of, is_name, kind_text, lane_of, listing_text, most_lanes, place_within, range_line, reply_text, shown, shown_range, steps_of, trees_of}

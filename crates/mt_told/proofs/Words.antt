@@ -30,52 +30,61 @@ pub lacked_by_both : (c : ℕ) (a b : List ℕ) → HasNoByte c a → HasNoByte 
 lacked_by_both c [] b left right = right
 lacked_by_both c (x ∷ a) b left right = (left.0, lacked_by_both c a b left.1 right)
 
+-- ---- the first such byte
+
+module _ (c : ℕ) where
+  abbrev is_it : ℕ → Bool
+  is_it byte = byte == c
+
+  lacks_from : (bytes : List ℕ) → ((k : ℕ) → k < length bytes → get_or bytes k 0 ≢ c) → HasNoByte c bytes
+  lacks_from [] none = tt
+  lacks_from (byte ∷ bytes) none = (none 0 (omega arith), lacks_from bytes (λ k within. none (suc k) (omega arith)))
+
+  -- none stands before it
+  pub lacks_before : (text : List ℕ) (end : ℕ) → position is_it text ≡ Some end → HasNoByte c (take end text)
+  lacks_before text end is =
+      let at = position-Some is_it text end 0 is in
+      lacks_from (take end text) (λ k within here.
+      let before : k < end = omega (arith, length-take end text, within) in
+      let misses : is_it (get_or text k 0) ≡ false = at.2 k before in
+      let byte : get_or text k 0 ≡ c = sym (get_or-take end text k 0 before) ∙ here in
+      let hit : is_it (get_or text k 0) ≡ true = ap is_it byte in
+      (cc))
+
+  -- what is before it, and what is behind it
+  pub parted_at : (text : List ℕ) (end : ℕ) → position is_it text ≡ Some end → text ≡ take end text ++ (c ∷ take (length text - (end + 1)) (drop (end + 1) text))
+  parted_at text end is =
+      let at = position-Some is_it text end 0 is in
+      let byte : get_or text end 0 ≡ c = eqb-true (get_or text end 0) c at.1 in
+      let rest : List ℕ = take (length text - (end + 1)) (drop (end + 1) text) in
+      let behind : rest ≡ drop (end + 1) text = take_rest text (end + 1) in
+      let more : drop end text ≡ get_or text end 0 ∷ drop (end + 1) text = drop_more text end 0 at.0 in
+      let tail : drop end text ≡ c ∷ rest = more ∙ cons_is (get_or text end 0) c (drop (end + 1) text) rest byte (sym behind) in
+      sym (take-append-drop end text) ∙ ap (λ (t : List ℕ). take end text ++ t) tail
+
+  none_is : (text : List ℕ) (k : ℕ) → position is_it text ≡ None → k < length text → is_it (get_or text k 0) ≡ false
+  none_is text k none within =
+      elim (cases_lt (position_or_len is_it text) (length text)) [
+        | inl lt ↦ let some = rw (lt-ltb (position_or_len is_it text) (length text) lt) at none in absurd (cc)
+        | inr ge ↦ fails_before_first is_it text k 0 (omega arith)
+      ]
+
+  -- where there is none, nothing stands before it
+  pub none_parts : (text front rest : List ℕ) → position is_it text ≡ None → text ≡ front ++ c ∷ rest → ⊥
+  none_parts text front rest none is =
+      let within : length front < length text = omega (arith, ap length is, length-append front (c ∷ rest)) in
+      let misses : is_it (get_or text (length front) 0) ≡ false = none_is text (length front) none within in
+      let byte : get_or text (length front) 0 ≡ c = ap (λ (t : List ℕ). get_or t (length front) 0) is ∙ get_or_at front c rest 0 (length front) refl in
+      let hit : is_it (get_or text (length front) 0) ≡ true = ap is_it byte in
+      (cc)
+
 -- ---- the first space
 
-abbrev ends : ℕ → Bool
-ends byte = byte == 32
-
-lacks_from : (bytes : List ℕ) → ((k : ℕ) → k < length bytes → get_or bytes k 0 ≢ 32) → HasNoByte 32 bytes
-lacks_from [] none = tt
-lacks_from (byte ∷ bytes) none = (none 0 (omega arith), lacks_from bytes (λ k within. none (suc k) (omega arith)))
-
-spaceless : (text : List ℕ) (end : ℕ) → position ends text ≡ Some end → HasNoByte 32 (take end text)
-spaceless text end is =
-    let at = position-Some ends text end 0 is in
-    lacks_from (take end text) (λ k within here.
-    let before : k < end = omega (arith, length-take end text, within) in
-    let misses : ends (get_or text k 0) ≡ false = at.2 k before in
-    let byte : get_or text k 0 ≡ 32 = sym (get_or-take end text k 0 before) ∙ here in
-    let hit : ends (get_or text k 0) ≡ true = ap ends byte in
-    (cc))
-
 pub word_before : (text : List ℕ) (end : ℕ) → position (λ byte. byte == 32) text ≡ Some end → IsWordBefore text (take end text) (take (length text - (end + 1)) (drop (end + 1) text))
-word_before text end is =
-    let at = position-Some ends text end 0 is in
-    let byte : get_or text end 0 ≡ 32 = eqb-true (get_or text end 0) 32 at.1 in
-    let rest : List ℕ = take (length text - (end + 1)) (drop (end + 1) text) in
-    let behind : rest ≡ drop (end + 1) text = take_rest text (end + 1) in
-    let more : drop end text ≡ get_or text end 0 ∷ drop (end + 1) text = drop_more text end 0 at.0 in
-    let tail : drop end text ≡ 32 ∷ rest = more ∙ cons_is (get_or text end 0) 32 (drop (end + 1) text) rest byte (sym behind) in
-    record {
-      printed = sym (take-append-drop end text) ∙ ap (λ (t : List ℕ). take end text ++ t) tail;
-      spaceless = spaceless text end is;
-    }
-
-none_ends : (text : List ℕ) (k : ℕ) → position ends text ≡ None → k < length text → ends (get_or text k 0) ≡ false
-none_ends text k none within =
-    elim (cases_lt (position_or_len ends text) (length text)) [
-      | inl lt ↦ let some = rw (lt-ltb (position_or_len ends text) (length text) lt) at none in absurd (cc)
-      | inr ge ↦ fails_before_first ends text k 0 (omega arith)
-    ]
+word_before text end is = record { printed = parted_at 32 text end is; spaceless = lacks_before 32 text end is }
 
 pub no_space : (text word rest : List ℕ) → position (λ byte. byte == 32) text ≡ None → text ≡ word ++ 32 ∷ rest → ⊥
-no_space text word rest none is =
-    let within : length word < length text = omega (arith, ap length is, length-append word (32 ∷ rest)) in
-    let misses : ends (get_or text (length word) 0) ≡ false = none_ends text (length word) none within in
-    let byte : get_or text (length word) 0 ≡ 32 = ap (λ (t : List ℕ). get_or t (length word) 0) is ∙ get_or_at word 32 rest 0 (length word) refl in
-    let hit : ends (get_or text (length word) 0) ≡ true = ap ends byte in
-    (cc)
+no_space = none_parts 32
 
 -- ---- names
 

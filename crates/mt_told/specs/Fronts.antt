@@ -1,17 +1,21 @@
 -- What stands at the front of a text: a number and the byte behind it, or a line.
 -- Source: this project's own.
-use Rattle.std.specs.Prelude.{◌≡◌, ◌≢◌, ℕ, ◌<◌, ◌^◌, List, [], ◌∷◌, ◌++◌}
+use Rattle.std.specs.Prelude.{◌≡◌, ◌≢◌, ℕ, ◌<◌, ◌^◌, List, ◌∷◌, ◌++◌}
 use Rattle.std.specs.Fmt.{decimal}
+use Rattle.std.specs.List.{AllByRecursion}
 
 -- the number stands in front, before this byte and the rest, and no other number below 2^64 does
 pub record IsNumberBefore (text : List ℕ) (end number : ℕ) (rest : List ℕ) : Type 0 where
   pub printed : text ≡ decimal number ++ (end ∷ rest)
   pub only : (n : ℕ) (r : List ℕ) → n < 2 ^ 64 → text ≡ decimal n ++ (end ∷ r) → (n ≡ number) × (r ≡ rest)
 
+-- a byte stands nowhere in the bytes
+abbrev pub HasNoByte : ℕ → List ℕ → Type 0
+HasNoByte byte bytes = AllByRecursion (λ (b : ℕ). b ≢ byte) bytes
+
 -- no line ends within these bytes
 abbrev pub IsInLine : List ℕ → Type 0
-IsInLine [] = Unit {0}
-IsInLine (byte ∷ bytes) = (byte ≢ 10) × IsInLine bytes
+IsInLine bytes = HasNoByte 10 bytes
 
 -- the line stands in front, before its LF and the rest, and no other line does
 pub record IsLineBefore (text line rest : List ℕ) : Type 0 where

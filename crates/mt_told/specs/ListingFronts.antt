@@ -1,16 +1,13 @@
 -- What stands at the front of a listing's text: words, the first line, and lines of ranges.
 -- Source: this project's own.
-use Rattle.std.specs.Prelude.{◌≡◌, ◌≢◌, ℕ, ◌<◌, ◌^◌, true, List, ◌∷◌, ◌++◌, Some}
-use Rattle.std.specs.List.{AllByRecursion, flat_map}
+use Rattle.std.specs.Prelude.{◌≡◌, ℕ, ◌<◌, ◌^◌, true, List, ◌∷◌, ◌++◌, Some}
+use Rattle.std.specs.List.{flat_map}
 use Rattle.mt_told.specs.Prelude.{Kind, Range, kind_text, is_name, range_line}
 use Rattle.mt_told.specs.Comparing.{head_line}
+use Rattle.mt_told.specs.Fronts.{HasNoByte}
 use Rattle.mt_told.specs.Telling.{IsSmallRange}
 use Rattle.mt_told.specs.Listings.{AreSmall}
 use Rattle.mt_told.specs.declared.heads.Head.{Head}
-
--- a byte stands nowhere in the bytes
-abbrev pub HasNoByte : ℕ → List ℕ → Type 0
-HasNoByte byte bytes = AllByRecursion (λ (b : ℕ). b ≢ byte) bytes
 
 -- a word without spaces stands in front, before a space and the rest
 pub record IsWordBefore (text word rest : List ℕ) : Type 0 where
