@@ -1,5 +1,5 @@
 -- Where each lane's reads on each tree have the first numbers that do for the lane by itself, all reads of a run have.
-use Rattle.mt_verify.proofs.Prelude.{◌≡◌, ℕ, zero, suc, ◌+◌, ◌<◌, ◌≤◌, ◌==◌, true, List, [], ◌∷◌, ◌++◌, Option, Some, None, length, get_or, slice_get, refl, sym, ap, ◌∙◌, subst, inl, inr, arith, cons_option, cases_Bool, eq-eqb, eqb-true, get_or_append_left, get_or_at, length-append, filter_map-append, slice_get_within, same_Some, History, map_at, get_parts, Log, Transcript, Outcome, Called, Looked, Counted, Step, IsRunBy, StandsIn, is_read, shown, Look, AreFirst, look_of, by_lane, looks_on, points_on, LanesArePicked, floor_at, IsFirstPoint, point_of, lo_of, read_number, at_place, TellsAt, IsTrueAt, KnowsAt}
+use Rattle.mt_verify.proofs.Prelude.{[], ◌≡◌, ℕ, zero, suc, ◌+◌, ◌<◌, ◌≤◌, ◌==◌, true, List, ◌∷◌, ◌++◌, Option, Some, None, length, get_or, slice_get, refl, sym, ap, ◌∙◌, subst, inl, inr, arith, cons_option, cases_Bool, eq-eqb, eqb-true, get_or_append_left, get_or_at, length-append, filter_map-append, slice_get_within, same_Some, History, map_at, get_parts, Log, Transcript, Outcome, Called, Looked, Counted, Step, IsRunBy, StandsIn, is_read, shown, Look, AreFirst, look_of, by_lane, looks_on, points_on, LanesArePicked, floor_at, IsFirstPoint, point_of, lo_of, read_number, at_place, TellsAt, IsTrueAt, KnowsAt}
 use Rattle.mt_verify.proofs.CopiedKinds.{still_there}
 use Rattle.mt_verify.proofs.Runs.{all_at, some_at, placed}
 
@@ -17,19 +17,28 @@ point_is (Called n c r) k is = absurd (cc)
 point_is (Looked lo hi n q v) k is = (refl, same_Some n k is)
 point_is (Counted said ranges) k is = absurd (cc)
 
-pub read_of : (tree lane : ℕ) (u : Step) (k : ℕ) → by_lane point_of tree lane u ≡ Some k → IsReadOf tree lane k u
-read_of tree lane u k is = elim (cases_Bool (u.tree == tree)) [
-  | inr other ↦ absurd (let none : None ≡ Some k = rw other at is in cc)
+-- what is of a lane of a tree is of a step of that lane on that tree
+pub record IsOwn {X : Type 0} (f : Outcome → Option X) (tree lane : ℕ) (u : Step) (x : X) : Type 0 where
+  pub on_tree : (u.tree == tree) ≡ true
+  pub of_lane : (u.lane == lane) ≡ true
+  pub is : f u.outcome ≡ Some x
+
+own_of : {X : Type 0} (f : Outcome → Option X) (tree lane : ℕ) (u : Step) (x : X) → by_lane f tree lane u ≡ Some x → IsOwn f tree lane u x
+own_of f tree lane u x is = elim (cases_Bool (u.tree == tree)) [
+  | inr other ↦ absurd (let none : None ≡ Some x = rw other at is in cc)
   | inl here ↦
       (let mine = rw here at is in
       elim (cases_Bool (u.lane == lane)) [
-        | inr apart ↦ absurd (let none : None ≡ Some k = rw apart at mine in cc)
-        | inl own ↦
-            (let told = rw own at mine in
-            let p = point_is u.outcome k told in
-            record { on_tree = eqb-true u.tree tree here; of_lane = eqb-true u.lane lane own; read = p.0; number = p.1 })
+        | inr apart ↦ absurd (let none : None ≡ Some x = rw apart at mine in cc)
+        | inl own ↦ (let told = rw own at mine in record { on_tree = here; of_lane = own; is = told })
       ])
 ]
+
+pub read_of : (tree lane : ℕ) (u : Step) (k : ℕ) → by_lane point_of tree lane u ≡ Some k → IsReadOf tree lane k u
+read_of tree lane u k is =
+    let own = own_of point_of tree lane u k is in
+    let p = point_is u.outcome k own.is in
+    record { on_tree = eqb-true u.tree tree own.on_tree; of_lane = eqb-true u.lane lane own.of_lane; read = p.0; number = p.1 }
 
 own_step : {X : Type 0} (f : Outcome → Option X) (s : Step) → by_lane f s.tree s.lane s ≡ f s.outcome
 own_step f s = rw (eq-eqb s.tree s.tree refl, eq-eqb s.lane s.lane refl) refl
@@ -60,15 +69,10 @@ both_none tree lane s is = elim (cases_Bool (s.tree == tree)) [
     none (Counted said ranges) told = refl
 
 pub both_some : (tree lane : ℕ) (s : Step) (l : Look) → by_lane look_of tree lane s ≡ Some l → (k : ℕ) × (by_lane point_of tree lane s ≡ Some k)
-both_some tree lane s l is = elim (cases_Bool (s.tree == tree)) [
-  | inr other ↦ absurd (let none : None ≡ Some l = rw other at is in cc)
-  | inl here ↦
-      (let mine = rw here at is in
-      elim (cases_Bool (s.lane == lane)) [
-        | inr apart ↦ absurd (let none : None ≡ Some l = rw apart at mine in cc)
-        | inl own ↦ (let told = rw own at mine in let k = some s.outcome told in (k.0, is_own point_of tree lane s here own ∙ k.1))
-      ])
-]
+both_some tree lane s l is =
+    let own = own_of look_of tree lane s l is in
+    let k = some s.outcome own.is in
+    (k.0, is_own point_of tree lane s own.on_tree own.of_lane ∙ k.1)
   where
     some : (o : Outcome) → look_of o ≡ Some l → (k : ℕ) × (point_of o ≡ Some k)
     some (Called n c r) told = absurd (cc)

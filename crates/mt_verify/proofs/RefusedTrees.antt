@@ -1,7 +1,7 @@
 -- Where a tree cannot be gone through, no run is told so.
-use Rattle.mt_verify.proofs.Prelude.{◌≡◌, ℕ, zero, suc, ◌+◌, ◌<◌, ◌≤◌, ◌==◌, ◌&&◌, true, List, [], ◌∷◌, ◌++◌, Option, Some, None, length, nat_lt, slice_get, get_or, refl, sym, ap, ◌∙◌, subst, inl, inr, arith, codes, IfSome, decimal, Contains, cons_option, enumerate_from, filter_map, cases_Bool, eqb-true, eq-eqb, length-map, get_or-map, get_or-map-range_with_len, length-map-range_with_len, Contains-permutation, IsPermutation-sym, same_Some, slice_get_within, get_or_from_slice_get, Call, Range, Holder, Reply, answer, History, IsLegal, map_at, holder_of, most_rows, Log, Transcript, Outcome, Called, Looked, Counted, Step, IsHeldRightly, IsRunBy, IsTrueOf, StandsIn, calls_before, holder_in, is_call, numbered_on, shown, reply_text, most_lanes, Told, What, Wrote, Got, Copied, Lawful, AreTold, IsTold, Numbered, Look, Noted, Stop, is_wrote, AreAnswered, Lane, SomeHasNone, looks_of, AreMisheard, CannotGo, IsHindered, lane_looks, IsReader, AreHeard, map_of_noted, looks_on, points_on, MayHave, calls_below, line_on, lines_on, looks_by_lane, stop_at, stops_told, SomeMiscounted, calls_told, numbered_of, numbered_on_told}
+use Rattle.mt_verify.proofs.Prelude.{[], ◌≡◌, ℕ, zero, suc, ◌+◌, ◌<◌, ◌≤◌, ◌==◌, ◌&&◌, true, List, ◌∷◌, ◌++◌, Option, Some, None, length, nat_lt, slice_get, get_or, refl, sym, ap, ◌∙◌, subst, inl, inr, arith, codes, IfSome, decimal, Contains, cons_option, enumerate_from, filter_map, cases_Bool, eqb-true, eq-eqb, length-map, get_or-map, get_or-map-range_with_len, length-map-range_with_len, Contains-permutation, IsPermutation-sym, same_Some, slice_get_within, get_or_from_slice_get, Call, Range, Holder, Reply, answer, History, IsLegal, map_at, holder_of, most_rows, Log, Transcript, Outcome, Called, Looked, Counted, Step, IsHeldRightly, IsRunBy, IsTrueOf, StandsIn, calls_before, holder_in, is_call, numbered_on, shown, reply_text, most_lanes, Told, What, Wrote, Got, Copied, Lawful, AreTold, IsTold, Numbered, Look, Noted, Stop, is_wrote, AreAnswered, Lane, SomeHasNone, looks_of, AreMisheard, CannotGo, IsHindered, lane_looks, IsReader, AreHeard, map_of_noted, looks_on, points_on, MayHave, calls_below, line_on, lines_on, looks_by_lane, stop_at, stops_told, SomeMiscounted, calls_told, numbered_of, numbered_on_told}
 use Rattle.mt_verify.specs.ToldReads.{calls_of_phases_before as calls_before_told}
-use Rattle.mt_verify.proofs.ToldSteps.{IsToldOf}
+use Rattle.mt_verify.proofs.ToldSteps.{IsToldOf, by_kind}
 use Rattle.mt_verify.proofs.Answered.{heard_maps, legal_is_answered}
 use Rattle.mt_verify.proofs.EachLane.{lane_may_have}
 use Rattle.mt_verify.proofs.HeardCalls.{contained, number_of_item, numbered_at}
@@ -86,18 +86,8 @@ step_at version (x ∷ told) (s ∷ steps) (suc i) t are is = step_at version to
 
 -- calls of earlier phases are as many as the tree's own lines tell
 call_told : (version : ℕ) (w : What) (o : Outcome) → IsToldOf version w o → is_call o ≡ is_wrote w
-call_told version (Wrote number call reply) (Called n c r) told = refl
-call_told version (Wrote number call reply) (Looked lo hi k q v) told = absurd told
-call_told version (Wrote number call reply) (Counted s ranges) told = absurd told
-call_told version (Got lo hi query answer) (Called n c r) told = absurd told
-call_told version (Got lo hi query answer) (Looked l h k q v) told = refl
-call_told version (Got lo hi query answer) (Counted s ranges) told = absurd told
-call_told version (Copied count) (Called n c r) told = absurd told
-call_told version (Copied count) (Looked lo hi k q v) told = absurd told
-call_told version (Copied count) (Counted s ranges) told = refl
-call_told version (Lawful count) (Called n c r) told = absurd told
-call_told version (Lawful count) (Looked lo hi k q v) told = absurd told
-call_told version (Lawful count) (Counted s ranges) told = refl
+call_told version = by_kind version (λ w o. is_call o ≡ is_wrote w)
+    (λ number call reply n c r is. refl) (λ lo hi query answer l h k q v is. refl) (λ count s ranges. refl) (λ count s ranges. refl)
 
 pub as_many_before : (version tree phase : ℕ) (told : List Told) (steps : List Step) → AreTold version told steps → calls_before steps tree phase ≡ calls_before_told told tree phase
 as_many_before version tree phase [] [] are = refl

@@ -1,23 +1,13 @@
 -- Who held rows, among steps that are told so.
-use Rattle.mt_verify.proofs.Prelude.{◌≡◌, ◌≢◌, ◌↔◌, ℕ, ◌==◌, ◌&&◌, ◌||◌, Bool, true, List, [], ◌∷◌, Option, Some, None, IfSome, refl, sym, ap, ◌∙◌, nat_le, if◌then◌else◌, list_any, Holder, Outcome, Called, Looked, Counted, Step, IsHeldRightly, holder_in, is_read, is_read_by, Told, What, Wrote, Got, Copied, Lawful, AreTold, IsTold, Numbered, IsReader, reads_by, numbered_of, numbered_on_told}
+use Rattle.mt_verify.proofs.Prelude.{[], ◌≡◌, ◌≢◌, ◌↔◌, ℕ, ◌==◌, ◌&&◌, ◌||◌, Bool, true, List, ◌∷◌, Option, Some, None, IfSome, refl, sym, ap, ◌∙◌, nat_le, if◌then◌else◌, list_any, Holder, Outcome, Step, IsHeldRightly, holder_in, is_read, is_read_by, Told, What, Wrote, Got, Copied, Lawful, AreTold, IsTold, Numbered, IsReader, reads_by, numbered_of, numbered_on_told}
 use Rattle.mt_verify.specs.Heard.{is_got}
-use Rattle.mt_verify.proofs.ToldSteps.{IsToldOf}
+use Rattle.mt_verify.proofs.ToldSteps.{IsToldOf, by_kind}
 use Rattle.mt_verify.proofs.Placed.{same_number}
 
 module _ (version : ℕ) where
   same_read : (w : What) (o : Outcome) → IsToldOf version w o → is_got w ≡ is_read o
-  same_read (Wrote number call reply) (Called n c r) is = refl
-  same_read (Wrote number call reply) (Looked lo hi k q v) is = absurd is
-  same_read (Wrote number call reply) (Counted s ranges) is = absurd is
-  same_read (Got lo hi query answer) (Called n c r) is = absurd is
-  same_read (Got lo hi query answer) (Looked l h k q v) is = refl
-  same_read (Got lo hi query answer) (Counted s ranges) is = absurd is
-  same_read (Copied count) (Called n c r) is = absurd is
-  same_read (Copied count) (Looked lo hi k q v) is = absurd is
-  same_read (Copied count) (Counted s ranges) is = refl
-  same_read (Lawful count) (Called n c r) is = absurd is
-  same_read (Lawful count) (Looked lo hi k q v) is = absurd is
-  same_read (Lawful count) (Counted s ranges) is = refl
+  same_read = by_kind version (λ w o. is_got w ≡ is_read o)
+      (λ number call reply n c r is. refl) (λ lo hi query answer l h k q v is. refl) (λ count s ranges. refl) (λ count s ranges. refl)
 
   module _ (lane : ℕ) (t : Told) (s : Step) (same : IsTold version t s) where
     read_alike : (r : Told) (step : Step) → IsTold version r step → reads_by t.tree lane t.phase r ≡ is_read_by lane s step

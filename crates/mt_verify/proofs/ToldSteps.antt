@@ -1,11 +1,32 @@
 -- Steps that are told so: their order and their calls are those of the text.
-use Rattle.mt_verify.proofs.Prelude.{◌≡◌, ◌↔◌, ◌⊎◌, ℕ, zero, suc, ◌==◌, ◌<◌, ◌≤◌, Bool, true, false, List, [], ◌∷◌, Option, Some, None, All, AllPairs, length, get_or, filter_map, if◌then◌else◌, arith, refl, sym, ap, ◌∙◌, subst, inl, inr, cons_option, Record, Outcome, Called, Looked, Counted, Step, numbered_on, record_in, Told, What, Wrote, Got, Copied, Lawful, AreTold, IsSpelledOf, IsTold, spelling_of, Numbered, AreRecordsTold, IsRecordTold, calls_told, numbered_of, numbered_on_told}
+use Rattle.mt_verify.proofs.Prelude.{[], ◌≡◌, ◌↔◌, ◌⊎◌, ℕ, zero, suc, ◌==◌, ◌<◌, ◌≤◌, Bool, true, false, List, ◌∷◌, Option, Some, None, All, AllPairs, length, get_or, filter_map, if◌then◌else◌, arith, refl, sym, ap, ◌∙◌, subst, inl, inr, cons_option, Record, Outcome, Called, Looked, Counted, Step, numbered_on, record_in, Told, What, Wrote, Got, Copied, Lawful, AreTold, IsSpelledOf, IsTold, spelling_of, Numbered, AreRecordsTold, IsRecordTold, calls_told, numbered_of, numbered_on_told, Bor, Call, Query, Range, Reply, Answer}
+use Rattle.mt_log.specs.declared.transcripts.Said.{Said}
 use Rattle.mt_verify.specs.PrintedOrder as of_text
 use Rattle.mt_verify.specs.Windows as of_steps
 
 -- as this version of logs writes it
 abbrev pub IsToldOf : ℕ → What → Outcome → Type 0
 IsToldOf version what o = IsSpelledOf (spelling_of version) what o
+
+-- what is told of an outcome is of its kind: so what holds of calls, of reads and of numbers of ranges holds of all
+pub by_kind : (version : ℕ) (P : What → Outcome → Type 0)
+    → ((number : ℕ) (call : Call) (reply : Bor (List ℕ)) (n : ℕ) (c : Call) (r : Reply) → IsToldOf version (Wrote number call reply) (Called n c r) → P (Wrote number call reply) (Called n c r))
+    → ((lo hi : ℕ) (query : Query) (answer : Answer) (l h k : ℕ) (q : Query) (v : Option Range) → IsToldOf version (Got lo hi query answer) (Looked l h k q v) → P (Got lo hi query answer) (Looked l h k q v))
+    → ((count : Bor (List ℕ)) (s : ℕ → Said) (ranges : List Range) → P (Copied count) (Counted s ranges))
+    → ((count : Bor (List ℕ)) (s : ℕ → Said) (ranges : List Range) → P (Lawful count) (Counted s ranges))
+    → (w : What) (o : Outcome) → IsToldOf version w o → P w o
+by_kind version P called looked copied lawful (Wrote number call reply) (Called n c r) is = called number call reply n c r is
+by_kind version P called looked copied lawful (Wrote number call reply) (Looked lo hi k q v) is = absurd is
+by_kind version P called looked copied lawful (Wrote number call reply) (Counted s ranges) is = absurd is
+by_kind version P called looked copied lawful (Got lo hi query answer) (Called n c r) is = absurd is
+by_kind version P called looked copied lawful (Got lo hi query answer) (Looked l h k q v) is = looked lo hi query answer l h k q v is
+by_kind version P called looked copied lawful (Got lo hi query answer) (Counted s ranges) is = absurd is
+by_kind version P called looked copied lawful (Copied count) (Called n c r) is = absurd is
+by_kind version P called looked copied lawful (Copied count) (Looked lo hi k q v) is = absurd is
+by_kind version P called looked copied lawful (Copied count) (Counted s ranges) is = copied count s ranges
+by_kind version P called looked copied lawful (Lawful count) (Called n c r) is = absurd is
+by_kind version P called looked copied lawful (Lawful count) (Looked lo hi k q v) is = absurd is
+by_kind version P called looked copied lawful (Lawful count) (Counted s ranges) is = lawful count s ranges
 
 -- ---- what is told of the order: a call's number, or a window
 
@@ -54,18 +75,10 @@ keeps_done (Counted said ranges) other = (λ h. h, λ h. h)
 
 module _ (version : ℕ) where
   same_part : (w : What) (o : Outcome) → IsToldOf version w o → told_part w ≡ step_part o
-  same_part (Wrote number call reply) (Called n c r) is = ap (λ (m : ℕ). Some (inl m)) (sym is.0)
-  same_part (Wrote number call reply) (Looked lo hi k q v) is = absurd is
-  same_part (Wrote number call reply) (Counted s ranges) is = absurd is
-  same_part (Got lo hi query answer) (Called n c r) is = absurd is
-  same_part (Got lo hi query answer) (Looked l h k q v) is = λ i. Some (inr (sym is.0 i, sym is.1 i))
-  same_part (Got lo hi query answer) (Counted s ranges) is = absurd is
-  same_part (Copied count) (Called n c r) is = absurd is
-  same_part (Copied count) (Looked lo hi k q v) is = absurd is
-  same_part (Copied count) (Counted s ranges) is = refl
-  same_part (Lawful count) (Called n c r) is = absurd is
-  same_part (Lawful count) (Looked lo hi k q v) is = absurd is
-  same_part (Lawful count) (Counted s ranges) is = refl
+  same_part = by_kind version (λ w o. told_part w ≡ step_part o)
+      (λ number call reply n c r is. ap (λ (m : ℕ). Some (inl m)) (sym is.0))
+      (λ lo hi query answer l h k q v is i. Some (inr (sym is.0 i, sym is.1 i)))
+      (λ count s ranges. refl) (λ count s ranges. refl)
 
   -- ---- one by one
 
@@ -124,18 +137,9 @@ module _ (version tree : ℕ) where
   AreTellable (Some e) (Some r) = IsRecordTold version e r
 
   one_call : (lane lane' phase : ℕ) (w : What) (o : Outcome) → lane' ≡ lane → IsToldOf version w o → AreTellable (numbered_of lane phase w) (record_in lane' o)
-  one_call lane lane' phase (Wrote number call reply) (Called n c r) same is = record { number = is.0; lane = same; call = is.1; reply = is.2 }
-  one_call lane lane' phase (Wrote number call reply) (Looked lo hi k q v) same is = absurd is
-  one_call lane lane' phase (Wrote number call reply) (Counted s ranges) same is = absurd is
-  one_call lane lane' phase (Got lo hi query answer) (Called n c r) same is = absurd is
-  one_call lane lane' phase (Got lo hi query answer) (Looked l h k q v) same is = tt
-  one_call lane lane' phase (Got lo hi query answer) (Counted s ranges) same is = absurd is
-  one_call lane lane' phase (Copied count) (Called n c r) same is = absurd is
-  one_call lane lane' phase (Copied count) (Looked lo hi k q v) same is = absurd is
-  one_call lane lane' phase (Copied count) (Counted s ranges) same is = tt
-  one_call lane lane' phase (Lawful count) (Called n c r) same is = absurd is
-  one_call lane lane' phase (Lawful count) (Looked lo hi k q v) same is = absurd is
-  one_call lane lane' phase (Lawful count) (Counted s ranges) same is = tt
+  one_call lane lane' phase w o same = by_kind version (λ w o. AreTellable (numbered_of lane phase w) (record_in lane' o))
+      (λ number call reply n c r is. record { number = is.0; lane = same; call = is.1; reply = is.2 })
+      (λ lo hi query answer l h k q v is. tt) (λ count s ranges. tt) (λ count s ranges. tt) w o
 
   on_tree : (b : Bool) (o : Option (ℕ × Numbered)) (p : Option (ℕ × Record)) → AreTellable o p → AreTellable (if b then o else None) (if b then p else None)
   on_tree true o p are = are
