@@ -1,7 +1,7 @@
 -- A tree is to be emptied: no row is drafted, and the windows are those of all its levels.
 use Rattle.mt_splice.proofs.Prelude.{◌≡◌, ℕ, suc, ◌+◌, ◌-◌, ◌≤◌, List, [], length, refl, sym, ap, ◌∙◌, subst, inl, arith, Call, Kind, Range, Reply, Width, acted, deepest, greatest, Book, PathStep, path_in, at_within, levels, place, Root, Tree, Stands, top_of, map_by, tree_as, IsWhole, OnlyReads, Rooted, Sheet, inner_kind, reads_on, same_tree, Climb, Top, MayClear, HasClimbed, windows_over, IsBegunBy, before_of, start_for, Before, IsAnswer, high_of, low_of, row_at, Start, rows_at}
 use Rattle.mt_splice.proofs.Clearing.{left_levels}
-use Rattle.mt_splice.proofs.Climbed.{ledger_reads}
+use Rattle.mt_splice.proofs.Steps.{ledger_reads}
 use Rattle.mt_splice.proofs.SpliceBegins.{case_of, nothing_done, stands_at_start}
 use Rattle.mt_splice.proofs.Topped.{whole_above, windows_over_are}
 

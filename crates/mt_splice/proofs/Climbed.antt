@@ -1,5 +1,5 @@
 -- The climb: what its steps ask, and what a level comes to.
-use Rattle.mt_splice.proofs.Prelude.{◌≡◌, ℕ, zero, suc, ◌+◌, ◌*◌, ◌-◌, ◌<◌, ◌≤◌, List, [], ◌∷◌, ◌++◌, length, refl, sym, ap, ◌∙◌, subst, inl, ⊎_elim, arith, All, ◌||◌, flat_map, Width, columns, greatest, Book, Item, RowKind, Leaf, Span, slots_of, leaf_range, spans_from, Apart, Fills, sizes, apart_anywhere, length-spans_from, PathStep, step_at, step_in, at_within, levels, place, Stands, kind_on, top_of, expand, is_reached, Rooted, Sheet, OnlyReads, IsFree, life_of, Table, column, inner_of, leaf_low, Climb, Next, Up, Window, NewRow, IsCutOf, IsClimbing, IsNothingLeft, IsLevelDrafted, IsNothing, EndsHere, IsNextDecision, item_words, AreRowsTaken, noted_rows, MayDraftRows, AreRowsDrafted, heads, was_taken, IsLedger, IsNowOf, MayLook, MayGather, items_above, Layer, depth_at, begin_at, new_at, level_of, IsLayer, AreAllHeld, newest_first, taken_by, windows_by, window_at, Before, IsProgress, new_rows_of, MayBeIn, MayBeCut, Seen, IsWidened, IsWindow, MayWiden, before, behind, in_place, row_at, low_of, high_of, Gathered, Start, rows_at, tree_with, AreAmongOld, AreFromBelow}
+use Rattle.mt_splice.proofs.Prelude.{◌≡◌, ℕ, zero, suc, ◌+◌, ◌*◌, ◌-◌, ◌<◌, ◌≤◌, List, ◌∷◌, ◌++◌, length, refl, sym, ap, ◌∙◌, subst, inl, ⊎_elim, arith, All, flat_map, Width, columns, greatest, Book, Item, RowKind, Leaf, Span, slots_of, leaf_range, spans_from, Apart, Fills, sizes, apart_anywhere, length-spans_from, PathStep, step_at, step_in, at_within, levels, place, Stands, kind_on, top_of, expand, Rooted, Sheet, OnlyReads, IsFree, life_of, Table, column, inner_of, leaf_low, Climb, Next, Up, Window, NewRow, IsCutOf, IsClimbing, IsNothingLeft, IsLevelDrafted, IsNothing, EndsHere, IsNextDecision, item_words, AreRowsTaken, noted_rows, MayDraftRows, AreRowsDrafted, heads, was_seen, IsLedger, IsNowOf, MayLook, MayGather, items_above, Layer, depth_at, begin_at, new_at, level_of, IsLayer, AreAllHeld, newest_first, taken_by, windows_by, window_at, Before, new_rows_of, MayBeIn, MayBeCut, IsWidened, IsWindow, MayWiden, before, behind, in_place, row_at, low_of, high_of, Gathered, Start, rows_at, tree_with, AreAmongOld, AreFromBelow, []}
 use Rattle.mt_splice.proofs.Besides.{begin_within, low_enough, some_gathered}
 use Rattle.mt_splice.proofs.DraftedLedger.{taken_behind, all_held_stay, ledger_then, taken_stay, held_then, noted_then, width_then}
 use Rattle.mt_splice.proofs.FromBelow.{gathered_from, widened_from}
@@ -9,8 +9,8 @@ use Rattle.mt_splice.proofs.LevelRuns.{AreParts, cut_makes_parts}
 use Rattle.mt_splice.proofs.Raised.{deep, risen}
 use Rattle.mt_splice.proofs.ReadsNow.{widened_now, above_now}
 use Rattle.mt_splice.proofs.Splits.{fills_none}
-use Rattle.mt_splice.proofs.Steps.{progress_reads}
 use Rattle.mt_splice.proofs.ToldRows.{gaps_were}
+use Rattle.mt_splice.proofs.Steps.{ledger_reads}
 use Rattle.mt_splice.proofs.Widened.{step_is, widened, IsWide}
 use Rattle.mt_splice.proofs.WindowRows.{before_fills, behind_fills}
 use Rattle.mt_splice.proofs.StoredWords.{words_of}
@@ -109,11 +109,6 @@ module _ {start : Start} {t : Rooted} {kind : RowKind} {left right : List PathSt
 
 -- ---- a level of a climb
 
--- what was loaded is not in the ledger
-pub ledger_reads : {b : Before} {s s' : Sheet} {book : Book} {taken gone : List Seen} → OnlyReads s s' → IsLedger b s book taken gone → IsLedger b s' book taken gone
-ledger_reads {b} {s} {s'} {book} {taken} {gone} reads ledger =
-    subst (λ (words : List ℕ). IsProgress b s' book (record { words = words; used = λ row. is_reached b.sheet.tree row || was_taken taken row; taken = taken; gone = gone })) (sym (ap (λ (x : Sheet). x.tree.table.words) reads)) (progress_reads reads ledger)
-
 module _ {b : Before} {start : Start} {s : Sheet} {book : Book} {kind : RowKind} {depth : ℕ} {c : Climb} (k : IsClimbing b start s book kind depth c) where
   abbrev h : ℕ
   h = length k.layers
@@ -191,14 +186,14 @@ module _ {b : Before} {start : Start} {s : Sheet} {book : Book} {kind : RowKind}
       table_of : (x : Sheet) → x.tree.table.width ≡ start.tree.table.width → (tree_with start.tree x.tree.table.words).table ≡ x.tree.table
       table_of x wide = λ i. record { width = sym wide i; words = x.tree.table.words }
 
-      lower_held : AreAllHeld start s₂.tree.table.words (was_taken (taken_by start (l ∷ k.layers))) k.layers
-      lower_held = all_held_stay start s₁.tree.table.words s₂.tree.table.words (was_taken (taken_by start k.layers)) (was_taken (taken_by start (l ∷ k.layers)))
+      lower_held : AreAllHeld start s₂.tree.table.words (was_seen (taken_by start (l ∷ k.layers))) k.layers
+      lower_held = all_held_stay start s₁.tree.table.words s₂.tree.table.words (was_seen (taken_by start k.layers)) (was_seen (taken_by start (l ∷ k.layers)))
           (λ row some. taken_behind (newest_first h (new_at start h l)) (taken_by start k.layers) row some)
           (λ row c some within.
           ap (λ (t : Table). column t row c) (table_of s₂ wide₂)
           ∙ (taken_stay k.case.was h (inner_of start.tree.gapped) K items' at 0 ends done.rows s₁ s₂ book book' ledger₁ drafted row some c (subst (λ (v : Width). c < columns v) (sym wide₁) within)
           ∙ sym (ap (λ (t : Table). column t row c) (table_of s₁ wide₁))))
-          k.layers (subst (λ (t : Rooted). AreAllHeld start t.table.words (was_taken (taken_by start k.layers)) k.layers) (sym same₁) k.held)
+          k.layers (subst (λ (t : Rooted). AreAllHeld start t.table.words (was_seen (taken_by start k.layers)) k.layers) (sym same₁) k.held)
 
       pub level_drafted : {c' : Climb} {window : Window} {next : Next} → c'.ways.left.items ≡ left' → c'.ways.right.items ≡ right' → window.first ≡ step_at left' depth → window.last ≡ step_at right' depth → c'.windows.items ≡ c.windows.items ++ window ∷ [] → c'.made.items ≡ made'
           → c'.inner ≡ c.inner → IsNextDecision width left' right' depth kind items' (length ends) next → IsLevelDrafted b start s₂ book' depth c' new next
@@ -300,7 +295,7 @@ module _ {b : Before} {start : Start} {s : Sheet} {book : Book} {depth : ℕ} {c
         case = d.case;
         of_kind = d.inner;
         planned = d.planned;
-        held = subst (λ (t : Rooted). AreAllHeld start t.table.words (was_taken (taken_by start (d.l ∷ d.lower))) (d.l ∷ d.lower)) (sym tree) d.held;
+        held = subst (λ (t : Rooted). AreAllHeld start t.table.words (was_seen (taken_by start (d.l ∷ d.lower))) (d.l ∷ d.lower)) (sym tree) d.held;
         ledger = ledger_reads reads d.ledger;
         gathered = subst (λ (p : (List PathStep × List PathStep) × List Item). MayWiden start (level_of start (d.l ∷ d.lower)) p.0.0 p.0.1 (depth - 1) (suc (length d.lower)) p.1)
             (λ i. ((sym (ap (λ w. w.left.items) ways) i, sym (ap (λ w. w.right.items) ways) i), sym (run_there same run) i))

@@ -1,19 +1,15 @@
 -- The rows of a level drafted, by the ledger: they hold their parts of the items, and those drafted before keep their words.
-use Rattle.mt_splice.proofs.Prelude.{◌≡◌, ℕ, zero, suc, ◌+◌, ◌-◌, ◌<◌, ◌≤◌, List, [], ◌∷◌, ◌++◌, Bool, true, false, length, refl, sym, ap, ◌∙◌, subst, arith, append_assoc, append-nil, ◌||◌, slice_index, ltb-true, lt-ltb, Width, columns, first_row, Book, Item, RowKind, Span, end_of, row_words, name_at, slots_of, gaps_of, spans_from, row_in-name_at, after, after_some, fills_rise, length-spans_from, rise_from_zero, Tree, kind_on, is_row_of, is_reached, Rooted, Sheet, Table, column, inner_of, tally-append, NewRow, IsRowTaken, AreRowsTaken, noted_row, noted_rows, part_of, heads, AreHeld, was_taken, IsLedger, Layer, newest_first, AreAllHeld, Before, IsStartOf, new_row_by, new_rows_of, Seen, passing, Start, tree_with, IsNewRow, no_parent}
+use Rattle.mt_splice.proofs.Prelude.{◌≡◌, ℕ, zero, suc, ◌+◌, ◌-◌, ◌<◌, ◌≤◌, List, ◌∷◌, ◌++◌, Bool, true, false, length, refl, sym, ap, ◌∙◌, subst, arith, append_assoc, append-nil, slice_index, ltb-true, lt-ltb, Width, columns, first_row, Book, Item, RowKind, Span, end_of, row_words, name_at, slots_of, gaps_of, spans_from, row_in-name_at, after, after_some, fills_rise, length-spans_from, rise_from_zero, Tree, kind_on, is_row_of, Rooted, Sheet, Table, column, inner_of, tally-append, NewRow, IsRowTaken, AreRowsTaken, noted_row, noted_rows, part_of, heads, AreHeld, was_seen, IsLedger, Layer, newest_first, AreAllHeld, Before, IsStartOf, new_row_by, new_rows_of, Seen, passing, Start, tree_with, IsNewRow, no_parent, []}
 use Rattle.mt_splice.proofs.LevelRows.{new_rows_stay}
 use Rattle.mt_splice.proofs.LevelRuns.{AreParts, IsPart, length-part}
 use Rattle.mt_splice.proofs.StepSeen.{not_both, seen_here, seen_more}
-use Rattle.mt_splice.proofs.Steps.{progress_taken, row_number, row_was_unused, IsRowWritten}
+use Rattle.mt_splice.proofs.Steps.{progress_taken, row_number, row_was_untaken, IsRowWritten}
 use Rattle.mt_splice.proofs.WrittenRows.{new_spans}
 
 -- ---- which rows were taken
 
-or_right : (a c : Bool) → c ≡ true → (a || c) ≡ true
-or_right true c is = refl
-or_right false c is = is
-
 -- those taken before others were
-pub taken_behind : (xs ys : List Seen) (row : ℕ) → was_taken ys row ≡ true → was_taken (xs ++ ys) row ≡ true
+pub taken_behind : (xs ys : List Seen) (row : ℕ) → was_seen ys row ≡ true → was_seen (xs ++ ys) row ≡ true
 taken_behind xs ys row some =
     let few = ltb-true 0 (passing (is_row_of row) ys) some in let all = tally-append (λ (s : Seen). is_row_of row s.height s.at) xs ys in
     lt-ltb 0 (passing (is_row_of row) (xs ++ ys)) (omega arith)
@@ -78,17 +74,16 @@ module _ {b : Before} {start : Start} (before : IsStartOf b start) (h : ℕ) (ab
 
   -- rows that were taken before keep all their words
   pub taken_stay : (at from : ℕ) (ends rows : List ℕ) (s s' : Sheet) (book book' : Book) {taken gone : List Seen} → IsLedger b s book taken gone → AreRowsTaken kind items from ends rows s s' book book'
-      → (r : ℕ) → was_taken taken r ≡ true → (c : ℕ) → c < columns s.tree.table.width → column s'.tree.table r c ≡ column s.tree.table r c
+      → (r : ℕ) → was_seen taken r ≡ true → (c : ℕ) → c < columns s.tree.table.width → column s'.tree.table r c ≡ column s.tree.table r c
   taken_stay at from [] [] s s' book book' ledger same r some c within = ap (λ (x : Sheet). column x.tree.table r c) same.0
   taken_stay at from [] (row ∷ rows) s s' book book' ledger none r some c within = absurd none
   taken_stay at from (to ∷ ends) [] s s' book book' ledger none r some c within = absurd none
   taken_stay at from (to ∷ ends) (row ∷ rows) s s' book book' {taken = taken} {gone = gone} ledger (s₁, book₁, one, rest) r some c within =
       let seen = seen_up at from to row in
-      let used : (is_reached b.sheet.tree r || was_taken taken r) ≡ true = or_right (is_reached b.sheet.tree r) (was_taken taken r) some in
       let width : s₁.tree.table.width ≡ s.tree.table.width = ap (λ (t : Rooted). t.table.width) one.drafted.only.tree in
       taken_stay (end_of 0 (part_of items from to) + 1) to ends rows s₁ s' book₁ book' (progress_taken seen before ledger (written from to row one)) rest r (seen_more seen taken r some) c (subst (λ (v : Width). c < columns v) (sym width) within)
       ∙ one.drafted.only.others r c
-      (λ same. not_both (is_reached b.sheet.tree r || was_taken taken r) used (ap (λ (n : ℕ). is_reached b.sheet.tree n || was_taken taken n) (same ∙ sym (row_in-name_at row kind)) ∙ row_was_unused seen before ledger (written from to row one))) within
+      (λ same. not_both (was_seen taken r) some (ap (was_seen taken) (same ∙ sym (row_in-name_at row kind)) ∙ row_was_untaken seen before ledger (written from to row one))) within
 
   pub width_then : (from : ℕ) (ends rows : List ℕ) (s s' : Sheet) (book book' : Book) → AreRowsTaken kind items from ends rows s s' book book' → s'.tree.table.width ≡ s.tree.table.width
   width_then from [] [] s s' book book' same = ap (λ (x : Sheet). x.tree.table.width) same.0
@@ -121,7 +116,7 @@ module _ {b : Before} {start : Start} (before : IsStartOf b start) (h : ℕ) (ab
 
     -- the rows hold their parts
     pub held_then : (at from : ℕ) (ends rows : List ℕ) (s s' : Sheet) (book book' : Book) {taken gone : List Seen} → IsLedger b s book taken gone → AreRowsTaken kind items from ends rows s s' book book' → AreParts start.tree h at items from ends
-        → s'.tree.table.width ≡ start.tree.table.width → AreHeld (tree_with start.tree s'.tree.table.words) (was_taken (newest_first h (spans_up at from ends rows) ++ taken)) kind items from ends rows
+        → s'.tree.table.width ≡ start.tree.table.width → AreHeld (tree_with start.tree s'.tree.table.words) (was_seen (newest_first h (spans_up at from ends rows) ++ taken)) kind items from ends rows
     held_then at from [] [] s s' book book' ledger same parts wide = tt
     held_then at from [] (row ∷ rows) s s' book book' ledger none parts wide = tt
     held_then at from (to ∷ ends) [] s s' book book' ledger none parts wide = tt
@@ -134,7 +129,7 @@ module _ {b : Before} {start : Start} (before : IsStartOf b start) (h : ℕ) (ab
         let new = new_row at from to row ledger one parts.0 in
         let width = width_then to ends rows s₁ s' book₁ book' rest in
         let there : IsNewRow s'.tree.table kind row part = new_row_stays s₁.tree.table s'.tree.table kind row part width (λ c within. taken_stay (end_of 0 part + 1) to ends rows s₁ s' book₁ book' step rest row (seen_here seen taken row (row_in-name_at row kind)) c within) new.0 in
-        subst (λ (l : List Seen). AreHeld (tree_with start.tree s'.tree.table.words) (was_taken l) kind items from (to ∷ ends) (row ∷ rows)) (regroup at from to row ends rows taken) (
+        subst (λ (l : List Seen). AreHeld (tree_with start.tree s'.tree.table.words) (was_seen l) kind items from (to ∷ ends) (row ∷ rows)) (regroup at from to row ends rows taken) (
           subst (λ (v : Width). IsNewRow (record { width = v; words = s'.tree.table.words }) kind row part) wide there,
           taken_behind (newest_first h (spans_up (end_of 0 part + 1) to ends rows)) (seen ∷ taken) row (seen_here seen taken row (row_in-name_at row kind)),
           new.1,
@@ -177,4 +172,4 @@ module _ {b : Before} {start : Start} (before : IsStartOf b start) (h : ℕ) (ab
         new_rows_stay s.tree.table s'.tree.table taken (width_then from ends rows s s' book book' are) (λ row some c above within. taken_stay at from ends rows s s' book book' ledger are row some c within) in
         noted
         ∙ ((λ i. (made_is ∙ sym kept) i ++ noted_rows kind from ends rows)
-        ∙ sym (noted_by s'.tree.table taken (was_taken (newest_first h (spans_up at from ends rows) ++ taken)) (tree_with start.tree s'.tree.table.words) table at from ends rows held parts many))
+        ∙ sym (noted_by s'.tree.table taken (was_seen (newest_first h (spans_up at from ends rows) ++ taken)) (tree_with start.tree s'.tree.table.words) table at from ends rows held parts many))

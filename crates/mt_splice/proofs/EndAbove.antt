@@ -1,14 +1,13 @@
 -- Where rows that replace the root stand in a new one: the tree then, and its law of gaps.
-use Rattle.mt_splice.proofs.Prelude.{◌≡◌, ℕ, suc, ◌+◌, ◌<◌, ◌≤◌, List, [], ◌∷◌, ◌++◌, true, Some, length, refl, sym, ap, ◌∙◌, subst, arith, append-nil, deepest, most_rows, Book, Item, RowKind, Span, end_of, name_at, slots_of, spans_from, row_in-name_at, sizes, fills_end, Root, Tree, IsRow, GapLaw, kind_on, top_of, expand, Levels, tree_as, with_published, Sheet, Table, inner_of, spans_in, nine_levels, Climb, Top, AreBuriedAll, numbers_in_all, HasClimbed, EndsAbove, Stand, was_taken, work_of, AreAllHeld, IsPlanned, begin_at, depth_at, gone_by, heads_at, level_of, new_at, taken_by, Before, is_taken, IsReplaced, with_root, Seen, passing, AreAllFromBelow, GapsBeside, TellGaps, high_of, low_of, Start, Work, tree_with, IsNewRow}
+use Rattle.mt_splice.proofs.Prelude.{◌≡◌, ℕ, suc, ◌+◌, ◌<◌, ◌≤◌, List, ◌∷◌, ◌++◌, true, Some, length, refl, sym, ap, ◌∙◌, subst, arith, append-nil, deepest, most_rows, Book, Item, RowKind, Span, end_of, name_at, slots_of, spans_from, row_in-name_at, sizes, fills_end, Root, Tree, IsRow, GapLaw, kind_on, top_of, expand, Levels, tree_as, with_published, Sheet, Table, inner_of, spans_in, nine_levels, Climb, Top, AreBuriedAll, numbers_in_all, HasClimbed, EndsAbove, Stand, was_seen, AreAllHeld, IsPlanned, begin_at, depth_at, gone_by, heads_at, level_of, new_at, taken_by, Before, IsReplaced, with_root, Seen, passing, AreAllFromBelow, GapsBeside, TellGaps, high_of, low_of, Start, tree_with, IsNewRow, []}
 use Rattle.mt_splice.proofs.DraftedLedger.{new_row_stays}
 use Rattle.mt_splice.proofs.EndForms as forms
 use Rattle.mt_splice.proofs.EndGaps.{root_laws}
-use Rattle.mt_splice.proofs.Ended.{taken, gone, now, ledger_then, held_then, holds_then, keeps_then, wide_then, gone_above}
+use Rattle.mt_splice.proofs.Ended.{taken, gone, now, ledger_then, held_then, old_beside, keeps_then, wide_then, gone_above}
 use Rattle.mt_splice.proofs.Endings.{alone, replaced_above}
 use Rattle.mt_splice.proofs.GoneLedger.{columns_later}
 use Rattle.mt_splice.proofs.Heads.{length-heads}
 use Rattle.mt_splice.proofs.LayerGaps.{head_tells, planned_tell}
-use Rattle.mt_splice.proofs.Ledgers.{beside_of}
 use Rattle.mt_splice.proofs.NewRows.{new_lawful}
 use Rattle.mt_splice.proofs.Planned.{planned_stands, run_now}
 use Rattle.mt_splice.proofs.RootEndings.{root_rows}
@@ -25,9 +24,6 @@ module _ {b : Before} {start : Start} {s s' : Sheet} {book book' : Book} {c : Cl
 
   abbrev T : Tree
   T = tree_with t s'.tree.table.words
-
-  abbrev w : Work
-  w = work_of b s' (taken hc) (gone hc)
 
   abbrev I : RowKind
   I = inner_of t.gapped
@@ -47,8 +43,8 @@ module _ {b : Before} {start : Start} {s s' : Sheet} {book book' : Book} {c : Cl
   planned : IsPlanned start (e.l ∷ e.lower)
   planned = subst (IsPlanned start) e.are hc.planned
 
-  held : AreAllHeld start s'.tree.table.words (was_taken (taken hc)) (e.l ∷ e.lower)
-  held = subst (AreAllHeld start s'.tree.table.words (was_taken (taken hc))) e.are (held_then hc done)
+  held : AreAllHeld start s'.tree.table.words (was_seen (taken hc)) (e.l ∷ e.lower)
+  held = subst (AreAllHeld start s'.tree.table.words (was_seen (taken hc))) e.are (held_then hc done)
 
   told : AreAllFromBelow start (e.l ∷ e.lower)
   told = subst (AreAllFromBelow start) e.are hc.told
@@ -80,8 +76,8 @@ module _ {b : Before} {start : Start} {s s' : Sheet} {book book' : Book} {c : Cl
   many = length-heads I (kind_on t.gapped k) (begin_at start k e.l) e.l.items 0 e.l.ends e.l.rows planned.0.many
 
   -- the new root
-  pub is_new : was_taken (taken hc) e.row ≡ true
-  is_new = subst (λ (seen : List Seen). was_taken seen e.row ≡ true) (sym taken_is) (seen_here (record { height = H; at = x }) (taken_by start (e.l ∷ e.lower)) e.row (row_in-name_at e.row I))
+  pub is_new : was_seen (taken hc) e.row ≡ true
+  is_new = subst (λ (seen : List Seen). was_seen seen e.row ≡ true) (sym taken_is) (seen_here (record { height = H; at = x }) (taken_by start (e.l ∷ e.lower)) e.row (row_in-name_at e.row I))
 
   root_holds : IsNewRow T.table I e.row items
   root_holds = new_row_stays (tree_with t s.tree.table.words).table T.table I e.row items refl
@@ -100,29 +96,29 @@ module _ {b : Before} {start : Start} {s s' : Sheet} {book book' : Book} {c : Cl
   hold : expand T.table (x ∷ []) ≡ spans_from 0 items
   hold = ap (λ (y : Span). expand T.table (y ∷ [])) (sym x_is) ∙ (append-nil (spans_in T.table (record { first = 0; last = end_of 0 items; word = name_at e.row I })) ∙ new_spans T.table I e.row items root_holds 0)
 
-  stand : Stand start s'.tree.table.words (was_taken (taken hc)) (λ p. passing p (taken_by start (e.l ∷ e.lower))) (λ p. passing p (gone hc)) 0 start.height (spans_from 0 items)
+  stand : Stand start s'.tree.table.words (was_seen (taken hc)) (λ p. passing p (taken_by start (e.l ∷ e.lower))) (λ p. passing p (gone hc)) 0 start.height (spans_from 0 items)
   stand =
-      subst (λ (q : (ℕ × ℕ) × (List Span × List Seen)). Stand start s'.tree.table.words (was_taken (taken hc)) (λ p. passing p (taken_by start (e.l ∷ e.lower))) (λ p. passing p q.1.1) q.0.0 q.0.1 q.1.0)
-      (λ i. ((at_top i, e.height i), (level_is i, sym gone_is i))) (planned_stands (beside_of start w (holds_then hc done)) e.l e.lower planned held (omega arith))
+      subst (λ (q : (ℕ × ℕ) × (List Span × List Seen)). Stand start s'.tree.table.words (was_seen (taken hc)) (λ p. passing p (taken_by start (e.l ∷ e.lower))) (λ p. passing p q.1.1) q.0.0 q.0.1 q.1.0)
+      (λ i. ((at_top i, e.height i), (level_is i, sym gone_is i))) (planned_stands (old_beside hc done) e.l e.lower planned held (omega arith))
 
   low : H < deepest
   low =
       let rows : Levels (IsRow T) T.table H (x ∷ []) = ((lawful, tt), subst (Levels (IsRow T) T.table start.height) (sym hold) stand.rows) in
-      nine_levels (with_root T x.word) H (subst (λ (t : Tree). t.rows ≤ most_rows) (sym hc.case.was.tree) hc.case.was.whole.few) (root_rows start w x refl refl H rows)
+      nine_levels (with_root T x.word) H (subst (λ (t : Tree). t.rows ≤ most_rows) (sym hc.case.was.tree) hc.case.was.whole.few) (root_rows T x refl refl H rows)
 
   few : length items ≤ slots_of t.table.width (kind_on t.gapped H)
   few = let few = planned.0.few in let same = many in let size = sizes t.table.width (kind_on t.gapped H) in omega (arith, size.least, size.some)
 
   pub above_replaces : IsReplaced t (tree_as b.kind (with_published s'.tree Root x.word)) start.map (taken hc) (gone hc) (Some start.height) (Some H)
   above_replaces = forms.ends_at_root hc.case.was (ledger_then hc done) (Some start.height) (Some H) x.word
-      (replaced_above x items refl refl low stand lawful hold refl few (ap (was_taken (taken hc)) (row_in-name_at e.row I) ∙ is_new) (λ p. ap (passing p) taken_is))
+      (replaced_above x items refl refl low stand lawful hold refl few (ap (was_seen (taken hc)) (row_in-name_at e.row I) ∙ is_new) (λ p. ap (passing p) taken_is))
 
   -- it keeps the law of gaps, and so do all rows below it
-  pub above_gaps : GapsBeside start (is_taken w) (tree_as b.kind (with_published s'.tree Root x.word)) (Some H)
+  pub above_gaps : GapsBeside start (was_seen (taken hc)) (tree_as b.kind (with_published s'.tree Root x.word)) (Some H)
   above_gaps =
-      let both = planned_tell (beside_of start w (holds_then hc done)) (gaps_were hc.case.was hc.stands) e.l e.lower planned told held (omega arith) in
+      let both = planned_tell (old_beside hc done) (gaps_were hc.case.was hc.stands) e.l e.lower planned told held (omega arith) in
       let tells = subst (λ (q : ℕ × ℕ). TellGaps I T.table q.0 q.1 items) (λ i. (e.height i, begin i)) both.heads in
       let below = subst (λ (q : ℕ × List Span). Levels (GapLaw T) T.table q.0 q.1) (λ i. (e.height i, level_is i)) both.laws in
       let law = subst (GapLaw T H) x_is (head_tells T 0 e.row items H root_holds tells).1 in
-      forms.gaps_at_root hc.case.was (ledger_then hc done) (is_taken w) (Some H) x.word
-      (λ index _ _. root_laws (is_taken w) index start w H x refl refl ((law, tt), subst (Levels (GapLaw T) T.table start.height) (sym hold) below))
+      forms.gaps_at_root hc.case.was (ledger_then hc done) (was_seen (taken hc)) (Some H) x.word
+      (λ index _ _. root_laws (was_seen (taken hc)) index T H x refl refl ((law, tt), subst (Levels (GapLaw T) T.table start.height) (sym hold) below))

@@ -1,37 +1,19 @@
 -- What stands after the store that publishes, and after parent words were written.
-use Rattle.mt_splice.proofs.Prelude.{slice_get, ◌≡◌, ℕ, zero, suc, ◌+◌, ◌<◌, ◌≤◌, List, [], ◌∷◌, Option, Some, None, Bool, true, false, refl, sym, ap, ◌∙◌, subst, inl, inr, arith, cases_Bool, Kind, Width, columns, first_row, Span, row_in, slot_column, slots_of, slot_above, Place, Root, Slot, Table, column, root_span, Tree, Rooted, Sheet, life_of, is_buried, word_at, tree_as, is_reached, map_by, with_record, with_published, life_after, Published, IsPlaceToPublish, root_of, TellsBelow, TellsGapAt, Start, Work, tree_with, with_words, KeepsRowWords, is_taken, StandsAs, FewestAs, count_in, HoldsAs, OnlyParents, IsBelow, SameSpans, is_row_of, same_spans, height_is, Shared, longest_shared, published_rows, published_width, GapsBeside}
+use Rattle.mt_splice.proofs.Prelude.{slice_get, ◌≡◌, ℕ, zero, suc, ◌+◌, ◌<◌, ◌≤◌, List, ◌∷◌, Option, Some, None, Bool, true, false, refl, sym, ap, ◌∙◌, subst, inl, inr, arith, cases_Bool, Kind, Width, columns, first_row, Span, row_in, slot_column, slots_of, slot_above, Place, Root, Slot, Table, column, root_span, Tree, Rooted, Sheet, life_of, is_buried, word_at, tree_as, is_reached, map_by, with_record, with_published, life_after, Published, IsPlaceToPublish, root_of, TellsBelow, TellsGapAt, Start, tree_with, with_words, StandsAs, FewestAs, count_in, OnlyParents, IsBelow, SameSpans, is_row_of, same_spans, height_is, Shared, longest_shared, published_rows, published_width, GapsBeside, was_seen, []}
 use Rattle.mt_splice.proofs.EndGaps.{AllKeep, levels_all, gaps_kept}
 use Rattle.mt_splice.proofs.FewestRows.{SameNews, fewest_later}
 use Rattle.mt_splice.proofs.Drafts.{same_column}
 use Rattle.mt_splice.proofs.EndTrees.{placed_count, map_is, reached_count, count_reached, unreached_count, count_unreached}
-use Rattle.mt_splice.proofs.EndPublish.{now_stands, now_count, now_map, Finish, published, rows_same, width_same, stands_later, map_later, progress, place_is}
+use Rattle.mt_splice.proofs.KeptTrees.{KeepsAs, RowsKeep, count_then, map_then, stands_then}
+use Rattle.mt_splice.proofs.EndPublish.{Finish, published, rows_same, width_same, stands_later, map_later, ledger, place_is}
 use Rattle.mt_splice.proofs.EndTending.{only_rows, only_width}
 use Rattle.mt_splice.proofs.StoredWords.{words_of}
 
 -- ---- a tree whose parent words have changed
 
-abbrev high : Option ℕ → ℕ
-high None = 0
-high (Some h) = h
-
--- the same tree by other words, as a moment of a replacement that takes nothing
-abbrev first_moment : Tree → Option ℕ → Start
-first_moment t o = record { tree = t; height = high o; map = []; first = 0; last = 0 }
-
-abbrev later_moment : List ℕ → Work
-later_moment words = record { words = words; used = (λ (row : ℕ). true); taken = []; gone = [] }
-
-all_hold : (t : Tree) (words : List ℕ) (o : Option ℕ) → AllKeep t.table (record { width = t.table.width; words = words }) → StandsAs t o → HoldsAs (first_moment t o) (later_moment words) o
-all_hold t words None keep stands = stands
-all_hold t words (Some h) keep stands = (
-  refl,
-  record {
-    stands = stands;
-    used = levels_all (λ (_ : ℕ) (x : Span). true ≡ true) t.table (λ _ x. refl) h (root_of t);
-    words = levels_all (λ (_ : ℕ) (x : Span). KeepsRowWords t t.table.words words (row_in x.word)) t.table (λ _ x. keep (row_in x.word)) h (root_of t);
-    taken = λ row some. absurd (omega arith);
-  },
-)
+all_keep : (t : Tree) (words : List ℕ) (o : Option ℕ) → AllKeep t.table (record { width = t.table.width; words = words }) → StandsAs t o → KeepsAs t o words
+all_keep t words None keep stands = stands
+all_keep t words (Some h) keep stands = record { stands = stands; rows = levels_all (RowsKeep t t.table.words words) t.table (λ _ x. keep (row_in x.word)) h (root_of t) }
 
 -- the new rows stay the fewest
 fewest_kept : (is_new : ℕ → Bool) (t : Tree) (words : List ℕ) (o : Option ℕ) → AllKeep t.table (record { width = t.table.width; words = words }) → FewestAs is_new t o → FewestAs is_new (tree_with t words) o
@@ -75,13 +57,13 @@ module _ (t : Tree) (words : List ℕ) (o : Option ℕ) (keep : AllKeep t.table 
   other = tree_with t words
 
   other_stands : StandsAs other o
-  other_stands = now_stands (first_moment t o) (later_moment words) o (all_hold t words o keep stands)
+  other_stands = stands_then t o words (all_keep t words o keep stands)
 
   other_count : (p : ℕ → Span → Bool) → count_in p other o ≡ count_in p t o
-  other_count p = now_count (first_moment t o) (later_moment words) o p (all_hold t words o keep stands)
+  other_count p = count_then t o words p (all_keep t words o keep stands)
 
   other_map : map_by (words_of other) ≡ map_by (words_of t)
-  other_map = map_is other o other_stands ∙ (now_map (first_moment t o) (later_moment words) o (all_hold t words o keep stands) ∙ sym (map_is t o stands))
+  other_map = map_is other o other_stands ∙ (map_then t o words (all_keep t words o keep stands) ∙ sym (map_is t o stands))
 
   other_reached : (row : ℕ) → is_reached (words_of other) row ≡ is_reached (words_of t) row
   other_reached row =
@@ -97,8 +79,8 @@ module _ (t : Tree) (words : List ℕ) (o : Option ℕ) (keep : AllKeep t.table 
 pub record Outcome (f : Finish) (s' : Sheet) : Type 0 where
   pub rest : s' ≡ record f.before.sheet { tree = s'.tree; published = true; lives = s'.lives; buried = s'.buried; told = with_record f.before.sheet.told f.call f.reply; reads = s'.reads }
   pub stands : StandsAs (tree_as f.before.kind s'.tree) f.may.new
-  pub fewest : FewestAs (is_taken f.may.work) (tree_as f.before.kind s'.tree) f.may.new
-  pub gaps : GapsBeside f.start (is_taken f.may.work) (tree_as f.before.kind s'.tree) f.may.new
+  pub fewest : FewestAs (was_seen f.may.taken) (tree_as f.before.kind s'.tree) f.may.new
+  pub gaps : GapsBeside f.start (was_seen f.may.taken) (tree_as f.before.kind s'.tree) f.may.new
   pub rows : s'.tree.rows ≡ f.before.sheet.tree.rows
   pub width : s'.tree.table.width ≡ f.before.sheet.tree.table.width
   pub root : s'.tree.root ≡ (published f).root
@@ -138,15 +120,15 @@ module _ (f : Finish) (s₁ s₂ : Sheet) (done : Published f.sheet s₁ f.place
   stands₁ : StandsAs t₁ f.may.new
   stands₁ = subst (λ (v : Rooted). StandsAs (tree_as f.before.kind v) f.may.new) (sym tree₁) (stands_later f)
 
-  fewest₁ : FewestAs (is_taken f.may.work) t₁ f.may.new
-  fewest₁ = subst (λ (v : Rooted). FewestAs (is_taken f.may.work) (tree_as f.before.kind v) f.may.new) (sym tree₁) f.may.replaced.fewest
+  fewest₁ : FewestAs (was_seen f.may.taken) t₁ f.may.new
+  fewest₁ = subst (λ (v : Rooted). FewestAs (was_seen f.may.taken) (tree_as f.before.kind v) f.may.new) (sym tree₁) f.may.replaced.fewest
 
-  gaps₁ : GapsBeside f.start (is_taken f.may.work) t₁ f.may.new
-  gaps₁ = subst (λ (v : Rooted). GapsBeside f.start (is_taken f.may.work) (tree_as f.before.kind v) f.may.new) (sym tree₁) f.may.gaps
+  gaps₁ : GapsBeside f.start (was_seen f.may.taken) t₁ f.may.new
+  gaps₁ = subst (λ (v : Rooted). GapsBeside f.start (was_seen f.may.taken) (tree_as f.before.kind v) f.may.new) (sym tree₁) f.may.gaps
 
   -- the sheet at the start, but for what the writes have changed
   before_is : f.sheet ≡ record f.before.sheet { tree = f.sheet.tree; lives = f.sheet.lives; buried = f.sheet.buried; reads = f.sheet.reads }
-  before_is = ap (λ (x : Sheet). record x { tree = f.sheet.tree; lives = f.sheet.lives; buried = f.sheet.buried; reads = f.sheet.reads }) (progress f).rest
+  before_is = ap (λ (x : Sheet). record x { tree = f.sheet.tree; lives = f.sheet.lives; buried = f.sheet.buried; reads = f.sheet.reads }) (ledger f).rest
 
   published_is : s₁ ≡ record f.before.sheet { tree = s₁.tree; published = true; lives = s₁.lives; buried = s₁.buried; told = with_record f.before.sheet.told f.call f.reply; reads = s₁.reads }
   published_is =
@@ -170,14 +152,14 @@ module _ (f : Finish) (s₁ s₂ : Sheet) (done : Published f.sheet s₁ f.place
   word_in (Slot r c) at row col is =
       let rows : r ≡ row = cc in let cols : c ≡ col = cc in
       (λ i. word_at (with_published f.sheet.tree (Slot r c) f.word) (sym rows i) (sym cols i))
-      ∙ same_column f.sheet.tree.table.width f.sheet.tree.table.words r (first_row + f.sheet.tree.rows) c f.word at.0.column at.0.last (progress f).whole.words
+      ∙ same_column f.sheet.tree.table.width f.sheet.tree.table.words r (first_row + f.sheet.tree.rows) c f.word at.0.column at.0.last (ledger f).whole.words
 
   pub outcome : Outcome f s₂
   outcome = record {
     rest = rest₂;
     stands = subst (λ (v : Rooted). StandsAs (tree_as f.before.kind v) f.may.new) (sym only.tree) (other_stands t₁ s₂.tree.table.words f.may.new keep stands₁);
-    fewest = subst (λ (v : Rooted). FewestAs (is_taken f.may.work) (tree_as f.before.kind v) f.may.new) (sym only.tree) (fewest_kept (is_taken f.may.work) t₁ s₂.tree.table.words f.may.new keep fewest₁);
-    gaps = subst (λ (v : Rooted). GapsBeside f.start (is_taken f.may.work) (tree_as f.before.kind v) f.may.new) (sym only.tree) (gaps_stay f.start (is_taken f.may.work) t₁ s₂.tree.table.words f.may.new keep stands₁ gaps₁);
+    fewest = subst (λ (v : Rooted). FewestAs (was_seen f.may.taken) (tree_as f.before.kind v) f.may.new) (sym only.tree) (fewest_kept (was_seen f.may.taken) t₁ s₂.tree.table.words f.may.new keep fewest₁);
+    gaps = subst (λ (v : Rooted). GapsBeside f.start (was_seen f.may.taken) (tree_as f.before.kind v) f.may.new) (sym only.tree) (gaps_stay f.start (was_seen f.may.taken) t₁ s₂.tree.table.words f.may.new keep stands₁ gaps₁);
     rows = only_rows s₁ s₂ only ∙ (ap (λ (v : Rooted). v.rows) tree₁ ∙ (published_rows f.sheet.tree f.place f.word ∙ rows_same f));
     width = only_width s₁ s₂ only ∙ (width₁ ∙ width_same f);
     root = ap (λ (v : Rooted). v.root) only.tree ∙ ap (λ (v : Rooted). v.root) tree₁;

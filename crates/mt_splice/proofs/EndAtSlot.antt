@@ -1,14 +1,14 @@
 -- Where one row takes the place of one, in a slot of the row above: the slot, the law of gaps, and what the row there tells.
-use Rattle.mt_splice.proofs.Prelude.{[], ◌≡◌, ℕ, suc, List, ◌∷◌, ◌++◌, false, true, Some, length, refl, sym, ap, ◌∙◌, subst, arith, append-nil, finds_room, Book, Item, RowKind, Gapped, Span, row_in, spans_from, PathStep, step_in, place, Place, Slot, Tree, GapLaw, kind_on, longest_below, Levels, is_row_of, tally, times, StandsAt, tree_as, with_published, IsSlotAt, root_of, with_child, Sheet, inner_of, level_next, times_split, levels_shared, tally-append, one_of_parts, stands_at, times_in_once, Climb, Top, TellsBelow, AreBuriedAll, numbers_in_all, HasClimbed, EndsInSlot, IsEndPlace, was_taken, work_of, AreAllHeld, begin_at, gone_by, heads_at, Before, is_taken, IsReplaced, passing, AreAllFromBelow, GapsBeside, TellGaps, before, behind, high_of, in_place, low_of, row_at, Start, Work, rows_at, tree_with}
+use Rattle.mt_splice.proofs.Prelude.{◌≡◌, ℕ, suc, List, ◌∷◌, ◌++◌, false, true, Some, length, refl, sym, ap, ◌∙◌, subst, arith, append-nil, finds_room, Book, Item, RowKind, Gapped, Span, row_in, spans_from, PathStep, step_in, place, Place, Slot, Tree, GapLaw, kind_on, longest_below, Levels, is_row_of, tally, times, StandsAt, tree_as, with_published, IsSlotAt, root_of, with_child, Sheet, inner_of, level_next, times_split, levels_shared, tally-append, one_of_parts, stands_at, times_in_once, Climb, Top, TellsBelow, AreBuriedAll, numbers_in_all, HasClimbed, EndsInSlot, IsEndPlace, was_seen, AreAllHeld, begin_at, gone_by, heads_at, Before, IsReplaced, passing, AreAllFromBelow, GapsBeside, TellGaps, before, behind, high_of, in_place, low_of, row_at, Start, rows_at, tree_with, [], now}
 use Rattle.mt_splice.proofs.EndForms as forms
 use Rattle.mt_splice.proofs.Ended.{taken, gone, ledger_then, planned, high, within, old_beside, tree_stands, has, same_levels, words, held_stored, stand_below, x_is, level_is, slot_replaces, gone_above}
 use Rattle.mt_splice.proofs.LayerGaps.{KeepGaps, each_old, old_laws, planned_tell}
-use Rattle.mt_splice.proofs.Moments.{old_shared}
+use Rattle.mt_splice.proofs.KeptTrees.{kept_shared}
 use Rattle.mt_splice.proofs.SlotGaps.{gaps_after}
 use Rattle.mt_splice.proofs.SlotStores.{beside_then, is_slot, level_new}
 use Rattle.mt_splice.proofs.ToldRows.{gaps_were}
 use Rattle.mt_splice.proofs.Written.{counts_itself}
-use Rattle.mt_splice.proofs.Ended.{holds_then}
+use Rattle.mt_splice.proofs.LedgerNow.{keeps_by}
 use Rattle.mt_splice.proofs.StoredWords.{column_of, words_of}
 
 one_begins : (x : Span) (gap lo : ℕ) (items : List Item) → items ≡ record { last = x.last; word = x.word; gap = gap } ∷ [] → spans_from lo items ≡ x ∷ [] → lo ≡ x.first
@@ -21,9 +21,6 @@ module _ {b : Before} {start : Start} {s s' : Sheet} {book book' : Book} {c : Cl
     (e : EndsInSlot start hc.layers hc.root hc.over top) where
   abbrev t : Tree
   t = start.tree
-
-  abbrev w : Work
-  w = work_of b s' (taken hc) (gone hc)
 
   abbrev T : Tree
   T = tree_with t s'.tree.table.words
@@ -47,10 +44,10 @@ module _ {b : Before} {start : Start} {s s' : Sheet} {book book' : Book} {c : Cl
   step = step_in t.table parent i
 
   its_slot : IsSlotAt T e.depth parent step.slot replaced
-  its_slot = is_slot (old_beside hc done e) (tree_stands hc done e) (has hc done e) (same_levels hc done e) i e.depth h (within hc done e) (high hc done e) e.x.word
+  its_slot = is_slot (old_beside hc done) (tree_stands hc done e) (has hc done e) (same_levels hc done e) i e.depth h (within hc done e) (high hc done e) e.x.word
 
   level_then : rows_at T' (suc e.depth) ≡ in_place t (suc e.depth) i i (with_child replaced e.x.word ∷ [])
-  level_then = level_new (old_beside hc done e) (tree_stands hc done e) (has hc done e) (same_levels hc done e) i e.depth h (within hc done e) (high hc done e) e.x.word
+  level_then = level_new (old_beside hc done) (tree_stands hc done e) (has hc done e) (same_levels hc done e) i e.depth h (within hc done e) (high hc done e) e.x.word
 
   -- ---- the place
 
@@ -76,42 +73,42 @@ module _ {b : Before} {start : Start} {s s' : Sheet} {book book' : Book} {c : Cl
   -- ---- the tree
 
   both : IsReplaced t (tree_as b.kind (with_published s'.tree (Slot step.row (column_of T (kind_on t.gapped (suc h)) step)) e.x.word)) start.map (taken hc) (gone hc) (Some start.height) (Some start.height)
-      × IsEndPlace start w (Some start.height) (Slot step.row (column_of T (kind_on t.gapped (suc h)) step))
+      × IsEndPlace (now start s') (gone hc) (Some start.height) (Slot step.row (column_of T (kind_on t.gapped (suc h)) step))
   both = forms.ends_in_slot hc.case.was (ledger_then hc done) e.depth h e.x.word step (high hc done e) (record { row = parent; child = replaced; at = its_slot; number = refl }) row_stays (slot_replaces hc done e)
 
   pub in_slot_replaces : IsReplaced t (tree_as b.kind (with_published s'.tree top.place top.word)) start.map (taken hc) (gone hc) (Some start.height) (Some start.height)
   in_slot_replaces = subst (λ (q : Place × ℕ). IsReplaced t (tree_as b.kind (with_published s'.tree q.0 q.1)) start.map (taken hc) (gone hc) (Some start.height) (Some start.height)) (λ m. (sym e.place m, sym e.word m)) both.0
 
-  pub slot_is_place : IsEndPlace start w (Some start.height) top.place
-  slot_is_place = subst (IsEndPlace start w (Some start.height)) (sym e.place) both.1
+  pub slot_is_place : IsEndPlace (now start s') (gone hc) (Some start.height) top.place
+  slot_is_place = subst (IsEndPlace (now start s') (gone hc) (Some start.height)) (sym e.place) both.1
 
   -- ---- the law of gaps
 
   tell : KeepGaps start T' e.l e.lower
-  tell = planned_tell (beside_then (old_beside hc done e) (tree_stands hc done e) (has hc done e) (same_levels hc done e) i e.depth h (within hc done e) (high hc done e) e.x.word) (gaps_were hc.case.was hc.stands) e.l e.lower (planned hc done e)
-      (subst (AreAllFromBelow start) e.are hc.told) (subst (AreAllHeld start (words hc done e) (was_taken (taken hc))) e.are (held_stored hc done e)) (let above = e.above in omega arith)
+  tell = planned_tell (beside_then (old_beside hc done) (tree_stands hc done e) (has hc done e) (same_levels hc done e) i e.depth h (within hc done e) (high hc done e) e.x.word) (gaps_were hc.case.was hc.stands) e.l e.lower (planned hc done e)
+      (subst (AreAllFromBelow start) e.are hc.told) (subst (AreAllHeld start (words hc done e) (was_seen (taken hc))) e.are (held_stored hc done e)) (let above = e.above in omega arith)
 
   laws_then : Levels (GapLaw T') T'.table h (rows_at T' (suc e.depth))
   laws_then = subst (Levels (GapLaw T') T'.table h) (level_is hc done e ∙ sym level_then) tell.laws
 
   laws_before : Levels (GapLaw T) T.table start.height (root_of T)
-  laws_before = old_laws (old_beside hc done e) (gaps_were hc.case.was hc.stands) start.height 0 (omega arith) (omega arith)
+  laws_before = old_laws (old_beside hc done) (gaps_were hc.case.was hc.stands) start.height 0 (omega arith) (omega arith)
 
-  none_new : Levels (λ (_ : ℕ) (y : Span). was_taken (taken hc) (row_in y.word) ≡ false) T.table start.height (root_of T)
+  none_new : Levels (λ (_ : ℕ) (y : Span). was_seen (taken hc) (row_in y.word) ≡ false) T.table start.height (root_of T)
   none_new =
-      levels_shared (λ (_ : ℕ) (y : Span). was_taken (taken hc) (row_in y.word) ≡ false) t.table T.table start.height (root_of t) (old_shared start w (holds_then hc done))
-      (each_old (old_beside hc done e) (gaps_were hc.case.was hc.stands) (λ (_ : ℕ) (y : Span). was_taken (taken hc) (row_in y.word) ≡ false) (λ _ y o. o.old) start.height 0 (omega arith) (omega arith))
+      levels_shared (λ (_ : ℕ) (y : Span). was_seen (taken hc) (row_in y.word) ≡ false) t.table T.table start.height (root_of t) (kept_shared (keeps_by hc.case.was (ledger_then hc done) hc.stands))
+      (each_old (old_beside hc done) (gaps_were hc.case.was hc.stands) (λ (_ : ℕ) (y : Span). was_seen (taken hc) (row_in y.word) ≡ false) (λ _ y o. o.old) start.height 0 (omega arith) (omega arith))
 
-  gaps_at : GapsBeside start (was_taken (taken hc)) T' (Some start.height)
+  gaps_at : GapsBeside start (was_seen (taken hc)) T' (Some start.height)
   gaps_at index from to =
       let levels = high hc done e in let inside = within hc done e in let g = (planned hc done e).0.gathered in
       let begins = g.first in let ends = g.last in let first = ap (λ (d : ℕ). low_of t d i) e.above in let last = ap (λ (d : ℕ). high_of t d e.l.to) e.above in let same = ap (λ (z : Span). z.last) e.same in
-      gaps_after T start.height h e.depth step.slot e.x.word index parent replaced (has hc done e) (tree_stands hc done e) (high hc done e) its_slot (omega arith) (omega arith) (was_taken (taken hc)) laws_before none_new laws_then
+      gaps_after T start.height h e.depth step.slot e.x.word index parent replaced (has hc done e) (tree_stands hc done e) (high hc done e) its_slot (omega arith) (omega arith) (was_seen (taken hc)) laws_before none_new laws_then
 
-  pub in_slot_gaps : GapsBeside start (is_taken w) (tree_as b.kind (with_published s'.tree top.place top.word)) (Some start.height)
+  pub in_slot_gaps : GapsBeside start (was_seen (taken hc)) (tree_as b.kind (with_published s'.tree top.place top.word)) (Some start.height)
   in_slot_gaps =
-      subst (λ (q : Place × ℕ). GapsBeside start (is_taken w) (tree_as b.kind (with_published s'.tree q.0 q.1)) (Some start.height)) (λ m. (sym e.place m, sym e.word m))
-      (forms.gaps_in_slot hc.case.was (ledger_then hc done) (is_taken w) h e.x.word step (Some start.height) gaps_at)
+      subst (λ (q : Place × ℕ). GapsBeside start (was_seen (taken hc)) (tree_as b.kind (with_published s'.tree q.0 q.1)) (Some start.height)) (λ m. (sym e.place m, sym e.word m))
+      (forms.gaps_in_slot hc.case.was (ledger_then hc done) (was_seen (taken hc)) h e.x.word step (Some start.height) gaps_at)
 
   -- ---- what the row there tells
 

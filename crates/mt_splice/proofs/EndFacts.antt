@@ -1,5 +1,5 @@
 -- What a replacement leaves in lives and in the book, and where it published.
-use Rattle.mt_splice.proofs.Prelude.{◌≡◌, ◌≢◌, ℕ, zero, suc, ◌+◌, ◌*◌, ◌<◌, ◌≤◌, List, ◌++◌, Option, Some, None, Bool, true, false, map, refl, sym, ap, ◌∙◌, subst, inl, inr, arith, append_assoc, if◌then◌else◌, All, AllPairs, Contains, cases_Bool, cases_eq, length-map, map-append, All-weaker, All-append, All-contains, Contains-append_left, Contains-append_right, Contains-append_cases, Range, Reply, Width, acted, columns, first_row, row_in, dead_mark, Book, Held, IsBook, IsOut, held_rows, Live, Dead, Place, Root, Slot, column, root_span, Span, KeepsGaps, HasGapsBut, Levels, is_row_of, levels_pair, height_in, Rooted, Sheet, life_of, is_buried, word_at, tree_as, IsTreeOf, LiveAreReached, NoneBuried, is_reached, IsReached, map_by, with_published, life_after, IsPlaceToPublish, passing, Work, now, Before, is_taken, row_seen, stamped, root_of, Shared, levels_from, name_some, WasPublishedAt, IsBooked, HasParents, HasFewest, IsSpliced, is_unreached, GapsBeside, IsUnheld, IsBookOf, StandsAs, FewestAs, count_in, IsChildSlot, IsEndPlace, IsTop}
+use Rattle.mt_splice.proofs.Prelude.{◌≡◌, ◌≢◌, ℕ, zero, suc, ◌+◌, ◌*◌, ◌<◌, ◌≤◌, List, ◌++◌, Option, Some, None, Bool, true, false, map, refl, sym, ap, ◌∙◌, subst, inl, inr, arith, append_assoc, if◌then◌else◌, All, AllPairs, Contains, cases_Bool, cases_eq, length-map, map-append, All-weaker, All-append, All-contains, Contains-append_left, Contains-append_right, Contains-append_cases, Range, Reply, Width, acted, columns, first_row, row_in, dead_mark, Book, Held, IsBook, IsOut, held_rows, Live, Dead, Place, Root, Slot, column, root_span, Span, KeepsGaps, HasGapsBut, Levels, is_row_of, levels_pair, height_in, Rooted, Sheet, life_of, is_buried, word_at, tree_as, IsTreeOf, LiveAreReached, NoneBuried, is_reached, IsReached, map_by, with_published, life_after, IsPlaceToPublish, passing, now, Before, row_seen, stamped, root_of, Shared, levels_from, name_some, WasPublishedAt, IsBooked, HasParents, HasFewest, IsSpliced, is_unreached, GapsBeside, IsUnheld, IsBookOf, StandsAs, FewestAs, count_in, IsChildSlot, IsEndPlace, IsTop, was_seen}
 use Rattle.mt_rows.specs.Laws as laws
 use Rattle.mt_rows.proofs.Reached as reached
 use Rattle.mt_splice.proofs.FewestRows.{SameNews, fewest_later}
@@ -42,9 +42,6 @@ module _ (f : ends.Finish) (s' : Sheet) (o : Outcome f s') where
   abbrev s : Sheet
   s = f.sheet
 
-  abbrev w : Work
-  w = f.may.work
-
   abbrev book : Book
   book = f.book
 
@@ -77,7 +74,7 @@ module _ (f : ends.Finish) (s' : Sheet) (o : Outcome f s') where
   buried_now : (row : ℕ) → 1 ≤ ends.old_count f row → ends.new_count f row ≡ 0 → is_buried s.buried row ≡ true
   buried_now row was none =
       let number = ends.was_number f row was in
-      (ends.progress f).buried row number.0 number.1 ∙ ends.some_gone f row (ends.was_gone f row was none)
+      (ends.ledger f).buried row number.0 number.1 ∙ ends.some_gone f row (ends.was_gone f row was none)
 
   -- a row that is reached neither before nor after was not taken, and is not buried
   untouched : (row : ℕ) → first_row ≤ row → row < first_row + b.sheet.tree.rows → ends.old_count f row ≡ 0 → ends.new_count f row ≡ 0 → life_of s'.lives row ≡ life_of b.sheet.lives row
@@ -114,7 +111,7 @@ module _ (f : ends.Finish) (s' : Sheet) (o : Outcome f s') where
       let was = ends.was_reached f row is in
       let number = ends.was_number f row was in
       let none = unreached_later row not in
-      let ended : s.ended ≡ b.sheet.ended = ap (λ (x : Sheet). x.ended) (ends.progress f).rest in
+      let ended : s.ended ≡ b.sheet.ended = ap (λ (x : Sheet). x.ended) (ends.ledger f).rest in
       o.lives row number.0 number.1
       ∙ (life_if_buried s (ends.published f) row (ends.unreached_later f row none) (buried_now row was none)
       ∙ ap Dead (ap (λ (n : ℕ). n + 1) ended ∙ sym f.may.case.unpublished.numbered))
@@ -125,41 +122,41 @@ module _ (f : ends.Finish) (s' : Sheet) (o : Outcome f s') where
   -- ---- the book
 
   abbrev taken : List ℕ
-  taken = map row_seen w.taken
+  taken = map row_seen f.may.taken
 
   abbrev gone : List ℕ
-  gone = map row_seen w.gone
+  gone = map row_seen f.may.gone
 
   taken_reached : (row : ℕ) → Contains taken row → 1 ≤ ends.new_count f row
-  taken_reached row has = ends.taken_later f row (contains_seen row w.taken has)
+  taken_reached row has = ends.taken_later f row (contains_seen row f.may.taken has)
 
   gone_fate : (row : ℕ) → Contains gone row → (1 ≤ ends.old_count f row) × (ends.new_count f row ≡ 0)
-  gone_fate row has = ends.gone_was f row (contains_seen row w.gone has)
+  gone_fate row has = ends.gone_was f row (contains_seen row f.may.gone has)
 
   moved : IsBooked b.sheet s' b.book book b.number (3 * height_in b.sheet.tree.table b.sheet.tree.root + 1)
   moved = record {
     taken = taken;
-    free = (ends.progress f).free;
-    few = let few = f.may.few in omega (arith, length-map w.taken row_seen);
+    free = (ends.ledger f).free;
+    few = let few = f.may.few in omega (arith, length-map f.may.taken row_seen);
     used = all_ones (IsReached s'.tree) taken (λ row one. is_reached_later row (taken_reached row (one_contains taken row one)));
     gone = gone;
-    held = (ends.progress f).held ∙ ap (λ (l : List Held). b.book.held ++ l) (sym (stamped_rows b.number w.gone));
+    held = (ends.ledger f).held ∙ ap (λ (l : List Held). b.book.held ++ l) (sym (stamped_rows b.number f.may.gone));
     were_reached = all_ones (IsReached b.sheet.tree) gone (λ row one. ends.reached_was f row (gone_fate row (one_contains gone row one)).0);
     are_not = all_ones (λ (row : ℕ). is_reached s'.tree row ≡ false) gone (λ row one. not_reached_later row (gone_fate row (one_contains gone row one)).1);
-    all = λ row was not. seen_contains row w.gone (ends.was_gone f row (ends.was_reached f row was) (unreached_later row not));
+    all = λ row was not. seen_contains row f.may.gone (ends.was_gone f row (ends.was_reached f row was) (unreached_later row not));
   }
 
   held_later : held_rows book ≡ held_rows b.book ++ gone
   held_later =
-      ap (map (λ (h : Held). h.row)) (ends.progress f).held
-      ∙ (map-append (λ (h : Held). h.row) b.book.held (map (stamped b.number) w.gone)
-      ∙ ap (λ (l : List ℕ). held_rows b.book ++ l) (rows_stamped b.number w.gone))
+      ap (map (λ (h : Held). h.row)) (ends.ledger f).held
+      ∙ (map-append (λ (h : Held). h.row) b.book.held (map (stamped b.number) f.may.gone)
+      ∙ ap (λ (l : List ℕ). held_rows b.book ++ l) (rows_stamped b.number f.may.gone))
 
   still_free : (row : ℕ) → Contains book.free row → Contains b.book.free row
-  still_free row has = subst (λ (l : List ℕ). Contains l row) (sym (ends.progress f).free) (Contains-append_left book.free taken row has)
+  still_free row has = subst (λ (l : List ℕ). Contains l row) (sym (ends.ledger f).free) (Contains-append_left book.free taken row has)
 
   was_free : (row : ℕ) → Contains taken row → Contains b.book.free row
-  was_free row has = subst (λ (l : List ℕ). Contains l row) (sym (ends.progress f).free) (Contains-append_right book.free taken row has)
+  was_free row has = subst (λ (l : List ℕ). Contains l row) (sym (ends.ledger f).free) (Contains-append_right book.free taken row has)
 
   -- a row that was reached was neither free nor held
   was_out : (row : ℕ) → 1 ≤ ends.old_count f row → IsOut b.book row
@@ -174,17 +171,17 @@ module _ (f : ends.Finish) (s' : Sheet) (o : Outcome f s') where
       let c = ends.counts f row in let sum = c.sum in
       elim (none_or_some (ends.taken_count f row)) [
         | inl none ↦ (never, omega arith)
-        | inr some ↦ absurd (twice (seen_contains row w.taken some))
+        | inr some ↦ absurd (twice (seen_contains row f.may.taken some))
       ]
     where
       once : Contains (book.free ++ taken) row → Contains (held_rows b.book) row → ⊥
-      once free held = apart_ends (book.free ++ taken) (held_rows b.book) row (subst (λ (l : List ℕ). AllPairs (λ r q. r ≢ q) (l ++ held_rows b.book)) (ends.progress f).free f.may.case.was.kept.booked.sound.once) free held
+      once free held = apart_ends (book.free ++ taken) (held_rows b.book) row (subst (λ (l : List ℕ). AllPairs (λ r q. r ≢ q) (l ++ held_rows b.book)) (ends.ledger f).free f.may.case.was.kept.booked.sound.once) free held
 
       twice : Contains taken row → ⊥
       twice has_taken =
           apart_ends book.free (taken ++ held_rows b.book) row
           (subst (λ (l : List ℕ). AllPairs (λ r q. r ≢ q) l) (append_assoc book.free taken (held_rows b.book))
-          (subst (λ (l : List ℕ). AllPairs (λ r q. r ≢ q) (l ++ held_rows b.book)) (ends.progress f).free f.may.case.was.kept.booked.sound.once))
+          (subst (λ (l : List ℕ). AllPairs (λ r q. r ≢ q) (l ++ held_rows b.book)) (ends.ledger f).free f.may.case.was.kept.booked.sound.once))
           has (Contains-append_left taken (held_rows b.book) row has_taken)
 
   out_is : (row : ℕ) → first_row ≤ row → row < first_row + s'.tree.rows → IsOut book row → IsReached s'.tree row
@@ -194,7 +191,7 @@ module _ (f : ends.Finish) (s' : Sheet) (o : Outcome f s') where
         | inl none ↦
             let not_gone : ends.gone_count f row ≡ 0 = elim (none_or_some (ends.gone_count f row)) [
               | inl never ↦ never
-              | inr some ↦ absurd (out.not_held (subst (λ (l : List ℕ). Contains l row) (sym held_later) (Contains-append_right (held_rows b.book) gone row (seen_contains row w.gone some))))
+              | inr some ↦ absurd (out.not_held (subst (λ (l : List ℕ). Contains l row) (sym held_later) (Contains-append_right (held_rows b.book) gone row (seen_contains row f.may.gone some))))
             ] in
             let was = ends.was_reached f row (f.may.case.was.kept.booked.out row first (low' row last) (out_before none)) in
             let c = ends.counts f row in let sum = c.sum in
@@ -204,9 +201,9 @@ module _ (f : ends.Finish) (s' : Sheet) (o : Outcome f s') where
       out_before : ends.taken_count f row ≡ 0 → IsOut b.book row
       out_before none = record {
         here = (first, subst (λ (n : ℕ). row < first_row + n) (sym f.may.case.was.kept.booked.rows) (low' row last));
-        not_free = λ free. elim (Contains-append_cases book.free taken row (subst (λ (l : List ℕ). Contains l row) (ends.progress f).free free)) [
+        not_free = λ free. elim (Contains-append_cases book.free taken row (subst (λ (l : List ℕ). Contains l row) (ends.ledger f).free free)) [
           | inl still ↦ out.not_free still
-          | inr has ↦ let some = contains_seen row w.taken has in absurd (omega arith)
+          | inr has ↦ let some = contains_seen row f.may.taken has in absurd (omega arith)
         ];
         not_held = λ held. out.not_held (subst (λ (l : List ℕ). Contains l row) (sym held_later) (Contains-append_left (held_rows b.book) gone row held));
       }
@@ -216,7 +213,7 @@ module _ (f : ends.Finish) (s' : Sheet) (o : Outcome f s') where
       let some = reached_later row is in
       let number = ends.later_number f row some in
       record {
-        here = (number.0, subst (λ (n : ℕ). row < first_row + n) (sym ((ends.progress f).rows ∙ f.may.case.was.kept.booked.rows)) number.1);
+        here = (number.0, subst (λ (n : ℕ). row < first_row + n) (sym ((ends.ledger f).rows ∙ f.may.case.was.kept.booked.rows)) number.1);
         not_free = λ free. (let never = free_unreached row free in let none = never.1 in absurd (omega arith));
         not_held = λ held. elim (Contains-append_cases (held_rows b.book) gone row (subst (λ (l : List ℕ). Contains l row) held_later held)) [
           | inl before ↦ held_before some before
@@ -229,7 +226,7 @@ module _ (f : ends.Finish) (s' : Sheet) (o : Outcome f s') where
           let c = ends.counts f row in let sum = c.sum in
           elim (none_or_some (ends.old_count f row)) [
             | inr was ↦ absurd ((was_out row was).not_held held)
-            | inl never ↦ apart_ends b.book.free (held_rows b.book) row f.may.case.was.kept.booked.sound.once (was_free row (seen_contains row w.taken (omega arith))) held
+            | inl never ↦ apart_ends b.book.free (held_rows b.book) row f.may.case.was.kept.booked.sound.once (was_free row (seen_contains row f.may.taken (omega arith))) held
           ]
 
   spare : All (λ (row : ℕ). IsUnheld s'.cleared (life_of s'.lives row)) book.free
@@ -245,30 +242,30 @@ module _ (f : ends.Finish) (s' : Sheet) (o : Outcome f s') where
 
   stamps : All (λ (h : Held). h.stamp < b.number + 1) book.held
   stamps =
-      subst (All (λ (h : Held). h.stamp < b.number + 1)) (sym (ends.progress f).held)
-      (All-append (λ (h : Held). h.stamp < b.number + 1) b.book.held (map (stamped b.number) w.gone)
+      subst (All (λ (h : Held). h.stamp < b.number + 1)) (sym (ends.ledger f).held)
+      (All-append (λ (h : Held). h.stamp < b.number + 1) b.book.held (map (stamped b.number) f.may.gone)
       (All-weaker (λ (h : Held). h.stamp < b.number) (λ (h : Held). h.stamp < b.number + 1) (λ h low. omega arith) b.book.held f.may.case.was.kept.booked.stamps)
-      (all_ones (λ (h : Held). h.stamp < b.number + 1) (map (stamped b.number) w.gone) (λ h one.
-      (let at = map_one (stamped b.number) w.gone h one in
+      (all_ones (λ (h : Held). h.stamp < b.number + 1) (map (stamped b.number) f.may.gone) (λ h one.
+      (let at = map_one (stamped b.number) f.may.gone h one in
       subst (λ (g : Held). g.stamp < b.number + 1) at.2 (omega arith)))))
 
   -- the book of these rows, of which some are taken and others retired
   sound : IsBook book
   sound =
       let was = f.may.case.was.kept.booked in
-      let free : IsBook (record { rows = b.book.rows; free = book.free ++ taken; held = b.book.held }) = subst (λ (l : List ℕ). IsBook (record { rows = b.book.rows; free = l; held = b.book.held })) (ends.progress f).free was.sound in
-      let held = retired_leave_book (record { rows = b.book.rows; free = book.free; held = b.book.held }) b.number w.gone (taken_leave_book b.book.rows book.free taken b.book.held free)
+      let free : IsBook (record { rows = b.book.rows; free = book.free ++ taken; held = b.book.held }) = subst (λ (l : List ℕ). IsBook (record { rows = b.book.rows; free = l; held = b.book.held })) (ends.ledger f).free was.sound in
+      let held = retired_leave_book (record { rows = b.book.rows; free = book.free; held = b.book.held }) b.number f.may.gone (taken_leave_book b.book.rows book.free taken b.book.held free)
       (All-weaker (λ (h : Held). h.stamp < b.number) (λ (h : Held). h.stamp ≤ b.number) (λ h low. omega arith) b.book.held was.stamps)
       (λ row. (let c = ends.counts f row in let were = c.were in let once = c.once in omega arith))
       (λ seen one.
-      (let out = was_out (row_seen seen) (ends.gone_was f (row_seen seen) (seen_some w.gone seen one)).0 in
+      (let out = was_out (row_seen seen) (ends.gone_was f (row_seen seen) (seen_some f.may.gone seen one)).0 in
       record { here = out.here; not_free = λ has. out.not_free (still_free (row_seen seen) has); not_held = out.not_held })) in
-      subst IsBook (λ i. record { rows = sym (ends.progress f).rows i; free = book.free; held = sym (ends.progress f).held i }) held
+      subst IsBook (λ i. record { rows = sym (ends.ledger f).rows i; free = book.free; held = sym (ends.ledger f).held i }) held
 
   booked : IsBookOf s'.tree s'.lives s'.cleared book (b.number + 1)
   booked = record {
     sound = sound;
-    rows = (ends.progress f).rows ∙ (f.may.case.was.kept.booked.rows ∙ sym o.rows);
+    rows = (ends.ledger f).rows ∙ (f.may.case.was.kept.booked.rows ∙ sym o.rows);
     out = out_is;
     reached = is_out;
     spare = spare;
@@ -280,28 +277,28 @@ module _ (f : ends.Finish) (s' : Sheet) (o : Outcome f s') where
   root_before : f.start.tree.root ≡ b.sheet.tree.root
   root_before = ap (λ (t : laws.Tree). t.root) f.may.case.was.tree
 
-  other_root : (old new : Option ℕ) → f.may.old ≡ old → f.may.new ≡ new → StandsAs f.start.tree old → IsTop w old new f.word → f.word ≢ f.start.tree.root
+  other_root : (old new : Option ℕ) → f.may.old ≡ old → f.may.new ≡ new → StandsAs f.start.tree old → IsTop f.may.taken old new f.word → f.word ≢ f.start.tree.root
   other_root None None is is' stands top same = absurd top
   other_root (Some h) None is is' stands top same = root_named f.start.tree h stands (sym same ∙ top)
   other_root None (Some h') is is' stands top same = ends.word_is_some f h' is' (same ∙ stands)
   other_root (Some h) (Some h') is is' stands top same =
       let was : 1 ≤ ends.old_count f (row_in f.start.tree.root) = subst (λ (o : Option ℕ). 1 ≤ count_in (is_row_of (row_in f.start.tree.root)) f.start.tree o) (sym is) (root_counts f.start.tree h stands) in
       let not = ends.old_is_not_taken f (row_in f.start.tree.root) was in
-      let taken : is_taken w (row_in f.start.tree.root) ≡ true = subst (λ (n : ℕ). is_taken w (row_in n) ≡ true) same top in
+      let taken : was_seen f.may.taken (row_in f.start.tree.root) ≡ true = subst (λ (n : ℕ). was_seen f.may.taken (row_in n) ≡ true) same top in
       absurd (cc)
 
   -- ---- the slot that was written
 
-  module _ (h row col : ℕ) (is_old : f.may.old ≡ Some h) (place : IsChildSlot (now f.start w) h row col) where
+  module _ (h row col : ℕ) (is_old : f.may.old ≡ Some h) (place : IsChildSlot (now f.start s) h row col) where
     abbrev t : laws.Tree
-    t = now f.start w
+    t = now f.start s
 
     stands : laws.Stands t h
     stands = subst (StandsAs t) is_old (ends.stands_now f)
 
     counted_now : (r : ℕ) → 1 ≤ count_in (is_row_of r) t (Some h) → 1 ≤ ends.old_count f r
     counted_now r some =
-        let same = ends.now_count f.start w f.may.old (is_row_of r) f.may.holds in
+        let same = ends.now_count f (is_row_of r) in
         let here : 1 ≤ count_in (is_row_of r) t f.may.old = subst (λ (old : Option ℕ). 1 ≤ count_in (is_row_of r) t old) (sym is_old) some in
         omega arith
 
@@ -325,17 +322,17 @@ module _ (f : ends.Finish) (s' : Sheet) (o : Outcome f s') where
 
     word_was : (0 < col) × (col < columns b.sheet.tree.table.width) → word_at b.sheet.tree row col ≡ place.child.word
     word_was within =
-        sym ((ends.progress f).kept row col (ends.old_is_not_taken f row row_was) within.0 within.1)
+        sym ((ends.ledger f).kept row col (ends.old_is_not_taken f row row_was) within.0 within.1)
         ∙ (ap (λ (v : Rooted). column v.table row col) (ends.tree_is f) ∙ word_now)
 
-    not_child : (new : Option ℕ) → IsTop w (Some h) new f.word → f.word ≢ place.child.word
+    not_child : (new : Option ℕ) → IsTop f.may.taken (Some h) new f.word → f.word ≢ place.child.word
     not_child None top same = child_named (sym same ∙ top)
     not_child (Some h') top same =
         let not = ends.old_is_not_taken f (row_in place.child.word) child_was in
-        let taken : is_taken w (row_in place.child.word) ≡ true = subst (λ (n : ℕ). is_taken w (row_in n) ≡ true) same top in
+        let taken : was_seen f.may.taken (row_in place.child.word) ≡ true = subst (λ (n : ℕ). was_seen f.may.taken (row_in n) ≡ true) same top in
         absurd (cc)
 
-    slot_published : (new : Option ℕ) → IsTop w (Some h) new f.word → f.place ≡ Slot row col → passing (is_row_of row) w.gone ≡ 0 → WasPublishedAt b.sheet s' (Slot row col)
+    slot_published : (new : Option ℕ) → IsTop f.may.taken (Some h) new f.word → f.place ≡ Slot row col → passing (is_row_of row) f.may.gone ≡ 0 → WasPublishedAt b.sheet s' (Slot row col)
     slot_published new top is_place kept =
         let number = ends.was_number f row row_was in
         let c = ends.counts f row in let sum = c.sum in
@@ -347,7 +344,7 @@ module _ (f : ends.Finish) (s' : Sheet) (o : Outcome f s') where
           (λ same. not_child new top (sym (o.at row col is_place) ∙ (same ∙ word_was low))),
         )
 
-  published_in : (old new : Option ℕ) (place : Place) → f.may.old ≡ old → f.may.new ≡ new → f.place ≡ place → StandsAs f.start.tree old → IsEndPlace f.start w old place → IsTop w old new f.word → WasPublishedAt b.sheet s' place
+  published_in : (old new : Option ℕ) (place : Place) → f.may.old ≡ old → f.may.new ≡ new → f.place ≡ place → StandsAs f.start.tree old → IsEndPlace (now f.start s) f.may.gone old place → IsTop f.may.taken old new f.word → WasPublishedAt b.sheet s' place
   published_in old new Root is_old is_new is_place was at top = λ same.
       other_root old new is_old is_new was top
       (sym (o.root ∙ ap (λ (p : Place). (with_published s.tree p f.word).root) is_place) ∙ (same ∙ sym root_before))
@@ -368,7 +365,7 @@ module _ (f : ends.Finish) (s' : Sheet) (o : Outcome f s') where
       ]
 
   -- a row that is not reached for the first time was not taken
-  not_taken_of : (row : ℕ) → (IsReached s'.tree row → IsReached b.sheet.tree row) → is_taken w row ≡ false
+  not_taken_of : (row : ℕ) → (IsReached s'.tree row → IsReached b.sheet.tree row) → was_seen f.may.taken row ≡ false
   not_taken_of row old = elim (none_or_some (ends.taken_count f row)) [
     | inl none ↦ ends.not_taken f row none
     | inr some ↦
@@ -380,10 +377,10 @@ module _ (f : ends.Finish) (s' : Sheet) (o : Outcome f s') where
   kept row col old above within other =
       o.kept row col above within
       ∙ (stored_kept f.place (ends.place_is f) row col (subst (λ (v : Width). col < columns v) (sym (ends.width_same f)) within) other
-      ∙ (ends.progress f).kept row col (not_taken_of row old) above within)
+      ∙ (ends.ledger f).kept row col (not_taken_of row old) above within)
 
   -- a row of the tree now is one that was taken, or one of the tree before
-  new_is_taken : (row : ℕ) → is_reached s'.tree row ≡ true → is_unreached b.sheet.tree row ≡ is_taken w row
+  new_is_taken : (row : ℕ) → is_reached s'.tree row ≡ true → is_unreached b.sheet.tree row ≡ was_seen f.may.taken row
   new_is_taken row is =
       let c = ends.counts f row in let sum = c.sum in let now = reached_later row is in
       elim (none_or_some (ends.taken_count f row)) [
@@ -400,32 +397,32 @@ module _ (f : ends.Finish) (s' : Sheet) (o : Outcome f s') where
   abbrev tree_now : laws.Tree
   tree_now = tree_as b.kind s'.tree
 
-  fewest_as : (new : Option ℕ) → StandsAs tree_now new → FewestAs (is_taken w) tree_now new → HasFewest (is_unreached b.sheet.tree) tree_now
+  fewest_as : (new : Option ℕ) → StandsAs tree_now new → FewestAs (was_seen f.may.taken) tree_now new → HasFewest (is_unreached b.sheet.tree) tree_now
   fewest_as None none few = inl none
   fewest_as (Some h) standing few = inr (
     h,
     standing,
-    fewest_later (is_taken w) (is_unreached b.sheet.tree) tree_now.gapped s'.tree.table s'.tree.table refl h (root_of tree_now)
+    fewest_later (was_seen f.may.taken) (is_unreached b.sheet.tree) tree_now.gapped s'.tree.table s'.tree.table refl h (root_of tree_now)
         (levels_all (Shared s'.tree.table s'.tree.table) s'.tree.table (λ _ x. refl) h (root_of tree_now))
-        (levels_from (SameNews (is_taken w) (is_unreached b.sheet.tree)) s'.tree.table h (root_of tree_now) h 0 (omega arith)
+        (levels_from (SameNews (was_seen f.may.taken) (is_unreached b.sheet.tree)) s'.tree.table h (root_of tree_now) h 0 (omega arith)
         (λ k x _ on. new_is_taken (row_in x.word) (count_reached tree_now (Some h) (row_in x.word) standing (reached.on_level_reached tree_now h standing k x on)))) few,
   )
 
   -- a row of the tree keeps the law of gaps as it did
-  gaps_of : (index h : ℕ) → StandsAs tree_now (Some h) → Levels (KeepsGaps (is_taken w) index tree_now) s'.tree.table h (root_of tree_now) → Levels (KeepsGaps (is_unreached b.sheet.tree) index tree_now) s'.tree.table h (root_of tree_now)
-  gaps_of index h standing gaps = levels_pair SameNew (KeepsGaps (is_taken w) index tree_now) (KeepsGaps (is_unreached b.sheet.tree) index tree_now) s'.tree.table one h (root_of tree_now) news gaps
+  gaps_of : (index h : ℕ) → StandsAs tree_now (Some h) → Levels (KeepsGaps (was_seen f.may.taken) index tree_now) s'.tree.table h (root_of tree_now) → Levels (KeepsGaps (is_unreached b.sheet.tree) index tree_now) s'.tree.table h (root_of tree_now)
+  gaps_of index h standing gaps = levels_pair SameNew (KeepsGaps (was_seen f.may.taken) index tree_now) (KeepsGaps (is_unreached b.sheet.tree) index tree_now) s'.tree.table one h (root_of tree_now) news gaps
     where
       SameNew : ℕ → Span → Type 0
-      SameNew k x = is_unreached b.sheet.tree (row_in x.word) ≡ is_taken w (row_in x.word)
+      SameNew k x = is_unreached b.sheet.tree (row_in x.word) ≡ was_seen f.may.taken (row_in x.word)
 
       news : Levels SameNew s'.tree.table h (root_of tree_now)
       news = levels_from SameNew s'.tree.table h (root_of tree_now) h 0 (omega arith)
           (λ k x _ on. new_is_taken (row_in x.word) (count_reached tree_now (Some h) (row_in x.word) standing (reached.on_level_reached tree_now h standing k x on)))
 
-      one : (k : ℕ) (x : Span) → SameNew k x → KeepsGaps (is_taken w) index tree_now k x → KeepsGaps (is_unreached b.sheet.tree) index tree_now k x
+      one : (k : ℕ) (x : Span) → SameNew k x → KeepsGaps (was_seen f.may.taken) index tree_now k x → KeepsGaps (is_unreached b.sheet.tree) index tree_now k x
       one k x same keeps = record { beside = keeps.beside; new = λ is. keeps.new (sym same ∙ is) }
 
-  gaps_as : (new : Option ℕ) → StandsAs tree_now new → GapsBeside f.start (is_taken w) tree_now new → (index : ℕ) → f.start.first ≤ index → index ≤ f.start.last → HasGapsBut (is_unreached b.sheet.tree) index tree_now
+  gaps_as : (new : Option ℕ) → StandsAs tree_now new → GapsBeside f.start (was_seen f.may.taken) tree_now new → (index : ℕ) → f.start.first ≤ index → index ≤ f.start.last → HasGapsBut (is_unreached b.sheet.tree) index tree_now
   gaps_as None none gaps index from to = inl none
   gaps_as (Some h) standing gaps index from to = inr (h, standing, gaps_of index h standing (gaps index from to))
 
@@ -439,7 +436,7 @@ module _ (f : ends.Finish) (s' : Sheet) (o : Outcome f s') where
     map = map_is;
     fewest = fewest_as f.may.new o.stands o.fewest;
     gaps = gaps_as f.may.new o.stands o.gaps;
-    published = published_in f.may.old f.may.new f.place refl refl refl (ends.stands_was f) f.may.at f.may.top;
+    published = published_in f.may.old f.may.new f.place refl refl refl f.may.stood f.may.at f.may.top;
     kept = kept;
     none_buried = none_buried;
     live = live;

@@ -1,5 +1,5 @@
 -- The law of gaps at the end of a replacement: at a new root, and after parent words were written.
-use Rattle.mt_splice.proofs.Prelude.{[], ◌≡◌, ℕ, zero, suc, ◌+◌, ◌<◌, ◌≤◌, List, ◌∷◌, Some, Bool, length, refl, sym, ap, ◌∙◌, subst, inl, inr, arith, AllByRecursion, ◌⊎◌, Width, columns, RowKind, Leaf, Inner, Gapped, Span, row_in, gap_column, slots_of, gaps_of, sizes, some_gaps_of, Table, column, inner_of, spans_in, expand, Levels, Tree, IsRow, GapLaw, top_of, GapsFromBut, GapLawButBy, KeepsGaps, row_most, same_spans, Shared, levels_shared, levels_map, levels_pair, longest_shared, Start, Work, now, table_with, tree_with, GapsAs, with_root}
+use Rattle.mt_splice.proofs.Prelude.{◌≡◌, ℕ, zero, suc, ◌+◌, ◌<◌, ◌≤◌, List, ◌∷◌, Some, Bool, length, refl, sym, ap, ◌∙◌, subst, inl, inr, arith, AllByRecursion, ◌⊎◌, Width, columns, RowKind, Leaf, Inner, Gapped, Span, row_in, gap_column, slots_of, gaps_of, sizes, some_gaps_of, Table, column, inner_of, spans_in, expand, Levels, Tree, IsRow, GapLaw, top_of, GapsFromBut, GapLawButBy, KeepsGaps, row_most, same_spans, Shared, levels_shared, levels_map, levels_pair, longest_shared, table_with, tree_with, GapsAs, with_root, []}
 use Rattle.mt_splice.proofs.GapRows.{Kept, gap_law_stays}
 use Rattle.mt_splice.proofs.RootEndings.{at_root}
 use Rattle.mt_splice.proofs.SlotGaps.{weaker}
@@ -10,11 +10,11 @@ same_law : (t : Tree) (root h : ℕ) (x : Span) → GapLaw t h x → GapLaw (wit
 same_law t root zero x law = tt
 same_law t root (suc h) x law = law
 
-pub root_laws : (is_new : ℕ → Bool) (index : ℕ) (start : Start) (w : Work) (h : ℕ) (x : Span) → x.first ≡ 0 → x.last ≡ top_of start.tree → Levels (GapLaw (now start w)) (now start w).table h (x ∷ []) → GapsAs is_new index (with_root (now start w) x.word) (Some h)
-root_laws is_new index start w h x first last laws =
-    let t' = with_root (now start w) x.word in
-    subst (Levels (KeepsGaps is_new index t') t'.table h) (at_root start w x first last)
-    (levels_map (GapLaw (now start w)) (KeepsGaps is_new index t') t'.table (λ j y law. record { beside = weaker index t' j y (same_law (now start w) x.word j y law); new = λ _. same_law (now start w) x.word j y law }) h (x ∷ []) laws)
+pub root_laws : (is_new : ℕ → Bool) (index : ℕ) (t : Tree) (h : ℕ) (x : Span) → x.first ≡ 0 → x.last ≡ top_of t → Levels (GapLaw t) t.table h (x ∷ []) → GapsAs is_new index (with_root t x.word) (Some h)
+root_laws is_new index t h x first last laws =
+    let t' = with_root t x.word in
+    subst (Levels (KeepsGaps is_new index t') t'.table h) (at_root t x first last)
+    (levels_map (GapLaw t) (KeepsGaps is_new index t') t'.table (λ j y law. record { beside = weaker index t' j y (same_law t x.word j y law); new = λ _. same_law t x.word j y law }) h (x ∷ []) laws)
 
 -- ---- every row keeps its columns but for the parent word
 

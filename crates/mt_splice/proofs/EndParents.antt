@@ -1,10 +1,10 @@
 -- When a replacement is published and the children of its new inner rows are tended, all parent words are right.
-use Rattle.mt_splice.proofs.Prelude.{◌≡◌, ◌≢◌, ◌⊎◌, ℕ, zero, suc, ◌+◌, ◌-◌, ◌<◌, ◌≤◌, List, [], ◌∷◌, Option, Some, None, true, false, length, refl, sym, ap, ◌∙◌, subst, inl, inr, arith, nat_lt, is_some, if◌then◌else◌, slice_get, cases_Bool, slice_get_within, Width, columns, first_row, RowKind, Span, row_in, named_kind, named_row, parent_at, slot_column, Draft, Live, Place, Root, Slot, Table, column, inner_kind, spans_in, root_span, slots_of, some_columns, Levels, is_row_of, Rooted, Sheet, IsPlace, life_of, is_buried, tree_as, with_published, Published, IsPlaceToPublish, root_of, same_spans, Shared, levels_shared, NewRow, Seen, passing, Work, now, child_word, child_row, AreChildren, Before, is_taken, row_seen, HasParents, StandsAs, count_in, HoldsAs, IsEndPlace, IsTop, OnlyParents, MayTendRows, AreRowsTended, MayTendTop, MayTendTopAt, IsTopTendedAt, row_most, levels_at, published_rows, published_width}
+use Rattle.mt_splice.proofs.Prelude.{◌≡◌, ◌≢◌, ◌⊎◌, ℕ, zero, suc, ◌+◌, ◌-◌, ◌<◌, ◌≤◌, List, ◌∷◌, Option, Some, None, true, false, length, refl, sym, ap, ◌∙◌, subst, inl, inr, arith, nat_lt, is_some, if◌then◌else◌, slice_get, cases_Bool, slice_get_within, Width, columns, first_row, RowKind, Span, row_in, named_kind, named_row, parent_at, slot_column, Draft, Live, Place, Root, Slot, Table, column, inner_kind, spans_in, root_span, slots_of, some_columns, Levels, is_row_of, Rooted, Sheet, IsPlace, life_of, is_buried, tree_as, with_published, Published, IsPlaceToPublish, root_of, same_spans, Shared, levels_shared, NewRow, Seen, passing, now, child_word, child_row, AreChildren, Before, row_seen, HasParents, StandsAs, count_in, IsEndPlace, IsTop, OnlyParents, MayTendRows, AreRowsTended, MayTendTop, MayTendTopAt, IsTopTendedAt, row_most, levels_at, published_rows, published_width, was_seen, []}
 use Rattle.mt_rows.specs.Laws as laws
 use Rattle.mt_rows.proofs.Reached as reached
 use Rattle.mt_splice.proofs.Drafts.{other_row}
 use Rattle.mt_splice.proofs.EndTending.{only_width, kept_column, only_more, top_only, top_kept}
-use Rattle.mt_splice.proofs.Moments.{old_shared, old_level}
+use Rattle.mt_splice.proofs.KeptTrees.{Keeps, KeepsAs, kept_level, kept_shared}
 use Rattle.mt_splice.proofs.EndTrees.{none_or_some, count_once}
 use Rattle.mt_splice.proofs.EndHoles.{same_place_spans, at_on_level, top_span, top_get, slot_get}
 use Rattle.mt_splice.proofs.EndLists.{some_seen, seen_some}
@@ -21,9 +21,6 @@ use Rattle.mt_splice.proofs.StoredWords.{words_of}
 module _ (f : ends.Finish) where
   abbrev b : Before
   b = f.before
-
-  abbrev w : Work
-  w = f.may.work
 
   abbrev s : Sheet
   s = f.sheet
@@ -43,11 +40,11 @@ module _ (f : ends.Finish) where
   parent_stays row = stored_parent f.place (ends.place_is f) row
 
   -- the row of a slot place was not taken
-  place_old : (place : Place) → IsPlaceToPublish s place → (row col : ℕ) → place ≡ Slot row col → is_taken w row ≡ false
+  place_old : (place : Place) → IsPlaceToPublish s place → (row col : ℕ) → place ≡ Slot row col → was_seen f.may.taken row ≡ false
   place_old Root at row col is = absurd (cc)
   place_old (Slot r c) at row col is =
       let same : r ≡ row = cc in
-      subst (λ (n : ℕ). is_taken w n ≡ false) same (elim (cases_Bool (is_taken w r)) [
+      subst (λ (n : ℕ). was_seen f.may.taken n ≡ false) same (elim (cases_Bool (was_seen f.may.taken r)) [
         | inr not ↦ not
         | inl taken ↦
             let last : r < first_row + b.sheet.tree.rows = subst (λ (n : ℕ). r < first_row + n) (ends.rows_same f) at.0.last in
@@ -55,17 +52,17 @@ module _ (f : ends.Finish) where
             absurd (cc)
       ])
 
-  stored_spans : (place : Place) → IsPlaceToPublish s place → ((row col : ℕ) → place ≡ Slot row col → is_taken w row ≡ false) → (x : Span) → is_taken w (row_in x.word) ≡ true
+  stored_spans : (place : Place) → IsPlaceToPublish s place → ((row col : ℕ) → place ≡ Slot row col → was_seen f.may.taken row ≡ false) → (x : Span) → was_seen f.may.taken (row_in x.word) ≡ true
       → spans_in (with_published s.tree place f.word).table x ≡ spans_in s.tree.table x
   stored_spans Root at old x taken = refl
   stored_spans (Slot r c) at old x taken =
       same_spans s.tree.table (with_published s.tree (Slot r c) f.word).table x refl (λ column_of above within.
       other_row s.tree.table.width s.tree.table.words r c f.word (row_in x.word) column_of
-      (λ same. (let not = old r c refl in let both : is_taken w r ≡ true = subst (λ (n : ℕ). is_taken w n ≡ true) same taken in absurd (cc)))
+      (λ same. (let not = old r c refl in let both : was_seen f.may.taken r ≡ true = subst (λ (n : ℕ). was_seen f.may.taken n ≡ true) same taken in absurd (cc)))
       (above_in s (Slot r c) at r c refl).1 within)
 
   -- a row that was taken holds what was written in it
-  taken_spans : (x : Span) → is_taken w (row_in x.word) ≡ true → spans_in later.table x ≡ spans_in s.tree.table x
+  taken_spans : (x : Span) → was_seen f.may.taken (row_in x.word) ≡ true → spans_in later.table x ≡ spans_in s.tree.table x
   taken_spans x taken = stored_spans f.place (ends.place_is f) (place_old f.place (ends.place_is f)) x taken
 
   pub inner : (k : ℕ) → laws.kind_at b.kind (suc k) ≡ inner_kind b.kind
@@ -84,12 +81,12 @@ module _ (f : ends.Finish) where
     -- ---- rows that were taken
 
     -- a row that was taken stands where it was written to stand
-    taken_place : (sn : Seen) → reached.IsOneOf sn w.taken → (x : Span) × reached.OnLevel later.table h (root_of later) sn.height x × (x.first ≡ sn.at.first) × (x.last ≡ sn.at.last) × (x.word ≡ sn.at.word)
+    taken_place : (sn : Seen) → reached.IsOneOf sn f.may.taken → (x : Span) × reached.OnLevel later.table h (root_of later) sn.height x × (x.first ≡ sn.at.first) × (x.last ≡ sn.at.last) × (x.word ≡ sn.at.word)
     taken_place sn one =
-        let some : 1 ≤ passing (is_here sn.height sn.at) w.taken = reached.tally_some (λ (v : Seen). is_here sn.height sn.at v.height v.at) w.taken sn one (here_itself sn.height sn.at) in
-        let mine = seen_some w.taken sn one in
+        let some : 1 ≤ passing (is_here sn.height sn.at) f.may.taken = reached.tally_some (λ (v : Seen). is_here sn.height sn.at v.height v.at) f.may.taken sn one (here_itself sn.height sn.at) in
+        let mine = seen_some f.may.taken sn one in
         let c = ends.counts f (row_seen sn) in let were = c.were in let never = c.fresh mine in
-        let gone = ends.passing_implies (is_here sn.height sn.at) (is_row_of (row_seen sn)) (here_row sn.height sn.at) w.gone in
+        let gone = ends.passing_implies (is_here sn.height sn.at) (is_row_of (row_seen sn)) (here_row sn.height sn.at) f.may.gone in
         let all = f.may.replaced.rows (is_here sn.height sn.at) in
         let found : 1 ≤ count_in (is_here sn.height sn.at) later f.may.new = omega arith in
         let place = reached.times_place (is_here sn.height sn.at) later.table h (root_of later) (subst (λ (new : Option ℕ). 1 ≤ count_in (is_here sn.height sn.at) later new) is_new found) in
@@ -103,34 +100,34 @@ module _ (f : ends.Finish) where
       pub on : reached.OnLevel later.table h (root_of later) (suc low) at
       pub row : row_in at.word ≡ n.row
       pub count : n.count ≡ length (spans_in later.table at)
-      pub taken : is_taken w n.row ≡ true
+      pub taken : was_seen f.may.taken n.row ≡ true
 
     made_row : (n : NewRow) → reached.IsOneOf n f.inner → MadeRow n
     made_row n one =
-        let found = made_seen s.tree.table w.taken n (subst (reached.IsOneOf n) f.may.inner_rows one) in
+        let found = made_seen s.tree.table f.may.taken n (subst (reached.IsOneOf n) f.may.inner_rows one) in
         let place = taken_place found.0 found.1 in
-        let taken = ends.some_taken f (row_seen found.0) (seen_some w.taken found.0 found.1) in
+        let taken = ends.some_taken f (row_seen found.0) (seen_some f.may.taken found.0 found.1) in
         let row : row_in place.0.word ≡ row_seen found.0 = ap row_in place.4 in
-        let spans = taken_spans place.0 (ap (is_taken w) row ∙ taken) ∙ same_place_spans s.tree.table found.0.at place.0 place.2 place.3 place.4 in
+        let spans = taken_spans place.0 (ap (was_seen f.may.taken) row ∙ taken) ∙ same_place_spans s.tree.table found.0.at place.0 place.2 place.3 place.4 in
         record {
           low = found.2.0;
           at = place.0;
           on = subst (λ (k : ℕ). reached.OnLevel later.table h (root_of later) k place.0) found.2.1 place.1;
           row = row ∙ sym (ap (λ (m : NewRow). m.row) found.2.2);
           count = ap (λ (m : NewRow). m.count) found.2.2 ∙ ap length (sym spans);
-          taken = ap (λ (m : NewRow). is_taken w m.row) found.2.2 ∙ taken;
+          taken = ap (λ (m : NewRow). was_seen f.may.taken m.row) found.2.2 ∙ taken;
         }
 
     -- an inner row that was taken is in the list
-    row_made : (k : ℕ) (x : Span) → reached.OnLevel later.table h (root_of later) (suc k) x → is_taken w (row_in x.word) ≡ true → reached.IsOneOf (record { row = row_in x.word; count = length (spans_in later.table x) }) f.inner
+    row_made : (k : ℕ) (x : Span) → reached.OnLevel later.table h (root_of later) (suc k) x → was_seen f.may.taken (row_in x.word) ≡ true → reached.IsOneOf (record { row = row_in x.word; count = length (spans_in later.table x) }) f.inner
     row_made k x on taken =
-        let found = some_seen (row_in x.word) w.taken (ends.taken_some f (row_in x.word) taken) in
+        let found = some_seen (row_in x.word) f.may.taken (ends.taken_some f (row_in x.word) taken) in
         let place = taken_place found.0 found.1 in
         let same = reached.one_place later h stands found.0.height (suc k) place.0 x place.1 on (ap row_in place.4 ∙ found.2) in
         let spans : spans_in s.tree.table found.0.at ≡ spans_in later.table x =
         sym (same_place_spans s.tree.table found.0.at place.0 place.2 place.3 place.4) ∙ (ap (spans_in s.tree.table) same.1 ∙ sym (taken_spans x taken)) in
         let is : new_row s.tree.table found.0 ≡ record { row = row_in x.word; count = length (spans_in later.table x) } = (λ i. record { row = found.2 i; count = length (spans i) }) in
-        subst (λ (n : NewRow). reached.IsOneOf n f.inner) is (subst (reached.IsOneOf (new_row s.tree.table found.0)) (sym f.may.inner_rows) (seen_made s.tree.table w.taken found.0 k same.0 found.1))
+        subst (λ (n : NewRow). reached.IsOneOf n f.inner) is (subst (reached.IsOneOf (new_row s.tree.table found.0)) (sym f.may.inner_rows) (seen_made s.tree.table f.may.taken found.0 k same.0 found.1))
 
     -- ---- the children of a row in the list
 
@@ -165,49 +162,46 @@ module _ (f : ends.Finish) where
 
     -- ---- rows that were reached before
 
-    old_counted : (h₀ : ℕ) → f.may.old ≡ Some h₀ → (r : ℕ) → 1 ≤ count_in (is_row_of r) (now f.start w) (Some h₀) → 1 ≤ ends.old_count f r
+    old_counted : (h₀ : ℕ) → f.may.old ≡ Some h₀ → (r : ℕ) → 1 ≤ count_in (is_row_of r) (now f.start s) (Some h₀) → 1 ≤ ends.old_count f r
     old_counted h₀ is_old r some =
-        let same = ends.now_count f.start w f.may.old (is_row_of r) f.may.holds in
-        let here : 1 ≤ count_in (is_row_of r) (now f.start w) f.may.old = subst (λ (old : Option ℕ). 1 ≤ count_in (is_row_of r) (now f.start w) old) (sym is_old) some in
+        let same = ends.now_count f (is_row_of r) in
+        let here : 1 ≤ count_in (is_row_of r) (now f.start s) f.may.old = subst (λ (old : Option ℕ). 1 ≤ count_in (is_row_of r) (now f.start s) old) (sym is_old) some in
         omega arith
 
-    now_counted : (h₀ : ℕ) → f.may.old ≡ Some h₀ → (r : ℕ) → 1 ≤ ends.old_count f r → 1 ≤ count_in (is_row_of r) (now f.start w) (Some h₀)
+    now_counted : (h₀ : ℕ) → f.may.old ≡ Some h₀ → (r : ℕ) → 1 ≤ ends.old_count f r → 1 ≤ count_in (is_row_of r) (now f.start s) (Some h₀)
     now_counted h₀ is_old r some =
-        let same = ends.now_count f.start w f.may.old (is_row_of r) f.may.holds in
-        subst (λ (old : Option ℕ). 1 ≤ count_in (is_row_of r) (now f.start w) old) is_old (omega arith)
+        let same = ends.now_count f (is_row_of r) in
+        subst (λ (old : Option ℕ). 1 ≤ count_in (is_row_of r) (now f.start s) old) is_old (omega arith)
 
-    stands_old : (h₀ : ℕ) → f.may.old ≡ Some h₀ → laws.Stands (now f.start w) h₀
-    stands_old h₀ is_old = subst (StandsAs (now f.start w)) is_old (ends.stands_now f)
+    stands_old : (h₀ : ℕ) → f.may.old ≡ Some h₀ → laws.Stands (now f.start s) h₀
+    stands_old h₀ is_old = subst (StandsAs (now f.start s)) is_old (ends.stands_now f)
 
     -- what the lawful words say of the tree as it was
     record WasLawful (h₀ : ℕ) : Type 0 where
       root : column b.sheet.tree.table (row_in b.sheet.tree.root) 0 ≡ 1
-      parents : (k i : ℕ) (x y : Span) → reached.OnLevel (now f.start w).table h₀ (root_of (now f.start w)) (suc k) x → slice_get (spans_in (now f.start w).table x) i ≡ Some y
+      parents : (k i : ℕ) (x y : Span) → reached.OnLevel (now f.start s).table h₀ (root_of (now f.start s)) (suc k) x → slice_get (spans_in (now f.start s).table x) i ≡ Some y
           → column b.sheet.tree.table (row_in y.word) 0 ≡ parent_at (row_in x.word) i
 
     was_lawful : (h₀ : ℕ) → f.may.old ≡ Some h₀ → WasLawful h₀
     was_lawful h₀ is_old = by f.may.case.was.kept.lawful.words
       where
-        holds : HoldsAs f.start w (Some h₀)
-        holds = subst (HoldsAs f.start w) is_old f.may.holds
-
-        stood : laws.Stands f.start.tree h₀
-        stood = subst (StandsAs f.start.tree) is_old (ends.stands_was f)
+        keeps : Keeps f.start.tree h₀ s.tree.table.words
+        keeps = subst (λ (o : Option ℕ). KeepsAs f.start.tree o s.tree.table.words) is_old (ends.keeps f)
 
         stood_b : laws.Stands (tree_as b.kind b.sheet.tree) h₀
-        stood_b = subst (λ (t : laws.Tree). laws.Stands t h₀) f.may.case.was.tree stood
+        stood_b = subst (λ (t : laws.Tree). laws.Stands t h₀) f.may.case.was.tree keeps.stands
 
-        from_level : (k : ℕ) (x : Span) → reached.OnLevel (now f.start w).table h₀ (root_of (now f.start w)) k x → reached.OnLevel f.start.tree.table h₀ (root_of f.start.tree) k x
+        from_level : (k : ℕ) (x : Span) → reached.OnLevel (now f.start s).table h₀ (root_of (now f.start s)) k x → reached.OnLevel f.start.tree.table h₀ (root_of f.start.tree) k x
         from_level k x on = record {
           depth = on.depth;
           height = on.height;
-          one = subst (reached.IsOneOf x) (old_level f.start w holds.1 on.depth k (holds.0 ∙ on.height)) on.one;
+          one = subst (reached.IsOneOf x) (kept_level keeps on.depth k on.height) on.one;
         }
 
-        spans_were : (k : ℕ) (x : Span) → reached.OnLevel f.start.tree.table h₀ (root_of f.start.tree) k x → spans_in (now f.start w).table x ≡ spans_in f.start.tree.table x
+        spans_were : (k : ℕ) (x : Span) → reached.OnLevel f.start.tree.table h₀ (root_of f.start.tree) k x → spans_in (now f.start s).table x ≡ spans_in f.start.tree.table x
         spans_were k x on =
-            levels_at (Shared f.start.tree.table (now f.start w).table) f.start.tree.table h₀ k (root_of f.start.tree) x
-            (subst (λ (n : ℕ). Levels (Shared f.start.tree.table (now f.start w).table) f.start.tree.table n (root_of f.start.tree)) holds.0 (old_shared f.start w holds.1)) on
+            levels_at (Shared f.start.tree.table (now f.start s).table) f.start.tree.table h₀ k (root_of f.start.tree) x
+            (kept_shared keeps) on
 
         by : laws.IsLawful (tree_as b.kind b.sheet.tree) → WasLawful h₀
         by (inl empty) = absurd (root_named (tree_as b.kind b.sheet.tree) h₀ stood_b empty)
@@ -242,22 +236,22 @@ module _ (f : ends.Finish) where
       pub get : slice_get (spans_in later.table at) slot ≡ Some top
       pub word : top.word ≡ f.word
       pub column_is : col ≡ slot_column (slots_of later.table.width (inner_kind b.kind)) slot
-      pub old : is_taken w row ≡ false
+      pub old : was_seen f.may.taken row ≡ false
 
     width_later : later.table.width ≡ s.tree.table.width
     width_later = published_width s.tree f.place f.word
 
-    top_in : (old : Option ℕ) (place : Place) (row col : ℕ) → f.may.old ≡ old → f.place ≡ place → place ≡ Slot row col → IsEndPlace f.start w old place → TopAt row col
+    top_in : (old : Option ℕ) (place : Place) (row col : ℕ) → f.may.old ≡ old → f.place ≡ place → place ≡ Slot row col → IsEndPlace (now f.start s) f.may.gone old place → TopAt row col
     top_in old Root row col is_old is_place is at = absurd (cc)
     top_in None (Slot r c) row col is_old is_place is at = absurd at
     top_in (Some h₀) (Slot r c) row col is_old is_place is at =
         let rows : r ≡ row = cc in let cols : c ≡ col = cc in
-        let t : laws.Tree = now f.start w in
+        let t : laws.Tree = now f.start s in
         let stood = stands_old h₀ is_old in
         let place = at.0 in
         let on = at_on_level t h₀ r c (ends.words_now f) stood place 0 in
         let was = old_counted h₀ is_old (row_in place.at.word) (reached.on_level_reached t h₀ stood (suc place.low) place.at on) in
-        let gone : passing (is_row_of (row_in place.at.word)) w.gone ≡ 0 = subst (λ (n : ℕ). passing (is_row_of n) w.gone ≡ 0) (sym place.number) at.1 in
+        let gone : passing (is_row_of (row_in place.at.word)) f.may.gone ≡ 0 = subst (λ (n : ℕ). passing (is_row_of n) f.may.gone ≡ 0) (sym place.number) at.1 in
         let c₀ = ends.counts f (row_in place.at.word) in let sum = c₀.sum in
         let is : 1 ≤ ends.new_count f (row_in place.at.word) = omega arith in
         let found = reached.reached_on_level later h stands (row_in place.at.word) (subst (λ (new : Option ℕ). 1 ≤ count_in (is_row_of (row_in place.at.word)) later new) is_new is) in
@@ -277,10 +271,10 @@ module _ (f : ends.Finish) where
           word = refl;
           column_is = sym cols ∙ (place.column
               ∙ (λ i. slot_column (slots_of (sym (width_later ∙ ap (λ (v : Rooted). v.table.width) (ends.tree_is f)) i) (kind_here place.low i)) place.slot));
-          old = subst (λ (n : ℕ). is_taken w n ≡ false) (place.number ∙ rows) (ends.old_is_not_taken f (row_in place.at.word) was);
+          old = subst (λ (n : ℕ). was_seen f.may.taken n ≡ false) (place.number ∙ rows) (ends.old_is_not_taken f (row_in place.at.word) was);
         }
       where
-        kind_here : (low : ℕ) → laws.kind_on (now f.start w).gapped (suc low) ≡ (inner_kind b.kind)
+        kind_here : (low : ℕ) → laws.kind_on (now f.start s).gapped (suc low) ≡ (inner_kind b.kind)
         kind_here low = ap (λ (t : laws.Tree). laws.kind_on t.gapped (suc low)) f.may.case.was.tree ∙ inner low
 
     top_at : (row col : ℕ) → f.place ≡ Slot row col → TopAt row col
@@ -295,7 +289,7 @@ module _ (f : ends.Finish) where
     abbrev IsTopChild : Span → ℕ → Span → Type 0
     IsTopChild x i y = (row : ℕ) × (col : ℕ) × (f.place ≡ Slot row col) × (row_in x.word ≡ row) × (col ≡ slot_column (slots_of later.table.width (inner_kind b.kind)) i) × (y.word ≡ f.word)
 
-    kept_in : (old : Option ℕ) (place : Place) (k i : ℕ) (x y : Span) → f.may.old ≡ old → f.place ≡ place → IsEndPlace f.start w old place → reached.OnLevel later.table h (root_of later) (suc k) x → ends.taken_count f (row_in x.word) ≡ 0
+    kept_in : (old : Option ℕ) (place : Place) (k i : ℕ) (x y : Span) → f.may.old ≡ old → f.place ≡ place → IsEndPlace (now f.start s) f.may.gone old place → reached.OnLevel later.table h (root_of later) (suc k) x → ends.taken_count f (row_in x.word) ≡ 0
         → slice_get (spans_in later.table x) i ≡ Some y → IsOldChild x i y ⊎ IsTopChild x i y
     kept_in None place k i x y is_old is_place at on none get =
         let is = place_counted (suc k) x on in
@@ -303,7 +297,7 @@ module _ (f : ends.Finish) where
         let never = ap (count_in (is_row_of (row_in x.word)) f.start.tree) is_old in
         absurd (omega arith)
     kept_in (Some h₀) place k i x y is_old is_place at on none get =
-        let t : laws.Tree = now f.start w in
+        let t : laws.Tree = now f.start s in
         let stood = stands_old h₀ is_old in
         let is = place_counted (suc k) x on in
         let c = ends.counts f (row_in x.word) in let sum = c.sum in
@@ -317,19 +311,19 @@ module _ (f : ends.Finish) where
         ∙ (ap (λ (xs : List Span). slice_get xs i) (sym (same_place_spans later.table found.1 x same.1 same.2 same.3)) ∙ get) in
         by h₀ is_old place is_place at found.1 on₀ found.3 here
       where
-        old_child : (h₀ : ℕ) → f.may.old ≡ Some h₀ → (x₀ : Span) → reached.OnLevel (now f.start w).table h₀ (root_of (now f.start w)) (suc k) x₀ → row_in x₀.word ≡ row_in x.word
-            → slice_get (spans_in (now f.start w).table x₀) i ≡ Some y → IsOldChild x i y
+        old_child : (h₀ : ℕ) → f.may.old ≡ Some h₀ → (x₀ : Span) → reached.OnLevel (now f.start s).table h₀ (root_of (now f.start s)) (suc k) x₀ → row_in x₀.word ≡ row_in x.word
+            → slice_get (spans_in (now f.start s).table x₀) i ≡ Some y → IsOldChild x i y
         old_child h₀ is_old x₀ on₀ row here = (
           (was_lawful h₀ is_old).parents k i x₀ y on₀ here ∙ ap (λ (r : ℕ). parent_at r i) row,
-          old_counted h₀ is_old (row_in y.word) (reached.on_level_reached (now f.start w) h₀ (stands_old h₀ is_old) k y (child_on (now f.start w) h₀ (stands_old h₀ is_old) k i x₀ y on₀ here)),
+          old_counted h₀ is_old (row_in y.word) (reached.on_level_reached (now f.start s) h₀ (stands_old h₀ is_old) k y (child_on (now f.start s) h₀ (stands_old h₀ is_old) k i x₀ y on₀ here)),
         )
 
-        by : (h₀ : ℕ) → f.may.old ≡ Some h₀ → (place : Place) → f.place ≡ place → IsEndPlace f.start w (Some h₀) place → (x₀ : Span) → reached.OnLevel (now f.start w).table h₀ (root_of (now f.start w)) (suc k) x₀
-            → row_in x₀.word ≡ row_in x.word → slice_get (spans_in (with_published (words_of (now f.start w)) place f.word).table x₀) i ≡ Some y → IsOldChild x i y ⊎ IsTopChild x i y
+        by : (h₀ : ℕ) → f.may.old ≡ Some h₀ → (place : Place) → f.place ≡ place → IsEndPlace (now f.start s) f.may.gone (Some h₀) place → (x₀ : Span) → reached.OnLevel (now f.start s).table h₀ (root_of (now f.start s)) (suc k) x₀
+            → row_in x₀.word ≡ row_in x.word → slice_get (spans_in (with_published (words_of (now f.start s)) place f.word).table x₀) i ≡ Some y → IsOldChild x i y ⊎ IsTopChild x i y
         by h₀ is_old Root is_place at x₀ on₀ row here = inl (old_child h₀ is_old x₀ on₀ row here)
         by h₀ is_old (Slot r c) is_place at x₀ on₀ row here =
             let place = at.0 in
-            elim (slot_get (now f.start w) h₀ r c (ends.words_now f) (stands_old h₀ is_old) place f.word (suc k) x₀ y i on₀ here) [
+            elim (slot_get (now f.start s) h₀ r c (ends.words_now f) (stands_old h₀ is_old) place f.word (suc k) x₀ y i on₀ here) [
               | inl old ↦ inl (old_child h₀ is_old x₀ on₀ row old)
               | inr top ↦ inr (
                 r,
@@ -343,7 +337,7 @@ module _ (f : ends.Finish) where
               )
             ]
           where
-            kind_here : (low : ℕ) → laws.kind_on (now f.start w).gapped (suc low) ≡ (inner_kind b.kind)
+            kind_here : (low : ℕ) → laws.kind_on (now f.start s).gapped (suc low) ≡ (inner_kind b.kind)
             kind_here low = ap (λ (t : laws.Tree). laws.kind_on t.gapped (suc low)) f.may.case.was.tree ∙ inner low
 
     kept_children : (k i : ℕ) (x y : Span) → reached.OnLevel later.table h (root_of later) (suc k) x → ends.taken_count f (row_in x.word) ≡ 0 → slice_get (spans_in later.table x) i ≡ Some y → IsOldChild x i y ⊎ IsTopChild x i y
@@ -428,7 +422,7 @@ module _ (f : ends.Finish) where
             let taken = ends.taken_some f m.row (made_row m one_m).taken in
             let c = ends.counts f m.row in let sum = c.sum in let were = c.were in let never = c.fresh taken in
             let once = count_once later f.may.new m.row (ends.stands_later f) in
-            let same_index = made_once s.tree.table w.taken i j n m (omega arith)
+            let same_index = made_once s.tree.table f.may.taken i j n m (omega arith)
             (subst (λ (l : List NewRow). slice_get l i ≡ Some n) f.may.inner_rows at_n) (subst (λ (l : List NewRow). slice_get l j ≡ Some m) f.may.inner_rows at_m) rows in
             omega arith);
       }
@@ -477,12 +471,12 @@ module _ (f : ends.Finish) where
             let c = ends.counts f r in let sum = c.sum in let once = c.once in
             let none = ends.old_not_taken (ends.old_count f r) (ends.taken_count f r) (ends.new_count f r) (ends.gone_count f r) c was in
             let gone : ends.gone_count f r ≡ 0 = omega arith in
-            (ends.progress f).parents r not (ap (nat_lt 0) gone)
+            (ends.ledger f).parents r not (ap (nat_lt 0) gone)
 
-        top_taken : is_taken w (row_in f.word) ≡ true
-        top_taken = subst (λ (new : Option ℕ). IsTop w f.may.old new f.word) is_new f.may.top
+        top_taken : was_seen f.may.taken (row_in f.word) ≡ true
+        top_taken = subst (λ (new : Option ℕ). IsTop f.may.taken f.may.old new f.word) is_new f.may.top
 
-        child_of_taken : (k i : ℕ) (x y : Span) → reached.OnLevel later.table h (root_of later) (suc k) x → is_taken w (row_in x.word) ≡ true → slice_get (spans_in later.table x) i ≡ Some y → column s₃.tree.table (row_in y.word) 0 ≡ parent_at (row_in x.word) i
+        child_of_taken : (k i : ℕ) (x y : Span) → reached.OnLevel later.table h (root_of later) (suc k) x → was_seen f.may.taken (row_in x.word) ≡ true → slice_get (spans_in later.table x) i ≡ Some y → column s₃.tree.table (row_in y.word) 0 ≡ parent_at (row_in x.word) i
         child_of_taken k i x y on taken get =
             let n : NewRow = record { row = row_in x.word; count = length (spans_in later.table x) } in
             let at = reached.get_one_of f.inner (record { row = row_in x.word; count = length (spans_in later.table x) }) (row_made k x on taken) in
@@ -494,7 +488,7 @@ module _ (f : ends.Finish) where
             let both = unique_parent later h stands k t.low i t.slot x t.at y t.top on t.on get t.get (same ∙ ap row_in (sym t.word)) in
             let old = t.old in
             let rows : row_in x.word ≡ row = ap (λ (v : Span). row_in v.word) both.0 ∙ t.number in
-            let again : is_taken w row ≡ true = subst (λ (r : ℕ). is_taken w r ≡ true) rows taken in
+            let again : was_seen f.may.taken row ≡ true = subst (λ (r : ℕ). was_seen f.may.taken r ≡ true) rows taken in
             absurd (cc)))
             ∙ (ap (λ (v : ℕ). column s₂.tree.table (row_in v) 0) (sym word)
             ∙ tended.children at.0 (record { row = row_in x.word; count = length (spans_in later.table x) }) i at.1 low)
@@ -506,11 +500,11 @@ module _ (f : ends.Finish) where
               (λ n slot c same.
               (let both = unique_parent later h stands c.row.low k slot i c.row.at x c.child y c.row.on on c.get get same in
               let rows : n.row ≡ row_in x.word = sym c.row.row ∙ ap (λ (v : Span). row_in v.word) both.0 in
-              let some = ends.taken_some f (row_in x.word) (subst (λ (r : ℕ). is_taken w r ≡ true) rows c.row.taken) in
+              let some = ends.taken_some f (row_in x.word) (subst (λ (r : ℕ). was_seen f.may.taken r ≡ true) rows c.row.taken) in
               absurd (omega arith)))
               (λ row col is same.
               (let not = ends.old_is_not_taken f (row_in y.word) old.1 in
-              let taken : is_taken w (row_in y.word) ≡ true = subst (λ (r : ℕ). is_taken w r ≡ true) (sym same) top_taken in
+              let taken : was_seen f.may.taken (row_in y.word) ≡ true = subst (λ (r : ℕ). was_seen f.may.taken r ≡ true) (sym same) top_taken in
               absurd (cc)))
               ∙ (parent_was (row_in y.word) old.1 (place_counted k y (child_on later h stands k i x y on get)) ∙ old.0)
           | inr new ↦ at_top new
@@ -544,15 +538,15 @@ module _ (f : ends.Finish) where
         root_stays = untended (row_in later.root) (λ n slot c same. not_root c.row.low slot c.row.at c.child c.row.on c.get same)
             (λ row col is same. (let t = top_at row col is in not_root t.low t.slot t.at t.top t.on t.get (ap row_in t.word ∙ sym same)))
 
-        root_in : (old : Option ℕ) (place : Place) → f.may.old ≡ old → f.place ≡ place → IsEndPlace f.start w old place → column s.tree.table (row_in later.root) 0 ≡ 1
+        root_in : (old : Option ℕ) (place : Place) → f.may.old ≡ old → f.place ≡ place → IsEndPlace (now f.start s) f.may.gone old place → column s.tree.table (row_in later.root) 0 ≡ 1
         root_in old Root is_old is at =
             let word : f.word ≡ later.root = sym (ap (λ (p : Place). (with_published s.tree p f.word).root) is) in
-            (ends.progress f).new_parents (row_in later.root) (subst (λ (v : ℕ). is_taken w (row_in v) ≡ true) word top_taken)
+            (ends.ledger f).new_parents (row_in later.root) (subst (λ (v : ℕ). was_seen f.may.taken (row_in v) ≡ true) word top_taken)
         root_in None (Slot row col) is_old is at = absurd at
         root_in (Some h₀) (Slot row col) is_old is at =
             let root : later.root ≡ b.sheet.tree.root = ap (λ (p : Place). (with_published s.tree p f.word).root) is ∙ ends.root_same f in
-            let before : later.root ≡ (now f.start w).root = ap (λ (p : Place). (with_published s.tree p f.word).root) is ∙ ap (λ (v : Rooted). v.root) (ends.tree_is f) in
-            let was = old_counted h₀ is_old (row_in (now f.start w).root) (root_counts (now f.start w) h₀ (stands_old h₀ is_old)) in
+            let before : later.root ≡ (now f.start s).root = ap (λ (p : Place). (with_published s.tree p f.word).root) is ∙ ap (λ (v : Rooted). v.root) (ends.tree_is f) in
+            let was = old_counted h₀ is_old (row_in (now f.start s).root) (root_counts (now f.start s) h₀ (stands_old h₀ is_old)) in
             parent_was (row_in later.root) (subst (λ (v : ℕ). 1 ≤ ends.old_count f (row_in v)) (sym before) was) (place_counted h (root_span later.table later.root) root_on)
             ∙ (ap (λ (v : ℕ). column b.sheet.tree.table (row_in v) 0) root ∙ (was_lawful h₀ is_old).root)
 

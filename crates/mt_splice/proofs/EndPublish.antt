@@ -1,34 +1,15 @@
 -- When all new rows are written and all old rows are buried, one store may publish them.
-use Rattle.mt_splice.proofs.Prelude.{◌≡◌, ◌≢◌, ℕ, suc, ◌+◌, ◌<◌, ◌≤◌, List, [], ◌∷◌, Option, Some, None, Bool, true, false, nat_lt, refl, sym, ap, ◌∙◌, subst, inl, inr, arith, lt-ltb, if◌then◌else◌, cases_Bool, ltb-true, Kind, Width, Range, Call, Reply, acted, columns, first_row, Span, row_in, slot_column, slots_of, slot_within, Book, slice_get_within, Draft, Live, Place, Root, Slot, spans_in, tally, is_row_of, HasWords, Stands, kind_on, Rooted, Sheet, life_of, is_buried, tree_as, IsToldKind, LiveAreReached, is_reached, IsReached, map_by, StandsAt, KeepsPlace, SameHoles, IsKnown, ChangesRows, MayPublish, IsPlaceToPublish, IsSlotOf, with_published, Implies, NewRow, Seen, passing, Start, Work, now, times_in, Before, IsProgress, is_taken, is_gone, StandsAs, count_in, map_as, HoldsAs, IsChildSlot, IsEndPlace, IsTop, MayPublishEnd, row_most, published_rows}
+use Rattle.mt_splice.proofs.Prelude.{◌≡◌, ◌≢◌, ℕ, suc, ◌+◌, ◌<◌, ◌≤◌, List, ◌∷◌, Option, Some, None, Bool, true, false, nat_lt, refl, sym, ap, ◌∙◌, subst, inl, inr, arith, lt-ltb, if◌then◌else◌, cases_Bool, ltb-true, Kind, Width, Range, Call, Reply, acted, columns, first_row, Span, row_in, slot_column, slots_of, slot_within, Book, slice_get_within, Draft, Live, Place, Root, Slot, spans_in, tally, is_row_of, HasWords, kind_on, Rooted, Sheet, life_of, is_buried, tree_as, IsToldKind, LiveAreReached, is_reached, IsReached, map_by, StandsAt, KeepsPlace, SameHoles, IsKnown, ChangesRows, MayPublish, IsPlaceToPublish, IsSlotOf, with_published, Implies, NewRow, Seen, passing, Start, now, Before, StandsAs, count_in, map_as, IsChildSlot, IsEndPlace, IsTop, MayPublishEnd, row_most, published_rows, was_seen, IsLedger, []}
 use Rattle.mt_rows.specs.Laws as laws
 use Rattle.mt_rows.proofs.Reached as reached
-use Rattle.mt_splice.proofs.Moments.{old_stands, old_times, old_map}
+use Rattle.mt_splice.proofs.KeptTrees.{KeepsAs, count_then, map_then, stands_then}
+use Rattle.mt_splice.proofs.LedgerNow.{keeps_as}
+use Rattle.mt_splice.proofs.StepSeen.{not_both}
+use Rattle.mt_splice.proofs.Steps.{reached_untaken}
 use Rattle.mt_splice.proofs.EndForms.{now_is, has_words}
 use Rattle.mt_splice.proofs.EndTrees.{is_tree, map_is, count_once, reached_count, count_reached, unreached_count, count_unreached, count_number, none_or_some, placed_count, stays}
 use Rattle.mt_splice.proofs.EndHoles.{same_place_spans, at_one, at_on_level, slot_holes}
 use Rattle.mt_splice.proofs.StoredWords.{words_of}
-
--- ---- the tree as it was, by the words then and now
-
-was_stands : (start : Start) (w : Work) (o : Option ℕ) → HoldsAs start w o → StandsAs start.tree o
-was_stands start w None holds = holds
-was_stands start w (Some h) holds = subst (Stands start.tree) holds.0 holds.1.stands
-
-pub now_stands : (start : Start) (w : Work) (o : Option ℕ) → HoldsAs start w o → StandsAs (now start w) o
-now_stands start w None holds = holds
-now_stands start w (Some h) holds = subst (Stands (now start w)) holds.0 (old_stands start w holds.1)
-
-pub now_count : (start : Start) (w : Work) (o : Option ℕ) (p : ℕ → Span → Bool) → HoldsAs start w o → count_in p (now start w) o ≡ count_in p start.tree o
-now_count start w None p holds = refl
-now_count start w (Some h) p holds = subst (λ (n : ℕ). times_in p (now start w) n ≡ times_in p start.tree n) holds.0 (old_times start w holds.1 p)
-
-pub now_map : (start : Start) (w : Work) (o : Option ℕ) → HoldsAs start w o → map_as (now start w) o ≡ map_as start.tree o
-now_map start w None holds = refl
-now_map start w (Some h) holds = subst (λ (n : ℕ). map_as (now start w) (Some n) ≡ map_as start.tree (Some n)) holds.0 (old_map start w holds.1)
-
-taken_new : (start : Start) (w : Work) (o : Option ℕ) (row : ℕ) → HoldsAs start w o → 1 ≤ passing (is_row_of row) w.taken → count_in (is_row_of row) start.tree o ≡ 0
-taken_new start w None row holds some = refl
-taken_new start w (Some h) row holds some = subst (λ (n : ℕ). times_in (is_row_of row) start.tree n ≡ 0) holds.0 (holds.1.taken row some)
 
 -- ---- how often a row is counted
 
@@ -73,9 +54,6 @@ module _ (f : Finish) where
   abbrev start : Start
   start = f.start
 
-  abbrev w : Work
-  w = f.may.work
-
   abbrev s : Sheet
   s = f.sheet
 
@@ -85,31 +63,34 @@ module _ (f : Finish) where
   abbrev pub published : Rooted
   published = with_published f.sheet.tree f.place f.word
 
-  abbrev pub progress : IsProgress b s f.book w
-  progress = f.may.progress
+  abbrev pub ledger : IsLedger b s f.book f.may.taken f.may.gone
+  ledger = f.may.ledger
 
   -- ---- what the rows are now
 
   pub rows_same : s.tree.rows ≡ b.sheet.tree.rows
-  rows_same = ap (λ (t : Rooted). t.rows) progress.tree
+  rows_same = ap (λ (t : Rooted). t.rows) ledger.tree
 
   pub width_same : s.tree.table.width ≡ b.sheet.tree.table.width
-  width_same = ap (λ (t : Rooted). t.table.width) progress.tree
+  width_same = ap (λ (t : Rooted). t.table.width) ledger.tree
 
   pub root_same : s.tree.root ≡ b.sheet.tree.root
-  root_same = ap (λ (t : Rooted). t.root) progress.tree
+  root_same = ap (λ (t : Rooted). t.root) ledger.tree
 
   was_is : words_of start.tree ≡ b.sheet.tree
   was_is = ap words_of f.may.case.was.tree
 
-  pub tree_is : s.tree ≡ words_of (now start w)
-  tree_is = sym (ap words_of (now_is f.may.case.was progress))
+  pub tree_is : s.tree ≡ words_of (now start s)
+  tree_is = sym (ap words_of (now_is f.may.case.was ledger))
 
-  pub stands_was : StandsAs start.tree f.may.old
-  stands_was = was_stands start w f.may.old f.may.holds
+  pub keeps : KeepsAs start.tree f.may.old f.sheet.tree.table.words
+  keeps = keeps_as f.may.case.was ledger f.may.old f.may.stood
 
-  pub stands_now : StandsAs (now start w) f.may.old
-  stands_now = now_stands start w f.may.old f.may.holds
+  pub stands_now : StandsAs (now start s) f.may.old
+  stands_now = stands_then start.tree f.may.old s.tree.table.words keeps
+
+  pub now_count : (p : ℕ → Span → Bool) → count_in p (now start s) f.may.old ≡ count_in p start.tree f.may.old
+  now_count p = count_then start.tree f.may.old s.tree.table.words p keeps
 
   pub stands_later : StandsAs later f.may.new
   stands_later = f.may.replaced.stands
@@ -123,38 +104,44 @@ module _ (f : Finish) where
   new_count row = count_in (is_row_of row) (tree_as f.before.kind (with_published f.sheet.tree f.place f.word)) f.may.new
 
   abbrev pub taken_count : ℕ → ℕ
-  taken_count row = passing (is_row_of row) f.may.work.taken
+  taken_count row = passing (is_row_of row) f.may.taken
 
   abbrev pub gone_count : ℕ → ℕ
-  gone_count row = passing (is_row_of row) f.may.work.gone
+  gone_count row = passing (is_row_of row) f.may.gone
+
+  pub was_reached : (row : ℕ) → is_reached b.sheet.tree row ≡ true → 1 ≤ old_count row
+  was_reached row is = reached_count start.tree f.may.old row f.may.stood (ap (λ (t : Rooted). is_reached t row) was_is ∙ is)
+
+  pub reached_was : (row : ℕ) → 1 ≤ old_count row → is_reached b.sheet.tree row ≡ true
+  reached_was row some = ap (λ (t : Rooted). is_reached t row) (sym was_is) ∙ count_reached start.tree f.may.old row f.may.stood some
+
+  pub some_taken : (row : ℕ) → 1 ≤ taken_count row → was_seen f.may.taken row ≡ true
+  some_taken row some = lt-ltb 0 (taken_count row) (omega arith)
 
   pub counts : (row : ℕ) → Counts (old_count row) (taken_count row) (new_count row) (gone_count row)
   counts row = record {
     sum = f.may.replaced.rows (is_row_of row);
     were = f.may.replaced.were (is_row_of row);
-    fresh = taken_new start w f.may.old row f.may.holds;
-    once = count_once start.tree f.may.old row stands_was;
+    fresh = λ some. elim (none_or_some (old_count row)) [
+      | inl none ↦ none
+      | inr was ↦ absurd (not_both (was_seen f.may.taken row) (some_taken row some) (reached_untaken f.may.case.was ledger row (reached_was row was)))
+    ];
+    once = count_once start.tree f.may.old row f.may.stood;
   }
 
-  pub was_reached : (row : ℕ) → is_reached b.sheet.tree row ≡ true → 1 ≤ old_count row
-  was_reached row is = reached_count start.tree f.may.old row stands_was (ap (λ (t : Rooted). is_reached t row) was_is ∙ is)
-
-  pub reached_was : (row : ℕ) → 1 ≤ old_count row → is_reached b.sheet.tree row ≡ true
-  reached_was row some = ap (λ (t : Rooted). is_reached t row) (sym was_is) ∙ count_reached start.tree f.may.old row stands_was some
-
   pub was_unreached : (row : ℕ) → is_reached b.sheet.tree row ≡ false → old_count row ≡ 0
-  was_unreached row is = unreached_count start.tree f.may.old row stands_was (ap (λ (t : Rooted). is_reached t row) was_is ∙ is)
+  was_unreached row is = unreached_count start.tree f.may.old row f.may.stood (ap (λ (t : Rooted). is_reached t row) was_is ∙ is)
 
   now_reached : (row : ℕ) → is_reached s.tree row ≡ true → 1 ≤ old_count row
   now_reached row is =
-      let some = reached_count (now start w) f.may.old row stands_now (ap (λ (t : Rooted). is_reached t row) (sym tree_is) ∙ is) in
-      let same = now_count start w f.may.old (is_row_of row) f.may.holds in
+      let some = reached_count (now start s) f.may.old row stands_now (ap (λ (t : Rooted). is_reached t row) (sym tree_is) ∙ is) in
+      let same = now_count (is_row_of row) in
       omega arith
 
   pub reached_now : (row : ℕ) → 1 ≤ old_count row → is_reached s.tree row ≡ true
   reached_now row some =
-      let same = now_count start w f.may.old (is_row_of row) f.may.holds in
-      ap (λ (t : Rooted). is_reached t row) tree_is ∙ count_reached (now start w) f.may.old row stands_now (omega arith)
+      let same = now_count (is_row_of row) in
+      ap (λ (t : Rooted). is_reached t row) tree_is ∙ count_reached (now start s) f.may.old row stands_now (omega arith)
 
   pub later_reached : (row : ℕ) → is_reached published row ≡ true → 1 ≤ new_count row
   later_reached row is = reached_count later f.may.new row stands_later is
@@ -170,7 +157,7 @@ module _ (f : Finish) where
 
   pub was_number : (row : ℕ) → 1 ≤ old_count row → (first_row ≤ row) × (row < first_row + b.sheet.tree.rows)
   was_number row some =
-      let number = count_number start.tree f.may.old row stands_was some in
+      let number = count_number start.tree f.may.old row f.may.stood some in
       (number.0, subst (λ (n : ℕ). row < first_row + n) (ap (λ (t : laws.Tree). t.rows) f.may.case.was.tree) number.1)
 
   pub later_number : (row : ℕ) → 1 ≤ new_count row → (first_row ≤ row) × (row < first_row + b.sheet.tree.rows)
@@ -180,22 +167,19 @@ module _ (f : Finish) where
 
   -- ---- rows taken and gone
 
-  pub taken_some : (row : ℕ) → is_taken w row ≡ true → 1 ≤ taken_count row
+  pub taken_some : (row : ℕ) → was_seen f.may.taken row ≡ true → 1 ≤ taken_count row
   taken_some row is = let some = ltb-true 0 (taken_count row) is in omega arith
 
-  pub some_taken : (row : ℕ) → 1 ≤ taken_count row → is_taken w row ≡ true
-  some_taken row some = lt-ltb 0 (taken_count row) (omega arith)
-
-  pub not_taken : (row : ℕ) → taken_count row ≡ 0 → is_taken w row ≡ false
+  pub not_taken : (row : ℕ) → taken_count row ≡ 0 → was_seen f.may.taken row ≡ false
   not_taken row none = ap (nat_lt 0) none
 
-  pub old_is_not_taken : (row : ℕ) → 1 ≤ old_count row → is_taken w row ≡ false
+  pub old_is_not_taken : (row : ℕ) → 1 ≤ old_count row → was_seen f.may.taken row ≡ false
   old_is_not_taken row was = not_taken row (old_not_taken (old_count row) (taken_count row) (new_count row) (gone_count row) (counts row) was)
 
-  gone_some : (row : ℕ) → is_gone w row ≡ true → 1 ≤ gone_count row
+  gone_some : (row : ℕ) → was_seen f.may.gone row ≡ true → 1 ≤ gone_count row
   gone_some row is = let some = ltb-true 0 (gone_count row) is in omega arith
 
-  pub some_gone : (row : ℕ) → 1 ≤ gone_count row → is_gone w row ≡ true
+  pub some_gone : (row : ℕ) → 1 ≤ gone_count row → was_seen f.may.gone row ≡ true
   some_gone row some = lt-ltb 0 (gone_count row) (omega arith)
 
   -- a row that is taken is reached then
@@ -204,11 +188,11 @@ module _ (f : Finish) where
 
   -- ---- lives
 
-  pub life_taken : (row : ℕ) → first_row ≤ row → row < first_row + b.sheet.tree.rows → is_taken w row ≡ true → life_of s.lives row ≡ Draft
-  life_taken row first last taken = progress.lives row first last ∙ ap (λ (c : Bool). if c then Draft else life_of b.sheet.lives row) taken
+  pub life_taken : (row : ℕ) → first_row ≤ row → row < first_row + b.sheet.tree.rows → was_seen f.may.taken row ≡ true → life_of s.lives row ≡ Draft
+  life_taken row first last taken = ledger.lives row first last ∙ ap (λ (c : Bool). if c then Draft else life_of b.sheet.lives row) taken
 
-  pub life_kept : (row : ℕ) → first_row ≤ row → row < first_row + b.sheet.tree.rows → is_taken w row ≡ false → life_of s.lives row ≡ life_of b.sheet.lives row
-  life_kept row first last not = progress.lives row first last ∙ ap (λ (c : Bool). if c then Draft else life_of b.sheet.lives row) not
+  pub life_kept : (row : ℕ) → first_row ≤ row → row < first_row + b.sheet.tree.rows → was_seen f.may.taken row ≡ false → life_of s.lives row ≡ life_of b.sheet.lives row
+  life_kept row first last not = ledger.lives row first last ∙ ap (λ (c : Bool). if c then Draft else life_of b.sheet.lives row) not
 
   old_is_live : (row : ℕ) → 1 ≤ old_count row → life_of s.lives row ≡ Live
   old_is_live row was =
@@ -217,7 +201,7 @@ module _ (f : Finish) where
 
   live : LiveAreReached s.tree s.lives
   live row first last = (
-    (λ alive. elim (cases_Bool (is_taken w row)) [
+    (λ alive. elim (cases_Bool (was_seen f.may.taken row)) [
       | inl taken ↦ (let draft = life_taken row first (in_table) taken in let both : Draft ≡ Live = sym draft ∙ alive in absurd (cc))
       | inr not ↦ reached_now row (was_reached row ((f.may.case.was.kept.live row first in_table).0 (sym (life_kept row first in_table not) ∙ alive)))
     ]),
@@ -229,14 +213,14 @@ module _ (f : Finish) where
 
   -- ---- the place
 
-  pub words_now : HasWords (now start w)
-  words_now = has_words f.may.case.was progress
+  pub words_now : HasWords (now start s)
+  words_now = has_words f.may.case.was ledger
 
-  place_in : (o : Option ℕ) (place : Place) → StandsAs (now start w) o → IsEndPlace start w o place → ((row : ℕ) → 1 ≤ count_in (is_row_of row) (now start w) o → (first_row ≤ row) × (row < first_row + s.tree.rows) × (life_of s.lives row ≡ Live)) → IsPlaceToPublish s place
+  place_in : (o : Option ℕ) (place : Place) → StandsAs (now start s) o → IsEndPlace (now start s) f.may.gone o place → ((row : ℕ) → 1 ≤ count_in (is_row_of row) (now start s) o → (first_row ≤ row) × (row < first_row + s.tree.rows) × (life_of s.lives row ≡ Live)) → IsPlaceToPublish s place
   place_in o Root stands at known = tt
   place_in None (Slot row col) stands at known = absurd at
   place_in (Some h) (Slot row col) stands at known =
-      let t : laws.Tree = now start w in
+      let t : laws.Tree = now start s in
       let place : IsChildSlot t h row col = at.0 in
       let on = at_on_level t h row col words_now stands place 0 in
       let law = reached.on_level_law t h stands (suc place.low) place.at on in
@@ -267,7 +251,7 @@ module _ (f : Finish) where
 
   pub place_is : IsPlaceToPublish s f.place
   place_is = place_in f.may.old f.place stands_now f.may.at (λ row some.
-      let same = now_count start w f.may.old (is_row_of row) f.may.holds in
+      let same = now_count (is_row_of row) in
       let was : 1 ≤ old_count row = omega arith in
       let number = was_number row was in
       (number.0, subst (λ (n : ℕ). row < first_row + n) (sym rows_same) number.1, old_is_live row was))
@@ -275,10 +259,10 @@ module _ (f : Finish) where
   -- ---- the map
 
   map_was : map_by b.sheet.tree ≡ map_as start.tree f.may.old
-  map_was = ap map_by (sym was_is) ∙ map_is start.tree f.may.old stands_was
+  map_was = ap map_by (sym was_is) ∙ map_is start.tree f.may.old f.may.stood
 
   map_now : map_by s.tree ≡ map_by b.sheet.tree
-  map_now = ap map_by tree_is ∙ (map_is (now start w) f.may.old stands_now ∙ (now_map start w f.may.old f.may.holds ∙ sym map_was))
+  map_now = ap map_by tree_is ∙ (map_is (now start s) f.may.old stands_now ∙ (map_then start.tree f.may.old s.tree.table.words keeps ∙ sym map_was))
 
   pub map_later : map_by published ≡ start.map
   map_later = map_is later f.may.new stands_later ∙ f.may.replaced.ranges
@@ -298,43 +282,43 @@ module _ (f : Finish) where
         | inr taken ↦ inr (
           life_taken row number.0 number.1 (some_taken row taken),
           (λ dead.
-              let parent = progress.new_parents row (some_taken row taken) in let first = number.0 in
+              let parent = ledger.new_parents row (some_taken row taken) in let first = number.0 in
               absurd (omega arith)),
         )
       ]
 
   -- of a row that is reached before and after none is taken or gone
-  stays_even : (row : ℕ) → 1 ≤ old_count row → 1 ≤ new_count row → (p : ℕ → Span → Bool) → Implies p (is_row_of row) → passing p w.taken ≡ passing p w.gone
+  stays_even : (row : ℕ) → 1 ≤ old_count row → 1 ≤ new_count row → (p : ℕ → Span → Bool) → Implies p (is_row_of row) → passing p f.may.taken ≡ passing p f.may.gone
   stays_even row was is p within =
       let c = counts row in let sum = c.sum in let once = c.once in
       let none = old_not_taken (old_count row) (taken_count row) (new_count row) (gone_count row) c was in
-      let taken = passing_implies p (is_row_of row) within w.taken in
-      let gone = passing_implies p (is_row_of row) within w.gone in
+      let taken = passing_implies p (is_row_of row) within f.may.taken in
+      let gone = passing_implies p (is_row_of row) within f.may.gone in
       omega arith
 
-  pub keeps_span : (k k' : ℕ) (x x' : Span) → StandsAt (words_of (now start w)) k x → StandsAt published k' x' → row_in x.word ≡ row_in x'.word → (k' ≡ k) × (x'.first ≡ x.first) × (x'.last ≡ x.last) × (x'.word ≡ x.word)
+  pub keeps_span : (k k' : ℕ) (x x' : Span) → StandsAt (words_of (now start s)) k x → StandsAt published k' x' → row_in x.word ≡ row_in x'.word → (k' ≡ k) × (x'.first ≡ x.first) × (x'.last ≡ x.last) × (x'.word ≡ x.word)
   keeps_span k k' x x' at at' same =
-      let now_same = now_count start w f.may.old (is_row_of (row_in x.word)) f.may.holds in
-      let was = placed_count (now start w) f.may.old k x stands_now at in
+      let now_same = now_count (is_row_of (row_in x.word)) in
+      let was = placed_count (now start s) f.may.old k x stands_now at in
       let is : 1 ≤ new_count (row_in x.word) = subst (λ (r : ℕ). 1 ≤ new_count r) (sym same) (placed_count later f.may.new k' x' stands_later at') in
-      stays (now start w) later f.may.old f.may.new (λ p. passing p w.taken) (λ p. passing p w.gone) k k' x x' stands_now stands_later
-      (λ p. ap (λ (n : ℕ). n + passing p w.taken) (now_count start w f.may.old p f.may.holds) ∙ f.may.replaced.rows p) at at' same
+      stays (now start s) later f.may.old f.may.new (λ p. passing p f.may.taken) (λ p. passing p f.may.gone) k k' x x' stands_now stands_later
+      (λ p. ap (λ (n : ℕ). n + passing p f.may.taken) (now_count p) ∙ f.may.replaced.rows p) at at' same
       (stays_even (row_in x.word) (omega arith) is)
 
   pub word_is_some : (h : ℕ) → f.may.new ≡ Some h → f.word ≢ 0
   word_is_some h is zero_word =
-      let taken : is_taken w (row_in f.word) ≡ true = subst (λ (o : Option ℕ). IsTop w f.may.old o f.word) is f.may.top in
+      let taken : was_seen f.may.taken (row_in f.word) ≡ true = subst (λ (o : Option ℕ). IsTop f.may.taken f.may.old o f.word) is f.may.top in
       let number = later_number (row_in f.word) (taken_later (row_in f.word) (taken_some (row_in f.word) taken)) in
       let first = number.0 in
       let low : row_in f.word ≡ 0 = ap row_in zero_word in
       absurd (omega arith)
 
-  holes_in : (o o' : Option ℕ) (place : Place) (k k' : ℕ) (x x' : Span) → StandsAs (now start w) o → IsEndPlace start w o place → f.may.new ≡ o' → StandsAs later o' → StandsAt (words_of (now start w)) k x → StandsAt published k' x'
-      → SameHoles (spans_in (now start w).table x) (spans_in (with_published (words_of (now start w)) place f.word).table x)
+  holes_in : (o o' : Option ℕ) (place : Place) (k k' : ℕ) (x x' : Span) → StandsAs (now start s) o → IsEndPlace (now start s) f.may.gone o place → f.may.new ≡ o' → StandsAs later o' → StandsAt (words_of (now start s)) k x → StandsAt published k' x'
+      → SameHoles (spans_in (now start s).table x) (spans_in (with_published (words_of (now start s)) place f.word).table x)
   holes_in o o' Root k k' x x' stands at is stands' stood stood' = refl
   holes_in None o' (Slot row col) k k' x x' stands at is stands' stood stood' = absurd at
   holes_in (Some h) None (Slot row col) k k' x x' stands at is stands' stood stood' = absurd (let some = placed_count later None k' x' stands' stood' in omega arith)
-  holes_in (Some h) (Some h') (Slot row col) k k' x x' stands at is stands' stood stood' = slot_holes (now start w) h row col words_now stands at.0 f.word (word_is_some h' is) k x stood
+  holes_in (Some h) (Some h') (Slot row col) k k' x x' stands at is stands' stood stood' = slot_holes (now start s) h row col words_now stands at.0 f.word (word_is_some h' is) k x stood
 
   stay : (k k' : ℕ) (x x' : Span) → StandsAt s.tree k x → StandsAt published k' x' → row_in x.word ≡ row_in x'.word → KeepsPlace s.tree published k k' x x'
   stay k k' x x' stood stood' same =
@@ -350,7 +334,7 @@ module _ (f : Finish) where
       }
 
   pub buried_gone : (row : ℕ) → first_row ≤ row → row < first_row + b.sheet.tree.rows → is_buried s.buried row ≡ true → 1 ≤ gone_count row
-  buried_gone row first last is = gone_some row (sym (progress.buried row first last) ∙ is)
+  buried_gone row first last is = gone_some row (sym (ledger.buried row first last) ∙ is)
 
   -- a row that is gone was reached, and is not then
   pub gone_was : (row : ℕ) → 1 ≤ gone_count row → (1 ≤ old_count row) × (new_count row ≡ 0)
@@ -369,7 +353,7 @@ module _ (f : Finish) where
     gone = λ row was not.
         let some = now_reached row was in
         let number = was_number row some in
-        progress.buried row number.0 number.1 ∙ some_gone row (was_gone row some (later_unreached row not));
+        ledger.buried row number.0 number.1 ∙ some_gone row (was_gone row some (later_unreached row not));
     buried = λ row first last is.
         let fate = gone_was row (buried_gone row first (subst (λ (n : ℕ). row < first_row + n) rows_same last) is) in
         (reached_now row fate.0, unreached_later row fate.1);
@@ -377,12 +361,12 @@ module _ (f : Finish) where
 
   pub may_publish : MayPublish b.kind s f.place f.word f.call f.reply
   may_publish = record {
-    in_flight = ap (λ (x : Sheet). x.in_flight) progress.rest ∙ f.may.case.unpublished.in_flight;
-    before = ap (λ (x : Sheet). x.published) progress.rest ∙ f.may.case.unpublished.before;
-    told = subst (λ (k : Option Kind). IsToldKind k b.kind) (sym (ap (λ (x : Sheet). x.kind) progress.rest)) f.may.case.told;
+    in_flight = ap (λ (x : Sheet). x.in_flight) ledger.rest ∙ f.may.case.unpublished.in_flight;
+    before = ap (λ (x : Sheet). x.published) ledger.rest ∙ f.may.case.unpublished.before;
+    told = subst (λ (k : Option Kind). IsToldKind k b.kind) (sym (ap (λ (x : Sheet). x.kind) ledger.rest)) f.may.case.told;
     at = place_is;
     live = live;
-    tree = record { width = width_same ∙ f.may.case.was.kept.lawful.width; words = subst laws.IsTree (now_is f.may.case.was progress) (is_tree (now start w) f.may.old stands_now) };
+    tree = record { width = width_same ∙ f.may.case.was.kept.lawful.width; words = subst laws.IsTree (now_is f.may.case.was ledger) (is_tree (now start s) f.may.old stands_now) };
     answer = answer;
     after = is_tree later f.may.new stands_later;
     rows = changes;

@@ -18,21 +18,21 @@ none_new f row none = ap (count_in (is_row_of row) (tree_as f.before.kind (ends.
 
 none_made : (f : ends.Finish) (n : NewRow) → f.may.new ≡ None → reached.IsOneOf n f.inner → ⊥
 none_made f n none one =
-    let found = made_seen f.sheet.tree.table f.may.work.taken n (subst (reached.IsOneOf n) f.may.inner_rows one) in
-    let some = ends.taken_later f (row_seen found.0) (seen_some f.may.work.taken found.0 found.1) in
+    let found = made_seen f.sheet.tree.table f.may.taken n (subst (reached.IsOneOf n) f.may.inner_rows one) in
+    let some = ends.taken_later f (row_seen found.0) (seen_some f.may.taken found.0 found.1) in
     let never = none_new f (row_seen found.0) none in
     absurd (omega arith)
 
-none_in_slot : (f : ends.Finish) (old : Option ℕ) (row col : ℕ) → f.may.old ≡ old → f.may.new ≡ None → IsEndPlace f.start f.may.work old (Slot row col) → ⊥
+none_in_slot : (f : ends.Finish) (old : Option ℕ) (row col : ℕ) → f.may.old ≡ old → f.may.new ≡ None → IsEndPlace (now f.start f.sheet) f.may.gone old (Slot row col) → ⊥
 none_in_slot f None row col is_old none at = absurd at
 none_in_slot f (Some h) row col is_old none at =
-    let t : laws.Tree = now f.start f.may.work in
+    let t : laws.Tree = now f.start f.sheet in
     let stands : laws.Stands t h = subst (StandsAs t) is_old (ends.stands_now f) in
     let place = at.0 in
     let some : 1 ≤ count_in (is_row_of (row_in place.at.word)) t (Some h) = reached.on_level_reached t h stands (suc place.low) place.at (at_on_level t h row col (ends.words_now f) stands place 0) in
     let here : 1 ≤ count_in (is_row_of (row_in place.at.word)) t f.may.old = subst (λ (old : Option ℕ). 1 ≤ count_in (is_row_of (row_in place.at.word)) t old) (sym is_old) some in
-    let same = ends.now_count f.start f.may.work f.may.old (is_row_of (row_in place.at.word)) f.may.holds in
-    let gone : passing (is_row_of (row_in place.at.word)) f.may.work.gone ≡ 0 = subst (λ (n : ℕ). passing (is_row_of n) f.may.work.gone ≡ 0) (sym place.number) at.1 in
+    let same = ends.now_count f (is_row_of (row_in place.at.word)) in
+    let gone : passing (is_row_of (row_in place.at.word)) f.may.gone ≡ 0 = subst (λ (n : ℕ). passing (is_row_of n) f.may.gone ≡ 0) (sym place.number) at.1 in
     let c = ends.counts f (row_in place.at.word) in let sum = c.sum in
     let never = none_new f (row_in place.at.word) none in
     absurd (omega arith)
@@ -46,7 +46,7 @@ tend_rows_by f s₁ None is done = record {
 }
 tend_rows_by f s₁ (Some h) is done = may_tend_some f h is s₁ done
 
-tend_top_by : (f : ends.Finish) (s₁ : Sheet) (new : Option ℕ) (place : Place) → f.may.new ≡ new → f.place ≡ place → IsEndPlace f.start f.may.work f.may.old place → Published f.sheet s₁ f.place f.word f.call f.reply → MayTendTopAt s₁ (inner_kind f.before.kind) place f.word
+tend_top_by : (f : ends.Finish) (s₁ : Sheet) (new : Option ℕ) (place : Place) → f.may.new ≡ new → f.place ≡ place → IsEndPlace (now f.start f.sheet) f.may.gone f.may.old place → Published f.sheet s₁ f.place f.word f.call f.reply → MayTendTopAt s₁ (inner_kind f.before.kind) place f.word
 tend_top_by f s₁ new Root is is_place at done = tt
 tend_top_by f s₁ None (Slot row col) is is_place at done = absurd (none_in_slot f f.may.old row col refl is at)
 tend_top_by f s₁ (Some h) (Slot row col) is is_place at done = may_tend_place f h is s₁ done (Slot row col) is_place
@@ -66,7 +66,7 @@ module _ (f : ends.Finish) (s₁ s₂ s₃ : Sheet) (done : Published f.sheet s�
       let some = ends.was_reached f row was in
       let number = ends.was_number f row some in
       done.lives row number.0 (subst (λ (n : ℕ). row < first_row + n) (sym (ends.rows_same f)) number.1)
-      ∙ life_if_buried f.sheet (ends.published f) row (ends.unreached_later f row none) ((ends.progress f).buried row number.0 number.1 ∙ ends.some_gone f row (ends.was_gone f row some none))
+      ∙ life_if_buried f.sheet (ends.published f) row (ends.unreached_later f row none) ((ends.ledger f).buried row number.0 number.1 ∙ ends.some_gone f row (ends.was_gone f row some none))
 
   not_live : (row child : ℕ) → is_reached f.before.sheet.tree row ≡ true → ends.new_count f row ≡ 0 → life_of s₁.lives child ≡ Live → child ≢ row
   not_live row child was none live same =
@@ -85,7 +85,7 @@ module _ (f : ends.Finish) (s₁ s₂ s₃ : Sheet) (done : Published f.sheet s�
       top_kept s₂ s₃ (inner_kind f.before.kind) f.place f.word row top (top_other f.place may_top row was none)
       ∙ (tended.others row (λ i n slot at below. not_live row (child_row s₁.tree.table (inner_kind f.before.kind) n.row slot) was none ((may.each i n at).each slot below).live)
       ∙ (ap (λ (x : Sheet). column x.tree.table row 0) done.rest
-      ∙ (parent_stays f row ∙ (ends.progress f).marks row was (ends.some_gone f row (ends.was_gone f row some none)))))
+      ∙ (parent_stays f row ∙ (ends.ledger f).marks row was (ends.some_gone f row (ends.was_gone f row some none)))))
 
 -- ---- from what was asked to what is left
 

@@ -1,21 +1,19 @@
 -- The end of a climb: what is to be buried, and what stands when it is and the word is published.
-use Rattle.mt_splice.proofs.Prelude.{◌≡◌, ℕ, zero, suc, ◌+◌, ◌-◌, ◌<◌, ◌≤◌, List, [], ◌∷◌, ◌++◌, Bool, true, Some, length, map, refl, sym, ap, ◌∙◌, subst, ⊎_elim, arith, append-nil, append_assoc, length-append, AllByRecursion, cases_lt, map-append, columns, Book, Span, slot_column, row_in, slots_of, slot_within, Fills, slot_for, place, child, lawful, Root, HasWords, Tree, Stands, kind_on, top_of, is_row_of, level, tally, times, IsTreeOf, is_reached, tree_as, with_published, root_of, with_child, Rooted, Sheet, column, inner_of, root_span, spans_in, all_back, row_most, level_next, tally-append, times_in_once, Climb, Top, Window, MayBuryAll, AreBuriedAll, rows_on, numbers_in, numbers_in_all, IsWindowOn, AreWindowsOn, HasClimbed, EndsAtRoot, EndsInSlot, was_taken, work_of, IsLedger, Beside, Stand, IsNowOf, Layer, depth_at, level_of, IsPlanned, AreAllHeld, seen_at, taken_by, gone_by, window_at, windows_by, windows_above, Before, row_seen, new_rows_of, IsReplaced, Seen, passing, before, behind, between, row_at, low_of, high_of, in_place, Start, Work, Holds, rows_at, times_in, tree_with}
+use Rattle.mt_splice.proofs.Prelude.{◌≡◌, ℕ, zero, suc, ◌+◌, ◌-◌, ◌<◌, ◌≤◌, List, ◌∷◌, ◌++◌, Bool, true, Some, length, map, refl, sym, ap, ◌∙◌, subst, ⊎_elim, arith, append-nil, append_assoc, length-append, AllByRecursion, cases_lt, map-append, columns, Book, Span, slot_column, row_in, slots_of, slot_within, Fills, slot_for, place, child, lawful, Root, HasWords, Tree, Stands, kind_on, top_of, is_row_of, level, tally, times, IsTreeOf, is_reached, tree_as, with_published, root_of, with_child, Rooted, Sheet, column, inner_of, root_span, spans_in, all_back, row_most, level_next, tally-append, times_in_once, Climb, Top, Window, MayBuryAll, AreBuriedAll, rows_on, numbers_in, numbers_in_all, IsWindowOn, AreWindowsOn, HasClimbed, EndsAtRoot, EndsInSlot, was_seen, IsLedger, Beside, Stand, IsNowOf, Layer, depth_at, level_of, IsPlanned, AreAllHeld, seen_at, taken_by, gone_by, window_at, windows_by, windows_above, Before, row_seen, new_rows_of, IsReplaced, Seen, passing, before, behind, between, row_at, low_of, high_of, in_place, Start, rows_at, times_in, tree_with, []}
 use Rattle.mt_splice.proofs.EndForms as forms
 use Rattle.mt_splice.proofs.DraftedLedger.{all_held_stay}
 use Rattle.mt_splice.proofs.Drafts.{other_row}
 use Rattle.mt_splice.proofs.Endings.{alone, replaced_at_root, replaced_in_slot}
 use Rattle.mt_splice.proofs.GoneLedger.{less_none, may_bury_all, ledger_gone, burials_keep, held_later, WereReached, numbers_are, windows_are, length-windows, gone_reached, level_reached, seen_reached, both_reached, window_numbers, numbers_seen, window_is}
 use Rattle.mt_splice.proofs.Heads.{heads_fill}
-use Rattle.mt_splice.proofs.LedgerNow.{holds_by, now_by, tree_by}
-use Rattle.mt_splice.proofs.Ledgers.{beside_of}
+use Rattle.mt_splice.proofs.KeptTrees.{kept_level, kept_stands}
+use Rattle.mt_splice.proofs.LedgerNow.{beside_by, keeps_by, now_by, tree_by}
 use Rattle.mt_splice.proofs.LevelRows.{new_rows_stay}
-use Rattle.mt_splice.proofs.Moments.{old_level, old_stands}
 use Rattle.mt_splice.proofs.Planned.{planned_stands, passing_seen}
 use Rattle.mt_splice.proofs.SlotStores.{beside_then, stand_in_slot, words_then}
 use Rattle.mt_splice.proofs.Splits.{fills_none}
 use Rattle.mt_splice.proofs.StepSeen.{not_both}
-use Rattle.mt_splice.proofs.Steps.{reached_untaken, table_now}
-use Rattle.mt_splice.proofs.Climbed.{ledger_reads}
+use Rattle.mt_splice.proofs.Steps.{ledger_reads, reached_untaken, table_now}
 use Rattle.mt_splice.proofs.Windows.{at_behind, once}
 use Rattle.mt_splice.proofs.WindowRows.{window_parts, before_fills, behind_fills}
 
@@ -73,9 +71,6 @@ module _ {b : Before} {start : Start} {s : Sheet} {book : Book} {c : Climb} {top
   abbrev pub gone : List Seen
   gone = gone_by start hc.layers ++ gone_above start hc.over
 
-  holds : Holds start (work_of b s taken [])
-  holds = holds_by hc.case.was hc.ledger hc.stands
-
   pub now : IsNowOf start s.tree
   now = now_by hc.case.was hc.ledger hc.stands
 
@@ -83,7 +78,7 @@ module _ {b : Before} {start : Start} {s : Sheet} {book : Book} {c : Climb} {top
   root_same = ap (λ (t : Rooted). t.root) hc.ledger.tree ∙ sym (ap (λ (t : Tree). t.root) hc.case.was.tree)
 
   pub levels_now : (d k : ℕ) → start.height ≡ d + k → rows_on s.tree d ≡ rows_at start.tree d
-  levels_now d k high = (λ i. level (sym (table_now hc.case.was hc.ledger) i) d (root_span (sym (table_now hc.case.was hc.ledger) i) (root_same i) ∷ [])) ∙ old_level start (work_of b s taken []) holds d k high
+  levels_now d k high = (λ i. level (sym (table_now hc.case.was hc.ledger) i) d (root_span (sym (table_now hc.case.was hc.ledger) i) (root_same i) ∷ [])) ∙ kept_level (keeps_by hc.case.was hc.ledger hc.stands) d k high
 
   pub tree_now : IsTreeOf s.tree b.kind
   tree_now = tree_by hc.case.was hc.ledger hc.stands
@@ -100,9 +95,9 @@ module _ {b : Before} {start : Start} {s : Sheet} {book : Book} {c : Climb} {top
       (cases_lt 0 hc.over)
   layers_few p (l ∷ lower) is =
       let planned = subst (IsPlanned start) is hc.planned in
-      let held = subst (AreAllHeld start s.tree.table.words (was_taken taken)) is hc.held in
+      let held = subst (AreAllHeld start s.tree.table.words (was_seen taken)) is hc.held in
       let low = planned.0.low in
-      let stand = planned_stands (beside_of start (work_of b s taken []) holds) l lower planned held (omega arith) in
+      let stand = planned_stands (beside_by hc.case.was hc.ledger hc.stands) l lower planned held (omega arith) in
       let were = stand.were p in
       let above = passing_above start p (depth_at start (length lower)) (omega arith) in
       let back : start.height - depth_at start (length lower) ≡ length lower = omega arith in
@@ -223,11 +218,12 @@ module _ {b : Before} {start : Start} {s : Sheet} {book : Book} {c : Climb} {top
     pub made_then : c.made.items ≡ new_rows_of s'.tree.table taken
     made_then = hc.made ∙ sym (new_rows_stay s.tree.table s'.tree.table taken wide_then (λ row some c above within. keeps_then row c above within))
 
-    pub held_then : AreAllHeld start s'.tree.table.words (was_taken taken) hc.layers
+    pub held_then : AreAllHeld start s'.tree.table.words (was_seen taken) hc.layers
     held_then = held_later start hc.ledger ledger_then now.width (wide_then ∙ now.width) keeps_then hc.layers hc.held
 
-    pub holds_then : Holds start (work_of b s' taken gone)
-    holds_then = holds_by hc.case.was ledger_then hc.stands
+    -- the tree's rows stand beside the new ones
+    pub old_beside : Beside start s'.tree.table.words (was_seen taken) 0
+    old_beside = beside_by hc.case.was ledger_then hc.stands
 
     -- one row is the root
     module _ (e : EndsAtRoot start hc.layers hc.root hc.over top) where
@@ -257,10 +253,10 @@ module _ {b : Before} {start : Start} {s : Sheet} {book : Book} {c : Climb} {top
           let low = planned.0.low in
           let taken_is : taken ≡ taken_by start (e.l ∷ e.lower) = λ i. e.no_root i ++ taken_by start (e.are i) in
           let gone_is : gone ≡ gone_by start (e.l ∷ e.lower) ++ gone_above start d = λ i. gone_by start (e.are i) ++ gone_above start (e.above i) in
-          let stand = planned_stands (beside_of start (work_of b s' taken gone) holds_then) e.l e.lower planned (subst (AreAllHeld start s'.tree.table.words (was_taken taken)) e.are held_then) (omega arith) in
+          let stand = planned_stands old_beside e.l e.lower planned (subst (AreAllHeld start s'.tree.table.words (was_seen taken)) e.are held_then) (omega arith) in
           forms.ends_at_root hc.case.was ledger_then (Some start.height) (Some k) e.x.word
           (replaced_at_root e.x hc.stands (omega arith) e.first e.last
-          (subst (λ (p : List Seen × List Span). Stand start s'.tree.table.words (was_taken taken) (λ q. passing q p.0) (λ q. passing q (gone_by start (e.l ∷ e.lower))) d k p.1) (λ i. (sym taken_is i, root_level i)) stand)
+          (subst (λ (p : List Seen × List Span). Stand start s'.tree.table.words (was_seen taken) (λ q. passing q p.0) (λ q. passing q (gone_by start (e.l ∷ e.lower))) d k p.1) (λ i. (sym taken_is i, root_level i)) stand)
           (λ p.
           let all = ap (passing p) gone_is in let both = tally-append (λ (s : Seen). p s.height s.at) (gone_by start (e.l ∷ e.lower)) (gone_above start d) in
           let above = passing_above start p d (omega arith) in
@@ -270,9 +266,6 @@ module _ {b : Before} {start : Start} {s : Sheet} {book : Book} {c : Climb} {top
     module _ (e : EndsInSlot start hc.layers hc.root hc.over top) where
       abbrev pub t : Tree
       t = start.tree
-
-      abbrev pub w : Work
-      w = work_of b s' taken gone
 
       abbrev pub h : ℕ
       h = length e.lower
@@ -289,17 +282,14 @@ module _ {b : Before} {start : Start} {s : Sheet} {book : Book} {c : Climb} {top
       pub within : i ≤ top_of t
       within = let order = planned.0.gathered.order in let within = planned.0.gathered.within in omega arith
 
-      pub old_beside : Beside start s'.tree.table.words (was_taken taken) 0
-      old_beside = beside_of start w holds_then
-
       pub tree_stands : Stands (tree_with t s'.tree.table.words) start.height
-      tree_stands = old_stands start w holds_then
+      tree_stands = kept_stands (keeps_by hc.case.was ledger_then hc.stands)
 
       pub has : HasWords (tree_with t s'.tree.table.words)
       has = forms.has_words hc.case.was ledger_then
 
       pub same_levels : (d k : ℕ) → start.height ≡ d + k → rows_at (tree_with t s'.tree.table.words) d ≡ rows_at t d
-      same_levels d k high = old_level start w holds_then d k high
+      same_levels d k high = kept_level (keeps_by hc.case.was ledger_then hc.stands) d k high
 
       abbrev pub words : List ℕ
       words = words_then old_beside tree_stands has same_levels i e.depth h within high e.x.word
@@ -318,16 +308,16 @@ module _ {b : Before} {start : Start} {s : Sheet} {book : Book} {c : Climb} {top
           slot_within t.table.width (kind_on t.gapped (suc h)) (slot_for (spans_in t.table (row_at t e.depth i)) i) (omega arith)
 
       -- a row that was taken is not the one in which the word is stored
-      pub stored_keeps : (row c : ℕ) → was_taken taken row ≡ true → c < columns t.table.width → column (tree_with t words).table row c ≡ column (tree_with t s'.tree.table.words).table row c
+      pub stored_keeps : (row c : ℕ) → was_seen taken row ≡ true → c < columns t.table.width → column (tree_with t words).table row c ≡ column (tree_with t s'.tree.table.words).table row c
       stored_keeps row c some inside =
           other_row t.table.width s'.tree.table.words (row_in (row_at t e.depth i).word) (slot_column (slots_of t.table.width (kind_on t.gapped (suc h))) (slot_for (spans_in t.table (row_at t e.depth i)) i)) e.x.word row c
-          (λ same. not_both (was_taken taken row) some (ap (was_taken taken) same ∙ reached_untaken hc.case.was ledger_then (row_in (row_at t e.depth i).word) parent_reached)) slot_inside inside
+          (λ same. not_both (was_seen taken row) some (ap (was_seen taken) same ∙ reached_untaken hc.case.was ledger_then (row_in (row_at t e.depth i).word) parent_reached)) slot_inside inside
 
-      pub held_stored : AreAllHeld start words (was_taken taken) hc.layers
-      held_stored = all_held_stay start s'.tree.table.words words (was_taken taken) (was_taken taken) (λ row some. some) stored_keeps hc.layers held_then
+      pub held_stored : AreAllHeld start words (was_seen taken) hc.layers
+      held_stored = all_held_stay start s'.tree.table.words words (was_seen taken) (was_seen taken) (λ row some. some) stored_keeps hc.layers held_then
 
-      pub stand_below : Stand start words (was_taken taken) (λ p. passing p (taken_by start (e.l ∷ e.lower))) (λ p. passing p (gone_by start (e.l ∷ e.lower))) (depth_at start h) h (level_of start (e.l ∷ e.lower))
-      stand_below = planned_stands (beside_then old_beside tree_stands has same_levels i e.depth h within high e.x.word) e.l e.lower planned (subst (AreAllHeld start words (was_taken taken)) e.are held_stored) (let above = e.above in omega arith)
+      pub stand_below : Stand start words (was_seen taken) (λ p. passing p (taken_by start (e.l ∷ e.lower))) (λ p. passing p (gone_by start (e.l ∷ e.lower))) (depth_at start h) h (level_of start (e.l ∷ e.lower))
+      stand_below = planned_stands (beside_then old_beside tree_stands has same_levels i e.depth h within high e.x.word) e.l e.lower planned (subst (AreAllHeld start words (was_seen taken)) e.are held_stored) (let above = e.above in omega arith)
 
       -- the new row covers what the old one did
       pub x_is : e.x ≡ with_child (row_at t (suc e.depth) i) e.x.word
@@ -354,4 +344,4 @@ module _ {b : Before} {start : Start} {s : Sheet} {book : Book} {c : Climb} {top
           let gone_is : gone ≡ gone_by start (e.l ∷ e.lower) = (λ m. gone_by start (e.are m) ++ gone_above start (e.none m)) ∙ append-nil (gone_by start (e.l ∷ e.lower)) in
           replaced_in_slot hc.stands
           (stand_in_slot old_beside tree_stands has same_levels i e.depth h within high e.x.word
-          (subst (λ (p : (List Seen × List Seen) × (List Span × ℕ)). Stand start words (was_taken taken) (λ q. passing q p.0.0) (λ q. passing q p.0.1) p.1.1 h p.1.0) (λ m. ((sym taken_is m, sym gone_is m), (level_is m, e.above m))) stand_below))
+          (subst (λ (p : (List Seen × List Seen) × (List Span × ℕ)). Stand start words (was_seen taken) (λ q. passing q p.0.0) (λ q. passing q p.0.1) p.1.1 h p.1.0) (λ m. ((sym taken_is m, sym gone_is m), (level_is m, e.above m))) stand_below))

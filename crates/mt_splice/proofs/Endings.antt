@@ -1,5 +1,5 @@
 -- The layers up to the root: in a slot the rows above stay, and one row that stands for every index is the root.
-use Rattle.mt_splice.proofs.Prelude.{◌≡◌, ℕ, zero, suc, ◌+◌, ◌≤◌, ◌<◌, List, [], ◌∷◌, ◌++◌, Bool, true, false, Some, nat_lt, length, refl, sym, ap, ◌∙◌, subst, arith, append-nil, AllByRecursion, all_map, deepest, Item, Span, row_in, slots_of, spans_from, Fills, expand, map_of, Levels, one_if, times, is_row_of, IsRow, Stands, top_of, kind_on, root_of, level_next, levels_map, row_keeps, rows_fill, FewestBelow, IsReplaced, with_root, Seen, passing, Start, tree_with, rows_at, Stand, before, behind, low_of, high_of, in_place}
+use Rattle.mt_splice.proofs.Prelude.{◌≡◌, ℕ, zero, suc, ◌+◌, ◌≤◌, ◌<◌, List, [], ◌∷◌, ◌++◌, Bool, true, false, Some, length, refl, sym, ap, ◌∙◌, subst, arith, append-nil, AllByRecursion, all_map, deepest, Item, Span, row_in, slots_of, spans_from, Fills, expand, map_of, Levels, one_if, times, IsRow, Stands, top_of, kind_on, root_of, level_next, levels_map, row_keeps, rows_fill, FewestBelow, IsReplaced, with_root, Seen, passing, Start, tree_with, rows_at, Stand, before, behind, low_of, high_of, in_place, was_seen}
 use Rattle.mt_splice.proofs.FewestRows.{none_new, one_new}
 use Rattle.mt_splice.proofs.RootEndings.{root_is}
 use Rattle.mt_splice.proofs.Splits.{fills_none}
@@ -40,10 +40,7 @@ stand_to_root stands (suc d) h levels above s =
 
 -- ---- what stands in place of the tree
 
-abbrev news : List Seen → ℕ → Bool
-news taken row = nat_lt 0 (passing (is_row_of row) taken)
-
-pub replaced_in_slot : {start : Start} {words : List ℕ} {taken gone : List Seen} → Stands start.tree start.height → Stand start words (news taken) (λ p. passing p taken) (λ p. passing p gone) 0 start.height (root_of start.tree)
+pub replaced_in_slot : {start : Start} {words : List ℕ} {taken gone : List Seen} → Stands start.tree start.height → Stand start words (was_seen taken) (λ p. passing p taken) (λ p. passing p gone) 0 start.height (root_of start.tree)
     → IsReplaced start.tree (tree_with start.tree words) start.map taken gone (Some start.height) (Some start.height)
 replaced_in_slot stands s = record { stands = record { low = stands.low; rows = s.rows }; ranges = s.ranges; rows = s.count; were = s.were; fewest = s.fewest }
 
@@ -57,7 +54,7 @@ alone start d i j new first last front back =
 
 -- one row that stands for every index is the root: all rows of the levels above it are gone too
 pub replaced_at_root : {start : Start} {words : List ℕ} {taken gone : List Seen} {low_gone : (ℕ → Span → Bool) → ℕ} {d h : ℕ} (x : Span) → Stands start.tree start.height → start.height ≡ d + h → x.first ≡ 0 → x.last ≡ top_of start.tree
-    → Stand start words (news taken) (λ p. passing p taken) low_gone d h (x ∷ [])
+    → Stand start words (was_seen taken) (λ p. passing p taken) low_gone d h (x ∷ [])
     → ((p : ℕ → Span → Bool) → passing p gone + times p start.tree.table h (rows_at start.tree d) ≡ low_gone p + times p start.tree.table start.height (root_of start.tree))
     → IsReplaced start.tree (with_root (tree_with start.tree words) x.word) start.map taken gone (Some start.height) (Some h)
 replaced_at_root {start} {words} {taken} {gone} {low_gone} {d} {h} x stands levels first last s all_gone =
@@ -71,13 +68,13 @@ replaced_at_root {start} {words} {taken} {gone} {low_gone} {d} {h} x stands leve
       ranges = ap (map_of t'.table h) (sym root) ∙ s.ranges;
       rows = λ p. let here = s.count p in let new = ap (times p t'.table h) root in let gone = all_gone p in omega arith;
       were = λ p. let here = s.were p in let gone = all_gone p in omega arith;
-      fewest = subst (FewestBelow (news taken) start.tree.gapped t'.table h) root s.fewest;
+      fewest = subst (FewestBelow (was_seen taken) start.tree.gapped t'.table h) root s.fewest;
     }
 
 -- several rows that stand for every index stand in a new root
 pub replaced_above : {start : Start} {words : List ℕ} {taken gone : List Seen} {low_taken : (ℕ → Span → Bool) → ℕ} {new : List Span} (x : Span) (items : List Item) → x.first ≡ 0 → x.last ≡ top_of start.tree → suc start.height < deepest
-    → Stand start words (news taken) low_taken (λ p. passing p gone) 0 start.height new → IsRow (tree_with start.tree words) (suc start.height) x → expand (tree_with start.tree words).table (x ∷ []) ≡ new → new ≡ spans_from 0 items
-    → length items ≤ slots_of start.tree.table.width (kind_on start.tree.gapped (suc start.height)) → news taken (row_in x.word) ≡ true → ((p : ℕ → Span → Bool) → passing p taken ≡ one_if (p (suc start.height) x) + low_taken p)
+    → Stand start words (was_seen taken) low_taken (λ p. passing p gone) 0 start.height new → IsRow (tree_with start.tree words) (suc start.height) x → expand (tree_with start.tree words).table (x ∷ []) ≡ new → new ≡ spans_from 0 items
+    → length items ≤ slots_of start.tree.table.width (kind_on start.tree.gapped (suc start.height)) → was_seen taken (row_in x.word) ≡ true → ((p : ℕ → Span → Bool) → passing p taken ≡ one_if (p (suc start.height) x) + low_taken p)
     → IsReplaced start.tree (with_root (tree_with start.tree words) x.word) start.map taken gone (Some start.height) (Some (suc start.height))
 replaced_above {start} {words} {taken} {gone} {low_taken} {new} x items first last low s row hold is_new few is_taken more =
     let t' = tree_with start.tree words in
@@ -89,6 +86,6 @@ replaced_above {start} {words} {taken} {gone} {low_taken} {new} x items first la
       ranges = ap (map_of t'.table h) (sym root) ∙ (ap (map_of t'.table start.height) hold ∙ s.ranges);
       rows = λ p. let here = s.count p in let up = ap (times p t'.table h) root in let below = ap (times p t'.table start.height) hold in let one = more p in omega arith;
       were = λ p. s.were p;
-      fewest = subst (FewestBelow (news taken) start.tree.gapped t'.table h) root
-          (one_new (news taken) t'.table (kind_on start.tree.gapped h) x 0 items is_taken (hold ∙ is_new) few, subst (FewestBelow (news taken) start.tree.gapped t'.table start.height) (sym hold) s.fewest);
+      fewest = subst (FewestBelow (was_seen taken) start.tree.gapped t'.table h) root
+          (one_new (was_seen taken) t'.table (kind_on start.tree.gapped h) x 0 items is_taken (hold ∙ is_new) few, subst (FewestBelow (was_seen taken) start.tree.gapped t'.table start.height) (sym hold) s.fewest);
     }

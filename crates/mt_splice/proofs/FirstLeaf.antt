@@ -1,5 +1,5 @@
 -- The first leaf of an empty tree, drafted, may be published as its root.
-use Rattle.mt_splice.proofs.Prelude.{◌≡◌, ℕ, ◌+◌, ◌-◌, ◌<◌, ◌≤◌, List, [], ◌∷◌, Some, None, true, length, take, refl, sym, ap, ◌∙◌, subst, arith, flat_map, ◌≢◌, All, Any, take-length, Call, Kind, Reply, Book, Item, RowKind, Leaf, Span, RiseFrom, end_of, name_at, row_in, slots_of, leaf_range, spans_from, row_in-name_at, sizes, after, fills_after, fills_end, fills_rise, length-spans_from, PathStep, Root, Tree, IsRow, top_of, expand, map_of, tally, IsFree, IsWhole, Sheet, life_of, NewRow, FewestBelow, MaySplice, AreRowsTaken, IsPieceDrafted, IsRowTaken, MayPublishEnd, IsFirstStore, AreHeld, part_of, IsLedger, was_taken, work_of, Before, is_taken, IsReplaced, with_root, MayBeCut, Seen, Start, Work, tree_with}
+use Rattle.mt_splice.proofs.Prelude.{◌≡◌, ℕ, ◌+◌, ◌-◌, ◌<◌, ◌≤◌, List, ◌∷◌, Some, None, true, length, take, refl, sym, ap, ◌∙◌, subst, arith, flat_map, ◌≢◌, All, Any, take-length, Call, Kind, Reply, Book, Item, RowKind, Leaf, Span, RiseFrom, end_of, name_at, row_in, slots_of, leaf_range, spans_from, row_in-name_at, sizes, after, fills_after, fills_end, fills_rise, length-spans_from, PathStep, Root, Tree, IsRow, top_of, expand, map_of, tally, IsFree, IsWhole, Sheet, life_of, NewRow, FewestBelow, MaySplice, AreRowsTaken, IsPieceDrafted, IsRowTaken, MayPublishEnd, IsFirstStore, AreHeld, part_of, IsLedger, was_seen, Before, IsReplaced, with_root, MayBeCut, Seen, Start, tree_with, []}
 use Rattle.mt_splice.proofs.DraftedLedger.{held_then, ledger_then, width_then}
 use Rattle.mt_splice.proofs.EndForms.{ends_at_root, gaps_at_root}
 use Rattle.mt_splice.proofs.EndGaps.{root_laws}
@@ -69,14 +69,11 @@ module _ {kind : Kind} {s : Sheet} {book : Book} {right : List PathStep} {items 
     abbrev T : Tree
     T = tree_with start.tree s'.tree.table.words
 
-    abbrev w : Work
-    w = work_of (b₀ may whole) s' (seen ∷ []) []
-
-    row_held : AreHeld T (was_taken (seen ∷ [])) Leaf items 0 (length items ∷ []) (piece.row ∷ [])
+    row_held : AreHeld T (was_seen (seen ∷ [])) Leaf items 0 (length items ∷ []) (piece.row ∷ [])
     row_held = held_then (case₀ may whole from to).was 0 above Leaf items refl 0 0 (length items ∷ []) (piece.row ∷ []) s s' book book' (nothing_done whole may.kept) are parts wide
 
     holds : (expand T.table (x ∷ []) ≡ spans_from 0 items) × IsRow T 0 x
-    holds = let both = held T (was_taken (seen ∷ [])) 0 above Leaf refl items 0 0 (length items ∷ []) (piece.row ∷ []) parts_now refl row_held in (both.0, both.1.0.0)
+    holds = let both = held T (was_seen (seen ∷ [])) 0 above Leaf refl items 0 0 (length items ∷ []) (piece.row ∷ []) parts_now refl row_held in (both.0, both.1.0.0)
       where
         parts_now : AreParts T 0 0 items 0 (length items ∷ [])
         parts_now = (record { some = few.0; within = omega arith; fit = fits; run = record { fills = run.fills; some = run.some; few = run.few; least = run.least; fit = run.fit; leaves = λ leaf. let leaves = run.leaves leaf in record { ends = leaves.ends; some = leaves.some } } }, refl)
@@ -84,30 +81,31 @@ module _ {kind : Kind} {s : Sheet} {book : Book} {right : List PathStep} {items 
     last : x.last ≡ top
     last = ap (end_of 0) part_is ∙ (let some = few.0 in let ends = fills_end 0 0 (hi may whole) 0 items some (cut may whole).fills in omega arith)
 
-    names : was_taken (seen ∷ []) (row_in x.word) ≡ true
-    names = ap (was_taken (seen ∷ [])) (row_in-name_at piece.row Leaf) ∙ row_held.1
+    names : was_seen (seen ∷ []) (row_in x.word) ≡ true
+    names = ap (was_seen (seen ∷ [])) (row_in-name_at piece.row Leaf) ∙ row_held.1
 
     leaf_replaces : IsReplaced start.tree (with_root T x.word) start.map (seen ∷ []) [] None (Some 0)
     leaf_replaces = record {
-      stands = record { low = omega arith; rows = root_rows start w x refl last 0 (holds.1, tt) };
-      ranges = ap (map_of T.table 0) (sym (at_root start w x refl last)) ∙ (ap (flat_map leaf_range) holds.0 ∙ stand may whole);
+      stands = record { low = omega arith; rows = root_rows T x refl last 0 (holds.1, tt) };
+      ranges = ap (map_of T.table 0) (sym (at_root T x refl last)) ∙ (ap (flat_map leaf_range) holds.0 ∙ stand may whole);
       rows = λ p. let root = ap (λ (y : Span). tally (p 0) (y ∷ [])) (root_is start.tree x refl last) in omega arith;
       were = λ p. omega arith;
-      fewest = subst (FewestBelow (was_taken (seen ∷ [])) start.tree.gapped T.table 0) (at_root start w x refl last) (one_new (was_taken (seen ∷ [])) T.table Leaf x 0 items names holds.0 few.1);
+      fewest = subst (FewestBelow (was_seen (seen ∷ [])) start.tree.gapped T.table 0) (at_root T x refl last) (one_new (was_seen (seen ∷ [])) T.table Leaf x 0 items names holds.0 few.1);
     }
 
     first_ends : {inner : List NewRow} → inner ≡ made' → MayPublishEnd (b₀ may whole) start s' book' inner Root item.word call reply
     first_ends {inner} same = subst (λ (n : ℕ). MayPublishEnd (b₀ may whole) start s' book' inner Root n call reply) (sym (ap (λ (y : Item). y.word) piece.up)) (record {
-      work = w;
+      taken = seen ∷ [];
+      gone = [];
       old = None;
       new = Some 0;
       case = case₀ may whole from to;
-      progress = ledger;
+      ledger = ledger;
       few = omega arith;
       answer = the_answer may whole;
-      holds = no_tree may whole;
+      stood = no_tree may whole;
       replaced = ends_at_root (case₀ may whole from to).was ledger None (Some 0) x.word leaf_replaces;
-      gaps = gaps_at_root (case₀ may whole from to).was ledger (is_taken w) (Some 0) x.word (λ index _ _. root_laws (is_taken w) index start w 0 x refl last (tt, tt));
+      gaps = gaps_at_root (case₀ may whole from to).was ledger (was_seen (seen ∷ [])) (Some 0) x.word (λ index _ _. root_laws (was_seen (seen ∷ [])) index T 0 x refl last (tt, tt));
       at = tt;
       top = names;
       inner_rows = same ∙ piece.noted;

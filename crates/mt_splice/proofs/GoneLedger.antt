@@ -1,5 +1,5 @@
 -- The rows of windows buried and retired, by the ledger.
-use Rattle.mt_splice.proofs.Prelude.{◌≡◌, ℕ, zero, suc, ◌+◌, ◌-◌, ◌<◌, ◌≤◌, List, [], ◌∷◌, ◌++◌, true, length, map, nat_lt, refl, sym, ap, ◌∙◌, subst, arith, append_assoc, append-nil, length-append, eq-eqb, AllByRecursion, map-append, Width, columns, greatest, all_front, all_back, Book, IsOut, after_retire, Span, row_in, dead_mark, fills_le, path_in, levels, place, Tree, Stands, top_of, is_row_of, one_if, is_reached, root_of, Sheet, MayBury, after_bury, Table, column, level_rows, tally-append, on_level_reached, times_reached, Window, IsUnpublished, after_burials, after_retirals, EachOnce, MayBuryAll, rows_on, numbers_in, numbers_in_all, IsWindowOn, AreWindowsOn, was_taken, IsLedger, IsNowOf, Layer, depth_at, old_at, IsPlanned, AreAllHeld, seen_at, gone_by, window_at, windows_by, Before, IsStartOf, row_seen, Seen, passing, before, behind, between, row_at, Start, rows_at, tree_with}
+use Rattle.mt_splice.proofs.Prelude.{◌≡◌, ℕ, zero, suc, ◌+◌, ◌-◌, ◌<◌, ◌≤◌, List, ◌∷◌, ◌++◌, true, length, map, nat_lt, refl, sym, ap, ◌∙◌, subst, arith, append_assoc, append-nil, length-append, eq-eqb, AllByRecursion, map-append, Width, columns, greatest, all_front, all_back, Book, IsOut, after_retire, Span, row_in, dead_mark, fills_le, path_in, levels, place, Tree, Stands, top_of, is_row_of, one_if, is_reached, root_of, Sheet, MayBury, after_bury, Table, column, level_rows, tally-append, on_level_reached, times_reached, Window, IsUnpublished, after_burials, after_retirals, EachOnce, MayBuryAll, rows_on, numbers_in, numbers_in_all, IsWindowOn, AreWindowsOn, was_seen, IsLedger, IsNowOf, Layer, depth_at, old_at, IsPlanned, AreAllHeld, seen_at, gone_by, window_at, windows_by, Before, IsStartOf, row_seen, Seen, passing, before, behind, between, row_at, Start, rows_at, tree_with, []}
 use Rattle.mt_splice.proofs.DraftedLedger.{all_held_stay}
 use Rattle.mt_splice.proofs.EndLevels.{levels_each}
 use Rattle.mt_splice.proofs.EndLists.{contains_seen}
@@ -61,14 +61,14 @@ module _ {b : Before} (start : Start) {s s' : Sheet} {book book' : Book} {taken 
   table_of : (x : Sheet) → x.tree.table.width ≡ start.tree.table.width → (tree_with start.tree x.tree.table.words).table ≡ x.tree.table
   table_of x wide = λ i. record { width = sym wide i; words = x.tree.table.words }
 
-  pub columns_later : (row c : ℕ) → was_taken taken row ≡ true → c < columns start.tree.table.width → column (tree_with start.tree s'.tree.table.words).table row c ≡ column (tree_with start.tree s.tree.table.words).table row c
+  pub columns_later : (row c : ℕ) → was_seen taken row ≡ true → c < columns start.tree.table.width → column (tree_with start.tree s'.tree.table.words).table row c ≡ column (tree_with start.tree s.tree.table.words).table row c
   columns_later row zero some within = ap (λ (t : Table). column t row 0) (table_of s' wide') ∙ (ledger'.new_parents row some ∙ sym (ap (λ (t : Table). column t row 0) (table_of s wide) ∙ ledger.new_parents row some))
   columns_later row (suc c) some within =
       ap (λ (t : Table). column t row (suc c)) (table_of s' wide')
       ∙ (same row (suc c) (omega arith) (subst (λ (v : Width). suc c < columns v) (sym wide) within) ∙ sym (ap (λ (t : Table). column t row (suc c)) (table_of s wide)))
 
-  pub held_later : (layers : List Layer) → AreAllHeld start s.tree.table.words (was_taken taken) layers → AreAllHeld start s'.tree.table.words (was_taken taken) layers
-  held_later layers held = all_held_stay start s.tree.table.words s'.tree.table.words (was_taken taken) (was_taken taken) (λ row some. some) columns_later layers held
+  pub held_later : (layers : List Layer) → AreAllHeld start s.tree.table.words (was_seen taken) layers → AreAllHeld start s'.tree.table.words (was_seen taken) layers
+  held_later layers held = all_held_stay start s.tree.table.words s'.tree.table.words (was_seen taken) (was_seen taken) (λ row some. some) columns_later layers held
 
 -- ---- the windows of layers
 

@@ -4,7 +4,7 @@ use Rattle.mt_splice.proofs.GapRows.{gap_laws_stay, row_keeps_gaps, tells_later}
 use Rattle.mt_splice.proofs.Heads.{drop_part, heads_fill}
 use Rattle.mt_splice.proofs.Layers.{level_holds}
 use Rattle.mt_splice.proofs.LevelRuns.{AreParts, cut_makes_parts, length-part}
-use Rattle.mt_splice.proofs.Moments.{RowsKeep, rows_shared}
+use Rattle.mt_splice.proofs.KeptTrees.{RowsKeep, rows_shared}
 use Rattle.mt_splice.proofs.NewTold.{tells_held, tells_inner, tells_leaf}
 use Rattle.mt_splice.proofs.Planned.{layer_new, run_now}
 use Rattle.mt_splice.proofs.SlotGaps.{one_alone}

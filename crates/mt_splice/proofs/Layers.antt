@@ -1,6 +1,6 @@
 -- A layer in the place of its window: the level with it stands for the map, where the level below with its layer does.
 use Rattle.mt_splice.proofs.Prelude.{◌≡◌, ℕ, suc, ◌+◌, ◌≤◌, List, ◌++◌, Bool, false, refl, sym, ap, ◌∙◌, subst, arith, AllByRecursion, flat_map, all_map, all_front, all_back, all_join, Item, Span, row_in, leaf_range, spans_from, Fills, fills-append, expand, map_of, Levels, tally, times, SameSpans, Tree, IsRow, top_of, kind_on, root_of, same_spans, level_next, expand_shared, tally-append, expand-append, AreFewestOf, FewestBelow, Start, tree_with, rows_at, IsOld, Beside, Stand, before, behind, between, low_of, high_of, in_place, in_rows, Gathered}
-use Rattle.mt_splice.proofs.Moments.{row_stays}
+use Rattle.mt_splice.proofs.KeptTrees.{row_stays}
 use Rattle.mt_splice.proofs.WindowRows.{window_parts, before_fills, behind_fills}
 use Rattle.mt_splice.proofs.Parts.{AreNew}
 

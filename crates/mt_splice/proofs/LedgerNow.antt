@@ -1,52 +1,59 @@
--- What the ledger tells while rows are drafted: the tree as it was stands beside them, and is read as it was.
-use Rattle.mt_splice.proofs.Prelude.{◌≡◌, ℕ, ◌<◌, ◌≤◌, List, Bool, true, false, sym, ap, ◌∙◌, subst, ⊎_elim, ◌||◌, lt-ltb, columns, Book, Span, row_in, Tree, Stands, is_row_of, IsTreeOf, is_reached, root_of, Sheet, Table, column, OnLevel, on_level_reached, times_reached, was_taken, work_of, IsLedger, IsNowOf, Before, IsStartOf, Seen, passing, Start, KeepsRowWords, Holds, times_in}
+-- What the ledger tells while rows are drafted and buried: the tree as it was stands beside the new rows, and is read as it was.
+use Rattle.mt_splice.proofs.Prelude.{◌≡◌, ℕ, ◌<◌, List, Option, Some, None, true, false, sym, ap, ◌∙◌, subst, inr, columns, Book, Span, row_in, Tree, Stands, IsTreeOf, is_reached, root_of, Rooted, Sheet, Table, column, level_rows, OnLevel, on_level_law, on_level_reached, times_reached, IsOld, Beside, StandsAs, IsLedger, IsNowOf, Before, IsStartOf, Seen, was_seen, Start, KeepsRowWords, items_of_row, path_in, row_at}
+use Rattle.mt_splice.proofs.EndForms.{now_is}
 use Rattle.mt_splice.proofs.EndLevels.{levels_each}
-use Rattle.mt_splice.proofs.EndTrees.{none_or_some}
-use Rattle.mt_splice.proofs.Ledgers.{items_by_ledger}
-use Rattle.mt_splice.proofs.LevelPaths.{is_tree_now, path_stays}
-use Rattle.mt_splice.proofs.Moments.{reached_are_used}
-use Rattle.mt_splice.proofs.StepSeen.{not_both}
+use Rattle.mt_splice.proofs.KeptTrees.{Keeps, KeepsAs, RowsKeep, kept_path, kept_row, kept_stands}
+use Rattle.mt_splice.proofs.ReadsNow.{items_now}
 use Rattle.mt_splice.proofs.Steps.{reached_untaken, table_now, width_now, rows_now}
 use Rattle.mt_splice.proofs.StoredWords.{words_of}
 
-or_left : (a c : Bool) → a ≡ true → (a || c) ≡ true
-or_left true c is = is
-or_left false c is = absurd (cc)
-
-module _ {b : Before} {start : Start} {s : Sheet} {book : Book} {taken gone : List Seen} (before : IsStartOf b start) (ledger : IsLedger b s book taken gone) (stands : Stands start.tree start.height) where
+module _ {b : Before} {start : Start} {s : Sheet} {book : Book} {taken gone : List Seen} (before : IsStartOf b start) (ledger : IsLedger b s book taken gone) where
   was_reached : (row : ℕ) → is_reached (words_of start.tree) row ≡ true → is_reached b.sheet.tree row ≡ true
   was_reached row reached = sym (ap (λ (t : Tree). is_reached (words_of t) row) before.tree) ∙ reached
 
-  -- a row of the tree is not taken, and keeps its words
-  keeps : (k : ℕ) (x : Span) → OnLevel start.tree.table start.height (root_of start.tree) k x → KeepsRowWords start.tree start.tree.table.words s.tree.table.words (row_in x.word)
-  keeps k x on c above within =
+  -- a row of the tree was not taken, and keeps its words
+  untaken : (h : ℕ) → Stands start.tree h → (k : ℕ) (x : Span) → OnLevel start.tree.table h (root_of start.tree) k x → was_seen taken (row_in x.word) ≡ false
+  untaken h stands k x on = reached_untaken before ledger (row_in x.word) (was_reached (row_in x.word) (times_reached start.tree h stands (row_in x.word) (on_level_reached start.tree h stands k x on)))
+
+  keeps : (h : ℕ) → Stands start.tree h → (k : ℕ) (x : Span) → OnLevel start.tree.table h (root_of start.tree) k x → KeepsRowWords start.tree start.tree.table.words s.tree.table.words (row_in x.word)
+  keeps h stands k x on c above within =
       let row = row_in x.word in
-      let reached = was_reached row (times_reached start.tree start.height stands row (on_level_reached start.tree start.height stands k x on)) in
       let inside : c < columns b.sheet.tree.table.width = subst (λ (t : Tree). c < columns t.table.width) before.tree within in
-      ap (λ (t : Table). column t row c) (table_now before ledger) ∙ (ledger.kept row c (reached_untaken before ledger row reached) above inside ∙ sym (ap (λ (t : Tree). column t.table row c) before.tree))
+      ap (λ (t : Table). column t row c) (table_now before ledger) ∙ (ledger.kept row c (untaken h stands k x on) above inside ∙ sym (ap (λ (t : Tree). column t.table row c) before.tree))
 
-  pub holds_by : Holds start (work_of b s taken gone)
-  holds_by = record {
-    stands = stands;
-    used = reached_are_used start (work_of b s taken gone) stands (λ row reached. or_left (is_reached b.sheet.tree row) (was_taken taken row) (was_reached row reached));
-    words = levels_each (λ (_ : ℕ) (x : Span). KeepsRowWords start.tree start.tree.table.words s.tree.table.words (row_in x.word)) start.tree.table start.height (root_of start.tree) keeps;
-    taken = λ row some.
-        ⊎_elim (λ (none : times_in (is_row_of row) start.tree start.height ≡ 0). none)
-        (λ (once : 1 ≤ times_in (is_row_of row) start.tree start.height).
-        let untaken = reached_untaken before ledger row (was_reached row (times_reached start.tree start.height stands row once)) in
-        let taken_now : was_taken taken row ≡ true = lt-ltb 0 (passing (is_row_of row) taken) some in
-        absurd (not_both (was_taken taken row) taken_now untaken))
-        (none_or_some (times_in (is_row_of row) start.tree start.height));
-  }
+  pub keeps_by : {h : ℕ} → Stands start.tree h → Keeps start.tree h s.tree.table.words
+  keeps_by {h} stands = record { stands = stands; rows = levels_each (RowsKeep start.tree start.tree.table.words s.tree.table.words) start.tree.table h (root_of start.tree) (keeps h stands) }
 
-  pub tree_by : IsTreeOf s.tree b.kind
-  tree_by = is_tree_now before ledger holds_by
+  pub keeps_as : (o : Option ℕ) → StandsAs start.tree o → KeepsAs start.tree o s.tree.table.words
+  keeps_as None stands = stands
+  keeps_as (Some h) stands = keeps_by stands
 
-  pub now_by : IsNowOf start s.tree
-  now_by = record {
-    rows = rows_now before ledger ∙ sym (ap (λ (t : Tree). t.rows) before.tree);
-    width = width_now before ledger ∙ sym (ap (λ (t : Tree). t.table.width) before.tree);
-    tree = (b.kind, tree_by);
-    paths = path_stays before ledger holds_by;
-    items = items_by_ledger before ledger holds_by;
-  }
+  module _ (stands : Stands start.tree start.height) where
+    pub beside_by : Beside start s.tree.table.words (was_seen taken) 0
+    beside_by = record {
+      stands = stands;
+      rows = λ d h levels low.
+          level_rows (IsOld start s.tree.table.words (was_seen taken)) start.tree.table d h start.height (root_of start.tree) levels
+          (levels_each (IsOld start s.tree.table.words (was_seen taken)) start.tree.table start.height (root_of start.tree)
+          (λ k x on. record { row = on_level_law start.tree start.height stands k x on; keeps = keeps start.height stands k x on; old = untaken start.height stands k x on }));
+    }
+
+    -- the words are a tree still
+    pub tree_by : IsTreeOf s.tree b.kind
+    tree_by = record {
+      width = width_now before ledger ∙ before.kept.lawful.width;
+      words = inr (start.height, subst (λ (t : Tree). Stands t start.height) (now_is before ledger) (kept_stands (keeps_by stands)));
+    }
+
+    pub now_by : IsNowOf start s.tree
+    now_by = record {
+      rows = rows_now before ledger ∙ sym (ap (λ (t : Tree). t.rows) before.tree);
+      width = width_now before ledger ∙ sym (ap (λ (t : Tree). t.table.width) before.tree);
+      tree = (b.kind, tree_by);
+      paths = λ i within.
+          let root : s.tree.root ≡ start.tree.root = ap (λ (t : Rooted). t.root) ledger.tree ∙ sym (ap (λ (t : Tree). t.root) before.tree) in
+          sym (λ m. path_in (table_now before ledger m) (sym root m) i) ∙ kept_path (keeps_by stands) i within;
+      items = λ i d h within levels kind max.
+          ap (λ (t : Table). items_of_row t kind (row_in (row_at start.tree d i).word) max) (sym (table_now before ledger))
+          ∙ items_now start.tree.table s.tree.table.words kind (row_in (row_at start.tree d i).word) max (kept_row (keeps_by stands) i d h within levels);
+    }

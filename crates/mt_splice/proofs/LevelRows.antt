@@ -1,6 +1,6 @@
 -- A row that was written keeps the laws of rows, and holds its items.
-use Rattle.mt_splice.proofs.Prelude.{[], ◌≡◌, ◌≢◌, ℕ, zero, suc, ◌+◌, ◌==◌, List, ◌∷◌, ◌++◌, true, inl, inr, length, refl, ap, arith, Any, cases_Bool, eqb-false, flat_map, columns, Item, Span, spans_from, leaf_range, Table, SameColumns, SameSpans, same_spans, Seen, row_seen, new_row_by, new_rows_of}
-use Rattle.mt_splice.proofs.StepSeen.{was_seen, seen_here, seen_more}
+use Rattle.mt_splice.proofs.Prelude.{[], ◌≡◌, ◌≢◌, ℕ, zero, suc, ◌+◌, ◌==◌, List, ◌∷◌, ◌++◌, true, inl, inr, length, refl, ap, arith, Any, cases_Bool, eqb-false, flat_map, columns, Item, Span, spans_from, leaf_range, Table, SameColumns, SameSpans, same_spans, Seen, row_seen, new_row_by, new_rows_of, was_seen}
+use Rattle.mt_splice.proofs.StepSeen.{seen_here, seen_more}
 
 -- ---- inner rows that were written before
 

@@ -46,15 +46,12 @@ pub mod LeafAbove
 pub mod LeafItems
 pub mod LeafRegions
 pub mod LedgerNow
-pub mod Ledgers
-pub mod LevelPaths
 pub mod LevelRows
 pub mod LevelRuns
 pub mod LevelSteps
 pub mod LiveRows
 pub mod Looks
 pub mod MayPublish
-pub mod Moments
 pub mod NewRows
 pub mod NewTold
 pub mod OldRows
@@ -66,7 +63,6 @@ pub mod Planned
 pub mod Raised
 pub mod Readings
 pub mod ReadsNow
-pub mod Rises
 pub mod Rooms
 pub mod RootEndings
 pub mod Runs

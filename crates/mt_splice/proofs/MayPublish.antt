@@ -1,38 +1,35 @@
 -- When the rows of a climb are drafted and those of its windows buried, one word may be published.
-use Rattle.mt_splice.proofs.Prelude.{◌≡◌, ℕ, suc, ◌+◌, List, [], ◌∷◌, true, Option, Some, None, length, refl, sym, ap, ◌∙◌, subst, ⊎_elim, arith, AllByRecursion, Call, Reply, Book, Span, name_at, row_in, row_in-name_at, Place, Root, Slot, Tree, tree_as, with_published, Rooted, Sheet, inner_of, height_in, height_is, Climb, Top, TellsGapAt, TellsBelow, AreBuriedAll, numbers_in_all, HasClimbed, EndsEmpty, EndsAtRoot, EndsAbove, EndsInSlot, IsEndPlace, IsTop, MayPublishEnd, was_taken, work_of, Layer, AreAllHeld, IsPlanned, level_of, new_at, Before, is_taken, IsReplaced, IsAnswer, GapsBeside, Start, Work}
+use Rattle.mt_splice.proofs.Prelude.{◌≡◌, ℕ, suc, ◌+◌, List, ◌∷◌, true, Option, Some, None, length, refl, sym, ap, ◌∙◌, subst, ⊎_elim, arith, AllByRecursion, Call, Reply, Book, Span, name_at, row_in, row_in-name_at, Place, Root, Slot, Tree, tree_as, with_published, Rooted, Sheet, inner_of, height_in, height_is, Climb, Top, TellsGapAt, TellsBelow, AreBuriedAll, numbers_in_all, HasClimbed, EndsEmpty, EndsAtRoot, EndsAbove, EndsInSlot, IsEndPlace, IsTop, MayPublishEnd, was_seen, Layer, AreAllHeld, IsPlanned, level_of, new_at, Before, IsReplaced, IsAnswer, GapsBeside, Start, [], now}
 use Rattle.mt_splice.proofs.EndAbove.{above_gaps, above_replaces, is_new}
 use Rattle.mt_splice.proofs.EndAtRoot.{nothing_replaces, root_keeps_gaps}
 use Rattle.mt_splice.proofs.EndAtSlot.{in_slot_gaps, in_slot_replaces, in_slot_tells, slot_is_place}
-use Rattle.mt_splice.proofs.Ended.{taken, gone, held_then, holds_then, ledger_then, made_then, root_replaces}
-use Rattle.mt_splice.proofs.Ledgers.{beside_of}
+use Rattle.mt_splice.proofs.Ended.{taken, gone, held_then, old_beside, ledger_then, made_then, root_replaces}
 use Rattle.mt_splice.proofs.Planned.{layer_new}
 
 module _ {b : Before} {start : Start} {s s' : Sheet} {book book' : Book} {c : Climb} {top : Top} (hc : HasClimbed b start s book c top) (done : AreBuriedAll s s' book book' (numbers_in_all s.tree start.height c.windows.items) b.number) where
-  abbrev w : Work
-  w = work_of b s' (taken hc) (gone hc)
-
   tall : height_in b.sheet.tree.table b.sheet.tree.root ≡ start.height + 1
   tall = ap (λ (t : Tree). height_in t.table t.root) (sym hc.case.was.tree) ∙ height_is start.tree start.height hc.stands
 
   -- a new row was taken
-  one_taken : (l : Layer) (lower : List Layer) (x : Span) → hc.layers ≡ l ∷ lower → new_at start (length lower) l ≡ x ∷ [] → was_taken (taken hc) (row_in x.word) ≡ true
+  one_taken : (l : Layer) (lower : List Layer) (x : Span) → hc.layers ≡ l ∷ lower → new_at start (length lower) l ≡ x ∷ [] → was_seen (taken hc) (row_in x.word) ≡ true
   one_taken l lower x are one =
       let planned = subst (IsPlanned start) are hc.planned in
-      let held = subst (AreAllHeld start s'.tree.table.words (was_taken (taken hc))) are (held_then hc done) in
-      (subst (AllByRecursion (λ (y : Span). was_taken (taken hc) (row_in y.word) ≡ true)) one (layer_new (beside_of start w (holds_then hc done)) (level_of start lower) (length lower) l planned.0 held.0).new_rows).0
+      let held = subst (AreAllHeld start s'.tree.table.words (was_seen (taken hc))) are (held_then hc done) in
+      (subst (AllByRecursion (λ (y : Span). was_seen (taken hc) (row_in y.word) ≡ true)) one (layer_new (old_beside hc done) (level_of start lower) (length lower) l planned.0 held.0).new_rows).0
 
   module _ {call : Call} {reply : Reply} (answer : IsAnswer b start call reply) where
     publish : (new : Option ℕ) → IsReplaced start.tree (tree_as b.kind (with_published s'.tree top.place top.word)) start.map (taken hc) (gone hc) (Some start.height) new
-        → GapsBeside start (is_taken w) (tree_as b.kind (with_published s'.tree top.place top.word)) new → IsEndPlace start w (Some start.height) top.place → IsTop w (Some start.height) new top.word → MayPublishEnd b start s' book' c.made.items top.place top.word call reply
+        → GapsBeside start (was_seen (taken hc)) (tree_as b.kind (with_published s'.tree top.place top.word)) new → IsEndPlace (now start s') (gone hc) (Some start.height) top.place → IsTop (taken hc) (Some start.height) new top.word → MayPublishEnd b start s' book' c.made.items top.place top.word call reply
     publish new replaced gaps at names = record {
-      work = w;
+      taken = taken hc;
+      gone = gone hc;
       old = Some start.height;
       new = new;
       case = hc.case;
-      progress = ledger_then hc done;
+      ledger = ledger_then hc done;
       few = let high = tall in let few = hc.few in omega arith;
       answer = answer;
-      holds = (refl, holds_then hc done);
+      stood = hc.stands;
       replaced = replaced;
       gaps = gaps;
       at = at;
@@ -41,11 +38,11 @@ module _ {b : Before} {start : Start} {s s' : Sheet} {book book' : Book} {c : Cl
     }
 
     at_root : (new : Option ℕ) (word : ℕ) → top.place ≡ Root → top.word ≡ word → IsReplaced start.tree (tree_as b.kind (with_published s'.tree Root word)) start.map (taken hc) (gone hc) (Some start.height) new
-        → GapsBeside start (is_taken w) (tree_as b.kind (with_published s'.tree Root word)) new → IsTop w (Some start.height) new word → MayPublishEnd b start s' book' c.made.items top.place top.word call reply
+        → GapsBeside start (was_seen (taken hc)) (tree_as b.kind (with_published s'.tree Root word)) new → IsTop (taken hc) (Some start.height) new word → MayPublishEnd b start s' book' c.made.items top.place top.word call reply
     at_root new word place_is word_is replaced gaps names = publish new
         (subst (λ (q : Place × ℕ). IsReplaced start.tree (tree_as b.kind (with_published s'.tree q.0 q.1)) start.map (taken hc) (gone hc) (Some start.height) new) (λ m. (sym place_is m, sym word_is m)) replaced)
-        (subst (λ (q : Place × ℕ). GapsBeside start (is_taken w) (tree_as b.kind (with_published s'.tree q.0 q.1)) new) (λ m. (sym place_is m, sym word_is m)) gaps)
-        (subst (IsEndPlace start w (Some start.height)) (sym place_is) tt) (subst (IsTop w (Some start.height) new) (sym word_is) names)
+        (subst (λ (q : Place × ℕ). GapsBeside start (was_seen (taken hc)) (tree_as b.kind (with_published s'.tree q.0 q.1)) new) (λ m. (sym place_is m, sym word_is m)) gaps)
+        (subst (IsEndPlace (now start s') (gone hc) (Some start.height)) (sym place_is) tt) (subst (IsTop (taken hc) (Some start.height) new) (sym word_is) names)
 
     pub may_publish_end : MayPublishEnd b start s' book' c.made.items top.place top.word call reply
     may_publish_end =
@@ -53,8 +50,8 @@ module _ {b : Before} {start : Start} {s s' : Sheet} {book book' : Book} {c : Cl
         (⊎_elim (λ (e : EndsAtRoot start hc.layers hc.root hc.over top). at_root (Some (length e.lower)) e.x.word e.place e.word (root_replaces hc done e) (root_keeps_gaps hc done e) (one_taken e.l e.lower e.x e.are e.one))
         (⊎_elim
         (λ (e : EndsAbove start s hc.layers hc.root hc.over top).
-        at_root (Some (suc start.height)) (name_at e.row (inner_of start.tree.gapped)) e.place e.word (above_replaces hc done e) (above_gaps hc done e) (ap (was_taken (taken hc)) (row_in-name_at e.row (inner_of start.tree.gapped)) ∙ is_new hc done e))
-        (λ (e : EndsInSlot start hc.layers hc.root hc.over top). publish (Some start.height) (in_slot_replaces hc done e) (in_slot_gaps hc done e) (slot_is_place hc done e) (subst (λ (n : ℕ). was_taken (taken hc) (row_in n) ≡ true) (sym e.word) (one_taken e.l e.lower e.x e.are e.one))))) hc.ends
+        at_root (Some (suc start.height)) (name_at e.row (inner_of start.tree.gapped)) e.place e.word (above_replaces hc done e) (above_gaps hc done e) (ap (was_seen (taken hc)) (row_in-name_at e.row (inner_of start.tree.gapped)) ∙ is_new hc done e))
+        (λ (e : EndsInSlot start hc.layers hc.root hc.over top). publish (Some start.height) (in_slot_replaces hc done e) (in_slot_gaps hc done e) (slot_is_place hc done e) (subst (λ (n : ℕ). was_seen (taken hc) (row_in n) ≡ true) (sym e.word) (one_taken e.l e.lower e.x e.are e.one))))) hc.ends
 
   -- what is told of the row there
   pub top_told : (t : Rooted) → ((row col gap : ℕ) → top.place ≡ Slot row col → TellsBelow b.kind (with_published s'.tree top.place top.word) top.word gap → TellsGapAt b.kind t top.place gap) → TellsGapAt b.kind t top.place top.gap

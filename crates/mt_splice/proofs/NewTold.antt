@@ -1,5 +1,5 @@
 -- A row that was written keeps the law of gaps, and the item that it is one level up tells its gap.
-use Rattle.mt_splice.proofs.Prelude.{[], ◌≡◌, ℕ, zero, suc, List, ◌∷◌, refl, sym, subst, ◌≢◌, Item, RowKind, Leaf, Inner, Gapped, Span, gaps_of, spans_from, some_gaps_of, Table, spans_in, Start, Work, now, TellGaps, told_gap}
+use Rattle.mt_splice.proofs.Prelude.{◌≡◌, ℕ, zero, suc, List, ◌∷◌, refl, sym, subst, ◌≢◌, Item, RowKind, Leaf, Inner, Gapped, Span, gaps_of, spans_from, some_gaps_of, Table, spans_in, TellGaps, told_gap, []}
 use Rattle.mt_splice.proofs.GapRows.{leaf_longest, inner_longest}
 use Rattle.mt_splice.proofs.WrittenRows.{as_held}
 
@@ -28,7 +28,3 @@ pub tells_held : (kind : RowKind) (t : Table) (h first : ℕ) (items : List Item
 tells_held Leaf t h first items told = tt
 tells_held Inner t h first items told = tt
 tells_held Gapped t h first items told = subst (TellGaps Gapped t h first) (sym (held_some (gaps_of t.width Gapped) items (some_gaps_of t.width))) told
-
-module _ (start : Start) (w : Work) (x : Span) (items : List Item) where
-  abbrev t : Table
-  t = (now start w).table

@@ -1,6 +1,5 @@
--- The path to an index is the same by the words now.
-use Rattle.mt_splice.proofs.Prelude.{◌≡◌, ℕ, zero, suc, ◌<◌, ◌≤◌, List, [], ◌∷◌, sym, ap, ◌∙◌, subst, arith, append-nil, Span, row_in, Table, inner_of, spans_in, Levels, SameSpans, deepest, Tree, top_of, Shared, levels_front, levels_back, levels_here, inner_no_leaf, PathStep, slot_for, span_at, step_in, below, path_of, path_in, Leads, path_of_leaf, path_of_inner, child_at, child_leads, row_here, root_leads, top_row, Start, Work, now, Holds}
-use Rattle.mt_splice.proofs.Moments.{old_shared}
+-- The path to an index is the same in a tree that shares all spans.
+use Rattle.mt_splice.proofs.Prelude.{◌≡◌, ℕ, zero, suc, ◌<◌, List, ◌∷◌, sym, ap, ◌∙◌, subst, arith, append-nil, Span, row_in, Table, inner_of, spans_in, Levels, SameSpans, Tree, Shared, levels_front, levels_back, levels_here, inner_no_leaf, PathStep, slot_for, span_at, step_in, below, path_of, Leads, path_of_leaf, path_of_inner, child_at, child_leads, row_here, []}
 
 module _ (t : Tree) (t' : Table) where
   step_shared : (x : Span) (index : ℕ) → SameSpans t.table t' x → step_in t' x index ≡ step_in t.table x index
@@ -29,7 +28,3 @@ module _ (t : Tree) (t' : Table) where
       path_of_inner t' depth x index (inner_of t.gapped) named (inner_no_leaf t.gapped)
       ∙ ((λ i. step_shared x index here i ∷ path_of t' depth (below_shared x index here i) index)
       ∙ (ap (λ (l : List PathStep). step_in t.table x index ∷ l) rest ∙ sym (path_of_inner t.table depth x index (inner_of t.gapped) named (inner_no_leaf t.gapped))))
-
-pub path_now : (start : Start) (s : Work) → Holds start s → (index : ℕ) → index ≤ top_of start.tree → path_in (now start s).table start.tree.root index ≡ path_in start.tree.table start.tree.root index
-path_now start s holds index within =
-    path_shared start.tree (now start s).table deepest start.height (top_row start.tree) index holds.stands.low (root_leads start.tree start.height holds.stands index within) (old_shared start s holds)

@@ -89,22 +89,21 @@ pub use Rattle.mt_splice.specs.steps.Burials.{AreBuriedAll, AreWindowsOn, EachOn
 pub use Rattle.mt_splice.specs.steps.Climbing.{EndsAbove, EndsAtRoot, EndsEmpty, EndsInSlot, HasClimbed, IsClimbing, IsLevelDone, IsLevelDrafted, IsNothingLeft, windows_over}
 pub use Rattle.mt_splice.specs.steps.Decisions.{EndsHere, IsNextDecision, IsNothing, item_words}
 pub use Rattle.mt_splice.specs.steps.Drafting.{AreRowsDrafted, AreRowsTaken, IsPieceDrafted, IsRowTaken, MayDraftRows, noted_row, noted_rows}
-pub use Rattle.mt_splice.specs.steps.Ends.{AreRowsTended, HoldsAs, IsChildSlot, IsEndPlace, IsTop, IsTopTended, IsTopTendedAt, MayPublishEnd, MayTendRows, MayTendTop, MayTendTopAt, OnlyParents}
+pub use Rattle.mt_splice.specs.steps.Ends.{AreRowsTended, IsChildSlot, IsEndPlace, IsTop, IsTopTended, IsTopTendedAt, MayPublishEnd, MayTendRows, MayTendTop, MayTendTopAt, OnlyParents}
 pub use Rattle.mt_splice.specs.steps.Entries.{IsBegunBy, IsFirstStore, before_of, start_for}
 pub use Rattle.mt_splice.specs.steps.Layers.{AreHeld, Beside, IsOld, Stand, head, heads, part_of}
-pub use Rattle.mt_splice.specs.steps.Ledgers.{IsLedger, was_taken, work_of}
 pub use Rattle.mt_splice.specs.steps.Looking.{IsNowOf, MayGather, MayLook, items_above}
 pub use Rattle.mt_splice.specs.steps.Plans.{AreAllHeld, IsLayer, IsPlanned, Layer, begin_at, depth_at, gone_by, heads_at, level_of, new_at, newest_first, old_at, seen_at, taken_by, window_at, windows_above, windows_by}
-pub use Rattle.mt_splice.specs.steps.Progress.{Before, IsInFlight, IsProgress, IsStartOf, is_gone, is_taken, new_row_by, new_rows_of, row_seen, stamped}
+pub use Rattle.mt_splice.specs.steps.Ledgers.{Before, IsInFlight, IsLedger, IsStartOf, new_row_by, new_rows_of, row_seen, stamped}
 pub use Rattle.mt_splice.specs.steps.Regions.{AreEnds, IsLeafStep, leaf_items}
 pub use Rattle.mt_splice.specs.steps.Replaced.{FewestAs, IsReplaced, StandsAs, count_in, map_as, with_root}
 pub use Rattle.mt_splice.specs.steps.Replacing.{IsAnswer}
 pub use Rattle.mt_splice.specs.steps.Runs.{MayBeCut, MayBeIn, MayBeLeaves, most_before_hole, most_in_three, most_items, span_to}
-pub use Rattle.mt_splice.specs.steps.Seen.{Seen, passing}
+pub use Rattle.mt_splice.specs.steps.Seen.{Seen, passing, was_seen}
 pub use Rattle.mt_splice.specs.steps.TakingIn.{beside_items, holed_run, is_hole_at, short_run}
 pub use Rattle.mt_splice.specs.steps.Telling.{AreAllFromBelow, AreAmongOld, AreFromBelow, AreOld}
 pub use Rattle.mt_splice.specs.steps.Told.{GapsAs, GapsBeside, HadGaps, TellGaps, longest_holes, told_gap}
 pub use Rattle.mt_splice.specs.steps.Widening.{IsAlone, IsWidened, IsWindow, IsWithBefore, IsWithBehind, MayWiden, wants_row}
 pub use Rattle.mt_splice.specs.steps.Windows.{Gathered, StandFor, before, behind, between, high_of, in_place, in_rows, low_of, row_at}
-pub use Rattle.mt_splice.specs.steps.Work.{Holds, IsUsed, KeepsRowWords, Start, Work, now, rows_at, table_with, times_in, tree_with, with_words}
+pub use Rattle.mt_splice.specs.steps.Starts.{KeepsRowWords, Start, now, rows_at, table_with, times_in, tree_with, with_words}
 pub use Rattle.mt_splice.specs.steps.Writes.{AreChildren, AreTended, IsChild, IsNewRow, IsRowDrafted, OnlyDrafts, child_row, child_word, items_of_row, new_words, no_parent}

@@ -1,5 +1,5 @@
 -- A replacement ends at the root: by one row that covers all, by a root above several rows, or with no row at all.
-use Rattle.mt_splice.proofs.Prelude.{[], ◌≡◌, ℕ, List, ◌∷◌, refl, ap, subst, Span, root_span, Levels, Tree, IsRow, top_of, root_of, levels_map, row_keeps, Start, Work, now, with_root}
+use Rattle.mt_splice.proofs.Prelude.{◌≡◌, ℕ, List, ◌∷◌, refl, ap, subst, Span, root_span, Levels, Tree, IsRow, top_of, root_of, levels_map, row_keeps, with_root, []}
 
 -- ---- another root word
 
@@ -11,12 +11,12 @@ pub root_is : (t : Tree) (x : Span) → x.first ≡ 0 → x.last ≡ top_of t �
 root_is t x first last = λ i. record { first = first i; last = last i; word = x.word }
 
 -- the rows of one level stand in place of the whole tree
-module _ (start : Start) (s : Work) (x : Span) (first : x.first ≡ 0) (last : x.last ≡ top_of start.tree) where
+module _ (t : Tree) (x : Span) (first : x.first ≡ 0) (last : x.last ≡ top_of t) where
   abbrev t' : Tree
-  t' = with_root (now start s) x.word
+  t' = with_root t x.word
 
   pub at_root : x ∷ [] ≡ root_of t'
-  at_root = ap (λ (y : Span). y ∷ []) (root_is start.tree x first last)
+  at_root = ap (λ (y : Span). y ∷ []) (root_is t x first last)
 
-  pub root_rows : (k : ℕ) → Levels (IsRow (now start s)) (now start s).table k (x ∷ []) → Levels (IsRow t') t'.table k (root_of t')
-  root_rows k rows = subst (Levels (IsRow t') t'.table k) at_root (reroot (now start s) x.word k (x ∷ []) rows)
+  pub root_rows : (k : ℕ) → Levels (IsRow t) t.table k (x ∷ []) → Levels (IsRow t') t'.table k (root_of t')
+  root_rows k rows = subst (Levels (IsRow t') t'.table k) at_root (reroot t x.word k (x ∷ []) rows)

@@ -1,5 +1,5 @@
 -- A replacement begins: nothing was done yet, and the leaves' items are to stand in the tree, or in the first leaf of all.
-use Rattle.mt_splice.proofs.Prelude.{[], ◌≡◌, ◌≢◌, ℕ, ◌+◌, ◌-◌, ◌≤◌, ◌==◌, List, ◌∷◌, None, true, false, length, refl, sym, ap, ◌∙◌, subst, inl, inr, arith, append-nil, ◌||◌, flat_map, eqb-true, Kind, Range, Call, Reply, acted, over, deepest, Item, Span, named_kind, leaf_range, spans_from, edited, Book, Table, root_span, Tree, Stands, IsLawful, top_of, Sheet, IsWhole, tree_as, IsToldKind, map_by, is_reached, PathStep, path_in, path_of_none, Start, Work, IsConsistent, IsUnpublished, MaySplice, region_of, before_of, start_for, IsBegunBy, IsFirstStore, last_step, MayBeCut, Before, IsInFlight, IsProgress}
+use Rattle.mt_splice.proofs.Prelude.{◌≡◌, ◌≢◌, ℕ, ◌+◌, ◌-◌, ◌≤◌, ◌==◌, List, ◌∷◌, None, true, false, length, refl, sym, ap, ◌∙◌, subst, inl, inr, arith, append-nil, flat_map, eqb-true, Kind, Range, Call, Reply, acted, over, deepest, Item, Span, named_kind, leaf_range, spans_from, edited, Book, Table, root_span, Tree, Stands, IsLawful, top_of, Sheet, IsWhole, tree_as, IsToldKind, map_by, PathStep, path_in, path_of_none, Start, IsConsistent, IsUnpublished, MaySplice, region_of, before_of, start_for, IsBegunBy, IsFirstStore, last_step, MayBeCut, Before, IsInFlight, IsLedger, []}
 use Rattle.mt_path.proofs.TreePaths as paths
 use Rattle.mt_splice.proofs.EndTrees.{map_is}
 use Rattle.mt_splice.proofs.Runs.{empty_run}
@@ -30,16 +30,12 @@ empty_of t (inr (h, stands, parent, tended)) not = absurd (not h stands)
 
 -- ---- nothing was done yet
 
-abbrev pub work_of : Sheet → Work
-work_of s = record { words = s.tree.table.words; used = λ row. is_reached s.tree row || false; taken = []; gone = [] }
-
 module _ {kind : Kind} {s : Sheet} {book : Book} {number : ℕ} (whole : IsWhole s) (kept : IsConsistent kind s.tree s.lives s.buried s.cleared book number) where
-  pub nothing_done : IsProgress (before_of kind s book number) s book (work_of s)
+  pub nothing_done : IsLedger (before_of kind s book number) s book [] []
   nothing_done = record {
     rest = refl;
     tree = refl;
     whole = whole;
-    used = λ row. refl;
     free = sym (append-nil book.free);
     held = sym (append-nil book.held);
     rows = refl;

@@ -1,9 +1,5 @@
 -- Which rows were seen, by their numbers.
-use Rattle.mt_splice.proofs.Prelude.{◌≡◌, ◌≢◌, ℕ, zero, suc, ◌+◌, ◌==◌, List, [], ◌∷◌, ◌++◌, Bool, true, false, map, sym, ap, ◌∙◌, ⊎_elim, arith, eq-eqb, lt-ltb, nat_lt, Contains, cases_Bool, eqb-true, eqb-false, ne_eqb, ltb-true, ltb-false, le-ltb, one_if, is_row_of, tally-append, Seen, passing, row_seen}
-
--- a row of this number was seen
-abbrev pub was_seen : List Seen → ℕ → Bool
-was_seen seen row = nat_lt 0 (passing (is_row_of row) seen)
+use Rattle.mt_splice.proofs.Prelude.{◌≡◌, ◌≢◌, ℕ, zero, suc, ◌+◌, ◌==◌, List, ◌∷◌, ◌++◌, Bool, true, false, map, sym, ap, ◌∙◌, ⊎_elim, arith, eq-eqb, lt-ltb, nat_lt, Contains, cases_Bool, eqb-true, eqb-false, ne_eqb, ltb-true, ltb-false, le-ltb, one_if, is_row_of, tally-append, Seen, passing, row_seen, was_seen, []}
 
 pub not_both : (a : Bool) → a ≡ true → a ≡ false → ⊥
 not_both a is not = let clash : true ≡ false = sym is ∙ not in absurd (cc)

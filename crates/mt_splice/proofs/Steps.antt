@@ -1,7 +1,7 @@
 -- One step of a replacement: a row is written, or is buried and retired, or words are loaded.
-use Rattle.mt_splice.proofs.Prelude.{[], ◌≡◌, ◌≢◌, ℕ, ◌+◌, ◌<◌, ◌≤◌, List, ◌∷◌, ◌++◌, Bool, true, false, Option, length, map, refl, sym, ap, ◌∙◌, subst, ⊎_elim, arith, get_or, get_or-set_same, get_or-set_other, set, length-set, append_assoc, length-append, ◌||◌, Contains, All, slice_index_or, if◌then◌else◌, cases_Bool, cases_eq, map_push, map-append, get_or_append_left, get_or-append-add, get_or_default, All-contains, All-append, All-map, Contains-append_left, Contains-append_right, Contains-append_cases, Width, columns, first_row, Item, RowKind, row_in, dead_mark, name_at, row_in-name_at, some_columns, Book, Held, IsRowOf, IsOut, held_rows, after_retire, AreApart, Life, New, Draft, Live, Dead, column, base_of, Rooted, Sheet, IsFree, MayBury, OnlyReads, life_of, is_buried, after_bury, is_reached, Tree, Seen, Start, Work, table_with, with_words, no_parent, IsRowDrafted, IsUnheld, IsUnpublished, Before, IsStartOf, IsProgress, row_seen, is_taken, is_gone, stamped}
+use Rattle.mt_splice.proofs.Prelude.{◌≡◌, ◌≢◌, ℕ, ◌+◌, ◌<◌, ◌≤◌, List, ◌∷◌, ◌++◌, Bool, true, false, Option, length, map, refl, sym, ap, ◌∙◌, subst, ⊎_elim, arith, get_or, get_or-set_same, get_or-set_other, set, length-set, append_assoc, length-append, ◌||◌, Contains, All, slice_index_or, if◌then◌else◌, cases_Bool, cases_eq, map_push, map-append, get_or_append_left, get_or-append-add, get_or_default, All-contains, All-append, All-map, Contains-append_left, Contains-append_right, Contains-append_cases, Width, columns, first_row, Item, RowKind, row_in, dead_mark, name_at, row_in-name_at, some_columns, Book, Held, IsRowOf, IsOut, held_rows, after_retire, AreApart, Life, New, Draft, Live, Dead, column, base_of, Rooted, Sheet, IsFree, MayBury, OnlyReads, life_of, is_buried, after_bury, is_reached, Tree, Seen, Start, table_with, with_words, no_parent, IsRowDrafted, IsUnheld, IsUnpublished, Before, IsStartOf, row_seen, stamped, IsLedger, [], was_seen}
 use Rattle.mt_splice.proofs.Drafts.{other_row, other_column, same_column, is_draft, other_life, whole_then}
-use Rattle.mt_splice.proofs.StepSeen.{was_seen, not_both, seen_here, seen_other, seen_before, seen_not_here, seen_last, seen_not_last, seen_front, seen_front_not_last, listed_seen, not_listed}
+use Rattle.mt_splice.proofs.StepSeen.{not_both, seen_here, seen_other, seen_before, seen_not_here, seen_last, seen_not_last, seen_front, seen_front_not_last, listed_seen, not_listed}
 
 -- A row was taken from the book and holds the items, a draft; the word names it.
 pub record IsRowWritten (s s' : Sheet) (book book' : Book) (kind : RowKind) (items : List Item) (word : ℕ) : Type 0 where
@@ -32,21 +32,21 @@ rows_stamped number (s ∷ gone) = ap (λ (l : List ℕ). row_seen s ∷ l) (row
 
 -- ---- one moment
 
-module _ {b : Before} {start : Start} {s : Sheet} {book : Book} {w : Work} (before : IsStartOf b start) (progress : IsProgress b s book w) where
-  pub table_now : table_with start.tree.table w.words ≡ s.tree.table
-  table_now = ap (λ (t : Tree). table_with t.table w.words) before.tree ∙ sym (ap (λ (t : Rooted). t.table) progress.tree)
+module _ {b : Before} {start : Start} {s : Sheet} {book : Book} {taken gone : List Seen} (before : IsStartOf b start) (ledger : IsLedger b s book taken gone) where
+  pub table_now : table_with start.tree.table s.tree.table.words ≡ s.tree.table
+  table_now = ap (λ (t : Tree). table_with t.table s.tree.table.words) before.tree ∙ sym (ap (λ (t : Rooted). t.table) ledger.tree)
 
   pub width_now : s.tree.table.width ≡ b.sheet.tree.table.width
-  width_now = ap (λ (t : Rooted). t.table.width) progress.tree
+  width_now = ap (λ (t : Rooted). t.table.width) ledger.tree
 
   pub rows_now : s.tree.rows ≡ b.sheet.tree.rows
-  rows_now = ap (λ (t : Rooted). t.rows) progress.tree
+  rows_now = ap (λ (t : Rooted). t.rows) ledger.tree
 
   cleared_now : s.cleared ≡ b.sheet.cleared
-  cleared_now = ap (λ (k : Sheet). k.cleared) progress.rest
+  cleared_now = ap (λ (k : Sheet). k.cleared) ledger.rest
 
   was_free : (row : ℕ) → Contains book.free row → Contains b.book.free row
-  was_free row here = subst (λ (l : List ℕ). Contains l row) (sym progress.free) (Contains-append_left book.free (map row_seen w.taken) row here)
+  was_free row here = subst (λ (l : List ℕ). Contains l row) (sym ledger.free) (Contains-append_left book.free (map row_seen taken) row here)
 
   -- rows that are free now
 
@@ -57,17 +57,14 @@ module _ {b : Before} {start : Start} {s : Sheet} {book : Book} {w : Work} (befo
   free_unreached row here =
       ⊎_elim (λ (is : is_reached b.sheet.tree row ≡ true). absurd ((before.kept.booked.reached row is).not_free (was_free row here))) (λ (not : is_reached b.sheet.tree row ≡ false). not) (cases_Bool (is_reached b.sheet.tree row))
 
-  apart_now : AreApart (book.free ++ (map row_seen w.taken ++ held_rows b.book))
-  apart_now = subst AreApart (ap (λ (l : List ℕ). l ++ held_rows b.book) progress.free ∙ append_assoc book.free (map row_seen w.taken) (held_rows b.book)) before.kept.booked.sound.once
+  apart_now : AreApart (book.free ++ (map row_seen taken ++ held_rows b.book))
+  apart_now = subst AreApart (ap (λ (l : List ℕ). l ++ held_rows b.book) ledger.free ∙ append_assoc book.free (map row_seen taken) (held_rows b.book)) before.kept.booked.sound.once
 
-  free_untaken : (row : ℕ) → Contains book.free row → is_taken w row ≡ false
-  free_untaken row here = not_listed w.taken row (λ taken. apart_sides book.free (map row_seen w.taken ++ held_rows b.book) row apart_now here (Contains-append_left (map row_seen w.taken) (held_rows b.book) row taken))
+  free_untaken : (row : ℕ) → Contains book.free row → was_seen taken row ≡ false
+  free_untaken row here = not_listed taken row (λ listed. apart_sides book.free (map row_seen taken ++ held_rows b.book) row apart_now here (Contains-append_left (map row_seen taken) (held_rows b.book) row listed))
 
-  free_unused : (row : ℕ) → Contains book.free row → w.used row ≡ false
-  free_unused row here = progress.used row ∙ or_none (is_reached b.sheet.tree row) (is_taken w row) (free_unreached row here) (free_untaken row here)
-
-  life_untaken : (row : ℕ) → first_row ≤ row → row < first_row + b.sheet.tree.rows → is_taken w row ≡ false → life_of s.lives row ≡ life_of b.sheet.lives row
-  life_untaken row low high untaken = progress.lives row low high ∙ ap (λ (t : Bool). if t then Draft else life_of b.sheet.lives row) untaken
+  life_untaken : (row : ℕ) → first_row ≤ row → row < first_row + b.sheet.tree.rows → was_seen taken row ≡ false → life_of s.lives row ≡ life_of b.sheet.lives row
+  life_untaken row low high untaken = ledger.lives row low high ∙ ap (λ (t : Bool). if t then Draft else life_of b.sheet.lives row) untaken
 
   free_is_free : (row : ℕ) → Contains book.free row → IsFree s.cleared (life_of s.lives row)
   free_is_free row here =
@@ -82,9 +79,9 @@ module _ {b : Before} {start : Start} {s : Sheet} {book : Book} {w : Work} (befo
 
   -- rows that were reached
 
-  pub reached_untaken : (row : ℕ) → is_reached b.sheet.tree row ≡ true → is_taken w row ≡ false
+  pub reached_untaken : (row : ℕ) → is_reached b.sheet.tree row ≡ true → was_seen taken row ≡ false
   reached_untaken row reached =
-      not_listed w.taken row (λ taken. (before.kept.booked.reached row reached).not_free (subst (λ (l : List ℕ). Contains l row) (sym progress.free) (Contains-append_right book.free (map row_seen w.taken) row taken)))
+      not_listed taken row (λ listed. (before.kept.booked.reached row reached).not_free (subst (λ (l : List ℕ). Contains l row) (sym ledger.free) (Contains-append_right book.free (map row_seen taken) row listed)))
 
   reached_number : (row : ℕ) → is_reached b.sheet.tree row ≡ true → (first_row ≤ row) × (row < first_row + b.sheet.tree.rows)
   reached_number row reached = let at = (before.kept.booked.reached row reached).here in (at.0, subst (λ (n : ℕ). row < first_row + n) before.kept.booked.rows at.1)
@@ -96,15 +93,8 @@ module _ {b : Before} {start : Start} {s : Sheet} {book : Book} {w : Work} (befo
 
 -- ---- a row is written
 
--- what a replacement has done when it has also written this row
-abbrev pub with_taken : Before → List ℕ → Work → Seen → Work
-with_taken b words w seen = record { words = words; used = λ row. is_reached b.sheet.tree row || was_seen (seen ∷ w.taken) row; taken = seen ∷ w.taken; gone = w.gone }
-
-module _ {b : Before} {start : Start} {s s' : Sheet} {book book' : Book} {w : Work} {kind : RowKind} {items : List Item} (seen : Seen) (before : IsStartOf b start) (progress : IsProgress b s book w)
+module _ {b : Before} {start : Start} {s s' : Sheet} {book book' : Book} {taken gone : List Seen} {kind : RowKind} {items : List Item} (seen : Seen) (before : IsStartOf b start) (ledger : IsLedger b s book taken gone)
     (written : IsRowWritten s s' book book' kind items seen.at.word) where
-  abbrev then_taken : Work
-  then_taken = with_taken b s'.tree.table.words w seen
-
   seen_row : row_seen seen ≡ written.row
   seen_row = ap row_in written.named ∙ row_in-name_at written.row kind
 
@@ -116,70 +106,65 @@ module _ {b : Before} {start : Start} {s s' : Sheet} {book book' : Book} {w : Wo
 
   pub row_number : (first_row ≤ written.row) × (written.row < first_row + s.tree.rows)
   row_number =
-      let at = free_number before progress written.row row_here in
-      (at.0, subst (λ (n : ℕ). written.row < first_row + n) (before.kept.booked.rows ∙ sym (rows_now before progress)) at.1)
+      let at = free_number before ledger written.row row_here in
+      (at.0, subst (λ (n : ℕ). written.row < first_row + n) (before.kept.booked.rows ∙ sym (rows_now before ledger)) at.1)
 
-  pub row_was_unused : w.used (row_seen seen) ≡ false
-  row_was_unused = ap w.used seen_row ∙ free_unused before progress written.row row_here
+  pub row_was_untaken : was_seen taken (row_seen seen) ≡ false
+  row_was_untaken = ap (was_seen taken) seen_row ∙ free_untaken before ledger written.row row_here
 
   other_than : (row : ℕ) → row_seen seen ≢ row → row ≢ written.row
   other_than row other same = other (seen_row ∙ sym same)
 
-  life_same : (row : ℕ) → row_seen seen ≡ row → life_of s'.lives row ≡ (if is_taken then_taken row then Draft else life_of b.sheet.lives row)
+  life_same : (row : ℕ) → row_seen seen ≡ row → life_of s'.lives row ≡ (if was_seen (seen ∷ taken) row then Draft else life_of b.sheet.lives row)
   life_same row same =
       ap (life_of s'.lives) (sym same ∙ seen_row)
-      ∙ (is_draft written.drafted.only progress.whole row_number.1 ∙ sym (ap (λ (t : Bool). if t then Draft else life_of b.sheet.lives row) (seen_here seen w.taken row same)))
+      ∙ (is_draft written.drafted.only ledger.whole row_number.1 ∙ sym (ap (λ (t : Bool). if t then Draft else life_of b.sheet.lives row) (seen_here seen taken row same)))
 
-  life_other : (row : ℕ) → row_seen seen ≢ row → first_row ≤ row → row < first_row + b.sheet.tree.rows → life_of s'.lives row ≡ (if is_taken then_taken row then Draft else life_of b.sheet.lives row)
+  life_other : (row : ℕ) → row_seen seen ≢ row → first_row ≤ row → row < first_row + b.sheet.tree.rows → life_of s'.lives row ≡ (if was_seen (seen ∷ taken) row then Draft else life_of b.sheet.lives row)
   life_other row other low high =
       other_life written.drafted.only row (other_than row other)
-      ∙ (progress.lives row low high ∙ sym (ap (λ (t : Bool). if t then Draft else life_of b.sheet.lives row) (seen_other seen w.taken row other)))
+      ∙ (ledger.lives row low high ∙ sym (ap (λ (t : Bool). if t then Draft else life_of b.sheet.lives row) (seen_other seen taken row other)))
 
   column_other : (row c : ℕ) → row_seen seen ≢ row → c < columns s.tree.table.width → column s'.tree.table row c ≡ column s.tree.table row c
   column_other row c other within = written.drafted.only.others row c (other_than row other) within
 
   within_now : (c : ℕ) → c < columns b.sheet.tree.table.width → c < columns s.tree.table.width
-  within_now c within = subst (λ (v : Width). c < columns v) (sym (width_now before progress)) within
+  within_now c within = subst (λ (v : Width). c < columns v) (sym (width_now before ledger)) within
 
-  parent_new : (row : ℕ) → is_taken then_taken row ≡ true → column s'.tree.table row 0 ≡ no_parent
-  parent_new row taken =
+  parent_new : (row : ℕ) → was_seen (seen ∷ taken) row ≡ true → column s'.tree.table row 0 ≡ no_parent
+  parent_new row some =
       ⊎_elim (λ (same : row_seen seen ≡ row). ap (λ (r : ℕ). column s'.tree.table r 0) (sym same ∙ seen_row) ∙ written.drafted.own 0 (some_columns s.tree.table.width))
-      (λ (other : row_seen seen ≢ row). column_other row 0 other (some_columns s.tree.table.width) ∙ progress.new_parents row (sym (seen_other seen w.taken row other) ∙ taken))
+      (λ (other : row_seen seen ≢ row). column_other row 0 other (some_columns s.tree.table.width) ∙ ledger.new_parents row (sym (seen_other seen taken row other) ∙ some))
       (cases_eq (row_seen seen) row)
 
   -- a row that was reached is not the one that is written
-  mark_stays : (row : ℕ) → is_reached b.sheet.tree row ≡ true → is_gone w row ≡ true → column s'.tree.table row 0 ≡ dead_mark row
-  mark_stays row reached gone =
-      column_other row 0 (λ same. not_both (is_reached b.sheet.tree row) reached (ap (is_reached b.sheet.tree) (sym same ∙ seen_row) ∙ free_unreached before progress written.row row_here)) (some_columns s.tree.table.width)
-      ∙ progress.marks row reached gone
+  mark_stays : (row : ℕ) → is_reached b.sheet.tree row ≡ true → was_seen gone row ≡ true → column s'.tree.table row 0 ≡ dead_mark row
+  mark_stays row reached some =
+      column_other row 0 (λ same. not_both (is_reached b.sheet.tree row) reached (ap (is_reached b.sheet.tree) (sym same ∙ seen_row) ∙ free_unreached before ledger written.row row_here)) (some_columns s.tree.table.width)
+      ∙ ledger.marks row reached some
 
-  pub progress_taken : IsProgress b s' book' then_taken
+  pub progress_taken : IsLedger b s' book' (seen ∷ taken) gone
   progress_taken = record {
-    rest = ap (λ (k : Sheet). record k { tree = b.sheet.tree; lives = b.sheet.lives; buried = b.sheet.buried; reads = b.sheet.reads }) written.drafted.only.rest ∙ progress.rest;
-    tree = written.drafted.only.tree ∙ ap (λ (t : Rooted). with_words t s'.tree.table.words) progress.tree;
-    whole = whole_then written.drafted.only progress.whole row_number.1;
-    used = λ row. refl;
-    free = progress.free ∙ (ap (λ (l : List ℕ). l ++ map row_seen w.taken) free_before ∙ (append_assoc book'.free (written.row ∷ []) (map row_seen w.taken) ∙ ap (λ (r : ℕ). book'.free ++ r ∷ map row_seen w.taken) (sym seen_row)));
-    held = sym (ap (λ (k : Book). k.held) written.taken) ∙ progress.held;
-    rows = sym (ap (λ (k : Book). k.rows) written.taken) ∙ progress.rows;
+    rest = ap (λ (k : Sheet). record k { tree = b.sheet.tree; lives = b.sheet.lives; buried = b.sheet.buried; reads = b.sheet.reads }) written.drafted.only.rest ∙ ledger.rest;
+    tree = written.drafted.only.tree ∙ ap (λ (t : Rooted). with_words t s'.tree.table.words) ledger.tree;
+    whole = whole_then written.drafted.only ledger.whole row_number.1;
+    free = ledger.free ∙ (ap (λ (l : List ℕ). l ++ map row_seen taken) free_before ∙ (append_assoc book'.free (written.row ∷ []) (map row_seen taken) ∙ ap (λ (r : ℕ). book'.free ++ r ∷ map row_seen taken) (sym seen_row)));
+    held = sym (ap (λ (k : Book). k.held) written.taken) ∙ ledger.held;
+    rows = sym (ap (λ (k : Book). k.rows) written.taken) ∙ ledger.rows;
     lives = λ row low high. ⊎_elim (λ (same : row_seen seen ≡ row). life_same row same) (λ (other : row_seen seen ≢ row). life_other row other low high) (cases_eq (row_seen seen) row);
-    buried = λ row low high. ap (λ (k : Sheet). is_buried k.buried row) written.drafted.only.rest ∙ progress.buried row low high;
+    buried = λ row low high. ap (λ (k : Sheet). is_buried k.buried row) written.drafted.only.rest ∙ ledger.buried row low high;
     kept = λ row c untaken above within.
-        column_other row c (seen_not_here seen w.taken row untaken) (within_now c within) ∙ progress.kept row c (seen_before seen w.taken row untaken) above within;
+        column_other row c (seen_not_here seen taken row untaken) (within_now c within) ∙ ledger.kept row c (seen_before seen taken row untaken) above within;
     parents = λ row untaken stays.
-        column_other row 0 (seen_not_here seen w.taken row untaken) (some_columns s.tree.table.width) ∙ progress.parents row (seen_before seen w.taken row untaken) stays;
+        column_other row 0 (seen_not_here seen taken row untaken) (some_columns s.tree.table.width) ∙ ledger.parents row (seen_before seen taken row untaken) stays;
     new_parents = parent_new;
     marks = mark_stays;
   }
 
 -- ---- a row is buried and retired
 
--- what a replacement has done when it has also buried this row
-abbrev pub with_gone : List ℕ → Work → Seen → Work
-with_gone words w seen = record { words = words; used = w.used; taken = w.taken; gone = w.gone ++ seen ∷ [] }
-
-module _ {b : Before} {start : Start} {s : Sheet} {book : Book} {w : Work} (seen : Seen) (before : IsStartOf b start) (progress : IsProgress b s book w)
-    (reached : is_reached b.sheet.tree (row_seen seen) ≡ true) (stays : is_gone w (row_seen seen) ≡ false) where
+module _ {b : Before} {start : Start} {s : Sheet} {book : Book} {taken gone : List Seen} (seen : Seen) (before : IsStartOf b start) (ledger : IsLedger b s book taken gone)
+    (reached : is_reached b.sheet.tree (row_seen seen) ≡ true) (stays : was_seen gone (row_seen seen) ≡ false) where
   abbrev row : ℕ
   row = row_seen seen
 
@@ -189,34 +174,31 @@ module _ {b : Before} {start : Start} {s : Sheet} {book : Book} {w : Work} (seen
   abbrev book_retired : Book
   book_retired = after_retire book row b.number
 
-  abbrev then_gone : Work
-  then_gone = with_gone sheet_buried.tree.table.words w seen
-
   at_row : (first_row ≤ row) × (row < first_row + s.tree.rows)
   at_row =
-      let at = reached_number before progress row reached in
-      (at.0, subst (λ (n : ℕ). row < first_row + n) (sym (rows_now before progress)) at.1)
+      let at = reached_number before ledger row reached in
+      (at.0, subst (λ (n : ℕ). row < first_row + n) (sym (rows_now before ledger)) at.1)
 
   pub may_bury : IsUnpublished b.sheet.in_flight b.sheet.published b.sheet.ended b.number → MayBury s row
   may_bury unpublished = record {
-    in_flight = ap (λ (k : Sheet). k.in_flight) progress.rest ∙ unpublished.in_flight;
-    before = ap (λ (k : Sheet). k.published) progress.rest ∙ unpublished.before;
+    in_flight = ap (λ (k : Sheet). k.in_flight) ledger.rest ∙ unpublished.in_flight;
+    before = ap (λ (k : Sheet). k.published) ledger.rest ∙ unpublished.before;
     at = record { first = at_row.0; last = at_row.1; column = some_columns s.tree.table.width };
-    live = reached_live before progress row reached;
+    live = reached_live before ledger row reached;
   }
 
   not_held_now : ¬ Contains (held_rows book) row
   not_held_now here =
-      let listed : Contains (held_rows b.book ++ map row_seen w.gone) row = subst (λ (l : List ℕ). Contains l row)
-      (ap (map (λ (h : Held). h.row)) progress.held ∙ (map-append (λ (h : Held). h.row) b.book.held (map (stamped b.number) w.gone) ∙ ap (λ (l : List ℕ). held_rows b.book ++ l) (rows_stamped b.number w.gone))) here in
+      let listed : Contains (held_rows b.book ++ map row_seen gone) row = subst (λ (l : List ℕ). Contains l row)
+      (ap (map (λ (h : Held). h.row)) ledger.held ∙ (map-append (λ (h : Held). h.row) b.book.held (map (stamped b.number) gone) ∙ ap (λ (l : List ℕ). held_rows b.book ++ l) (rows_stamped b.number gone))) here in
       ⊎_elim (λ (held : Contains (held_rows b.book) row). (before.kept.booked.reached row reached).not_held held)
-      (λ (gone : Contains (map row_seen w.gone) row). not_both (is_gone w row) (listed_seen w.gone row gone) stays)
-      (Contains-append_cases (held_rows b.book) (map row_seen w.gone) row listed)
+      (λ (again : Contains (map row_seen gone) row). not_both (was_seen gone row) (listed_seen gone row again) stays)
+      (Contains-append_cases (held_rows b.book) (map row_seen gone) row listed)
 
   pub is_out : IsOut book row
   is_out = record {
-    here = let at = (before.kept.booked.reached row reached).here in (at.0, subst (λ (n : ℕ). row < first_row + n) (sym progress.rows) at.1);
-    not_free = λ here. (before.kept.booked.reached row reached).not_free (subst (λ (l : List ℕ). Contains l row) (sym progress.free) (Contains-append_left book.free (map row_seen w.taken) row here));
+    here = let at = (before.kept.booked.reached row reached).here in (at.0, subst (λ (n : ℕ). row < first_row + n) (sym ledger.rows) at.1);
+    not_free = λ here. (before.kept.booked.reached row reached).not_free (subst (λ (l : List ℕ). Contains l row) (sym ledger.free) (Contains-append_left book.free (map row_seen taken) row here));
     not_held = not_held_now;
   }
 
@@ -231,71 +213,70 @@ module _ {b : Before} {start : Start} {s : Sheet} {book : Book} {w : Work} (seen
   parent_stays : (r : ℕ) → r ≢ row → column sheet_buried.tree.table r 0 ≡ column s.tree.table r 0
   parent_stays r other = other_row s.tree.table.width s.tree.table.words row 0 (dead_mark row) r 0 other (some_columns s.tree.table.width) (some_columns s.tree.table.width)
 
-  buried_then : (r : ℕ) → first_row ≤ r → r < first_row + b.sheet.tree.rows → is_buried sheet_buried.buried r ≡ is_gone then_gone r
+  buried_then : (r : ℕ) → first_row ≤ r → r < first_row + b.sheet.tree.rows → is_buried sheet_buried.buried r ≡ was_seen (gone ++ seen ∷ []) r
   buried_then r low high =
       ⊎_elim
       (λ (same : row ≡ r). ap (λ (k : ℕ). slice_index_or (set s.buried row true) k false) (sym same)
-      ∙ (get_or-set_same s.buried row true false (subst (λ (n : ℕ). row < n) (sym progress.whole.buried) at_row.1) ∙ sym (seen_last w.gone seen r same)))
-      (λ (other : row ≢ r). get_or-set_other s.buried row r true false (λ same. other (sym same)) ∙ (progress.buried r low high ∙ sym (seen_not_last w.gone seen r other)))
+      ∙ (get_or-set_same s.buried row true false (subst (λ (n : ℕ). row < n) (sym ledger.whole.buried) at_row.1) ∙ sym (seen_last gone seen r same)))
+      (λ (other : row ≢ r). get_or-set_other s.buried row r true false (λ same. other (sym same)) ∙ (ledger.buried r low high ∙ sym (seen_not_last gone seen r other)))
       (cases_eq row r)
 
-  marked_then : (r : ℕ) → is_reached b.sheet.tree r ≡ true → is_gone then_gone r ≡ true → column sheet_buried.tree.table r 0 ≡ dead_mark r
-  marked_then r was gone =
+  marked_then : (r : ℕ) → is_reached b.sheet.tree r ≡ true → was_seen (gone ++ seen ∷ []) r ≡ true → column sheet_buried.tree.table r 0 ≡ dead_mark r
+  marked_then r was some =
       ⊎_elim
       (λ (same : row ≡ r). subst (λ (k : ℕ). column sheet_buried.tree.table k 0 ≡ dead_mark k) same
-      (same_column s.tree.table.width s.tree.table.words row (first_row + s.tree.rows) 0 (dead_mark row) (some_columns s.tree.table.width) at_row.1 progress.whole.words))
-      (λ (other : row ≢ r). parent_stays r (λ same. other (sym same)) ∙ progress.marks r was (sym (seen_not_last w.gone seen r other) ∙ gone))
+      (same_column s.tree.table.width s.tree.table.words row (first_row + s.tree.rows) 0 (dead_mark row) (some_columns s.tree.table.width) at_row.1 ledger.whole.words))
+      (λ (other : row ≢ r). parent_stays r (λ same. other (sym same)) ∙ ledger.marks r was (sym (seen_not_last gone seen r other) ∙ some))
       (cases_eq row r)
 
-  pub progress_gone : IsProgress b sheet_buried book_retired then_gone
+  pub progress_gone : IsLedger b sheet_buried book_retired taken (gone ++ seen ∷ [])
   progress_gone = record {
-    rest = progress.rest;
-    tree = ap (λ (t : Rooted). with_words t sheet_buried.tree.table.words) progress.tree;
+    rest = ledger.rest;
+    tree = ap (λ (t : Rooted). with_words t sheet_buried.tree.table.words) ledger.tree;
     whole = record {
-      few = progress.whole.few;
-      words = length-set s.tree.table.words (base_of s.tree.table row + 0) (dead_mark row) ∙ progress.whole.words;
-      lives = progress.whole.lives;
-      buried = length-set s.buried row true ∙ progress.whole.buried;
-      cleared = progress.whole.cleared;
-      dead = progress.whole.dead;
+      few = ledger.whole.few;
+      words = length-set s.tree.table.words (base_of s.tree.table row + 0) (dead_mark row) ∙ ledger.whole.words;
+      lives = ledger.whole.lives;
+      buried = length-set s.buried row true ∙ ledger.whole.buried;
+      cleared = ledger.whole.cleared;
+      dead = ledger.whole.dead;
     };
-    used = progress.used;
-    free = progress.free;
-    held = ap (λ (l : List Held). l ++ stamped b.number seen ∷ []) progress.held
-        ∙ (append_assoc b.book.held (map (stamped b.number) w.gone) (stamped b.number seen ∷ []) ∙ ap (λ (l : List Held). b.book.held ++ l) (sym (map_push (stamped b.number) w.gone seen)));
-    rows = progress.rows;
-    lives = progress.lives;
+    free = ledger.free;
+    held = ap (λ (l : List Held). l ++ stamped b.number seen ∷ []) ledger.held
+        ∙ (append_assoc b.book.held (map (stamped b.number) gone) (stamped b.number seen ∷ []) ∙ ap (λ (l : List Held). b.book.held ++ l) (sym (map_push (stamped b.number) gone seen)));
+    rows = ledger.rows;
+    lives = ledger.lives;
     buried = buried_then;
-    kept = λ r c untaken above within. column_stays r c above (subst (λ (v : Width). c < columns v) (sym (width_now before progress)) within) ∙ progress.kept r c untaken above within;
-    parents = λ r untaken stay. parent_stays r (λ same. seen_front_not_last w.gone seen r stay (sym same)) ∙ progress.parents r untaken (seen_front w.gone seen r stay);
-    new_parents = λ r taken. parent_stays r (λ same. not_both (is_taken w r) taken (ap (is_taken w) same ∙ reached_untaken before progress row reached)) ∙ progress.new_parents r taken;
+    kept = λ r c untaken above within. column_stays r c above (subst (λ (v : Width). c < columns v) (sym (width_now before ledger)) within) ∙ ledger.kept r c untaken above within;
+    parents = λ r untaken stay. parent_stays r (λ same. seen_front_not_last gone seen r stay (sym same)) ∙ ledger.parents r untaken (seen_front gone seen r stay);
+    new_parents = λ r some. parent_stays r (λ same. not_both (was_seen taken r) some (ap (was_seen taken) same ∙ reached_untaken before ledger row reached)) ∙ ledger.new_parents r some;
     marks = marked_then;
   }
 
 -- the stamps of the rows that are held do not fall
-pub in_order : {b : Before} {start : Start} {s : Sheet} {book : Book} {w : Work} → IsStartOf b start → IsProgress b s book w → All (λ (h : Held). h.stamp ≤ b.number) book.held
-in_order {b} {start} {s} {book} {w} before progress = subst (All (λ (h : Held). h.stamp ≤ b.number)) (sym progress.held)
-    (All-append (λ (h : Held). h.stamp ≤ b.number) b.book.held (map (stamped b.number) w.gone) (λ k d within. let below = before.kept.booked.stamps k d within in omega arith)
-    (All-map (λ (h : Held). h.stamp ≤ b.number) (stamped b.number) w.gone (λ k d within. omega arith)))
+pub in_order : {b : Before} {start : Start} {s : Sheet} {book : Book} {taken gone : List Seen} → IsStartOf b start → IsLedger b s book taken gone → All (λ (h : Held). h.stamp ≤ b.number) book.held
+in_order {b} {start} {s} {book} {taken} {gone} before ledger = subst (All (λ (h : Held). h.stamp ≤ b.number)) (sym ledger.held)
+    (All-append (λ (h : Held). h.stamp ≤ b.number) b.book.held (map (stamped b.number) gone) (λ k d within. let below = before.kept.booked.stamps k d within in omega arith)
+    (All-map (λ (h : Held). h.stamp ≤ b.number) (stamped b.number) gone (λ k d within. omega arith)))
 
 -- ---- words are loaded
 
-progress_read : (b : Before) (s : Sheet) (book : Book) (w : Work) (reads : Option ℕ) → IsProgress b s book w → IsProgress b (record s { reads = reads }) book w
-progress_read b s book w reads progress = record {
-  rest = progress.rest;
-  tree = progress.tree;
-  whole = record { few = progress.whole.few; words = progress.whole.words; lives = progress.whole.lives; buried = progress.whole.buried; cleared = progress.whole.cleared; dead = progress.whole.dead };
-  used = progress.used;
-  free = progress.free;
-  held = progress.held;
-  rows = progress.rows;
-  lives = progress.lives;
-  buried = progress.buried;
-  kept = progress.kept;
-  parents = progress.parents;
-  new_parents = progress.new_parents;
-  marks = progress.marks;
+with_reads : {b : Before} {s : Sheet} {book : Book} {taken gone : List Seen} (reads : Option ℕ) → IsLedger b s book taken gone → IsLedger b (record s { reads = reads }) book taken gone
+with_reads reads ledger = record {
+  rest = ledger.rest;
+  tree = ledger.tree;
+  whole = record { few = ledger.whole.few; words = ledger.whole.words; lives = ledger.whole.lives; buried = ledger.whole.buried; cleared = ledger.whole.cleared; dead = ledger.whole.dead };
+  free = ledger.free;
+  held = ledger.held;
+  rows = ledger.rows;
+  lives = ledger.lives;
+  buried = ledger.buried;
+  kept = ledger.kept;
+  parents = ledger.parents;
+  new_parents = ledger.new_parents;
+  marks = ledger.marks;
 }
 
-pub progress_reads : {b : Before} {s s' : Sheet} {book : Book} {w : Work} → OnlyReads s s' → IsProgress b s book w → IsProgress b s' book w
-progress_reads {b} {s} {s'} {book} {w} reads progress = subst (λ (k : Sheet). IsProgress b k book w) (sym reads) (progress_read b s book w s'.reads progress)
+-- what was loaded is not in the ledger
+pub ledger_reads : {b : Before} {s s' : Sheet} {book : Book} {taken gone : List Seen} → OnlyReads s s' → IsLedger b s book taken gone → IsLedger b s' book taken gone
+ledger_reads {b} {s} {s'} {book} {taken} {gone} reads ledger = subst (λ (k : Sheet). IsLedger b k book taken gone) (sym reads) (with_reads s'.reads ledger)

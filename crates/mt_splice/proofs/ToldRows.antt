@@ -1,6 +1,5 @@
 -- Items that tell their gaps: at a later moment, side by side, and in the rows of the tree as it was.
-use Rattle.mt_splice.proofs.Prelude.{[], refl, ◌≡◌, ℕ, Bool, true, false, suc, ◌+◌, ◌≤◌, List, ◌∷◌, ◌++◌, take, drop, sym, ap, ◌∙◌, subst, inl, inr, arith, map-append, take-map, drop-map, Item, RowKind, Leaf, Inner, Gapped, Span, spans_from, spans-take, Table, inner_of, Levels, Tree, IsLawful, IsTended, Stands, GapLaw, top_of, longest_below, root_of, levels_map, height_in, height_is, PathStep, path_in, Start, Work, Holds, Before, IsStartOf, beside_items, longest_holes, TellGaps, HadGaps}
-use Rattle.mt_splice.proofs.Rises.{row_here}
+use Rattle.mt_splice.proofs.Prelude.{refl, ◌≡◌, ℕ, Bool, true, false, List, ◌∷◌, ◌++◌, take, drop, sym, ap, ◌∙◌, subst, inl, inr, arith, map-append, take-map, drop-map, Item, RowKind, Leaf, Inner, Gapped, Span, spans_from, spans-take, Table, inner_of, Levels, Tree, IsLawful, IsTended, Stands, GapLaw, longest_below, root_of, levels_map, height_in, height_is, Start, Before, IsStartOf, beside_items, longest_holes, TellGaps, HadGaps, []}
 
 -- ---- side by side
 
@@ -25,13 +24,6 @@ tells_drop Inner t h lo mid k xs spans told = tt
 tells_drop Gapped t h lo mid k xs spans told =
     sym (drop-map (λ (x : Item). x.gap) k xs)
     ∙ (ap (drop k) told ∙ (drop-map (λ (x : Span). longest_below t h (x ∷ [])) k (spans_from lo xs) ∙ ap (longest_holes t h) (sym spans)))
-
--- ---- the tree as it was
-
-module _ (start : Start) (w : Work) (holds : Holds start w) (had : HadGaps start) where
-  module _ (path : List PathStep) (i : ℕ) (within : i ≤ top_of start.tree) (is_path : path ≡ path_in start.tree.table start.tree.root i) (d k : ℕ) (levels : start.height ≡ d + suc k) where
-    abbrev x : Span
-    x = row_here start w holds path i within is_path d (suc k) levels
 
 -- ---- those of two rows
 

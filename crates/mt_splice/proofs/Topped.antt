@@ -1,5 +1,5 @@
 -- Where a climb ends: what is to be published, and which windows are to be buried.
-use Rattle.mt_splice.proofs.Prelude.{◌≡◌, ℕ, zero, suc, ◌+◌, ◌*◌, ◌-◌, ◌<◌, ◌≤◌, List, [], ◌∷◌, ◌++◌, length, take, refl, sym, ap, ◌∙◌, subst, inl, inr, ⊎_elim, arith, append-nil, Bool, true, eq-eqb, slice_index_or, if◌then◌else◌, take-length, cases_lt, Width, columns, Book, Item, Span, RowKind, RiseFrom, end_of, slot_column, name_at, slots_of, least_items, spans_from, Fills, sizes, after, fills_after, fills_end, fills_rise, length-spans_from, PathStep, path_in, row_on, step_at, at_within, place, child, lawful, same_row, slot_used, Root, Slot, Tree, Stands, covers_all, kind_on, top_of, Sheet, Table, column, inner_of, spans_in, row_most, Climb, Top, Next, RootAbove, NewRow, IsNothingLeft, IsLevelDrafted, HasClimbed, windows_over, IsRowTaken, AreRowsTaken, noted_row, noted_rows, IsPieceDrafted, AreHeld, part_of, heads, was_taken, IsLedger, depth_at, begin_at, new_at, level_of, AreAllHeld, newest_first, taken_by, windows_by, windows_above, Before, new_rows_of, span_to, MayBeCut, Seen, row_at, low_of, high_of, Gathered, IsNewRow, Start, rows_at, tree_with}
+use Rattle.mt_splice.proofs.Prelude.{◌≡◌, ℕ, zero, suc, ◌+◌, ◌*◌, ◌-◌, ◌<◌, ◌≤◌, List, ◌∷◌, ◌++◌, length, take, refl, sym, ap, ◌∙◌, subst, inl, inr, ⊎_elim, arith, append-nil, Bool, true, eq-eqb, slice_index_or, if◌then◌else◌, take-length, cases_lt, Width, columns, Book, Item, Span, RowKind, RiseFrom, end_of, slot_column, name_at, slots_of, least_items, spans_from, Fills, sizes, after, fills_after, fills_end, fills_rise, length-spans_from, PathStep, path_in, row_on, step_at, at_within, place, child, lawful, same_row, slot_used, Root, Slot, Tree, Stands, covers_all, kind_on, top_of, Sheet, Table, column, inner_of, spans_in, row_most, Climb, Top, Next, RootAbove, NewRow, IsNothingLeft, IsLevelDrafted, HasClimbed, windows_over, IsRowTaken, AreRowsTaken, noted_row, noted_rows, IsPieceDrafted, AreHeld, part_of, heads, was_seen, IsLedger, depth_at, begin_at, new_at, level_of, AreAllHeld, newest_first, taken_by, windows_by, windows_above, Before, new_rows_of, span_to, MayBeCut, Seen, row_at, low_of, high_of, Gathered, IsNewRow, Start, rows_at, tree_with, []}
 use Rattle.mt_splice.specs.declared.decisions.Next.TheVariants.{Root as AtRoot, Slot as InSlot}
 use Rattle.mt_splice.proofs.Besides.{begin_within}
 use Rattle.mt_splice.proofs.DraftedLedger.{taken_behind, all_held_stay, ledger_then, taken_stay, width_then, held_then, noted_then}
@@ -344,15 +344,15 @@ module _ {b : Before} {start : Start} {s : Sheet} {book : Book} {depth : ℕ} {c
     table_of : (x : Sheet) → x.tree.table.width ≡ start.tree.table.width → (tree_with start.tree x.tree.table.words).table ≡ x.tree.table
     table_of x wide = λ i. record { width = sym wide i; words = x.tree.table.words }
 
-    held' : AreAllHeld start s'.tree.table.words (was_taken (root_seen ∷ taken_by start (d.l ∷ d.lower))) (d.l ∷ d.lower)
-    held' = all_held_stay start s.tree.table.words s'.tree.table.words (was_taken (taken_by start (d.l ∷ d.lower))) (was_taken (root_seen ∷ taken_by start (d.l ∷ d.lower)))
+    held' : AreAllHeld start s'.tree.table.words (was_seen (root_seen ∷ taken_by start (d.l ∷ d.lower))) (d.l ∷ d.lower)
+    held' = all_held_stay start s.tree.table.words s'.tree.table.words (was_seen (taken_by start (d.l ∷ d.lower))) (was_seen (root_seen ∷ taken_by start (d.l ∷ d.lower)))
         (λ row some. taken_behind (root_seen ∷ []) (taken_by start (d.l ∷ d.lower)) row some)
         (λ row c some within.
         ap (λ (t : Table). column t row c) (table_of s' wide')
         ∙ (taken_stay d.case.was H I I new 0 0 (length new ∷ []) (piece.row ∷ []) s s' book book' d.ledger are row some c (subst (λ (v : Width). c < columns v) (sym wide) within) ∙ sym (ap (λ (t : Table). column t row c) (table_of s wide))))
         (d.l ∷ d.lower) d.held
 
-    root_held : AreHeld (tree_with start.tree s'.tree.table.words) (was_taken (newest_first H (spans_from 0 (heads I I 0 new 0 (length new ∷ []) (piece.row ∷ []))) ++ taken_by start (d.l ∷ d.lower))) I new 0 (length new ∷ []) (piece.row ∷ [])
+    root_held : AreHeld (tree_with start.tree s'.tree.table.words) (was_seen (newest_first H (spans_from 0 (heads I I 0 new 0 (length new ∷ []) (piece.row ∷ []))) ++ taken_by start (d.l ∷ d.lower))) I new 0 (length new ∷ []) (piece.row ∷ [])
     root_held = held_then d.case.was H I I new refl 0 0 (length new ∷ []) (piece.row ∷ []) s s' book book' d.ledger are parts wide'
 
     root_holds : IsNewRow s'.tree.table I piece.row new

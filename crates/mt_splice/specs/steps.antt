@@ -10,16 +10,15 @@ pub mod Layers
 pub mod Ledgers
 pub mod Looking
 pub mod Plans
-pub mod Progress
 pub mod Regions
 pub mod Replaced
 pub mod Replacing
 pub mod Runs
 pub mod Seen
+pub mod Starts
 pub mod TakingIn
 pub mod Telling
 pub mod Told
 pub mod Widening
 pub mod Windows
-pub mod Work
 pub mod Writes

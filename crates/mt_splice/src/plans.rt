@@ -1,6 +1,6 @@
 //! What stands when a plan is drafted. Each law is the contract of a function that does nothing.
 
-ghost use Rattle.std.specs.Prelude.{◌≡◌, ◌≢◌, ℕ, suc, ◌+◌, ◌-◌, ◌<◌, ◌≤◌, Bool, true, List, [], ◌∷◌, Some, length, nat_lt, slice_set};
+ghost use Rattle.std.specs.Prelude.{◌≡◌, ◌≢◌, ℕ, suc, ◌+◌, ◌-◌, ◌<◌, ◌≤◌, Bool, true, List, [], ◌∷◌, Some, length, slice_set};
 ghost use Rattle.mt_base.specs.Width.{deepest, greatest};
 ghost use Rattle.mt_base.specs.declared.calls.Call.{Call};
 ghost use Rattle.mt_base.specs.declared.kinds.Kind.{Kind};
@@ -19,7 +19,7 @@ ghost use Rattle.mt_path.specs.Handles.{last_step};
 ghost use Rattle.mt_path.specs.Paths.{path_in, slot_for};
 ghost use Rattle.mt_path.specs.declared.paths.PathStep.{PathStep};
 ghost use Rattle.mt_rows.specs.Laws.{GapLaw, HasWords, IsRow, Stands, kind_on, top_of};
-ghost use Rattle.mt_rows.specs.Levels.{Levels, expand, is_row_of, one_if, times};
+ghost use Rattle.mt_rows.specs.Levels.{Levels, expand, one_if, times};
 ghost use Rattle.mt_rows.specs.Replacement.{root_of, with_child};
 ghost use Rattle.mt_rows.specs.Sheet.{IsWhole, OnlyReads, Sheet};
 ghost use Rattle.mt_rows.specs.Spans.{base_of, inner_kind, spans_in};
@@ -34,13 +34,13 @@ ghost use Rattle.mt_splice.specs.steps.Ends.{MayPublishEnd};
 ghost use Rattle.mt_splice.specs.steps.Entries.{IsBegunBy, IsFirstStore};
 ghost use Rattle.mt_splice.specs.steps.Layers.{Beside, Stand};
 ghost use Rattle.mt_splice.specs.steps.Plans.{AreAllHeld, IsPlanned, Layer, depth_at, gone_by, level_of, taken_by};
-ghost use Rattle.mt_splice.specs.steps.Progress.{Before, IsStartOf, IsProgress, is_taken};
+ghost use Rattle.mt_splice.specs.steps.Ledgers.{Before, IsStartOf, IsLedger};
 ghost use Rattle.mt_splice.specs.steps.Replaced.{IsReplaced, with_root};
-ghost use Rattle.mt_splice.specs.steps.Seen.{Seen, passing};
+ghost use Rattle.mt_splice.specs.steps.Seen.{Seen, passing, was_seen};
 ghost use Rattle.mt_splice.specs.steps.Telling.{AreAllFromBelow};
 ghost use Rattle.mt_splice.specs.steps.Told.{HadGaps};
 ghost use Rattle.mt_splice.specs.steps.Windows.{in_place, row_at};
-ghost use Rattle.mt_splice.specs.steps.Work.{Holds, Start, Work, rows_at, tree_with};
+ghost use Rattle.mt_splice.specs.steps.Starts.{Start, rows_at, tree_with};
 ghost use Rattle.mt_splice.specs.steps.Writes.{items_of_row};
 
 /// A climb begins with nothing done yet: at the leaves of a store, over the empty tree with one leaf, or with all levels of a
@@ -59,8 +59,8 @@ pub fn a_climb_begins()
 
 /// While rows are drafted, the tree's rows stand beside them and are read as they were.
 pub fn the_old_rows_stand_beside()
-    ensures beside { (start : Start) (w : Work) → Holds start w → Beside start w.words (is_taken w) 0 }
-    ensures items { (b : Before) (start : Start) (s : Sheet) (book : Book) (w : Work) → IsStartOf b start → IsProgress b s book w → Holds start w → (i d h : ℕ) → i ≤ top_of start.tree → start.height ≡ d + h → (kind : RowKind) (max : ℕ)
+    ensures beside { (b : Before) (start : Start) (s : Sheet) (book : Book) (taken gone : List Seen) → IsStartOf b start → IsLedger b s book taken gone → Stands start.tree start.height → Beside start s.tree.table.words (was_seen taken) 0 }
+    ensures items { (b : Before) (start : Start) (s : Sheet) (book : Book) (taken gone : List Seen) → IsStartOf b start → IsLedger b s book taken gone → Stands start.tree start.height → (i d h : ℕ) → i ≤ top_of start.tree → start.height ≡ d + h → (kind : RowKind) (max : ℕ)
         → items_of_row s.tree.table kind (row_in (row_at start.tree d i).word) max ≡ items_of_row start.tree.table kind (row_in (row_at start.tree d i).word) max }
 {}
 
@@ -87,14 +87,14 @@ pub fn a_store_in_a_slot_stands()
 
 /// What stands for the map up to the root replaces the tree: in place, by one row as the root, or by several in a new root.
 pub fn what_stands_replaces_the_tree()
-    ensures slot { (start : Start) (words : List ℕ) (taken gone : List Seen) → Stands start.tree start.height → Stand start words (λ row. nat_lt 0 (passing (is_row_of row) taken)) (λ p. passing p taken) (λ p. passing p gone) 0 start.height (root_of start.tree)
+    ensures slot { (start : Start) (words : List ℕ) (taken gone : List Seen) → Stands start.tree start.height → Stand start words (was_seen taken) (λ p. passing p taken) (λ p. passing p gone) 0 start.height (root_of start.tree)
         → IsReplaced start.tree (tree_with start.tree words) start.map taken gone (Some start.height) (Some start.height) }
     ensures root { (start : Start) (words : List ℕ) (taken gone : List Seen) (low_gone : (ℕ → Span → Bool) → ℕ) (d h : ℕ) (x : Span) → Stands start.tree start.height → start.height ≡ d + h → x.first ≡ 0 → x.last ≡ top_of start.tree
-        → Stand start words (λ row. nat_lt 0 (passing (is_row_of row) taken)) (λ p. passing p taken) low_gone d h (x ∷ [])
+        → Stand start words (was_seen taken) (λ p. passing p taken) low_gone d h (x ∷ [])
         → ((p : ℕ → Span → Bool) → passing p gone + times p start.tree.table h (rows_at start.tree d) ≡ low_gone p + times p start.tree.table start.height (root_of start.tree))
         → IsReplaced start.tree (with_root (tree_with start.tree words) x.word) start.map taken gone (Some start.height) (Some h) }
     ensures above { (start : Start) (words : List ℕ) (taken gone : List Seen) (low_taken : (ℕ → Span → Bool) → ℕ) (new : List Span) (x : Span) (items : List Item) → x.first ≡ 0 → x.last ≡ top_of start.tree → suc start.height < deepest
-        → Stand start words (λ row. nat_lt 0 (passing (is_row_of row) taken)) low_taken (λ p. passing p gone) 0 start.height new → IsRow (tree_with start.tree words) (suc start.height) x → expand (tree_with start.tree words).table (x ∷ []) ≡ new → new ≡ spans_from 0 items
-        → length items ≤ slots_of start.tree.table.width (kind_on start.tree.gapped (suc start.height)) → nat_lt 0 (passing (is_row_of (row_in x.word)) taken) ≡ true → ((p : ℕ → Span → Bool) → passing p taken ≡ one_if (p (suc start.height) x) + low_taken p)
+        → Stand start words (was_seen taken) low_taken (λ p. passing p gone) 0 start.height new → IsRow (tree_with start.tree words) (suc start.height) x → expand (tree_with start.tree words).table (x ∷ []) ≡ new → new ≡ spans_from 0 items
+        → length items ≤ slots_of start.tree.table.width (kind_on start.tree.gapped (suc start.height)) → was_seen taken (row_in x.word) ≡ true → ((p : ℕ → Span → Bool) → passing p taken ≡ one_if (p (suc start.height) x) + low_taken p)
         → IsReplaced start.tree (with_root (tree_with start.tree words) x.word) start.map taken gone (Some start.height) (Some (suc start.height)) }
 {}

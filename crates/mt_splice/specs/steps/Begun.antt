@@ -3,8 +3,8 @@
 use Rattle.std.specs.Prelude.{false, [], None}
 use Rattle.mt_base.specs.declared.kinds.Kind.TheVariants as trees
 use Rattle.mt_splice.specs.Prelude.{kind_width, Rooted, Sheet, tree_as}
-use Rattle.mt_splice.specs.steps.Progress.{Before}
-use Rattle.mt_splice.specs.steps.Work.{Start}
+use Rattle.mt_splice.specs.steps.Ledgers.{Before}
+use Rattle.mt_splice.specs.steps.Starts.{Start}
 
 abbrev pub no_tree : Rooted
 no_tree = record { rows = 0; table = record { width = kind_width trees.Range; words = [] }; root = 0 }

@@ -1,6 +1,6 @@
 -- A climb from the leaves up to the row in which the replacement is published: rows are read and drafted, and none is buried.
 -- Source: the kernel's lib/maple_tree.c, mas_spanning_rebalance, which goes up until one node takes the place of one.
-use Rattle.std.specs.Prelude.{◌≡◌, ◌⊎◌, ℕ, zero, suc, ◌+◌, ◌*◌, ◌<◌, ◌≤◌, List, [], ◌∷◌, ◌++◌, length}
+use Rattle.std.specs.Prelude.{◌≡◌, ◌⊎◌, ℕ, zero, suc, ◌+◌, ◌*◌, ◌<◌, ◌≤◌, List, ◌∷◌, ◌++◌, length, []}
 use Rattle.mt_splice.specs.Prelude.{first_row, Book, Item, RowKind, Span, slot_column, name_at, slots_of, spans_from, Root, Slot, Stands, kind_on, top_of, Sheet, inner_of, PathStep, path_in, step_at, step_in}
 use Rattle.mt_splice.specs.declared.climbing.Climb.{Climb}
 use Rattle.mt_splice.specs.declared.climbing.Top.{Top}
@@ -8,15 +8,14 @@ use Rattle.mt_splice.specs.declared.decisions.Next.{Next}
 use Rattle.mt_splice.specs.declared.decisions.Next.TheVariants.{Empty, Root as AtRoot, RootAbove, Slot as InSlot, Up}
 use Rattle.mt_splice.specs.declared.ways.Window.{Window}
 use Rattle.mt_splice.specs.steps.Decisions.{IsNextDecision}
-use Rattle.mt_splice.specs.steps.Ledgers.{was_taken, IsLedger}
 use Rattle.mt_splice.specs.steps.Plans.{Layer, depth_at, heads_at, new_at, level_of, IsPlanned, AreAllHeld, taken_by, windows_by, window_at, windows_above}
-use Rattle.mt_splice.specs.steps.Progress.{Before, IsInFlight, new_rows_of}
+use Rattle.mt_splice.specs.steps.Ledgers.{Before, IsInFlight, IsLedger, new_rows_of}
 use Rattle.mt_splice.specs.steps.Runs.{MayBeCut}
-use Rattle.mt_splice.specs.steps.Seen.{Seen}
+use Rattle.mt_splice.specs.steps.Seen.{Seen, was_seen}
 use Rattle.mt_splice.specs.steps.Telling.{AreFromBelow, AreAllFromBelow}
 use Rattle.mt_splice.specs.steps.Widening.{MayWiden}
 use Rattle.mt_splice.specs.steps.Windows.{row_at, low_of, high_of}
-use Rattle.mt_splice.specs.steps.Work.{Start}
+use Rattle.mt_splice.specs.steps.Starts.{Start}
 use Rattle.mt_splice.specs.steps.Writes.{IsNewRow}
 
 -- ---- level by level
@@ -28,7 +27,7 @@ pub record IsClimbing (b : Before) (start : Start) (s : Sheet) (book : Book) (ki
   pub case : IsInFlight b start
   pub of_kind : kind ≡ kind_on start.tree.gapped (length layers)
   pub planned : IsPlanned start layers
-  pub held : AreAllHeld start s.tree.table.words (was_taken (taken_by start layers)) layers
+  pub held : AreAllHeld start s.tree.table.words (was_seen (taken_by start layers)) layers
   pub ledger : IsLedger b s book (taken_by start layers) []
   pub gathered : MayWiden start (level_of start layers) c.ways.left.items c.ways.right.items depth (length layers) c.gathered.run.items
   pub from_below : AreFromBelow start layers (step_at c.ways.left.items depth).min ((step_at c.ways.right.items depth).max + 1) c.gathered.run.items
@@ -66,7 +65,7 @@ pub record IsLevelDrafted (b : Before) (start : Start) (s : Sheet) (book : Book)
   pub case : IsInFlight b start
   pub at : start.height ≡ depth + length lower
   pub planned : IsPlanned start (l ∷ lower)
-  pub held : AreAllHeld start s.tree.table.words (was_taken (taken_by start (l ∷ lower))) (l ∷ lower)
+  pub held : AreAllHeld start s.tree.table.words (was_seen (taken_by start (l ∷ lower))) (l ∷ lower)
   pub ledger : IsLedger b s book (taken_by start (l ∷ lower)) []
   pub left : c.ways.left.items ≡ path_in start.tree.table start.tree.root l.from
   pub right : c.ways.right.items ≡ path_in start.tree.table start.tree.root l.to
@@ -162,7 +161,7 @@ pub record HasClimbed (b : Before) (start : Start) (s : Sheet) (book : Book) (c 
   pub stands : Stands start.tree start.height
   pub planned : IsPlanned start layers
   pub told : AreAllFromBelow start layers
-  pub held : AreAllHeld start s.tree.table.words (was_taken (root ++ taken_by start layers)) layers
+  pub held : AreAllHeld start s.tree.table.words (was_seen (root ++ taken_by start layers)) layers
   pub ledger : IsLedger b s book (root ++ taken_by start layers) []
   pub made : c.made.items ≡ new_rows_of s.tree.table (root ++ taken_by start layers)
   pub few : length (root ++ taken_by start layers) ≤ 3 * (start.height + 1) + 1

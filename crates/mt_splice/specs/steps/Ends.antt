@@ -5,19 +5,14 @@ use Rattle.std.specs.Prelude.{◌≡◌, ◌≢◌, ℕ, suc, ◌+◌, ◌-◌, 
 use Rattle.std.specs.List.{slice_get}
 use Rattle.mt_splice.specs.Prelude.{Call, Reply, acted, columns, RowKind, Span, row_in, named_row, parent_at, slot_column, Book, Live, Place, Root, Slot, column, is_row_of, height_in, Tree, kind_on, Sheet, IsPlace, life_of, is_buried, tree_as, map_by, with_published, IsSlotAt, slots_of}
 use Rattle.mt_splice.specs.declared.writes.NewRow.{NewRow}
-use Rattle.mt_splice.specs.steps.Seen.{passing}
-use Rattle.mt_splice.specs.steps.Work.{Start, Work, with_words, now, Holds}
-use Rattle.mt_splice.specs.steps.Replaced.{IsReplaced}
+use Rattle.mt_splice.specs.steps.Seen.{Seen, passing, was_seen}
+use Rattle.mt_splice.specs.steps.Starts.{Start, with_words, now}
+use Rattle.mt_splice.specs.steps.Replaced.{IsReplaced, StandsAs}
 use Rattle.mt_splice.specs.steps.Told.{GapsBeside}
 use Rattle.mt_splice.specs.steps.Writes.{child_row, AreChildren}
-use Rattle.mt_splice.specs.steps.Progress.{Before, IsInFlight, IsProgress, is_taken, new_rows_of}
+use Rattle.mt_splice.specs.steps.Ledgers.{Before, IsInFlight, IsLedger, new_rows_of}
 
 -- ---- the end
-
--- the tree was the empty one, or it stands as it was
-abbrev pub HoldsAs : Start → Work → Option ℕ → Type 0
-HoldsAs start w None = start.tree.root ≡ 0
-HoldsAs start w (Some h) = (start.height ≡ h) × Holds start w
 
 -- the column is that of an item of an inner row, which stands so many levels below the root
 pub record IsChildSlot (t : Tree) (height row col : ℕ) : Type 0 where
@@ -31,34 +26,36 @@ pub record IsChildSlot (t : Tree) (height row col : ℕ) : Type 0 where
   pub number : row_in at.word ≡ row
   pub column : col ≡ slot_column (slots_of t.table.width (kind_on t.gapped (suc low))) slot
 
-abbrev pub IsEndPlace : Start → Work → Option ℕ → Place → Type 0
-IsEndPlace start w old Root = Unit {0}
-IsEndPlace start w None (Slot row col) = ⊥
-IsEndPlace start w (Some h) (Slot row col) = IsChildSlot (now start w) h row col × (passing (is_row_of row) w.gone ≡ 0)
+-- the root word, or a slot of a row that is not gone
+abbrev pub IsEndPlace : Tree → List Seen → Option ℕ → Place → Type 0
+IsEndPlace t gone old Root = Unit {0}
+IsEndPlace t gone None (Slot row col) = ⊥
+IsEndPlace t gone (Some h) (Slot row col) = IsChildSlot t h row col × (passing (is_row_of row) gone ≡ 0)
 
 -- the word to be published names a row that was taken, or is 0 where nothing is left of a tree
-abbrev pub IsTop : Work → Option ℕ → Option ℕ → ℕ → Type 0
-IsTop w old (Some h) word = is_taken w (row_in word) ≡ true
-IsTop w (Some h) None word = word ≡ 0
-IsTop w None None word = ⊥
+abbrev pub IsTop : List Seen → Option ℕ → Option ℕ → ℕ → Type 0
+IsTop taken old (Some h) word = was_seen taken (row_in word) ≡ true
+IsTop taken (Some h) None word = word ≡ 0
+IsTop taken None None word = ⊥
 
 -- All new rows are written and all old rows are buried; one word is still to be stored, and then the children of the new
 -- inner rows are to be tended.
 pub record MayPublishEnd (b : Before) (start : Start) (s : Sheet) (book : Book) (inner : List NewRow) (place : Place) (word : ℕ) (call : Call) (reply : Reply) : Type 0 where
-  pub work : Work
+  pub taken : List Seen
+  pub gone : List Seen
   -- the heights of the two trees
   pub old : Option ℕ
   pub new : Option ℕ
   pub case : IsInFlight b start
-  pub progress : IsProgress b s book work
-  pub few : length work.taken ≤ 3 * height_in b.sheet.tree.table b.sheet.tree.root + 1
+  pub ledger : IsLedger b s book taken gone
+  pub few : length taken ≤ 3 * height_in b.sheet.tree.table b.sheet.tree.root + 1
   pub answer : acted b.kind (map_by b.sheet.tree) call ≡ (start.map, reply)
-  pub holds : HoldsAs start work old
-  pub replaced : IsReplaced start.tree (tree_as b.kind (with_published s.tree place word)) start.map work.taken work.gone old new
-  pub gaps : GapsBeside start (is_taken work) (tree_as b.kind (with_published s.tree place word)) new
-  pub at : IsEndPlace start work old place
-  pub top : IsTop work old new word
-  pub inner_rows : inner ≡ new_rows_of s.tree.table work.taken
+  pub stood : StandsAs start.tree old
+  pub replaced : IsReplaced start.tree (tree_as b.kind (with_published s.tree place word)) start.map taken gone old new
+  pub gaps : GapsBeside start (was_seen taken) (tree_as b.kind (with_published s.tree place word)) new
+  pub at : IsEndPlace (now start s) gone old place
+  pub top : IsTop taken old new word
+  pub inner_rows : inner ≡ new_rows_of s.tree.table taken
 
 -- ---- parent words
 

@@ -2,9 +2,9 @@
 -- Source: this project's own.
 use Rattle.std.specs.Prelude.{◌≡◌, ◌-◌, ℕ, List, [], length}
 use Rattle.mt_splice.specs.Prelude.{Call, Kind, acted, Book, path_in, Sheet, map_by, tree_as, Reply, Item, PathStep}
-use Rattle.mt_splice.specs.steps.Progress.{Before}
+use Rattle.mt_splice.specs.steps.Ledgers.{Before}
 use Rattle.mt_splice.specs.Splice.{MaySplice}
-use Rattle.mt_splice.specs.steps.Work.{Start}
+use Rattle.mt_splice.specs.steps.Starts.{Start}
 
 -- the rows and the book as they are now
 abbrev pub before_of : Kind → Sheet → Book → ℕ → Before

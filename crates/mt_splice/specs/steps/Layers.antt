@@ -6,7 +6,7 @@ use Rattle.mt_splice.specs.Prelude.{first_row, Item, Span, RowKind, end_of, row_
 use Rattle.mt_splice.specs.Fewest.{FewestBelow}
 use Rattle.mt_splice.specs.steps.Told.{told_gap}
 use Rattle.mt_splice.specs.steps.Writes.{IsNewRow}
-use Rattle.mt_splice.specs.steps.Work.{Start, tree_with, rows_at, KeepsRowWords}
+use Rattle.mt_splice.specs.steps.Starts.{Start, tree_with, rows_at, KeepsRowWords}
 
 -- what is known of each row of the tree as it was: it keeps its words, and is not new
 pub record IsOld (start : Start) (words : List ℕ) (is_new : ℕ → Bool) (h : ℕ) (x : Span) : Type 0 where

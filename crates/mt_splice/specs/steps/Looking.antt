@@ -4,7 +4,7 @@ use Rattle.std.specs.Prelude.{◌≡◌, ℕ, suc, ◌+◌, ◌≤◌, List, ◌
 use Rattle.mt_splice.specs.Prelude.{Kind, Item, RowKind, Span, row_in, top_of, kind_on, IsTreeOf, Rooted, PathStep, path_in, step_at}
 use Rattle.mt_splice.specs.steps.Widening.{IsWindow, MayWiden}
 use Rattle.mt_splice.specs.steps.Windows.{row_at}
-use Rattle.mt_splice.specs.steps.Work.{Start}
+use Rattle.mt_splice.specs.steps.Starts.{Start}
 use Rattle.mt_splice.specs.steps.Writes.{items_of_row}
 
 -- rows that hold the tree as it was, beside others

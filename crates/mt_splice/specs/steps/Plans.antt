@@ -9,7 +9,7 @@ use Rattle.mt_splice.specs.steps.Layers.{AreHeld, heads}
 use Rattle.mt_splice.specs.steps.Runs.{MayBeCut}
 use Rattle.mt_splice.specs.steps.Seen.{Seen}
 use Rattle.mt_splice.specs.steps.Windows.{between, row_at, low_of, high_of, in_place, Gathered}
-use Rattle.mt_splice.specs.steps.Work.{Start, tree_with, rows_at}
+use Rattle.mt_splice.specs.steps.Starts.{Start, tree_with, rows_at}
 
 -- the items that stand in the rows from the one that holds `from` to the one that holds `to`, cut at these places into rows of
 -- these numbers

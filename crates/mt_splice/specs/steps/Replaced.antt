@@ -1,10 +1,10 @@
 -- What stands after a replacement.
 -- Source: this project's own.
-use Rattle.std.specs.Prelude.{◌≡◌, ℕ, ◌+◌, ◌≤◌, Bool, List, [], Option, Some, None, nat_lt}
-use Rattle.mt_splice.specs.Prelude.{Range, Span, map_of, is_row_of, Tree, Stands, root_of}
+use Rattle.std.specs.Prelude.{◌≡◌, ℕ, ◌+◌, ◌≤◌, Bool, List, Option, Some, None, []}
+use Rattle.mt_splice.specs.Prelude.{Range, Span, map_of, Tree, Stands, root_of}
 use Rattle.mt_splice.specs.Fewest.{FewestBelow}
-use Rattle.mt_splice.specs.steps.Seen.{Seen, passing}
-use Rattle.mt_splice.specs.steps.Work.{times_in}
+use Rattle.mt_splice.specs.steps.Seen.{Seen, passing, was_seen}
+use Rattle.mt_splice.specs.steps.Starts.{times_in}
 
 -- the tree with another root word
 abbrev pub with_root : Tree → ℕ → Tree
@@ -34,4 +34,4 @@ pub record IsReplaced (t t' : Tree) (map : List Range) (taken gone : List Seen) 
   pub ranges : map_as t' new ≡ map
   pub rows : (p : ℕ → Span → Bool) → count_in p t old + passing p taken ≡ count_in p t' new + passing p gone
   pub were : (p : ℕ → Span → Bool) → passing p gone ≤ count_in p t old
-  pub fewest : FewestAs (λ row. nat_lt 0 (passing (is_row_of row) taken)) t' new
+  pub fewest : FewestAs (was_seen taken) t' new

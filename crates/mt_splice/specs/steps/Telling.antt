@@ -6,7 +6,7 @@ use Rattle.mt_splice.specs.Prelude.{Item, spans_from, Fills, IsBelow, inner_of, 
 use Rattle.mt_splice.specs.steps.Plans.{Layer, depth_at, begin_at, heads_at}
 use Rattle.mt_splice.specs.steps.Told.{TellGaps}
 use Rattle.mt_splice.specs.steps.Windows.{high_of}
-use Rattle.mt_splice.specs.steps.Work.{Start}
+use Rattle.mt_splice.specs.steps.Starts.{Start}
 
 -- Items that name rows of a height of the tree as it was, and tell their gaps; the first begins at `lo`.
 pub record AreOld (start : Start) (h lo : ℕ) (items : List Item) : Type 0 where

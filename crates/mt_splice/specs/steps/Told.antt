@@ -2,7 +2,7 @@
 -- Source: the kernel's lib/maple_tree.c, mas_leaf_max_gap and ma_max_gap, by which a node's gap is told to its parent.
 use Rattle.std.specs.Prelude.{◌≡◌, ◌≤◌, ℕ, Bool, List, [], ◌∷◌, Option, Some, None, fold, map, max}
 use Rattle.mt_splice.specs.Prelude.{Item, RowKind, Leaf, Inner, Gapped, Span, longest_hole, spans_from, Table, Levels, Tree, GapLaw, longest_below, KeepsGaps, root_of}
-use Rattle.mt_splice.specs.steps.Work.{Start}
+use Rattle.mt_splice.specs.steps.Starts.{Start}
 
 -- ---- the gaps of items
 

@@ -5,7 +5,7 @@ use Rattle.std.specs.Prelude.{◌≡◌, ◌⊎◌, ℕ, suc, ◌+◌, ◌-◌, 
 use Rattle.mt_splice.specs.Prelude.{Width, greatest, Item, RowKind, Span, spans_from, EndsFull, top_of, kind_on, Rooted, PathStep, path_in, step_at}
 use Rattle.mt_splice.specs.steps.Runs.{most_items, most_before_hole}
 use Rattle.mt_splice.specs.steps.TakingIn.{short_run, holed_run, beside_items}
-use Rattle.mt_splice.specs.steps.Work.{Start}
+use Rattle.mt_splice.specs.steps.Starts.{Start}
 use Rattle.mt_splice.specs.steps.Writes.{items_of_row}
 use Rattle.mt_splice.specs.steps.Windows.{low_of, high_of, Gathered}
 

@@ -4,7 +4,7 @@
 use Rattle.std.specs.Prelude.{◌≡◌, ℕ, zero, suc, ◌+◌, ◌-◌, ◌<◌, ◌≤◌, List, ◌++◌, take, drop}
 use Rattle.std.specs.List.{flat_map}
 use Rattle.mt_splice.specs.Prelude.{Range, Span, leaf_range, Fills, root_span, expand, Tree, Stands, top_of, slot_for, row_on}
-use Rattle.mt_splice.specs.steps.Work.{Start, rows_at}
+use Rattle.mt_splice.specs.steps.Starts.{Start, rows_at}
 use Rattle.mt_splice.specs.steps.Runs.{MayBeIn}
 
 -- of spans end to end, those before the one that holds an index, and those behind it

@@ -2,7 +2,7 @@
 -- Source: the kernel's lib/maple_tree.c, mab_mas_cp and mas_mab_cp: a node's slots are copied out and written into a new node.
 use Rattle.std.specs.Prelude.{◌≡◌, ◌≢◌, ℕ, ◌+◌, ◌<◌, ◌≤◌, false, Some, List, length, slice_index, slice_set}
 use Rattle.mt_splice.specs.Prelude.{columns, first_row, Item, RowKind, IsRowNumber, row_in, named_row, parent_at, RiseFrom, row_words, items_at, slot_column, Draft, Live, Table, base_of, column, Sheet, IsPlace, life_of, is_buried, slots_of, gaps_of}
-use Rattle.mt_splice.specs.steps.Work.{with_words}
+use Rattle.mt_splice.specs.steps.Starts.{with_words}
 
 -- ---- rows
 
