@@ -1,6 +1,6 @@
 -- The rows of windows buried along one walk each.
-use Rattle.mt_splice.proofs.Prelude.{[], ◌≡◌, ℕ, ◌+◌, ◌-◌, ◌<◌, ◌≤◌, List, ◌∷◌, ◌++◌, length, map, refl, sym, ap, ◌∙◌, subst, ⊎_elim, arith, Bool, true, false, ◌↔◌, OnTrue, cases_lt, map-append, Kind, Width, greatest, Book, after_retire, Span, row_in, fills_le, PathStep, path_in, step_at, step_in, levels, step, place, some_root, some_tree, Tree, Stands, top_of, IsTreeOf, tree_as, Rooted, Sheet, OnlyReads, after_bury, Window, MayBeBuried, MayBuryAll, AreBuriedAll, numbers_between, numbers_in, numbers_in_all, IsWindowOn, IsStretchOn, AreWindowsOn, between, row_at, low_of, high_of, rows_at}
-use Rattle.mt_splice.proofs.Burials.{may_first, may_front, may_then, may_later, reads_buried, one_buried, more_buried}
+use Rattle.mt_splice.proofs.Prelude.{[], ◌≡◌, ℕ, ◌+◌, ◌-◌, ◌<◌, ◌≤◌, List, ◌∷◌, ◌++◌, length, map, refl, sym, ap, ◌∙◌, subst, ⊎_elim, arith, Bool, true, false, ◌↔◌, OnTrue, cases_lt, map-append, Kind, Width, greatest, Book, after_retire, Span, row_in, fills_le, PathStep, path_in, step_at, step_in, levels, step, place, some_root, some_tree, Tree, Stands, top_of, IsTreeOf, tree_as, Rooted, Sheet, OnlyReads, after_bury, Window, MayBeBuried, MayBeBuriedInTurn, numbers_between, numbers_in, numbers_in_all, IsWindowOn, IsStretchOn, AreWindowsOn, between, row_at, low_of, high_of, rows_at}
+use Rattle.mt_splice.proofs.Burials.{AreBuried, may_front, may_then, may_later, reads_buried, one_buried, more_buried}
 use Rattle.mt_splice.proofs.KeptTrees.{SameTree, buried_tree, same_kind}
 use Rattle.mt_splice.proofs.Windows.{begins_behind, ends_ahead}
 use Rattle.mt_splice.proofs.WindowRows.{sides_same, same_between, one_between, first_between, last_between, split_between, head_between, ends_by, next_between}
@@ -177,33 +177,33 @@ module _ {kind : Kind} {h : ℕ} {t t' : Rooted} (same : SameTree kind h t t') w
       }
 
 -- rows that were buried, and words that were loaded, leave the tree
-tree_then : {kind : Kind} {h : ℕ} {s s' : Sheet} {book book' : Book} {rows : List ℕ} {number : ℕ} → Stands (tree_as kind s.tree) h → AreBuriedAll s s' book book' rows number → SameTree kind h s.tree s'.tree
+tree_then : {kind : Kind} {h : ℕ} {s s' : Sheet} {book book' : Book} {rows : List ℕ} {number : ℕ} → Stands (tree_as kind s.tree) h → AreBuried s s' book book' rows number → SameTree kind h s.tree s'.tree
 tree_then {kind} {h} {s} {s'} {rows = rows} stands done = subst (λ (x : Sheet). SameTree kind h s.tree x.tree) (sym done.rows_are) (buried_tree kind h s rows stands)
 
 -- ---- a window
 
-module _ {s : Sheet} {book : Book} {depth number : ℕ} {w : Window} {kind : Kind} (tree : IsTreeOf s.tree kind) (on : IsWindowOn s.tree depth w) (may : MayBuryAll s book (numbers_in s.tree depth w) number) where
+module _ {s : Sheet} {book : Book} {depth number : ℕ} {w : Window} {kind : Kind} (tree : IsTreeOf s.tree kind) (on : IsWindowOn s.tree depth w) (may : MayBeBuriedInTurn s book (numbers_in s.tree depth w) number) where
   abbrev stand : (h : ℕ) × Stands (tree_as kind s.tree) h × (depth ≤ h)
   stand = standing_at tree on.to depth on.within on.deep
 
-  may_as : (are : List ℕ) → numbers_in s.tree depth w ≡ are → MayBuryAll s book are number
-  may_as are is = subst (λ (l : List ℕ). MayBuryAll s book l number) is may
+  may_as : (are : List ℕ) → numbers_in s.tree depth w ≡ are → MayBeBuriedInTurn s book are number
+  may_as are is = subst (λ (l : List ℕ). MayBeBuriedInTurn s book l number) is may
 
   pub window_first_may : MayBeBuried s book w.first.row number
-  window_first_may = let head = head_in kind stand.0 stand.1 depth stand.2 on in may_first (may_as (w.first.row ∷ head.0) head.1)
+  window_first_may = let head = head_in kind stand.0 stand.1 depth stand.2 on in (may_as (w.first.row ∷ head.0) head.1).each.0
 
   module _ {s₁ : Sheet} {book₁ : Book} (sheet_is : s₁ ≡ after_bury s w.first.row) (book_is : book₁ ≡ after_retire book w.first.row number) where
-    one : AreBuriedAll s s₁ book book₁ (w.first.row ∷ []) number
+    one : AreBuried s s₁ book book₁ (w.first.row ∷ []) number
     one = one_buried sheet_is book_is
 
-    pub window_one : w.last.max ≤ w.first.max → AreBuriedAll s s₁ book book₁ (numbers_in s.tree depth w) number
-    window_one few = subst (λ (l : List ℕ). AreBuriedAll s s₁ book book₁ l number) (sym (one_in kind stand.0 stand.1 depth stand.2 on few)) one
+    pub window_one : w.last.max ≤ w.first.max → AreBuried s s₁ book book₁ (numbers_in s.tree depth w) number
+    window_one few = subst (λ (l : List ℕ). AreBuried s s₁ book book₁ l number) (sym (one_in kind stand.0 stand.1 depth stand.2 on few)) one
 
     pub window_two_may : w.first.max < w.last.max → w.last.min ≤ w.first.max + 1 → MayBeBuried s₁ book₁ w.last.row number
-    window_two_may more few = may_first (may_later (w.first.row ∷ []) (w.last.row ∷ []) (may_as (w.first.row ∷ w.last.row ∷ []) (two_in kind stand.0 stand.1 depth stand.2 on more few)) one)
+    window_two_may more few = (may_later (w.first.row ∷ []) (w.last.row ∷ []) (may_as (w.first.row ∷ w.last.row ∷ []) (two_in kind stand.0 stand.1 depth stand.2 on more few)) one).each.0
 
-    pub window_two : {s₂ : Sheet} {book₂ : Book} → w.first.max < w.last.max → w.last.min ≤ w.first.max + 1 → s₂ ≡ after_bury s₁ w.last.row → book₂ ≡ after_retire book₁ w.last.row number → AreBuriedAll s s₂ book book₂ (numbers_in s.tree depth w) number
-    window_two {s₂} {book₂} more few then_is then_book = subst (λ (l : List ℕ). AreBuriedAll s s₂ book book₂ l number) (sym (two_in kind stand.0 stand.1 depth stand.2 on more few)) (more_buried (w.first.row ∷ []) (w.last.row ∷ []) one (one_buried then_is then_book))
+    pub window_two : {s₂ : Sheet} {book₂ : Book} → w.first.max < w.last.max → w.last.min ≤ w.first.max + 1 → s₂ ≡ after_bury s₁ w.last.row → book₂ ≡ after_retire book₁ w.last.row number → AreBuried s s₂ book book₂ (numbers_in s.tree depth w) number
+    window_two {s₂} {book₂} more few then_is then_book = subst (λ (l : List ℕ). AreBuried s s₂ book book₂ l number) (sym (two_in kind stand.0 stand.1 depth stand.2 on more few)) (more_buried (w.first.row ∷ []) (w.last.row ∷ []) one (one_buried then_is then_book))
 
     same_then : SameTree kind stand.0 s.tree s₁.tree
     same_then = tree_then stand.1 one
@@ -215,7 +215,7 @@ module _ {s : Sheet} {book : Book} {depth number : ℕ} {w : Window} {kind : Kin
       abbrev mid : List ℕ
       mid = numbers_between s.tree depth (w.first.max + 1) (w.last.min - 1)
 
-      all : MayBuryAll s book (w.first.row ∷ (mid ++ (w.last.row ∷ []))) number
+      all : MayBeBuriedInTurn s book (w.first.row ∷ (mid ++ (w.last.row ∷ []))) number
       all = may_as (w.first.row ∷ (mid ++ (w.last.row ∷ []))) (more_in kind stand.0 stand.1 depth stand.2 on many)
 
       pub window_stretch : IsStretchOn s₁.tree depth (w.first.max + 1) (w.last.min - 1)
@@ -224,31 +224,31 @@ module _ {s : Sheet} {book : Book} {depth number : ℕ} {w : Window} {kind : Kin
       mid_then : numbers_between s₁.tree depth (w.first.max + 1) (w.last.min - 1) ≡ mid
       mid_then = numbers_stay same_then depth (w.first.max + 1) (w.last.min - 1) stand.2
 
-      pub window_mid_may : MayBuryAll s₁ book₁ (numbers_between s₁.tree depth (w.first.max + 1) (w.last.min - 1)) number
-      window_mid_may = subst (λ (l : List ℕ). MayBuryAll s₁ book₁ l number) (sym mid_then) (may_front mid (w.last.row ∷ []) (may_later (w.first.row ∷ []) (mid ++ (w.last.row ∷ [])) all one))
+      pub window_mid_may : MayBeBuriedInTurn s₁ book₁ (numbers_between s₁.tree depth (w.first.max + 1) (w.last.min - 1)) number
+      window_mid_may = subst (λ (l : List ℕ). MayBeBuriedInTurn s₁ book₁ l number) (sym mid_then) (may_front mid (w.last.row ∷ []) (may_later (w.first.row ∷ []) (mid ++ (w.last.row ∷ [])) all one))
 
-      module _ {s₂ : Sheet} {book₂ : Book} (done : AreBuriedAll s₁ s₂ book₁ book₂ (numbers_between s₁.tree depth (w.first.max + 1) (w.last.min - 1)) number) where
-        two : AreBuriedAll s s₂ book book₂ (w.first.row ∷ mid) number
-        two = more_buried (w.first.row ∷ []) mid one (subst (λ (l : List ℕ). AreBuriedAll s₁ s₂ book₁ book₂ l number) mid_then done)
+      module _ {s₂ : Sheet} {book₂ : Book} (done : AreBuried s₁ s₂ book₁ book₂ (numbers_between s₁.tree depth (w.first.max + 1) (w.last.min - 1)) number) where
+        two : AreBuried s s₂ book book₂ (w.first.row ∷ mid) number
+        two = more_buried (w.first.row ∷ []) mid one (subst (λ (l : List ℕ). AreBuried s₁ s₂ book₁ book₂ l number) mid_then done)
 
         pub window_last_may : MayBeBuried s₂ book₂ w.last.row number
-        window_last_may = may_first (may_later (w.first.row ∷ mid) (w.last.row ∷ []) all two)
+        window_last_may = (may_later (w.first.row ∷ mid) (w.last.row ∷ []) all two).each.0
 
-        pub window_all : {s₃ : Sheet} {book₃ : Book} → s₃ ≡ after_bury s₂ w.last.row → book₃ ≡ after_retire book₂ w.last.row number → AreBuriedAll s s₃ book book₃ (numbers_in s.tree depth w) number
+        pub window_all : {s₃ : Sheet} {book₃ : Book} → s₃ ≡ after_bury s₂ w.last.row → book₃ ≡ after_retire book₂ w.last.row number → AreBuried s s₃ book book₃ (numbers_in s.tree depth w) number
         window_all {s₃} {book₃} then_is then_book =
-            subst (λ (l : List ℕ). AreBuriedAll s s₃ book book₃ l number) (sym (more_in kind stand.0 stand.1 depth stand.2 on many)) (more_buried (w.first.row ∷ mid) (w.last.row ∷ []) two (one_buried then_is then_book))
+            subst (λ (l : List ℕ). AreBuried s s₃ book book₃ l number) (sym (more_in kind stand.0 stand.1 depth stand.2 on many)) (more_buried (w.first.row ∷ mid) (w.last.row ∷ []) two (one_buried then_is then_book))
 
 -- ---- all windows
 
 module _ {s : Sheet} {book : Book} {depth number : ℕ} {w : Window} (above : List Window) {kind : Kind} (tree : IsTreeOf s.tree kind) (on : AreWindowsOn s.tree depth (w ∷ above))
-    (may : MayBuryAll s book (numbers_in_all s.tree depth (w ∷ above)) number) where
+    (may : MayBeBuriedInTurn s book (numbers_in_all s.tree depth (w ∷ above)) number) where
   abbrev up : (h : ℕ) × Stands (tree_as kind s.tree) h × (depth ≤ h)
   up = standing_at tree on.0.to depth on.0.within on.0.deep
 
-  pub this_may : MayBuryAll s book (numbers_in s.tree depth w) number
+  pub this_may : MayBeBuriedInTurn s book (numbers_in s.tree depth w) number
   this_may = may_front (numbers_in s.tree depth w) (numbers_in_all s.tree (depth - 1) above) may
 
-  module _ {s₁ : Sheet} {book₁ : Book} (done : AreBuriedAll s s₁ book book₁ (numbers_in s.tree depth w) number) where
+  module _ {s₁ : Sheet} {book₁ : Book} (done : AreBuried s s₁ book book₁ (numbers_in s.tree depth w) number) where
     same_up : SameTree kind up.0 s.tree s₁.tree
     same_up = tree_then up.1 done
 
@@ -261,11 +261,11 @@ module _ {s : Sheet} {book : Book} {depth number : ℕ} {w : Window} (above : Li
     numbers_above : numbers_in_all s₁.tree (depth - 1) above ≡ numbers_in_all s.tree (depth - 1) above
     numbers_above = all_numbers_stay same_up (depth - 1) above (let low = up.2 in omega arith)
 
-    pub above_may : MayBuryAll s₁ book₁ (numbers_in_all s₁.tree (depth - 1) above) number
-    above_may = subst (λ (l : List ℕ). MayBuryAll s₁ book₁ l number) (sym numbers_above) (may_later (numbers_in s.tree depth w) (numbers_in_all s.tree (depth - 1) above) may done)
+    pub above_may : MayBeBuriedInTurn s₁ book₁ (numbers_in_all s₁.tree (depth - 1) above) number
+    above_may = subst (λ (l : List ℕ). MayBeBuriedInTurn s₁ book₁ l number) (sym numbers_above) (may_later (numbers_in s.tree depth w) (numbers_in_all s.tree (depth - 1) above) may done)
 
-    pub all_windows : {s₂ : Sheet} {book₂ : Book} → AreBuriedAll s₁ s₂ book₁ book₂ (numbers_in_all s₁.tree (depth - 1) above) number → AreBuriedAll s s₂ book book₂ (numbers_in_all s.tree depth (w ∷ above)) number
-    all_windows {s₂} {book₂} rest = more_buried (numbers_in s.tree depth w) (numbers_in_all s.tree (depth - 1) above) done (subst (λ (l : List ℕ). AreBuriedAll s₁ s₂ book₁ book₂ l number) numbers_above rest)
+    pub all_windows : {s₂ : Sheet} {book₂ : Book} → AreBuried s₁ s₂ book₁ book₂ (numbers_in_all s₁.tree (depth - 1) above) number → AreBuried s s₂ book book₂ (numbers_in_all s.tree depth (w ∷ above)) number
+    all_windows {s₂} {book₂} rest = more_buried (numbers_in s.tree depth w) (numbers_in_all s.tree (depth - 1) above) done (subst (λ (l : List ℕ). AreBuried s₁ s₂ book₁ book₂ l number) numbers_above rest)
 
 -- a step to the right that has somewhere to go leads there
 pub far_leads : {n top : ℕ} {P : Type 0} (goes : Bool) → n < top → (goes ≡ false) ↔ (n ≡ top) → OnTrue goes P → P
@@ -282,9 +282,9 @@ pub record IsStretchSoFar (s s' : Sheet) (book book' : Book) (depth a b number :
   pub way_is : way ≡ path_in s.tree.table s.tree.root index
   pub step_is : step ≡ step_at way depth
   pub order : step.max ≤ b
-  pub buried : AreBuriedAll s s' book book' (numbers_between s.tree depth a step.max) number
+  pub buried : AreBuried s s' book book' (numbers_between s.tree depth a step.max) number
 
-module _ {s : Sheet} {book : Book} {depth a b number : ℕ} {kind : Kind} (tree : IsTreeOf s.tree kind) (on : IsStretchOn s.tree depth a b) (may : MayBuryAll s book (numbers_between s.tree depth a b) number) where
+module _ {s : Sheet} {book : Book} {depth a b number : ℕ} {kind : Kind} (tree : IsTreeOf s.tree kind) (on : IsStretchOn s.tree depth a b) (may : MayBeBuriedInTurn s book (numbers_between s.tree depth a b) number) where
   a_within : a ≤ greatest s.tree.table.width
   a_within = let order = on.order in let within = on.within in omega arith
 
@@ -311,7 +311,7 @@ module _ {s : Sheet} {book : Book} {depth a b number : ℕ} {kind : Kind} (tree 
   stretch_first_may {s₁} {way} {step} reads way_is is =
       let head = rows_head a on.order in
       let row : step.row ≡ number_of (row_at t depth a) = ap (λ (z : PathStep). z.row) (is ∙ (ap (λ (l : List PathStep). step_at l depth) way_is ∙ at_step a a_within)) in
-      subst (λ (n : ℕ). MayBeBuried s₁ book n number) (sym row) (may_first (may_then reads (subst (λ (l : List ℕ). MayBuryAll s book l number) head.1 may)))
+      subst (λ (n : ℕ). MayBeBuried s₁ book n number) (sym row) (may_then reads (subst (λ (l : List ℕ). MayBeBuriedInTurn s book l number) head.1 may)).each.0
 
   pub stretch_first : {s₁ s₂ : Sheet} {book₂ : Book} {way : List PathStep} {step : PathStep} → OnlyReads s s₁ → way ≡ path_in s.tree.table s.tree.root a → step ≡ step_at way depth → s₂ ≡ after_bury s₁ step.row → book₂ ≡ after_retire book step.row number
       → IsStretchSoFar s s₂ book book₂ depth a b number way step
@@ -332,7 +332,7 @@ module _ {s : Sheet} {book : Book} {depth a b number : ℕ} {kind : Kind} (tree 
         way_is = way_is;
         step_is = is;
         order = let ends = ends_by t deep.0 deep.1 a b depth on.order on.within deep.2 b_ends in omega arith;
-        buried = subst (λ (l : List ℕ). AreBuriedAll s s₂ book book₂ l number) (sym rows) (more_buried [] (step.row ∷ []) (reads_buried reads) (one_buried sheet_is book_is));
+        buried = subst (λ (l : List ℕ). AreBuried s s₂ book book₂ l number) (sym rows) (more_buried [] (step.row ∷ []) (reads_buried reads) (one_buried sheet_is book_is));
       }
 
   module _ {s₁ : Sheet} {book₁ : Book} {way : List PathStep} {st : PathStep} (far : IsStretchSoFar s s₁ book book₁ depth a b number way st) where
@@ -405,7 +405,7 @@ module _ {s : Sheet} {book : Book} {depth a b number : ℕ} {kind : Kind} (tree 
           )
 
       pub stretch_next_may : MayBeBuried s₂ book₁ st'.row number
-      stretch_next_may = may_first (may_then reads (may_later (numbers_between s.tree depth a st.max) (st'.row ∷ rows_split.0) (subst (λ (l : List ℕ). MayBuryAll s book l number) rows_split.1 may) far.buried))
+      stretch_next_may = (may_then reads (may_later (numbers_between s.tree depth a st.max) (st'.row ∷ rows_split.0) (subst (λ (l : List ℕ). MayBeBuriedInTurn s book l number) rows_split.1 may) far.buried)).each.0
 
       pub stretch_later : st.max < st'.max
       stretch_later =
@@ -427,6 +427,6 @@ module _ {s : Sheet} {book : Book} {depth a b number : ℕ} {kind : Kind} (tree 
             way_is = way_there;
             step_is = is;
             order = let ends = ends_by t deep.0 deep.1 n b depth n_low on.within deep.2 b_ends in omega arith;
-            buried = subst (λ (l : List ℕ). AreBuriedAll s s₃ book book₃ l number) (sym rows)
+            buried = subst (λ (l : List ℕ). AreBuried s s₃ book book₃ l number) (sym rows)
                 (more_buried (numbers_between s.tree depth a st.max) (st'.row ∷ []) far.buried (more_buried [] (st'.row ∷ []) (reads_buried reads) (one_buried sheet_is book_is)));
           }

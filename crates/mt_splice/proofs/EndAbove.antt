@@ -1,5 +1,6 @@
 -- Where rows that replace the root stand in a new one: the tree then, and its law of gaps.
-use Rattle.mt_splice.proofs.Prelude.{◌≡◌, ℕ, suc, ◌+◌, ◌<◌, ◌≤◌, List, ◌∷◌, ◌++◌, true, Some, length, refl, sym, ap, ◌∙◌, subst, arith, append-nil, deepest, most_rows, Book, Item, RowKind, Span, end_of, name_at, slots_of, spans_from, row_in-name_at, sizes, fills_end, Root, Tree, IsRow, GapLaw, kind_on, top_of, expand, Levels, tree_as, with_published, Sheet, Table, inner_of, spans_in, nine_levels, Climb, Top, AreBuriedAll, numbers_in_all, HasClimbed, EndsAbove, Stand, was_seen, AreAllHeld, IsPlanned, begin_at, depth_at, gone_by, heads_at, level_of, new_at, taken_by, Before, IsReplaced, with_root, Seen, passing, AreAllFromBelow, GapsBeside, TellGaps, high_of, low_of, Start, tree_with, IsNewRow, []}
+use Rattle.mt_splice.proofs.Prelude.{◌≡◌, ℕ, suc, ◌+◌, ◌<◌, ◌≤◌, List, ◌∷◌, ◌++◌, true, Some, length, refl, sym, ap, ◌∙◌, subst, arith, append-nil, deepest, most_rows, Book, Item, RowKind, Span, end_of, name_at, slots_of, spans_from, row_in-name_at, sizes, fills_end, Root, Tree, IsRow, GapLaw, kind_on, top_of, expand, Levels, tree_as, with_published, Sheet, Table, inner_of, spans_in, nine_levels, Climb, Top, numbers_in_all, HasClimbed, EndsAbove, Stand, was_seen, AreAllHeld, IsPlanned, begin_at, depth_at, gone_by, heads_at, level_of, new_at, taken_by, Before, IsReplaced, with_root, Seen, passing, AreAllFromBelow, GapsBeside, TellGaps, high_of, low_of, Start, tree_with, IsNewRow, []}
+use Rattle.mt_splice.proofs.Burials.{AreBuried}
 use Rattle.mt_splice.proofs.DraftedLedger.{new_row_stays}
 use Rattle.mt_splice.proofs.EndForms as forms
 use Rattle.mt_splice.proofs.EndGaps.{root_laws}
@@ -17,7 +18,7 @@ use Rattle.mt_splice.proofs.ToldRows.{gaps_were}
 use Rattle.mt_splice.proofs.WindowRows.{before_fills, behind_fills}
 use Rattle.mt_splice.proofs.WrittenRows.{new_spans}
 
-module _ {b : Before} {start : Start} {s s' : Sheet} {book book' : Book} {c : Climb} {top : Top} (hc : HasClimbed b start s book c top) (done : AreBuriedAll s s' book book' (numbers_in_all s.tree start.height c.windows.items) b.number)
+module _ {b : Before} {start : Start} {s s' : Sheet} {book book' : Book} {c : Climb} {top : Top} (hc : HasClimbed b start s book c top) (done : AreBuried s s' book book' (numbers_in_all s.tree start.height c.windows.items) b.number)
     (e : EndsAbove start s hc.layers hc.root hc.over top) where
   abbrev t : Tree
   t = start.tree

@@ -1,12 +1,13 @@
 -- Where one row is the root, or nothing is left: the law of gaps then, and that nothing takes the tree's place.
-use Rattle.mt_splice.proofs.Prelude.{◌≡◌, suc, ◌++◌, Some, None, length, ap, ◌∙◌, subst, arith, Book, Root, GapLaw, Levels, tree_as, with_published, Sheet, Climb, Top, AreBuriedAll, numbers_in_all, HasClimbed, EndsEmpty, EndsAtRoot, was_seen, AreAllHeld, IsPlanned, gone_by, taken_by, Before, IsReplaced, passing, AreAllFromBelow, GapsBeside, Start, tree_with}
+use Rattle.mt_splice.proofs.Prelude.{◌≡◌, suc, ◌++◌, Some, None, length, ap, ◌∙◌, subst, arith, Book, Root, GapLaw, Levels, tree_as, with_published, Sheet, Climb, Top, numbers_in_all, HasClimbed, EndsEmpty, EndsAtRoot, was_seen, AreAllHeld, IsPlanned, gone_by, taken_by, Before, IsReplaced, passing, AreAllFromBelow, GapsBeside, Start, tree_with}
+use Rattle.mt_splice.proofs.Burials.{AreBuried}
 use Rattle.mt_splice.proofs.EndForms as forms
 use Rattle.mt_splice.proofs.EndGaps.{root_laws}
 use Rattle.mt_splice.proofs.Ended.{taken, gone, ledger_then, held_then, old_beside, passing_all, root_level, gone_above}
 use Rattle.mt_splice.proofs.LayerGaps.{planned_tell}
 use Rattle.mt_splice.proofs.ToldRows.{gaps_were}
 
-module _ {b : Before} {start : Start} {s s' : Sheet} {book book' : Book} {c : Climb} {top : Top} (hc : HasClimbed b start s book c top) (done : AreBuriedAll s s' book book' (numbers_in_all s.tree start.height c.windows.items) b.number) where
+module _ {b : Before} {start : Start} {s s' : Sheet} {book book' : Book} {c : Climb} {top : Top} (hc : HasClimbed b start s book c top) (done : AreBuried s s' book book' (numbers_in_all s.tree start.height c.windows.items) b.number) where
   pub root_keeps_gaps : (e : EndsAtRoot start hc.layers hc.root hc.over top) → GapsBeside start (was_seen (taken hc)) (tree_as b.kind (with_published s'.tree Root e.x.word)) (Some (length e.lower))
   root_keeps_gaps e =
       let planned = subst (IsPlanned start) e.are hc.planned in

@@ -1,5 +1,6 @@
 -- Where one row takes the place of one, in a slot of the row above: the slot, the law of gaps, and what the row there tells.
-use Rattle.mt_splice.proofs.Prelude.{◌≡◌, ℕ, suc, List, ◌∷◌, ◌++◌, false, true, Some, length, refl, sym, ap, ◌∙◌, subst, arith, append-nil, finds_room, Book, Item, RowKind, Gapped, Span, row_in, spans_from, PathStep, step_in, place, Place, Slot, Tree, GapLaw, kind_on, longest_below, Levels, is_row_of, tally, times, StandsAt, tree_as, with_published, IsSlotAt, root_of, with_child, Sheet, inner_of, level_next, times_split, levels_shared, tally-append, one_of_parts, stands_at, times_in_once, Climb, Top, TellsBelow, AreBuriedAll, numbers_in_all, HasClimbed, EndsInSlot, IsEndPlace, was_seen, AreAllHeld, begin_at, gone_by, heads_at, Before, IsReplaced, passing, AreAllFromBelow, GapsBeside, TellGaps, before, behind, high_of, in_place, low_of, row_at, Start, rows_at, tree_with, [], now}
+use Rattle.mt_splice.proofs.Prelude.{◌≡◌, ℕ, suc, List, ◌∷◌, ◌++◌, false, true, Some, length, refl, sym, ap, ◌∙◌, subst, arith, append-nil, finds_room, Book, Item, RowKind, Gapped, Span, row_in, spans_from, PathStep, step_in, place, Place, Slot, Tree, GapLaw, kind_on, longest_below, Levels, is_row_of, tally, times, StandsAt, tree_as, with_published, IsSlotAt, root_of, with_child, Sheet, inner_of, level_next, times_split, levels_shared, tally-append, one_of_parts, stands_at, times_in_once, Climb, Top, TellsBelow, numbers_in_all, HasClimbed, EndsInSlot, IsEndPlace, was_seen, AreAllHeld, begin_at, gone_by, heads_at, Before, IsReplaced, passing, AreAllFromBelow, GapsBeside, TellGaps, before, behind, high_of, in_place, low_of, row_at, Start, rows_at, tree_with, [], now}
+use Rattle.mt_splice.proofs.Burials.{AreBuried}
 use Rattle.mt_splice.proofs.EndForms as forms
 use Rattle.mt_splice.proofs.Ended.{taken, gone, ledger_then, planned, high, within, old_beside, tree_stands, has, same_levels, words, held_stored, stand_below, x_is, level_is, slot_replaces, gone_above}
 use Rattle.mt_splice.proofs.LayerGaps.{KeepGaps, each_old, old_laws, planned_tell}
@@ -17,7 +18,7 @@ one_begins x gap lo items are spans =
     let here : x ≡ record { first = lo; last = x.last; word = x.word } = cc in
     sym (ap (λ (y : Span). y.first) here)
 
-module _ {b : Before} {start : Start} {s s' : Sheet} {book book' : Book} {c : Climb} {top : Top} (hc : HasClimbed b start s book c top) (done : AreBuriedAll s s' book book' (numbers_in_all s.tree start.height c.windows.items) b.number)
+module _ {b : Before} {start : Start} {s s' : Sheet} {book book' : Book} {c : Climb} {top : Top} (hc : HasClimbed b start s book c top) (done : AreBuried s s' book book' (numbers_in_all s.tree start.height c.windows.items) b.number)
     (e : EndsInSlot start hc.layers hc.root hc.over top) where
   abbrev t : Tree
   t = start.tree

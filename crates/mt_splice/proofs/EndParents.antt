@@ -1,9 +1,9 @@
 -- When a replacement is published and the children of its new inner rows are tended, all parent words are right.
-use Rattle.mt_splice.proofs.Prelude.{◌≡◌, ◌≢◌, ◌⊎◌, ℕ, zero, suc, ◌+◌, ◌-◌, ◌<◌, ◌≤◌, List, ◌∷◌, Option, Some, None, true, false, length, refl, sym, ap, ◌∙◌, subst, inl, inr, arith, nat_lt, is_some, if◌then◌else◌, slice_get, cases_Bool, slice_get_within, Width, columns, first_row, RowKind, Span, row_in, named_kind, named_row, parent_at, slot_column, Draft, Live, Place, Root, Slot, Table, column, inner_kind, spans_in, root_span, slots_of, some_columns, Levels, is_row_of, Rooted, Sheet, IsPlace, life_of, is_buried, tree_as, with_published, Published, IsPlaceToPublish, root_of, same_spans, Shared, levels_shared, NewRow, Seen, passing, now, child_word, child_row, AreChildren, Before, row_seen, HasParents, StandsAs, count_in, IsEndPlace, IsTop, OnlyParents, MayTendRows, AreRowsTended, MayTendTop, MayTendTopAt, IsTopTendedAt, row_most, levels_at, published_rows, published_width, was_seen, []}
+use Rattle.mt_splice.proofs.Prelude.{◌≡◌, ◌≢◌, ◌⊎◌, ℕ, zero, suc, ◌+◌, ◌-◌, ◌<◌, ◌≤◌, List, ◌∷◌, Option, Some, None, true, false, length, refl, sym, ap, ◌∙◌, subst, inl, inr, arith, nat_lt, is_some, if◌then◌else◌, slice_get, cases_Bool, slice_get_within, Width, columns, first_row, RowKind, Span, row_in, named_kind, named_row, parent_at, slot_column, Draft, Live, Place, Root, Slot, Table, column, inner_kind, spans_in, root_span, slots_of, some_columns, Levels, is_row_of, Rooted, Sheet, IsPlace, life_of, is_buried, tree_as, with_published, Published, IsPlaceToPublish, root_of, same_spans, Shared, levels_shared, NewRow, Seen, passing, now, child_word, child_row, AreChildren, Before, row_seen, HasParents, StandsAs, count_in, IsEndPlace, IsTop, OnlyParents, AreTendedTo, MayTendTop, MayTendTopAt, IsTopTendedAt, row_most, levels_at, published_rows, published_width, was_seen, []}
 use Rattle.mt_rows.specs.Laws as laws
 use Rattle.mt_rows.proofs.Reached as reached
 use Rattle.mt_splice.proofs.Drafts.{other_row}
-use Rattle.mt_splice.proofs.EndTending.{only_width, kept_column, only_more, top_only, top_kept}
+use Rattle.mt_splice.proofs.EndTending.{none_tended_yet, only_width, kept_column, only_more, top_only, top_kept}
 use Rattle.mt_splice.proofs.KeptTrees.{Keeps, KeepsAs, kept_level, kept_shared}
 use Rattle.mt_splice.proofs.EndTrees.{none_or_some, count_once}
 use Rattle.mt_splice.proofs.EndHoles.{same_place_spans, at_on_level, top_span, top_get, slot_get}
@@ -412,10 +412,8 @@ module _ (f : ends.Finish) where
             apart = λ i j low_i low_j same. (same_parent n n i j one one low_i low_j same).1;
           }
 
-      pub may_tend_some : MayTendRows s₁ (inner_kind b.kind) f.inner
-      may_tend_some = record {
-        each = λ i n at. are_children n (reached.one_of_get f.inner i n at);
-        apart = λ i j n m slot slot' lt at_n at_m low low' same.
+      pub may_tend_some : AreTendedTo s₁ s₁ (inner_kind b.kind) f.inner 0
+      may_tend_some = none_tended_yet (λ i n at. are_children n (reached.one_of_get f.inner i n at)) (λ i j n m slot slot' lt at_n at_m low low' same.
             (let one_n = reached.one_of_get f.inner i n at_n in
             let one_m = reached.one_of_get f.inner j m at_m in
             let rows = (same_parent n m slot slot' one_n one_m low low' same).0 in
@@ -424,8 +422,7 @@ module _ (f : ends.Finish) where
             let once = count_once later f.may.new m.row (ends.stands_later f) in
             let same_index = made_once s.tree.table f.may.taken i j n m (omega arith)
             (subst (λ (l : List NewRow). slice_get l i ≡ Some n) f.may.inner_rows at_n) (subst (λ (l : List NewRow). slice_get l j ≡ Some m) f.may.inner_rows at_m) rows in
-            omega arith);
-      }
+            omega arith))
 
       may_tend_slot : (row col : ℕ) → f.place ≡ Slot row col → MayTendTop s₁ (inner_kind b.kind) row col f.word
       may_tend_slot row col is =
@@ -454,12 +451,12 @@ module _ (f : ends.Finish) where
 
       -- ---- the parent words when all is tended
 
-      module _ (s₂ s₃ : Sheet) (tended : AreRowsTended s₁ s₂ (inner_kind b.kind) f.inner) (top : IsTopTendedAt s₂ s₃ (inner_kind b.kind) f.place f.word) where
+      module _ (s₂ s₃ : Sheet) (tended : AreTendedTo s₁ s₂ (inner_kind b.kind) f.inner (length f.inner)) (top : IsTopTendedAt s₂ s₃ (inner_kind b.kind) f.place f.word) where
         -- a row that is neither the top row nor a child of a row in the list keeps its parent word
         untended : (r : ℕ) → ((n : NewRow) (slot : ℕ) (c : MadeChild n slot) → row_in c.child.word ≢ r) → ((row col : ℕ) → f.place ≡ Slot row col → r ≢ row_in f.word) → column s₃.tree.table r 0 ≡ column s.tree.table r 0
         untended r not_made not_top =
             top_kept s₂ s₃ (inner_kind b.kind) f.place f.word r top not_top
-            ∙ (tended.others r (λ i n slot at low same.
+            ∙ (tended.others r (λ i n slot _ at low same.
             (let c = made_child n slot (reached.one_of_get f.inner i n at) low in
             not_made n slot c (ap row_in (sym (child_word₁ n slot c)) ∙ same)))
             ∙ (ap (λ (t : Table). column t r 0) table₁ ∙ parent_stays r))
@@ -491,7 +488,7 @@ module _ (f : ends.Finish) where
             let again : was_seen f.may.taken row ≡ true = subst (λ (r : ℕ). was_seen f.may.taken r ≡ true) rows taken in
             absurd (cc)))
             ∙ (ap (λ (v : ℕ). column s₂.tree.table (row_in v) 0) (sym word)
-            ∙ tended.children at.0 (record { row = row_in x.word; count = length (spans_in later.table x) }) i at.1 low)
+            ∙ tended.children at.0 n i (slice_get_within f.inner at.0 n at.1) at.1 low)
 
         child_of_kept : (k i : ℕ) (x y : Span) → reached.OnLevel later.table h (root_of later) (suc k) x → ends.taken_count f (row_in x.word) ≡ 0 → slice_get (spans_in later.table x) i ≡ Some y → column s₃.tree.table (row_in y.word) 0 ≡ parent_at (row_in x.word) i
         child_of_kept k i x y on none get = elim (kept_children k i x y on none get) [

@@ -1,13 +1,7 @@
 -- The children of inner rows are tended, row by row.
-use Rattle.mt_splice.proofs.Prelude.{◌≡◌, ◌≢◌, ℕ, zero, suc, ◌+◌, ◌-◌, ◌*◌, ◌<◌, ◌≤◌, List, [], ◌∷◌, Some, Bool, length, refl, sym, ap, ◌∙◌, subst, ⊎_elim, inl, arith, length-set, false, slice_index_or, slice_set, slice_get, slice_get_within, cases_eq, Width, columns, first_row, RowKind, row_in, named_row, parent_at, slot_column, Life, New, Place, Root, Slot, slots_of, some_columns, slot_above, slot_within, column, Rooted, Sheet, IsWhole, IsPlace, MayTend, life_of, is_buried, tended, NewRow, with_words, child_word, child_row, IsChild, AreChildren, AreTended, OnlyParents, MayTendRows, AreRowsTended, MayTendTop, MayTendTopAt, IsTopTended, IsTopTendedAt}
+use Rattle.mt_splice.proofs.Prelude.{◌≡◌, ◌≢◌, ℕ, zero, suc, ◌+◌, ◌-◌, ◌*◌, ◌<◌, ◌≤◌, List, [], ◌∷◌, Some, Bool, length, refl, sym, ap, ◌∙◌, subst, ⊎_elim, inl, arith, length-set, false, slice_index_or, slice_set, slice_get, slice_get_within, cases_eq, Width, columns, first_row, RowKind, row_in, named_row, parent_at, slot_column, Life, New, Place, Root, Slot, slots_of, some_columns, slot_above, slot_within, column, Rooted, Sheet, IsWhole, IsPlace, MayTend, life_of, is_buried, tended, NewRow, with_words, child_word, child_row, IsChild, AreChildren, AreTended, OnlyParents, AreTendedTo, MayTendTop, MayTendTopAt, IsTopTended, IsTopTendedAt}
 use Rattle.mt_splice.proofs.Drafts.{other_row, other_column, same_column}
 use Rattle.mt_splice.proofs.Tending.{own_parent}
-
--- of the rows the first ones are tended
-pub record AreRowsTendedUpTo (s s' : Sheet) (kind : RowKind) (new_inner_rows : List NewRow) (done : ℕ) : Type 0 where
-  pub only : OnlyParents s s'
-  pub children : (i : ℕ) (n : NewRow) (slot : ℕ) → i < done → slice_get new_inner_rows i ≡ Some n → slot < n.count → column s'.tree.table (child_row s.tree.table kind n.row slot) 0 ≡ parent_at n.row slot
-  pub others : (r : ℕ) → ((i : ℕ) (n : NewRow) (slot : ℕ) → i < done → slice_get new_inner_rows i ≡ Some n → slot < n.count → child_row s.tree.table kind n.row slot ≢ r) → column s'.tree.table r 0 ≡ column s.tree.table r 0
 
 pub only_rows : (s s' : Sheet) → OnlyParents s s' → s'.tree.rows ≡ s.tree.rows
 only_rows s s' only = ap (λ (v : Rooted). v.rows) only.tree
@@ -34,12 +28,11 @@ only_tended s s' kind row count done = record {
   kept = λ r c above within. done.others r c within (λ none. absurd (omega arith));
 }
 
-pub no_rows_tended : (s : Sheet) (kind : RowKind) (new_inner_rows : List NewRow) → AreRowsTendedUpTo s s kind new_inner_rows 0
-no_rows_tended s kind new_inner_rows = record {
-  only = only_none s;
-  children = λ i n slot low at below. absurd (omega arith);
-  others = λ r none. refl;
-}
+-- rows whose children may be tended, of which none is yet
+pub none_tended_yet : {s : Sheet} {kind : RowKind} {new_inner_rows : List NewRow} → ((i : ℕ) (n : NewRow) → slice_get new_inner_rows i ≡ Some n → AreChildren s kind n.row n.count)
+    → ((i j : ℕ) (n m : NewRow) (slot slot' : ℕ) → i < j → slice_get new_inner_rows i ≡ Some n → slice_get new_inner_rows j ≡ Some m → slot < n.count → slot' < m.count → child_row s.tree.table kind n.row slot ≢ child_row s.tree.table kind m.row slot')
+    → AreTendedTo s s kind new_inner_rows 0
+none_tended_yet {s} each apart = record { each = each; apart = apart; only = only_none s; children = λ i n slot low at below. absurd (omega arith); others = λ r none. refl }
 
 -- words in slots stay while only parent words are written
 word_stays : (s t : Sheet) (kind : RowKind) (row slot : ℕ) → OnlyParents s t → slot < slots_of s.tree.table.width kind → child_word t.tree.table kind row slot ≡ child_word s.tree.table kind row slot
@@ -86,16 +79,16 @@ get_at [] i d within = absurd (omega arith)
 get_at (x ∷ xs) zero d within = refl
 get_at (x ∷ xs) (suc i) d within = get_at xs i d (omega arith)
 
-pub children_still : (s t : Sheet) (kind : RowKind) (new_inner_rows : List NewRow) (i : ℕ) (d : NewRow) → MayTendRows s kind new_inner_rows → AreRowsTendedUpTo s t kind new_inner_rows i → i < length new_inner_rows
+pub children_still : (s t : Sheet) (kind : RowKind) (new_inner_rows : List NewRow) (i : ℕ) (d : NewRow) → AreTendedTo s t kind new_inner_rows i → i < length new_inner_rows
     → AreChildren t kind (slice_index_or new_inner_rows i d).row (slice_index_or new_inner_rows i d).count
-children_still s t kind new_inner_rows i d may done within =
+children_still s t kind new_inner_rows i d done within =
     let n = slice_index_or new_inner_rows i d in
-    children_stay s t kind n.row n.count done.only (may.each i n (get_at new_inner_rows i d within))
+    children_stay s t kind n.row n.count done.only (done.each i n (get_at new_inner_rows i d within))
 
-module _ (s t t' : Sheet) (kind : RowKind) (new_inner_rows : List NewRow) (i : ℕ) (n : NewRow) (may : MayTendRows s kind new_inner_rows) (done : AreRowsTendedUpTo s t kind new_inner_rows i) (at : slice_get new_inner_rows i ≡ Some n)
+module _ (s t t' : Sheet) (kind : RowKind) (new_inner_rows : List NewRow) (i : ℕ) (n : NewRow) (done : AreTendedTo s t kind new_inner_rows i) (at : slice_get new_inner_rows i ≡ Some n)
     (tended : AreTended t t' kind n.row n.count) where
   row_now : (slot : ℕ) → slot < n.count → child_row t.tree.table kind n.row slot ≡ child_row s.tree.table kind n.row slot
-  row_now slot below = let slots = (may.each i n at).slots in ap row_in (word_stays s t kind n.row slot done.only (omega arith))
+  row_now slot below = let slots = (done.each i n at).slots in ap row_in (word_stays s t kind n.row slot done.only (omega arith))
 
   kept_now : (r : ℕ) → ((slot : ℕ) → slot < n.count → child_row s.tree.table kind n.row slot ≢ r) → column t'.tree.table r 0 ≡ column t.tree.table r 0
   kept_now r other = tended.others r 0 (some_columns t.tree.table.width) (λ _ slot below same. other slot below (sym (row_now slot below) ∙ same))
@@ -106,28 +99,32 @@ module _ (s t t' : Sheet) (kind : RowKind) (new_inner_rows : List NewRow) (i : �
       subst (λ (k : NewRow). (slot : ℕ) → slot < k.count → column t'.tree.table (child_row s.tree.table kind k.row slot) 0 ≡ parent_at k.row slot) same
       (λ slot below. ap (λ (r : ℕ). column t'.tree.table r 0) (sym (row_now slot below)) ∙ tended.children slot below) slot below)
       (λ (off : j ≢ i). let before : j < i = omega (arith, off) in
-      kept_now (child_row s.tree.table kind m.row slot) (λ other low_other same. may.apart j i m n slot other before at_m at below low_other (sym same))
+      kept_now (child_row s.tree.table kind m.row slot) (λ other low_other same. done.apart j i m n slot other before at_m at below low_other (sym same))
       ∙ done.children j m slot before at_m below) (cases_eq j i)
     where
       one_item : {a c : NewRow} → Some a ≡ Some c → a ≡ c
       one_item same = cc
 
-  one_more_row : AreRowsTendedUpTo s t' kind new_inner_rows (i + 1)
+  one_more_row : AreTendedTo s t' kind new_inner_rows (i + 1)
   one_more_row = record {
+    each = done.each;
+    apart = done.apart;
     only = only_more s t t' done.only (only_tended t t' kind n.row n.count tended);
     children = children_now;
     others = λ r other. kept_now r (λ slot below. other i n slot (omega arith) at below) ∙ done.others r (λ j m slot low at_m below. other j m slot (omega arith) at_m below);
   }
 
-pub next_row_tended : (s t t' : Sheet) (kind : RowKind) (new_inner_rows : List NewRow) (i : ℕ) (d : NewRow) → MayTendRows s kind new_inner_rows → AreRowsTendedUpTo s t kind new_inner_rows i → i < length new_inner_rows
-    → AreTended t t' kind (slice_index_or new_inner_rows i d).row (slice_index_or new_inner_rows i d).count → AreRowsTendedUpTo s t' kind new_inner_rows (i + 1)
-next_row_tended s t t' kind new_inner_rows i d may done within tended = one_more_row s t t' kind new_inner_rows i (slice_index_or new_inner_rows i d) may done (get_at new_inner_rows i d within) tended
+pub next_row_tended : (s t t' : Sheet) (kind : RowKind) (new_inner_rows : List NewRow) (i : ℕ) (d : NewRow) → AreTendedTo s t kind new_inner_rows i → i < length new_inner_rows
+    → AreTended t t' kind (slice_index_or new_inner_rows i d).row (slice_index_or new_inner_rows i d).count → AreTendedTo s t' kind new_inner_rows (i + 1)
+next_row_tended s t t' kind new_inner_rows i d done within tended = one_more_row s t t' kind new_inner_rows i (slice_index_or new_inner_rows i d) done (get_at new_inner_rows i d within) tended
 
-pub all_rows_tended : (s s' : Sheet) (kind : RowKind) (new_inner_rows : List NewRow) (done : ℕ) → length new_inner_rows ≤ done → AreRowsTendedUpTo s s' kind new_inner_rows done → AreRowsTended s s' kind new_inner_rows
+pub all_rows_tended : (s s' : Sheet) (kind : RowKind) (new_inner_rows : List NewRow) (done : ℕ) → length new_inner_rows ≤ done → AreTendedTo s s' kind new_inner_rows done → AreTendedTo s s' kind new_inner_rows (length new_inner_rows)
 all_rows_tended s s' kind new_inner_rows done all tended = record {
+  each = tended.each;
+  apart = tended.apart;
   only = tended.only;
-  children = λ i n slot at below. tended.children i n slot (let within = slice_get_within new_inner_rows i n at in omega arith) at below;
-  others = λ r other. tended.others r (λ i n slot low at below. other i n slot at below);
+  children = λ i n slot low at below. tended.children i n slot (omega arith) at below;
+  others = λ r other. tended.others r (λ i n slot low at below. other i n slot (slice_get_within new_inner_rows i n at) at below);
 }
 
 -- ---- one word is stored, in a column that is not the parent word's

@@ -1,5 +1,5 @@
 -- From a replacement that is written and buried to one that is done.
-use Rattle.mt_splice.proofs.Prelude.{◌≡◌, ◌≢◌, ℕ, suc, inl, ◌+◌, ◌<◌, ◌≤◌, List, Option, Some, None, true, refl, sym, ap, ◌∙◌, subst, arith, slice_index_or, Call, Reply, first_row, RowKind, row_in, dead_mark, Book, Tree, Life, New, Live, Dead, Place, Root, Slot, column, inner_kind, inner_of, is_row_of, Sheet, life_of, word_at, tree_as, is_reached, with_published, MayPublish, Published, NewRow, passing, Start, now, child_row, Before, row_seen, HasParents, IsSpliced, TellsBelow, TellsGapAt, StandsAs, count_in, IsEndPlace, MayPublishEnd, MayTendRows, AreRowsTended, MayTendTopAt, IsTopTendedAt}
+use Rattle.mt_splice.proofs.Prelude.{◌≡◌, ◌≢◌, ℕ, suc, inl, ◌+◌, ◌<◌, ◌≤◌, List, Option, Some, None, true, length, refl, sym, ap, ◌∙◌, subst, arith, slice_index_or, Call, Reply, first_row, RowKind, row_in, dead_mark, Book, Tree, Life, New, Live, Dead, Place, Root, Slot, column, inner_kind, inner_of, is_row_of, Sheet, life_of, word_at, tree_as, is_reached, with_published, MayPublish, Published, NewRow, passing, Start, now, child_row, Before, row_seen, HasParents, IsSpliced, TellsBelow, TellsGapAt, StandsAs, count_in, IsEndPlace, MayPublishEnd, AreTendedTo, MayTendTopAt, IsTopTendedAt}
 use Rattle.mt_rows.specs.Laws as laws
 use Rattle.mt_rows.proofs.Reached as reached
 use Rattle.mt_splice.proofs.EndHoles.{at_on_level}
@@ -7,7 +7,7 @@ use Rattle.mt_splice.proofs.EndLists.{seen_some}
 use Rattle.mt_splice.proofs.EndMade.{made_seen}
 use Rattle.mt_splice.proofs.EndAfter.{outcome, told_after}
 use Rattle.mt_splice.proofs.EndFacts.{life_if_buried, spliced}
-use Rattle.mt_splice.proofs.EndTending.{only_more, top_only, top_kept, top_still}
+use Rattle.mt_splice.proofs.EndTending.{none_tended_yet, only_more, top_only, top_kept, top_still}
 use Rattle.mt_splice.proofs.EndParents.{parent_stays, may_tend_some, may_tend_place, has_parents}
 use Rattle.mt_splice.proofs.EndPublish as ends
 
@@ -39,11 +39,8 @@ none_in_slot f (Some h) row col is_old none at =
 
 -- ---- what may be tended
 
-tend_rows_by : (f : ends.Finish) (s₁ : Sheet) (new : Option ℕ) → f.may.new ≡ new → Published f.sheet s₁ f.place f.word f.call f.reply → MayTendRows s₁ (inner_kind f.before.kind) f.inner
-tend_rows_by f s₁ None is done = record {
-  each = λ i n at. absurd (none_made f n is (reached.one_of_get f.inner i n at));
-  apart = λ i j n m slot slot' lt at_n at_m low low' same. absurd (none_made f n is (reached.one_of_get f.inner i n at_n));
-}
+tend_rows_by : (f : ends.Finish) (s₁ : Sheet) (new : Option ℕ) → f.may.new ≡ new → Published f.sheet s₁ f.place f.word f.call f.reply → AreTendedTo s₁ s₁ (inner_kind f.before.kind) f.inner 0
+tend_rows_by f s₁ None is done = none_tended_yet (λ i n at. absurd (none_made f n is (reached.one_of_get f.inner i n at))) (λ i j n m slot slot' lt at_n at_m low low' same. absurd (none_made f n is (reached.one_of_get f.inner i n at_n)))
 tend_rows_by f s₁ (Some h) is done = may_tend_some f h is s₁ done
 
 tend_top_by : (f : ends.Finish) (s₁ : Sheet) (new : Option ℕ) (place : Place) → f.may.new ≡ new → f.place ≡ place → IsEndPlace (now f.start f.sheet) f.may.gone f.may.old place → Published f.sheet s₁ f.place f.word f.call f.reply → MayTendTopAt s₁ (inner_kind f.before.kind) place f.word
@@ -53,13 +50,13 @@ tend_top_by f s₁ (Some h) (Slot row col) is is_place at done = may_tend_place 
 
 -- ---- all is done
 
-parents_by : (f : ends.Finish) (s₁ s₂ s₃ : Sheet) (new : Option ℕ) → f.may.new ≡ new → Published f.sheet s₁ f.place f.word f.call f.reply → AreRowsTended s₁ s₂ (inner_kind f.before.kind) f.inner → IsTopTendedAt s₂ s₃ (inner_kind f.before.kind) f.place f.word
+parents_by : (f : ends.Finish) (s₁ s₂ s₃ : Sheet) (new : Option ℕ) → f.may.new ≡ new → Published f.sheet s₁ f.place f.word f.call f.reply → AreTendedTo s₁ s₂ (inner_kind f.before.kind) f.inner (length f.inner) → IsTopTendedAt s₂ s₃ (inner_kind f.before.kind) f.place f.word
     → StandsAs (tree_as f.before.kind s₃.tree) new → HasParents (tree_as f.before.kind s₃.tree)
 parents_by f s₁ s₂ s₃ None is done tended top stands = inl stands
 parents_by f s₁ s₂ s₃ (Some h) is done tended top stands = has_parents f h is s₁ done s₂ s₃ tended top stands
 
 -- a row that is gone keeps its dead mark, since only live rows are tended
-module _ (f : ends.Finish) (s₁ s₂ s₃ : Sheet) (done : Published f.sheet s₁ f.place f.word f.call f.reply) (may : MayTendRows s₁ (inner_kind f.before.kind) f.inner) (tended : AreRowsTended s₁ s₂ (inner_kind f.before.kind) f.inner) (may_top : MayTendTopAt s₂ (inner_kind f.before.kind) f.place f.word)
+module _ (f : ends.Finish) (s₁ s₂ s₃ : Sheet) (done : Published f.sheet s₁ f.place f.word f.call f.reply) (tended : AreTendedTo s₁ s₂ (inner_kind f.before.kind) f.inner (length f.inner)) (may_top : MayTendTopAt s₂ (inner_kind f.before.kind) f.place f.word)
     (top : IsTopTendedAt s₂ s₃ (inner_kind f.before.kind) f.place f.word) where
   dead_now : (row : ℕ) → is_reached f.before.sheet.tree row ≡ true → ends.new_count f row ≡ 0 → life_of s₁.lives row ≡ Dead (f.sheet.ended + 1)
   dead_now row was none =
@@ -83,7 +80,7 @@ module _ (f : ends.Finish) (s₁ s₂ s₃ : Sheet) (done : Published f.sheet s�
   marked_end row was none =
       let some = ends.was_reached f row was in
       top_kept s₂ s₃ (inner_kind f.before.kind) f.place f.word row top (top_other f.place may_top row was none)
-      ∙ (tended.others row (λ i n slot at below. not_live row (child_row s₁.tree.table (inner_kind f.before.kind) n.row slot) was none ((may.each i n at).each slot below).live)
+      ∙ (tended.others row (λ i n slot _ at below. not_live row (child_row s₁.tree.table (inner_kind f.before.kind) n.row slot) was none ((tended.each i n at).each slot below).live)
       ∙ (ap (λ (x : Sheet). column x.tree.table row 0) done.rest
       ∙ (parent_stays f row ∙ (ends.ledger f).marks row was (ends.some_gone f row (ends.was_gone f row some none)))))
 
@@ -101,21 +98,20 @@ module _ {b : Before} {start : Start} {s : Sheet} {book : Book} {inner : List Ne
     is_inner : inner_kind b.kind ≡ kind
     is_inner = sym (is ∙ ap (λ (t : Tree). inner_of t.gapped) may.case.was.tree)
 
-    pub may_tend_rows : {s₁ : Sheet} → Published s s₁ place word call reply → MayTendRows s₁ kind inner
-    may_tend_rows {s₁} done = subst (λ (k : RowKind). MayTendRows s₁ k inner) is_inner (tend_rows_by f s₁ may.new refl done)
+    pub may_tend_rows : {s₁ : Sheet} → Published s s₁ place word call reply → AreTendedTo s₁ s₁ kind inner 0
+    may_tend_rows {s₁} done = subst (λ (k : RowKind). AreTendedTo s₁ s₁ k inner 0) is_inner (tend_rows_by f s₁ may.new refl done)
 
-    pub may_tend_top_now : {s₁ s₂ : Sheet} → Published s s₁ place word call reply → AreRowsTended s₁ s₂ kind inner → MayTendTopAt s₂ kind place word
+    pub may_tend_top_now : {s₁ s₂ : Sheet} → Published s s₁ place word call reply → AreTendedTo s₁ s₂ kind inner (length inner) → MayTendTopAt s₂ kind place word
     may_tend_top_now {s₁} {s₂} done tended = top_still s₁ s₂ kind place word tended.only (subst (λ (k : RowKind). MayTendTopAt s₁ k place word) is_inner (tend_top_by f s₁ may.new place refl refl may.at done))
 
-    pub spliced_end : {s₁ s₂ s₃ : Sheet} → Published s s₁ place word call reply → AreRowsTended s₁ s₂ kind inner → IsTopTendedAt s₂ s₃ kind place word → IsSpliced b.kind b.sheet s₃ b.book book b.number call reply place start.first start.last
+    pub spliced_end : {s₁ s₂ s₃ : Sheet} → Published s s₁ place word call reply → AreTendedTo s₁ s₂ kind inner (length inner) → IsTopTendedAt s₂ s₃ kind place word → IsSpliced b.kind b.sheet s₃ b.book book b.number call reply place start.first start.last
     spliced_end {s₁} {s₂} {s₃} done tended top =
         let o = outcome f s₁ s₃ done (only_more s₁ s₂ s₃ tended.only (top_only s₂ s₃ kind place word top)) in
-        let rows_tended = subst (λ (k : RowKind). AreRowsTended s₁ s₂ k inner) (sym is_inner) tended in
+        let rows_tended = subst (λ (k : RowKind). AreTendedTo s₁ s₂ k inner (length inner)) (sym is_inner) tended in
         let top_tended = subst (λ (k : RowKind). IsTopTendedAt s₂ s₃ k place word) (sym is_inner) top in
-        let may_rows = tend_rows_by f s₁ may.new refl done in
         let may_top = subst (λ (k : RowKind). MayTendTopAt s₂ k place word) (sym is_inner) (may_tend_top_now done tended) in
         spliced f s₃ o (parents_by f s₁ s₂ s₃ may.new refl done rows_tended top_tended o.stands)
-        (λ row was not. marked_end f s₁ s₂ s₃ done may_rows rows_tended may_top top_tended row was (ends.later_unreached f row (sym (o.reached row) ∙ not)))
+        (λ row was not. marked_end f s₁ s₂ s₃ done rows_tended may_top top_tended row was (ends.later_unreached f row (sym (o.reached row) ∙ not)))
 
-    pub told_end : {s₁ s₂ : Sheet} (s₃ : Sheet) → Published s s₁ place word call reply → AreRowsTended s₁ s₂ kind inner → IsTopTendedAt s₂ s₃ kind place word → (row col gap : ℕ) → place ≡ Slot row col → TellsBelow b.kind (with_published s.tree place word) word gap → TellsGapAt b.kind s₃.tree place gap
+    pub told_end : {s₁ s₂ : Sheet} (s₃ : Sheet) → Published s s₁ place word call reply → AreTendedTo s₁ s₂ kind inner (length inner) → IsTopTendedAt s₂ s₃ kind place word → (row col gap : ℕ) → place ≡ Slot row col → TellsBelow b.kind (with_published s.tree place word) word gap → TellsGapAt b.kind s₃.tree place gap
     told_end {s₁} {s₂} s₃ done tended top row col gap at tells = told_after f s₁ s₃ done (only_more s₁ s₂ s₃ tended.only (top_only s₂ s₃ kind place word top)) row col gap at tells

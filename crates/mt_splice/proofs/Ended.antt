@@ -1,10 +1,11 @@
 -- The end of a climb: what is to be buried, and what stands when it is and the word is published.
-use Rattle.mt_splice.proofs.Prelude.{◌≡◌, ℕ, zero, suc, ◌+◌, ◌-◌, ◌<◌, ◌≤◌, List, ◌∷◌, ◌++◌, Bool, true, Some, length, map, refl, sym, ap, ◌∙◌, subst, ⊎_elim, arith, append-nil, append_assoc, length-append, AllByRecursion, cases_lt, map-append, columns, Book, Span, slot_column, row_in, slots_of, slot_within, Fills, slot_for, place, child, lawful, Root, HasWords, Tree, Stands, kind_on, top_of, is_row_of, level, tally, times, IsTreeOf, is_reached, tree_as, with_published, root_of, with_child, Rooted, Sheet, column, inner_of, root_span, spans_in, all_back, row_most, level_next, tally-append, times_in_once, Climb, Top, Window, MayBuryAll, AreBuriedAll, rows_on, numbers_in, numbers_in_all, IsWindowOn, AreWindowsOn, HasClimbed, EndsAtRoot, EndsInSlot, was_seen, IsLedger, Beside, Stand, IsNowOf, Layer, depth_at, level_of, IsPlanned, AreAllHeld, seen_at, taken_by, gone_by, window_at, windows_by, windows_above, Before, row_seen, new_rows_of, IsReplaced, Seen, passing, before, behind, between, row_at, low_of, high_of, in_place, Start, rows_at, times_in, tree_with, []}
+use Rattle.mt_splice.proofs.Prelude.{◌≡◌, ℕ, zero, suc, ◌+◌, ◌-◌, ◌<◌, ◌≤◌, List, ◌∷◌, ◌++◌, Bool, true, Some, length, map, refl, sym, ap, ◌∙◌, subst, ⊎_elim, arith, append-nil, append_assoc, length-append, AllByRecursion, cases_lt, map-append, columns, Book, Span, slot_column, row_in, slots_of, slot_within, Fills, slot_for, place, child, lawful, Root, HasWords, Tree, Stands, kind_on, top_of, is_row_of, level, tally, times, IsTreeOf, is_reached, tree_as, with_published, root_of, with_child, Rooted, Sheet, column, inner_of, root_span, spans_in, all_back, row_most, level_next, tally-append, times_in_once, Climb, Top, Window, MayBeBuriedInTurn, EachInTurn, rows_on, numbers_in, numbers_in_all, IsWindowOn, AreWindowsOn, HasClimbed, EndsAtRoot, EndsInSlot, was_seen, IsLedger, Beside, Stand, IsNowOf, Layer, depth_at, level_of, IsPlanned, AreAllHeld, seen_at, taken_by, gone_by, window_at, windows_by, windows_above, Before, row_seen, new_rows_of, IsReplaced, Seen, passing, before, behind, between, row_at, low_of, high_of, in_place, Start, rows_at, times_in, tree_with, [], after_burials, after_retirals}
+use Rattle.mt_splice.proofs.Burials.{AreBuried}
 use Rattle.mt_splice.proofs.EndForms as forms
 use Rattle.mt_splice.proofs.DraftedLedger.{all_held_stay}
 use Rattle.mt_splice.proofs.Drafts.{other_row}
 use Rattle.mt_splice.proofs.Endings.{alone, replaced_at_root, replaced_in_slot}
-use Rattle.mt_splice.proofs.GoneLedger.{less_none, may_bury_all, ledger_gone, burials_keep, held_later, WereReached, numbers_are, windows_are, length-windows, gone_reached, level_reached, seen_reached, both_reached, window_numbers, numbers_seen, window_is}
+use Rattle.mt_splice.proofs.GoneLedger.{less_none, buried_by, burials_keep, held_later, WereReached, numbers_are, windows_are, length-windows, gone_reached, level_reached, seen_reached, both_reached, window_numbers, numbers_seen, window_is}
 use Rattle.mt_splice.proofs.Heads.{heads_fill}
 use Rattle.mt_splice.proofs.KeptTrees.{kept_level, kept_stands}
 use Rattle.mt_splice.proofs.LedgerNow.{beside_by, keeps_by, now_by, tree_by}
@@ -162,9 +163,12 @@ module _ {b : Before} {start : Start} {s : Sheet} {book : Book} {c : Climb} {top
       ∙ (numbers_append start.height (windows_by start hc.layers) (windows_above start hc.from hc.to hc.over)
       ∙ ((λ i. numbers_are s hc.case.was now hc.stands levels_now hc.layers hc.planned i ++ numbers_over i) ∙ sym (map-append row_seen (gone_by start hc.layers) (gone_above start hc.over))))
 
+  by_ledger : EachInTurn s book (map row_seen gone) b.number × IsLedger b (after_burials s (map row_seen gone)) (after_retirals book (map row_seen gone) b.number) taken gone
+  by_ledger = buried_by hc.case.was hc.case.unpublished [] gone hc.ledger gone_once gone_were
+
   -- the rows of all windows may be buried
-  pub may_bury_windows : MayBuryAll s book (numbers_in_all s.tree start.height c.windows.items) b.number
-  may_bury_windows = subst (λ (rows : List ℕ). MayBuryAll s book rows b.number) (sym numbers_gone) (may_bury_all hc.case.was hc.case.unpublished hc.ledger gone gone_once gone_were)
+  pub may_bury_windows : MayBeBuriedInTurn s book (numbers_in_all s.tree start.height c.windows.items) b.number
+  may_bury_windows = subst (λ (rows : List ℕ). MayBeBuriedInTurn s book rows b.number) (sym numbers_gone) (record { each = by_ledger.0 })
 
   length-above : (n : ℕ) → length (windows_above start hc.from hc.to n) ≡ n
   length-above zero = refl
@@ -202,12 +206,12 @@ module _ {b : Before} {start : Start} {s : Sheet} {book : Book} {c : Climb} {top
 
   -- ---- when they are buried
 
-  module _ {s' : Sheet} {book' : Book} (done : AreBuriedAll s s' book book' (numbers_in_all s.tree start.height c.windows.items) b.number) where
-    buried : AreBuriedAll s s' book book' (map row_seen gone) b.number
-    buried = subst (λ (rows : List ℕ). AreBuriedAll s s' book book' rows b.number) numbers_gone done
+  module _ {s' : Sheet} {book' : Book} (done : AreBuried s s' book book' (numbers_in_all s.tree start.height c.windows.items) b.number) where
+    buried : AreBuried s s' book book' (map row_seen gone) b.number
+    buried = subst (λ (rows : List ℕ). AreBuried s s' book book' rows b.number) numbers_gone done
 
     pub ledger_then : IsLedger b s' book' taken gone
-    ledger_then = subst (λ (k : Book). IsLedger b s' k taken gone) (sym buried.book_is) (ledger_reads buried.rows_are (ledger_gone hc.case.was [] gone hc.ledger gone_once gone_were))
+    ledger_then = subst (λ (k : Book). IsLedger b s' k taken gone) (sym buried.book_is) (ledger_reads buried.rows_are by_ledger.1)
 
     pub keeps_then : (r c : ℕ) → 0 < c → c < columns s.tree.table.width → column s'.tree.table r c ≡ column s.tree.table r c
     keeps_then r c above within = ap (λ (x : Sheet). column x.tree.table r c) buried.rows_are ∙ burials_keep s (map row_seen gone) r c above within

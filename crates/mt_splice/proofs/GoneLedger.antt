@@ -1,54 +1,33 @@
 -- The rows of windows buried and retired, by the ledger.
-use Rattle.mt_splice.proofs.Prelude.{◌≡◌, ℕ, zero, suc, ◌+◌, ◌-◌, ◌<◌, ◌≤◌, List, ◌∷◌, ◌++◌, true, length, map, nat_lt, refl, sym, ap, ◌∙◌, subst, arith, append_assoc, append-nil, length-append, eq-eqb, AllByRecursion, map-append, Width, columns, greatest, all_front, all_back, Book, IsOut, after_retire, Span, row_in, dead_mark, fills_le, path_in, levels, place, Tree, Stands, top_of, is_row_of, one_if, is_reached, root_of, Sheet, MayBury, after_bury, Table, column, level_rows, tally-append, on_level_reached, times_reached, Window, IsUnpublished, after_burials, after_retirals, EachOnce, MayBuryAll, rows_on, numbers_in, numbers_in_all, IsWindowOn, AreWindowsOn, was_seen, IsLedger, IsNowOf, Layer, depth_at, old_at, IsPlanned, AreAllHeld, seen_at, gone_by, window_at, windows_by, Before, IsStartOf, row_seen, Seen, passing, before, behind, between, row_at, Start, rows_at, tree_with, []}
+use Rattle.mt_splice.proofs.Prelude.{◌≡◌, ℕ, zero, suc, ◌+◌, ◌-◌, ◌<◌, ◌≤◌, List, ◌∷◌, ◌++◌, true, length, map, nat_lt, refl, sym, ap, ◌∙◌, subst, arith, append_assoc, append-nil, length-append, eq-eqb, AllByRecursion, map-append, Width, columns, greatest, all_front, all_back, Book, after_retire, Span, row_in, dead_mark, fills_le, path_in, levels, place, Tree, Stands, top_of, is_row_of, one_if, is_reached, root_of, Sheet, after_bury, Table, column, level_rows, tally-append, on_level_reached, times_reached, Window, IsUnpublished, after_burials, after_retirals, EachInTurn, rows_on, numbers_in, numbers_in_all, IsWindowOn, AreWindowsOn, was_seen, IsLedger, IsNowOf, Layer, depth_at, old_at, IsPlanned, AreAllHeld, seen_at, gone_by, window_at, windows_by, Before, IsStartOf, row_seen, Seen, passing, before, behind, between, row_at, Start, rows_at, tree_with, []}
 use Rattle.mt_splice.proofs.DraftedLedger.{all_held_stay}
 use Rattle.mt_splice.proofs.EndLevels.{levels_each}
-use Rattle.mt_splice.proofs.EndLists.{contains_seen}
 use Rattle.mt_splice.proofs.KeptTrees.{mark_keeps}
 use Rattle.mt_splice.proofs.Steps.{may_bury, is_out, in_order, progress_gone}
 use Rattle.mt_splice.proofs.Widened.{step_is}
 use Rattle.mt_splice.proofs.WindowRows.{sides_same, same_between, window_parts}
 use Rattle.mt_splice.proofs.StoredWords.{words_of}
 
--- ---- rows that are seen once
-
-once_by : (gone : List Seen) → ((row : ℕ) → passing (is_row_of row) gone ≤ 1) → EachOnce (map row_seen gone)
-once_by [] few = tt
-once_by (s ∷ gone) few = (
-  λ here.
-      let again = contains_seen (row_seen s) gone here in let all = few (row_seen s) in let one = ap one_if (eq-eqb (row_seen s) (row_seen s) refl) in
-      absurd (omega arith),
-  once_by gone (λ row. let all = few row in omega arith),
-)
+-- ---- rows that are buried one by one
 
 abbrev pub WereReached : Before → List Seen → Type 0
 WereReached b gone = AllByRecursion (λ (s : Seen). is_reached b.sheet.tree (row_seen s) ≡ true) gone
 
--- ---- before they are buried
-
-module _ {b : Before} {start : Start} {s : Sheet} {book : Book} {taken : List Seen} (before : IsStartOf b start) (unpublished : IsUnpublished b.sheet.in_flight b.sheet.published b.sheet.ended b.number) (ledger : IsLedger b s book taken []) where
-  lives : (gone : List Seen) → WereReached b gone → AllByRecursion (MayBury s) (map row_seen gone)
-  lives [] reached = tt
-  lives (x ∷ gone) reached = (may_bury x before ledger reached.0 refl unpublished, lives gone reached.1)
-
-  outs : (gone : List Seen) → WereReached b gone → AllByRecursion (IsOut book) (map row_seen gone)
-  outs [] reached = tt
-  outs (x ∷ gone) reached = (is_out x before ledger reached.0 refl, outs gone reached.1)
-
-  pub may_bury_all : (gone : List Seen) → ((row : ℕ) → passing (is_row_of row) gone ≤ 1) → WereReached b gone → MayBuryAll s book (map row_seen gone) b.number
-  may_bury_all gone few reached = record { live = lives gone reached; out = outs gone reached; once = once_by gone few; in_order = in_order before ledger }
-
--- ---- when they are buried
-
-pub ledger_gone : {b : Before} {start : Start} {taken : List Seen} (before : IsStartOf b start) (gone more : List Seen) {s : Sheet} {book : Book} → IsLedger b s book taken gone → ((row : ℕ) → passing (is_row_of row) (gone ++ more) ≤ 1) → WereReached b more
-    → IsLedger b (after_burials s (map row_seen more)) (after_retirals book (map row_seen more) b.number) taken (gone ++ more)
-ledger_gone {b} {start} {taken} before gone [] {s} {book} ledger few reached = subst (IsLedger b s book taken) (sym (append-nil gone)) ledger
-ledger_gone {b} {start} {taken} before gone (x ∷ more) {s} {book} ledger few reached =
+-- those that were reached may be, each once; and then the ledger names them
+pub buried_by : {b : Before} {start : Start} {taken : List Seen} (was : IsStartOf b start) → IsUnpublished b.sheet.in_flight b.sheet.published b.sheet.ended b.number → (gone more : List Seen) {s : Sheet} {book : Book} → IsLedger b s book taken gone
+    → ((row : ℕ) → passing (is_row_of row) (gone ++ more) ≤ 1) → WereReached b more
+    → EachInTurn s book (map row_seen more) b.number × IsLedger b (after_burials s (map row_seen more)) (after_retirals book (map row_seen more) b.number) taken (gone ++ more)
+buried_by {b} {start} {taken} was unpublished gone [] {s} {book} ledger few reached = (tt, subst (IsLedger b s book taken) (sym (append-nil gone)) ledger)
+buried_by {b} {start} {taken} was unpublished gone (x ∷ more) {s} {book} ledger few reached =
     let row = row_seen x in
     let all = tally-append (λ (s : Seen). is_row_of row s.height s.at) gone (x ∷ more) in let one = ap one_if (eq-eqb row row refl) in let most = few row in
-    let none : passing (is_row_of row) gone ≡ 0 = omega arith in
+    let never : passing (is_row_of row) gone ≡ 0 = omega arith in
+    let none = ap (nat_lt 0) never in
     let regroup : (gone ++ x ∷ []) ++ more ≡ gone ++ (x ∷ more) = append_assoc gone (x ∷ []) more in
-    subst (IsLedger b (after_burials (after_bury s row) (map row_seen more)) (after_retirals (after_retire book row b.number) (map row_seen more) b.number) taken) regroup
-    (ledger_gone before (gone ++ x ∷ []) more (progress_gone x before ledger reached.0 (ap (nat_lt 0) none)) (λ row. subst (λ (l : List Seen). passing (is_row_of row) l ≤ 1) (sym regroup) (few row)) reached.1)
+    let rest = buried_by was unpublished (gone ++ x ∷ []) more (progress_gone x was ledger reached.0 none) (λ row. subst (λ (l : List Seen). passing (is_row_of row) l ≤ 1) (sym regroup) (few row)) reached.1 in (
+      (record { live = may_bury x was ledger reached.0 none unpublished; out = is_out x was ledger reached.0 none; in_order = in_order was ledger }, rest.0),
+      subst (IsLedger b (after_burials (after_bury s row) (map row_seen more)) (after_retirals (after_retire book row b.number) (map row_seen more) b.number) taken) regroup rest.1,
+    )
 
 -- a burial writes parent words alone
 pub burials_keep : (s : Sheet) (rows : List ℕ) (r c : ℕ) → 0 < c → c < columns s.tree.table.width → column (after_burials s rows).tree.table r c ≡ column s.tree.table r c

@@ -1,12 +1,13 @@
 -- When the rows of a climb are drafted and those of its windows buried, one word may be published.
-use Rattle.mt_splice.proofs.Prelude.{◌≡◌, ℕ, suc, ◌+◌, List, ◌∷◌, true, Option, Some, None, length, refl, sym, ap, ◌∙◌, subst, ⊎_elim, arith, AllByRecursion, Call, Reply, Book, Span, name_at, row_in, row_in-name_at, Place, Root, Slot, Tree, tree_as, with_published, Rooted, Sheet, inner_of, height_in, height_is, Climb, Top, TellsGapAt, TellsBelow, AreBuriedAll, numbers_in_all, HasClimbed, EndsEmpty, EndsAtRoot, EndsAbove, EndsInSlot, IsEndPlace, IsTop, MayPublishEnd, was_seen, Layer, AreAllHeld, IsPlanned, level_of, new_at, Before, IsReplaced, IsAnswer, GapsBeside, Start, [], now}
+use Rattle.mt_splice.proofs.Prelude.{◌≡◌, ℕ, suc, ◌+◌, List, ◌∷◌, true, Option, Some, None, length, refl, sym, ap, ◌∙◌, subst, ⊎_elim, arith, AllByRecursion, Call, Reply, Book, Span, name_at, row_in, row_in-name_at, Place, Root, Slot, Tree, tree_as, with_published, Rooted, Sheet, inner_of, height_in, height_is, Climb, Top, TellsGapAt, TellsBelow, numbers_in_all, HasClimbed, EndsEmpty, EndsAtRoot, EndsAbove, EndsInSlot, IsEndPlace, IsTop, MayPublishEnd, was_seen, Layer, AreAllHeld, IsPlanned, level_of, new_at, Before, IsReplaced, IsAnswer, GapsBeside, Start, [], now}
+use Rattle.mt_splice.proofs.Burials.{AreBuried}
 use Rattle.mt_splice.proofs.EndAbove.{above_gaps, above_replaces, is_new}
 use Rattle.mt_splice.proofs.EndAtRoot.{nothing_replaces, root_keeps_gaps}
 use Rattle.mt_splice.proofs.EndAtSlot.{in_slot_gaps, in_slot_replaces, in_slot_tells, slot_is_place}
 use Rattle.mt_splice.proofs.Ended.{taken, gone, held_then, old_beside, ledger_then, made_then, root_replaces}
 use Rattle.mt_splice.proofs.Planned.{layer_new}
 
-module _ {b : Before} {start : Start} {s s' : Sheet} {book book' : Book} {c : Climb} {top : Top} (hc : HasClimbed b start s book c top) (done : AreBuriedAll s s' book book' (numbers_in_all s.tree start.height c.windows.items) b.number) where
+module _ {b : Before} {start : Start} {s s' : Sheet} {book book' : Book} {c : Climb} {top : Top} (hc : HasClimbed b start s book c top) (done : AreBuried s s' book book' (numbers_in_all s.tree start.height c.windows.items) b.number) where
   tall : height_in b.sheet.tree.table b.sheet.tree.root ≡ start.height + 1
   tall = ap (λ (t : Tree). height_in t.table t.root) (sym hc.case.was.tree) ∙ height_is start.tree start.height hc.stands
 

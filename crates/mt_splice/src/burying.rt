@@ -4,8 +4,8 @@ ghost use Rattle.std.specs.Prelude.{◌≡◌, ◌<◌, ◌+◌, ◌-◌};
 ghost use Rattle.mt_base.specs.declared.kinds.Kind.{Kind};
 ghost use Rattle.mt_free.specs.Book.{after_retire};
 ghost use Rattle.mt_rows.specs.Publish.{IsTreeOf};
-ghost use Rattle.mt_rows.specs.Sheet.{after_bury};
-ghost use Rattle.mt_splice.specs.steps.Burials.{MayBeBuried, MayBuryAll, AreBuriedAll, numbers_between, numbers_in, numbers_in_all, IsWindowOn, IsStretchOn, AreWindowsOn};
+ghost use Rattle.mt_rows.specs.Sheet.{OnlyReads, after_bury};
+ghost use Rattle.mt_splice.specs.steps.Burials.{MayBeBuried, MayBeBuriedInTurn, after_burials, after_retirals, numbers_between, numbers_in, numbers_in_all, IsWindowOn, IsStretchOn, AreWindowsOn};
 
 use crate::ways::{Window, step_on};
 use mt_free::RowBook;
@@ -33,8 +33,8 @@ fn bury_stretch<R: Rows>(
 )
     requires tree { (kind : Kind) × IsTreeOf (R.sheet rows.old).tree kind }
     requires stretch { IsStretchOn (R.sheet rows.old).tree depth first last }
-    requires may { MayBuryAll (R.sheet rows.old) book.old (numbers_between (R.sheet rows.old).tree depth first last) number }
-    ensures { AreBuriedAll (R.sheet rows.old) (R.sheet rows.new) book.old book.new (numbers_between (R.sheet rows.old).tree depth first last) number }
+    requires may { MayBeBuriedInTurn (R.sheet rows.old) book.old (numbers_between (R.sheet rows.old).tree depth first last) number }
+    ensures { OnlyReads (after_burials (R.sheet rows.old) (numbers_between (R.sheet rows.old).tree depth first last)) (R.sheet rows.new) × (book.new ≡ after_retirals book.old (numbers_between (R.sheet rows.old).tree depth first last) number) }
 {
     let mut way = walk(rows, first);
     let mut step = step_on(&way, depth);
@@ -51,8 +51,8 @@ fn bury_stretch<R: Rows>(
 fn bury_window<R: Rows>(rows: &mut R, book: &mut RowBook, window: &Window, depth: u32, number: u64)
     requires tree { (kind : Kind) × IsTreeOf (R.sheet rows.old).tree kind }
     requires window { IsWindowOn (R.sheet rows.old).tree depth window.now }
-    requires may { MayBuryAll (R.sheet rows.old) book.old (numbers_in (R.sheet rows.old).tree depth window.now) number }
-    ensures { AreBuriedAll (R.sheet rows.old) (R.sheet rows.new) book.old book.new (numbers_in (R.sheet rows.old).tree depth window.now) number }
+    requires may { MayBeBuriedInTurn (R.sheet rows.old) book.old (numbers_in (R.sheet rows.old).tree depth window.now) number }
+    ensures { OnlyReads (after_burials (R.sheet rows.old) (numbers_in (R.sheet rows.old).tree depth window.now)) (R.sheet rows.new) × (book.new ≡ after_retirals book.old (numbers_in (R.sheet rows.old).tree depth window.now) number) }
 {
     let (first, last) = (window.first, window.last);
     bury_row(rows, book, first.row, number);
@@ -72,8 +72,8 @@ fn bury_window<R: Rows>(rows: &mut R, book: &mut RowBook, window: &Window, depth
 pub fn bury<R: Rows>(rows: &mut R, book: &mut RowBook, windows: &[Window], depth: u32, number: u64)
     requires tree { (kind : Kind) × IsTreeOf (R.sheet rows.old).tree kind }
     requires windows { AreWindowsOn (R.sheet rows.old).tree depth windows.now }
-    requires may { MayBuryAll (R.sheet rows.old) book.old (numbers_in_all (R.sheet rows.old).tree depth windows.now) number }
-    ensures { AreBuriedAll (R.sheet rows.old) (R.sheet rows.new) book.old book.new (numbers_in_all (R.sheet rows.old).tree depth windows.now) number }
+    requires may { MayBeBuriedInTurn (R.sheet rows.old) book.old (numbers_in_all (R.sheet rows.old).tree depth windows.now) number }
+    ensures { OnlyReads (after_burials (R.sheet rows.old) (numbers_in_all (R.sheet rows.old).tree depth windows.now)) (R.sheet rows.new) × (book.new ≡ after_retirals book.old (numbers_in_all (R.sheet rows.old).tree depth windows.now) number) }
 {
     let Some((window, above)) = windows.split_first() else {
         return;

@@ -1,11 +1,11 @@
 //! The end of a replacement: one word is published, and the children of rows that are new are tended.
 
-ghost use Rattle.std.specs.Prelude.{◌≡◌, ℕ};
+ghost use Rattle.std.specs.Prelude.{◌≡◌, ℕ, length};
 ghost use Rattle.mt_rows.specs.declared.rows.Place.TheVariants.{Slot};
 ghost use Rattle.mt_rows.specs.Publish.{with_published};
 ghost use Rattle.mt_rows.specs.Spans.{inner_of};
 ghost use Rattle.mt_splice.specs.Splice.{IsSpliced, TellsBelow, TellsGapAt};
-ghost use Rattle.mt_splice.specs.steps.Ends.{MayPublishEnd, MayTendRows, AreRowsTended, MayTendTopAt, IsTopTendedAt};
+ghost use Rattle.mt_splice.specs.steps.Ends.{AreTendedTo, IsTopTendedAt, MayPublishEnd, MayTendTopAt};
 
 use crate::begun::Begun;
 use crate::calls::Event;
@@ -17,10 +17,10 @@ use mt_layout::{RowKind, parent_word, row_of, slots};
 use mt_rows::{Place, Rows};
 
 /// Writes the parent words of the children of these inner rows.
-#[tactic(auto, using(crate::proofs::EndTending::no_rows_tended, crate::proofs::EndTending::children_still))]
+#[tactic(auto, using(crate::proofs::EndTending::children_still))]
 fn tend_rows<R: Rows>(rows: &mut R, kind: RowKind, new_inner_rows: &[NewRow])
-    requires { MayTendRows (R.sheet rows.old) kind new_inner_rows.now }
-    ensures { AreRowsTended (R.sheet rows.old) (R.sheet rows.new) kind new_inner_rows.now }
+    requires { AreTendedTo (R.sheet rows.old) (R.sheet rows.old) kind new_inner_rows.now 0 }
+    ensures { AreTendedTo (R.sheet rows.old) (R.sheet rows.new) kind new_inner_rows.now (length new_inner_rows.now) }
 {
     for new in new_inner_rows {
         tend_children(rows, kind, new.row, new.count);

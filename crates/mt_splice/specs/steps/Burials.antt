@@ -1,8 +1,7 @@
 -- Rows buried and retired one after the other: what is done to the rows and to the book.
 -- Source: the kernel's lib/maple_tree.c, mas_topiary_replace, which marks the nodes that a new subtree replaces.
-use Rattle.std.specs.Prelude.{◌≡◌, ℕ, ◌-◌, ◌<◌, ◌≤◌, List, [], ◌∷◌, ◌++◌, All, Contains, length, map}
-use Rattle.std.specs.List.{AllByRecursion}
-use Rattle.mt_splice.specs.Prelude.{greatest, Book, Held, IsOut, after_retire, Span, row_in, path_in, step_at, level, root_span, Rooted, Sheet, OnlyReads, MayBury, after_bury}
+use Rattle.std.specs.Prelude.{◌≡◌, ℕ, ◌-◌, ◌<◌, ◌≤◌, List, [], ◌∷◌, ◌++◌, All, length, map}
+use Rattle.mt_splice.specs.Prelude.{greatest, Book, Held, IsOut, after_retire, Span, row_in, path_in, step_at, level, root_span, Rooted, Sheet, MayBury, after_bury}
 use Rattle.mt_splice.specs.declared.ways.Window.{Window}
 use Rattle.mt_splice.specs.steps.Windows.{between}
 
@@ -16,27 +15,19 @@ abbrev pub after_retirals : Book → List ℕ → ℕ → Book
 after_retirals book [] number = book
 after_retirals book (row ∷ rows) number = after_retirals (after_retire book row number) rows number
 
-abbrev pub EachOnce : List ℕ → Type 0
-EachOnce [] = Unit {0}
-EachOnce (row ∷ rows) = (¬ Contains rows row) × EachOnce rows
-
 -- a live row that is out may be buried, and retired with this number
 pub record MayBeBuried (s : Sheet) (book : Book) (row number : ℕ) : Type 0 where
   pub live : MayBury s row
   pub out : IsOut book row
   pub in_order : All (λ (h : Held). h.stamp ≤ number) book.held
 
--- so may several
-pub record MayBuryAll (s : Sheet) (book : Book) (rows : List ℕ) (number : ℕ) : Type 0 where
-  pub live : AllByRecursion (MayBury s) rows
-  pub out : AllByRecursion (IsOut book) rows
-  pub once : EachOnce rows
-  pub in_order : All (λ (h : Held). h.stamp ≤ number) book.held
+-- so may each of these rows, when those in front of it were
+abbrev pub EachInTurn : Sheet → Book → List ℕ → ℕ → Type 0
+EachInTurn s book [] number = Unit {0}
+EachInTurn s book (row ∷ rows) number = MayBeBuried s book row number × EachInTurn (after_bury s row) (after_retire book row number) rows number
 
--- they were, in their order; beside that words were loaded
-pub record AreBuriedAll (s s' : Sheet) (book book' : Book) (rows : List ℕ) (number : ℕ) : Type 0 where
-  pub rows_are : OnlyReads (after_burials s rows) s'
-  pub book_is : book' ≡ after_retirals book rows number
+pub record MayBeBuriedInTurn (s : Sheet) (book : Book) (rows : List ℕ) (number : ℕ) : Type 0 where
+  pub each : EachInTurn s book rows number
 
 -- ---- rows by their places
 

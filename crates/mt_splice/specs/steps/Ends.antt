@@ -66,17 +66,15 @@ pub record OnlyParents (s s' : Sheet) : Type 0 where
   pub size : length s'.tree.table.words ≡ length s.tree.table.words
   pub kept : (r c : ℕ) → 0 < c → c < columns s.tree.table.width → column s'.tree.table r c ≡ column s.tree.table r c
 
--- inner rows whose children may be tended, all of them other rows
-pub record MayTendRows (s : Sheet) (kind : RowKind) (new_inner_rows : List NewRow) : Type 0 where
+-- Of inner rows whose children are all other rows, the children of the first ones name row and slot; those of the others may be
+-- tended, and nothing else has changed.
+pub record AreTendedTo (s s' : Sheet) (kind : RowKind) (new_inner_rows : List NewRow) (done : ℕ) : Type 0 where
   pub each : (i : ℕ) (n : NewRow) → slice_get new_inner_rows i ≡ Some n → AreChildren s kind n.row n.count
   pub apart : (i j : ℕ) (n m : NewRow) (slot slot' : ℕ) → i < j → slice_get new_inner_rows i ≡ Some n → slice_get new_inner_rows j ≡ Some m → slot < n.count → slot' < m.count
       → child_row s.tree.table kind n.row slot ≢ child_row s.tree.table kind m.row slot'
-
--- the parent words of all their children name row and slot, and nothing else has changed
-pub record AreRowsTended (s s' : Sheet) (kind : RowKind) (new_inner_rows : List NewRow) : Type 0 where
   pub only : OnlyParents s s'
-  pub children : (i : ℕ) (n : NewRow) (slot : ℕ) → slice_get new_inner_rows i ≡ Some n → slot < n.count → column s'.tree.table (child_row s.tree.table kind n.row slot) 0 ≡ parent_at n.row slot
-  pub others : (r : ℕ) → ((i : ℕ) (n : NewRow) (slot : ℕ) → slice_get new_inner_rows i ≡ Some n → slot < n.count → child_row s.tree.table kind n.row slot ≢ r) → column s'.tree.table r 0 ≡ column s.tree.table r 0
+  pub children : (i : ℕ) (n : NewRow) (slot : ℕ) → i < done → slice_get new_inner_rows i ≡ Some n → slot < n.count → column s'.tree.table (child_row s.tree.table kind n.row slot) 0 ≡ parent_at n.row slot
+  pub others : (r : ℕ) → ((i : ℕ) (n : NewRow) (slot : ℕ) → i < done → slice_get new_inner_rows i ≡ Some n → slot < n.count → child_row s.tree.table kind n.row slot ≢ r) → column s'.tree.table r 0 ≡ column s.tree.table r 0
 
 -- the row that was published in a slot of a row of this kind may be tended
 pub record MayTendTop (s : Sheet) (kind : RowKind) (row col word : ℕ) : Type 0 where
