@@ -1,5 +1,5 @@
 -- A tree is to be emptied: no row is drafted, and the windows are those of all its levels.
-use Rattle.mt_splice.proofs.Prelude.{◌≡◌, ℕ, suc, ◌+◌, ◌-◌, ◌≤◌, List, [], length, refl, sym, ap, ◌∙◌, subst, inl, arith, Call, Kind, Range, Reply, Width, acted, deepest, greatest, Book, PathStep, path_in, at_within, levels, place, Root, Tree, Stands, top_of, map_by, tree_as, IsWhole, OnlyReads, Rooted, Sheet, inner_kind, reads_on, same_tree, Climb, Top, MayClear, HasClimbed, windows_over, IsBegunBy, before_of, start_for, Before, IsAnswer, high_of, low_of, row_at, Start, rows_at}
+use Rattle.mt_splice.proofs.Prelude.{◌≡◌, ℕ, suc, ◌+◌, ◌-◌, ◌≤◌, List, [], length, refl, sym, ap, ◌∙◌, subst, inl, arith, Call, Kind, Range, Reply, Width, acted, deepest, greatest, Book, PathStep, path_in, at_within, levels, place, Root, Tree, Stands, top_of, map_by, tree_as, IsWhole, OnlyReads, Rooted, Sheet, inner_kind, reads_on, same_tree, Climb, Top, MayClear, HasClimbed, windows_over, IsBegunBy, before_of, start_for, Before, IsAnswer, high_of, low_of, row_at, Start, rows_at, row_in}
 use Rattle.mt_splice.proofs.Clearing.{left_levels}
 use Rattle.mt_splice.proofs.Steps.{ledger_reads}
 use Rattle.mt_splice.proofs.SpliceBegins.{case_of, nothing_done, stands_at_start}
@@ -25,8 +25,8 @@ module _ {kind : Kind} {s : Sheet} {book : Book} {number : ℕ} {call : Call} {r
       omega arith
 
   all_noted : {s' : Sheet} {c : Climb} {top : Top} → OnlyReads s s' → c.ways.left.items ≡ path_in s.tree.table s.tree.root 0 → c.ways.right.items ≡ path_in s.tree.table s.tree.root (top_of t) → c.windows.items ≡ windows_over c.ways.left.items c.ways.right.items (suc start.height) → c.made.items ≡ []
-      → c.inner ≡ inner_kind kind → top.place ≡ Root → top.word ≡ 0 → top.gap ≡ 0 → HasClimbed (before_of kind s book number) start s' book c top
-  all_noted {s'} {c} {top} reads left right windows made inner place word gap = record {
+      → c.inner ≡ inner_kind kind → top.place ≡ Root → top.word ≡ 0 → top.gap ≡ 0 → top.row ≡ 0 → HasClimbed (before_of kind s book number) start s' book c top
+  all_noted {s'} {c} {top} reads left right windows made inner place word gap row = record {
     layers = [];
     root = [];
     from = 0;
@@ -45,6 +45,7 @@ module _ {kind : Kind} {s : Sheet} {book : Book} {number : ℕ} {call : Call} {r
     windows = windows ∙ windows_over_are start stands 0 (top_of t) (omega arith) (omega arith) c.ways.left.items c.ways.right.items left right (suc start.height) (omega arith);
     whole = λ e less. whole_above start stands 0 (top_of t) (omega arith) (omega arith) start.height (omega arith) begin end e (omega arith);
     joined = λ some. omega arith;
+    names = row ∙ ap row_in (sym word);
     inner = inner;
     ends = inl (record { no_layers = refl; no_root = refl; all = refl; none = ap (λ (a : List Range × Reply). a.0) may.answer; place = place; word = word; gap = gap });
   }
@@ -69,15 +70,15 @@ module _ {b : Before} {start : Start} {kind : Kind} {s : Sheet} {book : Book} {n
       high ∙ ap (λ (x : Start). x.height) (sym begun.start)
 
   pub clear_noted : (depth : ℕ) {s₁ s₂ : Sheet} {width : Width} {index : ℕ} {c : Climb} {top : Top} → OnlyReads s s₁ → OnlyReads s₁ s₂ → c.ways.left.items ≡ path_in s.tree.table s.tree.root 0 → width ≡ s₁.tree.table.width → index ≡ greatest width
-      → c.ways.right.items ≡ path_in s₁.tree.table s₁.tree.root index → depth + 1 ≡ length c.ways.left.items → c.windows.items ≡ windows_over c.ways.left.items c.ways.right.items (depth + 1) → c.made.items ≡ [] → c.inner ≡ inner_kind kind → top.place ≡ Root → top.word ≡ 0 → top.gap ≡ 0
+      → c.ways.right.items ≡ path_in s₁.tree.table s₁.tree.root index → depth + 1 ≡ length c.ways.left.items → c.windows.items ≡ windows_over c.ways.left.items c.ways.right.items (depth + 1) → c.made.items ≡ [] → c.inner ≡ inner_kind kind → top.place ≡ Root → top.word ≡ 0 → top.gap ≡ 0 → top.row ≡ 0
       → HasClimbed b start s₂ book c top
-  clear_noted depth {s₁} {s₂} {width} {index} {c} {top} reads₁ reads₂ left is_width is_top right deep windows made inner place word gap =
+  clear_noted depth {s₁} {s₂} {width} {index} {c} {top} reads₁ reads₂ left is_width is_top right deep windows made inner place word gap row =
       let same = same_tree s s₁ reads₁ in
       let last : index ≡ greatest s.tree.table.width = is_top ∙ ap greatest (is_width ∙ ap (λ (t : Rooted). t.table.width) same) in
       let right_now : c.ways.right.items ≡ path_in s.tree.table s.tree.root (greatest s.tree.table.width) = right ∙ (ap (λ (t : Rooted). path_in t.table t.root index) same ∙ ap (path_in s.tree.table s.tree.root) last) in
       let up : depth + 1 ≡ suc (start_for kind s call 0 (greatest s.tree.table.width)).height = (let long = left_levels may left in omega arith) in
       subst (λ (x : Before × Start). HasClimbed x.0 x.1 s₂ book c top) (λ i. (sym begun.before i, sym begun.start i))
-      (all_noted may whole (reads_on s s₁ s₂ reads₁ reads₂) left right_now (windows ∙ ap (windows_over c.ways.left.items c.ways.right.items) up) made inner place word gap)
+      (all_noted may whole (reads_on s s₁ s₂ reads₁ reads₂) left right_now (windows ∙ ap (windows_over c.ways.left.items c.ways.right.items) up) made inner place word gap row)
 
   pub clear_answer : IsAnswer b start call reply
   clear_answer = subst (λ (x : Before × Start). IsAnswer x.0 x.1 call reply) (λ i. (sym begun.before i, sym begun.start i)) (ap (λ (r : Reply). ((acted kind (map_by s.tree) call).0, r)) (ap (λ (a : List Range × Reply). a.1) may.answer))

@@ -140,10 +140,10 @@ module _ {b : Before} {start : Start} {s : Sheet} {book : Book} {kind : RowKind}
       many = many;
     }
 
-    module _ {s₁ s₂ : Sheet} {book' : Book} {above : RowKind} {begin : ℕ} {made' : List NewRow} {new : List Item} (reads : OnlyReads s s₁) (above_is : above ≡ inner_of start.tree.gapped) (begins : begin ≡ (step_at left' depth).min)
-        (done : AreRowsDrafted s₁ s₂ book book' above kind begin items' ends c.made.items made' new) where
+    module _ {s₁ s₂ : Sheet} {book' : Book} {above : RowKind} {begin : ℕ} {made' : List NewRow} {rows : List ℕ} {new : List Item} (reads : OnlyReads s s₁) (above_is : above ≡ inner_of start.tree.gapped) (begins : begin ≡ (step_at left' depth).min)
+        (done : AreRowsDrafted s₁ s₂ book book' above kind begin items' ends c.made.items made' rows new) where
       abbrev l : Layer
-      l = layer done.rows
+      l = layer rows
 
       abbrev K : RowKind
       K = kind_on start.tree.gapped h
@@ -160,19 +160,19 @@ module _ {b : Before} {start : Start} {s : Sheet} {book : Book} {kind : RowKind}
       ledger₁ : IsLedger b s₁ book (taken_by start k.layers) []
       ledger₁ = ledger_reads reads k.ledger
 
-      drafted : AreRowsTaken K items' 0 ends done.rows s₁ s₂ book book'
-      drafted = subst (λ (r : RowKind). AreRowsTaken r items' 0 ends done.rows s₁ s₂ book book') k.of_kind done.taken
+      drafted : AreRowsTaken K items' 0 ends rows s₁ s₂ book book'
+      drafted = subst (λ (r : RowKind). AreRowsTaken r items' 0 ends rows s₁ s₂ book book') k.of_kind done.taken
 
       told : AreFromBelow start k.layers at (high_of start.tree (depth_at start h) win.to) items'
       told = subst (λ (p : ℕ × ℕ). AreFromBelow start k.layers p.0 p.1 items')
           (λ i. ((first look_of w ∙ ap (λ (d : ℕ). low_of start.tree d win.from) (sym depth_is)) i, (last look_of w ∙ ap (λ (d : ℕ). high_of start.tree d win.to) (sym depth_is)) i))
           (widened_from (gaps_were k.case.was stands) k.layers k.gathered (then look_of w) k.from_below)
 
-      up : new ≡ heads (inner_of start.tree.gapped) K at items' 0 ends done.rows
-      up = done.up ∙ (λ i. heads (above_is i) (k.of_kind i) (begins_at i) items' 0 ends done.rows)
+      up : new ≡ heads (inner_of start.tree.gapped) K at items' 0 ends rows
+      up = done.up ∙ (λ i. heads (above_is i) (k.of_kind i) (begins_at i) items' 0 ends rows)
 
       planned_here : IsLayer start (level_of start k.layers) h l
-      planned_here = is_layer done.rows done.many
+      planned_here = is_layer rows done.many
 
       parts : AreParts start.tree h at items' 0 ends
       parts = cut_makes_parts items' planned_here.cut planned_here.fewest
@@ -181,7 +181,7 @@ module _ {b : Before} {start : Start} {s : Sheet} {book : Book} {kind : RowKind}
       wide₁ = ap (λ (t : Rooted). t.table.width) same₁ ∙ (look_of).is_now.width
 
       wide₂ : s₂.tree.table.width ≡ start.tree.table.width
-      wide₂ = width_then k.case.was h (inner_of start.tree.gapped) K items' 0 ends done.rows s₁ s₂ book book' drafted ∙ wide₁
+      wide₂ = width_then k.case.was h (inner_of start.tree.gapped) K items' 0 ends rows s₁ s₂ book book' drafted ∙ wide₁
 
       table_of : (x : Sheet) → x.tree.table.width ≡ start.tree.table.width → (tree_with start.tree x.tree.table.words).table ≡ x.tree.table
       table_of x wide = λ i. record { width = sym wide i; words = x.tree.table.words }
@@ -191,38 +191,39 @@ module _ {b : Before} {start : Start} {s : Sheet} {book : Book} {kind : RowKind}
           (λ row some. taken_behind (newest_first h (new_at start h l)) (taken_by start k.layers) row some)
           (λ row c some within.
           ap (λ (t : Table). column t row c) (table_of s₂ wide₂)
-          ∙ (taken_stay k.case.was h (inner_of start.tree.gapped) K items' at 0 ends done.rows s₁ s₂ book book' ledger₁ drafted row some c (subst (λ (v : Width). c < columns v) (sym wide₁) within)
+          ∙ (taken_stay k.case.was h (inner_of start.tree.gapped) K items' at 0 ends rows s₁ s₂ book book' ledger₁ drafted row some c (subst (λ (v : Width). c < columns v) (sym wide₁) within)
           ∙ sym (ap (λ (t : Table). column t row c) (table_of s₁ wide₁))))
           k.layers (subst (λ (t : Rooted). AreAllHeld start t.table.words (was_seen (taken_by start k.layers)) k.layers) (sym same₁) k.held)
 
       pub level_drafted : {c' : Climb} {window : Window} {next : Next} → c'.ways.left.items ≡ left' → c'.ways.right.items ≡ right' → window.first ≡ step_at left' depth → window.last ≡ step_at right' depth → c'.windows.items ≡ c.windows.items ++ window ∷ [] → c'.made.items ≡ made'
-          → c'.inner ≡ c.inner → IsNextDecision width left' right' depth kind items' (length ends) next → IsLevelDrafted b start s₂ book' depth c' new next
+          → c'.inner ≡ c.inner → IsNextDecision width left' right' depth kind items' (length ends) next → IsLevelDrafted b start s₂ book' depth c' rows new next
       level_drafted {c'} {window} {next} left_is right_is first_is last_is windows_is made_is inner_is goes = record {
         l = l;
         lower = k.layers;
         case = k.case;
         at = win.gathered.levels;
         planned = (planned_here, k.planned);
-        held = (held_then k.case.was h (inner_of start.tree.gapped) K items' refl at 0 ends done.rows s₁ s₂ book book' ledger₁ drafted parts wide₂, lower_held);
-        ledger = ledger_then k.case.was h (inner_of start.tree.gapped) K items' at 0 ends done.rows ledger₁ drafted;
+        held = (held_then k.case.was h (inner_of start.tree.gapped) K items' refl at 0 ends rows s₁ s₂ book book' ledger₁ drafted parts wide₂, lower_held);
+        ledger = ledger_then k.case.was h (inner_of start.tree.gapped) K items' at 0 ends rows ledger₁ drafted;
         told = (told, k.told);
         left = left_is ∙ win.is_left;
         right = right_is ∙ win.is_right;
+        numbers = refl;
         up = up;
         goes_on = subst (λ (p : (List PathStep × List PathStep) × (Width × RowKind)). IsNextDecision p.1.0 p.0.0 p.0.1 depth p.1.1 items' (length ends) next) (λ i. ((sym left_is i, sym right_is i), (width_is look_of w is_width i, k.of_kind i))) goes;
         windows = windows_is
             ∙ ((λ i. k.windows i ++ (record { first = (first_is ∙ first_step look_of w) i; last = (last_is ∙ last_step look_of w) i } ∷ []))
             ∙ ap (λ (d : ℕ). windows_by start k.layers ++ (window_at start d win.from win.to ∷ [])) (sym depth_is));
         made = made_is
-            ∙ noted_then k.case.was h (inner_of start.tree.gapped) K items' refl at 0 ends done.rows s₁ s₂ book book' ledger₁ drafted parts done.many wide₂
-            (k.made ∙ ap (λ (t : Rooted). new_rows_of t.table (taken_by start k.layers)) (sym same₁)) (done.noted ∙ ap (λ (r : RowKind). c.made.items ++ noted_rows r 0 ends done.rows) k.of_kind);
+            ∙ noted_then k.case.was h (inner_of start.tree.gapped) K items' refl at 0 ends rows s₁ s₂ book book' ledger₁ drafted parts done.many wide₂
+            (k.made ∙ ap (λ (t : Rooted). new_rows_of t.table (taken_by start k.layers)) (sym same₁)) (done.noted ∙ ap (λ (r : RowKind). c.made.items ++ noted_rows r 0 ends rows) k.of_kind);
         inner = inner_is ∙ k.inner;
         room = k.room;
       }
 
 -- ---- up to the next level
 
-module _ {b : Before} {start : Start} {s : Sheet} {book : Book} {depth : ℕ} {c : Climb} {new : List Item} (d : IsLevelDrafted b start s book depth c new Up) where
+module _ {b : Before} {start : Start} {s : Sheet} {book : Book} {depth : ℕ} {c : Climb} {rows : List ℕ} {new : List Item} (d : IsLevelDrafted b start s book depth c rows new Up) where
   abbrev g : Gathered start (level_of start d.lower) d.l.from d.l.to (depth_at start (length d.lower)) (length d.lower) (spans_from (begin_at start (length d.lower) d.l) d.l.items)
   g = d.planned.0.gathered
 

@@ -9,7 +9,7 @@ some_left pieces RootAbove some goes = goes.0
 some_left pieces Slot some goes = goes.0
 some_left pieces Up some goes = goes.0
 
-pub drafted_is_done : {b : Before} {start : Start} {s : Sheet} {book : Book} {depth : ℕ} {c : Climb} {new : List Item} (next : Next) → (next ≡ Empty → ⊥) → IsLevelDrafted b start s book depth c new next → IsLevelDone b start s book depth c new next
+pub drafted_is_done : {b : Before} {start : Start} {s : Sheet} {book : Book} {depth : ℕ} {c : Climb} {rows : List ℕ} {new : List Item} (next : Next) → (next ≡ Empty → ⊥) → IsLevelDrafted b start s book depth c rows new next → IsLevelDone b start s book depth c rows new next
 drafted_is_done Empty some drafted = absurd (some refl)
 drafted_is_done Root some drafted = drafted
 drafted_is_done RootAbove some drafted = drafted

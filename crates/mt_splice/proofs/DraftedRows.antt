@@ -1,5 +1,5 @@
 -- The rows of a level drafted one by one: what was drafted, and what is still to be.
-use Rattle.mt_splice.proofs.Prelude.{[], ◌≡◌, ◌≢◌, ℕ, ◌+◌, ◌-◌, ◌^◌, ◌<◌, ◌≤◌, List, ◌∷◌, ◌++◌, length, take, drop, refl, sym, ap, ◌∙◌, subst, ⊎_elim, arith, get_or, append_assoc, append-nil, length-append, Any, All, slice_index_or, cases_eq, drop_more, drop_all, get_or_append_left, first_row, greatest_fits, Book, Item, RowKind, Leaf, RiseFrom, end_of, name_at, after, after-append, after_some, fills_rise, last_ends, first_of, Sheet, IsWhole, IsFree, life_of, leaf_low, NewRow, IsCutOf, IsRowTaken, noted_row, IsPieceDrafted, AreRowsTaken, noted_rows, MayDraftRows, AreRowsDrafted, part_of, head, heads, told_gap}
+use Rattle.mt_splice.proofs.Prelude.{[], ◌≡◌, ◌≢◌, ℕ, ◌+◌, ◌-◌, ◌^◌, ◌<◌, ◌≤◌, List, ◌∷◌, ◌++◌, length, take, drop, refl, sym, ap, ◌∙◌, subst, ⊎_elim, arith, get_or, append_assoc, append-nil, length-append, Any, All, slice_index_or, cases_eq, drop_more, drop_all, get_or_append_left, first_row, greatest_fits, Book, Item, RowKind, Leaf, RiseFrom, end_of, name_at, after, after-append, after_some, fills_rise, last_ends, first_of, Sheet, IsWhole, IsFree, life_of, leaf_low, NewRow, IsCutOf, IsRowTaken, noted_row, IsPieceDrafted, AreRowsTaken, noted_rows, MayDraftRows, AreRowsDrafted, part_of, head, heads, told_gap, Head}
 use Rattle.mt_splice.proofs.Drafts.{is_draft, other_life}
 use Rattle.mt_splice.proofs.LevelRuns.{AreParts, IsPart, length-part, take_part, cut_makes_parts}
 use Rattle.mt_splice.proofs.LevelSteps.{first_after, first_inside}
@@ -8,10 +8,10 @@ use Rattle.mt_splice.proofs.LevelRows.{some_entry}
 -- ---- one row
 
 pub piece_drafted : {s s' : Sheet} {book book' : Book} {above kind : RowKind} {first word gap row : ℕ} {items : List Item} {made made' : List NewRow} (d : Item) → 1 ≤ length items → IsRowTaken s s' book book' kind items row → word ≡ name_at row kind
-    → gap ≡ told_gap above kind first items → made' ≡ made ++ noted_row kind row (length items) → IsPieceDrafted s s' book book' above kind first items made made' (record { last = (slice_index_or items (length items - 1) d).last; word = word; gap = gap })
+    → gap ≡ told_gap above kind first items → made' ≡ made ++ noted_row kind row (length items) → IsPieceDrafted s s' book book' above kind first items made made' (record { row = row; item = record { last = (slice_index_or items (length items - 1) d).last; word = word; gap = gap } })
 piece_drafted {row = row} {items = items} d some taken word_is gap_is noted =
     let last = last_ends d (length items - 1) 0 items (omega arith) in
-    record { row = row; taken = taken; up = λ i. record { last = last i; word = word_is i; gap = gap_is i }; noted = noted }
+    record { taken = taken; up = λ i. record { last = last i; word = word_is i; gap = gap_is i }; noted = noted }
 
 -- the other rows that are free may still be written anew
 pub still_spare : {s s' : Sheet} {book book' : Book} {kind : RowKind} {items : List Item} {row : ℕ} → IsWhole s → book.rows ≡ s.tree.rows → IsRowTaken s s' book book' kind items row → All (λ row. IsFree s.cleared (life_of s.lives row)) book.free
@@ -31,9 +31,8 @@ still_spare {s} {s'} {book} {book'} {kind} {items} {row} whole rows taken spare 
 -- ---- the rows so far
 
 -- The items before `from` are drafted. What follows makes the whole, whatever rows it takes.
-pub record AreSoFar (s s' : Sheet) (book book' : Book) (above kind : RowKind) (first : ℕ) (items : List Item) (ends : List ℕ) (made made' : List NewRow) (new : List Item) (from index : ℕ) : Type 0 where
+pub record AreSoFar (s s' : Sheet) (book book' : Book) (above kind : RowKind) (first : ℕ) (items : List Item) (ends : List ℕ) (made made' : List NewRow) (rows : List ℕ) (new : List Item) (from index : ℕ) : Type 0 where
   pub may : MayDraftRows s book kind first items ends
-  pub rows : List ℕ
   pub count : length rows ≡ index
   pub count_new : length new ≡ index
   pub notes : length made' ≤ length made + index
@@ -46,10 +45,9 @@ pub record AreSoFar (s s' : Sheet) (book book' : Book) (above kind : RowKind) (f
   pub up : (rest : List ℕ) → length rest ≡ length (drop index ends) → heads above kind first items 0 ends (rows ++ rest) ≡ new ++ heads above kind (first_of first items from) items from (drop index ends) rest
   pub noted : (rest : List ℕ) → length rest ≡ length (drop index ends) → made ++ noted_rows kind 0 ends (rows ++ rest) ≡ made' ++ noted_rows kind from (drop index ends) rest
 
-pub none_so_far : {s : Sheet} {book : Book} {above kind : RowKind} {first : ℕ} {items : List Item} {ends : List ℕ} {made : List NewRow} → MayDraftRows s book kind first items ends → AreSoFar s s book book above kind first items ends made made [] 0 0
+pub none_so_far : {s : Sheet} {book : Book} {above kind : RowKind} {first : ℕ} {items : List Item} {ends : List ℕ} {made : List NewRow} → MayDraftRows s book kind first items ends → AreSoFar s s book book above kind first items ends made made [] [] 0 0
 none_so_far {kind = kind} {items = items} {ends = ends} may = record {
   may = may;
-  rows = [];
   count = refl;
   count_new = refl;
   notes = omega arith;
@@ -63,8 +61,8 @@ none_so_far {kind = kind} {items = items} {ends = ends} may = record {
   noted = λ rest many. refl;
 }
 
-module _ {s s' : Sheet} {book book' : Book} {above kind : RowKind} {first : ℕ} {items : List Item} {ends : List ℕ} {made made' : List NewRow} {new : List Item} {from index : ℕ}
-    (far : AreSoFar s s' book book' above kind first items ends made made' new from index) (inside : index < length ends) where
+module _ {s s' : Sheet} {book book' : Book} {above kind : RowKind} {first : ℕ} {items : List Item} {ends : List ℕ} {made made' : List NewRow} {rows : List ℕ} {new : List Item} {from index : ℕ}
+    (far : AreSoFar s s' book book' above kind first items ends made made' rows new from index) (inside : index < length ends) where
   abbrev to_now : ℕ
   to_now = get_or ends index 0
 
@@ -100,60 +98,58 @@ module _ {s s' : Sheet} {book book' : Book} {above kind : RowKind} {first : ℕ}
   behind_now : first_of first items to_now ≡ end_of 0 part_now + 1
   behind_now = next_begins ∙ after_some (first_of first items from) 0 part_now some_now
 
-  module _ {s″ : Sheet} {book″ : Book} {made″ : List NewRow} {item : Item} {begin : ℕ} (whole : IsWhole s') (begins : begin ≡ first_of first items from) (one : IsPieceDrafted s' s″ book' book″ above kind begin part_now made' made″ item)
+  module _ {s″ : Sheet} {book″ : Book} {made″ : List NewRow} {one : Head} {begin : ℕ} (whole : IsWhole s') (begins : begin ≡ first_of first items from) (piece : IsPieceDrafted s' s″ book' book″ above kind begin part_now made' made″ one)
       (few : length made″ ≤ length made' + 1) where
-    more_rows : (rest : List ℕ) → (far.rows ++ one.row ∷ []) ++ rest ≡ far.rows ++ (one.row ∷ rest)
-    more_rows rest = append_assoc far.rows (one.row ∷ []) rest
+    more_rows : (rest : List ℕ) → (rows ++ one.row ∷ []) ++ rest ≡ rows ++ (one.row ∷ rest)
+    more_rows rest = append_assoc rows (one.row ∷ []) rest
 
     many_rest : (rest : List ℕ) → length rest ≡ length (drop (index + 1) ends) → length (one.row ∷ rest) ≡ length (drop index ends)
     many_rest rest many = let all = ap length ends_are in omega arith
 
-    pub one_so_far : AreSoFar s s″ book book″ above kind first items ends made made″ (new ++ item ∷ []) to_now (index + 1)
+    pub one_so_far : AreSoFar s s″ book book″ above kind first items ends made made″ (rows ++ one.row ∷ []) (new ++ one.item ∷ []) to_now (index + 1)
     one_so_far = record {
       may = far.may;
-      rows = far.rows ++ one.row ∷ [];
-      count = let count = far.count in let long = length-append far.rows (one.row ∷ []) in omega arith;
-      count_new = let count = far.count_new in let long = length-append new (item ∷ []) in omega arith;
+      count = let count = far.count in let long = length-append rows (one.row ∷ []) in omega arith;
+      count_new = let count = far.count_new in let long = length-append new (one.item ∷ []) in omega arith;
       notes = let notes = far.notes in omega arith;
-      free = let free = far.free in let taken = ap (λ (b : Book). length b.free) one.taken.taken in let long = length-append book″.free (one.row ∷ []) in omega arith;
-      book_rows = sym (ap (λ (b : Book). b.rows) one.taken.taken) ∙ (far.book_rows ∙ sym (ap (λ t. t.rows) one.taken.drafted.only.tree));
-      spare = still_spare whole far.book_rows one.taken far.spare;
-      width = ap (λ t. t.table.width) one.taken.drafted.only.tree ∙ far.width;
+      free = let free = far.free in let taken = ap (λ (b : Book). length b.free) piece.taken.taken in let long = length-append book″.free (one.row ∷ []) in omega arith;
+      book_rows = sym (ap (λ (b : Book). b.rows) piece.taken.taken) ∙ (far.book_rows ∙ sym (ap (λ t. t.rows) piece.taken.drafted.only.tree));
+      spare = still_spare whole far.book_rows piece.taken far.spare;
+      width = ap (λ t. t.table.width) piece.taken.drafted.only.tree ∙ far.width;
       parts = subst (λ (n : ℕ). AreParts far.may.tree far.may.height n items to_now (drop (index + 1) ends)) (sym next_begins) parts_now.1;
       taken = λ rest s‴ book‴ all.
           subst (λ (l : List ℕ). AreRowsTaken kind items 0 ends l s s‴ book book‴) (sym (more_rows rest))
-          (far.taken (one.row ∷ rest) s‴ book‴ (subst (λ (l : List ℕ). AreRowsTaken kind items from l (one.row ∷ rest) s' s‴ book' book‴) (sym ends_are) (s″, book″, one.taken, all)));
+          (far.taken (one.row ∷ rest) s‴ book‴ (subst (λ (l : List ℕ). AreRowsTaken kind items from l (one.row ∷ rest) s' s‴ book' book‴) (sym ends_are) (s″, book″, piece.taken, all)));
       up = λ rest many.
           ap (heads above kind first items 0 ends) (more_rows rest)
           ∙ (far.up (one.row ∷ rest) (many_rest rest many)
           ∙ (ap (λ (l : List ℕ). new ++ heads above kind (first_of first items from) items from l (one.row ∷ rest)) ends_are
           ∙ ((λ i. new ++ (head above kind (sym begins i) part_now one.row ∷ heads above kind (sym behind_now i) items to_now (drop (index + 1) ends) rest))
-          ∙ (ap (λ (x : Item). new ++ (x ∷ heads above kind (first_of first items to_now) items to_now (drop (index + 1) ends) rest)) (sym one.up)
-          ∙ sym (append_assoc new (item ∷ []) (heads above kind (first_of first items to_now) items to_now (drop (index + 1) ends) rest))))));
+          ∙ (ap (λ (x : Item). new ++ (x ∷ heads above kind (first_of first items to_now) items to_now (drop (index + 1) ends) rest)) (sym piece.up)
+          ∙ sym (append_assoc new (one.item ∷ []) (heads above kind (first_of first items to_now) items to_now (drop (index + 1) ends) rest))))));
       noted = λ rest many.
           ap (λ (l : List ℕ). made ++ noted_rows kind 0 ends l) (more_rows rest)
           ∙ (far.noted (one.row ∷ rest) (many_rest rest many)
           ∙ (ap (λ (l : List ℕ). made' ++ noted_rows kind from l (one.row ∷ rest)) ends_are
           ∙ (ap (λ (n : ℕ). made' ++ (noted_row kind one.row n ++ noted_rows kind to_now (drop (index + 1) ends) rest)) (sym (length-part items from to_now parts_now.0.within))
           ∙ (sym (append_assoc made' (noted_row kind one.row (length part_now)) (noted_rows kind to_now (drop (index + 1) ends) rest))
-          ∙ ap (λ (l : List NewRow). l ++ noted_rows kind to_now (drop (index + 1) ends) rest) (sym one.noted)))));
+          ∙ ap (λ (l : List NewRow). l ++ noted_rows kind to_now (drop (index + 1) ends) rest) (sym piece.noted)))));
     }
 
 -- all are drafted
-pub all_drafted : {s s' : Sheet} {book book' : Book} {above kind : RowKind} {first : ℕ} {items : List Item} {ends : List ℕ} {made made' : List NewRow} {new : List Item} {from index : ℕ} → AreSoFar s s' book book' above kind first items ends made made' new from index
-    → length ends ≤ index → index ≤ length ends → AreRowsDrafted s s' book book' above kind first items ends made made' new
-all_drafted {s} {s'} {book} {book'} {above} {kind} {first} {items} {ends} {made} {made'} {new} {from} {index} far done low =
+pub all_drafted : {s s' : Sheet} {book book' : Book} {above kind : RowKind} {first : ℕ} {items : List Item} {ends : List ℕ} {made made' : List NewRow} {rows : List ℕ} {new : List Item} {from index : ℕ} → AreSoFar s s' book book' above kind first items ends made made' rows new from index
+    → length ends ≤ index → index ≤ length ends → AreRowsDrafted s s' book book' above kind first items ends made made' rows new
+all_drafted {s} {s'} {book} {book'} {above} {kind} {first} {items} {ends} {made} {made'} {rows} {new} {from} {index} far done low =
     let none : drop index ends ≡ [] = drop_all index ends done in
-    let rows : far.rows ++ [] ≡ far.rows = append-nil far.rows in
+    let same : rows ++ [] ≡ rows = append-nil rows in
     record {
-      rows = far.rows;
       many = let count = far.count in omega arith;
-      taken = subst (λ (l : List ℕ). AreRowsTaken kind items 0 ends l s s' book book') rows (far.taken [] s' book' (subst (λ (l : List ℕ). AreRowsTaken kind items from l [] s' s' book' book') (sym none) (refl, refl)));
+      taken = subst (λ (l : List ℕ). AreRowsTaken kind items 0 ends l s s' book book') same (far.taken [] s' book' (subst (λ (l : List ℕ). AreRowsTaken kind items from l [] s' s' book' book') (sym none) (refl, refl)));
       up = sym
-          (sym (ap (heads above kind first items 0 ends) rows)
+          (sym (ap (heads above kind first items 0 ends) same)
           ∙ (far.up [] (sym (ap length none)) ∙ (ap (λ (l : List ℕ). new ++ heads above kind (first_of first items from) items from l []) none ∙ append-nil new)));
       noted = sym
-          (sym (ap (λ (l : List ℕ). made ++ noted_rows kind 0 ends l) rows)
+          (sym (ap (λ (l : List ℕ). made ++ noted_rows kind 0 ends l) same)
           ∙ (far.noted [] (sym (ap length none)) ∙ (ap (λ (l : List ℕ). made' ++ noted_rows kind from l []) none ∙ append-nil made')));
     }
 

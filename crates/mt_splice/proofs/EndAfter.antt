@@ -88,7 +88,7 @@ pub record Outcome (f : Finish) (s' : Sheet) : Type 0 where
   pub reached : (row : ℕ) → is_reached s'.tree row ≡ is_reached (published f) row
   pub lives : (row : ℕ) → first_row ≤ row → row < first_row + f.before.sheet.tree.rows → life_of s'.lives row ≡ life_after f.sheet (published f) row
   pub buried : (row : ℕ) → first_row ≤ row → row < first_row + f.before.sheet.tree.rows → is_buried s'.buried row ≡ false
-  pub at : (row col : ℕ) → f.place ≡ Slot row col → word_at s'.tree row col ≡ f.word
+  pub at : (row col : ℕ) → f.top.place ≡ Slot row col → word_at s'.tree row col ≡ f.top.word
   pub kept : (row col : ℕ) → 0 < col → col < columns f.before.sheet.tree.table.width → column s'.tree.table row col ≡ column (published f).table row col
 
 -- the column of a slot place is one of a row, and not that of its parent word
@@ -100,12 +100,12 @@ above_in s (Slot r c) at row col is =
     let some = slot_above s.tree.table.width at.2.kind at.2.slot in
     subst (λ (n : ℕ). (0 < n) × (n < columns s.tree.table.width)) cols (omega arith, at.0.column)
 
-module _ (f : Finish) (s₁ s₂ : Sheet) (done : Published f.sheet s₁ f.place f.word f.call f.reply) (only : OnlyParents s₁ s₂) where
+module _ (f : Finish) (s₁ s₂ : Sheet) (done : Published f.sheet s₁ f.top.place f.top.word f.call f.reply) (only : OnlyParents s₁ s₂) where
   tree₁ : s₁.tree ≡ published f
   tree₁ = ap (λ (x : Sheet). x.tree) done.rest
 
   width₁ : s₁.tree.table.width ≡ f.sheet.tree.table.width
-  width₁ = ap (λ (v : Rooted). v.table.width) tree₁ ∙ published_width f.sheet.tree f.place f.word
+  width₁ = ap (λ (v : Rooted). v.table.width) tree₁ ∙ published_width f.sheet.tree f.top.place f.top.word
 
   abbrev t₁ : Tree
   t₁ = tree_as f.before.kind s₁.tree
@@ -147,12 +147,12 @@ module _ (f : Finish) (s₁ s₂ : Sheet) (done : Published f.sheet s₁ f.place
       ∙ (ap (λ (x : Sheet). record x { tree = s₂.tree; reads = s₂.reads }) published_is
       ∙ (λ i. record f.before.sheet { tree = s₂.tree; published = true; lives = lives i; buried = buried i; told = with_record f.before.sheet.told f.call f.reply; reads = s₂.reads }))
 
-  word_in : (place : Place) → IsPlaceToPublish f.sheet place → (row col : ℕ) → place ≡ Slot row col → word_at (with_published f.sheet.tree place f.word) row col ≡ f.word
+  word_in : (place : Place) → IsPlaceToPublish f.sheet place → (row col : ℕ) → place ≡ Slot row col → word_at (with_published f.sheet.tree place f.top.word) row col ≡ f.top.word
   word_in Root at row col is = absurd (cc)
   word_in (Slot r c) at row col is =
       let rows : r ≡ row = cc in let cols : c ≡ col = cc in
-      (λ i. word_at (with_published f.sheet.tree (Slot r c) f.word) (sym rows i) (sym cols i))
-      ∙ same_column f.sheet.tree.table.width f.sheet.tree.table.words r (first_row + f.sheet.tree.rows) c f.word at.0.column at.0.last (ledger f).whole.words
+      (λ i. word_at (with_published f.sheet.tree (Slot r c) f.top.word) (sym rows i) (sym cols i))
+      ∙ same_column f.sheet.tree.table.width f.sheet.tree.table.words r (first_row + f.sheet.tree.rows) c f.top.word at.0.column at.0.last (ledger f).whole.words
 
   pub outcome : Outcome f s₂
   outcome = record {
@@ -160,7 +160,7 @@ module _ (f : Finish) (s₁ s₂ : Sheet) (done : Published f.sheet s₁ f.place
     stands = subst (λ (v : Rooted). StandsAs (tree_as f.before.kind v) f.may.new) (sym only.tree) (other_stands t₁ s₂.tree.table.words f.may.new keep stands₁);
     fewest = subst (λ (v : Rooted). FewestAs (was_seen f.may.taken) (tree_as f.before.kind v) f.may.new) (sym only.tree) (fewest_kept (was_seen f.may.taken) t₁ s₂.tree.table.words f.may.new keep fewest₁);
     gaps = subst (λ (v : Rooted). GapsBeside f.start (was_seen f.may.taken) (tree_as f.before.kind v) f.may.new) (sym only.tree) (gaps_stay f.start (was_seen f.may.taken) t₁ s₂.tree.table.words f.may.new keep stands₁ gaps₁);
-    rows = only_rows s₁ s₂ only ∙ (ap (λ (v : Rooted). v.rows) tree₁ ∙ (published_rows f.sheet.tree f.place f.word ∙ rows_same f));
+    rows = only_rows s₁ s₂ only ∙ (ap (λ (v : Rooted). v.rows) tree₁ ∙ (published_rows f.sheet.tree f.top.place f.top.word ∙ rows_same f));
     width = only_width s₁ s₂ only ∙ (width₁ ∙ width_same f);
     root = ap (λ (v : Rooted). v.root) only.tree ∙ ap (λ (v : Rooted). v.root) tree₁;
     map = ap map_by only.tree ∙ (other_map t₁ s₂.tree.table.words f.may.new keep stands₁ ∙ (ap map_by tree₁ ∙ map_later f));
@@ -173,15 +173,15 @@ module _ (f : Finish) (s₁ s₂ : Sheet) (done : Published f.sheet s₁ f.place
     kept = λ row col above within.
         only.kept row col above (subst (λ (v : Width). col < columns v) (sym (width₁ ∙ width_same f)) within) ∙ ap (λ (v : Rooted). column v.table row col) tree₁;
     at = λ row col is.
-        (let above = above_in f.sheet f.place (place_is f) row col is in
+        (let above = above_in f.sheet f.top.place (place_is f) row col is in
         only.kept row col above.0 (subst (λ (v : Width). col < columns v) (sym width₁) above.1)
-        ∙ (ap (λ (v : Rooted). column v.table row col) tree₁ ∙ word_in f.place (place_is f) row col is));
+        ∙ (ap (λ (v : Rooted). column v.table row col) tree₁ ∙ word_in f.top.place (place_is f) row col is));
   }
 
   -- what is told of the row that was published
-  pub told_after : (row col gap : ℕ) → f.place ≡ Slot row col → TellsBelow f.before.kind (published f) f.word gap → TellsGapAt f.before.kind s₂.tree f.place gap
+  pub told_after : (row col gap : ℕ) → f.top.place ≡ Slot row col → TellsBelow f.before.kind (published f) f.top.word gap → TellsGapAt f.before.kind s₂.tree f.top.place gap
   told_after row col gap is tells =
-      let there = subst (λ (v : Rooted). TellsBelow f.before.kind v f.word gap) (sym tree₁) tells in
-      let later = tells_kept f.before.kind s₁.tree s₂.tree.table.words f.may.new f.word gap keep stands₁ (other_stands t₁ s₂.tree.table.words f.may.new keep stands₁) there in
-      let now = subst (λ (v : Rooted). TellsBelow f.before.kind v f.word gap) (sym only.tree) later in
+      let there = subst (λ (v : Rooted). TellsBelow f.before.kind v f.top.word gap) (sym tree₁) tells in
+      let later = tells_kept f.before.kind s₁.tree s₂.tree.table.words f.may.new f.top.word gap keep stands₁ (other_stands t₁ s₂.tree.table.words f.may.new keep stands₁) there in
+      let now = subst (λ (v : Rooted). TellsBelow f.before.kind v f.top.word gap) (sym only.tree) later in
       subst (λ (p : Place). TellsGapAt f.before.kind s₂.tree p gap) (sym is) (subst (λ (w : ℕ). TellsBelow f.before.kind s₂.tree w gap) (sym (outcome.at row col is)) now)

@@ -277,7 +277,7 @@ module _ (f : ends.Finish) (s' : Sheet) (o : Outcome f s') where
   root_before : f.start.tree.root ≡ b.sheet.tree.root
   root_before = ap (λ (t : laws.Tree). t.root) f.may.case.was.tree
 
-  other_root : (old new : Option ℕ) → f.may.old ≡ old → f.may.new ≡ new → StandsAs f.start.tree old → IsTop f.may.taken old new f.word → f.word ≢ f.start.tree.root
+  other_root : (old new : Option ℕ) → f.may.old ≡ old → f.may.new ≡ new → StandsAs f.start.tree old → IsTop f.may.taken old new f.top.word → f.top.word ≢ f.start.tree.root
   other_root None None is is' stands top same = absurd top
   other_root (Some h) None is is' stands top same = root_named f.start.tree h stands (sym same ∙ top)
   other_root None (Some h') is is' stands top same = ends.word_is_some f h' is' (same ∙ stands)
@@ -325,43 +325,43 @@ module _ (f : ends.Finish) (s' : Sheet) (o : Outcome f s') where
         sym ((ends.ledger f).kept row col (ends.old_is_not_taken f row row_was) within.0 within.1)
         ∙ (ap (λ (v : Rooted). column v.table row col) (ends.tree_is f) ∙ word_now)
 
-    not_child : (new : Option ℕ) → IsTop f.may.taken (Some h) new f.word → f.word ≢ place.child.word
+    not_child : (new : Option ℕ) → IsTop f.may.taken (Some h) new f.top.word → f.top.word ≢ place.child.word
     not_child None top same = child_named (sym same ∙ top)
     not_child (Some h') top same =
         let not = ends.old_is_not_taken f (row_in place.child.word) child_was in
         let taken : was_seen f.may.taken (row_in place.child.word) ≡ true = subst (λ (n : ℕ). was_seen f.may.taken (row_in n) ≡ true) same top in
         absurd (cc)
 
-    slot_published : (new : Option ℕ) → IsTop f.may.taken (Some h) new f.word → f.place ≡ Slot row col → passing (is_row_of row) f.may.gone ≡ 0 → WasPublishedAt b.sheet s' (Slot row col)
+    slot_published : (new : Option ℕ) → IsTop f.may.taken (Some h) new f.top.word → f.top.place ≡ Slot row col → passing (is_row_of row) f.may.gone ≡ 0 → WasPublishedAt b.sheet s' (Slot row col)
     slot_published new top is_place kept =
         let number = ends.was_number f row row_was in
         let c = ends.counts f row in let sum = c.sum in
         let alive = is_reached_later row (let was = row_was in omega arith) in
-        let low : (0 < col) × (col < columns b.sheet.tree.table.width) = subst (λ (v : Width). (0 < col) × (col < columns v)) (ends.width_same f) (above_in s f.place (ends.place_is f) row col is_place) in (
-          o.root ∙ (ap (λ (p : Place). (with_published s.tree p f.word).root) is_place ∙ ends.root_same f),
+        let low : (0 < col) × (col < columns b.sheet.tree.table.width) = subst (λ (v : Width). (0 < col) × (col < columns v)) (ends.width_same f) (above_in s f.top.place (ends.place_is f) row col is_place) in (
+          o.root ∙ (ap (λ (p : Place). (with_published s.tree p f.top.word).root) is_place ∙ ends.root_same f),
           (f.may.case.was.kept.live row number.0 number.1).1 (ends.reached_was f row row_was),
           o.lives row number.0 number.1 ∙ life_if_reached s (ends.published f) row (sym (o.reached row) ∙ alive),
           (λ same. not_child new top (sym (o.at row col is_place) ∙ (same ∙ word_was low))),
         )
 
-  published_in : (old new : Option ℕ) (place : Place) → f.may.old ≡ old → f.may.new ≡ new → f.place ≡ place → StandsAs f.start.tree old → IsEndPlace (now f.start s) f.may.gone old place → IsTop f.may.taken old new f.word → WasPublishedAt b.sheet s' place
+  published_in : (old new : Option ℕ) (place : Place) → f.may.old ≡ old → f.may.new ≡ new → f.top.place ≡ place → StandsAs f.start.tree old → IsEndPlace (now f.start s) f.may.gone old place → IsTop f.may.taken old new f.top.word → WasPublishedAt b.sheet s' place
   published_in old new Root is_old is_new is_place was at top = λ same.
       other_root old new is_old is_new was top
-      (sym (o.root ∙ ap (λ (p : Place). (with_published s.tree p f.word).root) is_place) ∙ (same ∙ sym root_before))
+      (sym (o.root ∙ ap (λ (p : Place). (with_published s.tree p f.top.word).root) is_place) ∙ (same ∙ sym root_before))
   published_in None new (Slot row col) is_old is_new is_place was at top = absurd at
   published_in (Some h) new (Slot row col) is_old is_new is_place was at top = slot_published h row col is_old at.0 new top is_place at.1
 
   -- ---- words that stay
 
-  stored_kept : (place : Place) → IsPlaceToPublish s place → (row col : ℕ) → col < columns s.tree.table.width → place ≢ Slot row col → column (with_published s.tree place f.word).table row col ≡ column s.tree.table row col
+  stored_kept : (place : Place) → IsPlaceToPublish s place → (row col : ℕ) → col < columns s.tree.table.width → place ≢ Slot row col → column (with_published s.tree place f.top.word).table row col ≡ column s.tree.table row col
   stored_kept Root at row col within other = refl
   stored_kept (Slot r c) at row col within other =
       let inside = (above_in s (Slot r c) at r c refl).1 in
       elim (cases_eq row r) [
-        | inr off ↦ other_row s.tree.table.width s.tree.table.words r c f.word row col off inside within
+        | inr off ↦ other_row s.tree.table.width s.tree.table.words r c f.top.word row col off inside within
         | inl same ↦
-            subst (λ (n : ℕ). column (with_published s.tree (Slot r c) f.word).table n col ≡ column s.tree.table n col) (sym same)
-            (other_column s.tree.table.width s.tree.table.words r c f.word col (λ here. other (λ i. Slot (sym same i) (sym here i))))
+            subst (λ (n : ℕ). column (with_published s.tree (Slot r c) f.top.word).table n col ≡ column s.tree.table n col) (sym same)
+            (other_column s.tree.table.width s.tree.table.words r c f.top.word col (λ here. other (λ i. Slot (sym same i) (sym here i))))
       ]
 
   -- a row that is not reached for the first time was not taken
@@ -373,10 +373,10 @@ module _ (f : ends.Finish) (s' : Sheet) (o : Outcome f s') where
         ends.old_is_not_taken f row was
   ]
 
-  kept : (row col : ℕ) → (IsReached s'.tree row → IsReached b.sheet.tree row) → 0 < col → col < columns b.sheet.tree.table.width → f.place ≢ Slot row col → word_at s'.tree row col ≡ word_at b.sheet.tree row col
+  kept : (row col : ℕ) → (IsReached s'.tree row → IsReached b.sheet.tree row) → 0 < col → col < columns b.sheet.tree.table.width → f.top.place ≢ Slot row col → word_at s'.tree row col ≡ word_at b.sheet.tree row col
   kept row col old above within other =
       o.kept row col above within
-      ∙ (stored_kept f.place (ends.place_is f) row col (subst (λ (v : Width). col < columns v) (sym (ends.width_same f)) within) other
+      ∙ (stored_kept f.top.place (ends.place_is f) row col (subst (λ (v : Width). col < columns v) (sym (ends.width_same f)) within) other
       ∙ (ends.ledger f).kept row col (not_taken_of row old) above within)
 
   -- a row of the tree now is one that was taken, or one of the tree before
@@ -427,7 +427,7 @@ module _ (f : ends.Finish) (s' : Sheet) (o : Outcome f s') where
   gaps_as (Some h) standing gaps index from to = inr (h, standing, gaps_of index h standing (gaps index from to))
 
   -- all is done but for the parent words
-  pub spliced : HasParents (tree_as b.kind s'.tree) → ((row : ℕ) → IsReached b.sheet.tree row → is_reached s'.tree row ≡ false → word_at s'.tree row 0 ≡ dead_mark row) → IsSpliced b.kind b.sheet s' b.book book b.number f.call f.reply f.place f.start.first f.start.last
+  pub spliced : HasParents (tree_as b.kind s'.tree) → ((row : ℕ) → IsReached b.sheet.tree row → is_reached s'.tree row ≡ false → word_at s'.tree row 0 ≡ dead_mark row) → IsSpliced b.kind b.sheet s' b.book book b.number f.call f.reply f.top.place f.start.first f.start.last
   spliced parents marked = record {
     rest = o.rest;
     rows = o.rows;
@@ -436,7 +436,7 @@ module _ (f : ends.Finish) (s' : Sheet) (o : Outcome f s') where
     map = map_is;
     fewest = fewest_as f.may.new o.stands o.fewest;
     gaps = gaps_as f.may.new o.stands o.gaps;
-    published = published_in f.may.old f.may.new f.place refl refl refl f.may.stood f.may.at f.may.top;
+    published = published_in f.may.old f.may.new f.top.place refl refl refl f.may.stood f.may.at f.may.names;
     kept = kept;
     none_buried = none_buried;
     live = live;

@@ -1,9 +1,10 @@
 -- When a replacement is published and the children of its new inner rows are tended, all parent words are right.
-use Rattle.mt_splice.proofs.Prelude.{◌≡◌, ◌≢◌, ◌⊎◌, ℕ, zero, suc, ◌+◌, ◌-◌, ◌<◌, ◌≤◌, List, ◌∷◌, Option, Some, None, true, false, length, refl, sym, ap, ◌∙◌, subst, inl, inr, arith, nat_lt, is_some, if◌then◌else◌, slice_get, cases_Bool, slice_get_within, Width, columns, first_row, RowKind, Span, row_in, named_kind, named_row, parent_at, slot_column, Draft, Live, Place, Root, Slot, Table, column, inner_kind, spans_in, root_span, slots_of, some_columns, Levels, is_row_of, Rooted, Sheet, IsPlace, life_of, is_buried, tree_as, with_published, Published, IsPlaceToPublish, root_of, same_spans, Shared, levels_shared, NewRow, Seen, passing, now, child_word, child_row, AreChildren, Before, row_seen, HasParents, StandsAs, count_in, IsEndPlace, IsTop, OnlyParents, AreTendedTo, MayTendTop, MayTendTopAt, IsTopTendedAt, row_most, levels_at, published_rows, published_width, was_seen, []}
+use Rattle.mt_splice.proofs.Prelude.{◌≡◌, ◌≢◌, ◌⊎◌, ℕ, zero, suc, ◌+◌, ◌-◌, ◌<◌, ◌≤◌, List, ◌∷◌, Option, Some, None, true, false, length, refl, sym, ap, ◌∙◌, subst, inl, inr, arith, nat_lt, is_some, if◌then◌else◌, slice_get, cases_Bool, slice_get_within, Width, columns, first_row, RowKind, Span, row_in, named_kind, named_row, parent_at, slot_column, Draft, Live, Place, Root, Slot, Table, column, inner_kind, spans_in, root_span, slots_of, some_columns, Levels, is_row_of, Rooted, Sheet, IsPlace, life_of, is_buried, tree_as, with_published, Published, IsPlaceToPublish, root_of, same_spans, Shared, levels_shared, NewRow, Seen, passing, now, child_word, child_row, AreChildren, Before, row_seen, HasParents, StandsAs, count_in, IsEndPlace, IsTop, OnlyParents, AreTendedTo, MayTendTop, row_most, levels_at, published_rows, published_width, was_seen, []}
 use Rattle.mt_rows.specs.Laws as laws
 use Rattle.mt_rows.proofs.Reached as reached
 use Rattle.mt_splice.proofs.Drafts.{other_row}
-use Rattle.mt_splice.proofs.EndTending.{none_tended_yet, only_width, kept_column, only_more, top_only, top_kept}
+use Rattle.mt_splice.proofs.EndTending.{IsTopTendedAt, none_tended_yet, only_width, kept_column, only_more, top_only, top_kept}
+use Rattle.mt_splice.proofs.Tending.{own_parent}
 use Rattle.mt_splice.proofs.KeptTrees.{Keeps, KeepsAs, kept_level, kept_shared}
 use Rattle.mt_splice.proofs.EndTrees.{none_or_some, count_once}
 use Rattle.mt_splice.proofs.EndHoles.{same_place_spans, at_on_level, top_span, top_get, slot_get}
@@ -26,18 +27,18 @@ module _ (f : ends.Finish) where
   s = f.sheet
 
   abbrev pub later : laws.Tree
-  later = tree_as f.before.kind (with_published f.sheet.tree f.place f.word)
+  later = tree_as f.before.kind (with_published f.sheet.tree f.top.place f.top.word)
 
   -- ---- the store and the words
 
-  stored_parent : (place : Place) → IsPlaceToPublish s place → (row : ℕ) → column (with_published s.tree place f.word).table row 0 ≡ column s.tree.table row 0
+  stored_parent : (place : Place) → IsPlaceToPublish s place → (row : ℕ) → column (with_published s.tree place f.top.word).table row 0 ≡ column s.tree.table row 0
   stored_parent Root at row = refl
   stored_parent (Slot r c) at row =
       let above = above_in s (Slot r c) at r c refl in
-      kept_column s.tree.table.width s.tree.table.words r c f.word row 0 (some_columns s.tree.table.width) above.1 (λ same. let low = above.0 in absurd (omega arith))
+      kept_column s.tree.table.width s.tree.table.words r c f.top.word row 0 (some_columns s.tree.table.width) above.1 (λ same. let low = above.0 in absurd (omega arith))
 
   pub parent_stays : (row : ℕ) → column later.table row 0 ≡ column s.tree.table row 0
-  parent_stays row = stored_parent f.place (ends.place_is f) row
+  parent_stays row = stored_parent f.top.place (ends.place_is f) row
 
   -- the row of a slot place was not taken
   place_old : (place : Place) → IsPlaceToPublish s place → (row col : ℕ) → place ≡ Slot row col → was_seen f.may.taken row ≡ false
@@ -53,17 +54,17 @@ module _ (f : ends.Finish) where
       ])
 
   stored_spans : (place : Place) → IsPlaceToPublish s place → ((row col : ℕ) → place ≡ Slot row col → was_seen f.may.taken row ≡ false) → (x : Span) → was_seen f.may.taken (row_in x.word) ≡ true
-      → spans_in (with_published s.tree place f.word).table x ≡ spans_in s.tree.table x
+      → spans_in (with_published s.tree place f.top.word).table x ≡ spans_in s.tree.table x
   stored_spans Root at old x taken = refl
   stored_spans (Slot r c) at old x taken =
-      same_spans s.tree.table (with_published s.tree (Slot r c) f.word).table x refl (λ column_of above within.
-      other_row s.tree.table.width s.tree.table.words r c f.word (row_in x.word) column_of
+      same_spans s.tree.table (with_published s.tree (Slot r c) f.top.word).table x refl (λ column_of above within.
+      other_row s.tree.table.width s.tree.table.words r c f.top.word (row_in x.word) column_of
       (λ same. (let not = old r c refl in let both : was_seen f.may.taken r ≡ true = subst (λ (n : ℕ). was_seen f.may.taken n ≡ true) same taken in absurd (cc)))
       (above_in s (Slot r c) at r c refl).1 within)
 
   -- a row that was taken holds what was written in it
   taken_spans : (x : Span) → was_seen f.may.taken (row_in x.word) ≡ true → spans_in later.table x ≡ spans_in s.tree.table x
-  taken_spans x taken = stored_spans f.place (ends.place_is f) (place_old f.place (ends.place_is f)) x taken
+  taken_spans x taken = stored_spans f.top.place (ends.place_is f) (place_old f.top.place (ends.place_is f)) x taken
 
   pub inner : (k : ℕ) → laws.kind_at b.kind (suc k) ≡ inner_kind b.kind
   inner k = refl
@@ -234,14 +235,14 @@ module _ (f : ends.Finish) where
       pub on : reached.OnLevel later.table h (root_of later) (suc low) at
       pub number : row_in at.word ≡ row
       pub get : slice_get (spans_in later.table at) slot ≡ Some top
-      pub word : top.word ≡ f.word
+      pub word : top.word ≡ f.top.word
       pub column_is : col ≡ slot_column (slots_of later.table.width (inner_kind b.kind)) slot
       pub old : was_seen f.may.taken row ≡ false
 
     width_later : later.table.width ≡ s.tree.table.width
-    width_later = published_width s.tree f.place f.word
+    width_later = published_width s.tree f.top.place f.top.word
 
-    top_in : (old : Option ℕ) (place : Place) (row col : ℕ) → f.may.old ≡ old → f.place ≡ place → place ≡ Slot row col → IsEndPlace (now f.start s) f.may.gone old place → TopAt row col
+    top_in : (old : Option ℕ) (place : Place) (row col : ℕ) → f.may.old ≡ old → f.top.place ≡ place → place ≡ Slot row col → IsEndPlace (now f.start s) f.may.gone old place → TopAt row col
     top_in old Root row col is_old is_place is at = absurd (cc)
     top_in None (Slot r c) row col is_old is_place is at = absurd at
     top_in (Some h₀) (Slot r c) row col is_old is_place is at =
@@ -261,13 +262,13 @@ module _ (f : ends.Finish) where
           low = place.low;
           slot = place.slot;
           at = found.1;
-          top = top_span t h₀ r c (ends.words_now f) stood place f.word;
+          top = top_span t h₀ r c (ends.words_now f) stood place f.top.word;
           on = subst (λ (k : ℕ). reached.OnLevel later.table h (root_of later) k found.1) same.0 found.2;
           number = found.3 ∙ (place.number ∙ rows);
           get =
               ap (λ (xs : List Span). slice_get xs place.slot) (same_place_spans later.table place.at found.1 same.1 same.2 same.3)
-              ∙ ((λ i. slice_get (spans_in (with_published (ends.tree_is f i) (is_place i) f.word).table place.at) place.slot)
-              ∙ top_get t h₀ r c (ends.words_now f) stood place f.word);
+              ∙ ((λ i. slice_get (spans_in (with_published (ends.tree_is f i) (is_place i) f.top.word).table place.at) place.slot)
+              ∙ top_get t h₀ r c (ends.words_now f) stood place f.top.word);
           word = refl;
           column_is = sym cols ∙ (place.column
               ∙ (λ i. slot_column (slots_of (sym (width_later ∙ ap (λ (v : Rooted). v.table.width) (ends.tree_is f)) i) (kind_here place.low i)) place.slot));
@@ -277,8 +278,8 @@ module _ (f : ends.Finish) where
         kind_here : (low : ℕ) → laws.kind_on (now f.start s).gapped (suc low) ≡ (inner_kind b.kind)
         kind_here low = ap (λ (t : laws.Tree). laws.kind_on t.gapped (suc low)) f.may.case.was.tree ∙ inner low
 
-    top_at : (row col : ℕ) → f.place ≡ Slot row col → TopAt row col
-    top_at row col is = top_in f.may.old f.place row col refl refl is f.may.at
+    top_at : (row col : ℕ) → f.top.place ≡ Slot row col → TopAt row col
+    top_at row col is = top_in f.may.old f.top.place row col refl refl is f.may.at
 
     -- ---- what stands in a row that was not taken
 
@@ -287,9 +288,9 @@ module _ (f : ends.Finish) where
     IsOldChild x i y = (column b.sheet.tree.table (row_in y.word) 0 ≡ parent_at (row_in x.word) i) × (1 ≤ ends.old_count f (row_in y.word))
 
     abbrev IsTopChild : Span → ℕ → Span → Type 0
-    IsTopChild x i y = (row : ℕ) × (col : ℕ) × (f.place ≡ Slot row col) × (row_in x.word ≡ row) × (col ≡ slot_column (slots_of later.table.width (inner_kind b.kind)) i) × (y.word ≡ f.word)
+    IsTopChild x i y = (row : ℕ) × (col : ℕ) × (f.top.place ≡ Slot row col) × (row_in x.word ≡ row) × (col ≡ slot_column (slots_of later.table.width (inner_kind b.kind)) i) × (y.word ≡ f.top.word)
 
-    kept_in : (old : Option ℕ) (place : Place) (k i : ℕ) (x y : Span) → f.may.old ≡ old → f.place ≡ place → IsEndPlace (now f.start s) f.may.gone old place → reached.OnLevel later.table h (root_of later) (suc k) x → ends.taken_count f (row_in x.word) ≡ 0
+    kept_in : (old : Option ℕ) (place : Place) (k i : ℕ) (x y : Span) → f.may.old ≡ old → f.top.place ≡ place → IsEndPlace (now f.start s) f.may.gone old place → reached.OnLevel later.table h (root_of later) (suc k) x → ends.taken_count f (row_in x.word) ≡ 0
         → slice_get (spans_in later.table x) i ≡ Some y → IsOldChild x i y ⊎ IsTopChild x i y
     kept_in None place k i x y is_old is_place at on none get =
         let is = place_counted (suc k) x on in
@@ -306,8 +307,8 @@ module _ (f : ends.Finish) where
         let same = ends.keeps_span f found.0 (suc k) found.1 x (reached.stands_at t h₀ stood found.2.depth found.0 found.1 found.2.height found.2.one)
         (reached.stands_at later h stands on.depth (suc k) x on.height on.one) found.3 in
         let on₀ = subst (λ (n : ℕ). reached.OnLevel t.table h₀ (root_of t) n found.1) (sym same.0) found.2 in
-        let here : slice_get (spans_in (with_published (words_of t) place f.word).table found.1) i ≡ Some y =
-        (λ j. slice_get (spans_in (with_published (sym (ends.tree_is f) j) (sym is_place j) f.word).table found.1) i)
+        let here : slice_get (spans_in (with_published (words_of t) place f.top.word).table found.1) i ≡ Some y =
+        (λ j. slice_get (spans_in (with_published (sym (ends.tree_is f) j) (sym is_place j) f.top.word).table found.1) i)
         ∙ (ap (λ (xs : List Span). slice_get xs i) (sym (same_place_spans later.table found.1 x same.1 same.2 same.3)) ∙ get) in
         by h₀ is_old place is_place at found.1 on₀ found.3 here
       where
@@ -318,12 +319,12 @@ module _ (f : ends.Finish) where
           old_counted h₀ is_old (row_in y.word) (reached.on_level_reached (now f.start s) h₀ (stands_old h₀ is_old) k y (child_on (now f.start s) h₀ (stands_old h₀ is_old) k i x₀ y on₀ here)),
         )
 
-        by : (h₀ : ℕ) → f.may.old ≡ Some h₀ → (place : Place) → f.place ≡ place → IsEndPlace (now f.start s) f.may.gone (Some h₀) place → (x₀ : Span) → reached.OnLevel (now f.start s).table h₀ (root_of (now f.start s)) (suc k) x₀
-            → row_in x₀.word ≡ row_in x.word → slice_get (spans_in (with_published (words_of (now f.start s)) place f.word).table x₀) i ≡ Some y → IsOldChild x i y ⊎ IsTopChild x i y
+        by : (h₀ : ℕ) → f.may.old ≡ Some h₀ → (place : Place) → f.top.place ≡ place → IsEndPlace (now f.start s) f.may.gone (Some h₀) place → (x₀ : Span) → reached.OnLevel (now f.start s).table h₀ (root_of (now f.start s)) (suc k) x₀
+            → row_in x₀.word ≡ row_in x.word → slice_get (spans_in (with_published (words_of (now f.start s)) place f.top.word).table x₀) i ≡ Some y → IsOldChild x i y ⊎ IsTopChild x i y
         by h₀ is_old Root is_place at x₀ on₀ row here = inl (old_child h₀ is_old x₀ on₀ row here)
         by h₀ is_old (Slot r c) is_place at x₀ on₀ row here =
             let place = at.0 in
-            elim (slot_get (now f.start s) h₀ r c (ends.words_now f) (stands_old h₀ is_old) place f.word (suc k) x₀ y i on₀ here) [
+            elim (slot_get (now f.start s) h₀ r c (ends.words_now f) (stands_old h₀ is_old) place f.top.word (suc k) x₀ y i on₀ here) [
               | inl old ↦ inl (old_child h₀ is_old x₀ on₀ row old)
               | inr top ↦ inr (
                 r,
@@ -341,19 +342,19 @@ module _ (f : ends.Finish) where
             kind_here low = ap (λ (t : laws.Tree). laws.kind_on t.gapped (suc low)) f.may.case.was.tree ∙ inner low
 
     kept_children : (k i : ℕ) (x y : Span) → reached.OnLevel later.table h (root_of later) (suc k) x → ends.taken_count f (row_in x.word) ≡ 0 → slice_get (spans_in later.table x) i ≡ Some y → IsOldChild x i y ⊎ IsTopChild x i y
-    kept_children k i x y on none get = kept_in f.may.old f.place k i x y refl refl f.may.at on none get
+    kept_children k i x y on none get = kept_in f.may.old f.top.place k i x y refl refl f.may.at on none get
 
     -- ---- the sheet when the word is published
 
-    module _ (s₁ : Sheet) (done : Published f.sheet s₁ f.place f.word f.call f.reply) where
-      tree₁ : s₁.tree ≡ with_published f.sheet.tree f.place f.word
+    module _ (s₁ : Sheet) (done : Published f.sheet s₁ f.top.place f.top.word f.call f.reply) where
+      tree₁ : s₁.tree ≡ with_published f.sheet.tree f.top.place f.top.word
       tree₁ = ap (λ (x : Sheet). x.tree) done.rest
 
       table₁ : s₁.tree.table ≡ later.table
       table₁ = ap (λ (t : Rooted). t.table) tree₁
 
       rows₁ : s₁.tree.rows ≡ b.sheet.tree.rows
-      rows₁ = ap (λ (t : Rooted). t.rows) tree₁ ∙ (published_rows s.tree f.place f.word ∙ ends.rows_same f)
+      rows₁ = ap (λ (t : Rooted). t.rows) tree₁ ∙ (published_rows s.tree f.top.place f.top.word ∙ ends.rows_same f)
 
       -- a row that is reached may be tended
       record IsReady (word : ℕ) : Type 0 where
@@ -424,38 +425,39 @@ module _ (f : ends.Finish) where
             (subst (λ (l : List NewRow). slice_get l i ≡ Some n) f.may.inner_rows at_n) (subst (λ (l : List NewRow). slice_get l j ≡ Some m) f.may.inner_rows at_m) rows in
             omega arith))
 
-      may_tend_slot : (row col : ℕ) → f.place ≡ Slot row col → MayTendTop s₁ (inner_kind b.kind) row col f.word
+      may_tend_slot : (row col : ℕ) → f.top.place ≡ Slot row col → MayTendTop s₁ (inner_kind b.kind) (Slot row col) (row_in f.top.word)
       may_tend_slot row col is =
           let top = top_at row col is in
           let on = child_on later h stands top.low top.slot top.at top.top top.on top.get in
           let here = ready top.low top.top on in
           let word = top.word in
-          let within = above_in f.sheet f.place (ends.place_is f) row col is in
-          let width : f.sheet.tree.table.width ≡ s₁.tree.table.width = sym (ap (λ (v : Rooted). v.table.width) tree₁ ∙ width_later) in
-          record {
-            named = subst (λ (v : ℕ). named_row v ≡ Some (row_in v)) word here.named;
-            at = subst (λ (v : ℕ). IsPlace s₁.tree (row_in v) 0) word here.at;
-            live = subst (λ (v : ℕ). life_of s₁.lives (row_in v) ≡ Live) word here.live;
-            kept = subst (λ (v : ℕ). is_buried s₁.buried (row_in v) ≡ false) word here.kept;
-            other = λ same. not_own_child later h stands top.low top.slot top.at top.top top.on top.get (ap row_in word ∙ (same ∙ sym top.number));
-            slot =
-                (let column_is = top.column_is in
-                let wide : slots_of later.table.width (inner_kind b.kind) ≡ slots_of s₁.tree.table.width (inner_kind b.kind) = ap (λ (t : Table). slots_of t.width (inner_kind b.kind)) (sym table₁) in
-                omega arith);
-            within = subst (λ (v : Width). col < columns v) width within.1;
-          }
+          let within = above_in f.sheet f.top.place (ends.place_is f) row col is in
+          let wide : slots_of later.table.width (inner_kind b.kind) ≡ slots_of s₁.tree.table.width (inner_kind b.kind) = ap (λ (t : Table). slots_of t.width (inner_kind b.kind)) (sym table₁) in
+          let column_is = top.column_is in
+          let inside : col < columns s₁.tree.table.width = subst (λ (v : Width). col < columns v) (sym (ap (λ (v : Rooted). v.table.width) tree₁ ∙ width_later)) within.1 in (
+            omega arith,
+            record {
+              at = subst (λ (v : ℕ). IsPlace s₁.tree (row_in v) 0) word here.at;
+              live = subst (λ (v : ℕ). life_of s₁.lives (row_in v) ≡ Live) word here.live;
+              kept = subst (λ (v : ℕ). is_buried s₁.buried (row_in v) ≡ false) word here.kept;
+              column = inl refl;
+              alive = λ _ dead.
+                  not_own_child later h stands top.low top.slot top.at top.top top.on top.get
+                  (ap row_in word ∙ (own_parent s₁.tree.table.width (row_in f.top.word) row (col - slots_of s₁.tree.table.width (inner_kind b.kind)) (omega arith) dead ∙ sym top.number));
+            },
+          )
 
-      pub may_tend_place : (place : Place) → f.place ≡ place → MayTendTopAt s₁ (inner_kind b.kind) place f.word
+      pub may_tend_place : (place : Place) → f.top.place ≡ place → MayTendTop s₁ (inner_kind b.kind) place (row_in f.top.word)
       may_tend_place Root is = tt
       may_tend_place (Slot row col) is = may_tend_slot row col is
 
       -- ---- the parent words when all is tended
 
-      module _ (s₂ s₃ : Sheet) (tended : AreTendedTo s₁ s₂ (inner_kind b.kind) f.inner (length f.inner)) (top : IsTopTendedAt s₂ s₃ (inner_kind b.kind) f.place f.word) where
+      module _ (s₂ s₃ : Sheet) (tended : AreTendedTo s₁ s₂ (inner_kind b.kind) f.inner (length f.inner)) (top : IsTopTendedAt s₂ s₃ (inner_kind b.kind) f.top.place (row_in f.top.word)) where
         -- a row that is neither the top row nor a child of a row in the list keeps its parent word
-        untended : (r : ℕ) → ((n : NewRow) (slot : ℕ) (c : MadeChild n slot) → row_in c.child.word ≢ r) → ((row col : ℕ) → f.place ≡ Slot row col → r ≢ row_in f.word) → column s₃.tree.table r 0 ≡ column s.tree.table r 0
+        untended : (r : ℕ) → ((n : NewRow) (slot : ℕ) (c : MadeChild n slot) → row_in c.child.word ≢ r) → ((row col : ℕ) → f.top.place ≡ Slot row col → r ≢ row_in f.top.word) → column s₃.tree.table r 0 ≡ column s.tree.table r 0
         untended r not_made not_top =
-            top_kept s₂ s₃ (inner_kind b.kind) f.place f.word r top not_top
+            top_kept s₂ s₃ (inner_kind b.kind) f.top.place (row_in f.top.word) r top not_top
             ∙ (tended.others r (λ i n slot _ at low same.
             (let c = made_child n slot (reached.one_of_get f.inner i n at) low in
             not_made n slot c (ap row_in (sym (child_word₁ n slot c)) ∙ same)))
@@ -470,8 +472,8 @@ module _ (f : ends.Finish) where
             let gone : ends.gone_count f r ≡ 0 = omega arith in
             (ends.ledger f).parents r not (ap (nat_lt 0) gone)
 
-        top_taken : was_seen f.may.taken (row_in f.word) ≡ true
-        top_taken = subst (λ (new : Option ℕ). IsTop f.may.taken f.may.old new f.word) is_new f.may.top
+        top_taken : was_seen f.may.taken (row_in f.top.word) ≡ true
+        top_taken = subst (λ (new : Option ℕ). IsTop f.may.taken f.may.old new f.top.word) is_new f.may.names
 
         child_of_taken : (k i : ℕ) (x y : Span) → reached.OnLevel later.table h (root_of later) (suc k) x → was_seen f.may.taken (row_in x.word) ≡ true → slice_get (spans_in later.table x) i ≡ Some y → column s₃.tree.table (row_in y.word) 0 ≡ parent_at (row_in x.word) i
         child_of_taken k i x y on taken get =
@@ -480,7 +482,7 @@ module _ (f : ends.Finish) where
             let low = slice_get_within (spans_in later.table x) i y get in
             let word : child_word s₁.tree.table (inner_kind b.kind) (row_in x.word) i ≡ y.word =
             ap (λ (t : Table). child_word t (inner_kind b.kind) (row_in x.word) i) table₁ ∙ slot_word later.table (inner_kind b.kind) x y i (named_inner k x on) get in
-            top_kept s₂ s₃ (inner_kind b.kind) f.place f.word (row_in y.word) top (λ row col is same.
+            top_kept s₂ s₃ (inner_kind b.kind) f.top.place (row_in f.top.word) (row_in y.word) top (λ row col is same.
             (let t = top_at row col is in
             let both = unique_parent later h stands k t.low i t.slot x t.at y t.top on t.on get t.get (same ∙ ap row_in (sym t.word)) in
             let old = t.old in
@@ -509,7 +511,7 @@ module _ (f : ends.Finish) where
           where
             at_top : IsTopChild x i y → column s₃.tree.table (row_in y.word) 0 ≡ parent_at (row_in x.word) i
             at_top (row, col, is, number, column_is, word) =
-                let t : IsTopTendedAt s₂ s₃ (inner_kind b.kind) (Slot row col) f.word = subst (λ (p : Place). IsTopTendedAt s₂ s₃ (inner_kind b.kind) p f.word) is top in
+                let t : IsTopTendedAt s₂ s₃ (inner_kind b.kind) (Slot row col) (row_in f.top.word) = subst (λ (p : Place). IsTopTendedAt s₂ s₃ (inner_kind b.kind) p (row_in f.top.word)) is top in
                 let wide : slots_of s₂.tree.table.width (inner_kind b.kind) ≡ slots_of later.table.width (inner_kind b.kind) = ap (λ (v : Width). slots_of v (inner_kind b.kind)) (only_width s₁ s₂ tended.only ∙ ap (λ (t : Table). t.width) table₁) in
                 let slot : col - slots_of s₂.tree.table.width (inner_kind b.kind) ≡ i = omega arith in
                 ap (λ (v : ℕ). column s₃.tree.table (row_in v) 0) word ∙ (t.here ∙ (λ j. parent_at (sym number j) (slot j)))
@@ -535,14 +537,14 @@ module _ (f : ends.Finish) where
         root_stays = untended (row_in later.root) (λ n slot c same. not_root c.row.low slot c.row.at c.child c.row.on c.get same)
             (λ row col is same. (let t = top_at row col is in not_root t.low t.slot t.at t.top t.on t.get (ap row_in t.word ∙ sym same)))
 
-        root_in : (old : Option ℕ) (place : Place) → f.may.old ≡ old → f.place ≡ place → IsEndPlace (now f.start s) f.may.gone old place → column s.tree.table (row_in later.root) 0 ≡ 1
+        root_in : (old : Option ℕ) (place : Place) → f.may.old ≡ old → f.top.place ≡ place → IsEndPlace (now f.start s) f.may.gone old place → column s.tree.table (row_in later.root) 0 ≡ 1
         root_in old Root is_old is at =
-            let word : f.word ≡ later.root = sym (ap (λ (p : Place). (with_published s.tree p f.word).root) is) in
+            let word : f.top.word ≡ later.root = sym (ap (λ (p : Place). (with_published s.tree p f.top.word).root) is) in
             (ends.ledger f).new_parents (row_in later.root) (subst (λ (v : ℕ). was_seen f.may.taken (row_in v) ≡ true) word top_taken)
         root_in None (Slot row col) is_old is at = absurd at
         root_in (Some h₀) (Slot row col) is_old is at =
-            let root : later.root ≡ b.sheet.tree.root = ap (λ (p : Place). (with_published s.tree p f.word).root) is ∙ ends.root_same f in
-            let before : later.root ≡ (now f.start s).root = ap (λ (p : Place). (with_published s.tree p f.word).root) is ∙ ap (λ (v : Rooted). v.root) (ends.tree_is f) in
+            let root : later.root ≡ b.sheet.tree.root = ap (λ (p : Place). (with_published s.tree p f.top.word).root) is ∙ ends.root_same f in
+            let before : later.root ≡ (now f.start s).root = ap (λ (p : Place). (with_published s.tree p f.top.word).root) is ∙ ap (λ (v : Rooted). v.root) (ends.tree_is f) in
             let was = old_counted h₀ is_old (row_in (now f.start s).root) (root_counts (now f.start s) h₀ (stands_old h₀ is_old)) in
             parent_was (row_in later.root) (subst (λ (v : ℕ). 1 ≤ ends.old_count f (row_in v)) (sym before) was) (place_counted h (root_span later.table later.root) root_on)
             ∙ (ap (λ (v : ℕ). column b.sheet.tree.table (row_in v) 0) root ∙ (was_lawful h₀ is_old).root)
@@ -550,7 +552,7 @@ module _ (f : ends.Finish) where
         -- ---- all of them
 
         only₃ : OnlyParents s₁ s₃
-        only₃ = only_more s₁ s₂ s₃ tended.only (top_only s₂ s₃ (inner_kind b.kind) f.place f.word top)
+        only₃ = only_more s₁ s₂ s₃ tended.only (top_only s₂ s₃ (inner_kind b.kind) f.top.place (row_in f.top.word) top)
 
         spans₃ : (x : Span) → spans_in s₃.tree.table x ≡ spans_in later.table x
         spans₃ x = same_spans s₁.tree.table s₃.tree.table x (only_width s₁ s₃ only₃) (λ c above within. only₃.kept (row_in x.word) c above within) ∙ ap (λ (t : Table). spans_in t x) table₁
@@ -574,7 +576,7 @@ module _ (f : ends.Finish) where
         has_parents stood = inr (
           h,
           stood,
-          ap (λ (v : ℕ). column s₃.tree.table (row_in v) 0) root₃ ∙ (root_stays ∙ root_in f.may.old f.place refl refl f.may.at),
+          ap (λ (v : ℕ). column s₃.tree.table (row_in v) 0) root₃ ∙ (root_stays ∙ root_in f.may.old f.top.place refl refl f.may.at),
           subst (Levels (laws.ParentLaw final) final.table h) roots
               (levels_shared (laws.ParentLaw final) later.table final.table h (root_of later)
               (levels_each (Shared later.table final.table) later.table h (root_of later) (λ k x on. spans₃ x))

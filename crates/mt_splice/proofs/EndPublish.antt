@@ -1,5 +1,5 @@
 -- When all new rows are written and all old rows are buried, one store may publish them.
-use Rattle.mt_splice.proofs.Prelude.{◌≡◌, ◌≢◌, ℕ, suc, ◌+◌, ◌<◌, ◌≤◌, List, ◌∷◌, Option, Some, None, Bool, true, false, nat_lt, refl, sym, ap, ◌∙◌, subst, inl, inr, arith, lt-ltb, if◌then◌else◌, cases_Bool, ltb-true, Kind, Width, Range, Call, Reply, acted, columns, first_row, Span, row_in, slot_column, slots_of, slot_within, Book, slice_get_within, Draft, Live, Place, Root, Slot, spans_in, tally, is_row_of, HasWords, kind_on, Rooted, Sheet, life_of, is_buried, tree_as, IsToldKind, LiveAreReached, is_reached, IsReached, map_by, StandsAt, KeepsPlace, SameHoles, IsKnown, ChangesRows, MayPublish, IsPlaceToPublish, IsSlotOf, with_published, Implies, NewRow, Seen, passing, Start, now, Before, StandsAs, count_in, map_as, IsChildSlot, IsEndPlace, IsTop, MayPublishEnd, row_most, published_rows, was_seen, IsLedger, []}
+use Rattle.mt_splice.proofs.Prelude.{◌≡◌, ◌≢◌, ℕ, suc, ◌+◌, ◌<◌, ◌≤◌, List, ◌∷◌, Option, Some, None, Bool, true, false, nat_lt, refl, sym, ap, ◌∙◌, subst, inl, inr, arith, lt-ltb, if◌then◌else◌, cases_Bool, ltb-true, Kind, Width, Range, Call, Reply, acted, columns, first_row, Span, row_in, slot_column, slots_of, slot_within, Book, slice_get_within, Draft, Live, Place, Root, Slot, spans_in, tally, is_row_of, HasWords, kind_on, Rooted, Sheet, life_of, is_buried, tree_as, IsToldKind, LiveAreReached, is_reached, IsReached, map_by, StandsAt, KeepsPlace, SameHoles, IsKnown, ChangesRows, MayPublish, IsPlaceToPublish, IsSlotOf, with_published, Implies, NewRow, Seen, passing, Start, now, Before, StandsAs, count_in, map_as, IsChildSlot, IsEndPlace, IsTop, IsReadyToPublish, row_most, published_rows, was_seen, IsLedger, [], Top}
 use Rattle.mt_rows.specs.Laws as laws
 use Rattle.mt_rows.proofs.Reached as reached
 use Rattle.mt_splice.proofs.KeptTrees.{KeepsAs, count_then, map_then, stands_then}
@@ -41,11 +41,10 @@ pub record Finish : Type 0 where
   pub sheet : Sheet
   pub book : Book
   pub inner : List NewRow
-  pub place : Place
-  pub word : ℕ
+  pub top : Top
   pub call : Call
   pub reply : Reply
-  pub may : MayPublishEnd before start sheet book inner place word call reply
+  pub may : IsReadyToPublish before start sheet book inner top call reply
 
 module _ (f : Finish) where
   abbrev b : Before
@@ -58,10 +57,10 @@ module _ (f : Finish) where
   s = f.sheet
 
   abbrev later : laws.Tree
-  later = tree_as b.kind (with_published s.tree f.place f.word)
+  later = tree_as b.kind (with_published s.tree f.top.place f.top.word)
 
   abbrev pub published : Rooted
-  published = with_published f.sheet.tree f.place f.word
+  published = with_published f.sheet.tree f.top.place f.top.word
 
   abbrev pub ledger : IsLedger b s f.book f.may.taken f.may.gone
   ledger = f.may.ledger
@@ -101,7 +100,7 @@ module _ (f : Finish) where
   old_count row = count_in (is_row_of row) f.start.tree f.may.old
 
   abbrev pub new_count : ℕ → ℕ
-  new_count row = count_in (is_row_of row) (tree_as f.before.kind (with_published f.sheet.tree f.place f.word)) f.may.new
+  new_count row = count_in (is_row_of row) (tree_as f.before.kind (with_published f.sheet.tree f.top.place f.top.word)) f.may.new
 
   abbrev pub taken_count : ℕ → ℕ
   taken_count row = passing (is_row_of row) f.may.taken
@@ -163,7 +162,7 @@ module _ (f : Finish) where
   pub later_number : (row : ℕ) → 1 ≤ new_count row → (first_row ≤ row) × (row < first_row + b.sheet.tree.rows)
   later_number row some =
       let number = count_number later f.may.new row stands_later some in
-      (number.0, subst (λ (n : ℕ). row < first_row + n) (published_rows s.tree f.place f.word ∙ rows_same) number.1)
+      (number.0, subst (λ (n : ℕ). row < first_row + n) (published_rows s.tree f.top.place f.top.word ∙ rows_same) number.1)
 
   -- ---- rows taken and gone
 
@@ -249,8 +248,8 @@ module _ (f : Finish) where
         }),
       )
 
-  pub place_is : IsPlaceToPublish s f.place
-  place_is = place_in f.may.old f.place stands_now f.may.at (λ row some.
+  pub place_is : IsPlaceToPublish s f.top.place
+  place_is = place_in f.may.old f.top.place stands_now f.may.at (λ row some.
       let same = now_count (is_row_of row) in
       let was : 1 ≤ old_count row = omega arith in
       let number = was_number row was in
@@ -305,20 +304,20 @@ module _ (f : Finish) where
       (λ p. ap (λ (n : ℕ). n + passing p f.may.taken) (now_count p) ∙ f.may.replaced.rows p) at at' same
       (stays_even (row_in x.word) (omega arith) is)
 
-  pub word_is_some : (h : ℕ) → f.may.new ≡ Some h → f.word ≢ 0
+  pub word_is_some : (h : ℕ) → f.may.new ≡ Some h → f.top.word ≢ 0
   word_is_some h is zero_word =
-      let taken : was_seen f.may.taken (row_in f.word) ≡ true = subst (λ (o : Option ℕ). IsTop f.may.taken f.may.old o f.word) is f.may.top in
-      let number = later_number (row_in f.word) (taken_later (row_in f.word) (taken_some (row_in f.word) taken)) in
+      let taken : was_seen f.may.taken (row_in f.top.word) ≡ true = subst (λ (o : Option ℕ). IsTop f.may.taken f.may.old o f.top.word) is f.may.names in
+      let number = later_number (row_in f.top.word) (taken_later (row_in f.top.word) (taken_some (row_in f.top.word) taken)) in
       let first = number.0 in
-      let low : row_in f.word ≡ 0 = ap row_in zero_word in
+      let low : row_in f.top.word ≡ 0 = ap row_in zero_word in
       absurd (omega arith)
 
   holes_in : (o o' : Option ℕ) (place : Place) (k k' : ℕ) (x x' : Span) → StandsAs (now start s) o → IsEndPlace (now start s) f.may.gone o place → f.may.new ≡ o' → StandsAs later o' → StandsAt (words_of (now start s)) k x → StandsAt published k' x'
-      → SameHoles (spans_in (now start s).table x) (spans_in (with_published (words_of (now start s)) place f.word).table x)
+      → SameHoles (spans_in (now start s).table x) (spans_in (with_published (words_of (now start s)) place f.top.word).table x)
   holes_in o o' Root k k' x x' stands at is stands' stood stood' = refl
   holes_in None o' (Slot row col) k k' x x' stands at is stands' stood stood' = absurd at
   holes_in (Some h) None (Slot row col) k k' x x' stands at is stands' stood stood' = absurd (let some = placed_count later None k' x' stands' stood' in omega arith)
-  holes_in (Some h) (Some h') (Slot row col) k k' x x' stands at is stands' stood stood' = slot_holes (now start s) h row col words_now stands at.0 f.word (word_is_some h' is) k x stood
+  holes_in (Some h) (Some h') (Slot row col) k k' x x' stands at is stands' stood stood' = slot_holes (now start s) h row col words_now stands at.0 f.top.word (word_is_some h' is) k x stood
 
   stay : (k k' : ℕ) (x x' : Span) → StandsAt s.tree k x → StandsAt published k' x' → row_in x.word ≡ row_in x'.word → KeepsPlace s.tree published k k' x x'
   stay k k' x x' stood stood' same =
@@ -329,8 +328,8 @@ module _ (f : Finish) where
         first = place.1;
         last = place.2;
         holes = subst (SameHoles (spans_in s.tree.table x)) (sym (same_place_spans published.table x x' place.1 place.2 place.3))
-            (subst (λ (t : Rooted). SameHoles (spans_in t.table x) (spans_in (with_published t f.place f.word).table x)) (sym tree_is)
-            (holes_in f.may.old f.may.new f.place k k' x x' stands_now f.may.at refl stands_later at stood'));
+            (subst (λ (t : Rooted). SameHoles (spans_in t.table x) (spans_in (with_published t f.top.place f.top.word).table x)) (sym tree_is)
+            (holes_in f.may.old f.may.new f.top.place k k' x x' stands_now f.may.at refl stands_later at stood'));
       }
 
   pub buried_gone : (row : ℕ) → first_row ≤ row → row < first_row + b.sheet.tree.rows → is_buried s.buried row ≡ true → 1 ≤ gone_count row
@@ -359,7 +358,7 @@ module _ (f : Finish) where
         (reached_now row fate.0, unreached_later row fate.1);
   }
 
-  pub may_publish : MayPublish b.kind s f.place f.word f.call f.reply
+  pub may_publish : MayPublish b.kind s f.top.place f.top.word f.call f.reply
   may_publish = record {
     in_flight = ap (λ (x : Sheet). x.in_flight) ledger.rest ∙ f.may.case.unpublished.in_flight;
     before = ap (λ (x : Sheet). x.published) ledger.rest ∙ f.may.case.unpublished.before;

@@ -1,7 +1,6 @@
 -- The children of inner rows are tended, row by row.
-use Rattle.mt_splice.proofs.Prelude.{◌≡◌, ◌≢◌, ℕ, zero, suc, ◌+◌, ◌-◌, ◌*◌, ◌<◌, ◌≤◌, List, [], ◌∷◌, Some, Bool, length, refl, sym, ap, ◌∙◌, subst, ⊎_elim, inl, arith, length-set, false, slice_index_or, slice_set, slice_get, slice_get_within, cases_eq, Width, columns, first_row, RowKind, row_in, named_row, parent_at, slot_column, Life, New, Place, Root, Slot, slots_of, some_columns, slot_above, slot_within, column, Rooted, Sheet, IsWhole, IsPlace, MayTend, life_of, is_buried, tended, NewRow, with_words, child_word, child_row, IsChild, AreChildren, AreTended, OnlyParents, AreTendedTo, MayTendTop, MayTendTopAt, IsTopTended, IsTopTendedAt}
+use Rattle.mt_splice.proofs.Prelude.{◌≡◌, ◌≢◌, ℕ, zero, suc, ◌+◌, ◌-◌, ◌*◌, ◌<◌, ◌≤◌, List, [], ◌∷◌, Some, Bool, length, refl, sym, ap, ◌∙◌, subst, ⊎_elim, inl, arith, length-set, false, slice_index_or, slice_set, slice_get, slice_get_within, cases_eq, Width, columns, first_row, RowKind, row_in, named_row, parent_at, slot_column, Life, New, Place, Root, Slot, slots_of, some_columns, slot_above, slot_within, column, Rooted, Sheet, IsWhole, IsPlace, MayTend, life_of, is_buried, tended, NewRow, with_words, child_word, child_row, IsChild, AreChildren, AreTended, OnlyParents, AreTendedTo, MayTendTop, with_top}
 use Rattle.mt_splice.proofs.Drafts.{other_row, other_column, same_column}
-use Rattle.mt_splice.proofs.Tending.{own_parent}
 
 pub only_rows : (s s' : Sheet) → OnlyParents s s' → s'.tree.rows ≡ s.tree.rows
 only_rows s s' only = ap (λ (v : Rooted). v.rows) only.tree
@@ -138,55 +137,53 @@ kept_column w words row col word r c within inside other =
 
 -- ---- the row that was published in a slot
 
-pub top_only : (s s' : Sheet) (kind : RowKind) (place : Place) (word : ℕ) → IsTopTendedAt s s' kind place word → OnlyParents s s'
-top_only s s' kind Root word is = subst (OnlyParents s) (sym is) (only_none s)
-top_only s s' kind (Slot row col) word done = done.only
+-- its parent word names the row and the slot, and nothing else has changed
+pub record IsTopTended (s s' : Sheet) (kind : RowKind) (row col top : ℕ) : Type 0 where
+  pub only : OnlyParents s s'
+  pub here : column s'.tree.table top 0 ≡ parent_at row (col - slots_of s.tree.table.width kind)
+  pub others : (r : ℕ) → r ≢ top → column s'.tree.table r 0 ≡ column s.tree.table r 0
 
-pub top_kept : (s s' : Sheet) (kind : RowKind) (place : Place) (word r : ℕ) → IsTopTendedAt s s' kind place word → ((row col : ℕ) → place ≡ Slot row col → r ≢ row_in word) → column s'.tree.table r 0 ≡ column s.tree.table r 0
-top_kept s s' kind Root word r is other = ap (λ (x : Sheet). column x.tree.table r 0) is
-top_kept s s' kind (Slot row col) word r done other = done.others r (other row col refl)
+abbrev pub IsTopTendedAt : Sheet → Sheet → RowKind → Place → ℕ → Type 0
+IsTopTendedAt s s' kind Root top = s' ≡ s
+IsTopTendedAt s s' kind (Slot row col) top = IsTopTended s s' kind row col top
 
-pub top_is : (word top : ℕ) → named_row word ≡ Some (row_in word) → Some top ≡ named_row word → top ≡ row_in word
-top_is word top named found = let same : Some top ≡ Some (row_in word) = found ∙ named in cc
+pub top_only : (s s' : Sheet) (kind : RowKind) (place : Place) (top : ℕ) → IsTopTendedAt s s' kind place top → OnlyParents s s'
+top_only s s' kind Root top is = subst (OnlyParents s) (sym is) (only_none s)
+top_only s s' kind (Slot row col) top done = done.only
 
-pub may_tend_top : (s : Sheet) (kind : RowKind) (row col word slots top : ℕ) → MayTendTop s kind row col word → slots ≡ slots_of s.tree.table.width kind → Some top ≡ named_row word → MayTend s top 0 (parent_at row (col - slots))
-may_tend_top s kind row col word slots top may wide found =
-    subst (λ (n : ℕ). MayTend s n 0 (parent_at row (col - slots))) (sym (top_is word top may.named found)) (record {
-      at = may.at;
-      live = may.live;
-      kept = may.kept;
-      column = inl refl;
-      alive = λ _ dead. may.other (own_parent s.tree.table.width (row_in word) row (col - slots) (let within = may.within in omega arith) dead);
-    })
+pub top_kept : (s s' : Sheet) (kind : RowKind) (place : Place) (top r : ℕ) → IsTopTendedAt s s' kind place top → ((row col : ℕ) → place ≡ Slot row col → r ≢ top) → column s'.tree.table r 0 ≡ column s.tree.table r 0
+top_kept s s' kind Root top r is other = ap (λ (x : Sheet). column x.tree.table r 0) is
+top_kept s s' kind (Slot row col) top r done other = done.others r (other row col refl)
 
-pub top_tended : (s : Sheet) (kind : RowKind) (row col word slots top : ℕ) → IsWhole s → MayTendTop s kind row col word → slots ≡ slots_of s.tree.table.width kind → Some top ≡ named_row word
-    → IsTopTended s (tended s top 0 (parent_at row (col - slots))) kind row col word
-top_tended s kind row col word slots top whole may wide found =
-    subst (λ (n : ℕ). IsTopTended s (tended s n 0 (parent_at row (col - slots))) kind row col word) (sym (top_is word top may.named found)) (record {
+pub top_tended : (s s' : Sheet) (kind : RowKind) (place : Place) (top : ℕ) → IsWhole s → MayTendTop s kind place top → s' ≡ with_top s kind place top → IsTopTendedAt s s' kind place top
+top_tended s s' kind Root top whole may is = is
+top_tended s s' kind (Slot row col) top whole may is =
+    let word = parent_at row (col - slots_of s.tree.table.width kind) in
+    subst (λ (x : Sheet). IsTopTended s x kind row col top) (sym is) (record {
       only = record {
         rest = refl;
         tree = refl;
-        size = length-set s.tree.table.words (columns s.tree.table.width * row_in word + 0) (parent_at row (col - slots));
-        kept = λ r c above within. kept_column s.tree.table.width s.tree.table.words (row_in word) 0 (parent_at row (col - slots)) r c within (some_columns s.tree.table.width) (λ none. absurd (omega arith));
+        size = length-set s.tree.table.words (columns s.tree.table.width * top + 0) word;
+        kept = λ r c above within. kept_column s.tree.table.width s.tree.table.words top 0 word r c within (some_columns s.tree.table.width) (λ none. absurd (omega arith));
       };
-      here = same_column s.tree.table.width s.tree.table.words (row_in word) (first_row + s.tree.rows) 0 (parent_at row (col - slots)) (some_columns s.tree.table.width) may.at.last whole.words
-          ∙ ap (λ (n : ℕ). parent_at row (col - n)) wide;
-      others = λ r other. other_row s.tree.table.width s.tree.table.words (row_in word) 0 (parent_at row (col - slots)) r 0 other (some_columns s.tree.table.width) (some_columns s.tree.table.width);
+      here = same_column s.tree.table.width s.tree.table.words top (first_row + s.tree.rows) 0 word (some_columns s.tree.table.width) may.1.at.last whole.words;
+      others = λ r other. other_row s.tree.table.width s.tree.table.words top 0 word r 0 other (some_columns s.tree.table.width) (some_columns s.tree.table.width);
     })
 
 -- a row that may be tended still may when other parent words were written
-pub top_still : (s t : Sheet) (kind : RowKind) (place : Place) (word : ℕ) → OnlyParents s t → MayTendTopAt s kind place word → MayTendTopAt t kind place word
-top_still s t kind Root word only may = tt
-top_still s t kind (Slot row col) word only may =
+pub top_still : (s t : Sheet) (kind : RowKind) (place : Place) (top : ℕ) → OnlyParents s t → MayTendTop s kind place top → MayTendTop t kind place top
+top_still s t kind Root top only may = tt
+top_still s t kind (Slot row col) top only may =
     let rows : s.tree.rows ≡ t.tree.rows = sym (only_rows s t only) in
     let lives : s.lives ≡ t.lives = sym (ap (λ (x : Sheet). x.lives) only.rest) in
     let buried : s.buried ≡ t.buried = sym (ap (λ (x : Sheet). x.buried) only.rest) in
-    record {
-      named = may.named;
-      at = record { first = may.at.first; last = subst (λ (n : ℕ). row_in word < first_row + n) rows may.at.last; column = some_columns t.tree.table.width };
-      live = ap (λ (l : List Life). slice_index_or l (row_in word) New) (sym lives) ∙ may.live;
-      kept = ap (λ (l : List Bool). slice_index_or l (row_in word) false) (sym buried) ∙ may.kept;
-      other = may.other;
-      slot = subst (λ (w : Width). slots_of w kind ≤ col) (sym (only_width s t only)) may.slot;
-      within = subst (λ (w : Width). col < columns w) (sym (only_width s t only)) may.within;
-    }
+    let wide : s.tree.table.width ≡ t.tree.table.width = sym (only_width s t only) in (
+      subst (λ (w : Width). slots_of w kind ≤ col) wide may.0,
+      subst (λ (w : Width). MayTend t top 0 (parent_at row (col - slots_of w kind))) wide (record {
+        at = record { first = may.1.at.first; last = subst (λ (n : ℕ). top < first_row + n) rows may.1.at.last; column = some_columns t.tree.table.width };
+        live = ap (λ (l : List Life). slice_index_or l top New) (sym lives) ∙ may.1.live;
+        kept = ap (λ (l : List Bool). slice_index_or l top false) (sym buried) ∙ may.1.kept;
+        column = inl refl;
+        alive = may.1.alive;
+      }),
+    )

@@ -1,5 +1,5 @@
 -- The first leaf of an empty tree, drafted, may be published as its root.
-use Rattle.mt_splice.proofs.Prelude.{◌≡◌, ℕ, ◌+◌, ◌-◌, ◌<◌, ◌≤◌, List, ◌∷◌, Some, None, true, length, take, refl, sym, ap, ◌∙◌, subst, arith, flat_map, ◌≢◌, All, Any, take-length, Call, Kind, Reply, Book, Item, RowKind, Leaf, Span, RiseFrom, end_of, name_at, row_in, slots_of, leaf_range, spans_from, row_in-name_at, sizes, after, fills_after, fills_end, fills_rise, length-spans_from, PathStep, Root, Tree, IsRow, top_of, expand, map_of, tally, IsFree, IsWhole, Sheet, life_of, NewRow, FewestBelow, MaySplice, AreRowsTaken, IsPieceDrafted, IsRowTaken, MayPublishEnd, IsFirstStore, AreHeld, part_of, IsLedger, was_seen, Before, IsReplaced, with_root, MayBeCut, Seen, Start, tree_with, []}
+use Rattle.mt_splice.proofs.Prelude.{◌≡◌, ℕ, ◌+◌, ◌-◌, ◌<◌, ◌≤◌, List, ◌∷◌, Some, None, true, length, take, refl, sym, ap, ◌∙◌, subst, arith, flat_map, ◌≢◌, All, Any, take-length, Call, Kind, Reply, Book, Item, RowKind, Leaf, Span, RiseFrom, end_of, name_at, row_in, slots_of, leaf_range, spans_from, row_in-name_at, sizes, after, fills_after, fills_end, fills_rise, length-spans_from, PathStep, Root, Tree, IsRow, top_of, expand, map_of, tally, IsFree, IsWhole, Sheet, life_of, NewRow, FewestBelow, MaySplice, AreRowsTaken, IsPieceDrafted, IsRowTaken, IsReadyToPublish, IsFirstStore, AreHeld, part_of, IsLedger, was_seen, Before, IsReplaced, with_root, MayBeCut, Seen, Start, tree_with, [], Head}
 use Rattle.mt_splice.proofs.DraftedLedger.{held_then, ledger_then, width_then}
 use Rattle.mt_splice.proofs.EndForms.{ends_at_root, gaps_at_root}
 use Rattle.mt_splice.proofs.EndGaps.{root_laws}
@@ -32,7 +32,7 @@ module _ {kind : Kind} {s : Sheet} {book : Book} {right : List PathStep} {items 
   rows_spare : All (λ row. IsFree s.cleared (life_of s.lives row)) book.free
   rows_spare = still_free (case₀ may whole 0 0).was (nothing_done whole may.kept)
 
-  module _ (from to : ℕ) {s' : Sheet} {book' : Book} {above : RowKind} {made' : List NewRow} {item : Item} (piece : IsPieceDrafted s s' book book' above Leaf 0 items [] made' item) where
+  module _ (from to : ℕ) {s' : Sheet} {book' : Book} {above : RowKind} {made' : List NewRow} {new : Head} (piece : IsPieceDrafted s s' book book' above Leaf 0 items [] made' new) where
     abbrev start : Start
     start = start₀ may whole from to
 
@@ -40,7 +40,7 @@ module _ {kind : Kind} {s : Sheet} {book : Book} {right : List PathStep} {items 
     part = part_of items 0 (length items)
 
     abbrev x : Span
-    x = record { first = 0; last = end_of 0 part; word = name_at piece.row Leaf }
+    x = record { first = 0; last = end_of 0 part; word = name_at new.row Leaf }
 
     abbrev seen : Seen
     seen = record { height = 0; at = x }
@@ -57,23 +57,23 @@ module _ {kind : Kind} {s : Sheet} {book : Book} {right : List PathStep} {items 
     parts : AreParts start.tree 0 0 items 0 (length items ∷ [])
     parts = (record { some = few.0; within = omega arith; fit = fits; run = run }, refl)
 
-    are : AreRowsTaken Leaf items 0 (length items ∷ []) (piece.row ∷ []) s s' book book'
-    are = (s', book', subst (λ (l : List Item). IsRowTaken s s' book book' Leaf l piece.row) (sym part_is) piece.taken, (refl, refl))
+    are : AreRowsTaken Leaf items 0 (length items ∷ []) (new.row ∷ []) s s' book book'
+    are = (s', book', subst (λ (l : List Item). IsRowTaken s s' book book' Leaf l new.row) (sym part_is) piece.taken, (refl, refl))
 
     ledger : IsLedger (b₀ may whole) s' book' (seen ∷ []) []
-    ledger = ledger_then (case₀ may whole from to).was 0 above Leaf items 0 0 (length items ∷ []) (piece.row ∷ []) (nothing_done whole may.kept) are
+    ledger = ledger_then (case₀ may whole from to).was 0 above Leaf items 0 0 (length items ∷ []) (new.row ∷ []) (nothing_done whole may.kept) are
 
     wide : s'.tree.table.width ≡ start.tree.table.width
-    wide = width_then (case₀ may whole from to).was 0 above Leaf items 0 (length items ∷ []) (piece.row ∷ []) s s' book book' are
+    wide = width_then (case₀ may whole from to).was 0 above Leaf items 0 (length items ∷ []) (new.row ∷ []) s s' book book' are
 
     abbrev T : Tree
     T = tree_with start.tree s'.tree.table.words
 
-    row_held : AreHeld T (was_seen (seen ∷ [])) Leaf items 0 (length items ∷ []) (piece.row ∷ [])
-    row_held = held_then (case₀ may whole from to).was 0 above Leaf items refl 0 0 (length items ∷ []) (piece.row ∷ []) s s' book book' (nothing_done whole may.kept) are parts wide
+    row_held : AreHeld T (was_seen (seen ∷ [])) Leaf items 0 (length items ∷ []) (new.row ∷ [])
+    row_held = held_then (case₀ may whole from to).was 0 above Leaf items refl 0 0 (length items ∷ []) (new.row ∷ []) s s' book book' (nothing_done whole may.kept) are parts wide
 
     holds : (expand T.table (x ∷ []) ≡ spans_from 0 items) × IsRow T 0 x
-    holds = let both = held T (was_seen (seen ∷ [])) 0 above Leaf refl items 0 0 (length items ∷ []) (piece.row ∷ []) parts_now refl row_held in (both.0, both.1.0.0)
+    holds = let both = held T (was_seen (seen ∷ [])) 0 above Leaf refl items 0 0 (length items ∷ []) (new.row ∷ []) parts_now refl row_held in (both.0, both.1.0.0)
       where
         parts_now : AreParts T 0 0 items 0 (length items ∷ [])
         parts_now = (record { some = few.0; within = omega arith; fit = fits; run = record { fills = run.fills; some = run.some; few = run.few; least = run.least; fit = run.fit; leaves = λ leaf. let leaves = run.leaves leaf in record { ends = leaves.ends; some = leaves.some } } }, refl)
@@ -82,7 +82,7 @@ module _ {kind : Kind} {s : Sheet} {book : Book} {right : List PathStep} {items 
     last = ap (end_of 0) part_is ∙ (let some = few.0 in let ends = fills_end 0 0 (hi may whole) 0 items some (cut may whole).fills in omega arith)
 
     names : was_seen (seen ∷ []) (row_in x.word) ≡ true
-    names = ap (was_seen (seen ∷ [])) (row_in-name_at piece.row Leaf) ∙ row_held.1
+    names = ap (was_seen (seen ∷ [])) (row_in-name_at new.row Leaf) ∙ row_held.1
 
     leaf_replaces : IsReplaced start.tree (with_root T x.word) start.map (seen ∷ []) [] None (Some 0)
     leaf_replaces = record {
@@ -93,8 +93,8 @@ module _ {kind : Kind} {s : Sheet} {book : Book} {right : List PathStep} {items 
       fewest = subst (FewestBelow (was_seen (seen ∷ [])) start.tree.gapped T.table 0) (at_root T x refl last) (one_new (was_seen (seen ∷ [])) T.table Leaf x 0 items names holds.0 few.1);
     }
 
-    first_ends : {inner : List NewRow} → inner ≡ made' → MayPublishEnd (b₀ may whole) start s' book' inner Root item.word call reply
-    first_ends {inner} same = subst (λ (n : ℕ). MayPublishEnd (b₀ may whole) start s' book' inner Root n call reply) (sym (ap (λ (y : Item). y.word) piece.up)) (record {
+    first_ends : {inner : List NewRow} (gap : ℕ) → inner ≡ made' → IsReadyToPublish (b₀ may whole) start s' book' inner (record { place = Root; word = new.item.word; gap = gap; row = new.row }) call reply
+    first_ends {inner} gap same = subst (λ (n : ℕ). IsReadyToPublish (b₀ may whole) start s' book' inner (record { place = Root; word = n; gap = gap; row = new.row }) call reply) (sym (ap (λ (y : Item). y.word) piece.up)) (record {
       taken = seen ∷ [];
       gone = [];
       old = None;
@@ -107,15 +107,16 @@ module _ {kind : Kind} {s : Sheet} {book : Book} {right : List PathStep} {items 
       replaced = ends_at_root (case₀ may whole from to).was ledger None (Some 0) x.word leaf_replaces;
       gaps = gaps_at_root (case₀ may whole from to).was ledger (was_seen (seen ∷ [])) (Some 0) x.word (λ index _ _. root_laws (was_seen (seen ∷ [])) index T 0 x refl last (tt, tt));
       at = tt;
-      top = names;
+      names = names;
+      row = sym (row_in-name_at new.row Leaf);
       inner_rows = same ∙ piece.noted;
     })
 
 module _ {b : Before} {start : Start} {s : Sheet} {book : Book} {items : List Item} {call : Call} {reply : Reply} (first : IsFirstStore b start s book items call reply) (whole : IsWhole s) where
-  pub leaf_may_be_root : {s' : Sheet} {book' : Book} {above : RowKind} {made made' inner : List NewRow} {item : Item} → made ≡ [] → IsPieceDrafted s s' book book' above Leaf 0 items made made' item → inner ≡ made' → MayPublishEnd b start s' book' inner Root item.word call reply
-  leaf_may_be_root {s'} {book'} {above} {made} {made'} {inner} {item} none piece same =
-      subst (λ (x : Before × Start). MayPublishEnd x.0 x.1 s' book' inner Root item.word call reply) (λ i. (sym first.begun.before i, sym first.begun.start i))
-      (first_ends first.may whole start.first start.last (subst (λ (l : List NewRow). IsPieceDrafted s s' book book' above Leaf 0 items l made' item) none piece) same)
+  pub leaf_may_be_root : {s' : Sheet} {book' : Book} {above : RowKind} {made made' inner : List NewRow} {new : Head} (gap : ℕ) → made ≡ [] → IsPieceDrafted s s' book book' above Leaf 0 items made made' new → inner ≡ made' → IsReadyToPublish b start s' book' inner (record { place = Root; word = new.item.word; gap = gap; row = new.row }) call reply
+  leaf_may_be_root {s'} {book'} {above} {made} {made'} {inner} {new} gap none piece same =
+      subst (λ (x : Before × Start). IsReadyToPublish x.0 x.1 s' book' inner (record { place = Root; word = new.item.word; gap = gap; row = new.row }) call reply) (λ i. (sym first.begun.before i, sym first.begun.start i))
+      (first_ends first.may whole start.first start.last (subst (λ (l : List NewRow). IsPieceDrafted s s' book book' above Leaf 0 items l made' new) none piece) gap same)
 
   -- what a draft asks
   pub one_free : 0 < length book.free

@@ -1,5 +1,5 @@
 -- When the rows of a climb are drafted and those of its windows buried, one word may be published.
-use Rattle.mt_splice.proofs.Prelude.{◌≡◌, ℕ, suc, ◌+◌, List, ◌∷◌, true, Option, Some, None, length, refl, sym, ap, ◌∙◌, subst, ⊎_elim, arith, AllByRecursion, Call, Reply, Book, Span, name_at, row_in, row_in-name_at, Place, Root, Slot, Tree, tree_as, with_published, Rooted, Sheet, inner_of, height_in, height_is, Climb, Top, TellsGapAt, TellsBelow, numbers_in_all, HasClimbed, EndsEmpty, EndsAtRoot, EndsAbove, EndsInSlot, IsEndPlace, IsTop, MayPublishEnd, was_seen, Layer, AreAllHeld, IsPlanned, level_of, new_at, Before, IsReplaced, IsAnswer, GapsBeside, Start, [], now}
+use Rattle.mt_splice.proofs.Prelude.{◌≡◌, ℕ, suc, ◌+◌, List, ◌∷◌, true, Option, Some, None, length, refl, sym, ap, ◌∙◌, subst, ⊎_elim, arith, AllByRecursion, Call, Reply, Book, Span, name_at, row_in, row_in-name_at, Place, Root, Slot, Tree, tree_as, with_published, Rooted, Sheet, inner_of, height_in, height_is, Climb, Top, TellsGapAt, TellsBelow, numbers_in_all, HasClimbed, EndsEmpty, EndsAtRoot, EndsAbove, EndsInSlot, IsEndPlace, IsTop, IsReadyToPublish, was_seen, Layer, AreAllHeld, IsPlanned, level_of, new_at, Before, IsReplaced, IsAnswer, GapsBeside, Start, [], now}
 use Rattle.mt_splice.proofs.Burials.{AreBuried}
 use Rattle.mt_splice.proofs.EndAbove.{above_gaps, above_replaces, is_new}
 use Rattle.mt_splice.proofs.EndAtRoot.{nothing_replaces, root_keeps_gaps}
@@ -20,7 +20,7 @@ module _ {b : Before} {start : Start} {s s' : Sheet} {book book' : Book} {c : Cl
 
   module _ {call : Call} {reply : Reply} (answer : IsAnswer b start call reply) where
     publish : (new : Option ℕ) → IsReplaced start.tree (tree_as b.kind (with_published s'.tree top.place top.word)) start.map (taken hc) (gone hc) (Some start.height) new
-        → GapsBeside start (was_seen (taken hc)) (tree_as b.kind (with_published s'.tree top.place top.word)) new → IsEndPlace (now start s') (gone hc) (Some start.height) top.place → IsTop (taken hc) (Some start.height) new top.word → MayPublishEnd b start s' book' c.made.items top.place top.word call reply
+        → GapsBeside start (was_seen (taken hc)) (tree_as b.kind (with_published s'.tree top.place top.word)) new → IsEndPlace (now start s') (gone hc) (Some start.height) top.place → IsTop (taken hc) (Some start.height) new top.word → IsReadyToPublish b start s' book' c.made.items top call reply
     publish new replaced gaps at names = record {
       taken = taken hc;
       gone = gone hc;
@@ -34,18 +34,19 @@ module _ {b : Before} {start : Start} {s s' : Sheet} {book book' : Book} {c : Cl
       replaced = replaced;
       gaps = gaps;
       at = at;
-      top = names;
+      names = names;
+      row = hc.names;
       inner_rows = made_then hc done;
     }
 
     at_root : (new : Option ℕ) (word : ℕ) → top.place ≡ Root → top.word ≡ word → IsReplaced start.tree (tree_as b.kind (with_published s'.tree Root word)) start.map (taken hc) (gone hc) (Some start.height) new
-        → GapsBeside start (was_seen (taken hc)) (tree_as b.kind (with_published s'.tree Root word)) new → IsTop (taken hc) (Some start.height) new word → MayPublishEnd b start s' book' c.made.items top.place top.word call reply
+        → GapsBeside start (was_seen (taken hc)) (tree_as b.kind (with_published s'.tree Root word)) new → IsTop (taken hc) (Some start.height) new word → IsReadyToPublish b start s' book' c.made.items top call reply
     at_root new word place_is word_is replaced gaps names = publish new
         (subst (λ (q : Place × ℕ). IsReplaced start.tree (tree_as b.kind (with_published s'.tree q.0 q.1)) start.map (taken hc) (gone hc) (Some start.height) new) (λ m. (sym place_is m, sym word_is m)) replaced)
         (subst (λ (q : Place × ℕ). GapsBeside start (was_seen (taken hc)) (tree_as b.kind (with_published s'.tree q.0 q.1)) new) (λ m. (sym place_is m, sym word_is m)) gaps)
         (subst (IsEndPlace (now start s') (gone hc) (Some start.height)) (sym place_is) tt) (subst (IsTop (taken hc) (Some start.height) new) (sym word_is) names)
 
-    pub may_publish_end : MayPublishEnd b start s' book' c.made.items top.place top.word call reply
+    pub may_publish_end : IsReadyToPublish b start s' book' c.made.items top call reply
     may_publish_end =
         ⊎_elim (λ (e : EndsEmpty start hc.layers hc.root hc.over top). at_root None 0 e.place e.word (nothing_replaces hc done e) (λ index _ _. tt) refl)
         (⊎_elim (λ (e : EndsAtRoot start hc.layers hc.root hc.over top). at_root (Some (length e.lower)) e.x.word e.place e.word (root_replaces hc done e) (root_keeps_gaps hc done e) (one_taken e.l e.lower e.x e.are e.one))

@@ -83,13 +83,14 @@ pub use Rattle.mt_splice.specs.declared.climbing.Climb.{Climb}
 pub use Rattle.mt_splice.specs.declared.climbing.Top.{Top}
 pub use Rattle.mt_splice.specs.declared.decisions.Next.{Next}
 pub use Rattle.mt_splice.specs.declared.decisions.Next.TheVariants.{Empty, RootAbove, Up}
+pub use Rattle.mt_splice.specs.declared.drafting.Head.{Head}
 pub use Rattle.mt_splice.specs.declared.ways.Window.{Window}
 pub use Rattle.mt_splice.specs.declared.writes.NewRow.{NewRow}
 pub use Rattle.mt_splice.specs.steps.Burials.{AreWindowsOn, EachInTurn, IsStretchOn, IsWindowOn, MayBeBuried, MayBeBuriedInTurn, after_burials, after_retirals, numbers_between, numbers_in, numbers_in_all, rows_on}
 pub use Rattle.mt_splice.specs.steps.Climbing.{EndsAbove, EndsAtRoot, EndsEmpty, EndsInSlot, HasClimbed, IsClimbing, IsLevelDone, IsLevelDrafted, IsNothingLeft, windows_over}
 pub use Rattle.mt_splice.specs.steps.Decisions.{EndsHere, IsNextDecision, IsNothing, item_words}
 pub use Rattle.mt_splice.specs.steps.Drafting.{AreRowsDrafted, AreRowsTaken, IsPieceDrafted, IsRowTaken, MayDraftRows, noted_row, noted_rows}
-pub use Rattle.mt_splice.specs.steps.Ends.{AreTendedTo, IsChildSlot, IsEndPlace, IsTop, IsTopTended, IsTopTendedAt, MayPublishEnd, MayTendTop, MayTendTopAt, OnlyParents}
+pub use Rattle.mt_splice.specs.steps.Ends.{AreTendedTo, IsChildSlot, IsEndPlace, IsReadyToPublish, IsTop, MayTendTop, OnlyParents, with_top}
 pub use Rattle.mt_splice.specs.steps.Entries.{IsBegunBy, IsFirstStore, before_of, start_for}
 pub use Rattle.mt_splice.specs.steps.Layers.{AreHeld, Beside, IsOld, Stand, head, heads, part_of}
 pub use Rattle.mt_splice.specs.steps.Looking.{IsNowOf, MayGather, MayLook, items_above}

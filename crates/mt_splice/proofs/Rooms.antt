@@ -65,7 +65,7 @@ module _ {b : Before} {start : Start} {s : Sheet} {book : Book} {kind : RowKind}
 
 -- ---- for a root, and for the windows above
 
-module _ {b : Before} {start : Start} {s : Sheet} {book : Book} {depth : ℕ} {c : Climb} {new : List Item} {next : Next} (d : IsLevelDrafted b start s book depth c new next) where
+module _ {b : Before} {start : Start} {s : Sheet} {book : Book} {depth : ℕ} {c : Climb} {rows : List ℕ} {new : List Item} {next : Next} (d : IsLevelDrafted b start s book depth c rows new next) where
   pub root_free : 0 < length book.free
   root_free =
       let left = rows_left d.case.was d.ledger in let few = few_taken start (d.l ∷ d.lower) d.planned in let at = d.at in let room = d.room in

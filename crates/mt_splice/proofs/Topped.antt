@@ -1,5 +1,5 @@
 -- Where a climb ends: what is to be published, and which windows are to be buried.
-use Rattle.mt_splice.proofs.Prelude.{◌≡◌, ℕ, zero, suc, ◌+◌, ◌*◌, ◌-◌, ◌<◌, ◌≤◌, List, ◌∷◌, ◌++◌, length, take, refl, sym, ap, ◌∙◌, subst, inl, inr, ⊎_elim, arith, append-nil, Bool, true, eq-eqb, slice_index_or, if◌then◌else◌, take-length, cases_lt, Width, columns, Book, Item, Span, RowKind, RiseFrom, end_of, slot_column, name_at, slots_of, least_items, spans_from, Fills, sizes, after, fills_after, fills_end, fills_rise, length-spans_from, PathStep, path_in, row_on, step_at, at_within, place, child, lawful, same_row, slot_used, Root, Slot, Tree, Stands, covers_all, kind_on, top_of, Sheet, Table, column, inner_of, spans_in, row_most, Climb, Top, Next, RootAbove, NewRow, IsNothingLeft, IsLevelDrafted, HasClimbed, windows_over, IsRowTaken, AreRowsTaken, noted_row, noted_rows, IsPieceDrafted, AreHeld, part_of, heads, was_seen, IsLedger, depth_at, begin_at, new_at, level_of, AreAllHeld, newest_first, taken_by, windows_by, windows_above, Before, new_rows_of, span_to, MayBeCut, Seen, row_at, low_of, high_of, Gathered, IsNewRow, Start, rows_at, tree_with, []}
+use Rattle.mt_splice.proofs.Prelude.{◌≡◌, ℕ, zero, suc, ◌+◌, ◌*◌, ◌-◌, ◌<◌, ◌≤◌, List, ◌∷◌, ◌++◌, length, take, refl, sym, ap, ◌∙◌, subst, inl, inr, ⊎_elim, arith, append-nil, Bool, true, eq-eqb, slice_index_or, if◌then◌else◌, take-length, cases_lt, Width, columns, Book, Item, Span, RowKind, RiseFrom, end_of, slot_column, name_at, slots_of, least_items, spans_from, Fills, sizes, after, fills_after, fills_end, fills_rise, length-spans_from, PathStep, path_in, row_on, step_at, at_within, place, child, lawful, same_row, slot_used, Root, Slot, Tree, Stands, covers_all, kind_on, top_of, Sheet, Table, column, inner_of, spans_in, row_most, Climb, Top, Next, RootAbove, NewRow, IsNothingLeft, IsLevelDrafted, HasClimbed, windows_over, IsRowTaken, AreRowsTaken, noted_row, noted_rows, IsPieceDrafted, AreHeld, part_of, heads, was_seen, IsLedger, depth_at, begin_at, new_at, level_of, AreAllHeld, newest_first, taken_by, windows_by, windows_above, Before, new_rows_of, span_to, MayBeCut, Seen, row_at, low_of, high_of, Gathered, IsNewRow, Start, rows_at, tree_with, [], Head, row_in, row_in-name_at}
 use Rattle.mt_splice.specs.declared.decisions.Next.TheVariants.{Root as AtRoot, Slot as InSlot}
 use Rattle.mt_splice.proofs.Besides.{begin_within}
 use Rattle.mt_splice.proofs.DraftedLedger.{taken_behind, all_held_stay, ledger_then, taken_stay, width_then, held_then, noted_then}
@@ -47,8 +47,8 @@ module _ (start : Start) (stands : Stands start.tree start.height) where
 -- ---- nothing is left
 
 pub ends_empty : {b : Before} {start : Start} {s : Sheet} {book : Book} {depth : ℕ} {c c' : Climb} {top : Top} (d : IsNothingLeft b start s book depth c) → c'.windows.items ≡ c.windows.items ++ windows_over c.ways.left.items c.ways.right.items depth → c'.made.items ≡ c.made.items → c'.inner ≡ c.inner
-    → top.place ≡ Root → top.word ≡ 0 → top.gap ≡ 0 → HasClimbed b start s book c' top
-ends_empty {b} {start} {s} {book} {depth} {c} {c'} {top} d windows made inner place word gap =
+    → top.place ≡ Root → top.word ≡ 0 → top.gap ≡ 0 → top.row ≡ 0 → HasClimbed b start s book c' top
+ends_empty {b} {start} {s} {book} {depth} {c} {c'} {top} d windows made inner place word gap row =
     let low : depth ≤ start.height = (let leaves = d.leaves in omega arith) in
     let from_within : d.from ≤ top_of start.tree = (let order = d.order in let within = d.within in omega arith) in
     let over = windows_over_are start d.stands d.from d.to from_within d.within c.ways.left.items c.ways.right.items d.left d.right depth (omega arith) in
@@ -72,6 +72,7 @@ ends_empty {b} {start} {s} {book} {depth} {c} {c'} {top} d windows made inner pl
       whole = λ e less. whole_above start d.stands d.from d.to from_within d.within depth low d.first d.last e (omega arith);
       joined = λ some. let leaves = d.leaves in omega arith;
       inner = inner ∙ d.inner;
+      names = row ∙ ap row_in (sym word);
       ends = inl (record { no_layers = refl; no_root = refl; all = ap suc (sym d.leaves); none = d.none; place = place; word = word; gap = gap });
     }
 
@@ -82,7 +83,12 @@ only_item [] x one = absurd (omega arith)
 only_item (y ∷ []) x one = refl
 only_item (y ∷ z ∷ items) x one = absurd (omega arith)
 
-module _ {b : Before} {start : Start} {s : Sheet} {book : Book} {depth : ℕ} {c : Climb} {new : List Item} {next : Next} (d : IsLevelDrafted b start s book depth c new next) where
+head_named : (above kind : RowKind) (first : ℕ) (items : List Item) (from : ℕ) (ends rows : List ℕ) → 1 ≤ length ends → length rows ≡ length ends → (x : Item) (r : ℕ) → row_in (slice_index_or (heads above kind first items from ends rows) 0 x).word ≡ slice_index_or rows 0 r
+head_named above kind first items from [] rows some many x r = absurd (omega arith)
+head_named above kind first items from (to ∷ ends) [] some many x r = absurd (omega arith)
+head_named above kind first items from (to ∷ ends) (row ∷ rows) some many x r = row_in-name_at row kind
+
+module _ {b : Before} {start : Start} {s : Sheet} {book : Book} {depth : ℕ} {c : Climb} {rows : List ℕ} {new : List Item} {next : Next} (d : IsLevelDrafted b start s book depth c rows new next) where
   abbrev h : ℕ
   h = length d.lower
 
@@ -113,6 +119,14 @@ module _ {b : Before} {start : Start} {s : Sheet} {book : Book} {depth : ℕ} {c
   right_max : (step_at c.ways.right.items depth).max + 1 ≡ high_of start.tree (depth_at start h) d.l.to
   right_max = ap (λ (z : PathStep). z.max + 1) (step_is start.tree start.height d.planned.0.gathered.stands c.ways.right.items d.l.to depth d.planned.0.gathered.within (let levels = d.at in omega arith) d.right) ∙ ap (λ (n : ℕ). high_of start.tree n d.l.to) (sym depth_is)
 
+  pub many_rows : length rows ≡ length d.l.ends
+  many_rows = ap length d.numbers ∙ d.planned.0.many
+
+  -- the row that the first item names
+  pub first_row_is : 1 ≤ length new → (x : Item) (r : ℕ) → row_in (slice_index_or new 0 x).word ≡ slice_index_or rows 0 r
+  first_row_is some x r = subst (λ (p : List Item × List ℕ). row_in (slice_index_or p.0 0 x).word ≡ slice_index_or p.1 0 r) (λ i. (sym d.up i, sym d.numbers i))
+      (head_named (inner_of start.tree.gapped) (kind_on start.tree.gapped h) at d.l.items 0 d.l.ends d.l.rows (let many = many_new in omega arith) d.planned.0.many x r)
+
   -- the one row, where there is one
   module _ (one : length d.l.ends ≡ 1) (x : Item) where
     abbrev item : Item
@@ -128,9 +142,9 @@ module _ {b : Before} {start : Start} {s : Sheet} {book : Book} {depth : ℕ} {c
     span_ends = (subst (Fills at (high_of start.tree (depth_at start h) d.l.to)) (ap (spans_from at) (only_item new x (many_new ∙ one))) new_fills).2
 
 -- one row stands for every index
-pub ends_at_root : {b : Before} {start : Start} {s : Sheet} {book : Book} {depth : ℕ} {c c' : Climb} {new : List Item} {top : Top} (d : IsLevelDrafted b start s book depth c new AtRoot) (x : Item)
-    → c'.windows.items ≡ c.windows.items ++ windows_over c.ways.left.items c.ways.right.items depth → c'.made.items ≡ c.made.items → c'.inner ≡ c.inner → top.place ≡ Root → top.word ≡ (slice_index_or new 0 x).word → top.gap ≡ 0 → HasClimbed b start s book c' top
-ends_at_root {b} {start} {s} {book} {depth} {c} {c'} {new} {top} d x windows made inner place word gap =
+pub ends_at_root : {b : Before} {start : Start} {s : Sheet} {book : Book} {depth : ℕ} {c c' : Climb} {rows : List ℕ} {new : List Item} {top : Top} (d : IsLevelDrafted b start s book depth c rows new AtRoot) (x : Item) (r : ℕ)
+    → c'.windows.items ≡ c.windows.items ++ windows_over c.ways.left.items c.ways.right.items depth → c'.made.items ≡ c.made.items → c'.inner ≡ c.inner → top.place ≡ Root → top.word ≡ (slice_index_or new 0 x).word → top.gap ≡ 0 → top.row ≡ slice_index_or rows 0 r → HasClimbed b start s book c' top
+ends_at_root {b} {start} {s} {book} {depth} {c} {c'} {rows} {new} {top} d x r windows made inner place word gap row =
     let one = d.goes_on.1 in let all = d.goes_on.2 in
     let g = d.planned.0.gathered in
     let low : depth ≤ start.height = (let levels = d.at in omega arith) in
@@ -159,6 +173,7 @@ ends_at_root {b} {start} {s} {book} {depth} {c} {c'} {new} {top} d x windows mad
       whole = λ e less. whole_above start g.stands d.l.from d.l.to (from_within d) g.within depth low begin behind e (omega arith);
       joined = λ some. let levels = d.at in omega arith;
       inner = inner ∙ d.inner;
+      names = row ∙ (sym (first_row_is d (let many = many_new d in omega arith) x r) ∙ ap row_in (sym word));
       ends = inr (inl (record {
         l = d.l;
         lower = d.lower;
@@ -176,16 +191,16 @@ ends_at_root {b} {start} {s} {book} {depth} {c} {c'} {new} {top} d x windows mad
     }
 
 -- the rows have the width of the tree, and as many slots
-slots_same : {b : Before} {start : Start} {s : Sheet} {book : Book} {depth : ℕ} {c : Climb} {new : List Item} {next : Next} → IsLevelDrafted b start s book depth c new next → {width : Width} → width ≡ s.tree.table.width
+slots_same : {b : Before} {start : Start} {s : Sheet} {book : Book} {depth : ℕ} {c : Climb} {rows : List ℕ} {new : List Item} {next : Next} → IsLevelDrafted b start s book depth c rows new next → {width : Width} → width ≡ s.tree.table.width
     → slots_of width c.inner ≡ slots_of start.tree.table.width (inner_of start.tree.gapped)
 slots_same {start = start} {c = c} d {width} width_is =
     let wide = width_is ∙ (now_by d.case.was d.ledger d.planned.0.gathered.stands).width in
     λ i. slots_of (wide i) (d.inner i)
 
 -- one row takes the place of one
-pub ends_in_slot : {b : Before} {start : Start} {s : Sheet} {book : Book} {depth : ℕ} {c : Climb} {new : List Item} {top : Top} (d : IsLevelDrafted b start s book depth c new InSlot) (x : Item) {width : Width}
-    → width ≡ s.tree.table.width → top.place ≡ Slot (step_at c.ways.left.items (depth - 1)).row (slot_column (slots_of width c.inner) (step_at c.ways.left.items (depth - 1)).slot) → top.word ≡ (slice_index_or new 0 x).word → top.gap ≡ (slice_index_or new 0 x).gap → HasClimbed b start s book c top
-ends_in_slot {b} {start} {s} {book} {depth} {c} {new} {top} d x {width} width_is place word gap =
+pub ends_in_slot : {b : Before} {start : Start} {s : Sheet} {book : Book} {depth : ℕ} {c : Climb} {rows : List ℕ} {new : List Item} {top : Top} (d : IsLevelDrafted b start s book depth c rows new InSlot) (x : Item) (r : ℕ) {width : Width}
+    → width ≡ s.tree.table.width → top.place ≡ Slot (step_at c.ways.left.items (depth - 1)).row (slot_column (slots_of width c.inner) (step_at c.ways.left.items (depth - 1)).slot) → top.word ≡ (slice_index_or new 0 x).word → top.gap ≡ (slice_index_or new 0 x).gap → top.row ≡ slice_index_or rows 0 r → HasClimbed b start s book c top
+ends_in_slot {b} {start} {s} {book} {depth} {c} {rows} {new} {top} d x r {width} width_is place word gap row =
     let below = d.goes_on.1 in let one = d.goes_on.2 in let same = d.goes_on.3 in
     let g = d.planned.0.gathered in
     let levels = d.at in
@@ -213,6 +228,7 @@ ends_in_slot {b} {start} {s} {book} {depth} {c} {new} {top} d x {width} width_is
       whole = λ e less. absurd (omega arith);
       joined = λ some. absurd (omega arith);
       inner = d.inner;
+      names = row ∙ (sym (first_row_is d (let many = many_new d in omega arith) x r) ∙ ap row_in (sym word));
       ends = inr (inr (inr (record {
         l = d.l;
         lower = d.lower;
@@ -231,7 +247,7 @@ ends_in_slot {b} {start} {s} {book} {depth} {c} {new} {top} d x {width} width_is
     }
 
 -- its slot is one of the row above
-pub slot_fits : {b : Before} {start : Start} {s : Sheet} {book : Book} {depth : ℕ} {c : Climb} {new : List Item} → IsLevelDrafted b start s book depth c new InSlot → {width : Width} → width ≡ s.tree.table.width → (step_at c.ways.left.items (depth - 1)).slot < slots_of width c.inner
+pub slot_fits : {b : Before} {start : Start} {s : Sheet} {book : Book} {depth : ℕ} {c : Climb} {rows : List ℕ} {new : List Item} → IsLevelDrafted b start s book depth c rows new InSlot → {width : Width} → width ≡ s.tree.table.width → (step_at c.ways.left.items (depth - 1)).slot < slots_of width c.inner
 slot_fits {start = start} {depth = depth} {c = c} d {width} width_is =
     let below = d.goes_on.1 in let levels = d.at in let g = d.planned.0.gathered in
     let high : start.height ≡ (depth - 1) + suc (length d.lower) = omega arith in
@@ -251,7 +267,7 @@ pub root_ends : (t : Tree) (i : ℕ) → high_of t 0 i ≡ top_of t + 1
 unfolding row_on
 root_ends t i = refl
 
-module _ {b : Before} {start : Start} {s : Sheet} {book : Book} {depth : ℕ} {c : Climb} {new : List Item} (d : IsLevelDrafted b start s book depth c new RootAbove) where
+module _ {b : Before} {start : Start} {s : Sheet} {book : Book} {depth : ℕ} {c : Climb} {rows : List ℕ} {new : List Item} (d : IsLevelDrafted b start s book depth c rows new RootAbove) where
   abbrev g : Gathered start (level_of start d.lower) d.l.from d.l.to (depth_at start (length d.lower)) (length d.lower) (spans_from (begin_at start (length d.lower) d.l) d.l.items)
   g = d.planned.0.gathered
 
@@ -293,7 +309,7 @@ module _ {b : Before} {start : Start} {s : Sheet} {book : Book} {depth : ℕ} {c
   pub new_rises : {new' : List Item} → new' ≡ new → RiseFrom 0 new'
   new_rises same = subst (RiseFrom 0) (sym same) (fills_rise 0 (top_of start.tree + 1) new new_all)
 
-  module _ {s' : Sheet} {book' : Book} {made' : List NewRow} {root : Item} (piece : IsPieceDrafted s s' book book' c.inner c.inner 0 new c.made.items made' root) where
+  module _ {s' : Sheet} {book' : Book} {made' : List NewRow} {root : Head} (piece : IsPieceDrafted s s' book book' c.inner c.inner 0 new c.made.items made' root) where
     part_is : part_of new 0 (length new) ≡ new
     part_is = ap (λ (n : ℕ). take n new) (sub_none (length new)) ∙ take-length new
 
@@ -319,27 +335,27 @@ module _ {b : Before} {start : Start} {s : Sheet} {book : Book} {depth : ℕ} {c
           refl,
         )
 
-    are : AreRowsTaken I new 0 (length new ∷ []) (piece.row ∷ []) s s' book book'
-    are = (s', book', subst (λ (p : RowKind × List Item). IsRowTaken s s' book book' p.0 p.1 piece.row) (λ i. (d.inner i, sym part_is i)) piece.taken, (refl, refl))
+    are : AreRowsTaken I new 0 (length new ∷ []) (root.row ∷ []) s s' book book'
+    are = (s', book', subst (λ (p : RowKind × List Item). IsRowTaken s s' book book' p.0 p.1 root.row) (λ i. (d.inner i, sym part_is i)) piece.taken, (refl, refl))
 
     wide : s.tree.table.width ≡ start.tree.table.width
     wide = (now_by d.case.was d.ledger g.stands).width
 
     wide' : s'.tree.table.width ≡ start.tree.table.width
-    wide' = width_then d.case.was H I I new 0 (length new ∷ []) (piece.row ∷ []) s s' book book' are ∙ wide
+    wide' = width_then d.case.was H I I new 0 (length new ∷ []) (root.row ∷ []) s s' book book' are ∙ wide
 
     abbrev root_seen : Seen
-    root_seen = record { height = H; at = record { first = 0; last = top_of start.tree; word = name_at piece.row I } }
+    root_seen = record { height = H; at = record { first = 0; last = top_of start.tree; word = name_at root.row I } }
 
-    seen_is : newest_first H (spans_from 0 (heads I I 0 new 0 (length new ∷ []) (piece.row ∷ []))) ≡ root_seen ∷ []
+    seen_is : newest_first H (spans_from 0 (heads I I 0 new 0 (length new ∷ []) (root.row ∷ []))) ≡ root_seen ∷ []
     seen_is =
         let many = many_new d in let more = two in
         let ends = fills_end 0 0 (top_of start.tree + 1) 0 new (omega arith) new_all in
         let last : end_of 0 (part_of new 0 (length new)) ≡ top_of start.tree = ap (end_of 0) part_is ∙ omega (arith, ends) in
-        λ i. record { height = H; at = record { first = 0; last = last i; word = name_at piece.row I } } ∷ []
+        λ i. record { height = H; at = record { first = 0; last = last i; word = name_at root.row I } } ∷ []
 
     ledger' : IsLedger b s' book' (root_seen ∷ taken_by start (d.l ∷ d.lower)) []
-    ledger' = subst (λ (l : List Seen). IsLedger b s' book' (l ++ taken_by start (d.l ∷ d.lower)) []) seen_is (ledger_then d.case.was H I I new 0 0 (length new ∷ []) (piece.row ∷ []) d.ledger are)
+    ledger' = subst (λ (l : List Seen). IsLedger b s' book' (l ++ taken_by start (d.l ∷ d.lower)) []) seen_is (ledger_then d.case.was H I I new 0 0 (length new ∷ []) (root.row ∷ []) d.ledger are)
 
     table_of : (x : Sheet) → x.tree.table.width ≡ start.tree.table.width → (tree_with start.tree x.tree.table.words).table ≡ x.tree.table
     table_of x wide = λ i. record { width = sym wide i; words = x.tree.table.words }
@@ -349,28 +365,28 @@ module _ {b : Before} {start : Start} {s : Sheet} {book : Book} {depth : ℕ} {c
         (λ row some. taken_behind (root_seen ∷ []) (taken_by start (d.l ∷ d.lower)) row some)
         (λ row c some within.
         ap (λ (t : Table). column t row c) (table_of s' wide')
-        ∙ (taken_stay d.case.was H I I new 0 0 (length new ∷ []) (piece.row ∷ []) s s' book book' d.ledger are row some c (subst (λ (v : Width). c < columns v) (sym wide) within) ∙ sym (ap (λ (t : Table). column t row c) (table_of s wide))))
+        ∙ (taken_stay d.case.was H I I new 0 0 (length new ∷ []) (root.row ∷ []) s s' book book' d.ledger are row some c (subst (λ (v : Width). c < columns v) (sym wide) within) ∙ sym (ap (λ (t : Table). column t row c) (table_of s wide))))
         (d.l ∷ d.lower) d.held
 
-    root_held : AreHeld (tree_with start.tree s'.tree.table.words) (was_seen (newest_first H (spans_from 0 (heads I I 0 new 0 (length new ∷ []) (piece.row ∷ []))) ++ taken_by start (d.l ∷ d.lower))) I new 0 (length new ∷ []) (piece.row ∷ [])
-    root_held = held_then d.case.was H I I new refl 0 0 (length new ∷ []) (piece.row ∷ []) s s' book book' d.ledger are parts wide'
+    root_held : AreHeld (tree_with start.tree s'.tree.table.words) (was_seen (newest_first H (spans_from 0 (heads I I 0 new 0 (length new ∷ []) (root.row ∷ []))) ++ taken_by start (d.l ∷ d.lower))) I new 0 (length new ∷ []) (root.row ∷ [])
+    root_held = held_then d.case.was H I I new refl 0 0 (length new ∷ []) (root.row ∷ []) s s' book book' d.ledger are parts wide'
 
-    root_holds : IsNewRow s'.tree.table I piece.row new
-    root_holds = subst (λ (p : Table × List Item). IsNewRow p.0 I piece.row p.1) (λ i. (table_of s' wide' i, part_is i)) root_held.0
+    root_holds : IsNewRow s'.tree.table I root.row new
+    root_holds = subst (λ (p : Table × List Item). IsNewRow p.0 I root.row p.1) (λ i. (table_of s' wide' i, part_is i)) root_held.0
 
-    notes : made' ≡ c.made.items ++ noted_rows I 0 (length new ∷ []) (piece.row ∷ [])
+    notes : made' ≡ c.made.items ++ noted_rows I 0 (length new ∷ []) (root.row ∷ [])
     notes =
         piece.noted
-        ∙ ((λ i. c.made.items ++ noted_row (d.inner i) piece.row (sym (sub_none (length new)) i))
-        ∙ ap (λ (l : List NewRow). c.made.items ++ l) (sym (append-nil (noted_row I piece.row (length new - 0)))))
+        ∙ ((λ i. c.made.items ++ noted_row (d.inner i) root.row (sym (sub_none (length new)) i))
+        ∙ ap (λ (l : List NewRow). c.made.items ++ l) (sym (append-nil (noted_row I root.row (length new - 0)))))
 
     made_is : made' ≡ new_rows_of s'.tree.table (root_seen ∷ taken_by start (d.l ∷ d.lower))
     made_is =
-        noted_then d.case.was H I I new refl 0 0 (length new ∷ []) (piece.row ∷ []) s s' book book' d.ledger are parts refl wide' d.made notes
+        noted_then d.case.was H I I new refl 0 0 (length new ∷ []) (root.row ∷ []) s s' book book' d.ledger are parts refl wide' d.made notes
         ∙ ap (λ (l : List Seen). new_rows_of s'.tree.table (l ++ taken_by start (d.l ∷ d.lower))) seen_is
 
-    pub ends_above : {c' : Climb} {top : Top} → c'.made.items ≡ made' → c'.windows.items ≡ c.windows.items → c'.inner ≡ c.inner → top.place ≡ Root → top.word ≡ root.word → top.gap ≡ 0 → HasClimbed b start s' book' c' top
-    ends_above {c'} {top} made windows inner place word gap = record {
+    pub ends_above : {c' : Climb} {top : Top} → c'.made.items ≡ made' → c'.windows.items ≡ c.windows.items → c'.inner ≡ c.inner → top.place ≡ Root → top.word ≡ root.item.word → top.gap ≡ 0 → top.row ≡ root.row → HasClimbed b start s' book' c' top
+    ends_above {c'} {top} made windows inner place word gap row = record {
       layers = d.l ∷ d.lower;
       root = root_seen ∷ [];
       from = d.l.from;
@@ -390,20 +406,21 @@ module _ {b : Before} {start : Start} {s : Sheet} {book : Book} {depth : ℕ} {c
       whole = λ e less. absurd (omega arith);
       joined = λ some. absurd (omega arith);
       inner = inner ∙ d.inner;
+      names = row ∙ (sym (row_in-name_at root.row c.inner) ∙ ap row_in (sym (word ∙ ap (λ (x : Item). x.word) piece.up)));
       ends = inr (inr (inl (record {
         l = d.l;
         lower = d.lower;
         are = refl;
         height = high;
         two = two;
-        row = piece.row;
+        row = root.row;
         inside = root_held.2;
-        holds = subst (IsNewRow s'.tree.table I piece.row) d.up root_holds;
+        holds = subst (IsNewRow s'.tree.table I root.row) d.up root_holds;
         run = subst (λ (p : ℕ × List Item). MayBeCut start.tree H 0 p.0 (spans_from 0 p.1)) (λ i. (sym (fills_after 0 (top_of start.tree + 1) new new_all) i, d.up i)) run_is;
         one_root = refl;
         none = refl;
         place = place;
-        word = word ∙ (ap (λ (x : Item). x.word) piece.up ∙ ap (name_at piece.row) d.inner);
+        word = word ∙ (ap (λ (x : Item). x.word) piece.up ∙ ap (name_at root.row) d.inner);
         gap = gap;
       })));
     }

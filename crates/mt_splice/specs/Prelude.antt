@@ -21,7 +21,7 @@ pub use Rattle.mt_rows.specs.Laws.{GapLaw, IsRow, ParentLaw, Stands, Tree, kind_
 pub use Rattle.mt_rows.specs.Levels.{IsBelow, Levels, SameColumns, expand, is_row_of, level, map_of, tally, times}
 pub use Rattle.mt_rows.specs.Publish.{IsLawfulOf, IsReached, IsToldKind, IsTreeOf, LiveAreReached, NoneBuried, StandsAt, is_reached, map_by, tree_as, with_published, with_record}
 pub use Rattle.mt_rows.specs.Replacement.{IsSlotAt, root_of}
-pub use Rattle.mt_rows.specs.Sheet.{IsFree, IsPlace, IsWhole, MayBury, OnlyReads, Rooted, Sheet, after_bury, is_buried, life_of, word_at}
+pub use Rattle.mt_rows.specs.Sheet.{IsFree, IsPlace, IsWhole, MayBury, MayTend, OnlyReads, Rooted, Sheet, after_bury, is_buried, life_of, tended, word_at}
 pub use Rattle.mt_rows.specs.Spans.{Table, base_of, column, inner_of, root_span, spans_in}
 pub use Rattle.mt_rows.specs.Trees.{height_in}
 pub use Rattle.mt_rows.specs.declared.rows.Life.{Life}

@@ -34,8 +34,13 @@ pub fn begin_tree<R: Rows, B: Begun>(
     let kind = RowKind::Leaf;
     let level = Level { kind, above };
     let leaf = draft_piece(rows, book, level, 0, items, &mut made);
-    let (place, word, gap) = (Place::Root, leaf.word, 0);
-    let top = Top { place, word, gap };
+    let (place, word, gap, row) = (Place::Root, leaf.item.word, 0, leaf.row);
+    let top = Top {
+        place,
+        word,
+        gap,
+        row,
+    };
     publish_at::<R, B>(rows, book, above, &top, made.as_slice(), event);
     place
 }

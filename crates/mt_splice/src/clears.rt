@@ -33,8 +33,13 @@ fn clear_as<R: Rows, B: Begun>(rows: &mut R, book: &mut RowBook, kind: Kind, eve
     let depth = climb.ways.left.len() as u32 - 1;
     push_above(&mut climb.windows, &climb.ways, depth + 1);
     let place = Place::Root;
-    let (word, gap) = (0, 0);
-    let top = Top { place, word, gap };
+    let (word, gap, row) = (0, 0, 0);
+    let top = Top {
+        place,
+        word,
+        gap,
+        row,
+    };
     publish_climbed::<R, B>(rows, book, &climb, top, depth, event);
 }
 

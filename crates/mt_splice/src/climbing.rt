@@ -14,7 +14,7 @@ ghost use Rattle.mt_splice.specs.steps.Climbing.{HasClimbed, IsClimbing, IsLevel
 
 use crate::begun::Begun;
 use crate::decisions::{Next, next_of};
-use crate::drafting::{draft_piece, draft_rows};
+use crate::drafting::{Heads, draft_piece, draft_rows};
 use crate::gathers::gather_above;
 use crate::ways::{Gathered, Level, Pieces, Ways, Windows, step_on, window_on};
 use crate::widening::widen;
@@ -38,18 +38,20 @@ pub struct Climb {
     pub made: NewRows,
 }
 
-/// Where a replacement is to be published, by which word, and what the row that this names tells.
+/// Where a replacement is to be published, by which word, what the row that this names tells, and that row, or 0 where nothing is
+/// left.
 #[derive(Clone, Copy, Debug, PartialEq, Eq)]
 pub struct Top {
     pub place: Place,
     pub word: u64,
     pub gap: u64,
+    pub row: u32,
 }
 
-/// The rows of a level, as the items that they are one level up, and how the replacement goes on.
+/// The rows of a level, and how the replacement goes on.
 #[derive(Drop)]
 struct Drafted {
-    new: ArrayVec<Item, 3>,
+    heads: Heads,
     next: Next,
 }
 
@@ -129,7 +131,7 @@ fn draft_level<R: Rows, B: Begun>(
     kind: RowKind,
 ) -> Drafted
     requires { IsClimbing B.before B.start (R.sheet rows.old) book.old kind depth climb.old }
-    ensures level { IsLevelDone B.before B.start (R.sheet rows.new) book.new depth climb.new result.new.items result.next }
+    ensures level { IsLevelDone B.before B.start (R.sheet rows.new) book.new depth climb.new result.heads.rows.items result.heads.items.items result.next }
     ensures none_buried { (R.sheet rows.new).buried ≡ (R.sheet rows.old).buried }
     ensures none_retired { book.new.held ≡ book.old.held }
 {
@@ -141,8 +143,11 @@ fn draft_level<R: Rows, B: Begun>(
     let next = next_of(width, &climb.ways, run, depth, kind, ends.len());
     climb.windows.push(window);
     if next == Next::Empty {
-        let new = ArrayVec::new();
-        return Drafted { new, next };
+        let heads = Heads {
+            rows: ArrayVec::new(),
+            items: ArrayVec::new(),
+        };
+        return Drafted { heads, next };
     }
     let level = Level {
         kind,
@@ -153,8 +158,8 @@ fn draft_level<R: Rows, B: Begun>(
         ends,
     };
     let items = climb.gathered.run.as_slice();
-    let new = draft_rows(rows, book, level, items, &pieces, &mut climb.made);
-    Drafted { new, next }
+    let heads = draft_rows(rows, book, level, items, &pieces, &mut climb.made);
+    Drafted { heads, next }
 }
 
 /// What is to be published where the climb ends so. Rows that replace the root stand in a new one, which is drafted too.
@@ -165,36 +170,57 @@ fn top_of<R: Rows, B: Begun>(
     drafted: &Drafted,
     depth: u32,
 ) -> Top
-    requires level { IsLevelDone B.before B.start (R.sheet rows.old) book.old depth climb.old drafted.now.new.items drafted.now.next }
+    requires level { IsLevelDone B.before B.start (R.sheet rows.old) book.old depth climb.old drafted.now.heads.rows.items drafted.now.heads.items.items drafted.now.next }
     requires ends { drafted.now.next ≢ Up }
     ensures climbed { HasClimbed B.before B.start (R.sheet rows.new) book.new climb.new result }
     ensures none_buried { (R.sheet rows.new).buried ≡ (R.sheet rows.old).buried }
     ensures none_retired { book.new.held ≡ book.old.held }
 {
-    let new = drafted.new.as_slice();
+    let new = drafted.heads.items.as_slice();
+    let numbers = drafted.heads.rows.as_slice();
     let place = Place::Root;
     match drafted.next {
         Next::Empty => {
             push_above(&mut climb.windows, &climb.ways, depth);
-            let (word, gap) = (0, 0);
-            Top { place, word, gap }
+            let (word, gap, row) = (0, 0, 0);
+            Top {
+                place,
+                word,
+                gap,
+                row,
+            }
         }
         Next::Root => {
             push_above(&mut climb.windows, &climb.ways, depth);
-            let (word, gap) = (new[0].word, 0);
-            Top { place, word, gap }
+            let (word, gap, row) = (new[0].word, 0, numbers[0]);
+            Top {
+                place,
+                word,
+                gap,
+                row,
+            }
         }
         Next::RootAbove => {
             let (kind, above) = (climb.inner, climb.inner);
             let level = Level { kind, above };
             let root = draft_piece(rows, book, level, 0, new, &mut climb.made);
-            let (word, gap) = (root.word, 0);
-            Top { place, word, gap }
+            let (word, gap, row) = (root.item.word, 0, root.row);
+            Top {
+                place,
+                word,
+                gap,
+                row,
+            }
         }
         Next::Slot => {
             let place = slot_on(rows.width(), &climb.ways.left, depth - 1, climb.inner);
-            let (word, gap) = (new[0].word, new[0].gap);
-            Top { place, word, gap }
+            let (word, gap, row) = (new[0].word, new[0].gap, numbers[0]);
+            Top {
+                place,
+                word,
+                gap,
+                row,
+            }
         }
         Next::Up => unreachable!(),
     }
@@ -216,7 +242,7 @@ pub fn climb_up<R: Rows, B: Begun>(rows: &mut R, book: &mut RowBook, climb: &mut
         }
         depth -= 1;
         kind = climb.inner;
-        let new = drafted.new.as_slice();
+        let new = drafted.heads.items.as_slice();
         gather_above::<R, B>(rows, &climb.ways, new, depth, kind, &mut climb.gathered);
     }
 }

@@ -18,6 +18,20 @@ use mt_free::RowBook;
 use mt_layout::{Item, RowKind, gap_of, name_of};
 use mt_rows::Rows;
 
+/// A row that was drafted, and the item that it is one level up.
+#[derive(Clone, Copy, Debug, PartialEq, Eq)]
+pub struct Head {
+    pub row: u32,
+    pub item: Item,
+}
+
+/// The rows of a level that were drafted, and the items that they are one level up.
+#[derive(Drop)]
+pub struct Heads {
+    pub rows: ArrayVec<u32, 3>,
+    pub items: ArrayVec<Item, 3>,
+}
+
 /// Drafts these items in a row of this kind, which it takes from the book.
 fn draft_row<R: Rows>(rows: &mut R, book: &mut RowBook, kind: RowKind, items: &[Item]) -> u32
     requires free { 0 < length book.old.free }
@@ -65,7 +79,7 @@ fn note_row(made: &mut NewRows, kind: RowKind, row: u32, count: u32)
     }
 }
 
-/// Drafts a row with these items, the first of which begins at `first`, and gives the item that it is one level up.
+/// Drafts a row with these items, the first of which begins at `first`, and gives it with the item that it is one level up.
 pub fn draft_piece<R: Rows>(
     rows: &mut R,
     book: &mut RowBook,
@@ -73,7 +87,7 @@ pub fn draft_piece<R: Rows>(
     first: u64,
     items: &[Item],
     made: &mut NewRows,
-) -> Item
+) -> Head
     requires free { 0 < length book.old.free }
     requires rows { book.old.rows ≡ (R.sheet rows.old).tree.rows }
     requires spare { All (λ row. IsFree (R.sheet rows.old).cleared (life_of (R.sheet rows.old).lives row)) book.old.free }
@@ -87,15 +101,16 @@ pub fn draft_piece<R: Rows>(
 {
     let row = draft_row(rows, book, level.kind, items);
     note_row(made, level.kind, row, items.len() as u32);
-    Item {
+    let item = Item {
         last: items[items.len() - 1].last,
         word: name_of(row, level.kind).word(),
         gap: told_gap(level.above, level.kind, first, items),
-    }
+    };
+    Head { row, item }
 }
 
-/// Drafts the items of a level in rows that end where its pieces do, and gives the items that these are one level up. Of inner
-/// rows it notes how many children they have.
+/// Drafts the items of a level in rows that end where its pieces do, and gives them with the items that they are one level up. Of
+/// inner rows it notes how many children they have.
 pub fn draft_rows<R: Rows>(
     rows: &mut R,
     book: &mut RowBook,
@@ -103,21 +118,26 @@ pub fn draft_rows<R: Rows>(
     items: &[Item],
     pieces: &Pieces,
     made: &mut NewRows,
-) -> ArrayVec<Item, 3>
+) -> Heads
     requires room { length made.old.items + 3 ≤ most_taken }
     requires rows { MayDraftRows (R.sheet rows.old) book.old level.kind pieces.now.first items.now pieces.now.ends.items }
-    ensures rows { AreRowsDrafted (R.sheet rows.old) (R.sheet rows.new) book.old book.new level.above level.kind pieces.now.first items.now pieces.now.ends.items made.old.items made.new.items result.items }
-    ensures few { length result.items ≤ 3 }
+    ensures rows { AreRowsDrafted (R.sheet rows.old) (R.sheet rows.new) book.old book.new level.above level.kind pieces.now.first items.now pieces.now.ends.items made.old.items made.new.items result.rows.items result.items.items }
+    ensures few { length result.items.items ≤ 3 }
 {
+    let mut numbers = ArrayVec::new();
     let mut new = ArrayVec::new();
     let mut from = 0;
     for end in pieces.ends.as_slice() {
         let to = *end as usize;
         let begin = first_in(pieces.first, items, from);
         let part = &items[from..to];
-        let item = draft_piece(rows, book, level, begin, part, made);
-        new.push(item);
+        let head = draft_piece(rows, book, level, begin, part, made);
+        numbers.push(head.row);
+        new.push(head.item);
         from = to;
     }
-    new
+    Heads {
+        rows: numbers,
+        items: new,
+    }
 }

@@ -5,7 +5,7 @@ ghost use Rattle.mt_rows.specs.declared.rows.Place.TheVariants.{Slot};
 ghost use Rattle.mt_rows.specs.Publish.{with_published};
 ghost use Rattle.mt_rows.specs.Spans.{inner_of};
 ghost use Rattle.mt_splice.specs.Splice.{IsSpliced, TellsBelow, TellsGapAt};
-ghost use Rattle.mt_splice.specs.steps.Ends.{AreTendedTo, IsTopTendedAt, MayPublishEnd, MayTendTopAt};
+ghost use Rattle.mt_splice.specs.steps.Ends.{AreTendedTo, IsReadyToPublish, MayTendTop, with_top};
 
 use crate::begun::Begun;
 use crate::calls::Event;
@@ -13,7 +13,7 @@ use crate::climbing::Top;
 use crate::tends::tend_children;
 use crate::writes::NewRow;
 use mt_free::RowBook;
-use mt_layout::{RowKind, parent_word, row_of, slots};
+use mt_layout::{RowKind, parent_word, slots};
 use mt_rows::{Place, Rows};
 
 /// Writes the parent words of the children of these inner rows.
@@ -28,19 +28,15 @@ fn tend_rows<R: Rows>(rows: &mut R, kind: RowKind, new_inner_rows: &[NewRow])
 }
 
 /// Writes the parent word of the row that was published in a slot of a row of this kind.
-#[tactic(auto, using(crate::proofs::EndTending::may_tend_top, crate::proofs::EndTending::top_tended))]
-fn tend_top<R: Rows>(rows: &mut R, kind: RowKind, place: Place, word: u64)
-    requires { MayTendTopAt (R.sheet rows.old) kind place word }
-    ensures { IsTopTendedAt (R.sheet rows.old) (R.sheet rows.new) kind place word }
+fn tend_top<R: Rows>(rows: &mut R, kind: RowKind, top: &Top)
+    requires { MayTendTop (R.sheet rows.old) kind top.now.place top.now.row }
+    ensures { R.sheet rows.new ≡ with_top (R.sheet rows.old) kind top.now.place top.now.row }
 {
-    let Place::Slot { row, col } = place else {
+    let Place::Slot { row, col } = top.place else {
         return;
     };
-    let Some(top) = row_of(word) else {
-        unreachable!()
-    };
     let slots = slots(rows.width(), kind);
-    rows.tend(top, 0, parent_word(row, col - slots));
+    rows.tend(top.row, 0, parent_word(row, col - slots));
 }
 
 /// Publishes the replacement by one store, and writes the parent words of all rows that have another parent then. The tree's
@@ -55,11 +51,11 @@ pub fn publish_at<R: Rows, B: Begun>(
     event: &Event<'_>,
 )
     requires kind { kind ≡ inner_of B.start.tree.gapped }
-    requires end { MayPublishEnd B.before B.start (R.sheet rows.old) book.now inner.now top.now.place top.now.word event.now.call.now event.now.reply.now }
+    requires end { IsReadyToPublish B.before B.start (R.sheet rows.old) book.now inner.now top.now event.now.call.now event.now.reply.now }
     ensures spliced { IsSpliced B.before.kind B.before.sheet (R.sheet rows.new) B.before.book book.now B.before.number event.now.call.now event.now.reply.now top.now.place B.start.first B.start.last }
     ensures told { (row col gap : ℕ) → top.now.place ≡ Slot row col → TellsBelow B.before.kind (with_published (R.sheet rows.old).tree top.now.place top.now.word) top.now.word gap → TellsGapAt B.before.kind (R.sheet rows.new).tree top.now.place gap }
 {
     rows.publish(top.place, top.word, event.call, event.reply);
     tend_rows(rows, kind, inner);
-    tend_top(rows, kind, top.place, top.word);
+    tend_top(rows, kind, top);
 }

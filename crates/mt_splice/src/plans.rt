@@ -27,10 +27,11 @@ ghost use Rattle.mt_rows.specs.declared.rows.Place.TheVariants.{Root};
 ghost use Rattle.mt_splice.specs.Splice.{MayClear, MaySplice};
 ghost use Rattle.mt_splice.specs.declared.climbing.Climb.{Climb};
 ghost use Rattle.mt_splice.specs.declared.climbing.Top.{Top};
+ghost use Rattle.mt_splice.specs.declared.drafting.Head.{Head};
 ghost use Rattle.mt_splice.specs.declared.writes.NewRow.{NewRow};
 ghost use Rattle.mt_splice.specs.steps.Climbing.{HasClimbed, IsClimbing, windows_over};
 ghost use Rattle.mt_splice.specs.steps.Drafting.{IsPieceDrafted};
-ghost use Rattle.mt_splice.specs.steps.Ends.{MayPublishEnd};
+ghost use Rattle.mt_splice.specs.steps.Ends.{IsReadyToPublish};
 ghost use Rattle.mt_splice.specs.steps.Entries.{IsBegunBy, IsFirstStore};
 ghost use Rattle.mt_splice.specs.steps.Layers.{Beside, Stand};
 ghost use Rattle.mt_splice.specs.steps.Plans.{AreAllHeld, IsPlanned, Layer, depth_at, gone_by, level_of, taken_by};
@@ -49,11 +50,11 @@ pub fn a_climb_begins()
     ensures store { (b : Before) (start : Start) (kind : Kind) (s : Sheet) (book : Book) (left right : List PathStep) (items : List Item) (number : ℕ) (call : Call) (reply : Reply) (c : Climb)
         → IsBegunBy b start kind s book number call (last_step left).min (last_step right).max → MaySplice kind s book left right items number call reply → IsWhole s → left ≢ [] → c.ways.left.items ≡ left → c.ways.right.items ≡ right → c.gathered.run.items ≡ items → c.windows.items ≡ []
         → c.made.items ≡ [] → c.inner ≡ inner_kind kind → IsClimbing b start s book Leaf (length c.ways.left.items - 1) c }
-    ensures first { (b : Before) (start : Start) (s s' : Sheet) (book book' : Book) (above : RowKind) (items : List Item) (call : Call) (reply : Reply) (made made' inner : List NewRow) (item : Item)
-        → IsFirstStore b start s book items call reply → IsWhole s → made ≡ [] → IsPieceDrafted s s' book book' above Leaf 0 items made made' item → inner ≡ made' → MayPublishEnd b start s' book' inner Root item.word call reply }
+    ensures first { (b : Before) (start : Start) (s s' : Sheet) (book book' : Book) (above : RowKind) (items : List Item) (call : Call) (reply : Reply) (made made' inner : List NewRow) (head : Head) (gap : ℕ)
+        → IsFirstStore b start s book items call reply → IsWhole s → made ≡ [] → IsPieceDrafted s s' book book' above Leaf 0 items made made' head → inner ≡ made' → IsReadyToPublish b start s' book' inner (record { place = Root; word = head.item.word; gap = gap; row = head.row }) call reply }
     ensures clear { (b : Before) (start : Start) (kind : Kind) (s s₁ s₂ : Sheet) (book : Book) (number : ℕ) (call : Call) (reply : Reply) (width : Width) (index depth : ℕ) (c : Climb) (top : Top)
         → IsBegunBy b start kind s book number call 0 (greatest s.tree.table.width) → MayClear kind s book number call reply → IsWhole s → OnlyReads s s₁ → OnlyReads s₁ s₂ → c.ways.left.items ≡ path_in s.tree.table s.tree.root 0 → width ≡ s₁.tree.table.width → index ≡ greatest width
-        → c.ways.right.items ≡ path_in s₁.tree.table s₁.tree.root index → depth + 1 ≡ length c.ways.left.items → c.windows.items ≡ windows_over c.ways.left.items c.ways.right.items (depth + 1) → c.made.items ≡ [] → c.inner ≡ inner_kind kind → top.place ≡ Root → top.word ≡ 0 → top.gap ≡ 0
+        → c.ways.right.items ≡ path_in s₁.tree.table s₁.tree.root index → depth + 1 ≡ length c.ways.left.items → c.windows.items ≡ windows_over c.ways.left.items c.ways.right.items (depth + 1) → c.made.items ≡ [] → c.inner ≡ inner_kind kind → top.place ≡ Root → top.word ≡ 0 → top.gap ≡ 0 → top.row ≡ 0
         → HasClimbed b start s₂ book c top }
 {}
 

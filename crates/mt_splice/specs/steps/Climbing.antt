@@ -1,7 +1,7 @@
 -- A climb from the leaves up to the row in which the replacement is published: rows are read and drafted, and none is buried.
 -- Source: the kernel's lib/maple_tree.c, mas_spanning_rebalance, which goes up until one node takes the place of one.
 use Rattle.std.specs.Prelude.{◌≡◌, ◌⊎◌, ℕ, zero, suc, ◌+◌, ◌*◌, ◌<◌, ◌≤◌, List, ◌∷◌, ◌++◌, length, []}
-use Rattle.mt_splice.specs.Prelude.{first_row, Book, Item, RowKind, Span, slot_column, name_at, slots_of, spans_from, Root, Slot, Stands, kind_on, top_of, Sheet, inner_of, PathStep, path_in, step_at, step_in}
+use Rattle.mt_splice.specs.Prelude.{first_row, Book, Item, RowKind, Span, row_in, slot_column, name_at, slots_of, spans_from, Root, Slot, Stands, kind_on, top_of, Sheet, inner_of, PathStep, path_in, step_at, step_in}
 use Rattle.mt_splice.specs.declared.climbing.Climb.{Climb}
 use Rattle.mt_splice.specs.declared.climbing.Top.{Top}
 use Rattle.mt_splice.specs.declared.decisions.Next.{Next}
@@ -58,8 +58,8 @@ pub record IsNothingLeft (b : Before) (start : Start) (s : Sheet) (book : Book) 
   pub made : c.made.items ≡ []
   pub inner : c.inner ≡ inner_of start.tree.gapped
 
--- A layer more is drafted, whose rows are these items one level up, and the climb goes on so.
-pub record IsLevelDrafted (b : Before) (start : Start) (s : Sheet) (book : Book) (depth : ℕ) (c : Climb) (new : List Item) (next : Next) : Type 0 where
+-- A layer more is drafted, in these rows, which are these items one level up, and the climb goes on so.
+pub record IsLevelDrafted (b : Before) (start : Start) (s : Sheet) (book : Book) (depth : ℕ) (c : Climb) (rows : List ℕ) (new : List Item) (next : Next) : Type 0 where
   pub l : Layer
   pub lower : List Layer
   pub case : IsInFlight b start
@@ -70,6 +70,7 @@ pub record IsLevelDrafted (b : Before) (start : Start) (s : Sheet) (book : Book)
   pub left : c.ways.left.items ≡ path_in start.tree.table start.tree.root l.from
   pub right : c.ways.right.items ≡ path_in start.tree.table start.tree.root l.to
   pub told : AreAllFromBelow start (l ∷ lower)
+  pub numbers : rows ≡ l.rows
   pub up : new ≡ heads_at start (length lower) l
   pub goes_on : IsNextDecision start.tree.table.width c.ways.left.items c.ways.right.items depth (kind_on start.tree.gapped (length lower)) l.items (length l.ends) next
   pub windows : c.windows.items ≡ windows_by start (l ∷ lower)
@@ -77,12 +78,12 @@ pub record IsLevelDrafted (b : Before) (start : Start) (s : Sheet) (book : Book)
   pub inner : c.inner ≡ inner_of start.tree.gapped
   pub room : 3 * (start.height + 1) + 1 ≤ length b.book.free
 
-abbrev pub IsLevelDone : Before → Start → Sheet → Book → ℕ → Climb → List Item → Next → Type 0
-IsLevelDone b start s book depth c new Empty = IsNothingLeft b start s book depth c
-IsLevelDone b start s book depth c new AtRoot = IsLevelDrafted b start s book depth c new AtRoot
-IsLevelDone b start s book depth c new RootAbove = IsLevelDrafted b start s book depth c new RootAbove
-IsLevelDone b start s book depth c new InSlot = IsLevelDrafted b start s book depth c new InSlot
-IsLevelDone b start s book depth c new Up = IsLevelDrafted b start s book depth c new Up
+abbrev pub IsLevelDone : Before → Start → Sheet → Book → ℕ → Climb → List ℕ → List Item → Next → Type 0
+IsLevelDone b start s book depth c rows new Empty = IsNothingLeft b start s book depth c
+IsLevelDone b start s book depth c rows new AtRoot = IsLevelDrafted b start s book depth c rows new AtRoot
+IsLevelDone b start s book depth c rows new RootAbove = IsLevelDrafted b start s book depth c rows new RootAbove
+IsLevelDone b start s book depth c rows new InSlot = IsLevelDrafted b start s book depth c rows new InSlot
+IsLevelDone b start s book depth c rows new Up = IsLevelDrafted b start s book depth c rows new Up
 
 -- the windows of the paths on all levels above one, from the lowest up
 abbrev pub windows_over : List PathStep → List PathStep → ℕ → List Window
@@ -170,5 +171,6 @@ pub record HasClimbed (b : Before) (start : Start) (s : Sheet) (book : Book) (c 
   pub windows : c.windows.items ≡ windows_by start layers ++ windows_above start from to over
   pub whole : (d : ℕ) → d < over → (d ≤ start.height) × (low_of start.tree d from ≡ 0) × (high_of start.tree d to ≡ top_of start.tree + 1)
   pub joined : (0 < over) → over + length layers ≡ start.height + 1
+  pub names : top.row ≡ row_in top.word
   pub inner : c.inner ≡ inner_of start.tree.gapped
   pub ends : EndsEmpty start layers root over top ⊎ (EndsAtRoot start layers root over top ⊎ (EndsAbove start s layers root over top ⊎ EndsInSlot start layers root over top))

@@ -2,6 +2,7 @@
 -- Source: the kernel's lib/maple_tree.c, mab_mas_cp, which writes a big node's items into one, two or three nodes.
 use Rattle.std.specs.Prelude.{◌≡◌, ℕ, ◌+◌, ◌-◌, ◌≤◌, List, [], ◌∷◌, ◌++◌, All, length}
 use Rattle.mt_splice.specs.Prelude.{Book, IsRowOf, Item, RowKind, Leaf, Inner, Gapped, spans_from, Tree, kind_on, top_of, Sheet, IsFree, life_of}
+use Rattle.mt_splice.specs.declared.drafting.Head.{Head}
 use Rattle.mt_splice.specs.declared.writes.NewRow.{NewRow}
 use Rattle.mt_splice.specs.Fewest.{IsCutOf}
 use Rattle.mt_splice.specs.steps.Layers.{part_of, head, heads}
@@ -22,12 +23,11 @@ noted_row Leaf row count = []
 noted_row Inner row count = record { row = row; count = count } ∷ []
 noted_row Gapped row count = record { row = row; count = count } ∷ []
 
--- The item that the row is one level up, in a row of the kind `above`; its first item begins at `first`.
-pub record IsPieceDrafted (s s' : Sheet) (book book' : Book) (above kind : RowKind) (first : ℕ) (items : List Item) (made made' : List NewRow) (item : Item) : Type 0 where
-  pub row : ℕ
-  pub taken : IsRowTaken s s' book book' kind items row
-  pub up : item ≡ head above kind first items row
-  pub noted : made' ≡ made ++ noted_row kind row (length items)
+-- The row, and the item that it is one level up, in a row of the kind `above`; its first item begins at `first`.
+pub record IsPieceDrafted (s s' : Sheet) (book book' : Book) (above kind : RowKind) (first : ℕ) (items : List Item) (made made' : List NewRow) (new : Head) : Type 0 where
+  pub taken : IsRowTaken s s' book book' kind items new.row
+  pub up : new.item ≡ head above kind first items new.row
+  pub noted : made' ≡ made ++ noted_row kind new.row (length items)
 
 -- ---- the rows of a level
 
@@ -59,9 +59,8 @@ pub record MayDraftRows (s : Sheet) (book : Book) (kind : RowKind) (first : ℕ)
   pub rows : book.rows ≡ s.tree.rows
   pub spare : All (λ row. IsFree s.cleared (life_of s.lives row)) book.free
 
--- they were drafted in rows, which are these items one level up
-pub record AreRowsDrafted (s s' : Sheet) (book book' : Book) (above kind : RowKind) (first : ℕ) (items : List Item) (ends : List ℕ) (made made' : List NewRow) (new : List Item) : Type 0 where
-  pub rows : List ℕ
+-- they were drafted in these rows, which are these items one level up
+pub record AreRowsDrafted (s s' : Sheet) (book book' : Book) (above kind : RowKind) (first : ℕ) (items : List Item) (ends : List ℕ) (made made' : List NewRow) (rows : List ℕ) (new : List Item) : Type 0 where
   pub many : length rows ≡ length ends
   pub taken : AreRowsTaken kind items 0 ends rows s s' book book'
   pub up : new ≡ heads above kind first items 0 ends rows

@@ -1,9 +1,10 @@
 -- What is known when all new rows are written and all old rows are buried, and what a store that publishes them is followed by.
 -- Source: this project's own; the kernel's lib/maple_tree.c, mas_wmb_replace and mas_adopt_children, which set the parents
 -- of children that have moved.
-use Rattle.std.specs.Prelude.{◌≡◌, ◌≢◌, ℕ, suc, ◌+◌, ◌-◌, ◌*◌, ◌<◌, ◌≤◌, true, false, List, Option, Some, None, length}
+use Rattle.std.specs.Prelude.{◌≡◌, ◌≢◌, ℕ, suc, ◌+◌, ◌-◌, ◌*◌, ◌<◌, ◌≤◌, true, List, Option, Some, None, length}
 use Rattle.std.specs.List.{slice_get}
-use Rattle.mt_splice.specs.Prelude.{Call, Reply, acted, columns, RowKind, Span, row_in, named_row, parent_at, slot_column, Book, Live, Place, Root, Slot, column, is_row_of, height_in, Tree, kind_on, Sheet, IsPlace, life_of, is_buried, tree_as, map_by, with_published, IsSlotAt, slots_of}
+use Rattle.mt_splice.specs.Prelude.{Call, Reply, acted, columns, RowKind, Span, row_in, parent_at, slot_column, Book, Place, Root, Slot, column, is_row_of, height_in, Tree, kind_on, Sheet, MayTend, tended, tree_as, map_by, with_published, IsSlotAt, slots_of}
+use Rattle.mt_splice.specs.declared.climbing.Top.{Top}
 use Rattle.mt_splice.specs.declared.writes.NewRow.{NewRow}
 use Rattle.mt_splice.specs.steps.Seen.{Seen, passing, was_seen}
 use Rattle.mt_splice.specs.steps.Starts.{Start, with_words, now}
@@ -39,8 +40,8 @@ IsTop taken (Some h) None word = word ≡ 0
 IsTop taken None None word = ⊥
 
 -- All new rows are written and all old rows are buried; one word is still to be stored, and then the children of the new
--- inner rows are to be tended.
-pub record MayPublishEnd (b : Before) (start : Start) (s : Sheet) (book : Book) (inner : List NewRow) (place : Place) (word : ℕ) (call : Call) (reply : Reply) : Type 0 where
+-- inner rows are to be tended, and the row that the word names.
+pub record IsReadyToPublish (b : Before) (start : Start) (s : Sheet) (book : Book) (inner : List NewRow) (top : Top) (call : Call) (reply : Reply) : Type 0 where
   pub taken : List Seen
   pub gone : List Seen
   -- the heights of the two trees
@@ -51,10 +52,11 @@ pub record MayPublishEnd (b : Before) (start : Start) (s : Sheet) (book : Book) 
   pub few : length taken ≤ 3 * height_in b.sheet.tree.table b.sheet.tree.root + 1
   pub answer : acted b.kind (map_by b.sheet.tree) call ≡ (start.map, reply)
   pub stood : StandsAs start.tree old
-  pub replaced : IsReplaced start.tree (tree_as b.kind (with_published s.tree place word)) start.map taken gone old new
-  pub gaps : GapsBeside start (was_seen taken) (tree_as b.kind (with_published s.tree place word)) new
-  pub at : IsEndPlace (now start s) gone old place
-  pub top : IsTop taken old new word
+  pub replaced : IsReplaced start.tree (tree_as b.kind (with_published s.tree top.place top.word)) start.map taken gone old new
+  pub gaps : GapsBeside start (was_seen taken) (tree_as b.kind (with_published s.tree top.place top.word)) new
+  pub at : IsEndPlace (now start s) gone old top.place
+  pub names : IsTop taken old new top.word
+  pub row : top.row ≡ row_in top.word
   pub inner_rows : inner ≡ new_rows_of s.tree.table taken
 
 -- ---- parent words
@@ -76,26 +78,12 @@ pub record AreTendedTo (s s' : Sheet) (kind : RowKind) (new_inner_rows : List Ne
   pub children : (i : ℕ) (n : NewRow) (slot : ℕ) → i < done → slice_get new_inner_rows i ≡ Some n → slot < n.count → column s'.tree.table (child_row s.tree.table kind n.row slot) 0 ≡ parent_at n.row slot
   pub others : (r : ℕ) → ((i : ℕ) (n : NewRow) (slot : ℕ) → i < done → slice_get new_inner_rows i ≡ Some n → slot < n.count → child_row s.tree.table kind n.row slot ≢ r) → column s'.tree.table r 0 ≡ column s.tree.table r 0
 
--- the row that was published in a slot of a row of this kind may be tended
-pub record MayTendTop (s : Sheet) (kind : RowKind) (row col word : ℕ) : Type 0 where
-  pub named : named_row word ≡ Some (row_in word)
-  pub at : IsPlace s.tree (row_in word) 0
-  pub live : life_of s.lives (row_in word) ≡ Live
-  pub kept : is_buried s.buried (row_in word) ≡ false
-  pub other : row_in word ≢ row
-  pub slot : slots_of s.tree.table.width kind ≤ col
-  pub within : col < columns s.tree.table.width
+-- the row that was published in a slot of a row of this kind may be told row and slot
+abbrev pub MayTendTop : Sheet → RowKind → Place → ℕ → Type 0
+MayTendTop s kind Root top = Unit {0}
+MayTendTop s kind (Slot row col) top = (slots_of s.tree.table.width kind ≤ col) × MayTend s top 0 (parent_at row (col - slots_of s.tree.table.width kind))
 
-abbrev pub MayTendTopAt : Sheet → RowKind → Place → ℕ → Type 0
-MayTendTopAt s kind Root word = Unit {0}
-MayTendTopAt s kind (Slot row col) word = MayTendTop s kind row col word
-
--- its parent word names the row and the slot, and nothing else has changed
-pub record IsTopTended (s s' : Sheet) (kind : RowKind) (row col word : ℕ) : Type 0 where
-  pub only : OnlyParents s s'
-  pub here : column s'.tree.table (row_in word) 0 ≡ parent_at row (col - slots_of s.tree.table.width kind)
-  pub others : (r : ℕ) → r ≢ row_in word → column s'.tree.table r 0 ≡ column s.tree.table r 0
-
-abbrev pub IsTopTendedAt : Sheet → Sheet → RowKind → Place → ℕ → Type 0
-IsTopTendedAt s s' kind Root word = s' ≡ s
-IsTopTendedAt s s' kind (Slot row col) word = IsTopTended s s' kind row col word
+-- the sheet when it is
+abbrev pub with_top : Sheet → RowKind → Place → ℕ → Sheet
+with_top s kind Root top = s
+with_top s kind (Slot row col) top = tended s top 0 (parent_at row (col - slots_of s.tree.table.width kind))

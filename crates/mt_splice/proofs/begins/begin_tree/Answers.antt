@@ -23,4 +23,4 @@ pub draft_piece-leaf-requires-clause-entry : goal.draft_piece-leaf-requires-clau
 draft_piece-leaf-requires-clause-entry g c = λ _. leaf_enters c.requires.first (g.met.R.Rows.whole c.args.rows.now)
 
 pub publish_at-requires-clause-end : goal.publish_at-requires-clause-end
-publish_at-requires-clause-end g c = leaf_may_be_root c.requires.first (g.met.R.Rows.whole c.args.rows.now) c.new-made.ensures c.draft_piece-leaf.ensures.piece c.as_slice.ensures.value
+publish_at-requires-clause-end g c = leaf_may_be_root c.requires.first (g.met.R.Rows.whole c.args.rows.now) 0 c.new-made.ensures c.draft_piece-leaf.ensures.piece c.as_slice.ensures.value

@@ -44,7 +44,7 @@ publish_climbed-requires-clause-climbed g c =
     let same = c.len.ensures.value in
     let windows = c.push_above.ensures ∙ ap (λ (l : List Window). l ++ windows_over c.copy_into.new.copy.items c.walk_on.new.path.items (c.len.result - 1 + 1)) c.new_climb-climb.ensures.windows in
     clear_noted c.requires.begun c.requires.may (g.met.R.Rows.whole c.args.rows.now) (c.len.result - 1) c.walk-left.ensures.reads.rest c.walk_on.ensures.reads.rest left c.width.ensures c.top-last.ensures c.walk_on.ensures.path (omega (arith, deep.1)) windows c.new_climb-climb.ensures.made
-    (c.new_climb-climb.ensures.inner ∙ c.inner_kind.ensures) refl refl refl
+    (c.new_climb-climb.ensures.inner ∙ c.inner_kind.ensures) refl refl refl refl
 
 pub publish_climbed-requires-clause-leaves : goal.publish_climbed-requires-clause-leaves
 publish_climbed-requires-clause-leaves g c =

@@ -40,11 +40,11 @@ returns-then-eq-clause-level g c =
     rw none
     (nothing_left c.requires c.widen.ensures.widened width (rw none at c.next_of-next.ensures) c.widen.ensures.rest refl refl c.window_on-window.ensures.first c.window_on-window.ensures.last c.push.ensures.items refl refl)
 
-pub draft_rows-new-requires-clause-room : goal.draft_rows-new-requires-clause-room
-draft_rows-new-requires-clause-room g c = note_room c.requires
+pub draft_rows-heads-requires-clause-room : goal.draft_rows-heads-requires-clause-room
+draft_rows-heads-requires-clause-room g c = note_room c.requires
 
-pub draft_rows-new-requires-clause-rows : goal.draft_rows-new-requires-clause-rows
-draft_rows-new-requires-clause-rows g c =
+pub draft_rows-heads-requires-clause-rows : goal.draft_rows-heads-requires-clause-rows
+draft_rows-heads-requires-clause-rows g c =
     let some = same_false the_type c.next_of-next.result Empty (sym c.if-eq.ensures) in
     let width = c.width-width.ensures ∙ ap (λ (s : Sheet). s.tree.table.width) c.widen.ensures.rest in
     let free : length c.ends_of-ends.result.items ≤ length c.args.book.now.free = (let few = c.ends_of-ends.ensures.few in let room = free_room c.requires in omega arith) in
@@ -58,7 +58,7 @@ pub returns-clause-level : goal.returns-clause-level
 returns-clause-level g c =
     let some = same_false the_type c.next_of-next.result Empty (sym c.if-eq.ensures) in
     let width = c.width-width.ensures ∙ ap (λ (s : Sheet). s.tree.table.width) c.widen.ensures.rest in
-    let done = rw c.as_slice-items.ensures.value at c.draft_rows-new.ensures.rows in
+    let done = rw c.as_slice-items.ensures.value at c.draft_rows-heads.ensures.rows in
     let goes = rw c.len.ensures.value at c.next_of-next.ensures in
     drafted_is_done c.next_of-next.result some
     (level_drafted c.requires c.widen.ensures.widened width (some_left c.len.result c.next_of-next.result some c.next_of-next.ensures) c.ends_of-ends.ensures.cut c.ends_of-ends.ensures.few c.widen.ensures.rest c.requires.inner
@@ -66,9 +66,9 @@ returns-clause-level g c =
 
 pub returns-clause-none_buried : goal.returns-clause-none_buried
 returns-clause-none_buried g c =
-    (drafts_bury_none c.args.kind c.as_slice-items.result.now 0 c.ends_of-ends.result.items c.draft_rows-new.ensures.rows.rows (g.R.Rows.sheet c.widen.new.rows) (g.R.Rows.sheet c.draft_rows-new.new.rows) c.args.book.now c.draft_rows-new.new.book c.draft_rows-new.ensures.rows.taken).0
+    (drafts_bury_none c.args.kind c.as_slice-items.result.now 0 c.ends_of-ends.result.items c.draft_rows-heads.result.rows.items (g.R.Rows.sheet c.widen.new.rows) (g.R.Rows.sheet c.draft_rows-heads.new.rows) c.args.book.now c.draft_rows-heads.new.book c.draft_rows-heads.ensures.rows.taken).0
     ∙ ap (λ (s : Sheet). s.buried) c.widen.ensures.rest
 
 pub returns-clause-none_retired : goal.returns-clause-none_retired
 returns-clause-none_retired g c =
-    (drafts_bury_none c.args.kind c.as_slice-items.result.now 0 c.ends_of-ends.result.items c.draft_rows-new.ensures.rows.rows (g.R.Rows.sheet c.widen.new.rows) (g.R.Rows.sheet c.draft_rows-new.new.rows) c.args.book.now c.draft_rows-new.new.book c.draft_rows-new.ensures.rows.taken).1
+    (drafts_bury_none c.args.kind c.as_slice-items.result.now 0 c.ends_of-ends.result.items c.draft_rows-heads.result.rows.items (g.R.Rows.sheet c.widen.new.rows) (g.R.Rows.sheet c.draft_rows-heads.new.rows) c.args.book.now c.draft_rows-heads.new.book c.draft_rows-heads.ensures.rows.taken).1
