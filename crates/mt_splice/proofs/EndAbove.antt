@@ -1,8 +1,8 @@
 -- Where rows that replace the root stand in a new one: the tree then, and its law of gaps.
-use Rattle.mt_splice.proofs.Prelude.{◌≡◌, ℕ, suc, ◌+◌, ◌<◌, ◌≤◌, List, ◌∷◌, ◌++◌, true, Some, length, refl, sym, ap, ◌∙◌, subst, arith, append-nil, deepest, most_rows, Book, Item, RowKind, Span, end_of, name_at, slots_of, spans_from, row_in-name_at, sizes, fills_end, Root, Tree, IsRow, GapLaw, kind_on, top_of, expand, Levels, tree_as, with_published, Sheet, Table, inner_of, spans_in, nine_levels, Climb, Top, numbers_in_all, HasClimbed, EndsAbove, Stand, was_seen, AreAllHeld, IsPlanned, begin_at, depth_at, gone_by, heads_at, level_of, new_at, taken_by, Before, IsReplaced, with_root, Seen, passing, AreAllFromBelow, GapsBeside, TellGaps, high_of, low_of, Start, tree_with, IsNewRow, []}
+use Rattle.mt_splice.proofs.Prelude.{◌≡◌, ℕ, suc, ◌+◌, ◌<◌, ◌≤◌, List, ◌∷◌, ◌++◌, true, Some, length, refl, sym, ap, ◌∙◌, subst, arith, append-nil, deepest, most_rows, Book, Item, RowKind, Span, end_of, name_at, slots_of, spans_from, row_in-name_at, sizes, fills_end, Tree, IsRow, GapLaw, kind_on, top_of, expand, Levels, Sheet, Table, inner_of, spans_in, nine_levels, Climb, Top, numbers_in_all, HasClimbed, EndsAbove, Stand, was_seen, AreAllHeld, IsPlanned, begin_at, depth_at, gone_by, heads_at, level_of, new_at, taken_by, Before, with_root, Seen, passing, AreAllFromBelow, TellGaps, high_of, low_of, Start, tree_with, IsNewRow, []}
 use Rattle.mt_splice.proofs.Burials.{AreBuried}
 use Rattle.mt_splice.proofs.DraftedLedger.{new_row_stays}
-use Rattle.mt_splice.proofs.EndForms as forms
+use Rattle.mt_splice.proofs.EndForms.{IsEnding}
 use Rattle.mt_splice.proofs.EndGaps.{root_laws}
 use Rattle.mt_splice.proofs.Ended.{taken, gone, now, ledger_then, held_then, old_beside, keeps_then, wide_then, gone_above}
 use Rattle.mt_splice.proofs.Endings.{alone, replaced_above}
@@ -110,16 +110,14 @@ module _ {b : Before} {start : Start} {s s' : Sheet} {book book' : Book} {c : Cl
   few : length items ≤ slots_of t.table.width (kind_on t.gapped H)
   few = let few = planned.0.few in let same = many in let size = sizes t.table.width (kind_on t.gapped H) in omega (arith, size.least, size.some)
 
-  pub above_replaces : IsReplaced t (tree_as b.kind (with_published s'.tree Root x.word)) start.map (taken hc) (gone hc) (Some start.height) (Some H)
-  above_replaces = forms.ends_at_root hc.case.was (ledger_then hc done) (Some start.height) (Some H) x.word
-      (replaced_above x items refl refl low stand lawful hold refl few (ap (was_seen (taken hc)) (row_in-name_at e.row I) ∙ is_new) (λ p. ap (passing p) taken_is))
-
   -- it keeps the law of gaps, and so do all rows below it
-  pub above_gaps : GapsBeside start (was_seen (taken hc)) (tree_as b.kind (with_published s'.tree Root x.word)) (Some H)
-  above_gaps =
+  pub above_ends : IsEnding start (taken hc) (gone hc) (Some start.height) (Some H) (with_root T x.word)
+  above_ends =
       let both = planned_tell (old_beside hc done) (gaps_were hc.case.was hc.stands) e.l e.lower planned told held (omega arith) in
       let tells = subst (λ (q : ℕ × ℕ). TellGaps I T.table q.0 q.1 items) (λ i. (e.height i, begin i)) both.heads in
       let below = subst (λ (q : ℕ × List Span). Levels (GapLaw T) T.table q.0 q.1) (λ i. (e.height i, level_is i)) both.laws in
       let law = subst (GapLaw T H) x_is (head_tells T 0 e.row items H root_holds tells).1 in
-      forms.gaps_at_root hc.case.was (ledger_then hc done) (was_seen (taken hc)) (Some H) x.word
-      (λ index _ _. root_laws (was_seen (taken hc)) index T H x refl refl ((law, tt), subst (Levels (GapLaw T) T.table start.height) (sym hold) below))
+      record {
+        replaced = replaced_above x items refl refl low stand lawful hold refl few (ap (was_seen (taken hc)) (row_in-name_at e.row I) ∙ is_new) (λ p. ap (passing p) taken_is);
+        gaps = λ index _ _. root_laws (was_seen (taken hc)) index T H x refl refl ((law, tt), subst (Levels (GapLaw T) T.table start.height) (sym hold) below);
+      }

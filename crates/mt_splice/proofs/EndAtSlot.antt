@@ -1,7 +1,7 @@
 -- Where one row takes the place of one, in a slot of the row above: the slot, the law of gaps, and what the row there tells.
-use Rattle.mt_splice.proofs.Prelude.{◌≡◌, ℕ, suc, List, ◌∷◌, ◌++◌, false, true, Some, length, refl, sym, ap, ◌∙◌, subst, arith, append-nil, finds_room, Book, Item, RowKind, Gapped, Span, row_in, spans_from, PathStep, step_in, place, Place, Slot, Tree, GapLaw, kind_on, longest_below, Levels, is_row_of, tally, times, StandsAt, tree_as, with_published, IsSlotAt, root_of, with_child, Sheet, inner_of, level_next, times_split, levels_shared, tally-append, one_of_parts, stands_at, times_in_once, Climb, Top, TellsBelow, numbers_in_all, HasClimbed, EndsInSlot, IsEndPlace, was_seen, AreAllHeld, begin_at, gone_by, heads_at, Before, IsReplaced, passing, AreAllFromBelow, GapsBeside, TellGaps, before, behind, high_of, in_place, low_of, row_at, Start, rows_at, tree_with, [], now}
+use Rattle.mt_splice.proofs.Prelude.{◌≡◌, ℕ, suc, List, ◌∷◌, ◌++◌, false, true, Some, length, refl, sym, ap, ◌∙◌, subst, arith, append-nil, finds_room, Book, Item, RowKind, Gapped, Span, row_in, spans_from, PathStep, step_in, place, Tree, GapLaw, kind_on, longest_below, Levels, is_row_of, tally, times, StandsAt, tree_as, with_published, IsSlotAt, root_of, with_child, Sheet, inner_of, level_next, times_split, levels_shared, tally-append, one_of_parts, stands_at, times_in_once, Climb, Top, TellsBelow, numbers_in_all, HasClimbed, EndsInSlot, IsEndPlace, was_seen, AreAllHeld, begin_at, gone_by, heads_at, Before, passing, AreAllFromBelow, GapsBeside, TellGaps, before, behind, high_of, in_place, low_of, row_at, Start, rows_at, tree_with, [], now}
 use Rattle.mt_splice.proofs.Burials.{AreBuried}
-use Rattle.mt_splice.proofs.EndForms as forms
+use Rattle.mt_splice.proofs.EndForms.{IsEnding, slot_stored}
 use Rattle.mt_splice.proofs.Ended.{taken, gone, ledger_then, planned, high, within, old_beside, tree_stands, has, same_levels, words, held_stored, stand_below, x_is, level_is, slot_replaces, gone_above}
 use Rattle.mt_splice.proofs.LayerGaps.{KeepGaps, each_old, old_laws, planned_tell}
 use Rattle.mt_splice.proofs.KeptTrees.{kept_shared}
@@ -10,7 +10,7 @@ use Rattle.mt_splice.proofs.SlotStores.{beside_then, is_slot, level_new}
 use Rattle.mt_splice.proofs.ToldRows.{gaps_were}
 use Rattle.mt_splice.proofs.Written.{counts_itself}
 use Rattle.mt_splice.proofs.LedgerNow.{keeps_by}
-use Rattle.mt_splice.proofs.StoredWords.{column_of, words_of}
+use Rattle.mt_splice.proofs.StoredWords.{words_of}
 
 one_begins : (x : Span) (gap lo : ℕ) (items : List Item) → items ≡ record { last = x.last; word = x.word; gap = gap } ∷ [] → spans_from lo items ≡ x ∷ [] → lo ≡ x.first
 one_begins x gap lo items are spans =
@@ -71,17 +71,13 @@ module _ {b : Before} {start : Start} {s s' : Sheet} {book book' : Book} {c : Cl
       let all = ap (passing p) gone_is in
       omega arith
 
-  -- ---- the tree
-
-  both : IsReplaced t (tree_as b.kind (with_published s'.tree (Slot step.row (column_of T (kind_on t.gapped (suc h)) step)) e.x.word)) start.map (taken hc) (gone hc) (Some start.height) (Some start.height)
-      × IsEndPlace (now start s') (gone hc) (Some start.height) (Slot step.row (column_of T (kind_on t.gapped (suc h)) step))
-  both = forms.ends_in_slot hc.case.was (ledger_then hc done) e.depth h e.x.word step (high hc done e) (record { row = parent; child = replaced; at = its_slot; number = refl }) row_stays (slot_replaces hc done e)
-
-  pub in_slot_replaces : IsReplaced t (tree_as b.kind (with_published s'.tree top.place top.word)) start.map (taken hc) (gone hc) (Some start.height) (Some start.height)
-  in_slot_replaces = subst (λ (q : Place × ℕ). IsReplaced t (tree_as b.kind (with_published s'.tree q.0 q.1)) start.map (taken hc) (gone hc) (Some start.height) (Some start.height)) (λ m. (sym e.place m, sym e.word m)) both.0
-
   pub slot_is_place : IsEndPlace (now start s') (gone hc) (Some start.height) top.place
-  slot_is_place = subst (IsEndPlace (now start s') (gone hc) (Some start.height)) (sym e.place) both.1
+  slot_is_place = subst (IsEndPlace (now start s') (gone hc) (Some start.height)) (sym e.place)
+      (record { depth = e.depth; low = h; slot = step.slot; at = parent; child = replaced; levels = high hc done e; here = its_slot; number = refl; column = refl }, row_stays)
+
+  -- the word is stored there
+  stored : T' ≡ tree_as b.kind (with_published s'.tree top.place top.word)
+  stored = slot_stored hc.case.was (ledger_then hc done) (kind_on t.gapped (suc h)) step e.x.word ∙ (λ m. tree_as b.kind (with_published s'.tree (sym e.place m) (sym e.word m)))
 
   -- ---- the law of gaps
 
@@ -106,10 +102,8 @@ module _ {b : Before} {start : Start} {s s' : Sheet} {book book' : Book} {c : Cl
       let begins = g.first in let ends = g.last in let first = ap (λ (d : ℕ). low_of t d i) e.above in let last = ap (λ (d : ℕ). high_of t d e.l.to) e.above in let same = ap (λ (z : Span). z.last) e.same in
       gaps_after T start.height h e.depth step.slot e.x.word index parent replaced (has hc done e) (tree_stands hc done e) (high hc done e) its_slot (omega arith) (omega arith) (was_seen (taken hc)) laws_before none_new laws_then
 
-  pub in_slot_gaps : GapsBeside start (was_seen (taken hc)) (tree_as b.kind (with_published s'.tree top.place top.word)) (Some start.height)
-  in_slot_gaps =
-      subst (λ (q : Place × ℕ). GapsBeside start (was_seen (taken hc)) (tree_as b.kind (with_published s'.tree q.0 q.1)) (Some start.height)) (λ m. (sym e.place m, sym e.word m))
-      (forms.gaps_in_slot hc.case.was (ledger_then hc done) (was_seen (taken hc)) h e.x.word step (Some start.height) gaps_at)
+  pub slot_ends : IsEnding start (taken hc) (gone hc) (Some start.height) (Some start.height) (tree_as b.kind (with_published s'.tree top.place top.word))
+  slot_ends = subst (IsEnding start (taken hc) (gone hc) (Some start.height) (Some start.height)) stored (record { replaced = slot_replaces hc done e; gaps = gaps_at })
 
   -- ---- what the row there tells
 
@@ -131,5 +125,4 @@ module _ {b : Before} {start : Start} {s s' : Sheet} {book book' : Book} {c : Cl
       level_then ∙ (λ m. before i (rows_at t (suc e.depth)) ++ (sym (x_is hc done e) m ∷ behind i (rows_at t (suc e.depth)))) in
       let stands : StandsAt (words_of T') h e.x =
       stands_at T' start.height (slot_replaces hc done e).stands (suc e.depth) h e.x (omega arith) (one_of_parts (rows_at T' (suc e.depth)) (before i (rows_at t (suc e.depth))) (behind i (rows_at t (suc e.depth))) e.x level_holds) in
-      subst (λ (q : Place × ℕ). TellsBelow b.kind (with_published s'.tree q.0 q.1) q.1 top.gap) (λ m. (sym e.place m, sym e.word m))
-      (forms.tells_in_slot hc.case.was (ledger_then hc done) h e.x.word top.gap step (record { height = h; row = e.x; stands = stands; named = refl; longest = gap_is }))
+      subst (λ (q : Tree × ℕ). TellsBelow b.kind (words_of q.0) q.1 top.gap) (λ m. (stored m, sym e.word m)) (record { height = h; row = e.x; stands = stands; named = refl; longest = gap_is })

@@ -415,15 +415,15 @@ module _ (f : ends.Finish) where
 
       pub may_tend_some : AreTendedTo s₁ s₁ (inner_kind b.kind) f.inner 0
       may_tend_some = none_tended_yet (λ i n at. are_children n (reached.one_of_get f.inner i n at)) (λ i j n m slot slot' lt at_n at_m low low' same.
-            (let one_n = reached.one_of_get f.inner i n at_n in
-            let one_m = reached.one_of_get f.inner j m at_m in
-            let rows = (same_parent n m slot slot' one_n one_m low low' same).0 in
-            let taken = ends.taken_some f m.row (made_row m one_m).taken in
-            let c = ends.counts f m.row in let sum = c.sum in let were = c.were in let never = c.fresh taken in
-            let once = count_once later f.may.new m.row (ends.stands_later f) in
-            let same_index = made_once s.tree.table f.may.taken i j n m (omega arith)
-            (subst (λ (l : List NewRow). slice_get l i ≡ Some n) f.may.inner_rows at_n) (subst (λ (l : List NewRow). slice_get l j ≡ Some m) f.may.inner_rows at_m) rows in
-            omega arith))
+          (let one_n = reached.one_of_get f.inner i n at_n in
+          let one_m = reached.one_of_get f.inner j m at_m in
+          let rows = (same_parent n m slot slot' one_n one_m low low' same).0 in
+          let taken = ends.taken_some f m.row (made_row m one_m).taken in
+          let c = ends.counts f m.row in let sum = c.sum in let were = c.were in let never = c.fresh taken in
+          let once = count_once later f.may.new m.row (ends.stands_later f) in
+          let same_index = made_once s.tree.table f.may.taken i j n m (omega arith)
+          (subst (λ (l : List NewRow). slice_get l i ≡ Some n) f.may.inner_rows at_n) (subst (λ (l : List NewRow). slice_get l j ≡ Some m) f.may.inner_rows at_m) rows in
+          omega arith))
 
       may_tend_slot : (row col : ℕ) → f.top.place ≡ Slot row col → MayTendTop s₁ (inner_kind b.kind) (Slot row col) (row_in f.top.word)
       may_tend_slot row col is =

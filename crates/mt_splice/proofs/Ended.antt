@@ -1,5 +1,5 @@
 -- The end of a climb: what is to be buried, and what stands when it is and the word is published.
-use Rattle.mt_splice.proofs.Prelude.{◌≡◌, ℕ, zero, suc, ◌+◌, ◌-◌, ◌<◌, ◌≤◌, List, ◌∷◌, ◌++◌, Bool, true, Some, length, map, refl, sym, ap, ◌∙◌, subst, ⊎_elim, arith, append-nil, append_assoc, length-append, AllByRecursion, cases_lt, map-append, columns, Book, Span, slot_column, row_in, slots_of, slot_within, Fills, slot_for, place, child, lawful, Root, HasWords, Tree, Stands, kind_on, top_of, is_row_of, level, tally, times, IsTreeOf, is_reached, tree_as, with_published, root_of, with_child, Rooted, Sheet, column, inner_of, root_span, spans_in, all_back, row_most, level_next, tally-append, times_in_once, Climb, Top, Window, MayBeBuriedInTurn, EachInTurn, rows_on, numbers_in, numbers_in_all, IsWindowOn, AreWindowsOn, HasClimbed, EndsAtRoot, EndsInSlot, was_seen, IsLedger, Beside, Stand, IsNowOf, Layer, depth_at, level_of, IsPlanned, AreAllHeld, seen_at, taken_by, gone_by, window_at, windows_by, windows_above, Before, row_seen, new_rows_of, IsReplaced, Seen, passing, before, behind, between, row_at, low_of, high_of, in_place, Start, rows_at, times_in, tree_with, [], after_burials, after_retirals}
+use Rattle.mt_splice.proofs.Prelude.{◌≡◌, ℕ, zero, suc, ◌+◌, ◌-◌, ◌<◌, ◌≤◌, List, ◌∷◌, ◌++◌, Bool, true, Some, length, map, refl, sym, ap, ◌∙◌, subst, ⊎_elim, arith, append-nil, append_assoc, length-append, AllByRecursion, cases_lt, map-append, columns, Book, Span, slot_column, row_in, slots_of, slot_within, Fills, slot_for, place, child, lawful, HasWords, Tree, Stands, kind_on, top_of, is_row_of, level, tally, times, IsTreeOf, is_reached, root_of, with_child, Rooted, Sheet, column, inner_of, root_span, spans_in, all_back, row_most, level_next, tally-append, times_in_once, Climb, Top, Window, MayBeBuriedInTurn, EachInTurn, rows_on, numbers_in, numbers_in_all, IsWindowOn, AreWindowsOn, HasClimbed, EndsAtRoot, EndsInSlot, was_seen, IsLedger, Beside, Stand, IsNowOf, Layer, depth_at, level_of, IsPlanned, AreAllHeld, seen_at, taken_by, gone_by, window_at, windows_by, windows_above, Before, row_seen, new_rows_of, IsReplaced, Seen, passing, before, behind, between, row_at, low_of, high_of, in_place, Start, rows_at, times_in, tree_with, [], after_burials, after_retirals, with_root}
 use Rattle.mt_splice.proofs.Burials.{AreBuried}
 use Rattle.mt_splice.proofs.EndForms as forms
 use Rattle.mt_splice.proofs.DraftedLedger.{all_held_stay}
@@ -251,20 +251,19 @@ module _ {b : Before} {start : Start} {s : Sheet} {book : Book} {c : Climb} {top
           ap (in_place start.tree d e.l.from e.l.to) e.one
           ∙ alone start d e.l.from e.l.to (e.x ∷ []) begin end (before_fills start.tree start.height hc.stands e.l.from e.l.to d g.order g.within (omega arith)) (behind_fills start.tree start.height hc.stands e.l.from e.l.to d g.order g.within (omega arith))
 
-      pub root_replaces : IsReplaced start.tree (tree_as b.kind (with_published s'.tree Root e.x.word)) start.map taken gone (Some start.height) (Some k)
+      pub root_replaces : IsReplaced start.tree (with_root (tree_with start.tree s'.tree.table.words) e.x.word) start.map taken gone (Some start.height) (Some k)
       root_replaces =
           let planned = root_planned in
           let low = planned.0.low in
           let taken_is : taken ≡ taken_by start (e.l ∷ e.lower) = λ i. e.no_root i ++ taken_by start (e.are i) in
           let gone_is : gone ≡ gone_by start (e.l ∷ e.lower) ++ gone_above start d = λ i. gone_by start (e.are i) ++ gone_above start (e.above i) in
           let stand = planned_stands old_beside e.l e.lower planned (subst (AreAllHeld start s'.tree.table.words (was_seen taken)) e.are held_then) (omega arith) in
-          forms.ends_at_root hc.case.was ledger_then (Some start.height) (Some k) e.x.word
-          (replaced_at_root e.x hc.stands (omega arith) e.first e.last
+          replaced_at_root e.x hc.stands (omega arith) e.first e.last
           (subst (λ (p : List Seen × List Span). Stand start s'.tree.table.words (was_seen taken) (λ q. passing q p.0) (λ q. passing q (gone_by start (e.l ∷ e.lower))) d k p.1) (λ i. (sym taken_is i, root_level i)) stand)
           (λ p.
           let all = ap (passing p) gone_is in let both = tally-append (λ (s : Seen). p s.height s.at) (gone_by start (e.l ∷ e.lower)) (gone_above start d) in
           let above = passing_above start p d (omega arith) in
-          let back : start.height - d ≡ k = omega arith in let same = ap (λ (n : ℕ). times p start.tree.table n (rows_at start.tree d)) back in omega arith))
+          let back : start.height - d ≡ k = omega arith in let same = ap (λ (n : ℕ). times p start.tree.table n (rows_at start.tree d)) back in omega arith)
 
     -- one row takes the place of one
     module _ (e : EndsInSlot start hc.layers hc.root hc.over top) where

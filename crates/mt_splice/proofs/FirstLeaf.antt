@@ -1,7 +1,7 @@
 -- The first leaf of an empty tree, drafted, may be published as its root.
-use Rattle.mt_splice.proofs.Prelude.{◌≡◌, ℕ, ◌+◌, ◌-◌, ◌<◌, ◌≤◌, List, ◌∷◌, Some, None, true, length, take, refl, sym, ap, ◌∙◌, subst, arith, flat_map, ◌≢◌, All, Any, take-length, Call, Kind, Reply, Book, Item, RowKind, Leaf, Span, RiseFrom, end_of, name_at, row_in, slots_of, leaf_range, spans_from, row_in-name_at, sizes, after, fills_after, fills_end, fills_rise, length-spans_from, PathStep, Root, Tree, IsRow, top_of, expand, map_of, tally, IsFree, IsWhole, Sheet, life_of, NewRow, FewestBelow, MaySplice, AreRowsTaken, IsPieceDrafted, IsRowTaken, IsReadyToPublish, IsFirstStore, AreHeld, part_of, IsLedger, was_seen, Before, IsReplaced, with_root, MayBeCut, Seen, Start, tree_with, [], Head}
+use Rattle.mt_splice.proofs.Prelude.{◌≡◌, ℕ, ◌+◌, ◌-◌, ◌<◌, ◌≤◌, List, ◌∷◌, Some, None, true, length, take, refl, sym, ap, ◌∙◌, subst, arith, flat_map, ◌≢◌, All, Any, take-length, Call, Kind, Reply, Book, Item, RowKind, Leaf, Span, RiseFrom, end_of, name_at, row_in, slots_of, leaf_range, spans_from, row_in-name_at, sizes, after, fills_after, fills_end, fills_rise, length-spans_from, PathStep, Root, Tree, IsRow, top_of, expand, map_of, tally, IsFree, IsWhole, Sheet, life_of, NewRow, FewestBelow, MaySplice, AreRowsTaken, IsPieceDrafted, IsRowTaken, IsReadyToPublish, IsFirstStore, AreHeld, part_of, IsLedger, was_seen, Before, IsReplaced, with_root, MayBeCut, Seen, Start, tree_with, [], Head, tree_as, with_published}
 use Rattle.mt_splice.proofs.DraftedLedger.{held_then, ledger_then, width_then}
-use Rattle.mt_splice.proofs.EndForms.{ends_at_root, gaps_at_root}
+use Rattle.mt_splice.proofs.EndForms.{IsEnding, root_stored}
 use Rattle.mt_splice.proofs.EndGaps.{root_laws}
 use Rattle.mt_splice.proofs.FewestRows.{one_new}
 use Rattle.mt_splice.proofs.LevelRows.{some_entry}
@@ -93,6 +93,10 @@ module _ {kind : Kind} {s : Sheet} {book : Book} {right : List PathStep} {items 
       fewest = subst (FewestBelow (was_seen (seen ∷ [])) start.tree.gapped T.table 0) (at_root T x refl last) (one_new (was_seen (seen ∷ [])) T.table Leaf x 0 items names holds.0 few.1);
     }
 
+    ending : IsEnding start (seen ∷ []) [] None (Some 0) (tree_as (b₀ may whole).kind (with_published s'.tree Root x.word))
+    ending = subst (IsEnding start (seen ∷ []) [] None (Some 0)) (root_stored (case₀ may whole from to).was ledger x.word)
+        (record { replaced = leaf_replaces; gaps = λ index _ _. root_laws (was_seen (seen ∷ [])) index T 0 x refl last (tt, tt) })
+
     first_ends : {inner : List NewRow} (gap : ℕ) → inner ≡ made' → IsReadyToPublish (b₀ may whole) start s' book' inner (record { place = Root; word = new.item.word; gap = gap; row = new.row }) call reply
     first_ends {inner} gap same = subst (λ (n : ℕ). IsReadyToPublish (b₀ may whole) start s' book' inner (record { place = Root; word = n; gap = gap; row = new.row }) call reply) (sym (ap (λ (y : Item). y.word) piece.up)) (record {
       taken = seen ∷ [];
@@ -104,8 +108,8 @@ module _ {kind : Kind} {s : Sheet} {book : Book} {right : List PathStep} {items 
       few = omega arith;
       answer = the_answer may whole;
       stood = no_tree may whole;
-      replaced = ends_at_root (case₀ may whole from to).was ledger None (Some 0) x.word leaf_replaces;
-      gaps = gaps_at_root (case₀ may whole from to).was ledger (was_seen (seen ∷ [])) (Some 0) x.word (λ index _ _. root_laws (was_seen (seen ∷ [])) index T 0 x refl last (tt, tt));
+      replaced = ending.replaced;
+      gaps = ending.gaps;
       at = tt;
       names = names;
       row = sym (row_in-name_at new.row Leaf);

@@ -1,10 +1,11 @@
 -- When the rows of a climb are drafted and those of its windows buried, one word may be published.
-use Rattle.mt_splice.proofs.Prelude.{◌≡◌, ℕ, suc, ◌+◌, List, ◌∷◌, true, Option, Some, None, length, refl, sym, ap, ◌∙◌, subst, ⊎_elim, arith, AllByRecursion, Call, Reply, Book, Span, name_at, row_in, row_in-name_at, Place, Root, Slot, Tree, tree_as, with_published, Rooted, Sheet, inner_of, height_in, height_is, Climb, Top, TellsGapAt, TellsBelow, numbers_in_all, HasClimbed, EndsEmpty, EndsAtRoot, EndsAbove, EndsInSlot, IsEndPlace, IsTop, IsReadyToPublish, was_seen, Layer, AreAllHeld, IsPlanned, level_of, new_at, Before, IsReplaced, IsAnswer, GapsBeside, Start, [], now}
+use Rattle.mt_splice.proofs.Prelude.{◌≡◌, ℕ, suc, ◌+◌, List, ◌∷◌, true, Option, Some, None, length, refl, sym, ap, ◌∙◌, subst, ⊎_elim, arith, AllByRecursion, Call, Reply, Book, Span, name_at, row_in, row_in-name_at, Place, Root, Slot, Tree, tree_as, with_published, Rooted, Sheet, inner_of, height_in, height_is, Climb, Top, TellsGapAt, TellsBelow, numbers_in_all, HasClimbed, EndsEmpty, EndsAtRoot, EndsAbove, EndsInSlot, IsEndPlace, IsTop, IsReadyToPublish, was_seen, Layer, AreAllHeld, IsPlanned, level_of, new_at, Before, IsAnswer, Start, [], now, with_root}
 use Rattle.mt_splice.proofs.Burials.{AreBuried}
-use Rattle.mt_splice.proofs.EndAbove.{above_gaps, above_replaces, is_new}
-use Rattle.mt_splice.proofs.EndAtRoot.{nothing_replaces, root_keeps_gaps}
-use Rattle.mt_splice.proofs.EndAtSlot.{in_slot_gaps, in_slot_replaces, in_slot_tells, slot_is_place}
-use Rattle.mt_splice.proofs.Ended.{taken, gone, held_then, old_beside, ledger_then, made_then, root_replaces}
+use Rattle.mt_splice.proofs.EndAbove.{above_ends, is_new}
+use Rattle.mt_splice.proofs.EndAtRoot.{nothing_ends, root_ends}
+use Rattle.mt_splice.proofs.EndAtSlot.{in_slot_tells, slot_ends, slot_is_place}
+use Rattle.mt_splice.proofs.EndForms.{IsEnding, root_stored}
+use Rattle.mt_splice.proofs.Ended.{taken, gone, held_then, old_beside, ledger_then, made_then}
 use Rattle.mt_splice.proofs.Planned.{layer_new}
 
 module _ {b : Before} {start : Start} {s s' : Sheet} {book book' : Book} {c : Climb} {top : Top} (hc : HasClimbed b start s book c top) (done : AreBuried s s' book book' (numbers_in_all s.tree start.height c.windows.items) b.number) where
@@ -19,9 +20,8 @@ module _ {b : Before} {start : Start} {s s' : Sheet} {book book' : Book} {c : Cl
       (subst (AllByRecursion (λ (y : Span). was_seen (taken hc) (row_in y.word) ≡ true)) one (layer_new (old_beside hc done) (level_of start lower) (length lower) l planned.0 held.0).new_rows).0
 
   module _ {call : Call} {reply : Reply} (answer : IsAnswer b start call reply) where
-    publish : (new : Option ℕ) → IsReplaced start.tree (tree_as b.kind (with_published s'.tree top.place top.word)) start.map (taken hc) (gone hc) (Some start.height) new
-        → GapsBeside start (was_seen (taken hc)) (tree_as b.kind (with_published s'.tree top.place top.word)) new → IsEndPlace (now start s') (gone hc) (Some start.height) top.place → IsTop (taken hc) (Some start.height) new top.word → IsReadyToPublish b start s' book' c.made.items top call reply
-    publish new replaced gaps at names = record {
+    publish : (new : Option ℕ) → IsEnding start (taken hc) (gone hc) (Some start.height) new (tree_as b.kind (with_published s'.tree top.place top.word)) → IsEndPlace (now start s') (gone hc) (Some start.height) top.place → IsTop (taken hc) (Some start.height) new top.word → IsReadyToPublish b start s' book' c.made.items top call reply
+    publish new ending at names = record {
       taken = taken hc;
       gone = gone hc;
       old = Some start.height;
@@ -31,29 +31,28 @@ module _ {b : Before} {start : Start} {s s' : Sheet} {book book' : Book} {c : Cl
       few = let high = tall in let few = hc.few in omega arith;
       answer = answer;
       stood = hc.stands;
-      replaced = replaced;
-      gaps = gaps;
+      replaced = ending.replaced;
+      gaps = ending.gaps;
       at = at;
       names = names;
       row = hc.names;
       inner_rows = made_then hc done;
     }
 
-    at_root : (new : Option ℕ) (word : ℕ) → top.place ≡ Root → top.word ≡ word → IsReplaced start.tree (tree_as b.kind (with_published s'.tree Root word)) start.map (taken hc) (gone hc) (Some start.height) new
-        → GapsBeside start (was_seen (taken hc)) (tree_as b.kind (with_published s'.tree Root word)) new → IsTop (taken hc) (Some start.height) new word → IsReadyToPublish b start s' book' c.made.items top call reply
-    at_root new word place_is word_is replaced gaps names = publish new
-        (subst (λ (q : Place × ℕ). IsReplaced start.tree (tree_as b.kind (with_published s'.tree q.0 q.1)) start.map (taken hc) (gone hc) (Some start.height) new) (λ m. (sym place_is m, sym word_is m)) replaced)
-        (subst (λ (q : Place × ℕ). GapsBeside start (was_seen (taken hc)) (tree_as b.kind (with_published s'.tree q.0 q.1)) new) (λ m. (sym place_is m, sym word_is m)) gaps)
+    at_root : (new : Option ℕ) (word : ℕ) → top.place ≡ Root → top.word ≡ word → IsEnding start (taken hc) (gone hc) (Some start.height) new (with_root (now start s') word) → IsTop (taken hc) (Some start.height) new word
+        → IsReadyToPublish b start s' book' c.made.items top call reply
+    at_root new word place_is word_is ending names = publish new
+        (subst (IsEnding start (taken hc) (gone hc) (Some start.height) new) (root_stored hc.case.was (ledger_then hc done) word ∙ (λ m. tree_as b.kind (with_published s'.tree (sym place_is m) (sym word_is m)))) ending)
         (subst (IsEndPlace (now start s') (gone hc) (Some start.height)) (sym place_is) tt) (subst (IsTop (taken hc) (Some start.height) new) (sym word_is) names)
 
     pub may_publish_end : IsReadyToPublish b start s' book' c.made.items top call reply
     may_publish_end =
-        ⊎_elim (λ (e : EndsEmpty start hc.layers hc.root hc.over top). at_root None 0 e.place e.word (nothing_replaces hc done e) (λ index _ _. tt) refl)
-        (⊎_elim (λ (e : EndsAtRoot start hc.layers hc.root hc.over top). at_root (Some (length e.lower)) e.x.word e.place e.word (root_replaces hc done e) (root_keeps_gaps hc done e) (one_taken e.l e.lower e.x e.are e.one))
+        ⊎_elim (λ (e : EndsEmpty start hc.layers hc.root hc.over top). at_root None 0 e.place e.word (nothing_ends hc done e) refl)
+        (⊎_elim (λ (e : EndsAtRoot start hc.layers hc.root hc.over top). at_root (Some (length e.lower)) e.x.word e.place e.word (root_ends hc done e) (one_taken e.l e.lower e.x e.are e.one))
         (⊎_elim
         (λ (e : EndsAbove start s hc.layers hc.root hc.over top).
-        at_root (Some (suc start.height)) (name_at e.row (inner_of start.tree.gapped)) e.place e.word (above_replaces hc done e) (above_gaps hc done e) (ap (was_seen (taken hc)) (row_in-name_at e.row (inner_of start.tree.gapped)) ∙ is_new hc done e))
-        (λ (e : EndsInSlot start hc.layers hc.root hc.over top). publish (Some start.height) (in_slot_replaces hc done e) (in_slot_gaps hc done e) (slot_is_place hc done e) (subst (λ (n : ℕ). was_seen (taken hc) (row_in n) ≡ true) (sym e.word) (one_taken e.l e.lower e.x e.are e.one))))) hc.ends
+        at_root (Some (suc start.height)) (name_at e.row (inner_of start.tree.gapped)) e.place e.word (above_ends hc done e) (ap (was_seen (taken hc)) (row_in-name_at e.row (inner_of start.tree.gapped)) ∙ is_new hc done e))
+        (λ (e : EndsInSlot start hc.layers hc.root hc.over top). publish (Some start.height) (slot_ends hc done e) (slot_is_place hc done e) (subst (λ (n : ℕ). was_seen (taken hc) (row_in n) ≡ true) (sym e.word) (one_taken e.l e.lower e.x e.are e.one))))) hc.ends
 
   -- what is told of the row there
   pub top_told : (t : Rooted) → ((row col gap : ℕ) → top.place ≡ Slot row col → TellsBelow b.kind (with_published s'.tree top.place top.word) top.word gap → TellsGapAt b.kind t top.place gap) → TellsGapAt b.kind t top.place top.gap
