@@ -1,5 +1,5 @@
 -- One step of a replacement: a row is written, or is buried and retired, or words are loaded.
-use Rattle.mt_splice.proofs.Prelude.{◌≡◌, ◌≢◌, ℕ, ◌+◌, ◌<◌, ◌≤◌, List, ◌∷◌, ◌++◌, Bool, true, false, Option, length, map, refl, sym, ap, ◌∙◌, subst, ⊎_elim, arith, get_or, get_or-set_same, get_or-set_other, set, length-set, append_assoc, length-append, ◌||◌, Contains, All, slice_index_or, if◌then◌else◌, cases_Bool, cases_eq, map_push, map-append, get_or_append_left, get_or-append-add, get_or_default, All-contains, All-append, All-map, Contains-append_left, Contains-append_right, Contains-append_cases, Width, columns, first_row, Item, RowKind, row_in, dead_mark, name_at, row_in-name_at, some_columns, Book, Held, IsRowOf, IsOut, held_rows, after_retire, AreApart, Life, New, Draft, Live, Dead, column, base_of, Rooted, Sheet, IsFree, MayBury, OnlyReads, life_of, is_buried, after_bury, is_reached, Tree, Seen, Start, table_with, with_words, no_parent, IsRowDrafted, IsUnheld, IsUnpublished, Before, IsStartOf, row_seen, stamped, IsLedger, [], was_seen}
+use Rattle.mt_splice.proofs.Prelude.{◌≡◌, ◌≢◌, ℕ, ◌+◌, ◌<◌, ◌≤◌, List, ◌∷◌, ◌++◌, Bool, true, false, Option, length, map, refl, sym, ap, ◌∙◌, subst, ⊎_elim, arith, get_or, get_or-set_same, get_or-set_other, set, length-set, append_assoc, length-append, Contains, All, slice_index_or, if◌then◌else◌, cases_Bool, cases_eq, map_push, map-append, get_or_append_left, get_or-append-add, get_or_default, All-contains, All-append, All-map, Contains-append_left, Contains-append_right, Contains-append_cases, Width, columns, first_row, Item, RowKind, row_in, dead_mark, name_at, row_in-name_at, some_columns, Book, Held, IsRowOf, IsOut, held_rows, after_retire, AreApart, Life, New, Draft, Live, Dead, column, base_of, Rooted, Sheet, IsFree, MayBury, OnlyReads, life_of, is_buried, after_bury, is_reached, Tree, Seen, Start, table_with, with_words, no_parent, IsRowDrafted, IsUnheld, IsUnpublished, Before, IsStartOf, row_seen, stamped, IsLedger, [], was_seen}
 use Rattle.mt_splice.proofs.Drafts.{other_row, other_column, same_column, is_draft, other_life, whole_then}
 use Rattle.mt_splice.proofs.StepSeen.{not_both, seen_here, seen_other, seen_before, seen_not_here, seen_last, seen_not_last, seen_front, seen_front_not_last, listed_seen, not_listed}
 
@@ -16,9 +16,6 @@ pub record IsRowWritten (s s' : Sheet) (book book' : Book) (kind : RowKind) (ite
 apart_sides : (xs ys : List ℕ) (x : ℕ) → AreApart (xs ++ ys) → Contains xs x → Contains ys x → ⊥
 apart_sides xs ys x apart (k, k_within, k_is) (j, j_within, j_is) =
     apart k (length xs + j) x (omega arith) (let all = length-append xs ys in omega arith) (get_or_append_left xs ys x k k_within ∙ (k_is ∙ sym (get_or-append-add xs ys j x ∙ j_is)))
-
-or_none : (a c : Bool) → a ≡ false → c ≡ false → (a || c) ≡ false
-or_none a c none none' = λ i. none i || none' i
 
 spare_is_free : (cleared : ℕ) (life : Life) → IsUnheld cleared life → IsFree cleared life
 spare_is_free cleared New spare = tt

@@ -1,5 +1,5 @@
 -- A tree by its rows, words and root word, and the word in the slot of a path's row.
-use Rattle.mt_splice.proofs.Prelude.{◌≡◌, ℕ, ◌+◌, slice_set, row_in, Span, Tree, IsSlotAt, PathStep, slot_column, RowKind, slots_of, base_of, tree_with, Rooted}
+use Rattle.mt_splice.proofs.Prelude.{ℕ, ◌+◌, slice_set, Tree, PathStep, slot_column, RowKind, slots_of, base_of, tree_with, Rooted}
 
 -- the rows, the words and the root word of a tree
 abbrev pub words_of : Tree → Rooted
@@ -11,10 +11,3 @@ with_step t kind step word = tree_with t (slice_set t.table.words (base_of t.tab
 
 abbrev pub column_of : Tree → RowKind → PathStep → ℕ
 column_of t kind step = slot_column (slots_of t.table.width kind) step.slot
-
--- a path's row stands at this depth, with a child in its slot
-pub record IsStepIn (t : Tree) (depth : ℕ) (step : PathStep) : Type 0 where
-  pub row : Span
-  pub child : Span
-  pub at : IsSlotAt t depth row step.slot child
-  pub number : row_in row.word ≡ step.row
