@@ -1,4 +1,4 @@
--- The error numbers of refusals.
+-- The error numbers of refused calls.
 -- Source: the kernel's include/uapi/asm-generic/errno-base.h: ENOMEM, EBUSY, EEXIST and EINVAL.
 use Rattle.std.specs.Prelude.{ℕ, Option, Some, None}
 use Rattle.mt_base.specs.declared.replies.Reply.{Reply}

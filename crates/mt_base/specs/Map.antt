@@ -1,4 +1,4 @@
--- A map of disjoint ranges, what it holds at an index, and what it becomes by a store.
+-- A map of disjoint ranges, what it holds at an index, and the map after a store.
 -- Source: the kernel's documentation of the maple tree, mtree_load and mtree_store_range.
 use Rattle.std.specs.Prelude.{ℕ, Bool, List, [], ◌∷◌, ◌++◌, Option, ◌+◌, ◌-◌, ◌<◌, ◌≤◌, ◌==◌, ◌&&◌, nat_lt, nat_le, not, min, max, map, filter, find, length, slice_get, if◌then◌else◌}
 use Rattle.std.specs.List.{list_any, AllByRecursion}
@@ -34,7 +34,7 @@ last_range m = slice_get m (length m - 1)
 abbrev pub overlaps : ℕ → ℕ → Range → Bool
 overlaps first last r = nat_le r.first last && nat_le first r.last
 
--- whether some range of the map does
+-- whether some range of the map holds one of these indexes
 abbrev pub is_held : List Range → ℕ → ℕ → Bool
 is_held m first last = list_any (overlaps first last) m
 
@@ -61,7 +61,7 @@ parts_below m first = map (cut_below first) (filter (λ r. nat_lt r.first first)
 abbrev pub parts_above : List Range → ℕ → List Range
 parts_above m last = map (cut_above last) (filter (λ r. nat_lt last r.last) m)
 
--- the range that a store puts in, and none where the entry is 0
+-- the range that a store adds, and none if the entry is 0
 abbrev pub part_stored : ℕ → ℕ → ℕ → List Range
 part_stored first last entry = if entry == 0 then [] else record { first = first; last = last; entry = entry } ∷ []
 

@@ -1,4 +1,4 @@
--- How kinds and ranges are printed. What a reply is printed as is a matter of the log's version.
+-- How kinds and ranges are printed. How a reply is printed depends on the log's version.
 use Rattle.std.specs.Prelude.{ℕ, List, ◌++◌, codes}
 use Rattle.std.specs.Fmt.{decimal}
 use Rattle.mt_base.specs.declared.kinds.Kind.{Kind}
@@ -11,6 +11,6 @@ kind_text kinds.Alloc = codes "alloc"
 kind_text kinds.Range32 = codes "range32"
 kind_text kinds.Alloc32 = codes "alloc32"
 
--- a range as its first and last index and its entry
+-- a range as its first index, its last index and its entry
 abbrev pub range_text : Range → List ℕ
 range_text r = decimal r.first ++ (codes " " ++ (decimal r.last ++ (codes " " ++ decimal r.entry)))

@@ -1,6 +1,6 @@
--- How wide the words of a tree's rows are, and how large a tree can be.
--- Source: the kernel's include/linux/maple_tree.h, for machines of 64 bits; the narrow width, that rows are numbered in 16 bits,
--- from which number on, and how many of them a call takes, are this project's.
+-- How wide the words of a tree's nodes are, and how large a tree can be.
+-- Source: the kernel's include/linux/maple_tree.h, for machines of 64 bits. This project's own are the narrow width, that nodes
+-- are numbered in 16 bits, from which number on, and how many of them a call takes.
 use Rattle.std.specs.Prelude.{ℕ, ◌+◌, ◌-◌, ◌*◌, ◌^◌}
 use Rattle.mt_base.specs.declared.kinds.Kind.{Kind}
 use Rattle.mt_base.specs.declared.kinds.Kind.TheVariants as kinds
@@ -22,23 +22,23 @@ greatest Short = 2 ^ 32 - 1
 abbrev pub greatest_of : Kind → ℕ
 greatest_of kind = greatest (kind_width kind)
 
--- how many words a row has
+-- how many words a node has
 abbrev pub columns : Width → ℕ
 columns Long = 32
 columns Short = 64
 
--- rows are numbered from here
+-- the number of the first node
 abbrev pub first_row : ℕ
 first_row = 16
 
--- a tree has so many rows at the most
+-- the greatest number of nodes of a tree
 abbrev pub most_rows : ℕ
 most_rows = 65504
 
--- a tree has so many levels at the most
+-- the greatest number of levels of a tree
 abbrev pub deepest : ℕ
 deepest = 9
 
--- a call takes so many rows at the most: three for each level, and one
+-- the greatest number of nodes that a call takes: three for each level, and one
 abbrev pub most_taken : ℕ
 most_taken = 3 * deepest + 1

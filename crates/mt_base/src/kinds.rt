@@ -3,13 +3,13 @@ use std::fmt;
 /// What a tree is for.
 #[derive(Clone, Copy, Debug, PartialEq, Eq)]
 pub enum Kind {
-    /// Ranges are stored where the caller says.
+    /// The caller says where ranges are stored.
     Range,
-    /// The tree can also find room for a range.
+    /// The tree can also find room for a range (its nodes keep gap words).
     Alloc,
-    /// Ranges are stored where the caller says, and indexes have 32 bits.
+    /// The caller says where ranges are stored. Indexes have 32 bits.
     Range32,
-    /// The tree can also find room for a range, and indexes have 32 bits.
+    /// The tree can also find room for a range. Indexes have 32 bits.
     Alloc32,
 }
 

@@ -1,4 +1,8 @@
-//! The words of the interface: ranges, calls, queries and their replies; and what they mean for a map of ranges.
+//! The interface's types, and what they mean for a map of ranges: ranges, calls, queries and replies.
+//!
+//! In comments a *call* is a write with a version number, or a search for room; a *query* is a read; a *hole* is a gap. A
+//! *pass* is a thread's handle on a tree. A node that a write has replaced is *dead*, and *held* (retired) while a reader may
+//! still be in it.
 #![tactic(auto)]
 
 mod calls;

@@ -3,32 +3,33 @@ ghost use Rattle.mt_base.specs.Errno.{errno_of};
 
 use crate::ranges::Range;
 
-/// The answer of a [`Call`].
+/// What a [`Call`] returns.
 #[derive(Clone, Copy, Debug, PartialEq, Eq)]
 pub enum Reply {
-    /// The call was done. A store that answers so met no range: it overwrote nothing.
+    /// The call was done. A store with this reply met no range, so it overwrote nothing.
     Ok,
-    /// The store was done, and this is the entry of the first range that it met: it stands there no more.
+    /// The store was done. This is the entry of the first range that it met and overwrote.
     Over(u64),
-    /// The area that was sought begins here.
+    /// The room that was sought begins here.
     Start(u64),
-    /// The range that held the index is removed, and this was it.
+    /// The erase removed this whole range.
     Was(Range),
     /// No range held the index. Nothing was changed.
     None,
-    /// Some index of the call's range is held already. Nothing was changed.
+    /// A range already holds one of the call's indexes. Nothing was changed.
     Exists,
-    /// The call's range ends before it begins, or its entry is reserved, or is 0 where that may not be; or room is sought in a
-    /// tree of ranges, or for no index, or in a window that has fewer. Nothing was changed.
+    /// The arguments are invalid, and nothing was changed. The range ends before it begins or above the greatest index, or the
+    /// entry is reserved, or is 0 where that is not allowed. Or room is sought in a tree that is not for allocation, for no
+    /// index, or in a window that has fewer indexes, ends before it begins or ends above the greatest index.
     Invalid,
-    /// No hole has room for the area in the window. Nothing was changed.
+    /// No hole in the window has room for `size` indexes. Nothing was changed.
     Busy,
-    /// Too few rows are free. Nothing was changed.
+    /// Too few nodes are free. Nothing was changed.
     NoNodes(Shortage),
 }
 
-/// How many rows a call needs, and how many rows are free, live and held; and where some are held, whose open section
-/// holds them.
+/// A shortage of nodes: how many the call needs, and how many are free, live and held (retired, perhaps still being read). If
+/// some are held, `by` names a reader whose open section holds nodes back.
 #[derive(Clone, Copy, Debug, PartialEq, Eq)]
 pub struct Shortage {
     pub need: u64,
@@ -38,15 +39,15 @@ pub struct Shortage {
     pub by: Option<Holder>,
 }
 
-/// A pass whose section was found open, and the epoch at which it was.
+/// A handle whose read-side section was found open, and the epoch at which it was.
 #[derive(Clone, Copy, Debug, PartialEq, Eq)]
 pub struct Holder {
     pub pass: u32,
     pub epoch: u64,
 }
 
-/// The error number of a refusal, as the kernel has it: 12 (`ENOMEM`), 16 (`EBUSY`), 17 (`EEXIST`) or 22 (`EINVAL`); none
-/// of another reply.
+/// The error number of a refusal, as in the kernel: 12 (`ENOMEM`), 16 (`EBUSY`), 17 (`EEXIST`) or 22 (`EINVAL`). None for any
+/// other reply.
 pub fn errno(reply: &Reply) -> Option<u32>
     ensures { result ≡ errno_of reply.now }
 {

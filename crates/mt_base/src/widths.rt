@@ -3,28 +3,28 @@ ghost use Rattle.mt_base.specs.Width.{columns, greatest, kind_width};
 
 use crate::kinds::Kind;
 
-/// Rows are numbered from here.
+/// The number of the first node.
 pub const FIRST_ROW: u32 = 16;
 
-/// A tree has so many rows at the most.
+/// The greatest number of nodes of a tree.
 pub const MOST_ROWS: u64 = 65_504;
 
-/// A tree has so many levels at the most.
+/// The greatest number of levels of a tree.
 pub const DEEPEST: usize = 9;
 
-/// A call takes so many rows at the most: three for each level, and one.
+/// The greatest number of nodes that a call takes: three for each level, and one.
 pub const MOST_TAKEN: usize = 28;
 
-/// How wide the words of a tree's rows are.
+/// The width of a tree's indexes, which fixes the size of its nodes.
 #[derive(Clone, Copy, Debug, PartialEq, Eq)]
 pub enum Width {
-    /// Indexes of 64 bits, and rows of 32 words.
+    /// Indexes of 64 bits, and nodes of 32 words (256 bytes).
     Long,
-    /// Indexes of 32 bits, and rows of 64 words.
+    /// Indexes of 32 bits, and nodes of 64 words (512 bytes).
     Short,
 }
 
-/// The width of the rows of a tree of this kind.
+/// The width of a tree of this kind.
 pub fn width_of(kind: Kind) -> Width
     ensures { result ≡ kind_width kind }
 {
@@ -44,7 +44,7 @@ pub fn top(width: Width) -> u64
     }
 }
 
-/// How many words a row of this width has.
+/// How many words a node of this width has.
 pub fn cols(width: Width) -> u32
     ensures { result ≡ columns width }
 {
