@@ -1,4 +1,4 @@
-//! The columns of one row.
+//! The columns of one node.
 
 ghost use Rattle.std.specs.Prelude.{◌≡◌, ◌+◌};
 ghost use Rattle.mt_base.specs.Width.{columns};
@@ -11,7 +11,7 @@ use mt_base::Width;
 use mt_layout::RowKind;
 use mt_rows::{PlainRows, Rows};
 
-/// A row of this kind that is copied, and the row of the copy.
+/// A node of this kind that is copied, and the node of the copy.
 #[derive(Clone, Copy)]
 pub(crate) struct Pair {
     pub(crate) kind: RowKind,
@@ -19,7 +19,7 @@ pub(crate) struct Pair {
     pub(crate) to: u32,
 }
 
-/// Writes a column of a new row or of a draft.
+/// Writes a column of a new node or of a draft.
 pub(crate) fn write(rows: &mut PlainRows, row: u32, col: u32, word: u64)
     requires place { IsPlace (sheet_in rows.old).tree row col }
     requires free { IsFree (sheet_in rows.old).cleared (life_of (sheet_in rows.old).lives row) }
@@ -29,7 +29,7 @@ pub(crate) fn write(rows: &mut PlainRows, row: u32, col: u32, word: u64)
     rows.draft(row, col, word);
 }
 
-/// Writes a row of the copy, which has this parent word and so many columns. The names in its slots are still those of the
+/// Writes a node of the copy, with this parent word and `COLS` columns. The names in its slots are still those of the original
 /// tree.
 #[tactic(auto, using(crate::proofs::WrittenRows::none_read, mt_rows::proofs::Loads::one_read, crate::proofs::WrittenRows::read_place, crate::proofs::WrittenRows::read_next, crate::proofs::WrittenRows::own_copied, crate::proofs::WrittenRows::row_written))]
 fn copy_by<R: Rows, const COLS: usize>(src: &mut R, dst: &mut PlainRows, pair: Pair, parent: u64)
@@ -49,7 +49,7 @@ fn copy_by<R: Rows, const COLS: usize>(src: &mut R, dst: &mut PlainRows, pair: P
     dst.draft_columns(pair.to, 0, &words);
 }
 
-/// Writes a row of the copy, which has this parent word. The names in its slots are still those of the tree.
+/// Writes a node of the copy, which has this parent word. The names in its slots are still those of the tree.
 pub(crate) fn copy_own<R: Rows>(src: &mut R, dst: &mut PlainRows, pair: Pair, parent: u64)
     requires row { IsPlace (R.sheet src.old).tree pair.row 0 }
     requires place { IsPlace (sheet_in dst.old).tree pair.to 0 }

@@ -20,9 +20,8 @@ use std::sync::ledger::Ledger;
 /// The parent word of a root.
 const NO_PARENT: u64 = 1;
 
-/// Copies a tree row by row into new rows of the same width, and gives the root word of the copy, with which it can be planted
-/// there. The rows of the copy are taken from the book, as many as are reached in the tree, and each is a step. It takes no
-/// memory.
+/// Copies a tree node by node into new nodes of the same width. Returns the root word of the copy, with which it can be planted
+/// there. It takes as many nodes from the book as the tree has, and each is a step. It takes no memory.
 pub fn copy_rows<R: Rows, L: Ledger>(
     src: &mut R,
     dst: &mut PlainRows,

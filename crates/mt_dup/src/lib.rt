@@ -1,4 +1,4 @@
-//! Trees copied row by row.
+//! Trees copied node by node.
 #![tactic(auto)]
 
 mod columns;

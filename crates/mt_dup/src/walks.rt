@@ -1,4 +1,4 @@
-//! The walk through a tree that is copied: each row before its children, children from the left.
+//! The walk through a tree that is copied: each node before its children, children from the left.
 
 ghost use Rattle.std.specs.Prelude.{◌≡◌, ◌+◌, ◌≤◌, ◌<◌, length, Some};
 ghost use Rattle.mt_base.specs.Width.{first_row};
@@ -15,8 +15,7 @@ use mt_layout::{RowKind, kind_of, name_of, parent_word, row_of, slots};
 use mt_rows::{PlainRows, Rows};
 use std::sync::ledger::Ledger;
 
-/// How the walk comes to a row: the word that names it, where no more than so many levels stand, and the parent word of its
-/// copy.
+/// How the walk reaches a node: the word that names it, at most how many levels are below it, and the parent word of its copy.
 #[derive(Clone, Copy)]
 pub(crate) struct Way {
     pub(crate) depth: u32,
@@ -24,7 +23,7 @@ pub(crate) struct Way {
     pub(crate) parent: u64,
 }
 
-/// Takes the next row.
+/// Takes the next node.
 fn take_next(book: &mut RowBook) -> u32
     requires filling { IsFilling book.old }
     requires some { 0 < length book.old.free }
@@ -34,7 +33,7 @@ fn take_next(book: &mut RowBook) -> u32
     book.take()
 }
 
-/// Copies the row that a word names, and all rows below it, and gives its name in the copy. A word that is no name is 0, and
+/// Copies the node that a word names, and all nodes below it, and gives its name in the copy. A word that is no name is 0, and
 /// so it is in the copy.
 #[cycle(walk)]
 pub(crate) fn copy_row<R: Rows, L: Ledger>(
@@ -71,7 +70,7 @@ pub(crate) fn copy_row<R: Rows, L: Ledger>(
     name_of(pair.to, kind).word()
 }
 
-/// Copies the rows below a row, of which a leaf has none, and writes their names.
+/// Copies the nodes below a node, of which a leaf has none, and writes their names.
 #[cycle(walk)]
 fn copy_children<R: Rows, L: Ledger>(
     src: &mut R,

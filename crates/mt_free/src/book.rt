@@ -9,9 +9,9 @@ use mt_base::{FIRST_ROW, NoMemory};
 use std::alloc::Global;
 use std::marker::Model;
 
-/// The book of a tree's rows: which are free, which are out, and which were replaced and wait.
+/// The book of a tree's nodes: which are free, which are out, and which were replaced and wait.
 ///
-/// Its memory is taken once, for every row of the table.
+/// Its memory is taken once, for every node of the table.
 #[derive(Drop)]
 pub struct RowBook {
     rows: u64,
@@ -31,7 +31,7 @@ impl Model for RowBook {
     ghost invariant = { IsRowBook };
 }
 
-/// Puts a row on top of the free ones, for which there is room.
+/// Puts a node on top of the free ones, for which there is room.
 fn push_free(free: &mut Vec<u32>, row: u32)
     requires { vec_len free.old < vec_capacity free.old }
     ensures items { free.new.items ≡ free.old.items ++ row ∷ [] }
@@ -44,7 +44,7 @@ fn push_free(free: &mut Vec<u32>, row: u32)
     }
 }
 
-/// Every row, the first on top.
+/// Every node, the first on top.
 fn all_rows(alloc: Global, rows: u64) -> Result<Vec<u32>, NoMemory>
     requires { rows ≤ most_rows }
     ensures items { IfOk result (λ v. v.items ≡ rows_down rows) }
@@ -58,7 +58,7 @@ fn all_rows(alloc: Global, rows: u64) -> Result<Vec<u32>, NoMemory>
 }
 
 impl RowBook {
-    /// A book of `rows` rows, all free. Only want of memory fails.
+    /// A book of `rows` nodes, all free. Only lack of memory fails.
     pub fn new(alloc: Global, rows: u64) -> Result<RowBook, NoMemory>
         requires { rows ≤ most_rows }
         ensures { IfOk result (λ b. b ≡ new_book rows) }
@@ -70,7 +70,7 @@ impl RowBook {
         })
     }
 
-    /// Takes a free row, the one that was put on top last.
+    /// Takes a free node, the one that was put on top last.
     pub fn take(&mut self) -> u32
         requires { 0 < length self.old.free }
         ensures taken { self.old ≡ record self.new { free = self.new.free ++ result ∷ [] } }
@@ -82,7 +82,7 @@ impl RowBook {
         }
     }
 
-    /// Holds a row that is out, which the call `stamp` replaced. Stamps do not fall.
+    /// Holds a node that is out, which the call `stamp` replaced. Stamps do not fall.
     pub fn retire(&mut self, row: u32, stamp: u64)
         requires out { IsOut self.old row }
         requires in_order { All (λ h. h.stamp ≤ stamp) self.old.held }
@@ -91,7 +91,7 @@ impl RowBook {
         push_held(&mut self.held, row, stamp);
     }
 
-    /// Frees the held rows that were replaced by the call `least` at the latest, and tells how many they are.
+    /// Frees the held (retired) nodes that were replaced by the call `least` or an earlier one. Returns how many they are.
     pub fn reclaim(&mut self, least: u64) -> u64
         ensures freed { self.new ≡ after_reclaim self.old least }
         ensures count { result ≡ length (reclaimable least self.old.held) }
@@ -104,28 +104,28 @@ impl RowBook {
         count
     }
 
-    /// How many rows are free.
+    /// How many nodes are free.
     pub fn free(&self) -> u64
         ensures { result ≡ length self.now.free }
     {
         self.free.len() as u64
     }
 
-    /// How many rows are out.
+    /// How many nodes are out.
     pub fn live(&self) -> u64
         ensures { result ≡ live_count self.now }
     {
         self.rows - (self.free() + self.held())
     }
 
-    /// How many rows were replaced, and wait.
+    /// How many nodes were replaced, and wait.
     pub fn held(&self) -> u64
         ensures { result ≡ length self.now.held }
     {
         self.held.len() as u64
     }
 
-    /// How many rows there are.
+    /// How many nodes there are.
     pub fn rows(&self) -> u64
         ensures rows { result ≡ self.now.rows }
         ensures book { IsBook self.now }

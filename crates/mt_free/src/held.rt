@@ -3,7 +3,7 @@ ghost use Rattle.std.specs.Prelude.{◌≡◌, ◌<◌, ◌≤◌, ◌+◌, [], 
 use circular_buffer::HeapCircularBuffer;
 use std::marker::Model;
 
-/// A row that was replaced, and the number of the call that replaced it.
+/// A node that was replaced, and the number of the call that replaced it.
 #[derive(Drop)]
 pub struct HeldRow {
     pub row: u32,
@@ -18,7 +18,7 @@ impl Model for HeldRow {
     ghost view = { λ h. record { row = h.row; stamp = h.stamp } };
 }
 
-/// Puts a row behind the held ones, for which there is room.
+/// Puts a node after the held ones. There has to be room for it.
 pub fn push_held(held: &mut HeapCircularBuffer<HeldRow>, row: u32, stamp: u64)
     requires { length held.old.items < held.old.capacity }
     ensures items { held.new.items ≡ held.old.items ++ record { row = row; stamp = stamp } ∷ [] }
@@ -30,7 +30,7 @@ pub fn push_held(held: &mut HeapCircularBuffer<HeldRow>, row: u32, stamp: u64)
     }
 }
 
-/// Takes out the first held row, if it was replaced by the call `least` at the latest.
+/// Takes out the first held node, if it was replaced by the call `least` at the latest.
 pub fn pop_due(held: &mut HeapCircularBuffer<HeldRow>, least: u64) -> Option<HeldRow>
     ensures due { IfSome result (λ h. (held.old.items ≡ h ∷ held.new.items) × (h.stamp ≤ least)) }
     ensures none_due { IfNone result (held.new.items ≡ held.old.items) }

@@ -1,4 +1,4 @@
-//! The book of a tree's rows: which are free, which are live, and which were replaced and wait.
+//! The book (node allocator) of a tree: which nodes are free, which are live, and which are retired and wait.
 #![tactic(auto)]
 
 mod book;

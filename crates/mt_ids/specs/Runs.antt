@@ -1,4 +1,4 @@
--- What the last answer of a draw comes to.
+-- What the last reply of a draw leads to.
 -- Source: this project's own.
 use Rattle.std.specs.Prelude.{◌≡◌, ℕ, ◌+◌, ◌≤◌, Bool, None, Result, Ok, Err}
 use Rattle.mt_ids.specs.Prelude.{Reply}
@@ -55,7 +55,7 @@ abbrev pub IsLastAnswer : Draws → Result Reply ℕ → Type 0
 IsLastAnswer d (Ok r) = LiesIn d r
 IsLastAnswer d (Err calls) = Unit {0}
 
--- All calls of a draw but the last are made, and that seeks from the window's first index on.
+-- All calls of a draw but the last are made, and the last one searches from the window's first index on.
 pub record IsBeforeLast (d : Draws) (s : Allocation) (entry : ℕ) (t : Allocation) : Type 0 where
   pub since : IsSince s t
   pub none : from_position s.kind s.map d.hi d.at ≡ None

@@ -8,6 +8,6 @@ pub record Draws : Type 0 where
   pub hi : ℕ
   pub at : Option ℕ
 
--- where none was drawn yet
+-- no number was drawn yet
 abbrev pub new_draws : ℕ → ℕ → Draws
 new_draws lo hi = record { lo = lo; hi = hi; at = Some lo }

@@ -8,22 +8,22 @@ use crate::allocs::Allocs;
 use mt_base::{Reply, Shortage};
 use std::marker::Model;
 
-/// What a draw comes to.
+/// What a draw returns.
 #[derive(Clone, Copy, Debug, PartialEq, Eq)]
 pub enum Drawn {
-    /// The entry is stored at this index. The window may have begun anew for it.
+    /// The entry is stored at this index. `wrapped` says whether the search began again at the window's first index.
     Number { at: u64, wrapped: bool },
     /// No index of the window is free.
     Busy,
-    /// The entry is reserved or 0, or the window ends above the greatest index, or the tree finds no room.
+    /// The entry is reserved or 0, or the window ends above the greatest index, or the tree cannot search for room.
     Invalid,
-    /// Too few rows are free.
+    /// Too few nodes are free.
     NoNodes(Shortage),
-    /// The tree has had all its calls, which are so many. The draw had more to make.
+    /// The tree has had all the `calls` calls that it may have, and the draw needed more.
     Worn { calls: u64 },
 }
 
-/// A window of indexes from which numbers are drawn in turn.
+/// A window of indexes from which numbers are drawn in turn (cyclic allocation).
 #[derive(Drop)]
 pub struct Ids {
     lo: u64,
@@ -50,7 +50,7 @@ impl Model for Ids {
 }
 
 impl Ids {
-    /// The next number is sought from the window's first index on.
+    /// A new window. The first number is sought from `lo` on.
     pub fn new(lo: u64, hi: u64) -> Ids
         requires { lo ≤ hi }
         ensures { result ≡ new_draws lo hi }
@@ -62,7 +62,7 @@ impl Ids {
         }
     }
 
-    /// Goes on behind a number.
+    /// Moves the position to the index after a number.
     fn go_behind(&mut self, at: u64)
         requires from { self.old.lo ≤ at }
         requires to { at ≤ self.old.hi }
@@ -71,9 +71,9 @@ impl Ids {
         self.at = if at == self.hi { None } else { Some(at + 1) };
     }
 
-    /// Draws the next number, and stores the entry there: the lowest index that is free from the position on, or else from the
-    /// window's first index on. It makes one call, and a second one where no index is free from its position on. Any other answer
-    /// leaves the map and the position.
+    /// Draws the next number and stores the entry there: the lowest index that is free from the position on, or else from the
+    /// window's first index on. A draw is one call, or two if no index is free from its position on. Any other result leaves
+    /// the map and the position.
     pub fn draw<A: Allocs>(&mut self, tree: &mut A, entry: u64) -> Drawn
         ensures drawn { IsDrawn self.old (A.sheet tree.old) entry result self.new (A.sheet tree.new) }
         ensures rest { IsAfter (A.sheet tree.old) (A.sheet tree.new) }
@@ -89,7 +89,7 @@ impl Ids {
         self.settle(answer, false)
     }
 
-    /// A draw from the window's first index on, where none is free from the position on.
+    /// The second call of a draw: it searches from the window's first index on, because none is free from the position on.
     fn draw_anew<A: Allocs>(&mut self, tree: &mut A, entry: u64) -> Drawn
         ensures drawn { (s : Allocation) → IsBeforeLast self.old s entry (A.sheet tree.old) → IsDrawn self.old s entry result self.new (A.sheet tree.new) }
         ensures rest { (s : Allocation) → IsSince s (A.sheet tree.old) → IsAfter s (A.sheet tree.new) }
@@ -99,7 +99,7 @@ impl Ids {
         self.settle(answer, true)
     }
 
-    /// What the last answer of a draw comes to.
+    /// What the last reply of a draw leads to.
     fn settle(&mut self, answer: Result<Reply, u64>, wrapped: bool) -> Drawn
         requires { IsLastAnswer self.old answer }
         ensures drawn { result ≡ came_to wrapped answer }

@@ -1,6 +1,6 @@
--- The columns of a row: a parent word, pivots, slots and gaps; and the items that are read off them.
--- Source: the kernel's lib/maple_tree.c, ma_pivots, ma_slots and ma_gaps of maple_range_64 and maple_arange_64.
--- A row has so many slots, and as many gaps or none. Column c of the row that begins at `base` is the word base + c.
+-- The columns (words) of a row (a node): a parent word, pivots, slots and gaps. And the items that are read from them.
+-- Source: the kernel's lib/maple_tree.c, ma_pivots, ma_slots and ma_gaps of maple_range_64 and maple_arange_64. A node has
+-- `slots` slots, and as many gaps or none. Column c of the node that begins at `base` is the word base + c.
 use Rattle.std.specs.Prelude.{◌≡◌, ℕ, zero, suc, ◌+◌, ◌-◌, ◌*◌, ◌≤◌, ◌<◌, ◌==◌, List, [], ◌∷◌, ◌++◌, length, map, take, replicate, nat_le, slice_index, if◌then◌else◌}
 use Rattle.mt_layout.specs.Prelude.{Width, columns}
 use Rattle.mt_layout.specs.declared.items.Item.{Item}
@@ -8,7 +8,7 @@ use Rattle.mt_layout.specs.declared.names.RowKind.{RowKind}
 use Rattle.mt_layout.specs.Sizes.{slots_of, gaps_of}
 use Rattle.mt_layout.specs.Spans.{spans_from, longest_in}
 
--- rows of some width and kind have so many words, slots and gaps
+-- nodes of some width and kind have these numbers of words, slots and gaps
 pub record IsLayout (words slots gaps : ℕ) : Type 0 where
   pub width : Width
   pub kind : RowKind
@@ -28,12 +28,12 @@ gap_column slots i = 2 * slots + i
 abbrev pub gap_at : ℕ → ℕ → List ℕ → ℕ → ℕ → ℕ
 gap_at slots gaps w base i = if gaps == 0 then 0 else slice_index w (base + gap_column slots i)
 
--- the item in slot i, where its greatest index is `last`
+-- the item in slot i, if its greatest index is `last`
 abbrev pub item_at : ℕ → ℕ → List ℕ → ℕ → ℕ → ℕ → Item
 item_at slots gaps w base i last = record { last = last; word = slice_index w (base + slot_column slots i); gap = gap_at slots gaps w base i }
 
--- The items from slot i on, of which at most `left` are to come, in a row that ends at `max`: they end with the first
--- whose pivot is at least `max`, or with the last slot, which has no pivot.
+-- The items from slot i on, at most `left` of them, in a node that ends at `max`. They end with the first whose pivot is at
+-- least `max`, or with the last slot, which has no pivot.
 abbrev pub items_from : ℕ → ℕ → List ℕ → ℕ → ℕ → ℕ → ℕ → List Item
 items_from slots gaps w base max zero i = []
 items_from slots gaps w base max (suc zero) i = item_at slots gaps w base i max ∷ []
@@ -42,13 +42,13 @@ items_from slots gaps w base max (suc (suc left)) i =
     then item_at slots gaps w base i (slice_index w (base + pivot_column i)) ∷ []
     else item_at slots gaps w base i (slice_index w (base + pivot_column i)) ∷ items_from slots gaps w base max (suc left) (i + 1)
 
--- the items of the row that begins at `base` and ends at `max`
+-- the items of the node that begins at `base` and ends at `max`
 abbrev pub items_at : ℕ → ℕ → List ℕ → ℕ → ℕ → List Item
 items_at slots gaps w base max = items_from slots gaps w base max slots 0
 
--- ---- the words of a row
+-- ---- the words of a node
 
--- these, and zeros behind them, so many in all
+-- these words, and zeros after them up to this number of words
 abbrev pub padded_to : ℕ → List ℕ → List ℕ
 padded_to n xs = xs ++ replicate (n - length xs) 0
 
@@ -61,7 +61,7 @@ slot_words slots items = padded_to slots (map (λ x. x.word) items)
 abbrev pub gap_words : ℕ → List Item → List ℕ
 gap_words gaps items = if gaps == 0 then [] else padded_to gaps (map (λ x. x.gap) items)
 
--- the words of a row with these items, in a row of so many columns: what is unused is 0
+-- the words of a node with these items and this number of columns: what is unused is 0
 abbrev pub row_words : ℕ → ℕ → ℕ → ℕ → List Item → List ℕ
 row_words columns slots gaps parent items = padded_to columns (parent ∷ pivot_words slots items ++ slot_words slots items ++ gap_words gaps items)
 
@@ -77,11 +77,11 @@ abbrev pub end_of : ℕ → List Item → ℕ
 end_of max [] = max
 end_of max (x ∷ items) = end_of x.last items
 
--- no item tells a gap
+-- no item has a gap
 abbrev pub NoGaps : List Item → Type 0
 NoGaps items = map (λ x. x.gap) items ≡ replicate (length items) 0
 
--- what a row can hold: 1 to `slots` items whose greatest indexes rise, and gaps only where there are columns for them
+-- what a node can hold: 1 to `slots` items whose greatest indexes rise, and gaps only if it has columns for them
 pub record FitRow (slots gaps : ℕ) (items : List Item) : Type 0 where
   pub some : 0 < length items
   pub fit : length items ≤ slots

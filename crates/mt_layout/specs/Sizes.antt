@@ -1,12 +1,12 @@
--- How large rows and lists of items are: each number once.
--- Source: the kernel's include/linux/maple_tree.h, MAPLE_RANGE64_SLOTS and MAPLE_ARANGE64_SLOTS; the sizes of narrow rows, the least
--- numbers of items and the rooms are this project's.
+-- How large nodes and lists of items are: each number once.
+-- Source: the kernel's include/linux/maple_tree.h, MAPLE_RANGE64_SLOTS and MAPLE_ARANGE64_SLOTS; the sizes of narrow nodes, the
+-- least numbers of items and the rooms are this project's.
 use Rattle.std.specs.Prelude.{ℕ}
 use Rattle.mt_layout.specs.Prelude.{Width, Long, Short}
 use Rattle.mt_layout.specs.declared.names.RowKind.{RowKind}
 use Rattle.mt_layout.specs.declared.names.RowKind.TheVariants as kinds
 
--- how many slots and gaps a row of a kind has
+-- how many slots and gaps a node of a kind has
 abbrev pub slots_of : Width → RowKind → ℕ
 slots_of Long kinds.Leaf = 16
 slots_of Long kinds.Inner = 16
@@ -23,7 +23,7 @@ gaps_of Short kinds.Leaf = 0
 gaps_of Short kinds.Inner = 0
 gaps_of Short kinds.Gapped = 21
 
--- the least number of items in a row that is not the root
+-- the least number of items in a node that is not the root
 abbrev pub least_items : Width → RowKind → ℕ
 least_items Long kinds.Leaf = 6
 least_items Long kinds.Inner = 6

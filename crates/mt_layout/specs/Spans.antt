@@ -1,11 +1,11 @@
--- Items with their first indexes, as they stand end to end in a row or in a few rows next to each other.
--- Source: the kernel's core-api/maple_tree: a node's ranges follow each other, and a range of no entry is one slot of 0.
+-- Items with their first indexes, end to end as in one node or in a few adjacent nodes.
+-- Source: the kernel's core-api/maple_tree: a node's ranges follow each other, and a range without an entry is one slot of 0.
 use Rattle.std.specs.Prelude.{◌≡◌, ◌≢◌, ℕ, ◌+◌, ◌-◌, ◌≤◌, ◌==◌, max, List, [], ◌∷◌, if◌then◌else◌}
 use Rattle.mt_layout.specs.Prelude.{Range}
 use Rattle.mt_layout.specs.declared.items.Item.{Item}
 use Rattle.mt_layout.specs.declared.spans.Span.{Span}
 
--- items, the first of which begins at `first`, and each other behind the one before
+-- items with their first indexes: the first begins at `first`, each other one after the one before
 abbrev pub spans_from : ℕ → List Item → List Span
 spans_from first [] = []
 spans_from first (x ∷ items) = record { first = first; last = x.last; word = x.word } ∷ spans_from (x.last + 1) items
@@ -21,7 +21,7 @@ Fills lo hi (x ∷ xs) = (x.first ≡ lo) × (lo ≤ x.last) × Fills (x.last + 
 
 -- ---- holes in a leaf
 
--- the number of indexes of a hole, and 0 of an entry
+-- the number of indexes of a hole, and 0 for an entry
 abbrev pub hole_length : Span → ℕ
 hole_length x = if x.word == 0 then x.last + 1 - x.first else 0
 

@@ -4,7 +4,7 @@ ghost use Rattle.mt_layout.specs.Columns.{RiseFrom, longest_hole};
 use crate::sizes::RUN_ROOM;
 use arrayvec::ArrayVec;
 
-/// What a row holds in one slot: the greatest index of it, its word, and the longest hole below it, in rows with gaps.
+/// What a node holds in one slot: its greatest index, its word, and in nodes with gaps the longest hole below it.
 #[derive(Clone, Copy, Debug, Default, PartialEq, Eq)]
 pub struct Item {
     pub last: u64,
@@ -12,7 +12,7 @@ pub struct Item {
     pub gap: u64,
 }
 
-/// The items of a few rows that lie next to each other.
+/// The items of a few adjacent nodes.
 pub type Run = ArrayVec<Item, RUN_ROOM>;
 
 /// The number of indexes of the longest hole in a leaf with these items, the first of which begins at `min`.

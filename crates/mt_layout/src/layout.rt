@@ -4,7 +4,7 @@ ghost use Rattle.mt_layout.specs.Columns.{IsLayout, FitRow, pivot_column, slot_c
 use crate::items::Item;
 use arrayvec::ArrayVec;
 
-/// The columns of a row: a parent word, then a pivot for each slot but the last, then the slots, then the gaps.
+/// The columns of a node: a parent word, then a pivot for each slot but the last, then the slots, then the gaps.
 macro_rules! column {
     (parent) => { 0 };
     (pivot of $item:expr) => { 1 + $item };
@@ -13,13 +13,13 @@ macro_rules! column {
     (unused) => { 2 * SLOTS + GAPS };
 }
 
-/// The columns of a row with so many slots, and with a gap for each slot or none: inner rows of allocation trees have
-/// gaps, leaves and inner rows of range trees have none.
+/// The columns of a node with `SLOTS` slots and `GAPS` gaps. Inner nodes of allocation trees have a gap for each slot. Leaves
+/// and inner nodes of range trees have none.
 pub struct Layout<const SLOTS: usize, const GAPS: usize>;
 
 impl<const SLOTS: usize, const GAPS: usize> Layout<SLOTS, GAPS> {
-    /// The items of the row with these words, whose greatest index is `max`. No column is read twice, nor any behind the
-    /// last item's.
+    /// The items of the node with these words, whose greatest index is `max`. Reads no column twice, and none after the last
+    /// item's.
     pub fn items_of(words: &[u64], max: u64) -> ArrayVec<Item, SLOTS>
         requires layout { IsLayout (length words.now) SLOTS GAPS }
         ensures { result.items ≡ items_at SLOTS GAPS words.now 0 max }
@@ -35,7 +35,7 @@ impl<const SLOTS: usize, const GAPS: usize> Layout<SLOTS, GAPS> {
         items
     }
 
-    /// The item in slot `i` of the row with these words, whose greatest index is `max`.
+    /// The item in slot `i` of the node with these words, whose greatest index is `max`.
     fn item_in(words: &[u64], i: usize, max: u64) -> Item
         requires layout { IsLayout (length words.now) SLOTS GAPS }
         requires slot { i < SLOTS }
@@ -57,7 +57,7 @@ impl<const SLOTS: usize, const GAPS: usize> Layout<SLOTS, GAPS> {
         }
     }
 
-    /// Writes the words of a row with these items and this parent word, each once. What is unused is 0.
+    /// Writes the words of a node with these items and this parent word, each once. What is unused is 0.
     #[inline(always)]
     pub fn words_of(items: &[Item], parent: u64, words: &mut [u64])
         requires layout { IsLayout (length words.old) SLOTS GAPS }
@@ -72,14 +72,15 @@ impl<const SLOTS: usize, const GAPS: usize> Layout<SLOTS, GAPS> {
         words[column!(unused)..].fill(0);
     }
 
-    /// Writes an item into slot `i` of the row with these words.
+    /// Writes an item into slot `i` of the node with these words.
     fn write_item(words: &mut [u64], i: usize, item: Item)
         requires layout { IsLayout (length words.old) SLOTS GAPS }
         requires slot { i < SLOTS }
         ensures pivot { i + 1 < SLOTS → slice_index words.new (pivot_column i) ≡ item.last }
         ensures slot { slice_index words.new (slot_column SLOTS i) ≡ item.word }
         ensures gap { 0 < GAPS → slice_index words.new (gap_column SLOTS i) ≡ item.gap }
-        ensures others { (c : ℕ) → (i + 1 < SLOTS → c ≢ pivot_column i) → c ≢ slot_column SLOTS i → (0 < GAPS → c ≢ gap_column SLOTS i) → slice_index words.new c ≡ slice_index words.old c }
+        ensures others { (c : ℕ) → (i + 1 < SLOTS → c ≢ pivot_column i) → c ≢ slot_column SLOTS i
+            → (0 < GAPS → c ≢ gap_column SLOTS i) → slice_index words.new c ≡ slice_index words.old c }
     {
         if i + 1 < SLOTS {
             words[column!(pivot of i)] = item.last;

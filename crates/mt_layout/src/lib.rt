@@ -1,4 +1,4 @@
-//! The words of a row: names of rows, and the items that a row's columns hold.
+//! The words of a row (a node): its name, and the items that its columns hold.
 #![tactic(auto)]
 
 mod items;

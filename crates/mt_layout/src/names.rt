@@ -5,17 +5,17 @@ ghost use Rattle.mt_layout.specs.Rows.{IsRowNumber, Names, name_at, row_in, name
 use mt_base::{FIRST_ROW, MOST_ROWS};
 use std::marker::Model;
 
-/// A row's address is its number times this, whatever the row's width.
+/// A node's address is its number times this, whatever the node's width.
 const ROW_SIZE: u64 = 256;
 
-/// The low bytes of names, which tell the kind of the row.
+/// The low bytes of names, which give the kind of the node.
 const LEAF: u64 = 12;
 
 const INNER: u64 = 20;
 
 const GAPPED: u64 = 28;
 
-/// What a row is: a leaf, an inner row of a range tree, or an inner row of an allocation tree, which has gaps.
+/// What a node is: a leaf, an inner node of a range tree, or an inner node of an allocation tree, which has gaps.
 #[derive(Clone, Copy, Debug, PartialEq, Eq)]
 pub enum RowKind {
     Leaf,
@@ -23,7 +23,7 @@ pub enum RowKind {
     Gapped,
 }
 
-/// A row's name: its number and its kind in one word, as the kernel encodes a node.
+/// A node's name: its number and its kind in one word, as the kernel encodes a node.
 #[derive(Clone, Copy, Debug)]
 pub struct Name(u64);
 
@@ -41,7 +41,7 @@ impl Model for Name {
 }
 
 impl Name {
-    /// The name as a word of a row.
+    /// The name as a word of a node.
     pub fn word(&self) -> u64
         ensures word { result ≡ self.now }
         ensures named { IsSome (named_kind result) }
@@ -50,7 +50,7 @@ impl Name {
     }
 }
 
-/// The name of the row with this number, as a row of this kind.
+/// The name of the node with this number, as a node of this kind.
 pub fn name_of(row: u32, kind: RowKind) -> Name
     requires { IsRowNumber row }
     ensures { result ≡ name_at row kind }
@@ -63,7 +63,7 @@ pub fn name_of(row: u32, kind: RowKind) -> Name
     Name(u64::from(row) * ROW_SIZE + low_byte)
 }
 
-/// The number of the row that this word names, or none where the word is no name.
+/// The number of the node that this word names, or none where the word is no name.
 pub fn row_of(word: u64) -> Option<u32>
     ensures row { result ≡ named_row word }
     ensures name { IfSome result (λ row. (kind : RowKind) × Names word row kind) }
@@ -73,7 +73,7 @@ pub fn row_of(word: u64) -> Option<u32>
     Some((word / ROW_SIZE) as u32)
 }
 
-/// The kind of the row that this word names, or none where the word is no name.
+/// The kind of the node that this word names, or none where the word is no name.
 pub fn kind_of(word: u64) -> Option<RowKind>
     ensures kind { result ≡ named_kind word }
     ensures name { IfSome result (λ kind. Names word (row_in word) kind) }
@@ -91,14 +91,14 @@ pub fn kind_of(word: u64) -> Option<RowKind>
     }
 }
 
-/// The parent word of a row that stands in this slot of this row.
+/// The parent word of a node whose parent `row` has it in this slot.
 pub fn parent_word(row: u32, slot: u32) -> u64
     ensures { result ≡ parent_at row slot }
 {
     u64::from(row) * ROW_SIZE + u64::from(slot)
 }
 
-/// Whether this parent word marks the row with this number as dead.
+/// Whether this parent word marks the node with this number as dead.
 pub fn is_dead_mark(row: u32, word: u64) -> bool
     ensures { IsTrue result ↔ (word ≡ dead_mark row) }
 {

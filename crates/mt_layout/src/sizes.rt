@@ -1,4 +1,4 @@
-//! How large rows are.
+//! How large nodes are.
 
 ghost use Rattle.std.specs.Prelude.{◌≡◌, ◌≤◌, length};
 ghost use Rattle.mt_base.specs.Width.{columns};
@@ -14,14 +14,13 @@ use mt_base::Width;
 /// How many items a `Run` has room for.
 pub const RUN_ROOM: usize = 72;
 
-/// A row of any width and kind has so many words at the most.
+/// The greatest number of words of a node, whatever its width and kind.
 pub const MOST_WORDS: usize = 64;
 
-/// A row of any width and kind has so many slots at the most.
+/// The greatest number of slots of a node, whatever its width and kind.
 pub const MOST_SLOTS: usize = 32;
 
-/// How many slots a row of this kind has. They stand in the columns from that number on, behind the parent word and the
-/// pivots.
+/// How many slots a node of this kind has. The column of the first slot has this number, after the parent word and the pivots.
 pub fn slots(width: Width, kind: RowKind) -> u32
     ensures { result ≡ slots_of width kind }
 {
@@ -33,7 +32,7 @@ pub fn slots(width: Width, kind: RowKind) -> u32
     }
 }
 
-/// How many gaps a row of this kind has: one for each slot, or none.
+/// How many gaps a node of this kind has: one for each slot, or none.
 pub fn gaps(width: Width, kind: RowKind) -> u32
     ensures { result ≡ gaps_of width kind }
 {
@@ -45,7 +44,7 @@ pub fn gaps(width: Width, kind: RowKind) -> u32
     }
 }
 
-/// The least number of items in a row of this kind that is not the root.
+/// The least number of items in a node of this kind that is not the root.
 pub fn least_items(width: Width, kind: RowKind) -> u32
     ensures { result ≡ least_items width kind }
 {
@@ -57,7 +56,7 @@ pub fn least_items(width: Width, kind: RowKind) -> u32
     }
 }
 
-/// The items of the row of this layout with these words, whose greatest index is `max`.
+/// The items of the node of this layout with these words, whose greatest index is `max`.
 fn items_by<const SLOTS: usize, const GAPS: usize>(
     words: &[u64],
     max: u64,
@@ -72,7 +71,7 @@ fn items_by<const SLOTS: usize, const GAPS: usize>(
     }
 }
 
-/// The items of the row of this width and kind with these words, whose greatest index is `max`.
+/// The items of the node of this width and kind with these words, whose greatest index is `max`.
 pub fn items_of(width: Width, kind: RowKind, words: &[u64], max: u64) -> ArrayVec<Item, MOST_SLOTS>
     requires { length words.now ≡ columns width }
     ensures { result.items ≡ items_at (slots_of width kind) (gaps_of width kind) words.now 0 max }
@@ -85,7 +84,7 @@ pub fn items_of(width: Width, kind: RowKind, words: &[u64], max: u64) -> ArrayVe
     }
 }
 
-/// Writes the words of a row of this width and kind with these items and this parent word. What is unused is 0.
+/// Writes the words of a node of this width and kind with these items and this parent word. What is unused is 0.
 #[inline(always)]
 pub fn words_of(width: Width, kind: RowKind, items: &[Item], parent: u64, words: &mut [u64])
     requires words { length words.old ≡ columns width }

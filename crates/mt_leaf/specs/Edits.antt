@@ -40,11 +40,11 @@ holes_joined (x ∷ xs) = join x (holes_joined xs)
 abbrev pub edited : List Span → ℕ → ℕ → ℕ → List Span
 edited xs first last entry = holes_joined (stored xs first last entry)
 
--- the slot of the entry that stands at just these indexes
+-- the slot of the entry that has exactly these indexes
 abbrev pub exact_slot_of : List Span → ℕ → ℕ → Option ℕ
 exact_slot_of xs first last = position (λ x. (x.first == first) && ((x.last == last) && not (x.word == 0))) xs
 
--- the spans, as they stand where the first of them begins at `first`
+-- the spans, if the first of them begins at `first`
 abbrev pub starting : ℕ → List Span → List Span
 starting first [] = []
 starting first (x ∷ xs) = record x { first = first } ∷ xs

@@ -1,4 +1,4 @@
--- The slots at which a store begins and ends, and items that are pushed behind others.
+-- The slots at which a store begins and ends, and items that are pushed after others.
 use Rattle.std.specs.Prelude.{ℕ, zero, suc, List, [], ◌∷◌, ◌++◌, ◌+◌, ◌-◌, ◌==◌, ◌&&◌, nat_lt, nat_le, take, drop, if◌then◌else◌}
 use Rattle.std.specs.List.{prefix_len}
 use Rattle.mt_layout.specs.declared.items.Item.{Item}
@@ -17,7 +17,7 @@ first_of min items zero = min
 first_of min [] (suc slot) = min
 first_of min (x ∷ items) (suc slot) = first_of (x.last + 1) items slot
 
--- items with one more behind them, as one with the last of them where both are holes
+-- items with one more at the end; if it and the last one are holes, the two are one
 abbrev pub with_joined : List Item → Item → List Item
 with_joined [] y = y ∷ []
 with_joined (x ∷ []) y = if (x.word == 0) && (y.word == 0) then record x { last = y.last } ∷ [] else x ∷ y ∷ []
@@ -28,6 +28,6 @@ abbrev pub cut_item : ℕ → ℕ → List Item → List Item
 cut_item begin first [] = []
 cut_item begin first (x ∷ items) = if nat_lt begin first then record x { last = first - 1 } ∷ [] else []
 
--- what stands below `first` of items, the first of which begins at `min`
+-- what items have below `first`, if the first of them begins at `min`
 abbrev pub items_below : ℕ → List Item → ℕ → List Item
 items_below min items first = take (slot_reaching items first) items ++ cut_item (first_of min items (slot_reaching items first)) first (drop (slot_reaching items first) items)

@@ -6,8 +6,8 @@ ghost use Rattle.mt_leaf.specs.Cuts.{word_of, IsCut, IsCutTowards, IsEnd, IsLate
 use arrayvec::ArrayVec;
 use mt_layout::{Item, Run};
 
-/// Where two rows of a level are to meet: where the first has as few items as may be, at the half, or where the last has
-/// as few as may be.
+/// Where two nodes of a level are to meet: where the first has as few items as may be, at the half, or where the last has as
+/// few as may be.
 #[derive(Clone, Copy, Debug, PartialEq, Eq)]
 pub enum Towards {
     First,
@@ -15,9 +15,9 @@ pub enum Towards {
     Last,
 }
 
-/// The ends of the fewest rows that the items of a level can be cut into: `most` items in a row at the most, `least` at
-/// the least, and no leaf but the last that ends with a hole. They are one row where `most` items or fewer are there. Two
-/// rows meet at the half.
+/// The ends of the fewest nodes that the items of a level can be cut into: `most` items in a node at most, `least` at least,
+/// and no leaf but the last that ends with a hole. They are one node where `most` items or fewer are there. Two nodes meet at
+/// the half.
 pub fn cut(items: &Run, most: u32, least: u32, leaf: bool) -> ArrayVec<u32, 3>
     requires some { 1 ≤ length items.now.items }
     requires few { length items.now.items + 3 ≤ 3 * most }
@@ -28,8 +28,8 @@ pub fn cut(items: &Run, most: u32, least: u32, leaf: bool) -> ArrayVec<u32, 3>
     cut_towards(items.as_slice(), most, least, leaf, Towards::Middle)
 }
 
-/// As `cut`, where two rows meet as they are asked to: rows that grow at one end are cut towards it, so that the others
-/// are left nearly full.
+/// As `cut`, where two nodes meet as they are asked to: nodes that grow at one end are cut towards it, so that the others are
+/// left nearly full.
 pub fn cut_towards(
     items: &[Item],
     most: u32,
@@ -60,7 +60,7 @@ pub fn cut_towards(
     ends
 }
 
-/// Where two rows of these items meet, if two rows serve.
+/// Where two nodes of these items meet, if two nodes serve.
 fn meeting_place(items: &[Item], most: u32, least: u32, leaf: bool, towards: Towards) -> u32
     requires room { length items.now ≤ run_room }
     requires more { most < length items.now }
@@ -76,7 +76,7 @@ fn meeting_place(items: &[Item], most: u32, least: u32, leaf: bool, towards: Tow
     }
 }
 
-/// This end, or in a leaf the one before it, so that the row does not end with a hole.
+/// This end, or in a leaf the one before it, so that the node does not end with a hole.
 fn full_end(items: &[Item], end: u32, leaf: bool) -> u32
     requires some { 2 ≤ end }
     requires inside { end < length items.now }
@@ -90,7 +90,7 @@ fn full_end(items: &[Item], end: u32, leaf: bool) -> u32
     }
 }
 
-/// This end, or in a leaf the one behind it, so that the row does not end with a hole.
+/// This end, or in a leaf the next one, so that the node does not end with a hole.
 fn later_end(items: &[Item], end: u32, leaf: bool) -> u32
     requires some { 1 ≤ end }
     requires inside { end < length items.now }

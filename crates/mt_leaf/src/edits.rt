@@ -51,7 +51,7 @@ pub fn edit_into(items: &[Item], min: u64, first: u64, last: u64, entry: u64, ru
     push_joined_all(run, &items[slot_above(items, last)..]);
 }
 
-/// The slot whose entry stands at just `first` to `last`, and none where no entry does. The first item begins at `min`.
+/// The slot whose entry has exactly the indexes `first` to `last`, and none if no entry has. The first item begins at `min`.
 pub fn exact_slot(items: &Run, min: u64, first: u64, last: u64) -> Option<u32>
     requires { RiseFrom min items.now.items }
     ensures { result ≡ exact_slot_of (spans_from min items.now.items) first last }
@@ -66,7 +66,7 @@ pub fn exact_slot(items: &Run, min: u64, first: u64, last: u64) -> Option<u32>
     }
 }
 
-/// Pushes what stands below `first` of these items, the first of which begins at `min`.
+/// Pushes what these items have below `first`. The first item begins at `min`.
 #[tactic(auto, using(crate::proofs::EditSteps::steps))]
 fn push_below(run: &mut Run, items: &[Item], min: u64, first: u64)
     requires some { 1 ≤ length items.now }

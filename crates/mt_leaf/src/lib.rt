@@ -1,4 +1,4 @@
-//! The items of a few leaves: what a store makes of them, and where a level is cut into rows.
+//! The items of a few leaves: what a store makes of them, and where a level is cut into nodes.
 #![tactic(auto)]
 
 mod cuts;

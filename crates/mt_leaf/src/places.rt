@@ -4,8 +4,8 @@ ghost use Rattle.mt_leaf.specs.Places.{slot_reaching, slot_above, first_of};
 
 use mt_layout::Item;
 
-/// The first slot that reaches this index, and the first index of its item. The first item begins at `min`. Where no
-/// item reaches so far it is the slot behind them.
+/// The first slot that reaches this index, and the first index of its item. The first item begins at `min`. If no item reaches
+/// that far, it is the slot after them.
 #[tactic(auto, using(crate::proofs::Slots::slots))]
 pub fn slot_and_first(items: &[Item], min: u64, index: u64) -> (usize, u64)
     requires { RiseFrom min items.now }

@@ -1,4 +1,4 @@
--- What the writer's rows tell: what the pen knows of rows, who calls, the history's records, and the scans.
+-- What the writer's nodes show: what the pen knows of nodes, who calls, the history's records, and the scans.
 -- Source: this project's own.
 use Rattle.std.specs.Prelude.{◌≡◌, ℕ, Some, length}
 use Rattle.mt_base.specs.Passes as known
@@ -14,15 +14,15 @@ caller_of t q = record { table = table_number t; passes = t.shape.passes; pass =
 abbrev pub told_of : Identity → PenPart → known.Pass → Told
 told_of t p q = record { caller = caller_of t q; records = records_of p.history }
 
--- the rows of a pen with which this pass is joined, and which has made no scan
+-- the nodes of a pen with which this handle is joined, and which has made no scan
 abbrev pub sheet_told : Identity → PenPart → known.Pass → Sheet
 sheet_told t p q = record (pen_sheet p) { told = Some (told_of t p q) }
 
--- what the pass knows then
+-- what the handle knows then
 abbrev pub shown_all : PenPart → known.Pass → known.Pass
 shown_all p q = record q { seen = records_of p.history; ended = p.ended }
 
--- the sheet of the rows with the scans that were made
+-- the sheet of the nodes with the scans that were made
 abbrev pub sheet_worked : Identity → PenPart → known.Pass → Scan → ℕ → Sheet
 sheet_worked t p q scan scans = record (sheet_told t p q) { scan = scan; scans = scans }
 
@@ -30,7 +30,7 @@ sheet_worked t p q scan scans = record (sheet_told t p q) { scan = scan; scans =
 abbrev pub unscanned : Sheet → Sheet
 unscanned s = record s { scan = none_open; scans = 0 }
 
--- The pass has seen the whole history of the pen, in which it has these places, and all its calls have ended.
+-- The handle has seen the whole history of the pen, with its own calls in it, and all these calls have ended.
 pub record HasSeenAll (p : PenPart) (q : known.Pass) : Type 0 where
   pub seen : q.seen ≡ records_of p.history
   pub mine : q.mine ≡ known.places q.number q.seen

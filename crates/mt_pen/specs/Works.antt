@@ -1,5 +1,5 @@
--- What the writer's rows keep from call to call, and that they are whole by it: the proof of the law that the trait of rows asks
--- for.
+-- What the writer's nodes keep from call to call, and that this makes them whole: the proof of the law that the trait of nodes
+-- asks for.
 -- Source: this project's own.
 use Rattle.std.proofs.Common.{◌≡◌, ℕ, ◌+◌, ◌/◌, ◌<◌, ◌≤◌, Bool, true, false, List, [], ◌∷◌, length, slice_index, refl, arith}
 use Rattle.mt_pen.specs.Prelude.{kind_width, first_row, most_rows, Life, New, Draft, Live, Dead, Scan, one_if, HasDied, IsWhole, life_of, Shape, PenPart, table_size, IsScanOf, least_number, Identity}
@@ -7,15 +7,15 @@ use Rattle.mt_base.specs.Passes as known
 use Rattle.mt_pen.specs.Scans.{epoch_told, is_loaded}
 use Rattle.mt_pen.specs.Sheets.{sheet_worked}
 
--- The tree opened with few rows: with no more than its map asks for, which is half as many as it has ranges, rounded down, and
+-- The tree opened with few nodes: with at most as many as its map needs, which is half its number of ranges, rounded down, and
 -- two.
 abbrev pub OpensSmall : Shape → Type 0
 OpensSmall shape = shape.opened ≤ length shape.opening / 2 + 2
 
--- Of what the pen knows: there are as many words, lives and numbers of passes as there must be, no row died by a call that was not
--- begun, and the history has the calls that have ended or published. The last scan's least epoch is that of the holder that it
--- told, who was found with a section open; it is the greatest number where it told none. Where scans were made, the last words of
--- sections that were loaded are those of the last scan; where none was, no such word was loaded.
+-- What holds of the pen between calls. There are as many words, lives and numbers of handles as there must be. No node was
+-- retired by a call that was not begun. The history has the calls that have ended or are published. The last scan's least epoch
+-- is that of the holder that it found, whose section was open, and the greatest number if it found none. If scans were made,
+-- the section words loaded last are those of the last scan. If none was made, no such word was loaded.
 pub record IsWorked (p : PenPart) (scan : Scan) (scans : ℕ) : Type 0 where
   pub rows : p.shape.rows ≤ most_rows
   pub words : length p.words ≡ table_size (kind_width p.shape.kind) p.shape.rows

@@ -1,4 +1,4 @@
--- No writer's table, and no seat at a turn. Source: this project's own.
+-- No writer's table, and no seat (token) at a turn. Source: this project's own.
 use Rattle.std.specs.Prelude.{[]}
 use Rattle.atomic_table.specs.declared.badge.Badge.{Badge}
 use Rattle.mt_pen.specs.Prelude.{TurnView, no_shape, Identity}

@@ -1,4 +1,4 @@
-//! The writer's rows, on the table of a shared tree.
+//! The writer's access to the rows (nodes) of a shared tree, on its table of atomic words.
 #![tactic(auto)]
 
 mod rows;

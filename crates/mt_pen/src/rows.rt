@@ -1,4 +1,4 @@
-//! The writer's rows.
+//! The writer's nodes.
 
 ghost use Rattle.std.specs.Prelude.{◌≡◌};
 ghost use Rattle.mt_base.specs.Width.{kind_width};
@@ -12,12 +12,12 @@ use mt_rows::{Place, Rows, Scan};
 use mt_rule::{MtTable, OfWidth, Pass, Pen};
 use std::marker::PhantomData;
 
-/// The rows of a shared tree, for the calls of the pass that is joined with its pen.
+/// The nodes of a shared tree, for the calls of the pass (handle) that is joined with its pen.
 #[derive(Drop)]
 pub struct PenRows<'a, W: Writer, K: OfWidth> {
     table: &'a MtTable,
     pen: Pen,
-    /// The last scan's answer, and how many scans there were since a call was begun.
+    /// What the last scan returned, and how many scans there were since a call was begun.
     scan: Scan,
     scans: u64,
     writer: PhantomData<W>,
@@ -43,7 +43,7 @@ impl<'a, W: Writer, K: OfWidth> PenRows<'a, W, K> {
     ghost use Rattle.mt_pen.specs.Sheets.{sheet_told, shown_all, unscanned, HasSeenAll};
     ghost use Rattle.mt_pen.specs.Works.{IsWorked, OpensSmall};
 
-    /// Joins a pass with the pen of its table, while no call is in flight.
+    /// Joins a handle with the pen of its table. No call may be in flight.
     pub fn new(table: &'a MtTable, mut pen: Pen, pass: Pass) -> PenRows<'a, W, K>
         requires table { identity_of table.now ≡ W.table }
         requires turn { turn_seat pass ≡ W.turn }
@@ -62,8 +62,8 @@ impl<'a, W: Writer, K: OfWidth> PenRows<'a, W, K> {
         PenRows::joined(table, pen)
     }
 
-    /// The rows of a pen with which the pass is joined. They are made behind the loads that join it, and so are not moved across
-    /// these.
+    /// The nodes of a pen with which the handle is joined. They are made after the loads that join it, and so are not moved
+    /// across these.
     fn joined(table: &'a MtTable, pen: Pen) -> PenRows<'a, W, K>
         requires table { identity_of table.now ≡ W.table }
         requires of { IsPenOf W.table pen }
@@ -88,7 +88,7 @@ impl<'a, W: Writer, K: OfWidth> PenRows<'a, W, K> {
         }
     }
 
-    /// Parts the pass from the pen again, while no call is in flight.
+    /// Separates the handle from the pen again. No call may be in flight.
     pub fn end(self) -> (Pen, Pass)
         requires idle { (⟦<PenRows<'a, W, K> as Rows>⟧.sheet self).in_flight ≡ false }
         ensures pen { IsPenOf W.table result.0 }
@@ -103,7 +103,8 @@ impl<'a, W: Writer, K: OfWidth> PenRows<'a, W, K> {
         ensures whole { (extents : ℕ → Extent) × rule.IsSoundPen extents (pen_in result.0) }
 
         // The words of the last scan were loaded last; where none was made no section word was loaded.
-        ensures scanned { 1 ≤ (⟦<PenRows<'a, W, K> as Rows>⟧.sheet self.entry).scans → IsScanOf (pen_in result.0).sections W.table.shape.passes (⟦<PenRows<'a, W, K> as Rows>⟧.sheet self.entry).scan }
+        ensures scanned { 1 ≤ (⟦<PenRows<'a, W, K> as Rows>⟧.sheet self.entry).scans
+            → IsScanOf (pen_in result.0).sections W.table.shape.passes (⟦<PenRows<'a, W, K> as Rows>⟧.sheet self.entry).scan }
         ensures unscanned { (⟦<PenRows<'a, W, K> as Rows>⟧.sheet self.entry).scans ≡ 0 → (pen_in result.0).sections ≡ [] }
     {
         let PenRows { table, mut pen, .. } = self;
@@ -149,7 +150,8 @@ impl<'a, W: Writer, K: OfWidth> Rows for PenRows<'a, W, K> {
     fn scan(&mut self) -> Scan
         // As of all rows.
         ensures answer { IsScan (⟦<PenRows<'a, W, K> as Rows>⟧.sheet self.old).shared (⟦<PenRows<'a, W, K> as Rows>⟧.sheet self.old).told result }
-        ensures rest { ⟦<PenRows<'a, W, K> as Rows>⟧.sheet self.new ≡ scanned (⟦<PenRows<'a, W, K> as Rows>⟧.sheet self.old) result (⟦<PenRows<'a, W, K> as Rows>⟧.sheet self.new).cleared }
+        ensures rest { ⟦<PenRows<'a, W, K> as Rows>⟧.sheet self.new
+            ≡ scanned (⟦<PenRows<'a, W, K> as Rows>⟧.sheet self.old) result (⟦<PenRows<'a, W, K> as Rows>⟧.sheet self.new).cleared }
         ensures kept { (⟦<PenRows<'a, W, K> as Rows>⟧.sheet self.old).cleared ≤ (⟦<PenRows<'a, W, K> as Rows>⟧.sheet self.new).cleared }
         ensures cleared { min result.least (⟦<PenRows<'a, W, K> as Rows>⟧.sheet self.old).ended ≤ (⟦<PenRows<'a, W, K> as Rows>⟧.sheet self.new).cleared }
 

@@ -9,7 +9,7 @@ use mt_base::Holder;
 use mt_rows::Scan;
 use mt_rule::{MtTable, Pen};
 
-/// The section word of a pass counts where it is open at an epoch below all so far.
+/// The scan after one more section word. It counts if the section is open at an epoch below all earlier ones.
 fn lesser(pass: u32, word: u64, scan: Scan) -> Scan
     ensures { result ≡ lesser pass word scan }
 {
@@ -23,8 +23,8 @@ fn lesser(pass: u32, word: u64, scan: Scan) -> Scan
     }
 }
 
-/// Loads the section word of each pass in turn. The least epoch at which one is open counts, and of the passes that have it
-/// the first.
+/// Loads the section word of each handle in turn. The result is the least epoch at which a section is open, and the first
+/// handle that has it.
 pub(crate) fn scan_sections(table: &MtTable, pen: &mut Pen) -> Scan
     requires pen { IsPenOf (identity_of table.now) pen.old }
     requires joined { IsJoined pen.old }

@@ -2,8 +2,8 @@
 
 use std::marker::Brand;
 
-/// The table that is written; and of the pass that writes its seat at the turn, and how many steps it has made without the lock. The
-/// writer's rows are generic over it, and so need not be told it: each entry picks it.
+/// The table that is written. And of the handle that writes: its seat (token) at the turn, and how many steps it has made
+/// without the lock. The writer's nodes are generic over this, so it is not passed to them: each entry picks it.
 pub trait Writer {
     ghost table: { Identity };
 
