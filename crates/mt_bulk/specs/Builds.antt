@@ -1,4 +1,4 @@
--- What a bulk build gives, why it refuses, and what it knows of the leaves before their rows are filled.
+-- What a bulk build gives, why it refuses, and what it knows of the leaves before their nodes are filled.
 -- Source: this project's own.
 use Rattle.std.specs.Prelude.{◌≡◌, ◌≢◌, ℕ, ◌+◌, ◌*◌, ◌<◌, ◌≤◌, List, [], ◌∷◌, ◌++◌, Option, Some, None, nat_lt, length, vec_len, vec_capacity, if◌then◌else◌}
 use Rattle.std.specs.List.{flat_map}
@@ -14,7 +14,7 @@ use Rattle.mt_bulk.specs.Chunks.{AreRows, ChunkView, IsLevel, IsFillable, heads_
 use Rattle.mt_bulk.specs.Cuts.{cut, ends_from, inner_size}
 use Rattle.mt_bulk.specs.Items.{misplaced}
 
--- the refusal of ranges in good order, where their tree has more rows than can be named
+-- the refusal of ranges in good order, where their tree has more nodes than can be named
 abbrev pub too_many : ℕ → Option BulkError
 too_many rows = if nat_lt most_rows rows then Some (errors.TooMany rows) else None
 
@@ -26,7 +26,8 @@ refused_by None rows = too_many rows
 unfoldable pub refusal : Kind → List Range → Option BulkError
 refusal kind ranges = refused_by (misplaced kind ranges) (rows_in kind ranges)
 
--- The rows have just the words of `bulk`, and no call was begun; the words are lawful, and stand for the ranges.
+-- The nodes have exactly the words of `bulk`, and no call was begun. The words are well-formed (well-formed) and represent the
+-- ranges.
 pub record IsBuilt (kind : Kind) (ranges : List Range) (s : Sheet) : Type 0 where
   pub words : IsMadeOf (kind_width kind) (bulk kind ranges).root (bulk kind ranges).words s
   pub lawful : IsLawfulOf s.tree kind
@@ -41,15 +42,15 @@ whole_of l = record { tree = l.kind; kind = Leaf; number = first_row; items = l.
 abbrev pub built_of : Leaves → Built
 built_of l = bulk l.kind l.ranges.now
 
--- all leaves of these items, with these ends and parent words, as one chunk, and what stands above them
+-- all leaves of these items, with these ends and parent words, as one chunk, and the levels above it
 abbrev pub leaf_view : Kind → List Item → List ℕ → List ℕ → ChunkView
 leaf_view kind items ends parents = record { tree = kind; kind = Leaf; number = first_row; items = items; from = 0; ends = ends; parents = parents }
 
 abbrev pub above_leaves : Kind → List Item → List ℕ → List ℕ → Built
 above_leaves kind items ends parents = levels_built kind (inner_kind kind) (first_row + length ends) (heads_in (leaf_view kind items ends parents))
 
--- The ranges are in good order, and their tree has so many rows, which can be named. The leaves can be filled, and are the tree alone
--- or with what stands above them.
+-- The ranges are in good order, and their tree has this many nodes, all of which can be named. The leaves can be filled. They
+-- are the whole tree, or it has these levels above them.
 pub record LeafFacts (kind : Kind) (ranges : List Range) (items : List Item) (ends parents : List ℕ) (rows : ℕ) : Type 0 where
   pub good : misplaced kind ranges ≡ None
   pub few : rows ≤ most_rows
@@ -64,7 +65,7 @@ pub record LeafFacts (kind : Kind) (ranges : List Range) (items : List Item) (en
 abbrev pub HasLeafFacts : Leaves → Type 0
 HasLeafFacts l = LeafFacts l.kind l.ranges.now l.items.items l.ends.items l.parents.items l.rows
 
--- how many words the rows of all levels have
+-- how many words the nodes of all levels have
 abbrev pub words_room : Leaves → ℕ
 words_room l = columns (kind_width l.kind) * l.rows
 
@@ -88,33 +89,33 @@ abbrev pub AreLanesFrom : ℕ → List (Lane LeafDesk) → Type 0
 AreLanesFrom first [] = Unit {0}
 AreLanesFrom first (lane ∷ lanes) = (lane.lane ≡ first) × AreLanesFrom (first + 1) lanes
 
--- each of so many workers took both of its turns
+-- each of the `n` workers took both of its turns
 abbrev pub TookTurns : (ℕ → ℕ → Type 0) → ℕ → Type 0
 TookTurns passed workers = (worker turn : ℕ) → worker < workers → turn < 2 → passed worker turn
 
--- what was made at these lanes' desks, one behind another
+-- what the desks (workers) of these lanes made, in their order
 abbrev pub words_made : List (Lane LeafDesk) → List ℕ
 words_made lanes = flat_map (λ l. l.desk.words.items) lanes
 
 abbrev pub heads_made : List (Lane LeafDesk) → List Item
 heads_made lanes = flat_map (λ l. l.desk.heads.items) lanes
 
--- room for all rows is with the first of these lanes: for so many words, and so many items on the level above
+-- the first of these lanes has room for all nodes: for this many words, and for this many items of the level above
 abbrev pub FirstHasRoom : ℕ → ℕ → List (Lane LeafDesk) → Type 0
 FirstHasRoom words heads [] = Unit {0}
 FirstHasRoom words heads (lane ∷ lanes) = (words ≤ vec_capacity lane.desk.words) × (heads ≤ vec_capacity lane.desk.heads)
 
 -- ---- the levels above the leaves, before their items are known
 
--- Inner rows that hold so many items, the first of them with this number: where each ends and the parent word of each, whatever the
--- items, and room for the items that they are on the level above.
+-- Inner nodes for `count` items; the first node has this number. Where each ends and the parent word of each, whatever the
+-- items are, and room for their items on the level above.
 pub record IsLevelOf (tree : Kind) (number count : ℕ) (l : Level) : Type 0 where
   pub ends : (items : List Item) → length items ≡ count → l.ends.items ≡ ends_from 0 (cut (inner_size (inner_slots (kind_width tree) (finds_room tree))) items)
   pub parents : (items : List Item) → length items ≡ length l.ends.items → l.parents.items ≡ parents_over tree (number + length l.ends.items) items
   pub heads : l.heads.items ≡ []
   pub room : vec_len l.heads + length l.ends.items ≤ vec_capacity l.heads
 
--- the levels above so many items, up to that of one row
+-- the levels above this many items, up to that of one node
 abbrev pub AreLevels : Kind → ℕ → ℕ → List Level → Type 0
 AreLevels tree number count [] = ⊥
 AreLevels tree number count (l ∷ levels) = IsLevelOf tree number count l × (length l.ends.items ≢ 1 → AreLevels tree (number + length l.ends.items) (length l.ends.items) levels)
@@ -122,7 +123,7 @@ AreLevels tree number count (l ∷ levels) = IsLevelOf tree number count l × (l
 abbrev pub HavePushed : Kind → ℕ → ℕ → List Level → List Level → Type 0
 HavePushed tree number count before after = (made : List Level) × (after ≡ before ++ made) × AreLevels tree number count made
 
--- what is made behind the workers has its memory: the levels above the leaves, and a table for all rows
+-- what is made after the workers are done has its memory: the levels above the leaves, and a table for all nodes
 pub record IsUpperOf (l : Leaves) (u : Upper) : Type 0 where
   pub levels : length l.ends.items ≢ 1 → AreLevels l.kind (first_row + length l.ends.items) (length l.ends.items) u.levels.items
   pub table : sheet_in u.table ≡ new_sheet (kind_width l.kind) l.rows

@@ -1,4 +1,4 @@
--- A chunk of the rows of a level: what it is given, and what is made of it.
+-- A chunk of the nodes of a level: what it is given, and what it makes.
 -- Source: this project's own.
 use Rattle.std.specs.Prelude.{◌≡◌, ◌≢◌, ℕ, zero, suc, ◌+◌, ◌-◌, ◌*◌, ◌<◌, ◌≤◌, ◌++◌, Any, List, [], ◌∷◌, length, map, take, drop, slice_index}
 use Rattle.std.specs.List.{AllByRecursion}
@@ -6,17 +6,17 @@ use Rattle.mt_bulk.specs.Prelude.{inner_kind, Kind, finds_room, columns, first_r
 use Rattle.mt_bulk.specs.declared.chunks.Chunk.{Chunk}
 use Rattle.mt_bulk.specs.Bulk.{heads, levels_built, words_of}
 
--- the rows of items from a place on that end at these places
+-- the nodes of items from a place on that end at these places
 abbrev pub rows_between : List Item → ℕ → List ℕ → List (List Item)
 rows_between items from [] = []
 rows_between items from (end ∷ ends) = take (end - from) (drop from items) ∷ rows_between items end ends
 
--- the first index behind the items in front of a place
+-- the first index after the items in front of a place
 abbrev pub begins_at : List Item → ℕ → ℕ
 begins_at items zero = 0
 begins_at items (suc at) = slice_index (map (λ x. x.last) items) at + 1
 
--- rows of a level: those with these ends, from this number on, with these parent words
+-- nodes of a level: those with these ends, from this number on, with these parent words
 pub record ChunkView : Type 0 where
   pub tree : Kind
   pub kind : RowKind
@@ -29,12 +29,12 @@ pub record ChunkView : Type 0 where
 abbrev pub view_of : Chunk → ChunkView
 view_of c = record { tree = c.tree; kind = c.kind; number = c.number; items = c.items.now; from = c.from; ends = c.ends.now; parents = c.parents.now }
 
--- where row number `at` of these begins, counted from 0, and the first at 0
+-- where node number `at` of these begins, counted from 0, and the first at 0
 abbrev pub place_at : List ℕ → ℕ → ℕ
 place_at ends zero = 0
 place_at ends (suc at) = slice_index ends at
 
--- the rows of a whole level from the one at a place up to another
+-- the nodes of a whole level from the one at a place up to another
 abbrev pub chunk_part : ChunkView → ℕ → ℕ → ChunkView
 chunk_part c from to = record c { number = c.number + from; from = place_at c.ends from; ends = take (to - from) (drop from c.ends); parents = take (to - from) (drop from c.parents) }
 
@@ -47,7 +47,7 @@ chunk_words c = words_of (kind_width c.tree) c.kind c.parents (chunk_rows c)
 abbrev pub heads_in : ChunkView → List Item
 heads_in c = heads (finds_room c.tree) c.kind (begins_at c.items c.from) c.number (chunk_rows c)
 
--- each row ends behind its begin and among the items, can hold its items, and one of them is an entry or a name
+-- each node ends after its beginning and among the items, can hold its items, and one of them is an entry or a name
 abbrev pub CanFill : Kind → RowKind → List Item → ℕ → List ℕ → Type 0
 CanFill tree kind items from [] = Unit {0}
 CanFill tree kind items from (end ∷ ends) =
@@ -56,7 +56,7 @@ CanFill tree kind items from (end ∷ ends) =
     × Any (λ x. x.word ≢ 0) (take (end - from) (drop from items))
     × CanFill tree kind items end ends
 
--- rows that can be filled: the items rise, and there is a parent word for each row and a number that can be named
+-- nodes that can be filled: the items rise, and there is a parent word for each node and a number that can be named
 pub record AreRows (c : ChunkView) : Type 0 where
   pub rise : RiseFrom 0 c.items
   pub fill : CanFill c.tree c.kind c.items c.from c.ends
@@ -70,13 +70,13 @@ pub record IsFillable (c : ChunkView) (used room heads heads_room : ℕ) : Type 
   pub for_words : used + columns (kind_width c.tree) * length c.ends ≤ room
   pub for_heads : heads + length c.ends ≤ heads_room
 
--- their words, and their items on the level above, stand behind what was there
+-- their words, and their items on the level above, follow what was there
 pub record HasFilled (c : ChunkView) (before after : List ℕ) (heads heads' : List Item) : Type 0 where
   pub words : after ≡ before ++ chunk_words c
   pub above : heads' ≡ heads ++ heads_in c
 
--- Items of inner rows that are to be numbered from here on: they rise, each is named, gaps are told only where rows have them, and
--- there are numbers for the rows and for those above them.
+-- Items of inner nodes that are to be numbered from here on. They rise, each is named, and only nodes with gaps have gaps.
+-- There are enough numbers for these nodes and for those above them.
 pub record IsLevel (tree : Kind) (number : ℕ) (items : List Item) : Type 0 where
   pub some : 1 ≤ length items
   pub rise : RiseFrom 0 items

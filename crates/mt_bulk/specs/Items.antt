@@ -15,14 +15,14 @@ items_between lo hi (r ∷ m) = hole_to lo r.first ++ (record { last = r.last; w
 abbrev pub items_of : Kind → List Range → List Item
 items_of kind m = items_between 0 (greatest_of kind + 1) m
 
--- the first index behind a range that ends here, where there is one
+-- the first index after a range that ends here, if there is one
 abbrev pub low_behind : Option ℕ → ℕ
 low_behind None = 0
 low_behind (Some last) = last + 1
 
 -- ---- the order of ranges
 
--- a range that may not stand behind others that end below `low`
+-- a range that may not follow others that end below `low`
 abbrev pub is_misplaced : Kind → ℕ → Range → Bool
 is_misplaced kind low r = nat_lt r.last r.first || (nat_lt (greatest_of kind) r.last || ((r.entry == 0) || (reserved r.entry || nat_lt r.first low)))
 

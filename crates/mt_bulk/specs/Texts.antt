@@ -1,4 +1,4 @@
--- How it is told why no tree is built of ranges.
+-- How the program says why it builds no tree from ranges.
 -- Source: this project's own.
 use Rattle.std.specs.Prelude.{ℕ, List, ◌++◌, codes}
 use Rattle.std.specs.Fmt.{decimal}

@@ -20,7 +20,7 @@ use std::alloc::Global;
 use std::mem;
 use std::thread::Threads;
 
-/// The rows of the tree that has no range: none.
+/// The nodes of the tree that has no range: none.
 #[tactic(auto, using(crate::proofs::Finished::made_is_built), unfolding(crate::specs::Builds::refusal))]
 fn no_rows(alloc: Global, kind: Kind) -> Result<PlainRows, NoMemory>
     ensures { IfOk result (λ rows. IsBuilt kind [] (sheet_in rows)) }
@@ -28,7 +28,8 @@ fn no_rows(alloc: Global, kind: Kind) -> Result<PlainRows, NoMemory>
     PlainRows::of_words(alloc, width_of(kind), 0, &[])
 }
 
-/// What is made behind the workers, and all memory that it takes: the levels above the leaves, and a table for all rows.
+/// What is made after the workers are done, with all memory that it takes: the levels above the leaves, and a table for all
+/// nodes.
 #[derive(Drop)]
 pub struct Upper {
     pub(crate) levels: Vec<Level>,
@@ -46,10 +47,11 @@ fn upper_of(alloc: Global, leaves: &Leaves) -> Result<Upper, NoMemory>
     Ok(Upper { levels, table })
 }
 
-/// Appends the words of the rows above the leaves, and answers the root word.
+/// Appends the words of the nodes above the leaves, and answers the root word.
 fn raise_all(leaves: &Leaves, levels: &mut [Level], heads: &[Item], words: &mut Vec<u64>) -> u64
     requires leaves { HasLeafFacts leaves.now }
-    requires levels { length leaves.now.ends.items ≢ 1 → AreLevels leaves.now.kind (first_row + length leaves.now.ends.items) (length leaves.now.ends.items) levels.old }
+    requires levels { length leaves.now.ends.items ≢ 1
+        → AreLevels leaves.now.kind (first_row + length leaves.now.ends.items) (length leaves.now.ends.items) levels.old }
     requires heads { heads.now ≡ heads_in (whole_of leaves.now) }
     requires words { words.old.items ≡ chunk_words (whole_of leaves.now) }
     requires room { words_room leaves.now ≤ vec_capacity words.old }
@@ -63,7 +65,7 @@ fn raise_all(leaves: &Leaves, levels: &mut [Level], heads: &[Item], words: &mut 
     raise(leaves.kind, FIRST_ROW + count as u32, heads, levels, words)
 }
 
-/// The rows of the tree whose leaves have these words and are these items on the level above. It takes no memory.
+/// The nodes of the tree whose leaves have these words and are these items on the level above. It takes no memory.
 fn finish(leaves: &Leaves, upper: Upper, heads: &[Item], mut words: Vec<u64>) -> PlainRows
     requires leaves { HasLeafFacts leaves.now }
     requires upper { IsUpperOf leaves.now upper }
@@ -81,7 +83,7 @@ fn finish(leaves: &Leaves, upper: Upper, heads: &[Item], mut words: Vec<u64>) ->
     table
 }
 
-/// Room for a worker's own rows; the first has room for all.
+/// Room for a worker's own nodes; the first has room for all.
 fn room_for(worker: u32, own: usize, all: usize) -> usize
     ensures least { own ≤ result }
     ensures most { result ≤ own + all }
@@ -90,8 +92,8 @@ fn room_for(worker: u32, own: usize, all: usize) -> usize
     if worker == 0 { own.max(all) } else { own }
 }
 
-/// A lane with one step, at whose desk the leaves from a place up to another are to be filled. The first one's room is for all rows
-/// of the tree.
+/// A lane with one step, at whose desk the leaves from a place up to another are to be filled. The first one's room is for all
+/// nodes of the tree.
 fn lay_lane<'a>(
     alloc: Global,
     leaves: &'a Leaves<'a>,
@@ -158,7 +160,7 @@ fn append<T: Copy>(all: &mut Vec<T>, more: &[T])
     };
 }
 
-/// Appends what these workers made, one behind another, where there is room.
+/// Appends what these workers made, in their order, if there is room.
 fn append_all(lanes: &[Lane<LeafDesk<'_>>], words: &mut Vec<u64>, heads: &mut Vec<Item>)
     requires words { vec_len words.old + length (words_made lanes.now) ≤ vec_capacity words.old }
     requires heads { vec_len heads.old + length (heads_made lanes.now) ≤ vec_capacity heads.old }
@@ -172,7 +174,7 @@ fn append_all(lanes: &[Lane<LeafDesk<'_>>], words: &mut Vec<u64>, heads: &mut Ve
     }
 }
 
-/// What the workers made, one behind another, in the room of the first.
+/// What the workers made, in their order, in the room of the first.
 fn gather(alloc: Global, lanes: &mut [Lane<LeafDesk<'_>>]) -> (Vec<u64>, Vec<Item>)
     requires { FirstHasRoom (length (words_made lanes.old)) (length (heads_made lanes.old)) lanes.old }
     ensures words { result.0.items ≡ words_made lanes.old }
@@ -227,7 +229,7 @@ fn fill_alone(alloc: Global, leaves: &Leaves) -> Result<(Vec<u64>, Vec<Item>), N
     Ok((words, heads))
 }
 
-/// The rows of the tree of a kind that has just these ranges, built by so many workers at once, 1 to 16.
+/// Builds the nodes of a tree of this kind that has exactly these ranges, by 1 to 16 workers (threads) at once.
 ///
 /// The words are those of `bulk`, whatever the number of workers. Each worker is a lane of one step, with its two turns of the gate,
 /// for which all memory is taken before the lanes start.

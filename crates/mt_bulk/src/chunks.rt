@@ -1,4 +1,4 @@
-//! A chunk of the rows of a level, and its work: the words of the rows, and their items on the level above.
+//! A chunk of the nodes of a level, and its work: the words of the nodes, and their items on the level above.
 
 ghost use Rattle.std.specs.Prelude.{◌≡◌, ◌≢◌, true, ◌+◌, ◌*◌, ◌-◌, ◌<◌, ◌≤◌, ◌++◌, ◌∷◌, [], Any, length, vec_len, vec_capacity};
 ghost use Rattle.mt_base.specs.Call.{finds_room};
@@ -12,13 +12,13 @@ ghost use Rattle.mt_bulk.specs.Chunks.{AreRows, begins_at, heads_in, view_of, ch
 use mt_base::{Kind, Width, cols, finds_room, width_of};
 use mt_layout::{Item, MOST_WORDS, RowKind, gap_of, name_of, words_of};
 
-/// Rows of a level, one behind another: of the level's items, the place where the first of these rows begins, where each of them
-/// ends, and the parent word of each.
+/// Nodes of a level, one after another. Of the level's items: the place where the first of these nodes begins, where each of
+/// them ends, and the parent word of each.
 #[derive(Clone, Copy)]
 pub struct Chunk<'a> {
     pub tree: Kind,
     pub kind: RowKind,
-    /// The number of the first row.
+    /// The number of the first node.
     pub number: u32,
     pub items: &'a [Item],
     pub from: usize,
@@ -26,7 +26,7 @@ pub struct Chunk<'a> {
     pub parents: &'a [u64],
 }
 
-/// The greatest of the gaps that items tell.
+/// The greatest gap of the items.
 #[tactic(auto, using(crate::proofs::Filling::greatest_next, crate::proofs::Filling::greatest_none))]
 fn greatest_gap(items: &[Item]) -> u64
     ensures { result ≡ defined.greatest_gap items.now }
@@ -38,7 +38,7 @@ fn greatest_gap(items: &[Item]) -> u64
     greatest
 }
 
-/// The longest hole below a row of a tree with gaps.
+/// The longest hole below a node of a tree with gaps.
 fn longest_below(kind: RowKind, first: u64, row: &[Item]) -> u64
     requires rise { RiseFrom first row.now }
     requires entry { Any (λ x. x.word ≢ 0) row.now }
@@ -50,7 +50,7 @@ fn longest_below(kind: RowKind, first: u64, row: &[Item]) -> u64
     }
 }
 
-/// The longest hole below a row, where its tree tells it.
+/// The longest hole below a node, if its tree keeps gaps.
 fn gap_below(gapped: bool, kind: RowKind, first: u64, row: &[Item]) -> u64
     requires rise { RiseFrom first row.now }
     requires entry { Any (λ x. x.word ≢ 0) row.now }
@@ -63,7 +63,7 @@ fn gap_below(gapped: bool, kind: RowKind, first: u64, row: &[Item]) -> u64
     }
 }
 
-/// The index behind one that is not the last.
+/// The index after one that is not the last.
 fn index_behind(last: u64, later: u64) -> u64
     requires { last < later }
     ensures { result ≡ last + 1 }
@@ -72,7 +72,7 @@ fn index_behind(last: u64, later: u64) -> u64
     last + 1
 }
 
-/// The index at which the row begins whose items begin at this place.
+/// The index at which the node begins whose items begin at this place.
 #[tactic(auto, using(crate::proofs::Filling::first_below, crate::proofs::Filling::begins_last))]
 fn first_index(items: &[Item], from: usize) -> u64
     requires inside { from < length items.now }
@@ -85,7 +85,7 @@ fn first_index(items: &[Item], from: usize) -> u64
     index_behind(items[from - 1].last, items[from].last)
 }
 
-/// Appends the words of a row. They are put together in the buffer.
+/// Appends the words of a node. They are put together in the buffer.
 fn push_words(
     width: Width,
     kind: RowKind,
@@ -108,7 +108,7 @@ fn push_words(
     };
 }
 
-/// The last index of a row.
+/// The last index of a node.
 #[tactic(auto, using(mt_layout::proofs::SpanLists::last_ends))]
 fn last_index(row: &[Item], first: u64) -> u64
     requires { 0 < length row.now }
@@ -117,7 +117,7 @@ fn last_index(row: &[Item], first: u64) -> u64
     row[row.len() - 1].last
 }
 
-/// Appends the item that a row is on the level above.
+/// Appends the item that a node is on the level above.
 fn push_head(
     gapped: bool,
     kind: RowKind,
@@ -131,7 +131,9 @@ fn push_head(
     requires rise { RiseFrom first row.now }
     requires entry { Any (λ x. x.word ≢ 0) row.now }
     requires room { vec_len heads.old < vec_capacity heads.old }
-    ensures heads { heads.new.items ≡ heads.old.items ++ record { last = end_of first row.now; word = name_at number kind; gap = defined.gap_below gapped kind first row.now } ∷ [] }
+    ensures heads { heads.new.items ≡ heads.old.items
+        ++ record { last = end_of first row.now; word = name_at number kind; gap = defined.gap_below gapped kind first row.now }
+        ∷ [] }
     ensures len { vec_len heads.new ≡ vec_len heads.old + 1 }
     ensures capacity { vec_capacity heads.new ≡ vec_capacity heads.old }
 {
@@ -142,7 +144,7 @@ fn push_head(
     });
 }
 
-/// The work of one worker: appends the words of the chunk's rows, and their items on the level above, for which there is room.
+/// The work of one worker: appends the words of the chunk's nodes, and their items on the level above, for which there is room.
 pub fn fill_rows(chunk: &Chunk, words: &mut Vec<u64>, heads: &mut Vec<Item>)
     requires rows { AreRows (view_of chunk.now) }
     requires words { vec_len words.old + columns (kind_width chunk.now.tree) * length chunk.now.ends.now ≤ vec_capacity words.old }

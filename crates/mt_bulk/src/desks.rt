@@ -4,7 +4,7 @@ use crate::chunks::{Chunk, fill_rows};
 use mt_lanes::Desk;
 use mt_layout::Item;
 
-/// The desk of a worker: a chunk of the leaves, and room for what is made of it. Its one step fills the chunk's rows.
+/// The desk of a worker: a chunk of the leaves, and room for what it makes. Its one step fills the chunk's nodes.
 #[derive(Drop)]
 pub struct LeafDesk<'a> {
     pub chunk: Chunk<'a>,

@@ -7,10 +7,10 @@ use std::fmt;
 /// Why no tree is built of ranges.
 #[derive(Clone, Copy, Debug, PartialEq, Eq)]
 pub enum BulkError {
-    /// The range at this place, counted from 0, is none of a tree of this kind, or does not stand above the one before it: the first
-    /// that is so.
+    /// The range at this place, counted from 0, is no range of a tree of this kind, or does not begin above the end of the one
+    /// before it. It is the first such range.
     Order { at: u64 },
-    /// The ranges are in good order, and their tree has so many rows, which are more than can be named.
+    /// The ranges are in good order, but their tree would have `rows` nodes, which are more than can be named.
     TooMany { rows: u64 },
     /// Memory ran out.
     NoMemory,

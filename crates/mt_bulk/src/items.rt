@@ -21,7 +21,7 @@ fn begins_behind(before: Option<u64>, first: u64) -> bool
     }
 }
 
-/// Whether a range may not stand behind one that ends at `before`.
+/// Whether a range may not follow one that ends at `before`.
 fn is_misplaced(kind: Kind, before: Option<u64>, range: &Range) -> bool
     ensures { result ≡ defined.is_misplaced kind (low_behind before) range.now }
 {
@@ -32,7 +32,7 @@ fn is_misplaced(kind: Kind, before: Option<u64>, range: &Range) -> bool
         || begins_behind(before, range.first)
 }
 
-/// Appends the hole behind a range that ends at `before`, up to this index, where there is one.
+/// Appends the hole after a range that ends at `before`, up to this index, if there is one.
 fn push_hole(items: &mut Vec<Item>, before: Option<u64>, last: u64)
     requires { vec_len items.old < vec_capacity items.old }
     ensures items { items.new.items ≡ items.old.items ++ hole_to (low_behind before) (last + 1) }
@@ -53,7 +53,8 @@ fn push_hole(items: &mut Vec<Item>, before: Option<u64>, last: u64)
 fn push_range(items: &mut Vec<Item>, before: Option<u64>, range: &Range)
     requires room { vec_len items.old + 1 < vec_capacity items.old }
     requires behind { low_behind before ≤ range.now.first }
-    ensures items { items.new.items ≡ items.old.items ++ (hole_to (low_behind before) range.now.first ++ record { last = range.now.last; word = range.now.entry; gap = 0 } ∷ []) }
+    ensures items { items.new.items ≡ items.old.items
+        ++ (hole_to (low_behind before) range.now.first ++ record { last = range.now.last; word = range.now.entry; gap = 0 } ∷ []) }
     ensures len { vec_len items.new ≤ vec_len items.old + 2 }
     ensures capacity { vec_capacity items.new ≡ vec_capacity items.old }
 {

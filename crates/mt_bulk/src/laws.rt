@@ -24,14 +24,15 @@ pub fn items_stand_for_their_map()
     ensures ranges { (kind : Kind) (m : List Range) → IsMap kind m → flat_map leaf_range (spans_from 0 (items_of kind m)) ≡ m }
 {}
 
-/// Leaves have as many items as a row of a lawful tree, and none but the last ends with a hole.
+/// Leaves have as many items as a node of a well-formed tree, and none but the last ends with a hole.
 pub fn leaves_are_cut()
-    ensures any { (least most : ℕ) → 2 ≤ least → 2 * least + 2 ≤ most → (items : List Item) → Apart (spans_from 0 items) → AreCut least most EndsWithEntry items (cut (leaf_size most) items) }
+    ensures any { (least most : ℕ) → 2 ≤ least → 2 * least + 2 ≤ most → (items : List Item) → Apart (spans_from 0 items)
+        → AreCut least most EndsWithEntry items (cut (leaf_size most) items) }
     ensures wide { (items : List Item) → Apart (spans_from 0 items) → AreCut 6 16 EndsWithEntry items (cut (leaf_size 16) items) }
     ensures narrow { (items : List Item) → Apart (spans_from 0 items) → AreCut 14 32 EndsWithEntry items (cut (leaf_size 32) items) }
 {}
 
-/// Inner rows have as many items as a row of a lawful tree.
+/// Inner nodes have as many items as a node of a well-formed tree.
 pub fn inner_rows_are_cut()
     ensures any { (least most : ℕ) → 2 ≤ least → 2 * least ≤ most + 1 → (items : List Item) → AreCut least most EndsAnyhow items (cut (inner_size most) items) }
     ensures wide { (items : List Item) → AreCut 6 16 EndsAnyhow items (cut (inner_size 16) items) }
@@ -49,8 +50,10 @@ pub fn worked_build()
     ensures rows { rows_in trees.Range worked_ranges ≡ 4 }
 {}
 
-/// The tree that is built of ranges in good order, where it has no more rows than can be named, is lawful and stands for the ranges.
+/// A tree that is built from ranges in good order is well-formed and represents the ranges, if it has no more nodes than can be
+/// named.
 pub fn what_is_built_is_lawful()
     ensures { (tree : Kind) (m : List Range) → misplaced tree m ≡ None → rows_in tree m ≤ most_rows
-        → IsLawfulOf (tree_made (kind_width tree) (bulk tree m).root (bulk tree m).words) tree × (map_by (tree_made (kind_width tree) (bulk tree m).root (bulk tree m).words) ≡ m) }
+        → IsLawfulOf (tree_made (kind_width tree) (bulk tree m).root (bulk tree m).words) tree
+        × (map_by (tree_made (kind_width tree) (bulk tree m).root (bulk tree m).words) ≡ m) }
 {}

@@ -1,4 +1,4 @@
-//! What is known of the leaves of a tree before their rows are filled.
+//! What is known of the leaves of a tree before their nodes are filled.
 
 ghost use Rattle.std.specs.Prelude.{◌≡◌, ◌≢◌, ◌+◌, ◌*◌, ◌<◌, ◌≤◌, ℕ, IfOk, IfErr, None, Some, length, vec_len};
 ghost use Rattle.mt_base.specs.Call.{finds_room};
@@ -22,8 +22,8 @@ use std::alloc::Global;
 /// So many ranges are in no memory.
 const TOO_LONG: usize = 1_000_000_000_000_000;
 
-/// The leaves of the tree of some ranges: their items, where each of them ends, the parent word of each, and how many rows the tree
-/// has.
+/// The leaves of the tree of some ranges: their items, where each of them ends, the parent word of each, and how many nodes the
+/// tree has.
 #[derive(Drop)]
 pub struct Leaves<'a> {
     pub(crate) kind: Kind,
@@ -34,7 +34,7 @@ pub struct Leaves<'a> {
     pub(crate) rows: u64,
 }
 
-/// How many rows a tree with so many leaves has, where they are not too many.
+/// How many nodes a tree with this many leaves has, if they are not too many.
 fn rows_over(kind: Kind, leaves: usize) -> Result<u64, BulkError>
     requires some { 1 ≤ leaves }
     requires room { leaves ≤ 1000000000000000000 }
@@ -49,7 +49,7 @@ fn rows_over(kind: Kind, leaves: usize) -> Result<u64, BulkError>
     Ok(rows)
 }
 
-/// How many items a leaf of a tree of this kind has at the most.
+/// How many items a leaf of a tree of this kind has at most.
 fn leaf_slots(kind: Kind) -> usize
     ensures { result ≡ slots_of (kind_width kind) Leaf }
 {
@@ -67,7 +67,7 @@ fn ordered_items(alloc: Global, kind: Kind, ranges: &[Range]) -> Result<Vec<Item
     items_of(alloc, kind, ranges)
 }
 
-/// How many rows the tree of ranges has whose items are cut into leaves at these ends, where they are not too many.
+/// How many nodes the tree of ranges has whose items are cut into leaves at these ends, where they are not too many.
 fn count_all(kind: Kind, ranges: &[Range], items: &[Item], ends: &[usize]) -> Result<u64, BulkError>
     requires some { 1 ≤ length ranges.now }
     requires room { length items.now ≤ 1000000000000000000 }

@@ -1,4 +1,4 @@
-//! The levels above the leaves: where their rows end, their parent words, how many they are, their room, and their words.
+//! The levels above the leaves: where their nodes end, their parent words, how many they are, their room, and their words.
 
 ghost use Rattle.std.specs.Prelude.{◌≡◌, ◌≢◌, ◌+◌, ◌*◌, ◌<◌, ◌≤◌, ◌++◌, ℕ, List, length, map, IfOk, OnOk, ◌^◌, vec_len, vec_capacity};
 ghost use Rattle.std.specs.List.{range_with_len};
@@ -20,14 +20,14 @@ use mt_layout::{Item, name_of, parent_word, slots};
 use mt_rows::inner_kind;
 use std::alloc::Global;
 
-/// How many items an inner row of a tree of this kind has at the most.
+/// How many items an inner node of a tree of this kind has at most.
 pub(crate) fn inner_slots(tree: Kind) -> usize
     ensures { result ≡ defined.inner_slots (kind_width tree) (finds_room tree) }
 {
     slots(width_of(tree), inner_kind(tree)) as usize
 }
 
-/// How many of so many items the first inner row has.
+/// How many of `count` items the first inner node has.
 fn inner_count(most: usize, count: usize) -> usize
     requires { most ≤ 64 }
     ensures { result ≡ cuts.inner_count most count }
@@ -41,7 +41,7 @@ fn inner_count(most: usize, count: usize) -> usize
     }
 }
 
-/// Where each inner row ends that so many items are cut into.
+/// Where each inner node ends, if `count` items are cut into inner nodes.
 ///
 /// # Errors
 ///
@@ -60,7 +60,7 @@ pub(crate) fn inner_ends(alloc: Global, most: usize, count: usize) -> Result<Vec
     Ok(ends)
 }
 
-/// Appends the parent words of what stands in the first so many slots of a row.
+/// Appends the parent words of the children in the first `count` slots of a node.
 fn push_parents(parents: &mut Vec<u64>, row: u32, count: u32) -> Result<(), NoMemory>
     ensures { OnOk result (parents.new.items ≡ parents.old.items ++ map (parent_at row) (range_with_len 0 count)) }
 {
@@ -70,7 +70,7 @@ fn push_parents(parents: &mut Vec<u64>, row: u32, count: u32) -> Result<(), NoMe
     Ok(())
 }
 
-/// The parent words of so many rows, where the inner rows above them are numbered from `next` on.
+/// The parent words of these nodes, if the inner nodes above them are numbered from `next` on.
 ///
 /// # Errors
 ///
@@ -98,7 +98,7 @@ pub(crate) fn parents_above(
     Ok(parents)
 }
 
-/// How many rows so many rows of a level and those above them are.
+/// How many nodes a level of this many nodes and the levels above it have.
 #[tactic(auto, using(crate::proofs::Counts::half_at_most, crate::proofs::Counts::some_rows))]
 pub(crate) fn count_rows(tree: Kind, level: u64) -> u64
     requires some { 1 ≤ level }
@@ -112,7 +112,7 @@ pub(crate) fn count_rows(tree: Kind, level: u64) -> u64
     level + count_rows(tree, level.div_ceil(inner_slots(tree) as u64))
 }
 
-/// The parent words of so many rows of a level, behind which rows are numbered from `next` on. A row that is alone is the root.
+/// The parent words of the nodes of a level, after which nodes are numbered from `next` on. A node that is alone is the root.
 ///
 /// # Errors
 ///
@@ -133,8 +133,8 @@ pub(crate) fn parents_over(
     parents_above(alloc, next, inner_slots(tree), count)
 }
 
-/// A level of inner rows before its items are known: where its rows end, the parent word of each, and room for the items that they are
-/// on the level above.
+/// A level of inner nodes before its items are known: where its nodes end, the parent word of each, and room for the items that
+/// they are on the level above.
 #[derive(Drop)]
 pub struct Level {
     pub(crate) ends: Vec<usize>,
@@ -142,7 +142,7 @@ pub struct Level {
     pub(crate) heads: Vec<Item>,
 }
 
-/// The level of the inner rows that hold so many items, the first of them with this number.
+/// The level of the inner nodes that hold `count` items; the first node has this number.
 fn level_over(alloc: Global, tree: Kind, number: u32, count: usize) -> Result<Level, NoMemory>
     requires two { 2 ≤ count }
     requires room { number + 2 * count < 2 ^ 32 }
@@ -160,7 +160,7 @@ fn level_over(alloc: Global, tree: Kind, number: u32, count: usize) -> Result<Le
     })
 }
 
-/// Appends the levels above so many items, up to that of one row; the first row has this number.
+/// Appends the levels above `count` items, up to that of one node; the first node has this number.
 fn push_levels(
     alloc: Global,
     tree: Kind,
@@ -181,7 +181,7 @@ fn push_levels(
     push_levels(alloc, tree, number + rows as u32, rows, levels)
 }
 
-/// The levels above so many items, up to that of one row; the first row has this number. One item has none above it.
+/// The levels above `count` items, up to that of one node; the first node has this number. One item has no level above it.
 ///
 /// # Errors
 ///
@@ -203,7 +203,7 @@ pub(crate) fn levels_over(
     Ok(levels)
 }
 
-/// Appends the words of the inner rows that hold these items, and of those above them, and answers the root word.
+/// Appends the words of the inner nodes that hold these items, and of those above them, and answers the root word.
 pub(crate) fn raise(
     tree: Kind,
     number: u32,

@@ -1,4 +1,4 @@
--- The first law that the words of a tree break, in the order of a walk from the root: each row before its children, children
+-- The first law that the words of a tree break, in the order of a walk from the root: each node before its children, children
 -- from the left; and the form of a tree that breaks none.
 -- Source: the kernel's lib/maple_tree.c, mt_validate; the order of the laws is this project's.
 use Rattle.std.specs.Prelude.{ℕ, zero, suc, ◌+◌, ◌==◌, nat_le, map, length, List, [], ◌∷◌, ◌++◌, Option, Some, None, Result, Ok, Err, Bool, if◌then◌else◌}
@@ -9,9 +9,9 @@ use Rattle.mt_check.specs.declared.faults.Fault.{Fault}
 use Rattle.mt_check.specs.declared.faults.Form.{Form}
 use Rattle.mt_check.specs.RowTests.{names_row, has_depth, has_pivots, least_at, has_entries, has_holes, longest_at, has_gaps}
 
--- ---- one row
+-- ---- one node
 
--- how the walk comes to a row: the row whose slot names it, and the parent word of that slot; for the root there is no such row
+-- how the walk reaches a node: the node whose slot names it, and the parent word of that slot; the root has no such node
 pub record Way : Type 0 where
   pub from : ℕ
   pub parent : ℕ
@@ -19,7 +19,7 @@ pub record Way : Type 0 where
 abbrev pub unless : Bool → Law → List Law
 unless holds law = if holds then [] else law ∷ []
 
--- the laws that the row's own words break
+-- the laws that the node's own words break
 abbrev pub broken_in : Tree → ℕ → ℕ → Span → RowKind → List Law
 broken_in t left parent x kind =
     unless (column t.table (row_in x.word) 0 == parent) Parent
@@ -35,7 +35,7 @@ broken_by t left parent x (Some kind) = unless (has_depth (height_in t.table t.r
 abbrev pub at_row : ℕ → List Law → List Fault
 at_row row laws = map (λ law. record { row = row; law = law }) laws
 
--- the faults of a row, but for those of its gaps
+-- the faults of a node, without those of its gaps
 abbrev pub own_faults : Tree → ℕ → Way → Span → List Fault
 own_faults t left way x = at_row way.from (unless (names_row t.gapped t.rows x.word) Name) ++ at_row (row_in x.word) (broken_by t left way.parent x (named_kind x.word))
 
@@ -45,12 +45,12 @@ gaps_by longest t x (Some kind) = unless (has_gaps longest t.table kind x) Gaps
 
 -- ---- the walk
 
--- the faults below rows that stand side by side in the slots of a row, from a slot on
+-- the faults below the nodes that a node's slots name, from one slot on
 abbrev pub faults_below : (Way → Span → List Fault) → ℕ → ℕ → List Span → List Fault
 faults_below faults row slot [] = []
 faults_below faults row slot (x ∷ xs) = faults (record { from = row; parent = parent_at row slot }) x ++ faults_below faults row (slot + 1) xs
 
--- the faults of a row and of those below it
+-- the faults of a node and of those below it
 unfoldable pub faults_at : Tree → ℕ → Way → Span → List Fault
 faults_at t zero way x = own_faults t zero way x
 faults_at t (suc left) way x =
@@ -68,7 +68,7 @@ faults_in t = if t.root == 0 then [] else faults_at t deepest root_way (root_spa
 abbrev pub form_of : Tree → Form
 form_of t = record { height = height_in t.table t.root; rows = length (reached_in t.table t.root); ranges = length (map_in t.table t.root) }
 
--- the first fault, or the form where there is none
+-- the first fault, or the form if there is none
 abbrev pub first_or : List Fault → Form → Result Form Fault
 first_or [] form = Ok form
 first_or (fault ∷ faults) form = Err fault

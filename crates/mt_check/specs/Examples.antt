@@ -1,5 +1,5 @@
--- Trees worked by hand, of both widths: a leaf with one range, an allocation tree of three rows, and what becomes of them by one
--- changed word.
+-- Trees worked by hand, of both widths: a leaf with one range, an allocation tree of three nodes, and what becomes of them by
+-- one changed word.
 -- Source: this project's own.
 use Rattle.std.specs.Prelude.{ℕ, ◌+◌, ◌-◌, ◌*◌, List, [], ◌∷◌, ◌++◌, replicate, slice_set}
 use Rattle.std.specs.List.{range_with_len}
@@ -8,7 +8,7 @@ use Rattle.mt_check.specs.Prelude.{Kind, Range, Alloc, Range32, Alloc32, finds_r
 abbrev top : ℕ
 top = greatest_of Range
 
--- the words of rows from the first on, with as many zeros before them as rows have that are none
+-- the words of nodes from `first_row` on, after as many zeros as come before the first node
 abbrev pub example_tree : Kind → ℕ → ℕ → List ℕ → Tree
 example_tree kind root rows words = record {
   rows = rows;
@@ -24,14 +24,14 @@ with_column t row col word = record t { table = record t.table { words = slice_s
 abbrev pub unused_row : List ℕ
 unused_row = replicate (columns (kind_width Range)) 0
 
--- the range 10 to 19 with the entry 5, in two rows
+-- the range 10 to 19 with the entry 5, in two nodes
 abbrev pub one_leaf : Tree
 one_leaf = example_tree Range 4108 2
     ((1 ∷ 9 ∷ 19 ∷ top ∷ [] ++ replicate 12 0)
     ++ (0 ∷ 5 ∷ [] ++ replicate 14 0)
     ++ unused_row)
 
--- a row with one child, which no root may be
+-- a node with one child, which no root may be
 abbrev pub one_child : Tree
 one_child = example_tree Range 4116 2 ((1 ∷ top ∷ [] ++ replicate 14 0) ++ (4364 ∷ [] ++ replicate 15 0) ++ unused_row)
 
@@ -53,7 +53,7 @@ narrow_top = greatest_of Range32
 abbrev pub narrow_leaf : Tree
 narrow_leaf = example_tree Range32 4108 1 ((1 ∷ 9 ∷ 19 ∷ narrow_top ∷ [] ++ replicate 28 0) ++ (0 ∷ 5 ∷ [] ++ replicate 30 0))
 
--- so many ranges of one index with the entry 4096 from 0 on in one leaf, and thirteen behind them in another, below a root
+-- `n` ranges of one index with the entry 4096 from 0 on in one leaf, and thirteen after them in another, below a root
 abbrev pub narrow_leaves : ℕ → Tree
 narrow_leaves count = example_tree Alloc32 4124 3
     ((1 ∷ (count - 1) ∷ narrow_top ∷ [] ++ replicate 18 0)

@@ -1,4 +1,5 @@
--- What the laws ask of a row of any words, as tests; so many levels may still stand from the row on down, itself counted.
+-- What the laws demand of a node with any words, as tests. `left` is the greatest number of levels from the node down, itself
+-- counted.
 -- Source: the kernel's lib/maple_tree.c, mt_validate and its parts; that a leaf never ends with a hole below the greatest
 -- index, and the least numbers of items, are this project's.
 use Rattle.std.specs.Prelude.{ℕ, zero, suc, ◌+◌, ◌-◌, ◌==◌, ◌&&◌, ◌||◌, not, nat_eq, nat_le, nat_lt, max, map, List, [], ◌∷◌, Option, Some, None, Bool, true, false, if◌then◌else◌}
@@ -6,7 +7,7 @@ use Rattle.std.specs.List.{list_all, list_any, range_with_len}
 use Rattle.std.specs.Cmp.Lexicographic.{pointwise}
 use Rattle.mt_check.specs.Prelude.{Width, reserved, columns, deepest, first_row, RowKind, Leaf, Inner, Gapped, Item, Span, row_in, named_kind, slots_of, least_items, gap_column, longest_in, Table, column, spans_in, items_in, words_in}
 
--- ---- Name: a row of the table, and a leaf or an inner row as the tree has them, with gaps or without
+-- ---- Name: a node of the table, and a leaf or an inner node as the tree has them, with gaps or without
 
 abbrev pub may_stand : Bool → RowKind → Bool
 may_stand gapped Leaf = true
@@ -30,8 +31,8 @@ has_depth height left Leaf = nat_le (depth_at left) deepest && (depth_at left ==
 has_depth height left Inner = nat_le (depth_at left) deepest
 has_depth height left Gapped = nat_le (depth_at left) deepest
 
--- ---- Pivots: they rise from the row's first index on and end at its last, and each column is what the parent word and the
--- items make it, so that unused columns are 0
+-- ---- Pivots: they rise from the node's first index on and end at its last. Each column is what the parent word and the items
+-- make it, so unused columns are 0.
 
 abbrev pub rise_to : ℕ → ℕ → List Item → Bool
 rise_to first last [] = false
@@ -44,7 +45,7 @@ words_of t row = map (column t row) (range_with_len 0 (columns t.width))
 abbrev pub has_pivots : Table → RowKind → Span → Bool
 has_pivots t kind x = rise_to x.first x.last (items_in t kind x) && pointwise nat_eq (words_of t (row_in x.word)) (words_in t kind x)
 
--- ---- Count: a leaf that is the root has an item, an inner root two, and any other row the least number of its kind
+-- ---- Count: a leaf that is the root has an item, an inner root two, and any other node the least number of its kind
 
 abbrev pub least_in_root : RowKind → ℕ
 least_in_root Leaf = 1
@@ -63,7 +64,7 @@ has_entries Gapped items = true
 
 -- ---- Holes: in a leaf no two follow each other, some item is an entry, and none is last but at the greatest index
 
--- whether a hole stands before the items, and whether one may end them
+-- whether a hole comes before the items, and whether they may end with one
 abbrev pub are_apart : Bool → Bool → List Item → Bool
 are_apart before may_end [] = may_end || not before
 are_apart before may_end (x ∷ items) = not (before && (x.word == 0)) && are_apart (x.word == 0) may_end items
@@ -73,7 +74,7 @@ has_holes may_end Leaf items = are_apart false may_end items && list_any (λ x. 
 has_holes may_end Inner items = true
 has_holes may_end Gapped items = true
 
--- ---- Gaps: each gap word of an inner row with gaps is the longest hole below its item
+-- ---- Gaps: each gap word of an inner node with gaps is the longest hole below its item
 
 abbrev pub longest_of : (Span → ℕ) → List Span → ℕ
 longest_of f [] = 0
@@ -85,18 +86,18 @@ longest_by (Some Leaf) leaf inner = leaf
 longest_by (Some Inner) leaf inner = inner
 longest_by (Some Gapped) leaf inner = inner
 
--- the longest hole in the leaves below a row, at most so many levels deep
+-- the longest hole in the leaves below a node, at most this many levels deep
 unfoldable pub longest_at : Table → ℕ → Span → ℕ
 longest_at t zero x = 0
 longest_at t (suc left) x = longest_by (named_kind x.word) (longest_in (spans_in t x)) (longest_of (longest_at t left) (spans_in t x))
 
--- the gap word tells it, in a row with gaps
+-- in a node with gaps, the gap word is this length
 abbrev pub tells_gap : RowKind → ℕ → ℕ → Bool
 tells_gap Leaf gap longest = true
 tells_gap Inner gap longest = true
 tells_gap Gapped gap longest = gap == longest
 
--- from a slot of the row on
+-- from a slot of the node on
 abbrev pub has_gaps_from : (Span → ℕ) → Table → RowKind → ℕ → ℕ → List Span → Bool
 has_gaps_from longest t kind row slot [] = true
 has_gaps_from longest t kind row slot (x ∷ xs) = tells_gap kind (column t row (gap_column (slots_of t.width kind) slot)) (longest x) && has_gaps_from longest t kind row (slot + 1) xs

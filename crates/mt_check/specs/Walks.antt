@@ -1,4 +1,4 @@
--- A walk through a tree: what it knows as it comes to a row, and what it answers.
+-- A walk through a tree: what it knows when it reaches a node, and what it returns.
 -- Source: this project's own.
 use Rattle.std.specs.Prelude.{◌≡◌, ℕ, ◌+◌, ◌-◌, List, [], Option, Some, None, Result, Ok, Err, length, unwrap_or}
 use Rattle.std.specs.List.{slice_get}
@@ -29,33 +29,33 @@ abbrev pub LeadsToDepth : ℕ → ℕ → Option ℕ → Type 0
 LeadsToDepth height here None = height ≡ here
 LeadsToDepth height here (Some depth) = depth ≡ height
 
--- how deep first children lead from a row on
+-- how deep first children lead from a node on
 abbrev pub depth_from : Tree → ℕ → Span → ℕ
 depth_from t left x = deepest - left + height_of t.table left x
 
--- what is known once a row of this kind was entered
+-- what is known once a node of this kind was entered
 abbrev pub depth_known : Option ℕ → ℕ → RowKind → Option ℕ
 depth_known known left Leaf = Some (unwrap_or known (depth_at left))
 depth_known known left Inner = known
 depth_known known left Gapped = known
 
--- ---- rows
+-- ---- nodes
 
 abbrev pub no_item : Item
 no_item = record { last = 0; word = 0; gap = 0 }
 
--- the row keeps all laws that its own words tell
+-- the node keeps all laws that its own words can break
 pub record IsEntered (t : Tree) (visit : Visit) (row : Row) : Type 0 where
   pub named : named_kind visit.span.word ≡ Some row.kind
   pub number : row.number ≡ row_in visit.span.word
   pub items : row.items.items ≡ items_in t.table row.kind visit.span
   pub kept : own_faults t visit.left (way_of visit) visit.span ≡ []
 
--- what stands below a row, itself counted
+-- what is below a node, itself counted
 abbrev pub below_at : Tree → ℕ → Span → Below
 below_at t left x = record { rows = length (rows_of t.table left x); ranges = length (ranges_of t.table left x); longest = longest_at t.table left x }
 
--- the first fault, or what stands below where there is none
+-- the first fault, or, if there is none, what is below the node
 abbrev pub IsFaultOrBelow : List Fault → Below → Result Below Fault → Type 0
 IsFaultOrBelow faults below (Ok found) = (faults ≡ []) × (found ≡ below)
 IsFaultOrBelow faults below (Err fault) = slice_get faults 0 ≡ Some fault

@@ -17,12 +17,13 @@ use mt_rows::Rows;
 /// The parent word of a root.
 const NO_PARENT: u64 = 1;
 
-/// Whether the words with this root word are lawful for a tree of this kind: the tree's form, or the first fault in the order of
-/// a walk from the root, each row before its children, children from the left. Each row is read once.
+/// Whether the words with this root word are well-formed (well-formed) for a tree of this kind. Returns the tree's form, or the
+/// first fault in the order of a walk from the root: each node before its children, children from the left. Each node is read
+/// once.
 ///
 /// # Errors
 ///
-/// The first fault, where the words are not lawful.
+/// The first fault, if the words are not well-formed.
 pub fn check<R: Rows>(rows: &mut R, root: u64, kind: Kind) -> Result<Form, Fault>
     requires { (R.sheet rows.old).tree.table.width ≡ kind_width kind }
     ensures lawful { IsOk result ↔ IsLawfulOf (with_published (R.sheet rows.old).tree Root root) kind }
@@ -59,7 +60,7 @@ pub fn check<R: Rows>(rows: &mut R, root: u64, kind: Kind) -> Result<Form, Fault
     })
 }
 
-/// The form of lawful words.
+/// The form of well-formed words.
 pub fn form_of<R: Rows>(rows: &mut R, kind: Kind) -> Form
     requires { IsLawfulOf (R.sheet rows.old).tree kind }
     ensures form { result ≡ defined.form_of (tree_as kind (R.sheet rows.old).tree) }

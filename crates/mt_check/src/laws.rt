@@ -1,4 +1,4 @@
-//! What the definition of a check comes to. Each law is the contract of a function that does nothing.
+//! What follows from the definition of a check. Each law (lemma) is the contract of a function that does nothing.
 
 ghost use Rattle.std.specs.Prelude.{◌≡◌, Ok, Err, []};
 ghost use Rattle.mt_base.specs.declared.widths.Width.TheVariants.{Long};
@@ -8,7 +8,7 @@ ghost use Rattle.mt_check.specs.declared.faults.Law.TheVariants.{Name, Parent, P
 ghost use Rattle.mt_check.specs.Check.{faults_in, checked};
 ghost use Rattle.mt_check.specs.Examples.{one_leaf, one_child, two_leaves, narrow_leaf, narrow_leaves, with_column};
 
-/// Words have no fault exactly where they are lawful.
+/// Words have no fault exactly if they are well-formed (well-formed).
 pub fn words_without_faults_are_lawful()
     ensures sound { (t : Tree) → faults_in t ≡ [] → IsLawful t }
     ensures complete { (t : Tree) → IsLawful t → faults_in t ≡ [] }

@@ -1,4 +1,4 @@
-//! Whether the words of a tree are lawful, and which law they break first.
+//! Whether the words of a tree are well-formed (well-formed), and which law they break first.
 #![tactic(auto)]
 
 mod checks;

@@ -1,4 +1,4 @@
-//! What the walk reads of one row.
+//! What the walk reads of one node.
 
 ghost use Rattle.std.specs.Prelude.{◌≡◌, ◌+◌, ◌-◌, ◌<◌, ◌≤◌, Some, length, slice_get};
 ghost use Rattle.mt_base.specs.Width.{columns, first_row};
@@ -16,7 +16,7 @@ use mt_rows::{Rows, load_item_of};
 
 pub(crate) type Items = ArrayVec<Item, MOST_SLOTS>;
 
-/// Reads the items of a row of this kind that ends at `last`. Whether they rise from one index to that.
+/// Reads the items of a node of this kind that ends at `last`. Whether they rise from one index to that.
 #[tactic(auto, using(crate::proofs::Loaded::all_read))]
 fn read_items<R: Rows>(
     rows: &mut R,
@@ -48,7 +48,7 @@ fn read_items<R: Rows>(
     false
 }
 
-/// Whether the columns of a row from `from` up to, but without, `end` are 0.
+/// Whether the columns of a node from `from` up to, but without, `end` are 0.
 #[tactic(auto, using(crate::proofs::Unused::one_more_zero, crate::proofs::Unused::one_not_zero, crate::proofs::Unused::all_zero))]
 fn are_zero<R: Rows>(rows: &mut R, row: u32, from: u32, end: u32) -> bool
     requires first { first_row ≤ row }
@@ -65,8 +65,7 @@ fn are_zero<R: Rows>(rows: &mut R, row: u32, from: u32, end: u32) -> bool
     true
 }
 
-/// Whether a row of this kind, whose first slots hold so many items, has 0 in all columns but those of its parent word and of
-/// these items.
+/// Whether a node of this kind with this many items has 0 in all columns except those of its parent word and of these items.
 fn holds_no_more<R: Rows>(rows: &mut R, kind: RowKind, row: u32, count: u32) -> bool
     requires first { first_row ≤ row }
     requires last { row < first_row + (R.sheet rows.old).tree.rows }
@@ -82,7 +81,7 @@ fn holds_no_more<R: Rows>(rows: &mut R, kind: RowKind, row: u32, count: u32) -> 
         && are_zero(rows, row, 2 * slots + count.min(gaps), cols(width))
 }
 
-/// Reads the items of a row of this kind. Whether they rise from one index to another, and no other column holds anything.
+/// Reads the items of a node of this kind. Whether they rise from one index to another, and no other column holds anything.
 pub(crate) fn items_in<R: Rows>(
     rows: &mut R,
     kind: RowKind,
@@ -103,7 +102,7 @@ pub(crate) fn items_in<R: Rows>(
     holds_no_more(rows, kind, row, items.len() as u32)
 }
 
-/// The index behind an item, where another item follows it.
+/// The index after an item that has another item after it.
 fn behind(before: Item, item: Item) -> u64
     requires { before.last < item.last }
     ensures { result ≡ before.last + 1 }
@@ -111,7 +110,7 @@ fn behind(before: Item, item: Item) -> u64
     before.last + 1
 }
 
-/// What stands in a slot of a row with these items, the first of which begins at `first`.
+/// What a node with these items, the first of which begins at `first`, has in a slot.
 pub(crate) fn span_at(items: &[Item], first: u64, slot: usize) -> Span
     requires slot { slot < length items.now }
     requires rise { RiseFrom first items.now }

@@ -1,4 +1,4 @@
-//! The laws that a row's own words keep or break.
+//! The laws that a node's own words keep or break.
 
 ghost use Rattle.std.specs.Prelude.{◌≡◌, ◌+◌, ◌<◌, ◌≤◌, ◌==◌, ◌↔◌, true, false, not, [], Some, IsSome, IfSome, IfErr, OnOk, slice_get};
 ghost use Rattle.std.specs.List.{list_all, list_any};
@@ -23,7 +23,7 @@ fn none_reserved(items: &[Item]) -> bool
     items.iter().all(|item| !is_reserved(item.word))
 }
 
-/// Whether a row has no reserved entry.
+/// Whether a node has no reserved entry.
 fn has_entries(kind: RowKind, items: &[Item]) -> bool
     ensures { result ≡ tests.has_entries kind items.now }
 {
@@ -55,7 +55,7 @@ fn some_entry(items: &[Item]) -> bool
     items.iter().any(|item| item.word != 0)
 }
 
-/// Whether the holes of a leaf stand apart, some item is an entry, and none ends it, unless it may.
+/// Whether the holes of a leaf are apart and some item is an entry. The last item may be a hole only if `may_end` allows it.
 fn has_holes(kind: RowKind, items: &[Item], may_end: bool) -> bool
     ensures { result ≡ tests.has_holes may_end kind items.now }
 {
@@ -65,7 +65,7 @@ fn has_holes(kind: RowKind, items: &[Item], may_end: bool) -> bool
     }
 }
 
-/// The least number of items of a row below which so many levels may stand, itself counted.
+/// The least number of items of a node with at most this many levels from it down, itself counted.
 fn least_at(width: Width, left: u32, kind: RowKind) -> u32
     ensures { result ≡ tests.least_at width left kind }
 {
@@ -78,21 +78,21 @@ fn least_at(width: Width, left: u32, kind: RowKind) -> u32
     }
 }
 
-/// A row and its kind.
+/// A node and its kind.
 #[derive(Clone, Copy)]
 pub(crate) struct Named {
     pub(crate) row: u32,
     pub(crate) kind: RowKind,
 }
 
-/// Whether a row of this kind may stand in a tree of that kind.
+/// Whether a tree of that kind may have a node of this kind.
 fn may_stand(tree: Kind, kind: RowKind) -> bool
     ensures { result ≡ tests.may_stand (finds_room tree) kind }
 {
     kind == RowKind::Leaf || kind == inner_kind(tree)
 }
 
-/// The row that a word names, where it is one of so many rows and may stand in a tree of this kind.
+/// The node that a word names, if it is one of these nodes and its kind may be in a tree of this kind.
 pub(crate) fn row_named(tree: Kind, rows: u64, word: u64) -> Option<Named>
     ensures is { IsSome result ↔ (tests.names_row (finds_room tree) rows word ≡ true) }
     ensures row { IfSome result (λ n. n.row ≡ row_in word) }
@@ -106,7 +106,7 @@ pub(crate) fn row_named(tree: Kind, rows: u64, word: u64) -> Option<Named>
     Some(Named { row, kind })
 }
 
-/// The first law that the items of a row break, where so many levels may stand from the row on down.
+/// The first law that the items of a node break, with at most this many levels from the node down.
 fn check_items(width: Width, kind: RowKind, left: u32, last: u64, items: &[Item]) -> Result<(), Law>
     ensures kept { OnOk result (broken_items width kind left last items.now ≡ []) }
     ensures broken { IfErr result (λ law. slice_get (broken_items width kind left last items.now) 0 ≡ Some law) }
@@ -123,7 +123,8 @@ fn check_items(width: Width, kind: RowKind, left: u32, last: u64, items: &[Item]
     Ok(())
 }
 
-/// Reads the items of a row, or tells the first law that its own words break. From the row on down so many levels may stand.
+/// Reads the items of a node, or returns the first law that its own words break. There are at most this many levels from the
+/// node down.
 pub(crate) fn check_words<R: Rows>(
     rows: &mut R,
     named: Named,

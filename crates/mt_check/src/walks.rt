@@ -1,4 +1,4 @@
-//! The walk through a tree: each row before its children, children from the left.
+//! The walk through a tree: each node before its children, children from the left.
 
 ghost use Rattle.std.specs.Prelude.{◌≡◌, ◌≢◌, ◌==◌, ◌+◌, ◌-◌, ◌^◌, ◌<◌, ◌≤◌, ℕ, true, not, max, Any, Some, OnOk, IfErr, [], slice_get, slice_index_or, length, unwrap_or, filter};
 ghost use Rattle.mt_base.specs.Width.{deepest};
@@ -24,12 +24,12 @@ use mt_rows::Rows;
 pub(crate) struct Walk {
     pub(crate) kind: Kind,
     pub(crate) root: u64,
-    /// The depth of the first leaf, once the walk has come to it.
+    /// The depth of the first leaf, once the walk has reached it.
     pub(crate) leaf_depth: Option<u32>,
 }
 
-/// How the walk comes to a row. So many levels may stand from there on down; the row's name stands in a slot of the row `from`,
-/// and its parent word is to be this one.
+/// How the walk reaches a node: how many levels there may be from it down, the node `from` whose slot names it, and what its
+/// parent word should be.
 #[derive(Clone, Copy)]
 pub(crate) struct Visit {
     pub(crate) left: u32,
@@ -38,8 +38,8 @@ pub(crate) struct Visit {
     pub(crate) span: Span,
 }
 
-/// A row whose own words keep all laws. The children of a row are read into one such record, one after another, so that no record
-/// is cleared or moved for each.
+/// A node whose own words keep all laws. The children of a node are read into one such record, one after another, so that no
+/// record is cleared or moved for each.
 #[derive(Drop)]
 pub(crate) struct Row {
     number: u32,
@@ -47,7 +47,7 @@ pub(crate) struct Row {
     items: Items,
 }
 
-/// What stands below a row: how many rows, itself counted, how many ranges, and the longest hole.
+/// What is below a node: how many nodes, itself counted, how many ranges, and the longest hole.
 #[derive(Clone, Copy)]
 pub(crate) struct Below {
     pub(crate) rows: u64,
@@ -62,7 +62,7 @@ fn count_entries(items: &[Item]) -> u64
     items.iter().filter(|item| item.word != 0).count() as u64
 }
 
-/// What stands in a leaf with these items, the first of which begins at `first`.
+/// What is in a leaf with these items, the first of which begins at `first`.
 fn leaf_below(items: &[Item], first: u64) -> Below
     requires rise { RiseFrom first items.now }
     requires entry { Any (λ x. x.word ≢ 0) items.now }
@@ -76,7 +76,7 @@ fn leaf_below(items: &[Item], first: u64) -> Below
 }
 
 impl Below {
-    /// With what stands below one more child.
+    /// The sum with what is below one more child.
     fn plus(self, child: Below) -> Below
         requires rows { self.rows + child.rows < 2 ^ 64 }
         requires ranges { self.ranges + child.ranges < 2 ^ 64 }
@@ -91,7 +91,7 @@ impl Below {
 }
 
 impl Row {
-    /// Room for a row.
+    /// Room for a node.
     pub(crate) fn new() -> Row {
         Row {
             number: 0,
@@ -100,7 +100,7 @@ impl Row {
         }
     }
 
-    /// How the walk comes from this row to the child in a slot.
+    /// How the walk comes from this node to the child in a slot.
     fn child(&self, visit: Visit, slot: usize) -> Visit
         requires left { 0 < visit.left }
         requires slot { slot < length self.now.items.items }
@@ -117,7 +117,7 @@ impl Row {
         }
     }
 
-    /// Whether the gap word in a slot of this row, where it has gaps, tells the longest hole.
+    /// Whether, in a node with gaps, the gap word of a slot is the length of the longest hole below it.
     fn tells_gap(&self, slot: usize, longest: u64) -> bool
         requires { slot < length self.now.items.items }
         ensures { result ≡ tests.tells_gap self.now.kind (slice_index_or self.now.items.items slot no_item).gap longest }
@@ -130,7 +130,7 @@ impl Row {
 }
 
 impl Walk {
-    /// Whether a row of this kind may stand where so many levels may still come, and a leaf is as deep as the first.
+    /// Whether a node of this kind may be here, with this many levels left, and a leaf is as deep as the first one.
     fn has_depth(&mut self, left: u32, kind: RowKind) -> bool
         requires { left ≤ deepest }
         ensures result { result ≡ tests.has_depth (unwrap_or self.old.leaf_depth (depth_at left)) left kind }
@@ -147,7 +147,7 @@ impl Walk {
         }
     }
 
-    /// Enters a row, or tells the first law that it breaks, but for that of gaps.
+    /// Enters a node, or returns the first law that it breaks, except for that of gaps.
     fn enter<R: Rows>(&mut self, rows: &mut R, visit: Visit, row: &mut Row) -> Result<(), Fault>
         requires left { visit.left ≤ deepest }
         requires depth { let t = tree_from self.old (R.sheet rows.old).tree in LeadsToDepth (height_from t) (depth_from t visit.left visit.span) self.old.leaf_depth }
@@ -187,7 +187,7 @@ impl Walk {
         }
     }
 
-    /// Walks through a row and what stands below it: tells the first law that is broken, or what is there.
+    /// Walks through a node and what is below it. Returns the first law that is broken, or what is there.
     #[cycle(walk)]
     pub(crate) fn check_row<R: Rows>(
         &mut self,
@@ -209,7 +209,7 @@ impl Walk {
         }
     }
 
-    /// Walks through the children of a row, and compares its gap words with the holes that are there.
+    /// Walks through the children of a node, and compares its gap words with the holes that are there.
     #[cycle(walk)]
     fn check_children<R: Rows>(
         &mut self,

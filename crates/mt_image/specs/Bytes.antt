@@ -1,4 +1,4 @@
--- An image of a tree: its kind, the number of its rows, its root word and the words of its rows, as bytes.
+-- An image of a tree: its kind, the number of its nodes, its root word and the words of its nodes, as bytes.
 -- Source: this project's own.
 use Rattle.std.specs.Prelude.{ℕ, ◌*◌, List, ◌∷◌, ◌++◌, codes, drop}
 use Rattle.std.specs.List.{flat_map}
@@ -17,11 +17,11 @@ kind_code kinds.Alloc32 = 3
 abbrev pub tree_with_words : Kind → ℕ → ℕ → List ℕ → Rooted
 tree_with_words kind rows root words = record { rows = rows; table = record { width = kind_width kind; words = words }; root = root }
 
--- the words of the rows: all of the table but those before the first row
+-- the words of the nodes: all of the table but those before the first node
 abbrev pub words_of : Rooted → List ℕ
 words_of t = drop (columns t.table.width * first_row) t.table.words
 
--- behind a text each number has 8 bytes, the lowest first
+-- after a text each number has 8 bytes, the lowest first
 abbrev pub image_parts : Kind → ℕ → ℕ → List ℕ → List ℕ
 image_parts kind rows root words = codes "mtimage1" ++ flat_map (to_le_bytes w64) (kind_code kind ∷ (rows ∷ (root ∷ words)))
 

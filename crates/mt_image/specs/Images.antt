@@ -5,7 +5,7 @@ use Rattle.mt_image.specs.Prelude.{Kind, Range, IsCopy, map_by, Rooted}
 use Rattle.mt_image.specs.Bytes.{image_of}
 use Rattle.mt_image.specs.Orders.{IsGood}
 
--- a copy of the tree, which stands for the same map, and whose rows are in the order of the walk
+-- a copy of the tree that represents the same map, with its nodes in the order of the walk
 pub record IsOrderedCopy (kind : Kind) (t t' : Rooted) : Type 0 where
   pub good : IsGood kind t'
   pub copied : IsCopy t t'

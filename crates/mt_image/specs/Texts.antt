@@ -1,4 +1,4 @@
--- How it is told why bytes are no image.
+-- How the program says why bytes are no image.
 -- Source: this project's own.
 use Rattle.std.specs.Prelude.{ℕ, List, ◌++◌, codes}
 use Rattle.std.specs.Fmt.{decimal}

@@ -13,7 +13,7 @@ use std::alloc::Global;
 /// An image begins with this text.
 pub(crate) const TEXT: [u8; 8] = *b"mtimage1";
 
-/// Behind so many bytes the words of the rows begin.
+/// How many bytes come before the words of the nodes.
 pub(crate) const HEAD: usize = 32;
 
 /// The number of a kind.

@@ -10,14 +10,14 @@ use std::fmt;
 /// Why bytes are no image of a tree.
 #[derive(Clone, Copy, Debug, PartialEq, Eq)]
 pub enum ImageError {
-    /// There are `got` bytes, and an image of so many rows has `want`; where they are fewer than 32, any image has `want` at the
-    /// least.
+    /// There are `got` bytes, and an image of this many nodes has `want`. If there are fewer than 32, any image has at least
+    /// `want`.
     Length { want: u64, got: u64 },
-    /// The text, the kind or the number of rows that begins at this byte is none of an image.
+    /// The text, the kind or the number of nodes that begins at this byte is not one that an image has.
     Head { at: u64 },
-    /// The words of the row break this law, the first in the order of the walk.
+    /// The words of the node break this law, the first in the order of the walk.
     Broken { row: u32, law: Law },
-    /// The row is the least that is not at its place of the walk.
+    /// The node is the least that is not at its place of the walk.
     Stray { row: u32 },
     /// Memory ran out.
     NoMemory,

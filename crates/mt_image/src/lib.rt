@@ -1,4 +1,4 @@
-//! Images of trees: the rows of a tree as bytes, in the order of a walk, and read back.
+//! Images of trees: the nodes of a tree as bytes, in the order of a walk, and read back.
 #![tactic(auto)]
 
 mod bytes;

@@ -31,7 +31,7 @@ fn kind_numbered(number: u64) -> Option<Kind>
     KINDS.iter().copied().find(|kind| code_of(*kind) == number)
 }
 
-/// How many bytes an image of so many rows has.
+/// How many bytes an image of this many nodes has.
 fn length_for(kind: Kind, rows: u64) -> u64
     requires { rows ≤ most_rows }
     ensures { result ≡ image_length kind rows }
@@ -39,7 +39,7 @@ fn length_for(kind: Kind, rows: u64) -> u64
     HEAD as u64 + 8 * (rows * cols(width_of(kind)) as u64)
 }
 
-/// Whether the rows of an image of this kind are few enough, and its length is that of so many.
+/// Whether an image of this kind has few enough nodes, and the length of that many.
 fn check_length(bytes: &[u8], kind: Kind) -> Result<(), ImageError>
     requires { 32 ≤ length bytes.now }
     ensures ok { IfOk result (λ _. defined.image_of_kind bytes.now (Some kind) ≡ behind_head bytes.now kind) }
@@ -60,7 +60,7 @@ fn check_length(bytes: &[u8], kind: Kind) -> Result<(), ImageError>
     }
 }
 
-/// Whether the walk comes to this row, counted from the first, at its place.
+/// Whether the walk reaches this node, counted from the first, at its place.
 fn is_at_place(walk: &[u32], at: u32) -> bool
     requires { at < most_rows }
     ensures { IsTrue result ↔ (slice_get walk.now at ≡ Some (first_row + at)) }
@@ -71,7 +71,7 @@ fn is_at_place(walk: &[u32], at: u32) -> bool
     }
 }
 
-/// The least of so many rows that is not at its place of a walk.
+/// The least of these nodes that is not at its place in a walk.
 #[tactic(auto, using(crate::proofs::StrayLoop::at_place, crate::proofs::StrayLoop::off_place, crate::proofs::StrayLoop::all_at_place))]
 fn first_stray(walk: &[u32], rows: u32) -> Option<u32>
     requires { rows ≤ most_rows }
@@ -85,7 +85,7 @@ fn first_stray(walk: &[u32], rows: u32) -> Option<u32>
     None
 }
 
-/// The words of a table: so many zeros, and then so many numbers of an image.
+/// The words of a table: first zeros, and then numbers of an image.
 fn table_words(
     alloc: Global,
     bytes: &[u8],
@@ -147,7 +147,7 @@ fn read_words(alloc: Global, bytes: &[u8], kind: Kind) -> Result<Vec<u64>, NoMem
     table_words(alloc, bytes, columns * FIRST_ROW as usize, rows * columns)
 }
 
-/// The rows of an image of this kind, whose words these are.
+/// The nodes of an image of this kind, whose words these are.
 fn make_rows(alloc: Global, kind: Kind, root: u64, words: &[u64]) -> Result<PlainRows, NoMemory>
     requires size { columns (kind_width kind) * first_row ≤ length words.now }
     requires whole { length (drop (columns (kind_width kind) * first_row) words.now) % columns (kind_width kind) ≡ 0 }
@@ -159,7 +159,7 @@ fn make_rows(alloc: Global, kind: Kind, root: u64, words: &[u64]) -> Result<Plai
     PlainRows::of_words(alloc, width, root, &words[before..])
 }
 
-/// Whether the words of rows are lawful, and the rows in the order of the walk.
+/// Whether the words of the nodes are well-formed, and the nodes in the order of the walk.
 #[tactic(auto, using(crate::proofs::Judged::told_fault, crate::proofs::Judged::told_walk))]
 fn check_rows(
     alloc: Global,
@@ -169,9 +169,11 @@ fn check_rows(
 ) -> Result<(), ImageError>
     requires width { (sheet_in rows.old).tree.table.width ≡ kind_width kind }
     requires words { (sheet_in rows.old).tree.table.words ≡ words.now }
-    ensures ok { IfOk result (λ _. lawful (record { kind = kind; tree = (sheet_in rows.old).tree }) (checked (tree_as kind (sheet_in rows.old).tree)) ≡ Ok (record { kind = kind; tree = (sheet_in rows.old).tree })) }
+    ensures ok { IfOk result (λ _. lawful (record { kind = kind; tree = (sheet_in rows.old).tree }) (checked (tree_as kind (sheet_in rows.old).tree))
+        ≡ Ok (record { kind = kind; tree = (sheet_in rows.old).tree })) }
     ensures laws { IfOk result (λ _. IsLawfulOf (sheet_in rows.old).tree kind) }
-    ensures err { IfErr result (λ e. e ≢ ImageError.NoMemory → lawful (record { kind = kind; tree = (sheet_in rows.old).tree }) (checked (tree_as kind (sheet_in rows.old).tree)) ≡ Err e) }
+    ensures err { IfErr result (λ e. e ≢ ImageError.NoMemory
+        → lawful (record { kind = kind; tree = (sheet_in rows.old).tree }) (checked (tree_as kind (sheet_in rows.old).tree)) ≡ Err e) }
     ensures rest { OnlyReads (sheet_in rows.old) (sheet_in rows.new) }
 {
     let root = rows.root();
@@ -183,7 +185,7 @@ fn check_rows(
     }
 }
 
-/// The kind and the rows of an image. No call of the rows was begun, and those that the walk comes to are live.
+/// The kind and the nodes of an image. No call of the nodes was begun, and those that the walk reaches are live.
 ///
 /// # Errors
 ///

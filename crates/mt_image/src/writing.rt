@@ -19,13 +19,13 @@ use std::alloc::Global;
 use std::marker::Brand;
 use std::sync::ledger::{Blank, Ledger};
 
-/// Does nothing: it tells the proof that words are numbers of 64 bits.
+/// Does nothing at run time: it shows the prover that words are numbers of 64 bits.
 fn tell_fit(words: &[u64])
     ensures { AllByRecursion (λ n. n < 2 ^ 64) words.now }
 {}
 
-/// A copy of a tree in just as many rows as it has in use, in the order of the walk: the words of the copy's table, and its root
-/// word.
+/// A copy of a tree in just as many nodes as it has in use, in the order of the walk: the words of the copy's table, and its
+/// root word.
 fn copy_in_order<R: Rows, L: Ledger>(
     blank: Blank,
     alloc: Global,
@@ -50,7 +50,7 @@ fn copy_in_order<R: Rows, L: Ledger>(
     Ok((words, root))
 }
 
-/// The image of a tree of this kind with so many rows and this root word, whose table has these words.
+/// The image of a tree of this kind with this many nodes and this root word, whose table has these words.
 fn image_bytes(
     alloc: Global,
     kind: Kind,
