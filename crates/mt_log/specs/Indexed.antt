@@ -1,4 +1,4 @@
--- A table from names to kinds as the list of trees that it stands for.
+-- A table from names to kinds, as the list of trees that it represents.
 -- Source: this project's own.
 use Rattle.std.specs.Prelude.{ℕ, List}
 use Rattle.mt_log.specs.Prelude.{Kind}

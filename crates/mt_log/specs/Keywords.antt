@@ -1,4 +1,4 @@
--- The keywords, and the word that stands for each.
+-- The keywords, and the word of each.
 -- Source: this project's own, the language of logs.
 use Rattle.std.specs.Prelude.{ℕ, List, [], ◌∷◌, Option, codes}
 use Rattle.std.specs.List.{find}

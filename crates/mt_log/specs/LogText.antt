@@ -49,13 +49,13 @@ item_fields names (Scan tree index max count) = codes "scan" ∷ tree_name names
 abbrev pub line_text : List (List ℕ) → Item → List ℕ
 line_text names item = join_with_byte 32 (item_fields names item) ++ 10 ∷ []
 
--- the names of the declared trees behind a line
+-- the names of the declared trees after a line
 abbrev pub names_after : List (List ℕ) → Item → List (List ℕ)
 names_after names (Tree name kind) = names ++ name ∷ []
 names_after names (Dup from name) = names ++ name ∷ []
 names_after names item = names
 
--- these lines behind the line of this number: in front of each a blank line for each number that is left out
+-- these lines after the line with this number; each is preceded by a blank line for each number that is left out
 abbrev pub lines_text : List (List ℕ) → ℕ → List Line → List ℕ
 lines_text names number [] = []
 lines_text names number (line ∷ lines) = replicate (line.number - number - 1) 10 ++ (line_text names line.item ++ lines_text (names_after names line.item) line.number lines)

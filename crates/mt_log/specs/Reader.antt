@@ -9,7 +9,7 @@ use Rattle.mt_log.specs.Phases.{IsInPlace, stepped_from}
 use Rattle.mt_log.specs.Reading.{ReadSoFar, most_scan_steps, declared_place, scan_steps_of}
 use Rattle.mt_log.specs.Trees.{IsReadable, NamesBelow, most_trees, trees_of}
 
--- the least number of a line behind these, where it was this one before them
+-- the least number of a line after these, if it was this one before them
 abbrev pub least_behind : ℕ → List Line → ℕ
 least_behind least [] = least
 least_behind least (line ∷ lines) = least_behind (line.number + 1) lines
@@ -20,14 +20,14 @@ pub record IsSoundReading (read : ReadSoFar) : Type 0 where
   pub stepped : stepped_from false read.lines ≡ read.stepped
   pub known : map (λ d. d.tree) (trees_of read.lines) ≡ read.trees
 
--- a line that declares a tree stands behind fewer than there may be, and its name is a new one
+-- a line that declares a tree has fewer than the greatest number of trees before it, and its name is new
 abbrev pub HasTreeRoom : List KnownTree → Item → Type 0
 HasTreeRoom trees (Tree name kind) = (length trees < most_trees) × (declared_place trees name ≡ None)
 HasTreeRoom trees (Dup from name) = (length trees < most_trees) × (declared_place trees name ≡ None)
 HasTreeRoom trees item = Unit {0}
 
--- A line that says this may follow: the trees that it names are declared, it stands in its place, there is room for what it
--- declares, and its steps, if it is a scan, are no more than the scans before it have left.
+-- A line that says this may follow. The trees that it names are declared, it is in its place, and there is room for the tree
+-- that it declares. If it is a scan, its steps are no more than the scans before it have left.
 pub record MayFollow (read : ReadSoFar) (item : Item) : Type 0 where
   pub named : NamesBelow (length read.trees) item
   pub placed : IsInPlace read.stepped item

@@ -66,11 +66,11 @@ as_lane (Err other) = Err why.LaneNo
 unfoldable pub lane_number_read : List ℕ → Result ℕ Why
 lane_number_read field = as_lane (number_read (2 ^ 64 - 1) field)
 
--- where the tree of this name stands, where these are declared
+-- the place of the tree with this name among the declared ones
 abbrev pub declared_place : List KnownTree → List ℕ → Option ℕ
 declared_place trees name = position (bytes_eq name) (map (λ tree. tree.name) trees)
 
--- the tree that stands at a place: its number and its kind
+-- the tree at a place: its number and its kind
 abbrev pub tree_at : List KnownTree → ℕ → Option NumberedTree
 tree_at trees place = option_map (λ tree. record { number = place; kind = tree.kind }) (slice_get trees place)
 
@@ -92,8 +92,8 @@ all_kinds = kinds.Range ∷ kinds.Alloc ∷ kinds.Range32 ∷ kinds.Alloc32 ∷ 
 unfoldable pub kind_read : List ℕ → Result Kind Why
 kind_read field = ok_or (find (λ kind. bytes_eq field (kind_text kind)) all_kinds) why.BadKind
 
--- what was read so far: the declared trees, whether a step of this phase stands there, the sum of the counts of all
--- scans, the lines that say something, and the number of the next line
+-- what was read so far: the declared trees, whether a step of this phase was read, the sum of the counts of all scans, the
+-- lines that say something, and the number of the next line
 pub record ReadSoFar : Type 0 where
   pub trees : List KnownTree
   pub stepped : Bool
@@ -106,9 +106,9 @@ pub record ReadSoFar : Type 0 where
 unfoldable pub keyword_read : List ℕ → Result Keyword Why
 keyword_read word = ok_or (named word keywords) why.Unknown
 
--- ---- the fields behind a line's word, tested one by one from the left, where their number is right
+-- ---- the fields after a line's word, tested one by one from the left, if there are as many as there should be
 
--- a line that stands before the first step of its phase
+-- a line that has to come before the first step of its phase
 unfoldable pub before_steps : ReadSoFar → Result (Unit {0}) Why
 before_steps r = if r.stepped then Err why.Order else Ok tt
 
@@ -116,7 +116,7 @@ before_steps r = if r.stepped then Err why.Order else Ok tt
 unfoldable pub room_for_tree : ReadSoFar → Result (Unit {0}) Why
 room_for_tree r = if nat_lt (length r.trees) most_trees then Ok tt else Err why.Trees
 
--- all scans of a log have so many steps at the most, by their counts
+-- the greatest number of steps of all scans of a log, by their counts
 abbrev pub most_scan_steps : ℕ
 most_scan_steps = 1000000
 
@@ -151,7 +151,7 @@ check_item r (name ∷ []) = do
   Ok (Check tree.number)
 check_item r fields = Err why.Fields
 
--- N: the lane of the steps behind it
+-- N: the lane (thread) of the steps after it
 unfoldable pub lane_item : List (List ℕ) → Result Item Why
 lane_item (lane ∷ []) = do
   n ← lane_number_read lane
@@ -173,7 +173,7 @@ range_item call trees (name ∷ first ∷ last ∷ entry ∷ []) = do
   Ok (Write tree.number (call a b e))
 range_item call trees fields = Err why.Fields
 
--- T SIZE MIN MAX: so many indexes, and where they may lie
+-- T SIZE MIN MAX: how many indexes, and where they may lie
 unfoldable pub area_of : List KnownTree → List ℕ → List ℕ → List ℕ → List ℕ → Result Area Why
 area_of trees name size min max = do
   tree ← tree_read trees name
@@ -213,7 +213,7 @@ bound_item query trees (name ∷ index ∷ bound ∷ []) = do
   Ok (Ask tree.number (query i b))
 bound_item query trees fields = Err why.Fields
 
--- T I MAX N: an index, a bound up from it, and how many steps at the most
+-- T I MAX N: an index, a bound up from it, and how many steps at most
 unfoldable pub scan_item : ReadSoFar → List (List ℕ) → Result Item Why
 scan_item r (name ∷ index ∷ max ∷ count ∷ []) = do
   tree ← tree_read r.trees name
@@ -253,7 +253,7 @@ item_by keyword.Prev r fields = bound_item Prev r.trees fields
 item_by keyword.Rfind r fields = bound_item Rfind r.trees fields
 item_by keyword.Scan r fields = scan_item r fields
 
--- what the fields of a line say, behind what was read
+-- what the fields of a line say, after what was read
 unfoldable pub item_of : ReadSoFar → List (List ℕ) → Result Item Why
 item_of r [] = Err why.Unknown
 item_of r (word ∷ fields) = keyword_read word >>= λ k. item_by k r fields
@@ -261,7 +261,7 @@ item_of r (word ∷ fields) = keyword_read word >>= λ k. item_by k r fields
 abbrev pub fields_of : List ℕ → List (List ℕ)
 fields_of line = slice_split (λ b. b == 32) line
 
--- behind the first line
+-- after the first line
 abbrev pub nothing_read : ReadSoFar
 nothing_read = record { trees = []; stepped = false; scanned = 0; lines = []; next = 2 }
 
@@ -286,8 +286,8 @@ after_line r line =
     if is_skipped line then Ok (after_skipped r)
     else (on_line r.next (item_of r (fields_of line)) >>= λ item. Ok (after_item r item))
 
--- What is read from here on, by the pieces between the LFs: each piece but the last is a line, and behind the last
--- LF nothing may come.
+-- What is read from here on, by the pieces between the LFs. Each piece but the last is a line. After the last LF nothing may
+-- follow.
 abbrev pub after_pieces : ReadSoFar → List (List ℕ) → Result ReadSoFar Fault
 after_pieces r [] = Ok r
 after_pieces r ([] ∷ []) = Ok r
@@ -298,7 +298,7 @@ after_pieces r (line ∷ piece ∷ pieces) = after_line r line >>= λ s. after_p
 abbrev pub version_in : List ℕ → Option ℕ
 version_in header = if bytes_eq header (codes "mtlog 1") then Some 1 else (if bytes_eq header (codes "mtlog 2") then Some 2 else None)
 
--- the log of this version that the pieces behind line 1 are
+-- the log of this version whose lines after line 1 these pieces are
 abbrev pub headed : Option ℕ → List (List ℕ) → Result Log Fault
 headed None pieces = Err (fault_at 1 why.Header)
 headed (Some version) pieces = after_pieces nothing_read pieces >>= λ r. Ok (record { version = version; lines = r.lines })

@@ -9,7 +9,7 @@ fn place(bytes: &[u8], at: u8) -> Option<usize>
     bytes.iter().position(|b| *b == at)
 }
 
-/// What stands before the first byte `at` and what stands after it, if there is one.
+/// What is before the first byte `at` and what is after it, if there is one.
 #[tactic(auto, using(crate::proofs::Parts::cut_once, crate::proofs::Parts::cut_never))]
 pub fn cut(bytes: &[u8], at: u8) -> Option<(&[u8], &[u8])>
     ensures parts { MatchOption result
@@ -21,7 +21,7 @@ pub fn cut(bytes: &[u8], at: u8) -> Option<(&[u8], &[u8])>
     Some((&bytes[..place], &bytes[place + 1..]))
 }
 
-/// Where the first LF stands. It may be far.
+/// Where the first LF is. It may be far away.
 #[tactic(auto, using(crate::proofs::Parts::first_place))]
 fn line_end(bytes: &[u8]) -> Option<usize>
     ensures { result ≡ position (λ b. b == 10) bytes.now }
@@ -29,7 +29,7 @@ fn line_end(bytes: &[u8]) -> Option<usize>
     memchr(b'\n', bytes)
 }
 
-/// What stands before the first LF and what stands after it, if there is one.
+/// What is before the first LF and what is after it, if there is one.
 #[tactic(auto, using(crate::proofs::Parts::cut_once, crate::proofs::Parts::cut_never))]
 pub fn cut_line(bytes: &[u8]) -> Option<(&[u8], &[u8])>
     ensures parts { MatchOption result

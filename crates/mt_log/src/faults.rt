@@ -26,7 +26,7 @@ pub enum Why {
     LaneNo,
     /// The count of a scan is no number, or is 0 or too large.
     Count,
-    /// The line stands behind a step of its phase, and has to stand before it.
+    /// The line comes after a step of its phase, and has to come before it.
     Order,
     /// With this line the log would declare more than 16 trees.
     Trees,

@@ -10,7 +10,7 @@ use arrayvec::ArrayVec;
 /// More fields than a line of any word has.
 const MOST_FIELDS: usize = 8;
 
-/// The fields of a line, as far as they can matter, as a list in place.
+/// The fields of a line, as many of them as can matter, as a list in place.
 pub type Fields<'a> = ArrayVec<&'a [u8], MOST_FIELDS>;
 
 /// Gathers the fields of a line where none are yet. There are many lines to be read, so no list of fields is moved.

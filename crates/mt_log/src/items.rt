@@ -27,7 +27,8 @@ fn range_in(
     entry: &[u8],
 ) -> Result<(u32, Range), Why>
     requires { length trees.now < 2 ^ 32 }
-    ensures item { (call : ℕ → ℕ → ℕ → Call) → range_item call trees.now (name.now ∷ first.now ∷ last.now ∷ entry.now ∷ []) ≡ result_map_both (λ p. items.Write p.0 (call p.1.first p.1.last p.1.entry)) (λ why. why) result }
+    ensures item { (call : ℕ → ℕ → ℕ → Call) → range_item call trees.now (name.now ∷ first.now ∷ last.now ∷ entry.now ∷ [])
+        ≡ result_map_both (λ p. items.Write p.0 (call p.1.first p.1.last p.1.entry)) (λ why. why) result }
     ensures declared { IfOk result (λ p. p.0 < length trees.now) }
 {
     let tree = tree_of(trees, name)?;
@@ -41,7 +42,8 @@ fn range_in(
 #[tactic(auto, unfolding(crate::specs::Reading::range_item))]
 fn range_of(trees: &Trees, fields: &[&[u8]]) -> Result<(u32, Range), Why>
     requires { length trees.now < 2 ^ 32 }
-    ensures item { (call : ℕ → ℕ → ℕ → Call) → range_item call trees.now (map (λ f. f.now) fields.now) ≡ result_map_both (λ p. items.Write p.0 (call p.1.first p.1.last p.1.entry)) (λ why. why) result }
+    ensures item { (call : ℕ → ℕ → ℕ → Call) → range_item call trees.now (map (λ f. f.now) fields.now)
+        ≡ result_map_both (λ p. items.Write p.0 (call p.1.first p.1.last p.1.entry)) (λ why. why) result }
     ensures declared { IfOk result (λ p. p.0 < length trees.now) }
 {
     match fields {
@@ -72,7 +74,8 @@ fn area_of(trees: &Trees, name: &[u8], size: &[u8], min: &[u8], max: &[u8]) -> R
 #[tactic(auto, unfolding(crate::specs::Reading::area_item))]
 fn area_in(trees: &Trees, fields: &[&[u8]]) -> Result<Area, Why>
     requires { length trees.now < 2 ^ 32 }
-    ensures item { (call : ℕ → ℕ → ℕ → Call) → area_item call trees.now (map (λ f. f.now) fields.now) ≡ result_map_both (λ a. items.Write a.tree (call a.size a.min a.max)) (λ why. why) result }
+    ensures item { (call : ℕ → ℕ → ℕ → Call)
+        → area_item call trees.now (map (λ f. f.now) fields.now) ≡ result_map_both (λ a. items.Write a.tree (call a.size a.min a.max)) (λ why. why) result }
     ensures declared { IfOk result (λ area. area.tree < length trees.now) }
 {
     match fields {
@@ -91,7 +94,9 @@ fn entered_area(
     entry: &[u8],
 ) -> Result<(Area, u64), Why>
     requires { length trees.now < 2 ^ 32 }
-    ensures item { (call : ℕ → ℕ → ℕ → ℕ → Call) → area_entry_item call trees.now (name.now ∷ size.now ∷ min.now ∷ max.now ∷ entry.now ∷ []) ≡ result_map_both (λ p. items.Write p.0.tree (call p.0.size p.0.min p.0.max p.1)) (λ why. why) result }
+    ensures item { (call : ℕ → ℕ → ℕ → ℕ → Call)
+        → area_entry_item call trees.now (name.now ∷ size.now ∷ min.now ∷ max.now ∷ entry.now ∷ [])
+        ≡ result_map_both (λ p. items.Write p.0.tree (call p.0.size p.0.min p.0.max p.1)) (λ why. why) result }
     ensures declared { IfOk result (λ p. p.0.tree < length trees.now) }
 {
     let area = area_of(trees, name, size, min, max)?;
@@ -103,7 +108,8 @@ fn entered_area(
 #[tactic(auto, unfolding(crate::specs::Reading::area_entry_item))]
 fn area_and_entry(trees: &Trees, fields: &[&[u8]]) -> Result<(Area, u64), Why>
     requires { length trees.now < 2 ^ 32 }
-    ensures item { (call : ℕ → ℕ → ℕ → ℕ → Call) → area_entry_item call trees.now (map (λ f. f.now) fields.now) ≡ result_map_both (λ p. items.Write p.0.tree (call p.0.size p.0.min p.0.max p.1)) (λ why. why) result }
+    ensures item { (call : ℕ → ℕ → ℕ → ℕ → Call) → area_entry_item call trees.now (map (λ f. f.now) fields.now)
+        ≡ result_map_both (λ p. items.Write p.0.tree (call p.0.size p.0.min p.0.max p.1)) (λ why. why) result }
     ensures declared { IfOk result (λ p. p.0.tree < length trees.now) }
 {
     match fields {
@@ -139,7 +145,8 @@ fn tree_and_index(trees: &Trees, fields: &[&[u8]]) -> Result<(u32, u64), Why>
 #[tactic(auto, unfolding(crate::specs::Reading::bound_item))]
 fn bound_in(trees: &Trees, name: &[u8], index: &[u8], bound: &[u8]) -> Result<(u32, u64, u64), Why>
     requires { length trees.now < 2 ^ 32 }
-    ensures item { (query : ℕ → ℕ → Query) → bound_item query trees.now (name.now ∷ index.now ∷ bound.now ∷ []) ≡ result_map_both (λ p. items.Ask p.0 (query p.1 p.2)) (λ why. why) result }
+    ensures item { (query : ℕ → ℕ → Query)
+        → bound_item query trees.now (name.now ∷ index.now ∷ bound.now ∷ []) ≡ result_map_both (λ p. items.Ask p.0 (query p.1 p.2)) (λ why. why) result }
     ensures declared { IfOk result (λ p. p.0 < length trees.now) }
 {
     let tree = tree_of(trees, name)?;
@@ -152,7 +159,8 @@ fn bound_in(trees: &Trees, name: &[u8], index: &[u8], bound: &[u8]) -> Result<(u
 #[tactic(auto, unfolding(crate::specs::Reading::bound_item))]
 fn tree_and_bound(trees: &Trees, fields: &[&[u8]]) -> Result<(u32, u64, u64), Why>
     requires { length trees.now < 2 ^ 32 }
-    ensures item { (query : ℕ → ℕ → Query) → bound_item query trees.now (map (λ f. f.now) fields.now) ≡ result_map_both (λ p. items.Ask p.0 (query p.1 p.2)) (λ why. why) result }
+    ensures item { (query : ℕ → ℕ → Query)
+        → bound_item query trees.now (map (λ f. f.now) fields.now) ≡ result_map_both (λ p. items.Ask p.0 (query p.1 p.2)) (λ why. why) result }
     ensures declared { IfOk result (λ p. p.0 < length trees.now) }
 {
     match fields {
@@ -316,7 +324,7 @@ fn item_by(keyword: Keyword, reader: &Reader, fields: &[&[u8]]) -> Result<Item, 
     words!(item_in, keyword, reader, trees, fields)
 }
 
-/// What the fields of a line say, behind what was read.
+/// What the fields of a line say, after what was read.
 #[tactic(auto, unfolding(crate::specs::Reading::item_of))]
 pub fn item_of(reader: &Reader, fields: &[&[u8]]) -> Result<Item, Why>
     requires { length reader.now.trees < 2 ^ 32 }

@@ -29,9 +29,9 @@ pub enum Keyword {
     Scan,
 }
 
-/// The words of the language, each beside its keyword and what its line says: the form of its fields, and what is made of
-/// them. They are the last arguments of the macro `then`. The most frequent ones stand first, since a word is looked for in this
-/// order.
+/// The words of the language, each beside its keyword and what its line says: the form of its fields, and what is made from
+/// them. They are the last arguments of the macro `then`. The most frequent ones come first, because a word is looked up in
+/// this order.
 macro_rules! words {
     ($then:ident, $($argument:tt)*) => {
         $then!($($argument)*,

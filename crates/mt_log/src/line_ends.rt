@@ -37,7 +37,7 @@ impl LineEnd {
         }
     }
 
-    /// Begins anew, with the LF of a line.
+    /// Starts again, with the LF of a line.
     #[inline]
     pub fn begin(&mut self)
         ensures { self.new ≡ 10 ∷ [] }

@@ -62,7 +62,7 @@ impl Item {
         }
     }
 
-    /// Whether a step of its phase stands before the next line, where one stands before this line or not.
+    /// Whether a step of its phase comes before the next line, given whether one comes before this line.
     pub fn stepped_after(&self, stepped: bool) -> bool
         ensures { result ≡ stepped_after stepped self.now }
     {

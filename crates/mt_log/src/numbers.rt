@@ -39,7 +39,7 @@ fn value_of(digits: &[u8], radix: u32) -> Option<u64>
     Some(value)
 }
 
-/// The value of decimal digits and one more, if this byte is one, where 18 digits wrote the value at the most.
+/// The value of decimal digits and one more, if this byte is one, where 18 digits wrote the value at most.
 fn with_decimal(value: u64, byte: u8) -> Option<u64>
     requires { value < 10 ^ 18 }
     ensures { SomeIff result ((digit_value byte < 10) × (value * 10 + digit_value byte < 2 ^ 64)) (value * 10 + digit_value byte) }

@@ -19,7 +19,7 @@ use std::alloc::{AllocError, Global};
 /// About as long as a line is.
 const LINE: usize = 40;
 
-/// Puts a number in front, behind a space.
+/// Puts a number in front, after a space.
 fn put_number(line: &mut LineEnd, number: u64)
     requires { length line.old + 21 ≤ ROOM }
     ensures text { line.new ≡ 32 ∷ decimal number ++ line.old }
@@ -80,7 +80,8 @@ fn keyword_of_call(call: Call) -> Keyword
 /// Puts the numbers of a call in front.
 fn put_numbers_of_call(line: &mut LineEnd, call: Call)
     requires { length line.old + 84 ≤ ROOM }
-    ensures text { (name : List ℕ) → slice_index_or (call_fields name call) 0 [] ++ (32 ∷ name ++ line.new) ≡ join_with_byte 32 (call_fields name call) ++ line.old }
+    ensures text { (name : List ℕ) → slice_index_or (call_fields name call) 0 [] ++ (32 ∷ name ++ line.new)
+        ≡ join_with_byte 32 (call_fields name call) ++ line.old }
     ensures long { length line.new ≤ 84 + length line.old }
 {
     match call {
@@ -136,7 +137,8 @@ fn keyword_of_query(query: Query) -> Keyword
 /// Puts the numbers of a query in front.
 fn put_numbers_of_query(line: &mut LineEnd, query: Query)
     requires { length line.old + 42 ≤ ROOM }
-    ensures text { (name : List ℕ) → slice_index_or (query_fields name query) 0 [] ++ (32 ∷ name ++ line.new) ≡ join_with_byte 32 (query_fields name query) ++ line.old }
+    ensures text { (name : List ℕ) → slice_index_or (query_fields name query) 0 [] ++ (32 ∷ name ++ line.new)
+        ≡ join_with_byte 32 (query_fields name query) ++ line.old }
     ensures long { length line.new ≤ 42 + length line.old }
 {
     match query {
@@ -227,7 +229,7 @@ fn put_item(line: &mut LineEnd, names: &[Word], item: &Item)
     }
 }
 
-/// Adds so many blank lines.
+/// Adds `count` blank lines.
 fn push_blanks(text: &mut Vec<u8>, count: u64) -> Result<(), AllocError>
     ensures { OnOk result (text.new.items ≡ text.old.items ++ replicate count 10) }
 {
@@ -272,7 +274,7 @@ fn push_header(text: &mut Vec<u8>, version: u32) -> Result<(), AllocError>
     text.extend_from_slice(line.as_bytes())
 }
 
-/// Adds the lines behind the first.
+/// Adds the lines after the first.
 fn push_lines(alloc: Global, text: &mut Vec<u8>, lines: &[Line]) -> Result<(), AllocError>
     ensures { OnOk result (text.new.items ≡ text.old.items ++ lines_text [] 1 lines.now) }
 {

@@ -34,7 +34,7 @@ impl Reader {
     ghost use Rattle.mt_log.specs.Reader.{MayFollow};
     ghost use Rattle.mt_log.specs.Trees.{most_trees};
 
-    /// A reader behind the first line, with room for so many lines that say something.
+    /// A reader after the first line, with room for `room` lines that say something.
     pub fn new(alloc: Global, room: usize) -> Result<Self, AllocError>
         ensures { IfOk result (λ reader. reader ≡ nothing_read) }
     {
@@ -67,7 +67,7 @@ impl Reader {
         self.lines
     }
 
-    /// Whether a line may stand here that stands before the first step of its phase.
+    /// Whether a line that has to come before the first step of its phase may come here.
     #[tactic(auto, unfolding(crate::specs::Reading::before_steps))]
     pub fn before_steps(&self) -> Result<(), Why>
         ensures place { result ≡ before_steps self.now }
@@ -91,7 +91,7 @@ impl Reader {
         Ok(())
     }
 
-    /// Whether a scan of so many steps may be asked for.
+    /// Whether a scan of `count` steps may be asked for.
     #[tactic(auto, unfolding(crate::specs::Reading::room_for_scan))]
     pub fn room_for_scan(&self, count: u32) -> Result<(), Why>
         ensures room { result ≡ room_for_scan self.now count }

@@ -23,7 +23,7 @@ fn is_skipped(line: &[u8]) -> bool
     matches!(line, [] | [b'#', ..])
 }
 
-/// What a line says, behind what was read.
+/// What a line says, after what was read.
 #[tactic(auto, using(crate::proofs::FirstFields::first_fields))]
 fn said_in(reader: &Reader, line: &[u8]) -> Result<Item, Why>
     requires { length reader.now.trees < 2 ^ 32 }
@@ -57,7 +57,7 @@ fn read_line(reader: &mut Reader, line: &[u8]) -> Result<(), LogError>
     }
 }
 
-/// Reads what stands behind the first line.
+/// Reads the lines after the first.
 #[tactic(auto, using(crate::proofs::Pieces::first_line, crate::proofs::Pieces::one_more, crate::proofs::Pieces::last_piece, crate::proofs::Pieces::left_over, crate::proofs::Soundness::sound_nothing))]
 fn read_lines(alloc: Global, text: &[u8]) -> Result<Reader, LogError>
     ensures lines { ReadsAs (λ r. r) result (after_pieces nothing_read (slice_split (λ b. b == 10) text.now)) }

@@ -4,7 +4,7 @@ use mt_base::Kind;
 use std::alloc::{AllocError, Global};
 use std::marker::Model;
 
-/// A declared tree, as far as later lines need it.
+/// A declared tree, with what later lines need of it.
 #[derive(Clone, Copy)]
 pub struct KnownTree {
     pub name: Word,

@@ -1,5 +1,6 @@
 -- Words at the front of a text stand there in one way.
 use Rattle.mt_told.proofs.Prelude.{◌≡◌, ◌≢◌, ℕ, suc, ◌+◌, ◌-◌, ◌<◌, ◌≤◌, Bool, true, false, List, [], ◌∷◌, ◌++◌, Some, None, codes, length, get_or, take, drop, refl, sym, ap, ◌∙◌, inl, inr, arith, true≢false, ◌==◌, nat_lt, position, if◌then◌else◌, position_or_len, bytes_eq, and_parts, cases_lt, eqb-true, lt-ltb, ltb-true, drop_more, get_or-take, get_or_at, length-append, length-take, take-append-drop, take_rest, position-Some, fails_before_first, bytes_eq-Decides, Kind, kind_text, is_name, are_above, name_is_field, IsKindBefore, IsNameBefore, IsWordBefore, HasNoByte}
+use Rattle.std.proofs.lemmas.Bool.{eq-eqb}
 use Rattle.mt_base.specs.declared.kinds.Kind.TheVariants as kinds
 
 cons_is : (a b : ℕ) (xs ys : List ℕ) → a ≡ b → xs ≡ ys → a ∷ xs ≡ b ∷ ys
@@ -48,7 +49,7 @@ module _ (c : ℕ) where
       let before : k < end = omega (arith, length-take end text, within) in
       let misses : is_it (get_or text k 0) ≡ false = at.2 k before in
       let byte : get_or text k 0 ≡ c = sym (get_or-take end text k 0 before) ∙ here in
-      let hit : is_it (get_or text k 0) ≡ true = ap is_it byte in
+      let hit : is_it (get_or text k 0) ≡ true = ap is_it byte ∙ eq-eqb c c refl in
       (cc))
 
   -- what is before it, and what is behind it
@@ -75,7 +76,7 @@ module _ (c : ℕ) where
       let within : length front < length text = omega (arith, ap length is, length-append front (c ∷ rest)) in
       let misses : is_it (get_or text (length front) 0) ≡ false = none_is text (length front) none within in
       let byte : get_or text (length front) 0 ≡ c = ap (λ (t : List ℕ). get_or t (length front) 0) is ∙ get_or_at front c rest 0 (length front) refl in
-      let hit : is_it (get_or text (length front) 0) ≡ true = ap is_it byte in
+      let hit : is_it (get_or text (length front) 0) ≡ true = ap is_it byte ∙ eq-eqb c c refl in
       (cc)
 
 -- ---- the first space

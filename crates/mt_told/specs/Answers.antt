@@ -1,4 +1,4 @@
--- What a query is told, at the front of a text.
+-- What a query returned, at the beginning of a text.
 -- Source: this project's own.
 use Rattle.std.specs.Prelude.{◌≡◌, ℕ, ◌<◌, ◌^◌, Bool, true, false, List, [], ◌∷◌, ◌++◌, Option, Some}
 use Rattle.mt_told.specs.Prelude.{Range, Query, Load, Answer, shown, shown_range, answer_text}
@@ -15,12 +15,12 @@ entry_line entry = answer_line (answers.Entry entry)
 abbrev pub range_line : Range → List ℕ
 range_line range = answer_line (answers.Range range)
 
--- a load is told the entry alone
+-- a load returns the entry alone
 abbrev pub tells_entry : Query → Bool
 tells_entry (Load index) = true
 tells_entry query = false
 
--- the entry stands in front, before the rest, and no other does
+-- the text begins with this entry, before the rest, and with no other
 pub record IsEntryBefore (text : List ℕ) (entry : ℕ) (rest : List ℕ) : Type 0 where
   pub printed : text ≡ entry_line entry ++ rest
   pub only : (e : ℕ) (r : List ℕ) → e < 2 ^ 64 → text ≡ entry_line e ++ r → (e ≡ entry) × (r ≡ rest)
@@ -30,13 +30,13 @@ pub record IsRangeBefore (text : List ℕ) (range : Range) (rest : List ℕ) : T
   pub printed : text ≡ range_line range ++ rest
   pub only : (found : Range) (r : List ℕ) → IsSmallRange (Some found) → text ≡ range_line found ++ r → (found ≡ range) × (r ≡ rest)
 
--- what this query is told of a range does
+-- the text begins with this answer of a query that found something
 pub record IsFoundBefore (query : Query) (text : List ℕ) (answer : Answer) (rest : List ℕ) : Type 0 where
   pub told : (range : Range) × (shown_range query range ≡ answer)
   pub printed : text ≡ answer_line answer ++ rest
   pub only : (range : Range) (r : List ℕ) → IsSmallRange (Some range) → text ≡ answer_line (shown_range query range) ++ r → (shown_range query range ≡ answer) × (r ≡ rest)
 
--- what this query is told does
+-- the text begins with this answer of the query
 pub record IsAnswerBefore (query : Query) (text : List ℕ) (answer : Answer) (rest : List ℕ) : Type 0 where
   pub told : (value : Option Range) × (shown query value ≡ answer)
   pub printed : text ≡ answer_line answer ++ rest

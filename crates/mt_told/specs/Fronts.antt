@@ -1,10 +1,10 @@
--- What stands at the front of a text: a number and the byte behind it, or a line.
+-- What a text begins with: a number and the byte after it, or a line.
 -- Source: this project's own.
 use Rattle.std.specs.Prelude.{◌≡◌, ◌≢◌, ℕ, ◌<◌, ◌^◌, List, ◌∷◌, ◌++◌}
 use Rattle.std.specs.Fmt.{decimal}
 use Rattle.std.specs.List.{AllByRecursion}
 
--- the number stands in front, before this byte and the rest, and no other number below 2^64 does
+-- the text begins with the number, before this byte and the rest, and with no other number below 2^64
 pub record IsNumberBefore (text : List ℕ) (end number : ℕ) (rest : List ℕ) : Type 0 where
   pub printed : text ≡ decimal number ++ (end ∷ rest)
   pub only : (n : ℕ) (r : List ℕ) → n < 2 ^ 64 → text ≡ decimal n ++ (end ∷ r) → (n ≡ number) × (r ≡ rest)
@@ -17,7 +17,7 @@ HasNoByte byte bytes = AllByRecursion (λ (b : ℕ). b ≢ byte) bytes
 abbrev pub IsInLine : List ℕ → Type 0
 IsInLine bytes = HasNoByte 10 bytes
 
--- the line stands in front, before its LF and the rest, and no other line does
+-- the text begins with this line, before its LF and the rest, and with no other line
 pub record IsLineBefore (text line rest : List ℕ) : Type 0 where
   pub printed : text ≡ line ++ (10 ∷ rest)
   pub inside : IsInLine line

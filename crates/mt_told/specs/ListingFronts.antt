@@ -1,4 +1,4 @@
--- What stands at the front of a listing's text: words, the first line, and lines of ranges.
+-- What the text of a listing begins with: words, the first line, and lines of ranges.
 -- Source: this project's own.
 use Rattle.std.specs.Prelude.{◌≡◌, ℕ, ◌<◌, ◌^◌, true, List, ◌∷◌, ◌++◌, Some}
 use Rattle.std.specs.List.{flat_map}
@@ -34,7 +34,7 @@ pub record IsHead (h : Head) : Type 0 where
   pub named : is_name h.name ≡ true
   pub small : h.count < 2 ^ 64
 
--- a first line stands in front, before the rest
+-- the text begins with the first line of a listing, before the rest
 pub record IsHeadBefore (text : List ℕ) (h : Head) (rest : List ℕ) : Type 0 where
   pub head : IsHead h
   pub printed : text ≡ head_text h ++ rest

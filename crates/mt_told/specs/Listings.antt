@@ -1,4 +1,4 @@
--- Which texts are listings, which ones begin a listing, and at which line it shows that a text is none.
+-- Which texts are listings, which ones begin a listing, and at which line it shows that a text is neither.
 -- Source: this project's own, the form in which its program lists a tree.
 use Rattle.std.specs.Prelude.{◌≡◌, ◌==◌, ℕ, zero, suc, ◌<◌, ◌+◌, ◌^◌, true, List, [], ◌∷◌, ◌++◌, Some, filter, length, if◌then◌else◌}
 use Rattle.std.specs.List.{AllByRecursion}
@@ -21,11 +21,11 @@ pub record IsInForm (l : Listing) : Type 0 where
 abbrev pub IsListing : List ℕ → Type 0
 IsListing text = (l : Listing) × (IsInForm l × (text ≡ listing_text l))
 
--- with more behind it, it would be one
+-- with more bytes after it, the text would be a listing
 abbrev pub BeginsListing : List ℕ → Type 0
 BeginsListing text = (more : List ℕ) × IsListing (text ++ more)
 
--- the first so many lines of a text, each with its LF, if it has one
+-- the first `n` lines of a text, each with its LF, if it has one
 abbrev pub first_lines : ℕ → List ℕ → List ℕ
 first_lines zero text = []
 first_lines (suc n) [] = []
@@ -43,7 +43,7 @@ pub record IsBadAt (text : List ℕ) (line : ℕ) : Type 0 where
   pub with_it : (BeginsListing text → ⊥) → BeginsListing (first_lines line text) → ⊥
   pub before : (n : ℕ) → n < line → BeginsListing (first_lines n text)
 
--- what a refusal tells
+-- what a refusal says
 abbrev pub IsRefusedListing : List ℕ → ListingError → Type 0
 IsRefusedListing text (Bad line) = IsBadAt text line
 IsRefusedListing text NoMemory = Unit {0}

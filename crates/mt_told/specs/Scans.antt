@@ -9,12 +9,12 @@ use Rattle.mt_told.specs.declared.told.What.{What}
 use Rattle.mt_told.specs.declared.told.What.TheVariants.{Got}
 use Rattle.mt_told.specs.Steps.{asked_at}
 
--- the range that is told of, if one is
+-- the range that the line reports, if it reports one
 abbrev pub range_told : What → Option Range
 range_told (Got lo hi query (answers.Range range)) = Some range
 range_told what = None
 
--- these steps are those of a scan of this stretch at this place: from here on, so many at the most
+-- these steps are those of a scan of this stretch at this place: from here on, at most this many
 abbrev pub IsScanFrom : LinePlace → Stretch → ℕ → Option ℕ → List Step → Type 0
 IsScanFrom place scan count at steps = AreScanSteps (asked_at place (Scan place.tree scan.index scan.max scan.count)) place.tree scan.max count at steps
 

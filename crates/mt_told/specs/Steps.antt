@@ -28,12 +28,12 @@ IsOutcomeOf Check (Called n c r) = ⊥
 IsOutcomeOf Check (Looked lo hi k q v) = ⊥
 IsOutcomeOf Check (Counted s ranges) = s ≡ said.Lawful
 
--- what a line says of an outcome, behind its number, and its LF
+-- what a line says of an outcome, after its number, and its LF
 abbrev pub outcome_text : Spelling → Outcome → List ℕ
 outcome_text sp o = spelled sp (said_of o) ++ (10 ∷ [])
 
--- The text begins with what is said of an outcome of this deed, whichever is told so, and goes on with the rest; and any
--- outcome of the deed with which the text begins is told so.
+-- The text begins with what a line says of an outcome of this deed, whichever outcome it reports, and goes on with the rest.
+-- And any outcome of the deed whose line the text begins with is the one that it reports.
 pub record TellsOf (deed : Deed) (text : List ℕ) (what : What) (rest : List ℕ) : Type 0 where
   pub only : (sp : Spelling) (o : Outcome) (after : List ℕ) → IsOutcomeOf deed o → FitsLine sp o → text ≡ outcome_text sp o ++ after → IsSpelledOf sp what o × (rest ≡ after)
   pub its : (sp : Spelling) (o : Outcome) → IsSpelledOf sp what o → IsOutcomeOf deed o
@@ -52,7 +52,7 @@ TellsNothingOf deed text = (sp : Spelling) (o : Outcome) (after : List ℕ) → 
 abbrev pub step_at_place : LinePlace → Outcome → Step
 step_at_place p o = record { line = p.line; lane = p.lane; phase = p.phase; tree = p.tree; outcome = o }
 
--- what is told of it
+-- what the text says of a step at this place
 abbrev pub told_at : LinePlace → What → Told
 told_at p what = record { line = p.line; lane = p.lane; phase = p.phase; tree = p.tree; what = what }
 
@@ -67,8 +67,8 @@ steps_text sp steps = flat_map (spelled_line sp) (map entry_of steps)
 abbrev pub AllFit : Spelling → List Step → Type 0
 AllFit sp steps = All (λ s. FitsLine sp s.outcome) steps
 
--- The text begins with the lines of steps that are done so, whichever are told so, and goes on with the rest; and any steps
--- that are done so with whose lines the text begins are told so.
+-- The text begins with the lines of steps that are done so, whichever steps it reports, and goes on with the rest. And any
+-- steps that are done so, with whose lines the text begins, are the ones that it reports.
 pub record TellsDone (IsDoneSo : List Step → Type 0) (text : List ℕ) (told : List Told) (rest : List ℕ) : Type 0 where
   pub only : (sp : Spelling) (steps : List Step) (after : List ℕ) → IsDoneSo steps → AllFit sp steps → text ≡ steps_text sp steps ++ after → AreSpelled sp told steps × (rest ≡ after)
   pub its : (sp : Spelling) (steps : List Step) → AreSpelled sp told steps → IsDoneSo steps
@@ -80,7 +80,7 @@ pub record TellsDone (IsDoneSo : List Step → Type 0) (text : List ℕ) (told :
 abbrev pub TellsNotDone : (List Step → Type 0) → List ℕ → Type 0
 TellsNotDone IsDoneSo text = (sp : Spelling) (steps : List Step) (after : List ℕ) → IsDoneSo steps → AllFit sp steps → text ≡ steps_text sp steps ++ after → ⊥
 
--- what is told stands at this place
+-- what the text says is of this place
 pub record IsToldAt (place : LinePlace) (t : Told) : Type 0 where
   pub line : t.line ≡ place.line
   pub lane : t.lane ≡ place.lane
@@ -88,7 +88,7 @@ pub record IsToldAt (place : LinePlace) (t : Told) : Type 0 where
   pub tree : t.tree ≡ place.tree
   pub form : HasForm t.what
 
--- the text begins with a line of this deed at this place, which is told so
+-- the text begins with a line of this deed at this place, and this is what the line says
 pub record TellsStepAt (place : LinePlace) (deed : Deed) (text : List ℕ) (t : Told) (rest : List ℕ) : Type 0 where
   pub told : TellsDone (IsStepAt place deed) text (t ∷ []) rest
   pub stands : IsToldAt place t
@@ -97,7 +97,7 @@ pub record TellsStepAt (place : LinePlace) (deed : Deed) (text : List ℕ) (t : 
 abbrev pub asked_at : LinePlace → Item → Asked
 asked_at p item = record { line = p.line; lane = p.lane; phase = p.phase; item = item }
 
--- Behind what was told before stands what the text tells of steps that are done so, each in its place, up to the rest.
+-- After what was read before comes what the text says of steps that are done so, each in its place, up to the rest.
 pub record AddsTold (IsDoneSo : List Step → Type 0) (IsPlaced : Told → Type 0) (text : List ℕ) (old new : List Told) (rest : List ℕ) : Type 0 where
   pub mine : List Told
   pub whole : new ≡ old ++ mine

@@ -1,4 +1,4 @@
--- Which steps of a log a text tells.
+-- Which steps of a log a text reports.
 -- Source: this project's own.
 use Rattle.std.specs.Prelude.{◌≡◌, ℕ, ◌<◌, ◌≤◌, ◌^◌, List, [], ◌∷◌, ◌++◌, Option, Some, None, All, AllPairs, codes, length, map}
 use Rattle.std.specs.List.{flat_map}
@@ -12,8 +12,8 @@ use Rattle.mt_told.specs.declared.told.What.TheVariants.{Wrote, Got, Copied, Law
 
 -- ---- how it is written
 
--- How replies and counts are written, in place of what stands in a log of some version. What a text tells of a log does not
--- hang on it: a reply and a count may be any bytes of a line, which are compared with what they should be by whom it concerns.
+-- How replies and counts are spelled, instead of how a log of some version spells them. What a text says of a log does not
+-- depend on it. A reply and a count may be any bytes of a line: who needs them compares them with what they should be.
 pub record Spelling : Type 0 where
   pub reply : Reply → List ℕ
   pub count : ℕ → List ℕ
@@ -32,10 +32,10 @@ spelled sp (said.Copied count) = codes "copied " ++ sp.count count
 abbrev pub spelled_line : Spelling → Entry → List ℕ
 spelled_line sp e = decimal e.line ++ (codes " " ++ (spelled sp e.said ++ 10 ∷ []))
 
--- ---- a step that is told
+-- ---- a step that is reported
 
--- It is told of this outcome, which is written so. What is not printed may be any: the number at which a read is true, the
--- rest of a loaded range, who held rows, and which ranges were counted.
+-- The line reports this outcome, spelled this way. What is not printed may be anything: the version of which a read is true,
+-- the rest of a loaded range, who held nodes back, and which ranges were counted.
 abbrev pub IsSpelledOf : Spelling → What → Outcome → Type 0
 IsSpelledOf sp (Wrote number call reply) (Called n c r) = (n ≡ number) × (c ≡ call) × (sp.reply r ≡ reply.now)
 IsSpelledOf sp (Wrote number call reply) (Looked lo hi k q v) = ⊥
@@ -57,7 +57,7 @@ pub record IsSpelled (sp : Spelling) (t : Told) (s : Step) : Type 0 where
   pub tree : s.tree ≡ t.tree
   pub outcome : IsSpelledOf sp t.what s.outcome
 
--- these are told so, one by one
+-- the lines report these steps, one by one
 abbrev pub AreSpelled : Spelling → List Told → List Step → Type 0
 AreSpelled sp [] [] = Unit {0}
 AreSpelled sp [] (s ∷ steps) = ⊥
@@ -70,16 +70,16 @@ IsTold version t s = IsSpelled (spelling_of version) t s
 abbrev pub AreTold : ℕ → List Told → List Step → Type 0
 AreTold version told steps = AreSpelled (spelling_of version) told steps
 
--- it has the form of its line: a query is told so of some range or of none, and a reply and a count end no line
+-- it has the form of its line: a query returned some range or none, and no reply or count has an LF
 abbrev pub HasForm : What → Type 0
 HasForm (Got lo hi query answer) = (value : Option Range) × (shown query value ≡ answer)
 HasForm (Wrote number call reply) = IsInLine reply.now
 HasForm (Copied count) = IsInLine count.now
 HasForm (Lawful count) = IsInLine count.now
 
--- ---- the lines that are told
+-- ---- the lines of a transcript
 
--- what a line says, behind its number
+-- what a line says, after its number
 abbrev pub what_text : What → List ℕ
 what_text (Wrote number call reply) = decimal number ++ (codes " " ++ reply.now)
 what_text (Got lo hi query answer) = decimal lo ++ (codes " " ++ (decimal hi ++ (codes " " ++ answer_text answer)))
@@ -109,27 +109,27 @@ FitsLine sp (Counted s ranges) = IsInLine (sp.count (length ranges))
 
 -- ---- a text
 
--- The text tells these steps of the log, each in its line, and then goes on with any bytes.
+-- The text reports these steps of the log, each in its line, and then goes on with any bytes.
 pub record TellsSteps (sp : Spelling) (log : Log) (text : List ℕ) (steps : List Step) (rest : List ℕ) : Type 0 where
   pub done : AreDone (steps_of log.lines) steps
   pub fit : All (λ s. FitsLine sp s.outcome) steps
   pub printed : text ≡ flat_map (spelled_line sp) (map entry_of steps) ++ rest
 
--- The text is the lines that are told, and behind them the rest. All steps that the text may tell are told so, before the same
--- rest. The steps that are told so are steps of the log, and the text begins with them.
+-- The text is these lines and then the rest. All steps that the text can report are reported by these lines, before the same
+-- rest. And steps that these lines report are steps of the log, with whose lines the text begins.
 pub record IsToldBy (log : Log) (text : List ℕ) (told : List Told) (rest : List ℕ) : Type 0 where
   pub written : text ≡ flat_map told_text told ++ rest
   pub only : (sp : Spelling) (steps : List Step) (after : List ℕ) → TellsSteps sp log text steps after → AreSpelled sp told steps × (rest ≡ after)
   pub done : (sp : Spelling) (steps : List Step) → AreSpelled sp told steps → AreDone (steps_of log.lines) steps
   pub printed : (sp : Spelling) (steps : List Step) → AreSpelled sp told steps → text ≡ flat_map (spelled_line sp) (map entry_of steps) ++ rest
   pub form : All (λ t. HasForm t.what) told
-  -- what is told is of the log's trees and lanes, and phase by phase
+  -- the lines are of the log's trees and lanes, phase by phase
   pub trees : All (λ t. t.tree < length (trees_of log.lines)) told
   pub lanes : All (λ t. t.lane < most_lanes) told
   pub phases : AllPairs (λ s t. s.phase ≤ t.phase) told
   -- each is a line of the text
   pub few : length told ≤ length text
 
--- the text tells no steps of the log, however they are written and whatever it goes on with
+-- the text reports no steps of the log, however they are spelled and whatever follows
 abbrev pub TellsNone : Log → List ℕ → Type 0
 TellsNone log text = (sp : Spelling) (steps : List Step) (rest : List ℕ) → TellsSteps sp log text steps rest → ⊥

@@ -10,7 +10,7 @@ use crate::fronts::{behind_word, number_before};
 use mt_base::{Query, Range};
 use mt_log::Answer;
 
-/// The entry that a load is told, and the text behind its line.
+/// The entry that a load returned, and the text after its line.
 #[tactic(auto, using(crate::proofs::Answered::entry_before, crate::proofs::Answered::no_entry))]
 fn entry_in_front(text: &[u8]) -> Option<(u64, &[u8])>
     ensures some { IfSome result (λ found. IsEntryBefore text.now found.0 found.1.now) }
@@ -20,7 +20,7 @@ fn entry_in_front(text: &[u8]) -> Option<(u64, &[u8])>
     number_before(number, b'\n')
 }
 
-/// The range that another query is told, and the text behind its line.
+/// The range that another query returned, and the text after its line.
 fn range_in_front(text: &[u8]) -> Option<(Range, &[u8])>
     ensures some { IfSome result (λ found. IsRangeBefore text.now found.0 found.1.now) }
     ensures none { IfNone result ((range : Range) (rest : List ℕ) → IsSmallRange (Some range) → text.now ≡ range_line range ++ rest → ⊥) }
@@ -33,7 +33,7 @@ fn range_in_front(text: &[u8]) -> Option<(Range, &[u8])>
     Some((range, text))
 }
 
-/// Whether a query is told the entry alone.
+/// Whether a query returns the entry alone.
 fn tells_entry(query: &Query) -> bool
     ensures { result ≡ tells_entry query.now }
 {
@@ -43,10 +43,11 @@ fn tells_entry(query: &Query) -> bool
     }
 }
 
-/// What the query is told, where it finds something, and the text behind its line.
+/// What the query returned, if it found something, and the text after its line.
 fn found_in_front<'t>(text: &'t [u8], query: &Query) -> Option<(Answer, &'t [u8])>
     ensures some { IfSome result (λ found. IsFoundBefore query.now text.now found.0 found.1.now) }
-    ensures none { IfNone result ((range : Range) (rest : List ℕ) → IsSmallRange (Some range) → text.now ≡ answer_line (shown_range query.now range) ++ rest → ⊥) }
+    ensures none { IfNone result ((range : Range) (rest : List ℕ) → IsSmallRange (Some range)
+        → text.now ≡ answer_line (shown_range query.now range) ++ rest → ⊥) }
 {
     if tells_entry(query) {
         let (entry, rest) = entry_in_front(text)?;
@@ -56,7 +57,7 @@ fn found_in_front<'t>(text: &'t [u8], query: &Query) -> Option<(Answer, &'t [u8]
     Some((Answer::Range(range), rest))
 }
 
-/// What the query is told, and the text behind its line.
+/// What the query returned, and the text after its line.
 pub fn answer_in_front<'t>(text: &'t [u8], query: &Query) -> Option<(Answer, &'t [u8])>
     ensures some { IfSome result (λ found. IsAnswerBefore query.now text.now found.0 found.1.now) }
     ensures none { IfNone result ((value : Option Range) (rest : List ℕ) → IsSmallRange value → text.now ≡ answer_line (shown query.now value) ++ rest → ⊥) }

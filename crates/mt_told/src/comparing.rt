@@ -28,7 +28,7 @@ pub fn is_reply(version: u32, reply: &Reply, bytes: &[u8]) -> bool
     line.as_bytes() == bytes
 }
 
-/// Puts together the line of a tree of so many ranges.
+/// Puts together the first line of the listing of a tree with `count` ranges.
 #[tactic(auto, using(mt_log::proofs::Padding::name_is_short))]
 fn put_head(line: &mut LineEnd, name: &Word, kind: Kind, count: u64)
     ensures { line.new ≡ head_line name.now kind count }
@@ -42,7 +42,7 @@ fn put_head(line: &mut LineEnd, name: &Word, kind: Kind, count: u64)
     line.text(b"tree ");
 }
 
-/// The text behind the line of a range, if it stands in front.
+/// The text after the line of a range, if it begins with that line.
 fn behind_range<'t>(text: &'t [u8], line: &mut LineEnd, range: &Range) -> Option<&'t [u8]>
     ensures some { IfSome result (λ rest. text.now ≡ range_line range.now ++ rest.now) }
     ensures none { IfNone result ((rest : List ℕ) → text.now ≡ range_line range.now ++ rest → ⊥) }
@@ -52,7 +52,7 @@ fn behind_range<'t>(text: &'t [u8], line: &mut LineEnd, range: &Range) -> Option
     behind_word(text, line.as_bytes())
 }
 
-/// The text behind the lines of ranges, if they stand in front.
+/// The text after the lines of these ranges, if it begins with them.
 fn behind_ranges<'t>(text: &'t [u8], line: &mut LineEnd, ranges: &[Range]) -> Option<&'t [u8]>
     ensures some { IfSome result (λ rest. text.now ≡ flat_map range_line ranges.now ++ rest.now) }
     ensures none { IfNone result ((rest : List ℕ) → text.now ≡ flat_map range_line ranges.now ++ rest → ⊥) }
@@ -64,7 +64,7 @@ fn behind_ranges<'t>(text: &'t [u8], line: &mut LineEnd, ranges: &[Range]) -> Op
     Some(rest)
 }
 
-/// The text behind the listing of a tree of this name and this kind that has these ranges, if it stands in front.
+/// The text after the listing of a tree of this name and this kind that has these ranges, if it begins with that listing.
 pub fn listing_in_front<'t>(
     text: &'t [u8],
     name: &Word,

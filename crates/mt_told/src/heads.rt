@@ -10,7 +10,7 @@ use crate::{behind_word, number_before};
 use mt_base::Kind;
 use mt_log::Word;
 
-/// What the first line of a listing tells: a tree, and how many ranges it has.
+/// The first line of a listing: a tree, and how many ranges it has.
 #[derive(Clone, Copy)]
 pub struct Head {
     pub name: Word,
@@ -18,14 +18,14 @@ pub struct Head {
     pub count: u64,
 }
 
-/// Where the first space stands.
+/// Where the first space is.
 fn space_in(text: &[u8]) -> Option<usize>
     ensures { result ≡ position (λ byte. byte == 32) text.now }
 {
     text.iter().position(|byte| *byte == b' ')
 }
 
-/// The word up to the first space, and the text behind that.
+/// The word up to the first space, and the text after that.
 #[tactic(auto, using(crate::proofs::Words::no_space))]
 fn word_in_front(text: &[u8]) -> Option<(&[u8], &[u8])>
     ensures some { IfSome result (λ found. IsWordBefore text.now found.0.now found.1.now) }
@@ -35,7 +35,7 @@ fn word_in_front(text: &[u8]) -> Option<(&[u8], &[u8])>
     Some((&text[..end], &text[end + 1..]))
 }
 
-/// The name that stands in front before a space, and the text behind both.
+/// The name before the first space, and the text after both.
 #[tactic(auto, using(crate::proofs::Words::name_before, crate::proofs::Words::no_name))]
 fn name_before(text: &[u8]) -> Option<(Word, &[u8])>
     ensures some { IfSome result (λ found. IsNameBefore text.now found.0 found.1.now) }
@@ -67,7 +67,7 @@ fn kind_named(word: &[u8]) -> Option<Kind>
     None
 }
 
-/// The kind that stands in front before a space, and the text behind both.
+/// The kind before the first space, and the text after both.
 #[tactic(auto, using(crate::proofs::Words::kind_before, crate::proofs::Words::no_kind))]
 fn kind_before(text: &[u8]) -> Option<(Kind, &[u8])>
     ensures some { IfSome result (λ found. IsKindBefore text.now found.0 found.1.now) }
@@ -78,7 +78,7 @@ fn kind_before(text: &[u8]) -> Option<(Kind, &[u8])>
     Some((kind, rest))
 }
 
-/// The first line of a listing, if it stands in front, and the text behind it.
+/// The first line of a listing, if the text begins with one, and the text after it.
 #[tactic(auto, using(crate::proofs::FirstLines::head_before, crate::proofs::FirstLines::no_tree, crate::proofs::FirstLines::no_name, crate::proofs::FirstLines::no_kind, crate::proofs::FirstLines::no_count))]
 pub fn head_in_front(text: &[u8]) -> Option<(Head, &[u8])>
     ensures some { IfSome result (λ found. IsHeadBefore text.now found.0 found.1.now) }

@@ -1,5 +1,5 @@
-//! What the text of a transcript tells of the steps of a log.
-//! And: the listing of a tree, read back from its text.
+//! What the text of a transcript (a history of responses) says of the steps of a log. And the listing of a tree, read back from
+//! its text.
 #![tactic(auto)]
 
 mod answers;

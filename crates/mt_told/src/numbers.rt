@@ -26,14 +26,14 @@ fn value_of(digits: &[u8]) -> Option<u64>
     Some(value)
 }
 
-/// How many digits stand in front.
+/// How many digits the text begins with.
 fn digits_in_front(text: &[u8]) -> usize
     ensures { result ≡ length (take_while is_ascii_digit text.now) }
 {
     text.iter().take_while(|byte| byte.is_ascii_digit()).count()
 }
 
-/// Whether digits are some, and begin with no 0 but that of 0 itself.
+/// Whether there is a digit, and the first is no 0 unless it is the only one.
 fn is_led(digits: &[u8]) -> bool
     ensures { IsTrue result ↔ IsLed digits.now }
 {
@@ -43,7 +43,7 @@ fn is_led(digits: &[u8]) -> bool
     digits[0] != b'0' || digits.len() == 1
 }
 
-/// The number below 2^64 that stands in front of a text, as numbers are printed, and the text behind it.
+/// The number below 2^64 that a text begins with, as numbers are printed, and the text after it.
 pub fn number_in_front(text: &[u8]) -> Option<(u64, &[u8])>
     ensures some { IfSome result (λ found. (text.now ≡ decimal found.0 ++ found.1.now) × EndsNumber found.1.now) }
     ensures none { IfNone result ((number : ℕ) (rest : List ℕ) → number < 2 ^ 64 → EndsNumber rest → text.now ≡ decimal number ++ rest → ⊥) }

@@ -7,7 +7,7 @@ use crate::number_before;
 use mt_base::Range;
 use std::alloc::{AllocError, Global};
 
-/// The range whose line stands in front, and the text behind it.
+/// The range whose line the text begins with, and the text after it.
 #[tactic(auto, using(crate::proofs::RangeLines::range_before, crate::proofs::RangeLines::no_first, crate::proofs::RangeLines::no_last, crate::proofs::RangeLines::no_entry))]
 fn range_in_front(text: &[u8]) -> Option<(Range, &[u8])>
     ensures some { IfSome result (λ found. IsRangeLineBefore text.now found.0 found.1.now) }
@@ -19,7 +19,7 @@ fn range_in_front(text: &[u8]) -> Option<(Range, &[u8])>
     Some((Range { first, last, entry }, rest))
 }
 
-/// The ranges whose lines stand in front, so many at the most, and the text behind them.
+/// The ranges whose lines the text begins with, at most this many, and the text after them.
 #[tactic(auto, using(crate::proofs::RangeLines::one_more))]
 pub fn ranges_in_front(
     alloc: Global,

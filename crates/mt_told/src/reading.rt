@@ -15,14 +15,14 @@ use mt_base::NoMemory;
 use mt_log::{Item, Line, Log};
 use std::alloc::{AllocError, Global};
 
-/// What a text tells of the steps of a log, in order, and the rest of the text.
+/// What a text says of the steps of a log, in order, and the rest of the text.
 #[derive(Drop)]
 pub struct Account<'t> {
     pub told: Vec<Told<'t>>,
     pub rest: &'t [u8],
 }
 
-/// In which lane and in which phase a line of a log stands.
+/// The lane and the phase of a line of a log.
 #[derive(Clone, Copy)]
 struct Stand {
     lane: u32,
@@ -55,7 +55,7 @@ impl Stand {
         }
     }
 
-    /// How the next line stands.
+    /// The lane and the phase of the next line.
     fn behind(&self, item: &Item) -> Stand
         requires { self.now.phase + 1 < 2 ^ 64 }
         ensures lane { result.lane ≡ lane_after self.now.lane item.now }
@@ -80,7 +80,7 @@ impl Stand {
     }
 }
 
-/// Reads the line that tells of a deed at this place. Gives the text behind it, if it tells of one.
+/// Reads the line of a deed at this place. Returns the text after it, if the text begins with such a line.
 fn read_step<'t>(
     told: &mut Vec<Told<'t>>,
     text: &'t [u8],
@@ -97,7 +97,7 @@ fn read_step<'t>(
     Ok(Some(rest))
 }
 
-/// Reads what is told of a line of the log that stands so. Gives the text behind it, if it is told.
+/// Reads what the text says of a line of the log in this lane and phase. Returns the text after it, if it says something.
 fn read_line<'t>(
     told: &mut Vec<Told<'t>>,
     text: &'t [u8],
@@ -130,7 +130,7 @@ fn read_line<'t>(
     }
 }
 
-/// What the text of a transcript tells of the steps of a log, if it tells of them.
+/// What the text of a transcript says of the steps of a log, if it reports them.
 ///
 /// # Errors
 ///

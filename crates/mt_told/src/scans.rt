@@ -1,4 +1,4 @@
-//! The lines of a scan: the text tells how many there are.
+//! The lines of a scan, whose number depends on the text.
 
 ghost use Rattle.std.specs.Prelude.{◌≡◌, IfNone, IfOk, IfSome};
 ghost use Rattle.mt_log.specs.Run.{find_at, place_behind, place_within};
@@ -11,7 +11,7 @@ use mt_base::{Query, Range};
 use mt_log::Answer;
 use std::alloc::AllocError;
 
-/// What a scan goes through: the indexes from `index` to `max`, and so many steps at the most.
+/// What a scan goes through: the indexes from `index` to `max`, in at most `count` steps.
 #[derive(Clone, Copy)]
 pub struct Stretch {
     pub index: u64,
@@ -26,7 +26,7 @@ fn place_within(index: u64, max: u64) -> Option<u64>
     if index <= max { Some(index) } else { None }
 }
 
-/// Where it goes on behind a range, if anywhere.
+/// Where the scan goes on after a range, if anywhere.
 fn place_behind(max: u64, range: &Range) -> Option<u64>
     ensures { result ≡ place_behind max range.now }
 {
@@ -47,7 +47,7 @@ fn find_at(at: Option<u64>, max: u64) -> Query
     }
 }
 
-/// The range that is told of, if one is.
+/// The range that the line reports, if it reports one.
 fn range_told(what: &What<'_>) -> Option<Range>
     ensures { result ≡ range_told what.now }
 {
@@ -60,8 +60,8 @@ fn range_told(what: &What<'_>) -> Option<Range>
     }
 }
 
-/// Reads the lines of a scan: none behind the first that tells of nothing, and so many at the most. Gives the text behind them,
-/// if it tells of a scan.
+/// Reads the lines of a scan: at most `count`, and none after the first that reports no range. Returns the text after them, if
+/// it reports a scan.
 pub fn read_scan<'t>(
     told: &mut Vec<Told<'t>>,
     text: &'t [u8],

@@ -1,4 +1,4 @@
-//! The lines of a transcript that tell of one step.
+//! The lines of a transcript that report one step.
 
 ghost use Rattle.std.specs.Prelude.{◌≡◌, ℕ, List, IfSome, IfNone};
 ghost use Rattle.mt_log.specs.declared.transcripts.Said.TheVariants as said;
@@ -18,7 +18,7 @@ pub enum Deed {
     Check,
 }
 
-/// Where a step stands: at which line of the log, in which lane and which phase, on which tree.
+/// The place of a step: its line of the log, its lane, its phase and its tree.
 #[derive(Clone, Copy)]
 pub struct LinePlace {
     pub line: u64,
@@ -31,7 +31,7 @@ impl LinePlace {
     ghost use Rattle.std.specs.Prelude.{◌≡◌};
     ghost use Rattle.mt_told.specs.Steps.{told_at};
 
-    /// That this is told of a step here.
+    /// This result of a step at this place.
     fn tells<'t>(&self, what: What<'t>) -> Told<'t>
         ensures { result ≡ told_at self.now what.entry }
     {
@@ -45,7 +45,7 @@ impl LinePlace {
     }
 }
 
-/// What a line tells of a call, behind its number, and the text behind the line.
+/// What a line reports of a call, after its number, and the text after the line.
 fn call_in_front(text: &[u8], call: Call) -> Option<(What<'_>, &[u8])>
     ensures some { IfSome result (λ found. TellsOf (Deed.Call call) text.now found.0 found.1.now) }
     ensures none { IfNone result (TellsNothingOf (Deed.Call call) text.now) }
@@ -60,7 +60,7 @@ fn call_in_front(text: &[u8], call: Call) -> Option<(What<'_>, &[u8])>
     Some((what, rest))
 }
 
-/// What it tells of a read.
+/// What a line reports of a read.
 fn look_in_front(text: &[u8], query: Query) -> Option<(What<'_>, &[u8])>
     ensures some { IfSome result (λ found. TellsOf (Deed.Look query) text.now found.0 found.1.now) }
     ensures none { IfNone result (TellsNothingOf (Deed.Look query) text.now) }
@@ -77,7 +77,7 @@ fn look_in_front(text: &[u8], query: Query) -> Option<(What<'_>, &[u8])>
     Some((what, rest))
 }
 
-/// What it tells of a copy.
+/// What a line reports of a copy.
 fn copy_in_front(text: &[u8]) -> Option<(What<'_>, &[u8])>
     ensures some { IfSome result (λ found. TellsOf Deed.Copy text.now found.0 found.1.now) }
     ensures none { IfNone result (TellsNothingOf Deed.Copy text.now) }
@@ -87,7 +87,7 @@ fn copy_in_front(text: &[u8]) -> Option<(What<'_>, &[u8])>
     Some((What::Copied { count }, rest))
 }
 
-/// What it tells of a check.
+/// What a line reports of a check.
 fn check_in_front(text: &[u8]) -> Option<(What<'_>, &[u8])>
     ensures some { IfSome result (λ found. TellsOf Deed.Check text.now found.0 found.1.now) }
     ensures none { IfNone result (TellsNothingOf Deed.Check text.now) }
@@ -97,7 +97,7 @@ fn check_in_front(text: &[u8]) -> Option<(What<'_>, &[u8])>
     Some((What::Lawful { count }, rest))
 }
 
-/// What it tells of a deed.
+/// What a line reports of a deed.
 pub fn what_in_front<'t>(text: &'t [u8], deed: &Deed) -> Option<(What<'t>, &'t [u8])>
     ensures some { IfSome result (λ found. TellsOf deed.now text.now found.0 found.1.now) }
     ensures none { IfNone result (TellsNothingOf deed.now text.now) }
@@ -110,7 +110,7 @@ pub fn what_in_front<'t>(text: &'t [u8], deed: &Deed) -> Option<(What<'t>, &'t [
     }
 }
 
-/// The line that tells of a deed at this place, and the text behind it.
+/// The line of a deed at this place, and the text after it.
 pub fn step_in_front<'t>(
     text: &'t [u8],
     place: &LinePlace,

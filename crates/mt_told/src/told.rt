@@ -1,7 +1,7 @@
 use mt_base::{Call, Query};
 use mt_log::Answer;
 
-/// What a line of a transcript tells. A reply and a count stay as they are printed: they are compared with what they should be.
+/// What a line of a transcript reports. A reply and a count stay as printed: they are compared with what they should be.
 #[derive(Clone, Copy)]
 pub enum What<'t> {
     /// A call, its number on its tree, and what it was answered.
@@ -17,18 +17,18 @@ pub enum What<'t> {
         query: Query,
         answer: Answer,
     },
-    /// A tree was copied that had so many ranges.
+    /// A tree was copied, and had this many ranges.
     Copied {
         count: &'t [u8],
     },
-    /// A tree was lawful that had so many ranges.
+    /// A tree was found well-formed, and had this many ranges.
     Lawful {
         count: &'t [u8],
     },
 }
 
-/// A line of a transcript: the number of the log's line that it answers, the lane and the phase that this line is of, the tree
-/// that it names, and what it tells.
+/// A line of a transcript: the number of the log's line that it answers, that line's lane and phase, the tree that it names,
+/// and what it reports.
 #[derive(Clone, Copy)]
 pub struct Told<'t> {
     pub line: u64,
