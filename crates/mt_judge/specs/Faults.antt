@@ -1,4 +1,4 @@
--- Which lines are told as wrong, and of which causes.
+-- Which lines are reported as wrong, and for which causes.
 -- Source: this project's own.
 use Rattle.std.specs.Prelude.{◌≡◌, ℕ, ◌+◌, ◌≤◌, Bool, true, false, List, Option, Some, None, IfSome, if◌then◌else◌, nat_lt, slice_get}
 use Rattle.mt_judge.specs.Prelude.{Told, What, Wrote, Got, Copied, Lawful}
@@ -22,7 +22,7 @@ is_of_form cause = false
 
 -- ---- faults of order
 
--- it is told of a line that does not keep to those before it
+-- the cause is that of a line that is out of order with those before it
 abbrev pub is_of_order : Cause → Bool
 is_of_order Order = true
 is_of_order Below = true
@@ -35,14 +35,14 @@ order_cause (Got lo hi query answer) = Below
 order_cause (Copied count) = Below
 order_cause (Lawful count) = Below
 
--- the first line that is out of order is told, with what is wrong with it
+-- the first line that is out of order is reported, with what is wrong with it
 pub record IsOrderFault (told : List Told) (fault : FoundFault) : Type 0 where
   pub place : ℕ
   pub first : IsFirstOut told place
   pub line : fault.line ≡ place + 1
   pub cause : IfSome (slice_get told place) (λ t. fault.cause ≡ order_cause t.what)
 
--- Where a line is out of order one is told, none behind the first; and what is told as out of order is the first.
+-- If a line is out of order, one is reported, none after the first. And what is reported as out of order is the first.
 abbrev pub KeepsOrder : List Told → Option FoundFault → Type 0
 KeepsOrder told None = IsInOrder told
 KeepsOrder told (Some fault) = ((place : ℕ) → IsFirstOut told place → fault.line ≤ place + 1) × (is_of_order fault.cause ≡ true → IsOrderFault told fault)

@@ -10,7 +10,7 @@ use Rattle.mt_judge.specs.declared.judging.Found.TheVariants.{Verified, Refused}
 use Rattle.mt_judge.specs.declared.judging.Judgment.{Judgment}
 use Rattle.mt_judge.specs.declared.tallies.ReadTally.{ReadTally}
 
--- ---- how much is told
+-- ---- how much a transcript reports
 
 -- a read met a call: its window is wider than one number of calls
 abbrev pub is_overlapped : What → Bool
@@ -31,7 +31,7 @@ tally_of told = record { calls = how_many is_wrote told; reads = how_many is_got
 abbrev pub log_of_first : ℕ → Log → Log
 log_of_first count log = record { version = log.version; lines = take count log.lines }
 
--- the text tells so of so many lines of the log, and of one more it tells nothing, whatever it goes on with
+-- the text reports this of `count` lines of the log, and nothing of the next one, whatever follows
 pub record StopsAt (log : Log) (text : List ℕ) (count : ℕ) (told : List Told) (rest : List ℕ) : Type 0 where
   pub first : IsToldBy (log_of_first count log) text told rest
   pub within : count < length log.lines
@@ -44,18 +44,18 @@ abbrev pub IsFound : Log → ℕ → List ℕ → Found → Type 0
 IsFound log rows text Verified = (points : List ℕ) × IsVerdict log rows text (Yes points)
 IsFound log rows text (Refused fault) = IsVerdict log rows text No
 
--- Of a text that tells of all lines of the log: all lines are in order, or of order it is told what is wrong.
+-- If a text reports all lines of the log, all lines are in order, or what is wrong with the order is reported.
 abbrev pub KeepsOrderIn : List Told → Found → Type 0
 KeepsOrderIn told Verified = Unit {0}
 KeepsOrderIn told (Refused fault) = IsInOrder told ⊎ KeepsOrder told fault
 
--- Of one that stops to tell: of its form, and behind what is told.
+-- If a text stops earlier, its form is reported as wrong, after the lines that it has.
 abbrev pub TellsForm : List Told → Found → Type 0
 TellsForm told Verified = Unit {0}
 TellsForm told (Refused None) = ⊥
 TellsForm told (Refused (Some fault)) = (length told < fault.line) × (is_of_form fault.cause ≡ true)
 
--- The tally is that of what the text tells of the log; of one that stops to tell, of what it tells before.
+-- The tally is that of what the text reports of the log; if it stops, of what it reports before.
 abbrev pub IsTallied : Log → List ℕ → Judgment → Type 0
 IsTallied log text j = (told : List Told) × (rest : List ℕ) × (j.tally ≡ tally_of told)
     × ((IsToldBy log text told rest × KeepsOrderIn told j.found) ⊎ ((count : ℕ) × StopsAt log text count told rest × TellsForm told j.found))

@@ -1,4 +1,4 @@
--- How many rows each tree has, by the words.
+-- How many nodes each tree has, by the words.
 -- Source: this project's own.
 use Rattle.std.specs.Prelude.{◌≡◌, ℕ, ◌≤◌, List, [], ◌∷◌, codes}
 use Rattle.std.specs.Str.Parse.{IsNumeral, digits_value, without_leading_plus}

@@ -18,7 +18,7 @@ pub struct ToldAnswer {
     pub status: u8,
 }
 
-/// What is found of these bytes: of the text behind the log, on trees of so many rows.
+/// The findings on these bytes: a log and the text after it, on trees of this many nodes.
 fn judged(alloc: Global, rows: u64, bytes: &[u8]) -> Result<Judgment, JudgeFailure>
     requires few_rows { 4 ≤ rows }
     requires rows { rows ≤ most_rows }

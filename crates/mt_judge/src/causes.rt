@@ -8,7 +8,7 @@ use std::fmt;
 /// What is wrong with a line of a transcript.
 #[derive(Clone, Copy)]
 pub enum Cause {
-    /// It answers another line of the log than the one that comes next, or there is none.
+    /// It answers another line of the log than the next one, or there is no line.
     NoEntry,
     /// It has not the form in which such a line of the log is answered.
     Form,
@@ -18,15 +18,15 @@ pub enum Cause {
     Order,
     /// A read's window begins below what its lane knew of.
     Below,
-    /// A read's window ends behind the last call.
+    /// A read's window ends after the last call.
     Beyond,
     /// A read is true after no number of calls in its window that its lane may have seen.
     Nowhere,
     /// A call is answered otherwise than by the map before it.
     Reply,
-    /// A call is refused for want of rows that cannot have been wanting so.
+    /// A call is refused for lack of nodes that cannot have been wanting so.
     Shortage,
-    /// A copy or a check tells another number of ranges.
+    /// A copy or a check reports another number of ranges.
     Count,
     /// A tree is listed otherwise than it is at the end.
     Listing,
@@ -63,7 +63,7 @@ pub struct FoundFault {
 }
 
 impl FoundFault {
-    /// At the line that stands at this place, from 0.
+    /// At the line at this place, counted from 0.
     pub fn at(place: usize, cause: Cause) -> FoundFault
         ensures line { result.line ≡ min (place + 1) (2 ^ 64 - 1) }
         ensures cause { result.cause ≡ cause }

@@ -7,7 +7,7 @@ ghost use Rattle.mt_judge.specs.Words.{AskRows, WritesRows};
 use mt_base::MOST_ROWS;
 use mt_told::behind_word;
 
-/// What stands before the first line that is `---`, and what stands behind it. The line is ended by LF.
+/// What is before the first line that is `---`, and what is after it. LF ends the line.
 pub fn cut(bytes: &[u8]) -> Option<(&[u8], &[u8])>
     ensures { IfSome result (λ parts. bytes.now ≡ parts.0.now ++ (codes "---\n" ++ parts.1.now)) }
 {
@@ -23,7 +23,7 @@ pub fn cut(bytes: &[u8]) -> Option<(&[u8], &[u8])>
     None
 }
 
-/// The number of rows that a word writes, if a tree may have so many.
+/// The number of nodes that a word writes, if a tree may have that many.
 fn rows_word(word: &str) -> Option<u64>
     ensures some { IfSome result (WritesRows word.now) }
     ensures none { IfNone result ((rows : ℕ) → WritesRows word.now rows → ⊥) }
@@ -32,7 +32,7 @@ fn rows_word(word: &str) -> Option<u64>
     (4 <= rows && rows <= MOST_ROWS).then_some(rows)
 }
 
-/// The number of rows behind `--rows`.
+/// The number of nodes after `--rows`.
 fn rows_said(option: &str, word: &str) -> Option<u64>
     ensures some { IfSome result (AskRows (option.now ∷ word.now ∷ [])) }
     ensures none { IfNone result ((rows : ℕ) → AskRows (option.now ∷ word.now ∷ []) rows → ⊥) }
@@ -43,7 +43,7 @@ fn rows_said(option: &str, word: &str) -> Option<u64>
     rows_word(word)
 }
 
-/// How many rows each tree has, by the words: nothing, or `--rows` and a number from 4 to 65,504.
+/// How many nodes each tree has, by the words: nothing, or `--rows` and a number from 4 to 65,504.
 pub fn rows_of(words: &[String]) -> Option<u64>
     ensures some { IfSome result (AskRows (map string_bytes words.now)) }
     ensures none { IfNone result ((rows : ℕ) → AskRows (map string_bytes words.now) rows → ⊥) }

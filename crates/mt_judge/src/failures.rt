@@ -5,7 +5,7 @@ use mt_log::{LogError, Why};
 use std::alloc::AllocError;
 use std::fmt;
 
-/// Why nothing is told of an input.
+/// Why there is no judgment on an input.
 #[derive(Clone, Copy)]
 pub enum JudgeFailure {
     /// The input is no log: its first bad line, and why.

@@ -1,4 +1,4 @@
-//! Where a text stops to tell of the lines of a log.
+//! Where a text stops to report the lines of a log.
 
 ghost use Rattle.std.specs.Prelude.{◌≡◌, ◌<◌, ◌^◌, ◌+◌, IfOk, IfNone, IfSome, length, true};
 ghost use Rattle.mt_log.specs.Trees.{IsReadable};
@@ -25,7 +25,7 @@ fn first_lines(alloc: Global, log: &Log, count: usize) -> Result<Log, NoMemory>
     })
 }
 
-/// What a text tells of the first lines of a log, if it tells of them.
+/// What a text reports of the first lines of a log, if it reports them.
 fn read_first<'t>(
     alloc: Global,
     log: &Log,
@@ -41,14 +41,14 @@ fn read_first<'t>(
     read_told(alloc, &first, text)
 }
 
-/// What a text tells of the lines of a log up to the first that it does not tell.
+/// What a text reports of the lines of a log, up to the first that it does not report.
 #[derive(Drop)]
 pub struct Part<'t> {
     pub count: usize,
     pub account: Account<'t>,
 }
 
-/// How far a text tells of a log, where it does not tell of it all.
+/// How far a text reports a log, if it does not report it all.
 #[tactic(auto, using(crate::proofs::Beginnings::stops_within, crate::proofs::Beginnings::stops_at))]
 pub fn part_told<'t>(alloc: Global, log: &Log, text: &'t [u8]) -> Result<Part<'t>, NoMemory>
     requires log { IsReadable log.now.lines }
@@ -74,7 +74,7 @@ pub fn part_told<'t>(alloc: Global, log: &Log, text: &'t [u8]) -> Result<Part<'t
     Ok(Part { count, account })
 }
 
-/// The text behind the line of a find that told of a range, if it stands in front.
+/// The text after the line of a find that found a range, if the text begins with such a line.
 fn behind_find(text: &[u8], line: u64) -> Option<&[u8]> {
     let (number, text) = number_before(text, b' ')?;
     if number != line {
@@ -97,7 +97,8 @@ fn is_answered(text: &[u8], line: u64) -> bool {
     }
 }
 
-/// What is wrong with the lines at this place, which do not tell of this line of the log: of a scan the first finds may.
+/// What is wrong with the lines at this place, which do not report this line of the log. Of a scan they may report the first
+/// finds.
 fn fault_of(place: usize, line: &Line, text: &[u8]) -> FoundFault
     ensures line { place + 1 < 2 ^ 64 → place < result.line }
     ensures cause { is_of_form result.cause ≡ true }
@@ -120,7 +121,7 @@ fn fault_of(place: usize, line: &Line, text: &[u8]) -> FoundFault
     FoundFault::at(at, cause)
 }
 
-/// What is wrong where a text stops to tell of a log.
+/// What is wrong where a text stops to report a log.
 pub fn form_fault(log: &Log, part: &Part) -> FoundFault
     requires { part.now.count < length log.now.lines }
     ensures line { length part.now.account.told.items < result.line }

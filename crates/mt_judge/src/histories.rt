@@ -1,4 +1,4 @@
-//! The histories that a transcript tells, gone through tree by tree to find the first line that does not fit.
+//! The histories that a transcript reports, gone through tree by tree to find the first line that does not fit.
 
 use crate::causes::{Cause, FoundFault};
 use crate::lanes::Lanes;
@@ -11,14 +11,14 @@ use mt_told::{Account, Told, What, behind_word};
 use mt_verify::shortage_in;
 use std::alloc::Global;
 
-/// The rules of a run: the version of its log, and how many rows a tree has.
+/// The rules of a run: the version of its log, and how many nodes a tree has.
 #[derive(Clone, Copy)]
 pub struct OrderRules {
     pub version: u32,
     pub rows: u64,
 }
 
-/// The first lines that were found not to fit: of calls, and of what was told of the maps that these make.
+/// The first lines that were found not to fit: of calls, and of what the transcript reports of the maps that these make.
 #[derive(Clone, Copy)]
 struct Faults {
     calls: Option<FoundFault>,
@@ -42,7 +42,7 @@ impl Faults {
         }
     }
 
-    /// What is told of a map was found not to fit.
+    /// Notes that a line about a map was found not to fit.
     fn tell(&mut self, fault: FoundFault) {
         self.rest = Some(fault.or_earlier(self.rest));
     }
@@ -63,7 +63,7 @@ struct Copy {
     map: TreeMap,
 }
 
-/// The places of the calls that are told of a tree, by their numbers.
+/// The places of the calls on a tree, by their numbers.
 fn calls_on(alloc: Global, told: &[Told], tree: u32) -> Result<Vec<usize>, NoMemory> {
     let count = told.iter().filter(|one| is_call_on(one, tree)).count();
     let mut places = vec![in alloc; 0_usize; count]?;
@@ -79,7 +79,7 @@ fn calls_on(alloc: Global, told: &[Told], tree: u32) -> Result<Vec<usize>, NoMem
     Ok(places)
 }
 
-/// The places of the copies and checks that are told of a tree, each with how many of its calls are told before.
+/// The places of the copies and checks of a tree, each with how many of its calls come before.
 fn stops_on(alloc: Global, told: &[Told], tree: u32) -> Result<Vec<(u64, usize)>, NoMemory> {
     let mut stops = Vec::new(alloc);
     let mut calls = 0_u64;
@@ -109,7 +109,7 @@ fn opening_of(
     Ok(TreeMap::new(alloc, declared.kind))
 }
 
-/// The refusal for want of rows that is told of a call, with a lane that may have held rows where some were held.
+/// The refusal of a call because nodes are short, with a lane that may have held nodes if some were held.
 fn shortage_of(lanes: &Lanes, told: &Told, reply: &[u8]) -> Option<Shortage> {
     let short = shortage_in(reply)?;
     if short.held == 0 {
@@ -122,7 +122,7 @@ fn shortage_of(lanes: &Lanes, told: &Told, reply: &[u8]) -> Option<Shortage> {
     })
 }
 
-/// A tree on its way from map to map, by what is told of it.
+/// A tree on its way from map to map, by what the transcript reports.
 #[derive(Drop)]
 struct Way {
     rules: OrderRules,
@@ -179,7 +179,7 @@ impl Way {
         Ok(())
     }
 
-    /// The place of the next copy or check, if it is behind so many calls; it is passed then.
+    /// The place of the next copy or check, if it is after `number` calls. It is then passed.
     fn next_stop(&mut self, number: u64) -> Option<usize> {
         let (at, place) = *self.stops.get(self.passed)?;
         if at != number {
@@ -209,7 +209,8 @@ impl Way {
         Ok(())
     }
 
-    /// What is wrong with the reply to a call, behind so many calls. The call is made, unless it was refused for want of rows.
+    /// What is wrong with the reply to a call that comes after `ended` calls. The call is made, unless it was refused because
+    /// nodes are short.
     fn wrong(
         &mut self,
         told: &Told,
@@ -233,7 +234,7 @@ impl Way {
         Ok((!right).then_some(Cause::Shortage))
     }
 
-    /// The call that is told at this place is made, behind so many calls, unless one went wrong.
+    /// Makes the call at this place, after `ended` calls, unless one went wrong.
     fn call(&mut self, told: &Told, place: usize, ended: u64) -> Result<(), NoMemory> {
         if self.faults.calls.is_some() {
             return Ok(());
@@ -247,8 +248,8 @@ impl Way {
     }
 }
 
-/// A tree goes from map to map, and is copied on its way. It gives its last map and what did not fit: of its calls the first by
-/// their numbers, and no map behind that is gone through.
+/// A tree goes from map to map, and is copied on its way. Returns its last map and what did not fit: of its calls the first by
+/// number, and no map after that is gone through.
 fn go(
     alloc: Global,
     rules: OrderRules,

@@ -47,7 +47,7 @@ impl fmt::Display for Found {
     }
 }
 
-/// What is found of a transcript, and how much it tells.
+/// The findings on a transcript, and how much it reports.
 #[derive(Clone, Copy)]
 pub struct Judgment {
     pub found: Found,
@@ -81,7 +81,7 @@ impl fmt::Display for Judgment {
     }
 }
 
-/// Where a transcript is wrong that tells of all lines of a log, if that is found.
+/// Where a transcript that reports all lines of a log is wrong, if that is found.
 #[tactic(auto, using(crate::proofs::Beginnings::few_trees))]
 fn fault_in(
     alloc: Global,
@@ -100,7 +100,7 @@ fn fault_in(
     }
 }
 
-/// What is found of a text that tells of all lines of a log, where the verdict is this.
+/// The findings on a text that reports all lines of a log, with this verdict.
 fn found_in(
     alloc: Global,
     log: &Log,
@@ -121,7 +121,7 @@ fn found_in(
     }
 }
 
-/// What is found of a text that stops to tell of a log, where the verdict is this.
+/// The findings on a text that stops to report a log, with this verdict.
 fn found_behind(log: &Log, rows: u64, text: &[u8], part: &Part, verdict: &Verdict) -> Found
     requires stops { StopsAt log.now text.now part.now.count part.now.account.told.items part.now.account.rest.now }
     requires verdict { IsVerdict log.now rows text.now verdict.now }
@@ -134,7 +134,7 @@ fn found_behind(log: &Log, rows: u64, text: &[u8], part: &Part, verdict: &Verdic
     }
 }
 
-/// The judgment on a text that tells of all lines of a log.
+/// The judgment on a text that reports all lines of a log.
 #[tactic(auto, using(crate::proofs::Judgments::judged_whole))]
 fn judged_whole(
     alloc: Global,
@@ -155,7 +155,7 @@ fn judged_whole(
     })
 }
 
-/// The judgment on one that stops to tell of it.
+/// The judgment on a text that stops earlier.
 #[tactic(auto, using(crate::proofs::Judgments::judged_part))]
 fn judged_part(
     alloc: Global,
@@ -176,8 +176,8 @@ fn judged_part(
     })
 }
 
-/// What is found of a text: whether it is that of a transcript of a run of a log over trees of so many rows, where it is wrong if
-/// it is none, and how much it tells.
+/// The findings on a text: whether it is that of a transcript of a run of a log over trees of `rows` nodes, where it is wrong
+/// if it is none, and how much it reports.
 ///
 /// # Errors
 ///

@@ -8,7 +8,7 @@ use mt_told::{Told, What};
 use mt_verify::Look;
 use std::alloc::Global;
 
-/// A read, and at which place of the transcript it is told.
+/// A read, and its place in the transcript.
 #[derive(Clone, Copy)]
 struct Read {
     place: usize,
@@ -24,7 +24,7 @@ pub struct LaneReads {
     first: Option<u64>,
 }
 
-/// The read that a line tells, if it is one.
+/// The read that a line reports, if it is one.
 fn look_of(told: &Told) -> Option<Look> {
     match told.what {
         What::Got {
@@ -74,8 +74,8 @@ impl LaneReads {
         Some(FoundFault::at(read.place, cause))
     }
 
-    /// The lane goes through a number of calls, with the map behind these: its reads are found true, one after another, up to the
-    /// first that waits for a higher number. It tells what goes wrong.
+    /// The lane goes through a number of calls, with the map after these. Its reads are found true, one after another, up to
+    /// the first that waits for a higher number. Returns what goes wrong.
     fn pass(&mut self, map: &mut TreeMap, number: u64) -> Option<FoundFault> {
         let mut floor = 0;
         for _ in self.next..self.reads.len() {
@@ -107,7 +107,7 @@ pub struct Lanes {
 }
 
 impl Lanes {
-    /// The reads that are told of a tree.
+    /// The reads of a tree that the transcript reports.
     pub fn new(alloc: Global, told: &[Told], tree: u32) -> Result<Lanes, NoMemory> {
         let mut lanes = Vec::new(alloc);
         for number in 0..MOST_LANES {
@@ -126,7 +126,7 @@ impl Lanes {
         None
     }
 
-    /// All lanes go through a number of calls, with the map behind these. It tells the first line that goes wrong.
+    /// All lanes go through a number of calls, with the map after these. Returns the first line that goes wrong.
     pub fn pass(
         &mut self,
         map: &mut TreeMap,

@@ -30,7 +30,7 @@ fn lines_alike(text: &[u8], other: &[u8]) -> usize {
     lines
 }
 
-/// The first line behind those that are told that is not as these trees are listed.
+/// The first line after the steps that is not as these trees are listed.
 pub fn listing_fault(
     alloc: Global,
     version: u32,

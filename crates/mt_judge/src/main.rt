@@ -1,5 +1,5 @@
-//! Tells of a transcript whether it is that of a run of a log, where it is wrong if it is none, and how many of its reads met a
-//! call. It reads what `mtreplay verify` reads.
+//! Whether a transcript is that of a run of a log, where it is wrong if it is none, and how many of its reads met a call. It
+//! reads what `mtreplay verify` reads.
 #![tactic(auto)]
 
 mod answers;
@@ -24,10 +24,10 @@ use std::process::ExitCode;
 use std::rt::Env;
 use std::{env, io};
 
-/// An input has so many bytes at the most.
+/// The greatest number of bytes of an input.
 const LONGEST: u64 = 67_108_864;
 
-/// What fails, where that is not for want of memory.
+/// What fails, where that is not for lack of memory.
 fn unless_memory(error: &io::Error, other: JudgeFailure) -> JudgeFailure {
     match error.kind() {
         ErrorKind::OutOfMemory => JudgeFailure::NoMemory,
@@ -44,7 +44,7 @@ fn words_of(rt: &(impl Env + AllocGlobal)) -> Result<Vec<String>, JudgeFailure> 
         .map_err(|_| JudgeFailure::NoMemory)
 }
 
-/// The bytes of the input, which are so many at the most.
+/// The bytes of the input, which are at most `LONGEST`.
 fn read_input(rt: &(impl Input + AllocGlobal)) -> Result<Vec<u8>, JudgeFailure> {
     let mut bytes = Vec::new(rt.alloc());
     match rt.reader().take(LONGEST + 1).read_to_end(&mut bytes) {
@@ -54,7 +54,7 @@ fn read_input(rt: &(impl Input + AllocGlobal)) -> Result<Vec<u8>, JudgeFailure> 
     }
 }
 
-/// Does what the words say, and tells the status to end with.
+/// Does what the words say, and returns the status to end with.
 fn run(rt: &(impl Env + Input + Print + AllocGlobal)) -> Result<u8, JudgeFailure> {
     let words = words_of(rt)?;
     // Words that ask for nothing are told before any input is read.

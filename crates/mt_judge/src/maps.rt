@@ -8,7 +8,7 @@ use mt_verify::{Look, is_short, is_true, wants_rows};
 use std::alloc::Global;
 use std::marker::Model;
 
-/// No memory holds so many ranges, or so many calls.
+/// No memory holds this many ranges, or this many calls.
 const MOST_RANGES: u64 = 1 << 61;
 
 const MOST_CALLS: u64 = 1 << 56;
@@ -31,7 +31,7 @@ impl Model for TreeMap {
     ghost invariant = { λ t. t.kind ≡ t.map.kind };
 }
 
-/// How many rows a tree has, how many of them were in use at the most as it opened, and how many of its calls have ended.
+/// How many nodes a tree has, how many of them were in use at most as it opened, and how many of its calls have ended.
 #[derive(Clone, Copy)]
 pub struct Room {
     pub rows: u64,
@@ -56,18 +56,18 @@ impl TreeMap {
         })
     }
 
-    /// How many rows the tree has in use as it opens, at the most.
+    /// How many nodes the tree has in use as it opens, at most.
     pub fn rows_opened(&self) -> u64 {
         (self.map.count() / 2).min(MOST_RANGES) + 2
     }
 
-    /// Makes a call, and tells whether these bytes are its reply.
+    /// Makes a call, and returns whether these bytes are its reply.
     pub fn answers(&mut self, version: u32, call: &Call, reply: &[u8]) -> Result<bool, NoMemory> {
         let made = self.map.act(call)?;
         Ok(is_reply(version, &made, reply))
     }
 
-    /// Whether a call may be refused for want of rows with these numbers.
+    /// Whether a call may be refused for lack of nodes with these numbers.
     pub fn refuses(
         &mut self,
         room: Room,
@@ -87,7 +87,7 @@ impl TreeMap {
         is_true(&mut self.map, look)
     }
 
-    /// Whether the bytes tell how many ranges there are.
+    /// Whether the bytes are the number of ranges.
     pub fn has_count(&self, count: &[u8]) -> bool {
         is_number(self.map.count(), count)
     }

@@ -64,7 +64,7 @@ fn order_fault(told: &[Told]) -> Option<FoundFault>
     Some(FoundFault::at(place, cause_of(&told[place])))
 }
 
-/// How many calls are told on a tree.
+/// How many calls on a tree there are.
 fn count_calls(told: &[Told], tree: u32) -> usize {
     told.iter().filter(|one| is_call_on(one, tree)).count()
 }
@@ -100,7 +100,7 @@ fn number_fault(alloc: Global, told: &[Told], tree: u32) -> Result<Option<FoundF
     Ok(None)
 }
 
-/// The first read on a tree whose window ends behind the last call.
+/// The first read on a tree whose window ends after the last call.
 fn end_fault(told: &[Told], tree: u32) -> Option<FoundFault>
     ensures { IfSome result (λ fault. is_of_order fault.cause ≡ false) }
 {

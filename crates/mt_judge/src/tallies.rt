@@ -1,4 +1,4 @@
-//! How much a transcript tells, and how much of it says something of threads.
+//! How much a transcript reports, and how much of it says something of threads.
 
 ghost use Rattle.std.specs.Prelude.{◌≡◌};
 ghost use Rattle.mt_verify.specs.ToldReads.{is_got, is_wrote};
@@ -7,8 +7,8 @@ ghost use Rattle.mt_judge.specs.Judged.{how_many, is_overlapped, tally_of};
 use mt_told::{Told, What};
 use std::fmt;
 
-/// How many calls and how many reads a transcript tells, and how many of the reads met a call on their tree: their windows are
-/// wider than one number of calls.
+/// How many calls and how many reads a transcript reports, and how many of the reads met a call on their tree: their windows
+/// are wider than one number of calls.
 #[derive(Clone, Copy)]
 pub struct ReadTally {
     pub calls: u64,
@@ -32,21 +32,21 @@ impl fmt::Display for ReadTally {
     }
 }
 
-/// Whether a line tells of a call.
+/// Whether a line reports a call.
 fn is_call(told: &Told) -> bool
     ensures { result ≡ is_wrote told.now.what }
 {
     matches!(told.what, What::Wrote { .. })
 }
 
-/// Whether it tells of a read.
+/// Whether it reports a read.
 fn is_read(told: &Told) -> bool
     ensures { result ≡ is_got told.now.what }
 {
     matches!(told.what, What::Got { .. })
 }
 
-/// Whether it tells of a read that met a call.
+/// Whether it reports a read that met a call.
 fn overlaps(told: &Told) -> bool
     ensures { result ≡ is_overlapped told.now.what }
 {
@@ -56,28 +56,28 @@ fn overlaps(told: &Told) -> bool
     }
 }
 
-/// How many of these lines tell of a call.
+/// How many of these lines report a call.
 fn count_calls(told: &[Told]) -> u64
     ensures { result ≡ how_many is_wrote told.now }
 {
     told.iter().filter(|one| is_call(one)).count() as u64
 }
 
-/// How many tell of a read.
+/// How many report a read.
 fn count_reads(told: &[Told]) -> u64
     ensures { result ≡ how_many is_got told.now }
 {
     told.iter().filter(|one| is_read(one)).count() as u64
 }
 
-/// How many tell of a read that met a call.
+/// How many report a read that met a call.
 fn count_overlapped(told: &[Told]) -> u64
     ensures { result ≡ how_many is_overlapped told.now }
 {
     told.iter().filter(|one| overlaps(one)).count() as u64
 }
 
-/// How much these lines tell.
+/// How much these lines report.
 pub fn tally_of(told: &[Told]) -> ReadTally
     ensures { result ≡ tally_of told.now }
 {

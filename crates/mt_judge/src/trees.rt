@@ -1,11 +1,11 @@
-//! The trees of a log, and what a transcript tells of one.
+//! The trees of a log, and what a transcript reports of one.
 
 use mt_base::{Kind, NoMemory};
 use mt_log::{Item, Line, Word};
 use mt_told::{Told, What};
 use std::alloc::Global;
 
-/// A log has so many trees, and so many lanes, at the most.
+/// The greatest number of trees, and of lanes, of a log.
 pub const MOST_TREES: u32 = 16;
 
 pub const MOST_LANES: u32 = 16;
@@ -43,7 +43,7 @@ pub fn trees_of(alloc: Global, lines: &[Line]) -> Result<Vec<DeclaredTree>, NoMe
     Ok(trees)
 }
 
-/// Whether a line tells of a call on a tree.
+/// Whether a line reports a call on a tree.
 pub fn is_call_on(told: &Told, tree: u32) -> bool {
     told.tree == tree && matches!(told.what, What::Wrote { .. })
 }

@@ -6,7 +6,7 @@ use Rattle.mt_verify.specs.Prelude.{History, IsMap, Log, Listing, Transcript, Is
 use Rattle.mt_verify.specs.ToldReads.{calls_of_phases_before}
 use Rattle.mt_verify.specs.GoneTrees.{GoneTree, HasGone, gone_map}
 
--- how a tree opens: empty, or with the map of another tree after the calls that are told of earlier phases
+-- how a tree opens: empty, or with the map of another tree after its calls of earlier phases
 abbrev pub OpensGone : List Told → List GoneTree → Opening → GoneTree → Type 0
 OpensGone told gone Empty g = g.opening ≡ []
 OpensGone told gone (CopyOf tree phase) g = (source : GoneTree) × (slice_get gone tree ≡ Some source) × (g.kind ≡ source.kind) × (g.opening ≡ gone_map source (calls_of_phases_before told tree phase))
@@ -26,18 +26,18 @@ listings_by [] gone = []
 listings_by (d ∷ declared) [] = []
 listings_by (d ∷ declared) (g ∷ gone) = listing_by d g ∷ listings_by declared gone
 
--- The first trees of a log were gone through, and what stood behind the steps begins with their listings.
+-- The first trees of a log were gone through, and the text after the steps begins with their listings.
 pub record HaveGoneTo (log : Log) (rows : ℕ) (told : List Told) (behind : List ℕ) (gone : List GoneTree) (rest : List ℕ) : Type 0 where
   pub each : (tree : ℕ) (d : Declared) (g : GoneTree) → slice_get (trees_of log.lines) tree ≡ Some d → slice_get gone tree ≡ Some g → IsGoneTree log.version rows told gone tree d g
   pub listed : behind ≡ flat_map listing_text (listings_by (trees_of log.lines) gone) ++ rest
   pub maps : (tree : ℕ) (g : GoneTree) → slice_get gone tree ≡ Some g → IsMap g.kind g.opening
 
--- a run that is told so, with what stands behind the steps as its listings
+-- a run with these lines, and with the text after them as its listings
 pub record IsToldRun (log : Log) (rows : ℕ) (told : List Told) (behind : List ℕ) (t : Transcript) (steps : List Step) (trees : List History) : Type 0 where
   pub run : IsRunBy log rows t steps trees
   pub are : AreTold log.version told steps
   pub lists : behind ≡ flat_map listing_text t.lists
 
--- no run is told so
+-- no run has these lines
 abbrev pub NoneIsTold : Log → ℕ → List Told → List ℕ → Type 0
 NoneIsTold log rows told behind = (t : Transcript) (steps : List Step) (trees : List History) → IsToldRun log rows told behind t steps trees → ⊥

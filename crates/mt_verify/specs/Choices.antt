@@ -2,9 +2,8 @@
 -- Source: this project's own.
 use Rattle.std.specs.Prelude.{◌≡◌, ℕ, ◌+◌, ◌<◌, ◌≤◌, Bool, true}
 
--- A number is chosen for each of so many reads, in order: it lies in the read's window, and the read is true at it.
--- Where a read knows of an earlier one, its own number is no lower, and the other's is at most one above where its
--- window begins.
+-- A number is chosen for each of `count` reads, in order. It lies in the read's window, and the read is true at it. If a read
+-- knows of an earlier one, its own number is no lower, and the other's is at most one above where its window begins.
 pub record AreChosen (count : ℕ) (lo hi : ℕ → ℕ) (IsTrueAt Knows : ℕ → ℕ → Type 0) (k : ℕ → ℕ) : Type 0 where
   pub from : (i : ℕ) → i < count → lo i ≤ k i
   pub to : (i : ℕ) → i < count → k i ≤ hi i

@@ -1,4 +1,4 @@
--- How all lanes go through a tree's maps, and what the tree's calls and reads come to.
+-- How all lanes go through a tree's maps, and what the check of the tree's calls and reads returns.
 -- Source: this project's own.
 use Rattle.std.specs.Prelude.{◌≡◌, ◌⊎◌, ℕ, ◌+◌, ◌/◌, ◌<◌, ◌≤◌, Bool, true, false, List, [], Some, length, map, slice_get}
 use Rattle.mt_verify.specs.Prelude.{Kind, Range, Contents}
@@ -17,15 +17,15 @@ pub record Lane : Type 0 where
 
 -- ---- the calls of a tree
 
--- a call behind so many others was answered by the map before it, or refused for want of rows
+-- a call, with this many calls before it, was answered by the map before it, or refused because nodes are short
 abbrev pub IsAnsweredAt : Kind → ℕ → ℕ → ℕ → ℕ → List Range → Noted → Type 0
 IsAnsweredAt kind version rows opened ended m n = IsHeardAt kind version (shared_limits rows opened ended) m n.call n.heard
 
--- so many rows a tree has at the most that opens with this map
+-- the greatest number of nodes of a tree that opens with this map
 abbrev pub opened_of : List Range → ℕ
 opened_of opening = length opening / 2 + 2
 
--- each of the first so many calls was
+-- each of the first calls, this many of them, was answered so
 abbrev pub AreAnswered : Kind → ℕ → ℕ → List Range → List Noted → ℕ → Type 0
 AreAnswered kind version rows opening noted count = (i : ℕ) (n : Noted) → i < count → slice_get noted i ≡ Some n
     → IsAnsweredAt kind version rows (opened_of opening) i (map_of_noted kind opening noted i) n
@@ -64,13 +64,13 @@ pub record SomeHasNone (m : ℕ → List Range) (lanes : List Lane) : Type 0 whe
   pub is : slice_get lanes place ≡ Some lane
   pub none : (k : ℕ → ℕ) → MayHave m lane.looks k → ⊥
 
--- all stops tell how many ranges the tree had
+-- all stops (checks and copies) report how many ranges the tree had
 abbrev pub AllStopped : (ℕ → List Range) → List Stop → Type 0
 AllStopped m stops = AreCounted m stops (length stops)
 
--- The calls were answered as the maps before them answer, all looks have their least numbers, and all stops tell how
--- many ranges the tree had; or a call was not, or some looks can have no numbers, or a stop tells another number of
--- ranges.
+-- Either all three hold: the maps before the calls answered them, all looks (reads) have their least numbers, and all stops
+-- report how many ranges the tree had. Or one fails: a call was not answered so, some looks can have no numbers, or a stop
+-- reports another number.
 abbrev pub IsGone : Kind → ℕ → ℕ → List Range → List Noted → List Lane → Passing → Bool → Type 0
 IsGone kind version rows opening noted lanes p true =
     AreAnswered kind version rows opening noted (length noted) × AllLeast (map_of_noted kind opening noted) lanes
@@ -84,11 +84,11 @@ pub record AreFreshStops (p : Passing) : Type 0 where
   pub next : p.next ≡ 0
   pub rise : DoNotFall p.stops
 
--- no stop is behind the last call
+-- no stop is after the last call
 abbrev pub AreStopsWithin : ℕ → List Stop → Type 0
 AreStopsWithin count stops = (i : ℕ) (s : Stop) → slice_get stops i ≡ Some s → s.at ≤ count
 
--- no window ends behind the last call
+-- no window ends after the last call
 abbrev pub AreWithin : ℕ → List Lane → Type 0
 AreWithin count lanes = (j : ℕ) (t : Lane) (i : ℕ) (l : Look) → slice_get lanes j ≡ Some t
     → slice_get t.looks i ≡ Some l → l.hi ≤ count
@@ -118,7 +118,7 @@ abbrev pub HavePassedAll : (ℕ → List Range) → ℕ → List Lane → Passin
 HavePassedAll m number lanes p true = AreAt m (number + 1) lanes p
 HavePassedAll m number lanes p false = SomeStuck m lanes ⊎ SomeMiscounted m p.stops
 
--- the map behind all these calls
+-- the map after all these calls
 pub record IsLastMap (kind : Kind) (opening : List Range) (noted : List Noted) (map : Contents) : Type 0 where
   pub of_kind : map.kind ≡ kind
   pub ranges : map.ranges ≡ map_of_noted kind opening noted (length noted)

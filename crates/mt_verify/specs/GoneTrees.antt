@@ -20,16 +20,16 @@ pub record GoneTree : Type 0 where
   pub noted : List Noted
   pub lanes : List Lane
 
--- the map after so many calls of the tree
+-- the map after `k` calls of the tree
 abbrev pub gone_map : GoneTree → ℕ → List Range
 gone_map g k = map_of_noted g.kind g.opening g.noted k
 
--- the reads of each lane of a log, as they are told of a tree
+-- the reads of each lane of a log on a tree, as the text reports them
 abbrev pub lane_looks : ℕ → List Told → List (List Look)
 lane_looks tree told = map (looks_by_lane (lines_on tree told)) (range_with_len 0 most_lanes)
 
--- The tree's calls stand by their numbers and were answered as the maps before them answer, the reads of each lane have
--- the least numbers that they may have, and each check and copy tells how many ranges the tree had.
+-- The tree's calls are in the order of their numbers, and the maps before them answered them. The reads of each lane have the
+-- least numbers that they can have. Each check and copy reports how many ranges the tree had.
 pub record HasGone (version rows : ℕ) (told : List Told) (tree : ℕ) (g : GoneTree) : Type 0 where
   pub calls : List Numbered
   pub are : AreCallsOf tree told calls
@@ -47,9 +47,9 @@ pub record IsGoneFrom (version rows : ℕ) (told : List Told) (tree : ℕ) (from
   pub opening : g.opening ≡ from.ranges
   pub last : IsLastMap g.kind g.opening g.noted to
 
--- Of a tree of this kind that opens with this map: its calls do not stand by their numbers; or one is told to be
--- refused for want of rows, and cannot be; or one was not answered as the map before it answers; or the reads of some
--- lane can have no numbers; or a check or a copy tells another number of ranges.
+-- What can be wrong with a tree of this kind that opens with this map. Its calls do not have the numbers from 1 on. A call is
+-- reported as refused because nodes are short, and cannot be. The map before a call did not answer it so. The reads of some
+-- lane can have no numbers. Or a check or a copy reports another number of ranges.
 pub record IsHindered (version rows : ℕ) (told : List Told) (tree : ℕ) (kind : Kind)
     (opening : List Range) : Type 0 where
   pub calls : List Numbered

@@ -1,4 +1,4 @@
--- What is heard of a call that was refused for want of rows, and who may have held rows.
+-- What is heard of a call that was refused for lack of nodes, and who may have held nodes.
 -- Source: this project's own.
 use Rattle.std.specs.Prelude.{◌≡◌, ◌≢◌, ◌↔◌, ℕ, ◌+◌, ◌*◌, ◌==◌, ◌&&◌, ◌<◌, ◌≤◌, ◌^◌, Bool, true, false, List, Option, None, IsSome, IfSome, IsSomeAnd, nat_le, slice_index_or}
 use Rattle.std.specs.Fmt.{decimal}
@@ -13,7 +13,7 @@ is_got (Got lo hi query answer) = true
 is_got (Copied count) = false
 is_got (Lawful count) = false
 
--- the line tells that this lane read this tree, in a phase that was not later
+-- the line reports that this lane read this tree, in a phase that was not later
 abbrev pub reads_by : ℕ → ℕ → ℕ → Told → Bool
 reads_by tree lane phase r = (r.lane == lane) && ((r.tree == tree) && (nat_le r.phase phase && is_got r.what))
 
@@ -46,8 +46,8 @@ pub record SaysShortage (text : List ℕ) (s : Shortage) : Type 0 where
   pub none : s.by ≡ None
   pub only : (other : Shortage) → IsSmallShortage other → text ≡ shortage_printed other → other.held ≡ s.held
 
--- The reply that is told is this shortage. Where rows were held, and only there, someone is named: another lane that
--- had read the tree.
+-- The reply in the text is this shortage. If nodes were held, and only then, a reader is named: another lane that had read the
+-- tree.
 pub record IsToldShortage (told : List Told) (tree : ℕ) (call : Numbered) (s : Shortage) : Type 0 where
   pub printed : call.reply.now ≡ shortage_printed s
   pub some : IsSome s.by ↔ (0 < s.held)

@@ -1,4 +1,4 @@
--- What is heard of the calls of a tree, by what a text tells of their replies.
+-- What the text of their replies says of the calls of a tree.
 -- Source: this project's own.
 use Rattle.std.specs.Prelude.{◌≡◌, ℕ, List, [], ◌∷◌, ◌++◌, Some, codes, slice_get}
 use Rattle.mt_verify.specs.Prelude.{Told, Shortage}
@@ -8,7 +8,7 @@ use Rattle.mt_verify.specs.declared.noted.Heard.TheVariants.{Reply as Printed, S
 use Rattle.mt_verify.specs.declared.noted.Noted.{Noted}
 use Rattle.mt_verify.specs.Heard.{IsHeard, IsSmallShortage, IsToldShortage}
 
--- the reply as it is printed, where it does not begin as a refusal for want of rows; or the refusal
+-- the reply as it is printed, where it does not begin as a refusal for lack of nodes; or the refusal
 abbrev pub IsHeardOf : List Told → ℕ → Numbered → Heard → Type 0
 IsHeardOf told tree call (Printed bytes) = (bytes.now ≡ call.reply.now)
     × ((rest : List ℕ) → call.reply.now ≡ codes "nomem " ++ rest → ⊥)
@@ -26,7 +26,7 @@ AreNotedOf told tree [] (n ∷ noted) = ⊥
 AreNotedOf told tree (call ∷ calls) [] = ⊥
 AreNotedOf told tree (call ∷ calls) (n ∷ noted) = IsNotedOf told tree call n × AreNotedOf told tree calls noted
 
--- no refusal for want of rows can be told so
+-- no refusal because nodes are short can have this text
 abbrev pub IsMisheard : List Told → ℕ → Numbered → Type 0
 IsMisheard told tree call = ((rest : List ℕ) × (call.reply.now ≡ codes "nomem " ++ rest))
     × ((s : Shortage) → IsSmallShortage s → IsToldShortage told tree call s → ⊥)

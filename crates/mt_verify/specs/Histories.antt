@@ -1,4 +1,4 @@
--- The calls of a tree, as a transcript tells them, and the history that they are.
+-- The calls of a tree, as a transcript reports them, and the history that they are.
 -- Source: this project's own.
 use Rattle.std.specs.Prelude.{◌≡◌, ◌↔◌, ℕ, ◌<◌, Bool, true, false, List, [], ◌∷◌, IsSome, IfSome, fold, take}
 use Rattle.mt_verify.specs.Prelude.{Kind, Range, Call, Reply, NoNodes, Shortage, acted, Record, History, Limits, IsRefused, reply_text}
@@ -8,7 +8,7 @@ use Rattle.mt_verify.specs.declared.noted.Noted.{Noted}
 
 -- ---- the maps
 
--- a refusal for want of rows leaves the map
+-- a refusal for lack of nodes leaves the map
 abbrev pub map_heard : Heard → List Range → List Range → List Range
 map_heard (Printed bytes) before after = after
 map_heard (Short s) before after = before
@@ -47,14 +47,13 @@ abbrev pub IsHeardAt : Kind → ℕ → Limits → List Range → Call → Heard
 IsHeardAt kind version l m call (Printed bytes) = reply_text version (acted kind m call).1 ≡ bytes.now
 IsHeardAt kind version l m call (Short s) = IsRefused kind l m call (NoNodes s)
 
--- ---- which histories a transcript may tell
+-- ---- which histories a transcript can report
 
 abbrev pub is_nomem : Reply → Bool
 is_nomem (NoNodes shortage) = true
 is_nomem reply = false
 
--- The refusal has these numbers, whoever held rows. Where rows were held, someone is named here who read before any
--- call.
+-- The refusal has these numbers, whoever held nodes. Where nodes were held, someone is named here who read before any call.
 pub record IsShortAs (s : Shortage) (r : Reply) : Type 0 where
   pub other : Shortage
   pub is : r ≡ NoNodes other
@@ -62,12 +61,12 @@ pub record IsShortAs (s : Shortage) (r : Reply) : Type 0 where
   pub holder : IsSome s.by ↔ (0 < s.held)
   pub epoch : IfSome s.by (λ h. h.epoch ≡ 0)
 
--- a reply that a transcript may tell so
+-- a reply that a transcript can report so
 abbrev pub IsHeard : ℕ → Heard → Reply → Type 0
 IsHeard version (Printed bytes) r = (is_nomem r ≡ false) × (reply_text version r ≡ bytes.now)
 IsHeard version (Short s) r = IsShortAs s r
 
--- these calls, with replies that a transcript may tell so
+-- these calls, with replies that a transcript can report so
 abbrev pub AreHeard : ℕ → List Noted → List Record → Type 0
 AreHeard version [] [] = Unit {0}
 AreHeard version [] (r ∷ records) = ⊥

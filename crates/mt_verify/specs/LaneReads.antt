@@ -1,4 +1,4 @@
--- The reads of one lane on one tree, among the steps of a run or as a text tells them, and their numbers.
+-- The reads of one lane on one tree, in the steps of a run or in a text, with their numbers.
 -- Source: this project's own.
 use Rattle.std.specs.Prelude.{◌≡◌, ℕ, ◌==◌, List, Option, Some, None, slice_get, if◌then◌else◌}
 use Rattle.std.specs.List.{filter_map}
@@ -22,7 +22,7 @@ looks_on tree lane steps = filter_map (by_lane look_of tree lane) steps
 abbrev pub points_on : ℕ → ℕ → List Step → List ℕ
 points_on tree lane steps = filter_map (by_lane point_of tree lane) steps
 
--- ---- as a text tells them
+-- ---- in a text
 
 abbrev pub look_told : What → Option Look
 look_told (Wrote number call reply) = None
@@ -30,7 +30,7 @@ look_told (Got lo hi query answer) = Some (record { lo = lo; hi = hi; query = qu
 look_told (Copied count) = None
 look_told (Lawful count) = None
 
--- the read that a line tells, where it is one of this lane on this tree
+-- the read that a line reports, if it is one of this lane on this tree
 abbrev pub look_by : ℕ → ℕ → Told → Option Look
 look_by tree lane t = if t.tree == tree then (if t.lane == lane then look_told t.what else None) else None
 

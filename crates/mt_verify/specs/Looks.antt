@@ -7,7 +7,7 @@ use Rattle.mt_verify.specs.declared.looks.Look.{Look}
 use Rattle.mt_verify.specs.declared.tracks.Fate.{Fate}
 use Rattle.mt_verify.specs.declared.tracks.Fate.TheVariants.{Took, Waits, Stuck}
 
--- what the look was told is what this map answers
+-- the look's answer is that of this map
 abbrev pub IsTrueOn : List Range → Look → Type 0
 IsTrueOn m l = shown l.query (answer m l.query) ≡ l.told
 
@@ -16,8 +16,8 @@ abbrev pub floor_at : List ℕ → ℕ → ℕ
 floor_at points zero = 0
 floor_at points (suc i) = slice_index points i
 
--- The first number that does for a look, from that of the look before it: it lies in the window, which begins no more
--- than one below that number, and the look is true of the map there and of none before.
+-- The first number that suits a look, from that of the look before it. It lies in the window, which begins at most one below
+-- that number. The look is true of the map there, and of none before.
 pub record IsFirstPoint (m : ℕ → List Range) (floor : ℕ) (l : Look) (k : ℕ) : Type 0 where
   pub room : floor ≤ l.lo + 1
   pub rise : floor ≤ k
@@ -32,8 +32,8 @@ pub record ArePicked (m : ℕ → List Range) (looks : List Look) (points : List
   pub each : (i : ℕ) (l : Look) → i < length points → slice_get looks i ≡ Some l
       → IsFirstPoint m (floor_at points i) l (slice_index points i)
 
--- Besides, no number that they have is `top` or above, and the look that comes next, which has room, is true of no map
--- below this number.
+-- And all their numbers are below `top`. The next look, if there is one, still has room, and is true of no map below this
+-- number.
 pub record ArePickedBelow (m : ℕ → List Range) (top number : ℕ) (looks : List Look) (points : List ℕ) : Type 0 where
   pub picked : ArePicked m looks points
   pub below : (i : ℕ) → i < length points → slice_index points i < top
@@ -58,7 +58,7 @@ pub record CanTake (m : ℕ → List Range) (number : ℕ) (looks : List Look) (
   pub to : number ≤ look.hi
   pub holds : IsTrueOn (m number) look
 
--- what one try at a number comes to
+-- the result of one try at a number
 abbrev pub ComesTo : (ℕ → List Range) → ℕ → List Look → List ℕ → Fate → Type 0
 ComesTo m number looks points Took = ArePickedBelow m (number + 1) number looks points
 ComesTo m number looks points Waits = ArePickedBelow m (number + 1) (number + 1) looks points
@@ -69,7 +69,7 @@ is_took Took = true
 is_took Waits = false
 is_took Stuck = false
 
--- what a lane comes to at a number: it has gone through it, or it is stuck
+-- the result for a lane at a number: it has gone through it, or it is stuck
 abbrev pub Passed : (ℕ → List Range) → ℕ → List Look → List ℕ → Bool → Type 0
 Passed m number looks points true = ArePickedBelow m (number + 1) (number + 1) looks points
 Passed m number looks points false = IsStuck m looks points

@@ -6,7 +6,7 @@ use Rattle.mt_verify.specs.AllGone.{OpensGone}
 use Rattle.mt_verify.specs.ToldReads.{is_wrote}
 use Rattle.mt_verify.specs.GoneTrees.{GoneTree}
 
--- the line tells of a call on this tree in a phase before this one
+-- the line reports a call on this tree in a phase before this one
 abbrev pub is_call_before : ℕ → ℕ → Told → Bool
 is_call_before tree phase t = (t.tree == tree) && (nat_lt t.phase phase && is_wrote t.what)
 

@@ -1,4 +1,4 @@
--- What a text tells of one tree.
+-- What a text says of one tree.
 -- Source: this project's own.
 use Rattle.std.specs.Prelude.{ℕ, ◌+◌, ◌==◌, List, [], ◌∷◌, Option, Some, None, nat_lt, if◌then◌else◌}
 use Rattle.std.specs.List.{filter_map}
@@ -8,14 +8,14 @@ use Rattle.mt_verify.specs.declared.counts.Counting.{Counting}
 use Rattle.mt_verify.specs.declared.looks.Look.{Look}
 use Rattle.mt_verify.specs.declared.stops.Stop.{Stop}
 
--- the line, where it tells of this tree
+-- the line, if it is of this tree
 abbrev pub line_on : ℕ → Told → Option Told
 line_on tree t = if t.tree == tree then Some t else None
 
 abbrev pub lines_on : ℕ → List Told → List Told
 lines_on tree told = filter_map (line_on tree) told
 
--- the read that a line tells, where it is of this lane
+-- the read that a line reports, if it is of this lane
 abbrev pub look_by_lane : ℕ → Told → Option Look
 look_by_lane lane t = if t.lane == lane then look_told t.what else None
 
@@ -37,13 +37,13 @@ calls_below (t ∷ own) phase = (if nat_lt t.phase phase then calls_in t.what el
 abbrev pub entered : ℕ → Counting → Counting
 entered phase c = if nat_lt c.phase phase then record { phase = phase; before = c.calls; calls = c.calls } else c
 
--- a line that tells how many ranges the tree had, behind so many calls
+-- a line that reports how many ranges the tree had after this many calls
 abbrev pub stop_at : ℕ → What → Option Stop
 stop_at at (Wrote number call reply) = None
 stop_at at (Got lo hi query told) = None
 stop_at at (Copied count) = Some (record { at = at; count = count })
 stop_at at (Lawful count) = Some (record { at = at; count = count })
 
--- all of them, each behind the calls of lower phases
+-- all of them, each after the calls of lower phases
 abbrev pub stops_told : List Told → List Stop
 stops_told own = filter_map (λ t. stop_at (calls_below own t.phase) t.what) own

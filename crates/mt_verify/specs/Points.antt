@@ -18,7 +18,7 @@ point_of (Counted said ranges) = None
 abbrev pub points_of : List Step → List ℕ
 points_of steps = filter_map (λ s. point_of s.outcome) steps
 
--- the numbers of the reads of a transcript, in order, in one run that it tells
+-- the numbers (versions) of the reads of a transcript, in order, in one run with this transcript
 pub record IsPointList (log : Log) (rows : ℕ) (t : Transcript) (points : List ℕ) : Type 0 where
   pub steps : List Step
   pub trees : List History
@@ -34,8 +34,8 @@ AreUpTo (a ∷ points) (b ∷ others) = (a ≤ b) × AreUpTo points others
 
 -- ---- a verdict
 
--- The text is that of a transcript of a run, with these points, and each is at most the point at its place in every point list
--- of every transcript that has this text.
+-- The text is that of a transcript of a run, with these points (versions of the reads). Each is at most the point at its place
+-- in every point list of every transcript that has this text.
 pub record AreLeastPoints (log : Log) (rows : ℕ) (text points : List ℕ) : Type 0 where
   pub transcript : Transcript
   pub printed : text ≡ text_of transcript
@@ -64,11 +64,11 @@ read_number (Called number call reply) = 0
 read_number (Looked lo hi k query value) = k
 read_number (Counted said ranges) = 0
 
--- what the step at a place has; 0 where none stands there
+-- the value of the step at a place, and 0 if there is no step
 abbrev pub at_place : (Outcome → ℕ) → List Step → ℕ → ℕ
 at_place f steps i = unwrap_or (option_map (λ s. f s.outcome) (slice_get steps i)) 0
 
--- what was told is what the map after m calls answers
+-- the answer in the transcript is that of the map after m calls
 abbrev pub TellsAt : History → ℕ → Outcome → Type 0
 TellsAt h m (Called number call reply) = Unit {0}
 TellsAt h m (Looked lo hi k query value) = (m ≤ length h.records)
@@ -103,24 +103,24 @@ pub record AreAlike (steps : List Step) (trees : List History) (steps' : List St
 
 -- ---- histories that go alike
 
--- two histories with the same calls, of which the same were refused for want of rows
+-- two histories with the same calls, of which the same were refused for lack of nodes
 abbrev pub GoAlike : List Record → List Record → Type 0
 GoAlike [] [] = Unit {0}
 GoAlike [] (s ∷ others) = ⊥
 GoAlike (r ∷ records) [] = ⊥
 GoAlike (r ∷ records) (s ∷ others) = (r.call ≡ s.call) × (is_nomem r.reply ≡ is_nomem s.reply) × GoAlike records others
 
--- a record's part in the way of the map: its call, and whether that was refused for want of rows
+-- a record's part in the way of the map: its call, and whether that was refused for lack of nodes
 abbrev pub map_part : Record → Call × Bool
 map_part r = (r.call, is_nomem r.reply)
 
 abbrev pub numbered_part : ℕ × Record → ℕ × (Call × Bool)
 numbered_part e = (e.0, map_part e.1)
 
--- ---- runs that are told alike
+-- ---- runs with the same text
 
--- What is told of two outcomes is the same, but for what is not printed: the number of a read and the rest of a loaded
--- range, who held rows, and the ranges that were counted.
+-- Two outcomes have the same text. What is not printed may differ: the version of a read and the rest of a loaded range, who
+-- held nodes back, and which ranges were counted.
 abbrev pub OutcomesAlike : Outcome → Outcome → Type 0
 OutcomesAlike (Called n c r) (Called n' c' r') = (n ≡ n') × (c ≡ c') × (is_nomem r ≡ is_nomem r')
 OutcomesAlike (Called n c r) (Looked lo' hi' k' q' v') = ⊥
@@ -150,8 +150,8 @@ abbrev pub CopiesEarlier : List Declared → Type 0
 CopiesEarlier declared = (tree source phase : ℕ) (d : Declared) → slice_get declared tree ≡ Some d
     → d.opening ≡ CopyOf source phase → source < tree
 
--- Each declared tree has a history, which opens as the log says and in which the tree's calls stand by their numbers:
--- what a run has of its trees before their calls and reads are looked at.
+-- Each declared tree has a history, which opens as the log says and has the tree's calls at their numbers. This is what a run
+-- knows of its trees before their calls and reads are checked.
 pub record HaveHistories (log : Log) (steps : List Step) (trees : List History) : Type 0 where
   pub count : length trees ≡ length (trees_of log.lines)
   pub opened : (tree : ℕ) (d : Declared) (h : History) → slice_get (trees_of log.lines) tree ≡ Some d

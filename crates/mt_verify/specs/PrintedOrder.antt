@@ -1,4 +1,4 @@
--- The order of what a text tells, by call numbers and windows: what is tested before any map is made.
+-- The order of what a text reports, by call numbers and windows. It is tested before any map is made.
 -- Source: this project's own.
 use Rattle.std.specs.Prelude.{◌≡◌, ◌⊎◌, ℕ, ◌<◌, ◌≤◌, List, length}
 use Rattle.mt_verify.specs.Prelude.{Told, What, Wrote, Got, Copied, Lawful}
@@ -27,13 +27,13 @@ InPrintedOrder s t = s.tree ≡ t.tree → Knows s t → KeepsTo s.what t.what
 
 -- ---- the ends of windows
 
--- a read's window ends within so many calls
+-- a read's window ends within this many calls
 abbrev pub EndsWithin : ℕ → What → Type 0
 EndsWithin calls (Wrote number call reply) = Unit {0}
 EndsWithin calls (Got lo hi query answer) = hi ≤ calls
 EndsWithin calls (Copied count) = Unit {0}
 EndsWithin calls (Lawful count) = Unit {0}
 
--- its window ends within the calls that are told on its tree
+-- its window ends within the calls that the text reports on its tree
 abbrev pub EndsInTree : List Told → Told → Type 0
 EndsInTree told t = EndsWithin (length (calls_told t.tree told)) t.what

@@ -1,4 +1,4 @@
--- How many calls and how many reads a transcript tells.
+-- How many calls and how many reads a transcript reports.
 -- Source: this project's own.
 use Rattle.std.specs.Prelude.{ℕ, Bool, true, false, length}
 use Rattle.std.specs.List.{filter}

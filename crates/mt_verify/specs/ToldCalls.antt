@@ -1,4 +1,4 @@
--- The calls that a text tells of a tree.
+-- The calls on a tree that a text reports.
 -- Source: this project's own.
 use Rattle.std.specs.Prelude.{◌≡◌, ◌⊎◌, ℕ, ◌+◌, ◌==◌, ◌<◌, List, [], ◌∷◌, Option, Some, None, IsPermutation, count_by, length, if◌then◌else◌}
 use Rattle.std.specs.List.{enumerate_from, filter_map}
@@ -26,7 +26,7 @@ AreCallsOf tree told list = IsPermutation (enumerate_from 1 list) (calls_told tr
 
 -- ---- a table of places, the first of which has this number
 
--- the calls that stand in places, with their numbers
+-- the calls in the places that are filled, with their numbers
 abbrev pub filled_from : {X : Type 0} → ℕ → List (Option X) → List (ℕ × X)
 filled_from n [] = []
 filled_from n (None ∷ places) = filled_from (n + 1) places
@@ -36,13 +36,13 @@ filled_from n (Some call ∷ places) = (n, call) ∷ filled_from (n + 1) places
 abbrev pub times_numbered : {X : Type 0} → ℕ → List (ℕ × X) → ℕ
 times_numbered number calls = count_by (λ e. e.0 == number) calls
 
--- no place has the number, or a call stands there
+-- there is no place for the number, or it has a call already
 abbrev pub HasNoPlace : {X : Type 0} → ℕ → List (Option X) → Type 0
 HasNoPlace number places = (number ≡ 0) ⊎ ((length places < number) ⊎ (0 < times_numbered number (filled_from 1 places)))
 
--- ---- the calls of steps that are told so
+-- ---- the calls of the steps that a text reports
 
--- the record is of the lane and the call that are told, and its reply prints so
+-- the record has the lane and the call that the line reports, and its reply prints as in the line
 pub record IsRecordTold (version : ℕ) (e : ℕ × Numbered) (r : ℕ × Record) : Type 0 where
   pub number : r.0 ≡ e.0
   pub lane : r.1.pass ≡ e.1.lane

@@ -1,4 +1,4 @@
--- Which lines of a text tell calls and which reads, how many, and the reads of a lane with their numbers.
+-- Which lines of a text report calls and which reads, how many, and the reads of a lane with their numbers.
 -- Source: this project's own.
 use Rattle.std.specs.Prelude.{ℕ, ◌==◌, ◌&&◌, Bool, true, false, List, [], ◌∷◌, Option, Some, None, nat_lt, length, map, if◌then◌else◌}
 use Rattle.std.specs.List.{cons_option, filter}
@@ -11,11 +11,11 @@ is_wrote (Got lo hi query answer) = false
 is_wrote (Copied count) = false
 is_wrote (Lawful count) = false
 
--- how many calls on a tree are told of earlier phases
+-- how many calls on a tree the text reports in earlier phases
 abbrev pub calls_of_phases_before : List Told → ℕ → ℕ → ℕ
 calls_of_phases_before told tree phase = length (filter (λ t. (t.tree == tree) && (nat_lt t.phase phase && is_wrote t.what)) told)
 
--- of the numbers of reads the one of this line, and those of the lines behind it
+-- of the numbers of reads that of this line, and those of the lines after it
 abbrev pub number_for : What → List ℕ → ℕ
 number_for (Got lo hi query told) (k ∷ points) = k
 number_for what points = 0

@@ -4,7 +4,7 @@ use Rattle.std.specs.Prelude.{◌<◌, ◌≤◌, ◌^◌, ℕ, List, All, AllPa
 use Rattle.mt_verify.specs.Prelude.{most_rows, Log, IsReadable, most_lanes, trees_of, Told}
 use Rattle.mt_verify.specs.PrintedOrder.{EndsInTree}
 
--- They are of the log's trees and lanes, phase by phase, and no window ends behind the last call on its tree.
+-- The lines are of the log's trees and lanes, phase by phase, and no window ends after the last call on its tree.
 pub record IsOfLog (log : Log) (rows : ℕ) (told : List Told) : Type 0 where
   pub readable : IsReadable log.lines
   pub few_rows : rows ≤ most_rows

@@ -1,4 +1,4 @@
--- Whether a call wants rows, as a test of the map before it.
+-- Whether a call needs nodes, as a test of the map before it.
 -- Source: this project's own.
 use Rattle.std.specs.Prelude.{ℕ, Bool, true, false, not, ◌==◌, ◌||◌, ◌&&◌, List, is_some, if◌then◌else◌}
 use Rattle.mt_verify.specs.Prelude.{Range, Kind, Call, Store, StorePre, Insert, Erase, Alloc, Ralloc, Gap, Rgap, Clear, Reply, is_invalid, is_bad_area, low, high, holding, is_held, is_exactly}

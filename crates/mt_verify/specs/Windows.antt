@@ -34,7 +34,7 @@ pub record InBoth (steps : List Step) : Type 0 where
 
 -- ---- the ends of windows
 
--- a read's window ends within so many calls
+-- a read's window ends within this many calls
 abbrev pub EndsWithin : ℕ → Outcome → Type 0
 EndsWithin calls (Called number call reply) = Unit {0}
 EndsWithin calls (Looked lo hi k query value) = hi ≤ calls

@@ -1,4 +1,4 @@
-//! Whether a call was answered by the map before it, or rightly refused for want of rows.
+//! Whether a call was answered by the map before it, or rightly refused for lack of nodes.
 
 ghost use Rattle.std.specs.Prelude.{◌≡◌, ◌↔◌, ◌≤◌, ◌<◌, ◌^◌, IfOk, IsTrue, OnOk};
 ghost use Rattle.mt_base.specs.Call.{acted};
@@ -17,7 +17,7 @@ use mt_list::Ranges;
 use mt_shelves::ShelfMap;
 use mt_told::is_reply;
 
-/// The call is made. It tells whether its answer is these bytes in print.
+/// Makes the call. Returns whether its reply prints as these bytes.
 fn is_answer(map: &mut ShelfMap, version: u32, call: &Call, bytes: &[u8]) -> Result<bool, NoMemory>
     ensures kind { map.new.kind ≡ map.old.kind }
     ensures map { OnOk result (map.new.ranges ≡ (acted map.old.kind map.old.ranges call.now).0) }
@@ -28,8 +28,8 @@ fn is_answer(map: &mut ShelfMap, version: u32, call: &Call, bytes: &[u8]) -> Res
     Ok(is_reply(version, &reply, bytes))
 }
 
-/// Whether the call may be refused for want of rows with these numbers, where so many calls have ended on a tree that
-/// opened with so many rows at the most.
+/// Whether the call may be refused because nodes are short, with these numbers, after `ended` calls on a tree that opened with
+/// at most `opened` nodes.
 fn is_refused(
     map: &mut ShelfMap,
     kind: Kind,
@@ -55,7 +55,7 @@ fn is_refused(
     Ok(is_short(rows, opened, ended, map.count(), shortage))
 }
 
-/// A call is made, unless it was refused for want of rows. It tells whether it was answered or refused rightly.
+/// Makes a call, unless it was refused because nodes are short. Returns whether it was answered or refused rightly.
 pub fn agrees(
     map: &mut ShelfMap,
     kind: Kind,

@@ -20,7 +20,7 @@ fn asking(lines: &[Line]) -> u64
     lines.iter().filter(|line| asks_call(line)).count() as u64
 }
 
-/// How many calls a log asks for: every transcript of a run of it tells so many.
+/// How many calls a log asks for. Every transcript of a run of it reports that many.
 pub fn calls_of(log: &Log) -> u64
     ensures { (rows : ℕ) (t : Transcript) → IsRun log.now rows t → count_of_calls t ≡ result }
 {

@@ -1,4 +1,4 @@
-//! The calls that a text tells of a tree, in the order of their numbers.
+//! The calls on a tree that a text reports, in the order of their numbers.
 
 ghost use Rattle.std.specs.Prelude.{◌≡◌, ℕ, List, [], ◌∷◌, length, map, Contains, IfOk, IsPermutation, MatchOption};
 ghost use Rattle.std.specs.Bool.{OnTrue, OnFalse};
@@ -9,8 +9,7 @@ use mt_base::{Call, NoMemory};
 use mt_told::{Told, What};
 use std::alloc::Global;
 
-/// A call as it is told, without its number and its tree: who made it and when, what it was, and the bytes of what it
-/// was answered.
+/// A call in a text, without its number and its tree: who made it and when, what it was, and the bytes of its reply.
 #[derive(Clone, Copy)]
 pub struct Numbered<'t> {
     pub lane: u32,
@@ -19,7 +18,7 @@ pub struct Numbered<'t> {
     pub reply: &'t [u8],
 }
 
-/// The call that a line tells, with its number, where it is one on this tree.
+/// The call that a line reports, with its number, if it is a call on this tree.
 fn numbered_on<'t>(told: &Told<'t>, tree: u32) -> Option<(u64, Numbered<'t>)>
     ensures { result ≡ numbered_on_told tree told.now }
 {
@@ -44,14 +43,14 @@ fn numbered_on<'t>(told: &Told<'t>, tree: u32) -> Option<(u64, Numbered<'t>)>
     }
 }
 
-/// How many calls are told on a tree.
+/// How many calls on a tree the text reports.
 pub fn count_calls(told: &[Told], tree: u32) -> usize
     ensures { result ≡ length (calls_told tree told.now) }
 {
     told.iter().filter_map(|one| numbered_on(one, tree)).count()
 }
 
-/// Puts a call in the place of its number. It tells whether there is one, and it is free.
+/// Puts a call in the place of its number. Returns whether there is one, and it is free.
 fn put<'t>(places: &mut [Option<Numbered<'t>>], number: u64, call: Numbered<'t>) -> bool
     ensures put { OnTrue result
         (IsPermutation (filled_from 1 places.new) ((number, call.entry) ∷ filled_from 1 places.old)) }
@@ -68,7 +67,7 @@ fn put<'t>(places: &mut [Option<Numbered<'t>>], number: u64, call: Numbered<'t>)
     true
 }
 
-/// Puts each call on a tree in the place of its number. It tells whether each had one.
+/// Puts each call on a tree in the place of its number. Returns whether each had one.
 fn fill<'t>(told: &[Told<'t>], tree: u32, places: &mut [Option<Numbered<'t>>]) -> bool
     requires { filled_from 1 places.old ≡ [] }
     ensures filled { OnTrue result (IsPermutation (filled_from 1 places.new) (calls_told tree told.now)) }
@@ -85,7 +84,7 @@ fn fill<'t>(told: &[Told<'t>], tree: u32, places: &mut [Option<Numbered<'t>>]) -
     true
 }
 
-/// The calls that stand in places, if none is free.
+/// The calls in the places, if none is free.
 fn all_of<'t>(
     alloc: Global,
     places: &[Option<Numbered<'t>>],
@@ -115,7 +114,7 @@ fn places<'t>(alloc: Global, count: usize) -> Result<Vec<Option<Numbered<'t>>>, 
     Ok(places)
 }
 
-/// The calls that are told on a tree, by way of as many free places.
+/// The calls on a tree that the text reports, found by putting them into as many free places.
 fn calls_in<'t>(
     alloc: Global,
     told: &[Told<'t>],
@@ -134,8 +133,7 @@ fn calls_in<'t>(
     all_of(alloc, places)
 }
 
-/// The calls that are told on a tree, in the order of their numbers, which are 1 and on; none where their numbers are
-/// others.
+/// The calls on a tree that the text reports, in the order of their numbers, from 1 on. None if their numbers are others.
 pub fn calls_on<'t>(
     alloc: Global,
     told: &[Told<'t>],

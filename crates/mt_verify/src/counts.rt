@@ -1,4 +1,4 @@
-//! The numbers of ranges that a text tells of a tree, each at the number of calls behind which the tree had so many.
+//! The numbers of ranges that a text reports of a tree, each with the number of calls after which the tree had that many.
 
 ghost use Rattle.std.specs.Prelude.{◌≡◌, ◌≤◌, ◌<◌, ◌^◌, ◌+◌, AllPairs, IfOk, OnOk, ◌++◌, length};
 ghost use Rattle.std.specs.Option.{option_to_list};
@@ -9,7 +9,7 @@ use mt_base::NoMemory;
 use mt_told::{Told, What};
 use std::alloc::Global;
 
-/// The stop that a line is, behind so many calls.
+/// The stop (check or copy) of a line, after this many calls.
 fn stop_of<'t>(told: &Told<'t>, at: u64) -> Option<Stop<'t>>
     ensures { result ≡ stop_at at told.now.what }
 {
@@ -29,7 +29,7 @@ fn push_stop<'t>(stops: &mut Vec<Stop<'t>>, told: &Told<'t>, at: u64) -> Result<
     Ok(())
 }
 
-/// How many calls were told so far, and how many of them of lower phases than this one.
+/// How many calls were reported so far, and how many of them in phases before this one.
 #[derive(Clone, Copy)]
 struct Counting {
     phase: u64,
@@ -62,7 +62,7 @@ impl Counting {
     }
 }
 
-/// The numbers of ranges that these lines of a tree tell, in order.
+/// The numbers of ranges that these lines of a tree report, in order.
 pub fn stops_of<'t>(alloc: Global, own: &[Told<'t>]) -> Result<Vec<Stop<'t>>, NoMemory>
     requires { AllPairs (λ s t. s.phase ≤ t.phase) own.now }
     ensures { IfOk result (λ stops. stops.items ≡ stops_told own.now) }

@@ -9,7 +9,7 @@ use mt_log::{Item, Line, Word};
 use std::alloc::Global;
 use std::marker::Model;
 
-/// A copy is of this tree, as it stands when this phase begins.
+/// The declared tree is a copy of this tree, as it is when this phase begins.
 #[derive(Clone, Copy)]
 pub struct DeclaredSource {
     pub tree: u32,

@@ -62,7 +62,7 @@ impl<'t> Gone<'t> {
     }
 }
 
-/// What the text is judged by: the version of its log, and how many rows a tree has.
+/// What the text is judged by: the version of its log, and how many nodes a tree has.
 #[derive(Clone, Copy)]
 pub struct Rules {
     pub version: u32,
@@ -112,8 +112,8 @@ fn go_calls<'t>(
     Ok(Some(Gone::new(opening, noted, tracks)))
 }
 
-/// Goes through the history that is told of a tree, which opens with this map and then stands as the last one. Nothing
-/// where the tree has no such history.
+/// Goes through the reported history of a tree that opens with this map. Returns the last map. Nothing if the tree has no such
+/// history.
 ///
 /// # Errors
 ///

@@ -1,4 +1,4 @@
-//! What is heard of a call that was refused for want of rows, and who may have held rows.
+//! What is heard of a call that was refused for lack of nodes, and who may have held nodes.
 
 ghost use Rattle.std.specs.Prelude.{◌≡◌, ◌≢◌, ◌↔◌, ◌⊎◌, ◌<◌, ◌≤◌, ◌^◌, ℕ, List, true, All, IfSome, IfNone, IsTrue};
 ghost use Rattle.std.specs.Fmt.{decimal};
@@ -110,8 +110,8 @@ fn whole_number(text: &[u8]) -> Option<u64>
     Some(number)
 }
 
-/// The numbers of a reply that was refused for want of rows, if the bytes say so: how many rows the call needed, and
-/// how many were free, live and held.
+/// The numbers of a reply that was refused for lack of nodes, if the bytes say so: how many nodes the call needed, and how many
+/// were free, live and held.
 pub fn shortage_in(text: &[u8]) -> Option<Shortage>
     ensures some { IfSome result (λ s. SaysShortage text.now s) }
     ensures small { IfSome result (λ s. IsSmallShortage s) }
@@ -131,7 +131,7 @@ pub fn shortage_in(text: &[u8]) -> Option<Shortage>
     })
 }
 
-/// What is heard of a call on a tree that was refused for want of rows, by what it was answered. Where rows were held,
+/// What is heard of a call on a tree that was refused for lack of nodes, by what it was answered. Where nodes were held,
 /// another lane is named that had read the tree by then. None where it was not refused so, or nobody can be named.
 pub fn shortage_heard(readers: &Readers, tree: u32, call: &Numbered) -> Option<Shortage>
     requires { tree < most_trees }

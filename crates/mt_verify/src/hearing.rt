@@ -1,4 +1,4 @@
-//! What is heard of the calls of a tree, by what a text tells of their replies.
+//! What is known of the calls of a tree from the text of their replies.
 
 ghost use Rattle.std.specs.Prelude.{◌≡◌, ◌<◌, ◌++◌, ℕ, List, All, IfSome, IfNone, IfOk, codes, length};
 ghost use Rattle.std.specs.Bool.{OnTrue, OnFalse};
@@ -14,7 +14,7 @@ use mt_base::NoMemory;
 use mt_told::behind_word;
 use std::alloc::Global;
 
-/// Whether a reply begins as a refusal for want of rows does.
+/// Whether a reply begins as a refusal for lack of nodes does.
 fn is_refusal(reply: &[u8]) -> bool
     ensures yes { OnTrue result ((rest : List ℕ) × (reply.now ≡ codes "nomem " ++ rest)) }
     ensures no { OnFalse result ((rest : List ℕ) → reply.now ≡ codes "nomem " ++ rest → ⊥) }
@@ -22,7 +22,7 @@ fn is_refusal(reply: &[u8]) -> bool
     behind_word(reply, b"nomem ").is_some()
 }
 
-/// What is heard of a call on a tree; nothing where it begins as a refusal for want of rows, and is none.
+/// What is known of a call on a tree. Nothing if its reply begins as a refusal because nodes are short, and is none.
 fn heard<'t>(readers: &Readers, tree: u32, call: &Numbered<'t>) -> Option<Heard<'t>>
     requires { tree < most_trees }
     ensures some { (told : List Told) → AreReaders readers.now told
@@ -53,8 +53,8 @@ fn noted<'t>(readers: &Readers, tree: u32, call: &Numbered<'t>) -> Option<Noted<
     })
 }
 
-/// The calls of a tree with what is heard of each; nothing where one is told to be refused for want of rows, and cannot
-/// be.
+/// The calls of a tree with what is known of each. Nothing if the text reports that one is refused because nodes are short, and
+/// it cannot be.
 #[tactic(auto, using(crate::proofs::NotedCalls::noted_more))]
 pub fn all_noted<'t>(
     alloc: Global,

@@ -31,7 +31,7 @@ impl Track {
     ghost use Rattle.mt_base.specs.declared.ranges.Range.{Range};
     ghost use Rattle.mt_verify.specs.Looks.{ArePickedBelow, Passed};
 
-    /// The lane goes through a number, whose map this is. It tells whether it is not stuck.
+    /// The lane goes through a number with this map. Returns whether it is not stuck.
     pub fn advance(&mut self, map: &mut ShelfMap, number: u64) -> Result<bool, NoMemory>
         ensures map { map.new ≡ map.old }
         ensures looks { self.new.looks ≡ self.old.looks }
@@ -68,7 +68,7 @@ impl Track {
     }
 }
 
-/// All lanes go through a number, whose map this is. It tells whether none is stuck.
+/// All lanes go through a number with this map. Returns whether none is stuck.
 pub fn advance_all(map: &mut ShelfMap, tracks: &mut [Track], number: u64) -> Result<bool, NoMemory>
     ensures map { map.new ≡ map.old }
     ensures looks { looks_of tracks.new ≡ looks_of tracks.old }

@@ -1,4 +1,4 @@
-//! What the checker stands on. Each law is the contract of a function that does nothing.
+//! What the checker relies on. Each law (lemma) is the contract of a function that does nothing.
 
 ghost use Rattle.std.specs.Prelude.{◌≡◌, ◌↔◌, ◌<◌, ◌≤◌, ℕ, Bool, true, List, Some, All, AllPairs, IfSome, length, map, slice_get, slice_index, IsPermutation};
 ghost use Rattle.std.specs.List.{enumerate_from, filter_map};
@@ -31,8 +31,8 @@ ghost use Rattle.mt_verify.specs.Wanting.{wants};
 ghost use Rattle.mt_verify.specs.Windows as of_steps;
 ghost use Rattle.mt_verify.specs.Windows.{InBoth};
 
-/// The first numbers that do are the least that can be chosen, also where not all reads have theirs. Where a read can
-/// have none behind them, nothing can be chosen.
+/// The first numbers that suit are the least that can be chosen, even if not all reads have theirs yet. If a read can have none
+/// after them, nothing can be chosen.
 #[tactic(auto, using(crate::proofs::Greedy::least, crate::proofs::Greedy::late_has_none, crate::proofs::Greedy::nowhere_has_none))]
 pub fn the_first_numbers_are_the_least()
     ensures least { (count : ℕ) (lo hi : ℕ → ℕ) (holds knows : ℕ → ℕ → Bool) (done : ℕ → Bool) (k l : ℕ → ℕ)
@@ -75,15 +75,15 @@ pub fn the_points_of_a_run_are_chosen()
         → (i : ℕ) → i < length steps → at_place read_number steps i ≤ at_place read_number steps' i }
 {}
 
-/// Histories of the same calls, of which the same were refused for want of rows, go through the same maps.
+/// Histories of the same calls, of which the same were refused for lack of nodes, go through the same maps.
 #[tactic(auto, using(crate::proofs::SameMaps::same_map_at))]
 pub fn maps_do_not_depend_on_who_held_rows()
     ensures { (h g : History) (k : ℕ) → h.kind ≡ g.kind → h.opening ≡ g.opening → GoAlike h.records g.records
         → map_at h k ≡ map_at g k }
 {}
 
-/// Histories in which numbered calls stand once each, by their numbers, go alike where these have the same numbers,
-/// calls and refusals for want of rows.
+/// Histories that have numbered calls once each, in the order of their numbers, behave alike if the numbers, the calls and the
+/// refusals because nodes are short are the same.
 #[tactic(auto, using(crate::proofs::ByNumber::alike_by_number))]
 pub fn calls_stand_by_their_numbers()
     ensures { (records others : List Record) (numbered numbered' : List (ℕ × Record))
@@ -91,7 +91,7 @@ pub fn calls_stand_by_their_numbers()
         → map numbered_part numbered ≡ map numbered_part numbered' → GoAlike records others }
 {}
 
-/// Two runs of a log that are told alike have alike reads: what is not printed makes no difference.
+/// Two runs of a log with the same text have reads that are alike: what is not printed makes no difference.
 #[tactic(auto, using(crate::proofs::Alike::told_alike))]
 pub fn runs_told_alike_have_alike_reads()
     ensures { (log : Log) (rows : ℕ) (t t' : Transcript) (steps steps' : List Step) (trees trees' : List History)
@@ -99,8 +99,8 @@ pub fn runs_told_alike_have_alike_reads()
         → AreToldAlike steps steps' → CopiesEarlier (trees_of log.lines) → AreAlike steps trees steps' trees' }
 {}
 
-/// Where the points of a run are the first that do, they are the least: each is at most the point at its place of every
-/// run of the log that is told alike.
+/// If the points of a run are the first that suit, they are the least. Each is at most the point at its place in every run of
+/// the log with the same text.
 #[tactic(auto, using(crate::proofs::PointLists::least_points))]
 pub fn first_points_are_the_least()
     ensures { (log : Log) (rows : ℕ) (t t' : Transcript) (steps steps' : List Step) (trees trees' : List History)
@@ -111,14 +111,14 @@ pub fn first_points_are_the_least()
         → AreUpTo (points_of steps) (points_of steps') }
 {}
 
-/// A test of the map tells whether a call wants rows.
+/// A test of the map decides whether a call needs nodes.
 pub fn a_test_tells_which_calls_want_rows()
     ensures { (kind : Kind) (m : List Range) (call : Call) → IsMap kind m → (wants kind m call ≡ true)
         ↔ Wants kind m call }
 {}
 
-/// Calls that are answered, one by one, as the maps before them answer, or rightly refused, are a legal history of
-/// their tree, whose records are these very calls, and whose maps are theirs.
+/// Calls that were answered one by one by the maps before them, or rightly refused, are a legal history of their tree: its
+/// records are these calls, and its maps are theirs.
 pub fn answered_calls_are_a_legal_history()
     ensures legal { (kind : Kind) (version rows : ℕ) (opening : List Range) (noted : List Noted)
         → AreAnswered kind version rows opening noted (length noted)
@@ -130,8 +130,8 @@ pub fn answered_calls_are_a_legal_history()
         → map_at (history_of kind rows opening noted) k ≡ map_of_noted kind opening noted k }
 {}
 
-/// Where a legal history may be told so, whoever held rows in it, these calls are answered, one by one; and its maps
-/// are theirs. So where some call is not answered, no run is told so.
+/// If a legal history can have this text, whoever held nodes back in it, then these calls were answered, one by one, and its
+/// maps are theirs. So if a call was not answered, no run has this text.
 pub fn a_legal_history_is_answered_calls()
     ensures answered { (version : ℕ) (h : History) (noted : List Noted) → AreHeard version noted h.records → IsLegal h
         → AreAnswered h.kind version h.rows h.opening noted (length noted) }
@@ -153,8 +153,8 @@ pub fn copies_are_of_earlier_trees()
     ensures { (lines : List Line) → IsReadable lines → CopiesEarlier (trees_of lines) }
 {}
 
-/// Where each lane's reads on each tree have the first numbers that do for the lane by itself, all reads of a run have
-/// the first that do: so the lanes can be gone through one beside the other.
+/// If each lane's reads on each tree have the first numbers that suit the lane by itself, then all reads of a run have the
+/// first that suit. So the lanes can be gone through side by side.
 pub fn lanes_are_picked_by_themselves()
     ensures { (log : Log) (rows : ℕ) (t : Transcript) (steps : List Step) (trees : List History)
         → IsRunBy log rows t steps trees → LanesArePicked steps trees
@@ -170,7 +170,7 @@ pub fn lanes_of_a_run_may_have_their_numbers()
         → MayHave (map_at h) (looks_on tree lane steps) (slice_index (points_on tree lane steps)) }
 {}
 
-/// Where a lane can have no numbers on a tree, whose history the text tells, no run of the log is told so.
+/// If a lane can have no numbers on a tree whose history the text reports, no run of the log has this text.
 pub fn a_lane_without_numbers_refuses_the_text()
     ensures { (log : Log) (rows : ℕ) (t' : Transcript) (steps steps' : List Step) (trees trees' : List History)
         → IsReadable log.lines → HaveHistories log steps trees
@@ -179,28 +179,27 @@ pub fn a_lane_without_numbers_refuses_the_text()
         → IsRunBy log rows t' steps' trees' → AreToldAlike steps steps' → ⊥ }
 {}
 
-/// The reads of steps that are told so are those of the text.
+/// The reads of steps with this text are those of the text.
 pub fn the_looks_of_steps_are_told()
     ensures { (version tree lane : ℕ) (told : List Told) (steps : List Step) → AreTold version told steps
         → looks_on tree lane steps ≡ looks_told tree lane told }
 {}
 
-/// A run whose lanes have the first numbers that do, each lane for itself, has the least points of all runs that are
-/// told alike.
+/// A run whose lanes have the first numbers that suit, each lane for itself, has the least points of all runs with the same
+/// text.
 pub fn a_picked_run_has_the_least_points()
     ensures { (log : Log) (rows : ℕ) (t t' : Transcript) (steps steps' : List Step) (trees trees' : List History)
         → IsReadable log.lines → IsRunBy log rows t steps trees → LanesArePicked steps trees
         → IsRunBy log rows t' steps' trees' → AreToldAlike steps steps' → AreUpTo (points_of steps) (points_of steps') }
 {}
 
-/// Runs that are told by one list are told alike: whether a call was refused for want of rows is told by what is
-/// printed.
+/// Runs with the same lines have the same text: what is printed shows whether a call was refused because nodes are short.
 pub fn runs_told_by_one_list_are_told_alike()
     ensures { (version : ℕ) (told : List Told) (steps steps' : List Step) → AreTold version told steps
         → AreTold version told steps' → AreToldAlike steps steps' }
 {}
 
-/// Of steps that are told so, the order is that of the text, and so are the ends of windows.
+/// The order of steps with this text is that of the text, and so are the ends of windows.
 pub fn the_order_of_steps_is_told()
     ensures order { (version : ℕ) (told : List Told) (steps : List Step) → AreTold version told steps
         → AllPairs InPrintedOrder told ↔ AllPairs of_steps.InPrintedOrder steps }
@@ -208,14 +207,13 @@ pub fn the_order_of_steps_is_told()
         → All (EndsInTree told) told ↔ All (of_steps.EndsInTree steps) steps }
 {}
 
-/// The calls of steps that are told so are those of the text, each of its lane, and with a reply that prints so.
+/// The calls of steps with this text are those of the text, each of its lane, and with a reply that prints as in the text.
 pub fn the_calls_of_steps_are_told()
     ensures { (version : ℕ) (tree : ℕ) (told : List Told) (steps : List Step) → AreTold version told steps
         → AreRecordsTold version (calls_told tree told) (filter_map (numbered_on tree) steps) }
 {}
 
-/// Of steps that are told so, a holder is named rightly just where the text tells that it is another lane that had read
-/// the tree.
+/// In steps with this text a holder is named rightly exactly if the text says that it is another lane, which had read the tree.
 pub fn the_holders_of_steps_are_told()
     ensures { (version : ℕ) (told : List Told) (steps : List Step) (t : Told) (s : Step) (number : ℕ) (call : Numbered)
         → AreTold version told steps → IsTold version t s → numbered_on_told t.tree t ≡ Some (number, call)

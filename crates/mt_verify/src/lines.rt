@@ -1,4 +1,4 @@
-//! What a text tells of one tree: its lines, and the reads of each lane.
+//! What a text says of one tree: its lines, and the reads of each lane.
 
 ghost use Rattle.std.specs.Prelude.{◌≡◌, IfOk, map};
 ghost use Rattle.std.specs.List.{range_with_len};
@@ -12,10 +12,10 @@ use mt_base::NoMemory;
 use mt_told::{Told, What};
 use std::alloc::Global;
 
-/// A log has so many lanes at the most.
+/// The greatest number of lanes (threads) of a log.
 pub const MOST_LANES: u32 = 16;
 
-/// The line, where it tells of this tree.
+/// The line, if it is of this tree.
 fn line_on<'t>(told: &Told<'t>, tree: u32) -> Option<Told<'t>>
     ensures { result ≡ line_on tree told.now }
 {
@@ -25,7 +25,7 @@ fn line_on<'t>(told: &Told<'t>, tree: u32) -> Option<Told<'t>>
     Some(*told)
 }
 
-/// The lines that tell of a tree.
+/// The lines of a tree.
 pub fn lines_on<'t>(alloc: Global, told: &[Told<'t>], tree: u32) -> Result<Vec<Told<'t>>, NoMemory>
     ensures { IfOk result (λ own. own.items ≡ lines_on tree told.now) }
 {
@@ -36,7 +36,7 @@ pub fn lines_on<'t>(alloc: Global, told: &[Told<'t>], tree: u32) -> Result<Vec<T
     )
 }
 
-/// The read that a line tells, where it is of this lane.
+/// The read that a line reports, if it is of this lane.
 fn look_of(told: &Told, lane: u32) -> Option<Look>
     ensures { result ≡ look_by_lane lane told.now }
 {

@@ -13,7 +13,7 @@ use mt_base::NoMemory;
 use mt_told::{Told, What};
 use std::alloc::Global;
 
-/// Whether a line tells a read.
+/// Whether a line reports a read.
 fn is_read(what: &What) -> bool
     ensures { result ≡ is_got what.now }
 {
@@ -36,7 +36,7 @@ fn points_at<'a>(gone: &'a [Gone], tree: u32, lane: u32) -> &'a [u64]
     }
 }
 
-/// The number of the read that a line tells, which is the next one of its lane on its tree.
+/// The number of the read that a line reports, which is the next one of its lane on its tree.
 fn next_point(used: &mut [usize], gone: &[Gone], told: &Told) -> u64
     requires lane { told.now.lane < most_lanes }
     requires cell { cell_of told.now.tree told.now.lane < length used.old }

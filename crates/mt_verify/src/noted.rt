@@ -1,14 +1,14 @@
 use mt_base::{Call, Shortage};
 
-/// What a call was answered, as a transcript tells it: the reply as it is printed; or, where it begins as a refusal for
-/// want of rows, the refusal, with a holder where rows were held.
+/// A call's reply in a transcript: the reply as it is printed. If it begins as a refusal because nodes are short, it is the
+/// refusal, with a holder if nodes were held.
 #[derive(Clone, Copy)]
 pub enum Heard<'t> {
     Reply(&'t [u8]),
     Short(Shortage),
 }
 
-/// A call of a tree, as a transcript tells it: its lane, what the log asked for, and what it was answered.
+/// A call of a tree in a transcript: its lane, what the log asked for, and its reply.
 #[derive(Clone, Copy)]
 pub struct Noted<'t> {
     pub lane: u32,

@@ -14,7 +14,7 @@ use mt_shelves::ShelfMap;
 use mt_told::{Told, What};
 use std::alloc::Global;
 
-/// Whether a line tells of a call on a tree in a phase before this one.
+/// Whether a line reports a call on a tree in a phase before this one.
 fn is_call_before(told: &Told, tree: u32, phase: u64) -> bool
     ensures { result ≡ is_call_before tree phase told.now }
 {
@@ -27,7 +27,7 @@ fn is_call_before(told: &Told, tree: u32, phase: u64) -> bool
     }
 }
 
-/// How many calls on a tree are told of phases before this one.
+/// How many calls on a tree the text reports in phases before this one.
 fn calls_before(told: &[Told], tree: u32, phase: u64) -> usize
     ensures { result ≡ calls_of_phases_before told.now tree phase }
 {
@@ -36,7 +36,7 @@ fn calls_before(told: &[Told], tree: u32, phase: u64) -> usize
         .count()
 }
 
-/// The map of a tree that was gone through, after so many of its calls.
+/// The map of a tree that was gone through, after `calls` of its calls.
 #[tactic(auto, using(crate::proofs::OpenedMaps::first_calls))]
 fn map_after(alloc: Global, gone: &Gone, calls: usize) -> Result<ShelfMap, NoMemory>
     ensures kind { IfOk result (λ map. map.kind ≡ gone.now.kind) }
@@ -47,7 +47,7 @@ fn map_after(alloc: Global, gone: &Gone, calls: usize) -> Result<ShelfMap, NoMem
     Ok(map)
 }
 
-/// The map with which a tree opens that is declared so: empty, or as the tree that it is a copy of stands when its phase begins.
+/// The map with which a declared tree opens: empty, or that of the tree that it is a copy of, when its phase begins.
 ///
 /// # Errors
 ///

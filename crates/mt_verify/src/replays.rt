@@ -9,7 +9,7 @@ use mt_base::NoMemory;
 use mt_list::Ranges;
 use mt_shelves::ShelfMap;
 
-/// Makes a call again, unless it was refused for want of rows.
+/// Makes a call again, unless it was refused for lack of nodes.
 fn make_again(map: &mut ShelfMap, noted: &Noted) -> Result<(), NoMemory>
     ensures kind { map.new.kind ≡ map.old.kind }
     ensures map { OnOk result (map.new.ranges ≡ map_after_noted map.old.kind map.old.ranges noted.now) }

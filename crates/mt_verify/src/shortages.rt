@@ -1,4 +1,4 @@
-//! Whether the numbers of a refusal for want of rows can be those of a tree.
+//! Whether the numbers of a refusal for lack of nodes can be those of a tree.
 
 ghost use Rattle.std.specs.Prelude.{◌≡◌, ◌↔◌, ◌+◌, ◌-◌, ◌*◌, ◌^◌, ◌<◌, ◌≤◌, ℕ, List, IsTrue, IfSome, IfNone, length};
 ghost use Rattle.mt_base.specs.declared.ranges.Range.{Range};
@@ -7,7 +7,7 @@ ghost use Rattle.mt_verify.specs.Shortages.{shared_limits, MayStand, MayHold};
 
 use mt_base::{Holder, Shortage};
 
-/// The levels of a tree whose calls need so many rows.
+/// The levels of a tree whose calls need this many nodes.
 fn levels_of(need: u64) -> Option<u64>
     ensures some { IfSome result (λ levels. (levels ≤ 9) × (need ≡ 3 * levels + 1)) }
     ensures none { IfNone result ((levels : ℕ) → levels ≤ 9 → need ≡ 3 * levels + 1 → ⊥) }
@@ -18,7 +18,7 @@ fn levels_of(need: u64) -> Option<u64>
     Some(need / 3)
 }
 
-/// So many ranges a tree of so many levels has at the least.
+/// The least number of ranges of a tree with this many levels.
 fn least_ranges(levels: u64) -> u64
     requires { levels ≤ 9 }
     ensures { 2 ≤ levels → 2 * result ≡ 3 * 4 ^ (levels - 1) }
@@ -37,7 +37,7 @@ fn least_ranges(levels: u64) -> u64
     }
 }
 
-/// Whether a tree of so many ranges may have so many levels and so many live rows.
+/// Whether a tree with `count` ranges may have this many levels and this many live nodes.
 fn may_stand(levels: u64, live: u64, count: u64) -> bool
     requires levels { levels ≤ 9 }
     requires live { live < 2 ^ 32 }
@@ -55,7 +55,7 @@ fn may_stand(levels: u64, live: u64, count: u64) -> bool
     (2 * live).saturating_sub(4) <= count
 }
 
-/// Whether a holder is told exactly where rows are held, with the number of a call that has ended.
+/// Whether a holder is named exactly if nodes are held, with the number of a call that has ended.
 fn may_hold(by: &Option<Holder>, held: u64, ended: u64) -> bool
     ensures { IsTrue result ↔ MayHold by.now held ended }
 {
@@ -65,7 +65,7 @@ fn may_hold(by: &Option<Holder>, held: u64, ended: u64) -> bool
     }
 }
 
-/// Whether the free, the live and the held rows are all.
+/// Whether the free, the live and the held nodes are all.
 fn are_all(rows: u64, shortage: &Shortage) -> bool
     ensures { IsTrue result ↔ (shortage.now.free + shortage.now.live + shortage.now.held ≡ rows) }
 {
@@ -78,8 +78,8 @@ fn are_all(rows: u64, shortage: &Shortage) -> bool
     free <= rows && live <= rows - free && held == rows - free - live
 }
 
-/// Whether rows may be short so: of a tree of so many rows, which opened with so many at the most, after so many calls,
-/// and which has so many ranges.
+/// Whether nodes may be short with these numbers: in a tree of `rows` nodes that opened with at most `opened`, after `ended`
+/// calls, with `count` ranges.
 pub fn is_short(rows: u64, opened: u64, ended: u64, count: u64, shortage: &Shortage) -> bool
     requires rows { rows ≤ 65504 }
     requires opened { opened < 2 ^ 62 }

@@ -5,8 +5,8 @@ use mt_shelves::ShelfMap;
 use mt_told::is_number;
 use std::marker::Model;
 
-/// A check or a copy of a tree, as a transcript tells it: after how many of the tree's calls, and how many ranges it
-/// had then, in print.
+/// A check or a copy of a tree in a transcript: after how many of the tree's calls, and how many ranges it then had, as
+/// printed.
 #[derive(Clone, Copy)]
 pub struct Stop<'t> {
     pub at: u64,
@@ -42,7 +42,7 @@ impl<'t> Stops<'t> {
         Stops { stops, next: 0 }
     }
 
-    /// Whether the next stop is after so many calls.
+    /// Whether the next stop is after `number` calls.
     fn is_next(&self, number: u64) -> bool
         ensures { result ≡ is_at number (slice_get self.now.stops self.now.next) }
     {
@@ -52,7 +52,7 @@ impl<'t> Stops<'t> {
         }
     }
 
-    /// The next stop is passed with this map. It tells whether the map has so many ranges.
+    /// Passes the next stop with this map. Returns whether the map has as many ranges as the stop reports.
     fn stop(&mut self, map: &ShelfMap) -> bool
         requires { self.old.next < length self.old.stops }
         ensures stops { self.new.stops ≡ self.old.stops }
@@ -66,8 +66,8 @@ impl<'t> Stops<'t> {
         true
     }
 
-    /// The stops after so many calls are passed with this map. It tells whether it has the ranges that each of them
-    /// tells.
+    /// Passes the stops after `number` calls with this map. Returns whether it has the number of ranges that each of them
+    /// reports.
     pub fn pass(&mut self, map: &ShelfMap, number: u64) -> bool
         ensures stops { self.new.stops ≡ self.old.stops }
         ensures passed { (m : ℕ → List Range) → m number ≡ map.now.ranges → AreStopped m number self.old

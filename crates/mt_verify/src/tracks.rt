@@ -6,7 +6,7 @@ use crate::looks::{Look, is_true};
 use mt_base::NoMemory;
 use mt_shelves::ShelfMap;
 
-/// What one try at a number comes to: the next look took it, or waits for a higher one, or can have none.
+/// The result of one try at a number: the next look took it, or waits for a higher one, or can have none.
 #[derive(Clone, Copy, Debug, PartialEq, Eq)]
 pub enum Fate {
     Took,
@@ -14,7 +14,7 @@ pub enum Fate {
     Stuck,
 }
 
-/// The look that comes next takes the number, unless the one behind it then has none.
+/// The next look takes the number, unless the look after it then has none.
 fn take(looks: &[Look], points: &mut Vec<u64>, number: u64) -> Result<Fate, NoMemory>
     requires { length points.old.items < length looks.now }
     ensures longer { IfOk result (λ fate. length points.new.items ≡ length points.old.items + 1) }
@@ -55,8 +55,8 @@ fn try_next(
     take(looks, points, number)
 }
 
-/// A lane goes through a number, whose map this is: its looks take it, one after another, up to the first that waits
-/// for a higher one. It tells whether none of them is stuck.
+/// A lane goes through a number with this map: its looks take it, one after another, up to the first that waits for a higher
+/// one. Returns whether none of them is stuck.
 pub fn advance(
     map: &mut ShelfMap,
     looks: &[Look],

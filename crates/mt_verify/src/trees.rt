@@ -12,8 +12,8 @@ use crate::stops::Stops;
 use mt_base::{Kind, NoMemory};
 use mt_shelves::ShelfMap;
 
-/// All lanes and stops go through a number of calls, with the map after these. It tells whether no lane is stuck and
-/// each stop there tells how many ranges the map has.
+/// All lanes and stops go through a number of calls, with the map after these. Returns whether no lane is stuck and each stop
+/// there reports the map's number of ranges.
 fn pass_all(
     map: &mut ShelfMap,
     tracks: &mut [Track],
@@ -32,9 +32,9 @@ fn pass_all(
     Ok(stops.pass(map, number))
 }
 
-/// The lanes and the stops go through the tree's maps, from before the first call to behind the last. It tells whether
-/// each call was answered as the map before it answers, or rightly refused for want of rows, each stop tells how many
-/// ranges the tree had, and all looks have numbers, which are then the least that they may have.
+/// The lanes and the stops go through the tree's maps, from before the first call to after the last. Returns whether three
+/// things hold. Each call was answered by the map before it, or rightly refused because nodes are short. Each stop reports how
+/// many ranges the tree had. All looks have numbers, which are then the least that they can have.
 ///
 /// # Errors
 ///

@@ -2,7 +2,7 @@
 
 use std::marker::Model;
 
-/// The numbers of a transcript's reads, in the order of its lines: after so many calls of its tree each read is true.
+/// The versions of a transcript's reads, in the order of its lines: each read is true after that many calls of its tree.
 #[derive(Drop)]
 pub struct Points {
     items: Vec<u64>,

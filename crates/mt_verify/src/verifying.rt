@@ -28,13 +28,13 @@ use mt_log::Log;
 use mt_told::{Account, listing_in_front, read_told};
 use std::alloc::Global;
 
-/// No memory holds a map of so many ranges, or so many lines.
+/// No memory holds a map of this many ranges, or this many lines.
 const MOST_RANGES: u64 = 1 << 62;
 
 const MOST_LINES: usize = 1 << 57;
 
-/// Goes through the tree that comes next, which is declared so, and then through its listing. It gives the text behind that;
-/// nothing where no run is told so.
+/// Goes through the next declared tree, and then through its listing. Returns the text after that. Nothing if no run has these
+/// lines.
 fn next_tree<'t>(
     alloc: Global,
     log: &Log,
@@ -74,7 +74,7 @@ fn next_tree<'t>(
     Ok(Some(left))
 }
 
-/// Goes through the trees of a log, one after another, and through their listings; nothing where no run is told so.
+/// Goes through the trees of a log, one after another, and through their listings. Nothing if no run has these lines.
 fn go_all<'t>(
     alloc: Global,
     log: &Log,
@@ -106,7 +106,7 @@ fn go_all<'t>(
     Ok(Some(gone))
 }
 
-/// The verdict on what a text tells.
+/// The verdict on what a text reports.
 fn judge(
     alloc: Global,
     log: &Log,
@@ -135,14 +135,14 @@ fn judge(
     })
 }
 
-/// Whether a text is that of a transcript of a run of this log, over trees of so many rows, from 4 to 65,504. Where it is, the points
-/// of its reads, in order: how many calls on its tree each was answered after. Each is the least that the read has in any run with
-/// this text.
+/// Whether a text is that of a transcript of a run of this log, over trees of `rows` nodes, 4 to 65,504. If it is, returns the
+/// points of its reads, in order: the number of calls on its tree after which each was answered. Each point is the least that
+/// the read has in any run with this text.
 ///
 /// # Errors
 ///
-/// `NoMemory` where memory ran out, and where the log or the text has more lines, or a map more ranges, than any memory holds
-/// (2^57 lines, 2^62 ranges). It says nothing of the text.
+/// `NoMemory` if memory ran out, or if the log or the text has more lines, or a map more ranges, than any memory holds (2^57
+/// lines, 2^62 ranges). It says nothing of the text.
 pub fn verify(alloc: Global, log: &Log, rows: u64, text: &[u8]) -> Result<Verdict, NoMemory>
     requires log { IsLog log.now }
     requires few_rows { 4 ≤ rows }

@@ -1,4 +1,4 @@
-//! Whether a call wants rows, by the map before it.
+//! Whether a call needs nodes, by the map before it.
 
 ghost use Rattle.std.specs.Prelude.{◌≡◌, ◌≤◌, false, not, is_some, IfOk};
 ghost use Rattle.mt_base.specs.Call.{is_no_area};
@@ -35,7 +35,7 @@ fn is_exactly(first: u64, last: u64, range: &Option<Range>) -> bool
     }
 }
 
-/// Whether a valid store wants rows.
+/// Whether a valid store needs nodes.
 fn store_wants(map: &mut ShelfMap, first: u64, last: u64, entry: u64) -> bool
     requires { first ≤ last }
     ensures map { map.new ≡ map.old }
@@ -81,7 +81,7 @@ fn has_high(map: &mut ShelfMap, kind: Kind, size: u64, min: u64, max: u64) -> Re
     Ok(is_start(&reply))
 }
 
-/// Whether a call wants rows. The map answers to it, and stays.
+/// Whether a call needs nodes. The map is read and not changed.
 #[tactic(auto, using(mt_base::proofs::CallsKeepOrder::valid_order))]
 pub fn wants_rows(map: &mut ShelfMap, kind: Kind, call: &Call) -> Result<bool, NoMemory>
     requires { kind ≡ map.old.kind }

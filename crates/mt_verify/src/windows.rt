@@ -1,4 +1,4 @@
-//! Whether the call numbers and the windows that a text tells are in order, which is tested before any map is made.
+//! Whether the call numbers and the windows that a text reports are in order. This is tested before any map is made.
 
 ghost use Rattle.std.specs.Prelude.{◌≡◌, ◌↔◌, ◌≤◌, ◌<◌, ℕ, List, All, AllPairs, IsTrue, IfSome, length, slice_index};
 ghost use Rattle.mt_log.specs.Trees.{most_lanes, most_trees};
@@ -11,8 +11,8 @@ ghost use Rattle.mt_verify.specs.ToldCalls.{calls_told};
 use crate::calls::count_calls;
 use mt_told::{Told, What};
 
-/// What the lines ask for that know of some others: a call's number is above `above`, where it stands, and a read's
-/// window begins at `from` or above.
+/// What lines demand of those that know of them: a call's number is above `above`, if there is one, and a read's window begins
+/// at `from` or above.
 #[derive(Clone, Copy)]
 struct Mark {
     above: Option<u64>,
@@ -56,7 +56,7 @@ impl Mark {
         }
     }
 
-    /// What is asked for besides by a line.
+    /// With what a line demands too.
     fn with(self, what: &What) -> Mark
         ensures { (w : What) → Admits result w ↔ (Admits self w × KeepsTo what.now w) }
     {
@@ -170,7 +170,7 @@ pub fn windows_keep(told: &[Told]) -> bool
     true
 }
 
-/// How many calls are told on each tree.
+/// How many calls the text reports on each tree.
 fn counts_of(told: &[Told]) -> [usize; 16]
     ensures { (tree : ℕ) → tree < most_trees → slice_index result tree ≡ length (calls_told tree told.now) }
 {
@@ -181,7 +181,7 @@ fn counts_of(told: &[Told]) -> [usize; 16]
     counts
 }
 
-/// Whether a read's window ends within so many calls.
+/// Whether a read's window ends within `calls` calls.
 fn ends_within(calls: usize, what: &What) -> bool
     ensures { IsTrue result ↔ EndsWithin calls what.now }
 {
@@ -191,7 +191,7 @@ fn ends_within(calls: usize, what: &What) -> bool
     }
 }
 
-/// Whether each read's window ends within the calls that are told on its tree.
+/// Whether each read's window ends within the calls that the text reports on its tree.
 pub fn windows_end(told: &[Told]) -> bool
     requires { All (λ t. t.tree < most_trees) told.now }
     ensures { IsTrue result ↔ All (EndsInTree told.now) told.now }
