@@ -7,7 +7,7 @@ use Rattle.mt_desks.specs.Prelude.{Item, Join, Dup, Check, Write, Ask, Scan, Lin
 abbrev pub is_step : Item → Bool
 is_step item = stepped_after false item
 
--- the lines that this lane does, from here on, where the log stands in the lane `here`
+-- the lines that this lane does, from here on, if the log is in the lane `here`
 abbrev pub lines_of_lane : (lane here : ℕ) → List Line → List Line
 lines_of_lane lane here [] = []
 lines_of_lane lane here (line ∷ lines) =
@@ -23,7 +23,7 @@ pub record Owned : Type 0 where
 abbrev pub asked_of : ℕ → ℕ → Line → Asked
 asked_of lane phase line = record { line = line.number; lane = lane; phase = phase; item = line.item }
 
--- what the lanes are asked by these lines of a phase, each line by the lane in which the log stands
+-- what these lines of a phase ask of the lanes, each line of the lane that the log is in
 abbrev pub steps_in : (here phase : ℕ) → List Line → List Asked
 steps_in here phase [] = []
 steps_in here phase (line ∷ lines) =
@@ -36,14 +36,14 @@ is_count (Dup from name) = true
 is_count (Check tree) = true
 is_count item = false
 
--- what the program itself is asked by these lines of a phase, which is told as lane 0's
+-- what these lines ask of the program itself, which counts as lane 0's
 abbrev pub counts_in : (phase : ℕ) → List Line → List Asked
 counts_in phase [] = []
 counts_in phase (line ∷ lines) =
     let rest = counts_in phase lines in
     if is_count line.item then asked_of 0 phase line ∷ rest else rest
 
--- lines of one phase: a line that ends a phase is none of them
+-- lines of one phase: a line that ends a phase is not among them
 abbrev pub is_join : Item → Bool
 is_join Join = true
 is_join item = false
@@ -51,8 +51,8 @@ is_join item = false
 abbrev pub IsOnePhase : List Line → Type 0
 IsOnePhase lines = All (λ line. is_join line.item ≡ false) lines
 
--- how many lanes a log has, from here on, where it stands in the lane `here`: one more than the greatest that does a line,
--- and one where none does
+-- how many lanes a log has, from here on, if it is in the lane `here`: one more than the greatest that does a line, and one if
+-- none does
 abbrev pub lanes_in : (here : ℕ) → List Line → ℕ
 lanes_in here [] = 1
 lanes_in here (line ∷ lines) =
@@ -66,14 +66,14 @@ line_tree (Ask tree query) = tree
 line_tree (Scan tree index max count) = tree
 line_tree item = 0
 
--- how many answers a line has at the most: a scan as many as its count, which may end before
+-- how many answers a line has at most: a scan as many as its count, which may end before
 abbrev pub room_for : Item → ℕ
 room_for (Write tree call) = 1
 room_for (Ask tree query) = 1
 room_for (Scan tree index max count) = count
 room_for item = 0
 
--- how many steps without the lock a line takes at the most: a call none, and a scan one more than its finds, to close its section
+-- how many steps without the lock a line takes at most: a call none, and a scan one more than its finds, to close its section
 abbrev pub steps_for : Item → ℕ
 steps_for (Ask tree query) = 360
 steps_for (Scan tree index max count) = 220 * count + 1

@@ -1,16 +1,16 @@
--- What answering its lines makes of a lane's desk: each line is done by the lane's pass on its tree, and told behind what the
--- room held.
+-- What answering its lines does to a lane's desk. Each line is done by the lane's pass (handle) on its tree, and its answer
+-- follows what the room held.
 -- Source: this project's own.
 use Rattle.std.specs.Prelude.{◌≡◌, ◌⊎◌, ℕ, true, List, [], ◌∷◌, ◌++◌, Some, None, ◌+◌, ◌<◌, ◌≤◌, All, length, map, take, drop, slice_get, slice_index_or}
 use Rattle.mt_desks.specs.Prelude.{History, Pass, Line, Entry, Asked, Step, IsDone, entry_of, NamesBelow, Leads, outcomes_of, answers_joined}
 use Rattle.mt_desks.specs.Dealing.{asked_of, is_step, room_of}
 
--- a tree that several share: its history so far, and how many calls it takes at the most
+-- a tree that several share: its history so far, and how many calls it takes at most
 pub record SharedTree : Type 0 where
   pub history : History
   pub most : ℕ
 
--- one of these passes has seen as many calls as its tree takes
+-- one of these handles has seen as many calls as its tree takes
 pub record IsSomeWorn (trees : List SharedTree) (passes : List Pass) : Type 0 where
   pub number : ℕ
   pub tree : SharedTree
@@ -45,7 +45,7 @@ pub record IsLineDone (trees : List SharedTree) (a : Asked) (passes passes' : Li
 
 -- ---- a desk
 
--- a lane's desk: its lane and phase, the trees, its lines, its pass on each tree, and its room
+-- a lane's desk: its lane and phase, the trees, its lines, its handle on each tree, and its room
 pub record DeskState : Type 0 where
   pub lane : ℕ
   pub phase : ℕ
@@ -75,7 +75,7 @@ pub record LaneRan (n : ℕ) (a b : DeskState) : Type 0 where
 
 -- ---- what a desk awaits
 
--- there is a pass for each tree, and none has a section open
+-- there is a handle for each tree, and none has a section open
 pub record IsManned {P T : Type 0} (knows : P → Pass) (serves : T → P → Type 0) (trees : List T) (passes : List P) : Type 0 where
   pub count : length passes ≡ length trees
   pub closed : All (λ p. (knows p).standing ≡ None) passes
@@ -86,7 +86,7 @@ pub record StillManned {P T : Type 0} (knows : P → Pass) (serves : T → P →
   pub trees_stay : trees' ≡ trees
   pub manned : IsManned knows serves trees' passes'
 
--- lines that a lane can do on so many trees
+-- lines that a lane can do on this many trees
 abbrev pub AreLines : ℕ → List Line → Type 0
 AreLines count lines = All (λ line. NamesBelow count line.item × (is_step line.item ≡ true)) lines
 

@@ -1,8 +1,8 @@
--- How the passes of each tree change places with those at the lanes' desks.
+-- How the passes (handles) of each tree change places with those at the lanes' desks.
 -- Source: this project's own.
 use Rattle.std.specs.Prelude.{◌≡◌, ◌<◌, ◌≤◌, ℕ, List, length, slice_index_or, slice_set}
 
--- At each of the first trees the pass of this lane and the lane's own changed places. All others stay.
+-- At each of the first trees, this lane's handle and the lane's own changed places. All others stay.
 pub record HasSwapped {P V : Type 0} (items : V → List P) (lane below : ℕ) (rows rows' : List V) (passes passes' : List P) : Type 0 where
   pub count : length rows' ≡ length rows
   pub passes_of : length passes' ≡ length passes
@@ -12,7 +12,7 @@ pub record HasSwapped {P V : Type 0} (items : V → List P) (lane below : ℕ) (
   pub rows_left : (tree : ℕ) (v : V) → below ≤ tree → slice_index_or rows' tree v ≡ slice_index_or rows tree v
   pub passes_left : (tree : ℕ) (p : P) → below ≤ tree → slice_index_or passes' tree p ≡ slice_index_or passes tree p
 
--- At each tree the passes of the first lanes and those at their desks changed places. All others stay.
+-- At each tree, the handles of the first lanes and those at their desks changed places. All others stay.
 pub record AllHaveSwapped {P V L : Type 0} (items : V → List P) (passes : L → List P) (below : ℕ) (rows rows' : List V) (lanes lanes' : List L) : Type 0 where
   pub count : length rows' ≡ length rows
   pub lane_count : length lanes' ≡ length lanes

@@ -1,4 +1,4 @@
--- What running the lanes of a phase makes of each tree's passes, and of a lane's desk.
+-- What running the lanes of a phase does to each tree's passes (handles), and to a lane's desk.
 -- Source: this project's own.
 use Rattle.std.specs.Prelude.{◌≡◌, ◌<◌, ◌≤◌, ◌^◌, ◌+◌, ℕ, Some, None, List, length, slice_get, slice_index_or}
 use Rattle.mt_desks.specs.Prelude.{Pass, Line}
@@ -12,7 +12,7 @@ AtEach {X} P xs = (place : ℕ) (none : X) → place < length xs → P place (sl
 abbrev pub FromEach : {X : Type 0} → (ℕ → X → X → Type 0) → List X → List X → Type 0
 FromEach {X} R xs ys = (place : ℕ) (none : X) → place < length xs → R place (slice_index_or xs place none) (slice_index_or ys place none)
 
--- the pass of this lane on the tree of this number
+-- this lane's handle on the tree of this number
 abbrev pub pass_at : {P V : Type 0} → (V → List P) → List V → (tree lane : ℕ) → V → P → P
 pass_at items rows tree lane v p = slice_index_or (items (slice_index_or rows tree v)) lane p
 
@@ -25,14 +25,14 @@ pub record IsLaid (steps trees : ℕ) (lines left : List Line) (passes used capa
   pub passes_of : passes ≡ trees
   pub roomy : used + room_of lines ≤ capacity
 
--- the lane's pass on each tree is one of that tree's, and has no section open
+-- the lane's handle on each tree is one of that tree's, and has no section open
 pub record CanPass {P T V : Type 0} (knows : P → Pass) (serves : T → P → Type 0) (items : V → List P) (lane : ℕ) (trees : List T) (rows : List V) : Type 0 where
   pub count : length rows ≡ length trees
   pub closed : (tree : ℕ) (v : V) (p : P) → tree < length rows → (knows (pass_at items rows tree lane v p)).standing ≡ None
   pub serves_all : (tree : ℕ) (t : T) (v : V) (p : P) → tree < length rows → serves (slice_index_or trees tree t) (pass_at items rows tree lane v p)
 
--- A lane did its first n lines, from the passes that it had in the rows before to those that it has in the rows afterwards.
--- Its desk is seen but for its passes.
+-- A lane did its first n lines. It had the handles in the rows before, and the rows have them afterwards. Its desk is seen
+-- without its handles.
 pub record LaneWent {P V : Type 0} (knows : P → Pass) (items : V → List P) (lane n : ℕ) (rows rows' : List V) (desk desk' : DeskState) : Type 0 where
   pub before : List Pass
   pub after : List Pass

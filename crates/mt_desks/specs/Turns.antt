@@ -1,12 +1,12 @@
--- How the entries of the lanes' rooms are put back in the order of the log: for each line that a lane does those that tell of
--- it, from the front of the lane's room.
+-- How the entries of the lanes' rooms are put back in the order of the log. For each line that a lane does, the entries for it
+-- are taken from the front of the lane's room.
 -- Source: this project's own.
 use Rattle.std.specs.Prelude.{◌≡◌, ℕ, List, [], ◌∷◌, ◌++◌, ◌==◌, ◌<◌, length, map, take, drop, slice_index_or, slice_set, if◌then◌else◌}
 use Rattle.std.specs.List.{prefix_len}
 use Rattle.mt_desks.specs.Prelude.{Entry, Line, Step, entry_of, lane_after, answers_joined}
 use Rattle.mt_desks.specs.Dealing.{is_step}
 
--- how many entries at the front of a room tell of a line
+-- how many entries at the front of a room are for a line
 abbrev pub front_len : ℕ → List Entry → ℕ
 front_len line room = prefix_len (λ e. e.line == line) room
 
@@ -19,7 +19,7 @@ rest_of line room = drop (front_len line room) room
 abbrev pub room_at : List (List Entry) → ℕ → List Entry
 room_at rooms lane = slice_index_or rooms lane []
 
--- what is put back for each of these lines, where the log stands in the lane `here`
+-- what is put back for each of these lines, if the log is in the lane `here`
 abbrev pub in_turn : (here : ℕ) → List Line → List (List Entry) → List Entry
 in_turn here [] rooms = []
 in_turn here (line ∷ lines) rooms =

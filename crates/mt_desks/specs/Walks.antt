@@ -1,10 +1,10 @@
--- What a walk over a shared tree's ranges has come to, and what a step makes of it.
+-- How far a walk over a shared tree's ranges has come, and what a step does to it.
 -- Source: the kernel's documentation of the maple tree, mas_for_each, whose state is kept from range to range.
 use Rattle.std.specs.Prelude.{◌≡◌, ◌≢◌, ℕ, ◌+◌, ◌≤◌, List, [], ◌∷◌, ◌++◌, Option, Some, None, length}
 use Rattle.mt_desks.specs.Prelude.{Range, History, Pass, Read, find_at, place_behind}
 
--- The tree as it opened; which reference to its pass the walk holds, what that pass knows, and how many steps it has made without
--- the lock; where the walk looks from next, and the bound. The section that stands open for the pass is the walk's own.
+-- The tree as it opened. Which reference to its handle the walk has, what that handle knows, and how many steps it has made
+-- without the lock. Where the walk goes on, and its bound. The section that is open for the handle is the walk's own.
 pub record Walk : Type 0 where
   pub history : History
   pub reference : ℕ
@@ -13,17 +13,17 @@ pub record Walk : Type 0 where
   pub at : Option ℕ
   pub max : ℕ
 
--- where a walk goes on behind what it found
+-- where a walk goes on after what it found
 abbrev pub place_after : ℕ → Option Range → Option ℕ
 place_after max None = None
 place_after max (Some r) = place_behind max r
 
--- the epochs of a pass's sections behind a read at `lo`, which opens one only where none stands open
+-- the epochs of a handle's sections after a read at `lo`, which opens a section only if none is open
 abbrev pub opened_at : ℕ → Option ℕ → List ℕ → List ℕ
 opened_at lo None opened = opened ++ lo ∷ []
 opened_at lo (Some epoch) opened = opened
 
--- A read of the walk, in few steps, which has opened its section where that was not open, and no other. It stands open then.
+-- A read of the walk, in few steps. It has opened its section if that was not open, and no other. The section is open then.
 pub record HasWalkedOn (lo hi : ℕ) (value : Option Range) (w w' : Walk) : Type 0 where
   pub is : w' ≡ record w { pass = w'.pass; steps = w'.steps; at = place_after w.max value }
   pub k : ℕ
@@ -32,7 +32,7 @@ pub record HasWalkedOn (lo hi : ℕ) (value : Option Range) (w w' : Walk) : Type
   pub opened : w'.pass.opened ≡ opened_at lo w.pass.standing w.pass.opened
   pub stands : w'.pass.standing ≢ None
 
--- The pass has opened one section at the most.
+-- The handle has opened at most one section.
 pub record OpensOnce (p q : Pass) : Type 0 where
   pub epochs : List ℕ
   pub opened : q.opened ≡ p.opened ++ epochs

@@ -6,7 +6,7 @@ ghost use Rattle.mt_desks.specs.Dealing.{is_step, lanes_in, room_for, line_tree}
 
 use mt_log::{Item, Line};
 
-/// The lane of the lines behind a line, where the log stood in this one before it.
+/// The lane of the lines after a line, if the log was in this one before it.
 pub fn lane_after(lane: u32, item: &Item) -> u32
     ensures { result ≡ lane_after lane item.now }
 {
@@ -36,7 +36,7 @@ pub(crate) fn tree_of(item: &Item) -> u32
     }
 }
 
-/// How many answers a line has at the most.
+/// How many answers a line has at most.
 pub(crate) fn room_for(item: &Item) -> u32
     ensures { result ≡ room_for item.now }
 {

@@ -16,7 +16,7 @@ use mt_log::{Entry, Item, Line, Said};
 use std::alloc::Global;
 use std::sync::Wait;
 
-/// Makes a call, and tells its number and reply in the room.
+/// Makes a call, and puts its number and reply into the room.
 fn write<R: Wait, P: Passage, T: Shared<P>>(
     rt: &R,
     tree: &T,
@@ -44,7 +44,7 @@ fn write<R: Wait, P: Passage, T: Shared<P>>(
     }
 }
 
-/// Does a line by the pass on its tree, and tells what came of it behind what the room holds.
+/// Does a line by the handle on its tree, and puts the outcome after what the room holds.
 fn answer_on<R: Wait, P: Passage, T: Shared<P>>(
     rt: &R,
     tree: &T,
@@ -82,7 +82,7 @@ fn answer_on<R: Wait, P: Passage, T: Shared<P>>(
     }
 }
 
-/// Does a line by the pass on its tree, among all trees.
+/// Does a line by the handle on its tree, among all trees.
 fn answer_line<R: Wait, P: Passage, T: Shared<P>>(
     rt: &R,
     trees: &[T],
@@ -95,7 +95,8 @@ fn answer_line<R: Wait, P: Passage, T: Shared<P>>(
     requires manned { IsManned P.knows T.serves trees.now passes.old }
     requires room { vec_len room.old + room_for line.now.item ≤ vec_capacity room.old }
     ensures manned { IsManned P.knows T.serves trees.now passes.new }
-    ensures done { (lane phase : ℕ) → IsLineDone (map T.tree trees.now) (asked_of lane phase line.now) (map P.knows passes.old) (map P.knows passes.new) room.old.items room.new.items }
+    ensures done { (lane phase : ℕ)
+        → IsLineDone (map T.tree trees.now) (asked_of lane phase line.now) (map P.knows passes.old) (map P.knows passes.new) room.old.items room.new.items }
     ensures len { vec_len room.new ≤ vec_len room.old + room_for line.now.item }
     ensures capacity { vec_capacity room.new ≡ vec_capacity room.old }
 {
@@ -103,7 +104,7 @@ fn answer_line<R: Wait, P: Passage, T: Shared<P>>(
     answer_on(rt, &trees[at], &mut passes[at], line, room);
 }
 
-/// A lane's desk in a phase: its own lines, its pass on each tree, and the room for all its answers.
+/// A lane's desk (worker) in a phase: its own lines, its pass (handle) on each tree, and the room for all its answers.
 #[derive(Drop)]
 pub struct LaneDesk<'a, R, P: Drop, T> {
     pub rt: &'a R,
@@ -144,8 +145,8 @@ impl<'a, R: Wait, P: Passage + Drop, T: Shared<P>> LaneDesk<'a, R, P, T> {
     ghost use Rattle.std.specs.Prelude.{◌≡◌, ◌≤◌, ◌+◌, IfOk, length, vec_len, vec_capacity};
     ghost use Rattle.mt_desks.specs.Dealing.{lines_of_lane};
 
-    /// A desk for the lines of a phase that this lane does, which takes all its memory. Its room is the one that it is given,
-    /// with what that holds at the front, and with place for so many answers more; its passes are away.
+    /// A desk for the lines of a phase that this lane does. It takes all its memory here. Its room is the one that it is given:
+    /// with what that holds at the front, and with place for `count` more answers. Its handles are away.
     ///
     /// # Errors
     ///

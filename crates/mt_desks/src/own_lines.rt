@@ -8,7 +8,7 @@ use mt_base::NoMemory;
 use mt_log::Line;
 use std::marker::Model;
 
-/// What a lane needs in a phase: how many lines it does, and how many answers they have at the most.
+/// What a lane needs in a phase: how many lines it does, and how many answers they have at most.
 #[derive(Clone, Copy, Debug, PartialEq, Eq)]
 pub struct Needs {
     pub steps: u64,
@@ -40,7 +40,7 @@ pub fn needs_of(lane: u32, lines: &[Line]) -> Result<Needs, NoMemory>
     Ok(Needs { steps, room })
 }
 
-/// The next line that a lane does, where the log stands in the lane `here`; and how it goes on behind that line.
+/// The next line that a lane does, if the log is in the lane `here`; and how the log goes on after that line.
 fn next_of_lane<'a>(lane: u32, here: u32, lines: &'a [Line]) -> Option<(&'a Line, u32, &'a [Line])>
     ensures some { IfSome result (λ next. lines_of_lane lane here lines.now ≡ next.0.now ∷ lines_of_lane lane next.1 next.2.now) }
     ensures none { IfNone result (lines_of_lane lane here lines.now ≡ []) }

@@ -1,4 +1,4 @@
-//! The passes of a shared tree, as lanes have them.
+//! The passes (threads' handles) of a shared tree, as lanes have them.
 
 ghost use Rattle.mt_rule.specs.Tokens.{pass_in, steps_made};
 

@@ -1,11 +1,11 @@
-//! How the passes of the trees go out to the lanes' desks, and come back.
+//! How the handles of the trees go out to the lanes' desks, and come back.
 
 ghost use Rattle.std.specs.Prelude.{◌≡◌, ◌<◌, All, length, vec_len};
 ghost use Rattle.mt_desks.specs.Passing.{HasSwapped};
 
 use std::mem;
 
-/// At each tree the pass of this lane changes places with the lane's own.
+/// At each tree, this lane's handle changes places with the lane's own.
 pub(crate) fn swap_passes<P: Drop>(rows: &mut [Vec<P>], lane: usize, passes: &mut [P])
     requires count { length passes.old ≡ length rows.old }
     requires lane { All (λ row. lane < vec_len row) rows.old }

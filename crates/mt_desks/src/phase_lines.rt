@@ -15,11 +15,12 @@ ghost use Rattle.mt_desks.specs.Desks.{AreLines};
 pub fn what_is_asked_is_of_its_phase()
     ensures steps { (here phase : ℕ) (lines : List Line) → AllByRecursion (λ (a : Asked). a.phase ≡ phase) (steps_in here phase lines) }
     ensures counts { (phase : ℕ) (lines : List Line) → AllByRecursion (λ (a : Asked). (a.phase ≡ phase) × (a.lane ≡ 0)) (counts_in phase lines) }
-    ensures placed { (passes here phase : ℕ) (lines : List Line) → lanes_in here lines ≤ passes → AllByRecursion (λ (a : Asked). (a.phase ≡ phase) × (a.lane < passes)) (counts_in phase lines ++ steps_in here phase lines) }
+    ensures placed { (passes here phase : ℕ) (lines : List Line) → lanes_in here lines ≤ passes
+        → AllByRecursion (λ (a : Asked). (a.phase ≡ phase) × (a.lane < passes)) (counts_in phase lines ++ steps_in here phase lines) }
 {}
 
-/// Each lane that a log asks is below the number of its lanes, which is no less for a part of the log, and where lines name
-/// their lanes no more than there may be.
+/// Each lane that a log asks is below the number of its lanes, which is at least 1. A part of a log has no more lanes than the
+/// whole. If lines name only lanes that there may be, their number is at most `most_lanes`.
 pub fn lanes_are_counted()
     ensures asked { (lines : List Line) → AllByRecursion (λ (a : Asked). a.lane < lanes_in 0 lines) (steps_of lines) }
     ensures onward { (here phase : ℕ) (lines : List Line) → AllByRecursion (λ (a : Asked). a.lane < lanes_in here lines) (asked_from here phase lines) }
@@ -32,11 +33,13 @@ pub fn lanes_are_counted()
 
 /// What the lines of a phase ask names trees that are declared when its lanes start.
 pub fn what_is_asked_is_declared()
-    ensures named { (trees : List Declared) (here phase : ℕ) (lines : List Line) → AreNamedFrom (length trees) lines → AllByRecursion (λ (a : Asked). NamesBelow (length (trees_from trees phase lines)) a.item) (counts_in phase lines ++ steps_in here phase lines) }
-    ensures lines { (trees : List Declared) (lane here phase : ℕ) (lines : List Line) → AreNamedFrom (length trees) lines → AreLines (length (trees_from trees phase lines)) (lines_of_lane lane here lines) }
+    ensures named { (trees : List Declared) (here phase : ℕ) (lines : List Line) → AreNamedFrom (length trees) lines
+        → AllByRecursion (λ (a : Asked). NamesBelow (length (trees_from trees phase lines)) a.item) (counts_in phase lines ++ steps_in here phase lines) }
+    ensures lines { (trees : List Declared) (lane here phase : ℕ) (lines : List Line) → AreNamedFrom (length trees) lines
+        → AreLines (length (trees_from trees phase lines)) (lines_of_lane lane here lines) }
 {}
 
-/// Some lines of a log that can be read name trees that are declared before them, and stand in their places.
+/// Lines of a readable log name trees that are declared before them, and are in their places.
 pub fn lines_of_a_readable_log()
     ensures named { (front lines rest : List Line) → IsReadable (front ++ (lines ++ rest)) → AreNamedFrom (length (trees_of front)) lines }
     ensures placed { (front lines rest : List Line) → IsReadable (front ++ (lines ++ rest)) → AreInPlaceFrom (stepped_from false front) lines }

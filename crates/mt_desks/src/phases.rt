@@ -15,7 +15,7 @@ use mt_lanes::{Lane, run_lanes};
 use std::sync::Wait;
 use std::thread::Threads;
 
-/// At each tree the pass of this lane changes place with the one at its desk.
+/// At each tree, this lane's handle changes places with the one at its desk.
 fn swap_lane<R, P: Drop, T>(rows: &mut [Vec<P>], at: usize, lane: &mut Lane<LaneDesk<'_, R, P, T>>)
     requires rows { All (λ row. at < vec_len row) rows.old }
     requires desk { vec_len lane.old.desk.passes ≡ length rows.old }
@@ -25,7 +25,7 @@ fn swap_lane<R, P: Drop, T>(rows: &mut [Vec<P>], at: usize, lane: &mut Lane<Lane
     swap_passes(rows, at, lane.desk.passes.as_mut_slice());
 }
 
-/// The passes of each tree change places with those at the desks, the one of each lane with its desk's.
+/// The handles of each tree change places with those at the desks, each lane's with its desk's.
 fn swap_all<R, P: Drop, T>(rows: &mut [Vec<P>], lanes: &mut [Lane<LaneDesk<'_, R, P, T>>])
     requires rows { All (λ row. length lanes.old ≤ vec_len row) rows.old }
     requires desks { All (λ l. vec_len l.desk.passes ≡ length rows.old) lanes.old }
@@ -37,10 +37,10 @@ fn swap_all<R, P: Drop, T>(rows: &mut [Vec<P>], lanes: &mut [Lane<LaneDesk<'_, R
     }
 }
 
-/// Runs the lanes of a phase at once, each with its pass on each tree, and one after another where no thread can be
-/// made. The rows hold each tree's passes, in order; those behind the lanes' stay as they are.
+/// Runs the lanes of a phase at once, each with its pass (handle) on each tree, and one after another if no thread can be made.
+/// The rows hold each tree's handles, in order. Those after the lanes' stay as they are.
 ///
-/// It takes no memory. Each lane's desk does its lines, each once and in order, and its passes are back in the rows.
+/// It takes no memory. Each lane's desk does its lines, each once and in order, and its handles are back in the rows.
 pub fn run_phase<
     R: Threads + Wait + Sync,
     P: Passage + Drop + Send,
@@ -56,7 +56,8 @@ pub fn run_phase<
     ensures turns { FromEach (λ lane l k. (number : ℕ) → number < 2 * l.steps → G.passed gate.now l.lane number) lanes.old lanes.new }
     ensures count { length rows.new ≡ length rows.old }
     ensures long { (tree : ℕ) → (row : Vec P Global) → length (slice_index_or rows.new tree row).items ≡ length (slice_index_or rows.old tree row).items }
-    ensures others { (tree lane : ℕ) → (row : Vec P Global) → (pass : P) → length lanes.old ≤ lane → pass_at (λ v. v.items) rows.new tree lane row pass ≡ pass_at (λ v. v.items) rows.old tree lane row pass }
+    ensures others { (tree lane : ℕ) → (row : Vec P Global) → (pass : P) → length lanes.old ≤ lane
+        → pass_at (λ v. v.items) rows.new tree lane row pass ≡ pass_at (λ v. v.items) rows.old tree lane row pass }
 {
     swap_all(rows, lanes);
     run_lanes(rt, lanes, gate);

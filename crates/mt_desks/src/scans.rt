@@ -23,7 +23,7 @@ fn found(value: Option<Range>) -> Answer
     }
 }
 
-/// Asks one query, and tells its answer in the room.
+/// Asks one query, and puts its answer into the room.
 pub(crate) fn look<R: Wait, P: Passage, T: Shared<P>>(
     rt: &R,
     tree: &T,
@@ -52,7 +52,7 @@ pub(crate) fn look<R: Wait, P: Passage, T: Shared<P>>(
     read.value
 }
 
-/// Makes one step of a walk, tells its answer in the room, and gives it.
+/// Makes one step of a walk, puts its answer into the room, and returns it.
 fn look_on<T, W: Walks<T>>(walk: &mut W, line: u64, room: &mut Vec<Entry>) -> Option<Range>
     requires own { W.own walk.old }
     requires room { vec_len room.old < vec_capacity room.old }
@@ -75,7 +75,7 @@ fn look_on<T, W: Walks<T>>(walk: &mut W, line: u64, room: &mut Vec<Entry>) -> Op
     read.value
 }
 
-/// Makes so many steps of a walk at the most, and none behind the first that finds nothing.
+/// Makes at most `count` steps of a walk, and none after the first that finds nothing.
 fn read_on<T, W: Walks<T>>(walk: &mut W, line: u64, count: u32, room: &mut Vec<Entry>)
     requires own { W.own walk.old }
     requires room { vec_len room.old + count ≤ vec_capacity room.old }
@@ -96,7 +96,7 @@ fn read_on<T, W: Walks<T>>(walk: &mut W, line: u64, count: u32, room: &mut Vec<E
     }
 }
 
-/// Makes a scan by a walk, so many steps at the most, tells them behind what the room holds, and closes the walk's section.
+/// Makes a scan by a walk, of at most `count` steps. Puts the answers after what the room holds, and closes the walk's section.
 pub fn scan<T, W: Walks<T>>(walk: &mut W, line: u64, count: u32, room: &mut Vec<Entry>)
     requires own { W.own walk.old }
     requires room { vec_len room.old + count ≤ vec_capacity room.old }

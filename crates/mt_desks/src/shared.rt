@@ -39,18 +39,18 @@ pub trait Passage {
 
     ghost steps: { Self → ℕ };
 
-    /// The pass's number. Those of a tree are numbered from 0.
+    /// The handle's number. Those of a tree are numbered from 0.
     fn number(&self) -> u32
         ensures { result ≡ (knows self.now).number };
 
-    /// A pass of no tree. It stands in the place of one that is handed out.
+    /// A handle of no tree. It is in the place of one that is handed out.
     fn away() -> Self;
 }
 
-/// A tree that several share, each with a pass of its own.
+/// A tree that several threads share, each with a handle of its own.
 ///
-/// Its meanings are `tree`, its history and how many calls it takes; and `serves`, that a pass is one of this tree's.
-/// No call takes memory. `Wait` is asked of the caller for the lock alone.
+/// Its meanings are `tree`, its history and how many calls it takes; and `serves`, that a handle is one of this tree's. No call
+/// takes memory. `Wait` is needed for the lock alone.
 pub trait Shared<P: Passage> {
     ghost tree: { Self → SharedTree };
 
@@ -60,14 +60,15 @@ pub trait Shared<P: Passage> {
     ///
     /// # Errors
     ///
-    /// `TreeWorn` where the tree has as many calls as it takes. The pass has then seen them all.
+    /// `TreeWorn` if the tree has had as many calls as it takes. The handle has then seen them all.
     fn act<R: Wait>(&self, rt: &R, pass: &mut P, call: &Call) -> Result<CallDone, TreeWorn>
         requires of { serves self.now pass.old }
         requires closed { (P.knows pass.old).standing ≡ None }
         ensures of { serves self.now pass.new }
         ensures rests { P.steps pass.new ≡ P.steps pass.old }
         ensures wrote { IfOk result (λ done. Wrote (tree self.now).history (P.knows pass.old) done.call call.now done.reply (P.knows pass.new)) }
-        ensures worn { IfErr result (λ _. Saw (tree self.now).history (P.knows pass.old) (P.knows pass.new) × (length (P.knows pass.new).seen ≡ (tree self.now).most)) };
+        ensures worn { IfErr result (λ _. Saw (tree self.now).history (P.knows pass.old) (P.knows pass.new)
+            × (length (P.knows pass.new).seen ≡ (tree self.now).most)) };
 
     /// Makes a read, in few steps without the lock. It leaves no section open.
     fn ask<R: Wait>(&self, rt: &R, pass: &mut P, query: &Query) -> Looked
@@ -78,9 +79,9 @@ pub trait Shared<P: Passage> {
         ensures few { P.steps pass.new ≤ P.steps pass.old + 360 }
         ensures read { (k : ℕ) × Read (tree self.now).history (P.knows pass.old) result.lo result.hi k query.now result.value (P.knows pass.new) };
 
-    /// Makes a scan from an index up to a bound: its finds, each behind the range of the one before, so many at the most, and none
-    /// behind the first that finds nothing. Each is told behind what the room holds. They are all made in one section, which is
-    /// then closed.
+    /// Makes a scan from an index up to a bound: finds, each after the range of the one before, at most `count`, and none after
+    /// the first that finds nothing. Each answer follows what the room holds. All finds are made in one section, which is then
+    /// closed.
     fn scan(&self, pass: &mut P, line: u64, index: u64, max: u64, count: u32, room: &mut Vec<Entry>)
         requires of { serves self.now pass.old }
         requires closed { (P.knows pass.old).standing ≡ None }

@@ -7,7 +7,7 @@ use crate::dealing::{is_step, lane_after};
 use mt_base::NoMemory;
 use mt_log::{Entry, Line};
 
-/// How many entries at the front of a room tell of a line.
+/// How many entries at the front of a room are for a line.
 #[tactic(auto, using(crate::proofs::Fronts::front_more, crate::proofs::Fronts::front_stop, crate::proofs::Fronts::front_end))]
 fn front_len(room: &[Entry], line: u64) -> usize
     ensures is { result ≡ front_len line room.now }
@@ -21,8 +21,7 @@ fn front_len(room: &[Entry], line: u64) -> usize
     room.len()
 }
 
-/// Moves the entries that tell of a line from the front of this lane's room behind these. A lane that has no room has
-/// none.
+/// Moves the entries for a line from the front of this lane's room to the end of these. A lane without a room has none.
 fn take_front(
     entries: &mut Vec<Entry>,
     rooms: &mut [&[Entry]],
@@ -30,7 +29,8 @@ fn take_front(
     line: u64,
 ) -> Result<(), NoMemory>
     ensures entries { OnOk result (entries.new.items ≡ entries.old.items ++ first_entries line (room_at (map (λ r. r.now) rooms.old) lane)) }
-    ensures rooms { OnOk result (map (λ r. r.now) rooms.new ≡ slice_set (map (λ r. r.now) rooms.old) lane (rest_of line (room_at (map (λ r. r.now) rooms.old) lane))) }
+    ensures rooms { OnOk result (map (λ r. r.now) rooms.new
+        ≡ slice_set (map (λ r. r.now) rooms.old) lane (rest_of line (room_at (map (λ r. r.now) rooms.old) lane))) }
 {
     if lane < rooms.len() {
         let room = rooms[lane];
@@ -41,9 +41,9 @@ fn take_front(
     Ok(())
 }
 
-/// Puts what the lanes of a phase were answered behind these entries, in the order of the log: for each line of the
-/// phase that a lane does those at the front of that lane's room that tell of it. What the phase's copies and checks
-/// were told stands before them all, and is none of it.
+/// Appends the answers of a phase's lanes to these entries, in the order of the log: for each line of the phase that a lane
+/// does, the entries for it at the front of that lane's room. The answers of the phase's copies and checks come before them
+/// all, and are not among them.
 ///
 /// # Errors
 ///

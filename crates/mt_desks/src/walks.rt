@@ -5,10 +5,10 @@ ghost use Rattle.mt_desks.specs.Walks.{Walk, HasWalkedOn};
 
 use crate::shared::Looked;
 
-/// A walk over the ranges of a tree `T`, from an index up to a bound, by one pass and in one section.
+/// A walk over the ranges of a tree `T`, from an index up to a bound, by one handle and in one section.
 ///
-/// Its meanings are `walk`, what it has come to; `on`, that it goes over this tree; and `own`, that no section of its pass stands
-/// open but its own.
+/// Its meanings are `walk`, how far it has come; `on`, that it goes over this tree; and `own`, that its handle has no section
+/// open but the walk's own.
 pub trait Walks<T> {
     ghost walk: { Self → Walk };
 
@@ -16,7 +16,7 @@ pub trait Walks<T> {
 
     ghost own: { Self → Type 0 };
 
-    /// Reads the first range from the walk's place on, and goes on behind it. The section is open then.
+    /// Reads the first range from the walk's place on, and moves the place after it. The section is open then.
     fn step(&mut self) -> Looked
         requires { own self.old }
         ensures own { own self.new }

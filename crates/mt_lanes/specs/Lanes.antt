@@ -8,7 +8,8 @@ abbrev pub Chain : {D : Type 0} → (did : D → ℕ → D → Type 0) → ℕ �
 Chain did zero a b = b ≡ a
 Chain {D} did (suc n) a c = (b : D) × Chain did n a b × did b n c
 
--- a lane that can run: its desk has so many steps and awaits the first, and the numbers of its turns fit 64 bits
+-- a lane (thread) that can run: its desk (worker) has this many steps and waits for the first, and the numbers of its turns fit
+-- 64 bits
 pub record CanRun {D : Type 0} (count : D → ℕ) (awaits : D → ℕ → Type 0) (lane : Lane D) : Type 0 where
   pub within : lane.steps ≤ count lane.desk
   pub turns : lane.steps ≤ 2 ^ 63
@@ -21,7 +22,7 @@ pub record RanSteps {D : Type 0} (did : D → ℕ → D → Type 0) (passed : �
   pub desk : Chain did before.steps before.desk after.desk
   pub turns : (number : ℕ) → number < 2 * before.steps → passed before.lane number
 
--- at each place R leads from what stood there to what stands there now
+-- at each place R relates the old element to the new one
 abbrev pub EachPlace : {X : Type 0} → (R : X → X → Type 0) → List X → List X → Type 0
 EachPlace {X} R xs ys = (place : ℕ) (none : X) → place < length xs → R (slice_index_or xs place none) (slice_index_or ys place none)
 

@@ -35,14 +35,14 @@ fn are_idle<D>(lanes: &[Lane<D>]) -> bool
     lanes.iter().all(|lane| lane.steps == 0)
 }
 
-/// Whether a lane runs in this thread: it has no step, or no lane behind it has any.
+/// Whether a lane runs in this thread: it has no step, or no later lane has one.
 fn runs_here<D>(first: &Lane<D>, others: &[Lane<D>]) -> bool
     ensures { IsTrue result ↔ ((first.now.steps ≡ 0) ⊎ AreIdle others.now) }
 {
     first.steps == 0 || are_idle(others)
 }
 
-/// Runs a lane in a thread of its own, and the lanes behind it meanwhile.
+/// Runs a lane in a thread of its own, and meanwhile the later lanes.
 #[cycle(lanes)]
 fn run_beside<R: Threads + Sync, D: Desk + Send, G: Gate + Sync>(
     rt: &R,
@@ -68,9 +68,9 @@ fn run_beside<R: Threads + Sync, D: Desk + Send, G: Gate + Sync>(
 
 /// Runs the lanes at once, and one after another where no thread can be made.
 ///
-/// On each lane the desk answers the steps 0 to `steps - 1`, each once and in order, step s between the gate's turns 2s
-/// and 2s + 1 of this lane. It cannot fail, and takes no memory. The last lane that has a step runs in this thread, each
-/// other one that has some in a thread of its own.
+/// On each lane the desk (worker) does the steps 0 to `steps - 1`, each once and in order. Step s is between the gate's turns
+/// 2s and 2s + 1 of this lane. It cannot fail, and takes no memory. The last lane that has a step runs in this thread, and each
+/// other lane that has one in a thread of its own.
 #[cycle(lanes)]
 pub fn run_lanes<R: Threads + Sync, D: Desk + Send, G: Gate + Sync>(
     rt: &R,

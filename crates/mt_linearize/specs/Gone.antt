@@ -1,4 +1,4 @@
--- How far the lanes of a phase have come on a tree before its passes are settled, and what of the phase was counted as it began.
+-- How far the lanes of a phase have come on a tree before its handles are settled, and what was counted as the phase began.
 -- Source: this project's own. No two lanes are compared.
 use Rattle.std.specs.Prelude.{◌≡◌, ◌⊎◌, ℕ, zero, suc, ◌+◌, List, Some, length, slice_get}
 use Rattle.mt_linearize.specs.Prelude.{Range, History, last_map, Pass, Saw, Settled, with_records, Said, Counted, Step}
@@ -6,29 +6,29 @@ use Rattle.mt_linearize.specs.Leads.{Leads, outcomes_of}
 use Rattle.mt_linearize.specs.Phases.{Tracked}
 use Rattle.mt_linearize.specs.Rooms.{answers_joined}
 
--- f 0 + f 1 + .., so many numbers
+-- f 0 + f 1 + .., `n` numbers
 abbrev pub sum_below : ℕ → (ℕ → ℕ) → ℕ
 sum_below zero f = 0
 sum_below (suc n) f = sum_below n f + f n
 
--- Each of these passes is as it was, or has seen the whole history by itself: none made a call.
+-- Each of these handles is as it was, or has seen the whole history by itself. None made a call.
 pub record OnlySaw (tree : History) (before after : List Pass) : Type 0 where
   pub count : length after ≡ length before
   pub each : (i : ℕ) (p q : Pass) → slice_get before i ≡ Some p → slice_get after i ≡ Some q → (q ≡ p) ⊎ Saw tree p q
 
--- On the tree of this number each lane's pass went through what its lane was answered.
+-- On the tree of this number, each lane's handle went through the steps of its lane.
 pub record HaveGone (number : ℕ) (old : History) (answers : ℕ → List (List Step)) (before between : List Pass) : Type 0 where
   pub count : length between ≡ length before
   pub leads : (lane : ℕ) (p m : Pass) → slice_get before lane ≡ Some p → slice_get between lane ≡ Some m → Leads old p (outcomes_of number lane (answers_joined (answers lane))) m
 
--- On the tree of this number each lane's pass went so, and then all were settled.
+-- On the tree of this number, each lane's handle went so, and then all handles were settled.
 pub record IsPhaseGone (number : ℕ) (before after : Tracked) (answers : ℕ → List (List Step)) : Type 0 where
   pub between : List Pass
   pub gone : HaveGone number before.history answers before.passes between
   pub settled : Settled after.history between after.passes
   pub tree : after.history ≡ with_records before.history after.history.records
 
--- The step counts the ranges of its tree, which is one of these, as it stands.
+-- The step counts the ranges of its tree, which is one of these, as the tree is now.
 pub record CountsRanges (trees : List Tracked) (s : Step) : Type 0 where
   pub said : ℕ → Said
   pub ranges : List Range

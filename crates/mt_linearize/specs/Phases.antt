@@ -1,4 +1,4 @@
--- A phase of a log: each lane's pass on each tree goes through the lane's steps on it, and then all passes of each tree are
+-- A phase of a log: each lane's handle on each tree goes through the lane's steps on it, and then all handles of each tree are
 -- settled.
 -- Source: this project's own. No two lanes are compared.
 use Rattle.std.specs.Prelude.{◌≡◌, ℕ, ◌<◌, All, List, [], length, map, slice_get, Some}
@@ -6,7 +6,7 @@ use Rattle.std.specs.List.{range_with_len}
 use Rattle.mt_linearize.specs.Prelude.{Kind, Range, History, last_map, Pass, IsSettled, new_pass, with_records, Outcome, Called, Looked, Counted, Step}
 use Rattle.mt_linearize.specs.Leads.{Leads, outcomes_of}
 
--- a tree's history so far, and all its passes, each at the place of its number
+-- a tree's history so far, and all its handles, each at the place of its number
 pub record Tracked : Type 0 where
   pub history : History
   pub passes : List Pass
@@ -14,7 +14,7 @@ pub record Tracked : Type 0 where
 abbrev pub histories_of : List Tracked → List History
 histories_of trees = map (λ t. t.history) trees
 
--- a tree of this kind and so many rows and passes, which opens with this map
+-- a tree of this kind with this many nodes and handles, which opens with this map
 abbrev pub new_history : Kind → ℕ → List Range → History
 new_history kind rows opening = record { kind = kind; rows = rows; opening = opening; records = [] }
 
@@ -35,7 +35,7 @@ pub record IsPhaseOn (number : ℕ) (steps : List Step) (before after : Tracked)
   pub counts : All (λ s. s.tree ≡ number → Counts before.history s.outcome) steps
   pub settled : IsSettled after.history after.passes
 
--- The phase of these steps, on all trees: each is a step on one of these trees, by a lane that has a pass on it.
+-- The phase of these steps, on all trees. Each step is on one of these trees, by a lane that has a handle on it.
 pub record IsPhase (passes phase : ℕ) (steps : List Step) (before after : List Tracked) : Type 0 where
   pub count : length after ≡ length before
   pub placed : All (λ s. (s.phase ≡ phase) × (s.lane < passes)) steps

@@ -13,7 +13,7 @@ AreDoneEach [] [] = Unit {0}
 AreDoneEach (a ∷ asked) (steps ∷ answers) = IsDone a a.item steps × AreDoneEach asked answers
 AreDoneEach asked answers = ⊥
 
--- the rooms behind the first answer of this lane's room
+-- the rooms after the first answer was taken from this lane's room
 abbrev pub rooms_behind : {X : Type 0} → ℕ → (ℕ → List X) → ℕ → List X
 rooms_behind lane rooms other = if other == lane then drop 1 (rooms other) else rooms other
 

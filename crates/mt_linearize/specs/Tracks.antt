@@ -9,7 +9,7 @@ use Rattle.mt_linearize.specs.Phases.{Tracked, histories_of}
 
 -- ---- what a tree's steps keep
 
--- each one before each one behind it
+-- R holds of each element and each later one
 abbrev pub Pairs : {X : Type 0} → (X → X → Type 0) → List X → Type 0
 Pairs R [] = Unit {0}
 Pairs R (x ∷ xs) = AllByRecursion (R x) xs × Pairs R xs
@@ -18,7 +18,7 @@ Pairs R (x ∷ xs) = AllByRecursion (R x) xs × Pairs R xs
 abbrev pub On : ℕ → (Step → Type 0) → Step → Type 0
 On tree P s = s.tree ≡ tree → P s
 
--- a step that tells of no calls but the first so many
+-- a step that speaks of the first `n` calls only
 abbrev pub TellsUpTo : ℕ → Outcome → Type 0
 TellsUpTo n (Called number call reply) = number ≤ n
 TellsUpTo n (Looked lo hi k query value) = (lo ≤ n) × (hi ≤ n) × (k ≤ n)
@@ -35,7 +35,7 @@ pub record IsRecordAt (records : List Record) (number : ℕ) (r : Record) : Type
   pub is : records ≡ front ++ r ∷ rest
   pub at : length front + 1 ≡ number
 
--- what a lane was answered stands in the tree's history
+-- the answer of a lane is in the tree's history
 abbrev pub StandsInHistory : History → ℕ → Outcome → Type 0
 StandsInHistory tree lane (Called number call reply) = IsRecordAt tree.records number (record { pass = lane; call = call; reply = reply })
 StandsInHistory tree lane (Looked lo hi k query value) = IsTrueRead tree k lo hi query value
@@ -47,7 +47,7 @@ CountsAt tree k (Called number call reply) = Unit {0}
 CountsAt tree k (Looked lo hi at query value) = Unit {0}
 CountsAt tree k (Counted said ranges) = ranges ≡ map_at tree k
 
--- ---- what a tree's passes have of its steps
+-- ---- what a tree's handles have of its steps
 
 abbrev pub call_number : Outcome → Option ℕ
 call_number (Called number call reply) = Some number
@@ -57,7 +57,7 @@ call_number (Counted said ranges) = None
 abbrev pub numbers_of : List Outcome → List ℕ
 numbers_of outcomes = filter_map call_number outcomes
 
--- each pass's own calls are those of its lane
+-- each handle's own calls are those of its lane
 abbrev pub OwnCalls : ℕ → List Step → List Pass → Type 0
 OwnCalls tree steps passes = (lane : ℕ) (q : Pass) → slice_get passes lane ≡ Some q → q.mine ≡ numbers_of (outcomes_of tree lane steps)
 
@@ -70,7 +70,7 @@ OwnReads tree steps passes = (lane epoch : ℕ) (q : Pass) → slice_get passes 
 
 -- ---- all trees, between two phases
 
--- The tree of this number, which has so many passes, after these steps.
+-- The tree of this number, which has this many handles, after these steps.
 pub record Tracks (passes number : ℕ) (steps : List Step) (t : Tracked) : Type 0 where
   pub settled : IsSettled t.history t.passes
   pub count : length t.passes ≡ passes
@@ -82,7 +82,7 @@ pub record Tracks (passes number : ℕ) (steps : List Step) (t : Tracked) : Type
   pub counts : AllByRecursion (On number (λ s. CountsAt t.history (calls_before steps number s.phase) s.outcome)) steps
   pub holders : AllByRecursion (On number (IsHeldRightly steps)) steps
 
--- a step of a lower phase, by a lane that has a pass
+-- a step of a lower phase, by a lane that has a handle
 abbrev pub IsPlaced : ℕ → ℕ → Step → Type 0
 IsPlaced passes phase s = (s.phase < phase) × (s.lane < passes)
 
@@ -91,7 +91,7 @@ abbrev pub HasBegun : ℕ → Opening → Type 0
 HasBegun phase Empty = Unit {0}
 HasBegun phase (CopyOf tree q) = q ≤ phase
 
--- The trees that were declared so far, each with so many rows and passes, after the steps of the phases below this one.
+-- The trees that were declared so far, each with this many nodes and handles, after the steps of the phases below this one.
 pub record Ran (passes rows phase : ℕ) (declared : List Declared) (steps : List Step) (trees : List Tracked) : Type 0 where
   pub count : length trees ≡ length declared
   pub placed : AllByRecursion (IsPlaced passes phase) steps

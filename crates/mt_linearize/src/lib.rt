@@ -1,4 +1,5 @@
-//! How the passes of a log's trees go on from phase to phase, to a run of the log.
+//! How the passes (threads' handles) of a log's trees go on from phase to phase, so that the whole is a run of the log: each
+//! tree's steps are linearizable.
 #![tactic(auto)]
 
 pub mod lanes;

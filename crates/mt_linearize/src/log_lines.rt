@@ -13,8 +13,10 @@ ghost use Rattle.mt_linearize.specs.Tracks.{Pairs};
 
 /// Behind these lines, one line more.
 pub fn one_more_line()
-    ensures asked { (lines : List Line) (line : Line) → steps_of (lines ++ line ∷ []) ≡ steps_of lines ++ asked_by (lane_behind 0 lines) (phase_behind 0 lines) line }
-    ensures trees { (lines : List Line) (line : Line) → trees_of (lines ++ line ∷ []) ≡ trees_of lines ++ option_to_list (declared_by (trees_of lines) (phase_behind 0 lines) line.item) }
+    ensures asked { (lines : List Line) (line : Line)
+        → steps_of (lines ++ line ∷ []) ≡ steps_of lines ++ asked_by (lane_behind 0 lines) (phase_behind 0 lines) line }
+    ensures trees { (lines : List Line) (line : Line)
+        → trees_of (lines ++ line ∷ []) ≡ trees_of lines ++ option_to_list (declared_by (trees_of lines) (phase_behind 0 lines) line.item) }
     ensures lane { (lines : List Line) (line : Line) → lane_behind 0 (lines ++ line ∷ []) ≡ lane_after (lane_behind 0 lines) line.item }
     ensures phase { (lines : List Line) (line : Line) → phase_behind 0 (lines ++ line ∷ []) ≡ phase_after (phase_behind 0 lines) line.item }
     ensures stepped { (lines : List Line) (line : Line) → stepped_from false (lines ++ line ∷ []) ≡ stepped_after (stepped_from false lines) line.item }
@@ -31,17 +33,21 @@ pub fn lines_behind_lines()
 
 /// The steps that came of lines are of the lines' phase and lanes, on the trees that the lines name.
 pub fn steps_are_of_their_lines()
-    ensures placed { (passes phase : ℕ) (asked : List Asked) (steps : List Step) → AllByRecursion (λ (a : Asked). (a.phase ≡ phase) × (a.lane < passes)) asked → AreDone asked steps → All (λ (s : Step). (s.phase ≡ phase) × (s.lane < passes)) steps }
-    ensures named { (count : ℕ) (asked : List Asked) (steps : List Step) → AllByRecursion (λ (a : Asked). NamesBelow count a.item) asked → AreDone asked steps → All (λ (s : Step). s.tree < count) steps }
+    ensures placed { (passes phase : ℕ) (asked : List Asked) (steps : List Step)
+        → AllByRecursion (λ (a : Asked). (a.phase ≡ phase) × (a.lane < passes)) asked → AreDone asked steps
+        → All (λ (s : Step). (s.phase ≡ phase) × (s.lane < passes)) steps }
+    ensures named { (count : ℕ) (asked : List Asked) (steps : List Step)
+        → AllByRecursion (λ (a : Asked). NamesBelow count a.item) asked → AreDone asked steps
+        → All (λ (s : Step). s.tree < count) steps }
 {}
 
-/// What came of some lines, and behind it what came of others.
+/// The outcome of some lines, followed by the outcome of others.
 pub fn steps_behind_steps()
     ensures { (asked others : List Asked) (steps more : List Step) → AreDone asked steps → AreDone others more → AreDone (asked ++ others) (steps ++ more) }
 {}
 
-/// What a line of a log that can be read may say behind the lines before it: it names trees that they declare, it stands in
-/// its place, and the log stands in one of the lanes there.
+/// What a line of a readable log may say after the lines before it. It names trees that they declare, it is in its place, and
+/// the log is in one of the lanes there.
 pub fn a_line_of_a_readable_log()
     ensures named { (lines rest : List Line) (line : Line) → IsReadable (lines ++ line ∷ rest) → NamesBelow (length (trees_of lines)) line.item }
     ensures placed { (lines rest : List Line) (line : Line) → IsReadable (lines ++ line ∷ rest) → IsInPlace (stepped_from false lines) line.item }

@@ -26,21 +26,21 @@ use Rattle.mt_linearize.specs.Phases.{new_history}
 
 -- ---- maps
 
--- what a map means: its kind and its ranges, how much of its room for calls is used, and what its rows are limited by
+-- what a map means: its kind and its ranges, how much of its room for calls is used, and what its nodes are limited by
 pub record MapState : Type 0 where
   pub kind : Kind
   pub ranges : List Range
   pub used : ℕ
   pub limits : Option Limits
 
--- a map before its first call, in so many rows, which opens with these ranges
+-- a map before its first call, of this many nodes, which opens with these ranges
 pub record IsNewMap (rows : ℕ) (kind : Kind) (ranges : List Range) (m : MapState) : Type 0 where
   pub kind_is : m.kind ≡ kind
   pub opening : m.ranges ≡ ranges
   pub unused : m.used ≡ 0
   pub limits : MayLimit (new_history kind rows ranges) m.limits
 
--- a copy of a map, before its first call; it has as many rows as the map has
+-- a copy of a map, before its first call; it has as many nodes as the map has
 abbrev pub IsCopyOf : MapState → MapState → Type 0
 IsCopyOf m copy = (h : History) → MayLimit h m.limits → IsNewMap h.rows m.kind m.ranges copy
 
@@ -53,7 +53,8 @@ pub record TreeState : Type 0 where
   pub map : MapState
   pub calls : ℕ
 
--- how many rows a tree has; the trees that were declared so far, in the order of their lines; and the entries that were told
+-- how many nodes a tree has; the trees that were declared so far, in the order of their lines; and the entries (lines) of the
+-- transcript
 pub record PlayerState : Type 0 where
   pub rows : ℕ
   pub trees : List TreeState
@@ -79,21 +80,21 @@ pub record IsCalled (t t' : TreeState) (call : Call) (reply : Reply) : Type 0 wh
   pub limits : t'.map.limits ≡ one_call_more t.map.limits
   pub calls : t'.calls ≡ t.calls + 1
 
--- what is told of a query on a tree: the window is the number of its calls
+-- the entry for a query on a tree: both ends of the window are the number of its calls
 abbrev pub read_entry : ℕ → TreeState → Query → Entry
 read_entry line t query = record { line = line; said = said.Got t.calls t.calls (shown query (answer t.map.ranges query)) }
 
--- behind a range a scan goes on, and else it ends
+-- after a range a scan goes on; otherwise it ends
 abbrev pub entries_behind : (Option ℕ → List Entry) → ℕ → Option Range → List Entry
 entries_behind entries max None = []
 entries_behind entries max (Some r) = entries (place_behind max r)
 
--- what is told of a scan from this place on, of so many steps at the most
+-- the entries for a scan from this place on, of at most this many steps
 abbrev pub scan_entries : ℕ → TreeState → ℕ → ℕ → Option ℕ → List Entry
 scan_entries line t max zero at = []
 scan_entries line t max (suc count) at = read_entry line t (find_at at max) ∷ entries_behind (scan_entries line t max count) max (answer t.map.ranges (find_at at max))
 
--- a line that declares a copy of a tree, and tells how many ranges it has
+-- a line that declares a copy of a tree, and reports how many ranges it has
 pub record Copies (old new : PlayerState) (line from : ℕ) (name : Word) : Type 0 where
   pub source : TreeState
   pub copy : TreeState
@@ -102,14 +103,14 @@ pub record Copies (old new : PlayerState) (line from : ℕ) (name : Word) : Type
   pub trees : new.trees ≡ old.trees ++ copy ∷ []
   pub told : new.entries ≡ with_entry old line (said.Copied (length source.map.ranges))
 
--- a line that checks a tree, and tells how many ranges it has
+-- a line that checks a tree, and reports how many ranges it has
 pub record Checks (old new : PlayerState) (line tree : ℕ) : Type 0 where
   pub checked : TreeState
   pub tree_is : slice_get old.trees tree ≡ Some checked
   pub trees : new.trees ≡ old.trees
   pub told : new.entries ≡ with_entry old line (said.Lawful (length checked.map.ranges))
 
--- a line that makes a call, and tells its number and reply
+-- a line that makes a call, and reports its number and reply
 pub record Calls (old new : PlayerState) (line tree : ℕ) (call : Call) : Type 0 where
   pub before : TreeState
   pub after : TreeState
@@ -119,14 +120,14 @@ pub record Calls (old new : PlayerState) (line tree : ℕ) (call : Call) : Type 
   pub trees : new.trees ≡ slice_set old.trees tree after
   pub told : new.entries ≡ with_entry old line (said.Wrote (before.calls + 1) reply)
 
--- a line that reads a tree as it stands, and tells of each read
+-- a line that reads a tree as it is, and reports each read
 pub record ReadsOnly (old new : PlayerState) (tree : ℕ) (entries : TreeState → List Entry) : Type 0 where
   pub asked : TreeState
   pub tree_is : slice_get old.trees tree ≡ Some asked
   pub trees : new.trees ≡ old.trees
   pub told : new.entries ≡ old.entries ++ entries asked
 
--- what the line of this number asks for was done, over trees of so many rows
+-- what the line of this number asks for was done, over trees of this many nodes
 abbrev pub Does : ℕ → PlayerState → PlayerState → ℕ → Item → Type 0
 Does rows old new line (Tree name kind) = (t : TreeState) × Declares rows name kind [] t × (new ≡ record old { trees = old.trees ++ t ∷ [] })
 Does rows old new line (Lane lane) = new ≡ old
@@ -157,7 +158,7 @@ pub record IsDeclaredSo (t : TreeState) (d : Declared) : Type 0 where
   pub name : t.name ≡ d.tree.name
   pub kind : t.kind ≡ d.tree.kind
 
--- These steps were done of the lines, and told, and the player's trees have these histories.
+-- These steps of the lines were done and reported, and the player's trees have these histories.
 pub record IsPlayedBy (rows : ℕ) (lines : List Line) (player : PlayerState) (steps : List Step) (trees : List History) : Type 0 where
   pub played : HasPlayed most_lanes rows (phase_behind 0 lines) (stepped_from false lines) (trees_of lines) steps trees
   pub done : AreDone (steps_of lines) steps

@@ -10,7 +10,7 @@ use std::alloc::Global;
 
 /// A map of ranges that can be made empty, copied and counted.
 pub trait Plain: Ranges + Drop + Sized {
-    /// An empty map of this kind, in so many rows.
+    /// An empty map of this kind, of `rows` nodes.
     ///
     /// # Errors
     ///

@@ -78,11 +78,12 @@ impl<M: Plain> Played<M> {
         self.map.size()
     }
 
-    /// Makes a call, and tells its number and reply.
+    /// Makes a call, and writes its number and reply to the transcript.
     fn call(&mut self, line: u64, call: &Call, entries: &mut Vec<Entry>) -> Result<(), NoMemory>
         requires used { self.old.map.used < 2 ^ 62 - 1 }
         requires calls { self.old.calls < u64.MAX }
-        ensures { OnOk result ((reply : Reply) × IsCalled self.old self.new call.now reply × (entries.new.items ≡ entries.old.items ++ record { line = line; said = Wrote (self.old.calls + 1) reply } ∷ [])) }
+        ensures { OnOk result ((reply : Reply) × IsCalled self.old self.new call.now reply
+            × (entries.new.items ≡ entries.old.items ++ record { line = line; said = Wrote (self.old.calls + 1) reply } ∷ [])) }
     {
         let reply = self.map.act(call)?;
         self.calls += 1;
@@ -94,7 +95,8 @@ impl<M: Plain> Played<M> {
         Ok(())
     }
 
-    /// Tells the answer of the map as it stands, and gives it. The window is the number of calls so far.
+    /// Writes the answer of the map as it is to the transcript, and returns it. Both ends of the window are the number of calls
+    /// so far.
     fn ask(
         &mut self,
         line: u64,
@@ -116,8 +118,8 @@ impl<M: Plain> Played<M> {
         Ok(found)
     }
 
-    /// Finds range after range from `index` to `max`, and tells each step by itself: so many at the most, and none behind
-    /// the first that finds nothing.
+    /// Finds range after range from `index` to `max`, and writes each step by itself: at most `count`, and none after the first
+    /// that finds nothing.
     fn scan(
         &mut self,
         line: u64,
@@ -207,7 +209,7 @@ impl<M: Plain> Player<M> {
         Ok(())
     }
 
-    /// Declares a copy of a tree, and tells how many ranges it has.
+    /// Declares a copy of a tree, and reports how many ranges it has.
     fn copy(&mut self, alloc: Global, line: u64, from: usize, name: Word) -> Result<(), NoMemory>
         requires { from < length self.old.trees }
         ensures copies { OnOk result (Copies self.old self.new line from name) }
@@ -235,7 +237,7 @@ impl<M: Plain> Player<M> {
     }
 }
 
-/// Plays the lines in order, over trees of so many rows.
+/// Plays the lines in order, over trees of `rows` nodes.
 fn play_lines<M: Plain>(alloc: Global, lines: &[Line], rows: u64) -> Result<Player<M>, NoMemory>
     requires rows { rows ≤ most_rows }
     requires readable { IsReadable lines.now }
@@ -264,7 +266,7 @@ fn list_trees<M: Plain>(alloc: Global, trees: &mut [Played<M>]) -> Result<Vec<Li
     Ok(lists)
 }
 
-/// Plays the lines of a log in order over trees of so many rows, and lists the trees.
+/// Plays the lines of a log in order over trees of `rows` nodes, and lists the trees.
 ///
 /// # Errors
 ///

@@ -10,7 +10,7 @@ pub fn place_within(index: u64, max: u64) -> Option<u64>
     if index <= max { Some(index) } else { None }
 }
 
-/// Where a scan goes on behind a range, if anywhere.
+/// Where a scan goes on after a range, if anywhere.
 pub fn place_behind(max: u64, range: &Range) -> Option<u64>
     ensures { result ≡ place_behind max range.now }
 {
