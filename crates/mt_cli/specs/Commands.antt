@@ -7,7 +7,7 @@ use Rattle.mt_cli.specs.Numbers.{fewest_rows, greatest_number, most_index, most_
 use Rattle.mt_cli.specs.declared.commands.Command.{Command}
 use Rattle.mt_cli.specs.declared.commands.Command.TheVariants.{Bulk, Ids, Image, Make, Replay, Show, Trial, Verify}
 
--- as many rows as a word says
+-- as many nodes as a word says
 abbrev pub rows_word : List ℕ → Option ℕ
 rows_word word = number_in fewest_rows most_rows word
 
@@ -19,7 +19,7 @@ in_one_word word = if bytes_eq (take 7 word) (codes "--rows=") then rows_word (d
 abbrev pub in_two_words : List ℕ → List ℕ → Option ℕ
 in_two_words option word = if bytes_eq option (codes "--rows") then rows_word word else None
 
--- the number of rows behind `replay`, `verify` or `image`: as many as a tree may have, if no word says another
+-- the number of nodes after `replay`, `verify` or `image`: as many as a tree may have, if no word says another
 abbrev pub rows_said : List (List ℕ) → Option ℕ
 rows_said [] = Some most_rows
 rows_said (word ∷ []) = in_one_word word

@@ -1,4 +1,4 @@
--- What `clap` is told of the program's words, and what its answer says.
+-- What `clap` knows of the program's words, and what its answer says.
 -- Source: this project's own, the command line of its program; the crate `clap`.
 use Rattle.std.specs.Prelude.{true, Bool, ℕ, List, Option, Some, None, codes, if◌then◌else◌, option_and_then, option_map}
 use Rattle.std.specs.Str.{bytes_eq}
@@ -16,7 +16,7 @@ option_rule name = record (new_rule name) { long = Some name }
 abbrev pub word_rule : Text → Rule
 word_rule name = record (new_rule name) { required = true }
 
--- a word, and perhaps a number of rows
+-- a word, and perhaps a number of nodes
 abbrev pub rows_app : Text → App
 rows_app verb = with_rule (new_app verb) (option_rule (codes "rows"))
 
@@ -55,7 +55,7 @@ grammar =
     let of_logs : App = with_subcommand (with_subcommand (with_subcommand (with_subcommand plain_app replay_app.top) make_app.top) trial_app.top) verify_app.top in
     with_subcommand (with_subcommand (with_subcommand (with_subcommand of_logs image_app.top) show_app.top) bulk_app.top) ids_app.top
 
--- the number of rows that the matches of a subcommand say
+-- the number of nodes that the matches of a subcommand say
 abbrev pub rows_given : List Row → Option ℕ
 rows_given rows = elim (first_of (codes "rows") rows) as (λ _. Option ℕ) [ None ↦ Some most_rows | Some word ↦ rows_word word ]
 

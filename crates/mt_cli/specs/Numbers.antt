@@ -13,7 +13,7 @@ is_number word = list_all is_ascii_digit word && nat_le 1 (length word) && nat_l
 abbrev pub number_in : ℕ → ℕ → List ℕ → Option ℕ
 number_in least most word = if is_number word && nat_le least (digits_value 10 word) && nat_le (digits_value 10 word) most then Some (digits_value 10 word) else None
 
--- a tree has at least so many rows
+-- the least number of nodes of a tree
 abbrev pub fewest_rows : ℕ
 fewest_rows = 4
 

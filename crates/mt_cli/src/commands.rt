@@ -1,11 +1,11 @@
 /// What the program is asked to do.
 #[derive(Clone, Copy, Debug, PartialEq, Eq)]
 pub enum Command {
-    /// Runs the log that is read, with so many rows for each tree.
+    /// Runs the log that is read, with `rows` nodes for each tree.
     Replay {
         rows: u64,
     },
-    /// Writes a log that is drawn from a number: so many steps, dealt out to so many lanes.
+    /// Writes a pseudo-random log: `number` is the seed, and its steps are divided among the lanes (threads).
     Make {
         number: u32,
         steps: u32,
@@ -16,21 +16,21 @@ pub enum Command {
         number: u32,
         steps: u32,
     },
-    /// Judges a transcript of the log before it, with so many rows for each tree.
+    /// Judges a transcript of the log before it, with `rows` nodes for each tree.
     Verify {
         rows: u64,
     },
-    /// Runs the log that is read, with so many rows for each tree, and writes the image of its first tree.
+    /// Runs the log that is read, with `rows` nodes for each tree, and writes the image of its first tree.
     Image {
         rows: u64,
     },
     /// Writes the listing of the tree whose image is read.
     Show,
-    /// Writes the image of a tree that so many workers build of the listing that is read.
+    /// Writes the image of a tree that `workers` threads build of the listing that is read.
     Bulk {
         workers: u32,
     },
-    /// Draws numbers from `lo` to `hi` by turns, so many times, and gives each back after `drop` draws more.
+    /// Draws numbers from `lo` to `hi` in turn (cyclic allocation), `steps` times, and gives each back after `drop` more draws.
     Ids {
         lo: u64,
         hi: u64,

@@ -1,4 +1,4 @@
-//! What `clap` is told of the words, and what its matches say.
+//! What `clap` knows of the words, and what its matches say.
 
 ghost use Rattle.std.specs.Prelude.{◌≡◌, IfOk, false, option_map};
 ghost use Rattle.clap.specs.Words.{app_of, first_of, found_of, new_app, rows_of, rule_of, subcommand_rows_of, with_rule};
@@ -11,7 +11,7 @@ use clap::{Arg, ArgMatches};
 use mt_base::MOST_ROWS;
 use std::alloc::{AllocError, Global};
 
-/// The fewest rows that a tree may have.
+/// The fewest nodes that a tree may have.
 const FEWEST_ROWS: u64 = 4;
 
 /// The greatest number to draw from.
@@ -37,7 +37,7 @@ fn option_arg<'a>(alloc: Global, name: &'a str) -> Arg<'a>
     Arg::new(alloc, name).long(name)
 }
 
-/// A word, and perhaps a number of rows.
+/// A word, and perhaps a number of nodes.
 fn rows_words<'a>(alloc: Global, verb: &'a str) -> Result<clap::Command<'a>, AllocError>
     ensures { IfOk result (λ c. app_of c ≡ rows_app verb.now) }
 {
@@ -109,7 +109,7 @@ fn ids_words<'a>(alloc: Global) -> Result<clap::Command<'a>, AllocError>
     with_word(alloc, words, "drop")
 }
 
-/// The commands, as `clap` is told of them.
+/// The commands, as `clap` takes them.
 pub fn grammar<'a>(alloc: Global) -> Result<clap::Command<'a>, AllocError>
     ensures { IfOk result (λ c. app_of c ≡ grammar) }
 {
@@ -134,7 +134,7 @@ fn word_of<'a>(matches: &ArgMatches<'a>, name: &str) -> Option<&'a str>
     matches.get_str(name)
 }
 
-/// How many rows the words say, or all that there may be.
+/// How many nodes the words say, or all that there may be.
 fn rows_in(matches: &ArgMatches) -> Option<u64>
     ensures { result ≡ rows_given (rows_of (found_of matches.now)) }
 {

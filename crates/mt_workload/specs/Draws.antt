@@ -7,7 +7,7 @@ use Rattle.std.specs.Prelude.{ℕ, ◌+◌, ◌*◌, ◌/◌, ◌%◌, ◌^◌}
 abbrev pub Drawing : Type 0 → Type 0
 Drawing A = ℕ → A × ℕ
 
--- the state behind a state
+-- the state after a state
 abbrev pub next_state : ℕ → ℕ
 next_state state = (1103515245 * state + 12345) % 2 ^ 31
 

@@ -1,4 +1,4 @@
--- The log that is made of a number: so many steps on one tree, dealt out to so many lanes.
+-- The log that is made from a number (the seed): `steps` steps on one tree, divided among `lanes` lanes (threads).
 -- Source: this project's own.
 use Rattle.std.specs.Prelude.{ℕ, zero, suc, List, [], ◌∷◌, ◌++◌, ◌+◌, ◌-◌, ◌/◌, ◌%◌, ◌==◌, nat_le, nat_lt, codes, if◌then◌else◌}
 use Rattle.mt_workload.specs.Prelude.{Call, Store, Erase, Alloc, Ralloc, Load, Find, Item, Tree, Lane, Write, Ask, Scan, Line, Log}
@@ -37,7 +37,7 @@ index_step item = do
   index ← draw_below 4194304
   given (item index)
 
--- the step that a number below 16 stands for
+-- the step that a number below 16 means
 unfoldable pub step_by : ℕ → Drawing Item
 step_by d =
     if nat_le d 5 then area_step Alloc
@@ -53,7 +53,7 @@ step = do
   d ← draw_below 16
   step_by d
 
--- so many steps
+-- `n` steps
 unfoldable pub steps : ℕ → Drawing (List Item)
 steps zero = given []
 steps (suc more) = do
@@ -61,11 +61,11 @@ steps (suc more) = do
   items ← steps more
   given (item ∷ items)
 
--- how many steps a lane has, where so many are dealt out to so many lanes
+-- how many steps a lane has, if `steps` are divided among `lanes`
 unfoldable pub steps_of_lane : ℕ → ℕ → ℕ → ℕ
 steps_of_lane all lanes lane = if nat_lt lane (all % lanes) then all / lanes + 1 else all / lanes
 
--- so many lanes from this one on, each a line that names it and its steps
+-- `n` lanes from this one on, each a line that names it and its steps
 unfoldable pub lanes_from : (ℕ → ℕ) → ℕ → ℕ → Drawing (List Item)
 lanes_from count lane zero = given []
 lanes_from count lane (suc more) = do
@@ -78,6 +78,6 @@ abbrev pub numbered : ℕ → List Item → List Line
 numbered number [] = []
 numbered number (item ∷ items) = record { number = number; item = item } ∷ numbered (number + 1) items
 
--- the log that is made of a number
+-- the log of a number (seed)
 unfoldable pub made : ℕ → ℕ → ℕ → Log
 made number all lanes = record { version = 1; lines = numbered 2 (Tree (codes "a") kinds.Alloc ∷ (lanes_from (steps_of_lane all lanes) 0 lanes number).0) }

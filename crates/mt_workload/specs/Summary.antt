@@ -1,4 +1,4 @@
--- What a run came to, in one line: how often each word was told, and how many ranges there are at the end.
+-- The result of a run, in one line: how often each word was returned, and how many ranges there are at the end.
 -- Source: this project's own.
 use Rattle.std.specs.Prelude.{ℕ, List, ◌++◌, count_by, sum_by, length, codes}
 use Rattle.std.specs.Fmt.{decimal}
@@ -25,18 +25,18 @@ answer_word answers.None = codes "none"
 answer_word (answers.Entry entry) = codes "entry"
 answer_word (answers.Range range) = codes "range"
 
--- the word of what is told
+-- the word of an entry (a line of the transcript)
 abbrev pub said_word : Said → List ℕ
 said_word (Wrote call reply) = reply_word reply
 said_word (Got lo hi value) = answer_word value
 said_word (Lawful count) = codes "lawful"
 said_word (Copied count) = codes "copied"
 
--- how many entries tell this word
+-- how many entries have this word
 abbrev pub times_told : List ℕ → List Entry → ℕ
 times_told word entries = count_by (λ e. bytes_eq (said_word e.said) word) entries
 
--- what entries of a log of so many steps come to
+-- the summary of these entries of a log with this many steps
 abbrev pub told : ℕ → List Entry → Summary
 told steps entries = record {
   steps = steps;

@@ -1,4 +1,4 @@
-//! The log that is made of a number, and what a run of it comes to in one line.
+//! The log (workload) that is made from a number (seed), and the result of a run of it in one line.
 #![tactic(auto)]
 
 mod draws;

@@ -2,7 +2,7 @@ use mt_log::{Item, Line, Lines};
 use std::alloc::{AllocError, Global};
 use std::marker::Model;
 
-/// The lines of a log behind its first, each at the next number.
+/// The lines of a log after its first, each with the next number.
 #[derive(Drop)]
 pub struct MadeLines {
     lines: Vec<Line>,
@@ -24,7 +24,7 @@ impl MadeLines {
     ghost use Rattle.std.specs.Prelude.{◌≡◌, ◌++◌, ◌∷◌, [], IfOk, OnOk};
     ghost use Rattle.mt_workload.specs.Made.{numbered};
 
-    /// No lines, with room for so many.
+    /// No lines, with room for `room` of them.
     pub fn new(alloc: Global, room: usize) -> Result<Self, AllocError>
         ensures { IfOk result (λ lines. lines ≡ []) }
     {

@@ -11,7 +11,7 @@ use mt_base::{Kind, NoMemory};
 use mt_log::{Item, Lines, Log, Word};
 use std::alloc::{AllocError, Global};
 
-/// Adds so many steps.
+/// Adds `count` steps.
 fn push_steps(lines: &mut MadeLines, draws: &mut Draws, count: u32) -> Result<(), AllocError>
     ensures lines { OnOk result (lines.new ≡ lines.old ++ (steps count draws.old).0) }
     ensures drawn { OnOk result (draws.new ≡ (steps count draws.old).1) }
@@ -22,7 +22,7 @@ fn push_steps(lines: &mut MadeLines, draws: &mut Draws, count: u32) -> Result<()
     Ok(())
 }
 
-/// How many steps a lane has, where so many are dealt out to so many lanes.
+/// How many steps a lane has, if `steps` are divided among `lanes`.
 #[tactic(auto, unfolding(crate::specs::Made::steps_of_lane))]
 fn steps_of_lane(steps: u32, lanes: u32, lane: u32) -> u32
     requires { 1 ≤ lanes }
@@ -60,7 +60,7 @@ fn tree() -> Item
     }
 }
 
-/// Adds so many lanes, with so many steps in all.
+/// Adds lanes, with this many steps in all.
 fn push_lanes(
     lines: &mut MadeLines,
     draws: &mut Draws,
@@ -76,7 +76,7 @@ fn push_lanes(
     Ok(())
 }
 
-/// The lines of the log that is made of this number.
+/// The lines of the log that is made from this number (seed).
 #[tactic(auto, unfolding(crate::specs::Made::made))]
 fn made_lines(alloc: Global, number: u32, steps: u32, lanes: u32) -> Result<Lines, NoMemory>
     requires number { number < 2 ^ 31 }
@@ -92,7 +92,8 @@ fn made_lines(alloc: Global, number: u32, steps: u32, lanes: u32) -> Result<Line
     Ok(lines.into_lines())
 }
 
-/// The log that is made of this number: so many steps on one tree, dealt out to so many lanes. It can be printed, and played.
+/// The log that is made from this number (seed): `steps` steps on one tree, divided among `lanes` lanes (threads). It can be
+/// printed, and played.
 ///
 /// # Errors
 ///

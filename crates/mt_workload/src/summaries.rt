@@ -5,7 +5,7 @@ use mt_base::Reply;
 use mt_log::{Answer, Entry, Listing, Said, Transcript};
 use std::fmt;
 
-/// What a run came to: how often each word was told, and how many ranges there are at the end.
+/// The result of a run: how often each word was returned, and how many ranges there are at the end.
 #[derive(Clone, Copy)]
 pub struct Summary {
     pub steps: u32,
@@ -125,7 +125,7 @@ fn ranges_of(lists: &[Listing]) -> u128
     total
 }
 
-/// What entries of a log of so many steps come to.
+/// The summary of these entries of a log with `steps` steps.
 #[tactic(auto, using(crate::proofs::Counted::few_told, crate::proofs::Counted::told_more))]
 fn told(steps: u32, entries: &[Entry]) -> Summary
     ensures { result ≡ told steps entries.now }
@@ -137,7 +137,7 @@ fn told(steps: u32, entries: &[Entry]) -> Summary
     summary
 }
 
-/// The summary of a transcript of a log of so many steps.
+/// The summary of a transcript of a log with `steps` steps.
 pub fn summarise(steps: u32, transcript: &Transcript) -> Summary
     ensures { result ≡ counted steps transcript.now }
 {
