@@ -3,12 +3,12 @@
 use Rattle.std.specs.Prelude.{◌≡◌, ℕ, List, [], ◌∷◌, ◌++◌, Ok, codes}
 use Rattle.mt_commands.specs.Prelude.{kind_width, most_rows, Kind, Range, bulk, IsImageOf, Image, image_in, Transcript, log_text, IsRun, listing_text, made, counted, summary_text, AllTurned, tree_made, map_by, Rooted}
 
--- this is the text of the log that is made of a number
+-- this is the text of the log that is made from a number (seed)
 abbrev pub IsMadeText : ℕ → ℕ → ℕ → List ℕ → Type 0
 IsMadeText number steps lanes text = text ≡ log_text (made number steps lanes)
 
--- this is the summary, with its LF, of a run of the log that is made of a number for one lane, over trees of as many rows as a
--- tree may have
+-- this is the summary, with its LF, of a run of the log that is made from a number (seed) for one lane, over trees with as many
+-- nodes as a tree may have
 abbrev pub IsTrialText : ℕ → ℕ → List ℕ → Type 0
 IsTrialText number steps text = (t : Transcript) × IsRun (made number steps 1) most_rows t × (text ≡ summary_text (counted steps t) ++ 10 ∷ [])
 
@@ -24,7 +24,7 @@ IsImageListing bytes text = (x : Image) × (image_in bytes ≡ Ok x) × (text �
 abbrev pub bulk_tree : Kind → List Range → Rooted
 bulk_tree kind ranges = tree_made (kind_width kind) (bulk kind ranges).root (bulk kind ranges).words
 
--- the bytes are the image of the tree that is built at once of the ranges, and it stands for just these
+-- the bytes are the image of the tree that is bulk-built from the ranges, and it represents exactly these
 pub record IsBulkImage (kind : Kind) (ranges : List Range) (bytes : List ℕ) : Type 0 where
   pub of : IsImageOf kind (bulk_tree kind ranges) bytes
   pub map : map_by (bulk_tree kind ranges) ≡ ranges

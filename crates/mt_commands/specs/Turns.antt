@@ -1,4 +1,5 @@
--- Numbers drawn turn by turn on an empty tree, each given back so many draws later, and what that comes to in one line.
+-- Numbers drawn in turn on an empty tree (cyclic allocation), each given back after more draws, and the result of that in one
+-- line.
 -- Source: this project's own; a draw is the kernel's mtree_alloc_cyclic.
 use Rattle.std.specs.Prelude.{◌≡◌, ℕ, ◌+◌, ◌-◌, nat_lt, Bool, List, [], ◌∷◌, ◌++◌, Option, Some, None, length, codes, if◌then◌else◌}
 use Rattle.std.specs.Fmt.{decimal}
@@ -7,8 +8,8 @@ use Rattle.std.specs.Option.{option_flatten, unwrap_or}
 use Rattle.mt_base.specs.declared.kinds.Kind.TheVariants as kinds
 use Rattle.mt_commands.specs.Prelude.{Range, Erase, acted, over, Found, position_behind, drawn, Draws, new_draws}
 
--- The number of each draw so far, if it gave one; the first and the last number; how often the window began anew, and how often no
--- number was free.
+-- The number of each draw so far, if it gave one; the first and the last number; how often the window began again; and how
+-- often no number was free.
 pub record Tally : Type 0 where
   pub numbers : List (Option ℕ)
   pub first : Option ℕ
@@ -19,7 +20,7 @@ pub record Tally : Type 0 where
 abbrev pub no_tally : Tally
 no_tally = record { numbers = []; first = None; last = None; wraps = 0; busy = 0 }
 
--- a tally that is kept, with room for so many draws more
+-- a tally that is kept, with room for this many more draws
 pub record Kept : Type 0 where
   pub tally : Tally
   pub room : ℕ
@@ -38,7 +39,7 @@ tallied t (Some f) = record t {
   wraps = t.wraps + (if f.wrapped then 1 else 0);
 }
 
--- the number that is given back when so many draws were made
+-- the number that is given back after this many draws
 abbrev pub number_due : ℕ → List (Option ℕ) → Option ℕ
 number_due drops numbers = if nat_lt drops (length numbers) then option_flatten (slice_get numbers (length numbers - drops - 1)) else None
 
@@ -78,7 +79,7 @@ turn drops t n = turn_with drops n t (drawn kinds.Alloc t.map t.draws)
 abbrev pub turns : ℕ → ℕ → ℕ → ℕ → Turns
 turns lo hi steps drops = fold (turn drops) (new_turns lo hi) (range_with_len 1 steps)
 
--- what they come to, in print
+-- the tally, in print
 abbrev pub tally_text : ℕ → Tally → List ℕ
 tally_text steps t =
     codes "ids " ++ (decimal steps
@@ -87,7 +88,7 @@ tally_text steps t =
     ++ (codes " wraps " ++ (decimal t.wraps
     ++ (codes " busy " ++ decimal t.busy))))))))
 
--- the line of so many draws of a window
+-- the line of this many draws from a window
 abbrev pub ids_text : ℕ → ℕ → ℕ → ℕ → List ℕ
 ids_text lo hi steps drops = tally_text steps (turns lo hi steps drops).tally ++ 10 ∷ []
 

@@ -1,4 +1,4 @@
--- What a cursor of a shared tree has come to, as a lane's walk.
+-- How far a cursor of a shared tree has come, as a lane's walk.
 -- Source: this project's own.
 use Rattle.mt_commands.specs.Prelude.{Cursor, opened, pass_in, steps_made, Walk}
 

@@ -11,7 +11,7 @@ use mt_io::Gate;
 use std::alloc::Global;
 use std::thread::Threads;
 
-/// The image of the tree of this kind with just these ranges, built by so many workers at once, 1 to 16.
+/// The image of the tree of this kind with exactly these ranges, built by 1 to 16 workers (threads) at once.
 ///
 /// # Errors
 ///

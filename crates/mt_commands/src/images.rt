@@ -16,7 +16,7 @@ use mt_tree::PlainRows;
 use std::alloc::Global;
 use std::sync::Wait;
 
-/// The name of the tree that is made of an image.
+/// The name of the tree that is made from an image.
 fn image_name() -> Word
     ensures { result ≡ codes "image" }
 {
@@ -26,7 +26,7 @@ fn image_name() -> Word
     }
 }
 
-/// The ranges of a tree that is made of these rows, which are only read.
+/// The ranges of a tree that is made from these nodes, which are only read.
 fn ranges_in<R: Wait>(
     rt: &R,
     alloc: Global,

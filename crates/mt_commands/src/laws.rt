@@ -1,9 +1,9 @@
-//! What turns come to. Each law is the contract of a function that does nothing.
+//! What turns lead to. Each law (lemma) is the contract of a function that does nothing.
 
 ghost use Rattle.std.specs.Prelude.{◌≡◌, ℕ, ◌+◌, ◌^◌, ◌<◌, ◌≤◌, [], ◌∷◌, Some, None, IsSome, length};
 ghost use Rattle.mt_commands.specs.Turns.{turns};
 
-/// After so many turns there are no more ranges than draws.
+/// After any number of turns there are no more ranges than draws.
 #[tactic(auto, using(crate::proofs::FewTurns::few_ranges))]
 pub fn turns_leave_few_ranges()
     ensures { (lo hi steps drops : ℕ) → hi < 2 ^ 64 → length (turns lo hi steps drops).map ≤ steps }
@@ -12,7 +12,8 @@ pub fn turns_leave_few_ranges()
 /// The first number is the window's first index, and there is a last one.
 #[tactic(auto, using(crate::proofs::FirstNumber::first_is))]
 pub fn the_first_number_is_the_first_index()
-    ensures { (lo hi steps drops : ℕ) → lo ≤ hi → hi < 2 ^ 64 → 1 ≤ steps → ((turns lo hi steps drops).tally.first ≡ Some lo) × IsSome (turns lo hi steps drops).tally.last }
+    ensures { (lo hi steps drops : ℕ) → lo ≤ hi → hi < 2 ^ 64 → 1 ≤ steps
+        → ((turns lo hi steps drops).tally.first ≡ Some lo) × IsSome (turns lo hi steps drops).tally.last }
 {}
 
 /// Worked turns: six draws of 5..8, each given back two draws later; and three of 5..6 that keep what they drew.

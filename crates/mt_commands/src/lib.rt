@@ -1,7 +1,7 @@
-//! What the program's commands print: the text of a run on trees of nodes that threads share, an image of its first tree, the
-//! listing of an image's tree, an image of a tree that is built of its ranges, the text of a made log, and that of what a run of it
-//! came to.
-//! And: numbers drawn turn by turn on one tree, each given back so many draws later, and what that comes to in one line.
+//! What the program's commands print. The text of a run on trees that threads share, or an image of its first tree. The listing
+//! of an image's tree, and an image of a tree that is built from its ranges. The text of a made log, and the result of a run of
+//! it. And numbers drawn in turn on one tree (cyclic allocation), each given back after more draws, with the result in one
+//! line.
 #![tactic(auto)]
 
 mod built;

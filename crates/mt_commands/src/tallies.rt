@@ -6,7 +6,7 @@ use std::alloc::Global;
 use std::fmt;
 use std::marker::Model;
 
-/// The number of each draw so far, if it gave one, and what they come to.
+/// The number of each draw so far, if it gave one, and their tally.
 #[derive(Drop)]
 pub(crate) struct Tally {
     numbers: Vec<Option<u64>>,
@@ -35,7 +35,7 @@ impl Tally {
     ghost use Rattle.mt_commands.specs.Only.{found_in};
     ghost use Rattle.mt_commands.specs.Turns.{number_due, no_tally, tallied};
 
-    /// Of no draw, with room for so many.
+    /// The tally of no draw, with room for `steps` draws.
     pub(crate) fn new(alloc: Global, steps: u32) -> Result<Self, NoMemory>
         ensures none { IfOk result (λ t. t.tally ≡ no_tally) }
         ensures room { IfOk result (λ t. steps ≤ t.room) }
@@ -80,7 +80,7 @@ impl Tally {
     }
 }
 
-/// A tally of so many draws, in print.
+/// A tally of `steps` draws, in print.
 #[derive(Clone, Copy)]
 pub(crate) struct Line<'a> {
     pub(crate) steps: u32,

@@ -1,4 +1,5 @@
-//! The texts that the program prints: of a run of a log, of a log that is made of a number, and of what a run of that came to.
+//! The texts that the program prints: of a run of a log, of a log that is made from a number (seed), and of the result of a run
+//! of that.
 
 ghost use Rattle.std.specs.Prelude.{◌≡◌, ◌≢◌, ◌≤◌, ◌<◌, ◌-◌, ◌^◌, [], IfOk, length, string_bytes};
 ghost use Rattle.mt_base.specs.Width.{most_rows};
@@ -23,7 +24,7 @@ use std::alloc::Global;
 use std::sync::Wait;
 use std::thread::Threads;
 
-/// What the lines of a log were answered, over trees of so many rows. Their memory is given back.
+/// The answers to the lines of a log, over trees of `rows` nodes. Their memory is given back.
 fn played<R: Threads + Wait + Sync, G: Gate + Sync>(
     rt: &R,
     alloc: Global,
@@ -64,7 +65,7 @@ pub fn answers<R: Threads + Wait + Sync, G: Gate + Sync>(
     render(alloc, &transcript)
 }
 
-/// An image of the first tree of a run of a log that declares one, over trees of so many rows.
+/// An image of the first tree of a run of a log that declares one, over trees of `rows` nodes.
 ///
 /// # Errors
 ///
@@ -87,7 +88,7 @@ pub fn image_of_run<R: Threads + Wait + Sync, G: Gate + Sync>(
     play_image::<R, Pass, LaneTree, G>(rt, alloc, &log, rows, gate)
 }
 
-/// The text of the log that is made of a number.
+/// The text of the log that is made from a number (seed).
 ///
 /// # Errors
 ///
@@ -103,7 +104,7 @@ pub fn made_text(alloc: Global, number: u32, steps: u32, lanes: u32) -> Result<V
     print_log(alloc, &log)
 }
 
-/// What a run of the log that is made of a number for one lane came to.
+/// The result of a run of the log that is made from a number (seed) for one lane.
 fn tried<R: Threads + Wait + Sync, G: Gate + Sync>(
     rt: &R,
     alloc: Global,
@@ -121,7 +122,8 @@ fn tried<R: Threads + Wait + Sync, G: Gate + Sync>(
     Ok(summarise(steps, &transcript))
 }
 
-/// The line that sums up a run, on a tree of 65,504 rows, of the log of one lane and so many steps that is made of this number.
+/// The line that sums up a run, on a tree of 65,504 nodes, of the log of one lane and `steps` steps that is made from this
+/// number (seed).
 ///
 /// # Errors
 ///

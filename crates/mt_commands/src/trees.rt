@@ -63,8 +63,8 @@ impl LaneTree {
     ghost use Rattle.std.specs.Prelude.{map};
     ghost use Rattle.mt_replay.specs.Trees.{AreAll, IsNewTree};
 
-    /// A tree of this kind, of as many rows as a tree may have and one pass, that opens with the map of these rows; and its pass. The
-    /// rows are only read.
+    /// A tree of this kind that opens with the map of these nodes, which are only read; and its only handle. The tree has as
+    /// many nodes as a tree may have.
     ///
     /// # Errors
     ///

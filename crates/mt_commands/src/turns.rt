@@ -32,7 +32,8 @@ fn draw(write: &mut Write<'_>, ids: &mut Ids, entry: u64) -> Drawn
     ensures same_reference { write.new.pass.ghost_name ≡ write.old.pass.ghost_name }
     ensures tree { write.new.tree ≡ write.old.tree }
     ensures drawn { found_in result ≡ drawn kinds.Alloc (map_seen write.old.tree.now (pass_in write.old.pass.now)) ids.old }
-    ensures map { map_seen write.old.tree.now (pass_in write.new.pass.now) ≡ map_behind entry (map_seen write.old.tree.now (pass_in write.old.pass.now)) (found_in result) }
+    ensures map { map_seen write.old.tree.now (pass_in write.new.pass.now)
+        ≡ map_behind entry (map_seen write.old.tree.now (pass_in write.old.pass.now)) (found_in result) }
     ensures draws { ids.new ≡ draws_behind ids.old (found_in result) }
     ensures called { HasCalled (pass_in write.old.pass.now) (pass_in write.new.pass.now) }
     ensures calls { length (pass_in write.new.pass.now).seen ≤ length (pass_in write.old.pass.now).seen + 2 }
@@ -48,7 +49,8 @@ fn give_back(write: &mut Write<'_>, number: u64)
     requires calls { length (pass_in write.old.pass.now).seen + 1 ≤ most_calls }
     ensures same_reference { write.new.pass.ghost_name ≡ write.old.pass.ghost_name }
     ensures tree { write.new.tree ≡ write.old.tree }
-    ensures map { map_seen write.old.tree.now (pass_in write.new.pass.now) ≡ (acted kinds.Alloc (map_seen write.old.tree.now (pass_in write.old.pass.now)) (Erase number)).0 }
+    ensures map { map_seen write.old.tree.now (pass_in write.new.pass.now)
+        ≡ (acted kinds.Alloc (map_seen write.old.tree.now (pass_in write.old.pass.now)) (Erase number)).0 }
     ensures called { HasCalled (pass_in write.old.pass.now) (pass_in write.new.pass.now) }
     ensures calls { length (pass_in write.new.pass.now).seen ≤ length (pass_in write.old.pass.now).seen + 1 }
 {
@@ -101,7 +103,8 @@ fn turn<R: Wait>(
     ensures pass { IsOnlyPass (pass_in pass.new) }
     ensures calls { length (pass_in pass.new).seen ≤ length (pass_in pass.old).seen + 3 }
     ensures room { tally.new.room + 1 ≡ tally.old.room }
-    ensures turned { turns_at tree.now (pass_in pass.new) ids.new tally.new.tally ≡ spec.turn drops (turns_at tree.now (pass_in pass.old) ids.old tally.old.tally) n }
+    ensures turned { turns_at tree.now (pass_in pass.new) ids.new tally.new.tally
+        ≡ spec.turn drops (turns_at tree.now (pass_in pass.old) ids.old tally.old.tally) n }
 {
     let mut write = tree.lock(rt, pass);
     turn_under(&mut write, ids, tally, n, drops);
@@ -133,7 +136,7 @@ fn run<R: Wait>(
     }
 }
 
-/// The only one of these passes.
+/// The only one of these handles.
 fn only(passes: Vec<Pass>) -> Pass
     requires { length passes.items ≡ 1 }
     ensures { passes.items ≡ result ∷ [] }
@@ -145,7 +148,7 @@ fn only(passes: Vec<Pass>) -> Pass
     }
 }
 
-/// An allocation tree of as many rows and as many calls as a tree may have, and its only pass.
+/// An allocation tree with as many nodes and calls as a tree may have, and its only handle.
 #[tactic(auto, using(crate::proofs::Running::made_new))]
 fn make(alloc: Global) -> Result<(Tree, Pass), NoMemory>
     ensures only { IfOk result (λ made. HasOnePass made.0) }
@@ -166,7 +169,7 @@ fn make(alloc: Global) -> Result<(Tree, Pass), NoMemory>
     }
 }
 
-/// The line of so many draws from `lo` to `hi`, each given back after `drops` draws more.
+/// The line of `steps` draws from `lo` to `hi`, each given back after `drops` more draws.
 ///
 /// # Errors
 ///

@@ -37,8 +37,8 @@ failure_of_image error = failures.BadImage error
 abbrev pub RefusesInput : ℕ → (List ℕ → Failure → Type 0) → Failure → Option (List ℕ) → Option (List ℕ) → Type 0
 RefusesInput limit Refused failure left rest = (bytes : List ℕ) × ReadsAll limit left rest bytes × Refused bytes failure
 
--- Why nothing was made of an input of so many bytes at the most, by which bytes are refused for which cause, and by what was left
--- of the source and its faults, before and after.
+-- Why nothing was made from an input of at most this many bytes: which bytes are refused for which cause. And what was left of
+-- the source and its faults, before and after.
 abbrev pub FailsToRead : ℕ → (List ℕ → Failure → Type 0) → Failure → Option (List ℕ) → Option (List ℕ) → ℕ → ℕ → Type 0
 FailsToRead limit Refused (failures.BadLog line why) left rest before after = RefusesInput limit Refused (failures.BadLog line why) left rest
 FailsToRead limit Refused (failures.NoTranscript line) left rest before after = RefusesInput limit Refused (failures.NoTranscript line) left rest

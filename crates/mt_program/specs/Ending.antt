@@ -35,7 +35,7 @@ unbuilt_text unbuilt.Rows = codes "too many rows"
 abbrev pub refusal_text : ImageError → List ℕ
 refusal_text error = codes "mtreplay: image refused: " ++ (error_text error ++ 10 ∷ [])
 
--- what err is told
+-- what is written to `err`
 abbrev pub failure_text : Failure → List ℕ
 failure_text (failures.BadLog line why) = faulty_line line (why_text why)
 failure_text (failures.NoTranscript line) = faulty_line line (codes "no transcript")
@@ -53,7 +53,7 @@ failure_text (failures.BadImage error) = refusal_text error
 abbrev pub TellsText : Option (List ℕ) → Option (List ℕ) → ℕ → ℕ → List ℕ → Type 0
 TellsText before after faults_before faults_after text = (part rest : List ℕ) × (text ≡ part ++ rest) × Appends before after part × ((rest ≡ []) ⊎ Rose faults_before faults_after)
 
--- more bytes were read than an input of so many may have: one more
+-- more bytes were read than an input of this many may have: one more
 abbrev pub ReadsTooMany : ℕ → Option (List ℕ) → Option (List ℕ) → Type 0
 ReadsTooMany limit left rest = (bytes : List ℕ) × Consumes left rest bytes × (length bytes ≡ limit + 1)
 

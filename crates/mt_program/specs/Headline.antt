@@ -1,24 +1,26 @@
--- What the program promises: what it prints is the text of a run of the log that it read, or an image of that run's first tree,
--- what its command makes of a number, how much a transcript of a run tells, or the listing of the tree whose image it read.
+-- What the program promises. It prints the text of a run of the log that it read, or an image of that run's first tree. Or what
+-- its command makes from a number (seed), or how much a transcript of a run reports, or the listing of the tree whose image it
+-- read.
 use Rattle.std.specs.Prelude.{◌≡◌, ℕ, List, [], ◌∷◌, ◌++◌, Option, Some, None, Ok, IfSome, codes}
 use Rattle.std.specs.Fmt.{decimal}
 use Rattle.mt_program.specs.Prelude.{Log, refusal, IsInForm, log_of, IsRun, TellsRun, listing_text, text_of, Listing, Transcript, IsImageOfRun, IsIdsText, IsBulkImage, IsImageListing, IsMadeText, IsTrialText, count_of_calls, reads_told, Command, Replay, Make, Trial, Verify, Image, Show, Bulk, Ids}
 use Rattle.mt_program.specs.Parts.{AreParts}
 
--- this is the text of a run of the log that these bytes are, over trees of so many rows
+-- this is the text of a run of the log that these bytes are, over trees of this many nodes
 abbrev pub IsTextOfRun : ℕ → List ℕ → List ℕ → Type 0
 IsTextOfRun rows bytes text = (log : Log) × (log_of bytes ≡ Ok log) × TellsRun rows log text
 
--- how many calls and how many reads a transcript tells
+-- how many calls and how many reads a transcript reports
 abbrev pub verified_text : ℕ → ℕ → List ℕ
 verified_text calls reads = codes "verified " ++ (decimal calls ++ (codes " " ++ (decimal reads ++ 10 ∷ [])))
 
--- the bytes are a log and the text of a transcript of a run of it, over trees of so many rows, and this tells how much it tells
+-- the bytes are a log and the text of a transcript of a run of it, over trees of this many nodes, and this text says how much
+-- the transcript reports
 abbrev pub IsVerifiedText : ℕ → List ℕ → List ℕ → Type 0
 IsVerifiedText rows bytes text =
     (log : Log) × (t : Transcript) × AreParts bytes log (text_of t) × IsRun log rows t × (text ≡ verified_text (count_of_calls t) (reads_told t))
 
--- this is an image of the first tree of a run of the log that these bytes are, over trees of so many rows
+-- this is an image of the first tree of a run of the log that these bytes are, over trees of this many nodes
 abbrev pub IsImageOfLog : ℕ → List ℕ → List ℕ → Type 0
 IsImageOfLog rows bytes image = (log : Log) × (log_of bytes ≡ Ok log) × IsImageOfRun rows log image
 
@@ -27,7 +29,7 @@ pub record IsListing (bytes : List ℕ) (l : Listing) : Type 0 where
   pub form : IsInForm l
   pub text : bytes ≡ listing_text l
 
--- the bytes are a listing, there is a tree of its kind that is built at once of its ranges, and this is the image of that tree
+-- the bytes are a listing, and this is the image of a tree of its kind that is bulk-built from its ranges
 abbrev pub IsBuiltImage : List ℕ → List ℕ → Type 0
 IsBuiltImage bytes image = (l : Listing) × IsListing bytes l × (refusal l.kind l.ranges ≡ None) × IsBulkImage l.kind l.ranges image
 

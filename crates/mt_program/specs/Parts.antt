@@ -11,7 +11,7 @@ is_cut bytes = starts_with nat_eq bytes (codes "---\n")
 abbrev pub with_byte_before : ℕ → List ℕ × List ℕ → List ℕ × List ℕ
 with_byte_before byte parts = (byte ∷ parts.0, parts.1)
 
--- what stands before the first line that cuts and what stands behind it, from here on: where a line begins, or within one
+-- what is before the first line that cuts and what is after it, from here on: where a line begins, or within one
 abbrev pub parts_from : Bool → List ℕ → Option (List ℕ × List ℕ)
 parts_from begins [] = None
 parts_from begins (byte ∷ bytes) = if begins && is_cut (byte ∷ bytes) then Some ([], drop 4 (byte ∷ bytes)) else option_map (with_byte_before byte) (parts_from (byte == 10) bytes)
@@ -19,7 +19,7 @@ parts_from begins (byte ∷ bytes) = if begins && is_cut (byte ∷ bytes) then S
 abbrev pub parts_at_cut : List ℕ → Option (List ℕ × List ℕ)
 parts_at_cut bytes = parts_from true bytes
 
--- the number of the line behind all that are ended
+-- the number of the line after all that are ended
 abbrev pub line_behind : List ℕ → ℕ
 line_behind bytes = length (filter (λ byte. byte == 10) bytes) + 1
 

@@ -8,7 +8,7 @@ use Rattle.mt_program.specs.Headline.{IsListing}
 abbrev pub IsTurnedLog : (ℕ → ℕ → Type 0) → List ℕ → Type 0
 IsTurnedLog passed bytes = (log : Log) × (log_of bytes ≡ Ok log) × AllTurned passed log.lines
 
--- the bytes are a listing, and where it has a range, each of so many workers took both of its turns
+-- the bytes are a listing, and if it has a range, each of this many workers took both of its turns
 abbrev pub IsBuiltBy : (ℕ → ℕ → Type 0) → ℕ → List ℕ → Type 0
 IsBuiltBy passed workers bytes = (l : Listing) × IsListing bytes l × (1 ≤ length l.ranges → TookTurns passed workers)
 

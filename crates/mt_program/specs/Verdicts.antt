@@ -16,7 +16,7 @@ abbrev pub IsBadLog : List ℕ → Failure → Type 0
 IsBadLog bytes (failures.BadLog line why) = log_of bytes ≡ Err (fault_at line why)
 IsBadLog bytes failure = ⊥
 
--- the bytes are no log and text of a transcript of a run of it, over trees of so many rows, for this cause
+-- the bytes are no log and text of a transcript of a run of it, over trees of this many nodes, for this cause
 abbrev pub IsUnverified : ℕ → List ℕ → Failure → Type 0
 IsUnverified rows bytes (failures.NoTranscript line) = (parts_at_cut bytes ≡ None) × (line ≡ line_behind bytes)
 IsUnverified rows bytes (failures.BadLog line why) = (front text : List ℕ) × (parts_at_cut bytes ≡ Some (front, text)) × IsBadLog front (failures.BadLog line why)
@@ -34,9 +34,9 @@ abbrev pub IsNoImage : List ℕ → Failure → Type 0
 IsNoImage bytes (failures.BadImage error) = image_in bytes ≡ Err error
 IsNoImage bytes failure = ⊥
 
--- No tree is built of the bytes, for this reason, which is told at this line: they are no listing; the range at some place, counted
--- from 0, which is none of the listing's kind or does not stand above the one before it, has the line two behind that place; or the
--- tree has too many rows, which is told at the first line.
+-- No tree is built from the bytes, for this reason and with this line number. They are no listing. Or the range at some place,
+-- counted from 0, is no range of the listing's kind, or does not begin above the end of the one before it: its line is two
+-- after that place. Or the tree has too many nodes, which has line 1.
 abbrev pub IsUnbuiltAt : List ℕ → ℕ → Unbuilt → Type 0
 IsUnbuiltAt bytes line unbuilt.Listing = IsBadAt bytes line
 IsUnbuiltAt bytes line unbuilt.Order = (l : Listing) × (at : ℕ) × IsListing bytes l × (refusal l.kind l.ranges ≡ Some (errors.Order at)) × (line ≡ at + 2)
@@ -88,7 +88,7 @@ abbrev pub AreBytesRefused : Option Command → Option (List ℕ) → Failure �
 AreBytesRefused None left failure = ⊥
 AreBytesRefused (Some command) left failure = IfSome left (λ bytes. RefusesBytes command bytes failure)
 
--- what is told is so: the bytes are refused as the command refuses them
+-- the report is true: the bytes are refused as the command refuses them
 abbrev pub IsToldOf : Option Command → Option (List ℕ) → Failure → Type 0
 IsToldOf command left (failures.BadLog line why) = AreBytesRefused command left (failures.BadLog line why)
 IsToldOf command left (failures.NoTranscript line) = AreBytesRefused command left (failures.NoTranscript line)

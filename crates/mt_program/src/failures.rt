@@ -12,7 +12,7 @@ use mt_io::Sink;
 use mt_log::{LogError, Why};
 use mt_told::ListingError;
 
-/// Room for the longest line that tells a failure.
+/// Room for the longest line that reports a failure.
 const TEXT_ROOM: usize = 192;
 
 /// Why nothing, or only a part, was printed.
@@ -20,9 +20,9 @@ const TEXT_ROOM: usize = 192;
 pub enum Failure {
     /// The input is no log: its first bad line, and why.
     BadLog { line: u64, why: Why },
-    /// No line of the input is `---`: the number of the line behind all that are ended.
+    /// No line of the input is `---`. The number is that of the line after all that are ended.
     NoTranscript { line: u64 },
-    /// The log declares no tree: the number of the line behind all that are ended.
+    /// The log declares no tree. The number is that of the line after all that are ended.
     NoTree { line: u64 },
     /// No tree is built of the input: the line at which that shows.
     NotBuilt { line: u64, why: Unbuilt },
@@ -36,7 +36,7 @@ pub enum Failure {
     NoMemory,
     /// The input is longer than an input may be.
     TooLong,
-    /// The text behind the log is that of no transcript of a run of it.
+    /// The text after the log is that of no transcript of a run of it.
     Refused,
     /// The input is no image.
     BadImage { error: ImageError },
@@ -47,9 +47,9 @@ pub enum Failure {
 pub enum Unbuilt {
     /// It is no listing.
     Listing,
-    /// A range is none of a tree of the listing's kind, or does not stand above the one before it.
+    /// A range is no range of a tree of the listing's kind, or does not begin above the end of the one before it.
     Order,
-    /// The tree would have more rows than can be named.
+    /// The tree would have more nodes than can be named.
     Rows,
 }
 
@@ -92,7 +92,7 @@ impl Failure {
         }
     }
 
-    /// The line that tells it. It takes no memory, so that want of memory can be told.
+    /// The line that reports it. It takes no memory, so that a lack of memory can be reported.
     fn text(&self) -> ArrayString<TEXT_ROOM>
         ensures { result.bytes ≡ failure_text self.now }
     {
@@ -186,7 +186,7 @@ fn push_error(text: &mut ArrayString<TEXT_ROOM>, error: ImageError)
     }
 }
 
-/// Writes the line that tells a failure. Where `err` fails, nobody is told.
+/// Writes the line that reports a failure. If `err` fails, there is no report.
 pub fn report<E: Sink>(err: &mut E, failure: &Failure)
     ensures told { TellsText (E.written err.old) (E.written err.new) (E.faults err.old) (E.faults err.new) (failure_text failure.now) }
     ensures in_time { E.faults err.old ≡ 0 → E.late err.old ≡ 0 → E.late err.new ≡ 0 }

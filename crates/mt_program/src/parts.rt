@@ -2,7 +2,7 @@ ghost use Rattle.std.specs.Prelude.{◌≡◌, ◌<◌, ◌≤◌, ◌^◌, ◌=
 ghost use Rattle.std.specs.List.{filter};
 ghost use Rattle.mt_program.specs.Parts.{is_cut, line_behind, parts_at_cut};
 
-/// What stands behind the line that cuts, if a line begins here and is that one.
+/// What is after the line that cuts, if a line begins here and is that one.
 fn behind_cut(begins: bool, bytes: &[u8]) -> Option<&[u8]>
     ensures { MatchOption result ((begins && is_cut bytes.now) ≡ false)
         (λ rest. (begins ≡ true) × (is_cut bytes.now ≡ true) × (rest.now ≡ drop 4 bytes.now)) }
@@ -13,7 +13,7 @@ fn behind_cut(begins: bool, bytes: &[u8]) -> Option<&[u8]>
     bytes.strip_prefix(b"---\n".as_slice())
 }
 
-/// What stands before the first line that is `---` and what stands behind it, if there is one. The line is ended by LF.
+/// What is before the first line that is `---`, and what is after it, if there is one. LF ends the line.
 #[tactic(auto, using(crate::proofs::CutLines::cutting))]
 pub fn cut(bytes: &[u8]) -> Option<(&[u8], &[u8])>
     ensures parts { MatchOption result (parts_at_cut bytes.now ≡ None) (λ parts. parts_at_cut bytes.now ≡ Some (parts.0.now, parts.1.now)) }
@@ -43,7 +43,7 @@ fn line_ends(bytes: &[u8]) -> u64
     bytes.iter().filter(|byte| is_line_end(byte)).count() as u64
 }
 
-/// The number of the line behind all that are ended.
+/// The number of the line after all that are ended.
 pub fn line_behind(bytes: &[u8]) -> u64
     requires { length bytes.now < 2 ^ 32 }
     ensures { result ≡ line_behind bytes.now }

@@ -55,7 +55,7 @@ fn log_in(alloc: Global, input: Vec<u8>) -> Result<Log, LogError>
     read_log(alloc, &input)
 }
 
-/// The text of what the lines of a log were answered, over trees of so many rows.
+/// The text of the answers to the lines of a log, over trees of `rows` nodes.
 fn replayed<R: Threads + Wait + Sync, G: Gate + Sync>(
     rt: &R,
     alloc: Global,
@@ -74,7 +74,7 @@ fn replayed<R: Threads + Wait + Sync, G: Gate + Sync>(
     Ok(answers(rt, alloc, log, rows, gate)?)
 }
 
-/// An image of the first tree of a run of a log, over trees of so many rows.
+/// An image of the first tree of a run of a log, over trees of `rows` nodes.
 fn imaged<R: Threads + Wait + Sync, G: Gate + Sync>(
     rt: &R,
     alloc: Global,
@@ -105,7 +105,7 @@ fn listed<R: Wait>(rt: &R, alloc: Global, bytes: &[u8]) -> Result<Vec<u8>, Failu
     Ok(image_listing(rt, alloc, bytes)?)
 }
 
-/// An image of a tree with just the ranges of the listing that the bytes are, built by so many workers at once.
+/// An image of a tree with exactly the ranges of the listing that the bytes are, built by `workers` threads at once.
 #[tactic(auto, using(crate::proofs::Places::place_fits, crate::proofs::Places::is_built, crate::proofs::Places::is_built_by, crate::proofs::Places::out_of_order, crate::proofs::Places::too_many_rows, crate::proofs::Places::no_listing))]
 fn built<R: Threads + Wait + Sync, G: Gate + Sync>(
     rt: &R,
@@ -137,8 +137,8 @@ fn built<R: Threads + Wait + Sync, G: Gate + Sync>(
     }
 }
 
-/// Tells how many calls and reads a transcript tells, if the bytes are a log, the line that cuts, and the text of a transcript of
-/// a run of the log over trees of so many rows.
+/// How many calls and reads a transcript reports, in print. The bytes are a log, the line that cuts, and the text of a
+/// transcript of a run of the log over trees of `rows` nodes.
 fn verified(alloc: Global, rows: u64, bytes: &[u8]) -> Result<Vec<u8>, Failure>
     requires few_rows { fewest_rows ≤ rows }
     requires rows { rows ≤ most_rows }
@@ -208,7 +208,7 @@ fn answer<R: Threads + Wait + Sync, S: Source, O: Sink, G: Gate + Sync>(
     print(out, &text)
 }
 
-/// Prints the log that is made of a number.
+/// Prints the log that is made from a number (seed).
 fn make<O: Sink>(
     alloc: Global,
     number: u32,
@@ -229,7 +229,7 @@ fn make<O: Sink>(
     print(out, &text)
 }
 
-/// Plays the lines of a log that is made of a number, and prints what that came to.
+/// Plays the lines of a log that is made from a number (seed), and prints the result.
 fn trial<R: Threads + Wait + Sync, O: Sink, G: Gate + Sync>(
     rt: &R,
     alloc: Global,
@@ -250,7 +250,7 @@ fn trial<R: Threads + Wait + Sync, O: Sink, G: Gate + Sync>(
     print(out, text.as_str().as_bytes())
 }
 
-/// Draws numbers by turns, and prints what that came to.
+/// Draws numbers in turn (cyclic allocation), and prints the result.
 fn cycle<R: Threads + Wait + Sync, O: Sink>(
     rt: &R,
     alloc: Global,
@@ -348,10 +348,10 @@ fn run<R: Threads + Wait + Sync, S: Source, O: Sink, G: Gate + Sync>(
 
 /// Does what the words after the program's name say, and gives the status to end with.
 ///
-/// 0: done. 1: the input is no log, or has no transcript, or no tree, or no tree is built of it. 2: the words are no command. 3: a
-/// fault of reading. 4: a fault of writing. 5: want of memory. 6: the input is longer than 8,388,608 bytes, or 67,108,864 with a
-/// transcript or where it is to be an image. 7: the transcript is refused. 8: the image is refused. At every status but 0 a line on
-/// `err` says so.
+/// 0: done. 1: the input is no log, or has no transcript, or no tree, or no tree is built of it. 2: the words are no command.
+/// 3: a fault of reading. 4: a fault of writing. 5: lack of memory. 6: the input is longer than 8,388,608 bytes, or 67,108,864
+/// with a transcript or where it is to be an image. 7: the transcript is refused. 8: the image is refused. At every status but
+/// 0 a line on `err` says so.
 pub fn mtreplay<R: Threads + Wait + Sync, S: Source, O: Sink, E: Sink, G: Gate + Sync>(
     rt: &R,
     alloc: Global,
@@ -373,7 +373,8 @@ pub fn mtreplay<R: Threads + Wait + Sync, S: Source, O: Sink, E: Sink, G: Gate +
 
     // Each status has its cause.
     ensures taken { result ≡ 0 → AreBytesTaken (command_of (map string_bytes words.now)) (S.left src.old) }
-    ensures refused { result ≡ 1 → (failure : Failure) × AreBytesRefused (command_of (map string_bytes words.now)) (S.left src.old) failure × (result ≡ status_of failure) }
+    ensures refused { result ≡ 1 → (failure : Failure)
+        × AreBytesRefused (command_of (map string_bytes words.now)) (S.left src.old) failure × (result ≡ status_of failure) }
     ensures usage { result ≡ 2 → command_of (map string_bytes words.now) ≡ None }
     ensures read_fault { result ≡ 3 → Rose (S.faults src.old) (S.faults src.new) }
     ensures write_fault { result ≡ 4 → Rose (O.faults out.old) (O.faults out.new) }

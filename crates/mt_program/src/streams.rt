@@ -7,7 +7,7 @@ ghost use Rattle.mt_program.specs.Input.{ReadsAll, ReadFails};
 use mt_io::{Failed, Sink, Source};
 use std::alloc::{AllocError, Global};
 
-/// How many bytes are read at a call, where so many are left.
+/// How many bytes a call reads, if that many are left.
 const PIECE: usize = 65_536;
 
 /// Why no input was read.
@@ -49,7 +49,7 @@ fn new_buffer(alloc: Global) -> Result<Vec<u8>, AllocError>
     vec![in alloc; 0; PIECE]
 }
 
-/// Reads an input of so many bytes at the most to its end. One byte more is the last that is read.
+/// Reads an input of at most `limit` bytes to its end. It reads at most one byte more.
 ///
 /// # Errors
 ///

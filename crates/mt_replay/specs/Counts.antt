@@ -4,7 +4,7 @@ use Rattle.std.specs.Prelude.{◌≡◌, ◌≤◌, List, [], ◌∷◌, length}
 use Rattle.mt_replay.specs.Prelude.{History, map_at, Tracked}
 use Rattle.mt_replay.specs.declared.counts.Counted.{Counted}
 
--- The tree has had so many calls, and had so many ranges after them.
+-- The tree has had this many calls, and had this many ranges after them.
 pub record IsCountOf (tree : History) (c : Counted) : Type 0 where
   pub calls : c.calls ≤ length tree.records
   pub ranges : c.ranges ≡ length (map_at tree c.calls)

@@ -6,14 +6,14 @@ use Rattle.mt_replay.specs.Prelude.{Pass, Settled, Line, Entry, AreInPlaceFrom, 
 use Rattle.mt_replay.specs.Players.{rows_known}
 use Rattle.mt_replay.specs.Trees.{AreAll, calls_taken, seen_by}
 
--- the pass of this lane in the row of the tree of this number
+-- this lane's pass (handle) in the row of the tree of this number
 pub record IsPassAt (rows : List (List Pass)) (number lane : ℕ) (p : Pass) : Type 0 where
   pub row : List Pass
   pub row_is : slice_get rows number ≡ Some row
   pub pass_is : slice_get row lane ≡ Some p
 
--- The lanes of a phase have run: each went with its pass on each tree through what it was answered, or a tree took no more calls
--- of it; and what they were answered was told behind what was told before, in the order of the log.
+-- The lanes (threads) of a phase have run. Each went with its handle on each tree through its answers, or a tree took no more
+-- calls of it. The answers were put after the earlier ones, in the order of the log.
 pub record HaveRun (phase : ℕ) (lines : List Line) (trees : List SharedTree) (rows rows' : List (List Pass)) (entries entries' : List Entry) : Type 0 where
   pub answers : ℕ → List (List Step)
   pub passes : ℕ → List Pass
@@ -23,12 +23,12 @@ pub record HaveRun (phase : ℕ) (lines : List Line) (trees : List SharedTree) (
   pub gone : (number : ℕ) (tree : SharedTree) (before between : List Pass) → slice_get trees number ≡ Some tree → slice_get rows number ≡ Some before → slice_get rows' number ≡ Some between → HaveGone number tree.history answers before between
   pub told : ((lane : ℕ) → AreDoneEach (asked_of_lane lane (steps_in 0 phase lines)) (answers lane)) → entries' ≡ entries ++ map entry_of (answers_joined (take_turns (lanes_of (steps_in 0 phase lines)) answers))
 
--- All passes of each tree were settled.
+-- All handles of each tree were settled.
 pub record AreSettled (trees : List SharedTree) (rows rows' : List (List Pass)) : Type 0 where
   pub count : length rows' ≡ length rows
   pub each : (number : ℕ) (tree : SharedTree) (between after : List Pass) → slice_get trees number ≡ Some tree → slice_get rows number ≡ Some between → slice_get rows' number ≡ Some after → Settled (seen_by tree.history after) between after
 
--- These lines are a phase of this number behind the lines in front, for so many lanes.
+-- These lines are a phase of this number, after the lines in front, for this many lanes.
 pub record IsPhaseBehind (lanes phase : ℕ) (front lines : List Line) : Type 0 where
   pub one : IsOnePhase lines
   pub named : AreNamedFrom (length (trees_of front)) lines
@@ -41,8 +41,8 @@ pub record IsPhaseBehind (lanes phase : ℕ) (front lines : List Line) : Type 0 
 
 -- ---- the desks of the lanes
 
--- a lane of this number in this phase, at its desk, which is to do these lines of its own; its room has what was told, and is
--- large enough for all that the lines are answered
+-- A lane of this number in this phase, at its desk, which is to do these lines of its own. Its room has the earlier answers,
+-- and is large enough for all answers of the lines.
 pub record IsLaneFor {R P T : Type 0} (trees : List T) (phase : ℕ) (own : List Line) (told : List Entry) (number : ℕ) (l : Lane (LaneDesk R P T)) : Type 0 where
   pub number_is : l.lane ≡ number
   pub steps : l.steps ≡ length own
@@ -55,7 +55,7 @@ pub record IsLaneFor {R P T : Type 0} (trees : List T) (phase : ℕ) (own : List
   pub told_is : l.desk.room.items ≡ told
   pub roomy : vec_len l.desk.room + room_of own ≤ vec_capacity l.desk.room
 
--- what stands in a lane's room before it starts: the first lane's has what it is given
+-- what is in a lane's room before it starts: the first lane's room has what it is given
 abbrev pub room_before : List Entry → ℕ → List Entry
 room_before first zero = first
 room_before first (suc lane) = []
@@ -66,13 +66,13 @@ AreLanesFor trees phase lines first lanes = AtEach (λ number l. IsLaneFor trees
 
 -- ---- what the lanes await
 
--- In each row sit all passes of the tree beside it, so many, and none has a section open.
+-- In each row sit all handles of the tree beside it, and none has a section open.
 pub record AreManned {P T : Type 0} (knows : P → Pass) (serves : T → P → Type 0) (passes : ℕ) (trees : List T) (seats : List (Vec P Global)) : Type 0 where
   pub count : length seats ≡ length trees
   pub all : (at : ℕ) (t : T) (row : Vec P Global) → at < length trees → AreAll knows serves passes (slice_index_or trees at t) (slice_index_or seats at row).items
   pub closed : (at : ℕ) (row : Vec P Global) → at < length trees → All (λ p. (knows p).standing ≡ None) (slice_index_or seats at row).items
 
--- So many lanes can do these lines of a phase, on so many trees.
+-- This many lanes can do these lines of a phase, on this many trees.
 pub record CanDo (lanes trees : ℕ) (lines : List Line) : Type 0 where
   pub some : 1 ≤ lanes
   pub few : lanes ≤ most_lanes
@@ -81,7 +81,7 @@ pub record CanDo (lanes trees : ℕ) (lines : List Line) : Type 0 where
   pub numbered : Pairs (λ (a b : Line). b.number ≢ a.number) lines
   pub short : length lines < calls_taken
 
--- The lanes of a phase have run, and then all passes of each tree were settled.
+-- The lanes of a phase have run, and then all handles of each tree were settled.
 pub record HaveGoneBy {P T : Type 0} (tree : T → SharedTree) (knows : P → Pass) (serves : T → P → Type 0) (passes phase : ℕ) (lines : List Line) (trees : List T) (seats seats' : List (Vec P Global)) (entries entries' : List Entry) : Type 0 where
   pub between : List (List Pass)
   pub run : HaveRun phase lines (map tree trees) (rows_known knows seats) between entries entries'

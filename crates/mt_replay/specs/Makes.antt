@@ -16,7 +16,7 @@ abbrev pub kinds_in : List Line → List Kind
 kinds_in lines = flat_map (λ line. declared_kind line.item) lines
 
 module _ {P T : Type 0} (tree : T → SharedTree) (knows : P → Pass) (serves : T → P → Type 0) (many : T → ℕ) (rows passes : ℕ) where
-  -- a new empty tree of this kind, of so many rows, and its passes, so many
+  -- a new empty tree of this kind, with this many nodes, and all its passes (handles)
   pub record IsMade (kind : Kind) (made : T × Vec P Global) : Type 0 where
     pub new : IsNewTree kind rows [] passes (tree made.0) (map knows made.1.items)
     pub all : AreAll knows serves passes made.0 made.1.items

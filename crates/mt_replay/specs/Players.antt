@@ -1,4 +1,4 @@
--- What a player has made of the first lines of a log: phase by phase, its trees, all their passes, and what was told.
+-- What a player has done with the first lines of a log, phase by phase: its trees, all their passes (handles), and the answers.
 -- Source: this project's own.
 use Rattle.std.specs.Prelude.{◌≡◌, ◌<◌, ◌≤◌, ℕ, All, List, [], ◌∷◌, ◌++◌, Some, None, length, map, slice_get, slice_index_or, Vec}
 use Rattle.std.specs.Global.{Global}
@@ -8,8 +8,7 @@ use Rattle.mt_replay.specs.declared.players.Player.{Player}
 use Rattle.mt_replay.specs.Counts.{AreCounts}
 use Rattle.mt_replay.specs.Trees.{AreAll, IsNewTree, calls_taken, fewest_rows, most_passes, tracked_of}
 
--- how many rows and passes each tree has; the trees that were declared so far, as they are named and as they stand; and the
--- entries that were told
+-- how many nodes and handles each tree has; the declared trees, with their names and as they are; and the entries (answers)
 pub record PlayerState : Type 0 where
   pub rows : ℕ
   pub passes : ℕ
@@ -25,23 +24,23 @@ pub record IsPlayedBy (phase : ℕ) (lines : List Line) (p : PlayerState) (steps
   pub known : p.known ≡ map (λ d. d.tree) (trees_of lines)
   pub few : All (λ t. length t.history.records ≤ length lines) p.trees
 
--- ---- the trees and the seats of their passes
+-- ---- the trees and the seats of their handles
 
--- each tree as its passes, which sit in the row beside it, have seen it
+-- each tree as its handles, which sit in the row beside it, have seen it
 abbrev pub tracked_in : List SharedTree → List (List Pass) → List Tracked
 tracked_in [] rows = []
 tracked_in (t ∷ trees) [] = []
 tracked_in (t ∷ trees) (row ∷ rows) = tracked_of t row ∷ tracked_in trees rows
 
--- what is known of the passes of each row
+-- what is known of the handles of each row
 abbrev pub rows_known : {P : Type 0} → (P → Pass) → List (Vec P Global) → List (List Pass)
 rows_known knows seats = map (λ row. map knows row.items) seats
 
--- a player as it stands
+-- a player as it is now
 abbrev pub player_state : {P T : Type 0} → (T → SharedTree) → (P → Pass) → Player P T → PlayerState
 player_state tree knows p = record { rows = p.rows; passes = p.passes; known = p.known.items; trees = tracked_in (map tree p.trees.items) (rows_known knows p.seats.items); entries = p.entries.items }
 
--- Each tree has a name, and a row of seats in which all its passes sit, so many; it takes as many calls as a tree may have.
+-- Each tree has a name, and a row of seats in which all its handles sit. It takes as many calls as a tree may have.
 pub record IsSeated {P T : Type 0} (tree : T → SharedTree) (knows : P → Pass) (serves : T → P → Type 0) (many : T → ℕ) (p : Player P T) : Type 0 where
   pub few_rows : fewest_rows ≤ p.rows
   pub rows : p.rows ≤ most_rows
@@ -53,12 +52,12 @@ pub record IsSeated {P T : Type 0} (tree : T → SharedTree) (knows : P → Pass
   pub most : All (λ t. (tree t).most ≡ calls_taken) p.trees.items
   pub all : (at : ℕ) (t : T) (row : Vec P Global) → at < length p.trees.items → AreAll knows serves p.passes (slice_index_or p.trees.items at t) (slice_index_or p.seats.items at row).items
 
--- no pass of the tree has a section open
+-- no handle of the tree has a section open
 abbrev pub IsClosed : Tracked → Type 0
 IsClosed t = All (λ p. p.standing ≡ None) t.passes
 
--- And between two phases all passes of each tree are settled, none has a section open, and the ranges of each tree were counted
--- after some of its calls.
+-- And between two phases all handles of each tree are settled, none has a section open, and the ranges of each tree were
+-- counted after some of its calls.
 pub record IsBetweenPhases {P T : Type 0} (tree : T → SharedTree) (knows : P → Pass) (serves : T → P → Type 0) (many : T → ℕ) (p : Player P T) : Type 0 where
   pub seated : IsSeated tree knows serves many p
   pub settled : All (λ t. IsSettled t.history t.passes) (tracked_in (map tree p.trees.items) (rows_known knows p.seats.items))
@@ -77,7 +76,7 @@ pub record HasRanges (p : PlayerState) (number : ℕ) (P : List Range → Type 0
   pub tree_is : slice_get p.trees number ≡ Some tree
   pub holds : P (last_map tree.history)
 
--- a new tree with its passes, which opens as the tree of this number stands
+-- a new tree with its handles, which opens as the tree of this number is
 pub record IsCopyIn (p : PlayerState) (number : ℕ) (t : SharedTree) (passes : List Pass) : Type 0 where
   pub source : Tracked
   pub source_is : slice_get p.trees number ≡ Some source
@@ -92,7 +91,7 @@ with_entry p line what = p.entries ++ record { line = line; said = what } ∷ []
 abbrev pub OpensTree : PlayerState → PlayerState → List ℕ → Kind → Type 0
 OpensTree old new name kind = new ≡ record old { known = old.known ++ record { name = name; kind = kind } ∷ []; trees = old.trees ++ new_tracked old.passes old.rows kind [] ∷ [] }
 
--- A copy of a tree was added under this name, as the tree stands, and it is told how many ranges the copy has.
+-- A copy of a tree, as it is, was added under this name. The answer is how many ranges the copy has.
 pub record Copies (old new : PlayerState) (line from : ℕ) (name : List ℕ) : Type 0 where
   pub named : KnownTree
   pub source : Tracked
@@ -104,7 +103,7 @@ pub record Copies (old new : PlayerState) (line from : ℕ) (name : List ℕ) : 
     entries = with_entry old line (said.Copied (length (last_map source.history)));
   }
 
--- A tree was checked, and it is told how many ranges it has. The trees are as they were.
+-- A tree was checked. The answer is how many ranges it has. The trees are as they were.
 pub record Checks (old new : PlayerState) (line tree : ℕ) : Type 0 where
   pub checked : Tracked
   pub tree_is : slice_get old.trees tree ≡ Some checked
@@ -123,8 +122,8 @@ BeginsPhase old new line item = new ≡ old
 abbrev pub IsPlayed : ℕ → List Line → PlayerState → Type 0
 IsPlayed phase lines p = (steps : List Step) × IsPlayedBy phase lines p steps
 
--- The lines in front were played, in the phases below this one. Of these lines of this phase the trees were declared, copied
--- and checked, and no lane has started: the steps of the lines in front were told, and behind them what was counted.
+-- The lines in front were played, in the phases below this one. Of these lines of this phase, the trees were declared, copied
+-- and checked, and no lane has started. The answers are those of the steps of the lines in front, and then the counts.
 pub record IsPhaseBegun (phase : ℕ) (front lines : List Line) (p : PlayerState) (steps counted : List Step) : Type 0 where
   pub ran : Ran p.passes p.rows phase (trees_of (front ++ lines)) steps p.trees
   pub done : AreDone (steps_of front) steps

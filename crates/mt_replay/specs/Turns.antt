@@ -7,12 +7,12 @@ use Rattle.mt_replay.specs.Prelude.{Item, Line, lane_after, is_join, is_step, li
 abbrev pub PhaseTurned : (ℕ → ℕ → Type 0) → List Line → Type 0
 PhaseTurned passed lines = (lane number : ℕ) → number < 2 * length (lines_of_lane lane 0 lines) → passed lane number
 
--- how many steps of its phase a lane has done behind a line, of which each had done so many before: a join begins a new phase
+-- how many steps of its phase a lane has done after a line, given how many each had done before: a join begins a new phase
 abbrev pub done_behind : (here : ℕ) → (ℕ → ℕ) → Item → ℕ → ℕ
 done_behind here done item = λ lane. if is_join item then 0 else if is_step item && (here == lane) then done lane + 1 else done lane
 
--- Each of these lines that is a step, where the log stands in the lane `here` and each lane has done so many steps of its phase:
--- the lane took the turns before and behind it, which for its step s are those of the numbers 2s and 2s + 1.
+-- Each of these lines that is a step, if the log is in the lane `here` and each lane has done `done` steps of its phase. The
+-- lane took the turns before and after it, which for its step s are those of the numbers 2s and 2s + 1.
 abbrev pub AreTurned : (ℕ → ℕ → Type 0) → (here : ℕ) → (ℕ → ℕ) → List Line → Type 0
 AreTurned passed here done [] = Unit {0}
 AreTurned passed here done (line ∷ lines) =

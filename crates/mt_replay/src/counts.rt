@@ -11,7 +11,7 @@ use crate::trees::Plays;
 use mt_desks::Passage;
 use std::sync::Wait;
 
-/// A tree had so many ranges after so many calls.
+/// A tree had this many ranges after this many calls.
 #[derive(Clone, Copy, Debug, PartialEq, Eq)]
 pub(crate) struct Counted {
     pub(crate) calls: u64,

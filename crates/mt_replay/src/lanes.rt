@@ -22,11 +22,13 @@ use std::mem;
 use std::sync::Wait;
 use std::thread::Threads;
 
-/// Settles all passes of each tree, which sit in the row beside it.
+/// Settles all handles of each tree, which sit in the row beside it.
 fn settle_all<R: Wait, P: Passage + Drop, T: Plays<P>>(rt: &R, trees: &[T], seats: &mut [Vec<P>])
     requires count { length seats.old ≡ length trees.now }
-    requires all { (at : ℕ) (t : T) (row : Vec P Global) → at < length trees.now → AreAll P.knows T.serves (T.many (slice_index_or trees.now at t)) (slice_index_or trees.now at t) (slice_index_or seats.old at row).items }
-    ensures all { (at : ℕ) (t : T) (row : Vec P Global) → at < length trees.now → AreAll P.knows T.serves (T.many (slice_index_or trees.now at t)) (slice_index_or trees.now at t) (slice_index_or seats.new at row).items }
+    requires all { (at : ℕ) (t : T) (row : Vec P Global) → at < length trees.now
+        → AreAll P.knows T.serves (T.many (slice_index_or trees.now at t)) (slice_index_or trees.now at t) (slice_index_or seats.old at row).items }
+    ensures all { (at : ℕ) (t : T) (row : Vec P Global) → at < length trees.now
+        → AreAll P.knows T.serves (T.many (slice_index_or trees.now at t)) (slice_index_or trees.now at t) (slice_index_or seats.new at row).items }
     ensures settled { AreSettled (map T.tree trees.now) (rows_known P.knows seats.old) (rows_known P.knows seats.new) }
 {
     for at in 0..trees.len() {
@@ -77,7 +79,7 @@ fn lay_lanes<'a, R: Wait, P: Passage + Drop, T: Shared<P>>(
     Ok(laid)
 }
 
-/// Puts what the lanes were told, each in its room, behind these entries, in the order of the log.
+/// Appends the lanes' answers, each in its room, to these entries, in the order of the log.
 fn gather<R, P: Drop, T>(
     alloc: Global,
     lines: &[Line],
@@ -112,8 +114,10 @@ fn tell<R, P: Drop, T>(
     lanes: &mut [Lane<LaneDesk<'_, R, P, T>>],
     entries: &mut Vec<Entry>,
 ) -> Result<(), NoMemory>
-    ensures alone { OnOk result (length lanes.old ≡ 1 → (lane : Lane (LaneDesk R P T)) → entries.new.items ≡ (slice_index_or lanes.old 0 lane).desk.room.items) }
-    ensures together { OnOk result (length lanes.old ≢ 1 → entries.new.items ≡ entries.old.items ++ in_turn 0 lines.now (map (λ l. l.desk.room.items) lanes.old)) }
+    ensures alone { OnOk result (length lanes.old ≡ 1 → (lane : Lane (LaneDesk R P T))
+        → entries.new.items ≡ (slice_index_or lanes.old 0 lane).desk.room.items) }
+    ensures together { OnOk result (length lanes.old ≢ 1
+        → entries.new.items ≡ entries.old.items ++ in_turn 0 lines.now (map (λ l. l.desk.room.items) lanes.old)) }
 {
     if lanes.len() == 1 {
         mem::swap(&mut lanes[0].desk.room, entries);
@@ -122,7 +126,7 @@ fn tell<R, P: Drop, T>(
     gather(alloc, lines, lanes, entries)
 }
 
-/// Makes room for what several lanes may be told behind these entries. A lane that is alone has its room.
+/// Makes room for the answers of several lanes after these entries. A lane that is alone has its room.
 fn reserve_all<R, P: Drop, T>(
     lanes: &[Lane<LaneDesk<'_, R, P, T>>],
     entries: &mut Vec<Entry>,
@@ -141,8 +145,8 @@ fn reserve_all<R, P: Drop, T>(
     Ok(())
 }
 
-/// Runs the lanes of a phase on these trees, whose passes sit in the rows beside them, and tells what they were answered
-/// behind these entries.
+/// Runs the lanes (threads) of a phase on these trees, whose passes (handles) sit in the rows beside them. Appends their
+/// answers to these entries.
 ///
 /// # Errors
 ///
@@ -176,7 +180,7 @@ fn run_lanes<
     tell(alloc, lines, laid.as_mut_slice(), entries)
 }
 
-/// Runs the lanes of a phase on these trees, and then settles all passes of each tree.
+/// Runs the lanes of a phase on these trees, and then settles all handles of each tree.
 ///
 /// # Errors
 ///

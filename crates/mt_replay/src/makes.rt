@@ -14,7 +14,7 @@ use std::alloc::Global;
 use std::thread;
 use std::thread::Threads;
 
-/// A new tree and its passes, or that memory ran out for it.
+/// A new tree and its handles, or that memory ran out for it.
 pub(crate) type Made<P, T> = Result<(T, Vec<P>), NoMemory>;
 
 /// The kinds of the empty trees that these lines declare, in their order.
@@ -56,15 +56,16 @@ fn make_at_once<R: Threads + Sync, P: Passage + Drop + Send, T: Plays<P> + Send>
     ensures made { IfOk result (λ made. AreMade T.tree P.knows T.serves T.many rows passes kinds.now made.items) }
 {
     let make = |at: usize| -> Made<P, T>
-        requires { (at < length kinds.now) × (fewest_rows ≤ rows) × (rows ≤ most_rows) × (1 ≤ passes) × (passes ≤ most_passes) × All (λ kind. T.zeros_serve zeros.now kind rows) kinds.now }
+        requires { (at < length kinds.now) × (fewest_rows ≤ rows) × (rows ≤ most_rows) × (1 ≤ passes) × (passes ≤ most_passes)
+            × All (λ kind. T.zeros_serve zeros.now kind rows) kinds.now }
         ensures { (kind : Kind) → IfOk result (IsMade T.tree P.knows T.serves T.many rows passes (slice_index_or kinds.entry.now at kind)) }
     { T::make(alloc, kinds[at], rows, passes, zeros) };
     let made = thread::map_indices(rt, alloc, kinds.len(), &make)?;
     Ok(made)
 }
 
-/// Trees of these kinds, in their order. Half of those still to come are made at once, so that with what their making takes
-/// they never need more memory than when they are made one by one.
+/// Trees of these kinds, in their order. Half of those still to come are made at once. So with what their making takes, they
+/// never need more memory than if they are made one by one.
 ///
 /// # Errors
 ///

@@ -43,7 +43,9 @@ fn play_lanes<
     requires passes { player.old.passes ≡ lanes + 1 }
     requires can { CanDo lanes (length player.old.trees.items) lines.now }
     ensures rest { OnOk result (IsBetweenPhases T.tree P.knows T.serves T.many player.new) }
-    ensures played { OnOk result ((front : List Line) (steps : List Step) → IsPhaseBehind lanes phase front lines.now → IsBegun phase front lines.now (player_state T.tree P.knows player.old) steps → IsPlayed (phase + 1) (front ++ lines.now) (player_state T.tree P.knows player.new)) }
+    ensures played { OnOk result ((front : List Line) (steps : List Step) → IsPhaseBehind lanes phase front lines.now
+        → IsBegun phase front lines.now (player_state T.tree P.knows player.old) steps
+        → IsPlayed (phase + 1) (front ++ lines.now) (player_state T.tree P.knows player.new)) }
     ensures rows { OnOk result (player.new.rows ≡ player.old.rows) }
     ensures passes { OnOk result (player.new.passes ≡ player.old.passes) }
     ensures turns { OnOk result (PhaseTurned (G.passed gate.now) lines.now) }
@@ -179,7 +181,7 @@ fn lanes_of(lines: &[Line]) -> u32
     lanes_in(lines) as u32
 }
 
-/// A player behind all lines of a log, on shared trees of so many rows: phase by phase, the lanes of a phase at once.
+/// A player after all lines of a log, on shared trees of `rows` nodes: phase by phase, the lanes of a phase at once.
 fn played<
     R: Threads + Wait + Sync,
     P: Passage + Drop + Send,
@@ -202,8 +204,8 @@ fn played<
     Ok(player)
 }
 
-/// Plays the lines of a log on shared trees of so many rows, phase by phase, the lanes of a phase at once, and lists the
-/// trees.
+/// Plays the lines of a log on shared trees of `rows` nodes, phase by phase, the lanes (threads) of a phase at once, and lists
+/// the trees.
 ///
 /// # Errors
 ///
@@ -230,8 +232,8 @@ pub fn play<
     })
 }
 
-/// Plays the lines of a log that declares a tree as `play` does, and writes an image of the first tree in place of the list of
-/// them all.
+/// Plays the lines of a log that declares a tree as `play` does. Writes an image of the first tree instead of the list of them
+/// all.
 ///
 /// # Errors
 ///

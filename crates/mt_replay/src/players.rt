@@ -1,4 +1,4 @@
-//! A player of a log: its trees between two phases, and what was told so far.
+//! A player of a log: its trees between two phases, and the answers so far.
 
 ghost use Rattle.std.specs.Prelude.{◌≡◌, ◌+◌, ◌<◌, ◌≤◌, ◌∷◌, ◌++◌, ℕ, [], List, drop, length, map, IfOk, OnOk};
 ghost use Rattle.std.specs.Vec.Iter.{into_iter_items};
@@ -25,8 +25,7 @@ use std::sync::Wait;
 use std::thread::Threads;
 use std::vec::IntoIter;
 
-/// The trees that were declared so far, each with so many rows, all its passes and its ranges as they were counted last; and what
-/// was told.
+/// The declared trees, each with `rows` nodes, all its handles and its ranges as they were counted last; and the answers.
 #[derive(Drop)]
 pub(crate) struct Player<P: Drop, T: Drop> {
     pub(crate) rows: u64,
@@ -39,7 +38,7 @@ pub(crate) struct Player<P: Drop, T: Drop> {
 }
 
 impl<P: Passage + Drop + Send, T: Plays<P> + Send> Player<P, T> {
-    /// A player of no tree, whose trees will have so many rows and passes.
+    /// A player of no tree, whose trees will have this many nodes and handles.
     pub(crate) fn new(alloc: Global, rows: u64, passes: u32) -> Self
         requires few_rows { fewest_rows ≤ rows }
         requires rows { rows ≤ most_rows }
@@ -62,9 +61,10 @@ impl<P: Passage + Drop + Send, T: Plays<P> + Send> Player<P, T> {
         }
     }
 
-    /// Adds a new tree of this name, of which no call was made. It has so many ranges.
+    /// Adds a new tree of this name, which has had no call. It has `ranges` ranges.
     fn push(&mut self, known: KnownTree, tree: T, row: Vec<P>, ranges: u64) -> Result<(), NoMemory>
-        ensures kept { OnOk result (self.new ≡ record self.old { known = self.new.known; trees = self.new.trees; seats = self.new.seats; counts = self.new.counts }) }
+        ensures kept { OnOk result (self.new
+            ≡ record self.old { known = self.new.known; trees = self.new.trees; seats = self.new.seats; counts = self.new.counts }) }
         ensures known { OnOk result (self.new.known.items ≡ self.old.known.items ++ known ∷ []) }
         ensures trees { OnOk result (self.new.trees.items ≡ self.old.trees.items ++ tree ∷ []) }
         ensures seats { OnOk result (self.new.seats.items ≡ self.old.seats.items ++ row ∷ []) }
@@ -99,7 +99,7 @@ impl<P: Passage + Drop + Send, T: Plays<P> + Send> Player<P, T> {
         Ok(())
     }
 
-    /// A copy of the tree of this number, and the copy's passes.
+    /// A copy of the tree of this number, and the copy's handles.
     fn copy_of<R: Wait>(
         &mut self,
         rt: &R,
@@ -170,7 +170,7 @@ impl<P: Passage + Drop + Send, T: Plays<P> + Send> Player<P, T> {
         image_settled(rt, alloc, &self.trees[number], &mut self.seats[number])
     }
 
-    /// Declares a copy of a tree, and tells how many ranges it has.
+    /// Declares a copy of a tree, and returns how many ranges it has.
     fn copy<R: Wait>(
         &mut self,
         rt: &R,
@@ -194,7 +194,7 @@ impl<P: Passage + Drop + Send, T: Plays<P> + Send> Player<P, T> {
         Ok(())
     }
 
-    /// Checks a tree, and tells how many ranges it has.
+    /// Checks a tree, and returns how many ranges it has.
     fn check<R: Wait>(&mut self, rt: &R, line: u64, tree: usize) -> Result<(), NoMemory>
         requires rest { IsBetweenPhases T.tree P.knows T.serves T.many self.old }
         requires declared { tree < length self.old.trees.items }
@@ -250,7 +250,9 @@ impl<P: Passage + Drop + Send, T: Plays<P> + Send> Player<P, T> {
         requires rest { IsBetweenPhases T.tree P.knows T.serves T.many self.old }
         requires named { AreNamedFrom (length self.old.trees.items) lines.now }
         ensures rest { OnOk result (IsBetweenPhases T.tree P.knows T.serves T.many self.new) }
-        ensures begun { OnOk result ((phase : ℕ) (front : List Line) (steps : List Step) → phase_behind 0 front ≡ phase → IsOnePhase lines.now → IsPlayedBy phase front (player_state T.tree P.knows self.old) steps → IsBegun phase front lines.now (player_state T.tree P.knows self.new) steps) }
+        ensures begun { OnOk result ((phase : ℕ) (front : List Line) (steps : List Step) → phase_behind 0 front ≡ phase → IsOnePhase lines.now
+            → IsPlayedBy phase front (player_state T.tree P.knows self.old) steps
+            → IsBegun phase front lines.now (player_state T.tree P.knows self.new) steps) }
         ensures rows { OnOk result (self.new.rows ≡ self.old.rows) }
         ensures passes { OnOk result (self.new.passes ≡ self.old.passes) }
     {
@@ -268,7 +270,8 @@ impl<P: Passage + Drop + Send, T: Plays<P> + Send> Player<P, T> {
     /// `NoMemory` where memory ran out.
     pub(crate) fn list<R: Wait>(&mut self, rt: &R, alloc: Global) -> Result<Vec<Listing>, NoMemory>
         requires { IsBetweenPhases T.tree P.knows T.serves T.many self.old }
-        ensures lists { IfOk result (λ lists. (declared : List Declared) → self.old.known.items ≡ map (λ d. d.tree) declared → lists.items ≡ listings_of declared (histories_of (player_state T.tree P.knows self.old).trees)) }
+        ensures lists { IfOk result (λ lists. (declared : List Declared) → self.old.known.items ≡ map (λ d. d.tree) declared
+            → lists.items ≡ listings_of declared (histories_of (player_state T.tree P.knows self.old).trees)) }
         ensures entries { self.new.entries ≡ self.old.entries }
     {
         let mut lists = Vec::new(alloc);

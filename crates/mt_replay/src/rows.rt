@@ -1,4 +1,4 @@
-//! A tree all of whose passes are settled, and their row: no call is made here, so both stay as they are in meaning.
+//! A tree whose passes (handles) are all settled, and their row. No call is made here, so both keep their meaning.
 
 ghost use Rattle.std.specs.Prelude.{◌≡◌, ◌≤◌, length, map, IfOk};
 ghost use Rattle.mt_base.specs.History.{last_map};
@@ -12,7 +12,7 @@ use mt_desks::Passage;
 use std::alloc::Global;
 use std::sync::Wait;
 
-/// Settles all passes of a tree.
+/// Settles all handles of a tree.
 pub(crate) fn settle_row<R: Wait, P: Passage + Drop, T: Plays<P>>(
     rt: &R,
     tree: &T,
@@ -25,7 +25,7 @@ pub(crate) fn settle_row<R: Wait, P: Passage + Drop, T: Plays<P>>(
     tree.settle(rt, row.as_mut_slice());
 }
 
-/// Checks a tree, and tells how many ranges it has.
+/// Checks a tree, and returns how many ranges it has.
 pub(crate) fn count_settled<R: Wait, P: Passage + Drop, T: Plays<P>>(
     rt: &R,
     tree: &T,
@@ -44,7 +44,7 @@ pub(crate) fn count_settled<R: Wait, P: Passage + Drop, T: Plays<P>>(
     count
 }
 
-/// A copy of a tree, of which no call was made, and the copy's passes.
+/// A copy of a tree, which has had no call, and the copy's handles.
 ///
 /// # Errors
 ///

@@ -14,8 +14,8 @@ use std::sync::Wait;
 
 /// A shared tree that a player makes, copies, checks, lists, writes as an image and settles.
 ///
-/// Its meanings are `many`, the number of its passes; and `zeros_serve`, that a tree of a kind, of so many rows, can be made over
-/// some `Zeros`. It takes 2^62 - 1 calls.
+/// Its meanings are `many`, the number of its handles; and `zeros_serve`, that a tree of this kind, with this many nodes, can
+/// be made over some `Zeros`. It takes 2^62 - 1 calls.
 pub trait Plays<P: Passage>: Shared<P> + Drop + Sized {
     /// What new trees are made over.
     type Zeros: Drop + Sync;
@@ -24,7 +24,7 @@ pub trait Plays<P: Passage>: Shared<P> + Drop + Sized {
 
     ghost zeros_serve: { Self.Zeros → Kind → ℕ → Type 0 };
 
-    /// What trees of all these kinds, of so many rows, are made over.
+    /// The zeros that trees of all these kinds, of `rows` nodes, are made over.
     ///
     /// # Errors
     ///
@@ -33,7 +33,7 @@ pub trait Plays<P: Passage>: Shared<P> + Drop + Sized {
         requires { rows ≤ most_rows }
         ensures { IfOk result (λ zeros. All (λ kind. zeros_serve zeros kind rows) kinds.now) };
 
-    /// A tree of this kind that opens empty, in so many rows, and its passes, numbered from 0.
+    /// A tree of this kind with `rows` nodes that opens empty, and its handles, numbered from 0.
     ///
     /// # Errors
     ///
@@ -54,8 +54,8 @@ pub trait Plays<P: Passage>: Shared<P> + Drop + Sized {
         ensures all { IfOk result (λ made. AreAll P.knows Self.serves passes made.0 made.1.items) }
         ensures many { IfOk result (λ made. Self.many made.0 ≡ passes) };
 
-    /// A copy of the tree as it is after all that the pass has then seen, of which no call was made, and the copy's
-    /// passes. It has as many rows and passes as the tree.
+    /// A copy of the tree as it is after all that the handle has then seen, and the copy's handles. The copy has had no call,
+    /// and has as many nodes and handles as the tree.
     ///
     /// # Errors
     ///
@@ -68,21 +68,21 @@ pub trait Plays<P: Passage>: Shared<P> + Drop + Sized {
         ensures all { IfOk result (λ made. AreAll P.knows Self.serves (Self.many self.now) made.0 made.1.items) }
         ensures many { IfOk result (λ made. Self.many made.0 ≡ Self.many self.now) };
 
-    /// Checks the tree, and tells how many ranges it has after all that the pass has then seen.
+    /// Checks the tree, and returns how many ranges it has after all that the handle has then seen.
     fn check<R: Wait>(&self, rt: &R, pass: &mut P) -> u64
         requires of { Self.serves self.now pass.old }
         ensures of { Self.serves self.now pass.new }
         ensures saw { Saw (Self.tree self.now).history (P.knows pass.old) (P.knows pass.new) }
         ensures count { result ≡ length (map_seen (Self.tree self.now) (P.knows pass.new)) };
 
-    /// How many calls the tree has had, all of which the pass has then seen.
+    /// How many calls the tree has had, all of which the handle has then seen.
     fn calls<R: Wait>(&self, rt: &R, pass: &mut P) -> u64
         requires of { Self.serves self.now pass.old }
         ensures of { Self.serves self.now pass.new }
         ensures saw { Saw (Self.tree self.now).history (P.knows pass.old) (P.knows pass.new) }
         ensures calls { result ≡ length (P.knows pass.new).seen };
 
-    /// The ranges of the tree after all that the pass has then seen, in rising order.
+    /// The ranges of the tree after all that the handle has then seen, in rising order.
     ///
     /// # Errors
     ///
@@ -93,7 +93,7 @@ pub trait Plays<P: Passage>: Shared<P> + Drop + Sized {
         ensures saw { Saw (Self.tree self.now).history (P.knows pass.old) (P.knows pass.new) }
         ensures ranges { IfOk result (λ ranges. ranges.items ≡ map_seen (Self.tree self.now) (P.knows pass.new)) };
 
-    /// An image of the map of the tree after all that the pass has then seen.
+    /// An image of the map of the tree after all that the handle has then seen.
     ///
     /// # Errors
     ///
@@ -104,7 +104,7 @@ pub trait Plays<P: Passage>: Shared<P> + Drop + Sized {
         ensures saw { Saw (Self.tree self.now).history (P.knows pass.old) (P.knows pass.new) }
         ensures image { IfOk result (λ bytes. IsImageOfMap (Self.tree self.now).history.kind (map_seen (Self.tree self.now) (P.knows pass.new)) bytes.items) };
 
-    /// All passes of the tree have then seen its whole history, whose calls are just theirs.
+    /// Afterwards all handles of the tree have seen its whole history, whose calls are exactly theirs.
     fn settle<R: Wait>(&self, rt: &R, passes: &mut [P])
         requires { AreAll P.knows Self.serves (Self.many self.now) self.now passes.old }
         ensures all { AreAll P.knows Self.serves (Self.many self.now) self.now passes.new }
