@@ -1,4 +1,4 @@
--- What a list of ranges stands for: the kind of its tree and its ranges in rising order.
+-- What a list of ranges represents: the kind of its tree, and its ranges in rising order.
 use Rattle.std.specs.Prelude.{List}
 use Rattle.mt_base.specs.declared.kinds.Kind.{Kind}
 use Rattle.mt_base.specs.declared.ranges.Range.{Range}

@@ -7,7 +7,7 @@ use Rattle.mt_base.specs.declared.replies.Reply.{Reply}
 use Rattle.mt_base.specs.declared.replies.Reply.TheVariants.{NoNodes}
 use Rattle.mt_base.specs.Nodes.{Limits, IsMade, one_call_more}
 
--- the call was not refused for want of rows
+-- the call was not refused for lack of nodes
 abbrev pub is_done : Reply → Bool
 is_done (NoNodes shortage) = false
 is_done reply = true

@@ -23,7 +23,8 @@ impl Window {
     /// The first and the last index of the part in the window of what lies from `first` to `last`, where it has room.
     fn room_in(self, first: u64, last: u64) -> Option<(u64, u64)>
         requires { 1 ≤ self.size }
-        ensures { option_to_list (option_map (λ room. record { first = room.0; last = room.1 }) result) ≡ kept self.size self.min self.max (hole_between first (last + 1)) }
+        ensures { option_to_list (option_map (λ room. record { first = room.0; last = room.1 }) result)
+            ≡ kept self.size self.min self.max (hole_between first (last + 1)) }
     {
         let first = first.max(self.min);
         let last = last.min(self.max);

@@ -47,7 +47,7 @@ fn close(ranges: &mut Vec<Range>, start: usize, end: usize)
 
 /// Puts `pieces` in the place of the ranges from `start` up to `end`. An `Err` changes nothing.
 ///
-/// It takes memory only where there are more pieces. The ranges behind them are moved once for each piece more, or once.
+/// It takes memory only if there are more pieces. The later ranges are then moved once for each piece more, and otherwise once.
 fn replace(
     ranges: &mut Vec<Range>,
     start: usize,

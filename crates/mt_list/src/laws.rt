@@ -9,8 +9,8 @@ ghost use Rattle.mt_base.specs.declared.replies.Reply.{Reply};
 ghost use Rattle.mt_base.specs.Nodes.{Limits, IsMade};
 ghost use Rattle.mt_list.specs.Plays.{is_done, CallsLeadTo};
 
-/// A map whose rows are limited and one whose rows are not, which are equal before a call, are equal after it and answer
-/// the same, where the first does not refuse it for want of rows; and so are they after calls, where it refuses none.
+/// A map with limited nodes and one without limits that are equal before a call are equal after it, and answer the same, unless
+/// the first refuses it because nodes are short. They stay equal over any calls of which none is refused so.
 #[tactic(auto, using(crate::proofs::TwoMaps::same_call, crate::proofs::TwoMaps::same_calls))]
 pub fn limits_show_in_refusals_alone()
     ensures call { (kind : Kind) (limits : Option Limits) (m m1 m2 : List Range) (call : Call) (r1 r2 : Reply)

@@ -106,7 +106,8 @@ impl ListMap {
 
     /// Stores `entry` at the lowest start of room in the window.
     fn alloc(&mut self, window: Window, entry: u64) -> Result<Reply, NoMemory>
-        ensures acts { IfOk result (λ reply. acted self.old.kind self.old.ranges (Call.Alloc window.size window.min window.max entry) ≡ (self.new.ranges, reply)) }
+        ensures acts { IfOk result (λ reply. acted self.old.kind self.old.ranges (Call.Alloc window.size window.min window.max entry)
+            ≡ (self.new.ranges, reply)) }
         ensures err { OnErr result (self.new ≡ self.old) }
         ensures kind { self.new.kind ≡ self.old.kind }
     {
@@ -119,7 +120,8 @@ impl ListMap {
 
     /// Stores `entry` at the highest start.
     fn ralloc(&mut self, window: Window, entry: u64) -> Result<Reply, NoMemory>
-        ensures acts { IfOk result (λ reply. acted self.old.kind self.old.ranges (Call.Ralloc window.size window.min window.max entry) ≡ (self.new.ranges, reply)) }
+        ensures acts { IfOk result (λ reply. acted self.old.kind self.old.ranges (Call.Ralloc window.size window.min window.max entry)
+            ≡ (self.new.ranges, reply)) }
         ensures err { OnErr result (self.new ≡ self.old) }
         ensures kind { self.new.kind ≡ self.old.kind }
     {

@@ -1,4 +1,4 @@
-//! What stands in the place of the ranges that a store touches.
+//! What replaces the ranges that a store touches.
 
 ghost use Rattle.std.specs.Prelude.{◌≡◌, option_to_list};
 ghost use Rattle.mt_base.specs.Map.{part_stored};

@@ -9,8 +9,8 @@ use std::alloc::Global;
 
 /// A map of ranges that is changed by calls and read by queries.
 ///
-/// Its meanings are the map, the kind, which no call changes, `used`, how much of its room for calls is used, and what its
-/// rows are limited by. A map without limits does each call.
+/// Its meanings are the map, the kind, which no call changes, `used`, how much of its room for calls is used, and the limits of
+/// its nodes. A map without limits does each call.
 pub trait Ranges {
     ghost map: { Self → List Range };
 
@@ -20,7 +20,7 @@ pub trait Ranges {
 
     ghost limits: { Self → Option Limits };
 
-    /// Makes one call: it does what the call says, or, where rows are limited, it may refuse for want of them and leave the
+    /// Makes one call: it does what the call says, or, where nodes are limited, it may refuse for lack of them and leave the
     /// map.
     ///
     /// # Errors
@@ -35,7 +35,7 @@ pub trait Ranges {
         ensures ended { OnOk result (limits self.new ≡ one_call_more (limits self.old)) }
         ensures not_ended { OnErr result (limits self.new ≡ limits self.old) };
 
-    /// Answers one query: there is none where no range fits it.
+    /// Answers one query. There is no answer if no range fits it.
     fn ask(&mut self, query: &Query) -> Option<Range>
         ensures answer { result ≡ answer (map self.old) query.now }
         ensures map { map self.new ≡ map self.old }

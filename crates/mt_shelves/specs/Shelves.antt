@@ -118,6 +118,6 @@ pub record IsExtent (e : ShelfExtent) (m : List Range) : Type 0 where
   pub end : e.end ≡ shelf_end m
   pub room : AreHolesUpTo e.room (holes_in m)
 
--- Ranges that begin and end there, with holes no longer than some room, may have room for so many indexes in a window.
+-- whether ranges that begin and end there, with holes no longer than this, may have room for `size` indexes in a window
 abbrev pub has_room : ℕ → ℕ → ℕ → ℕ → ℕ → ℕ → Bool
 has_room start end room size lo hi = nat_le size room && (nat_lt start hi && nat_lt lo end)

@@ -11,7 +11,7 @@ use crate::wholes::gathered;
 use mt_base::{NoMemory, Range};
 use std::alloc::Global;
 
-/// A shelf has so many ranges at the most, and this many once it is cut.
+/// A shelf has at most `MOST` ranges, and `HALF` once it is cut.
 const MOST: usize = 512;
 
 const HALF: usize = 256;
@@ -43,7 +43,8 @@ fn join(shelves: &mut Vec<Shelf>, alloc: Global, start: usize, end: usize) -> Re
     Ok(())
 }
 
-/// Cuts the last ranges off a long shelf, onto one of their own behind it. Where memory is short the shelf stays, and this is false.
+/// Cuts the last ranges off a long shelf, onto a shelf of their own after it. If memory is short the shelf stays, and the
+/// result is false.
 #[tactic(auto, using(crate::proofs::Editing::halved))]
 fn halve(shelves: &mut Vec<Shelf>, at: usize) -> bool
     requires filled { AllFilled shelves.old.items }
@@ -122,7 +123,8 @@ fn site(shelves: &[Shelf], first: u64, last: u64) -> (usize, usize)
     (0, shelves.len().min(1))
 }
 
-/// Stores `entry` over `first` to `last` on the shelf at a place, where all before it end below, and all behind it begin above.
+/// Stores `entry` over `first` to `last` on the shelf at a place, if all shelves before it end below, and all after it begin
+/// above.
 fn store_there(
     shelves: &mut Vec<Shelf>,
     at: usize,

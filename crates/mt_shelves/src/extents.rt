@@ -1,4 +1,4 @@
-//! What is noted of a shelf, so that a search passes over it: where it begins and ends, and the length of its longest hole.
+//! What is kept of a shelf, so that a search can pass over it: where it begins and ends, and the length of its longest hole.
 
 ghost use Rattle.std.specs.Prelude.{◌≡◌, ◌+◌, ◌-◌, ◌≤◌, ◌<◌};
 ghost use Rattle.mt_base.specs.Map.{IsMapFrom};
@@ -32,7 +32,7 @@ fn longest_hole(ranges: &[Range]) -> u64
     }
 }
 
-/// Where ranges begin and end, both 0 where there are none, and a length that no hole between them is above.
+/// Where ranges begin and end, both 0 if there are none, and a length that no hole between them exceeds.
 #[derive(Clone, Copy, Debug)]
 pub struct ShelfExtent {
     pub start: u64,

@@ -1,5 +1,5 @@
-//! A map of ranges as a list of shelves, each of which is a short sorted list: a store moves the ranges of one shelf, and a search
-//! for room passes over each shelf that has none.
+//! A map of ranges as a list of shelves, each a short sorted list. A store moves the ranges of one shelf, and a search for room
+//! passes over each shelf without any.
 #![tactic(auto)]
 
 mod edits;

@@ -107,10 +107,11 @@ fn highest_within(ranges: &[Range], window: Window) -> Option<u64>
     None
 }
 
-/// The highest start of room in the hole behind a shelf, up to `last`, and in those on it.
+/// The highest start of room in the hole after a shelf, up to `last`, and in the holes on it.
 fn highest_on(shelf: &Shelf, last: u64, window: Window) -> Option<u64>
     requires { 1 ≤ window.size }
-    ensures { result ≡ highest_in window.size (kept window.size window.min window.max (holes_in shelf.now ++ hole_between (shelf_end shelf.now + 1) (last + 1))) }
+    ensures { result ≡ highest_in window.size (kept window.size window.min window.max (holes_in shelf.now
+        ++ hole_between (shelf_end shelf.now + 1) (last + 1))) }
 {
     let ranges = shelf.ranges();
     let extent = shelf.extent();

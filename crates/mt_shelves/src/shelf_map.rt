@@ -10,7 +10,7 @@ use mt_list::{Ranges, Window, reply_of};
 use std::alloc::Global;
 use std::marker::Model;
 
-/// No more ranges than about so many are taken: no memory holds as many.
+/// The map takes at most about this many ranges: no memory holds as many.
 const MOST: u64 = 1 << 61;
 
 /// A map of ranges on shelves. Its meaning is a tree's kind and its ranges, in rising order.
@@ -144,7 +144,8 @@ impl ShelfMap {
 
     /// Stores `entry` at the lowest start of room in the window.
     fn alloc(&mut self, window: Window, entry: u64) -> Result<Reply, NoMemory>
-        ensures acts { IfOk result (λ reply. acted self.old.kind self.old.ranges (Call.Alloc window.size window.min window.max entry) ≡ (self.new.ranges, reply)) }
+        ensures acts { IfOk result (λ reply. acted self.old.kind self.old.ranges (Call.Alloc window.size window.min window.max entry)
+            ≡ (self.new.ranges, reply)) }
         ensures err { OnErr result (self.new ≡ self.old) }
         ensures kind { self.new.kind ≡ self.old.kind }
     {
@@ -157,7 +158,8 @@ impl ShelfMap {
 
     /// Stores `entry` at the highest start.
     fn ralloc(&mut self, window: Window, entry: u64) -> Result<Reply, NoMemory>
-        ensures acts { IfOk result (λ reply. acted self.old.kind self.old.ranges (Call.Ralloc window.size window.min window.max entry) ≡ (self.new.ranges, reply)) }
+        ensures acts { IfOk result (λ reply. acted self.old.kind self.old.ranges (Call.Ralloc window.size window.min window.max entry)
+            ≡ (self.new.ranges, reply)) }
         ensures err { OnErr result (self.new ≡ self.old) }
         ensures kind { self.new.kind ≡ self.old.kind }
     {
