@@ -14,7 +14,7 @@ use std::sync::atomic::{AtomicU64, Ordering};
 use std::thread::Threads;
 use std::time::Instant;
 
-/// A tree is built so often, and the least times are told.
+/// How often a tree is built. The least times are reported.
 const BUILDS: u32 = 5;
 
 /// Ranges in order, of 10 indexes each, with 6 to the next.
@@ -46,7 +46,7 @@ impl<'a, R: Clock> Gate for Stopwatch<'a, R> {
     }
 }
 
-/// The nanoseconds of a build, and of its workers alone, and how many rows were made.
+/// The nanoseconds of a build, and of its workers alone, and how many nodes were made.
 fn built<R: Threads + Clock + Sync>(
     rt: &R,
     alloc: Global,
@@ -68,7 +68,7 @@ fn built<R: Threads + Clock + Sync>(
     Some((whole, lanes, rows))
 }
 
-/// What builds of a tree come to.
+/// The times of builds of a tree.
 pub fn build_times<R: Threads + Clock + Sync>(
     rt: &R,
     alloc: Global,

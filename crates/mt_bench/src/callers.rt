@@ -64,7 +64,7 @@ fn shape_of(kind: Kind, rows: u64, passes: u32) -> Shape {
     }
 }
 
-/// A pass and its tree, which make the calls of a work.
+/// A pass (handle) and its tree, which make the calls of a work.
 #[derive(Drop)]
 pub struct TimedCaller<'a, R> {
     rt: &'a R,
@@ -74,7 +74,7 @@ pub struct TimedCaller<'a, R> {
 }
 
 impl<'a, R> TimedCaller<'a, R> {
-    /// The caller of a pass, or none where too many share the tree.
+    /// The caller of a handle, or none if too many share the tree.
     fn new(rt: &'a R, shared: &Arc<mt_tree::Tree>, pass: Pass) -> Option<Self>
         requires { IsPassOf (arc_value shared.now) pass }
     {
@@ -84,7 +84,7 @@ impl<'a, R> TimedCaller<'a, R> {
         Some(TimedCaller { rt, tree, pass })
     }
 
-    /// A caller for each pass, or none where there is no memory.
+    /// A caller for each handle, or none if there is no memory.
     fn each(
         rt: &'a R,
         alloc: Global,
@@ -131,7 +131,7 @@ impl<'a, R: Wait> TimedCaller<'a, R> {
         self.tree.check(self.rt, &mut self.pass)
     }
 
-    /// A copy in so many rows, or none where there was no room.
+    /// A copy in `rows` nodes, or none if there was no room.
     pub fn dup(&mut self, alloc: Global, rows: u64) -> Option<mt_tree::Tree> {
         let shape = shape_of(self.tree.shape().kind, rows, 1);
         let copied = self.tree.dup(self.rt, alloc, &mut self.pass, shape);

@@ -41,7 +41,7 @@ fn toggle(tree: &mut impl TimedTree, i: u32, stored: &mut bool) -> bool {
     done
 }
 
-/// Does so with ranges that are drawn, `times` times or until no reader is at work, and tells how often.
+/// Does so with ranges that are drawn, `times` times or until no reader is at work, and returns how often.
 fn toggle_all(
     tree: &mut impl TimedTree,
     stored: &mut [bool],
@@ -78,7 +78,7 @@ fn sum_of(stored: &[bool]) -> u64 {
 }
 
 impl<T: TimedTree + Drop> Worker<T> {
-    /// A worker that loads, or that writes where the tree has all of so many ranges.
+    /// A worker that loads, or that writes if the tree has all of these ranges.
     fn new(
         alloc: Global,
         tree: T,
@@ -174,7 +174,7 @@ fn lanes<'a, R: Wait>(
     Some(workers)
 }
 
-/// Has all at work at once, in so many threads, and gives the nanoseconds until all are done.
+/// Has all at work at once, in as many threads, and returns the nanoseconds until all are done.
 fn at_once<R: Threads + Clock + Sync, T: TimedTree + Drop + Send>(
     rt: &R,
     workers: &mut [Worker<T>],
@@ -192,7 +192,7 @@ fn at_once<R: Threads + Clock + Sync, T: TimedTree + Drop + Send>(
     nanos_since(rt, &start)
 }
 
-/// What all came to, and how often they wrote.
+/// The sums of all, and how often they wrote.
 fn sums_of<T: TimedTree + Drop>(workers: &mut [Worker<T>]) -> Option<(u64, u64)> {
     let mut all: u64 = 0;
     let mut writes: u64 = 0;
@@ -204,7 +204,7 @@ fn sums_of<T: TimedTree + Drop>(workers: &mut [Worker<T>]) -> Option<(u64, u64)>
     Some((all, writes))
 }
 
-/// What readers come to on one tree, beside a thread that writes where the job has one.
+/// The results of readers on one tree, beside a thread that writes if the job has one.
 pub fn together<R: Threads + Wait + Clock + Sync>(
     rt: &R,
     alloc: Global,
@@ -236,7 +236,7 @@ pub fn together<R: Threads + Wait + Clock + Sync>(
     })
 }
 
-/// What calls come to on four trees, each at work in one of so many threads.
+/// The results of calls on four trees, each at work in one of the threads.
 pub fn apart<R: Threads + Wait + Clock + Sync>(
     rt: &R,
     alloc: Global,

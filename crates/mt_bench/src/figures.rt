@@ -1,4 +1,4 @@
-//! What is told of a task.
+//! What is reported of a task.
 
 use std::fmt;
 
@@ -7,7 +7,7 @@ use std::fmt;
 pub struct Figure(pub u64);
 
 impl Figure {
-    /// So many, shared out among so many.
+    /// This many, shared out among that many.
     pub fn of(all: u64, among: u64) -> Self {
         Figure(all.saturating_mul(10_000) / among.max(1))
     }
@@ -19,7 +19,7 @@ impl fmt::Display for Figure {
     }
 }
 
-/// What a task took, by so many threads where several did it.
+/// What a task took, with the number of threads if several did it.
 #[derive(Clone, Copy)]
 pub enum TimedReport {
     /// Nanoseconds of an operation, or the nodes for a range.
@@ -35,7 +35,7 @@ pub enum TimedReport {
         threads: u32,
         ms: Figure,
     },
-    /// Nanoseconds of a build for each range, and of its workers alone, and rows for each range.
+    /// Nanoseconds of a build for each range, and of its workers alone, and nodes for each range.
     Built {
         workers: u32,
         whole: Figure,
@@ -74,7 +74,7 @@ impl fmt::Display for TimedReport {
     }
 }
 
-/// What a task took, and what it came to: a number that is the same each time, and the sum of what its trees hold then.
+/// What a task took, and its check sum: a number that is the same each time, and the sum of what its trees then hold.
 #[derive(Clone, Copy)]
 pub struct BenchOutcome {
     pub report: TimedReport,

@@ -1,5 +1,5 @@
-//! Jobs that one thread does on a tree, and what an operation takes. There is none where a call was not done, or no memory was
-//! there.
+//! Jobs that one thread does on a tree, and what an operation takes. There is no result if a call was not done, or there was no
+//! memory.
 
 use crate::callers::TimedCaller;
 use crate::draws::shuffled;
@@ -15,8 +15,8 @@ use std::rt::Clock;
 use std::sync::Wait;
 use std::time::Instant;
 
-/// What jobs go by: the numbers of the ranges, in rising order and in one that looks random, where the areas begin that were
-/// allocated, and the greatest index that an area may have.
+/// What jobs go by: the numbers of the ranges, in rising order and in one that looks random; where the allocated areas begin;
+/// and the greatest index that an area may have.
 #[derive(Drop)]
 pub struct Setting {
     pub ranges: u32,
@@ -134,7 +134,7 @@ fn rounds_of(task: TimedTask, extent: MapSize) -> (u64, u64) {
     }
 }
 
-/// The nanoseconds of so many rounds, each of which comes to the same number.
+/// The nanoseconds of all rounds, each of which gives the same number.
 fn nanos_of_all<R: Clock + Wait>(
     rt: &R,
     alloc: Global,

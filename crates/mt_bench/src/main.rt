@@ -1,21 +1,21 @@
-//! Times works on a tree of N ranges. `mt_bench WORK N` prints `WORK N NANOSECONDS`, the time of one operation on one thread, or
-//! for `rnodes_seq` and its like how many nodes the tree has for each range. The first letter of a work is the kind of the tree:
-//! `r` for ranges, `a` for allocation, and `n` before either for narrow rows. The tree is the engine's, or where `t` stands
-//! before the kind the one that threads share, of which a pass makes each call. Nodes are counted of such a tree too, and checks,
-//! copies and images are of one: `rcheck`, `rdup` and `rdup_most`, `rimage` and `rread`.
+//! Times works on a tree of N ranges. `mt_bench WORK N` prints `WORK N NANOSECONDS`, the time of one operation on one thread.
+//! For `rnodes_seq` and its like it is how many nodes the tree has for each range. The first letter of a work is the kind of
+//! the tree: `r` for ranges, `a` for allocation, and `n` before either for narrow nodes. The tree is the engine's. With `t`
+//! before the kind it is the one that threads share, and a pass (handle) makes each call. Nodes are counted of such a tree too,
+//! and checks, copies and images are of one: `rcheck`, `rdup` and `rdup_most`, `rimage` and `rread`.
 //!
-//! `mt_bench rreaders N READERS` has so many threads load from one shared tree at once, 4,000,000 times each, and prints how many
-//! million loads a second there were; so does `rconc`, and how many million writes, beside one thread that writes until all
-//! loads are done.
+//! `mt_bench rreaders N READERS` has READERS threads load from one shared tree at once, 4,000,000 times each. It prints how
+//! many million loads a second there were. `rconc` does too, and prints how many million writes, beside one thread that writes
+//! until all loads are done.
 //!
-//! `mt_bench rlanes N LANES` makes 100,000 calls on each of four shared trees, in so many threads, and prints the milliseconds
-//! of them all.
+//! `mt_bench rlanes N LANES` makes 100,000 calls on each of four shared trees, in LANES threads, and prints the milliseconds of
+//! them all.
 //!
-//! `mt_bench rbuild N WORKERS` builds a tree at once of its ranges by so many workers, and prints the nanoseconds for each range, of
-//! it all and of the workers alone, and how many rows there are for each range.
+//! `mt_bench rbuild N WORKERS` bulk-builds a tree from its ranges by WORKERS workers. It prints the nanoseconds for each range,
+//! of it all and of the workers alone, and how many nodes there are for each range.
 //!
-//! `mt_bench sums` times nothing: for each line of its input it does the works of its words in few rounds, and prints what they
-//! come to, or that they are none.
+//! `mt_bench sums` times nothing. For each line of its input it does the works of its words in few rounds, and prints their
+//! check sums, or that they are no works.
 #![tactic(auto)]
 
 mod builds;
@@ -46,7 +46,7 @@ use std::{env, io};
 const USAGE: &str =
     "usage: mt_bench [t][n][ra]{load,iter,store_seq,store_rand,overwrite,wide,erase} N, [t][n]a{alloc,ralloc,holes,churn} N, [n][ra]{nodes_seq,nodes_rand,check,dup,dup_most,image,read} N, [n][ra]{readers,conc} N READERS, [n][ra]lanes N LANES, [n][ra]build N WORKERS, sums";
 
-/// What a task takes and comes to, or none where a call was not done.
+/// The time and the check sum of a task, or none if a call was not done.
 fn outcome_of<R: Threads + Wait + Clock + Sync>(
     rt: &R,
     alloc: Global,
@@ -98,7 +98,7 @@ fn words_in(alloc: Global, line: &str) -> Result<Vec<String>, AllocError> {
     Ok(words)
 }
 
-/// Prints what the task of a line comes to.
+/// Prints the check sum of the task of a line.
 fn print_sums<R: Threads + Wait + Clock + Print + Sync>(
     rt: &R,
     alloc: Global,
@@ -116,7 +116,7 @@ fn print_sums<R: Threads + Wait + Clock + Print + Sync>(
     }
 }
 
-/// Prints what the task of each line of the input comes to.
+/// Prints the check sum of the task of each line of the input.
 fn print_all_sums<R: Threads + Wait + Clock + Input + Print + Sync>(
     rt: &R,
     alloc: Global,
@@ -127,7 +127,7 @@ fn print_all_sums<R: Threads + Wait + Clock + Input + Print + Sync>(
     Ok(())
 }
 
-/// Prints what a task takes, behind its word, where it was done; whether it was.
+/// Prints what a task takes, after its word, if it was done. Returns whether it was.
 fn print_time<R: Threads + Wait + Clock + Print + Sync>(
     rt: &R,
     alloc: Global,

@@ -1,4 +1,4 @@
-//! What goes over all rows of a shared tree.
+//! What goes over all nodes of a shared tree.
 
 use crate::callers::TimedCaller;
 use crate::figures::{BenchOutcome, Figure, TimedReport};
@@ -23,8 +23,8 @@ enum Made {
     Rows(PlainRows),
 }
 
-/// Does a job once on a tree that has so many rows in use, and of which this is an image. A copy has a fifth more rows than that,
-/// or as many as a tree may have.
+/// Does a job once on a tree that has `rows` nodes in use, and of which this is an image. A copy has a fifth more nodes than
+/// that, or as many as a tree may have.
 fn made_of<R: Wait>(
     caller: &mut TimedCaller<'_, R>,
     alloc: Global,
@@ -66,7 +66,7 @@ fn nanos_of_all<R: Wait + Clock>(
     Some(nanos)
 }
 
-/// What a job comes to on a tree with all ranges, stored in random order unless its nodes are counted of the other.
+/// The result of a job on a tree with all ranges, stored in random order unless the nodes of the other order are counted.
 pub fn swept<R: Wait + Clock>(
     rt: &R,
     alloc: Global,

@@ -63,8 +63,8 @@ const KINDS: &[(&str, Kind)] = &[
     ("na", Kind::Alloc32),
 ];
 
-/// A job on a tree of this kind, which is the engine's or one that threads share, with so many ranges, and with so many
-/// threads where several do it.
+/// A job on a tree of this kind, which is the engine's or one that threads share, with this many ranges, and with this many
+/// threads if several do it.
 #[derive(Clone, Copy)]
 pub struct TimedTask {
     pub shared: bool,
@@ -79,7 +79,7 @@ pub struct TimedTask {
 pub struct MapSize {
     /// Jobs that do not change the number of ranges are done so often.
     pub times: u64,
-    /// All others are done so often, behind a first round that is not timed.
+    /// How often all others are done, after a first round that is not timed.
     pub rounds: u64,
     /// Each reader loads so often.
     pub loads: u64,
@@ -107,7 +107,7 @@ fn work_of(kinds: &[(&str, Kind)], word: &str) -> Option<(Kind, Job)> {
     None
 }
 
-/// The task of a word, before which `t` stands where the tree is a shared one.
+/// The task of a word; `t` before it means a shared tree.
 fn task_in(word: &str, ranges: &str, threads: &str) -> Option<TimedTask> {
     let (shared, work) = match word.strip_prefix("t") {
         Some(rest) => (true, rest),

@@ -9,7 +9,7 @@ use mt_rows::PlainRows;
 use std::alloc::Global;
 use std::marker::Model;
 
-/// So many calls are made on one tree at the most.
+/// So many calls are made on one tree at most.
 const MOST_CALLS: u64 = 1 << 60;
 
 /// What a work asks of a tree.

@@ -12,7 +12,7 @@ const HIGHEST: u64 = (1 << 48) - 1;
 /// The entry that every allocation stores.
 const ALLOCATED: u64 = 4096;
 
-/// A wide store covers so many ranges, or as many as there are.
+/// How many ranges a wide store covers, or as many as there are.
 const WIDE: u32 = 1000;
 
 /// At which end room is sought.
@@ -70,7 +70,7 @@ pub fn overwrite(tree: &mut impl TimedTree, ranges: u32, times: u64) -> bool {
     done
 }
 
-/// How many wide stores cover so many ranges.
+/// How many wide stores cover this many ranges.
 pub fn wide_stores(ranges: u32) -> u32 {
     ranges.div_ceil(WIDE)
 }
@@ -133,7 +133,7 @@ pub fn highest_of(kind: Kind) -> u64 {
     HIGHEST.min(top(width_of(kind)))
 }
 
-/// Allocates so many indexes, none above `max`, and tells where they begin.
+/// Allocates `size` indexes, none above `max`, and returns where they begin.
 fn allocate(tree: &mut impl TimedTree, size: u64, end: End, max: u64) -> Option<u64> {
     let (min, entry) = (0, ALLOCATED);
     let call = match end {
@@ -174,7 +174,7 @@ pub fn allocate_all(tree: &mut impl TimedTree, end: End, highest: u64, starts: &
     done
 }
 
-/// Allocates so many areas of 1 to 6 indexes; whether each was found.
+/// Allocates `areas` areas of 1 to 6 indexes. Returns whether each was found.
 pub fn fill_holes(tree: &mut impl TimedTree, highest: u64, areas: u32) -> bool {
     let mut draws = DrawnIndexes::new(7);
     let mut done = true;
@@ -185,7 +185,7 @@ pub fn fill_holes(tree: &mut impl TimedTree, highest: u64, areas: u32) -> bool {
     done
 }
 
-/// Erases the area at a start and allocates one of so many indexes, whose start is noted; whether both were done.
+/// Erases the area at a start and allocates one of this many indexes, whose start is noted. Returns whether both were done.
 fn reallocate(tree: &mut impl TimedTree, highest: u64, start: &mut u64, size: u64) -> bool {
     let erased = matches!(tree.act(&Call::Erase { index: *start }), Reply::Was(_));
     match allocate(tree, size, End::Lowest, highest) {

@@ -16,7 +16,7 @@ form_of_word word =
     else (if bytes_eq word (codes "--ranges") then Some forms.Ranges
     else None))
 
--- no word asks for the picture of the rows, and one word for what it says
+-- no word asks for the picture of the nodes, and one word for what it says
 abbrev pub form_asked : List (List ℕ) → Option PictureForm
 form_asked [] = Some forms.Rows
 form_asked (word ∷ []) = form_of_word word
@@ -37,7 +37,7 @@ failure_of_image (errors.Broken row law) = NoImage (errors.Broken row law)
 failure_of_image (errors.Stray row) = NoImage (errors.Stray row)
 failure_of_image errors.NoMemory = NoMemory
 
--- the line that tells it, behind the program's name
+-- the line that reports it, after the program's name
 abbrev pub failure_text : DrawFailure → List ℕ
 failure_text (NoImage error) = codes "no image: " ++ error_text error
 failure_text Usage = codes "usage: mt_draw [--text | --ranges] < IMAGE"

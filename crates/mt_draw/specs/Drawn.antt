@@ -8,7 +8,7 @@ use Rattle.mt_draw.specs.declared.trees.DrawnTree.{DrawnTree}
 use Rattle.mt_draw.specs.Trees.{nodes_in, table_of}
 use Rattle.mt_draw.specs.Texts.{dump_text}
 
--- the tree of an image, with its rows in hand
+-- the tree of an image, with its nodes in hand
 pub record IsTreeOfImage (x : Image) (tree : DrawnTree) : Type 0 where
   pub kind : tree.kind ≡ x.kind
   pub table : table_of tree ≡ x.tree.table

@@ -1,5 +1,5 @@
--- The rows of a tree as the kernel prints them.
--- Source: the kernel's lib/maple_tree.c, mt_dump and its parts, with decimal indexes; names stand for addresses.
+-- The nodes of a tree as the kernel prints them.
+-- Source: the kernel's lib/maple_tree.c, mt_dump and its parts, with decimal indexes, and names in place of addresses.
 use Rattle.std.specs.Prelude.{ℕ, Bool, ◌+◌, ◌-◌, ◌*◌, ◌/◌, ◌%◌, ◌^◌, ◌==◌, min, nat_le, false, true, List, [], ◌∷◌, ◌++◌, codes, length, slice_index_or, if◌then◌else◌}
 use Rattle.std.specs.List.{flat_map, fold, range_with_len}
 use Rattle.std.specs.Fmt.{decimal, digits, padded_integral, format_spec}
@@ -8,7 +8,7 @@ use Rattle.mt_draw.specs.Trees.{gap_of_slot, nodes_in, table_of}
 use Rattle.mt_draw.specs.declared.trees.Node.{Node}
 use Rattle.mt_draw.specs.declared.trees.DrawnTree.{DrawnTree}
 
--- a number in so many hexadecimal digits at the least
+-- a number in at least this many hexadecimal digits
 abbrev pub hexadecimal : ℕ → Bool → ℕ → List ℕ
 hexadecimal least upper n = padded_integral (format_spec 32 0 4 least (2 ^ 64 - 1)) false [] (digits 16 upper n)
 
@@ -17,7 +17,7 @@ abbrev pub pointer_text : Width → ℕ → List ℕ
 pointer_text Long word = hexadecimal 16 false word
 pointer_text Short word = hexadecimal 8 false word
 
--- two spaces for each row above
+-- two spaces for each node above
 abbrev pub indent_text : ℕ → List ℕ
 indent_text depth = flat_map (λ (_ : ℕ). codes "  ") (range_with_len 0 depth)
 
@@ -37,7 +37,7 @@ type_of kind = kind_number kind
 abbrev pub gaps_text : Table → Node → List ℕ
 gaps_text t x = flat_map (λ i. decimal (gap_of_slot t x i) ++ codes " ") (range_with_len 0 (slots_of t.width x.kind))
 
--- what stands in a slot, and zeros where it is not used
+-- what is in a slot, and zeros if it is not used
 abbrev pub slot_at : List Span → ℕ → Span
 slot_at spans i = slice_index_or spans i (record { first = 0; last = 0; word = 0 })
 
@@ -59,7 +59,7 @@ longest_slot t x used = fold (longer_of t x) 0 (range_with_len 0 used)
 abbrev pub meta_text : ℕ → ℕ → List ℕ
 meta_text end longest = codes "| " ++ (hexadecimal 2 true end ++ (codes " " ++ (hexadecimal 2 true longest ++ codes "| ")))
 
--- what stands before the slots of a row with gaps
+-- what comes before the slots of a node with gaps
 abbrev pub gaps_and_meta : Table → Node → ℕ → List ℕ
 gaps_and_meta t x used = gaps_text t x ++ meta_text (used - 1) (longest_slot t x used)
 
@@ -74,7 +74,7 @@ heads_text t x = heads_by x.kind (gaps_and_meta t x (length (spans_in t x.span))
 abbrev pub contents_text : Table → Node → List ℕ
 contents_text t x = heads_text t x ++ (pairs_text t x ++ pointer_text t.width (slot_at (spans_in t x.span) (slots_of t.width x.kind - 1)).word)
 
--- the line of what stands in a slot of a leaf
+-- the line of what is in a slot of a leaf
 abbrev pub slot_line : Width → ℕ → Span → List ℕ
 slot_line width depth x = indent_text depth ++ (indexes_text x ++ (codes ": " ++ (word_text width x.word ++ codes "\n")))
 
@@ -110,10 +110,10 @@ abbrev pub body_of : Table → List Node → List ℕ
 body_of t [] = codes "(empty)\n"
 body_of t (x ∷ nodes) = rows_text t (x ∷ nodes)
 
--- a tree whose rows are in hand
+-- a tree whose nodes are in hand
 abbrev pub tree_text : DrawnTree → List ℕ
 tree_text tree = dump_head tree.kind tree.height tree.root ++ body_of (table_of tree) tree.nodes.items
 
--- the tree that words stand for, from the root word
+-- the tree of these words, from the root word
 unfoldable pub dump_text : Kind → Table → ℕ → List ℕ
 dump_text kind t root = dump_head kind (height_in t root) root ++ body_of t (nodes_in t root)

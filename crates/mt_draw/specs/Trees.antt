@@ -1,4 +1,4 @@
--- The rows of a tree in the order of a walk, with the indexes that each covers.
+-- The nodes of a tree in the order of a walk, with the indexes that each covers.
 -- Source: this project's own.
 use Rattle.std.specs.Prelude.{ℕ, zero, suc, ◌+◌, List, [], ◌∷◌, Option, Some, None}
 use Rattle.std.specs.List.{flat_map}
@@ -9,18 +9,18 @@ use Rattle.mt_draw.specs.declared.trees.DrawnTree.{DrawnTree}
 abbrev pub table_of : DrawnTree → Table
 table_of tree = record { width = kind_width tree.kind; words = tree.words.items }
 
--- the row that a span names, below so many others
+-- the node that a span names, with this many others above it
 abbrev pub node_at : ℕ → RowKind → Span → Node
 node_at depth kind x = record { span = x; row = row_in x.word; kind = kind; depth = depth }
 
--- a leaf by itself, and an inner row before what is below it
+-- a leaf by itself, and an inner node before what is below it
 abbrev pub with_below : ℕ → Option RowKind → Span → List Node → List Node
 with_below depth None x below = []
 with_below depth (Some Leaf) x below = node_at depth Leaf x ∷ []
 with_below depth (Some Inner) x below = node_at depth Inner x ∷ below
 with_below depth (Some Gapped) x below = node_at depth Gapped x ∷ below
 
--- the rows that are reached, at most so many levels deep, each row before its children, children from the left
+-- the nodes that are reached, at most this many levels deep, each node before its children, children from the left
 abbrev pub nodes_of : Table → ℕ → ℕ → Span → List Node
 nodes_of t zero depth x = []
 nodes_of t (suc levels) depth x = with_below depth (named_kind x.word) x (flat_map (nodes_of t levels (depth + 1)) (spans_in t x))
@@ -28,7 +28,7 @@ nodes_of t (suc levels) depth x = with_below depth (named_kind x.word) x (flat_m
 abbrev pub nodes_in : Table → ℕ → List Node
 nodes_in t root = nodes_of t deepest 0 (root_span t root)
 
--- the gap word of a slot, and 0 in a row without gaps
+-- the gap word of a slot, and 0 in a node without gaps
 abbrev pub gap_of_slot : Table → Node → ℕ → ℕ
 gap_of_slot t x slot = gap_by t x.kind x.row slot where
   gap_by : Table → RowKind → ℕ → ℕ → ℕ

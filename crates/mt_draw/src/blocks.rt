@@ -26,7 +26,7 @@ const BOTTOM: Px = Px(1060);
 /// The room from one column to the next.
 const ACROSS: Px = Px(24);
 
-/// A range or a hole, and where it stands.
+/// A range or a hole, and its place.
 #[derive(Clone, Copy)]
 struct Block {
     span: Span,
@@ -57,7 +57,7 @@ fn height_of(span: &Span) -> Px {
     LEAST + DOUBLING.times(length_of(span).max(1).ilog2() as usize)
 }
 
-/// What is told of a span beside its indexes.
+/// What is written of a span beside its indexes.
 #[derive(Clone, Copy)]
 struct Content(Span);
 

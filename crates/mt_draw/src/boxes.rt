@@ -1,4 +1,4 @@
-//! The picture of a tree's rows, each as a box with its slots.
+//! The picture of a tree's nodes, each as a box with its slots.
 
 ghost use Rattle.std.specs.Prelude.{◌≡◌};
 ghost use Rattle.mt_draw.specs.Marks.{mark_of};
@@ -13,14 +13,14 @@ use std::fmt;
 const NOTE: &str =
     "A box is a row, and a line a slot, which ends with its pivot (bold). Holes are hatched.";
 
-/// The picture of a tree's rows.
+/// The picture of a tree's nodes.
 #[derive(Clone, Copy)]
 pub struct Boxes<'a> {
     pub tree: &'a DrawnTree,
     pub layout: &'a PictureLayout,
 }
 
-/// What is said of a tree: its kind and how many rows, levels, ranges and holes it has.
+/// What is said of a tree: its kind and how many nodes, levels, ranges and holes it has.
 #[derive(Clone, Copy)]
 pub struct Sizes<'a>(pub &'a DrawnTree);
 
@@ -41,11 +41,11 @@ enum Mark {
     /// Indexes without an entry.
     Hole,
     Range,
-    /// A row below.
+    /// A node below.
     Child,
 }
 
-/// What a slot with this word is, in a row of this kind.
+/// What a slot with this word is, in a node of this kind.
 fn mark_of(kind: RowKind, word: u64) -> Mark
     ensures { result ≡ mark_of kind word }
 {
@@ -66,7 +66,7 @@ impl fmt::Display for Mark {
     }
 }
 
-/// A kind of rows, in a word, and the colours of such a box.
+/// A kind of nodes, in a word, and the colours of such a box.
 #[derive(Clone, Copy)]
 struct Look {
     name: &'static str,
@@ -107,7 +107,7 @@ impl fmt::Display for Ends {
     }
 }
 
-/// What stands in a slot of a row of this kind, beside its indexes.
+/// What is in a slot of a node of this kind, beside its indexes.
 #[derive(Clone, Copy)]
 struct Content {
     kind: RowKind,
@@ -145,7 +145,7 @@ impl<'a> Line<'a> {
         Ends(Indexes::of(self.tree.kind, &self.span), has_pivot)
     }
 
-    /// What stands beside them.
+    /// What is written beside them.
     fn content(&self) -> Content {
         let (kind, word, gap) = (self.node.kind, self.span.word, self.gap);
         Content { kind, word, gap }
@@ -185,7 +185,7 @@ impl<'a> fmt::Display for Line<'a> {
     }
 }
 
-/// The box of a row.
+/// The box of a node.
 #[derive(Clone, Copy)]
 struct Row<'a> {
     tree: &'a DrawnTree,
@@ -222,7 +222,7 @@ impl<'a> Row<'a> {
         )
     }
 
-    /// Writes the box and what stands above its slots, of which so many are used.
+    /// Writes the box and what is above its slots, of which this many are used.
     fn write_title<W: fmt::Write>(&self, f: &mut fmt::Formatter<W>, used: usize) -> fmt::Result {
         let at = Point(self.frame.x + Px(8), self.frame.y + Px(34));
         let indexes = Indexes::of(self.tree.kind, &self.node.span);
@@ -254,8 +254,8 @@ impl<'a> fmt::Display for Row<'a> {
     }
 }
 
-/// The line from a slot to the box below it. It goes down the nearer to its own box the more slots stand before it, so
-/// that no two lines cross.
+/// The line from a slot to the box below it. The more slots come before it, the nearer to its own box it goes down, so that no
+/// two lines cross.
 #[derive(Clone, Copy)]
 struct Link {
     from: Frame,
@@ -280,7 +280,7 @@ impl fmt::Display for Link {
 }
 
 impl<'a> Boxes<'a> {
-    /// Writes the lines from the slots of a row in this frame.
+    /// Writes the lines from the slots of a node in this frame.
     fn write_links<W: fmt::Write>(
         &self,
         f: &mut fmt::Formatter<W>,

@@ -8,9 +8,9 @@ ghost use Rattle.mt_draw.specs.Asked as defined;
 pub enum PictureForm {
     /// How the program is used.
     Help,
-    /// The picture of the rows.
+    /// The picture of the nodes.
     Rows,
-    /// The rows as the kernel prints them.
+    /// The nodes as the kernel prints them.
     Text,
     /// The picture of the ranges.
     Ranges,

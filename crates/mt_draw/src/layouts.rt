@@ -1,4 +1,4 @@
-//! Where the boxes of rows stand: the root at the left, children to the right of their row, the first beside it.
+//! Where the boxes of nodes are: the root at the left, children to the right of their parent, the first beside it.
 
 use crate::shapes::{Frame, Indexes, Px};
 use crate::trees::{DrawnTree, Node};
@@ -29,14 +29,14 @@ pub const ACROSS: Px = Px(80);
 /// The width of the narrowest box.
 const TITLE_WIDTH: Px = Px(200);
 
-/// Where a level stands.
+/// The place of a level.
 #[derive(Clone, Copy, Default)]
 struct Column {
     x: Px,
     width: Px,
 }
 
-/// Where all boxes stand, in the order of the rows.
+/// The places of all boxes, in the order of the nodes.
 #[derive(Drop)]
 pub struct PictureLayout {
     pub frames: Vec<Frame>,
@@ -44,7 +44,7 @@ pub struct PictureLayout {
     pub height: Px,
 }
 
-/// The width of what stands in a slot of a row.
+/// The width of what is in a slot of a node.
 fn width_of_word(node: &Node, gap: u64, span: &Span) -> Px {
     let child = Px::of_text(4) + Px::of_number(u64::from(row_of(span.word).unwrap_or(0)));
     match node.kind {
@@ -54,7 +54,7 @@ fn width_of_word(node: &Node, gap: u64, span: &Span) -> Px {
     }
 }
 
-/// The width of a row's box: that of its title, or of its widest line.
+/// The width of a node's box: that of its title, or of its widest line.
 fn width_of_box(tree: &DrawnTree, node: &Node) -> Px {
     let mut width = TITLE_WIDTH.max(Indexes::of(tree.kind, &node.span).width() + Px(16));
     for (slot, span) in tree.spans(node).as_slice().iter().enumerate() {
@@ -81,7 +81,7 @@ fn columns_of(alloc: Global, tree: &DrawnTree) -> Result<Vec<Column>, AllocError
     Ok(columns)
 }
 
-/// The boxes of these levels. Leaves stand one below the other, and each other row beside its first child.
+/// The boxes of these levels. Leaves are one below the other, and each other node is beside its first child.
 fn frames_of(
     alloc: Global,
     tree: &DrawnTree,
@@ -109,7 +109,7 @@ fn frames_of(
 }
 
 impl PictureLayout {
-    /// The boxes of a tree's rows.
+    /// The boxes of a tree's nodes.
     pub fn of(alloc: Global, tree: &DrawnTree) -> Result<PictureLayout, AllocError> {
         let columns = columns_of(alloc, tree)?;
         let frames = frames_of(alloc, tree, columns.as_slice())?;

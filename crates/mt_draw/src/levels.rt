@@ -1,4 +1,4 @@
-//! The map of a tree's levels, for trees with too many rows for boxes.
+//! The map of a tree's levels, for trees with too many nodes for boxes.
 
 use crate::boxes::Sizes;
 use crate::layouts::BORDER;
@@ -23,22 +23,22 @@ const TOP: Px = Px(96);
 /// The room that a line of text takes.
 const LINE: Px = Px(14);
 
-/// The height of a leaf, where that comes to no more than the greatest height of all bars.
+/// The height of a leaf, if that gives no more than the greatest height of all bars.
 const LEAF: Px = Px(3);
 
 const MOST: Px = Px(12_000);
 
-/// A leaf is so many units high, whatever a unit is in pixels.
+/// The height of a leaf in units, whatever a unit is in pixels.
 const UNITS: Px = Px(10);
 
-/// How many leaves stand before a row, and how many are below it.
+/// How many leaves come before a node, and how many are below it.
 #[derive(Clone, Copy, Default)]
 struct Extent {
     before: usize,
     leaves: usize,
 }
 
-/// How many rows a level has, how many of their slots are used, and of how many.
+/// How many nodes a level has, how many of their slots are used, and of how many.
 #[derive(Clone, Copy, Default)]
 struct Tally {
     rows: usize,
@@ -56,7 +56,7 @@ pub struct Levels<'a> {
     height: Px,
 }
 
-/// Counts the leaves below the row at this place, where those of its children are counted.
+/// Counts the leaves below the node at this place, where those of its children are counted.
 fn gather(extents: &mut [Extent], tree: &DrawnTree, node: &Node, place: usize) {
     if node.is_leaf() {
         return;
@@ -73,7 +73,7 @@ fn gather(extents: &mut [Extent], tree: &DrawnTree, node: &Node, place: usize) {
     }
 }
 
-/// The leaves before and below each row, and how many there are.
+/// The leaves before and below each node, and how many there are.
 fn extents_of(alloc: Global, tree: &DrawnTree) -> Result<(Vec<Extent>, usize), AllocError> {
     let mut extents = Vec::new(alloc);
     let mut before: usize = 0;
@@ -88,7 +88,7 @@ fn extents_of(alloc: Global, tree: &DrawnTree) -> Result<(Vec<Extent>, usize), A
     Ok((extents, before))
 }
 
-/// What each level comes to.
+/// The tally of each level.
 fn tallies_of(alloc: Global, tree: &DrawnTree) -> Result<Vec<Tally>, AllocError> {
     let mut tallies = vec![in alloc; Tally::default(); tree.height as usize]?;
     for node in &tree.nodes {
@@ -119,12 +119,12 @@ impl<'a> Levels<'a> {
         BORDER + (BAR + ACROSS).times(depth)
     }
 
-    /// How many pixels so many leaves are high.
+    /// How many pixels high this many leaves are.
     fn height_of(&self, leaves: usize) -> Px {
         self.height.part(leaves, self.leaves)
     }
 
-    /// Writes what a level comes to.
+    /// Writes the tally of a level.
     fn write_tally<W: fmt::Write>(
         &self,
         f: &mut fmt::Formatter<W>,
@@ -143,7 +143,7 @@ impl<'a> Levels<'a> {
         )
     }
 
-    /// Writes what the levels come to.
+    /// Writes the tallies of the levels.
     fn write_tallies<W: fmt::Write>(&self, f: &mut fmt::Formatter<W>) -> fmt::Result {
         for (depth, tally) in self.tallies.iter().enumerate() {
             self.write_tally(f, depth, tally)?;
@@ -178,7 +178,7 @@ impl<'a> Levels<'a> {
         writeln!(f, "</svg>")
     }
 
-    /// Where a text stands so far from the left end of a row's bar, of which this is the upper end.
+    /// The place of a text at this distance from the left end of a node's bar, of which this is the upper end.
     fn place_of(&self, node: &Node, upper: Px, across: Px) -> Point {
         let x = self.left(node.depth as usize) + across;
         Point(x, TOP + upper + Px(11))
@@ -196,7 +196,7 @@ impl<'a> Levels<'a> {
         writeln!(f, "<text {at} fill='#777'>{first}</text>")
     }
 
-    /// Writes the indexes of an inner row into its bar.
+    /// Writes the indexes of an inner node into its bar.
     fn write_within<W: fmt::Write>(
         &self,
         f: &mut fmt::Formatter<W>,
@@ -208,7 +208,7 @@ impl<'a> Levels<'a> {
         writeln!(f, "<text {at}>{indexes}</text>")
     }
 
-    /// Writes the indexes of the rows, where there is room for a text.
+    /// Writes the indexes of the nodes, where there is room for a text.
     fn write_indexes<W: fmt::Write>(&self, f: &mut fmt::Formatter<W>) -> fmt::Result {
         let mut free = Px(0);
         for (node, extent) in self.tree.nodes.iter().zip(self.extents.iter()) {
@@ -225,7 +225,7 @@ impl<'a> Levels<'a> {
     }
 }
 
-/// A row as a bar, and how much of its width stands for ranges or children, and for holes.
+/// A node as a bar, and how much of its width is for ranges or children, and for holes.
 #[derive(Clone, Copy)]
 struct Bar {
     row: u32,
@@ -235,7 +235,7 @@ struct Bar {
 }
 
 impl Bar {
-    /// The bar of a row in this frame.
+    /// The bar of a node in this frame.
     fn of(tree: &DrawnTree, node: &Node, frame: Frame) -> Bar {
         let (spans, slots) = (tree.spans(node), tree.slots(node));
         let holes = count_holes(spans.as_slice());

@@ -1,5 +1,5 @@
-//! Draws the image of a tree, which it reads from its input: each row as a box, or where there are many as a map of levels.
-//! `--text` prints the rows as the kernel's `mt_dump` does, and `--ranges` draws the ranges along a line.
+//! Draws the image of a tree, which it reads from its input: each node as a box, or where there are many as a map of levels.
+//! `--text` prints the nodes as the kernel's `mt_dump` does, and `--ranges` draws the ranges along a line.
 #![tactic(auto)]
 
 ghost use Rattle.std.specs.Prelude.{◌≡◌, Err, IfOk, string_bytes};
@@ -33,13 +33,13 @@ use std::process::ExitCode;
 use std::rt::Env;
 use std::{env, io};
 
-/// A tree with more rows is drawn as a map of its levels.
+/// A tree with more nodes is drawn as a map of its levels.
 const MOST_BOXES: usize = 200;
 
-/// An image has so many bytes at the most: those of 65,504 narrow rows behind its head.
+/// The greatest number of bytes of an image: 65,504 narrow nodes after its head.
 const LONGEST: u64 = 33_538_080;
 
-/// What fails, where that is not for want of memory.
+/// What fails, where that is not for lack of memory.
 fn unless_memory(error: &io::Error, other: DrawFailure) -> DrawFailure {
     match error.kind() {
         ErrorKind::OutOfMemory => DrawFailure::NoMemory,
@@ -56,7 +56,7 @@ fn words_of(rt: &(impl Env + AllocGlobal)) -> Result<Vec<String>, DrawFailure> {
         .map_err(|_| DrawFailure::NoMemory)
 }
 
-/// The bytes of the input, and of one that is longer than any image no more than tell it.
+/// The bytes of the input. If it is longer than any image, only enough of them to show that.
 fn read_input(rt: &(impl Input + AllocGlobal)) -> Result<Vec<u8>, DrawFailure> {
     let mut bytes = Vec::new(rt.alloc());
     match rt.reader().take(LONGEST + 1).read_to_end(&mut bytes) {
@@ -65,7 +65,7 @@ fn read_input(rt: &(impl Input + AllocGlobal)) -> Result<Vec<u8>, DrawFailure> {
     }
 }
 
-/// A tree as the picture of its rows: each as a box where there are few.
+/// A tree as the picture of its nodes: each as a box where there are few.
 fn picture(alloc: Global, tree: &DrawnTree) -> Result<String, AllocError> {
     if tree.nodes.len() <= MOST_BOXES {
         let layout = PictureLayout::of(alloc, tree)?;

@@ -26,7 +26,7 @@ impl Px {
         Px(self.0 / 2)
     }
 
-    /// The width of a text of so many letters.
+    /// The width of a text of this many letters.
     pub fn of_text(letters: usize) -> Px {
         Px((letters as u64).saturating_mul(29) / 4)
     }
@@ -60,7 +60,7 @@ impl fmt::Display for Px {
     }
 }
 
-/// Where a text stands.
+/// The place of a text.
 #[derive(Clone, Copy)]
 pub struct Point(pub Px, pub Px);
 
@@ -71,7 +71,7 @@ impl fmt::Display for Point {
     }
 }
 
-/// Where a rectangle stands.
+/// The place of a rectangle.
 #[derive(Clone, Copy)]
 pub struct Frame {
     pub x: Px,

@@ -1,4 +1,4 @@
-//! The rows in the form in which the kernel's `mt_dump` prints them, with decimal indexes.
+//! The nodes in the form in which the kernel's `mt_dump` prints them, with decimal indexes.
 
 ghost use Rattle.std.specs.Prelude.{◌≡◌, ◌≤◌, Some};
 ghost use Rattle.mt_layout.specs.Sizes.{run_room};
@@ -26,7 +26,7 @@ impl fmt::Display for Pointer {
     }
 }
 
-/// Two spaces for each row above.
+/// Two spaces for each node above.
 #[derive(Clone, Copy)]
 struct Indent(u32);
 
@@ -41,7 +41,7 @@ impl fmt::Display for Indent {
     }
 }
 
-/// The indexes of a row or an entry.
+/// The indexes of a node or an entry.
 #[derive(Clone, Copy)]
 struct Indexes(Span);
 
@@ -75,7 +75,7 @@ impl fmt::Display for Entry {
     }
 }
 
-/// The number by which the kernel knows a kind of rows.
+/// The number by which the kernel knows a kind of nodes.
 fn type_of(kind: RowKind) -> u32
     ensures { result ≡ defined.type_of kind }
 {
@@ -86,7 +86,7 @@ fn type_of(kind: RowKind) -> u32
     }
 }
 
-/// The gap words of a row, of which each slot has one.
+/// The gap words of a node, of which each slot has one.
 #[derive(Clone, Copy)]
 struct Gaps<'a> {
     tree: &'a DrawnTree,
@@ -105,14 +105,14 @@ impl<'a> fmt::Display for Gaps<'a> {
     }
 }
 
-/// What stands in the slot of this number, and zeros where no slot is used.
+/// What is in the slot of this number, and zeros if no slot is used.
 fn slot_at(spans: &Spans, slot: usize) -> Span
     ensures { result ≡ defined.slot_at spans.now.items slot }
 {
     spans.get(slot).copied().unwrap_or_default()
 }
 
-/// The slots of a row but the last, each with its pivot.
+/// The slots of a node but the last, each with its pivot.
 #[derive(Clone, Copy)]
 struct Pairs<'a> {
     tree: &'a DrawnTree,
@@ -164,7 +164,7 @@ impl fmt::Display for Meta {
     }
 }
 
-/// What stands before the slots of a row with gaps, and nothing in another.
+/// What comes before the slots of a node with gaps, and nothing in any other.
 #[derive(Clone, Copy)]
 struct Heads<'a> {
     tree: &'a DrawnTree,
@@ -188,7 +188,7 @@ impl<'a> fmt::Display for Heads<'a> {
     }
 }
 
-/// The columns of a row as words, as the kernel orders them.
+/// The columns of a node as words, as the kernel orders them.
 #[derive(Clone, Copy)]
 struct Contents<'a> {
     tree: &'a DrawnTree,
@@ -207,7 +207,7 @@ impl<'a> fmt::Display for Contents<'a> {
     }
 }
 
-/// What stands in the slots of a leaf, a line for each, and nothing of an inner row.
+/// What is in the slots of a leaf, a line for each, and nothing of an inner node.
 #[derive(Clone, Copy)]
 struct Entries<'a> {
     tree: &'a DrawnTree,
@@ -231,7 +231,7 @@ impl<'a> fmt::Display for Entries<'a> {
     }
 }
 
-/// What a row's line begins with.
+/// What a node's line begins with.
 #[derive(Clone, Copy)]
 struct Title<'a> {
     tree: &'a DrawnTree,
@@ -252,7 +252,7 @@ impl<'a> fmt::Display for Title<'a> {
     }
 }
 
-/// The lines of a row.
+/// The lines of a node.
 #[derive(Clone, Copy)]
 struct Row<'a> {
     tree: &'a DrawnTree,
@@ -270,7 +270,7 @@ impl<'a> fmt::Display for Row<'a> {
     }
 }
 
-/// All rows of a tree.
+/// All nodes of a tree.
 #[derive(Clone, Copy)]
 struct Rows<'a>(&'a DrawnTree);
 

@@ -1,4 +1,4 @@
-//! The rows of a tree, as they are drawn.
+//! The nodes of a tree, as they are drawn.
 
 ghost use Rattle.std.specs.Prelude.{◌≡◌, ◌↔◌, ◌+◌, ◌^◌, ◌≤◌, ◌<◌, ◌++◌, IfOk, IsTrue};
 ghost use Rattle.mt_base.specs.Width.{kind_width, deepest};
@@ -17,7 +17,7 @@ use mt_rows::plain_trees::{height_in, spans_in};
 use mt_rows::{PlainRows, Rows};
 use std::alloc::Global;
 
-/// A row: the indexes that it covers with the word that leads to it, its number and kind, and how many rows are above it.
+/// A node: the indexes that it covers with the word that leads to it, its number and kind, and how many nodes are above it.
 #[derive(Clone, Copy)]
 pub struct Node {
     pub span: Span,
@@ -35,7 +35,7 @@ impl Node {
     }
 }
 
-/// What stands in the slots of a row, from the first to the last that is used.
+/// What is in the slots of a node, from the first to the last that is used.
 pub type Spans = ArrayVec<Span, RUN_ROOM>;
 
 /// How many of these are holes.
@@ -43,7 +43,7 @@ pub fn count_holes(spans: &[Span]) -> usize {
     spans.iter().filter(|span| span.word == 0).count()
 }
 
-/// A tree, its rows in the order of a walk: each before its children, children from the left. They are numbered so.
+/// A tree, its nodes in the order of a walk: each before its children, children from the left. They are numbered so.
 #[derive(Drop)]
 pub struct DrawnTree {
     pub kind: Kind,
@@ -53,7 +53,7 @@ pub struct DrawnTree {
     words: Vec<u64>,
 }
 
-/// Appends the rows that are reached from a word, at most so many levels deep.
+/// Appends the nodes that are reached from a word, at most this many levels deep.
 #[tactic(auto, using(crate::proofs::Walks::nodes_of_leaf, crate::proofs::Walks::nodes_of_inner))]
 fn push_nodes(
     width: Width,
@@ -91,7 +91,7 @@ fn push_nodes(
 }
 
 impl DrawnTree {
-    /// The tree of this kind whose rows these are.
+    /// The tree of this kind whose nodes these are.
     pub fn of(alloc: Global, kind: Kind, mut rows: PlainRows) -> Result<DrawnTree, NoMemory>
         requires good { IsGood kind (sheet_in rows).tree }
         ensures kind { IfOk result (λ tree. tree.kind ≡ kind) }
@@ -127,21 +127,21 @@ impl DrawnTree {
         width_of(self.kind)
     }
 
-    /// How many slots a row has.
+    /// How many slots a node has.
     pub fn slots(&self, node: &Node) -> usize
         ensures { result ≡ slots_of (kind_width self.now.kind) node.now.kind }
     {
         slots(self.width(), node.kind) as usize
     }
 
-    /// What stands in the slots of a row.
+    /// What is in the slots of a node.
     pub fn spans(&self, node: &Node) -> Spans
         ensures { result.items ≡ defined.spans_in (table_of self.now) node.now.span }
     {
         spans_in(self.width(), &self.words, &node.span)
     }
 
-    /// A column of a row.
+    /// A column of a node.
     fn column(&self, row: u32, col: usize) -> u64
         requires { col < 2 ^ 32 }
         ensures { result ≡ column (table_of self.now) row col }
@@ -150,14 +150,14 @@ impl DrawnTree {
         self.words.get(base + col).copied().unwrap_or(0)
     }
 
-    /// The parent word of a row.
+    /// The parent word of a node.
     pub fn parent(&self, node: &Node) -> u64
         ensures { result ≡ column (table_of self.now) node.now.row 0 }
     {
         self.column(node.row, 0)
     }
 
-    /// The longest hole below a slot, as the row tells it, and 0 in a row without gaps.
+    /// The longest hole below a slot, by the node's gap word, and 0 in a node without gaps.
     pub fn gap(&self, node: &Node, slot: usize) -> u64
         requires { slot ≤ run_room }
         ensures { result ≡ gap_of_slot (table_of self.now) node.now slot }
@@ -168,7 +168,7 @@ impl DrawnTree {
         }
     }
 
-    /// The place among all of the row that a word leads to.
+    /// The place among all of the node that a word leads to.
     pub fn place_of(&self, word: u64) -> usize {
         row_of(word).unwrap_or(0).saturating_sub(FIRST_ROW) as usize
     }

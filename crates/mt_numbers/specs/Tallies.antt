@@ -13,13 +13,13 @@ pub record Balances (held : ℕ) (t : Tally) : Type 0 where
   pub each : t.taken ≡ held + t.given_back + t.lost
   pub moments : t.clashes ≤ t.taken + t.given_back + t.lost
 
--- From one tally to another just so many numbers were taken and given back as are told before and afterwards.
+-- From one tally to another, exactly as many numbers were taken and given back as the counts before and after say.
 pub record IsTallied (t u : Tally) (took took' gave gave' : ℕ) : Type 0 where
   pub more : t.taken ≤ u.taken
   pub taken : took' + t.taken ≡ took + u.taken
   pub given_back : gave' + t.given_back ≡ gave + u.given_back
 
--- the line of a thread, behind its number
+-- the line of a thread, after its number
 abbrev pub thread_text : ThreadOutcome → List ℕ
 thread_text (Took t) = codes "took " ++ decimal t.taken ++ codes " and gave " ++ decimal t.given_back ++ codes " back"
 thread_text (Read faults) = codes "read all " ++ decimal READS ++ codes " times and saw " ++ decimal faults ++ codes " faults"

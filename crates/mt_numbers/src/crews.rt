@@ -108,7 +108,7 @@ pub fn outcomes_of<N: Drop>(
     Ok(outcomes)
 }
 
-/// What came of the threads' work, and how many numbers are taken in the end.
+/// The result of the threads' work, and how many numbers are taken at the end.
 #[derive(Drop)]
 pub struct Report {
     pub outcomes: Vec<ThreadOutcome>,
@@ -132,7 +132,7 @@ impl fmt::Display for Report {
     }
 }
 
-/// The tasks of the passes: the first ones take, the others read.
+/// The tasks of the handles: the first ones take numbers, the others read.
 fn tasks_of<'a, R: Wait>(
     alloc: Global,
     rt: &'a R,

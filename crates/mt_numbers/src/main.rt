@@ -1,6 +1,6 @@
-//! Threads take numbers from one tree and give them back, while others look numbers up and go through those that are taken.
-//! It prints how many each thread took and gave back, and whether a number was ever held twice; and then what is told of
-//! numbers that are handed out twice each.
+//! Threads take numbers from one tree and give them back, while others look numbers up and go through those that are taken. It
+//! prints how many each thread took and gave back, and whether a number was ever held twice. Then it prints what it finds if
+//! numbers are handed out twice each.
 #![tactic(auto)]
 
 mod crews;

@@ -20,7 +20,7 @@ impl Marks {
         Ok(Marks { held })
     }
 
-    /// Marks a number as held, or as free. It tells whether the number is one of the table, and was marked otherwise.
+    /// Marks a number as held, or as free. Returns whether the number is one of the table, and was marked otherwise.
     pub fn turn(&self, number: u64, held: bool) -> bool {
         self.held
             .get(number as usize)

@@ -7,8 +7,8 @@ pub const NUMBERS: u64 = 64;
 
 /// A thread's way to the numbers that threads share.
 ///
-/// Its meanings are how often it took a number, and how often it gave one back; and of two moments, that a number was asked for
-/// and this one was told, and that this number was given back and it was told whether it was taken.
+/// Its meanings are how often it took a number, and how often it gave one back. And of two moments: that a number was asked for
+/// and this one returned, and that this number was given back and the result is whether it was taken.
 pub trait Numbers {
     ghost taken: { Self → ℕ };
 
@@ -24,7 +24,7 @@ pub trait Numbers {
         ensures taken { MatchOption result (taken self.new ≡ taken self.old) (λ _. taken self.new ≡ taken self.old + 1) }
         ensures given_back { given_back self.new ≡ given_back self.old };
 
-    /// Gives a number back. It tells whether the number was taken.
+    /// Gives a number back. Returns whether it was taken.
     fn give_back(&mut self, number: u64) -> bool
         ensures number { gave self.old number result self.new }
         ensures taken { taken self.new ≡ taken self.old }

@@ -13,7 +13,7 @@ use std::sync::ledger::{Blank, Ledger};
 /// A reader looks each number up and goes through all that are taken, so often.
 pub const READS: u32 = 50;
 
-/// A thread that reads, by a pass of the tree, and how often it saw what cannot be.
+/// A thread that reads, by a handle of the tree, and how often it saw what cannot be.
 #[derive(Drop)]
 pub struct ReadingThread<'a> {
     tree: &'a Tree,
@@ -51,7 +51,7 @@ impl<'a> ReadingThread<'a> {
         }
     }
 
-    /// Looks each number up. It tells whether each was free or taken.
+    /// Looks each number up. Returns whether each was free or taken.
     fn look_up<L: Ledger>(&mut self, steps: &mut Steps<L>) -> bool {
         for number in 0..NUMBERS {
             let entry = self.tree.load(&mut self.pass, number, steps).value;
@@ -62,7 +62,7 @@ impl<'a> ReadingThread<'a> {
         true
     }
 
-    /// Goes through all numbers that are taken. It tells whether each is above the one before.
+    /// Goes through all numbers that are taken. Returns whether each is above the one before.
     fn walk<L: Ledger>(&mut self, steps: &mut Steps<L>) -> bool {
         let mut cursor = self.tree.cursor(&mut self.pass, 0, NUMBERS - 1);
         let rising = rises(&mut cursor, steps);
@@ -70,7 +70,7 @@ impl<'a> ReadingThread<'a> {
         rising
     }
 
-    /// Does both, so often, and tells how often something was seen that cannot be.
+    /// Does both `ROUNDS` times, and returns how often something was seen that cannot be.
     fn count_faults<L: Ledger>(&mut self, blank: Blank) -> u32
         requires name { blank.name ≡ L.name }
         requires parts { blank.parts ≡ L.parts }

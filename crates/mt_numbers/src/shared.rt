@@ -17,7 +17,7 @@ use std::sync::Wait;
 /// What the tree holds at a number that is taken.
 pub const TAKEN: u64 = 1;
 
-/// A tree with no number taken, and so many passes on it. It has more rows than the calls of all threads can want together, so
+/// A tree with no number taken, and its passes (handles). It has more nodes than the calls of all threads can need together, so
 /// that no call lacks one, whatever readers hold.
 pub fn make(alloc: Global, passes: u32) -> io::Result<(Tree, Vec<Pass>)>
     ensures of { IfOk result (λ r. All (IsPassOf r.0) r.1.items) }
@@ -36,7 +36,7 @@ pub fn make(alloc: Global, passes: u32) -> io::Result<(Tree, Vec<Pass>)>
     }
 }
 
-/// A thread's pass on the tree.
+/// A thread's pass (handle) on the tree.
 #[derive(Drop)]
 pub struct Caller<'a, R> {
     rt: &'a R,

@@ -8,10 +8,10 @@ use crate::marks::Marks;
 use crate::numbers::Numbers;
 use std::alloc::{AllocError, Global};
 
-/// A taker holds so many numbers at once.
+/// How many numbers a taker holds at once.
 const HELD: usize = 5;
 
-/// It takes so many and gives them back, so often.
+/// How often it takes that many and gives them back.
 const ROUNDS: u32 = 50;
 
 /// It counts so far.
@@ -110,7 +110,7 @@ impl<N: Numbers + Drop> Taker<N> {
         }
     }
 
-    /// Takes numbers and gives them back, so often. The tally tells what came of it.
+    /// Takes numbers and gives them back, `ROUNDS` times. The tally has the result.
     pub fn work(&mut self, marks: &Marks)
         ensures all_back { self.new.tally.taken ≡ self.new.tally.given_back + self.new.tally.lost }
         ensures most { self.new.tally.taken ≤ ROUNDS * HELD }

@@ -1,4 +1,4 @@
-//! Numbers of which each is handed out twice, and what the work on them is told to be.
+//! Numbers of which each is handed out twice, and the report of the work on them.
 
 ghost use Rattle.std.specs.Prelude.{⊤};
 
@@ -9,7 +9,7 @@ use std::alloc::Global;
 use std::io;
 use std::thread::Threads;
 
-/// Numbers that are handed out twice each, one behind the other.
+/// Numbers that are handed out twice each, one after the other.
 #[derive(Drop)]
 struct Twice {
     taken: u64,
@@ -42,7 +42,7 @@ impl Numbers for Twice {
     }
 }
 
-/// Has one thread at work on such numbers, and prints what came of it: the marks tell each number that was held twice.
+/// Has one thread work on such numbers, and prints the result: the marks show each number that was held twice.
 pub fn work_on_twice<R: Threads + Print + Sync>(rt: &R, alloc: Global) -> io::Result<()> {
     let numbers = Twice {
         taken: 0,
