@@ -2,7 +2,7 @@
 use Rattle.std.specs.Prelude.{◌≡◌, ℕ, ◌+◌, ◌-◌, ◌^◌, ◌<◌, ◌≤◌, min, OnOk, OnErr}
 use Rattle.std.specs.declared.result.Result.{Result}
 
--- a count of 64 bits rose, or stands at its last value
+-- a count of 64 bits rose, or is at its last value
 pub record Rose (before now : ℕ) : Type 0 where
   pub kept : before ≤ now
   pub more : min (before + 1) (2 ^ 64 - 1) ≤ now
@@ -12,8 +12,7 @@ pub record HasCause {T E : Type 0} (before now : ℕ) (result : Result T E) : Ty
   pub ok : OnOk result (now ≡ before)
   pub failed : OnErr result (Rose before now)
 
--- What a call does to the count of late calls: a call that began with a fault behind it is late, and one that
--- began with none is not.
+-- What a call does to the count of late calls. A call that began after a fault is late; one that began with none is not.
 pub record CountsLate (faults before now : ℕ) : Type 0 where
   pub kept : before ≤ now
   pub late : 0 < faults → 0 < now

@@ -3,7 +3,7 @@ use Rattle.std.specs.Prelude.{ℕ, Bool, List, ◌++◌, Result, Ok, Err, ◌+�
 use Rattle.std.specs.List.{list_any}
 use Rattle.mt_io.specs.declared.traits.Failed.{Failed}
 
--- a count of 64 bits after one more, which stands still at its last value
+-- a count of 64 bits after one more, which stays at its last value
 abbrev pub one_more : ℕ → ℕ
 one_more n = min (n + 1) (2 ^ 64 - 1)
 
@@ -14,8 +14,8 @@ late_after faults late = if nat_lt 0 faults then one_more late else late
 abbrev pub is_listed : ℕ → List ℕ → Bool
 is_listed call fails = list_any (λ n. n == call) fails
 
--- A source in memory: the bytes to come, the most at a call, the numbers (from 0) of the calls that fail, and how
--- many calls, faults and late calls there were.
+-- A source in memory: the bytes to come, the most at a call, and the numbers (from 0) of the calls that fail. And how many
+-- calls, faults and late calls there were.
 pub record Giving : Type 0 where
   pub left : List ℕ
   pub piece : ℕ
@@ -44,8 +44,8 @@ after_read s room = record {
   late = late_after s.faults s.late;
 }
 
--- A sink in memory: the bytes written, how many it takes in all and at a call, the numbers (from 0) of the calls
--- that fail, and how many calls, faults and late calls there were.
+-- A sink in memory: the bytes written, how many it takes in all and at a call, and the numbers (from 0) of the calls that fail.
+-- And how many calls, faults and late calls there were.
 pub record Taking : Type 0 where
   pub written : List ℕ
   pub room : ℕ

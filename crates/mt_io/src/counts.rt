@@ -4,7 +4,7 @@ ghost use Rattle.mt_io.specs.Memory.{one_more, late_after};
 
 use crate::traits::Failed;
 
-/// How many faults there were, and how many calls came after one. A count stands still at its last value.
+/// How many faults there were, and how many calls came after one. A count stays at its last value.
 #[derive(Clone, Copy, Debug, PartialEq, Eq)]
 pub struct Counts {
     pub faults: u64,

@@ -106,8 +106,8 @@ impl Source for MemSource {
     }
 }
 
-/// Takes bytes, at most `piece` at a call and `room` in all. The calls whose numbers, from 0, are in `fails` fail, and
-/// so does a write of a piece that is not empty where there is no room left.
+/// Takes bytes, at most `piece` at a call and `room` in all. The calls whose numbers, from 0, are in `fails` fail. A write of a
+/// piece that is not empty fails too if there is no room left.
 #[derive(Drop)]
 pub struct MemSink {
     bytes: Vec<u8>,

@@ -8,7 +8,7 @@ use crate::traits::{Failed, Sink, Source};
 use std::io::{Read, Write};
 use std::marker::Model;
 
-/// Reads from a reader of std, and buffers nothing. Through [`Source`] it tells no bytes.
+/// Reads from a reader of std, without a buffer. As a [`Source`] it does not reveal its bytes to clauses.
 #[derive(Drop)]
 pub struct StdSource<T: Read> {
     reader: T,
@@ -67,8 +67,8 @@ impl<T: Read> Source for StdSource<T> {
     }
 }
 
-/// Writes to a writer of std, and buffers nothing. Through [`Sink`] it tells no bytes. A write that took nothing of a
-/// piece that is not empty is a fault too.
+/// Writes to a writer of std, without a buffer. As a [`Sink`] it does not reveal its bytes to clauses. A write that took
+/// nothing of a piece that is not empty is a fault too.
 #[derive(Drop)]
 pub struct StdSink<T: Write> {
     writer: T,

@@ -9,8 +9,8 @@ pub struct Failed;
 
 /// Where bytes come from.
 ///
-/// Its meanings are the bytes `left`, told or not, the number of `faults` so far, and `late`, which rises only at a call
-/// that is made after a fault.
+/// Its meanings are the bytes `left`, if it reveals them; the number of `faults` so far; and `late`, which rises only at a call
+/// after a fault.
 pub trait Source {
     ghost left: { Self → Option (List ℕ) };
 
@@ -32,7 +32,7 @@ pub trait Source {
 
 /// Where bytes go.
 ///
-/// Its meanings are the bytes `written`, told or not, the number of `faults` so far, and `late`, as for a [`Source`].
+/// Its meanings are the bytes `written`, if it reveals them; the number of `faults` so far; and `late`, as for a [`Source`].
 pub trait Sink {
     ghost written: { Self → Option (List ℕ) };
 
@@ -62,7 +62,7 @@ pub trait Sink {
 pub trait Gate {
     ghost passed: { Self → ℕ → ℕ → Type 0 } = { λ _ _ _. ⊤ };
 
-    /// Waits until the lane may pass this turn.
+    /// Waits until the lane (thread) may pass this turn.
     fn turn(&self, lane: u32, number: u64)
         ensures { passed self.now lane number };
 }

@@ -1,5 +1,5 @@
--- The rule of a keep: one seat at most has the value, which is of the place of the keep; and each visit of its history took what the one
--- before had given back.
+-- The rule of a keep (a try-lock with a value): at most one seat has the value, which is of the keep's place. Each visit of its
+-- history took what the one before had given back.
 -- Source: this project's own; the kernel's spin_trylock.
 use Rattle.std.specs.Prelude.{◌≡◌, ◌≢◌, ◌+◌, ℕ, [], ◌∷◌, Bool, true, false, List, Option, Some, None}
 use mathlib.Core.Option.{some, none}
@@ -16,7 +16,7 @@ use Rattle.mt_keep.specs.declared.keep.Sight.{Sight}
 use Rattle.mt_keep.specs.declared.keep.Start.{Start}
 
 module _ {C K : Type 0} where
-  -- of a keep that began so, and so many cuts from its first chair
+  -- of a keep that began so, and this many cuts from its first chair
   abbrev pub waiting : Start C K → ℕ → Sight C K
   waiting key cuts = record { holds = false; held = false; refused = false; took = None; gave = None; of = key; cuts = cuts }
 
@@ -32,11 +32,11 @@ module _ {C K : Type 0} where
   abbrev pub refused : Start C K → ℕ → Sight C K
   refused key cuts = record { holds = false; held = false; refused = true; took = None; gave = None; of = key; cuts = cuts }
 
-  -- the first chair of a keep
+  -- the first chair (token) of a keep
   abbrev pub first_chair : Start C K → Sight C K
   first_chair key = waiting key 0
 
-  -- what a cut makes of a seat, and of the one that is cut off
+  -- what a cut does to a seat, and to the one that is cut off
   abbrev pub one_further : Sight C K → Sight C K
   one_further v = record v { cuts = v.cuts + 1 }
 
@@ -44,16 +44,16 @@ module _ {C K : Type 0} where
   cuts_in [] = 0
   cuts_in (v ∷ rest) = v.cuts
 
-  -- how many cuts a seat is from the first chair
+  -- how many cuts away a seat is from the first chair
   abbrev pub cuts_of : Badge (Sight C K) → ℕ
   cuts_of chair = cuts_in chair.views
 
-  -- The chair is at this keep.
+  -- The chair (token) is at this keep.
   pub record IsSeatedAt (keep : TableId) (key : Start C K) (chair : Badge (Sight C K)) : Type 0 where
     pub table : chair.table_id ≡ keep
     pub views : chair.views ≡ waiting key (cuts_of chair) ∷ []
 
-  -- The seat has the value of this keep, which was this when it took it.
+  -- The seat has the value of this keep. This is what it was when the seat took it.
   pub record IsTakenOf {S : Type 0} (keep : TableId) (key : Start C K) (took : Snapshot C) (seat : Seat S (Sight C K)) : Type 0 where
     pub table : seat.table_id ≡ keep
     pub view : seat.me.0 ≡ holding key seat.me.0.cuts took
@@ -63,7 +63,7 @@ module _ {C K : Type 0} where
     pub table : busy.seat.table_id ≡ keep
     pub views : busy.seat.views ≡ refused key (cuts_of busy.seat) ∷ []
 
-  -- It is of a seat that has taken the value from this keep, and given one back, as it tells.
+  -- It is of a seat that has taken the value from this keep, and given one back: these are the two.
   pub record IsGivenAt (keep : TableId) (key : Start C K) (given : Given C K) : Type 0 where
     pub table : given.seat.table_id ≡ keep
     pub views : given.seat.views ≡ given_back key (cuts_of given.seat) given.took given.gave ∷ []
@@ -82,7 +82,7 @@ pub record Visit (C : Type 0) : Type 0 where
   pub gave : Snapshot C
 
 module _ {C : Type 0} where
-  -- The value that is there, or that was there last. The last visit stands first.
+  -- The value that is there, or that was there last. The last visit comes first.
   abbrev pub last_of : Snapshot C → List (Visit C) → Snapshot C
   last_of first [] = first
   last_of first (v ∷ before) = v.gave
@@ -102,16 +102,17 @@ module _ {C K : Type 0} (fits : K → C → Type 0) where
   abbrev pub BelongsTo : K → Option C → Type 0
   BelongsTo place slot = (value : C) × (slot ≡ Some value) × fits place value
 
-  -- A seat knows the place. The one that has the value is the holder, and then the slot is away. One has found the value away
-  -- only where it was ever taken. One that gave the value back has made a visit, which took and gave the values that it knows.
+  -- A seat knows the place. The one that has the value is the holder, and then the slot is away. A seat has found the value
+  -- away only if it was ever taken. A seat that gave the value back has made a visit, which took and gave the values that it
+  -- knows.
   pub record SeatFits (key : Start C K) (holder : ℕ) (home : maybe.Option (Option C)) (ever : Bool) (visits : List (Visit C)) (by : ℕ) (v : Sight C K) : Type 0 where
     pub of : v.of ≡ key
     pub holds : v.holds ≡ true → (by ≡ holder) × (home ≡ none)
     pub refused : v.refused ≡ true → ever ≡ true
     pub gave : (gave : Snapshot C) → v.gave ≡ Some gave → (n : ℕ) × (took : Snapshot C) × (v.took ≡ Some took) × (get_elem? visits n ≡ some (record { by = by; cuts = v.cuts; took = took; gave = gave }))
 
-  -- While the slot is away one seat says that it has the value: it goes on saying so until the slot is home and the word 0.
-  -- Where the value was ever taken, the seat that took it last says that it has had it. Each visit is of a seat that says so.
+  -- While the slot is away, one seat says that it has the value: it goes on saying so until the slot is home and the word 0. If
+  -- the value was ever taken, the seat that took it last says that it has had it. Each visit is of a seat that says so.
   pub record HasOneHolder (key : Start C K) (s : State (Option C) (Sight C K)) : Type 0 where
     pub holder : ℕ
     pub home : maybe.Option (Option C)
@@ -127,7 +128,7 @@ module _ {C K : Type 0} (fits : K → C → Type 0) where
     pub made : (n : ℕ) (v : Visit C) → get_elem? visits n ≡ some v → get_elem? s.views v.by ≡ some (given_back key v.cuts v.took v.gave)
     pub each : (by : ℕ) (v : Sight C K) → get_elem? s.views by ≡ some v → SeatFits key holder home ever visits by v
 
-  -- A swap of 1 into the word: where it was 0, the seat then has the value; else it has found it away.
+  -- A swap of 1 into the word. If it was 0, the seat then has the value; otherwise it has found it away.
   pub record Grabbed (me : Me (Option C) (Sight C K)) (found : ℕ) (me' : Me (Option C) (Sight C K)) : Type 0 where
     pub free : found ≡ 0 → (took : Snapshot C) × (me' ≡ (holding me.0.of me.0.cuts took, (0, Some took.value) ∷ me.1)) × fits me.0.of.place.value took.value
     pub taken : found ≢ 0 → me' ≡ (refused me.0.of me.0.cuts, me.1)

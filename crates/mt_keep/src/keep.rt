@@ -21,7 +21,7 @@ pub struct Start<C, K> {
     pub first: Snapshot<C>,
 }
 
-/// What a seat knows. None is made when the program runs.
+/// What a seat knows. It is ghost: none is made at run time.
 pub struct Sight<C, K> {
     /// Whether it has the value, and whether it has had it.
     pub holds: bool,
@@ -33,22 +33,22 @@ pub struct Sight<C, K> {
     pub gave: Option<Snapshot<C>>,
     /// The place that the value is of, and the value that the keep began with.
     pub of: Start<C, K>,
-    /// How many cuts it is from the first chair: who takes the value, and who makes a chair, cuts a seat off his own, and both are
-    /// one further then.
+    /// How many cuts it is away from the first chair. Who takes the value, or makes a chair, cuts a seat off its own, and both
+    /// are then one further.
     pub cuts: u64,
 }
 
 /// Whoever has one may take the value. It has no bytes.
 pub type Chair<C, K> = Badge<Sight<C, K>>;
 
-/// What is told by who has found a keep's value away. Only a step at the keep makes one: it has no bytes.
+/// The receipt of finding a keep's value away. Only a step at the keep makes one, and it has no bytes.
 #[derive(Drop)]
 pub struct Busy<C, K> {
     seat: Badge<Sight<C, K>>,
 }
 
-/// What is told by who has given a keep's value back: what it was when he took it, and what it is now. Only a step at the keep makes
-/// one: it has no bytes.
+/// The receipt of giving a keep's value back: what it was when it was taken, and what it is now. Only a step at the keep makes
+/// one, and it has no bytes.
 #[derive(Drop)]
 pub struct Given<C, K> {
     took: Snapshot<C>,
@@ -113,7 +113,7 @@ pub struct Taken<C: Placed<K>, K> {
 }
 
 impl<C: Placed<K> + Drop, K> Keep<C, K> {
-    /// A keep of this value, and the first chair at it. Where there is no memory the value is dropped.
+    /// A keep of this value, and the first chair (token) at it. If there is no memory, the value is dropped.
     ///
     /// # Errors
     ///
@@ -165,13 +165,13 @@ impl<C: Placed<K>, K> Keep<C, K> {
         self.seat(chair).into_badge()
     }
 
-    /// Takes the value, if it is in the slot: by one swap of a seat that is cut off the chair. What is told of that seat has the
-    /// number of cuts that the chair has then.
+    /// Takes the value, if it is in the slot: by one swap of a seat that is cut off the chair. That seat's receipt has the
+    /// number of cuts that the chair then has.
     ///
     /// # Errors
     ///
-    /// `Busy` where the swap found it away. Only a seat that has found it away says so, and none has before the value was ever
-    /// taken: so that no answer is `Busy` but by a step at the keep.
+    /// `Busy` if the swap found it away. Only a seat that has found it away says so, and none has before the value was ever
+    /// taken. So only a step at the keep returns `Busy`.
     #[tactic(auto, using(crate::proofs::Taking::busy_views, crate::proofs::Taking::idle_seat))]
     pub fn try_take(&self, chair: &mut Chair<C, K>) -> Result<Taken<C, K>, Busy<C, K>>
         requires { IsSeatedAt self.now.table.shared.table_id self.now.table.shared.key chair.old }
@@ -193,7 +193,8 @@ impl<C: Placed<K>, K> Keep<C, K> {
         Ok(self.grabbed(seat))
     }
 
-    /// Swaps 1 into the word. Where the value was in its slot, that is then away with the seat; else the seat has found it away.
+    /// Swaps 1 into the word. If the value was in its slot, the slot is then away with the seat. Otherwise the seat has found
+    /// it away.
     fn grab(&self, seat: &mut Seat<Option<C>, Sight<C, K>>) -> bool
         requires table { seat.old.table_id ≡ self.now.table.shared.table_id }
         requires idle { seat.old.me ≡ (waiting self.now.table.shared.key seat.old.me.0.cuts, []) }
@@ -219,7 +220,7 @@ impl<C: Placed<K>, K> Keep<C, K> {
         Taken { value, took, seat }
     }
 
-    /// Gives the value back, and tells what it was and what it is now: the next who takes it finds that.
+    /// Gives the value back. The receipt has what it was and what it is now: who takes it next finds that.
     pub fn give(&self, taken: Taken<C, K>) -> Given<C, K>
         requires taken { IsTakenOf self.now.table.shared.table_id self.now.table.shared.key taken.took taken.seat }
         requires value { C.fits self.now.table.shared.key.place.value taken.value }
