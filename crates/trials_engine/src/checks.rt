@@ -7,7 +7,7 @@ use std::alloc::Global;
 use std::process::Abort;
 use std::test::Fail;
 
-/// The range 10 to 19 with the entry 5 in a leaf, and an unused row.
+/// The range 10 to 19 with the entry 5 in a leaf, and an unused node.
 #[rattlefmt::skip]
 const LONE: [u64; 64] = [
     1,
@@ -17,7 +17,7 @@ const LONE: [u64; 64] = [
     0, 0, 0, 0, 0, 0, 0, 0, 0, 0, 0, 0, 0, 0, 0, 0,
 ];
 
-/// An inner row with one child.
+/// An inner node with one child.
 #[rattlefmt::skip]
 const ONE_CHILD: [u64; 64] = [
     1,
@@ -27,7 +27,7 @@ const ONE_CHILD: [u64; 64] = [
     0, 0, 0, 0, 0, 0, 0, 0, 0, 0, 0, 0, 0, 0, 0, 0,
 ];
 
-/// The tree of eleven ranges, but that an inner row stands beside the first leaf, and leaves below it.
+/// The tree of eleven ranges, except that an inner node is beside the first leaf, and leaves below it.
 #[rattlefmt::skip]
 const UNEVEN: [u64; 128] = [
     1,
@@ -51,7 +51,7 @@ const UNEVEN: [u64; 128] = [
     4096, 0, 0, 0, 0, 0, 0, 0, 0, 0, 0, 0, 0, 0, 0, 0,
 ];
 
-/// Ten levels, of which each row's first child alone stands there, the last a leaf.
+/// Ten levels. Each node has its first child alone, and the last is a leaf.
 #[rattlefmt::skip]
 const DEEP: [u64; 320] = [
     1, 40, TOP, 0, 0, 0, 0, 0, 0, 0, 0, 0, 0, 0, 0, 0,
@@ -76,7 +76,7 @@ const DEEP: [u64; 320] = [
     4096, 0, 0, 0, 0, 0, 0, 0, 0, 0, 0, 0, 0, 0, 0, 0,
 ];
 
-/// A narrow leaf with the range 10 to 19 and the entry 5, and an unused row.
+/// A narrow leaf with the range 10 to 19 and the entry 5, and an unused node.
 #[rattlefmt::skip]
 const NARROW_LONE: [u64; 128] = [
     1,
@@ -91,7 +91,7 @@ const NARROW_LONE: [u64; 128] = [
     0, 0, 0, 0, 0, 0, 0, 0, 0, 0, 0, 0, 0, 0, 0, 0,
 ];
 
-/// A narrow inner row with one child.
+/// A narrow inner node with one child.
 #[rattlefmt::skip]
 const NARROW_ONE_CHILD: [u64; 128] = [
     1,
@@ -106,7 +106,7 @@ const NARROW_ONE_CHILD: [u64; 128] = [
     0, 0, 0, 0, 0, 0, 0, 0, 0, 0, 0, 0, 0, 0, 0, 0,
 ];
 
-/// The narrow tree of 27 ranges, but that an inner row stands beside the first leaf, and leaves below it.
+/// The narrow tree of 27 ranges, except that an inner node is beside the first leaf, and leaves below it.
 #[rattlefmt::skip]
 const NARROW_UNEVEN: [u64; 256] = [
     1,
@@ -134,7 +134,7 @@ const NARROW_UNEVEN: [u64; 256] = [
     0, 0, 0, 0, 0, 0, 0, 0, 0, 0, 0, 0, 0, 0, 0, 0,
 ];
 
-/// A tree's words, of which those are changed whose rows and columns are given with other words; the root word; the kind; and
+/// A tree's words, of which those are changed whose nodes and columns are given with other words; the root word; the kind; and
 /// what a check answers.
 struct Case {
     words: &'static [u64],
@@ -144,7 +144,7 @@ struct Case {
     want: Result<Form, Fault>,
 }
 
-/// Trees, each with other words in columns of rows, if any, the root word, the kind and what a check answers.
+/// Trees, each with other words in columns of nodes, if any, the root word, the kind and what a check answers.
 macro_rules! cases {
     ($($words:ident $([$row:literal, $col:literal] = $word:tt)*, $root:literal, $kind:ident => $want:expr;)*) => {
         &[$(Case {
@@ -167,7 +167,7 @@ macro_rules! form {
     };
 }
 
-/// Trees that are lawful.
+/// Trees that are well-formed.
 const LAWFUL: &[Case] = cases! {
     LONE, 4108, Range => form!(1, 1, 1);
     LONE, 0, Range => form!(0, 0, 0);
@@ -191,8 +191,8 @@ const BROKEN: &[Case] = cases! {
     ELEVEN [16, 21] = 0, 4124, Alloc => fault!(16, Gaps);
 };
 
-/// One word breaks a law of a narrow tree: also where the last index is that of a wide tree, and where a name is of an inner row
-/// of the other kind.
+/// One word breaks a law of a narrow tree: also where the last index is that of a wide tree, and where a name is of an inner
+/// node of the other kind.
 const BROKEN_NARROW: &[Case] = cases! {
     NARROW_LONE, 4109, Range32 => fault!(0, Name);
     NARROW_LONE, 4620, Range32 => fault!(0, Name);
@@ -208,7 +208,7 @@ const BROKEN_NARROW: &[Case] = cases! {
     NARROW_UNEVEN, 4124, Alloc32 => fault!(19, Depth);
 };
 
-/// Of two broken laws the first is told.
+/// Of two broken laws, the first is reported.
 const BROKEN_TWICE: &[Case] = cases! {
     LONE [16, 0] = 2, 4109, Range => fault!(0, Name);
     LONE [16, 3] = 6, 4109, Range => fault!(0, Name);
@@ -219,7 +219,7 @@ const BROKEN_TWICE: &[Case] = cases! {
     DEEP, 4116, Range => fault!(25, Depth);
 };
 
-/// Rows beside others have one item too few: a leaf, and inner rows of both kinds.
+/// Nodes beside others have one item too few: a leaf, and inner nodes of both kinds.
 const TOO_FEW: &[Case] = cases! {
     ELEVEN [17, 5] = 11 [17, 6] = 0 [17, 21] = 0, 4124, Alloc => fault!(17, Count);
     TWENTY_SEVEN [17, 13] = 23 [17, 14] = 0 [17, 45] = 0, 4124, Alloc32 => fault!(17, Count);
@@ -227,8 +227,8 @@ const TOO_FEW: &[Case] = cases! {
     DEEP [17, 5] = 40 [17, 6] = 0, 4116, Range => fault!(17, Count);
 };
 
-/// A fault of a child's name is told with the row that holds it: of one that is no name, of no child, of a row behind the last
-/// one, and of that below nine levels.
+/// A fault of a child's name is reported with the node that holds it. The name is none, or of no child, or of a node after the
+/// last one, or is below nine levels.
 const BROKEN_BELOW: &[Case] = cases! {
     ELEVEN [16, 11] = 4621, 4124, Alloc => fault!(16, Name);
     ELEVEN [16, 11] = 0, 4124, Alloc => fault!(16, Name);

@@ -1,12 +1,12 @@
-//! Small trees, and the same with their rows in the order of a walk, as an image and a copy have them.
+//! Small trees, and their copies with the nodes in the order of a walk, as an image and a copy have them.
 
 use crate::small_trees::{LONGEST, LONGEST32, TOP, TOP32, push_row};
 use mt_base::{FIRST_ROW, Kind, NoMemory};
 use mt_rows::{PlainRows, Rows};
 use std::alloc::Global;
 
-/// An allocation tree: the row 19 with the leaves 18 and 16; the row 17 is unused. Inner rows have a parent word, 9 pivots, 10
-/// slots and 10 gaps, and leaves a parent word, 15 pivots and 16 slots.
+/// An allocation tree: the node 19 with the leaves 18 and 16; the node 17 is unused. Inner nodes have a parent word, 9 pivots,
+/// 10 slots and 10 gaps, and leaves a parent word, 15 pivots and 16 slots.
 #[rattlefmt::skip]
 pub const TWO_LEAVES: [u64; 128] = [
     4865,
@@ -27,7 +27,7 @@ pub const TWO_LEAVES: [u64; 128] = [
     0, 0,
 ];
 
-/// The same: the row 16 with the leaves 17 and 18.
+/// The copy of that tree: the node 16 with the leaves 17 and 18.
 #[rattlefmt::skip]
 const TWO_LEAVES_COPIED: [u64; 96] = [
     1,
@@ -45,7 +45,7 @@ const TWO_LEAVES_COPIED: [u64; 96] = [
     4096, 8192, 4096, 4096, 4096, 0, 0, 0, 0, 0, 0, 0, 0, 0, 0, 0,
 ];
 
-/// The range 10 to 19 with the entry 4108, which is no name here, in the leaf 17; the row 16 is unused.
+/// The range 10 to 19 with the entry 4108, which is no name here, in the leaf 17; the node 16 is unused.
 #[rattlefmt::skip]
 const LONE: [u64; 64] = [
     0, 0, 0, 0, 0, 0, 0, 0, 0, 0, 0, 0, 0, 0, 0, 0,
@@ -63,8 +63,8 @@ const LONE_COPIED: [u64; 32] = [
     0, 4108, 0, 0, 0, 0, 0, 0, 0, 0, 0, 0, 0, 0, 0, 0,
 ];
 
-/// A narrow allocation tree: the row 19 with the leaves 18 and 16; the row 17 is unused. Inner rows have a parent word, 20
-/// pivots, 21 slots, 21 gaps and a word that is not used, and leaves a parent word, 31 pivots and 32 slots.
+/// A narrow allocation tree: the node 19 with the leaves 18 and 16; the node 17 is unused. Inner nodes have a parent word, 20
+/// pivots, 21 slots, 21 gaps and a word that is not used. Leaves have a parent word, 31 pivots and 32 slots.
 #[rattlefmt::skip]
 const NARROW_LEAVES: [u64; 256] = [
     4865,
@@ -91,7 +91,7 @@ const NARROW_LEAVES: [u64; 256] = [
     0,
 ];
 
-/// The same: the row 16 with the leaves 17 and 18.
+/// The copy of that tree: the node 16 with the leaves 17 and 18.
 #[rattlefmt::skip]
 const NARROW_LEAVES_COPIED: [u64; 192] = [
     1,
@@ -113,7 +113,7 @@ const NARROW_LEAVES_COPIED: [u64; 192] = [
     0, 0, 0, 0, 0, 0, 0, 0, 0, 0, 0, 0, 0, 0, 0, 0,
 ];
 
-/// The same range in the leaf 17 of a narrow tree; the row 16 is unused.
+/// The range 10 to 19 with the entry 4108 in the leaf 17 of a narrow tree; the node 16 is unused.
 #[rattlefmt::skip]
 const NARROW_LONE: [u64; 128] = [
     0, 0, 0, 0, 0, 0, 0, 0, 0, 0, 0, 0, 0, 0, 0, 0,
@@ -137,10 +137,10 @@ const NARROW_LONE_COPIED: [u64; 64] = [
     0, 0, 0, 0, 0, 0, 0, 0, 0, 0, 0, 0, 0, 0, 0, 0,
 ];
 
-/// The empty tree has no row.
+/// The empty tree has no node.
 const NONE_COPIED: [u64; 0] = [];
 
-/// The words of the first rows, as many of them as there are.
+/// The words of the first nodes, as many of them as there are.
 #[tactic(auto, using(mt_layout::proofs::RowSizes::some_columns))]
 pub fn first_words(alloc: Global, rows: &mut PlainRows, count: u32) -> Result<Vec<u64>, NoMemory> {
     let mut words = Vec::new(alloc);
@@ -152,7 +152,7 @@ pub fn first_words(alloc: Global, rows: &mut PlainRows, count: u32) -> Result<Ve
     Ok(words)
 }
 
-/// A tree's words, its root word and its kind; and with its rows in order how many these are, the root word and their words.
+/// A tree's words, its root word and its kind; and with its nodes in order how many these are, the root word and their words.
 pub struct Case {
     pub words: &'static [u64],
     pub root: u64,

@@ -11,7 +11,7 @@ use std::alloc::Global;
 use std::process::Abort;
 use std::test::Fail;
 
-/// The kind and the number of ranges of an image, or why it is none.
+/// The kind and the number of ranges of an image, or why the bytes are none.
 type Answer = Result<(Kind, u64), ImageError>;
 
 /// The text of an image, and then these numbers.
@@ -52,13 +52,13 @@ fn written(rt: &impl Abort, alloc: Global, case: &Case) -> Result<Vec<u8>, Fail>
     Ok(write_image(alloc, &mut rows, case.kind)?)
 }
 
-/// The kind of the tree that these bytes are an image of, and the words of its first rows.
+/// The kind of the tree that these bytes are an image of, and the words of its first nodes.
 fn read(alloc: Global, bytes: &[u8], count: u32) -> Result<(Kind, Vec<u64>), Fail> {
     let (kind, mut rows) = read_image(alloc, bytes)?;
     Ok((kind, first_words(alloc, &mut rows, count)?))
 }
 
-/// The image of a case's tree has its rows in order, and it is read so.
+/// The image of a case's tree has its nodes in order, and it is read so.
 fn expect_image(rt: &impl Abort, alloc: Global, case: &Case) -> Result<(), Fail> {
     let bytes = written(rt, alloc, case)?;
     let head = [number_of(case.kind), u64::from(case.rows), case.copy];
@@ -141,7 +141,7 @@ fn changed_bytes_are_refused_or_read(rt: HostRuntime) -> Result<(), Fail> {
     Ok(())
 }
 
-/// An image that is cut after so many bytes.
+/// An image that is cut after this many bytes.
 fn expect_cut(rt: &impl Abort, alloc: Global, bytes: &[u8], got: usize) {
     assert!(rt; got <= bytes.len());
     let want = ImageError::Length {
@@ -186,7 +186,7 @@ fn images_of_other_trees_are_refused(rt: HostRuntime) -> Result<(), Fail> {
     Ok(())
 }
 
-/// A row that no walk comes to, whatever its words.
+/// A node that no walk reaches, whatever its words.
 #[test]
 fn rows_that_are_not_reached_are_stray(rt: HostRuntime) -> Result<(), Fail> {
     let mut bytes = image(rt.alloc(), [0, 2, 4108], &LONE)?;

@@ -1,4 +1,4 @@
-//! Where the items of inner rows are cut into rows.
+//! Where the items of inner nodes are cut into nodes.
 
 ghost use Rattle.std.specs.Prelude.{◌≡◌, ◌≤◌, ◌+◌, ◌*◌, length};
 ghost use Rattle.mt_layout.specs.Sizes.{run_room, slots_of};
@@ -10,7 +10,7 @@ use mt_layout::{Item, RUN_ROOM, RowKind, Run, least_items, slots};
 use mt_leaf::cut;
 use std::process::Abort;
 
-/// As many items as a test has at the most.
+/// As many items as a test has at most.
 const ITEMS: [Item; 65] = [Item {
     last: 0,
     word: 1,
@@ -23,7 +23,7 @@ fn run_of(rt: &impl Abort, items: &[Item]) -> Run
     Run::try_from(items).expect(rt, "the items fit")
 }
 
-/// Rows of a width and a kind, how many items they have, and where they end.
+/// Nodes of a width and a kind, how many items they have, and where they end.
 #[rattlefmt::skip]
 const CUTS: &[(Width, RowKind, usize, &[u32])] = &[
     (Width::Long, RowKind::Inner, 16, &[16]),
@@ -44,7 +44,7 @@ const CUTS: &[(Width, RowKind, usize, &[u32])] = &[
     (Width::Short, RowKind::Gapped, 60, &[20, 40, 60]),
 ];
 
-/// The ends of inner rows of this width and kind with these items.
+/// The ends of inner nodes of this width and kind with these items.
 #[tactic(auto, using(mt_layout::proofs::RowSizes::sizes))]
 fn ends_of(rt: &impl Abort, width: Width, kind: RowKind, items: &[Item]) -> ArrayVec<u32, 3>
     requires some { 1 ≤ length items.now }
@@ -59,7 +59,7 @@ fn ends_of(rt: &impl Abort, width: Width, kind: RowKind, items: &[Item]) -> Arra
     )
 }
 
-/// The fewest rows of these items end there, and two of them meet at the half.
+/// The fewest nodes of these items end there, and two of them meet at the half.
 fn expect_cut(rt: &impl Abort, width: Width, kind: RowKind, items: &[Item], want: &[u32]) {
     let fit = items.len() + 3 <= 3 * slots(width, kind) as usize;
     assert!(rt; fit && 1 <= items.len() && items.len() <= RUN_ROOM);

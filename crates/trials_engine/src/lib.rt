@@ -1,6 +1,6 @@
-//! Trials of the tree on one thread: its answers beside those of a sorted list, and the rows that its stores take and leave; of the
-//! words of rows, the ways through them, and what searches, checks and copies them, or makes images of them; and of the sorted
-//! list itself.
+//! Trials of the tree on one thread: its answers beside those of a sorted list, and the nodes that its stores take and leave;
+//! of the words of nodes, the ways through them, and what searches, checks and copies them, or makes images of them; and of the
+//! sorted list itself.
 #![tactic(auto)]
 
 #[cfg(test)]

@@ -33,8 +33,8 @@ use std::alloc::Global;
 use std::process::Abort;
 use std::test::Fail;
 
-/// Makes the calls of a story on a new map, which are answered as it tells, and behind which the map holds the ranges and answers
-/// the queries as it tells.
+/// Makes the calls of a story on a new map. The replies, the ranges afterwards and the answers to the queries have to be those
+/// of the story.
 fn expect_story(rt: &impl Abort, alloc: Global, story: &Story) -> Result<(), NoMemory> {
     let mut map = ListMap::new(alloc, story.kind);
     for (call, want) in story.calls {
@@ -47,7 +47,7 @@ fn expect_story(rt: &impl Abort, alloc: Global, story: &Story) -> Result<(), NoM
     Ok(())
 }
 
-/// The stories of a table come out as told.
+/// Each story of a table comes out as it says.
 fn expect_stories(rt: &impl Abort, alloc: Global, stories: &[Story]) -> Result<(), NoMemory> {
     for story in stories {
         expect_story(rt, alloc, story)?;

@@ -1,4 +1,4 @@
-//! The names of rows, their parent words and the marks of dead ones.
+//! The names of nodes, their parent words and the marks of dead ones.
 
 use crate::asserts::same;
 use mt_layout::{RowKind, is_dead_mark, kind_of, name_of, parent_word, row_of};

@@ -13,7 +13,7 @@ use std::alloc::Global;
 use std::process::Abort;
 use std::test::Fail;
 
-/// An allocation tree: the row 16 with the leaves 17 and 18. It is a wide one, or a narrow one.
+/// An allocation tree: the node 16 with the leaves 17 and 18. It is a wide one, or a narrow one.
 fn two_leaves(rt: &impl Abort, alloc: Global, kind: Kind) -> Result<PlainRows, Fail>
     ensures { IfOk result (λ rows. IsTreeOf (sheet_in rows).tree kind) }
 {
@@ -27,7 +27,7 @@ fn two_leaves(rt: &impl Abort, alloc: Global, kind: Kind) -> Result<PlainRows, F
     Ok(rows)
 }
 
-/// A step through a row at a slot, to between these indexes.
+/// A step through a node at a slot, to between these indexes.
 macro_rules! step {
     ($row:expr, $slot:expr, $min:expr, $max:expr) => {
         PathStep { row: $row, slot: $slot, min: $min, max: $max }
@@ -46,7 +46,7 @@ macro_rules! in_right {
     (narrow $slot:expr) => { &[step!(16, 1, 0, TOP32), step!(18, $slot, 24, TOP32)] };
 }
 
-/// What stands in the leaf 17, at this slot.
+/// What is in the leaf 17, at this slot.
 macro_rules! held_left {
     ($slot:expr, $first:expr, $last:expr) => {
         Handle {
@@ -62,7 +62,7 @@ macro_rules! held_left {
     };
 }
 
-/// What stands in the leaf 18, at this slot.
+/// What is in the leaf 18, at this slot.
 macro_rules! held_right {
     ($slot:expr, $first:expr, $last:expr, $word:expr) => {
         Handle {
@@ -78,7 +78,7 @@ macro_rules! held_right {
     };
 }
 
-/// An index of the tree, the path to it, and what stands there.
+/// An index of the tree, the path to it, and what is there.
 struct Way {
     index: u64,
     path: &'static [PathStep],
@@ -182,7 +182,7 @@ fn expect_within(rt: &impl Abort, kind: Kind, index: u64)
     assert!(rt; index <= top(width_of(kind)));
 }
 
-/// The path to an index, and what stands there.
+/// The path to an index, and what is there.
 fn walked_to(
     rt: &impl Abort,
     alloc: Global,

@@ -54,12 +54,12 @@ const NARROW_HOLES: [u64; 192] = [
     0, 0, 0, 0, 0, 0, 0, 0, 0, 0, 0, 0, 0, 0, 0, 0,
 ];
 
-/// The empty tree, in rows of no use: three wide ones, or a narrow one.
+/// The empty tree, in nodes of no use: three wide ones, or a narrow one.
 const NONE: [u64; 96] = [0; 96];
 
 const NARROW_NONE: [u64; 64] = [0; 64];
 
-/// The lowest place in a tree of two levels, or the highest, in six steps at the most.
+/// The lowest place in a tree of two levels, or the highest, in six steps at most.
 fn place<L: Ledger>(
     rows: &mut PlainRows,
     is_lowest: bool,
@@ -80,7 +80,7 @@ fn place<L: Ledger>(
     }
 }
 
-/// The same, with steps of its own.
+/// The lowest place in a tree of two levels, or the highest, with steps of its own.
 fn placed<L: Ledger>(
     blank: Blank,
     rows: PlainRows,

@@ -6,7 +6,7 @@ use std::alloc::Global;
 use std::process::Abort;
 use std::test::Fail;
 
-/// The words of a table of rows of this width, the first of which have these words.
+/// The words of a table of nodes of this width, the first of which have these words.
 fn table(alloc: Global, width: Width, rows: &[u64]) -> Result<Vec<u64>, NoMemory> {
     let mut words = vec![in alloc; 0; cols(width) as usize * FIRST_ROW as usize]?;
     words.extend_from_slice(rows)?;
@@ -65,7 +65,7 @@ const IN_TWENTY_SEVEN: [Range; 27] = [
     range!(36, 36, 4096),
 ];
 
-/// What rows of these words stand for from this root word: the ranges, the rows that are reached, and the height.
+/// What nodes of these words represent from this root word: the ranges, the nodes that are reached, and the height.
 fn expect_tree(
     rt: &impl Abort,
     alloc: Global,

@@ -1,4 +1,4 @@
-//! The rows of small trees, wide and narrow, and rows in memory that are checked.
+//! The nodes of small trees, wide and narrow, and nodes in memory that are checked.
 
 ghost use Rattle.std.specs.Prelude.{◌≡◌, ◌%◌, ◌/◌, ◌≤◌, IfOk, length};
 ghost use Rattle.mt_base.specs.Width.{columns, kind_width, most_rows};
@@ -16,13 +16,13 @@ use std::test::Fail;
 /// The last index of a wide tree.
 pub const TOP: u64 = u64::MAX;
 
-/// The hole behind the last entry of a wide tree whose entries end at the index 16.
+/// The hole after the last entry of a wide tree whose entries end at the index 16.
 pub const LONGEST: u64 = 18_446_744_073_709_551_599;
 
 /// The last index of a narrow tree.
 pub const TOP32: u64 = 4_294_967_295;
 
-/// The hole behind the last entry of a narrow tree whose entries end at the index 36.
+/// The hole after the last entry of a narrow tree whose entries end at the index 36.
 pub const LONGEST32: u64 = 4_294_967_259;
 
 /// A leaf, whose only range is 10 to 19 with the entry 5: a parent word, 15 pivots and 16 slots.
@@ -33,8 +33,8 @@ pub const LONE: [u64; 32] = [
     0, 5, 0, 0, 0, 0, 0, 0, 0, 0, 0, 0, 0, 0, 0, 0,
 ];
 
-/// An allocation tree: the row 16 over the leaves 17 and 18, with eleven ranges up to the index 16. The inner row has a parent word,
-/// 9 pivots, 10 slots and 10 gaps, and two words that are not used.
+/// An allocation tree: the node 16 over the leaves 17 and 18, with eleven ranges up to the index 16. The inner node has a
+/// parent word, 9 pivots, 10 slots and 10 gaps, and two words that are not used.
 #[rattlefmt::skip]
 pub const ELEVEN: [u64; 96] = [
     1,
@@ -62,8 +62,8 @@ pub const LONE32: [u64; 64] = [
     0, 0, 0, 0, 0, 0, 0, 0, 0, 0, 0, 0, 0, 0, 0, 0,
 ];
 
-/// A narrow allocation tree: the row 16 over the leaves 17 and 18, with 27 ranges up to the index 36. The inner row has a parent
-/// word, 20 pivots, 21 slots and 21 gaps, and a word that is not used.
+/// A narrow allocation tree: the node 16 over the leaves 17 and 18, with 27 ranges up to the index 36. The inner node has a
+/// parent word, 20 pivots, 21 slots and 21 gaps, and a word that is not used.
 #[rattlefmt::skip]
 pub const TWENTY_SEVEN: [u64; 192] = [
     1,
@@ -85,7 +85,7 @@ pub const TWENTY_SEVEN: [u64; 192] = [
     0, 0, 0, 0, 0, 0, 0, 0, 0, 0, 0, 0, 0, 0, 0, 0,
 ];
 
-/// The rows of these words, which are a lawful tree of this kind, and its form.
+/// The nodes of these words, which are a well-formed tree of this kind, and its form.
 pub fn checked_rows(
     alloc: Global,
     words: &[u64],
@@ -102,7 +102,7 @@ pub fn checked_rows(
     Ok((rows, form))
 }
 
-/// Appends the words of a row.
+/// Appends the words of a node.
 pub fn push_row(rows: &mut PlainRows, row: u32, words: &mut Vec<u64>) -> Result<(), NoMemory>
     requires { IsPlace (sheet_in rows.old).tree row 0 }
     ensures { OnlyReads (sheet_in rows.old) (sheet_in rows.new) }

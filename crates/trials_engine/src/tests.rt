@@ -55,7 +55,7 @@ use std::alloc::Global;
 use std::process::Abort;
 use std::test::Fail;
 
-/// An engine of an empty tree of this kind over so many rows in memory.
+/// An engine of an empty tree of this kind with this many nodes in memory.
 fn fresh_of(alloc: Global, kind: Kind, rows: u64) -> Result<Engine<PlainRows>, NoMemory>
     requires { rows ≤ most_rows }
     ensures { IfOk result (λ engine. engine.sheet.ended ≡ 0) }
@@ -108,7 +108,8 @@ fn expect_replies(rt: &impl Abort, engine: &mut Engine<PlainRows>, calls: &[(Cal
     }
 }
 
-/// Makes a call on the engine and on the list, which answer the same and then hold the same ranges, by a list and by a walk.
+/// Makes a call on the engine and on the list. Both have to answer the same, and then to hold the same ranges, by a list and by
+/// a walk.
 fn expect_same(
     rt: &impl Abort,
     alloc: Global,
@@ -214,7 +215,7 @@ fn answers_as_a_list_does(rt: HostRuntime) -> Result<(), Fail> {
     Ok(())
 }
 
-/// Makes the calls of a story on a new engine, which answers as it tells, and holds the ranges that it tells then.
+/// Makes the calls of a story on a new engine. The answers and the ranges at the end have to be those of the story.
 fn expect_story(rt: &impl Abort, alloc: Global, story: &Story) -> Result<(), NoMemory> {
     assert!(rt; story.rows <= MOST_ROWS && story.calls.len() < 1000);
     let mut engine = fresh_of(alloc, story.kind, story.rows)?;

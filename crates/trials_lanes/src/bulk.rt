@@ -1,5 +1,5 @@
-//! Trials of bulk builds: two workers at once, and how it is told that none is made. Any number of workers builds the words that
-//! `bulk` of mt_bulk defines.
+//! Trials of bulk builds: two workers at once, and the text of each refusal. Any number of workers builds the words that `bulk`
+//! of mt_bulk defines.
 
 use crate::asserts::same;
 use mt_base::{Kind, Range};
@@ -26,7 +26,7 @@ const EVERY_OTHER: [Range; 20] = [
     r!(30, 30, 1), r!(32, 32, 1), r!(34, 34, 1), r!(36, 36, 1), r!(38, 38, 1),
 ];
 
-/// How many rows are built, and their root word; or why there is no tree.
+/// How many nodes are built, and their root word; or why there is no tree.
 type Answer = Result<(u64, u64), BulkError>;
 
 /// What came out of a build.
@@ -35,7 +35,7 @@ fn answer(built: Result<PlainRows, BulkError>) -> Answer {
     Ok((rows.size(), rows.root()))
 }
 
-/// Why no tree is built, and how that is told.
+/// Why no tree is built, and the text of that.
 const TEXTS: &[(BulkError, &str)] = &[
     (BulkError::Order { at: 7 }, "range 7 is out of order"),
     (BulkError::TooMany { rows: 65_505 }, "too many rows: 65505"),
@@ -56,7 +56,7 @@ fn errors_are_told(rt: HostRuntime) -> Result<(), Fail> {
     expect_texts(&rt, rt.alloc(), TEXTS)
 }
 
-/// Where two workers meet: each is held in its turn 1 until both have come to theirs.
+/// Where two workers meet: each is held in its turn 1 until both have reached theirs.
 #[derive(Drop)]
 struct Meeting {
     come: AtomicU64,

@@ -33,7 +33,7 @@ impl Desk for Journal {
     }
 }
 
-/// A lane with a journal for so many steps.
+/// A lane with a journal for this many steps.
 fn lane(alloc: Global, lane: u32, steps: u32) -> Result<Lane<Journal>, AllocError>
     ensures { IfOk result (λ lane. CanRun ⟦<Journal as Desk>⟧.count ⟦<Journal as Desk>⟧.awaits lane) }
 {
@@ -48,7 +48,7 @@ fn lane(alloc: Global, lane: u32, steps: u32) -> Result<Lane<Journal>, AllocErro
     })
 }
 
-/// Where three lanes meet: each is held in its turn 1 until all have come to theirs.
+/// Where three lanes meet: each is held in its turn 1 until all have reached theirs.
 #[derive(Drop)]
 struct Meeting {
     come: AtomicU64,

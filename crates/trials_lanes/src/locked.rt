@@ -27,7 +27,7 @@ use std::{mem, slice};
 /// So many turns of its loop a thread waits for the other.
 const TURNS: u64 = 200_000_000;
 
-/// A tree of ranges, and two passes on it.
+/// A tree of ranges, and two passes (handles) on it.
 #[tactic(auto, using(crate::proofs::Closed::new_are_closed))]
 fn tree_and_passes(alloc: Global) -> Result<(LaneTree, Vec<Pass>), Fail>
     ensures of { IfOk result (λ r. All (IsPassOf r.0.tree) r.1.items) }
@@ -40,7 +40,7 @@ fn tree_and_passes(alloc: Global) -> Result<(LaneTree, Vec<Pass>), Fail>
     }
 }
 
-/// The last pass that is left.
+/// The last handle that is left.
 fn last_pass(tree: &LaneTree, passes: &mut Vec<Pass>) -> Result<Pass, Fail>
     requires all_of { All (IsPassOf tree.now.tree) passes.old.items }
     requires all_closed { All (λ p. (pass_in p).standing ≡ None) passes.old.items }
@@ -112,7 +112,7 @@ fn laid<'a, R: Wait>(
     })
 }
 
-/// Waits for a sign, for so many turns at the most. It tells whether the sign was given.
+/// Waits for a sign, for at most this many turns. Returns whether the sign was given.
 fn waited(sign: &AtomicBool) -> bool {
     for _ in 0..TURNS {
         if sign.load(Ordering::SeqCst) {
@@ -173,7 +173,7 @@ fn answers<R: Threads + Wait + Sync>(
     answers_to(alloc, rt, trees, &lines, &mut rows, held, answered)
 }
 
-/// Holds the tree's lock until the desk has answered, or for so many turns. It tells whether the desk has answered by then.
+/// Holds the tree's lock until the desk has answered, or for this many turns. Returns whether the desk has answered by then.
 fn hold(
     rt: &impl Wait,
     tree: &LaneTree,
@@ -215,7 +215,7 @@ fn answers_beside_the_lock<R: Threads + Wait + Sync>(
     )
 }
 
-/// The line of an entry, its window, and the entry that it tells, or the first index of the range that it tells.
+/// The line of an entry, its window, and the entry that it reports, or the first index of the range that it reports.
 fn told(entry: &Entry) -> Option<[u64; 4]> {
     match entry.said {
         Said::Got {

@@ -11,7 +11,7 @@ use std::test::Fail;
 
 const LETTERS: &[u8] = b"abcdefghij";
 
-/// Adds the bytes of a call, `.` where there are none, or `!` where it failed.
+/// Adds the bytes of a call, `.` if there are none, or `!` if it failed.
 fn note(seen: &mut String, outcome: Result<&[u8], Failed>) -> Result<(), AllocError> {
     seen.push(' ')?;
     match outcome {

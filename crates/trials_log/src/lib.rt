@@ -1,5 +1,5 @@
-//! Trials of texts: logs that are read and printed, texts that are those of runs of a log and texts that are of none, listings, and
-//! the words of commands.
+//! Trials of texts: logs that are read and printed, texts that are those of runs of a log and others, listings, and the words
+//! of commands.
 #![tactic(auto)]
 
 #[cfg(test)]

@@ -6,7 +6,7 @@ use mt_told::{ListingError, read_listing};
 use std::alloc::{AllocError, Global};
 use std::test::Fail;
 
-/// Texts, in which a slash stands for LF, and the line at which each shows that it is no listing.
+/// Texts, in which a slash means LF, and the line at which each shows that it is no listing.
 const TEXTS: &str = "\
 tree a range 0/ -> listing
 tree a alloc 1/10 19 5/ -> listing

@@ -26,7 +26,7 @@ fn outcome(alloc: Global, log: &str) -> Result<String, AllocError> {
     }
 }
 
-/// Each row of a table comes out as it tells, between these two texts.
+/// Each row of a table comes out as it says, between these two texts.
 fn expect_each(
     rt: &impl Abort,
     alloc: Global,
@@ -45,7 +45,7 @@ fn expect_each(
     Ok(())
 }
 
-/// The same of each table, between the texts before and behind it.
+/// Each row of each table comes out as it says, between the texts before and after the table.
 fn expect_tables(
     rt: &impl Abort,
     alloc: Global,
@@ -82,7 +82,7 @@ fn a_log_has_16_trees_at_the_most(rt: HostRuntime) -> Result<(), Fail> {
     expect_each(&rt, rt.alloc(), &stepped, BEHIND_A_STEP, "\nload t1 1")
 }
 
-/// So many lines that are alike, behind the line that declares the tree `a`.
+/// This many equal lines, after the line that declares the tree `a`.
 fn alike(alloc: Global, lines: u32, line: &str) -> Result<String, AllocError> {
     let mut log = String::from_str(alloc, "mtlog 1\ntree a range\n")?;
     for _line in 0..lines {

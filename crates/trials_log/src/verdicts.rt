@@ -13,7 +13,7 @@ use std::alloc::{AllocError, Global};
 use std::process::Abort;
 use std::test::Fail;
 
-/// How many rows each tree has, and the table that is of such trees.
+/// How many nodes each tree has, and the table that is of such trees.
 const TABLES: &[(u64, &str)] = &[
     (65_504, MANY_ROWS),
     (34, ROWS_34),
@@ -43,7 +43,7 @@ fn words_of(alloc: Global, verdict: &Verdict) -> Result<String, AllocError> {
     Ok(words)
 }
 
-/// What is found of a text and a log over trees of so many rows, in words.
+/// The verdict on a text and a log over trees of this many nodes, in words.
 fn found(alloc: Global, rows: u64, log: &[u8], text: &str) -> Result<String, LogError>
     requires few_rows { 4 ≤ rows }
     requires rows { rows ≤ most_rows }

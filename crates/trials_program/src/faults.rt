@@ -18,7 +18,7 @@ const TEXT: &str = "3 1 ok\n4 2 ok\ntree a range 3\n0 39 1\n40 49 3\n50 99 1\n";
 
 const WRITE_FAULT: &str = "mtreplay: write fault\n";
 
-/// Words, how much room there is to print and to tell, and the status, what is printed and what is told.
+/// Words, how much room there is for output and for errors, and the status, the output and the error text.
 type Short = (&'static str, usize, usize, u8, &'static str, &'static str);
 
 #[rattlefmt::skip]
@@ -38,7 +38,8 @@ fn log(alloc: Global, failing: u64) -> Result<MemSource, AllocError> {
     Ok(MemSource::new(bytes, 1, vec![in alloc; failing]?))
 }
 
-/// Runs these words on the log, where a read and a write of these numbers fail, with so much room to print and to tell.
+/// Runs these words on the log, with a read and a write of these numbers that fail, and with this much room for output and for
+/// errors.
 fn run_failing<R: Threads + Wait + Sync + AllocGlobal>(
     rt: &R,
     words: &str,
@@ -52,7 +53,7 @@ fn run_failing<R: Threads + Wait + Sync + AllocGlobal>(
     run(rt, words, &mut src, out, err, &NoGate)
 }
 
-/// A row of the table comes out.
+/// A node of the table comes out.
 fn expect_short<R: Threads + Wait + Sync + AllocGlobal + Abort>(
     rt: &R,
     short: &Short,

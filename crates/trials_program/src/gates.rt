@@ -13,7 +13,7 @@ use std::thread::Threads;
 /// A gate looks so often whether a lane may go on.
 const LOOKS: u64 = 200_000_000;
 
-/// What these words come to on this input, held by this gate.
+/// The result of these words on this input, held by this gate.
 fn run_held<R: Threads + Wait + Sync + AllocGlobal, G: Gate + Sync>(
     rt: &R,
     words: &str,
@@ -103,7 +103,7 @@ fn each_order_of_two_stores_and_two_loads_is_played(rt: HostRuntime) -> Result<(
     Ok(())
 }
 
-/// Holds two lanes, or two workers, each in its turn 1 until the other has come to its own.
+/// Holds two lanes, or two workers, each in its turn 1 until the other has reached its own.
 #[derive(Drop)]
 struct Meeting {
     first: AtomicBool,

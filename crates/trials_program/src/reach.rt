@@ -9,7 +9,7 @@ use std::thread::Threads;
 
 const TOO_LONG: &str = "mtreplay: input too long\n";
 
-/// Words, an input of how many bytes they read by how many reads, the status, how many bytes are left then, and what is told.
+/// Words, an input of how many bytes they read by how many reads, the status, how many bytes are then left, and the error text.
 type Reach = (&'static str, usize, u64, u8, usize, &'static str);
 
 #[rattlefmt::skip]
@@ -38,7 +38,7 @@ fn read_eight(src: &mut MemSource) -> Result<usize, Failed> {
     src.read(&mut [0; 8])
 }
 
-/// A row of the table comes out.
+/// A node of the table comes out.
 fn expect_reach<R: Threads + Wait + Sync + AllocGlobal + Abort>(
     rt: &R,
     reach: &Reach,
@@ -56,7 +56,7 @@ fn expect_reach<R: Threads + Wait + Sync + AllocGlobal + Abort>(
     Ok(())
 }
 
-/// The rows of a table come out.
+/// The nodes of a table come out.
 fn expect_reaches<R: Threads + Wait + Sync + AllocGlobal + Abort>(
     rt: &R,
     reaches: &[Reach],

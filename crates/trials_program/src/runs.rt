@@ -8,13 +8,13 @@ use std::process::Abort;
 use std::sync::Wait;
 use std::thread::Threads;
 
-/// The number of a call that no run comes to.
+/// The number of a call that no run reaches.
 pub const NEVER: u64 = u64::MAX;
 
 /// More room than a run of these tests needs.
 pub const ROOM: usize = 4096;
 
-/// What a run came to.
+/// The result of a run.
 #[derive(Drop)]
 pub struct Ending {
     pub status: u8,
@@ -34,7 +34,7 @@ pub fn given(alloc: Global, bytes: &[u8]) -> Result<MemSource, AllocError> {
     Ok(MemSource::new(bytes, usize::MAX, Vec::new(alloc)))
 }
 
-/// A sink with so much room that takes a byte at each call, and whose write of this number, from 0, fails.
+/// A sink with this much room that takes a byte at each call. Its write of this number, from 0, fails.
 pub fn sink(alloc: Global, room: usize, failing: u64) -> Result<MemSink, AllocError> {
     MemSink::new(alloc, room, 1, vec![in alloc; failing]?)
 }
@@ -63,7 +63,7 @@ pub fn run<R: Threads + Wait + Sync + AllocGlobal, G: Gate + Sync>(
     Ok(Ending { status, out, err })
 }
 
-/// A run ended with this status, printed this and told this.
+/// A run ended with this status, this output and this error text.
 pub fn expect_ending(rt: &impl Abort, ending: &Ending, status: u8, text: &[u8], told: &str) {
     same(rt, ending.err.bytes(), told.as_bytes(), told);
     same(rt, ending.out.bytes(), text, told);

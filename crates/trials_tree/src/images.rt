@@ -13,7 +13,7 @@ use std::process::Abort;
 use std::sync::Wait;
 use std::test::Fail;
 
-/// Why no tree of this kind and of so many rows is made of rows.
+/// Why no tree of this kind with this many nodes is made from nodes.
 fn not_made(
     alloc: Global,
     rows: &mut PlainRows,
@@ -30,8 +30,8 @@ fn not_made(
     }
 }
 
-/// The image of such a tree is read as rows of which a tree with the same ranges and the same image is made, or none of another kind
-/// or with too few rows.
+/// The image of such a tree is read as nodes. From these a tree with the same ranges and the same image is made, or none of
+/// another kind or with too few nodes.
 fn expect_again<R: Abort + Wait>(rt: &R, alloc: Global, filled: Filled) -> Result<(), Fail> {
     let (tree, mut passes) = made(alloc, shape_of(filled.kind, 4096, 1, 1000))?;
     let mut pass = last_pass(&tree, &mut passes)?;

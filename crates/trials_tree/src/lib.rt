@@ -1,5 +1,5 @@
-//! Trials of the tree that threads share: what its callers ask and do, and readers beside its writer, that walk on while ranges are
-//! stored, and whose open sections hold rows.
+//! Trials of the tree that threads share: what its callers ask and do, and readers beside its writer, that walk on while ranges
+//! are stored, and whose open sections hold nodes.
 #![tactic(auto)]
 
 #[cfg(test)]

@@ -1,4 +1,4 @@
-//! What a locked tree tells of its words.
+//! What a locked tree shows of its words.
 
 ghost use Rattle.std.specs.Prelude.{IfOk};
 ghost use Rattle.mt_tree.specs.Trees.{AreAll, IsPassOf};
@@ -28,7 +28,7 @@ fn told(
     Ok((form, image?))
 }
 
-/// A copy of a tree that is locked, and its passes.
+/// A copy of a tree that is locked, and its passes (handles).
 fn copied(
     rt: &impl Wait,
     alloc: Global,
@@ -46,7 +46,7 @@ fn copied(
     copied
 }
 
-/// It holds these ranges, or none is made for want of rows.
+/// It holds these ranges, or none is made for lack of nodes.
 fn expect_copied<R: Abort + Wait>(
     rt: &R,
     alloc: Global,
@@ -72,7 +72,7 @@ fn expect_copied<R: Abort + Wait>(
     Ok(())
 }
 
-/// A tree that is locked tells of the same words as one that is not.
+/// A tree that is locked shows the same words as one that is not.
 fn expect_told<R: Abort + Wait>(rt: &R, alloc: Global, filled: Filled) -> Result<(), Fail> {
     let (tree, mut passes) = made(alloc, shape_of(filled.kind, 4096, 1, 1000))?;
     let mut pass = last_pass(&tree, &mut passes)?;

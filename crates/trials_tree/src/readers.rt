@@ -1,5 +1,5 @@
-//! Readers of a shared tree beside its writer, on named calls and one thread each: walks that go on while ranges are stored, and
-//! the rows that an open section holds.
+//! Readers of a shared tree beside its writer, on named calls and one thread each: walks that go on while ranges are stored,
+//! and the nodes that an open section holds.
 
 mod held;
 mod walks;

@@ -33,7 +33,7 @@ fn refused(alloc: Global, shape: Shape) -> Option<MakeError> {
     }
 }
 
-/// A tree and its passes.
+/// A tree and its passes (handles).
 pub fn made(alloc: Global, shape: Shape) -> Result<(Tree, Vec<Pass>), Fail>
     ensures { IfOk result (λ r. AreAll r.0 r.1.items) }
 {
@@ -43,7 +43,7 @@ pub fn made(alloc: Global, shape: Shape) -> Result<(Tree, Vec<Pass>), Fail>
     }
 }
 
-/// The last pass that is left.
+/// The last handle that is left.
 pub fn last_pass(tree: &Tree, passes: &mut Vec<Pass>) -> Result<Pass, Fail>
     requires { All (IsPassOf tree.now) passes.old.items }
     ensures rest { All (IsPassOf tree.now) passes.new.items }
@@ -81,7 +81,7 @@ const BAD_CALLS: Option<MakeError> = Some(MakeError::BadShape {
     field: Field::Calls,
 });
 
-/// Shapes, by their rows, passes and calls, and why each is refused.
+/// Shapes, by their nodes, handles and calls, and why each is refused.
 const SHAPES: &[(u64, u32, u64, Option<MakeError>)] = &[
     (3, 0, 0, BAD_ROWS),
     (65_505, 1, 1, BAD_ROWS),
@@ -120,7 +120,7 @@ fn expect_one_range<R: Abort + Wait>(
     Ok(())
 }
 
-/// What a store lacks where one row of four is live.
+/// What a store lacks where one node of four is live.
 const SHORT: Shortage = Shortage {
     need: 4,
     free: 3,
@@ -129,7 +129,7 @@ const SHORT: Shortage = Shortage {
     by: None,
 };
 
-/// What is loaded behind two calls.
+/// What is loaded after two calls.
 const LOADED: Read<Option<Range>> = Read {
     lo: 2,
     hi: 2,
@@ -145,7 +145,7 @@ fn done(call: u64, reply: Reply) -> Result<Done, Worn> {
     Ok(Done { call, reply })
 }
 
-/// A tree of this kind with four rows runs short at its second call, which is its last.
+/// A tree of this kind with four nodes runs short at its second call, which is its last.
 fn expect_short<R: Abort + Wait>(rt: &R, alloc: Global, kind: Kind) -> Result<(), Fail> {
     let (tree, mut passes) = made(alloc, shape_of(kind, 4, 1, 2))?;
     let mut pass = last_pass(&tree, &mut passes)?;
@@ -171,7 +171,7 @@ fn a_small_tree_runs_short_and_is_worn(rt: HostRuntime) -> Result<(), Fail> {
 /// The greatest index of a narrow tree.
 const TOP: u64 = u32::MAX as u64;
 
-/// What stands at that index.
+/// What is at that index.
 const LAST: Option<Range> = Some(Range {
     first: TOP,
     last: TOP,
@@ -270,7 +270,7 @@ pub fn fill(rt: &impl Wait, tree: &Tree, pass: &mut Pass)
     }
 }
 
-/// Why no copy of this kind and of so many rows is made.
+/// Why no copy of this kind with this many nodes is made.
 fn not_copied(
     rt: &impl Wait,
     alloc: Global,
@@ -294,7 +294,7 @@ fn not_copied(
     }
 }
 
-/// A copy of a tree of ranges, and its passes.
+/// A copy of a tree of ranges, and its handles.
 fn copied(
     rt: &impl Wait,
     alloc: Global,
@@ -312,8 +312,8 @@ fn copied(
     }
 }
 
-/// A kind of trees, another kind, and how many rows a tree of the first has at the least that has an entry at each even index
-/// below 200: a leaf has 16 items at the most, or 32, and one hole lies between two ranges.
+/// A kind of trees, another kind, and the least number of nodes of a tree of the first kind that has an entry at each even
+/// index below 200. A leaf has at most 16 items, or 32, and one hole lies between two ranges.
 #[derive(Clone, Copy)]
 pub struct Filled {
     pub kind: Kind,
@@ -331,7 +331,7 @@ pub const FILLED: &[Filled] = filled![
     Range Alloc 14, Alloc Alloc32 14, Range32 Range 8, Alloc32 Range32 8
 ];
 
-/// No copy of another kind or with too few rows is made of such a tree.
+/// No copy of such a tree is made in another kind or with too few nodes.
 fn expect_not_copied<R: Abort + Wait>(
     rt: &R,
     alloc: Global,
@@ -378,7 +378,7 @@ fn expect_copy<R: Abort + Wait>(
     Ok(())
 }
 
-/// A tree of this kind is copied, where the copy is of its kind and has rows enough.
+/// A tree of this kind is copied, where the copy is of its kind and has nodes enough.
 fn expect_copied<R: Abort + Wait>(rt: &R, alloc: Global, filled: Filled) -> Result<(), Fail> {
     let kind = filled.kind;
     let (tree, mut passes) = made(alloc, shape_of(kind, 4096, 1, 1000))?;
@@ -396,10 +396,10 @@ fn copies_open_with_the_same_ranges(rt: HostRuntime) -> Result<(), Fail> {
     Ok(())
 }
 
-/// A pass that a thread took along, and what it was answered there.
+/// A handle that a thread took along, and its answer there.
 type Stored = (Pass, Result<Done, Worn>);
 
-/// One call of a pass that a thread takes along.
+/// One call of a handle that a thread takes along.
 fn storing(rt: &impl Wait, tree: &Tree, mut pass: Pass, index: u64) -> Stored
     requires { IsPassOf tree.now pass }
     ensures { IsPassOf tree.now result.0 }
@@ -408,7 +408,7 @@ fn storing(rt: &impl Wait, tree: &Tree, mut pass: Pass, index: u64) -> Stored
     (pass, stored)
 }
 
-/// A call of each pass, in two threads.
+/// A call of each handle, in two threads.
 fn both<R: Threads + Wait + Sync>(rt: &R, tree: &Tree, one: Pass, two: Pass) -> (Stored, Stored)
     requires { IsPassOf tree.now one × IsPassOf tree.now two }
     ensures { IsPassOf tree.now result.0.0 × IsPassOf tree.now result.1.0 }

@@ -1,9 +1,9 @@
-//! Calls on a map, by what they show: the reply to each, the ranges in the end, and what queries are answered then.
+//! Calls on a map, by what they show: the reply to each, the ranges at the end, and the answers to queries then.
 
 use crate::small_trees::{TOP, TOP32};
 use mt_base::{Call, Kind, Query, Range, Reply};
 
-/// What calls on a new map come to, and what is asked of it then.
+/// What calls on a new map lead to, and what is asked of it then.
 pub struct Story {
     pub name: &'static str,
     pub kind: Kind,
@@ -381,7 +381,7 @@ macro_rules! stories {
 /// Stories of wide trees.
 pub const WIDE: &[Story] = stories!(Range, Alloc, TOP, 18_446_744_073_709_551_606);
 
-/// The same of narrow trees.
+/// Stories of narrow trees.
 pub const NARROW: &[Story] = stories!(Range32, Alloc32, TOP32, 4_294_967_286);
 
 /// What lies above the last index of a narrow tree.

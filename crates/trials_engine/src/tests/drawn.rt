@@ -9,7 +9,7 @@ use std::alloc::Global;
 use std::process::Abort;
 use std::test::Fail;
 
-/// So many indexes from 0 on are drawn, and so many of the last and right above them.
+/// How many indexes from 0 on are drawn, and how many of the last and right above them.
 const INDEXES: u32 = 20_000;
 
 const LAST_INDEXES: u32 = 8;
@@ -127,7 +127,7 @@ fn expect_call(
     Ok(())
 }
 
-/// Makes a thousand such calls, behind which the engine and the list hold the same ranges.
+/// Makes a thousand such calls. After each the engine and the list have to hold the same ranges.
 fn expect_calls(
     rt: &impl Abort,
     alloc: Global,
@@ -181,7 +181,7 @@ fn a_hundred_thousand_calls_are_answered_as_by_a_list(rt: HostRuntime) -> Result
     Ok(())
 }
 
-/// Stores a thousand ranges of ten indexes, each behind a hole of ten.
+/// Stores a thousand ranges of ten indexes, each after a hole of ten.
 fn fill(rt: &impl Abort, engine: &mut Engine<PlainRows>, list: &mut ListMap) -> Result<(), NoMemory>
     requires { engine.old.sheet.ended + 1000 < 2 ^ 62 }
     ensures { OnOk result (engine.new.sheet.ended ≡ engine.old.sheet.ended + 1000) }

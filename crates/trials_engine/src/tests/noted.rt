@@ -1,5 +1,5 @@
-//! The order in which a store treats its rows: all new rows are written before the first that it replaces is marked, and all
-//! of these are marked before the one store that publishes; parents and holes are told behind it.
+//! The order in which a store treats its nodes. All new nodes are written before the first replaced one is marked dead. All of
+//! these are marked before the one store that publishes. Parent words and gap words follow after it.
 
 ghost use Rattle.std.specs.Prelude.{◌≡◌, ◌≤◌, ◌+◌, IfOk};
 ghost use Rattle.mt_base.specs.Width.{most_rows};
@@ -17,7 +17,7 @@ use std::alloc::Global;
 use std::process::Abort;
 use std::test::Fail;
 
-/// What is done to a row.
+/// What is done to a node.
 #[derive(Clone, Copy, Debug, Default, PartialEq, Eq)]
 enum Step {
     #[default]
@@ -30,7 +30,7 @@ enum Step {
 /// So many changes from one step to another are noted of a call.
 const MOST_STEPS: usize = 8;
 
-/// Rows in memory that note the steps of the last call, those of a kind that follow one another as one.
+/// Nodes in memory that note the steps of the last call, those of a kind that follow one another as one.
 #[derive(Drop)]
 struct Noted {
     rows: PlainRows,
@@ -38,7 +38,7 @@ struct Noted {
 }
 
 impl Noted {
-    /// So many rows of a width, none of which was ever used.
+    /// So many nodes of a width, none of which was ever used.
     fn new(alloc: Global, width: Width, rows: u64) -> Result<Self, NoMemory>
         requires { rows ≤ most_rows }
         ensures { IfOk result (λ n. sheet_in n.rows ≡ new_sheet width rows) }
@@ -117,7 +117,7 @@ impl Rows for Noted {
     }
 }
 
-/// An engine of an empty tree of this kind over so many rows, which note.
+/// An engine of an empty tree of this kind over this many nodes, which note each step.
 fn fresh_noted(alloc: Global, kind: Kind, rows: u64) -> Result<Engine<Noted>, NoMemory>
     requires { rows ≤ most_rows }
     ensures { IfOk result (λ engine. engine.sheet.ended ≡ 0) }
@@ -127,7 +127,7 @@ fn fresh_noted(alloc: Global, kind: Kind, rows: u64) -> Result<Engine<Noted>, No
     Ok(Engine::new(rows, book, kind))
 }
 
-/// A call behind so many stores at the even indexes, and its steps.
+/// A call after this many stores at the even indexes, and its steps.
 struct Steps {
     kind: Kind,
     stores: u32,
@@ -135,19 +135,20 @@ struct Steps {
     steps: &'static [Step],
 }
 
-/// A word of a row is another.
+/// A word of a node is another.
 const IN_PLACE: &[Step] = &[Step::Publish];
 
-/// A row is written, and none is marked.
+/// A node is written, and none is marked.
 const FIRST: &[Step] = &[Step::Draft, Step::Publish];
 
-/// Rows are marked, and none is written.
+/// Nodes are marked, and none is written.
 const EMPTIED: &[Step] = &[Step::Bury, Step::Publish];
 
-/// Rows are written, and then those that they replace are marked.
+/// Nodes are written, and then those that they replace are marked.
 const REPLACED: &[Step] = &[Step::Draft, Step::Bury, Step::Publish];
 
-/// The same, and then rows are told their parents, or the longest holes below them.
+/// Nodes are written, those that they replace are marked, and after the publication nodes get their parent words, or their gap
+/// words.
 const TENDED: &[Step] = &[Step::Draft, Step::Bury, Step::Publish, Step::Tend];
 
 macro_rules! steps {

@@ -1,4 +1,4 @@
-//! Stores into trees of each kind: the rows that each takes and leaves, and the gap words behind it.
+//! Stores into trees of each kind: the nodes that each takes and leaves, and the gap words afterwards.
 
 ghost use Rattle.std.specs.Prelude.{◌≡◌, ◌<◌, ◌+◌, ◌-◌, ◌^◌, ◌≤◌, length};
 ghost use Rattle.mt_rows.specs.Memory.{sheet_in};
@@ -18,10 +18,10 @@ use std::alloc::Global;
 use std::process::Abort;
 use std::test::Fail;
 
-/// As many rows as the trees of these tests have.
+/// As many nodes as the trees of these tests have.
 const ROWS: u64 = 400;
 
-/// Appends the words of a row.
+/// Appends the words of a node.
 fn push_row(rows: &mut PlainRows, row: u32, words: &mut Vec<u64>) -> Result<(), NoMemory>
     requires { IsPlace (sheet_in rows.old).tree row 0 }
     ensures { OnlyReads (sheet_in rows.old) (sheet_in rows.new) }
@@ -32,7 +32,7 @@ fn push_row(rows: &mut PlainRows, row: u32, words: &mut Vec<u64>) -> Result<(), 
     Ok(())
 }
 
-/// All words of the rows, with those of the numbers below the first row's.
+/// All words of the nodes, with those of the numbers below the first node's.
 fn words_of(rows: &mut PlainRows, alloc: Global) -> Result<Vec<u64>, NoMemory> {
     let mut words = vec![in alloc; 0; FIRST_ROW as usize * cols(rows.width()) as usize]?;
     let count = rows.size();
@@ -42,7 +42,7 @@ fn words_of(rows: &mut PlainRows, alloc: Global) -> Result<Vec<u64>, NoMemory> {
     Ok(words)
 }
 
-/// Where the gap word of a slot stands, behind the pivots and the slots of its row.
+/// The place of the gap word of a slot, after the pivots and the slots of its node.
 fn gap_place(width: Width, row: u32, slot: usize) -> usize
     requires { slot < 2 ^ 32 }
 {
@@ -50,7 +50,7 @@ fn gap_place(width: Width, row: u32, slot: usize) -> usize
     cols(width) as usize * row as usize + pivots_and_slots + slot
 }
 
-/// The longest hole below a row, at most so many levels deep, and none where a gap word there is another.
+/// The longest hole below a node, at most this many levels deep, and none if a gap word there is another.
 fn longest_hole(width: Width, words: &[u64], depth: u32, row: &Span) -> Option<u64> {
     if depth == 0 {
         return None;
@@ -72,7 +72,7 @@ fn longest_hole(width: Width, words: &[u64], depth: u32, row: &Span) -> Option<u
     Some(longest)
 }
 
-/// A tree: its root word, its levels, and the rows that are reached.
+/// A tree: its root word, its levels, and the nodes that are reached.
 #[derive(Drop)]
 struct Tree {
     root: u64,
@@ -80,7 +80,7 @@ struct Tree {
     rows: Vec<u32>,
 }
 
-/// The engine of a tree of this kind behind these calls on the empty one, and a list that plays them too.
+/// The engine of a tree of this kind after these calls on the empty one, and a list that plays them too.
 fn played(
     rt: &impl Abort,
     alloc: Global,
@@ -112,7 +112,7 @@ fn hole_of(width: Width, words: &[u64], root: u64) -> Option<u64> {
     longest_hole(width, words, DEEPEST as u32, &whole)
 }
 
-/// The tree with these words, from this root word: as many rows are reached as are live, and all of its gap words are right.
+/// The tree with these words, from this root word: as many nodes are reached as are live, and all of its gap words are right.
 fn tree_of(
     rt: &impl Abort,
     alloc: Global,
@@ -128,7 +128,7 @@ fn tree_of(
     Ok(Tree { root, height, rows })
 }
 
-/// The words from this root word stand for the ranges of a list.
+/// The words from this root word represent the ranges of a list.
 fn expect_words(
     rt: &impl Abort,
     alloc: Global,
@@ -142,8 +142,8 @@ fn expect_words(
     Ok(())
 }
 
-/// The tree of this kind behind these calls on the empty one. By the plain program its words stand for the ranges of the list
-/// that plays the same.
+/// The tree of this kind after these calls on the empty one. By the plain program its words represent the ranges of the list
+/// that plays the same calls.
 fn tree_after(rt: &impl Abort, alloc: Global, kind: Kind, calls: &[Call]) -> Result<Tree, NoMemory>
     requires { length calls.now < 2 ^ 32 }
 {
@@ -155,7 +155,7 @@ fn tree_after(rt: &impl Abort, alloc: Global, kind: Kind, calls: &[Call]) -> Res
     tree_of(rt, alloc, width, words.as_slice(), root, book.live())
 }
 
-/// How many of these rows are none of those.
+/// How many of these nodes are not among those.
 fn count_others(these: &[u32], those: &[u32]) -> usize {
     these.iter().filter(|row| !those.contains(row)).count()
 }
@@ -225,8 +225,8 @@ fn rows_are_replaced(rt: HostRuntime) -> Result<(), Fail> {
     Ok(())
 }
 
-/// Tries the calls on trees of each of these kinds of two full leaves without a hole, and one behind them: so many ranges of ten
-/// indexes, of which stores at these indexes make more.
+/// Tries the calls on trees of each of these kinds, of two full leaves without a hole, and a hole after them. The trees have
+/// this many ranges of ten indexes, of which stores at these indexes make more.
 fn expect_split(
     rt: &impl Abort,
     alloc: Global,

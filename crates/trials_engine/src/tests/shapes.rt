@@ -1,10 +1,10 @@
-//! What calls make of trees of each kind: tables, reckoned by the least and the greatest number of items of a row.
+//! What calls do to trees of each kind: tables, computed from the least and the greatest number of items of a node.
 
 use crate::tests::{TOP, TOP32};
 use mt_base::{Call, Kind};
 
-/// What a call made of a tree: whether it was published at the root word, the tree's levels and rows, and how many rows
-/// were taken and retired.
+/// What a call made of a tree: whether it was published at the root word, the tree's levels and nodes, and how many nodes were
+/// taken and retired.
 #[derive(Debug, Clone, Copy, PartialEq, Eq)]
 pub struct Shape {
     pub at_root: bool,
@@ -38,7 +38,7 @@ pub struct Trial {
     pub cases: &'static [Case],
 }
 
-/// The kinds of trees of wide rows, and of narrow ones.
+/// The kinds of trees of wide nodes, and of narrow ones.
 pub const WIDE: &[Kind] = &[Kind::Range, Kind::Alloc];
 
 pub const NARROW: &[Kind] = &[Kind::Range32, Kind::Alloc32];
@@ -91,7 +91,7 @@ const BELOW_A_ROOT: &[Case] = &[
     (Call::Clear, at_root!(0, 0, 0, 5)),
 ];
 
-/// Two inner rows of a tree of ranges, of 11 leaves and of 12; the last leaf has 15 items.
+/// Two inner nodes of a tree of ranges, of 11 leaves and of 12; the last leaf has 15 items.
 const RANGE_LEVELS: &[Case] = &[
     // in place
     (call!(store 1, 1, 9), in_slot!(3, 26, 1, 1)),
@@ -113,7 +113,7 @@ const RANGE_LEVELS: &[Case] = &[
     (Call::Clear, at_root!(0, 0, 0, 26)),
 ];
 
-/// Two inner rows of a tree for allocation, of 7 leaves and of 9; the last leaf has 15 items.
+/// Two inner nodes of a tree for allocation, of 7 leaves and of 9; the last leaf has 15 items.
 const ALLOC_LEVELS: &[Case] = &[
     // in place
     (call!(store 1, 1, 9), in_slot!(3, 19, 1, 1)),
@@ -178,7 +178,7 @@ const BELOW_A_NARROW_ROOT: &[Case] = &[
     (Call::Clear, at_root!(0, 0, 0, 5)),
 ];
 
-/// Two inner rows of a narrow tree of ranges, of 19 leaves and of 21; the last leaf has 31 items.
+/// Two inner nodes of a narrow tree of ranges, of 19 leaves and of 21; the last leaf has 31 items.
 const NARROW_RANGE_LEVELS: &[Case] = &[
     // in place
     (call!(store 1, 1, 9), in_slot!(3, 43, 1, 1)),
@@ -202,7 +202,7 @@ const NARROW_RANGE_LEVELS: &[Case] = &[
     (Call::Clear, at_root!(0, 0, 0, 43)),
 ];
 
-/// Two inner rows of a narrow tree of ranges, of 19 leaves and of 20; the last leaf has 31 items.
+/// Two inner nodes of a narrow tree of ranges, of 19 leaves and of 20; the last leaf has 31 items.
 const FEWER_NARROW_RANGE_LEVELS: &[Case] = &[
     (call!(store 716, 716, 1), in_slot!(3, 43, 3, 2)),
     (call!(store 2, 36, 0), in_slot!(3, 40, 2, 4)),
@@ -215,7 +215,7 @@ const FEWER_NARROW_RANGE_LEVELS: &[Case] = &[
     (Call::Clear, at_root!(0, 0, 0, 42)),
 ];
 
-/// Two inner rows of a narrow tree for allocation, of 13 leaves and of 18; the last leaf has 31 items.
+/// Two inner nodes of a narrow tree for allocation, of 13 leaves and of 18; the last leaf has 31 items.
 const NARROW_ALLOC_LEVELS: &[Case] = &[
     // in place
     (call!(store 1, 1, 9), in_slot!(3, 34, 1, 1)),
@@ -335,7 +335,7 @@ pub const FILLING: &[u64] = &[5, 15, 20, 115, 125, 130];
 /// A store over the end of the first and the beginning of the second.
 pub const SPLIT: &[Case] = &[(call!(store 109, 110, 9), at_root!(2, 5, 4, 3))];
 
-/// The same of a narrow tree, where the first leaf ends at 189.
+/// Stores at these indexes fill two leaves of a narrow tree, of which the first ends at 189.
 pub const NARROW_FILLING: &[u64] = &[5, 15, 25, 35, 45, 55, 60, 195, 205, 215, 225, 235, 245, 250];
 
 pub const NARROW_SPLIT: &[Case] = &[(call!(store 189, 190, 9), at_root!(2, 5, 4, 3))];

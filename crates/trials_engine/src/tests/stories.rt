@@ -1,9 +1,9 @@
-//! Calls on an engine over few rows or many: the reply to each, and the ranges in the end.
+//! Calls on an engine with few nodes or many: the reply to each, and the ranges at the end.
 
 use crate::tests::{TOP, TOP32};
 use mt_base::{Call, Kind, Range, Reply, Shortage};
 
-/// What calls on a new tree of this kind, over so many rows, come to.
+/// What calls on a new tree of this kind, with this many nodes, lead to.
 pub struct Story {
     pub kind: Kind,
     pub rows: u64,
@@ -11,7 +11,7 @@ pub struct Story {
     pub ranges: &'static [Range],
 }
 
-/// What a store lacks where one row of four is live.
+/// What a store lacks where one node of four is live.
 const FEW: Shortage = Shortage {
     need: 4,
     free: 3,
@@ -20,7 +20,7 @@ const FEW: Shortage = Shortage {
     by: None,
 };
 
-/// Too few rows are free.
+/// Too few nodes are free.
 macro_rules! few_rows {
     ($kind:expr) => {
         Story {
@@ -41,7 +41,7 @@ macro_rules! few_rows {
     };
 }
 
-/// Stores that want rows at hand.
+/// Stores that want nodes at hand.
 macro_rules! at_hand {
     ($kind:expr) => {
         Story {
@@ -57,7 +57,8 @@ macro_rules! at_hand {
     };
 }
 
-/// A store tells the entry of the first range that it meets, from a hole or from within a range, and an erase the whole range.
+/// A store returns the entry of the first range that it meets, from a hole or from within a range, and an erase the whole
+/// range.
 macro_rules! what_was_there {
     ($kind:expr, $last:expr) => {
         Story {
@@ -172,7 +173,7 @@ macro_rules! room_in_windows {
     };
 }
 
-/// An allocation lacks rows as a store does.
+/// An allocation lacks nodes as a store does.
 macro_rules! few_rows_for_areas {
     ($kind:expr, $last:expr) => {
         Story {

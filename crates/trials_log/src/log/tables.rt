@@ -138,8 +138,8 @@ erase a 10
     ("mtlog 1\n\n#\n", "mtlog 1\n"),
 ];
 
-/// Tables: each row is what stands in a log between the text before the table and the text behind it, and behind an arrow the
-/// last line of what is printed of the log, or its fault.
+/// Tables. Each node is what a log has between the text before the table and the text after it. After an arrow comes the last
+/// line of what is printed of the log, or its fault.
 pub const TABLES: &[(&str, &str, &str)] = &[
     // Each test of a line refuses it.
     (
@@ -406,7 +406,7 @@ x -> 3 bad count
     ),
 ];
 
-/// A log of 16 trees, and tables of what stands behind them, and behind them and a step.
+/// A log of 16 trees, and tables of what follows them, and of what follows them and a step.
 pub const TREES: &str = "mtlog 1
 tree t1 range
 dup t1 c1
@@ -437,8 +437,8 @@ check c8 -> 19 no newline";
 pub const BEHIND_A_STEP: &str = "tree q range -> 19 not between phases
 dup t1 q -> 19 not between phases";
 
-/// So many scans that are alike, and a table of what stands behind them. A good line leaves the last line, which lacks its end,
-/// as the first bad one.
+/// This many equal scans, and a table of what follows them. A good line leaves the last line, which lacks its end, as the first
+/// bad one.
 pub const SCANS: &[(u32, &str, &str)] = &[
     (
         16,
@@ -461,7 +461,7 @@ scan a 0 max 65536 -> 18 too many scan steps",
     ),
 ];
 
-/// The lines of a log, each with what is printed of it behind an arrow, where that is another text.
+/// The lines of a log, each with what is printed of it after an arrow, if that is another text.
 pub const PRINTED: &str = "mtlog 1
 # two trees ->\x20
 

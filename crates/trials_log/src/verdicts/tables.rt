@@ -1,6 +1,6 @@
 /// A log in a row, and below it texts and what is found of each: that it is of no run, or that it is of one and the least points
 /// of its reads. A stroke ends a line, and a row that begins with `#` says what those below it show. These are of trees that have
-/// rows enough.
+/// nodes enough.
 pub const MANY_ROWS: &str = "\
 # Nothing is done: to no trees, and to an empty one.
 mtlog 1/
@@ -157,7 +157,7 @@ mtlog 1/tree a alloc/store a 0 9 1/join/dup a b/dup b c/clear b/join/check b/che
 3 1 ok/5 copied 1/6 copied 1/7 2 ok/9 lawful 0/10 lawful 1/11 3 ok/tree a alloc 1/0 9 1/tree b alloc 1/3 4 8/tree c alloc 1/0 9 1/ -> no
 ";
 
-/// The same of trees of eight rows. A store into a tree of one range needs four of them: where three are free and one is live,
+/// Verdicts on trees of eight nodes. A store into a tree of one range needs four of them: if three are free and one is live,
 /// another lane holds four.
 pub const ROWS_8: &str = "\
 # Another lane looked by then. A store over just the indexes of a range wants no rows.
@@ -202,14 +202,14 @@ mtlog 1/tree a range/tree b alloc/tree n range32/tree m alloc32/lane 0/store a 1
 7 1 ok/8 1 ok/9 1 ok/10 2 ok/12 2 nomem 4 3 1 4/13 0 2 entry 9/14 0 1 range 0 4294967295 5/14 0 1 none/16 0 2 range 1 1 5/17 1 start 0/18 0 1 none/20 0 1 none/21 1 2 range 1 1 5/22 2 over 5/24 copied 1/25 lawful 1/26 copied 2/28 1 over 5/29 2 nomem 4 3 1 4/30 0 1 entry 5/32 0 1 none/33 1 was 1 1 5/35 3 none/36 0 1 none/38 0 1 range 0 0 9/39 4 exists/tree a range 1/1 1 5/tree b alloc 1/1 1 9/tree n range32 1/0 4294967295 5/tree m alloc32 2/0 0 9/1 1 5/tree c range 1/1 1 9/tree d alloc32 1/0 0 9/ -> no
 ";
 
-/// The same of trees of 33 rows: a tree that opened empty has at most two rows, and 28 for each call before, that are live or
+/// Verdicts on trees of 33 nodes. A tree that opened empty has at most two nodes, and 28 for each call before, that are live or
 /// held.
 pub const ROWS_33: &str = "\
 mtlog 1/tree a range/store a 1 1 5/store a 2 2 7/lane 1/load a 1/
 3 1 ok/4 2 nomem 4 3 1 29/6 0 2 entry 5/tree a range 1/1 1 5/ -> yes 1
 ";
 
-/// The same of trees of 34 rows.
+/// Verdicts on trees of 34 nodes.
 pub const ROWS_34: &str = "\
 mtlog 1/tree a range/store a 1 1 5/store a 2 2 7/lane 1/load a 1/
 3 1 ok/4 2 nomem 4 3 1 30/6 0 2 entry 5/tree a range 1/1 1 5/ -> no
@@ -217,7 +217,7 @@ mtlog 1/tree a range/store a 1 1 5/store a 1 1 7/store a 2 2 7/lane 1/load a 1/
 3 1 ok/4 2 ok/5 3 nomem 4 3 1 30/7 0 3 entry 5/tree a range 1/1 1 7/ -> yes 1
 ";
 
-/// The same of trees of four rows, and nobody who could hold any.
+/// Verdicts on trees of four nodes, if nobody could hold any.
 pub const ROWS_4: &str = "\
 # A refusal leaves the map. Nobody has to be refused, but a clear and a store over just one range never are.
 mtlog 1/tree a range/store a 10 10 5/store a 20 20 7/store a 10 10 4/pstore a 10 10 8/erase a 10/clear a/store a 1 1 9/

@@ -1,4 +1,4 @@
-//! The rows that an open section of a cursor holds.
+//! The nodes that an open section of a cursor holds.
 
 ghost use Rattle.std.specs.Prelude.{◌≡◌, ◌<◌};
 ghost use Rattle.mt_tree.specs.Trees.{IsPassOf};
@@ -15,7 +15,7 @@ use std::sync::Wait;
 use std::sync::ledger::{Blank, Ledger};
 use std::test::Fail;
 
-/// Too few of eight rows are free: four are held by the section that this pass opened at this epoch.
+/// Too few of eight nodes are free: four are held by the section that this handle opened at this epoch.
 fn held_by(pass: u32, epoch: u64) -> Shortage {
     Shortage {
         need: 4,
@@ -26,7 +26,7 @@ fn held_by(pass: u32, epoch: u64) -> Shortage {
     }
 }
 
-/// Whether the tree is ready for a store that wants rows.
+/// Whether the tree is ready for a store that needs nodes.
 fn prepared(rt: &impl Wait, tree: &Tree, pass: &mut Pass) -> Result<(), Shortage>
     requires { IsPassOf tree.now pass.old }
     ensures { IsPassOf tree.now pass.new }
@@ -37,7 +37,7 @@ fn prepared(rt: &impl Wait, tree: &Tree, pass: &mut Pass) -> Result<(), Shortage
     ready
 }
 
-/// A tree of eight rows is filled beside a cursor of pass 1 that has stepped once, until a store lacks rows.
+/// A tree of eight nodes is filled beside a cursor of handle 1 that has stepped once, until a store lacks nodes.
 fn fill<R: Wait + Abort>(rt: &R, tree: &Tree, writer: &mut Pass)
     requires { IsPassOf tree.now writer.old }
     ensures { IsPassOf tree.now writer.new }
@@ -58,7 +58,7 @@ fn step_once<R: Abort, L: Ledger>(rt: &R, tree: &Tree, pass: &mut Pass, steps: &
     same(rt, cursor.step(steps), read(1, Some((10, 10, 5))), 1);
 }
 
-/// A cursor that is dropped and not closed holds the rows until its pass reads again.
+/// A cursor that is dropped and not closed holds the nodes until its handle reads again.
 fn drop_the_cursor<R: Wait + Abort, L: Ledger>(
     rt: &R,
     tree: &Tree,
@@ -76,7 +76,7 @@ fn drop_the_cursor<R: Wait + Abort, L: Ledger>(
     store(rt, tree, writer, 60, 7, Reply::Ok);
 }
 
-/// While the rows are held, an entry is changed in its place, and the tree is not ready for more: the first of the two comes
+/// While the nodes are held, an entry is changed in its place, and the tree is not ready for more: the first of the two comes
 /// first or second.
 fn change_the_entry<R: Wait + Abort>(rt: &R, tree: &Tree, writer: &mut Pass, store_first: bool)
     requires { IsPassOf tree.now writer.old }
@@ -90,8 +90,8 @@ fn change_the_entry<R: Wait + Abort>(rt: &R, tree: &Tree, writer: &mut Pass, sto
     }
 }
 
-/// What becomes of a cursor that holds the rows: it is closed, or dropped, or kept while an entry is changed, before the tree is
-/// asked for more or after that.
+/// What becomes of a cursor that holds the nodes: it is closed, or dropped, or kept while an entry is changed, before the tree
+/// is asked for more or after that.
 #[derive(Clone, Copy, PartialEq)]
 enum Held {
     Closed,
@@ -100,7 +100,7 @@ enum Held {
     StoredLast,
 }
 
-/// A cursor holds the rows until it is closed, or until its pass reads again.
+/// A cursor holds the nodes until it is closed, or until its handle reads again.
 fn hold<R: Wait + Abort, L: Ledger>(
     rt: &R,
     blank: Blank,
@@ -132,7 +132,7 @@ fn hold<R: Wait + Abort, L: Ledger>(
     cursor.close(&mut steps);
 }
 
-/// Two cursors, of which the older one holds the rows, and then the younger.
+/// Two cursors, of which the older one holds the nodes, and then the younger.
 fn close_the_older_cursor<R: Wait + Abort, L: Ledger>(
     rt: &R,
     blank: Blank,
@@ -163,7 +163,7 @@ fn close_the_older_cursor<R: Wait + Abort, L: Ledger>(
     one.close(&mut steps);
 }
 
-/// The rows of a tree of this kind are held by one cursor.
+/// The nodes of a tree of this kind are held by one cursor.
 fn hold_by_one<R: Wait + Abort>(rt: &R, alloc: Global, kind: Kind, held: Held) -> Result<(), Fail> {
     let (tree, mut passes) = made(alloc, shape_of(kind, 8, 2, 9))?;
     let mut reader = last_pass(&tree, &mut passes)?;
@@ -183,7 +183,7 @@ fn rows_are_held_by_an_open_section(rt: HostRuntime) -> Result<(), Fail> {
     Ok(())
 }
 
-/// The rows of a tree of this kind are held by two cursors.
+/// The nodes of a tree of this kind are held by two cursors.
 fn hold_by_two<R: Wait + Abort>(rt: &R, alloc: Global, kind: Kind) -> Result<(), Fail> {
     let (tree, mut passes) = made(alloc, shape_of(kind, 8, 3, 9))?;
     let mut older = last_pass(&tree, &mut passes)?;

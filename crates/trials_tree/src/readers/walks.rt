@@ -15,7 +15,7 @@ use std::sync::Wait;
 use std::sync::ledger::{Blank, Ledger};
 use std::test::Fail;
 
-/// A walk of one pass, between whose steps another pass stores.
+/// A walk of one handle, between whose steps another handle stores.
 fn walk<R: Wait + Abort, L: Ledger>(
     rt: &R,
     blank: Blank,
