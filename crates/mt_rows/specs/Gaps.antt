@@ -11,7 +11,7 @@ use Rattle.mt_rows.specs.Spans.{Table, column, inner_of, spans_in}
 abbrev pub covers : ℕ → Span → Bool
 covers index x = nat_le x.first index && nat_le index x.last
 
--- each gap word of a row's slots is the longest hole below, but perhaps in the slot that covers the index
+-- each gap word of a node's slots is the longest hole below, but perhaps in the slot that covers the index
 abbrev pub GapsFromBut : ℕ → Table → ℕ → ℕ → ℕ → List Span → Type 0
 GapsFromBut index t h row slot [] = Unit {0}
 GapsFromBut index t h row slot (x ∷ xs) =
@@ -26,15 +26,15 @@ abbrev pub GapLawBut : ℕ → Tree → ℕ → Span → Type 0
 GapLawBut index t zero x = Unit {0}
 GapLawBut index t (suc h) x = GapLawButBy index (inner_of t.gapped) t.table h x
 
--- a new row keeps the law of gaps, and any row but for the slot that covers the index
+-- a new node keeps the law of gaps, and any other node keeps it except in the slot that covers the index
 pub record KeepsGaps (is_new : ℕ → Bool) (index : ℕ) (t : Tree) (h : ℕ) (x : Span) : Type 0 where
   pub beside : GapLawBut index t h x
   pub new : is_new (row_in x.word) ≡ true → GapLaw t h x
 
--- so does each row of the tree
+-- so does each node of the tree
 abbrev pub HasGapsBut : (ℕ → Bool) → ℕ → Tree → Type 0
 HasGapsBut is_new index t = (t.root ≡ 0) ⊎ ((h : ℕ) × Stands t h × Levels (KeepsGaps is_new index t) t.table h (root_of t))
 
--- each row of the tree keeps the law of gaps
+-- each node of the tree keeps the law of gaps
 abbrev pub HasGaps : Tree → Type 0
 HasGaps t = (t.root ≡ 0) ⊎ ((h : ℕ) × Stands t h × Levels (GapLaw t) t.table h (root_of t))

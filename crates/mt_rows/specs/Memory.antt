@@ -1,4 +1,4 @@
--- The sheet of rows in memory. Source: this project's own.
+-- The sheet of nodes in memory. Source: this project's own.
 use Rattle.mt_rows.specs.declared.plain.PlainRows.{PlainRows}
 use Rattle.mt_rows.specs.Sheet.{Sheet}
 use Rattle.mt_rows.specs.Plain.{sheet_of}

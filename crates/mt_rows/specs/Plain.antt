@@ -14,7 +14,7 @@ use Rattle.mt_rows.specs.Spans.{Table, base_of}
 use Rattle.mt_rows.specs.Levels.{one_if}
 use Rattle.mt_rows.specs.Sheet.{Rooted, Sheet, IsPlace}
 
--- A row that a call buried is dead once that call has published or ended, as the first `past` calls have.
+-- A node that a call buried is dead once that call has published or ended, as the first `past` calls have.
 abbrev pub life_in : ℕ → Fate → Life
 life_in past New = lives.New
 life_in past Draft = lives.Draft
@@ -51,8 +51,8 @@ sheet_of p = record {
   told = None;
 }
 
--- there is a word for each column, and a fate for each row, and those before the first that no row has; no row was buried by a
--- call to come; and before the first call an empty tree has no live row
+-- there is a word for each column, and a fate for each node, and those before the first that no node has; no node was buried by
+-- a call to come; and before the first call an empty tree has no live node
 pub record IsPlain (p : State) : Type 0 where
   pub few : p.rows ≤ most_rows
   pub words : length p.words.items ≡ columns p.width * (first_row + p.rows)
@@ -63,7 +63,7 @@ pub record IsPlain (p : State) : Type 0 where
   pub buried : (row call : ℕ) → fate_of p row ≡ Buried call → (first_row ≤ row) × (1 ≤ call) × (call ≤ p.ended + one_if p.in_flight)
   pub fresh : (row : ℕ) → p.ended ≡ 0 → p.in_flight ≡ false → p.root ≡ 0 → fate_of p row ≢ Live
 
--- so many rows of a width, none of which was used, and no call
+-- `n` nodes of a width, none of which was used, and no call
 abbrev pub new_sheet : Width → ℕ → Sheet
 new_sheet width rows = record {
   tree = record { rows = rows; table = record { width = width; words = replicate (columns width * (first_row + rows)) 0 }; root = 0 };

@@ -1,4 +1,4 @@
--- Every table of rows in memory is whole: the proof of the law that the trait of rows asks for.
+-- Every table of nodes in memory is whole: the proof of the law that the trait of nodes asks for.
 use Rattle.std.specs.Prelude.{◌≡◌, ℕ, zero, suc, ◌+◌, ◌≤◌, Bool, true, false, List, [], ◌∷◌, map, nat_le, slice_index_or, if◌then◌else◌, refl}
 use Rattle.std.proofs.Common.{sym, ◌∙◌, subst}
 use Rattle.std.proofs.lemmas.List.{length-map}
@@ -17,7 +17,7 @@ life_at past [] row = refl
 life_at past (f ∷ fates) zero = refl
 life_at past (f ∷ fates) (suc row) = life_at past fates row
 
--- a row that was buried is dead or alive
+-- a node that was buried is dead or alive
 buried_died : (ended call : ℕ) (in_flight dead : Bool) → 1 ≤ call → call ≤ ended + one_if in_flight → HasDied ended in_flight (if dead then lives.Dead call else lives.Live)
 buried_died ended call in_flight true some low = (some, low)
 buried_died ended call in_flight false some low = tt

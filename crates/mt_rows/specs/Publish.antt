@@ -22,7 +22,7 @@ tree_on gapped t = record { rows = t.rows; gapped = gapped; table = t.table; roo
 abbrev pub tree_as : Kind → Rooted → Tree
 tree_as kind = tree_on (finds_room kind)
 
--- rows of this kind: of the kind that they tell, where they tell one
+-- nodes of this kind: the kind that they give, if they give one
 abbrev pub IsToldKind : Option Kind → Kind → Type 0
 IsToldKind told kind = IfSome told (λ k. k ≡ kind)
 
@@ -31,7 +31,7 @@ pub record IsTreeOf (t : Rooted) (kind : Kind) : Type 0 where
   pub width : t.table.width ≡ kind_width kind
   pub words : IsTree (tree_as kind t)
 
--- the words are lawful
+-- the words are well-formed
 pub record IsLawfulOf (t : Rooted) (kind : Kind) : Type 0 where
   pub width : t.table.width ≡ kind_width kind
   pub words : IsLawful (tree_as kind t)
@@ -39,7 +39,7 @@ pub record IsLawfulOf (t : Rooted) (kind : Kind) : Type 0 where
 abbrev pub map_by : Rooted → List Range
 map_by t = map_in t.table t.root
 
--- ---- rows that are reached
+-- ---- nodes that are reached
 
 abbrev pub is_reached : Rooted → ℕ → Bool
 is_reached t row = nat_lt 0 (tally (λ (r : ℕ). r == row) (reached_in t.table t.root))
@@ -47,21 +47,21 @@ is_reached t row = nat_lt 0 (tally (λ (r : ℕ). r == row) (reached_in t.table 
 abbrev pub IsReached : Rooted → ℕ → Type 0
 IsReached t row = is_reached t row ≡ true
 
--- Live rows are those that are reached from the root.
+-- Live nodes are those that are reached from the root.
 abbrev pub LiveAreReached : Rooted → List Life → Type 0
 LiveAreReached t lives = (row : ℕ) → first_row ≤ row → row < first_row + t.rows → (life_of lives row ≡ Live → IsReached t row) × (IsReached t row → life_of lives row ≡ Live)
 
--- the span is reached, so many levels above the leaves
+-- the span is reached, this many levels above the leaves
 pub record StandsAt (t : Rooted) (height : ℕ) (x : Span) : Type 0 where
   pub depth : ℕ
   pub below : IsBelow t.table depth (root_span t.table t.root) x
   pub levels : depth + height + 1 ≡ height_in t.table t.root
 
--- the same of the spans are 0
+-- the spans that are 0 are at the same places
 abbrev pub SameHoles : List Span → List Span → Type 0
 SameHoles xs ys = map (λ (x : Span). x.word == 0) xs ≡ map (λ (y : Span). y.word == 0) ys
 
--- a row that is reached before and after keeps its range, its level, and which of its slots are 0
+-- a node that is reached before and after keeps its range, its level, and which of its slots are 0
 pub record KeepsPlace (t t' : Rooted) (h h' : ℕ) (x x' : Span) : Type 0 where
   pub height : h' ≡ h
   pub first : x'.first ≡ x.first
@@ -70,7 +70,7 @@ pub record KeepsPlace (t t' : Rooted) (h h' : ℕ) (x x' : Span) : Type 0 where
 
 -- ---- publish
 
--- the slot column of an item of a row that is reached
+-- the slot column of an item of a node that is reached
 pub record IsSlotOf (t : Rooted) (row col : ℕ) : Type 0 where
   pub depth : ℕ
   pub at : Span
@@ -91,11 +91,11 @@ abbrev pub with_published : Rooted → Place → ℕ → Rooted
 with_published t Root word = record { rows = t.rows; table = t.table; root = word }
 with_published t (Slot row col) word = with_word t row col word
 
--- a row that is reached then was live, or is a draft without its dead mark
+-- a node that is reached then was live, or is a draft without its dead mark
 abbrev pub IsKnown : Rooted → List Life → ℕ → Type 0
 IsKnown t lives row = (life_of lives row ≡ Live) ⊎ ((life_of lives row ≡ Draft) × (word_at t row 0 ≢ dead_mark row))
 
--- what a publishing store makes of rows
+-- what a publishing store makes of nodes
 pub record ChangesRows (s : Sheet) (t' : Rooted) : Type 0 where
   pub known : (row : ℕ) → IsReached t' row → IsKnown s.tree s.lives row
   pub stay : (h h' : ℕ) (x x' : Span) → StandsAt s.tree h x → StandsAt t' h' x' → row_in x.word ≡ row_in x'.word → KeepsPlace s.tree t' h h' x x'
@@ -114,11 +114,11 @@ pub record MayPublish (kind : Kind) (s : Sheet) (place : Place) (word : ℕ) (ca
   pub after : IsTree (tree_as kind (with_published s.tree place word))
   pub rows : ChangesRows s (with_published s.tree place word)
 
--- where records are told, one more: the caller's
+-- if records are given, one more: the caller's
 abbrev pub with_record : Option Told → Call → Reply → Option Told
 with_record told call reply = option_map (λ (t : Told). record t { records = t.records ++ (record { pass = t.caller.pass; call = call; reply = reply } ∷ []) }) told
 
--- The drafts that are reached are live then, and the buried rows are dead by this call.
+-- The drafts that are reached are live then, and the buried nodes are dead by this call.
 abbrev pub life_after : Sheet → Rooted → ℕ → Life
 life_after s t' row = if is_reached t' row then Live else (if is_buried s.buried row then Dead (s.ended + 1) else life_of s.lives row)
 
@@ -129,11 +129,11 @@ pub record Published (s s' : Sheet) (place : Place) (word : ℕ) (call : Call) (
 
 -- ---- finish
 
--- no row is buried
+-- no node is buried
 abbrev pub NoneBuried : ℕ → List Bool → Type 0
 NoneBuried rows buried = (row : ℕ) → first_row ≤ row → row < first_row + rows → is_buried buried row ≡ false
 
--- a row that died after the least epoch at which a scan found a section open
+-- a node that died after the least epoch at which a scan found a section open
 pub record IsHeldBack (lives : List Life) (least : ℕ) (row : ℕ) : Type 0 where
   pub call : ℕ
   pub dead : life_of lives row ≡ Dead call
@@ -143,8 +143,8 @@ pub record IsHeldBack (lives : List Life) (least : ℕ) (row : ℕ) : Type 0 whe
 abbrev pub WasScanned : Sheet → Type 0
 WasScanned s = 1 ≤ s.scans
 
--- A shortage is real: it tells the height and how many rows are reached, and so many rows are held back by the section that
--- the last scan found.
+-- A shortage is real. It gives the height and how many nodes are reached, and the section that the last scan found holds back
+-- as many nodes as it says.
 pub record IsRealShortage (s : Sheet) (short : Shortage) : Type 0 where
   pub need : short.need ≡ 3 * height_in s.tree.table s.tree.root + 1
   pub live : short.live ≡ length (reached_in s.tree.table s.tree.root)
@@ -154,7 +154,7 @@ pub record IsRealShortage (s : Sheet) (short : Shortage) : Type 0 where
   pub held : All (IsHeldBack s.lives s.scan.least) rows
   pub by : short.by ≡ (if nat_lt 0 short.held then s.scan.by else None)
 
--- a call that is refused for want of rows, as a scan of this call found
+-- a call that is refused for lack of nodes, as a scan of this call found
 pub record IsFoundShort (kind : Kind) (s : Sheet) (call : Call) (reply : Reply) : Type 0 where
   pub refused : IsRefused kind (limits_of s) (map_by s.tree) call reply
   pub counted : IsRealShortage s refused.shortage
@@ -176,7 +176,7 @@ finished s call reply = record s { ended = s.ended + 1; in_flight = false; publi
 
 -- ---- plant
 
--- rows of which none was used by a call
+-- nodes of which none was used by a call
 pub record MayPlant (kind : Kind) (s : Sheet) (root : ℕ) : Type 0 where
   pub idle : s.in_flight ≡ false
   pub first : s.ended ≡ 0
@@ -184,7 +184,7 @@ pub record MayPlant (kind : Kind) (s : Sheet) (root : ℕ) : Type 0 where
   pub told : IsToldKind s.kind kind
   pub lawful : IsLawfulOf (with_published s.tree Root root) kind
 
--- the rows that are reached from the root word are live, and they alone; all others are as they were
+-- the nodes that are reached from the root word are live, and they alone; all others are as they were
 pub record Planted (s s' : Sheet) (root : ℕ) : Type 0 where
   pub rest : s' ≡ record s { tree = with_published s.tree Root root; lives = s'.lives; opened = length (reached_in s.tree.table root) }
   pub lives : (row : ℕ) → first_row ≤ row → row < first_row + s.tree.rows → life_of s'.lives row ≡ (if is_reached s'.tree row then Live else life_of s.lives row)

@@ -1,4 +1,4 @@
--- How often rows were read, as a chain that grows by one at each read. Source: this project's own.
+-- How often nodes were read, as a chain that grows by one at each read. Source: this project's own.
 use Rattle.std.specs.Prelude.{ℕ}
 use Rattle.mt_rows.specs.declared.reads.Chain.{Chain}
 use Rattle.mt_rows.specs.declared.reads.Chain.TheVariants.{Empty, Longer'}

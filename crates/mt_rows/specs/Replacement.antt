@@ -1,4 +1,4 @@
--- What stands below a place of a tree, replaced by one store.
+-- What is below a place of a tree, replaced by one store.
 -- Source: the kernel's lib/maple_tree.c, mas_replace_node and mas_wr_slot_store.
 use Rattle.std.specs.Prelude.{◌≡◌, ◌⊎◌, ℕ, ◌+◌, ◌<◌, ◌≤◌, Bool, List, [], ◌∷◌, ◌++◌, Some, slice_set}
 use Rattle.std.specs.List.{AllByRecursion, slice_get}
@@ -7,18 +7,18 @@ use Rattle.mt_rows.specs.Spans.{base_of, spans_in, root_span}
 use Rattle.mt_rows.specs.Levels.{level, map_of, times, is_row_of}
 use Rattle.mt_rows.specs.Laws.{Tree, Stands, kind_on}
 
--- the root of a tree, as the one row of its level
+-- the root of a tree, as the one node of its level
 abbrev pub root_of : Tree → List Span
 root_of t = root_span t.table t.root ∷ []
 
--- a slot of a row that stands so many levels below the root, and what stands in it
+-- a slot of a node this many levels below the root, and what it holds
 pub record IsSlotAt (t : Tree) (depth : ℕ) (row : Span) (slot : ℕ) (child : Span) : Type 0 where
   pub front : List Span
   pub back : List Span
   pub stands : level t.table depth (root_of t) ≡ front ++ (row ∷ back)
   pub holds : slice_get (spans_in t.table row) slot ≡ Some child
 
--- the tree after a word is stored in a slot of a row of this height
+-- the tree after a word is stored in a slot of a node of this height
 abbrev pub with_slot : Tree → ℕ → Span → ℕ → ℕ → Tree
 with_slot t height row slot word = record t {
   table = record { width = t.table.width; words = slice_set t.table.words (base_of t.table (row_in row.word) + slot_column (slots_of t.table.width (kind_on t.gapped height)) slot) word };
@@ -27,12 +27,12 @@ with_slot t height row slot word = record t {
 abbrev pub with_child : Span → ℕ → Span
 with_child child word = record child { word = word }
 
--- rows below the new child were not reached, or were reached from the old one
+-- nodes below the new child were not reached, or were reached from the old one
 abbrev pub IsNewBelow : Tree → ℕ → ℕ → Span → Span → Type 0
 IsNewBelow t h k child child' = (row : ℕ) → 1 ≤ times (is_row_of row) t.table k (child' ∷ []) → (times (is_row_of row) t.table h (root_of t) ≡ 0) ⊎ (1 ≤ times (is_row_of row) t.table k (child ∷ []))
 
--- In a tree of height h a child of height k is replaced: the map is the ranges below it, those of the new child and those
--- above it, and of the rows that are reached just those below the two children differ.
+-- In a tree of height h a child of height k is replaced. The map is the ranges left of it, those of the new child and those
+-- right of it. The nodes that are reached differ only below the two children.
 pub record ReplacesChild (t t' : Tree) (h k depth : ℕ) (child child' : Span) : Type 0 where
   pub stands : Stands t' h
   pub front : List Span

@@ -1,4 +1,4 @@
--- All meanings of a tree's rows in one record, and what each call does to it.
+-- All meanings of a tree's nodes in one record, and what each call does to it.
 -- Source: this project's own; the kernel's writers replace nodes under a lock, and free them after a grace period.
 use Rattle.std.specs.Prelude.{◌≡◌, ◌≢◌, ◌⊎◌, ℕ, ◌+◌, ◌-◌, ◌*◌, ◌^◌, ◌<◌, ◌≤◌, Bool, true, false, List, Option, Some, None, length, min, slice_index_or, slice_set}
 use Rattle.std.specs.Option.{option_map}
@@ -9,8 +9,8 @@ use Rattle.mt_rows.specs.declared.rows.Life.{Life}
 use Rattle.mt_rows.specs.declared.rows.Life.TheVariants.{New, Draft, Live, Dead}
 use Rattle.mt_rows.specs.declared.rows.Scan.{Scan}
 
--- who calls, where that is told: the tree's table, the number of its passes, and of the joined pass its number, the
--- epochs at which it opened sections, the epoch of the one that stands open, and the greatest call seen begun
+-- Who calls, if that is given: the tree's table and the number of its handles. Of the joined handle: its number, the epochs at
+-- which it opened sections, the epoch of the one that is open, and the greatest call seen begun.
 pub record Caller : Type 0 where
   pub table : ℕ
   pub passes : ℕ
@@ -24,36 +24,36 @@ pub record Told : Type 0 where
   pub caller : Caller
   pub records : List Record
 
--- how many rows there are, their words, and the root word
+-- how many nodes there are, their words, and the root word
 pub record Rooted : Type 0 where
   pub rows : ℕ
   pub table : Table
   pub root : ℕ
 
 pub record Sheet : Type 0 where
-  -- the rows with their words, and the root word
+  -- the nodes with their words, and the root word
   pub tree : Rooted
   -- the number of calls ended; whether a call is in flight, and whether it has published
   pub ended : ℕ
   pub in_flight : Bool
   pub published : Bool
-  -- by the row's number: its life, and whether the call in flight has buried it
+  -- by the node's number: its life, and whether the call in flight has buried it
   pub lives : List Life
   pub buried : List Bool
-  -- how many rows were live before the first call
+  -- how many nodes were live before the first call
   pub opened : ℕ
-  -- a number that never falls: a row that is dead by a call up to it may be used again
+  -- a number that never falls: a node that is dead by a call up to it may be used again
   pub cleared : ℕ
-  -- whether others may read the rows; the last scan's answer, and how many scans there were since the last `begin`
+  -- whether others may read the nodes; the last scan's answer, and how many scans there were since the last `begin`
   pub shared : Bool
   pub scan : Scan
   pub scans : ℕ
-  -- where they are told: how many loads, the tree's kind, and who calls, with the history's records
+  -- if they are given: how many loads, the tree's kind, and who calls, with the history's records
   pub reads : Option ℕ
   pub kind : Option Kind
   pub told : Option Told
 
--- a count of 64 bits after one more, which stands still at its last value
+-- a count of 64 bits after one more, which stays at its last value
 abbrev pub one_more : ℕ → ℕ
 one_more n = min (n + 1) (2 ^ 64 - 1)
 
@@ -63,18 +63,18 @@ life_of lives row = slice_index_or lives row New
 abbrev pub is_buried : List Bool → ℕ → Bool
 is_buried buried row = slice_index_or buried row false
 
--- what the calls on rows are limited by
+-- what the calls on nodes are limited by
 abbrev pub limits_of : Sheet → Limits
 limits_of s = record { rows = s.tree.rows; opened = s.opened; ended = s.ended; may_hold = s.shared }
 
--- a dead row died by a call that has ended, or by the call in flight
+-- a dead node died by a call that has ended, or by the call in flight
 abbrev pub HasDied : ℕ → Bool → Life → Type 0
 HasDied ended in_flight New = Unit {0}
 HasDied ended in_flight Draft = Unit {0}
 HasDied ended in_flight Live = Unit {0}
 HasDied ended in_flight (Dead call) = (1 ≤ call) × (call ≤ ended + one_if in_flight)
 
--- what every table of rows keeps: few enough rows to be named, a word for each column, and a life for each row
+-- what every table of nodes keeps: few enough nodes to be named, a word for each column, and a life for each node
 pub record IsWhole (s : Sheet) : Type 0 where
   pub few : s.tree.rows ≤ most_rows
   pub words : length s.tree.table.words ≡ columns s.tree.table.width * (first_row + s.tree.rows)
@@ -83,7 +83,7 @@ pub record IsWhole (s : Sheet) : Type 0 where
   pub cleared : s.cleared ≤ s.ended
   pub dead : (row : ℕ) → HasDied s.ended s.in_flight (life_of s.lives row)
 
--- a row and a column of the table
+-- a node and a column of the table
 pub record IsPlace (t : Rooted) (row col : ℕ) : Type 0 where
   pub first : first_row ≤ row
   pub last : row < first_row + t.rows
@@ -112,9 +112,8 @@ pub record MayBegin (s : Sheet) : Type 0 where
 abbrev pub begun : Sheet → Sheet
 begun s = record s { in_flight = true; published = false; scans = 0 }
 
--- What a scan may answer. The least epoch is that of the holder that is told; it is the greatest number where no section
--- stands open. The holder is one of the table's passes, and not the caller where the caller has no section open. Where
--- nobody else may read there is none.
+-- What a scan may return. The least epoch is that of the holder, and the greatest number if no section is open. The holder is
+-- one of the table's handles, and not the caller if the caller has no section open. If nobody else may read, there is none.
 pub record IsScan (shared : Bool) (told : Option Told) (answer : Scan) : Type 0 where
   pub least : ((answer.by ≡ None) × (answer.least ≡ 2 ^ 64 - 1)) ⊎ ((holder : Holder) × (answer.by ≡ Some holder) × (answer.least ≡ holder.epoch))
   pub alone : shared ≡ false → answer.by ≡ None
@@ -126,7 +125,7 @@ scanned s answer cleared = record s { scan = answer; scans = one_more s.scans; c
 
 -- ---- draft
 
--- a row that may be written anew: new, draft, or dead by a call that is cleared
+-- a node that may be written again: new, draft, or dead (retired) by a call that is cleared
 abbrev pub IsFree : ℕ → Life → Type 0
 IsFree cleared New = Unit {0}
 IsFree cleared Draft = Unit {0}
@@ -149,7 +148,7 @@ after_bury s row = record s { tree = with_word s.tree row 0 (dead_mark row); bur
 
 -- ---- tend
 
--- the column is the gap column of an item of a row that is reached and has gaps
+-- the column is the gap column of an item of a node that is reached and has gaps
 pub record IsGapOf (t : Rooted) (row col : ℕ) : Type 0 where
   pub depth : ℕ
   pub at : Span
@@ -176,14 +175,14 @@ tended s row col word = record s { tree = with_word s.tree row col word }
 abbrev pub OnlyReads : Sheet → Sheet → Type 0
 OnlyReads s s' = s' ≡ record s { reads = s'.reads }
 
--- told or not, the count rose by so much at the most
+-- the count, if it is given, rose by at most this
 abbrev pub RoseUpTo : ℕ → Option ℕ → Option ℕ → Type 0
 RoseUpTo n None None = Unit {0}
 RoseUpTo n (Some a) (Some b) = b ≤ a + n
 RoseUpTo n None (Some b) = ⊥
 RoseUpTo n (Some a) None = ⊥
 
--- nothing has changed, but so many loads were made at the most
+-- nothing has changed, except that at most `n` loads were made
 pub record ReadsUpTo (n : ℕ) (s s' : Sheet) : Type 0 where
   pub rest : OnlyReads s s'
   pub reads : RoseUpTo n s.reads s'.reads

@@ -1,4 +1,4 @@
--- A list of numbers, of which only the first are written down: those behind them are 0.
+-- A list of numbers of which only the first are stored: those after them are 0.
 -- Source: this project's own.
 use Rattle.std.specs.Prelude.{◌≡◌, ◌⊎◌, ℕ, zero, suc, ◌+◌, ◌<◌, ◌≤◌, List, [], ◌∷◌, length, slice_index}
 use Rattle.std.specs.Vec.{vec_capacity}
@@ -7,7 +7,7 @@ use Rattle.mt_rows.specs.declared.words.Words.TheInside.{Inside}
 pub record Listed : Type 0 where
   pub items : List ℕ
 
--- these, and zeros behind them until there are so many
+-- these words, and zeros after them up to this number of words
 abbrev pub with_zeros : ℕ → List ℕ → List ℕ
 with_zeros zero xs = xs
 with_zeros (suc n) [] = 0 ∷ with_zeros n []
@@ -21,7 +21,7 @@ pub record IsListed (w : Inside) : Type 0 where
   pub fit : length w.written.items ≤ w.len
   pub room : w.len ≤ vec_capacity w.written
 
--- these words stand from a place on, and each other word is as before
+-- these words are at a place and after it, and each other word is as before
 pub record ArePut (at : ℕ) (words : List ℕ) (w w' : List ℕ) : Type 0 where
   pub size : length w' ≡ length w
   pub here : (i : ℕ) → i < length words → slice_index w' (at + i) ≡ slice_index words i

@@ -1,8 +1,7 @@
 //! What has become of the rows of a tree, of which only clauses know.
 
-ghost use Rattle.std.specs.Prelude.{◌≡◌, length, replicate, slice_set};
-ghost use Rattle.mt_rows.specs.Fates.{changed, enlivened};
-ghost use Rattle.mt_rows.specs.Trees.{reached_in};
+ghost use Rattle.std.specs.Prelude.{◌≡◌, replicate, slice_set};
+ghost use Rattle.mt_rows.specs.Fates.{changed, opened_with, table_of, with_reached};
 
 use crate::words::Words;
 use mt_base::Width;
@@ -90,7 +89,7 @@ impl Fates {
 
     /// The rows are live that are reached from a root word.
     pub(crate) fn enliven(&mut self, width: Width, words: &Words, root: u64)
-        ensures { self.new ≡ record self.old { items = enlivened self.old.items (reached_in (record { width = width; words = words.now.items }) root) } }
+        ensures { self.new ≡ with_reached (table_of width words.now) root self.old }
     {
         self.note(Change::Enlivens {
             width,
@@ -101,8 +100,7 @@ impl Fates {
 
     /// The same before the first call: so many rows are live then.
     pub(crate) fn open(&mut self, width: Width, words: &Words, root: u64)
-        ensures items { self.new.items ≡ enlivened self.old.items (reached_in (record { width = width; words = words.now.items }) root) }
-        ensures opened { self.new.opened ≡ length (reached_in (record { width = width; words = words.now.items }) root) }
+        ensures { self.new ≡ opened_with (table_of width words.now) root self.old }
     {
         self.note(Change::Opens {
             width,

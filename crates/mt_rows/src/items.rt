@@ -1,4 +1,4 @@
-//! An item of a row, read off its words.
+//! An item of a node, read off its words.
 
 ghost use Rattle.std.specs.Prelude.{◌≡◌, ◌<◌, ◌≤◌, ◌+◌, nat_lt, if◌then◌else◌};
 ghost use Rattle.mt_base.specs.Width.{first_row};
@@ -11,8 +11,8 @@ use crate::rows::Rows;
 use mt_base::Width;
 use mt_layout::{Item, RowKind, gaps, slots};
 
-/// The item in a slot of a row of this width, which covers the indexes up to `max`. A caller that reads many slots reckons once
-/// how many there are.
+/// The item in a slot of a node of this width, which covers the indexes up to `max`. A caller that reads many slots computes
+/// once how many there are.
 pub fn load_item_of<R: Rows>(
     rows: &mut R,
     width: Width,
@@ -44,7 +44,7 @@ pub fn load_item_of<R: Rows>(
     Item { last, word, gap }
 }
 
-/// The item in a slot of a row that covers the indexes up to `max`.
+/// The item in a slot of a node that covers the indexes up to `max`.
 pub fn load_item<R: Rows>(rows: &mut R, kind: RowKind, row: u32, max: u64, slot: u32) -> Item
     requires first { first_row ≤ row }
     requires last { row < first_row + (R.sheet rows.old).tree.rows }

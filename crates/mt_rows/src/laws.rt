@@ -1,4 +1,4 @@
-//! What lawful words stand for. Each law is the contract of a function that does nothing.
+//! What well-formed words represent. Each law (lemma) is the contract of a function that does nothing.
 
 ghost use Rattle.std.specs.Prelude.{◌≡◌, ◌≢◌, ℕ, suc, ◌+◌, ◌*◌, ◌/◌, ◌^◌, ◌<◌, ◌≤◌, ◌==◌, Bool, true, false, List, [], ◌∷◌, ◌++◌, length};
 ghost use Rattle.std.specs.List.{AllByRecursion};
@@ -22,44 +22,44 @@ ghost use Rattle.mt_rows.specs.Sheet.{Sheet, IsPlace, IsWhole, drafted, after_bu
 ghost use Rattle.mt_rows.specs.Publish.{tree_as, IsToldKind, LiveAreReached, NoneBuried, MayPublish, map_by};
 ghost use Rattle.mt_rows.specs.Replacement.{root_of, IsSlotAt, with_slot, with_child, IsNewBelow, ReplacesChild, ReplacesEntry};
 
-/// What stands below a row by depth and by levels is the same: the ranges, how often each row is reached, and the height.
+/// Depth and levels agree on what is below a node: the ranges, how often each node is reached, and the height.
 pub fn depth_and_levels_agree()
     ensures ranges { (t : Tree) (depth h : ℕ) (x : Span) → h < depth → Levels (IsRow t) t.table h (x ∷ []) → ranges_of t.table depth x ≡ map_of t.table h (x ∷ []) }
     ensures rows { (t : Tree) (depth h row : ℕ) (x : Span) → h < depth → Levels (IsRow t) t.table h (x ∷ []) → tally (λ (r : ℕ). r == row) (rows_of t.table depth x) ≡ times (is_row_of row) t.table h (x ∷ []) }
     ensures height { (t : Tree) (depth h : ℕ) (x : Span) → h < depth → Levels (IsRow t) t.table h (x ∷ []) → height_of t.table depth x ≡ h + 1 }
 {}
 
-/// No row of a tree is reached twice.
+/// No node of a tree is reached twice.
 pub fn no_row_is_reached_twice()
     ensures levels { (t : Tree) (h row : ℕ) (root : Span) → Levels (IsRow t) t.table h (root ∷ []) → Fills 0 (top_of t + 1) (root ∷ []) → times (is_row_of row) t.table h (root ∷ []) ≤ 1 }
     ensures depth { (t : Tree) (h row : ℕ) → Stands t h → tally (λ (r : ℕ). r == row) (reached_in t.table t.root) ≤ 1 }
 {}
 
-/// The words of rows that are not reached do not count, nor do parent words, in tables of one width.
+/// The words of nodes that are not reached do not count, nor do parent words, in tables of one width.
 pub fn rows_not_reached_do_not_count()
     ensures { (t t' : Table) (depth : ℕ) (x : Span) → t'.width ≡ t.width → AllByRecursion (SameColumns t t' (columns t.width)) (rows_of t depth x) → ranges_of t' depth x ≡ ranges_of t depth x }
 {}
 
-/// A tree stands for a map of its kind, and an empty one for the empty map.
+/// A tree represents a map of its kind, and an empty one the empty map.
 pub fn words_stand_for_maps()
     ensures empty { (t : Table) → map_in t 0 ≡ [] }
     ensures tree { (kind : Kind) (t : Tree) (h : ℕ) → Stands t h → t.table.width ≡ kind_width kind → IsMap kind (map_in t.table t.root) }
 {}
 
-/// Rows of a height that stand side by side stand for the map of the first, and behind it that of the others.
+/// Adjacent nodes of one height represent the map of the first, followed by that of the others.
 pub fn rows_stand_side_by_side()
     ensures ranges { (t : Table) (h : ℕ) (xs ys : List Span) → map_of t h (xs ++ ys) ≡ map_of t h xs ++ map_of t h ys }
     ensures rows { (p : ℕ → Span → Bool) (t : Table) (h : ℕ) (xs ys : List Span) → times p t h (xs ++ ys) ≡ times p t h xs + times p t h ys }
 {}
 
-/// Tables that have the same spans in each row that is reached stand for the same.
+/// Tables with the same spans in each node that is reached represent the same.
 pub fn same_spans_stand_for_the_same()
     ensures ranges { (t t' : Table) (h : ℕ) (xs : List Span) → Levels (λ (_ : ℕ) (x : Span). SameSpans t t' x) t h xs → map_of t' h xs ≡ map_of t h xs }
     ensures rows { (p : ℕ → Span → Bool) (t t' : Table) (h : ℕ) (xs : List Span) → Levels (λ (_ : ℕ) (x : Span). SameSpans t t' x) t h xs → times p t' h xs ≡ times p t h xs }
 {}
 
-/// What stands below a slot is replaced by one store of the slot's word. The new child is known by the words after the
-/// store, or by those before it, where its rows were not reached or were reached from the old child.
+/// One store of a slot's word replaces what is below the slot. The new child is known by the words after the store. Or it is
+/// known by those before it, if its nodes were not reached, or were reached from the old child.
 pub fn one_store_replaces_a_child()
     ensures by_words_after { (t : Tree) (h k depth slot word : ℕ) (row child : Span) → HasWords t → Stands t h → h ≡ depth + suc k → IsSlotAt t depth row slot child
         → let t' = with_slot t (suc k) row slot word in let child' = with_child child word in
@@ -75,22 +75,22 @@ pub fn one_store_replaces_an_entry()
         → ReplacesEntry t (with_slot t 0 row slot entry) h item entry }
 {}
 
-/// What stands below the root word is replaced by one store of it, by a tree of any height.
+/// One store of the root word replaces what is below it, by a tree of any height.
 pub fn one_store_replaces_the_root()
     ensures grown { (t : Tree) (h word : ℕ) → h < deepest → let t' = record t { root = word } in Levels (IsRow t') t'.table h (root_of t')
         → Stands t' h × (map_in t'.table t'.root ≡ map_of t.table h (root_of t')) }
     ensures emptied { (t : Tree) → let t' = record t { root = 0 } in IsTree t' × (map_in t'.table t'.root ≡ []) }
 {}
 
-/// A draft, a burying and a new parent word leave what stands in every other row, and a burying or a parent word what
-/// stands in the row itself.
+/// A draft, a dead mark and a new parent word leave what every other node holds. A dead mark and a parent word also leave what
+/// the node itself holds.
 pub fn writes_leave_other_rows()
     ensures draft { (s : Sheet) (row col word : ℕ) (x : Span) → IsPlace s.tree row col → row_in x.word ≢ row → SameSpans s.tree.table (drafted s row col word).tree.table x }
     ensures bury { (s : Sheet) (row : ℕ) (x : Span) → IsPlace s.tree row 0 → SameSpans s.tree.table (after_bury s row).tree.table x }
     ensures tend { (s : Sheet) (row word : ℕ) (x : Span) → IsPlace s.tree row 0 → SameSpans s.tree.table (tended s row 0 word).tree.table x }
 {}
 
-/// A store of an entry over just the indexes of a range may be published by one store of its slot, and takes no row.
+/// A store of an entry over just the indexes of a range may be published by one store of its slot, and takes no node.
 pub fn an_exact_store_may_be_published()
     ensures { (kind : Kind) (s : Sheet) (h slot entry row col : ℕ) (leaf item : Span) → IsWhole s → s.in_flight ≡ true → s.published ≡ false → LiveAreReached s.tree s.lives → NoneBuried s.tree.rows s.buried → IsToldKind s.kind kind → s.tree.table.width ≡ kind_width kind
         → Stands (tree_as kind s.tree) h → IsSlotAt (tree_as kind s.tree) h leaf slot item → row ≡ row_in leaf.word → col ≡ slot_column (slots_of s.tree.table.width (kind_at kind 0)) slot
@@ -98,15 +98,15 @@ pub fn an_exact_store_may_be_published()
         → let call = Store item.first item.last entry in MayPublish kind s (Slot row col) entry call (acted kind (map_by s.tree) call).1 }
 {}
 
-/// A tree of as many rows as can be named has nine levels at the most; and the inner rows on a way from the root to a leaf have 128
-/// slots at the most, whatever the width.
+/// A tree of as many nodes as can be named has nine levels at most; and the inner nodes on a way from the root to a leaf have
+/// 128 slots at most, whatever the width.
 pub fn a_tree_has_nine_levels_at_most()
     ensures levels { (t : Tree) (h : ℕ) → t.rows ≤ most_rows → Levels (IsRow t) t.table h (root_of t) → h < deepest }
     ensures slots { (t : Tree) (h : ℕ) → t.rows ≤ most_rows → Levels (IsRow t) t.table h (root_of t) → slots_of t.table.width (inner_of t.gapped) * h ≤ 128 }
 {}
 
-/// A tree has at most half as many rows as ranges, rounded down, and two more; and with so many levels it has so many
-/// ranges, and a row on each level.
+/// A tree has at most half as many nodes as ranges, rounded down, and two more. It has a node on each level, and at least half
+/// of 3 * 4 ^ h ranges for the height h, rounded down.
 pub fn a_tree_has_few_rows()
     ensures rows { (t : Tree) (h : ℕ) → Stands t h → length (reached_in t.table t.root) ≤ length (map_in t.table t.root) / 2 + 2 }
     ensures levels { (t : Tree) (h : ℕ) → Stands t h → h + 1 ≤ length (reached_in t.table t.root) }

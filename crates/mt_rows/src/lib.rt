@@ -1,4 +1,4 @@
-//! The words of a tree's rows: what they stand for, and the trait through which they are read and written.
+//! The words of a tree's *rows* (nodes): what they represent, and the trait by which they are read and written.
 #![tactic(auto)]
 
 mod fates;

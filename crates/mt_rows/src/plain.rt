@@ -27,7 +27,7 @@ struct State {
     reads: Reads,
 }
 
-/// Rows in memory that nobody else reads.
+/// Nodes in memory that nobody else reads.
 #[derive(Drop)]
 pub struct PlainRows {
     state: State,
@@ -46,7 +46,7 @@ impl PlainRows {
     ghost use Rattle.mt_rows.specs.Publish.{MayPlant, Planted, with_published};
     ghost use Rattle.mt_rows.specs.Sheet.{IsPlace, IsFree, life_of};
 
-    /// So many wide rows, none of which was ever used, and an empty tree. There are `MOST_ROWS` at the most.
+    /// So many wide nodes, none of which was ever used, and an empty tree. There are `MOST_ROWS` at most.
     ///
     /// # Errors
     ///
@@ -58,7 +58,7 @@ impl PlainRows {
         PlainRows::of_width(alloc, Width::Long, rows)
     }
 
-    /// As `new`, but of rows of this width.
+    /// As `new`, but of nodes of this width.
     ///
     /// # Errors
     ///
@@ -86,7 +86,7 @@ impl PlainRows {
         Ok(PlainRows { state })
     }
 
-    /// Rows with these words, and this root word. Where the words are lawful, the rows that are reached are live.
+    /// Nodes with these words, and this root word. Where the words are well-formed, the nodes that are reached are live.
     ///
     /// # Errors
     ///
@@ -107,7 +107,8 @@ impl PlainRows {
         Ok(made)
     }
 
-    /// Puts words over all rows of a new table, and a root word. Where the words are lawful, the rows that are reached are live.
+    /// Puts words over all nodes of a new table, and a root word. Where the words are well-formed, the nodes that are reached
+    /// are live.
     pub fn put_words(&mut self, width: Width, root: u64, words: &[u64])
         requires whole { length words.now % columns width ≡ 0 }
         requires new { sheet_in self.old ≡ new_sheet width (length words.now / columns width) }
@@ -119,7 +120,7 @@ impl PlainRows {
         self.state.fates.open(width, &self.state.words, root);
     }
 
-    /// Sets the root word before the first call. The rows that are reached from it are live then.
+    /// Sets the root word before the first call. The nodes that are reached from it are live then.
     pub fn plant(&mut self, root: u64)
         requires { (kind : Kind) × MayPlant kind (sheet_in self.old) root }
         ensures { Planted (sheet_in self.old) (sheet_in self.new) root }
@@ -129,7 +130,8 @@ impl PlainRows {
         self.state.fates.open(width, &self.state.words, root);
     }
 
-    /// Writes these words into the columns of a row that may be written anew, from a column on. The row is then a draft.
+    /// Writes these words into the columns of a node that may be written again, from a column on. The node is then a draft (not
+    /// yet published).
     pub fn draft_columns(&mut self, row: u32, col: u32, words: &[u64])
         requires place { IsPlace (sheet_in self.old).tree row col }
         requires columns { col + length words.now ≤ columns (sheet_in self.old).tree.table.width }
@@ -141,7 +143,7 @@ impl PlainRows {
         self.state.fates.turn(row, Fate::Draft);
     }
 
-    /// The words of all rows where they stand among a table's words. Those before them are 0.
+    /// The words of all nodes at their places among a table's words. Those before them are 0.
     pub fn into_words(self) -> Vec<u64>
         ensures size { length result.items ≡ length (sheet_in self).tree.table.words }
         ensures before { (at : ℕ) → at < columns (sheet_in self).tree.table.width * first_row → slice_index result.items at ≡ 0 }

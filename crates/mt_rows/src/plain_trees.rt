@@ -1,4 +1,4 @@
-//! What words stand for, as the definitions say it: slow, for the answers to be compared with.
+//! What words represent, just as the definitions say it: slow, to compare answers with.
 
 ghost use Rattle.std.specs.Prelude.{◌≡◌, ◌+◌, ◌-◌, ◌^◌, ◌<◌, ◌≤◌, [], ◌++◌, IfOk, length, slice_index};
 ghost use Rattle.std.specs.List.{flat_map};
@@ -13,7 +13,7 @@ use mt_base::{DEEPEST, NoMemory, Range, Width, cols, top};
 use mt_layout::{RUN_ROOM, RowKind, Span, kind_of, row_of, slots};
 use std::alloc::Global;
 
-/// Where a row's columns stand among the words, its kind, and the last index that it covers.
+/// Where a node's columns are among the words, its kind, and the last index that it covers.
 #[derive(Clone, Copy)]
 struct Columns {
     base: usize,
@@ -21,14 +21,14 @@ struct Columns {
     last: u64,
 }
 
-/// The word at this place, and 0 behind the last word.
+/// The word at this place, and 0 after the last word.
 fn word_at(words: &[u64], at: usize) -> u64
     ensures { result ≡ slice_index words.now at }
 {
     words.get(at).copied().unwrap_or(0)
 }
 
-/// Appends the spans of a row from slot `i` on, the first of which begins at `first`.
+/// Appends the spans of a node from slot `i` on, the first of which begins at `first`.
 fn push_spans(
     width: Width,
     words: &[u64],
@@ -59,7 +59,7 @@ fn push_spans(
     }
 }
 
-/// What stands in the row that a span names, and nothing where its word is no name.
+/// What the node that a span names holds, and nothing if its word is no name.
 #[tactic(auto, using(mt_layout::proofs::RowSizes::some_slots_of, mt_layout::proofs::RowSizes::sizes))]
 pub fn spans_in(width: Width, words: &[u64], span: &Span) -> ArrayVec<Span, RUN_ROOM>
     ensures { result.items ≡ defined.spans_in (record { width = width; words = words.now }) span.now }
@@ -104,7 +104,7 @@ fn push_leaf_ranges(spans: &[Span], ranges: &mut Vec<Range>) -> Result<(), NoMem
     Ok(())
 }
 
-/// Appends the ranges below a row, at most so many levels deep.
+/// Appends the ranges below a node, at most this many levels deep.
 #[tactic(auto, using(crate::proofs::Deeper::ranges_of_deeper, crate::proofs::Deeper::ranges_of_inner))]
 fn push_ranges(
     width: Width,
@@ -133,7 +133,7 @@ fn push_ranges(
     }
 }
 
-/// Appends the rows that are reached, at most so many levels deep: each row before its children, children from the left.
+/// Appends the nodes that are reached, at most this many levels deep: each node before its children, children from the left.
 #[tactic(auto, using(crate::proofs::Deeper::rows_of_deeper, crate::proofs::Deeper::rows_of_inner))]
 fn push_rows(
     width: Width,
@@ -163,7 +163,7 @@ fn push_rows(
     }
 }
 
-/// The number of levels below and with a row, at most so many, counted along the first children.
+/// The number of levels from a node down, at most this many, counted along the first children.
 #[tactic(auto, using(crate::proofs::Deeper::height_of_deeper, crate::proofs::Deeper::height_of_inner))]
 fn height_of(width: Width, words: &[u64], depth: u32, span: &Span) -> u32
     ensures height { result ≡ trees.height_of (record { width = width; words = words.now }) depth span.now }
@@ -185,7 +185,7 @@ fn height_of(width: Width, words: &[u64], depth: u32, span: &Span) -> u32
     }
 }
 
-/// The map that words stand for, from the root word.
+/// The map of words, from the root word.
 pub fn map_in(alloc: Global, width: Width, words: &[u64], root: u64) -> Result<Vec<Range>, NoMemory>
     ensures { IfOk result (λ m. m.items ≡ trees.map_in (record { width = width; words = words.now }) root) }
 {
@@ -195,7 +195,7 @@ pub fn map_in(alloc: Global, width: Width, words: &[u64], root: u64) -> Result<V
     Ok(ranges)
 }
 
-/// The rows that are reached from the root word.
+/// The nodes that are reached from the root word.
 pub fn reached_in(
     alloc: Global,
     width: Width,

@@ -1,4 +1,4 @@
-//! How often rows are read.
+//! How often nodes are read.
 
 ghost use Rattle.std.specs.Prelude.{◌≡◌};
 ghost use Rattle.mt_rows.specs.Sheet.{one_more};
@@ -14,7 +14,7 @@ pub(crate) enum Chain {
     Longer(Snapshot<Chain>),
 }
 
-/// How often rows were read, up to 2^64 - 1. It takes no bytes when the program runs, and only `tick` raises it.
+/// How often nodes were read, up to 2^64 - 1. It takes no bytes when the program runs, and only `tick` raises it.
 #[derive(Drop)]
 pub(crate) struct Reads {
     chain: Snapshot<Chain>,

@@ -1,4 +1,4 @@
-//! How wide rows are, as those keep it who look for columns.
+//! How wide nodes are, as those keep it who look for columns.
 
 ghost use Rattle.std.specs.Prelude.{◌≡◌, ◌+◌, ◌*◌, ◌<◌};
 ghost use Rattle.mt_base.specs.Width.{columns, first_row, most_rows};
@@ -6,7 +6,7 @@ ghost use Rattle.mt_base.specs.Width.{columns, first_row, most_rows};
 use mt_base::{Width, cols};
 use std::marker::Model;
 
-/// A width of rows. How many words a row has is reckoned once, so that where a column stands takes no look at the width.
+/// A width of nodes. How many words a node has is computed once, so that finding a column takes no look at the width.
 #[derive(Clone, Copy, Debug)]
 pub struct RowWidth {
     width: Width,
@@ -28,7 +28,7 @@ impl Model for RowWidth {
 }
 
 impl RowWidth {
-    /// Rows of this width.
+    /// Nodes of this width.
     pub fn of_width(width: Width) -> RowWidth
         ensures { result ≡ width }
     {
@@ -45,14 +45,14 @@ impl RowWidth {
         self.width
     }
 
-    /// How many words a row has.
+    /// How many words a node has.
     pub fn cols(&self) -> usize
         ensures { result ≡ columns self.now }
     {
         self.cols
     }
 
-    /// Where the word in this column of this row stands.
+    /// The place of the word in this column of this node.
     pub fn place_of(&self, row: u32, col: u32) -> usize
         requires row { row < first_row + most_rows }
         requires column { col < columns self.now }

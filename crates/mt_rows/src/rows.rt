@@ -7,14 +7,14 @@ ghost use Rattle.mt_rows.specs.Sheet.{Sheet, IsWhole, IsPlace, word_at, loaded, 
 
 use mt_base::{Call, Holder, Reply, Width};
 
-/// Where a word is published: the root word, or a slot column of a live row.
+/// Where a word is published: the root word, or a slot column of a live node.
 #[derive(Clone, Copy, Debug, PartialEq, Eq)]
 pub enum Place {
     Root,
     Slot { row: u32, col: u32 },
 }
 
-/// What has become of a row.
+/// What has become of a node.
 #[derive(Clone, Copy, Debug, PartialEq, Eq)]
 pub enum Life {
     /// It was never used.
@@ -27,20 +27,20 @@ pub enum Life {
     Dead(u64),
 }
 
-/// What a scan of all section words found: the least epoch at which a section stands open, and who holds it.
+/// What a scan of all section words found: the least epoch at which a section is open, and whose it is.
 #[derive(Clone, Copy, Debug, PartialEq, Eq)]
 pub struct Scan {
     pub least: u64,
     pub by: Option<Holder>,
 }
 
-/// The words of a tree's rows, and what has become of each row. No call is refused.
+/// The words of a tree's nodes, and what has become of each node. No call is refused.
 ///
 /// All meanings are one record, the `sheet`, and what a call leaves is one equation on it.
 pub trait Rows {
     ghost sheet: { Self → Sheet };
 
-    /// The number of rows.
+    /// The number of nodes.
     fn size(&self) -> u64
         ensures { result ≡ (sheet self.now).tree.rows };
 
@@ -48,7 +48,7 @@ pub trait Rows {
     fn width(&self) -> Width
         ensures { result ≡ (sheet self.now).tree.table.width };
 
-    /// A column of a row.
+    /// A column of a node.
     fn load(&mut self, row: u32, col: u32) -> u64
         requires { IsPlace (sheet self.old).tree row col }
         ensures word { result ≡ word_at (sheet self.old).tree row col }
@@ -72,37 +72,38 @@ pub trait Rows {
         ensures kept { (sheet self.old).cleared ≤ (sheet self.new).cleared }
         ensures cleared { min result.least (sheet self.old).ended ≤ (sheet self.new).cleared };
 
-    /// Writes a column of a row that may be written anew. The row is then a draft.
+    /// Writes a column of a node that may be written again. The node is then a draft (not yet published).
     fn draft(&mut self, row: u32, col: u32, word: u64)
         requires place { IsPlace (sheet self.old).tree row col }
         requires free { IsFree (sheet self.old).cleared (life_of (sheet self.old).lives row) }
         ensures { sheet self.new ≡ drafted (sheet self.old) row col word };
 
-    /// Writes all columns of a row that may be written anew. The row is then a draft.
+    /// Writes all columns of a node that may be written again. The node is then a draft (not yet published).
     fn draft_row(&mut self, row: u32, words: &[u64])
         requires place { IsPlace (sheet self.old).tree row 0 }
         requires columns { length words.now ≡ columns (sheet self.old).tree.table.width }
         requires free { IsFree (sheet self.old).cleared (life_of (sheet self.old).lives row) }
         ensures { AreDrafted row 0 words.now (sheet self.old) (sheet self.new) };
 
-    /// Stores the dead mark of a live row that the call in flight replaces.
+    /// Stores the dead mark of a live node that the call in flight replaces.
     fn bury(&mut self, row: u32)
         requires { MayBury (sheet self.old) row }
         ensures { sheet self.new ≡ after_bury (sheet self.old) row };
 
-    /// Writes the parent word of a live row, or the longest hole below one of its items.
+    /// Writes the parent word of a live node, or the longest hole below one of its items.
     fn tend(&mut self, row: u32, col: u32, word: u64)
         requires { MayTend (sheet self.old) row col word }
         ensures { sheet self.new ≡ tended (sheet self.old) row col word };
 
-    /// Stores a word at a place, which is the event of the call in flight: with this one store the words stand for the
-    /// map after it. The drafts that are reached then are live, and the buried rows are dead by this call.
+    /// Publishes the call in flight: stores a word at a place. With this one store (the linearization point of the write) the
+    /// words represent the map after the call. The drafts that are then reached are live, and the nodes marked dead are dead by
+    /// this call.
     fn publish(&mut self, place: Place, word: u64, call: &Call, reply: &Reply)
         requires { (kind : Kind) × MayPublish kind (sheet self.old) place word call.now reply.now }
         ensures { Published (sheet self.old) (sheet self.new) place word call.now reply.now };
 
-    /// Ends the call in flight. Where nothing was published this is its event, and it left the map as it was: by its
-    /// reply, or since it was refused for want of rows.
+    /// Ends the call in flight. Where nothing was published this is its event, and it left the map as it was: by its reply, or
+    /// since it was refused for lack of nodes.
     fn finish(&mut self, call: &Call, reply: &Reply)
         requires { (kind : Kind) × MayFinish kind (sheet self.old) call.now reply.now }
         ensures { sheet self.new ≡ finished (sheet self.old) call.now reply.now };

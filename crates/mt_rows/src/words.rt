@@ -23,7 +23,7 @@ impl Model for Words {
     ghost invariant = { IsListed };
 }
 
-/// Writes zeros behind the words until there are so many.
+/// Writes zeros after the words, up to this length.
 #[tactic(auto, using(crate::proofs::ZeroWords::zeros_push, crate::proofs::ZeroWords::zeros_enough))]
 fn write_zeros(words: &mut Vec<u64>, len: usize)
     requires { len ≤ vec_capacity words.old }
@@ -54,7 +54,7 @@ fn overwrite(list: &mut [u64], at: usize, words: &[u64])
     list[at..at + words.len()].copy_from_slice(words);
 }
 
-/// Writes 0 over the first so many words.
+/// Writes 0 over the first `count` words.
 #[tactic(auto, using(crate::proofs::ZeroWords::one_more_zero, crate::proofs::ZeroWords::others_stay))]
 pub(crate) fn clear_first(words: &mut [u64], count: usize)
     requires { count ≤ length words.old }
@@ -68,7 +68,7 @@ pub(crate) fn clear_first(words: &mut [u64], count: usize)
 }
 
 impl Words {
-    /// So many zeros. Only want of memory fails.
+    /// So many zeros. Only lack of memory fails.
     #[tactic(auto, using(crate::proofs::ZeroWords::all_zeros))]
     pub(crate) fn new(alloc: Global, len: usize) -> Result<Words, NoMemory>
         ensures { IfOk result (λ w. w.items ≡ replicate len 0) }
@@ -87,7 +87,7 @@ impl Words {
         self.written.get(at).copied().unwrap_or(0)
     }
 
-    /// The same, for the few rows that were not written to their end.
+    /// The word at a place, for the few nodes that were not written to their end.
     #[inline(never)]
     #[cold]
     fn get_apart(&self, at: usize) -> u64
@@ -96,8 +96,8 @@ impl Words {
         self.get(at)
     }
 
-    /// The word in a column of a row of so many words, which begins at a place. One look at where the row ends serves for all of its
-    /// columns, where several are loaded.
+    /// The word in a column of a node of `cols` words, which begins at a place. One look at where the node ends serves for all
+    /// of its columns, if several are loaded.
     #[inline(always)]
     #[tactic(auto, using(crate::proofs::ZeroWords::zeros_behind, crate::proofs::ZeroWords::zeros_long))]
     pub(crate) fn get_in(&self, begin: usize, cols: usize, col: usize) -> u64

@@ -1,9 +1,6 @@
-use Rattle.mt_rows.proofs.Prelude.{ap, ◌∙◌, length, reached_in, Listed, Fated, enlivened}
+use Rattle.mt_rows.proofs.Prelude.{ap, ◌∙◌, Listed}
+use Rattle.mt_rows.specs.Fates.{opened_with, table_of}
 use Rattle.mt_rows.proofs.fates.Fates.open.Goals as goal
 
-pub returns-clause-items : goal.returns-clause-items
-returns-clause-items c =
-    ap (λ (f : Fated). f.items) c.note.ensures ∙ ap (λ (w : Listed). enlivened c.args.self.now.items (reached_in (record { width = c.args.width; words = w.items }) c.args.root)) c.of.ensures
-
-pub returns-clause-opened : goal.returns-clause-opened
-returns-clause-opened c = ap (λ (f : Fated). f.opened) c.note.ensures ∙ ap (λ (w : Listed). length (reached_in (record { width = c.args.width; words = w.items }) c.args.root)) c.of.ensures
+pub returns : goal.returns
+returns c = c.note.ensures ∙ ap (λ (w : Listed). opened_with (table_of c.args.width w) c.args.root c.args.self.now) c.of.ensures

@@ -1,4 +1,4 @@
-use Rattle.mt_rows.proofs.Prelude.{◌≡◌, ◌*◌, ◌/◌, ◌++◌, length, take, ◌∙◌, arith, columns, first_row}
+use Rattle.mt_rows.proofs.Prelude.{◌≡◌, ◌*◌, ◌/◌, ◌++◌, length, take, ◌∙◌, ap, arith, columns, first_row, Fated}
 use Rattle.mt_rows.proofs.PlainMade.{made_plain, made_is}
 use Rattle.mt_rows.proofs.plain.PlainRows.put_words.Goals as goal
 
@@ -9,7 +9,7 @@ invariant_of-self c =
     let put : w.items ≡ take (columns c.args.width * first_row) p.words.items ++ c.args.words.now = c.set_last.ensures ∙ (λ i. take (c.cols.ensures i * first_row) p.words.items ++ c.args.words.now) in
     record {
       plain = made_plain p w c.open.new.self c.args.width (length c.args.words.now / columns c.args.width) c.args.root c.args.words.now c.args.self.now.plain c.requires.new (let whole = c.requires.whole in omega arith) put
-          c.open.ensures.items c.open.ensures.opened;
+          (ap (λ (f : Fated). f.items) c.open.ensures) (ap (λ (f : Fated). f.opened) c.open.ensures);
     }
 
 pub returns : goal.returns
@@ -18,4 +18,4 @@ returns c =
     let w = c.set_last.new.self in
     let put : w.items ≡ take (columns c.args.width * first_row) p.words.items ++ c.args.words.now = c.set_last.ensures ∙ (λ i. take (c.cols.ensures i * first_row) p.words.items ++ c.args.words.now) in
     made_is p w c.open.new.self c.args.width (length c.args.words.now / columns c.args.width) c.args.root c.args.words.now c.args.self.now.plain c.requires.new (let whole = c.requires.whole in omega arith) put
-    c.open.ensures.items c.open.ensures.opened
+    (ap (λ (f : Fated). f.items) c.open.ensures) (ap (λ (f : Fated). f.opened) c.open.ensures)
