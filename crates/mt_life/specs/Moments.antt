@@ -30,7 +30,7 @@ pub record IsPart (all : List Range) (lo hi : ℕ) (part : List Range) : Type 0 
   pub below : AllByRecursion (λ (r : Range). r.last < lo) front
   pub above : AllByRecursion (λ (r : Range). hi < r.first) back
 
--- A leaf began at lo, and none behind lo up to hi.
+-- A leaf began at lo, and none after lo up to hi.
 pub record Cut (cuts : List ℕ) (lo hi : ℕ) : Type 0 where
   pub before : List ℕ
   pub after : List ℕ

@@ -1,4 +1,4 @@
-//! What is known of rows from call to call. Each law is the contract of a function that does nothing.
+//! What is known of nodes from call to call. Each law is the contract of a function that does nothing.
 
 ghost use Rattle.std.specs.Prelude.{◌≡◌, ◌≢◌, ℕ, suc, ◌+◌, ◌*◌, ◌<◌, ◌≤◌, ◌==◌, false, List, Some, length};
 ghost use Rattle.std.specs.List.{AllByRecursion, flat_map, slice_get};
@@ -25,8 +25,8 @@ ghost use Rattle.mt_life.specs.Holding.{HoldsRow, LeadsTo, Snapshot, LeafTells, 
 ghost use Rattle.mt_life.specs.Known.{Child, HasExtentsOf, Goes, HasRow, IsFull, IsLive, Known, SameForm, Shape, State, begun_calls, calls, extent_at, extent_of, with_cleared, spans_at, state_of};
 ghost use Rattle.mt_life.specs.Moments.{PartOf, moment_of};
 
-/// A tree has nine levels at the most. A leaf lies between two cuts and has what the map has there. What stands in an
-/// inner row fills it, and stands one level lower.
+/// A tree has at most nine levels. A leaf lies between two cuts and has what the map has there. What an inner node holds fills
+/// it, and is one level lower.
 pub fn a_tree_is_in_parts()
     ensures low { (kind : Kind) (h : ℕ) (t : Rooted) → Stands (tree_as kind t) h → h < deepest }
     ensures leaf { (kind : Kind) (h : ℕ) (t : Rooted) (x : Span) → Stands (tree_as kind t) h → StandsAt t 0 x → PartOf (moment_of t) x.first x.last (flat_map leaf_range (spans_in t.table x)) }
@@ -35,26 +35,26 @@ pub fn a_tree_is_in_parts()
     ensures shape { (kind : Kind) (h k : ℕ) (t : Rooted) (x : Span) → Stands (tree_as kind t) h → StandsAt t k x → Shape kind t.table (row_in x.word) (extent_at x k) }
 {}
 
-/// The extents that are known are those at which rows stand.
+/// The extents that are known are those of nodes.
 pub fn extents_are_places()
     ensures { (kind : Kind) (s : State) (e : ℕ → Extent) (m : ℕ → Moment) (h k : ℕ) (x : Span) → Known kind s e m → Stands (tree_as kind s.tree) h → StandsAt s.tree k x → Child kind s.tree.rows s.lives e IsLive k x }
 {}
 
-/// The root's level is known to be so low that the inner rows on a way from it have few slots together, of whatever kind.
+/// The root's level is known to be so low that the inner nodes on a way from it have few slots together, of whatever kind.
 pub fn a_way_from_the_root_has_few_slots()
     ensures { (kind : Kind) (s : State) (e : ℕ → Extent) (m : ℕ → Moment) → Known kind s e m → IsTree (tree_as kind s.tree) → s.tree.rows ≤ most_rows → s.tree.root ≢ 0
         → slots_of (kind_width kind) (inner_kind kind) * (e (row_in s.tree.root)).level ≤ 128 }
 {}
 
-/// Each tree has extents of its rows, also as a list.
+/// Each tree has extents of its nodes, also as a list.
 pub fn extents_follow()
     ensures each { (kind : Kind) (t : Rooted) (before : ℕ → Extent) → IsTree (tree_as kind t) → (after : ℕ → Extent) × HasExtentsOf t before after }
     ensures listed { (kind : Kind) (t : Rooted) (before : List Extent) → length before ≡ first_row + t.rows → IsTree (tree_as kind t)
         → (after : List Extent) × (length after ≡ first_row + t.rows) × HasExtentsOf t (extent_of before) (extent_of after) }
 {}
 
-/// The kind of a name agrees with the level of the row that it names: of the root word, and of each word in an inner row
-/// that is live, or dead and may still be read.
+/// The kind of a name agrees with the level of the node that it names: of the root word, and of each word in an inner node that
+/// is live, or dead and may still be read.
 pub fn names_agree_with_levels()
     ensures root { (kind : Kind) (s : State) (e : ℕ → Extent) (m : ℕ → Moment) → Known kind s e m → s.tree.root ≢ 0 → named_kind s.tree.root ≡ Some (kind_at kind (e (row_in s.tree.root)).level) }
     ensures live { (kind : Kind) (s : State) (e : ℕ → Extent) (m : ℕ → Moment) (row level : ℕ) → Known kind s e m → HasRow s.tree.rows row → life_of s.lives row ≡ Live → (e row).level ≡ suc level
@@ -63,8 +63,8 @@ pub fn names_agree_with_levels()
         → AllByRecursion (λ (y : Span). (named_kind y.word ≡ Some (kind_at kind level)) × ((e (row_in y.word)).level ≡ level)) (spans_at kind s.tree.table row (e row)) }
 {}
 
-/// What stands in a row has the word of its slot. Rows of the same form have the same slots, each with a word of its own,
-/// and holes in the same of them.
+/// What a node holds has the word of its slot. Nodes of the same form have the same slots, each with a word of its own, and the
+/// same slots are holes.
 pub fn rows_of_a_form_have_the_same_slots()
     ensures word { (kind : Kind) (t : Table) (row i : ℕ) (e : Extent) (x : Span) → slice_get (spans_at kind t row e) i ≡ Some x
         → (i < slots_of t.width (kind_at kind e.level)) × (x.word ≡ column t row (slot_column (slots_of t.width (kind_at kind e.level)) i)) }
@@ -74,7 +74,7 @@ pub fn rows_of_a_form_have_the_same_slots()
         → slice_get (spans_at kind t row e) i ≡ Some x → slice_get (spans_at kind t' row e) i ≡ Some x' → (x'.word == 0) ≡ (x.word == 0) }
 {}
 
-/// What is known of rows before a publishing store is known after it, and what passes rely on stays.
+/// What is known of nodes before a publishing store is known after it, and what handles rely on stays.
 pub fn a_publishing_store_carries_what_is_known()
     ensures { (kind : Kind) (s s' : Sheet) (place : Place) (word : ℕ) (call : Call) (reply : Reply) (e e' : ℕ → Extent) (m m' : ℕ → Moment)
         → MayPublish kind s place word call reply → Published s s' place word call reply → Known kind (state_of s) e m → HasExtentsOf (with_published s.tree place word) e e'
@@ -82,7 +82,7 @@ pub fn a_publishing_store_carries_what_is_known()
         → Known kind (state_of s') e' m' × Goes kind (state_of s) (state_of s') e e' m m' }
 {}
 
-/// A draft of a free row, a burying and a tending leave what is known of rows.
+/// A draft of a free node, a burying and a tending leave what is known of nodes.
 pub fn writes_leave_what_is_known()
     ensures draft { (kind : Kind) (s : Sheet) (row col word : ℕ) (e : ℕ → Extent) (m : ℕ → Moment) → IsFull (state_of s) → IsPlace s.tree row col → IsFree s.cleared (life_of s.lives row) → Known kind (state_of s) e m
         → Known kind (state_of (drafted s row col word)) e m × Goes kind (state_of s) (state_of (drafted s row col word)) e e m m }
@@ -92,8 +92,8 @@ pub fn writes_leave_what_is_known()
         → Known kind (state_of (tended s row col word)) e m × Goes kind (state_of s) (state_of (tended s row col word)) e e m m }
 {}
 
-/// The begin and the end of a call, and a scan, leave what is known of rows. A call that published nothing leaves the map
-/// and its cuts.
+/// The begin and the end of a call, and a scan, leave what is known of nodes. A call that published nothing leaves the map and
+/// its cuts.
 pub fn ends_leave_what_is_known()
     ensures begin { (kind : Kind) (s : Sheet) (e : ℕ → Extent) (m : ℕ → Moment) → MayBegin s → Known kind (state_of s) e m
         → Known kind (state_of (begun s)) e m × Goes kind (state_of s) (state_of (begun s)) e e m m }
@@ -105,22 +105,22 @@ pub fn ends_leave_what_is_known()
         → Known kind (state_of (finished s call reply)) e m' × Goes kind (state_of s) (state_of (finished s call reply)) e e m m' }
 {}
 
-/// Before the first call all is known of the rows of lawful words.
+/// Before the first call all is known of the nodes of well-formed words.
 pub fn all_is_known_at_the_start()
     ensures { (kind : Kind) (s : State) (before e : ℕ → Extent) (m : ℕ → Moment) → IsLawfulOf s.tree kind → LiveAreReached s.tree s.lives → NoneBuried s.tree.rows s.buried
         → ((row d : ℕ) → HasRow s.tree.rows row → life_of s.lives row ≢ Dead d) → s.ended ≡ 0 → s.published ≡ false → HasExtentsOf s.tree before e → m 0 ≡ moment_of s.tree → Known kind s e m }
 {}
 
-/// What a section knows of a row that it holds stays true by each step, while no row is cleared that died behind the load of
-/// the root from which it was reached.
+/// What a section knows of a node that it holds stays true by each step, as long as no node is cleared that died after the load
+/// of the root from which it was reached.
 pub fn a_held_row_stays_known()
     ensures { (kind : Kind) (s s' : State) (e e' : ℕ → Extent) (m m' : ℕ → Moment) (x : Held) → Known kind s e m → Known kind s' e' m' → Goes kind s s' e e' m m' → s'.cleared ≤ x.since
         → HoldsRow kind s e m x → HoldsRow kind s' e' m' x }
 {}
 
-/// The root may be held at the load of its word, and the row that a slot of a held row names at the load of that slot. A
-/// leaf that is held has what the map had after some number of calls, no fewer than at the load of the root. Its parent
-/// word tells by the dead mark that more calls have begun than the map had seen then, and without it that the row is live.
+/// The root may be held at the load of its word, and a child at the load of the slot of a held node that names it. A leaf that
+/// is held has what the map had after some number of calls, no fewer than at the load of the root. If its parent word is the
+/// dead mark, more calls have begun than the map had seen then. If not, the node is live.
 pub fn held_rows_tell()
     ensures root { (kind : Kind) (s : State) (e : ℕ → Extent) (m : ℕ → Moment) → Known kind s e m → s.cleared ≤ calls s → s.tree.root ≢ 0
         → (level : ℕ) × (level < deepest) × LeadsTo kind s e m s.tree.root (calls s) (extent_at (root_span s.tree.table s.tree.root) level) }
@@ -133,12 +133,12 @@ pub fn held_rows_tell()
         → (life_of s.lives x.row ≡ Live) × (x.extent.level ≡ 0 → (k : ℕ) → x.met ≤ k → k ≤ calls s → Snapshot kind x (m k)) }
 {}
 
-/// After a publishing store live rows are again those that are reached.
+/// After a publishing store live nodes are again those that are reached.
 pub fn live_rows_are_reached()
     ensures { (kind : Kind) (s s' : Sheet) (place : Place) (word : ℕ) (call : Call) (reply : Reply) → MayPublish kind s place word call reply → Published s s' place word call reply → LiveAreReached s'.tree s'.lives }
 {}
 
-/// A draft of a free row, a burying and a tending leave the words a tree.
+/// A draft of a free node, a burying and a tending leave the words a tree.
 pub fn writes_leave_a_tree()
     ensures draft { (kind : Kind) (s : Sheet) (row col word : ℕ) (e : ℕ → Extent) (m : ℕ → Moment) → Known kind (state_of s) e m → IsPlace s.tree row col → IsFree s.cleared (life_of s.lives row)
         → IsTreeOf s.tree kind → IsTreeOf (drafted s row col word).tree kind }

@@ -1,4 +1,4 @@
-//! What is known of a tree's rows from call to call, and of those that readers hold.
+//! What is known of a tree's nodes from call to call, and of those that readers hold.
 #![tactic(auto)]
 
 pub mod laws;

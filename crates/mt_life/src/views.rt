@@ -1,10 +1,10 @@
-//! What is known of rows, as plain data that the seats of a table can hold. No value of these types is made when the
-//! program runs.
+//! What is known of nodes, as plain data that the seats of a table can hold. It is ghost: no value of these types is made at
+//! run time.
 
 use mt_base::{Range, Width};
 use std::collections::LinkedList;
 
-/// Where a row stands: its range, and its level, which is 0 for a leaf.
+/// Where a node is: its range, and its level, which is 0 for a leaf.
 pub struct Extent {
     pub first: u64,
     pub last: u64,
@@ -18,18 +18,18 @@ pub struct Moment {
     pub cuts: LinkedList<u64>,
 }
 
-/// A row that a section holds.
+/// A node that a section holds.
 pub struct Held {
     pub row: u64,
-    /// How many calls the map had seen at the load of the root from which the row was reached.
+    /// How many calls the map had seen at the load of the root from which the node was reached.
     pub since: u64,
-    /// How many it had seen when the row's name was loaded.
+    /// How many it had seen when the node's name was loaded.
     pub met: u64,
     pub extent: Extent,
-    /// The words of all rows, as they were when the row's name was loaded, or since then a slot of it where it is a leaf; and
+    /// The words of all nodes, as they were when the node's name was loaded, or since then a slot of it where it is a leaf; and
     /// how wide they are.
     pub width: Width,
     pub copy: LinkedList<u64>,
-    /// The call by which the row died, where it was found dead.
+    /// The call by which the node died, where it was found dead.
     pub died: Option<u64>,
 }

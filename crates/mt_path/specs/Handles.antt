@@ -1,4 +1,4 @@
--- Where an index stands in a tree: the leaf that covers it, the slot there, and what stands in it.
+-- Where an index is in a tree: the leaf that covers it, the slot there, and what the slot holds.
 -- Source: the kernel's struct ma_state, whose node, offset, index and last a walk sets.
 use Rattle.std.specs.Prelude.{◌≡◌, ◌≢◌, ℕ, ◌-◌, ◌≤◌, ◌<◌, List, length}
 use Rattle.mt_path.specs.Prelude.{greatest, Leaf, Span, Table, row_spans, Rooted}
@@ -6,18 +6,18 @@ use Rattle.mt_path.specs.declared.paths.PathStep.{PathStep}
 use Rattle.mt_path.specs.declared.handles.Handle.{Handle}
 use Rattle.mt_path.specs.Paths.{path_in, step_at, span_at}
 
--- the leaf at the end of a path, and what stands in it
+-- the leaf at the end of a path, and what it holds
 abbrev pub last_step : List PathStep → PathStep
 last_step path = step_at path (length path - 1)
 
 abbrev pub leaf_spans : Table → PathStep → List Span
 leaf_spans t s = row_spans t s.row Leaf s.min s.max
 
--- the leaf at the end of a path, and what stands in the slot there
+-- the leaf at the end of a path, and what its slot holds
 abbrev pub handle_of : Table → PathStep → Handle
 handle_of t leaf = record { leaf = leaf; span = span_at (leaf_spans t leaf) leaf.slot }
 
--- the same of the path to an index
+-- the leaf at the end of the path to an index
 abbrev pub leaf_in : Rooted → ℕ → PathStep
 leaf_in t index = last_step (path_in t.table t.root index)
 
@@ -31,7 +31,7 @@ pub record IsHandleOf (t : Rooted) (handle : Handle) : Type 0 where
   pub within : index ≤ greatest t.table.width
   pub is : handle ≡ handle_in t index
 
--- the leaf of some index, and one of its slots in which something stands
+-- the leaf of some index, and one of its slots that is in use
 pub record IsStepOfLeaf (t : Rooted) (step : PathStep) : Type 0 where
   pub some : t.root ≢ 0
   pub index : ℕ

@@ -16,15 +16,15 @@ no_span = record { first = 0; last = 0; word = 0 }
 abbrev pub span_at : List Span → ℕ → Span
 span_at xs slot = slice_index_or xs slot no_span
 
--- the step in the row that a span names
+-- the step in the node that a span names
 abbrev pub step_in : Table → Span → ℕ → PathStep
 step_in t x index = record { row = row_in x.word; slot = slot_for (spans_in t x) index; min = x.first; max = x.last }
 
--- the span below a row that covers an index
+-- the span below a node that covers an index
 abbrev pub below : Table → Span → ℕ → Span
 below t x index = span_at (spans_in t x) (slot_for (spans_in t x) index)
 
--- the steps from a row down to the leaf, at most so many; none where its word is no name
+-- the steps from a node down to the leaf, at most this many; none if its word is no name
 unfoldable pub path_of : Table → ℕ → Span → ℕ → List PathStep
 path_of t zero x index = []
 path_of t (suc depth) x index = by_kind (named_kind x.word) (step_in t x index ∷ []) (step_in t x index ∷ path_of t depth (below t x index) index)
@@ -40,12 +40,12 @@ no_step = record { row = 0; slot = 0; min = 0; max = 0 }
 abbrev pub step_at : List PathStep → ℕ → PathStep
 step_at path level = slice_index_or path level no_step
 
--- So many words of a row are loaded at the most to find the slot of a step: thirteen, or where pivots are loaded one by one, those up
--- to the slot's.
+-- So many words of a node are loaded at most to find the slot of a step: thirteen, or where pivots are loaded one by one, those
+-- up to the slot's.
 abbrev pub loads_at : PathStep → ℕ
 loads_at s = max 13 (s.slot + 1)
 
--- how many words a walk loads at the most: in each row those and one slot, and before them the root word
+-- how many words a walk loads at most: in each node those and one slot, and before them the root word
 abbrev pub loads_in : List PathStep → ℕ
 loads_in steps = sum (map (λ s. loads_at s + 1) steps)
 
@@ -54,25 +54,25 @@ loads_on path = 1 + loads_in path
 
 -- ---- a path that goes on to another index
 
--- the row covers the index
+-- the node covers the index
 abbrev pub Covers : PathStep → ℕ → Type 0
 Covers s index = (s.min ≤ index) × (index ≤ s.max)
 
--- of a path's steps, the deepest whose row covers an index, and those above it
+-- of a path's steps, the deepest whose node covers an index, and those above it
 pub record IsDeepestOver (steps above : List PathStep) (index : ℕ) (step : PathStep) : Type 0 where
   pub behind : List PathStep
   pub parts : steps ≡ above ++ (step ∷ behind)
   pub over : Covers step index
   pub none_deeper : AllByRecursion (λ s. Covers s index → ⊥) behind
 
--- No row is loaded that stands above one which covered the index before: but for the root word, the loads are no more than
--- those in the rows from there on.
+-- No node is loaded above one that covered the index before. Except for the root word, the loads are at most those in the nodes
+-- from there on.
 abbrev pub ReadsBelow : List PathStep → List PathStep → ℕ → Sheet → Sheet → Type 0
 ReadsBelow old new index s s' = (level : ℕ) → level < length old → Covers (step_at old level) index → ReadsUpTo (loads_on (drop level new)) s s'
 
--- ---- where the rows of a path stand
+-- ---- the nodes of a path
 
--- the row that a path enters so many levels below a row
+-- the node that a path enters this many levels below a node
 unfoldable pub row_on : Table → ℕ → Span → ℕ → Span
 row_on t zero x index = x
 row_on t (suc d) x index = row_on t d (below t x index) index

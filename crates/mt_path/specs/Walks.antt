@@ -1,4 +1,4 @@
--- What a walk finds in a row, and which row it is in.
+-- What a walk finds in a node, and which node it is in.
 -- Source: the kernel's lib/maple_tree.c, mtree_range_walk.
 use Rattle.std.specs.Prelude.{◌≡◌, ℕ, ◌<◌, List, length, take, Option, Some}
 use Rattle.std.specs.Option.{option_map}
@@ -9,7 +9,7 @@ use Rattle.mt_path.specs.declared.rows.Found.{Found}
 use Rattle.mt_path.specs.Handles.{handle_in}
 use Rattle.mt_path.specs.Paths.{slot_for, span_at, path_in, row_on}
 
--- the row of this kind that a span names
+-- the node of this kind that a span names
 abbrev pub row_as : Span → RowKind → Row
 row_as x kind = record { number = row_in x.word; kind = kind; min = x.first; max = x.last }
 
@@ -19,26 +19,26 @@ row_for x = option_map (row_as x) (named_kind x.word)
 abbrev pub spans_of : Table → Row → List Span
 spans_of t row = row_spans t row.number row.kind row.min row.max
 
--- the word in a slot of a row
+-- the word in a slot of a node
 abbrev pub slot_word : Table → RowKind → ℕ → ℕ → ℕ
 slot_word t kind row slot = column t row (slot_column (slots_of t.width kind) slot)
 
--- what stands where an index was found
+-- what is found at an index
 abbrev pub found_span : Table → RowKind → Found → Span
 found_span t kind found = record { first = found.first; last = found.last; word = slot_word t kind found.step.row found.step.slot }
 
--- the step of an index in a row, and what stands in its slot
+-- the step of an index in a node, and what its slot holds
 pub record IsFoundSlot (t : Table) (row : Row) (index : ℕ) (found : Found) : Type 0 where
   pub step : found.step ≡ record { row = row.number; slot = slot_for (spans_of t row) index; min = row.min; max = row.max }
   pub used : found.step.slot < slots_of t.width row.kind
   pub span : found_span t row.kind found ≡ span_at (spans_of t row) found.step.slot
 
--- the row that the path to an index enters so many levels below the root
+-- the node that the path to an index enters this many levels below the root
 pub record IsOnWay (t : Rooted) (index depth : ℕ) (row : Row) : Type 0 where
   pub low : depth < length (path_in t.table t.root index)
   pub named : Some row ≡ row_for (row_on t.table depth (root_span t.table t.root) index)
 
--- the step of an index in its leaf, and what stands in its slot
+-- the step of an index in its leaf, and what its slot holds
 pub record IsAtEnd (t : Rooted) (index : ℕ) (found : Found) : Type 0 where
   pub place : IsPlace t found.step.row 0
   pub used : found.step.slot < slots_of t.table.width Leaf

@@ -1,4 +1,4 @@
-//! Where an index stands in a tree, and what stands there.
+//! Where an index is in a tree, and what is there.
 
 ghost use Rattle.std.specs.Prelude.{◌≡◌, ◌≢◌, ◌+◌, ◌-◌, ◌<◌, ◌≤◌, ◌↔◌, ℕ, [], true, length, IsNone, IfSome};
 ghost use Rattle.mt_base.specs.declared.kinds.Kind.{Kind};
@@ -16,7 +16,7 @@ use mt_base::{DEEPEST, Width, top};
 use mt_layout::{RowKind, Span, slots};
 use mt_rows::Rows;
 
-/// A slot of a leaf, and what stands there: a range, or a hole, whose word is 0.
+/// A slot of a leaf, and what it holds: a range, or a hole, whose word is 0.
 #[derive(Clone, Copy, Debug, PartialEq, Eq)]
 pub struct Handle {
     pub leaf: PathStep,
@@ -25,7 +25,7 @@ pub struct Handle {
 
 // ---- of an index
 
-/// The slot of the leaf that holds an index, and what stands there, in rows of this width.
+/// The slot of the leaf that holds an index, and what is there, in nodes of this width.
 #[inline(always)]
 fn handle_by<R: Rows>(rows: &mut R, width: Width, index: u64) -> Option<Handle>
     requires width { width ≡ (R.sheet rows.old).tree.table.width }
@@ -51,7 +51,7 @@ fn handle_by<R: Rows>(rows: &mut R, width: Width, index: u64) -> Option<Handle>
     unreachable!()
 }
 
-/// The same, where the width is looked at once and not in each row.
+/// The slot of the leaf that holds an index, and what is there. The width is looked at once and not in each node.
 #[inline(always)]
 fn handle_for<R: Rows>(rows: &mut R, index: u64) -> Option<Handle>
     requires tree { (kind : Kind) × IsTreeOf (R.sheet rows.old).tree kind }
@@ -67,7 +67,7 @@ fn handle_for<R: Rows>(rows: &mut R, index: u64) -> Option<Handle>
     }
 }
 
-/// The same as a call, apart from who wants it seldom.
+/// `handle_for` as a call that is not inlined, for callers that seldom need it.
 #[inline(never)]
 fn handle_apart<R: Rows>(rows: &mut R, index: u64) -> Option<Handle>
     requires tree { (kind : Kind) × IsTreeOf (R.sheet rows.old).tree kind }
@@ -80,8 +80,8 @@ fn handle_apart<R: Rows>(rows: &mut R, index: u64) -> Option<Handle>
     handle_for(rows, index)
 }
 
-/// The slot of the leaf that holds an index, and what stands there; none in the empty tree. No path is kept. What is found is taken
-/// apart at once, so that steps within a leaf, which are many, make no room for it.
+/// The slot of the leaf that holds an index, and what is there; none in the empty tree. No path is kept. The result is taken
+/// apart at once, so that steps within a leaf, which are frequent, need no room for it.
 #[inline(always)]
 pub fn handle_at<R: Rows>(rows: &mut R, index: u64) -> Option<Handle>
     requires tree { (kind : Kind) × IsTreeOf (R.sheet rows.old).tree kind }
@@ -95,7 +95,7 @@ pub fn handle_at<R: Rows>(rows: &mut R, index: u64) -> Option<Handle>
     Some(there)
 }
 
-/// What stands at an index; none in the empty tree. Where it stands is not told.
+/// What is at an index; none in the empty tree. It does not say where that is.
 #[inline(always)]
 pub fn span_for<R: Rows>(rows: &mut R, index: u64) -> Option<Span>
     requires tree { (kind : Kind) × IsTreeOf (R.sheet rows.old).tree kind }
@@ -109,7 +109,7 @@ pub fn span_for<R: Rows>(rows: &mut R, index: u64) -> Option<Span>
     Some(handle.span)
 }
 
-/// The way to an index, into an empty path, and the slot at its end and what stands there; none in the empty tree.
+/// The path to an index, written into an empty path, and the slot at its end with what is there; none in the empty tree.
 pub fn walk_to<R: Rows>(rows: &mut R, index: u64, path: &mut Path) -> Option<Handle>
     requires tree { (kind : Kind) × IsTreeOf (R.sheet rows.old).tree kind }
     requires index { index ≤ greatest (R.sheet rows.old).tree.table.width }
@@ -129,7 +129,7 @@ pub fn walk_to<R: Rows>(rows: &mut R, index: u64, path: &mut Path) -> Option<Han
     })
 }
 
-/// Ends the way to an index, in the leaf that the way enters last, and gives the slot there and what stands in it.
+/// Ends the path to an index in the leaf that it enters last. Returns the slot there and what it holds.
 pub fn end_walk<R: Rows>(rows: &mut R, leaf: Span, index: u64, path: &mut Path) -> Handle
     requires tree { (kind : Kind) × IsTreeOf (R.sheet rows.old).tree kind }
     requires index { index ≤ greatest (R.sheet rows.old).tree.table.width }
@@ -156,7 +156,7 @@ fn end_of(path: &Path) -> PathStep
     path[path.len() - 1]
 }
 
-/// The first index of what stands in the slot of a leaf.
+/// The first index of what the slot of a leaf holds.
 fn load_first<R: Rows>(rows: &mut R, leaf: PathStep) -> u64
     requires tree { (kind : Kind) × IsTreeOf (R.sheet rows.old).tree kind }
     requires leaf { IsStepOfLeaf (R.sheet rows.old).tree leaf }
@@ -169,7 +169,7 @@ fn load_first<R: Rows>(rows: &mut R, leaf: PathStep) -> u64
     rows.load(leaf.row, leaf.slot) + 1
 }
 
-/// The last index of what stands in the slot of a leaf.
+/// The last index of what the slot of a leaf holds.
 fn load_last<R: Rows>(rows: &mut R, leaf: PathStep) -> u64
     requires tree { (kind : Kind) × IsTreeOf (R.sheet rows.old).tree kind }
     requires leaf { IsStepOfLeaf (R.sheet rows.old).tree leaf }
@@ -182,7 +182,7 @@ fn load_last<R: Rows>(rows: &mut R, leaf: PathStep) -> u64
     leaf.max
 }
 
-/// Whether an index, which does not stand before that of a path, stands in the slot at its end. In the empty path none does.
+/// Whether an index, which is not before that of a path, is in the slot at its end. In the empty path none is.
 fn stays_in<R: Rows>(rows: &mut R, path: &Path, index: u64) -> bool
     requires tree { (kind : Kind) × IsTreeOf (R.sheet rows.old).tree kind }
     requires path { (i : ℕ) × (i ≤ index) × (path.now.items ≡ path_in (R.sheet rows.old).tree.table (R.sheet rows.old).tree.root i) }
@@ -197,7 +197,7 @@ fn stays_in<R: Rows>(rows: &mut R, path: &Path, index: u64) -> bool
     index <= load_last(rows, leaf)
 }
 
-/// A path goes on, in place, to an index that does not stand before its own. It stays where that stands in the same slot.
+/// A path goes on, in place, to an index that is not before its own. It stays if that is in the same slot.
 pub fn go_on<R: Rows>(rows: &mut R, path: &mut Path, index: u64)
     requires tree { (kind : Kind) × IsTreeOf (R.sheet rows.old).tree kind }
     requires path { (i : ℕ) × (i ≤ index) × (path.old.items ≡ path_in (R.sheet rows.old).tree.table (R.sheet rows.old).tree.root i) }
@@ -222,8 +222,8 @@ fn load_word<R: Rows>(rows: &mut R, leaf: PathStep) -> u64
     rows.load(leaf.row, column)
 }
 
-/// The slot of another leaf that holds an index, and what stands there. A walk goes to one leaf after the other, so its way is foretold
-/// where rows are searched pivot by pivot.
+/// The slot of another leaf that holds an index, and what is there. A walk goes from leaf to leaf, so branches are predicted
+/// well if nodes are searched pivot by pivot.
 #[inline(never)]
 fn walk_far<R: Rows>(rows: &mut R, index: u64) -> Option<Handle>
     requires tree { (kind : Kind) × IsTreeOf (R.sheet rows.old).tree kind }
@@ -249,7 +249,8 @@ fn walk_far<R: Rows>(rows: &mut R, index: u64) -> Option<Handle>
     unreachable!()
 }
 
-/// The same, taken apart at once, so that steps within a leaf, which are many, make no room for it.
+/// The slot of another leaf, with the result taken apart at once, so that steps within a leaf, which are frequent, need no room
+/// for it.
 #[inline(always)]
 fn handle_far<R: Rows>(rows: &mut R, index: u64) -> Option<Handle>
     requires tree { (kind : Kind) × IsTreeOf (R.sheet rows.old).tree kind }
@@ -263,8 +264,8 @@ fn handle_far<R: Rows>(rows: &mut R, index: u64) -> Option<Handle>
     Some(far)
 }
 
-/// What stands behind a handle: in the next slot of its leaf, or in the first slot of the leaf behind. There is none where
-/// the handle's span ends at the greatest index.
+/// What comes after a handle: in the next slot of its leaf, or in the first slot of the next leaf. There is none if the
+/// handle's span ends at the greatest index.
 #[inline(always)]
 pub fn behind<R: Rows>(rows: &mut R, here: &Handle) -> Option<Handle>
     requires tree { (kind : Kind) × IsTreeOf (R.sheet rows.old).tree kind }
@@ -298,8 +299,8 @@ pub fn behind<R: Rows>(rows: &mut R, here: &Handle) -> Option<Handle>
     })
 }
 
-/// What stands before a handle: in the slot before it in its leaf, or in the last slot of the leaf before. There is none
-/// where the handle's span begins at 0.
+/// What comes before a handle: in the previous slot of its leaf, or in the last slot of the previous leaf. There is none if the
+/// handle's span begins at 0.
 pub fn before<R: Rows>(rows: &mut R, here: &Handle) -> Option<Handle>
     requires tree { (kind : Kind) × IsTreeOf (R.sheet rows.old).tree kind }
     requires here { IsHandleOf (R.sheet rows.old).tree here.now }

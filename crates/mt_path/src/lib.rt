@@ -1,4 +1,4 @@
-//! Ways through a tree of rows: to the leaf of an index, to the row beside another, and what stands where an index stands.
+//! Paths through a tree of *rows* (nodes): to the leaf of an index, to the node beside another, and to what is at an index.
 #![tactic(auto)]
 
 mod handles;

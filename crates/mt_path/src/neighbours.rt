@@ -1,4 +1,4 @@
-//! The rows beside a row of a path.
+//! The nodes beside a node of a path.
 
 ghost use Rattle.std.specs.Prelude.{◌≡◌, ◌≤◌, ◌<◌, ◌+◌, ◌-◌, ◌↔◌, ℕ, true, false, IsTrue, IsNone, IfNone, IfSome, length};
 ghost use Rattle.std.specs.Bool.{OnTrue, OnFalse};
@@ -13,8 +13,8 @@ use crate::walks::walk_on;
 use mt_base::top;
 use mt_rows::Rows;
 
-/// A path goes, in place, to the row that stands right of its own at this level, and from there to the first leaf. Where its
-/// row is the last of the level there is none, and the path stays.
+/// A path goes, in place, to the node right of its own at this level, and from there to the first leaf. If its node is the last
+/// of the level there is none, and the path stays.
 pub fn step_right<R: Rows>(rows: &mut R, path: &mut Path, level: u32) -> bool
     requires tree { (kind : Kind) × IsTreeOf (R.sheet rows.old).tree kind }
     requires path { (index : ℕ) × (index ≤ greatest (R.sheet rows.old).tree.table.width) × (path.old.items ≡ path_in (R.sheet rows.old).tree.table (R.sheet rows.old).tree.root index) }
@@ -35,8 +35,8 @@ pub fn step_right<R: Rows>(rows: &mut R, path: &mut Path, level: u32) -> bool
     true
 }
 
-/// A path goes, in place, to the row that stands left of its own at this level, and from there to the last leaf. Where its
-/// row is the first of the level there is none, and the path stays.
+/// A path goes, in place, to the node left of its own at this level, and from there to the last leaf. If its node is the first
+/// of the level there is none, and the path stays.
 pub fn step_left<R: Rows>(rows: &mut R, path: &mut Path, level: u32) -> bool
     requires tree { (kind : Kind) × IsTreeOf (R.sheet rows.old).tree kind }
     requires path { (index : ℕ) × (index ≤ greatest (R.sheet rows.old).tree.table.width) × (path.old.items ≡ path_in (R.sheet rows.old).tree.table (R.sheet rows.old).tree.root index) }
@@ -57,8 +57,8 @@ pub fn step_left<R: Rows>(rows: &mut R, path: &mut Path, level: u32) -> bool
     true
 }
 
-/// The way to the row that stands right of the path's at this level, and from there to its first leaf; none where the
-/// path's row is the last of the level.
+/// The path to the node right of the path's at this level, and from there to its first leaf; none if the path's node is the
+/// last of the level.
 pub fn right_at<R: Rows>(rows: &mut R, path: &Path, level: u32) -> Option<Path>
     requires tree { (kind : Kind) × IsTreeOf (R.sheet rows.old).tree kind }
     requires path { (index : ℕ) × (index ≤ greatest (R.sheet rows.old).tree.table.width) × (path.now.items ≡ path_in (R.sheet rows.old).tree.table (R.sheet rows.old).tree.root index) }
@@ -77,8 +77,8 @@ pub fn right_at<R: Rows>(rows: &mut R, path: &Path, level: u32) -> Option<Path>
     }
 }
 
-/// The way to the row that stands left of the path's at this level, and from there to its last leaf; none where the
-/// path's row is the first of the level.
+/// The path to the node left of the path's at this level, and from there to its last leaf; none if the path's node is the first
+/// of the level.
 pub fn left_at<R: Rows>(rows: &mut R, path: &Path, level: u32) -> Option<Path>
     requires tree { (kind : Kind) × IsTreeOf (R.sheet rows.old).tree kind }
     requires path { (index : ℕ) × (index ≤ greatest (R.sheet rows.old).tree.table.width) × (path.now.items ≡ path_in (R.sheet rows.old).tree.table (R.sheet rows.old).tree.root index) }

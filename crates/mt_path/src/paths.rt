@@ -7,7 +7,7 @@ ghost use Rattle.mt_path.specs.Paths.{Covers, IsDeepestOver};
 use arrayvec::ArrayVec;
 use mt_base::DEEPEST;
 
-/// A row on the way to an index: its number, the slot that the way takes, and the first and the last index that the row
+/// A node on the way to an index: its number, the slot that the way takes, and the first and the last index that the node
 /// covers.
 #[derive(Clone, Copy, Debug, Default, PartialEq, Eq)]
 pub struct PathStep {
@@ -40,15 +40,15 @@ pub fn copy_of(path: &Path) -> Path
     copy
 }
 
-/// Whether the row of a step covers an index.
+/// Whether the node of a step covers an index.
 fn covers(step: PathStep, index: u64) -> bool
     ensures { IsTrue result ↔ Covers step index }
 {
     step.min <= index && index <= step.max
 }
 
-/// Takes off the steps from the deepest on whose row covers an index, and gives that one. Where there is none, all are
-/// taken off.
+/// Takes off the steps from the deepest on whose node covers an index, and returns that one. If there is none, all are taken
+/// off.
 pub(crate) fn pop_to(path: &mut Path, index: u64) -> Option<PathStep>
     ensures some { IfSome result (λ step. IsDeepestOver path.old.items path.new.items index step) }
     ensures none { IfNone result (AllByRecursion (λ s. Covers s index → ⊥) path.old.items) }

@@ -1,4 +1,4 @@
-//! The rows on the way to an index: what names them, and where the index stands in one.
+//! The nodes on the way to an index: what names them, and where in a node the index is.
 
 ghost use Rattle.std.specs.Prelude.{◌≡◌, ◌+◌, ◌-◌, ◌<◌, ◌≤◌, ◌↔◌, ℕ, length, Some, IsNone, IsSome, IfSome};
 ghost use Rattle.mt_base.specs.declared.kinds.Kind.{Kind};
@@ -17,7 +17,7 @@ use mt_base::{Width, top};
 use mt_layout::{RowKind, Span, kind_of, row_of, slots};
 use mt_rows::Rows;
 
-/// A row that a walk enters: its number and its kind, and the first and the last index that it covers.
+/// A node that a walk enters: its number and its kind, and the first and the last index that it covers.
 #[derive(Clone, Copy)]
 pub(crate) struct Row {
     pub(crate) number: u32,
@@ -26,7 +26,7 @@ pub(crate) struct Row {
     pub(crate) max: u64,
 }
 
-/// Where an index stands in a row: the step there, and the first and the last index of what stands in its slot.
+/// Where an index is in a node: the step there, and the first and the last index of what its slot holds.
 #[derive(Clone, Copy)]
 pub(crate) struct Found {
     pub(crate) step: PathStep,
@@ -34,7 +34,7 @@ pub(crate) struct Found {
     pub(crate) last: u64,
 }
 
-/// The row that a span names, or none where its word is no name.
+/// The node that a span names, or none where its word is no name.
 #[inline(always)]
 fn row_for(span: Span) -> Option<Row>
     ensures { result ≡ row_for span }
@@ -49,7 +49,7 @@ fn row_for(span: Span) -> Option<Row>
     })
 }
 
-/// The row that a span names, which stands below another.
+/// The node that a span names, which is below another.
 #[inline(always)]
 pub(crate) fn child_for(span: Span) -> Row
     requires { IsSome (named_kind span.word) }
@@ -77,7 +77,7 @@ pub(crate) fn root_row<R: Rows>(rows: &mut R) -> Option<Row>
     })
 }
 
-/// The step in this slot of a row, and the first and the last index of what stands there.
+/// The step in this slot of a node, and the first and the last index of what is there.
 #[inline(always)]
 fn found_in(row: Row, slot: u32, first: u64, last: u64) -> Found
     ensures { result ≡ record { step = record { row = row.number; slot = slot; min = row.min; max = row.max }; first = first; last = last } }
@@ -94,7 +94,7 @@ fn found_in(row: Row, slot: u32, first: u64, last: u64) -> Found
     }
 }
 
-/// The first index of what stands in a slot of a row.
+/// The first index of what a slot of a node holds.
 #[inline(always)]
 fn first_in<R: Rows>(rows: &mut R, row: Row, slot: u32) -> u64
     requires row { IsPlace (R.sheet rows.old).tree row.number 0 }
@@ -107,7 +107,7 @@ fn first_in<R: Rows>(rows: &mut R, row: Row, slot: u32) -> u64
     if slot == 0 { row.min } else { before + 1 }
 }
 
-/// The last index of what stands in a slot of a row.
+/// The last index of what a slot of a node holds.
 #[inline(always)]
 fn last_in<R: Rows>(rows: &mut R, width: Width, row: Row, slot: u32) -> u64
     requires width { width ≡ (R.sheet rows.old).tree.table.width }
@@ -125,8 +125,8 @@ fn last_in<R: Rows>(rows: &mut R, width: Width, row: Row, slot: u32) -> u64
     }
 }
 
-/// The slot of a row that holds an index: the first whose pivot is not below it, sought from a slot on that begins at `first`.
-/// No pivot before that slot is loaded, and none behind the one that is found.
+/// The slot of a node that holds an index: the first whose pivot is not below it. The search starts at a slot that begins at
+/// `first`. No pivot before that slot is loaded, and none after the one that is found.
 fn find_from<R: Rows>(rows: &mut R, row: Row, index: u64, from: u32, first: u64) -> Found
     requires row { IsPlace (R.sheet rows.old).tree row.number 0 }
     requires index { index ≤ row.max }
@@ -148,8 +148,8 @@ fn find_from<R: Rows>(rows: &mut R, row: Row, index: u64, from: u32, first: u64)
     found_in(row, last_slot, first, row.max)
 }
 
-/// The slot of a row that holds an index: the first whose pivot is not below it. No pivot behind that is loaded. The branches are
-/// foretold well where a walk has come to the slot before, or to the next.
+/// The slot of a node that holds an index: the first whose pivot is not below it. No later pivot is loaded. The branches are
+/// predicted well if a walk has come to the slot before, or to the next.
 pub(crate) fn find_along<R: Rows>(rows: &mut R, row: Row, index: u64) -> Found
     requires row { IsPlace (R.sheet rows.old).tree row.number 0 }
     requires index { index ≤ row.max }
@@ -159,8 +159,8 @@ pub(crate) fn find_along<R: Rows>(rows: &mut R, row: Row, index: u64) -> Found
     find_from(rows, row, index, 0, row.min)
 }
 
-/// The slot of a row that holds an index: the first whose pivot is not below it. It is found by groups of slots, with no branch
-/// on a pivot, and by no more loads than thirteen.
+/// The slot of a node that holds an index: the first whose pivot is not below it. It is found by groups of slots, with no
+/// branch on a pivot, and by no more loads than thirteen.
 #[inline(always)]
 pub(crate) fn find_slot<R: Rows>(rows: &mut R, width: Width, row: Row, index: u64) -> Found
     requires width { width ≡ (R.sheet rows.old).tree.table.width }
@@ -176,7 +176,7 @@ pub(crate) fn find_slot<R: Rows>(rows: &mut R, width: Width, row: Row, index: u6
     found_in(row, slot, first, last)
 }
 
-/// What stands in the slot where an index was found.
+/// What the slot at an index holds.
 #[inline(always)]
 pub(crate) fn load_found<R: Rows>(rows: &mut R, width: Width, kind: RowKind, found: Found) -> Span
     requires width { width ≡ (R.sheet rows.old).tree.table.width }

@@ -1,4 +1,4 @@
-//! The slot of a row that holds an index, by groups of its slots and with no branch on a pivot.
+//! The slot of a node that holds an index, by groups of its slots and with no branch on a pivot.
 
 ghost use Rattle.std.specs.Prelude.{◌≡◌, ◌<◌, ◌≤◌, IfSome, None};
 ghost use Rattle.mt_base.specs.Width.{columns};
@@ -29,8 +29,8 @@ pub fn under(pivot: u64, index: u64) -> u32
     (pivot.wrapping_sub(1) < index.saturating_sub(1)) as u32
 }
 
-/// The slot of a row of 16 slots that holds an index, by six loads and no branch: three pivots tell which four slots hold it,
-/// and the three pivots between those tell which of the four.
+/// The slot of a node of 16 slots that holds an index, by six loads and no branch. Three pivots determine the four slots that
+/// may hold it, and the three pivots between those determine which.
 #[inline(always)]
 fn seek_wide<R: Rows>(rows: &mut R, row: Row, index: u64) -> u32
     requires row { IsPlace (R.sheet rows.old).tree row.number 0 }
@@ -50,7 +50,7 @@ fn seek_wide<R: Rows>(rows: &mut R, row: Row, index: u64) -> u32
     group + (first < index) as u32 + under(second, index) + under(third, index)
 }
 
-/// The same in a row of 10 slots, by five loads.
+/// The slot of a node of 10 slots that holds an index, by five loads.
 #[inline(always)]
 fn seek_gapped<R: Rows>(rows: &mut R, row: Row, index: u64) -> u32
     requires row { IsPlace (R.sheet rows.old).tree row.number 0 }
@@ -69,7 +69,7 @@ fn seek_gapped<R: Rows>(rows: &mut R, row: Row, index: u64) -> u32
     group + (first < index) as u32 + under(second, index) + under(third, index)
 }
 
-/// The same in a row of 32 slots, by seven loads in three turns: eight slots, four of them, and one.
+/// The slot of a node of 32 slots that holds an index, by seven loads in three rounds: eight slots, four of them, and one.
 #[inline(always)]
 fn seek_narrow<R: Rows>(rows: &mut R, row: Row, index: u64) -> u32
     requires row { IsPlace (R.sheet rows.old).tree row.number 0 }
@@ -91,7 +91,7 @@ fn seek_narrow<R: Rows>(rows: &mut R, row: Row, index: u64) -> u32
     group + (first < index) as u32 + under(second, index) + under(third, index)
 }
 
-/// The same in a row of 21 slots, by six loads in three turns: five slots or six, three of them, and one.
+/// The slot of a node of 21 slots that holds an index, by six loads in three rounds: five slots or six, three of them, and one.
 #[inline(always)]
 fn seek_narrow_gapped<R: Rows>(rows: &mut R, row: Row, index: u64) -> u32
     requires row { IsPlace (R.sheet rows.old).tree row.number 0 }
@@ -112,8 +112,8 @@ fn seek_narrow_gapped<R: Rows>(rows: &mut R, row: Row, index: u64) -> u32
     group + (first < index) as u32 + under(second, index)
 }
 
-/// Loads a word among the slots of a row before the pivots are searched, so that its line is on the way while they are. Whether it
-/// is one that slots hardly have is told, so that the load is made.
+/// Loads a word among the slots of a node before the pivots are searched, so that its cache line is fetched meanwhile. The
+/// result is whether it is a word that slots hardly ever have, so that the load is not optimised away.
 #[inline(always)]
 fn touch<R: Rows>(rows: &mut R, row: Row, col: u32) -> bool
     requires { IsPlace (R.sheet rows.old).tree row.number col }
@@ -122,7 +122,7 @@ fn touch<R: Rows>(rows: &mut R, row: Row, col: u32) -> bool
     rows.load(row.number, col) == RARE
 }
 
-/// The slot of a row that holds an index.
+/// The slot of a node that holds an index.
 #[inline(always)]
 fn seek_groups<R: Rows>(rows: &mut R, width: Width, row: Row, index: u64) -> u32
     requires width { width ≡ (R.sheet rows.old).tree.table.width }
@@ -140,7 +140,7 @@ fn seek_groups<R: Rows>(rows: &mut R, width: Width, row: Row, index: u64) -> u32
     }
 }
 
-/// The same, where a word was touched that slots hardly have.
+/// The slot of a node that holds an index, after a touched word that slots hardly ever have.
 #[inline(never)]
 #[cold]
 fn seek_apart<R: Rows>(rows: &mut R, row: Row, index: u64) -> u32
@@ -154,7 +154,7 @@ fn seek_apart<R: Rows>(rows: &mut R, row: Row, index: u64) -> u32
     seek_groups(rows, width, row, index)
 }
 
-/// The columns of two slots of a row of this width and kind, which stand in different lines.
+/// The columns of two slots of a node of this width and kind, which are in different cache lines.
 #[inline(always)]
 pub fn slots_apart(width: Width, kind: RowKind) -> (u32, u32)
     ensures near { result.0 < columns width }
@@ -168,8 +168,8 @@ pub fn slots_apart(width: Width, kind: RowKind) -> (u32, u32)
     }
 }
 
-/// Two more columns of a row, the first and a late one, where it has lines that neither those slots nor the first turn of a search
-/// reach.
+/// Two more columns of a node, the first and a late one, if it has cache lines that neither those slots nor the first round of
+/// a search reaches.
 #[inline(always)]
 pub fn ends_apart(width: Width, kind: RowKind) -> Option<(u32, u32)>
     ensures wide { width ≡ Long → result ≡ None }
@@ -181,7 +181,7 @@ pub fn ends_apart(width: Width, kind: RowKind) -> Option<(u32, u32)>
     }
 }
 
-/// Touches two lines of the slots of a row.
+/// Touches two lines of the slots of a node.
 #[inline(always)]
 fn touch_slots<R: Rows>(rows: &mut R, width: Width, row: Row) -> bool
     requires width { width ≡ (R.sheet rows.old).tree.table.width }
@@ -192,7 +192,7 @@ fn touch_slots<R: Rows>(rows: &mut R, width: Width, row: Row) -> bool
     touch(rows, row, near) || touch(rows, row, far)
 }
 
-/// Touches two more lines of a row that has many.
+/// Touches two more lines of a node that has many.
 #[inline(always)]
 fn touch_ends<R: Rows>(rows: &mut R, width: Width, row: Row) -> bool
     requires width { width ≡ (R.sheet rows.old).tree.table.width }
@@ -205,7 +205,7 @@ fn touch_ends<R: Rows>(rows: &mut R, width: Width, row: Row) -> bool
     }
 }
 
-/// Touches the lines of a row that its slots are sought in.
+/// Touches the lines of a node that its slots are sought in.
 #[inline(always)]
 fn touch_lines<R: Rows>(rows: &mut R, width: Width, row: Row) -> bool
     requires width { width ≡ (R.sheet rows.old).tree.table.width }
@@ -215,7 +215,7 @@ fn touch_lines<R: Rows>(rows: &mut R, width: Width, row: Row) -> bool
     touch_slots(rows, width, row) || touch_ends(rows, width, row)
 }
 
-/// The slot of a row that holds an index. Its slots are touched first.
+/// The slot of a node that holds an index. Its slots are touched first.
 #[inline(always)]
 pub(crate) fn seek<R: Rows>(rows: &mut R, width: Width, row: Row, index: u64) -> u32
     requires width { width ≡ (R.sheet rows.old).tree.table.width }

@@ -1,4 +1,4 @@
-//! Walks down to the leaf of an index: from the root, or from a row of the path to another index.
+//! Walks down to the leaf of an index: from the root, or from a node of the path to another index.
 
 ghost use Rattle.std.specs.Prelude.{◌≡◌, ◌+◌, ◌-◌, ◌<◌, ◌≤◌, ◌↔◌, ℕ, Some, IsSome, true, false, [], length, take};
 ghost use Rattle.mt_base.specs.declared.kinds.Kind.{Kind};
@@ -17,7 +17,7 @@ use mt_base::{DEEPEST, Width};
 use mt_layout::{RowKind, kind_of};
 use mt_rows::Rows;
 
-/// Walks down from a row on the way to an index, over rows of this width, and appends the steps from there on.
+/// Walks down from a node on the way to an index, over nodes of this width, and appends the steps from there on.
 #[inline(always)]
 fn descend_by<R: Rows>(rows: &mut R, width: Width, row: Row, index: u64, path: &mut Path) -> Found
     requires width { width ≡ (R.sheet rows.old).tree.table.width }
@@ -41,8 +41,8 @@ fn descend_by<R: Rows>(rows: &mut R, width: Width, row: Row, index: u64, path: &
     unreachable!()
 }
 
-/// Walks down from a row on the way to an index, and appends the steps from there on. Gives where the index stands in its
-/// leaf, whose slot is not loaded. The width is looked at once, and not in each row.
+/// Walks down from a node on the way to an index, and appends the steps from there on. Returns where the index is in its leaf,
+/// whose slot is not loaded. The width is looked at once, and not in each node.
 pub(crate) fn descend<R: Rows>(rows: &mut R, row: Row, index: u64, path: &mut Path) -> Found
     requires tree { (kind : Kind) × IsTreeOf (R.sheet rows.old).tree kind }
     requires index { index ≤ greatest (R.sheet rows.old).tree.table.width }
@@ -73,7 +73,7 @@ pub fn walk<R: Rows>(rows: &mut R, index: u64) -> Path
     path
 }
 
-/// The kind of a row of a path. Its last is a leaf; all others of a tree are of one kind, which the root's name tells.
+/// The kind of a node of a path. Its last is a leaf. All others of a tree are of one kind, which the root's name gives.
 fn kind_on<R: Rows>(rows: &mut R, is_last: bool) -> RowKind
     requires { is_last ≡ false → IsSome (named_kind (R.sheet rows.old).tree.root) }
     ensures leaf { is_last ≡ true → result ≡ RowKind.Leaf }
@@ -89,7 +89,7 @@ fn kind_on<R: Rows>(rows: &mut R, is_last: bool) -> RowKind
     }
 }
 
-/// A path goes on to another index, in place: from the deepest of its rows that covers the index.
+/// A path goes on to another index, in place: from the deepest of its nodes that covers the index.
 pub fn walk_on<R: Rows>(rows: &mut R, path: &mut Path, index: u64)
     requires tree { (kind : Kind) × IsTreeOf (R.sheet rows.old).tree kind }
     requires path { (i : ℕ) × (i ≤ greatest (R.sheet rows.old).tree.table.width) × (path.old.items ≡ path_in (R.sheet rows.old).tree.table (R.sheet rows.old).tree.root i) }
