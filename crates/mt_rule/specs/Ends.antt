@@ -7,8 +7,8 @@ use Rattle.mt_rule.specs.declared.views.PenPart.{PenPart}
 use Rattle.mt_rule.specs.Scans.{IsScanOf}
 use Rattle.mt_rule.specs.Seats.{rooted_in, pen_sheet, tree_of}
 
--- Too few rows are free: the shortage is counted by a scan of this call. Its least epoch is that of the holder that it tells,
--- who was found with a section open; it is the greatest number where it tells none.
+-- Nodes are short: the shortage is counted by a scan of this call. Its least epoch is that of the holder that it names, whose
+-- section was found open, and the greatest number if it names none.
 pub record IsPenShort (p : PenPart) (call : Call) (reply : Reply) : Type 0 where
   pub scan : Scan
   pub refused : IsRefused p.shape.kind (limits_after (tree_of p.shape p.history) p.ended) (map_by (rooted_in p)) call reply
@@ -17,7 +17,7 @@ pub record IsPenShort (p : PenPart) (call : Call) (reply : Reply) : Type 0 where
   pub found : IfSome scan.by (Contains p.loaded)
   pub scanned : IsScanOf p.sections p.shape.passes scan
 
--- A call that published nothing leaves the map, by its reply or by a refusal, and has buried no row.
+-- A call that published nothing leaves the map, by its reply or by a refusal, and has buried no node.
 pub record EndsQuietly (p : PenPart) (call : Call) (reply : Reply) : Type 0 where
   pub none_buried : NoneBuried p.shape.rows p.buried
   pub answer : (acted p.shape.kind (map_by (rooted_in p)) call ≡ (map_by (rooted_in p), reply)) ⊎ IsPenShort p call reply

@@ -1,4 +1,4 @@
--- How many passes and calls a tree may have.
+-- How many passes (threads' handles) and calls a tree may have.
 -- Source: this project's own.
 use Rattle.std.specs.Prelude.{ℕ, ◌-◌, ◌^◌}
 

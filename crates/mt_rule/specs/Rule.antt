@@ -1,6 +1,6 @@
 -- The rule of a tree's table: it holds between any two steps, whoever makes them.
 -- Source: this project's own; the kernel's lib/maple_tree.c lets readers walk nodes that a writer replaces, under RCU. No two
--- passes are compared: each view is compared with what the pen knows.
+-- handles are compared: each view is compared with what the pen (the writer's capability) knows.
 use Rattle.std.specs.Prelude.{◌≡◌, ℕ, ◌+◌, ◌<◌, ◌≤◌, List, false, Some, None, IfSome, length, slice_index}
 use Rattle.std.specs.List.{AllByRecursion, Contains}
 use mathlib.Core.Option.{some}
@@ -22,8 +22,8 @@ begun_by p = p.ended + one_if p.in_flight
 
 -- ---- what the pen knows
 
--- What the pen knows is one legal history: each call is of a pass that was dealt. It is in the history from when it published,
--- or else from its end. Whoever is told to hold rows was found with a section open.
+-- What the pen knows is one legal history. Each call is of a handle that was dealt. It is in the history from when it is
+-- published, or else from its end. Whoever is named as holding nodes back was found with a section open.
 pub record IsOneHistory (p : PenPart) : Type 0 where
   pub dealt : p.dealt ≤ p.shape.passes
   pub callers : AllByRecursion (λ r. r.pass < p.dealt) (records_of p.history)
@@ -34,8 +34,8 @@ pub record IsOneHistory (p : PenPart) : Type 0 where
   pub few : begun_by p ≤ most_calls
   pub legal : IsLegal (tree_of p.shape p.history)
 
--- What the pen knows of rows, which stand at these extents, is all that is known of them at every moment: the words are a tree
--- for the map after all calls of the history, and its rows are the live ones.
+-- What the pen knows of nodes, at these extents, is all that is known of them at every moment. The words are a tree for the map
+-- after all calls of the history, and its nodes are the live ones.
 pub record IsSoundPen (extents : ℕ → Extent) (p : PenPart) : Type 0 where
   pub history : IsOneHistory p
   pub known : Known p.shape.kind (state_in p) extents (moment_at p.shape p.history)
@@ -51,8 +51,8 @@ pub record IsSoundPen (extents : ℕ → Extent) (p : PenPart) : Type 0 where
   pub passes : length p.cleared ≡ p.shape.passes
   pub cleared : (k : ℕ) → k < p.shape.passes → slice_index p.cleared k ≤ p.ended
 
--- The words of the table are what the pen knows. A section word is 0 or of an epoch that has been, and 0 of a pass that was not
--- dealt. A word above the rows that has no name is 0.
+-- The words of the table are what the pen knows. A section word is 0 or of an epoch that has been reached, and 0 for a handle
+-- that was not dealt. A word after the nodes that has no name is 0.
 pub record WordsFit (words : List ℕ) (p : PenPart) : Type 0 where
   pub size : length words ≡ table_size (kind_width p.shape.kind) p.shape.rows
   pub commits : slice_index words commits_at ≡ p.ended
@@ -63,20 +63,20 @@ pub record WordsFit (words : List ℕ) (p : PenPart) : Type 0 where
   pub unnamed : (i : ℕ) → i < first_row_column (kind_width p.shape.kind) → IsUnnamed p.shape.passes i → slice_index words i ≡ 0
   pub columns : (i : ℕ) → first_row_column (kind_width p.shape.kind) ≤ i → slice_index words i ≡ slice_index p.words i
 
--- ---- what a pass knows
+-- ---- what a pass (handle) knows
 
--- The section is open at this epoch, which the pass has opened.
+-- The section is open at this epoch, which the handle has opened.
 pub record IsOpenAt (q : PassPart) (epoch : ℕ) : Type 0 where
   pub seen : epoch ≤ length q.seen
   pub opened : Contains q.opened epoch
 
--- The section has loaded the root word, first after so many calls: no row that died behind that is out of its reach.
+-- The section has loaded the root word, first after `floor` calls. No node that died later counts as out of its reach.
 pub record HasFloor (p : PenPart) (q : PassPart) (floor : ℕ) : Type 0 where
   pub seen : floor ≤ length q.seen
   pub cleared : slice_index p.cleared q.number ≤ floor
   pub epoch : IfSome q.standing (λ epoch. epoch ≤ floor)
 
--- A row that the section holds, by a walk from a root that was loaded no earlier than the first.
+-- A node that the section holds, by a walk from a root that was loaded no earlier than the first.
 pub record IsHeldBy (extents : ℕ → Extent) (p : PenPart) (q : PassPart) (x : Held) : Type 0 where
   pub row : HoldsRow p.shape.kind (state_in p) extents (moment_at p.shape p.history) x
   pub met : x.met ≤ length q.seen
@@ -84,9 +84,9 @@ pub record IsHeldBy (extents : ℕ → Extent) (p : PenPart) (q : PassPart) (x :
   pub has : q.floor ≡ Some floor
   pub since : floor ≤ x.since
 
--- What a pass knows fits what the pen knows: it has seen a beginning of the history, and its own calls are all that the
--- whole history has of its number. Each epoch at which its section was found open is one at which it opened one. The rows
--- that its section holds are live, or died behind the load of the root from which it came to them.
+-- What a handle knows fits what the pen knows. It has seen a beginning of the history, and its own calls are all that the whole
+-- history has of its number. Each epoch at which its section was found open is one at which it opened one. The nodes that its
+-- section holds are live, or died after the load of the root from which it reached them.
 pub record PassFits (extents : ℕ → Extent) (p : PenPart) (q : PassPart) : Type 0 where
   pub shape : q.shape ≡ p.shape
   pub number : q.number < p.dealt
@@ -104,7 +104,7 @@ pub record PassFits (extents : ℕ → Extent) (p : PenPart) (q : PassPart) : Ty
   pub floor : (floor : ℕ) → q.floor ≡ Some floor → HasFloor p q floor
   pub held : (j : ℕ) (x : Held) → get_elem? q.held j ≡ some x → IsHeldBy extents p q x
 
--- What the seat `by` knows fits: the pen's part stands at one seat, and that of each pass at one.
+-- What the seat `by` knows fits: the pen's part is at one seat, and that of each handle at one.
 pub record ViewFits (pen : ℕ) (owner : ℕ → ℕ) (extents : ℕ → Extent) (p : PenPart) (words : List ℕ) (by : ℕ) (v : View) : Type 0 where
   pub keeper : (part : PenPart) → v.pen ≡ Some part → (by ≡ pen) × (part ≡ p)
   pub at : (q : PassPart) → v.pass ≡ Some q → by ≡ owner q.number

@@ -1,4 +1,4 @@
--- What a seat of a tree's table knows, part by part, and what each part stands for.
+-- What a seat (token) of a tree's table knows, part by part, and what each part represents.
 -- Source: this project's own.
 use Rattle.std.specs.Prelude.{◌≡◌, ℕ, ◌+◌, List, [], ◌∷◌, length, map, min, nat_lt, replicate, slice_index_or, true, false, Option, Some, None, if◌then◌else◌}
 use Rattle.std.specs.List.{range_with_len}
@@ -15,9 +15,9 @@ use Rattle.mt_rule.specs.declared.views.PassPart.{PassPart}
 use Rattle.mt_rule.specs.declared.views.NotePart.{NotePart}
 use Rattle.mt_rule.specs.Scans.{none_open}
 
--- ---- what a table was told
+-- ---- what a table gets when it is made
 
--- what is known of a tree that opens with these rows
+-- what is known of a tree that opens with these nodes
 abbrev pub shape_opening : Kind → Rooted → ℕ → ℕ → Shape
 shape_opening kind t passes calls = record { kind = kind; rows = t.rows; passes = passes; calls = calls; opening = map_by t; cuts = cuts_by t; opened = length (reached_in t.table t.root) }
 
@@ -32,7 +32,7 @@ no_shape = record { kind = kinds.Range; rows = 0; passes = 0; calls = 0; opening
 abbrev pub moment : ℕ → Call → Reply → List ℕ → Moment
 moment pass call reply cuts = record { pass = pass; call = call; reply = reply; cuts = cuts }
 
--- the record of a moment, which is what the outside is told of it
+-- the record of a moment, which is what is visible of it outside
 abbrev pub record_of : Moment → Record
 record_of m = record { pass = m.pass; call = m.call; reply = m.reply }
 
@@ -60,11 +60,11 @@ longer_history xs ys = if nat_lt (length xs) (length ys) then ys else xs
 
 -- ---- parts
 
--- the lives of rows when a tree opens: those that are reached are live
+-- the lives of nodes when a tree opens: those that are reached are live
 abbrev pub opening_life : Rooted → ℕ → Life
 opening_life t row = if is_reached t row then Live else New
 
--- the pen of a tree that opens with these rows
+-- the pen of a tree that opens with these nodes
 abbrev pub new_pen : Shape → Rooted → PenPart
 new_pen shape t = record {
   shape = shape;
@@ -88,7 +88,7 @@ no_pen = record { shape = no_shape; dealt = 0; history = []; ended = 0; in_fligh
 abbrev pub new_part : Shape → ℕ → PassPart
 new_part shape number = record { shape = shape; number = number; seen = []; mine = []; opened = []; standing = None; begun = 0; ended = 0; epoch = 0; floor = None; risen = 0; marks = []; held = []; steps = 0 }
 
--- what a pass's part stands for
+-- what a handle's part represents
 abbrev pub known_by : PassPart → known.Pass
 known_by q = record { number = q.number; seen = records_of q.seen; mine = q.mine; opened = q.opened; standing = q.standing; begun = q.begun; ended = q.ended }
 
@@ -131,18 +131,18 @@ no_view = record { pen = None; pass = None; note = None }
 abbrev pub opening_view : TableStart → View
 opening_view told = record no_view { pen = Some (new_pen (shape_told told) (sheet_in told.rows.value).tree) }
 
--- the pen after it has dealt a pass, and the new pass's view
+-- the pen after it has dealt a handle, and the new handle's view
 abbrev pub dealing_view : View → View
 dealing_view v = record v { pen = Some (record (pen_of v) { dealt = (pen_of v).dealt + 1 }) }
 
 abbrev pub dealt_view : View → View
 dealt_view v = record no_view { pass = Some (new_part (pen_of v).shape (pen_of v).dealt) }
 
--- the pen that a pass is joined with: no section word was loaded since
+-- the pen that a handle is joined with: no section word was loaded since
 abbrev pub pen_joined : PenPart → PenPart
 pen_joined p = record p { sections = [] }
 
--- a pass's part beside the pen's, or a note's beside what a seat knows; and apart from it again
+-- a handle's part beside the pen's, or a note's beside what a seat knows; and apart from it again
 abbrev pub with_pass : View → View → View
 with_pass v w = record v { pen = Some (pen_joined (pen_of v)); pass = w.pass }
 
@@ -158,7 +158,7 @@ pass_alone v = record no_view { pass = v.pass }
 abbrev pub note_alone : View → View
 note_alone v = record no_view { note = Some (record { seen = (pass_of v).seen }) }
 
--- ---- the rows that the pen knows
+-- ---- the nodes that the pen knows
 
 abbrev pub rooted_in : PenPart → Rooted
 rooted_in p = record { rows = p.shape.rows; table = record { width = kind_width p.shape.kind; words = p.words }; root = p.root }
@@ -172,7 +172,7 @@ least_number (n ∷ m ∷ ns) = min n (least_number (m ∷ ns))
 abbrev pub state_in : PenPart → State
 state_in p = record { tree = rooted_in p; lives = p.lives; buried = p.buried; ended = p.ended; in_flight = p.in_flight; published = p.published; cleared = least_number p.cleared }
 
--- the same as the rows of one caller, who has made no scan and tells no records
+-- the nodes that the pen knows, as a sheet without scans and records
 abbrev pub pen_sheet : PenPart → Sheet
 pen_sheet p = record {
   tree = rooted_in p;
@@ -191,7 +191,7 @@ pen_sheet p = record {
   told = None;
 }
 
--- ---- a pass's views: one with a pass's part, or none where its seat is joined into the pen's
+-- ---- a handle's views: one with a handle's part, or none if its seat is joined into the pen's
 
 abbrev pub part_in : List View → Option PassPart
 part_in [] = None

@@ -1,4 +1,4 @@
--- What the steps of a pass that reads without the lock tell it.
+-- What a handle that reads without the lock learns from its steps.
 -- Source: this project's own; the kernel's readers walk between rcu_read_lock and rcu_read_unlock.
 use Rattle.std.specs.Prelude.{◌≡◌, ◌≢◌, ℕ, ◌+◌, ◌*◌, ◌^◌, ◌<◌, ◌≤◌, ◌==◌, List, [], ◌∷◌, ◌++◌, Option, Some, None, length, slice_index, slice_get, if◌then◌else◌}
 use mathlib.Core.Option.{some}
@@ -13,12 +13,12 @@ use Rattle.mt_rule.specs.Places.{column_at}
 use Rattle.mt_rule.specs.Seats.{known_by, moment_at, pass_of, tree_of}
 use Rattle.mt_rule.specs.Steps.{Seat}
 
--- ---- the rows that a section holds
+-- ---- the nodes that a section holds
 
 abbrev pub no_held : Held
 no_held = record { row = 0; since = 0; met = 0; extent = record { first = 0; last = 0; level = 0 }; width = Long; copy = []; died = None }
 
--- the row that the section came to last
+-- the node that the section reached last
 abbrev pub first_held : List Held → Held
 first_held [] = no_held
 first_held (x ∷ xs) = x
@@ -26,7 +26,7 @@ first_held (x ∷ xs) = x
 abbrev pub here : PassPart → Held
 here q = first_held q.held
 
--- the section is at a row
+-- the section is at a node
 abbrev pub IsAt : PassPart → Type 0
 IsAt q = get_elem? q.held 0 ≡ some (here q)
 
@@ -34,11 +34,11 @@ abbrev pub held_behind : List Held → List Held
 held_behind [] = []
 held_behind (x ∷ xs) = xs
 
--- the map after the first k calls that the pass has seen, and where its leaves began
+-- the map after the first k calls that the handle has seen, and where its leaves began
 abbrev pub moment_seen : PassPart → ℕ → life.Moment
 moment_seen q k = moment_at q.shape q.seen k
 
--- the kind of the row that is held
+-- the kind of the node that is held
 abbrev pub kind_of : PassPart → Held → RowKind
 kind_of q x = kind_at q.shape.kind x.extent.level
 
@@ -46,11 +46,11 @@ kind_of q x = kind_at q.shape.kind x.extent.level
 abbrev pub slots_in : PassPart → Held → ℕ
 slots_in q x = slots_of (kind_width q.shape.kind) (kind_of q x)
 
--- what stood in the row, by the section's copy of it
+-- what stood in the node, by the section's copy of it
 abbrev pub spans_here : PassPart → Held → List Span
 spans_here q x = spans_at q.shape.kind (copy_of x) x.row x.extent
 
--- The row that was come to, by this name, on a walk from a root that was loaded after so many calls.
+-- The node that was reached, by this name, on a walk from a root that was loaded after `since` calls.
 pub record Comes (q : PassPart) (x : Held) (name since : ℕ) : Type 0 where
   pub row : x.row ≡ row_in name
   pub named : named_kind name ≡ Some (kind_of q x)
@@ -75,25 +75,25 @@ pub record IsLeafRead (q : PassPart) (x y : Held) : Type 0 where
   pub map : IsMap q.shape.kind (moment_seen q k).ranges
   pub part : HasPart q.shape.kind (copy_of y) x.row x.extent (moment_seen q k)
 
--- What a row's parent word tells: by the dead mark, that more calls have begun than the map had seen at the load of the root;
--- without it, that the row was not found dead before, and a leaf of its form had what the map had after each number of calls
--- since it was come to.
+-- What a node's parent word shows. If it is the dead mark, more calls have begun than the map had seen at the load of the root.
+-- If not, the node was not found dead before, and a leaf of its form had what the map had after each number of calls since it
+-- was reached.
 pub record ParentTells (q : PassPart) (x : Held) (word : ℕ) : Type 0 where
   pub dead : word ≡ dead_mark x.row → x.since + 1 ≤ q.risen
   pub live : word ≢ dead_mark x.row → x.died ≡ None
   pub past : word ≢ dead_mark x.row → x.extent.level ≡ 0 → (k : ℕ) → x.met ≤ k → k ≤ length q.seen → Snapshot q.shape.kind x (moment_seen q k)
 
--- ---- what steps tell, of what the pass knew before and knows then
+-- ---- what steps show, by what the handle knew before and knows afterwards
 
--- the same pass with what it has seen since
+-- the handle with what it has seen since
 abbrev pub with_seen : PassPart → List Moment → PassPart
 with_seen q seen = record q { seen = seen }
 
--- The pass has become this, but for how many steps it has made.
+-- The handle is now this one, except for how many steps it has made.
 abbrev pub HasBecome : PassPart → PassPart → Type 0
 HasBecome q' part = q' ≡ record part { steps = q'.steps }
 
--- The pass has become this, and has seen no less than it had.
+-- The handle is now this one, and has seen no less than it had.
 pub record Reads (q q' part : PassPart) : Type 0 where
   pub is : HasBecome q' part
   pub seen : Begins q.seen q'.seen
@@ -127,7 +127,7 @@ pub record LoadedNoRoot (q q' : PassPart) : Type 0 where
   pub reads : Reads q q' (with_seen q q'.seen)
   pub empty : (moment_seen q' (length q'.seen)).ranges ≡ []
 
--- The section is at the root row.
+-- The section is at the root node.
 pub record LoadedRootRow (found : ℕ) (q q' : PassPart) : Type 0 where
   pub reads : Reads q q' (record (with_seen q q'.seen) { floor = floor_or q.floor (length q'.seen); held = here q' ∷ q.held })
   pub at : IsAt q'
@@ -141,7 +141,7 @@ pub record LoadedRoot (found : ℕ) (q q' : PassPart) : Type 0 where
   pub empty : found ≡ 0 → LoadedNoRoot q q'
   pub row : found ≢ 0 → LoadedRootRow found q q'
 
--- A pivot of the row that the section is at, which is as when it was come to.
+-- A pivot of the node that the section is at, which is as when the node was reached.
 pub record LoadedPivot (word found : ℕ) (q q' : PassPart) : Type 0 where
   pub reads : Reads q q' (with_seen q q'.seen)
   pub found_is : found ≡ slice_index (here q).copy word
@@ -152,7 +152,7 @@ pub record LoadedEntry (word found : ℕ) (q q' : PassPart) : Type 0 where
   pub read : IsLeafRead q' (here q) (here q')
   pub found_is : found ≡ slice_index (here q').copy word
 
--- A slot of the inner row that the section is at: it comes to the child that covers just what the slot does.
+-- A slot of the inner node that the section is at: the section reaches the child that covers exactly what the slot does.
 pub record LoadedChild (word found : ℕ) (q q' : PassPart) : Type 0 where
   pub reads : Reads q q' (record (with_seen q q'.seen) { held = here q' ∷ q.held })
   pub at : IsAt q'
@@ -165,17 +165,17 @@ pub record LoadedSlot (word found : ℕ) (q q' : PassPart) : Type 0 where
   pub entry : (here q).extent.level ≡ 0 → LoadedEntry word found q q'
   pub child : (here q).extent.level ≢ 0 → LoadedChild word found q q'
 
--- the rows whose dead marks were loaded, where a row's parent word was found so
+-- the nodes whose dead marks were loaded, where a node's parent word was found so
 abbrev pub marks_with : ℕ → ℕ → List ℕ → List ℕ
 marks_with row found marks = if found == dead_mark row then row ∷ marks else marks
 
--- The parent word of this row, for each hold of it.
+-- The parent word of this node, for each hold of it.
 pub record LoadedParent (row word found : ℕ) (q q' : PassPart) : Type 0 where
   pub reads : Reads q q' (record (with_seen q q'.seen) { risen = q'.risen; marks = marks_with row found q.marks })
   pub risen : q.risen ≤ q'.risen
   pub tells : (j : ℕ) (x : Held) → get_elem? q.held j ≡ some x → word ≡ column_at (kind_width q.shape.kind) x.row 0 → ParentTells q' x found
 
--- How many calls have begun: no fewer than the pass knows of. What it has seen is one legal history.
+-- How many calls have begun: no fewer than the handle knows of. What it has seen is one legal history.
 pub record LoadedBegun (found : ℕ) (q q' : PassPart) : Type 0 where
   pub is : q' ≡ record q { begun = found; steps = q.steps + 1 }
   pub seen : length q.seen ≤ found
@@ -185,7 +185,7 @@ pub record LoadedBegun (found : ℕ) (q q' : PassPart) : Type 0 where
 
 -- ---- the plays
 
--- Nothing else of the seat has changed. The pass has made one step more.
+-- Nothing else of the seat has changed. The handle has made one step more.
 pub record OfPass (me me' : Seat) : Type 0 where
   pub view : me'.0 ≡ record me.0 { pass = Some (pass_of me'.0) }
   pub slots : me'.1 ≡ me.1

@@ -1,4 +1,4 @@
--- What the steps of the pen, alone or with a pass, tell the seat that makes them.
+-- What the steps of the pen, alone or with a pass (handle), show to the seat that makes them.
 -- Source: this project's own; the order of a write's steps is that of the kernel's mas_replace_node.
 use Rattle.std.specs.Prelude.{◌≡◌, ◌≢◌, ℕ, ◌+◌, ◌/◌, ◌≤◌, ◌==◌, ◌∷◌, ◌++◌, [], List, Some, None, max, length, slice_index, slice_set, true, false, if◌then◌else◌}
 use Rattle.atomic_table.specs.Table.{Me, Step}
@@ -16,7 +16,7 @@ use Rattle.mt_rule.specs.Rule.{IsSoundPen, PassFits}
 
 -- ---- what steps make of the parts
 
--- a pass that has seen all that the pen knows, where no call is in flight
+-- a handle that has seen all that the pen knows, while no call is in flight
 abbrev pub all_seen : PenPart → PassPart → PassPart
 all_seen p q = record q { seen = p.history; ended = p.ended }
 
@@ -24,20 +24,20 @@ all_seen p q = record q { seen = p.history; ended = p.ended }
 abbrev pub pen_begun : PenPart → PenPart
 pen_begun p = record p { in_flight = true; published = false; sections = [] }
 
--- a column of a row was written, which is then a draft
+-- a column of a node was written, which is then a draft
 abbrev pub pen_drafted : ℕ → ℕ → ℕ → PenPart → PenPart
 pen_drafted row col word p = record p { words = slice_set p.words (column_at (kind_width p.shape.kind) row col) word; lives = slice_set p.lives row Draft }
 
--- a live row was given its dead mark
+-- a live node was given its dead mark
 abbrev pub pen_buried : ℕ → PenPart → PenPart
 pen_buried row p = record p { words = slice_set p.words (column_at (kind_width p.shape.kind) row 0) (dead_mark row); buried = slice_set p.buried row true }
 
--- the parent word or a gap word of a live row was written
+-- the parent word or a gap word of a live node was written
 abbrev pub pen_tended : ℕ → ℕ → ℕ → PenPart → PenPart
 pen_tended row col word p = record p { words = slice_set p.words (column_at (kind_width p.shape.kind) row col) word }
 
--- A section word was loaded. Where it was closed, all rows that are dead now are out of that pass's reach; where it was open,
--- those that died up to its epoch.
+-- A section word was loaded. If the section was closed, all nodes that are dead now are out of that handle's reach. If it was
+-- open, those that died up to its epoch are.
 abbrev pub raised : ℕ → ℕ → ℕ → ℕ
 raised ended was found = if found == 0 then ended else max was (found / 2)
 
@@ -51,7 +51,7 @@ pen_scanned pass found p = record p {
   sections = p.sections ++ record { pass = pass; word = found } ∷ [];
 }
 
--- a call published: it is the last of the history, with these words and lives behind it
+-- a call was published: it is the last of the history, which now has these words and lives
 abbrev pub pen_published : Moment → PenPart → PenPart → PenPart
 pen_published m after p = record p { history = p.history ++ m ∷ []; published = true; root = after.root; words = after.words; lives = after.lives; buried = after.buried }
 
@@ -59,11 +59,11 @@ pen_published m after p = record p { history = p.history ++ m ∷ []; published 
 abbrev pub pen_ended : Moment → PenPart → PenPart
 pen_ended m p = record p { history = (if p.published then p.history else p.history ++ m ∷ []); ended = p.ended + 1; in_flight = false; published = false }
 
--- the pass whose call is in the history from now on
+-- the handle whose call is in the history from now on
 abbrev pub pass_recorded : Moment → PenPart → PassPart → PassPart
 pass_recorded m p q = record q { seen = p.history ++ m ∷ []; mine = q.mine ++ (p.ended + 1) ∷ [] }
 
--- the pass whose call ended
+-- the handle whose call ended
 abbrev pub pass_ended : Moment → PenPart → PassPart → PassPart
 pass_ended m p q = record (if p.published then q else pass_recorded m p q) { ended = p.ended + 1 }
 
@@ -71,13 +71,13 @@ pass_ended m p q = record (if p.published then q else pass_recorded m p q) { end
 abbrev pub quiet_moment : PenPart → PassPart → Call → Reply → Moment
 quiet_moment p q call reply = moment q.number call reply (cuts_at p.shape p.history (length p.history))
 
--- a pass that has learnt what a note tells
+-- a handle that has learnt what a note holds
 abbrev pub taught : PassPart → NotePart → PassPart
 taught q n = record q { seen = longer_history q.seen n.seen }
 
--- ---- what steps tell
+-- ---- what steps show
 
--- The pass beside the pen has then seen the whole history, all of whose calls have ended.
+-- The handle beside the pen has now seen the whole history, all of whose calls have ended.
 pub record SawAll (v : View) (found : ℕ) (w : View) : Type 0 where
   pub view : w ≡ record v { pass = Some (all_seen (pen_of v) (pass_of v)) }
   pub count : found ≡ (pen_of v).ended
@@ -85,7 +85,7 @@ pub record SawAll (v : View) (found : ℕ) (w : View) : Type 0 where
   pub sound : IsSoundPen extents (pen_of v)
   pub fits : PassFits extents (pen_of v) (pass_of v)
 
--- The pass beside the note has then seen the longer of what it had seen and what the note tells. The note is gone.
+-- The handle beside the note has now seen the longer of what it had seen and what the note holds. The note is gone.
 pub record Learnt (v w : View) : Type 0 where
   pub view : w ≡ record v { pass = Some (taught (pass_of v) (note_of v)); note = None }
   pub seen : Begins (pass_of v).seen (taught (pass_of v) (note_of v)).seen
@@ -101,7 +101,8 @@ pub record LookedAtRoot (found : ℕ) (v w : View) : Type 0 where
   pub view : w ≡ v
   pub found_is : found ≡ (pen_of v).root
 
--- The section word of a pass was loaded: it is of an epoch that has been. That of the pass beside the pen tells its own section.
+-- The section word of a handle was loaded: it is of an epoch that has been reached. That of the handle beside the pen is its
+-- own section's.
 pub record LoadedSection (pass found : ℕ) (v w : View) : Type 0 where
   pub view : w ≡ record v { pen = Some (pen_scanned pass found (pen_of v)) }
   pub closed_or_open : IsSectionWord (pen_of v).ended found
@@ -111,18 +112,18 @@ pub record LoadedSection (pass found : ℕ) (v w : View) : Type 0 where
 abbrev pub Becomes : (PenPart → PenPart) → View → View → Type 0
 Becomes f v w = w ≡ record v { pen = Some (f (pen_of v)) }
 
--- the pass's own calls are all that the history has of its number
+-- the handle's own calls are all that the history has of its number
 abbrev pub HasOwnCalls : PenPart → PassPart → Type 0
 HasOwnCalls p q = q.mine ≡ known.places q.number (records_of p.history)
 
--- What a call that published has made of what the pen and the pass know.
+-- What a published call has changed in what the pen and the handle know.
 pub record WasPublished (call : Call) (reply : Reply) (p : PenPart) (q : PassPart) (p' : PenPart) (q' : PassPart) : Type 0 where
   pub moment : Moment
   pub moment_is : moment ≡ record { pass = q.number; call = call; reply = reply; cuts = cuts_by (rooted_in p') }
   pub pen : p' ≡ pen_published moment p' p
   pub pass : q' ≡ pass_recorded moment p q
 
--- The word was published at the place: the call is the last of the history, and one of the pass's own.
+-- The word was published at the place: the call is the last of the history, and one of the handle's own.
 pub record PublishedAt (place : Place) (word : ℕ) (call : Call) (reply : Reply) (v w : View) : Type 0 where
   pub rows : Published (pen_sheet (pen_of v)) (pen_sheet (pen_of w)) place word call reply
   pub whole : IsWhole (pen_sheet (pen_of w))
@@ -130,7 +131,7 @@ pub record PublishedAt (place : Place) (word : ℕ) (call : Call) (reply : Reply
   pub recorded : WasPublished call reply (pen_of v) (pass_of v) (pen_of w) (pass_of w)
   pub mine : HasOwnCalls (pen_of w) (pass_of w)
 
--- The call ended. The pass's own calls are all that the history has of its number.
+-- The call ended. The handle's own calls are all that the history has of its number.
 abbrev pub view_ended : Call → Reply → View → View
 view_ended call reply v = let m = quiet_moment (pen_of v) (pass_of v) call reply in
     record v { pen = Some (pen_ended m (pen_of v)); pass = Some (pass_ended m (pen_of v) (pass_of v)) }
@@ -166,7 +167,7 @@ begins_call step me found me' = Becomes pen_begun me.0 me'.0
 abbrev pub drafts : ℕ → ℕ → Step (Unit {0}) → Seat → ℕ → Seat → Type 0
 drafts row col step me found me' = Becomes (pen_drafted row col found) me.0 me'.0
 
--- The column was loaded: where it holds the word already, its row is a draft from then on, as if the word had been written.
+-- The column was loaded: where it holds the word already, its node is a draft from then on, as if the word had been written.
 abbrev pub finds_drafted : ℕ → ℕ → ℕ → Step (Unit {0}) → Seat → ℕ → Seat → Type 0
 finds_drafted row col word step me found me' = (found ≡ word → Becomes (pen_drafted row col word) me.0 me'.0) × (found ≢ word → me'.0 ≡ me.0)
 

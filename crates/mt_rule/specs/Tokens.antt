@@ -1,4 +1,4 @@
--- Whose a pass, a pen and a note are, and what they stand for.
+-- Whose a pass (handle), a pen and a note are, and what they represent.
 -- Source: this project's own.
 use Rattle.std.specs.Prelude.{◌≡◌, ℕ, ◌+◌, ◌≤◌, List, [], false, Some, None}
 use Rattle.std.specs.List.{Contains}
@@ -21,7 +21,7 @@ use Rattle.mt_rule.specs.Rule.{IsSoundPen}
 
 -- ---- tables
 
--- which table of nodes it is, and what that was told when it was made
+-- which table of nodes it is, and what it got when it was made
 pub record Identity : Type 0 where
   pub table : TableId
   pub shape : Shape
@@ -33,7 +33,8 @@ identity_of t = record { table = t.table.shared.table_id; shape = shape_told t.t
 abbrev pub tree_in : Identity → History
 tree_in t = tree_of t.shape []
 
--- A tree may open with these rows: no call was begun on them, and they are lawful. It has one pass at least.
+-- A tree may open with these nodes: no call was begun on them, and they are well-formed (well-formed). It has at least one
+-- handle.
 pub record MayOpen (kind : Kind) (s : Sheet) (passes calls : ℕ) : Type 0 where
   pub none : s.ended ≡ 0
   pub idle : s.in_flight ≡ false
@@ -43,13 +44,13 @@ pub record MayOpen (kind : Kind) (s : Sheet) (passes calls : ℕ) : Type 0 where
   pub some_call : 1 ≤ calls
   pub few_calls : calls ≤ most_calls
 
--- what its table is told
+-- what its table gets when it is made
 abbrev pub shape_opened : Kind → Sheet → ℕ → ℕ → Shape
 shape_opened kind s passes calls = shape_opening kind s.tree passes calls
 
--- ---- passes
+-- ---- passes (handles)
 
--- its seat at the table, and its seat at the turn
+-- its seat at the table, and its seat at the turn (the writer lock)
 abbrev pub tree_seat : Pass → Badge View
 tree_seat p = p.seat
 
@@ -59,7 +60,7 @@ turn_seat p = p.turn
 abbrev pub part_of : Pass → PassPart
 part_of p = pass_or (part_in (tree_seat p).views)
 
--- what a pass knows
+-- what a handle knows
 abbrev pub pass_in : Pass → known.Pass
 pass_in p = known_by (part_of p)
 
@@ -71,16 +72,16 @@ steps_made p = (part_of p).steps
 abbrev pub IsCounted : Pass → Pass → ℕ → ℕ → Type 0
 IsCounted p p' steps steps' = steps_made p' + steps ≡ steps_made p + steps'
 
--- the table of a pass that is not away
+-- the table of a handle that is not away
 abbrev pub identity_of_pass : Pass → Identity
 identity_of_pass p = record { table = (tree_seat p).table_id; shape = (part_of p).shape }
 
--- The pass is one of this table's, and not away.
+-- The handle is one of this table's, and not away.
 pub record IsPassOf (t : Identity) (p : Pass) : Type 0 where
   pub here : part_in (tree_seat p).views ≡ Some (part_of p)
   pub of : identity_of_pass p ≡ t
 
--- The pass has made a step of its own, and its seat at the turn is as it was.
+-- The handle has made a step of its own, and its seat at the turn is as it was.
 pub record Stepped (t : Identity) (p p' : Pass) : Type 0 where
   pub of : IsPassOf t p'
   pub turn : turn_seat p' ≡ turn_seat p
@@ -96,11 +97,11 @@ identity_of_pen p = record { table = p.seat.table_id; shape = (pen_in p).shape }
 abbrev pub IsPenOf : Identity → Pen → Type 0
 IsPenOf t p = identity_of_pen p ≡ t
 
--- no pass is joined with the pen
+-- no handle is joined with the pen
 abbrev pub IsAlone : Pen → Type 0
 IsAlone p = p.seat.me.0.pass ≡ None
 
--- what the pass that is joined with the pen knows
+-- what the handle that is joined with the pen knows
 abbrev pub joined_part : Pen → PassPart
 joined_part p = pass_of p.seat.me.0
 
@@ -110,22 +111,22 @@ joined_in p = known_by (joined_part p)
 abbrev pub joined_turn : Pen → Badge TurnView
 joined_turn p = p.turn
 
--- A pass of the pen's table is joined with it, and has seen the whole history and its own calls there.
+-- A handle of the pen's table is joined with it, and has seen the whole history and its own calls there.
 pub record IsJoined (p : Pen) : Type 0 where
   pub has : HasPass p.seat.me.0
   pub shape : (joined_part p).shape ≡ (pen_in p).shape
   pub seen : (joined_part p).seen ≡ (pen_in p).history
   pub mine : (joined_part p).mine ≡ known.places (joined_part p).number (records_of (pen_in p).history)
 
--- The pen goes on with the same pass, which knows what it knew.
+-- The pen goes on with the same handle, which knows what it knew.
 pub record KeepsPassOf (t : Identity) (a b : Pen) : Type 0 where
   pub of : IsPenOf t b
   pub joined : IsJoined b
   pub pass : joined_part b ≡ joined_part a
   pub turn : joined_turn b ≡ joined_turn a
 
--- What the lock shows the pass that is joined with the pen: the whole history, which is one legal history of the table's
--- passes, and the rows as they are. Each section of its own that was found open is one that it opened.
+-- What the lock shows to the handle that is joined with the pen: the whole history, which is one legal history of the table's
+-- handles, and the nodes as they are. Each section of its own that was found open is one that it opened.
 pub record WasShown (tree : History) (pen : PenPart) (p q : known.Pass) : Type 0 where
   pub saw : known.Saw tree p q
   pub all : q.seen ≡ records_of pen.history
@@ -135,7 +136,7 @@ pub record WasShown (tree : History) (pen : PenPart) (p q : known.Pass) : Type 0
 
 -- ---- notes
 
--- what a note tells
+-- what a note holds
 abbrev pub note_in : Note → List Record
 note_in n = records_of (note_of n.seat.me.0).seen
 

@@ -1,4 +1,4 @@
--- The rule of the turn: one seat at most holds the value, which is of the table that the turn serves.
+-- The rule of the turn (the writer lock): at most one seat holds the value, which is of the table that the turn serves.
 -- Source: the kernel's ma_lock, which a writer of a tree holds.
 use Rattle.std.specs.Prelude.{◌≡◌, ◌≢◌, ℕ, ◌+◌, [], ◌∷◌, Bool, true, false, List, map, Option, Some}
 use mathlib.Core.Option.{some, none}
@@ -21,7 +21,7 @@ served key = identity_of key.value
 abbrev pub waiting : Snapshot MtTable → TurnView
 waiting key = record { holds = false; held = false; met = false; tries = 0; of = key }
 
--- a pass's seat, where the pass has gone for the value so often
+-- a handle's seat, if the handle has gone for the value this often
 abbrev pub seated : Snapshot MtTable → ℕ → TurnView
 seated key tries = record (waiting key) { tries = tries }
 
@@ -36,14 +36,14 @@ given_back key = record { holds = false; held = true; met = false; tries = 0; of
 abbrev pub refused : Snapshot MtTable → TurnView
 refused key = record { holds = false; held = false; met = true; tries = 0; of = key }
 
--- a seat beside another, and one that counts another by which its pass goes for the value
+-- a seat beside another, and one that counts another by which its handle goes for the value
 abbrev pub seat_beside : TurnView → TurnView
 seat_beside v = record v { tries = 0 }
 
 abbrev pub counting : TurnView → TurnView
 counting v = record v { tries = v.tries + 1 }
 
--- The pass has gone for the value once more, by a try or by waiting; nothing else of it has changed.
+-- The handle has gone for the value once more, by a try or by waiting. Nothing else of it has changed.
 abbrev pub tried : Pass → Pass
 tried p = record p { turn = record (turn_seat p) { views = map counting (turn_seat p).views } }
 
@@ -51,11 +51,11 @@ abbrev pub tries_in : List TurnView → ℕ
 tries_in [] = 0
 tries_in (v ∷ views) = v.tries
 
--- how often the pass has gone for the value
+-- how often the handle has gone for the value
 abbrev pub tries_of : Pass → ℕ
 tries_of p = tries_in (turn_seat p).views
 
--- The pass has a seat at this turn, and may wait for its value.
+-- The handle has a seat at this turn, and may wait for its value.
 pub record IsSeatedAt (turn : TableId) (key : Snapshot MtTable) (p : Pass) : Type 0 where
   pub table : (turn_seat p).table_id ≡ turn
   pub views : (turn_seat p).views ≡ seated key (tries_of p) ∷ []
@@ -84,15 +84,15 @@ module _ {C : Type 0} (table : C → Identity) where
   abbrev pub BelongsTo : Identity → Option C → Type 0
   BelongsTo t slot = (value : C) × (slot ≡ Some value) × (table value ≡ t)
 
-  -- A seat knows the table that is served. The one that holds the value is the holder, and then the slot is away. One has found
-  -- the value away only where it was ever taken.
+  -- A seat knows the table that is served. The one that holds the value is the holder, and then the slot is away. A seat has
+  -- found the value away only if it was ever taken.
   pub record SeatFits (key : Snapshot MtTable) (holder : ℕ) (home : maybe.Option (Option C)) (ever : Bool) (by : ℕ) (v : TurnView) : Type 0 where
     pub of : v.of ≡ key
     pub holds : v.holds ≡ true → (by ≡ holder) × (home ≡ none)
     pub met : v.met ≡ true → ever ≡ true
 
-  -- While the slot is away one seat says that it holds the value: it goes on saying so until the slot is home and the word 0.
-  -- Where the value was ever taken, the seat that took it last says that it has held it.
+  -- While the slot is away, one seat says that it holds the value: it goes on saying so until the slot is home and the word 0.
+  -- If the value was ever taken, the seat that took it last says that it has held it.
   pub record IsTurnKept (key : Snapshot MtTable) (s : State (Option C) TurnView) : Type 0 where
     pub holder : ℕ
     pub home : maybe.Option (Option C)
@@ -104,7 +104,7 @@ module _ {C : Type 0} (table : C → Identity) where
     pub taken : ever ≡ true → HasHeld s.views holder
     pub each : (by : ℕ) (v : TurnView) → get_elem? s.views by ≡ some v → SeatFits key holder home ever by v
 
-  -- A swap of 1 into the word: where it was 0, the seat then holds the value; else it has found it away.
+  -- A swap of 1 into the word. If it was 0, the seat then holds the value; otherwise it has found it away.
   pub record Grabbed (me : Me (Option C) TurnView) (found : ℕ) (me' : Me (Option C) TurnView) : Type 0 where
     pub free : found ≡ 0 → (value : C) × (me' ≡ (holding_view me.0.of, (0, Some value) ∷ me.1)) × (table value ≡ served me.0.of)
     pub taken : found ≢ 0 → me' ≡ (refused me.0.of, me.1)

@@ -3,7 +3,7 @@
 use crate::views::TurnView;
 use atomic_table::Badge;
 
-/// What is told by who has found a turn's value away. Only a step at the turn makes one: it has no bytes.
+/// The receipt of finding a turn's value away. Only a step at the turn makes one, and it has no bytes.
 #[derive(Drop)]
 pub struct Busy {
     pub(crate) seat: Badge<TurnView>,

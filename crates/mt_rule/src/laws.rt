@@ -1,4 +1,5 @@
-//! What the rule of a tree's table says of its seats together. Each law is the contract of a function that does nothing.
+//! What the rule of a tree's table says of its seats together. Each law (lemma) is the contract of a function that does
+//! nothing.
 
 ghost use Rattle.std.specs.Prelude.{◌≡◌, ℕ, ◌+◌, Some};
 ghost use mathlib.Core.Option.{some};
@@ -13,7 +14,7 @@ ghost use Rattle.mt_rule.specs.declared.views.View.{View};
 ghost use Rattle.mt_rule.specs.Rule.{IsKept};
 ghost use Rattle.mt_rule.specs.Seats.{least_number};
 
-/// A row that the section of a pass holds is not free for the pen, whichever seats they have: it is written anew by no call while
+/// A node that the section of a handle holds is not free for the pen, whichever seats they have. No call writes it again while
 /// the section holds it.
 pub fn a_held_row_is_not_free()
     ensures { (told : TableStart) (s : State (Unit {0}) View) (writer reader : ℕ) (v w : View) (p : PenPart) (q : PassPart) (j : ℕ) (x : Held)

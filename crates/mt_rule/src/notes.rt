@@ -1,4 +1,4 @@
-//! What one pass tells another.
+//! How a pass (handle) passes on what it has seen to another.
 
 ghost use Rattle.std.specs.Prelude.{◌≡◌, []};
 ghost use Rattle.mt_rule.specs.Seats.{HasNote};
@@ -9,7 +9,7 @@ use crate::table::MtTable;
 use crate::views::View;
 use atomic_table::{Badge, Seat};
 
-/// A copy of what a pass has seen of its tree's history.
+/// A copy of what a handle has seen of its tree's history.
 #[derive(Drop)]
 pub struct Note {
     pub(crate) seat: Seat<(), View>,
@@ -22,7 +22,7 @@ impl MtTable {
     ghost use Rattle.mt_base.specs.Passes.{Learned};
     ghost use Rattle.mt_rule.specs.Tokens.{identity_of, tree_in, IsPassOf, IsNoteOf, pass_in, note_in, turn_seat};
 
-    /// Copies what the pass has seen.
+    /// Copies what the handle has seen.
     pub fn split_note(&self, pass: &mut Pass) -> Note
         requires pass { IsPassOf (identity_of self.now) pass.old }
         ensures pass { pass.new ≡ pass.old }
@@ -36,7 +36,7 @@ impl MtTable {
         Note { seat: note }
     }
 
-    /// The pass has then seen the longer of what it had seen and what the note tells. Each of these begins it.
+    /// Afterwards the handle has seen the longer of what it had seen and what the note holds. Each of these begins it.
     pub fn join_note(&self, pass: &mut Pass, note: Note)
         requires pass { IsPassOf (identity_of self.now) pass.old }
         requires note { IsNoteOf (identity_of self.now) note }

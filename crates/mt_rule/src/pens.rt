@@ -10,13 +10,13 @@ use crate::table::MtTable;
 use crate::views::{TurnView, View};
 use atomic_table::{Badge, Seat};
 
-/// The pen of a tree's table, alone or joined with a pass. There is one.
+/// The pen (the writer's capability) of a tree's table, alone or joined with a pass (handle). There is one.
 #[derive(Drop)]
 pub struct Pen {
     pub(crate) seat: Seat<(), View>,
     /// How many calls have ended.
     pub(crate) ended: u64,
-    /// The joined pass's number, and its seat at the turn.
+    /// The joined handle's number, and its seat at the turn.
     pub(crate) number: u32,
     pub(crate) turn: Badge<TurnView>,
     ghost is_pen: { HasPen seat.me.0 },
@@ -62,8 +62,8 @@ impl MtTable {
     ghost use Rattle.mt_rule.specs.Seats.{pen_joined};
     ghost use Rattle.mt_rule.specs.Tokens.{identity_of, tree_in, IsPassOf, pass_in, pen_in, IsPenOf, IsAlone, IsJoined, joined_part, joined_in, joined_turn, part_of, turn_seat, WasShown};
 
-    /// Joins a pass with the pen, while no call is in flight. The pass has then seen the whole history, and no section word was
-    /// loaded since. Answers how many calls have ended.
+    /// Joins a handle with the pen. No call may be in flight. The handle has then seen the whole history, and no section word
+    /// was loaded since. Returns how many calls have ended.
     pub fn join_pen(&self, pen: &mut Pen, pass: Pass) -> u64
         requires pen { IsPenOf (identity_of self.now) pen.old }
         requires alone { IsAlone pen.old }
@@ -86,7 +86,7 @@ impl MtTable {
         self.table.shared.load::<SeesAll>(&mut pen.seat, 0)
     }
 
-    /// Parts the joined pass from the pen, while no call is in flight. What it knows is one legal history.
+    /// Separates the joined handle from the pen. No call may be in flight. What the handle knows is one legal history.
     pub fn split_pen(&self, pen: &mut Pen) -> Pass
         requires pen { IsPenOf (identity_of self.now) pen.old }
         requires joined { IsJoined pen.old }

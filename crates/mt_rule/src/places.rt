@@ -1,12 +1,12 @@
-//! Where rows stand.
+//! Where nodes are.
 
 ghost use Rattle.std.specs.Prelude.{◌≡◌};
 ghost use Rattle.mt_rule.specs.Places.{column_at};
 
 use mt_base::{Width, cols};
 
-/// A row of a table: its number, and where its columns begin among the table's words. That is reckoned once, so that a load of a
-/// column has only to add.
+/// A node of a table: its number, and where its columns begin among the table's words. That is computed once, so that the load
+/// of a column only has to add.
 #[derive(Clone, Copy, Debug)]
 pub struct RowAt {
     pub number: u32,
@@ -14,7 +14,7 @@ pub struct RowAt {
 }
 
 impl RowAt {
-    /// A row of this width.
+    /// A node of this width.
     pub fn of_width(width: Width, number: u32) -> RowAt
         ensures number { result.number ≡ number }
         ensures base { result.base ≡ column_at width number 0 }

@@ -1,4 +1,4 @@
-//! The rule of a tree's table, how its seats' views are parted and joined, and what a step tells.
+//! The rule of a tree's table, how its seats' views are split and joined, and what a step shows.
 
 ghost use Rattle.std.specs.Prelude.{◌≡◌, ℕ};
 ghost use Rattle.mt_base.specs.declared.calls.Call.{Call};
@@ -12,8 +12,8 @@ use crate::views::{TableStart, View};
 use atomic_table::{Join, Play, Split, TableRule};
 use std::marker::{Brand, PhantomData};
 
-/// A tree has one history, of which every pass and every note knows a beginning; its words stand for the map after it, and the
-/// rows that a section holds have the pivots and the empty slots that they had when it came to them.
+/// A tree has one history, of which every handle and every note knows a beginning. Its words represent the map after it. The
+/// nodes that a section holds have the pivots and the empty slots that they had when it reached them.
 pub struct Ruled;
 
 impl TableRule<(), View, TableStart> for Ruled {
@@ -54,7 +54,7 @@ impl Announced for Brand {
     ghost word = { 0 };
 }
 
-/// The pen deals the next pass.
+/// The pen deals the next handle.
 pub(crate) struct Deals;
 
 impl Split<View> for Deals {
@@ -65,7 +65,7 @@ impl Split<View> for Deals {
     ghost right = { dealt_view };
 }
 
-/// A pass's part is laid beside the pen's.
+/// A handle's part is laid beside the pen's.
 pub(crate) struct JoinsPass;
 
 impl Join<View> for JoinsPass {
@@ -87,7 +87,7 @@ impl Split<View> for PartsPass {
     ghost right = { pass_alone };
 }
 
-/// A note copies what a pass has seen.
+/// A note copies what a handle has seen.
 pub(crate) struct CopiesSeen;
 
 impl Split<View> for CopiesSeen {
@@ -98,7 +98,7 @@ impl Split<View> for CopiesSeen {
     ghost right = { note_alone };
 }
 
-/// A note's part is laid beside a pass's.
+/// A note's part is laid beside a handle's.
 pub(crate) struct JoinsNote;
 
 impl Join<View> for JoinsNote {
@@ -109,7 +109,7 @@ impl Join<View> for JoinsNote {
     ghost spent = { no_view };
 }
 
-/// A pass beside the pen sees the whole history.
+/// A handle beside the pen sees the whole history.
 pub(crate) struct SeesAll;
 
 impl Play<(), View> for SeesAll {
@@ -118,7 +118,7 @@ impl Play<(), View> for SeesAll {
     ghost then = { sees_all };
 }
 
-/// A pass learns what the note beside it tells.
+/// A handle learns what the note beside it holds.
 pub(crate) struct Learns;
 
 impl Play<(), View> for Learns {
@@ -145,7 +145,7 @@ impl Play<(), View> for LooksAtRoot {
     ghost then = { looks_at_root };
 }
 
-/// The pen loads the section word of a pass.
+/// The pen loads the section word of a handle.
 pub(crate) struct LoadsSection<M> {
     announced: PhantomData<M>,
 }
@@ -187,7 +187,7 @@ impl<M: Announced> Play<(), View> for Drafts<M> {
     ghost then = { drafts M.number M.column };
 }
 
-/// A live row is given its dead mark.
+/// A live node is given its dead mark.
 pub(crate) struct Buries<M> {
     announced: PhantomData<M>,
 }
@@ -198,7 +198,7 @@ impl<M: Announced> Play<(), View> for Buries<M> {
     ghost then = { buries M.number };
 }
 
-/// A parent word or a gap word of a live row is written.
+/// A parent word or a gap word of a live node is written.
 pub(crate) struct Tends<M> {
     announced: PhantomData<M>,
 }
@@ -231,7 +231,7 @@ impl<M: Announced> Play<(), View> for EndsCall<M> {
     ghost then = { ends_call M.call M.reply };
 }
 
-/// A pass loads the number of ended calls.
+/// A handle loads the number of ended calls.
 pub(crate) struct LoadsCommits;
 
 impl Play<(), View> for LoadsCommits {
@@ -240,7 +240,7 @@ impl Play<(), View> for LoadsCommits {
     ghost then = { loads_commits };
 }
 
-/// A pass opens a section.
+/// A handle opens a section.
 pub(crate) struct OpensSection;
 
 impl Play<(), View> for OpensSection {
@@ -249,7 +249,7 @@ impl Play<(), View> for OpensSection {
     ghost then = { opens_section };
 }
 
-/// A pass closes its section.
+/// A handle closes its section.
 pub(crate) struct ClosesSection;
 
 impl Play<(), View> for ClosesSection {
@@ -258,7 +258,7 @@ impl Play<(), View> for ClosesSection {
     ghost then = { closes_section };
 }
 
-/// A pass loads the root word.
+/// A handle loads the root word.
 pub(crate) struct LoadsRoot;
 
 impl Play<(), View> for LoadsRoot {
@@ -267,7 +267,7 @@ impl Play<(), View> for LoadsRoot {
     ghost then = { loads_root };
 }
 
-/// A pass loads a pivot of the row that its section is at.
+/// A handle loads a pivot of the node that its section is at.
 pub(crate) struct LoadsPivot;
 
 impl Play<(), View> for LoadsPivot {
@@ -276,7 +276,7 @@ impl Play<(), View> for LoadsPivot {
     ghost then = { loads_pivot };
 }
 
-/// A pass loads a word of which it wants to know nothing.
+/// A handle loads a word of which it wants to know nothing.
 pub(crate) struct Touches;
 
 impl Play<(), View> for Touches {
@@ -285,7 +285,7 @@ impl Play<(), View> for Touches {
     ghost then = { touches };
 }
 
-/// A pass loads a slot of that row.
+/// A handle loads a slot of that node.
 pub(crate) struct LoadsSlot;
 
 impl Play<(), View> for LoadsSlot {
@@ -294,7 +294,7 @@ impl Play<(), View> for LoadsSlot {
     ghost then = { loads_slot };
 }
 
-/// A pass loads the parent word of a row.
+/// A handle loads the parent word of a node.
 pub(crate) struct LoadsParent<M> {
     announced: PhantomData<M>,
 }
@@ -305,7 +305,7 @@ impl<M: Announced> Play<(), View> for LoadsParent<M> {
     ghost then = { loads_parent M.number };
 }
 
-/// A pass loads the number of calls that have begun.
+/// A handle loads the number of calls that have begun.
 pub(crate) struct LoadsBegun;
 
 impl Play<(), View> for LoadsBegun {

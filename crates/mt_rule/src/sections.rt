@@ -1,4 +1,4 @@
-//! The steps of a pass that reads without the lock. Each is one atomic step, and is counted.
+//! The steps of a handle that reads without the lock. Each is one atomic step, and is counted.
 
 ghost use Rattle.std.specs.Prelude.{◌≡◌, ◌≢◌, ℕ, ◌+◌, ◌^◌, ◌<◌, None, length};
 ghost use Rattle.mt_base.specs.Passes.{IsSound};
@@ -23,7 +23,7 @@ use std::mem;
 use std::sync::ledger::Ledger;
 
 impl MtTable {
-    /// Where a column of a row stands.
+    /// The place of a column of a node.
     fn column_in(&self, row: RowAt, col: u32) -> usize
         requires row { row.number < first_row + most_rows }
         requires base { IsRowAt self.now.width row }
@@ -49,7 +49,7 @@ impl MtTable {
         word
     }
 
-    /// Opens the pass's section at the epoch that it loaded last. It holds no row yet.
+    /// Opens the handle's section at the epoch that it loaded last. It holds no node yet.
     pub fn open_section<L: Ledger>(&self, pass: &mut Pass, epoch: u64, steps: &mut Steps<L>)
         requires pass { IsPassOf (identity_of self.now) pass.old }
         requires epoch { epoch ≡ (part_of pass.old).epoch }
@@ -68,7 +68,7 @@ impl MtTable {
         pass.seat = seat.into_badge();
     }
 
-    /// The root word. Where it is not 0, the section is then at the root row.
+    /// The root word. Where it is not 0, the section is then at the root node.
     pub fn load_root<L: Ledger>(&self, pass: &mut Pass, steps: &mut Steps<L>) -> u64
         requires pass { IsPassOf (identity_of self.now) pass.old }
         requires open { (part_of pass.old).standing ≢ None }
@@ -85,7 +85,7 @@ impl MtTable {
         word
     }
 
-    /// A pivot column of the row that the section is at.
+    /// A pivot column of the node that the section is at.
     pub fn load_pivot<L: Ledger>(
         &self,
         pass: &mut Pass,
@@ -113,7 +113,8 @@ impl MtTable {
         word
     }
 
-    /// Loads a column of a row of which nothing is told, so that its line is at hand when one beside it is loaded.
+    /// Loads a column of a node, only so that its cache line is at hand when one beside it is loaded. Nothing is known of the
+    /// word.
     #[inline(always)]
     pub fn touch<L: Ledger>(&self, pass: &mut Pass, row: RowAt, col: u32, steps: &mut Steps<L>)
         requires pass { IsPassOf (identity_of self.now) pass.old }
@@ -133,7 +134,7 @@ impl MtTable {
         pass.seat = seat.into_badge();
     }
 
-    /// The slot column of an item of the row that the section is at. Of an inner row it comes to the child.
+    /// The slot column of an item of the node that the section is at. In an inner node this reaches the child.
     pub fn load_slot<L: Ledger>(
         &self,
         pass: &mut Pass,
@@ -162,7 +163,7 @@ impl MtTable {
         word
     }
 
-    /// The parent column of a row, which shows the dead mark.
+    /// The parent column of a node, which shows the dead mark.
     pub fn load_parent<L: Ledger>(&self, pass: &mut Pass, row: RowAt, steps: &mut Steps<L>) -> u64
         requires pass { IsPassOf (identity_of self.now) pass.old }
         requires base { IsRowAt (kind_width (part_of pass.old).shape.kind) row }
@@ -210,7 +211,7 @@ impl MtTable {
         word
     }
 
-    /// Closes the pass's section. It holds no row then.
+    /// Closes the handle's section. It then holds no node.
     pub fn close_section<L: Ledger>(&self, pass: &mut Pass, steps: &mut Steps<L>)
         requires pass { IsPassOf (identity_of self.now) pass.old }
         ensures stepped { Stepped (identity_of self.now) pass.old pass.new }

@@ -19,24 +19,24 @@ use mt_rows::{PlainRows, Rows};
 use std::alloc::Global;
 use std::snapshot::Snapshot;
 
-/// A tree has so many passes at the most.
+/// The greatest number of passes (handles) of a tree.
 pub const MOST_PASSES: u32 = 62;
 
-/// A tree has so many calls at the most.
+/// The greatest number of calls of a tree.
 pub const MOST_CALLS: u64 = (1 << 62) - 1;
 
-/// Where the words stand that are of no row.
+/// The places of the words that are of no node.
 pub(crate) const COMMITS: usize = 0;
 
 pub(crate) const BEGUN: usize = 1;
 
 pub(crate) const ROOT: usize = 2;
 
-/// So many passes have a pair of cache lines each; those behind them take the lines that these leave.
+/// How many handles have a pair of cache lines each. Those after them use the lines that these leave free.
 const PAIRED_PASSES: usize = 31;
 
-/// Where the section word of a pass stands: each has a cache line of its own, and no two of the first passes one pair of lines,
-/// since a processor may fetch lines by pairs.
+/// The place of a handle's section word. Each has a cache line of its own. No two of the first handles share a pair of lines,
+/// because a processor may fetch lines by pairs.
 pub(crate) fn section_index(pass: u32) -> usize
     requires { pass < most_passes }
     ensures { result ≡ section_at pass }
@@ -49,8 +49,8 @@ pub(crate) fn section_index(pass: u32) -> usize
     }
 }
 
-/// The table of a tree: how many of its calls have begun and ended, its root word, a section word of each pass, and its
-/// rows, under the rule that the tree has one history, for which its words stand.
+/// The table of a tree: how many of its calls have begun and ended, its root word, a section word of each handle, and its
+/// nodes. Its rule is that the tree has one history, whose map the words represent.
 #[derive(Drop)]
 pub struct MtTable {
     pub(crate) table: Table<(), View, TableStart, Ruled, Global>,
@@ -75,7 +75,7 @@ impl MtTable {
     ghost use Rattle.mt_rule.specs.Seats.{new_pen};
     ghost use Rattle.mt_rule.specs.Tokens.{identity_of, MayOpen, shape_opened, IsPassOf, pass_in, pen_in, IsPenOf, IsAlone};
 
-    /// Where a column of a row stands.
+    /// The place of a column of a node.
     pub(crate) fn column_index<K: OfWidth>(&self, row: u32, col: u32) -> usize
         requires wide { K.wide ≡ kind_width (identity_of self.now).shape.kind }
         requires row { row < first_row + most_rows }
@@ -85,14 +85,14 @@ impl MtTable {
         cols(K::width()) as usize * row as usize + col as usize
     }
 
-    /// How many passes the tree has.
+    /// How many handles the tree has.
     pub fn passes(&self) -> u32
         ensures { result ≡ (identity_of self.now).shape.passes }
     {
         self.passes
     }
 
-    /// How many rows it has.
+    /// How many nodes it has.
     pub fn rows(&self) -> u64
         ensures { result ≡ (identity_of self.now).shape.rows }
     {
@@ -106,8 +106,8 @@ impl MtTable {
         self.width
     }
 
-    /// A table of the words of these rows, for a tree that opens with them; its pen, and its passes, numbered from 0. Rows that
-    /// are not reached are new. The memory of the rows is given back.
+    /// A table of the words of these nodes, for a tree that opens with them; its pen, and its handles, numbered from 0. Nodes
+    /// that are not reached are new. The memory of the nodes is given back.
     ///
     /// # Errors
     ///
@@ -131,7 +131,7 @@ impl MtTable {
         MtTable::make_over(alloc, kind, opening, size, &words, passes, calls)
     }
 
-    /// The same over the words of such a table, which stay: others may be made over them too.
+    /// A table over the words of such a table, which stay: others may be made over them too.
     ///
     /// # Errors
     ///
@@ -161,7 +161,7 @@ impl MtTable {
         Ok((table, pen, dealt))
     }
 
-    /// A table of these words, and its pen. No pass is dealt yet.
+    /// A table of these words, and its pen. No handle is dealt yet.
     fn with_pen(
         alloc: Global,
         kind: Kind,
@@ -193,7 +193,7 @@ impl MtTable {
         Ok((table, Pen::of_seat(seat)))
     }
 
-    /// Deals the next pass.
+    /// Deals the next handle.
     fn deal(&self, pen: &mut Pen, number: u32) -> Pass
         requires pen { IsPenOf (identity_of self.now) pen.old }
         requires alone { IsAlone pen.old }
@@ -215,7 +215,7 @@ impl MtTable {
     }
 }
 
-/// The words of a table that opens with these rows, which are written down once, in the memory of the rows.
+/// The words of a table that opens with these nodes, which are written down once, in the memory of the nodes.
 pub fn opening_words(mut rows: PlainRows) -> Vec<u64>
     ensures { AreOpening (sheet_in rows).tree result.items }
 {

@@ -18,7 +18,7 @@ use std::thread;
 
 /// What is of a tree's table.
 pub trait OfTable {
-    /// Which table it is, and what that was told when it was made.
+    /// Which table it is, and what it got when it was made.
     ghost table: { Self → Identity };
 }
 
@@ -85,8 +85,8 @@ pub struct Taken<C: OfTable> {
 }
 
 impl<C: OfTable + Drop> Turn<C> {
-    /// A turn for this table over this value, at which each of these passes has a seat. Where there is no memory the
-    /// value is dropped.
+    /// A turn (writer lock) for this table over this value, at which each of these handles has a seat. If there is no memory,
+    /// the value is dropped.
     ///
     /// # Errors
     ///
@@ -120,7 +120,7 @@ impl<C: OfTable + Drop> Turn<C> {
 }
 
 impl<C: OfTable> Turn<C> {
-    /// Gives each pass a seat.
+    /// Gives each handle a seat.
     fn seat_all(&self, first: &mut Seat<Option<C>, TurnView>, passes: &mut [Pass])
         requires seat { (first.old.table_id ≡ self.now.table.shared.table_id) × (first.old.me ≡ (waiting self.now.table.shared.key, [])) }
         requires passes { All (IsPassOf (served self.now.table.shared.key)) passes.old }
@@ -133,7 +133,7 @@ impl<C: OfTable> Turn<C> {
         }
     }
 
-    /// Gives one pass a seat.
+    /// Gives one handle a seat.
     fn seat_one(&self, first: &mut Seat<Option<C>, TurnView>, pass: &mut Pass)
         requires table { first.old.table_id ≡ self.now.table.shared.table_id }
         requires view { first.old.me.0 ≡ seated self.now.table.shared.key first.old.me.0.tries }
@@ -147,7 +147,7 @@ impl<C: OfTable> Turn<C> {
         pass.turn = self.table.shared.split_seat::<Sits>(first).into_badge();
     }
 
-    /// Another seat beside the pass's own, which counts it.
+    /// Another seat beside the handle's own, which counts it.
     fn seat(&self, pass: &mut Pass) -> Seat<Option<C>, TurnView>
         requires seated { IsSeatedAt self.now.table.shared.table_id self.now.table.shared.key pass.old }
         ensures pass { pass.new ≡ tried pass.old }
@@ -162,7 +162,7 @@ impl<C: OfTable> Turn<C> {
         other
     }
 
-    /// Waits for the value. No other has it until it is given back. The pass counts that it went for it.
+    /// Waits for the value. No other has it until it is given back. The handle counts that it went for it.
     pub fn take(&self, rt: &impl Wait, pass: &mut Pass) -> Taken<C>
         requires seated { IsSeatedAt self.now.table.shared.table_id self.now.table.shared.key pass.old }
         ensures pass { pass.new ≡ tried pass.old }
@@ -184,8 +184,8 @@ impl<C: OfTable> Turn<C> {
     ///
     /// # Errors
     ///
-    /// `Busy` where the swap found it away. Only a seat that has found it away says so, and none has before the value was ever
-    /// taken: so that no answer is `Busy` but by a step at the turn. The pass counts the try.
+    /// `Busy` if the swap found it away. Only a seat that has found it away says so, and none has before the value was ever
+    /// taken. So only a step at the turn returns `Busy`. The handle counts the try.
     pub fn try_take(&self, pass: &mut Pass) -> Result<Taken<C>, Busy>
         requires seated { IsSeatedAt self.now.table.shared.table_id self.now.table.shared.key pass.old }
         ensures pass { pass.new ≡ tried pass.old }
@@ -203,7 +203,8 @@ impl<C: OfTable> Turn<C> {
         Ok(self.grabbed(seat))
     }
 
-    /// Swaps 1 into the word. Where the value was in its slot, that is then away with the seat; else the seat has found it away.
+    /// Swaps 1 into the word. If the value was in its slot, the slot is then away with the seat. Otherwise the seat has found
+    /// it away.
     fn grab(&self, seat: &mut Seat<Option<C>, TurnView>) -> bool
         requires table { seat.old.table_id ≡ self.now.table.shared.table_id }
         requires of { seat.old.me.0.of ≡ self.now.table.shared.key }
@@ -216,8 +217,8 @@ impl<C: OfTable> Turn<C> {
         self.table.shared.swap::<Grabs>(seat, 0, 1) == 0
     }
 
-    /// Takes the value out of the slot, which is away with the seat. It is moved behind the swap that grabs it, and not across
-    /// that.
+    /// Takes the value out of the slot, which is away with the seat. This happens after the swap that grabs it, and is not
+    /// moved across that.
     fn grabbed(&self, mut seat: Seat<Option<C>, TurnView>) -> Taken<C>
         requires table { seat.table_id ≡ self.now.table.shared.table_id }
         requires away { HasGrabbed C.table self.now.table.shared.key seat.me }
@@ -236,7 +237,7 @@ impl<C: OfTable> Turn<C> {
         let _ = self.given(taken);
     }
 
-    /// Gives the value back. Answers the seat that had it: the slot has the value, and the word is 0.
+    /// Gives the value back. Returns the seat that had it: the slot has the value, and the word is 0.
     fn given(&self, taken: Taken<C>) -> Seat<Option<C>, TurnView>
         requires taken { IsTakenOf self.now.table.shared.table_id self.now.table.shared.key taken.seat }
         requires value { C.table taken.value ≡ served self.now.table.shared.key }

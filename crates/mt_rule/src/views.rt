@@ -1,5 +1,5 @@
-//! What the seats of a tree's table, and of its turn, know. No value of these types but `TableStart` is made when the program
-//! runs.
+//! What the seats of a tree's table, and of its turn, know. These are ghost, except for `TableStart`: no value of theirs is
+//! made at run time.
 
 use crate::table::MtTable;
 use mt_base::{Call, Holder, Kind, Range, Reply};
@@ -8,24 +8,24 @@ use mt_rows::{Life, PlainRows};
 use std::collections::LinkedList;
 use std::snapshot::Snapshot;
 
-/// What a table is told when it is made.
+/// What a table gets when it is made.
 #[derive(Drop)]
 pub struct TableStart {
     pub kind: Kind,
     pub passes: u32,
     pub calls: u64,
-    /// The rows as the tree opens.
+    /// The nodes as the tree opens.
     pub rows: Snapshot<PlainRows>,
 }
 
-/// The same as plain data.
+/// What a table gets when it is made, as plain data.
 pub struct Shape {
     pub kind: Kind,
     pub rows: u64,
     pub passes: u32,
     /// How many calls the tree may have.
     pub calls: u64,
-    /// The map that the tree opens with, where its leaves begin, and how many rows it has in use.
+    /// The map that the tree opens with, where its leaves begin, and how many nodes it has in use.
     pub opening: LinkedList<Range>,
     pub cuts: LinkedList<u64>,
     pub opened: u64,
@@ -50,7 +50,7 @@ pub struct View {
 /// What the pen knows.
 pub struct PenPart {
     pub shape: Shape,
-    /// How many passes have been dealt.
+    /// How many handles have been dealt.
     pub dealt: u32,
     pub history: LinkedList<Moment>,
     /// How many calls have ended.
@@ -58,17 +58,17 @@ pub struct PenPart {
     /// Whether a call was begun that has not ended, and whether it has published.
     pub in_flight: bool,
     pub published: bool,
-    /// The root word, and the columns of all rows, where they stand in the table.
+    /// The root word, and the columns of all nodes, at their places in the table.
     pub root: u64,
     pub words: LinkedList<u64>,
-    /// By the row's number: its life, and whether the call in flight has buried it.
+    /// By the node's number: its life, and whether the call in flight has buried it.
     pub lives: LinkedList<Life>,
     pub buried: LinkedList<bool>,
-    /// By the pass's number: a row that died by a call up to this one is out of the pass's reach.
+    /// By the handle's number: a node that died by a call up to this one is out of the handle's reach.
     pub cleared: LinkedList<u64>,
     /// The sections that were found open.
     pub loaded: LinkedList<Holder>,
-    /// The section words that were loaded since a pass was joined or a call began, in their order.
+    /// The section words that were loaded since a handle was joined or a call began, in their order.
     pub sections: LinkedList<SectionWord>,
 }
 
@@ -78,17 +78,17 @@ pub struct SectionWord {
     pub word: u64,
 }
 
-/// What a pass knows.
+/// What a handle knows.
 pub struct PassPart {
     pub shape: Shape,
     pub number: u32,
-    /// The first so many moments of the history.
+    /// The first moments of the history.
     pub seen: LinkedList<Moment>,
     /// The numbers of its own calls there.
     pub mine: LinkedList<u64>,
     /// The epochs at which it opened sections.
     pub opened: LinkedList<u64>,
-    /// The epoch of the section that stands open.
+    /// The epoch of the section that is open.
     pub standing: Option<u64>,
     /// The greatest number of calls that it knows to have begun.
     pub begun: u64,
@@ -98,17 +98,17 @@ pub struct PassPart {
     pub epoch: u64,
     /// How many calls the history had when its section loaded the root word first.
     pub floor: Option<u64>,
-    /// A number of calls that have begun, as a dead mark tells.
+    /// A number of calls that have begun, as a dead mark shows.
     pub risen: u64,
-    /// The rows whose parent word it loaded as their dead mark, the last one first.
+    /// The nodes whose parent word it loaded as their dead mark, the last one first.
     pub marks: LinkedList<u32>,
-    /// The rows that its section has come to, the last one first.
+    /// The nodes that its section has reached, the last one first.
     pub held: LinkedList<Held>,
     /// How many steps it has made without the lock.
     pub steps: u64,
 }
 
-/// What a note tells.
+/// What a note holds.
 pub struct NotePart {
     pub seen: LinkedList<Moment>,
 }
@@ -120,7 +120,7 @@ pub struct TurnView {
     pub held: bool,
     /// Whether it has found the value away.
     pub met: bool,
-    /// How often its pass has gone for the value.
+    /// How often its handle has gone for the value.
     pub tries: u64,
     /// The table that the turn serves.
     pub of: Snapshot<MtTable>,

@@ -1,10 +1,10 @@
-//! Widths of rows as types, so that a program has the steps of its pens once for each width.
+//! Widths of nodes as types, so that a program has the steps of its pens once for each width.
 
 ghost use Rattle.mt_base.specs.declared.widths.Width.{Width};
 
 use mt_base::Width;
 
-/// How wide the rows of a table are, picked by a type. Where a column stands is then reckoned without a look at the table.
+/// How wide the nodes of a table are, picked by a type. So the place of a column is computed without a look at the table.
 pub trait OfWidth {
     ghost use Rattle.std.specs.Prelude.{◌≡◌};
 
@@ -15,7 +15,7 @@ pub trait OfWidth {
         ensures { result ≡ wide };
 }
 
-/// Rows of words for 64-bit indexes.
+/// Nodes of words for 64-bit indexes.
 pub struct LongRows;
 
 impl OfWidth for LongRows {
@@ -28,7 +28,7 @@ impl OfWidth for LongRows {
     }
 }
 
-/// Rows of words for 32-bit indexes.
+/// Nodes of words for 32-bit indexes.
 pub struct ShortRows;
 
 impl OfWidth for ShortRows {

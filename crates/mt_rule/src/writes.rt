@@ -1,4 +1,4 @@
-//! The steps of the pen, with which a call of the joined pass works on the rows.
+//! The steps of the pen, by which a call of the joined handle works on the nodes.
 
 ghost use Rattle.std.specs.Prelude.{◌≡◌, ◌+◌, ◌-◌, ◌^◌, ◌<◌, false, if◌then◌else◌};
 ghost use Rattle.mt_base.specs.Width.{kind_width};
@@ -24,7 +24,7 @@ use std::marker::Brand;
 
 /// Loads, which change nothing but what the pen knows of sections.
 impl MtTable {
-    /// The word at a place, which may be any column of a row.
+    /// The word at a place, which may be any column of a node.
     pub fn load_word<K: OfWidth>(&self, pen: &mut Pen, at: Place) -> u64
         requires wide { K.wide ≡ kind_width (identity_of self.now).shape.kind }
         requires pen { IsPenOf (identity_of self.now) pen.old }
@@ -43,7 +43,7 @@ impl MtTable {
         }
     }
 
-    /// The section word of a pass: 0 where its section is closed, else twice its epoch and one.
+    /// The section word of a handle: 0 if its section is closed, else twice its epoch and one.
     pub fn load_section(&self, pen: &mut Pen, pass: u32) -> u64
         requires pen { IsPenOf (identity_of self.now) pen.old }
         requires joined { IsJoined pen.old }
@@ -91,8 +91,8 @@ impl MtTable {
         number
     }
 
-    /// Writes a column of a row that no reader can be at. The row is then a draft. A column that holds the word already is only
-    /// loaded, which is quicker.
+    /// Writes a column of a node that no reader can be at. The node is then a draft. A column that holds the word already is
+    /// only loaded, which is quicker.
     pub fn draft<K: OfWidth>(&self, pen: &mut Pen, row: u32, col: u32, word: u64)
         requires wide { K.wide ≡ kind_width (identity_of self.now).shape.kind }
         requires pen { IsPenOf (identity_of self.now) pen.old }
@@ -107,7 +107,7 @@ impl MtTable {
         }
     }
 
-    /// Whether a column of a row that no reader can be at holds a word already. Where it does, the row is then a draft.
+    /// Whether a column of a node that no reader can be at holds a word already. Where it does, the node is then a draft.
     fn finds_drafted<M: Announced, K: OfWidth>(
         &self,
         pen: &mut Pen,
@@ -145,7 +145,7 @@ impl MtTable {
             .store::<Drafts<M>>(&mut pen.seat, at, word);
     }
 
-    /// Stores the dead mark of a live row that the call in flight replaces.
+    /// Stores the dead mark of a live node that the call in flight replaces.
     pub fn bury<K: OfWidth>(&self, pen: &mut Pen, row: u32)
         requires wide { K.wide ≡ kind_width (identity_of self.now).shape.kind }
         requires pen { IsPenOf (identity_of self.now) pen.old }
@@ -172,8 +172,8 @@ impl MtTable {
             .store::<Buries<M>>(&mut pen.seat, at, parent_word(row, 0));
     }
 
-    /// Writes the parent word of a live row, or the longest hole below one of its items. A column that holds the word already is
-    /// only loaded.
+    /// Writes the parent word of a live node, or the longest hole below one of its items. A column that holds the word already
+    /// is only loaded.
     pub fn tend<K: OfWidth>(&self, pen: &mut Pen, row: u32, col: u32, word: u64)
         requires wide { K.wide ≡ kind_width (identity_of self.now).shape.kind }
         requires pen { IsPenOf (identity_of self.now) pen.old }
@@ -253,7 +253,7 @@ impl MtTable {
     }
 
     /// Ends the call in flight. Where nothing was published this is its event: its reply is what the map answers, which it
-    /// leaves, or says that rows are short, as a scan has found.
+    /// leaves, or says that nodes are short, as a scan has found.
     pub fn store_commits(&self, pen: &mut Pen, call: &Call, reply: &Reply)
         requires pen { IsPenOf (identity_of self.now) pen.old }
         requires joined { IsJoined pen.old }
