@@ -1,9 +1,9 @@
--- What an answer of a pass is worth.
+-- When an answer of a pass (a thread's handle) is true.
 -- Source: the kernel's documentation of the maple tree, mtree_load, mt_find, mt_next and mt_prev.
 use Rattle.std.specs.Prelude.{◌≡◌, ◌⊎◌, ℕ, [], ◌≤◌, ◌&&◌, nat_le, Option, Some, None, length, if◌then◌else◌}
 use Rattle.mt_read.specs.Prelude.{Range, Query, answer, IsMap, Held, Snapshot, PassPart, here, moment_seen}
 
--- The range answers the query after some number of calls, no fewer than these, that the pass has seen.
+-- The range answers the query after some number of calls that the handle has seen, at least `least`.
 pub record Answers (q : PassPart) (least : ℕ) (query : Query) (value : Option Range) : Type 0 where
   pub k : ℕ
   pub low : least ≤ k
@@ -11,8 +11,8 @@ pub record Answers (q : PassPart) (least : ℕ) (query : Query) (value : Option 
   pub map : IsMap q.shape.kind (moment_seen q k).ranges
   pub is : value ≡ answer (moment_seen q k).ranges query
 
--- The leaf that the section is at answers: after all calls that the pass has seen, unless the leaf was found dead. A leaf of the
--- form of x, as the section held it before, had then what the map had.
+-- The leaf that the section is at answers: after all calls that the handle has seen, unless the leaf was found dead. A leaf of
+-- the form of x, as the section held it before, then had what the map had.
 pub record LeafAnswers (q : PassPart) (x : Held) (query : Query) (value : Option Range) : Type 0 where
   pub answers : Answers q x.since query value
   pub now : (here q).died ≡ None → answers.k ≡ length q.seen

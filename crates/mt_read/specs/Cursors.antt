@@ -1,4 +1,4 @@
--- What a cursor keeps from step to step, and what a step makes of a pass.
+-- What a cursor keeps from step to step, and what a step does to a pass (handle).
 -- Source: the kernel's documentation of the maple tree, mas_find, which goes on from the node that it is at, and mas_pause.
 use Rattle.std.specs.Prelude.{◌≡◌, ◌⊎◌, ℕ, ◌+◌, ◌<◌, ◌≤◌, List, [], ◌∷◌, ◌++◌, Option, Some, None, IfSome, length, nat_le, nat_lt, if◌then◌else◌}
 use Rattle.mt_read.specs.Prelude.{Query, Find, Range, PassPart, HasBecome, here, opened_section, with_seen}
@@ -9,7 +9,7 @@ use Rattle.mt_read.specs.Walks.{IsOnLeaf}
 
 -- ---- the leaf
 
--- The section is at the leaf. So many calls had ended before the walk that came to it.
+-- The section is at the leaf. This many calls had ended before the walk that reached it.
 pub record IsOnKeptLeaf (q : PassPart) (kept : KeptLeaf) : Type 0 where
   pub leaf : IsOnLeaf q kept.leaf
   pub lo : kept.lo ≤ (here q).since
@@ -31,14 +31,14 @@ abbrev pub row_of : Option KeptLeaf → ℕ
 row_of None = 0
 row_of (Some kept) = kept.leaf.at.number
 
--- The kept leaf covers the place, and the pass has loaded its dead mark and no other: more than `lo` calls have begun, of which
--- it knows now that `begun` have.
+-- The kept leaf covers the place, and the handle has loaded its dead mark and no other: more than `lo` calls have begun, and it
+-- now knows of `begun`.
 pub record LeafWasMarked (leaf : Option KeptLeaf) (at : Option ℕ) (begun : ℕ) (q q' : PassPart) : Type 0 where
   pub over : IsOverPlace leaf at
   pub marks : q'.marks ≡ row_of leaf ∷ q.marks
   pub later : kept_lo leaf < begun
 
--- the dead marks that the pass has loaded are as before, or the kept leaf's is one more
+-- the dead marks that the handle has loaded are as before, or the kept leaf's is one more
 abbrev pub MarksKeptLeaf : Option KeptLeaf → Option ℕ → ℕ → PassPart → PassPart → Type 0
 MarksKeptLeaf leaf at begun q q' = (q'.marks ≡ q.marks) ⊎ LeafWasMarked leaf at begun q q'
 
@@ -48,19 +48,19 @@ MarksKeptLeaf leaf at begun q q' = (q'.marks ≡ q.marks) ⊎ LeafWasMarked leaf
 abbrev pub place_from : ℕ → ℕ → Option ℕ
 place_from from max = if nat_le from max then Some from else None
 
--- where it goes on behind a range
+-- where it goes on after a range
 abbrev pub place_behind : Option Range → ℕ → Option ℕ
 place_behind None max = None
 place_behind (Some r) max = if nat_lt r.last max then Some (r.last + 1) else None
 
--- what a step asks at a place. Where there is none, nothing answers
+-- what a step asks at a place; if there is none, nothing answers
 abbrev pub query_at : Option ℕ → ℕ → Query
 query_at None max = Find 1 0
 query_at (Some index) max = Find index max
 
 -- ---- cursors
 
--- The cursor is of this pass: its section stands open, and is at the leaf that it keeps. It keeps none without a section.
+-- The cursor is of this handle: its section is open, and is at the leaf that it keeps. It keeps none without a section.
 pub record IsCursorOf (q : PassPart) (c : Cursor) : Type 0 where
   pub standing : IfSome c.epoch (λ epoch. q.standing ≡ Some epoch)
   pub leaf : IfSome c.leaf (IsOnKeptLeaf q)
@@ -71,7 +71,7 @@ abbrev pub epoch_or : Option ℕ → ℕ → ℕ
 epoch_or None lo = lo
 epoch_or (Some epoch) lo = epoch
 
--- the epochs of the pass's sections then: a step opens one only where none is open
+-- the epochs of the handle's sections then: a step opens one only if none is open
 abbrev pub opened_with : Option ℕ → List ℕ → ℕ → List ℕ
 opened_with None opened lo = opened ++ lo ∷ []
 opened_with (Some epoch) opened lo = opened
@@ -81,7 +81,7 @@ abbrev pub resumed_section : Option ℕ → PassPart → PassPart
 resumed_section None q = opened_section q
 resumed_section (Some epoch) q = q
 
--- The number of ended calls was loaded, all of which the pass has seen, and one more at the most. The section is open then.
+-- The number of ended calls was loaded. The handle has seen all of these, and at most one more. The section is open then.
 pub record Resumed (lo : ℕ) (epoch : Option ℕ) (q q' : PassPart) : Type 0 where
   pub is : HasBecome q' (resumed_section epoch (record (with_seen q q'.seen) { epoch = lo; ended = lo }))
   pub seen : known.Begins q.seen q'.seen
@@ -89,8 +89,8 @@ pub record Resumed (lo : ℕ) (epoch : Option ℕ) (q q' : PassPart) : Type 0 wh
   pub most : lo ≤ length q'.seen
   pub least : length q'.seen ≤ lo + 1
 
--- The pass has made a step of a cursor whose section had this epoch, if it was open. It is open then, and the pass knows that hi
--- calls have begun and lo have ended.
+-- The handle has made a step of a cursor whose section had this epoch, if it was open. It is now open, and the handle knows
+-- that hi calls have begun and lo have ended.
 pub record HasStepped (lo hi : ℕ) (epoch : Option ℕ) (p q : known.Pass) : Type 0 where
   pub seen : known.Begins p.seen q.seen
   pub pass : q ≡ record p { seen = q.seen; opened = opened_with epoch p.opened lo; standing = Some (epoch_or epoch lo); begun = hi; ended = lo }

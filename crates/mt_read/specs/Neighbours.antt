@@ -14,21 +14,21 @@ use Rattle.mt_read.specs.Windows.{Began, Ended}
 abbrev pub IsLeafOver : Held → ℕ → Type 0
 IsLeafOver x index = (x.extent.level ≡ 0) × (x.extent.first ≤ index) × (index ≤ x.extent.last)
 
--- the section is at the leaf behind x, and at the leaf before it
+-- the section is at the leaf after x, and at the leaf before it
 abbrev pub IsBehind : PassPart → Held → Type 0
 IsBehind q x = (x.extent.last < greatest_of q.shape.kind) × IsLeafOver (here q) (x.extent.last + 1)
 
 abbrev pub IsLeafBefore : PassPart → Held → Type 0
 IsLeafBefore q x = (x.extent.first ≢ 0) × IsLeafOver (here q) (x.extent.first - 1)
 
--- The section has come from the leaf x to the leaf beside it, and the pass has loaded the dead mark of x then, and no other.
+-- The section has gone from the leaf x to the leaf beside it. The handle has then loaded the dead mark of x, and no other.
 pub record MarkedBeside (IsBeside : PassPart → Held → Type 0) (x : Held) (q q' : PassPart) : Type 0 where
   pub marked : WasMarked x q q'
   pub under : IsUnder q' x
   pub beside : IsBeside q' x
 
--- The place is the first of the leaf that the section was at, and was read: it is a hole. Then the section has come to the leaf
--- before that one, and the pass has loaded the dead mark of the first leaf, and no other.
+-- The place is the first of the leaf that the section was at, and was read: it is a hole. Then the section has gone to the leaf
+-- before that one, and the handle has loaded the dead mark of the first leaf, and no other.
 pub record LeftHole (place : SlotPlace) (q q' : PassPart) : Type 0 where
   pub read : PassPart
   pub first : place.slot ≡ 0
@@ -39,7 +39,7 @@ pub record LeftHole (place : SlotPlace) (q q' : PassPart) : Type 0 where
 
 -- ---- a read that is given up
 
--- the ranges that stand in the leaf
+-- the ranges in the leaf
 abbrev pub ranges_here : PassPart → Held → List Range
 ranges_here q x = flat_map leaf_range (spans_here q x)
 
@@ -51,8 +51,8 @@ query_index (Next index max) = index
 query_index (Prev index min) = index
 query_index (Rfind index min) = index
 
--- The query as a tree of this kind is asked it: from an index above the greatest a neighbour is looked for at the greatest. None
--- begins behind that, and the last that ends below the index is the last that begins at the greatest or below.
+-- The query as it is put to a tree of this kind. From an index above the greatest one, a neighbour is sought at the greatest.
+-- None begins after that, and the last that ends below the index is the last that begins at the greatest or below.
 abbrev pub asked : Kind → Query → Query
 asked kind (Load index) = Load index
 asked kind (Find index max) = Find index max
@@ -68,8 +68,8 @@ IsAside (Next index max) q x = IsBehind q x
 IsAside (Prev index min) q x = IsLeafBefore q x
 IsAside (Rfind index min) q x = IsLeafBefore q x
 
--- By a walk from a root that was loaded no earlier than after `least` calls the section came to the leaf x, which covers the
--- index, and of whose ranges none answers; then to the leaf beside it; and then the dead mark of x was loaded, and no other.
+-- A walk from a root that was loaded after at least `least` calls brought the section to the leaf x. It covers the index, and
+-- none of its ranges answers. Then the section went to the leaf beside it. Then the dead mark of x was loaded, and no other.
 pub record LeftMarked (query : Query) (least : ℕ) (q q' : PassPart) : Type 0 where
   pub x : Held
   pub since : least ≤ x.since
@@ -77,8 +77,8 @@ pub record LeftMarked (query : Query) (least : ℕ) (q q' : PassPart) : Type 0 w
   pub none : answer (ranges_here q' x) query ≡ None
   pub beside : MarkedBeside (IsAside query) x q q'
 
--- The pass has opened a section at `lo`, has left a leaf in it that it then found marked, and has closed it. The leaf covers the index
--- that the tree was asked about.
+-- The handle has opened a section at `lo`, has left a leaf in it that it then found marked, and has closed it. The leaf covers
+-- the index of the query.
 pub record WasLeftMarked (query : Query) (lo begun : ℕ) (q q' : PassPart) : Type 0 where
   pub opened : PassPart
   pub left : PassPart
@@ -87,7 +87,7 @@ pub record WasLeftMarked (query : Query) (lo begun : ℕ) (q q' : PassPart) : Ty
   pub ended : Ended begun left q'
   pub marks : q'.marks ≡ marked.x.row ∷ q.marks
 
--- The pass knows no less than before, and that more than `lo` calls have begun: one that was in flight before counts too.
+-- The handle knows no less than before, and that more than `lo` calls have begun: one that was in flight before counts too.
 pub record WasMoved (tree : History) (p : known.Pass) (lo begun : ℕ) (q : known.Pass) : Type 0 where
   pub grows : known.Grows p q
   pub floor : length p.seen ≤ lo + 1

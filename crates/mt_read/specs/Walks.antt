@@ -1,4 +1,4 @@
--- What a pass knows of the row that its section is at, and how far a walk brings it.
+-- What a pass (handle) knows of the node that its section is at, and how far a walk brings it.
 -- Source: the kernel's lib/maple_tree.c, mtree_range_walk, by which readers walk beside a writer.
 use Rattle.std.specs.Prelude.{◌≡◌, ℕ, suc, ◌*◌, ◌<◌, ◌≤◌, ◌==◌, List, ◌∷◌, Option, Some, None, length, min, if◌then◌else◌}
 use Rattle.std.specs.List.{slice_get}
@@ -12,16 +12,16 @@ use Rattle.mt_read.specs.declared.descent.SlotPlace.{SlotPlace}
 abbrev pub sought : Kind → ℕ → ℕ
 sought kind index = min index (greatest_of kind)
 
--- the pass has only seen more
+-- the handle has only seen more
 abbrev pub SeesMore : PassPart → PassPart → Type 0
 SeesMore q q' = Reads q q' (with_seen q q'.seen)
 
--- the section holds the row, below the one that it is at
+-- the section holds the node, below the one that it is at
 abbrev pub IsUnder : PassPart → Held → Type 0
 IsUnder q x = (j : ℕ) × (get_elem? q.held (suc j) ≡ some x)
 
--- Within its section the pass has gone on: it has seen more, and holds other rows, and those that it held below the one that it
--- was at. The dead marks that it has loaded are these then.
+-- Within its section the handle has gone on: it has seen more, and holds other nodes, and those that it held below the one that
+-- it was at. These are now the dead marks that it has loaded.
 pub record GoesOnTo (q q' : PassPart) (marks : List ℕ) : Type 0 where
   pub is : q' ≡ record q { seen = q'.seen; floor = q'.floor; held = q'.held; risen = q'.risen; marks = marks; steps = q'.steps }
   pub seen : Begins q.seen q'.seen
@@ -32,13 +32,13 @@ pub record GoesOnTo (q q' : PassPart) (marks : List ℕ) : Type 0 where
 abbrev pub GoesOn : PassPart → PassPart → Type 0
 GoesOn q q' = GoesOnTo q q' q.marks
 
--- It has gone on, and has loaded the dead mark of the row x and no other: more calls have begun than the map had seen at the load
--- of the root from which x was reached.
+-- It has gone on, and has loaded the dead mark of the node x and no other: more calls have begun than the map had seen at the
+-- load of the root from which x was reached.
 pub record WasMarked (x : Held) (q q' : PassPart) : Type 0 where
   pub goes : GoesOnTo q q' (x.row ∷ q.marks)
   pub begun : x.since < q'.risen
 
--- The section is at this row, and has a copy of its words in which it fills its extent.
+-- The section is at this node, and has a copy of its words in which it fills its extent.
 pub record IsOnRow (q : PassPart) (row : Row) : Type 0 where
   pub at : IsAt q
   pub number : row.at.number ≡ (here q).row
@@ -59,20 +59,21 @@ pub record IsOnLeaf (q : PassPart) (leaf : Row) : Type 0 where
   pub on : IsOnRow q leaf
   pub level : (here q).extent.level ≡ 0
 
--- A walk down from the row that the section is at takes so many steps at the most: as many for each level as an inner row has slots.
+-- A walk down from the node that the section is at takes at most this many steps: for each level as many as an inner node has
+-- slots.
 abbrev pub steps_down : PassPart → ℕ
 steps_down q = slots_of (kind_width q.shape.kind) (inner_kind q.shape.kind) * (here q).extent.level
 
--- The section holds the row that it held, of which it may know more.
+-- The section holds the node that it held, of which it may know more.
 pub record IsSameHold (x y : Held) : Type 0 where
   pub is : y ≡ record x { width = y.width; copy = y.copy; died = y.died }
 
--- Something stands in this place of the row that the section is at.
+-- This place of the node that the section is at is in use.
 pub record IsPlaceIn (q : PassPart) (place : SlotPlace) : Type 0 where
   pub word : ℕ
   pub stands : slice_get (spans_here q (here q)) place.slot ≡ Some (record { first = place.first; last = place.last; word = word })
 
--- what stands in a place, by its word: a range, or none where it is a hole
+-- what a place has, by its word: a range, or none if it is a hole
 abbrev pub range_or_hole : SlotPlace → ℕ → Option Range
 range_or_hole place entry = if entry == 0 then None else Some (record { first = place.first; last = place.last; entry = entry })
 

@@ -136,7 +136,7 @@ fn first_behind<L: Ledger>(
     }
 }
 
-/// Where a walk goes on behind a range.
+/// Where a walk goes on after a range.
 fn place_behind(range: Option<Range>, max: u64) -> Option<u64>
     ensures { result ≡ place_behind range max }
 {
@@ -193,7 +193,7 @@ impl Cursor {
         self.at
     }
 
-    /// Begins a step: tells how many calls have ended, and opens the section where it is not open.
+    /// Begins a step: returns how many calls have ended, and opens the section if it is not open.
     fn resume<L: Ledger>(&mut self, table: &MtTable, pass: &mut Pass, steps: &mut Steps<L>) -> u64
         requires pass { IsPassOf (identity_of table.now) pass.old }
         requires cursor { IsCursorOf (part_of pass.old) self.old }
@@ -242,7 +242,7 @@ impl Cursor {
         within(found.range, index, self.max)
     }
 
-    /// The next range of the walk. There is none where the walk has ended, or ends by that.
+    /// The next range of the walk. There is none if the walk has ended, or ends here.
     pub fn step<L: Ledger>(
         &mut self,
         table: &MtTable,

@@ -16,7 +16,7 @@ use mt_layout::{RowKind, kind_of, row_of, slots};
 use mt_rule::{MtTable, Pass, RowAt};
 use std::sync::ledger::Ledger;
 
-/// A row that a walk comes to: where it stands, its kind and its width, and the first and the last index that it covers.
+/// A node that a walk reaches: its place, its kind and its width, and the first and the last index that it covers.
 #[derive(Clone, Copy)]
 pub struct Row {
     pub at: RowAt,
@@ -26,7 +26,7 @@ pub struct Row {
     pub max: u64,
 }
 
-/// A slot of a row, and the first and the last index of what stands there.
+/// A slot of a node, and the first and the last index of what it holds.
 #[derive(Clone, Copy)]
 pub struct SlotPlace {
     pub slot: u32,
@@ -41,7 +41,7 @@ pub fn sought(table: &MtTable, index: u64) -> u64
     index.min(top(table.width()))
 }
 
-/// The width of rows of so many words.
+/// The width of nodes of `COLS` words.
 pub fn width_with<const COLS: u32>() -> Width
     ensures { (width : Width) → COLS ≡ columns width → result ≡ width }
 {
@@ -52,7 +52,7 @@ pub fn width_with<const COLS: u32>() -> Width
     }
 }
 
-/// The row of this width with this name, which covers `min` to `max`.
+/// The node of this width with this name, which covers `min` to `max`.
 #[inline(always)]
 fn row_named(name: u64, width: Width, min: u64, max: u64) -> Row
     requires name { IsSome (named_kind name) }
@@ -78,7 +78,7 @@ fn row_named(name: u64, width: Width, min: u64, max: u64) -> Row
     }
 }
 
-/// The slot that holds an index, of the row that the section is at: the first whose pivot is not below it.
+/// The slot that holds an index, of the node that the section is at: the first whose pivot is not below it.
 #[inline(always)]
 pub fn find_slot<L: Ledger>(
     table: &MtTable,
@@ -112,8 +112,8 @@ pub fn find_slot<L: Ledger>(
     SlotPlace { slot, first, last }
 }
 
-/// The slot that holds an index, of the row that the section is at, pivot by pivot: the branches are foretold well where the row was
-/// searched before.
+/// The slot that holds an index, of the node that the section is at, pivot by pivot: the branches are foretold well where the
+/// node was searched before.
 pub fn find_along<L: Ledger>(
     table: &MtTable,
     pass: &mut Pass,
@@ -155,7 +155,8 @@ pub fn find_along<L: Ledger>(
     }
 }
 
-/// The same in one way or the other: pivot by pivot where a walk goes from range to range, and else by groups of slots.
+/// The slot of a node that holds an index: by a search pivot by pivot if a walk goes from range to range, and else by groups of
+/// slots.
 #[inline(always)]
 fn find_by<const ALONG: bool, L: Ledger>(
     table: &MtTable,
@@ -184,7 +185,7 @@ fn find_by<const ALONG: bool, L: Ledger>(
     find_slot(table, pass, row, index, steps)
 }
 
-/// The row below an inner row that covers an index there.
+/// The node below an inner node that covers an index there.
 #[inline(always)]
 fn child_at<const ALONG: bool, L: Ledger>(
     table: &MtTable,
@@ -214,7 +215,7 @@ fn child_at<const ALONG: bool, L: Ledger>(
     row_named(name, row.width, place.first, place.last)
 }
 
-/// The leaf that covers an index, by a walk from the row that the section is at.
+/// The leaf that covers an index, by a walk from the node that the section is at.
 #[inline(always)]
 fn descend<const ALONG: bool, L: Ledger>(
     table: &MtTable,
@@ -243,7 +244,7 @@ fn descend<const ALONG: bool, L: Ledger>(
     row
 }
 
-/// The leaf that covers an index, by a walk from the root over rows of so many words; none where the tree is empty.
+/// The leaf that covers an index, by a walk from the root over nodes of `COLS` words; none if the tree is empty.
 pub fn walk_by<const COLS: u32, const ALONG: bool, L: Ledger>(
     table: &MtTable,
     pass: &mut Pass,
@@ -274,7 +275,7 @@ pub fn walk_by<const COLS: u32, const ALONG: bool, L: Ledger>(
     Some(descend::<ALONG, L>(table, pass, root, index, steps))
 }
 
-/// The leaf that covers an index, by a walk from the root that searches rows in one way or the other.
+/// The leaf that covers an index, by a walk from the root that searches nodes in one way or the other.
 fn walk_as<const ALONG: bool, L: Ledger>(
     table: &MtTable,
     pass: &mut Pass,
@@ -325,7 +326,7 @@ pub fn walk<L: Ledger>(
     walk_as::<false, L>(table, pass, index, steps)
 }
 
-/// The same, for who comes from the leaf before: the branches on pivots are foretold well then.
+/// The leaf that covers an index, for callers that come from the leaf before: the branches on pivots are then predicted well.
 pub fn walk_along<L: Ledger>(
     table: &MtTable,
     pass: &mut Pass,

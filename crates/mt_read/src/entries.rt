@@ -1,4 +1,4 @@
-//! The entry at an index, by a walk that keeps no ends of the rows that it comes to.
+//! The entry at an index, by a walk that keeps no ends of the nodes that it reaches.
 
 ghost use Rattle.std.specs.Prelude.{◌≡◌, ◌≢◌, ℕ, ◌+◌, ◌*◌, ◌≤◌, Some, None, IsSome, IfSome, IfNone, Option, option_map, [], length};
 ghost use Rattle.mt_base.specs.declared.calls.Query.TheVariants.{Load};
@@ -20,7 +20,7 @@ use mt_layout::{RowKind, kind_of, row_of, slots};
 use mt_rule::{MtTable, Pass, RowAt};
 use std::sync::ledger::Ledger;
 
-/// Where the row of this width with this name stands.
+/// The place of the node of this width with this name.
 #[inline(always)]
 fn spot_named(name: u64, width: Width) -> Spot
     requires name { IsSome (named_kind name) }
@@ -42,7 +42,7 @@ fn spot_named(name: u64, width: Width) -> Spot
     }
 }
 
-/// The row below an inner row that covers an index there.
+/// The node below an inner node that covers an index there.
 #[inline(always)]
 fn spot_below<L: Ledger>(
     table: &MtTable,
@@ -70,7 +70,7 @@ fn spot_below<L: Ledger>(
     spot_named(name, spot.width)
 }
 
-/// The leaf that covers an index, by a walk from the row that the section is at.
+/// The leaf that covers an index, by a walk from the node that the section is at.
 #[inline(always)]
 fn descend<L: Ledger>(
     table: &MtTable,
@@ -120,7 +120,7 @@ fn entry_in<L: Ledger>(
     table.load_slot(pass, leaf.at, column, steps)
 }
 
-/// The leaf that covers an index, by a walk from the root over rows of so many words; none where the tree is empty.
+/// The leaf that covers an index, by a walk from the root over nodes of `COLS` words; none if the tree is empty.
 #[inline(always)]
 fn walk_by<const COLS: u32, L: Ledger>(
     table: &MtTable,
@@ -162,7 +162,7 @@ fn entry_or_none(entry: u64, to: u64, index: u64) -> Option<u64>
     Some(entry)
 }
 
-/// The entry that an index holds, by a walk from the root over rows of so many words.
+/// The entry that an index holds, by a walk from the root over nodes of `COLS` words.
 fn entry_by<const COLS: u32, L: Ledger>(
     table: &MtTable,
     pass: &mut Pass,

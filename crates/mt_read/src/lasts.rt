@@ -60,7 +60,7 @@ fn place_before<L: Ledger>(
 }
 
 /// The last range that begins at an index or below, in the leaf that the section is at, from the place that holds the index
-/// down: the range there, or the one before the hole there. There is none where the leaf begins with that hole.
+/// down: the range there, or the one before the hole there. There is none if the leaf begins with that hole.
 fn last_at<L: Ledger>(
     table: &MtTable,
     pass: &mut Pass,
@@ -126,7 +126,7 @@ fn last_beside<L: Ledger>(
 }
 
 /// The last range that begins at an index or below, from the place that holds the index down, in the leaf that the section is
-/// at or before it.
+/// at or the leaf before it.
 fn last_from<L: Ledger>(
     table: &MtTable,
     pass: &mut Pass,
@@ -241,7 +241,7 @@ fn prev_from<L: Ledger>(
     prev_at_leaf(table, pass, &leaf, index, steps)
 }
 
-/// The last range that begins at an index or below, and ends at `min` or above. There is none where the index is below `min`.
+/// The last range that begins at an index or below, and ends at `min` or above. There is none if the index is below `min`.
 ///
 /// # Errors
 ///

@@ -33,7 +33,7 @@ pub struct Moved {
     pub begun: u64,
 }
 
-/// The first range behind the leaf that the section is at. There is no answer where that leaf is then found marked.
+/// The first range after the leaf that the section is at. There is no answer if that leaf is then found marked.
 fn first_beside<L: Ledger>(
     table: &MtTable,
     pass: &mut Pass,
@@ -64,7 +64,7 @@ fn first_beside<L: Ledger>(
     Some(range)
 }
 
-/// The first range that begins behind an index, which the leaf that the section is at covers.
+/// The first range that begins after an index, which the leaf that the section is at covers.
 fn next_at_leaf<L: Ledger>(
     table: &MtTable,
     pass: &mut Pass,
@@ -96,8 +96,8 @@ fn next_at_leaf<L: Ledger>(
     first_beside(table, pass, leaf, steps)
 }
 
-/// The first range that begins behind an index, by a walk from the root. There is no answer where the leaf that covers the
-/// index is found marked after the leaf behind it was read.
+/// The first range that begins after an index, by a walk from the root. There is no answer if the leaf that covers the index is
+/// found marked after the next leaf was read.
 fn next_from<L: Ledger>(
     table: &MtTable,
     pass: &mut Pass,
@@ -120,7 +120,7 @@ fn next_from<L: Ledger>(
     next_at_leaf(table, pass, &leaf, to, steps)
 }
 
-/// The first range that begins behind an index, and at `max` or below.
+/// The first range that begins after an index, and at `max` or below.
 ///
 /// # Errors
 ///

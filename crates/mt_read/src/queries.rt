@@ -16,7 +16,7 @@ use mt_base::{Range, Steps};
 use mt_rule::{MtTable, Pass};
 use std::sync::ledger::Ledger;
 
-/// The range that an index lies in. There is none where it lies in a hole.
+/// The range that an index lies in. There is none if it lies in a hole.
 pub fn load_range<L: Ledger>(
     table: &MtTable,
     pass: &mut Pass,
@@ -37,7 +37,7 @@ pub fn load_range<L: Ledger>(
     ReadAnswer { lo, hi, value }
 }
 
-/// The entry that an index holds. There is none where it lies in a hole.
+/// The entry that an index holds. There is none if it lies in a hole.
 pub fn load<L: Ledger>(
     table: &MtTable,
     pass: &mut Pass,
@@ -62,8 +62,7 @@ pub fn load<L: Ledger>(
     }
 }
 
-/// The first range that ends at an index or above, and begins at `max` or below. There is none where the index is above
-/// `max`.
+/// The first range that ends at an index or above, and begins at `max` or below. There is none if the index is above `max`.
 pub fn find<L: Ledger>(
     table: &MtTable,
     pass: &mut Pass,

@@ -1,4 +1,4 @@
-//! Reads at the leaf that a walk comes to.
+//! Reads at the leaf that a walk reaches.
 
 ghost use Rattle.std.specs.Prelude.{◌≡◌, ◌≢◌, ℕ, ◌+◌, ◌<◌, ◌≤◌, None, IfSome, length};
 ghost use Rattle.mt_base.specs.Width.{columns, greatest_of, kind_width};
@@ -30,7 +30,7 @@ fn range_or_hole(place: &SlotPlace, entry: u64) -> Option<Range>
     })
 }
 
-/// The range that stands in a place of the leaf that the section is at, or none where it is a hole.
+/// The range in a place of the leaf that the section is at, or none if it is a hole.
 pub fn range_at<L: Ledger>(
     table: &MtTable,
     pass: &mut Pass,
@@ -54,7 +54,7 @@ pub fn range_at<L: Ledger>(
     range_or_hole(place, entry)
 }
 
-/// The place behind another, in a leaf that goes on behind that.
+/// The place after another, in a leaf that has one.
 pub fn next_place<L: Ledger>(
     table: &MtTable,
     pass: &mut Pass,
@@ -88,8 +88,8 @@ pub fn next_place<L: Ledger>(
     SlotPlace { slot, first, last }
 }
 
-/// The first range that ends at an index or above, from the place that holds the index on: the range there, or the one
-/// behind the hole there.
+/// The first range that ends at an index or above, from the place that holds the index on: the range there, or the one after
+/// the hole there.
 pub fn first_at<L: Ledger>(
     table: &MtTable,
     pass: &mut Pass,
@@ -144,7 +144,7 @@ pub fn first_from<L: Ledger>(
     not_below(range, index, index)
 }
 
-/// The same leaf, of which it is told again that it is one, and how wide it is.
+/// The leaf itself, with its kind and its width stated again.
 fn leaf_with(width: Width, leaf: Row) -> Row
     requires kind { leaf.kind ≡ Leaf }
     requires width { leaf.width ≡ width }
@@ -157,7 +157,7 @@ fn leaf_with(width: Width, leaf: Row) -> Row
     }
 }
 
-/// The range that holds an index, by a walk from the root over rows of so many words.
+/// The range that holds an index, by a walk from the root over nodes of `COLS` words.
 fn range_by<const COLS: u32, L: Ledger>(
     table: &MtTable,
     pass: &mut Pass,

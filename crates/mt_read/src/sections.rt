@@ -1,4 +1,4 @@
-//! The sections in which a pass reads.
+//! The sections (read-side critical sections) in which a pass (handle) reads.
 
 ghost use Rattle.std.specs.Prelude.{◌≡◌, ◌+◌};
 ghost use Rattle.mt_base.specs.Passes.{IsSound};
@@ -9,7 +9,7 @@ use mt_base::Steps;
 use mt_rule::{MtTable, Pass};
 use std::sync::ledger::Ledger;
 
-/// A section that a pass has opened. What the pass comes to within it is not used again until it ends.
+/// A section that a handle has opened. What the handle reaches within it is not reused until it ends.
 pub struct Section {
     epoch: u64,
 }
@@ -20,7 +20,7 @@ impl Section {
     ghost use Rattle.mt_rule.specs.Tokens.{identity_of, part_of, pass_in, tree_in, IsPassOf, Stepped, IsCounted};
     ghost use Rattle.mt_read.specs.Windows.{Began, Ended};
 
-    /// Opens a section of the pass, at the number of calls that have ended. One that the pass had open is closed by that.
+    /// Opens a section of the handle, at the number of calls that have ended. This closes one that the handle had open.
     pub fn begin<L: Ledger>(table: &MtTable, pass: &mut Pass, steps: &mut Steps<L>) -> Section
         requires pass { IsPassOf (identity_of table.now) pass.old }
         ensures stepped { Stepped (identity_of table.now) pass.old pass.new }
@@ -40,7 +40,7 @@ impl Section {
         self.epoch
     }
 
-    /// Closes the section, and tells how many calls have begun.
+    /// Closes the section, and returns how many calls have begun.
     pub fn end<L: Ledger>(self, table: &MtTable, pass: &mut Pass, steps: &mut Steps<L>) -> u64
         requires pass { IsPassOf (identity_of table.now) pass.old }
         ensures stepped { Stepped (identity_of table.now) pass.old pass.new }

@@ -1,4 +1,4 @@
-//! The slot of a row that holds an index, by groups of its slots and with no branch on a pivot.
+//! The slot of a node that holds an index, by groups of its slots and with no branch on a pivot.
 
 ghost use Rattle.std.specs.Prelude.{◌≡◌, ◌+◌, ◌<◌, ◌≤◌, length};
 ghost use Rattle.mt_base.specs.Width.{columns};
@@ -18,7 +18,7 @@ use mt_path::{ends_apart, slots_apart, under};
 use mt_rule::{MtTable, Pass, RowAt};
 use std::sync::ledger::Ledger;
 
-/// A row that a walk comes to, of which no ends are kept: where it stands, its kind and its width.
+/// A node that a walk reaches, of which no ends are kept: its place, its kind and its width.
 #[derive(Clone, Copy)]
 pub struct Spot {
     pub at: RowAt,
@@ -26,7 +26,8 @@ pub struct Spot {
     pub width: Width,
 }
 
-/// Loads a word of the row that the section is at before it is searched, so that the line of its slots is on the way while it is.
+/// Loads a word of the node that the section is at before it is searched, so that the cache line of its slots is fetched
+/// meanwhile.
 #[inline(always)]
 fn touch_in<L: Ledger>(table: &MtTable, pass: &mut Pass, spot: Spot, col: u32, steps: &mut Steps<L>)
     requires pass { IsPassOf (identity_of table.now) pass.old }
@@ -41,7 +42,7 @@ fn touch_in<L: Ledger>(table: &MtTable, pass: &mut Pass, spot: Spot, col: u32, s
     table.touch(pass, spot.at, col, steps);
 }
 
-/// A pivot of the row that a section is at, by its column.
+/// A pivot of the node that a section is at, by its column.
 #[inline(always)]
 fn load_in<L: Ledger>(
     table: &MtTable,
@@ -64,8 +65,8 @@ fn load_in<L: Ledger>(
     table.load_pivot(pass, spot.at, col, steps)
 }
 
-/// The slot that holds an index, of the row of 16 slots that the section is at, by six pivots and no branch: three tell which four
-/// slots hold it, and the three between those tell which of the four.
+/// The slot that holds an index, of the node of 16 slots that the section is at, by six pivots and no branch. Three determine
+/// the four slots that may hold it, and the three between those determine which.
 #[inline(always)]
 fn seek_wide<L: Ledger>(
     table: &MtTable,
@@ -95,7 +96,7 @@ fn seek_wide<L: Ledger>(
     group + (first < index) as u32 + under(second, index) + under(third, index)
 }
 
-/// The same in a row of 10 slots, by five pivots.
+/// The slot that holds an index, of a node of 10 slots, by five pivots.
 #[inline(always)]
 fn seek_gapped<L: Ledger>(
     table: &MtTable,
@@ -124,7 +125,7 @@ fn seek_gapped<L: Ledger>(
     group + (first < index) as u32 + under(second, index) + under(third, index)
 }
 
-/// The same in a row of 32 slots, by seven pivots in three turns: eight slots, four of them, and one.
+/// The slot that holds an index, of a node of 32 slots, by seven pivots in three rounds: eight slots, four of them, and one.
 #[inline(always)]
 fn seek_narrow<L: Ledger>(
     table: &MtTable,
@@ -156,7 +157,8 @@ fn seek_narrow<L: Ledger>(
     group + (first < index) as u32 + under(second, index) + under(third, index)
 }
 
-/// The same in a row of 21 slots, by six pivots in three turns: five slots or six, three of them, and one.
+/// The slot that holds an index, of a node of 21 slots, by six pivots in three rounds: five slots or six, three of them, and
+/// one.
 #[inline(always)]
 fn seek_narrow_gapped<L: Ledger>(
     table: &MtTable,
@@ -187,7 +189,7 @@ fn seek_narrow_gapped<L: Ledger>(
     group + (first < index) as u32 + under(second, index)
 }
 
-/// The slot that holds an index, of the row that the section is at, by groups of its slots.
+/// The slot that holds an index, of the node that the section is at, by groups of its slots.
 #[inline(always)]
 fn seek_groups<L: Ledger>(
     table: &MtTable,
@@ -217,7 +219,7 @@ fn seek_groups<L: Ledger>(
     }
 }
 
-/// Touches two lines of the slots of the row that the section is at.
+/// Touches two lines of the slots of the node that the section is at.
 #[inline(always)]
 fn touch_slots<L: Ledger>(table: &MtTable, pass: &mut Pass, spot: Spot, steps: &mut Steps<L>)
     requires pass { IsPassOf (identity_of table.now) pass.old }
@@ -233,7 +235,7 @@ fn touch_slots<L: Ledger>(table: &MtTable, pass: &mut Pass, spot: Spot, steps: &
     touch_in(table, pass, spot, far, steps);
 }
 
-/// Touches two more lines of a row that has many.
+/// Touches two more lines of a node that has many.
 #[inline(always)]
 fn touch_ends<L: Ledger>(table: &MtTable, pass: &mut Pass, spot: Spot, steps: &mut Steps<L>)
     requires pass { IsPassOf (identity_of table.now) pass.old }
@@ -252,7 +254,7 @@ fn touch_ends<L: Ledger>(table: &MtTable, pass: &mut Pass, spot: Spot, steps: &m
     touch_in(table, pass, spot, late, steps);
 }
 
-/// Touches the lines of the row that the section is at in which its slots are sought.
+/// Touches the lines of the node that the section is at in which its slots are sought.
 #[inline(always)]
 fn touch_lines<L: Ledger>(table: &MtTable, pass: &mut Pass, spot: Spot, steps: &mut Steps<L>)
     requires pass { IsPassOf (identity_of table.now) pass.old }
@@ -267,7 +269,7 @@ fn touch_lines<L: Ledger>(table: &MtTable, pass: &mut Pass, spot: Spot, steps: &
     touch_ends(table, pass, spot, steps);
 }
 
-/// The slot that holds an index, of the row that the section is at. Lines of its slots are touched first.
+/// The slot that holds an index, of the node that the section is at. Lines of its slots are touched first.
 #[inline(always)]
 pub fn seek<L: Ledger>(
     table: &MtTable,
@@ -291,7 +293,7 @@ pub fn seek<L: Ledger>(
     seek_groups(table, pass, spot, index, steps)
 }
 
-/// The first index of what stands in a slot of the row that the section is at.
+/// The first index of what a slot of the node that the section is at holds.
 #[inline(always)]
 pub fn first_in<L: Ledger>(
     table: &MtTable,
@@ -316,7 +318,7 @@ pub fn first_in<L: Ledger>(
     if slot == 0 { min } else { before + 1 }
 }
 
-/// The last index of what stands in a slot of the row that the section is at.
+/// The last index of what a slot of the node that the section is at holds.
 #[inline(always)]
 pub fn last_in<L: Ledger>(
     table: &MtTable,
