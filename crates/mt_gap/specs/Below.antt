@@ -1,4 +1,4 @@
--- The holes below rows of a height: what stands in leaves as 0, from the left.
+-- The holes below nodes of one height: what leaves hold as 0, from the left.
 -- Source: the kernel's core-api/maple_tree: a range of no entry is a slot of 0.
 use Rattle.std.specs.Prelude.{◌==◌, List, [], ◌∷◌, if◌then◌else◌}
 use Rattle.mt_gap.specs.Prelude.{Hole, Span}

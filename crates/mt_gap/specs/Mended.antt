@@ -1,4 +1,5 @@
--- How far the gap words of a path's rows are mended: those of the rows up to a height, and of the next row some from the left.
+-- How far the gap words of a path's nodes are mended: those of the nodes up to a height, and of the next node some from the
+-- left.
 -- Source: this project's own.
 use Rattle.std.specs.Prelude.{◌≡◌, ◌⊎◌, ℕ, zero, suc, ◌+◌, ◌<◌, ◌≤◌, true, false, List, [], ◌∷◌, length}
 use Rattle.std.specs.List.{AllByRecursion}
@@ -10,17 +11,17 @@ abbrev pub IsRight : Tree → ℕ → Span → ℕ → Type 0
 IsRight t zero x slot = Unit {0}
 IsRight t (suc h) x slot = column t.table (row_in x.word) (gap_column (slots_of t.table.width Gapped) slot) ≡ longest_below t.table h (span_at (spans_in t.table x) slot ∷ [])
 
--- in each slot of a row that is said to be so
+-- in each slot of a node that is said to be so
 abbrev pub AreRight : (ℕ → Span → ℕ → Type 0) → Tree → ℕ → Span → Type 0
 AreRight done t h x = (slot : ℕ) → slot < length (spans_in t.table x) → done h x slot → IsRight t h x slot
 
--- The slot needed no mending, or is mended: in a row beside the way to the index, in a row up to a height, or in the row
--- above these among so many slots from the left.
+-- The slot needed no mending, or is mended: in a node beside the way to the index, in a node up to a height, or in the node
+-- above these among the first slots from the left.
 abbrev pub IsMendedSlot : ℕ → ℕ → ℕ → ℕ → Span → ℕ → Type 0
 IsMendedSlot index height slots h x slot = (covers index x ≡ false) ⊎ ((h ≤ height) ⊎ ((h ≡ suc height) × (slot < slots)))
 
--- The rows of a path are mended from its last up to the one at the level below `left`, which is of this kind, and in the row
--- above that so many slots; nothing else has changed since `before`.
+-- The nodes of a path are mended from its last up to the one at the level below `left`, which is of this kind, and so are this
+-- many slots of the node above. Nothing else has changed since `before`.
 pub record HasMendedRows (before s : Sheet) (path : List PathStep) (kind : RowKind) (left slots : ℕ) : Type 0 where
   pub index : ℕ
   pub height : ℕ

@@ -1,5 +1,6 @@
--- Which rows of a level a search goes into, from the left and from the right.
--- Source: the kernel's lib/maple_tree.c, mas_anode_descend and mas_rev_awalk: a gap word tells whether room can be below a slot.
+-- Which nodes of a level a search goes into, from the left and from the right.
+-- Source: the kernel's lib/maple_tree.c, mas_anode_descend and mas_rev_awalk: a gap word decides whether room can be below a
+-- slot.
 use Rattle.std.specs.Prelude.{ℕ, ◌&&◌, Bool, List, [], ◌∷◌, ◌++◌, fold, nat_le, if◌then◌else◌}
 use Rattle.std.specs.List.{list_any}
 use Rattle.mt_gap.specs.Prelude.{Span}
@@ -9,7 +10,7 @@ use Rattle.mt_gap.specs.declared.children.Child.{Child}
 abbrev pub meets : ℕ → ℕ → Span → Bool
 meets lo hi x = nat_le x.first hi && nat_le lo x.last
 
--- room for so many indexes can be below the child, and in the window
+-- whether room for `size` indexes can be below the child, and in the window
 abbrev pub may_have : ℕ → ℕ → ℕ → Child → Bool
 may_have n lo hi x = nat_le n x.gap && meets lo hi x.span
 
@@ -17,8 +18,8 @@ may_have n lo hi x = nat_le n x.gap && meets lo hi x.span
 abbrev pub inside : ℕ → ℕ → Child → Bool
 inside lo hi x = nat_le lo x.span.first && nat_le x.span.last hi
 
--- Of children side by side, those that can have room: none is asked behind the first that lies in the window, since that
--- one has it.
+-- Of adjacent children, those that can have room: none is asked after the first that lies in the window, because that one has
+-- room.
 abbrev pub narrow : ℕ → ℕ → ℕ → List Child → List Child
 narrow n lo hi [] = []
 narrow n lo hi (x ∷ xs) =

@@ -1,5 +1,5 @@
--- A search that goes into one row in each level: what it goes into below a row, and where it ends, with the way there.
--- Source: the kernel's lib/maple_tree.c, mas_empty_area and mas_empty_area_rev, which store where their search has come to.
+-- A search that goes into one node in each level: what it goes into below a node, and where it ends, with the way there.
+-- Source: the kernel's lib/maple_tree.c, mas_empty_area and mas_empty_area_rev, which keep the place that their search reached.
 use Rattle.std.specs.Prelude.{◌≡◌, ℕ, ◌+◌, ◌<◌, ◌≤◌, ◌↔◌, ◌++◌, List, [], ◌∷◌, Option, Some, None, IsNone, IfSome, length, take, if◌then◌else◌}
 use Rattle.std.specs.List.{flat_map}
 use Rattle.mt_gap.specs.Prelude.{Hole, holes_to, lowest_in, highest_in, greatest, Leaf, Span, named_kind, Fills, map_by, Rooted, root_span, spans_in, PathStep, handle_in, path_in, row_on}
@@ -23,15 +23,15 @@ into_one_more slot x below.Nothing = below.One slot x
 into_one_more slot x (below.One s y) = below.More
 into_one_more slot x below.More = below.More
 
--- the same, if it may have room
+-- what is below with one more child, if it may have room
 abbrev pub with_room : Window → ℕ → Child → Below → Below
 with_room w slot x b = if may_have w.size w.lo w.hi x then into_one_more slot x.span b else b
 
--- from the right: one that lies in the window stands for all before it
+-- from the right: one that lies in the window replaces all before it
 abbrev pub with_room_up : Window → ℕ → Child → Below → Below
 with_room_up w slot x b = if may_have w.size w.lo w.hi x then (if inside w.lo w.hi x then below.One slot x.span else into_one_more slot x.span b) else b
 
--- the child stands in this slot
+-- this slot holds the child
 pub record StandsInSlot (xs : List Child) (slot : ℕ) (x : Child) : Type 0 where
   pub front : List Child
   pub back : List Child
@@ -51,7 +51,7 @@ AreAsked xs asked below.Nothing = asked ≡ []
 AreAsked xs asked (below.One slot span) = IsOne xs asked slot span
 AreAsked xs asked below.More = 2 ≤ length asked
 
--- which of a row's children are asked, for the lowest place and for the highest
+-- which of a node's children are asked, for the lowest place and for the highest
 abbrev pub asked_for : Side → Window → List Child → List Child
 asked_for side.Low w xs = narrow w.size w.lo w.hi xs
 asked_for side.High w xs = narrow_up w.size w.lo w.hi [] xs
@@ -65,15 +65,15 @@ pick_for side.High w = highest_in w.size
 abbrev pub sought_in : Side → Window → Rooted → Option ℕ
 sought_in side w t = place_in (pick_for side w) w t
 
--- the same by the map
+-- the place that the map gives
 abbrev pub sought_to : Side → Window → Rooted → Option ℕ
 sought_to side w t = picked (pick_for side w) w (holes_to (greatest t.table.width) (map_by t))
 
--- what a search goes into below a row with these children
+-- what a search goes into below a node with these children
 abbrev pub IsSearchedBelow : Side → Window → List Child → Below → Type 0
 IsSearchedBelow side w xs b = AreAsked xs (asked_for side w xs) b
 
--- The way to each index of a row goes by these steps and enters the row then.
+-- The way to each index of a node goes by these steps and enters the node then.
 pub record IsWayTo (t : Rooted) (path : List PathStep) (x : Span) : Type 0 where
   pub within : x.last ≤ greatest t.table.width
   pub front : (index : ℕ) → x.first ≤ index → index ≤ x.last → path ≡ take (length path) (path_in t.table t.root index)
@@ -93,7 +93,7 @@ EndsIn side t w path end.Nowhere = sought_in side w t ≡ None
 EndsIn side t w path (end.Leaf leaf) = EndsInLeaf side t w path leaf
 EndsIn side t w path end.Branch = Unit {0}
 
--- the path leads to where the area starts, and this stands there
+-- the path leads to where the area starts, and this is there
 pub record IsAreaAt (t : Rooted) (path : List PathStep) (area : SoughtArea) : Type 0 where
   pub way : path ≡ path_in t.table t.root area.start
   pub none : IsNone area.here ↔ (t.root ≡ 0)

@@ -1,4 +1,4 @@
-//! What stands in the slots of a row, with their gap words.
+//! What the slots of a node hold, with their gap words.
 
 ghost use Rattle.std.specs.Prelude.{◌≡◌, ◌+◌, ◌<◌, ◌≤◌, ℕ, nat_lt, if◌then◌else◌};
 ghost use Rattle.mt_base.specs.Width.{columns, first_row};
@@ -16,17 +16,17 @@ use mt_base::Width;
 use mt_layout::{MOST_SLOTS, RowKind, Span, slots};
 use mt_rows::Rows;
 
-/// What stands in a slot of a row, and the slot's gap word.
+/// What a slot of a node holds, and the slot's gap word.
 #[derive(Clone, Copy, Debug, Default)]
 pub(crate) struct Child {
     pub(crate) span: Span,
     pub(crate) gap: u64,
 }
 
-/// What stands in a row.
+/// What a node holds.
 pub(crate) type Children = ArrayVec<Child, MOST_SLOTS>;
 
-/// The last index of what stands in a slot of a row of this kind that ends at `max`.
+/// The last index of what a slot of a node of this kind that ends at `max` holds.
 #[tactic(auto, using(crate::proofs::Readings::one_load, crate::proofs::Readings::no_load))]
 pub(crate) fn load_last<R: Rows>(
     rows: &mut R,
@@ -49,7 +49,7 @@ pub(crate) fn load_last<R: Rows>(
     }
 }
 
-/// The word in a slot of a row of this kind.
+/// The word in a slot of a node of this kind.
 pub(crate) fn load_word<R: Rows>(
     rows: &mut R,
     width: Width,
@@ -67,7 +67,7 @@ pub(crate) fn load_word<R: Rows>(
     rows.load(row, column)
 }
 
-/// The gap word of a slot of a row with gaps.
+/// The gap word of a slot of a node with gaps.
 pub(crate) fn load_gap<R: Rows>(rows: &mut R, width: Width, row: u32, slot: u32) -> u64
     requires width { width ≡ (R.sheet rows.old).tree.table.width }
     requires row { IsPlace (R.sheet rows.old).tree row 0 }
@@ -79,7 +79,7 @@ pub(crate) fn load_gap<R: Rows>(rows: &mut R, width: Width, row: u32, slot: u32)
     rows.load(row, column)
 }
 
-/// The children of a row with gaps that covers the indexes from `first` to `max`.
+/// The children of a node with gaps that covers the indexes from `first` to `max`.
 pub(crate) fn load_children<R: Rows>(rows: &mut R, row: u32, first: u64, max: u64) -> Children
     requires row { IsPlace (R.sheet rows.old).tree row 0 }
     ensures items { result.items ≡ row_children (R.sheet rows.old).tree.table row Gapped first max }
@@ -100,7 +100,7 @@ pub(crate) fn load_children<R: Rows>(rows: &mut R, row: u32, first: u64, max: u6
     children
 }
 
-/// What stands in a slot of a row with gaps, from an index to another.
+/// What a slot of a node with gaps holds, from an index to another.
 #[tactic(auto, using(crate::proofs::Readings::two_loads))]
 fn load_child<R: Rows>(
     rows: &mut R,

@@ -1,4 +1,4 @@
-//! From level to level: the rows that a search goes into one level lower.
+//! From level to level: the nodes that a search goes into one level lower.
 
 ghost use Rattle.std.specs.Prelude.{◌≡◌, ◌+◌, ◌*◌, ◌≤◌, ◌++◌, ℕ, All, [], length, take};
 ghost use Rattle.mt_base.specs.Width.{columns};
@@ -15,7 +15,7 @@ use mt_layout::{RowKind, Span, kind_of, row_of};
 use mt_rows::Rows;
 use std::sync::ledger::Ledger;
 
-/// Adds what is to be asked below one row, and tells whether nothing behind it is. A row without gaps tells of no room.
+/// Adds what has to be asked below one node, and returns whether nothing after it has. A node without gaps shows no room.
 #[tactic(auto, using(crate::proofs::Asking::without_lower, crate::proofs::Asking::without_sure))]
 fn ask_lower<R: Rows>(rows: &mut R, row: Span, window: Window, next: &mut Asked) -> bool
     requires row { MayLoad (R.sheet rows.old).tree row }
@@ -33,7 +33,7 @@ fn ask_lower<R: Rows>(rows: &mut R, row: Span, window: Window, next: &mut Asked)
     }
 }
 
-/// Fills an empty list with the rows to be asked one level below these, for the lowest place. Each of these is a step.
+/// Fills an empty list with the nodes to be asked one level below these, for the lowest place. Each of these is a step.
 #[tactic(auto, using(crate::proofs::LevelLoops::lower_all, crate::proofs::LevelLoops::loaded_none, crate::proofs::LevelLoops::loaded_few))]
 pub(crate) fn next_lower<R: Rows, L: Ledger>(
     rows: &mut R,
@@ -57,7 +57,7 @@ pub(crate) fn next_lower<R: Rows, L: Ledger>(
     }
 }
 
-/// Takes what is to be asked below one row more. A row without gaps tells of no room.
+/// Takes what has to be asked below one more node. A node without gaps shows no room.
 #[tactic(auto, using(crate::proofs::Asking::without_asked_up))]
 fn ask_higher<R: Rows>(rows: &mut R, row: Span, window: Window, next: &mut Asked)
     requires row { MayLoad (R.sheet rows.old).tree row }
@@ -74,7 +74,7 @@ fn ask_higher<R: Rows>(rows: &mut R, row: Span, window: Window, next: &mut Asked
     }
 }
 
-/// Fills an empty list with the rows to be asked one level below these, for the highest place. Each of these is a step.
+/// Fills an empty list with the nodes to be asked one level below these, for the highest place. Each of these is a step.
 #[tactic(auto, using(crate::proofs::LevelLoops::higher_all, crate::proofs::LevelLoops::loaded_none, crate::proofs::LevelLoops::loaded_few))]
 pub(crate) fn next_higher<R: Rows, L: Ledger>(
     rows: &mut R,

@@ -1,4 +1,4 @@
-//! Gap words mended on the way to an index: in the slots on the way, or in all slots of the rows there.
+//! Gap words mended on the way to an index: in the slots on the way, or in all slots of the nodes there.
 
 ghost use Rattle.std.specs.Prelude.{◌≡◌, ◌≢◌, ◌↔◌, ◌+◌, ◌^◌, ◌<◌, ◌≤◌, ℕ, Bool, IsTrue, None, Some};
 ghost use Rattle.std.specs.List.{AllByRecursion};
@@ -65,7 +65,7 @@ fn longest_of<R: Rows>(rows: &mut R, row: u32, first: u64, max: u64) -> u64
     longest
 }
 
-/// The greatest of the gap words of a row with gaps. No pivot tells how many slots it uses: the gap words of the others are 0.
+/// The greatest of the gap words of a node with gaps. No pivot shows how many slots it uses: the gap words of the others are 0.
 fn greatest_of<R: Rows>(rows: &mut R, row: u32) -> u64
     requires place { IsPlace (R.sheet rows.old).tree row 0 }
     ensures greatest { result ≡ most_gap (R.sheet rows.old).tree.table row (slots_of (R.sheet rows.old).tree.table.width Gapped) }
@@ -79,7 +79,7 @@ fn greatest_of<R: Rows>(rows: &mut R, row: u32) -> u64
     greatest
 }
 
-/// What a row of a path tells the row above.
+/// What a node of a path gives the node above.
 #[tactic(auto, using(crate::proofs::Asking::inner_tells, crate::proofs::GapWords::gapped_tells))]
 fn told_by<R: Rows>(rows: &mut R, kind: RowKind, row: PathStep) -> u64
     requires place { IsPlace (R.sheet rows.old).tree row.row 0 }
@@ -94,7 +94,7 @@ fn told_by<R: Rows>(rows: &mut R, kind: RowKind, row: PathStep) -> u64
     }
 }
 
-/// Tends the gap word of the slot of a step in a row.
+/// Tends the gap word of the slot of a step in a node.
 fn tend_gap<R: Rows>(rows: &mut R, above: PathStep, gap: u64)
     requires slot { above.slot < slots_of (R.sheet rows.old).tree.table.width Gapped }
     requires tend { MayTend (R.sheet rows.old) above.row (gap_column (slots_of (R.sheet rows.old).tree.table.width Gapped) above.slot) gap }
@@ -104,7 +104,7 @@ fn tend_gap<R: Rows>(rows: &mut R, above: PathStep, gap: u64)
     rows.tend(above.row, column, gap);
 }
 
-/// Tends the gap word of the slot that a path takes in a row, by what the row below tells.
+/// Tends the gap word of the slot that a path takes in a node, by what the node below gives.
 #[tactic(auto, using(crate::proofs::Tells::may_tend, crate::proofs::Tells::is_mended))]
 fn mend_slot<R: Rows>(rows: &mut R, kind: RowKind, above: PathStep, below: PathStep)
     requires { MayMend (R.sheet rows.old) kind above below }
@@ -114,7 +114,7 @@ fn mend_slot<R: Rows>(rows: &mut R, kind: RowKind, above: PathStep, below: PathS
     tend_gap(rows, above, gap);
 }
 
-/// Whether the root is a row with gaps.
+/// Whether the root is a node with gaps.
 fn has_gaps<R: Rows>(rows: &mut R) -> bool
     ensures gapped { IsTrue result ↔ (named_kind (R.sheet rows.old).tree.root ≡ Some RowKind.Gapped) }
     ensures rest { R.sheet rows.new ≡ loaded (R.sheet rows.old) }
@@ -122,9 +122,9 @@ fn has_gaps<R: Rows>(rows: &mut R) -> bool
     kind_of(rows.root()) == Some(RowKind::Gapped)
 }
 
-/// Mends the gap words on the way to an index, where all others are right: from the leaf's parent up to the root each
-/// is tended by what the row below tells. In a tree without gaps no row is loaded. The way ends in this leaf; the leaf of the path
-/// may be the one that it has replaced.
+/// Mends the gap words on the way to an index, if all others are right. From the leaf's parent up to the root, each is tended
+/// by what the node below gives. In a tree without gaps no node is loaded. The way ends in this leaf; the leaf of the path may
+/// be the one that it has replaced.
 pub fn mend_way<R: Rows>(rows: &mut R, path: &Path, leaf: u32)
     requires way { (gapped : Bool) × IsWay gapped (R.sheet rows.old) path.now.items leaf }
     ensures gaps { (gapped : Bool) → IsWay gapped (R.sheet rows.old) path.now.items leaf → HasGaps (tree_on gapped (R.sheet rows.new).tree) }
@@ -150,7 +150,7 @@ pub fn mend_way<R: Rows>(rows: &mut R, path: &Path, leaf: u32)
     }
 }
 
-/// The same along a path whose leaf is replaced: by one whose longest hole is `gap`, and of which no word is loaded.
+/// Mends the gap words along a path whose leaf is replaced by one whose longest hole is `gap`. No word of that leaf is loaded.
 pub fn mend_along<R: Rows>(rows: &mut R, path: &Path, gap: u64)
     requires way { (gapped : Bool) × IsToldWay gapped (R.sheet rows.old) path.now.items gap }
     ensures gaps { (gapped : Bool) → IsToldWay gapped (R.sheet rows.old) path.now.items gap → HasGaps (tree_on gapped (R.sheet rows.new).tree) }
@@ -171,7 +171,7 @@ pub fn mend_along<R: Rows>(rows: &mut R, path: &Path, gap: u64)
     }
 }
 
-/// The step into the row that a child names.
+/// The step into the node that a child names.
 fn step_into(child: Span) -> PathStep
     requires named { named_kind child.word ≢ None }
     ensures { result ≡ record { row = row_in child.word; slot = 0; min = child.first; max = child.last } }
@@ -187,7 +187,7 @@ fn step_into(child: Span) -> PathStep
     }
 }
 
-/// Tends the gap words of all slots of a row of a path, each by what the row there tells.
+/// Tends the gap words of all slots of a node of a path, each by what the node there gives.
 fn mend_row<R: Rows>(rows: &mut R, kind: RowKind, path: &Path, level: usize)
     requires mends { (before : Sheet) × HasMendedRows before (R.sheet rows.old) path.now.items kind (level + 2) 0 }
     ensures mends { (before : Sheet) → HasMendedRows before (R.sheet rows.old) path.now.items kind (level + 2) 0
@@ -204,8 +204,8 @@ fn mend_row<R: Rows>(rows: &mut R, kind: RowKind, path: &Path, level: usize)
     }
 }
 
-/// Mends all gap words of the rows of a path, where those of all other rows are right: from the leaf's parent up to the
-/// root the gap word of each slot is tended by what the row there tells. In a tree without gaps no row is loaded.
+/// Mends all gap words of the nodes of a path, if those of all other nodes are right. From the leaf's parent up to the root,
+/// the gap word of each slot is tended by what the node there gives. In a tree without gaps no node is loaded.
 pub fn mend_gaps<R: Rows>(rows: &mut R, path: &Path)
     requires may { (gapped : Bool) × MayMendGaps gapped (R.sheet rows.old) path.now.items }
     ensures gaps { (gapped : Bool) → MayMendGaps gapped (R.sheet rows.old) path.now.items → HasGaps (tree_on gapped (R.sheet rows.new).tree) }

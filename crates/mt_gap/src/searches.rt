@@ -1,4 +1,4 @@
-//! The lowest and the highest place with room for so many indexes.
+//! The lowest and the highest place with room for `size` indexes.
 
 ghost use Rattle.std.specs.Prelude.{◌≡◌, ◌≢◌, ◌↔◌, ◌+◌, ◌-◌, ◌*◌, ◌≤◌, ℕ, All, IsTrue, [], ◌∷◌, length, IsNone, IfSome};
 ghost use Rattle.std.specs.List.{flat_map};
@@ -25,7 +25,7 @@ use mt_path::{Handle, Path, end_walk, walk_to};
 use mt_rows::Rows;
 use std::sync::ledger::Ledger;
 
-/// A place with room: where it starts, and what stands there; nothing does in the empty tree.
+/// A place with room: where it starts, and what is there; the empty tree has nothing there.
 #[derive(Clone, Copy, Debug, PartialEq, Eq)]
 pub struct SoughtArea {
     pub start: u64,
@@ -46,7 +46,7 @@ fn whole(width: Width, word: u64) -> Child
     }
 }
 
-/// Whether these rows of a level are leaves. Where there are none they are.
+/// Whether these nodes of a level are leaves. If there are none they are.
 fn are_leaves(asked: &[Child]) -> bool
     ensures { IsTrue result ↔ AreLeaves asked.now }
 {
@@ -178,8 +178,8 @@ fn highest_in_leaves<R: Rows, L: Ledger>(
     found
 }
 
-/// The lowest start of so many indexes that lie in one hole and in the window `lo` to `hi`, and none where no hole has room.
-/// Each row that is loaded is a step, and beside their words the root word alone is loaded.
+/// The lowest start of `size` indexes that lie in one hole and in the window `lo` to `hi`, and none if no hole has room. Each
+/// node that is loaded is a step. Beside their words only the root word is loaded.
 pub fn lowest<R: Rows, L: Ledger>(
     rows: &mut R,
     size: u64,
@@ -203,8 +203,8 @@ pub fn lowest<R: Rows, L: Ledger>(
     lowest_in_leaves(rows, &leaves, window, steps)
 }
 
-/// The highest start of so many indexes that lie in one hole and in the window `lo` to `hi`, and none where no hole has room.
-/// Each row that is loaded is a step, and beside their words the root word alone is loaded.
+/// The highest start of `size` indexes that lie in one hole and in the window `lo` to `hi`, and none if no hole has room. Each
+/// node that is loaded is a step. Beside their words only the root word is loaded.
 pub fn highest<R: Rows, L: Ledger>(
     rows: &mut R,
     size: u64,
@@ -284,7 +284,7 @@ fn place_by_levels<R: Rows, L: Ledger>(
     }
 }
 
-/// The place where a search goes into more than one row of a level, and the way there, which is walked then.
+/// The place where a search goes into more than one node of a level, and the way there, which is walked then.
 #[tactic(auto, using(crate::proofs::Readings::within_steps))]
 fn area_by_levels<R: Rows, L: Ledger>(
     rows: &mut R,
@@ -306,8 +306,8 @@ fn area_by_levels<R: Rows, L: Ledger>(
     Some(SoughtArea { start, here })
 }
 
-/// The place that is sought, with the way to it and what stands there. Where the search went into one row in each level, no row on
-/// the way is walked again but the leaf.
+/// The place that is sought, with the path to it and what is there. If the search went into one node in each level, no node on
+/// the path is walked again but the leaf.
 fn way_for<R: Rows, L: Ledger>(
     rows: &mut R,
     side: Side,
@@ -335,8 +335,8 @@ fn way_for<R: Rows, L: Ledger>(
     }
 }
 
-/// The same as `lowest`, with the way to the place and what stands there. Where the search went into one row in each level, no row
-/// on the way is walked again but the leaf.
+/// The place that `lowest` finds, with the path to it and what is there. If the search went into one node in each level, no
+/// node on the path is walked again but the leaf.
 pub fn lowest_way<R: Rows, L: Ledger>(
     rows: &mut R,
     size: u64,
@@ -356,7 +356,7 @@ pub fn lowest_way<R: Rows, L: Ledger>(
     way_for(rows, Side::Low, Window { size, lo, hi }, steps, path)
 }
 
-/// The same as `highest`, likewise.
+/// The place that `highest` finds, with the path to it and what is there, as `lowest_way`.
 pub fn highest_way<R: Rows, L: Ledger>(
     rows: &mut R,
     size: u64,

@@ -1,4 +1,4 @@
-//! A search that goes into one row in each level, and keeps the way that it goes.
+//! A search that goes into one node in each level, and keeps the way that it goes.
 
 ghost use Rattle.std.specs.Prelude.{◌≡◌, ◌≢◌, ◌<◌, ◌≤◌, ◌+◌, ◌*◌, ◌∷◌, [], IfSome, IfNone, Some, if◌then◌else◌};
 ghost use Rattle.mt_base.specs.Width.{columns};
@@ -22,7 +22,7 @@ use mt_layout::{RowKind, Span, kind_of, row_of, slots};
 use mt_path::{Path, PathStep};
 use mt_rows::Rows;
 
-/// What a search goes into below a row: nothing, what stands in one slot, or more.
+/// What a search goes into below a node: nothing, what one slot holds, or more.
 #[derive(Clone, Copy, Debug, PartialEq, Eq)]
 pub(crate) enum Below {
     Nothing,
@@ -37,7 +37,7 @@ pub(crate) enum Side {
     High,
 }
 
-/// Where a search comes to that goes into one row in each level: nowhere, to a leaf, or to a row below which it goes into more.
+/// How far a search gets that goes into one node in each level: nowhere, to a leaf, or to a node below which it goes into more.
 #[derive(Clone, Copy, Debug, PartialEq, Eq)]
 pub(crate) enum End {
     Nowhere,
@@ -45,7 +45,7 @@ pub(crate) enum End {
     Branch,
 }
 
-/// What is gone into, with what stands in one slot more.
+/// What is gone into, with what one more slot holds.
 fn one_more(below: Below, slot: u32, span: Span) -> Below
     ensures { result ≡ into_one_more slot span below }
 {
@@ -56,7 +56,7 @@ fn one_more(below: Below, slot: u32, span: Span) -> Below
     }
 }
 
-/// The same from the right: what stands in a slot that lies in the window stands for all before it.
+/// What is gone into from the right: what a slot that lies in the window holds replaces all before it.
 fn one_more_up(below: Below, slot: u32, span: Span, sure: bool) -> Below
     ensures { result ≡ (if sure then Below.One slot span else into_one_more slot span below) }
 {
@@ -66,7 +66,7 @@ fn one_more_up(below: Below, slot: u32, span: Span, sure: bool) -> Below
     one_more(below, slot, span)
 }
 
-/// Takes what stands in a slot of a row with gaps, where it may have room, and tells whether it lies in the window then.
+/// Takes what a slot of a node with gaps holds, if it may have room. Returns whether it lies in the window.
 fn take_slot<R: Rows>(
     rows: &mut R,
     width: Width,
@@ -91,7 +91,7 @@ fn take_slot<R: Rows>(
     is_inside(window, first, last)
 }
 
-/// What a search for the lowest place goes into below a row with gaps, which covers the indexes from `first` to `max`.
+/// What a search for the lowest place goes into below a node with gaps, which covers the indexes from `first` to `max`.
 fn look_low<R: Rows>(rows: &mut R, row: u32, first: u64, max: u64, window: Window) -> Below
     requires row { IsPlace (R.sheet rows.old).tree row 0 }
     ensures below { IsSearchedBelow sides.Low window (row_children (R.sheet rows.old).tree.table row Gapped first max) result }
@@ -113,7 +113,7 @@ fn look_low<R: Rows>(rows: &mut R, row: u32, first: u64, max: u64, window: Windo
     below
 }
 
-/// Takes what stands in a slot of a row with gaps, where it may have room: if it lies in the window it stands for all before it.
+/// Takes what a slot of a node with gaps holds, if it may have room: if it lies in the window, it replaces all before it.
 fn take_slot_up<R: Rows>(
     rows: &mut R,
     width: Width,
@@ -136,7 +136,7 @@ fn take_slot_up<R: Rows>(
     *below = one_more_up(*below, slot, child.span, is_inside(window, first, last));
 }
 
-/// What a search for the highest place goes into below a row with gaps, which covers the indexes from `first` to `max`.
+/// What a search for the highest place goes into below a node with gaps, which covers the indexes from `first` to `max`.
 fn look_high<R: Rows>(rows: &mut R, row: u32, first: u64, max: u64, window: Window) -> Below
     requires row { IsPlace (R.sheet rows.old).tree row 0 }
     ensures below { IsSearchedBelow sides.High window (row_children (R.sheet rows.old).tree.table row Gapped first max) result }
@@ -156,7 +156,7 @@ fn look_high<R: Rows>(rows: &mut R, row: u32, first: u64, max: u64, window: Wind
     below
 }
 
-/// What a search goes into below a row with gaps.
+/// What a search goes into below a node with gaps.
 fn look_below<R: Rows>(
     rows: &mut R,
     side: Side,
@@ -175,7 +175,7 @@ fn look_below<R: Rows>(
     }
 }
 
-/// The row that a span names, if it is one with gaps.
+/// The node that a span names, if it is one with gaps.
 fn gapped_row(span: Span) -> Option<u32>
     ensures some { IfSome result (λ row. (row ≡ row_in span.word) × (named_kind span.word ≡ Some Gapped)) }
     ensures none { IfNone result (named_kind span.word ≢ Some Gapped) }
@@ -186,7 +186,7 @@ fn gapped_row(span: Span) -> Option<u32>
     }
 }
 
-/// Goes down from the root as long as there is one row to go into, and puts the steps to where that ends into an empty path.
+/// Goes down from the root as long as there is one node to go into, and puts the steps into an empty path, to where that ends.
 pub(crate) fn go_one_way<R: Rows>(
     rows: &mut R,
     side: Side,

@@ -1,4 +1,4 @@
-//! What a search takes of a row: the children that may have room, and the room in a leaf. Each slot is looked at once, and the
+//! What a search takes of a node: the children that may have room, and the room in a leaf. Each slot is looked at once, and the
 //! words of slots that are not taken are not loaded.
 
 ghost use Rattle.std.specs.Prelude.{◌≡◌, ◌+◌, ◌<◌, ◌≤◌, ◌++◌, ℕ, IfSome, Some, None, List, [], ◌∷◌, false, length, slice_get, take, if◌then◌else◌};
@@ -21,13 +21,13 @@ use mt_base::Width;
 use mt_layout::{RowKind, Span, slots};
 use mt_rows::Rows;
 
-/// How many rows of a level a search goes into at the most, and one more.
+/// How many nodes of a level a search goes into at most, and one more.
 const MOST_ASKED: usize = 3;
 
-/// The rows of a level that a search goes into, from the left.
+/// The nodes of a level that a search goes into, from the left.
 pub(crate) type Asked = ArrayVec<Child, MOST_ASKED>;
 
-/// Room for so many indexes is sought from `lo` to `hi`.
+/// Room for `size` indexes is sought from `lo` to `hi`.
 #[derive(Clone, Copy, Debug)]
 pub(crate) struct Window {
     pub(crate) size: u64,
@@ -49,7 +49,7 @@ pub(crate) fn is_inside(window: Window, first: u64, last: u64) -> bool
     window.lo <= first && last <= window.hi
 }
 
-/// What stands in a slot of a row with gaps, where it may have room. Only then its word is loaded.
+/// What a slot of a node with gaps holds, if it may have room. Its word is loaded only then.
 pub(crate) fn room_in_slot<R: Rows>(
     rows: &mut R,
     width: Width,
@@ -76,8 +76,8 @@ pub(crate) fn room_in_slot<R: Rows>(
     })
 }
 
-/// Adds what stands in a slot of a row with gaps to the rows that are asked, where it may have room, and tells whether it
-/// lies in the window then.
+/// Adds what a slot of a node with gaps holds to the nodes that are asked, if it may have room. Returns whether it lies in the
+/// window.
 fn ask_slot<R: Rows>(
     rows: &mut R,
     width: Width,
@@ -103,8 +103,8 @@ fn ask_slot<R: Rows>(
     is_inside(window, first, last)
 }
 
-/// Adds to the rows that are asked those of a row's children that may have room, up to the first that lies in the window,
-/// and tells whether there was one. The row has gaps, and covers the indexes from `first` to `max`.
+/// Adds those of a node's children that may have room to the nodes that are asked, up to the first that lies in the window.
+/// Returns whether there was one. The node has gaps, and covers the indexes from `first` to `max`.
 pub(crate) fn ask_row<R: Rows>(
     rows: &mut R,
     row: u32,
@@ -134,7 +134,7 @@ pub(crate) fn ask_row<R: Rows>(
     false
 }
 
-/// Takes a child that may have room: one that lies in the window stands for all before it.
+/// Takes a child that may have room: one that lies in the window replaces all before it.
 fn take_up(child: Child, is_inside: bool, asked: &mut Asked)
     requires room { is_inside ≡ false → length asked.old.items < 3 }
     ensures { asked.new.items ≡ (if is_inside then child ∷ [] else asked.old.items ++ (child ∷ [])) }
@@ -145,8 +145,7 @@ fn take_up(child: Child, is_inside: bool, asked: &mut Asked)
     asked.push(child);
 }
 
-/// Takes what stands in a slot of a row with gaps, where it may have room: if it lies in the window it stands for all
-/// before it.
+/// Takes what a slot of a node with gaps holds, if it may have room: if it lies in the window, it replaces all before it.
 fn ask_slot_up<R: Rows>(
     rows: &mut R,
     width: Width,
@@ -169,8 +168,8 @@ fn ask_slot_up<R: Rows>(
     }
 }
 
-/// Takes of a row's children those that may have room: one that lies in the window stands for all before it. The row has
-/// gaps, and covers the indexes from `first` to `max`.
+/// Takes those of a node's children that may have room: one that lies in the window replaces all before it. The node has gaps,
+/// and covers the indexes from `first` to `max`.
 pub(crate) fn ask_row_up<R: Rows>(
     rows: &mut R,
     row: u32,
@@ -196,7 +195,7 @@ pub(crate) fn ask_row_up<R: Rows>(
     }
 }
 
-/// The part of a leaf's hole in the window, where it has room for so many indexes: its first and last index.
+/// The part of a leaf's hole in the window, if it has room for `size` indexes: its first and last index.
 fn room_in(window: Window, span: Span) -> Option<(u64, u64)>
     requires size { 1 ≤ window.size }
     ensures room { option_map (λ p. record { first = p.0; last = p.1 }) result ≡ slice_get (kept window.size window.lo window.hi (leaf_hole span)) 0 }
@@ -236,7 +235,7 @@ pub(crate) fn high_place(window: Window, span: Span) -> Option<u64>
     }
 }
 
-/// The lowest place in a row of this kind that covers the indexes from `first` to `max`, and whose slots hold entries and
+/// The lowest place in a node of this kind that covers the indexes from `first` to `max`, and whose slots hold entries and
 /// holes.
 pub(crate) fn lowest_of<R: Rows>(
     rows: &mut R,
@@ -275,7 +274,7 @@ pub(crate) fn lowest_of<R: Rows>(
     None
 }
 
-/// The highest place in a row of this kind that covers the indexes from `first` to `max`, and whose slots hold entries and
+/// The highest place in a node of this kind that covers the indexes from `first` to `max`, and whose slots hold entries and
 /// holes.
 pub(crate) fn highest_of<R: Rows>(
     rows: &mut R,
