@@ -1,17 +1,17 @@
--- A tree whose words, rows and book agree, and a call in flight on it.
+-- A tree whose words, nodes and book agree, and a call in flight on it.
 -- Source: this project's own; the kernel's writers hold the tree's lock, and free nodes after a grace period.
 use Rattle.std.specs.Prelude.{◌≡◌, ◌+◌, ◌<◌, ◌≤◌, ℕ, Bool, true, false, List, All}
 use Rattle.mt_splice.specs.Prelude.{Kind, first_row, Book, Held, IsBook, IsOut, Life, New, Draft, Live, Dead, Rooted, life_of, IsLawfulOf, IsReached, LiveAreReached, NoneBuried}
 
--- a row that no reader can hold: it was never used, or its death is cleared
+-- a node that no reader can hold: it was never used, or its death is cleared
 abbrev pub IsUnheld : ℕ → Life → Type 0
 IsUnheld cleared New = Unit {0}
 IsUnheld cleared Draft = ⊥
 IsUnheld cleared Live = ⊥
 IsUnheld cleared (Dead call) = call ≤ cleared
 
--- the book is of these rows: those that are out are those that are reached, its free rows are spare, and its stamps are
--- below `number`
+-- the book is of these nodes: those that are out are those that are reached, its free nodes are spare, and its stamps are below
+-- `number`
 pub record IsBookOf (t : Rooted) (lives : List Life) (cleared : ℕ) (book : Book) (number : ℕ) : Type 0 where
   pub sound : IsBook book
   pub rows : book.rows ≡ t.rows
@@ -20,8 +20,8 @@ pub record IsBookOf (t : Rooted) (lives : List Life) (cleared : ℕ) (book : Boo
   pub spare : All (λ row. IsUnheld cleared (life_of lives row)) book.free
   pub stamps : All (λ (h : Held). h.stamp < number) book.held
 
--- The words of a tree of this kind are lawful, the live rows are those that are reached, none is buried, and the book is of
--- these rows.
+-- The words of a tree of this kind are well-formed, the live nodes are those that are reached, none is marked dead, and the
+-- book is of these nodes.
 pub record IsConsistent (kind : Kind) (t : Rooted) (lives : List Life) (buried : List Bool) (cleared : ℕ) (book : Book) (number : ℕ) : Type 0 where
   pub lawful : IsLawfulOf t kind
   pub live : LiveAreReached t lives

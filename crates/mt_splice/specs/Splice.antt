@@ -15,7 +15,7 @@ pub record IsStoreBy (kind : Kind) (top : ℕ) (m : List Range) (call : Call) (r
   pub within : last ≤ top
   pub lawful : reserved entry ≡ false
 
--- what stands in the leaves at the ends of two paths, one behind the other; one hole in the empty tree
+-- what the leaves at the ends of two paths hold, one after the other; one hole in the empty tree
 abbrev pub region_of : Table → List PathStep → List PathStep → List Span
 region_of t [] right = record { first = 0; last = greatest t.width; word = 0 } ∷ []
 region_of t (s ∷ left) right =
@@ -24,8 +24,8 @@ region_of t (s ∷ left) right =
 
 -- ---- before
 
--- A call of a tree of this kind is in flight and has published nothing. It changes the map by a store; the paths lead to the
--- store's ends, and the items are what stands in the leaves there after it. For each level three rows are free, and one more.
+-- A call of a tree of this kind is in flight and has published nothing. It changes the map by a store. The paths lead to the
+-- store's ends, and the items are what the leaves there hold after it. For each level three nodes are free, and one more.
 pub record MaySplice (kind : Kind) (s : Sheet) (book : Book) (left right : List PathStep) (items : List Item) (number : ℕ) (call : Call) (reply : Reply) : Type 0 where
   pub told : IsToldKind s.kind kind
   pub kept : IsConsistent kind s.tree s.lives s.buried s.cleared book number
@@ -40,7 +40,7 @@ pub record MaySplice (kind : Kind) (s : Sheet) (book : Book) (left right : List 
   pub right_path : right ≡ path_in s.tree.table s.tree.root last
   pub edits : spans_from (last_step left).min items ≡ edited (region_of s.tree.table left right) first last entry
 
--- the same of a store whose leaves are still to be read
+-- A call is in flight that changes the map by a store whose leaves are still to be read.
 pub record MayReplace (kind : Kind) (s : Sheet) (book : Book) (left : List PathStep) (first last entry : ℕ) (number : ℕ) (call : Call) (reply : Reply) : Type 0 where
   pub told : IsToldKind s.kind kind
   pub kept : IsConsistent kind s.tree s.lives s.buried s.cleared book number
@@ -50,7 +50,7 @@ pub record MayReplace (kind : Kind) (s : Sheet) (book : Book) (left : List PathS
   pub some : s.tree.root ≡ 0 → entry ≢ 0
   pub left_path : left ≡ path_in s.tree.table s.tree.root first
 
--- what the emptying of a tree that is not empty is asked for: no row need be free
+-- what the emptying of a tree that is not empty is asked for: no node need be free
 pub record MayClear (kind : Kind) (s : Sheet) (book : Book) (number : ℕ) (call : Call) (reply : Reply) : Type 0 where
   pub told : IsToldKind s.kind kind
   pub kept : IsConsistent kind s.tree s.lives s.buried s.cleared book number
@@ -64,11 +64,11 @@ pub record MayClear (kind : Kind) (s : Sheet) (book : Book) (number : ℕ) (call
 abbrev pub HasParents : Tree → Type 0
 HasParents t = (t.root ≡ 0) ⊎ ((h : ℕ) × Stands t h × (column t.table (row_in t.root) 0 ≡ 1) × Levels (ParentLaw t) t.table h (root_of t))
 
--- a row that the tree does not reach
+-- a node that the tree does not reach
 abbrev pub is_unreached : Rooted → ℕ → Bool
 is_unreached t row = if is_reached t row then false else true
 
--- on each level of the tree, the new rows stand side by side and are the fewest that what stands in them can be cut into
+-- on each level of the tree, the new nodes are side by side and are the fewest that their items can be cut into
 abbrev pub HasFewest : (ℕ → Bool) → Tree → Type 0
 HasFewest is_new t = (t.root ≡ 0) ⊎ ((h : ℕ) × Stands t h × FewestBelow is_new t.gapped t.table h (root_of t))
 
@@ -77,7 +77,7 @@ abbrev pub WasPublishedAt : Sheet → Sheet → Place → Type 0
 WasPublishedAt s s' Root = s'.tree.root ≢ s.tree.root
 WasPublishedAt s s' (Slot row col) = (s'.tree.root ≡ s.tree.root) × (life_of s.lives row ≡ Live) × (life_of s'.lives row ≡ Live) × (word_at s'.tree row col ≢ word_at s.tree row col)
 
--- the word names a row that stands in the tree, and so long is the longest hole below it, where rows have gaps
+-- the word names a node of the tree, and in nodes with gaps this is the length of the longest hole below it
 pub record TellsBelow (kind : Kind) (t : Rooted) (word gap : ℕ) : Type 0 where
   pub height : ℕ
   pub row : Span
@@ -85,12 +85,12 @@ pub record TellsBelow (kind : Kind) (t : Rooted) (word gap : ℕ) : Type 0 where
   pub named : row.word ≡ word
   pub longest : finds_room kind ≡ true → gap ≡ longest_below t.table height (row ∷ [])
 
--- the same of the row that is named at a place; above the root none is told
+-- that length for the node that is named at a place; above the root it is 0
 abbrev pub TellsGapAt : Kind → Rooted → Place → ℕ → Type 0
 TellsGapAt kind t Root gap = gap ≡ 0
 TellsGapAt kind t (Slot row col) gap = TellsBelow kind t (word_at t row col) gap
 
--- at most so many rows were taken; the rows that are reached no more were retired with the call's number
+-- at most this many nodes were taken; the nodes that are no longer reached were retired with the call's number
 pub record IsBooked (s s' : Sheet) (book book' : Book) (number most : ℕ) : Type 0 where
   pub taken : List ℕ
   pub free : book.free ≡ book'.free ++ taken
@@ -102,9 +102,9 @@ pub record IsBooked (s s' : Sheet) (book book' : Book) (number most : ℕ) : Typ
   pub are_not : All (λ row. is_reached s'.tree row ≡ false) gone
   pub all : (row : ℕ) → IsReached s.tree row → is_reached s'.tree row ≡ false → Contains gone row
 
--- The tree stands for the map after the call by one store at the place; rows that were not taken keep every other word but
--- their parent words. What was to change are the indexes from the first to the last: in rows that were not taken, the gap
--- words of the slots that cover them may be wrong then.
+-- The tree represents the map after the call, by one store at the place. Nodes that were not taken keep every word but their
+-- parent words. The change is in the indexes from the first to the last: in nodes that were not taken, the gap words of the
+-- slots that cover them may be wrong afterwards.
 pub record IsSpliced (kind : Kind) (s s' : Sheet) (book book' : Book) (number : ℕ) (call : Call) (reply : Reply) (place : Place) (first last : ℕ) : Type 0 where
   pub rest : s' ≡ record s { tree = s'.tree; published = true; lives = s'.lives; buried = s'.buried; told = with_record s.told call reply; reads = s'.reads }
   pub rows : s'.tree.rows ≡ s.tree.rows

@@ -17,7 +17,8 @@ use mt_free::RowBook;
 use mt_layout::{Item, RowKind};
 use mt_rows::{Place, Rows};
 
-/// Drafts the items in one leaf, and publishes it as the root of the empty tree, whose inner rows are to be of the kind `above`.
+/// Drafts the items in one leaf, and publishes it as the root of the empty tree, whose inner nodes are to be of the kind
+/// `above`.
 pub fn begin_tree<R: Rows, B: Begun>(
     rows: &mut R,
     book: &mut RowBook,

@@ -1,4 +1,4 @@
-//! The rows of windows, buried.
+//! The nodes of windows, buried.
 
 ghost use Rattle.std.specs.Prelude.{◌≡◌, ◌<◌, ◌+◌, ◌-◌};
 ghost use Rattle.mt_base.specs.declared.kinds.Kind.{Kind};
@@ -12,7 +12,7 @@ use mt_free::RowBook;
 use mt_path::{step_right, walk};
 use mt_rows::Rows;
 
-/// Buries a live row that is out, and retires it with the call's number.
+/// Buries a live node that is out, and retires it with the call's number.
 fn bury_row<R: Rows>(rows: &mut R, book: &mut RowBook, row: u32, number: u64)
     requires { MayBeBuried (R.sheet rows.old) book.old row number }
     ensures rows { R.sheet rows.new ≡ after_bury (R.sheet rows.old) row }
@@ -22,7 +22,7 @@ fn bury_row<R: Rows>(rows: &mut R, book: &mut RowBook, row: u32, number: u64)
     book.retire(row, number);
 }
 
-/// Buries the rows of a level from the one that begins at `first` to the one that ends at `last`, along one walk.
+/// Buries the nodes of a level from the one that begins at `first` to the one that ends at `last`, along one walk.
 fn bury_stretch<R: Rows>(
     rows: &mut R,
     book: &mut RowBook,
@@ -46,8 +46,8 @@ fn bury_stretch<R: Rows>(
     }
 }
 
-/// Buries the rows of a window on a level, and retires them with the call's number. A walk is needed where three stand in it, or
-/// more.
+/// Buries the nodes of a window on a level (marks them dead), and retires them with the call's number. A walk is needed if
+/// there are three or more.
 fn bury_window<R: Rows>(rows: &mut R, book: &mut RowBook, window: &Window, depth: u32, number: u64)
     requires tree { (kind : Kind) × IsTreeOf (R.sheet rows.old).tree kind }
     requires window { IsWindowOn (R.sheet rows.old).tree depth window.now }
@@ -68,7 +68,7 @@ fn bury_window<R: Rows>(rows: &mut R, book: &mut RowBook, window: &Window, depth
     bury_row(rows, book, last.row, number);
 }
 
-/// Buries the rows of windows, from the one on this level up, and retires them with the call's number.
+/// Buries the nodes of windows, from the one on this level up, and retires them with the call's number.
 pub fn bury<R: Rows>(rows: &mut R, book: &mut RowBook, windows: &[Window], depth: u32, number: u64)
     requires tree { (kind : Kind) × IsTreeOf (R.sheet rows.old).tree kind }
     requires windows { AreWindowsOn (R.sheet rows.old).tree depth windows.now }

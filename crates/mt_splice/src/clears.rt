@@ -17,7 +17,7 @@ use mt_path::{copy_into, walk, walk_on};
 use mt_rows::{Place, Rows, inner_kind};
 use std::marker::Brand;
 
-/// The same, where what it begins with has a name.
+/// Empties the tree, with a name for what it begins with.
 fn clear_as<R: Rows, B: Begun>(rows: &mut R, book: &mut RowBook, kind: Kind, event: &Event<'_>)
     requires begun { IsBegunBy B.before B.start kind (R.sheet rows.old) book.old event.now.number event.now.call.now 0 (greatest (R.sheet rows.old).tree.table.width) }
     requires may { MayClear kind (R.sheet rows.old) book.old event.now.number event.now.call.now event.now.reply.now }
@@ -43,8 +43,7 @@ fn clear_as<R: Rows, B: Begun>(rows: &mut R, book: &mut RowBook, kind: Kind, eve
     publish_climbed::<R, B>(rows, book, &climb, top, depth, event);
 }
 
-/// Empties a tree: publishes 0 at the root word, by one store, and retires every row with the call's number. It takes no
-/// row.
+/// Empties a tree: publishes 0 at the root word, by one store, and retires every node with the call's number. It takes no node.
 pub fn clear<R: Rows>(rows: &mut R, book: &mut RowBook, kind: Kind, event: &Event<'_>)
     requires { MayClear kind (R.sheet rows.old) book.old event.now.number event.now.call.now event.now.reply.now }
     ensures spliced { IsSpliced kind (R.sheet rows.old) (R.sheet rows.new) book.old book.new event.now.number event.now.call.now event.now.reply.now Root 0 (greatest (R.sheet rows.old).tree.table.width) }

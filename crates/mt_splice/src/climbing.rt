@@ -1,4 +1,4 @@
-//! The climb from the leaves to the level at which a replacement ends: rows are read and drafted, and none is buried.
+//! The climb from the leaves to the level at which a replacement ends: nodes are read and drafted, and none is buried.
 
 ghost use Rattle.std.specs.Prelude.{◌≡◌, ◌≢◌, ◌<◌, ◌≤◌, ◌+◌, ◌-◌, ◌*◌, ◌++◌, [], length};
 ghost use Rattle.mt_base.specs.Width.{deepest};
@@ -27,8 +27,8 @@ use mt_leaf::{Towards, cut_towards};
 use mt_path::Path;
 use mt_rows::{Place, Rows};
 
-/// A replacement under way: what is to stand in the place of a level's window, the kind of the tree's inner rows, the paths to
-/// the window, the windows so far, and the inner rows that were written.
+/// A replacement under way: what will be in the place of a level's window, the kind of the tree's inner nodes, the paths to the
+/// window, the windows so far, and the inner nodes that were written.
 #[derive(Drop)]
 pub struct Climb {
     pub gathered: Gathered,
@@ -38,8 +38,7 @@ pub struct Climb {
     pub made: NewRows,
 }
 
-/// Where a replacement is to be published, by which word, what the row that this names tells, and that row, or 0 where nothing is
-/// left.
+/// Where a replacement is to be published, by which word, and the longest hole below the node that this names.
 #[derive(Clone, Copy, Debug, PartialEq, Eq)]
 pub struct Top {
     pub place: Place,
@@ -48,14 +47,14 @@ pub struct Top {
     pub row: u32,
 }
 
-/// The rows of a level, and how the replacement goes on.
+/// The nodes of a level, as the items that they are one level up, and how the replacement goes on.
 #[derive(Drop)]
 struct Drafted {
     heads: Heads,
     next: Next,
 }
 
-/// A climb in a tree with inner rows of this kind. No path is known yet, and nothing is gathered.
+/// A climb in a tree with inner nodes of this kind. No path is known yet, and nothing is gathered.
 pub fn new_climb(inner: RowKind) -> Climb
     ensures left { result.ways.left.items ≡ [] }
     ensures right { result.ways.right.items ≡ [] }
@@ -91,7 +90,7 @@ pub fn push_above(windows: &mut Windows, ways: &Ways, depth: u32)
     }
 }
 
-/// The places at which the items are cut into the fewest rows of this kind.
+/// The places at which the items are cut into the fewest nodes of this kind.
 fn ends_of(width: Width, gathered: &Gathered, kind: RowKind) -> ArrayVec<u32, 3>
     requires some { 1 ≤ length gathered.now.run.items }
     requires few { length gathered.now.run.items + 3 ≤ 3 * slots_of width kind }
@@ -109,7 +108,7 @@ fn ends_of(width: Width, gathered: &Gathered, kind: RowKind) -> ArrayVec<u32, 3>
     )
 }
 
-/// The slot of a path's row on a level above the leaves.
+/// The slot of a path's node on a level above the leaves.
 fn slot_on(width: Width, path: &Path, depth: u32, inner: RowKind) -> Place
     requires deep { depth < length path.now.items }
     requires fits { (step_at path.now.items depth).slot < slots_of width inner }
@@ -122,7 +121,7 @@ fn slot_on(width: Width, path: &Path, depth: u32, inner: RowKind) -> Place
     }
 }
 
-/// Drafts the rows of a level, which it widens where its items are too few.
+/// Drafts the nodes of a level, which it widens where its items are too few.
 fn draft_level<R: Rows, B: Begun>(
     rows: &mut R,
     book: &mut RowBook,
@@ -162,7 +161,7 @@ fn draft_level<R: Rows, B: Begun>(
     Drafted { heads, next }
 }
 
-/// What is to be published where the climb ends so. Rows that replace the root stand in a new one, which is drafted too.
+/// What is to be published if the climb ends so. A new node holds the nodes that replace the root, and is drafted too.
 fn top_of<R: Rows, B: Begun>(
     rows: &mut R,
     book: &mut RowBook,
@@ -226,7 +225,7 @@ fn top_of<R: Rows, B: Begun>(
     }
 }
 
-/// Climbs from the leaves up, and drafts the rows of each level, to the one at which the replacement ends. No row is buried.
+/// Climbs from the leaves up, and drafts the nodes of each level, to the one at which the replacement ends. No node is buried.
 pub fn climb_up<R: Rows, B: Begun>(rows: &mut R, book: &mut RowBook, climb: &mut Climb) -> Top
     requires { IsClimbing B.before B.start (R.sheet rows.old) book.old Leaf (length climb.old.ways.left.items - 1) climb.old }
     ensures climbed { HasClimbed B.before B.start (R.sheet rows.new) book.new climb.new result }

@@ -1,4 +1,4 @@
-//! How a replacement goes on at a level, decided before a row of it is written.
+//! How a replacement goes on at a level, decided before a node of it is written.
 
 ghost use Rattle.std.specs.Prelude.{◌≡◌, ◌<◌, ◌≤◌, true, [], ◌∷◌, length};
 ghost use Rattle.mt_layout.specs.declared.names.RowKind.TheVariants.{Leaf};
@@ -8,22 +8,22 @@ use crate::ways::{Ways, step_on};
 use mt_base::{Width, top};
 use mt_layout::{RowKind, Run};
 
-/// How a replacement goes on, when what is to stand in the rows of a level is known.
+/// How a replacement goes on, once it is known what the nodes of a level will hold.
 #[derive(Clone, Copy, Debug, PartialEq, Eq)]
 pub enum Next {
-    /// One hole is all that is to stand in the leaves: nothing is left of the tree.
+    /// The leaves should hold only one hole: nothing is left of the tree.
     Empty,
-    /// One row stands for every index: it becomes the root.
+    /// One node covers every index: it becomes the root.
     Root,
-    /// Several rows stand in the place of the root: they stand in a new root.
+    /// Several nodes replace the root: a new root holds them.
     RootAbove,
-    /// One row takes the place of one row, in the slot of the row above.
+    /// One node takes the place of one node, in the slot of the node above.
     Slot,
-    /// The rows above must change too.
+    /// The nodes above must change too.
     Up,
 }
 
-/// How a replacement goes on at a level whose items are cut into so many rows.
+/// How a replacement goes on at a level whose items are cut into this many nodes.
 pub fn next_of(
     width: Width,
     ways: &Ways,
@@ -55,7 +55,7 @@ pub fn next_of(
     Next::Up
 }
 
-/// Whether one hole is all that is to stand in the leaves.
+/// Whether the leaves should hold only one hole.
 fn is_one_hole(run: &Run, kind: RowKind) -> bool
     ensures hole { result ≡ true → (kind ≡ Leaf) × (item_words run.now.items ≡ 0 ∷ []) }
     ensures other { kind ≡ Leaf → item_words run.now.items ≡ 0 ∷ [] → result ≡ true }

@@ -1,4 +1,4 @@
-//! The rows of a level, drafted.
+//! The nodes of a level, drafted.
 
 ghost use Rattle.std.specs.Prelude.{◌≡◌, ◌≢◌, ◌<◌, ◌≤◌, ◌+◌, ◌++◌, All, Any, length};
 ghost use Rattle.mt_base.specs.Width.{most_taken};
@@ -46,15 +46,15 @@ fn draft_row<R: Rows>(rows: &mut R, book: &mut RowBook, kind: RowKind, items: &[
     row
 }
 
-/// The greatest gap of the items of a row.
+/// The greatest gap of the items of a node.
 fn greatest_gap(items: &[Item]) -> u64
     ensures { result ≡ greatest_gap items.now }
 {
     items.iter().fold(0, |gap, item| gap.max(item.gap))
 }
 
-/// What a row with these items, the first of which begins at `first`, tells the row above: the longest hole below it, where
-/// rows above have gaps.
+/// What a node with these items, the first of which begins at `first`, gives the node above: the longest hole below it, if
+/// nodes above have gaps.
 fn told_gap(above: RowKind, kind: RowKind, first: u64, items: &[Item]) -> u64
     requires rise { RiseFrom first items.now }
     requires entry { kind ≡ Leaf → Any (λ x. x.word ≢ 0) items.now }
@@ -67,7 +67,7 @@ fn told_gap(above: RowKind, kind: RowKind, first: u64, items: &[Item]) -> u64
     }
 }
 
-/// Notes a new row, where it has children.
+/// Notes a new node, where it has children.
 fn note_row(made: &mut NewRows, kind: RowKind, row: u32, count: u32)
     requires room { length made.old.items < most_taken }
     ensures noted { made.new.items ≡ made.old.items ++ noted_row kind row count }
@@ -79,7 +79,7 @@ fn note_row(made: &mut NewRows, kind: RowKind, row: u32, count: u32)
     }
 }
 
-/// Drafts a row with these items, the first of which begins at `first`, and gives it with the item that it is one level up.
+/// Drafts a node with these items, the first of which begins at `first`, and gives the item that it is one level up.
 pub fn draft_piece<R: Rows>(
     rows: &mut R,
     book: &mut RowBook,
@@ -109,8 +109,8 @@ pub fn draft_piece<R: Rows>(
     Head { row, item }
 }
 
-/// Drafts the items of a level in rows that end where its pieces do, and gives them with the items that they are one level up. Of
-/// inner rows it notes how many children they have.
+/// Drafts the items of a level in nodes that end where its pieces do, and gives the items that these are one level up. Of inner
+/// nodes it notes how many children they have.
 pub fn draft_rows<R: Rows>(
     rows: &mut R,
     book: &mut RowBook,

@@ -1,4 +1,4 @@
-//! The end of a replacement: one word is published, and the children of rows that are new are tended.
+//! The end of a replacement: one word is published, and the children of nodes that are new are tended.
 
 ghost use Rattle.std.specs.Prelude.{◌≡◌, ℕ, length};
 ghost use Rattle.mt_rows.specs.declared.rows.Place.TheVariants.{Slot};
@@ -39,8 +39,8 @@ fn tend_top<R: Rows>(rows: &mut R, kind: RowKind, top: &Top)
     rows.tend(top.row, 0, parent_word(row, col - slots));
 }
 
-/// Publishes the replacement by one store, and writes the parent words of all rows that have another parent then. The tree's
-/// inner rows are of this kind, and the book is as it is then.
+/// Publishes the replacement by one store, and writes the parent words of all nodes that have another parent then. The tree's
+/// inner nodes are of this kind, and the book is as it is then.
 #[inline(always)]
 pub fn publish_at<R: Rows, B: Begun>(
     rows: &mut R,

@@ -1,4 +1,4 @@
-//! What is to stand in the rows of the next level, gathered.
+//! What the nodes of the next level will hold, gathered.
 
 ghost use Rattle.std.specs.Prelude.{◌≡◌, ◌<◌, ◌≤◌, ◌+◌, ◌++◌, length, take, drop};
 ghost use Rattle.mt_base.specs.Width.{first_row};
@@ -15,7 +15,7 @@ use mt_leaf::Towards;
 use mt_path::PathStep;
 use mt_rows::Rows;
 
-/// Appends the items of a row of this kind of a path that stand behind its slot.
+/// Appends the items of a node of this kind of a path that come after its slot.
 #[tactic(auto, using(crate::proofs::Gathering::behind_slot))]
 fn push_behind<R: Rows>(rows: &mut R, kind: RowKind, step: &PathStep, run: &mut Run)
     requires row { (first_row ≤ step.now.row) × (step.now.row < first_row + (R.sheet rows.old).tree.rows) }
@@ -28,8 +28,8 @@ fn push_behind<R: Rows>(rows: &mut R, kind: RowKind, step: &PathStep, run: &mut 
     push_items(rows, kind, step, step.slot + 1, slots, run);
 }
 
-/// Fills a run, which may hold other items, from rows of this kind with those left of the left path's slot, the new ones, which
-/// end at `last`, and those right of the right path's slot.
+/// Fills a run, which may hold other items, from nodes of this kind: with those left of the left path's slot, the new ones,
+/// which end at `last`, and those right of the right path's slot.
 #[tactic(auto, using(crate::proofs::Gathering::items_ahead, crate::proofs::Gathering::none_behind))]
 fn gather<R: Rows>(
     rows: &mut R,
@@ -57,7 +57,7 @@ fn gather<R: Rows>(
     }
 }
 
-/// Where the change stands among the items of a row above: at their end, at their beginning, or between.
+/// Where the change is among the items of a node above: at their end, at their beginning, or between.
 fn towards_of(window: &Window, last: u64) -> Towards {
     if window.last.max <= last {
         Towards::Last
@@ -68,8 +68,8 @@ fn towards_of(window: &Window, last: u64) -> Towards {
     }
 }
 
-/// Gathers what is to stand in a window's place at this level, in rows of this kind: the new rows of the level below, and what
-/// stands beside them.
+/// Gathers what will be in a window's place at this level, in nodes of this kind: the new nodes of the level below, and what is
+/// beside them.
 pub fn gather_above<R: Rows, B: Begun>(
     rows: &mut R,
     ways: &Ways,

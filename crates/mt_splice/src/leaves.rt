@@ -1,4 +1,4 @@
-//! What stands in the leaves at the ends of a store, after it.
+//! What the leaves at the ends of a store hold after it.
 
 ghost use Rattle.std.specs.Prelude.{◌≡◌, ◌≢◌, ◌<◌, ◌≤◌, ◌+◌, ◌^◌, [], ◌∷◌, fold, drop, length};
 ghost use Rattle.mt_base.specs.declared.kinds.Kind.{Kind};
@@ -22,7 +22,7 @@ use mt_leaf::{Towards, edit_into, push_joined};
 use mt_path::{Path, PathStep};
 use mt_rows::{Rows, load_item};
 
-/// Fills an empty run with what stands in a leaf below `first`, which the path's slot there holds.
+/// Fills an empty run with what a leaf holds below `first`, which the path's slot there holds.
 fn push_below<R: Rows>(rows: &mut R, leaf: &PathStep, first: u64, run: &mut Run)
     requires leaf { IsLeafStep (R.sheet rows.old).tree leaf.now first }
     requires empty { run.old.items ≡ [] }
@@ -54,7 +54,7 @@ fn push_if_above(run: &mut Run, item: Item, last: u64)
     }
 }
 
-/// Appends what stands in a leaf above `last`, which the path's slot there holds; two holes that meet are one.
+/// Appends what a leaf holds above `last`, which the path's slot there holds; two holes that meet are one.
 fn push_above<R: Rows>(rows: &mut R, leaf: &PathStep, last: u64, run: &mut Run)
     requires leaf { IsLeafStep (R.sheet rows.old).tree leaf.now last }
     requires room { length run.old.items + slots_of (R.sheet rows.old).tree.table.width Leaf ≤ run_room }
@@ -71,7 +71,7 @@ fn push_above<R: Rows>(rows: &mut R, leaf: &PathStep, last: u64, run: &mut Run)
     }
 }
 
-/// Where the change stands among the items: the one that was stored is at `at`.
+/// Where the change is among the items: the one that was stored is at `at`.
 fn towards_of(at: usize, count: usize) -> Towards {
     if count.saturating_sub(at) <= 2 {
         Towards::Last
@@ -91,7 +91,7 @@ fn leaf_of(path: &Path) -> PathStep
     step_on(path, depth)
 }
 
-/// Gathers what stands in the leaves at the ends of the paths after a store. An entry of 0 makes a hole.
+/// Gathers what the leaves at the ends of the paths hold after a store. An entry of 0 makes a hole.
 fn push_edited<R: Rows>(rows: &mut R, ways: &Ways, gathered: &mut Gathered, edit: &Edit)
     requires ends { (kind : Kind) × AreEnds kind (R.sheet rows.old).tree ways.now.left.items ways.now.right.items edit.now.first edit.now.last }
     requires some { ways.now.left.items ≢ [] }
@@ -115,7 +115,7 @@ fn push_edited<R: Rows>(rows: &mut R, ways: &Ways, gathered: &mut Gathered, edit
     gathered.towards = towards_of(at, gathered.run.len());
 }
 
-/// The same of the empty tree, which is one hole.
+/// Gathers what the leaves hold after a store into the empty tree, which is one hole.
 fn push_first(width: Width, edit: &Edit, run: &mut Run)
     requires order { edit.now.first ≤ edit.now.last }
     requires within { edit.now.last ≤ greatest width }
@@ -130,7 +130,7 @@ fn push_first(width: Width, edit: &Edit, run: &mut Run)
     edit_into(&hole, 0, edit.first, edit.last, edit.entry, run);
 }
 
-/// Gathers what is to stand in the leaves from the left path's to the right path's after a store, where nothing is gathered yet.
+/// Gathers what the leaves from the left path's to the right path's will hold after a store. Nothing is gathered yet.
 pub fn fill_leaves<R: Rows>(rows: &mut R, ways: &Ways, gathered: &mut Gathered, edit: &Edit)
     requires ends { (kind : Kind) × AreEnds kind (R.sheet rows.old).tree ways.now.left.items ways.now.right.items edit.now.first edit.now.last }
     requires empty { gathered.old.run.items ≡ [] }

@@ -1,5 +1,4 @@
-//! The replacement of nodes: a store replaces rows on as many levels as must change, and one store of one word publishes
-//! it.
+//! The replacement of nodes: a store replaces nodes on as many levels as must change, and one store of one word publishes it.
 #![tactic(auto)]
 
 mod begins;

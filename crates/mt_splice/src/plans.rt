@@ -1,4 +1,4 @@
-//! What stands when a plan is drafted. Each law is the contract of a function that does nothing.
+//! What holds when a plan is drafted. Each law (lemma) is the contract of a function that does nothing.
 
 ghost use Rattle.std.specs.Prelude.{◌≡◌, ◌≢◌, ℕ, suc, ◌+◌, ◌-◌, ◌<◌, ◌≤◌, Bool, true, List, [], ◌∷◌, Some, length, slice_set};
 ghost use Rattle.mt_base.specs.Width.{deepest, greatest};
@@ -58,26 +58,26 @@ pub fn a_climb_begins()
         → HasClimbed b start s₂ book c top }
 {}
 
-/// While rows are drafted, the tree's rows stand beside them and are read as they were.
+/// While nodes are drafted, the tree's nodes are beside them and are read as they were.
 pub fn the_old_rows_stand_beside()
     ensures beside { (b : Before) (start : Start) (s : Sheet) (book : Book) (taken gone : List Seen) → IsStartOf b start → IsLedger b s book taken gone → Stands start.tree start.height → Beside start s.tree.table.words (was_seen taken) 0 }
     ensures items { (b : Before) (start : Start) (s : Sheet) (book : Book) (taken gone : List Seen) → IsStartOf b start → IsLedger b s book taken gone → Stands start.tree start.height → (i d h : ℕ) → i ≤ top_of start.tree → start.height ≡ d + h → (kind : RowKind) (max : ℕ)
         → items_of_row s.tree.table kind (row_in (row_at start.tree d i).word) max ≡ items_of_row start.tree.table kind (row_in (row_at start.tree d i).word) max }
 {}
 
-/// When the rows of all layers are drafted, the level of the top layer stands for the map in the place of the old one.
+/// When the nodes of all layers are drafted, the level of the top layer represents the map instead of the old one.
 pub fn drafted_layers_stand()
     ensures { (start : Start) (words : List ℕ) (is_new : ℕ → Bool) (top : ℕ) → Beside start words is_new top → (l : Layer) (lower : List Layer) → IsPlanned start (l ∷ lower) → AreAllHeld start words is_new (l ∷ lower) → top ≤ depth_at start (length lower)
         → Stand start words is_new (λ p. passing p (taken_by start (l ∷ lower))) (λ p. passing p (gone_by start (l ∷ lower))) (depth_at start (length lower)) (length lower) (level_of start (l ∷ lower)) }
 {}
 
-/// All rows of that level, and all below, keep the law of gaps, where those of the tree did.
+/// All nodes of that level, and all below, keep the law of gaps, where those of the tree did.
 pub fn drafted_layers_keep_gaps()
     ensures { (start : Start) (words : List ℕ) (is_new : ℕ → Bool) (top : ℕ) → Beside start words is_new top → HadGaps start → (l : Layer) (lower : List Layer) → IsPlanned start (l ∷ lower) → AreAllFromBelow start (l ∷ lower) → AreAllHeld start words is_new (l ∷ lower)
         → top ≤ depth_at start (length lower) → Levels (GapLaw (tree_with start.tree words)) (tree_with start.tree words).table (length lower) (level_of start (l ∷ lower)) }
 {}
 
-/// A row that takes the place of one is stored in the slot of the row above: the tree then stands up to its root.
+/// A node that takes the place of one is stored in the slot of the node above. The new nodes then make up the tree to its root.
 pub fn a_store_in_a_slot_stands()
     ensures { (start : Start) (words : List ℕ) (is_new : ℕ → Bool) → Beside start words is_new 0 → Stands (tree_with start.tree words) start.height → HasWords (tree_with start.tree words)
         → ((d k : ℕ) → start.height ≡ d + k → rows_at (tree_with start.tree words) d ≡ rows_at start.tree d) → (i depth h : ℕ) → i ≤ top_of start.tree → start.height ≡ depth + suc h → (word : ℕ) (taken gone : (ℕ → Span → Bool) → ℕ)
@@ -86,7 +86,7 @@ pub fn a_store_in_a_slot_stands()
         Stand start then is_new taken gone (suc depth) h (in_place t (suc depth) i i (with_child (row_at t (suc depth) i) word ∷ [])) → Stand start then is_new taken gone 0 start.height (root_of t) }
 {}
 
-/// What stands for the map up to the root replaces the tree: in place, by one row as the root, or by several in a new root.
+/// What represents the map up to the root replaces the tree: in place, by one node as the root, or by several in a new root.
 pub fn what_stands_replaces_the_tree()
     ensures slot { (start : Start) (words : List ℕ) (taken gone : List Seen) → Stands start.tree start.height → Stand start words (was_seen taken) (λ p. passing p taken) (λ p. passing p gone) 0 start.height (root_of start.tree)
         → IsReplaced start.tree (tree_with start.tree words) start.map taken gone (Some start.height) (Some start.height) }

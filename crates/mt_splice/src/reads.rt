@@ -1,4 +1,4 @@
-//! The items of a row read from the rows of a tree.
+//! The items of a node read from the nodes of a tree.
 
 ghost use Rattle.std.specs.Prelude.{◌≡◌, ◌<◌, ◌≤◌, ◌+◌, ◌-◌, ◌^◌, ◌++◌, length, take};
 ghost use Rattle.mt_base.specs.Width.{first_row};
@@ -26,7 +26,7 @@ pub fn first_in(first: u64, items: &[Item], slot: usize) -> u64
     items[slot - 1].last + 1
 }
 
-/// Appends the items of a row of a path from one slot up to, but without, another, or to the row's last item.
+/// Appends the items of a node of a path from one slot up to, but without, another, or to the node's last item.
 #[tactic(auto, using(crate::proofs::Readings::one_more_read, crate::proofs::Readings::last_read, crate::proofs::Readings::all_read))]
 pub fn push_items<R: Rows>(
     rows: &mut R,

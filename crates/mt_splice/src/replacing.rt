@@ -1,4 +1,4 @@
-//! A replacement: its rows are read and drafted, the old ones buried, and one word published.
+//! A replacement: its nodes are read and drafted, the old ones buried, and one word published.
 
 ghost use Rattle.std.specs.Prelude.{◌≡◌, ◌-◌, length};
 ghost use Rattle.mt_layout.specs.declared.names.RowKind.TheVariants.{Leaf};
@@ -15,7 +15,7 @@ use crate::spliced::Spliced;
 use mt_free::RowBook;
 use mt_rows::Rows;
 
-/// Buries the rows of a climb's windows, the lowest of which is on this level, and publishes its word.
+/// Buries the nodes of a climb's windows, the lowest of which is on this level, and publishes its word.
 pub fn publish_climbed<R: Rows, B: Begun>(
     rows: &mut R,
     book: &mut RowBook,
@@ -41,7 +41,7 @@ pub fn publish_climbed<R: Rows, B: Begun>(
     }
 }
 
-/// Replaces the rows of a level and of those above it that must change, and publishes that by one store.
+/// Replaces the nodes of a level and of those above it that must change, and publishes that by one store.
 pub fn replace<R: Rows, B: Begun>(
     rows: &mut R,
     book: &mut RowBook,

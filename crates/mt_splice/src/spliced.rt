@@ -1,4 +1,4 @@
-//! What a replacement comes to.
+//! The result of a replacement.
 
 ghost use Rattle.std.specs.Prelude.{◌≡◌};
 ghost use Rattle.mt_rows.specs.declared.rows.Place.TheVariants.{Root};
@@ -8,8 +8,8 @@ ghost use Rattle.mt_splice.specs.Splice.{TellsGapAt};
 
 use mt_rows::Place;
 
-/// Where a replacement was published, and the longest hole below the row that was published there in the slot of a row with
-/// gaps. Nothing stands above the root: there it is 0.
+/// Where a replacement was published, and the longest hole below the node that was published there in the slot of a node with
+/// gaps. There is no node above the root: there it is 0.
 #[derive(Clone, Copy, Debug, PartialEq, Eq)]
 pub struct Spliced {
     pub place: Place,

@@ -45,8 +45,8 @@ fn splice_as<R: Rows, B: Begun>(
     replace::<R, B>(rows, book, climb, event)
 }
 
-/// Replaces the leaves from a climb's left path to its right path by rows of what is gathered, and all rows above that must
-/// change, and publishes that by one store. It gives the place, and what the row there tells. The climb is used up.
+/// Replaces the leaves from a climb's left path to its right path by nodes of what is gathered, and all nodes above that must
+/// change, and publishes that by one store. Returns the place, and the longest hole below the node there. The climb is used up.
 fn splice_climb<R: Rows>(
     rows: &mut R,
     book: &mut RowBook,
@@ -64,8 +64,9 @@ fn splice_climb<R: Rows>(
     splice_as::<R, Brand>(rows, book, kind, climb, event)
 }
 
-/// Replaces the leaves from the left path to the right path by rows of these items, and all rows above that must change,
-/// and publishes that by one store. It gives the place. The rows that it replaces are retired with the call's number.
+/// Replaces the leaves from the left path to the right path by nodes of these items, and all nodes above that must change
+/// (copy-on-write), and publishes that by one store. Returns the place. The nodes that it replaces are retired with the call's
+/// number.
 pub fn splice<R: Rows>(
     rows: &mut R,
     book: &mut RowBook,
@@ -93,8 +94,8 @@ pub fn splice<R: Rows>(
     splice_climb(rows, book, kind, &mut climb, &event).place
 }
 
-/// Carries out a store by new rows; `left` is the path to its first index. The leaves at both ends are read and replaced. It
-/// gives the place of the one store that publishes, and what the row there tells.
+/// Carries out a store by new nodes; `left` is the path to its first index. The leaves at both ends are read and replaced.
+/// Returns the place of the one store that publishes (the linearization point), and the longest hole below the node there.
 pub fn replace_range<R: Rows>(
     rows: &mut R,
     book: &mut RowBook,

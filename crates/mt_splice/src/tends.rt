@@ -1,11 +1,11 @@
-//! Parent words of rows that have moved.
+//! Parent words of nodes that have moved.
 
 ghost use Rattle.mt_splice.specs.steps.Writes.{AreChildren, AreTended};
 
 use mt_layout::{RowKind, parent_word, row_of, slots};
 use mt_rows::Rows;
 
-/// Writes the parent words of the children in the first slots of an inner row.
+/// Writes the parent words of the children in the first slots of an inner node.
 #[tactic(auto, using(crate::proofs::Tending::none_tended, crate::proofs::Tending::is_named, crate::proofs::Tending::may_tend, crate::proofs::Tending::one_more_tended))]
 pub fn tend_children<R: Rows>(rows: &mut R, kind: RowKind, row: u32, count: u32)
     requires { AreChildren (R.sheet rows.old) kind row count }

@@ -1,4 +1,4 @@
-//! The window of a level that is to be replaced, and what is to stand in its place.
+//! The window of a level that is to be replaced, and what will be in its place.
 
 ghost use Rattle.std.specs.Prelude.{◌≡◌, ◌<◌, length};
 ghost use Rattle.mt_path.specs.Paths.{step_at};
@@ -9,21 +9,21 @@ use mt_layout::{RowKind, Run};
 use mt_leaf::Towards;
 use mt_path::{Path, PathStep};
 
-/// The paths to the first and to the last row of a window.
+/// The paths to the first and to the last node of a window.
 #[derive(Drop)]
 pub struct Ways {
     pub left: Path,
     pub right: Path,
 }
 
-/// The items that are to stand in a window's place, and where among these the change stands.
+/// The items that will be in a window's place, and where among these the change is.
 #[derive(Drop)]
 pub struct Gathered {
     pub run: Run,
     pub towards: Towards,
 }
 
-/// The first and the last row of a window that is replaced.
+/// The first and the last node of a window that is replaced.
 #[derive(Clone, Copy, Debug, Default, PartialEq, Eq)]
 pub struct Window {
     pub first: PathStep,
@@ -33,14 +33,14 @@ pub struct Window {
 /// The windows of a replacement, from the leaves up.
 pub type Windows = ArrayVec<Window, DEEPEST>;
 
-/// The kind of the rows of a level, and of those above it.
+/// The kind of the nodes of a level, and of those above it.
 #[derive(Clone, Copy, Debug, PartialEq, Eq)]
 pub struct Level {
     pub kind: RowKind,
     pub above: RowKind,
 }
 
-/// Where the first of the items of a level begins, and the places at which they are cut into rows.
+/// Where the first of the items of a level begins, and the places at which they are cut into nodes.
 #[derive(Drop)]
 pub struct Pieces {
     pub first: u64,

@@ -1,4 +1,4 @@
-//! The row beside a window, taken in.
+//! The node beside a window, taken in.
 
 ghost use Rattle.std.specs.Prelude.{◌≡◌, ◌<◌, ◌≤◌, ◌+◌, ◌-◌, ◌||◌, false, length};
 ghost use Rattle.mt_base.specs.Width.{first_row};
@@ -25,7 +25,7 @@ fn ends_with_hole(run: &Run) -> bool
     run.as_slice().last().is_some_and(|item| item.word == 0)
 }
 
-/// Whether the items are too few for a row of this kind that is not the root.
+/// Whether the items are too few for a node of this kind that is not the root.
 fn is_short(width: Width, run: &Run, kind: RowKind) -> bool
     ensures { result ≡ short_run width kind run.now.items }
 {
@@ -42,14 +42,14 @@ fn is_holed(run: &Run, kind: RowKind) -> bool
     }
 }
 
-/// Whether the items want those of a row beside them.
+/// Whether the items want those of a node beside them.
 fn wants(width: Width, run: &Run, kind: RowKind) -> bool
     ensures { result ≡ wants_row width kind run.now.items }
 {
     is_short(width, run, kind) || is_holed(run, kind)
 }
 
-/// All items of a row that a path steps through.
+/// All items of a node that a path steps through.
 fn row_items<R: Rows>(rows: &mut R, kind: RowKind, step: &PathStep) -> Run
     requires row { (first_row ≤ step.now.row) × (step.now.row < first_row + (R.sheet rows.old).tree.rows) }
     ensures items { result.items ≡ items_of_row (R.sheet rows.old).tree.table kind step.now.row step.now.max }
@@ -61,7 +61,7 @@ fn row_items<R: Rows>(rows: &mut R, kind: RowKind, step: &PathStep) -> Run
     run
 }
 
-/// Appends the items of a row behind others; in leaves two holes that meet are one.
+/// Appends the items of a node to others; in leaves two holes that meet are one.
 fn append(run: &mut Run, kind: RowKind, items: &Run)
     requires { length run.old.items + length items.now.items ≤ run_room }
     ensures { run.new.items ≡ beside_items kind run.old.items items.now.items }
@@ -72,7 +72,7 @@ fn append(run: &mut Run, kind: RowKind, items: &Run)
     }
 }
 
-/// Takes in a row that stands behind the items.
+/// Takes in a node that comes after the items.
 fn take_behind<R: Rows>(rows: &mut R, kind: RowKind, step: &PathStep, gathered: &mut Gathered)
     requires row { (first_row ≤ step.now.row) × (step.now.row < first_row + (R.sheet rows.old).tree.rows) }
     requires room { length gathered.old.run.items + slots_of (R.sheet rows.old).tree.table.width kind ≤ run_room }
@@ -84,7 +84,7 @@ fn take_behind<R: Rows>(rows: &mut R, kind: RowKind, step: &PathStep, gathered: 
     gathered.towards = Towards::Middle;
 }
 
-/// Takes in a row that stands before the items.
+/// Takes in a node that comes before the items.
 fn take_before<R: Rows>(rows: &mut R, kind: RowKind, step: &PathStep, gathered: &mut Gathered)
     requires row { (first_row ≤ step.now.row) × (step.now.row < first_row + (R.sheet rows.old).tree.rows) }
     requires room { length gathered.old.run.items + slots_of (R.sheet rows.old).tree.table.width kind ≤ run_room }
@@ -97,8 +97,8 @@ fn take_before<R: Rows>(rows: &mut R, kind: RowKind, step: &PathStep, gathered: 
     gathered.towards = Towards::Middle;
 }
 
-/// Takes in the row behind a window where its items are too few for a row, or where a leaf would end with a hole, and the row
-/// before it where none stands behind.
+/// Takes in the node after a window if its items are too few for a node, or if a leaf would end with a hole; or the node before
+/// it if none comes after.
 pub fn widen<R: Rows, B: Begun>(
     rows: &mut R,
     ways: &mut Ways,

@@ -1,4 +1,4 @@
-//! Rows written anew.
+//! Nodes written again.
 
 ghost use Rattle.std.specs.Prelude.{◌≡◌, ◌<◌, ◌≤◌, length};
 ghost use Rattle.mt_base.specs.Width.{columns};
@@ -11,21 +11,21 @@ use mt_base::{MOST_TAKEN, Width};
 use mt_layout::{Item, RowKind, words_of};
 use mt_rows::Rows;
 
-/// The parent word of a row that has no parent yet: the root's.
+/// The parent word of a node that has no parent yet: the root's.
 const NO_PARENT: u64 = 1;
 
-/// An inner row that was written, and the number of its children.
+/// An inner node that was written, and the number of its children.
 #[derive(Clone, Copy, Debug, Default, PartialEq, Eq)]
 pub struct NewRow {
     pub row: u32,
     pub count: u32,
 }
 
-/// The inner rows that a call has written.
+/// The inner nodes that a call has written.
 pub type NewRows = ArrayVec<NewRow, MOST_TAKEN>;
 
-/// Writes all words of a row that may be written anew, which has so many columns: of these items, without a parent. What is unused
-/// is 0.
+/// Writes all words of a node of `COLS` columns that may be written again: of these items, without a parent. What is unused is
+/// 0.
 #[tactic(auto, using(crate::proofs::Drafts::row_drafted))]
 fn draft_row_by<R: Rows, const COLS: usize>(
     rows: &mut R,
@@ -46,7 +46,7 @@ fn draft_row_by<R: Rows, const COLS: usize>(
     rows.draft_row(row, &words);
 }
 
-/// Writes all words of a row that may be written anew: of these items, without a parent. What is unused is 0.
+/// Writes all words of a node that may be written again: of these items, without a parent. What is unused is 0.
 pub fn draft_row_of<R: Rows>(rows: &mut R, row: u32, kind: RowKind, items: &[Item])
     requires place { IsPlace (R.sheet rows.old).tree row 0 }
     requires free { IsFree (R.sheet rows.old).cleared (life_of (R.sheet rows.old).lives row) }

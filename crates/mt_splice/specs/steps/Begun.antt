@@ -1,4 +1,4 @@
--- What a replacement begins with where no entry tells it: no rows and the empty tree.
+-- What a replacement begins with if no entry gives it: no nodes and the empty tree.
 -- Source: this project's own.
 use Rattle.std.specs.Prelude.{false, [], None}
 use Rattle.mt_base.specs.declared.kinds.Kind.TheVariants as trees

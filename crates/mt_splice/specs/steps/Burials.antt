@@ -1,11 +1,11 @@
--- Rows buried and retired one after the other: what is done to the rows and to the book.
+-- Nodes buried and retired one after the other: what is done to the nodes and to the book.
 -- Source: the kernel's lib/maple_tree.c, mas_topiary_replace, which marks the nodes that a new subtree replaces.
 use Rattle.std.specs.Prelude.{◌≡◌, ℕ, ◌-◌, ◌<◌, ◌≤◌, List, [], ◌∷◌, ◌++◌, All, length, map}
 use Rattle.mt_splice.specs.Prelude.{greatest, Book, Held, IsOut, after_retire, Span, row_in, path_in, step_at, level, root_span, Rooted, Sheet, MayBury, after_bury}
 use Rattle.mt_splice.specs.declared.ways.Window.{Window}
 use Rattle.mt_splice.specs.steps.Windows.{between}
 
--- ---- rows by their numbers
+-- ---- nodes by their numbers
 
 abbrev pub after_burials : Sheet → List ℕ → Sheet
 after_burials s [] = s
@@ -29,9 +29,9 @@ EachInTurn s book (row ∷ rows) number = MayBeBuried s book row number × EachI
 pub record MayBeBuriedInTurn (s : Sheet) (book : Book) (rows : List ℕ) (number : ℕ) : Type 0 where
   pub each : EachInTurn s book rows number
 
--- ---- rows by their places
+-- ---- nodes by their places
 
--- the rows of a level from the left, the root's level being 0
+-- the nodes of a level from the left, the root's level being 0
 abbrev pub rows_on : Rooted → ℕ → List Span
 rows_on t depth = level t.table depth (root_span t.table t.root ∷ [])
 
@@ -47,7 +47,7 @@ abbrev pub numbers_in_all : Rooted → ℕ → List Window → List ℕ
 numbers_in_all t depth [] = []
 numbers_in_all t depth (w ∷ windows) = numbers_in t depth w ++ numbers_in_all t (depth - 1) windows
 
--- the steps are those of the first and of the last row of a window on this level
+-- the steps are those of the first and of the last node of a window on this level
 pub record IsWindowOn (t : Rooted) (depth : ℕ) (w : Window) : Type 0 where
   pub from : ℕ
   pub to : ℕ
@@ -57,7 +57,7 @@ pub record IsWindowOn (t : Rooted) (depth : ℕ) (w : Window) : Type 0 where
   pub first : w.first ≡ step_at (path_in t.table t.root from) depth
   pub last : w.last ≡ step_at (path_in t.table t.root to) depth
 
--- `first` begins a row of this level, and `last` ends one that does not stand before it
+-- `first` begins a node of this level, and `last` ends one that is not before it
 pub record IsStretchOn (t : Rooted) (depth first last : ℕ) : Type 0 where
   pub order : first ≤ last
   pub within : last ≤ greatest t.table.width

@@ -1,4 +1,4 @@
--- A climb from the leaves up to the row in which the replacement is published: rows are read and drafted, and none is buried.
+-- A climb from the leaves up to the node in which the replacement is published: nodes are read and drafted, and none is buried.
 -- Source: the kernel's lib/maple_tree.c, mas_spanning_rebalance, which goes up until one node takes the place of one.
 use Rattle.std.specs.Prelude.{◌≡◌, ◌⊎◌, ℕ, zero, suc, ◌+◌, ◌*◌, ◌<◌, ◌≤◌, List, ◌∷◌, ◌++◌, length, []}
 use Rattle.mt_splice.specs.Prelude.{first_row, Book, Item, RowKind, Span, row_in, slot_column, name_at, slots_of, spans_from, Root, Slot, Stands, kind_on, top_of, Sheet, inner_of, PathStep, path_in, step_at, step_in}
@@ -20,8 +20,8 @@ use Rattle.mt_splice.specs.steps.Writes.{IsNewRow}
 
 -- ---- level by level
 
--- For each level below this one a layer is drafted, and no row is buried: what is gone is none. What is to stand in the
--- window of this level is gathered.
+-- For each level below this one a layer is drafted, and no node is marked dead yet. What the window of this level will hold is
+-- gathered.
 pub record IsClimbing (b : Before) (start : Start) (s : Sheet) (book : Book) (kind : RowKind) (depth : ℕ) (c : Climb) : Type 0 where
   pub layers : List Layer
   pub case : IsInFlight b start
@@ -39,7 +39,7 @@ pub record IsClimbing (b : Before) (start : Start) (s : Sheet) (book : Book) (ki
 
 -- ---- one level
 
--- One hole of every index is to stand in the leaves: nothing is left of the tree, and no row was taken.
+-- The leaves should hold one hole of every index: nothing is left of the tree, and no node was taken.
 pub record IsNothingLeft (b : Before) (start : Start) (s : Sheet) (book : Book) (depth : ℕ) (c : Climb) : Type 0 where
   pub from : ℕ
   pub to : ℕ
@@ -102,7 +102,7 @@ pub record EndsEmpty (start : Start) (layers : List Layer) (root : List Seen) (o
   pub word : top.word ≡ 0
   pub gap : top.gap ≡ 0
 
--- one row stands for every index, and is the root
+-- one node covers every index, and is the root
 pub record EndsAtRoot (start : Start) (layers : List Layer) (root : List Seen) (over : ℕ) (top : Top) : Type 0 where
   pub l : Layer
   pub lower : List Layer
@@ -117,7 +117,7 @@ pub record EndsAtRoot (start : Start) (layers : List Layer) (root : List Seen) (
   pub word : top.word ≡ x.word
   pub gap : top.gap ≡ 0
 
--- the rows that replace the root stand in a new one
+-- a new node holds the nodes that replace the root
 pub record EndsAbove (start : Start) (s : Sheet) (layers : List Layer) (root : List Seen) (over : ℕ) (top : Top) : Type 0 where
   pub l : Layer
   pub lower : List Layer
@@ -134,7 +134,7 @@ pub record EndsAbove (start : Start) (s : Sheet) (layers : List Layer) (root : L
   pub word : top.word ≡ name_at row (inner_of start.tree.gapped)
   pub gap : top.gap ≡ 0
 
--- one row takes the place of one, in the slot of the row above
+-- one node takes the place of one, in the slot of the node above
 pub record EndsInSlot (start : Start) (layers : List Layer) (root : List Seen) (over : ℕ) (top : Top) : Type 0 where
   pub l : Layer
   pub lower : List Layer
@@ -150,8 +150,8 @@ pub record EndsInSlot (start : Start) (layers : List Layer) (root : List Seen) (
   pub place : let parent = step_in start.tree.table (row_at start.tree depth l.from) l.from in top.place ≡ Slot parent.row (slot_column (slots_of start.tree.table.width (inner_of start.tree.gapped)) parent.slot)
   pub word : top.word ≡ x.word
 
--- The rows of all layers are drafted, and no row is buried: what is gone is none. The windows are those of the layers, and of so
--- many whole levels over them; when their rows are buried, one word is to be published.
+-- The nodes of all layers are drafted, and no node is marked dead yet. The windows are those of the layers, and of whole levels
+-- over them. When their nodes are marked dead, one word is to be published.
 pub record HasClimbed (b : Before) (start : Start) (s : Sheet) (book : Book) (c : Climb) (top : Top) : Type 0 where
   pub layers : List Layer
   pub root : List Seen

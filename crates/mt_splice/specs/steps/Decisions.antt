@@ -9,18 +9,18 @@ use Rattle.mt_splice.specs.declared.decisions.Next.TheVariants.{Empty, Root, Roo
 abbrev pub item_words : List Item → List ℕ
 item_words items = map (λ (x : Item). x.word) items
 
--- the rows of a level from the left path's to the right path's stand for every index
+-- the nodes of a level from the left path's to the right path's cover every index
 pub record StandForAll (width : Width) (left right : List PathStep) (depth : ℕ) : Type 0 where
   pub first : (step_at left depth).min ≡ 0
   pub last : (step_at right depth).max ≡ greatest width
 
--- one hole of every index is all that is to stand in the leaves
+-- the leaves should hold only one hole of every index
 pub record IsNothing (width : Width) (left right : List PathStep) (depth : ℕ) (kind : RowKind) (items : List Item) : Type 0 where
   pub leaf : kind ≡ Leaf
   pub all : StandForAll width left right depth
   pub hole : item_words items ≡ 0 ∷ []
 
--- one new row stands for every index, or takes the place of one row; or the root was replaced
+-- one new node covers every index, or takes the place of one node; or the root was replaced
 abbrev pub EndsHere : Width → List PathStep → List PathStep → ℕ → ℕ → Type 0
 EndsHere width left right depth pieces = (depth ≡ 0) ⊎ ((pieces ≡ 1) × (((step_at left depth).min ≡ (step_at right depth).min) ⊎ StandForAll width left right depth))
 

@@ -1,4 +1,4 @@
--- The rows of a level drafted one after the other: what is done to the rows and to the book, and what they are one level up.
+-- The nodes of a level drafted one after the other: what is done to the nodes and to the book, and what they are one level up.
 -- Source: the kernel's lib/maple_tree.c, mab_mas_cp, which writes a big node's items into one, two or three nodes.
 use Rattle.std.specs.Prelude.{◌≡◌, ℕ, ◌+◌, ◌-◌, ◌≤◌, List, [], ◌∷◌, ◌++◌, All, length}
 use Rattle.mt_splice.specs.Prelude.{Book, IsRowOf, Item, RowKind, Leaf, Inner, Gapped, spans_from, Tree, kind_on, top_of, Sheet, IsFree, life_of}
@@ -9,15 +9,15 @@ use Rattle.mt_splice.specs.steps.Layers.{part_of, head, heads}
 use Rattle.mt_splice.specs.steps.Runs.{MayBeCut}
 use Rattle.mt_splice.specs.steps.Writes.{IsRowDrafted}
 
--- ---- one row
+-- ---- one node
 
--- a row was taken from the book, and drafted with these items
+-- a node was taken from the book, and drafted with these items
 pub record IsRowTaken (s s' : Sheet) (book book' : Book) (kind : RowKind) (items : List Item) (row : ℕ) : Type 0 where
   pub number : IsRowOf book row
   pub taken : book ≡ record book' { free = book'.free ++ row ∷ [] }
   pub drafted : IsRowDrafted s s' row kind items
 
--- an inner row is noted, with the number of its children
+-- an inner node is noted, with the number of its children
 abbrev pub noted_row : RowKind → ℕ → ℕ → List NewRow
 noted_row Leaf row count = []
 noted_row Inner row count = record { row = row; count = count } ∷ []
@@ -29,9 +29,9 @@ pub record IsPieceDrafted (s s' : Sheet) (book book' : Book) (above kind : RowKi
   pub up : new.item ≡ head above kind first items new.row
   pub noted : made' ≡ made ++ noted_row kind new.row (length items)
 
--- ---- the rows of a level
+-- ---- the nodes of a level
 
--- the parts of items that end at these places, from `from` on, were drafted one after the other in these rows
+-- the parts of items that end at these places, from `from` on, were drafted one after the other in these nodes
 abbrev pub AreRowsTaken : RowKind → List Item → ℕ → List ℕ → List ℕ → Sheet → Sheet → Book → Book → Type 0
 AreRowsTaken kind items from [] [] s s' book book' = (s' ≡ s) × (book' ≡ book)
 AreRowsTaken kind items from [] (row ∷ rows) s s' book book' = ⊥
@@ -44,7 +44,7 @@ noted_rows kind from [] rows = []
 noted_rows kind from (to ∷ ends) [] = []
 noted_rows kind from (to ∷ ends) (row ∷ rows) = noted_row kind row (to - from) ++ noted_rows kind to ends rows
 
--- the items can stand in rows of this kind that end at these places, and so many rows are free
+-- the items can be in nodes of this kind that end at these places, and this many nodes are free
 pub record MayDraftRows (s : Sheet) (book : Book) (kind : RowKind) (first : ℕ) (items : List Item) (ends : List ℕ) : Type 0 where
   pub tree : Tree
   pub height : ℕ

@@ -1,4 +1,5 @@
--- What is known when all new rows are written and all old rows are buried, and what a store that publishes them is followed by.
+-- What is known when all new nodes are written and all old nodes are buried, and what a store that publishes them is followed
+-- by.
 -- Source: this project's own; the kernel's lib/maple_tree.c, mas_wmb_replace and mas_adopt_children, which set the parents
 -- of children that have moved.
 use Rattle.std.specs.Prelude.{◌≡◌, ◌≢◌, ℕ, suc, ◌+◌, ◌-◌, ◌*◌, ◌<◌, ◌≤◌, true, List, Option, Some, None, length}

@@ -1,4 +1,4 @@
--- What a replacement begins with, told by the entry that begins it.
+-- What a replacement begins with, given by the entry that begins it.
 -- Source: this project's own.
 use Rattle.std.specs.Prelude.{◌≡◌, ◌-◌, ℕ, List, [], length}
 use Rattle.mt_splice.specs.Prelude.{Call, Kind, acted, Book, path_in, Sheet, map_by, tree_as, Reply, Item, PathStep}
@@ -6,7 +6,7 @@ use Rattle.mt_splice.specs.steps.Ledgers.{Before}
 use Rattle.mt_splice.specs.Splice.{MaySplice}
 use Rattle.mt_splice.specs.steps.Starts.{Start}
 
--- the rows and the book as they are now
+-- the nodes and the book as they are now
 abbrev pub before_of : Kind → Sheet → Book → ℕ → Before
 before_of kind s book number = record { sheet = s; book = book; kind = kind; number = number }
 

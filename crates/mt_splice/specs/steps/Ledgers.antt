@@ -1,4 +1,4 @@
--- The ledger of a replacement: the rows and the book as they were, which rows it has taken, and which are gone.
+-- The ledger of a replacement: which nodes it has taken, and which are gone.
 -- Source: this project's own; the kernel keeps the old and the new nodes in lib/maple_tree.c, struct maple_subtree_state.
 use Rattle.std.specs.Prelude.{◌≡◌, ℕ, zero, suc, ◌+◌, ◌<◌, ◌≤◌, true, false, List, ◌∷◌, ◌++◌, length, map, if◌then◌else◌, []}
 use Rattle.mt_splice.specs.Prelude.{Kind, columns, first_row, row_in, dead_mark, Book, Held, Draft, Table, column, spans_in, Sheet, IsWhole, life_of, is_buried, tree_as, IsToldKind, is_reached}

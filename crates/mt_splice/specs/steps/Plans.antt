@@ -1,5 +1,5 @@
--- What a climb has drafted: for each level from the leaves up, the window whose rows are replaced, what is to stand in its
--- place, and the rows that it stands in. The top layer is the first of the list, and a layer's height is the number of those behind it.
+-- What a climb has drafted. For each level from the leaves up: the window whose nodes are replaced, what will be in its place,
+-- and the nodes that hold that. The top layer is the first of the list, and a layer's height is the number of those after it.
 -- Source: the kernel's lib/maple_tree.c, mas_spanning_rebalance, which builds a subtree level by level.
 use Rattle.std.specs.Prelude.{◌≡◌, ℕ, zero, suc, ◌-◌, ◌≤◌, Bool, List, [], ◌∷◌, ◌++◌, length, map}
 use Rattle.mt_splice.specs.Prelude.{Item, Span, spans_from, inner_of, kind_on, step_in}
@@ -11,8 +11,8 @@ use Rattle.mt_splice.specs.steps.Seen.{Seen}
 use Rattle.mt_splice.specs.steps.Windows.{between, row_at, low_of, high_of, in_place, Gathered}
 use Rattle.mt_splice.specs.steps.Starts.{Start, tree_with, rows_at}
 
--- the items that stand in the rows from the one that holds `from` to the one that holds `to`, cut at these places into rows of
--- these numbers
+-- the items of the nodes from the one that holds `from` to the one that holds `to`, cut at these places into nodes of these
+-- numbers
 pub record Layer : Type 0 where
   pub from : ℕ
   pub to : ℕ
@@ -27,7 +27,7 @@ depth_at start h = start.height - h
 abbrev pub begin_at : Start → ℕ → Layer → ℕ
 begin_at start h l = low_of start.tree (depth_at start h) l.from
 
--- the new rows of a layer, as items one level up and by their spans, and the old rows of its window
+-- the new nodes of a layer, as items one level up and by their spans, and the old nodes of its window
 abbrev pub heads_at : Start → ℕ → Layer → List Item
 heads_at start h l = heads (inner_of start.tree.gapped) (kind_on start.tree.gapped h) (begin_at start h l) l.items 0 l.ends l.rows
 
@@ -37,7 +37,7 @@ new_at start h l = spans_from (begin_at start h l) (heads_at start h l)
 abbrev pub old_at : Start → ℕ → Layer → List Span
 old_at start h l = between l.from l.to (rows_at start.tree (depth_at start h))
 
--- the level of the top layer, with its new rows
+-- the level of the top layer, with its new nodes
 abbrev pub level_of : Start → List Layer → List Span
 level_of start [] = []
 level_of start (l ∷ lower) = in_place start.tree (depth_at start (length lower)) l.from l.to (new_at start (length lower) l)
@@ -54,12 +54,12 @@ abbrev pub IsPlanned : Start → List Layer → Type 0
 IsPlanned start [] = Unit {0}
 IsPlanned start (l ∷ lower) = IsLayer start (level_of start lower) (length lower) l × IsPlanned start lower
 
--- the rows of each layer hold their parts of its items
+-- the nodes of each layer hold their parts of its items
 abbrev pub AreAllHeld : Start → List ℕ → (ℕ → Bool) → List Layer → Type 0
 AreAllHeld start words is_new [] = Unit {0}
 AreAllHeld start words is_new (l ∷ lower) = AreHeld (tree_with start.tree words) is_new (kind_on start.tree.gapped (length lower)) l.items 0 l.ends l.rows × AreAllHeld start words is_new lower
 
--- the rows of all layers, the newest first, and those of all windows, from the leaves up
+-- the nodes of all layers, the newest first, and those of all windows, from the leaves up
 abbrev pub seen_at : ℕ → List Span → List Seen
 seen_at h xs = map (λ (x : Span). record { height = h; at = x }) xs
 

@@ -1,4 +1,4 @@
--- What stands after a replacement.
+-- What holds after a replacement.
 -- Source: this project's own.
 use Rattle.std.specs.Prelude.{◌≡◌, ℕ, ◌+◌, ◌≤◌, Bool, List, Option, Some, None, []}
 use Rattle.mt_splice.specs.Prelude.{Range, Span, map_of, Tree, Stands, root_of}
@@ -23,12 +23,12 @@ abbrev pub map_as : Tree → Option ℕ → List Range
 map_as t None = []
 map_as t (Some h) = map_of t.table h (root_of t)
 
--- in a tree, or in the empty tree, the new rows of each level are the fewest
+-- in a tree, or in the empty tree, the new nodes of each level are the fewest
 abbrev pub FewestAs : (ℕ → Bool) → Tree → Option ℕ → Type 0
 FewestAs is_new t None = Unit {0}
 FewestAs is_new t (Some h) = FewestBelow is_new t.gapped t.table h (root_of t)
 
--- The tree t' stands for the map in place of t, where either may be the empty tree.
+-- The tree t' represents the map in place of t. Either may be the empty tree.
 pub record IsReplaced (t t' : Tree) (map : List Range) (taken gone : List Seen) (old new : Option ℕ) : Type 0 where
   pub stands : StandsAs t' new
   pub ranges : map_as t' new ≡ map

@@ -1,4 +1,4 @@
--- Rows that were seen at a height: those that a replacement has taken, and those that are gone.
+-- Nodes that were seen at a height: those that a replacement has taken, and those that are gone.
 -- Source: this project's own.
 use Rattle.std.specs.Prelude.{ℕ, Bool, List, nat_lt}
 use Rattle.mt_splice.specs.Prelude.{Span, is_row_of, tally}
@@ -7,7 +7,7 @@ pub record Seen : Type 0 where
   pub height : ℕ
   pub at : Span
 
--- how many of them pass a test on their height and their span
+-- how many of them satisfy a test of their height and their span
 abbrev pub passing : (ℕ → Span → Bool) → List Seen → ℕ
 passing p seen = tally (λ (s : Seen). p s.height s.at) seen
 

@@ -1,4 +1,4 @@
--- The row beside the gathered items, taken in where they are too few, or where a leaf would end with a hole.
+-- The node beside the gathered items, taken in where they are too few, or where a leaf would end with a hole.
 -- Source: the kernel's lib/maple_tree.c, mas_rebalance, which takes the right neighbour first.
 use Rattle.std.specs.Prelude.{ℕ, ◌-◌, ◌==◌, Bool, false, nat_lt, List, ◌++◌, fold, length, slice_get}
 use Rattle.std.specs.Option.{option_map_or}
@@ -7,7 +7,7 @@ use Rattle.mt_splice.specs.Prelude.{Width, Item, RowKind, Leaf, Inner, Gapped, w
 abbrev pub is_hole_at : List Item → ℕ → Bool
 is_hole_at items i = option_map_or (λ (x : Item). x.word == 0) (slice_get items i) false
 
--- too few items for a row of this kind that is not the root
+-- too few items for a node of this kind that is not the root
 abbrev pub short_run : Width → RowKind → List Item → Bool
 short_run width kind items = nat_lt (length items) (least_items width kind)
 

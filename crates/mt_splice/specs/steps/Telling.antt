@@ -1,5 +1,5 @@
--- Where the items of a climb come from: the rows of the layer below, between old rows; and the gaps that items of old rows tell.
--- Source: the kernel's lib/maple_tree.c, mas_leaf_max_gap and ma_max_gap, by which a node's gap is told to its parent.
+-- Where the items of a climb come from: the nodes of the layer below, between old nodes; and the gaps of items of old nodes.
+-- Source: the kernel's lib/maple_tree.c, mas_leaf_max_gap and ma_max_gap, by which a node's gap reaches its parent.
 use Rattle.std.specs.Prelude.{◌≡◌, ℕ, List, [], ◌∷◌, ◌++◌, length}
 use Rattle.std.specs.List.{AllByRecursion}
 use Rattle.mt_splice.specs.Prelude.{Item, spans_from, Fills, IsBelow, inner_of, root_span}
@@ -8,7 +8,7 @@ use Rattle.mt_splice.specs.steps.Told.{TellGaps}
 use Rattle.mt_splice.specs.steps.Windows.{high_of}
 use Rattle.mt_splice.specs.steps.Starts.{Start}
 
--- Items that name rows of a height of the tree as it was, and tell their gaps; the first begins at `lo`.
+-- Items that name nodes of a height of the old tree, with their gaps; the first begins at `lo`.
 pub record AreOld (start : Start) (h lo : ℕ) (items : List Item) : Type 0 where
   pub rows : AllByRecursion (IsBelow start.tree.table (depth_at start h) (root_span start.tree.table start.tree.root)) (spans_from lo items)
   pub gaps : TellGaps (inner_of start.tree.gapped) start.tree.table h lo items
@@ -23,7 +23,7 @@ pub record AreAmongOld (start : Start) (h lo mid hi end : ℕ) (new items : List
   pub old_front : AreOld start h lo front
   pub old_back : AreOld start h hi back
 
--- items one level above the top layer: its rows among old ones; those of leaves are what the call stores
+-- items one level above the top layer: its nodes among old ones; those of leaves are what the call stores
 abbrev pub AreFromBelow : Start → List Layer → ℕ → ℕ → List Item → Type 0
 AreFromBelow start [] lo end items = Unit {0}
 AreFromBelow start (l ∷ lower) lo end items =

@@ -1,16 +1,16 @@
--- Items whose gaps are told, and the law of gaps while a tree is replaced.
--- Source: the kernel's lib/maple_tree.c, mas_leaf_max_gap and ma_max_gap, by which a node's gap is told to its parent.
+-- Items with their gaps, and the law of gaps while a tree is replaced.
+-- Source: the kernel's lib/maple_tree.c, mas_leaf_max_gap and ma_max_gap, by which a node's gap reaches its parent.
 use Rattle.std.specs.Prelude.{◌≡◌, ◌≤◌, ℕ, Bool, List, [], ◌∷◌, Option, Some, None, fold, map, max}
 use Rattle.mt_splice.specs.Prelude.{Item, RowKind, Leaf, Inner, Gapped, Span, longest_hole, spans_from, Table, Levels, Tree, GapLaw, longest_below, KeepsGaps, root_of}
 use Rattle.mt_splice.specs.steps.Starts.{Start}
 
 -- ---- the gaps of items
 
--- the longest hole below each of some rows of a height
+-- the longest hole below each of some nodes of a height
 abbrev pub longest_holes : Table → ℕ → List Span → List ℕ
 longest_holes t h xs = map (λ (x : Span). longest_below t h (x ∷ [])) xs
 
--- in rows with gaps, the gap of each item is the longest hole below it
+-- in nodes with gaps, the gap of each item is the longest hole below it
 abbrev pub TellGaps : RowKind → Table → ℕ → ℕ → List Item → Type 0
 TellGaps Leaf t h first items = Unit {0}
 TellGaps Inner t h first items = Unit {0}
@@ -20,8 +20,8 @@ TellGaps Gapped t h first items = map (λ (x : Item). x.gap) items ≡ longest_h
 abbrev pub greatest_gap : List Item → ℕ
 greatest_gap items = fold (λ (gap : ℕ) (x : Item). max gap x.gap) 0 items
 
--- What a row of this kind tells the row above, where the rows above are of the kind `above`: its longest hole, where these
--- have gaps. Its first item begins at `first`.
+-- What a node of this kind gives the node above, if the nodes above are of the kind `above`: its longest hole, if these have
+-- gaps. Its first item begins at `first`.
 abbrev pub told_gap : RowKind → RowKind → ℕ → List Item → ℕ
 told_gap Leaf kind first items = 0
 told_gap Inner kind first items = 0
@@ -31,11 +31,11 @@ told_gap Gapped Gapped first items = greatest_gap items
 
 -- ---- the law of gaps
 
--- each row of the tree as it was keeps the law
+-- each node of the tree as it was keeps the law
 abbrev pub HadGaps : Start → Type 0
 HadGaps start = Levels (GapLaw start.tree) start.tree.table start.height (root_of start.tree)
 
--- in a tree, or in the empty tree, the new rows keep the law, and all rows but for the slot that covers the index
+-- in a tree, or in the empty tree, the new nodes keep the law, and so do all nodes except in the slot that covers the index
 abbrev pub GapsAs : (ℕ → Bool) → ℕ → Tree → Option ℕ → Type 0
 GapsAs is_new index t None = Unit {0}
 GapsAs is_new index t (Some h) = Levels (KeepsGaps is_new index t) t.table h (root_of t)

@@ -1,5 +1,5 @@
--- The window of a level: the rows from the one that holds an index to the one that holds another, and what stands before them
--- and behind.
+-- The window of a level: the nodes from the one that holds an index to the one that holds another, and what comes before them
+-- and after.
 -- Source: the kernel's lib/maple_tree.c, mas_wr_spanning_store, which goes by a left and a right state.
 use Rattle.std.specs.Prelude.{◌≡◌, ℕ, zero, suc, ◌+◌, ◌-◌, ◌<◌, ◌≤◌, List, ◌++◌, take, drop}
 use Rattle.std.specs.List.{flat_map}
@@ -7,7 +7,7 @@ use Rattle.mt_splice.specs.Prelude.{Range, Span, leaf_range, Fills, root_span, e
 use Rattle.mt_splice.specs.steps.Starts.{Start, rows_at}
 use Rattle.mt_splice.specs.steps.Runs.{MayBeIn}
 
--- of spans end to end, those before the one that holds an index, and those behind it
+-- of spans end to end, those before the one that holds an index, and those after it
 abbrev pub before : ℕ → List Span → List Span
 before index xs = take (slot_for xs index) xs
 
@@ -18,7 +18,7 @@ behind index xs = drop (slot_for xs index + 1) xs
 abbrev pub between : ℕ → ℕ → List Span → List Span
 between i j xs = take (slot_for xs j + 1 - slot_for xs i) (drop (slot_for xs i) xs)
 
--- the row of a level that holds an index, where it begins, and behind what it ends
+-- the node of a level that holds an index, where it begins, and after what it ends
 abbrev pub row_at : Tree → ℕ → ℕ → Span
 row_at t d index = row_on t.table d (root_span t.table t.root) index
 
@@ -28,21 +28,21 @@ low_of t d index = (row_at t d index).first
 abbrev pub high_of : Tree → ℕ → ℕ → ℕ
 high_of t d index = (row_at t d index).last + 1
 
--- a level with other rows in the place of a window's
+-- a level with other nodes in the place of a window's
 abbrev pub in_place : Tree → ℕ → ℕ → ℕ → List Span → List Span
 in_place t d i j rows = before i (rows_at t d) ++ (rows ++ behind j (rows_at t d))
 
--- what stands in the rows of a level, with other spans in the place of what stands in a window's
+-- what the nodes of a level hold, with other spans in place of those of a window's nodes
 abbrev pub in_rows : Tree → ℕ → ℕ → ℕ → List Span → List Span
 in_rows t d i j run = expand t.table (before i (rows_at t d)) ++ (run ++ expand t.table (behind j (rows_at t d)))
 
--- in leaves the spans stand for the map, and in inner rows they are the rows of the level below
+-- in leaves the spans represent the map, and in inner nodes they are the nodes of the level below
 abbrev pub StandFor : List Range → List Span → ℕ → List Span → Type 0
 StandFor map below zero xs = flat_map leaf_range xs ≡ map
 StandFor map below (suc h) xs = xs ≡ below
 
--- The spans are gathered that are to stand in the place of what stands in a window's rows, at this depth and height: with
--- them the level stands for the map, or holds the rows of the level below. What changes lies in the window.
+-- The spans are gathered that will replace what a window's nodes hold, at this depth and height. With them the level represents
+-- the map, or holds the nodes of the level below. What changes lies in the window.
 pub record Gathered (start : Start) (below : List Span) (i j d h : ℕ) (run : List Span) : Type 0 where
   pub stands : Stands start.tree start.height
   pub levels : start.height ≡ d + h
