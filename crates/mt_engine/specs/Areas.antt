@@ -5,7 +5,7 @@ use Rattle.mt_engine.specs.Prelude.{Call, Alloc, Ralloc, Gap, Rgap, Range, low_t
 use Rattle.mt_engine.specs.declared.areas.Sought.{Sought}
 use Rattle.mt_engine.specs.declared.areas.Sought.TheVariants.{Lowest, Highest}
 
--- the start of so many indexes in one hole up to an index and in a window; and in a tree of this kind
+-- the start of `size` indexes in one hole up to an index and in a window; and in a tree of this kind
 abbrev pub start_to : Sought → ℕ → List Range → ℕ → ℕ → ℕ → Option ℕ
 start_to Lowest top m n lo hi = low_to top m n lo hi
 start_to Highest top m n lo hi = high_to top m n lo hi
@@ -15,7 +15,7 @@ abbrev pub allocation : Sought → ℕ → ℕ → ℕ → ℕ → Call
 allocation Lowest size min max entry = Alloc size min max entry
 allocation Highest size min max entry = Ralloc size min max entry
 
--- the call that only tells it
+-- the call that only searches for it
 abbrev pub search : Sought → ℕ → ℕ → ℕ → Call
 search Lowest size min max = Gap size min max
 search Highest size min max = Rgap size min max

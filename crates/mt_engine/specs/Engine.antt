@@ -1,4 +1,4 @@
--- The rows of a tree and the book of them, between two calls of an engine and within one; and what a call does to them.
+-- The nodes of a tree and the book of them, between two calls of an engine and within one; and what a call does to them.
 -- Source: this project's own.
 use Rattle.std.specs.Prelude.{◌≡◌, ◌⊎◌, ℕ, ◌+◌, ◌*◌, ◌<◌, ◌≤◌, Bool, true, false, List, [], ◌++◌, All, Option, length}
 use Rattle.mt_engine.specs.Prelude.{Call, Store, StorePre, Insert, Erase, Alloc, Ralloc, Gap, Rgap, Clear, Kind, Range, Reply, Shortage, acted, Wants, IsRefused, is_exact_store, columns, most_taken, first_row, Book, Held, live_count, after_reclaim, Leaf, slot_column, slots_of, leaf_in, Life, Dead, height_in, Rooted, Sheet, IsScan, RoseUpTo, life_of, limits_of, with_word, IsToldKind, MayFinish, IsRealShortage, WasScanned, finished, map_by, with_record, IsConsistent}
@@ -7,7 +7,7 @@ use Rattle.mt_base.specs.declared.replies.Reply.TheVariants as answers
 use Rattle.mt_path.specs.Paths.{path_in, loads_on}
 use Rattle.mt_rows.specs.Sheet.{ReadsUpTo}
 
--- what an engine stands for
+-- what an engine represents
 pub record Parts : Type 0 where
   pub sheet : Sheet
   pub book : Book
@@ -15,8 +15,8 @@ pub record Parts : Type 0 where
 
 -- ---- the state
 
--- What holds of the rows and the book whether or not a call is in flight: the tree is kept, its held rows died by the calls
--- that the book tells, and no call has taken more rows than it may.
+-- What holds of the nodes and the book whether or not a call is in flight. The tree is kept, its held (retired) nodes died by
+-- the calls that the book has for them, and no call has taken more nodes than it may.
 pub record IsState (kind : Kind) (known : Option Kind) (t : Rooted) (lives : List Life) (buried : List Bool) (cleared ended opened : ℕ) (book : Book) : Type 0 where
   pub told : IsToldKind known kind
   pub kept : IsConsistent kind t lives buried cleared book (ended + 1)
@@ -45,13 +45,13 @@ IsInCall kind s book = IsCalling kind s.kind s.tree s.lives s.buried s.cleared s
 
 -- ---- what a call did
 
--- a call that wants rows found three free for each level, and one, when held rows that no section holds were free
+-- a call that needs nodes found three free for each level, and one, once the held nodes that no section holds were freed
 pub record HadRoom (s s' : Sheet) (book : Book) : Type 0 where
   pub scanned : WasScanned s'
   pub room : 3 * height_in s.tree.table s.tree.root + 1 ≤ length (after_reclaim book s'.scan.least).free
 
--- The call replaces rows: where it wants some it needs them as well, but for a store that is to have them at hand, which needs
--- them where the same store would want them.
+-- The call replaces nodes. If it asks for some it needs them as well. `StorePre`, which asks for them beforehand, needs them
+-- only if the same store would.
 abbrev pub Replaces : Kind → List Range → Call → Type 0
 Replaces kind m (Store first last entry) = Wants kind m (Store first last entry)
 Replaces kind m (StorePre first last entry) = Wants kind m (Store first last entry)
@@ -63,7 +63,7 @@ Replaces kind m (Gap size min max) = ⊥
 Replaces kind m (Rgap size min max) = ⊥
 Replaces kind m Clear = ⊥
 
--- of free rows it took so many at the most, and none where it replaces none
+-- of the free nodes it took at most this many, and none if it replaces none
 pub record TookRows (kind : Kind) (s : Sheet) (free : List ℕ) (book' : Book) (call : Call) : Type 0 where
   pub taken : List ℕ
   pub free_were : free ≡ book'.free ++ taken
@@ -82,7 +82,7 @@ is_refusal answers.Invalid = true
 is_refusal answers.Busy = true
 is_refusal (answers.NoNodes shortage) = true
 
--- The call did what it says: the words stand for the map after it, and a refusal left every word. One that wants no rows made
+-- The call did what it says: the words represent the map after it, and a refusal left every word. If it needs no nodes, it made
 -- no scan and took none.
 pub record IsCarriedOut (kind : Kind) (s s' : Sheet) (book book' : Book) (call : Call) (reply : Reply) : Type 0 where
   pub acts : acted kind (map_by s.tree) call ≡ (map_by s'.tree, reply)
@@ -91,14 +91,15 @@ pub record IsCarriedOut (kind : Kind) (s s' : Sheet) (book book' : Book) (call :
   pub took : Wants kind (map_by s.tree) call → TookRows kind s (after_reclaim book s'.scan.least).free book' call
   pub calm : (Wants kind (map_by s.tree) call → ⊥) → (s'.scans ≡ 0) × (s'.scan ≡ s.scan) × (book'.free ≡ book.free)
 
--- so many rows of the book are free, live and held
+-- this many nodes of the book are free, live and held
 pub record TellsBook (book : Book) (short : Shortage) : Type 0 where
   pub free : short.free ≡ length book.free
   pub live : short.live ≡ live_count book
   pub held : short.held ≡ length book.held
 
--- The call wants rows, and a scan of it found fewer free than three for each level and one, when the held rows were free that
--- no section holds. The shortage tells the height, the book as it is then, and whose section holds rows back.
+-- The call needs nodes, and a scan of it found fewer free than three for each level and one, once the held nodes that no
+-- section holds were freed. The shortage has the height and the numbers of the book then, and names whose section holds nodes
+-- back.
 pub record IsShortFor (kind : Kind) (s s' : Sheet) (book book' : Book) (call : Call) (reply : Reply) : Type 0 where
   pub refused : IsRefused kind (limits_of s) (map_by s.tree) call reply
   pub counted : IsRealShortage s' refused.shortage
@@ -107,12 +108,12 @@ pub record IsShortFor (kind : Kind) (s s' : Sheet) (book book' : Book) (call : C
   pub freed : book' ≡ after_reclaim book s'.scan.least
   pub tells : TellsBook book' refused.shortage
 
--- It did what it says, with rows enough where it wanted some; or it was refused for want of rows, which left every word.
+-- It did what it says, with nodes enough where it wanted some; or it was refused for lack of nodes, which left every word.
 abbrev pub DidOrLacked : Kind → Sheet → Sheet → Book → Book → Call → Reply → Type 0
 DidOrLacked kind s s' book book' call reply = IsCarriedOut kind s s' book book' call reply ⊎ (IsShortFor kind s s' book book' call reply × (s'.tree ≡ s.tree))
 
--- What every call leaves: the rows are between two calls again, one more call has ended, and it is told where records are, of
--- the same caller.
+-- What every call leaves: the nodes are between two calls again, one more call has ended, and it is recorded if there are
+-- records, of the same caller.
 pub record IsEnded (kind : Kind) (s s' : Sheet) (book' : Book) (call : Call) (reply : Reply) : Type 0 where
   pub idle : IsIdle kind s' book'
   pub ended : s'.ended ≡ s.ended + 1
@@ -135,11 +136,11 @@ OnlySearches (Gap size min max) reply = Unit {0}
 OnlySearches (Rgap size min max) reply = Unit {0}
 OnlySearches Clear reply = ⊥
 
--- as many words as a search may load: twice those of three rows for each level, and the root word
+-- as many words as a search may load: twice those of three nodes for each level, and the root word
 abbrev pub most_searched : Rooted → ℕ
 most_searched t = 2 * (3 * height_in t.table t.root * columns t.table.width + 1)
 
--- What a search leaves: every word, and the book; and it loaded so many words at the most.
+-- What a search leaves: every word, and the book; and it loaded at most this many words.
 pub record OnlySought (s s' : Sheet) (book book' : Book) : Type 0 where
   pub tree : s'.tree ≡ s.tree
   pub same_book : book' ≡ book
@@ -153,7 +154,7 @@ LoadsItsWay index s s' = index ≤ greatest s.tree.table.width → ReadsUpTo (lo
 abbrev pub with_entry_at : Rooted → ℕ → ℕ → Rooted
 with_entry_at t index entry = with_word t (leaf_in t index).row (slot_column (slots_of t.table.width Leaf) (leaf_in t index).slot) entry
 
--- The entry at an index is another, and nothing else: no other word, no row's life, and not the book.
+-- The entry at an index is another, and nothing else: no other word, no node's life, and not the book.
 pub record ChangesEntry (t t' : Rooted) (lives lives' : List Life) (book book' : Book) (index entry : ℕ) : Type 0 where
   pub tree : t' ≡ with_entry_at t index entry
   pub each_life : (row : ℕ) → first_row ≤ row → row < first_row + t.rows → life_of lives' row ≡ life_of lives row
@@ -165,7 +166,7 @@ StoresExactly s s' book book' call reply =
     (first last entry : ℕ) → call ≡ Store first last entry → is_exact_store (map_by s.tree) first last entry ≡ true → is_refusal reply ≡ false
     → ChangesEntry s.tree s'.tree s.lives s'.lives book book' first entry
 
--- What a call is and leaves. It made one scan at the most.
+-- What a call is and leaves. It made one scan at most.
 pub record IsApplied (kind : Kind) (s s' : Sheet) (book book' : Book) (call : Call) (reply : Reply) : Type 0 where
   pub ended : IsEnded kind s s' book' call reply
   pub scans : s'.scans ≤ 1
@@ -173,7 +174,7 @@ pub record IsApplied (kind : Kind) (s s' : Sheet) (book book' : Book) (call : Ca
   pub search : OnlySearches call reply → OnlySought s s' book book'
   pub exact : StoresExactly s s' book book' call reply
 
--- What a call in flight has come to when it may end with this reply: what it leaves by its end, and what it did.
+-- How far a call in flight has come when it may end with this reply: what it leaves by its end, and what it did.
 pub record EndsAnswered (kind : Kind) (s s' : Sheet) (book book' : Book) (call : Call) (reply : Reply) : Type 0 where
   pub may : MayFinish kind s' call reply
   pub ended : IsEnded kind s (finished s' call reply) book' call reply

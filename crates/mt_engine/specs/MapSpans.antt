@@ -7,7 +7,7 @@ use Rattle.mt_engine.specs.Prelude.{Range, holding, is_held, Span}
 abbrev pub range_of : Span → Range
 range_of x = record { first = x.first; last = x.last; entry = x.word }
 
--- a range of the map, or a hole from the range before it, or 0, to the range behind it, or the greatest index
+-- a range of the map, or a hole: from the range before it, or 0, to the range after it, or the greatest index
 pub record IsSpanAt (m : List Range) (top index : ℕ) (x : Span) : Type 0 where
   pub from : x.first ≤ index
   pub to : index ≤ x.last

@@ -1,4 +1,4 @@
--- What a call comes to on a tree: nothing, a store, or the end of all ranges.
+-- What a call does to a tree: nothing, a store, or the end of all ranges.
 -- Source: the kernel's documentation of the maple tree; an erase is a store of no entry over the range.
 use Rattle.std.specs.Prelude.{◌≡◌, ◌≢◌, ◌≤◌, ◌||◌, ◌==◌, not, ℕ, Bool, false, List, Option, Some, None, nat_lt}
 use Rattle.mt_engine.specs.Prelude.{Call, Store, StorePre, Insert, Erase, Alloc, Ralloc, Gap, Rgap, Clear, Kind, Range, Reply, acted, first_met, is_held, Wants, greatest, Rooted, Sheet, RoseUpTo, map_by, Handle, PathStep, path_in, IsStoreBy}
@@ -40,7 +40,7 @@ IsPlan kind t call path (plans.Nothing reply) = (acted kind (map_by t) call ≡ 
 IsPlan kind t call path (plans.Store write reply) = IsStorePlan kind t call path write reply
 IsPlan kind t call path plans.Empty = (call ≡ Clear) × (t.root ≢ 0)
 
--- a call that comes to nothing and only searched has loaded few words
+-- a call that changes nothing and only searched has loaded few words
 abbrev pub IsSearched : Sheet → Sheet → Call → Plan → Type 0
 IsSearched s s' call (plans.Nothing reply) = OnlySearches call reply → RoseUpTo (most_searched s.tree) s.reads s'.reads
 IsSearched s s' call (plans.Store write reply) = Unit {0}
@@ -50,8 +50,8 @@ IsSearched s s' call plans.Empty = Unit {0}
 abbrev pub IsMet : Rooted → Option Handle → ℕ → Option Range → Type 0
 IsMet t here last met = (first : ℕ) → first ≤ last → last ≤ greatest t.table.width → IsHereAt t first here → met ≡ first_met (map_by t) first last
 
--- A range holds an index from that of a slot up to `last`: one stands in the slot, or right behind a hole there that ends
--- before `last`.
+-- A range holds an index from that of a slot up to `last`: it is in the slot, or right after a hole there that ends before
+-- `last`.
 abbrev pub is_range_met : Option Handle → ℕ → Bool
 is_range_met None last = false
 is_range_met (Some handle) last = not (handle.span.word == 0) || nat_lt handle.span.last last

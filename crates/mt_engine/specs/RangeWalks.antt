@@ -1,5 +1,5 @@
--- A walk over the ranges of a tree, in rising order: which range comes next, and where the walk stands then.
--- Source: the kernel's include/linux/maple_tree.h, mas_for_each, whose mas_find goes on in the leaf where it stands.
+-- A walk over the ranges of a tree, in rising order: which range comes next, and where the walk then is.
+-- Source: the kernel's include/linux/maple_tree.h, mas_for_each, whose mas_find goes on in the leaf where it is.
 use Rattle.std.specs.Prelude.{◌≡◌, ◌≢◌, ◌==◌, ℕ, ◌+◌, ◌≤◌, nat_le, List, Option, Some, None, IfSome, if◌then◌else◌}
 use Rattle.std.specs.Option.{option_map}
 use Rattle.mt_engine.specs.Prelude.{Range, Find, answer, greatest, Rooted, Sheet, ReadsUpTo, Handle, IsHandleOf}
@@ -15,7 +15,7 @@ found_from m top (Some index) = answer m (Find index top)
 abbrev pub index_in : ℕ → ℕ → Option ℕ
 index_in top index = if nat_le index top then Some index else None
 
--- the index behind a range, where there is one
+-- the index after a range, if there is one
 abbrev pub index_behind : ℕ → Option Range → Option ℕ
 index_behind top None = None
 index_behind top (Some r) = if r.last == top then None else Some (r.last + 1)
@@ -24,12 +24,12 @@ index_behind top (Some r) = if r.last == top then None else Some (r.last + 1)
 abbrev pub range_at : Option Handle → Option Range
 range_at here = option_map (λ (h : Handle). range_of h.span) here
 
--- Where the slot that was given last does not end its leaf, so many words were loaded at the most: the pivots and the slots of
+-- If the slot that was returned last does not end its leaf, at most this many words were loaded: the pivots and the slots of
 -- two.
 abbrev pub StepsWithin : RangeWalk → Sheet → Sheet → Type 0
 StepsWithin walk s s' = IfSome walk.last (λ handle. handle.span.last ≢ handle.leaf.max → ReadsUpTo 4 s s')
 
--- The walk is one of this tree as it stands: it goes on from an index, which stands right behind the slot that it gave last.
+-- The walk is one of this tree as it is. It goes on from an index right after the slot that it returned last.
 pub record WalksFrom (t : Rooted) (walk : RangeWalk) : Type 0 where
   pub within : IfSome walk.next (λ index. index ≤ greatest t.table.width)
   pub given : IfSome walk.last (λ handle. IsHandleOf t handle × IfSome walk.next (λ index. index ≡ handle.span.last + 1))

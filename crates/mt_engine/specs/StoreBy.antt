@@ -1,5 +1,5 @@
--- By what a store can be carried out, as what stands at its first index tells.
--- Source: the kernel's lib/maple_tree.c, mas_wr_store_entry, which tells a store that changes one slot from others.
+-- How a store can be carried out, depending on what is at its first index.
+-- Source: the kernel's lib/maple_tree.c, mas_wr_store_entry, which distinguishes a store that changes one slot from others.
 use Rattle.std.specs.Prelude.{◌≡◌, ◌≢◌, ℕ, ◌≤◌, Option, Some, None}
 use Rattle.mt_engine.specs.Prelude.{Rooted, Handle}
 use Rattle.mt_engine.specs.Here.{IsHereAt}
@@ -7,7 +7,7 @@ use Rattle.mt_engine.specs.declared.store_by.StoreBy.{StoreBy}
 use Rattle.mt_engine.specs.declared.store_by.StoreBy.TheVariants.{NoWord, OneWord, NewRows}
 use Rattle.mt_engine.specs.declared.store_by.Write.{Write}
 
--- a hole is to be stored where a hole stands already
+-- a hole is to be stored where a hole is already
 pub record IsHoleOver (handle : Handle) (last entry : ℕ) : Type 0 where
   pub no_entry : entry ≡ 0
   pub hole : handle.span.word ≡ 0
@@ -28,7 +28,7 @@ IsDoneBy (Some handle) first last entry (OneWord at) = (at ≡ handle) × IsExac
 IsDoneBy None first last entry NewRows = entry ≢ 0
 IsDoneBy (Some handle) first last entry NewRows = (IsHoleOver handle last entry → ⊥) × (IsExactly handle first last entry → ⊥)
 
--- the store can be carried out so, as what stands at its first index tells
+-- the store can be carried out so, by what is at its first index
 pub record IsWriteAt (t : Rooted) (write : Write) : Type 0 where
   pub here : Option Handle
   pub stands : IsHereAt t write.edit.first here

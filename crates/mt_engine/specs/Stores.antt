@@ -1,4 +1,4 @@
--- What a store is and leaves whose rows are at hand, so that it makes no scan.
+-- What a store is and leaves whose nodes are at hand, so that it makes no scan.
 -- Source: this project's own; the kernel's mas_store_prealloc stores with the nodes that mas_preallocate asked for.
 use Rattle.std.specs.Prelude.{◌≡◌, Bool, true, false}
 use Rattle.mt_engine.specs.Prelude.{Call, Store, StorePre, Insert, Erase, Alloc, Ralloc, Gap, Rgap, Clear, Kind, Reply, acted, Book, Sheet, MayFinish, map_by, finished}
@@ -7,7 +7,7 @@ use Rattle.mt_engine.specs.Rooms.{HasRoom}
 use Rattle.mt_engine.specs.declared.store_by.StoreBy.{StoreBy}
 use Rattle.mt_engine.specs.declared.store_by.StoreBy.TheVariants.{NoWord, OneWord, NewRows}
 
--- enough rows are free, where the call replaces some
+-- enough nodes are free, where the call replaces some
 abbrev pub HasRoomFor : Kind → Sheet → Book → Call → Type 0
 HasRoomFor kind s book call = Replaces kind (map_by s.tree) call → HasRoom s.tree book
 
@@ -16,7 +16,7 @@ pub record IsUnscanned (s s' : Sheet) : Type 0 where
   pub scans : s'.scans ≡ s.scans
   pub scan : s'.scan ≡ s.scan
 
--- A call in flight has done what it says by a store, with no scan, and may end so. It took rows only where it replaces some.
+-- A call in flight has done what it says by a store, with no scan, and may end so. It took nodes only where it replaces some.
 pub record IsDoneByStore (kind : Kind) (s s' : Sheet) (book book' : Book) (call : Call) (reply : Reply) : Type 0 where
   pub may : MayFinish kind s' call reply
   pub ended : IsEnded kind s (finished s' call reply) book' call reply
@@ -29,7 +29,7 @@ is_by_rows NoWord = false
 is_by_rows (OneWord at) = false
 is_by_rows NewRows = true
 
--- a store that is to have its rows at hand wants them whatever it is carried out by, any other where it is by new rows
+-- `StorePre` asks for its nodes however it is carried out, any other store only if it is carried out by new nodes
 abbrev pub wants_by : Call → StoreBy → Bool
 wants_by (StorePre first last entry) by = true
 wants_by (Store first last entry) by = is_by_rows by

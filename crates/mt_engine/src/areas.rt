@@ -1,4 +1,4 @@
-//! What a search for room comes to, and a call that stores where it finds some.
+//! The result of a search for room, and of a call that stores where it finds some.
 
 ghost use Rattle.std.specs.Prelude.{◌≡◌, ◌+◌, ◌*◌, ◌<◌, ◌≤◌, List, [], IsNone, IfSome};
 ghost use Rattle.std.specs.Option.{option_map};
@@ -31,7 +31,7 @@ pub enum Sought {
     Highest,
 }
 
-/// What place is wanted: so many indexes in one hole and in the window from `min` to `max`.
+/// What place is wanted: `size` indexes in one hole and in the window from `min` to `max`.
 #[derive(Clone, Copy, Debug, PartialEq, Eq)]
 pub struct Wanted {
     pub size: u64,
@@ -39,7 +39,7 @@ pub struct Wanted {
     pub max: u64,
 }
 
-/// The start of the place that is sought, with a blank for a count of the steps, of which nothing is told.
+/// The start of the place that is sought, with a blank for a count of the steps, which is not used.
 #[tactic(auto, using(mt_gap::proofs::Readings::within_steps))]
 fn start_by<R: Rows, L: Ledger>(
     rows: &mut R,
@@ -72,7 +72,7 @@ fn start_of<R: Rows>(rows: &mut R, sought: Sought, wanted: Wanted) -> Option<u64
     start_by::<R, Brand>(rows, sought, wanted, Blank::new(1))
 }
 
-/// The place that is sought, with the way to it, by a blank for a count of the steps, of which nothing is told.
+/// The place that is sought, with the path to it, by a blank for a count of the steps, which is not used.
 fn area_by<R: Rows, L: Ledger>(
     rows: &mut R,
     sought: Sought,
@@ -117,7 +117,7 @@ fn area_of<R: Rows>(
     area_by::<R, Brand>(rows, sought, wanted, path, Blank::new(1))
 }
 
-/// What an allocation comes to, with the path to the place that was found.
+/// The plan of an allocation, with the path to the place that was found.
 #[inline(always)]
 pub fn plan_allocation<R: Rows>(
     rows: &mut R,
@@ -153,7 +153,7 @@ pub fn plan_allocation<R: Rows>(
     }
 }
 
-/// What a search alone comes to.
+/// The plan of a search alone.
 pub fn plan_search<R: Rows>(rows: &mut R, kind: Kind, sought: Sought, wanted: Wanted) -> Plan
     requires tree { IsLawfulOf (R.sheet rows.old).tree kind }
     ensures plan { (path : List PathStep) → IsPlan kind (R.sheet rows.old).tree (search sought wanted.size wanted.min wanted.max) path result }

@@ -1,4 +1,4 @@
-//! The calls that write, each by one publishing store at the most.
+//! The calls that write, each by one publishing store at most.
 
 ghost use Rattle.std.specs.Prelude.{◌≡◌, ◌+◌, ◌-◌, ◌^◌, ◌<◌};
 ghost use Rattle.mt_engine.specs.Engine.{IsInCall, EndsAnswered, IsApplied, OnlySearches, OnlySought, StoresExactly};
@@ -63,8 +63,8 @@ fn perform<R: Rows>(
     }
 }
 
-/// Makes one call on a tree of this kind: it does what the call says and answers so, or it refuses for want of rows and
-/// leaves every word.
+/// Makes one call on a tree of this kind: it does what the call says and answers so, or it refuses for lack of nodes and leaves
+/// every word.
 pub fn apply<R: Rows>(
     rows: &mut R,
     book: &mut RowBook,

@@ -28,8 +28,8 @@ use mt_splice::Edit;
 use std::alloc::Global;
 use std::marker::Model;
 
-/// A tree on one thread: its rows, the book of them, its kind, and how many levels it has. Its meaning is what the rows and
-/// the book mean. Between two calls the words are lawful and the book is of these rows.
+/// A tree on one thread: its nodes, the book of them, its kind, and how many levels it has. Its meaning is what the nodes and
+/// the book mean. Between two calls the words are well-formed and the book is of these nodes.
 #[derive(Drop)]
 pub struct Engine<R: Rows> {
     rows: R,
@@ -50,7 +50,7 @@ impl<R: Rows> Model for Engine<R> {
 }
 
 impl<R: Rows> Engine<R> {
-    /// An engine over rows that are between two calls, with the book of them. The height of the tree is found by a way down.
+    /// An engine over nodes that are between two calls, with the book of them. The height of the tree is found by a way down.
     pub fn new(rows: R, book: RowBook, kind: Kind) -> Self
         requires { IsIdle kind (R.sheet rows) book }
         ensures sheet { ReadsUpTo (14 * height_in (R.sheet rows).tree.table (R.sheet rows).tree.root + 1) (R.sheet rows) result.sheet }
@@ -67,7 +67,7 @@ impl<R: Rows> Engine<R> {
         }
     }
 
-    /// The same where it is known how many levels the tree has. It loads nothing.
+    /// An engine for a tree whose number of levels is known. It loads nothing.
     pub fn of_height(rows: R, book: RowBook, kind: Kind, height: u64) -> Self
         requires idle { IsIdle kind (R.sheet rows) book }
         requires height { HasHeight (R.sheet rows).tree height }
@@ -90,7 +90,7 @@ impl<R: Rows> Engine<R> {
         self.height
     }
 
-    /// The rows and the book, from which an engine of the same kind can be made again.
+    /// The nodes and the book, from which an engine of the same kind can be made again.
     pub fn parts(self) -> (R, RowBook)
         ensures rows { R.sheet result.0 ≡ self.sheet }
         ensures book { result.1 ≡ self.book }
@@ -99,7 +99,7 @@ impl<R: Rows> Engine<R> {
         (self.rows, self.book)
     }
 
-    /// Makes one call: it does what the call says and answers so, or it answers that too few rows are free, and leaves every
+    /// Makes one call: it does what the call says and answers so, or it answers that too few nodes are free, and leaves every
     /// word.
     pub fn apply(&mut self, call: &Call) -> Reply
         requires { self.old.sheet.ended < 2 ^ 62 - 1 }
@@ -115,20 +115,20 @@ impl<R: Rows> Engine<R> {
         )
     }
 
-    /// Whether a store may be made by `store_prealloc`: three rows for each level, and one, are free. Only `apply` and
-    /// `store_prealloc` take rows.
+    /// Whether a store may be made by `store_prealloc`: three nodes for each level, and one, are free. Only `apply` and
+    /// `store_prealloc` take nodes.
     pub fn ready(&self) -> bool
         ensures { IsTrue result ↔ HasRoom self.now.sheet.tree self.now.book }
     {
         has_room(&self.book, self.height)
     }
 
-    /// Makes it ready for a store: scans, and frees the rows that no section holds. Where fewer than three rows for each level
-    /// and one are free then, the shortage tells so. All else stays, and no call is made.
+    /// Makes the engine ready for a store: scans, and frees the nodes that no section holds. If fewer than three nodes for each
+    /// level and one are then free, the shortage says so. All else stays, and no call is made.
     ///
     /// # Errors
     ///
-    /// The shortage, where too few rows are free.
+    /// The shortage, where too few nodes are free.
     pub fn preallocate(&mut self) -> Result<(), Shortage>
         requires { self.old.sheet.ended < 2 ^ 64 }
         ensures scanned { IsScanned self.old.kind self.old.sheet self.new.sheet self.old.book self.new.book }
@@ -140,7 +140,7 @@ impl<R: Rows> Engine<R> {
     }
 
     /// Makes one store for which it is ready: it does what a `StorePre` says and answers so. It makes no scan, and is never
-    /// refused for want of rows.
+    /// refused for lack of nodes.
     pub fn store_prealloc(&mut self, first: u64, last: u64, entry: u64) -> Reply
         requires ready { HasRoom self.old.sheet.tree self.old.book }
         requires few { self.old.sheet.ended < 2 ^ 62 - 1 }
@@ -156,7 +156,7 @@ impl<R: Rows> Engine<R> {
         )
     }
 
-    /// Answers one query: there is none where no range fits it.
+    /// Answers one query. There is no answer if no range fits it.
     pub fn ask(&mut self, query: &Query) -> Option<Range>
         ensures answer { result ≡ answer (map_by self.old.sheet.tree) query.now }
         ensures rest { OnlyReads self.old.sheet self.new.sheet }
@@ -166,7 +166,7 @@ impl<R: Rows> Engine<R> {
         queries::ask(&mut self.rows, query)
     }
 
-    /// The entry that an index holds: there is none where it lies in a hole. It takes less than to ask for the range.
+    /// The entry that an index holds. There is none if it lies in a hole. It costs less than to ask for the range.
     pub fn load(&mut self, index: u64) -> Option<u64>
         ensures entry { result ≡ option_map (λ r. r.entry) (answer (map_by self.old.sheet.tree) (Load index)) }
         ensures rest { OnlyReads self.old.sheet self.new.sheet }
@@ -177,7 +177,7 @@ impl<R: Rows> Engine<R> {
         queries::entry_at(&mut self.rows, index)
     }
 
-    /// A walk over the ranges from an index on; there is none where the index is above the greatest one. It loads nothing.
+    /// A walk over the ranges from an index on. There is none if the index is above the greatest one. It loads nothing.
     pub fn walk_from(&self, index: u64) -> RangeWalk
         ensures walk { WalksFrom self.now.sheet.tree result }
         ensures next { result.next ≡ index_in (greatest self.now.sheet.tree.table.width) index }
@@ -185,8 +185,8 @@ impl<R: Rows> Engine<R> {
         walk_from(&self.rows, index)
     }
 
-    /// The first range at a walk's index or above, from behind which the walk goes on then. The walk is one of the tree as it
-    /// stands. There is none where no range ends there or above.
+    /// The first range at a walk's index or above; the walk then goes on after it. The walk is one of the tree as it is. There
+    /// is none if no range ends there or above.
     pub fn next_range(&mut self, walk: &mut RangeWalk) -> Option<Range>
         requires { WalksFrom self.old.sheet.tree walk.old }
         ensures range { result ≡ found_from (map_by self.old.sheet.tree) (greatest self.old.sheet.tree.table.width) walk.old.next }

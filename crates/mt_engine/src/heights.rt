@@ -16,8 +16,8 @@ pub fn is_root(place: &Place) -> bool
     matches!(place, Place::Root)
 }
 
-/// The number of levels, found on the way to the first index: in each row nine pivots and three slots at the most are
-/// loaded, and before them the root word.
+/// The number of levels, found on the way to the first index: in each node nine pivots and three slots at most are loaded, and
+/// before them the root word.
 pub fn height_of<R: Rows>(rows: &mut R) -> u64
     requires tree { (kind : Kind) × IsTreeOf (R.sheet rows.old).tree kind }
     ensures height { HasHeight (R.sheet rows.old).tree result }

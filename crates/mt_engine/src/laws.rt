@@ -1,4 +1,4 @@
-//! What holds of trees and of what stands in them. Each law is the contract of a function that does nothing.
+//! What holds of trees and of what they hold. Each law (lemma) is the contract of a function that does nothing.
 
 ghost use Rattle.std.specs.Prelude.{◌≢◌, ◌≤◌, ℕ};
 ghost use Rattle.mt_base.specs.declared.kinds.Kind.{Kind};
@@ -9,12 +9,12 @@ ghost use Rattle.mt_rows.specs.Sheet.{Rooted};
 ghost use Rattle.mt_path.specs.Handles.{handle_in};
 ghost use Rattle.mt_engine.specs.MapSpans.{IsSpanAt};
 
-/// The words of a tree stand for a map of its kind: its ranges rise, none is empty, and none ends above the greatest index.
+/// The words of a tree represent a map of its kind: its ranges rise, none is empty, and none ends above the greatest index.
 pub fn words_stand_for_a_map()
     ensures { (t : Rooted) (kind : Kind) → IsTreeOf t kind → IsMap kind (map_by t) }
 {}
 
-/// What stands in the slot of an index is what the map has there: the range that holds it, or the whole hole around it.
+/// The slot of an index has what the map has there: the range that holds it, or the whole hole around it.
 pub fn a_slot_has_what_the_map_has()
     ensures { (t : Rooted) (kind : Kind) (index : ℕ) → IsTreeOf t kind → t.root ≢ 0 → index ≤ greatest t.table.width → IsSpanAt (map_by t) (greatest t.table.width) index (handle_in t index).span }
 {}

@@ -10,7 +10,7 @@ use mt_base::{NoMemory, Range};
 use mt_rows::Rows;
 use std::alloc::Global;
 
-/// All ranges of the map that the words stand for, in rising order.
+/// All ranges of the map that the words represent, in rising order.
 pub fn list<R: Rows>(rows: &mut R, alloc: Global) -> Result<Vec<Range>, NoMemory>
     requires tree { (kind : Kind) × IsTreeOf (R.sheet rows.old).tree kind }
     ensures items { IfOk result (λ ranges. ranges.items ≡ map_by (R.sheet rows.old).tree) }

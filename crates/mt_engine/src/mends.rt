@@ -1,4 +1,4 @@
-//! Gap words behind a replacement of rows.
+//! Gap words after a replacement of nodes.
 
 ghost use Rattle.std.specs.Prelude.{◌≡◌, ◌+◌, ◌-◌, ◌≤◌, ◌<◌, ℕ, IsTrue, length};
 ghost use Rattle.mt_base.specs.declared.kinds.Kind.{Kind};
@@ -16,7 +16,7 @@ use mt_path::{Path, walk_to};
 use mt_rows::{Place, Rows};
 use mt_splice::Spliced;
 
-/// Whether a place is the slot in which a path enters its leaf, in a row with gaps.
+/// Whether a place is the slot in which a path enters its leaf, in a node with gaps.
 fn is_of_leaf(width: Width, place: Place, path: &Path) -> bool
     requires slot { 2 ≤ length path.now.items → (step_at path.now.items (length path.now.items - 2)).slot < slots_of width Gapped }
     ensures { IsTrue result → IsPlaceOfLeaf width place path.now.items }
@@ -33,7 +33,7 @@ fn is_of_leaf(width: Width, place: Place, path: &Path) -> bool
         }
 }
 
-/// The row of a path's leaf, and 0 where the path is empty.
+/// The node of a path's leaf, and 0 where the path is empty.
 fn leaf_on(path: &Path) -> u32
     ensures { (level : ℕ) → level + 1 ≡ length path.now.items → (step_at path.now.items level).row ≡ result }
 {

@@ -1,4 +1,4 @@
-//! What a call comes to on the tree as it stands.
+//! The plan of a call on the tree as it is.
 
 ghost use Rattle.std.specs.Prelude.{◌≡◌, ℕ, List, [], true, IfSome};
 ghost use Rattle.mt_base.specs.declared.kinds.Kind.{Kind};
@@ -31,7 +31,7 @@ pub enum Plan {
     Empty,
 }
 
-/// Whether a range holds an index from that of a slot up to `last`: one stands in the slot, or right behind the hole there.
+/// Whether a range holds an index from that of a slot up to `last`: it is in the slot, or right after the hole there.
 fn is_taken(here: &Option<Handle>, last: u64) -> bool
     ensures { result ≡ is_range_met here.now last }
 {
@@ -41,7 +41,8 @@ fn is_taken(here: &Option<Handle>, last: u64) -> bool
     }
 }
 
-/// The first range that holds an index from that of a slot up to `last`. A hole that reaches `last` is told by the slot alone.
+/// The first range that holds an index from that of a slot up to `last`. If a hole reaches `last`, the slot alone shows that
+/// there is none.
 fn met<R: Rows>(rows: &mut R, here: &Option<Handle>, last: u64) -> Option<Range>
     requires tree { (kind : Kind) × IsTreeOf (R.sheet rows.old).tree kind }
     requires here { IfSome here.now (IsHandleOf (R.sheet rows.old).tree) }
@@ -64,7 +65,7 @@ fn replied(met: Option<Range>) -> Reply
     met.map_or(Reply::Ok, |range| Reply::Over(range.entry))
 }
 
-/// What a store comes to, with the path to its first index.
+/// The plan of a store, with the path to its first index.
 #[inline(always)]
 pub fn plan_store<R: Rows>(rows: &mut R, kind: Kind, edit: Edit, path: &mut Path) -> Plan
     requires tree { IsTreeOf (R.sheet rows.old).tree kind }
@@ -88,7 +89,7 @@ pub fn plan_store<R: Rows>(rows: &mut R, kind: Kind, edit: Edit, path: &mut Path
     }
 }
 
-/// What an insert comes to, with the path to its first index.
+/// The plan of an insert, with the path to its first index.
 fn plan_insert<R: Rows>(rows: &mut R, kind: Kind, edit: Edit, path: &mut Path) -> Plan
     requires tree { IsTreeOf (R.sheet rows.old).tree kind }
     requires empty { path.old.items ≡ [] }
@@ -113,8 +114,8 @@ fn plan_insert<R: Rows>(rows: &mut R, kind: Kind, edit: Edit, path: &mut Path) -
     }
 }
 
-/// What an erase comes to, with the path to its index: a hole over the whole range that holds it, to whose first index the
-/// path leads as well.
+/// The plan of an erase, with the path to its index: a hole over the whole range that holds it, to whose first index the path
+/// leads as well.
 fn plan_erase<R: Rows>(rows: &mut R, kind: Kind, index: u64, path: &mut Path) -> Plan
     requires tree { IsTreeOf (R.sheet rows.old).tree kind }
     requires empty { path.old.items ≡ [] }
@@ -143,7 +144,7 @@ fn plan_erase<R: Rows>(rows: &mut R, kind: Kind, index: u64, path: &mut Path) ->
     }
 }
 
-/// What a clear comes to.
+/// The plan of a clear.
 fn plan_clear<R: Rows>(rows: &mut R) -> Plan
     ensures plan { (kind : Kind) (path : List PathStep) → IsPlan kind (R.sheet rows.old).tree Clear path result }
     ensures rest { OnlyReads (R.sheet rows.old) (R.sheet rows.new) }
@@ -154,7 +155,7 @@ fn plan_clear<R: Rows>(rows: &mut R) -> Plan
     Plan::Empty
 }
 
-/// What a call comes to. Where that is a store, the path to its first index is left in `path`.
+/// The plan of a call. If that is a store, the path to its first index is left in `path`.
 pub fn plan_of<R: Rows>(rows: &mut R, kind: Kind, call: &Call, path: &mut Path) -> Plan
     requires tree { IsLawfulOf (R.sheet rows.old).tree kind }
     requires empty { path.old.items ≡ [] }

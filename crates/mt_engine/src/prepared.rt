@@ -1,4 +1,4 @@
-//! Stores for which rows were found free beforehand.
+//! Stores for which nodes were found free beforehand.
 
 ghost use Rattle.std.specs.Prelude.{◌≡◌, ◌+◌, ◌-◌, ◌^◌, ◌<◌, true};
 ghost use Rattle.mt_base.specs.declared.calls.Call.TheVariants.{StorePre};
@@ -17,7 +17,7 @@ use mt_path::Path;
 use mt_rows::Rows;
 use mt_splice::{Edit, Event};
 
-/// Carries out the store of this number, which was begun, with rows that are free, and gives the reply that it may end with.
+/// Carries out the store of this number, which was begun, with nodes that are free, and gives the reply that it may end with.
 fn perform_prepared<R: Rows>(
     rows: &mut R,
     book: &mut RowBook,
@@ -53,7 +53,7 @@ fn perform_prepared<R: Rows>(
     }
 }
 
-/// Makes one store for which rows were found free: it does what the call says and answers so. It makes no scan.
+/// Makes one store for which nodes were found free: it does what the call says and answers so. It makes no scan.
 pub fn store_prepared<R: Rows>(
     rows: &mut R,
     book: &mut RowBook,

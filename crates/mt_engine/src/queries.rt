@@ -19,7 +19,7 @@ use mt_layout::Span;
 use mt_path::{Handle, before, behind, handle_at, span_for};
 use mt_rows::Rows;
 
-/// The greatest index of the tree that rows hold.
+/// The greatest index of the tree that nodes hold.
 pub fn top_of<R: Rows>(rows: &R) -> u64
     ensures { result ≡ greatest (R.sheet rows.now).tree.table.width }
 {
@@ -51,7 +51,7 @@ fn down_to(range: Option<Range>, min: u64) -> Option<Range>
     range.filter(|r| r.last >= min)
 }
 
-/// The slot of the first range that ends at an index of a slot or above: the slot itself, or the one right behind the hole
+/// The slot of the first range that ends at an index of a slot or above: the slot itself, or the one right after the hole
 /// there.
 pub fn slot_from<R: Rows>(rows: &mut R, here: &Handle) -> Option<Handle>
     requires tree { (kind : Kind) × IsTreeOf (R.sheet rows.old).tree kind }
@@ -182,7 +182,7 @@ fn rfind<R: Rows>(rows: &mut R, index: u64, min: u64) -> Option<Range>
     down_to(nearest_up_to(rows, &here), min)
 }
 
-/// Answers a query as the map answers it that the words stand for.
+/// Answers a query as the map that the words represent answers it.
 pub fn ask<R: Rows>(rows: &mut R, query: &Query) -> Option<Range>
     requires tree { (kind : Kind) × IsTreeOf (R.sheet rows.old).tree kind }
     ensures answer { result ≡ answer (map_by (R.sheet rows.old).tree) query.now }

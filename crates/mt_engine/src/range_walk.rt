@@ -14,8 +14,8 @@ use mt_base::{Range, Width, top};
 use mt_path::{Handle, behind, handle_at};
 use mt_rows::Rows;
 
-/// A place among the ranges of a tree, from which they are given in rising order: the index to go on from, and the slot that
-/// was given last. A call that changes the tree ends the walk: one is begun anew, from the index that comes next.
+/// A place among the ranges of a tree, from which they are returned in rising order: the index to go on from, and the slot that
+/// was returned last. A call that changes the tree ends the walk. Begin another one then, from the next index.
 #[derive(Clone, Copy, Debug, PartialEq, Eq)]
 pub struct RangeWalk {
     pub next: Option<u64>,
@@ -49,8 +49,7 @@ pub fn walk_from<R: Rows>(rows: &R, index: u64) -> RangeWalk
     RangeWalk::from_index(index)
 }
 
-/// What stands at the index that a walk goes on from: in the slot behind the one that it gave last, or by a way from the
-/// root.
+/// What is at the index that a walk goes on from: in the slot after the one that it returned last, or by a path from the root.
 fn slot_next<R: Rows>(rows: &mut R, walk: &RangeWalk) -> Option<Handle>
     requires tree { (kind : Kind) × IsTreeOf (R.sheet rows.old).tree kind }
     requires walk { WalksFrom (R.sheet rows.old).tree walk.now }
@@ -78,7 +77,7 @@ fn slot_found<R: Rows>(rows: &mut R, walk: &RangeWalk) -> Option<Handle>
     slot_from(rows, &here)
 }
 
-/// The index behind a slot, or none at the end.
+/// The index after a slot, or none at the end.
 fn index_behind(width: Width, given: &Handle) -> Option<u64>
     requires { given.now.span.last ≤ greatest width }
     ensures { result ≡ index_behind (greatest width) (range_at (Some given.now)) }
@@ -90,8 +89,8 @@ fn index_behind(width: Width, given: &Handle) -> Option<u64>
     Some(last + 1)
 }
 
-/// The first range at the walk's index or above, from behind which the walk goes on then. A slot of a leaf is loaded once,
-/// and a leaf is walked to once: a range in the leaf where the walk stands is found by the loads of two slots.
+/// The first range at the walk's index or above; the walk then goes on after it. A slot of a leaf is loaded once, and a leaf is
+/// walked to once. A range in the leaf of the walk is found by the loads of two slots.
 pub fn next_range<R: Rows>(rows: &mut R, walk: &mut RangeWalk) -> Option<Range>
     requires tree { (kind : Kind) × IsTreeOf (R.sheet rows.old).tree kind }
     requires walk { WalksFrom (R.sheet rows.old).tree walk.old }

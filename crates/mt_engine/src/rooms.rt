@@ -1,4 +1,4 @@
-//! Room for the rows that a call may take.
+//! Room for the nodes that a call may take.
 
 ghost use Rattle.std.specs.Prelude.{◌≡◌, ◌↔◌, ◌+◌, ◌*◌, ◌^◌, ◌<◌, ◌≤◌, IsTrue, IfOk, IfErr, length};
 ghost use Rattle.mt_base.specs.Width.{deepest};
@@ -11,7 +11,7 @@ use mt_base::Shortage;
 use mt_free::RowBook;
 use mt_rows::Rows;
 
-/// Whether three rows for each level, and one, are free.
+/// Whether three nodes for each level, and one, are free.
 pub fn has_room(book: &RowBook, height: u64) -> bool
     requires { height ≤ deepest }
     ensures { IsTrue result ↔ (3 * height + 1 ≤ length book.now.free) }
@@ -19,8 +19,8 @@ pub fn has_room(book: &RowBook, height: u64) -> bool
     3 * height + 1 <= book.free()
 }
 
-/// Scans, frees the rows that no section holds, and tells the shortage where fewer than three rows for each level and one
-/// are free then. No call need be in flight.
+/// Scans, frees the nodes that no section holds, and returns the shortage if fewer than three nodes for each level and one are
+/// then free. No call need be in flight.
 pub fn make_room<R: Rows>(rows: &mut R, book: &mut RowBook, height: u64) -> Result<(), Shortage>
     requires state { (kind : Kind) × IsEngineState kind (R.sheet rows.old) book.old }
     requires height { height ≡ height_in (R.sheet rows.old).tree.table (R.sheet rows.old).tree.root }

@@ -6,7 +6,7 @@ ghost use Rattle.mt_engine.specs.StoreBy.{IsDoneBy};
 use mt_path::Handle;
 use mt_splice::Edit;
 
-/// By what a store can be carried out: by no word, by one word in a slot, or by new rows.
+/// By what a store can be carried out: by no word, by one word in a slot, or by new nodes.
 #[derive(Clone, Copy, Debug, PartialEq, Eq)]
 pub enum StoreBy {
     NoWord,
@@ -21,7 +21,7 @@ pub struct Write {
     pub by: StoreBy,
 }
 
-/// The same where something stands at the store's first index.
+/// How a store can be carried out if there is something at its first index.
 fn store_by_at(here: Handle, edit: &Edit) -> StoreBy
     ensures { IsDoneBy (Some here) edit.now.first edit.now.last edit.now.entry result }
 {
@@ -36,7 +36,7 @@ fn store_by_at(here: Handle, edit: &Edit) -> StoreBy
     StoreBy::NewRows
 }
 
-/// By what a store can be carried out, as what stands at its first index tells; nothing stands in the empty tree.
+/// How a store can be carried out, depending on what is at its first index; the empty tree has nothing there.
 pub fn store_by(here: Option<Handle>, edit: &Edit) -> StoreBy
     ensures { IsDoneBy here edit.now.first edit.now.last edit.now.entry result }
 {

@@ -1,4 +1,4 @@
-//! Stores into a tree: by no word, by one word, or by new rows.
+//! Stores into a tree: by no word, by one word, or by new nodes.
 
 ghost use Rattle.std.specs.Prelude.{◌≡◌, ◌≢◌, ◌+◌, ◌-◌, ◌^◌, ◌<◌, IfOk, IfErr, false, true};
 ghost use Rattle.mt_base.specs.declared.kinds.Kind.{Kind};
@@ -39,7 +39,7 @@ fn place_of<R: Rows>(rows: &R, at: &Handle) -> Place
     }
 }
 
-/// Whether a call wants rows whose store is carried out so.
+/// Whether a call asks for nodes if its store is carried out so.
 fn wants_by(call: &Call, by: &StoreBy) -> bool
     ensures { result ≡ wants_by call.now by.now }
 {
@@ -49,9 +49,9 @@ fn wants_by(call: &Call, by: &StoreBy) -> bool
     }
 }
 
-/// Carries out a store, to whose first index the path leads: by no word where that leaves the map, by one where it is over
-/// just one range, else by new rows, which are at hand. It makes no scan. It tells whether the root is new, and so whether the
-/// tree may have another height.
+/// Carries out a store, to whose first index the path leads. It stores no word if that leaves the map, one word if it is over
+/// exactly one range, and else new nodes, which are at hand. It makes no scan. It returns whether the root is new, and so
+/// whether the tree may have another height.
 pub fn store_at_hand<R: Rows>(
     rows: &mut R,
     book: &mut RowBook,
@@ -83,7 +83,7 @@ pub fn store_at_hand<R: Rows>(
     }
 }
 
-/// The same, where rows are made free first if the call wants some; it tells the shortage where too few are.
+/// Carries out a store, after freeing nodes if the call needs some. Returns the shortage if too few are free.
 pub fn store<R: Rows>(
     rows: &mut R,
     book: &mut RowBook,
