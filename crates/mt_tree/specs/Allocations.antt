@@ -11,12 +11,12 @@ use Rattle.mt_tree.specs.Trees.{limit_of, map_seen, opened, passes_of}
 abbrev pub last_made : List Record → Option Made
 last_made records = option_map (λ (r : Record). record { call = r.call; reply = r.reply }) (slice_get records (length records - 1))
 
--- the tree has one pass, and no section of that stands open
+-- the tree has one handle, and that has no section open
 abbrev pub is_alone : ℕ → Option ℕ → Bool
 is_alone passes None = passes == 1
 is_alone passes (Some epoch) = false
 
--- the tree as the pass that has locked it sees it
+-- the tree as the handle that has locked it sees it
 abbrev pub allocation_of : Tree → known.Pass → Allocation
 allocation_of t p = record {
   kind = (opened t).kind;

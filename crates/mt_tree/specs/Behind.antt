@@ -1,28 +1,28 @@
--- What lies behind the lock of a tree: its pen, and the book of the rows on its table, whose words stand for the map after all
--- calls.
+-- What the lock of a tree protects: its pen (the writer's capability), and the book (node allocator) of its table. The table's
+-- words represent the map after all calls.
 -- Source: this project's own; the kernel's ma_lock guards the whole tree.
 use Rattle.std.specs.Prelude.{◌≡◌, ◌⊎◌, ℕ, ◌+◌, ◌/◌, ◌≤◌, Option, Some, None, List, length}
 use Rattle.mt_tree.specs.Prelude.{Reply, last_map, Parts, IsIdle, HasHeight, HasRoom, Book, new_book, no_table, map_by, Moment, PenPart, Shape, no_pen, pen_joined, records_of, pen_sheet, tree_of, Identity, IsAlone, identity_of_pen, pen_in}
 use Rattle.mt_base.specs.declared.replies.Reply.TheVariants as replies
 use Rattle.mt_tree.specs.declared.behind.Tools.{Tools}
 
--- the table that is written, what its pen knows, and the rows with their book
+-- the table that is written, what its pen knows, and the nodes with their book
 pub record Behind : Type 0 where
   pub table : Identity
   pub pen : PenPart
   pub parts : Parts
 
--- the rows that the pen knows, with this book
+-- the nodes that the pen knows, with this book
 abbrev pub parts_of : PenPart → Book → Parts
 parts_of p book = record { sheet = pen_sheet p; book = book; kind = p.shape.kind }
 
--- what the tools stand for; while a call is at work they are not there
+-- what the tools represent; while a call is at work they are not there
 abbrev pub behind_lock : Option Tools → Behind
 behind_lock (Some t) = record { table = identity_of_pen t.pen; pen = pen_in t.pen; parts = parts_of (pen_in t.pen) t.book }
 behind_lock None = record { table = no_table; pen = no_pen; parts = parts_of no_pen (new_book 0) }
 
--- The rows are of this tree: they stand for the map after these calls, as many have ended, and they opened with no more rows
--- than a map of so many ranges may have.
+-- The nodes are of this tree. They represent the map after these calls, and as many have ended. They opened with at most as
+-- many nodes as a map of that many ranges may have.
 pub record AreRowsOf (shape : Shape) (history : List Moment) (e : Parts) : Type 0 where
   pub kind : e.kind ≡ shape.kind
   pub rows : e.sheet.tree.rows ≡ shape.rows
@@ -30,8 +30,8 @@ pub record AreRowsOf (shape : Shape) (history : List Moment) (e : Parts) : Type 
   pub ended : e.sheet.ended ≡ length history
   pub opened : e.sheet.opened ≤ length shape.opening / 2 + 2
 
--- No call is in flight, all passes are dealt, the rows are lawful and of the pen's tree, which has no more calls than it may have,
--- and so many levels; the book is of these rows.
+-- No call is in flight, and all handles are dealt. The nodes are well-formed and of the pen's tree, which has no more calls
+-- than it may have, and this height. The book is of these nodes.
 pub record IsPenAtRest (p : PenPart) (e : Parts) (height : ℕ) : Type 0 where
   pub dealt : p.dealt ≡ p.shape.passes
   pub of : AreRowsOf p.shape p.history e
@@ -39,16 +39,16 @@ pub record IsPenAtRest (p : PenPart) (e : Parts) (height : ℕ) : Type 0 where
   pub few : length p.history ≤ p.shape.calls
   pub levels : HasHeight e.sheet.tree height
 
--- While the lock is free no pass is joined with the pen.
+-- While the lock is free, no handle is joined with the pen.
 abbrev pub IsAtRest : Option Tools → Type 0
 IsAtRest (Some t) = IsAlone t.pen × IsPenAtRest (pen_in t.pen) (parts_of (pen_in t.pen) t.book) t.height
 IsAtRest None = ⊥
 
--- what is behind the lock when a pass was shown the history: no section word was loaded since
+-- what the lock protects when a handle was shown the history: no section word was loaded since
 abbrev pub after_show : Behind → Behind
 after_show b = record b { pen = pen_joined b.pen }
 
--- a store may be made for which rows are at hand
+-- a store may be made for which nodes are at hand
 abbrev pub IsReady : Parts → Type 0
 IsReady e = HasRoom e.sheet.tree e.book
 

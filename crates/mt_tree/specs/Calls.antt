@@ -1,4 +1,4 @@
--- What a pass has learnt that alone made calls, and that this carries over from call to call.
+-- What a handle has learnt that alone made calls, and that this carries over from call to call.
 -- Source: this project's own.
 use Rattle.std.proofs.Common.{◌≡◌, ℕ, zero, suc, ◌+◌, List, [], ◌∷◌, ◌++◌, length, sym, ap, ◌∙◌, subst, arith, length-append}
 use Rattle.std.specs.List.{AllByRecursion, range_with_len}
@@ -6,7 +6,7 @@ use Rattle.std.proofs.lemmas.List.{append-nil, append_assoc}
 use Rattle.mt_tree.specs.Prelude.{Record}
 use Rattle.mt_base.specs.Passes as known
 
--- The pass has made some calls, and no other pass has; nothing else of it has changed.
+-- The handle has made some calls, and no other handle has. Nothing else of it has changed.
 pub record HasCalled (p q : known.Pass) : Type 0 where
   pub own : List Record
   pub pass : q ≡ record p { seen = p.seen ++ own; mine = p.mine ++ range_with_len (length p.seen + 1) (length own); ended = q.ended }

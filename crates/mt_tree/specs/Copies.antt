@@ -1,4 +1,4 @@
--- What is told of the words of a tree without showing them: their form, and how many rows they have.
+-- What can be known of the words of a tree without seeing them: their form, and how many nodes they have.
 -- Source: this project's own.
 use Rattle.std.specs.Prelude.{◌≡◌, ◌≢◌, ℕ, ◌+◌, ◌/◌, ◌<◌, ◌≤◌, List, Option, Some, None, Result, Err, IsOk, length}
 use Rattle.mt_tree.specs.Prelude.{Kind, Range, Form, IsIdle, Book, form_of, tree_as, IsLawfulOf, map_by, Rooted, Sheet, reached_in, IsImageOf}
@@ -7,13 +7,13 @@ use Rattle.mt_tree.specs.Shapes.{first_bad}
 use Rattle.mt_tree.specs.declared.shapes.DupError.{DupError}
 use Rattle.mt_tree.specs.declared.shapes.DupError.TheVariants as errors
 
--- Lawful words of a tree of so many rows, which stand for this map.
+-- Well-formed words of a tree of this many nodes, which represent this map.
 pub record AreWordsOf (kind : Kind) (rows : ℕ) (m : List Range) (words : Rooted) : Type 0 where
   pub lawful : IsLawfulOf words kind
   pub many : words.rows ≡ rows
   pub map : map_by words ≡ m
 
--- so many rows are in use in these words
+-- how many nodes are in use in these words
 abbrev pub live_rows : Rooted → ℕ
 live_rows words = length (reached_in words.table words.root)
 
@@ -30,15 +30,15 @@ pub record IsImageIn (kind : Kind) (rows : ℕ) (m : List Range) (bytes : List �
   pub of : AreWordsOf kind rows m words
   pub image : IsImageOf kind words bytes
 
--- So many rows are in use in such words, and no more than the tree has.
+-- So many nodes are in use in such words, and no more than the tree has.
 pub record IsRowCount (kind : Kind) (rows : ℕ) (m : List Range) (live : ℕ) : Type 0 where
   pub words : Rooted
   pub of : AreWordsOf kind rows m words
   pub live_is : live ≡ live_rows words
   pub within : live ≤ rows
 
--- The copy was made only where as many rows as wanted are enough for those that are in use; and it was refused for want of rows
--- only where they are too few, and told both numbers then.
+-- The copy was made only if the wanted number of nodes is enough for those in use. It was refused because nodes are short only
+-- if it is not, and the error then has both numbers.
 pub record IsCopyCounted {X : Type 0} (kind : Kind) (rows : ℕ) (m : List Range) (wanted : ℕ) (made : Result X DupError) : Type 0 where
   pub live : ℕ
   pub enough : IsOk made → IsRowCount kind rows m live × (live ≤ wanted)
@@ -49,8 +49,8 @@ pub record IsLiveCounted {X : Type 0} (live wanted : ℕ) (made : Result X DupEr
   pub enough : IsOk made → live ≤ wanted
   pub few : (told counted : ℕ) → made ≡ Err (errors.NoNodes told counted) → (told ≡ wanted) × (counted ≡ live) × (wanted < live)
 
--- Why there is no copy of this shape of a tree of this kind, whatever its rows: the first field of the shape that is out of range,
--- or else another kind.
+-- Why there is no copy of this shape of a tree of this kind, whatever its nodes: the first field of the shape that is out of
+-- range, or else another kind.
 abbrev pub IsRefusal : Shape → Kind → Option DupError → Type 0
 IsRefusal shape kind None = (first_bad shape ≡ None) × (shape.kind ≡ kind)
 IsRefusal shape kind (Some (errors.BadShape field)) = first_bad shape ≡ Some field
@@ -58,15 +58,15 @@ IsRefusal shape kind (Some errors.Invalid) = (first_bad shape ≡ None) × (shap
 IsRefusal shape kind (Some (errors.NoNodes told live)) = ⊥
 IsRefusal shape kind (Some errors.NoMemory) = ⊥
 
--- a refusal for want of rows or of memory
+-- a refusal for lack of nodes or of memory
 abbrev pub IsForRoom : DupError → Type 0
 IsForRoom (errors.NoNodes told live) = Unit {0}
 IsForRoom errors.NoMemory = Unit {0}
 IsForRoom errors.Invalid = ⊥
 IsForRoom (errors.BadShape field) = ⊥
 
--- An engine may be made of these rows and this book, and a tree opens with it: no call was begun, and the rows that are live
--- are no more than a map of so many ranges may have.
+-- An engine may be made from these nodes and this book, and a tree opens with it. No call was begun, and there are at most as
+-- many live nodes as a map of that many ranges may have.
 pub record IsReadyToOpen (kind : Kind) (rows : ℕ) (m : List Range) (s : Sheet) (book : Book) : Type 0 where
   pub idle : IsIdle kind s book
   pub first : s.ended ≡ 0

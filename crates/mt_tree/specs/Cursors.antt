@@ -1,4 +1,4 @@
--- That a walk is of a pass can hold in one way alone, so a cursor can keep it.
+-- There is only one proof that a walk is of a handle, so a cursor can keep it.
 -- Source: this project's own.
 use Rattle.std.specs.Prelude.{ℕ, ◌+◌, ◌≤◌, List, [], ◌∷◌, ◌≡◌}
 use Rattle.std.specs.Coded.{×_prop, →_prop, Unit-prop, le_prop, Coded-set, coded_ℕ}

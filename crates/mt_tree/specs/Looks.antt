@@ -1,4 +1,4 @@
--- What is told of a tree under its lock, beside its words: how it uses its rows, and since when its sections stand open.
+-- What is known of a tree under its lock, beside its words: how it uses its nodes, and since when its sections are open.
 -- Source: this project's own; the kernel frees nodes when every reader has left its RCU read-side section.
 use Rattle.std.specs.Prelude.{◌≡◌, ℕ, List, length, min}
 use Rattle.mt_tree.specs.Prelude.{Record, HasHeight}
@@ -9,7 +9,7 @@ use Rattle.mt_tree.specs.Behind.{Behind}
 use Rattle.mt_tree.specs.Copies.{live_rows}
 use Rattle.mt_tree.specs.Trees.{LiesBehind, WasPrepared}
 
--- how many rows there are, and how many of these are free, in use and held; how many levels, and how many calls have ended
+-- how many nodes there are, and how many of these are free, in use and held; how many levels, and how many calls have ended
 pub record TellsRows (b : Behind) (s : Stats) : Type 0 where
   pub rows : s.rows ≡ b.parts.sheet.tree.rows
   pub free : s.free ≡ length b.parts.book.free
@@ -18,19 +18,19 @@ pub record TellsRows (b : Behind) (s : Stats) : Type 0 where
   pub height : HasHeight b.parts.sheet.tree s.height
   pub calls : s.calls ≡ length b.pen.history
 
--- It is told of what lies behind the lock after all that the pass has seen.
+-- The numbers are those of what the lock protects after all that the handle has seen.
 abbrev pub IsStatsOf : Tree → known.Pass → Stats → Type 0
 IsStatsOf t q s = (b : Behind) × LiesBehind t q.seen b × TellsRows b s
 
--- The section words were scanned, and the rows freed that no section holds, between two moments after these calls. The least epoch at
--- which a section stood open then is this one.
+-- The section words were scanned, and the nodes freed that no section holds, between two moments after these calls. The least
+-- epoch at which a section stood open then is this one.
 pub record IsLeastBy (t : Tree) (calls : List Record) (b b' : Behind) (least : ℕ) : Type 0 where
   pub before : LiesBehind t calls b
   pub after : LiesBehind t calls b'
   pub prepared : WasPrepared t b b'
   pub told : least ≡ prepared.scan.least
 
--- Each section that stood open was opened when at least so many of the calls that the pass has seen had ended; where none did, so many
--- are all of these.
+-- Each section that was open had been opened when at least this many of the calls that the handle has seen had ended. If none
+-- was open, it is the number of all of these.
 abbrev pub IsOldest : Tree → known.Pass → ℕ → Type 0
 IsOldest t q calls = (b : Behind) × (b' : Behind) × (least : ℕ) × IsLeastBy t q.seen b b' least × (calls ≡ min least (length q.seen))

@@ -7,7 +7,7 @@ use Rattle.mt_tree.specs.declared.shapes.Field.{Field}
 use Rattle.mt_tree.specs.declared.shapes.Field.TheVariants.{Rows, Passes, Calls}
 use Rattle.mt_tree.specs.declared.shapes.Shape.{Shape}
 
--- a tree has four rows at least: as many as the first call may need
+-- a tree has four nodes at least: as many as the first call may need
 abbrev pub fewest_rows : ℕ
 fewest_rows = 4
 

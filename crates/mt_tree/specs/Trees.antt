@@ -1,4 +1,4 @@
--- A tree that threads share, its passes, and what its calls say of the words that lie behind its lock.
+-- A tree that threads share, its passes (handles), and what its calls say of the words that its lock protects.
 -- Source: this project's own; the kernel's struct maple_tree and its spinlock.
 use Rattle.std.specs.Prelude.{◌≡◌, ◌≢◌, ◌⊎◌, ℕ, ◌+◌, ◌-◌, ◌^◌, ◌≤◌, ◌<◌, Option, Some, None, IfSome, List, [], ◌∷◌, All, length, map, slice_get, take}
 use Rattle.std.specs.List.{range_with_len}
@@ -17,18 +17,18 @@ use Rattle.mt_tree.specs.Behind.{Behind, IsPenAtRest}
 abbrev pub place_of : Tree → Identity
 place_of t = identity_of t.table
 
--- the tree as it opened: its kind, its rows and its opening map, and no call
+-- the tree as it opened: its kind, its nodes and its opening map, and no call
 abbrev pub opened : Tree → History
 opened t = tree_in (place_of t)
 
--- how many passes it has, and how many calls it may have
+-- how many handles it has, and how many calls it may have
 abbrev pub passes_of : Tree → ℕ
 passes_of t = (place_of t).shape.passes
 
 abbrev pub limit_of : Tree → ℕ
 limit_of t = (place_of t).shape.calls
 
--- The pass is one of this tree's.
+-- The handle is one of this tree's.
 pub record IsPassOf (t : Tree) (p : Pass) : Type 0 where
   pub of : rule.IsPassOf (place_of t) p
   pub seated : IsSeatedAt t.turn.table.shared.table_id t.turn.table.shared.key p
@@ -38,50 +38,50 @@ IsNoteOf t n = rule.IsNoteOf (place_of t) n
 
 -- ---- steps without the lock, and tries
 
--- The pass has made so many steps without the lock at the most, and has not gone for the lock.
+-- The handle has made at most this many steps without the lock, and has not gone for the lock.
 pub record Takes (most : ℕ) (p q : Pass) : Type 0 where
   pub steps : steps_made q ≤ steps_made p + most
   pub turn : turn_seat q ≡ turn_seat p
 
--- The pass has made no step without the lock, and has not gone for the lock.
+-- The handle has made no step without the lock, and has not gone for the lock.
 pub record Rests (p q : Pass) : Type 0 where
   pub steps : steps_made q ≡ steps_made p
   pub turn : turn_seat q ≡ turn_seat p
 
--- The pass has gone for the lock once, by a try or by waiting, and has made no step without it.
+-- The handle has gone for the lock once, by a try or by waiting, and has made no step without it.
 pub record TriesOnce (p q : Pass) : Type 0 where
   pub steps : steps_made q ≡ steps_made p
   pub turn : turn_seat q ≡ turn_seat (tried p)
 
--- These are all passes of the tree, in the order of their numbers.
+-- These are all handles of the tree, in the order of their numbers.
 pub record AreAll (t : Tree) (ps : List Pass) : Type 0 where
   pub count : length ps ≡ passes_of t
   pub of : All (IsPassOf t) ps
   pub numbered : (i : ℕ) (p : Pass) → slice_get ps i ≡ Some p → (pass_in p).number ≡ i
 
--- the tree with the calls that the first of these passes has seen
+-- the tree with the calls that the first of these handles has seen
 abbrev pub seen_by : Tree → List known.Pass → History
 seen_by t [] = opened t
 seen_by t (p ∷ ps) = with_records (opened t) p.seen
 
--- the map after all that a pass has seen
+-- the map after all that a handle has seen
 abbrev pub map_seen : Tree → known.Pass → List Range
 map_seen t p = last_map (with_records (opened t) p.seen)
 
--- The tree has as many calls as it may have. The pass has then seen them all, and made none of them now.
+-- The tree has as many calls as it may have. The handle has then seen them all, and made none of them now.
 pub record IsWorn (t : Tree) (p : known.Pass) (w : Worn) (q : known.Pass) : Type 0 where
   pub calls : w.calls ≡ limit_of t
   pub all : length q.seen ≡ limit_of t
   pub saw : known.Saw (opened t) p q
 
--- A new tree that opens with this map and has no call, and its passes, numbered from 0, which have seen nothing.
+-- A new tree that opens with this map and has no call, and its handles, numbered from 0, which have seen nothing.
 pub record IsNew (shape : Shape) (opening : List Range) (t : Tree) (ps : List Pass) : Type 0 where
   pub tree : opened t ≡ record { kind = shape.kind; rows = shape.rows; opening = opening; records = [] }
   pub calls : limit_of t ≡ shape.calls
   pub all : AreAll t ps
   pub passes : map pass_in ps ≡ map new_pass (range_with_len 0 shape.passes)
 
--- The value behind the lock is taken, and the pass has seen the whole history.
+-- The value that the lock protects is taken, and the handle has seen the whole history.
 pub record IsOpen (t : Tree) (p : Pass) (behind : Behind) (seat : Seat (Option Behind) TurnView) : Type 0 where
   pub of : IsPassOf t p
   pub table : behind.table ≡ place_of t
@@ -89,13 +89,13 @@ pub record IsOpen (t : Tree) (p : Pass) (behind : Behind) (seat : Seat (Option B
   pub seen : (pass_in p).seen ≡ records_of behind.pen.history
   pub ended : (pass_in p).ended ≡ length (pass_in p).seen
 
--- whoever is told to hold rows is a pass of the tree
+-- whoever is named as holding nodes back is a handle of the tree
 abbrev pub NamesPass : Tree → Reply → Type 0
 NamesPass t reply = IfSome (holder_of reply) (λ holder. holder.pass < passes_of t)
 
--- The section words were scanned, as those show that were loaded last, and the held rows are free that died up to the least epoch.
--- That is the epoch of the holder that the scan found, a pass of the tree; it is the greatest number where no section stands open.
--- All words, and the history, are as they were.
+-- The section words were scanned, as those loaded last show, and the held (retired) nodes that died up to the least epoch are
+-- free. That is the epoch of the holder that the scan found, a handle of the tree, and the greatest number if no section is
+-- open. All words, and the history, are as they were.
 pub record WasPrepared (t : Tree) (b b' : Behind) : Type 0 where
   pub table : b'.table ≡ b.table
   pub records : records_of b'.pen.history ≡ records_of b.pen.history
@@ -108,9 +108,9 @@ pub record WasPrepared (t : Tree) (b b' : Behind) : Type 0 where
   pub of : IfSome scan.by (λ holder. holder.pass < passes_of t)
   pub freed : b'.parts.book ≡ after_reclaim b.parts.book scan.least
 
--- Too few rows are free for a store behind all that the pass has seen, when the held rows were freed. The shortage tells the
--- height and the book of the rows, and whose section holds rows back, as the same scan found it; and no section of the pass
--- itself where it has none open.
+-- Too few nodes are free for a store after all that the handle has seen, once the held nodes were freed. The shortage has the
+-- height and the numbers of the book, and names whose section holds nodes back, as the same scan found it. It names no section
+-- of the handle itself if that has none open.
 pub record IsShortNow (t : Tree) (p : known.Pass) (b b' : Behind) (shortage : Shortage) : Type 0 where
   pub short : IsShort (limits_after (opened t) (length p.seen)) (map_seen t p) shortage
   pub prepared : WasPrepared t b b'
@@ -118,10 +118,10 @@ pub record IsShortNow (t : Tree) (p : known.Pass) (b b' : Behind) (shortage : Sh
   pub tells : TellsBook b'.parts.book shortage
   pub by : p.standing ≡ None → IfSome shortage.by (λ holder. holder.pass ≢ p.number)
 
--- ---- how a call is answered by what lies behind the lock
+-- ---- how a call is answered by what the lock protects
 
--- This lies behind the lock of the tree after these calls: no call is in flight, and the words, of which the book tells, are lawful
--- and stand for the map then.
+-- This is what the lock of the tree protects after these calls. No call is in flight. The words, whose numbers the book has,
+-- are well-formed and represent the map then.
 pub record LiesBehind (t : Tree) (calls : List Record) (b : Behind) : Type 0 where
   pub table : b.table ≡ place_of t
   pub shape : b.pen.shape ≡ (place_of t).shape
@@ -133,12 +133,12 @@ pub record LiesBehind (t : Tree) (calls : List Record) (b : Behind) : Type 0 whe
 abbrev pub Acts : Behind → Behind → Call → Reply → Type 0
 Acts b b' call reply = acted b.parts.kind (map_by b.parts.sheet.tree) call ≡ (map_by b'.parts.sheet.tree, reply)
 
--- rows enough are free for any call, when the held ones were freed that no section holds, as the scan found
+-- nodes enough are free for any call, when the held ones were freed that no section holds, as the scan found
 abbrev pub LeavesRoom : Scan → Behind → Type 0
 LeavesRoom scan b = HasRoom b.parts.sheet.tree (after_reclaim b.parts.book scan.least)
 
--- The call is refused for want of rows. The shortage tells the height and the book of the rows, when the held ones were freed, and
--- whose section holds rows back, as the scan found it. All words are as they were.
+-- The call is refused because nodes are short. The shortage has the height and the numbers of the book, once the held nodes
+-- were freed, and names whose section holds nodes back, as the scan found it. All words are as they were.
 pub record LacksRows (t : Tree) (b b' : Behind) (scan : Scan) (call : Call) (reply : Reply) : Type 0 where
   pub refused : IsRefused b.parts.kind (limits_after (opened t) (length b.pen.history)) (map_by b.parts.sheet.tree) call reply
   pub counted : IsRealShortage (record b'.parts.sheet { scan = scan }) refused.shortage
@@ -153,12 +153,13 @@ pub record IsDecided (t : Tree) (b b' : Behind) (call : Call) (reply : Reply) : 
   pub room : LeavesRoom scan b → Acts b b' call reply
   pub lacks : ¬ LeavesRoom scan b → LacksRows t b b' scan call reply
 
--- A call that wants rows is decided by how many are free. Any other is made, and no section word is loaded for it.
+-- A call that needs nodes is decided by how many are free. Any other is made, and no section word is loaded for it.
 pub record IsDecidedOrMade (t : Tree) (b b' : Behind) (call : Call) (reply : Reply) : Type 0 where
   pub wants : Wants b.parts.kind (map_by b.parts.sheet.tree) call → IsDecided t b b' call reply
   pub calm : ¬ Wants b.parts.kind (map_by b.parts.sheet.tree) call → Acts b b' call reply × (b'.pen.sections ≡ [])
 
--- The call, the last that the pass has seen, was answered by what lay behind the lock after the calls before it, and left this.
+-- The call, the last that the handle has seen, was answered by what the lock protected after the calls before it, and left
+-- this.
 pub record WasAnsweredBy (t : Tree) (q : known.Pass) (b b' : Behind) (call : Call) (d : Done) : Type 0 where
   pub before : LiesBehind t (take (d.call - 1) q.seen) b
   pub after : LiesBehind t q.seen b'

@@ -1,4 +1,4 @@
--- A call that is tried under a lock of its own, and what it makes of the pass where the lock was free.
+-- A call that is tried under a lock of its own, and what it does to the handle if the lock was free.
 -- Source: this project's own; the kernel's spin_trylock.
 use Rattle.std.specs.Prelude.{◌≤◌, List, [], ◌∷◌, IfOk, IfErr, Result}
 use Rattle.mt_tree.specs.Prelude.{Call, Wrote, Busy, Pass, IsBusyAt, tried}
@@ -8,16 +8,17 @@ use Rattle.mt_tree.specs.declared.shapes.Worn.{Worn}
 use Rattle.mt_tree.specs.declared.trees.Tree.{Tree}
 use Rattle.mt_tree.specs.Trees.{opened, limit_of, IsWorn, NamesPass, WasAnswered}
 
--- it tells that the lock of this tree was found taken
+-- the receipt of finding the lock of this tree taken
 abbrev pub IsBusyOf : Tree → Busy → Type 0
 IsBusyOf t busy = IsBusyAt t.turn.table.shared.table_id t.turn.table.shared.key busy
 
--- the first of these passes has gone for the lock, once
+-- the first of these handles has gone for the lock, once
 abbrev pub first_tried : List Pass → List Pass
 first_tried [] = []
 first_tried (p ∷ ps) = tried p ∷ ps
 
--- The pass made the call under a lock of its own, as one that waits for it; or it has seen all the calls that the tree may have.
+-- The handle made the call under a lock of its own, as one that waits for it. Or it has seen all the calls that the tree may
+-- have.
 pub record WasMade (t : Tree) (p : known.Pass) (call : Call) (made : Result Done Worn) (q : known.Pass) : Type 0 where
   pub done : IfOk made (λ d. Wrote (opened t) p d.call call d.reply q × (d.call ≤ limit_of t))
   pub named : IfOk made (λ d. NamesPass t d.reply)

@@ -1,4 +1,4 @@
--- A call at work on the rows of a tree: what it begins with, and what it leaves behind the lock.
+-- A call at work on the nodes of a tree: what it begins with, and what it leaves for the lock to protect.
 -- Source: this project's own.
 use Rattle.std.specs.Prelude.{◌≡◌, ◌≤◌, ◌<◌, Option, Some, None, List, [], ◌∷◌, length}
 use Rattle.std.specs.List.{AllByRecursion}
@@ -10,7 +10,7 @@ use Rattle.mt_tree.specs.declared.trees.Tree.{Tree}
 use Rattle.mt_tree.specs.Behind.{behind_lock, IsAtRest}
 use Rattle.mt_tree.specs.Trees.{opened, passes_of, place_of, IsPassOf}
 
--- The tools lie behind the tree's lock, and the pass, which is one of the tree's, is the one that works with them.
+-- The tools are those that the tree's lock protects, and the handle, one of the tree's, is the one that works with them.
 pub record IsWorker (t : Tree) (tools : Option Tools) (p : Pass) (table : Identity) (turn : Badge TurnView) : Type 0 where
   pub rest : IsAtRest tools
   pub of : (behind_lock tools).table ≡ place_of t
@@ -18,27 +18,27 @@ pub record IsWorker (t : Tree) (tools : Option Tools) (p : Pass) (table : Identi
   pub table_is : table ≡ place_of t
   pub turn_is : turn ≡ turn_seat p
 
--- a seat at the tree's turn
+-- a seat (token) at the tree's turn (writer lock)
 pub record IsSeatOf (t : Tree) (turn : Badge TurnView) : Type 0 where
   pub table : turn.table_id ≡ t.turn.table.shared.table_id
   pub views : turn.views ≡ seated t.turn.table.shared.key (tries_in turn.views) ∷ []
 
--- what a pass knows that has been shown the whole history of the pen
+-- what a handle knows that has been shown the whole history of the pen
 abbrev pub shown_pass : PenPart → known.Pass → known.Pass
 shown_pass p q = record q { seen = records_of p.history; ended = length p.history }
 
--- what a pass knows whose rows tell this
+-- what a handle knows whose nodes have these records
 abbrev pub pass_of_told : Told → known.Pass
 pass_of_told t = record { number = t.caller.pass; seen = t.records; mine = known.places t.caller.pass t.records; opened = t.caller.opened; standing = t.caller.standing; begun = t.caller.begun; ended = length t.records }
 
--- the records that rows tell
+-- the records of nodes
 abbrev pub records_told : Option Told → List Record
 records_told None = []
 records_told (Some t) = t.records
 
--- The tools are back behind the tree's lock, with these rows and their book; all calls are of the tree's passes, and the pass
--- knows what its rows told. Where scans
--- were made, the section words that were loaded last are those of the last scan; where none was, no such word was loaded.
+-- The tools are back under the tree's lock, with these nodes and their book. All calls are of the tree's handles, and the
+-- handle knows what its nodes showed. If scans were made, the section words loaded last are those of the last scan. If none was
+-- made, no such word was loaded.
 pub record AreBack (t : Tree) (e : Parts) (tools : Option Tools) (p : Pass) : Type 0 where
   pub rest : IsAtRest tools
   pub of : (behind_lock tools).table ≡ place_of t

@@ -6,6 +6,7 @@ use Rattle.mt_tree.specs.Prelude.{Kind, kind_width, table_size}
 abbrev pub AreZero : List ℕ → Type 0
 AreZero words = All (λ word. word ≡ 0) words
 
--- An empty tree of this kind, of so many rows, can be made over these words: they are as many as those of its table, or more.
+-- An empty tree of this kind, with this many nodes, can be made over these words: they are as many as those of its table, or
+-- more.
 abbrev pub Serve : List ℕ → Kind → ℕ → Type 0
 Serve words kind rows = table_size (kind_width kind) rows ≤ length words

@@ -53,8 +53,8 @@ impl Tree {
     ///
     /// # Errors
     ///
-    /// `Moved` where a neighbour is asked for, and the leaf of the index, which has no answer, was found marked as dead after the one
-    /// beside it was read. The caller asks again, or under the lock.
+    /// `Moved` if a neighbour is asked for, and the leaf of the index, which has no answer, was found marked as dead after the
+    /// one beside it was read. The caller asks again, or under the lock.
     pub fn ask(&self, pass: &mut Pass, query: &Query) -> Result<Read<Option<Range>>, Moved>
         requires { IsPassOf self.now pass.old }
         ensures of { IsPassOf self.now pass.new }
@@ -147,7 +147,7 @@ impl<'a> Cursor<'a> {
         pause::<Brand>(self, Blank::new(1));
     }
 
-    /// Ends the walk and gives the pass back, as `close` does.
+    /// Ends the walk and returns the handle, as `close` does.
     pub fn end(self) -> &'a mut Pass
         ensures same_reference { result.ghost_name ≡ self.entry.pass.ghost_name }
         ensures of { IsPassOf self.entry.tree.now result.now }

@@ -1,4 +1,4 @@
-//! What lies behind the lock of a tree.
+//! What the lock of a tree protects.
 
 ghost use Rattle.std.specs.Prelude.{◌≡◌, ◌↔◌, ◌+◌, ◌<◌, ◌≤◌, Some, None, true, [], length, IsOk, IsTrue, IfOk, IfErr};
 ghost use Rattle.std.specs.List.{AllByRecursion};
@@ -21,7 +21,7 @@ use std::alloc::Global;
 use std::marker::{Brand, Model};
 use std::mem;
 
-/// The pen of a tree, the book of its rows, and how many levels it has.
+/// The pen of a tree, the book of its nodes, and how many levels it has.
 #[derive(Drop)]
 pub struct Tools {
     pub(crate) pen: Pen,
@@ -29,8 +29,8 @@ pub struct Tools {
     pub(crate) height: u64,
 }
 
-/// The state of a tree's writers: the tools with which it is written. They are away only while a call is at work. While the lock
-/// is free no pass is joined with the pen, and the words stand for the map after all calls.
+/// The state of a tree's writers: the tools with which it is written. They are away only while a call is at work. While the
+/// lock is free, no handle is joined with the pen, and the words represent the map after all calls.
 #[derive(Drop)]
 pub struct WriterState {
     pub(crate) tools: Option<Tools>,
@@ -51,7 +51,7 @@ impl OfTable for WriterState {
 }
 
 impl WriterState {
-    /// The pass sees the whole history. Answers how many calls have ended.
+    /// The handle sees the whole history. Returns how many calls have ended.
     pub(crate) fn show(&mut self, tree: &Tree, pass: &mut Pass) -> u64
         requires table { self.old.table ≡ place_of tree.now }
         requires pass { IsPassOf tree.now pass.old }
@@ -118,7 +118,7 @@ impl WriterState {
         })
     }
 
-    /// Makes a store for which rows were found free.
+    /// Makes a store for which nodes were found free.
     pub(crate) fn store_prealloc(
         &mut self,
         tree: &Tree,
@@ -210,7 +210,7 @@ impl WriterState {
         by_width!(tree, list(&mut self.tools, tree, pass, alloc))
     }
 
-    /// Whether a store may be made for which rows were found free.
+    /// Whether a store may be made for which nodes were found free.
     pub(crate) fn ready(&self) -> bool
         ensures { IsTrue result ↔ IsReady self.now.parts }
     {

@@ -40,7 +40,7 @@ use std::marker::Brand;
 use std::sync::Wait;
 use std::sync::ledger::{Blank, Ledger};
 
-/// Copies a tree into new rows of its width, and plants it there.
+/// Copies a tree into new nodes of its width, and plants it there.
 fn copy_into<R: Rows, L: Ledger>(blank: Blank, src: &mut R, dst: &mut PlainRows, book: &mut RowBook)
     requires name { blank.name ≡ L.name }
     requires parts { blank.parts ≡ L.parts }
@@ -57,7 +57,7 @@ fn copy_into<R: Rows, L: Ledger>(blank: Blank, src: &mut R, dst: &mut PlainRows,
     dst.plant(root);
 }
 
-/// Copies a tree that has so many rows in use into new rows of its width, where they are as many.
+/// Copies a tree with this many nodes in use into new nodes of its width, if there are as many.
 fn copy_out<R: Rows>(src: &mut R, live: u64, dst: &mut PlainRows, book: &mut RowBook)
     requires lawful { (kind : Kind) × IsLawfulOf (R.sheet src.old).tree kind }
     requires live { live ≡ live_rows (R.sheet src.old).tree }
@@ -98,7 +98,7 @@ fn check_at_work<W: Writer, K: OfWidth>(
     form
 }
 
-/// Copies the tree into new rows, where they are as many as it has in use. Answers how many it has.
+/// Copies the tree into new nodes, where they are as many as it has in use. Answers how many it has.
 fn copy_at_work<W: Writer, K: OfWidth>(
     tools: &mut Option<Tools>,
     tree: &Tree,
@@ -131,7 +131,7 @@ fn copy_at_work<W: Writer, K: OfWidth>(
     live
 }
 
-/// Why there is no copy of this shape of a tree of this kind, whatever its rows.
+/// Why there is no copy of this shape of a tree of this kind, whatever its nodes.
 pub(crate) fn refusal(shape: &Shape, kind: Kind) -> Option<DupError>
     ensures { IsRefusal shape.now kind result }
 {
@@ -144,7 +144,7 @@ pub(crate) fn refusal(shape: &Shape, kind: Kind) -> Option<DupError>
     None
 }
 
-/// New rows for a tree of this shape, which is in range, and their book.
+/// New nodes for a tree of this shape, which is in range, and their book.
 pub(crate) fn room(alloc: Global, shape: &Shape) -> Result<(PlainRows, RowBook), NoMemory>
     requires { first_bad shape.now ≡ None }
     ensures rows { IfOk result (λ r. sheet_in r.0 ≡ new_sheet (kind_width shape.now.kind) shape.now.rows) }
@@ -155,8 +155,8 @@ pub(crate) fn room(alloc: Global, shape: &Shape) -> Result<(PlainRows, RowBook),
     Ok((rows, book))
 }
 
-/// Opens a tree of this shape with a copy of a tree that has so many rows in use, which was made where they are no more than it
-/// is to have.
+/// Opens a tree of this shape with a copy of a tree with this many nodes in use. The copy was made if they are no more than the
+/// new tree is to have.
 #[tactic(auto, using(crate::proofs::Forms::copy_made, crate::proofs::Forms::copy_few, crate::proofs::Forms::copy_lacks_memory))]
 pub(crate) fn open_copy(
     alloc: Global,
@@ -183,7 +183,7 @@ pub(crate) fn open_copy(
     }
 }
 
-/// A tree of this shape, which is in range, that opens with the map of these rows.
+/// A tree of this shape, which is in range, that opens with the map of these nodes.
 #[tactic(auto, using(crate::proofs::Forms::copy_lacks_memory))]
 fn copied_of(
     alloc: Global,
@@ -221,7 +221,7 @@ impl WriterState {
         by_width!(tree, check_at_work(&mut self.tools, tree, pass))
     }
 
-    /// Copies the tree into new rows, where they are as many as it has in use. Answers how many it has.
+    /// Copies the tree into new nodes, where they are as many as it has in use. Answers how many it has.
     pub(crate) fn copy(
         &mut self,
         tree: &Tree,
@@ -259,7 +259,7 @@ fn check_under(taken: &mut Taken<WriterState>, tree: &Tree, pass: &mut Pass) -> 
     taken.value.check(tree, pass)
 }
 
-/// Copies a locked tree into new rows, where they are as many as it has in use. Answers how many it has.
+/// Copies a locked tree into new nodes, where they are as many as it has in use. Answers how many it has.
 fn copy_under(
     taken: &mut Taken<WriterState>,
     tree: &Tree,
@@ -282,7 +282,7 @@ fn copy_under(
 }
 
 impl<'a> Locked<'a, Taken<WriterState>> {
-    /// The form of the tree's words: those that lie behind the lock, which stand for the map after all calls.
+    /// The form of the tree's words: those that the lock protects, which represent the map after all calls.
     pub fn check(&mut self) -> Form
         ensures same_reference { self.new.pass.ghost_name ≡ self.old.pass.ghost_name }
         ensures tree { self.new.tree ≡ self.old.tree }
@@ -295,7 +295,7 @@ impl<'a> Locked<'a, Taken<WriterState>> {
         check_under(&mut self.taken, self.tree, self.pass)
     }
 
-    /// Copies the words into new rows, where they are as many as the tree has in use. Answers how many it has.
+    /// Copies the words into new nodes, where they are as many as the tree has in use. Answers how many it has.
     fn copy(&mut self, dst: &mut PlainRows, own: &mut RowBook) -> u64
         requires rows { sheet_in dst.old ≡ new_sheet (kind_width (opened self.old.tree.now).kind) own.old.rows }
         requires book { own.old ≡ new_book own.old.rows }
@@ -332,13 +332,13 @@ impl<'a> Locked<'a, Taken<WriterState>> {
         open_copy(alloc, shape, live, rows, book)
     }
 
-    /// A new tree of the same kind that opens with this tree's map, as it is after all calls, and the new tree's passes. It is
-    /// refused as by `Tree::dup`, and for want of rows just where the words that lie behind the lock have more in use.
+    /// A new tree of the same kind that opens with this tree's map, as it is after all calls, and the new tree's handles. It is
+    /// refused as by `Tree::dup`, and because nodes are short exactly if the words that the lock protects have more in use.
     ///
     /// # Errors
     ///
-    /// `BadShape`; `Invalid` where the kind is another; `NoMemory` where there is none for the new rows; `NoNodes` where they are
-    /// too few; `NoMemory` where there is none for the new tree.
+    /// `BadShape`; `Invalid` if the kind is another; `NoMemory` if there is none for the new nodes; `NoNodes` if they are too
+    /// few; `NoMemory` if there is none for the new tree.
     #[tactic(auto, using(crate::proofs::Forms::bad_refused, crate::proofs::Forms::invalid_refused, crate::proofs::Forms::refused_live))]
     pub fn dup(&mut self, alloc: Global, shape: Shape) -> Result<(Tree, Vec<Pass>), DupError>
         ensures same_reference { self.new.pass.ghost_name ≡ self.old.pass.ghost_name }
@@ -359,7 +359,7 @@ impl<'a> Locked<'a, Taken<WriterState>> {
 }
 
 impl Tree {
-    /// The form of the tree's words, whose map is that after all that the pass has then seen.
+    /// The form of the tree's words, whose map is that after all that the handle has then seen.
     pub fn check(&self, rt: &impl Wait, pass: &mut Pass) -> Form
         requires { IsPassOf self.now pass.old }
         ensures of { IsPassOf self.now pass.new }
@@ -373,7 +373,7 @@ impl Tree {
         form
     }
 
-    /// Copies the rows into new ones. Answers how many are in use.
+    /// Copies the nodes into new ones. Answers how many are in use.
     fn copy_rows(
         &self,
         rt: &impl Wait,
@@ -422,14 +422,14 @@ impl Tree {
         open_copy(alloc, shape, live, rows, book)
     }
 
-    /// A new tree of the same kind that opens with this tree's map, as it is after all that the pass has then seen, and the new
-    /// tree's passes. A shape that is out of range is refused by its first field that is, before any memory is taken; then one
-    /// of another kind; then one of fewer rows than this tree has in use.
+    /// A new tree of the same kind that opens with this tree's map, as it is after all that the handle has then seen, and the
+    /// new tree's handles. A shape that is out of range is refused by its first such field, before any memory is taken. Then a
+    /// shape of another kind is refused, and then one of fewer nodes than this tree has in use.
     ///
     /// # Errors
     ///
-    /// `BadShape`; `Invalid` where the kind is another; `NoMemory` where there is none for the new rows; `NoNodes` where they are
-    /// too few; `NoMemory` where there is none for the new tree.
+    /// `BadShape`; `Invalid` if the kind is another; `NoMemory` if there is none for the new nodes; `NoNodes` if they are too
+    /// few; `NoMemory` if there is none for the new tree.
     #[tactic(auto, using(crate::proofs::Forms::uncounted, crate::proofs::Forms::bad_refused, crate::proofs::Forms::invalid_refused, crate::proofs::Forms::refused_uncounted))]
     pub fn dup(
         &self,
@@ -453,13 +453,13 @@ impl Tree {
         }
     }
 
-    /// A new tree of this kind that opens with the map of these rows, and its passes. It is refused as a `dup` of a tree of this kind
-    /// that has these rows in use. The rows are only read.
+    /// A new tree of this kind that opens with the map of these nodes, and its handles. It is refused as a `dup` of a tree of
+    /// this kind that has these nodes in use. The nodes are only read.
     ///
     /// # Errors
     ///
-    /// `BadShape`; `Invalid` where the shape is of another kind; `NoMemory` where there is none for the new rows; `NoNodes` where
-    /// they are too few; `NoMemory` where there is none for the new tree.
+    /// `BadShape`; `Invalid` if the shape is of another kind; `NoMemory` if there is none for the new nodes; `NoNodes` if they
+    /// are too few; `NoMemory` if there is none for the new tree.
     #[tactic(auto, using(crate::proofs::Forms::bad_refused, crate::proofs::Forms::invalid_refused, crate::proofs::Forms::refused_live))]
     pub fn of_rows(
         alloc: Global,

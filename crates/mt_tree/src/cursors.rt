@@ -13,12 +13,13 @@ use mt_base::{Range, Steps};
 use mt_rule::Pass;
 use std::sync::ledger::Ledger;
 
-/// A walk of a pass over the ranges of a tree, from an index up to a bound, in one section. It takes no memory.
+/// A walk of a pass (handle) over the ranges of a tree, from an index up to a bound, in one read-side section. It takes no
+/// memory.
 ///
-/// Rows that die while the section is open are not free before it is closed. So `close` a cursor that is done; that gives the pass
-/// back. `pause` one that is to stay at its place while its thread does something else: its next step opens a section again, and
-/// walks from the root. One that is dropped or forgotten leaves its section open: until the next read of the pass, which opens a
-/// section of its own and closes it, or for good where the pass is dropped too.
+/// Nodes that die (are retired) while the section is open are not free before it is closed. So `close` a cursor that is done;
+/// that returns the handle. `pause` one that should stay at its place while its thread does something else: its next step opens
+/// a section again, and walks from the root. A cursor that is dropped or forgotten leaves its section open. The next read of
+/// the handle opens a section of its own and closes it. If the handle is dropped too, it stays open for good.
 #[derive(Drop)]
 pub struct Cursor<'a> {
     pub(crate) tree: &'a Tree,
@@ -62,8 +63,8 @@ impl<'a> Cursor<'a> {
         self.walk.at()
     }
 
-    /// The next range of the walk, after some number of calls from `lo` to `hi`. There is none where the walk has ended, or ends
-    /// by that. The section is open then: a step opens it where it was not.
+    /// The next range of the walk, true after some number of calls from `lo` to `hi`. There is none if the walk has ended, or
+    /// ends here. The section is open afterwards: a step opens it if it was not.
     pub fn step<L: Ledger>(&mut self, steps: &mut Steps<L>) -> Read<Option<Range>>
         ensures same_reference { self.new.pass.ghost_name ≡ self.old.pass.ghost_name }
         ensures tree { self.new.tree ≡ self.old.tree }
@@ -89,7 +90,7 @@ impl<'a> Cursor<'a> {
         }
     }
 
-    /// Closes the section, so that it holds no row, and keeps the place alone: the next step opens a section and walks again.
+    /// Closes the section, so that it holds no node, and keeps the place alone: the next step opens a section and walks again.
     pub fn pause<L: Ledger>(&mut self, steps: &mut Steps<L>)
         ensures same_reference { self.new.pass.ghost_name ≡ self.old.pass.ghost_name }
         ensures tree { self.new.tree ≡ self.old.tree }
@@ -103,7 +104,7 @@ impl<'a> Cursor<'a> {
         self.walk.pause(&self.tree.table, self.pass, steps);
     }
 
-    /// Ends the walk, closes the section, and gives the pass back.
+    /// Ends the walk, closes the section, and returns the handle.
     pub fn close<L: Ledger>(self, steps: &mut Steps<L>) -> &'a mut Pass
         ensures same_reference { result.ghost_name ≡ self.entry.pass.ghost_name }
         ensures of { IsPassOf self.entry.tree.now result.now }

@@ -93,7 +93,7 @@ fn image_under(
 }
 
 impl<'a> Locked<'a, Taken<WriterState>> {
-    /// The image of the tree's words: those that lie behind the lock, which stand for the map after all calls.
+    /// The image of the tree's words: those that the lock protects, which represent the map after all calls.
     ///
     /// # Errors
     ///
@@ -112,8 +112,8 @@ impl<'a> Locked<'a, Taken<WriterState>> {
 }
 
 impl Tree {
-    /// The image of the tree's words, whose map is that after all that the pass has then seen: they are copied to be in the order
-    /// of a walk from the root, so that the tree has these rows in another order.
+    /// The image of the tree's words, whose map is that after all that the handle has then seen. They are copied into the order
+    /// of a walk from the root, so the tree has these nodes in another order.
     ///
     /// # Errors
     ///

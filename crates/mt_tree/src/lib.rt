@@ -1,4 +1,5 @@
-//! The tree that threads share: one history of calls, of which each pass knows a beginning, and a lock over the rows.
+//! The tree that threads share. It has one history of calls (its linearization order), of which each pass (handle) knows a
+//! beginning, and a lock for writers.
 //!
 //! ```
 //! let kind = Kind::Range;

@@ -22,10 +22,10 @@ use std::sync::Wait;
 
 /// What is held while a tree is locked.
 pub trait HoldsLock {
-    /// What lies behind the lock.
+    /// What the lock protects.
     ghost behind: { Self → Behind };
 
-    /// The seat that has it.
+    /// The seat (token) that has it.
     ghost seat: { Self → Seat (Option Behind) TurnView };
 }
 
@@ -35,7 +35,7 @@ impl HoldsLock for Taken<WriterState> {
     ghost seat = { λ taken. taken.seat };
 }
 
-/// A tree that is locked by a pass, which has seen the whole history.
+/// A tree that a handle has locked, which has seen the whole history.
 pub struct Locked<'a, K: HoldsLock> {
     pub(crate) tree: &'a Tree,
     pub(crate) pass: &'a mut Pass,
@@ -43,11 +43,11 @@ pub struct Locked<'a, K: HoldsLock> {
     ghost open: { IsOpen tree.now pass.now (K.behind taken) (K.seat taken) },
 }
 
-/// A tree that is locked by a pass. It is given back by `unlock`.
+/// A tree that a handle has locked. `unlock` gives it back.
 pub type Write<'a> = Locked<'a, Taken<WriterState>>;
 
 impl Tree {
-    /// Waits for the lock. The pass has then seen the whole history, all of whose calls are of the tree's passes.
+    /// Waits for the lock. The handle has then seen the whole history, all of whose calls are of the tree's handles.
     pub fn lock<'a>(&'a self, rt: &impl Wait, pass: &'a mut Pass) -> Write<'a>
         requires { IsPassOf self.now pass.old }
         ensures same_reference { result.pass.ghost_name ≡ pass.entry.ghost_name }
@@ -160,9 +160,9 @@ fn list_under(
 }
 
 impl<'a> Locked<'a, Taken<WriterState>> {
-    /// Makes one call. One that wants rows is refused with `NoNodes` where too few are free, when those were freed that no section
-    /// holds, as the section words show that it loads; any other call loads none. A call that is refused leaves every word. Its
-    /// number is the next: no call of another pass comes between.
+    /// Makes one call. A call that needs nodes first loads the section words and frees the nodes that no section holds. It is
+    /// refused with `NoNodes` if too few are then free. Any other call loads no section word. A call that is refused leaves
+    /// every word. Its number is the next: no call of another handle comes between.
     pub fn act(&mut self, call: &Call) -> Result<Done, Worn>
         ensures same_reference { self.new.pass.ghost_name ≡ self.old.pass.ghost_name }
         ensures tree { self.new.tree ≡ self.old.tree }
@@ -192,9 +192,9 @@ impl<'a> Locked<'a, Taken<WriterState>> {
         ask_under(&mut self.taken, self.tree, self.pass, query)
     }
 
-    /// Makes the tree ready for a store, which is then not refused for want of rows: it frees the held rows that died up to the
-    /// least epoch at which a section stands open. Where too few rows are free then, the shortage tells so. It is no call of the
-    /// history.
+    /// Makes the tree ready for a store, which is then not refused because nodes are short. It frees the held nodes that died
+    /// up to the least epoch at which a section is open. If too few nodes are then free, the shortage says so. It is no call of
+    /// the history.
     pub fn preallocate(&mut self) -> Result<(), Shortage>
         ensures same_reference { self.new.pass.ghost_name ≡ self.old.pass.ghost_name }
         ensures tree { self.new.tree ≡ self.old.tree }
@@ -214,7 +214,7 @@ impl<'a> Locked<'a, Taken<WriterState>> {
         self.taken.value.ready()
     }
 
-    /// Makes a store for which the tree is ready. It is never refused for want of rows, and loads no section word.
+    /// Makes a store for which the tree is ready. It is never refused for lack of nodes, and loads no section word.
     pub fn store_prealloc(&mut self, first: u64, last: u64, entry: u64) -> Result<Done, Worn>
         requires { IsReady self.old.taken.value.parts }
         ensures same_reference { self.new.pass.ghost_name ≡ self.old.pass.ghost_name }
@@ -242,7 +242,7 @@ impl<'a> Locked<'a, Taken<WriterState>> {
         list_under(&mut self.taken, self.tree, self.pass, alloc)
     }
 
-    /// Gives the lock back. The pass is as the last call left it.
+    /// Gives the lock back. The handle is as the last call left it.
     pub fn unlock(self)
         ensures pass { self.exit.1.0.now ≡ self.entry.pass.now }
         ensures of { IsPassOf self.entry.tree.now self.exit.1.0.now }

@@ -1,4 +1,4 @@
-//! How a tree uses its rows, and since when its sections stand open, for a program that cannot wait.
+//! How a tree uses its nodes, and since when its sections are open, for a program that cannot wait.
 
 ghost use Rattle.std.specs.Prelude.{◌≡◌, IfErr, IfOk};
 ghost use Rattle.mt_base.specs.Passes.{Saw};
@@ -27,7 +27,7 @@ use mt_rows::Rows;
 use mt_rule::{Busy, LongRows, OfWidth, Pass, ShortRows};
 use std::marker::Brand;
 
-/// Loads the section words, and frees the rows that no section holds. Answers the least epoch at which a section stands open.
+/// Loads the section words, and frees the nodes that no section holds. Returns the least epoch at which a section is open.
 fn clear_old<R: Rows>(rows: &mut R, book: &mut RowBook) -> u64
     requires { (kind : Kind) × IsEngineState kind (R.sheet rows.old) book.old }
     ensures scanned { (kind : Kind) → IsEngineState kind (R.sheet rows.old) book.old → IsScanned kind (R.sheet rows.old) (R.sheet rows.new) book.old book.new }
@@ -38,7 +38,7 @@ fn clear_old<R: Rows>(rows: &mut R, book: &mut RowBook) -> u64
     scan.least
 }
 
-/// The same of the rows behind the lock.
+/// Frees the nodes under the lock that no section holds. Returns the least epoch at which a section is open.
 fn oldest_at_work<W: Writer, K: OfWidth>(
     tools: &mut Option<Tools>,
     tree: &Tree,
@@ -65,7 +65,7 @@ fn oldest_at_work<W: Writer, K: OfWidth>(
 }
 
 impl WriterState {
-    /// Frees the rows that no section holds. Answers the least epoch at which a section stands open.
+    /// Frees the nodes that no section holds. Returns the least epoch at which a section is open.
     fn oldest(&mut self, tree: &Tree, pass: &mut Pass) -> u64
         requires table { self.old.table ≡ place_of tree.now }
         requires pass { IsPassOf tree.now pass.old }
@@ -79,7 +79,7 @@ impl WriterState {
         by_width!(tree, oldest_at_work(&mut self.tools, tree, pass))
     }
 
-    /// How the tree uses its rows.
+    /// How the tree uses its nodes.
     fn stats(&self, tree: &Tree) -> Stats
         requires { self.now.table ≡ place_of tree.now }
         ensures shape { self.now.pen.shape ≡ (place_of tree.now).shape }
@@ -102,11 +102,11 @@ impl WriterState {
 }
 
 impl Tree {
-    /// How the tree uses its rows after all that the pass has then seen, if the lock is free. It does not wait.
+    /// How the tree uses its nodes after all that the handle has then seen, if the lock is free. It does not wait.
     ///
     /// # Errors
     ///
-    /// `Busy` where the lock was found taken, by the one try that was made; nothing is changed, and the pass has seen no more.
+    /// `Busy` if the one try found the lock taken. Nothing is changed, and the handle has seen no more.
     pub fn try_stats(&self, pass: &mut Pass) -> Result<Stats, Busy>
         requires { IsPassOf self.now pass.old }
         ensures of { IsPassOf self.now pass.new }
@@ -123,12 +123,12 @@ impl Tree {
         Ok(stats)
     }
 
-    /// How many calls had ended at the least when a section was opened that stands open now, if the lock is free: where none stands
-    /// open, so many are all. It does not wait. It frees the rows that no section holds.
+    /// If the lock is free: when the sections that are now open were opened, at least this many calls had ended. If none is
+    /// open, it is the number of all calls. It does not wait. It frees the nodes that no section holds.
     ///
     /// # Errors
     ///
-    /// `Busy` where the lock was found taken, by the one try that was made; nothing is changed, and the pass has seen no more.
+    /// `Busy` if the one try found the lock taken. Nothing is changed, and the handle has seen no more.
     pub fn try_oldest(&self, pass: &mut Pass) -> Result<u64, Busy>
         requires { IsPassOf self.now pass.old }
         ensures of { IsPassOf self.now pass.new }

@@ -1,4 +1,4 @@
-//! A new tree, and its passes.
+//! A new tree, and its passes (handles).
 
 ghost use Rattle.std.specs.Prelude.{◌≡◌, ◌↔◌, ◌+◌, ◌/◌, ◌≤◌, All, Some, [], length, map, IfOk};
 ghost use Rattle.mt_rows.specs.Memory.{sheet_in};
@@ -27,8 +27,8 @@ use std::alloc::Global;
 use std::snapshot::Snapshot;
 
 impl Tree {
-    /// An empty tree, and its passes, numbered from 0. A shape that is out of range is refused before any memory is taken, by its
-    /// first field that is.
+    /// An empty tree, and its handles, numbered from 0. A shape that is out of range is refused before any memory is taken, by
+    /// its first such field.
     ///
     /// # Errors
     ///
@@ -93,7 +93,7 @@ impl Tree {
         Tree::open_over(alloc, shape, opening, words, book, height)
     }
 
-    /// A tree that opens with these rows, on which no call was begun.
+    /// A tree that opens with these nodes, on which no call was begun.
     pub(crate) fn open(
         alloc: Global,
         shape: Shape,
@@ -113,7 +113,7 @@ impl Tree {
         Tree::open_over(alloc, shape, opening, &words, book, height)
     }
 
-    /// As `open`, over the words of a table that opens with these rows, whose tree has so many levels.
+    /// As `open`, over the words of a table that opens with these nodes, whose tree has this height.
     fn open_over(
         alloc: Global,
         shape: Shape,
@@ -145,7 +145,7 @@ impl Tree {
     }
 }
 
-/// How many levels the tree of these rows has. The rows and their book are as they were.
+/// How many levels the tree of these nodes has. The nodes and their book are as they were.
 fn measured(rows: PlainRows, book: RowBook, kind: Kind) -> (u64, PlainRows, RowBook)
     requires { IsIdle kind (sheet_in rows) book }
     ensures height { HasHeight (sheet_in rows).tree result.0 }
@@ -158,7 +158,7 @@ fn measured(rows: PlainRows, book: RowBook, kind: Kind) -> (u64, PlainRows, RowB
     (height, rows, book)
 }
 
-/// The turn of a table's writers, at which each pass has a seat.
+/// The turn (lock) of a table's writers, at which each handle has a seat.
 fn serve(
     alloc: Global,
     table: &MtTable,

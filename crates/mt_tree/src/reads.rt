@@ -18,8 +18,8 @@ use mt_rule::Pass;
 use std::sync::ledger::Ledger;
 
 impl Tree {
-    /// The range that an index lies in, after some number of calls from `lo` to `hi`. The pass has opened a section at `lo`
-    /// and closed it. There is none where the index lies in a hole.
+    /// The range that an index lies in, true after some number of calls from `lo` to `hi`. There is none if the index lies in a
+    /// hole. The handle has opened a section at `lo` and closed it.
     pub fn load_range<L: Ledger>(
         &self,
         pass: &mut Pass,
@@ -38,7 +38,7 @@ impl Tree {
         Read { lo, hi, value }
     }
 
-    /// The entry that an index holds. There is none where the index lies in a hole.
+    /// The entry that an index holds. There is none if the index lies in a hole.
     pub fn load<L: Ledger>(
         &self,
         pass: &mut Pass,
@@ -57,8 +57,7 @@ impl Tree {
         Read { lo, hi, value }
     }
 
-    /// The first range that ends at an index or above, and begins at `max` or below. There is none where the index is above
-    /// `max`.
+    /// The first range that ends at an index or above, and begins at `max` or below. There is none if the index is above `max`.
     pub fn find<L: Ledger>(
         &self,
         pass: &mut Pass,
@@ -82,9 +81,9 @@ impl Tree {
     ///
     /// # Errors
     ///
-    /// `Moved` where the leaf of the index has no answer, and was found marked as dead after the leaf beside it was read: more
-    /// than `lo` calls have begun. What the pass knows then has only grown. For an index above the greatest of the tree it is the
-    /// leaf of the greatest.
+    /// `Moved` if the leaf of the index has no answer, and was found marked as dead after the leaf beside it was read: more
+    /// than `lo` calls have begun. What the handle knows has then only grown. For an index above the greatest of the tree it is
+    /// the leaf of the greatest.
     pub fn next<L: Ledger>(
         &self,
         pass: &mut Pass,
@@ -111,9 +110,9 @@ impl Tree {
     ///
     /// # Errors
     ///
-    /// `Moved` where the leaf of the index has no answer, and was found marked as dead after the leaf beside it was read: more
-    /// than `lo` calls have begun. What the pass knows then has only grown. For an index above the greatest of the tree it is the
-    /// leaf of the greatest.
+    /// `Moved` if the leaf of the index has no answer, and was found marked as dead after the leaf beside it was read: more
+    /// than `lo` calls have begun. What the handle knows has then only grown. For an index above the greatest of the tree it is
+    /// the leaf of the greatest.
     pub fn prev<L: Ledger>(
         &self,
         pass: &mut Pass,
@@ -136,13 +135,13 @@ impl Tree {
         Ok(Read { lo, hi, value })
     }
 
-    /// The last range that begins at an index or below, and ends at `min` or above. There is none where the index is below `min`.
+    /// The last range that begins at an index or below, and ends at `min` or above. There is none if the index is below `min`.
     ///
     /// # Errors
     ///
-    /// `Moved` where the leaf of the index has no answer, and was found marked as dead after the leaf beside it was read: more
-    /// than `lo` calls have begun. What the pass knows then has only grown. For an index above the greatest of the tree it is the
-    /// leaf of the greatest.
+    /// `Moved` if the leaf of the index has no answer, and was found marked as dead after the leaf beside it was read: more
+    /// than `lo` calls have begun. What the handle knows has then only grown. For an index above the greatest of the tree it is
+    /// the leaf of the greatest.
     pub fn rfind<L: Ledger>(
         &self,
         pass: &mut Pass,

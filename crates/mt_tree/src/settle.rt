@@ -1,4 +1,4 @@
-//! All passes of a tree see the whole history.
+//! All handles of a tree see the whole history.
 
 ghost use Rattle.std.specs.Prelude.{◌≡◌, ◌∷◌, All, map, length, flat_map, IfErr, IfOk, IsPermutation};
 ghost use Rattle.std.specs.List.{range_with_len};
@@ -16,7 +16,7 @@ use mt_rule::{Busy, Pass};
 use std::sync::Wait;
 
 impl WriterState {
-    /// Each of these passes sees the whole history.
+    /// Each of these handles sees the whole history.
     fn show_each(&mut self, tree: &Tree, passes: &mut [Pass])
         requires table { self.old.table ≡ place_of tree.now }
         requires of { All (IsPassOf tree.now) passes.old }
@@ -30,7 +30,7 @@ impl WriterState {
         }
     }
 
-    /// All passes see the whole history.
+    /// All handles see the whole history.
     fn show_all(&mut self, tree: &Tree, passes: &mut [Pass])
         requires table { self.old.table ≡ place_of tree.now }
         requires all { AreAll tree.now passes.old }
@@ -42,7 +42,7 @@ impl WriterState {
         self.show_each(tree, passes);
     }
 
-    /// A pass and others see the whole history. Answers how many calls it has.
+    /// A handle and others see the whole history. Returns how many calls it has.
     fn meet(&mut self, tree: &Tree, pass: &mut Pass, others: &mut [Pass]) -> u64
         requires table { self.old.table ≡ place_of tree.now }
         requires pass { IsPassOf tree.now pass.old }
@@ -60,7 +60,7 @@ impl WriterState {
 }
 
 impl Tree {
-    /// All passes of the tree have then seen its whole history, whose calls are just theirs, each once.
+    /// Afterwards all handles of the tree have seen its whole history, whose calls are exactly theirs, each once.
     pub fn settle(&self, rt: &impl Wait, passes: &mut [Pass])
         requires { AreAll self.now passes.old }
         ensures all { AreAll self.now passes.new }
@@ -77,7 +77,7 @@ impl Tree {
     ///
     /// # Errors
     ///
-    /// `Busy` where the lock was found taken, by the one try that was made; nothing is changed, and no pass has seen more.
+    /// `Busy` if the one try found the lock taken. Nothing is changed, and no handle has seen more.
     pub fn try_settle(&self, passes: &mut [Pass]) -> Result<(), Busy>
         requires { AreAll self.now passes.old }
         ensures all { AreAll self.now passes.new }
@@ -93,12 +93,12 @@ impl Tree {
         Ok(())
     }
 
-    /// A pass of the tree meets others under its lock, if that is free: each of them has then seen its whole history, of so many
-    /// calls. It does not wait.
+    /// A handle of the tree meets others under its lock, if that is free. Each of them has then seen its whole history, of this
+    /// many calls. It does not wait.
     ///
     /// # Errors
     ///
-    /// `Busy` where the lock was found taken, by the one try that was made; nothing is changed, and no pass has seen more.
+    /// `Busy` if the one try found the lock taken. Nothing is changed, and no handle has seen more.
     pub fn try_meet(&self, pass: &mut Pass, others: &mut [Pass]) -> Result<u64, Busy>
         requires pass { IsPassOf self.now pass.old }
         requires others { All (IsPassOf self.now) others.old }

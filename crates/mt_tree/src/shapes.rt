@@ -1,4 +1,4 @@
-//! What a tree is made of, and what its calls answer.
+//! What a tree is made from, and what its calls return.
 
 ghost use Rattle.std.specs.Prelude.{◌≡◌, None, IfOk};
 ghost use Rattle.mt_base.specs.Width.{kind_width};
@@ -13,11 +13,11 @@ use std::alloc::Global;
 use std::fmt;
 use thiserror::Error;
 
-/// What a tree is made of.
+/// What a tree is made from.
 #[derive(Clone, Copy, Debug, PartialEq, Eq)]
 pub struct Shape {
     pub kind: Kind,
-    /// How many rows it has: 4 to 65,504. A row has 256 bytes, and 512 where indexes have 32 bits.
+    /// How many nodes it has: 4 to 65,504. A node has 256 bytes, and 512 where indexes have 32 bits.
     pub rows: u64,
     /// How many threads can use it at once: 1 to 62.
     pub passes: u32,
@@ -60,7 +60,7 @@ impl Shape {
         }
     }
 
-    /// The rows of such a tree, none of which was used.
+    /// The nodes of such a tree, none of which was used.
     pub(crate) fn new_rows(&self, alloc: Global) -> Result<PlainRows, NoMemory>
         requires { defined.first_bad self.now ≡ None }
         ensures { IfOk result (λ rows. sheet_in rows ≡ new_sheet (kind_width self.now.kind) self.now.rows) }
@@ -86,7 +86,7 @@ pub enum DupError {
     /// The copy is of another kind.
     #[error("the copy is to be of another kind than the tree")]
     Invalid,
-    /// The copy's rows are fewer than those that the tree has in use.
+    /// The copy's nodes are fewer than those that the tree has in use.
     #[error("the copy is to have {rows} rows, and the tree has {live} in use")]
     NoNodes { rows: u64, live: u64 },
     #[error("there is no memory for the copy")]
@@ -115,8 +115,8 @@ pub struct Read<T> {
     pub value: T,
 }
 
-/// How a tree uses its rows: how many it has, and how many of these are free, in use, and held back; how many levels it has, and how
-/// many calls have ended.
+/// How a tree uses its nodes: how many it has, and how many of these are free, in use, and held back; how many levels it has,
+/// and how many calls have ended.
 #[derive(Clone, Copy, Debug, PartialEq, Eq)]
 pub struct Stats {
     pub rows: u64,

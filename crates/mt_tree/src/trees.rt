@@ -11,14 +11,14 @@ use crate::behind::WriterState;
 use crate::shapes::Shape;
 use mt_rule::{MtTable, Turn};
 
-/// A tree that threads share. Each uses it by a pass of its own, which `make` and `dup` give.
+/// A tree that threads share. Each thread uses it by a pass (handle) of its own, which `make` and `dup` return.
 ///
 /// What changes the tree, `lock`, `check`, `dup` and `settle` wait for its lock. The lock spins: who finds it taken gives the
 /// processor to another thread and tries again. None waits in a queue, so that no bound is known for a wait.
 ///
-/// A pass that is dropped while its section stands open, since a cursor of it was dropped or forgotten, leaves it open for good:
-/// no other pass can close it. Rows that die from then on are never free again, and a call that lacks them is refused with
-/// `NoNodes`, which names that pass.
+/// A handle that is dropped while its section is open, because a cursor of it was dropped or forgotten, leaves it open for
+/// good: no other handle can close it. Nodes that die from then on are never free again. A call that lacks them is refused with
+/// `NoNodes`, which names that handle.
 #[derive(Drop)]
 pub struct Tree {
     pub(crate) table: MtTable,

@@ -30,7 +30,7 @@ impl Tree {
     ///
     /// # Errors
     ///
-    /// `Busy` where the lock was found taken, by the one try that was made; nothing is changed, and the pass has seen no more.
+    /// `Busy` if the one try found the lock taken. Nothing is changed, and the handle has seen no more.
     pub fn try_check(&self, pass: &mut Pass) -> Result<Form, Busy>
         requires { IsPassOf self.now pass.old }
         ensures of { IsPassOf self.now pass.new }
@@ -50,7 +50,7 @@ impl Tree {
     ///
     /// # Errors
     ///
-    /// `Busy` where the lock was found taken, by the one try that was made; nothing is changed, and the pass has seen no more.
+    /// `Busy` if the one try found the lock taken. Nothing is changed, and the handle has seen no more.
     pub fn try_image(
         &self,
         alloc: Global,
@@ -71,7 +71,7 @@ impl Tree {
         Ok(image)
     }
 
-    /// Copies the rows into new ones. Answers how many are in use.
+    /// Copies the nodes into new ones. Answers how many are in use.
     fn try_copy_rows(
         &self,
         pass: &mut Pass,
@@ -95,7 +95,7 @@ impl Tree {
         Ok(live)
     }
 
-    /// The same where this shape is in range and of the tree's kind: the copy's rows and their book.
+    /// The copy's nodes and their book, if the lock is free. The shape is in range and of the tree's kind.
     #[tactic(auto, using(crate::proofs::Forms::uncounted, crate::proofs::Forms::counted_behind))]
     fn try_copied(
         &self,
@@ -122,13 +122,13 @@ impl Tree {
         Ok(open_copy(alloc, shape, live, rows, book))
     }
 
-    /// `dup`, if the lock is free. It does not wait, and does not go for the lock where the shape or the kind is refused, or memory
-    /// ran out for the new rows.
+    /// `dup`, if the lock is free. It does not wait. It does not go for the lock if the shape or the kind is refused, or memory
+    /// ran out for the new nodes.
     ///
     /// # Errors
     ///
-    /// `Busy` where the lock was found taken, by the one try that was made; nothing is changed, and the pass has seen no more. The
-    /// inner error is that of `dup`.
+    /// `Busy` if the one try found the lock taken. Nothing is changed, and the handle has seen no more. The inner error is that
+    /// of `dup`.
     #[tactic(auto, using(crate::proofs::Forms::uncounted, crate::proofs::Forms::bad_refused, crate::proofs::Forms::invalid_refused, crate::proofs::Forms::refused_uncounted))]
     pub fn try_dup(
         &self,

@@ -17,7 +17,7 @@ impl Tree {
     ///
     /// # Errors
     ///
-    /// `Busy` where the lock was found taken, by the one try that was made; nothing is changed, and the pass has seen no more.
+    /// `Busy` if the one try found the lock taken. Nothing is changed, and the handle has seen no more.
     pub fn try_act(&self, pass: &mut Pass, call: &Call) -> Result<Result<Done, Worn>, Busy>
         requires { IsPassOf self.now pass.old }
         ensures of { IsPassOf self.now pass.new }
@@ -36,7 +36,7 @@ impl Tree {
     ///
     /// # Errors
     ///
-    /// `Busy` where the lock was found taken, by the one try that was made; nothing is changed, and the pass has seen no more.
+    /// `Busy` if the one try found the lock taken. Nothing is changed, and the handle has seen no more.
     pub fn try_store_range(
         &self,
         pass: &mut Pass,
@@ -58,7 +58,7 @@ impl Tree {
     ///
     /// # Errors
     ///
-    /// `Busy` where the lock was found taken, by the one try that was made; nothing is changed, and the pass has seen no more.
+    /// `Busy` if the one try found the lock taken. Nothing is changed, and the handle has seen no more.
     pub fn try_store_pre(
         &self,
         pass: &mut Pass,
@@ -80,7 +80,7 @@ impl Tree {
     ///
     /// # Errors
     ///
-    /// `Busy` where the lock was found taken, by the one try that was made; nothing is changed, and the pass has seen no more.
+    /// `Busy` if the one try found the lock taken. Nothing is changed, and the handle has seen no more.
     pub fn try_insert_range(
         &self,
         pass: &mut Pass,
@@ -102,7 +102,7 @@ impl Tree {
     ///
     /// # Errors
     ///
-    /// `Busy` where the lock was found taken, by the one try that was made; nothing is changed, and the pass has seen no more.
+    /// `Busy` if the one try found the lock taken. Nothing is changed, and the handle has seen no more.
     pub fn try_erase(&self, pass: &mut Pass, index: u64) -> Result<Result<Done, Worn>, Busy>
         requires { IsPassOf self.now pass.old }
         ensures of { IsPassOf self.now pass.new }
@@ -118,7 +118,7 @@ impl Tree {
     ///
     /// # Errors
     ///
-    /// `Busy` where the lock was found taken, by the one try that was made; nothing is changed, and the pass has seen no more.
+    /// `Busy` if the one try found the lock taken. Nothing is changed, and the handle has seen no more.
     pub fn try_alloc_range(
         &self,
         pass: &mut Pass,
@@ -149,7 +149,7 @@ impl Tree {
     ///
     /// # Errors
     ///
-    /// `Busy` where the lock was found taken, by the one try that was made; nothing is changed, and the pass has seen no more.
+    /// `Busy` if the one try found the lock taken. Nothing is changed, and the handle has seen no more.
     pub fn try_alloc_rrange(
         &self,
         pass: &mut Pass,
@@ -180,7 +180,7 @@ impl Tree {
     ///
     /// # Errors
     ///
-    /// `Busy` where the lock was found taken, by the one try that was made; nothing is changed, and the pass has seen no more.
+    /// `Busy` if the one try found the lock taken. Nothing is changed, and the handle has seen no more.
     pub fn try_empty_area(
         &self,
         pass: &mut Pass,
@@ -202,7 +202,7 @@ impl Tree {
     ///
     /// # Errors
     ///
-    /// `Busy` where the lock was found taken, by the one try that was made; nothing is changed, and the pass has seen no more.
+    /// `Busy` if the one try found the lock taken. Nothing is changed, and the handle has seen no more.
     pub fn try_empty_area_rev(
         &self,
         pass: &mut Pass,
@@ -224,7 +224,7 @@ impl Tree {
     ///
     /// # Errors
     ///
-    /// `Busy` where the lock was found taken, by the one try that was made; nothing is changed, and the pass has seen no more.
+    /// `Busy` if the one try found the lock taken. Nothing is changed, and the handle has seen no more.
     pub fn try_clear(&self, pass: &mut Pass) -> Result<Result<Done, Worn>, Busy>
         requires { IsPassOf self.now pass.old }
         ensures of { IsPassOf self.now pass.new }

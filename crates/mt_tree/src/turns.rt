@@ -1,4 +1,4 @@
-//! The lock of a tree, as a pass takes it.
+//! The lock of a tree, as a handle takes it.
 
 ghost use Rattle.std.specs.Prelude.{◌≡◌, map, IfErr, IfOk};
 ghost use Rattle.mt_rule.specs.Tokens.{pass_in};
@@ -12,7 +12,7 @@ use mt_rule::{Busy, Pass, Taken};
 use std::sync::Wait;
 
 impl Tree {
-    /// Waits for the lock. The pass counts that it went for it, and knows what it knew.
+    /// Waits for the lock. The handle counts that it went for it, and knows what it knew.
     pub(crate) fn take(&self, rt: &impl Wait, pass: &mut Pass) -> Taken<WriterState>
         requires { IsPassOf self.now pass.old }
         ensures of { IsPassOf self.now pass.new }
@@ -42,7 +42,7 @@ impl Tree {
         self.turn.try_take(pass)
     }
 
-    /// Waits for the lock by the first of these passes.
+    /// Waits for the lock by the first of these handles.
     pub(crate) fn take_first(&self, rt: &impl Wait, passes: &mut [Pass]) -> Taken<WriterState>
         requires { AreAll self.now passes.old }
         ensures passes { passes.new ≡ first_tried passes.old }
@@ -54,7 +54,7 @@ impl Tree {
         self.turn.take(rt, &mut passes[0])
     }
 
-    /// Tries for the lock by the first of these passes.
+    /// Tries for the lock by the first of these handles.
     ///
     /// # Errors
     ///

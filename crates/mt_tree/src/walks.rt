@@ -1,4 +1,5 @@
-//! Walks whose pass and place the caller keeps, each as a value: a [`Cursor`](crate::Cursor) borrows both a tree and a pass.
+//! Walks whose handle and place the caller keeps, each as a value: a [`Cursor`](crate::Cursor) borrows both a tree and a
+//! handle.
 
 ghost use Rattle.std.specs.Prelude.{◌≡◌, ◌+◌, ◌≤◌, ◌<◌, None};
 ghost use Rattle.mt_rule.specs.Tokens.{pass_in, IsCounted};
@@ -14,7 +15,8 @@ use std::marker::Brand;
 use std::sync::ledger::{Blank, Ledger};
 
 impl Tree {
-    /// The next range of the walk, after some number of calls from `lo` to `hi`, as [`Cursor::step`](crate::Cursor::step) tells it.
+    /// The next range of the walk, true after some number of calls from `lo` to `hi`, as by
+    /// [`Cursor::step`](crate::Cursor::step).
     pub fn step<L: Ledger>(
         &self,
         pass: &mut Pass,

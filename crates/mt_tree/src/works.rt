@@ -1,4 +1,4 @@
-//! Calls at work: the tools are taken from behind the lock, an engine works on the table's rows, and they are put back.
+//! Calls at work: the tools are taken from under the lock, an engine works on the table's nodes, and they are put back.
 
 ghost use Rattle.std.specs.Prelude.{◌≡◌, ◌↔◌, ◌+◌, ◌-◌, ◌^◌, ◌<◌, ◌≤◌, None, true, [], length, IsOk, IfOk, IfErr};
 ghost use Rattle.std.specs.List.{AllByRecursion};
@@ -23,7 +23,7 @@ use mt_rule::{OfWidth, Pass};
 use std::alloc::Global;
 use std::mem;
 
-/// A work on the rows of a tree, once for each width.
+/// A work on the nodes of a tree, once for each width.
 macro_rules! by_width {
     ($tree:expr, $work:ident($($arg:expr),*)) => {
         match $tree.table.width() {
@@ -35,7 +35,7 @@ macro_rules! by_width {
 
 pub(crate) use by_width;
 
-/// Takes the tools, for a call of the pass, which is then away.
+/// Takes the tools, for a call of the handle, which is then away.
 pub(crate) fn begin<'a, W: Writer, K: OfWidth>(
     tools: &mut Option<Tools>,
     tree: &'a Tree,
@@ -57,7 +57,7 @@ pub(crate) fn begin<'a, W: Writer, K: OfWidth>(
     Engine::of_height(rows, book, tree.shape.kind, height)
 }
 
-/// Puts the tools back, and gives the pass what it knows then.
+/// Puts the tools back, and gives the handle what it then knows.
 pub(crate) fn end<W: Writer, K: OfWidth>(
     tools: &mut Option<Tools>,
     tree: &Tree,
@@ -78,8 +78,8 @@ pub(crate) fn end<W: Writer, K: OfWidth>(
     *tools = Some(Tools { pen, book, height });
 }
 
-/// Makes one call with an engine, and gives it back. It is moved here once the pass is joined, so that the program writes it down
-/// where it stays; that takes a call a thirtieth less of time.
+/// Makes one call with an engine, and returns the engine. It is moved here once the handle is joined, so that the program
+/// writes it down where it stays. That makes a call a thirtieth faster.
 fn applied<R: Rows>(engine: Engine<R>, call: &Call) -> (Engine<R>, Reply)
     requires { engine.sheet.ended < 2 ^ 62 - 1 }
     ensures applied { IsApplied engine.kind engine.sheet result.0.sheet engine.book result.0.book call.now result.1 }
@@ -118,7 +118,7 @@ pub(crate) fn act<W: Writer, K: OfWidth>(
     reply
 }
 
-/// Makes a store for which rows were found free.
+/// Makes a store for which nodes were found free.
 pub(crate) fn store_prealloc<W: Writer, K: OfWidth>(
     tools: &mut Option<Tools>,
     tree: &Tree,

@@ -13,12 +13,13 @@ use mt_rule::{Note, Pass};
 use std::sync::Wait;
 
 impl Tree {
-    /// Makes one call, any of those below, under a lock of its own. One that wants rows is refused with `NoNodes` where too few are
-    /// free, when those were freed that no section holds, as the section words show that it loads; any other call loads none.
+    /// Makes one call, any of those below, under a lock of its own. A call that needs nodes first loads the section words and
+    /// frees the nodes that no section holds. It is refused with `NoNodes` if too few are then free. Any other call loads no
+    /// section word.
     ///
     /// # Errors
     ///
-    /// `Worn` where the tree has had as many calls as it may have; the pass has then seen them all, and nothing is changed.
+    /// `Worn` if the tree has had as many calls as it may have. The handle has then seen them all, and nothing is changed.
     pub fn act(&self, rt: &impl Wait, pass: &mut Pass, call: &Call) -> Result<Done, Worn>
         requires { IsPassOf self.now pass.old }
         ensures of { IsPassOf self.now pass.new }
@@ -38,7 +39,7 @@ impl Tree {
     ///
     /// # Errors
     ///
-    /// `Worn` where the tree has had as many calls as it may have; the pass has then seen them all, and nothing is changed.
+    /// `Worn` if the tree has had as many calls as it may have. The handle has then seen them all, and nothing is changed.
     pub fn store_range(
         &self,
         rt: &impl Wait,
@@ -58,12 +59,12 @@ impl Tree {
         self.act(rt, pass, &Call::Store { first, last, entry })
     }
 
-    /// Stores as `store_range` does, but wants the rows of a store that changes nodes whatever it comes to: it is refused with
-    /// `NoNodes` where they are not free.
+    /// Stores as `store_range` does, but always needs the nodes of a store that changes nodes: it is refused with `NoNodes` if
+    /// they are not free.
     ///
     /// # Errors
     ///
-    /// `Worn` where the tree has had as many calls as it may have; the pass has then seen them all, and nothing is changed.
+    /// `Worn` if the tree has had as many calls as it may have. The handle has then seen them all, and nothing is changed.
     pub fn store_pre(
         &self,
         rt: &impl Wait,
@@ -87,7 +88,7 @@ impl Tree {
     ///
     /// # Errors
     ///
-    /// `Worn` where the tree has had as many calls as it may have; the pass has then seen them all, and nothing is changed.
+    /// `Worn` if the tree has had as many calls as it may have. The handle has then seen them all, and nothing is changed.
     pub fn insert_range(
         &self,
         rt: &impl Wait,
@@ -111,7 +112,7 @@ impl Tree {
     ///
     /// # Errors
     ///
-    /// `Worn` where the tree has had as many calls as it may have; the pass has then seen them all, and nothing is changed.
+    /// `Worn` if the tree has had as many calls as it may have. The handle has then seen them all, and nothing is changed.
     pub fn erase(&self, rt: &impl Wait, pass: &mut Pass, index: u64) -> Result<Done, Worn>
         requires { IsPassOf self.now pass.old }
         ensures of { IsPassOf self.now pass.new }
@@ -124,11 +125,11 @@ impl Tree {
         self.act(rt, pass, &Call::Erase { index })
     }
 
-    /// Stores an entry over so many free indexes of a window, the lowest there are.
+    /// Stores an entry over `size` free indexes of a window, the lowest there are.
     ///
     /// # Errors
     ///
-    /// `Worn` where the tree has had as many calls as it may have; the pass has then seen them all, and nothing is changed.
+    /// `Worn` if the tree has had as many calls as it may have. The handle has then seen them all, and nothing is changed.
     pub fn alloc_range(
         &self,
         rt: &impl Wait,
@@ -158,11 +159,11 @@ impl Tree {
         )
     }
 
-    /// Stores an entry over so many free indexes of a window, the highest there are.
+    /// Stores an entry over `size` free indexes of a window, the highest there are.
     ///
     /// # Errors
     ///
-    /// `Worn` where the tree has had as many calls as it may have; the pass has then seen them all, and nothing is changed.
+    /// `Worn` if the tree has had as many calls as it may have. The handle has then seen them all, and nothing is changed.
     pub fn alloc_rrange(
         &self,
         rt: &impl Wait,
@@ -192,12 +193,12 @@ impl Tree {
         )
     }
 
-    /// Tells the lowest place where so many indexes of a window are free. It stores nothing, but takes the lock and is a call of
-    /// the history.
+    /// Returns the lowest place where `size` indexes of a window are free. It stores nothing, but takes the lock and is a call
+    /// of the history.
     ///
     /// # Errors
     ///
-    /// `Worn` where the tree has had as many calls as it may have; the pass has then seen them all, and nothing is changed.
+    /// `Worn` if the tree has had as many calls as it may have. The handle has then seen them all, and nothing is changed.
     pub fn empty_area(
         &self,
         rt: &impl Wait,
@@ -217,12 +218,12 @@ impl Tree {
         self.act(rt, pass, &Call::Gap { size, min, max })
     }
 
-    /// Tells the highest place where so many indexes of a window are free. It stores nothing, but takes the lock and is a call of
-    /// the history.
+    /// Returns the highest place where `size` indexes of a window are free. It stores nothing, but takes the lock and is a call
+    /// of the history.
     ///
     /// # Errors
     ///
-    /// `Worn` where the tree has had as many calls as it may have; the pass has then seen them all, and nothing is changed.
+    /// `Worn` if the tree has had as many calls as it may have. The handle has then seen them all, and nothing is changed.
     pub fn empty_area_rev(
         &self,
         rt: &impl Wait,
@@ -246,7 +247,7 @@ impl Tree {
     ///
     /// # Errors
     ///
-    /// `Worn` where the tree has had as many calls as it may have; the pass has then seen them all, and nothing is changed.
+    /// `Worn` if the tree has had as many calls as it may have. The handle has then seen them all, and nothing is changed.
     pub fn clear(&self, rt: &impl Wait, pass: &mut Pass) -> Result<Done, Worn>
         requires { IsPassOf self.now pass.old }
         ensures of { IsPassOf self.now pass.new }
@@ -259,7 +260,7 @@ impl Tree {
         self.act(rt, pass, &Call::Clear)
     }
 
-    /// Copies what the pass has seen.
+    /// Copies what the handle has seen.
     pub fn note(&self, pass: &mut Pass) -> Note
         requires { IsPassOf self.now pass.old }
         ensures pass { pass.new ≡ pass.old }
@@ -269,7 +270,7 @@ impl Tree {
         self.table.split_note(pass)
     }
 
-    /// The pass has then seen the longer of what it had seen and what the note tells. Each of these begins it.
+    /// Afterwards the handle has seen the longer of what it had seen and what the note holds. Each of these begins it.
     pub fn learn(&self, pass: &mut Pass, note: Note)
         requires pass { IsPassOf self.now pass.old }
         requires note { IsNoteOf self.now note }

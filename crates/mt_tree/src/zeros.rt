@@ -18,7 +18,7 @@ pub struct Zeros {
     ghost zero: { AreZero words.items },
 }
 
-/// That of two widths whose rows are longer.
+/// That of two widths whose nodes are longer.
 fn wider(a: Width, b: Width) -> Width
     ensures first { columns a ≤ columns result }
     ensures second { columns b ≤ columns result }
@@ -26,7 +26,7 @@ fn wider(a: Width, b: Width) -> Width
     if cols(a) < cols(b) { b } else { a }
 }
 
-/// The width of the longest rows that trees of these kinds have.
+/// The width of the longest nodes that trees of these kinds have.
 fn widest(kinds: &[Kind]) -> Width
     ensures { All (λ kind. columns (kind_width kind) ≤ columns result) kinds.now }
 {
@@ -37,7 +37,7 @@ fn widest(kinds: &[Kind]) -> Width
     widest
 }
 
-/// So many words of rows of this width, with those before the first row.
+/// So many words of nodes of this width, with those before the first node.
 fn size_of(width: Width, rows: u64) -> usize
     requires { rows ≤ most_rows }
     ensures { result ≡ table_size width rows }
@@ -46,7 +46,7 @@ fn size_of(width: Width, rows: u64) -> usize
 }
 
 impl Zeros {
-    /// Zeros for empty trees of all these kinds, of so many rows: as many words as the widest of them have.
+    /// Zeros for empty trees of all these kinds, of `rows` nodes: as many words as the widest of them have.
     ///
     /// # Errors
     ///
@@ -61,7 +61,7 @@ impl Zeros {
         Ok(Zeros { words })
     }
 
-    /// The words of an empty tree of this kind, of so many rows.
+    /// The words of an empty tree of this kind, of `rows` nodes.
     #[tactic(auto, using(crate::proofs::NoneWritten::zeros_open))]
     pub(crate) fn words_for(&self, kind: Kind, rows: u64) -> &[u64]
         requires few { rows ≤ most_rows }
