@@ -71,7 +71,7 @@ pub use Rattle.mt_c.specs.Preparing.{IsPreCalled, PreCalled, PreMade, pre_status
 pub use Rattle.mt_c.specs.Purses.{IsChairAtPurse, IsPurseBusy, RestsInPurse, WasGiven, WasKept, first_in, known_in}
 pub use Rattle.mt_c.specs.Receipts.{no_receipts, when_given, when_settled, when_synced, when_tried, when_unchanged}
 pub use Rattle.mt_c.specs.RowsFor.{level_from, levels_for, levels_from, rows_for, rows_told}
-pub use Rattle.mt_c.specs.Shared.{HasSettled, HasShared, HasSynced, HasTried, IfClosed, IsBadShape, IsFirstUser, IsMeant, IsOfPurse, IsSettledUser, IsShape, IsShut, IsSynced, IsUnchanged, IsWhy, LeftBy, OnKept, OnUser, OpensBeside, OpensOther, SettleResult, SharedAsked, SharedClosed, SharedKept, SharedLearned, SharedLeft, SharedNew, SharedOpened, SharedPaused, SharedSettled, SharedStepped, SharedSynced, SharedTried, SharedWith, StaysAs, WantsNoPlace, WentToSettle, answer_status, calls_in_c, field_status, no_outcome, no_window, outcome_of, rested, settled_status, settled_told, synced_status, tried_status, unchanged_status, went_on, window_of}
+pub use Rattle.mt_c.specs.Shared.{HasSettled, HasShared, HasSynced, HasTried, IfClosed, IsBadShape, IsFirstUser, IsLeftClosed, IsMeant, IsOfPurse, IsSettledUser, IsShape, IsShut, IsSynced, IsUnchanged, IsWhy, LeftBy, OnKept, OnUser, OpensBeside, OpensOther, SettleResult, SharedAsked, SharedClosed, SharedKept, SharedLearned, SharedLeft, SharedNew, SharedOpened, SharedPaused, SharedSettled, SharedStepped, SharedSynced, SharedTried, SharedWith, StaysAs, WantsNoPlace, WentToSettle, answer_status, calls_in_c, field_status, no_outcome, no_window, outcome_of, rested, settled_status, settled_told, synced_status, tried_status, unchanged_status, went_on, window_of}
 pub use Rattle.mt_c.specs.SharedImages.{BuildsIf, BuildsSo, IsFirstOfImage, IsFirstOfRanges, LacksFirstOfImage, LacksFirstOfRanges, LacksMany, OpensSo, OpensUser, SharedBuilds}
 pub use Rattle.mt_c.specs.SharedMaps.{IsFirstWith, LacksWith, OpensFirst, OpensWith, SharedOfTree, dup_status, shape_for}
 pub use Rattle.mt_c.specs.Spares.{IsSparePass}

@@ -1,7 +1,8 @@
 -- A shared tree that opens with the map of an image, or of ranges, or why there is none.
-use Rattle.mt_c.proofs.Prelude.{◌≡◌, ◌≢◌, ℕ, List, Option, Some, None, refl, sym, ap, subst, inl, inr, arith, ◌⊎◌, Result, Ok, Err, IsErr, Kind, Range, IsBuilt, rows_in, misplaced, ImageError, kind_code, Image, image_in, few_reached, IsLawfulOf, map_by, Rooted, Sheet, Shape, BuildWhy, User, UserHandle, LacksAnyhow, unopened, IfClosed, BuildsIf, BuildsSo, IsFirstOfImage, IsFirstOfRanges, LacksFirstOfImage, LacksFirstOfRanges, LacksMany, OpensSo, OpensUser, SharedBuilds, IsFirstWith, LacksWith, shape_for}
+use Rattle.mt_c.proofs.Prelude.{◌≡◌, ◌≢◌, ℕ, List, Option, Some, None, refl, sym, ap, subst, inl, inr, arith, ◌⊎◌, Result, Ok, Err, IsErr, Kind, Range, IsBuilt, rows_in, misplaced, ImageError, kind_code, Image, image_in, few_reached, IsLawfulOf, map_by, Rooted, Sheet, Shape, BuildWhy, User, UserHandle, LacksAnyhow, unopened, IfClosed, BuildsIf, BuildsSo, IsFirstOfImage, IsFirstOfRanges, LacksFirstOfImage, LacksFirstOfRanges, LacksMany, OpensSo, OpensUser, SharedBuilds, IsFirstWith, LacksWith, shape_for, IsLeftClosed}
 use Rattle.mt_image.specs.declared.errors.ImageError.TheVariants as errors
 use Rattle.mt_c.proofs.RangesBuilt.{lacks_anyhow}
+use Rattle.mt_c.proofs.Sharing.{left_none, left_some}
 
 -- where the rows are fewer than lawful words have in use, they are fewer than those have
 many_lack : (shape : Shape) (words : Rooted) (status : ℕ) → IsLawfulOf words shape.kind → LacksWith shape words status → LacksMany shape words.rows status
@@ -49,27 +50,27 @@ module _ (is : User → Type 0) (lacks : ℕ → Type 0) (before after : UserHan
   pub opens_busy : (number : ℕ) → unopened before.state ≡ Some number → after ≡ before → status ≡ number → OpensUser is lacks before after status
   opens_busy number taken same told = subst (λ (o : Option ℕ). IfClosed o before after status (OpensSo is lacks after.kept.value status)) (sym taken) (same, told)
 
-  opens_so : (o : Option User) → before.state ≡ 0 → after.kept.value ≡ o → OpensSo is lacks o status → OpensUser is lacks before after status
-  opens_so o closed made so =
-      subst (λ (x : Option ℕ × Option User). IfClosed x.0 before after status (OpensSo is lacks x.1 status)) (λ i. (sym (ap unopened closed) i, sym made i)) so
+  opens_so : (o : Option User) → before.state ≡ 0 → after.kept.value ≡ o → IsLeftClosed after → OpensSo is lacks o status → OpensUser is lacks before after status
+  opens_so o closed made left so =
+      subst (λ (x : Option ℕ × Option User). IfClosed x.0 before after status (OpensSo is lacks x.1 status)) (λ i. (sym (ap unopened closed) i, sym made i)) (left, so)
 
   pub opens_made : (u : User) → before.state ≡ 0 → after.kept.value ≡ Some u → status ≡ 0 → is u → OpensUser is lacks before after status
-  opens_made u closed made number ok = opens_so (Some u) closed made (number, ok)
+  opens_made u closed made number ok = opens_so (Some u) closed made (left_some after u made) (number, ok)
 
-  pub opens_none : before.state ≡ 0 → after.kept.value ≡ None → lacks status → OpensUser is lacks before after status
-  opens_none closed none why = opens_so None closed none why
+  pub opens_none : before.state ≡ 0 → after.kept.value ≡ None → after.state ≡ 0 → lacks status → OpensUser is lacks before after status
+  opens_none closed none shut why = opens_so None closed none (left_none after shut) why
 
 module _ (code rows passes calls : ℕ) (m : List Range) (before after : UserHandle) (status at : ℕ) where
   pub builds_busy : (number : ℕ) → unopened before.state ≡ Some number → after ≡ before → status ≡ number → at ≡ 0 → SharedBuilds code rows passes calls m before after status at
   builds_busy number taken same told place = subst (λ (o : Option ℕ). BuildsIf o before after status at (BuildsSo code rows passes calls m after.kept.value status at)) (sym taken) (same, told, place)
 
-  builds_so : (o : Option User) → before.state ≡ 0 → after.kept.value ≡ o → BuildsSo code rows passes calls m o status at → SharedBuilds code rows passes calls m before after status at
-  builds_so o closed made so =
-      subst (λ (x : Option ℕ × Option User). BuildsIf x.0 before after status at (BuildsSo code rows passes calls m x.1 status at)) (λ i. (sym (ap unopened closed) i, sym made i)) so
+  builds_so : (o : Option User) → before.state ≡ 0 → after.kept.value ≡ o → IsLeftClosed after → BuildsSo code rows passes calls m o status at → SharedBuilds code rows passes calls m before after status at
+  builds_so o closed made left so =
+      subst (λ (x : Option ℕ × Option User). BuildsIf x.0 before after status at (BuildsSo code rows passes calls m x.1 status at)) (λ i. (sym (ap unopened closed) i, sym made i)) (left, so)
 
   pub builds_made : (u : User) → before.state ≡ 0 → after.kept.value ≡ Some u → status ≡ 0 → at ≡ 0 → IsFirstOfRanges code rows passes calls m u → SharedBuilds code rows passes calls m before after status at
-  builds_made u closed made number place ok = builds_so (Some u) closed made (number, place, ok)
+  builds_made u closed made number place ok = builds_so (Some u) closed made (left_some after u made) (number, place, ok)
 
-  pub builds_none : (why : BuildWhy) → before.state ≡ 0 → after.kept.value ≡ None → status ≡ why.status → at ≡ why.at → LacksFirstOfRanges code rows passes calls m why.status why.at → SharedBuilds code rows passes calls m before after status at
-  builds_none why closed none number place lacks =
-      builds_so None closed none (subst (λ (x : ℕ × ℕ). LacksFirstOfRanges code rows passes calls m x.0 x.1) (λ i. (sym number i, sym place i)) lacks)
+  pub builds_none : (why : BuildWhy) → before.state ≡ 0 → after.kept.value ≡ None → after.state ≡ 0 → status ≡ why.status → at ≡ why.at → LacksFirstOfRanges code rows passes calls m why.status why.at → SharedBuilds code rows passes calls m before after status at
+  builds_none why closed none shut number place lacks =
+      builds_so None closed none (left_none after shut) (subst (λ (x : ℕ × ℕ). LacksFirstOfRanges code rows passes calls m x.0 x.1) (λ i. (sym number i, sym place i)) lacks)

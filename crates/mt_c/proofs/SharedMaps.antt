@@ -1,6 +1,7 @@
 -- A shared tree that opens with a map, or why there is none.
-use Rattle.mt_c.proofs.Prelude.{◌≡◌, ◌≢◌, ℕ, Option, Some, None, refl, sym, ap, subst, inl, inr, ◌↔◌, IfOk, Result, Ok, Err, Kind, map_by, Rooted, Parts, DupError, Field, Shape, IsLiveCounted, live_rows, first_bad, User, UserHandle, IsAsked, OwnTree, unopened, IfClosed, IsFirstWith, LacksWith, OpensFirst, OpensWith, SharedOfTree, dup_status, shape_for}
+use Rattle.mt_c.proofs.Prelude.{◌≡◌, ◌≢◌, ℕ, Option, Some, None, refl, sym, ap, subst, inl, inr, ◌↔◌, IfOk, Result, Ok, Err, Kind, map_by, Rooted, Parts, DupError, Field, Shape, IsLiveCounted, live_rows, first_bad, User, UserHandle, IsAsked, OwnTree, unopened, IfClosed, IsFirstWith, LacksWith, OpensFirst, OpensWith, SharedOfTree, dup_status, shape_for, IsLeftClosed}
 use Rattle.mt_tree.specs.declared.shapes.DupError.TheVariants as errors
+use Rattle.mt_c.proofs.Sharing.{left_none, left_some}
 
 -- ---- a user of a tree that was made of rows, or none
 
@@ -43,15 +44,15 @@ module _ (rows passes calls : ℕ) (before after : Option OwnTree) (other other'
     opens : OpensFirst shape t.engine.sheet.tree other other' status → SharedOfTree rows passes calls before after other other' status
     opens so = subst (λ (x : Option OwnTree × Option OwnTree). SharedOfTree rows passes calls x.0 x.1 other other' status) (λ i. (sym was i, sym is i)) (asked, so)
 
-    opens_so : (o : Option User) → other.state ≡ 0 → other'.kept.value ≡ o → OpensWith shape t.engine.sheet.tree o status → SharedOfTree rows passes calls before after other other' status
-    opens_so o closed made so =
-        opens (subst (λ (x : Option ℕ × Option User). IfClosed x.0 other other' status (OpensWith shape t.engine.sheet.tree x.1 status)) (λ i. (sym (ap unopened closed) i, sym made i)) so)
+    opens_so : (o : Option User) → other.state ≡ 0 → other'.kept.value ≡ o → IsLeftClosed other' → OpensWith shape t.engine.sheet.tree o status → SharedOfTree rows passes calls before after other other' status
+    opens_so o closed made left so =
+        opens (subst (λ (x : Option ℕ × Option User). IfClosed x.0 other other' status (OpensWith shape t.engine.sheet.tree x.1 status)) (λ i. (sym (ap unopened closed) i, sym made i)) (left, so))
 
     pub of_made : (u : User) → other.state ≡ 0 → other'.kept.value ≡ Some u → status ≡ 0 → IsFirstWith shape (map_by t.engine.sheet.tree) u → SharedOfTree rows passes calls before after other other' status
-    of_made u closed made number first = opens_so (Some u) closed made (number, first)
+    of_made u closed made number first = opens_so (Some u) closed made (left_some other' u made) (number, first)
 
-    pub of_none : other.state ≡ 0 → other'.kept.value ≡ None → LacksWith shape t.engine.sheet.tree status → SharedOfTree rows passes calls before after other other' status
-    of_none closed none lacks = opens_so None closed none lacks
+    pub of_none : other.state ≡ 0 → other'.kept.value ≡ None → other'.state ≡ 0 → LacksWith shape t.engine.sheet.tree status → SharedOfTree rows passes calls before after other other' status
+    of_none closed none shut lacks = opens_so None closed none (left_none other' shut) lacks
 
   -- the user was not closed, and the tree is as it was
   pub of_open : (t : OwnTree) (number : ℕ) → before ≡ Some t → after ≡ Some t → unopened other.state ≡ Some number → other' ≡ other → status ≡ number → SharedOfTree rows passes calls before after other other' status

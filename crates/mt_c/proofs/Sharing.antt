@@ -1,5 +1,5 @@
 -- What the calls of C on a shared tree say, read off what its user does.
-use Rattle.mt_c.proofs.Prelude.{◌≡◌, ◌≢◌, ◌≤◌, ◌<◌, Bool, ℕ, refl, sym, ap, ◌∙◌, inl, inr, subst, Option, Some, None, [], ◌+◌, IfErr, Ok, Result, nat_le, if◌then◌else◌, le-leb, lt-leb, Call, Query, Kind, Load, Range, kind_code, Busy, Field, Shape, most_made, first_bad, Read, Given, Tree, Takes, Purse, User, UserHandle, Left, Unchanged, Outcome, OutWalk, CallWindow, refusal, unopened, when_given, when_settled, when_synced, when_tried, when_unchanged, HasLeft, HasSettled, HasShared, HasSynced, HasTried, IsBadShape, IsFirstUser, IsMeant, IsUnchanged, IsOfPurse, IfClosed, IsSettledUser, IsShut, LeftBy, OnKept, OpensBeside, OpensOther, SettleResult, SharedClosed, SharedKept, StaysAs, IsShape, IsSynced, IsWhy, OnUser, WantsNoPlace, SharedAsked, SharedLearned, SharedLeft, SharedNew, SharedOpened, SharedPaused, SharedSettled, SharedStepped, SharedSynced, SharedTried, SharedWith, WentToSettle, answer_status, calls_in_c, common_of, cuts, field_status, known_to, no_outcome, no_window, outcome_of, paused, rested, settled_status, settled_told, synced_status, user_tree, tried_status, unchanged_status, went_on, window_of, Answer, GaveUp, IsWalkAnswer, IsOnNoWalk, IsTried, StepsFrom, Took, Tried, TriedOnce, WentOnce, knows, walk_index}
+use Rattle.mt_c.proofs.Prelude.{◌≡◌, ◌≢◌, ◌≤◌, ◌<◌, Bool, ℕ, refl, sym, ap, ◌∙◌, inl, inr, subst, Option, Some, None, [], ◌+◌, IfErr, Ok, Result, nat_le, if◌then◌else◌, le-leb, lt-leb, Call, Query, Kind, Load, Range, kind_code, Busy, Field, Shape, most_made, first_bad, Read, Given, Tree, Takes, Purse, User, UserHandle, Left, Unchanged, Outcome, OutWalk, CallWindow, refusal, unopened, when_given, when_settled, when_synced, when_tried, when_unchanged, HasLeft, HasSettled, HasShared, HasSynced, HasTried, IsBadShape, IsFirstUser, IsMeant, IsUnchanged, IsOfPurse, IfClosed, IsSettledUser, IsShut, LeftBy, OnKept, OpensBeside, OpensOther, SettleResult, SharedClosed, SharedKept, StaysAs, IsShape, IsSynced, IsWhy, OnUser, WantsNoPlace, SharedAsked, SharedLearned, SharedLeft, SharedNew, SharedOpened, SharedPaused, SharedSettled, SharedStepped, SharedSynced, SharedTried, SharedWith, WentToSettle, answer_status, calls_in_c, common_of, cuts, field_status, known_to, no_outcome, no_window, outcome_of, paused, rested, settled_status, settled_told, synced_status, user_tree, tried_status, unchanged_status, went_on, window_of, Answer, GaveUp, IsWalkAnswer, IsOnNoWalk, IsTried, StepsFrom, Took, Tried, TriedOnce, WentOnce, knows, walk_index, IsLeftClosed}
 use Rattle.mt_c.proofs.Using.{took_still}
 
 pub on_open : (before after : UserHandle) (u v : User) (status : ℕ) (blank : Type 0) (says : User → User → Type 0) → before.kept.value ≡ Some u → after.kept.value ≡ Some v → common_of v ≡ common_of u → says u v → OnUser before after status blank says
@@ -90,8 +90,21 @@ new_short code rows passes calls after status shape is number of = rw is (inr (i
 pub opened_busy : (code rows passes calls : ℕ) (before after : UserHandle) (status number : ℕ) → unopened before.state ≡ Some number → after ≡ before → status ≡ number → SharedOpened code rows passes calls before after status
 opened_busy code rows passes calls before after status number taken same told = subst (λ (o : Option ℕ). IfClosed o before after status (SharedNew code rows passes calls after.kept.value status)) (sym taken) (same, told)
 
-pub opened_new : (code rows passes calls : ℕ) (before after : UserHandle) (status : ℕ) → before.state ≡ 0 → SharedNew code rows passes calls after.kept.value status → SharedOpened code rows passes calls before after status
-opened_new code rows passes calls before after status closed new = subst (λ (o : Option ℕ). IfClosed o before after status (SharedNew code rows passes calls after.kept.value status)) (sym (ap unopened closed)) new
+pub left_none : (h : UserHandle) → h.state ≡ 0 → IsLeftClosed h
+left_none h shut = record { closed = λ none. shut }
+
+pub left_some : (h : UserHandle) (u : User) → h.kept.value ≡ Some u → IsLeftClosed h
+left_some h u is = record { closed = λ none. absurd (cc) }
+
+-- what was made is put into a closed handle
+left_as : (made after : UserHandle) → after.kept.value ≡ made.kept.value → after.state ≡ made.state → IsLeftClosed made → IsLeftClosed after
+left_as made after kept state left = record { closed = λ none. state ∙ left.closed (sym kept ∙ none) }
+
+pub opened_new : (code rows passes calls : ℕ) (before made after : UserHandle) (status : ℕ) → before.state ≡ 0 → after.kept.value ≡ made.kept.value → after.state ≡ made.state → IsLeftClosed made
+    → SharedNew code rows passes calls made.kept.value status → SharedOpened code rows passes calls before after status
+opened_new code rows passes calls before made after status closed kept state left new =
+    subst (λ (o : Option ℕ). IfClosed o before after status (SharedNew code rows passes calls after.kept.value status)) (sym (ap unopened closed))
+    (left_as made after kept state left, subst (λ (o : Option User). SharedNew code rows passes calls o status) (sym kept) new)
 
 -- ---- sharing
 
@@ -114,14 +127,14 @@ module _ (before after other other' : UserHandle) (status : ℕ) where
   with_busy u number was is taken same told = with_kept u u was is (subst (λ (o : Option ℕ). OpensOther o u u other other' status) (sym taken) (refl, same, told))
 
   module _ (u v : User) (was : before.kept.value ≡ Some u) (is : after.kept.value ≡ Some v) (closed : other.state ≡ 0) where
-    opens : OpensBeside u v other'.kept.value status → SharedWith before after other other' status
-    opens said = with_kept u v was is (subst (λ (o : Option ℕ). OpensOther o u v other other' status) (sym (ap unopened closed)) said)
+    opens : IsLeftClosed other' → OpensBeside u v other'.kept.value status → SharedWith before after other other' status
+    opens left said = with_kept u v was is (subst (λ (o : Option ℕ). OpensOther o u v other other' status) (sym (ap unopened closed)) (left, said))
 
     pub with_made : (w : User) → other'.kept.value ≡ Some w → status ≡ 0 → common_of v ≡ common_of u → v.walker ≡ u.walker → common_of w ≡ common_of u → HasShared u v w → SharedWith before after other other' status
-    with_made w made number common walker of shared = opens (subst (λ (o : Option User). OpensBeside u v o status) (sym made) (number, record { common = common; walker = walker }, of, shared))
+    with_made w made number common walker of shared = opens (left_some other' w made) (subst (λ (o : Option User). OpensBeside u v o status) (sym made) (number, record { common = common; walker = walker }, of, shared))
 
-    pub with_none : other'.kept.value ≡ None → common_of v ≡ common_of u → v.walker ≡ u.walker → IsUnchanged u v status → SharedWith before after other other' status
-    with_none still common walker unchanged = opens (subst (λ (o : Option User). OpensBeside u v o status) (sym still) (record { common = common; walker = walker }, unchanged))
+    pub with_none : other'.kept.value ≡ None → other'.state ≡ 0 → common_of v ≡ common_of u → v.walker ≡ u.walker → IsUnchanged u v status → SharedWith before after other other' status
+    with_none still shut common walker unchanged = opens (left_none other' shut) (subst (λ (o : Option User). OpensBeside u v o status) (sym still) (record { common = common; walker = walker }, unchanged))
 
 -- ---- leaving
 

@@ -19,20 +19,20 @@ abbrev pub place_to : ℕ → Option ℕ → Option ℕ
 place_to max None = None
 place_to max (Some index) = if nat_le index max then Some index else None
 
--- A step on what C keeps of a tree of one thread: the walk's next range, where it begins at max or below. The walk has ended where the
--- index behind is above max.
+-- A step on what C keeps of a tree of one thread: the walk's next range, if it begins at max or below. The walk has ended if
+-- the index after it is above max.
 abbrev pub SteppedTo : ℕ → OutWalk → Option OwnTree → Option OwnTree → ℕ → OutRange → OutWalk → Type 0
 SteppedTo max walk None after status out walk' = (after ≡ None) × (status ≡ 9) × (out ≡ no_range) × (walk' ≡ walk)
 SteppedTo max walk (Some t) None status out walk' = ⊥
 SteppedTo max walk (Some t) (Some t') status out walk' =
     (found : Option Range) × IsStepped t t' (place_to max (walk_index walk)) found × (status ≡ found_status (up_to max found)) × (out ≡ out_of (up_to max found)) × (walk' ≡ walk_from (place_to max (index_behind (last_index_of t) found)))
 
--- Where the walk goes on, it is as the step left it; where it has ended, no section of the pass stands open.
+-- If the walk goes on, it is as the step left it; if it has ended, its handle has no section open.
 abbrev pub IsLeftTo : Option ℕ → Walker → Walker → Type 0
 IsLeftTo (Some at) v w = w ≡ v
 IsLeftTo None v w = (knows w ≡ record (knows v) { standing = None }) × (w.walk ≡ None)
 
--- A step of a walk of a pass, of which a range that begins above max is not told.
+-- A step of a walk of a handle, of which a range that begins above max is not returned.
 pub record StepsTo (t : Tree) (w : Walker) (max : ℕ) (place : Option ℕ) (r : Read (Option Range)) (w' : Walker) : Type 0 where
   pub found : Read (Option Range)
   pub there : Walker

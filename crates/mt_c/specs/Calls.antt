@@ -1,4 +1,4 @@
--- What C is told of calls and of queries, and what they do to the tree that it keeps.
+-- What C gets of calls and of queries, and what they do to the tree that it keeps.
 -- Source: the kernel's include/uapi/asm-generic/errno-base.h and errno.h: ENOENT, EBADF, ENOMEM, EBUSY, EEXIST, EINVAL
 -- and EOVERFLOW.
 use Rattle.std.specs.Prelude.{◌≡◌, ℕ, ◌-◌, ◌^◌, ◌<◌, ◌≤◌, Option, Some, None}
@@ -24,7 +24,7 @@ status_of (Some answers.Invalid) = 22
 status_of (Some answers.Busy) = 16
 status_of (Some (answers.NoNodes shortage)) = 12
 
--- the one word that a reply tells, and 0 where it tells none
+-- the one word of a reply, and 0 if it has none
 abbrev pub word_in_c : Option Reply → ℕ
 word_in_c None = 0
 word_in_c (Some answers.Ok) = 0
@@ -37,7 +37,7 @@ word_in_c (Some answers.Invalid) = 0
 word_in_c (Some answers.Busy) = 0
 word_in_c (Some (answers.NoNodes shortage)) = 0
 
--- a range, and three zeros where there is none
+-- a range, and three zeros if there is none
 abbrev pub no_range : OutRange
 no_range = record { first = 0; last = 0; entry = 0 }
 
@@ -45,7 +45,7 @@ abbrev pub out_of : Option Range → OutRange
 out_of None = no_range
 out_of (Some r) = record { first = r.first; last = r.last; entry = r.entry }
 
--- the range that a reply tells
+-- the range of a reply
 abbrev pub range_in_c : Option Reply → OutRange
 range_in_c None = no_range
 range_in_c (Some answers.Ok) = no_range
@@ -58,7 +58,7 @@ range_in_c (Some answers.Invalid) = no_range
 range_in_c (Some answers.Busy) = no_range
 range_in_c (Some (answers.NoNodes shortage)) = no_range
 
--- how many rows a reply for want of rows says are needed, free, live and held; zeros of another
+-- how many nodes a reply for lack of nodes says are needed, free, live and held; zeros of another
 abbrev pub no_shortage : Shortage
 no_shortage = record { need = 0; free = 0; live = 0; held = 0; by = None }
 
@@ -73,7 +73,7 @@ shortage_of answers.Invalid = no_shortage
 shortage_of answers.Busy = no_shortage
 shortage_of (answers.NoNodes shortage) = shortage
 
--- all that C is told of a call
+-- all that C gets of a call
 abbrev pub told_in_c : Option Reply → ToldCall
 told_in_c made = record { status = status_of made; word = word_in_c made; range = range_in_c made }
 
@@ -81,7 +81,7 @@ told_in_c made = record { status = status_of made; word = word_in_c made; range 
 abbrev pub no_told : ToldCall
 no_told = record { status = 9; word = 0; range = no_range }
 
--- the number for the answer of a query: ENOENT where there is none
+-- the number for the answer of a query: ENOENT if there is none
 abbrev pub found_status : Option Range → ℕ
 found_status None = 2
 found_status (Some r) = 0
@@ -111,14 +111,14 @@ pub record IsAsked (t t' : Parts) : Type 0 where
 
 -- ---- what C keeps
 
--- A call on what C keeps, the number that C gets, and what it is told beside by some reading of the reply. A closed one is EBADF,
--- with a blank beside, and stays closed; an open one stays open.
+-- A call on what C keeps, the number that C gets, and what it gets beside that by some reading of the reply. A closed one is
+-- EBADF, with a blank beside, and stays closed; an open one stays open.
 abbrev pub AnswersCall : {A : Type 0} → A → (Option Reply → A) → Call → Option OwnTree → Option OwnTree → ℕ → A → Type 0
 AnswersCall blank told call None after status out = (after ≡ None) × (status ≡ 9) × (out ≡ blank)
 AnswersCall blank told call (Some t) None status out = ⊥
 AnswersCall blank told call (Some t) (Some t') status out = (made : Option Reply) × MadeOrSpent t.engine t'.engine call made × (status ≡ status_of made) × (out ≡ told made)
 
--- one that tells the number alone, or a word, or a range beside
+-- one that returns the number alone, or a word, or a range beside
 abbrev pub CalledAlone : Call → Option OwnTree → Option OwnTree → ℕ → Type 0
 CalledAlone call before after status = AnswersCall {A = Unit {0}} tt (λ _. tt) call before after status tt
 
@@ -135,12 +135,12 @@ AnswersQuery query (Some t) None status out = ⊥
 AnswersQuery query (Some t) (Some t') status out =
     IsAsked t.engine t'.engine × (status ≡ found_status (answered t.engine query)) × (out ≡ out_of (answered t.engine query))
 
--- the entry of a range, and 0 where there is none
+-- the entry of a range, and 0 if there is none
 abbrev pub entry_or_none : Option Range → ℕ
 entry_or_none None = 0
 entry_or_none (Some r) = r.entry
 
--- The entry that an index holds is told: 0 where it lies in a hole, and by what is closed.
+-- The entry that an index holds is returned: 0 if it lies in a hole, or the tree is closed.
 abbrev pub EntryTold : ℕ → Option OwnTree → Option OwnTree → ℕ → Type 0
 EntryTold index None after entry = (after ≡ None) × (entry ≡ 0)
 EntryTold index (Some t) None entry = ⊥

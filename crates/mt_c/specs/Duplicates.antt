@@ -8,7 +8,7 @@ use Rattle.mt_c.specs.declared.user.User.{User}
 use Rattle.mt_c.specs.declared.user_handle.UserHandle.{UserHandle}
 use Rattle.mt_c.specs.declared.walker.Walker.{Walker}
 use Rattle.mt_c.specs.Owned.{unopened}
-use Rattle.mt_c.specs.Shared.{IsBadShape, SharedKept, StaysAs}
+use Rattle.mt_c.specs.Shared.{IsBadShape, IsLeftClosed, SharedKept, StaysAs}
 use Rattle.mt_c.specs.SharedMaps.{IsFirstWith, dup_status, shape_for}
 use Rattle.mt_c.specs.Users.{common_of, known_to, paused, user_tree}
 use Rattle.mt_c.specs.Walkers.{Took, TriedOnce}
@@ -19,21 +19,21 @@ use Rattle.mt_c.specs.Walkers.{Took, TriedOnce}
 abbrev pub TriedAtMost : Walker → Walker → Type 0
 TriedAtMost w w' = Took 0 w w'.pass ⊎ TriedOnce w w'
 
--- the pass has seen the whole history, or no more than before
+-- the handle has seen the whole history, or no more than before
 abbrev pub SawAtMost : Tree → known.Pass → known.Pass → Type 0
 SawAtMost t p q = (q ≡ p) ⊎ known.Saw (opened t) p q
 
--- Why there is no copy of this shape of the tree: the number of a field that is out of range; EDOM where the rows are fewer than those
--- that lawful words of the map have in use; or ENOMEM.
+-- Why there is no copy of this shape of the tree: the number of a field that is out of range; EDOM where the nodes are fewer
+-- than those that well-formed words of the map have in use; or ENOMEM.
 abbrev pub LacksCopy : Shape → Tree → known.Pass → ℕ → Type 0
 LacksCopy shape t q status =
     IsBadShape shape status ⊎ (((status ≡ 33) × (live : ℕ) × IsRowCount (opened t).kind (opened t).rows (map_seen t q) live × (shape.rows < live)) ⊎ (status ≡ 12))
 
--- a new tree and its passes
+-- a new tree and its passes (handles)
 abbrev pub Made : Type 0
 Made = Result (Tree × Vec Pass Global) DupError
 
--- A tree of this shape, which is in range, was made with the map that the pass has then seen; or why none was.
+-- A tree of this shape, which is in range, was made with the map that the handle has then seen; or why none was.
 abbrev pub IsMadeIn : Shape → Tree → known.Pass → Result Made Busy → known.Pass → Type 0
 IsMadeIn shape t p (Ok (Ok r)) q = known.Saw (opened t) p q × (first_bad shape ≡ None) × IsNew shape (map_seen t q) r.0 r.1.items
 IsMadeIn shape t p (Ok (Err why)) q = SawAtMost t p q × LacksCopy shape t q (dup_status why)
@@ -53,14 +53,14 @@ FoundTaken u v = (busy : Busy) × IsBusyOf (user_tree u) busy × (known_to v ≡
 abbrev pub HasNone : Shape → ℕ → User → User → Type 0
 HasNone shape status u v = SawAtMost (user_tree u) (paused u) (known_to v) × (v.receipts ≡ u.receipts) × LacksCopy shape (user_tree u) (known_to v) status
 
--- A user has copied its tree, or says by a number why not. It makes no step at the purse.
+-- A user has copied its tree, or says by a number why not. It makes no step at the purse (the pool of free handles).
 abbrev pub HasCopied : Shape → Option User → ℕ → User → User → Type 0
 HasCopied shape (Some w) status u v = (status ≡ 0) × HasOpened shape w u v
 HasCopied shape None status u v = ((status ≡ 11) × FoundTaken u v) ⊎ HasNone shape status u v
 
 -- An open of one user with a copy of the tree of another. Where that is not closed all stay as they were.
 abbrev pub CopiesTo : Option ℕ → Shape → User → User → UserHandle → UserHandle → ℕ → Type 0
-CopiesTo None shape u v other other' status = (common_of v ≡ common_of u) × (v.chair ≡ u.chair) × TriedAtMost u.walker v.walker × HasCopied shape other'.kept.value status u v
+CopiesTo None shape u v other other' status = IsLeftClosed other' × (common_of v ≡ common_of u) × (v.chair ≡ u.chair) × TriedAtMost u.walker v.walker × HasCopied shape other'.kept.value status u v
 CopiesTo (Some number) shape u v other other' status = (v ≡ u) × (other' ≡ other) × (status ≡ number)
 
 abbrev pub SharedCopied : ℕ → ℕ → ℕ → UserHandle → UserHandle → UserHandle → UserHandle → ℕ → Type 0

@@ -1,4 +1,4 @@
--- A walk that is kept beside its pass.
+-- A walk that is kept beside its pass (handle).
 -- Source: the kernel's documentation of the maple tree, mas_find over a struct ma_state that the caller keeps.
 use Rattle.std.specs.Prelude.{◌≡◌, ◌-◌, ◌^◌, ℕ, Option, Some, None, IfSome}
 use Rattle.std.proofs.Props.{props}
@@ -9,7 +9,7 @@ use Rattle.mt_c.specs.Prelude.{Cursor, Pass, apart_prop, ends_prop, fills_prop, 
 abbrev pub last_index : ℕ
 last_index = 2 ^ 64 - 1
 
--- the walk is of this pass, up to the last index
+-- the walk is of this handle, up to the last index
 pub record IsKeptWalk (p : Pass) (w : Cursor) : Type 0 where
   pub of : IsWalkOf p w
   pub max : w.max ≡ last_index

@@ -1,4 +1,4 @@
--- What C is told of the whole of a shared tree, which is looked at under its lock where that is free.
+-- What C gets of the whole of a shared tree, which is looked at under its lock if that is free.
 -- Source: this project's own; the kernel's lib/maple_tree.c, mt_validate.
 use Rattle.std.specs.Prelude.{◌≡◌, ◌⊎◌, ℕ, ◌<◌, ◌≤◌, List, ◌++◌, Option, Some, Result, Ok, Err, Vec, drop, length}
 use Rattle.std.specs.Global.{Global}
@@ -18,7 +18,7 @@ use Rattle.mt_c.specs.Walkers.{TriedOnce}
 
 -- ---- a look under the lock
 
--- The pass has seen the whole history, and what was found is so of what it has seen; or the lock was found taken.
+-- The handle has seen the whole history, and what was found is true of what it has seen; or the lock was found taken.
 abbrev pub IsFoundIn : {A : Type 0} → (Tree → known.Pass → A → Type 0) → Tree → known.Pass → Result A Busy → known.Pass → Type 0
 IsFoundIn is t p (Ok found) q = known.Saw (opened t) p q × is t q found
 IsFoundIn is t p (Err busy) q = IsBusyOf t busy × (q ≡ p)
@@ -33,7 +33,7 @@ abbrev pub HasFound : {A : Type 0} → (Tree → known.Pass → A → Type 0) �
 HasFound {A} is tells u v =
     (found : Result A Busy) × IsFoundIn is (user_tree u) (paused u) found (known_to v) × TriedOnce u.walker v.walker × (v.chair ≡ u.chair) × (v.receipts ≡ when_found found u.receipts) × tells found
 
--- ---- a check: the form is that of lawful words of the map
+-- ---- a check: the form is that of well-formed words of the map
 
 abbrev pub IsFormSeen : Tree → known.Pass → Form → Type 0
 IsFormSeen t q form = IsFormOf (opened t).kind (opened t).rows (map_seen t q) form
@@ -45,7 +45,7 @@ TellsForm status out (Err busy) = (status ≡ 11) × (out ≡ no_form)
 abbrev pub SharedChecked : UserHandle → UserHandle → ℕ → OutForm → Type 0
 SharedChecked before after status out = OnUser before after status (out ≡ no_form) (HasFound IsFormSeen (TellsForm status out))
 
--- ---- how the rows are used
+-- ---- how the nodes are used
 
 abbrev pub out_stats : Stats → OutStats
 out_stats s = record { rows = s.rows; free = s.free; live = s.live; held = s.held; height = s.height; calls = s.calls }
@@ -57,17 +57,17 @@ TellsStats status out (Err busy) = (status ≡ 11) × (out ≡ no_stats)
 abbrev pub SharedStats : UserHandle → UserHandle → ℕ → OutStats → Type 0
 SharedStats before after status out = OnUser before after status (out ≡ no_stats) (HasFound IsStatsOf (TellsStats status out))
 
--- ---- since when sections stand open
+-- ---- since when sections are open
 
 abbrev pub TellsCalls : ℕ → ℕ → Result ℕ Busy → Type 0
 TellsCalls status out (Ok calls) = (status ≡ 0) × (out ≡ calls)
 TellsCalls status out (Err busy) = (status ≡ 11) × (out ≡ 0)
 
--- how many calls had ended at the least when a section was opened that stands open
+-- how many calls had ended at least when a section that is open was opened
 abbrev pub SharedOldest : UserHandle → UserHandle → ℕ → ℕ → Type 0
 SharedOldest before after status out = OnUser before after status (out ≡ 0) (HasFound IsOldest (TellsCalls status out))
 
--- ---- an image: the bytes are one of lawful words of the map, where memory did not run out
+-- ---- an image: the bytes are one of well-formed words of the map, where memory did not run out
 
 abbrev pub MadeImage : Type 0
 MadeImage = Result (Vec ℕ Global) NoMemory

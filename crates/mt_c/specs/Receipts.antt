@@ -1,4 +1,5 @@
--- What a user of a shared tree keeps of its last steps at the tree's lock and at the purse. A value of it is made by such a step alone.
+-- What a user of a shared tree keeps of its last steps at the tree's lock and at the purse. Only such a step makes a value of
+-- it.
 -- Source: this project's own.
 use Rattle.std.specs.Prelude.{ℕ, Some, None, Result, Ok, Err}
 use Rattle.mt_c.specs.Prelude.{Given, Busy, Tree}

@@ -1,4 +1,5 @@
--- What the calls of C on a shared tree say. Each user of it has a pass, which knows a beginning of the tree's one history.
+-- What the calls of C on a shared tree say. Each user of it has a pass (handle), which knows a beginning of the tree's one
+-- history.
 -- Source: this project's own; EBADF, EAGAIN, EDOM, EOVERFLOW, EUSERS, EALREADY and EINPROGRESS are of the kernel's
 -- include/uapi/asm-generic/errno-base.h and errno.h.
 use Rattle.std.specs.Prelude.{◌≡◌, ◌≢◌, ◌⊎◌, ◌+◌, ℕ, [], Option, Some, None, Result, Ok, Err, nat_le, if◌then◌else◌, IfErr}
@@ -25,7 +26,7 @@ use Rattle.mt_c.specs.Walking.{walk_index, walk_from}
 
 -- ---- users
 
--- A call on what C keeps. One that has a user has it still, and that is of the same tree and at the same purse.
+-- A call on what C keeps. One that has a user still has it, and that is of the same tree and at the same purse.
 abbrev pub OnKept : Option User → Option User → Type 0 → (User → User → Type 0) → Type 0
 OnKept None after none says = none
 OnKept (Some u) None none says = ⊥
@@ -35,13 +36,17 @@ OnKept (Some u) (Some v) none says = (common_of v ≡ common_of u) × says u v
 abbrev pub StaysAs : UserHandle → UserHandle → ℕ → Type 0
 StaysAs before after status = (after ≡ before) × (status ≡ refusal after.state)
 
--- The same with a blank beside.
+-- A call on what C keeps of a user. Without a user it stays as it was, with a blank beside.
 abbrev pub OnUser : UserHandle → UserHandle → ℕ → Type 0 → (User → User → Type 0) → Type 0
 OnUser before after status blank says = OnKept before.kept.value after.kept.value (StaysAs before after status × blank) says
 
+-- A handle that keeps no user after an open is closed: no call works on a user of it.
+pub record IsLeftClosed (h : UserHandle) : Type 0 where
+  pub closed : h.kept.value ≡ None → h.state ≡ 0
+
 -- An open of what C keeps of a user. One that is not closed stays as it was: it is open (EALREADY), or a call works on its user.
 abbrev pub IfClosed : Option ℕ → UserHandle → UserHandle → ℕ → Type 0 → Type 0
-IfClosed None before after status opens = opens
+IfClosed None before after status opens = IsLeftClosed after × opens
 IfClosed (Some number) before after status opens = (after ≡ before) × (status ≡ number)
 
 abbrev pub OnClosed : UserHandle → UserHandle → ℕ → Type 0 → Type 0
@@ -55,7 +60,7 @@ no_window = record { lo = 0; hi = 0; first = 0; last = 0; entry = 0 }
 abbrev pub window : ℕ → ℕ → OutRange → CallWindow
 window lo hi r = record { lo = lo; hi = hi; first = r.first; last = r.last; entry = r.entry }
 
--- what C is told of it: EAGAIN where it was given up
+-- what C gets of it: EAGAIN if it was given up (retry)
 abbrev pub answer_status : Answer → ℕ
 answer_status (Ok r) = found_status r.value
 answer_status (Err m) = 11
@@ -64,28 +69,28 @@ abbrev pub window_of : Answer → CallWindow
 window_of (Ok r) = window r.lo r.hi (out_of r.value)
 window_of (Err m) = window m.lo m.begun no_range
 
--- A query of a user of a shared tree, which is on no walk then. It takes so many steps at the most, does not go for the lock, and is given
--- up for a leaf that was found marked alone. It makes no step at the purse, and so leaves all other passes.
+-- A query of a user of a shared tree, which is then on no walk. It takes at most this many steps and does not go for the lock.
+-- It is given up only for a leaf that was found marked as dead. It makes no step at the purse, and so leaves all other handles.
 abbrev pub SharedAsked : Query → UserHandle → UserHandle → ℕ → CallWindow → Type 0
 SharedAsked query before after status out =
     OnUser before after status (out ≡ no_window) (λ u v. (answer : Answer) × IsWalkAnswer (user_tree u) (known_to u) query answer (known_to v) × IsOnNoWalk v.walker × Took (most_made query) u.walker v.walker.pass × IfErr answer (GaveUp query u.walker v.walker) × OnlyWalks u v × (status ≡ answer_status answer) × (out ≡ window_of answer))
 
--- the walk that goes on behind what was found
+-- the walk that goes on after what was found
 abbrev pub went_on : Option Range → OutWalk
 went_on found = walk_from (place_behind found last_index)
 
--- The user has given up its walk: no section of it stands open. Its pass has made one step for that, and has not gone for the lock.
+-- The user has given up its walk: no section of it is open. Its handle has made one step for that, and has not gone for the
+-- lock.
 abbrev pub SharedPaused : UserHandle → UserHandle → ℕ → Type 0
 SharedPaused before after status = OnUser before after status (Unit {0}) (λ u v. (known_to v ≡ rested u) × IsOnNoWalk v.walker × Takes 1 u.walker.pass v.walker.pass × OnlyWalks u v × (status ≡ 0))
 
--- A step of a walk of C's: it goes on behind what was found, and the user keeps its place where a range was found. Where the user is
--- closed the walk is as it was.
+-- A step of a walk of C's: it goes on after what was found, and the user keeps its place if a range was found. If the user is
+-- closed, the walk is as it was.
 abbrev pub SharedStepped : OutWalk → OutWalk → UserHandle → UserHandle → ℕ → CallWindow → Type 0
 SharedStepped w w' before after status out =
     OnUser before after status ((out ≡ no_window) × (w' ≡ w)) (λ u v. (r : Read (Option Range)) × StepsFrom (user_tree u) u.walker (walk_index w) r v.walker × OnlyWalks u v × (status ≡ answer_status (Ok r)) × (out ≡ window_of (Ok r)) × (w' ≡ went_on r.value))
 
--- The user looked how many calls had ended, by a read, and has seen those: 0 where they are so many as it was to learn, else
--- EINPROGRESS.
+-- The user read how many calls had ended, and has seen those: 0 if they are as many as it was to learn, else EINPROGRESS.
 abbrev pub SharedLearned : ℕ → UserHandle → UserHandle → ℕ → Type 0
 SharedLearned calls before after status =
     OnUser before after status (Unit {0}) (λ u v. (r : Read (Option Range)) × IsWalkAnswer (user_tree u) (known_to u) (Load 0) (Ok r) (known_to v) × IsOnNoWalk v.walker × Took 170 u.walker v.walker.pass × OnlyWalks u v × (status ≡ (if nat_le calls r.lo then 0 else 115)))
@@ -95,7 +100,7 @@ SharedLearned calls before after status =
 abbrev pub no_outcome : Outcome
 no_outcome = record { call = 0; word = 0; first = 0; last = 0; entry = 0; need = 0; free = 0; live = 0; held = 0; by = 0; epoch = 0 }
 
--- the place of a user whose section holds rows back, from 1, and how many calls had ended when that was opened; zeros of none
+-- the place of a user whose section holds nodes back, from 1, and how many calls had ended when that was opened; zeros of none
 abbrev pub holder_place : Option Holder → ℕ
 holder_place None = 0
 holder_place (Some h) = h.pass + 1
@@ -104,7 +109,7 @@ abbrev pub epoch_of : Option Holder → ℕ
 epoch_of None = 0
 epoch_of (Some h) = h.epoch
 
--- the number of the call in the history, the one word of the reply, and its range; and what it says of rows
+-- the number of the call in the history, the one word of the reply, and its range; and what it says of nodes
 abbrev pub done_outcome : Done → Outcome
 done_outcome d =
     let r = range_in_c (Some d.reply) in
@@ -114,7 +119,7 @@ done_outcome d =
 abbrev pub done_status : Done → ℕ
 done_status d = status_of (Some d.reply)
 
--- what C is told of a try: EAGAIN where the lock was found taken, EOVERFLOW where the tree is worn
+-- what C gets of a try: EAGAIN if the lock was found taken, EOVERFLOW if the tree is worn (its budget of calls is used up)
 abbrev pub tried_status : Tried → ℕ
 tried_status (Ok (Ok d)) = done_status d
 tried_status (Ok (Err w)) = status_of None
@@ -125,8 +130,8 @@ outcome_of (Ok (Ok d)) = done_outcome d
 outcome_of (Ok (Err w)) = no_outcome
 outcome_of (Err busy) = no_outcome
 
--- A call of a user, made under the tree's lock if that is free, for which it goes once. That this was found taken is what the user then
--- has. It makes no step at the purse, so no other pass has made a call.
+-- A call of a user, made under the tree's lock if that is free, for which it goes once. If the lock was found taken, the user
+-- then has the receipt of that. It makes no step at the purse, so no other handle has made a call.
 abbrev pub HasTried : Call → ℕ → Outcome → User → User → Type 0
 HasTried call status out u v = (tried : Tried) × IsTried (user_tree u) (paused u) call tried (known_to v) × TriedOnce u.walker v.walker × (v.chair ≡ u.chair) × (v.receipts ≡ when_tried tried u.receipts) × (status ≡ tried_status tried) × (out ≡ outcome_of tried)
 
@@ -135,7 +140,7 @@ SharedTried call before after status out = OnUser before after status (out ≡ n
 
 -- ---- users that come and go
 
--- An open of a shared tree: of a kind of this code, in so many rows, for so many users, and for so many calls.
+-- An open of a shared tree: of a kind of this code, with this many nodes, for this many users, and for this many calls.
 abbrev pub IsMeant : ℕ → ℕ → ℕ → ℕ → Shape → Type 0
 IsMeant code rows passes calls shape = (kind_code shape.kind ≡ code) × (shape.rows ≡ rows) × (shape.passes ≡ passes) × (shape.calls ≡ calls)
 
@@ -151,8 +156,8 @@ field_status fields.Calls = 75
 abbrev pub IsBadShape : Shape → ℕ → Type 0
 IsBadShape shape status = (field : Field) × (first_bad shape ≡ Some field) × (status ≡ field_status field)
 
--- Why there is none: EINVAL tells that there is no such kind, the number of a field that this is out of range, and ENOMEM that memory
--- ran out for such a shape.
+-- Why there is none: EINVAL if there is no such kind, the number of a field if that is out of range, and ENOMEM if memory ran
+-- out for such a shape.
 abbrev pub LacksShape : ℕ → ℕ → ℕ → ℕ → ℕ → Type 0
 LacksShape code rows passes calls status =
     ((status ≡ 22) × ((kind : Kind) → kind_code kind ≢ code)) ⊎ (((shape : Shape) × IsMeant code rows passes calls shape × IsBadShape shape status) ⊎ ((status ≡ 12) × (shape : Shape) × IsShape code rows passes calls shape))
@@ -179,18 +184,19 @@ IsUnchanged u v status = (why : Unchanged) × IsWhy (common_of u) (cuts u) why �
 abbrev pub HasStayed : User → User → ℕ → Type 0
 HasStayed u v status = (why : Unchanged) × IsWhy (common_of u) (cuts u) why × WantsNoPlace why × (cuts v ≡ cuts u + 1) × (v.receipts ≡ when_unchanged why u.receipts) × (status ≡ unchanged_status why)
 
--- The user has taken the purse and given it back, and this is the one that was opened of it, with a chair of its own: two steps.
+-- The user has taken the purse and given it back, and this is the one that was opened from it, with a chair of its own: two
+-- steps.
 abbrev pub HasShared : User → User → User → Type 0
 HasShared u v w = (given : Given Purse Tree) × IsOfPurse (common_of u) (cuts u) w given × (cuts v ≡ cuts u + 2) × (v.receipts ≡ when_given given u.receipts)
 
--- One user is opened beside another, of the same tree, with a pass of its purse; or none is.
+-- One user is opened beside another, of the same tree, with a handle of its purse; or none is.
 abbrev pub OpensBeside : User → User → Option User → ℕ → Type 0
 OpensBeside u v (Some w) status = (status ≡ 0) × IsSame u v × (common_of w ≡ common_of u) × HasShared u v w
 OpensBeside u v None status = IsSame u v × IsUnchanged u v status
 
 -- Where the other is not closed the user is as it was.
 abbrev pub OpensOther : Option ℕ → User → User → UserHandle → UserHandle → ℕ → Type 0
-OpensOther None u v other other' status = OpensBeside u v other'.kept.value status
+OpensOther None u v other other' status = IsLeftClosed other' × OpensBeside u v other'.kept.value status
 OpensOther (Some number) u v other other' status = (v ≡ u) × (other' ≡ other) × (status ≡ number)
 
 abbrev pub SharedKept : Option User → Option User → Type 0 → (User → User → Type 0) → Type 0
@@ -202,7 +208,8 @@ abbrev pub SharedWith : UserHandle → UserHandle → UserHandle → UserHandle 
 SharedWith before after other other' status =
     SharedKept before.kept.value after.kept.value (StaysAs before after status × (other' ≡ other)) (λ u v. OpensOther (unopened other.state) u v other other' status)
 
--- A user has left its pass in the purse, no section of it standing open, and is closed; or it is open as it was, but for its walk, which is paused.
+-- A user has left its handle in the purse, with no section open, and is closed. Or it is open as it was, except that its walk
+-- is paused.
 abbrev pub LeftBy : Option User → Option User → Type 0 → ℕ → ℕ → Type 0
 LeftBy None after none state status = none
 LeftBy (Some u) None none state status = (status ≡ 0) × (state ≡ 0) × (left : Left) × HasLeft (common_of u) (cuts u + 1) (rested u) left

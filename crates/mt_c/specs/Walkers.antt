@@ -1,4 +1,4 @@
--- What a pass of a shared tree does on its walk and off it: reads without the lock, and calls that try for it.
+-- What a pass (handle) of a shared tree does on its walk and off it: reads without the lock, and calls that try for it.
 -- Source: this project's own; the kernel's documentation of the maple tree, mas_find over a struct ma_state that the caller keeps.
 use Rattle.std.specs.Prelude.{◌≡◌, ℕ, ◌+◌, ◌≤◌, ◌==◌, Bool, true, false, Option, Some, None, Result, Ok, Err}
 use Rattle.mt_c.specs.Prelude.{Call, Query, Range, Cursor, Moved, place_behind, query_at, WasLeftMarked, WasMoved, HasRead, Busy, part_of, turn_seat, Done, Read, Worn, Tree, IsForNeighbour, unbounded, Pass, Takes, pass_in, steps_made, opened, IsBusyOf, WasMade, HasWalked}
@@ -9,11 +9,11 @@ pub use Rattle.mt_c.specs.KeptWalks.{IsKeptWalk, last_index, walks_coded}
 
 -- ---- what it knows
 
--- what a walker's pass knows
+-- what a walker's handle knows
 abbrev pub knows : Walker → known.Pass
 knows w = pass_in w.pass
 
--- what a pass knows when the section of a walk is closed, if there is one
+-- what a handle knows once the section of a walk is closed, if there is one
 abbrev pub closed_by : Option Cursor → known.Pass → known.Pass
 closed_by None p = p
 closed_by (Some w) p = record p { standing = None }
@@ -22,7 +22,7 @@ closed_by (Some w) p = record p { standing = None }
 abbrev pub halted : Walker → known.Pass
 halted w = closed_by w.walk (knows w)
 
--- a pass knows what another does, whichever section stands open
+-- a handle knows what another does, whichever section is open
 pub record KnowsAs (p q : known.Pass) : Type 0 where
   pub same : record p { standing = None } ≡ record q { standing = None }
 
@@ -33,7 +33,7 @@ abbrev pub pausing : Option Cursor → ℕ
 pausing None = 0
 pausing (Some w) = 1
 
--- Its pass has then made so many steps at the most, beside that which pauses its walk, and has not gone for the lock.
+-- Its handle has then made at most this many steps, beside the one that pauses its walk, and has not gone for the lock.
 abbrev pub Took : ℕ → Walker → Pass → Type 0
 Took most w q = Takes (pausing w.walk + most) w.pass q
 
@@ -41,15 +41,15 @@ Took most w q = Takes (pausing w.walk + most) w.pass q
 abbrev pub WentOnce : Walker → Walker → Type 0
 WentOnce w w' = turn_seat w'.pass ≡ turn_seat (turns.tried w.pass)
 
--- It has gone for the lock once, and made no step but that which pauses its walk.
+-- It has gone for the lock once, and made no step but the one that pauses its walk.
 pub record TriedOnce (w w' : Walker) : Type 0 where
   pub steps : steps_made w'.pass ≤ steps_made w.pass + pausing w.walk
   pub went : WentOnce w w'
 
 -- ---- reads
 
--- What a read answers: the map after some number of calls in its window; or it was given up, as only a search for a neighbour is. The
--- pass has opened one section and closed it, where the window begins.
+-- What a read returns: the answer of the map after some number of calls in its window. Or it was given up (retry), as only a
+-- search for a neighbour is. The handle has opened one section, where the window begins, and closed it.
 abbrev pub Answer : Type 0
 Answer = Result (Read (Option Range)) Moved
 
@@ -64,18 +64,18 @@ pub record GaveUp (query : Query) (w w' : Walker) (m : Moved) : Type 0 where
   pub took : Took 0 w pass
   pub left : WasLeftMarked (unbounded (part_of pass).shape.kind query) m.lo m.begun (part_of pass) (part_of w'.pass)
 
--- It is on no walk, and no section of it stands open.
+-- It is on no walk, and has no section open.
 abbrev pub IsOnNoWalk : Walker → Type 0
 IsOnNoWalk w = (w.walk ≡ None) × ((knows w).standing ≡ None)
 
 -- ---- steps of a walk
 
--- It is on a walk, which stands at this place.
+-- It is on a walk, which is at this place.
 abbrev pub IsOnAt : Option Cursor → Option ℕ → Type 0
 IsOnAt None place = ⊥
 IsOnAt (Some walk) place = walk.at ≡ place
 
--- A walk that has found a range is kept, and stands behind it; one that has found none is forgotten.
+-- A walk that has found a range is kept, and is after it; one that has found none is forgotten.
 abbrev pub WalkGoesOn : Option Range → Walker → Type 0
 WalkGoesOn (Some range) w = (walk : Cursor) × (w.walk ≡ Some walk) × (walk.at ≡ place_behind (Some range) last_index)
 WalkGoesOn None w = IsOnNoWalk w
@@ -88,7 +88,7 @@ new_walk from = record { at = Some from; max = last_index; leaf = None; epoch = 
 abbrev pub IsAnew : ℕ → Walker → Pass → Cursor → Type 0
 IsAnew from w p walk = (pass_in p ≡ halted w) × Took 0 w p × (walk ≡ new_walk from)
 
--- whether a walk stands at this index
+-- whether a walk is at this index
 abbrev pub walk_is_at : Option ℕ → ℕ → Bool
 walk_is_at None from = false
 walk_is_at (Some at) from = at == from
@@ -97,7 +97,8 @@ abbrev pub stands_at : Option Cursor → ℕ → Bool
 stands_at None from = false
 stands_at (Some walk) from = walk_is_at walk.at from
 
--- The walk that a step from an index goes on, and its pass: the one that is kept, where it stands there, with its leaf and its section.
+-- The walk that a step from an index continues, and its handle: the one that is kept, if it is there, with its leaf and its
+-- section.
 abbrev pub GoesFrom : Bool → ℕ → Walker → Pass → Cursor → Type 0
 GoesFrom true from w p walk = (p ≡ w.pass) × (w.walk ≡ Some walk)
 GoesFrom false from w p walk = IsAnew from w p walk
@@ -110,12 +111,12 @@ abbrev pub IsLeftBy : Option Range → Pass → Cursor → Walker → Type 0
 IsLeftBy (Some range) p walk w = (w.pass ≡ p) × (w.walk ≡ Some walk)
 IsLeftBy None p walk w = (knows w ≡ record (pass_in p) { standing = None }) × Takes 1 p w.pass × (w.walk ≡ None)
 
--- The pass made a read, in whichever section.
+-- The handle made a read, in whichever section.
 abbrev pub IsReadBy : Tree → known.Pass → Query → Read (Option Range) → known.Pass → Type 0
 IsReadBy t p query r q = (k : ℕ) × known.Read (opened t) p r.lo r.hi k query r.value q
 
--- One step from an index: the find from there, by one step of the walk that stands there, or of a new one. Beside the steps of that
--- one closes the section at the end of the walk.
+-- One step from an index: the find from there, by one step of the walk that is there, or of a new one. One more step closes the
+-- section at the end of the walk.
 pub record IsStep (t : Tree) (w : Walker) (from : ℕ) (r : Read (Option Range)) (w' : Walker) : Type 0 where
   pub read : IsReadBy t (knows w) (query_at (Some from) last_index) r (knows w')
   pub goes : WalkGoesOn r.value w'
@@ -135,7 +136,7 @@ StepsFrom t w (Some from) r w' = IsStep t w from r w'
 
 -- ---- calls
 
--- What a try comes to: the lock was found taken; or the tree has had as many calls as it may have; or the call was made.
+-- The result of a try: the lock was found taken; or the tree has had as many calls as it may have; or the call was made.
 abbrev pub Tried : Type 0
 Tried = Result (Result Done Worn) Busy
 

@@ -19,21 +19,21 @@ walk_from (Some index) = record { next = index; ended = 0 }
 abbrev pub last_index_of : OwnTree → ℕ
 last_index_of t = greatest t.engine.sheet.tree.table.width
 
--- the index from which a walk goes on where a tree's indexes end at `top`: there is none above it
+-- the index from which a walk goes on if a tree's indexes end at `top`: there is none above it
 abbrev pub walk_start : ℕ → Option ℕ → Option ℕ
 walk_start top None = None
 walk_start top (Some index) = index_in top index
 
--- One step from an index: the range is the first that ends there or above. The tree keeps the place behind it; where it kept the place
--- from which the walk goes on, a step within a leaf loads no way from the root.
+-- One step from an index: the range is the first that ends there or above. The tree keeps the place after it. If it had kept
+-- the place from which the walk goes on, a step within a leaf loads no path from the root.
 pub record IsStepped (t t' : OwnTree) (from : Option ℕ) (found : Option Range) : Type 0 where
   pub rest : IsAsked t.engine t'.engine
   pub range : found ≡ found_from (map_by t.engine.sheet.tree) (last_index_of t) (walk_start (last_index_of t) from)
   pub place : t'.place.next ≡ index_behind (last_index_of t) found
   pub near : t.place.next ≡ from → IfSome found (λ _. StepsWithin t.place t.engine.sheet t'.engine.sheet)
 
--- A step of a walk on what C keeps: the walk goes on behind the range that is told, and has ended where there is none. A closed tree is
--- EBADF, and the walk is as it was.
+-- A step of a walk on what C keeps: the walk goes on after the range that is returned, and has ended if there is none. A closed
+-- tree is EBADF, and the walk is as it was.
 abbrev pub HasSteppedOn : OutWalk → Option OwnTree → Option OwnTree → ℕ → OutRange → OutWalk → Type 0
 HasSteppedOn walk None after status out walk' = (after ≡ None) × (status ≡ 9) × (out ≡ no_range) × (walk' ≡ walk)
 HasSteppedOn walk (Some t) None status out walk' = ⊥

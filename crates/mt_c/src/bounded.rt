@@ -39,7 +39,7 @@ fn place_to(index: Option<u64>, max: u64) -> Option<u64>
 }
 
 impl Walker {
-    /// One step of a walk, of which a range that begins above `max` is not told. Where the walk has ended no section stands open.
+    /// One step of a walk, of which a range that begins above `max` is not returned. If the walk has ended, no section is open.
     #[tactic(auto, using(crate::proofs::Bounds::steps_on, crate::proofs::Bounds::steps_off))]
     fn step_to(&mut self, tree: &Tree, place: Option<u64>, max: u64) -> Read<Option<Range>>
         requires { IsPassOf tree.now self.old.pass }
@@ -76,7 +76,7 @@ impl User {
     }
 }
 
-/// Tells the next range of a walk, where it begins at `max` or below. The walk goes on behind it.
+/// Returns the next range of a walk, if it begins at `max` or below. The walk goes on after it.
 #[tactic(auto, using(crate::proofs::Bounds::stepped_open, crate::proofs::Bounds::stepped_closed))]
 #[unsafe(no_mangle)]
 pub extern "C" fn maple_step_to(

@@ -64,7 +64,7 @@ fn taken(alloc: Global, ranges: &[OutRange]) -> Result<Vec<Range>, NoMemory>
     Ok(taken)
 }
 
-/// The rows of a tree that has just these ranges, as few as hold it.
+/// The nodes of a tree that has just these ranges, as few as hold it.
 #[tactic(auto, using(crate::proofs::RangesBuilt::order_kept, crate::proofs::RangesBuilt::why_refused))]
 pub fn built(alloc: Global, kind: Kind, ranges: &[OutRange]) -> Result<PlainRows, BuildWhy>
     ensures order { IfOk result (λ rows. misplaced kind (map defined.range_from_c ranges.now) ≡ None) }
@@ -80,7 +80,7 @@ pub fn built(alloc: Global, kind: Kind, ranges: &[OutRange]) -> Result<PlainRows
     }
 }
 
-/// A tree of the kind with this code that has just these ranges, in so many rows; or why there is none.
+/// A tree of the kind with this code that has exactly these ranges, with `rows` nodes; or why there is none.
 #[tactic(auto, using(crate::proofs::RangesBuilt::lacks_anyhow, crate::proofs::RangesBuilt::of_ranges_in, crate::proofs::RangesBuilt::ranges_lack))]
 fn of_ranges(
     alloc: Global,
@@ -105,8 +105,9 @@ fn of_ranges(
     }
 }
 
-/// Opens a tree of the kind with this code that has just these ranges, in so many rows: as many as it needs at the least, and 65,504
-/// at the most. `at` tells which range is none of the kind or does not stand above the one before, where one is so.
+/// Opens a tree of the kind with this code that has exactly these ranges, with `rows` nodes: at least as many as it needs, and
+/// at most 65,504. `at` is the place of the first range that is no range of the kind or does not begin above the end of the one
+/// before, if there is one.
 #[tactic(auto, using(crate::proofs::RangesBuilt::builds_busy, crate::proofs::RangesBuilt::builds_made, crate::proofs::RangesBuilt::builds_none))]
 #[unsafe(no_mangle)]
 pub extern "C" fn maple_build(

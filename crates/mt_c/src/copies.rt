@@ -1,4 +1,4 @@
-//! Trees that open with a copy of rows.
+//! Trees that open with a copy of nodes.
 
 ghost use Rattle.std.specs.Prelude.{◌≡◌, ◌↔◌, ◌<◌, ◌≤◌, IfOk, IfErr, IsTrue};
 ghost use Rattle.mt_base.specs.declared.kinds.Kind.{Kind};
@@ -24,7 +24,7 @@ use std::alloc::Global;
 use std::marker::Brand;
 use std::sync::ledger::{Blank, Ledger};
 
-/// Copies lawful rows into new rows of their width, and plants them there.
+/// Copies well-formed nodes into new nodes of their width, and plants them there.
 fn copy_into<L: Ledger>(blank: Blank, src: &mut PlainRows, dst: &mut PlainRows, book: &mut RowBook)
     requires name { blank.name ≡ L.name }
     requires parts { blank.parts ≡ L.parts }
@@ -41,7 +41,7 @@ fn copy_into<L: Ledger>(blank: Blank, src: &mut PlainRows, dst: &mut PlainRows, 
     dst.plant(root);
 }
 
-/// An engine of this kind, in so many rows, with a copy of lawful rows.
+/// An engine of this kind, with `rows` nodes, with a copy of well-formed nodes.
 fn engine_with(
     alloc: Global,
     kind: Kind,
@@ -59,7 +59,7 @@ fn engine_with(
     Ok(Engine::new(dst, book, kind))
 }
 
-/// A tree of this kind, in so many rows, with a copy of lawful rows.
+/// A tree of this kind, with `rows` nodes, with a copy of well-formed nodes.
 fn copied(
     alloc: Global,
     kind: Kind,
@@ -75,7 +75,7 @@ fn copied(
     Ok(Box::new(alloc, OwnTree::begun(engine, kind))?)
 }
 
-/// How many rows there are: as many as are used at the least.
+/// How many nodes there are: as many as are used at least.
 pub fn used_in(kind: Kind, rows: &PlainRows) -> u64
     requires { IsLawfulOf (sheet_in rows.now).tree kind }
     ensures size { result ≡ (sheet_in rows.now).tree.rows }
@@ -86,14 +86,14 @@ pub fn used_in(kind: Kind, rows: &PlainRows) -> u64
     rows.size()
 }
 
-/// Whether so many rows hold those that are used, and are no more than a tree may have.
+/// Whether `rows` nodes are enough for those in use, and no more than a tree may have.
 fn fits(used: u64, rows: u64) -> bool
     ensures { IsTrue result ↔ FitsRows used rows }
 {
     (used..=MOST_ROWS).contains(&rows)
 }
 
-/// A copy in so many rows where they fit; or the number that says why there is none.
+/// A copy with `rows` nodes if they fit; or the number that says why there is none.
 pub fn fitted(
     alloc: Global,
     kind: Kind,
@@ -117,7 +117,7 @@ pub fn fitted(
     }
 }
 
-/// How many rows a copy is to have, of a tree of which kind.
+/// How many nodes a copy is to have, of a tree of which kind.
 #[derive(Drop)]
 struct Wanted {
     alloc: Global,
@@ -159,7 +159,7 @@ fn copy_in(engine: &mut Engine<PlainRows>, wanted: Wanted) -> Result<Box<OwnTree
 }
 
 impl OwnTree {
-    /// A copy in so many rows; or the number that says why there is none.
+    /// A copy with `rows` nodes; or the number that says why there is none.
     #[tactic(auto, using(crate::proofs::Walking::walks_if_asked, crate::proofs::Walking::ended_if_asked))]
     fn copy(&mut self, alloc: Global, rows: u64) -> Result<Box<OwnTree>, u32>
         ensures rest { IsAsked self.old.engine self.new.engine }
@@ -175,7 +175,7 @@ impl OwnTree {
     }
 }
 
-/// Opens a tree with the map of another, in so many rows: as many as that has in use at the least, and 65,504 at the most.
+/// Opens a tree with the map of another, with `rows` nodes: at least as many as that has in use, and at most 65,504.
 #[tactic(auto, using(crate::proofs::Copying::copied_closed, crate::proofs::Copying::copied_busy))]
 #[unsafe(no_mangle)]
 pub extern "C" fn maple_copy(alloc: Global, tree: &mut Handle, copy: &mut Handle, rows: u64) -> u32

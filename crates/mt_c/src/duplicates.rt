@@ -28,7 +28,7 @@ fn new_first(alloc: Global, shape: Shape, tree: Tree, passes: Vec<Pass>) -> Resu
     first(alloc, tree, passes)
 }
 
-/// The same in a box.
+/// The first user of a new tree of this shape, in a box.
 fn boxed_first(
     alloc: Global,
     shape: Shape,
@@ -46,7 +46,7 @@ fn boxed_first(
 }
 
 impl Walker {
-    /// A tree of this shape with the map of the tree, and its passes, if the lock is free.
+    /// A tree of this shape with the map of the tree, and its handles, if the lock is free.
     #[tactic(auto, using(crate::proofs::Duplicating::made_in, crate::proofs::Duplicating::tried_most))]
     fn try_dup(
         &mut self,
@@ -78,7 +78,7 @@ impl User {
         }
     }
 
-    /// A tree of this shape with the map of its tree, and its passes, if the lock is free.
+    /// A tree of this shape with the map of its tree, and its handles, if the lock is free.
     fn try_dup(
         &mut self,
         alloc: Global,
@@ -94,8 +94,8 @@ impl User {
         self.walker.try_dup(&self.common.tree, alloc, shape)
     }
 
-    /// The first user of a copy of its tree, in so many rows, for so many users and calls, if the lock is free; or the number that says
-    /// why there is none. That the lock was found taken is kept.
+    /// The first user of a copy of its tree, with this many nodes, for this many users and calls, if the lock is free; or the
+    /// number that says why there is none. If the lock was found taken, the receipt is kept.
     #[tactic(auto, using(crate::proofs::Duplicating::copy_taken, crate::proofs::Duplicating::copy_none, crate::proofs::Duplicating::copy_short, crate::proofs::Duplicating::copy_made, crate::proofs::Duplicating::new_opening))]
     fn copy_told(
         &mut self,
@@ -126,8 +126,8 @@ impl User {
     }
 }
 
-/// Opens a shared tree with the map of another, in so many rows, for so many users at a time and so many calls, and its first user, if
-/// the other's lock is free.
+/// Opens a shared tree with the map of another, with `rows` nodes, for `users` users at a time and `calls` calls, and its first
+/// user, if the other's lock is free.
 #[tactic(auto, using(crate::proofs::Duplicating::copied_closed, crate::proofs::Duplicating::copied_busy, crate::proofs::Duplicating::copied_made, crate::proofs::Duplicating::copied_none))]
 #[unsafe(no_mangle)]
 pub extern "C" fn maple_shared_copy(

@@ -28,7 +28,7 @@ pub extern "C" fn maple_store(
     told.status
 }
 
-/// As `maple_store`, but it always wants the rows of a store that changes nodes.
+/// As `maple_store`, but it always needs the nodes of a store that changes nodes.
 #[tactic(auto, using(crate::proofs::Telling::told_word))]
 #[unsafe(no_mangle)]
 pub extern "C" fn maple_store_pre(
@@ -193,7 +193,7 @@ pub extern "C" fn maple_load(
     ask(alloc, tree, &Query::Load { index }, range)
 }
 
-/// The entry at `index`, and 0 where there is none or the tree is closed.
+/// The entry at `index`, and 0 if there is none or the tree is closed.
 #[unsafe(no_mangle)]
 pub extern "C" fn maple_entry(alloc: Global, tree: &mut Handle, index: u64) -> u64
     ensures { EntryTold index tree.old.kept.value tree.new.kept.value result }

@@ -1,4 +1,4 @@
-//! Whether the words of a tree are lawful.
+//! Whether the words of a tree are well-formed.
 
 ghost use Rattle.std.specs.Prelude.{◌≡◌, Ok};
 ghost use Rattle.mt_check.specs.Check.{form_of};
@@ -28,7 +28,7 @@ pub struct OutForm {
     pub ranges: u64,
 }
 
-/// What is told where there is no form.
+/// The result if there is no form.
 pub fn no_form() -> OutForm
     ensures { result ≡ defined.no_form }
 {
@@ -50,7 +50,7 @@ pub fn out_form(form: &Form) -> OutForm
     }
 }
 
-/// What a check of lawful rows tells, which tests each word.
+/// The result of a check of well-formed nodes, which tests each word.
 fn check_rows(rows: &mut PlainRows, kind: Kind) -> Result<Form, Fault>
     requires { IsLawfulOf (sheet_in rows.old).tree kind }
     ensures form { result ≡ Ok (form_of (tree_as kind (sheet_in rows.old).tree)) }
@@ -96,7 +96,8 @@ impl OwnTree {
     }
 }
 
-/// Tests the words of a tree, and tells its form. They are lawful: another answer says that something else wrote over them.
+/// Tests the words of a tree, and returns its form. They are well-formed: any other answer means that something else wrote over
+/// them.
 #[unsafe(no_mangle)]
 pub extern "C" fn maple_check(alloc: Global, tree: &mut Handle, form: &mut OutForm) -> u32
     ensures { Checked tree.old.kept.value tree.new.kept.value result form.new }

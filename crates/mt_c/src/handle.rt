@@ -7,8 +7,8 @@ use crate::kept::KeptTree;
 use crate::own_tree::OwnTree;
 use std::alloc::Global;
 
-/// A tree as C has it: `struct maple_tree`, of two words. Where both are 0 it is closed. The second tells how many trees it has.
-/// It cannot be dropped: what it keeps is taken out.
+/// A tree as C has it: `struct maple_tree`, of two words. If both are 0 it is closed. The second is how many trees it has. It
+/// cannot be dropped: what it keeps is taken out.
 #[repr(C)]
 pub struct Handle {
     pub kept: KeptTree,

@@ -60,7 +60,7 @@ pub fn status_for(why: ImageError) -> u32
     }
 }
 
-/// A tree with the map of an image, in so many rows; or the number that says why there is none.
+/// A tree with the map of an image, with `rows` nodes; or the number that says why there is none.
 #[tactic(auto, using(crate::proofs::ImagesOpened::no_image, crate::proofs::ImagesOpened::of_image_in, crate::proofs::ImagesOpened::image_lacks))]
 fn of_image(alloc: Global, bytes: &[u8], rows: u64) -> Result<Box<OwnTree>, u32>
     ensures tree { IfOk result (λ whole. IsOfImage bytes.now rows whole.value.engine) }
@@ -74,7 +74,7 @@ fn of_image(alloc: Global, bytes: &[u8], rows: u64) -> Result<Box<OwnTree>, u32>
     fitted(alloc, kind, &mut src, used, rows)
 }
 
-/// Writes the image of a tree to `out`. `used` tells how many bytes that has, also where `out` is too short for it.
+/// Writes the image of a tree to `out`. `used` is how many bytes that has, even if `out` is too short for it.
 #[tactic(auto, using(crate::proofs::ImagesOpened::imaged_closed, crate::proofs::ImagesOpened::imaged_put, crate::proofs::ImagesOpened::imaged_short, crate::proofs::ImagesOpened::imaged_none))]
 #[unsafe(no_mangle)]
 pub extern "C" fn maple_image(
@@ -100,7 +100,7 @@ pub extern "C" fn maple_image(
     }
 }
 
-/// Opens a tree with the map of an image, in so many rows: as many as the image has at the least, and 65,504 at the most.
+/// Opens a tree with the map of an image, with `rows` nodes: at least as many as the image has, and at most 65,504.
 #[tactic(auto, using(crate::proofs::Copying::image_busy, crate::proofs::Copying::image_opened, crate::proofs::Copying::image_none))]
 #[unsafe(no_mangle)]
 pub extern "C" fn maple_open_image(alloc: Global, tree: &mut Handle, bytes: &[u8], rows: u64) -> u32

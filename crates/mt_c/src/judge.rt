@@ -10,7 +10,7 @@ use mt_log::{LogError, read_log};
 use mt_verify::{Verdict, calls_of, verify};
 use std::alloc::Global;
 
-/// How many calls and how many reads a transcript tells; or the number that says why it is none.
+/// How many calls and how many reads a transcript reports; or the number that says why it is none.
 #[tactic(auto, using(crate::proofs::Batches::no_run_so))]
 fn counted(alloc: Global, log: &[u8], text: &[u8], rows: u64) -> Result<(u64, u64), u32>
     requires rows { HaveRows rows }
@@ -32,8 +32,8 @@ fn counted(alloc: Global, log: &[u8], text: &[u8], rows: u64) -> Result<(u64, u6
     }
 }
 
-/// Whether a text is that of a transcript of a run of a log over trees of so many rows, 4 to 65,504; and where it is, how many calls
-/// and how many reads it tells. It takes the tree for what a transcript says alone: the run may be of many threads.
+/// Whether a text is that of a transcript of a run of a log over trees of `rows` nodes, 4 to 65,504; and if it is, how many
+/// calls and how many reads it reports. It judges the transcript alone: the run may be of many threads.
 #[unsafe(no_mangle)]
 pub extern "C" fn maple_verify(
     alloc: Global,

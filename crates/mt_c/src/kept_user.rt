@@ -12,8 +12,7 @@ use crate::user::User;
 use std::alloc::Global;
 use std::marker::Model;
 
-/// The box of a user as one pointer, whose type names no other: C may keep it and sees nothing of what is behind. It
-/// cannot be dropped.
+/// The box of a user as one pointer, whose type names no other: C may keep it, and sees nothing inside. It cannot be dropped.
 #[repr(C)]
 pub struct KeptUser {
     at: *mut (),

@@ -32,7 +32,7 @@ impl Walker {
         tree.try_check(&mut self.pass)
     }
 
-    /// How the tree uses its rows, if the lock is free.
+    /// How the tree uses its nodes, if the lock is free.
     #[tactic(auto, using(crate::proofs::Looking::stats_found, crate::proofs::Using::tried_once))]
     fn try_stats(&mut self, tree: &Tree) -> Result<Stats, Busy>
         requires { IsPassOf tree.now self.old.pass }
@@ -44,7 +44,7 @@ impl Walker {
         tree.try_stats(&mut self.pass)
     }
 
-    /// How many calls had ended at the least when a section was opened that stands open, if the lock is free.
+    /// How many calls had ended at least when a section that is open was opened, if the lock is free.
     #[tactic(auto, using(crate::proofs::Looking::calls_found, crate::proofs::Using::tried_once))]
     fn try_oldest(&mut self, tree: &Tree) -> Result<u64, Busy>
         requires { IsPassOf tree.now self.old.pass }
@@ -69,7 +69,7 @@ impl User {
         self.walker.try_check(&self.common.tree)
     }
 
-    /// How its tree uses its rows, if the lock is free.
+    /// How its tree uses its nodes, if the lock is free.
     fn try_stats(&mut self) -> Result<Stats, Busy>
         ensures common { common_of self.new ≡ common_of self.old }
         ensures chair { self.new.chair ≡ self.old.chair }
@@ -80,7 +80,7 @@ impl User {
         self.walker.try_stats(&self.common.tree)
     }
 
-    /// How many calls had ended at the least when a section of its tree was opened that stands open, if the lock is free.
+    /// How many calls had ended at least when a section of its tree that is open was opened, if the lock is free.
     fn try_oldest(&mut self) -> Result<u64, Busy>
         ensures common { common_of self.new ≡ common_of self.old }
         ensures chair { self.new.chair ≡ self.old.chair }
@@ -92,7 +92,7 @@ impl User {
     }
 }
 
-/// What C is told of a check under the lock. That this was found taken is kept.
+/// What C gets of a check under the lock. If that was found taken, the receipt is kept.
 fn form_told(found: Result<Form, Busy>, receipts: &mut Receipts) -> (OutForm, u32)
     ensures tells { TellsForm result.1 result.0 found }
     ensures kept { receipts.new ≡ when_found found receipts.old }
@@ -106,7 +106,7 @@ fn form_told(found: Result<Form, Busy>, receipts: &mut Receipts) -> (OutForm, u3
     }
 }
 
-/// How rows are used, as C has it.
+/// How nodes are used, as C has it.
 fn out_stats(stats: Stats) -> OutStats
     ensures { result ≡ defined.out_stats stats }
 {
@@ -120,7 +120,7 @@ fn out_stats(stats: Stats) -> OutStats
     }
 }
 
-/// What C is told of how rows are used. That the lock was found taken is kept.
+/// What C gets of how nodes are used. If the lock was found taken, the receipt is kept.
 fn stats_told(found: Result<Stats, Busy>, receipts: &mut Receipts) -> (OutStats, u32)
     ensures tells { TellsStats result.1 result.0 found }
     ensures kept { receipts.new ≡ when_found found receipts.old }
@@ -134,7 +134,7 @@ fn stats_told(found: Result<Stats, Busy>, receipts: &mut Receipts) -> (OutStats,
     }
 }
 
-/// What C is told of a number of calls. That the lock was found taken is kept.
+/// What C gets of a number of calls. If the lock was found taken, the receipt is kept.
 fn calls_told(found: Result<u64, Busy>, receipts: &mut Receipts) -> (u64, u32)
     ensures tells { TellsCalls result.1 result.0 found }
     ensures kept { receipts.new ≡ when_found found receipts.old }
@@ -149,7 +149,7 @@ fn calls_told(found: Result<u64, Busy>, receipts: &mut Receipts) -> (u64, u32)
 }
 
 impl User {
-    /// What C is told of a check, if the lock is free.
+    /// What C gets of a check, if the lock is free.
     #[tactic(auto, using(crate::proofs::Looking::form_told))]
     fn check_told(&mut self) -> (OutForm, u32)
         ensures common { common_of self.new ≡ common_of self.old }
@@ -159,7 +159,7 @@ impl User {
         form_told(found, &mut self.receipts)
     }
 
-    /// What C is told of how rows are used, if the lock is free.
+    /// What C gets of how nodes are used, if the lock is free.
     #[tactic(auto, using(crate::proofs::Looking::stats_told))]
     fn stats_told(&mut self) -> (OutStats, u32)
         ensures common { common_of self.new ≡ common_of self.old }
@@ -169,7 +169,7 @@ impl User {
         stats_told(found, &mut self.receipts)
     }
 
-    /// What C is told of the sections that stand open, if the lock is free.
+    /// What C gets of the sections that are open, if the lock is free.
     #[tactic(auto, using(crate::proofs::Looking::calls_told))]
     fn oldest_told(&mut self) -> (u64, u32)
         ensures common { common_of self.new ≡ common_of self.old }
@@ -180,7 +180,7 @@ impl User {
     }
 }
 
-/// Tests the words of a shared tree, and tells its form, if its lock is free.
+/// Tests the words of a shared tree, and returns its form, if its lock is free.
 #[tactic(auto, using(crate::proofs::Looking::checked_open, crate::proofs::Looking::checked_closed))]
 #[unsafe(no_mangle)]
 pub extern "C" fn maple_shared_check(
@@ -200,7 +200,7 @@ pub extern "C" fn maple_shared_check(
     status
 }
 
-/// Tells how a shared tree uses its rows, if its lock is free.
+/// Tells how a shared tree uses its nodes, if its lock is free.
 #[tactic(auto, using(crate::proofs::Looking::stats_open, crate::proofs::Looking::stats_closed))]
 #[unsafe(no_mangle)]
 pub extern "C" fn maple_shared_stats(
@@ -220,8 +220,8 @@ pub extern "C" fn maple_shared_stats(
     status
 }
 
-/// Tells how many calls had ended at the least when a section was opened that stands open, if the lock is free: where none does, so
-/// many are all.
+/// Returns how many calls had ended at least when a section that is open was opened, if the lock is free. If none is open, it
+/// is the number of all calls.
 #[tactic(auto, using(crate::proofs::Looking::oldest_open, crate::proofs::Looking::oldest_closed))]
 #[unsafe(no_mangle)]
 pub extern "C" fn maple_oldest(alloc: Global, user: &mut UserHandle, calls: &mut u64) -> u32

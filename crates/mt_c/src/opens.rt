@@ -26,7 +26,7 @@ pub fn kind_of(code: u32) -> Option<Kind>
     }
 }
 
-/// The box of an empty tree of this kind, in so many rows.
+/// The box of an empty tree of this kind, with `rows` nodes.
 fn boxed(alloc: Global, kind: Kind, rows: u64) -> Result<Box<OwnTree>, NoMemory>
     requires { rows ≤ most_rows }
     ensures { IfOk result (λ whole. IsNewEngine kind rows whole.value.engine) }
@@ -50,7 +50,7 @@ fn opened(alloc: Global, code: u32, rows: u64) -> (Handle, u32)
     }
 }
 
-/// Opens an empty tree of the kind with this code, in so many rows, 65,504 at the most.
+/// Opens an empty tree of the kind with this code, with `rows` nodes, at most 65,504.
 #[unsafe(no_mangle)]
 pub extern "C" fn maple_open(alloc: Global, tree: &mut Handle, kind: u32, rows: u64) -> u32
     ensures { Opened kind rows tree.old.kept.value tree.new.kept.value result }

@@ -17,11 +17,11 @@ use mt_free::RowBook;
 use mt_rows::PlainRows;
 use std::alloc::Global;
 
-/// A tree has so many calls at the most.
+/// The greatest number of calls of a tree.
 const MOST_CALLS: u64 = (1 << 62) - 1;
 
 impl OwnTree {
-    /// An empty tree in so many rows, before its first call.
+    /// An empty tree with `rows` nodes, before its first call.
     ///
     /// # Errors
     ///
@@ -80,7 +80,7 @@ impl OwnTree {
         self.engine.load(index)
     }
 
-    /// Makes it ready for a store, if the rows that no section holds are enough.
+    /// Makes it ready for a store, if the nodes that no section holds are enough.
     pub fn preallocate(&mut self) -> bool
         ensures prepared { IsPrepared self.old.engine self.new.engine }
         ensures ready { IsTrue result ↔ IsReady self.new.engine }

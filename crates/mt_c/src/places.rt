@@ -5,7 +5,7 @@ ghost use Rattle.mt_c.specs.Places.{SharedPlaced};
 use crate::user_handle::UserHandle;
 use std::alloc::Global;
 
-/// Tells the place that a user has, from 1: by that a call which lacks rows tells who holds them back.
+/// Returns the place that a user has, from 1: the number by which a call that lacks nodes names who holds them back.
 #[tactic(auto, using(crate::proofs::Placing::placed_open, crate::proofs::Placing::placed_closed))]
 #[unsafe(no_mangle)]
 pub extern "C" fn maple_place(alloc: Global, user: &mut UserHandle, place: &mut u64) -> u32

@@ -1,4 +1,4 @@
-//! Stores for which rows are found free beforehand.
+//! Stores for which nodes are found free beforehand.
 
 ghost use Rattle.std.specs.Prelude.{◌≡◌};
 ghost use Rattle.mt_base.specs.declared.calls.Call.TheVariants.{StorePre};
@@ -9,7 +9,7 @@ use crate::told::{EBADF, ENOMEM, status_of, word_of};
 use mt_base::Reply;
 use std::alloc::Global;
 
-/// The number that C gets for a store for which rows were to be at hand.
+/// The number that C gets for a store for which nodes were to be at hand.
 fn pre_status(made: Option<Option<Reply>>) -> u32
     ensures { result ≡ pre_status made }
 {
@@ -19,7 +19,7 @@ fn pre_status(made: Option<Option<Reply>>) -> u32
     }
 }
 
-/// The word that such a store tells, or 0.
+/// The word of such a store, or 0.
 fn pre_word(made: Option<Option<Reply>>) -> u64
     ensures { result ≡ pre_word made }
 {
@@ -29,7 +29,7 @@ fn pre_word(made: Option<Option<Reply>>) -> u64
     }
 }
 
-/// Makes a tree ready for a store, if the rows that no section holds are enough. It is no call of the tree.
+/// Makes a tree ready for a store, if the nodes that no section holds are enough. It is no call of the tree.
 #[unsafe(no_mangle)]
 pub extern "C" fn maple_preallocate(alloc: Global, tree: &mut Handle) -> u32
     ensures { Prepared tree.old.kept.value tree.new.kept.value result }
@@ -42,7 +42,7 @@ pub extern "C" fn maple_preallocate(alloc: Global, tree: &mut Handle) -> u32
     if is_ready { 0 } else { ENOMEM }
 }
 
-/// Makes one store for which the tree is ready, as `maple_store_pre`: it is not refused for want of rows.
+/// Makes one store for which the tree is ready, as `maple_store_pre`: it is not refused for lack of nodes.
 #[tactic(auto, using(crate::proofs::Telling::pre_open))]
 #[unsafe(no_mangle)]
 pub extern "C" fn maple_store_prealloc(

@@ -1,11 +1,11 @@
-//! A tree that its users own together, and the passes that none of them has.
+//! A tree that its users own together, and the passes (handles) that none of them has.
 
 ghost use Rattle.std.specs.Prelude.{◌≡◌};
 
 use mt_keep::{Keep, Placed};
 use mt_tree::{Pass, Tree};
 
-/// Passes of one tree, for users to come. No section of them stands open.
+/// Passes (handles) of one tree, for users to come. None has a section open.
 #[derive(Drop)]
 pub struct Purse {
     pub passes: Vec<Pass>,
@@ -18,7 +18,7 @@ impl Placed<Tree> for Purse {
     ghost fits = { λ tree purse. All (IsSparePass tree) purse.passes.items };
 }
 
-/// A tree and the purse of its passes.
+/// A tree and the purse (pool) of its free handles.
 #[derive(Drop)]
 pub struct Common {
     pub tree: Tree,

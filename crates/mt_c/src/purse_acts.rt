@@ -1,4 +1,4 @@
-//! What is done with a purse.
+//! What is done with a purse (the pool of free handles).
 
 ghost use Rattle.std.specs.Prelude.{◌≡◌, ◌+◌, ℕ, All, IfErr, IfOk};
 ghost use Rattle.mt_keep.specs.Keeping.{cuts_of};

@@ -1,4 +1,4 @@
-//! What a user has found at the tree's lock and at the purse.
+//! What a user has found at the tree's lock and at the purse (the pool of free handles).
 
 ghost use Rattle.std.specs.Prelude.{◌≡◌};
 ghost use Rattle.mt_c.specs.Receipts.{no_receipts};
@@ -7,7 +7,7 @@ use crate::purse::Purse;
 use mt_keep::Given;
 use mt_tree::{Busy, Tree};
 
-/// What a user keeps of its last steps at the lock and at the purse: only such a step makes one. They have no bytes.
+/// What a user keeps of its last steps at the lock and at the purse. Only such a step makes one, and they have no bytes.
 #[derive(Drop)]
 pub struct Receipts {
     /// The tree's lock was found taken.

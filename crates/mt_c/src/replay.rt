@@ -12,10 +12,10 @@ use mt_log::{LogError, read_log, render};
 use mt_sequential::play;
 use std::alloc::Global;
 
-/// A log has so many bytes at the most.
+/// The greatest number of bytes of a log.
 const MOST_BYTES: usize = 0xffff_ffff;
 
-/// The number for rows that are too few or too many, or for too many bytes of a log.
+/// The number for nodes that are too few or too many, or for too many bytes of a log.
 pub fn unfit(log: &[u8], rows: u64) -> Option<u32>
     ensures some { IfSome result (λ status. IsUnfit rows log.now status) }
     ensures none { result ≡ None → HaveRows rows × (length log.now ≤ most_bytes) }
@@ -65,8 +65,8 @@ pub fn put(text: &[u8], out: &mut [u8]) -> bool
     true
 }
 
-/// Plays a log on one thread, on sorted lists, over trees of so many rows, 4 to 65,504, and writes the text of the transcript to
-/// `out`. `used` tells how many bytes that has, also where `out` is too short for it.
+/// Plays a log on one thread, on sorted lists, over trees of `rows` nodes, 4 to 65,504, and writes the text of the transcript
+/// to `out`. `used` is how many bytes that has, even if `out` is too short for it.
 #[tactic(auto, using(crate::proofs::Batches::writes, crate::proofs::Batches::is_short))]
 #[unsafe(no_mangle)]
 pub extern "C" fn maple_replay(

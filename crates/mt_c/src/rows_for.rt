@@ -1,4 +1,4 @@
-//! How many rows surely hold so many ranges.
+//! How many nodes are surely enough for `ranges` ranges.
 
 ghost use Rattle.std.specs.Prelude.{◌≡◌, ◌≤◌, ◌<◌, ℕ, List, length};
 ghost use Rattle.mt_base.specs.declared.ranges.Range.{Range};
@@ -17,7 +17,7 @@ fn level_from(most: u64, least: u64) -> u64
     if least <= most { 1 } else { 0 }
 }
 
-/// How many levels a tree of so many ranges may have.
+/// How many levels a tree of `ranges` ranges may have.
 fn levels_for(ranges: u64) -> u64
     requires { ranges ≤ 131008 }
     ensures is { result ≡ defined.levels_for ranges }
@@ -34,8 +34,8 @@ fn levels_for(ranges: u64) -> u64
         + level_from(most, 196_608)
 }
 
-/// How many rows surely hold so many ranges: a tree of so many rows, none of which is held, refuses no call for want of rows while it has
-/// so many ranges or fewer. The greatest number where a tree cannot have so many rows.
+/// How many nodes are surely enough for `ranges` ranges. A tree of that many nodes, none of which is held back, refuses no call
+/// because nodes are short while it has at most that many ranges. The greatest number if a tree cannot have that many nodes.
 #[tactic(auto, using(crate::proofs::RowsFor::enough, crate::proofs::RowsFor::enough_far, crate::proofs::RowsFor::told_rows, crate::proofs::RowsFor::told_many, crate::proofs::RowsFor::told_far))]
 #[unsafe(no_mangle)]
 pub extern "C" fn maple_rows_for(ranges: u64) -> u64

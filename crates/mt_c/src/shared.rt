@@ -102,7 +102,7 @@ pub fn sync(alloc: Global, user: &mut UserHandle, calls: &mut u64) -> u32
     status
 }
 
-/// Sees the whole history, and so do the passes in the purse, if neither that nor the tree's lock is taken.
+/// Sees the whole history, and so do the handles in the purse, if neither that nor the tree's lock is taken.
 #[tactic(auto, using(crate::proofs::Sharing::settled_open, crate::proofs::Sharing::settled_closed))]
 pub fn settle(alloc: Global, user: &mut UserHandle, calls: &mut u64, passes: &mut u64) -> u32
     ensures { SharedSettled user.old user.new result calls.new passes.new }

@@ -31,7 +31,7 @@ impl Walker {
     }
 }
 
-/// What C is told of an image: the buffer begins with it, where that has room. That the lock was found taken is kept.
+/// What C gets of an image: the buffer begins with it, if that has room. If the lock was found taken, the receipt is kept.
 #[tactic(auto, using(crate::proofs::Looking::bytes_put, crate::proofs::Looking::bytes_short))]
 fn image_told(
     found: Result<Result<Vec<u8>, NoMemory>, Busy>,
@@ -71,7 +71,7 @@ impl User {
         self.walker.try_image(&self.common.tree, alloc)
     }
 
-    /// What C is told of an image, if the lock is free.
+    /// What C gets of an image, if the lock is free.
     #[tactic(auto, using(crate::proofs::Looking::image_told))]
     fn image_told(&mut self, alloc: Global, out: &mut [u8], used: &mut usize) -> u32
         ensures common { common_of self.new ≡ common_of self.old }
@@ -82,8 +82,8 @@ impl User {
     }
 }
 
-/// Writes an image of a shared tree to `out`, if its lock is free. `used` tells how many bytes that has, also where `out` is too short
-/// for it.
+/// Writes an image of a shared tree to `out`, if its lock is free. `used` is how many bytes that has, even if `out` is too
+/// short for it.
 #[tactic(auto, using(crate::proofs::Looking::imaged_open, crate::proofs::Looking::imaged_closed))]
 #[unsafe(no_mangle)]
 pub extern "C" fn maple_shared_image(

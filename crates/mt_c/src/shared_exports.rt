@@ -80,7 +80,7 @@ pub extern "C" fn maple_shared_rfind(
     ask(alloc, user, &Query::Rfind { index, min }, read)
 }
 
-/// The next range of a walk. The user keeps its leaf, in a section that stands open until the walk ends or the user does something
+/// The next range of a walk. The user keeps its leaf, in a section that is open until the walk ends or the user does something
 /// else.
 #[unsafe(no_mangle)]
 pub extern "C" fn maple_shared_step(
@@ -102,7 +102,7 @@ pub extern "C" fn maple_pause(alloc: Global, user: &mut UserHandle) -> u32
     pause(alloc, user)
 }
 
-/// The user has then seen so many calls, where it answers 0.
+/// If the result is 0, the user has then seen `calls` calls.
 #[unsafe(no_mangle)]
 pub extern "C" fn maple_learn(alloc: Global, user: &mut UserHandle, calls: u64) -> u32
     ensures { SharedLearned calls user.old user.new result }
@@ -110,7 +110,7 @@ pub extern "C" fn maple_learn(alloc: Global, user: &mut UserHandle, calls: u64) 
     learn(alloc, user, calls)
 }
 
-/// The user has then seen the whole history, of so many calls, where it answers 0.
+/// If the result is 0, the user has then seen the whole history, of `calls` calls.
 #[unsafe(no_mangle)]
 pub extern "C" fn maple_sync(alloc: Global, user: &mut UserHandle, calls: &mut u64) -> u32
     ensures { SharedSynced user.old user.new result calls.new }
@@ -146,7 +146,7 @@ pub extern "C" fn maple_try_store(
     try_call(alloc, user, &Call::Store { first, last, entry }, done)
 }
 
-/// As `maple_try_store`, but it always wants the rows of a store that changes nodes.
+/// As `maple_try_store`, but it always needs the nodes of a store that changes nodes.
 #[unsafe(no_mangle)]
 pub extern "C" fn maple_try_store_pre(
     alloc: Global,
@@ -176,7 +176,7 @@ pub extern "C" fn maple_try_insert(
     try_call(alloc, user, &Call::Insert { first, last, entry }, done)
 }
 
-/// Removes the whole range that holds an index, which `done` tells.
+/// Removes the whole range that holds an index, which is in `done`.
 #[unsafe(no_mangle)]
 pub extern "C" fn maple_try_erase(
     alloc: Global,

@@ -15,8 +15,8 @@ use mt_image::read_image;
 use mt_tree::Shape;
 use std::alloc::Global;
 
-/// The first user of a tree with the map of an image, in so many rows, for so many users and calls; or the number that says why there
-/// is none.
+/// The first user of a tree with the map of an image, with this many nodes, for this many users and calls; or the number that
+/// says why there is none.
 #[tactic(auto, using(crate::proofs::SharedImages::no_image, crate::proofs::SharedImages::of_image, crate::proofs::SharedImages::image_lacks))]
 fn of_image(
     alloc: Global,
@@ -44,7 +44,7 @@ fn of_image(
     }
 }
 
-/// The first user of a tree of the kind with this code that has just these ranges; or why there is none.
+/// The first user of a tree of the kind with this code that has exactly these ranges; or why there is none.
 #[tactic(auto, using(crate::proofs::SharedImages::no_kind_ranges, crate::proofs::SharedImages::no_ranges, crate::proofs::SharedImages::of_ranges, crate::proofs::SharedImages::ranges_lack))]
 fn of_ranges(
     alloc: Global,
@@ -76,7 +76,8 @@ fn of_ranges(
     }
 }
 
-/// Opens a shared tree with the map of an image, in so many rows, for so many users at a time and so many calls, and its first user.
+/// Opens a shared tree with the map of an image, with `rows` nodes, for `users` users at a time and `calls` calls, and its
+/// first user.
 #[tactic(auto, using(crate::proofs::SharedImages::opens_busy, crate::proofs::SharedImages::opens_made, crate::proofs::SharedImages::opens_none))]
 #[unsafe(no_mangle)]
 pub extern "C" fn maple_shared_open_image(
@@ -101,8 +102,9 @@ pub extern "C" fn maple_shared_open_image(
     }
 }
 
-/// Opens a shared tree of the kind with this code that has just these ranges, in so many rows, for so many users at a time and so many
-/// calls, and its first user. `at` tells which range is none of the kind or does not stand above the one before, where one is so.
+/// Opens a shared tree of the kind with this code that has exactly these ranges, with `rows` nodes, for `users` users at a time
+/// and `calls` calls, and its first user. `at` is the place of the first range that is no range of the kind or does not begin
+/// above the end of the one before, if there is one.
 #[tactic(auto, using(crate::proofs::SharedImages::builds_busy, crate::proofs::SharedImages::builds_made, crate::proofs::SharedImages::builds_none))]
 #[unsafe(no_mangle)]
 pub extern "C" fn maple_shared_build(

@@ -33,7 +33,7 @@ pub fn status_for(why: DupError) -> u32
     }
 }
 
-/// The first user of a tree of this shape that opens with the map of these rows; or the number that says why there is none.
+/// The first user of a tree of this shape that opens with the map of these nodes; or the number that says why there is none.
 #[tactic(auto, using(crate::proofs::SharedMaps::lacks_with, crate::proofs::SharedMaps::good_shape))]
 fn first_with(alloc: Global, shape: Shape, rows: &mut PlainRows) -> Result<User, u32>
     requires { IsLawfulOf (sheet_in rows.old).tree shape.kind }
@@ -97,8 +97,8 @@ fn first_in(engine: &mut Engine<PlainRows>, by: (Global, Shape)) -> Result<Box<U
 }
 
 impl OwnTree {
-    /// The first user of a shared tree with its map, in so many rows, for so many users and calls; or the number that says why there
-    /// is none.
+    /// The first user of a shared tree with its map, with this many nodes, for this many users and calls; or the number that
+    /// says why there is none.
     #[tactic(auto, using(crate::proofs::Walking::walks_if_asked, crate::proofs::Walking::ended_if_asked))]
     fn share(&mut self, alloc: Global, rows: u64, passes: u32, calls: u64) -> Result<Box<User>, u32>
         ensures rest { IsAsked self.old.engine self.new.engine }
@@ -115,8 +115,8 @@ impl OwnTree {
     }
 }
 
-/// Opens a shared tree with the map of a tree of one thread, in so many rows, for so many users at a time and so many calls, and its
-/// first user.
+/// Opens a shared tree with the map of a tree of one thread, with `rows` nodes, for `users` users at a time and `calls` calls,
+/// and its first user.
 #[tactic(auto, using(crate::proofs::SharedMaps::of_closed, crate::proofs::SharedMaps::of_open, crate::proofs::SharedMaps::of_made, crate::proofs::SharedMaps::of_none))]
 #[unsafe(no_mangle)]
 pub extern "C" fn maple_shared_of_tree(

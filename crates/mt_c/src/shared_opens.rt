@@ -4,7 +4,7 @@ ghost use Rattle.std.specs.Prelude.{◌≡◌, [], Err, None, Some, IfOk};
 ghost use Rattle.mt_tree.specs.Shapes.{first_bad};
 ghost use Rattle.mt_tree.specs.declared.shapes.Field.{Field};
 ghost use Rattle.mt_tree.specs.declared.shapes.MakeError.TheVariants as make_error;
-ghost use Rattle.mt_c.specs.Shared.{IsFirstUser, SharedClosed, SharedLeft, SharedNew, SharedOpened, SharedWith};
+ghost use Rattle.mt_c.specs.Shared.{IsFirstUser, IsLeftClosed, SharedClosed, SharedLeft, SharedNew, SharedOpened, SharedWith};
 
 use crate::opens::kind_of;
 use crate::shared_told::field_status;
@@ -28,9 +28,10 @@ fn boxed(alloc: Global, shape: Shape) -> Result<Box<User>, MakeError>
 }
 
 /// What an open of a closed user makes, and the number that C gets.
-#[tactic(auto, using(crate::proofs::Sharing::new_open, crate::proofs::Sharing::new_bad, crate::proofs::Sharing::new_short, crate::proofs::Sharing::new_no_kind, crate::proofs::Sharing::bad_shape))]
+#[tactic(auto, using(crate::proofs::Sharing::new_open, crate::proofs::Sharing::new_bad, crate::proofs::Sharing::new_short, crate::proofs::Sharing::new_no_kind, crate::proofs::Sharing::bad_shape, crate::proofs::Sharing::left_none, crate::proofs::Sharing::left_some))]
 fn opened(alloc: Global, code: u32, rows: u64, passes: u32, calls: u64) -> (UserHandle, u32)
-    ensures { SharedNew code rows passes calls result.0.kept.value result.1 }
+    ensures new { SharedNew code rows passes calls result.0.kept.value result.1 }
+    ensures left { IsLeftClosed result.0 }
 {
     let Some(kind) = kind_of(code) else {
         return (UserHandle::closed(), EINVAL);

@@ -1,4 +1,4 @@
-//! What C is told of a shared tree.
+//! What C gets of a shared tree.
 
 ghost use Rattle.std.specs.Prelude.{◌≡◌};
 ghost use Rattle.mt_read.specs.Cursors as cursors;
@@ -19,10 +19,10 @@ use mt_tree::{Busy, Done, Field, Moved, Read, Tree, Worn};
 /// Another user has the lock, or the leaf of a search for a neighbour was replaced: it may be tried again.
 pub const EAGAIN: u32 = 11;
 
-/// The tree has no pass left for another user, or would have too few or too many.
+/// The tree has no free handle for another user, or would have too few or too many.
 pub const EUSERS: u32 = 87;
 
-/// Not so many calls have ended yet.
+/// Fewer calls have ended so far.
 pub const EINPROGRESS: u32 = 115;
 
 /// A read as C has it: `struct maple_read`, the window of the calls after which it is true, and the range that was found.
@@ -36,8 +36,9 @@ pub struct CallWindow {
     pub entry: u64,
 }
 
-/// A call as C has it: `struct maple_done`, its number in the tree's history, and what it was answered. Where rows were short: how many
-/// are needed, free, in use and held, by whose section, the places of users being numbered from 1, and when that was opened.
+/// A call as C has it: `struct maple_done`, its number in the tree's history, and what it was answered. Where nodes were short:
+/// how many are needed, free, in use and held, by whose section, the places of users being numbered from 1, and when that was
+/// opened.
 #[repr(C)]
 #[derive(Clone, Copy, Debug, PartialEq, Eq)]
 pub struct Outcome {
@@ -54,7 +55,7 @@ pub struct Outcome {
     pub epoch: u64,
 }
 
-/// Where a walk up to an index looks from behind what a step found.
+/// Where a walk up to an index goes on after what a step found.
 pub fn place_behind(found: Option<Range>, max: u64) -> Option<u64>
     ensures { result ≡ cursors.place_behind found max }
 {
@@ -78,7 +79,7 @@ pub fn seen(lo: u64, hi: u64, range: OutRange) -> CallWindow
     }
 }
 
-/// What C is told of a read.
+/// What C gets of a read.
 pub fn answer_told(answer: Result<Read<Option<Range>>, Moved>) -> (CallWindow, u32)
     ensures window { result.0 ≡ defined.window_of answer }
     ensures status { result.1 ≡ defined.answer_status answer }
@@ -92,7 +93,7 @@ pub fn answer_told(answer: Result<Read<Option<Range>>, Moved>) -> (CallWindow, u
     }
 }
 
-/// What C is told where no call was made.
+/// What C gets if no call was made.
 pub fn no_outcome() -> Outcome
     ensures { result ≡ defined.no_outcome }
 {
@@ -111,7 +112,7 @@ pub fn no_outcome() -> Outcome
     }
 }
 
-/// The place of a user whose section holds rows back, and how many calls had ended when that was opened; zeros of none.
+/// The place of a user whose section holds nodes back, and how many calls had ended when that was opened; zeros of none.
 fn holder_told(by: Option<Holder>) -> (u64, u64)
     ensures place { result.0 ≡ defined.holder_place by }
     ensures epoch { result.1 ≡ defined.epoch_of by }
@@ -122,7 +123,7 @@ fn holder_told(by: Option<Holder>) -> (u64, u64)
     }
 }
 
-/// What C is told of a call that was made.
+/// What C gets of a call that was made.
 fn done_told(done: Done) -> (Outcome, u32)
     ensures outcome { result.0 ≡ defined.done_outcome done }
     ensures status { result.1 ≡ defined.done_status done }
@@ -147,7 +148,7 @@ fn done_told(done: Done) -> (Outcome, u32)
     (outcome, told.status)
 }
 
-/// What C is told of a try. That the lock was found taken is kept.
+/// What C gets of a try. If the lock was found taken, the receipt is kept.
 pub fn tried_told(
     tried: Result<Result<Done, Worn>, Busy>,
     receipts: &mut Receipts,
@@ -166,7 +167,7 @@ pub fn tried_told(
     }
 }
 
-/// What C is told of a look under the lock. That this was found taken is kept.
+/// What C gets of a look under the lock. If that was found taken, the receipt is kept.
 pub fn synced_told(synced: Result<u64, Busy>, receipts: &mut Receipts) -> (u64, u32)
     ensures calls { result.0 ≡ defined.calls_in_c synced }
     ensures status { result.1 ≡ defined.synced_status synced }
@@ -181,7 +182,7 @@ pub fn synced_told(synced: Result<u64, Busy>, receipts: &mut Receipts) -> (u64, 
     }
 }
 
-/// What C is told of a settling. What was found at the purse or at the lock is kept.
+/// What C gets of a settling. What was found at the purse or at the lock is kept.
 pub fn settled_told(
     settled: Result<(u64, u64, Given<Purse, Tree>), Settling>,
     receipts: &mut Receipts,
@@ -219,7 +220,7 @@ pub fn field_status(field: Field) -> u32
     }
 }
 
-/// The number that C gets where no user was opened, or none has left. What was found at the purse is kept.
+/// The number that C gets if no user was opened, or none has left. What was found at the purse is kept.
 pub fn unchanged_told(why: Unchanged, receipts: &mut Receipts) -> u32
     ensures status { result ≡ defined.unchanged_status why }
     ensures kept { receipts.new ≡ when_unchanged why receipts.old }

@@ -1,4 +1,4 @@
-//! How a tree uses its rows.
+//! How a tree uses its nodes.
 
 ghost use Rattle.std.specs.Prelude.{◌≡◌};
 ghost use Rattle.mt_c.specs.Calls.{IsAsked};
@@ -14,7 +14,7 @@ use mt_engine::Engine;
 use mt_rows::{PlainRows, Rows};
 use std::alloc::Global;
 
-/// How a tree uses its rows, as C has it: `struct maple_stats`.
+/// How a tree uses its nodes, as C has it: `struct maple_stats`.
 #[repr(C)]
 #[derive(Clone, Copy, Debug, PartialEq, Eq)]
 pub struct OutStats {
@@ -26,7 +26,7 @@ pub struct OutStats {
     pub calls: u64,
 }
 
-/// What is told where there is no tree.
+/// The result if there is no tree.
 pub fn no_stats() -> OutStats
     ensures { result ≡ defined.no_stats }
 {
@@ -40,7 +40,7 @@ pub fn no_stats() -> OutStats
     }
 }
 
-/// How an engine's tree uses its rows, of which so many calls were made.
+/// How an engine's tree uses its nodes, after this many calls.
 #[tactic(auto, using(mt_tree::proofs::Forms::lawful_as, mt_tree::proofs::Forms::idle_as, mt_tree::proofs::Forms::high_as, mt_tree::proofs::Forms::live_as, crate::proofs::Reading::asked_as, crate::proofs::Counting::tells_tree, crate::proofs::Counting::still_high))]
 fn stats_of(engine: Engine<PlainRows>, by: (Kind, u64)) -> (Engine<PlainRows>, OutStats)
     requires kind { by.0 ≡ engine.kind }
@@ -73,7 +73,7 @@ fn stats_in(engine: &mut Engine<PlainRows>, by: (Kind, u64)) -> OutStats
 }
 
 impl OwnTree {
-    /// How it uses its rows.
+    /// How it uses its nodes.
     #[tactic(auto, using(crate::proofs::Walking::walks_if_asked, crate::proofs::Walking::ended_if_asked))]
     fn stats(&mut self) -> OutStats
         ensures rest { IsAsked self.old.engine self.new.engine }
@@ -84,7 +84,7 @@ impl OwnTree {
     }
 }
 
-/// Tells how a tree uses its rows.
+/// Tells how a tree uses its nodes.
 #[tactic(auto, using(crate::proofs::Counting::stats_open, crate::proofs::Counting::stats_closed))]
 #[unsafe(no_mangle)]
 pub extern "C" fn maple_stats(alloc: Global, tree: &mut Handle, stats: &mut OutStats) -> u32

@@ -82,7 +82,7 @@ impl OwnTree {
         self.place = place_at(&self.engine, index);
     }
 
-    /// The first range that ends at an index or above, from behind which a walk goes on then.
+    /// The first range that ends at an index or above; the walk then goes on after it.
     pub fn step(&mut self, index: Option<u64>) -> Option<Range>
         ensures { IsStepped self.old self.new index result }
     {
@@ -90,7 +90,7 @@ impl OwnTree {
         self.engine.next_range(&mut self.place)
     }
 
-    /// The index behind the range that was told last.
+    /// The index after the range that was returned last.
     pub fn behind(&self) -> Option<u64>
         ensures { result ≡ self.now.place.next }
     {
@@ -98,7 +98,7 @@ impl OwnTree {
     }
 }
 
-/// Tells C what a step found, and the place behind it, and the number that it gets.
+/// Gives C what a step found, and the place after it, and the number that it gets.
 pub fn tell(
     found: Option<Range>,
     behind: Option<u64>,
@@ -119,8 +119,8 @@ pub fn tell(
     0
 }
 
-/// Tells the next range of a walk, which goes on behind it. What the tree keeps of the walk that went last is used where this is that
-/// one, and so a call between two steps does no harm.
+/// Returns the next range of a walk, which goes on after it. What the tree keeps of the last walk is used if this is that one,
+/// so a call between two steps does no harm.
 #[tactic(auto, using(crate::proofs::Walking::stepped_open, crate::proofs::Walking::stepped_closed))]
 #[unsafe(no_mangle)]
 pub extern "C" fn maple_step(

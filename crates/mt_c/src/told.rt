@@ -1,4 +1,4 @@
-//! What C is told.
+//! What C gets.
 
 ghost use Rattle.std.specs.Prelude.{◌≡◌};
 ghost use Rattle.mt_c.specs.Calls as defined;
@@ -14,7 +14,7 @@ pub const E2BIG: u32 = 7;
 /// The tree is closed, or the user.
 pub const EBADF: u32 = 9;
 
-/// Too few rows are free, or memory ran out.
+/// Too few nodes are free, or memory ran out.
 pub const ENOMEM: u32 = 12;
 
 /// No hole has room.
@@ -26,7 +26,7 @@ pub const EEXIST: u32 = 17;
 /// The call means nothing, or there is no such kind, or the bytes are no log.
 pub const EINVAL: u32 = 22;
 
-/// A tree would have too few or too many rows.
+/// A tree would have too few or too many nodes.
 pub const EDOM: u32 = 33;
 
 /// A buffer is too short.
@@ -53,7 +53,7 @@ pub struct OutRange {
     pub entry: u64,
 }
 
-/// What C is told of a call: its number, the one word of the reply, and its range.
+/// What C gets of a call: its number, the one word of the reply, and its range.
 #[derive(Clone, Copy, Debug, PartialEq, Eq)]
 pub struct ToldCall {
     pub status: u32,
@@ -61,7 +61,7 @@ pub struct ToldCall {
     pub range: OutRange,
 }
 
-/// What is told where there is no range.
+/// The result if there is no range.
 pub fn no_range() -> OutRange
     ensures { result ≡ defined.no_range }
 {
@@ -109,7 +109,7 @@ pub fn status_of(made: Option<Reply>) -> u32
     }
 }
 
-/// The one word that a reply tells, or 0.
+/// The one word of a reply, or 0.
 pub fn word_of(made: Option<Reply>) -> u64
     ensures { result ≡ defined.word_in_c made }
 {
@@ -119,7 +119,7 @@ pub fn word_of(made: Option<Reply>) -> u64
     }
 }
 
-/// The range that a reply tells, or three zeros.
+/// The range of a reply, or three zeros.
 fn range_of(made: Option<Reply>) -> OutRange
     ensures { result ≡ defined.range_in_c made }
 {
@@ -129,7 +129,7 @@ fn range_of(made: Option<Reply>) -> OutRange
     }
 }
 
-/// What a reply says of rows: zeros where these were no matter.
+/// What a reply says of nodes: zeros where these were no matter.
 pub fn shortage_of(reply: Reply) -> Shortage
     ensures { result ≡ defined.shortage_of reply }
 {
@@ -145,7 +145,7 @@ pub fn shortage_of(reply: Reply) -> Shortage
     }
 }
 
-/// All that C is told of a call.
+/// All that C gets of a call.
 pub fn told_of(made: Option<Reply>) -> ToldCall
     ensures { result ≡ defined.told_in_c made }
 {

@@ -11,8 +11,8 @@ use mt_keep::Chair;
 use mt_tree::Tree;
 use std::sync::Arc;
 
-/// A share of a tree, a pass of it with its walk, a chair at the purse of the other passes, and what was last found there and at
-/// the lock. One thread at a time uses it.
+/// A share of a tree, a handle of it with its walk, a chair (token) at the purse of the free handles, and what was last found
+/// there and at the lock. One thread at a time uses it.
 #[derive(Drop)]
 pub struct User {
     pub common: Arc<Common>,

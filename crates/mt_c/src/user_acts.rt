@@ -31,7 +31,7 @@ pub enum Settling {
 }
 
 impl Common {
-    /// A walker and all passes of the purse see the whole history, if neither the purse nor the lock is taken.
+    /// A walker and all handles of the purse see the whole history, if neither the purse nor the lock is taken.
     #[tactic(auto, using(crate::proofs::Using::settled, crate::proofs::Using::unpursed, crate::proofs::Using::locked, crate::proofs::Using::rests_in_purse, crate::proofs::Using::went_after))]
     pub fn settle(
         &self,
@@ -74,7 +74,7 @@ impl User {
         self.walker.pause(&self.common.tree);
     }
 
-    /// Closes its section, whichever stands open, and forgets its walk.
+    /// Closes its section, whichever is open, and forgets its walk.
     pub fn rest(&mut self)
         ensures common { common_of self.new ≡ common_of self.old }
         ensures chair { self.new.chair ≡ self.old.chair }
@@ -111,7 +111,7 @@ impl User {
         self.walker.load(&self.common.tree, index)
     }
 
-    /// The first range that ends at a place or above, as `Walker::step_from` tells it: the leaf that it is in is kept.
+    /// The first range that ends at a place or above, as `Walker::step_from` returns it: the leaf that it is in is kept.
     pub fn step_from(&mut self, place: Option<u64>) -> Read<Option<Range>>
         ensures common { common_of self.new ≡ common_of self.old }
         ensures chair { self.new.chair ≡ self.old.chair }
@@ -156,8 +156,8 @@ impl User {
         self.walker.meet(&self.common.tree, &mut [])
     }
 
-    /// With all passes of the purse it sees the whole history, if neither the purse nor the lock is taken. Answers how many calls
-    /// that has, and how many passes of the purse have then seen it.
+    /// With all handles of the purse it sees the whole history, if neither the purse nor the lock is taken. Returns how many
+    /// calls that has, and how many handles of the purse have then seen it.
     pub fn settle(&mut self) -> Result<(u64, u64, Given<Purse, Tree>), Settling>
         ensures common { common_of self.new ≡ common_of self.old }
         ensures chair { cuts self.new ≡ cuts self.old + 1 }

@@ -35,14 +35,14 @@ pub enum Unchanged {
     NoMemory { given: Given<Purse, Tree> },
 }
 
-/// What a user leaves: what it gave back, and its chair, which nobody has then.
+/// What a user leaves: what it gave back, and its chair, which nobody then has.
 #[derive(Drop)]
 pub struct Left {
     given: Given<Purse, Tree>,
     chair: Chair<Purse, Tree>,
 }
 
-/// A new tree with the purse of these passes, and a chair at that.
+/// A new tree with the purse of these handles, and a chair at that.
 fn shared(
     alloc: Global,
     tree: Tree,
@@ -63,8 +63,8 @@ fn shared(
 }
 
 impl Purse {
-    /// A user with the last pass, which is taken out, and with this chair. Where there is no memory both are put back: so that a
-    /// chair is cut off for a user alone that is there.
+    /// A user with the last handle, which is taken out, and with this chair. If there is no memory both are put back, so that a
+    /// chair is cut off only for a user that is there.
     fn open_user(
         &mut self,
         alloc: Global,
@@ -105,7 +105,7 @@ impl Purse {
 }
 
 impl User {
-    /// Another chair at the purse. Both are one cut further from the first one.
+    /// Another chair at the purse. Both are then one cut further from the first one.
     fn another_chair(&mut self) -> Chair<Purse, Tree>
         ensures common { common_of self.new ≡ common_of self.old }
         ensures walker { self.new.walker ≡ self.old.walker }
@@ -119,7 +119,7 @@ impl User {
 }
 
 impl Common {
-    /// A user beside another, with a pass of the purse.
+    /// A user beside another, with a handle of the purse.
     #[tactic(auto, using(crate::proofs::Using::of_purse, crate::proofs::Using::why_busy, crate::proofs::Using::why_short))]
     fn open_user(
         &self,
@@ -165,7 +165,7 @@ impl Common {
         }
     }
 
-    /// Takes the purse, with room for one more pass.
+    /// Takes the purse, with room for one more handle.
     #[tactic(auto, using(crate::proofs::Using::why_busy, crate::proofs::Using::why_short))]
     fn take_room(&self, chair: &mut Chair<Purse, Tree>) -> Result<Taken<Purse, Tree>, Unchanged>
         requires { IsChairAtPurse self.now chair.old }
@@ -191,7 +191,7 @@ impl Common {
         Ok(taken)
     }
 
-    /// Puts a pass into the purse, no section of it standing open, and gives that back. The chair comes to its end.
+    /// Puts a handle into the purse, with no section open, and gives the purse back. The chair is then at its end.
     #[tactic(auto, using(crate::proofs::Using::has_left))]
     fn leave(
         &self,
@@ -215,7 +215,7 @@ impl Common {
     }
 }
 
-/// A user with the last of these passes of a new tree. The others are in the purse.
+/// A user with the last of these handles of a new tree. The others are in the purse.
 pub fn first(alloc: Global, tree: Tree, passes: Vec<Pass>) -> Result<User, NoMemory>
     requires passes { All (IsSparePass tree) passes.items }
     requires some { 0 < vec_len passes }
@@ -239,7 +239,7 @@ pub fn first(alloc: Global, tree: Tree, passes: Vec<Pass>) -> Result<User, NoMem
 }
 
 impl User {
-    /// The first user of a new tree of this shape. The other passes are in the purse.
+    /// The first user of a new tree of this shape. The other handles are in the purse.
     ///
     /// # Errors
     ///
@@ -260,11 +260,11 @@ impl User {
         }
     }
 
-    /// Opens another user of the same tree, with a pass of the purse.
+    /// Opens another user of the same tree, with a handle of the purse.
     ///
     /// # Errors
     ///
-    /// `Busy` where another user has the purse; `NoPlace` where it is empty; `NoMemory` where memory ran out.
+    /// `Busy` if another user has the purse; `NoPlace` if it is empty; `NoMemory` if memory ran out.
     pub fn share(&mut self, alloc: Global) -> Result<(Box<User>, Given<Purse, Tree>), Unchanged>
         ensures common { common_of self.new ≡ common_of self.old }
         ensures walker { self.new.walker ≡ self.old.walker }
@@ -278,11 +278,11 @@ impl User {
         self.common.open_user(alloc, &self.common, &mut self.chair)
     }
 
-    /// Takes the purse, with room for one more pass.
+    /// Takes the purse, with room for one more handle.
     ///
     /// # Errors
     ///
-    /// `Busy` where another user has the purse; `NoMemory` where memory ran out.
+    /// `Busy` if another user has the purse; `NoMemory` if memory ran out.
     fn take_purse(&mut self) -> Result<Taken<Purse, Tree>, Unchanged>
         ensures common { common_of self.new ≡ common_of self.old }
         ensures walker { self.new.walker ≡ self.old.walker }
@@ -299,7 +299,7 @@ impl User {
         self.common.take_room(&mut self.chair)
     }
 
-    /// Leaves its pass in the purse.
+    /// Leaves its handle in the purse.
     fn leave_to(self, taken: Taken<Purse, Tree>) -> Left
         requires taken { HasPurse (common_of self) taken.took taken.seat }
         requires cuts { taken.seat.me.0.cuts ≡ cuts self }
@@ -318,11 +318,11 @@ impl User {
         common.leave(taken, pass, chair)
     }
 
-    /// Closes a user, and leaves its pass in the purse.
+    /// Closes a user, and leaves its handle in the purse.
     ///
     /// # Errors
     ///
-    /// `Busy` where another user has the purse; `NoMemory` where memory ran out. The user is handed back, its walk paused.
+    /// `Busy` if another user has the purse; `NoMemory` if memory ran out. The user is returned, its walk paused.
     #[tactic(auto, using(crate::proofs::Using::took_still))]
     pub fn leave(user: Box<User>) -> Result<Left, (Box<User>, Unchanged)>
         ensures left { IfOk result (HasLeft (common_of user.value) (cuts user.value + 1) (rested user.value)) }

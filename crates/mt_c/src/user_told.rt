@@ -1,4 +1,4 @@
-//! What a user of a shared tree does for C: it keeps what it found at the lock and at the purse, and tells the numbers.
+//! What a user of a shared tree does for C: it keeps what it found at the lock and at the purse, and returns the numbers.
 
 ghost use Rattle.std.specs.Prelude.{◌≡◌, IfErr, IfOk};
 ghost use Rattle.mt_c.specs.Shared.{HasSettled, HasShared, HasSynced, HasTried, IsUnchanged, unchanged_status};
@@ -32,7 +32,7 @@ impl User {
         synced_told(synced, &mut self.receipts)
     }
 
-    /// With all passes of the purse it sees the whole history, if neither the purse nor the lock is taken.
+    /// With all handles of the purse it sees the whole history, if neither the purse nor the lock is taken.
     #[tactic(auto, using(crate::proofs::Sharing::has_settled))]
     pub fn settle_told(&mut self) -> (u64, u64, u32)
         ensures common { common_of self.new ≡ common_of self.old }
@@ -53,7 +53,7 @@ impl User {
         unchanged_told(why, &mut self.receipts)
     }
 
-    /// Opens another user of the same tree, with a pass of the purse.
+    /// Opens another user of the same tree, with a handle of the purse.
     ///
     /// # Errors
     ///

@@ -1,4 +1,4 @@
-//! What a pass of a shared tree does on its walk and off it.
+//! What a handle of a shared tree does on its walk and off it.
 
 ghost use Rattle.std.specs.Prelude.{◌≡◌, ◌<◌, ℕ, All, IfErr, IfOk, IfSome, IsSome, None, Ok, Some, map, ◌∷◌};
 ghost use Rattle.mt_base.specs.declared.calls.Query.TheVariants.{Load};
@@ -42,7 +42,7 @@ fn load_range<L: Ledger>(
 }
 
 impl Walker {
-    /// A pass that is on no walk.
+    /// A handle that is on no walk.
     pub fn new(pass: Pass) -> Walker
         ensures pass { result.pass ≡ pass }
         ensures walk { result.walk ≡ None }
@@ -50,7 +50,8 @@ impl Walker {
         Walker { pass, walk: None }
     }
 
-    /// Closes the section of its walk and forgets the walk. It is apart from `pause`, so that a pass on no walk makes no room for one.
+    /// Closes the section of its walk and forgets the walk. It is apart from `pause`, so that a handle on no walk needs no room
+    /// for one.
     #[tactic(auto, using(crate::proofs::Using::took_none, crate::proofs::Using::took_one))]
     #[inline(never)]
     fn forget(&mut self, tree: &Tree)
@@ -80,7 +81,7 @@ impl Walker {
         }
     }
 
-    /// Closes its section, whichever stands open, and forgets its walk.
+    /// Closes its section, whichever is open, and forgets its walk.
     #[tactic(auto, using(crate::proofs::Using::closed_stands))]
     pub fn rest(&mut self, tree: &Tree)
         requires { IsPassOf tree.now self.old.pass }
@@ -120,7 +121,7 @@ impl Walker {
         load_range::<Brand>(tree, &mut self.pass, index, Blank::new(1))
     }
 
-    /// Whether it is on a walk that stands at this index.
+    /// Whether it is on a walk that is at this index.
     fn stands_at(&self, from: u64) -> bool
         ensures { result ≡ stands_at self.now.walk from }
     {
@@ -133,7 +134,7 @@ impl Walker {
         }
     }
 
-    /// It is on a walk that stands at this index then: on the one that it was on, where that does.
+    /// Afterwards it is on a walk that is at this index: on the one that it was on, if that is there.
     #[tactic(auto, using(crate::proofs::Using::from_any, crate::proofs::Using::begins_walk, crate::proofs::Using::stands_on, crate::proofs::Using::paused_knows, crate::proofs::Using::same_knows, crate::proofs::Using::at_index, crate::proofs::Using::goes_kept, crate::proofs::Using::goes_anew, crate::proofs::Using::is_new_walk, crate::proofs::Using::took_none))]
     fn walk_at(&mut self, tree: &Tree, from: u64)
         requires { IsPassOf tree.now self.old.pass }
@@ -166,8 +167,8 @@ impl Walker {
         tree.advance(&mut self.pass, walk)
     }
 
-    /// The first range that ends at an index or above, without the lock. The leaf that it is in is kept, and its section stands
-    /// open, until the walk ends or the pass is used for something else.
+    /// The first range that ends at an index or above, without the lock. The leaf that it is in is kept, and its section is
+    /// open, until the walk ends or the handle is used for something else.
     #[tactic(auto, using(crate::proofs::Using::is_on))]
     fn step(&mut self, tree: &Tree, from: u64) -> Read<Option<Range>>
         requires { IsPassOf tree.now self.old.pass }
@@ -221,7 +222,7 @@ impl Walker {
         tree.try_act(&mut self.pass, call)
     }
 
-    /// With passes that no user has it sees the whole history, if the lock is free. Answers how many calls that has.
+    /// With handles that no user has it sees the whole history, if the lock is free. Returns how many calls that has.
     #[tactic(auto, using(crate::proofs::Using::went_once, crate::proofs::Using::others_rest, crate::proofs::Using::kept_known))]
     pub fn meet(&mut self, tree: &Tree, others: &mut [Pass]) -> Result<u64, Busy>
         requires of { IsPassOf tree.now self.old.pass }

@@ -8,4 +8,4 @@ returns-in-Ok c =
 
 pub returns-in-Err : goal.returns-in-Err
 returns-in-Err c =
-    of_none c.args.rows c.args.users c.args.calls _ _ _ _ c.in-Err.status c.deref_mut.result.now c.share-made.new.self (search rules) (search rules) c.share-made.ensures.rest (search rules) (search rules) c.in-Err.ensures.lacks
+    of_none c.args.rows c.args.users c.args.calls _ _ _ _ c.in-Err.status c.deref_mut.result.now c.share-made.new.self (search rules) (search rules) c.share-made.ensures.rest (search rules) (search rules) (search rules) c.in-Err.ensures.lacks

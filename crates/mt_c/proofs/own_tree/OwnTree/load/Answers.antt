@@ -1,0 +1,6 @@
+use Rattle.mt_c.proofs.Prelude.{◌≡◌, ap, subst, Load, Parts, Range, option_map, answered, OwnTree}
+use Rattle.mt_c.proofs.own_tree.OwnTree.load.Goals as goal
+
+pub returns-clause-entry : goal.returns-clause-entry
+unfolding answered
+returns-clause-entry c = subst (λ (e : Parts). c.load.result ≡ option_map (λ (r : Range). r.entry) (answered e (Load c.args.index))) (ap (λ (t : OwnTree). t.engine) c.self.view_is) c.load.ensures.entry
