@@ -1,7 +1,7 @@
 # For bench/c, bench/rust and the Makefile, which read this: where the archives of the library for C lie, and what is made of them.
-# They are libmt_c.a, which `rt lib` makes in crates/mt_c, and the kit's liblibc_c.a. Both are sought in the folders that MAPLE_ARCHIVES
-# names, parted by colons, or else in crates/mt_c/out, and at last in the kit whose `rt` is on the path. An archive in crates/mt_c/out that
-# is missing or older than the crate is made anew.
+# They are libmt_c.a, which `rt lib` makes in crates/mt_c, and the kit's liblibc_c.a. Both are looked up in the folders that
+# MAPLE_ARCHIVES names, separated by colons, or else in crates/mt_c/out, and last in the kit whose `rt` is on the path. An archive in
+# crates/mt_c/out that is missing or older than the crate is made again.
 
 archive_folders() {
     local kit

@@ -2,7 +2,7 @@
  *
  * It prints `WORK N NANOSECONDS`, the time of one operation on one thread. The works, their draws and seeds are those of mt_bench:
  * r or a before the name is the kind of the tree, and t before that a tree that threads share, of which one user makes each call.
- * `rreaders` and `rconc` (`areaders`, `aconc`) have so many threads load from one shared tree, 4,000,000 times each, rconc beside
+ * `rreaders` and `rconc` (`areaders`, `aconc`) have several threads load from one shared tree, 4,000,000 times each, rconc beside
  * one that erases and stores ranges until all are done; they print `WORK N readers R reads_mops X writes_mops Y`. */
 #define _POSIX_C_SOURCE 200809L
 #include "maple_shared.h"

@@ -1,5 +1,5 @@
 /* What the debug library finds: debug_faults NAME makes one fault, for which the program is to be aborted; debug_faults makes each in a
- * child and tells how many were found, and that what is no fault is none. */
+ * child and reports how many were found, and that what is no fault is none. */
 #define _DEFAULT_SOURCE
 #include "maple_shared.h"
 #include <pthread.h>
@@ -105,8 +105,14 @@ static void interrupted(void)
     memset(&action, 0, sizeof action);
     action.sa_handler = handler;
     sigaction(SIGALRM, &action, NULL);
+    /* the signal interrupts this thread, and not the other */
+    sigset_t alarms, before;
+    sigemptyset(&alarms);
+    sigaddset(&alarms, SIGALRM);
+    pthread_sigmask(SIG_BLOCK, &alarms, &before);
     pthread_t other;
     if (pthread_create(&other, NULL, reads, &first)) exit(2);
+    pthread_sigmask(SIG_SETMASK, &before, NULL);
     for (int i = 0; i < 10000000; i++) {
         if (i % 1000 == 0) ualarm(1 + i / 1000 % 50, 0);
         maple_shared_load(&second, 4, &mine);

@@ -3,13 +3,13 @@
 
 images.py changes           the image of the range 10 to 19 with the entry 5, each of its bytes made greater by one in turn (255 is
                             made 0), and each of its cuts: a line `FROM TO ANSWER` for the places from FROM up to, but without, TO
-images.py check < IMAGE     whether the bytes are an image: its kind, its rows and its ranges, or the first reason why not
-images.py write KIND ROWS   the image of a tree of so many rows, whose ranges are single indexes side by side
+images.py check < IMAGE     whether the bytes are an image: its kind, its nodes and its ranges, or the first reason why not
+images.py write KIND ROWS   the image of a tree of ROWS nodes, whose ranges are single indexes side by side
 images.py try MTREPLAY      has the program `show` each changed byte and each cut of that image, and the largest images of each kind,
                             and write the images of a few hundred drawn logs and show them: prints each on which it does not agree
                             with the definition, and at the end how many were shown and how many refused
 
-Tables of changes stand in `crates/trials_engine/src/images.rt`. The largest images are seen to be images by
+Tables of changes are in `crates/trials_engine/src/images.rt`. The largest images are seen to be images by
     for kind in range alloc range32 alloc32; do bench/images.py write $kind 65504 | bench/images.py check; done
 """
 

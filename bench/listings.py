@@ -1,11 +1,11 @@
 #!/usr/bin/env python3
-"""Whether the table of listings in trials_log says what a listing is, by a reader of another make.
+"""Whether the table of listings in trials_log says what a listing is, by an independent reader.
 
 A text is taken line by line, by regular expressions: what a whole line is, and what may still become one. `bench/listings.py`
-reads the table, and `bench/listings.py FILE` tells of a file whether it is a listing, or at which line it shows that it is none.
+reads the table, and `bench/listings.py FILE` says whether a file is a listing, or at which line it shows that it is none.
 `bench/listings.py try MTREPLAY` has the program build trees of the texts of the table, of some hundred drawn listings in order
 and out of order, and of one of 8 MiB of each kind, by 1, 2 and 16 workers: each has to be refused as it should, or to give one
-image, of as many rows as the rule of cutting says, which is shown as the listing.
+image, of as many nodes as the rule of cutting says, which is shown as the listing.
 """
 import random
 import re

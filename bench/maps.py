@@ -4,8 +4,8 @@ import bisect
 
 
 class Map:
-    """A map of disjoint ranges: their first indexes in order, and the last index and the entry of each. It tells of a call what a
-    log of this version is told."""
+    """A map of disjoint ranges: their first indexes in order, and the last index and the entry of each. For a call it returns what a
+    transcript of this version reports."""
 
     def __init__(self, version):
         self.version = version

@@ -1,5 +1,5 @@
 /* Every call of include/maple_shared.h against a sorted array that this program keeps by itself: shared_calls STEPS SEED.
- * One thread has all users of a tree, and takes one after another at random, so that each answer can be told beforehand: what is told
+ * One thread has all users of a tree, and takes one after another at random, so that each answer is known beforehand, what is reported
  * of the history too. It says what differed first and exits with 1, or prints how many answers it compared.
  * bench/shared_threads.c has the same calls in threads. */
 #include "c_array.h"

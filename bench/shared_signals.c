@@ -1,8 +1,8 @@
 /* Reads of a shared tree in a signal handler, and the stack that each call takes: shared_signals SAMPLES.
  * One thread makes calls without end; another sends it a signal as soon as the last was handled. The handler makes each kind of read in
- * turn, by a user that it has for itself, and holds what it is told against what the thread stores: so many samples, of which more than
- * 100 have to be in the midst of a call, and errno has to stay. Each time it also reads and stores by the thread's own user, which is
- * EDEADLK where that is at work, more than 100 times, and else done, and leaves it as it was. Then each call is made on a stack of a
+ * turn, by a user of its own, and compares the answer with what the thread stores. Of the samples more than
+ * 100 have to be in the middle of a call, and errno has to stay. Each time it also reads and stores by the thread's own user. That is
+ * EDEADLK if the user is at work, more than 100 times, and otherwise done, and leaves it as it was. Then each call is made on a stack of a
  * known pattern, on trees of two kinds that change meanwhile. It prints the bytes of stack, and says what was wrong first and exits
  * with 1. */
 #define _GNU_SOURCE

@@ -1,6 +1,6 @@
 /* Four threads on one shared tree: two that write and now and then read, and two that read, each with a user of its own, over a barrier
  * at the start: shared_threads LOG TRANSCRIPT [SEED]. The tree is of the kind with the number SEED modulo 4.
- * It writes the log and what was answered, for mtreplay verify, and has maple_verify judge the same. Then each thread opens further
+ * It writes the log and the answers, for mtreplay verify, and has maple_verify judge the same. Then each thread opens further
  * users, more than there are places for, and has them leave; and a walk is left unfinished by a thread that ends, and one goes on
  * slowly, beside calls. It prints how many reads overlapped a call of another thread, and how often users came; or says what was wrong
  * first and exits with 1. */

@@ -1,9 +1,9 @@
 #!/usr/bin/env python3
-"""What `mtreplay trial NUMBER STEPS` prints, reckoned by a sorted list and without that program: bench/trial.py NUMBER STEPS.
+"""What `mtreplay trial NUMBER STEPS` prints, computed by a sorted list and without that program: bench/trial.py NUMBER STEPS.
 
 It is written from the definition (`crates/mt_workload/specs`): a state below 2^31, from which numbers are drawn, and the steps that
-these stand for, on one tree for allocation. No call lacks rows there: a tree may have more ranges than so many steps store. That
-the program prints the same is seen by
+these mean, on one tree for allocation. No call lacks nodes there: a tree may have more ranges than these steps store. This shows
+that the program prints the same:
     ./mtreplay trial 7 100000 | diff - <(bench/trial.py 7 100000)
 """
 

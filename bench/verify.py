@@ -2,13 +2,13 @@
 """Judges transcripts of small logs by the definition (`crates/mt_log/specs/Run.antt`, `crates/mt_base/specs`), without the program.
 
 verify.py judge [ROWS] < INPUT          a log, a line `---` and a transcript: prints `verified C R`, or `refused` and why
-verify.py play < LOG                    the transcript of a log of one lane, where no call lacks rows
+verify.py play < LOG                    the transcript of a log of one lane, if no call lacks nodes
 verify.py change MTREPLAY SEED COUNT    makes logs of a few steps and transcripts of them, half played by the program and half drawn,
-                                        changes these, and has each judged here and by `MTREPLAY verify`: prints each on which the
-                                        two do not agree, and at the end how many both verified and both refused
+                                        changes these (mutants), and has each judged here and by `MTREPLAY verify`: prints each on
+                                        which the two do not agree, and at the end how many both verified and both refused
 
-It is slow and plain: a map is a list of ranges, each pair of steps is compared, and each read is tried behind every number of calls.
-The input of `judge` must be a log: it is not told what is wrong with one that is none.
+It is slow and plain: a map is a list of ranges, each pair of steps is compared, and each read is tried after every number of calls.
+The input of `judge` must begin with a log: it does not say what is wrong with one that is none.
 """
 
 import functools

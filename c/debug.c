@@ -102,7 +102,7 @@ static void put(const char *name, void *at, struct words *handle)
     *slot = (struct slot){at, ++numbers, handle, {NULL}, 0};
 }
 
-/* Takes one out, and moves up those that stand behind it for want of its slot. */
+/* Takes one out, and moves up those that are after it because its slot was taken. */
 static void take(struct slot *slot)
 {
     size_t hole = (size_t)(slot - slots), i = hole;
