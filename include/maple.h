@@ -11,10 +11,10 @@
  * crates/mt_c/out/libmt_c.a (made by `rt lib` in crates/mt_c) and the kit's c/liblibc_c.a (malloc, realloc, free), in this order.
  * Nothing else is needed: no thread, no lock, no file.
  *
- * Every call returns a number of Linux's errno.h, and 0 where it was done. Further results go to its last pointers, which it always
- * writes: zeros where there is no result.
+ * Every call returns a number of Linux's errno.h, and 0 where it was done; only maple_entry and maple_rows_for return their result, and
+ * maple_close nothing. Further results go to the last pointers of a call, which it always writes: zeros where there is no result.
  *
- * The contracts of crates/mt_c hold for each call of a program that keeps these rules, which nothing checks:
+ * The contracts of crates/mt_c hold for each call of a program that keeps these rules, which the library does not check:
  *   - A struct maple_tree is zeroed before its first call (= {0}). Then only these calls read and write it. It is not changed, and not
  *     copied, unless the copy is used from then on and the original never again.
  *   - One call at a time works on a tree, also where it only reads. A tree may go from thread to thread, handed over by a lock, a join or
@@ -25,9 +25,9 @@
  *     process with threads.
  *   - malloc, realloc and free are of one allocator, and align a block to each power of two up to 16 that divides its size.
  * A closed tree is no fault: each call returns EBADF for it. A call that is to open an open tree returns EALREADY.
- * While a program is tested it may be linked with -lmaple_debug. It has the same calls, which look at their handles first, and abort where
- * a handle was copied and both are used, was closed by a copy, was not zeroed, is in calls of two threads, or is used by a signal handler
- * that interrupted a call on it.
+ * While a program is tested it may be linked with -lmaple_debug instead of -lmaple. The calls are the same, but test their handles first.
+ * They abort where a handle was copied and both are used, was closed by a copy, or was not zeroed. They abort too where it is in calls of
+ * two threads, or a signal handler uses it that interrupted a call on it.
  */
 #ifndef MAPLE_H
 #define MAPLE_H
@@ -101,12 +101,14 @@ enum {
  * ranges and some, for trees at their worst; mostly a node has 4 to 10 ranges. */
 uint64_t maple_rows_for(uint64_t ranges);
 
-/* The reserve of a tree that can always be emptied. In a full tree an erase may be refused too (ENOMEM): it may want rows that are not
- * free. Whoever asks this before each call that may add ranges, with the ranges that are there (maple_check tells them, and insert and
- * alloc add one, an erase takes one, a store adds two at the most, and of 0 one), and makes it only where the answer is yes, is refused no
- * call for want of rows: neither those, nor an erase, in whichever order down to the empty map, nor a store over exactly one range, nor a
- * store of 0 that adds none; in a shared tree while no walk or read of another user holds rows. It costs room: such a tree is full at two
- * ranges a row. maple_clear, maple_copy and an overwrite of exactly one range are never refused for want of rows, also without it. */
+/* The reserve of a tree that can always be emptied: whether a call that may add ranges keeps it. In a full tree an erase may be refused too
+ * (ENOMEM), because it may need nodes. So ask this before each call that may add ranges, and make the call only where the answer is yes.
+ * Then no erase is refused for lack of nodes, in any order down to the empty map. Nor is any of the calls that were asked about, a store
+ * over exactly one range, or a store of 0 that adds no range. In a shared tree this holds while no walk or read of another user holds nodes.
+ * ranges: how many there are now. maple_check returns their number; insert and alloc add one, an erase removes one, a store adds at most
+ * two, and a store of 0 at most one.
+ * It costs room: such a tree is full at two ranges a node. A tree without this reserve still never refuses a maple_clear or an overwrite of
+ * exactly one range for lack of nodes, and maple_copy continues its map in more nodes. */
 static inline int maple_may_add(uint64_t rows, uint64_t ranges)
 {
     return ranges < UINT64_MAX - 1 && maple_rows_for(ranges + 2) <= rows;
@@ -219,7 +221,7 @@ uint32_t maple_store_prealloc(struct maple_tree *tree, uint64_t first, uint64_t 
 
 /* ---- reads (queries). None takes memory or changes a range. 0; ENOENT: there is no such range; EBADF: the tree is closed. */
 
-/* The entry at index, 0: there is none, or the tree is closed. It takes less than the range that holds it. */
+/* Returns the entry at index; 0: no range holds it, or the tree is closed. It takes less time than maple_load. */
 uint64_t maple_entry(struct maple_tree *tree, uint64_t index) MAPLE_NONNULL;
 
 /* The range that holds index. */

@@ -15,26 +15,28 @@
  * user has to call maple_leave until it returns 0, or maple_shared_close. No user owns another: they are closed in any order and in any
  * thread, and with the last one the tree's memory is given back.
  *
- * Memory. maple_shared_open takes that of the whole tree, once for all calls. maple_share takes that of a user, and maple_leave may take
- * some. maple_shared_image takes some while it runs. No other call takes any.
+ * Memory. maple_shared_open takes that of the whole tree, once for all calls. So do the calls that open a shared tree with a map, which may
+ * take some more while they run. maple_share takes that of a user, and maple_leave may take some. maple_shared_image takes some while it
+ * runs. No other call takes any.
  *
  * Memory order. Calls and reads load and store words as memory_order_seq_cst of C. So what a thread wrote before a call is visible
  *   - after each later call of the tree;
  *   - after a read that returns what the call stored;
  *   - to whoever has seen the call: by maple_learn or maple_sync, or by a read whose lo is no less than the number of the call.
  * So an entry may be a pointer to what was written before it was stored. What a reader does with it afterwards holds back no call.
- * Whoever removed an entry by the call c may free what it points to once each reader has made a read whose lo is no less than c, and uses
- * nothing that it read before that one (examples/c/reclaim.c). Or once maple_oldest returns c or more, where each reader uses what a step
- * returned only in the walk that it has not given up (examples/c/oldest.c). The thread sanitizer sees nothing of the archive: where it is on,
- * maple_tsan.h reports these orders to it.
+ * Call c removed an entry. What it points to may be freed in one of two cases:
+ *   - each reader has made a read whose lo is no less than c, and uses nothing that it read before (examples/c/reclaim.c);
+ *   - maple_oldest returned c or more, and each reader uses what a step returned only until it gives its walk up (examples/c/oldest.c).
+ * The thread sanitizer sees nothing of the archive: where it is on, maple_tsan.h reports these orders to it.
  *
  * Signals. A signal handler may make a read by a user that no interrupted call works on: for example one that its thread keeps for its
  * handlers (examples/c/profiler.c). The read ends within 361 steps at the tree, also where the interrupted thread has the tree's lock, and
  * changes no errno. Where it returns EAGAIN a handler gives up, for no bound on repeats is known. Stack, measured: a read takes less than
  * MAPLE_READ_STACK bytes, any other call of this header or of maple.h less than MAPLE_CALL_STACK.
- * A call on a user on which the interrupted call works returns EDEADLK, and leaves the user as it was.
+ * A call on a user on which the interrupted call works returns EDEADLK, and leaves the user as it was. A user that the interrupted call
+ * opens is not open yet: a handler leaves it alone.
  *
- * Rules that a program keeps, which nothing checks, in addition to those of maple.h on pointers, forks and malloc:
+ * Rules that a program keeps, which the library does not check, in addition to those of maple.h on pointers, forks and malloc:
  *   - A struct maple_user is zeroed before its first call (= {0}). Then only these calls read and write it. It is not changed, and not
  *     copied, unless the copy is used from then on and the original never again.
  *   - One call at a time works on a user. It may go from thread to thread, handed over by a lock, a join or the start of a thread: what
@@ -115,11 +117,11 @@ uint32_t maple_shared_open_image(struct maple_user *user, const uint8_t *bytes, 
 uint32_t maple_shared_build(struct maple_user *user, uint32_t kind, const struct maple_range *ranges, size_t count, uint64_t rows,
                             uint32_t users, uint64_t calls, uint64_t *at) MAPLE_NONNULL MAPLE_CHECKED;
 
-/* Opens a shared tree with the map that the tree of user has, of its kind, and its first user, copy: under the lock of user's tree, where
- * that is free. user has then seen the whole history, and its walk is given up. The copy has no calls yet. So a tree goes on in more rows
- * (examples/c/grow.c).
+/* Opens copy, the first user of a new shared tree with the map and the kind of user's tree. The map is copied under the lock of user's tree,
+ * where that is free. user has then seen the whole history, and has given up its walk. The new tree has no calls yet. So a tree continues in
+ * more nodes (examples/c/grow.c). It takes the memory of the new tree.
  * 0; EAGAIN: another user has the lock; EBADF: user is closed; EALREADY, EDOM, EUSERS, EOVERFLOW and ENOMEM as of maple_shared_open, and
- * EDOM too where the rows are fewer than the tree has in use. The copy stayed as it was but for 0. */
+ * EDOM too where the nodes are fewer than the tree has in use. Where it does not return 0 copy stays as it was. */
 uint32_t maple_shared_copy(struct maple_user *user, struct maple_user *copy, uint64_t rows, uint32_t users, uint64_t calls)
     MAPLE_NONNULL MAPLE_CHECKED;
 
@@ -235,23 +237,24 @@ uint32_t maple_sync(struct maple_user *user, uint64_t *calls) MAPLE_NONNULL MAPL
  * 0; EAGAIN: another user has the lock, or is at the places. */
 uint32_t maple_settle(struct maple_user *user, uint64_t *calls, uint64_t *places) MAPLE_NONNULL MAPLE_CHECKED;
 
-/* How far the readers are: each walk or read of any user that has not given its leaf back began when calls or more had ended, and where
- * there is none, calls are all that were made, which this user has then seen. So whoever removed an entry by the call c, and finds calls
- * to be c or more, may free what it points to, where each reader uses it only in the walk whose step told it (maple_shared_step): until
- * maple_pause, the end of the walk or any other call of its user. A load gives its leaf back before it answers, and so holds nothing.
- * Rows that no reader holds are free for calls then. 0; EAGAIN: another user has the lock. */
+/* The epoch of the oldest walk. *calls: how many calls had ended, at least, when the oldest walk or read began that still keeps its leaf.
+ * Where there is none, it is the number of all calls. The user has then seen the whole history.
+ * It tells when to free what an entry pointed to. Call c removed the entry: free the object once *calls is c or more. For that each reader
+ * uses the object only in the walk whose step returned it (maple_shared_step). The walk holds it until maple_pause, the end of the walk or
+ * any other call of its user. A load gives its leaf back before it returns, so it holds nothing.
+ * Nodes that no reader holds are then free for calls. 0; EAGAIN: another user has the lock. */
 uint32_t maple_oldest(struct maple_user *user, uint64_t *calls) MAPLE_NONNULL MAPLE_CHECKED;
 
 /* ---- the whole tree, under its lock: no call is made meanwhile, and the user has then seen the whole history. Each gives up the walk of
  * its user. 0; EAGAIN: another user has the lock; EBADF. */
 
-/* As maple_check: tests each word of the tree, and tells its form. */
+/* As maple_check: tests each word of the tree, and returns its form. */
 uint32_t maple_shared_check(struct maple_user *user, struct maple_form *form) MAPLE_NONNULL MAPLE_CHECKED;
 
-/* As maple_stats: tells how the tree uses its rows. Held ones are free again where a call looks for rows and no reader holds them. */
+/* As maple_stats: returns how the tree uses its nodes. Held ones are free again once no reader holds them and a call looks for nodes. */
 uint32_t maple_shared_stats(struct maple_user *user, struct maple_stats *stats) MAPLE_NONNULL MAPLE_CHECKED;
 
-/* As maple_image: writes the image of the tree to out. ERANGE: out has fewer bytes, and used tells how many it must have; ENOMEM. */
+/* As maple_image: writes the image of the tree to out. ERANGE: out has fewer bytes, and used is how many it must have; ENOMEM. */
 uint32_t maple_shared_image(struct maple_user *user, uint8_t *out, size_t room, size_t *used) MAPLE_NONNULL MAPLE_CHECKED;
 
 /* ---- calls that wait. Each is the call of its name that tries, but never returns EAGAIN or EINPROGRESS: it tries again.

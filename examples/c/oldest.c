@@ -2,8 +2,9 @@
  * Entries that are pointers, and when to free what they point to, by maple_oldest: readers that publish nothing, and a writer that puts
  * new objects in the place of old ones.
  *
- * A reader uses an object only in the walk whose step told it, and gives the walk up when it is done with it. So long maple_oldest tells
- * fewer calls than the one that removes the object: who removed one by the call c frees it once maple_oldest tells c or more.
+ * A reader uses an object only in the walk whose step returned it, and ends the walk when it is done with it. Until then maple_oldest
+ * returns less than the number of the call that removes the object. So who removed one by the call c frees it once maple_oldest returns
+ * c or more.
  *     cc oldest.c $(pkg-config --cflags --libs maple) -pthread && ./a.out */
 #include <inttypes.h>
 #include <maple_shared.h>

@@ -2,9 +2,9 @@
 # Has another range map judged: run.sh MTREPLAY [RUNS [SEED]], where MTREPLAY is the path of the built program.
 # Builds sorted.c as it should be and with each of its three bugs, makes a log of 4 lanes with 5,000 steps each, runs
 # each program RUNS times (10), gives each transcript to `MTREPLAY verify`, and prints a table of the verdicts. Needs a
-# C compiler (CC) and awk. Ends with 0 where the right program was verified each time, and the first two bugs were
-# refused each time; of the third nothing is asked, as it shows only where a read meets a call. docs/JUDGE.md tells of
-# it. It is no part of the gate.
+# C compiler (CC) and awk. Ends with 0 if the right program was verified each time, and the first two bugs were
+# refused each time. Nothing is asked of the third, which shows only if a read meets a call. See docs/JUDGE.md. It is
+# not part of the gate.
 set -u
 if [ $# -lt 1 ] || [ ! -x "$1" ]; then
     echo "usage: run.sh MTREPLAY [RUNS [SEED]]" >&2
@@ -18,7 +18,7 @@ folder=$(mktemp -d) || exit 1
 trap 'rm -rf "$folder"' EXIT
 
 # Of 20 steps 8 store one to eight indexes, each an entry of its own, 2 erase, 5 load and 5 find. The numbers are those
-# of the generator 16807 modulo 2^31 - 1, which awk reckons exactly. Behind the join each lane reads the ends of all.
+# of the generator 16807 modulo 2^31 - 1, which awk computes exactly. After the join each lane reads the ends of all.
 awk -v seed="$seed" '
     function below(n) { seed = seed * 16807 % 2147483647; return int(seed / 2147483647 * n) }
     BEGIN {

@@ -76,7 +76,7 @@ static void answer(const struct map *m, struct step *s)
     s->found = s->met.first <= s->last;
 }
 
-/* Puts so many ranges in the place of those from i up to j. */
+/* Puts count ranges in the place of those from i up to j. */
 static void replace(struct map *m, size_t i, size_t j, const struct range *put, size_t count)
 {
     if (m->count - (j - i) + count > RANGES) { fputs("sorted: too many ranges\n", stderr); exit(1); }
@@ -222,7 +222,7 @@ static void add_step(int word, char **field, size_t lane)
     last_of[lane] = step_count++;
 }
 
-/* A line behind the first; returns the lane of the lines behind it. */
+/* A line after the first; returns the lane of the lines after it. */
 static size_t read_line(char *line, size_t lane)
 {
     static const struct { const char *word; size_t fields; } words[] =

@@ -105,9 +105,11 @@ pub fn rows_for(ranges: u64) -> Option<u64> {
     Some(unsafe { raw::maple_rows_for(ranges) }).filter(|rows| *rows <= MOST_ROWS)
 }
 
-/// Whether a tree of so many rows keeps its reserve where a call adds to so many ranges two at the most, as a store does. Whoever asks it
-/// before each call that may add ranges can always empty the tree: no erase is refused, in whichever order, nor a store over exactly
-/// one range, nor one of nothing that adds no range; of a shared tree while no reader holds rows.
+/// The reserve of a tree that can always be emptied: whether a tree with this many nodes (`rows`) and ranges keeps it
+/// where a call adds at most two ranges, as a store does. In a full tree an erase may be refused too ([`Error::NoRows`]).
+/// So ask this before each call that may add ranges, and make it only where the answer is yes. Then no erase is refused,
+/// in any order, nor a store over exactly one range, nor a store of `None` that adds no range. In a shared tree this
+/// holds while no reader holds nodes. It costs room: such a tree is full at two ranges a node.
 ///
 /// ```
 /// use maple::{entries::of_value, may_add, Kind, Tree};

@@ -125,7 +125,7 @@ impl Shared {
         (calls, places)
     }
 
-    /// How the tree uses its rows, looked at under the lock as soon as that is free.
+    /// How the tree uses its nodes, under the lock as soon as that is free.
     ///
     /// ```
     /// use maple::{entries::of_value, Kind, Lock, Shared};
@@ -143,7 +143,7 @@ impl Shared {
         Stats { rows, free, live, held, height, calls }
     }
 
-    /// Tests each word of the tree, under the lock as soon as that is free, and tells its form.
+    /// Tests each word of the tree, under the lock as soon as that is free, and returns its form.
     ///
     /// ```
     /// use maple::{entries::of_value, Kind, Lock, Shared};
@@ -189,8 +189,9 @@ impl Shared {
         }
     }
 
-    /// A shared tree with its map, copied under the lock as soon as that is free, in so many rows, no fewer than this one has in use,
-    /// for so many readers and writers at a time: so a tree goes on in more rows.
+    /// Another shared tree with its map, copied under the lock as soon as that is free. It has this many nodes (`rows`),
+    /// no fewer than this tree has in use, for this many readers and writers at a time (`users`). So a tree continues in
+    /// more nodes.
     ///
     /// ```
     /// use maple::{entries::of_value, Kind, Lock, OpenError, Shared};
@@ -211,8 +212,9 @@ impl Shared {
         })
     }
 
-    /// How many calls had ended at the least when an iterator over a reader's ranges began that holds its leaf still: all that
-    /// were made, where there is none. What was removed by a call of this number or a lower one is in no such iterator's hands.
+    /// The epoch of the oldest iterator: how many writes had ended, at least, when the oldest iterator over a reader's
+    /// ranges began that still keeps its leaf. Where there is none, it is the number of all writes. No such iterator can
+    /// give what a write of this number or a lower one removed.
     ///
     /// ```
     /// use maple::{entries::of_value, Kind, Lock, Shared};
