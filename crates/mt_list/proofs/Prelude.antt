@@ -9,11 +9,11 @@ pub use Rattle.std.proofs.lemmas.Option.{cond_some}
 pub use Rattle.std.specs.List.{AllByRecursion, copy_within, list_any, prefix_len, slice_get}
 pub use Rattle.std.specs.List.Sorted.{IsNonDecreasingBy, IsPartitionPoint}
 pub use Rattle.std.specs.Option.{is_some, option_map}
-pub use Rattle.mt_base.proofs.CallsKeepOrder.{stored_area, valid_order, valid_within, without_is_map}
+pub use Rattle.mt_base.proofs.CallsKeepOrder.{stored_area, without_is_map}
 pub use Rattle.mt_base.proofs.FreeAreas.{high_is_room, low_is_room}
 pub use Rattle.mt_base.proofs.StoredOrder.{over_is_map}
 pub use Rattle.mt_base.proofs.WidthBounds.{greatest_fits}
-pub use Rattle.mt_base.specs.Call.{acted, is_bad_area, is_invalid}
+pub use Rattle.mt_base.specs.Call.{acted, is_bad_area}
 pub use Rattle.mt_base.specs.Holes.{Hole, clip, fits, high, highest_in, hole_between, holes_from, kept, low, lowest_in}
 pub use Rattle.mt_base.specs.Map.{IsMap, IsMapFrom, first_range, holding, is_held, last_range, over, overlaps, part_stored, parts_above, parts_below, without}
 pub use Rattle.mt_base.specs.Nodes.{IsMade, Limits, one_call_more}

@@ -3,7 +3,7 @@
 ghost use Rattle.std.specs.Prelude.{◌≡◌, ◌≤◌};
 ghost use Rattle.mt_base.specs.declared.calls.Query.{Query};
 ghost use Rattle.mt_base.specs.Call.{answer};
-ghost use Rattle.mt_base.specs.Map.{IsMapFrom, holding, is_held};
+ghost use Rattle.mt_base.specs.Map.{IsMapFrom, holding};
 
 use crate::places::{down_to, last_of, place_above, place_below, range_at, up_to};
 use mt_base::{Query, Range};
@@ -57,16 +57,6 @@ pub fn last_up_to(ranges: &[Range], index: u64, min: u64) -> Option<Range>
         return None;
     }
     down_to(last_of(&ranges[..place_above(ranges, index)]), min)
-}
-
-/// Whether a range holds some index of `first` to `last`.
-#[tactic(auto, using(mt_base::proofs::FirstMet::is_held_where_met))]
-pub fn is_held(ranges: &[Range], first: u64, last: u64) -> bool
-    requires map { IsMapFrom 0 ranges.now }
-    requires order { first ≤ last }
-    ensures { result ≡ is_held ranges.now first last }
-{
-    first_from(ranges, first, last).is_some()
 }
 
 /// The range that answers a query.

@@ -35,6 +35,11 @@ find_first : (p : Range → Bool) (m : List Range) → find p m ≡ first_range 
 find_first p [] = refl
 find_first p (r ∷ m) = elim (cases_Bool (p r)) [ inl passes ↦ rw passes refl | inr other ↦ rw other (find_first p m) ]
 
+-- the whole answers as a part of it does, if it does so where the part has nothing and where it has something
+by_part : (whole part : Option Range) → (part ≡ None → whole ≡ None) → ((r : Range) → part ≡ Some r → whole ≡ Some r) → whole ≡ part
+by_part whole None none some = none refl
+by_part whole (Some r) none some = some r refl
+
 -- ---- upwards
 
 first_passes : (p : Range → Bool) (xs ys : List Range) (r : Range) → first_range (filter p xs) ≡ Some r → first_range (filter p (xs ++ ys)) ≡ Some r
@@ -95,18 +100,10 @@ pub up_from : (q : Query) (from to : ℕ) (front m : List Range) → LooksUp q f
 up_from q from to front m up rise below = up_none q from to front m up (none_below q from to front up rise below)
 
 pub up_to : (q : Query) (from to : ℕ) (m back : List Range) → LooksUp q from to → IsMapFrom 0 back → BeginAbove to back → answer (m ++ back) q ≡ answer m q
-up_to q from to m back up rise above = by_answer (answer m q) refl
-  where
-    by_answer : (found : Option Range) → answer m q ≡ found → answer (m ++ back) q ≡ answer m q
-    by_answer None is = up_none q from to m back up is ∙ (none_above q from to back up rise above ∙ sym is)
-    by_answer (Some r) is = up_some q from to m back r up is ∙ sym is
+up_to q from to m back up rise above = by_part (answer (m ++ back) q) (answer m q) (λ is. up_none q from to m back up is ∙ none_above q from to back up rise above) (λ r is. up_some q from to m back r up is)
 
 pub up_found : (q : Query) (from to : ℕ) (xs ys : List Range) → LooksUp q from to → (answer xs q ≡ None → ⊥) → answer (xs ++ ys) q ≡ answer xs q
-up_found q from to xs ys up some = by_answer (answer xs q) refl
-  where
-    by_answer : (found : Option Range) → answer xs q ≡ found → answer (xs ++ ys) q ≡ answer xs q
-    by_answer None is = absurd (some is)
-    by_answer (Some r) is = up_some q from to xs ys r up is ∙ sym is
+up_found q from to xs ys up some = by_part (answer (xs ++ ys) q) (answer xs q) (λ is. absurd (some is)) (λ r is. up_some q from to xs ys r up is)
 
 -- ---- downwards
 
@@ -165,18 +162,10 @@ pub down_from : (q : Query) (from to : ℕ) (m back : List Range) → LooksDown 
 down_from q from to m back down rise above = down_none q from to m back down (none_from q from to back down rise above)
 
 pub down_to : (q : Query) (from to : ℕ) (front m : List Range) → LooksDown q from to → IsMapFrom 0 front → EndBelow to front → answer (front ++ m) q ≡ answer m q
-down_to q from to front m down rise below = by_answer (answer m q) refl
-  where
-    by_answer : (found : Option Range) → answer m q ≡ found → answer (front ++ m) q ≡ answer m q
-    by_answer None is = down_none q from to front m down is ∙ (none_to q from to front down rise below ∙ sym is)
-    by_answer (Some r) is = down_some q from to front m r down is ∙ sym is
+down_to q from to front m down rise below = by_part (answer (front ++ m) q) (answer m q) (λ is. down_none q from to front m down is ∙ none_to q from to front down rise below) (λ r is. down_some q from to front m r down is)
 
 pub down_found : (q : Query) (from to : ℕ) (xs ys : List Range) → LooksDown q from to → (answer ys q ≡ None → ⊥) → answer (xs ++ ys) q ≡ answer ys q
-down_found q from to xs ys down some = by_answer (answer ys q) refl
-  where
-    by_answer : (found : Option Range) → answer ys q ≡ found → answer (xs ++ ys) q ≡ answer ys q
-    by_answer None is = absurd (some is)
-    by_answer (Some r) is = down_some q from to xs ys r down is ∙ sym is
+down_found q from to xs ys down some = by_part (answer (xs ++ ys) q) (answer ys q) (λ is. absurd (some is)) (λ r is. down_some q from to xs ys r down is)
 
 -- ---- from shelf to shelf
 

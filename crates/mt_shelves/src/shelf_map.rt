@@ -3,10 +3,10 @@ ghost use Rattle.std.specs.Prelude.{None};
 use crate::edits::{erase, store};
 use crate::rooms::{highest, lowest};
 use crate::shelf::Shelf;
-use crate::walks::{ask, is_held};
+use crate::walks::ask;
 use crate::wholes::{copied, count, gathered};
-use mt_base::{Call, Kind, NoMemory, Query, Range, Reply, is_bad_area, is_invalid, is_no_area};
-use mt_list::{Ranges, Window, reply_of};
+use mt_base::{Call, Kind, NoMemory, Query, Range, Reply};
+use mt_list::{Ranges, Store, Window, act};
 use std::alloc::Global;
 use std::marker::Model;
 
@@ -34,10 +34,7 @@ impl Model for ShelfMap {
 }
 
 impl ShelfMap {
-    ghost use Rattle.std.specs.Prelude.{◌≡◌, ◌+◌, ◌≤◌, [], IfOk, OnOk, OnErr, IfSome, length};
-    ghost use Rattle.mt_base.specs.Call.{acted, placed};
-    ghost use Rattle.mt_base.specs.Map.{over};
-    ghost use Rattle.mt_base.specs.Width.{greatest_of};
+    ghost use Rattle.std.specs.Prelude.{◌≡◌, [], IfOk, length};
 
     /// The empty map.
     pub fn new(alloc: Global, kind: Kind) -> Self
@@ -74,16 +71,17 @@ impl ShelfMap {
             most: self.most,
         })
     }
+}
 
-    /// Puts `entry` over `first` to `last`.
+impl Store for ShelfMap {
+    ghost contents = { λ m. m };
+
+    fn kind(&self) -> Kind {
+        self.kind
+    }
+
     #[tactic(auto, using(crate::proofs::ShelvesKept::put_in, crate::proofs::ShelvesKept::kept_in, crate::proofs::ShelvesKept::rising_of))]
-    fn put(&mut self, first: u64, last: u64, entry: u64) -> Result<(), NoMemory>
-        requires order { first ≤ last }
-        requires within { last ≤ greatest_of self.old.kind }
-        ensures ok { OnOk result (self.new.ranges ≡ over self.old.ranges first last entry) }
-        ensures err { OnErr result (self.new ≡ self.old) }
-        ensures kind { self.new.kind ≡ self.old.kind }
-    {
+    fn put(&mut self, first: u64, last: u64, entry: u64) -> Result<(), NoMemory> {
         if self.most >= MOST {
             return Err(NoMemory);
         }
@@ -92,127 +90,27 @@ impl ShelfMap {
         Ok(())
     }
 
-    /// Stores `entry` over `first` to `last`.
-    #[tactic(auto, using(crate::proofs::ShelvesKept::rising_of, mt_base::proofs::CallsKeepOrder::valid_order, mt_base::proofs::CallsKeepOrder::valid_within))]
-    fn store(&mut self, first: u64, last: u64, entry: u64) -> Result<Reply, NoMemory>
-        ensures acts { IfOk result (λ reply. acted self.old.kind self.old.ranges (Call.Store first last entry) ≡ (self.new.ranges, reply)) }
-        ensures err { OnErr result (self.new ≡ self.old) }
-        ensures kind { self.new.kind ≡ self.old.kind }
-    {
-        if is_invalid(self.kind, first, last, entry) {
-            return Ok(Reply::Invalid);
-        }
-        let met = ask(
-            &self.shelves,
-            &Query::Find {
-                index: first,
-                max: last,
-            },
-        );
-        self.put(first, last, entry)?;
-        Ok(met.map_or(Reply::Ok, |range| Reply::Over(range.entry)))
-    }
-
-    /// Stores `entry` over `first` to `last` where no range holds any of these indexes.
-    #[tactic(auto, using(crate::proofs::ShelvesKept::rising_of, mt_base::proofs::CallsKeepOrder::valid_order, mt_base::proofs::CallsKeepOrder::valid_within))]
-    fn insert(&mut self, first: u64, last: u64, entry: u64) -> Result<Reply, NoMemory>
-        ensures acts { IfOk result (λ reply. acted self.old.kind self.old.ranges (Call.Insert first last entry) ≡ (self.new.ranges, reply)) }
-        ensures err { OnErr result (self.new ≡ self.old) }
-        ensures kind { self.new.kind ≡ self.old.kind }
-    {
-        if is_invalid(self.kind, first, last, entry) || entry == 0 {
-            return Ok(Reply::Invalid);
-        }
-        if is_held(&self.shelves, first, last) {
-            return Ok(Reply::Exists);
-        }
-        self.put(first, last, entry)?;
-        Ok(Reply::Ok)
-    }
-
-    /// Removes the range that holds `index`.
     #[tactic(auto, using(crate::proofs::ShelvesKept::rising_of, crate::proofs::ShelvesKept::erased_in))]
-    fn erase(&mut self, index: u64) -> Reply
-        ensures acts { acted self.old.kind self.old.ranges (Call.Erase index) ≡ (self.new.ranges, result) }
-        ensures kind { self.new.kind ≡ self.old.kind }
-    {
-        match erase(&mut self.shelves, index) {
-            Some(range) => Reply::Was(range),
-            None => Reply::None,
-        }
+    fn take(&mut self, index: u64) -> Option<Range> {
+        erase(&mut self.shelves, index)
     }
 
-    /// Stores `entry` at the lowest start of room in the window.
-    fn alloc(&mut self, window: Window, entry: u64) -> Result<Reply, NoMemory>
-        ensures acts { IfOk result (λ reply. acted self.old.kind self.old.ranges (Call.Alloc window.size window.min window.max entry)
-            ≡ (self.new.ranges, reply)) }
-        ensures err { OnErr result (self.new ≡ self.old) }
-        ensures kind { self.new.kind ≡ self.old.kind }
-    {
-        if is_bad_area(self.kind, window.size, window.min, window.max, entry) {
-            return Ok(Reply::Invalid);
-        }
-        let start = lowest(self.kind, &self.shelves, window);
-        self.place(start, window.size, entry)
-    }
-
-    /// Stores `entry` at the highest start.
-    fn ralloc(&mut self, window: Window, entry: u64) -> Result<Reply, NoMemory>
-        ensures acts { IfOk result (λ reply. acted self.old.kind self.old.ranges (Call.Ralloc window.size window.min window.max entry)
-            ≡ (self.new.ranges, reply)) }
-        ensures err { OnErr result (self.new ≡ self.old) }
-        ensures kind { self.new.kind ≡ self.old.kind }
-    {
-        if is_bad_area(self.kind, window.size, window.min, window.max, entry) {
-            return Ok(Reply::Invalid);
-        }
-        let start = highest(self.kind, &self.shelves, window);
-        self.place(start, window.size, entry)
-    }
-
-    /// Stores `entry` over `size` indexes at a start that was found.
-    fn place(&mut self, start: Option<u64>, size: u64, entry: u64) -> Result<Reply, NoMemory>
-        requires size { 1 ≤ size }
-        requires within { IfSome start (λ s. s + size ≤ greatest_of self.old.kind + 1) }
-        ensures acts { IfOk result (λ reply. placed self.old.ranges size entry start ≡ (self.new.ranges, reply)) }
-        ensures err { OnErr result (self.new ≡ self.old) }
-        ensures kind { self.new.kind ≡ self.old.kind }
-    {
-        let Some(first) = start else {
-            return Ok(Reply::Busy);
-        };
-        self.put(first, first + (size - 1), entry)?;
-        Ok(Reply::Start(first))
-    }
-
-    /// Tells the lowest start.
-    fn gap(&self, window: Window) -> Reply
-        ensures { acted self.now.kind self.now.ranges (Call.Gap window.size window.min window.max) ≡ (self.now.ranges, result) }
-    {
-        if is_no_area(self.kind, window.size, window.min, window.max) {
-            return Reply::Invalid;
-        }
-        reply_of(lowest(self.kind, &self.shelves, window))
-    }
-
-    /// Tells the highest start.
-    fn rgap(&self, window: Window) -> Reply
-        ensures { acted self.now.kind self.now.ranges (Call.Rgap window.size window.min window.max) ≡ (self.now.ranges, result) }
-    {
-        if is_no_area(self.kind, window.size, window.min, window.max) {
-            return Reply::Invalid;
-        }
-        reply_of(highest(self.kind, &self.shelves, window))
-    }
-
-    /// Removes every range.
-    fn clear(&mut self) -> Reply
-        ensures acts { acted self.old.kind self.old.ranges Call.Clear ≡ (self.new.ranges, result) }
-        ensures kind { self.new.kind ≡ self.old.kind }
-    {
+    fn empty(&mut self) {
         self.shelves.clear();
         self.most = 0;
-        Reply::Ok
+    }
+
+    #[tactic(auto, using(crate::proofs::ShelvesKept::rising_of))]
+    fn found(&self, query: &Query) -> Option<Range> {
+        ask(&self.shelves, query)
+    }
+
+    fn lowest_start(&self, window: Window) -> Option<u64> {
+        lowest(self.kind, &self.shelves, window)
+    }
+
+    fn highest_start(&self, window: Window) -> Option<u64> {
+        highest(self.kind, &self.shelves, window)
     }
 }
 
@@ -226,28 +124,7 @@ impl Ranges for ShelfMap {
     ghost limits = { λ _. None };
 
     fn act(&mut self, call: &Call) -> Result<Reply, NoMemory> {
-        match *call {
-            Call::Store { first, last, entry } | Call::StorePre { first, last, entry } => {
-                self.store(first, last, entry)
-            }
-            Call::Insert { first, last, entry } => self.insert(first, last, entry),
-            Call::Erase { index } => Ok(self.erase(index)),
-            Call::Alloc {
-                size,
-                min,
-                max,
-                entry,
-            } => self.alloc(Window { size, min, max }, entry),
-            Call::Ralloc {
-                size,
-                min,
-                max,
-                entry,
-            } => self.ralloc(Window { size, min, max }, entry),
-            Call::Gap { size, min, max } => Ok(self.gap(Window { size, min, max })),
-            Call::Rgap { size, min, max } => Ok(self.rgap(Window { size, min, max })),
-            Call::Clear => Ok(self.clear()),
-        }
+        act(self, call)
     }
 
     fn ask(&mut self, query: &Query) -> Option<Range> {

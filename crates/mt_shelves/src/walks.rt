@@ -2,7 +2,6 @@
 
 ghost use Rattle.std.specs.Prelude.{◌≡◌, ◌≤◌};
 ghost use Rattle.mt_base.specs.Call.{answer};
-ghost use Rattle.mt_base.specs.Map.{is_held};
 ghost use Rattle.mt_shelves.specs.Shelves.{AreRising, LooksDown, LooksUp, joined};
 
 use crate::places::{place_above, place_below};
@@ -58,21 +57,4 @@ pub fn ask(shelves: &[Shelf], query: &Query) -> Option<Range>
             last_answer(shelves, query, index, min)
         }
     }
-}
-
-/// Whether a range holds some index of `first` to `last`.
-#[tactic(auto, using(mt_base::proofs::FirstMet::is_held_where_met))]
-pub fn is_held(shelves: &[Shelf], first: u64, last: u64) -> bool
-    requires rising { AreRising shelves.now }
-    requires order { first ≤ last }
-    ensures { result ≡ is_held (joined shelves.now) first last }
-{
-    ask(
-        shelves,
-        &Query::Find {
-            index: first,
-            max: last,
-        },
-    )
-    .is_some()
 }

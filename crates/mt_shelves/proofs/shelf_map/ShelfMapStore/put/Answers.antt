@@ -1,6 +1,6 @@
 use Rattle.mt_shelves.proofs.Prelude.{◌≤◌, ap, subst, sym, arith, Kind, greatest_of, Contents}
 use Rattle.mt_shelves.proofs.ShelvesKept.{put_in}
-use Rattle.mt_shelves.proofs.shelf_map.ShelfMap.put.Goals as goal
+use Rattle.mt_shelves.proofs.shelf_map.ShelfMapStore.put.Goals as goal
 
 pub invariant_of-self-2 : goal.invariant_of-self-2
 invariant_of-self-2 c =
