@@ -3,7 +3,8 @@
 ghost use Rattle.std.specs.Prelude.{◌≡◌, ◌≢◌, ◌+◌, ◌*◌, ◌≤◌, ◌++◌, ◌∷◌, ℕ, [], IfOk, IfErr, None, Some, length, vec_len, vec_capacity};
 ghost use Rattle.mt_base.specs.Width.{first_row};
 ghost use Rattle.mt_rows.specs.Memory.{sheet_in};
-ghost use Rattle.mt_bulk.specs.Builds.{AreLaid, HasLeafFacts, AreLevels, AreLanesFrom, FirstHasRoom, IsBuilt, IsLeafLane, IsUpperOf, TookTurns, built_of, heads_made, refusal, whole_of, words_made, words_room};
+ghost use Rattle.mt_bulk.specs.Builds.{AreLaid, HasLeafFacts, AreLevels, AreLanesFrom, FirstHasRoom, IsBuilt, IsLeafLane, IsUpperOf, TookTurns};
+ghost use Rattle.mt_bulk.specs.Builds.{built_of, heads_made, refusal, whole_of, words_made, words_room};
 ghost use Rattle.mt_bulk.specs.Chunks.{heads_in, chunk_words};
 
 use crate::chunks::fill_rows;

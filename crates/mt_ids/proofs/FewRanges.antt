@@ -39,18 +39,7 @@ found_is_free kind m lo hi s is found = let one : s + 1 - 1 ≡ s = omega arith 
 -- ---- rows
 
 no_nodes_same : (a b : Shortage) → replies.NoNodes a ≡ replies.NoNodes b → a ≡ b
-no_nodes_same a b is = ap (λ r. by_reply r) is
-  where
-    by_reply : Reply → Shortage
-    by_reply (replies.NoNodes s) = s
-    by_reply replies.Ok = a
-    by_reply (replies.Over e) = a
-    by_reply (replies.Start n) = a
-    by_reply (replies.Was r) = a
-    by_reply replies.None = a
-    by_reply replies.Exists = a
-    by_reply replies.Invalid = a
-    by_reply replies.Busy = a
+no_nodes_same a b is = cc
 
 -- with no more ranges than these a tree of all rows that may be named is not short of rows, where none is held
 pub none_short : (l : Limits) (m : List Range) (shortage : Shortage) → l.rows ≡ most_rows → length m ≤ 100001 → shortage.held ≡ 0 → IsShort l m shortage → ⊥

@@ -26,7 +26,9 @@ pub trait Plain: Ranges + Drop + Sized {
     /// `NoMemory` where memory ran out.
     fn another(&self, alloc: Global) -> Result<Self, NoMemory>
         ensures kind { IfOk result (λ copy. Self.kind copy ≡ Self.kind self.now) }
-        ensures copy { IfOk result (λ copy. IsCopyOf (record { kind = Self.kind self.now; ranges = Self.map self.now; used = Self.used self.now; limits = Self.limits self.now }) (record { kind = Self.kind copy; ranges = Self.map copy; used = Self.used copy; limits = Self.limits copy })) };
+        ensures copy { IfOk result (λ copy. IsCopyOf
+            (record { kind = Self.kind self.now; ranges = Self.map self.now; used = Self.used self.now; limits = Self.limits self.now })
+            (record { kind = Self.kind copy; ranges = Self.map copy; used = Self.used copy; limits = Self.limits copy })) };
 
     /// How many ranges the map has.
     fn size(&self) -> u64

@@ -30,7 +30,12 @@ impl<M: Plain> Model for Played<M> {
 
     ghost Value = { TreeState };
 
-    ghost view = { λ t. record { name = t.name; kind = t.kind; map = record { kind = M.kind t.map; ranges = M.map t.map; used = M.used t.map; limits = M.limits t.map }; calls = t.calls } };
+    ghost view = { λ t. record {
+      name = t.name;
+      kind = t.kind;
+      map = record { kind = M.kind t.map; ranges = M.map t.map; used = M.used t.map; limits = M.limits t.map };
+      calls = t.calls;
+    } };
 
     ghost invariant = { λ t. t.kind ≡ M.kind t.map };
 }

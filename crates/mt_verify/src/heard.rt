@@ -6,7 +6,8 @@ ghost use Rattle.std.specs.List.{list_any};
 ghost use Rattle.mt_log.specs.Trees.{most_lanes, most_trees};
 ghost use Rattle.mt_told.specs.declared.told.Told.{Told};
 ghost use Rattle.mt_base.specs.declared.replies.Shortage.{Shortage};
-ghost use Rattle.mt_verify.specs.Heard.{AreReaders, IsHeard, IsNumberAlone, IsSmallShortage, IsToldShortage, HasReadBy, SaysShortage, reads_by, shortage_printed};
+ghost use Rattle.mt_verify.specs.Heard.{AreReaders, IsHeard, IsNumberAlone, IsSmallShortage, IsToldShortage, HasReadBy, SaysShortage, reads_by};
+ghost use Rattle.mt_verify.specs.Heard.{shortage_printed};
 
 use crate::calls::Numbered;
 use mt_base::{Holder, Shortage};

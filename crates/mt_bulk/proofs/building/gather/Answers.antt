@@ -6,20 +6,10 @@ pub returns-in_default-clause-room : goal.returns-in_default-clause-room
 returns-in_default-clause-room c = λ words heads some room. let none = c.in_default.ensures.cases in absurd (omega (arith, some, none))
 
 pub append_all-requires-clause-words : goal.append_all-requires-clause-words
-append_all-requires-clause-words c =
-    let first = c.in-Some.first.now in
-    let low = (room_behind c.args.lanes.now c.in-Some.others.now first c.in-Some.ensures.cases.0 c.requires).0 in
-    let long = ap (λ w. vec_len w) c.replace-words.ensures.value in
-    let capacity = ap (λ w. vec_capacity w) c.replace-words.ensures.value in
-    omega (arith, low, long, capacity, first.desk.words.ok.0)
+append_all-requires-clause-words c = omega (arith, (room_behind c.args.lanes.now c.in-Some.others.now c.in-Some.first.now c.in-Some.ensures.cases.0 c.requires).0, ap (λ w. vec_len w) c.replace-words.ensures.value, ap (λ w. vec_capacity w) c.replace-words.ensures.value, c.in-Some.first.now.desk.words.ok.0)
 
 pub append_all-requires-clause-heads : goal.append_all-requires-clause-heads
-append_all-requires-clause-heads c =
-    let first = c.in-Some.first.now in
-    let low = (room_behind c.args.lanes.now c.in-Some.others.now first c.in-Some.ensures.cases.0 c.requires).1 in
-    let long = ap (λ w. vec_len w) c.replace-heads.ensures.value in
-    let capacity = ap (λ w. vec_capacity w) c.replace-heads.ensures.value in
-    omega (arith, low, long, capacity, first.desk.heads.ok.0)
+append_all-requires-clause-heads c = omega (arith, (room_behind c.args.lanes.now c.in-Some.others.now c.in-Some.first.now c.in-Some.ensures.cases.0 c.requires).1, ap (λ w. vec_len w) c.replace-heads.ensures.value, ap (λ w. vec_capacity w) c.replace-heads.ensures.value, c.in-Some.first.now.desk.heads.ok.0)
 
 pub returns-clause-room : goal.returns-clause-room
 returns-clause-room c = λ words heads some room.

@@ -2,7 +2,21 @@ use Rattle.mt_verify.proofs.Prelude.{◌≡◌, ℕ, List, [], Option, Some, Vec
 use Rattle.mt_verify.proofs.AllFound.{all_found, has_gone}
 use Rattle.mt_verify.proofs.FoundVerdict.{is_least, no_run, not_ended, not_in_order}
 use Rattle.mt_verify.proofs.verifying.judge.Goals as goal
-use Rattle.mt_verify.proofs.verifying.judge.Goals.{then-not-windows_keep-via-then-not-windows_keep, then-not-windows_keep-via-else-not-windows_keep+then-not-windows_end}
+use Rattle.mt_verify.proofs.verifying.judge.Goals.{After-deref-4, then-not-windows_keep-via-then-not-windows_keep, then-not-windows_keep-via-else-not-windows_keep+then-not-windows_end}
+
+-- every declared tree was gone through, up to the end of the text
+count : (c : After-deref-4) → length c.in-Some.gone.items ≡ length (trees_of c.args.log.now.lines)
+count c =
+    let lines : c.in_ok-trees.trees.items ≡ trees_of c.args.log.now.lines = c.in_ok-trees.ensures ∙ ap trees_of c.as_slice.ensures in
+    subst (λ (o : Option (Vec GoneTree Global)). IfSome o (λ gone. length gone.items ≡ length c.deref-2.result.now)) c.in-Some.is c.in_ok-gone.ensures.count ∙ ap length (c.deref-2.ensures.value ∙ lines)
+
+to : (c : After-deref-4) → HaveGoneTo c.args.log.now c.args.rows c.args.account.now.told.items c.args.account.now.rest.now c.in-Some.gone.items []
+to c =
+    subst (λ (o : Option (Vec GoneTree Global)). IfSome o (λ gone. HaveGoneTo c.args.log.now c.args.rows c.args.account.now.told.items c.args.account.now.rest.now gone.items [])) c.in-Some.is c.in_ok-gone.ensures.some
+
+has : (c : After-deref-4) (tree : ℕ) (g : GoneTree) → slice_get c.deref-4.result.now tree ≡ Some g → HasGone c.args.log.now.version c.args.rows c.args.account.now.told.items tree g
+has c tree g is =
+    has_gone c.args.log.now c.args.rows c.args.text.now c.args.account.now.told.items c.args.account.now.rest.now c.in-Some.gone.items [] c.requires.told (to c) (count c) tree g (ap (λ (l : List GoneTree). slice_get l tree) (sym c.deref-4.ensures.value) ∙ is)
 
 pub go_all-requires-clause-case : goal.go_all-requires-clause-case
 go_all-requires-clause-case c = record {
@@ -34,40 +48,20 @@ returns-in_default c =
 
 pub points_of-requires-clause-looks : goal.points_of-requires-clause-looks
 points_of-requires-clause-looks c tree g is =
-    let lines : c.in_ok-trees.trees.items ≡ trees_of c.args.log.now.lines = c.in_ok-trees.ensures ∙ ap trees_of c.as_slice.ensures in
-    let count : length c.in-Some.gone.items ≡ length (trees_of c.args.log.now.lines) =
-    subst (λ (o : Option (Vec GoneTree Global)). IfSome o (λ gone. length gone.items ≡ length c.deref-2.result.now)) c.in-Some.is c.in_ok-gone.ensures.count ∙ ap length (c.deref-2.ensures.value ∙ lines) in
-    let to : HaveGoneTo c.args.log.now c.args.rows c.args.account.now.told.items c.args.account.now.rest.now c.in-Some.gone.items [] =
-    subst (λ (o : Option (Vec GoneTree Global)). IfSome o (λ gone. HaveGoneTo c.args.log.now c.args.rows c.args.account.now.told.items c.args.account.now.rest.now gone.items [])) c.in-Some.is c.in_ok-gone.ensures.some in
-    let at_tree : slice_get c.in-Some.gone.items tree ≡ Some g = ap (λ (l : List GoneTree). slice_get l tree) (sym c.deref-4.ensures.value) ∙ is in
-    let has : HasGone c.args.log.now.version c.args.rows c.args.account.now.told.items tree g =
-    has_gone c.args.log.now c.args.rows c.args.text.now c.args.account.now.told.items c.args.account.now.rest.now c.in-Some.gone.items [] c.requires.told to count tree g at_tree in
-    has.looks ∙ ap (lane_looks tree) (sym c.deref-3.ensures.value)
+    (has (goal.at.points_of-requires-clause-looks c).After-deref-4 tree g is).looks ∙ ap (lane_looks tree) (sym c.deref-3.ensures.value)
 
 pub points_of-requires-clause-done : goal.points_of-requires-clause-done
 points_of-requires-clause-done c tree g is j lane at =
-    let lines : c.in_ok-trees.trees.items ≡ trees_of c.args.log.now.lines = c.in_ok-trees.ensures ∙ ap trees_of c.as_slice.ensures in
-    let count : length c.in-Some.gone.items ≡ length (trees_of c.args.log.now.lines) =
-    subst (λ (o : Option (Vec GoneTree Global)). IfSome o (λ gone. length gone.items ≡ length c.deref-2.result.now)) c.in-Some.is c.in_ok-gone.ensures.count ∙ ap length (c.deref-2.ensures.value ∙ lines) in
-    let to : HaveGoneTo c.args.log.now c.args.rows c.args.account.now.told.items c.args.account.now.rest.now c.in-Some.gone.items [] =
-    subst (λ (o : Option (Vec GoneTree Global)). IfSome o (λ gone. HaveGoneTo c.args.log.now c.args.rows c.args.account.now.told.items c.args.account.now.rest.now gone.items [])) c.in-Some.is c.in_ok-gone.ensures.some in
-    let at_tree : slice_get c.in-Some.gone.items tree ≡ Some g = ap (λ (l : List GoneTree). slice_get l tree) (sym c.deref-4.ensures.value) ∙ is in
-    let has : HasGone c.args.log.now.version c.args.rows c.args.account.now.told.items tree g =
-    has_gone c.args.log.now c.args.rows c.args.text.now c.args.account.now.told.items c.args.account.now.rest.now c.in-Some.gone.items [] c.requires.told to count tree g at_tree in
-    (has.least j lane at).count
+    ((has (goal.at.points_of-requires-clause-done c).After-deref-4 tree g is).least j lane at).count
 
 pub returns : goal.returns
 returns c =
-    let lines : c.in_ok-trees.trees.items ≡ trees_of c.args.log.now.lines = c.in_ok-trees.ensures ∙ ap trees_of c.as_slice.ensures in
-    let count : length c.in-Some.gone.items ≡ length (trees_of c.args.log.now.lines) =
-    subst (λ (o : Option (Vec GoneTree Global)). IfSome o (λ gone. length gone.items ≡ length c.deref-2.result.now)) c.in-Some.is c.in_ok-gone.ensures.count ∙ ap length (c.deref-2.ensures.value ∙ lines) in
-    let to : HaveGoneTo c.args.log.now c.args.rows c.args.account.now.told.items c.args.account.now.rest.now c.in-Some.gone.items [] =
-    subst (λ (o : Option (Vec GoneTree Global)). IfSome o (λ gone. HaveGoneTo c.args.log.now c.args.rows c.args.account.now.told.items c.args.account.now.rest.now gone.items [])) c.in-Some.is c.in_ok-gone.ensures.some in
+    let at = (goal.at.returns c).After-deref-4 in
     let order : AllPairs InPrintedOrder c.args.account.now.told.items = subst (AllPairs InPrintedOrder) c.deref.ensures.value (c.windows_keep.ensures.0 c.if-not-windows_keep.false) in
     let ends : All (EndsInTree c.args.account.now.told.items) c.args.account.now.told.items = subst (λ (l : List Told). All (EndsInTree l) l) c.deref-else-not-windows_keep.ensures.value (c.windows_end.ensures.0 c.if-not-windows_end.false) in
     let numbered : length c.in_ok-points.points.items ≡ reads_count c.args.account.now.told.items = c.in_ok-points.ensures.count ∙ ap reads_count c.deref-3.ensures.value in
     let own : (tree lane : ℕ) (g : GoneTree) (l : Lane) → slice_get c.in-Some.gone.items tree ≡ Some g → slice_get g.lanes lane ≡ Some l → own_points tree lane c.args.account.now.told.items c.in_ok-points.points.items ≡ l.points =
     λ tree lane g l is at. ap (λ (t : List Told). own_points tree lane t c.in_ok-points.points.items) (sym c.deref-3.ensures.value) ∙ c.in_ok-points.ensures.lanes tree lane g l (ap (λ (x : List GoneTree). slice_get x tree) c.deref-4.ensures.value ∙ is) at in
-    let found = all_found c.args.log.now c.args.rows c.args.text.now c.args.account.now.told.items c.args.account.now.rest.now c.in-Some.gone.items c.in_ok-points.points.items c.requires.told to count order ends numbered own in
+    let found = all_found c.args.log.now c.args.rows c.args.text.now c.args.account.now.told.items c.args.account.now.rest.now c.in-Some.gone.items c.in_ok-points.points.items c.requires.told (to at) (count at) order ends numbered own in
     subst (AreLeastPoints c.args.log.now c.args.rows c.args.text.now) (sym c.new.ensures)
-    (is_least c.args.log.now c.args.rows c.args.text.now c.requires.small c.args.account.now.told.items c.args.account.now.rest.now c.requires.told c.requires.log c.in-Some.gone.items c.in_ok-points.points.items to found)
+    (is_least c.args.log.now c.args.rows c.args.text.now c.requires.small c.args.account.now.told.items c.args.account.now.rest.now c.requires.told c.requires.log c.in-Some.gone.items c.in_ok-points.points.items (to at) found)
