@@ -3,7 +3,8 @@
 ghost use Rattle.std.specs.Prelude.{◌≡◌, IfOk, false, option_map};
 ghost use Rattle.clap.specs.Words.{app_of, first_of, found_of, new_app, rows_of, rule_of, subcommand_rows_of, with_rule};
 ghost use Rattle.mt_cli.specs.Commands.{bulk_with, ids_with, make_with, trial_with};
-ghost use Rattle.mt_cli.specs.Grammar.{bulk_app, bulk_in, command_in, command_met, grammar, ids_app, ids_in, make_app, make_in, option_rule, rows_app, rows_given, show_app, trial_app, trial_in, word_rule};
+ghost use Rattle.mt_cli.specs.Grammar.{bulk_app, bulk_in, command_in, command_met, grammar, ids_app, ids_in, make_app, make_in, option_rule};
+ghost use Rattle.mt_cli.specs.Grammar.{rows_app, rows_given, show_app, trial_app, trial_in, word_rule};
 
 use crate::commands::Command;
 use crate::numbers::number_in;

@@ -75,7 +75,8 @@ impl LaneTree {
         rows: &mut PlainRows,
     ) -> Result<(LaneTree, Vec<Pass>), NoMemory>
         requires { IsLawfulOf (sheet_in rows.old).tree kind }
-        ensures new { IfOk result (λ made. IsNewTree kind most_rows (map_by (sheet_in rows.old).tree) 1 (⟦<LaneTree as Shared<Pass>>⟧.tree made.0) (map ⟦<Pass as Passage>⟧.knows made.1.items)) }
+        ensures new { IfOk result (λ made. IsNewTree kind most_rows (map_by (sheet_in rows.old).tree) 1
+            (⟦<LaneTree as Shared<Pass>>⟧.tree made.0) (map ⟦<Pass as Passage>⟧.knows made.1.items)) }
         ensures all { IfOk result (λ made. AreAll ⟦<Pass as Passage>⟧.knows ⟦<LaneTree as Shared<Pass>>⟧.serves 1 made.0 made.1.items) }
         ensures many { IfOk result (λ made. passes_of made.0.tree ≡ 1) }
         ensures rest { OnlyReads (sheet_in rows.old) (sheet_in rows.new) }

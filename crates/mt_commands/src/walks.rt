@@ -48,7 +48,9 @@ pub(crate) fn scan_by(
     ensures same_reference { cursor.new.pass.ghost_name ≡ cursor.old.pass.ghost_name }
     ensures tree { cursor.new.tree.now ≡ tree.now.tree }
     ensures closed { (pass_in cursor.new.pass.now).standing ≡ None }
-    ensures scanned { (lane phase number : ℕ) (item : Item) → IsScanDone (record { line = line; lane = lane; phase = phase; item = item }) number cursor.old.walk.max count cursor.old.walk.at (opened cursor.old.tree.now) (pass_in cursor.old.pass.now) (pass_in cursor.new.pass.now) room.old.items room.new.items }
+    ensures scanned { (lane phase number : ℕ) (item : Item) → IsScanDone
+        (record { line = line; lane = lane; phase = phase; item = item }) number cursor.old.walk.max count cursor.old.walk.at
+        (opened cursor.old.tree.now) (pass_in cursor.old.pass.now) (pass_in cursor.new.pass.now) room.old.items room.new.items }
     ensures once { OpensOnce (pass_in cursor.old.pass.now) (pass_in cursor.new.pass.now) }
     ensures few { steps_made cursor.new.pass.now ≤ steps_made cursor.old.pass.now + (220 * count + 1) }
     ensures len { vec_len room.new ≤ vec_len room.old + count }

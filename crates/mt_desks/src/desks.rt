@@ -30,7 +30,9 @@ fn write<R: Wait, P: Passage, T: Shared<P>>(
     requires room { vec_len room.old < vec_capacity room.old }
     ensures of { T.serves tree.now pass.new }
     ensures closed { (P.knows pass.new).standing ≡ None }
-    ensures done { (lane phase number : ℕ) → IsDoneOn (T.tree tree.now) number (record { line = line; lane = lane; phase = phase; item = items.Write number call.now }) (P.knows pass.old) (P.knows pass.new) room.old.items room.new.items }
+    ensures done { (lane phase number : ℕ) → IsDoneOn (T.tree tree.now) number
+        (record { line = line; lane = lane; phase = phase; item = items.Write number call.now }) (P.knows pass.old)
+        (P.knows pass.new) room.old.items room.new.items }
     ensures rests { P.steps pass.new ≡ P.steps pass.old }
     ensures len { vec_len room.new ≤ vec_len room.old + 1 }
     ensures capacity { vec_capacity room.new ≡ vec_capacity room.old }
@@ -58,7 +60,8 @@ fn answer_on<R: Wait, P: Passage, T: Shared<P>>(
     requires room { vec_len room.old + room_for line.now.item ≤ vec_capacity room.old }
     ensures of { T.serves tree.now pass.new }
     ensures closed { (P.knows pass.new).standing ≡ None }
-    ensures done { (lane phase : ℕ) → IsDoneOn (T.tree tree.now) (line_tree line.now.item) (asked_of lane phase line.now) (P.knows pass.old) (P.knows pass.new) room.old.items room.new.items }
+    ensures done { (lane phase : ℕ) → IsDoneOn (T.tree tree.now) (line_tree line.now.item) (asked_of lane phase line.now) (P.knows pass.old)
+        (P.knows pass.new) room.old.items room.new.items }
     ensures few { P.steps pass.new ≤ P.steps pass.old + steps_for line.now.item }
     ensures len { vec_len room.new ≤ vec_len room.old + room_for line.now.item }
     ensures capacity { vec_capacity room.new ≡ vec_capacity room.old }
@@ -125,7 +128,8 @@ impl<'a, R: Wait, P: Passage + Drop, T: Shared<P>> Desk for LaneDesk<'a, R, P, T
     ghost awaits = { λ d s. IsDeskReady P.knows T.serves d.trees.now d.lines.all d.lines.left s d.passes.items (vec_len d.room) (vec_capacity d.room) };
 
     ghost did = { λ a s b. DeskDid (desk_of T.tree P.knows a.lane a.phase a.trees.now a.lines.all a.passes.items a.room.items) s
-        (desk_of T.tree P.knows b.lane b.phase b.trees.now b.lines.all b.passes.items b.room.items) × StillManned P.knows T.serves a.trees.now b.trees.now b.passes.items };
+        (desk_of T.tree P.knows b.lane b.phase b.trees.now b.lines.all b.passes.items b.room.items)
+        × StillManned P.knows T.serves a.trees.now b.trees.now b.passes.items };
 
     fn answer(&mut self, _step: u64) {
         let Some(line) = self.lines.next() else {

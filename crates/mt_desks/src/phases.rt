@@ -48,9 +48,11 @@ pub fn run_phase<
     G: Gate + Sync,
 >(rt: &R, rows: &mut [Vec<P>], lanes: &mut [Lane<LaneDesk<'_, R, P, T>>], gate: &G)
     requires rows { All (λ row. length lanes.old ≤ vec_len row) rows.old }
-    requires laid { All (λ l. IsLaid l.steps (length l.desk.trees.now) l.desk.lines.all l.desk.lines.left (vec_len l.desk.passes) (vec_len l.desk.room) (vec_capacity l.desk.room)) lanes.old }
+    requires laid { All (λ l. IsLaid l.steps (length l.desk.trees.now) l.desk.lines.all l.desk.lines.left (vec_len l.desk.passes)
+        (vec_len l.desk.room) (vec_capacity l.desk.room)) lanes.old }
     requires passes { AtEach (λ lane l. CanPass P.knows T.serves (λ row. row.items) lane l.desk.trees.now rows.old) lanes.old }
-    ensures went { FromEach (λ lane l k. LaneWent P.knows (λ row. row.items) lane l.steps rows.old rows.new (desk_of T.tree P.knows l.desk.lane l.desk.phase l.desk.trees.now l.desk.lines.all l.desk.passes.items l.desk.room.items)
+    ensures went { FromEach (λ lane l k. LaneWent P.knows (λ row. row.items) lane l.steps rows.old rows.new
+        (desk_of T.tree P.knows l.desk.lane l.desk.phase l.desk.trees.now l.desk.lines.all l.desk.passes.items l.desk.room.items)
         (desk_of T.tree P.knows k.desk.lane k.desk.phase k.desk.trees.now k.desk.lines.all k.desk.passes.items k.desk.room.items)) lanes.old lanes.new }
     ensures passes { AtEach (λ lane l. CanPass P.knows T.serves (λ row. row.items) lane l.desk.trees.now rows.new) lanes.old }
     ensures turns { FromEach (λ lane l k. (number : ℕ) → number < 2 * l.steps → G.passed gate.now l.lane number) lanes.old lanes.new }

@@ -58,8 +58,13 @@ fn look_on<T, W: Walks<T>>(walk: &mut W, line: u64, room: &mut Vec<Entry>) -> Op
     requires room { vec_len room.old < vec_capacity room.old }
     ensures own { W.own walk.new }
     ensures on { (tree : T) → W.on walk.old tree → W.on walk.new tree }
-    ensures is { W.walk walk.new ≡ record (W.walk walk.old) { pass = (W.walk walk.new).pass; steps = (W.walk walk.new).steps; at = place_after (W.walk walk.old).max result } }
-    ensures looked { IsLooked line (W.walk walk.old).history (find_at (W.walk walk.old).at (W.walk walk.old).max) result (W.walk walk.old).pass (W.walk walk.new).pass room.old.items room.new.items }
+    ensures is { W.walk walk.new ≡ record (W.walk walk.old) {
+      pass = (W.walk walk.new).pass;
+      steps = (W.walk walk.new).steps;
+      at = place_after (W.walk walk.old).max result;
+    } }
+    ensures looked { IsLooked line (W.walk walk.old).history (find_at (W.walk walk.old).at (W.walk walk.old).max) result
+        (W.walk walk.old).pass (W.walk walk.new).pass room.old.items room.new.items }
     ensures few { (W.walk walk.new).steps ≤ (W.walk walk.old).steps + 220 }
     ensures once { (p : Pass) → KeepsOne p (W.walk walk.old) → KeepsOne p (W.walk walk.new) }
     ensures len { vec_len room.new ≡ vec_len room.old + 1 }
@@ -82,7 +87,9 @@ fn read_on<T, W: Walks<T>>(walk: &mut W, line: u64, count: u32, room: &mut Vec<E
     ensures own { W.own walk.new }
     ensures on { (tree : T) → W.on walk.old tree → W.on walk.new tree }
     ensures is { W.walk walk.new ≡ record (W.walk walk.old) { pass = (W.walk walk.new).pass; steps = (W.walk walk.new).steps; at = (W.walk walk.new).at } }
-    ensures scanned { (lane phase number : ℕ) (item : Item) → IsScanDone (record { line = line; lane = lane; phase = phase; item = item }) number (W.walk walk.old).max count (W.walk walk.old).at (W.walk walk.old).history (W.walk walk.old).pass (W.walk walk.new).pass room.old.items room.new.items }
+    ensures scanned { (lane phase number : ℕ) (item : Item) → IsScanDone
+        (record { line = line; lane = lane; phase = phase; item = item }) number (W.walk walk.old).max count (W.walk walk.old).at
+        (W.walk walk.old).history (W.walk walk.old).pass (W.walk walk.new).pass room.old.items room.new.items }
     ensures few { (W.walk walk.new).steps ≤ (W.walk walk.old).steps + 220 * count }
     ensures once { OpensOnce (W.walk walk.old).pass (W.walk walk.new).pass }
     ensures len { vec_len room.new ≤ vec_len room.old + count }
@@ -104,7 +111,9 @@ pub fn scan<T, W: Walks<T>>(walk: &mut W, line: u64, count: u32, room: &mut Vec<
     ensures on { (tree : T) → W.on walk.old tree → W.on walk.new tree }
     ensures is { W.walk walk.new ≡ record (W.walk walk.old) { pass = (W.walk walk.new).pass; steps = (W.walk walk.new).steps; at = (W.walk walk.new).at } }
     ensures closed { (W.walk walk.new).pass.standing ≡ None }
-    ensures scanned { (lane phase number : ℕ) (item : Item) → IsScanDone (record { line = line; lane = lane; phase = phase; item = item }) number (W.walk walk.old).max count (W.walk walk.old).at (W.walk walk.old).history (W.walk walk.old).pass (W.walk walk.new).pass room.old.items room.new.items }
+    ensures scanned { (lane phase number : ℕ) (item : Item) → IsScanDone
+        (record { line = line; lane = lane; phase = phase; item = item }) number (W.walk walk.old).max count (W.walk walk.old).at
+        (W.walk walk.old).history (W.walk walk.old).pass (W.walk walk.new).pass room.old.items room.new.items }
     ensures few { (W.walk walk.new).steps ≤ (W.walk walk.old).steps + (220 * count + 1) }
     ensures once { OpensOnce (W.walk walk.old).pass (W.walk walk.new).pass }
     ensures len { vec_len room.new ≤ vec_len room.old + count }

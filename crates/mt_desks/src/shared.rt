@@ -88,7 +88,9 @@ pub trait Shared<P: Passage> {
         requires room { vec_len room.old + count ≤ vec_capacity room.old }
         ensures of { serves self.now pass.new }
         ensures closed { (P.knows pass.new).standing ≡ None }
-        ensures scanned { (lane phase number : ℕ) → IsScanDone (record { line = line; lane = lane; phase = phase; item = Scan number index max count }) number max count (place_within index max) (tree self.now).history (P.knows pass.old) (P.knows pass.new) room.old.items room.new.items }
+        ensures scanned { (lane phase number : ℕ) → IsScanDone
+            (record { line = line; lane = lane; phase = phase; item = Scan number index max count }) number max count
+            (place_within index max) (tree self.now).history (P.knows pass.old) (P.knows pass.new) room.old.items room.new.items }
         ensures once { OpensOnce (P.knows pass.old) (P.knows pass.new) }
         ensures few { P.steps pass.new ≤ P.steps pass.old + (220 * count + 1) }
         ensures len { vec_len room.new ≤ vec_len room.old + count }

@@ -61,7 +61,9 @@ pub fn answers_are_put_back()
 
 /// If a tree's handles were settled and none has made a call since, settling them again changes nothing.
 pub fn settled_passes_stay()
-    ensures { (tree new : History) (before between after : List Pass) → IsSettled tree before → OnlySaw tree before between → Settled new between after → new ≡ with_records tree new.records → 0 < length before
+    ensures { (tree new : History) (before between after : List Pass)
+        → IsSettled tree before → OnlySaw tree before between → Settled new between after → new ≡ with_records tree new.records
+        → 0 < length before
         → (new ≡ tree) × (between ≡ before) × (after ≡ before) }
 {}
 
@@ -71,7 +73,8 @@ pub fn calls_are_those_of_the_lanes()
     ensures calls { (number : ℕ) (old new : History) (answers : ℕ → List (List Step)) (before between after : List Pass)
         → IsSettled old before → HaveGone number old answers before between → Settled new between after
         → new ≡ with_records old new.records
-        → length new.records ≡ length old.records + sum_below (length before) (λ lane. length (numbers_of (outcomes_of number lane (answers_joined (answers lane))))) }
+        → length new.records
+        ≡ length old.records + sum_below (length before) (λ lane. length (numbers_of (outcomes_of number lane (answers_joined (answers lane))))) }
     ensures seen { (new : History) (between after : List Pass) → Settled new between after → (lane : ℕ) (m : Pass)
         → slice_get between lane ≡ Some m → length m.seen ≤ length new.records }
     ensures begins { (new : History) (between after : List Pass) → Settled new between after → (lane : ℕ) (m : Pass)
@@ -113,7 +116,8 @@ pub fn a_worked_phase()
         (step_of_line 1 0 5 0 (Counted said.Lawful (record { first = 0; last = 9; entry = 1 } ∷ []))
         ∷ step_of_line 1 1 7 0 (Called 2 (calls.Store 5 5 3) (replies.Over 1))
         ∷ step_of_line 1 0 9 0 (Looked 1 1 1 (queries.Load 5) (Some (record { first = 0; last = 9; entry = 1 }))) ∷ [])
-        (known_to_all 2 (record { kind = kinds.Range; rows = 65504; opening = []; records = record { pass = 0; call = calls.Store 0 9 1; reply = replies.Ok } ∷ [] }) ∷ [])
+        (known_to_all 2
+        (record { kind = kinds.Range; rows = 65504; opening = []; records = record { pass = 0; call = calls.Store 0 9 1; reply = replies.Ok } ∷ [] }) ∷ [])
         (known_to_all 2 (record { kind = kinds.Range; rows = 65504; opening = []; records = record { pass = 0; call = calls.Store 0 9 1; reply = replies.Ok } ∷ record { pass = 1; call = calls.Store 5 5 3; reply = replies.Over 1 } ∷ [] }) ∷ []) }
     ensures sum { sum_below 3 (λ n. n + 4) ≡ 15 }
 {}

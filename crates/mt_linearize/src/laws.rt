@@ -21,7 +21,8 @@ pub fn a_tree_is_declared()
     ensures empty { (passes rows phase : ℕ) (declared : List Declared) (steps : List Step) (trees : List Tracked) (known : KnownTree)
         → Ran passes rows phase declared steps trees
         → Ran passes rows phase (declared ++ record { tree = known; opening = Empty } ∷ []) steps (trees ++ new_tracked passes rows known.kind [] ∷ []) }
-    ensures copy { (passes rows phase : ℕ) (declared : List Declared) (steps : List Step) (trees : List Tracked) (known : KnownTree) (tree : ℕ) (source : Tracked) → slice_get trees tree ≡ Some source → known.kind ≡ source.history.kind
+    ensures copy { (passes rows phase : ℕ) (declared : List Declared) (steps : List Step) (trees : List Tracked)
+        (known : KnownTree) (tree : ℕ) (source : Tracked) → slice_get trees tree ≡ Some source → known.kind ≡ source.history.kind
         → Ran passes rows phase declared steps trees
         → Ran passes rows phase (declared ++ record { tree = known; opening = CopyOf tree phase } ∷ []) steps (trees
         ++ new_tracked passes rows known.kind (last_map source.history) ∷ []) }
@@ -29,7 +30,8 @@ pub fn a_tree_is_declared()
 
 /// A phase is over: each lane's handle on each tree goes through the lane's steps, and then each tree's handles are settled.
 pub fn a_phase_goes_by()
-    ensures { (passes rows phase : ℕ) (declared : List Declared) (earlier steps : List Step) (before after : List Tracked) → 0 < passes → Ran passes rows phase declared earlier before
+    ensures { (passes rows phase : ℕ) (declared : List Declared) (earlier steps : List Step) (before after : List Tracked) → 0 < passes
+        → Ran passes rows phase declared earlier before
         → IsPhase passes phase steps before after → Ran passes rows (phase + 1) declared (earlier ++ steps) after }
 {}
 

@@ -40,11 +40,13 @@ pub fn a_call_is_the_next_of_its_tree()
 pub fn passes_that_have_seen_all()
     ensures wrote { (h : History) (pass : ℕ) (call : Call) (reply : Reply) (after : List Range) → IsLegal h
         → IsNext h (record { pass = pass; call = call; reply = reply }) after
-        → Wrote h (informed h.records pass) (length h.records + 1) call reply (informed (with_call h (record { pass = pass; call = call; reply = reply })).records pass) }
+        → Wrote h (informed h.records pass) (length h.records + 1) call reply
+        (informed (with_call h (record { pass = pass; call = call; reply = reply })).records pass) }
     ensures saw { (h : History) (r : Record) (after : List Range) (pass : ℕ) → r.pass ≢ pass → IsLegal h → IsNext h r after
         → Saw h (informed h.records pass) (informed (with_call h r).records pass) }
     ensures read { (h : History) (pass : ℕ) (query : Query) → IsLegal h
-        → Read h (informed h.records pass) (length h.records) (length h.records) (length h.records) query (answer (last_map h) query) (informed h.records pass) }
+        → Read h (informed h.records pass) (length h.records) (length h.records) (length h.records) query (answer (last_map h) query)
+        (informed h.records pass) }
     ensures settled { (passes : ℕ) (h : History) (r : Record) (after : List Range) → r.pass < passes
         → IsSettled h (known_to_all passes h).passes → IsNext h r after
         → IsSettled (with_call h r) (known_to_all passes (with_call h r)).passes }
@@ -60,7 +62,8 @@ pub fn a_tree_is_played()
     ensures empty { (passes rows phase : ℕ) (stepped : Bool) (declared : List Declared) (steps : List Step) (trees : List History) (known : KnownTree)
         → HasPlayed passes rows phase stepped declared steps trees
         → HasPlayed passes rows phase stepped (declared ++ record { tree = known; opening = Empty } ∷ []) steps (trees ++ new_history known.kind rows [] ∷ []) }
-    ensures copy { (passes rows phase : ℕ) (declared : List Declared) (steps : List Step) (trees : List History) (known : KnownTree) (tree : ℕ) (source : History) → HasPlayed passes rows phase false declared steps trees
+    ensures copy { (passes rows phase : ℕ) (declared : List Declared) (steps : List Step) (trees : List History)
+        (known : KnownTree) (tree : ℕ) (source : History) → HasPlayed passes rows phase false declared steps trees
         → slice_get trees tree ≡ Some source → known.kind ≡ source.kind
         → HasPlayed passes rows phase false (declared ++ record { tree = known; opening = CopyOf tree phase } ∷ []) steps (trees
         ++ new_history known.kind rows (last_map source) ∷ []) }
@@ -68,13 +71,15 @@ pub fn a_tree_is_played()
 
 /// The ranges of a tree are counted, where no step of this phase was made yet.
 pub fn a_count_is_played()
-    ensures { (passes rows phase : ℕ) (declared : List Declared) (steps : List Step) (trees : List History) (line tree : ℕ) (h : History) (tells : ℕ → Said) → HasPlayed passes rows phase false declared steps trees → slice_get trees tree ≡ Some h
+    ensures { (passes rows phase : ℕ) (declared : List Declared) (steps : List Step) (trees : List History) (line tree : ℕ) (h : History)
+        (tells : ℕ → Said) → HasPlayed passes rows phase false declared steps trees → slice_get trees tree ≡ Some h
         → HasPlayed passes rows phase false declared (steps ++ step_of_line phase 0 line tree (Counted tells (last_map h)) ∷ []) trees }
 {}
 
 /// A lane makes the next call of a tree.
 pub fn a_call_is_played()
-    ensures { (passes rows phase : ℕ) (stepped : Bool) (declared : List Declared) (steps : List Step) (trees : List History) (lane line tree : ℕ) (h : History) (call : Call) (reply : Reply) (after : List Range) → HasPlayed passes rows phase stepped declared steps trees
+    ensures { (passes rows phase : ℕ) (stepped : Bool) (declared : List Declared) (steps : List Step) (trees : List History)
+        (lane line tree : ℕ) (h : History) (call : Call) (reply : Reply) (after : List Range) → HasPlayed passes rows phase stepped declared steps trees
         → slice_get trees tree ≡ Some h → lane < passes → IsNext h (record { pass = lane; call = call; reply = reply }) after
         → HasPlayed passes rows phase true declared (steps ++ step_of_line phase lane line tree (Called (length h.records + 1) call reply)
         ∷ []) (slice_set trees tree (with_call h (record { pass = lane; call = call; reply = reply }))) }
@@ -82,7 +87,9 @@ pub fn a_call_is_played()
 
 /// A lane reads a tree as it is: both ends of the window are the number of its calls.
 pub fn a_read_is_played()
-    ensures { (passes rows phase : ℕ) (stepped : Bool) (declared : List Declared) (steps : List Step) (trees : List History) (lane line tree : ℕ) (h : History) (query : Query) → HasPlayed passes rows phase stepped declared steps trees → slice_get trees tree ≡ Some h → lane < passes
+    ensures { (passes rows phase : ℕ) (stepped : Bool) (declared : List Declared) (steps : List Step) (trees : List History)
+        (lane line tree : ℕ) (h : History) (query : Query) → HasPlayed passes rows phase stepped declared steps trees
+        → slice_get trees tree ≡ Some h → lane < passes
         → HasPlayed passes rows phase true declared (steps
         ++ step_of_line phase lane line tree (Looked (length h.records) (length h.records) (length h.records) query (answer (last_map h) query))
         ∷ []) trees }
@@ -99,7 +106,8 @@ pub fn a_phase_is_played()
 pub fn the_trees_are_as_declared()
     ensures count { (passes rows phase : ℕ) (stepped : Bool) (declared : List Declared) (steps : List Step) (trees : List History)
         → HasPlayed passes rows phase stepped declared steps trees → length trees ≡ length declared }
-    ensures kind { (passes rows phase : ℕ) (stepped : Bool) (declared : List Declared) (steps : List Step) (trees : List History) (tree : ℕ) (d : Declared) (h : History) → HasPlayed passes rows phase stepped declared steps trees
+    ensures kind { (passes rows phase : ℕ) (stepped : Bool) (declared : List Declared) (steps : List Step) (trees : List History) (tree : ℕ)
+        (d : Declared) (h : History) → HasPlayed passes rows phase stepped declared steps trees
         → slice_get declared tree ≡ Some d → slice_get trees tree ≡ Some h → h.kind ≡ d.tree.kind }
     ensures rows { (passes rows phase : ℕ) (stepped : Bool) (declared : List Declared) (steps : List Step) (trees : List History) (tree : ℕ) (h : History)
         → HasPlayed passes rows phase stepped declared steps trees → slice_get trees tree ≡ Some h → h.rows ≡ rows }
@@ -116,12 +124,19 @@ pub fn what_was_played_is_a_run()
 /// copy has the range that its source had when its phase began, and the transcript of this is a run of the log.
 pub fn a_worked_play()
     ensures played { HasPlayed 1 65504 1 true
-        (record { tree = record { name = 97 ∷ []; kind = kinds.Range }; opening = Empty } ∷ record { tree = record { name = 98 ∷ []; kind = kinds.Range }; opening = CopyOf 0 1 } ∷ [])
+        (record { tree = record { name = 97 ∷ []; kind = kinds.Range }; opening = Empty }
+        ∷ record { tree = record { name = 98 ∷ []; kind = kinds.Range }; opening = CopyOf 0 1 } ∷ [])
         (step_of_line 0 0 3 0 (Called 1 (calls.Store 0 9 1) replies.Ok)
         ∷ step_of_line 1 0 5 0 (Counted said.Copied (record { first = 0; last = 9; entry = 1 } ∷ []))
         ∷ step_of_line 1 0 6 0 (Called 2 (calls.Store 5 5 3) (replies.Over 1))
         ∷ step_of_line 1 0 7 1 (Looked 0 0 0 (queries.Load 5) (Some (record { first = 0; last = 9; entry = 1 }))) ∷ [])
-        (record { kind = kinds.Range; rows = 65504; opening = []; records = record { pass = 0; call = calls.Store 0 9 1; reply = replies.Ok } ∷ record { pass = 0; call = calls.Store 5 5 3; reply = replies.Over 1 } ∷ [] }
+        (record {
+          kind = kinds.Range;
+          rows = 65504;
+          opening = [];
+          records = record { pass = 0; call = calls.Store 0 9 1; reply = replies.Ok }
+              ∷ record { pass = 0; call = calls.Store 5 5 3; reply = replies.Over 1 } ∷ [];
+        }
         ∷ record { kind = kinds.Range; rows = 65504; opening = record { first = 0; last = 9; entry = 1 } ∷ []; records = [] } ∷ []) }
     ensures run { IsRun
         (record {
@@ -136,8 +151,14 @@ pub fn a_worked_play()
         65504
         (record {
           version = 2;
-          entries = record { line = 3; said = said.Wrote 1 replies.Ok } ∷ record { line = 5; said = said.Copied 1 } ∷ record { line = 6; said = said.Wrote 2 (replies.Over 1) } ∷ record { line = 7; said = said.Got 0 0 (answers.Entry 1) } ∷ [];
-          lists = record { name = 97 ∷ []; kind = kinds.Range; ranges = record { first = 0; last = 4; entry = 1 } ∷ record { first = 5; last = 5; entry = 3 } ∷ record { first = 6; last = 9; entry = 1 } ∷ [] }
+          entries = record { line = 3; said = said.Wrote 1 replies.Ok } ∷ record { line = 5; said = said.Copied 1 }
+              ∷ record { line = 6; said = said.Wrote 2 (replies.Over 1) } ∷ record { line = 7; said = said.Got 0 0 (answers.Entry 1) } ∷ [];
+          lists = record {
+            name = 97 ∷ [];
+            kind = kinds.Range;
+            ranges = record { first = 0; last = 4; entry = 1 }
+                ∷ record { first = 5; last = 5; entry = 3 } ∷ record { first = 6; last = 9; entry = 1 } ∷ [];
+          }
               ∷ record { name = 98 ∷ []; kind = kinds.Range; ranges = record { first = 0; last = 9; entry = 1 } ∷ [] } ∷ [];
         }) }
 {}

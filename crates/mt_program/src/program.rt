@@ -16,7 +16,8 @@ ghost use Rattle.mt_commands.specs.Turns.{IsIdsText};
 ghost use Rattle.mt_commands.specs.Texts.{IsImageListing, IsMadeText, IsTrialText, IsTurnedTrial};
 ghost use Rattle.mt_program.specs.Headline.{IsBuiltImage, IsImageOfLog, IsOutput, IsTextOfRun, IsVerifiedText, WritesOutput, WritesPart};
 ghost use Rattle.mt_program.specs.Turns.{HasTurned, HaveTurned, IsBuiltBy, IsTurnedLog};
-ghost use Rattle.mt_program.specs.Verdicts.{IsBadLog, IsDue, IsNoImage, AreBytesRefused, AreBytesTaken, IsTreeless, IsUnbuilt, IsUnverified, RefusesBytes, TellsStatus};
+ghost use Rattle.mt_program.specs.Verdicts.{IsBadLog, IsDue, IsNoImage, AreBytesRefused, AreBytesTaken, IsTreeless, IsUnbuilt, IsUnverified};
+ghost use Rattle.mt_program.specs.Verdicts.{RefusesBytes, TellsStatus};
 
 use crate::failures::{Failure, Unbuilt, report};
 use crate::limits::limit_of;
@@ -411,7 +412,8 @@ pub fn mtreplay<R: Threads + Wait + Sync, S: Source, O: Sink, E: Sink, G: Gate +
     // Nothing is printed but what the command prints, or its first part, and on `err` the text of the status.
     ensures out_kept { result ≢ 0 → result ≢ 4 → out.new ≡ out.old }
     ensures err_kept { result ≡ 0 → err.new ≡ err.old }
-    ensures told { result ≢ 0 → TellsStatus (command_of (map string_bytes words.now)) (S.left src.old) result (E.written err.old) (E.written err.new) (E.faults err.old) (E.faults err.new) }
+    ensures told { result ≢ 0 → TellsStatus (command_of (map string_bytes words.now)) (S.left src.old) result (E.written err.old)
+        (E.written err.new) (E.faults err.old) (E.faults err.new) }
 
     // After a fault no further call is made on that object.
     ensures src_in_time { S.faults src.old ≡ 0 → S.late src.old ≡ 0 → S.late src.new ≡ 0 }

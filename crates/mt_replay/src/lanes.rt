@@ -170,7 +170,8 @@ fn run_lanes<
     requires can { CanDo lanes (length trees.now) lines.now }
     requires manned { AreManned P.knows T.serves (lanes + 1) trees.now seats.old }
     ensures manned { OnOk result (AreManned P.knows T.serves (lanes + 1) trees.now seats.new) }
-    ensures run { OnOk result (HaveRun phase lines.now (map T.tree trees.now) (rows_known P.knows seats.old) (rows_known P.knows seats.new) entries.old.items entries.new.items) }
+    ensures run { OnOk result (HaveRun phase lines.now (map T.tree trees.now) (rows_known P.knows seats.old)
+        (rows_known P.knows seats.new) entries.old.items entries.new.items) }
     ensures turns { OnOk result (PhaseTurned (G.passed gate.now) lines.now) }
 {
     let first = first_room(alloc, lanes == 1, entries);
@@ -204,7 +205,8 @@ pub(crate) fn run_and_settle<
     requires can { CanDo lanes (length trees.now) lines.now }
     requires many { All (λ t. T.many t ≡ lanes + 1) trees.now }
     requires manned { AreManned P.knows T.serves (lanes + 1) trees.now seats.old }
-    ensures gone { OnOk result (HaveGoneBy T.tree P.knows T.serves (lanes + 1) phase lines.now trees.now seats.old seats.new entries.old.items entries.new.items) }
+    ensures gone { OnOk result (HaveGoneBy T.tree P.knows T.serves (lanes + 1) phase lines.now trees.now seats.old seats.new
+        entries.old.items entries.new.items) }
     ensures turns { OnOk result (PhaseTurned (G.passed gate.now) lines.now) }
 {
     run_lanes(rt, alloc, lanes, phase, lines, trees, seats, entries, gate)?;

@@ -11,7 +11,8 @@ ghost use Rattle.mt_linearize.specs.Phases.{histories_of};
 ghost use Rattle.mt_desks.specs.Dealing.{IsOnePhase};
 ghost use Rattle.mt_replay.specs.Makes.{BeginAs, declared_kind};
 ghost use Rattle.mt_replay.specs.Trees.{AreAll, fewest_rows, most_passes};
-ghost use Rattle.mt_replay.specs.Players.{BeginsPhase, Checks, Copies, HasImage, HasRanges, IsBetweenPhases, IsBegun, IsCopyIn, IsPlayedBy, OpensTree, rows_known, player_state};
+ghost use Rattle.mt_replay.specs.Players.{BeginsPhase, Checks, Copies, HasImage, HasRanges, IsBetweenPhases, IsBegun, IsCopyIn, IsPlayedBy};
+ghost use Rattle.mt_replay.specs.Players.{OpensTree, rows_known, player_state};
 
 use crate::counts::{Counted, count_again};
 use crate::makes::{Made, make_declared};

@@ -60,7 +60,8 @@ pub(crate) fn copy_settled<R: Wait, P: Passage + Drop, T: Plays<P>>(
     requires settled { IsSettled (seen_by (T.tree tree.now).history (map P.knows row.old.items)) (map P.knows row.old.items) }
     ensures all { AreAll P.knows T.serves (T.many tree.now) tree.now row.new.items }
     ensures stays { map P.knows row.new.items ≡ map P.knows row.old.items }
-    ensures new { IfOk result (λ made. IsNewTree (T.tree tree.now).history.kind (T.tree tree.now).history.rows (last_map (seen_by (T.tree tree.now).history (map P.knows row.old.items))) (T.many tree.now) (T.tree made.0) (map P.knows made.1.items)) }
+    ensures new { IfOk result (λ made. IsNewTree (T.tree tree.now).history.kind (T.tree tree.now).history.rows
+        (last_map (seen_by (T.tree tree.now).history (map P.knows row.old.items))) (T.many tree.now) (T.tree made.0) (map P.knows made.1.items)) }
     ensures new_all { IfOk result (λ made. AreAll P.knows T.serves (T.many tree.now) made.0 made.1.items) }
     ensures many { IfOk result (λ made. T.many made.0 ≡ T.many tree.now) }
 {
@@ -110,7 +111,8 @@ pub fn image_settled<R: Wait, P: Passage + Drop, T: Plays<P>>(
     requires settled { IsSettled (seen_by (T.tree tree.now).history (map P.knows row.old.items)) (map P.knows row.old.items) }
     ensures all { AreAll P.knows T.serves (T.many tree.now) tree.now row.new.items }
     ensures stays { map P.knows row.new.items ≡ map P.knows row.old.items }
-    ensures image { IfOk result (λ bytes. IsImageOfMap (T.tree tree.now).history.kind (last_map (seen_by (T.tree tree.now).history (map P.knows row.old.items))) bytes.items) }
+    ensures image { IfOk result (λ bytes. IsImageOfMap (T.tree tree.now).history.kind
+        (last_map (seen_by (T.tree tree.now).history (map P.knows row.old.items))) bytes.items) }
 {
     let own = row.len() - 1;
     let image = tree.image(rt, alloc, &mut row[own]);

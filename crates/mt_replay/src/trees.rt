@@ -64,7 +64,8 @@ pub trait Plays<P: Passage>: Shared<P> + Drop + Sized {
         requires of { Self.serves self.now pass.old }
         ensures of { Self.serves self.now pass.new }
         ensures pass { (P.knows pass.new ≡ P.knows pass.old) ⊎ Saw (Self.tree self.now).history (P.knows pass.old) (P.knows pass.new) }
-        ensures new { IfOk result (λ made. IsNewTree (Self.tree self.now).history.kind (Self.tree self.now).history.rows (map_seen (Self.tree self.now) (P.knows pass.new)) (Self.many self.now) (Self.tree made.0) (map P.knows made.1.items)) }
+        ensures new { IfOk result (λ made. IsNewTree (Self.tree self.now).history.kind (Self.tree self.now).history.rows
+            (map_seen (Self.tree self.now) (P.knows pass.new)) (Self.many self.now) (Self.tree made.0) (map P.knows made.1.items)) }
         ensures all { IfOk result (λ made. AreAll P.knows Self.serves (Self.many self.now) made.0 made.1.items) }
         ensures many { IfOk result (λ made. Self.many made.0 ≡ Self.many self.now) };
 

@@ -87,7 +87,8 @@ fn read_step<'t>(
     place: &LinePlace,
     deed: &Deed,
 ) -> Result<Option<&'t [u8]>, AllocError>
-    ensures some { IfOk result (λ found. IfSome found (λ rest. AddsTold (IsStepAt place.now deed.now) (IsToldAt place.now) text.now told.old.items told.new.items rest.now)) }
+    ensures some { IfOk result (λ found. IfSome found (λ rest. AddsTold (IsStepAt place.now deed.now)
+        (IsToldAt place.now) text.now told.old.items told.new.items rest.now)) }
     ensures none { IfOk result (λ found. IfNone found (TellsNotDone (IsStepAt place.now deed.now) text.now)) }
 {
     let Some((step, rest)) = step_in_front(text, place, deed) else {
@@ -104,7 +105,8 @@ fn read_line<'t>(
     line: &Line,
     stand: &Stand,
 ) -> Result<Option<&'t [u8]>, AllocError>
-    ensures some { IfOk result (λ found. IfSome found (λ rest. AddsTold (IsLaneLineDone stand.now.lane stand.now.phase line.now) (IsPlacedBy stand.now.lane stand.now.phase line.now) text.now told.old.items told.new.items rest.now)) }
+    ensures some { IfOk result (λ found. IfSome found (λ rest. AddsTold (IsLaneLineDone stand.now.lane stand.now.phase line.now)
+        (IsPlacedBy stand.now.lane stand.now.phase line.now) text.now told.old.items told.new.items rest.now)) }
     ensures none { IfOk result (λ found. IfNone found (TellsNotDone (IsLaneLineDone stand.now.lane stand.now.phase line.now) text.now)) }
 {
     let number = line.number;

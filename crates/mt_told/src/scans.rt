@@ -68,7 +68,8 @@ pub fn read_scan<'t>(
     place: &LinePlace,
     scan: &Stretch,
 ) -> Result<Option<&'t [u8]>, AllocError>
-    ensures some { IfOk result (λ found. IfSome found (λ rest. AddsTold (IsScanAt place.now scan.now) (IsToldAt place.now) text.now told.old.items told.new.items rest.now)) }
+    ensures some { IfOk result (λ found. IfSome found (λ rest. AddsTold (IsScanAt place.now scan.now)
+        (IsToldAt place.now) text.now told.old.items told.new.items rest.now)) }
     ensures none { IfOk result (λ found. IfNone found (TellsNotDone (IsScanAt place.now scan.now) text.now)) }
 {
     let mut at = place_within(scan.index, scan.max);

@@ -100,7 +100,8 @@ fn laid<'a, R: Wait>(
 ) -> Result<Lane<LaneDesk<'a, R, Pass, LaneTree>>, NoMemory>
     requires lines { AreLines (length trees.now) (lines_of_lane 0 0 lines.now) }
     requires few { length (lines_of_lane 0 0 lines.now) ≤ 2 ^ 63 }
-    ensures laid { IfOk result (λ l. IsLaid l.steps (length l.desk.trees.now) l.desk.lines.all l.desk.lines.left (vec_len l.desk.passes) (vec_len l.desk.room) (vec_capacity l.desk.room)) }
+    ensures laid { IfOk result (λ l. IsLaid l.steps (length l.desk.trees.now) l.desk.lines.all l.desk.lines.left (vec_len l.desk.passes)
+        (vec_len l.desk.room) (vec_capacity l.desk.room)) }
     ensures trees { IfOk result (λ l. l.desk.trees.now ≡ trees.now) }
 {
     let needs = needs_of(0, lines)?;
