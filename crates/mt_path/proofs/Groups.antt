@@ -5,6 +5,7 @@ use Rattle.mt_path.proofs.LeafSlots.{fills_within, fills_first, fills_next, stan
 use Rattle.mt_path.proofs.Middles.{rising, none_past, pivot_of}
 use Rattle.mt_path.proofs.Places.{slot_here, slot_behind}
 use Rattle.mt_path.proofs.Searches.{found_of}
+pub use Rattle.mt_path.specs.Walks.{row_at}
 
 -- ---- among spans end to end
 
@@ -35,10 +36,6 @@ before (x ∷ xs) index (suc k) low = elim (cases_lt x.last index) [
 ]
 
 -- ---- in a row
-
--- a row, for the crates above
-abbrev pub row_at : ℕ → RowKind → ℕ → ℕ → Row
-row_at number kind min max = record { number = number; kind = kind; min = min; max = max }
 
 -- What the search needs of a row: its spans fill its indexes, and a pivot behind them is 0.
 pub record IsSought (t : Table) (row : Row) : Type 0 where

@@ -1,4 +1,5 @@
 pub mod Places
+pub mod SideBySide
 pub mod Steps
 pub mod TreePaths
 pub mod Kept

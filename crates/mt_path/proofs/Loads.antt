@@ -1,5 +1,5 @@
 -- How many words were loaded. For the proofs of the crates above, too.
-use Rattle.mt_path.proofs.Prelude.{◌≡◌, ℕ, ◌+◌, ◌<◌, ◌≤◌, List, [], ◌∷◌, ◌++◌, Option, Some, None, length, take, drop, map, sum, refl, sym, ap, ◌∙◌, subst, arith, option_map, le-max_left, map-append, take-append-drop, sum_by-append, Sheet, loaded, one_more, RoseUpTo, ReadsUpTo, PathStep, loads_at, loads_in, reads_on}
+use Rattle.mt_path.proofs.Prelude.{◌≡◌, ℕ, ◌+◌, ◌<◌, ◌≤◌, List, [], ◌∷◌, ◌++◌, Option, Some, None, length, take, drop, map, sum, refl, sym, ap, ◌∙◌, subst, arith, option_map, le-max_left, le-max_right, map-append, take-append-drop, sum_by-append, Sheet, loaded, one_more, RoseUpTo, ReadsUpTo, PathStep, loads_at, loads_in, reads_on}
 
 -- ---- counts
 
@@ -42,6 +42,10 @@ one_read s s' is = record {
   rest = is ∙ ap (λ (r : Option ℕ). record s { reads = r }) (sym (ap (λ (r : Sheet). r.reads) is));
   reads = subst (λ (r : Option ℕ). RoseUpTo 1 s.reads r) (sym (ap (λ (r : Sheet). r.reads) is)) (rose_one s.reads);
 }
+
+-- a search pivot by pivot
+pub along_reads : (step : PathStep) (s s' : Sheet) → ReadsUpTo (step.slot + 1) s s' → ReadsUpTo (loads_at step) s s'
+along_reads step s s' reads = reads_up (step.slot + 1) (loads_at step) s s' (le-max_right 13 (step.slot + 1)) reads
 
 -- one more load
 pub reads_next : (n : ℕ) (s s' s'' : Sheet) → ReadsUpTo n s s' → s'' ≡ loaded s' → ReadsUpTo (n + 1) s s''

@@ -1,8 +1,7 @@
--- A row that is searched from its middle: where the pivot before a slot is below an index, so are all before that.
-use Rattle.mt_path.proofs.Prelude.{◌≡◌, ℕ, zero, suc, ◌+◌, ◌-◌, ◌<◌, ◌≤◌, List, [], ◌∷◌, Option, Some, true, length, nat_lt, refl, sym, ap, ◌∙◌, subst, inl, inr, arith, lt-ltb, slice_index, cases_lt, Kind, columns, greatest, Item, RowKind, Span, items_from, items_at, row_in, slots_of, gaps_of, Fills, spans_from, few_items, layout_of, slots_of-columns, item_or, get_or-padded, used, used-pivot, length-spans_from, IsTreeOf, tree_as, Rooted, Table, base_of, column, spans_by, Row, spans_behind, IsLawfulRow, IsPassed, slot_for, span_at, spans_of, IsOnWay}
+-- What a lawful row's pivots tell of its spans, and the rows on a way are lawful.
+use Rattle.mt_path.proofs.Prelude.{◌≡◌, ℕ, zero, suc, ◌+◌, ◌-◌, ◌<◌, ◌≤◌, List, [], ◌∷◌, Option, Some, length, refl, sym, ◌∙◌, subst, arith, slice_index, Kind, columns, greatest, Item, RowKind, Span, items_at, row_in, slots_of, gaps_of, Fills, few_items, layout_of, slots_of-columns, item_or, get_or-padded, used, used-pivot, length-spans_from, IsTreeOf, tree_as, Rooted, Table, base_of, column, spans_by, Row, IsLawfulRow, span_at, spans_of, IsOnWay}
 use Rattle.mt_rows.specs.Laws as laws
-use Rattle.mt_path.proofs.LeafSlots.{fills_within, stands_in}
-use Rattle.mt_path.proofs.Searches.{PassedIn, pass}
+use Rattle.mt_path.proofs.LeafSlots.{fills_within}
 use Rattle.mt_path.proofs.TreePaths.{rooted, row_of, levels, lawful}
 use Rattle.mt_path.proofs.Ways.{named, some_root, some_tree}
 
@@ -38,23 +37,6 @@ module _ (t : Table) (row : Row) where
   abbrev pivot : ℕ → ℕ
   pivot k = column t row.number (1 + k)
 
-  pub heard : (index i first : ℕ) → IsPassed t row index i first → PassedIn t row index i first
-  heard index i first passed = record { slot = passed.slot_is; span = passed.spans_are }
-
-  told : (index i first : ℕ) → PassedIn t row index i first → IsPassed t row index i first
-  told index i first passed = record { slot_is = passed.slot; spans_are = passed.span }
-
-  -- before the first slot there is none
-  pub none_passed : (index : ℕ) → IsPassed t row index 0 row.min
-  none_passed index =
-      let whole : slots - 0 ≡ slots = omega arith in
-      let all : spans_behind t row 0 row.min ≡ spans_of t row = ap (λ (n : ℕ). spans_from row.min (items_from slots gaps t.words (base_of t row.number) row.max n 0)) whole in
-      let same : slot_for (spans_behind t row 0 row.min) index ≡ slot_for (spans_of t row) index = ap (λ (l : List Span). slot_for l index) all in
-      record { slot_is = omega arith; spans_are = λ k. ap (span_at (spans_of t row)) (none_more k) ∙ ap (λ (l : List Span). span_at l k) (sym all) }
-    where
-      none_more : (k : ℕ) → 0 + k ≡ k
-      none_more k = omega arith
-
   module _ (lawful : IsLawfulRow t row) where
     pub fit : length items ≤ slots
     fit = few_items slots gaps t.words (base_of t row.number) row.max slots 0
@@ -67,42 +49,6 @@ module _ (t : Table) (row : Row) where
         let words = used (columns t.width) slots gaps (column t row.number 0) items (layout_of t.width row.kind) fit in
         lawful.unused (1 + k) (omega (arith, slots_of-columns t.width row.kind))
         ∙ (get_or-padded words (columns t.width - length words) (1 + k) ∙ used-pivot (columns t.width) slots gaps (column t row.number 0) items (layout_of t.width row.kind) fit k inner)
-
-    -- something stands in the slot of a pivot that is not 0
-    stands : (k : ℕ) → k + 1 < slots → 0 < pivot k → k < length (spans_of t row)
-    stands k inner some = elim (cases_lt k (length items)) [
-      | inl low ↦ omega (arith, long)
-      | inr high ↦ let zero = none_past items k high in let is = pivot_of k inner in absurd (omega arith)
-    ]
-
-    pub last_is : (k : ℕ) → k + 1 < slots → k < length (spans_of t row) → (span_at (spans_of t row) k).last ≡ pivot k
-    last_is k inner below =
-        let test : nat_lt (k + 1) slots ≡ true = lt-ltb (k + 1) slots inner in
-        let here = stands_in slots gaps t.words (base_of t row.number) row.max slots 0 row.min k k (omega arith) (omega arith) (omega (arith, long)) in
-        rw test at here.last
-
-    module _ (index g : ℕ) (inner : g + 1 < slots) (some : 0 < pivot g) (past : pivot g < index) (within : index ≤ row.max) where
-      below : (i : ℕ) → i ≤ g → pivot i < index
-      below i low =
-          let there = stands g inner some in
-          let rises = rising row.min (row.max + 1) (spans_of t row) i g lawful.fills low there in
-          let one = last_is i (omega arith) (omega arith) in
-          let other = last_is g inner there in
-          omega arith
-
-      all_passed : (i : ℕ) → i ≤ g → PassedIn t row index (i + 1) (pivot i + 1)
-      all_passed zero low = pass t row index 0 row.min (pivot 0) (omega arith) refl (below 0 low) within (heard index 0 row.min (none_passed index))
-      all_passed (suc i) low =
-          let next : i + 1 ≡ suc i = omega arith in
-          pass t row index (suc i) (pivot i + 1) (pivot (suc i)) (omega arith) refl (below (suc i) low) within (subst (λ (n : ℕ). PassedIn t row index n (pivot i + 1)) next (all_passed i (omega arith)))
-
-    pub passed_to : (index slot word : ℕ) → 0 < slot → slot < slots → word ≡ column t row.number slot → 0 < word → word < index → index ≤ row.max → IsPassed t row index slot (word + 1)
-    passed_to index slot word some few is more past within =
-        let g = slot - 1 in
-        let at : slot ≡ 1 + g = omega arith in
-        let back : g + 1 ≡ slot = omega arith in
-        let same : pivot g ≡ word = ap (column t row.number) (sym at) ∙ sym is in
-        told index slot (word + 1) (subst (λ (n : ℕ). PassedIn t row index n (word + 1)) back (subst (λ (p : ℕ). PassedIn t row index (g + 1) (p + 1)) same (all_passed index g (omega arith) (omega arith) (omega arith) within g (omega arith))))
 
 -- ---- a row on the way
 

@@ -38,7 +38,7 @@ pub use Rattle.mt_rows.specs.Sheet.{OnlyReads, RoseUpTo, loaded, one_more, word_
 pub use Rattle.mt_rows.specs.Spans.{inner_of, spans_by}
 pub use Rattle.mt_rows.specs.Trees.{map_in}
 pub use Rattle.mt_path.specs.Handles.{IsHandleOf, IsStepOfLeaf, handle_in, last_step, leaf_in, leaf_spans}
-pub use Rattle.mt_path.specs.Middles.{IsLawfulRow, IsPassed, spans_behind}
+pub use Rattle.mt_path.specs.Middles.{IsLawfulRow}
 pub use Rattle.mt_path.specs.Paths.{Covers, IsDeepestOver, ReadsBelow, below, loads_at, loads_in, loads_on, no_step, path_in, slot_for, span_at, step_at, step_in}
 unfoldable pub use Rattle.mt_path.specs.Paths.{path_of, row_on}
 pub use Rattle.mt_path.specs.Prelude.{Fills, IsPlace, Leaf, ReadsUpTo, Rooted, RowKind, Sheet, Span, Table, base_of, by_kind, column, columns, deepest, gaps_of, greatest, items_at, items_from, named_kind, root_span, row_in, row_spans, slot_column, slots_of, spans_from, spans_in}

@@ -122,3 +122,15 @@ module _ (t : Table) (row : Row) (index : ℕ) where
   pass i first pivot inner is past within passed =
       subst (λ (k : ℕ). PassedIn (i + 1) (k + 1)) (sym is)
       (passed_more slots (gaps_of t.width row.kind) t.words (base_of t row.number) row.max row.min index i first inner (omega (arith, is)) within passed)
+
+  -- before the first slot there is none
+  pub none_passed : PassedIn 0 row.min
+  none_passed =
+      let whole : slots - 0 ≡ slots = omega arith in
+      let all : spans_behind slots (gaps_of t.width row.kind) t.words (base_of t row.number) row.max 0 row.min ≡ all_spans slots (gaps_of t.width row.kind) t.words (base_of t row.number) row.max row.min =
+      ap (λ (n : ℕ). spans_from row.min (items_from slots (gaps_of t.width row.kind) t.words (base_of t row.number) row.max n 0)) whole in
+      let same = ap (λ (l : List Span). slot_for l index) all in
+      record { slot = omega (arith, same); span = λ k. ap (span_at (all_spans slots (gaps_of t.width row.kind) t.words (base_of t row.number) row.max row.min)) (none_more k) ∙ ap (λ (l : List Span). span_at l k) (sym all) }
+    where
+      none_more : (k : ℕ) → 0 + k ≡ k
+      none_more k = omega arith

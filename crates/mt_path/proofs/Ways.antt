@@ -31,7 +31,7 @@ step_same t x index row found is at =
     at.step ∙ (λ i. record { row = (facts.1 i).number; slot = slot_for (spans i) index; min = (facts.1 i).min; max = (facts.1 i).max })
 
 -- what stands where the index was found is what the path goes on with
-span_same : (t : Table) (x : Span) (index : ℕ) (row : Row) (found : Found) → Some row ≡ row_for x → IsFoundSlot t row index found → found_span t row.kind found ≡ below t x index
+pub span_same : (t : Table) (x : Span) (index : ℕ) (row : Row) (found : Found) → Some row ≡ row_for x → IsFoundSlot t row index found → found_span t row.kind found ≡ below t x index
 span_same t x index row found is at =
     let slot : found.step.slot ≡ slot_for (spans_of t row) index = ap (λ (s : PathStep). s.slot) at.step in
     at.span ∙ (ap (span_at (spans_of t row)) slot ∙ ap (λ (l : List Span). span_at l (slot_for l index)) (spans_same t x row is))
@@ -135,7 +135,7 @@ module _ (t : laws.Tree) (h : ℕ) (stands : laws.Stands t h) (index : ℕ) (wit
   inner_by (suc k) is other = omega arith
 
   -- and no other row does
-  inner_above : row.kind ≢ Leaf → depth < h
+  pub inner_above : row.kind ≢ Leaf → depth < h
   inner_above other = inner_by (h - depth) refl other
 
   module _ (found : Found) (at : IsFoundSlot t.table row index found) where

@@ -1,3 +1,4 @@
+pub mod Batches
 pub mod Middles
 pub mod Handles
 pub mod Paths

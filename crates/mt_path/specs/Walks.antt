@@ -9,6 +9,10 @@ use Rattle.mt_path.specs.declared.rows.Found.{Found}
 use Rattle.mt_path.specs.Handles.{handle_in}
 use Rattle.mt_path.specs.Paths.{slot_for, span_at, path_in, row_on}
 
+-- a node of this number and kind, and the first and the last index that it covers
+abbrev pub row_at : ℕ → RowKind → ℕ → ℕ → Row
+row_at number kind min max = record { number = number; kind = kind; min = min; max = max }
+
 -- the node of this kind that a span names
 abbrev pub row_as : Span → RowKind → Row
 row_as x kind = record { number = row_in x.word; kind = kind; min = x.first; max = x.last }

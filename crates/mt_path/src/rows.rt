@@ -1,14 +1,14 @@
 //! The nodes on the way to an index: what names them, and where in a node the index is.
 
-ghost use Rattle.std.specs.Prelude.{◌≡◌, ◌+◌, ◌-◌, ◌<◌, ◌≤◌, ◌↔◌, ℕ, length, Some, IsNone, IsSome, IfSome};
+ghost use Rattle.std.specs.Prelude.{◌≡◌, ◌+◌, ◌<◌, ◌≤◌, ◌↔◌, ℕ, length, Some, IsNone, IsSome, IfSome};
 ghost use Rattle.mt_base.specs.declared.kinds.Kind.{Kind};
 ghost use Rattle.mt_base.specs.Width.{greatest};
 ghost use Rattle.mt_layout.specs.Rows.{named_kind};
 ghost use Rattle.mt_layout.specs.Sizes.{slots_of};
 ghost use Rattle.mt_rows.specs.Publish.{IsTreeOf};
 ghost use Rattle.mt_rows.specs.Sheet.{IsPlace, ReadsUpTo, loaded};
-ghost use Rattle.mt_path.specs.Middles.{IsLawfulRow, IsPassed};
-ghost use Rattle.mt_path.specs.Paths.{loads_at, slot_for, span_at};
+ghost use Rattle.mt_path.specs.Middles.{IsLawfulRow};
+ghost use Rattle.mt_path.specs.Paths.{loads_at, span_at};
 ghost use Rattle.mt_path.specs.Walks.{row_for, spans_of, found_span, IsFoundSlot, IsOnWay};
 
 use crate::paths::PathStep;
@@ -125,20 +125,17 @@ fn last_in<R: Rows>(rows: &mut R, width: Width, row: Row, slot: u32) -> u64
     }
 }
 
-/// The slot of a node that holds an index: the first whose pivot is not below it. The search starts at a slot that begins at
-/// `first`. No pivot before that slot is loaded, and none after the one that is found.
-fn find_from<R: Rows>(rows: &mut R, row: Row, index: u64, from: u32, first: u64) -> Found
+/// The slot of a node that holds an index: the first whose pivot is not below it. No later pivot is loaded. The branches are
+/// predicted well if a walk has come to the slot before, or to the next.
+pub(crate) fn find_along<R: Rows>(rows: &mut R, row: Row, index: u64) -> Found
     requires row { IsPlace (R.sheet rows.old).tree row.number 0 }
     requires index { index ≤ row.max }
-    requires from { from < slots_of (R.sheet rows.old).tree.table.width row.kind }
-    requires passed { IsPassed (R.sheet rows.old).tree.table row index from first }
     ensures found { IsFoundSlot (R.sheet rows.old).tree.table row index result }
-    ensures reads { ReadsUpTo (result.step.slot + 1 - from) (R.sheet rows.old) (R.sheet rows.new) }
-    ensures behind { from ≤ result.step.slot }
+    ensures reads { ReadsUpTo (result.step.slot + 1) (R.sheet rows.old) (R.sheet rows.new) }
 {
     let last_slot = slots(rows.width(), row.kind) - 1;
-    let mut first = first;
-    for slot in from..last_slot {
+    let mut first = row.min;
+    for slot in 0..last_slot {
         let pivot = rows.load(row.number, 1 + slot);
         if index <= pivot {
             return found_in(row, slot, first, pivot);
@@ -146,17 +143,6 @@ fn find_from<R: Rows>(rows: &mut R, row: Row, index: u64, from: u32, first: u64)
         first = pivot + 1;
     }
     found_in(row, last_slot, first, row.max)
-}
-
-/// The slot of a node that holds an index: the first whose pivot is not below it. No later pivot is loaded. The branches are
-/// predicted well if a walk has come to the slot before, or to the next.
-pub(crate) fn find_along<R: Rows>(rows: &mut R, row: Row, index: u64) -> Found
-    requires row { IsPlace (R.sheet rows.old).tree row.number 0 }
-    requires index { index ≤ row.max }
-    ensures found { IsFoundSlot (R.sheet rows.old).tree.table row index result }
-    ensures reads { ReadsUpTo (loads_at result.step) (R.sheet rows.old) (R.sheet rows.new) }
-{
-    find_from(rows, row, index, 0, row.min)
 }
 
 /// The slot of a node that holds an index: the first whose pivot is not below it. It is found by groups of slots, with no

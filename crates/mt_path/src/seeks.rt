@@ -4,8 +4,9 @@ ghost use Rattle.std.specs.Prelude.{◌≡◌, ◌<◌, ◌≤◌, IfSome, None}
 ghost use Rattle.mt_base.specs.Width.{columns};
 ghost use Rattle.mt_base.specs.declared.widths.Width.TheVariants.{Long};
 ghost use Rattle.mt_layout.specs.Sizes.{slots_of};
+ghost use Rattle.mt_layout.specs.declared.names.RowKind.{RowKind};
 ghost use Rattle.mt_rows.specs.Sheet.{IsPlace, ReadsUpTo, loaded};
-ghost use Rattle.mt_path.specs.Middles.{IsLawfulRow};
+ghost use Rattle.mt_path.specs.Middles.{IsLawfulRow, IsSlotFor};
 ghost use Rattle.mt_path.specs.Paths.{slot_for};
 ghost use Rattle.mt_path.specs.Walks.{spans_of};
 
@@ -32,83 +33,71 @@ pub fn under(pivot: u64, index: u64) -> u32
 /// The slot of a node of 16 slots that holds an index, by six loads and no branch. Three pivots determine the four slots that
 /// may hold it, and the three pivots between those determine which.
 #[inline(always)]
-fn seek_wide<R: Rows>(rows: &mut R, row: Row, index: u64) -> u32
-    requires row { IsPlace (R.sheet rows.old).tree row.number 0 }
-    requires slots { slots_of (R.sheet rows.old).tree.table.width row.kind ≡ 16 }
-    requires lawful { IsLawfulRow (R.sheet rows.old).tree.table row }
-    requires index { index ≤ row.max }
-    ensures slot { result ≡ slot_for (spans_of (R.sheet rows.old).tree.table row) index }
+fn seek_wide<R: Rows>(rows: &mut R, number: u32, index: u64) -> u32
+    requires row { IsPlace (R.sheet rows.old).tree number 0 }
+    ensures slot { (kind : RowKind) → slots_of (R.sheet rows.old).tree.table.width kind ≡ 16 → IsSlotFor (R.sheet rows.old).tree.table number kind index result }
     ensures reads { ReadsUpTo 6 (R.sheet rows.old) (R.sheet rows.new) }
 {
-    let fourth = rows.load(row.number, 4);
-    let eighth = rows.load(row.number, 8);
-    let twelfth = rows.load(row.number, 12);
+    let fourth = rows.load(number, 4);
+    let eighth = rows.load(number, 8);
+    let twelfth = rows.load(number, 12);
     let group = 4 * (under(fourth, index) + under(eighth, index) + under(twelfth, index));
-    let first = rows.load(row.number, 1 + group);
-    let second = rows.load(row.number, 2 + group);
-    let third = rows.load(row.number, 3 + group);
+    let first = rows.load(number, 1 + group);
+    let second = rows.load(number, 2 + group);
+    let third = rows.load(number, 3 + group);
     group + (first < index) as u32 + under(second, index) + under(third, index)
 }
 
 /// The slot of a node of 10 slots that holds an index, by five loads.
 #[inline(always)]
-fn seek_gapped<R: Rows>(rows: &mut R, row: Row, index: u64) -> u32
-    requires row { IsPlace (R.sheet rows.old).tree row.number 0 }
-    requires slots { slots_of (R.sheet rows.old).tree.table.width row.kind ≡ 10 }
-    requires lawful { IsLawfulRow (R.sheet rows.old).tree.table row }
-    requires index { index ≤ row.max }
-    ensures slot { result ≡ slot_for (spans_of (R.sheet rows.old).tree.table row) index }
+fn seek_gapped<R: Rows>(rows: &mut R, number: u32, index: u64) -> u32
+    requires row { IsPlace (R.sheet rows.old).tree number 0 }
+    ensures slot { (kind : RowKind) → slots_of (R.sheet rows.old).tree.table.width kind ≡ 10 → IsSlotFor (R.sheet rows.old).tree.table number kind index result }
     ensures reads { ReadsUpTo 5 (R.sheet rows.old) (R.sheet rows.new) }
 {
-    let third_on = rows.load(row.number, 3);
-    let sixth_on = rows.load(row.number, 6);
+    let third_on = rows.load(number, 3);
+    let sixth_on = rows.load(number, 6);
     let group = 3 * (under(third_on, index) + under(sixth_on, index));
-    let first = rows.load(row.number, 1 + group);
-    let second = rows.load(row.number, 2 + group);
-    let third = rows.load(row.number, 3 + group);
+    let first = rows.load(number, 1 + group);
+    let second = rows.load(number, 2 + group);
+    let third = rows.load(number, 3 + group);
     group + (first < index) as u32 + under(second, index) + under(third, index)
 }
 
 /// The slot of a node of 32 slots that holds an index, by seven loads in three rounds: eight slots, four of them, and one.
 #[inline(always)]
-fn seek_narrow<R: Rows>(rows: &mut R, row: Row, index: u64) -> u32
-    requires row { IsPlace (R.sheet rows.old).tree row.number 0 }
-    requires slots { slots_of (R.sheet rows.old).tree.table.width row.kind ≡ 32 }
-    requires lawful { IsLawfulRow (R.sheet rows.old).tree.table row }
-    requires index { index ≤ row.max }
-    ensures slot { result ≡ slot_for (spans_of (R.sheet rows.old).tree.table row) index }
+fn seek_narrow<R: Rows>(rows: &mut R, number: u32, index: u64) -> u32
+    requires row { IsPlace (R.sheet rows.old).tree number 0 }
+    ensures slot { (kind : RowKind) → slots_of (R.sheet rows.old).tree.table.width kind ≡ 32 → IsSlotFor (R.sheet rows.old).tree.table number kind index result }
     ensures reads { ReadsUpTo 7 (R.sheet rows.old) (R.sheet rows.new) }
 {
-    let eighth = rows.load(row.number, 8);
-    let sixteenth = rows.load(row.number, 16);
-    let last_eight = rows.load(row.number, 24);
+    let eighth = rows.load(number, 8);
+    let sixteenth = rows.load(number, 16);
+    let last_eight = rows.load(number, 24);
     let eight = 8 * (under(eighth, index) + under(sixteenth, index) + under(last_eight, index));
-    let middle = rows.load(row.number, 4 + eight);
+    let middle = rows.load(number, 4 + eight);
     let group = eight + 4 * under(middle, index);
-    let first = rows.load(row.number, 1 + group);
-    let second = rows.load(row.number, 2 + group);
-    let third = rows.load(row.number, 3 + group);
+    let first = rows.load(number, 1 + group);
+    let second = rows.load(number, 2 + group);
+    let third = rows.load(number, 3 + group);
     group + (first < index) as u32 + under(second, index) + under(third, index)
 }
 
 /// The slot of a node of 21 slots that holds an index, by six loads in three rounds: five slots or six, three of them, and one.
 #[inline(always)]
-fn seek_narrow_gapped<R: Rows>(rows: &mut R, row: Row, index: u64) -> u32
-    requires row { IsPlace (R.sheet rows.old).tree row.number 0 }
-    requires slots { slots_of (R.sheet rows.old).tree.table.width row.kind ≡ 21 }
-    requires lawful { IsLawfulRow (R.sheet rows.old).tree.table row }
-    requires index { index ≤ row.max }
-    ensures slot { result ≡ slot_for (spans_of (R.sheet rows.old).tree.table row) index }
+fn seek_narrow_gapped<R: Rows>(rows: &mut R, number: u32, index: u64) -> u32
+    requires row { IsPlace (R.sheet rows.old).tree number 0 }
+    ensures slot { (kind : RowKind) → slots_of (R.sheet rows.old).tree.table.width kind ≡ 21 → IsSlotFor (R.sheet rows.old).tree.table number kind index result }
     ensures reads { ReadsUpTo 6 (R.sheet rows.old) (R.sheet rows.new) }
 {
-    let fifth = rows.load(row.number, 5);
-    let tenth = rows.load(row.number, 10);
-    let fifteenth = rows.load(row.number, 15);
+    let fifth = rows.load(number, 5);
+    let tenth = rows.load(number, 10);
+    let fifteenth = rows.load(number, 15);
     let five = 5 * (under(fifth, index) + under(tenth, index) + under(fifteenth, index));
-    let middle = rows.load(row.number, 3 + five);
+    let middle = rows.load(number, 3 + five);
     let group = five + 3 * under(middle, index);
-    let first = rows.load(row.number, 1 + group);
-    let second = rows.load(row.number, 2 + group);
+    let first = rows.load(number, 1 + group);
+    let second = rows.load(number, 2 + group);
     group + (first < index) as u32 + under(second, index)
 }
 
@@ -122,21 +111,25 @@ fn touch<R: Rows>(rows: &mut R, row: Row, col: u32) -> bool
     rows.load(row.number, col) == RARE
 }
 
-/// The slot of a node that holds an index.
+/// The slot of a node of this number and kind that holds an index.
 #[inline(always)]
-fn seek_groups<R: Rows>(rows: &mut R, width: Width, row: Row, index: u64) -> u32
+pub(crate) fn seek_groups<R: Rows>(
+    rows: &mut R,
+    width: Width,
+    kind: RowKind,
+    number: u32,
+    index: u64,
+) -> u32
     requires width { width ≡ (R.sheet rows.old).tree.table.width }
-    requires row { IsPlace (R.sheet rows.old).tree row.number 0 }
-    requires lawful { IsLawfulRow (R.sheet rows.old).tree.table row }
-    requires index { index ≤ row.max }
-    ensures slot { result ≡ slot_for (spans_of (R.sheet rows.old).tree.table row) index }
+    requires row { IsPlace (R.sheet rows.old).tree number 0 }
+    ensures slot { IsSlotFor (R.sheet rows.old).tree.table number kind index result }
     ensures reads { ReadsUpTo 7 (R.sheet rows.old) (R.sheet rows.new) }
 {
-    match (width, row.kind) {
-        (Width::Long, RowKind::Leaf | RowKind::Inner) => seek_wide(rows, row, index),
-        (Width::Long, RowKind::Gapped) => seek_gapped(rows, row, index),
-        (Width::Short, RowKind::Leaf | RowKind::Inner) => seek_narrow(rows, row, index),
-        (Width::Short, RowKind::Gapped) => seek_narrow_gapped(rows, row, index),
+    match (width, kind) {
+        (Width::Long, RowKind::Leaf | RowKind::Inner) => seek_wide(rows, number, index),
+        (Width::Long, RowKind::Gapped) => seek_gapped(rows, number, index),
+        (Width::Short, RowKind::Leaf | RowKind::Inner) => seek_narrow(rows, number, index),
+        (Width::Short, RowKind::Gapped) => seek_narrow_gapped(rows, number, index),
     }
 }
 
@@ -151,7 +144,7 @@ fn seek_apart<R: Rows>(rows: &mut R, row: Row, index: u64) -> u32
     ensures reads { ReadsUpTo 7 (R.sheet rows.old) (R.sheet rows.new) }
 {
     let width = rows.width();
-    seek_groups(rows, width, row, index)
+    seek_groups(rows, width, row.kind, row.number, index)
 }
 
 /// The columns of two slots of a node of this width and kind, which are in different cache lines.
@@ -228,5 +221,5 @@ pub(crate) fn seek<R: Rows>(rows: &mut R, width: Width, row: Row, index: u64) ->
     if touch_lines(rows, width, row) {
         return seek_apart(rows, row, index);
     }
-    seek_groups(rows, width, row, index)
+    seek_groups(rows, width, row.kind, row.number, index)
 }

@@ -2,6 +2,7 @@ use Rattle.mt_path.proofs.Prelude.{◌≡◌, ◌≢◌, rules, sym, arith, same
 use Rattle.mt_layout.specs.contracts.names.RowKind.{the_type}
 use Rattle.mt_path.proofs.Descents.{may_find, reaches, may_load, has_child, handle_here, not_deepest, passage_ends, passage_goes_on}
 use Rattle.mt_path.proofs.Kept.{width_kept}
+use Rattle.mt_path.proofs.Loads.{along_reads}
 use Rattle.mt_path.proofs.handles.walk_far.Goals as goal
 
 pub load_found-span-requires-clause-width : goal.load_found-span-requires-clause-width
@@ -9,7 +10,7 @@ load_found-span-requires-clause-width g c =
     let s = g.R.Rows.sheet c.args.rows.now in
     let s₁ = g.R.Rows.sheet c.loop.rows in
     let found = c.find_along-found in
-    width_kept _ s₁ (g.R.Rows.sheet found.new.rows) c.width-width.result found.ensures.reads (width_kept _ s s₁ c.width-width.result c.loop.invariant.reads c.width-width.ensures)
+    width_kept _ s₁ (g.R.Rows.sheet found.new.rows) c.width-width.result (along_reads found.result.step (g.R.Rows.sheet c.loop.rows) (g.R.Rows.sheet found.new.rows) found.ensures.reads) (width_kept _ s s₁ c.width-width.result c.loop.invariant.reads c.width-width.ensures)
 
 pub find_along-found-requires-clause-row : goal.find_along-found-requires-clause-row
 find_along-found-requires-clause-row g c =
@@ -26,7 +27,7 @@ load_found-span-requires-clause-row g c =
     let before = c.loop.invariant in
     let found = c.find_along-found in
     may_load (g.R.Rows.sheet c.args.rows.now) (g.R.Rows.sheet c.loop.rows) c.requires.tree.0 c.requires.tree.1 c.args.index c.requires.index _ before.reads _ c.loop.row before.way
-    found.result found.ensures.found (g.R.Rows.sheet found.new.rows) found.ensures.reads
+    found.result found.ensures.found (g.R.Rows.sheet found.new.rows) (along_reads found.result.step (g.R.Rows.sheet c.loop.rows) (g.R.Rows.sheet found.new.rows) found.ensures.reads)
 
 pub returns-then-eq-clause-some : goal.returns-then-eq-clause-some
 returns-then-eq-clause-some g c =
@@ -34,7 +35,7 @@ returns-then-eq-clause-some g c =
     let found = c.find_along-found in
     let leaf : c.loop.row.kind ≡ Leaf = same_true the_type (search rules) c.loop.row.kind Leaf (sym c.if-eq.ensures) in
     handle_here (g.R.Rows.sheet c.args.rows.now) (g.R.Rows.sheet c.loop.rows) c.requires.tree.0 c.requires.tree.1 c.args.index c.requires.index _ before.reads _ c.loop.row before.way
-    found.result found.ensures.found (g.R.Rows.sheet found.new.rows) found.ensures.reads
+    found.result found.ensures.found (g.R.Rows.sheet found.new.rows) (along_reads found.result.step (g.R.Rows.sheet c.loop.rows) (g.R.Rows.sheet found.new.rows) found.ensures.reads)
     c.load_found-span.result c.load_found-span.ensures.span (g.R.Rows.sheet c.load_found-span.new.rows) c.load_found-span.ensures.rest leaf
 
 pub returns-then-eq-clause-reads : goal.returns-then-eq-clause-reads
@@ -42,7 +43,7 @@ returns-then-eq-clause-reads g c =
     let found = c.find_along-found in
     let leaf : c.loop.row.kind ≡ Leaf = same_true the_type (search rules) c.loop.row.kind Leaf (sym c.if-eq.ensures) in
     passage_ends (g.R.Rows.sheet c.args.rows.now) (g.R.Rows.sheet c.loop.rows) c.requires.tree.0 c.requires.tree.1 c.args.index c.requires.index c.loop.counter c.loop.row c.loop.invariant
-    found.result found.ensures.found (g.R.Rows.sheet found.new.rows) found.ensures.reads
+    found.result found.ensures.found (g.R.Rows.sheet found.new.rows) (along_reads found.result.step (g.R.Rows.sheet c.loop.rows) (g.R.Rows.sheet found.new.rows) found.ensures.reads)
     c.load_found-span.result c.load_found-span.ensures.span (g.R.Rows.sheet c.load_found-span.new.rows) c.load_found-span.ensures.rest leaf
 
 pub child_for-row-requires : goal.child_for-row-requires
@@ -51,7 +52,7 @@ child_for-row-requires g c =
     let found = c.find_along-found in
     let other : c.loop.row.kind ≢ Leaf = search rules in
     has_child (g.R.Rows.sheet c.args.rows.now) (g.R.Rows.sheet c.loop.rows) c.requires.tree.0 c.requires.tree.1 c.args.index c.requires.index _ before.reads _ c.loop.row before.way
-    found.result found.ensures.found (g.R.Rows.sheet found.new.rows) found.ensures.reads
+    found.result found.ensures.found (g.R.Rows.sheet found.new.rows) (along_reads found.result.step (g.R.Rows.sheet c.loop.rows) (g.R.Rows.sheet found.new.rows) found.ensures.reads)
     c.load_found-span.result c.load_found-span.ensures.span (g.R.Rows.sheet c.load_found-span.new.rows) c.load_found-span.ensures.rest other
 
 pub loop-preserved : goal.loop-preserved
@@ -59,7 +60,7 @@ loop-preserved g c =
     let found = c.find_along-found in
     let other : c.loop.row.kind ≢ Leaf = search rules in
     passage_goes_on (g.R.Rows.sheet c.args.rows.now) (g.R.Rows.sheet c.loop.rows) c.requires.tree.0 c.requires.tree.1 c.args.index c.requires.index c.loop.counter c.loop.row c.loop.invariant
-    found.result found.ensures.found (g.R.Rows.sheet found.new.rows) found.ensures.reads
+    found.result found.ensures.found (g.R.Rows.sheet found.new.rows) (along_reads found.result.step (g.R.Rows.sheet c.loop.rows) (g.R.Rows.sheet found.new.rows) found.ensures.reads)
     c.load_found-span.result c.load_found-span.ensures.span (g.R.Rows.sheet c.load_found-span.new.rows) c.load_found-span.ensures.rest other c.child_for-row.result c.child_for-row.ensures
 
 pub unreachable-requires : goal.unreachable-requires

@@ -21,11 +21,6 @@ seek_groups-requires-clause-row g c =
     let s = g.R.Rows.sheet c.args.rows.now in let s₁ = g.R.Rows.sheet c.touch_lines.new.rows in
     subst (λ (t : Rooted). IsPlace t c.args.row.number 0) (sym (tree_kept 4 s s₁ c.touch_lines.ensures)) c.requires.row
 
-pub seek_groups-requires-clause-lawful : goal.seek_groups-requires-clause-lawful
-seek_groups-requires-clause-lawful g c =
-    let s = g.R.Rows.sheet c.args.rows.now in let s₁ = g.R.Rows.sheet c.touch_lines.new.rows in
-    subst (λ (t : Rooted). IsLawfulRow t.table c.args.row) (sym (tree_kept 4 s s₁ c.touch_lines.ensures)) c.requires.lawful
-
 pub returns-then-touch_lines-clause-slot : goal.returns-then-touch_lines-clause-slot
 returns-then-touch_lines-clause-slot g c =
     let s = g.R.Rows.sheet c.args.rows.now in let s₁ = g.R.Rows.sheet c.touch_lines.new.rows in
@@ -39,7 +34,9 @@ returns-then-touch_lines-clause-reads g c =
 pub returns-clause-slot : goal.returns-clause-slot
 returns-clause-slot g c =
     let s = g.R.Rows.sheet c.args.rows.now in let s₁ = g.R.Rows.sheet c.touch_lines.new.rows in
-    c.seek_groups.ensures.slot ∙ ap (λ (t : Rooted). slot_for (spans_of t.table c.args.row) c.args.index) (tree_kept 4 s s₁ c.touch_lines.ensures)
+    let kept = tree_kept 4 s s₁ c.touch_lines.ensures in
+    let lawful = subst (λ (t : Rooted). IsLawfulRow t.table c.args.row) (sym kept) c.requires.lawful in
+    c.seek_groups.ensures.slot c.args.row.min c.args.row.max lawful c.requires.index ∙ ap (λ (t : Rooted). slot_for (spans_of t.table c.args.row) c.args.index) kept
 
 pub returns-clause-reads : goal.returns-clause-reads
 returns-clause-reads g c =

@@ -1,49 +1,49 @@
 use Rattle.mt_path.proofs.Prelude.{◌≡◌, ◌+◌, ◌-◌, ◌*◌, ◌≤◌, refl, arith, nat_lt, lt-ltb, le-ltb}
 use Rattle.mt_path.proofs.Kept.{word_kept}
 use Rattle.mt_path.proofs.Loads.{one_read, reads_next}
-use Rattle.mt_path.proofs.Groups.{sought, here, here_fits, tells, tells_first, group_of_five, half_of_five, within_three}
+use Rattle.mt_path.proofs.Groups.{row_at, sought, here, here_fits, tells, tells_first, group_of_five, half_of_five, within_three}
 use Rattle.mt_path.proofs.seeks.seek_narrow_gapped.Goals as goal
 
 pub returns-clause-slot : goal.returns-clause-slot
-returns-clause-slot g c =
+returns-clause-slot g c kind slots min max lawful within =
     let s = g.R.Rows.sheet c.args.rows.now in
     let t = s.tree.table in
-    let row = c.args.row in
-    let law = sought t row c.requires.lawful in
-    let wide = c.requires.slots in
-    let fits = here_fits t row law c.args.index c.requires.index in
+    let row = row_at c.args.number kind min max in
+    let law = sought t row lawful in
+    let wide = slots in
+    let fits = here_fits t row law c.args.index within in
     let s₁ = g.R.Rows.sheet c.load-fifth.new.self in
     let r₁ = one_read s s₁ c.load-fifth.ensures.rest in
     let w₁ = c.load-fifth.ensures.word in
-    let b₁ = tells t row law c.args.index c.requires.index (5) c.load-fifth.result c.under.result (omega arith) (omega arith) w₁ c.under.ensures.one c.under.ensures.unused c.under.ensures.past in
+    let b₁ = tells t row law c.args.index within (5) c.load-fifth.result c.under.result (omega arith) (omega arith) w₁ c.under.ensures.one c.under.ensures.unused c.under.ensures.past in
     let s₂ = g.R.Rows.sheet c.load-tenth.new.self in
     let w₂ = word_kept 1 s s₁ row.number (10) c.load-tenth.result r₁ c.load-tenth.ensures.word in
     let r₂ = reads_next 1 s s₁ s₂ r₁ c.load-tenth.ensures.rest in
-    let b₂ = tells t row law c.args.index c.requires.index (10) c.load-tenth.result c.under-2.result (omega arith) (omega arith) w₂ c.under-2.ensures.one c.under-2.ensures.unused c.under-2.ensures.past in
+    let b₂ = tells t row law c.args.index within (10) c.load-tenth.result c.under-2.result (omega arith) (omega arith) w₂ c.under-2.ensures.one c.under-2.ensures.unused c.under-2.ensures.past in
     let s₃ = g.R.Rows.sheet c.load-fifteenth.new.self in
     let w₃ = word_kept 2 s s₂ row.number (15) c.load-fifteenth.result r₂ c.load-fifteenth.ensures.word in
     let r₃ = reads_next 2 s s₂ s₃ r₂ c.load-fifteenth.ensures.rest in
-    let b₃ = tells t row law c.args.index c.requires.index (15) c.load-fifteenth.result c.under-3.result (omega arith) (omega arith) w₃ c.under-3.ensures.one c.under-3.ensures.unused c.under-3.ensures.past in
+    let b₃ = tells t row law c.args.index within (15) c.load-fifteenth.result c.under-3.result (omega arith) (omega arith) w₃ c.under-3.ensures.one c.under-3.ensures.unused c.under-3.ensures.past in
     let five = 5 * (c.under.result + c.under-2.result + c.under-3.result) in
-    let g_five = group_of_five (here t row law c.args.index c.requires.index) c.under.result c.under-2.result c.under-3.result (omega arith) b₁ b₂ b₃ in
-    let low : five ≤ (here t row law c.args.index c.requires.index) = g_five.0 in
+    let g_five = group_of_five (here t row law c.args.index within) c.under.result c.under-2.result c.under-3.result (omega arith) b₁ b₂ b₃ in
+    let low : five ≤ (here t row law c.args.index within) = g_five.0 in
     let high = g_five.1 in
     let top = g_five.2 in
     let s₄ = g.R.Rows.sheet c.load-middle.new.self in
     let w₄ = word_kept 3 s s₃ row.number (3 + five) c.load-middle.result r₃ c.load-middle.ensures.word in
     let r₄ = reads_next 3 s s₃ s₄ r₃ c.load-middle.ensures.rest in
-    let b₄ = tells t row law c.args.index c.requires.index (3 + five) c.load-middle.result c.under-4.result (omega arith) (omega arith) w₄ c.under-4.ensures.one c.under-4.ensures.unused c.under-4.ensures.past in
+    let b₄ = tells t row law c.args.index within (3 + five) c.load-middle.result c.under-4.result (omega arith) (omega arith) w₄ c.under-4.ensures.one c.under-4.ensures.unused c.under-4.ensures.past in
     let group = five + 3 * c.under-4.result in
-    let g_group = half_of_five (here t row law c.args.index c.requires.index) five c.under-4.result low high b₄ in
-    let low : group ≤ (here t row law c.args.index c.requires.index) = g_group.0 in
+    let g_group = half_of_five (here t row law c.args.index within) five c.under-4.result low high b₄ in
+    let low : group ≤ (here t row law c.args.index within) = g_group.0 in
     let high = g_group.1 in
     let one = g_group.2 in
     let s₅ = g.R.Rows.sheet c.load-first.new.self in
     let w₅ = word_kept 4 s s₄ row.number (1 + group) c.load-first.result r₄ c.load-first.ensures.word in
     let r₅ = reads_next 4 s s₄ s₅ r₄ c.load-first.ensures.rest in
-    let b₅ : mir.Val.bool_byte (nat_lt c.load-first.result c.args.index) ≡ 1 - (1 + group - here t row law c.args.index c.requires.index) = tells_first t row law c.args.index c.requires.index group c.load-first.result _ low (omega arith) w₅
+    let b₅ : mir.Val.bool_byte (nat_lt c.load-first.result c.args.index) ≡ 1 - (1 + group - here t row law c.args.index within) = tells_first t row law c.args.index within group c.load-first.result _ low (omega arith) w₅
     (λ less. (let test = lt-ltb c.load-first.result c.args.index less in rw test refl)) (λ more. (let test = le-ltb c.load-first.result c.args.index more in rw test refl)) in
     let s₆ = g.R.Rows.sheet c.load-second.new.self in
     let w₆ = word_kept 5 s s₅ row.number (2 + group) c.load-second.result r₅ c.load-second.ensures.word in
-    let b₆ = tells t row law c.args.index c.requires.index (2 + group) c.load-second.result c.under-5.result (omega arith) (omega arith) w₆ c.under-5.ensures.one c.under-5.ensures.unused c.under-5.ensures.past in
-    within_three (here t row law c.args.index c.requires.index) group _ c.under-5.result low high b₅ b₆
+    let b₆ = tells t row law c.args.index within (2 + group) c.load-second.result c.under-5.result (omega arith) (omega arith) w₆ c.under-5.ensures.one c.under-5.ensures.unused c.under-5.ensures.past in
+    within_three (here t row law c.args.index within) group _ c.under-5.result low high b₅ b₆
