@@ -1,18 +1,15 @@
 -- The rows of windows buried along one walk each.
-use Rattle.mt_splice.proofs.Prelude.{[], ◌≡◌, ℕ, ◌+◌, ◌-◌, ◌<◌, ◌≤◌, List, ◌∷◌, ◌++◌, length, map, refl, sym, ap, ◌∙◌, subst, ⊎_elim, arith, Bool, true, false, ◌↔◌, OnTrue, cases_lt, map-append, Kind, Width, greatest, Book, after_retire, Span, row_in, fills_le, PathStep, path_in, step_at, step_in, levels, step, place, some_root, some_tree, Tree, Stands, top_of, IsTreeOf, tree_as, Rooted, Sheet, OnlyReads, after_bury, Window, MayBeBuried, MayBeBuriedInTurn, numbers_between, numbers_in, numbers_in_all, IsWindowOn, IsStretchOn, AreWindowsOn, between, row_at, low_of, high_of, rows_at}
+use Rattle.mt_splice.proofs.Prelude.{[], ◌≡◌, ℕ, ◌+◌, ◌-◌, ◌<◌, ◌≤◌, List, ◌∷◌, ◌++◌, length, map, refl, sym, ap, ◌∙◌, subst, ⊎_elim, arith, inl, inr, is_some, Some, cases_lt, map-append, Kind, Width, greatest, Book, after_retire, RowKind, Span, row_in, named_kind, fills_le, PathStep, path_in, step_at, step_in, levels, step, place, Tree, Stands, top_of, top_row, IsTreeOf, tree_as, Rooted, Sheet, OnlyReads, same_tree, reads_on, after_bury, Window, MayBeBuried, MayBeBuriedInTurn, numbers_between, numbers_in, numbers_in_all, Child, IsWindowOn, IsSlotOfChild, IsChildOn, IsStretchOn, LeadsTo, AreWindowsOn, span_on, between, row_at, low_of, high_of, rows_at}
+use Rattle.std.specs.Prelude.{IsSome}
+use Rattle.mt_path.proofs.Ways.{root_named, row_on_top}
 use Rattle.mt_splice.proofs.Burials.{AreBuried, may_front, may_then, may_later, reads_buried, one_buried, more_buried}
+use Rattle.mt_splice.proofs.Children.{standing_at, may_load_child, number_of_child, end_of_child}
 use Rattle.mt_splice.proofs.KeptTrees.{SameTree, buried_tree, same_kind}
 use Rattle.mt_splice.proofs.Windows.{begins_behind, ends_ahead}
 use Rattle.mt_splice.proofs.WindowRows.{sides_same, same_between, one_between, first_between, last_between, split_between, head_between, ends_by, next_between}
 
 abbrev number_of : Span → ℕ
 number_of x = row_in x.word
-
--- a tree with a path that reaches so deep stands, and is as high
-standing_at : {t : Rooted} {kind : Kind} → IsTreeOf t kind → (i depth : ℕ) → i ≤ greatest t.table.width → depth < length (path_in t.table t.root i) → (h : ℕ) × Stands (tree_as kind t) h × (depth ≤ h)
-standing_at {t} {kind} tree i depth within deep =
-    let found = some_tree (tree_as kind t) tree.words (some_root t i depth deep) in
-    (found.0, found.1, (let long = levels (tree_as kind t) found.0 found.1 i within in omega (arith, deep)))
 
 -- ---- a window by its steps
 
@@ -117,6 +114,18 @@ module _ {t : Rooted} (kind : Kind) (h : ℕ) (stands : Stands (tree_as kind t) 
       ∙ (ap (λ (l : List ℕ). number_of x ∷ l) (map-append number_of (between (high_of T depth i) (low_of T depth j - 1) rows) (y ∷ []))
       ∙ (λ m. sym first_row_is m ∷ (map number_of (between (sym first_max_is m + 1) (sym last_min_is m - 1) rows) ++ (sym last_row_is m ∷ [])))))
 
+  -- so the level is not the root's
+  pub below_root : w.first.max + 1 < w.last.min → 0 < depth
+  below_root many = elim (cases_lt 0 depth) [
+    | inl below ↦ below
+    | inr none ↦
+        let root : depth ≡ 0 = omega (arith, none) in
+        let first = first_max_is in
+        let ends : x.last ≡ top_of T = ap (λ (d : ℕ). (row_at T d i).last) root ∙ ap (λ (z : Span). z.last) (row_on_top t.table (top_row T) i) in
+        let last = last_min_is in let held = y_holds in let within = on.within in
+        absurd (omega (arith, many, first, ends, last, held.0, within))
+  ]
+
   pub between_is_stretch : w.first.max + 1 < w.last.min → IsStretchOn t depth (w.first.max + 1) (w.last.min - 1)
   between_is_stretch many =
       let first = first_max_is in let last = last_min_is in let other = y_holds in let end = y_ends in
@@ -218,6 +227,10 @@ module _ {s : Sheet} {book : Book} {depth number : ℕ} {w : Window} {kind : Kin
       all : MayBeBuriedInTurn s book (w.first.row ∷ (mid ++ (w.last.row ∷ []))) number
       all = may_as (w.first.row ∷ (mid ++ (w.last.row ∷ []))) (more_in kind stand.0 stand.1 depth stand.2 on many)
 
+      -- on the root's level there is one row
+      pub window_below : 0 < depth
+      window_below = below_root kind stand.0 stand.1 depth stand.2 on many
+
       pub window_stretch : IsStretchOn s₁.tree depth (w.first.max + 1) (w.last.min - 1)
       window_stretch = stretch_stays same_then (between_is_stretch kind stand.0 stand.1 depth stand.2 on many)
 
@@ -267,24 +280,20 @@ module _ {s : Sheet} {book : Book} {depth number : ℕ} {w : Window} (above : Li
     pub all_windows : {s₂ : Sheet} {book₂ : Book} → AreBuried s₁ s₂ book₁ book₂ (numbers_in_all s₁.tree (depth - 1) above) number → AreBuried s s₂ book book₂ (numbers_in_all s.tree depth (w ∷ above)) number
     all_windows {s₂} {book₂} rest = more_buried (numbers_in s.tree depth w) (numbers_in_all s.tree (depth - 1) above) done (subst (λ (l : List ℕ). AreBuried s₁ s₂ book₁ book₂ l number) numbers_above rest)
 
--- a step to the right that has somewhere to go leads there
-pub far_leads : {n top : ℕ} {P : Type 0} (goes : Bool) → n < top → (goes ≡ false) ↔ (n ≡ top) → OnTrue goes P → P
-far_leads true less none some = some
-far_leads false less none some = let last = none.0 refl in absurd (omega arith)
-
 -- ---- a stretch
 
--- the rows from the one that begins at `a` up to the step's are buried, and the way leads to that
-pub record IsStretchSoFar (s s' : Sheet) (book book' : Book) (depth a b number : ℕ) (way : List PathStep) (step : PathStep) : Type 0 where
+-- the rows from the one that begins at `a` up to this one are buried, and the way leads to the row above it
+pub record IsStretchSoFar (s s' : Sheet) (book book' : Book) (depth a b number : ℕ) (way : List PathStep) (child : Child) : Type 0 where
   pub index : ℕ
   pub first : a ≤ index
   pub within : index ≤ greatest s.tree.table.width
-  pub way_is : way ≡ path_in s.tree.table s.tree.root index
-  pub step_is : step ≡ step_at way depth
-  pub order : step.max ≤ b
-  pub buried : AreBuried s s' book book' (numbers_between s.tree depth a step.max) number
+  pub leads : LeadsTo s.tree (depth - 1) way child.above
+  pub above : child.above ≡ step_at (path_in s.tree.table s.tree.root index) (depth - 1)
+  pub last : child.last ≡ (step_at (path_in s.tree.table s.tree.root index) depth).max
+  pub order : child.last ≤ b
+  pub buried : AreBuried s s' book book' (numbers_between s.tree depth a child.last) number
 
-module _ {s : Sheet} {book : Book} {depth a b number : ℕ} {kind : Kind} (tree : IsTreeOf s.tree kind) (on : IsStretchOn s.tree depth a b) (may : MayBeBuriedInTurn s book (numbers_between s.tree depth a b) number) where
+module _ {s : Sheet} {book : Book} {depth a b number : ℕ} {kind : Kind} (tree : IsTreeOf s.tree kind) (below : 0 < depth) (on : IsStretchOn s.tree depth a b) (may : MayBeBuriedInTurn s book (numbers_between s.tree depth a b) number) where
   a_within : a ≤ greatest s.tree.table.width
   a_within = let order = on.order in let within = on.within in omega arith
 
@@ -297,8 +306,18 @@ module _ {s : Sheet} {book : Book} {depth a b number : ℕ} {kind : Kind} (tree 
   at_step : (i : ℕ) → i ≤ greatest s.tree.table.width → step_at (path_in s.tree.table s.tree.root i) depth ≡ step_in s.tree.table (row_at t depth i) i
   at_step i within = step t deep.0 deep.1 i depth within deep.2
 
-  pub way_deep : {way : List PathStep} (i : ℕ) → i ≤ greatest s.tree.table.width → way ≡ path_in s.tree.table s.tree.root i → depth < length way
-  way_deep i within is = let long = ap length is ∙ levels t deep.0 deep.1 i within in let low = deep.2 in omega arith
+  path_deep : (i : ℕ) → i ≤ greatest s.tree.table.width → depth < length (path_in s.tree.table s.tree.root i)
+  path_deep i within = let long = levels t deep.0 deep.1 i within in let low = deep.2 in omega (arith, long, low)
+
+  pub first_deep : {way : List PathStep} → way ≡ path_in s.tree.table s.tree.root a → depth - 1 < length way
+  first_deep is = let long = ap length is in let low = path_deep a a_within in omega (arith, long, low)
+
+  -- the root is a row
+  pub root_is_row : {s₁ : Sheet} → OnlyReads s s₁ → IsSome (named_kind s₁.tree.root)
+  root_is_row {s₁} reads = ap (λ (r : Rooted). is_some (named_kind r.root)) (same_tree s s₁ reads) ∙ ap is_some (root_named t deep.0 deep.1)
+
+  pub root_kind : {s₁ : Sheet} {r : RowKind} → OnlyReads s s₁ → Some r ≡ named_kind s₁.tree.root → Some r ≡ named_kind s.tree.root
+  root_kind {s₁} reads root = root ∙ ap (λ (x : Rooted). named_kind x.root) (same_tree s s₁ reads)
 
   b_ends : (row_at t depth b).last ≡ b
   b_ends = sym (ap (λ (z : PathStep). z.max) (at_step b on.within)) ∙ on.ends
@@ -307,126 +326,186 @@ module _ {s : Sheet} {book : Book} {depth a b number : ℕ} {kind : Kind} (tree 
   rows_head : (i : ℕ) → i ≤ b → (rest : List ℕ) × (numbers_between s.tree depth i b ≡ number_of (row_at t depth i) ∷ rest)
   rows_head i low = let head = head_between t deep.0 deep.1 i b depth low on.within deep.2 in (map number_of head.0, ap (map number_of) head.1)
 
-  pub stretch_first_may : {s₁ : Sheet} {way : List PathStep} {step : PathStep} → OnlyReads s s₁ → way ≡ path_in s.tree.table s.tree.root a → step ≡ step_at way depth → MayBeBuried s₁ book step.row number
-  stretch_first_may {s₁} {way} {step} reads way_is is =
-      let head = rows_head a on.order in
-      let row : step.row ≡ number_of (row_at t depth a) = ap (λ (z : PathStep). z.row) (is ∙ (ap (λ (l : List PathStep). step_at l depth) way_is ∙ at_step a a_within)) in
-      subst (λ (n : ℕ). MayBeBuried s₁ book n number) (sym row) (may_then reads (subst (λ (l : List ℕ). MayBeBuriedInTurn s book l number) head.1 may)).each.0
+  module _ {s₁ s₂ : Sheet} {way : List PathStep} {above : PathStep} {r : RowKind} (walked : OnlyReads s s₁) (way_is : way ≡ path_in s.tree.table s.tree.root a) (asked : OnlyReads s₁ s₂) (root : Some r ≡ named_kind s₁.tree.root)
+      (is : above ≡ step_at way (depth - 1)) where
+    above_is : above ≡ step_at (path_in s.tree.table s.tree.root a) (depth - 1)
+    above_is = is ∙ ap (λ (l : List PathStep). step_at l (depth - 1)) way_is
 
-  pub stretch_first : {s₁ s₂ : Sheet} {book₂ : Book} {way : List PathStep} {step : PathStep} → OnlyReads s s₁ → way ≡ path_in s.tree.table s.tree.root a → step ≡ step_at way depth → s₂ ≡ after_bury s₁ step.row → book₂ ≡ after_retire book step.row number
-      → IsStretchSoFar s s₂ book book₂ depth a b number way step
-  stretch_first {s₁} {s₂} {book₂} {way} {step} reads way_is is sheet_is book_is =
-      let there = is ∙ (ap (λ (l : List PathStep). step_at l depth) way_is ∙ at_step a a_within) in
-      let max = ap (λ (z : PathStep). z.max) there in
-      let at = place t deep.0 deep.1 a depth a_within deep.2 in let from = at.from in let to = at.to in
-      let end = fills_le (high_of t depth a) (top_of t + 1) at.back at.after in
-      let sides = sides_same t deep.0 deep.1 a (row_at t depth a).last depth a_within deep.2 (omega arith) (omega arith) in
-      let rows : numbers_between s.tree depth a step.max ≡ step.row ∷ [] =
-      ap (numbers_between s.tree depth a) max
-      ∙ (ap (map number_of) (same_between t deep.0 deep.1 a a a (row_at t depth a).last depth (omega arith) a_within deep.2 (omega arith) (omega arith) refl sides.2 ∙ one_between t deep.0 deep.1 a depth a_within deep.2)
-      ∙ ap (λ (z : PathStep). z.row ∷ []) (sym there)) in
-      record {
-        index = a;
-        first = omega arith;
-        within = a_within;
-        way_is = way_is;
-        step_is = is;
-        order = let ends = ends_by t deep.0 deep.1 a b depth on.order on.within deep.2 b_ends in omega arith;
-        buried = subst (λ (l : List ℕ). AreBuried s s₂ book book₂ l number) (sym rows) (more_buried [] (step.row ∷ []) (reads_buried reads) (one_buried sheet_is book_is));
-      }
+    root_here : Some r ≡ named_kind s.tree.root
+    root_here = root_kind walked root
 
-  module _ {s₁ : Sheet} {book₁ : Book} {way : List PathStep} {st : PathStep} (far : IsStretchSoFar s s₁ book book₁ depth a b number way st) where
+    reads_so_far : OnlyReads s s₂
+    reads_so_far = reads_on s s₁ s₂ walked asked
+
+    pub first_may_load : IsSlotOfChild s₂.tree r above
+    first_may_load = may_load_child s tree a_within on.deep below r root_here above above_is reads_so_far
+
+    module _ {s₃ : Sheet} {child : Child} (loaded : OnlyReads s₂ s₃) (step_is : child.above ≡ above) (row_is : child.row ≡ row_in (span_on s₂.tree.table r above).word) (last_is : child.last ≡ (span_on s₂.tree.table r above).last) where
+      there : step_at (path_in s.tree.table s.tree.root a) depth ≡ step_in s.tree.table (row_at t depth a) a
+      there = at_step a a_within
+
+      row : child.row ≡ number_of (row_at t depth a)
+      row = row_is ∙ (number_of_child s tree a_within on.deep below r root_here above above_is reads_so_far ∙ ap (λ (z : PathStep). z.row) there)
+
+      last_at : child.last ≡ (step_at (path_in s.tree.table s.tree.root a) depth).max
+      last_at = last_is ∙ end_of_child s tree a_within on.deep below r root_here above above_is reads_so_far
+
+      pub first_may : MayBeBuried s₃ book child.row number
+      first_may =
+          let head = rows_head a on.order in
+          subst (λ (n : ℕ). MayBeBuried s₃ book n number) (sym row) (may_then (reads_on s s₂ s₃ reads_so_far loaded) (subst (λ (l : List ℕ). MayBeBuriedInTurn s book l number) head.1 may)).each.0
+
+      pub first_so_far : {s₄ : Sheet} {book₄ : Book} → s₄ ≡ after_bury s₃ child.row → book₄ ≡ after_retire book child.row number → IsStretchSoFar s s₄ book book₄ depth a b number way child
+      first_so_far {s₄} {book₄} sheet_is book_is =
+          let max = last_at ∙ ap (λ (z : PathStep). z.max) there in
+          let at = place t deep.0 deep.1 a depth a_within deep.2 in let from = at.from in let to = at.to in
+          let end = fills_le (high_of t depth a) (top_of t + 1) at.back at.after in
+          let sides = sides_same t deep.0 deep.1 a (row_at t depth a).last depth a_within deep.2 (omega arith) (omega arith) in
+          let rows : numbers_between s.tree depth a child.last ≡ child.row ∷ [] =
+          ap (numbers_between s.tree depth a) max
+          ∙ (ap (map number_of) (same_between t deep.0 deep.1 a a a (row_at t depth a).last depth (omega arith) a_within deep.2 (omega arith) (omega arith) refl sides.2 ∙ one_between t deep.0 deep.1 a depth a_within deep.2)
+          ∙ ap (λ (n : ℕ). n ∷ []) (sym row)) in
+          record {
+            index = a;
+            first = omega arith;
+            within = a_within;
+            leads = record { index = a; within = a_within; way_is = way_is; ends = sym (ap (λ (z : PathStep). z.max) (step_is ∙ is)) };
+            above = step_is ∙ above_is;
+            last = last_at;
+            order = (let ends = ends_by t deep.0 deep.1 a b depth on.order on.within deep.2 b_ends in omega (arith, ends, max));
+            buried = subst (λ (l : List ℕ). AreBuried s s₄ book book₄ l number) (sym rows) (more_buried [] (child.row ∷ []) (reads_buried (reads_on s s₂ s₃ reads_so_far loaded)) (one_buried sheet_is book_is));
+          }
+
+  module _ {s₁ : Sheet} {book₁ : Book} {way : List PathStep} {c : Child} (far : IsStretchSoFar s s₁ book book₁ depth a b number way c) where
     same_far : SameTree kind deep.0 s.tree s₁.tree
     same_far = tree_then deep.1 far.buried
 
     pub far_tree : IsTreeOf s₁.tree kind
     far_tree = same_kind same_far tree
 
-    pub far_path : (i : ℕ) × (i ≤ greatest s₁.tree.table.width) × (way ≡ path_in s₁.tree.table s₁.tree.root i)
-    far_path = (far.index, subst (λ (v : Width). far.index ≤ greatest v) (sym same_far.width) far.within, far.way_is ∙ sym (path_same same_far far.index far.within))
+    path_far : (i : ℕ) → i ≤ greatest s.tree.table.width → path_in s.tree.table s.tree.root i ≡ path_in s₁.tree.table s₁.tree.root i
+    path_far i within = sym (path_same same_far i within)
 
-    pub far_deep : depth < length way
-    far_deep = way_deep far.index far.within far.way_is
+    within_far : (i : ℕ) → i ≤ greatest s.tree.table.width → i ≤ greatest s₁.tree.table.width
+    within_far i within = subst (λ (v : Width). i ≤ greatest v) (sym same_far.width) within
+
+    pub far_leads : LeadsTo s₁.tree (depth - 1) way c.above
+    far_leads = record {
+      index = far.leads.index;
+      within = within_far far.leads.index far.leads.within;
+      way_is = far.leads.way_is ∙ path_far far.leads.index far.leads.within;
+      ends = far.leads.ends;
+    }
+
+    deep_as : depth - 1 + 1 ≡ depth
+    deep_as = omega (arith, below)
+
+    pub far_child : IsChildOn s₁.tree (depth - 1) c
+    far_child = record {
+      index = far.index;
+      within = within_far far.index far.within;
+      deep = (let low = path_deep far.index far.within in let long = ap length (path_far far.index far.within) in omega (arith, below, low, long));
+      above = far.above ∙ ap (λ (l : List PathStep). step_at l (depth - 1)) (path_far far.index far.within);
+      last = far.last ∙ (λ m. (step_at (path_far far.index far.within m) (sym deep_as m)).max);
+    }
+
+    pub far_less : c.last < b → c.last < greatest s₁.tree.table.width
+    far_less more = subst (λ (v : Width). c.last < greatest v) (sym same_far.width) (let within = on.within in omega arith)
 
     abbrev z : Span
     z = row_at t depth far.index
 
-    step_there : st ≡ step_in s.tree.table z far.index
-    step_there = far.step_is ∙ (ap (λ (l : List PathStep). step_at l depth) far.way_is ∙ at_step far.index far.within)
+    last_there : c.last ≡ z.last
+    last_there = far.last ∙ ap (λ (p : PathStep). p.max) (at_step far.index far.within)
 
-    max_there : st.max ≡ z.last
-    max_there = ap (λ (p : PathStep). p.max) step_there
-
-    pub far_less : st.max < b → (step_at way depth).max < greatest s₁.tree.table.width
-    far_less more = subst (λ (v : Width). (step_at way depth).max < greatest v) (sym same_far.width) (let same = ap (λ (p : PathStep). p.max) far.step_is in let within = on.within in omega arith)
-
-    -- the step to the right goes, and leads to the next row
-    pub next_deep : st.max < b → {way' : List PathStep} → way' ≡ path_in s₁.tree.table s₁.tree.root ((step_at way depth).max + 1) → depth < length way'
-    next_deep more leads =
-        let same = ap (λ (p : PathStep). p.max) far.step_is in let within = on.within in
-        let inside : (step_at way depth).max + 1 ≤ greatest s.tree.table.width = omega arith in
-        way_deep ((step_at way depth).max + 1) inside (leads ∙ path_same same_far ((step_at way depth).max + 1) inside)
-
-    module _ (more : st.max < b) {s₂ : Sheet} {way' : List PathStep} {st' : PathStep} (reads : OnlyReads s₁ s₂) (leads : way' ≡ path_in s₁.tree.table s₁.tree.root ((step_at way depth).max + 1)) (is : st' ≡ step_at way' depth) where
+    -- the next row
+    module _ (more : c.last < b) {s₂ : Sheet} {way' : List PathStep} {above : PathStep} {r : RowKind} (root : Some r ≡ named_kind s.tree.root) (reads : OnlyReads s₁ s₂)
+        (is : above ≡ step_at (path_in s₁.tree.table s₁.tree.root (c.last + 1)) (depth - 1)) (leads : LeadsTo s₁.tree (depth - 1) way' above) where
       abbrev n : ℕ
       n = high_of t depth far.index
 
-      n_is : (step_at way depth).max + 1 ≡ n
-      n_is = let same = ap (λ (p : PathStep). p.max) far.step_is in let max = max_there in omega arith
+      n_is : c.last + 1 ≡ n
+      n_is = ap (λ (m : ℕ). m + 1) last_there
 
       n_low : n ≤ b
-      n_low = let max = max_there in omega arith
+      n_low = let max = last_there in omega arith
 
       n_within : n ≤ greatest s.tree.table.width
       n_within = let low = n_low in let within = on.within in omega arith
 
-      way_there : way' ≡ path_in s.tree.table s.tree.root n
-      way_there = leads ∙ (ap (path_in s₁.tree.table s₁.tree.root) n_is ∙ path_same same_far n n_within)
+      path_next : path_in s₁.tree.table s₁.tree.root (c.last + 1) ≡ path_in s.tree.table s.tree.root n
+      path_next = ap (path_in s₁.tree.table s₁.tree.root) n_is ∙ sym (path_far n n_within)
 
-      next_there : st' ≡ step_in s.tree.table (row_at t depth n) n
-      next_there = is ∙ (ap (λ (l : List PathStep). step_at l depth) way_there ∙ at_step n n_within)
+      inside : c.last + 1 ≤ greatest s₁.tree.table.width
+      inside = within_far (c.last + 1) (let within = on.within in omega arith)
 
-      z_holds : far.index ≤ z.last
-      z_holds = (place t deep.0 deep.1 far.index depth far.within deep.2).to
+      deep_next : depth < length (path_in s₁.tree.table s₁.tree.root (c.last + 1))
+      deep_next = let long = ap length path_next in let low = path_deep n n_within in omega (arith, long, low)
 
-      -- the rows up to the step, the next one, and the rest
-      rows_split : (rest : List ℕ) × (numbers_between s.tree depth a b ≡ numbers_between s.tree depth a st.max ++ (st'.row ∷ rest))
-      rows_split =
-          let head = rows_head n n_low in
-          let at = place t deep.0 deep.1 far.index depth far.within deep.2 in let from = at.from in let to = at.to in
-          let end = fills_le n (top_of t + 1) at.back at.after in let first = far.first in
-          let sides = sides_same t deep.0 deep.1 far.index z.last depth far.within deep.2 (omega arith) (omega arith) in
-          let up_to : between a far.index (rows_at t depth) ≡ between a st.max (rows_at t depth) =
-          sym (ap (λ (m : ℕ). between a m (rows_at t depth)) max_there ∙ same_between t deep.0 deep.1 a far.index a z.last depth far.first far.within deep.2 (omega arith) (omega arith) refl sides.2) in (
-            head.0,
-            ap (map number_of) (split_between t deep.0 deep.1 far.index b depth far.within on.within deep.2 n_low a far.first)
-                ∙ (map-append number_of (between a far.index (rows_at t depth)) (between n b (rows_at t depth))
-                ∙ (λ m. map number_of (up_to m) ++ (head.1 ∙ ap (λ (p : PathStep). p.row ∷ head.0) (sym next_there)) m)),
-          )
+      root_far : Some r ≡ named_kind s₁.tree.root
+      root_far = root ∙ (root_named t deep.0 deep.1 ∙ sym (root_named (tree_as kind s₁.tree) deep.0 same_far.stands))
 
-      pub stretch_next_may : MayBeBuried s₂ book₁ st'.row number
-      stretch_next_may = (may_then reads (may_later (numbers_between s.tree depth a st.max) (st'.row ∷ rows_split.0) (subst (λ (l : List ℕ). MayBeBuriedInTurn s book l number) rows_split.1 may) far.buried)).each.0
+      pub next_may_load : IsSlotOfChild s₂.tree r above
+      next_may_load = may_load_child s₁ far_tree inside deep_next below r root_far above is reads
 
-      pub stretch_later : st.max < st'.max
-      stretch_later =
-          let max = max_there in let max' = ap (λ (p : PathStep). p.max) next_there in
-          let to = (place t deep.0 deep.1 n depth n_within deep.2).to in omega arith
+      module _ {s₃ : Sheet} {c' : Child} (loaded : OnlyReads s₂ s₃) (step_is : c'.above ≡ above) (row_is : c'.row ≡ row_in (span_on s₂.tree.table r above).word) (last_is : c'.last ≡ (span_on s₂.tree.table r above).last) where
+        next_there : step_at (path_in s₁.tree.table s₁.tree.root (c.last + 1)) depth ≡ step_in s.tree.table (row_at t depth n) n
+        next_there = ap (λ (l : List PathStep). step_at l depth) path_next ∙ at_step n n_within
 
-      pub stretch_next : {s₃ : Sheet} {book₃ : Book} → s₃ ≡ after_bury s₂ st'.row → book₃ ≡ after_retire book₁ st'.row number → IsStretchSoFar s s₃ book book₃ depth a b number way' st'
-      stretch_next {s₃} {book₃} sheet_is book_is =
-          let max' = ap (λ (p : PathStep). p.max) next_there in let first = far.first in let holds = z_holds in
-          let rows : numbers_between s.tree depth a st'.max ≡ numbers_between s.tree depth a st.max ++ (st'.row ∷ []) =
-          ap (numbers_between s.tree depth a) max'
-          ∙ (ap (map number_of) (next_between t deep.0 deep.1 a far.index depth far.first far.within deep.2 n_within)
-          ∙ (map-append number_of (between a z.last (rows_at t depth)) (row_at t depth n ∷ [])
-          ∙ (λ m. map number_of (between a (sym max_there m) (rows_at t depth)) ++ ((sym next_there m).row ∷ [])))) in
-          record {
-            index = n;
-            first = omega arith;
-            within = n_within;
-            way_is = way_there;
-            step_is = is;
-            order = let ends = ends_by t deep.0 deep.1 n b depth n_low on.within deep.2 b_ends in omega arith;
-            buried = subst (λ (l : List ℕ). AreBuried s s₃ book book₃ l number) (sym rows)
-                (more_buried (numbers_between s.tree depth a st.max) (st'.row ∷ []) far.buried (more_buried [] (st'.row ∷ []) (reads_buried reads) (one_buried sheet_is book_is)));
-          }
+        next_row : c'.row ≡ number_of (row_at t depth n)
+        next_row = row_is ∙ (number_of_child s₁ far_tree inside deep_next below r root_far above is reads ∙ ap (λ (p : PathStep). p.row) next_there)
+
+        next_last : c'.last ≡ (row_at t depth n).last
+        next_last = last_is ∙ (end_of_child s₁ far_tree inside deep_next below r root_far above is reads ∙ ap (λ (p : PathStep). p.max) next_there)
+
+        reads_then : OnlyReads s₁ s₃
+        reads_then = reads_on s₁ s₂ s₃ reads loaded
+
+        z_holds : far.index ≤ z.last
+        z_holds = (place t deep.0 deep.1 far.index depth far.within deep.2).to
+
+        -- the rows up to the last, the next one, and the rest
+        rows_split : (rest : List ℕ) × (numbers_between s.tree depth a b ≡ numbers_between s.tree depth a c.last ++ (c'.row ∷ rest))
+        rows_split =
+            let head = rows_head n n_low in
+            let at = place t deep.0 deep.1 far.index depth far.within deep.2 in let from = at.from in let to = at.to in
+            let end = fills_le n (top_of t + 1) at.back at.after in let first = far.first in
+            let sides = sides_same t deep.0 deep.1 far.index z.last depth far.within deep.2 (omega arith) (omega arith) in
+            let up_to : between a far.index (rows_at t depth) ≡ between a c.last (rows_at t depth) =
+            sym (ap (λ (m : ℕ). between a m (rows_at t depth)) last_there ∙ same_between t deep.0 deep.1 a far.index a z.last depth far.first far.within deep.2 (omega arith) (omega arith) refl sides.2) in (
+              head.0,
+              ap (map number_of) (split_between t deep.0 deep.1 far.index b depth far.within on.within deep.2 n_low a far.first)
+                  ∙ (map-append number_of (between a far.index (rows_at t depth)) (between n b (rows_at t depth))
+                  ∙ (λ m. map number_of (up_to m) ++ (head.1 ∙ ap (λ (k : ℕ). k ∷ head.0) (sym next_row)) m)),
+            )
+
+        pub next_may : MayBeBuried s₃ book₁ c'.row number
+        next_may = (may_then reads_then (may_later (numbers_between s.tree depth a c.last) (c'.row ∷ rows_split.0) (subst (λ (l : List ℕ). MayBeBuriedInTurn s book l number) rows_split.1 may) far.buried)).each.0
+
+        pub next_later : c.last < c'.last
+        next_later = let max = last_there in let max' = next_last in let to = (place t deep.0 deep.1 n depth n_within deep.2).to in omega arith
+
+        pub next_so_far : {s₄ : Sheet} {book₄ : Book} → s₄ ≡ after_bury s₃ c'.row → book₄ ≡ after_retire book₁ c'.row number → IsStretchSoFar s s₄ book book₄ depth a b number way' c'
+        next_so_far {s₄} {book₄} sheet_is book_is =
+            let max' = next_last in let first = far.first in let holds = z_holds in
+            let rows : numbers_between s.tree depth a c'.last ≡ numbers_between s.tree depth a c.last ++ (c'.row ∷ []) =
+            ap (numbers_between s.tree depth a) max'
+            ∙ (ap (map number_of) (next_between t deep.0 deep.1 a far.index depth far.first far.within deep.2 n_within)
+            ∙ (map-append number_of (between a z.last (rows_at t depth)) (row_at t depth n ∷ [])
+            ∙ (λ m. map number_of (between a (sym last_there m) (rows_at t depth)) ++ (sym next_row m ∷ [])))) in
+            record {
+              index = n;
+              first = omega arith;
+              within = n_within;
+              leads = record {
+                index = leads.index;
+                within = subst (λ (v : Width). leads.index ≤ greatest v) same_far.width leads.within;
+                way_is = leads.way_is ∙ path_same same_far leads.index (subst (λ (v : Width). leads.index ≤ greatest v) same_far.width leads.within);
+                ends = leads.ends ∙ sym (ap (λ (p : PathStep). p.max) step_is);
+              };
+              above = step_is ∙ (is ∙ ap (λ (l : List PathStep). step_at l (depth - 1)) path_next);
+              last = next_last ∙ sym (ap (λ (p : PathStep). p.max) (at_step n n_within));
+              order = (let ends = ends_by t deep.0 deep.1 n b depth n_low on.within deep.2 b_ends in omega (arith, ends, max'));
+              buried = subst (λ (l : List ℕ). AreBuried s s₄ book book₄ l number) (sym rows)
+                  (more_buried (numbers_between s.tree depth a c.last) (c'.row ∷ []) far.buried (more_buried [] (c'.row ∷ []) (reads_buried reads_then) (one_buried sheet_is book_is)));
+            }

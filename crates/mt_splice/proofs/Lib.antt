@@ -2,6 +2,7 @@ pub mod Besides
 pub mod BetweenCalls
 pub mod Burials
 pub mod BuryingRows
+pub mod Children
 pub mod ClearOpens
 pub mod Clearing
 pub mod Climbed

@@ -1,7 +1,7 @@
 -- The rows of two paths: where they stand, in which order, and what lies before and behind them one level lower.
-use Rattle.mt_splice.proofs.Prelude.{[], ◌≡◌, ℕ, suc, ◌+◌, ◌<◌, ◌≤◌, List, ◌∷◌, ◌++◌, Option, Some, length, take, drop, refl, sym, ap, ◌∙◌, ⊎_elim, arith, append_assoc, cases_lt, take-append_seam, drop-append-add, RowKind, row_in, named_kind, Span, Fills, fills-append, fills_le, Table, spans_by, spans_in, expand, Tree, Stands, top_of, root_of, expand-append, level_next, one_of_parts, one_place, PathStep, step_in, At, row_of, place, child, rows_at}
+use Rattle.mt_splice.proofs.Prelude.{[], ◌≡◌, ℕ, suc, ◌+◌, ◌<◌, ◌≤◌, List, ◌∷◌, ◌++◌, Option, Some, length, take, drop, refl, sym, ap, ◌∙◌, ⊎_elim, arith, append_assoc, cases_lt, take-append_seam, drop-append-add, RowKind, row_in, named_kind, Span, Fills, fills-append, fills_le, Table, spans_by, spans_in, expand, Tree, Stands, top_of, root_of, expand-append, level_next, one_of_parts, one_place, PathStep, step_in, At, row_of, place, child, rows_at, spans_on}
 use Rattle.mt_splice.proofs.Splits.{split_more}
-use Rattle.mt_splice.proofs.Stretches.{spans_on, IsStretch}
+use Rattle.mt_splice.proofs.Stretches.{IsStretch}
 
 -- of two spans of a list, the one that begins first ends before the other begins
 ends_before : (lo : ℕ) (front back front' back' : List Span) (x y : Span) → front ++ (x ∷ back) ≡ front' ++ (y ∷ back') → Fills lo x.first front → Fills lo y.first front' → y.first < x.first → y.last < x.first

@@ -79,6 +79,7 @@ pub use Rattle.mt_splice.specs.Fewest.{AreFewestOf, FewestBelow, IsCutOf}
 pub use Rattle.mt_splice.specs.Kept.{IsBookOf, IsConsistent, IsUnheld, IsUnpublished}
 pub use Rattle.mt_splice.specs.Prelude.{Apart, Book, Call, Dead, Draft, EndsFull, Fills, GapLaw, Gapped, HasGapsBut, Held, Inner, IsBelow, IsBook, IsFree, IsLawfulOf, IsOut, IsPlace, IsReached, IsRow, IsRowOf, IsSlotAt, IsToldKind, IsTreeOf, IsWhole, Item, KeepsGaps, Kind, Leaf, Levels, Life, Live, LiveAreReached, MayBury, New, NoneBuried, OnlyReads, PathStep, Place, Range, Reply, RiseFrom, Root, Rooted, RowKind, SameColumns, Sheet, Slot, Span, Stands, StandsAt, Table, Tree, Width, acted, after_bury, after_retire, base_of, column, columns, dead_mark, edited, end_of, expand, finds_room, first_row, gaps_of, greatest, height_in, inner_of, is_buried, is_reached, is_row_of, items_at, kind_on, kind_width, last_step, leaf_range, leaf_spans, least_items, least_of, level, life_of, longest_below, longest_hole, map_by, map_of, name_at, named_row, over, parent_at, path_in, reserved, root_of, root_span, row_in, row_words, slot_column, slot_for, slots_of, spans_from, spans_in, starting, step_at, step_in, tally, times, top_of, tree_as, with_joined, with_published, with_record, word_at}
 pub use Rattle.mt_splice.specs.Splice.{HasFewest, HasParents, IsBooked, IsSpliced, MayClear, MayReplace, MaySplice, TellsBelow, TellsGapAt, WasPublishedAt, is_unreached, region_of}
+pub use Rattle.mt_splice.specs.declared.burying.Child.{Child}
 pub use Rattle.mt_splice.specs.declared.climbing.Climb.{Climb}
 pub use Rattle.mt_splice.specs.declared.climbing.Top.{Top}
 pub use Rattle.mt_splice.specs.declared.decisions.Next.{Next}
@@ -86,7 +87,7 @@ pub use Rattle.mt_splice.specs.declared.decisions.Next.TheVariants.{Empty, RootA
 pub use Rattle.mt_splice.specs.declared.drafting.Head.{Head}
 pub use Rattle.mt_splice.specs.declared.ways.Window.{Window}
 pub use Rattle.mt_splice.specs.declared.writes.NewRow.{NewRow}
-pub use Rattle.mt_splice.specs.steps.Burials.{AreWindowsOn, EachInTurn, IsStretchOn, IsWindowOn, MayBeBuried, MayBeBuriedInTurn, after_burials, after_retirals, numbers_between, numbers_in, numbers_in_all, rows_on}
+pub use Rattle.mt_splice.specs.steps.Burials.{AreWindowsOn, EachInTurn, IsChildOn, IsSlotOfChild, IsStretchOn, IsWindowOn, LeadsTo, MayBeBuried, MayBeBuriedInTurn, after_burials, after_retirals, numbers_between, numbers_in, numbers_in_all, rows_on, span_on, spans_on}
 pub use Rattle.mt_splice.specs.steps.Climbing.{EndsAbove, EndsAtRoot, EndsEmpty, EndsInSlot, HasClimbed, IsClimbing, IsLevelDone, IsLevelDrafted, IsNothingLeft, windows_over}
 pub use Rattle.mt_splice.specs.steps.Decisions.{EndsHere, IsNextDecision, IsNothing, item_words}
 pub use Rattle.mt_splice.specs.steps.Drafting.{AreRowsDrafted, AreRowsTaken, IsPieceDrafted, IsRowTaken, MayDraftRows, noted_row, noted_rows}

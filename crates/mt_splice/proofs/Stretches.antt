@@ -1,5 +1,5 @@
 -- Rows next to each other on a level.
-use Rattle.mt_splice.proofs.Prelude.{List, ◌≡◌, ℕ, ◌+◌, ◌++◌, RowKind, Span, Table, row_spans, PathStep, Fills, Tree, top_of, rows_at}
+use Rattle.mt_splice.proofs.Prelude.{List, ◌≡◌, ℕ, ◌+◌, ◌++◌, Span, Fills, Tree, top_of, rows_at}
 
 -- of the rows of a level, those that cover the indexes from lo up to, but without, hi
 pub record IsStretch (t : Tree) (depth lo hi : ℕ) (front old back : List Span) : Type 0 where
@@ -7,7 +7,3 @@ pub record IsStretch (t : Tree) (depth lo hi : ℕ) (front old back : List Span)
   pub before : Fills 0 lo front
   pub here : Fills lo hi old
   pub after : Fills hi (top_of t + 1) back
-
--- what stands in a path's row, which is of this kind
-abbrev pub spans_on : Table → RowKind → PathStep → List Span
-spans_on t kind step = row_spans t step.row kind step.min step.max

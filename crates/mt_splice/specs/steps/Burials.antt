@@ -1,7 +1,11 @@
 -- Nodes buried and retired one after the other: what is done to the nodes and to the book.
 -- Source: the kernel's lib/maple_tree.c, mas_topiary_replace, which marks the nodes that a new subtree replaces.
-use Rattle.std.specs.Prelude.{◌≡◌, ℕ, ◌-◌, ◌<◌, ◌≤◌, List, [], ◌∷◌, ◌++◌, All, length, map}
-use Rattle.mt_splice.specs.Prelude.{greatest, Book, Held, IsOut, after_retire, Span, row_in, path_in, step_at, level, root_span, Rooted, Sheet, MayBury, after_bury}
+use Rattle.std.specs.Prelude.{◌≡◌, ℕ, ◌+◌, ◌-◌, ◌<◌, ◌≤◌, List, [], ◌∷◌, ◌++◌, All, IsSome, length, map}
+use Rattle.mt_layout.specs.Rows.{named_kind}
+use Rattle.mt_path.specs.Paths.{span_at}
+use Rattle.mt_rows.specs.Spans.{row_spans}
+use Rattle.mt_splice.specs.Prelude.{greatest, Book, Held, IsOut, after_retire, RowKind, Span, row_in, slots_of, PathStep, path_in, step_at, level, Table, root_span, Rooted, Sheet, IsPlace, MayBury, after_bury}
+use Rattle.mt_splice.specs.declared.burying.Child.{Child}
 use Rattle.mt_splice.specs.declared.ways.Window.{Window}
 use Rattle.mt_splice.specs.steps.Windows.{between}
 
@@ -68,3 +72,34 @@ pub record IsStretchOn (t : Rooted) (depth first last : ℕ) : Type 0 where
 abbrev pub AreWindowsOn : Rooted → ℕ → List Window → Type 0
 AreWindowsOn t depth [] = Unit {0}
 AreWindowsOn t depth (w ∷ windows) = IsWindowOn t depth w × (length windows ≤ depth) × AreWindowsOn t (depth - 1) windows
+
+-- ---- nodes by the slots of the nodes above them
+
+-- what a node of this kind on a way holds, and what is in the slot that the way takes
+abbrev pub spans_on : Table → RowKind → PathStep → List Span
+spans_on t kind step = row_spans t step.row kind step.min step.max
+
+abbrev pub span_on : Table → RowKind → PathStep → Span
+span_on t kind step = span_at (spans_on t kind step) step.slot
+
+-- the slot is one of a node of this kind, and holds the name of a node
+pub record IsSlotOfChild (t : Rooted) (kind : RowKind) (above : PathStep) : Type 0 where
+  pub place : IsPlace t above.row 0
+  pub used : above.slot < length (spans_on t.table kind above)
+  pub few : length (spans_on t.table kind above) ≤ slots_of t.table.width kind
+  pub named : IsSome (named_kind (span_on t.table kind above).word)
+
+-- the node below this level on the path to an index, and the step above it
+pub record IsChildOn (t : Rooted) (level : ℕ) (child : Child) : Type 0 where
+  pub index : ℕ
+  pub within : index ≤ greatest t.table.width
+  pub deep : level + 1 < length (path_in t.table t.root index)
+  pub above : child.above ≡ step_at (path_in t.table t.root index) level
+  pub last : child.last ≡ (step_at (path_in t.table t.root index) (level + 1)).max
+
+-- a way leads to the node of this step, by whatever slot of it
+pub record LeadsTo (t : Rooted) (level : ℕ) (way : List PathStep) (step : PathStep) : Type 0 where
+  pub index : ℕ
+  pub within : index ≤ greatest t.table.width
+  pub way_is : way ≡ path_in t.table t.root index
+  pub ends : (step_at way level).max ≡ step.max

@@ -1,5 +1,5 @@
 use Rattle.mt_splice.proofs.Burials.{as_done, buried}
-use Rattle.mt_splice.proofs.BuryingRows.{window_first_may, window_one, window_two_may, window_two, window_tree, window_stretch, window_mid_may, window_last_may, window_all}
+use Rattle.mt_splice.proofs.BuryingRows.{window_first_may, window_one, window_two_may, window_two, window_tree, window_below, window_stretch, window_mid_may, window_last_may, window_all}
 use Rattle.mt_splice.proofs.burying.bury_window.Goals as goal
 
 pub bury_row-requires : goal.bury_row-requires
@@ -16,6 +16,9 @@ returns-then-to-from g c = as_done (window_two c.requires.tree.1 c.requires.wind
 
 pub bury_stretch-requires-clause-tree : goal.bury_stretch-requires-clause-tree
 bury_stretch-requires-clause-tree g c = (c.requires.tree.0, window_tree c.requires.tree.1 c.requires.window c.requires.may c.bury_row.ensures.rows c.bury_row.ensures.book)
+
+pub bury_stretch-requires-clause-below : goal.bury_stretch-requires-clause-below
+bury_stretch-requires-clause-below g c = window_below c.requires.tree.1 c.requires.window c.requires.may c.bury_row.ensures.rows c.bury_row.ensures.book c.if-to-from.false
 
 pub bury_stretch-requires-clause-stretch : goal.bury_stretch-requires-clause-stretch
 bury_stretch-requires-clause-stretch g c = window_stretch c.requires.tree.1 c.requires.window c.requires.may c.bury_row.ensures.rows c.bury_row.ensures.book c.if-to-from.false
