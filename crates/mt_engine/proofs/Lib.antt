@@ -1,5 +1,6 @@
 pub mod AfterSplice
 pub mod Answering
+pub mod Batching
 pub mod Finding
 pub mod FirstWay
 pub mod FreshEngine

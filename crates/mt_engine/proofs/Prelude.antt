@@ -76,6 +76,8 @@ pub use Rattle.mt_splice.proofs.Widens.{two_least}
 pub use Rattle.mt_splice.specs.Kept.{IsBookOf, IsUnheld}
 pub use Rattle.mt_splice.specs.Splice.{IsSpliced, MayClear, MayReplace, TellsBelow, TellsGapAt, WasPublishedAt}
 pub use Rattle.mt_engine.specs.Areas.{allocation, search, start_to}
+pub use Rattle.mt_engine.specs.Batches.{Stepped, entries_at, entry_or_zero, found_then, put_first}
+unfoldable pub use Rattle.mt_engine.specs.Batches.{steps_from}
 pub use Rattle.mt_engine.specs.Engine.{ChangesEntry, DidOrLacked, EndsAnswered, IsApplied, IsCarriedOut, IsEnded, IsEngineState, IsIdle, IsInCall, IsShortFor, OnlySearches, OnlySought, Parts, Replaces, StoresExactly, TellsBook, TookRows, is_refusal, most_searched}
 pub use Rattle.mt_engine.specs.Heights.{HasHeight, IsMeasured, SameHeight, is_root}
 pub use Rattle.mt_engine.specs.Here.{IsHereAt, IsHereIf}

@@ -146,9 +146,10 @@ pub record OnlySought (s s' : Sheet) (book book' : Book) : Type 0 where
   pub same_book : book' ≡ book
   pub reads : RoseUpTo (most_searched s.tree) s.reads s'.reads
 
--- A load of an index in the tree makes no more loads than the way to it takes.
-abbrev pub LoadsItsWay : ℕ → Sheet → Sheet → Type 0
-LoadsItsWay index s s' = index ≤ greatest s.tree.table.width → ReadsUpTo (loads_on (path_in s.tree.table s.tree.root index)) s s'
+-- A load of an index in the tree makes no more loads than the way to it takes. One of an index above the tree makes none.
+pub record LoadsItsWay (index : ℕ) (s s' : Sheet) : Type 0 where
+  pub within : index ≤ greatest s.tree.table.width → ReadsUpTo (loads_on (path_in s.tree.table s.tree.root index)) s s'
+  pub above : greatest s.tree.table.width < index → s' ≡ s
 
 -- the words with another entry in the slot in which an index stands
 abbrev pub with_entry_at : Rooted → ℕ → ℕ → Rooted

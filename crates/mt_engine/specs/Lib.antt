@@ -1,4 +1,5 @@
 pub mod Areas
+pub mod Batches
 pub mod Engine
 pub mod Heights
 pub mod Here

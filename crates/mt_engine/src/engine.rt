@@ -1,14 +1,15 @@
 //! A tree on one thread.
 
-ghost use Rattle.std.specs.Prelude.{◌≡◌, ◌↔◌, ◌+◌, ◌-◌, ◌*◌, ◌^◌, ◌<◌, ◌≤◌, Some, IsTrue, IsOk, IfOk, IfErr, IfSome, OnOk, OnErr, option_map};
+ghost use Rattle.std.specs.Prelude.{◌≡◌, ◌↔◌, ◌+◌, ◌-◌, ◌*◌, ◌^◌, ◌<◌, ◌≤◌, Some, IsTrue, IsOk, IfOk, IfErr, IfSome, OnOk, OnErr, length, min, option_map, take};
 ghost use Rattle.mt_base.specs.declared.calls.Call.TheVariants.{StorePre};
 ghost use Rattle.mt_base.specs.declared.calls.Query.TheVariants.{Load};
 ghost use Rattle.mt_base.specs.Call.{answer};
 ghost use Rattle.mt_base.specs.Nodes.{IsMade, one_call_more};
 ghost use Rattle.mt_base.specs.Width.{greatest};
-ghost use Rattle.mt_rows.specs.Publish.{map_by};
+ghost use Rattle.mt_rows.specs.Publish.{IsLawfulOf, map_by};
 ghost use Rattle.mt_rows.specs.Sheet.{OnlyReads, ReadsUpTo, limits_of};
 ghost use Rattle.mt_rows.specs.Trees.{height_in};
+ghost use Rattle.mt_engine.specs.Batches.{entries_at, put_first, steps_from};
 ghost use Rattle.mt_engine.specs.Engine.{IsIdle, IsApplied, LoadsItsWay};
 ghost use Rattle.mt_engine.specs.Heights.{HasHeight};
 ghost use Rattle.mt_engine.specs.Prepared.{IsPrestored};
@@ -19,7 +20,7 @@ use crate::heights::height_of;
 use crate::prepared::store_prepared;
 use crate::range_walk::{RangeWalk, next_range, walk_from};
 use crate::rooms::{has_room, make_room};
-use crate::{calls, lists, queries};
+use crate::{batches, calls, lists, queries};
 use mt_base::{Call, Kind, NoMemory, Query, Range, Reply, Shortage};
 use mt_free::RowBook;
 use mt_list::Ranges;
@@ -88,6 +89,13 @@ impl<R: Rows> Engine<R> {
         ensures { HasHeight self.now.sheet.tree result }
     {
         self.height
+    }
+
+    /// Its words are well-formed for a tree of its kind. This does nothing.
+    pub fn lawful(&self)
+        ensures { IsLawfulOf self.now.sheet.tree self.now.kind }
+    {
+        let _height = self.height;
     }
 
     /// The nodes and the book, from which an engine of the same kind can be made again.
@@ -175,6 +183,33 @@ impl<R: Rows> Engine<R> {
         ensures kind { self.new.kind ≡ self.old.kind }
     {
         queries::entry_at(&mut self.rows, index)
+    }
+
+    /// Puts the entries at these indexes into the places, as many as there are places for, and returns how many: 0 if an index
+    /// lies in a hole. The other places are unchanged.
+    pub fn load_many(&mut self, indexes: &[u64], entries: &mut [u64]) -> usize
+        ensures entries { entries.new ≡ put_first (entries_at (map_by self.old.sheet.tree) (take (length entries.old) indexes.now)) entries.old }
+        ensures count { result ≡ min (length indexes.now) (length entries.old) }
+        ensures rest { OnlyReads self.old.sheet self.new.sheet }
+        ensures book { self.new.book ≡ self.old.book }
+        ensures kind { self.new.kind ≡ self.old.kind }
+    {
+        batches::load_many(&mut self.rows, indexes, entries)
+    }
+
+    /// Puts what one call of `next_range` for each place finds, and returns how many ranges these are: fewer only if the map
+    /// has no more, and then the walk has ended. The other places are unchanged. With no place the walk stays.
+    pub fn step_many(&mut self, walk: &mut RangeWalk, ranges: &mut [Range]) -> usize
+        requires { WalksFrom self.old.sheet.tree walk.old }
+        ensures ranges { ranges.new ≡ put_first (steps_from (map_by self.old.sheet.tree) (greatest self.old.sheet.tree.table.width) (length ranges.old) walk.old.next).found ranges.old }
+        ensures count { result ≡ length (steps_from (map_by self.old.sheet.tree) (greatest self.old.sheet.tree.table.width) (length ranges.old) walk.old.next).found }
+        ensures next { walk.new.next ≡ (steps_from (map_by self.old.sheet.tree) (greatest self.old.sheet.tree.table.width) (length ranges.old) walk.old.next).next }
+        ensures walk { WalksFrom self.new.sheet.tree walk.new }
+        ensures rest { OnlyReads self.old.sheet self.new.sheet }
+        ensures book { self.new.book ≡ self.old.book }
+        ensures kind { self.new.kind ≡ self.old.kind }
+    {
+        batches::step_many(&mut self.rows, walk, ranges)
     }
 
     /// A walk over the ranges from an index on. There is none if the index is above the greatest one. It loads nothing.

@@ -2,6 +2,7 @@
 #![tactic(auto)]
 
 mod areas;
+mod batches;
 mod calls;
 mod engine;
 mod heights;

@@ -90,7 +90,9 @@ fn index_behind(width: Width, given: &Handle) -> Option<u64>
 }
 
 /// The first range at the walk's index or above; the walk then goes on after it. A slot of a leaf is loaded once, and a leaf is
-/// walked to once. A range in the leaf of the walk is found by the loads of two slots.
+/// walked to once. A range in the leaf of the walk is found by the loads of two slots. It is inlined into its callers, so that
+/// a walk stays in registers.
+#[inline(always)]
 pub fn next_range<R: Rows>(rows: &mut R, walk: &mut RangeWalk) -> Option<Range>
     requires tree { (kind : Kind) × IsTreeOf (R.sheet rows.old).tree kind }
     requires walk { WalksFrom (R.sheet rows.old).tree walk.old }
