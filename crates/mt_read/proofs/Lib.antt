@@ -9,6 +9,8 @@ pub mod Keeping
 pub mod Leaving
 pub mod LastAnswers
 pub mod Preceding
+pub mod BatchLaws
+pub mod Batching
 pub mod MapAnswers
 pub mod Reading
 pub mod NextAnswers

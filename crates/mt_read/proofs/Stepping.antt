@@ -35,34 +35,36 @@ module _ (t : Identity) (q q₁ q₂ q₃ : PassPart) (lo hi : ℕ) (epoch : Opt
   begun_low : q.begun ≤ hi
   begun_low = let same : q₂.begun ≡ q.begun = ap (λ (z : PassPart). z.begun) (middle epoch standing resumed) in let low = begun.before in omega arith
 
-  pub read_step : (query : Query) (value : Option Range) (k : ℕ) → length q₁.seen ≤ k → k ≤ length q₂.seen → value ≡ answer (moment_seen q₂ k).ranges query → known.IsSound (tree_in t) (known_by q₃)
-      → (k : ℕ) × known.Read (tree_in t) (known_by q) lo hi k query value (known_by q₃)
-  read_step query value k low high is sound =
+  pub step_at : (k : ℕ) (query : Query) (value : Option Range) → length q₁.seen ≤ k → k ≤ length q₂.seen → value ≡ answer (moment_seen q₂ k).ranges query → known.IsSound (tree_in t) (known_by q₃)
+      → known.Read (tree_in t) (known_by q) lo hi k query value (known_by q₃)
+  step_at k query value low high is sound =
       let most = resumed.most in let least = resumed.least in let top = begun.seen in
       let first = begins_long q.seen q₁.seen resumed.seen in
       let long = length-map q.seen record_of in let long₂ = length-map q₂.seen record_of in
-      let shape : q₂.shape ≡ t.shape = ap (λ (z : PassPart). z.shape) (middle epoch standing resumed) ∙ of in (
-        k,
-        subst (λ (z : PassPart). known.Read (tree_in t) (known_by q) lo hi k query value (known_by z)) (sym is_after) (record {
-          grows = record {
-            number = refl;
-            seen = begins_records q.seen q₂.seen seen_all;
-            mine = refl;
-            opened = opened_more epoch q.opened lo;
-            begun = begun_low;
-            ended = resumed.before;
-          };
-          true = record {
-            from = omega arith;
-            to = omega arith;
-            made = omega arith;
-            answered = is ∙ ap (λ (s : Shape). answer (map_at (tree_of s q₂.seen) k) query) shape;
-          };
+      let shape : q₂.shape ≡ t.shape = ap (λ (z : PassPart). z.shape) (middle epoch standing resumed) ∙ of in
+      subst (λ (z : PassPart). known.Read (tree_in t) (known_by q) lo hi k query value (known_by z)) (sym is_after) (record {
+        grows = record {
+          number = refl;
+          seen = begins_records q.seen q₂.seen seen_all;
+          mine = refl;
+          opened = opened_more epoch q.opened lo;
+          begun = begun_low;
+          ended = resumed.before;
+        };
+        true = record {
           from = omega arith;
-          floor = omega arith;
-          before = resumed.before;
-          lo_known = omega arith;
-          hi_known = omega arith;
-          sound = subst (λ (z : PassPart). known.IsSound (tree_in t) (known_by z)) is_after sound;
-        }),
-      )
+          to = omega arith;
+          made = omega arith;
+          answered = is ∙ ap (λ (s : Shape). answer (map_at (tree_of s q₂.seen) k) query) shape;
+        };
+        from = omega arith;
+        floor = omega arith;
+        before = resumed.before;
+        lo_known = omega arith;
+        hi_known = omega arith;
+        sound = subst (λ (z : PassPart). known.IsSound (tree_in t) (known_by z)) is_after sound;
+      })
+
+  pub read_step : (query : Query) (value : Option Range) (k : ℕ) → length q₁.seen ≤ k → k ≤ length q₂.seen → value ≡ answer (moment_seen q₂ k).ranges query → known.IsSound (tree_in t) (known_by q₃)
+      → (k : ℕ) × known.Read (tree_in t) (known_by q) lo hi k query value (known_by q₃)
+  read_step query value k low high is sound = (k, step_at k query value low high is sound)

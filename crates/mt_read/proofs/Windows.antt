@@ -74,33 +74,34 @@ module _ (t : Identity) (q q₁ q₂ q₃ : PassPart) (lo hi : ℕ) (of : q.shap
         window = (omega arith, omega arith);
       }
 
-  pub read_by : (query : Query) (value : Option Range) → Answers q₂ (length q₁.seen) query value → known.IsSound (tree_in t) (known_by q₃) → (k : ℕ) × known.Read (tree_in t) (known_by q) lo hi k query value (known_by q₃)
-  read_by query value a sound =
-      let most = began.most in let least = began.least in let low = a.low in let high = a.high in let top = ended.seen in
+  pub read_at : (k : ℕ) (query : Query) (value : Option Range) → length q₁.seen ≤ k → k ≤ length q₂.seen → value ≡ answer (moment_seen q₂ k).ranges query → known.IsSound (tree_in t) (known_by q₃) → known.Read (tree_in t) (known_by q) lo hi k query value (known_by q₃)
+  read_at k query value low high is sound =
+      let most = began.most in let least = began.least in let top = ended.seen in
       let first = begins_long q.seen q₁.seen began.seen in
       let long = length-map q.seen record_of in let long₂ = length-map q₂.seen record_of in
-      let shape : q₂.shape ≡ t.shape = ap (λ (z : PassPart). z.shape) middle ∙ of in (
-        a.k,
-        subst (λ (z : PassPart). known.Read (tree_in t) (known_by q) lo hi a.k query value (known_by z)) (sym is_after) (record {
-          grows = record {
-            number = refl;
-            seen = begins_records q.seen q₂.seen seen_all;
-            mine = refl;
-            opened = (lo ∷ [], refl);
-            begun = begun_low;
-            ended = began.before;
-          };
-          true = record {
-            from = omega arith;
-            to = omega arith;
-            made = omega arith;
-            answered = a.is ∙ ap (λ (s : Shape). answer (map_at (tree_of s q₂.seen) a.k) query) shape;
-          };
+      let shape : q₂.shape ≡ t.shape = ap (λ (z : PassPart). z.shape) middle ∙ of in
+      subst (λ (z : PassPart). known.Read (tree_in t) (known_by q) lo hi k query value (known_by z)) (sym is_after) (record {
+        grows = record {
+          number = refl;
+          seen = begins_records q.seen q₂.seen seen_all;
+          mine = refl;
+          opened = (lo ∷ [], refl);
+          begun = begun_low;
+          ended = began.before;
+        };
+        true = record {
           from = omega arith;
-          floor = omega arith;
-          before = began.before;
-          lo_known = omega arith;
-          hi_known = omega arith;
-          sound = subst (λ (z : PassPart). known.IsSound (tree_in t) (known_by z)) is_after sound;
-        }),
-      )
+          to = omega arith;
+          made = omega arith;
+          answered = is ∙ ap (λ (s : Shape). answer (map_at (tree_of s q₂.seen) k) query) shape;
+        };
+        from = omega arith;
+        floor = omega arith;
+        before = began.before;
+        lo_known = omega arith;
+        hi_known = omega arith;
+        sound = subst (λ (z : PassPart). known.IsSound (tree_in t) (known_by z)) is_after sound;
+      })
+
+  pub read_by : (query : Query) (value : Option Range) → Answers q₂ (length q₁.seen) query value → known.IsSound (tree_in t) (known_by q₃) → (k : ℕ) × known.Read (tree_in t) (known_by q) lo hi k query value (known_by q₃)
+  read_by query value a sound = (a.k, read_at a.k query value a.low a.high a.is sound)

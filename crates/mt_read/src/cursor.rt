@@ -137,7 +137,7 @@ fn first_behind<L: Ledger>(
 }
 
 /// Where a walk goes on after a range.
-fn place_behind(range: Option<Range>, max: u64) -> Option<u64>
+pub(crate) fn place_behind(range: Option<Range>, max: u64) -> Option<u64>
     ensures { result ≡ place_behind range max }
 {
     let range = range?;
@@ -152,11 +152,11 @@ fn place_behind(range: Option<Range>, max: u64) -> Option<u64>
 #[derive(Drop)]
 pub struct Cursor {
     /// Where the next step looks from. There is no place once the walk has ended.
-    at: Option<u64>,
-    max: u64,
-    leaf: Option<KeptLeaf>,
+    pub(crate) at: Option<u64>,
+    pub(crate) max: u64,
+    pub(crate) leaf: Option<KeptLeaf>,
     /// The epoch of its section, while that is open.
-    epoch: Option<u64>,
+    pub(crate) epoch: Option<u64>,
 }
 
 impl Cursor {
@@ -194,7 +194,12 @@ impl Cursor {
     }
 
     /// Begins a step: returns how many calls have ended, and opens the section if it is not open.
-    fn resume<L: Ledger>(&mut self, table: &MtTable, pass: &mut Pass, steps: &mut Steps<L>) -> u64
+    pub(crate) fn resume<L: Ledger>(
+        &mut self,
+        table: &MtTable,
+        pass: &mut Pass,
+        steps: &mut Steps<L>,
+    ) -> u64
         requires pass { IsPassOf (identity_of table.now) pass.old }
         requires cursor { IsCursorOf (part_of pass.old) self.old }
         ensures stepped { Stepped (identity_of table.now) pass.old pass.new }
@@ -213,7 +218,7 @@ impl Cursor {
     }
 
     /// The first range from an index on, up to the bound, and the leaf that it was found in is kept.
-    fn look<L: Ledger>(
+    pub(crate) fn look<L: Ledger>(
         &mut self,
         table: &MtTable,
         pass: &mut Pass,

@@ -1,0 +1,63 @@
+use Rattle.mt_read.proofs.Prelude.{rules, arith, ◌≡◌, ◌∙◌, ◌+◌, ℕ, Option, Some, ap, refl, sym, subst, inl, length, Range, part_of, PassPart, Cursor, query_at}
+use Rattle.std.specs.Prelude.{slice_set}
+use Rattle.mt_read.specs.Cursors.{place_behind}
+use Rattle.mt_read.specs.Many.{IsSeenFrom, SeenAt}
+use Rattle.mt_read.proofs.Batching.{HasPut, all_put, kept_since, none_left, seen_on, steps_begin, steps_next}
+use Rattle.mt_read.proofs.Descending.{goes_to}
+use Rattle.mt_read.proofs.Keeping.{nothing_goes}
+use Rattle.mt_read.proofs.cursor.Cursor.fill.Goals as goal
+
+pub loop-i-init : goal.loop-i-init
+loop-i-init g c =
+    let q = part_of c.args.pass.now in let s = c.args.self.now in record {
+      stepped = record { of = c.requires.pass; turn = refl };
+      goes = nothing_goes q;
+      kept = c.requires.kept;
+      same = refl;
+      since = inl refl;
+      put = steps_begin (SeenAt q) s.max (length q.seen) (length q.seen) s.at c.args.ranges.now (omega arith);
+      long = refl;
+      counted = refl;
+      steps = omega arith;
+    }
+
+pub loop-i-preserved : goal.loop-i-preserved
+loop-i-preserved g c =
+    let q = part_of c.args.pass.now in let q₁ = part_of c.loop-i.pass in let q₂ = part_of c.go_on.new.pass in
+    let s = c.args.self.now in let s₁ = c.loop-i.self in
+    let inv = c.loop-i.invariant in let told = c.go_on.ensures in
+    let shape : q₂.shape ≡ q₁.shape = ap (λ (z : PassPart). z.shape) told.goes.is in
+    let max : s₁.max ≡ s.max = ap (λ (x : Cursor). x.max) inv.same in
+    let read : IsSeenFrom q₂ (length q₁.seen) (query_at s₁.at s.max) (Some c.in-Some.range) =
+    subst (λ (x : ℕ × Option Range). IsSeenFrom q₂ (length q₁.seen) (query_at s₁.at x.0) x.1) (λ i. (max i, c.in-Some.is i)) told.read in
+    let behind : place_behind (Some c.in-Some.range) s.max ≡ c.go_on.new.self.at = sym (ap (λ (x : Cursor). x.at) told.same ∙ (λ i. place_behind (c.in-Some.is i) (max i))) in
+    let put = subst (λ (o : Option ℕ). HasPut (SeenAt q₂) s.max (length q.seen) (length q₂.seen) s.at c.args.ranges.now (slice_set c.loop-i.ranges c.loop-i.i c.in-Some.range) (c.loop-i.i + 1) o) behind
+    (steps_next (SeenAt q₁) (SeenAt q₂) (λ k query value at. seen_on q₁ q₂ k query value shape told.goes.seen at) s.max (length q.seen) (length q₁.seen) (length q₂.seen) s.at c.args.ranges.now c.loop-i.ranges c.loop-i.i s₁.at inv.put
+    (search rules) c.in-Some.range read.0 read.1 read.2.high read.2) in
+    record {
+      stepped = search rules;
+      goes = goes_to q q₁ q₂ q₁.marks q₂.marks inv.goes told.goes;
+      kept = told.kept;
+      same = told.same ∙ (λ i. record { at = sym (ap (λ (x : Cursor). x.at) told.same) i; max = max i; leaf = c.go_on.new.self.leaf; epoch = ap (λ (x : Cursor). x.epoch) inv.same i });
+      since = kept_since s.leaf s₁.leaf c.go_on.new.self.leaf c.args.lo inv.since told.lo;
+      put = put;
+      long = search rules;
+      counted = omega arith;
+      steps = omega arith;
+    }
+
+pub returns-in_default-clause-ranges : goal.returns-in_default-clause-ranges
+returns-in_default-clause-ranges g c =
+    let q = part_of c.args.pass.now in let q₁ = part_of c.loop-i.pass in let q₂ = part_of c.go_on.new.pass in
+    let s = c.args.self.now in let s₁ = c.loop-i.self in
+    let inv = c.loop-i.invariant in let told = c.go_on.ensures in
+    let shape : q₂.shape ≡ q₁.shape = ap (λ (z : PassPart). z.shape) told.goes.is in
+    let max : s₁.max ≡ s.max = ap (λ (x : Cursor). x.max) inv.same in
+    let read = subst (λ (x : ℕ × Option Range). IsSeenFrom q₂ (length q₁.seen) (query_at s₁.at x.0) x.1) (λ i. (max i, c.in_default.is i)) told.read in
+    none_left q₁ q₂ shape told.goes.seen s.max (length q.seen) s.at c.args.ranges.now c.loop-i.ranges c.loop-i.i s₁.at inv.put (search rules) read c.go_on.new.self.at
+    (ap (λ (x : Cursor). x.at) told.same ∙ ap (λ (o : Option Range). place_behind o s₁.max) c.in_default.is)
+
+pub returns-clause-ranges : goal.returns-clause-ranges
+returns-clause-ranges g c =
+    let q = part_of c.args.pass.now in let q₁ = part_of c.loop-i.pass in let s = c.args.self.now in
+    all_put (SeenAt q₁) s.max (length q.seen) (length q₁.seen) s.at c.args.ranges.now c.loop-i.ranges c.loop-i.i c.loop-i.self.at c.loop-i.invariant.put (search rules)

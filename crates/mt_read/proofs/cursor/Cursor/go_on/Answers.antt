@@ -1,0 +1,14 @@
+use Rattle.mt_read.proofs.Prelude.{arith, ◌∙◌, length, refl, part_of, moment_seen}
+use Rattle.mt_read.proofs.Stepping.{asks_nothing, asks_there}
+use Rattle.mt_read.proofs.cursor.Cursor.go_on.Goals as goal
+
+pub returns-in_default-clause-read : goal.returns-in_default-clause-read
+returns-in_default-clause-read g c =
+    let q = part_of c.args.pass.now in let s = c.args.self.now in
+    (length q.seen, omega arith, record { high = omega arith; is = asks_nothing (moment_seen q (length q.seen)).ranges s.at s.max c.in_default.is })
+
+pub returns-clause-read : goal.returns-clause-read
+returns-clause-read g c =
+    let q₁ = part_of c.look-range.new.pass in let s = c.args.self.now in
+    let a = c.look-range.ensures.answer in
+    (a.k, a.low, record { high = a.high; is = a.is ∙ asks_there (moment_seen q₁ a.k).ranges s.at c.in-Some.index s.max s.max c.in-Some.is refl })
