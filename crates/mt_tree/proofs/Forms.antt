@@ -1,5 +1,5 @@
 -- What is told of the words behind the lock: their form, their image, how many rows they have, and of a copy.
-use Rattle.mt_tree.proofs.Prelude.{◌≡◌, ◌≢◌, ◌↔◌, ℕ, List, Some, None, length, refl, sym, ap, ◌∙◌, subst, ◌≤◌, ◌<◌, Result, Ok, Err, Kind, Range, Rooted, Sheet, OnlyReads, reached_in, tree_as, map_by, IsLawfulOf, Book, live_count, IsIdle, Parts, HasHeight, Tree, Behind, Field, first_bad, IsImageOf, IsImageOfMap, image_of_map, few_reached, DupError, live_rows, AreWordsOf, IsCopyCounted, IsFormOf, IsImageIn, IsLiveCounted, IsReadyToOpen, IsRefusal, IsRowCount, opened, Form, form_of, idle_if_read, Identity}
+use Rattle.mt_tree.proofs.Prelude.{◌≡◌, ◌≢◌, ◌↔◌, ℕ, List, Some, None, length, refl, sym, ap, ◌∙◌, subst, ◌≤◌, ◌<◌, Result, Ok, Err, Kind, Range, Rooted, Sheet, OnlyReads, reached_in, tree_as, map_by, IsLawfulOf, Book, live_count, IsIdle, Parts, HasHeight, Tree, Behind, Field, first_bad, IsImageOf, IsImageOfMap, image_of_map, few_reached, DupError, live_rows, AreWordsOf, IsCopyCounted, IsForNodes, IsFormOf, IsImageIn, IsLiveCounted, IsReadyToOpen, IsRefusal, IsRowCount, opened, Form, form_of, idle_if_read, Identity}
 use Rattle.mt_base.specs.Passes as known
 use Rattle.mt_tree.proofs.Copying.{live_reached}
 use Rattle.mt_tree.specs.declared.shapes.Shape.{Shape}
@@ -146,6 +146,13 @@ module _ {X : Type 0} (shape : Shape) (source : Kind) where
   refused_live live wanted errors.Invalid is = record { enough = λ ok. absurd (cc); few = λ told counted is. absurd (cc) }
   refused_live live wanted (errors.NoNodes told counted) is = absurd is
   refused_live live wanted errors.NoMemory is = absurd is
+
+-- no node is counted for a shape that is refused as it is
+pub never_counted : {P : Type 0} (shape : Shape) (source : Kind) (e : DupError) → IsRefusal shape source (Some e) → IsForNodes e → P
+never_counted shape source (errors.BadShape f) is counted = absurd counted
+never_counted shape source errors.Invalid is counted = absurd counted
+never_counted shape source (errors.NoNodes told live) is counted = absurd is
+never_counted shape source errors.NoMemory is counted = absurd is
 
 -- ---- a copy that is opened
 

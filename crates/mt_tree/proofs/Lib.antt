@@ -1,6 +1,7 @@
 pub mod Allocations
 pub mod Answering
 pub mod AtWork
+mod Batching
 pub mod Calling
 pub mod Copying
 mod Counting
@@ -16,4 +17,5 @@ pub mod Reading
 pub mod Settling
 pub mod Showing
 mod Trying
+mod Overwriting
 mod Prelude

@@ -1,6 +1,11 @@
--- What is told of a tree under its lock: how it uses its rows, and the least epoch at which a section stood open.
-use Rattle.mt_tree.proofs.Prelude.{◌≡◌, ℕ, List, Some, length, min, sym, ap, ◌∙◌, subst, length-map, Kind, Record, IsIdle, HasHeight, IsScanned, Book, live_count, Sheet, record_of, records_of, WasShown, Tools, Stats, Tree, Behind, behind_lock, IsAtRest, IsPenAtRest, IsLeastBy, IsOldest, IsStatsOf, TellsRows, opened, place_of}
+-- What is told of a tree that was looked at under its lock: how it uses its rows, the least epoch at which a section stood open,
+-- and the form and the image of its words.
+use Rattle.mt_tree.proofs.Prelude.{◌≡◌, ℕ, List, Option, None, Some, Result, IfOk, IfOk-weaker, length, min, sym, ap, refl, ◌∙◌, subst, length-map, Kind, Record, IsIdle, HasHeight, IsScanned, Book, live_count, Sheet, Rooted, Identity, Form, form_of, tree_as, IsImageOf, record_of, records_of, Tools, Stats, Look, Tree, Behind, behind_lock, IsAtRest, IsPenAtRest, AreWordsOf, LiesBehind, IsFormBehind, IsImageBehind, IsImagedBehind, IsLeastBy, IsLookAt, IsOldest, IsStatsOf, TellsRows, map_seen, opened, place_of, words_in}
+use Rattle.std.specs.Global.{Global}
+use Rattle.std.specs.Prelude.{Vec}
+use Rattle.mt_base.specs.declared.memory.NoMemory.{NoMemory}
 use Rattle.mt_base.specs.Passes as known
+use Rattle.mt_tree.proofs.AtWork.{same_shape}
 use Rattle.mt_tree.proofs.Copying.{live_reached}
 
 -- ---- rows that were taken out of an engine, scanned, and put into another
@@ -17,10 +22,14 @@ scanned_as kind e s s' e' b book book' b' one two three four scan = subst (λ (x
 
 -- ---- the least epoch
 
-pub is_oldest : (t : Tree) (p : known.Pass) (b b' : Behind) (least ended calls : ℕ) → IsLeastBy t p.seen b b' least → p.seen ≡ records_of b'.pen.history → ended ≡ length b'.pen.history → calls ≡ min least ended → IsOldest t p calls
-is_oldest t p b b' least ended calls is seen count told =
+pub is_oldest : (t : Tree) (p : known.Pass) (b b' : Behind) (look : Look) (least ended calls : ℕ) → look.took.value ≡ b → look.left.value ≡ b' → IsLeastBy t p.seen b b' least → p.seen ≡ records_of b'.pen.history → ended ≡ length b'.pen.history → calls ≡ min least ended → IsOldest t p (calls, look)
+is_oldest t p b b' look least ended calls took left is seen count told =
     let all : ended ≡ length p.seen = count ∙ (sym (length-map b'.pen.history record_of) ∙ ap (λ (rs : List Record). length rs) (sym seen)) in
-    (b, b', least, is, told ∙ ap (min least) all)
+    record {
+      least = least;
+      by = subst (λ (x : Behind × Behind). IsLeastBy t p.seen x.0 x.1 least) (λ k. (sym took k, sym left k)) is;
+      told = told ∙ ap (min least) all;
+    }
 
 -- ---- how rows are used
 
@@ -37,5 +46,39 @@ tells_rows tools s rows rest many all free live held height calls =
       calls = calls;
     }
 
-pub is_stats : (t : Tree) (p q : known.Pass) (b : Behind) (s : Stats) → b.table ≡ place_of t → b.pen.shape ≡ (place_of t).shape → IsPenAtRest b.pen b.parts s.height → TellsRows b s → WasShown (opened t) b.pen p q → IsStatsOf t q s
-is_stats t p q b s table shape kept tells shown = (b, record { table = table; shape = shape; records = sym shown.all; height = s.height; kept = kept }, tells)
+-- ---- what the lock protected when it was taken
+
+pub lies_there : (t : Tree) (tools : Option Tools) (b : Behind) → behind_lock tools ≡ b → IsAtRest tools → b.table ≡ place_of t → LiesBehind t (records_of b.pen.history) b
+lies_there t None b is rest table = absurd rest
+lies_there t (Some tools) b is rest table = record {
+  table = table;
+  shape = sym (ap (λ (x : Behind). x.pen.shape) is) ∙ (same_shape (Some tools) ∙ (ap (λ (x : Behind). x.table.shape) is ∙ ap (λ (x : Identity). x.shape) table));
+  records = refl;
+  height = tools.height;
+  kept = subst (λ (x : Behind). IsPenAtRest x.pen x.parts tools.height) is rest.1;
+}
+
+module _ (t : Tree) (q : known.Pass) (b : Behind) (look : Look) (took : look.took.value ≡ b) (seen : q.seen ≡ records_of b.pen.history) (lies : LiesBehind t (records_of b.pen.history) b) where
+  pub look_at : IsLookAt t q look
+  look_at = subst (λ (x : List Record × Behind). LiesBehind t x.0 x.1) (λ k. (sym seen k, sym took k)) lies
+
+  pub is_stats : (s : Stats) → TellsRows b s → IsStatsOf t q (s, look)
+  is_stats s tells = (look_at, subst (λ (x : Behind). TellsRows x s) (sym took) tells)
+
+  words_there : words_in look ≡ b.parts.sheet.tree
+  words_there = ap (λ (x : Behind). x.parts.sheet.tree) took
+
+  pub form_there : (form : Form) → AreWordsOf (opened t).kind (opened t).rows (map_seen t q) b.parts.sheet.tree → form ≡ form_of (tree_as (opened t).kind b.parts.sheet.tree) → IsFormBehind t q (form, look)
+  form_there form words is = record {
+    behind = look_at;
+    form = record {
+      words = b.parts.sheet.tree;
+      of = words;
+      form_is = is;
+      ranges = ap (λ (f : Form). f.ranges) is ∙ ap length words.map;
+    };
+    of = sym words_there;
+  }
+
+  pub image_there : (image : Result (Vec ℕ Global) NoMemory) → AreWordsOf (opened t).kind (opened t).rows (map_seen t q) b.parts.sheet.tree → IfOk image (λ bytes. IsImageOf (opened t).kind b.parts.sheet.tree bytes.items) → IsImagedBehind t q (image, look)
+  image_there image words is = (look_at, IfOk-weaker image _ _ (λ bytes one. record { image = record { words = b.parts.sheet.tree; of = words; image = one }; of = sym words_there }) is)

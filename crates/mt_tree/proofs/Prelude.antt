@@ -70,12 +70,12 @@ pub use Rattle.mt_ids.specs.Allocation.{IsNextCall}
 pub use Rattle.mt_tree.specs.Allocations.{allocation_of, is_alone, last_made}
 pub use Rattle.mt_tree.specs.Behind.{AreRowsOf, Behind, IsAtRest, IsOnlyRead, IsPenAtRest, IsReady, IsStoreReply, after_show, behind_lock, parts_of}
 pub use Rattle.mt_tree.specs.Calls.{HasCalled}
-pub use Rattle.mt_tree.specs.Copies.{AreWordsOf, IsCopyCounted, IsFormOf, IsImageIn, IsLiveCounted, IsReadyToOpen, IsRefusal, IsRowCount, live_rows}
-pub use Rattle.mt_tree.specs.Looks.{IsLeastBy, IsOldest, IsStatsOf, TellsRows}
+pub use Rattle.mt_tree.specs.Copies.{AreWordsOf, IsCopyCounted, IsForNodes, IsFormOf, IsImageIn, IsLiveCounted, IsReadyToOpen, IsRefusal, IsRowCount, live_rows}
+pub use Rattle.mt_tree.specs.Looks.{IsFormBehind, IsImageBehind, IsImagedBehind, IsLeastBy, IsLookAt, IsOldest, IsStatsOf, TellsRows, words_in}
 pub use Rattle.mt_tree.specs.Meeting.{AreShown, HaveMet, Shown}
 pub use Rattle.mt_tree.specs.Prelude.{Book, Call, Form, HasHeight, HasRoom, History, Holder, Identity, IsIdle, IsImageOf, IsLawfulOf, IsRealShortage, IsScanOf, IsSeatedAt, IsShort, Kind, Moment, Parts, Pass, PenPart, Query, Range, Record, Reply, Rooted, Shape, Sheet, Shortage, TellsBook, Told, TurnView, Wants, WasShown, Wrote, acted, after_reclaim, form_of, holder_of, identity_of, identity_of_pen, kind_width, last_map, limits_after, map_by, new_pass, pass_in, pen_in, pen_joined, pen_sheet, reached_in, records_of, table_size, tree_as, tree_in, tree_of, tried, turn_seat, unscanned, with_records}
 pub use Rattle.mt_tree.specs.Shapes.{first_bad}
-pub use Rattle.mt_tree.specs.Trees.{Acts, AreAll, IsDecidedOrMade, IsNew, IsOpen, IsPassOf, IsShortNow, IsWorn, LacksRows, LeavesRoom, NamesPass, Rests, TriesOnce, WasAnsweredBy, WasPrepared, limit_of, map_seen, opened, passes_of, place_of, seen_by}
+pub use Rattle.mt_tree.specs.Trees.{Acts, AreAll, IsDecidedOrMade, IsNew, IsOpen, IsPassOf, IsShortNow, IsWorn, LacksRows, LeavesRoom, LiesBehind, NamesPass, Rests, TriesOnce, WasAnsweredBy, WasPrepared, limit_of, map_seen, opened, passes_of, place_of, seen_by}
 pub use Rattle.mt_tree.specs.Tries.{WasMade, first_tried}
 pub use Rattle.mt_tree.specs.Works.{AreBack, IsSeatOf, IsWorker, pass_of_told, records_told, shown_pass}
 pub use Rattle.mt_tree.specs.Zeros.{AreZero}
@@ -83,6 +83,7 @@ pub use Rattle.mt_tree.specs.declared.behind.Tools.{Tools}
 pub use Rattle.mt_tree.specs.declared.shapes.Done.{Done}
 pub use Rattle.mt_tree.specs.declared.shapes.DupError.{DupError}
 pub use Rattle.mt_tree.specs.declared.shapes.Field.{Field}
+pub use Rattle.mt_tree.specs.declared.receipts.Look.{Look}
 pub use Rattle.mt_tree.specs.declared.shapes.Stats.{Stats}
 pub use Rattle.mt_tree.specs.declared.shapes.Worn.{Worn}
 pub use Rattle.mt_tree.specs.declared.trees.Tree.{Tree}

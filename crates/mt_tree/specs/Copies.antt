@@ -1,6 +1,6 @@
 -- What can be known of the words of a tree without seeing them: their form, and how many nodes they have.
 -- Source: this project's own.
-use Rattle.std.specs.Prelude.{◌≡◌, ◌≢◌, ℕ, ◌+◌, ◌/◌, ◌<◌, ◌≤◌, List, Option, Some, None, Result, Err, IsOk, length}
+use Rattle.std.specs.Prelude.{◌≡◌, ◌≢◌, ℕ, ◌+◌, ◌/◌, ◌<◌, ◌≤◌, List, Option, Some, None, Result, Ok, Err, IsOk, length}
 use Rattle.mt_tree.specs.Prelude.{Kind, Range, Form, IsIdle, Book, form_of, tree_as, IsLawfulOf, map_by, Rooted, Sheet, reached_in, IsImageOf}
 use Rattle.mt_tree.specs.declared.shapes.Shape.{Shape}
 use Rattle.mt_tree.specs.Shapes.{first_bad}
@@ -49,10 +49,26 @@ pub record IsLiveCounted {X : Type 0} (live wanted : ℕ) (made : Result X DupEr
   pub enough : IsOk made → live ≤ wanted
   pub few : (told counted : ℕ) → made ≡ Err (errors.NoNodes told counted) → (told ≡ wanted) × (counted ≡ live) × (wanted < live)
 
+-- a refusal for lack of nodes
+abbrev pub IsForNodes : DupError → Type 0
+IsForNodes (errors.NoNodes told live) = Unit {0}
+IsForNodes errors.NoMemory = ⊥
+IsForNodes errors.Invalid = ⊥
+IsForNodes (errors.BadShape field) = ⊥
+
+-- The nodes of the tree were counted: there is a copy, or too few nodes for one.
+abbrev pub WasCounted : {X : Type 0} → Result X DupError → Type 0
+WasCounted (Ok copy) = Unit {0}
+WasCounted (Err why) = IsForNodes why
+
+-- A tree of this kind may be copied into this shape: it is in range, and of this kind.
+abbrev pub IsFit : Shape → Kind → Type 0
+IsFit shape kind = (first_bad shape ≡ None) × (shape.kind ≡ kind)
+
 -- Why there is no copy of this shape of a tree of this kind, whatever its nodes: the first field of the shape that is out of
 -- range, or else another kind.
 abbrev pub IsRefusal : Shape → Kind → Option DupError → Type 0
-IsRefusal shape kind None = (first_bad shape ≡ None) × (shape.kind ≡ kind)
+IsRefusal shape kind None = IsFit shape kind
 IsRefusal shape kind (Some (errors.BadShape field)) = first_bad shape ≡ Some field
 IsRefusal shape kind (Some errors.Invalid) = (first_bad shape ≡ None) × (shape.kind ≢ kind)
 IsRefusal shape kind (Some (errors.NoNodes told live)) = ⊥

@@ -1,11 +1,14 @@
 pub mod Allocations
 pub mod Asks
+pub mod Batches
 pub mod Behind
 pub mod Calls
 pub mod Copies
 pub mod Cursors
+pub mod Many
 pub mod Meeting
 pub mod Looks
+pub mod Overwrites
 pub mod Shapes
 pub mod Trees
 pub mod Tries

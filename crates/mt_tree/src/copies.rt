@@ -17,7 +17,7 @@ ghost use Rattle.mt_rule.specs.Seats.{records_of};
 ghost use Rattle.mt_rule.specs.Tokens.{pass_in};
 ghost use Rattle.mt_tree.specs.declared.shapes.Field.{Field};
 ghost use Rattle.mt_tree.specs.Behind.{behind_lock, IsAtRest, IsOnlyRead};
-ghost use Rattle.mt_tree.specs.Copies.{live_rows, AreWordsOf, IsCopyCounted, IsForRoom, IsFormOf, IsLiveCounted, IsReadyToOpen, IsRefusal, IsRowCount};
+ghost use Rattle.mt_tree.specs.Copies.{live_rows, AreWordsOf, IsCopyCounted, IsForRoom, IsFormOf, IsLiveCounted, IsReadyToOpen, IsRefusal, IsRowCount, WasCounted};
 ghost use Rattle.mt_tree.specs.Shapes.{first_bad};
 ghost use Rattle.mt_tree.specs.Trees.{opened, map_seen, place_of, IsPassOf, IsNew, IsOpen, Rests, TriesOnce, steps_made};
 ghost use Rattle.mt_tree.specs.Works.{IsWorker};
@@ -411,6 +411,7 @@ impl Tree {
         ensures of { IsPassOf self.now pass.new }
         ensures tries { (pass.new ≡ pass.old) ⊎ TriesOnce pass.old pass.new }
         ensures pass { (pass_in pass.new ≡ pass_in pass.old) ⊎ Saw (opened self.now) (pass_in pass.old) (pass_in pass.new) }
+        ensures looked { WasCounted result → Saw (opened self.now) (pass_in pass.old) (pass_in pass.new) × TriesOnce pass.old pass.new }
         ensures new { IfOk result (λ r. Saw (opened self.now) (pass_in pass.old) (pass_in pass.new) × IsNew shape (map_seen self.now (pass_in pass.new)) r.0 r.1.items) }
         ensures counted { IsCopyCounted (opened self.now).kind (opened self.now).rows (map_seen self.now (pass_in pass.new)) shape.rows result }
         ensures room { IfErr result IsForRoom }
@@ -430,7 +431,7 @@ impl Tree {
     ///
     /// `BadShape`; `Invalid` if the kind is another; `NoMemory` if there is none for the new nodes; `NoNodes` if they are too
     /// few; `NoMemory` if there is none for the new tree.
-    #[tactic(auto, using(crate::proofs::Forms::uncounted, crate::proofs::Forms::bad_refused, crate::proofs::Forms::invalid_refused, crate::proofs::Forms::refused_uncounted))]
+    #[tactic(auto, using(crate::proofs::Forms::uncounted, crate::proofs::Forms::bad_refused, crate::proofs::Forms::invalid_refused, crate::proofs::Forms::refused_uncounted, crate::proofs::Forms::never_counted))]
     pub fn dup(
         &self,
         rt: &impl Wait,
@@ -445,6 +446,7 @@ impl Tree {
         ensures bad { (field : Field) → (result ≡ Err (DupError.BadShape field)) ↔ (first_bad shape ≡ Some field) }
         ensures invalid { (result ≡ Err DupError.Invalid) ↔ ((first_bad shape ≡ None) × (shape.kind ≢ (opened self.now).kind)) }
         ensures counted { IsCopyCounted (opened self.now).kind (opened self.now).rows (map_seen self.now (pass_in pass.new)) shape.rows result }
+        ensures looked { WasCounted result → Saw (opened self.now) (pass_in pass.old) (pass_in pass.new) × TriesOnce pass.old pass.new }
         ensures new { IfOk result (λ r. Saw (opened self.now) (pass_in pass.old) (pass_in pass.new) × IsNew shape (map_seen self.now (pass_in pass.new)) r.0 r.1.items) }
     {
         match refusal(&shape, self.shape.kind) {

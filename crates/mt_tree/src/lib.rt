@@ -26,6 +26,7 @@
 
 mod allocs;
 mod asks;
+mod batches;
 mod behind;
 mod copies;
 mod cursors;
@@ -33,7 +34,10 @@ mod images;
 mod locked;
 mod looks;
 mod make;
+mod many;
+mod overwrites;
 mod reads;
+mod receipts;
 mod settle;
 mod shaped;
 mod shapes;
@@ -46,6 +50,7 @@ mod works;
 mod writes;
 mod zeros;
 
+pub use batches::{Asked, Request};
 pub use behind::WriterState;
 pub use cursors::Cursor;
 pub use locked::{HoldsLock, Locked, Write};
@@ -54,6 +59,8 @@ pub use mt_check::Form;
 pub use mt_read::{Cursor as Walk, Moved};
 pub use mt_rows::PlainRows;
 pub use mt_rule::{Busy, MOST_CALLS, MOST_PASSES, Note, Pass};
+pub use overwrites::{RangePlace, tell_met};
+pub use receipts::Look;
 pub use shapes::{Done, DupError, Field, MakeError, Read, Shape, Stats, Worn};
 pub use trees::Tree;
 pub use zeros::Zeros;

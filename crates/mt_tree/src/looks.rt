@@ -9,13 +9,14 @@ ghost use Rattle.mt_engine.specs.Rooms.{IsScanned};
 ghost use Rattle.mt_rule.specs.Seats.{records_of};
 ghost use Rattle.mt_rule.specs.Tokens.{pass_in};
 ghost use Rattle.mt_rule.specs.Turns.{tried};
-ghost use Rattle.mt_tree.specs.Behind.{behind_lock, IsAtRest, IsPenAtRest};
+ghost use Rattle.mt_tree.specs.Behind.{behind_lock, IsAtRest};
 ghost use Rattle.mt_tree.specs.Looks.{IsLeastBy, IsOldest, IsStatsOf, TellsRows};
 ghost use Rattle.mt_tree.specs.Trees.{opened, place_of, IsPassOf, Rests, TriesOnce, steps_made};
 ghost use Rattle.mt_tree.specs.Tries.{IsBusyOf};
 ghost use Rattle.mt_tree.specs.Works.{IsWorker};
 
 use crate::behind::{Tools, WriterState};
+use crate::receipts::Look;
 use crate::shapes::Stats;
 use crate::trees::Tree;
 use crate::works::{begin, by_width, end};
@@ -82,9 +83,7 @@ impl WriterState {
     /// How the tree uses its nodes.
     fn stats(&self, tree: &Tree) -> Stats
         requires { self.now.table ≡ place_of tree.now }
-        ensures shape { self.now.pen.shape ≡ (place_of tree.now).shape }
-        ensures kept { IsPenAtRest self.now.pen self.now.parts result.height }
-        ensures rows { TellsRows self.now result }
+        ensures { TellsRows self.now result }
     {
         let calls = self.calls();
         let Some(tools) = &self.tools else {
@@ -102,12 +101,13 @@ impl WriterState {
 }
 
 impl Tree {
-    /// How the tree uses its nodes after all that the handle has then seen, if the lock is free. It does not wait.
+    /// How the tree uses its nodes after all that the handle has then seen, if the lock is free. It does not wait. The numbers
+    /// are those of what the lock protected, which the receipt has.
     ///
     /// # Errors
     ///
     /// `Busy` if the one try found the lock taken. Nothing is changed, and the handle has seen no more.
-    pub fn try_stats(&self, pass: &mut Pass) -> Result<Stats, Busy>
+    pub fn try_stats(&self, pass: &mut Pass) -> Result<(Stats, Look), Busy>
         requires { IsPassOf self.now pass.old }
         ensures of { IsPassOf self.now pass.new }
         ensures saw { IfOk result (λ _. Saw (opened self.now) (pass_in pass.old) (pass_in pass.new)) }
@@ -117,19 +117,20 @@ impl Tree {
         ensures tries { TriesOnce pass.old pass.new }
     {
         let mut taken = self.try_take(pass)?;
+        let took = taken.value.snapshot(self);
         let stats = taken.value.stats(self);
         taken.value.show(self, pass);
-        self.turn.give(taken);
-        Ok(stats)
+        Ok((stats, self.give_looked(taken, took)))
     }
 
     /// If the lock is free: when the sections that are now open were opened, at least this many calls had ended. If none is
-    /// open, it is the number of all calls. It does not wait. It frees the nodes that no section holds.
+    /// open, it is the number of all calls. It does not wait. It frees the nodes that no section holds. The receipt has the
+    /// section words that it loaded.
     ///
     /// # Errors
     ///
     /// `Busy` if the one try found the lock taken. Nothing is changed, and the handle has seen no more.
-    pub fn try_oldest(&self, pass: &mut Pass) -> Result<u64, Busy>
+    pub fn try_oldest(&self, pass: &mut Pass) -> Result<(u64, Look), Busy>
         requires { IsPassOf self.now pass.old }
         ensures of { IsPassOf self.now pass.new }
         ensures saw { IfOk result (λ _. Saw (opened self.now) (pass_in pass.old) (pass_in pass.new)) }
@@ -139,9 +140,10 @@ impl Tree {
         ensures tries { TriesOnce pass.old pass.new }
     {
         let mut taken = self.try_take(pass)?;
+        let took = taken.value.snapshot(self);
         let least = taken.value.oldest(self, pass);
         let calls = taken.value.calls();
-        self.turn.give(taken);
-        Ok(least.min(calls))
+        let look = self.give_looked(taken, took);
+        Ok((least.min(calls), look))
     }
 }

@@ -5,6 +5,8 @@
 #[cfg(test)]
 mod asserts;
 #[cfg(test)]
+mod batches;
+#[cfg(test)]
 mod errors;
 #[cfg(test)]
 mod example;

@@ -1,23 +1,9 @@
-use Rattle.mt_tree.proofs.Prelude.{rules, ◌≡◌, Some, length, refl, sym, ap, ◌∙◌, subst, Identity, Behind, behind_lock, IsAtRest, IsPenAtRest, TellsRows, Stats}
-use Rattle.mt_tree.proofs.AtWork.{same_shape}
+use Rattle.mt_tree.proofs.Prelude.{rules, ◌≡◌, Some, length, refl, sym, ap, ◌∙◌, subst, Identity, Behind, behind_lock, IsAtRest, TellsRows, Stats}
 use Rattle.mt_tree.proofs.Looking.{tells_rows}
 use Rattle.mt_tree.proofs.behind.WriterState.stats.Goals as goal
 
-pub returns-clause-shape : goal.returns-clause-shape
-returns-clause-shape c =
-    let t = c.in-Some.tools in
-    let view : behind_lock (Some t) ≡ c.args.self.now = search rules in
-    sym (ap (λ (b : Behind). b.pen.shape) view) ∙ (same_shape (Some t) ∙ (ap (λ (b : Behind). b.table.shape) view ∙ ap (λ (i : Identity). i.shape) c.requires))
-
-pub returns-clause-kept : goal.returns-clause-kept
-returns-clause-kept c =
-    let t = c.in-Some.tools in
-    let rest : IsAtRest (Some t) = subst IsAtRest c.in-Some.is c.self.invariant in
-    let view : behind_lock (Some t) ≡ c.args.self.now = search rules in
-    subst (λ (b : Behind). IsPenAtRest b.pen b.parts t.height) view rest.1
-
-pub returns-clause-rows : goal.returns-clause-rows
-returns-clause-rows c =
+pub returns : goal.returns
+returns c =
     let t = c.in-Some.tools in
     let rest : IsAtRest (Some t) = subst IsAtRest c.in-Some.is c.self.invariant in
     let view : behind_lock (Some t) ≡ c.args.self.now = search rules in

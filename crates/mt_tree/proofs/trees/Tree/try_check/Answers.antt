@@ -1,6 +1,7 @@
-use Rattle.mt_tree.proofs.Prelude.{subst, opened, pass_in}
+use Rattle.std.specs.declared.snapshot.Snapshot.{Snapshot}
+use Rattle.mt_tree.proofs.Prelude.{ap, ◌∙◌, subst, Behind, opened, pass_in}
 use Rattle.mt_base.specs.Passes as known
-use Rattle.mt_tree.proofs.Forms.{form_known}
+use Rattle.mt_tree.proofs.Looking.{form_there}
 use Rattle.mt_tree.proofs.Trying.{tries_once}
 use Rattle.mt_tree.proofs.trees.Tree.try_check.Goals as goal
 
@@ -11,4 +12,5 @@ pub returns-clause-tries : goal.returns-clause-tries
 returns-clause-tries c = tries_once _ _ _ c.in_ok-taken.ensures.tries c.check-form.ensures.rests
 
 pub returns-clause-form : goal.returns-clause-form
-returns-clause-form c = form_known _ _ _ _ c.check-form.result c.check-form.ensures.words c.check-form.ensures.form
+returns-clause-form c =
+    form_there _ _ _ _ (ap (λ (x : Snapshot Behind). x.value) c.give_looked.ensures.took ∙ c.snapshot-took.ensures.value) (c.check-form.ensures.seen ∙ c.check-form.ensures.state.records) c.snapshot-took.ensures.lies _ c.check-form.ensures.words c.check-form.ensures.form

@@ -1,6 +1,7 @@
-use Rattle.mt_tree.proofs.Prelude.{subst, opened, pass_in}
+use Rattle.std.specs.declared.snapshot.Snapshot.{Snapshot}
+use Rattle.mt_tree.proofs.Prelude.{ap, sym, ◌∙◌, subst, Behind, live_rows, opened, pass_in}
 use Rattle.mt_base.specs.Passes as known
-use Rattle.mt_tree.proofs.Forms.{count_known}
+use Rattle.mt_tree.proofs.Looking.{look_at}
 use Rattle.mt_tree.proofs.Trying.{tries_once}
 use Rattle.mt_tree.proofs.trees.Tree.try_copy_rows.Goals as goal
 
@@ -10,5 +11,9 @@ returns-clause-saw c = subst (λ (p : known.Pass). known.Saw (opened c.args.self
 pub returns-clause-tries : goal.returns-clause-tries
 returns-clause-tries c = tries_once _ _ _ c.in_ok-taken.ensures.tries c.copy-live.ensures.rests
 
+pub returns-clause-look : goal.returns-clause-look
+returns-clause-look c = look_at c.args.self.now (pass_in c.copy-live.new.pass) _ c.give_looked.result (ap (λ (x : Snapshot Behind). x.value) c.give_looked.ensures.took ∙ c.snapshot-took.ensures.value) (c.copy-live.ensures.seen ∙ c.copy-live.ensures.state.records) c.snapshot-took.ensures.lies
+
 pub returns-clause-live : goal.returns-clause-live
-returns-clause-live c = count_known _ _ _ _ c.copy-live.result c.copy-live.ensures.words c.copy-live.ensures.live
+returns-clause-live c =
+    c.copy-live.ensures.live ∙ sym (ap (λ (x : Snapshot Behind). live_rows x.value.parts.sheet.tree) c.give_looked.ensures.took ∙ ap (λ (x : Behind). live_rows x.parts.sheet.tree) c.snapshot-took.ensures.value)

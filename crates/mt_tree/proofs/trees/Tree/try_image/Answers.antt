@@ -1,6 +1,8 @@
-use Rattle.mt_tree.proofs.Prelude.{subst, IfOk-weaker, opened, pass_in}
+use Rattle.std.specs.declared.snapshot.Snapshot.{Snapshot}
+use Rattle.mt_tree.proofs.Prelude.{ap, ◌∙◌, subst, IfOk-weaker, Behind, opened, pass_in}
 use Rattle.mt_base.specs.Passes as known
-use Rattle.mt_tree.proofs.Forms.{image_known, map_imaged}
+use Rattle.mt_tree.proofs.Forms.{map_imaged}
+use Rattle.mt_tree.proofs.Looking.{image_there}
 use Rattle.mt_tree.proofs.Trying.{tries_once}
 use Rattle.mt_tree.proofs.trees.Tree.try_image.Goals as goal
 
@@ -14,4 +16,5 @@ pub returns-clause-map : goal.returns-clause-map
 returns-clause-map c = IfOk-weaker c.image-image.result _ _ (λ bytes image. map_imaged _ _ _ _ bytes.items c.image-image.ensures.words image) c.image-image.ensures.image
 
 pub returns-clause-image : goal.returns-clause-image
-returns-clause-image c = IfOk-weaker c.image-image.result _ _ (λ bytes image. image_known _ _ _ _ bytes.items c.image-image.ensures.words image) c.image-image.ensures.image
+returns-clause-image c =
+    image_there c.args.self.now (pass_in c.image-image.new.pass) _ c.give_looked.result (ap (λ (x : Snapshot Behind). x.value) c.give_looked.ensures.took ∙ c.snapshot-took.ensures.value) (c.image-image.ensures.seen ∙ c.image-image.ensures.state.records) c.snapshot-took.ensures.lies _ c.image-image.ensures.words c.image-image.ensures.image

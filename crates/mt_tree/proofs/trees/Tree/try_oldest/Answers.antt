@@ -1,4 +1,5 @@
-use Rattle.mt_tree.proofs.Prelude.{subst, opened, pass_in}
+use Rattle.std.specs.declared.snapshot.Snapshot.{Snapshot}
+use Rattle.mt_tree.proofs.Prelude.{ap, ◌∙◌, subst, Behind, opened, pass_in}
 use Rattle.mt_base.specs.Passes as known
 use Rattle.mt_tree.proofs.Looking.{is_oldest}
 use Rattle.mt_tree.proofs.Trying.{tries_once}
@@ -11,4 +12,5 @@ pub returns-clause-tries : goal.returns-clause-tries
 returns-clause-tries c = tries_once _ _ _ c.in_ok-taken.ensures.tries c.oldest-least.ensures.rests
 
 pub returns-clause-oldest : goal.returns-clause-oldest
-returns-clause-oldest c = is_oldest _ (pass_in c.oldest-least.new.pass) _ _ _ _ _ c.oldest-least.ensures.least c.oldest-least.ensures.seen c.calls-calls.ensures c.min.ensures
+returns-clause-oldest c =
+    is_oldest _ (pass_in c.oldest-least.new.pass) _ _ _ _ _ _ (ap (λ (x : Snapshot Behind). x.value) c.give_looked-look.ensures.took ∙ c.snapshot-took.ensures.value) c.give_looked-look.ensures.left c.oldest-least.ensures.least c.oldest-least.ensures.seen c.calls-calls.ensures c.min.ensures

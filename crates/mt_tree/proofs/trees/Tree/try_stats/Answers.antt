@@ -1,4 +1,5 @@
-use Rattle.mt_tree.proofs.Prelude.{subst, opened, pass_in}
+use Rattle.std.specs.declared.snapshot.Snapshot.{Snapshot}
+use Rattle.mt_tree.proofs.Prelude.{ap, ◌∙◌, subst, Behind, opened, pass_in}
 use Rattle.mt_base.specs.Passes as known
 use Rattle.mt_tree.proofs.Looking.{is_stats}
 use Rattle.mt_tree.proofs.Trying.{tries_once}
@@ -11,4 +12,4 @@ pub returns-clause-tries : goal.returns-clause-tries
 returns-clause-tries c = tries_once _ _ _ c.in_ok-taken.ensures.tries c.show.ensures.rests
 
 pub returns-clause-stats : goal.returns-clause-stats
-returns-clause-stats c = is_stats _ _ _ _ _ c.in_ok-taken.ensures.table c.stats-stats.ensures.shape c.stats-stats.ensures.kept c.stats-stats.ensures.rows c.show.ensures.shown
+returns-clause-stats c = is_stats c.args.self.now (pass_in c.show.new.pass) _ c.give_looked.result (ap (λ (x : Snapshot Behind). x.value) c.give_looked.ensures.took ∙ c.snapshot-took.ensures.value) c.show.ensures.shown.all c.snapshot-took.ensures.lies _ c.stats-stats.ensures
