@@ -157,7 +157,19 @@ impl<'a, R: Wait> TimedTree for TimedCaller<'a, R> {
         load_counted::<Brand>(&self.tree, &mut self.pass, index, Blank::new(1))
     }
 
+    /// One load after the other.
+    fn load_many(&mut self, indexes: &[u64], entries: &mut [u64]) {
+        for (index, entry) in indexes.iter().zip(entries) {
+            *entry = self.load(*index);
+        }
+    }
+
     fn visit(&mut self) -> Visit {
         visit_counted::<Brand>(&self.tree, &mut self.pass, Blank::new(1))
+    }
+
+    /// One step after the other.
+    fn visit_many(&mut self) -> Visit {
+        self.visit()
     }
 }

@@ -7,8 +7,8 @@ use crate::figures::{BenchOutcome, Figure, TimedReport};
 use crate::tasks::{Job, MapSize, TimedTask};
 use crate::trees::{Nodes, TimedTree};
 use crate::works::{
-    End, allocate_all, churn, erase_all, fill_holes, highest_of, load, overwrite, store_all,
-    store_wide, visit, wide_stores,
+    End, allocate_all, churn, erase_all, fill_holes, highest_of, load, load_many, overwrite,
+    store_all, store_wide, visit, visit_many, wide_stores,
 };
 use std::alloc::Global;
 use std::rt::Clock;
@@ -53,7 +53,13 @@ pub fn nanos_since(rt: &impl Clock, start: &Instant) -> Option<u64> {
 /// What is done before a job, untimed.
 fn before(job: Job) -> Option<Job> {
     match job {
-        Job::Load | Job::Iter | Job::Overwrite | Job::Wide | Job::Erase => Some(Job::StoreRand),
+        Job::Load
+        | Job::LoadMany
+        | Job::Iter
+        | Job::StepMany
+        | Job::Overwrite
+        | Job::Wide
+        | Job::Erase => Some(Job::StoreRand),
         Job::Holes => Some(Job::StoreSeq),
         Job::Churn => Some(Job::Alloc),
         _ => None,
@@ -65,7 +71,9 @@ fn do_once(tree: &mut impl TimedTree, job: Job, times: u64, setting: &mut Settin
     let (ranges, highest) = (setting.ranges, setting.highest);
     match job {
         Job::Load => load(tree, ranges, times, 7),
+        Job::LoadMany => load_many(tree, ranges, times, 7),
         Job::Iter => visit(tree, times),
+        Job::StepMany => visit_many(tree, times),
         Job::Overwrite => u64::from(overwrite(tree, ranges, times)),
         Job::Wide => u64::from(store_wide(tree, ranges)),
         Job::Erase => u64::from(erase_all(tree, &setting.rand)),
@@ -128,7 +136,10 @@ fn one_round<R: Clock + Wait>(
 /// How many rounds of a job are timed, and how many operations each has: one round where a job is not done once for each range.
 fn rounds_of(task: TimedTask, extent: MapSize) -> (u64, u64) {
     match task.job {
-        Job::Load | Job::Iter | Job::Overwrite | Job::Churn => (extent.rounds.min(1), extent.times),
+        Job::Load | Job::LoadMany | Job::Iter | Job::StepMany | Job::Overwrite | Job::Churn => (
+            extent.rounds.min(1),
+            extent.times,
+        ),
         Job::Wide => (extent.rounds, u64::from(wide_stores(task.ranges))),
         _ => (extent.rounds, u64::from(task.ranges)),
     }

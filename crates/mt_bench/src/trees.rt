@@ -12,6 +12,9 @@ use std::marker::Model;
 /// So many calls are made on one tree at most.
 const MOST_CALLS: u64 = 1 << 60;
 
+/// This many loads or steps are one batch.
+pub const BATCH: usize = 64;
+
 /// What a work asks of a tree.
 pub trait TimedTree {
     /// Makes a call.
@@ -20,8 +23,14 @@ pub trait TimedTree {
     /// The entry at an index, or 0.
     fn load(&mut self, index: u64) -> u64;
 
+    /// The entries at these indexes, or 0, in as many places.
+    fn load_many(&mut self, indexes: &[u64], entries: &mut [u64]);
+
     /// Visits all ranges in order.
     fn visit(&mut self) -> Visit;
+
+    /// Visits all ranges in order, in batches of steps.
+    fn visit_many(&mut self) -> Visit;
 }
 
 /// All ranges, visited once: how many there are, and the sum of their entries and first indexes.
@@ -36,6 +45,13 @@ impl Visit {
     pub fn take(&mut self, range: &Range) {
         self.count = self.count.wrapping_add(1);
         self.sum = self.sum.wrapping_add(range.entry).wrapping_add(range.first);
+    }
+
+    /// So many more.
+    pub fn take_all(&mut self, ranges: &[Range]) {
+        for range in ranges {
+            self.take(range);
+        }
     }
 }
 
@@ -81,8 +97,16 @@ impl TimedTree for Nodes {
         self.engine.load(index).unwrap_or(0)
     }
 
+    fn load_many(&mut self, indexes: &[u64], entries: &mut [u64]) {
+        self.engine.load_many(indexes, entries);
+    }
+
     fn visit(&mut self) -> Visit {
         visit_all(&mut self.engine)
+    }
+
+    fn visit_many(&mut self) -> Visit {
+        visit_by_batches(&mut self.engine)
     }
 }
 
@@ -97,6 +121,28 @@ fn visit_all(engine: &mut Engine<PlainRows>) -> Visit
             break;
         };
         visit.take(&range);
+    }
+    visit
+}
+
+/// Visits all ranges of an engine's map in order, `BATCH` in a batch.
+fn visit_by_batches(engine: &mut Engine<PlainRows>) -> Visit
+    ensures { OnlyReads engine.old.sheet engine.new.sheet }
+{
+    let mut visit = Visit::default();
+    let none = Range {
+        first: 0,
+        last: 0,
+        entry: 0,
+    };
+    let mut ranges = [none; BATCH];
+    let mut walk = engine.walk_from(0);
+    for _ in 0..u64::MAX {
+        let count = engine.step_many(&mut walk, &mut ranges);
+        visit.take_all(&ranges[..count]);
+        if count < BATCH {
+            break;
+        }
     }
     visit
 }

@@ -3,7 +3,7 @@
 ghost use Rattle.std.specs.Prelude.{◌≡◌, ◌*◌};
 
 use crate::draws::DrawnIndexes;
-use crate::trees::TimedTree;
+use crate::trees::{BATCH, TimedTree};
 use mt_base::{Call, Kind, Reply, top, width_of};
 
 /// Allocations lie below 2^48.
@@ -93,6 +93,54 @@ pub fn load(tree: &mut impl TimedTree, ranges: u32, times: u64, seed: u64) -> u6
     for _ in 0..times {
         let index = u64::from(draws.below(ranges.saturating_mul(16)));
         sum = sum.wrapping_add(tree.load(index));
+    }
+    sum
+}
+
+/// Draws indexes of the ranges, one for each place.
+fn draw_all(draws: &mut DrawnIndexes, ranges: u32, indexes: &mut [u64]) {
+    for index in indexes {
+        *index = u64::from(draws.below(ranges.saturating_mul(16)));
+    }
+}
+
+/// The sum of these entries and of what was summed up before.
+fn summed(entries: &[u64], before: u64) -> u64 {
+    let mut sum = before;
+    for entry in entries {
+        sum = sum.wrapping_add(*entry);
+    }
+    sum
+}
+
+/// Loads entries in batches, `times` entries, and sums them up.
+pub fn load_many(tree: &mut impl TimedTree, ranges: u32, times: u64, seed: u64) -> u64 {
+    let mut draws = DrawnIndexes::new(seed);
+    let (mut indexes, mut entries) = ([0_u64; BATCH], [0_u64; BATCH]);
+    let (mut left, mut sum) = (times, 0_u64);
+    for _ in 0..times {
+        let count = left.min(BATCH as u64) as usize;
+        if count == 0 {
+            break;
+        }
+        draw_all(&mut draws, ranges, &mut indexes[..count]);
+        tree.load_many(&indexes[..count], &mut entries[..count]);
+        sum = summed(&entries[..count], sum);
+        left -= count as u64;
+    }
+    sum
+}
+
+/// Visits all ranges in order, in batches, until `times` ranges were visited, and sums them up.
+pub fn visit_many(tree: &mut impl TimedTree, times: u64) -> u64 {
+    let (mut count, mut sum) = (0_u64, 0_u64);
+    for _ in 0..times {
+        if times <= count {
+            break;
+        }
+        let visited = tree.visit_many();
+        count = count.wrapping_add(visited.count);
+        sum = sum.wrapping_add(visited.sum);
     }
     sum
 }
