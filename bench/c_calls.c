@@ -19,6 +19,21 @@ static void ask(struct maple_tree *t) {
     same_found(status, &got, prev(index, other), __LINE__);
 }
 
+/* Many look-ups in one call: of none, of few, of as many as go down at once, and with fewer places than indexes, or more. */
+static void ask_many(struct maple_tree *t) {
+    uint64_t indexes[40], entries[40];
+    size_t asked = draw(4) ? draw(40) : 8 * draw(5), places = draw(3) ? asked : draw(40);
+    for (size_t k = 0; k < 40; k++) {
+        indexes[k] = draw(20) ? draw(SPAN + 9) : draw(2) ? UINT64_MAX : UINT32_MAX;
+        entries[k] = 7;
+    }
+    SAME("look-ups", maple_load_many(t, indexes, asked, entries, places), 0);
+    for (size_t k = 0; k < 40; k++) {
+        const struct maple_range *found = load(indexes[k]);
+        SAME("an entry of many", entries[k], k >= asked || k >= places ? 7 : found ? found->entry : 0);
+    }
+}
+
 static void whole(struct maple_tree *t) {
     struct maple_range got;
     uint64_t index = 0;
@@ -54,6 +69,30 @@ static void walks(struct maple_tree *t) {
     SAME("as it was", memcmp(&kept, &walk, sizeof walk), 0);
     walk = (struct maple_walk){.next = UINT64_MAX};
     SAME("above all", maple_step(t, &walk, &got), ENOENT);
+}
+
+/* A walk in batches, each of so many places, with a step by itself and a store of what is there between them. */
+static void walk_many(struct maple_tree *t) {
+    struct maple_walk walk = {.next = draw(SPAN + 9)}, kept;
+    struct maple_range got[40], one;
+    uint64_t word;
+    size_t at = from(walk.next), found;
+    do {
+        size_t places = draw(5) ? draw(40) : 0, left = count - at, wanted = places < left ? places : left;
+        for (size_t k = 0; k < 40; k++) got[k] = (struct maple_range){7, 7, 7};
+        kept = walk;
+        SAME("a batch", maple_step_many(t, &walk, got, places, &found), wanted || !walk.ended ? 0 : ENOENT);
+        SAME("so many", found, wanted);
+        for (size_t k = 0; k < 40; k++) same_range(got + k, k < wanted ? list + at + k : &(struct maple_range){7, 7, 7}, __LINE__);
+        if (!places) SAME("it stays", memcmp(&kept, &walk, sizeof walk), 0);
+        at += wanted;
+        if (places > left) { SAME("it has ended", walk.ended, 1); break; }
+        if (at < count && draw(9) == 0) SAME("a store between", maple_store(t, list[at].first, list[at].last, list[at].entry, &word), 0);
+        if (at < count && draw(9) == 0) { SAME("a step between", maple_step(t, &walk, &one), 0); same_range(&one, list + at++, __LINE__); }
+    } while (1);
+    kept = walk;
+    SAME("none is left", maple_step_many(t, &walk, got, 40, &found), ENOENT); SAME("none", found, 0);
+    SAME("as it was", memcmp(&kept, &walk, sizeof walk), 0);
 }
 
 /* A walk up to a bound: it has ended as soon as no range is left. */
@@ -190,6 +229,21 @@ static void again(struct maple_tree *t, struct maple_tree *other, uint32_t kind)
     whole(other);
 }
 
+/* A store that tells all that it met, as far as there is room, whatever it came to. */
+static void store_over(struct maple_tree *t) {
+    uint64_t first = draw(SPAN), last = first + draw(draw(9) ? 60 : SPAN), entry = draw(5) ? draw(9000) : 0, word = 77, told = 77;
+    struct maple_range met[9], unmet = {7, 7, 7};
+    size_t room = draw(10), at, many = 0, i;
+    if (draw(30) == 0) { uint64_t x = first; first = last + 1; last = x; }
+    int bad = first > last || is_reserved(entry);
+    for (at = from(first); first <= last && at + many < count && list[at + many].first <= last;) many++;
+    for (i = 0; i < 9; i++) met[i] = unmet;
+    SAME("a store over all", maple_store_over(t, first, last, entry, met, room, &told, &word), bad ? EINVAL : 0);
+    SAME("so many", told, many);
+    for (i = 0; i < 9; i++) same_range(met + i, i < room && i < many ? list + at + i : &unmet, __LINE__);
+    SAME("the first of them", word, bad ? 0 : over(first, last, entry));
+}
+
 static void act(struct maple_tree *t, uint32_t kind) {
     uint64_t first = draw(SPAN), last = first + draw(12), entry = draw(5) ? draw(9000) : 0, word = 77, start = 0;
     uint64_t size = 1 + draw(9), min = draw(SPAN), max = min + draw(200);
@@ -236,6 +290,12 @@ static void act(struct maple_tree *t, uint32_t kind) {
     }
 }
 
+static void count_of_none(struct maple_tree *t) {
+    struct maple_range met = {7, 7, 7}, unmet = met;
+    uint64_t told = 7, word = 7;
+    SAME("closed", maple_store_over(t, 1, 2, 3, &met, 1, &told, &word), EBADF); SAME("none met", told | word, 0); same_range(&met, &unmet, __LINE__);
+}
+
 static void closed(struct maple_tree *t) {
     struct maple_range r = {7, 7, 7};
     uint64_t word = 7;
@@ -244,6 +304,7 @@ static void closed(struct maple_tree *t) {
     SAME("closed", maple_erase(t, 1, &r), EBADF); same_range(&r, &none, __LINE__);
     SAME("closed", maple_alloc(t, 1, 0, 9, 4, &word), EBADF); SAME("closed", maple_ralloc(t, 1, 0, 9, 4, &word), EBADF);
     SAME("closed", maple_gap(t, 1, 0, 9, &word), EBADF); SAME("closed", maple_rgap(t, 1, 0, 9, &word), EBADF);
+    count_of_none(t);
     SAME("closed", maple_clear(t), EBADF); SAME("closed", maple_load(t, 1, &r), EBADF);
     SAME("closed", maple_entry(t, 1), 0);
     SAME("closed", maple_find(t, 1, 9, &r), EBADF); SAME("closed", maple_next(t, 1, 9, &r), EBADF);
@@ -256,6 +317,10 @@ static void closed(struct maple_tree *t) {
     uint8_t out[4] = {7, 7, 7, 7};
     size_t used = 7;
     SAME("closed", maple_step(t, &walk, &r), EBADF); SAME("the walk as it was", walk.next, 5); SAME("not ended", walk.ended, 0);
+    uint64_t entries[2] = {7, 7};
+    SAME("closed", maple_load_many(t, (uint64_t[]){1, 2}, 2, entries, 2), EBADF); SAME("closed", entries[0] + entries[1], 14);
+    size_t found = 7;
+    SAME("closed", maple_step_many(t, &walk, &r, 1, &found), EBADF); SAME("none", found, 0); SAME("the walk as it was", walk.next, 5);
     SAME("closed", maple_step_to(t, &walk, 9, &r), EBADF); SAME("the walk as it was", walk.next, 5); SAME("not ended", walk.ended, 0);
     SAME("closed", maple_stats(t, &stats), EBADF); SAME("no rows", stats.rows + stats.free + stats.live + stats.held + stats.height + stats.calls, 0);
     SAME("closed", maple_check(t, &form), EBADF); SAME("no form", form.height + form.rows + form.ranges, 0);
@@ -293,6 +358,8 @@ static void opens(void) {
     SAME("stored", maple_load(&t, (i - 2) * 10, &r), 0);
     SAME("not ready", maple_preallocate(&t), ENOMEM);
     SAME("so no store", maple_store_prealloc(&t, 9, 9, 4, &word), ENOMEM);
+    uint64_t told = 77;
+    SAME("refused", maple_store_over(&t, 0, i * 10, 4, &r, 1, &told, &word), ENOMEM); SAME("what it met", told, i - 1); SAME("the first", r.last, 4);
     maple_close(&t);
 }
 
@@ -342,9 +409,12 @@ int main(int argc, char **argv) {
         rows_in(t, 4096);
         for (uint64_t step = 0; step < steps; step++) {
             act(t, kind);
+            if (step % 5 == 0) store_over(t);
             if (step % 4 == 0) ask(t);
             if (step == 1400) rows_in(t, 4096);
+            if (step % 4 == 1) ask_many(t);
             if (step % 10 == 9) walk_to(t);
+            if (step % 100 == 8) walk_many(t);
             if (step % 1000 == 999) { whole(t); walks(t); }
             if (step % 1500 == 1499) {
                 again(t, other, kind);

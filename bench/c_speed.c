@@ -150,6 +150,36 @@ struct shared_erased { struct maple_done it; };
 WORKS(own_, struct maple_tree, OWN, u64 answer, struct maple_range read, answer)
 WORKS(shared_, struct maple_user, SHARED, struct maple_done answer, struct maple_read read, answer.word)
 
+/* Loads and steps in batches, of a tree of one's own. */
+#define BATCH 64
+static void own_load_many(struct maple_tree *tree)
+{
+    u64 x = 7, sum = 0, indexes[BATCH], entries[BATCH];
+
+    for (u64 left = times, n; left; left -= n) {
+        n = left < BATCH ? left : BATCH;
+        for (u64 k = 0; k < n; k++)
+            indexes[k] = draw(&x, 16 * ranges);
+        must(maple_load_many(tree, indexes, n, entries, n));
+        for (u64 k = 0; k < n; k++)
+            sum += entries[k];
+    }
+    sink = sum;
+}
+
+static void own_step_many(struct maple_tree *tree)
+{
+    struct maple_range found[BATCH];
+    u64 sum = 0;
+    size_t count;
+
+    for (u64 n = 0; n < times;)
+        for (struct maple_walk walk = {0, 0}; maple_step_many(tree, &walk, found, BATCH, &count) == 0; n += count)
+            for (size_t k = 0; k < count; k++)
+                sum += found[k].entry + found[k].first;
+    sink = sum;
+}
+
 /* A work: what stands before it, untimed, and whether it is done `times` times or once for each range. */
 #define WORK(name, before, for_each) \
     {#name, for_each, own_##before, own_##name, shared_##before, shared_##name}
@@ -162,6 +192,7 @@ static const struct work {
     void (*shared_before)(struct maple_user *), (*shared_work)(struct maple_user *);
 } works[] = {
     WORK(load, store_rand, 0), WORK(iter, store_rand, 0), WORK(overwrite, store_rand, 0),
+    {"load_many", 0, own_store_rand, own_load_many, NULL, NULL}, {"step_many", 0, own_store_rand, own_step_many, NULL, NULL},
     WORK(store_seq, nothing, 1), WORK(store_rand, nothing, 1), WORK(erase, store_rand, 1),
     WORK(alloc, nothing, 1), WORK(ralloc, nothing, 1), WORK(holes, store_seq, 1), WORK(churn, alloc, 0),
 };
@@ -301,7 +332,7 @@ static void shuffle(void)
 
 static int usage(void)
 {
-    fprintf(stderr, "usage: c_speed [t][ra]{load,iter,store_seq,store_rand,overwrite,erase} N, [t]a{alloc,ralloc,holes,churn} N, [ra]{readers,conc} N READERS\n");
+    fprintf(stderr, "usage: c_speed [ra]{load_many,step_many} N, [t][ra]{load,iter,store_seq,store_rand,overwrite,erase} N, [t]a{alloc,ralloc,holes,churn} N, [ra]{readers,conc} N READERS\n");
     return 2;
 }
 
@@ -326,7 +357,7 @@ int main(int argc, char **argv)
         return 0;
     }
     for (size_t i = 0; i < sizeof works / sizeof works[0]; i++)
-        if (!strcmp(name, works[i].name)) {
+        if (!strcmp(name, works[i].name) && (!shared || works[i].shared_work)) {
             printf("%s %" PRIu64 " %.1f\n", argv[1], ranges, time_of(&works[i], kind, shared));
             return 0;
         }

@@ -14,10 +14,13 @@ os.chdir(os.path.join(os.path.dirname(os.path.abspath(__file__)), ".."))
 STRUCTS = {
     "Handle": "maple_tree", "UserHandle": "maple_user", "OutRange": "maple_range", "OutWalk": "maple_walk",
     "OutForm": "maple_form", "OutStats": "maple_stats", "CallWindow": "maple_read", "Outcome": "maple_done",
+    "OutWindow": "maple_window", "OutCall": "maple_call",
 }
 IN_RUST = {
     "RawTree": "maple_tree", "RawUser": "maple_user", "RawRange": "maple_range", "Range": "maple_range",
     "RawWalk": "maple_walk", "RawForm": "maple_form", "RawStats": "maple_stats", "RawRead": "maple_read", "RawDone": "maple_done",
+    "RawWindow": "maple_window",
+    "RawCall": "maple_call",
 }
 WORDS = {"u8": "uint8_t", "u32": "uint32_t", "u64": "uint64_t", "usize": "size_t"}
 
@@ -66,15 +69,25 @@ def declarations_in_rust():
 
 
 def layouts():
-    """The fields of what the exports tell, each of which is a word; a handle is two words, whatever they are called."""
+    """The fields of what the exports tell, and where each begins; a handle is two words, whatever they are called. A user
+    has two cache lines of its own."""
+    sizes = {"u32": 4, "u64": 8}
+    found = {}
     for name in sorted(glob.glob("crates/mt_c/src/*.rt")):
         text = open(name, encoding="utf-8").read()
         for it in re.finditer(r"pub struct (\w+) \{([^}]*)\}", text):
             if it[1] in ("Handle", "UserHandle"):
-                yield STRUCTS[it[1]], 2, []
+                yield STRUCTS[it[1]], 16 if it[1] == "Handle" else 128, []
             elif it[1] in STRUCTS:
-                fields = re.findall(r"pub (\w+): u64", it[2])
-                yield STRUCTS[it[1]], len(fields), fields
+                found[it[1]] = re.findall(r"pub (\w+): (\w+)", it[2])
+    # a struct may hold another one
+    for struct in sorted(found, key=lambda struct: sum(kind in found for _, kind in found[struct])):
+        at, fields = 0, []
+        for field, kind in found[struct]:
+            fields.append((field, at))
+            at += sizes[kind]
+        sizes[struct] = at
+        yield STRUCTS[struct], at, fields
 
 
 print('#include "maple_log.h"\n#include "maple_shared.h"\n#include <stdio.h>\n')
@@ -83,8 +96,8 @@ for source in (exports, declarations_in_rust):
     for name, kinds, answer in source():
         count += 1
         print(f"{answer} (*volatile p{count}_{name})({', '.join(kinds)}) = {name};")
-for struct, words, fields in layouts():
-    print(f'_Static_assert(sizeof(struct {struct}) == {8 * words}, "{struct}");')
-    for i, field in enumerate(fields):
-        print(f'_Static_assert(offsetof(struct {struct}, {field}) == {8 * i}, "{struct}.{field}");')
+for struct, size, fields in layouts():
+    print(f'_Static_assert(sizeof(struct {struct}) == {size}, "{struct}");')
+    for field, at in fields:
+        print(f'_Static_assert(offsetof(struct {struct}, {field}) == {at}, "{struct}.{field}");')
 print(f'\nint main(void)\n{{\n    puts("{count} pointers");\n    return 0;\n}}')

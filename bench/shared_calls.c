@@ -108,6 +108,74 @@ static void walk_to(struct maple_user *u) {
     SAME("it has ended", walk.ended, 1);
 }
 
+/* ---- many at once */
+
+static void same_window(const struct maple_window *got, uint64_t want, int line) {
+    answers++;
+    if (got->lo != want || got->hi != want) fail("the window of a batch", line);
+}
+
+/* Entries alone and in a batch; the places that are not reached keep what they had. */
+static void load_many(struct maple_user *u) {
+    enum { ASKED = 9 };
+    uint64_t indexes[ASKED], entries[ASKED];
+    struct maple_window window;
+    size_t asked = draw(ASKED + 1), places = draw(ASKED + 1), n = asked < places ? asked : places;
+    for (size_t i = 0; i < ASKED; i++) indexes[i] = draw(9) ? draw(SPAN + 9) : UINT64_MAX - i, entries[i] = 1000000 + i;
+    SAME("a batch", maple_shared_load_many(u, indexes, asked, entries, places, &window), 0);
+    same_window(&window, made, __LINE__);
+    for (size_t i = 0; i < ASKED; i++) {
+        const struct maple_range *there = load(indexes[i]);
+        uint64_t want = there ? there->entry : 0;
+        SAME("an entry of a batch", entries[i], i < n ? want : 1000000 + i);
+        SAME("an entry alone", maple_shared_entry(u, indexes[i], &window), want);
+        same_window(&window, made, __LINE__);
+    }
+}
+
+/* A walk by batches, with single steps, queries and stores between. */
+static void walk_many(struct maple_user *u) {
+    enum { PLACES = MAPLE_MOST_STEPS + 8 };
+    struct maple_walk walk = {.next = draw(SPAN)}, kept;
+    struct maple_range ranges[PLACES];
+    struct maple_read got;
+    struct maple_window window;
+    struct maple_done done;
+    size_t at = from(walk.next);
+    for (;;) {
+        size_t places = draw(PLACES + 1), most = places < MAPLE_MOST_STEPS ? places : MAPLE_MOST_STEPS, left = count - at;
+        uint64_t found, want = left < most ? left : most;
+        for (size_t i = 0; i < PLACES; i++) ranges[i] = (struct maple_range){1, 1, i};
+        kept = walk;
+        uint32_t status = maple_shared_step_many(u, &walk, ranges, places, &found, &window);
+        SAME("how many of a batch", found, want);
+        same_window(&window, made, __LINE__);
+        for (size_t i = 0; i < want; i++) same_range(ranges + i, list + at + i, __LINE__);
+        for (size_t i = want; i < PLACES; i++) SAME("a place behind", ranges[i].entry, i);
+        SAME("it has ended", walk.ended, want < most);
+        SAME("a batch of steps", status, want == 0 && walk.ended ? ENOENT : 0);
+        if (places == 0) SAME("no place", memcmp(&kept, &walk, sizeof walk), 0);
+        at += want;
+        if (walk.ended) break;
+        if (draw(9) == 0) {
+            status = maple_shared_step(u, &walk, &got);
+            same_read(status, &got, at < count ? list + at : 0, __LINE__);
+            if (walk.ended) break;
+            at++;
+        }
+        if (at < count && draw(9) == 0) {
+            SAME("a store between", maple_try_store(any(), list[at].first, list[at].last, list[at].entry, &done), 0);
+            same_done(&done, list[at].entry, 0, __LINE__);
+        }
+        if (draw(9) == 0) SAME("a pause", maple_pause(u), 0);
+    }
+    kept = walk;
+    uint64_t found;
+    SAME("ended", maple_shared_step_many(u, &walk, ranges, 3, &found, &window), ENOENT);
+    SAME("it stays so", memcmp(&kept, &walk, sizeof walk), 0);
+    same_window(&window, made, __LINE__);
+}
+
 /* ---- calls, of which half are those that would wait */
 
 #define EITHER(name, ...) (draw(2) ? maple_try_##name(__VA_ARGS__) : maple_wait_##name(__VA_ARGS__))
@@ -117,6 +185,22 @@ static void store(struct maple_user *u, uint64_t first, uint64_t last, uint64_t 
     struct maple_done done;
     uint32_t status = draw(2) ? EITHER(store, u, first, last, entry, &done) : EITHER(store_pre, u, first, last, entry, &done);
     SAME("a store", status, bad ? EINVAL : 0);
+    same_done(&done, bad ? 0 : over(first, last, entry), 0, __LINE__);
+}
+
+/* A store that tells all that it met, as far as there is room, whatever it came to. */
+static void store_over(struct maple_user *u) {
+    uint64_t first = draw(SPAN), last = first + draw(draw(9) ? 60 : SPAN), entry = draw(5) ? draw(9000) : 0, told = 77;
+    struct maple_range met[9], unmet = {7, 7, 7};
+    struct maple_done done;
+    size_t room = draw(10), at, many = 0, i;
+    if (draw(30) == 0) { uint64_t x = first; first = last + 1; last = x; }
+    int bad = first > last || is_reserved(entry);
+    for (at = from(first); first <= last && at + many < count && list[at + many].first <= last;) many++;
+    for (i = 0; i < 9; i++) met[i] = unmet;
+    SAME("a store over all", EITHER(store_over, u, first, last, entry, met, room, &told, &done), bad ? EINVAL : 0);
+    SAME("so many", told, many);
+    for (i = 0; i < 9; i++) same_range(met + i, i < room && i < many ? list + at + i : &unmet, __LINE__);
     same_done(&done, bad ? 0 : over(first, last, entry), 0, __LINE__);
 }
 
@@ -149,6 +233,55 @@ static void find_room(struct maple_user *u, int rooms, uint64_t entry) {
     SAME("room", status, want);
     same_done(&done, status ? 0 : start, 0, __LINE__);
     if (!status && stores) over(start, start + size - 1, entry);
+}
+
+/* Several calls under one lock: each comes to what it would alone, in the order in which they stand. */
+static void same_call(const struct maple_call *c, uint32_t kind) {
+    uint64_t start = 0;
+    int rooms = c->verb >= MAPLE_CALL_ALLOC && c->verb <= MAPLE_CALL_RGAP, stores = c->verb != MAPLE_CALL_GAP && c->verb != MAPLE_CALL_RGAP;
+    int high = c->verb == MAPLE_CALL_RALLOC || c->verb == MAPLE_CALL_RGAP, none_at_all = c->entry == 0 && c->verb >= MAPLE_CALL_INSERT;
+    int bad = c->first > c->last || (rooms && (!(kind % 2) || c->last - c->first < c->size - 1)) || (stores && (is_reserved(c->entry) || none_at_all));
+    const struct maple_range *was = load(c->first);
+    if (c->verb == MAPLE_CALL_CLEAR) {
+        SAME("a clearing", c->status, 0); same_done(&c->done, 0, 0, __LINE__);
+        count = 0;
+    } else if (c->verb == MAPLE_CALL_ERASE) {
+        SAME("an erase", c->status, was ? 0 : ENOENT); same_done(&c->done, 0, was, __LINE__);
+        if (was) drop(was - list);
+    } else if (rooms) {
+        SAME("room", c->status, bad ? EINVAL : room(c->size, c->first, c->last, high, &start) ? 0 : EBUSY);
+        same_done(&c->done, c->status ? 0 : start, 0, __LINE__);
+        if (!c->status && stores) over(start, start + c->size - 1, c->entry);
+    } else if (c->verb == MAPLE_CALL_INSERT) {
+        SAME("an insert", c->status, bad ? EINVAL : held(c->first, c->last) ? EEXIST : 0); same_done(&c->done, 0, 0, __LINE__);
+        if (!c->status) over(c->first, c->last, c->entry);
+    } else {
+        SAME("a store", c->status, bad ? EINVAL : 0);
+        same_done(&c->done, bad ? 0 : over(c->first, c->last, c->entry), 0, __LINE__);
+    }
+}
+
+static void batch(struct maple_user *u, uint32_t kind) {
+    struct maple_call calls[6] = {0}, asked[6];
+    size_t many = draw(7), i;
+    for (i = 0; i < many; i++) {
+        uint64_t first = draw(SPAN), last = first + draw(draw(2) ? 12 : 200), x = first;
+        if (draw(60) == 0) first = last + 1, last = x;
+        calls[i] = (struct maple_call){.verb = (uint32_t)(draw(900) ? 1 + draw(8) : MAPLE_CALL_CLEAR), .status = 77, .first = first, .last = last, .entry = draw(5) ? draw(9000) : 0, .size = 1 + draw(9)};
+    }
+    memcpy(asked, calls, sizeof calls);
+    if (many) {
+        uint32_t verb = calls[many - 1].verb;
+        calls[many - 1].verb = asked[many - 1].verb = draw(2) ? 0 : MAPLE_CALL_CLEAR + 1;
+        SAME("no such call", maple_try_batch(u, calls, many), EINVAL); SAME("as it was", memcmp(calls, asked, many * sizeof *calls), 0);
+        calls[many - 1].verb = asked[many - 1].verb = verb;
+    }
+    SAME("a batch", EITHER(batch, u, calls, many), 0);
+    for (i = 0; i < many; i++) {
+        const struct maple_call *c = calls + i, *was = asked + i;
+        SAME("as it was asked", c->verb == was->verb && c->first == was->first && c->last == was->last && c->entry == was->entry && c->size == was->size, 1);
+        same_call(c, kind);
+    }
 }
 
 static void act(struct maple_user *u, uint32_t kind) {
@@ -328,11 +461,14 @@ static void closed(struct maple_user *u) {
     struct maple_done d = {7, 7, 7, 7, 7, 7, 7, 7, 7, 7, 7};
     struct maple_user other = {0};
     struct maple_walk walk = {5, 0};
+    struct maple_call call = {.verb = MAPLE_CALL_CLEAR, .status = 77};
     struct maple_form form = {7, 7, 7};
     struct maple_stats stats = {7, 7, 7, 7, 7, 7};
     uint8_t byte[1] = {7};
     size_t used = 7;
-    uint64_t calls = 7, places = 7;
+    uint64_t calls = 7, places = 7, entry = 7, found = 7;
+    struct maple_range range = {7, 7, 7};
+    struct maple_window window = {7, 7};
 #define CLOSED(made_by) SAME("closed", made_by, EBADF)
 #define NO_READ(made_by) CLOSED(made_by); none_read(&r, __LINE__); r.hi = 7
 #define NO_CALL(made_by) CLOSED(made_by); none_done(&d, __LINE__); d.call = 7
@@ -341,10 +477,16 @@ static void closed(struct maple_user *u) {
     NO_READ(maple_shared_step_to(u, &walk, 9, &r)); CLOSED(maple_pause(u));
     CLOSED(maple_place(u, &places)); SAME("no place", places, 0); places = 7;
     SAME("the walk as it was", walk.next, 5); SAME("not ended", walk.ended, 0);
+    SAME("no entry", maple_shared_entry(u, 1, &window), 0); same_window(&window, 0, __LINE__); window.hi = 7;
+    CLOSED(maple_shared_load_many(u, &calls, 1, &entry, 1, &window)); SAME("as before", entry, 7); same_window(&window, 0, __LINE__); window.hi = 7;
+    CLOSED(maple_shared_step_many(u, &walk, &range, 1, &found, &window)); SAME("as before", range.entry, 7); SAME("none", found, 0);
+    same_window(&window, 0, __LINE__); SAME("the walk as it was", walk.next, 5); SAME("not ended", walk.ended, 0);
     NO_CALL(maple_try_store(u, 1, 2, 3, &d)); NO_CALL(maple_try_store_pre(u, 1, 2, 3, &d)); NO_CALL(maple_try_insert(u, 1, 2, 3, &d));
     NO_CALL(maple_try_erase(u, 1, &d)); NO_CALL(maple_try_alloc(u, 1, 0, 9, 4, &d)); NO_CALL(maple_try_ralloc(u, 1, 0, 9, 4, &d));
     NO_CALL(maple_try_gap(u, 1, 0, 9, &d)); NO_CALL(maple_try_rgap(u, 1, 0, 9, &d)); NO_CALL(maple_try_clear(u, &d));
     NO_CALL(maple_wait_store(u, 1, 2, 3, &d)); NO_CALL(maple_wait_clear(u, &d));
+    CLOSED(maple_try_batch(u, &call, 1)); SAME("as it was", call.status, 77); none_done(&call.done, __LINE__);
+    NO_CALL(maple_try_store_over(u, 1, 2, 3, &range, 1, &calls, &d)); SAME("none met", calls, 0); SAME("as before", range.entry, 7); calls = 7;
     CLOSED(maple_share(u, &other)); CLOSED(maple_leave(&other)); CLOSED(maple_leave(u)); CLOSED(maple_learn(u, 0));
     CLOSED(maple_sync(u, &calls)); SAME("no calls", calls, 0); calls = 7;
     CLOSED(maple_settle(u, &calls, &places)); SAME("no calls", calls, 0); SAME("no places", places, 0);
@@ -378,7 +520,9 @@ static void opens(void) {
     SAME("learnt", maple_learn(&other, done.call), 0);
     SAME("at the top", maple_shared_load(&other, UINT32_MAX, &read), 0); SAME("its last", read.last, UINT32_MAX);
     SAME("none", maple_try_erase(&other, 6, &done), ENOENT); SAME("a call", done.call, 3);
-    SAME("clear", maple_try_clear(&u, &done), 0); SAME("a call", done.call, 4);
+    struct maple_call two[2] = {{.verb = MAPLE_CALL_CLEAR, .status = 77}, {.verb = MAPLE_CALL_CLEAR, .status = 77}};
+    SAME("one too many", maple_wait_batch(&other, two, 2), EOVERFLOW); SAME("neither is made", two[0].status + two[1].status, 154); none_done(&two[0].done, __LINE__);
+    SAME("one is left", maple_try_batch(&u, two + 1, 1), 0); SAME("done", two[1].status, 0); SAME("a call", two[1].done.call, 4);
     SAME("worn", maple_wait_store(&other, 1, 1, 4, &done), EOVERFLOW); none_done(&done, __LINE__);
     SAME("none left", maple_shared_next(&other, 0, UINT32_MAX, &read), ENOENT); SAME("seen", read.lo, 4);
     SAME("in step", maple_sync(&u, &calls), 0); SAME("so many", calls, 4);
@@ -425,10 +569,14 @@ int main(int argc, char **argv) {
         for (int i = 1; i < USERS - 1; i++) SAME("another user", maple_share(users + draw(i), users + i), 0);
         for (uint64_t step = 0; step < steps; step++) {
             act(any(), kind);
+            if (step % 5 == 0) batch(any(), kind);
+            if (step % 5 == 1) store_over(any());
             if (step % 4 == 0) ask(any());
             if (step % 100 == 99) meet();
             if (step % 300 == 299) come_and_go();
             if (step % 10 == 9) walk_to(any());
+            if (step % 10 == 4) load_many(any());
+            if (step % 50 == 24) walk_many(any());
             if (step % 1000 == 999) walks(any());
             if (step % 3000 == 2999) of_tree(kind);
             if (step % 1000 == 499) whole();

@@ -15,7 +15,7 @@
 #include <string.h>
 #include <ucontext.h>
 
-enum { PLACES = 100, READS = 7, STACK = 1 << 17, ROUNDS = 4000, PATTERN = 0xa5 };
+enum { PLACES = 100, READS = 10, STACK = 1 << 17, ROUNDS = 4000, PATTERN = 0xa5 };
 
 static struct maple_user writer, handlers;
 static volatile sig_atomic_t handled, wrong, in_midst, given_up, at_work;
@@ -44,6 +44,30 @@ static int is_of(const struct maple_read *read, uint64_t place)
                             : read->first == 10 * place && read->last == read->first + 9 && maple_to_value(read->entry) % PLACES == place;
 }
 
+/* An entry alone, or by a batch of two look-ups, as a read of the range of this place. No call goes on meanwhile, so both entries are one. */
+static uint32_t entry_so(int many, uint64_t place, struct maple_read *read)
+{
+    struct maple_window window = {7, 7};
+    uint64_t indexes[2] = {10 * place, 10 * place + 9}, entries[3] = {7, 7, 7};
+    if (many) wrong |= maple_shared_load_many(&handlers, indexes, 2, entries, 3, &window) != 0;
+    else entries[0] = entries[1] = maple_shared_entry(&handlers, indexes[0], &window);
+    wrong |= entries[0] != entries[1] || entries[2] != 7;
+    *read = (struct maple_read){window.lo, window.hi, entries[0] ? indexes[0] : 0, entries[0] ? indexes[1] : 0, entries[0]};
+    return entries[0] ? 0 : ENOENT;
+}
+
+/* A batch of two steps, as a read of the first range that it finds. */
+static uint32_t steps_so(struct maple_walk *walk, struct maple_read *read)
+{
+    struct maple_window window = {7, 7};
+    struct maple_range ranges[3] = {{7, 7, 7}, {7, 7, 7}, {7, 7, 7}};
+    uint64_t count = 7;
+    uint32_t status = maple_shared_step_many(&handlers, walk, ranges, 2, &count, &window);
+    wrong |= count < 1 || count > 2 || (count == 2 && ranges[1].first <= ranges[0].last) || ranges[2].first != 7;
+    *read = (struct maple_read){window.lo, window.hi, ranges[0].first, ranges[0].last, ranges[0].entry};
+    return status;
+}
+
 static uint32_t read_so(int which, uint64_t place, struct maple_walk *walk, struct maple_read *read)
 {
     uint64_t at = 10 * place + 5;
@@ -54,6 +78,8 @@ static uint32_t read_so(int which, uint64_t place, struct maple_walk *walk, stru
     case 3: return maple_shared_prev(&handlers, at + 10, at, read);
     case 4: return maple_shared_rfind(&handlers, at + 4, at, read);
     case 5: return maple_shared_step(&handlers, walk, read);
+    case 6: case 7: return entry_so(which == 7, place, read);
+    case 8: return steps_so(walk, read);
     default: return maple_learn(&handlers, floor_seen);
     }
 }
@@ -65,6 +91,7 @@ static void sample_its_own(uint64_t place)
     struct maple_read read = {7, 7, 7, 7, 7};
     struct maple_done made = {7, 7, 7, 7, 7, 7, 7, 7, 7, 7, 7};
     struct maple_user more = {0, 0};
+    struct maple_window window = {7, 7};
     uint64_t calls = 7;
     uint32_t status = maple_shared_load(&writer, 10 * place + 5, &read);
     if (status == EDEADLK) {
@@ -72,6 +99,7 @@ static void sample_its_own(uint64_t place)
         wrong |= (read.lo | read.hi | read.first | read.last | read.entry) != 0;
         wrong |= maple_try_store(&writer, 1, 2, 1, &made) != EDEADLK || (made.call | made.word | made.need) != 0;
         wrong |= maple_sync(&writer, &calls) != EDEADLK || calls != 0;
+        wrong |= maple_shared_entry(&writer, 10 * place, &window) != 0 || (window.lo | window.hi) != 0;
         wrong |= maple_share(&writer, &more) != EDEADLK || more.open != 0 || maple_leave(&writer) != EDEADLK;
         wrong |= maple_shared_open(&writer, MAPLE_RANGE, 10, 1, 9) != EDEADLK;
         maple_shared_close(&writer);
@@ -92,7 +120,7 @@ static void sample(int number)
     (void)number;
     if (status == EAGAIN && which >= 2 && which <= 4) given_up = given_up + 1;
     else if (which == READS - 1) wrong |= status != 0;
-    else if (which == 5) wrong |= status != 0 || (read.first == 10 * place ? !is_of(&read, place) : read.first < 10 * place);
+    else if (which == 5 || which == 8) wrong |= status != 0 || (read.first == 10 * place ? !is_of(&read, place) : read.first < 10 * place);
     else wrong |= status != (read.entry ? 0 : ENOENT) || !is_of(&read, place);
     if (which < READS - 1) {
         wrong |= read.lo < floor_seen || read.hi < read.lo;
@@ -163,8 +191,17 @@ static struct maple_walk walk;
 static struct maple_form form;
 static uint64_t word, places;
 static uint32_t status;
+static struct maple_window window;
+static struct maple_range ranges[40];
+static uint64_t entries[80];
 static uint8_t image[1 << 20];
 static size_t used;
+static struct maple_call calls[9] = {
+    {.verb = MAPLE_CALL_STORE, .first = 10, .last = 900, .entry = 4}, {.verb = MAPLE_CALL_STORE_PRE, .first = 20, .last = 29},
+    {.verb = MAPLE_CALL_INSERT, .first = 20, .last = 25, .entry = 8}, {.verb = MAPLE_CALL_ERASE, .first = 400},
+    {.verb = MAPLE_CALL_ALLOC, .last = 9000, .entry = 4, .size = 7}, {.verb = MAPLE_CALL_RALLOC, .last = 9000, .entry = 4, .size = 7},
+    {.verb = MAPLE_CALL_GAP, .last = 9000, .size = 5}, {.verb = MAPLE_CALL_RGAP, .last = 9000, .size = 5}, {.verb = MAPLE_CALL_CLEAR},
+};
 
 static uint64_t at(void) { return draw(3000); }
 
@@ -172,13 +209,17 @@ static uint64_t at(void) { return draw(3000); }
 #define CLOSES(name, ...) static void does_##name(void) { maple_##name(__VA_ARGS__); }
 static void does_nothing(void) {}
 DOES(shared_load, &user, at(), &found)
+DOES(shared_entry, &user, at(), &window)
+DOES(shared_load_many, &user, entries, 40, entries + 40, 40, &window)
 DOES(shared_find, &user, at(), UINT64_MAX, &found)
 DOES(shared_next, &user, at(), UINT64_MAX, &found)
 DOES(shared_prev, &user, at(), 0, &found)
 DOES(shared_rfind, &user, at(), 0, &found)
 DOES(shared_step, &user, &walk, &found)
+DOES(shared_step_many, &user, &walk, ranges, 40, &word, &window)
 DOES(learn, &user, 1)
 DOES(try_store, &user, at(), 3000 + at(), maple_value(at()), &done)
+DOES(try_store_over, &user, at(), 3000 + at(), maple_value(at()), &range, 1, &word, &done)
 DOES(try_store_pre, &user, at(), 3000 + at(), maple_value(at()), &done)
 DOES(try_insert, &user, at(), at(), maple_value(at()), &done)
 DOES(try_erase, &user, at(), &done)
@@ -187,6 +228,7 @@ DOES(try_ralloc, &user, 1 + at() % 9, 0, 9000, maple_value(at()), &done)
 DOES(try_gap, &user, 1 + at() % 9, 0, 9000, &done)
 DOES(try_rgap, &user, 1 + at() % 9, 0, 9000, &done)
 DOES(try_clear, &user, &done)
+DOES(try_batch, &user, calls, 9)
 DOES(sync, &user, &word)
 DOES(settle, &user, &word, &places)
 DOES(share, &user, &more)
@@ -199,6 +241,7 @@ DOES(rfind, &tree, at(), 0, &range)
 DOES(step, &tree, &walk, &range)
 DOES(store, &tree, at(), 3000 + at(), maple_value(at()), &word)
 DOES(store_pre, &tree, at(), 3000 + at(), maple_value(at()), &word)
+DOES(store_over, &tree, at(), 3000 + at(), maple_value(at()), &range, 1, &places, &word)
 DOES(insert, &tree, at(), at(), maple_value(at()))
 DOES(erase, &tree, at(), &range)
 DOES(alloc, &tree, 1 + at() % 9, 0, 9000, maple_value(at()), &word)
@@ -219,11 +262,13 @@ CLOSES(close, &other)
 #define CALL(name) {#name, MAPLE_CALL_STACK, does_##name}
 static const struct verb verbs[] = {
     {"nothing", MAPLE_READ_STACK, does_nothing},
-    READ(shared_load), READ(shared_find), READ(shared_next), READ(shared_prev), READ(shared_rfind), READ(shared_step), READ(learn),
-    CALL(try_store), CALL(try_store_pre), CALL(try_insert), CALL(try_erase), CALL(try_alloc), CALL(try_ralloc), CALL(try_gap),
-    CALL(try_rgap), CALL(try_clear), CALL(sync), CALL(settle), CALL(share), CALL(leave),
-    CALL(load), CALL(find), CALL(next), CALL(prev), CALL(rfind), CALL(step), CALL(store), CALL(store_pre), CALL(insert), CALL(erase),
-    CALL(alloc), CALL(ralloc), CALL(gap), CALL(rgap), CALL(clear), CALL(preallocate), CALL(store_prealloc), CALL(check), CALL(image),
+    READ(shared_load), READ(shared_entry), READ(shared_load_many), READ(shared_find), READ(shared_next), READ(shared_prev),
+    READ(shared_rfind), READ(shared_step), READ(shared_step_many), READ(learn),
+    CALL(try_store), CALL(try_store_over), CALL(try_store_pre), CALL(try_insert), CALL(try_erase), CALL(try_alloc), CALL(try_ralloc),
+    CALL(try_gap),
+    CALL(try_rgap), CALL(try_clear), CALL(try_batch), CALL(sync), CALL(settle), CALL(share), CALL(leave),
+    CALL(load), CALL(find), CALL(next), CALL(prev), CALL(rfind), CALL(step), CALL(store), CALL(store_pre), CALL(store_over), CALL(insert),
+    CALL(erase), CALL(alloc), CALL(ralloc), CALL(gap), CALL(rgap), CALL(clear), CALL(preallocate), CALL(store_prealloc), CALL(check), CALL(image),
     CALL(copy), CALL(close), CALL(open_image), CALL(close), CALL(build), CALL(close),
 };
 enum { VERBS = sizeof verbs / sizeof *verbs };
@@ -250,6 +295,7 @@ static void change(void)
     uint64_t first = at(), entry = draw(4) ? maple_value(at()) : 0;
     status = maple_try_store(&user, first, first + draw(9), entry, &done);
     status = maple_store(&tree, first, first + draw(9), entry, &word);
+    entries[draw(40)] = first;
     if (draw(200) == 0) walk.next = 0, walk.ended = 0;
 }
 

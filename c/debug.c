@@ -217,10 +217,12 @@ static void leave(const char *name, struct seen seen)
 #define BOUND uint64_t index, uint64_t bound
 #define RANGE struct maple_range *range
 #define READ struct maple_read *read
+#define WINDOW struct maple_window *window
 #define WALK struct maple_walk *walk
 #define DONE struct maple_done *done
 #define SHAPE uint64_t rows, uint32_t users, uint64_t most
 #define RANGES const struct maple_range *ranges, size_t count
+#define INDEXES const uint64_t *indexes, size_t count
 #define BYTES const uint8_t *bytes, size_t length
 #define ROOM uint8_t *out, size_t room, size_t *used
 
@@ -231,6 +233,7 @@ TREE(build, (T, uint32_t kind, uint64_t rows, RANGES, uint64_t *at), (tree, kind
 TESTED(void, close, tree, (T), (tree), , return)
 TREE(store, (T, AT, uint64_t *old), (tree, first, last, entry, old))
 TREE(store_pre, (T, AT, uint64_t *old), (tree, first, last, entry, old))
+TREE(store_over, (T, AT, struct maple_range *met, size_t room, uint64_t *number, uint64_t *old), (tree, first, last, entry, met, room, number, old))
 TREE(insert, (T, AT), (tree, first, last, entry))
 TREE(erase, (T, uint64_t index, RANGE), (tree, index, range))
 TREE(alloc, (T, IN, uint64_t entry, uint64_t *start), (tree, size, min, max, entry, start))
@@ -241,12 +244,14 @@ TREE(clear, (T), (tree))
 TREE(preallocate, (T), (tree))
 TREE(store_prealloc, (T, AT, uint64_t *old), (tree, first, last, entry, old))
 TESTED(uint64_t, entry, tree, (T, uint64_t index), (tree, index), uint64_t found =, return found)
+TREE(load_many, (T, INDEXES, uint64_t *entries, size_t places), (tree, indexes, count, entries, places))
 TREE(load, (T, uint64_t index, RANGE), (tree, index, range))
 TREE(find, (T, BOUND, RANGE), (tree, index, bound, range))
 TREE(next, (T, BOUND, RANGE), (tree, index, bound, range))
 TREE(prev, (T, BOUND, RANGE), (tree, index, bound, range))
 TREE(rfind, (T, BOUND, RANGE), (tree, index, bound, range))
 TREE(step, (T, WALK, RANGE), (tree, walk, range))
+TREE(step_many, (T, WALK, RANGE, size_t places, size_t *count), (tree, walk, range, places, count))
 TREE(step_to, (T, WALK, uint64_t max, RANGE), (tree, walk, max, range))
 TREE(check, (T, struct maple_form *form), (tree, form))
 TREE(stats, (T, struct maple_stats *stats), (tree, stats))
@@ -262,12 +267,15 @@ USER(leave, (U), (user))
 TESTED(void, shared_close, user, (U), (user), , return)
 USER(place, (U, uint64_t *place), (user, place))
 USER(shared_load, (U, uint64_t index, READ), (user, index, read))
+TESTED(uint64_t, shared_entry, user, (U, uint64_t index, WINDOW), (user, index, window), uint64_t found =, return found)
+USER(shared_load_many, (U, INDEXES, uint64_t *entries, size_t places, WINDOW), (user, indexes, count, entries, places, window))
 USER(shared_find, (U, BOUND, READ), (user, index, bound, read))
 USER(shared_next, (U, BOUND, READ), (user, index, bound, read))
 USER(shared_prev, (U, BOUND, READ), (user, index, bound, read))
 USER(shared_rfind, (U, BOUND, READ), (user, index, bound, read))
 USER(shared_step, (U, WALK, READ), (user, walk, read))
 USER(shared_step_to, (U, WALK, uint64_t max, READ), (user, walk, max, read))
+USER(shared_step_many, (U, WALK, RANGE, size_t places, uint64_t *count, WINDOW), (user, walk, range, places, count, window))
 USER(pause, (U), (user))
 USER(learn, (U, uint64_t number), (user, number))
 USER(sync, (U, uint64_t *number), (user, number))
@@ -280,6 +288,7 @@ USER(shared_image, (U, ROOM), (user, out, room, used))
 /* each call that tries, and the one that waits */
 #define TRIES(name, params, args) USER(try_##name, params, args) USER(wait_##name, params, args)
 TRIES(store, (U, AT, DONE), (user, first, last, entry, done))
+TRIES(store_over, (U, AT, struct maple_range *met, size_t room, uint64_t *number, DONE), (user, first, last, entry, met, room, number, done))
 TRIES(store_pre, (U, AT, DONE), (user, first, last, entry, done))
 TRIES(insert, (U, AT, DONE), (user, first, last, entry, done))
 TRIES(erase, (U, uint64_t index, DONE), (user, index, done))
@@ -288,6 +297,7 @@ TRIES(ralloc, (U, IN, uint64_t entry, DONE), (user, size, min, max, entry, done)
 TRIES(gap, (U, IN, DONE), (user, size, min, max, done))
 TRIES(rgap, (U, IN, DONE), (user, size, min, max, done))
 TRIES(clear, (U, DONE), (user, done))
+TRIES(batch, (U, struct maple_call *calls, size_t count), (user, calls, count))
 
 USER(wait_next, (U, BOUND, READ), (user, index, bound, read))
 USER(wait_prev, (U, BOUND, READ), (user, index, bound, read))

@@ -55,6 +55,8 @@ static int rest(unsigned *turn)
 #define IN struct maple_user *user, uint64_t size, uint64_t min, uint64_t max
 #define TO struct maple_user *user, uint64_t index, uint64_t bound, struct maple_read *read
 WAITS(store, maple_try_store, (AT, struct maple_done *done), (user, first, last, entry, done))
+WAITS(store_over, maple_try_store_over, (AT, struct maple_range *met, size_t room, uint64_t *count, struct maple_done *done),
+      (user, first, last, entry, met, room, count, done))
 WAITS(store_pre, maple_try_store_pre, (AT, struct maple_done *done), (user, first, last, entry, done))
 WAITS(insert, maple_try_insert, (AT, struct maple_done *done), (user, first, last, entry, done))
 WAITS(erase, maple_try_erase, (struct maple_user *user, uint64_t index, struct maple_done *done), (user, index, done))
@@ -63,6 +65,7 @@ WAITS(ralloc, maple_try_ralloc, (IN, uint64_t entry, struct maple_done *done), (
 WAITS(gap, maple_try_gap, (IN, struct maple_done *done), (user, size, min, max, done))
 WAITS(rgap, maple_try_rgap, (IN, struct maple_done *done), (user, size, min, max, done))
 WAITS(clear, maple_try_clear, (struct maple_user *user, struct maple_done *done), (user, done))
+WAITS(batch, maple_try_batch, (struct maple_user *user, struct maple_call *calls, size_t count), (user, calls, count))
 WAITS(next, maple_shared_next, (TO), (user, index, bound, read))
 WAITS(prev, maple_shared_prev, (TO), (user, index, bound, read))
 WAITS(rfind, maple_shared_rfind, (TO), (user, index, bound, read))

@@ -183,6 +183,13 @@ void maple_close(struct maple_tree *tree) MAPLE_NONNULL;
  * one range needs no nodes. */
 uint32_t maple_store(struct maple_tree *tree, uint64_t first, uint64_t last, uint64_t entry, uint64_t *old) MAPLE_NONNULL MAPLE_CHECKED;
 
+/* As maple_store, and returns all ranges that it met: those that held an index of first .. last before it, in rising order, whole as they
+ * were. met begins with them, as far as it has room; the rest of met keeps what it had. count: how many they are; 0 where first is above
+ * last. Both are written whatever the call returns, and the ranges were overwritten only where that is 0. So whoever keeps objects in a tree
+ * knows which of them to free. A walk from first up to last (maple_step_to) counts them before the store. */
+uint32_t maple_store_over(struct maple_tree *tree, uint64_t first, uint64_t last, uint64_t entry, struct maple_range *met, size_t room,
+                          uint64_t *count, uint64_t *old) MAPLE_NONNULL MAPLE_CHECKED;
+
 /* As maple_store, but where it is not EINVAL it always requires 3 free nodes a level and 1, even if it turns out to need none. */
 uint32_t maple_store_pre(struct maple_tree *tree, uint64_t first, uint64_t last, uint64_t entry, uint64_t *old) MAPLE_NONNULL MAPLE_CHECKED;
 
@@ -221,8 +228,13 @@ uint32_t maple_store_prealloc(struct maple_tree *tree, uint64_t first, uint64_t 
 
 /* ---- reads (queries). None takes memory or changes a range. 0; ENOENT: there is no such range; EBADF: the tree is closed. */
 
-/* Returns the entry at index; 0: no range holds it, or the tree is closed. It takes less time than maple_load. */
+/* Returns the entry at index alone; 0: no range holds it, or the tree is closed. */
 uint64_t maple_entry(struct maple_tree *tree, uint64_t index) MAPLE_NONNULL;
+
+/* The entries at count indexes, in the first places of entries: what maple_entry returns for each, 0 where there is none. If there are
+ * fewer places than indexes, the indexes after them are not read. The other places keep what they had.
+ * 0; EBADF: the tree is closed, and no place is written. */
+uint32_t maple_load_many(struct maple_tree *tree, const uint64_t *indexes, size_t count, uint64_t *entries, size_t places) MAPLE_NONNULL;
 
 /* The range that holds index. */
 uint32_t maple_load(struct maple_tree *tree, uint64_t index, struct maple_range *range) MAPLE_NONNULL;
@@ -243,6 +255,13 @@ uint32_t maple_rfind(struct maple_tree *tree, uint64_t index, uint64_t min, stru
  * walk is as it was. The tree remembers the leaf of the walk that made the last step, so that walk descends from the root at most once a
  * leaf. Writes between two steps do no harm, nor do other walks: the walk then continues from its index, by a descent from the root. */
 uint32_t maple_step(struct maple_tree *tree, struct maple_walk *walk, struct maple_range *range) MAPLE_NONNULL;
+
+/* As many steps in one call as there are places. ranges: what each step finds, in the first places; the other places keep what they had.
+ * count: how many ranges it found. These are fewer than places only if there are no more, and then the walk has ended. 0; ENOENT: it found
+ * none, and the walk has ended. With 0 places it finds none, and the walk continues from where it was, or has ended if that is above the
+ * tree's greatest index. EBADF: the tree is closed, no place is written, and the walk is as it was. */
+uint32_t maple_step_many(struct maple_tree *tree, struct maple_walk *walk, struct maple_range *ranges, size_t places, size_t *count)
+    MAPLE_NONNULL;
 
 /* As maple_step, for ranges that begin at max or below. ENOENT: the walk has ended. The next range begins above max, or there is none, or
  * the walk is above max. */

@@ -31,8 +31,9 @@
  *
  * Signals. A signal handler may make a read by a user that no interrupted call works on: for example one that its thread keeps for its
  * handlers (examples/c/profiler.c). The read ends within 361 steps at the tree, also where the interrupted thread has the tree's lock, and
- * changes no errno. Where it returns EAGAIN a handler gives up, for no bound on repeats is known. Stack, measured: a read takes less than
- * MAPLE_READ_STACK bytes, any other call of this header or of maple.h less than MAPLE_CALL_STACK.
+ * changes no errno. A batch of reads ends within 91 steps an entry or 198 a place, and 5; one of a walk that has ended within 176. Where a
+ * read returns EAGAIN a handler gives up, for no bound on repeats is known. Stack, measured: a read takes less than MAPLE_READ_STACK bytes,
+ * any other call of this header or of maple.h less than MAPLE_CALL_STACK.
  * A call on a user on which the interrupted call works returns EDEADLK, and leaves the user as it was. A user that the interrupted call
  * opens is not open yet: a handler leaves it alone.
  *
@@ -44,13 +45,15 @@
  *   - No call but reads, as above, is made from a signal handler.
  *   - No thread is cancelled, ends or jumps away while it is in a call: it could keep the lock for good.
  *
- * Each call writes its user. Users of several threads are quicker on cache lines of their own (aligned to 128 bytes, say).
+ * Each call writes its user. So a user has cache lines of its own: it is aligned to 128 bytes (MAPLE_USER_ALIGN). malloc gives less:
+ * memory of a user comes from aligned_alloc, or from a variable.
  *
  * Not promised: that a try ever gets the lock, and so how long a maple_wait_store waits; how often a next, prev or rfind gives up before
- * it has an answer; that memory does not run out where a call takes some.
+ * it has an answer; that memory does not run out where a call takes some. The README of crates/mt_c lists what is not proved, above all
+ * that an object may be freed by maple_oldest.
  *
- * Every call returns a number of Linux's errno.h, and 0 where it was done. It returns EBADF where the user is closed, which stays closed,
- * and EDEADLK where it interrupted, in a signal handler, a call on the same user.
+ * Every call but maple_shared_entry returns a number of Linux's errno.h, and 0 where it was done. It returns EBADF where the user is closed,
+ * which stays closed, and EDEADLK where it interrupted, in a signal handler, a call on the same user.
  * Further results go to its last pointers, which it always writes: zeros where there is no result.
  */
 #ifndef MAPLE_SHARED_H
@@ -64,9 +67,21 @@ extern "C" {
 #endif
 
 /* A user of a shared tree. Zeroed it is closed. The second word is 1 where it is open, and 2 while a call works on it. */
+#define MAPLE_USER_ALIGN 128
 struct maple_user {
-    void *at;
+#if defined(__cplusplus)
+    alignas(MAPLE_USER_ALIGN) void *at;
+#elif defined(__GNUC__)
+    __attribute__((aligned(MAPLE_USER_ALIGN))) void *at;
+#else
+    _Alignas(MAPLE_USER_ALIGN) void *at;
+#endif
     uint64_t open;
+};
+
+/* A version interval: what a read returned is of one version from lo to hi. */
+struct maple_window {
+    uint64_t lo, hi;
 };
 
 /* A read: at one version from lo to hi the tree had this range. Where it had none, the last three are zeros. */
@@ -81,6 +96,27 @@ struct maple_read {
 struct maple_done {
     uint64_t call, word, first, last, entry;
     uint64_t need, free, live, held, by, epoch;
+};
+
+/* A call that maple_try_batch is to make, and its answer. verb: which call it is. first, last, entry and size are its arguments, as far as
+ * it has them: first is the index of an erase, and first and last are min and max of an alloc, a ralloc, a gap and an rgap. status and done
+ * are what that call returns. */
+struct maple_call {
+    uint32_t verb, status;
+    uint64_t first, last, entry, size;
+    struct maple_done done;
+};
+
+enum {
+    MAPLE_CALL_STORE = 1,
+    MAPLE_CALL_STORE_PRE = 2,
+    MAPLE_CALL_INSERT = 3,
+    MAPLE_CALL_ERASE = 4,
+    MAPLE_CALL_ALLOC = 5,
+    MAPLE_CALL_RALLOC = 6,
+    MAPLE_CALL_GAP = 7,
+    MAPLE_CALL_RGAP = 8,
+    MAPLE_CALL_CLEAR = 9
 };
 
 /* A shared tree has at most this many users at a time, and this many calls in its life. It has at least 4 nodes. */
@@ -147,6 +183,16 @@ uint32_t maple_place(struct maple_user *user, uint64_t *place) MAPLE_NONNULL;
 /* The range that holds index. */
 uint32_t maple_shared_load(struct maple_user *user, uint64_t index, struct maple_read *read) MAPLE_NONNULL;
 
+/* Returns the entry that index holds, and 0 where it holds none. It ends within 96 steps at the tree, maple_shared_load within 171. Where
+ * the user is closed, or a call works on it, it returns 0, and the window is zeros: as of an empty tree before its first call. */
+uint64_t maple_shared_entry(struct maple_user *user, uint64_t index, struct maple_window *window) MAPLE_NONNULL;
+
+/* The entries at count indexes, in their order, 0 where an index holds none: as many as there are both indexes and places. The other places
+ * keep what they had. All are of versions in the one window, and none is of an earlier version than the entry before it. With no index or
+ * no place it reads the window alone. 0; EBADF: the user is closed, and the window is zeros. Then every place keeps what it had. */
+uint32_t maple_shared_load_many(struct maple_user *user, const uint64_t *indexes, size_t count, uint64_t *entries, size_t places,
+                                struct maple_window *window) MAPLE_NONNULL;
+
 /* The first range that ends at index or above and begins at max or below. Where index is above max it finds none. */
 uint32_t maple_shared_find(struct maple_user *user, uint64_t index, uint64_t max, struct maple_read *read) MAPLE_NONNULL;
 
@@ -174,6 +220,15 @@ uint32_t maple_shared_step(struct maple_user *user, struct maple_walk *walk, str
  * ends it too. */
 uint32_t maple_shared_step_to(struct maple_user *user, struct maple_walk *walk, uint64_t max, struct maple_read *read) MAPLE_NONNULL;
 
+/* The next ranges of a walk: as many as there are places, and at most MAPLE_MOST_STEPS; the walk continues after them. The other places
+ * keep what they had. All are of versions in the one window, and none is of an earlier version than the range before it. The user keeps
+ * the leaf of the last, as after maple_shared_step.
+ * 0: *count were found. Where these are fewer than both numbers, the walk has ended. With no place it finds none, and the walk is as it
+ * was. ENOENT: none was found, and the walk has ended. EBADF: the user is closed, and the walk and every place are as they were. */
+#define MAPLE_MOST_STEPS 32
+uint32_t maple_shared_step_many(struct maple_user *user, struct maple_walk *walk, struct maple_range *ranges, size_t places, uint64_t *count,
+                                struct maple_window *window) MAPLE_NONNULL;
+
 /* Gives up the walk of the user, and its leaf: it holds no node any more. The walk may be continued, by a descent from the root.
  * 0; EBADF: the user is closed. */
 uint32_t maple_pause(struct maple_user *user) MAPLE_NONNULL;
@@ -190,6 +245,12 @@ uint32_t maple_pause(struct maple_user *user) MAPLE_NONNULL;
 /* As maple_store: done->word is the entry that it met. */
 uint32_t maple_try_store(struct maple_user *user, uint64_t first, uint64_t last, uint64_t entry, struct maple_done *done)
     MAPLE_NONNULL MAPLE_CHECKED;
+
+/* As maple_try_store, and returns all ranges that it met, as maple_store_over: met, room and count are as there. They are those of the tree
+ * that the call found: no other call comes between. Where the lock was found taken, or the user is closed, count is 0 and met is as it
+ * was. */
+uint32_t maple_try_store_over(struct maple_user *user, uint64_t first, uint64_t last, uint64_t entry, struct maple_range *met, size_t room,
+                              uint64_t *count, struct maple_done *done) MAPLE_NONNULL MAPLE_CHECKED;
 
 /* As maple_store_pre: done->word is the entry that it met. */
 uint32_t maple_try_store_pre(struct maple_user *user, uint64_t first, uint64_t last, uint64_t entry, struct maple_done *done)
@@ -221,6 +282,14 @@ uint32_t maple_try_rgap(struct maple_user *user, uint64_t size, uint64_t min, ui
 /* As maple_clear. */
 uint32_t maple_try_clear(struct maple_user *user, struct maple_done *done) MAPLE_NONNULL MAPLE_CHECKED;
 
+/* Makes count calls one after another under one lock. No call of another user comes between: their numbers follow one another. A read takes
+ * no lock, and may return the tree as it was between two of them. Each call's status and done are its answer, and its other words stay as
+ * they were. Where one is refused, those after it are made all the same. The lock is taken for as long as all of them last, and once for an
+ * empty array too.
+ * 0: all were made, whatever each returned. EAGAIN: another user has the lock. EINVAL: a verb is none of these. EOVERFLOW: the tree may not
+ * have that many calls more. EBADF. Where it does not return 0, no call was made, and the array is as it was. */
+uint32_t maple_try_batch(struct maple_user *user, struct maple_call *calls, size_t count) MAPLE_NONNULL MAPLE_CHECKED;
+
 /* ---- what a user has seen. Each gives up the walk of its user. */
 
 /* The user has then seen at least that many calls: its reads are of no older version. It is a read, and takes no lock. What another user
@@ -239,7 +308,7 @@ uint32_t maple_settle(struct maple_user *user, uint64_t *calls, uint64_t *places
 
 /* The epoch of the oldest walk. *calls: how many calls had ended, at least, when the oldest walk or read began that still keeps its leaf.
  * Where there is none, it is the number of all calls. The user has then seen the whole history.
- * It tells when to free what an entry pointed to. Call c removed the entry: free the object once *calls is c or more. For that each reader
+ * It says when to free what an entry pointed to. Call c removed the entry: free the object once *calls is c or more. For that each reader
  * uses the object only in the walk whose step returned it (maple_shared_step). The walk holds it until maple_pause, the end of the walk or
  * any other call of its user. A load gives its leaf back before it returns, so it holds nothing.
  * Nodes that no reader holds are then free for calls. 0; EAGAIN: another user has the lock. */
@@ -266,6 +335,8 @@ uint32_t maple_shared_image(struct maple_user *user, uint8_t *out, size_t room, 
 /* As maple_try_store, .., but they wait for the lock. */
 uint32_t maple_wait_store(struct maple_user *user, uint64_t first, uint64_t last, uint64_t entry, struct maple_done *done)
     MAPLE_NONNULL MAPLE_CHECKED;
+uint32_t maple_wait_store_over(struct maple_user *user, uint64_t first, uint64_t last, uint64_t entry, struct maple_range *met, size_t room,
+                               uint64_t *count, struct maple_done *done) MAPLE_NONNULL MAPLE_CHECKED;
 uint32_t maple_wait_store_pre(struct maple_user *user, uint64_t first, uint64_t last, uint64_t entry, struct maple_done *done)
     MAPLE_NONNULL MAPLE_CHECKED;
 uint32_t maple_wait_insert(struct maple_user *user, uint64_t first, uint64_t last, uint64_t entry, struct maple_done *done)
@@ -280,6 +351,7 @@ uint32_t maple_wait_gap(struct maple_user *user, uint64_t size, uint64_t min, ui
 uint32_t maple_wait_rgap(struct maple_user *user, uint64_t size, uint64_t min, uint64_t max, struct maple_done *done)
     MAPLE_NONNULL MAPLE_CHECKED;
 uint32_t maple_wait_clear(struct maple_user *user, struct maple_done *done) MAPLE_NONNULL MAPLE_CHECKED;
+uint32_t maple_wait_batch(struct maple_user *user, struct maple_call *calls, size_t count) MAPLE_NONNULL MAPLE_CHECKED;
 
 /* As maple_shared_next, maple_shared_prev and maple_shared_rfind, but they read again where the leaf was replaced. */
 uint32_t maple_wait_next(struct maple_user *user, uint64_t index, uint64_t max, struct maple_read *read) MAPLE_NONNULL;

@@ -8,13 +8,17 @@ mod ImagesOpened
 mod Keeping
 mod KindCodes
 mod Looking
+mod CallLists
+mod Overwriting
 mod RangesBuilt
 mod Reading
 mod Telling
 mod Walking
+mod ManySteps
 mod Placing
 mod Sharing
 mod SharedImages
+mod SharingMany
 mod SharedMaps
 mod RowsFor
 mod Using

@@ -1,10 +1,10 @@
 -- What a user finds under the lock of its tree, and what C is told of it.
-use Rattle.mt_c.proofs.Prelude.{◌≡◌, ◌∙◌, ℕ, ◌<◌, ◌≤◌, ◌++◌, List, Option, Some, None, drop, length, ap, subst, inl, inr, IfErr, IfOk, Result, Ok, Err, Form, Busy, Stats, Tree, IsImageIn, IsOldest, IsStatsOf, Pass, map_seen, opened, pass_in, IsBusyOf, OutForm, OutStats, User, UserHandle, no_form, refusal, HasFound, IsFormSeen, IsFoundIn, IsImageSeen, MadeImage, PutsBytes, SharedChecked, SharedImaged, SharedOldest, SharedStats, TellsBytes, TellsCalls, TellsForm, TellsStats, when_found, no_stats, common_of, known_to, paused, user_tree, TriedOnce}
+use Rattle.mt_c.proofs.Prelude.{◌≡◌, ◌∙◌, ℕ, ◌<◌, ◌≤◌, ◌++◌, List, Option, Some, None, drop, length, ap, subst, inl, inr, IfErr, IfOk, Result, Ok, Err, Form, Busy, Look, Stats, Tree, IsFormBehind, IsImagedBehind, IsOldest, IsStatsOf, Pass, opened, pass_in, IsBusyOf, OutForm, OutStats, User, UserHandle, no_form, refusal, Found, HasFound, IsFoundIn, MadeImage, PutsBytes, SharedChecked, SharedImaged, SharedOldest, SharedStats, TellsBytes, TellsCalls, TellsForm, TellsStats, when_found, no_stats, common_of, known_to, paused, user_tree, IsPaused, TriedOnce}
 use Rattle.mt_base.specs.Passes as known
 use Rattle.mt_rule.specs.Turns as turns
 use Rattle.mt_c.proofs.Sharing.{on_closed, on_open}
 
-found_in : {A : Type 0} (is : Tree → known.Pass → A → Type 0) (t : Tree) (p : known.Pass) (a b : Pass) (found : Result A Busy) → pass_in a ≡ p → IfOk found (λ _. known.Saw (opened t) (pass_in a) (pass_in b)) → IfOk found (is t (pass_in b)) → IfErr found (IsBusyOf t)
+found_in : {A : Type 0} (is : Tree → known.Pass → A × Look → Type 0) (t : Tree) (p : known.Pass) (a b : Pass) (found : Found A) → pass_in a ≡ p → IfOk found (λ _. known.Saw (opened t) (pass_in a) (pass_in b)) → IfOk found (is t (pass_in b)) → IfErr found (IsBusyOf t)
     → IfErr found (λ _. b ≡ turns.tried a) → IsFoundIn is t p found (pass_in b)
 found_in is t p a b (Ok x) was saw so busy kept = (subst (λ (y : known.Pass). known.Saw (opened t) y (pass_in b)) was saw, so)
 found_in is t p a b (Err why) was saw so busy kept = (busy, ap pass_in kept ∙ was)
@@ -12,40 +12,35 @@ found_in is t p a b (Err why) was saw so busy kept = (busy, ap pass_in kept ∙ 
 -- ---- what a pass found
 
 module _ (t : Tree) (p : known.Pass) (a b : Pass) (was : pass_in a ≡ p) where
-  pub form_found : (found : Result Form Busy) → IfOk found (λ _. known.Saw (opened t) (pass_in a) (pass_in b)) → IfOk found (IsFormSeen t (pass_in b)) → IfErr found (IsBusyOf t) → IfErr found (λ _. b ≡ turns.tried a) → IsFoundIn IsFormSeen t p found (pass_in b)
-  form_found found saw so busy kept = found_in IsFormSeen t p a b found was saw so busy kept
+  pub form_found : (found : Found Form) → IfOk found (λ _. known.Saw (opened t) (pass_in a) (pass_in b)) → IfOk found (IsFormBehind t (pass_in b)) → IfErr found (IsBusyOf t) → IfErr found (λ _. b ≡ turns.tried a) → IsFoundIn IsFormBehind t p found (pass_in b)
+  form_found found saw so busy kept = found_in IsFormBehind t p a b found was saw so busy kept
 
-  pub stats_found : (found : Result Stats Busy) → IfOk found (λ _. known.Saw (opened t) (pass_in a) (pass_in b)) → IfOk found (IsStatsOf t (pass_in b)) → IfErr found (IsBusyOf t) → IfErr found (λ _. b ≡ turns.tried a) → IsFoundIn IsStatsOf t p found (pass_in b)
+  pub stats_found : (found : Found Stats) → IfOk found (λ _. known.Saw (opened t) (pass_in a) (pass_in b)) → IfOk found (IsStatsOf t (pass_in b)) → IfErr found (IsBusyOf t) → IfErr found (λ _. b ≡ turns.tried a) → IsFoundIn IsStatsOf t p found (pass_in b)
   stats_found found saw so busy kept = found_in IsStatsOf t p a b found was saw so busy kept
 
-  pub calls_found : (found : Result ℕ Busy) → IfOk found (λ _. known.Saw (opened t) (pass_in a) (pass_in b)) → IfOk found (IsOldest t (pass_in b)) → IfErr found (IsBusyOf t) → IfErr found (λ _. b ≡ turns.tried a) → IsFoundIn IsOldest t p found (pass_in b)
+  pub calls_found : (found : Found ℕ) → IfOk found (λ _. known.Saw (opened t) (pass_in a) (pass_in b)) → IfOk found (IsOldest t (pass_in b)) → IfErr found (IsBusyOf t) → IfErr found (λ _. b ≡ turns.tried a) → IsFoundIn IsOldest t p found (pass_in b)
   calls_found found saw so busy kept = found_in IsOldest t p a b found was saw so busy kept
 
-  pub image_found : (found : Result MadeImage Busy) → IfOk found (λ _. known.Saw (opened t) (pass_in a) (pass_in b)) → IfOk found (IsImageSeen t (pass_in b)) → IfErr found (IsBusyOf t) → IfErr found (λ _. b ≡ turns.tried a) → IsFoundIn IsImageSeen t p found (pass_in b)
-  image_found found saw so busy kept = found_in IsImageSeen t p a b found was saw so busy kept
+  pub image_found : (found : Found MadeImage) → IfOk found (λ _. known.Saw (opened t) (pass_in a) (pass_in b)) → IfOk found (IsImagedBehind t (pass_in b)) → IfErr found (IsBusyOf t) → IfErr found (λ _. b ≡ turns.tried a) → IsFoundIn IsImagedBehind t p found (pass_in b)
+  image_found found saw so busy kept = found_in IsImagedBehind t p a b found was saw so busy kept
 
 -- ---- what a user was told
 
-module _ (u v : User) (status : ℕ) (once : TriedOnce u.walker v.walker) (chair : v.chair ≡ u.chair) where
-  pub form_told : (found : Result Form Busy) (out : OutForm) → IsFoundIn IsFormSeen (user_tree u) (paused u) found (known_to v) → v.receipts ≡ when_found found u.receipts → TellsForm status out found → HasFound IsFormSeen (TellsForm status out) u v
-  form_told found out said kept told = (found, said, once, chair, kept, told)
+module _ (u v : User) (status : ℕ) (once : TriedOnce u.walker v.walker) (off : IsPaused v.walker) (chair : v.chair ≡ u.chair) where
+  pub form_told : (found : Found Form) (out : OutForm) → IsFoundIn IsFormBehind (user_tree u) (paused u) found (known_to v) → v.receipts ≡ when_found found u.receipts → TellsForm status out found → HasFound IsFormBehind (TellsForm status out) u v
+  form_told found out said kept told = (found, said, once, off, chair, kept, told)
 
-  pub stats_told : (found : Result Stats Busy) (out : OutStats) → IsFoundIn IsStatsOf (user_tree u) (paused u) found (known_to v) → v.receipts ≡ when_found found u.receipts → TellsStats status out found → HasFound IsStatsOf (TellsStats status out) u v
-  stats_told found out said kept told = (found, said, once, chair, kept, told)
+  pub stats_told : (found : Found Stats) (out : OutStats) → IsFoundIn IsStatsOf (user_tree u) (paused u) found (known_to v) → v.receipts ≡ when_found found u.receipts → TellsStats status out found → HasFound IsStatsOf (TellsStats status out) u v
+  stats_told found out said kept told = (found, said, once, off, chair, kept, told)
 
-  pub calls_told : (found : Result ℕ Busy) (out : ℕ) → IsFoundIn IsOldest (user_tree u) (paused u) found (known_to v) → v.receipts ≡ when_found found u.receipts → TellsCalls status out found → HasFound IsOldest (TellsCalls status out) u v
-  calls_told found out said kept told = (found, said, once, chair, kept, told)
+  pub calls_told : (found : Found ℕ) (out : ℕ) → IsFoundIn IsOldest (user_tree u) (paused u) found (known_to v) → v.receipts ≡ when_found found u.receipts → TellsCalls status out found → HasFound IsOldest (TellsCalls status out) u v
+  calls_told found out said kept told = (found, said, once, off, chair, kept, told)
 
-  pub image_told : (found : Result MadeImage Busy) (out out' : List ℕ) (used : ℕ) → IsFoundIn IsImageSeen (user_tree u) (paused u) found (known_to v) → v.receipts ≡ when_found found u.receipts → TellsBytes out out' used status found
-      → HasFound IsImageSeen (TellsBytes out out' used status) u v
-  image_told found out out' used said kept told = (found, said, once, chair, kept, told)
+  pub image_told : (found : Found MadeImage) (out out' : List ℕ) (used : ℕ) → IsFoundIn IsImagedBehind (user_tree u) (paused u) found (known_to v) → v.receipts ≡ when_found found u.receipts → TellsBytes out out' used status found
+      → HasFound IsImagedBehind (TellsBytes out out' used status) u v
+  image_told found out out' used said kept told = (found, said, once, off, chair, kept, told)
 
 -- ---- images
-
-pub image_seen : (t : Tree) (q : known.Pass) (found : Result MadeImage Busy) → IfOk found (λ image. IfOk image (λ bytes. IsImageIn (opened t).kind (opened t).rows (map_seen t q) bytes.items)) → IfOk found (IsImageSeen t q)
-image_seen t q (Ok (Ok bytes)) is = is
-image_seen t q (Ok (Err none)) is = tt
-image_seen t q (Err busy) is = tt
 
 pub bytes_put : (out out' bytes : List ℕ) (used status : ℕ) → status ≡ 0 → used ≡ length bytes → length bytes ≤ length out → out' ≡ bytes ++ drop (length bytes) out → PutsBytes out out' used status bytes
 bytes_put out out' bytes used status number count room put = (count, inl (number, room, put))
@@ -57,7 +52,7 @@ bytes_short out out' bytes used status number count short same = (count, inr (nu
 
 module _ (before after : UserHandle) (status : ℕ) where
   module _ (u v : User) (was : before.kept.value ≡ Some u) (is : after.kept.value ≡ Some v) (common : common_of v ≡ common_of u) where
-    pub checked_open : (out : OutForm) → HasFound IsFormSeen (TellsForm status out) u v → SharedChecked before after status out
+    pub checked_open : (out : OutForm) → HasFound IsFormBehind (TellsForm status out) u v → SharedChecked before after status out
     checked_open out has = on_open before after u v status _ _ was is common has
 
     pub stats_open : (out : OutStats) → HasFound IsStatsOf (TellsStats status out) u v → SharedStats before after status out
@@ -66,7 +61,7 @@ module _ (before after : UserHandle) (status : ℕ) where
     pub oldest_open : (out : ℕ) → HasFound IsOldest (TellsCalls status out) u v → SharedOldest before after status out
     oldest_open out has = on_open before after u v status _ _ was is common has
 
-    pub imaged_open : (out out' : List ℕ) (used : ℕ) → HasFound IsImageSeen (TellsBytes out out' used status) u v → SharedImaged out out' used before after status
+    pub imaged_open : (out out' : List ℕ) (used : ℕ) → HasFound IsImagedBehind (TellsBytes out out' used status) u v → SharedImaged out out' used before after status
     imaged_open out out' used has = on_open before after u v status _ _ was is common has
 
   module _ (was : before.kept.value ≡ None) (is : after ≡ before) (number : status ≡ refusal after.state) where

@@ -46,7 +46,8 @@ pub use Rattle.mt_read.specs.Cursors.{IsOnKeptLeaf, place_from}
 pub use Rattle.mt_read.specs.declared.cursor.KeptLeaf.{KeptLeaf}
 pub use Rattle.mt_tree.proofs.Copying.{ready}
 pub use Rattle.mt_tree.proofs.Forms.{high_as, live_as, reads_through}
-pub use Rattle.mt_tree.specs.Copies.{IsCopyCounted, IsLiveCounted, IsReadyToOpen}
+pub use Rattle.mt_tree.specs.Copies.{IsFit, IsLiveCounted, IsReadyToOpen, WasCounted}
+pub use Rattle.mt_tree.specs.Looks.{IsCopyLooked}
 pub use Rattle.mt_tree.specs.Trees.{TriesOnce}
 pub use Rattle.mt_tree.specs.declared.shapes.MakeError.{MakeError}
 pub use Rattle.mt_verify.proofs.Tellings.{reads_are_points}
@@ -59,14 +60,14 @@ pub use Rattle.mt_c.specs.Building.{Builds, IsOfRanges, LacksAnyhow, LacksOf, La
 pub use Rattle.mt_c.specs.Calls.{AnswersCall, AnswersQuery, CalledAlone, CalledRange, CalledWord, EntryTold, IsAsked, MadeOrSpent, entry_or_none, found_status, no_range, no_told, out_of, told_in_c}
 unfoldable pub use Rattle.mt_c.specs.Calls.{answered}
 pub use Rattle.mt_c.specs.Copying.{Checked, Copied, FitsRows, IsCopyInRows, IsOpenedWith, LacksTree, OpensHandle, no_form, out_form}
-pub use Rattle.mt_c.specs.Duplicates.{CopiesTo, HasCopied, IsMadeIn, LacksCopy, Made, SawAtMost, SharedCopied, TriedAtMost}
+pub use Rattle.mt_c.specs.Duplicates.{CopiesTo, HasCopied, HasLooked, HasMade, IsMadeBy, IsMadeIn, IsTriedCopy, IsUnmade, KeepsOff, Made, SharedCopied, when_looked}
 pub use Rattle.mt_c.specs.Images.{Imaged, IsOfImage, LacksImage, TellsImage}
 pub use Rattle.mt_c.specs.KeptWalks.{IsKeptWalk, last_index}
-pub use Rattle.mt_c.specs.Looks.{HasFound, IsFormSeen, IsFoundIn, IsImageSeen, MadeImage, PutsBytes, SharedChecked, SharedImaged, SharedOldest, SharedStats, TellsBytes, TellsCalls, TellsForm, TellsStats, when_found}
+pub use Rattle.mt_c.specs.Looks.{Found, HasFound, IsFoundIn, MadeImage, PutsBytes, SharedChecked, SharedImaged, SharedOldest, SharedStats, TellsBytes, TellsCalls, TellsForm, TellsMade, TellsStats, when_found}
 pub use Rattle.mt_c.specs.Own.{OwnTree, own_of}
 pub use Rattle.mt_c.specs.Owned.{IsOpenHandle, is_kept, kept_owns, open_count, refusal, unopened}
 pub use Rattle.mt_c.specs.Places.{SharedPlaced}
-pub use Rattle.mt_c.specs.Prelude.{BulkError, Busy, Call, Cursor, DupError, Field, Form, Given, HasHeight, HasRead, HasWalked, HaveMet, Image, IsBusyOf, IsForNeighbour, IsImageIn, IsImageOf, IsLawfulOf, IsNew, IsOldest, IsPassOf, IsReady, IsRun, IsStatsOf, IsWalkOf, Kind, Load, Log, NoMemory, OnlyReads, Order, Parts, Pass, Query, Range, RangeWalk, Read, Reply, Rooted, Shape, Shortage, Sight, Stats, StepsWithin, Takes, TooMany, Transcript, Tree, WalksFrom, WasLeftMarked, WasMade, WasMoved, count_of_calls, cuts_of, first_bad, form_of, found_from, greatest, image_in, index_behind, kind_code, limit_of, live_rows, log_of, map_by, map_seen, misplaced, most_made, most_rows, new_sheet, opened, part_of, pass_in, passes_of, place_behind, query_at, rows_in, steps_made, tree_as, turn_seat, unbounded, up_to}
+pub use Rattle.mt_c.specs.Prelude.{BulkError, Busy, Call, Cursor, DupError, Field, Form, Given, HasHeight, HasRead, HasWalked, HaveMet, Image, IsBusyOf, IsForNeighbour, IsFormBehind, IsImageOf, IsImagedBehind, IsLawfulOf, IsLookAt, IsNew, IsOldest, IsPassOf, IsReady, IsRun, IsStatsOf, IsWalkOf, Kind, Load, Log, Look, NoMemory, OnlyReads, Order, Parts, Pass, Query, Range, RangeWalk, Read, Reply, Rooted, Shape, Shortage, Sight, Stats, StepsWithin, Takes, TooMany, Transcript, Tree, WalksFrom, WasLeftMarked, WasMade, WasMoved, count_of_calls, cuts_of, first_bad, form_of, found_from, greatest, image_in, index_behind, kind_code, limit_of, live_rows, log_of, map_by, map_seen, misplaced, most_made, most_rows, new_sheet, opened, part_of, pass_in, passes_of, place_behind, query_at, rows_in, steps_made, tree_as, turn_seat, unbounded, up_to, words_in}
 pub use Rattle.mt_c.specs.Preparing.{IsPreCalled, PreCalled, PreMade, pre_status, pre_word}
 pub use Rattle.mt_c.specs.Purses.{IsChairAtPurse, IsPurseBusy, RestsInPurse, WasGiven, WasKept, first_in, known_in}
 pub use Rattle.mt_c.specs.Receipts.{no_receipts, when_given, when_settled, when_synced, when_tried, when_unchanged}
@@ -77,7 +78,7 @@ pub use Rattle.mt_c.specs.SharedMaps.{IsFirstWith, LacksWith, OpensFirst, OpensW
 pub use Rattle.mt_c.specs.Spares.{IsSparePass}
 pub use Rattle.mt_c.specs.Stats.{HasStats, TellsTree, no_stats}
 pub use Rattle.mt_c.specs.Users.{HasLeft, common_of, cuts, known_to, paused, user_tree}
-pub use Rattle.mt_c.specs.Walkers.{Answer, Continues, GaveUp, GoesFrom, IsLeftBy, IsOnAt, IsOnNoWalk, IsReadBy, IsStep, IsTried, IsWalkAnswer, KnowsAs, StepsFrom, Took, Tried, TriedOnce, WalkGoesOn, WentOnce, closed_by, halted, knows, new_walk, pausing, stands_at, walk_is_at}
+pub use Rattle.mt_c.specs.Walkers.{Answer, Continues, GaveUp, GoesFrom, IsEntry, IsLeftBy, IsOnAt, IsOnNoWalk, IsPaused, IsReadBy, IsStep, IsTried, IsWalkAnswer, KnowsAs, StepsFrom, Took, Tried, TriedOnce, WalkGoesOn, WentOnce, closed_by, halted, knows, new_walk, pausing, stands_at, walk_is_at}
 pub use Rattle.mt_c.specs.Walking.{HasSteppedOn, IsStepped, last_index_of, walk_from, walk_index, walk_start}
 pub use Rattle.mt_c.specs.declared.building.BuildWhy.{BuildWhy}
 pub use Rattle.mt_c.specs.declared.forms.OutForm.{OutForm}

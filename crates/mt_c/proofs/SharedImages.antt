@@ -7,8 +7,8 @@ use Rattle.mt_c.proofs.Sharing.{left_none, left_some}
 -- where the rows are fewer than lawful words have in use, they are fewer than those have
 many_lack : (shape : Shape) (words : Rooted) (status : ℕ) → IsLawfulOf words shape.kind → LacksWith shape words status → LacksMany shape words.rows status
 many_lack shape words status lawful (inl bad) = inl bad
-many_lack shape words status lawful (inr (inl few)) = (let least = few.1 in let within = few_reached shape.kind words lawful in inr (inl (few.0, omega (arith, least, within))))
-many_lack shape words status lawful (inr (inr none)) = inr (inr none)
+many_lack shape words status lawful (inr (good, inl few)) = (let least = few.1 in let within = few_reached shape.kind words lawful in inr (good, inl (few.0, omega (arith, least, within))))
+many_lack shape words status lawful (inr (good, inr none)) = inr (good, inr none)
 
 -- ---- images
 

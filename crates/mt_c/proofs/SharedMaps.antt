@@ -1,5 +1,5 @@
 -- A shared tree that opens with a map, or why there is none.
-use Rattle.mt_c.proofs.Prelude.{◌≡◌, ◌≢◌, ℕ, Option, Some, None, refl, sym, ap, subst, inl, inr, ◌↔◌, IfOk, Result, Ok, Err, Kind, map_by, Rooted, Parts, DupError, Field, Shape, IsLiveCounted, live_rows, first_bad, User, UserHandle, IsAsked, OwnTree, unopened, IfClosed, IsFirstWith, LacksWith, OpensFirst, OpensWith, SharedOfTree, dup_status, shape_for, IsLeftClosed}
+use Rattle.mt_c.proofs.Prelude.{◌≡◌, ◌≢◌, ◌∙◌, ℕ, Option, Some, None, refl, sym, ap, subst, inl, inr, ◌↔◌, IfOk, Result, Ok, Err, Kind, map_by, Rooted, Parts, DupError, Field, Shape, IsLiveCounted, live_rows, first_bad, User, UserHandle, IsAsked, OwnTree, unopened, IfClosed, IsFirstWith, LacksWith, OpensFirst, OpensWith, SharedOfTree, dup_status, shape_for, IsLeftClosed}
 use Rattle.mt_tree.specs.declared.shapes.DupError.TheVariants as errors
 use Rattle.mt_c.proofs.Sharing.{left_none, left_some}
 
@@ -14,15 +14,27 @@ module _ {X : Type 0} (shape : Shape) (made : Result X DupError) (bad : (field :
       by_case None is = is
       by_case (Some field) is = let e : made ≡ Err (errors.BadShape field) = (bad field).1 is in cc
 
+  -- so is one that is refused for something else
+  good_beside : ((field : Field) → made ≢ Err (errors.BadShape field)) → first_bad shape ≡ None
+  good_beside other = by_case (first_bad shape) refl
+    where
+      by_case : (o : Option Field) → first_bad shape ≡ o → first_bad shape ≡ None
+      by_case None is = is
+      by_case (Some field) is = absurd (other field ((bad field).1 is))
+
   module _ (words : Rooted) (kind : Kind) (same : shape.kind ≡ kind) (counted : IsLiveCounted (live_rows words) shape.rows made) (invalid : (made ≡ Err errors.Invalid) ↔ ((first_bad shape ≡ None) × (shape.kind ≢ kind))) where
     by_why : (why : DupError) → made ≡ Err why → LacksWith shape words (dup_status why)
     by_why (errors.BadShape field) is = inl (field, (bad field).0 is, refl)
     by_why errors.Invalid is = absurd ((invalid.0 is).1 same)
-    by_why (errors.NoNodes rows live) is = inr (inl (refl, (counted.few rows live is).2))
-    by_why errors.NoMemory is = inr (inr refl)
+    by_why (errors.NoNodes rows live) is = inr (good_beside (λ field e. let other : ◌≡◌ {A = Result X DupError} (Err (errors.NoNodes rows live)) (Err (errors.BadShape field)) = sym is ∙ e in absurd (cc)), inl (refl, (counted.few rows live is).2))
+    by_why errors.NoMemory is = inr (good_beside (λ field e. let other : ◌≡◌ {A = Result X DupError} (Err errors.NoMemory) (Err (errors.BadShape field)) = sym is ∙ e in absurd (cc)), inr refl)
 
     pub lacks_with : (why : DupError) (status : ℕ) → made ≡ Err why → status ≡ dup_status why → LacksWith shape words status
     lacks_with why status is number = subst (LacksWith shape words) (sym number) (by_why why is)
+
+-- memory ran out for a shape that is in range
+pub lacks_memory : (shape : Shape) (words : Rooted) (status : ℕ) → first_bad shape ≡ None → status ≡ 12 → LacksWith shape words status
+lacks_memory shape words status good number = inr (good, inr number)
 
 -- of an engine by whichever name, whose kind is the shape's
 pub first_told : {X : Type 0} (e t : Parts) (shape : Shape) (rows passes calls : ℕ) (made : Result X ℕ) (user_of : X → User) → shape ≡ shape_for e.kind rows passes calls → e ≡ t → IfOk made (λ x. IsFirstWith shape (map_by e.sheet.tree) (user_of x))

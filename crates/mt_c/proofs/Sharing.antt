@@ -1,5 +1,5 @@
 -- What the calls of C on a shared tree say, read off what its user does.
-use Rattle.mt_c.proofs.Prelude.{◌≡◌, ◌≢◌, ◌≤◌, ◌<◌, Bool, ℕ, refl, sym, ap, ◌∙◌, inl, inr, subst, Option, Some, None, [], ◌+◌, IfErr, Ok, Result, nat_le, if◌then◌else◌, le-leb, lt-leb, Call, Query, Kind, Load, Range, kind_code, Busy, Field, Shape, most_made, first_bad, Read, Given, Tree, Takes, Purse, User, UserHandle, Left, Unchanged, Outcome, OutWalk, CallWindow, refusal, unopened, when_given, when_settled, when_synced, when_tried, when_unchanged, HasLeft, HasSettled, HasShared, HasSynced, HasTried, IsBadShape, IsFirstUser, IsMeant, IsUnchanged, IsOfPurse, IfClosed, IsSettledUser, IsShut, LeftBy, OnKept, OpensBeside, OpensOther, SettleResult, SharedClosed, SharedKept, StaysAs, IsShape, IsSynced, IsWhy, OnUser, WantsNoPlace, SharedAsked, SharedLearned, SharedLeft, SharedNew, SharedOpened, SharedPaused, SharedSettled, SharedStepped, SharedSynced, SharedTried, SharedWith, WentToSettle, answer_status, calls_in_c, common_of, cuts, field_status, known_to, no_outcome, no_window, outcome_of, paused, rested, settled_status, settled_told, synced_status, user_tree, tried_status, unchanged_status, went_on, window_of, Answer, GaveUp, IsWalkAnswer, IsOnNoWalk, IsTried, StepsFrom, Took, Tried, TriedOnce, WentOnce, knows, walk_index, IsLeftClosed}
+use Rattle.mt_c.proofs.Prelude.{◌≡◌, ◌≢◌, ◌≤◌, ◌<◌, Bool, ℕ, refl, sym, ap, ◌∙◌, inl, inr, subst, Option, Some, None, [], ◌+◌, IfErr, Ok, Result, nat_le, if◌then◌else◌, le-leb, lt-leb, Call, Query, Kind, Range, kind_code, Busy, Field, Shape, most_made, first_bad, Read, Given, Tree, Takes, Purse, User, UserHandle, Left, Unchanged, Outcome, OutWalk, CallWindow, refusal, unopened, when_given, when_settled, when_synced, when_tried, when_unchanged, HasLeft, HasSettled, HasShared, HasSynced, HasTried, IsBadShape, IsFirstUser, IsMeant, IsUnchanged, IsOfPurse, IfClosed, IsSettledUser, IsShut, LeftBy, OnKept, OpensBeside, OpensOther, SettleResult, SharedClosed, SharedKept, StaysAs, IsShape, IsSynced, IsWhy, OnUser, WantsNoPlace, SharedAsked, SharedLearned, SharedLeft, SharedNew, SharedOpened, SharedPaused, SharedSettled, SharedStepped, SharedSynced, SharedTried, SharedWith, WentToSettle, answer_status, calls_in_c, common_of, cuts, field_status, known_to, no_outcome, no_window, outcome_of, paused, rested, settled_status, settled_told, synced_status, user_tree, tried_status, unchanged_status, went_on, window_of, Answer, GaveUp, IsEntry, IsWalkAnswer, IsOnNoWalk, IsTried, StepsFrom, Took, Tried, TriedOnce, WentOnce, knows, walk_index, IsLeftClosed}
 use Rattle.mt_c.proofs.Using.{took_still}
 
 pub on_open : (before after : UserHandle) (u v : User) (status : ℕ) (blank : Type 0) (says : User → User → Type 0) → before.kept.value ≡ Some u → after.kept.value ≡ Some v → common_of v ≡ common_of u → says u v → OnUser before after status blank says
@@ -43,16 +43,16 @@ paused_open before after u v status was is common chair kept known rests takes n
 pub paused_closed : (before after : UserHandle) (status : ℕ) → before.kept.value ≡ None → after ≡ before → status ≡ refusal after.state → SharedPaused before after status
 paused_closed before after status was is number = on_closed before after status _ _ was is number tt
 
-learned : (calls : ℕ) (before after : UserHandle) (u v : User) (r : Read (Option Range)) (status : ℕ) → before.kept.value ≡ Some u → after.kept.value ≡ Some v → common_of v ≡ common_of u → v.chair ≡ u.chair → v.receipts ≡ u.receipts
-    → IsWalkAnswer (user_tree u) (known_to u) (Load 0) (Ok r) (known_to v) → IsOnNoWalk v.walker → Took 170 u.walker v.walker.pass → status ≡ (if nat_le calls r.lo then 0 else 115) → SharedLearned calls before after status
+learned : (calls : ℕ) (before after : UserHandle) (u v : User) (r : Read ℕ) (status : ℕ) → before.kept.value ≡ Some u → after.kept.value ≡ Some v → common_of v ≡ common_of u → v.chair ≡ u.chair → v.receipts ≡ u.receipts
+    → IsEntry (user_tree u) (paused u) 0 r (known_to v) → IsOnNoWalk v.walker → Took 95 u.walker v.walker.pass → status ≡ (if nat_le calls r.lo then 0 else 115) → SharedLearned calls before after status
 learned calls before after u v r status was is common chair kept said rests took number = on_open before after u v status _ _ was is common (r, said, rests, took, record { common = common; chair = chair; receipts = kept }, number)
 
-pub learned_yes : (calls : ℕ) (before after : UserHandle) (u v : User) (r : Read (Option Range)) (status : ℕ) → before.kept.value ≡ Some u → after.kept.value ≡ Some v → common_of v ≡ common_of u → v.chair ≡ u.chair → v.receipts ≡ u.receipts
-    → IsWalkAnswer (user_tree u) (known_to u) (Load 0) (Ok r) (known_to v) → IsOnNoWalk v.walker → Took 170 u.walker v.walker.pass → calls ≤ r.lo → status ≡ 0 → SharedLearned calls before after status
+pub learned_yes : (calls : ℕ) (before after : UserHandle) (u v : User) (r : Read ℕ) (status : ℕ) → before.kept.value ≡ Some u → after.kept.value ≡ Some v → common_of v ≡ common_of u → v.chair ≡ u.chair → v.receipts ≡ u.receipts
+    → IsEntry (user_tree u) (paused u) 0 r (known_to v) → IsOnNoWalk v.walker → Took 95 u.walker v.walker.pass → calls ≤ r.lo → status ≡ 0 → SharedLearned calls before after status
 learned_yes calls before after u v r status was is common chair kept said rests took many number = learned calls before after u v r status was is common chair kept said rests took (number ∙ sym (ap (λ (b : Bool). if b then 0 else 115) (le-leb calls r.lo many)))
 
-pub learned_no : (calls : ℕ) (before after : UserHandle) (u v : User) (r : Read (Option Range)) (status : ℕ) → before.kept.value ≡ Some u → after.kept.value ≡ Some v → common_of v ≡ common_of u → v.chair ≡ u.chair → v.receipts ≡ u.receipts
-    → IsWalkAnswer (user_tree u) (known_to u) (Load 0) (Ok r) (known_to v) → IsOnNoWalk v.walker → Took 170 u.walker v.walker.pass → r.lo < calls → status ≡ 115 → SharedLearned calls before after status
+pub learned_no : (calls : ℕ) (before after : UserHandle) (u v : User) (r : Read ℕ) (status : ℕ) → before.kept.value ≡ Some u → after.kept.value ≡ Some v → common_of v ≡ common_of u → v.chair ≡ u.chair → v.receipts ≡ u.receipts
+    → IsEntry (user_tree u) (paused u) 0 r (known_to v) → IsOnNoWalk v.walker → Took 95 u.walker v.walker.pass → r.lo < calls → status ≡ 115 → SharedLearned calls before after status
 learned_no calls before after u v r status was is common chair kept said rests took few number = learned calls before after u v r status was is common chair kept said rests took (number ∙ sym (ap (λ (b : Bool). if b then 0 else 115) (lt-leb calls r.lo few)))
 
 pub learned_closed : (calls : ℕ) (before after : UserHandle) (status : ℕ) → before.kept.value ≡ None → after ≡ before → status ≡ refusal after.state → SharedLearned calls before after status

@@ -1,7 +1,7 @@
 -- What C gets of calls and of queries, and what they do to the tree that it keeps.
 -- Source: the kernel's include/uapi/asm-generic/errno-base.h and errno.h: ENOENT, EBADF, ENOMEM, EBUSY, EEXIST, EINVAL
 -- and EOVERFLOW.
-use Rattle.std.specs.Prelude.{◌≡◌, ℕ, ◌-◌, ◌^◌, ◌<◌, ◌≤◌, Option, Some, None}
+use Rattle.std.specs.Prelude.{◌≡◌, ℕ, ◌-◌, ◌^◌, ◌<◌, ◌≤◌, ◌==◌, Option, Some, None, if◌then◌else◌}
 use Rattle.mt_c.specs.Prelude.{Call, Query, Load, Range, Reply, Shortage, answer, map_by, OnlyReads, Parts, IsApplied, most_calls}
 use Rattle.mt_base.specs.declared.replies.Reply.TheVariants as answers
 use Rattle.mt_c.specs.Own.{OwnTree}
@@ -26,16 +26,9 @@ status_of (Some (answers.NoNodes shortage)) = 12
 
 -- the one word of a reply, and 0 if it has none
 abbrev pub word_in_c : Option Reply → ℕ
-word_in_c None = 0
-word_in_c (Some answers.Ok) = 0
 word_in_c (Some (answers.Over entry)) = entry
 word_in_c (Some (answers.Start start)) = start
-word_in_c (Some (answers.Was range)) = 0
-word_in_c (Some answers.None) = 0
-word_in_c (Some answers.Exists) = 0
-word_in_c (Some answers.Invalid) = 0
-word_in_c (Some answers.Busy) = 0
-word_in_c (Some (answers.NoNodes shortage)) = 0
+word_in_c told = 0
 
 -- a range, and three zeros if there is none
 abbrev pub no_range : OutRange
@@ -45,33 +38,21 @@ abbrev pub out_of : Option Range → OutRange
 out_of None = no_range
 out_of (Some r) = record { first = r.first; last = r.last; entry = r.entry }
 
+abbrev pub range_out : Range → OutRange
+range_out r = out_of (Some r)
+
 -- the range of a reply
 abbrev pub range_in_c : Option Reply → OutRange
-range_in_c None = no_range
-range_in_c (Some answers.Ok) = no_range
-range_in_c (Some (answers.Over entry)) = no_range
-range_in_c (Some (answers.Start start)) = no_range
 range_in_c (Some (answers.Was range)) = out_of (Some range)
-range_in_c (Some answers.None) = no_range
-range_in_c (Some answers.Exists) = no_range
-range_in_c (Some answers.Invalid) = no_range
-range_in_c (Some answers.Busy) = no_range
-range_in_c (Some (answers.NoNodes shortage)) = no_range
+range_in_c told = no_range
 
 -- how many nodes a reply for lack of nodes says are needed, free, live and held; zeros of another
 abbrev pub no_shortage : Shortage
 no_shortage = record { need = 0; free = 0; live = 0; held = 0; by = None }
 
 abbrev pub shortage_of : Reply → Shortage
-shortage_of answers.Ok = no_shortage
-shortage_of (answers.Over entry) = no_shortage
-shortage_of (answers.Start start) = no_shortage
-shortage_of (answers.Was range) = no_shortage
-shortage_of answers.None = no_shortage
-shortage_of answers.Exists = no_shortage
-shortage_of answers.Invalid = no_shortage
-shortage_of answers.Busy = no_shortage
 shortage_of (answers.NoNodes shortage) = shortage
+shortage_of reply = no_shortage
 
 -- all that C gets of a call
 abbrev pub told_in_c : Option Reply → ToldCall
@@ -85,6 +66,11 @@ no_told = record { status = 9; word = 0; range = no_range }
 abbrev pub found_status : Option Range → ℕ
 found_status None = 2
 found_status (Some r) = 0
+
+-- the number for this many ranges of a walk that then goes on from this place: ENOENT if none was found and the walk has ended
+abbrev pub many_status : ℕ → Option ℕ → ℕ
+many_status count None = if count == 0 then 2 else 0
+many_status count (Some next) = 0
 
 -- ---- trees
 

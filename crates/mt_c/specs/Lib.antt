@@ -2,6 +2,7 @@ pub mod Own
 pub mod Owned
 pub mod Calls
 pub mod Walking
+pub mod Many
 pub mod Opening
 pub mod Preparing
 pub mod Batch
@@ -17,10 +18,13 @@ pub mod Users
 pub mod Shared
 pub mod Bounded
 pub mod Places
+pub mod SharedMany
 pub mod SharedMaps
 pub mod SharedImages
 pub mod RowsFor
 pub mod Stats
 pub mod Looks
+pub mod CallLists
+pub mod Overwrites
 pub mod Duplicates
 pub mod Prelude

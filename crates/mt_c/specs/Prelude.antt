@@ -37,15 +37,17 @@ pub use Rattle.mt_read.specs.Windows.{HasRead}
 pub use Rattle.mt_read.specs.declared.cursor.Cursor.{Cursor}
 pub use Rattle.mt_read.specs.declared.neighbours.Moved.{Moved}
 pub use Rattle.mt_tree.specs.Asks.{IsForNeighbour, most_made, unbounded}
+pub use Rattle.mt_tree.specs.Batches.{LacksCalls, WereMade}
 pub use Rattle.mt_tree.specs.Behind.{IsReady}
-pub use Rattle.mt_tree.specs.Copies.{IsFormOf, IsImageIn, IsRowCount, live_rows}
+pub use Rattle.mt_tree.specs.Copies.{live_rows}
 pub use Rattle.mt_tree.specs.Cursors.{apart_prop, ends_prop, fills_prop}
-pub use Rattle.mt_tree.specs.Looks.{IsOldest, IsStatsOf}
+pub use Rattle.mt_tree.specs.Looks.{IsFormBehind, IsImagedBehind, IsLookAt, IsOldest, IsStatsOf, words_in}
 pub use Rattle.mt_tree.specs.Meeting.{HaveMet}
 pub use Rattle.mt_tree.specs.Shapes.{first_bad}
 pub use Rattle.mt_tree.specs.Trees.{IsNew, IsPassOf, Pass, Takes, limit_of, map_seen, opened, pass_in, passes_of, steps_made}
 pub use Rattle.mt_tree.specs.Tries.{IsBusyOf, WasMade}
 pub use Rattle.mt_tree.specs.Walks.{HasWalked, IsWalkOf}
+pub use Rattle.mt_tree.specs.declared.receipts.Look.{Look}
 pub use Rattle.mt_tree.specs.declared.shapes.Done.{Done}
 pub use Rattle.mt_tree.specs.declared.shapes.DupError.{DupError}
 pub use Rattle.mt_tree.specs.declared.shapes.Field.{Field}

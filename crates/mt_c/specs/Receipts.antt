@@ -13,7 +13,7 @@ use Rattle.mt_c.specs.Walkers.{Tried}
 
 -- a user that is opened has none
 abbrev pub no_receipts : Receipts
-no_receipts = record { locked = None; unpursed = None; given = None }
+no_receipts = record { locked = None; looked = None; unpursed = None; given = None }
 
 -- what it has when the purse was taken and given back so
 abbrev pub when_given : Given Purse Tree → Receipts → Receipts

@@ -3,7 +3,7 @@
 -- Source: this project's own; EBADF, EAGAIN, EDOM, EOVERFLOW, EUSERS, EALREADY and EINPROGRESS are of the kernel's
 -- include/uapi/asm-generic/errno-base.h and errno.h.
 use Rattle.std.specs.Prelude.{◌≡◌, ◌≢◌, ◌⊎◌, ◌+◌, ℕ, [], Option, Some, None, Result, Ok, Err, nat_le, if◌then◌else◌, IfErr}
-use Rattle.mt_c.specs.Prelude.{Range, Holder, Call, Kind, Query, Load, kind_code, Given, Busy, Done, Field, Read, Shape, Tree, most_made, first_bad, Takes, place_behind}
+use Rattle.mt_c.specs.Prelude.{Range, Holder, Call, Kind, Query, kind_code, Given, Busy, Done, Field, Read, Shape, Tree, most_made, first_bad, Takes, place_behind}
 use Rattle.mt_tree.specs.declared.shapes.Field.TheVariants as fields
 use Rattle.mt_c.specs.declared.purse.Purse.{Purse}
 use Rattle.mt_c.specs.declared.steps.OutWalk.{OutWalk}
@@ -21,7 +21,7 @@ use Rattle.mt_c.specs.KeptWalks.{last_index}
 use Rattle.mt_c.specs.Owned.{refusal, unopened}
 use Rattle.mt_c.specs.Receipts.{when_given, when_settled, when_synced, when_tried, when_unchanged}
 pub use Rattle.mt_c.specs.Users.{HasLeft, IsFirstUser, IsOfPurse, IsSame, IsSettledUser, IsSynced, IsWhy, OnlyWalks, WantsNoPlace, WentToSettle, common_of, cuts, known_to, paused, rested, user_tree}
-use Rattle.mt_c.specs.Walkers.{Answer, GaveUp, IsWalkAnswer, IsOnNoWalk, StepsFrom, Took, Tried, IsTried, TriedOnce, WentOnce}
+use Rattle.mt_c.specs.Walkers.{Answer, GaveUp, IsEntry, IsWalkAnswer, IsOnNoWalk, StepsFrom, Took, Tried, IsTried, TriedOnce, WentOnce}
 use Rattle.mt_c.specs.Walking.{walk_index, walk_from}
 
 -- ---- users
@@ -93,7 +93,7 @@ SharedStepped w w' before after status out =
 -- The user read how many calls had ended, and has seen those: 0 if they are as many as it was to learn, else EINPROGRESS.
 abbrev pub SharedLearned : ℕ → UserHandle → UserHandle → ℕ → Type 0
 SharedLearned calls before after status =
-    OnUser before after status (Unit {0}) (λ u v. (r : Read (Option Range)) × IsWalkAnswer (user_tree u) (known_to u) (Load 0) (Ok r) (known_to v) × IsOnNoWalk v.walker × Took 170 u.walker v.walker.pass × OnlyWalks u v × (status ≡ (if nat_le calls r.lo then 0 else 115)))
+    OnUser before after status (Unit {0}) (λ u v. (r : Read ℕ) × IsEntry (user_tree u) (paused u) 0 r (known_to v) × IsOnNoWalk v.walker × Took 95 u.walker v.walker.pass × OnlyWalks u v × (status ≡ (if nat_le calls r.lo then 0 else 115)))
 
 -- ---- calls
 

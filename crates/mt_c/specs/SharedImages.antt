@@ -1,6 +1,6 @@
 -- Shared trees that open with the map of an image, or of ranges. Source: this project's own.
 use Rattle.std.specs.Prelude.{◌≡◌, ◌⊎◌, ℕ, ◌<◌, List, Option, Some, None, Ok, IsErr}
-use Rattle.mt_c.specs.Prelude.{Kind, Range, rows_in, misplaced, kind_code, Image, image_in, map_by, Shape}
+use Rattle.mt_c.specs.Prelude.{Kind, Range, rows_in, misplaced, kind_code, Image, image_in, map_by, Shape, first_bad}
 use Rattle.mt_c.specs.declared.user.User.{User}
 use Rattle.mt_c.specs.declared.user_handle.UserHandle.{UserHandle}
 use Rattle.mt_c.specs.Building.{LacksRanges}
@@ -8,10 +8,10 @@ use Rattle.mt_c.specs.Owned.{unopened}
 use Rattle.mt_c.specs.Shared.{IsBadShape, IsLeftClosed, OnClosed}
 use Rattle.mt_c.specs.SharedMaps.{IsFirstWith, shape_for}
 
--- Why none of this shape has a map that needs this many nodes: the number of a field that is out of range; EDOM if the nodes
--- are fewer; or ENOMEM.
+-- Why none of this shape has a map that needs this many nodes: the number of the first field that is out of range; or, of a
+-- shape in range, EDOM if the nodes are fewer, or ENOMEM.
 abbrev pub LacksMany : Shape → ℕ → ℕ → Type 0
-LacksMany shape many status = IsBadShape shape status ⊎ (((status ≡ 33) × (shape.rows < many)) ⊎ (status ≡ 12))
+LacksMany shape many status = IsBadShape shape status ⊎ ((first_bad shape ≡ None) × (((status ≡ 33) × (shape.rows < many)) ⊎ (status ≡ 12)))
 
 -- The first user of such a tree is opened, or the number says why there is none.
 abbrev pub OpensSo : (User → Type 0) → (ℕ → Type 0) → Option User → ℕ → Type 0

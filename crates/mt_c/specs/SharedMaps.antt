@@ -13,10 +13,10 @@ use Rattle.mt_c.specs.Shared.{IsBadShape, IsFirstUser, OnClosed, field_status}
 abbrev pub IsFirstWith : Shape → List Range → User → Type 0
 IsFirstWith shape m u = (first_bad shape ≡ None) × IsFirstUser shape m u
 
--- Why there is none with the map of these words: the number of a field that is out of range; EDOM if the nodes are fewer than
--- these have in use; or ENOMEM.
+-- Why there is none with the map of these words: the number of the first field that is out of range; or, of a shape in range,
+-- EDOM if the nodes are fewer than these have in use, or ENOMEM.
 abbrev pub LacksWith : Shape → Rooted → ℕ → Type 0
-LacksWith shape words status = IsBadShape shape status ⊎ (((status ≡ 33) × (shape.rows < live_rows words)) ⊎ (status ≡ 12))
+LacksWith shape words status = IsBadShape shape status ⊎ ((first_bad shape ≡ None) × (((status ≡ 33) × (shape.rows < live_rows words)) ⊎ (status ≡ 12)))
 
 -- the number for why none is made: a tree of the shape's own kind is never refused for the kind
 abbrev pub dup_status : DupError → ℕ

@@ -1,8 +1,9 @@
 -- What a pass (handle) of a shared tree does on its walk and off it: reads without the lock, and calls that try for it.
 -- Source: this project's own; the kernel's documentation of the maple tree, mas_find over a struct ma_state that the caller keeps.
 use Rattle.std.specs.Prelude.{◌≡◌, ℕ, ◌+◌, ◌≤◌, ◌==◌, Bool, true, false, Option, Some, None, Result, Ok, Err}
-use Rattle.mt_c.specs.Prelude.{Call, Query, Range, Cursor, Moved, place_behind, query_at, WasLeftMarked, WasMoved, HasRead, Busy, part_of, turn_seat, Done, Read, Worn, Tree, IsForNeighbour, unbounded, Pass, Takes, pass_in, steps_made, opened, IsBusyOf, WasMade, HasWalked}
+use Rattle.mt_c.specs.Prelude.{Call, Query, Load, Range, Cursor, Moved, place_behind, query_at, WasLeftMarked, WasMoved, HasRead, Busy, part_of, turn_seat, Done, Read, Worn, Tree, IsForNeighbour, unbounded, Pass, Takes, pass_in, steps_made, opened, IsBusyOf, WasMade, HasWalked}
 use Rattle.mt_base.specs.Passes as known
+use Rattle.mt_read.specs.Many.{entry_or_zero}
 use Rattle.mt_rule.specs.Turns as turns
 use Rattle.mt_c.specs.declared.walker.Walker.{Walker}
 pub use Rattle.mt_c.specs.KeptWalks.{IsKeptWalk, last_index, walks_coded}
@@ -57,6 +58,15 @@ abbrev pub IsWalkAnswer : Tree → known.Pass → Query → Answer → known.Pas
 IsWalkAnswer t p query (Ok r) q = ((k : ℕ) × known.Read (opened t) p r.lo r.hi k query r.value q) × HasRead r.lo r.hi p q
 IsWalkAnswer t p query (Err m) q = WasMoved (opened t) p m.lo m.begun q × IsForNeighbour query × HasRead m.lo m.begun p q
 
+-- The entry that an index holds was read, 0 for an index in a hole, in a section that was opened where the window begins, and
+-- closed.
+pub record IsEntry (t : Tree) (p : known.Pass) (index : ℕ) (r : Read ℕ) (q : known.Pass) : Type 0 where
+  pub k : ℕ
+  pub range : Option Range
+  pub read : known.Read (opened t) p r.lo r.hi k (Load index) range q
+  pub entry : r.value ≡ entry_or_zero range
+  pub section : HasRead r.lo r.hi p q
+
 -- When its walk was paused, it left a leaf of the query's index that it then found marked as dead.
 pub record GaveUp (query : Query) (w w' : Walker) (m : Moved) : Type 0 where
   pub pass : Pass
@@ -64,9 +74,13 @@ pub record GaveUp (query : Query) (w w' : Walker) (m : Moved) : Type 0 where
   pub took : Took 0 w pass
   pub left : WasLeftMarked (unbounded (part_of pass).shape.kind query) m.lo m.begun (part_of pass) (part_of w'.pass)
 
+-- Its walk was paused, and is forgotten.
+abbrev pub IsPaused : Walker → Type 0
+IsPaused w = w.walk ≡ None
+
 -- It is on no walk, and has no section open.
 abbrev pub IsOnNoWalk : Walker → Type 0
-IsOnNoWalk w = (w.walk ≡ None) × ((knows w).standing ≡ None)
+IsOnNoWalk w = IsPaused w × ((knows w).standing ≡ None)
 
 -- ---- steps of a walk
 

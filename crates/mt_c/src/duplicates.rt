@@ -2,12 +2,13 @@
 
 ghost use Rattle.std.specs.Prelude.{◌≡◌, IfErr, IfOk, None, Some};
 ghost use Rattle.mt_tree.specs.Trees.{IsNew, IsPassOf, opened};
-ghost use Rattle.mt_c.specs.Duplicates.{HasCopied, IsMadeIn, SharedCopied, TriedAtMost};
+ghost use Rattle.mt_c.specs.Duplicates.{HasCopied, HasMade, IsTriedCopy, SharedCopied, when_looked};
 ghost use Rattle.mt_c.specs.Shared.{IsFirstUser};
 ghost use Rattle.mt_c.specs.SharedMaps.{shape_for};
-ghost use Rattle.mt_c.specs.Users.{common_of, known_to, paused, user_tree};
-ghost use Rattle.mt_c.specs.Walkers.{halted, knows};
+ghost use Rattle.mt_c.specs.Users.{common_of, user_tree};
+ghost use Rattle.mt_c.specs.Walkers.{IsPaused};
 
+use crate::receipts::Receipts;
 use crate::shared_maps::status_for;
 use crate::shared_told::EAGAIN;
 use crate::told::ENOMEM;
@@ -15,7 +16,7 @@ use crate::user::User;
 use crate::user_handle::UserHandle;
 use crate::user_opens::first;
 use crate::walker::Walker;
-use mt_tree::{Busy, DupError, NoMemory, Pass, Shape, Tree};
+use mt_tree::{Busy, DupError, Look, NoMemory, Pass, Shape, Tree};
 use std::alloc::Global;
 
 /// The first user of a new tree of this shape.
@@ -47,21 +48,32 @@ fn boxed_first(
 
 impl Walker {
     /// A tree of this shape with the map of the tree, and its handles, if the lock is free.
-    #[tactic(auto, using(crate::proofs::Duplicating::made_in, crate::proofs::Duplicating::tried_most))]
+    #[tactic(auto, using(crate::proofs::Duplicating::tried_copy))]
     fn try_dup(
         &mut self,
         tree: &Tree,
         alloc: Global,
         shape: Shape,
-    ) -> Result<Result<(Tree, Vec<Pass>), DupError>, Busy>
+    ) -> Result<(Result<(Tree, Vec<Pass>), DupError>, Option<Look>), Busy>
         requires of { IsPassOf tree.now self.old.pass }
         requires kind { shape.kind ≡ (opened tree.now).kind }
         ensures of { IsPassOf tree.now self.new.pass }
-        ensures made { IsMadeIn shape tree.now (halted self.old) result (knows self.new) }
-        ensures most { TriedAtMost self.old self.new }
+        ensures tried { IsTriedCopy shape tree.now self.old result self.new }
+        ensures paused { IsPaused self.new }
     {
         self.pause(tree);
         tree.try_dup(alloc, &mut self.pass, shape)
+    }
+}
+
+impl Receipts {
+    /// Keeps the receipt of a look, if there was one.
+    fn keep(&mut self, look: Option<Look>)
+        ensures { self.new ≡ when_looked look self.old }
+    {
+        if let Some(look) = look {
+            self.looked = Some(look);
+        }
     }
 }
 
@@ -83,20 +95,47 @@ impl User {
         &mut self,
         alloc: Global,
         shape: Shape,
-    ) -> Result<Result<(Tree, Vec<Pass>), DupError>, Busy>
+    ) -> Result<(Result<(Tree, Vec<Pass>), DupError>, Option<Look>), Busy>
         requires { shape.kind ≡ (opened (user_tree self.old)).kind }
         ensures common { common_of self.new ≡ common_of self.old }
         ensures chair { self.new.chair ≡ self.old.chair }
         ensures receipts { self.new.receipts ≡ self.old.receipts }
-        ensures made { IsMadeIn shape (user_tree self.old) (paused self.old) result (known_to self.new) }
-        ensures most { TriedAtMost self.old.walker self.new.walker }
+        ensures tried { IsTriedCopy shape (user_tree self.old) self.old.walker result self.new.walker }
+        ensures paused { IsPaused self.new.walker }
     {
         self.walker.try_dup(&self.common.tree, alloc, shape)
     }
 
+    /// A tree of this shape with the map of its tree, and its handles, if the lock is free; or the number that says why there is
+    /// none. The receipt of the look, or of finding the lock taken, is kept.
+    #[tactic(auto, using(crate::proofs::Duplicating::copy_taken, crate::proofs::Duplicating::copy_lacks, crate::proofs::Duplicating::copy_looked))]
+    fn dup_told(&mut self, alloc: Global, shape: Shape) -> Result<(Tree, Vec<Pass>), u32>
+        requires { shape.kind ≡ (opened (user_tree self.old)).kind }
+        ensures common { common_of self.new ≡ common_of self.old }
+        ensures chair { self.new.chair ≡ self.old.chair }
+        ensures paused { IsPaused self.new.walker }
+        ensures copied { IfOk result (λ r. HasMade shape r.0 r.1.items self.old self.new) }
+        ensures lacks { IfErr result (λ status. HasCopied shape None status self.old self.new) }
+    {
+        let made = match self.try_dup(alloc, shape) {
+            Ok((made, look)) => {
+                self.receipts.keep(look);
+                made
+            }
+            Err(busy) => {
+                self.receipts.locked = Some(busy);
+                return Err(EAGAIN);
+            }
+        };
+        match made {
+            Ok(made) => Ok(made),
+            Err(why) => Err(status_for(why)),
+        }
+    }
+
     /// The first user of a copy of its tree, with this many nodes, for this many users and calls, if the lock is free; or the
-    /// number that says why there is none. If the lock was found taken, the receipt is kept.
-    #[tactic(auto, using(crate::proofs::Duplicating::copy_taken, crate::proofs::Duplicating::copy_none, crate::proofs::Duplicating::copy_short, crate::proofs::Duplicating::copy_made, crate::proofs::Duplicating::new_opening))]
+    /// number that says why there is none.
+    #[tactic(auto, using(crate::proofs::Duplicating::copy_short, crate::proofs::Duplicating::copy_made, crate::proofs::Duplicating::made_opening))]
     fn copy_told(
         &mut self,
         alloc: Global,
@@ -106,18 +145,14 @@ impl User {
     ) -> Result<Box<User>, u32>
         ensures common { common_of self.new ≡ common_of self.old }
         ensures chair { self.new.chair ≡ self.old.chair }
-        ensures most { TriedAtMost self.old.walker self.new.walker }
+        ensures paused { IsPaused self.new.walker }
         ensures copied { IfOk result (λ whole. HasCopied (shape_for (opened (user_tree self.old)).kind rows passes calls) (Some whole.value) 0 self.old self.new) }
         ensures lacks { IfErr result (λ status. HasCopied (shape_for (opened (user_tree self.old)).kind rows passes calls) None status self.old self.new) }
     {
         let shape = self.shape_of(rows, passes, calls);
-        let (tree, passes) = match self.try_dup(alloc, shape) {
-            Ok(Ok(made)) => made,
-            Ok(Err(why)) => return Err(status_for(why)),
-            Err(busy) => {
-                self.receipts.locked = Some(busy);
-                return Err(EAGAIN);
-            }
+        let (tree, passes) = match self.dup_told(alloc, shape) {
+            Ok(made) => made,
+            Err(status) => return Err(status),
         };
         match boxed_first(alloc, shape, tree, passes) {
             Ok(whole) => Ok(whole),

@@ -3,6 +3,7 @@
 
 mod bounded;
 mod building;
+mod call_lists;
 mod calls;
 mod copies;
 mod duplicates;
@@ -15,7 +16,9 @@ mod kept;
 mod kept_user;
 mod laws;
 mod looks;
+mod many;
 mod opens;
+mod overwrites;
 mod own_calls;
 mod own_tree;
 mod parts;
@@ -30,8 +33,10 @@ mod shared;
 mod shared_copies;
 mod shared_exports;
 mod shared_images;
+mod shared_many;
 mod shared_maps;
 mod shared_opens;
+mod shared_overwrites;
 mod shared_told;
 mod stats;
 mod steps;

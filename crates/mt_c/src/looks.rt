@@ -1,12 +1,12 @@
 //! The whole of a shared tree, which is looked at under its lock where that is free.
 
 ghost use Rattle.std.specs.Prelude.{◌≡◌};
-ghost use Rattle.mt_tree.specs.Looks.{IsOldest, IsStatsOf};
+ghost use Rattle.mt_tree.specs.Looks.{IsFormBehind, IsOldest, IsStatsOf};
 ghost use Rattle.mt_tree.specs.Trees.{IsPassOf};
 ghost use Rattle.mt_c.specs.Looks as defined;
-ghost use Rattle.mt_c.specs.Looks.{HasFound, IsFormSeen, IsFoundIn, SharedChecked, SharedOldest, SharedStats, TellsCalls, TellsForm, TellsStats, when_found};
+ghost use Rattle.mt_c.specs.Looks.{HasFound, IsFoundIn, SharedChecked, SharedOldest, SharedStats, TellsCalls, TellsForm, TellsStats, when_found};
 ghost use Rattle.mt_c.specs.Users.{common_of, known_to, paused, user_tree};
-ghost use Rattle.mt_c.specs.Walkers.{TriedOnce, halted, knows};
+ghost use Rattle.mt_c.specs.Walkers.{IsPaused, TriedOnce, halted, knows};
 
 use crate::forms::{OutForm, no_form, out_form};
 use crate::receipts::Receipts;
@@ -16,17 +16,18 @@ use crate::user::User;
 use crate::user_handle::UserHandle;
 use crate::walker::Walker;
 use mt_check::Form;
-use mt_tree::{Busy, Stats, Tree};
+use mt_tree::{Busy, Look, Stats, Tree};
 use std::alloc::Global;
 
 impl Walker {
     /// The form of the tree's words, if the lock is free.
     #[tactic(auto, using(crate::proofs::Looking::form_found, crate::proofs::Using::tried_once))]
-    fn try_check(&mut self, tree: &Tree) -> Result<Form, Busy>
+    fn try_check(&mut self, tree: &Tree) -> Result<(Form, Look), Busy>
         requires { IsPassOf tree.now self.old.pass }
         ensures of { IsPassOf tree.now self.new.pass }
-        ensures found { IsFoundIn IsFormSeen tree.now (halted self.old) result (knows self.new) }
+        ensures found { IsFoundIn IsFormBehind tree.now (halted self.old) result (knows self.new) }
         ensures once { TriedOnce self.old self.new }
+        ensures paused { IsPaused self.new }
     {
         self.pause(tree);
         tree.try_check(&mut self.pass)
@@ -34,11 +35,12 @@ impl Walker {
 
     /// How the tree uses its nodes, if the lock is free.
     #[tactic(auto, using(crate::proofs::Looking::stats_found, crate::proofs::Using::tried_once))]
-    fn try_stats(&mut self, tree: &Tree) -> Result<Stats, Busy>
+    fn try_stats(&mut self, tree: &Tree) -> Result<(Stats, Look), Busy>
         requires { IsPassOf tree.now self.old.pass }
         ensures of { IsPassOf tree.now self.new.pass }
         ensures found { IsFoundIn IsStatsOf tree.now (halted self.old) result (knows self.new) }
         ensures once { TriedOnce self.old self.new }
+        ensures paused { IsPaused self.new }
     {
         self.pause(tree);
         tree.try_stats(&mut self.pass)
@@ -46,11 +48,12 @@ impl Walker {
 
     /// How many calls had ended at least when a section that is open was opened, if the lock is free.
     #[tactic(auto, using(crate::proofs::Looking::calls_found, crate::proofs::Using::tried_once))]
-    fn try_oldest(&mut self, tree: &Tree) -> Result<u64, Busy>
+    fn try_oldest(&mut self, tree: &Tree) -> Result<(u64, Look), Busy>
         requires { IsPassOf tree.now self.old.pass }
         ensures of { IsPassOf tree.now self.new.pass }
         ensures found { IsFoundIn IsOldest tree.now (halted self.old) result (knows self.new) }
         ensures once { TriedOnce self.old self.new }
+        ensures paused { IsPaused self.new }
     {
         self.pause(tree);
         tree.try_oldest(&mut self.pass)
@@ -59,46 +62,52 @@ impl Walker {
 
 impl User {
     /// The form of its tree's words, if the lock is free.
-    fn try_check(&mut self) -> Result<Form, Busy>
+    fn try_check(&mut self) -> Result<(Form, Look), Busy>
         ensures common { common_of self.new ≡ common_of self.old }
         ensures chair { self.new.chair ≡ self.old.chair }
         ensures receipts { self.new.receipts ≡ self.old.receipts }
-        ensures found { IsFoundIn IsFormSeen (user_tree self.old) (paused self.old) result (known_to self.new) }
+        ensures found { IsFoundIn IsFormBehind (user_tree self.old) (paused self.old) result (known_to self.new) }
         ensures once { TriedOnce self.old.walker self.new.walker }
+        ensures paused { IsPaused self.new.walker }
     {
         self.walker.try_check(&self.common.tree)
     }
 
     /// How its tree uses its nodes, if the lock is free.
-    fn try_stats(&mut self) -> Result<Stats, Busy>
+    fn try_stats(&mut self) -> Result<(Stats, Look), Busy>
         ensures common { common_of self.new ≡ common_of self.old }
         ensures chair { self.new.chair ≡ self.old.chair }
         ensures receipts { self.new.receipts ≡ self.old.receipts }
         ensures found { IsFoundIn IsStatsOf (user_tree self.old) (paused self.old) result (known_to self.new) }
         ensures once { TriedOnce self.old.walker self.new.walker }
+        ensures paused { IsPaused self.new.walker }
     {
         self.walker.try_stats(&self.common.tree)
     }
 
     /// How many calls had ended at least when a section of its tree that is open was opened, if the lock is free.
-    fn try_oldest(&mut self) -> Result<u64, Busy>
+    fn try_oldest(&mut self) -> Result<(u64, Look), Busy>
         ensures common { common_of self.new ≡ common_of self.old }
         ensures chair { self.new.chair ≡ self.old.chair }
         ensures receipts { self.new.receipts ≡ self.old.receipts }
         ensures found { IsFoundIn IsOldest (user_tree self.old) (paused self.old) result (known_to self.new) }
         ensures once { TriedOnce self.old.walker self.new.walker }
+        ensures paused { IsPaused self.new.walker }
     {
         self.walker.try_oldest(&self.common.tree)
     }
 }
 
-/// What C gets of a check under the lock. If that was found taken, the receipt is kept.
-fn form_told(found: Result<Form, Busy>, receipts: &mut Receipts) -> (OutForm, u32)
+/// What C gets of a check under the lock. The receipt of it is kept.
+fn form_told(found: Result<(Form, Look), Busy>, receipts: &mut Receipts) -> (OutForm, u32)
     ensures tells { TellsForm result.1 result.0 found }
     ensures kept { receipts.new ≡ when_found found receipts.old }
 {
     match found {
-        Ok(form) => (out_form(&form), 0),
+        Ok((form, look)) => {
+            receipts.looked = Some(look);
+            (out_form(&form), 0)
+        }
         Err(busy) => {
             receipts.locked = Some(busy);
             (no_form(), EAGAIN)
@@ -120,13 +129,16 @@ fn out_stats(stats: Stats) -> OutStats
     }
 }
 
-/// What C gets of how nodes are used. If the lock was found taken, the receipt is kept.
-fn stats_told(found: Result<Stats, Busy>, receipts: &mut Receipts) -> (OutStats, u32)
+/// What C gets of how nodes are used. The receipt of the look is kept.
+fn stats_told(found: Result<(Stats, Look), Busy>, receipts: &mut Receipts) -> (OutStats, u32)
     ensures tells { TellsStats result.1 result.0 found }
     ensures kept { receipts.new ≡ when_found found receipts.old }
 {
     match found {
-        Ok(stats) => (out_stats(stats), 0),
+        Ok((stats, look)) => {
+            receipts.looked = Some(look);
+            (out_stats(stats), 0)
+        }
         Err(busy) => {
             receipts.locked = Some(busy);
             (no_stats(), EAGAIN)
@@ -134,13 +146,16 @@ fn stats_told(found: Result<Stats, Busy>, receipts: &mut Receipts) -> (OutStats,
     }
 }
 
-/// What C gets of a number of calls. If the lock was found taken, the receipt is kept.
-fn calls_told(found: Result<u64, Busy>, receipts: &mut Receipts) -> (u64, u32)
+/// What C gets of a number of calls. The receipt of the look is kept.
+fn calls_told(found: Result<(u64, Look), Busy>, receipts: &mut Receipts) -> (u64, u32)
     ensures tells { TellsCalls result.1 result.0 found }
     ensures kept { receipts.new ≡ when_found found receipts.old }
 {
     match found {
-        Ok(calls) => (calls, 0),
+        Ok((calls, look)) => {
+            receipts.looked = Some(look);
+            (calls, 0)
+        }
         Err(busy) => {
             receipts.locked = Some(busy);
             (0, EAGAIN)
@@ -153,7 +168,7 @@ impl User {
     #[tactic(auto, using(crate::proofs::Looking::form_told))]
     fn check_told(&mut self) -> (OutForm, u32)
         ensures common { common_of self.new ≡ common_of self.old }
-        ensures found { HasFound IsFormSeen (TellsForm result.1 result.0) self.old self.new }
+        ensures found { HasFound IsFormBehind (TellsForm result.1 result.0) self.old self.new }
     {
         let found = self.try_check();
         form_told(found, &mut self.receipts)

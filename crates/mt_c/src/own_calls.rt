@@ -85,7 +85,7 @@ impl OwnTree {
         ensures prepared { IsPrepared self.old.engine self.new.engine }
         ensures ready { IsTrue result ↔ IsReady self.new.engine }
     {
-        // so many calls fit into 64 bits
+        // that many calls fit into 64 bits
         let _calls = self.calls;
         self.place = ended();
         self.engine.preallocate().is_ok()

@@ -82,7 +82,7 @@ pub fn learn(alloc: Global, user: &mut UserHandle, calls: u64) -> u32
     let Some(mut whole) = user.take(alloc) else {
         return user.refusal();
     };
-    let read = whole.look();
+    let read = whole.entry(0);
     user.put(whole);
     if calls <= read.lo { 0 } else { EINPROGRESS }
 }

@@ -1,10 +1,11 @@
 //! Images of shared trees, which are looked at under their lock where that is free.
 
 ghost use Rattle.std.specs.Prelude.{◌≡◌};
+ghost use Rattle.mt_tree.specs.Looks.{IsImagedBehind};
 ghost use Rattle.mt_tree.specs.Trees.{IsPassOf};
-ghost use Rattle.mt_c.specs.Looks.{HasFound, IsFoundIn, IsImageSeen, SharedImaged, TellsBytes, when_found};
+ghost use Rattle.mt_c.specs.Looks.{HasFound, IsFoundIn, SharedImaged, TellsBytes, TellsMade, when_found};
 ghost use Rattle.mt_c.specs.Users.{common_of, known_to, paused, user_tree};
-ghost use Rattle.mt_c.specs.Walkers.{TriedOnce, halted, knows};
+ghost use Rattle.mt_c.specs.Walkers.{IsPaused, TriedOnce, halted, knows};
 
 use crate::receipts::Receipts;
 use crate::replay::put;
@@ -14,27 +15,48 @@ use crate::user::User;
 use crate::user_handle::UserHandle;
 use crate::walker::Walker;
 use mt_base::NoMemory;
-use mt_tree::{Busy, Tree};
+use mt_tree::{Busy, Look, Tree};
 use std::alloc::Global;
 
 impl Walker {
     /// An image of the tree's words, if the lock is free.
-    #[tactic(auto, using(crate::proofs::Looking::image_found, crate::proofs::Looking::image_seen, crate::proofs::Using::tried_once))]
-    fn try_image(&mut self, tree: &Tree, alloc: Global) -> Result<Result<Vec<u8>, NoMemory>, Busy>
+    #[tactic(auto, using(crate::proofs::Looking::image_found, crate::proofs::Using::tried_once))]
+    fn try_image(
+        &mut self,
+        tree: &Tree,
+        alloc: Global,
+    ) -> Result<(Result<Vec<u8>, NoMemory>, Look), Busy>
         requires { IsPassOf tree.now self.old.pass }
         ensures of { IsPassOf tree.now self.new.pass }
-        ensures found { IsFoundIn IsImageSeen tree.now (halted self.old) result (knows self.new) }
+        ensures found { IsFoundIn IsImagedBehind tree.now (halted self.old) result (knows self.new) }
         ensures once { TriedOnce self.old self.new }
+        ensures paused { IsPaused self.new }
     {
         self.pause(tree);
         tree.try_image(alloc, &mut self.pass)
     }
 }
 
-/// What C gets of an image: the buffer begins with it, if that has room. If the lock was found taken, the receipt is kept.
+/// What C gets of an image: the buffer begins with it, if that has room.
 #[tactic(auto, using(crate::proofs::Looking::bytes_put, crate::proofs::Looking::bytes_short))]
+fn made_told(made: Result<Vec<u8>, NoMemory>, out: &mut [u8], used: &mut usize) -> u32
+    ensures { TellsMade out.old out.new used.new result made }
+{
+    match made {
+        Ok(bytes) => {
+            *used = bytes.len();
+            if put(&bytes, out) { 0 } else { ERANGE }
+        }
+        Err(NoMemory) => {
+            *used = 0;
+            ENOMEM
+        }
+    }
+}
+
+/// What C gets of an image, or of finding the lock taken. The receipt of the look is kept.
 fn image_told(
-    found: Result<Result<Vec<u8>, NoMemory>, Busy>,
+    found: Result<(Result<Vec<u8>, NoMemory>, Look), Busy>,
     receipts: &mut Receipts,
     out: &mut [u8],
     used: &mut usize,
@@ -43,13 +65,9 @@ fn image_told(
     ensures kept { receipts.new ≡ when_found found receipts.old }
 {
     match found {
-        Ok(Ok(bytes)) => {
-            *used = bytes.len();
-            if put(&bytes, out) { 0 } else { ERANGE }
-        }
-        Ok(Err(NoMemory)) => {
-            *used = 0;
-            ENOMEM
+        Ok((made, look)) => {
+            receipts.looked = Some(look);
+            made_told(made, out, used)
         }
         Err(busy) => {
             receipts.locked = Some(busy);
@@ -61,12 +79,13 @@ fn image_told(
 
 impl User {
     /// An image of its tree's words, if the lock is free.
-    fn try_image(&mut self, alloc: Global) -> Result<Result<Vec<u8>, NoMemory>, Busy>
+    fn try_image(&mut self, alloc: Global) -> Result<(Result<Vec<u8>, NoMemory>, Look), Busy>
         ensures common { common_of self.new ≡ common_of self.old }
         ensures chair { self.new.chair ≡ self.old.chair }
         ensures receipts { self.new.receipts ≡ self.old.receipts }
-        ensures found { IsFoundIn IsImageSeen (user_tree self.old) (paused self.old) result (known_to self.new) }
+        ensures found { IsFoundIn IsImagedBehind (user_tree self.old) (paused self.old) result (known_to self.new) }
         ensures once { TriedOnce self.old.walker self.new.walker }
+        ensures paused { IsPaused self.new.walker }
     {
         self.walker.try_image(&self.common.tree, alloc)
     }
@@ -75,7 +94,7 @@ impl User {
     #[tactic(auto, using(crate::proofs::Looking::image_told))]
     fn image_told(&mut self, alloc: Global, out: &mut [u8], used: &mut usize) -> u32
         ensures common { common_of self.new ≡ common_of self.old }
-        ensures found { HasFound IsImageSeen (TellsBytes out.old out.new used.new result) self.old self.new }
+        ensures found { HasFound IsImagedBehind (TellsBytes out.old out.new used.new result) self.old self.new }
     {
         let found = self.try_image(alloc);
         image_told(found, &mut self.receipts, out, used)

@@ -34,7 +34,7 @@ pub fn status_for(why: DupError) -> u32
 }
 
 /// The first user of a tree of this shape that opens with the map of these nodes; or the number that says why there is none.
-#[tactic(auto, using(crate::proofs::SharedMaps::lacks_with, crate::proofs::SharedMaps::good_shape))]
+#[tactic(auto, using(crate::proofs::SharedMaps::lacks_with, crate::proofs::SharedMaps::lacks_memory, crate::proofs::SharedMaps::good_shape))]
 fn first_with(alloc: Global, shape: Shape, rows: &mut PlainRows) -> Result<User, u32>
     requires { IsLawfulOf (sheet_in rows.old).tree shape.kind }
     ensures user { IfOk result (IsFirstWith shape (map_by (sheet_in rows.old).tree)) }
@@ -52,6 +52,7 @@ fn first_with(alloc: Global, shape: Shape, rows: &mut PlainRows) -> Result<User,
 }
 
 /// What `first_with` makes, in a box.
+#[tactic(auto, using(crate::proofs::SharedMaps::lacks_memory))]
 pub fn boxed_with(alloc: Global, shape: Shape, rows: &mut PlainRows) -> Result<Box<User>, u32>
     requires { IsLawfulOf (sheet_in rows.old).tree shape.kind }
     ensures user { IfOk result (λ whole. IsFirstWith shape (map_by (sheet_in rows.old).tree) whole.value) }

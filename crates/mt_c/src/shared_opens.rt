@@ -123,7 +123,7 @@ pub extern "C" fn maple_shared_close(alloc: Global, user: &mut UserHandle)
     ensures { SharedClosed user.old user.new }
 {
     if let Some(mut whole) = user.take(alloc) {
-        // a section that stood open would hold rows for good
+        // a section that is open would hold nodes back for good
         whole.rest();
         user.close();
     }

@@ -124,7 +124,7 @@ fn holder_told(by: Option<Holder>) -> (u64, u64)
 }
 
 /// What C gets of a call that was made.
-fn done_told(done: Done) -> (Outcome, u32)
+pub fn done_told(done: Done) -> (Outcome, u32)
     ensures outcome { result.0 ≡ defined.done_outcome done }
     ensures status { result.1 ≡ defined.done_status done }
 {

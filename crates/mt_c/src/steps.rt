@@ -71,7 +71,7 @@ fn place_at(engine: &Engine<PlainRows>, index: Option<u64>) -> RangeWalk
 impl OwnTree {
     /// The tree keeps the place of an index from then on: it stays where that is the one that is kept, leaf and all.
     #[tactic(auto, using(crate::proofs::Walking::kept_start))]
-    fn stand_at(&mut self, index: Option<u64>)
+    pub fn stand_at(&mut self, index: Option<u64>)
         ensures engine { self.new.engine ≡ self.old.engine }
         ensures next { self.new.place.next ≡ walk_start (last_index_of self.old) index }
         ensures kept { self.old.place.next ≡ index → self.new.place ≡ self.old.place }

@@ -92,6 +92,16 @@ pub fn found_status(found: Option<Range>) -> u32
     }
 }
 
+/// The number that C gets for this many ranges of a walk that then goes on from this place.
+pub fn many_status(count: usize, next: Option<u64>) -> u32
+    ensures { result ≡ defined.many_status count next }
+{
+    match next {
+        None if count == 0 => ENOENT,
+        _ => 0,
+    }
+}
+
 /// The number that C gets for a reply, or where no call was made.
 pub fn status_of(made: Option<Reply>) -> u32
     ensures { result ≡ defined.status_of made }

@@ -121,18 +121,6 @@ impl User {
         self.walker.step_from(&self.common.tree, place)
     }
 
-    /// Looks how many calls have ended, by a read.
-    pub fn look(&mut self) -> Read<Option<Range>>
-        ensures common { common_of self.new ≡ common_of self.old }
-        ensures chair { self.new.chair ≡ self.old.chair }
-        ensures receipts { self.new.receipts ≡ self.old.receipts }
-        ensures answer { IsWalkAnswer (user_tree self.old) (known_to self.old) (Load 0) (Ok result) (known_to self.new) }
-        ensures rests { IsOnNoWalk self.new.walker }
-        ensures took { Took 170 self.old.walker self.new.walker.pass }
-    {
-        self.walker.look(&self.common.tree)
-    }
-
     /// Makes one call, if the lock is free.
     pub fn try_act(&mut self, call: &Call) -> Result<Result<Done, Worn>, Busy>
         ensures common { common_of self.new ≡ common_of self.old }

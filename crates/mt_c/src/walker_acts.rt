@@ -136,7 +136,7 @@ impl Walker {
 
     /// Afterwards it is on a walk that is at this index: on the one that it was on, if that is there.
     #[tactic(auto, using(crate::proofs::Using::from_any, crate::proofs::Using::begins_walk, crate::proofs::Using::stands_on, crate::proofs::Using::paused_knows, crate::proofs::Using::same_knows, crate::proofs::Using::at_index, crate::proofs::Using::goes_kept, crate::proofs::Using::goes_anew, crate::proofs::Using::is_new_walk, crate::proofs::Using::took_none))]
-    fn walk_at(&mut self, tree: &Tree, from: u64)
+    pub(crate) fn walk_at(&mut self, tree: &Tree, from: u64)
         requires { IsPassOf tree.now self.old.pass }
         ensures of { IsPassOf tree.now self.new.pass }
         ensures at { IsOnAt self.new.walk (Some from) }
@@ -197,17 +197,6 @@ impl Walker {
             unreachable!()
         };
         read
-    }
-
-    /// Looks how many calls have ended, by a read.
-    pub fn look(&mut self, tree: &Tree) -> Read<Option<Range>>
-        requires { IsPassOf tree.now self.old.pass }
-        ensures of { IsPassOf tree.now self.new.pass }
-        ensures answer { IsWalkAnswer tree.now (knows self.old) (Load 0) (Ok result) (knows self.new) }
-        ensures rests { IsOnNoWalk self.new }
-        ensures took { Took 170 self.old self.new.pass }
-    {
-        self.load(tree, 0)
     }
 
     /// Makes one call, if the lock is free.

@@ -25,6 +25,7 @@
 //! it turns numbers into enums, and gives each call pointers of its own.
 #![deny(missing_docs)]
 
+mod batches;
 pub mod entries;
 mod errors;
 mod logs;
@@ -35,6 +36,7 @@ mod tree;
 mod waits;
 mod windows;
 
+pub use batches::Call;
 pub use errors::{CheckError, Error, LogError, OpenError};
 pub use logs::{replay, verify};
 pub use map::{Map, Refused, Values};

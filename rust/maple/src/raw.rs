@@ -11,7 +11,7 @@ pub struct RawTree {
     open: u64,
 }
 
-// SAFETY: nothing behind the handle is a thread's own: that what it keeps is `Send` is proved (`Kept` in crates/mt_c).
+// SAFETY: nothing that the handle leads to is a thread's own: that what it keeps is `Send` is proved (`Kept` in crates/mt_c).
 unsafe impl Send for RawTree {}
 
 impl RawTree {
@@ -19,7 +19,7 @@ impl RawTree {
 }
 
 /// `struct maple_user`. Zeroed it is closed.
-#[repr(C)]
+#[repr(C, align(128))]
 pub struct RawUser {
     at: *mut c_void,
     open: u64,
@@ -102,6 +102,27 @@ pub struct RawDone {
     pub epoch: u64,
 }
 
+/// `struct maple_window`.
+#[repr(C)]
+#[derive(Clone, Copy, Default)]
+pub struct RawWindow {
+    pub lo: u64,
+    pub hi: u64,
+}
+
+/// `struct maple_call`.
+#[repr(C)]
+#[derive(Clone, Copy, Default)]
+pub struct RawCall {
+    pub verb: u32,
+    pub status: u32,
+    pub first: u64,
+    pub last: u64,
+    pub entry: u64,
+    pub size: u64,
+    pub done: RawDone,
+}
+
 type Tree = *mut RawTree;
 type User = *mut RawUser;
 type Bytes = *const u8;
@@ -114,6 +135,16 @@ extern "C" {
     pub fn maple_close(tree: Tree);
 
     pub fn maple_store(tree: Tree, first: u64, last: u64, entry: u64, old: *mut u64) -> u32;
+    pub fn maple_store_over(
+        tree: Tree,
+        first: u64,
+        last: u64,
+        entry: u64,
+        met: *mut RawRange,
+        room: usize,
+        count: *mut u64,
+        old: *mut u64,
+    ) -> u32;
     pub fn maple_insert(tree: Tree, first: u64, last: u64, entry: u64) -> u32;
     pub fn maple_erase(tree: Tree, index: u64, was: *mut RawRange) -> u32;
     pub fn maple_alloc(tree: Tree, size: u64, min: u64, max: u64, entry: u64, start: *mut u64) -> u32;
@@ -125,12 +156,19 @@ extern "C" {
     pub fn maple_store_prealloc(tree: Tree, first: u64, last: u64, entry: u64, old: *mut u64) -> u32;
 
     pub fn maple_entry(tree: Tree, index: u64) -> u64;
+    pub fn maple_load_many(tree: Tree, indexes: *const u64, count: usize, entries: *mut u64, places: usize) -> u32;
     pub fn maple_load(tree: Tree, index: u64, range: *mut RawRange) -> u32;
     pub fn maple_find(tree: Tree, index: u64, max: u64, range: *mut RawRange) -> u32;
     pub fn maple_next(tree: Tree, index: u64, max: u64, range: *mut RawRange) -> u32;
     pub fn maple_prev(tree: Tree, index: u64, min: u64, range: *mut RawRange) -> u32;
     pub fn maple_rfind(tree: Tree, index: u64, min: u64, range: *mut RawRange) -> u32;
-    pub fn maple_step_to(tree: Tree, walk: *mut RawWalk, max: u64, range: *mut RawRange) -> u32;
+    pub fn maple_step_many(
+        tree: Tree,
+        walk: *mut RawWalk,
+        ranges: *mut RawRange,
+        places: usize,
+        count: *mut usize,
+    ) -> u32;
     pub fn maple_stats(tree: Tree, stats: *mut RawStats) -> u32;
     pub fn maple_rows_for(ranges: u64) -> u64;
     pub fn maple_check(tree: Tree, form: *mut RawForm) -> u32;
@@ -154,6 +192,15 @@ extern "C" {
     pub fn maple_leave(user: User) -> u32;
     pub fn maple_shared_close(user: User);
     pub fn maple_shared_load(user: User, index: u64, read: *mut RawRead) -> u32;
+    pub fn maple_shared_entry(user: User, index: u64, window: *mut RawWindow) -> u64;
+    pub fn maple_shared_load_many(
+        user: User,
+        indexes: *const u64,
+        count: usize,
+        entries: *mut u64,
+        places: usize,
+        window: *mut RawWindow,
+    ) -> u32;
     pub fn maple_shared_find(user: User, index: u64, max: u64, read: *mut RawRead) -> u32;
     pub fn maple_shared_next(user: User, index: u64, max: u64, read: *mut RawRead) -> u32;
     pub fn maple_shared_prev(user: User, index: u64, min: u64, read: *mut RawRead) -> u32;
@@ -161,6 +208,16 @@ extern "C" {
     pub fn maple_shared_step_to(user: User, walk: *mut RawWalk, max: u64, read: *mut RawRead) -> u32;
     pub fn maple_pause(user: User) -> u32;
     pub fn maple_try_store(user: User, first: u64, last: u64, entry: u64, done: *mut RawDone) -> u32;
+    pub fn maple_try_store_over(
+        user: User,
+        first: u64,
+        last: u64,
+        entry: u64,
+        met: *mut RawRange,
+        room: usize,
+        count: *mut u64,
+        done: *mut RawDone,
+    ) -> u32;
     pub fn maple_try_insert(user: User, first: u64, last: u64, entry: u64, done: *mut RawDone) -> u32;
     pub fn maple_try_erase(user: User, index: u64, done: *mut RawDone) -> u32;
     pub fn maple_try_alloc(user: User, size: u64, min: u64, max: u64, entry: u64, done: *mut RawDone) -> u32;
@@ -168,6 +225,7 @@ extern "C" {
     pub fn maple_try_gap(user: User, size: u64, min: u64, max: u64, done: *mut RawDone) -> u32;
     pub fn maple_try_rgap(user: User, size: u64, min: u64, max: u64, done: *mut RawDone) -> u32;
     pub fn maple_try_clear(user: User, done: *mut RawDone) -> u32;
+    pub fn maple_try_batch(user: User, calls: *mut RawCall, count: usize) -> u32;
     pub fn maple_learn(user: User, calls: u64) -> u32;
     pub fn maple_sync(user: User, calls: *mut u64) -> u32;
     pub fn maple_settle(user: User, calls: *mut u64, places: *mut u64) -> u32;

@@ -1,7 +1,7 @@
 //! Trees that threads share.
 
 use crate::errors::{done, opened, ENOENT, ERANGE};
-use crate::raw::{self, RawDone, RawForm, RawRead, RawStats, RawUser};
+use crate::raw::{self, RawDone, RawForm, RawRange, RawRead, RawStats, RawUser, RawWindow};
 use crate::waits::until_done;
 use crate::windows::{ends, Walk};
 use crate::{CheckError, Error, Form, Kind, OpenError, Range, Shortage, Stats};
@@ -296,9 +296,44 @@ impl Reader {
         self.ask(|user, read| unsafe { raw::maple_shared_load(user, index, read) })
     }
 
-    /// The entry at an index: of the range that [`load`](Reader::load) returns.
+    /// The entry at an index, of the range that [`load`](Reader::load) returns, without its ends.
     pub fn get(&mut self, index: u64) -> Option<NonZeroU64> {
-        self.load(index).map(|range| range.entry)
+        let mut told = RawWindow::default();
+        // SAFETY: as of `load`.
+        let entry = unsafe { raw::maple_shared_entry(&mut self.user, index, &mut told) };
+        self.window = told.lo..=told.hi;
+        NonZeroU64::new(entry)
+    }
+
+    /// The entries at these indexes, as many as there are places for, by one read: [`window`](Reader::window) is that of all. The other
+    /// places keep what they had. No entry is of an earlier version than the one before it.
+    ///
+    /// ```
+    /// use maple::{entries::of_value, Kind, Lock, Shared};
+    /// let shared = Shared::new(Kind::Range, 100, 2)?;
+    /// let (mut writer, mut reader) = (shared.writer(Lock::Waits)?, shared.reader()?);
+    /// writer.store(10..=19, of_value(4)).unwrap();
+    /// let mut entries = [None; 3];
+    /// reader.get_many(&[12, 20], &mut entries);
+    /// assert_eq!(entries, [of_value(4), None, None]);
+    /// # Ok::<(), maple::OpenError>(())
+    /// ```
+    pub fn get_many(&mut self, indexes: &[u64], entries: &mut [Option<NonZeroU64>]) {
+        let mut told = RawWindow::default();
+        let places = entries.as_mut_ptr().cast::<u64>();
+        // SAFETY: the user is open, nobody else uses it now, and the slices have these lengths. An `Option<NonZeroU64>` is a `u64`, and
+        // `None` is 0.
+        unsafe {
+            raw::maple_shared_load_many(
+                &mut self.user,
+                indexes.as_ptr(),
+                indexes.len(),
+                places,
+                entries.len(),
+                &mut told,
+            )
+        };
+        self.window = told.lo..=told.hi;
     }
 
     /// Whether the tree had no range.
@@ -522,16 +557,26 @@ pub struct Writer {
 }
 
 impl Writer {
-    fn call(&mut self, mut call: impl FnMut(&mut RawUser, &mut RawDone) -> u32) -> (u32, RawDone) {
-        let mut told = RawDone::default();
-        let mut once = || call(&mut self.reader.user, &mut told);
-        let status = match self.lock {
+    /// Makes a call once, or until it finds the lock free.
+    pub(crate) fn once(&mut self, mut call: impl FnMut(&mut RawUser) -> u32) -> u32 {
+        let mut once = || call(&mut self.reader.user);
+        match self.lock {
             Lock::Waits => until_done(once),
             Lock::Tries => once(),
-        };
+        }
+    }
+
+    /// Notes what its last call came to.
+    pub(crate) fn made(&mut self, told: &RawDone) {
         self.number = self.number.max(told.call);
-        let RawDone { need, free, live, held, .. } = told;
+        let RawDone { need, free, live, held, .. } = *told;
         self.shortage = (need > 0).then_some(Shortage { need, free, live, held });
+    }
+
+    fn call(&mut self, mut call: impl FnMut(&mut RawUser, &mut RawDone) -> u32) -> (u32, RawDone) {
+        let mut told = RawDone::default();
+        let status = self.once(|user| call(user, &mut told));
+        self.made(&told);
         (status, told)
     }
 
@@ -592,6 +637,36 @@ impl Writer {
         let ((first, last), entry) = (ends(at), entry.map_or(0, NonZeroU64::get));
         // SAFETY: the user is open, and the pointers are of two objects that nobody else uses now.
         self.word(|user, done| unsafe { raw::maple_try_store(user, first, last, entry, done) }).map(NonZeroU64::new)
+    }
+
+    /// As [`store`](Writer::store), and gives the first `room` of the ranges that it met, in rising order, whole as they were before
+    /// it, and how many they all were. No write of another thread comes between.
+    ///
+    /// ```
+    /// use maple::{entries::of_value, Kind, Lock, Shared};
+    /// let mut writer = Shared::new(Kind::Range, 100, 1)?.writer(Lock::Waits)?;
+    /// for first in [0, 10, 20] {
+    ///     writer.store(first..first + 5, of_value(first)).unwrap();
+    /// }
+    /// let (met, count) = writer.store_over(3..30, None, 2).unwrap();
+    /// assert_eq!(met.iter().map(|range| range.indexes()).collect::<Vec<_>>(), [0..=4, 10..=14]);
+    /// assert_eq!((count, writer.number()), (3, 4));
+    /// # Ok::<(), maple::OpenError>(())
+    /// ```
+    pub fn store_over(
+        &mut self,
+        at: impl RangeBounds<u64>,
+        entry: Option<NonZeroU64>,
+        room: usize,
+    ) -> Result<(Vec<Range>, u64), Error> {
+        let ((first, last), entry) = (ends(at), entry.map_or(0, NonZeroU64::get));
+        let (mut met, mut count) = (vec![RawRange::default(); room], 0);
+        let at = met.as_mut_ptr();
+        // SAFETY: as of `store`; and there are so many places.
+        self.word(|user, done| unsafe {
+            raw::maple_try_store_over(user, first, last, entry, at, room, &mut count, done)
+        })?;
+        Ok((met.into_iter().filter_map(RawRange::shown).collect(), count))
     }
 
     /// Stores an entry over a range where no range holds any of its indexes.

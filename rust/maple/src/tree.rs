@@ -2,7 +2,7 @@
 
 use crate::errors::{done, opened, ENOENT, ERANGE};
 use crate::raw::{self, RawForm, RawRange, RawStats, RawTree};
-use crate::windows::{ends, Walk};
+use crate::windows::{ends, Batches};
 use crate::{CheckError, Error, Form, Kind, OpenError, Range, Shared, Stats, MOST_ROWS};
 use std::cell::RefCell;
 use std::fmt;
@@ -273,6 +273,28 @@ impl Tree {
         Ok(NonZeroU64::new(old))
     }
 
+    /// As [`store`](Tree::store), and gives all ranges that it met, in rising order, whole as they were before it.
+    ///
+    /// ```
+    /// use maple::{entries::of_value, Kind, Tree};
+    /// let mut tree = Tree::new(Kind::Range, 100).unwrap();
+    /// for first in [0, 10, 20] {
+    ///     tree.store(first..first + 5, of_value(first))?;
+    /// }
+    /// let met = tree.store_over(3..12, None)?;
+    /// assert_eq!(met.iter().map(|range| range.indexes()).collect::<Vec<_>>(), [0..=4, 10..=14]);
+    /// assert_eq!((tree.get(2), tree.get(3), tree.get(12)), (of_value(0), None, of_value(10)));
+    /// # Ok::<(), maple::Error>(())
+    /// ```
+    pub fn store_over(&mut self, at: impl RangeBounds<u64>, entry: Option<NonZeroU64>) -> Result<Vec<Range>, Error> {
+        let ((first, last), entry) = (ends(at), entry.map_or(0, NonZeroU64::get));
+        let mut met = vec![RawRange::default(); self.range(first..=last).count()];
+        let (at, room, mut count) = (met.as_mut_ptr(), met.len(), 0);
+        // SAFETY: as of `store`; and `met` has that many places.
+        self.word(|tree, old| unsafe { raw::maple_store_over(tree, first, last, entry, at, room, &mut count, old) })?;
+        Ok(met.into_iter().filter_map(RawRange::shown).collect())
+    }
+
     /// Stores an entry over a range where no range holds any of its indexes.
     ///
     /// ```
@@ -411,10 +433,30 @@ impl Tree {
         self.ask(|tree, found| unsafe { raw::maple_load(tree, index, found) })
     }
 
-    /// The entry at an index: of the range that [`load`](Tree::load) returns, in less time.
+    /// The entry at an index, of the range that [`load`](Tree::load) returns, without its ends.
     pub fn get(&self, index: u64) -> Option<NonZeroU64> {
         // SAFETY: the tree is open, and nobody else uses it now.
         NonZeroU64::new(unsafe { raw::maple_entry(&mut *self.raw.borrow_mut(), index) })
+    }
+
+    /// The entries at these indexes, as [`get`](Tree::get) gives each. They are put into the first places, one for each. If there are
+    /// fewer places than indexes, the indexes after them are not read; the other places keep what they had.
+    ///
+    /// ```
+    /// use maple::{entries::of_value, Kind, Tree};
+    /// let mut tree = Tree::new(Kind::Range, 100).unwrap();
+    /// tree.store(3..12, of_value(1))?;
+    /// let mut entries = [None; 3];
+    /// tree.load_many(&[2, 3, 11], &mut entries);
+    /// assert_eq!(entries, [None, of_value(1), of_value(1)]);
+    /// # Ok::<(), maple::Error>(())
+    /// ```
+    pub fn load_many(&self, indexes: &[u64], entries: &mut [Option<NonZeroU64>]) {
+        let mut tree = self.raw.borrow_mut();
+        let (count, places) = (indexes.len(), entries.len());
+        // SAFETY: the tree is open, and the pointers are of three objects that nobody else uses now, with that many places. A place is a
+        // number, and 0 represents `None`.
+        unsafe { raw::maple_load_many(&mut *tree, indexes.as_ptr(), count, entries.as_mut_ptr().cast(), places) };
     }
 
     /// Whether it has no range.
@@ -495,7 +537,7 @@ impl Tree {
     /// }
     /// ```
     pub fn range(&self, window: impl RangeBounds<u64>) -> Ranges<'_> {
-        Ranges { tree: self, walk: Walk::over(window) }
+        Ranges { tree: self, walk: Batches::over(window) }
     }
 
     /// All ranges, in rising order: [`range`](Tree::range) of the window `..`.
@@ -503,12 +545,17 @@ impl Tree {
         self.range(..)
     }
 
-    fn step(&self, walk: &mut Walk) -> Option<Range> {
-        // SAFETY: the tree is open, and the pointers are of three objects that nobody else uses now.
-        walk.next(|walk, end| self.ask(|tree, found| unsafe { raw::maple_step_to(tree, walk, end, found) }))
+    fn step(&self, walk: &mut Batches) -> Option<Range> {
+        walk.next(|walk, ranges| {
+            let (places, mut count) = (ranges.len(), 0);
+            let mut tree = self.raw.borrow_mut();
+            // SAFETY: the tree is open, the pointers are of four objects that nobody else uses now, and the ranges have that many places.
+            unsafe { raw::maple_step_many(&mut *tree, walk, ranges.as_mut_ptr(), places, &mut count) };
+            count
+        })
     }
 
-    fn step_back(&self, walk: &mut Walk) -> Option<Range> {
+    fn step_back(&self, walk: &mut Batches) -> Option<Range> {
         walk.next_back(|first, last| self.last_in(first..=last))
     }
 }
@@ -562,7 +609,7 @@ impl IntoIterator for Tree {
     type IntoIter = IntoIter;
 
     fn into_iter(self) -> IntoIter {
-        IntoIter { tree: self, walk: Walk::over(..) }
+        IntoIter { tree: self, walk: Batches::over(..) }
     }
 }
 
@@ -570,7 +617,7 @@ impl IntoIterator for Tree {
 #[derive(Clone)]
 pub struct Ranges<'a> {
     tree: &'a Tree,
-    walk: Walk,
+    walk: Batches,
 }
 
 impl Iterator for Ranges<'_> {
@@ -598,7 +645,7 @@ impl fmt::Debug for Ranges<'_> {
 /// The ranges of a tree that `into_iter` took, in the order in which it gives them.
 pub struct IntoIter {
     tree: Tree,
-    walk: Walk,
+    walk: Batches,
 }
 
 impl Iterator for IntoIter {

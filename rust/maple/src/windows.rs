@@ -1,6 +1,6 @@
 //! Ranges of indexes in Rust's forms, and walks over a window from either end.
 
-use crate::raw::RawWalk;
+use crate::raw::{RawRange, RawWalk};
 use crate::Range;
 use std::ops::{Bound, RangeBounds};
 
@@ -59,5 +59,58 @@ impl Walk {
             _ => self.is_done = true,
         }
         range
+    }
+}
+
+/// At most this many ranges are fetched in one call.
+const MOST: usize = 16;
+
+/// A walk whose next ranges are fetched some at a time: one at first, and twice as many each time.
+#[derive(Clone)]
+pub(crate) struct Batches {
+    walk: Walk,
+    ranges: [RawRange; MOST],
+    /// Which of them were fetched and not yet given.
+    given: usize,
+    fetched: usize,
+    room: usize,
+}
+
+impl Batches {
+    pub(crate) fn over(window: impl RangeBounds<u64>) -> Batches {
+        Batches { walk: Walk::over(window), ranges: [RawRange::default(); MOST], given: 0, fetched: 0, room: 1 }
+    }
+
+    /// Fetches the ranges that come next. Those that begin after the window are none of it.
+    fn fetch(&mut self, step_many: impl FnOnce(&mut RawWalk, &mut [RawRange]) -> usize) {
+        let found = step_many(&mut self.walk.walk, &mut self.ranges[..self.room]);
+        let end = self.walk.end;
+        let is_inside = |range: &RawRange| range.shown().is_some_and(|range| range.first <= end);
+        self.given = 0;
+        self.fetched = self.ranges[..found].partition_point(is_inside);
+        self.walk.is_done = self.fetched < self.room || self.walk.walk.ended != 0 || self.walk.walk.next > end;
+        self.room = MOST.min(2 * self.room);
+    }
+
+    /// The first range that is left.
+    pub(crate) fn next(&mut self, step_many: impl FnOnce(&mut RawWalk, &mut [RawRange]) -> usize) -> Option<Range> {
+        if self.given == self.fetched && !self.walk.is_done {
+            self.fetch(step_many);
+        }
+        if self.given == self.fetched {
+            return None;
+        }
+        self.given += 1;
+        self.ranges[self.given - 1].shown()
+    }
+
+    /// The last range that is left: the last of the window's rest, and then of those that were fetched.
+    pub(crate) fn next_back(&mut self, last_in: impl FnOnce(u64, u64) -> Option<Range>) -> Option<Range> {
+        let behind = self.walk.next_back(last_in);
+        if behind.is_some() || self.given == self.fetched {
+            return behind;
+        }
+        self.fetched -= 1;
+        self.ranges[self.fetched].shown()
     }
 }

@@ -116,3 +116,19 @@ fn meets_in_the_middle(reader: &mut Reader, ranges: &[Range]) -> bool {
     low.extend(high.into_iter().rev());
     low == ranges
 }
+
+#[test]
+fn many_look_ups_answer_as_single_ones() {
+    for kind in KINDS {
+        let ranges = ranges_of(kind);
+        let tree = Tree::build(kind, 5000, &ranges).unwrap();
+        let indexes: Vec<u64> = (0..300).map(|n| 47 * n).chain([top_of(kind), u64::MAX, 8]).collect();
+        let none = NonZeroU64::new(7);
+        for (asked, places) in [(0, 9), (9, 0), (1, 1), (8, 8), (9, 9), (300, 20), (20, 300), (303, 303)] {
+            let mut entries = vec![none; places];
+            tree.load_many(&indexes[..asked], &mut entries);
+            let wanted = |k: usize| if k < asked { tree.get(indexes[k]) } else { none };
+            assert!(entries.iter().enumerate().all(|(k, entry)| *entry == wanted(k)));
+        }
+    }
+}

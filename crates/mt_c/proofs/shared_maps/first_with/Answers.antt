@@ -1,5 +1,5 @@
 use Rattle.mt_c.proofs.Prelude.{refl, sheet_in, map_by}
-use Rattle.mt_c.proofs.SharedMaps.{good_shape, lacks_with}
+use Rattle.mt_c.proofs.SharedMaps.{good_shape, lacks_memory, lacks_with}
 use Rattle.mt_c.proofs.Using.{is_first, new_spare}
 use Rattle.mt_c.proofs.shared_maps.first_with.Goals as goal
 
@@ -15,3 +15,6 @@ returns-in-Ok-first-clause-user c = (
   good_shape c.args.shape _ c.in-Ok.ensures.bad c.in-Ok.made refl,
   is_first c.args.shape (map_by (sheet_in c.args.rows.now).tree) c.in-Ok.made.0 c.in-Ok.made.1.items c.in-Ok-first.user c.in-Ok.ensures.new c.in-Ok-first.ensures.tree c.in-Ok-first.ensures.passes c.in-Ok-first.ensures.chair c.in-Ok-first.ensures.walk c.in-Ok-first.ensures.none,
 )
+
+pub returns-in-Err-first-clause-lacks : goal.returns-in-Err-first-clause-lacks
+returns-in-Err-first-clause-lacks c = lacks_memory c.args.shape (sheet_in c.args.rows.now).tree 12 (good_shape c.args.shape _ c.in-Ok.ensures.bad c.in-Ok.made refl) refl

@@ -1,4 +1,4 @@
-use Rattle.mt_c.proofs.Prelude.{ap, subst, sym, ◌∙◌, opened, Common, IsMadeIn, halted, knows}
+use Rattle.mt_c.proofs.Prelude.{ap, subst, sym, ◌∙◌, opened, Common, IsTriedCopy}
 use Rattle.mt_c.proofs.Using.{on}
 use Rattle.mt_c.proofs.user.User.try_dup.Goals as goal
 
@@ -11,5 +11,5 @@ try_dup-requires-clause-kind c = c.requires ∙ sym (ap (λ (x : Common). (opene
 pub invariant_of-self : goal.invariant_of-self
 invariant_of-self c = record { of = on (sym c.deref.ensures) c.try_dup.ensures.of; seated = c.args.self.now.seated }
 
-pub returns-clause-made : goal.returns-clause-made
-returns-clause-made c = subst (λ (x : Common). IsMadeIn c.args.shape x.tree (halted c.args.self.now.walker) c.try_dup.result (knows c.try_dup.new.self)) c.deref.ensures c.try_dup.ensures.made
+pub returns-clause-tried : goal.returns-clause-tried
+returns-clause-tried c = subst (λ (x : Common). IsTriedCopy c.args.shape x.tree c.args.self.now.walker c.try_dup.result c.try_dup.new.self) c.deref.ensures c.try_dup.ensures.tried

@@ -1,0 +1,8 @@
+use Rattle.mt_c.proofs.Prelude.{subst, map_by, OwnTree}
+use Rattle.mt_tree.specs.Overwrites.{TellsMet, ranges_met}
+use Rattle.mt_c.specs.Calls.{range_out}
+use Rattle.mt_c.proofs.own_tree.OwnTree.tell_met.Goals as goal
+
+pub returns-clause-tells : goal.returns-clause-tells
+returns-clause-tells c =
+    subst (λ (t : OwnTree). TellsMet range_out (ranges_met (map_by t.engine.sheet.tree) c.args.first c.args.last) c.args.met.now c.tell_met.new.met c.tell_met.result) c.self.view_is c.tell_met.ensures.tells
