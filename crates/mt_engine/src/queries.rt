@@ -53,6 +53,7 @@ fn down_to(range: Option<Range>, min: u64) -> Option<Range>
 
 /// The slot of the first range that ends at an index of a slot or above: the slot itself, or the one right after the hole
 /// there.
+#[inline(always)]
 pub fn slot_from<R: Rows>(rows: &mut R, here: &Handle) -> Option<Handle>
     requires tree { (kind : Kind) × IsTreeOf (R.sheet rows.old).tree kind }
     requires here { IsHandleOf (R.sheet rows.old).tree here.now }

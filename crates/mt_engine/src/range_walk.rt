@@ -50,6 +50,7 @@ pub fn walk_from<R: Rows>(rows: &R, index: u64) -> RangeWalk
 }
 
 /// What is at the index that a walk goes on from: in the slot after the one that it returned last, or by a path from the root.
+#[inline(always)]
 fn slot_next<R: Rows>(rows: &mut R, walk: &RangeWalk) -> Option<Handle>
     requires tree { (kind : Kind) × IsTreeOf (R.sheet rows.old).tree kind }
     requires walk { WalksFrom (R.sheet rows.old).tree walk.now }
@@ -65,6 +66,7 @@ fn slot_next<R: Rows>(rows: &mut R, walk: &RangeWalk) -> Option<Handle>
 }
 
 /// The slot of the range that comes next.
+#[inline(always)]
 fn slot_found<R: Rows>(rows: &mut R, walk: &RangeWalk) -> Option<Handle>
     requires tree { (kind : Kind) × IsTreeOf (R.sheet rows.old).tree kind }
     requires walk { WalksFrom (R.sheet rows.old).tree walk.now }
@@ -78,6 +80,7 @@ fn slot_found<R: Rows>(rows: &mut R, walk: &RangeWalk) -> Option<Handle>
 }
 
 /// The index after a slot, or none at the end.
+#[inline(always)]
 fn index_behind(width: Width, given: &Handle) -> Option<u64>
     requires { given.now.span.last ≤ greatest width }
     ensures { result ≡ index_behind (greatest width) (range_at (Some given.now)) }
