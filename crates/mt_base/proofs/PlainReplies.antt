@@ -3,7 +3,7 @@ use Rattle.mt_base.proofs.Prelude.{◌≡◌, ℕ, ◌==◌, ◌||◌, List, Opt
 use Rattle.mt_base.specs.declared.replies.Reply.TheVariants as reply
 
 -- the reply tells no shortage
-abbrev IsPlain : Reply → Type 0
+abbrev pub IsPlain : Reply → Type 0
 IsPlain (reply.NoNodes shortage) = ⊥
 IsPlain r = Unit {0}
 
@@ -23,7 +23,7 @@ found_plainly : (start : Option ℕ) → IsPlain (found start)
 found_plainly None = tt
 found_plainly (Some start) = tt
 
-acted_plainly : (kind : Kind) (m : List Range) (call : Call) → IsPlain (acted kind m call).1
+pub acted_plainly : (kind : Kind) (m : List Range) (call : Call) → IsPlain (acted kind m call).1
 acted_plainly kind m (Store first last entry) =
     cond_both (is_invalid kind first last entry) _ _ (λ (after : List Range × Reply). IsPlain after.1) (λ invalid. tt) (λ valid. replied_plainly (first_met m first last))
 acted_plainly kind m (StorePre first last entry) =

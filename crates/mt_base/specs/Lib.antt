@@ -3,8 +3,10 @@ pub mod Entry
 pub mod Errno
 pub mod History
 pub mod Holes
+pub mod Limits
 pub mod Map
 pub mod Nodes
 pub mod Passes
+pub mod Places
 pub mod Text
 pub mod Width

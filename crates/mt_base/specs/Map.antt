@@ -1,6 +1,6 @@
 -- A map of disjoint ranges, what it holds at an index, and the map after a store.
 -- Source: the kernel's documentation of the maple tree, mtree_load and mtree_store_range.
-use Rattle.std.specs.Prelude.{ℕ, Bool, List, [], ◌∷◌, ◌++◌, Option, ◌+◌, ◌-◌, ◌<◌, ◌≤◌, ◌==◌, ◌&&◌, nat_lt, nat_le, not, min, max, map, filter, find, length, slice_get, if◌then◌else◌}
+use Rattle.std.specs.Prelude.{ℕ, Bool, List, [], ◌∷◌, ◌++◌, Option, Some, None, ◌+◌, ◌-◌, ◌<◌, ◌≤◌, ◌==◌, ◌&&◌, nat_lt, nat_le, not, min, max, map, filter, find, length, slice_get, if◌then◌else◌}
 use Rattle.std.specs.List.{list_any, AllByRecursion}
 use Rattle.mt_base.specs.declared.ranges.Range.{Range}
 use Rattle.mt_base.specs.declared.kinds.Kind.{Kind}
@@ -22,6 +22,11 @@ holds index r = nat_le r.first index && nat_le index r.last
 -- the range that holds an index
 abbrev pub holding : List Range → ℕ → Option Range
 holding m index = find (holds index) m
+
+-- the entry of a range, and 0 if there is none
+abbrev pub entry_or_zero : Option Range → ℕ
+entry_or_zero None = 0
+entry_or_zero (Some r) = r.entry
 
 -- the first and the last range of a list
 abbrev pub first_range : List Range → Option Range

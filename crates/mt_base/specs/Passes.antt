@@ -52,14 +52,7 @@ pub record IsSound (tree : History) (p : Pass) : Type 0 where
 -- the reader that a refusal names, because its open section holds nodes back
 abbrev pub holder_of : Reply → Option Holder
 holder_of (replies.NoNodes shortage) = shortage.by
-holder_of replies.Ok = None
-holder_of (replies.Over entry) = None
-holder_of (replies.Start start) = None
-holder_of (replies.Was range) = None
-holder_of replies.None = None
-holder_of replies.Exists = None
-holder_of replies.Invalid = None
-holder_of replies.Busy = None
+holder_of reply = None
 
 -- The handle made this call. The call's number comes after all calls that the handle knew of. The call is then the last that
 -- the handle has seen, and the one new call of its own. A handle without an open section is never named as the reader that

@@ -1,6 +1,7 @@
 //! What holds of every map of ranges. Each law (lemma) is the contract of a function that does nothing.
 
-ghost use Rattle.std.specs.Prelude.{◌≡◌, ◌↔◌, ◌<◌, ◌≤◌, ◌+◌, ◌-◌, ◌*◌, ◌/◌, ◌^◌, ◌==◌, ℕ, Bool, Option, true, List, [], ◌∷◌, length, option_map, slice_get, is_some, IsPermutation, IsTrue, flat_map, if◌then◌else◌};
+ghost use Rattle.std.specs.Prelude.{◌≡◌, ◌↔◌, ◌<◌, ◌≤◌, ◌+◌, ◌-◌, ◌*◌, ◌/◌, ◌^◌, ◌==◌, ℕ, Bool, Option, true, List, [], ◌∷◌, length};
+ghost use Rattle.std.specs.Prelude.{option_map, slice_get, is_some, IsPermutation, IsTrue, flat_map, if◌then◌else◌};
 ghost use Rattle.std.specs.List.{range_with_len};
 ghost use Rattle.mt_base.specs.declared.kinds.Kind.{Kind};
 ghost use Rattle.mt_base.specs.declared.kinds.Kind.TheVariants as kinds;
@@ -69,7 +70,8 @@ pub fn a_store_meets_what_a_find_finds()
 pub fn worked_replies()
     ensures hole { (acted kinds.Range [] (Call.Store 10 19 5)).1 ≡ Reply.Ok }
     ensures within { (acted kinds.Range (record { first = 10; last = 19; entry = 5 } ∷ []) (Call.Store 0 99 7)).1 ≡ Reply.Over 5 }
-    ensures first { (acted kinds.Range32 (record { first = 5; last = 9; entry = 5 } ∷ record { first = 20; last = 29; entry = 6 } ∷ []) (Call.StorePre 6 20 0)).1 ≡ Reply.Over 5 }
+    ensures first { (acted kinds.Range32 (record { first = 5; last = 9; entry = 5 } ∷ record { first = 20; last = 29; entry = 6 } ∷ [])
+        (Call.StorePre 6 20 0)).1 ≡ Reply.Over 5 }
     ensures behind { (acted kinds.Alloc (record { first = 20; last = 29; entry = 6 } ∷ record { first = 30; last = 39; entry = 7 } ∷ []) (Call.Store 10 30 8)).1
         ≡ Reply.Over 6 }
     ensures beside { (acted kinds.Range (record { first = 20; last = 29; entry = 6 } ∷ []) (Call.Store 10 19 8)).1 ≡ Reply.Ok }
@@ -97,10 +99,12 @@ pub fn a_search_finds_the_lowest_or_the_highest()
 pub fn worked_searches()
     ensures between { low kinds.Alloc (record { first = 0; last = 9; entry = 1 } ∷ record { first = 20; last = 29; entry = 1 } ∷ []) 10 0 (2 ^ 64 - 1)
         ≡ Some 10 }
-    ensures greatest { high kinds.Alloc (record { first = 0; last = 9; entry = 1 } ∷ record { first = 10; last = 19; entry = 3 } ∷ record { first = 20; last = 29; entry = 1 } ∷ []) 10 0 (2 ^ 64 - 1) ≡ Some 18446744073709551606 }
+    ensures greatest { high kinds.Alloc (record { first = 0; last = 9; entry = 1 } ∷ record { first = 10; last = 19; entry = 3 }
+        ∷ record { first = 20; last = 29; entry = 1 } ∷ []) 10 0 (2 ^ 64 - 1) ≡ Some 18446744073709551606 }
     ensures clipped { low kinds.Alloc (record { first = 0; last = 9; entry = 1 } ∷ record { first = 20; last = 29; entry = 1 } ∷ []) 11 5 25 ≡ None }
     ensures short { high kinds.Alloc (record { first = 0; last = 9; entry = 1 } ∷ record { first = 20; last = 29; entry = 1 } ∷ []) 4 5 25 ≡ Some 16 }
-    ensures below { high kinds.Alloc (record { first = 4194304; last = 4202495; entry = 8192 } ∷ record { first = 2147479552; last = 2147483647; entry = 8196 } ∷ []) 12288 65536 2147483647 ≡ Some 2147467264 }
+    ensures below { high kinds.Alloc (record { first = 4194304; last = 4202495; entry = 8192 }
+        ∷ record { first = 2147479552; last = 2147483647; entry = 8196 } ∷ []) 12288 65536 2147483647 ≡ Some 2147467264 }
     ensures behind { low kinds.Alloc (record { first = 0; last = 16; entry = 4096 } ∷ []) 1 0 (2 ^ 64 - 1) ≡ Some 17 }
     ensures full { low kinds.Alloc (record { first = 0; last = 16; entry = 4096 } ∷ []) 1 0 16 ≡ None }
     ensures high { high kinds.Alloc (record { first = 0; last = 16; entry = 4096 } ∷ []) 4 0 (2 ^ 64 - 1) ≡ Some 18446744073709551612 }

@@ -8,7 +8,10 @@
 mod calls;
 mod kinds;
 pub mod laws;
+mod limits;
 mod memory;
+mod outcomes;
+mod places;
 mod ranges;
 mod replies;
 mod steps;
@@ -16,7 +19,10 @@ mod widths;
 
 pub use calls::{Call, Query, finds_room, is_bad_area, is_invalid, is_no_area, is_reserved};
 pub use kinds::Kind;
+pub use limits::{FEWEST_ROWS, MOST_CALLS, MOST_LANES, MOST_PASSES, MOST_STEPS, SEED_END};
 pub use memory::NoMemory;
+pub use outcomes::{Done, Read, Worn};
+pub use places::{find_at, place_after, place_behind, place_within};
 pub use ranges::Range;
 pub use replies::{Holder, Reply, Shortage, errno};
 pub use steps::Steps;
