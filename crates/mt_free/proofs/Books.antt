@@ -1,6 +1,7 @@
 -- Each change of a book leaves a book.
 use Rattle.mt_free.proofs.Prelude.{◌≡◌, ◌≢◌, ℕ, ◌+◌, ◌<◌, ◌≤◌, suc, zero, List, [], ◌∷◌, ◌++◌, length, map, get_or, arith, refl, ap, append_assoc, append-nil, add-one, length-append, All, AllPairs, slice_get, IfSome, le-leb, lt-leb, le-ltb, lt-ltb, get_or_append_left, length-map, map_push, All-nil, All-cons, All-head, All-tail, All-weaker, All-append, All-push, All-map, All-contains, Contains-push, AllPairs-cons, all_pairs_push, all_pairs_remove, Held, Book, rows_down, IsRowOf, held_rows, IsOut, IsBook, new_book, after_retire, reclaimable, still_held, after_reclaim}
 use Rattle.mt_free.proofs.Rows.{AreApart, not_before, not_behind, apart_without, apart_with, apart_are_few}
+use Rattle.mt_base.specs.Width.{most_rows}
 
 abbrev pub book : ℕ → List ℕ → List Held → Book
 book rows free held = record { rows = rows; free = free; held = held }
@@ -26,7 +27,7 @@ all_rows_apart zero = λ i j d lt within. absurd (omega arith)
 all_rows_apart (suc n) =
     AllPairs-cons (λ r s. r ≢ s) (16 + n) (rows_down n) (All-weaker (IsRowBelow n) (λ r. 16 + n ≢ r) (λ r below is. omega (arith, below.1, is)) (rows_down n) (all_rows_below n)) (all_rows_apart n)
 
-pub new_is_book : (rows : ℕ) → rows ≤ 65504 → IsBook (new_book rows)
+pub new_is_book : (rows : ℕ) → rows ≤ most_rows → IsBook (new_book rows)
 new_is_book rows few = record {
   few = few;
   counted = omega (arith, length-rows_down rows);

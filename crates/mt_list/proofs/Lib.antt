@@ -6,5 +6,6 @@ pub mod QueriesAtPlaces
 pub mod Replaced
 pub mod RisingRanges
 pub mod StoreAtPlaces
+pub mod StoresBeside
 pub mod TwoMaps
 mod Prelude

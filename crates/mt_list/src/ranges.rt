@@ -1,8 +1,9 @@
-ghost use Rattle.std.specs.Prelude.{◌≡◌, ◌<◌, ◌≤◌, ◌+◌, ◌-◌, ◌^◌, ℕ, List, Option, IfOk, OnOk, OnErr};
+ghost use Rattle.std.specs.Prelude.{◌≡◌, ◌<◌, ◌≤◌, ◌+◌, ℕ, List, Option, IfOk, OnOk, OnErr};
 ghost use Rattle.mt_base.specs.declared.kinds.Kind.{Kind};
 ghost use Rattle.mt_base.specs.declared.ranges.Range.{Range};
 ghost use Rattle.mt_base.specs.Call.{answer};
 ghost use Rattle.mt_base.specs.Nodes.{Limits, IsMade, one_call_more};
+ghost use Rattle.mt_base.specs.Limits.{most_calls};
 
 use mt_base::{Call, NoMemory, Query, Range, Reply};
 use std::alloc::Global;
@@ -27,7 +28,7 @@ pub trait Ranges {
     ///
     /// `NoMemory` where memory ran out. Nothing is changed then.
     fn act(&mut self, call: &Call) -> Result<Reply, NoMemory>
-        requires { used self.old < 2 ^ 62 - 1 }
+        requires { used self.old < most_calls }
         ensures acts { IfOk result (λ reply. IsMade (kind self.old) (limits self.old) (map self.old) call.now (map self.new) reply) }
         ensures err { OnErr result (map self.new ≡ map self.old) }
         ensures kind { kind self.new ≡ kind self.old }
