@@ -1,11 +1,7 @@
 -- How much stands below a row at the most, and what stands in a leaf.
-use Rattle.mt_check.proofs.Prelude.{◌≡◌, ℕ, zero, suc, ◌+◌, ◌*◌, ◌^◌, ◌<◌, ◌≤◌, ◌==◌, List, [], ◌∷◌, Option, Some, None, not, length, filter, refl, ap, inl, inr, arith, length-append, flat_map, cases_Bool, pow-succ', pow-le-pow_right, one-le-pow, mul-le-mul_right, Range, columns, deepest, deepest_fits, RowKind, Leaf, Inner, Gapped, Item, Span, named_kind, spans_from, leaf_range, some_columns, Table, spans_in, by_kind, ranges_of, children_few}
+use Rattle.mt_check.proofs.Prelude.{◌≡◌, ℕ, zero, suc, ◌+◌, ◌^◌, ◌<◌, ◌≤◌, ◌==◌, List, [], ◌∷◌, Option, Some, None, not, length, filter, refl, ap, inl, inr, arith, flat_map, cases_Bool, pow-succ', one-le-pow, mul-le-mul_right, Range, columns, deepest, RowKind, Leaf, Inner, Gapped, Item, Span, named_kind, spans_from, leaf_range, some_columns, Table, spans_in, by_kind, ranges_of, children_few, below_few, level_fits}
 
 -- ---- ranges below a row
-
-each_few : (f : Span → List Range) (most : ℕ) (xs : List Span) → ((x : Span) → length (f x) ≤ most) → length (flat_map f xs) ≤ length xs * most
-each_few f most [] few = omega arith
-each_few f most (x ∷ xs) few = let first = few x in let rest = each_few f most xs few in let both = length-append (f x) (flat_map f xs) in omega arith
 
 one_range : (x : Span) → length (leaf_range x) ≤ 1
 one_range x = elim (cases_Bool (x.word == 0)) [ inl hole ↦ rw hole (omega arith) | inr entry ↦ rw entry (omega arith) ]
@@ -24,15 +20,12 @@ ranges_few t (suc depth) x =
     let next = pow-succ' (columns t.width) depth in
     let wide = mul-le-mul_right most (children_few t x) in
     let least = mul-le-mul_right (columns t.width) some in
-    let leaf = each_few leaf_range 1 (spans_in t x) one_range in
-    let inner = each_few (ranges_of t depth) most (spans_in t x) (ranges_few t depth) in
+    let leaf = below_few leaf_range 1 (spans_in t x) one_range in
+    let inner = below_few (ranges_of t depth) most (spans_in t x) (ranges_few t depth) in
     either_few (named_kind x.word) (flat_map leaf_range (spans_in t x)) (flat_map (ranges_of t depth) (spans_in t x)) (columns t.width ^ suc depth) (omega (arith, children_few t x)) (omega arith)
 
 pub ranges_fit : (t : Table) (depth : ℕ) (x : Span) → depth ≤ deepest → length (ranges_of t depth x) < 2 ^ 64
-ranges_fit t depth x low =
-    let few = ranges_few t depth x in
-    let most : columns t.width ^ depth ≤ columns t.width ^ deepest = pow-le-pow_right (some_columns t.width) low in
-    omega (arith, few, most, deepest_fits t.width)
+ranges_fit t depth x low = level_fits t.width depth (length (ranges_of t depth x)) low (ranges_few t depth x)
 
 -- ---- entries of a leaf
 

@@ -31,7 +31,7 @@ pub use Rattle.mt_rows.proofs.Lists.{levels_none}
 pub use Rattle.mt_rows.proofs.Loads.{reads_on, same_tree}
 pub use Rattle.mt_rows.proofs.Longest.{longest_in-append}
 pub use Rattle.mt_rows.proofs.Once.{IsPart, expand_parts, inner_wide}
-pub use Rattle.mt_rows.proofs.PlainPlant.{children_few, rows_fit}
+pub use Rattle.mt_rows.proofs.PlainPlant.{below_few, children_few, level_fits, rows_fit}
 pub use Rattle.mt_rows.specs.Laws.{CountLaw, EntryLaw, GapLaw, GapLawBy, GapsFrom, HoleLaw, IsLawful, IsRow, IsTended, ParentsFrom, PivotLaw, covers_all, kind_on, least_of, least_of_root, longest_below}
 pub use Rattle.mt_rows.specs.Levels.{Levels, expand}
 pub use Rattle.mt_rows.specs.Publish.{IsLawfulOf, tree_as, with_published}

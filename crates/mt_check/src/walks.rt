@@ -1,6 +1,7 @@
 //! The walk through a tree: each node before its children, children from the left.
 
-ghost use Rattle.std.specs.Prelude.{◌≡◌, ◌≢◌, ◌==◌, ◌+◌, ◌-◌, ◌^◌, ◌<◌, ◌≤◌, ℕ, true, not, max, Any, Some, OnOk, IfErr, [], slice_get, slice_index_or, length, unwrap_or, filter};
+ghost use Rattle.std.specs.Prelude.{◌≡◌, ◌≢◌, ◌==◌, ◌+◌, ◌-◌, ◌^◌, ◌<◌, ◌≤◌, ℕ, true, not, max, Any, Some, OnOk};
+ghost use Rattle.std.specs.Prelude.{IfErr, [], slice_get, slice_index_or, length, unwrap_or, filter};
 ghost use Rattle.mt_base.specs.Width.{deepest};
 ghost use Rattle.mt_layout.specs.declared.names.RowKind.TheVariants as kinds;
 ghost use Rattle.mt_layout.specs.Columns.{RiseFrom, longest_hole};
@@ -150,10 +151,12 @@ impl Walk {
     /// Enters a node, or returns the first law that it breaks, except for that of gaps.
     fn enter<R: Rows>(&mut self, rows: &mut R, visit: Visit, row: &mut Row) -> Result<(), Fault>
         requires left { visit.left ≤ deepest }
-        requires depth { let t = tree_from self.old (R.sheet rows.old).tree in LeadsToDepth (height_from t) (depth_from t visit.left visit.span) self.old.leaf_depth }
+        requires depth { let t = tree_from self.old (R.sheet rows.old).tree in
+            LeadsToDepth (height_from t) (depth_from t visit.left visit.span) self.old.leaf_depth }
         ensures ok { let t = tree_from self.old (R.sheet rows.old).tree in OnOk result (IsEntered t visit row.new) }
         ensures known { OnOk result (self.new ≡ record self.old { leaf_depth = depth_known self.old.leaf_depth visit.left row.new.kind }) }
-        ensures err { let t = tree_from self.old (R.sheet rows.old).tree in IfErr result (λ fault. slice_get (own_faults t visit.left (way_of visit) visit.span) 0 ≡ Some fault) }
+        ensures err { let t = tree_from self.old (R.sheet rows.old).tree in
+            IfErr result (λ fault. slice_get (own_faults t visit.left (way_of visit) visit.span) 0 ≡ Some fault) }
         ensures walk { self.new ≡ record self.old { leaf_depth = self.new.leaf_depth } }
         ensures rest { OnlyReads (R.sheet rows.old) (R.sheet rows.new) }
     {
@@ -196,7 +199,8 @@ impl Walk {
         row: &mut Row,
     ) -> Result<Below, Fault>
         requires left { visit.left ≤ deepest }
-        requires depth { let t = tree_from self.old (R.sheet rows.old).tree in LeadsToDepth (height_from t) (depth_from t visit.left visit.span) self.old.leaf_depth }
+        requires depth { let t = tree_from self.old (R.sheet rows.old).tree in
+            LeadsToDepth (height_from t) (depth_from t visit.left visit.span) self.old.leaf_depth }
         ensures answer { IsAnswerAt (tree_from self.old (R.sheet rows.old).tree) visit result }
         ensures depth { OnOk result (self.new.leaf_depth ≡ Some (height_from (tree_from self.old (R.sheet rows.old).tree))) }
         ensures walk { self.new ≡ record self.old { leaf_depth = self.new.leaf_depth } }
@@ -218,7 +222,8 @@ impl Walk {
         row: &Row,
     ) -> Result<Below, Fault>
         requires left { visit.left ≤ deepest }
-        requires depth { let t = tree_from self.old (R.sheet rows.old).tree in LeadsToDepth (height_from t) (depth_from t visit.left visit.span) self.old.leaf_depth }
+        requires depth { let t = tree_from self.old (R.sheet rows.old).tree in
+            LeadsToDepth (height_from t) (depth_from t visit.left visit.span) self.old.leaf_depth }
         requires row { IsEntered (tree_from self.old (R.sheet rows.old).tree) visit row.now }
         requires inner { row.now.kind ≢ kinds.Leaf }
         ensures answer { IsAnswerAt (tree_from self.old (R.sheet rows.old).tree) visit result }

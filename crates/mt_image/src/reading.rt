@@ -1,6 +1,7 @@
 //! Images read back.
 
-ghost use Rattle.std.specs.Prelude.{◌≡◌, ◌≢◌, ◌↔◌, ◌+◌, ◌*◌, ◌/◌, ◌%◌, ◌-◌, ◌++◌, ◌≤◌, ◌<◌, ◌^◌, IfOk, IfErr, IsTrue, Err, Ok, Some, codes, drop, length, replicate, slice_get, take};
+ghost use Rattle.std.specs.Prelude.{◌≡◌, ◌≢◌, ◌↔◌, ◌+◌, ◌*◌, ◌/◌, ◌%◌, ◌-◌, ◌++◌, ◌≤◌, ◌<◌, ◌^◌, IfOk, IfErr};
+ghost use Rattle.std.specs.Prelude.{IsTrue, Err, Ok, Some, codes, drop, length, replicate, slice_get, take};
 ghost use Rattle.std.specs.Str.{bytes_eq};
 ghost use Rattle.mt_base.specs.Width.{columns, first_row, kind_width, most_rows};
 ghost use Rattle.mt_check.specs.Check.{checked};

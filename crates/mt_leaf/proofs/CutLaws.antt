@@ -73,11 +73,11 @@ module _ (leaf : Bool) (least most : ℕ) (items : List Item) (sizes : 2 * least
   meets_first place end =
       let low = end.least in let near = end.most in
       record {
+        full = end.full;
         some = omega arith;
         many = omega arith;
         rest = omega arith;
         inside = omega arith;
-        full = end.full;
         only = λ more a front back.
             let few = front.few in let rest = back.few in let inside = back.some in
             let at : a ≡ first_place least most (length items) = omega arith in
@@ -118,29 +118,18 @@ module _ (leaf : Bool) (least most : ℕ) (items : List Item) (sizes : 2 * least
   meets towards.Last place at = meets_last place at
 
 -- no other two rows have fewer items at the end that the cut is made towards
+refuted : (a b : ℕ) → (a < b → ⊥) → b ≤ a
+refuted a b not = ⊎_elim (λ (less : a < b). absurd (not less)) (λ (more : b ≤ a). more) (cases_lt a b)
+
 pub nearest_first : (leaf : Bool) (least most : ℕ) (items : List Item) (to other : ℕ) → MeetAt towards.First leaf least most items to → ArePieces leaf least most items 0 (other ∷ length items ∷ []) → to ≤ other
 nearest_first leaf least most items to other at pieces =
-    let many = pieces.0.many in let rest = pieces.1.0.few in let inside = pieces.1.0.some in
-    let near = at.most in
-    ⊎_elim
-    (λ (less : other < to).
-    let here : other ≡ first_place least most (length items) = omega arith in
-    let same = not_behind leaf items (first_place least most (length items)) to other at (λ l. pieces.0.full l inside) here in
-    omega arith)
-    (λ (more : to ≤ other). more)
-    (cases_lt other to)
+    let many = pieces.0.many in let rest = pieces.1.0.few in let inside = pieces.1.0.some in let near = at.most in
+    refuted other to (λ less. let here : other ≡ first_place least most (length items) = omega arith in let same = not_behind leaf items (first_place least most (length items)) to other at (λ l. pieces.0.full l inside) here in omega arith)
 
 pub nearest_last : (leaf : Bool) (least most : ℕ) (items : List Item) (to other : ℕ) → MeetAt towards.Last leaf least most items to → ArePieces leaf least most items 0 (other ∷ length items ∷ []) → other ≤ to
 nearest_last leaf least most items to other at pieces =
-    let few = pieces.0.few in let rest = pieces.1.0.many in let inside = pieces.1.0.some in
-    let near = at.least in
-    ⊎_elim
-    (λ (less : to < other).
-    let here : other ≡ last_place least most (length items) = omega arith in
-    let same = not_before leaf items (last_place least most (length items)) to other at (λ l. pieces.0.full l inside) here in
-    omega arith)
-    (λ (more : other ≤ to). more)
-    (cases_lt to other)
+    let few = pieces.0.few in let rest = pieces.1.0.many in let inside = pieces.1.0.some in let near = at.least in
+    refuted to other (λ less. let here : other ≡ last_place least most (length items) = omega arith in let same = not_before leaf items (last_place least most (length items)) to other at (λ l. pieces.0.full l inside) here in omega arith)
 
 -- ---- the cuts
 

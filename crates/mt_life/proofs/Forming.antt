@@ -79,8 +79,7 @@ form_at_place kind s (Slot r col) word call reply may row k k' x x' at at' is is
     (form_here kind s r col word call reply may k k' x x' at at' (is ∙ here) (is' ∙ here) h h' stands stands')
 
 module _ (kind : Kind) (s s' : Sheet) (place : Place) (word : ℕ) (call : Call) (reply : Reply) (may : MayPublish kind s place word call reply) (done : Published s s' place word call reply)
-    (before after : ℕ → Extent) (m m' : ℕ → Moment) (known : Known kind (state_of s) before m) (follows : HasExtentsOf (with_published s.tree place word) before after)
-    (past : (k : ℕ) → k ≤ s.ended → m' k ≡ m k) (now : m' (s.ended + 1) ≡ moment_of (with_published s.tree place word)) where
+    (before after : ℕ → Extent) (m m' : ℕ → Moment) (known : Known kind (state_of s) before m) (follows : HasExtentsOf (with_published s.tree place word) before after) (past : (k : ℕ) → k ≤ s.ended → m' k ≡ m k) (now : m' (s.ended + 1) ≡ moment_of (with_published s.tree place word)) where
   abbrev t' : Rooted
   t' = with_published s.tree place word
 

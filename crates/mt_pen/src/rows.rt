@@ -39,7 +39,8 @@ impl<'a, W: Writer, K: OfWidth> PenRows<'a, W, K> {
     ghost use Rattle.mt_life.specs.declared.views.Extent.{Extent};
     ghost use Rattle.mt_rule.specs.Rule as rule;
     ghost use Rattle.mt_rule.specs.Scans.{none_open, IsScanOf};
-    ghost use Rattle.mt_rule.specs.Tokens.{identity_of, tree_in, pass_in, turn_seat, IsPassOf, pen_in, steps_made, IsPenOf, IsAlone, IsJoined, joined_in, joined_part, joined_turn, WasShown};
+    ghost use Rattle.mt_rule.specs.Tokens.{identity_of, tree_in, pass_in, turn_seat, IsPassOf, pen_in, steps_made, IsPenOf};
+    ghost use Rattle.mt_rule.specs.Tokens.{IsAlone, IsJoined, joined_in, joined_part, joined_turn, WasShown};
     ghost use Rattle.mt_pen.specs.Sheets.{sheet_told, shown_all, unscanned, HasSeenAll};
     ghost use Rattle.mt_pen.specs.Works.{IsWorked, OpensSmall};
 

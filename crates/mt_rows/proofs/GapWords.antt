@@ -38,9 +38,6 @@ module _ (slots gaps base n gap : ℕ) (w : List ℕ) (slot : n < slots) (all : 
   pub gap_here : slice_index stored (base + gap_column slots n) ≡ gap
   gap_here = get_or-set_same w (base + gap_column slots n) gap 0 fits
 
-  pivot_same : (i : ℕ) → i + 1 < slots → slice_index stored (base + pivot_column i) ≡ slice_index w (base + pivot_column i)
-  pivot_same i h = other_column (pivot_column i) (λ e. omega arith)
-
   slot_same : (i : ℕ) → i < slots → slice_index stored (base + slot_column slots i) ≡ slice_index w (base + slot_column slots i)
   slot_same i h = other_column (slot_column slots i) (λ e. omega arith)
 
@@ -57,7 +54,7 @@ module _ (slots gaps base n gap : ℕ) (w : List ℕ) (slot : n < slots) (all : 
   item_here i last low here = rw (slot_same i low, gap_is i here) refl
 
   pub items_at-put_gap : (max : ℕ) → items_at slots gaps stored base max ≡ put_gap n gap (items_at slots gaps w base max)
-  items_at-put_gap = items_at-put_one slots gaps base n w stored (λ (x : Item). record x { gap = gap }) pivot_same item_other item_here
+  items_at-put_gap = items_at-put_one slots gaps base n w stored (λ (x : Item). record x { gap = gap }) (λ i inner. other_column (pivot_column i) (λ e. omega arith)) item_other item_here
 
 -- ---- the words that items make
 

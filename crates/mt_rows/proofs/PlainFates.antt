@@ -1,5 +1,5 @@
 -- What rows in memory stand for after a row's fate has changed.
-use Rattle.mt_rows.proofs.Prelude.{◌≡◌, ℕ, zero, suc, ◌+◌, ◌<◌, ◌≤◌, List, [], ◌∷◌, Bool, true, false, map, refl, sym, ap, ◌∙◌, subst, inl, inr, arith, slice_index_or, slice_set, replicate, nat_le, if◌then◌else◌, cases_Bool, cases_lt, leb-true, ltb-false, le-leb, lt-leb, lt-ltb, le-ltb, map-set, get_or_past, map-set_same, Fate, New, Draft, Live, Buried, Kind, Call, Reply, first_row, State, one_if, Sheet, IsFree, MayBury, life_of, is_buried, MayFinish, life_at, life_in, buried_in, past_of, fate_of, sheet_of, IsPlain}
+use Rattle.mt_rows.proofs.Prelude.{◌≡◌, ℕ, zero, suc, ◌+◌, ◌<◌, ◌≤◌, List, [], ◌∷◌, Bool, true, false, map, refl, sym, ap, ◌∙◌, subst, inl, inr, arith, slice_index_or, slice_set, replicate, nat_le, if◌then◌else◌, cases_Bool, cases_lt, leb-true, ltb-false, le-leb, lt-leb, lt-ltb, le-ltb, map-set, get_or_past, map-set_same, Fate, New, Draft, Live, Buried, Kind, Call, Reply, first_row, State, one_if, Sheet, IsFree, MayBury, life_of, is_buried, MayFinish, life_at, life_in, buried_in, past_of, fate_of, sheet_of, IsPlainState}
 use Rattle.mt_rows.specs.declared.rows.Life.TheVariants as lives
 
 -- a fate that reads as another leaves what was read
@@ -105,10 +105,10 @@ pub one_at_most : (b : Bool) → one_if b ≤ 1
 one_at_most true = omega arith
 one_at_most false = omega arith
 
-pub buried_before : (p : State) → IsPlain p → (row call : ℕ) → fate_of p row ≡ Buried call → (first_row ≤ row) × (1 ≤ call) × (call ≤ p.ended + 1 + 0)
+pub buried_before : (p : State) → IsPlainState p → (row call : ℕ) → fate_of p row ≡ Buried call → (first_row ≤ row) × (1 ≤ call) × (call ≤ p.ended + 1 + 0)
 buried_before p plain row call at = let known = plain.buried row call at in let low = known.2 in (known.0, known.1, omega (arith, one_at_most p.in_flight))
 
-module _ (p : State) (s : Sheet) (kind : Kind) (call : Call) (reply : Reply) (plain : IsPlain p) (is : sheet_of p ≡ s) (may : MayFinish kind s call reply) where
+module _ (p : State) (s : Sheet) (kind : Kind) (call : Call) (reply : Reply) (plain : IsPlainState p) (is : sheet_of p ≡ s) (may : MayFinish kind s call reply) where
   none_above : (row : ℕ) → p.published ≡ false → buried_in (past_of p) (fate_of p row) ≡ false
   none_above row silent = elim (cases_lt row first_row) [
     | inl low ↦ by_fate low (fate_of p row) refl
@@ -124,20 +124,22 @@ module _ (p : State) (s : Sheet) (kind : Kind) (call : Call) (reply : Reply) (pl
       by_fate low Live at = refl
       by_fate low (Buried call) at = let high = (plain.buried row call at).0 in absurd (omega arith)
 
+  all_past : p.published ≡ true → p.ended + 1 + 0 ≡ past_of p
+  all_past told = let all : past_of p ≡ p.ended + 1 = ap (λ (b : Bool). p.ended + one_if b) told in omega arith
+
+  few_past : p.published ≡ false → past_of p ≤ p.ended + 1 + 0
+  few_past silent = subst (λ (b : Bool). p.ended + one_if b ≤ p.ended + 1 + 0) (sym silent) (omega arith)
+
   pub finished_lives : map (life_in (p.ended + 1 + 0)) p.fates.items ≡ (sheet_of p).lives
   finished_lives = elim (cases_Bool p.published) [
-    | inl told ↦ ap (λ (n : ℕ). map (life_in n) p.fates.items) (let all : past_of p ≡ p.ended + 1 = ap (λ (b : Bool). p.ended + one_if b) told in omega arith)
-    | inr silent ↦
-        let less : past_of p ≤ p.ended + 1 + 0 = subst (λ (b : Bool). p.ended + one_if b ≤ p.ended + 1 + 0) (sym silent) (omega arith) in
-        sym (lives_alike (past_of p) (p.ended + 1 + 0) p.fates.items (λ row. unburied_lives (past_of p) (p.ended + 1 + 0) (fate_of p row) less (none_above row silent)))
+    | inl told ↦ ap (λ (n : ℕ). map (life_in n) p.fates.items) (all_past told)
+    | inr silent ↦ sym (lives_alike (past_of p) (p.ended + 1 + 0) p.fates.items (λ row. unburied_lives (past_of p) (p.ended + 1 + 0) (fate_of p row) (few_past silent) (none_above row silent)))
   ]
 
   pub finished_buried : map (buried_in (p.ended + 1 + 0)) p.fates.items ≡ (sheet_of p).buried
   finished_buried = elim (cases_Bool p.published) [
-    | inl told ↦ ap (λ (n : ℕ). map (buried_in n) p.fates.items) (let all : past_of p ≡ p.ended + 1 = ap (λ (b : Bool). p.ended + one_if b) told in omega arith)
-    | inr silent ↦
-        let less : past_of p ≤ p.ended + 1 + 0 = subst (λ (b : Bool). p.ended + one_if b ≤ p.ended + 1 + 0) (sym silent) (omega arith) in
-        sym (buried_alike (past_of p) (p.ended + 1 + 0) p.fates.items (λ row. unburied_stays (past_of p) (p.ended + 1 + 0) (fate_of p row) less (none_above row silent)))
+    | inl told ↦ ap (λ (n : ℕ). map (buried_in n) p.fates.items) (all_past told)
+    | inr silent ↦ sym (buried_alike (past_of p) (p.ended + 1 + 0) p.fates.items (λ row. unburied_stays (past_of p) (p.ended + 1 + 0) (fate_of p row) (few_past silent) (none_above row silent)))
   ]
 
 pub either_same : {A : Type 0} (b : Bool) (a : A) → a ≡ (if b then a else a)

@@ -1,9 +1,9 @@
 -- Rows that are made of words: which of them are live, and how many.
-use Rattle.mt_rows.proofs.Prelude.{◌≡◌, ◌⊎◌, ℕ, ◌+◌, ◌*◌, ◌/◌, ◌<◌, ◌≤◌, ◌==◌, List, ◌++◌, Bool, true, false, length, map, take, refl, sym, ap, ◌∙◌, subst, inl, inr, arith, slice_index_or, replicate, nat_lt, if◌then◌else◌, get_or-replicate, length-replicate, length-append, take-replicate, mul-div_cancel_left, mul-le-mul_left, mul-add, Width, columns, first_row, some_columns, Fate, New, Draft, Live, Buried, State, one_if, tally, reached_in, Sheet, life_of, is_reached, life_at, life_in, buried_in, past_of, fate_of, sheet_of, IsPlain, new_sheet, tree_made, IsMadeOf, Listed, Fated, enlivened}
+use Rattle.mt_rows.proofs.Prelude.{◌≡◌, ◌⊎◌, ℕ, ◌+◌, ◌*◌, ◌/◌, ◌<◌, ◌≤◌, ◌==◌, List, ◌++◌, Bool, true, false, length, map, take, refl, sym, ap, ◌∙◌, inl, inr, arith, slice_index_or, replicate, nat_lt, if◌then◌else◌, get_or-replicate, length-replicate, length-append, take-replicate, mul-div_cancel_left, mul-le-mul_left, mul-add, Width, columns, first_row, some_columns, Fate, New, Live, Buried, State, tally, reached_in, Sheet, life_of, is_reached, life_at, life_in, buried_in, past_of, fate_of, sheet_of, IsPlainState, new_sheet, tree_made, IsMadeOf, Listed, Fated, enlivened}
 use Rattle.mt_rows.specs.declared.rows.Life.TheVariants as lives
 use Rattle.mt_rows.specs.Laws as laws
 use Rattle.mt_rows.proofs.PlainFates.{life_told}
-use Rattle.mt_rows.proofs.PlainPlant.{enlivened_length, enlivened_fate, enlivened_or_kept, enlivened_buried}
+use Rattle.mt_rows.proofs.PlainPlant.{enlivened_length, enlivened_fate, enlivened_or_kept, enlivened_buried, none_buried}
 
 pub lawful_tree : (t : laws.Tree) → laws.IsLawful t → laws.IsTree t
 lawful_tree t (inl empty) = inl empty
@@ -13,7 +13,7 @@ lawful_tree t (inr tree) = inr (tree.0, tree.1)
 abbrev pub made : State → Listed → ℕ → Fated → State
 made p words root f = record p { words = words; root = root; fates = f }
 
-module _ (p : State) (words : Listed) (f : Fated) (width : Width) (rows root : ℕ) (w : List ℕ) (plain : IsPlain p) (is : sheet_of p ≡ new_sheet width rows) (wide : length w ≡ columns width * rows)
+module _ (p : State) (words : Listed) (f : Fated) (width : Width) (rows root : ℕ) (w : List ℕ) (plain : IsPlainState p) (is : sheet_of p ≡ new_sheet width rows) (wide : length w ≡ columns width * rows)
     (put : words.items ≡ take (columns width * first_row) p.words.items ++ w) (settles : f.items ≡ enlivened p.fates.items (reached_in (record { width = width; words = words.items }) root))
     (counted : f.opened ≡ length (reached_in (record { width = width; words = words.items }) root)) where
   abbrev after_words : State
@@ -58,20 +58,6 @@ module _ (p : State) (words : Listed) (f : Fated) (width : Width) (rows root : �
   not_live : (row : ℕ) → fate_of p row ≡ Live → ⊥
   not_live row = plain.fresh row none_ended idle (ap (λ (s : Sheet). s.tree.root) is)
 
-  none_buried : (row : ℕ) → buried_in (past_of p) (fate_of p row) ≡ false
-  none_buried row = by (fate_of p row) refl
-    where
-      by : (fate : Fate) → fate_of p row ≡ fate → buried_in (past_of p) fate ≡ false
-      by New at = refl
-      by Draft at = refl
-      by Live at = refl
-      by (Buried call) at =
-          let known = plain.buried row call at in
-          let some = known.1 in
-          let none = none_ended in
-          let low : call ≤ p.ended + 0 = subst (λ (b : Bool). call ≤ p.ended + one_if b) idle known.2 in
-          absurd (omega arith)
-
   -- ---- what is made
 
   none_reached : root ≡ 0 → enlivened p.fates.items reached ≡ p.fates.items
@@ -87,7 +73,7 @@ module _ (p : State) (words : Listed) (f : Fated) (width : Width) (rows root : �
       by (inl live) = let e = same in absurd (cc)
       by (inr kept) = sym kept ∙ (sym same ∙ at)
 
-  pub made_plain : IsPlain after_words
+  pub made_plain : IsPlainState after_words
   made_plain = record {
     few = plain.few;
     words = words_long;
@@ -105,7 +91,7 @@ module _ (p : State) (words : Listed) (f : Fated) (width : Width) (rows root : �
   buried_is : map (buried_in (past_of p)) f.items ≡ replicate (first_row + length w / columns width) false
   buried_is =
       ap (map (buried_in (past_of p))) fates_are
-      ∙ (enlivened_buried (past_of p) reached p.fates.items none_buried
+      ∙ (enlivened_buried (past_of p) reached p.fates.items (none_buried p plain idle)
       ∙ (ap (λ (s : Sheet). s.buried) is ∙ ap (λ (n : ℕ). replicate (first_row + n) false) rows_counted))
 
   was_new : (row : ℕ) → row < first_row + p.rows → life_in (past_of p) (fate_of p row) ≡ lives.New

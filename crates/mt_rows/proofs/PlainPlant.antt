@@ -1,5 +1,5 @@
 -- The rows that are reached: how many there are at the most, and what becomes of the fates when each is made live.
-use Rattle.mt_rows.proofs.Prelude.{◌≡◌, ◌≢◌, ◌⊎◌, ℕ, zero, suc, ◌+◌, ◌-◌, ◌*◌, ◌^◌, ◌<◌, ◌≤◌, ◌==◌, List, [], ◌∷◌, Option, Some, None, Bool, true, false, length, map, take, refl, sym, ap, ◌∙◌, subst, inl, inr, arith, length-append, length-set, get_or-set_same, get_or-set_other, zero-add, slice_index, slice_index_or, slice_set, nat_le, nat_lt, if◌then◌else◌, flat_map, cases_Bool, cases_eq, cases_lt, eq-eqb, ne_eqb, lt-ltb, le-ltb, get_or_past, length-flat_map-take, pow-succ', pow-le-pow_right, one-le-pow, mul-le-mul_right, mul-add, Kind, Width, columns, deepest, first_row, slots_of-columns, some_columns, many_columns, deepest_fits, RowKind, Leaf, Inner, Gapped, items_from, items_at, pivot_column, row_in, named_kind, Span, slots_of, gaps_of, length-spans_from, Table, base_of, spans_by, spans_in, by_kind, rows_of, reached_in, one_if, tally, Sheet, life_of, LiveAreReached, is_reached, MayPlant, Planted, Life, Fate, New, Draft, Live, Buried, State, life_in, buried_in, past_of, fate_of, sheet_of, IsPlain, life_at, Fated, enlivened}
+use Rattle.mt_rows.proofs.Prelude.{◌≡◌, ◌≢◌, ◌⊎◌, ℕ, zero, suc, ◌+◌, ◌-◌, ◌*◌, ◌^◌, ◌<◌, ◌≤◌, ◌==◌, List, [], ◌∷◌, Option, Some, None, Bool, true, false, length, map, take, refl, sym, ap, ◌∙◌, subst, inl, inr, arith, length-append, length-set, get_or-set_same, get_or-set_other, zero-add, slice_index, slice_index_or, slice_set, nat_le, nat_lt, if◌then◌else◌, flat_map, cases_Bool, cases_eq, cases_lt, eq-eqb, ne_eqb, lt-ltb, le-ltb, get_or_past, length-flat_map-take, pow-succ', pow-le-pow_right, one-le-pow, mul-le-mul_right, mul-add, Kind, Width, columns, deepest, first_row, slots_of-columns, some_columns, many_columns, deepest_fits, RowKind, Leaf, Inner, Gapped, items_from, items_at, pivot_column, row_in, named_kind, Span, slots_of, gaps_of, length-spans_from, Table, base_of, spans_by, spans_in, by_kind, rows_of, reached_in, one_if, tally, Sheet, life_of, LiveAreReached, is_reached, MayPlant, Planted, Life, Fate, New, Draft, Live, Buried, State, life_in, buried_in, past_of, fate_of, sheet_of, IsPlainState, life_at, Fated, enlivened}
 use Rattle.mt_rows.specs.declared.rows.Life.TheVariants as lives
 use Rattle.mt_rows.proofs.PlainFates.{buried-kept, either_same}
 use Rattle.mt_rows.proofs.Deeper.{rows_of_inner}
@@ -25,7 +25,8 @@ children_few t x = by (named_kind x.word)
         let same = length-spans_from x.first (items_at slots gaps t.words base x.last) in
         omega (arith, same, items_few slots gaps t.words base x.last slots 0, slots_of-columns t.width kind)
 
-below_few : (f : Span → List ℕ) (most : ℕ) (xs : List Span) → ((x : Span) → length (f x) ≤ most) → length (flat_map f xs) ≤ length xs * most
+-- what stands below children is no more than each has at the most. For the proofs of the crates above, too.
+pub below_few : {A : Type 0} (f : Span → List A) (most : ℕ) (xs : List Span) → ((x : Span) → length (f x) ≤ most) → length (flat_map f xs) ≤ length xs * most
 below_few f most [] few = omega arith
 below_few f most (x ∷ xs) few = let first = few x in let rest = below_few f most xs few in let both = length-append (f x) (flat_map f xs) in omega arith
 
@@ -53,11 +54,14 @@ rows_few t (suc depth) x =
     let wide = mul-le-mul_right most (children_few t x) in
     row_few t.width (named_kind x.word) (row_in x.word) (columns t.width ^ depth) (columns t.width ^ suc depth) (flat_map (rows_of t depth) (spans_in t x)) (one-le-pow depth (columns t.width) (some_columns t.width)) (pow-succ' (columns t.width) depth) (omega arith)
 
+-- a word counts what a level has at the most. For the proofs of the crates above, too.
+pub level_fits : (width : Width) (depth n : ℕ) → depth ≤ deepest → n ≤ columns width ^ depth → n < 2 ^ 64
+level_fits width depth n low few =
+    let most : columns width ^ depth ≤ columns width ^ deepest = pow-le-pow_right (some_columns width) low in
+    omega (arith, few, most, deepest_fits width)
+
 pub rows_fit : (t : Table) (depth : ℕ) (x : Span) → depth ≤ deepest → length (rows_of t depth x) < 2 ^ 64
-rows_fit t depth x low =
-    let few = rows_few t depth x in
-    let most : columns t.width ^ depth ≤ columns t.width ^ deepest = pow-le-pow_right (some_columns t.width) low in
-    omega (arith, few, most, deepest_fits t.width)
+rows_fit t depth x low = level_fits t.width depth (length (rows_of t depth x)) low (let few = rows_few t depth x in omega arith)
 
 -- ---- one more child counted
 
@@ -113,28 +117,29 @@ enlivened_buried past (r ∷ rows) fates none =
 
 -- ---- by the sheet
 
+-- between calls no row is buried
+pub none_buried : (p : State) → IsPlainState p → p.in_flight ≡ false → (row : ℕ) → buried_in (past_of p) (fate_of p row) ≡ false
+none_buried p plain idle row = by (fate_of p row) refl
+  where
+    by : (f : Fate) → fate_of p row ≡ f → buried_in (past_of p) f ≡ false
+    by New at = refl
+    by Draft at = refl
+    by Live at = refl
+    by (Buried call) at =
+        let low : call ≤ p.ended + 0 = subst (λ (b : Bool). call ≤ p.ended + one_if b) idle (plain.buried row call at).2 in
+        le-ltb (past_of p) call (omega arith)
+
 -- with another root word and other fates
 abbrev pub planted : State → ℕ → Fated → State
 planted p root f = record p { root = root; fates = f }
 
-module _ (p : State) (f : Fated) (s : Sheet) (kind : Kind) (root : ℕ) (plain : IsPlain p) (is : sheet_of p ≡ s) (may : MayPlant kind s root)
+module _ (p : State) (f : Fated) (s : Sheet) (kind : Kind) (root : ℕ) (plain : IsPlainState p) (is : sheet_of p ≡ s) (may : MayPlant kind s root)
     (counted : f.opened ≡ length (reached_in (sheet_of p).tree.table root)) (settles : f.items ≡ enlivened p.fates.items (reached_in (sheet_of p).tree.table root)) where
   reached : List ℕ
   reached = reached_in (sheet_of p).tree.table root
 
   idle : p.in_flight ≡ false
   idle = ap (λ (s : Sheet). s.in_flight) is ∙ may.idle
-
-  none_buried : (row : ℕ) → buried_in (past_of p) (fate_of p row) ≡ false
-  none_buried row = by (fate_of p row) refl
-    where
-      by : (f : Fate) → fate_of p row ≡ f → buried_in (past_of p) f ≡ false
-      by New at = refl
-      by Draft at = refl
-      by Live at = refl
-      by (Buried call) at =
-          let low : call ≤ p.ended + 0 = subst (λ (b : Bool). call ≤ p.ended + one_if b) idle (plain.buried row call at).2 in
-          le-ltb (past_of p) call (omega arith)
 
   buried_stays : (row call : ℕ) → slice_index_or f.items row New ≡ Buried call → (first_row ≤ row) × (1 ≤ call) × (call ≤ p.ended + one_if p.in_flight)
   buried_stays row call at = by (enlivened_or_kept (reached_in (sheet_of p).tree.table root) p.fates.items row)
@@ -165,7 +170,7 @@ module _ (p : State) (f : Fated) (s : Sheet) (kind : Kind) (root : ℕ) (plain :
   none_reached : root ≡ 0 → enlivened p.fates.items (reached_in (sheet_of p).tree.table root) ≡ p.fates.items
   none_reached empty = ap (λ (r : ℕ). enlivened p.fates.items (reached_in (sheet_of p).tree.table r)) empty
 
-  pub planted_plain : IsPlain (planted p root f)
+  pub planted_plain : IsPlainState (planted p root f)
   planted_plain = record {
     few = plain.few;
     words = plain.words;
@@ -202,7 +207,7 @@ module _ (p : State) (f : Fated) (s : Sheet) (kind : Kind) (root : ℕ) (plain :
   pub planted_is : Planted s (sheet_of (planted p root f)) root
   planted_is = subst (λ (s : Sheet). Planted s (sheet_of (planted p root f)) root) is (record {
     rest =
-        let buried = ap (map (buried_in (past_of p))) settles ∙ enlivened_buried (past_of p) (reached_in (sheet_of p).tree.table root) p.fates.items none_buried in
+        let buried = ap (map (buried_in (past_of p))) settles ∙ enlivened_buried (past_of p) (reached_in (sheet_of p).tree.table root) p.fates.items (none_buried p plain idle) in
         λ i. record (sheet_of (planted p root f)) { buried = buried i; opened = counted i };
     lives = λ row first within.
         life_at (past_of p) f.items row ∙ (life_after row within

@@ -1,5 +1,5 @@
 -- What a publishing store leaves: the rows that are reached are live, and the buried rows are dead.
-use Rattle.mt_rows.proofs.Prelude.{◌≡◌, ℕ, ◌+◌, ◌<◌, ◌≤◌, ◌==◌, List, Bool, true, false, refl, sym, ap, ◌∙◌, inl, inr, arith, nat_lt, slice_index_or, if◌then◌else◌, cases_lt, le-leb, le-ltb, lt-ltb, Kind, Call, Reply, first_row, Place, Fate, New, Draft, Live, Buried, State, one_if, tally, reached_in, Sheet, Rooted, life_of, is_buried, is_reached, with_published, with_record, life_after, MayPublish, Published, life_in, buried_in, past_of, fate_of, sheet_of, IsPlain, Fated, enlivened}
+use Rattle.mt_rows.proofs.Prelude.{◌≡◌, ℕ, ◌+◌, ◌<◌, ◌≤◌, ◌==◌, List, Bool, true, false, refl, sym, ap, ◌∙◌, inl, inr, arith, nat_lt, slice_index_or, if◌then◌else◌, cases_lt, le-leb, le-ltb, lt-ltb, Kind, Call, Reply, first_row, Place, Fate, New, Draft, Live, Buried, State, one_if, tally, reached_in, Sheet, Rooted, life_of, is_buried, is_reached, with_published, with_record, life_after, MayPublish, Published, life_in, buried_in, past_of, fate_of, sheet_of, IsPlainState, Fated, enlivened}
 use Rattle.mt_rows.specs.declared.rows.Life.TheVariants as lives
 use Rattle.mt_rows.proofs.PlainFates.{one_at_most, life_told, buried_told}
 use Rattle.mt_rows.proofs.PlainPlant.{enlivened_length, enlivened_fate, enlivened_or_kept}
@@ -34,7 +34,7 @@ abbrev pub published : State → State
 published p = record p { fates = lively p; published = true }
 
 -- p is what the sheet tells, with the word stored
-module _ (p : State) (s : Sheet) (kind : Kind) (place : Place) (word : ℕ) (call : Call) (reply : Reply) (plain : IsPlain p) (is : sheet_of p ≡ record s { tree = with_published s.tree place word })
+module _ (p : State) (s : Sheet) (kind : Kind) (place : Place) (word : ℕ) (call : Call) (reply : Reply) (plain : IsPlainState p) (is : sheet_of p ≡ record s { tree = with_published s.tree place word })
     (may : MayPublish kind s place word call reply) where
   abbrev after : Rooted
   after = with_published s.tree place word
@@ -60,7 +60,7 @@ module _ (p : State) (s : Sheet) (kind : Kind) (place : Place) (word : ℕ) (cal
   buried_stays : (row call : ℕ) → slice_index_or (enlivened p.fates.items reached) row New ≡ Buried call → fate_of p row ≡ Buried call
   buried_stays row call at = elim (enlivened_or_kept reached p.fates.items row) [ inl live ↦ absurd (cc) | inr kept ↦ sym kept ∙ at ]
 
-  pub published_plain : IsPlain (published p)
+  pub published_plain : IsPlainState (published p)
   published_plain = record {
     few = plain.few;
     words = plain.words;

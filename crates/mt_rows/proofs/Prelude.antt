@@ -39,7 +39,7 @@ pub use Rattle.mt_rows.specs.Laws.{EntryLaw, HasWords, HoleLaw, IsRow, NameLaw, 
 pub use Rattle.mt_rows.specs.Levels.{IsBelow, Levels, SameColumns, SameSpans, expand, is_row_of, level, map_of, one_if, tally, times}
 pub use Rattle.mt_rows.specs.Memory.{sheet_in}
 pub use Rattle.mt_rows.specs.OfWords.{IsMadeOf, tree_made}
-pub use Rattle.mt_rows.specs.Plain.{IsPlaceOfTree, IsPlain, buried_in, fate_of, life_in, names_of, new_sheet, past_of, sheet_of}
+pub use Rattle.mt_rows.specs.Plain.{IsPlaceOfTree, IsPlainState, buried_in, fate_of, life_in, names_of, new_sheet, past_of, sheet_of}
 pub use Rattle.mt_rows.specs.PlainWhole.{life_at}
 pub use Rattle.mt_rows.specs.Prelude.{Apart, Call, EndsFull, Fills, Gapped, Inner, Item, Kind, Leaf, Range, Reply, RowKind, Span, Width, acted, columns, dead_mark, deepest, first_row, gap_column, gaps_of, greatest, items_at, kind_width, leaf_range, least_items, longest_in, most_rows, named_kind, named_row, reserved, row_in, row_words, slot_column, slots_of, spans_from}
 pub use Rattle.mt_rows.specs.Publish.{ChangesRows, IsPlaceToPublish, IsReached, IsSlotOf, IsToldKind, KeepsPlace, LiveAreReached, MayFinish, MayPlant, MayPublish, NoneBuried, Planted, Published, SameHoles, StandsAt, is_reached, life_after, map_by, tree_as, tree_on, with_published, with_record}
@@ -47,7 +47,7 @@ pub use Rattle.mt_rows.specs.Replacement.{IsNewBelow, IsSlotAt, ReplacesChild, R
 pub use Rattle.mt_rows.specs.Sheet.{IsFree, IsPlace, IsWhole, MayBury, OnlyReads, Rooted, Sheet, drafted, is_buried, life_of, loaded, with_word, word_at}
 pub use Rattle.mt_rows.specs.Spans.{Table, base_of, column, inner_of, root_span, row_spans, spans_by, spans_in}
 pub use Rattle.mt_rows.specs.Trees.{by_kind, height_in, height_of, levels_by, map_in, of_first, ranges_of, reached_in, rows_of}
-pub use Rattle.mt_rows.specs.Words.{ArePut, Listed, listed, with_zeros}
+pub use Rattle.mt_rows.specs.Words.{ArePut, Listed, with_zeros}
 pub use Rattle.mt_rows.specs.declared.fates.Fate.{Fate}
 pub use Rattle.mt_rows.specs.declared.fates.Fate.TheVariants.{Buried, Draft, Live, New}
 pub use Rattle.mt_rows.specs.declared.plain.State.{State}

@@ -1,5 +1,5 @@
 -- Words of which only the first are written down: those behind them are 0.
-use Rattle.mt_rows.proofs.Prelude.{◌≡◌, ◌≢◌, ℕ, zero, suc, ◌+◌, ◌-◌, ◌<◌, ◌≤◌, List, [], ◌∷◌, ◌++◌, length, length-append, refl, sym, ap, ◌∙◌, ◌⊎◌, inl, inr, ⊎_elim, arith, get_or-set_other, get_or-set_same, replicate, slice_index, slice_set, get_or-eq_default, cases_eq, get_or_append_left, get_or-append-add, with_zeros, ArePut}
+use Rattle.mt_rows.proofs.Prelude.{◌≡◌, ◌≢◌, ℕ, zero, suc, ◌+◌, ◌-◌, ◌<◌, ◌≤◌, List, [], ◌∷◌, ◌++◌, length, length-append, refl, sym, ap, ◌∙◌, subst, ◌⊎◌, inl, inr, ⊎_elim, arith, get_or-set_other, get_or-set_same, replicate, slice_index, slice_set, get_or-eq_default, cases_eq, get_or_append_left, get_or-append-add, with_zeros, ArePut}
 
 -- ---- zeros behind a list
 
@@ -85,6 +85,21 @@ overwritten_put n at end w w' words fit few put = record {
   here = λ i within. zeros_behind n w' (at + i) ∙ put.here i within;
   others = λ k outside. zeros_behind n w' k ∙ (put.others k outside ∙ (zeros_behind end w k ∙ sym (zeros_behind n w k)));
 }
+
+-- the list that is read has as many words as are counted
+pub listed_long : (n : ℕ) (w old : List ℕ) → length w ≤ n → with_zeros n w ≡ old → length old ≡ n
+listed_long n w old fit seen = sym (ap length seen) ∙ zeros_long n w fit
+
+-- what was put, as it is read
+pub appended_listed : (n at : ℕ) (w words v old : List ℕ) → with_zeros n w ≡ old → length w ≤ n → length w ≤ at → at + length words ≤ length old → v ≡ with_zeros at w ++ words → ArePut at words old (with_zeros n v)
+appended_listed n at w words v old seen fit behind asked items =
+    let long = listed_long n w old fit seen in
+    subst (λ (z : List ℕ × List ℕ). ArePut at words z.0 z.1) (λ i. (seen i, with_zeros n (sym items i))) (appended_put n at w words behind (omega arith))
+
+pub overwritten_listed : (n at : ℕ) (w w' words v old : List ℕ) → with_zeros n w ≡ old → length w ≤ n → at + length words ≤ length old → ArePut at words (with_zeros (at + length words) w) w' → v ≡ w' → ArePut at words old (with_zeros n v)
+overwritten_listed n at w w' words v old seen fit asked put items =
+    let long = listed_long n w old fit seen in
+    subst (λ (z : List ℕ × List ℕ). ArePut at words z.0 z.1) (λ i. (seen i, with_zeros n (sym items i))) (overwritten_put n at (at + length words) w w' words fit (omega arith) put)
 
 -- ---- zeros over the first words
 

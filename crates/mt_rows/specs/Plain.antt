@@ -1,5 +1,5 @@
 -- What rows in memory stand for. Source: this project's own.
-use Rattle.std.specs.Prelude.{◌≡◌, ◌≢◌, ℕ, ◌+◌, ◌-◌, ◌*◌, ◌^◌, ◌<◌, ◌≤◌, Bool, true, false, Some, None, List, [], length, map, replicate, nat_le, nat_lt, slice_index_or, if◌then◌else◌}
+use Rattle.std.specs.Prelude.{◌≡◌, ◌≢◌, ℕ, ◌+◌, ◌*◌, ◌<◌, ◌≤◌, Bool, true, false, Some, None, List, [], length, map, replicate, nat_le, nat_lt, slice_index_or, if◌then◌else◌}
 use Rattle.std.specs.List.{slice_range}
 use Rattle.mt_rows.specs.Prelude.{Width, columns, most_rows, first_row, RowKind, slots_of}
 use Rattle.mt_layout.specs.declared.names.RowKind.TheVariants as kinds
@@ -13,6 +13,7 @@ use Rattle.mt_rows.specs.declared.plain.State.{State}
 use Rattle.mt_rows.specs.Spans.{Table, base_of}
 use Rattle.mt_rows.specs.Levels.{one_if}
 use Rattle.mt_rows.specs.Sheet.{Rooted, Sheet, IsPlace}
+use Rattle.mt_base.specs.Limits.{most_calls}
 
 -- A node that a call buried is dead once that call has published or ended, as the first `past` calls have.
 abbrev pub life_in : ℕ → Fate → Life
@@ -53,12 +54,12 @@ sheet_of p = record {
 
 -- there is a word for each column, and a fate for each node, and those before the first that no node has; no node was buried by
 -- a call to come; and before the first call an empty tree has no live node
-pub record IsPlain (p : State) : Type 0 where
+pub record IsPlainState (p : State) : Type 0 where
   pub few : p.rows ≤ most_rows
   pub words : length p.words.items ≡ columns p.width * (first_row + p.rows)
   pub fates : length p.fates.items ≡ first_row + p.rows
   pub cleared : p.cleared ≤ p.ended
-  pub room : p.in_flight ≡ true → p.ended < 2 ^ 62 - 1
+  pub room : p.in_flight ≡ true → p.ended < most_calls
   pub calm : p.in_flight ≡ false → p.published ≡ false
   pub buried : (row call : ℕ) → fate_of p row ≡ Buried call → (first_row ≤ row) × (1 ≤ call) × (call ≤ p.ended + one_if p.in_flight)
   pub fresh : (row : ℕ) → p.ended ≡ 0 → p.in_flight ≡ false → p.root ≡ 0 → fate_of p row ≢ Live

@@ -9,7 +9,7 @@ use Rattle.mt_rows.specs.declared.plain.State.{State}
 use Rattle.mt_rows.specs.declared.plain.PlainRows.{PlainRows}
 use Rattle.mt_rows.specs.Levels.{one_if}
 use Rattle.mt_rows.specs.Sheet.{HasDied, IsWhole}
-use Rattle.mt_rows.specs.Plain.{life_in, buried_in, past_of, fate_of, sheet_of, IsPlain}
+use Rattle.mt_rows.specs.Plain.{life_in, buried_in, past_of, fate_of, sheet_of, IsPlainState}
 use Rattle.mt_rows.specs.Memory.{sheet_in}
 
 pub life_at : (past : ℕ) (fates : List Fate) (row : ℕ) → slice_index_or (map (life_in past) fates) row lives.New ≡ life_in past (slice_index_or fates row New)
@@ -22,7 +22,7 @@ buried_died : (ended call : ℕ) (in_flight dead : Bool) → 1 ≤ call → call
 buried_died ended call in_flight true some low = (some, low)
 buried_died ended call in_flight false some low = tt
 
-plain_whole : (p : State) → IsPlain p → IsWhole (sheet_of p)
+plain_whole : (p : State) → IsPlainState p → IsWhole (sheet_of p)
 plain_whole p plain = record {
   few = plain.few;
   words = plain.words;

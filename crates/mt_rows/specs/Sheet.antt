@@ -8,6 +8,7 @@ use Rattle.mt_rows.specs.Levels.{IsBelow, one_if}
 use Rattle.mt_rows.specs.declared.rows.Life.{Life}
 use Rattle.mt_rows.specs.declared.rows.Life.TheVariants.{New, Draft, Live, Dead}
 use Rattle.mt_rows.specs.declared.rows.Scan.{Scan}
+use Rattle.mt_base.specs.Limits.{most_calls}
 
 -- Who calls, if that is given: the tree's table and the number of its handles. Of the joined handle: its number, the epochs at
 -- which it opened sections, the epoch of the one that is open, and the greatest call seen begun.
@@ -107,7 +108,7 @@ loaded s = record s { reads = option_map one_more s.reads }
 
 pub record MayBegin (s : Sheet) : Type 0 where
   pub idle : s.in_flight ≡ false
-  pub room : s.ended < 2 ^ 62 - 1
+  pub room : s.ended < most_calls
 
 abbrev pub begun : Sheet → Sheet
 begun s = record s { in_flight = true; published = false; scans = 0 }

@@ -33,7 +33,7 @@ pub(crate) enum Change {
         words: Snapshot<Words>,
         root: u64,
     },
-    /// The same before the first call.
+    /// Before the first call the rows that are reached are live.
     Opens {
         width: Width,
         words: Snapshot<Words>,
@@ -98,7 +98,7 @@ impl Fates {
         });
     }
 
-    /// The same before the first call: so many rows are live then.
+    /// Before the first call the rows that are reached are live, and so many are live then.
     pub(crate) fn open(&mut self, width: Width, words: &Words, root: u64)
         ensures { self.new ≡ opened_with (table_of width words.now) root self.old }
     {

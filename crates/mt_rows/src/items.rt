@@ -25,8 +25,10 @@ pub fn load_item_of<R: Rows>(
     requires first { first_row ≤ row }
     requires last { row < first_row + (R.sheet rows.old).tree.rows }
     requires slot { slot < slots_of (R.sheet rows.old).tree.table.width kind }
-    ensures item { let t = (R.sheet rows.old).tree.table in result ≡ item_at (slots_of t.width kind) (gaps_of t.width kind) t.words (base_of t row) slot result.last }
-    ensures last { let t = (R.sheet rows.old).tree.table in result.last ≡ (if nat_lt (slot + 1) (slots_of t.width kind) then column t row (pivot_column slot) else max) }
+    ensures item { let t = (R.sheet rows.old).tree.table in
+        result ≡ item_at (slots_of t.width kind) (gaps_of t.width kind) t.words (base_of t row) slot result.last }
+    ensures last { let t = (R.sheet rows.old).tree.table in
+        result.last ≡ (if nat_lt (slot + 1) (slots_of t.width kind) then column t row (pivot_column slot) else max) }
     ensures rest { OnlyReads (R.sheet rows.old) (R.sheet rows.new) }
 {
     let slots = slots(width, kind);
@@ -49,8 +51,10 @@ pub fn load_item<R: Rows>(rows: &mut R, kind: RowKind, row: u32, max: u64, slot:
     requires first { first_row ≤ row }
     requires last { row < first_row + (R.sheet rows.old).tree.rows }
     requires slot { slot < slots_of (R.sheet rows.old).tree.table.width kind }
-    ensures item { let t = (R.sheet rows.old).tree.table in result ≡ item_at (slots_of t.width kind) (gaps_of t.width kind) t.words (base_of t row) slot result.last }
-    ensures last { let t = (R.sheet rows.old).tree.table in result.last ≡ (if nat_lt (slot + 1) (slots_of t.width kind) then column t row (pivot_column slot) else max) }
+    ensures item { let t = (R.sheet rows.old).tree.table in
+        result ≡ item_at (slots_of t.width kind) (gaps_of t.width kind) t.words (base_of t row) slot result.last }
+    ensures last { let t = (R.sheet rows.old).tree.table in
+        result.last ≡ (if nat_lt (slot + 1) (slots_of t.width kind) then column t row (pivot_column slot) else max) }
     ensures rest { OnlyReads (R.sheet rows.old) (R.sheet rows.new) }
 {
     let width = rows.width();

@@ -1,5 +1,5 @@
 ghost use Rattle.std.specs.Prelude.{◌≡◌, length};
-ghost use Rattle.mt_rows.specs.Plain.{IsPlain};
+ghost use Rattle.mt_rows.specs.Plain.{IsPlainState};
 
 use crate::fates::{Fate, Fates};
 use crate::reads::Reads;
@@ -31,7 +31,7 @@ struct State {
 #[derive(Drop)]
 pub struct PlainRows {
     state: State,
-    ghost plain: { IsPlain state },
+    ghost plain: { IsPlainState state },
 }
 
 impl PlainRows {
@@ -147,7 +147,8 @@ impl PlainRows {
     pub fn into_words(self) -> Vec<u64>
         ensures size { length result.items ≡ length (sheet_in self).tree.table.words }
         ensures before { (at : ℕ) → at < columns (sheet_in self).tree.table.width * first_row → slice_index result.items at ≡ 0 }
-        ensures rows { (at : ℕ) → columns (sheet_in self).tree.table.width * first_row ≤ at → slice_index result.items at ≡ slice_index (sheet_in self).tree.table.words at }
+        ensures rows { (at : ℕ) → columns (sheet_in self).tree.table.width * first_row ≤ at
+            → slice_index result.items at ≡ slice_index (sheet_in self).tree.table.words at }
     {
         let PlainRows { state } = self;
         let first = cols(state.width.width()) as usize * FIRST_ROW as usize;

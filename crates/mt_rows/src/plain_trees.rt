@@ -40,7 +40,8 @@ fn push_spans(
     requires base { row.base < 2 ^ 32 }
     requires slot { i < slots_of width row.kind }
     requires room { length spans.old.items + (slots_of width row.kind - i) ≤ run_room }
-    ensures { spans.new.items ≡ spans.old.items ++ spans_from first (items_from (slots_of width row.kind) (gaps_of width row.kind) words.now row.base row.last (slots_of width row.kind - i) i) }
+    ensures { spans.new.items ≡ spans.old.items ++ spans_from first
+        (items_from (slots_of width row.kind) (gaps_of width row.kind) words.now row.base row.last (slots_of width row.kind - i) i) }
 {
     let slots = slots(width, row.kind) as usize;
     let word = word_at(words, row.base + (slots + i));

@@ -3,7 +3,8 @@ ghost use Rattle.mt_base.specs.declared.kinds.Kind.{Kind};
 ghost use Rattle.mt_base.specs.Width.{columns};
 ghost use Rattle.mt_rows.specs.Drafts.{AreDrafted};
 ghost use Rattle.mt_rows.specs.Publish.{MayPublish, Published, MayFinish, finished};
-ghost use Rattle.mt_rows.specs.Sheet.{Sheet, IsWhole, IsPlace, word_at, loaded, MayBegin, begun, IsScan, scanned, IsFree, life_of, drafted, MayBury, after_bury, MayTend, tended};
+ghost use Rattle.mt_rows.specs.Sheet.{Sheet, IsWhole, IsPlace, word_at, loaded, MayBegin, begun, IsScan, scanned};
+ghost use Rattle.mt_rows.specs.Sheet.{IsFree, life_of, drafted, MayBury, after_bury, MayTend, tended};
 
 use mt_base::{Call, Holder, Reply, Width};
 

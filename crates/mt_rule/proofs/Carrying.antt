@@ -1,6 +1,7 @@
 -- A step of the pen carries what every seat knows: what it has to show, and that the rule is then kept.
-use Rattle.mt_rule.proofs.Prelude.{◌≡◌, ◌≢◌, ℕ, zero, suc, ◌+◌, ◌*◌, ◌<◌, ◌≤◌, List, [], ◌∷◌, length, set, sym, ap, ◌∙◌, subst, inl, inr, ⊎_elim, arith, append-nil, length-set, get_or-set_other, get_or-set_same, Some, false, cases_eq, some, get_elem?, slice_index, slice_set, Contains, State, Holder, Begins, places, begins_on, Extent, Held, Goes, Known, holds_on, one_if, HasDied, life_of, Moment, TableStart, View, PenPart, PassPart, Width, kind_width, most_calls, most_passes, words_before, commits_at, begun_at, root_at, section_at, first_row_column, table_size, section_word, IsSectionWord, least_number, moment_at, records_of, shape_told, state_in, begun_by, IsOneHistory, IsSoundPen, WordsFit, HasFloor, IsHeldBy, PassFits, ViewFits, IsKept}
+use Rattle.mt_rule.proofs.Prelude.{◌≡◌, ◌≢◌, ℕ, zero, suc, ◌+◌, ◌*◌, ◌<◌, ◌≤◌, List, [], ◌∷◌, length, set, refl, sym, ap, ◌∙◌, subst, inl, inr, ⊎_elim, arith, append-nil, length-set, get_or-set_other, get_or-set_same, Some, false, cases_eq, some, get_elem?, slice_index, slice_set, Contains, State, Holder, Begins, places, begins_on, Extent, Held, Goes, Known, holds_on, one_if, HasDied, life_of, Moment, TableStart, View, PenPart, PassPart, Width, kind_width, words_before, commits_at, begun_at, root_at, section_at, first_row_column, table_size, section_word, IsSectionWord, least_number, moment_at, records_of, shape_told, state_in, begun_by, IsOneHistory, IsSoundPen, WordsFit, HasFloor, IsHeldBy, PassFits, ViewFits, IsKept}
 use Rattle.mt_rule.proofs.Viewing.{each_set, pen_is, seat_fits}
+use Rattle.mt_base.specs.Limits.{most_calls, most_passes}
 
 abbrev pub St : Type 0
 St = State (Unit {0}) View
@@ -18,9 +19,13 @@ recast told s r p e = record {
   each = λ j u g. subst (λ (x : PenPart). ViewFits r.pen r.owner r.extents x s.words j u) e (r.each j u g);
 }
 
--- the rule, where no more has changed than what seats know, and which seat has which pass
+-- the rule, where the pen's part has changed, what seats know, and which seat has which pass
+pub reparted : {told : TableStart} {s' : St} (s : St) (r : IsKept told s) (owner : ℕ → ℕ) (p : PenPart) → p.shape ≡ r.part.shape → IsSoundPen r.extents p → WordsFit s'.words p → ((by : ℕ) (v : View) → get_elem? s'.views by ≡ some v → ViewFits r.pen owner r.extents p s'.words by v) → IsKept told s'
+reparted s r owner p same sound words each = record { pen = r.pen; owner = owner; extents = r.extents; part = p; shaped = same ∙ r.shaped; sound = sound; words = words; each = each }
+
+-- and where the pen's part is as it was
 pub reseated : {told : TableStart} {s' : St} (s : St) (r : IsKept told s) (owner : ℕ → ℕ) → WordsFit s'.words r.part → ((by : ℕ) (v : View) → get_elem? s'.views by ≡ some v → ViewFits r.pen owner r.extents r.part s'.words by v) → IsKept told s'
-reseated s r owner words each = record { pen = r.pen; owner = owner; extents = r.extents; part = r.part; shaped = r.shaped; sound = r.sound; words = words; each = each }
+reseated s r owner = reparted s r owner r.part refl r.sound
 
 -- ---- what a step of the pen shows
 
@@ -117,21 +122,7 @@ still_history p n one count calm few = record { dealt = one.dealt; callers = one
 pub still_sound : (e : ℕ → Extent) (p n : PenPart) → IsSoundPen e p → let now : PenPart = record n { shape = p.shape; root = p.root; words = p.words; lives = p.lives; buried = p.buried } in
     IsOneHistory now → Known p.shape.kind (state_in now) e (moment_at p.shape n.history) → ((row : ℕ) → HasDied n.ended n.in_flight (life_of p.lives row))
     → length n.cleared ≡ p.shape.passes → ((k : ℕ) → k < p.shape.passes → slice_index n.cleared k ≤ n.ended) → IsSoundPen e now
-still_sound e p n sound one known dead passes cleared = record {
-  history = one;
-  known = known;
-  tree = sound.tree;
-  live = sound.live;
-  rows = sound.rows;
-  words = sound.words;
-  lives = sound.lives;
-  buried = sound.buried;
-  dead = dead;
-  some_pass = sound.some_pass;
-  few_passes = sound.few_passes;
-  passes = passes;
-  cleared = cleared;
-}
+still_sound e p n sound one known dead passes cleared = record { history = one; known = known; tree = sound.tree; live = sound.live; rows = sound.rows; words = sound.words; lives = sound.lives; buried = sound.buried; dead = dead; some_pass = sound.some_pass; few_passes = sound.few_passes; passes = passes; cleared = cleared }
 
 pub section_later : (a b word : ℕ) → a ≤ b → IsSectionWord a word → IsSectionWord b word
 section_later a b word up is = ⊎_elim (λ (none : word ≡ 0). inl none) (λ (at : (epoch : ℕ) × (word ≡ 2 * epoch + 1) × (epoch ≤ a)). let low = at.2 in inr (at.0, at.1, omega arith)) is

@@ -1,15 +1,16 @@
 -- A call begins, and a call ends: where it has published nothing its end is its event, which leaves the map.
-use Rattle.mt_rule.proofs.Prelude.{◌≡◌, ℕ, ◌+◌, ◌-◌, ◌^◌, ◌<◌, ◌≤◌, List, [], ◌∷◌, ◌++◌, Bool, true, false, true≢false, length, refl, sym, ap, ◌∙◌, subst, inl, inr, ⊎_elim, arith, append-nil, Some, None, Option, slice_set, IfSome, if◌then◌else◌, nat_lt, Contains, none, Me, step, keeps, Allows, Range, Call, Gap, Holder, Reply, acted, IsAnswered, last_map, limits_after, map_after, map_by_reply, IsRefused, holder_of, was_acted, begins_none, Extent, Goes, Known, calls, begin_turns, finish_turns, one_if, MayFinish, NoneBuried, map_by, life_of, Moment, TableStart, View, PenPart, PassPart, EndsQuietly, IsPenShort, MayEnd, IsKept, IsSoundPen, PassFits, WordsFit, HasPass, HasPen, cuts_at, moment_at, pass_of, pen_of, record_of, rooted_in, pen_sheet, state_in, tree_of, begins_call, ends_call, pass_recorded, pen_begun, quiet_moment}
+use Rattle.mt_rule.proofs.Prelude.{◌≡◌, ℕ, ◌+◌, ◌<◌, ◌≤◌, List, [], ◌∷◌, ◌++◌, Bool, true, false, true≢false, length, refl, sym, ap, ◌∙◌, subst, inl, inr, ⊎_elim, arith, append-nil, Some, None, Option, slice_set, IfSome, if◌then◌else◌, nat_lt, Contains, none, Me, step, keeps, Allows, Range, Call, Gap, Holder, Reply, acted, IsAnswered, last_map, limits_after, map_after, map_by_reply, IsRefused, holder_of, was_acted, begins_none, Extent, Goes, Known, calls, begin_turns, finish_turns, one_if, MayFinish, NoneBuried, map_by, life_of, Moment, TableStart, View, PenPart, PassPart, EndsQuietly, IsPenShort, MayEnd, IsKept, IsSoundPen, PassFits, WordsFit, HasPass, HasPen, cuts_at, moment_at, pass_of, pen_of, record_of, rooted_in, pen_sheet, state_in, tree_of, begins_call, ends_call, pass_recorded, pen_begun, quiet_moment}
 use Rattle.mt_rule.proofs.Carrying.{Carries, carries_life, carry, carry_pair, pass_carried, recast, shaped_as, stays_put, still_history, still_sound}
 use Rattle.mt_rule.proofs.Counting.{counter_sections, counter_set, here, there}
 use Rattle.mt_rule.proofs.Lives.{died_later}
 use Rattle.mt_rule.proofs.Moments.{map_now, moment_before, moment_more}
 use Rattle.mt_rule.proofs.Recording.{map_told, others_stay, recorded_fits, recorded_history}
 use Rattle.mt_rule.proofs.Viewing.{seen_fits}
+use Rattle.mt_base.specs.Limits.{most_calls}
 
 -- ---- a call begins
 
-module _ (e : ℕ → Extent) (p : PenPart) (sound : IsSoundPen e p) (idle : p.in_flight ≡ false) (room : p.ended < 2 ^ 62 - 1) where
+module _ (e : ℕ → Extent) (p : PenPart) (sound : IsSoundPen e p) (idle : p.in_flight ≡ false) (room : p.ended < most_calls) where
   no_flight : one_if p.in_flight ≡ 0
   no_flight = rw idle refl
 
@@ -28,7 +29,7 @@ module _ (e : ℕ → Extent) (p : PenPart) (sound : IsSoundPen e p) (idle : p.i
   pub begun_carries : Carries e e p (pen_begun p)
   begun_carries = carries_life e e p (pen_begun p) refl refl refl (let z = no_flight in omega arith) begun_turns.1
 
-pub beginning : (told : TableStart) (slots by : ℕ) (me : Me (Unit {0}) View) (new : ℕ) → HasPen me.0 → (pen_of me.0).in_flight ≡ false → (pen_of me.0).ended < 2 ^ 62 - 1 → new ≡ (pen_of me.0).ended + 1
+pub beginning : (told : TableStart) (slots by : ℕ) (me : Me (Unit {0}) View) (new : ℕ) → HasPen me.0 → (pen_of me.0).in_flight ≡ false → (pen_of me.0).ended < most_calls → new ≡ (pen_of me.0).ended + 1
     → Allows (IsKept told) slots by me 1 (λ _. new) (λ _. begins_call (step slots 1 new 0 none) me new)
 beginning told slots by me new has_pen idle room next s r₀ _ at _ =
     let v = me.0 in let p = pen_of v in

@@ -2,8 +2,8 @@
 use Rattle.mt_rule.proofs.Prelude.{◌≡◌, ℕ, ◌+◌, ◌<◌, List, [], refl, sym, ap, ◌∙◌, subst, arith, length, set, get_or, Some, None, false, none, some-ne-none, set-get_or, length-map, none-some, Me, step, keeps, Allows, Splits, Joins, History, IsLegal, Begins, begins_long, begins_none, all_map, Extent, Moment, TableStart, Shape, View, PenPart, PassPart, NotePart, SectionWord, HasPen, HasPass, HasNote, pen_of, pass_of, note_of, new_part, record_of, records_of, tree_of, known_by, longer_history, no_view, dealing_view, dealt_view, pen_joined, with_pass, with_note, without_pass, pass_alone, note_alone, section_at, IsOneHistory, IsSoundPen, WordsFit, PassFits, ViewFits, IsKept, all_seen, taught, sees_all, learns, WasShown, one_if}
 use Rattle.mt_base.specs.Passes as ways
 use Rattle.mt_rule.proofs.Beginnings.{begins_records, longer_fits, places_none, legal_within}
-use Rattle.mt_rule.proofs.Viewing.{each_set, each_split, each_join, other_view, pen_is, pass_is, note_is, owned, owned_here, owned_else, stays, nothing_fits, seat_fits, seen_fits}
-use Rattle.mt_rule.proofs.Carrying.{St, recast, reseated, still_history, still_sound}
+use Rattle.mt_rule.proofs.Viewing.{each_set, each_split, each_join, other_view, pen_is, pass_is, note_is, owned, owned_here, owned_else, stays, nothing_fits, beside_fits, seat_fits, seen_fits}
+use Rattle.mt_rule.proofs.Carrying.{St, recast, reparted, reseated, still_history, still_sound}
 
 -- ---- a load, which leaves all words and all that the pen knows
 
@@ -41,23 +41,7 @@ dealt_words : (words : List ℕ) (p : PenPart) → WordsFit words p → WordsFit
 dealt_words words p w = record { size = w.size; commits = w.commits; begun = w.begun; root = w.root; sections = w.sections; undealt = λ k low high. w.undealt k (omega arith) high; unnamed = w.unnamed; columns = w.columns }
 
 still_fits : (extents : ℕ → Extent) (p : PenPart) (q : PassPart) → PassFits extents p q → PassFits extents (dealt_more p) q
-still_fits extents p q f = record {
-  shape = f.shape;
-  number = (let a = f.number in omega arith);
-  seen = f.seen;
-  mine = f.mine;
-  all = f.all;
-  ended = f.ended;
-  over = f.over;
-  begun = f.begun;
-  risen = f.risen;
-  epoch = f.epoch;
-  loaded = f.loaded;
-  standing = f.standing;
-  closed = f.closed;
-  floor = λ n e. let t = f.floor n e in record { seen = t.seen; cleared = t.cleared; epoch = t.epoch };
-  held = λ j x e. let t = f.held j x e in record { row = t.row; met = t.met; floor = t.floor; has = t.has; since = t.since };
-}
+still_fits extents p q = beside_fits extents p q (p.dealt + 1) p.sections q.steps q.marks (omega arith)
 
 new_fits : (extents : ℕ → Extent) (p : PenPart) → IsOneHistory p → PassFits extents (dealt_more p) (new_part p.shape p.dealt)
 new_fits extents p one = record {
@@ -89,20 +73,12 @@ dealing told by v has_pen room s r₀ at =
     let owner' = owned r.owner p.dealt (length s.views) in
     let same : (j : ℕ) (u : View) → ViewFits r.pen r.owner r.extents p s.words j u → (x : PassPart) → u.pass ≡ Some x → j ≡ owner' x.number =
     λ j u g x k. let a = (g.passes x k).number in g.at x k ∙ sym (owned_else r.owner p.dealt (length s.views) x.number (λ n. omega arith)) in
-    record {
-      pen = r.pen;
-      owner = owner';
-      extents = r.extents;
-      part = p';
-      shaped = r.shaped;
-      sound = dealt_sound r.extents p r.sound room;
-      words = dealt_words s.words p r.words;
-      each = each_split (ViewFits r.pen owner' r.extents p' s.words) s.views by (dealing_view v) (dealt_view v)
-          (λ j u apart e. let g = r.each j u e in record { keeper = λ x k. absurd (apart ((g.keeper x k).0 ∙ sym known.0)); at = same j u g; section = g.section; passes = λ x k. still_fits r.extents p x (g.passes x k); notes = g.notes })
-          record { keeper = λ x k. (known.0, sym (pen_is p' x k)); at = same by v own; section = own.section; passes = λ x k. still_fits r.extents p x (own.passes x k); notes = own.notes }
-          (seat_fits r.pen owner' r.extents p' s.words (length s.views) None q' None (λ x k. absurd (none-some x k)) (sym (owned_here r.owner p.dealt (length s.views) p.dealt refl))
-          (r.words.undealt p.dealt (omega arith) room) (new_fits r.extents p r.sound.history) (λ n k. absurd (none-some n k)));
-    }
+    reparted s r owner' p' refl (dealt_sound r.extents p r.sound room) (dealt_words s.words p r.words)
+    (each_split (ViewFits r.pen owner' r.extents p' s.words) s.views by (dealing_view v) (dealt_view v)
+    (λ j u apart e. let g = r.each j u e in record { keeper = λ x k. absurd (apart ((g.keeper x k).0 ∙ sym known.0)); at = same j u g; section = g.section; passes = λ x k. still_fits r.extents p x (g.passes x k); notes = g.notes })
+    record { keeper = λ x k. (known.0, sym (pen_is p' x k)); at = same by v own; section = own.section; passes = λ x k. still_fits r.extents p x (own.passes x k); notes = own.notes }
+    (seat_fits r.pen owner' r.extents p' s.words (length s.views) None q' None (λ x k. absurd (none-some x k)) (sym (owned_here r.owner p.dealt (length s.views) p.dealt refl))
+    (r.words.undealt p.dealt (omega arith) room) (new_fits r.extents p r.sound.history) (λ n k. absurd (none-some n k))))
 
 -- ---- a pass beside the pen, and apart again
 
@@ -118,23 +94,7 @@ module _ (e : ℕ → Extent) (p : PenPart) (sections : List SectionWord) where
   words_with words w = record { size = w.size; commits = w.commits; begun = w.begun; root = w.root; sections = w.sections; undealt = w.undealt; unnamed = w.unnamed; columns = w.columns }
 
   pass_with : (q : PassPart) → PassFits e p q → PassFits e with_sections q
-  pass_with q f = record {
-    shape = f.shape;
-    number = f.number;
-    seen = f.seen;
-    mine = f.mine;
-    all = f.all;
-    ended = f.ended;
-    over = f.over;
-    begun = f.begun;
-    risen = f.risen;
-    epoch = f.epoch;
-    loaded = f.loaded;
-    standing = f.standing;
-    closed = f.closed;
-    floor = λ n is. let t = f.floor n is in record { seen = t.seen; cleared = t.cleared; epoch = t.epoch };
-    held = λ j x is. let t = f.held j x is in record { row = t.row; met = t.met; floor = t.floor; has = t.has; since = t.since };
-  }
+  pass_with q = beside_fits e p q p.dealt sections q.steps q.marks (omega arith)
 
 pub joining : (told : TableStart) (id other : ℕ) (v w : View) → HasPen v → HasPass w → Joins (IsKept told) id v other w (with_pass v w) no_view
 joining told id other v w has_pen has_pass s r₀ at apart at_other =
@@ -145,31 +105,17 @@ joining told id other v w has_pen has_pass s r₀ at apart at_other =
     let own = r.each id v at in let f = r.each other w there in let q = pass_of w in
     let p' : PenPart = pen_joined p in
     let owner' = owned r.owner q.number id in
+    reparted s r owner' p' refl (sound_with r.extents p [] r.sound) (words_with r.extents p [] s.words r.words)
+    (each_join (ViewFits r.pen owner' r.extents p' s.words) s.views id other (with_pass v w) no_view
+    (λ j u a b e. let g = stays r.pen r.owner r.extents p s.words q.number other id j u (f.at q has_pass) b (r.each j u e) in record { keeper = λ x k. absurd (a ((g.keeper x k).0 ∙ sym known.0)); at = g.at; section = g.section; passes = λ x k. pass_with r.extents p [] x (g.passes x k); notes = g.notes })
     record {
-      pen = r.pen;
-      owner = owner';
-      extents = r.extents;
-      part = p';
-      shaped = r.shaped;
-      sound = sound_with r.extents p [] r.sound;
-      words = words_with r.extents p [] s.words r.words;
-      each = each_join (ViewFits r.pen owner' r.extents p' s.words) s.views id other (with_pass v w) no_view
-          (λ j u a b e. let g = stays r.pen r.owner r.extents p s.words q.number other id j u (f.at q has_pass) b (r.each j u e) in record {
-            keeper = λ x k. absurd (a ((g.keeper x k).0 ∙ sym known.0));
-            at = g.at;
-            section = g.section;
-            passes = λ x k. pass_with r.extents p [] x (g.passes x k);
-            notes = g.notes;
-          })
-          record {
-            keeper = λ x k. (known.0, sym (pen_is p' x k));
-            at = λ x k. sym (owned_here r.owner q.number id x.number (sym (ap (λ (z : PassPart). z.number) (pass_is q x (sym has_pass ∙ k)))));
-            section = f.section;
-            passes = λ x k. pass_with r.extents p [] x (f.passes x k);
-            notes = own.notes;
-          }
-          (nothing_fits r.pen owner' r.extents p' s.words other);
+      keeper = λ x k. (known.0, sym (pen_is p' x k));
+      at = λ x k. sym (owned_here r.owner q.number id x.number (sym (ap (λ (z : PassPart). z.number) (pass_is q x (sym has_pass ∙ k)))));
+      section = f.section;
+      passes = λ x k. pass_with r.extents p [] x (f.passes x k);
+      notes = own.notes;
     }
+    (nothing_fits r.pen owner' r.extents p' s.words other))
 
 pub parting : (told : TableStart) (by : ℕ) (v : View) → HasPass v → Splits (IsKept told) by v (without_pass v) (pass_alone v)
 parting told by v has_pass s r at =

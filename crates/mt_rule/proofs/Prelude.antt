@@ -59,7 +59,7 @@ pub use Rattle.mt_life.specs.Holding.{as_known_now, come}
 pub use Rattle.mt_life.specs.Known.{Child, Goes, HasExtentsOf, IsFull, IsLive, Later, calls, extent_at, nowhere}
 pub use Rattle.mt_life.specs.Moments.{moment_of}
 pub use Rattle.mt_rule.specs.Ends.{EndsQuietly, IsPenShort, MayEnd}
-pub use Rattle.mt_rule.specs.Limits.{most_calls, most_passes}
+pub use Rattle.mt_base.specs.Limits.{most_calls, most_passes}
 pub use Rattle.mt_rule.specs.Places.{AreOpening, IsRowAt, IsSectionWord, IsUnnamed, IsWordPlace, begun_at, column_at, commits_at, first_row_column, root_at, section_at, section_word, table_size}
 pub use Rattle.mt_rule.specs.Prelude.{Begins, Call, Draft, Extent, HasDied, HasRow, Held, History, Holder, HoldsRow, IsLawfulOf, IsLegal, IsPlace, IsRefused, IsTreeOf, IsWhole, Kind, Known, Life, Live, LiveAreReached, New, NoneBuried, Place, Published, Record, Reply, Root, Rooted, RowKind, SameForm, Sheet, Slot, Snapshot, Span, Width, acted, columns, cuts_by, dead_mark, deepest, first_row, holder_of, inner_kind, is_reached, kind_at, kind_width, life_of, limits_after, map_at, map_by, most_rows, named_kind, one_if, places, reached_in, row_in, sheet_in, slot_column, slots_of, spans_at, word_at}
 pub use Rattle.mt_rule.specs.Rule.{HasFloor, IsHeldBy, IsKept, IsOneHistory, IsOpenAt, IsSoundPen, PassFits, ViewFits, WordsFit, begun_by}

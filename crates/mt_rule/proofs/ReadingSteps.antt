@@ -2,9 +2,9 @@
 use Rattle.mt_rule.proofs.Prelude.{◌≡◌, ◌≢◌, ℕ, zero, suc, ◌+◌, ◌-◌, ◌*◌, ◌<◌, ◌≤◌, List, [], ◌∷◌, Bool, true, false, Option, Some, None, length, refl, sym, ap, ◌∙◌, subst, arith, length-set, inl, inr, IfSome, slice_index, slice_set, Contains, slice_get, cases_Bool, cases_eq, set-get_or, get_or-set_same, get_or-set_other, Contains-append_left, Contains-push, none-some, none, some, some-ne-none, some-injective, get_elem?, Me, Act, step, stepped, carried_after, Valid, keeps, Allows, Holder, Width, kind_width, first_row, begins_long, begins_none, pivot_column, slot_column, dead_mark, named_kind, row_in, slots_of, place_behind, words_before, words_in_all, Live, Dead, one_if, life_of, word_at, inner_kind, root_span, map_in, one_of_get, Extent, Held, HoldsRow, Snapshot, come, as_known_now, calls, extent_at, spans_at, few_slots_below, child_held, leaf_held, marked_held, renewed_held, root_held, unmarked_held, Moment, Shape, TableStart, View, PenPart, PassPart, commits_at, begun_at, root_at, section_at, section_word, IsSectionWord, column_at, HasPass, known_by, least_number, moment_at, pass_of, state_in, tree_of, begun_by, HasFloor, IsHeldBy, IsKept, IsOneHistory, IsOpenAt, IsSoundPen, PassFits, ViewFits, WordsFit, IsAt, held_behind, closed_section, floor_or, here, kind_of, opened_section, slots_in, spans_here, IsLeafRead, ParentTells, marks_with, loads_begun, loads_commits, loads_parent, loads_pivot, loads_root, loads_slot, opens_section, closes_section, touches}
 use Rattle.mt_base.specs.Passes as known
 use Rattle.mt_rule.proofs.Beginnings.{legal_within}
-use Rattle.mt_rule.proofs.Carrying.{St, least_low, recast}
+use Rattle.mt_rule.proofs.Carrying.{St, least_low, recast, reseated}
 use Rattle.mt_rule.proofs.Holding.{pivot_now, slot_now}
-use Rattle.mt_rule.proofs.Viewing.{each_set, numbers_fit, seat_fits}
+use Rattle.mt_rule.proofs.Viewing.{beside_fits, each_set, numbers_fit, seat_fits}
 
 abbrev M : Type 0
 M = Me (Unit {0}) View
@@ -15,23 +15,7 @@ abbrev counted : PassPart → PassPart → PassPart
 counted q q' = record q' { steps = q.steps + 1 }
 
 steps_fit : (e : ℕ → Extent) (p : PenPart) (q : PassPart) (steps : ℕ) → PassFits e p q → PassFits e p (record q { steps = steps })
-steps_fit e p q steps f = record {
-  shape = f.shape;
-  number = f.number;
-  seen = f.seen;
-  mine = f.mine;
-  all = f.all;
-  ended = f.ended;
-  over = f.over;
-  begun = f.begun;
-  risen = f.risen;
-  epoch = f.epoch;
-  loaded = f.loaded;
-  standing = λ o is. let h = f.standing o is in record { seen = h.seen; opened = h.opened };
-  closed = f.closed;
-  floor = λ n is. let h = f.floor n is in record { seen = h.seen; cleared = h.cleared; epoch = h.epoch };
-  held = λ j x at. let h = f.held j x at in record { row = h.row; met = h.met; floor = h.floor; has = h.has; since = h.since };
-}
+steps_fit e p q steps = beside_fits e p q p.dealt p.sections steps q.marks (omega arith)
 
 -- ---- what a pass's own step has to keep
 
@@ -49,16 +33,9 @@ module _ (told : TableStart) (s : St) (r₀ : IsKept told s) (by : ℕ) (v : Vie
   -- only the pass's own part changes, and no word but that of its own section
   steps_to : (ws : List ℕ) (q' : PassPart) → q'.number ≡ q.number → PassFits kept_by.extents part_by q' → WordsFit ws part_by → slice_index ws (section_at q.number) ≡ section_word q'.standing
       → ((k : ℕ) → k ≢ section_at q.number → slice_index ws k ≡ slice_index s.words k) → IsKept told record { words = ws; homes = s.homes; views = slice_set s.views by (record v { pass = Some q' }) }
-  steps_to ws q' same fits words section rest = record {
-    pen = kept_by.pen;
-    owner = kept_by.owner;
-    extents = kept_by.extents;
-    part = part_by;
-    shaped = kept_by.shaped;
-    sound = kept_by.sound;
-    words = words;
-    each = each_set (ViewFits kept_by.pen kept_by.owner kept_by.extents part_by ws) s.views by (record v { pass = Some q' }) (λ j u apart e. others j u apart (kept_by.each j u e)) own;
-  }
+  steps_to ws q' same fits words section rest =
+      reseated s kept_by kept_by.owner words
+      (each_set (ViewFits kept_by.pen kept_by.owner kept_by.extents part_by ws) s.views by (record v { pass = Some q' }) (λ j u apart e. others j u apart (kept_by.each j u e)) own)
     where
       own : ViewFits kept_by.pen kept_by.owner kept_by.extents part_by ws by (record v { pass = Some q' })
       own = seat_fits kept_by.pen kept_by.owner kept_by.extents part_by ws by v.pen q' v.note mine.keeper (mine.at q is ∙ ap kept_by.owner (sym same))
@@ -140,23 +117,7 @@ sees_fits e p q f = let more = begins_long q.seen p.history f.seen in let a = f.
 section_fits : (e : ℕ → Extent) (p : PenPart) (q : PassPart) (opened : List ℕ) (standing floor : Option ℕ) (held : List Held) → PassFits e p q → let now : PassPart = record q { opened = opened; standing = standing; floor = floor; held = held } in
     ((h : Holder) → Contains p.loaded h → h.pass ≡ q.number → Contains opened h.epoch) → ((o : ℕ) → standing ≡ Some o → IsOpenAt now o) → (standing ≡ None → floor ≡ None) → ((n : ℕ) → floor ≡ Some n → HasFloor p now n)
     → ((j : ℕ) (x : Held) → get_elem? held j ≡ some x → IsHeldBy e p now x) → PassFits e p now
-section_fits e p q opened standing floor held f loaded stands closed low rows = record {
-  shape = f.shape;
-  number = f.number;
-  seen = f.seen;
-  mine = f.mine;
-  all = f.all;
-  ended = f.ended;
-  over = f.over;
-  begun = f.begun;
-  risen = f.risen;
-  epoch = f.epoch;
-  loaded = loaded;
-  standing = stands;
-  closed = closed;
-  floor = low;
-  held = rows;
-}
+section_fits e p q opened standing floor held f loaded stands closed low rows = record { shape = f.shape; number = f.number; seen = f.seen; mine = f.mine; all = f.all; ended = f.ended; over = f.over; begun = f.begun; risen = f.risen; epoch = f.epoch; loaded = loaded; standing = stands; closed = closed; floor = low; held = rows }
 
 -- the rows of a section
 rows_fit : (e : ℕ → Extent) (p : PenPart) (q : PassPart) (floor : Option ℕ) (held : List Held) → PassFits e p q → (q.standing ≡ None → floor ≡ None) → ((n : ℕ) → floor ≡ Some n → HasFloor p (record q { floor = floor; held = held }) n)
@@ -167,10 +128,8 @@ rows_fit e p q floor held f closed low rows = section_fits e p q q.opened q.stan
 
 pub commits : (told : TableStart) (slots by : ℕ) (me : M) → HasPass me.0 → Allows (IsKept told) slots by me commits_at (λ n. n) (loads_commits (step slots commits_at 0 0 none) me)
 commits told slots by me is s r₀ _ at _ =
-    let q = pass_of me.0 in
-    let p : PenPart = part_by told s r₀ by me.0 at q is in
-    let r : IsKept told s = kept_by told s r₀ by me.0 at q is in
-    let f : PassFits r.extents p q = (r.each by me.0 at).passes q is in
+    let q = pass_of me.0 in let p : PenPart = part_by told s r₀ by me.0 at q is in
+    let r : IsKept told s = kept_by told s r₀ by me.0 at q is in let f : PassFits r.extents p q = (r.each by me.0 at).passes q is in
     let n : ℕ = slice_index s.words commits_at in
     let ended : n ≡ p.ended = r.words.commits in
     let whole = r.sound.history in let count = whole.count in let few = whole.few in let one = one_if_low p.published in
@@ -194,10 +153,8 @@ begun_fits e p q n f is = numbers_fit e p q q.seen n q.ended q.epoch q.risen f f
 
 pub beguns : (told : TableStart) (slots by : ℕ) (me : M) → HasPass me.0 → Allows (IsKept told) slots by me begun_at (λ n. n) (loads_begun (step slots begun_at 0 0 none) me)
 beguns told slots by me is s r₀ _ at _ =
-    let q = pass_of me.0 in
-    let p : PenPart = part_by told s r₀ by me.0 at q is in
-    let r : IsKept told s = kept_by told s r₀ by me.0 at q is in
-    let f : PassFits r.extents p q = (r.each by me.0 at).passes q is in
+    let q = pass_of me.0 in let p : PenPart = part_by told s r₀ by me.0 at q is in
+    let r : IsKept told s = kept_by told s r₀ by me.0 at q is in let f : PassFits r.extents p q = (r.each by me.0 at).passes q is in
     let n : ℕ = slice_index s.words begun_at in
     let begun : n ≡ begun_by p = r.words.begun in
     let more = begins_long q.seen p.history f.seen in let all = history_begun p r.sound.history in
@@ -231,10 +188,8 @@ closed_fits e p q f = section_fits e p q q.opened None None [] f f.loaded (λ o 
 opening_here : (told : TableStart) (slots by : ℕ) (me : M) (new : ℕ) → HasPass me.0 → new ≡ 2 * (pass_of me.0).epoch + 1
     → Allows (IsKept told) slots by me (section_at (pass_of me.0).number) (λ _. new) (λ _. opens_section (step slots (section_at (pass_of me.0).number) new 0 none) me new)
 opening_here told slots by me new is word s r₀ _ at _ =
-    let q = pass_of me.0 in
-    let p : PenPart = part_by told s r₀ by me.0 at q is in
-    let r : IsKept told s = kept_by told s r₀ by me.0 at q is in
-    let f : PassFits r.extents p q = (r.each by me.0 at).passes q is in (
+    let q = pass_of me.0 in let p : PenPart = part_by told s r₀ by me.0 at q is in
+    let r : IsKept told s = kept_by told s r₀ by me.0 at q is in let f : PassFits r.extents p q = (r.each by me.0 at).passes q is in (
       record me.0 { pass = Some (opened_section q) },
       keeps,
       tt,
@@ -249,10 +204,8 @@ opening_at told slots by me new word is place e = subst (λ (w : ℕ). Allows (I
 closing_here : (told : TableStart) (slots by : ℕ) (me : M) → HasPass me.0
     → Allows (IsKept told) slots by me (section_at (pass_of me.0).number) (λ _. 0) (λ _. closes_section (step slots (section_at (pass_of me.0).number) 0 0 none) me 0)
 closing_here told slots by me is s r₀ _ at _ =
-    let q = pass_of me.0 in
-    let p : PenPart = part_by told s r₀ by me.0 at q is in
-    let r : IsKept told s = kept_by told s r₀ by me.0 at q is in
-    let f : PassFits r.extents p q = (r.each by me.0 at).passes q is in (
+    let q = pass_of me.0 in let p : PenPart = part_by told s r₀ by me.0 at q is in
+    let r : IsKept told s = kept_by told s r₀ by me.0 at q is in let f : PassFits r.extents p q = (r.each by me.0 at).passes q is in (
       record me.0 { pass = Some (closed_section q) },
       keeps,
       tt,
@@ -389,10 +342,8 @@ word_now ws p row col fit low = fit.columns (column_at (kind_width p.shape.kind)
 -- a word of no interest
 pub touches_at : (told : TableStart) (slots by : ℕ) (me : M) (word : ℕ) → HasPass me.0 → Allows (IsKept told) slots by me word (λ n. n) (touches (step slots word 0 0 none) me)
 touches_at told slots by me word is s r₀ _ at _ =
-    let q = pass_of me.0 in
-    let p : PenPart = part_by told s r₀ by me.0 at q is in
-    let r : IsKept told s = kept_by told s r₀ by me.0 at q is in
-    let f : PassFits r.extents p q = (r.each by me.0 at).passes q is in (
+    let q = pass_of me.0 in let p : PenPart = part_by told s r₀ by me.0 at q is in
+    let r : IsKept told s = kept_by told s r₀ by me.0 at q is in let f : PassFits r.extents p q = (r.each by me.0 at).passes q is in (
       record me.0 { pass = Some (counted q q) },
       keeps,
       tt,
@@ -405,10 +356,8 @@ pub pivots : (told : TableStart) (slots by : ℕ) (me : M) (word row col : ℕ) 
     → (i : ℕ) × (col ≡ pivot_column i) × (i + 1 < slots_in (pass_of me.0) (here (pass_of me.0))) → word ≡ column_at (kind_width (pass_of me.0).shape.kind) row col
     → Allows (IsKept told) slots by me word (λ n. n) (loads_pivot (step slots word 0 0 none) me)
 pivots told slots by me word row col is here_at row_is pivot place s r₀ _ at _ =
-    let q = pass_of me.0 in
-    let p : PenPart = part_by told s r₀ by me.0 at q is in
-    let r : IsKept told s = kept_by told s r₀ by me.0 at q is in
-    let f : PassFits r.extents p q = (r.each by me.0 at).passes q is in
+    let q = pass_of me.0 in let p : PenPart = part_by told s r₀ by me.0 at q is in
+    let r : IsKept told s = kept_by told s r₀ by me.0 at q is in let f : PassFits r.extents p q = (r.each by me.0 at).passes q is in
     let x : Held = here q in
     let h = (f.held 0 x here_at).row in
     let width : Width = kind_width q.shape.kind in
@@ -477,10 +426,8 @@ leaf_read e p q x sound shape seen h leaf = subst (λ (z : Shape × List Moment)
 entries : (told : TableStart) (slots by : ℕ) (me : M) (word col : ℕ) → HasPass me.0 → IsAt (pass_of me.0) → (here (pass_of me.0)).extent.level ≡ 0 → word ≡ column_at (kind_width (pass_of me.0).shape.kind) (here (pass_of me.0)).row col
     → Allows (IsKept told) slots by me word (λ n. n) (loads_slot (step slots word 0 0 none) me)
 entries told slots by me word col is here_at leaf place s r₀ _ at _ =
-    let q = pass_of me.0 in
-    let p : PenPart = part_by told s r₀ by me.0 at q is in
-    let r : IsKept told s = kept_by told s r₀ by me.0 at q is in
-    let f : PassFits r.extents p q = (r.each by me.0 at).passes q is in
+    let q = pass_of me.0 in let p : PenPart = part_by told s r₀ by me.0 at q is in
+    let r : IsKept told s = kept_by told s r₀ by me.0 at q is in let f : PassFits r.extents p q = (r.each by me.0 at).passes q is in
     let x : Held = here q in
     let h = (f.held 0 x here_at).row in
     let q' : PassPart = record q { seen = p.history; held = as_known_now (state_in p) x ∷ held_behind q.held } in (
@@ -506,10 +453,8 @@ childs : (told : TableStart) (slots by : ℕ) (me : M) (word i level : ℕ) → 
     → word ≡ column_at (kind_width (pass_of me.0).shape.kind) (here (pass_of me.0)).row (slot_column (slots_in (pass_of me.0) (here (pass_of me.0))) i)
     → Allows (IsKept told) slots by me word (λ n. n) (loads_slot (step slots word 0 0 none) me)
 childs told slots by me word i level is here_at inner low place s r₀ _ at _ =
-    let q = pass_of me.0 in
-    let p : PenPart = part_by told s r₀ by me.0 at q is in
-    let r : IsKept told s = kept_by told s r₀ by me.0 at q is in
-    let f : PassFits r.extents p q = (r.each by me.0 at).passes q is in
+    let q = pass_of me.0 in let p : PenPart = part_by told s r₀ by me.0 at q is in
+    let r : IsKept told s = kept_by told s r₀ by me.0 at q is in let f : PassFits r.extents p q = (r.each by me.0 at).passes q is in
     let x : Held = here q in
     let held = f.held 0 x here_at in
     let h = held.row in
@@ -581,30 +526,12 @@ parent_tells e p q marks x n sound h is = record {
 
 -- a pass that has loaded other dead marks
 marked_fits : (e : ℕ → Extent) (p : PenPart) (q : PassPart) (marks : List ℕ) → PassFits e p q → PassFits e p (record q { marks = marks })
-marked_fits e p q marks f = record {
-  shape = f.shape;
-  number = f.number;
-  seen = f.seen;
-  mine = f.mine;
-  all = f.all;
-  ended = f.ended;
-  over = f.over;
-  begun = f.begun;
-  risen = f.risen;
-  epoch = f.epoch;
-  loaded = f.loaded;
-  standing = λ o is. let h = f.standing o is in record { seen = h.seen; opened = h.opened };
-  closed = f.closed;
-  floor = λ n is. let h = f.floor n is in record { seen = h.seen; cleared = h.cleared; epoch = h.epoch };
-  held = λ j x at. let h = f.held j x at in record { row = h.row; met = h.met; floor = h.floor; has = h.has; since = h.since };
-}
+marked_fits e p q marks = beside_fits e p q p.dealt p.sections q.steps marks (omega arith)
 
 pub parents : (told : TableStart) (slots by : ℕ) (me : M) (row word : ℕ) → HasPass me.0 → Allows (IsKept told) slots by me word (λ n. n) (loads_parent row (step slots word 0 0 none) me)
 parents told slots by me row word is s r₀ _ at _ =
-    let q = pass_of me.0 in
-    let p : PenPart = part_by told s r₀ by me.0 at q is in
-    let r : IsKept told s = kept_by told s r₀ by me.0 at q is in
-    let f : PassFits r.extents p q = (r.each by me.0 at).passes q is in
+    let q = pass_of me.0 in let p : PenPart = part_by told s r₀ by me.0 at q is in
+    let r : IsKept told s = kept_by told s r₀ by me.0 at q is in let f : PassFits r.extents p q = (r.each by me.0 at).passes q is in
     let more = begins_long q.seen p.history f.seen in
     let marks = marks_with row (slice_index s.words word) q.marks in
     let q' : PassPart = record q { seen = p.history; risen = begun_by p; marks = marks } in (

@@ -1,5 +1,5 @@
 -- Lists of views of which one or two change, and the parts of a view.
-use Rattle.mt_rule.proofs.Prelude.{◌≡◌, ◌≢◌, ◌⊎◌, ℕ, zero, suc, ◌≤◌, ◌==◌, List, [], ◌∷◌, ◌++◌, length, set, refl, sym, ap, ◌∙◌, subst, inl, inr, ⊎_elim, arith, length-set, Some, if◌then◌else◌, slice_index, Option, ne_eqb, eq-eqb, none-some, some, some-ne-none, some-injective, get_elem?, at_set, Begins, begins_long, Extent, View, PenPart, PassPart, NotePart, Moment, section_at, section_word, pen_or, pass_or, note_or, no_view, records_of, begun_by, PassFits, ViewFits}
+use Rattle.mt_rule.proofs.Prelude.{◌≡◌, ◌≢◌, ◌⊎◌, ℕ, zero, suc, ◌≤◌, ◌==◌, List, [], ◌∷◌, ◌++◌, length, set, refl, sym, ap, ◌∙◌, subst, inl, inr, ⊎_elim, arith, length-set, Some, if◌then◌else◌, slice_index, Option, ne_eqb, eq-eqb, none-some, some, some-ne-none, some-injective, get_elem?, at_set, Begins, begins_long, Extent, View, PenPart, PassPart, NotePart, Moment, SectionWord, section_at, section_word, pen_or, pass_or, note_or, no_view, records_of, begun_by, PassFits, ViewFits}
 use Rattle.mt_base.specs.Passes as known
 use Rattle.mt_rule.proofs.Beginnings.{places_within}
 
@@ -97,6 +97,29 @@ seat_fits pen owner extents p words by part q learnt keeper at section fits note
   section = λ x k. subst (λ (z : PassPart). slice_index words (section_at z.number) ≡ section_word z.standing) (pass_is q x k) section;
   passes = λ x k. subst (PassFits extents p) (pass_is q x k) fits;
   notes = notes;
+}
+
+-- ---- a pass as it was
+
+-- but for its steps and the dead marks that it loaded, beside a pen that may have dealt more handles and loaded other sections
+pub beside_fits : (e : ℕ → Extent) (p : PenPart) (q : PassPart) (dealt : ℕ) (sections : List SectionWord) (steps : ℕ) (marks : List ℕ) → p.dealt ≤ dealt → PassFits e p q
+    → PassFits e (record p { dealt = dealt; sections = sections }) (record q { steps = steps; marks = marks })
+beside_fits e p q dealt sections steps marks more f = record {
+  shape = f.shape;
+  number = let a = f.number in omega arith;
+  seen = f.seen;
+  mine = f.mine;
+  all = f.all;
+  ended = f.ended;
+  over = f.over;
+  begun = f.begun;
+  risen = f.risen;
+  epoch = f.epoch;
+  loaded = f.loaded;
+  standing = λ o is. let h = f.standing o is in record { seen = h.seen; opened = h.opened };
+  closed = f.closed;
+  floor = λ n is. let h = f.floor n is in record { seen = h.seen; cleared = h.cleared; epoch = h.epoch };
+  held = λ j x at. let h = f.held j x at in record { row = h.row; met = h.met; floor = h.floor; has = h.has; since = h.since };
 }
 
 -- ---- a pass that has seen more of the history

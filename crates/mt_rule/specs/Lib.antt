@@ -1,5 +1,4 @@
 pub mod Ends
-pub mod Limits
 pub mod Places
 pub mod Rule
 pub mod Scans

@@ -12,9 +12,9 @@ use Rattle.mt_rule.specs.declared.views.View.{View}
 use Rattle.mt_rule.specs.declared.views.PenPart.{PenPart}
 use Rattle.mt_rule.specs.declared.views.PassPart.{PassPart}
 use Rattle.mt_rule.specs.declared.views.NotePart.{NotePart}
-use Rattle.mt_rule.specs.Limits.{most_passes, most_calls}
 use Rattle.mt_rule.specs.Places.{commits_at, begun_at, root_at, section_at, first_row_column, table_size, section_word, IsSectionWord, IsUnnamed}
 use Rattle.mt_rule.specs.Seats.{moment_at, records_of, rooted_in, shape_told, state_in, tree_of}
+use Rattle.mt_base.specs.Limits.{most_calls, most_passes}
 
 -- how many calls have begun
 abbrev pub begun_by : PenPart → ℕ

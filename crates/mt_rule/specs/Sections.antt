@@ -1,10 +1,11 @@
 -- What a handle that reads without the lock learns from its steps.
 -- Source: this project's own; the kernel's readers walk between rcu_read_lock and rcu_read_unlock.
-use Rattle.std.specs.Prelude.{◌≡◌, ◌≢◌, ℕ, ◌+◌, ◌*◌, ◌^◌, ◌<◌, ◌≤◌, ◌==◌, List, [], ◌∷◌, ◌++◌, Option, Some, None, length, slice_index, slice_get, if◌then◌else◌}
+use Rattle.std.specs.Prelude.{◌≡◌, ◌≢◌, ℕ, ◌+◌, ◌*◌, ◌<◌, ◌≤◌, ◌==◌, List, [], ◌∷◌, ◌++◌, Option, Some, None, length, slice_index, slice_get, if◌then◌else◌}
 use mathlib.Core.Option.{some}
 use lib.ListN.{get_elem?}
 use Rattle.atomic_table.specs.Table.{Step}
 use Rattle.mt_rule.specs.Prelude.{Long, IsMap, Begins, kind_width, greatest, deepest, RowKind, Span, slot_column, dead_mark, named_kind, row_in, slots_of, Held, Snapshot, copy_of, HasPart, HasRow, SameForm, Shape, spans_at, kind_at, inner_kind}
+use Rattle.mt_base.specs.Limits.{most_calls}
 use Rattle.mt_base.specs.Passes as known
 use Rattle.mt_life.specs.declared.views.Moment as life
 use Rattle.mt_rule.specs.declared.views.Moment.{Moment}
@@ -104,7 +105,7 @@ pub record LoadedCommits (found : ℕ) (q q' : PassPart) : Type 0 where
   pub before : q.ended ≤ found
   pub most : found ≤ length q'.seen
   pub least : length q'.seen ≤ found + 1
-  pub few : found < 2 ^ 62
+  pub few : found ≤ most_calls
 
 -- The section is open at the epoch that was loaded last.
 abbrev pub opened_section : PassPart → PassPart

@@ -9,10 +9,10 @@ use Rattle.mt_rule.specs.declared.views.View.{View}
 use Rattle.mt_rule.specs.declared.views.PenPart.{PenPart}
 use Rattle.mt_rule.specs.declared.views.PassPart.{PassPart}
 use Rattle.mt_rule.specs.declared.views.NotePart.{NotePart}
-use Rattle.mt_rule.specs.Limits.{most_calls}
 use Rattle.mt_rule.specs.Places.{column_at, section_word, IsSectionWord}
 use Rattle.mt_rule.specs.Seats.{moment, pen_of, pass_of, note_of, known_by, longer_history, records_of, tree_of, rooted_in, pen_sheet, cuts_at, HasPass}
 use Rattle.mt_rule.specs.Rule.{IsSoundPen, PassFits}
+use Rattle.mt_base.specs.Limits.{most_calls}
 
 -- ---- what steps make of the parts
 

@@ -16,8 +16,8 @@ use Rattle.mt_rule.specs.declared.passes.Pass.{Pass}
 use Rattle.mt_rule.specs.declared.pens.Pen.{Pen}
 use Rattle.mt_rule.specs.declared.notes.Note.{Note}
 use Rattle.mt_rule.specs.Seats.{shape_told, shape_opening, records_of, tree_of, known_by, pen_of, pass_of, note_of, pass_or, part_in, HasPass}
-use Rattle.mt_rule.specs.Limits.{most_passes, most_calls}
 use Rattle.mt_rule.specs.Rule.{IsSoundPen}
+use Rattle.mt_base.specs.Limits.{most_calls, most_passes}
 
 -- ---- tables
 

@@ -21,7 +21,7 @@ pub use notes::Note;
 pub use passes::Pass;
 pub use pens::Pen;
 pub use places::RowAt;
-pub use table::{MOST_CALLS, MOST_PASSES, MtTable, opening_words};
+pub use table::{MtTable, opening_words};
 pub use turn::{OfTable, Taken, Turn};
 pub use views::{
     Moment, NotePart, PassPart, PenPart, SectionWord, Shape, TableStart, TurnView, View,

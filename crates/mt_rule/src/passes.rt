@@ -1,7 +1,7 @@
 //! A caller's token on a tree.
 
 ghost use Rattle.std.specs.Prelude.{◌≡◌, ◌<◌};
-ghost use Rattle.mt_rule.specs.Limits.{most_passes};
+ghost use Rattle.mt_base.specs.Limits.{most_passes};
 ghost use Rattle.mt_rule.specs.Seats.{part_in, pass_or, views_with};
 
 use crate::views::{TurnView, View};

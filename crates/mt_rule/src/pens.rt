@@ -1,7 +1,7 @@
 //! The pen, with which the one writer at work makes its calls.
 
 ghost use Rattle.std.specs.Prelude.{◌≡◌, ◌<◌, ◌≤◌};
-ghost use Rattle.mt_rule.specs.Limits.{most_calls, most_passes};
+ghost use Rattle.mt_base.specs.Limits.{most_calls, most_passes};
 ghost use Rattle.mt_rule.specs.Seats.{HasPen, pen_of, pass_of};
 
 use crate::passes::Pass;
@@ -60,7 +60,8 @@ impl MtTable {
     ghost use Rattle.mt_life.specs.declared.views.Extent.{Extent};
     ghost use Rattle.mt_rule.specs.Rule as rule;
     ghost use Rattle.mt_rule.specs.Seats.{pen_joined};
-    ghost use Rattle.mt_rule.specs.Tokens.{identity_of, tree_in, IsPassOf, pass_in, pen_in, IsPenOf, IsAlone, IsJoined, joined_part, joined_in, joined_turn, part_of, turn_seat, WasShown};
+    ghost use Rattle.mt_rule.specs.Tokens.{identity_of, tree_in, IsPassOf, pass_in, pen_in, IsPenOf, IsAlone, IsJoined};
+    ghost use Rattle.mt_rule.specs.Tokens.{joined_part, joined_in, joined_turn, part_of, turn_seat, WasShown};
 
     /// Joins a handle with the pen. No call may be in flight. The handle has then seen the whole history, and no section word
     /// was loaded since. Returns how many calls have ended.

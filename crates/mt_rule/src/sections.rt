@@ -1,12 +1,14 @@
 //! The steps of a handle that reads without the lock. Each is one atomic step, and is counted.
 
-ghost use Rattle.std.specs.Prelude.{◌≡◌, ◌≢◌, ℕ, ◌+◌, ◌^◌, ◌<◌, None, length};
+ghost use Rattle.std.specs.Prelude.{◌≡◌, ◌≢◌, ℕ, ◌+◌, ◌<◌, ◌≤◌, None, length};
+ghost use Rattle.mt_base.specs.Limits.{most_calls};
 ghost use Rattle.mt_base.specs.Passes.{IsSound};
 ghost use Rattle.mt_base.specs.Width.{columns, first_row, kind_width, most_rows};
 ghost use Rattle.mt_layout.specs.Columns.{pivot_column, slot_column};
 ghost use Rattle.mt_life.specs.Known.{HasRow};
 ghost use Rattle.mt_rule.specs.Places.{column_at, IsRowAt};
-ghost use Rattle.mt_rule.specs.Sections.{IsAt, here, slots_in, spans_here, opened_section, closed_section, touched, LoadedBegun, LoadedCommits, LoadedParent, LoadedPivot, LoadedRoot, LoadedSlot};
+ghost use Rattle.mt_rule.specs.Sections.{IsAt, here, slots_in, spans_here, opened_section, closed_section, touched, LoadedBegun};
+ghost use Rattle.mt_rule.specs.Sections.{LoadedCommits, LoadedParent, LoadedPivot, LoadedRoot, LoadedSlot};
 ghost use Rattle.mt_rule.specs.Tokens.{identity_of, part_of, pass_in, steps_made, tree_in, IsPassOf, Stepped};
 
 use crate::passes::Pass;
@@ -53,7 +55,7 @@ impl MtTable {
     pub fn open_section<L: Ledger>(&self, pass: &mut Pass, epoch: u64, steps: &mut Steps<L>)
         requires pass { IsPassOf (identity_of self.now) pass.old }
         requires epoch { epoch ≡ (part_of pass.old).epoch }
-        requires few { epoch < 2 ^ 62 }
+        requires few { epoch ≤ most_calls }
         ensures stepped { Stepped (identity_of self.now) pass.old pass.new }
         ensures part { part_of pass.new ≡ opened_section (part_of pass.old) }
         ensures counted { steps_made pass.new ≡ steps_made pass.old + 1 }
@@ -148,7 +150,8 @@ impl MtTable {
         requires base { IsRowAt (kind_width (part_of pass.old).shape.kind) row }
         requires has { HasRow (part_of pass.old).shape.rows row.number }
         requires width { (here (part_of pass.old)).width ≡ kind_width (part_of pass.old).shape.kind }
-        requires slot { (i : ℕ) × (col ≡ slot_column (slots_in (part_of pass.old) (here (part_of pass.old))) i) × (i < length (spans_here (part_of pass.old) (here (part_of pass.old)))) }
+        requires slot { (i : ℕ) × (col ≡ slot_column (slots_in (part_of pass.old) (here (part_of pass.old))) i)
+            × (i < length (spans_here (part_of pass.old) (here (part_of pass.old)))) }
         ensures stepped { Stepped (identity_of self.now) pass.old pass.new }
         ensures told { LoadedSlot (column_at (kind_width (part_of pass.old).shape.kind) row.number col) result (part_of pass.old) (part_of pass.new) }
         ensures counted { steps_made pass.new ≡ steps_made pass.old + 1 }
@@ -169,7 +172,8 @@ impl MtTable {
         requires base { IsRowAt (kind_width (part_of pass.old).shape.kind) row }
         requires row { HasRow (part_of pass.old).shape.rows row.number }
         ensures stepped { Stepped (identity_of self.now) pass.old pass.new }
-        ensures told { LoadedParent row.number (column_at (kind_width (part_of pass.old).shape.kind) row.number 0) result (part_of pass.old) (part_of pass.new) }
+        ensures told { LoadedParent row.number
+            (column_at (kind_width (part_of pass.old).shape.kind) row.number 0) result (part_of pass.old) (part_of pass.new) }
         ensures counted { steps_made pass.new ≡ steps_made pass.old + 1 }
         ensures steps { steps.new ≡ steps.old + 1 }
     {
@@ -183,7 +187,8 @@ impl MtTable {
         requires row { HasRow (part_of pass.old).shape.rows row.number }
         requires announced { M.number ≡ row.number }
         ensures stepped { Stepped (identity_of self.now) pass.old pass.new }
-        ensures told { LoadedParent row.number (column_at (kind_width (part_of pass.old).shape.kind) row.number 0) result (part_of pass.old) (part_of pass.new) }
+        ensures told { LoadedParent row.number
+            (column_at (kind_width (part_of pass.old).shape.kind) row.number 0) result (part_of pass.old) (part_of pass.new) }
         ensures counted { steps_made pass.new ≡ steps_made pass.old + 1 }
     {
         let badge = mem::replace(&mut pass.seat, Badge::blank());

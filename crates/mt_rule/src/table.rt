@@ -3,7 +3,7 @@
 ghost use Rattle.std.specs.Prelude.{◌≡◌, ◌+◌, ◌*◌, ◌<◌, ◌≤◌, IfOk};
 ghost use Rattle.mt_base.specs.Width.{kind_width, columns, first_row, most_rows};
 ghost use Rattle.mt_rows.specs.Memory.{sheet_in};
-ghost use Rattle.mt_rule.specs.Limits.{most_calls, most_passes};
+ghost use Rattle.mt_base.specs.Limits.{most_calls, most_passes};
 ghost use Rattle.mt_rule.specs.Places.{commits_at, begun_at, root_at, section_at, column_at, table_size};
 ghost use Rattle.mt_rule.specs.Places.{AreOpening};
 ghost use Rattle.mt_rule.specs.Seats.{shape_told};
@@ -18,12 +18,6 @@ use mt_base::{Kind, NoMemory, Width, cols, width_of};
 use mt_rows::{PlainRows, Rows};
 use std::alloc::Global;
 use std::snapshot::Snapshot;
-
-/// The greatest number of passes (handles) of a tree.
-pub const MOST_PASSES: u32 = 62;
-
-/// The greatest number of calls of a tree.
-pub const MOST_CALLS: u64 = (1 << 62) - 1;
 
 /// The places of the words that are of no node.
 pub(crate) const COMMITS: usize = 0;
@@ -121,7 +115,8 @@ impl MtTable {
     ) -> Result<(MtTable, Pen, Vec<Pass>), NoMemory>
         requires { MayOpen kind (sheet_in rows) passes calls }
         ensures shape { IfOk result (λ r. (identity_of r.0).shape ≡ shape_opened kind (sheet_in rows) passes calls) }
-        ensures pen { IfOk result (λ r. IsPenOf (identity_of r.0) r.1 × IsAlone r.1 × (pen_in r.1 ≡ record (new_pen (identity_of r.0).shape (sheet_in rows).tree) { dealt = passes })) }
+        ensures pen { IfOk result (λ r. IsPenOf (identity_of r.0) r.1
+            × IsAlone r.1 × (pen_in r.1 ≡ record (new_pen (identity_of r.0).shape (sheet_in rows).tree) { dealt = passes })) }
         ensures of { IfOk result (λ r. All (IsPassOf (identity_of r.0)) r.2.items) }
         ensures passes { IfOk result (λ r. map pass_in r.2.items ≡ map new_pass (range_with_len 0 passes)) }
     {
@@ -149,7 +144,8 @@ impl MtTable {
         requires rows { rows ≡ (sheet_in opening.value).tree.rows }
         requires words { AreOpening (sheet_in opening.value).tree words.now }
         ensures shape { IfOk result (λ r. (identity_of r.0).shape ≡ shape_opened kind (sheet_in opening.value) passes calls) }
-        ensures pen { IfOk result (λ r. IsPenOf (identity_of r.0) r.1 × IsAlone r.1 × (pen_in r.1 ≡ record (new_pen (identity_of r.0).shape (sheet_in opening.value).tree) { dealt = passes })) }
+        ensures pen { IfOk result (λ r. IsPenOf (identity_of r.0) r.1
+            × IsAlone r.1 × (pen_in r.1 ≡ record (new_pen (identity_of r.0).shape (sheet_in opening.value).tree) { dealt = passes })) }
         ensures of { IfOk result (λ r. All (IsPassOf (identity_of r.0)) r.2.items) }
         ensures passes { IfOk result (λ r. map pass_in r.2.items ≡ map new_pass (range_with_len 0 passes)) }
     {
@@ -175,7 +171,8 @@ impl MtTable {
         requires rows { rows ≡ (sheet_in opening.value).tree.rows }
         requires words { AreOpening (sheet_in opening.value).tree words.now }
         ensures shape { IfOk result (λ r. (identity_of r.0).shape ≡ shape_opened kind (sheet_in opening.value) passes calls) }
-        ensures pen { IfOk result (λ r. IsPenOf (identity_of r.0) r.1 × IsAlone r.1 × (pen_in r.1 ≡ new_pen (identity_of r.0).shape (sheet_in opening.value).tree)) }
+        ensures pen { IfOk result
+            (λ r. IsPenOf (identity_of r.0) r.1 × IsAlone r.1 × (pen_in r.1 ≡ new_pen (identity_of r.0).shape (sheet_in opening.value).tree)) }
     {
         let told = TableStart {
             kind,

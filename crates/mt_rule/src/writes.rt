@@ -1,6 +1,6 @@
 //! The steps of the pen, by which a call of the joined handle works on the nodes.
 
-ghost use Rattle.std.specs.Prelude.{◌≡◌, ◌+◌, ◌-◌, ◌^◌, ◌<◌, false, if◌then◌else◌};
+ghost use Rattle.std.specs.Prelude.{◌≡◌, ◌+◌, ◌<◌, false, if◌then◌else◌};
 ghost use Rattle.mt_base.specs.Width.{kind_width};
 ghost use Rattle.mt_rows.specs.Publish.{MayPublish, Published};
 ghost use Rattle.mt_rows.specs.Sheet.{IsFree, IsPlace, IsWhole, MayBury, MayTend, life_of};
@@ -9,6 +9,7 @@ ghost use Rattle.mt_rule.specs.Places.{IsSectionWord, IsWordPlace, section_word,
 ghost use Rattle.mt_rule.specs.Seats.{rooted_in, pen_sheet, least_number};
 ghost use Rattle.mt_rule.specs.Steps.{pen_begun, pen_buried, pen_drafted, pen_ended, pen_scanned, pen_tended, pass_ended, quiet_moment, WasPublished};
 ghost use Rattle.mt_rule.specs.Tokens.{identity_of, pen_in, IsPenOf, IsJoined, KeepsPassOf, joined_part, joined_turn};
+ghost use Rattle.mt_base.specs.Limits.{most_calls};
 
 use crate::pens::Pen;
 use crate::rule::{
@@ -79,7 +80,7 @@ impl MtTable {
         requires pen { IsPenOf (identity_of self.now) pen.old }
         requires joined { IsJoined pen.old }
         requires idle { (pen_in pen.old).in_flight ≡ false }
-        requires room { (pen_in pen.old).ended < 2 ^ 62 - 1 }
+        requires room { (pen_in pen.old).ended < most_calls }
         ensures on { KeepsPassOf (identity_of self.now) pen.old pen.new }
         ensures pen { pen_in pen.new ≡ pen_begun (pen_in pen.old) }
         ensures number { result ≡ (pen_in pen.old).ended + 1 }
@@ -261,7 +262,8 @@ impl MtTable {
         ensures of { IsPenOf (identity_of self.now) pen.new }
         ensures joined { IsJoined pen.new }
         ensures pen { pen_in pen.new ≡ pen_ended (quiet_moment (pen_in pen.old) (joined_part pen.old) call.now reply.now) (pen_in pen.old) }
-        ensures pass { joined_part pen.new ≡ pass_ended (quiet_moment (pen_in pen.old) (joined_part pen.old) call.now reply.now) (pen_in pen.old) (joined_part pen.old) }
+        ensures pass { joined_part pen.new
+            ≡ pass_ended (quiet_moment (pen_in pen.old) (joined_part pen.old) call.now reply.now) (pen_in pen.old) (joined_part pen.old) }
         ensures turn { joined_turn pen.new ≡ joined_turn pen.old }
     {
         self.store_announced::<Brand>(pen, call, reply);
@@ -275,7 +277,8 @@ impl MtTable {
         ensures of { IsPenOf (identity_of self.now) pen.new }
         ensures joined { IsJoined pen.new }
         ensures pen { pen_in pen.new ≡ pen_ended (quiet_moment (pen_in pen.old) (joined_part pen.old) call.now reply.now) (pen_in pen.old) }
-        ensures pass { joined_part pen.new ≡ pass_ended (quiet_moment (pen_in pen.old) (joined_part pen.old) call.now reply.now) (pen_in pen.old) (joined_part pen.old) }
+        ensures pass { joined_part pen.new
+            ≡ pass_ended (quiet_moment (pen_in pen.old) (joined_part pen.old) call.now reply.now) (pen_in pen.old) (joined_part pen.old) }
         ensures turn { joined_turn pen.new ≡ joined_turn pen.old }
     {
         pen.ended += 1;

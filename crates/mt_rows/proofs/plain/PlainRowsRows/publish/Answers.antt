@@ -1,4 +1,4 @@
-use Rattle.mt_rows.proofs.Prelude.{◌≡◌, ◌∙◌, sym, subst, reached_in, sheet_of, true, IsPlain, Published, Fated, enlivened, sheet_in}
+use Rattle.mt_rows.proofs.Prelude.{◌≡◌, ◌∙◌, sym, subst, reached_in, sheet_of, true, IsPlainState, Published, Fated, enlivened, sheet_in}
 use Rattle.mt_rows.proofs.PlainPublish.{lively, published_plain, published_is}
 use Rattle.mt_rows.proofs.plain.PlainRowsRows.publish.Goals as goal
 
@@ -7,7 +7,7 @@ invariant_of-self c =
     let p = c.store.new.self.state in
     let fates : c.enliven.new.self ≡ lively p = c.enliven.ensures ∙ (λ i. record p.fates { items = enlivened p.fates.items (reached_in (record { width = c.width-width.ensures i; words = p.words.items }) p.root) }) in
     record {
-      plain = subst (λ (f : Fated). IsPlain (record p { fates = f; published = true })) (sym fates)
+      plain = subst (λ (f : Fated). IsPlainState (record p { fates = f; published = true })) (sym fates)
           (published_plain p (sheet_in c.args.self.now) c.requires.0 c.args.place c.args.word c.args._call.now c.args._reply.now c.store.new.self.plain c.store.ensures c.requires.1);
     }
 
