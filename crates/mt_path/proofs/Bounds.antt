@@ -1,5 +1,5 @@
 -- The rows on a path end at the greatest index or below. For the proofs of the crates above, too.
-use Rattle.mt_path.proofs.Prelude.{◌≡◌, ℕ, ◌+◌, ◌<◌, ◌≤◌, List, length, sym, ap, subst, inl, inr, arith, Kind, greatest, deepest, named_kind, root_span, Rooted, IsTreeOf, tree_as, PathStep, path_in, step_at}
+use Rattle.mt_path.proofs.Prelude.{◌≡◌, ◌≢◌, ℕ, ◌+◌, ◌-◌, ◌<◌, ◌≤◌, List, length, sym, ap, subst, last_step, inl, inr, arith, Kind, greatest, deepest, named_kind, root_span, Rooted, IsTreeOf, tree_as, PathStep, path_in, step_at}
 use Rattle.mt_rows.specs.Laws as laws
 use Rattle.mt_path.proofs.Places.{at_within}
 use Rattle.mt_path.proofs.Steps.{path_of_none}
@@ -28,3 +28,11 @@ pub inside : (t : Rooted) (kind : Kind) (index level : ℕ) (steps : List PathSt
 inside t kind index level steps tree within is low =
     subst (λ (l : List PathStep). Inside (greatest t.table.width) (step_at l level)) (sym is)
     (inside_by (tree_as kind t) index level tree.words within (subst (λ (l : List PathStep). level < length l) is low))
+
+-- the index behind the last leaf of a path is one of the tree, if the leaf does not end it
+pub next_within : (t : Rooted) (kind : Kind) (index : ℕ) (steps : List PathStep) (leaf : PathStep) → IsTreeOf t kind → index ≤ greatest t.table.width → steps ≡ path_in t.table t.root index → 0 < length steps
+    → leaf ≡ last_step steps → (last_step steps).max ≢ greatest t.table.width → leaf.max + 1 ≤ greatest t.table.width
+next_within t kind index steps leaf tree within is some last more =
+    let end = (inside t kind index (length steps - 1) steps tree within is (omega (arith, some))).max in
+    let max = ap (λ (s : PathStep). s.max) last in
+    omega (arith, end, max, more)

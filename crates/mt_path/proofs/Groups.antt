@@ -244,3 +244,76 @@ within_four c s a b d low high is_a is_b is_d = omega arith
 
 pub within_three : (c s a b : ℕ) → s ≤ c → c ≤ s + 2 → a ≡ 1 - (1 + s - c) → b ≡ 1 - (2 + s - c) → s + a + b ≡ c
 within_three c s a b low high is_a is_b = omega arith
+
+-- ---- rounds of pivots
+
+-- What `under` says of the pivot in a column.
+pub record IsPivot (t : Table) (row : Row) (index col word one : ℕ) : Type 0 where
+  pub is : word ≡ column t row.number col
+  pub below : 0 < word → word < index → one ≡ 1
+  pub unused : word ≡ 0 → one ≡ 0
+  pub past : index ≤ word → one ≡ 0
+
+module _ (t : Table) (row : Row) (lawful : IsSought t row) (index : ℕ) (within : index ≤ row.max) where
+  abbrev many : ℕ
+  many = slots_of t.width row.kind
+
+  abbrev slot : ℕ
+  slot = slot_for (spans_of t row) index
+
+  told : (col word one : ℕ) → 1 < col → col < many → IsPivot t row index col word one → one ≡ 1 - (col - slot)
+  told col word one some inner p = tells t row lawful index within col word one some inner p.is p.below p.unused p.past
+
+  -- the first pivot of the last round is compared, since its slot is used
+  compared : (s word : ℕ) → s ≤ slot → s + 1 < many → word ≡ column t row.number (1 + s) → mir.Val.bool_byte (nat_lt word index) ≡ 1 - (1 + s - slot)
+  compared s word low few is =
+      tells_first t row lawful index within s word (mir.Val.bool_byte (nat_lt word index)) low few is
+      (λ less. (let test = lt-ltb word index less in rw test refl)) (λ more. (let test = le-ltb word index more in rw test refl))
+
+  last_four : (s x y z b d : ℕ) → s ≤ slot → slot ≤ s + 3 → 3 + s < many → x ≡ column t row.number (1 + s) → IsPivot t row index (2 + s) y b → IsPivot t row index (3 + s) z d
+      → s + mir.Val.bool_byte (nat_lt x index) + b + d ≡ slot
+  last_four s x y z b d low high few is_x is_y is_z =
+      within_four slot s (mir.Val.bool_byte (nat_lt x index)) b d low high (compared s x low (omega arith) is_x) (told (2 + s) y b (omega arith) (omega arith) is_y) (told (3 + s) z d (omega arith) (omega arith) is_z)
+
+  -- 16 slots: three pivots tell which four
+  pub of_sixteen : many ≡ 16 → (p q r a b d : ℕ) → IsPivot t row index 4 p a → IsPivot t row index 8 q b → IsPivot t row index 12 r d → let s = 4 * (a + b + d) in
+      (x y z e f : ℕ) → x ≡ column t row.number (1 + s) → IsPivot t row index (2 + s) y e → IsPivot t row index (3 + s) z f → s + mir.Val.bool_byte (nat_lt x index) + e + f ≡ slot
+  of_sixteen all p q r a b d is_p is_q is_r x y z e f is_x is_y is_z =
+      let fits = here_fits t row lawful index within in
+      let four = group_of_four slot a b d (omega arith) (told 4 p a (omega arith) (omega arith) is_p) (told 8 q b (omega arith) (omega arith) is_q) (told 12 r d (omega arith) (omega arith) is_r) in
+      let top = four.2 in
+      last_four (4 * (a + b + d)) x y z e f four.0 four.1 (omega arith) is_x is_y is_z
+
+  -- 10 slots: two pivots tell which four
+  pub of_ten : many ≡ 10 → (p q a b : ℕ) → IsPivot t row index 3 p a → IsPivot t row index 6 q b → let s = 3 * (a + b) in
+      (x y z e f : ℕ) → x ≡ column t row.number (1 + s) → IsPivot t row index (2 + s) y e → IsPivot t row index (3 + s) z f → s + mir.Val.bool_byte (nat_lt x index) + e + f ≡ slot
+  of_ten all p q a b is_p is_q x y z e f is_x is_y is_z =
+      let fits = here_fits t row lawful index within in
+      let three = group_of_three slot a b (omega arith) (told 3 p a (omega arith) (omega arith) is_p) (told 6 q b (omega arith) (omega arith) is_q) in
+      let top = three.2 in
+      last_four (3 * (a + b)) x y z e f three.0 three.1 (omega arith) is_x is_y is_z
+
+  -- 32 slots: three pivots tell which eight, and one which four of those
+  pub of_thirty_two : many ≡ 32 → (p q r a b d : ℕ) → IsPivot t row index 8 p a → IsPivot t row index 16 q b → IsPivot t row index 24 r d → let eight = 8 * (a + b + d) in
+      (w h : ℕ) → IsPivot t row index (4 + eight) w h → let s = eight + 4 * h in
+      (x y z e f : ℕ) → x ≡ column t row.number (1 + s) → IsPivot t row index (2 + s) y e → IsPivot t row index (3 + s) z f → s + mir.Val.bool_byte (nat_lt x index) + e + f ≡ slot
+  of_thirty_two all p q r a b d is_p is_q is_r w h is_w x y z e f is_x is_y is_z =
+      let fits = here_fits t row lawful index within in
+      let eight = group_of_eight slot a b d (omega arith) (told 8 p a (omega arith) (omega arith) is_p) (told 16 q b (omega arith) (omega arith) is_q) (told 24 r d (omega arith) (omega arith) is_r) in
+      let top = eight.2 in
+      let half = half_of_eight slot (8 * (a + b + d)) h eight.0 eight.1 (told (4 + 8 * (a + b + d)) w h (omega arith) (omega arith) is_w) in
+      let one = half.2 in
+      last_four (8 * (a + b + d) + 4 * h) x y z e f half.0 half.1 (omega arith) is_x is_y is_z
+
+  -- 21 slots: three pivots tell which five or six, and one which three of those
+  pub of_twenty_one : many ≡ 21 → (p q r a b d : ℕ) → IsPivot t row index 5 p a → IsPivot t row index 10 q b → IsPivot t row index 15 r d → let five = 5 * (a + b + d) in
+      (w h : ℕ) → IsPivot t row index (3 + five) w h → let s = five + 3 * h in
+      (x y e : ℕ) → x ≡ column t row.number (1 + s) → IsPivot t row index (2 + s) y e → s + mir.Val.bool_byte (nat_lt x index) + e ≡ slot
+  of_twenty_one all p q r a b d is_p is_q is_r w h is_w x y e is_x is_y =
+      let fits = here_fits t row lawful index within in
+      let five = group_of_five slot a b d (omega arith) (told 5 p a (omega arith) (omega arith) is_p) (told 10 q b (omega arith) (omega arith) is_q) (told 15 r d (omega arith) (omega arith) is_r) in
+      let s = 5 * (a + b + d) + 3 * h in
+      let top = five.2 in
+      let half = half_of_five slot (5 * (a + b + d)) h five.0 five.1 (told (3 + 5 * (a + b + d)) w h (omega arith) (omega arith) is_w) in
+      let one = half.2 in
+      within_three slot s (mir.Val.bool_byte (nat_lt x index)) e half.0 half.1 (compared s x half.0 (omega arith) is_x) (told (2 + s) y e (omega arith) (omega arith) is_y)

@@ -97,6 +97,17 @@ module _ (t : Rooted) (kind : Kind) (tree : IsTreeOf t kind) where
         let low : handle.span.last + 1 ≤ greatest t.table.width = omega arith in
         (low, omega arith)
 
+    -- nor is what does not end its leaf
+    pub inner_behind : handle.span.last ≢ handle.leaf.max → (handle.span.last + 1 ≤ greatest t.table.width) × (handle.span.last + 1 < 2 ^ 64)
+    inner_behind other =
+        let leaf = facts.leaf in
+        let within = fills_within leaf_of_is.min (leaf_of_is.max + 1) spans leaf_of_is.slot leaf.fills facts.used in
+        let high = within.2 in let top = leaf.within in
+        let end : handle.span.last ≡ (span_at spans leaf_of_is.slot).last = ap (λ (x : Span). x.last) span_is in
+        let max : handle.leaf.max ≡ leaf_of_is.max = ap (λ (x : PathStep). x.max) leaf_is in
+        let low : handle.span.last + 1 ≤ greatest t.table.width = omega (arith, high, top, end, max, other) in
+        (low, omega (arith, low, greatest_fits t.table.width))
+
     pub slot_fits : handle.leaf.slot < slots_of t.table.width Leaf
     slot_fits = subst (λ (x : PathStep). x.slot < slots_of t.table.width Leaf) (sym leaf_is) (slot_low t kind leaf_of_is tree (step_of_index is.index is.some is.within))
 

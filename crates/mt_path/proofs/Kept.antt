@@ -1,5 +1,5 @@
 -- What stays where rows were only read. For the proofs of the crates above, too.
-use Rattle.mt_path.proofs.Prelude.{◌≡◌, ℕ, List, sym, ap, ◌∙◌, subst, Kind, Width, Rooted, Sheet, IsPlace, word_at, OnlyReads, ReadsUpTo, IsTreeOf, Handle, PathStep, IsHandleOf, IsStepOfLeaf, path_in, same_tree}
+use Rattle.mt_path.proofs.Prelude.{◌≡◌, ◌<◌, ℕ, List, sym, ap, ◌∙◌, subst, Kind, Width, columns, Rooted, Sheet, IsPlace, word_at, OnlyReads, ReadsUpTo, IsTreeOf, Handle, PathStep, IsHandleOf, IsStepOfLeaf, path_in, same_tree}
 
 pub tree_kept : (n : ℕ) (s s' : Sheet) → ReadsUpTo n s s' → s'.tree ≡ s.tree
 tree_kept n s s' reads = same_tree s s' reads.rest
@@ -21,6 +21,10 @@ step_kept s s' leaf only is = subst (λ (t : Rooted). IsStepOfLeaf t leaf) (sym 
 
 pub place_kept : (s s' : Sheet) (row col : ℕ) → OnlyReads s s' → IsPlace s.tree row col → IsPlace s'.tree row col
 place_kept s s' row col only place = subst (λ (t : Rooted). IsPlace t row col) (sym (same_tree s s' only)) place
+
+-- another column of a row that stands in the table
+pub column_place : (t : Rooted) (row col : ℕ) → IsPlace t row 0 → col < columns t.table.width → IsPlace t row col
+column_place t row col place low = record { first = place.first; last = place.last; column = low }
 
 pub word_kept : (n : ℕ) (s s' : Sheet) (row col word : ℕ) → ReadsUpTo n s s' → word ≡ word_at s'.tree row col → word ≡ word_at s.tree row col
 word_kept n s s' row col word reads is = is ∙ ap (λ (t : Rooted). word_at t row col) (tree_kept n s s' reads)

@@ -7,6 +7,7 @@ pub mod Loads
 pub mod Searches
 pub mod Ways
 pub mod Descents
+pub mod Beginnings
 pub mod Onward
 pub mod LeafSlots
 pub mod LeafSteps

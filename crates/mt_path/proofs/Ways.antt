@@ -19,7 +19,7 @@ named x row is =
 pub row_named : (x : Span) (kind : RowKind) → named_kind x.word ≡ Some kind → Some (row_as x kind) ≡ row_for x
 row_named x kind is = ap (option_map (row_as x)) (sym is)
 
-spans_same : (t : Table) (x : Span) (row : Row) → Some row ≡ row_for x → spans_of t row ≡ spans_in t x
+pub spans_same : (t : Table) (x : Span) (row : Row) → Some row ≡ row_for x → spans_of t row ≡ spans_in t x
 spans_same t x row is =
     let facts = named x row is in
     ap (spans_of t) facts.1 ∙ ap (λ (k : Option RowKind). spans_by t k x) (sym facts.0)

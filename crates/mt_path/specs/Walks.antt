@@ -37,6 +37,11 @@ pub record IsFoundSlot (t : Table) (row : Row) (index : ℕ) (found : Found) : T
   pub used : found.step.slot < slots_of t.width row.kind
   pub span : found_span t row.kind found ≡ span_at (spans_of t row) found.step.slot
 
+-- a slot of the node is in use, and what it holds begins at the index
+pub record BeginsAt (t : Table) (row : Row) (slot index : ℕ) : Type 0 where
+  pub used : slot < length (spans_of t row)
+  pub first : (span_at (spans_of t row) slot).first ≡ index
+
 -- the node that the path to an index enters this many levels below the root
 pub record IsOnWay (t : Rooted) (index depth : ℕ) (row : Row) : Type 0 where
   pub low : depth < length (path_in t.table t.root index)

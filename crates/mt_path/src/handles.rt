@@ -6,11 +6,11 @@ ghost use Rattle.mt_base.specs.Width.{greatest};
 ghost use Rattle.mt_rows.specs.Publish.{IsTreeOf};
 ghost use Rattle.mt_rows.specs.Sheet.{OnlyReads, ReadsUpTo, loaded};
 ghost use Rattle.mt_path.specs.Handles.{leaf_spans, handle_in, last_step, IsHandleOf, IsStepOfLeaf};
-ghost use Rattle.mt_path.specs.Paths.{path_in, span_at, loads_on};
+ghost use Rattle.mt_path.specs.Paths.{path_in, span_at, loads_at, loads_on};
 ghost use Rattle.mt_path.specs.Walks.{EntersLeaf};
 
 use crate::paths::{Path, PathStep};
-use crate::rows::{child_for, find_along, find_slot, load_found, root_row};
+use crate::rows::{SlotSearch, child_for, find_by, load_found, root_row};
 use crate::walks::{descend, walk_on};
 use mt_base::{DEEPEST, Width, top};
 use mt_layout::{RowKind, Span, slots};
@@ -25,9 +25,9 @@ pub struct Handle {
 
 // ---- of an index
 
-/// The slot of the leaf that holds an index, and what is there, in nodes of this width.
+/// The slot of the leaf that holds an index, and what is there, in nodes of this width, each searched so.
 #[inline(always)]
-fn handle_by<R: Rows>(rows: &mut R, width: Width, index: u64) -> Option<Handle>
+fn handle_by<R: Rows>(rows: &mut R, width: Width, how: SlotSearch, index: u64) -> Option<Handle>
     requires width { width ≡ (R.sheet rows.old).tree.table.width }
     requires tree { (kind : Kind) × IsTreeOf (R.sheet rows.old).tree kind }
     requires index { index ≤ greatest (R.sheet rows.old).tree.table.width }
@@ -38,7 +38,7 @@ fn handle_by<R: Rows>(rows: &mut R, width: Width, index: u64) -> Option<Handle>
 {
     let mut row = root_row(rows)?;
     for _ in 0..DEEPEST {
-        let found = find_slot(rows, width, row, index);
+        let found = find_by(rows, width, how, row, index);
         let span = load_found(rows, width, row.kind, found);
         if row.kind == RowKind::Leaf {
             return Some(Handle {
@@ -62,8 +62,8 @@ fn handle_for<R: Rows>(rows: &mut R, index: u64) -> Option<Handle>
     ensures reads { ReadsUpTo (loads_on (path_in (R.sheet rows.old).tree.table (R.sheet rows.old).tree.root index)) (R.sheet rows.old) (R.sheet rows.new) }
 {
     match rows.width() {
-        Width::Long => handle_by(rows, Width::Long, index),
-        Width::Short => handle_by(rows, Width::Short, index),
+        Width::Long => handle_by(rows, Width::Long, SlotSearch::Groups, index),
+        Width::Short => handle_by(rows, Width::Short, SlotSearch::Groups, index),
     }
 }
 
@@ -137,6 +137,7 @@ pub fn end_walk<R: Rows>(rows: &mut R, leaf: Span, index: u64, path: &mut Path) 
     ensures path { path.new.items ≡ path_in (R.sheet rows.old).tree.table (R.sheet rows.old).tree.root index }
     ensures handle { result ≡ handle_in (R.sheet rows.old).tree index }
     ensures rest { OnlyReads (R.sheet rows.old) (R.sheet rows.new) }
+    ensures reads { ReadsUpTo (loads_at (last_step path.new.items) + 1) (R.sheet rows.old) (R.sheet rows.new) }
 {
     let found = descend(rows, child_for(leaf), index, path);
     let width = rows.width();
@@ -149,7 +150,7 @@ pub fn end_walk<R: Rows>(rows: &mut R, leaf: Span, index: u64, path: &mut Path) 
 // ---- of a slot of a leaf
 
 /// The last step of a path.
-fn end_of(path: &Path) -> PathStep
+pub(crate) fn end_of(path: &Path) -> PathStep
     requires { 0 < length path.now.items }
     ensures { result ≡ last_step path.now.items }
 {
@@ -234,19 +235,7 @@ fn walk_far<R: Rows>(rows: &mut R, index: u64) -> Option<Handle>
     ensures reads { ReadsUpTo (loads_on (path_in (R.sheet rows.old).tree.table (R.sheet rows.old).tree.root index)) (R.sheet rows.old) (R.sheet rows.new) }
 {
     let width = rows.width();
-    let mut row = root_row(rows)?;
-    for _ in 0..DEEPEST {
-        let found = find_along(rows, row, index);
-        let span = load_found(rows, width, row.kind, found);
-        if row.kind == RowKind::Leaf {
-            return Some(Handle {
-                leaf: found.step,
-                span,
-            });
-        }
-        row = child_for(span);
-    }
-    unreachable!()
+    handle_by(rows, width, SlotSearch::Along, index)
 }
 
 /// The slot of another leaf, with the result taken apart at once, so that steps within a leaf, which are frequent, need no room
@@ -264,6 +253,32 @@ fn handle_far<R: Rows>(rows: &mut R, index: u64) -> Option<Handle>
     Some(far)
 }
 
+/// What is in the slot after a handle's, in the same leaf, which the handle does not end.
+#[inline(always)]
+pub fn next_in_leaf<R: Rows>(rows: &mut R, here: &Handle) -> Handle
+    requires tree { (kind : Kind) × IsTreeOf (R.sheet rows.old).tree kind }
+    requires here { IsHandleOf (R.sheet rows.old).tree here.now }
+    requires inner { here.now.span.last ≢ here.now.leaf.max }
+    ensures handle { result ≡ handle_in (R.sheet rows.old).tree (here.now.span.last + 1) }
+    ensures leaf { result.leaf ≡ record here.now.leaf { slot = here.now.leaf.slot + 1 } }
+    ensures reads { ReadsUpTo 2 (R.sheet rows.old) (R.sheet rows.new) }
+{
+    let leaf = PathStep {
+        slot: here.leaf.slot + 1,
+        ..here.leaf
+    };
+    let end = load_last(rows, leaf);
+    let word = load_word(rows, leaf);
+    Handle {
+        leaf,
+        span: Span {
+            first: here.span.last + 1,
+            last: end,
+            word,
+        },
+    }
+}
+
 /// What comes after a handle: in the next slot of its leaf, or in the first slot of the next leaf. There is none if the
 /// handle's span ends at the greatest index.
 #[inline(always)]
@@ -274,7 +289,8 @@ pub fn behind<R: Rows>(rows: &mut R, here: &Handle) -> Option<Handle>
     ensures some { IfSome result (λ handle. handle ≡ handle_in (R.sheet rows.old).tree (here.now.span.last + 1)) }
     ensures rest { OnlyReads (R.sheet rows.old) (R.sheet rows.new) }
     ensures near { here.now.span.last ≢ here.now.leaf.max → ReadsUpTo 2 (R.sheet rows.old) (R.sheet rows.new) }
-    ensures far { here.now.span.last ≡ here.now.leaf.max → ReadsUpTo (loads_on (path_in (R.sheet rows.old).tree.table (R.sheet rows.old).tree.root (here.now.span.last + 1))) (R.sheet rows.old) (R.sheet rows.new) }
+    ensures far { here.now.span.last ≡ here.now.leaf.max → ReadsUpTo
+        (loads_on (path_in (R.sheet rows.old).tree.table (R.sheet rows.old).tree.root (here.now.span.last + 1))) (R.sheet rows.old) (R.sheet rows.new) }
 {
     let last = here.span.last;
     if last == top(rows.width()) {
@@ -283,20 +299,7 @@ pub fn behind<R: Rows>(rows: &mut R, here: &Handle) -> Option<Handle>
     if last == here.leaf.max {
         return handle_far(rows, last + 1);
     }
-    let leaf = PathStep {
-        slot: here.leaf.slot + 1,
-        ..here.leaf
-    };
-    let end = load_last(rows, leaf);
-    let word = load_word(rows, leaf);
-    Some(Handle {
-        leaf,
-        span: Span {
-            first: last + 1,
-            last: end,
-            word,
-        },
-    })
+    Some(next_in_leaf(rows, here))
 }
 
 /// What comes before a handle: in the previous slot of its leaf, or in the last slot of the previous leaf. There is none if the
@@ -308,7 +311,8 @@ pub fn before<R: Rows>(rows: &mut R, here: &Handle) -> Option<Handle>
     ensures some { IfSome result (λ handle. handle ≡ handle_in (R.sheet rows.old).tree (here.now.span.first - 1)) }
     ensures rest { OnlyReads (R.sheet rows.old) (R.sheet rows.new) }
     ensures near { here.now.leaf.slot ≢ 0 → ReadsUpTo 2 (R.sheet rows.old) (R.sheet rows.new) }
-    ensures far { here.now.leaf.slot ≡ 0 → ReadsUpTo (loads_on (path_in (R.sheet rows.old).tree.table (R.sheet rows.old).tree.root (here.now.span.first - 1))) (R.sheet rows.old) (R.sheet rows.new) }
+    ensures far { here.now.leaf.slot ≡ 0 → ReadsUpTo
+        (loads_on (path_in (R.sheet rows.old).tree.table (R.sheet rows.old).tree.root (here.now.span.first - 1))) (R.sheet rows.old) (R.sheet rows.new) }
 {
     let first = here.span.first;
     if first == 0 {

@@ -14,7 +14,9 @@ pub fn a_path_leads_to_its_index()
 /// The node right of another begins after its last index, and the node left of it ends before its first.
 pub fn neighbours_stand_side_by_side()
     ensures right { (t : Tree) (h index level : ℕ) → Stands t h → index ≤ top_of t → level ≤ h → (step_at (path_in t.table t.root index) level).max < top_of t
-        → (step_at (path_in t.table t.root ((step_at (path_in t.table t.root index) level).max + 1)) level).min ≡ (step_at (path_in t.table t.root index) level).max + 1 }
+        → (step_at (path_in t.table t.root ((step_at (path_in t.table t.root index) level).max + 1)) level).min
+        ≡ (step_at (path_in t.table t.root index) level).max + 1 }
     ensures left { (t : Tree) (h index level : ℕ) → Stands t h → index ≤ top_of t → level ≤ h → 0 < (step_at (path_in t.table t.root index) level).min
-        → (step_at (path_in t.table t.root ((step_at (path_in t.table t.root index) level).min - 1)) level).max + 1 ≡ (step_at (path_in t.table t.root index) level).min }
+        → (step_at (path_in t.table t.root ((step_at (path_in t.table t.root index) level).min - 1)) level).max + 1
+        ≡ (step_at (path_in t.table t.root index) level).min }
 {}

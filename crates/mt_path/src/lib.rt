@@ -4,6 +4,7 @@
 mod batches;
 mod handles;
 pub mod laws;
+mod leaves;
 mod neighbours;
 mod paths;
 mod rows;
@@ -11,7 +12,10 @@ mod seeks;
 mod walks;
 
 pub use batches::words_at;
-pub use handles::{Handle, before, behind, end_walk, go_on, handle_at, span_for, walk_to};
+pub use handles::{
+    Handle, before, behind, end_walk, go_on, handle_at, next_in_leaf, span_for, walk_to,
+};
+pub use leaves::leaf_behind;
 pub use neighbours::{left_at, right_at, step_left, step_right};
 pub use paths::{Path, PathStep, copy_into, copy_of};
 pub use seeks::{ends_apart, slots_apart, under};

@@ -17,10 +17,12 @@ use mt_rows::Rows;
 /// of the level there is none, and the path stays.
 pub fn step_right<R: Rows>(rows: &mut R, path: &mut Path, level: u32) -> bool
     requires tree { (kind : Kind) × IsTreeOf (R.sheet rows.old).tree kind }
-    requires path { (index : ℕ) × (index ≤ greatest (R.sheet rows.old).tree.table.width) × (path.old.items ≡ path_in (R.sheet rows.old).tree.table (R.sheet rows.old).tree.root index) }
+    requires path { (index : ℕ) × (index ≤ greatest (R.sheet rows.old).tree.table.width)
+        × (path.old.items ≡ path_in (R.sheet rows.old).tree.table (R.sheet rows.old).tree.root index) }
     requires level { level < length path.old.items }
     ensures none { (result ≡ false) ↔ ((step_at path.old.items level).max ≡ greatest (R.sheet rows.old).tree.table.width) }
-    ensures some { OnTrue result (path.new.items ≡ path_in (R.sheet rows.old).tree.table (R.sheet rows.old).tree.root ((step_at path.old.items level).max + 1)) }
+    ensures some { OnTrue result
+        (path.new.items ≡ path_in (R.sheet rows.old).tree.table (R.sheet rows.old).tree.root ((step_at path.old.items level).max + 1)) }
     ensures stays { OnFalse result (path.new ≡ path.old) }
     ensures rest { OnlyReads (R.sheet rows.old) (R.sheet rows.new) }
     ensures reads { OnTrue result (ReadsUpTo (loads_on path.new.items) (R.sheet rows.old) (R.sheet rows.new)) }
@@ -39,10 +41,12 @@ pub fn step_right<R: Rows>(rows: &mut R, path: &mut Path, level: u32) -> bool
 /// of the level there is none, and the path stays.
 pub fn step_left<R: Rows>(rows: &mut R, path: &mut Path, level: u32) -> bool
     requires tree { (kind : Kind) × IsTreeOf (R.sheet rows.old).tree kind }
-    requires path { (index : ℕ) × (index ≤ greatest (R.sheet rows.old).tree.table.width) × (path.old.items ≡ path_in (R.sheet rows.old).tree.table (R.sheet rows.old).tree.root index) }
+    requires path { (index : ℕ) × (index ≤ greatest (R.sheet rows.old).tree.table.width)
+        × (path.old.items ≡ path_in (R.sheet rows.old).tree.table (R.sheet rows.old).tree.root index) }
     requires level { level < length path.old.items }
     ensures none { (result ≡ false) ↔ ((step_at path.old.items level).min ≡ 0) }
-    ensures some { OnTrue result (path.new.items ≡ path_in (R.sheet rows.old).tree.table (R.sheet rows.old).tree.root ((step_at path.old.items level).min - 1)) }
+    ensures some { OnTrue result
+        (path.new.items ≡ path_in (R.sheet rows.old).tree.table (R.sheet rows.old).tree.root ((step_at path.old.items level).min - 1)) }
     ensures stays { OnFalse result (path.new ≡ path.old) }
     ensures rest { OnlyReads (R.sheet rows.old) (R.sheet rows.new) }
     ensures reads { OnTrue result (ReadsUpTo (loads_on path.new.items) (R.sheet rows.old) (R.sheet rows.new)) }
@@ -61,10 +65,12 @@ pub fn step_left<R: Rows>(rows: &mut R, path: &mut Path, level: u32) -> bool
 /// last of the level.
 pub fn right_at<R: Rows>(rows: &mut R, path: &Path, level: u32) -> Option<Path>
     requires tree { (kind : Kind) × IsTreeOf (R.sheet rows.old).tree kind }
-    requires path { (index : ℕ) × (index ≤ greatest (R.sheet rows.old).tree.table.width) × (path.now.items ≡ path_in (R.sheet rows.old).tree.table (R.sheet rows.old).tree.root index) }
+    requires path { (index : ℕ) × (index ≤ greatest (R.sheet rows.old).tree.table.width)
+        × (path.now.items ≡ path_in (R.sheet rows.old).tree.table (R.sheet rows.old).tree.root index) }
     requires level { level < length path.now.items }
     ensures none { IsNone result ↔ ((step_at path.now.items level).max ≡ greatest (R.sheet rows.old).tree.table.width) }
-    ensures some { IfSome result (λ right. right.items ≡ path_in (R.sheet rows.old).tree.table (R.sheet rows.old).tree.root ((step_at path.now.items level).max + 1)) }
+    ensures some { IfSome result
+        (λ right. right.items ≡ path_in (R.sheet rows.old).tree.table (R.sheet rows.old).tree.root ((step_at path.now.items level).max + 1)) }
     ensures rest { OnlyReads (R.sheet rows.old) (R.sheet rows.new) }
     ensures reads { IfSome result (λ right. ReadsUpTo (loads_on right.items) (R.sheet rows.old) (R.sheet rows.new)) }
     ensures unread { IfNone result (R.sheet rows.new ≡ R.sheet rows.old) }
@@ -81,10 +87,12 @@ pub fn right_at<R: Rows>(rows: &mut R, path: &Path, level: u32) -> Option<Path>
 /// of the level.
 pub fn left_at<R: Rows>(rows: &mut R, path: &Path, level: u32) -> Option<Path>
     requires tree { (kind : Kind) × IsTreeOf (R.sheet rows.old).tree kind }
-    requires path { (index : ℕ) × (index ≤ greatest (R.sheet rows.old).tree.table.width) × (path.now.items ≡ path_in (R.sheet rows.old).tree.table (R.sheet rows.old).tree.root index) }
+    requires path { (index : ℕ) × (index ≤ greatest (R.sheet rows.old).tree.table.width)
+        × (path.now.items ≡ path_in (R.sheet rows.old).tree.table (R.sheet rows.old).tree.root index) }
     requires level { level < length path.now.items }
     ensures none { IsNone result ↔ ((step_at path.now.items level).min ≡ 0) }
-    ensures some { IfSome result (λ left. left.items ≡ path_in (R.sheet rows.old).tree.table (R.sheet rows.old).tree.root ((step_at path.now.items level).min - 1)) }
+    ensures some { IfSome result
+        (λ left. left.items ≡ path_in (R.sheet rows.old).tree.table (R.sheet rows.old).tree.root ((step_at path.now.items level).min - 1)) }
     ensures rest { OnlyReads (R.sheet rows.old) (R.sheet rows.new) }
     ensures reads { IfSome result (λ left. ReadsUpTo (loads_on left.items) (R.sheet rows.old) (R.sheet rows.new)) }
     ensures unread { IfNone result (R.sheet rows.new ≡ R.sheet rows.old) }

@@ -79,7 +79,7 @@ pub(crate) fn root_row<R: Rows>(rows: &mut R) -> Option<Row>
 
 /// The step in this slot of a node, and the first and the last index of what is there.
 #[inline(always)]
-fn found_in(row: Row, slot: u32, first: u64, last: u64) -> Found
+pub(crate) fn found_in(row: Row, slot: u32, first: u64, last: u64) -> Found
     ensures { result ≡ record { step = record { row = row.number; slot = slot; min = row.min; max = row.max }; first = first; last = last } }
 {
     Found {
@@ -109,7 +109,7 @@ fn first_in<R: Rows>(rows: &mut R, row: Row, slot: u32) -> u64
 
 /// The last index of what a slot of a node holds.
 #[inline(always)]
-fn last_in<R: Rows>(rows: &mut R, width: Width, row: Row, slot: u32) -> u64
+pub(crate) fn last_in<R: Rows>(rows: &mut R, width: Width, row: Row, slot: u32) -> u64
     requires width { width ≡ (R.sheet rows.old).tree.table.width }
     requires row { IsPlace (R.sheet rows.old).tree row.number 0 }
     requires lawful { IsLawfulRow (R.sheet rows.old).tree.table row }
@@ -127,7 +127,7 @@ fn last_in<R: Rows>(rows: &mut R, width: Width, row: Row, slot: u32) -> u64
 
 /// The slot of a node that holds an index: the first whose pivot is not below it. No later pivot is loaded. The branches are
 /// predicted well if a walk has come to the slot before, or to the next.
-pub(crate) fn find_along<R: Rows>(rows: &mut R, row: Row, index: u64) -> Found
+fn find_along<R: Rows>(rows: &mut R, row: Row, index: u64) -> Found
     requires row { IsPlace (R.sheet rows.old).tree row.number 0 }
     requires index { index ≤ row.max }
     ensures found { IsFoundSlot (R.sheet rows.old).tree.table row index result }
@@ -160,6 +160,36 @@ pub(crate) fn find_slot<R: Rows>(rows: &mut R, width: Width, row: Row, index: u6
     let first = first_in(rows, row, slot);
     let last = last_in(rows, width, row, slot);
     found_in(row, slot, first, last)
+}
+
+/// How the nodes of a way are searched: by groups of slots, or pivot by pivot.
+#[derive(Clone, Copy)]
+pub(crate) enum SlotSearch {
+    Groups,
+    Along,
+}
+
+/// The slot of a node that holds an index, searched so. The way to search is the same in each node of a walk, and is not looked
+/// at when the program runs.
+#[inline(always)]
+pub(crate) fn find_by<R: Rows>(
+    rows: &mut R,
+    width: Width,
+    how: SlotSearch,
+    row: Row,
+    index: u64,
+) -> Found
+    requires width { width ≡ (R.sheet rows.old).tree.table.width }
+    requires row { IsPlace (R.sheet rows.old).tree row.number 0 }
+    requires lawful { IsLawfulRow (R.sheet rows.old).tree.table row }
+    requires index { index ≤ row.max }
+    ensures found { IsFoundSlot (R.sheet rows.old).tree.table row index result }
+    ensures reads { ReadsUpTo (loads_at result.step) (R.sheet rows.old) (R.sheet rows.new) }
+{
+    match how {
+        SlotSearch::Groups => find_slot(rows, width, row, index),
+        SlotSearch::Along => find_along(rows, row, index),
+    }
 }
 
 /// What the slot at an index holds.

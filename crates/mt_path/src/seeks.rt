@@ -35,7 +35,8 @@ pub fn under(pivot: u64, index: u64) -> u32
 #[inline(always)]
 fn seek_wide<R: Rows>(rows: &mut R, number: u32, index: u64) -> u32
     requires row { IsPlace (R.sheet rows.old).tree number 0 }
-    ensures slot { (kind : RowKind) → slots_of (R.sheet rows.old).tree.table.width kind ≡ 16 → IsSlotFor (R.sheet rows.old).tree.table number kind index result }
+    ensures slot { (kind : RowKind)
+        → slots_of (R.sheet rows.old).tree.table.width kind ≡ 16 → IsSlotFor (R.sheet rows.old).tree.table number kind index result }
     ensures reads { ReadsUpTo 6 (R.sheet rows.old) (R.sheet rows.new) }
 {
     let fourth = rows.load(number, 4);
@@ -52,7 +53,8 @@ fn seek_wide<R: Rows>(rows: &mut R, number: u32, index: u64) -> u32
 #[inline(always)]
 fn seek_gapped<R: Rows>(rows: &mut R, number: u32, index: u64) -> u32
     requires row { IsPlace (R.sheet rows.old).tree number 0 }
-    ensures slot { (kind : RowKind) → slots_of (R.sheet rows.old).tree.table.width kind ≡ 10 → IsSlotFor (R.sheet rows.old).tree.table number kind index result }
+    ensures slot { (kind : RowKind)
+        → slots_of (R.sheet rows.old).tree.table.width kind ≡ 10 → IsSlotFor (R.sheet rows.old).tree.table number kind index result }
     ensures reads { ReadsUpTo 5 (R.sheet rows.old) (R.sheet rows.new) }
 {
     let third_on = rows.load(number, 3);
@@ -68,7 +70,8 @@ fn seek_gapped<R: Rows>(rows: &mut R, number: u32, index: u64) -> u32
 #[inline(always)]
 fn seek_narrow<R: Rows>(rows: &mut R, number: u32, index: u64) -> u32
     requires row { IsPlace (R.sheet rows.old).tree number 0 }
-    ensures slot { (kind : RowKind) → slots_of (R.sheet rows.old).tree.table.width kind ≡ 32 → IsSlotFor (R.sheet rows.old).tree.table number kind index result }
+    ensures slot { (kind : RowKind)
+        → slots_of (R.sheet rows.old).tree.table.width kind ≡ 32 → IsSlotFor (R.sheet rows.old).tree.table number kind index result }
     ensures reads { ReadsUpTo 7 (R.sheet rows.old) (R.sheet rows.new) }
 {
     let eighth = rows.load(number, 8);
@@ -87,7 +90,8 @@ fn seek_narrow<R: Rows>(rows: &mut R, number: u32, index: u64) -> u32
 #[inline(always)]
 fn seek_narrow_gapped<R: Rows>(rows: &mut R, number: u32, index: u64) -> u32
     requires row { IsPlace (R.sheet rows.old).tree number 0 }
-    ensures slot { (kind : RowKind) → slots_of (R.sheet rows.old).tree.table.width kind ≡ 21 → IsSlotFor (R.sheet rows.old).tree.table number kind index result }
+    ensures slot { (kind : RowKind)
+        → slots_of (R.sheet rows.old).tree.table.width kind ≡ 21 → IsSlotFor (R.sheet rows.old).tree.table number kind index result }
     ensures reads { ReadsUpTo 6 (R.sheet rows.old) (R.sheet rows.new) }
 {
     let fifth = rows.load(number, 5);

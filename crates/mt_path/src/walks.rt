@@ -74,7 +74,7 @@ pub fn walk<R: Rows>(rows: &mut R, index: u64) -> Path
 }
 
 /// The kind of a node of a path. Its last is a leaf. All others of a tree are of one kind, which the root's name gives.
-fn kind_on<R: Rows>(rows: &mut R, is_last: bool) -> RowKind
+pub(crate) fn kind_on<R: Rows>(rows: &mut R, is_last: bool) -> RowKind
     requires { is_last ≡ false → IsSome (named_kind (R.sheet rows.old).tree.root) }
     ensures leaf { is_last ≡ true → result ≡ RowKind.Leaf }
     ensures inner { is_last ≡ false → Some result ≡ named_kind (R.sheet rows.old).tree.root }
@@ -92,7 +92,8 @@ fn kind_on<R: Rows>(rows: &mut R, is_last: bool) -> RowKind
 /// A path goes on to another index, in place: from the deepest of its nodes that covers the index.
 pub fn walk_on<R: Rows>(rows: &mut R, path: &mut Path, index: u64)
     requires tree { (kind : Kind) × IsTreeOf (R.sheet rows.old).tree kind }
-    requires path { (i : ℕ) × (i ≤ greatest (R.sheet rows.old).tree.table.width) × (path.old.items ≡ path_in (R.sheet rows.old).tree.table (R.sheet rows.old).tree.root i) }
+    requires path { (i : ℕ) × (i ≤ greatest (R.sheet rows.old).tree.table.width)
+        × (path.old.items ≡ path_in (R.sheet rows.old).tree.table (R.sheet rows.old).tree.root i) }
     requires index { index ≤ greatest (R.sheet rows.old).tree.table.width }
     ensures path { path.new.items ≡ path_in (R.sheet rows.old).tree.table (R.sheet rows.old).tree.root index }
     ensures reads { ReadsUpTo (loads_on path.new.items) (R.sheet rows.old) (R.sheet rows.new) }

@@ -4,37 +4,37 @@ use Rattle.mt_path.proofs.Descents.{may_find, may_seek, reaches, may_load, has_c
 use Rattle.mt_path.proofs.Kept.{width_kept}
 use Rattle.mt_path.proofs.handles.handle_by.Goals as goal
 
-pub find_slot-found-requires-clause-width : goal.find_slot-found-requires-clause-width
-find_slot-found-requires-clause-width g c = width_kept _ (g.R.Rows.sheet c.args.rows.now) (g.R.Rows.sheet c.loop.rows) c.args.width c.loop.invariant.reads c.requires.width
+pub find_by-found-requires-clause-width : goal.find_by-found-requires-clause-width
+find_by-found-requires-clause-width g c = width_kept _ (g.R.Rows.sheet c.args.rows.now) (g.R.Rows.sheet c.loop.rows) c.args.width c.loop.invariant.reads c.requires.width
 
 pub load_found-span-requires-clause-width : goal.load_found-span-requires-clause-width
 load_found-span-requires-clause-width g c =
     let s = g.R.Rows.sheet c.args.rows.now in
     let s₁ = g.R.Rows.sheet c.loop.rows in
-    let found = c.find_slot-found in
+    let found = c.find_by-found in
     width_kept _ s₁ (g.R.Rows.sheet found.new.rows) c.args.width found.ensures.reads (width_kept _ s s₁ c.args.width c.loop.invariant.reads c.requires.width)
 
-pub find_slot-found-requires-clause-row : goal.find_slot-found-requires-clause-row
-find_slot-found-requires-clause-row g c =
+pub find_by-found-requires-clause-row : goal.find_by-found-requires-clause-row
+find_by-found-requires-clause-row g c =
     let before = c.loop.invariant in
     may_find (g.R.Rows.sheet c.args.rows.now) (g.R.Rows.sheet c.loop.rows) c.requires.tree.0 c.requires.tree.1 c.args.index c.requires.index _ before.reads _ c.loop.row before.way
 
-pub find_slot-found-requires-clause-index : goal.find_slot-found-requires-clause-index
-find_slot-found-requires-clause-index g c =
+pub find_by-found-requires-clause-index : goal.find_by-found-requires-clause-index
+find_by-found-requires-clause-index g c =
     let before = c.loop.invariant in
     reaches (g.R.Rows.sheet c.args.rows.now) (g.R.Rows.sheet c.loop.rows) c.requires.tree.0 c.requires.tree.1 c.args.index c.requires.index _ before.reads _ c.loop.row before.way
 
 pub load_found-span-requires-clause-row : goal.load_found-span-requires-clause-row
 load_found-span-requires-clause-row g c =
     let before = c.loop.invariant in
-    let found = c.find_slot-found in
+    let found = c.find_by-found in
     may_load (g.R.Rows.sheet c.args.rows.now) (g.R.Rows.sheet c.loop.rows) c.requires.tree.0 c.requires.tree.1 c.args.index c.requires.index _ before.reads _ c.loop.row before.way
     found.result found.ensures.found (g.R.Rows.sheet found.new.rows) found.ensures.reads
 
 pub returns-then-eq-clause-some : goal.returns-then-eq-clause-some
 returns-then-eq-clause-some g c =
     let before = c.loop.invariant in
-    let found = c.find_slot-found in
+    let found = c.find_by-found in
     let leaf : c.loop.row.kind ≡ Leaf = same_true the_type (search rules) c.loop.row.kind Leaf (sym c.if-eq.ensures) in
     handle_here (g.R.Rows.sheet c.args.rows.now) (g.R.Rows.sheet c.loop.rows) c.requires.tree.0 c.requires.tree.1 c.args.index c.requires.index _ before.reads _ c.loop.row before.way
     found.result found.ensures.found (g.R.Rows.sheet found.new.rows) found.ensures.reads
@@ -42,7 +42,7 @@ returns-then-eq-clause-some g c =
 
 pub returns-then-eq-clause-reads : goal.returns-then-eq-clause-reads
 returns-then-eq-clause-reads g c =
-    let found = c.find_slot-found in
+    let found = c.find_by-found in
     let leaf : c.loop.row.kind ≡ Leaf = same_true the_type (search rules) c.loop.row.kind Leaf (sym c.if-eq.ensures) in
     passage_ends (g.R.Rows.sheet c.args.rows.now) (g.R.Rows.sheet c.loop.rows) c.requires.tree.0 c.requires.tree.1 c.args.index c.requires.index c.loop.counter c.loop.row c.loop.invariant
     found.result found.ensures.found (g.R.Rows.sheet found.new.rows) found.ensures.reads
@@ -51,7 +51,7 @@ returns-then-eq-clause-reads g c =
 pub child_for-row-requires : goal.child_for-row-requires
 child_for-row-requires g c =
     let before = c.loop.invariant in
-    let found = c.find_slot-found in
+    let found = c.find_by-found in
     let other : c.loop.row.kind ≢ Leaf = search rules in
     has_child (g.R.Rows.sheet c.args.rows.now) (g.R.Rows.sheet c.loop.rows) c.requires.tree.0 c.requires.tree.1 c.args.index c.requires.index _ before.reads _ c.loop.row before.way
     found.result found.ensures.found (g.R.Rows.sheet found.new.rows) found.ensures.reads
@@ -59,7 +59,7 @@ child_for-row-requires g c =
 
 pub loop-preserved : goal.loop-preserved
 loop-preserved g c =
-    let found = c.find_slot-found in
+    let found = c.find_by-found in
     let other : c.loop.row.kind ≢ Leaf = search rules in
     passage_goes_on (g.R.Rows.sheet c.args.rows.now) (g.R.Rows.sheet c.loop.rows) c.requires.tree.0 c.requires.tree.1 c.args.index c.requires.index c.loop.counter c.loop.row c.loop.invariant
     found.result found.ensures.found (g.R.Rows.sheet found.new.rows) found.ensures.reads
@@ -71,7 +71,7 @@ unreachable-requires g c =
     not_deepest (g.R.Rows.sheet c.args.rows.now) (g.R.Rows.sheet c.loop.rows) c.requires.tree.0 c.requires.tree.1 c.args.index c.requires.index c.loop.counter c.loop.row c.loop.invariant in
     omega (arith, low, c.loop-test.false)
 
-pub find_slot-found-requires-clause-lawful : goal.find_slot-found-requires-clause-lawful
-find_slot-found-requires-clause-lawful g c =
+pub find_by-found-requires-clause-lawful : goal.find_by-found-requires-clause-lawful
+find_by-found-requires-clause-lawful g c =
     let before = c.loop.invariant in
     may_seek (g.R.Rows.sheet c.args.rows.now) (g.R.Rows.sheet c.loop.rows) c.requires.tree.0 c.requires.tree.1 c.args.index c.requires.index _ before.reads _ c.loop.row before.way

@@ -1,4 +1,5 @@
 use Rattle.mt_path.proofs.Prelude.{ℕ, ◌+◌, ◌<◌, ◌^◌, ap, ◌∙◌, rules, arith, slots_of-columns}
+use Rattle.mt_path.proofs.Kept.{column_place}
 use Rattle.mt_path.proofs.Groups.{sought, first_of, first_behind, ends_within, slot_fits}
 use Rattle.mt_path.proofs.rows.first_in.Goals as goal
 
@@ -7,10 +8,9 @@ returns-then-slot-eq0-clause-first g c = first_of (g.R.Rows.sheet c.args.rows.no
 
 pub load-before-requires : goal.load-before-requires
 load-before-requires g c =
-    let t = (g.R.Rows.sheet c.args.rows.now).tree.table in
-    let fits = slot_fits t c.args.row (sought t c.args.row c.requires.lawful) c.args.slot c.requires.slot in
-    let place = c.requires.row in
-    record { first = place.first; last = place.last; column = omega (arith, slots_of-columns t.width c.args.row.kind) }
+    let t = (g.R.Rows.sheet c.args.rows.now).tree in
+    let fits = slot_fits t.table c.args.row (sought t.table c.args.row c.requires.lawful) c.args.slot c.requires.slot in
+    column_place t c.args.row.number c.args.slot c.requires.row (omega (arith, slots_of-columns t.table.width c.args.row.kind))
 
 pub overflow_add-result : goal.overflow_add-result
 overflow_add-result g c =

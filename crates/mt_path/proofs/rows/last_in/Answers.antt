@@ -1,5 +1,6 @@
-use Rattle.mt_path.proofs.Prelude.{ap, ◌∙◌, arith, Width, slots_of, few_slots_of, slots_of-columns}
+use Rattle.mt_path.proofs.Prelude.{◌+◌, ap, ◌∙◌, arith, Width, slots_of, few_slots_of, slots_of-columns}
 use Rattle.mt_path.proofs.Loads.{one_read}
+use Rattle.mt_path.proofs.Kept.{column_place}
 use Rattle.mt_path.proofs.Groups.{sought, slot_fits, last_at_pivot, last_at_end}
 use Rattle.mt_path.proofs.rows.last_in.Goals as goal
 
@@ -31,10 +32,9 @@ overflow_add-slot-2 g c =
 
 pub load-pivot-requires : goal.load-pivot-requires
 load-pivot-requires g c =
-    let t = (g.R.Rows.sheet c.args.rows.now).tree.table in
-    let fits = slot_fits t c.args.row (sought t c.args.row c.requires.lawful) c.args.slot c.requires.slot in
-    let place = c.requires.row in
-    record { first = place.first; last = place.last; column = omega (arith, slots_of-columns t.width c.args.row.kind) }
+    let t = (g.R.Rows.sheet c.args.rows.now).tree in
+    let fits = slot_fits t.table c.args.row (sought t.table c.args.row c.requires.lawful) c.args.slot c.requires.slot in
+    column_place t c.args.row.number (1 + c.args.slot) c.requires.row (omega (arith, slots_of-columns t.table.width c.args.row.kind))
 
 pub returns-else-slot-slots-clause-reads : goal.returns-else-slot-slots-clause-reads
 returns-else-slot-slots-clause-reads g c = one_read _ _ c.load-pivot.ensures.rest

@@ -1,40 +1,14 @@
-use Rattle.mt_path.proofs.Prelude.{◌≡◌, ◌+◌, ◌-◌, ◌*◌, ◌≤◌, refl, arith, nat_lt, lt-ltb, le-ltb}
-use Rattle.mt_path.proofs.Kept.{word_kept}
-use Rattle.mt_path.proofs.Loads.{one_read, reads_next}
-use Rattle.mt_path.proofs.Groups.{row_at, sought, here, here_fits, tells, tells_first, group_of_three, within_four}
+use Rattle.mt_path.proofs.Prelude.{◌+◌, ◌*◌}
+use Rattle.mt_path.proofs.Loads.{no_reads, two_words, three_words}
+use Rattle.mt_path.proofs.Groups.{row_at, sought, of_ten}
 use Rattle.mt_path.proofs.seeks.seek_gapped.Goals as goal
 
 pub returns-clause-slot : goal.returns-clause-slot
 returns-clause-slot g c kind slots min max lawful within =
     let s = g.R.Rows.sheet c.args.rows.now in
-    let t = s.tree.table in
-    let row = row_at c.args.number kind min max in
-    let law = sought t row lawful in
-    let wide = slots in
-    let fits = here_fits t row law c.args.index within in
-    let s₁ = g.R.Rows.sheet c.load-third_on.new.self in
-    let r₁ = one_read s s₁ c.load-third_on.ensures.rest in
-    let w₁ = c.load-third_on.ensures.word in
-    let b₁ = tells t row law c.args.index within (3) c.load-third_on.result c.under.result (omega arith) (omega arith) w₁ c.under.ensures.one c.under.ensures.unused c.under.ensures.past in
-    let s₂ = g.R.Rows.sheet c.load-sixth_on.new.self in
-    let w₂ = word_kept 1 s s₁ row.number (6) c.load-sixth_on.result r₁ c.load-sixth_on.ensures.word in
-    let r₂ = reads_next 1 s s₁ s₂ r₁ c.load-sixth_on.ensures.rest in
-    let b₂ = tells t row law c.args.index within (6) c.load-sixth_on.result c.under-2.result (omega arith) (omega arith) w₂ c.under-2.ensures.one c.under-2.ensures.unused c.under-2.ensures.past in
     let group = 3 * (c.under.result + c.under-2.result) in
-    let g_group = group_of_three (here t row law c.args.index within) c.under.result c.under-2.result (omega arith) b₁ b₂ in
-    let low : group ≤ (here t row law c.args.index within) = g_group.0 in
-    let high = g_group.1 in
-    let top = g_group.2 in
-    let s₃ = g.R.Rows.sheet c.load-first.new.self in
-    let w₃ = word_kept 2 s s₂ row.number (1 + group) c.load-first.result r₂ c.load-first.ensures.word in
-    let r₃ = reads_next 2 s s₂ s₃ r₂ c.load-first.ensures.rest in
-    let b₃ : mir.Val.bool_byte (nat_lt c.load-first.result c.args.index) ≡ 1 - (1 + group - here t row law c.args.index within) = tells_first t row law c.args.index within group c.load-first.result _ low (omega arith) w₃
-    (λ less. (let test = lt-ltb c.load-first.result c.args.index less in rw test refl)) (λ more. (let test = le-ltb c.load-first.result c.args.index more in rw test refl)) in
-    let s₄ = g.R.Rows.sheet c.load-second.new.self in
-    let w₄ = word_kept 3 s s₃ row.number (2 + group) c.load-second.result r₃ c.load-second.ensures.word in
-    let r₄ = reads_next 3 s s₃ s₄ r₃ c.load-second.ensures.rest in
-    let b₄ = tells t row law c.args.index within (2 + group) c.load-second.result c.under-3.result (omega arith) (omega arith) w₄ c.under-3.ensures.one c.under-3.ensures.unused c.under-3.ensures.past in
-    let s₅ = g.R.Rows.sheet c.load-third.new.self in
-    let w₅ = word_kept 4 s s₄ row.number (3 + group) c.load-third.result r₄ c.load-third.ensures.word in
-    let b₅ = tells t row law c.args.index within (3 + group) c.load-third.result c.under-4.result (omega arith) (omega arith) w₅ c.under-4.ensures.one c.under-4.ensures.unused c.under-4.ensures.past in
-    within_four (here t row law c.args.index within) group _ c.under-3.result c.under-4.result low high b₃ b₄ b₅
+    let w = two_words 0 s s (g.R.Rows.sheet c.load-third_on.new.self) (g.R.Rows.sheet c.load-sixth_on.new.self) c.args.number (3) (6) c.load-third_on.result c.load-sixth_on.result (no_reads s) c.load-third_on.ensures.word c.load-third_on.ensures.rest c.load-sixth_on.ensures.word c.load-sixth_on.ensures.rest in
+    let v = three_words 2 s (g.R.Rows.sheet c.load-sixth_on.new.self) (g.R.Rows.sheet c.load-first.new.self) (g.R.Rows.sheet c.load-second.new.self) (g.R.Rows.sheet c.load-third.new.self) c.args.number (1 + group) (2 + group) (3 + group) c.load-first.result c.load-second.result c.load-third.result w.2 c.load-first.ensures.word c.load-first.ensures.rest c.load-second.ensures.word c.load-second.ensures.rest c.load-third.ensures.word c.load-third.ensures.rest in
+    of_ten s.tree.table (row_at c.args.number kind min max) (sought s.tree.table (row_at c.args.number kind min max) lawful) c.args.index within slots
+    c.load-third_on.result c.load-sixth_on.result c.under.result c.under-2.result (record { is = w.0; below = c.under.ensures.one; unused = c.under.ensures.unused; past = c.under.ensures.past }) (record { is = w.1; below = c.under-2.ensures.one; unused = c.under-2.ensures.unused; past = c.under-2.ensures.past })
+    c.load-first.result c.load-second.result c.load-third.result c.under-3.result c.under-4.result v.0 (record { is = v.1; below = c.under-3.ensures.one; unused = c.under-3.ensures.unused; past = c.under-3.ensures.past }) (record { is = v.2; below = c.under-4.ensures.one; unused = c.under-4.ensures.unused; past = c.under-4.ensures.past })

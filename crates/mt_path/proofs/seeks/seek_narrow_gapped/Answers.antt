@@ -1,49 +1,18 @@
-use Rattle.mt_path.proofs.Prelude.{◌≡◌, ◌+◌, ◌-◌, ◌*◌, ◌≤◌, refl, arith, nat_lt, lt-ltb, le-ltb}
+use Rattle.mt_path.proofs.Prelude.{◌+◌, ◌*◌}
 use Rattle.mt_path.proofs.Kept.{word_kept}
-use Rattle.mt_path.proofs.Loads.{one_read, reads_next}
-use Rattle.mt_path.proofs.Groups.{row_at, sought, here, here_fits, tells, tells_first, group_of_five, half_of_five, within_three}
+use Rattle.mt_path.proofs.Loads.{no_reads, reads_next, two_words, three_words}
+use Rattle.mt_path.proofs.Groups.{row_at, sought, of_twenty_one}
 use Rattle.mt_path.proofs.seeks.seek_narrow_gapped.Goals as goal
 
 pub returns-clause-slot : goal.returns-clause-slot
 returns-clause-slot g c kind slots min max lawful within =
     let s = g.R.Rows.sheet c.args.rows.now in
-    let t = s.tree.table in
-    let row = row_at c.args.number kind min max in
-    let law = sought t row lawful in
-    let wide = slots in
-    let fits = here_fits t row law c.args.index within in
-    let s₁ = g.R.Rows.sheet c.load-fifth.new.self in
-    let r₁ = one_read s s₁ c.load-fifth.ensures.rest in
-    let w₁ = c.load-fifth.ensures.word in
-    let b₁ = tells t row law c.args.index within (5) c.load-fifth.result c.under.result (omega arith) (omega arith) w₁ c.under.ensures.one c.under.ensures.unused c.under.ensures.past in
-    let s₂ = g.R.Rows.sheet c.load-tenth.new.self in
-    let w₂ = word_kept 1 s s₁ row.number (10) c.load-tenth.result r₁ c.load-tenth.ensures.word in
-    let r₂ = reads_next 1 s s₁ s₂ r₁ c.load-tenth.ensures.rest in
-    let b₂ = tells t row law c.args.index within (10) c.load-tenth.result c.under-2.result (omega arith) (omega arith) w₂ c.under-2.ensures.one c.under-2.ensures.unused c.under-2.ensures.past in
-    let s₃ = g.R.Rows.sheet c.load-fifteenth.new.self in
-    let w₃ = word_kept 2 s s₂ row.number (15) c.load-fifteenth.result r₂ c.load-fifteenth.ensures.word in
-    let r₃ = reads_next 2 s s₂ s₃ r₂ c.load-fifteenth.ensures.rest in
-    let b₃ = tells t row law c.args.index within (15) c.load-fifteenth.result c.under-3.result (omega arith) (omega arith) w₃ c.under-3.ensures.one c.under-3.ensures.unused c.under-3.ensures.past in
     let five = 5 * (c.under.result + c.under-2.result + c.under-3.result) in
-    let g_five = group_of_five (here t row law c.args.index within) c.under.result c.under-2.result c.under-3.result (omega arith) b₁ b₂ b₃ in
-    let low : five ≤ (here t row law c.args.index within) = g_five.0 in
-    let high = g_five.1 in
-    let top = g_five.2 in
-    let s₄ = g.R.Rows.sheet c.load-middle.new.self in
-    let w₄ = word_kept 3 s s₃ row.number (3 + five) c.load-middle.result r₃ c.load-middle.ensures.word in
-    let r₄ = reads_next 3 s s₃ s₄ r₃ c.load-middle.ensures.rest in
-    let b₄ = tells t row law c.args.index within (3 + five) c.load-middle.result c.under-4.result (omega arith) (omega arith) w₄ c.under-4.ensures.one c.under-4.ensures.unused c.under-4.ensures.past in
     let group = five + 3 * c.under-4.result in
-    let g_group = half_of_five (here t row law c.args.index within) five c.under-4.result low high b₄ in
-    let low : group ≤ (here t row law c.args.index within) = g_group.0 in
-    let high = g_group.1 in
-    let one = g_group.2 in
-    let s₅ = g.R.Rows.sheet c.load-first.new.self in
-    let w₅ = word_kept 4 s s₄ row.number (1 + group) c.load-first.result r₄ c.load-first.ensures.word in
-    let r₅ = reads_next 4 s s₄ s₅ r₄ c.load-first.ensures.rest in
-    let b₅ : mir.Val.bool_byte (nat_lt c.load-first.result c.args.index) ≡ 1 - (1 + group - here t row law c.args.index within) = tells_first t row law c.args.index within group c.load-first.result _ low (omega arith) w₅
-    (λ less. (let test = lt-ltb c.load-first.result c.args.index less in rw test refl)) (λ more. (let test = le-ltb c.load-first.result c.args.index more in rw test refl)) in
-    let s₆ = g.R.Rows.sheet c.load-second.new.self in
-    let w₆ = word_kept 5 s s₅ row.number (2 + group) c.load-second.result r₅ c.load-second.ensures.word in
-    let b₆ = tells t row law c.args.index within (2 + group) c.load-second.result c.under-5.result (omega arith) (omega arith) w₆ c.under-5.ensures.one c.under-5.ensures.unused c.under-5.ensures.past in
-    within_three (here t row law c.args.index within) group _ c.under-5.result low high b₅ b₆
+    let w = three_words 0 s s (g.R.Rows.sheet c.load-fifth.new.self) (g.R.Rows.sheet c.load-tenth.new.self) (g.R.Rows.sheet c.load-fifteenth.new.self) c.args.number (5) (10) (15) c.load-fifth.result c.load-tenth.result c.load-fifteenth.result (no_reads s) c.load-fifth.ensures.word c.load-fifth.ensures.rest c.load-tenth.ensures.word c.load-tenth.ensures.rest c.load-fifteenth.ensures.word c.load-fifteenth.ensures.rest in
+    let m = word_kept 3 s (g.R.Rows.sheet c.load-fifteenth.new.self) c.args.number (3 + five) c.load-middle.result w.3 c.load-middle.ensures.word in
+    let v = two_words 4 s (g.R.Rows.sheet c.load-middle.new.self) (g.R.Rows.sheet c.load-first.new.self) (g.R.Rows.sheet c.load-second.new.self) c.args.number (1 + group) (2 + group) c.load-first.result c.load-second.result (reads_next 3 s (g.R.Rows.sheet c.load-fifteenth.new.self) (g.R.Rows.sheet c.load-middle.new.self) w.3 c.load-middle.ensures.rest) c.load-first.ensures.word c.load-first.ensures.rest c.load-second.ensures.word c.load-second.ensures.rest in
+    of_twenty_one s.tree.table (row_at c.args.number kind min max) (sought s.tree.table (row_at c.args.number kind min max) lawful) c.args.index within slots
+    c.load-fifth.result c.load-tenth.result c.load-fifteenth.result c.under.result c.under-2.result c.under-3.result (record { is = w.0; below = c.under.ensures.one; unused = c.under.ensures.unused; past = c.under.ensures.past }) (record { is = w.1; below = c.under-2.ensures.one; unused = c.under-2.ensures.unused; past = c.under-2.ensures.past }) (record { is = w.2; below = c.under-3.ensures.one; unused = c.under-3.ensures.unused; past = c.under-3.ensures.past })
+    c.load-middle.result c.under-4.result (record { is = m; below = c.under-4.ensures.one; unused = c.under-4.ensures.unused; past = c.under-4.ensures.past })
+    c.load-first.result c.load-second.result c.under-5.result v.0 (record { is = v.1; below = c.under-5.ensures.one; unused = c.under-5.ensures.unused; past = c.under-5.ensures.past })
