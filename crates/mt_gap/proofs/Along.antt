@@ -80,7 +80,7 @@ module _ (s s' : Sheet) (path : List PathStep) (leaf : ℕ) (kind : RowKind) (le
 pub begin_on : (gapped : Bool) (s s' : Sheet) (path : List PathStep) (leaf : ℕ) → IsWay gapped s path leaf → RootIs s Gapped → s' ≡ loaded s → HasMendedOn s s' path leaf Leaf (length path) (record (step_at path (length path - 1)) { row = leaf })
 begin_on gapped s s' path leaf way root is =
     let m = begin_way gapped s s' path leaf way root is in
-    let some = m.low in
+    let some = m.at.level.low in
     record { way = path_in s.tree.table s.tree.root way.index; along = way.steps; mended = m; row = way.steps.end (length path - 1) (omega arith) }
 
 pub end_on : (gapped : Bool) (s s' : Sheet) (path : List PathStep) (leaf : ℕ) (k : RowKind) (level : ℕ) (below : PathStep) → IsWay gapped s path leaf → RootIs s Gapped → HasMendedOn s s' path leaf k level below → level ≤ 1 → HasGaps (tree_on gapped s'.tree)

@@ -1,5 +1,5 @@
 -- What is kept of holes: of those out of the window and the short ones nothing, of a long one in the window something.
-use Rattle.mt_gap.proofs.Prelude.{◌≡◌, ℕ, zero, suc, ◌+◌, ◌-◌, ◌<◌, ◌≤◌, ◌==◌, List, [], ◌∷◌, ◌++◌, min, max, nat_le, map, length, Some, refl, sym, ap, ◌∙◌, inl, inr, arith, filter, AllByRecursion, flat_map, map-append, filter-append, flat_map-append, cases_Bool, lt-leb, leb-true, leb-false, Span, Fills, longest_in, Table, expand, Levels, Tree, IsRow, longest_below, all_map, fills_le, expand_fills, expand-append, rows_filled, Hole, clip, fits, kept, lowest_in, leaf_hole}
+use Rattle.mt_gap.proofs.Prelude.{◌≡◌, ℕ, zero, suc, ◌+◌, ◌-◌, ◌<◌, ◌≤◌, ◌==◌, List, [], ◌∷◌, ◌++◌, min, max, nat_le, map, length, Some, refl, sym, ap, ◌∙◌, subst, inl, inr, arith, filter, AllByRecursion, flat_map, map-append, filter-append, flat_map-append, cases_Bool, lt-leb, leb-true, leb-false, Span, Fills, longest_in, Table, expand, Levels, Tree, IsRow, longest_below, all_map, fills_le, expand_fills, expand-append, rows_filled, Hole, clip, fits, kept, lowest_in, leaf_hole}
 use Rattle.mt_gap.proofs.HolesBelow.{holes_below}
 
 pub kept-append : (n lo hi : ℕ) (xs ys : List Hole) → kept n lo hi (xs ++ ys) ≡ kept n lo hi xs ++ kept n lo hi ys
@@ -54,6 +54,13 @@ longest_is t (suc h) xs = longest_is t h (expand t xs)
 kept_not : (n lo hi : ℕ) (x : Hole) (xs : List Hole) → min hi x.last + 1 < max lo x.first + n → kept n lo hi (x ∷ xs) ≡ kept n lo hi xs
 kept_not n lo hi x xs short = rw (lt-leb (max lo x.first + n) (min hi x.last + 1) short) refl
 
+-- a hole with room is the first that is kept, and one without is not kept
+pub kept_either : (P : List Hole → Type 0) (n lo hi : ℕ) (x : Hole) (xs : List Hole) → (max lo x.first + n ≤ min hi x.last + 1 → P (clip lo hi x ∷ kept n lo hi xs)) → (min hi x.last + 1 < max lo x.first + n → P (kept n lo hi xs)) → P (kept n lo hi (x ∷ xs))
+kept_either P n lo hi x xs room short = elim (cases_Bool (nat_le (max lo x.first + n) (min hi x.last + 1))) [
+  | inl whole ↦ (let first : kept n lo hi (x ∷ xs) ≡ clip lo hi x ∷ kept n lo hi xs = (rw whole refl) in subst P (sym first) (room (leb-true (max lo x.first + n) (min hi x.last + 1) whole)))
+  | inr less ↦ (let not = leb-false (max lo x.first + n) (min hi x.last + 1) less in subst P (sym (kept_not n lo hi x xs not)) (short not))
+]
+
 pub none_short : (n lo hi : ℕ) (xs : List Hole) → 1 ≤ n → longest_of xs < n → kept n lo hi xs ≡ []
 none_short n lo hi [] some short = refl
 none_short n lo hi (x ∷ xs) some short = kept_not n lo hi x xs (omega arith) ∙ none_short n lo hi xs some (omega arith)
@@ -70,22 +77,13 @@ pub some_inside : (n lo hi a b : ℕ) (xs : List Hole) → 1 ≤ n → AllByRecu
 some_inside n lo hi a b [] some each from to long = absurd (omega arith)
 some_inside n lo hi a b (x ∷ xs) some each from to long =
     let begins = each.0.0 in let order = each.0.1 in let ends = each.0.2 in
-    elim (cases_Bool (nat_le (max lo x.first + n) (min hi x.last + 1))) [
-      | inl whole ↦ rw whole (omega arith)
-      | inr less ↦ rw less (let short = leb-false (max lo x.first + n) (min hi x.last + 1) less in some_inside n lo hi a b xs some each.1 from to (omega arith))
-    ]
+    kept_either (λ (l : List Hole). 0 < length l) n lo hi x xs (λ room. omega arith) (λ short. some_inside n lo hi a b xs some each.1 from to (omega arith))
 
 -- the lowest place lies where the holes do
 pub lowest_between : (n lo hi a b start : ℕ) (xs : List Hole) → 1 ≤ n → AllByRecursion (Between a b) xs → lowest_in (kept n lo hi xs) ≡ Some start → (a ≤ start) × (start < b)
 lowest_between n lo hi a b start [] some each is = absurd (cc)
 lowest_between n lo hi a b start (x ∷ xs) some each is =
     let begins = each.0.0 in let ends = each.0.2 in
-    elim (cases_Bool (nat_le (max lo x.first + n) (min hi x.last + 1))) [
-      | inl whole ↦ (
-          let room = leb-true (max lo x.first + n) (min hi x.last + 1) whole in
-          let first : kept n lo hi (x ∷ xs) ≡ clip lo hi x ∷ kept n lo hi xs = (rw whole refl) in
-          let here : Some (max lo x.first) ≡ Some start = ap lowest_in (sym first) ∙ is in
-          let same : max lo x.first ≡ start = cc in
-          (omega arith, omega arith))
-      | inr less ↦ (let short = leb-false (max lo x.first + n) (min hi x.last + 1) less in lowest_between n lo hi a b start xs some each.1 (ap lowest_in (sym (kept_not n lo hi x xs short)) ∙ is))
-    ]
+    kept_either (λ (l : List Hole). lowest_in l ≡ Some start → (a ≤ start) × (start < b)) n lo hi x xs
+    (λ room here. let both : Some (max lo x.first) ≡ Some start = here in let same : max lo x.first ≡ start = cc in (omega arith, omega arith))
+    (λ short. lowest_between n lo hi a b start xs some each.1) is

@@ -13,9 +13,11 @@ pub mod SlotMended
 pub mod Mending
 pub mod GapWords
 pub mod Tells
+pub mod AtLevel
 pub mod MendWay
 pub mod Along
 pub mod SlotsRight
 pub mod MendGaps
 pub mod OneWay
+pub mod SingleWay
 mod Prelude

@@ -1,8 +1,9 @@
 -- All gap words of a path's rows mended: what holds from one slot to the next, and from one row to the next.
-use Rattle.mt_gap.proofs.Prelude.{◌≡◌, ◌≢◌, ℕ, zero, suc, ◌+◌, ◌-◌, ◌<◌, ◌≤◌, List, [], ◌∷◌, Bool, true, false, Some, None, length, refl, sym, ap, ◌∙◌, subst, ⊎_elim, inl, inr, arith, ◌⊎◌, slice_index_or, AllByRecursion, cases_Bool, cases_eq, Width, deepest, greatest, RowKind, Leaf, Inner, Gapped, Span, gap_column, row_in, named_kind, slots_of, Names-named_kind, some_columns, some_slots_of, gap_within, fills_le, PathStep, step_in, span_at, step_at, path_in, top_row, rows_at, row_of, levels, step, place, lawful, reached, root_leads, rows_fill, step_of, covers, HasGaps, Tree, IsRow, Stands, GapLaw, kind_on, longest_below, top_of, Levels, tree_on, LiveAreReached, NoneBuried, root_of, Rooted, Sheet, IsPlace, OnlyReads, MayTend, IsWhole, life_of, is_buried, with_word, word_at, loaded, Table, root_span, spans_in, spans_by, row_spans, height_by_depth, row_most, all_spans_stay, still_stands, Shared, levels_here, levels_map, levels_from, IsOneOf, OnLevel, on_level_reached, one_of_parts, reached_number, times_reached, levels_at, Child, row_children, AreRight, IsMendedSlot, HasMendedRows, told_by, GapLawBeside, IsLiveRow, IsGapIn, KeepsOtherWords, MayMendGaps, MayTell, MayMend, IsMended}
+use Rattle.mt_gap.proofs.Prelude.{◌≡◌, ◌≢◌, ℕ, zero, suc, ◌+◌, ◌-◌, ◌<◌, ◌≤◌, List, [], ◌∷◌, Bool, true, false, Some, None, length, refl, sym, ap, ◌∙◌, subst, ⊎_elim, inl, inr, arith, ◌⊎◌, slice_index_or, AllByRecursion, cases_Bool, cases_eq, Width, deepest, greatest, RowKind, Leaf, Inner, Gapped, Span, gap_column, row_in, named_kind, slots_of, Names-named_kind, some_columns, some_slots_of, gap_within, fills_le, PathStep, step_in, span_at, step_at, path_in, rows_at, row_of, levels, step, place, lawful, reached, rows_fill, step_of, covers, HasGaps, Tree, IsRow, Stands, GapLaw, kind_on, longest_below, top_of, Levels, tree_on, LiveAreReached, NoneBuried, root_of, Rooted, Sheet, IsPlace, OnlyReads, MayTend, IsWhole, life_of, is_buried, with_word, word_at, loaded, Table, root_span, spans_in, spans_by, row_spans, height_by_depth, row_most, Shared, levels_here, levels_map, levels_from, IsOneOf, OnLevel, on_level_reached, one_of_parts, reached_number, times_reached, levels_at, Child, row_children, AreRight, IsMendedSlot, HasMendedRows, told_by, GapLawBeside, IsLiveRow, IsGapIn, KeepsOtherWords, MayMendGaps, MayTell, MayMend, IsMended}
 use Rattle.mt_gap.proofs.ChildLists.{spans, no_child}
 use Rattle.mt_gap.proofs.Mending.{begins_at, child_tells, covers_is, levels_below, one_over}
-use Rattle.mt_gap.proofs.MendWay.{RootIs, no_root, not_gapped, only_loaded, gap_stored, only_next, paths_shared, plain_law, root_named, row_may_tell, shared_self, shared_twice}
+use Rattle.mt_gap.proofs.AtLevel.{width_same, within_then, one_up, read_on, shared_then, at_stored}
+use Rattle.mt_gap.proofs.MendWay.{RootIs, no_root, not_gapped, begun_at, gap_stored, plain_law, root_named, row_may_tell}
 use Rattle.mt_gap.proofs.Tells.{row_spans_are}
 use Rattle.mt_gap.proofs.SlotsRight.{are_right, law_of_right, levels_slot, right_then, slot_one}
 
@@ -38,35 +39,32 @@ module _ (s s' : Sheet) (path : List PathStep) (kind : RowKind) (d slots : ℕ) 
   abbrev pub x : Span
   x = row_of t d m.index
 
-  width_same : s'.tree.table.width ≡ s.tree.table.width
-  width_same = ap (λ (v : Sheet). v.tree.table.width) m.only
-
   within' : m.index ≤ top_of t
-  within' = subst (λ (w : Width). m.index ≤ greatest w) (sym width_same) m.within
+  within' = within_then m.at
 
   high : m.height ≡ d + suc m.done
-  high = let levels = m.levels_are in omega arith
+  high = let levels = m.at.level.levels_are in omega arith
 
   many : length path ≡ m.height + 1
-  many = ap length m.steps ∙ levels t m.height m.stands m.index within'
+  many = ap length m.at.steps ∙ levels t m.height m.at.stands m.index within'
 
   pub above : d + 1 < length path
   above = let n = many in let h = high in omega arith
 
   pub above_is : step_at path d ≡ step_in r.table x m.index
-  above_is = ap (λ (l : List PathStep). step_at l d) m.steps ∙ step t m.height m.stands m.index d within' (let h = high in omega arith)
+  above_is = ap (λ (l : List PathStep). step_at l d) m.at.steps ∙ step t m.height m.at.stands m.index d within' (let h = high in omega arith)
 
   on : OnLevel r.table m.height (root_of t) (suc m.done) x
-  on = record { depth = d; height = high; one = (let at = place t m.height m.stands m.index d within' (let h = high in omega arith) in one_of_parts (rows_at t d) at.front at.back x at.parts) }
+  on = record { depth = d; height = high; one = (let at = place t m.height m.at.stands m.index d within' (let h = high in omega arith) in one_of_parts (rows_at t d) at.front at.back x at.parts) }
 
   x_row : IsRow t (suc m.done) x
-  x_row = lawful t m.height m.stands m.index d (suc m.done) within' high
+  x_row = lawful t m.height m.at.stands m.index d (suc m.done) within' high
 
   x_low : x.last ≤ top_of t
-  x_low = let at = place t m.height m.stands m.index d within' (let h = high in omega arith) in let end = fills_le (x.last + 1) (top_of t + 1) at.back at.after in omega arith
+  x_low = let at = place t m.height m.at.stands m.index d within' (let h = high in omega arith) in let end = fills_le (x.last + 1) (top_of t + 1) at.back at.after in omega arith
 
   x_over : (x.first ≤ m.index) × (m.index ≤ x.last)
-  x_over = let at = place t m.height m.stands m.index d within' (let h = high in omega arith) in (at.from, at.to)
+  x_over = let at = place t m.height m.at.stands m.index d within' (let h = high in omega arith) in (at.from, at.to)
 
   pub above_place : IsPlace s'.tree (step_at path d).row 0
   above_place = subst (λ (p : PathStep). IsPlace s'.tree p.row 0) (sym above_is)
@@ -78,7 +76,7 @@ module _ (s s' : Sheet) (path : List PathStep) (kind : RowKind) (d slots : ℕ) 
   -- a row of that level that covers the index is this one
   only_x : (y : Span) → OnLevel r.table m.height (root_of t) (suc m.done) y → covers m.index y ≡ true → y ≡ x
   unfolding on
-  only_x y at over = one_over 0 (top_of t + 1) m.index (rows_at t d) y x (rows_fill t m.height m.stands d (let h = high in omega arith))
+  only_x y at over = one_over 0 (top_of t + 1) m.index (rows_at t d) y x (rows_fill t m.height m.at.stands d (let h = high in omega arith))
       (let height = at.height in let h = high in let depth : at.depth ≡ d = omega arith in subst (λ (e : ℕ). IsOneOf y (rows_at t e)) depth at.one) on.one
       (covers_is m.index y over).0 (covers_is m.index y over).1 x_over.0 x_over.1
 
@@ -89,7 +87,7 @@ module _ (s s' : Sheet) (path : List PathStep) (kind : RowKind) (d slots : ℕ) 
     c = span_at (spans_in r.table x) slots
 
     c_row : IsRow t m.done c
-    c_row = (levels_here (IsRow t) r.table m.done (c ∷ []) (levels_slot (IsRow t) r.table m.done (spans_in r.table x) slots used (levels_below (IsRow t) r.table m.height m.done (root_of t) x m.stands.rows on))).0
+    c_row = (levels_here (IsRow t) r.table m.done (c ∷ []) (levels_slot (IsRow t) r.table m.done (spans_in r.table x) slots used (levels_below (IsRow t) r.table m.height m.done (root_of t) x m.at.stands.rows on))).0
 
     c_right : AreRight (IsMendedSlot m.index m.done slots) t m.done c
     c_right = (levels_here (AreRight (IsMendedSlot m.index m.done slots) t) r.table m.done (c ∷ [])
@@ -110,9 +108,9 @@ module _ (s s' : Sheet) (path : List PathStep) (kind : RowKind) (d slots : ℕ) 
     may_tend_it : (gap : ℕ) → MayTend s' (row_in x.word) (gap_column (slots_of r.table.width Gapped) slots) gap
     may_tend_it gap = record {
       at = record { first = (Names-named_kind x.word (kind_on true (suc m.done)) x_row.name.named).0.0; last = x_row.name.in_table; column = gap_within r.table.width slots slot_low };
-      live = ap (λ (v : Sheet). life_of v.lives (row_in x.word)) m.only ∙ x_kept.0;
-      kept = ap (λ (v : Sheet). is_buried v.buried (row_in x.word)) m.only ∙ x_kept.1;
-      column = inr (record { depth = d; at = x; slot = slots; reached = reached t m.height m.stands m.index d within' (let h = high in omega arith); gapped = x_row.name.named; number = refl; used = used; column = refl });
+      live = ap (λ (v : Sheet). life_of v.lives (row_in x.word)) m.at.only ∙ x_kept.0;
+      kept = ap (λ (v : Sheet). is_buried v.buried (row_in x.word)) m.at.only ∙ x_kept.1;
+      column = inr (record { depth = d; at = x; slot = slots; reached = reached t m.height m.at.stands m.index d within' (let h = high in omega arith); gapped = x_row.name.named; number = refl; used = used; column = refl });
       alive = λ none. absurd (let some = some_slots_of r.table.width Gapped in omega arith);
     }
 
@@ -122,7 +120,7 @@ module _ (s s' : Sheet) (path : List PathStep) (kind : RowKind) (d slots : ℕ) 
     pub may_mend_it : MayMend s' kind (at_slot (step_at path d)) (step_to c)
     may_mend_it = subst (λ (p : PathStep). MayMend s' kind (at_slot p) (step_to c)) (sym above_is) (record {
       place = record { first = (Names-named_kind c.word (kind_on true m.done) c_row.name.named).0.0; last = c_row.name.in_table; column = some_columns r.table.width };
-      tells = subst (λ (k : RowKind). MayTell k r.table (step_to c)) (sym m.kind_is) (may_same (kind_on true m.done) r.table c m.index (row_may_tell r m.done m.index c c_row c_low));
+      tells = subst (λ (k : RowKind). MayTell k r.table (step_to c)) (sym m.at.level.kind_is) (may_same (kind_on true m.done) r.table c m.index (row_may_tell r m.done m.index c c_row c_low));
       slot = slot_low;
       tend = may_tend_it;
     })
@@ -137,17 +135,11 @@ module _ (s s' : Sheet) (path : List PathStep) (kind : RowKind) (d slots : ℕ) 
       stored : s'' ≡ record s' { tree = r'; reads = s''.reads }
       stored = mended ∙ (λ i. record s' { tree = with_word r (above_is i).row (gap_column (slots_of r.table.width Gapped) slots) gap; reads = s''.reads })
 
-      tree_then : s''.tree ≡ r'
-      tree_then = ap (λ (v : Sheet). v.tree) stored
-
       gap_is : gap ≡ longest_below r.table m.done (c ∷ [])
       gap_is =
-          ap (λ (k : RowKind). told_by k r.table (step_to c)) m.kind_is
+          ap (λ (k : RowKind). told_by k r.table (step_to c)) m.at.level.kind_is
           ∙ (tells_same (kind_on true m.done) r.table c m.index
           ∙ child_tells r m.done m.index c c_row (law_of_right (IsMendedSlot m.index m.done slots) r m.done c c_right (λ i within. inr (inl (omega arith)))))
-
-      shared_then : Levels (Shared r.table r'.table) r.table m.height (root_of t)
-      shared_then = all_spans_stay r m.height m.done slots gap x whole.words m.stands on used
 
       more : (l : ℕ) (y : Span) (i : ℕ) → OnLevel r.table m.height (root_of t) l y → IsMendedSlot m.index m.done (slots + 1) l y i → IsMendedSlot m.index m.done slots l y i ⊎ ((y ≡ x) × (i ≡ slots))
       more l y i at (inl beside) = inl (inl beside)
@@ -164,46 +156,33 @@ module _ (s s' : Sheet) (path : List PathStep) (kind : RowKind) (d slots : ℕ) 
           before i other low = omega (arith, other)
 
       keeps : KeepsOtherWords s.tree r' path
-      keeps row col low = gap_stored s.tree r (row_in x.word) slots gap row col (IsGapIn s.tree path row col) width_same slot_low low (m.words row col low) (λ same_row same_col. record {
+      keeps row col low = gap_stored s.tree r (row_in x.word) slots gap row col (IsGapIn s.tree path row col) (width_same m.at) slot_low low (m.words row col low) (λ same_row same_col. record {
         level = d;
         slot = slots;
         above = above;
-        within = subst (λ (w : Width). slots < slots_of w Gapped) width_same slot_low;
+        within = subst (λ (w : Width). slots < slots_of w Gapped) (width_same m.at) slot_low;
         row_is = same_row ∙ sym (ap (λ (p : PathStep). p.row) above_is);
-        col_is = same_col ∙ ap (λ (w : Width). gap_column (slots_of w Gapped) slots) width_same;
+        col_is = same_col ∙ ap (λ (w : Width). gap_column (slots_of w Gapped) slots) (width_same m.at);
       })
-
-      root_of_s : root_of t ≡ root_of (tree_on true s.tree)
-      root_of_s = λ i. root_span (m.only i).tree.table (m.only i).tree.root ∷ []
 
       pub mended_one : HasMendedRows s s'' path kind (d + 2) (slots + 1)
       mended_one = record {
         index = m.index;
         height = m.height;
         done = m.done;
-        within = m.within;
-        low = m.low;
-        levels_are = m.levels_are;
-        kind_is = m.kind_is;
-        stood = m.stood;
-        stands = subst (λ (v : Rooted). Stands (tree_on true v) m.height) (sym tree_then) (still_stands r m.height m.done slots gap x whole.words m.stands on used);
-        steps = subst (λ (v : Rooted). path ≡ path_in v.table v.root m.index) (sym tree_then)
-            (m.steps ∙ sym (paths_shared t (tree_on true r') m.index deepest m.height (top_row t) m.stands.low (root_leads t m.height m.stands m.index within') shared_then));
-        right = subst (λ (v : Rooted). Levels (AreRight (IsMendedSlot m.index m.done (slots + 1)) (tree_on true v)) v.table m.height (root_of (tree_on true v))) (sym tree_then)
-            (right_then r m.height m.done slots gap x whole.words m.stands on used gap_is (IsMendedSlot m.index m.done slots) (IsMendedSlot m.index m.done (slots + 1)) m.right more);
-        only = only_next s s' s'' (row_in x.word) (gap_column (slots_of r.table.width Gapped) slots) gap m.only stored;
-        words = subst (λ (v : Rooted). KeepsOtherWords s.tree v path) (sym tree_then) keeps;
-        spans = subst (λ (v : Rooted). Levels (Shared s.tree.table v.table) s.tree.table m.height (root_of (tree_on true s.tree))) (sym tree_then)
-            (shared_twice s.tree.table r.table r'.table m.height (root_of (tree_on true s.tree)) m.spans (subst (Levels (Shared r.table r'.table) r.table m.height) root_of_s shared_then));
+        at = at_stored m.at whole x on slots gap used s'' stored;
+        right = subst (λ (v : Rooted). Levels (AreRight (IsMendedSlot m.index m.done (slots + 1)) (tree_on true v)) v.table m.height (root_of (tree_on true v))) (sym (ap (λ (v : Sheet). v.tree) stored))
+            (right_then r m.height m.done slots gap x whole.words m.at.stands on used gap_is (IsMendedSlot m.index m.done slots) (IsMendedSlot m.index m.done (slots + 1)) m.right more);
+        words = subst (λ (v : Rooted). KeepsOtherWords s.tree v path) (sym (ap (λ (v : Sheet). v.tree) stored)) keeps;
         kept = m.kept;
       }
 
       -- the row's items are those that were there
       pub items_stay : row_spans s''.tree.table (step_at path d).row Gapped (step_at path d).min (step_at path d).max ≡ row_spans s'.tree.table (step_at path d).row Gapped (step_at path d).min (step_at path d).max
       items_stay =
-          (λ i. row_spans (tree_then i).table (above_is i).row Gapped (above_is i).min (above_is i).max)
+          (λ i. row_spans (stored i).tree.table (above_is i).row Gapped (above_is i).min (above_is i).max)
           ∙ (sym (ap (λ k. spans_by r'.table k x) x_row.name.named)
-          ∙ (levels_at (Shared r.table r'.table) r.table m.height (suc m.done) (root_of t) x shared_then on
+          ∙ (levels_at (Shared r.table r'.table) r.table m.height (suc m.done) (root_of t) x (shared_then m.at whole x on slots gap used) on
           ∙ sym x_spans))
 
   -- ---- all its slots are mended
@@ -230,18 +209,10 @@ module _ (s s' : Sheet) (path : List PathStep) (kind : RowKind) (d slots : ℕ) 
     index = m.index;
     height = m.height;
     done = suc m.done;
-    within = m.within;
-    low = omega arith;
-    levels_are = (let levels = m.levels_are in omega arith);
-    kind_is = refl;
-    stood = m.stood;
-    stands = m.stands;
-    steps = m.steps;
+    at = one_up m.at d refl;
     right = levels_from (AreRight (IsMendedSlot m.index (suc m.done) 0) t) r.table m.height (root_of t) m.height 0 (omega arith)
         (λ l y low at i within is. levels_at (AreRight (IsMendedSlot m.index m.done slots) t) r.table m.height l (root_of t) y m.right at i within (all_of l y i all at within is));
-    only = m.only;
     words = m.words;
-    spans = m.spans;
     kept = m.kept;
   }
 
@@ -253,17 +224,9 @@ still_mended before s s' path kind left slots rest m = subst (λ (v : Sheet). Ha
   index = m.index;
   height = m.height;
   done = m.done;
-  within = m.within;
-  low = m.low;
-  levels_are = m.levels_are;
-  kind_is = m.kind_is;
-  stood = m.stood;
-  stands = m.stands;
-  steps = m.steps;
+  at = read_on m.at s'.reads;
   right = m.right;
-  only = ap (λ (v : Sheet). record v { reads = s'.reads }) m.only;
   words = m.words;
-  spans = m.spans;
   kept = m.kept;
 })
 
@@ -361,18 +324,10 @@ begin_gapped s s' path may root is = elim may.gaps [
     index = may.index;
     height = full.0;
     done = 0;
-    within = may.within;
-    low = omega arith;
-    levels_are = omega arith;
-    kind_is = refl;
-    stood = full.1;
-    stands = subst (λ (v : Sheet). Stands (tree_on true v.tree) full.0) (sym is) full.1;
-    steps = subst (λ (v : Sheet). path ≡ path_in v.tree.table v.tree.root may.index) (sym is) may.steps;
+    at = begun_at s s' path may.index full.0 full.1 is may.within (length path) many may.steps;
     right = subst (λ (v : Sheet). Levels (AreRight (IsMendedSlot may.index 0 0) (tree_on true v.tree)) v.tree.table full.0 (root_of (tree_on true v.tree))) (sym is)
         (levels_map (GapLawBeside may.index (tree_on true s.tree)) (AreRight (IsMendedSlot may.index 0 0) (tree_on true s.tree)) s.tree.table (λ l y law. begun_rows s.tree may.index l y law) full.0 (root_of (tree_on true s.tree)) full.2);
-    only = only_loaded s s' is;
     words = (λ row col low. inl (ap (λ (v : Sheet). word_at v.tree row col) is));
-    spans = subst (λ (v : Sheet). Levels (Shared s.tree.table v.tree.table) s.tree.table full.0 (root_of (tree_on true s.tree))) (sym is) (shared_self true s full.0 full.1);
     kept = may.kept;
   })
 ]
@@ -384,11 +339,11 @@ begin_rows true s s' path may root is = begin_gapped s s' path may root is
 pub end_rows : (gapped : Bool) (s s' : Sheet) (path : List PathStep) (k : RowKind) (left : ℕ) → MayMendGaps gapped s path → RootIs s Gapped → HasMendedRows s s' path k left 0 → left ≤ 1 → HasGaps (tree_on gapped s'.tree)
 end_rows false s s' path k left may root m last = absurd (no_plain s path may root)
 end_rows true s s' path k left may root m last =
-    let low = m.low in let levels = m.levels_are in
+    let low = m.at.level.low in let levels = m.at.level.levels_are in
     let all : m.done ≡ m.height = omega arith in
     inr (
       m.height,
-      m.stands,
+      m.at.stands,
       levels_from (GapLaw (tree_on true s'.tree)) s'.tree.table m.height (root_of (tree_on true s'.tree)) m.height 0 (omega arith)
           (λ l y below at. law_of_right (IsMendedSlot m.index m.done 0) s'.tree l y (levels_at (AreRight (IsMendedSlot m.index m.done 0) (tree_on true s'.tree)) s'.tree.table m.height l (root_of (tree_on true s'.tree)) y m.right at)
           (λ i within. inr (inl (omega arith)))),
@@ -396,10 +351,10 @@ end_rows true s s' path k left may root m last =
 
 pub end_row_spans : (gapped : Bool) (s s' : Sheet) (path : List PathStep) (k : RowKind) (left h : ℕ) → HasMendedRows s s' path k left 0 → Stands (tree_on gapped s.tree) h → Levels (Shared s.tree.table s'.tree.table) s.tree.table h (root_of (tree_on gapped s.tree))
 end_row_spans gapped s s' path k left h m stands =
-    let tall = height_by_depth (tree_on true s.tree) deepest m.height (root_span s.tree.table s.tree.root) m.stood.low m.stood.rows in
+    let tall = height_by_depth (tree_on true s.tree) deepest m.height (root_span s.tree.table s.tree.root) m.at.level.stood.low m.at.level.stood.rows in
     let tall' = height_by_depth (tree_on gapped s.tree) deepest h (root_span s.tree.table s.tree.root) stands.low stands.rows in
     let same : m.height ≡ h = omega arith in
-    subst (λ (n : ℕ). Levels (Shared s.tree.table s'.tree.table) s.tree.table n (root_of (tree_on gapped s.tree))) same m.spans
+    subst (λ (n : ℕ). Levels (Shared s.tree.table s'.tree.table) s.tree.table n (root_of (tree_on gapped s.tree))) same m.at.spans
 
 pub no_rows_to_mend : (gapped : Bool) (s s' : Sheet) (path : List PathStep) → MayMendGaps gapped s path → (RootIs s Gapped → ⊥) → s' ≡ loaded s → HasGaps (tree_on gapped s'.tree)
 no_rows_to_mend gapped s s' path may plain is = subst (λ (v : Sheet). HasGaps (tree_on gapped v.tree)) (sym is) (elim may.gaps [

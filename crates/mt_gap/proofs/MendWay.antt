@@ -1,48 +1,9 @@
 -- Gap words mended on the way to an index: what holds from one row to the next.
-use Rattle.mt_gap.proofs.Prelude.{◌≡◌, ◌≢◌, ℕ, zero, suc, ◌+◌, ◌-◌, ◌*◌, ◌^◌, ◌<◌, ◌≤◌, ◌==◌, List, [], ◌∷◌, Bool, true, false, Some, length, refl, sym, ap, ◌∙◌, subst, ⊎_elim, inl, inr, arith, append-nil, get_or-set_other, ◌⊎◌, slice_index, slice_set, AllByRecursion, flat_map, cases_Bool, cases_eq, Width, columns, deepest, greatest, first_row, greatest_fits, RowKind, Leaf, Gapped, Span, gap_column, row_in, named_kind, slots_of, Fills, leaf_range, longest_in, Names-named_kind, same_place, some_columns, some_slots_of, gap_within, fills_le, PathStep, step_in, slot_for, step_at, span_at, path_in, path_of, below, Leads, path_of_leaf, path_of_inner, row_here, child_at, child_leads, top_row, row_of, step_of, levels, step, place, lawful, reached, root_leads, HasGaps, Tree, IsRow, Stands, GapLaw, kind_on, longest_below, top_of, expand, Levels, SameSpans, times, is_row_of, tree_on, LiveAreReached, NoneBuried, root_of, Rooted, Sheet, MayTend, IsWhole, life_of, is_buried, with_word, word_at, loaded, Table, base_of, root_span, spans_in, spans_by, row_spans, row_most, all_spans_stay, still_stands, height_by_depth, inner_no_leaf, levels_here, levels_map, Shared, expand_shared, levels_front, levels_back, times_shared, OnLevel, on_level_reached, times_reached, reached_number, Live, told_by, IsGapOn, KeepsWordsBut, OnlyWords, IsWay, MayTell, MayMend, IsMended}
+use Rattle.mt_gap.proofs.Prelude.{◌≡◌, ◌≢◌, ℕ, zero, suc, ◌+◌, ◌-◌, ◌*◌, ◌^◌, ◌<◌, ◌≤◌, ◌==◌, List, [], ◌∷◌, Bool, true, false, Some, length, refl, sym, ap, ◌∙◌, subst, ⊎_elim, inl, inr, arith, get_or-set_other, ◌⊎◌, slice_index, slice_set, AllByRecursion, flat_map, cases_Bool, cases_eq, Width, columns, deepest, greatest, first_row, greatest_fits, RowKind, Leaf, Gapped, Span, gap_column, row_in, named_kind, slots_of, Fills, leaf_range, longest_in, Names-named_kind, same_place, some_columns, some_slots_of, gap_within, fills_le, PathStep, step_in, slot_for, step_at, path_in, row_of, step_of, levels, step, place, lawful, reached, HasGaps, Tree, IsRow, Stands, GapLaw, kind_on, longest_below, top_of, Levels, times, is_row_of, tree_on, LiveAreReached, NoneBuried, root_of, Rooted, Sheet, MayTend, IsWhole, life_of, is_buried, with_word, word_at, loaded, root_span, spans_in, spans_by, row_spans, row_most, height_by_depth, levels_here, levels_map, Shared, times_shared, OnLevel, on_level_reached, times_reached, reached_number, Live, told_by, IsGapOn, KeepsWordsBut, OnlyWords, IsWay, MayTell, MayMend, IsMended}
 use Rattle.mt_gap.proofs.Mending.{IsMendedUpTo, on, is_step, is_used, told, mended_next, begun_mending, all_mended}
 use Rattle.mt_gap.proofs.GapWords.{tells_all}
-
--- ---- paths by two tables that share their spans
-
-module _ (t t' : Tree) (index : ℕ) where
-  below_shared : (x : Span) (k : ℕ) → Leads t (suc k) x index → Levels (Shared t.table t'.table) t.table k (spans_in t.table x) → Levels (Shared t.table t'.table) t.table k (below t.table x index ∷ [])
-  below_shared x k leads rows =
-      let at = child_at t (suc k) x index leads in
-      levels_front (Shared t.table t'.table) t.table k (below t.table x index ∷ []) at.back
-      (levels_back (Shared t.table t'.table) t.table k at.front (below t.table x index ∷ at.back) (subst (Levels (Shared t.table t'.table) t.table k) at.parts rows))
-
-  pub paths_shared : (depth k : ℕ) (x : Span) → k < depth → Leads t k x index → Levels (Shared t.table t'.table) t.table k (x ∷ []) → path_of t'.table depth x index ≡ path_of t.table depth x index
-  paths_shared zero k x deep leads rows = absurd (omega arith)
-  paths_shared (suc depth) zero x deep leads rows =
-      let named = (row_here t zero x index leads).name.named in
-      path_of_leaf t'.table depth x index named
-      ∙ (ap (λ (l : List Span). record { row = row_in x.word; slot = slot_for l index; min = x.first; max = x.last } ∷ []) rows.0 ∙ sym (path_of_leaf t.table depth x index named))
-  paths_shared (suc depth) (suc k) x deep leads rows =
-      let named = (row_here t (suc k) x index leads).name.named in
-      let below_same : below t'.table x index ≡ below t.table x index = ap (λ (l : List Span). span_at l (slot_for l index)) rows.0.0 in
-      path_of_inner t'.table depth x index (kind_on t.gapped (suc k)) named (inner_no_leaf t.gapped)
-      ∙ ((λ i. record { row = row_in x.word; slot = slot_for (rows.0.0 i) index; min = x.first; max = x.last } ∷ path_of t'.table depth (below_same i) index)
-      ∙ (ap (λ (l : List PathStep). step_in t.table x index ∷ l)
-      (paths_shared depth k (below t.table x index) (omega arith) (child_leads t k x index leads) (below_shared x k leads (subst (Levels (Shared t.table t'.table) t.table k) (append-nil (spans_in t.table x)) rows.1)))
-      ∙ sym (path_of_inner t.table depth x index (kind_on t.gapped (suc k)) named (inner_no_leaf t.gapped))))
-
--- ---- two stores one after the other
-
-both_shared : (t t' t'' : Table) (xs : List Span) → AllByRecursion (SameSpans t t') xs → AllByRecursion (SameSpans t' t'') xs → AllByRecursion (SameSpans t t'') xs
-both_shared t t' t'' [] first second = tt
-both_shared t t' t'' (x ∷ xs) first second = (second.0 ∙ first.0, both_shared t t' t'' xs first.1 second.1)
-
-pub shared_twice : (t t' t'' : Table) (h : ℕ) (xs : List Span) → Levels (Shared t t') t h xs → Levels (Shared t' t'') t' h xs → Levels (Shared t t'') t h xs
-shared_twice t t' t'' zero xs first second = both_shared t t' t'' xs first second
-shared_twice t t' t'' (suc h) xs first second = (both_shared t t' t'' xs first.0 second.0, shared_twice t t' t'' h (expand t xs) first.1 (subst (Levels (Shared t' t'') t' h) (expand_shared t t' xs first.0) second.1))
-
-pub only_next : (s s' s'' : Sheet) (row col word : ℕ) → OnlyWords s s' → s'' ≡ record s' { tree = with_word s'.tree row col word; reads = s''.reads } → OnlyWords s s''
-only_next s s' s'' row col word only stored =
-    let words = slice_set s'.tree.table.words (base_of s'.tree.table row + col) word in
-    stored
-    ∙ ((λ i. record (only i) { tree = record { rows = (only i).tree.rows; table = record { width = (only i).tree.table.width; words = words }; root = (only i).tree.root }; reads = s''.reads })
-    ∙ ap (λ (ws : List ℕ). record s { tree = record { rows = s.tree.rows; table = record { width = s.tree.table.width; words = ws }; root = s.tree.root }; reads = s''.reads }) (sym (ap (λ (r : Sheet). r.tree.table.words) stored)))
+use Rattle.mt_gap.specs.Mended.{IsAtLevel}
+use Rattle.mt_gap.proofs.AtLevel.{width_same, within_then, one_up, at_stored}
 
 pub other_word : (width : Width) (words : List ℕ) (row col arow acol word : ℕ) → col < columns width → acol < columns width → (row ≡ arow → col ≡ acol → ⊥)
     → slice_index (slice_set words (columns width * arow + acol) word) (columns width * row + col) ≡ slice_index words (columns width * row + col)
@@ -104,17 +65,9 @@ pub record HasMended (s s' : Sheet) (path : List PathStep) (kind : RowKind) (lev
   pub index : ℕ
   pub height : ℕ
   pub done : ℕ
-  pub within : index ≤ greatest s.tree.table.width
-  pub low : 1 ≤ level
-  pub levels_are : done + level ≡ height + 1
-  pub kind_is : kind ≡ kind_on true done
-  pub stood : Stands (tree_on true s.tree) height
-  pub stands : Stands (tree_on true s'.tree) height
-  pub steps : path ≡ path_in s'.tree.table s'.tree.root index
+  pub at : IsAtLevel s s' path kind level index height done
   pub mended : Levels (IsMendedUpTo index done (tree_on true s'.tree)) s'.tree.table height (root_of (tree_on true s'.tree))
-  pub only : OnlyWords s s'
   pub words : KeepsWordsBut s.tree s'.tree path
-  pub spans : Levels (Shared s.tree.table s'.tree.table) s.tree.table height (root_of (tree_on true s.tree))
   pub live : LiveAreReached s.tree s.lives
   pub none_buried : NoneBuried s.tree.rows s.buried
 
@@ -137,64 +90,61 @@ module _ (s s' : Sheet) (path : List PathStep) (kind : RowKind) (d : ℕ) (m : H
   abbrev low_step : PathStep
   low_step = step_at path (d + 1)
 
-  width_same : s'.tree.table.width ≡ s.tree.table.width
-  width_same = ap (λ (v : Sheet). v.tree.table.width) m.only
-
   within' : m.index ≤ top_of t
-  within' = subst (λ (w : Width). m.index ≤ greatest w) (sym width_same) m.within
+  within' = within_then m.at
 
   high : m.height ≡ d + suc m.done
-  high = let levels = m.levels_are in omega arith
+  high = let levels = m.at.level.levels_are in omega arith
 
   above_is : step_at path d ≡ step_in r.table x m.index
-  above_is = ap (λ (l : List PathStep). step_at l d) m.steps ∙ is_step r m.height whole.words m.stands m.index d m.done within' high
+  above_is = ap (λ (l : List PathStep). step_at l d) m.at.steps ∙ is_step r m.height whole.words m.at.stands m.index d m.done within' high
 
   low_is : step_at path (d + 1) ≡ step_in r.table y m.index
   low_is =
       let at : d + 1 ≡ suc d = omega arith in
-      ap (λ (l : List PathStep). step_at l (d + 1)) m.steps ∙ (ap (λ (n : ℕ). step_of t n m.index) at ∙ step t m.height m.stands m.index (suc d) within' (let h = high in omega arith))
+      ap (λ (l : List PathStep). step_at l (d + 1)) m.at.steps ∙ (ap (λ (n : ℕ). step_of t n m.index) at ∙ step t m.height m.at.stands m.index (suc d) within' (let h = high in omega arith))
 
   y_row : IsRow t m.done y
-  y_row = lawful t m.height m.stands m.index (suc d) m.done within' (let h = high in omega arith)
+  y_row = lawful t m.height m.at.stands m.index (suc d) m.done within' (let h = high in omega arith)
 
   x_row : IsRow t (suc m.done) x
-  x_row = lawful t m.height m.stands m.index d (suc m.done) within' high
+  x_row = lawful t m.height m.at.stands m.index d (suc m.done) within' high
 
   y_low : y.last ≤ top_of t
-  y_low = let at = place t m.height m.stands m.index (suc d) within' (let h = high in omega arith) in let end = fills_le (y.last + 1) (top_of t + 1) at.back at.after in omega arith
+  y_low = let at = place t m.height m.at.stands m.index (suc d) within' (let h = high in omega arith) in let end = fills_le (y.last + 1) (top_of t + 1) at.back at.after in omega arith
 
   abbrev slot : ℕ
   slot = slot_for (spans_in r.table x) m.index
 
   used : slot < length (spans_in r.table x)
-  used = is_used r m.height whole.words m.stands m.index d m.done within' high
+  used = is_used r m.height whole.words m.at.stands m.index d m.done within' high
 
   slot_low : slot < slots_of r.table.width Gapped
   slot_low = let few = row_most x_row.name in let u = used in omega arith
 
   x_live : life_of s'.lives (row_in x.word) ≡ Live
   x_live =
-      let times' = on_level_reached t m.height m.stands (suc m.done) x (on r m.height whole.words m.stands m.index d m.done within' high) in
-      let same = times_shared (is_row_of (row_in x.word)) s.tree.table s'.tree.table m.height (root_of (tree_on true s.tree)) m.spans in
-      let root_same : root_of t ≡ root_of (tree_on true s.tree) = (λ i. root_span (m.only i).tree.table (m.only i).tree.root ∷ []) in
+      let times' = on_level_reached t m.height m.at.stands (suc m.done) x (on r m.height whole.words m.at.stands m.index d m.done within' high) in
+      let same = times_shared (is_row_of (row_in x.word)) s.tree.table s'.tree.table m.height (root_of (tree_on true s.tree)) m.at.spans in
+      let root_same : root_of t ≡ root_of (tree_on true s.tree) = (λ i. root_span (m.at.only i).tree.table (m.at.only i).tree.root ∷ []) in
       let times₀ : 1 ≤ times (is_row_of (row_in x.word)) s.tree.table m.height (root_of (tree_on true s.tree)) =
       subst (λ (n : ℕ). 1 ≤ n) (ap (times (is_row_of (row_in x.word)) s'.tree.table m.height) root_same ∙ same) times' in
-      let number = reached_number (tree_on true s.tree) m.height m.stood (row_in x.word) times₀ in
-      ap (λ (v : Sheet). life_of v.lives (row_in x.word)) m.only
-      ∙ (m.live (row_in x.word) number.0 number.1).1 (times_reached (tree_on true s.tree) m.height m.stood (row_in x.word) times₀)
+      let number = reached_number (tree_on true s.tree) m.height m.at.level.stood (row_in x.word) times₀ in
+      ap (λ (v : Sheet). life_of v.lives (row_in x.word)) m.at.only
+      ∙ (m.live (row_in x.word) number.0 number.1).1 (times_reached (tree_on true s.tree) m.height m.at.level.stood (row_in x.word) times₀)
 
   x_kept : is_buried s'.buried (row_in x.word) ≡ false
   x_kept =
-      ap (λ (v : Sheet). is_buried v.buried (row_in x.word)) m.only
+      ap (λ (v : Sheet). is_buried v.buried (row_in x.word)) m.at.only
       ∙ m.none_buried (row_in x.word) (Names-named_kind x.word (kind_on true (suc m.done)) x_row.name.named).0.0
-      (subst (λ (n : ℕ). row_in x.word < first_row + n) (ap (λ (v : Sheet). v.tree.rows) m.only) x_row.name.in_table)
+      (subst (λ (n : ℕ). row_in x.word < first_row + n) (ap (λ (v : Sheet). v.tree.rows) m.at.only) x_row.name.in_table)
 
   may_tend_it : (gap : ℕ) → MayTend s' (row_in x.word) (gap_column (slots_of r.table.width Gapped) slot) gap
   may_tend_it gap = record {
     at = record { first = (Names-named_kind x.word (kind_on true (suc m.done)) x_row.name.named).0.0; last = x_row.name.in_table; column = gap_within r.table.width slot slot_low };
     live = x_live;
     kept = x_kept;
-    column = inr (record { depth = d; at = x; slot = slot; reached = reached t m.height m.stands m.index d within' (let h = high in omega arith); gapped = x_row.name.named; number = refl; used = used; column = refl });
+    column = inr (record { depth = d; at = x; slot = slot; reached = reached t m.height m.at.stands m.index d within' (let h = high in omega arith); gapped = x_row.name.named; number = refl; used = used; column = refl });
     alive = λ none. absurd (let some = some_slots_of r.table.width Gapped in omega arith);
   }
 
@@ -202,7 +152,7 @@ module _ (s s' : Sheet) (path : List PathStep) (kind : RowKind) (d : ℕ) (m : H
   may_mend =
       subst (λ (p : PathStep × PathStep). MayMend s' kind p.0 p.1) (λ i. (sym above_is i, sym low_is i)) (record {
         place = record { first = (Names-named_kind y.word (kind_on true m.done) y_row.name.named).0.0; last = y_row.name.in_table; column = some_columns r.table.width };
-        tells = subst (λ (k : RowKind). MayTell k r.table (step_in r.table y m.index)) (sym m.kind_is) (row_may_tell r m.done m.index y y_row y_low);
+        tells = subst (λ (k : RowKind). MayTell k r.table (step_in r.table y m.index)) (sym m.at.level.kind_is) (row_may_tell r m.done m.index y y_row y_low);
         slot = slot_low;
         tend = may_tend_it;
       })
@@ -211,58 +161,39 @@ module _ (s s' : Sheet) (path : List PathStep) (kind : RowKind) (d : ℕ) (m : H
     abbrev gap : ℕ
     gap = told_by kind r.table (step_at path (d + 1))
 
+    gap_is : gap ≡ longest_below r.table m.done (y ∷ [])
+    gap_is =
+        let at : d + 1 ≡ suc d = omega arith in
+        ap (λ (k : RowKind). told_by k r.table (step_at path (d + 1))) m.at.level.kind_is
+        ∙ (ap (told_by (kind_on true m.done) r.table) (ap (λ (l : List PathStep). step_at l (d + 1)) m.at.steps ∙ ap (λ (n : ℕ). step_of t n m.index) at)
+        ∙ told r m.height whole.words m.at.stands m.index d m.done within' high m.mended)
+
+    at_row : OnLevel r.table m.height (root_of t) (suc m.done) x
+    at_row = on r m.height whole.words m.at.stands m.index d m.done within' high
+
     abbrev r' : Rooted
     r' = with_word r (row_in x.word) (gap_column (slots_of r.table.width Gapped) slot) gap
 
     stored : s'' ≡ record s' { tree = r'; reads = s''.reads }
     stored = mended ∙ (λ i. record s' { tree = with_word r (above_is i).row (gap_column (slots_of r.table.width Gapped) (above_is i).slot) gap; reads = s''.reads })
 
-    tree_then : s''.tree ≡ r'
-    tree_then = ap (λ (v : Sheet). v.tree) stored
-
-    gap_is : gap ≡ longest_below r.table m.done (y ∷ [])
-    gap_is =
-        let at : d + 1 ≡ suc d = omega arith in
-        ap (λ (k : RowKind). told_by k r.table (step_at path (d + 1))) m.kind_is
-        ∙ (ap (told_by (kind_on true m.done) r.table) (ap (λ (l : List PathStep). step_at l (d + 1)) m.steps ∙ ap (λ (n : ℕ). step_of t n m.index) at)
-        ∙ told r m.height whole.words m.stands m.index d m.done within' high m.mended)
-
-    at_row : OnLevel r.table m.height (root_of t) (suc m.done) x
-    at_row = on r m.height whole.words m.stands m.index d m.done within' high
-
-    shared_then : Levels (Shared r.table r'.table) r.table m.height (root_of t)
-    shared_then = all_spans_stay r m.height m.done slot gap x whole.words m.stands at_row used
-
     keeps : KeepsWordsBut s.tree r' path
-    keeps row col low = gap_stored s.tree r (row_in x.word) slot gap row col (IsGapOn s.tree path row col) width_same slot_low low (m.words row col low) (λ same_row same_col. record {
+    keeps row col low = gap_stored s.tree r (row_in x.word) slot gap row col (IsGapOn s.tree path row col) (width_same m.at) slot_low low (m.words row col low) (λ same_row same_col. record {
       level = d;
-      above = (let many = ap length m.steps ∙ levels t m.height m.stands m.index within' in let h = high in omega arith);
+      above = (let many = ap length m.at.steps ∙ levels t m.height m.at.stands m.index within' in let h = high in omega arith);
       row_is = same_row ∙ sym (ap (λ (p : PathStep). p.row) above_is);
-      col_is = same_col ∙ (λ i. gap_column (slots_of (width_same i) Gapped) (sym above_is i).slot);
+      col_is = same_col ∙ (λ i. gap_column (slots_of (width_same m.at i) Gapped) (sym above_is i).slot);
     })
-
-    root_of_s : root_of t ≡ root_of (tree_on true s.tree)
-    root_of_s = λ i. root_span (m.only i).tree.table (m.only i).tree.root ∷ []
 
     pub mended_one : HasMended s s'' path Gapped (d + 1)
     mended_one = record {
       index = m.index;
       height = m.height;
       done = suc m.done;
-      within = m.within;
-      low = omega arith;
-      levels_are = (let levels = m.levels_are in omega arith);
-      kind_is = refl;
-      stood = m.stood;
-      stands = subst (λ (v : Rooted). Stands (tree_on true v) m.height) (sym tree_then) (still_stands r m.height m.done slot gap x whole.words m.stands at_row used);
-      steps = subst (λ (v : Rooted). path ≡ path_in v.table v.root m.index) (sym tree_then)
-          (m.steps ∙ sym (paths_shared t (tree_on true r') m.index deepest m.height (top_row t) m.stands.low (root_leads t m.height m.stands m.index within') shared_then));
-      mended = subst (λ (v : Rooted). Levels (IsMendedUpTo m.index (suc m.done) (tree_on true v)) v.table m.height (root_of (tree_on true v))) (sym tree_then)
-          (mended_next r m.height whole.words m.stands m.index d m.done within' high m.mended gap gap_is);
-      only = only_next s s' s'' (row_in x.word) (gap_column (slots_of r.table.width Gapped) slot) gap m.only stored;
-      words = subst (λ (v : Rooted). KeepsWordsBut s.tree v path) (sym tree_then) keeps;
-      spans = subst (λ (v : Rooted). Levels (Shared s.tree.table v.table) s.tree.table m.height (root_of (tree_on true s.tree))) (sym tree_then)
-          (shared_twice s.tree.table r.table r'.table m.height (root_of (tree_on true s.tree)) m.spans (subst (Levels (Shared r.table r'.table) r.table m.height) root_of_s shared_then));
+      at = one_up (at_stored m.at whole x at_row slot gap used s'' stored) d refl;
+      mended = subst (λ (v : Rooted). Levels (IsMendedUpTo m.index (suc m.done) (tree_on true v)) v.table m.height (root_of (tree_on true v))) (sym (ap (λ (v : Sheet). v.tree) stored))
+          (mended_next r m.height whole.words m.at.stands m.index d m.done within' high m.mended gap gap_is);
+      words = subst (λ (v : Rooted). KeepsWordsBut s.tree v path) (sym (ap (λ (v : Sheet). v.tree) stored)) keeps;
       live = m.live;
       none_buried = m.none_buried;
     }
@@ -297,6 +228,17 @@ shared_self gapped s h stands = levels_map (IsRow (tree_on gapped s.tree)) (Shar
 pub spans_loaded : (s s' : Sheet) (gapped : Bool) (h : ℕ) → s' ≡ loaded s → Stands (tree_on gapped s.tree) h → Levels (Shared s.tree.table s'.tree.table) s.tree.table h (root_of (tree_on gapped s.tree))
 spans_loaded s s' gapped h is stands = subst (λ (v : Sheet). Levels (Shared s.tree.table v.tree.table) s.tree.table h (root_of (tree_on gapped s.tree))) (sym is) (shared_self gapped s h stands)
 
+-- before the first row nothing is stored
+pub begun_at : (s s' : Sheet) (path : List PathStep) (index height : ℕ) → Stands (tree_on true s.tree) height → s' ≡ loaded s → index ≤ greatest s.tree.table.width → (left : ℕ) → left ≡ height + 1 → path ≡ path_in s.tree.table s.tree.root index
+    → IsAtLevel s s' path Leaf left index height 0
+begun_at s s' path index height stands is within left all steps = record {
+  level = record { within = within; low = omega (arith, all); levels_are = omega (arith, all); kind_is = refl; stood = stands };
+  stands = subst (λ (v : Sheet). Stands (tree_on true v.tree) height) (sym is) stands;
+  steps = subst (λ (v : Sheet). path ≡ path_in v.tree.table v.tree.root index) (sym is) steps;
+  only = only_loaded s s' is;
+  spans = spans_loaded s s' true height is stands;
+}
+
 begin_gapped : (s s' : Sheet) (path : List PathStep) (leaf : ℕ) (way : IsWay true s path leaf) → RootIs s Gapped → s' ≡ loaded s → HasMended s s' (path_in s.tree.table s.tree.root way.index) Leaf (length path)
 begin_gapped s s' path leaf way root is = elim way.gaps [
   | inl empty ↦ absurd (no_root s empty root)
@@ -304,18 +246,10 @@ begin_gapped s s' path leaf way root is = elim way.gaps [
     index = way.index;
     height = full.0;
     done = 0;
-    within = way.within;
-    low = omega arith;
-    levels_are = omega arith;
-    kind_is = refl;
-    stood = full.1;
-    stands = subst (λ (v : Sheet). Stands (tree_on true v.tree) full.0) (sym is) full.1;
-    steps = subst (λ (v : Sheet). path_in s.tree.table s.tree.root way.index ≡ path_in v.tree.table v.tree.root way.index) (sym is) refl;
+    at = begun_at s s' (path_in s.tree.table s.tree.root way.index) way.index full.0 full.1 is way.within (length path) (omega arith) refl;
     mended = subst (λ (v : Sheet). Levels (IsMendedUpTo way.index 0 (tree_on true v.tree)) v.tree.table full.0 (root_of (tree_on true v.tree))) (sym is)
         (begun_mending way.is_new way.index full.0 (tree_on true s.tree) full.2);
-    only = only_loaded s s' is;
     words = words_loaded s s' (path_in s.tree.table s.tree.root way.index) is;
-    spans = spans_loaded s s' true full.0 is full.1;
     live = way.live;
     none_buried = way.none_buried;
   })
@@ -340,16 +274,16 @@ two_levels true s path leaf way root = elim way.gaps [
 pub end_way : (gapped : Bool) (s s' : Sheet) (path : List PathStep) (leaf : ℕ) (steps : List PathStep) (k : RowKind) (level : ℕ) → IsWay gapped s path leaf → RootIs s Gapped → HasMended s s' steps k level → level ≤ 1 → HasGaps (tree_on gapped s'.tree)
 end_way false s s' path leaf steps k level way root m last = absurd (no_plain s path leaf way root)
 end_way true s s' path leaf steps k level way root m last =
-    let low = m.low in let levels = m.levels_are in
+    let low = m.at.level.low in let levels = m.at.level.levels_are in
     let all : m.done ≡ m.height = omega arith in
-    all_mended s'.tree m.index m.height m.stands (subst (λ (n : ℕ). Levels (IsMendedUpTo m.index n (tree_on true s'.tree)) s'.tree.table m.height (root_of (tree_on true s'.tree))) all m.mended)
+    all_mended s'.tree m.index m.height m.at.stands (subst (λ (n : ℕ). Levels (IsMendedUpTo m.index n (tree_on true s'.tree)) s'.tree.table m.height (root_of (tree_on true s'.tree))) all m.mended)
 
 pub end_spans : (gapped : Bool) (s s' : Sheet) (path : List PathStep) (k : RowKind) (level h : ℕ) → HasMended s s' path k level → Stands (tree_on gapped s.tree) h → Levels (Shared s.tree.table s'.tree.table) s.tree.table h (root_of (tree_on gapped s.tree))
 end_spans gapped s s' path k level h m stands =
-    let tall = height_by_depth (tree_on true s.tree) deepest m.height (root_span s.tree.table s.tree.root) m.stood.low m.stood.rows in
+    let tall = height_by_depth (tree_on true s.tree) deepest m.height (root_span s.tree.table s.tree.root) m.at.level.stood.low m.at.level.stood.rows in
     let tall' = height_by_depth (tree_on gapped s.tree) deepest h (root_span s.tree.table s.tree.root) stands.low stands.rows in
     let same : m.height ≡ h = omega arith in
-    subst (λ (n : ℕ). Levels (Shared s.tree.table s'.tree.table) s.tree.table n (root_of (tree_on gapped s.tree))) same m.spans
+    subst (λ (n : ℕ). Levels (Shared s.tree.table s'.tree.table) s.tree.table n (root_of (tree_on gapped s.tree))) same m.at.spans
 
 -- where the root has no gaps there is nothing to be mended
 pub plain_row : (s : Sheet) (h : ℕ) (x : Span) → GapLaw (tree_on false s.tree) h x
@@ -372,9 +306,8 @@ nothing_to_mend gapped s s' path leaf way plain is = subst (λ (v : Sheet). HasG
 module _ (s s' : Sheet) (path : List PathStep) (kind : RowKind) (level : ℕ) (m : HasMended s s' path kind level) where
   pub level_low : level ≤ length path
   level_low =
-      let width : s'.tree.table.width ≡ s.tree.table.width = ap (λ (v : Sheet). v.tree.table.width) m.only in
-      let many = ap length m.steps ∙ levels (tree_on true s'.tree) m.height m.stands m.index (subst (λ (w : Width). m.index ≤ greatest w) (sym width) m.within) in
-      let levels = m.levels_are in
+      let many = ap length m.at.steps ∙ levels (tree_on true s'.tree) m.height m.at.stands m.index (within_then m.at) in
+      let levels = m.at.level.levels_are in
       omega arith
 
   module _ (more : 2 ≤ level) where

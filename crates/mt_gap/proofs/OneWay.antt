@@ -1,5 +1,5 @@
 -- A search that goes into one row in each level: what it has seen of a row, and how far it has come.
-use Rattle.mt_gap.proofs.Prelude.{◌≡◌, ◌≢◌, ℕ, zero, suc, ◌+◌, ◌-◌, ◌*◌, ◌<◌, ◌≤◌, ◌⊎◌, List, [], ◌∷◌, ◌++◌, Bool, true, false, Option, Some, None, length, max, min, nat_le, take, refl, sym, ap, ◌∙◌, subst, inl, inr, arith, append_assoc, append-nil, length-append, AllByRecursion, flat_map, cases_Bool, leb-true, leb-false, take_more, Kind, Hole, clip, kept, lowest_in, highest_in, columns, deepest, greatest, RowKind, Leaf, Gapped, Span, row_in, named_kind, Fills, one_row_more, Tree, IsRow, Stands, top_of, tree_on, IsTreeOf, Rooted, Sheet, ReadsUpTo, loaded, root_span, spans_in, height_in, height_by_depth, levels_here, Handle, PathStep, handle_in, path_in, step_at, no_step, row_on, below, slot_for, span_at, step_in, EntersLeaf, tree_kept, no_reads, one_read, reads_more, reads_up, at_slot, at_parts, at_once, at_within, At, row_next, row_of, levels, step, row_on_top, some_root, Child, Below, Side, Window, leaf_hole, child_hole, children_in, children_by, children_below, row_children, root_child, IsGapped, MayLoad, picked, AreLeaves, may_have, inside, narrow, narrow_up, next_up, has_sure, into_one_more, with_room, with_room_up, asked_for, pick_for, sought_in, sought_to, StandsInSlot, AreAsked, IsSearchedBelow, IsWayTo, EndsInLeaf, IsAreaAt}
+use Rattle.mt_gap.proofs.Prelude.{◌≡◌, ◌≢◌, ℕ, zero, suc, ◌+◌, ◌-◌, ◌*◌, ◌<◌, ◌≤◌, ◌⊎◌, List, [], ◌∷◌, ◌++◌, Bool, true, false, Option, Some, None, length, max, min, take, refl, sym, ap, ◌∙◌, subst, inl, inr, arith, append_assoc, append-nil, length-append, AllByRecursion, flat_map, cases_Bool, take_more, Kind, Hole, clip, kept, lowest_in, highest_in, columns, deepest, greatest, RowKind, Leaf, Gapped, Span, row_in, named_kind, Fills, one_row_more, Tree, IsRow, Stands, top_of, tree_on, IsTreeOf, Rooted, Sheet, ReadsUpTo, loaded, root_span, spans_in, height_in, height_by_depth, levels_here, Handle, PathStep, handle_in, path_in, step_at, no_step, row_on, below, slot_for, span_at, step_in, EntersLeaf, tree_kept, no_reads, one_read, reads_more, reads_up, at_slot, at_parts, at_once, at_within, At, row_next, row_of, levels, step, row_on_top, some_root, Child, Below, Side, Window, leaf_hole, child_hole, children_in, children_by, children_below, row_children, root_child, IsGapped, MayLoad, picked, AreLeaves, may_have, inside, narrow, narrow_up, next_up, has_sure, into_one_more, with_room, with_room_up, asked_for, pick_for, sought_in, sought_to, StandsInSlot, AreAsked, IsSearchedBelow, IsWayTo, EndsInLeaf, IsAreaAt}
 use Rattle.mt_path.proofs.Places as places
 use Rattle.mt_gap.specs.declared.ways.Below.TheVariants as below_row
 use Rattle.mt_gap.specs.declared.ways.Side.TheVariants as sides
@@ -7,7 +7,7 @@ use Rattle.mt_gap.proofs.Asking.{ask_on, ask_stops, one_asked, up-append}
 use Rattle.mt_gap.proofs.HolesBelow.{holes_below}
 use Rattle.mt_gap.proofs.ChildLists.{spans, spans-append, spans_of_row, holes_of_children}
 use Rattle.mt_gap.proofs.Descents.{Asks, asks_root, come_root, gapped_words, high_empty, high_in_tree, high_next, low_empty, low_in_tree, low_next, leaves_have, row_may_load}
-use Rattle.mt_gap.proofs.Kept.{Between, leaf_between, holes_between, lowest_between}
+use Rattle.mt_gap.proofs.Kept.{Between, kept_either, leaf_between, holes_between, lowest_between}
 use Rattle.mt_gap.proofs.NarrowedUp.{highest_more}
 
 -- ---- in a row
@@ -266,6 +266,12 @@ module _ (side : Side) (s s' : Sheet) (w : Window) (size : 1 ≤ w.size) (tree :
       let low = level_in in
       reads_up (columns s.tree.table.width * level) (height_in s.tree.table s.tree.root * columns s.tree.table.width) s s' (times (columns s.tree.table.width) level (height_in s.tree.table s.tree.root) (omega arith)) goes.reads
 
+  -- above a leaf there are fewer rows than levels
+  pub reads_above : ReadsUpTo ((height_in s.tree.table s.tree.root - 1) * columns s.tree.table.width) s s'
+  reads_above =
+      let low = level_in in
+      reads_up (columns s.tree.table.width * level) ((height_in s.tree.table s.tree.root - 1) * columns s.tree.table.width) s s' (times (columns s.tree.table.width) level (height_in s.tree.table s.tree.root - 1) (omega (arith, low))) goes.reads
+
   -- a row without gaps is a leaf
   pub ends_in_leaf : named_kind x.word ≢ Some Gapped → EndsInLeaf side s.tree w path x
   ends_in_leaf other =
@@ -354,21 +360,11 @@ highest_between : (n lo hi a b start : ℕ) (xs : List Hole) → 1 ≤ n → All
 highest_between n lo hi a b start [] some each is = absurd (cc)
 highest_between n lo hi a b start (x ∷ xs) some each is =
     let begins = each.0.0 in let ends = each.0.2 in
-    elim (cases_Bool (nat_le (max lo x.first + n) (min hi x.last + 1))) [
-      | inl whole ↦ (
-          let room = leb-true (max lo x.first + n) (min hi x.last + 1) whole in
-          let first : kept n lo hi (x ∷ xs) ≡ clip lo hi x ∷ kept n lo hi xs = (rw whole refl) in
-          by_rest (kept n lo hi xs)
-          (λ none.
-          let one : kept n lo hi (x ∷ xs) ≡ clip lo hi x ∷ [] = first ∙ ap (λ (l : List Hole). clip lo hi x ∷ l) none in
-          let here : Some (min hi x.last + 1 - n) ≡ Some start = ap (highest_in n) (sym one) ∙ is in
-          let same : min hi x.last + 1 - n ≡ start = cc in
-          (omega arith, omega arith))
-          (λ more. highest_between n lo hi a b start xs some each.1 (sym (ap (highest_in n) first ∙ highest_more n (clip lo hi x) (kept n lo hi xs) more) ∙ is)))
-      | inr less ↦ (let short = leb-false (max lo x.first + n) (min hi x.last + 1) less in
-          let without : kept n lo hi (x ∷ xs) ≡ kept n lo hi xs = (rw less refl) in
-          highest_between n lo hi a b start xs some each.1 (ap (highest_in n) (sym without) ∙ is))
-    ]
+    kept_either (λ (l : List Hole). highest_in n l ≡ Some start → (a ≤ start) × (start < b)) n lo hi x xs
+    (λ room here. by_rest (kept n lo hi xs)
+    (λ none. let both : Some (min hi x.last + 1 - n) ≡ Some start = ap (λ (l : List Hole). highest_in n (clip lo hi x ∷ l)) (sym none) ∙ here in let same : min hi x.last + 1 - n ≡ start = cc in (omega arith, omega arith))
+    (λ more. highest_between n lo hi a b start xs some each.1 (sym (highest_more n (clip lo hi x) (kept n lo hi xs) more) ∙ here)))
+    (λ short. highest_between n lo hi a b start xs some each.1) is
   where
     by_rest : {P : Type 0} (l : List Hole) → (l ≡ [] → P) → (0 < length l → P) → P
     by_rest [] none more = none refl
@@ -437,6 +433,23 @@ triple a b = grind arith
 least : (a b : ℕ) → 1 ≤ a → b ≤ a * b
 least a b some = grind (arith, some)
 
+less_one : (a b : ℕ) → 1 ≤ a → (a - 1) * b + b ≡ a * b
+less_one zero b some = absurd (omega (arith, some))
+less_one (suc k) b some = ap (λ (n : ℕ). n * b + b) one ∙ turned k b
+  where
+    one : suc k - 1 ≡ k
+    one = omega arith
+
+    turned : (m b : ℕ) → m * b + b ≡ suc m * b
+    turned m b = grind arith
+
+-- in the empty tree only the root word is loaded before
+pub found_empty : (s s₀ s₁ : Sheet) (n : ℕ) → s₀ ≡ loaded s → ReadsUpTo (3 * height_in s₀.tree.table s₀.tree.root * columns s₀.tree.table.width + 1 + n) s₀ s₁ → ReadsUpTo (2 * (3 * height_in s.tree.table s.tree.root * columns s.tree.table.width + 1) + n) s s₁
+found_empty s s₀ s₁ n load reads =
+    let h = height_in s.tree.table s.tree.root in let c = columns s.tree.table.width in
+    reads_up (1 + (3 * h * c + 1 + n)) (2 * (3 * h * c + 1) + n) s s₁ (omega arith)
+    (reads_more 1 (3 * h * c + 1 + n) s s₀ s₁ (one_read s s₀ load) (subst (λ (t : Rooted). ReadsUpTo (3 * height_in t.table t.root * columns t.table.width + 1 + n) s₀ s₁) (ap (λ (r : Sheet). r.tree) load) reads))
+
 module _ (s s₀ s₁ : Sheet) (load : s₀ ≡ loaded s) (one_way : ReadsUpTo (height_in s₀.tree.table s₀.tree.root * columns s₀.tree.table.width) s₀ s₁) where
   abbrev h : ℕ
   h = height_in s.tree.table s.tree.root
@@ -469,3 +482,29 @@ module _ (s s₀ s₁ : Sheet) (load : s₀ ≡ loaded s) (one_way : ReadsUpTo (
       let all = triple h c in
       reads_up (1 + h * c + (3 * h * c + 1)) (2 * (3 * h * c + 1)) s s₂ (omega (arith, all))
       (reads_more (1 + h * c) (3 * h * c + 1) s s₁ s₂ way_reads (subst (λ (t : Rooted). ReadsUpTo (3 * height_in t.table t.root * columns t.table.width + 1) s₁ s₂) same_end reads))
+
+  -- where a place was found, with so many loads on the path to it
+  pub found_levels : (s₂ : Sheet) (n : ℕ) → ReadsUpTo (3 * height_in s₁.tree.table s₁.tree.root * columns s₁.tree.table.width + 1 + n) s₁ s₂ → ReadsUpTo (2 * (3 * h * c + 1) + n) s s₂
+  found_levels s₂ n reads =
+      let all = triple h c in
+      reads_up (1 + h * c + (3 * h * c + 1 + n)) (2 * (3 * h * c + 1) + n) s s₂ (omega (arith, all))
+      (reads_more (1 + h * c) (3 * h * c + 1 + n) s s₁ s₂ way_reads (subst (λ (t : Rooted). ReadsUpTo (3 * height_in t.table t.root * columns t.table.width + 1 + n) s₁ s₂) same_end reads))
+
+  tall : IsGapped s.tree → s.tree.root ≢ 0 → 1 ≤ h
+  tall tree some = let high = (asks_root s.tree tree some (record { size = 1; lo = 0; hi = 0 }) lowest_in).height in omega (arith, high)
+
+  pub found_leaf : IsGapped s.tree → s.tree.root ≢ 0 → (s₂ : Sheet) (n m : ℕ) → n ≤ m → ReadsUpTo (columns s₁.tree.table.width + n) s₁ s₂ → ReadsUpTo (2 * (3 * h * c + 1) + m) s s₂
+  found_leaf tree some s₂ n m few reads =
+      let all = triple h c in
+      let low = least h c (tall tree some) in
+      reads_up (1 + h * c + (c + n)) (2 * (3 * h * c + 1) + m) s s₂ (omega (arith, all, low, few))
+      (reads_more (1 + h * c) (c + n) s s₁ s₂ way_reads (subst (λ (t : Rooted). ReadsUpTo (columns t.table.width + n) s₁ s₂) same_end reads))
+
+  -- where one row of each level was looked at
+  pub one_leaf : IsGapped s.tree → s.tree.root ≢ 0 → ReadsUpTo ((height_in s₀.tree.table s₀.tree.root - 1) * columns s₀.tree.table.width) s₀ s₁ → (s₂ : Sheet) (n : ℕ) → ReadsUpTo (columns s₁.tree.table.width + (n + 1)) s₁ s₂ → ReadsUpTo (h * c + n + 2) s s₂
+  one_leaf tree some above s₂ n reads =
+      let all = less_one h c (tall tree some) in
+      reads_up (1 + (h - 1) * c + (c + (n + 1))) (h * c + n + 2) s s₂ (omega (arith, all))
+      (reads_more (1 + (h - 1) * c) (c + (n + 1)) s s₁ s₂
+      (reads_more 1 ((h - 1) * c) s s₀ s₁ (one_read s s₀ load) (subst (λ (t : Rooted). ReadsUpTo ((height_in t.table t.root - 1) * columns t.table.width) s₀ s₁) same_begin above))
+      (subst (λ (t : Rooted). ReadsUpTo (columns t.table.width + (n + 1)) s₁ s₂) same_end reads))

@@ -47,61 +47,66 @@ read_none P s t kind row first max same holds = record {
   };
 }
 
-pub same_read : (s t : Sheet) (kind : RowKind) (row first max slot begin : ℕ) (before : List Child) → AreRead s t kind row first max slot begin before → t.tree ≡ s.tree
-same_read s t kind row first max slot begin before done = tree_kept (loads_for kind * slot) s t done.reads
+-- the slot that a loop is at: those before it were read, and then its pivot was loaded
+pub record AtSlot (s t t' : Sheet) (kind : RowKind) (row first max slot begin last : ℕ) (before : List Child) : Type 0 where
+  pub read : AreRead s t kind row first max slot begin before
+  pub last_is : last ≡ last_in t.tree.table kind row max slot
+  pub pivot : ReadsUpTo 1 t t'
+  pub within : slot < slots_of s.tree.table.width kind
 
-module _ (s t u : Sheet) (kind : RowKind) (row first max slot begin last : ℕ) (before : List Child) (done : AreRead s t kind row first max slot begin before)
-    (last_is : last ≡ last_in t.tree.table kind row max slot) (loads : ReadsUpTo (loads_for kind) t u) (within : slot < slots_of s.tree.table.width kind) where
+module _ {s t t' : Sheet} {kind : RowKind} {row first max slot begin last : ℕ} {before : List Child} (at : AtSlot s t t' kind row first max slot begin last before) where
   abbrev child : Child
   child = child_in s.tree.table kind row slot begin last
 
   same : t.tree ≡ s.tree
-  same = tree_kept (loads_for kind * slot) s t done.reads
+  same = tree_kept (loads_for kind * slot) s t at.read.reads
 
   abbrev item : Item
   item = record { last = last; word = child.span.word; gap = child.gap }
 
   is_item : IsItem (slots_of s.tree.table.width kind) (gaps_of s.tree.table.width kind) s.tree.table.words (base_of s.tree.table row) max slot item
-  is_item = (refl, subst (λ (r : Rooted). last ≡ last_in r.table kind row max slot) same last_is)
+  is_item = (refl, subst (λ (r : Rooted). last ≡ last_in r.table kind row max slot) same at.last_is)
 
   left : slots_of s.tree.table.width kind - slot ≡ suc (slots_of s.tree.table.width kind - (slot + 1))
-  left = let low = within in omega arith
-
-  all_loads : ReadsUpTo (loads_for kind * (slot + 1)) s u
-  all_loads = reads_up (loads_for kind * slot + loads_for kind) (loads_for kind * (slot + 1)) s u (one_row_more (loads_for kind) slot) (reads_more (loads_for kind * slot) (loads_for kind) s t u done.reads loads)
+  left = let low = at.within in omega arith
 
   here_on : last < max → unread s.tree kind row max slot begin ≡ child ∷ unread s.tree kind row max (slot + 1) (last + 1)
   here_on more =
       (λ i. children_from begin (items_from (slots_of s.tree.table.width kind) (gaps_of s.tree.table.width kind) s.tree.table.words (base_of s.tree.table row) max (left i) slot))
-      ∙ ap (children_from begin) (goes_on (slots_of s.tree.table.width kind) (gaps_of s.tree.table.width kind) s.tree.table.words (base_of s.tree.table row) max (slots_of s.tree.table.width kind - (slot + 1)) slot item (let low = within in omega arith) is_item more)
+      ∙ ap (children_from begin) (goes_on (slots_of s.tree.table.width kind) (gaps_of s.tree.table.width kind) s.tree.table.words (base_of s.tree.table row) max (slots_of s.tree.table.width kind - (slot + 1)) slot item (let low = at.within in omega arith) is_item more)
 
   here_last : max ≤ last → unread s.tree kind row max slot begin ≡ child ∷ []
   here_last reaches =
       (λ i. children_from begin (items_from (slots_of s.tree.table.width kind) (gaps_of s.tree.table.width kind) s.tree.table.words (base_of s.tree.table row) max (left i) slot))
-      ∙ ap (children_from begin) (ends (slots_of s.tree.table.width kind) (gaps_of s.tree.table.width kind) s.tree.table.words (base_of s.tree.table row) max (suc (slots_of s.tree.table.width kind - (slot + 1))) slot item (let low = within in omega arith) (omega arith) is_item reaches)
+      ∙ ap (children_from begin) (ends (slots_of s.tree.table.width kind) (gaps_of s.tree.table.width kind) s.tree.table.words (base_of s.tree.table row) max (suc (slots_of s.tree.table.width kind - (slot + 1))) slot item (let low = at.within in omega arith) (omega arith) is_item reaches)
 
-  -- behind a slot that does not reach the row's end
-  pub read_on : (Q : List Child → Type 0) → last < max → Q (before ++ (child ∷ [])) → IsReadTo Q s u kind row first max (slot + 1) (last + 1)
-  read_on Q more holds = record {
+  -- with its pivot the tree is that of before the loop
+  pub tree_is : t'.tree ≡ s.tree
+  tree_is = tree_kept 1 t t' at.pivot ∙ same
+
+  -- behind it, if it does not reach the row's end, and after the loads of the rest of it
+  pub slot_on : (n : ℕ) (u : Sheet) → 1 + n ≤ loads_for kind → ReadsUpTo n t' u → (Q : List Child → Type 0) → last < max → Q (before ++ (child ∷ [])) → IsReadTo Q s u kind row first max (slot + 1) (last + 1)
+  slot_on n u few loads Q more holds = record {
     before = before ++ (child ∷ []);
     holds = holds;
     read = record {
-      reads = all_loads;
-      parts = append_assoc before (child ∷ []) (unread s.tree kind row max (slot + 1) (last + 1)) ∙ (ap (λ (l : List Child). before ++ l) (sym (here_on more)) ∙ done.parts);
-      count = length-append before (child ∷ []) ∙ ap (λ (n : ℕ). n + 1) done.count;
-      slots = done.slots;
+      reads = reads_up (loads_for kind * slot + loads_for kind) (loads_for kind * (slot + 1)) s u (one_row_more (loads_for kind) slot)
+          (reads_more (loads_for kind * slot) (loads_for kind) s t u at.read.reads (reads_up (1 + n) (loads_for kind) t u few (reads_more 1 n t t' u at.pivot loads)));
+      parts = append_assoc before (child ∷ []) (unread s.tree kind row max (slot + 1) (last + 1)) ∙ (ap (λ (l : List Child). before ++ l) (sym (here_on more)) ∙ at.read.parts);
+      count = length-append before (child ∷ []) ∙ ap (λ (k : ℕ). k + 1) at.read.count;
+      slots = at.read.slots;
     };
   }
 
-  -- with one that does
-  pub read_last : max ≤ last → before ++ (child ∷ []) ≡ row_children s.tree.table row kind first max
-  read_last reaches = ap (λ (l : List Child). before ++ l) (sym (here_last reaches)) ∙ done.parts
+  -- if it does, it is the row's last
+  pub slot_last : max ≤ last → before ++ (child ∷ []) ≡ row_children s.tree.table row kind first max
+  slot_last reaches = ap (λ (l : List Child). before ++ l) (sym (here_last reaches)) ∙ at.read.parts
 
-  -- what stands in the slot stands between those before and some others
-  pub read_part : ((rest : List Child) × (before ++ (child ∷ rest) ≡ row_children s.tree.table row kind first max))
-  read_part = elim (cases_Bool (nat_le max last)) [
-    | inl reaches ↦ ([], read_last (leb-true max last reaches))
-    | inr more ↦ (unread s.tree kind row max (slot + 1) (last + 1), ap (λ (l : List Child). before ++ l) (sym (here_on (leb-false max last more))) ∙ done.parts)
+  -- what stands in it stands between those before and some others
+  pub slot_part : ((rest : List Child) × (before ++ (child ∷ rest) ≡ row_children s.tree.table row kind first max))
+  slot_part = elim (cases_Bool (nat_le max last)) [
+    | inl reaches ↦ ([], slot_last (leb-true max last reaches))
+    | inr more ↦ (unread s.tree kind row max (slot + 1) (last + 1), ap (λ (l : List Child). before ++ l) (sym (here_on (leb-false max last more))) ∙ at.read.parts)
   ]
 
 pub read_all : (s t : Sheet) (kind : RowKind) (row first max slot begin : ℕ) (before : List Child) → AreRead s t kind row first max slot begin before → slot ≡ slots_of s.tree.table.width kind

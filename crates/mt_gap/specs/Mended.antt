@@ -20,21 +20,30 @@ AreRight done t h x = (slot : ℕ) → slot < length (spans_in t.table x) → do
 abbrev pub IsMendedSlot : ℕ → ℕ → ℕ → ℕ → Span → ℕ → Type 0
 IsMendedSlot index height slots h x slot = (covers index x ≡ false) ⊎ ((h ≤ height) ⊎ ((h ≡ suc height) × (slot < slots)))
 
+-- In a tree of this height `done` levels lie below the one that is `left` from the root, whose nodes are of this kind.
+pub record IsLevelLeft (before : Sheet) (kind : RowKind) (left index height done : ℕ) : Type 0 where
+  pub within : index ≤ greatest before.tree.table.width
+  pub low : 1 ≤ left
+  pub levels_are : done + left ≡ height + 1
+  pub kind_is : kind ≡ kind_on true done
+  pub stood : Stands (tree_on true before.tree) height
+
+-- A path leads to this index, and is dealt with up to that level. Since `before` only words of nodes have changed, and no node
+-- holds other spans.
+pub record IsAtLevel (before s : Sheet) (path : List PathStep) (kind : RowKind) (left index height done : ℕ) : Type 0 where
+  pub level : IsLevelLeft before kind left index height done
+  pub stands : Stands (tree_on true s.tree) height
+  pub steps : path ≡ path_in s.tree.table s.tree.root index
+  pub only : OnlyWords before s
+  pub spans : Levels (λ (_ : ℕ) (x : Span). SameSpans before.tree.table s.tree.table x) before.tree.table height (root_of (tree_on true before.tree))
+
 -- The nodes of a path are mended from its last up to the one at the level below `left`, which is of this kind, and so are this
 -- many slots of the node above. Nothing else has changed since `before`.
 pub record HasMendedRows (before s : Sheet) (path : List PathStep) (kind : RowKind) (left slots : ℕ) : Type 0 where
   pub index : ℕ
   pub height : ℕ
   pub done : ℕ
-  pub within : index ≤ greatest before.tree.table.width
-  pub low : 1 ≤ left
-  pub levels_are : done + left ≡ height + 1
-  pub kind_is : kind ≡ kind_on true done
-  pub stood : Stands (tree_on true before.tree) height
-  pub stands : Stands (tree_on true s.tree) height
-  pub steps : path ≡ path_in s.tree.table s.tree.root index
+  pub at : IsAtLevel before s path kind left index height done
   pub right : Levels (AreRight (IsMendedSlot index done slots) (tree_on true s.tree)) s.tree.table height (root_of (tree_on true s.tree))
-  pub only : OnlyWords before s
   pub words : KeepsOtherWords before.tree s.tree path
-  pub spans : Levels (λ (_ : ℕ) (x : Span). SameSpans before.tree.table s.tree.table x) before.tree.table height (root_of (tree_on true before.tree))
   pub kept : AllByRecursion (IsLiveRow before) path

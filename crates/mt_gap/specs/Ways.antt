@@ -1,8 +1,8 @@
 -- A search that goes into one node in each level: what it goes into below a node, and where it ends, with the way there.
 -- Source: the kernel's lib/maple_tree.c, mas_empty_area and mas_empty_area_rev, which keep the place that their search reached.
-use Rattle.std.specs.Prelude.{◌≡◌, ℕ, ◌+◌, ◌<◌, ◌≤◌, ◌↔◌, ◌++◌, List, [], ◌∷◌, Option, Some, None, IsNone, IfSome, length, take, if◌then◌else◌}
+use Rattle.std.specs.Prelude.{◌≡◌, ℕ, zero, suc, ◌+◌, ◌<◌, ◌≤◌, ◌↔◌, ◌++◌, List, [], ◌∷◌, Option, Some, None, IsNone, IfSome, length, take, if◌then◌else◌}
 use Rattle.std.specs.List.{flat_map}
-use Rattle.mt_gap.specs.Prelude.{Hole, holes_to, lowest_in, highest_in, greatest, Leaf, Span, named_kind, Fills, map_by, Rooted, root_span, spans_in, PathStep, handle_in, path_in, row_on}
+use Rattle.mt_gap.specs.Prelude.{Hole, holes_to, lowest_in, highest_in, greatest, Gapped, Leaf, Span, Table, named_kind, Fills, map_by, Rooted, root_span, spans_in, PathStep, handle_in, path_in, row_on}
 use Rattle.mt_gap.specs.declared.children.Child.{Child}
 use Rattle.mt_gap.specs.declared.searches.SoughtArea.{SoughtArea}
 use Rattle.mt_gap.specs.declared.ways.Below.{Below}
@@ -98,3 +98,19 @@ pub record IsAreaAt (t : Rooted) (path : List PathStep) (area : SoughtArea) : Ty
   pub way : path ≡ path_in t.table t.root area.start
   pub none : IsNone area.here ↔ (t.root ≡ 0)
   pub some : IfSome area.here (λ handle. handle ≡ handle_in t area.start)
+
+-- ---- a search that goes into one node of each level
+
+-- So many levels above a leaf, one child alone is asked, and so below that one.
+abbrev pub GoesOneWay : Side → Window → Table → ℕ → Span → Type 0
+GoesOneWay side w t zero x = named_kind x.word ≡ Some Leaf
+GoesOneWay side w t (suc d) x = (named_kind x.word ≡ Some Gapped) × ((child : Child) × (asked_for side w (children_in t x) ≡ child ∷ []) × GoesOneWay side w t d child.span)
+
+-- from the root down to a leaf
+abbrev pub IsOneWay : Side → Window → Rooted → Type 0
+IsOneWay side w t = (levels : ℕ) × GoesOneWay side w t.table levels (root_span t.table t.root)
+
+abbrev pub IsLeafEnd : End → Type 0
+IsLeafEnd end.Nowhere = ⊥
+IsLeafEnd (end.Leaf leaf) = Unit {0}
+IsLeafEnd end.Branch = ⊥

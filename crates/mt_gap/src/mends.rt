@@ -132,7 +132,8 @@ pub fn mend_way<R: Rows>(rows: &mut R, path: &Path, leaf: u32)
     ensures words { KeepsWordsBut (R.sheet rows.old).tree (R.sheet rows.new).tree path.now.items }
     ensures plain { named_kind (R.sheet rows.old).tree.root ≢ Some RowKind.Gapped → R.sheet rows.new ≡ loaded (R.sheet rows.old) }
     ensures spans { (gapped : Bool) (h : ℕ) → Stands (tree_on gapped (R.sheet rows.old).tree) h
-        → Levels (λ (_ : ℕ) (x : Span). SameSpans (R.sheet rows.old).tree.table (R.sheet rows.new).tree.table x) (R.sheet rows.old).tree.table h (root_of (tree_on gapped (R.sheet rows.old).tree)) }
+        → Levels (λ (_ : ℕ) (x : Span). SameSpans (R.sheet rows.old).tree.table (R.sheet rows.new).tree.table x)
+        (R.sheet rows.old).tree.table h (root_of (tree_on gapped (R.sheet rows.old).tree)) }
 {
     if !has_gaps(rows) {
         return;
@@ -158,7 +159,8 @@ pub fn mend_along<R: Rows>(rows: &mut R, path: &Path, gap: u64)
     ensures words { KeepsWordsBut (R.sheet rows.old).tree (R.sheet rows.new).tree path.now.items }
     ensures plain { named_kind (R.sheet rows.old).tree.root ≢ Some RowKind.Gapped → R.sheet rows.new ≡ loaded (R.sheet rows.old) }
     ensures spans { (gapped : Bool) (h : ℕ) → Stands (tree_on gapped (R.sheet rows.old).tree) h
-        → Levels (λ (_ : ℕ) (x : Span). SameSpans (R.sheet rows.old).tree.table (R.sheet rows.new).tree.table x) (R.sheet rows.old).tree.table h (root_of (tree_on gapped (R.sheet rows.old).tree)) }
+        → Levels (λ (_ : ℕ) (x : Span). SameSpans (R.sheet rows.old).tree.table (R.sheet rows.new).tree.table x)
+        (R.sheet rows.old).tree.table h (root_of (tree_on gapped (R.sheet rows.old).tree)) }
 {
     if !has_gaps(rows) {
         return;
@@ -213,7 +215,8 @@ pub fn mend_gaps<R: Rows>(rows: &mut R, path: &Path)
     ensures words { KeepsOtherWords (R.sheet rows.old).tree (R.sheet rows.new).tree path.now.items }
     ensures plain { named_kind (R.sheet rows.old).tree.root ≢ Some RowKind.Gapped → R.sheet rows.new ≡ loaded (R.sheet rows.old) }
     ensures spans { (gapped : Bool) (h : ℕ) → Stands (tree_on gapped (R.sheet rows.old).tree) h
-        → Levels (λ (_ : ℕ) (x : Span). SameSpans (R.sheet rows.old).tree.table (R.sheet rows.new).tree.table x) (R.sheet rows.old).tree.table h (root_of (tree_on gapped (R.sheet rows.old).tree)) }
+        → Levels (λ (_ : ℕ) (x : Span). SameSpans (R.sheet rows.old).tree.table (R.sheet rows.new).tree.table x)
+        (R.sheet rows.old).tree.table h (root_of (tree_on gapped (R.sheet rows.old).tree)) }
 {
     if !has_gaps(rows) {
         return;

@@ -1,6 +1,6 @@
 //! The lowest and the highest place with room for `size` indexes.
 
-ghost use Rattle.std.specs.Prelude.{◌≡◌, ◌≢◌, ◌↔◌, ◌+◌, ◌-◌, ◌*◌, ◌≤◌, ℕ, All, IsTrue, [], ◌∷◌, length, IsNone, IfSome};
+ghost use Rattle.std.specs.Prelude.{◌≡◌, ◌≢◌, ◌↔◌, ◌+◌, ◌-◌, ◌*◌, ◌<◌, ◌≤◌, ℕ, All, IsTrue, [], ◌∷◌, length, IsNone, IfSome};
 ghost use Rattle.std.specs.List.{flat_map};
 ghost use Rattle.std.specs.Option.{option_map};
 ghost use Rattle.mt_base.specs.Holes.{low_to, high_to, lowest_in, highest_in};
@@ -12,7 +12,10 @@ ghost use Rattle.mt_gap.specs.declared.children.Child.{Child};
 ghost use Rattle.mt_gap.specs.Below.{child_hole};
 ghost use Rattle.mt_gap.specs.Children.{children_in, children_below, root_child};
 ghost use Rattle.mt_gap.specs.Descents.{IsGapped, LoadedUpTo, MayLoad, picked, place_in, Arrives, AreLeaves};
-ghost use Rattle.mt_gap.specs.Ways.{pick_for, sought_in, sought_to, EndsInLeaf, IsAreaAt};
+ghost use Rattle.mt_gap.specs.Ways.{pick_for, sought_in, sought_to, EndsInLeaf, IsAreaAt, IsOneWay};
+ghost use Rattle.mt_gap.specs.declared.ways.Side.TheVariants as sides;
+ghost use Rattle.mt_path.specs.Handles.{last_step};
+ghost use Rattle.mt_path.specs.Paths.{loads_at, loads_on};
 ghost use Rattle.mt_gap.specs.declared.searches.SoughtArea.{SoughtArea};
 
 use crate::children::Child;
@@ -67,7 +70,8 @@ fn to_lowest<R: Rows, L: Ledger>(
     requires some { (R.sheet rows.old).tree.root ≢ 0 }
     requires root { root ≡ root_child (R.sheet rows.old).tree.table (R.sheet rows.old).tree.root }
     requires size { 1 ≤ window.size }
-    ensures { Arrives (R.sheet rows.old) (R.sheet rows.new) lowest_in window (place_in lowest_in window (R.sheet rows.old).tree) steps.old steps.new result.items }
+    ensures { Arrives (R.sheet rows.old)
+        (R.sheet rows.new) lowest_in window (place_in lowest_in window (R.sheet rows.old).tree) steps.old steps.new result.items }
 {
     let mut asked = Asked::new();
     asked.push(root);
@@ -93,7 +97,8 @@ fn to_highest<R: Rows, L: Ledger>(
     requires some { (R.sheet rows.old).tree.root ≢ 0 }
     requires root { root ≡ root_child (R.sheet rows.old).tree.table (R.sheet rows.old).tree.root }
     requires size { 1 ≤ window.size }
-    ensures { Arrives (R.sheet rows.old) (R.sheet rows.new) (highest_in window.size) window (place_in (highest_in window.size) window (R.sheet rows.old).tree) steps.old steps.new result.items }
+    ensures { Arrives (R.sheet rows.old) (R.sheet rows.new) (highest_in window.size) window
+        (place_in (highest_in window.size) window (R.sheet rows.old).tree) steps.old steps.new result.items }
 {
     let mut asked = Asked::new();
     asked.push(root);
@@ -256,6 +261,9 @@ fn area_in_leaf<R: Rows>(
     ensures way { IfSome result (λ area. IsAreaAt (R.sheet rows.old).tree path.new.items area) }
     ensures rest { OnlyReads (R.sheet rows.old) (R.sheet rows.new) }
     ensures reads { IsNone result → ReadsUpTo (columns (R.sheet rows.old).tree.table.width) (R.sheet rows.old) (R.sheet rows.new) }
+    ensures deep { IfSome result (λ _. 0 < length path.new.items) }
+    ensures found { IfSome result
+        (λ _. ReadsUpTo (columns (R.sheet rows.old).tree.table.width + (loads_at (last_step path.new.items) + 1)) (R.sheet rows.old) (R.sheet rows.new)) }
 {
     let start = place_in_leaf(rows, side, leaf, window)?;
     let here = end_walk(rows, leaf, start, path);
@@ -298,7 +306,12 @@ fn area_by_levels<R: Rows, L: Ledger>(
     ensures place { option_map (λ (area : SoughtArea). area.start) result ≡ sought_to side window (R.sheet rows.old).tree }
     ensures way { IfSome result (λ area. IsAreaAt (R.sheet rows.old).tree path.new.items area) }
     ensures rest { OnlyReads (R.sheet rows.old) (R.sheet rows.new) }
-    ensures reads { IsNone result → ReadsUpTo (3 * height_in (R.sheet rows.old).tree.table (R.sheet rows.old).tree.root * columns (R.sheet rows.old).tree.table.width + 1) (R.sheet rows.old) (R.sheet rows.new) }
+    ensures reads { IsNone result
+        → ReadsUpTo (3 * height_in (R.sheet rows.old).tree.table (R.sheet rows.old).tree.root * columns (R.sheet rows.old).tree.table.width + 1)
+        (R.sheet rows.old) (R.sheet rows.new) }
+    ensures found { IfSome result (λ _. ReadsUpTo (3 * height_in (R.sheet rows.old).tree.table (R.sheet rows.old).tree.root
+        * columns (R.sheet rows.old).tree.table.width + 1 + loads_on path.new.items) (R.sheet rows.old) (R.sheet rows.new)) }
+    ensures steps { steps.new ≤ steps.old + 3 * height_in (R.sheet rows.old).tree.table (R.sheet rows.old).tree.root }
 {
     let start = place_by_levels(rows, side, window, steps)?;
     path.clear();
@@ -321,7 +334,15 @@ fn way_for<R: Rows, L: Ledger>(
     ensures place { option_map (λ (area : SoughtArea). area.start) result ≡ sought_to side window (R.sheet rows.old).tree }
     ensures way { IfSome result (λ area. IsAreaAt (R.sheet rows.old).tree path.new.items area) }
     ensures rest { OnlyReads (R.sheet rows.old) (R.sheet rows.new) }
-    ensures reads { IsNone result → ReadsUpTo (2 * (3 * height_in (R.sheet rows.old).tree.table (R.sheet rows.old).tree.root * columns (R.sheet rows.old).tree.table.width + 1)) (R.sheet rows.old) (R.sheet rows.new) }
+    ensures reads { IsNone result
+        → ReadsUpTo (2 * (3 * height_in (R.sheet rows.old).tree.table (R.sheet rows.old).tree.root * columns (R.sheet rows.old).tree.table.width + 1))
+        (R.sheet rows.old) (R.sheet rows.new) }
+    ensures found { IfSome result (λ _. ReadsUpTo (2 * (3 * height_in (R.sheet rows.old).tree.table (R.sheet rows.old).tree.root
+        * columns (R.sheet rows.old).tree.table.width + 1) + loads_on path.new.items) (R.sheet rows.old) (R.sheet rows.new)) }
+    ensures one { IsOneWay side window (R.sheet rows.old).tree
+        → IfSome result (λ _. ReadsUpTo (height_in (R.sheet rows.old).tree.table (R.sheet rows.old).tree.root
+        * columns (R.sheet rows.old).tree.table.width + loads_at (last_step path.new.items) + 2) (R.sheet rows.old) (R.sheet rows.new)) }
+    ensures steps { steps.new ≤ steps.old + 3 * height_in (R.sheet rows.old).tree.table (R.sheet rows.old).tree.root }
 {
     let word = rows.root();
     if word == 0 {
@@ -336,7 +357,7 @@ fn way_for<R: Rows, L: Ledger>(
 }
 
 /// The place that `lowest` finds, with the path to it and what is there. If the search went into one node in each level, no
-/// node on the path is walked again but the leaf.
+/// node on the path is walked again but the leaf, and the words of no other node are loaded.
 pub fn lowest_way<R: Rows, L: Ledger>(
     rows: &mut R,
     size: u64,
@@ -348,10 +369,19 @@ pub fn lowest_way<R: Rows, L: Ledger>(
     requires tree { IsGapped (R.sheet rows.old).tree }
     requires size { 1 ≤ size }
     requires empty { path.old.items ≡ [] }
-    ensures place { let t = (R.sheet rows.old).tree in option_map (λ (area : SoughtArea). area.start) result ≡ low_to (greatest t.table.width) (map_by t) size lo hi }
+    ensures place { let t = (R.sheet rows.old).tree in
+        option_map (λ (area : SoughtArea). area.start) result ≡ low_to (greatest t.table.width) (map_by t) size lo hi }
     ensures way { IfSome result (λ area. IsAreaAt (R.sheet rows.old).tree path.new.items area) }
     ensures rest { OnlyReads (R.sheet rows.old) (R.sheet rows.new) }
-    ensures reads { IsNone result → ReadsUpTo (2 * (3 * height_in (R.sheet rows.old).tree.table (R.sheet rows.old).tree.root * columns (R.sheet rows.old).tree.table.width + 1)) (R.sheet rows.old) (R.sheet rows.new) }
+    ensures reads { IsNone result
+        → ReadsUpTo (2 * (3 * height_in (R.sheet rows.old).tree.table (R.sheet rows.old).tree.root * columns (R.sheet rows.old).tree.table.width + 1))
+        (R.sheet rows.old) (R.sheet rows.new) }
+    ensures found { IfSome result (λ _. ReadsUpTo (2 * (3 * height_in (R.sheet rows.old).tree.table (R.sheet rows.old).tree.root
+        * columns (R.sheet rows.old).tree.table.width + 1) + loads_on path.new.items) (R.sheet rows.old) (R.sheet rows.new)) }
+    ensures one { IsOneWay sides.Low (record { size = size; lo = lo; hi = hi }) (R.sheet rows.old).tree
+        → IfSome result (λ _. ReadsUpTo (height_in (R.sheet rows.old).tree.table (R.sheet rows.old).tree.root
+        * columns (R.sheet rows.old).tree.table.width + loads_at (last_step path.new.items) + 2) (R.sheet rows.old) (R.sheet rows.new)) }
+    ensures steps { steps.new ≤ steps.old + 3 * height_in (R.sheet rows.old).tree.table (R.sheet rows.old).tree.root }
 {
     way_for(rows, Side::Low, Window { size, lo, hi }, steps, path)
 }
@@ -368,10 +398,19 @@ pub fn highest_way<R: Rows, L: Ledger>(
     requires tree { IsGapped (R.sheet rows.old).tree }
     requires size { 1 ≤ size }
     requires empty { path.old.items ≡ [] }
-    ensures place { let t = (R.sheet rows.old).tree in option_map (λ (area : SoughtArea). area.start) result ≡ high_to (greatest t.table.width) (map_by t) size lo hi }
+    ensures place { let t = (R.sheet rows.old).tree in
+        option_map (λ (area : SoughtArea). area.start) result ≡ high_to (greatest t.table.width) (map_by t) size lo hi }
     ensures way { IfSome result (λ area. IsAreaAt (R.sheet rows.old).tree path.new.items area) }
     ensures rest { OnlyReads (R.sheet rows.old) (R.sheet rows.new) }
-    ensures reads { IsNone result → ReadsUpTo (2 * (3 * height_in (R.sheet rows.old).tree.table (R.sheet rows.old).tree.root * columns (R.sheet rows.old).tree.table.width + 1)) (R.sheet rows.old) (R.sheet rows.new) }
+    ensures reads { IsNone result
+        → ReadsUpTo (2 * (3 * height_in (R.sheet rows.old).tree.table (R.sheet rows.old).tree.root * columns (R.sheet rows.old).tree.table.width + 1))
+        (R.sheet rows.old) (R.sheet rows.new) }
+    ensures found { IfSome result (λ _. ReadsUpTo (2 * (3 * height_in (R.sheet rows.old).tree.table (R.sheet rows.old).tree.root
+        * columns (R.sheet rows.old).tree.table.width + 1) + loads_on path.new.items) (R.sheet rows.old) (R.sheet rows.new)) }
+    ensures one { IsOneWay sides.High (record { size = size; lo = lo; hi = hi }) (R.sheet rows.old).tree
+        → IfSome result (λ _. ReadsUpTo (height_in (R.sheet rows.old).tree.table (R.sheet rows.old).tree.root
+        * columns (R.sheet rows.old).tree.table.width + loads_at (last_step path.new.items) + 2) (R.sheet rows.old) (R.sheet rows.new)) }
+    ensures steps { steps.new ≤ steps.old + 3 * height_in (R.sheet rows.old).tree.table (R.sheet rows.old).tree.root }
 {
     way_for(rows, Side::High, Window { size, lo, hi }, steps, path)
 }

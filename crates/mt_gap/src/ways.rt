@@ -1,6 +1,6 @@
 //! A search that goes into one node in each level, and keeps the way that it goes.
 
-ghost use Rattle.std.specs.Prelude.{◌≡◌, ◌≢◌, ◌<◌, ◌≤◌, ◌+◌, ◌*◌, ◌∷◌, [], IfSome, IfNone, Some, if◌then◌else◌};
+ghost use Rattle.std.specs.Prelude.{◌≡◌, ◌≢◌, ◌<◌, ◌≤◌, ◌+◌, ◌-◌, ◌*◌, ◌∷◌, [], IfSome, IfNone, Some, if◌then◌else◌};
 ghost use Rattle.mt_base.specs.Width.{columns};
 ghost use Rattle.mt_layout.specs.declared.names.RowKind.TheVariants.{Gapped};
 ghost use Rattle.mt_layout.specs.Rows.{row_in, named_kind};
@@ -13,7 +13,7 @@ ghost use Rattle.mt_gap.specs.Descents.{IsGapped};
 ghost use Rattle.mt_gap.specs.Narrow.{has_sure};
 ghost use Rattle.mt_gap.specs.Slots.{child_in};
 ghost use Rattle.mt_gap.specs.declared.ways.Side.TheVariants as sides;
-ghost use Rattle.mt_gap.specs.Ways.{into_one_more, with_room, with_room_up, IsSearchedBelow, EndsIn};
+ghost use Rattle.mt_gap.specs.Ways.{into_one_more, with_room, with_room_up, IsSearchedBelow, EndsIn, IsLeafEnd, IsOneWay};
 
 use crate::children::load_last;
 use crate::windows::{Window, is_inside, room_in_slot};
@@ -200,7 +200,11 @@ pub(crate) fn go_one_way<R: Rows>(
     requires size { 1 ≤ window.size }
     requires empty { path.old.items ≡ [] }
     ensures end { EndsIn side (R.sheet rows.old).tree window path.new.items result }
-    ensures reads { ReadsUpTo (height_in (R.sheet rows.old).tree.table (R.sheet rows.old).tree.root * columns (R.sheet rows.old).tree.table.width) (R.sheet rows.old) (R.sheet rows.new) }
+    ensures reads { ReadsUpTo (height_in (R.sheet rows.old).tree.table (R.sheet rows.old).tree.root * columns (R.sheet rows.old).tree.table.width)
+        (R.sheet rows.old) (R.sheet rows.new) }
+    ensures one { IsOneWay side window (R.sheet rows.old).tree
+        → IsLeafEnd result × ReadsUpTo ((height_in (R.sheet rows.old).tree.table (R.sheet rows.old).tree.root - 1)
+        * columns (R.sheet rows.old).tree.table.width) (R.sheet rows.old) (R.sheet rows.new) }
 {
     let mut at = root;
     for _ in 0..DEEPEST {

@@ -62,7 +62,8 @@ pub(crate) fn room_in_slot<R: Rows>(
     requires width { width ≡ (R.sheet rows.old).tree.table.width }
     requires row { IsPlace (R.sheet rows.old).tree row 0 }
     requires slot { slot < slots_of (R.sheet rows.old).tree.table.width Gapped }
-    ensures child { let x = child_in (R.sheet rows.old).tree.table Gapped row slot first last in result ≡ (if may_have window.size window.lo window.hi x then Some x else None) }
+    ensures child { let x = child_in (R.sheet rows.old).tree.table Gapped row slot first last in
+        result ≡ (if may_have window.size window.lo window.hi x then Some x else None) }
     ensures reads { ReadsUpTo 2 (R.sheet rows.old) (R.sheet rows.new) }
 {
     let gap = load_gap(rows, width, row, slot);
@@ -91,8 +92,10 @@ fn ask_slot<R: Rows>(
     requires width { width ≡ (R.sheet rows.old).tree.table.width }
     requires row { IsPlace (R.sheet rows.old).tree row 0 }
     requires slot { slot < slots_of (R.sheet rows.old).tree.table.width Gapped }
-    requires room { length asked.old.items + length (narrow window.size window.lo window.hi (child_in (R.sheet rows.old).tree.table Gapped row slot first last ∷ [])) ≤ 3 }
-    ensures items { asked.new.items ≡ asked.old.items ++ narrow window.size window.lo window.hi (child_in (R.sheet rows.old).tree.table Gapped row slot first last ∷ []) }
+    requires room { length asked.old.items
+        + length (narrow window.size window.lo window.hi (child_in (R.sheet rows.old).tree.table Gapped row slot first last ∷ [])) ≤ 3 }
+    ensures items { asked.new.items ≡ asked.old.items
+        ++ narrow window.size window.lo window.hi (child_in (R.sheet rows.old).tree.table Gapped row slot first last ∷ []) }
     ensures found { result ≡ has_sure window.size window.lo window.hi (child_in (R.sheet rows.old).tree.table Gapped row slot first last ∷ []) }
     ensures reads { ReadsUpTo 2 (R.sheet rows.old) (R.sheet rows.new) }
 {
@@ -114,8 +117,10 @@ pub(crate) fn ask_row<R: Rows>(
     asked: &mut Asked,
 ) -> bool
     requires row { IsPlace (R.sheet rows.old).tree row 0 }
-    requires room { length asked.old.items + length (narrow window.size window.lo window.hi (row_children (R.sheet rows.old).tree.table row Gapped first max)) ≤ 3 }
-    ensures items { asked.new.items ≡ asked.old.items ++ narrow window.size window.lo window.hi (row_children (R.sheet rows.old).tree.table row Gapped first max) }
+    requires room { length asked.old.items
+        + length (narrow window.size window.lo window.hi (row_children (R.sheet rows.old).tree.table row Gapped first max)) ≤ 3 }
+    ensures items { asked.new.items ≡ asked.old.items
+        ++ narrow window.size window.lo window.hi (row_children (R.sheet rows.old).tree.table row Gapped first max) }
     ensures found { result ≡ has_sure window.size window.lo window.hi (row_children (R.sheet rows.old).tree.table row Gapped first max) }
     ensures reads { ReadsUpTo (columns (R.sheet rows.old).tree.table.width) (R.sheet rows.old) (R.sheet rows.new) }
 {
@@ -160,7 +165,8 @@ fn ask_slot_up<R: Rows>(
     requires row { IsPlace (R.sheet rows.old).tree row 0 }
     requires slot { slot < slots_of (R.sheet rows.old).tree.table.width Gapped }
     requires room { length (next_up window.size window.lo window.hi asked.old.items (child_in (R.sheet rows.old).tree.table Gapped row slot first last)) ≤ 3 }
-    ensures items { asked.new.items ≡ next_up window.size window.lo window.hi asked.old.items (child_in (R.sheet rows.old).tree.table Gapped row slot first last) }
+    ensures items { asked.new.items
+        ≡ next_up window.size window.lo window.hi asked.old.items (child_in (R.sheet rows.old).tree.table Gapped row slot first last) }
     ensures reads { ReadsUpTo 2 (R.sheet rows.old) (R.sheet rows.new) }
 {
     if let Some(child) = room_in_slot(rows, width, row, slot, first, last, window) {
@@ -179,8 +185,10 @@ pub(crate) fn ask_row_up<R: Rows>(
     asked: &mut Asked,
 )
     requires row { IsPlace (R.sheet rows.old).tree row 0 }
-    requires room { (k : ℕ) → length (narrow_up window.size window.lo window.hi asked.old.items (take k (row_children (R.sheet rows.old).tree.table row Gapped first max))) ≤ 3 }
-    ensures items { asked.new.items ≡ narrow_up window.size window.lo window.hi asked.old.items (row_children (R.sheet rows.old).tree.table row Gapped first max) }
+    requires room { (k : ℕ)
+        → length (narrow_up window.size window.lo window.hi asked.old.items (take k (row_children (R.sheet rows.old).tree.table row Gapped first max))) ≤ 3 }
+    ensures items { asked.new.items
+        ≡ narrow_up window.size window.lo window.hi asked.old.items (row_children (R.sheet rows.old).tree.table row Gapped first max) }
     ensures reads { ReadsUpTo (columns (R.sheet rows.old).tree.table.width) (R.sheet rows.old) (R.sheet rows.new) }
 {
     let width = rows.width();

@@ -1,4 +1,4 @@
-use Rattle.mt_gap.proofs.Prelude.{◌≡◌, IsTrue, Some, sym, subst, rules, arith, Gapped, named_kind, HasMendedRows}
+use Rattle.mt_gap.proofs.Prelude.{◌≡◌, ℕ, ◌+◌, ◌-◌, IsTrue, Some, sym, subst, rules, arith, Gapped, named_kind, HasMendedRows}
 use Rattle.mt_gap.proofs.MendWay.{spans_loaded}
 use Rattle.mt_gap.proofs.MendGaps.{begin_rows, end_rows, end_row_spans, mended_below, no_rows_to_mend}
 use Rattle.mt_gap.proofs.mends.mend_gaps.Goals as goal
@@ -16,6 +16,12 @@ loop-level-init g c =
     let root : named_kind (g.R.Rows.sheet c.args.rows.now).tree.root ≡ Some Gapped = c.has_gaps.ensures.gapped.0 (search rules) in
     subst (λ n. HasMendedRows (g.R.Rows.sheet c.args.rows.now) (g.R.Rows.sheet c.has_gaps.new.rows) c.args.path.now.items _ n 0) (sym c.len-level.ensures.value)
     (begin_rows c.requires.may.0 (g.R.Rows.sheet c.args.rows.now) (g.R.Rows.sheet c.has_gaps.new.rows) c.args.path.now.items c.requires.may.1 root c.has_gaps.ensures.rest)
+
+pub mend_row-requires : goal.mend_row-requires
+mend_row-requires g c =
+    let s = g.R.Rows.sheet c.args.rows.now in
+    let left : c.loop-level.level ≡ c.loop-level.level - 1 - 1 + 2 = omega (arith, c.loop-level-test.true) in
+    record { mends = (s, subst (λ (n : ℕ). HasMendedRows s (g.R.Rows.sheet c.loop-level.rows) c.args.path.now.items c.loop-level.kind n 0) left c.loop-level.invariant) }
 
 pub loop-level-preserved : goal.loop-level-preserved
 loop-level-preserved g c =

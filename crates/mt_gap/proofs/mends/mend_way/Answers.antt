@@ -1,6 +1,8 @@
-use Rattle.mt_gap.proofs.Prelude.{◌≡◌, ◌<◌, ◌-◌, ℕ, IsTrue, List, Some, length, sym, subst, rules, arith, Leaf, Gapped, named_kind, PathStep, step_at, MayMend, IsMended}
+use Rattle.mt_gap.proofs.Prelude.{◌≡◌, ◌<◌, ◌≤◌, ◌-◌, ℕ, IsTrue, List, Some, length, sym, subst, rules, arith, Leaf, Gapped, named_kind, PathStep, step_at, MayMend, IsMended}
 use Rattle.mt_gap.proofs.Along.{HasMendedOn, level_within, words_on, may_mend_on, mended_on, begin_on, end_on, spans_on}
 use Rattle.mt_gap.proofs.MendWay.{nothing_to_mend, spans_loaded}
+use Rattle.mt_gap.proofs.mends.mend_way.Given.{Over}
+use Rattle.mt_gap.proofs.mends.mend_way.Goals.{After-len-level}
 use Rattle.mt_gap.proofs.mends.mend_way.Goals as goal
 
 pub returns-then-not-has_gaps-clause-gaps : goal.returns-then-not-has_gaps-clause-gaps
@@ -11,21 +13,21 @@ returns-then-not-has_gaps-clause-gaps g c gapped way =
 pub returns-then-not-has_gaps-clause-spans : goal.returns-then-not-has_gaps-clause-spans
 returns-then-not-has_gaps-clause-spans g c gapped h stands = spans_loaded (g.R.Rows.sheet c.args.rows.now) (g.R.Rows.sheet c.has_gaps.new.rows) gapped h c.has_gaps.ensures.rest stands
 
-pub overflow_sub-last : goal.overflow_sub-last
-overflow_sub-last g c =
+-- there is a level at least
+some_levels : (g : Over) (c : After-len-level g) → 1 ≤ c.len-level.result
+some_levels g c =
     let root : named_kind (g.R.Rows.sheet c.args.rows.now).tree.root ≡ Some Gapped = c.has_gaps.ensures.gapped.0 (search rules) in
     let begun = begin_on c.requires.way.0 (g.R.Rows.sheet c.args.rows.now) (g.R.Rows.sheet c.has_gaps.new.rows) c.args.path.now.items c.args.leaf c.requires.way.1 root c.has_gaps.ensures.rest in
-    let some = begun.mended.low in
+    let some = begun.mended.at.level.low in
     let many = c.len-level.ensures.value in
     omega arith
 
+pub overflow_sub-last : goal.overflow_sub-last
+overflow_sub-last g c = omega (arith, some_levels g (goal.at.overflow_sub-last g c).After-len-level)
+
 pub bounds-deref-level : goal.bounds-deref-level
 bounds-deref-level g c =
-    let root : named_kind (g.R.Rows.sheet c.args.rows.now).tree.root ≡ Some Gapped = c.has_gaps.ensures.gapped.0 (search rules) in
-    let begun = begin_on c.requires.way.0 (g.R.Rows.sheet c.args.rows.now) (g.R.Rows.sheet c.has_gaps.new.rows) c.args.path.now.items c.args.leaf c.requires.way.1 root c.has_gaps.ensures.rest in
-    let some = begun.mended.low in
-    let many = c.len-level.ensures.value in
-    subst (λ (l : List PathStep). c.len-level.result - 1 < length l) (sym c.deref.ensures.0) (omega arith)
+    subst (λ (l : List PathStep). c.len-level.result - 1 < length l) (sym c.deref.ensures.0) (omega (arith, some_levels g (goal.at.bounds-deref-level g c).After-len-level, c.len-level.ensures.value))
 
 pub loop-level-init : goal.loop-level-init
 loop-level-init g c =

@@ -1,4 +1,6 @@
-use Rattle.mt_gap.proofs.Prelude.{◌≤◌, sym, ap, ◌∙◌, subst, Kind, greatest, IsTreeOf, Rooted, Sheet, handle_in, path_in, EntersLeaf}
+use Rattle.mt_gap.proofs.Prelude.{◌+◌, ◌≤◌, length, sym, ap, ◌∙◌, subst, arith, reads_more, columns, Kind, greatest, IsTreeOf, Rooted, Sheet, handle_in, path_in, EntersLeaf}
+use Rattle.mt_path.specs.Handles.{last_step}
+use Rattle.mt_path.specs.Paths.{loads_at}
 use Rattle.mt_gap.proofs.OneWay.{some_kind, start_within, enters_leaf, is_area}
 use Rattle.mt_gap.proofs.searches.area_in_leaf.Goals as goal
 
@@ -28,3 +30,16 @@ returns-clause-way g c =
     is_area c.args.side s.tree c.args.window c.args.path.now.items c.args.leaf c.requires.leaf c.requires.size c.in_ok-start.start c.in_ok-start.ensures.place c.end_walk-here.new.path.items c.end_walk-here.result
     (c.end_walk-here.ensures.path ∙ ap (λ (t : Rooted). path_in t.table t.root c.in_ok-start.start) same)
     (c.end_walk-here.ensures.handle ∙ ap (λ (t : Rooted). handle_in t c.in_ok-start.start) same)
+
+pub returns-clause-deep : goal.returns-clause-deep
+returns-clause-deep g c =
+    let s = g.R.Rows.sheet c.args.rows.now in
+    let same = ap (λ (r : Sheet). r.tree) c.place_in_leaf.ensures.reads.rest in
+    let low = (enters_leaf c.args.side s.tree c.args.window c.args.path.now.items c.args.leaf c.requires.leaf c.requires.size c.in_ok-start.start c.in_ok-start.ensures.place).low in
+    let long = ap length (c.end_walk-here.ensures.path ∙ ap (λ (t : Rooted). path_in t.table t.root c.in_ok-start.start) same) in
+    omega (arith, low, long)
+
+pub returns-clause-found : goal.returns-clause-found
+returns-clause-found g c =
+    let s = g.R.Rows.sheet c.args.rows.now in
+    reads_more (columns s.tree.table.width) (loads_at (last_step c.end_walk-here.new.path.items) + 1) s (g.R.Rows.sheet c.place_in_leaf.new.rows) (g.R.Rows.sheet c.end_walk-here.new.rows) c.place_in_leaf.ensures.reads c.end_walk-here.ensures.reads

@@ -1,60 +1,50 @@
-use Rattle.mt_gap.proofs.Prelude.{◌≡◌, ◌<◌, [], ◌∷◌, ap, ◌∙◌, arith, Width, Gapped, slots_of, tree_kept, reads_more, Rooted, child_in, has_sure, with_room}
-use Rattle.mt_gap.proofs.RowReads.{same_read, read_on, read_last, read_part, read_all}
+use Rattle.mt_gap.proofs.Prelude.{◌≡◌, ◌++◌, [], ◌∷◌, false, ap, ◌∙◌, arith, Width, Gapped, slots_of, Rooted, child_in, has_sure, with_room}
+use Rattle.mt_gap.proofs.RowReads.{AtSlot, tree_is, slot_on, slot_last, slot_part, read_all}
 use Rattle.mt_gap.proofs.OneWay.{HasSeen, seen_on, seen_stops, seen_all}
+use Rattle.mt_gap.proofs.ways.look_low.Given.{Over}
+use Rattle.mt_gap.proofs.ways.look_low.Goals.{After-load_last-last, After-take_slot}
 use Rattle.mt_gap.proofs.ways.look_low.Goals as goal
+
+-- the slot that is taken
+at_slot : (g : Over) (c : After-load_last-last g) → AtSlot (g.R.Rows.sheet c.args.rows.now) (g.R.Rows.sheet c.loop-slot.rows) (g.R.Rows.sheet c.load_last-last.new.rows) Gapped c.args.row c.args.first c.args.max c.loop-slot.slot c.loop-slot.begin c.load_last-last.result c.loop-slot.invariant.before
+at_slot g c = record { read = c.loop-slot.invariant.read; last_is = c.load_last-last.ensures.last; pivot = c.load_last-last.ensures.reads; within = omega (arith, c.slots-slot-end.ensures ∙ ap (λ (w : Width). slots_of w Gapped) c.width-width.ensures, c.loop-slot-test.true) }
+
+module _ (g : Over) (c : After-take_slot g) (at : AtSlot (g.R.Rows.sheet c.args.rows.now) (g.R.Rows.sheet c.loop-slot.rows) (g.R.Rows.sheet c.load_last-last.new.rows) Gapped c.args.row c.args.first c.args.max c.loop-slot.slot c.loop-slot.begin c.load_last-last.result c.loop-slot.invariant.before) where
+  -- what is gone into with it
+  below : c.take_slot.new.below ≡ with_room c.args.window c.loop-slot.slot (child_in (g.R.Rows.sheet c.args.rows.now).tree.table Gapped c.args.row c.loop-slot.slot c.loop-slot.begin c.load_last-last.result) c.loop-slot.below
+  below = c.take_slot.ensures.below ∙ ap (λ (r : Rooted). with_room c.args.window c.loop-slot.slot (child_in r.table Gapped c.args.row c.loop-slot.slot c.loop-slot.begin c.load_last-last.result) c.loop-slot.below) (tree_is at)
+
+  -- whether it lies in the window
+  found : let w = c.args.window in c.take_slot.result ≡ has_sure w.size w.lo w.hi (child_in (g.R.Rows.sheet c.args.rows.now).tree.table Gapped c.args.row c.loop-slot.slot c.loop-slot.begin c.load_last-last.result ∷ [])
+  found = let w = c.args.window in c.take_slot.ensures.found ∙ ap (λ (r : Rooted). has_sure w.size w.lo w.hi (child_in r.table Gapped c.args.row c.loop-slot.slot c.loop-slot.begin c.load_last-last.result ∷ [])) (tree_is at)
+
+  goes_on : c.take_slot.result ≡ false → HasSeen c.args.window c.take_slot.new.below (c.loop-slot.invariant.before ++ (child_in (g.R.Rows.sheet c.args.rows.now).tree.table Gapped c.args.row c.loop-slot.slot c.loop-slot.begin c.load_last-last.result ∷ []))
+  goes_on not =
+      let done = c.loop-slot.invariant in
+      seen_on c.args.window c.loop-slot.below done.before done.holds (child_in (g.R.Rows.sheet c.args.rows.now).tree.table Gapped c.args.row c.loop-slot.slot c.loop-slot.begin c.load_last-last.result) c.loop-slot.slot done.read.count c.take_slot.new.below below c.take_slot.result found not
 
 pub returns-then-take_slot-clause-below : goal.returns-then-take_slot-clause-below
 returns-then-take_slot-clause-below g c =
-    let s = g.R.Rows.sheet c.args.rows.now in let t = g.R.Rows.sheet c.loop-slot.rows in let w = c.args.window in
     let done = c.loop-slot.invariant in
-    let count = c.slots-slot-end.ensures ∙ ap (λ (w : Width). slots_of w Gapped) c.width-width.ensures in
-    let t₁ = g.R.Rows.sheet c.load_last-last.new.rows in let u = g.R.Rows.sheet c.take_slot.new.rows in
-    let test = c.loop-slot-test.true in
-    let same = tree_kept 1 t t₁ c.load_last-last.ensures.reads ∙ same_read s t Gapped c.args.row c.args.first c.args.max c.loop-slot.slot c.loop-slot.begin done.before done.read in
-    let within : c.loop-slot.slot < slots_of s.tree.table.width Gapped = omega arith in
-    let x = child_in s.tree.table Gapped c.args.row c.loop-slot.slot c.loop-slot.begin c.load_last-last.result in
-    let below = c.take_slot.ensures.below ∙ ap (λ (r : Rooted). with_room w c.loop-slot.slot (child_in r.table Gapped c.args.row c.loop-slot.slot c.loop-slot.begin c.load_last-last.result) c.loop-slot.below) same in
-    let found = c.take_slot.ensures.found ∙ ap (λ (r : Rooted). has_sure w.size w.lo w.hi (child_in r.table Gapped c.args.row c.loop-slot.slot c.loop-slot.begin c.load_last-last.result ∷ [])) same in
-    let loads = reads_more 1 2 t t₁ u c.load_last-last.ensures.reads c.take_slot.ensures.reads in
-    let part = read_part s t u Gapped c.args.row c.args.first c.args.max c.loop-slot.slot c.loop-slot.begin c.load_last-last.result done.before done.read c.load_last-last.ensures.last loads within in
-    seen_stops w c.loop-slot.below done.before done.holds x c.loop-slot.slot done.read.count c.take_slot.new.below below c.take_slot.result found part.0 _ part.1 c.if-take_slot.true
+    let at = goal.at.returns-then-take_slot-clause-below g c in
+    let here = at_slot g at.After-load_last-last in
+    let part = slot_part here in
+    seen_stops c.args.window c.loop-slot.below done.before done.holds (child_in (g.R.Rows.sheet c.args.rows.now).tree.table Gapped c.args.row c.loop-slot.slot c.loop-slot.begin c.load_last-last.result) c.loop-slot.slot done.read.count c.take_slot.new.below (below g at.After-take_slot here) c.take_slot.result (found g at.After-take_slot here) part.0 _ part.1 c.if-take_slot.true
 
 pub returns-then-max-last-clause-below : goal.returns-then-max-last-clause-below
 returns-then-max-last-clause-below g c =
-    let s = g.R.Rows.sheet c.args.rows.now in let t = g.R.Rows.sheet c.loop-slot.rows in let w = c.args.window in
-    let done = c.loop-slot.invariant in
-    let count = c.slots-slot-end.ensures ∙ ap (λ (w : Width). slots_of w Gapped) c.width-width.ensures in
-    let t₁ = g.R.Rows.sheet c.load_last-last.new.rows in let u = g.R.Rows.sheet c.take_slot.new.rows in
-    let test = c.loop-slot-test.true in
-    let same = tree_kept 1 t t₁ c.load_last-last.ensures.reads ∙ same_read s t Gapped c.args.row c.args.first c.args.max c.loop-slot.slot c.loop-slot.begin done.before done.read in
-    let within : c.loop-slot.slot < slots_of s.tree.table.width Gapped = omega arith in
-    let x = child_in s.tree.table Gapped c.args.row c.loop-slot.slot c.loop-slot.begin c.load_last-last.result in
-    let below = c.take_slot.ensures.below ∙ ap (λ (r : Rooted). with_room w c.loop-slot.slot (child_in r.table Gapped c.args.row c.loop-slot.slot c.loop-slot.begin c.load_last-last.result) c.loop-slot.below) same in
-    let found = c.take_slot.ensures.found ∙ ap (λ (r : Rooted). has_sure w.size w.lo w.hi (child_in r.table Gapped c.args.row c.loop-slot.slot c.loop-slot.begin c.load_last-last.result ∷ [])) same in
-    let loads = reads_more 1 2 t t₁ u c.load_last-last.ensures.reads c.take_slot.ensures.reads in
-    seen_all w c.take_slot.new.below _ _ (seen_on w c.loop-slot.below done.before done.holds x c.loop-slot.slot done.read.count c.take_slot.new.below below c.take_slot.result found c.if-take_slot.false) (read_last s t u Gapped c.args.row c.args.first c.args.max c.loop-slot.slot c.loop-slot.begin c.load_last-last.result done.before done.read c.load_last-last.ensures.last loads within c.if-max-last.true)
+    let at = goal.at.returns-then-max-last-clause-below g c in
+    let here = at_slot g at.After-load_last-last in
+    seen_all c.args.window c.take_slot.new.below _ _ (goes_on g at.After-take_slot here c.if-take_slot.false) (slot_last here c.if-max-last.true)
 
 pub loop-slot-preserved : goal.loop-slot-preserved
 loop-slot-preserved g c =
-    let s = g.R.Rows.sheet c.args.rows.now in let t = g.R.Rows.sheet c.loop-slot.rows in let w = c.args.window in
-    let done = c.loop-slot.invariant in
-    let count = c.slots-slot-end.ensures ∙ ap (λ (w : Width). slots_of w Gapped) c.width-width.ensures in
-    let t₁ = g.R.Rows.sheet c.load_last-last.new.rows in let u = g.R.Rows.sheet c.take_slot.new.rows in
-    let test = c.loop-slot-test.true in
-    let same = tree_kept 1 t t₁ c.load_last-last.ensures.reads ∙ same_read s t Gapped c.args.row c.args.first c.args.max c.loop-slot.slot c.loop-slot.begin done.before done.read in
-    let within : c.loop-slot.slot < slots_of s.tree.table.width Gapped = omega arith in
-    let x = child_in s.tree.table Gapped c.args.row c.loop-slot.slot c.loop-slot.begin c.load_last-last.result in
-    let below = c.take_slot.ensures.below ∙ ap (λ (r : Rooted). with_room w c.loop-slot.slot (child_in r.table Gapped c.args.row c.loop-slot.slot c.loop-slot.begin c.load_last-last.result) c.loop-slot.below) same in
-    let found = c.take_slot.ensures.found ∙ ap (λ (r : Rooted). has_sure w.size w.lo w.hi (child_in r.table Gapped c.args.row c.loop-slot.slot c.loop-slot.begin c.load_last-last.result ∷ [])) same in
-    let loads = reads_more 1 2 t t₁ u c.load_last-last.ensures.reads c.take_slot.ensures.reads in
-    read_on s t u Gapped c.args.row c.args.first c.args.max c.loop-slot.slot c.loop-slot.begin c.load_last-last.result done.before done.read c.load_last-last.ensures.last loads within (HasSeen w c.take_slot.new.below) c.if-max-last.false
-    (seen_on w c.loop-slot.below done.before done.holds x c.loop-slot.slot done.read.count c.take_slot.new.below below c.take_slot.result found c.if-take_slot.false)
+    let at = goal.at.loop-slot-preserved g c in
+    let here = at_slot g at.After-load_last-last in
+    slot_on here 2 (g.R.Rows.sheet c.take_slot.new.rows) (omega arith) c.take_slot.ensures.reads (HasSeen c.args.window c.take_slot.new.below) c.if-max-last.false (goes_on g at.After-take_slot here c.if-take_slot.false)
 
 pub returns-clause-below : goal.returns-clause-below
 returns-clause-below g c =
-    let s = g.R.Rows.sheet c.args.rows.now in let t = g.R.Rows.sheet c.loop-slot.rows in let w = c.args.window in
     let done = c.loop-slot.invariant in
-    let count = c.slots-slot-end.ensures ∙ ap (λ (w : Width). slots_of w Gapped) c.width-width.ensures in
-    let test = c.loop-slot-test.false in let most = c.loop-slot.auto.slot-end in
-    let all : c.loop-slot.slot ≡ slots_of s.tree.table.width Gapped = omega arith in
-    seen_all w c.loop-slot.below done.before _ done.holds (read_all s t Gapped c.args.row c.args.first c.args.max c.loop-slot.slot c.loop-slot.begin done.before done.read all).0
+    let at_end : c.loop-slot.slot ≡ slots_of (g.R.Rows.sheet c.args.rows.now).tree.table.width Gapped = omega (arith, c.slots-slot-end.ensures ∙ ap (λ (w : Width). slots_of w Gapped) c.width-width.ensures, c.loop-slot-test.false, c.loop-slot.auto.slot-end) in
+    seen_all c.args.window c.loop-slot.below done.before _ done.holds (read_all (g.R.Rows.sheet c.args.rows.now) (g.R.Rows.sheet c.loop-slot.rows) Gapped c.args.row c.args.first c.args.max c.loop-slot.slot c.loop-slot.begin done.before done.read at_end).0

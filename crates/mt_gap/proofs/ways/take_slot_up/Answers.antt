@@ -1,4 +1,4 @@
-use Rattle.mt_gap.proofs.Prelude.{◌≡◌, ap, ◌∙◌, refl, if◌then◌else◌, Gapped, Child, child_in, may_have, inside, with_room_up, into_one_more}
+use Rattle.mt_gap.proofs.Prelude.{◌≡◌, ◌∙◌, refl, if◌then◌else◌, Gapped, child_in, may_have, inside, with_room_up, into_one_more}
 use Rattle.mt_gap.specs.declared.ways.Below.TheVariants as below_row
 use Rattle.mt_gap.proofs.Asking.{room_some}
 use Rattle.mt_gap.proofs.ways.take_slot_up.Goals as goal
