@@ -11,6 +11,10 @@ use Rattle.mt_splice.proofs.WindowRows.{sides_same, same_between, one_between, f
 abbrev number_of : Span → ℕ
 number_of x = row_in x.word
 
+-- the row of a step, and where it begins and ends
+step_ends : (t : Rooted) (p : PathStep) (x : Span) (index : ℕ) → p ≡ step_in t.table x index → (p.row ≡ number_of x) × (p.min ≡ x.first) × (p.max ≡ x.last)
+step_ends t p x index is = (ap (λ (z : PathStep). z.row) is, ap (λ (z : PathStep). z.min) is, ap (λ (z : PathStep). z.max) is)
+
 -- ---- a window by its steps
 
 module _ {t : Rooted} (kind : Kind) (h : ℕ) (stands : Stands (tree_as kind t) h) (depth : ℕ) (low : depth ≤ h) {w : Window} (on : IsWindowOn t depth w) where
@@ -41,23 +45,11 @@ module _ {t : Rooted} (kind : Kind) (h : ℕ) (stands : Stands (tree_as kind t) 
   last_is : w.last ≡ step_in t.table y j
   last_is = on.last ∙ step T h stands j depth on.within low
 
-  first_row_is : w.first.row ≡ number_of x
-  first_row_is = ap (λ (z : PathStep). z.row) first_is
+  first_ends : (w.first.row ≡ number_of x) × (w.first.min ≡ x.first) × (w.first.max ≡ x.last)
+  first_ends = step_ends t w.first x i first_is
 
-  first_min_is : w.first.min ≡ x.first
-  first_min_is = ap (λ (z : PathStep). z.min) first_is
-
-  first_max_is : w.first.max ≡ x.last
-  first_max_is = ap (λ (z : PathStep). z.max) first_is
-
-  last_row_is : w.last.row ≡ number_of y
-  last_row_is = ap (λ (z : PathStep). z.row) last_is
-
-  last_min_is : w.last.min ≡ y.first
-  last_min_is = ap (λ (z : PathStep). z.min) last_is
-
-  last_max_is : w.last.max ≡ y.last
-  last_max_is = ap (λ (z : PathStep). z.max) last_is
+  last_ends : (w.last.row ≡ number_of y) × (w.last.min ≡ y.first) × (w.last.max ≡ y.last)
+  last_ends = step_ends t w.last y j last_is
 
   x_holds : (x.first ≤ i) × (i ≤ x.last)
   x_holds = let at = place T h stands i depth i_within low in (at.from, at.to)
@@ -74,45 +66,45 @@ module _ {t : Rooted} (kind : Kind) (h : ℕ) (stands : Stands (tree_as kind t) 
       let order = on.order in let one = x_holds in let other = y_holds in let end = y_ends in
       let left = sides_same T h stands i x.first depth i_within low (omega arith) (omega arith) in
       let right = sides_same T h stands j y.last depth on.within low (omega arith) (omega arith) in
-      (λ m. map number_of (between (first_min_is m) (last_max_is m) rows)) ∙ ap (map number_of) (same_between T h stands i j x.first y.last depth on.order on.within low (omega arith) y_ends left.1 right.2)
+      (λ m. map number_of (between (first_ends.1 m) (last_ends.2 m) rows)) ∙ ap (map number_of) (same_between T h stands i j x.first y.last depth on.order on.within low (omega arith) y_ends left.1 right.2)
 
   -- one row
   pub one_in : w.last.max ≤ w.first.max → numbers_in t depth w ≡ w.first.row ∷ []
   one_in few =
-      let order = on.order in let one = x_holds in let other = y_holds in let first = first_max_is in let last = last_max_is in
+      let order = on.order in let one = x_holds in let other = y_holds in let first = first_ends.2 in let last = last_ends.2 in
       let sides = sides_same T h stands i j depth i_within low (omega arith) (omega arith) in
-      numbers_are ∙ (ap (map number_of) (same_between T h stands i i i j depth (omega arith) i_within low on.order on.within refl sides.2 ∙ one_between T h stands i depth i_within low) ∙ ap (λ (n : ℕ). n ∷ []) (sym first_row_is))
+      numbers_are ∙ (ap (map number_of) (same_between T h stands i i i j depth (omega arith) i_within low on.order on.within refl sides.2 ∙ one_between T h stands i depth i_within low) ∙ ap (λ (n : ℕ). n ∷ []) (sym first_ends.0))
 
   -- the row of the last index is another
   later : w.first.max < w.last.max → high_of T depth i ≤ j
   later more =
       ⊎_elim (λ (apart : x.last < j). omega arith)
       (λ (inside : j ≤ x.last).
-      let order = on.order in let one = x_holds in let first = first_max_is in let last = last_max_is in
+      let order = on.order in let one = x_holds in let first = first_ends.2 in let last = last_ends.2 in
       let same = ap (λ (z : Span). z.last) (sides_same T h stands i j depth i_within low (omega arith) (omega arith)).0 in absurd (omega arith))
       (cases_lt x.last j)
 
   -- two rows side by side
   pub two_in : w.first.max < w.last.max → w.last.min ≤ w.first.max + 1 → numbers_in t depth w ≡ w.first.row ∷ w.last.row ∷ []
   two_in more few =
-      let order = later more in let other = y_holds in let first = first_max_is in let last = last_min_is in
+      let order = later more in let other = y_holds in let first = first_ends.2 in let last = last_ends.1 in
       let sides = sides_same T h stands j (high_of T depth i) depth on.within low (omega arith) (omega arith) in
       numbers_are
       ∙ (ap (map number_of)
       (first_between T h stands i j depth i_within on.within low order
       ∙ ap (λ (l : List Span). x ∷ l) (same_between T h stands j j (high_of T depth i) j depth (omega arith) on.within low order on.within sides.1 refl ∙ one_between T h stands j depth on.within low))
-      ∙ (λ m. sym first_row_is m ∷ sym last_row_is m ∷ []))
+      ∙ (λ m. sym first_ends.0 m ∷ sym last_ends.0 m ∷ []))
 
   -- more
   pub more_in : w.first.max + 1 < w.last.min → numbers_in t depth w ≡ w.first.row ∷ (numbers_between t depth (w.first.max + 1) (w.last.min - 1) ++ (w.last.row ∷ []))
   more_in many =
-      let first = first_max_is in let last = last_min_is in let max = last_max_is in let other = y_holds in
+      let first = first_ends.2 in let last = last_ends.1 in let max = last_ends.2 in let other = y_holds in
       let order = later (omega arith) in
       numbers_are
       ∙ (ap (map number_of)
       (first_between T h stands i j depth i_within on.within low order ∙ ap (λ (l : List Span). x ∷ l) (last_between T h stands (high_of T depth i) j depth on.within low (omega arith) (omega arith)))
       ∙ (ap (λ (l : List ℕ). number_of x ∷ l) (map-append number_of (between (high_of T depth i) (low_of T depth j - 1) rows) (y ∷ []))
-      ∙ (λ m. sym first_row_is m ∷ (map number_of (between (sym first_max_is m + 1) (sym last_min_is m - 1) rows) ++ (sym last_row_is m ∷ [])))))
+      ∙ (λ m. sym first_ends.0 m ∷ (map number_of (between (sym first_ends.2 m + 1) (sym last_ends.1 m - 1) rows) ++ (sym last_ends.0 m ∷ [])))))
 
   -- so the level is not the root's
   pub below_root : w.first.max + 1 < w.last.min → 0 < depth
@@ -120,15 +112,15 @@ module _ {t : Rooted} (kind : Kind) (h : ℕ) (stands : Stands (tree_as kind t) 
     | inl below ↦ below
     | inr none ↦
         let root : depth ≡ 0 = omega (arith, none) in
-        let first = first_max_is in
+        let first = first_ends.2 in
         let ends : x.last ≡ top_of T = ap (λ (d : ℕ). (row_at T d i).last) root ∙ ap (λ (z : Span). z.last) (row_on_top t.table (top_row T) i) in
-        let last = last_min_is in let held = y_holds in let within = on.within in
+        let last = last_ends.1 in let held = y_holds in let within = on.within in
         absurd (omega (arith, many, first, ends, last, held.0, within))
   ]
 
   pub between_is_stretch : w.first.max + 1 < w.last.min → IsStretchOn t depth (w.first.max + 1) (w.last.min - 1)
   between_is_stretch many =
-      let first = first_max_is in let last = last_min_is in let other = y_holds in let end = y_ends in
+      let first = first_ends.2 in let last = last_ends.1 in let other = y_holds in let end = y_ends in
       let begins = begins_behind T h stands i depth i_within low (omega arith) in
       let ends = ends_ahead T h stands j depth on.within low (omega arith) in
       record {
@@ -143,7 +135,7 @@ module _ {t : Rooted} (kind : Kind) (h : ℕ) (stands : Stands (tree_as kind t) 
   -- it has a first row
   pub head_in : (rest : List ℕ) × (numbers_in t depth w ≡ w.first.row ∷ rest)
   head_in =
-      ⊎_elim (λ (more : w.first.max < w.last.max). (map number_of (between (high_of T depth i) j rows), numbers_are ∙ (ap (map number_of) (first_between T h stands i j depth i_within on.within low (later more)) ∙ ap (λ (n : ℕ). n ∷ map number_of (between (high_of T depth i) j rows)) (sym first_row_is))))
+      ⊎_elim (λ (more : w.first.max < w.last.max). (map number_of (between (high_of T depth i) j rows), numbers_are ∙ (ap (map number_of) (first_between T h stands i j depth i_within on.within low (later more)) ∙ ap (λ (n : ℕ). n ∷ map number_of (between (high_of T depth i) j rows)) (sym first_ends.0))))
       (λ (few : w.last.max ≤ w.first.max). ([], one_in few)) (cases_lt w.first.max w.last.max)
 
 -- ---- while others are buried

@@ -1,5 +1,6 @@
 -- A tree is to be emptied: no row is drafted, and the windows are those of all its levels.
 use Rattle.mt_splice.proofs.Prelude.{◌≡◌, ℕ, suc, ◌+◌, ◌-◌, ◌≤◌, List, [], length, refl, sym, ap, ◌∙◌, subst, inl, arith, Call, Kind, Range, Reply, Width, acted, deepest, greatest, Book, PathStep, path_in, at_within, levels, place, Root, Tree, Stands, top_of, map_by, tree_as, IsWhole, OnlyReads, Rooted, Sheet, inner_kind, reads_on, same_tree, Climb, Top, MayClear, HasClimbed, windows_over, IsBegunBy, before_of, start_for, Before, IsAnswer, high_of, low_of, row_at, Start, rows_at, row_in}
+use Rattle.mt_splice.proofs.Clearing as clearing
 use Rattle.mt_splice.proofs.Clearing.{left_levels}
 use Rattle.mt_splice.proofs.Steps.{ledger_reads}
 use Rattle.mt_splice.proofs.SpliceBegins.{case_of, nothing_done, stands_at_start}
@@ -13,7 +14,7 @@ module _ {kind : Kind} {s : Sheet} {book : Book} {number : ℕ} {call : Call} {r
   start = start_for kind s call 0 (greatest s.tree.table.width)
 
   stands : Stands t start.height
-  stands = stands_at_start t may.kept.lawful.words may.some
+  stands = clearing.stands may
 
   begin : low_of t start.height 0 ≡ 0
   begin = let from = (place t start.height stands 0 start.height (omega arith) (omega arith)).from in omega arith

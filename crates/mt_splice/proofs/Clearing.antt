@@ -11,7 +11,7 @@ module _ {kind : Kind} {s : Sheet} {book : Book} {number : ℕ} {call : Call} {r
   abbrev start : Start
   start = start_for kind s call 0 (greatest s.tree.table.width)
 
-  stands : Stands t start.height
+  pub stands : Stands t start.height
   stands = stands_at_start t may.kept.lawful.words may.some
 
   -- ---- the paths to its ends

@@ -39,14 +39,14 @@ module _ (f : ends.Finish) (s' : Sheet) (o : Outcome f s') where
   abbrev b : Before
   b = f.before
 
+  low' : (row : ℕ) → row < first_row + s'.tree.rows → row < first_row + b.sheet.tree.rows
+  low' row last = subst (λ (n : ℕ). row < first_row + n) o.rows last
+
   abbrev s : Sheet
   s = f.sheet
 
   abbrev book : Book
   book = f.book
-
-  low' : (row : ℕ) → row < first_row + s'.tree.rows → row < first_row + b.sheet.tree.rows
-  low' row last = subst (λ (n : ℕ). row < first_row + n) o.rows last
 
   tree : IsTreeOf s'.tree b.kind
   tree = record { width = o.width ∙ f.may.case.was.kept.lawful.width; words = is_tree (tree_as b.kind s'.tree) f.may.new o.stands }

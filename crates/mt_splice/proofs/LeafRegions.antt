@@ -78,11 +78,11 @@ module _ (t : Tree) (h : ℕ) (stands : Stands t h) where
     abbrev left_leaf : Span
     left_leaf = row_of t h first
 
-    abbrev right_leaf : Span
-    right_leaf = row_of t h last
-
     abbrev left_at : At 0 (top_of t + 1) (rows_at t h) first left_leaf
     left_at = end_at l first from_within is_left
+
+    abbrev right_leaf : Span
+    right_leaf = row_of t h last
 
     abbrev right_at : At 0 (top_of t + 1) (rows_at t h) last right_leaf
     right_at = end_at r last within is_right

@@ -47,6 +47,9 @@ module _ {start : Start} {below : List Span} {left right : List PathStep} {d h :
   abbrev i : ℕ
   i = w.from
 
+  within_i : i ≤ top_of t
+  within_i = begin_within w.gathered
+
   abbrev j : ℕ
   j = w.to
 
@@ -55,9 +58,6 @@ module _ {start : Start} {below : List Span} {left right : List PathStep} {d h :
 
   abbrev kind : RowKind
   kind = kind_on t.gapped (suc h)
-
-  within_i : i ≤ top_of t
-  within_i = begin_within w.gathered
 
   pub levels_here : start.height ≡ d + suc h
   levels_here = let levels = w.gathered.levels in omega arith

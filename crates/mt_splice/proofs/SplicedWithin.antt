@@ -1,6 +1,7 @@
 -- What a replacement says of the indexes of the leaves that it replaces, it says of those that the store changes.
 use Rattle.mt_splice.proofs.Prelude.{◌≡◌, ℕ, ◌-◌, ◌≤◌, List, Bool, true, length, ap, ◌∙◌, subst, inl, inr, arith, Kind, Call, Reply, greatest, Book, row_in, Place, KeepsGaps, HasGapsBut, Tree, IsLawful, Stands, top_of, tree_as, IsLawfulOf, root_of, Rooted, Sheet, levels_map, PathStep, last_step, path_in, step_at, MayReplace, IsSpliced, is_unreached}
 use Rattle.mt_path.proofs.TreePaths as paths
+use Rattle.mt_splice.proofs.BetweenCalls.{spliced_as}
 use Rattle.mt_splice.proofs.SlotGaps.{weaker}
 use Rattle.mt_splice.proofs.SpliceBegins.{no_path}
 
@@ -34,24 +35,7 @@ new_everywhere is_new index other t all (inr (h, stands, rows)) = inr (
 pub spliced_within : {kind : Kind} {s s' : Sheet} {book book' : Book} {number : ℕ} {call : Call} {reply : Reply} {place : Place} {left right : List PathStep} {first last : ℕ} → IsLawfulOf s.tree kind → first ≤ last → last ≤ greatest s.tree.table.width
     → left ≡ path_in s.tree.table s.tree.root first → right ≡ path_in s.tree.table s.tree.root last → IsSpliced kind s s' book book' number call reply place (last_step left).min (last_step right).max
     → IsSpliced kind s s' book book' number call reply place first last
-spliced_within {kind} {s} {s'} {book} {book'} {number} {call} {reply} {place} {left} {right} {first} {last} lawful order within is_left is_right spliced = record {
-  rest = spliced.rest;
-  rows = spliced.rows;
-  tree = spliced.tree;
-  parents = spliced.parents;
-  map = spliced.map;
-  fewest = spliced.fewest;
-  gaps = λ index from to. gaps lawful.words index from to;
-  published = spliced.published;
-  kept = spliced.kept;
-  none_buried = spliced.none_buried;
-  live = spliced.live;
-  dead = spliced.dead;
-  marked = spliced.marked;
-  others = spliced.others;
-  moved = spliced.moved;
-  booked = spliced.booked;
-}
+spliced_within {kind} {s} {s'} {book} {book'} {number} {call} {reply} {place} {left} {right} {first} {last} lawful order within is_left is_right spliced = spliced_as s.reads spliced spliced.published (λ index from to. gaps lawful.words index from to)
   where
     gaps : IsLawful (tree_as kind s.tree) → (index : ℕ) → first ≤ index → index ≤ last → HasGapsBut (is_unreached s.tree) index (tree_as kind s'.tree)
     gaps (inl empty) index from to =

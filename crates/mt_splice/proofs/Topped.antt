@@ -1,5 +1,5 @@
 -- Where a climb ends: what is to be published, and which windows are to be buried.
-use Rattle.mt_splice.proofs.Prelude.{◌≡◌, ℕ, zero, suc, ◌+◌, ◌*◌, ◌-◌, ◌<◌, ◌≤◌, List, ◌∷◌, ◌++◌, length, take, refl, sym, ap, ◌∙◌, subst, inl, inr, ⊎_elim, arith, append-nil, Bool, true, eq-eqb, slice_index_or, if◌then◌else◌, take-length, cases_lt, Width, columns, Book, Item, Span, RowKind, RiseFrom, end_of, slot_column, name_at, slots_of, least_items, spans_from, Fills, sizes, after, fills_after, fills_end, fills_rise, length-spans_from, PathStep, path_in, row_on, step_at, at_within, place, child, lawful, same_row, slot_used, Root, Slot, Tree, Stands, covers_all, kind_on, top_of, Sheet, Table, column, inner_of, spans_in, row_most, Climb, Top, Next, RootAbove, NewRow, IsNothingLeft, IsLevelDrafted, HasClimbed, windows_over, IsRowTaken, AreRowsTaken, noted_row, noted_rows, IsPieceDrafted, AreHeld, part_of, heads, was_seen, IsLedger, depth_at, begin_at, new_at, level_of, AreAllHeld, newest_first, taken_by, windows_by, windows_above, Before, new_rows_of, span_to, MayBeCut, Seen, row_at, low_of, high_of, Gathered, IsNewRow, Start, rows_at, tree_with, [], Head, row_in, row_in-name_at}
+use Rattle.mt_splice.proofs.Prelude.{◌≡◌, ℕ, zero, suc, ◌+◌, ◌*◌, ◌-◌, ◌<◌, ◌≤◌, List, ◌∷◌, ◌++◌, length, take, refl, sym, ap, ◌∙◌, subst, ◌⊎◌, inl, inr, ⊎_elim, arith, append-nil, Bool, true, eq-eqb, slice_index_or, if◌then◌else◌, take-length, cases_lt, Width, columns, Book, Item, Span, RowKind, RiseFrom, end_of, slot_column, name_at, slots_of, least_items, spans_from, Fills, sizes, after, fills_after, fills_end, fills_rise, length-spans_from, PathStep, path_in, row_on, step_at, at_within, place, child, lawful, same_row, slot_used, Root, Slot, Tree, Stands, covers_all, kind_on, top_of, Sheet, Table, column, inner_of, spans_in, row_most, Climb, Top, Next, RootAbove, NewRow, IsNothingLeft, IsLevelDrafted, HasClimbed, EndsEmpty, EndsAtRoot, EndsAbove, EndsInSlot, Window, windows_over, IsRowTaken, AreRowsTaken, noted_row, noted_rows, IsPieceDrafted, AreHeld, part_of, heads, was_seen, IsLedger, depth_at, begin_at, new_at, level_of, AreAllHeld, newest_first, taken_by, windows_above, Before, new_rows_of, span_to, MayBeCut, Seen, row_at, low_of, high_of, Gathered, IsNewRow, Start, rows_at, tree_with, [], Head, row_in, row_in-name_at}
 use Rattle.mt_splice.specs.declared.decisions.Next.TheVariants.{Root as AtRoot, Slot as InSlot}
 use Rattle.mt_splice.proofs.Besides.{begin_within}
 use Rattle.mt_splice.proofs.DraftedLedger.{taken_behind, all_held_stay, ledger_then, taken_stay, width_then, held_then, noted_then}
@@ -127,6 +127,35 @@ module _ {b : Before} {start : Start} {s : Sheet} {book : Book} {depth : ℕ} {c
   first_row_is some x r = subst (λ (p : List Item × List ℕ). row_in (slice_index_or p.0 0 x).word ≡ slice_index_or p.1 0 r) (λ i. (sym d.up i, sym d.numbers i))
       (head_named (inner_of start.tree.gapped) (kind_on start.tree.gapped h) at d.l.items 0 d.l.ends d.l.rows (let many = many_new in omega arith) d.planned.0.many x r)
 
+  -- the climb ends on this level, with windows of whole levels above it, and a new root or none
+  has_ended : {s' : Sheet} {book' : Book} {c' : Climb} {top : Top} (root : List Seen) (over : ℕ) → let layers = d.l ∷ d.lower in let taken = root ++ taken_by start layers in
+      AreAllHeld start s'.tree.table.words (was_seen taken) layers → IsLedger b s' book' taken [] → c'.made.items ≡ new_rows_of s'.tree.table taken → length taken ≤ length (taken_by start layers) + 1
+      → c'.windows.items ≡ c.windows.items ++ windows_above start d.l.from d.l.to over → ((e : ℕ) → e < over → (e ≤ start.height) × (low_of start.tree e d.l.from ≡ 0) × (high_of start.tree e d.l.to ≡ top_of start.tree + 1)) → (0 < over → over ≡ depth)
+      → c'.inner ≡ c.inner → top.row ≡ row_in top.word → EndsEmpty start layers root over top ⊎ (EndsAtRoot start layers root over top ⊎ (EndsAbove start s' layers root over top ⊎ EndsInSlot start layers root over top)) → HasClimbed b start s' book' c' top
+  has_ended root over held ledger made one windows whole all inner names ends = record {
+    layers = d.l ∷ d.lower;
+    root = root;
+    from = d.l.from;
+    to = d.l.to;
+    over = over;
+    case = d.case;
+    stands = d.planned.0.gathered.stands;
+    planned = d.planned;
+    told = d.told;
+    held = held;
+    ledger = ledger;
+    made = made;
+    few = let few = few_all in omega arith;
+    order = d.planned.0.gathered.order;
+    within = d.planned.0.gathered.within;
+    windows = windows ∙ ap (λ (l : List Window). l ++ windows_above start d.l.from d.l.to over) d.windows;
+    whole = whole;
+    joined = λ some. let is = all some in let levels = d.at in omega arith;
+    inner = inner ∙ d.inner;
+    names = names;
+    ends = ends;
+  }
+
   -- the one row, where there is one
   module _ (one : length d.l.ends ≡ 1) (x : Item) where
     abbrev item : Item
@@ -153,42 +182,23 @@ ends_at_root {b} {start} {s} {book} {depth} {c} {c'} {rows} {new} {top} d x r wi
     let same = depth_is d in
     let begin : low_of start.tree depth d.l.from ≡ 0 = ap (λ (n : ℕ). low_of start.tree n d.l.from) (sym same) ∙ (sym min ∙ first) in
     let behind : high_of start.tree depth d.l.to ≡ top_of start.tree + 1 = ap (λ (n : ℕ). high_of start.tree n d.l.to) (sym same) ∙ (sym max ∙ ap (λ (n : ℕ). n + 1) last) in
-    record {
-      layers = d.l ∷ d.lower;
-      root = [];
-      from = d.l.from;
-      to = d.l.to;
-      over = depth;
-      case = d.case;
-      stands = g.stands;
-      planned = d.planned;
-      told = d.told;
-      held = d.held;
-      ledger = d.ledger;
-      made = made ∙ d.made;
-      few = let few = few_all d in omega arith;
-      order = g.order;
-      within = g.within;
-      windows = windows ∙ (λ i. d.windows i ++ over i);
-      whole = λ e less. whole_above start g.stands d.l.from d.l.to (from_within d) g.within depth low begin behind e (omega arith);
-      joined = λ some. let levels = d.at in omega arith;
-      inner = inner ∙ d.inner;
-      names = row ∙ (sym (first_row_is d (let many = many_new d in omega arith) x r) ∙ ap row_in (sym word));
-      ends = inr (inl (record {
-        l = d.l;
-        lower = d.lower;
-        are = refl;
-        x = span d one x;
-        one = one_span d one x;
-        first = omega arith;
-        last = omega arith;
-        no_root = refl;
-        above = sym same;
-        place = place;
-        word = word;
-        gap = gap;
-      }));
-    }
+    has_ended d [] depth d.held d.ledger (made ∙ d.made) (omega arith) (windows ∙ ap (λ (l : List Window). c.windows.items ++ l) over)
+    (λ e less. whole_above start g.stands d.l.from d.l.to (from_within d) g.within depth low begin behind e (omega arith)) (λ _. refl) inner
+    (row ∙ (sym (first_row_is d (let many = many_new d in omega arith) x r) ∙ ap row_in (sym word)))
+    (inr (inl (record {
+      l = d.l;
+      lower = d.lower;
+      are = refl;
+      x = span d one x;
+      one = one_span d one x;
+      first = omega arith;
+      last = omega arith;
+      no_root = refl;
+      above = sym same;
+      place = place;
+      word = word;
+      gap = gap;
+    })))
 
 -- the rows have the width of the tree, and as many slots
 slots_same : {b : Before} {start : Start} {s : Sheet} {book : Book} {depth : ℕ} {c : Climb} {rows : List ℕ} {new : List Item} {next : Next} → IsLevelDrafted b start s book depth c rows new next → {width : Width} → width ≡ s.tree.table.width
@@ -208,43 +218,23 @@ ends_in_slot {b} {start} {s} {book} {depth} {c} {rows} {new} {top} d x r {width}
     let there = ap (λ (z : PathStep). z.min) (step_is start.tree start.height g.stands c.ways.right.items d.l.to depth g.within (omega arith) d.right) in
     let deeper : depth ≡ suc (depth - 1) = omega arith in
     let parent = step_is start.tree start.height g.stands c.ways.left.items d.l.from (depth - 1) (from_within d) (omega arith) d.left in
-    record {
-      layers = d.l ∷ d.lower;
-      root = [];
-      from = d.l.from;
-      to = d.l.to;
-      over = 0;
-      case = d.case;
-      stands = g.stands;
-      planned = d.planned;
-      told = d.told;
-      held = d.held;
-      ledger = d.ledger;
-      made = d.made;
-      few = let few = few_all d in omega arith;
-      order = g.order;
-      within = g.within;
-      windows = d.windows ∙ sym (append-nil (windows_by start (d.l ∷ d.lower)));
-      whole = λ e less. absurd (omega arith);
-      joined = λ some. absurd (omega arith);
-      inner = d.inner;
-      names = row ∙ (sym (first_row_is d (let many = many_new d in omega arith) x r) ∙ ap row_in (sym word));
-      ends = inr (inr (inr (record {
-        l = d.l;
-        lower = d.lower;
-        are = refl;
-        depth = depth - 1;
-        above = depth_is d ∙ deeper;
-        x = span d one x;
-        one = one_span d one x;
-        tells = sym d.up ∙ (only_item new x (many_new d ∙ one) ∙ (λ i. record { last = (slice_index_or new 0 x).last; word = (slice_index_or new 0 x).word; gap = sym gap i } ∷ []));
-        same = subst (λ (n : ℕ). row_at start.tree n d.l.from ≡ row_at start.tree n d.l.to) deeper (same_row start.tree start.height g.stands d.l.from d.l.to depth (from_within d) g.within (omega arith) (omega arith));
-        no_root = refl;
-        none = refl;
-        place = place ∙ (λ i. Slot (parent i).row (slot_column (slots_same d width_is i) (parent i).slot));
-        word = word;
-      })));
-    }
+    has_ended d [] 0 d.held d.ledger d.made (omega arith) (sym (append-nil c.windows.items)) (λ e less. absurd (omega arith)) (λ some. absurd (omega arith)) refl
+    (row ∙ (sym (first_row_is d (let many = many_new d in omega arith) x r) ∙ ap row_in (sym word)))
+    (inr (inr (inr (record {
+      l = d.l;
+      lower = d.lower;
+      are = refl;
+      depth = depth - 1;
+      above = depth_is d ∙ deeper;
+      x = span d one x;
+      one = one_span d one x;
+      tells = sym d.up ∙ (only_item new x (many_new d ∙ one) ∙ (λ i. record { last = (slice_index_or new 0 x).last; word = (slice_index_or new 0 x).word; gap = sym gap i } ∷ []));
+      same = subst (λ (n : ℕ). row_at start.tree n d.l.from ≡ row_at start.tree n d.l.to) deeper (same_row start.tree start.height g.stands d.l.from d.l.to depth (from_within d) g.within (omega arith) (omega arith));
+      no_root = refl;
+      none = refl;
+      place = place ∙ (λ i. Slot (parent i).row (slot_column (slots_same d width_is i) (parent i).slot));
+      word = word;
+    }))))
 
 -- its slot is one of the row above
 pub slot_fits : {b : Before} {start : Start} {s : Sheet} {book : Book} {depth : ℕ} {c : Climb} {rows : List ℕ} {new : List Item} → IsLevelDrafted b start s book depth c rows new InSlot → {width : Width} → width ≡ s.tree.table.width → (step_at c.ways.left.items (depth - 1)).slot < slots_of width c.inner
@@ -386,41 +376,22 @@ module _ {b : Before} {start : Start} {s : Sheet} {book : Book} {depth : ℕ} {c
         ∙ ap (λ (l : List Seen). new_rows_of s'.tree.table (l ++ taken_by start (d.l ∷ d.lower))) seen_is
 
     pub ends_above : {c' : Climb} {top : Top} → c'.made.items ≡ made' → c'.windows.items ≡ c.windows.items → c'.inner ≡ c.inner → top.place ≡ Root → top.word ≡ root.item.word → top.gap ≡ 0 → top.row ≡ root.row → HasClimbed b start s' book' c' top
-    ends_above {c'} {top} made windows inner place word gap row = record {
-      layers = d.l ∷ d.lower;
-      root = root_seen ∷ [];
-      from = d.l.from;
-      to = d.l.to;
-      over = 0;
-      case = d.case;
-      stands = g.stands;
-      planned = d.planned;
-      told = d.told;
-      held = held';
-      ledger = ledger';
-      made = made ∙ made_is;
-      few = let few = few_all d in omega arith;
-      order = g.order;
-      within = g.within;
-      windows = windows ∙ (d.windows ∙ sym (append-nil (windows_by start (d.l ∷ d.lower))));
-      whole = λ e less. absurd (omega arith);
-      joined = λ some. absurd (omega arith);
-      inner = inner ∙ d.inner;
-      names = row ∙ (sym (row_in-name_at root.row c.inner) ∙ ap row_in (sym (word ∙ ap (λ (x : Item). x.word) piece.up)));
-      ends = inr (inr (inl (record {
-        l = d.l;
-        lower = d.lower;
-        are = refl;
-        height = high;
-        two = two;
-        row = root.row;
-        inside = root_held.2;
-        holds = subst (IsNewRow s'.tree.table I root.row) d.up root_holds;
-        run = subst (λ (p : ℕ × List Item). MayBeCut start.tree H 0 p.0 (spans_from 0 p.1)) (λ i. (sym (fills_after 0 (top_of start.tree + 1) new new_all) i, d.up i)) run_is;
-        one_root = refl;
-        none = refl;
-        place = place;
-        word = word ∙ (ap (λ (x : Item). x.word) piece.up ∙ ap (name_at root.row) d.inner);
-        gap = gap;
-      })));
-    }
+    ends_above {c'} {top} made windows inner place word gap row =
+        has_ended d (root_seen ∷ []) 0 held' ledger' (made ∙ made_is) (omega arith) (windows ∙ sym (append-nil c.windows.items)) (λ e less. absurd (omega arith)) (λ some. absurd (omega arith)) inner
+        (row ∙ (sym (row_in-name_at root.row c.inner) ∙ ap row_in (sym (word ∙ ap (λ (x : Item). x.word) piece.up))))
+        (inr (inr (inl (record {
+          l = d.l;
+          lower = d.lower;
+          are = refl;
+          height = high;
+          holds = subst (IsNewRow s'.tree.table I root.row) d.up root_holds;
+          two = two;
+          row = root.row;
+          inside = root_held.2;
+          run = subst (λ (p : ℕ × List Item). MayBeCut start.tree H 0 p.0 (spans_from 0 p.1)) (λ i. (sym (fills_after 0 (top_of start.tree + 1) new new_all) i, d.up i)) run_is;
+          one_root = refl;
+          none = refl;
+          place = place;
+          word = word ∙ (ap (λ (x : Item). x.word) piece.up ∙ ap (name_at root.row) d.inner);
+          gap = gap;
+        }))))

@@ -28,7 +28,8 @@ pub fn begin_tree<R: Rows, B: Begun>(
 ) -> Place
     requires kind { above ≡ inner_of B.start.tree.gapped }
     requires first { IsFirstStore B.before B.start (R.sheet rows.old) book.old items.now event.now.call.now event.now.reply.now }
-    ensures spliced { IsSpliced B.before.kind B.before.sheet (R.sheet rows.new) B.before.book book.new B.before.number event.now.call.now event.now.reply.now result B.start.first B.start.last }
+    ensures spliced { IsSpliced B.before.kind B.before.sheet
+        (R.sheet rows.new) B.before.book book.new B.before.number event.now.call.now event.now.reply.now result B.start.first B.start.last }
     ensures root { result ≡ Root }
 {
     let mut made = NewRows::new();

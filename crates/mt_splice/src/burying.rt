@@ -8,7 +8,8 @@ ghost use Rattle.mt_layout.specs.Rows.{named_kind, row_in};
 ghost use Rattle.mt_path.specs.Paths.{path_in, step_at};
 ghost use Rattle.mt_rows.specs.Publish.{IsTreeOf};
 ghost use Rattle.mt_rows.specs.Sheet.{OnlyReads, after_bury};
-ghost use Rattle.mt_splice.specs.steps.Burials.{MayBeBuried, MayBeBuriedInTurn, after_burials, after_retirals, numbers_between, numbers_in, numbers_in_all, IsChildOn, IsSlotOfChild, IsWindowOn, IsStretchOn, LeadsTo, AreWindowsOn, span_on};
+ghost use Rattle.mt_splice.specs.steps.Burials.{MayBeBuried, MayBeBuriedInTurn, after_burials, after_retirals, numbers_between, numbers_in, numbers_in_all};
+ghost use Rattle.mt_splice.specs.steps.Burials.{IsChildOn, IsSlotOfChild, IsWindowOn, IsStretchOn, LeadsTo, AreWindowsOn, span_on};
 
 use crate::ways::{Window, step_on};
 use mt_free::RowBook;
@@ -97,7 +98,8 @@ fn bury_stretch<R: Rows>(
     requires below { 0 < depth }
     requires stretch { IsStretchOn (R.sheet rows.old).tree depth first last }
     requires may { MayBeBuriedInTurn (R.sheet rows.old) book.old (numbers_between (R.sheet rows.old).tree depth first last) number }
-    ensures { OnlyReads (after_burials (R.sheet rows.old) (numbers_between (R.sheet rows.old).tree depth first last)) (R.sheet rows.new) × (book.new ≡ after_retirals book.old (numbers_between (R.sheet rows.old).tree depth first last) number) }
+    ensures { OnlyReads (after_burials (R.sheet rows.old) (numbers_between (R.sheet rows.old).tree depth first last)) (R.sheet rows.new)
+        × (book.new ≡ after_retirals book.old (numbers_between (R.sheet rows.old).tree depth first last) number) }
 {
     let mut way = walk(rows, first);
     let kind = kind_above(rows);
@@ -116,7 +118,8 @@ fn bury_window<R: Rows>(rows: &mut R, book: &mut RowBook, window: &Window, depth
     requires tree { (kind : Kind) × IsTreeOf (R.sheet rows.old).tree kind }
     requires window { IsWindowOn (R.sheet rows.old).tree depth window.now }
     requires may { MayBeBuriedInTurn (R.sheet rows.old) book.old (numbers_in (R.sheet rows.old).tree depth window.now) number }
-    ensures { OnlyReads (after_burials (R.sheet rows.old) (numbers_in (R.sheet rows.old).tree depth window.now)) (R.sheet rows.new) × (book.new ≡ after_retirals book.old (numbers_in (R.sheet rows.old).tree depth window.now) number) }
+    ensures { OnlyReads (after_burials (R.sheet rows.old) (numbers_in (R.sheet rows.old).tree depth window.now)) (R.sheet rows.new)
+        × (book.new ≡ after_retirals book.old (numbers_in (R.sheet rows.old).tree depth window.now) number) }
 {
     let (first, last) = (window.first, window.last);
     bury_row(rows, book, first.row, number);
@@ -137,7 +140,8 @@ pub fn bury<R: Rows>(rows: &mut R, book: &mut RowBook, windows: &[Window], depth
     requires tree { (kind : Kind) × IsTreeOf (R.sheet rows.old).tree kind }
     requires windows { AreWindowsOn (R.sheet rows.old).tree depth windows.now }
     requires may { MayBeBuriedInTurn (R.sheet rows.old) book.old (numbers_in_all (R.sheet rows.old).tree depth windows.now) number }
-    ensures { OnlyReads (after_burials (R.sheet rows.old) (numbers_in_all (R.sheet rows.old).tree depth windows.now)) (R.sheet rows.new) × (book.new ≡ after_retirals book.old (numbers_in_all (R.sheet rows.old).tree depth windows.now) number) }
+    ensures { OnlyReads (after_burials (R.sheet rows.old) (numbers_in_all (R.sheet rows.old).tree depth windows.now)) (R.sheet rows.new)
+        × (book.new ≡ after_retirals book.old (numbers_in_all (R.sheet rows.old).tree depth windows.now) number) }
 {
     let Some((window, above)) = windows.split_first() else {
         return;

@@ -19,9 +19,11 @@ use std::marker::Brand;
 
 /// Empties the tree, with a name for what it begins with.
 fn clear_as<R: Rows, B: Begun>(rows: &mut R, book: &mut RowBook, kind: Kind, event: &Event<'_>)
-    requires begun { IsBegunBy B.before B.start kind (R.sheet rows.old) book.old event.now.number event.now.call.now 0 (greatest (R.sheet rows.old).tree.table.width) }
+    requires begun { IsBegunBy B.before B.start kind
+        (R.sheet rows.old) book.old event.now.number event.now.call.now 0 (greatest (R.sheet rows.old).tree.table.width) }
     requires may { MayClear kind (R.sheet rows.old) book.old event.now.number event.now.call.now event.now.reply.now }
-    ensures spliced { IsSpliced B.before.kind B.before.sheet (R.sheet rows.new) B.before.book book.new B.before.number event.now.call.now event.now.reply.now Root B.start.first B.start.last }
+    ensures spliced { IsSpliced B.before.kind B.before.sheet
+        (R.sheet rows.new) B.before.book book.new B.before.number event.now.call.now event.now.reply.now Root B.start.first B.start.last }
     ensures none_taken { book.new.free ≡ book.old.free }
 {
     let left = walk(rows, 0);
@@ -46,7 +48,8 @@ fn clear_as<R: Rows, B: Begun>(rows: &mut R, book: &mut RowBook, kind: Kind, eve
 /// Empties a tree: publishes 0 at the root word, by one store, and retires every node with the call's number. It takes no node.
 pub fn clear<R: Rows>(rows: &mut R, book: &mut RowBook, kind: Kind, event: &Event<'_>)
     requires { MayClear kind (R.sheet rows.old) book.old event.now.number event.now.call.now event.now.reply.now }
-    ensures spliced { IsSpliced kind (R.sheet rows.old) (R.sheet rows.new) book.old book.new event.now.number event.now.call.now event.now.reply.now Root 0 (greatest (R.sheet rows.old).tree.table.width) }
+    ensures spliced { IsSpliced kind (R.sheet rows.old) (R.sheet rows.new)
+        book.old book.new event.now.number event.now.call.now event.now.reply.now Root 0 (greatest (R.sheet rows.old).tree.table.width) }
     ensures none_taken { book.new.free ≡ book.old.free }
     ensures root { (R.sheet rows.new).tree.root ≡ 0 }
     ensures map { map_by (R.sheet rows.new).tree ≡ [] }

@@ -169,7 +169,8 @@ fn top_of<R: Rows, B: Begun>(
     drafted: &Drafted,
     depth: u32,
 ) -> Top
-    requires level { IsLevelDone B.before B.start (R.sheet rows.old) book.old depth climb.old drafted.now.heads.rows.items drafted.now.heads.items.items drafted.now.next }
+    requires level { IsLevelDone B.before B.start
+        (R.sheet rows.old) book.old depth climb.old drafted.now.heads.rows.items drafted.now.heads.items.items drafted.now.next }
     requires ends { drafted.now.next ≢ Up }
     ensures climbed { HasClimbed B.before B.start (R.sheet rows.new) book.new climb.new result }
     ensures none_buried { (R.sheet rows.new).buried ≡ (R.sheet rows.old).buried }

@@ -96,7 +96,8 @@ pub fn draft_piece<R: Rows>(
     requires rise { RiseFrom first items.now }
     requires entry { level.kind ≡ Leaf → Any (λ x. x.word ≢ 0) items.now }
     requires room { length made.old.items < most_taken }
-    ensures piece { IsPieceDrafted (R.sheet rows.old) (R.sheet rows.new) book.old book.new level.above level.kind first items.now made.old.items made.new.items result }
+    ensures piece { IsPieceDrafted (R.sheet rows.old)
+        (R.sheet rows.new) book.old book.new level.above level.kind first items.now made.old.items made.new.items result }
     ensures few { length made.new.items ≤ length made.old.items + 1 }
 {
     let row = draft_row(rows, book, level.kind, items);
@@ -121,7 +122,8 @@ pub fn draft_rows<R: Rows>(
 ) -> Heads
     requires room { length made.old.items + 3 ≤ most_taken }
     requires rows { MayDraftRows (R.sheet rows.old) book.old level.kind pieces.now.first items.now pieces.now.ends.items }
-    ensures rows { AreRowsDrafted (R.sheet rows.old) (R.sheet rows.new) book.old book.new level.above level.kind pieces.now.first items.now pieces.now.ends.items made.old.items made.new.items result.rows.items result.items.items }
+    ensures rows { AreRowsDrafted (R.sheet rows.old) (R.sheet rows.new) book.old book.new level.above
+        level.kind pieces.now.first items.now pieces.now.ends.items made.old.items made.new.items result.rows.items result.items.items }
     ensures few { length result.items.items ≤ 3 }
 {
     let mut numbers = ArrayVec::new();

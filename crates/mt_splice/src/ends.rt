@@ -52,8 +52,11 @@ pub fn publish_at<R: Rows, B: Begun>(
 )
     requires kind { kind ≡ inner_of B.start.tree.gapped }
     requires end { IsReadyToPublish B.before B.start (R.sheet rows.old) book.now inner.now top.now event.now.call.now event.now.reply.now }
-    ensures spliced { IsSpliced B.before.kind B.before.sheet (R.sheet rows.new) B.before.book book.now B.before.number event.now.call.now event.now.reply.now top.now.place B.start.first B.start.last }
-    ensures told { (row col gap : ℕ) → top.now.place ≡ Slot row col → TellsBelow B.before.kind (with_published (R.sheet rows.old).tree top.now.place top.now.word) top.now.word gap → TellsGapAt B.before.kind (R.sheet rows.new).tree top.now.place gap }
+    ensures spliced { IsSpliced B.before.kind B.before.sheet
+        (R.sheet rows.new) B.before.book book.now B.before.number event.now.call.now event.now.reply.now top.now.place B.start.first B.start.last }
+    ensures told { (row col gap : ℕ) → top.now.place ≡ Slot row col
+        → TellsBelow B.before.kind (with_published (R.sheet rows.old).tree top.now.place top.now.word) top.now.word gap
+        → TellsGapAt B.before.kind (R.sheet rows.new).tree top.now.place gap }
 {
     rows.publish(top.place, top.word, event.call, event.reply);
     tend_rows(rows, kind, inner);

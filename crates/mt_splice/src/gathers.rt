@@ -43,9 +43,12 @@ fn gather<R: Rows>(
     requires right_row { let right = window.now.last in (first_row ≤ right.row) × (right.row < first_row + (R.sheet rows.old).tree.rows) }
     requires left_slot { window.now.first.slot ≤ slots_of (R.sheet rows.old).tree.table.width kind }
     requires few { length new.now ≤ 3 }
-    requires more { let right = window.now.last in last < right.max → right.slot + 1 < length (items_of_row (R.sheet rows.old).tree.table kind right.row right.max) }
-    requires none { let right = window.now.last in right.max ≤ last → length (items_of_row (R.sheet rows.old).tree.table kind right.row right.max) ≤ right.slot + 1 }
-    ensures items { let t = (R.sheet rows.old).tree.table in let left = window.now.first in let right = window.now.last in run.new.items ≡ take left.slot (items_of_row t kind left.row left.max) ++ (new.now ++ drop (right.slot + 1) (items_of_row t kind right.row right.max)) }
+    requires more { let right = window.now.last in last < right.max
+        → right.slot + 1 < length (items_of_row (R.sheet rows.old).tree.table kind right.row right.max) }
+    requires none { let right = window.now.last in right.max ≤ last
+        → length (items_of_row (R.sheet rows.old).tree.table kind right.row right.max) ≤ right.slot + 1 }
+    ensures items { let t = (R.sheet rows.old).tree.table in let left = window.now.first in let right = window.now.last in
+        run.new.items ≡ take left.slot (items_of_row t kind left.row left.max) ++ (new.now ++ drop (right.slot + 1) (items_of_row t kind right.row right.max)) }
     ensures rest { OnlyReads (R.sheet rows.old) (R.sheet rows.new) }
 {
     let (left, right) = (&window.first, &window.last);

@@ -58,7 +58,8 @@ fn push_if_above(run: &mut Run, item: Item, last: u64)
 fn push_above<R: Rows>(rows: &mut R, leaf: &PathStep, last: u64, run: &mut Run)
     requires leaf { IsLeafStep (R.sheet rows.old).tree leaf.now last }
     requires room { length run.old.items + slots_of (R.sheet rows.old).tree.table.width Leaf ≤ run_room }
-    ensures items { run.new.items ≡ fold with_joined run.old.items (drop (slot_above (leaf_items (R.sheet rows.old).tree.table leaf.now) last) (leaf_items (R.sheet rows.old).tree.table leaf.now)) }
+    ensures items { run.new.items ≡ fold with_joined run.old.items
+        (drop (slot_above (leaf_items (R.sheet rows.old).tree.table leaf.now) last) (leaf_items (R.sheet rows.old).tree.table leaf.now)) }
     ensures rest { OnlyReads (R.sheet rows.old) (R.sheet rows.new) }
 {
     let slots = slots(rows.width(), RowKind::Leaf);
@@ -96,7 +97,8 @@ fn push_edited<R: Rows>(rows: &mut R, ways: &Ways, gathered: &mut Gathered, edit
     requires ends { (kind : Kind) × AreEnds kind (R.sheet rows.old).tree ways.now.left.items ways.now.right.items edit.now.first edit.now.last }
     requires some { ways.now.left.items ≢ [] }
     requires empty { gathered.old.run.items ≡ [] }
-    ensures run { spans_from (last_step ways.now.left.items).min gathered.new.run.items ≡ edited (region_of (R.sheet rows.old).tree.table ways.now.left.items ways.now.right.items) edit.now.first edit.now.last edit.now.entry }
+    ensures run { spans_from (last_step ways.now.left.items).min gathered.new.run.items ≡ edited
+        (region_of (R.sheet rows.old).tree.table ways.now.left.items ways.now.right.items) edit.now.first edit.now.last edit.now.entry }
     ensures rest { OnlyReads (R.sheet rows.old) (R.sheet rows.new) }
 {
     let left = leaf_of(&ways.left);
@@ -134,7 +136,8 @@ fn push_first(width: Width, edit: &Edit, run: &mut Run)
 pub fn fill_leaves<R: Rows>(rows: &mut R, ways: &Ways, gathered: &mut Gathered, edit: &Edit)
     requires ends { (kind : Kind) × AreEnds kind (R.sheet rows.old).tree ways.now.left.items ways.now.right.items edit.now.first edit.now.last }
     requires empty { gathered.old.run.items ≡ [] }
-    ensures run { spans_from (last_step ways.now.left.items).min gathered.new.run.items ≡ edited (region_of (R.sheet rows.old).tree.table ways.now.left.items ways.now.right.items) edit.now.first edit.now.last edit.now.entry }
+    ensures run { spans_from (last_step ways.now.left.items).min gathered.new.run.items ≡ edited
+        (region_of (R.sheet rows.old).tree.table ways.now.left.items ways.now.right.items) edit.now.first edit.now.last edit.now.entry }
     ensures rest { OnlyReads (R.sheet rows.old) (R.sheet rows.new) }
 {
     if ways.left.is_empty() {

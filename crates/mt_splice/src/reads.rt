@@ -39,7 +39,8 @@ pub fn push_items<R: Rows>(
     requires first { first_row ≤ step.now.row }
     requires last { step.now.row < first_row + (R.sheet rows.old).tree.rows }
     requires room { length run.old.items + (to - from) ≤ run_room }
-    ensures items { let t = (R.sheet rows.old).tree.table in run.new.items ≡ run.old.items ++ take (to - from) (items_from (slots_of t.width kind) (gaps_of t.width kind) t.words (base_of t step.now.row) step.now.max (slots_of t.width kind - from) from) }
+    ensures items { let t = (R.sheet rows.old).tree.table in run.new.items ≡ run.old.items ++ take (to - from)
+        (items_from (slots_of t.width kind) (gaps_of t.width kind) t.words (base_of t step.now.row) step.now.max (slots_of t.width kind - from) from) }
     ensures rest { OnlyReads (R.sheet rows.old) (R.sheet rows.new) }
 {
     let end = to.min(slots(rows.width(), kind));

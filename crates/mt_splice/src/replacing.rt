@@ -28,7 +28,8 @@ pub fn publish_climbed<R: Rows, B: Begun>(
     requires leaves { depth ≡ B.start.height }
     requires number { event.now.number ≡ B.before.number }
     requires answer { IsAnswer B.before B.start event.now.call.now event.now.reply.now }
-    ensures spliced { IsSpliced B.before.kind B.before.sheet (R.sheet rows.new) B.before.book book.new B.before.number event.now.call.now event.now.reply.now result.place B.start.first B.start.last }
+    ensures spliced { IsSpliced B.before.kind B.before.sheet
+        (R.sheet rows.new) B.before.book book.new B.before.number event.now.call.now event.now.reply.now result.place B.start.first B.start.last }
     ensures place { result.place ≡ top.place }
     ensures told { TellsGapAt B.before.kind (R.sheet rows.new).tree result.place result.gap }
     ensures none_taken { book.new.free ≡ book.old.free }
@@ -51,7 +52,8 @@ pub fn replace<R: Rows, B: Begun>(
     requires level { IsClimbing B.before B.start (R.sheet rows.old) book.old Leaf (length climb.old.ways.left.items - 1) climb.old }
     requires number { event.now.number ≡ B.before.number }
     requires answer { IsAnswer B.before B.start event.now.call.now event.now.reply.now }
-    ensures spliced { IsSpliced B.before.kind B.before.sheet (R.sheet rows.new) B.before.book book.new B.before.number event.now.call.now event.now.reply.now result.place B.start.first B.start.last }
+    ensures spliced { IsSpliced B.before.kind B.before.sheet
+        (R.sheet rows.new) B.before.book book.new B.before.number event.now.call.now event.now.reply.now result.place B.start.first B.start.last }
     ensures told { TellsGapAt B.before.kind (R.sheet rows.new).tree result.place result.gap }
 {
     let depth = climb.ways.left.len() as u32 - 1;

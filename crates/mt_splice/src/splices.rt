@@ -30,12 +30,15 @@ fn splice_as<R: Rows, B: Begun>(
     climb: &mut Climb,
     event: &Event<'_>,
 ) -> Spliced
-    requires begun { IsBegunBy B.before B.start kind (R.sheet rows.old) book.old event.now.number event.now.call.now (last_step climb.old.ways.left.items).min (last_step climb.old.ways.right.items).max }
-    requires may { MaySplice kind (R.sheet rows.old) book.old climb.old.ways.left.items climb.old.ways.right.items climb.old.gathered.run.items event.now.number event.now.call.now event.now.reply.now }
+    requires begun { IsBegunBy B.before B.start kind (R.sheet rows.old) book.old event.now.number event.now.call.now
+        (last_step climb.old.ways.left.items).min (last_step climb.old.ways.right.items).max }
+    requires may { MaySplice kind (R.sheet rows.old) book.old climb.old.ways.left.items
+        climb.old.ways.right.items climb.old.gathered.run.items event.now.number event.now.call.now event.now.reply.now }
     requires inner { climb.old.inner ≡ inner_kind kind }
     requires windows { climb.old.windows.items ≡ [] }
     requires made { climb.old.made.items ≡ [] }
-    ensures spliced { IsSpliced B.before.kind B.before.sheet (R.sheet rows.new) B.before.book book.new B.before.number event.now.call.now event.now.reply.now result.place B.start.first B.start.last }
+    ensures spliced { IsSpliced B.before.kind B.before.sheet
+        (R.sheet rows.new) B.before.book book.new B.before.number event.now.call.now event.now.reply.now result.place B.start.first B.start.last }
     ensures told { TellsGapAt B.before.kind (R.sheet rows.new).tree result.place result.gap }
 {
     if climb.ways.left.is_empty() {
@@ -54,11 +57,13 @@ fn splice_climb<R: Rows>(
     climb: &mut Climb,
     event: &Event<'_>,
 ) -> Spliced
-    requires may { MaySplice kind (R.sheet rows.old) book.old climb.old.ways.left.items climb.old.ways.right.items climb.old.gathered.run.items event.now.number event.now.call.now event.now.reply.now }
+    requires may { MaySplice kind (R.sheet rows.old) book.old climb.old.ways.left.items
+        climb.old.ways.right.items climb.old.gathered.run.items event.now.number event.now.call.now event.now.reply.now }
     requires inner { climb.old.inner ≡ inner_kind kind }
     requires windows { climb.old.windows.items ≡ [] }
     requires made { climb.old.made.items ≡ [] }
-    ensures spliced { IsSpliced kind (R.sheet rows.old) (R.sheet rows.new) book.old book.new event.now.number event.now.call.now event.now.reply.now result.place (last_step climb.old.ways.left.items).min (last_step climb.old.ways.right.items).max }
+    ensures spliced { IsSpliced kind (R.sheet rows.old) (R.sheet rows.new) book.old book.new event.now.number event.now.call.now
+        event.now.reply.now result.place (last_step climb.old.ways.left.items).min (last_step climb.old.ways.right.items).max }
     ensures told { TellsGapAt kind (R.sheet rows.new).tree result.place result.gap }
 {
     splice_as::<R, Brand>(rows, book, kind, climb, event)
@@ -79,7 +84,8 @@ pub fn splice<R: Rows>(
     reply: &Reply,
 ) -> Place
     requires { MaySplice kind (R.sheet rows.old) book.old left.now.items right.now.items items.now.items number call.now reply.now }
-    ensures { IsSpliced kind (R.sheet rows.old) (R.sheet rows.new) book.old book.new number call.now reply.now result (last_step left.now.items).min (last_step right.now.items).max }
+    ensures { IsSpliced kind (R.sheet rows.old) (R.sheet rows.new) book.old book.new number call.now reply.now result
+        (last_step left.now.items).min (last_step right.now.items).max }
 {
     let mut climb = new_climb(inner_kind(kind));
     copy_into(left, &mut climb.ways.left);
@@ -104,8 +110,10 @@ pub fn replace_range<R: Rows>(
     edit: &Edit,
     event: &Event<'_>,
 ) -> Spliced
-    requires { MayReplace kind (R.sheet rows.old) book.old left.now.items edit.now.first edit.now.last edit.now.entry event.now.number event.now.call.now event.now.reply.now }
-    ensures spliced { IsSpliced kind (R.sheet rows.old) (R.sheet rows.new) book.old book.new event.now.number event.now.call.now event.now.reply.now result.place edit.now.first edit.now.last }
+    requires { MayReplace kind (R.sheet rows.old)
+        book.old left.now.items edit.now.first edit.now.last edit.now.entry event.now.number event.now.call.now event.now.reply.now }
+    ensures spliced { IsSpliced kind (R.sheet rows.old)
+        (R.sheet rows.new) book.old book.new event.now.number event.now.call.now event.now.reply.now result.place edit.now.first edit.now.last }
     ensures told { TellsGapAt kind (R.sheet rows.new).tree result.place result.gap }
 {
     let mut climb = new_climb(inner_kind(kind));

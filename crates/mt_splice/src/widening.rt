@@ -76,7 +76,8 @@ fn append(run: &mut Run, kind: RowKind, items: &Run)
 fn take_behind<R: Rows>(rows: &mut R, kind: RowKind, step: &PathStep, gathered: &mut Gathered)
     requires row { (first_row ≤ step.now.row) × (step.now.row < first_row + (R.sheet rows.old).tree.rows) }
     requires room { length gathered.old.run.items + slots_of (R.sheet rows.old).tree.table.width kind ≤ run_room }
-    ensures run { gathered.new.run.items ≡ beside_items kind gathered.old.run.items (items_of_row (R.sheet rows.old).tree.table kind step.now.row step.now.max) }
+    ensures run { gathered.new.run.items
+        ≡ beside_items kind gathered.old.run.items (items_of_row (R.sheet rows.old).tree.table kind step.now.row step.now.max) }
     ensures rest { OnlyReads (R.sheet rows.old) (R.sheet rows.new) }
 {
     let beside = row_items(rows, kind, step);
@@ -88,7 +89,8 @@ fn take_behind<R: Rows>(rows: &mut R, kind: RowKind, step: &PathStep, gathered: 
 fn take_before<R: Rows>(rows: &mut R, kind: RowKind, step: &PathStep, gathered: &mut Gathered)
     requires row { (first_row ≤ step.now.row) × (step.now.row < first_row + (R.sheet rows.old).tree.rows) }
     requires room { length gathered.old.run.items + slots_of (R.sheet rows.old).tree.table.width kind ≤ run_room }
-    ensures run { gathered.new.run.items ≡ beside_items kind (items_of_row (R.sheet rows.old).tree.table kind step.now.row step.now.max) gathered.old.run.items }
+    ensures run { gathered.new.run.items
+        ≡ beside_items kind (items_of_row (R.sheet rows.old).tree.table kind step.now.row step.now.max) gathered.old.run.items }
     ensures rest { OnlyReads (R.sheet rows.old) (R.sheet rows.new) }
 {
     let mut run = row_items(rows, kind, step);
@@ -107,7 +109,8 @@ pub fn widen<R: Rows, B: Begun>(
     kind: RowKind,
 )
     requires { MayLook B.start (R.sheet rows.old).tree kind ways.old.left.items ways.old.right.items depth gathered.old.run.items }
-    ensures widened { IsWidened (R.sheet rows.old).tree kind depth ways.old.left.items ways.old.right.items gathered.old.run.items ways.new.left.items ways.new.right.items gathered.new.run.items }
+    ensures widened { IsWidened (R.sheet rows.old).tree kind depth
+        ways.old.left.items ways.old.right.items gathered.old.run.items ways.new.left.items ways.new.right.items gathered.new.run.items }
     ensures as_it_is { wants_row (R.sheet rows.old).tree.table.width kind gathered.old.run.items ≡ false → gathered.new ≡ gathered.old }
     ensures rest { OnlyReads (R.sheet rows.old) (R.sheet rows.new) }
 {

@@ -15,23 +15,23 @@ window_on-window-requires-clause-left g c = left_deep (look_of c.requires) c.wid
 pub window_on-window-requires-clause-right : goal.window_on-window-requires-clause-right
 window_on-window-requires-clause-right g c = right_deep (look_of c.requires) c.widen.ensures.widened
 
-pub ends_of-ends-requires-clause-some : goal.ends_of-ends-requires-clause-some
-ends_of-ends-requires-clause-some g c = some_items (look_of c.requires) c.widen.ensures.widened
-
 pub ends_of-ends-requires-clause-few : goal.ends_of-ends-requires-clause-few
 ends_of-ends-requires-clause-few g c = few_items (look_of c.requires) c.widen.ensures.widened (c.width-width.ensures ∙ ap (λ (s : Sheet). s.tree.table.width) c.widen.ensures.rest)
 
+pub ends_of-ends-requires-clause-some : goal.ends_of-ends-requires-clause-some
+ends_of-ends-requires-clause-some g c = some_items (look_of c.requires) c.widen.ensures.widened
+
 pub ends_of-ends-requires-clause-apart : goal.ends_of-ends-requires-clause-apart
 ends_of-ends-requires-clause-apart g c = apart_items (look_of c.requires) c.widen.ensures.widened
+
+pub push-requires : goal.push-requires
+push-requires g c = let room = window_room c.requires in omega arith
 
 pub next_of-next-requires-clause-left : goal.next_of-next-requires-clause-left
 next_of-next-requires-clause-left g c = left_deep (look_of c.requires) c.widen.ensures.widened
 
 pub next_of-next-requires-clause-right : goal.next_of-next-requires-clause-right
 next_of-next-requires-clause-right g c = right_deep (look_of c.requires) c.widen.ensures.widened
-
-pub push-requires : goal.push-requires
-push-requires g c = let room = window_room c.requires in omega arith
 
 pub returns-then-eq-clause-level : goal.returns-then-eq-clause-level
 returns-then-eq-clause-level g c =
