@@ -1,9 +1,9 @@
 -- Batches: what was read so far, and one read more.
-use Rattle.mt_read.proofs.Prelude.{◌≡◌, ℕ, ◌+◌, ◌<◌, ◌≤◌, List, [], ◌∷◌, ◌++◌, Option, Some, None, length, refl, sym, ap, ◌∙◌, subst, arith, append_assoc, option_map, slice_index, Range, Query, Load, answer, Begins, begins_long, PassPart, query_at, KeptLeaf, IfSome, ◌⊎◌, inl, inr, Answers, GoesOn}
+use Rattle.mt_read.proofs.Prelude.{◌≡◌, ℕ, ◌+◌, ◌<◌, ◌≤◌, List, [], ◌∷◌, ◌++◌, Option, Some, None, length, refl, sym, ap, ◌∙◌, subst, arith, append_assoc, option_map, slice_index, Range, Query, Load, answer, Begins, begins_long, PassPart, find_at, KeptLeaf, IfSome, ◌⊎◌, inl, inr, Answers, GoesOn}
 use Rattle.std.specs.Prelude.{take, drop, slice_set, slice_index_or, unwrap_or}
 use Rattle.std.proofs.lemmas.List.{drop_more, take_more, set_at, length_push}
 use Rattle.mt_life.specs.declared.views.Moment as life
-use Rattle.mt_read.specs.Cursors.{place_behind}
+use Rattle.mt_base.specs.Places.{place_behind}
 use Rattle.mt_read.specs.Many.{AreEntries, AreSteps, EntriesPut, HasFound, IsSeenFrom, RangesPut, SeenAt, entry_or_zero}
 use Rattle.mt_read.proofs.Moments.{moment_stays}
 
@@ -81,15 +81,15 @@ steps_order At max from at [] to left are = are.0
 steps_order At max from at (r ∷ found) to left are = let low = are.1 in let rest = steps_order At max are.0 (place_behind (Some r) max) found to left are.3 in omega arith
 
 module _ (At At' : ℕ → Query → Option Range → Type 0) (on : (k : ℕ) (query : Query) (value : Option Range) → At k query value → At' k query value) (max : ℕ) where
-  step_more : (from : ℕ) (at : Option ℕ) (found : List Range) (to : ℕ) (left : Option ℕ) → AreSteps At max from at found to left → (r : Range) (k to' : ℕ) → to ≤ k → k ≤ to' → At' k (query_at left max) (Some r)
+  step_more : (from : ℕ) (at : Option ℕ) (found : List Range) (to : ℕ) (left : Option ℕ) → AreSteps At max from at found to left → (r : Range) (k to' : ℕ) → to ≤ k → k ≤ to' → At' k (find_at left max) (Some r)
       → AreSteps At' max from at (found ++ (r ∷ [])) to' (place_behind (Some r) max)
   step_more from at [] to left are r k to' low high is =
-      let order = are.0 in (k, omega arith, subst (λ (o : Option ℕ). At' k (query_at o max) (Some r)) are.1 is, (high, refl))
+      let order = are.0 in (k, omega arith, subst (λ (o : Option ℕ). At' k (find_at o max) (Some r)) are.1 is, (high, refl))
   step_more from at (x ∷ found) to left are r k to' low high is =
-      (are.0, are.1, on are.0 (query_at at max) (Some x) are.2, step_more are.0 (place_behind (Some x) max) found to left are.3 r k to' low high is)
+      (are.0, are.1, on are.0 (find_at at max) (Some x) are.2, step_more are.0 (place_behind (Some x) max) found to left are.3 r k to' low high is)
 
   pub steps_next : (from to to' : ℕ) (at : Option ℕ) (old new : List Range) (count : ℕ) (left : Option ℕ) → HasPut At max from to at old new count left → count < length old
-      → (r : Range) (k : ℕ) → to ≤ k → k ≤ to' → At' k (query_at left max) (Some r) → HasPut At' max from to' at old (slice_set new count r) (count + 1) (place_behind (Some r) max)
+      → (r : Range) (k : ℕ) → to ≤ k → k ≤ to' → At' k (find_at left max) (Some r) → HasPut At' max from to' at old (slice_set new count r) (count + 1) (place_behind (Some r) max)
   steps_next from to to' at old new count left was fits r k low high is = record {
     found = was.found ++ (r ∷ []);
     read = step_more from at was.found to left was.read r k to' low high is;
@@ -116,7 +116,7 @@ module _ (At At' : ℕ → Query → Option Range → Type 0) (n : ℕ) (on : (k
   steps_are max from from' at [] to left least low are = let order = are.0 in (omega arith, are.1)
   steps_are max from from' at (r ∷ found) to left least low are =
       let later = are.1 in
-      (are.0, omega arith, on are.0 (query_at at max) (Some r) (omega arith) are.2, steps_are max are.0 are.0 (place_behind (Some r) max) found to left (omega arith) (omega arith) are.3)
+      (are.0, omega arith, on are.0 (find_at at max) (Some r) (omega arith) are.2, steps_are max are.0 are.0 (place_behind (Some r) max) found to left (omega arith) (omega arith) are.3)
 
   found_as : (max from from' to to' : ℕ) (at : Option ℕ) (room : ℕ) (found : List Range) (at' : Option ℕ) → n ≤ from → from' ≤ from → to ≤ to' → HasFound At max from to at room found at' → HasFound At' max from' to' at room found at'
   found_as max from from' to to' at room found at' least low high was =
@@ -132,7 +132,7 @@ module _ (At At' : ℕ → Query → Option Range → Type 0) (n : ℕ) (on : (k
         ended = λ short.
             let end = was.ended short in
             let first = end.1.1 in let last = end.1.2 in
-            (end.0, (end.1.0, first, omega arith, on end.1.0 (query_at was.left max) None (omega arith) end.1.3));
+            (end.0, (end.1.0, first, omega arith, on end.1.0 (find_at was.left max) None (omega arith) end.1.3));
       }
 
   pub ranges_as : (max from from' to to' : ℕ) (at : Option ℕ) (old new : List Range) (count : ℕ) (at' : Option ℕ) → n ≤ from → from' ≤ from → to ≤ to' → RangesPut At max from to at old new count at' → RangesPut At' max from' to' at old new count at'
@@ -153,7 +153,7 @@ all_put At max from to at old new count left was all =
 
 -- a step found none
 pub none_left : (q q' : PassPart) → q'.shape ≡ q.shape → Begins q.seen q'.seen → (max from : ℕ) (at : Option ℕ) (old new : List Range) (count : ℕ) (left : Option ℕ) → HasPut (SeenAt q) max from (length q.seen) at old new count left → count < length old
-    → IsSeenFrom q' (length q.seen) (query_at left max) None → (at' : Option ℕ) → at' ≡ None → RangesPut (SeenAt q') max from (length q'.seen) at old new count at'
+    → IsSeenFrom q' (length q.seen) (find_at left max) None → (at' : Option ℕ) → at' ≡ None → RangesPut (SeenAt q') max from (length q'.seen) at old new count at'
 none_left q q' shape b max from at old new count left was fits none at' is =
     let long = begins_long q.seen q'.seen b in let count_is = was.count_is in record {
       found = was.found;

@@ -1,8 +1,8 @@
 -- What begins behind an index, or before it, by the leaf that covers it.
-use Rattle.mt_read.proofs.Prelude.{◌≡◌, ◌⊎◌, ℕ, ◌+◌, ◌≤◌, List, [], length, Option, Some, None, sym, ap, ◌∙◌, subst, inl, inr, arith, IfSome, slice_get, Kind, Range, Query, Find, Next, answer, IsMap, greatest_of, begins_long, Fills, Held, Snapshot, copy_of, spans_at, PassPart, LoadedParent, here, moment_seen, spans_here, SlotPlace, Answers, AnswersBy, GoesOn, IsPlaceIn}
+use Rattle.mt_read.proofs.Prelude.{◌≡◌, ◌⊎◌, ℕ, ◌+◌, ◌≤◌, List, [], length, Option, Some, None, refl, sym, ap, ◌∙◌, subst, inl, inr, arith, IfSome, slice_get, Kind, Range, Query, Find, Next, answer, IsMap, greatest_of, Fills, Held, Snapshot, copy_of, spans_at, PassPart, LoadedParent, here, moment_seen, spans_here, SlotPlace, Answers, AnswersBy, GoesOn, IsPlaceIn}
 use Rattle.mt_read.proofs.Keeping.{answers_later}
 use Rattle.mt_read.proofs.NextAnswers.{next_is, none_behind}
-use Rattle.mt_read.proofs.Reading.{answers_from, nothing_found, nothing_is_a_map}
+use Rattle.mt_read.proofs.Reading.{answers_from, nothing_answers, nothing_found}
 use Rattle.mt_read.proofs.Standing.{beside_there}
 
 -- what is known of no fewer calls is known of fewer, where it is known at all
@@ -12,25 +12,10 @@ from_fewer (Some value) q least less query le h = answers_from q least less quer
 
 -- of an empty map nothing is told
 pub nothing_by : (q q' : PassPart) → GoesOn q q' → (moment_seen q' (length q'.seen)).ranges ≡ [] → (x : Held) (index : ℕ) → AnswersBy q' x (length q.seen) (Find index (greatest_of q.shape.kind)) None
-nothing_by q q' goes empty x index = record {
-  answers = record {
-    k = length q'.seen;
-    low = begins_long q.seen q'.seen goes.seen;
-    high = omega arith;
-    map = nothing_is_a_map q'.shape.kind _ empty;
-    is = nothing_found index (greatest_of q.shape.kind) ∙ ap (λ (m : List Range). answer m (Find index (greatest_of q.shape.kind))) (sym empty);
-  };
-  stood = inl empty;
-}
+nothing_by q q' goes empty x index = record { answers = nothing_answers q q' goes empty (Find index (greatest_of q.shape.kind)) (nothing_found index (greatest_of q.shape.kind)); stood = inl empty }
 
 pub nexts_nothing : (q q' : PassPart) → GoesOn q q' → (moment_seen q' (length q'.seen)).ranges ≡ [] → (index : ℕ) → Answers q' (length q.seen) (Next index (greatest_of q.shape.kind)) None
-nexts_nothing q q' goes empty index = record {
-  k = length q'.seen;
-  low = begins_long q.seen q'.seen goes.seen;
-  high = omega arith;
-  map = nothing_is_a_map q'.shape.kind _ empty;
-  is = ap (λ (m : List Range). answer m (Next index (greatest_of q.shape.kind))) (sym empty);
-}
+nexts_nothing q q' goes empty index = nothing_answers q q' goes empty (Next index (greatest_of q.shape.kind)) refl
 
 module _ (q q' : PassPart) (place : SlotPlace) (index : ℕ) (from : place.first ≤ index) (to : index ≤ place.last) (is : IsPlaceIn q place)
     (fills : Fills (here q).extent.first ((here q).extent.last + 1) (spans_here q (here q))) (same : q'.shape.kind ≡ q.shape.kind) where

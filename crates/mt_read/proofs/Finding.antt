@@ -9,6 +9,12 @@ sees_on q q' q'' s t = record { is = t.is ∙ ap (λ (z : PassPart). record (wit
 pub sees_none : (q : PassPart) → SeesMore q q
 sees_none q = record { is = refl; seen = begins_none q.seen }
 
+pub sees_two : (q q₀ q₁ q₂ : PassPart) → SeesMore q q₀ → SeesMore q₀ q₁ → SeesMore q₁ q₂ → SeesMore q q₂
+sees_two q q₀ q₁ q₂ s₀ s₁ s₂ = sees_on q q₁ q₂ (sees_on q q₀ q₁ s₀ s₁) s₂
+
+pub sees_three : (q q₀ q₁ q₂ q₃ : PassPart) → SeesMore q q₀ → SeesMore q₀ q₁ → SeesMore q₁ q₂ → SeesMore q₂ q₃ → SeesMore q q₃
+sees_three q q₀ q₁ q₂ q₃ s₀ s₁ s₂ s₃ = sees_on q q₂ q₃ (sees_two q q₀ q₁ q₂ s₀ s₁ s₂) s₃
+
 pub on_more : (q q' : PassPart) (row : Row) → SeesMore q q' → IsOnRow q row → IsOnRow q' row
 on_more q q' row s on =
     let long = begins_long q.seen q'.seen s.seen in let met = on.met in
@@ -151,6 +157,19 @@ module _ (q : PassPart) (row : Row) (on : IsOnRow q row) where
 
   pub column_kept : (q' : PassPart) (col word : ℕ) → SeesMore q q' → word ≡ column (copy_of (here q')) (here q').row col → word ≡ column (copy_of z) z.row col
   column_kept q' col word s is = is ∙ ap (λ (p : PassPart). column (copy_of (here p)) (here p).row col) s.is
+
+  -- two columns, or three, that are loaded one after another
+  pub two_columns : (q₀ q₁ q₂ : PassPart) (a b u v : ℕ) → SeesMore q q₀ → u ≡ column (copy_of (here q₀)) (here q₀).row a → SeesMore q₀ q₁ → v ≡ column (copy_of (here q₁)) (here q₁).row b → SeesMore q₁ q₂
+      → (u ≡ column (copy_of z) z.row a) × (v ≡ column (copy_of z) z.row b) × SeesMore q q₂
+  two_columns q₀ q₁ q₂ a b u v s₀ is_u s₁ is_v s₂ =
+      let first = sees_on q q₀ q₁ s₀ s₁ in
+      (column_kept q₀ a u s₀ is_u, column_kept q₁ b v first is_v, sees_on q q₁ q₂ first s₂)
+
+  pub three_columns : (q₀ q₁ q₂ q₃ : PassPart) (a b d u v w : ℕ) → SeesMore q q₀ → u ≡ column (copy_of (here q₀)) (here q₀).row a → SeesMore q₀ q₁ → v ≡ column (copy_of (here q₁)) (here q₁).row b → SeesMore q₁ q₂ → w ≡ column (copy_of (here q₂)) (here q₂).row d → SeesMore q₂ q₃
+      → (u ≡ column (copy_of z) z.row a) × (v ≡ column (copy_of z) z.row b) × (w ≡ column (copy_of z) z.row d) × SeesMore q q₃
+  three_columns q₀ q₁ q₂ q₃ a b d u v w s₀ is_u s₁ is_v s₂ is_w s₃ =
+      let front = two_columns q₀ q₁ q₂ a b u v s₀ is_u s₁ is_v s₂ in
+      (front.0, front.1, column_kept q₂ d w front.2 is_w, sees_on q q₂ q₃ front.2 s₃)
 
   -- what stands in a slot of the row, by its ends
   pub place_in : (index slot first last : ℕ) → z.extent.first ≤ index → index ≤ z.extent.last → slot ≡ slot_for (spans_here q z) index

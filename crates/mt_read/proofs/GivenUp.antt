@@ -1,40 +1,24 @@
 -- What is left of a read that was given up, and a bound of what begins behind an index.
-use Rattle.mt_read.proofs.Prelude.{◌≡◌, ℕ, [], ◌∷◌, length, Option, refl, sym, ap, ◌∙◌, subst, arith, length-map, Kind, Range, Query, Next, Prev, Rfind, IsMap, greatest_of, begins_long, PassPart, known_by, record_of, moment_seen, Identity, tree_in, Answers, not_below, within, LeftMarked, WasLeftMarked, WasMoved, asked, Began, Ended}
+use Rattle.mt_read.proofs.Prelude.{◌≡◌, ℕ, [], ◌∷◌, length, Option, refl, sym, ap, ◌∙◌, subst, arith, length-map, Kind, Range, Query, Next, Prev, Rfind, IsMap, greatest_of, begins_long, PassPart, known_by, record_of, moment_seen, Identity, tree_in, Answers, not_below, within, LeftMarked, WasLeftMarked, WasMoved, asked, Began, Ended, HasRead}
 use Rattle.mt_base.specs.Passes as known
 use Rattle.mt_read.proofs.LastAnswers.{prev_within, rfind_within}
 use Rattle.mt_read.proofs.NextAnswers.{next_within}
-use Rattle.mt_read.proofs.Windows.{has_read, marks_after}
+use Rattle.mt_read.proofs.Windows.{alike, has_read, marks_after}
 
 pub next_bounded : (q : PassPart) (kind : Kind) (least index max : ℕ) (value : Option Range) → q.shape.kind ≡ kind → Answers q least (Next index (greatest_of kind)) value → Answers q least (Next index max) (within 0 max value)
-next_bounded q kind least index max value same a = record {
-  k = a.k;
-  low = a.low;
-  high = a.high;
-  map = a.map;
-  is = ap (within 0 max) a.is ∙ next_within kind (moment_seen q a.k).ranges index max (subst (λ (k : Kind). IsMap k (moment_seen q a.k).ranges) same a.map);
-}
+next_bounded q kind least index max value same a =
+    alike q least (Next index (greatest_of kind)) (Next index max) (within 0 max) value (λ k map. next_within kind (moment_seen q k).ranges index max (subst (λ (z : Kind). IsMap z (moment_seen q k).ranges) same map)) a
 
 pub rfind_bounded : (q : PassPart) (least index min : ℕ) (value : Option Range) → Answers q least (Rfind index 0) value → Answers q least (Rfind index min) (not_below index min value)
-rfind_bounded q least index min value a = record {
-  k = a.k;
-  low = a.low;
-  high = a.high;
-  map = a.map;
-  is = ap (not_below index min) a.is ∙ rfind_within q.shape.kind (moment_seen q a.k).ranges index min a.map;
-}
+rfind_bounded q least index min value a =
+    alike q least (Rfind index 0) (Rfind index min) (not_below index min) value (λ k map. rfind_within q.shape.kind (moment_seen q k).ranges index min map) a
 
 pub prev_bounded : (q : PassPart) (least index min : ℕ) (value : Option Range) → Answers q least (Prev index 0) value → Answers q least (Prev index min) (not_below min min value)
-prev_bounded q least index min value a = record {
-  k = a.k;
-  low = a.low;
-  high = a.high;
-  map = a.map;
-  is = ap (not_below min min) a.is ∙ prev_within q.shape.kind (moment_seen q a.k).ranges index min a.map;
-}
+prev_bounded q least index min value a = alike q least (Prev index 0) (Prev index min) (not_below min min) value (λ k map. prev_within q.shape.kind (moment_seen q k).ranges index min map) a
 
 -- ---- given up
 
-pub was_left : (t : Identity) (q q₁ q₂ q₃ : PassPart) (query : Query) (lo hi : ℕ) → q.shape ≡ t.shape → Began lo q q₁ → LeftMarked (asked q₁.shape.kind query) (length q₁.seen) q₁ q₂ → Ended hi q₂ q₃ → WasLeftMarked query lo hi q q₃
+was_left : (t : Identity) (q q₁ q₂ q₃ : PassPart) (query : Query) (lo hi : ℕ) → q.shape ≡ t.shape → Began lo q q₁ → LeftMarked (asked q₁.shape.kind query) (length q₁.seen) q₁ q₂ → Ended hi q₂ q₃ → WasLeftMarked query lo hi q q₃
 was_left t q q₁ q₂ q₃ query lo hi of began left ended =
     let marked = subst (λ (k : Kind). LeftMarked (asked k query) (length q₁.seen) q₁ q₂) (ap (λ (z : PassPart). z.shape.kind) began.is) left in record {
       opened = q₁;
@@ -45,7 +29,7 @@ was_left t q q₁ q₂ q₃ query lo hi of began left ended =
       marks = marks_after t q q₁ q₂ q₃ lo hi of began (marked.x.row ∷ q₁.marks) marked.beside.marked.goes ended ∙ ap (λ (z : PassPart). marked.x.row ∷ z.marks) began.is;
     }
 
-pub was_moved : (t : Identity) (q q₁ q₂ q₃ : PassPart) (query : Query) (lo hi : ℕ) → q.shape ≡ t.shape → Began lo q q₁ → LeftMarked query (length q₁.seen) q₁ q₂ → Ended hi q₂ q₃ → known.IsSound (tree_in t) (known_by q₃) → WasMoved (tree_in t) (known_by q) lo hi (known_by q₃)
+was_moved : (t : Identity) (q q₁ q₂ q₃ : PassPart) (query : Query) (lo hi : ℕ) → q.shape ≡ t.shape → Began lo q q₁ → LeftMarked query (length q₁.seen) q₁ q₂ → Ended hi q₂ q₃ → known.IsSound (tree_in t) (known_by q₃) → WasMoved (tree_in t) (known_by q) lo hi (known_by q₃)
 was_moved t q q₁ q₂ q₃ query lo hi of began left ended sound =
     let goes = left.beside.marked.goes in let since = left.since in let risen = left.beside.marked.begun in
     let h = has_read t q q₁ q₂ q₃ lo hi of began (left.x.row ∷ q₁.marks) goes ended in
@@ -59,3 +43,17 @@ was_moved t q q₁ q₂ q₃ query lo hi of began left ended sound =
       later = omega arith;
       sound = subst (λ (z : known.Pass). known.IsSound (tree_in t) z) h.pass sound;
     })
+
+-- what is told of a read that gave up, which asked this
+pub record HasGivenUp (t : Identity) (q q₃ : PassPart) (query : Query) (lo hi : ℕ) : Type 0 where
+  pub moved : WasMoved (tree_in t) (known_by q) lo hi (known_by q₃)
+  pub given_up : HasRead lo hi (known_by q) (known_by q₃)
+  pub left : WasLeftMarked query lo hi q q₃
+
+pub has_given_up : (t : Identity) (q q₁ q₂ q₃ : PassPart) (query : Query) (lo hi : ℕ) → q.shape ≡ t.shape → Began lo q q₁ → LeftMarked (asked q₁.shape.kind query) (length q₁.seen) q₁ q₂ → Ended hi q₂ q₃ → known.IsSound (tree_in t) (known_by q₃)
+    → HasGivenUp t q q₃ query lo hi
+has_given_up t q q₁ q₂ q₃ query lo hi of began left ended sound = record {
+  moved = was_moved t q q₁ q₂ q₃ (asked q₁.shape.kind query) lo hi of began left ended sound;
+  given_up = has_read t q q₁ q₂ q₃ lo hi of began (left.x.row ∷ q₁.marks) left.beside.marked.goes ended;
+  left = was_left t q q₁ q₂ q₃ query lo hi of began left ended;
+}

@@ -57,8 +57,12 @@ module _ (q q' : PassPart) (number word found : ℕ) (told : LoadedParent number
   parent_tells row at is same = told.tells 0 (here q) at (is ∙ ap (λ (r : ℕ). column_at (kind_width q.shape.kind) r 0) same)
 
   -- of a row that is held below
-  pub under_tells : (x : Held) → IsUnder q x → word ≡ column_at (kind_width q.shape.kind) x.row 0 → ParentTells q' x found
+  under_tells : (x : Held) → IsUnder q x → word ≡ column_at (kind_width q.shape.kind) x.row 0 → ParentTells q' x found
   under_tells x under is = told.tells (suc under.0) x under.1 is
+
+  -- of a leaf that is held below, by its number
+  pub leaf_tells : (x : Held) → IsUnder q x → word ≡ column_at (kind_width q.shape.kind) number 0 → number ≡ x.row → ParentTells q' x found
+  leaf_tells x under is same = under_tells x under (is ∙ ap (λ (r : ℕ). column_at (kind_width q.shape.kind) r 0) same)
 
   -- a leaf that is not found marked answers of all that was seen before
   pub answers_live : (x : Held) (most : ℕ) (query : Query) (value : Option Range) → LeafAnswers q x query value → (here q).died ≡ None → most ≤ length q.seen → Answers q' most query value

@@ -1,12 +1,12 @@
 -- What a leaf, and the leaf before it, tell of the last range before an index.
-use Rattle.mt_read.proofs.Prelude.{◌≡◌, ◌≢◌, ◌⊎◌, ⊎_elim, ℕ, ◌+◌, ◌-◌, ◌<◌, ◌≤◌, List, [], ◌∷◌, ◌++◌, length, Option, Some, None, inl, inr, sym, ap, ◌∙◌, subst, arith, IfSome, IfNone, AllByRecursion, slice_get, Kind, Range, Width, Query, Prev, Rfind, answer, IsMap, greatest, greatest_of, kind_width, get_parts, all_back, begins_long, Span, Fills, EndsFull, leaf_range, fills_split, full_back, none_filled, Held, Snapshot, copy_of, HasPart, SameForm, spans_at, Cut, IsPart, kind_at, PassPart, LoadedParent, here, moment_seen, spans_here, SlotPlace, Answers, AnswersBy, LeafAnswers, GoesOn, IsPlaceIn, IsSameHold, SeesMore, WasRead}
+use Rattle.mt_read.proofs.Prelude.{◌≡◌, ◌≢◌, ◌⊎◌, ⊎_elim, ℕ, ◌+◌, ◌-◌, ◌<◌, ◌≤◌, List, [], ◌∷◌, ◌++◌, length, Option, Some, None, inl, inr, refl, sym, ap, ◌∙◌, subst, arith, IfSome, IfNone, AllByRecursion, slice_get, Kind, Range, Width, Query, Prev, Rfind, answer, IsMap, greatest, greatest_of, kind_width, get_parts, all_back, begins_long, Span, Fills, EndsFull, leaf_range, fills_split, full_back, none_filled, Held, Snapshot, copy_of, HasPart, SameForm, spans_at, Cut, IsPart, kind_at, PassPart, LoadedParent, here, moment_seen, spans_here, SlotPlace, Answers, AnswersBy, LeafAnswers, GoesOn, IsPlaceIn, IsSameHold, SeesMore, WasRead}
 use Rattle.mt_life.specs.declared.views.Moment as life
 use Rattle.mt_read.proofs.Crossing.{beside_by}
 use Rattle.mt_read.proofs.Descending.{span_within}
 use Rattle.mt_read.proofs.LastAnswers.{prev_is, prev_none, rfind_all, rfind_hole, rfind_none, rfind_range}
 use Rattle.mt_read.proofs.MapAnswers.{Beside, hole_part, outside, range_part}
 use Rattle.mt_read.proofs.Moments.{moment_stays}
-use Rattle.mt_read.proofs.Reading.{level_same, no_entry, nothing_is_a_map, range_is, some_entry, span_of, still, still_hole, stood_behind, stood_here, word}
+use Rattle.mt_read.proofs.Reading.{answers_read, level_same, no_entry, nothing_answers, range_is, some_entry, span_of, still, still_hole, stood_behind, stood_here, word}
 use Rattle.mt_read.proofs.SlotAnswers.{behind_in, narrow}
 use Rattle.mt_read.proofs.Standing.{beside_there, form_on, hole_there}
 
@@ -28,14 +28,9 @@ module _ (q q' : PassPart) (place : SlotPlace) (found : Option Range) (level : (
   last_here r is =
       let entry = some_entry place was.entry r (sym is ∙ was.found_is) in
       record {
-        answers = record {
-          k = was.read.k;
-          low = was.read.low;
-          high = was.read.high;
-          map = was.read.map;
-          is = sym is ∙ (was.found_is ∙ (range_is place was.entry entry
-              ∙ rfind_range m (record { first = place.first; last = place.last; entry = was.entry }) index (range_part q'.shape.kind m was.read.map span entry over_place) from to));
-        };
+        answers = answers_read q q' place found was (Rfind index 0) (Some r)
+            (sym is ∙ (was.found_is ∙ (range_is place was.entry entry
+            ∙ rfind_range m (record { first = place.first; last = place.last; entry = was.entry }) index (range_part q'.shape.kind m was.read.map span entry over_place) from to)));
         now = was.read.now;
         stood = stood_here q q' place found level was index from to;
       }
@@ -44,13 +39,8 @@ module _ (q q' : PassPart) (place : SlotPlace) (found : Option Range) (level : (
   no_last is first =
       let hole = no_entry place was.entry (sym is ∙ was.found_is) in
       record {
-        answers = record {
-          k = was.read.k;
-          low = was.read.low;
-          high = was.read.high;
-          map = was.read.map;
-          is = rfind_none m (greatest_of q'.shape.kind) place.first place.last index (outside q'.shape.kind m was.read.map place.first place.last (hole_part q'.shape.kind m was.read.map span hole over_place)) from to first;
-        };
+        answers = answers_read q q' place found was (Rfind index 0) None
+            (rfind_none m (greatest_of q'.shape.kind) place.first place.last index (outside q'.shape.kind m was.read.map place.first place.last (hole_part q'.shape.kind m was.read.map span hole over_place)) from to first);
         stood = inr (stood_here q q' place found level was index from to);
       }
 
@@ -81,18 +71,13 @@ module _ (q q' : PassPart) (place : SlotPlace) (found : Option Range) (level : (
         let over₃ = narrow m₃ (here q₂).extent.first (here q₂).extent.last place.slot spans (span_of place word₃) read.part.ranges read.shape.fills stands in
         let out = outside kind₃ m₃ read.map place.first place.last (hole_part kind₃ m₃ read.map (span_of place word₃) hole over₃) in
         let low = read.low in
-        let since : (here q₂).since ≡ (here q).since = ap (λ (z : Held). z.since) (ap here sees.is ∙ same.is) in (
+        let since : (here q₂).since ≡ (here q).since = ap (λ (z : Held). z.since) (ap here sees.is ∙ same.is) in
+        let told = rfind_range m₃ r (place.first - 1) (range_part kind₃ m₃ read.map (span_of before was₃.entry) entry here₃) (omega arith) (omega arith)
+        ∙ sym (rfind_hole m₃ (greatest_of kind₃) place.first place.last index out from to (omega arith)) in (
           r,
           was₃.found_is ∙ range_is before was₃.entry entry,
           record {
-            answers = record {
-              k = read.k;
-              low = omega arith;
-              high = read.high;
-              map = read.map;
-              is = rfind_range m₃ r (place.first - 1) (range_part kind₃ m₃ read.map (span_of before was₃.entry) entry here₃) (omega arith) (omega arith)
-                  ∙ sym (rfind_hole m₃ (greatest_of kind₃) place.first place.last index out from to (omega arith));
-            };
+            answers = record { k = read.k; low = omega arith; high = read.high; map = read.map; is = told };
             now = read.now;
             stood = stood_behind q q' place found level was index from to q₂ q₃ same sees goes on before answered was₃;
           },
@@ -207,22 +192,7 @@ module _ (q q' : PassPart) (place : SlotPlace) (index : ℕ) (from : place.first
 -- ---- of an empty map
 
 pub lefts_nothing : (q q' : PassPart) → GoesOn q q' → (moment_seen q' (length q'.seen)).ranges ≡ [] → (x : Held) (index : ℕ) → AnswersBy q' x (length q.seen) (Rfind index 0) None
-lefts_nothing q q' goes empty x index = record {
-  answers = record {
-    k = length q'.seen;
-    low = begins_long q.seen q'.seen goes.seen;
-    high = omega arith;
-    map = nothing_is_a_map q'.shape.kind _ empty;
-    is = nothing_before _ index empty;
-  };
-  stood = inl empty;
-}
+lefts_nothing q q' goes empty x index = record { answers = nothing_answers q q' goes empty (Rfind index 0) (sym (rfind_all [] index)); stood = inl empty }
 
 pub prevs_nothing : (q q' : PassPart) → GoesOn q q' → (moment_seen q' (length q'.seen)).ranges ≡ [] → (index : ℕ) → Answers q' (length q.seen) (Prev index 0) None
-prevs_nothing q q' goes empty index = record {
-  k = length q'.seen;
-  low = begins_long q.seen q'.seen goes.seen;
-  high = omega arith;
-  map = nothing_is_a_map q'.shape.kind _ empty;
-  is = ap (λ (m : List Range). answer m (Prev index 0)) (sym empty);
-}
+prevs_nothing q q' goes empty index = nothing_answers q q' goes empty (Prev index 0) refl

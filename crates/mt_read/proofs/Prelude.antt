@@ -35,7 +35,7 @@ pub use Rattle.mt_life.proofs.Slots.{hole_of_form, slot_of_form, span_in_slot}
 pub use Rattle.mt_life.specs.Known.{HasPart, SameForm}
 pub use Rattle.mt_life.specs.Moments.{Cut, IsPart}
 pub use Rattle.mt_life.specs.declared.views.Extent.{Extent}
-pub use Rattle.mt_path.proofs.Groups.{IsSought, ends_within, first_behind, group_of_eight, group_of_five, group_of_four, group_of_three, half_of_eight, half_of_five, here_fits, here_used, last_at_end, last_at_pivot, row_at, slot_fits, tells, tells_first, within_four, within_three}
+pub use Rattle.mt_path.proofs.Groups.{IsSought, ends_within, first_behind, here_used, last_at_end, last_at_pivot, of_sixteen, of_ten, of_thirty_two, of_twenty_one, row_at, slot_fits}
 pub use Rattle.mt_path.proofs.LeafSlots.{StandsIn, fills_first, fills_next, stands_in}
 pub use Rattle.mt_path.proofs.Places.{at_get, at_slot}
 pub use Rattle.mt_path.proofs.Searches.{Ends, Passed, ends_at_last, ends_at_pivot, passed_more}
@@ -49,7 +49,8 @@ pub use Rattle.mt_rule.specs.declared.passes.Pass.{Pass}
 pub use Rattle.mt_rule.specs.declared.views.Moment.{Moment}
 pub use Rattle.mt_rule.specs.declared.views.Shape.{Shape}
 pub use Rattle.mt_read.specs.Answers.{Answers, AnswersBy, LeafAnswers, not_below, within}
-pub use Rattle.mt_read.specs.Cursors.{IsOnKeptLeaf, Resumed, epoch_or, opened_with, query_at}
+pub use Rattle.mt_read.specs.Cursors.{IsOnKeptLeaf, Resumed, epoch_or, opened_with}
+pub use Rattle.mt_base.specs.Places.{find_at}
 pub use Rattle.mt_read.specs.Neighbours.{IsBehind, IsLeafBefore, IsLeafOver, LeftHole, LeftMarked, MarkedBeside, WasLeftMarked, WasMoved, asked}
 pub use Rattle.mt_read.specs.Prelude.{Begins, Find, HasBecome, Held, IsAt, IsLeafRead, IsMap, IsRowAt, Kind, Load, Long, Next, PassPart, Prev, Query, Range, Reads, Rfind, Short, Snapshot, Width, answer, closed_section, copy_of, greatest_of, here, inner_kind, kind_of, kind_width, leaf_range, moment_seen, opened_section, slots_of, spans_at, spans_here, with_seen}
 pub use Rattle.mt_read.specs.Seeks.{CoversHere, IsAtLeaf, IsAtSpot, row_here, row_steps, steps_below, touches}

@@ -79,6 +79,10 @@ pub kind_told : {A : Type 0} (o : Option A) (q q' : PassPart) (P : Type 0) → I
 kind_told None q q' P goes none of = of none
 kind_told (Some x) q q' P goes none of = kind_goes q q' goes
 
+-- what the map answered at the moment at which a slot was read
+abbrev pub answers_read : (q q' : PassPart) (place : SlotPlace) (found : Option Range) (was : WasRead q q' place found) (query : Query) (value : Option Range) → value ≡ answer (moment_seen q' was.read.k).ranges query → Answers q' (here q).since query value
+answers_read q q' place found was query value is = record { k = was.read.k; low = was.read.low; high = was.read.high; map = was.read.map; is = is }
+
 module _ (q q' : PassPart) (place : SlotPlace) (found : Option Range) (level : (here q).extent.level ≡ 0) (was : WasRead q q' place found) (index : ℕ) (from : place.first ≤ index) (to : index ≤ place.last) where
   abbrev m : List Range
   m = (moment_seen q' was.read.k).ranges
@@ -105,15 +109,10 @@ module _ (q q' : PassPart) (place : SlotPlace) (found : Option Range) (level : (
   finds_here r is kind =
       let entry = some_entry place was.entry r (sym is ∙ was.found_is) in
       record {
-        answers = record {
-          k = was.read.k;
-          low = was.read.low;
-          high = was.read.high;
-          map = was.read.map;
-          is = sym is ∙ (was.found_is ∙ (range_is place was.entry entry
-              ∙ (find_entry q'.shape.kind m was.read.map (copy_of (here q')) (here q).row (here q).extent level was.read.shape was.read.part.ranges place.slot (span_of place was.entry) was.stands index from to entry
-              ∙ ap (λ (k : Kind). answer m (Find index (greatest_of k))) kind)));
-        };
+        answers = answers_read q q' place found was (Find index (greatest_of q.shape.kind)) (Some r)
+            (sym is ∙ (was.found_is ∙ (range_is place was.entry entry
+            ∙ (find_entry q'.shape.kind m was.read.map (copy_of (here q')) (here q).row (here q).extent level was.read.shape was.read.part.ranges place.slot (span_of place was.entry) was.stands index from to entry
+            ∙ ap (λ (k : Kind). answer m (Find index (greatest_of k))) kind))));
         now = was.read.now;
         stood = stood_here;
       }
@@ -122,15 +121,10 @@ module _ (q q' : PassPart) (place : SlotPlace) (found : Option Range) (level : (
   finds_none is kind wide last low =
       let hole = no_entry place was.entry (sym is ∙ was.found_is) in
       record {
-        answers = record {
-          k = was.read.k;
-          low = was.read.low;
-          high = was.read.high;
-          map = was.read.map;
-          is = find_end q'.shape.kind m was.read.map (copy_of (here q')) (here q).row (here q).extent level was.read.shape was.read.part.ranges place.slot (span_of place was.entry) was.stands index from to hole last
-              (was.read.width ∙ (wide ∙ ap kind_width (sym kind))) (subst (λ (k : Kind). (here q).extent.last ≤ greatest_of k) (sym kind) low)
-              ∙ ap (λ (k : Kind). answer m (Find index (greatest_of k))) kind;
-        };
+        answers = answers_read q q' place found was (Find index (greatest_of q.shape.kind)) None
+            (find_end q'.shape.kind m was.read.map (copy_of (here q')) (here q).row (here q).extent level was.read.shape was.read.part.ranges place.slot (span_of place was.entry) was.stands index from to hole last
+            (was.read.width ∙ (wide ∙ ap kind_width (sym kind))) (subst (λ (k : Kind). (here q).extent.last ≤ greatest_of k) (sym kind) low)
+            ∙ ap (λ (k : Kind). answer m (Find index (greatest_of k))) kind);
         now = was.read.now;
         stood = stood_here;
       }
@@ -218,24 +212,18 @@ nothing_found index max = elim (cases_Bool (nat_lt max index)) [
   | inr low ↦ rw low refl
 ]
 
-module _ (q q' : PassPart) (goes : GoesOn q q') (empty : (moment_seen q' (length q'.seen)).ranges ≡ []) where
-  pub loads_nothing : (index : ℕ) → Answers q' (length q.seen) (Load index) None
-  loads_nothing index = record {
-    k = length q'.seen;
-    low = begins_long q.seen q'.seen goes.seen;
-    high = omega arith;
-    map = nothing_is_a_map q'.shape.kind _ empty;
-    is = ap (λ (m : List Range). answer m (Load index)) (sym empty);
-  }
+pub at_most : (n : ℕ) → n ≤ n
+at_most n = omega arith
 
-  pub finds_nothing : (index : ℕ) → Answers q' (length q.seen) (Find index (greatest_of q.shape.kind)) None
-  finds_nothing index = record {
-    k = length q'.seen;
-    low = begins_long q.seen q'.seen goes.seen;
-    high = omega arith;
-    map = nothing_is_a_map q'.shape.kind _ empty;
-    is = nothing_found index (greatest_of q.shape.kind) ∙ ap (λ (m : List Range). answer m (Find index (greatest_of q.shape.kind))) (sym empty);
-  }
+-- an empty map answers so, after all calls that the pass has seen
+abbrev pub nothing_answers : (q q' : PassPart) → GoesOn q q' → (moment_seen q' (length q'.seen)).ranges ≡ [] → (query : Query) → None ≡ answer [] query → Answers q' (length q.seen) query None
+nothing_answers q q' goes empty query none = record {
+  k = length q'.seen;
+  low = begins_long q.seen q'.seen goes.seen;
+  high = at_most (length q'.seen);
+  map = nothing_is_a_map q'.shape.kind (moment_seen q' (length q'.seen)).ranges empty;
+  is = none ∙ ap (λ (m : List Range). answer m query) (sym empty);
+}
 
 -- what is known of no fewer calls is known of fewer
 pub answers_from : (q : PassPart) (least less : ℕ) (query : Query) (value : Option Range) → less ≤ least → Answers q least query value → Answers q less query value

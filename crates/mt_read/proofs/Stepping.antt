@@ -1,14 +1,14 @@
 -- What a step of a cursor makes of its pass.
-use Rattle.mt_read.proofs.Prelude.{◌≡◌, ℕ, ◌+◌, ◌≤◌, max, List, [], ◌∷◌, length, Option, Some, None, refl, sym, ap, ◌∙◌, subst, arith, append-nil, IfSome, length-map, Range, Query, Find, answer, map_at, begins_long, begins_on, PassPart, Shape, known_by, record_of, tree_of, LoadedBegun, moment_seen, Identity, tree_in, Resumed, epoch_or, opened_with, query_at, GoesOnTo}
+use Rattle.mt_read.proofs.Prelude.{◌≡◌, ℕ, ◌+◌, ◌≤◌, max, List, [], ◌∷◌, length, Option, Some, None, refl, sym, ap, ◌∙◌, subst, arith, append-nil, IfSome, Range, Query, Find, answer, PassPart, known_by, LoadedBegun, moment_seen, Identity, tree_in, Resumed, epoch_or, opened_with, find_at, GoesOnTo}
 use Rattle.mt_base.specs.Passes as known
-use Rattle.mt_read.proofs.Windows.{begins_records}
+use Rattle.mt_read.proofs.Windows.{reads_between}
 
 -- what the query at a place is
-pub asks_nothing : (m : List Range) (at : Option ℕ) (max : ℕ) → at ≡ None → None ≡ answer m (query_at at max)
-asks_nothing m at max none = ap (λ (o : Option ℕ). answer m (query_at o max)) (sym none)
+pub asks_nothing : (m : List Range) (at : Option ℕ) (max : ℕ) → at ≡ None → None ≡ answer m (find_at at max)
+asks_nothing m at max none = ap (λ (o : Option ℕ). answer m (find_at o max)) (sym none)
 
-pub asks_there : (m : List Range) (at : Option ℕ) (index bound max : ℕ) → at ≡ Some index → bound ≡ max → answer m (Find index bound) ≡ answer m (query_at at max)
-asks_there m at index bound max some same = ap (λ (n : ℕ). answer m (Find index n)) same ∙ ap (λ (o : Option ℕ). answer m (query_at o max)) (sym some)
+pub asks_there : (m : List Range) (at : Option ℕ) (index bound max : ℕ) → at ≡ Some index → bound ≡ max → answer m (Find index bound) ≡ answer m (find_at at max)
+asks_there m at index bound max some same = ap (λ (n : ℕ). answer m (Find index n)) same ∙ ap (λ (o : Option ℕ). answer m (find_at o max)) (sym some)
 
 opened_more : (epoch : Option ℕ) (opened : List ℕ) (lo : ℕ) → known.Begins opened (opened_with epoch opened lo)
 opened_more None opened lo = (lo ∷ [], refl)
@@ -29,41 +29,15 @@ module _ (t : Identity) (q q₁ q₂ q₃ : PassPart) (lo hi : ℕ) (epoch : Opt
   is_after : q₃ ≡ after
   is_after = begun.is ∙ ap (λ (z : PassPart). record z { begun = hi; steps = q₂.steps + 1 }) (middle epoch standing resumed)
 
-  seen_all : known.Begins q.seen q₂.seen
-  seen_all = begins_on q.seen q₁.seen q₂.seen resumed.seen goes.seen
-
   begun_low : q.begun ≤ hi
   begun_low = let same : q₂.begun ≡ q.begun = ap (λ (z : PassPart). z.begun) (middle epoch standing resumed) in let low = begun.before in omega arith
 
   pub step_at : (k : ℕ) (query : Query) (value : Option Range) → length q₁.seen ≤ k → k ≤ length q₂.seen → value ≡ answer (moment_seen q₂ k).ranges query → known.IsSound (tree_in t) (known_by q₃)
       → known.Read (tree_in t) (known_by q) lo hi k query value (known_by q₃)
   step_at k query value low high is sound =
-      let most = resumed.most in let least = resumed.least in let top = begun.seen in
-      let first = begins_long q.seen q₁.seen resumed.seen in
-      let long = length-map q.seen record_of in let long₂ = length-map q₂.seen record_of in
-      let shape : q₂.shape ≡ t.shape = ap (λ (z : PassPart). z.shape) (middle epoch standing resumed) ∙ of in
-      subst (λ (z : PassPart). known.Read (tree_in t) (known_by q) lo hi k query value (known_by z)) (sym is_after) (record {
-        grows = record {
-          number = refl;
-          seen = begins_records q.seen q₂.seen seen_all;
-          mine = refl;
-          opened = opened_more epoch q.opened lo;
-          begun = begun_low;
-          ended = resumed.before;
-        };
-        true = record {
-          from = omega arith;
-          to = omega arith;
-          made = omega arith;
-          answered = is ∙ ap (λ (s : Shape). answer (map_at (tree_of s q₂.seen) k) query) shape;
-        };
-        from = omega arith;
-        floor = omega arith;
-        before = resumed.before;
-        lo_known = omega arith;
-        hi_known = omega arith;
-        sound = subst (λ (z : PassPart). known.IsSound (tree_in t) (known_by z)) is_after sound;
-      })
+      subst (λ (z : PassPart). known.Read (tree_in t) (known_by q) lo hi k query value (known_by z)) (sym is_after)
+      (reads_between t q q₁ q₂ (opened_with epoch q.opened lo) (Some (epoch_or epoch lo)) lo hi (ap (λ (z : PassPart). z.shape) (middle epoch standing resumed) ∙ of) (opened_more epoch q.opened lo)
+      resumed.seen goes.seen resumed.before resumed.most resumed.least begun_low begun.seen k query value low high is (subst (λ (z : PassPart). known.IsSound (tree_in t) (known_by z)) is_after sound))
 
   pub read_step : (query : Query) (value : Option Range) (k : ℕ) → length q₁.seen ≤ k → k ≤ length q₂.seen → value ≡ answer (moment_seen q₂ k).ranges query → known.IsSound (tree_in t) (known_by q₃)
       → (k : ℕ) × known.Read (tree_in t) (known_by q) lo hi k query value (known_by q₃)

@@ -33,14 +33,40 @@ has_ended n q q₁ q₂ loaded is = record {
 pub begins_records : (xs ys : List Moment) → known.Begins xs ys → known.Begins (records_of xs) (records_of ys)
 begins_records xs ys b = (records_of b.0, ap records_of b.1 ∙ map-append record_of xs b.0)
 
+-- what answers one query answers another, where a map answers both alike
+pub alike : (q : PassPart) (least : ℕ) (query other : Query) (f : Option Range → Option Range) (value : Option Range) → ((k : ℕ) → IsMap q.shape.kind (moment_seen q k).ranges → f (answer (moment_seen q k).ranges query) ≡ answer (moment_seen q k).ranges other)
+    → Answers q least query value → Answers q least other (f value)
+alike q least query other f value same a = record { k = a.k; low = a.low; high = a.high; map = a.map; is = ap f a.is ∙ same a.k a.map }
+
 pub bounded : (q : PassPart) (kind : Kind) (least index max : ℕ) (value : Option Range) → q.shape.kind ≡ kind → Answers q least (Find index (greatest_of kind)) value → Answers q least (Find index max) (within index max value)
-bounded q kind least index max value same a = record {
-  k = a.k;
-  low = a.low;
-  high = a.high;
-  map = a.map;
-  is = ap (within index max) a.is ∙ find_within kind (moment_seen q a.k).ranges index max (subst (λ (k : Kind). IsMap k (moment_seen q a.k).ranges) same a.map);
-}
+bounded q kind least index max value same a =
+    alike q least (Find index (greatest_of kind)) (Find index max) (within index max) value (λ k map. find_within kind (moment_seen q k).ranges index max (subst (λ (z : Kind). IsMap z (moment_seen q k).ranges) same map)) a
+
+-- what a pass that knew q knows after a read, which had seen so much at q₁ when it began and at q₂ when it ended
+module _ (t : Identity) (q q₁ q₂ : PassPart) (opened : List ℕ) (standing : Option ℕ) (lo hi : ℕ) where
+  abbrev known_after : known.Pass
+  known_after = record (known_by q) { seen = records_of q₂.seen; opened = opened; standing = standing; begun = hi; ended = lo }
+
+  pub reads_between : q₂.shape ≡ t.shape → known.Begins q.opened opened → known.Begins q.seen q₁.seen → known.Begins q₁.seen q₂.seen → q.ended ≤ lo → lo ≤ length q₁.seen → length q₁.seen ≤ lo + 1 → q.begun ≤ hi → length q₂.seen ≤ hi
+      → (k : ℕ) (query : Query) (value : Option Range) → length q₁.seen ≤ k → k ≤ length q₂.seen → value ≡ answer (moment_seen q₂ k).ranges query → known.IsSound (tree_in t) known_after → known.Read (tree_in t) (known_by q) lo hi k query value known_after
+  reads_between shape opens began went before most least begun top k query value low high is sound =
+      let first = begins_long q.seen q₁.seen began in
+      let long = length-map q.seen record_of in let long₂ = length-map q₂.seen record_of in
+      record {
+        grows = record { number = refl; seen = begins_records q.seen q₂.seen (begins_on q.seen q₁.seen q₂.seen began went); mine = refl; opened = opens; begun = begun; ended = before };
+        true = record {
+          from = omega arith;
+          to = omega arith;
+          made = omega arith;
+          answered = is ∙ ap (λ (s : Shape). answer (map_at (tree_of s q₂.seen) k) query) shape;
+        };
+        from = omega arith;
+        floor = omega arith;
+        before = before;
+        lo_known = omega arith;
+        hi_known = omega arith;
+        sound = sound;
+      }
 
 module _ (t : Identity) (q q₁ q₂ q₃ : PassPart) (lo hi : ℕ) (of : q.shape ≡ t.shape) (began : Began lo q q₁) (marks : List ℕ) (goes : GoesOnTo q₁ q₂ marks) (ended : Ended hi q₂ q₃) where
   -- what the pass knows after it
@@ -76,32 +102,9 @@ module _ (t : Identity) (q q₁ q₂ q₃ : PassPart) (lo hi : ℕ) (of : q.shap
 
   pub read_at : (k : ℕ) (query : Query) (value : Option Range) → length q₁.seen ≤ k → k ≤ length q₂.seen → value ≡ answer (moment_seen q₂ k).ranges query → known.IsSound (tree_in t) (known_by q₃) → known.Read (tree_in t) (known_by q) lo hi k query value (known_by q₃)
   read_at k query value low high is sound =
-      let most = began.most in let least = began.least in let top = ended.seen in
-      let first = begins_long q.seen q₁.seen began.seen in
-      let long = length-map q.seen record_of in let long₂ = length-map q₂.seen record_of in
-      let shape : q₂.shape ≡ t.shape = ap (λ (z : PassPart). z.shape) middle ∙ of in
-      subst (λ (z : PassPart). known.Read (tree_in t) (known_by q) lo hi k query value (known_by z)) (sym is_after) (record {
-        grows = record {
-          number = refl;
-          seen = begins_records q.seen q₂.seen seen_all;
-          mine = refl;
-          opened = (lo ∷ [], refl);
-          begun = begun_low;
-          ended = began.before;
-        };
-        true = record {
-          from = omega arith;
-          to = omega arith;
-          made = omega arith;
-          answered = is ∙ ap (λ (s : Shape). answer (map_at (tree_of s q₂.seen) k) query) shape;
-        };
-        from = omega arith;
-        floor = omega arith;
-        before = began.before;
-        lo_known = omega arith;
-        hi_known = omega arith;
-        sound = subst (λ (z : PassPart). known.IsSound (tree_in t) (known_by z)) is_after sound;
-      })
+      subst (λ (z : PassPart). known.Read (tree_in t) (known_by q) lo hi k query value (known_by z)) (sym is_after)
+      (reads_between t q q₁ q₂ (q.opened ++ lo ∷ []) None lo hi (ap (λ (z : PassPart). z.shape) middle ∙ of) (lo ∷ [], refl) began.seen goes.seen began.before began.most began.least begun_low ended.seen k query value low high is
+      (subst (λ (z : PassPart). known.IsSound (tree_in t) (known_by z)) is_after sound))
 
   pub read_by : (query : Query) (value : Option Range) → Answers q₂ (length q₁.seen) query value → known.IsSound (tree_in t) (known_by q₃) → (k : ℕ) × known.Read (tree_in t) (known_by q) lo hi k query value (known_by q₃)
   read_by query value a sound = (a.k, read_at a.k query value a.low a.high a.is sound)

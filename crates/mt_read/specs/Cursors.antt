@@ -1,7 +1,7 @@
 -- What a cursor keeps from step to step, and what a step does to a pass (handle).
 -- Source: the kernel's documentation of the maple tree, mas_find, which goes on from the node that it is at, and mas_pause.
-use Rattle.std.specs.Prelude.{◌≡◌, ◌⊎◌, ℕ, ◌+◌, ◌<◌, ◌≤◌, List, [], ◌∷◌, ◌++◌, Option, Some, None, IfSome, length, nat_le, nat_lt, if◌then◌else◌}
-use Rattle.mt_read.specs.Prelude.{Query, Find, Range, PassPart, HasBecome, here, opened_section, with_seen}
+use Rattle.std.specs.Prelude.{◌≡◌, ◌⊎◌, ℕ, ◌+◌, ◌<◌, ◌≤◌, List, [], ◌∷◌, ◌++◌, Option, Some, None, IfSome, length}
+use Rattle.mt_read.specs.Prelude.{PassPart, HasBecome, here, opened_section, with_seen}
 use Rattle.mt_base.specs.Passes as known
 use Rattle.mt_read.specs.declared.cursor.KeptLeaf.{KeptLeaf}
 use Rattle.mt_read.specs.declared.cursor.Cursor.{Cursor}
@@ -41,22 +41,6 @@ pub record LeafWasMarked (leaf : Option KeptLeaf) (at : Option ℕ) (begun : ℕ
 -- the dead marks that the handle has loaded are as before, or the kept leaf's is one more
 abbrev pub MarksKeptLeaf : Option KeptLeaf → Option ℕ → ℕ → PassPart → PassPart → Type 0
 MarksKeptLeaf leaf at begun q q' = (q'.marks ≡ q.marks) ⊎ LeafWasMarked leaf at begun q q'
-
--- ---- places
-
--- where a walk of these bounds begins
-abbrev pub place_from : ℕ → ℕ → Option ℕ
-place_from from max = if nat_le from max then Some from else None
-
--- where it goes on after a range
-abbrev pub place_behind : Option Range → ℕ → Option ℕ
-place_behind None max = None
-place_behind (Some r) max = if nat_lt r.last max then Some (r.last + 1) else None
-
--- what a step asks at a place; if there is none, nothing answers
-abbrev pub query_at : Option ℕ → ℕ → Query
-query_at None max = Find 1 0
-query_at (Some index) max = Find index max
 
 -- ---- cursors
 

@@ -2,8 +2,9 @@
 -- Source: this project's own; the kernel's readers ask for one index, or one range, at a time.
 use Rattle.std.specs.Prelude.{◌≡◌, ℕ, zero, suc, ◌<◌, ◌≤◌, List, [], ◌∷◌, ◌++◌, Option, Some, None, length, take, drop}
 use Rattle.mt_read.specs.Prelude.{Range, Query, Load, History, answer, PassPart, moment_seen}
+pub use Rattle.mt_base.specs.Map.{entry_or_zero}
 use Rattle.mt_base.specs.Passes as known
-use Rattle.mt_read.specs.Cursors.{place_behind, query_at}
+use Rattle.mt_base.specs.Places.{find_at, place_behind}
 
 -- ---- reads at a version
 
@@ -21,11 +22,6 @@ abbrev pub ReadAt : History → known.Pass → ℕ → ℕ → known.Pass → �
 ReadAt tree p lo hi q k query value = known.Read tree p lo hi k query value q
 
 -- ---- look-ups
-
--- the entry of a range, and 0 if there is none
-abbrev pub entry_or_zero : Option Range → ℕ
-entry_or_zero None = 0
-entry_or_zero (Some r) = r.entry
 
 -- The entries that these indexes hold, 0 for an index in a hole. Each was read at a version from `from` to `to`, and none at an
 -- earlier one than the entry before it.
@@ -49,11 +45,11 @@ pub record EntriesPut (At : ℕ → Query → Option Range → Type 0) (from to 
 -- `from` to `to`, and none at an earlier one than the range before it. The walk begins at one place, and is then at the other.
 abbrev pub AreSteps : (ℕ → Query → Option Range → Type 0) → ℕ → ℕ → Option ℕ → List Range → ℕ → Option ℕ → Type 0
 AreSteps At max from at [] to left = (from ≤ to) × (left ≡ at)
-AreSteps At max from at (r ∷ ranges) to left = (k : ℕ) × (from ≤ k) × At k (query_at at max) (Some r) × AreSteps At max k (place_behind (Some r) max) ranges to left
+AreSteps At max from at (r ∷ ranges) to left = (k : ℕ) × (from ≤ k) × At k (find_at at max) (Some r) × AreSteps At max k (place_behind (Some r) max) ranges to left
 
 -- Nothing is found from this place on, at a version from `from` to `to`.
 abbrev pub IsWalkEnd : (ℕ → Query → Option Range → Type 0) → ℕ → ℕ → Option ℕ → ℕ → Type 0
-IsWalkEnd At max from at to = (k : ℕ) × (from ≤ k) × (k ≤ to) × At k (query_at at max) None
+IsWalkEnd At max from at to = (k : ℕ) × (from ≤ k) × (k ≤ to) × At k (find_at at max) None
 
 -- The walk found these ranges, with room for `room`. If they fill it, the walk is after them. If they do not, the walk has
 -- ended: nothing was found after them, at no earlier version than the last of them.

@@ -3,18 +3,17 @@
 ghost use Rattle.std.specs.Prelude.{◌≡◌, ◌≢◌, ◌⊎◌, ℕ, ◌+◌, ◌≤◌, Some, None, IfSome, IfNone, length};
 ghost use Rattle.mt_base.specs.Width.{greatest_of};
 ghost use Rattle.mt_base.specs.declared.calls.Query.TheVariants.{Find};
-ghost use Rattle.mt_base.specs.Passes.{Read};
+ghost use Rattle.mt_base.specs.Passes as known;
 ghost use Rattle.mt_rule.specs.Sections.{closed_section, here};
 ghost use Rattle.mt_rule.specs.Tokens.{identity_of, part_of, pass_in, tree_in, IsPassOf, Stepped, IsCounted};
 ghost use Rattle.mt_read.specs.Answers.{Answers};
-ghost use Rattle.mt_read.specs.Cursors.{HasStepped, IsCursorOf, IsOnKeptLeaf, IsOver, IsOverPlace, LeafWasMarked, MarksKeptLeaf, Resumed, epoch_or, place_behind, place_from, query_at};
+ghost use Rattle.mt_read.specs.Cursors.{HasStepped, IsCursorOf, IsOnKeptLeaf, IsOver, IsOverPlace, LeafWasMarked, MarksKeptLeaf, Resumed, epoch_or};
 ghost use Rattle.mt_read.specs.Walks.{GoesOn, GoesOnTo, WasMarked};
 
-use crate::answers::ReadAnswer;
 use crate::bounds::{not_below, within};
 use crate::descent::{Row, find_along, sought, walk_along};
 use crate::reads::first_at;
-use mt_base::{Range, Steps};
+use mt_base::{Range, Read, Steps, place_behind, place_within};
 use mt_layout::is_dead_mark;
 use mt_rule::{MtTable, Pass};
 use std::sync::ledger::Ledger;
@@ -120,7 +119,8 @@ fn first_behind<L: Ledger>(
     ensures answer { Answers (part_of pass.new) (length (part_of pass.old).seen) (Find index (greatest_of (part_of pass.old).shape.kind)) result.range }
     ensures within { IfSome result.range (λ range. IsOver result.leaf range.last) }
     ensures marks { MarksKeptLeaf leaf (Some index) (part_of pass.new).risen (part_of pass.old) (part_of pass.new) }
-    ensures short { IsOver leaf index → (steps.new ≤ steps.old + 35) ⊎ LeafWasMarked leaf (Some index) (part_of pass.new).risen (part_of pass.old) (part_of pass.new) }
+    ensures short { IsOver leaf index
+        → (steps.new ≤ steps.old + 35) ⊎ LeafWasMarked leaf (Some index) (part_of pass.new).risen (part_of pass.old) (part_of pass.new) }
     ensures counted { IsCounted pass.old pass.new steps.old steps.new }
     ensures steps { steps.new ≤ steps.old + 198 }
 {
@@ -133,18 +133,6 @@ fn first_behind<L: Ledger>(
     match first_at_kept(table, pass, &kept, index, steps) {
         Some(range) => Found { range, leaf },
         None => first_anew(table, pass, lo, index, steps),
-    }
-}
-
-/// Where a walk goes on after a range.
-pub(crate) fn place_behind(range: Option<Range>, max: u64) -> Option<u64>
-    ensures { result ≡ place_behind range max }
-{
-    let range = range?;
-    if range.last < max {
-        Some(range.last + 1)
-    } else {
-        None
     }
 }
 
@@ -163,21 +151,22 @@ impl Cursor {
     ghost use Rattle.std.specs.Prelude.{◌≡◌, ◌≢◌, ◌⊎◌, ℕ, ◌+◌, ◌≤◌, Some, None, IfSome, length};
     ghost use Rattle.mt_base.specs.Width.{greatest_of};
     ghost use Rattle.mt_base.specs.declared.calls.Query.TheVariants.{Find};
-    ghost use Rattle.mt_base.specs.Passes.{Read};
+    ghost use Rattle.mt_base.specs.Passes as known;
     ghost use Rattle.mt_rule.specs.Sections.{closed_section};
     ghost use Rattle.mt_rule.specs.Tokens.{identity_of, part_of, pass_in, tree_in, IsPassOf, Stepped, IsCounted};
     ghost use Rattle.mt_read.specs.Answers.{Answers};
-    ghost use Rattle.mt_read.specs.Cursors.{HasStepped, IsCursorOf, IsOnKeptLeaf, IsOver, IsOverPlace, LeafWasMarked, MarksKeptLeaf, Resumed, epoch_or, place_behind, place_from, query_at};
+    ghost use Rattle.mt_read.specs.Cursors.{HasStepped, IsCursorOf, IsOnKeptLeaf, IsOver, IsOverPlace, LeafWasMarked, MarksKeptLeaf, Resumed, epoch_or};
+    ghost use Rattle.mt_base.specs.Places.{find_at, place_behind, place_within};
     ghost use Rattle.mt_read.specs.Walks.{GoesOnTo};
 
     /// A walk from an index up to a bound. It opens no section yet.
     pub fn new(from: u64, max: u64) -> Cursor
-        ensures at { result.at ≡ place_from from max }
+        ensures at { result.at ≡ place_within from max }
         ensures max { result.max ≡ max }
         ensures leaf { result.leaf ≡ None }
         ensures epoch { result.epoch ≡ None }
     {
-        let at = if from <= max { Some(from) } else { None };
+        let at = place_within(from, max);
         Cursor {
             at,
             max,
@@ -238,7 +227,8 @@ impl Cursor {
         ensures answer { Answers (part_of pass.new) (length (part_of pass.old).seen) (Find index self.old.max) result }
         ensures within { IfSome result (λ range. IsOver self.new.leaf range.last) }
         ensures marks { MarksKeptLeaf self.old.leaf (Some index) (part_of pass.new).risen (part_of pass.old) (part_of pass.new) }
-        ensures short { IsOver self.old.leaf index → (steps.new ≤ steps.old + 35) ⊎ LeafWasMarked self.old.leaf (Some index) (part_of pass.new).risen (part_of pass.old) (part_of pass.new) }
+        ensures short { IsOver self.old.leaf index → (steps.new ≤ steps.old + 35)
+            ⊎ LeafWasMarked self.old.leaf (Some index) (part_of pass.new).risen (part_of pass.old) (part_of pass.new) }
         ensures counted { IsCounted pass.old pass.new steps.old steps.new }
         ensures steps { steps.new ≤ steps.old + 198 }
     {
@@ -253,12 +243,13 @@ impl Cursor {
         table: &MtTable,
         pass: &mut Pass,
         steps: &mut Steps<L>,
-    ) -> ReadAnswer<Option<Range>>
+    ) -> Read<Option<Range>>
         requires pass { IsPassOf (identity_of table.now) pass.old }
         requires cursor { IsCursorOf (part_of pass.old) self.old }
         ensures stepped { Stepped (identity_of table.now) pass.old pass.new }
         ensures cursor { IsCursorOf (part_of pass.new) self.new }
-        ensures read { (k : ℕ) × Read (tree_in (identity_of table.now)) (pass_in pass.old) result.lo result.hi k (query_at self.old.at self.old.max) result.value (pass_in pass.new) }
+        ensures read { (k : ℕ) × known.Read (tree_in (identity_of table.now))
+            (pass_in pass.old) result.lo result.hi k (find_at self.old.at self.old.max) result.value (pass_in pass.new) }
         ensures section { HasStepped result.lo result.hi self.old.epoch (pass_in pass.old) (pass_in pass.new) }
         ensures at { self.new.at ≡ place_behind result.value self.old.max }
         ensures max { self.new.max ≡ self.old.max }
@@ -266,14 +257,15 @@ impl Cursor {
         ensures leaf { IfSome result.value (λ range. IsOver self.new.leaf range.last) }
         ensures lo { (self.new.leaf ≡ self.old.leaf) ⊎ IfSome self.new.leaf (λ kept. kept.lo ≡ result.lo) }
         ensures marks { MarksKeptLeaf self.old.leaf self.old.at result.hi (part_of pass.old) (part_of pass.new) }
-        ensures short { IsOverPlace self.old.leaf self.old.at → (steps.new ≤ steps.old + 40) ⊎ LeafWasMarked self.old.leaf self.old.at result.hi (part_of pass.old) (part_of pass.new) }
+        ensures short { IsOverPlace self.old.leaf self.old.at
+            → (steps.new ≤ steps.old + 40) ⊎ LeafWasMarked self.old.leaf self.old.at result.hi (part_of pass.old) (part_of pass.new) }
         ensures counted { IsCounted pass.old pass.new steps.old steps.new }
         ensures steps { steps.new ≤ steps.old + 220 }
     {
         let lo = self.resume(table, pass, steps);
         let Some(index) = self.at else {
             let hi = table.load_begun(pass, steps);
-            return ReadAnswer {
+            return Read {
                 lo,
                 hi,
                 value: None,
@@ -282,7 +274,7 @@ impl Cursor {
         let value = self.look(table, pass, lo, index, steps);
         let hi = table.load_begun(pass, steps);
         self.at = place_behind(value, self.max);
-        ReadAnswer { lo, hi, value }
+        Read { lo, hi, value }
     }
 
     /// Closes the section, and keeps the place alone: the next step opens a section and walks again.

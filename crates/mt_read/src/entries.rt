@@ -174,7 +174,8 @@ fn entry_by<const COLS: u32, L: Ledger>(
     requires open { (part_of pass.old).standing ≢ None }
     ensures stepped { Stepped (identity_of table.now) pass.old pass.new }
     ensures goes { GoesOn (part_of pass.old) (part_of pass.new) }
-    ensures answer { (range : Option Range) × Answers (part_of pass.new) (length (part_of pass.old).seen) (Load index) range × (result ≡ option_map (λ r. r.entry) range) }
+    ensures answer { (range : Option Range)
+        × Answers (part_of pass.new) (length (part_of pass.old).seen) (Load index) range × (result ≡ option_map (λ r. r.entry) range) }
     ensures counted { IsCounted pass.old pass.new steps.old steps.new }
     ensures steps { steps.new ≤ steps.old + 91 }
 {
@@ -195,7 +196,8 @@ pub fn entry_of<L: Ledger>(
     requires open { (part_of pass.old).standing ≢ None }
     ensures stepped { Stepped (identity_of table.now) pass.old pass.new }
     ensures goes { GoesOn (part_of pass.old) (part_of pass.new) }
-    ensures answer { (range : Option Range) × Answers (part_of pass.new) (length (part_of pass.old).seen) (Load index) range × (result ≡ option_map (λ r. r.entry) range) }
+    ensures answer { (range : Option Range)
+        × Answers (part_of pass.new) (length (part_of pass.old).seen) (Load index) range × (result ≡ option_map (λ r. r.entry) range) }
     ensures counted { IsCounted pass.old pass.new steps.old steps.new }
     ensures steps { steps.new ≤ steps.old + 91 }
 {

@@ -2,7 +2,7 @@
 
 ghost use Rattle.std.specs.Prelude.{◌≡◌, ◌≢◌, ℕ, ◌+◌, ◌-◌, ◌<◌, ◌≤◌, Some, None, IfSome, IfNone, IfOk, IfErr, length};
 ghost use Rattle.mt_base.specs.declared.calls.Query.TheVariants.{Prev, Rfind};
-ghost use Rattle.mt_base.specs.Passes.{Read};
+ghost use Rattle.mt_base.specs.Passes as known;
 ghost use Rattle.mt_rule.specs.Sections.{here};
 ghost use Rattle.mt_rule.specs.Tokens.{identity_of, part_of, pass_in, tree_in, IsPassOf, Stepped, IsCounted};
 ghost use Rattle.mt_read.specs.Answers.{Answers, AnswersBy, LeafAnswers};
@@ -10,13 +10,12 @@ ghost use Rattle.mt_read.specs.Neighbours.{IsLeafBefore, LeftHole, LeftMarked, M
 ghost use Rattle.mt_read.specs.Walks.{GoesOn, IsOnLeaf, IsPlaceIn, IsSameHold, SeesMore, WasRead};
 ghost use Rattle.mt_read.specs.Windows.{HasRead};
 
-use crate::answers::ReadAnswer;
 use crate::bounds::not_below;
 use crate::descent::{Row, SlotPlace, find_slot, sought, walk};
 use crate::neighbours::Moved;
 use crate::reads::range_at;
 use crate::sections::Section;
-use mt_base::{Range, Steps, top};
+use mt_base::{Range, Read, Steps, top};
 use mt_layout::is_dead_mark;
 use mt_rule::{MtTable, Pass};
 use std::sync::ledger::Ledger;
@@ -170,7 +169,8 @@ fn rfind_from<L: Ledger>(
     ensures stepped { Stepped (identity_of table.now) pass.old pass.new }
     ensures goes { IfSome result (λ found. GoesOn (part_of pass.old) (part_of pass.new)) }
     ensures answer { IfSome result (Answers (part_of pass.new) (length (part_of pass.old).seen) (Rfind index 0)) }
-    ensures moved { IfNone result (LeftMarked (asked (part_of pass.old).shape.kind (Rfind index 0)) (length (part_of pass.old).seen) (part_of pass.old) (part_of pass.new)) }
+    ensures moved { IfNone result
+        (LeftMarked (asked (part_of pass.old).shape.kind (Rfind index 0)) (length (part_of pass.old).seen) (part_of pass.old) (part_of pass.new)) }
     ensures counted { IsCounted pass.old pass.new steps.old steps.new }
     ensures steps { steps.new ≤ steps.old + 327 }
 {
@@ -227,7 +227,8 @@ fn prev_from<L: Ledger>(
     ensures stepped { Stepped (identity_of table.now) pass.old pass.new }
     ensures goes { IfSome result (λ found. GoesOn (part_of pass.old) (part_of pass.new)) }
     ensures answer { IfSome result (Answers (part_of pass.new) (length (part_of pass.old).seen) (Prev index 0)) }
-    ensures moved { IfNone result (LeftMarked (asked (part_of pass.old).shape.kind (Prev index 0)) (length (part_of pass.old).seen) (part_of pass.old) (part_of pass.new)) }
+    ensures moved { IfNone result
+        (LeftMarked (asked (part_of pass.old).shape.kind (Prev index 0)) (length (part_of pass.old).seen) (part_of pass.old) (part_of pass.new)) }
     ensures counted { IsCounted pass.old pass.new steps.old steps.new }
     ensures steps { steps.new ≤ steps.old + 328 }
 {
@@ -253,10 +254,11 @@ pub fn rfind<L: Ledger>(
     index: u64,
     min: u64,
     steps: &mut Steps<L>,
-) -> Result<ReadAnswer<Option<Range>>, Moved>
+) -> Result<Read<Option<Range>>, Moved>
     requires pass { IsPassOf (identity_of table.now) pass.old }
     ensures stepped { Stepped (identity_of table.now) pass.old pass.new }
-    ensures read { IfOk result (λ answer. (k : ℕ) × Read (tree_in (identity_of table.now)) (pass_in pass.old) answer.lo answer.hi k (Rfind index min) answer.value (pass_in pass.new)) }
+    ensures read { IfOk result (λ answer. (k : ℕ)
+        × known.Read (tree_in (identity_of table.now)) (pass_in pass.old) answer.lo answer.hi k (Rfind index min) answer.value (pass_in pass.new)) }
     ensures section { IfOk result (λ answer. HasRead answer.lo answer.hi (pass_in pass.old) (pass_in pass.new)) }
     ensures moved { IfErr result (λ moved. WasMoved (tree_in (identity_of table.now)) (pass_in pass.old) moved.lo moved.begun (pass_in pass.new)) }
     ensures given_up { IfErr result (λ moved. HasRead moved.lo moved.begun (pass_in pass.old) (pass_in pass.new)) }
@@ -269,7 +271,7 @@ pub fn rfind<L: Ledger>(
     let found = rfind_from(table, pass, index, steps);
     let begun = section.end(table, pass, steps);
     let range = found.ok_or(Moved { lo, begun })?;
-    Ok(ReadAnswer {
+    Ok(Read {
         lo,
         hi: begun,
         value: not_below(range, index, min),
@@ -288,10 +290,11 @@ pub fn prev<L: Ledger>(
     index: u64,
     min: u64,
     steps: &mut Steps<L>,
-) -> Result<ReadAnswer<Option<Range>>, Moved>
+) -> Result<Read<Option<Range>>, Moved>
     requires pass { IsPassOf (identity_of table.now) pass.old }
     ensures stepped { Stepped (identity_of table.now) pass.old pass.new }
-    ensures read { IfOk result (λ answer. (k : ℕ) × Read (tree_in (identity_of table.now)) (pass_in pass.old) answer.lo answer.hi k (Prev index min) answer.value (pass_in pass.new)) }
+    ensures read { IfOk result (λ answer. (k : ℕ)
+        × known.Read (tree_in (identity_of table.now)) (pass_in pass.old) answer.lo answer.hi k (Prev index min) answer.value (pass_in pass.new)) }
     ensures section { IfOk result (λ answer. HasRead answer.lo answer.hi (pass_in pass.old) (pass_in pass.new)) }
     ensures moved { IfErr result (λ moved. WasMoved (tree_in (identity_of table.now)) (pass_in pass.old) moved.lo moved.begun (pass_in pass.new)) }
     ensures given_up { IfErr result (λ moved. HasRead moved.lo moved.begun (pass_in pass.old) (pass_in pass.new)) }
@@ -304,7 +307,7 @@ pub fn prev<L: Ledger>(
     let found = prev_from(table, pass, index, steps);
     let begun = section.end(table, pass, steps);
     let range = found.ok_or(Moved { lo, begun })?;
-    Ok(ReadAnswer {
+    Ok(Read {
         lo,
         hi: begun,
         value: not_below(range, min, min),

@@ -1,7 +1,6 @@
 //! Reads of a shared tree beside its writer, without the lock.
 #![tactic(auto)]
 
-mod answers;
 mod bounds;
 mod cursor;
 mod descent;
@@ -15,7 +14,6 @@ mod reads;
 mod sections;
 mod seeks;
 
-pub use answers::ReadAnswer;
 pub use cursor::Cursor;
 pub use lasts::{prev, rfind};
 pub use many::load_many;

@@ -6,11 +6,10 @@ ghost use Rattle.mt_read.specs.Many.{EntriesPut, ReadAt, SeenAt};
 ghost use Rattle.mt_read.specs.Walks.{GoesOn};
 ghost use Rattle.mt_read.specs.Windows.{HasRead};
 
-use crate::answers::ReadAnswer;
-use crate::cursor::{Cursor, place_behind};
+use crate::cursor::Cursor;
 use crate::entries::entry_of;
 use crate::sections::Section;
-use mt_base::{Range, Steps};
+use mt_base::{Range, Read, Steps, place_behind};
 use mt_rule::{MtTable, Pass};
 use std::sync::ledger::Ledger;
 
@@ -27,7 +26,8 @@ fn put_entries<L: Ledger>(
     requires open { (part_of pass.old).standing ≢ None }
     ensures stepped { Stepped (identity_of table.now) pass.old pass.new }
     ensures goes { GoesOn (part_of pass.old) (part_of pass.new) }
-    ensures entries { EntriesPut (SeenAt (part_of pass.new)) (length (part_of pass.old).seen) (length (part_of pass.new).seen) result indexes.now entries.old entries.new }
+    ensures entries { EntriesPut (SeenAt (part_of pass.new))
+        (length (part_of pass.old).seen) (length (part_of pass.new).seen) result indexes.now entries.old entries.new }
     ensures count { result ≡ min (length indexes.now) (length entries.old) }
     ensures counted { IsCounted pass.old pass.new steps.old steps.new }
     ensures steps { steps.new ≤ steps.old + 91 * result }
@@ -48,10 +48,11 @@ pub fn load_many<L: Ledger>(
     indexes: &[u64],
     entries: &mut [u64],
     steps: &mut Steps<L>,
-) -> ReadAnswer<usize>
+) -> Read<usize>
     requires pass { IsPassOf (identity_of table.now) pass.old }
     ensures stepped { Stepped (identity_of table.now) pass.old pass.new }
-    ensures entries { EntriesPut (ReadAt (tree_in (identity_of table.now)) (pass_in pass.old) result.lo result.hi (pass_in pass.new)) result.lo result.hi result.value indexes.now entries.old entries.new }
+    ensures entries { EntriesPut (ReadAt (tree_in (identity_of table.now)) (pass_in pass.old) result.lo result.hi (pass_in pass.new))
+        result.lo result.hi result.value indexes.now entries.old entries.new }
     ensures count { result.value ≡ min (length indexes.now) (length entries.old) }
     ensures section { HasRead result.lo result.hi (pass_in pass.old) (pass_in pass.new) }
     ensures counted { IsCounted pass.old pass.new steps.old steps.new }
@@ -61,13 +62,14 @@ pub fn load_many<L: Ledger>(
     let lo = section.epoch();
     let value = put_entries(table, pass, indexes, entries, steps);
     let hi = section.end(table, pass, steps);
-    ReadAnswer { lo, hi, value }
+    Read { lo, hi, value }
 }
 
 impl Cursor {
     ghost use Rattle.std.specs.Prelude.{◌≡◌, ◌≢◌, ◌⊎◌, ◌+◌, ◌*◌, ◌≤◌, Some, None, IfSome, length};
     ghost use Rattle.mt_rule.specs.Tokens.{identity_of, part_of, pass_in, tree_in, IsPassOf, Stepped, IsCounted};
-    ghost use Rattle.mt_read.specs.Cursors.{HasStepped, IsCursorOf, IsOnKeptLeaf, IsOver, epoch_or, place_behind, query_at};
+    ghost use Rattle.mt_read.specs.Cursors.{HasStepped, IsCursorOf, IsOnKeptLeaf, IsOver, epoch_or};
+    ghost use Rattle.mt_base.specs.Places.{find_at, place_behind};
     ghost use Rattle.mt_read.specs.Many.{IsSeenFrom, RangesPut, ReadAt, SeenAt};
     ghost use Rattle.mt_read.specs.Walks.{GoesOnTo};
 
@@ -88,7 +90,7 @@ impl Cursor {
         ensures kept { IfSome self.new.leaf (IsOnKeptLeaf (part_of pass.new)) }
         ensures same { self.new ≡ record self.old { at = place_behind result self.old.max; leaf = self.new.leaf } }
         ensures lo { (self.new.leaf ≡ self.old.leaf) ⊎ IfSome self.new.leaf (λ kept. kept.lo ≡ lo) }
-        ensures read { IsSeenFrom (part_of pass.new) (length (part_of pass.old).seen) (query_at self.old.at self.old.max) result }
+        ensures read { IsSeenFrom (part_of pass.new) (length (part_of pass.old).seen) (find_at self.old.at self.old.max) result }
         ensures within { IfSome result (λ range. IsOver self.new.leaf range.last) }
         ensures counted { IsCounted pass.old pass.new steps.old steps.new }
         ensures steps { steps.new ≤ steps.old + 198 }
@@ -120,7 +122,8 @@ impl Cursor {
         ensures kept { IfSome self.new.leaf (IsOnKeptLeaf (part_of pass.new)) }
         ensures same { self.new ≡ record self.old { at = self.new.at; leaf = self.new.leaf } }
         ensures lo { (self.new.leaf ≡ self.old.leaf) ⊎ IfSome self.new.leaf (λ kept. kept.lo ≡ lo) }
-        ensures ranges { RangesPut (SeenAt (part_of pass.new)) self.old.max (length (part_of pass.old).seen) (length (part_of pass.new).seen) self.old.at ranges.old ranges.new result self.new.at }
+        ensures ranges { RangesPut (SeenAt (part_of pass.new)) self.old.max
+            (length (part_of pass.old).seen) (length (part_of pass.new).seen) self.old.at ranges.old ranges.new result self.new.at }
         ensures counted { IsCounted pass.old pass.new steps.old steps.new }
         ensures steps { steps.new ≤ steps.old + 198 * length ranges.old }
         ensures few { steps.new ≤ steps.old + 198 * result + 198 }
@@ -144,12 +147,13 @@ impl Cursor {
         pass: &mut Pass,
         ranges: &mut [Range],
         steps: &mut Steps<L>,
-    ) -> ReadAnswer<usize>
+    ) -> Read<usize>
         requires pass { IsPassOf (identity_of table.now) pass.old }
         requires cursor { IsCursorOf (part_of pass.old) self.old }
         ensures stepped { Stepped (identity_of table.now) pass.old pass.new }
         ensures cursor { IsCursorOf (part_of pass.new) self.new }
-        ensures ranges { RangesPut (ReadAt (tree_in (identity_of table.now)) (pass_in pass.old) result.lo result.hi (pass_in pass.new)) self.old.max result.lo result.hi self.old.at ranges.old ranges.new result.value self.new.at }
+        ensures ranges { RangesPut (ReadAt (tree_in (identity_of table.now)) (pass_in pass.old) result.lo result.hi (pass_in pass.new))
+            self.old.max result.lo result.hi self.old.at ranges.old ranges.new result.value self.new.at }
         ensures section { HasStepped result.lo result.hi self.old.epoch (pass_in pass.old) (pass_in pass.new) }
         ensures max { self.new.max ≡ self.old.max }
         ensures epoch { self.new.epoch ≡ Some (epoch_or self.old.epoch result.lo) }
@@ -161,6 +165,6 @@ impl Cursor {
         let lo = self.resume(table, pass, steps);
         let value = self.fill(table, pass, lo, ranges, steps);
         let hi = table.load_begun(pass, steps);
-        ReadAnswer { lo, hi, value }
+        Read { lo, hi, value }
     }
 }

@@ -3,7 +3,7 @@
 ghost use Rattle.std.specs.Prelude.{◌≡◌, ◌≢◌, ℕ, ◌+◌, ◌<◌, ◌≤◌, Some, None, IfSome, IfNone, IfOk, IfErr, length};
 ghost use Rattle.mt_base.specs.Width.{greatest_of};
 ghost use Rattle.mt_base.specs.declared.calls.Query.TheVariants.{Find, Next};
-ghost use Rattle.mt_base.specs.Passes.{Read};
+ghost use Rattle.mt_base.specs.Passes as known;
 ghost use Rattle.mt_rule.specs.Sections.{here};
 ghost use Rattle.mt_rule.specs.Tokens.{identity_of, part_of, pass_in, tree_in, IsPassOf, Stepped, IsCounted};
 ghost use Rattle.mt_read.specs.Answers.{Answers, AnswersBy};
@@ -11,12 +11,11 @@ ghost use Rattle.mt_read.specs.Neighbours.{IsBehind, LeftMarked, MarkedBeside, W
 ghost use Rattle.mt_read.specs.Walks.{GoesOn, IsOnLeaf};
 ghost use Rattle.mt_read.specs.Windows.{HasRead};
 
-use crate::answers::ReadAnswer;
 use crate::bounds::within;
 use crate::descent::{Row, find_slot, sought, walk};
 use crate::reads::{first_at, next_place, range_at};
 use crate::sections::Section;
-use mt_base::{Range, Steps, top};
+use mt_base::{Range, Read, Steps, top};
 use mt_layout::is_dead_mark;
 use mt_rule::{MtTable, Pass};
 use std::sync::ledger::Ledger;
@@ -46,7 +45,8 @@ fn first_beside<L: Ledger>(
     requires more { leaf.now.max < greatest_of (part_of pass.old).shape.kind }
     ensures stepped { Stepped (identity_of table.now) pass.old pass.new }
     ensures goes { IfSome result (λ found. GoesOn (part_of pass.old) (part_of pass.new)) }
-    ensures answer { IfSome result (AnswersBy (part_of pass.new) (here (part_of pass.old)) (length (part_of pass.old).seen) (Find (leaf.now.max + 1) (greatest_of (part_of pass.old).shape.kind))) }
+    ensures answer { IfSome result (AnswersBy (part_of pass.new)
+        (here (part_of pass.old)) (length (part_of pass.old).seen) (Find (leaf.now.max + 1) (greatest_of (part_of pass.old).shape.kind))) }
     ensures moved { IfNone result (MarkedBeside IsBehind (here (part_of pass.old)) (part_of pass.old) (part_of pass.new)) }
     ensures counted { IsCounted pass.old pass.new steps.old steps.new }
     ensures steps { steps.new ≤ steps.old + 164 }
@@ -80,7 +80,8 @@ fn next_at_leaf<L: Ledger>(
     ensures stepped { Stepped (identity_of table.now) pass.old pass.new }
     ensures goes { IfSome result (λ found. GoesOn (part_of pass.old) (part_of pass.new)) }
     ensures answer { IfSome result (Answers (part_of pass.new) (here (part_of pass.old)).since (Next index (greatest_of (part_of pass.old).shape.kind))) }
-    ensures moved { IfNone result (LeftMarked (Next index (greatest_of (part_of pass.old).shape.kind)) (here (part_of pass.old)).since (part_of pass.old) (part_of pass.new)) }
+    ensures moved { IfNone result
+        (LeftMarked (Next index (greatest_of (part_of pass.old).shape.kind)) (here (part_of pass.old)).since (part_of pass.old) (part_of pass.new)) }
     ensures counted { IsCounted pass.old pass.new steps.old steps.new }
     ensures steps { steps.new ≤ steps.old + 195 }
 {
@@ -109,7 +110,8 @@ fn next_from<L: Ledger>(
     ensures stepped { Stepped (identity_of table.now) pass.old pass.new }
     ensures goes { IfSome result (λ found. GoesOn (part_of pass.old) (part_of pass.new)) }
     ensures answer { IfSome result (Answers (part_of pass.new) (length (part_of pass.old).seen) (Next index (greatest_of (part_of pass.old).shape.kind))) }
-    ensures moved { IfNone result (LeftMarked (asked (part_of pass.old).shape.kind (Next index (greatest_of (part_of pass.old).shape.kind))) (length (part_of pass.old).seen) (part_of pass.old) (part_of pass.new)) }
+    ensures moved { IfNone result (LeftMarked (asked (part_of pass.old).shape.kind (Next index (greatest_of (part_of pass.old).shape.kind)))
+        (length (part_of pass.old).seen) (part_of pass.old) (part_of pass.new)) }
     ensures counted { IsCounted pass.old pass.new steps.old steps.new }
     ensures steps { steps.new ≤ steps.old + 324 }
 {
@@ -132,14 +134,16 @@ pub fn next<L: Ledger>(
     index: u64,
     max: u64,
     steps: &mut Steps<L>,
-) -> Result<ReadAnswer<Option<Range>>, Moved>
+) -> Result<Read<Option<Range>>, Moved>
     requires pass { IsPassOf (identity_of table.now) pass.old }
     ensures stepped { Stepped (identity_of table.now) pass.old pass.new }
-    ensures read { IfOk result (λ answer. (k : ℕ) × Read (tree_in (identity_of table.now)) (pass_in pass.old) answer.lo answer.hi k (Next index max) answer.value (pass_in pass.new)) }
+    ensures read { IfOk result (λ answer. (k : ℕ)
+        × known.Read (tree_in (identity_of table.now)) (pass_in pass.old) answer.lo answer.hi k (Next index max) answer.value (pass_in pass.new)) }
     ensures section { IfOk result (λ answer. HasRead answer.lo answer.hi (pass_in pass.old) (pass_in pass.new)) }
     ensures moved { IfErr result (λ moved. WasMoved (tree_in (identity_of table.now)) (pass_in pass.old) moved.lo moved.begun (pass_in pass.new)) }
     ensures given_up { IfErr result (λ moved. HasRead moved.lo moved.begun (pass_in pass.old) (pass_in pass.new)) }
-    ensures left { IfErr result (λ moved. WasLeftMarked (Next index (greatest_of (part_of pass.old).shape.kind)) moved.lo moved.begun (part_of pass.old) (part_of pass.new)) }
+    ensures left { IfErr result
+        (λ moved. WasLeftMarked (Next index (greatest_of (part_of pass.old).shape.kind)) moved.lo moved.begun (part_of pass.old) (part_of pass.new)) }
     ensures counted { IsCounted pass.old pass.new steps.old steps.new }
     ensures steps { steps.new ≤ steps.old + 360 }
 {
@@ -148,7 +152,7 @@ pub fn next<L: Ledger>(
     let found = next_from(table, pass, index, steps);
     let begun = section.end(table, pass, steps);
     let range = found.ok_or(Moved { lo, begun })?;
-    Ok(ReadAnswer {
+    Ok(Read {
         lo,
         hi: begun,
         value: within(range, 0, max),

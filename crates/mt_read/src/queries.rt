@@ -3,16 +3,15 @@
 ghost use Rattle.std.specs.Prelude.{◌≡◌, ℕ, ◌+◌, ◌≤◌, Option, option_map};
 ghost use Rattle.mt_base.specs.declared.ranges.Range.{Range};
 ghost use Rattle.mt_base.specs.declared.calls.Query.TheVariants.{Load, Find};
-ghost use Rattle.mt_base.specs.Passes.{Read};
+ghost use Rattle.mt_base.specs.Passes as known;
 ghost use Rattle.mt_rule.specs.Tokens.{identity_of, pass_in, tree_in, IsPassOf, Stepped, IsCounted};
 ghost use Rattle.mt_read.specs.Windows.{HasRead};
 
-use crate::answers::ReadAnswer;
 use crate::bounds::within;
 use crate::entries::entry_of;
 use crate::reads::{first_from, range_of};
 use crate::sections::Section;
-use mt_base::{Range, Steps};
+use mt_base::{Range, Read, Steps};
 use mt_rule::{MtTable, Pass};
 use std::sync::ledger::Ledger;
 
@@ -22,10 +21,11 @@ pub fn load_range<L: Ledger>(
     pass: &mut Pass,
     index: u64,
     steps: &mut Steps<L>,
-) -> ReadAnswer<Option<Range>>
+) -> Read<Option<Range>>
     requires pass { IsPassOf (identity_of table.now) pass.old }
     ensures stepped { Stepped (identity_of table.now) pass.old pass.new }
-    ensures read { (k : ℕ) × Read (tree_in (identity_of table.now)) (pass_in pass.old) result.lo result.hi k (Load index) result.value (pass_in pass.new) }
+    ensures read { (k : ℕ)
+        × known.Read (tree_in (identity_of table.now)) (pass_in pass.old) result.lo result.hi k (Load index) result.value (pass_in pass.new) }
     ensures section { HasRead result.lo result.hi (pass_in pass.old) (pass_in pass.new) }
     ensures counted { IsCounted pass.old pass.new steps.old steps.new }
     ensures steps { steps.new ≤ steps.old + 170 }
@@ -34,7 +34,7 @@ pub fn load_range<L: Ledger>(
     let lo = section.epoch();
     let value = range_of(table, pass, index, steps);
     let hi = section.end(table, pass, steps);
-    ReadAnswer { lo, hi, value }
+    Read { lo, hi, value }
 }
 
 /// The entry that an index holds. There is none if it lies in a hole.
@@ -43,10 +43,11 @@ pub fn load<L: Ledger>(
     pass: &mut Pass,
     index: u64,
     steps: &mut Steps<L>,
-) -> ReadAnswer<Option<u64>>
+) -> Read<Option<u64>>
     requires pass { IsPassOf (identity_of table.now) pass.old }
     ensures stepped { Stepped (identity_of table.now) pass.old pass.new }
-    ensures read { (k : ℕ) × (range : Option Range) × Read (tree_in (identity_of table.now)) (pass_in pass.old) result.lo result.hi k (Load index) range (pass_in pass.new) × (result.value ≡ option_map (λ r. r.entry) range) }
+    ensures read { (k : ℕ) × (range : Option Range) × known.Read (tree_in (identity_of table.now))
+        (pass_in pass.old) result.lo result.hi k (Load index) range (pass_in pass.new) × (result.value ≡ option_map (λ r. r.entry) range) }
     ensures section { HasRead result.lo result.hi (pass_in pass.old) (pass_in pass.new) }
     ensures counted { IsCounted pass.old pass.new steps.old steps.new }
     ensures steps { steps.new ≤ steps.old + 95 }
@@ -55,7 +56,7 @@ pub fn load<L: Ledger>(
     let lo = section.epoch();
     let entry = entry_of(table, pass, index, steps);
     let hi = section.end(table, pass, steps);
-    ReadAnswer {
+    Read {
         lo,
         hi,
         value: entry,
@@ -69,10 +70,11 @@ pub fn find<L: Ledger>(
     index: u64,
     max: u64,
     steps: &mut Steps<L>,
-) -> ReadAnswer<Option<Range>>
+) -> Read<Option<Range>>
     requires pass { IsPassOf (identity_of table.now) pass.old }
     ensures stepped { Stepped (identity_of table.now) pass.old pass.new }
-    ensures read { (k : ℕ) × Read (tree_in (identity_of table.now)) (pass_in pass.old) result.lo result.hi k (Find index max) result.value (pass_in pass.new) }
+    ensures read { (k : ℕ)
+        × known.Read (tree_in (identity_of table.now)) (pass_in pass.old) result.lo result.hi k (Find index max) result.value (pass_in pass.new) }
     ensures section { HasRead result.lo result.hi (pass_in pass.old) (pass_in pass.new) }
     ensures counted { IsCounted pass.old pass.new steps.old steps.new }
     ensures steps { steps.new ≤ steps.old + 175 }
@@ -81,7 +83,7 @@ pub fn find<L: Ledger>(
     let lo = section.epoch();
     let range = first_from(table, pass, index, steps);
     let hi = section.end(table, pass, steps);
-    ReadAnswer {
+    Read {
         lo,
         hi,
         value: within(range, index, max),

@@ -4,10 +4,10 @@ use Rattle.mt_read.proofs.entries.descend.Given as goal
 abbrev pub invariant-loop-pass : goal.invariant-loop-pass
 invariant-loop-pass g l = record {
   stepped : Stepped (identity_of l.table) l.fn.pass l.pass;
+  covers : CoversHere (part_of l.pass) l.index;
   goes : GoesOn (part_of l.fn.pass) (part_of l.pass);
   on : IsAtSpot (part_of l.pass) l.spot;
   since : (here (part_of l.pass)).since ≡ (here (part_of l.fn.pass)).since;
-  covers : CoversHere (part_of l.pass) l.index;
   counted : IsCounted l.fn.pass l.pass l.fn.steps l.steps;
   steps : l.steps + steps_below (part_of l.pass) ≤ l.fn.steps + steps_below (part_of l.fn.pass);
 }

@@ -1,19 +1,15 @@
-use Rattle.mt_read.proofs.Prelude.{arith, ◌≡◌, ◌≤◌, ◌∙◌, ℕ, length, ap, subst, min, Kind, Width, Load, greatest, greatest_of, kind_width, here, identity_of, part_of, not_below, range_or_hole, sought}
+use Rattle.mt_read.proofs.Prelude.{arith, ◌≤◌, length, subst, Kind, Load, greatest_of, kind_width, here, identity_of, part_of, not_below, range_or_hole}
 use Rattle.mt_read.proofs.Descending.{goes_on}
 use Rattle.mt_read.proofs.Reading.{loads, answers_from}
 use Rattle.mt_read.proofs.Spots.{entry_is}
-use Rattle.mt_read.proofs.Upward.{kind_is, loads_sought, sought_within}
+use Rattle.mt_read.proofs.Upward.{kind_is, lesser_is, loads_sought, sought_within}
 use Rattle.mt_read.proofs.entries.entry_by.Goals as goal
-
--- the index that the walk goes to
-there : (kind : Kind) (index end to : ℕ) (width : Width) → width ≡ kind_width kind → end ≡ greatest width → to ≡ min index end → to ≡ sought kind index
-there kind index end to width wide top is = is ∙ ap (min index) (top ∙ ap greatest wide)
 
 pub walk_by-requires-clause-index : goal.walk_by-requires-clause-index
 walk_by-requires-clause-index g c =
     let kind = (identity_of c.args.table.now).shape.kind in
     sought_within (identity_of c.args.table.now) c.args.pass.now c.args.index c.min-to.result c.requires.pass
-    (there kind c.args.index c.top.result c.min-to.result c.width_with.result (c.width_with.ensures (kind_width kind) c.requires.columns) c.top.ensures c.min-to.ensures)
+    (lesser_is kind c.args.index c.top.result c.min-to.result c.width_with.result (c.width_with.ensures (kind_width kind) c.requires.columns) c.top.ensures c.min-to.ensures)
 
 pub returns-clause-goes : goal.returns-clause-goes
 returns-clause-goes g c = goes_on _ _ _ c.walk_by.ensures.goes c.entry_in-entry.ensures.goes
@@ -23,7 +19,7 @@ returns-clause-answer g c =
     let t = identity_of c.args.table.now in
     let q = part_of c.args.pass.now in let q₁ = part_of c.walk_by.new.pass in let q₂ = part_of c.entry_in-entry.new.pass in
     let kind = t.shape.kind in
-    let to_is = there kind c.args.index c.top.result c.min-to.result c.width_with.result (c.width_with.ensures (kind_width kind) c.requires.columns) c.top.ensures c.min-to.ensures in
+    let to_is = lesser_is kind c.args.index c.top.result c.min-to.result c.width_with.result (c.width_with.ensures (kind_width kind) c.requires.columns) c.top.ensures c.min-to.ensures in
     let read = c.entry_in-entry.ensures.read in
     let range = range_or_hole read.place c.entry_in-entry.result in
     let least : length q.seen ≤ (here q₁).since = c.in_ok-leaf.ensures.since in

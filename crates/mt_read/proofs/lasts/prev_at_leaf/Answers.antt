@@ -32,9 +32,9 @@ pub returns-then-place-eq0-clause-answer : goal.returns-then-place-eq0-clause-an
 returns-then-place-eq0-clause-answer g c =
     let q = part_of c.args.pass.now in let q₁ = part_of c.find_slot-place.new.pass in let q₂ = part_of c.range_at.new.pass in
     let place = c.find_slot-place.result in let on = c.find_slot-place.ensures.on in
+    let first : place.first ≡ 0 = search rules in
     let was = c.range_at.ensures.read in
     let level : (here q₁).extent.level ≡ 0 = ap (λ (z : PassPart). (here z).extent.level) c.find_slot-place.ensures.sees.is ∙ c.requires.leaf.level in
-    let first : place.first ≡ 0 = search rules in
     subst (λ (z : PassPart). Answers q₂ (here z).since (Prev c.args.index 0) None) c.find_slot-place.ensures.sees.is
     (no_prev q₁ q₂ place c.args.index c.find_slot-place.ensures.from c.find_slot-place.ensures.to c.find_slot-place.ensures.place on.shape.fills (kind_goes q₁ q₂ c.range_at.ensures.goes)
     (here q₁).since was.read.k was.read.low was.read.high first was.read.map (stood_here q₁ q₂ place c.range_at.result level was c.args.index c.find_slot-place.ensures.from c.find_slot-place.ensures.to))

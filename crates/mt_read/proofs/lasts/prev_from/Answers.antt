@@ -1,4 +1,4 @@
-use Rattle.mt_read.proofs.Prelude.{rules, arith, ◌≡◌, ◌≤◌, ◌∙◌, [], length, ap, subst, sym, IfNone, Query, Prev, greatest, greatest_of, here, moment_seen, identity_of, part_of, LeftMarked}
+use Rattle.mt_read.proofs.Prelude.{rules, arith, ◌≤◌, ◌∙◌, length, ap, subst, sym, IfNone, Query, Prev, greatest, greatest_of, here, identity_of, part_of, LeftMarked}
 use Rattle.mt_read.proofs.Descending.{goes_some}
 use Rattle.mt_read.proofs.Leaving.{left_then}
 use Rattle.mt_read.proofs.Crossing.{from_fewer}
@@ -29,20 +29,15 @@ returns-clause-goes g c = goes_some c.prev_at_leaf.result _ _ _ c.walk.ensures.g
 pub returns-clause-moved : goal.returns-clause-moved
 returns-clause-moved g c =
     let q = part_of c.args.pass.now in let q₁ = part_of c.walk.new.pass in let q₂ = part_of c.prev_at_leaf.new.pass in
-    let since : length q.seen ≤ (here q₁).since = search rules in
     let end = end_is (identity_of c.args.table.now) c.args.pass.now c.top-end.result c.requires.pass (c.top-end.ensures ∙ ap greatest c.width.ensures) in
     let low : c.args.index ≤ greatest_of q.shape.kind = (let upto = c.if-end-index.false in omega arith) in
     subst (λ (query : Query). IfNone c.prev_at_leaf.result (LeftMarked query (length q.seen) q q₂)) (sym (asked_low q.shape.kind c.args.index low))
-    (left_then c.prev_at_leaf.result (Prev c.args.index 0) (length q.seen) (here q₁).since q q₁ q₂ since c.walk.ensures.goes c.prev_at_leaf.ensures.moved)
+    (left_then c.prev_at_leaf.result (Prev c.args.index 0) (length q.seen) (here q₁).since q q₁ q₂ (search rules) c.walk.ensures.goes c.prev_at_leaf.ensures.moved)
 
 pub returns-in_default-clause-answer : goal.returns-in_default-clause-answer
 returns-in_default-clause-answer g c =
-    let q = part_of c.args.pass.now in let q' = part_of c.walk.new.pass in
-    let none : (moment_seen q' (length q'.seen)).ranges ≡ [] = search rules in
-    prevs_nothing q q' c.walk.ensures.goes none c.args.index
+    prevs_nothing (part_of c.args.pass.now) (part_of c.walk.new.pass) c.walk.ensures.goes (search rules) c.args.index
 
 pub returns-clause-answer : goal.returns-clause-answer
 returns-clause-answer g c =
-    let q = part_of c.args.pass.now in let q₁ = part_of c.walk.new.pass in let q₂ = part_of c.prev_at_leaf.new.pass in
-    let since : length q.seen ≤ (here q₁).since = search rules in
-    from_fewer c.prev_at_leaf.result q₂ (here q₁).since (length q.seen) (Prev c.args.index 0) since c.prev_at_leaf.ensures.answer
+    from_fewer c.prev_at_leaf.result (part_of c.prev_at_leaf.new.pass) (here (part_of c.walk.new.pass)).since (length (part_of c.args.pass.now).seen) (Prev c.args.index 0) (search rules) c.prev_at_leaf.ensures.answer

@@ -7,14 +7,8 @@ use Rattle.mt_read.proofs.many.put_entries.Goals as goal
 
 pub loop-i-init : goal.loop-i-init
 loop-i-init g c =
-    let q = part_of c.args.pass.now in record {
-      stepped = record { of = c.requires.pass; turn = refl };
-      goes = nothing_goes q;
-      put = entries_begin (SeenAt q) (length q.seen) (length q.seen) c.args.indexes.now c.args.entries.now (omega arith);
-      long = refl;
-      counted = refl;
-      steps = omega arith;
-    }
+    let q = part_of c.args.pass.now in let put = entries_begin (SeenAt q) (length q.seen) (length q.seen) c.args.indexes.now c.args.entries.now (omega arith) in
+    record { stepped = record { of = c.requires.pass; turn = refl }; goes = nothing_goes q; put = put; long = refl; counted = refl; steps = omega arith }
 
 pub loop-i-preserved : goal.loop-i-preserved
 loop-i-preserved g c =

@@ -1,7 +1,6 @@
-use Rattle.mt_read.proofs.Prelude.{◌≤◌, Option, length, subst, sym, Range, Find, greatest_of, Held, here, identity_of, part_of, Answers}
-use Rattle.mt_read.proofs.Descending.{goes_on, goes_sees, here_more}
-use Rattle.mt_read.proofs.Reading.{answers_from}
-use Rattle.mt_read.proofs.Upward.{finds_sought, sought_within}
+use Rattle.mt_read.proofs.Prelude.{Option, length, subst, sym, Range, Find, greatest_of, identity_of, part_of, Answers}
+use Rattle.mt_read.proofs.Descending.{goes_on, goes_sees}
+use Rattle.mt_read.proofs.Upward.{found_sought, sought_within}
 use Rattle.mt_read.proofs.reads.first_from.Goals as goal
 
 pub walk-requires-clause-index : goal.walk-requires-clause-index
@@ -12,11 +11,5 @@ returns-clause-goes g c = goes_on _ _ _ c.walk.ensures.goes (goes_on _ _ _ (goes
 
 pub returns-clause-answer : goal.returns-clause-answer
 returns-clause-answer g c =
-    let t = identity_of c.args.table.now in
-    let q = part_of c.args.pass.now in let q₁ = part_of c.walk.new.pass in let q₂ = part_of c.find_slot-place.new.pass in let q₃ = part_of c.first_at-range.new.pass in
-    let since₁ : length q.seen ≤ (here q₁).since = c.in_ok-leaf.ensures.since in
-    let since : length q.seen ≤ (here q₂).since = subst (λ (x : Held). length q.seen ≤ x.since) (sym (here_more q₁ q₂ c.find_slot-place.ensures.sees)) since₁ in
-    let found = answers_from q₃ (here q₂).since (length q.seen) (Find c.sought-to.result (greatest_of q₂.shape.kind)) c.first_at-range.result since c.first_at-range.ensures.answer.answers in
-    subst (λ (v : Option Range). Answers q₃ (length q.seen) (Find c.args.index (greatest_of q.shape.kind)) v) (sym c.not_below.ensures)
-    (finds_sought t c.first_at-range.new.pass c.args.pass.now c.first_at-range.ensures.stepped.of c.requires.pass (length q.seen) c.args.index c.sought-to.result c.sought-to.ensures
-    c.find_slot-place.new.pass c.first_at-range.result c.find_slot-place.ensures.stepped.of found)
+    subst (λ (v : Option Range). Answers (part_of c.first_at-range.new.pass) (length (part_of c.args.pass.now).seen) (Find c.args.index (greatest_of (part_of c.args.pass.now).shape.kind)) v) (sym c.not_below.ensures)
+    (found_sought (identity_of c.args.table.now) c.first_at-range.new.pass c.args.pass.now c.find_slot-place.new.pass (part_of c.walk.new.pass) c.args.index c.sought-to.result c.first_at-range.result c.first_at-range.ensures.stepped.of c.requires.pass c.find_slot-place.ensures.stepped.of c.sought-to.ensures c.find_slot-place.ensures.sees c.in_ok-leaf.ensures.since c.first_at-range.ensures.answer.answers)

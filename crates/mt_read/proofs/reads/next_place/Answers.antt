@@ -1,10 +1,20 @@
-use Rattle.mt_read.proofs.Prelude.{arith, ◌≢◌, ◌+◌, sym, ap, ◌∙◌, refl, slice_index, kind_width, greatest_fits, RowKind, slots_of, few_slots_of, here, kind_of, part_of}
+use Rattle.mt_read.proofs.Prelude.{arith, ◌≢◌, ◌<◌, ◌+◌, sym, ap, ◌∙◌, refl, slice_index, kind_width, greatest_fits, RowKind, slots_of, few_slots_of, here, kind_of, part_of}
 use Rattle.mt_read.proofs.Finding.{count_is, column_is, slots_are, place_more}
 use Rattle.mt_read.proofs.Descending.{place_within}
 use Rattle.mt_read.proofs.Beside.{used, last_behind, pivot_behind}
 use Rattle.mt_read.proofs.Leaving.{leaf_more}
 use Rattle.mt_read.proofs.Reading.{leaf_kind}
+use Rattle.mt_read.proofs.reads.next_place.Given.{Over}
+use Rattle.mt_read.proofs.reads.next_place.Goals.{Start}
 use Rattle.mt_read.proofs.reads.next_place.Goals as goal
+
+-- a node has 32 slots at most, of which the one behind the place is one
+next_slot : (g : Over) (c : Start g) → c.args.place.now.slot + 1 < 32
+next_slot g c =
+    let q = part_of c.args.pass.now in
+    let low = used q c.args.leaf.now c.args.place.now c.requires.leaf.on c.requires.place (λ e. c.requires.more (e ∙ sym c.requires.leaf.on.max)) in
+    let few = few_slots_of (here q).width (kind_of q (here q)) in
+    omega arith
 
 pub overflow_add-first : goal.overflow_add-first
 overflow_add-first g c =
@@ -17,18 +27,10 @@ overflow_add-first g c =
     omega arith
 
 pub overflow_add-slot : goal.overflow_add-slot
-overflow_add-slot g c =
-    let q = part_of c.args.pass.now in
-    let low = used q c.args.leaf.now c.args.place.now c.requires.leaf.on c.requires.place (λ e. c.requires.more (e ∙ sym c.requires.leaf.on.max)) in
-    let few = few_slots_of (here q).width (kind_of q (here q)) in
-    omega arith
+overflow_add-slot g c = omega (arith, next_slot g (goal.at.overflow_add-slot g c).Start)
 
 pub overflow_add-slot-2 : goal.overflow_add-slot-2
-overflow_add-slot-2 g c =
-    let q = part_of c.args.pass.now in
-    let low = used q c.args.leaf.now c.args.place.now c.requires.leaf.on c.requires.place (λ e. c.requires.more (e ∙ sym c.requires.leaf.on.max)) in
-    let few = few_slots_of (here q).width (kind_of q (here q)) in
-    omega arith
+overflow_add-slot-2 g c = omega (arith, next_slot g (goal.at.overflow_add-slot-2 g c).Start)
 
 pub returns-then-slot-slots-clause-place : goal.returns-then-slot-slots-clause-place
 returns-then-slot-slots-clause-place g c =
@@ -38,11 +40,7 @@ returns-then-slot-slots-clause-place g c =
     (c.args.place.now.slot + 1) (c.args.place.now.last + 1) c.args.leaf.now.max refl refl (c.if-slot-slots.true ∙ count) c.requires.leaf.on.max
 
 pub overflow_add-slot-3 : goal.overflow_add-slot-3
-overflow_add-slot-3 g c =
-    let q = part_of c.args.pass.now in
-    let low = used q c.args.leaf.now c.args.place.now c.requires.leaf.on c.requires.place (λ e. c.requires.more (e ∙ sym c.requires.leaf.on.max)) in
-    let few = few_slots_of (here q).width (kind_of q (here q)) in
-    omega arith
+overflow_add-slot-3 g c = omega (arith, next_slot g (goal.at.overflow_add-slot-3 g c).Start)
 
 pub load_pivot-last-requires-clause-pivot : goal.load_pivot-last-requires-clause-pivot
 load_pivot-last-requires-clause-pivot g c =

@@ -1,67 +1,22 @@
-use Rattle.mt_read.proofs.Prelude.{◌≡◌, ◌+◌, ◌-◌, ◌*◌, ◌≤◌, refl, arith, nat_lt, lt-ltb, le-ltb, copy_of, row_at, here_fits, tells, tells_first, group_of_five, half_of_five, within_three, here, kind_of, part_of, row_here}
-use Rattle.mt_path.proofs.Groups as groups
-use Rattle.mt_read.proofs.Finding.{sees_on, is_sought, column_kept, count_is}
+use Rattle.mt_read.proofs.Prelude.{◌+◌, ◌*◌, refl, sym, ◌∙◌, copy_of, row_at, of_twenty_one, here, kind_of, part_of, row_here}
+use Rattle.mt_read.proofs.Finding.{sees_none, sees_on, sees_two, sees_three, is_sought, column_kept, two_columns, three_columns, count_is}
 use Rattle.mt_read.proofs.seeks.seek_narrow_gapped.Goals as goal
 
 pub returns-clause-sees : goal.returns-clause-sees
 returns-clause-sees g c =
     let q = part_of c.args.pass.now in
-    let q₁ = part_of c.load_in-fifth.new.pass in
-    let s₁ = c.load_in-fifth.ensures.sees in
-    let q₂ = part_of c.load_in-tenth.new.pass in
-    let s₂ = sees_on q q₁ q₂ s₁ c.load_in-tenth.ensures.sees in
-    let q₃ = part_of c.load_in-fifteenth.new.pass in
-    let s₃ = sees_on q q₂ q₃ s₂ c.load_in-fifteenth.ensures.sees in
-    let q₄ = part_of c.load_in-middle.new.pass in
-    let s₄ = sees_on q q₃ q₄ s₃ c.load_in-middle.ensures.sees in
-    let q₅ = part_of c.load_in-first.new.pass in
-    let s₅ = sees_on q q₄ q₅ s₄ c.load_in-first.ensures.sees in
-    let q₆ = part_of c.load_in-second.new.pass in
-    sees_on q q₅ q₆ s₅ c.load_in-second.ensures.sees
+    let fives = sees_three q q (part_of c.load_in-fifth.new.pass) (part_of c.load_in-tenth.new.pass) (part_of c.load_in-fifteenth.new.pass) (sees_none q) c.load_in-fifth.ensures.sees c.load_in-tenth.ensures.sees c.load_in-fifteenth.ensures.sees in
+    sees_two q (part_of c.load_in-middle.new.pass) (part_of c.load_in-first.new.pass) (part_of c.load_in-second.new.pass) (sees_on q (part_of c.load_in-fifteenth.new.pass) (part_of c.load_in-middle.new.pass) fives c.load_in-middle.ensures.sees) c.load_in-first.ensures.sees c.load_in-second.ensures.sees
 
 pub returns-clause-slot : goal.returns-clause-slot
 returns-clause-slot g c =
-    let q = part_of c.args.pass.now in
-    let on = c.requires.on in
-    let t = copy_of (here q) in
-    let row = row_at (here q).row (kind_of q (here q)) (here q).extent.first (here q).extent.last in
-    let law = is_sought q (row_here q c.args.spot) on in
-    let to : c.args.index ≤ row.max = c.requires.to in
-    let count = count_is q (row_here q c.args.spot) on _ refl in
-    let wide = c.requires.slots in
-    let fits = here_fits t row law c.args.index to in
-    let q₁ = part_of c.load_in-fifth.new.pass in
-    let w₁ = c.load_in-fifth.ensures.word in
-    let s₁ = c.load_in-fifth.ensures.sees in
-    let b₁ = tells t row law c.args.index to (5) c.load_in-fifth.result c.under.result (omega arith) (omega arith) w₁ c.under.ensures.one c.under.ensures.unused c.under.ensures.past in
-    let q₂ = part_of c.load_in-tenth.new.pass in
-    let w₂ = column_kept q (row_here q c.args.spot) on q₁ (10) c.load_in-tenth.result s₁ c.load_in-tenth.ensures.word in
-    let s₂ = sees_on q q₁ q₂ s₁ c.load_in-tenth.ensures.sees in
-    let b₂ = tells t row law c.args.index to (10) c.load_in-tenth.result c.under-2.result (omega arith) (omega arith) w₂ c.under-2.ensures.one c.under-2.ensures.unused c.under-2.ensures.past in
-    let q₃ = part_of c.load_in-fifteenth.new.pass in
-    let w₃ = column_kept q (row_here q c.args.spot) on q₂ (15) c.load_in-fifteenth.result s₂ c.load_in-fifteenth.ensures.word in
-    let s₃ = sees_on q q₂ q₃ s₂ c.load_in-fifteenth.ensures.sees in
-    let b₃ = tells t row law c.args.index to (15) c.load_in-fifteenth.result c.under-3.result (omega arith) (omega arith) w₃ c.under-3.ensures.one c.under-3.ensures.unused c.under-3.ensures.past in
+    let q = part_of c.args.pass.now in let row = row_here q c.args.spot in
     let five = 5 * (c.under.result + c.under-2.result + c.under-3.result) in
-    let g_five = group_of_five (groups.here t row law c.args.index to) c.under.result c.under-2.result c.under-3.result (omega arith) b₁ b₂ b₃ in
-    let low : five ≤ (groups.here t row law c.args.index to) = g_five.0 in
-    let high = g_five.1 in
-    let top = g_five.2 in
-    let q₄ = part_of c.load_in-middle.new.pass in
-    let w₄ = column_kept q (row_here q c.args.spot) on q₃ (3 + five) c.load_in-middle.result s₃ c.load_in-middle.ensures.word in
-    let s₄ = sees_on q q₃ q₄ s₃ c.load_in-middle.ensures.sees in
-    let b₄ = tells t row law c.args.index to (3 + five) c.load_in-middle.result c.under-4.result (omega arith) (omega arith) w₄ c.under-4.ensures.one c.under-4.ensures.unused c.under-4.ensures.past in
     let group = five + 3 * c.under-4.result in
-    let g_group = half_of_five (groups.here t row law c.args.index to) five c.under-4.result low high b₄ in
-    let low : group ≤ (groups.here t row law c.args.index to) = g_group.0 in
-    let high = g_group.1 in
-    let one = g_group.2 in
-    let q₅ = part_of c.load_in-first.new.pass in
-    let w₅ = column_kept q (row_here q c.args.spot) on q₄ (1 + group) c.load_in-first.result s₄ c.load_in-first.ensures.word in
-    let s₅ = sees_on q q₄ q₅ s₄ c.load_in-first.ensures.sees in
-    let b₅ : mir.Val.bool_byte (nat_lt c.load_in-first.result c.args.index) ≡ 1 - (1 + group - (groups.here t row law c.args.index to)) = tells_first t row law c.args.index to group c.load_in-first.result _ low (omega arith) w₅
-    (λ less. (let test = lt-ltb c.load_in-first.result c.args.index less in rw test refl)) (λ more. (let test = le-ltb c.load_in-first.result c.args.index more in rw test refl)) in
-    let q₆ = part_of c.load_in-second.new.pass in
-    let w₆ = column_kept q (row_here q c.args.spot) on q₅ (2 + group) c.load_in-second.result s₅ c.load_in-second.ensures.word in
-    let b₆ = tells t row law c.args.index to (2 + group) c.load_in-second.result c.under-5.result (omega arith) (omega arith) w₆ c.under-5.ensures.one c.under-5.ensures.unused c.under-5.ensures.past in
-    within_three (groups.here t row law c.args.index to) group _ c.under-5.result low high b₅ b₆
+    let w = three_columns q row c.requires.on q (part_of c.load_in-fifth.new.pass) (part_of c.load_in-tenth.new.pass) (part_of c.load_in-fifteenth.new.pass) (5) (10) (15) c.load_in-fifth.result c.load_in-tenth.result c.load_in-fifteenth.result (sees_none q) c.load_in-fifth.ensures.word c.load_in-fifth.ensures.sees c.load_in-tenth.ensures.word c.load_in-tenth.ensures.sees c.load_in-fifteenth.ensures.word c.load_in-fifteenth.ensures.sees in
+    let m = column_kept q row c.requires.on (part_of c.load_in-fifteenth.new.pass) (3 + five) c.load_in-middle.result w.3 c.load_in-middle.ensures.word in
+    let v = two_columns q row c.requires.on (part_of c.load_in-middle.new.pass) (part_of c.load_in-first.new.pass) (part_of c.load_in-second.new.pass) (1 + group) (2 + group) c.load_in-first.result c.load_in-second.result (sees_on q (part_of c.load_in-fifteenth.new.pass) (part_of c.load_in-middle.new.pass) w.3 c.load_in-middle.ensures.sees) c.load_in-first.ensures.word c.load_in-first.ensures.sees c.load_in-second.ensures.word c.load_in-second.ensures.sees in
+    of_twenty_one (copy_of (here q)) (row_at (here q).row (kind_of q (here q)) (here q).extent.first (here q).extent.last) (is_sought q row c.requires.on) c.args.index c.requires.to (sym (count_is q row c.requires.on _ refl) ∙ c.requires.slots)
+    c.load_in-fifth.result c.load_in-tenth.result c.load_in-fifteenth.result c.under.result c.under-2.result c.under-3.result (record { is = w.0; below = c.under.ensures.one; unused = c.under.ensures.unused; past = c.under.ensures.past }) (record { is = w.1; below = c.under-2.ensures.one; unused = c.under-2.ensures.unused; past = c.under-2.ensures.past }) (record { is = w.2; below = c.under-3.ensures.one; unused = c.under-3.ensures.unused; past = c.under-3.ensures.past })
+    c.load_in-middle.result c.under-4.result (record { is = m; below = c.under-4.ensures.one; unused = c.under-4.ensures.unused; past = c.under-4.ensures.past })
+    c.load_in-first.result c.load_in-second.result c.under-5.result v.0 (record { is = v.1; below = c.under-5.ensures.one; unused = c.under-5.ensures.unused; past = c.under-5.ensures.past })

@@ -1,6 +1,6 @@
-use Rattle.mt_read.proofs.Prelude.{rules, arith, ◌≡◌, ◌∙◌, ◌+◌, ℕ, Option, Some, ap, refl, sym, subst, inl, length, Range, part_of, PassPart, Cursor, query_at}
+use Rattle.mt_read.proofs.Prelude.{rules, arith, ◌≡◌, ◌∙◌, ◌+◌, ℕ, Option, Some, ap, refl, sym, subst, inl, length, Range, part_of, PassPart, Cursor, find_at}
 use Rattle.std.specs.Prelude.{slice_set}
-use Rattle.mt_read.specs.Cursors.{place_behind}
+use Rattle.mt_base.specs.Places.{place_behind}
 use Rattle.mt_read.specs.Many.{IsSeenFrom, SeenAt}
 use Rattle.mt_read.proofs.Batching.{HasPut, all_put, kept_since, none_left, seen_on, steps_begin, steps_next}
 use Rattle.mt_read.proofs.Descending.{goes_to}
@@ -28,8 +28,8 @@ loop-i-preserved g c =
     let inv = c.loop-i.invariant in let told = c.go_on.ensures in
     let shape : q₂.shape ≡ q₁.shape = ap (λ (z : PassPart). z.shape) told.goes.is in
     let max : s₁.max ≡ s.max = ap (λ (x : Cursor). x.max) inv.same in
-    let read : IsSeenFrom q₂ (length q₁.seen) (query_at s₁.at s.max) (Some c.in-Some.range) =
-    subst (λ (x : ℕ × Option Range). IsSeenFrom q₂ (length q₁.seen) (query_at s₁.at x.0) x.1) (λ i. (max i, c.in-Some.is i)) told.read in
+    let read : IsSeenFrom q₂ (length q₁.seen) (find_at s₁.at s.max) (Some c.in-Some.range) =
+    subst (λ (x : ℕ × Option Range). IsSeenFrom q₂ (length q₁.seen) (find_at s₁.at x.0) x.1) (λ i. (max i, c.in-Some.is i)) told.read in
     let behind : place_behind (Some c.in-Some.range) s.max ≡ c.go_on.new.self.at = sym (ap (λ (x : Cursor). x.at) told.same ∙ (λ i. place_behind (c.in-Some.is i) (max i))) in
     let put = subst (λ (o : Option ℕ). HasPut (SeenAt q₂) s.max (length q.seen) (length q₂.seen) s.at c.args.ranges.now (slice_set c.loop-i.ranges c.loop-i.i c.in-Some.range) (c.loop-i.i + 1) o) behind
     (steps_next (SeenAt q₁) (SeenAt q₂) (λ k query value at. seen_on q₁ q₂ k query value shape told.goes.seen at) s.max (length q.seen) (length q₁.seen) (length q₂.seen) s.at c.args.ranges.now c.loop-i.ranges c.loop-i.i s₁.at inv.put
@@ -53,7 +53,7 @@ returns-in_default-clause-ranges g c =
     let inv = c.loop-i.invariant in let told = c.go_on.ensures in
     let shape : q₂.shape ≡ q₁.shape = ap (λ (z : PassPart). z.shape) told.goes.is in
     let max : s₁.max ≡ s.max = ap (λ (x : Cursor). x.max) inv.same in
-    let read = subst (λ (x : ℕ × Option Range). IsSeenFrom q₂ (length q₁.seen) (query_at s₁.at x.0) x.1) (λ i. (max i, c.in_default.is i)) told.read in
+    let read = subst (λ (x : ℕ × Option Range). IsSeenFrom q₂ (length q₁.seen) (find_at s₁.at x.0) x.1) (λ i. (max i, c.in_default.is i)) told.read in
     none_left q₁ q₂ shape told.goes.seen s.max (length q.seen) s.at c.args.ranges.now c.loop-i.ranges c.loop-i.i s₁.at inv.put (search rules) read c.go_on.new.self.at
     (ap (λ (x : Cursor). x.at) told.same ∙ ap (λ (o : Option Range). place_behind o s₁.max) c.in_default.is)
 
