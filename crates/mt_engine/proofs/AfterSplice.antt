@@ -43,16 +43,7 @@ pub stored_as : (kind : Kind) (s : Sheet) (t : Rooted) (lives : List Life) (buri
     → t.rows ≡ s.tree.rows → acted kind (map_by s.tree) call ≡ (map_by t, reply) → TookRows kind s book.free book' call → IsDoneByStore kind s (replaced s t lives buried reads call reply) book book' call reply
 stored_as kind s t lives buried reads book book' call reply flies idle rows acts took = record {
   may = record { in_flight = flies; kept = λ before. absurd (cc) };
-  ended = record {
-    idle = idle;
-    ended = refl;
-    record_told = refl;
-    cleared = omega arith;
-    rows = rows;
-    opened = refl;
-    shared = refl;
-    known = refl;
-  };
+  ended = record { idle = idle; ended = refl; record_told = refl; cleared = omega arith; rows = rows; opened = refl; shared = refl; known = refl };
   acts = acts;
   unscanned = record { scans = refl; scan = refl };
   took = took;

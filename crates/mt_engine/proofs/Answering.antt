@@ -37,16 +37,7 @@ module _ (kind : Kind) (s : Sheet) (answer : Scan) (cleared : ℕ) (s' : Sheet) 
   ended_then : s.cleared ≤ cleared → IsDoneByStore kind found s' freed book' call reply → IsEnded kind s done book' call reply
   ended_then rises stored =
       let is = stored.ended in
-      record {
-        idle = is.idle;
-        ended = is.ended;
-        record_told = is.record_told;
-        cleared = (let more = is.cleared in omega arith);
-        rows = is.rows;
-        opened = is.opened;
-        shared = is.shared;
-        known = is.known;
-      }
+      record { idle = is.idle; ended = is.ended; record_told = is.record_told; cleared = (let more = is.cleared in omega arith); rows = is.rows; opened = is.opened; shared = is.shared; known = is.known }
 
   was_scanned_then : IsDoneByStore kind found s' freed book' call reply → WasScanned done
   was_scanned_then stored = subst (λ (n : ℕ). 1 ≤ n) (sym stored.unscanned.scans) (was_scanned s answer cleared)

@@ -2,7 +2,7 @@
 use Rattle.mt_engine.proofs.Prelude.{All, All-tail, IsTreeOf, Kind, handle_in, inl, inr, None, Option, Some, [], ap, append-nil, append_assoc, arith, length, length-append, length-map, get_or-map, length-drop, length_push, map, min, refl, subst, suc, sym, take, ℕ, ◌++◌, ◌+◌, ◌-◌, ◌<◌, ◌∙◌, ◌∷◌, ◌≡◌, ◌≢◌, ◌≤◌, List, drop, option_map, slice_index, slice_index_or, slice_set, Load, Range, answer, greatest, Rooted, Sheet, OnlyReads, map_by, same_tree, RangeWalk, WalksFrom, reads_on, Stepped, entries_at, entry_or_zero, found_from, found_then, index_behind, put_first, steps_from}
 use Rattle.std.specs.Option.{unwrap_or}
 use Rattle.std.proofs.lemmas.Bool.{cases_eq}
-use Rattle.std.proofs.lemmas.List.{drop_all, length-take-le, map-append, map-id, take_all, take_min, take_more}
+use Rattle.std.proofs.lemmas.List.{drop_all, length-take-le, map-append, take_all, take_min, take_more}
 use Rattle.mt_path.specs.Batches.{words_in}
 use Rattle.mt_engine.proofs.SlotQueries.{IsHandleAt, load_held, load_hole}
 
@@ -207,7 +207,3 @@ module _ {A : Type 0} {f : Range → A} {s s' : Sheet} {walk walk' : RangeWalk} 
 
   pub put_long : length new ≡ length old
   put_long = steps_long put.stepped refl
-
--- the ranges themselves were put
-pub as_found : (found old new : List Range) → new ≡ put_first (map (λ (r : Range). r) found) old → new ≡ put_first found old
-as_found found old new is = is ∙ ap (λ (l : List Range). put_first l old) (map-id found)

@@ -19,23 +19,12 @@ module _ (kind : Kind) (s : Sheet) (reads : Option ℕ) (scan : Scan) (scans cle
     ends_idle : IsIdle kind done next
     ends_idle =
         let state = is.state in
+        let book = state.kept.booked in
         record {
           idle = refl;
           state = record {
             told = state.told;
-            kept = record {
-              lawful = state.kept.lawful;
-              live = state.kept.live;
-              none_buried = state.kept.none_buried;
-              booked = record {
-                sound = state.kept.booked.sound;
-                rows = state.kept.booked.rows;
-                out = state.kept.booked.out;
-                reached = state.kept.booked.reached;
-                spare = state.kept.booked.spare;
-                stamps = λ k d within. (let below = state.kept.booked.stamps k d within in omega (arith, below));
-              };
-            };
+            kept = record { lawful = state.kept.lawful; live = state.kept.live; none_buried = state.kept.none_buried; booked = record { sound = book.sound; rows = book.rows; out = book.out; reached = book.reached; spare = book.spare; stamps = λ k d within. (let below = book.stamps k d within in omega (arith, below)) } };
             held = state.held;
             grown = (let grown = state.grown in omega (arith, grown));
           };
@@ -51,16 +40,7 @@ module _ (kind : Kind) (s : Sheet) (reads : Option ℕ) (scan : Scan) (scans cle
     record_is = rw is.before refl
 
     ends : s.cleared ≤ cleared → IsEnded kind s done next call reply
-    ends rises = record {
-      idle = ends_idle;
-      ended = refl;
-      record_told = record_is;
-      cleared = rises;
-      rows = refl;
-      opened = refl;
-      shared = refl;
-      known = refl;
-    }
+    ends rises = record { idle = ends_idle; ended = refl; record_told = record_is; cleared = rises; rows = refl; opened = refl; shared = refl; known = refl }
 
 -- ---- the map stays
 
@@ -92,15 +72,7 @@ stays_stored kind s book call reply is stays = record {
 -- ---- a scan found too few free rows
 
 counted_end : (s : Sheet) (call : Call) (reply : Reply) (shortage : Shortage) → IsRealShortage s shortage → IsRealShortage (finished s call reply) shortage
-counted_end s call reply shortage counted = record {
-  need = counted.need;
-  live = counted.live;
-  rows = counted.rows;
-  many = counted.many;
-  apart = counted.apart;
-  held = counted.held;
-  by = counted.by;
-}
+counted_end s call reply shortage c = record { need = c.need; live = c.live; rows = c.rows; many = c.many; apart = c.apart; held = c.held; by = c.by }
 
 module _ (kind : Kind) (s : Sheet) (scan : Scan) (cleared : ℕ) (book next : Book) (call : Call) (shortage : Shortage) where
   abbrev after : Sheet

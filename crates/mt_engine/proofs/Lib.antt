@@ -9,6 +9,7 @@ pub mod IndexesAbove
 pub mod LeafEnds
 pub mod LeafReplaced
 pub mod LeafTold
+pub mod LeafWalks
 pub mod Leaving
 pub mod Levelled
 pub mod MapPlaces

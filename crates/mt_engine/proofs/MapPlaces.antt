@@ -1,36 +1,14 @@
 -- What a map has at an index tells what stands at the places of the index: the range in its slot, or the one right behind
 -- the hole there, or right before it.
-use Rattle.mt_engine.proofs.Prelude.{◌≡◌, ◌⊎◌, ℕ, ◌+◌, ◌-◌, ◌<◌, ◌≤◌, ◌&&◌, zero, suc, Bool, true, false, List, [], ◌∷◌, Option, Some, None, take, arith, nat_lt, nat_le, refl, sym, ap, ◌∙◌, subst, inl, inr, AllByRecursion, slice_get, prefix_len, cases_Bool, cases_lt, or_parts, and_parts, ltb-true, leb-true, lt-ltb, le-ltb, lt-leb, le-leb, cond_some, Range, IsMapFrom, holds, holding, overlaps, is_held, place_below, place_above, last_of, up_to, holding_at_place, all_map}
+use Rattle.mt_engine.proofs.Prelude.{◌≡◌, ◌⊎◌, ℕ, ◌+◌, ◌-◌, ◌<◌, ◌≤◌, zero, suc, Bool, true, false, List, [], ◌∷◌, Option, Some, None, take, arith, nat_lt, nat_le, refl, sym, ap, ◌∙◌, subst, inl, inr, AllByRecursion, slice_get, prefix_len, cases_Bool, and_parts, ltb-true, leb-true, lt-ltb, le-ltb, lt-leb, le-leb, cond_some, Range, IsMapFrom, holds, holding, place_below, place_above, last_of, up_to, holding_at_place, all_map, Outside}
 
 -- ---- the ranges beside a span
 
--- the range lies below the indexes `a` to `b`, or above them
-abbrev pub Outside : ℕ → ℕ → Range → Type 0
-Outside a b r = (r.first ≤ r.last) × ((r.last < a) ⊎ (b < r.first))
-
--- or it is of these indexes itself
+-- the range lies beside the indexes `a` to `b`, or is of these indexes itself
 abbrev pub Beside : ℕ → ℕ → Range → Type 0
 Beside a b r = (r.first ≤ r.last) × ((r.last < a) ⊎ ((b < r.first) ⊎ ((r.first ≡ a) × (r.last ≡ b))))
 
-and_both : (p q : Bool) → p ≡ true → q ≡ true → (p && q) ≡ true
-and_both p q one other = rw (one, other) refl
-
-clear : (a b : ℕ) (r : Range) → overlaps a b r ≡ false → (r.last < a) ⊎ (b < r.first)
-clear a b r none = elim (cases_lt r.last a) [
-  | inl below ↦ inl below
-  | inr reaches ↦ elim (cases_lt b r.first) [
-    | inl above ↦ inr above
-    | inr begins ↦ absurd (let no = and_both (nat_le r.first b) (nat_le a r.last) (le-leb r.first b begins) (le-leb a r.last reaches) in cc)
-  ]
-]
-
 -- a hole
-pub outside_hole : (m : List Range) (low a b : ℕ) → IsMapFrom low m → is_held m a b ≡ false → AllByRecursion (Outside a b) m
-outside_hole [] low a b ordered none = tt
-outside_hole (r ∷ m) low a b ordered none =
-    let parts = or_parts (overlaps a b r) (is_held m a b) none in
-    ((ordered.1, clear a b r parts.0), outside_hole m (r.last + 1) a b ordered.3 parts.1)
-
 pub beside_hole : (m : List Range) (a b : ℕ) → AllByRecursion (Outside a b) m → AllByRecursion (Beside a b) m
 beside_hole m a b each = all_map (Outside a b) (Beside a b) (λ r out. (out.0, widen r out.1)) m each
   where

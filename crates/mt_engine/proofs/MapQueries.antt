@@ -1,7 +1,7 @@
 -- What a map has at an index answers the queries: the range in the slot of the index, or the one right behind the hole
 -- there, or right before it.
-use Rattle.mt_engine.proofs.Prelude.{◌≡◌, ◌≢◌, ℕ, ◌+◌, ◌-◌, ◌<◌, ◌≤◌, ◌==◌, false, List, [], ◌∷◌, Option, Some, None, take, arith, nat_le, refl, sym, ap, ◌∙◌, subst, inl, inr, IsSome, AllByRecursion, slice_get, cases_Bool, eqb-true, eqb-false, and_left, and_right, lt-leb, Range, IsMapFrom, holding, holds, Span, place_below, place_above, last_of, range_of, IsSpanAt, nearest_from, nearest_up_to}
-use Rattle.mt_engine.proofs.MapPlaces.{Outside, Beside, outside_hole, beside_hole, beside_held, next_place, prev_place, first_place, last_place, first_held, last_held, none_before, none_before_hole, none_behind}
+use Rattle.mt_engine.proofs.Prelude.{◌≡◌, ◌≢◌, ℕ, ◌+◌, ◌-◌, ◌<◌, ◌≤◌, ◌==◌, false, List, [], ◌∷◌, Option, Some, None, take, arith, nat_le, refl, sym, ap, ◌∙◌, subst, inl, inr, IsSome, AllByRecursion, slice_get, cases_Bool, eqb-true, eqb-false, and_left, and_right, lt-leb, Range, IsMapFrom, holding, holds, Span, place_below, place_above, last_of, range_of, IsSpanAt, nearest_from, nearest_up_to, Outside, outside_hole}
+use Rattle.mt_engine.proofs.MapPlaces.{Beside, beside_hole, beside_held, next_place, prev_place, first_place, last_place, first_held, last_held, none_before, none_before_hole, none_behind}
 
 -- a hole holds nothing
 outside_holds_none : (m : List Range) (a b index : ℕ) → a ≤ index → index ≤ b → AllByRecursion (Outside a b) m → holding m index ≡ None

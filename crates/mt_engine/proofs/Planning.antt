@@ -1,5 +1,5 @@
 -- What each call comes to on a tree.
-use Rattle.mt_engine.proofs.Prelude.{◌≡◌, ◌≢◌, ℕ, ◌+◌, ◌<◌, ◌≤◌, ◌==◌, ◌||◌, true, false, List, Option, Some, None, refl, sym, ap, ◌∙◌, subst, inl, inr, arith, ne_eqb, IsSome, IfSome, is_some, cases_Bool, cases_lt, eqb-true, eqb-false, lt-ltb, le-ltb, Kind, Width, Range, Call, Store, StorePre, Insert, Erase, Reply, acted, erased, is_invalid, replied, IsMapFrom, first_met, holding, is_held, over, Wants, greatest, valid_order, valid_within, valid_entry, is_held_where_met, up_to, first_from_place, IsTreeOf, map_by, Rooted, Sheet, OnlyReads, same_tree, Handle, PathStep, last_step, handle_in, handle_of, path_in, is_refusal, IsHereAt, range_of, IsSpanAt, nearest_from, IsMet, IsStorePlan, is_range_met, IsDoneBy, StoreBy, Write}
+use Rattle.mt_engine.proofs.Prelude.{◌≡◌, ◌≢◌, ℕ, ◌+◌, ◌<◌, ◌≤◌, ◌==◌, ◌||◌, true, false, List, Option, Some, None, refl, sym, ap, ◌∙◌, subst, inl, inr, arith, ne_eqb, IsSome, IfSome, is_some, cases_Bool, cases_lt, eqb-true, eqb-false, lt-ltb, le-ltb, Kind, Width, Range, Call, Store, StorePre, Insert, Erase, Reply, acted, erased, is_invalid, replied, IsMapFrom, first_met, holding, is_held, over, Wants, greatest, valid_order, valid_within, valid_entry, is_held_where_met, up_to, first_from_place, IsTreeOf, map_by, Rooted, Sheet, OnlyReads, same_tree, Handle, PathStep, last_step, handle_in, handle_of, path_in, is_refusal, IsHereAt, range_of, IsSpanAt, nearest_from, IsMet, IsStoreOf, IsStorePlan, is_range_met, IsDoneBy, StoreBy, Write}
 use Rattle.mt_base.specs.declared.replies.Reply.TheVariants as reply
 use Rattle.mt_engine.proofs.IndexesAbove.{load_above}
 use Rattle.mt_engine.proofs.MapPlaces.{range_there}
@@ -109,24 +109,23 @@ module _ (t : Rooted) (kind : Kind) (tree : IsTreeOf t kind) where
     abbrev written : StoreBy → Write
     written by = record { edit = record { first = first; last = last; entry = entry }; by = by }
 
-    pub store_plan : {path : List PathStep} {answer : Reply} {here : Option Handle} {by : StoreBy} → path ≡ path_in t.table t.root first → IsHereAt t first here → IsDoneBy here first last entry by → answer ≡ replied (first_met m first last) → IsStorePlan kind t (Store first last entry) path (written by) answer
-    store_plan {here = here} way stands done is = record {
-      store = record { acts = rw valid (ap (λ (r : Reply). (over m first last entry, r)) (sym is)); order = order; within = within; lawful = valid_entry kind first last entry valid };
-      own = (refl, refl, refl);
+    -- a plan to store the entry, of a call that does so
+    plan_of : {path : List PathStep} {answer : Reply} {here : Option Handle} {by : StoreBy} (call : Call) → acted kind m call ≡ (over m first last entry, replied (first_met m first last)) → IsStoreOf m call first last entry
+        → path ≡ path_in t.table t.root first → IsHereAt t first here → IsDoneBy here first last entry by → answer ≡ replied (first_met m first last) → IsStorePlan kind t call path (written by) answer
+    plan_of {here = here} call acts own way stands done is = record {
+      store = record { acts = acts ∙ ap (λ (r : Reply). (over m first last entry, r)) (sym is); order = order; within = within; lawful = valid_entry kind first last entry valid };
+      own = own;
       success = ap is_refusal is ∙ replied_done (first_met m first last);
       way = way;
       by = record { here = here; stands = stands; done = done };
     }
 
+    pub store_plan : {path : List PathStep} {answer : Reply} {here : Option Handle} {by : StoreBy} → path ≡ path_in t.table t.root first → IsHereAt t first here → IsDoneBy here first last entry by → answer ≡ replied (first_met m first last) → IsStorePlan kind t (Store first last entry) path (written by) answer
+    store_plan {path = path} {answer = answer} {here = here} {by = by} way stands done is = plan_of {path = path} {answer = answer} {here = here} {by = by} (Store first last entry) (rw valid refl) (refl, refl, refl) way stands done is
+
     -- the same of a store that is to have its rows at hand
     pub store_pre_plan : {path : List PathStep} {answer : Reply} {here : Option Handle} {by : StoreBy} → path ≡ path_in t.table t.root first → IsHereAt t first here → IsDoneBy here first last entry by → answer ≡ replied (first_met m first last) → IsStorePlan kind t (StorePre first last entry) path (written by) answer
-    store_pre_plan {here = here} way stands done is = record {
-      store = record { acts = rw valid (ap (λ (r : Reply). (over m first last entry, r)) (sym is)); order = order; within = within; lawful = valid_entry kind first last entry valid };
-      own = (refl, refl, refl);
-      success = ap is_refusal is ∙ replied_done (first_met m first last);
-      way = way;
-      by = record { here = here; stands = stands; done = done };
-    }
+    store_pre_plan {path = path} {answer = answer} {here = here} {by = by} way stands done is = plan_of {path = path} {answer = answer} {here = here} {by = by} (StorePre first last entry) (rw valid refl) (refl, refl, refl) way stands done is
 
     -- ---- insert
 

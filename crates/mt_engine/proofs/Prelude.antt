@@ -103,4 +103,5 @@ pub use Rattle.mt_list.proofs.EraseAtPlace.{without_above}
 pub use Rattle.mt_list.proofs.HoldingAtPlace.{holding_at_place}
 pub use Rattle.mt_list.proofs.QueriesAtPlaces.{first_above_place, first_from_place, last_below_place, last_up_to_place}
 pub use Rattle.mt_list.proofs.StoreAtPlaces.{all_parts_above, no_part_below}
+pub use Rattle.mt_list.proofs.StoresBeside.{Outside, outside_hole, store_behind, store_none_beside, stored_holds, stored_some, stops_below}
 pub use Rattle.mt_list.specs.Places.{down_to, up_to}

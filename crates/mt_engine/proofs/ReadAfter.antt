@@ -1,5 +1,5 @@
 -- A call in flight that has come to an end so far, after which words were only loaded.
-use Rattle.mt_engine.proofs.Prelude.{◌≡◌, ℕ, Option, true, sym, ap, ◌∙◌, subst, inl, inr, ⊎_elim, Call, Store, Kind, Reply, Shortage, acted, is_exact_store, Book, MayFinish, IsRealShortage, IsFoundShort, map_by, finished, Rooted, Sheet, OnlyReads, begun, ChangesEntry, StoresExactly, IsCarriedOut, IsShortFor, IsEnded, DidOrLacked, EndsAnswered, is_refusal, HasHeight, IsMeasured, IsStoreOf, IsPrestored, IsDoneByStore}
+use Rattle.mt_engine.proofs.Prelude.{◌≡◌, ℕ, Option, true, sym, ap, ◌∙◌, subst, inl, inr, ⊎_elim, Call, Store, Kind, Reply, Shortage, acted, is_exact_store, Book, MayFinish, IsRealShortage, IsFoundShort, map_by, finished, Rooted, Sheet, OnlyReads, begun, ChangesEntry, StoresExactly, IsCarriedOut, IsShortFor, IsEnded, DidOrLacked, EndsAnswered, is_refusal, HasHeight, SameHeight, IsMeasured, IsStoreOf, IsPrestored, IsDoneByStore, height_in, same_tree}
 use Rattle.mt_engine.proofs.Moments.{ended_from, answer_from}
 
 -- ---- read at the end
@@ -113,3 +113,9 @@ prestored_by kind s s₁ s' s″ book book' call reply begins is kept ends =
 -- the height at the end of a call
 pub measured_end : (kind : Kind) (s s' s″ : Sheet) (book' : Book) (call : Call) (reply : Reply) (height : ℕ) → IsEnded kind s s″ book' call reply → HasHeight s'.tree height → s″ ≡ finished s' call reply → IsMeasured kind s″ book' height
 measured_end kind s s' s″ book' call reply height ended has ends = record { idle = ended.idle; measured = subst (λ (t : Rooted). HasHeight t height) (sym (ap (λ (x : Sheet). x.tree) ends)) has }
+
+-- ---- the height
+
+-- a tree that is read, and then stored in with as many levels, has as many as before
+pub high_then : (s s₁ s₂ : Sheet) (height : ℕ) → HasHeight s.tree height → OnlyReads s s₁ → SameHeight s₁.tree s₂.tree → HasHeight s₂.tree height
+high_then s s₁ s₂ height high reads same = high ∙ (sym (ap (λ (t : Rooted). height_in t.table t.root) (same_tree s s₁ reads)) ∙ sym same)

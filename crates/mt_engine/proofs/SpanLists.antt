@@ -1,5 +1,5 @@
 -- Spans end to end: the map that they stand for, what it has at an index, and what stands beside a hole.
-use Rattle.mt_engine.proofs.Prelude.{◌≡◌, ◌≢◌, ℕ, ◌+◌, ◌-◌, ◌<◌, ◌≤◌, ◌==◌, List, [], ◌∷◌, ◌++◌, Some, None, false, nat_le, refl, ap, ◌∙◌, subst, inl, inr, arith, IsSome, is_some, flat_map, cases_Bool, and_left, and_right, eqb-true, lt-leb, le-leb, Range, holds, holding, overlaps, is_held, Span, leaf_range, Fills, BeginsFull, Apart, EndsFull, fills_le, full_before_hole, full_behind_hole, range_of, IsSpanAt, At}
+use Rattle.mt_engine.proofs.Prelude.{◌≡◌, ◌≢◌, ℕ, ◌+◌, ◌-◌, ◌<◌, ◌≤◌, ◌==◌, List, [], ◌∷◌, ◌++◌, Some, None, false, nat_le, refl, ap, ◌∙◌, subst, inl, inr, arith, IsSome, is_some, flat_map, cases_Bool, and_left, and_right, eqb-true, lt-leb, le-leb, Range, holds, holding, overlaps, is_held, Span, leaf_range, Fills, BeginsFull, Apart, EndsFull, fills_le, full_before_hole, full_behind_hole, range_of, IsSpanAt, At, stops_below}
 
 -- the ranges of spans, which are the map that they stand for
 abbrev pub ranges : List Span → List Range
@@ -9,9 +9,6 @@ ranges xs = flat_map leaf_range xs
 
 pub starts_above : (r : Range) (index : ℕ) → index < r.first → holds index r ≡ false
 starts_above r index lt = and_left (nat_le r.first index) (nat_le index r.last) (lt-leb r.first index lt)
-
-pub stops_below : (r : Range) (index : ℕ) → r.last < index → holds index r ≡ false
-stops_below r index lt = and_right (nat_le r.first index) (nat_le index r.last) (lt-leb index r.last lt)
 
 lies_above : (r : Range) (first last : ℕ) → last < r.first → overlaps first last r ≡ false
 lies_above r first last lt = and_left (nat_le r.first last) (nat_le first r.last) (lt-leb r.first last lt)

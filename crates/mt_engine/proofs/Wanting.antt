@@ -1,9 +1,7 @@
 -- Which stores replace rows, and which calls want some.
-use Rattle.mt_engine.proofs.Prelude.{◌≡◌, ◌≢◌, ℕ, ◌+◌, ◌<◌, ◌≤◌, ◌==◌, ◌&&◌, ◌||◌, true, false, not, List, [], ◌∷◌, ◌++◌, Option, Some, None, nat_le, refl, sym, ap, ◌∙◌, inl, inr, arith, ne_eqb, eq-eqb, ◌⊎◌, IsSome, if◌then◌else◌, AllByRecursion, option_map, cases_Bool, cases_lt, and_left, and_right, and_parts, eqb-true, eqb-false, leb-true, lt-leb, le-leb, Call, Store, StorePre, Insert, Erase, Alloc, Ralloc, Gap, Rgap, Clear, Kind, Range, Reply, acted, is_invalid, IsMapFrom, holds, holding, overlaps, is_held, over, Wants, is_exact_store, entry_inside, Span, all_map, IsStoreBy, StoreBy, Replaces, is_refusal, range_of, IsSpanAt, IsStoreOf, is_by_rows, wants_by}
+use Rattle.mt_engine.proofs.Prelude.{◌≡◌, ◌≢◌, ℕ, ◌+◌, ◌<◌, ◌≤◌, ◌==◌, ◌&&◌, ◌||◌, true, false, not, List, [], ◌∷◌, ◌++◌, Option, Some, None, nat_le, refl, sym, ap, ◌∙◌, inl, inr, arith, ne_eqb, eq-eqb, ◌⊎◌, IsSome, if◌then◌else◌, AllByRecursion, option_map, cases_Bool, cases_lt, and_left, and_right, and_parts, eqb-true, eqb-false, leb-true, lt-leb, le-leb, Call, Store, StorePre, Insert, Erase, Alloc, Ralloc, Gap, Rgap, Clear, Kind, Range, Reply, acted, is_invalid, IsMapFrom, holds, holding, overlaps, is_held, over, Wants, is_exact_store, entry_inside, Span, all_map, IsStoreBy, StoreBy, Replaces, is_refusal, range_of, IsSpanAt, IsStoreOf, is_by_rows, wants_by, Outside, outside_hole, store_none_beside, stored_holds, stored_some}
 use Rattle.mt_base.specs.declared.replies.Reply.TheVariants as answers
-use Rattle.mt_engine.proofs.MapPlaces.{Outside, outside_hole}
 use Rattle.mt_engine.proofs.MapQueries.{load_hole}
-use Rattle.mt_engine.proofs.MapStores.{store_none_beside, stored_holds, stored_some}
 
 -- a call that replaces rows changes the map
 pub replaces_changes : (kind : Kind) (m : List Range) (call : Call) → Replaces kind m call → (acted kind m call).0 ≢ m
@@ -154,7 +152,7 @@ module _ (m : List Range) (top first last entry : ℕ) (x : Span) (rise : IsMapF
   entry_changes : over m first last entry ≡ m → entry ≢ 0 → ⊥
   entry_changes same some =
       let r : Range = record { first = first; last = last; entry = entry } in
-      let stored : holding m first ≡ Some r = ap (λ (l : List Range). holding l first) (sym same) ∙ stored_holds m first last entry order some in
+      let stored : holding m first ≡ Some r = ap (λ (l : List Range). holding l first) (sym same) ∙ stored_holds m first last entry order (ne_eqb entry 0 some) in
       elim (cases_Bool (x.word == 0)) [
         | inl hole ↦ (let both : None ≡ Some r = load_hole m top first x rise at (eqb-true x.word 0 hole) ∙ stored in absurd (cc))
         | inr word ↦
@@ -206,6 +204,6 @@ first_store_replaces kind top first last entry call reply store own some = repla
     leaves same =
         let none : over [] first last entry ≡ [] = sym (ap (λ (p : List Range × Reply). p.0) store.acts) ∙ same in
         let stored : Range = record { first = first; last = last; entry = entry } in
-        let one : over [] first last entry ≡ stored ∷ [] = ap (λ (l : List Range). l ++ []) (stored_some first last entry some) in
+        let one : over [] first last entry ≡ stored ∷ [] = ap (λ (l : List Range). l ++ []) (stored_some first last entry (ne_eqb entry 0 some)) in
         let both : stored ∷ [] ≡ [] = sym one ∙ none in
         absurd (cc)

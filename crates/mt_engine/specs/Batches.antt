@@ -1,6 +1,7 @@
 -- Many look-ups and many steps of a walk in one call: they return what that many single calls return.
 -- Source: this project's own; the kernel is asked for one index, or one range, at a time.
 use Rattle.std.specs.Prelude.{ℕ, zero, suc, List, [], ◌∷◌, ◌++◌, Option, Some, None, length, drop, map}
+pub use Rattle.mt_base.specs.Map.{entry_or_zero}
 use Rattle.mt_engine.specs.Prelude.{Range, Load, answer}
 use Rattle.mt_engine.specs.RangeWalks.{found_from, index_behind}
 
@@ -9,11 +10,6 @@ abbrev pub put_first : {A : Type 0} → List A → List A → List A
 put_first xs places = xs ++ drop (length xs) places
 
 -- ---- look-ups
-
--- the entry of a range, and 0 if there is none
-abbrev pub entry_or_zero : Option Range → ℕ
-entry_or_zero None = 0
-entry_or_zero (Some r) = r.entry
 
 -- the entries that these indexes hold, one for each: what a look-up of each alone returns
 abbrev pub entries_at : List Range → List ℕ → List ℕ

@@ -53,15 +53,8 @@ pub record HadRoom (s s' : Sheet) (book : Book) : Type 0 where
 -- The call replaces nodes. If it asks for some it needs them as well. `StorePre`, which asks for them beforehand, needs them
 -- only if the same store would.
 abbrev pub Replaces : Kind → List Range → Call → Type 0
-Replaces kind m (Store first last entry) = Wants kind m (Store first last entry)
 Replaces kind m (StorePre first last entry) = Wants kind m (Store first last entry)
-Replaces kind m (Insert first last entry) = Wants kind m (Insert first last entry)
-Replaces kind m (Erase index) = Wants kind m (Erase index)
-Replaces kind m (Alloc size min max entry) = Wants kind m (Alloc size min max entry)
-Replaces kind m (Ralloc size min max entry) = Wants kind m (Ralloc size min max entry)
-Replaces kind m (Gap size min max) = ⊥
-Replaces kind m (Rgap size min max) = ⊥
-Replaces kind m Clear = ⊥
+Replaces kind m call = Wants kind m call
 
 -- of the free nodes it took at most this many, and none if it replaces none
 pub record TookRows (kind : Kind) (s : Sheet) (free : List ℕ) (book' : Book) (call : Call) : Type 0 where
@@ -76,11 +69,7 @@ is_refusal answers.Ok = false
 is_refusal (answers.Over entry) = false
 is_refusal (answers.Start start) = false
 is_refusal (answers.Was range) = false
-is_refusal answers.None = true
-is_refusal answers.Exists = true
-is_refusal answers.Invalid = true
-is_refusal answers.Busy = true
-is_refusal (answers.NoNodes shortage) = true
+is_refusal other = true
 
 -- The call did what it says: the words represent the map after it, and a refusal left every word. If it needs no nodes, it made
 -- no scan and took none.

@@ -1,8 +1,9 @@
 -- A walk over the ranges of a tree, in rising order: which range comes next, and where the walk then is.
 -- Source: the kernel's include/linux/maple_tree.h, mas_for_each, whose mas_find goes on in the leaf where it is.
-use Rattle.std.specs.Prelude.{◌≡◌, ◌≢◌, ◌==◌, ℕ, ◌+◌, ◌≤◌, nat_le, List, Option, Some, None, IfSome, if◌then◌else◌}
+use Rattle.std.specs.Prelude.{◌≡◌, ◌≢◌, ◌⊎◌, ◌==◌, ℕ, ◌+◌, ◌≤◌, nat_le, List, [], Option, Some, None, IfSome, if◌then◌else◌}
 use Rattle.std.specs.Option.{option_map}
-use Rattle.mt_engine.specs.Prelude.{Range, Find, answer, greatest, Rooted, Sheet, ReadsUpTo, Handle, IsHandleOf}
+use Rattle.mt_engine.specs.Prelude.{Range, Find, answer, greatest, Rooted, Sheet, ReadsUpTo, Handle, PathStep, IsHandleOf, path_in}
+use Rattle.mt_path.specs.Handles.{last_step}
 use Rattle.mt_engine.specs.MapSpans.{range_of}
 use Rattle.mt_engine.specs.declared.range_walk.RangeWalk.{RangeWalk}
 
@@ -33,3 +34,18 @@ StepsWithin walk s s' = IfSome walk.last (λ handle. handle.span.last ≢ handle
 pub record WalksFrom (t : Rooted) (walk : RangeWalk) : Type 0 where
   pub within : IfSome walk.next (λ index. index ≤ greatest t.table.width)
   pub given : IfSome walk.last (λ handle. IsHandleOf t handle × IfSome walk.next (λ index. index ≡ handle.span.last + 1))
+
+-- where a walk goes on that returned this slot last
+abbrev pub walk_after : Rooted → Handle → RangeWalk
+walk_after t h = record { next = index_behind (greatest t.table.width) (range_at (Some h)); last = Some h }
+
+-- the way leads to a leaf, by whatever slot of it
+pub record LeadsToLeaf (t : Rooted) (way : List PathStep) (leaf : PathStep) : Type 0 where
+  pub index : ℕ
+  pub within : index ≤ greatest t.table.width
+  pub is : way ≡ path_in t.table t.root index
+  pub ends : (last_step way).max ≡ leaf.max
+
+-- no way is kept, or one to the leaf
+abbrev pub IsWayOrNone : Rooted → List PathStep → PathStep → Type 0
+IsWayOrNone t way leaf = (way ≡ []) ⊎ LeadsToLeaf t way leaf

@@ -53,7 +53,8 @@ fn start_by<R: Rows, L: Ledger>(
     requires tree { IsGapped (R.sheet rows.old).tree }
     requires size { 1 ≤ wanted.size }
     ensures start { result ≡ start_to sought (greatest (R.sheet rows.old).tree.table.width) (map_by (R.sheet rows.old).tree) wanted.size wanted.min wanted.max }
-    ensures reads { ReadsUpTo (3 * height_in (R.sheet rows.old).tree.table (R.sheet rows.old).tree.root * columns (R.sheet rows.old).tree.table.width + 1) (R.sheet rows.old) (R.sheet rows.new) }
+    ensures reads { ReadsUpTo (3 * height_in (R.sheet rows.old).tree.table (R.sheet rows.old).tree.root * columns (R.sheet rows.old).tree.table.width + 1)
+        (R.sheet rows.old) (R.sheet rows.new) }
 {
     let mut steps = Steps::<L>::new(blank);
     match sought {
@@ -67,7 +68,8 @@ fn start_of<R: Rows>(rows: &mut R, sought: Sought, wanted: Wanted) -> Option<u64
     requires tree { IsGapped (R.sheet rows.old).tree }
     requires size { 1 ≤ wanted.size }
     ensures start { result ≡ start_to sought (greatest (R.sheet rows.old).tree.table.width) (map_by (R.sheet rows.old).tree) wanted.size wanted.min wanted.max }
-    ensures reads { ReadsUpTo (3 * height_in (R.sheet rows.old).tree.table (R.sheet rows.old).tree.root * columns (R.sheet rows.old).tree.table.width + 1) (R.sheet rows.old) (R.sheet rows.new) }
+    ensures reads { ReadsUpTo (3 * height_in (R.sheet rows.old).tree.table (R.sheet rows.old).tree.root * columns (R.sheet rows.old).tree.table.width + 1)
+        (R.sheet rows.old) (R.sheet rows.new) }
 {
     start_by::<R, Brand>(rows, sought, wanted, Blank::new(1))
 }
@@ -86,7 +88,8 @@ fn area_by<R: Rows, L: Ledger>(
     requires tree { IsGapped (R.sheet rows.old).tree }
     requires size { 1 ≤ wanted.size }
     requires empty { path.old.items ≡ [] }
-    ensures start { option_map (λ (area : SoughtArea). area.start) result ≡ start_to sought (greatest (R.sheet rows.old).tree.table.width) (map_by (R.sheet rows.old).tree) wanted.size wanted.min wanted.max }
+    ensures start { option_map (λ (area : SoughtArea). area.start) result
+        ≡ start_to sought (greatest (R.sheet rows.old).tree.table.width) (map_by (R.sheet rows.old).tree) wanted.size wanted.min wanted.max }
     ensures way { IfSome result (λ area. IsAreaAt (R.sheet rows.old).tree path.new.items area) }
     ensures rest { OnlyReads (R.sheet rows.old) (R.sheet rows.new) }
     ensures reads { IsNone result → ReadsUpTo (most_searched (R.sheet rows.old).tree) (R.sheet rows.old) (R.sheet rows.new) }
@@ -109,7 +112,8 @@ fn area_of<R: Rows>(
     requires tree { IsGapped (R.sheet rows.old).tree }
     requires size { 1 ≤ wanted.size }
     requires empty { path.old.items ≡ [] }
-    ensures start { option_map (λ (area : SoughtArea). area.start) result ≡ start_to sought (greatest (R.sheet rows.old).tree.table.width) (map_by (R.sheet rows.old).tree) wanted.size wanted.min wanted.max }
+    ensures start { option_map (λ (area : SoughtArea). area.start) result
+        ≡ start_to sought (greatest (R.sheet rows.old).tree.table.width) (map_by (R.sheet rows.old).tree) wanted.size wanted.min wanted.max }
     ensures way { IfSome result (λ area. IsAreaAt (R.sheet rows.old).tree path.new.items area) }
     ensures rest { OnlyReads (R.sheet rows.old) (R.sheet rows.new) }
     ensures reads { IsNone result → ReadsUpTo (most_searched (R.sheet rows.old).tree) (R.sheet rows.old) (R.sheet rows.new) }

@@ -1,17 +1,19 @@
 //! Many look-ups and many steps of a walk in one call.
 
-ghost use Rattle.std.specs.Prelude.{◌≡◌, ◌≢◌, ◌<◌, ◌≤◌, All, IsTrue, length, min, take};
+ghost use Rattle.std.specs.Prelude.{◌≡◌, ◌≢◌, ◌<◌, ◌≤◌, Some, All, IsTrue, length, map, min, take};
 ghost use Rattle.mt_base.specs.declared.kinds.Kind.{Kind};
 ghost use Rattle.mt_base.specs.Width.{greatest};
 ghost use Rattle.mt_rows.specs.Publish.{IsTreeOf, map_by};
 ghost use Rattle.mt_rows.specs.Sheet.{OnlyReads};
+ghost use Rattle.mt_path.specs.Handles.{IsHandleOf};
 ghost use Rattle.mt_engine.specs.Batches.{entries_at, put_first, steps_from};
-ghost use Rattle.mt_engine.specs.RangeWalks.{WalksFrom};
+ghost use Rattle.mt_engine.specs.RangeWalks.{found_from, range_at, WalksFrom};
 
-use crate::queries::{entry_at, top_of};
-use crate::range_walk::{RangeWalk, next_range};
-use mt_base::Range;
-use mt_path::words_at;
+use crate::leaf_steps::range_after;
+use crate::places::{RangePlace, put_at};
+use crate::queries::{entry_at, range_in, top_of};
+use crate::range_walk::{RangeWalk, slot_found, walk_after};
+use mt_path::{Handle, Path, words_at};
 use mt_rows::Rows;
 
 /// Puts the entries at these indexes, by one look-up after the other.
@@ -78,41 +80,71 @@ pub fn load_many<R: Rows>(rows: &mut R, indexes: &[u64], entries: &mut [u64]) ->
     count
 }
 
-/// Puts the ranges that a walk finds next into the places, as many as there are places for, and returns how many. It is inlined
-/// into its caller, so that the walk is kept in registers.
+/// Puts the range in this slot, which a walk finds next, and those after it into the places, as many as there are places for.
+/// Returns how many. The way from leaf to leaf is kept. It is inlined into its caller, so that the slot stays in registers.
 #[inline(always)]
-#[tactic(auto, using(crate::proofs::Batching::put_begin))]
-fn put_ranges<R: Rows>(rows: &mut R, walk: &mut RangeWalk, ranges: &mut [Range]) -> usize
+fn put_from<R: Rows, P: RangePlace>(
+    rows: &mut R,
+    walk: &mut RangeWalk,
+    first: Handle,
+    ranges: &mut [P],
+) -> usize
     requires tree { (kind : Kind) × IsTreeOf (R.sheet rows.old).tree kind }
     requires walk { WalksFrom (R.sheet rows.old).tree walk.old }
-    ensures ranges { ranges.new ≡ put_first (steps_from (map_by (R.sheet rows.old).tree) (greatest (R.sheet rows.old).tree.table.width) (length ranges.old) walk.old.next).found ranges.old }
-    ensures count { result ≡ length (steps_from (map_by (R.sheet rows.old).tree) (greatest (R.sheet rows.old).tree.table.width) (length ranges.old) walk.old.next).found }
-    ensures next { walk.new.next ≡ (steps_from (map_by (R.sheet rows.old).tree) (greatest (R.sheet rows.old).tree.table.width) (length ranges.old) walk.old.next).next }
+    requires first { IsHandleOf (R.sheet rows.old).tree first }
+    requires found { range_at (Some first) ≡ found_from (map_by (R.sheet rows.old).tree) (greatest (R.sheet rows.old).tree.table.width) walk.old.next }
+    requires some { 0 < length ranges.old }
+    ensures ranges { ranges.new ≡ put_first (map P.shows
+        (steps_from (map_by (R.sheet rows.old).tree) (greatest (R.sheet rows.old).tree.table.width) (length ranges.old) walk.old.next).found) ranges.old }
+    ensures count { result ≡ length
+        (steps_from (map_by (R.sheet rows.old).tree) (greatest (R.sheet rows.old).tree.table.width) (length ranges.old) walk.old.next).found }
+    ensures next { walk.new.next
+        ≡ (steps_from (map_by (R.sheet rows.old).tree) (greatest (R.sheet rows.old).tree.table.width) (length ranges.old) walk.old.next).next }
     ensures walk { WalksFrom (R.sheet rows.old).tree walk.new }
     ensures rest { OnlyReads (R.sheet rows.old) (R.sheet rows.new) }
 {
-    for i in 0..ranges.len() {
-        let Some(range) = next_range(rows, walk) else {
+    let mut here = first;
+    let mut way = Path::new();
+    put_at(ranges, 0, range_in(here.span));
+    for i in 1..ranges.len() {
+        let Some(next) = range_after(rows, &mut way, &here) else {
+            *walk = RangeWalk {
+                next: None,
+                last: Some(here),
+            };
             return i;
         };
-        ranges[i] = range;
+        put_at(ranges, i, range_in(next.span));
+        here = next;
     }
+    *walk = walk_after(rows.width(), here);
     ranges.len()
 }
 
 /// Finds the ranges that come next, as many as there are places for, and returns how many: fewer than places only if the map
-/// has no more.
-pub fn step_many<R: Rows>(rows: &mut R, walk: &mut RangeWalk, ranges: &mut [Range]) -> usize
+/// has no more. The first is found as `next_range` finds it, and the others leaf by leaf.
+pub fn step_many<R: Rows, P: RangePlace>(
+    rows: &mut R,
+    walk: &mut RangeWalk,
+    ranges: &mut [P],
+) -> usize
     requires tree { (kind : Kind) × IsTreeOf (R.sheet rows.old).tree kind }
     requires walk { WalksFrom (R.sheet rows.old).tree walk.old }
-    ensures ranges { ranges.new ≡ put_first (steps_from (map_by (R.sheet rows.old).tree) (greatest (R.sheet rows.old).tree.table.width) (length ranges.old) walk.old.next).found ranges.old }
-    ensures count { result ≡ length (steps_from (map_by (R.sheet rows.old).tree) (greatest (R.sheet rows.old).tree.table.width) (length ranges.old) walk.old.next).found }
-    ensures next { walk.new.next ≡ (steps_from (map_by (R.sheet rows.old).tree) (greatest (R.sheet rows.old).tree.table.width) (length ranges.old) walk.old.next).next }
+    ensures ranges { ranges.new ≡ put_first (map P.shows
+        (steps_from (map_by (R.sheet rows.old).tree) (greatest (R.sheet rows.old).tree.table.width) (length ranges.old) walk.old.next).found) ranges.old }
+    ensures count { result ≡ length
+        (steps_from (map_by (R.sheet rows.old).tree) (greatest (R.sheet rows.old).tree.table.width) (length ranges.old) walk.old.next).found }
+    ensures next { walk.new.next
+        ≡ (steps_from (map_by (R.sheet rows.old).tree) (greatest (R.sheet rows.old).tree.table.width) (length ranges.old) walk.old.next).next }
     ensures walk { WalksFrom (R.sheet rows.old).tree walk.new }
     ensures rest { OnlyReads (R.sheet rows.old) (R.sheet rows.new) }
 {
-    let mut here = *walk;
-    let count = put_ranges(rows, &mut here, ranges);
-    *walk = here;
-    count
+    if ranges.is_empty() {
+        return 0;
+    }
+    let Some(first) = slot_found(rows, walk) else {
+        walk.next = None;
+        return 0;
+    };
+    put_from(rows, walk, first, ranges)
 }

@@ -1,8 +1,9 @@
 //! The calls that write, each by one publishing store at most.
 
-ghost use Rattle.std.specs.Prelude.{◌≡◌, ◌+◌, ◌-◌, ◌^◌, ◌<◌};
+ghost use Rattle.std.specs.Prelude.{◌≡◌, ◌+◌, ◌<◌};
 ghost use Rattle.mt_engine.specs.Engine.{IsInCall, EndsAnswered, IsApplied, OnlySearches, OnlySought, StoresExactly};
 ghost use Rattle.mt_engine.specs.Heights.{HasHeight, IsMeasured};
+ghost use Rattle.mt_base.specs.Limits.{most_calls};
 
 use crate::heights::height_after;
 use crate::plans::{Plan, plan_of};
@@ -24,7 +25,7 @@ fn perform<R: Rows>(
 ) -> Reply
     requires in_call { IsInCall kind (R.sheet rows.old) book.old }
     requires number { number ≡ (R.sheet rows.old).ended + 1 }
-    requires few { (R.sheet rows.old).ended < 2 ^ 62 - 1 }
+    requires few { (R.sheet rows.old).ended < most_calls }
     requires height { HasHeight (R.sheet rows.old).tree height.old }
     requires unscanned { (R.sheet rows.old).scans ≡ 0 }
     ensures height { HasHeight (R.sheet rows.new).tree height.new }
@@ -73,7 +74,7 @@ pub fn apply<R: Rows>(
     call: &Call,
 ) -> Reply
     requires measured { IsMeasured kind (R.sheet rows.old) book.old height.old }
-    requires few { (R.sheet rows.old).ended < 2 ^ 62 - 1 }
+    requires few { (R.sheet rows.old).ended < most_calls }
     ensures applied { IsApplied kind (R.sheet rows.old) (R.sheet rows.new) book.old book.new call.now result }
     ensures measured { IsMeasured kind (R.sheet rows.new) book.new height.new }
 {

@@ -1,6 +1,7 @@
 //! A tree on one thread.
 
-ghost use Rattle.std.specs.Prelude.{◌≡◌, ◌↔◌, ◌+◌, ◌-◌, ◌*◌, ◌^◌, ◌<◌, ◌≤◌, Some, IsTrue, IsOk, IfOk, IfErr, IfSome, OnOk, OnErr, length, min, option_map, take};
+ghost use Rattle.std.specs.Prelude.{◌≡◌, ◌↔◌, ◌+◌, ◌*◌, ◌^◌, ◌<◌, ◌≤◌, Some, IsTrue, IsOk, IfOk, IfErr};
+ghost use Rattle.std.specs.Prelude.{IfSome, OnOk, OnErr, length, map, min, option_map, take};
 ghost use Rattle.mt_base.specs.declared.calls.Call.TheVariants.{StorePre};
 ghost use Rattle.mt_base.specs.declared.calls.Query.TheVariants.{Load};
 ghost use Rattle.mt_base.specs.Call.{answer};
@@ -15,8 +16,10 @@ ghost use Rattle.mt_engine.specs.Heights.{HasHeight};
 ghost use Rattle.mt_engine.specs.Prepared.{IsPrestored};
 ghost use Rattle.mt_engine.specs.Rooms.{HasRoom, IsScanned, IsShortOf};
 ghost use Rattle.mt_engine.specs.RangeWalks.{found_from, index_behind, index_in, StepsWithin, WalksFrom};
+ghost use Rattle.mt_base.specs.Limits.{most_calls};
 
 use crate::heights::height_of;
+use crate::places::RangePlace;
 use crate::prepared::store_prepared;
 use crate::range_walk::{RangeWalk, next_range, walk_from};
 use crate::rooms::{has_room, make_room};
@@ -110,7 +113,7 @@ impl<R: Rows> Engine<R> {
     /// Makes one call: it does what the call says and answers so, or it answers that too few nodes are free, and leaves every
     /// word.
     pub fn apply(&mut self, call: &Call) -> Reply
-        requires { self.old.sheet.ended < 2 ^ 62 - 1 }
+        requires { self.old.sheet.ended < most_calls }
         ensures applied { IsApplied self.old.kind self.old.sheet self.new.sheet self.old.book self.new.book call.now result }
         ensures kind { self.new.kind ≡ self.old.kind }
     {
@@ -151,7 +154,7 @@ impl<R: Rows> Engine<R> {
     /// refused for lack of nodes.
     pub fn store_prealloc(&mut self, first: u64, last: u64, entry: u64) -> Reply
         requires ready { HasRoom self.old.sheet.tree self.old.book }
-        requires few { self.old.sheet.ended < 2 ^ 62 - 1 }
+        requires few { self.old.sheet.ended < most_calls }
         ensures stored { IsPrestored self.old.kind self.old.sheet self.new.sheet self.old.book self.new.book (StorePre first last entry) result }
         ensures kind { self.new.kind ≡ self.old.kind }
     {
@@ -199,11 +202,14 @@ impl<R: Rows> Engine<R> {
 
     /// Puts what one call of `next_range` for each place finds, and returns how many ranges these are: fewer only if the map
     /// has no more, and then the walk has ended. The other places are unchanged. With no place the walk stays.
-    pub fn step_many(&mut self, walk: &mut RangeWalk, ranges: &mut [Range]) -> usize
+    pub fn step_many<P: RangePlace>(&mut self, walk: &mut RangeWalk, ranges: &mut [P]) -> usize
         requires { WalksFrom self.old.sheet.tree walk.old }
-        ensures ranges { ranges.new ≡ put_first (steps_from (map_by self.old.sheet.tree) (greatest self.old.sheet.tree.table.width) (length ranges.old) walk.old.next).found ranges.old }
-        ensures count { result ≡ length (steps_from (map_by self.old.sheet.tree) (greatest self.old.sheet.tree.table.width) (length ranges.old) walk.old.next).found }
-        ensures next { walk.new.next ≡ (steps_from (map_by self.old.sheet.tree) (greatest self.old.sheet.tree.table.width) (length ranges.old) walk.old.next).next }
+        ensures ranges { ranges.new ≡ put_first (map P.shows
+            (steps_from (map_by self.old.sheet.tree) (greatest self.old.sheet.tree.table.width) (length ranges.old) walk.old.next).found) ranges.old }
+        ensures count { result ≡ length
+            (steps_from (map_by self.old.sheet.tree) (greatest self.old.sheet.tree.table.width) (length ranges.old) walk.old.next).found }
+        ensures next { walk.new.next
+            ≡ (steps_from (map_by self.old.sheet.tree) (greatest self.old.sheet.tree.table.width) (length ranges.old) walk.old.next).next }
         ensures walk { WalksFrom self.new.sheet.tree walk.new }
         ensures rest { OnlyReads self.old.sheet self.new.sheet }
         ensures book { self.new.book ≡ self.old.book }
@@ -264,8 +270,9 @@ impl<R: Rows> Ranges for Engine<R> {
     #[tactic(auto, using(crate::proofs::Moments::limits_by))]
     fn act(&mut self, call: &Call) -> Result<Reply, NoMemory>
         // As of all maps.
-        requires { self.old.sheet.ended < 2 ^ 62 - 1 }
-        ensures acts { IfOk result (λ reply. IsMade self.old.kind (Some (limits_of self.old.sheet)) (map_by self.old.sheet.tree) call.now (map_by self.new.sheet.tree) reply) }
+        requires { self.old.sheet.ended < most_calls }
+        ensures acts { IfOk result
+            (λ reply. IsMade self.old.kind (Some (limits_of self.old.sheet)) (map_by self.old.sheet.tree) call.now (map_by self.new.sheet.tree) reply) }
         ensures err { OnErr result (map_by self.new.sheet.tree ≡ map_by self.old.sheet.tree) }
         ensures kind { self.new.kind ≡ self.old.kind }
         ensures used { self.new.sheet.ended ≤ self.old.sheet.ended + 1 }

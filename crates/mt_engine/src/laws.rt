@@ -18,7 +18,8 @@ pub fn words_stand_for_a_map()
 
 /// The slot of an index has what the map has there: the range that holds it, or the whole hole around it.
 pub fn a_slot_has_what_the_map_has()
-    ensures { (t : Rooted) (kind : Kind) (index : ℕ) → IsTreeOf t kind → t.root ≢ 0 → index ≤ greatest t.table.width → IsSpanAt (map_by t) (greatest t.table.width) index (handle_in t index).span }
+    ensures { (t : Rooted) (kind : Kind) (index : ℕ) → IsTreeOf t kind
+        → t.root ≢ 0 → index ≤ greatest t.table.width → IsSpanAt (map_by t) (greatest t.table.width) index (handle_in t index).span }
 {}
 
 /// Batches of three ranges, 10 to 19, 20 to 29 and 40, below a greatest index of 99. A batch of no step leaves the walk. One of
@@ -27,7 +28,8 @@ pub fn a_slot_has_what_the_map_has()
 #[tactic(auto, unfolding(crate::specs::Batches::steps_from))]
 pub fn batches_are_so_many_steps()
     ensures none { steps_from three_ranges 99 0 (Some 15) ≡ record { found = []; next = Some 15 } }
-    ensures two { steps_from three_ranges 99 2 (Some 15) ≡ record { found = record { first = 10; last = 19; entry = 1 } ∷ record { first = 20; last = 29; entry = 2 } ∷ []; next = Some 30 } }
+    ensures two { steps_from three_ranges 99 2 (Some 15)
+        ≡ record { found = record { first = 10; last = 19; entry = 1 } ∷ record { first = 20; last = 29; entry = 2 } ∷ []; next = Some 30 } }
     ensures full { steps_from three_ranges 99 3 (Some 0) ≡ record { found = three_ranges; next = Some 41 } }
     ensures more { steps_from three_ranges 99 4 (Some 0) ≡ record { found = three_ranges; next = None } }
     ensures last { steps_from three_ranges 40 3 (Some 30) ≡ record { found = record { first = 40; last = 40; entry = 3 } ∷ []; next = None } }

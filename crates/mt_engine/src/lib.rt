@@ -7,8 +7,10 @@ mod calls;
 mod engine;
 mod heights;
 pub mod laws;
+mod leaf_steps;
 mod lists;
 mod mends;
+mod places;
 mod plans;
 mod prepared;
 mod queries;
@@ -18,4 +20,5 @@ mod store_by;
 mod stores;
 
 pub use engine::Engine;
+pub use places::RangePlace;
 pub use range_walk::RangeWalk;

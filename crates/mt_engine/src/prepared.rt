@@ -1,12 +1,13 @@
 //! Stores for which nodes were found free beforehand.
 
-ghost use Rattle.std.specs.Prelude.{◌≡◌, ◌+◌, ◌-◌, ◌^◌, ◌<◌, true};
+ghost use Rattle.std.specs.Prelude.{◌≡◌, ◌+◌, ◌<◌, true};
 ghost use Rattle.mt_base.specs.declared.calls.Call.TheVariants.{StorePre};
 ghost use Rattle.mt_engine.specs.Engine.{IsInCall, is_refusal};
 ghost use Rattle.mt_engine.specs.Heights.{HasHeight, IsMeasured};
 ghost use Rattle.mt_engine.specs.Prepared.{IsPrestored};
 ghost use Rattle.mt_engine.specs.Rooms.{HasRoom};
 ghost use Rattle.mt_engine.specs.Stores.{IsDoneByStore};
+ghost use Rattle.mt_base.specs.Limits.{most_calls};
 
 use crate::heights::height_after;
 use crate::plans::{Plan, plan_store};
@@ -63,7 +64,7 @@ pub fn store_prepared<R: Rows>(
 ) -> Reply
     requires measured { IsMeasured kind (R.sheet rows.old) book.old height.old }
     requires room { HasRoom (R.sheet rows.old).tree book.old }
-    requires few { (R.sheet rows.old).ended < 2 ^ 62 - 1 }
+    requires few { (R.sheet rows.old).ended < most_calls }
     ensures stored { IsPrestored kind (R.sheet rows.old) (R.sheet rows.new) book.old book.new (StorePre edit.first edit.last edit.entry) result }
     ensures measured { IsMeasured kind (R.sheet rows.new) book.new height.new }
 {

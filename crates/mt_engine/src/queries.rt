@@ -60,7 +60,8 @@ pub fn slot_from<R: Rows>(rows: &mut R, here: &Handle) -> Option<Handle>
     ensures handle { IfSome result (IsHandleOf (R.sheet rows.old).tree) }
     ensures unread { here.now.span.word ≢ 0 → R.sheet rows.new ≡ R.sheet rows.old }
     ensures near { here.now.span.last ≢ here.now.leaf.max → ReadsUpTo 2 (R.sheet rows.old) (R.sheet rows.new) }
-    ensures range { (index : ℕ) → index ≤ greatest (R.sheet rows.old).tree.table.width → here.now ≡ handle_in (R.sheet rows.old).tree index → range_at result ≡ nearest_from (map_by (R.sheet rows.old).tree) index }
+    ensures range { (index : ℕ) → index ≤ greatest (R.sheet rows.old).tree.table.width
+        → here.now ≡ handle_in (R.sheet rows.old).tree index → range_at result ≡ nearest_from (map_by (R.sheet rows.old).tree) index }
     ensures rest { OnlyReads (R.sheet rows.old) (R.sheet rows.new) }
 {
     if here.span.word != 0 {
@@ -73,7 +74,8 @@ pub fn slot_from<R: Rows>(rows: &mut R, here: &Handle) -> Option<Handle>
 pub fn nearest_from<R: Rows>(rows: &mut R, here: &Handle) -> Option<Range>
     requires tree { (kind : Kind) × IsTreeOf (R.sheet rows.old).tree kind }
     requires here { IsHandleOf (R.sheet rows.old).tree here.now }
-    ensures range { (index : ℕ) → index ≤ greatest (R.sheet rows.old).tree.table.width → here.now ≡ handle_in (R.sheet rows.old).tree index → result ≡ nearest_from (map_by (R.sheet rows.old).tree) index }
+    ensures range { (index : ℕ) → index ≤ greatest (R.sheet rows.old).tree.table.width
+        → here.now ≡ handle_in (R.sheet rows.old).tree index → result ≡ nearest_from (map_by (R.sheet rows.old).tree) index }
     ensures rest { OnlyReads (R.sheet rows.old) (R.sheet rows.new) }
 {
     let found = slot_from(rows, here)?;
@@ -84,7 +86,8 @@ pub fn nearest_from<R: Rows>(rows: &mut R, here: &Handle) -> Option<Range>
 fn nearest_up_to<R: Rows>(rows: &mut R, here: &Handle) -> Option<Range>
     requires tree { (kind : Kind) × IsTreeOf (R.sheet rows.old).tree kind }
     requires here { IsHandleOf (R.sheet rows.old).tree here.now }
-    ensures range { (index : ℕ) → index ≤ greatest (R.sheet rows.old).tree.table.width → here.now ≡ handle_in (R.sheet rows.old).tree index → result ≡ nearest_up_to (map_by (R.sheet rows.old).tree) index }
+    ensures range { (index : ℕ) → index ≤ greatest (R.sheet rows.old).tree.table.width
+        → here.now ≡ handle_in (R.sheet rows.old).tree index → result ≡ nearest_up_to (map_by (R.sheet rows.old).tree) index }
     ensures rest { OnlyReads (R.sheet rows.old) (R.sheet rows.new) }
 {
     if here.span.word != 0 {

@@ -67,7 +67,7 @@ fn slot_next<R: Rows>(rows: &mut R, walk: &RangeWalk) -> Option<Handle>
 
 /// The slot of the range that comes next.
 #[inline(always)]
-fn slot_found<R: Rows>(rows: &mut R, walk: &RangeWalk) -> Option<Handle>
+pub(crate) fn slot_found<R: Rows>(rows: &mut R, walk: &RangeWalk) -> Option<Handle>
     requires tree { (kind : Kind) × IsTreeOf (R.sheet rows.old).tree kind }
     requires walk { WalksFrom (R.sheet rows.old).tree walk.now }
     ensures handle { IfSome result (IsHandleOf (R.sheet rows.old).tree) }
@@ -90,6 +90,17 @@ fn index_behind(width: Width, given: &Handle) -> Option<u64>
         return None;
     }
     Some(last + 1)
+}
+
+/// A walk that returned this slot last.
+pub(crate) fn walk_after(width: Width, given: Handle) -> RangeWalk
+    requires { given.span.last ≤ greatest width }
+    ensures { result ≡ record { next = index_behind (greatest width) (range_at (Some given)); last = Some given } }
+{
+    RangeWalk {
+        next: index_behind(width, &given),
+        last: Some(given),
+    }
 }
 
 /// The first range at the walk's index or above; the walk then goes on after it. A slot of a leaf is loaded once, and a leaf is

@@ -1,6 +1,6 @@
 //! Stores into a tree: by no word, by one word, or by new nodes.
 
-ghost use Rattle.std.specs.Prelude.{◌≡◌, ◌≢◌, ◌+◌, ◌-◌, ◌^◌, ◌<◌, IfOk, IfErr, false, true};
+ghost use Rattle.std.specs.Prelude.{◌≡◌, ◌≢◌, ◌+◌, ◌<◌, IfOk, IfErr, false, true};
 ghost use Rattle.mt_base.specs.declared.kinds.Kind.{Kind};
 ghost use Rattle.mt_base.specs.declared.calls.Call.TheVariants.{Store};
 ghost use Rattle.mt_base.specs.declared.replies.Reply.TheVariants.{NoNodes};
@@ -15,6 +15,7 @@ ghost use Rattle.mt_engine.specs.Engine.{IsInCall, EndsAnswered, ChangesEntry};
 ghost use Rattle.mt_engine.specs.Heights.{SameHeight};
 ghost use Rattle.mt_engine.specs.Plans.{IsStorePlan};
 ghost use Rattle.mt_engine.specs.Stores.{HasRoomFor, IsDoneByStore, wants_by};
+ghost use Rattle.mt_base.specs.Limits.{most_calls};
 
 use crate::heights::is_root;
 use crate::mends::mend_at;
@@ -65,7 +66,8 @@ pub fn store_at_hand<R: Rows>(
     requires plan { IsStorePlan kind (R.sheet rows.old).tree event.now.call.now path.now.items write.now event.now.reply.now }
     requires room { HasRoomFor kind (R.sheet rows.old) book.old event.now.call.now }
     ensures stored { IsDoneByStore kind (R.sheet rows.old) (R.sheet rows.new) book.old book.new event.now.call.now event.now.reply.now }
-    ensures exact { let edit = write.now.edit in is_exact_store (map_by (R.sheet rows.old).tree) edit.first edit.last edit.entry ≡ true → ChangesEntry (R.sheet rows.old).tree (R.sheet rows.new).tree (R.sheet rows.old).lives (R.sheet rows.new).lives book.old book.new edit.first edit.entry }
+    ensures exact { let edit = write.now.edit in is_exact_store (map_by (R.sheet rows.old).tree) edit.first edit.last edit.entry ≡ true → ChangesEntry
+        (R.sheet rows.old).tree (R.sheet rows.new).tree (R.sheet rows.old).lives (R.sheet rows.new).lives book.old book.new edit.first edit.entry }
     ensures height { result ≡ false → SameHeight (R.sheet rows.old).tree (R.sheet rows.new).tree }
 {
     match write.by {
@@ -94,11 +96,13 @@ pub fn store<R: Rows>(
 ) -> Result<bool, Shortage>
     requires in_call { IsInCall kind (R.sheet rows.old) book.old }
     requires number { event.now.number ≡ (R.sheet rows.old).ended + 1 }
-    requires few { (R.sheet rows.old).ended < 2 ^ 62 - 1 }
+    requires few { (R.sheet rows.old).ended < most_calls }
     requires unscanned { (R.sheet rows.old).scans ≡ 0 }
     requires plan { IsStorePlan kind (R.sheet rows.old).tree event.now.call.now path.now.items write.now event.now.reply.now }
     ensures done { IfOk result (λ _. EndsAnswered kind (R.sheet rows.old) (R.sheet rows.new) book.old book.new event.now.call.now event.now.reply.now) }
-    ensures exact { let edit = write.now.edit in IfOk result (λ _. event.now.call.now ≡ Store edit.first edit.last edit.entry → is_exact_store (map_by (R.sheet rows.old).tree) edit.first edit.last edit.entry ≡ true → ChangesEntry (R.sheet rows.old).tree (R.sheet rows.new).tree (R.sheet rows.old).lives (R.sheet rows.new).lives book.old book.new edit.first edit.entry) }
+    ensures exact { let edit = write.now.edit in IfOk result (λ _. event.now.call.now ≡ Store edit.first edit.last edit.entry
+        → is_exact_store (map_by (R.sheet rows.old).tree) edit.first edit.last edit.entry ≡ true → ChangesEntry (R.sheet rows.old).tree
+        (R.sheet rows.new).tree (R.sheet rows.old).lives (R.sheet rows.new).lives book.old book.new edit.first edit.entry) }
     ensures height { IfOk result (λ is_new_root. is_new_root ≡ false → SameHeight (R.sheet rows.old).tree (R.sheet rows.new).tree) }
     ensures short { IfErr result (λ shortage. EndsAnswered kind (R.sheet rows.old) (R.sheet rows.new) book.old book.new event.now.call.now (NoNodes shortage)) }
 {

@@ -5,7 +5,7 @@ use Rattle.mt_engine.proofs.Finding.{store_is_no_search, success_is_not_busy, sh
 use Rattle.mt_engine.proofs.Leaving.{leaves}
 use Rattle.mt_engine.proofs.Measured.{empty_height}
 use Rattle.mt_engine.proofs.Moments.{in_call_if_read, unscanned_if_read, answered_after_reads, tree_if_lawful}
-use Rattle.mt_engine.proofs.ReadAfter.{answered_before_reads, refusal_stays, stores_exactly}
+use Rattle.mt_engine.proofs.ReadAfter.{answered_before_reads, high_then, refusal_stays, stores_exactly}
 use Rattle.mt_engine.proofs.calls.perform.Goals as goal
 
 pub plan_of-requires-clause-tree : goal.plan_of-requires-clause-tree
@@ -75,13 +75,12 @@ returns-in-Ok g c =
 pub returns-in-Err : goal.returns-in-Err
 returns-in-Err g c =
     let s = g.R.Rows.sheet c.args.rows.now in
-    let plan = subst (IsPlan c.args.kind s.tree c.args.call.now c.plan_of.new.path.items) c.in-Store.is c.plan_of.ensures.plan in
     record {
       height =
           subst (λ (t : Rooted). HasHeight t c.args.height.now)
           (sym (refusal_stays c.args.kind (g.R.Rows.sheet c.plan_of.new.rows) (g.R.Rows.sheet c.store.new.rows) c.args.book.now c.store.new.book c.args.call.now (NoNodes c.in-Err.shortage) refl c.in-Err.ensures.short.answer ∙ same_tree s (g.R.Rows.sheet c.plan_of.new.rows) c.plan_of.ensures.rest)) c.requires.height;
       answered = answered_after_reads c.args.kind s (g.R.Rows.sheet c.plan_of.new.rows) (g.R.Rows.sheet c.store.new.rows) c.args.book.now c.store.new.book c.args.call.now (NoNodes c.in-Err.shortage) c.plan_of.ensures.rest c.in-Err.ensures.short;
-      search = λ only. absurd (store_is_no_search (map_by s.tree) c.args.call.now c.in-Store.write.edit.first c.in-Store.write.edit.last c.in-Store.write.edit.entry (NoNodes c.in-Err.shortage) plan.own (shortage_is_not_busy c.in-Err.shortage) only);
+      search = λ only. absurd (store_is_no_search (map_by s.tree) c.args.call.now c.in-Store.write.edit.first c.in-Store.write.edit.last c.in-Store.write.edit.entry (NoNodes c.in-Err.shortage) (subst (IsPlan c.args.kind s.tree c.args.call.now c.plan_of.new.path.items) c.in-Store.is c.plan_of.ensures.plan).own (shortage_is_not_busy c.in-Err.shortage) only);
       exact = λ first last entry is over success. absurd (not_both true refl success);
     }
 
@@ -92,7 +91,4 @@ height_after-requires-clause-tree g c = (c.args.kind, tree_if_lawful (g.R.Rows.s
 
 pub height_after-requires-clause-stays : goal.height_after-requires-clause-stays
 height_after-requires-clause-stays g c =
-    λ old.
-    c.requires.height
-    ∙ (sym (ap (λ (t : Rooted). height_in t.table t.root) (same_tree (g.R.Rows.sheet c.args.rows.now) (g.R.Rows.sheet c.plan_of.new.rows) c.plan_of.ensures.rest))
-    ∙ sym (c.in-Ok.ensures.height old))
+    λ old. high_then (g.R.Rows.sheet c.args.rows.now) (g.R.Rows.sheet c.plan_of.new.rows) (g.R.Rows.sheet c.store.new.rows) _ c.requires.height c.plan_of.ensures.rest (c.in-Ok.ensures.height old)

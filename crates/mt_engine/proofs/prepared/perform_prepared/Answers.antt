@@ -1,7 +1,7 @@
 use Rattle.mt_engine.proofs.Prelude.{sym, ap, ◌∙◌, subst, StorePre, Rooted, height_in, Nothing, IsPlan, IsStorePlan, HasRoom, same_tree}
 use Rattle.mt_engine.proofs.Leaving.{stays_stored}
 use Rattle.mt_engine.proofs.Moments.{tree_in_call, in_call_if_read, tree_if_lawful}
-use Rattle.mt_engine.proofs.ReadAfter.{stored_after_reads, stored_before_reads}
+use Rattle.mt_engine.proofs.ReadAfter.{high_then, stored_after_reads, stored_before_reads}
 use Rattle.mt_engine.proofs.prepared.perform_prepared.Goals as goal
 
 pub plan_store-requires-clause-tree : goal.plan_store-requires-clause-tree
@@ -26,10 +26,7 @@ height_after-requires-clause-tree g c =
 
 pub height_after-requires-clause-stays : goal.height_after-requires-clause-stays
 height_after-requires-clause-stays g c =
-    λ old.
-    c.requires.height
-    ∙ (sym (ap (λ (t : Rooted). height_in t.table t.root) (same_tree (g.R.Rows.sheet c.args.rows.now) (g.R.Rows.sheet c.plan_store.new.rows) c.plan_store.ensures.rest))
-    ∙ sym (c.store_at_hand-is_new_root.ensures.height old))
+    λ old. high_then (g.R.Rows.sheet c.args.rows.now) (g.R.Rows.sheet c.plan_store.new.rows) (g.R.Rows.sheet c.store_at_hand-is_new_root.new.rows) _ c.requires.height c.plan_store.ensures.rest (c.store_at_hand-is_new_root.ensures.height old)
 
 pub returns-in-Store-clause-stored : goal.returns-in-Store-clause-stored
 returns-in-Store-clause-stored g c =

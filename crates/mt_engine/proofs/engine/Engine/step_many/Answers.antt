@@ -1,4 +1,4 @@
-use Rattle.mt_engine.proofs.Prelude.{ap, ◌∙◌, length, greatest, map_by, Parts, put_first, steps_from}
+use Rattle.mt_engine.proofs.Prelude.{ap, ◌∙◌, length, greatest, map, map_by, Parts, put_first, steps_from}
 use Rattle.mt_engine.proofs.Measured.{measured_if_read}
 use Rattle.mt_engine.proofs.engine.Engine.step_many.Goals as goal
 
@@ -8,7 +8,7 @@ invariant_of-self g c = measured_if_read c.self.inside.kind (g.R.Rows.sheet c.se
 pub returns-clause-ranges : goal.returns-clause-ranges
 returns-clause-ranges g c =
     let steps = λ (e : Parts). steps_from (map_by e.sheet.tree) (greatest e.sheet.tree.table.width) (length c.args.ranges.now) c.args.walk.now.next in
-    c.step_many.ensures.ranges ∙ ap (λ (e : Parts). put_first (steps e).found c.args.ranges.now) c.self.view_is
+    c.step_many.ensures.ranges ∙ ap (λ (e : Parts). put_first (map g.P.RangePlace.shows (steps e).found) c.args.ranges.now) c.self.view_is
 
 pub returns-clause-count : goal.returns-clause-count
 returns-clause-count g c =
