@@ -1,8 +1,8 @@
 -- How a call at work is answered: what lay behind the lock before it, and what it left there.
-use Rattle.mt_tree.proofs.Prelude.{◌≡◌, ℕ, ◌+◌, ◌*◌, ◌-◌, ◌/◌, ◌≤◌, ◌∷◌, ◌++◌, List, [], Bool, true, Option, take, length, sym, ap, ◌∙◌, subst, ⊎_elim, arith, take-append_seam, length-map, Call, Kind, Reply, acted, Record, IsShort, Wants, still_short, Parts, IsApplied, IsCarriedOut, IsShortFor, TellsBook, Book, after_reclaim, map_by, IsRealShortage, Rooted, Sheet, height_in, Pass, Shape, record_of, records_of, Identity, pass_in, Tools, Tree, Behind, behind_lock, opened, Acts, IsDecidedOrMade, LacksRows, LeavesRoom, WasAnsweredBy, AreBack}
+use Rattle.mt_tree.proofs.Prelude.{◌≡◌, ℕ, ◌+◌, ◌*◌, ◌-◌, ◌/◌, ◌≤◌, ◌∷◌, ◌++◌, List, [], Bool, true, false, Option, take, length, sym, ap, ◌∙◌, subst, ⊎_elim, arith, take-append_seam, length-map, Call, Kind, Reply, acted, Record, IsShort, Wants, still_short, Parts, IsApplied, IsCarriedOut, IsShortFor, is_refusal, TellsBook, Book, after_reclaim, map_by, IsRealShortage, Rooted, Sheet, height_in, Pass, Shape, record_of, records_of, Identity, pass_in, Tools, Tree, Behind, behind_lock, opened, Acts, IsDecidedOrMade, LacksRows, LeavesRoom, WasAnsweredBy, AreBack, AtWork}
 use Rattle.mt_base.specs.Passes as known
-use Rattle.mt_tree.proofs.AtWork.{AtWork, at_rest, count_is, rows_still, same_shape, shape_is, tree_is}
-use Rattle.mt_tree.proofs.Calling.{known_then, seen_then, tree_back}
+use Rattle.mt_tree.proofs.AtWork.{at_rest, count_is, rows_still, same_shape, shape_is, tree_is}
+use Rattle.mt_tree.proofs.Calling.{counted_at, known_then, seen_then, tree_back}
 
 module _ (t : Tree) (i : Identity) (b : Behind) (p : known.Pass) (e e' : Parts) (tools : Option Tools) (pass : Pass) (w : AtWork t i b p e) (back : AreBack t e' tools pass)
     (call : Call) (reply : Reply) where
@@ -56,15 +56,7 @@ module _ (t : Tree) (i : Identity) (b : Behind) (p : known.Pass) (e e' : Parts) 
     lacks_rows : LacksRows t b (behind_lock tools) e'.sheet.scan call reply
     lacks_rows = record {
       refused = record { shortage = short.refused.shortage; told = short.refused.told; wants = wants_behind short.refused.wants; short = is_short };
-      counted = subst (λ (x : Parts). IsRealShortage (record x.sheet { scan = e'.sheet.scan }) short.refused.shortage) (sym back.parts) (record {
-        need = short.counted.need;
-        live = short.counted.live;
-        rows = short.counted.rows;
-        many = short.counted.many;
-        apart = short.counted.apart;
-        held = short.counted.held;
-        by = short.counted.by;
-      });
+      counted = subst (λ (x : Parts). IsRealShortage (record x.sheet { scan = e'.sheet.scan }) short.refused.shortage) (sym back.parts) (counted_at e'.sheet short.refused.shortage short.counted);
       tells = tells;
       kept = tree_back t i b p e e' tools pass w back same;
     }
@@ -80,6 +72,9 @@ module _ (t : Tree) (i : Identity) (b : Behind) (p : known.Pass) (e e' : Parts) 
   module _ (applied : IsApplied e.kind e.sheet e'.sheet e.book e'.book call reply) where
     answer_of : IsDecidedOrMade t b (behind_lock tools) call reply
     answer_of = ⊎_elim did_answer (λ lacked. short_answer lacked.0 lacked.1) applied.answer
+
+    pub acts_behind : is_refusal reply ≡ false → Acts b (behind_lock tools) call reply
+    acts_behind done = ⊎_elim (λ carried. acts carried.acts) (λ lacked. absurd (let refused : is_refusal reply ≡ true = ap is_refusal lacked.0.refused.told in let clash : true ≡ false = sym refused ∙ done in cc)) applied.answer
 
     pub was_answered : WasAnsweredBy t (pass_in pass) b (behind_lock tools) call (record { call = length b.pen.history + 1; reply = reply })
     was_answered =

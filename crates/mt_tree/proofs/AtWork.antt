@@ -1,20 +1,8 @@
 -- A call at work: the rows that it begins with, and what they tell.
-use Rattle.mt_tree.proofs.Prelude.{◌≡◌, ℕ, ◌≤◌, ◌<◌, ◌∷◌, ◌++◌, [], Option, Some, None, length, refl, sym, ap, ◌∙◌, subst, arith, length-map, length-append, Badge, Call, Reply, History, last_map, with_records, Parts, sheet_told, shown_all, told_of, map_by, with_record, Rooted, Sheet, Told, Pass, PenPart, Shape, TurnView, most_calls, record_of, records_of, Identity, pass_in, turn_seat, WasShown, Tools, Tree, Behind, behind_lock, parts_of, IsAtRest, IsPenAtRest, limit_of, opened, passes_of, place_of, IsPassOf, records_told, shown_pass, IsSeatOf, IsWorker}
+use Rattle.mt_tree.proofs.Prelude.{◌≡◌, ℕ, ◌≤◌, ◌<◌, ◌∷◌, ◌++◌, [], Option, Some, None, length, refl, sym, ap, ◌∙◌, subst, arith, length-map, length-append, Badge, Call, Reply, History, last_map, with_records, Parts, sheet_told, shown_all, told_of, map_by, with_record, Rooted, Sheet, Told, Pass, PenPart, Shape, TurnView, record_of, records_of, Identity, pass_in, turn_seat, WasShown, Tools, Tree, Behind, behind_lock, parts_of, IsAtRest, IsPenAtRest, limit_of, opened, passes_of, place_of, IsPassOf, records_told, shown_pass, IsSeatOf, IsWorker, AtWork}
 use Rattle.mt_base.specs.Passes as known
 use Rattle.mt_tree.proofs.Reading.{map_is}
-
--- the tree's table is i, this lies behind its lock, and the rows with which a call of the pass begins are e
-pub record AtWork (t : Tree) (i : Identity) (b : Behind) (p : known.Pass) (e : Parts) : Type 0 where
-  pub place : i ≡ place_of t
-  pub shape : b.pen.shape ≡ i.shape
-  pub table : b.table ≡ place_of t
-  pub height : ℕ
-  pub kept : IsPenAtRest b.pen b.parts height
-  pub parts : b.parts ≡ parts_of b.pen b.parts.book
-  pub kind : e.kind ≡ b.parts.kind
-  pub book : e.book ≡ b.parts.book
-  pub sheet : e.sheet ≡ sheet_told i b.pen (shown_pass b.pen p)
-  pub shown : WasShown (opened t) b.pen p (shown_pass b.pen p)
+use Rattle.mt_base.specs.Limits.{most_calls}
 
 -- the seat of the pass that works
 pub seat_of : (t : Tree) (p : Pass) (turn : Badge TurnView) → turn ≡ turn_seat p → IsPassOf t p → IsSeatOf t turn

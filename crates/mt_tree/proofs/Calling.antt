@@ -1,10 +1,14 @@
 -- A call at work was made by its pass, and the rows that a read saw lie behind the lock again.
-use Rattle.mt_tree.proofs.Prelude.{◌≡◌, ◌≢◌, ℕ, ◌+◌, ◌/◌, ◌≤◌, ◌<◌, ◌∷◌, ◌++◌, List, [], Bool, true, false, Option, Some, None, length, refl, sym, ap, ◌∙◌, subst, inl, inr, arith, ◌↔◌, IfErr, IfSome, IsOk, Result, Ok, Err, if◌then◌else◌, append-nil, length-map, length-append, Call, StorePre, Query, Kind, Range, Holder, Reply, Shortage, acted, answer, is_invalid, replied, Record, first_met, over, IsShort, Saw, Read, Wrote, places, holder_of, saw_wrote, still_short, Parts, DidOrLacked, IsEnded, TellsBook, is_refusal, HasRoom, IsScanned, IsShortOf, Book, after_reclaim, unscanned, map_by, IsRealShortage, OnlyReads, Rooted, Sheet, Pass, Shape, record_of, records_of, pen_sheet, Identity, pass_in, places_last, Tools, Tree, Behind, behind_lock, IsOnlyRead, IsReady, IsStoreReply, IsLeastBy, map_seen, opened, passes_of, place_of, IsShortNow, NamesPass, WasPrepared, pass_of_told, shown_pass, AreBack}
+use Rattle.mt_tree.proofs.Prelude.{◌≡◌, ◌≢◌, ℕ, ◌+◌, ◌/◌, ◌≤◌, ◌<◌, ◌∷◌, ◌++◌, List, [], Bool, true, false, Option, Some, None, length, refl, sym, ap, ◌∙◌, subst, inl, inr, arith, ◌↔◌, IfErr, IfSome, IsOk, Result, Ok, Err, if◌then◌else◌, append-nil, length-map, length-append, Call, StorePre, Query, Kind, Range, Holder, Reply, Shortage, acted, answer, is_invalid, replied, Record, first_met, over, IsShort, Saw, Read, Wrote, places, holder_of, saw_wrote, still_short, Parts, DidOrLacked, IsEnded, TellsBook, is_refusal, HasRoom, IsScanned, IsShortOf, Book, after_reclaim, unscanned, map_by, IsRealShortage, OnlyReads, Rooted, Sheet, Pass, Shape, record_of, records_of, pen_sheet, Identity, pass_in, places_last, Tools, Tree, Behind, behind_lock, IsOnlyRead, IsReady, IsStoreReply, IsLeastBy, map_seen, opened, passes_of, place_of, IsShortNow, NamesPass, WasPrepared, pass_of_told, shown_pass, AreBack, AtWork}
 use Rattle.mt_base.specs.declared.replies.Reply.TheVariants as replies
 use Rattle.mt_base.specs.Passes as known
-use Rattle.mt_tree.proofs.AtWork.{AtWork, at_rest, count_is, passes_is, told_at, told_is, told_after, told_more, tree_is, map_shown, shape_is, same_parts, same_shape}
+use Rattle.mt_tree.proofs.AtWork.{at_rest, count_is, passes_is, told_at, told_is, told_after, told_more, tree_is, map_shown, shape_is, same_parts, same_shape}
 use Rattle.mt_tree.proofs.NoShortage.{applied_among, applied_other, made_named, named_if, scan_among, scan_other, IsAmong, IsOther}
 use Rattle.mt_tree.proofs.Reading.{asked}
+
+-- a shortage is that of the rows without scans, of no caller
+pub counted_at : (s : Sheet) (shortage : Shortage) → IsRealShortage s shortage → IsRealShortage (record (unscanned s) { told = None; scan = s.scan }) shortage
+counted_at s shortage c = record { need = c.need; live = c.live; rows = c.rows; many = c.many; apart = c.apart; held = c.held; by = c.by }
 
 -- the rows without scans, of no caller
 abbrev bare : Parts → Parts
@@ -189,15 +193,7 @@ module _ (t : Tree) (i : Identity) (b : Behind) (p : known.Pass) (e e' : Parts) 
         record {
           short = still_short (opened t).rows e'.sheet.opened (length (opened t).opening / 2 + 2) e'.sheet.ended (length q.seen) true (map_seen t q) shortage small (omega (arith, calls)) sized;
           prepared = was_prepared;
-          counted = subst (λ (x : Parts). IsRealShortage (record x.sheet { scan = e'.sheet.scan }) shortage) (sym back.parts) (record {
-            need = is.counted.need;
-            live = is.counted.live;
-            rows = is.counted.rows;
-            many = is.counted.many;
-            apart = is.counted.apart;
-            held = is.counted.held;
-            by = is.counted.by;
-          });
+          counted = subst (λ (x : Parts). IsRealShortage (record x.sheet { scan = e'.sheet.scan }) shortage) (sym back.parts) (counted_at e'.sheet shortage is.counted);
           tells = subst (λ (x : Parts). TellsBook x.book shortage) (sym back.parts) is.tells;
           by = λ closed.
               let mine : q.number ≡ p.number = ap (λ (x : known.Pass). x.number) pass in

@@ -1,10 +1,11 @@
 -- What is told of the words behind the lock: their form, their image, how many rows they have, and of a copy.
-use Rattle.mt_tree.proofs.Prelude.{◌≡◌, ◌≢◌, ◌↔◌, ℕ, List, Some, None, length, refl, sym, ap, ◌∙◌, subst, ◌≤◌, ◌<◌, Result, Ok, Err, Kind, Range, Rooted, Sheet, OnlyReads, reached_in, tree_as, map_by, IsLawfulOf, Book, live_count, IsIdle, Parts, HasHeight, Tree, Behind, Field, first_bad, IsImageOf, IsImageOfMap, image_of_map, few_reached, DupError, live_rows, AreWordsOf, IsCopyCounted, IsForNodes, IsFormOf, IsImageIn, IsLiveCounted, IsReadyToOpen, IsRefusal, IsRowCount, opened, Form, form_of, idle_if_read, Identity}
+use Rattle.mt_tree.proofs.Prelude.{◌≡◌, ◌≢◌, ◌↔◌, ℕ, List, Some, None, length, refl, sym, ap, ◌∙◌, subst, ◌≤◌, ◌<◌, Result, Ok, Err, Kind, Range, Rooted, Sheet, OnlyReads, reached_in, map_by, IsLawfulOf, Book, live_count, IsIdle, Parts, HasHeight, Tree, Behind, Field, first_bad, IsImageOf, IsImageOfMap, image_of_map, DupError, AreWordsOf, IsForNodes, IsLiveCounted, IsReadyToOpen, IsRefusal, opened, idle_if_read, Identity, AtWork, Option, Pass, Tools, AreBack, LookedBehind, pass_in, steps_made, turn_seat, map_seen, behind_lock}
 use Rattle.mt_base.specs.Passes as known
 use Rattle.mt_tree.proofs.Copying.{live_reached}
 use Rattle.mt_tree.specs.declared.shapes.Shape.{Shape}
 use Rattle.mt_tree.specs.declared.shapes.DupError.TheVariants as errors
-use Rattle.mt_tree.proofs.AtWork.{AtWork, kind_still, rows_still, tree_is}
+use Rattle.mt_tree.proofs.AtWork.{kind_still, rows_still, tree_is}
+use Rattle.mt_tree.proofs.Calling.{map_still, only_read, saw_all, seen_still}
 
 -- ---- rows that were only read
 
@@ -36,48 +37,29 @@ module _ (t : Tree) (i : Identity) (b : Behind) (p : known.Pass) (e : Parts) (w 
         map = ap map_by (sym tree) ∙ all;
       }
 
-  module _ (read : Sheet) (taken : read ≡ e.sheet) where
-    read_is : read.tree ≡ b.parts.sheet.tree
-    read_is = ap (λ (s : Sheet). s.tree) taken ∙ tree_is t i b p e w
-
-    pub form_behind : (kind : Kind) (form : Form) → kind ≡ (opened t).kind → form ≡ form_of (tree_as kind read.tree) → form ≡ form_of (tree_as (opened t).kind b.parts.sheet.tree)
-    form_behind kind form same is = is ∙ (λ k. form_of (tree_as (same k) (read_is k)))
-
-    pub image_behind : (kind : Kind) (bytes : List ℕ) → kind ≡ (opened t).kind → IsImageOf kind read.tree bytes → IsImageOf (opened t).kind b.parts.sheet.tree bytes
-    image_behind kind bytes same image = subst (λ (x : Kind × Rooted). IsImageOf x.0 x.1 bytes) (λ k. (same k, read_is k)) image
-
-    pub live_behind : (live : ℕ) → live ≡ live_rows read.tree → live ≡ live_rows b.parts.sheet.tree
-    live_behind live is = is ∙ ap live_rows read_is
+-- a call at work has only read
+module _ (t : Tree) (i : Identity) (b : Behind) (e e' : Parts) (tools : Option Tools) (p q : Pass) (w : AtWork t i b (pass_in p) e) (back : AreBack t e' tools q) where
+  pub looked : OnlyReads e.sheet e'.sheet → e'.book ≡ e.book → e'.kind ≡ e.kind → steps_made q ≡ steps_made p → turn_seat q ≡ turn_seat p → LookedBehind t b (behind_lock tools) p q
+  looked reads book kind steps turn =
+      let told : e'.sheet.told ≡ e.sheet.told = ap (λ (s : Sheet). s.told) reads in
+      record {
+        state = only_read t i b (pass_in p) e e' tools q w back reads book kind;
+        of = back.pass;
+        rests = record { steps = steps; turn = turn };
+        seen = seen_still t i b (pass_in p) e e' tools q w back told;
+        saw = saw_all t i b (pass_in p) e e' tools q w back told;
+        words = words_behind t i b (pass_in p) e w (map_seen t (pass_in q)) (map_still t i b (pass_in p) e e' tools q w back told);
+      }
 
 -- ---- of the tree
 
-module _ (kind kind' : Kind) (rows rows' : ℕ) (m m' : List Range) (same : kind ≡ kind') (many : rows ≡ rows') (all : m ≡ m') where
-  pub ready_there : (wanted : ℕ) (s : Sheet) (book : Book) → IsReadyToOpen kind wanted m s book → IsReadyToOpen kind' wanted m' s book
-  ready_there wanted s book is = subst (λ (x : Kind × List Range). IsReadyToOpen x.0 wanted x.1 s book) (λ k. (same k, all k)) is
+pub ready_there : (kind kind' : Kind) (m m' : List Range) (wanted : ℕ) (s : Sheet) (book : Book) → kind ≡ kind' → m ≡ m' → IsReadyToOpen kind wanted m s book → IsReadyToOpen kind' wanted m' s book
+ready_there kind kind' m m' wanted s book same all is = subst (λ (x : Kind × List Range). IsReadyToOpen x.0 wanted x.1 s book) (λ k. (same k, all k)) is
 
 -- ---- what is told of words that are kept back
 
-pub form_known : (kind : Kind) (rows : ℕ) (m : List Range) (words : Rooted) (form : Form) → AreWordsOf kind rows m words → form ≡ form_of (tree_as kind words) → IsFormOf kind rows m form
-form_known kind rows m words form of is = record {
-  words = words;
-  of = of;
-  form_is = is;
-  ranges = ap (λ (f : Form). f.ranges) is ∙ ap length of.map;
-}
-
-pub image_known : (kind : Kind) (rows : ℕ) (m : List Range) (words : Rooted) (bytes : List ℕ) → AreWordsOf kind rows m words → IsImageOf kind words bytes → IsImageIn kind rows m bytes
-image_known kind rows m words bytes of image = record { words = words; of = of; image = image }
-
 pub map_imaged : (kind : Kind) (rows : ℕ) (m : List Range) (words : Rooted) (bytes : List ℕ) → AreWordsOf kind rows m words → IsImageOf kind words bytes → IsImageOfMap kind m bytes
 map_imaged kind rows m words bytes of image = subst (λ (x : List Range). IsImageOfMap kind x bytes) of.map (image_of_map kind words bytes image)
-
-pub count_known : (kind : Kind) (rows : ℕ) (m : List Range) (words : Rooted) (live : ℕ) → AreWordsOf kind rows m words → live ≡ live_rows words → IsRowCount kind rows m live
-count_known kind rows m words live of is = record {
-  words = words;
-  of = of;
-  live_is = is;
-  within = subst (λ (n : ℕ × ℕ). n.0 ≤ n.1) (λ k. (sym is k, of.many k)) (few_reached kind words of.lawful);
-}
 
 pub copy_ready : (kind : Kind) (t read : Rooted) (live wanted rows : ℕ) (s : Sheet) (book : Book) → read ≡ t → rows ≡ wanted → IsLawfulOf t kind
     → (live ≤ rows → (k : Kind) → IsLawfulOf read k → IsReadyToOpen k rows (map_by read) s book) → live ≤ wanted → IsReadyToOpen kind wanted (map_by t) s book
@@ -90,36 +72,6 @@ ready_for kind kind' m live rows wanted s book same many =
     subst (λ (x : Kind × ℕ). (live ≤ x.1 → IsReadyToOpen x.0 x.1 m s book) → live ≤ wanted → IsReadyToOpen kind' wanted m s book) (λ i. (same i, sym many i)) (λ copy. copy)
 
 -- ---- copies that were made, or refused
-
-module _ {X : Type 0} (kind : Kind) (rows : ℕ) (m : List Range) (wanted : ℕ) where
-  -- before a row was counted
-  abbrev IsUncounted : Result X DupError → Type 0
-  IsUncounted (Ok x) = ⊥
-  IsUncounted (Err (errors.NoNodes told live)) = ⊥
-  IsUncounted (Err errors.NoMemory) = Unit {0}
-  IsUncounted (Err errors.Invalid) = Unit {0}
-  IsUncounted (Err (errors.BadShape field)) = Unit {0}
-
-  pub uncounted : (made : Result X DupError) → IsUncounted made → IsCopyCounted kind rows m wanted made
-  uncounted (Ok x) not = absurd not
-  uncounted (Err (errors.NoNodes told live)) not = absurd not
-  uncounted (Err errors.NoMemory) not = record { live = 0; enough = λ ok. absurd (cc); few = λ told counted is. absurd (cc) }
-  uncounted (Err errors.Invalid) not = record { live = 0; enough = λ ok. absurd (cc); few = λ told counted is. absurd (cc) }
-  uncounted (Err (errors.BadShape field)) not = record { live = 0; enough = λ ok. absurd (cc); few = λ told counted is. absurd (cc) }
-
-  -- behind the count
-  pub counted_behind : (live : ℕ) (made : Result X DupError) → IsRowCount kind rows m live → IsLiveCounted live wanted made → IsCopyCounted kind rows m wanted made
-  counted_behind live made count counted = record {
-    live = live;
-    enough = λ ok. (count, counted.enough ok);
-    few = λ told other is. let lacks = counted.few told other is in (count, lacks.0, lacks.1, lacks.2);
-  }
-
-  pub refused_uncounted : (shape : Shape) (source : Kind) (e : DupError) → IsRefusal shape source (Some e) → IsCopyCounted {X = X} kind rows m wanted (Err e)
-  refused_uncounted shape source (errors.BadShape f) is = uncounted (Err (errors.BadShape f)) tt
-  refused_uncounted shape source errors.Invalid is = uncounted (Err errors.Invalid) tt
-  refused_uncounted shape source (errors.NoNodes told live) is = absurd is
-  refused_uncounted shape source errors.NoMemory is = absurd is
 
 -- a copy that was refused before a row was counted
 module _ {X : Type 0} (shape : Shape) (source : Kind) where

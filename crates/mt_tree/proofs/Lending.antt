@@ -1,7 +1,5 @@
 -- A tree that was lent is the same tree, of which its passes are; and one that is locked goes on from what its pass has seen.
-use Rattle.mt_tree.proofs.Prelude.{◌≡◌, ℕ, ◌+◌, ◌≤◌, List, Option, Result, Ok, Err, IfOk, IfErr, length, sym, ap, ◌∙◌, arith, subst, length-map, Seat, Record, Book, Rooted, Sheet, Pass, TurnView, record_of, records_of, pass_in, Done, Worn, Tree, Behind, after_show, AreWordsOf, IsReadyToOpen, map_seen, opened, IsOpen, IsPassOf, IsWorn, Rests, TriesOnce}
-use Rattle.mt_base.specs.Passes as known
-use Rattle.mt_tree.proofs.Trying.{tries_once}
+use Rattle.mt_tree.proofs.Prelude.{◌≡◌, ◌+◌, List, Option, Result, Ok, Err, IfOk, IfErr, length, sym, ap, ◌∙◌, arith, subst, length-map, Seat, Record, Pass, TurnView, record_of, records_of, pass_in, Done, Worn, Tree, Behind, after_show, IsOpen, IsPassOf, IsWorn}
 
 pub still_of : (t t' : Tree) (p : Pass) → t ≡ t' → IsPassOf t p → IsPassOf t' p
 still_of t t' p same of = subst (λ (x : Tree). IsPassOf x p) same of
@@ -17,16 +15,3 @@ pub none_since : (p q : Pass) (t : Tree) (b b' : Behind) (seat : Seat (Option Be
     → IfErr made (λ w. IsWorn t (pass_in p) w (pass_in q) × (b' ≡ after_show b)) → IfErr made (λ w. (pass_in q).seen ≡ (pass_in p).seen)
 none_since p q t b b' seat (Ok d) here seen is = tt
 none_since p q t b b' seat (Err w) here seen is = seen ∙ (ap (λ (x : Behind). records_of x.pen.history) is.1 ∙ sym here.seen)
-
--- ---- behind one call under the lock, which was then given back
-
-pub tried_there : (p q r s : Pass) → r ≡ s → TriesOnce p q → Rests q r → TriesOnce p s
-tried_there p q r s last tries rests = subst (TriesOnce p) last (tries_once p q r tries rests)
-
-module _ (t u : Tree) (a b : known.Pass) (locked : u ≡ t) (knows : a ≡ b) where
-  pub words_there : (words : Rooted) → AreWordsOf (opened u).kind (opened u).rows (map_seen u a) words → AreWordsOf (opened t).kind (opened t).rows (map_seen t b) words
-  words_there words of = subst (λ (x : Tree × known.Pass). AreWordsOf (opened x.0).kind (opened x.0).rows (map_seen x.0 x.1) words) (λ k. (locked k, knows k)) of
-
-  pub copy_there : (live wanted : ℕ) (copy : Sheet) (book : Book) → (live ≤ wanted → IsReadyToOpen (opened u).kind wanted (map_seen u a) copy book)
-      → live ≤ wanted → IsReadyToOpen (opened t).kind wanted (map_seen t b) copy book
-  copy_there live wanted copy book made enough = subst (λ (x : Tree × known.Pass). IsReadyToOpen (opened x.0).kind wanted (map_seen x.0 x.1) copy book) (λ k. (locked k, knows k)) (made enough)

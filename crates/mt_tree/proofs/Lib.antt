@@ -19,3 +19,7 @@ pub mod Showing
 mod Trying
 mod Overwriting
 mod Prelude
+mod Keeping
+pub mod RangeCounts
+pub mod Reserving
+pub mod RowsFor

@@ -1,6 +1,6 @@
 -- What is told of a tree that was looked at under its lock: how it uses its rows, the least epoch at which a section stood open,
 -- and the form and the image of its words.
-use Rattle.mt_tree.proofs.Prelude.{◌≡◌, ℕ, List, Option, None, Some, Result, IfOk, IfOk-weaker, length, min, sym, ap, refl, ◌∙◌, subst, length-map, Kind, Record, IsIdle, HasHeight, IsScanned, Book, live_count, Sheet, Rooted, Identity, Form, form_of, tree_as, IsImageOf, record_of, records_of, Tools, Stats, Look, Tree, Behind, behind_lock, IsAtRest, IsPenAtRest, AreWordsOf, LiesBehind, IsFormBehind, IsImageBehind, IsImagedBehind, IsLeastBy, IsLookAt, IsOldest, IsStatsOf, TellsRows, map_seen, opened, place_of, words_in}
+use Rattle.mt_tree.proofs.Prelude.{◌≡◌, ℕ, ◌≤◌, List, Option, None, Some, Result, IfOk, IfOk-weaker, length, min, sym, ap, refl, ◌∙◌, subst, length-map, Kind, Record, IsIdle, HasHeight, IsScanned, Book, live_count, Sheet, Identity, Shape, Form, form_of, tree_as, IsImageOf, few_reached, live_rows, record_of, records_of, Tools, Stats, Look, Tree, Behind, behind_lock, IsAtRest, IsPenAtRest, AreWordsOf, LiesBehind, IsFormBehind, IsImagedBehind, IsLeastBy, IsLookAt, IsOldest, IsStatsOf, TellsRows, map_seen, opened, place_of, words_in}
 use Rattle.std.specs.Global.{Global}
 use Rattle.std.specs.Prelude.{Vec}
 use Rattle.mt_base.specs.declared.memory.NoMemory.{NoMemory}
@@ -47,6 +47,13 @@ tells_rows tools s rows rest many all free live held height calls =
     }
 
 -- ---- what the lock protected when it was taken
+
+-- as many nodes were in use as the tree has, at the most
+pub looked_few : (t : Tree) (q : known.Pass) (look : Look) → IsLookAt t q look → live_rows (words_in look) ≤ (opened t).rows
+looked_few t q look at =
+    let few = few_reached look.took.value.parts.kind (words_in look) at.kept.idle.state.kept.lawful in
+    let many : (words_in look).rows ≡ (opened t).rows = at.kept.of.rows ∙ ap (λ (s : Shape). s.rows) at.shape in
+    subst (λ (n : ℕ). live_rows (words_in look) ≤ n) many few
 
 pub lies_there : (t : Tree) (tools : Option Tools) (b : Behind) → behind_lock tools ≡ b → IsAtRest tools → b.table ≡ place_of t → LiesBehind t (records_of b.pen.history) b
 lies_there t None b is rest table = absurd rest

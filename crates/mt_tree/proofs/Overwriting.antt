@@ -119,16 +119,10 @@ module _ {A : Type 0} (shows : Range → A) (s : Sheet) (kind : Kind) (tree : Is
   abbrev top : ℕ
   top = greatest here.table.width
 
-  rise : IsMapFrom 0 m
-  rise = (tree_map here kind tree).rise
-
-  within : AllByRecursion (λ (r : Range). r.last ≤ top) m
-  within = tree_within here kind tree
-
   begun_with : (next : Option ℕ) → next ≡ index_in top first → filter (begins_to last) (ranges_from m next) ≡ filter (overlaps first last) m
   begun_with next is = elim (cases_Bool (nat_le first top)) [
     | inl low ↦ (let at : next ≡ Some first = is ∙ ap (λ (b : Bool). if b then Some first else None) low in subst (λ (o : Option ℕ). filter (begins_to last) (ranges_from m o) ≡ filter (overlaps first last) m) (sym at) (met_from m first last))
-    | inr above ↦ (let at : next ≡ None = is ∙ ap (λ (b : Bool). if b then Some first else None) above in subst (λ (o : Option ℕ). filter (begins_to last) (ranges_from m o) ≡ filter (overlaps first last) m) (sym at) (sym (none_above m first last top within (leb-false first top above))))
+    | inr above ↦ (let at : next ≡ None = is ∙ ap (λ (b : Bool). if b then Some first else None) above in subst (λ (o : Option ℕ). filter (begins_to last) (ranges_from m o) ≡ filter (overlaps first last) m) (sym at) (sym (none_above m first last top (tree_within here kind tree) (leb-false first top above))))
   ]
 
   pub none_told : (walk : RangeWalk) → WalksFrom s.tree walk → walk.next ≡ index_in top first → AreTold shows s s walk first last met met 0
@@ -142,7 +136,7 @@ module _ {A : Type 0} (shows : Range → A) (s : Sheet) (kind : Kind) (tree : Is
     found_here o found = found ∙ ap (λ (t : Rooted). found_from (map_by t) (greatest t.table.width) walk.next) same
 
     more_here : (r : Range) → Some r ≡ found_from (map_by s'.tree) (greatest s'.tree.table.width) walk.next → ranges_from m walk.next ≡ r ∷ ranges_from m (index_behind top (Some r))
-    more_here r found = one_given m top rise within walk.next r told.walks.within (found_here (Some r) found)
+    more_here r found = one_given m top (tree_map here kind tree).rise (tree_within here kind tree) walk.next r told.walks.within (found_here (Some r) found)
 
     tells : told.ranges ≡ filter (overlaps first last) m → TellsMet shows (filter (overlaps first last) m) met met' count
     tells is = record {
@@ -157,7 +151,7 @@ module _ {A : Type 0} (shows : Range → A) (s : Sheet) (kind : Kind) (tree : Is
 
     -- the walk has ended
     pub all_told : None ≡ found_from (map_by s'.tree) (greatest s'.tree.table.width) walk.next → TellsMet shows (filter (overlaps first last) m) met met' count
-    all_told found = tells (none_left (ap (filter (begins_to last)) (none_given m top rise within walk.next told.walks.within (found_here None found))))
+    all_told found = tells (none_left (ap (filter (begins_to last)) (none_given m top (tree_map here kind tree).rise (tree_within here kind tree) walk.next told.walks.within (found_here None found))))
 
     -- they are fewer than 2 ^ 64
     pub few_told : count < 2 ^ 64
@@ -175,7 +169,7 @@ module _ {A : Type 0} (shows : Range → A) (s : Sheet) (kind : Kind) (tree : Is
         where
           kept_from : (o : Option ℕ) → IsMapFrom 0 (ranges_from m o)
           kept_from None = tt
-          kept_from (Some index) = kept_rise (λ (x : Range). nat_le index x.last) m 0 rise
+          kept_from (Some index) = kept_rise (λ (x : Range). nat_le index x.last) m 0 (tree_map here kind tree).rise
 
       module _ (walk' : RangeWalk) (next : walk'.next ≡ index_behind (greatest s'.tree.table.width) (Some r)) where
         next_here : walk'.next ≡ index_behind top (Some r)
@@ -225,7 +219,7 @@ none_met shows m first last count met met' above none same = rw (lt-leb first la
 
 -- ---- a store behind it
 
-saw_on : (tree : History) (p q r : known.Pass) → known.Saw tree p q → known.Saw tree q r → known.Saw tree p r
+pub saw_on : (tree : History) (p q r : known.Pass) → known.Saw tree p q → known.Saw tree q r → known.Saw tree p r
 saw_on tree p q r s u = record {
   seen = begins_on p.seen q.seen r.seen s.seen u.seen;
   pass = u.pass ∙ ap (λ (x : known.Pass). record x { seen = r.seen; ended = length r.seen }) s.pass;

@@ -58,7 +58,7 @@ pub use Rattle.mt_rule.proofs.Beginnings.{places_last}
 pub use Rattle.mt_rule.proofs.Moving.{shown_with}
 pub use Rattle.mt_rule.proofs.Returned.{come_back}
 pub use Rattle.mt_rule.proofs.Seating.{map_set_same}
-pub use Rattle.mt_rule.specs.Limits.{most_calls}
+pub use Rattle.mt_base.specs.Limits.{most_calls}
 pub use Rattle.mt_rule.specs.Places.{AreOpening, first_row_column, root_at}
 pub use Rattle.mt_rule.specs.Rule.{IsOneHistory}
 pub use Rattle.mt_rule.specs.Seats.{known_by, least_number, new_pen, opening_life, record_of, rooted_in}
@@ -70,20 +70,20 @@ pub use Rattle.mt_ids.specs.Allocation.{IsNextCall}
 pub use Rattle.mt_tree.specs.Allocations.{allocation_of, is_alone, last_made}
 pub use Rattle.mt_tree.specs.Behind.{AreRowsOf, Behind, IsAtRest, IsOnlyRead, IsPenAtRest, IsReady, IsStoreReply, after_show, behind_lock, parts_of}
 pub use Rattle.mt_tree.specs.Calls.{HasCalled}
-pub use Rattle.mt_tree.specs.Copies.{AreWordsOf, IsCopyCounted, IsForNodes, IsFormOf, IsImageIn, IsLiveCounted, IsReadyToOpen, IsRefusal, IsRowCount, live_rows}
+pub use Rattle.mt_tree.specs.Copies.{AreWordsOf, IsForNodes, IsLiveCounted, IsReadyToOpen, IsRefusal, live_rows}
 pub use Rattle.mt_tree.specs.Looks.{IsFormBehind, IsImageBehind, IsImagedBehind, IsLeastBy, IsLookAt, IsOldest, IsStatsOf, TellsRows, words_in}
 pub use Rattle.mt_tree.specs.Meeting.{AreShown, HaveMet, Shown}
 pub use Rattle.mt_tree.specs.Prelude.{Book, Call, Form, HasHeight, HasRoom, History, Holder, Identity, IsIdle, IsImageOf, IsLawfulOf, IsRealShortage, IsScanOf, IsSeatedAt, IsShort, Kind, Moment, Parts, Pass, PenPart, Query, Range, Record, Reply, Rooted, Shape, Sheet, Shortage, TellsBook, Told, TurnView, Wants, WasShown, Wrote, acted, after_reclaim, form_of, holder_of, identity_of, identity_of_pen, kind_width, last_map, limits_after, map_by, new_pass, pass_in, pen_in, pen_joined, pen_sheet, reached_in, records_of, table_size, tree_as, tree_in, tree_of, tried, turn_seat, unscanned, with_records}
 pub use Rattle.mt_tree.specs.Shapes.{first_bad}
 pub use Rattle.mt_tree.specs.Trees.{Acts, AreAll, IsDecidedOrMade, IsNew, IsOpen, IsPassOf, IsShortNow, IsWorn, LacksRows, LeavesRoom, LiesBehind, NamesPass, Rests, TriesOnce, WasAnsweredBy, WasPrepared, limit_of, map_seen, opened, passes_of, place_of, seen_by}
 pub use Rattle.mt_tree.specs.Tries.{WasMade, first_tried}
-pub use Rattle.mt_tree.specs.Works.{AreBack, IsSeatOf, IsWorker, pass_of_told, records_told, shown_pass}
+pub use Rattle.mt_tree.specs.Works.{AreBack, AtWork, IsSeatOf, IsWorker, LookedBehind, pass_of_told, records_told, shown_pass}
 pub use Rattle.mt_tree.specs.Zeros.{AreZero}
 pub use Rattle.mt_tree.specs.declared.behind.Tools.{Tools}
-pub use Rattle.mt_tree.specs.declared.shapes.Done.{Done}
+pub use Rattle.mt_base.specs.declared.outcomes.Done.{Done}
 pub use Rattle.mt_tree.specs.declared.shapes.DupError.{DupError}
 pub use Rattle.mt_tree.specs.declared.shapes.Field.{Field}
 pub use Rattle.mt_tree.specs.declared.receipts.Look.{Look}
 pub use Rattle.mt_tree.specs.declared.shapes.Stats.{Stats}
-pub use Rattle.mt_tree.specs.declared.shapes.Worn.{Worn}
+pub use Rattle.mt_base.specs.declared.outcomes.Worn.{Worn}
 pub use Rattle.mt_tree.specs.declared.trees.Tree.{Tree}

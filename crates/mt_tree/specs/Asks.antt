@@ -5,7 +5,7 @@ use Rattle.std.specs.Prelude.{◌≡◌, ℕ}
 use Rattle.mt_tree.specs.Prelude.{Kind, greatest_of, Query, Load, Find, Next, Prev, Rfind}
 use Rattle.mt_tree.specs.declared.cursors.Cursor.{Cursor}
 use Rattle.mt_tree.specs.Trees.{pass_in}
-pub use Rattle.mt_read.specs.Cursors.{HasStepped, opened_with, place_behind, query_at}
+pub use Rattle.mt_read.specs.Cursors.{HasStepped, opened_with}
 
 abbrev pub IsForNeighbour : Query → Type 0
 IsForNeighbour (Load index) = ⊥

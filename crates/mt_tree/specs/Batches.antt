@@ -3,8 +3,8 @@
 use Rattle.std.specs.Prelude.{◌≡◌, ℕ, ◌+◌, ◌<◌, List, [], ◌∷◌, Ok, length, map}
 use Rattle.mt_tree.specs.Prelude.{Call}
 use Rattle.mt_base.specs.Passes as known
-use Rattle.mt_tree.specs.declared.shapes.Done.{Done}
-use Rattle.mt_tree.specs.declared.shapes.Worn.{Worn}
+use Rattle.mt_base.specs.declared.outcomes.Done.{Done}
+use Rattle.mt_base.specs.declared.outcomes.Worn.{Worn}
 use Rattle.mt_tree.specs.declared.trees.Tree.{Tree}
 use Rattle.mt_tree.specs.Trees.{opened, limit_of}
 use Rattle.mt_tree.specs.Tries.{WasMade}

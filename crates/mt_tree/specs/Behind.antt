@@ -1,7 +1,7 @@
 -- What the lock of a tree protects: its pen (the writer's capability), and the book (node allocator) of its table. The table's
 -- words represent the map after all calls.
 -- Source: this project's own; the kernel's ma_lock guards the whole tree.
-use Rattle.std.specs.Prelude.{◌≡◌, ◌⊎◌, ℕ, ◌+◌, ◌/◌, ◌≤◌, Option, Some, None, List, length}
+use Rattle.std.specs.Prelude.{◌≡◌, ◌⊎◌, ℕ, ◌+◌, ◌/◌, ◌≤◌, Option, Some, None, IfSome, List, length}
 use Rattle.mt_tree.specs.Prelude.{Reply, last_map, Parts, IsIdle, HasHeight, HasRoom, Book, new_book, no_table, map_by, Moment, PenPart, Shape, no_pen, pen_joined, records_of, pen_sheet, tree_of, Identity, IsAlone, identity_of_pen, pen_in}
 use Rattle.mt_base.specs.declared.replies.Reply.TheVariants as replies
 use Rattle.mt_tree.specs.declared.behind.Tools.{Tools}
@@ -43,6 +43,10 @@ pub record IsPenAtRest (p : PenPart) (e : Parts) (height : ℕ) : Type 0 where
 abbrev pub IsAtRest : Option Tools → Type 0
 IsAtRest (Some t) = IsAlone t.pen × IsPenAtRest (pen_in t.pen) (parts_of (pen_in t.pen) t.book) t.height
 IsAtRest None = ⊥
+
+-- how many ranges there are, if that is known
+abbrev pub IsCounted : Option ℕ → Behind → Type 0
+IsCounted ranges b = IfSome ranges (λ n. n ≡ length (map_by b.parts.sheet.tree))
 
 -- what the lock protects when a handle was shown the history: no section word was loaded since
 abbrev pub after_show : Behind → Behind

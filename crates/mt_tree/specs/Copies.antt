@@ -30,21 +30,8 @@ pub record IsImageIn (kind : Kind) (rows : ℕ) (m : List Range) (bytes : List �
   pub of : AreWordsOf kind rows m words
   pub image : IsImageOf kind words bytes
 
--- So many nodes are in use in such words, and no more than the tree has.
-pub record IsRowCount (kind : Kind) (rows : ℕ) (m : List Range) (live : ℕ) : Type 0 where
-  pub words : Rooted
-  pub of : AreWordsOf kind rows m words
-  pub live_is : live ≡ live_rows words
-  pub within : live ≤ rows
-
--- The copy was made only if the wanted number of nodes is enough for those in use. It was refused because nodes are short only
--- if it is not, and the error then has both numbers.
-pub record IsCopyCounted {X : Type 0} (kind : Kind) (rows : ℕ) (m : List Range) (wanted : ℕ) (made : Result X DupError) : Type 0 where
-  pub live : ℕ
-  pub enough : IsOk made → IsRowCount kind rows m live × (live ≤ wanted)
-  pub few : (told counted : ℕ) → made ≡ Err (errors.NoNodes told counted) → IsRowCount kind rows m live × (told ≡ wanted) × (counted ≡ live) × (wanted < live)
-
--- `IsCopyCounted` of a count that is known.
+-- A copy was made only if the wanted number of nodes is enough for those in use. It was refused because nodes are short only if
+-- it is not, and the error then has both numbers.
 pub record IsLiveCounted {X : Type 0} (live wanted : ℕ) (made : Result X DupError) : Type 0 where
   pub enough : IsOk made → live ≤ wanted
   pub few : (told counted : ℕ) → made ≡ Err (errors.NoNodes told counted) → (told ≡ wanted) × (counted ≡ live) × (wanted < live)

@@ -5,10 +5,13 @@ pub mod Behind
 pub mod Calls
 pub mod Copies
 pub mod Cursors
+pub mod Kept
 pub mod Many
 pub mod Meeting
 pub mod Looks
 pub mod Overwrites
+pub mod Reserve
+pub mod RowsFor
 pub mod Shapes
 pub mod Trees
 pub mod Tries

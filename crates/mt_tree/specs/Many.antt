@@ -5,7 +5,7 @@ use Rattle.mt_tree.specs.Prelude.{Range, Cursor, HasStepped, epoch_or}
 use Rattle.mt_base.specs.Passes as known
 use Rattle.mt_read.specs.Many.{EntriesPut, HasFound, ReadAt}
 use Rattle.mt_read.specs.Windows.{HasRead}
-use Rattle.mt_tree.specs.declared.shapes.Read.{Read}
+use Rattle.mt_base.specs.declared.outcomes.Read.{Read}
 use Rattle.mt_tree.specs.declared.trees.Tree.{Tree}
 use Rattle.mt_tree.specs.Trees.{Pass, Takes, pass_in, opened}
 

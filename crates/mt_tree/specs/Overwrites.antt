@@ -5,8 +5,8 @@ use Rattle.std.specs.Prelude.{◌≡◌, ℕ, ◌-◌, List, [], ◌++◌, Resul
 use Rattle.mt_tree.specs.Prelude.{Range}
 use Rattle.mt_base.specs.Map.{overlaps}
 use Rattle.mt_base.specs.Passes as known
-use Rattle.mt_tree.specs.declared.shapes.Done.{Done}
-use Rattle.mt_tree.specs.declared.shapes.Worn.{Worn}
+use Rattle.mt_base.specs.declared.outcomes.Done.{Done}
+use Rattle.mt_base.specs.declared.outcomes.Worn.{Worn}
 use Rattle.mt_tree.specs.declared.trees.Tree.{Tree}
 use Rattle.mt_tree.specs.Trees.{map_seen}
 

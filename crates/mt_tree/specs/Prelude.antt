@@ -39,6 +39,7 @@ pub use Rattle.mt_rule.specs.declared.views.Shape.{Shape}
 pub use Rattle.mt_rule.specs.declared.views.TurnView.{TurnView}
 pub use Rattle.mt_pen.specs.Sheets.{unscanned}
 pub use Rattle.mt_pen.specs.Writers.{no_table}
-pub use Rattle.mt_read.specs.Cursors.{HasStepped, IsCursorOf, IsOver, IsOverPlace, LeafWasMarked, MarksKeptLeaf, epoch_or, place_behind, query_at}
+pub use Rattle.mt_read.specs.Cursors.{HasStepped, IsCursorOf, IsOver, IsOverPlace, LeafWasMarked, MarksKeptLeaf, epoch_or}
+pub use Rattle.mt_base.specs.Places.{find_at, place_behind}
 pub use Rattle.mt_read.specs.declared.cursor.Cursor.{Cursor}
 pub use Rattle.mt_ids.specs.Allocation.{Allocation, Made}

@@ -2,14 +2,10 @@
 -- Source: this project's own; the kernel's trees grow as memory lasts.
 use Rattle.std.specs.Prelude.{ℕ, ◌&&◌, not, nat_le, Bool, Option, Some, None, if◌then◌else◌}
 use Rattle.mt_tree.specs.Prelude.{most_rows}
-pub use Rattle.mt_rule.specs.Limits.{most_passes, most_calls}
+use Rattle.mt_base.specs.Limits.{fewest_rows, most_calls, most_passes}
 use Rattle.mt_tree.specs.declared.shapes.Field.{Field}
 use Rattle.mt_tree.specs.declared.shapes.Field.TheVariants.{Rows, Passes, Calls}
 use Rattle.mt_tree.specs.declared.shapes.Shape.{Shape}
-
--- a tree has four nodes at least: as many as the first call may need
-abbrev pub fewest_rows : ℕ
-fewest_rows = 4
 
 abbrev pub is_within : ℕ → ℕ → ℕ → Bool
 is_within least most n = nat_le least n && nat_le n most

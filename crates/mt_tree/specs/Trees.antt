@@ -8,9 +8,9 @@ use Rattle.mt_base.specs.Passes as known
 pub use Rattle.mt_rule.specs.declared.passes.Pass.{Pass}
 use Rattle.mt_rule.specs.Tokens as rule
 pub use Rattle.mt_rule.specs.Tokens.{pass_in, steps_made}
-use Rattle.mt_tree.specs.declared.shapes.Done.{Done}
+use Rattle.mt_base.specs.declared.outcomes.Done.{Done}
 use Rattle.mt_tree.specs.declared.shapes.Shape.{Shape}
-use Rattle.mt_tree.specs.declared.shapes.Worn.{Worn}
+use Rattle.mt_base.specs.declared.outcomes.Worn.{Worn}
 use Rattle.mt_tree.specs.declared.trees.Tree.{Tree}
 use Rattle.mt_tree.specs.Behind.{Behind, IsPenAtRest}
 

@@ -1,9 +1,9 @@
 -- What a step over a handle and a walk, each kept by the caller, does to both.
 -- Source: the kernel's documentation of the maple tree, mas_find over a struct ma_state that the caller keeps.
 use Rattle.std.specs.Prelude.{◌≡◌, ◌⊎◌, ℕ, ◌+◌, ◌≤◌, IfSome, Option, Some}
-use Rattle.mt_tree.specs.Prelude.{Range, Cursor, HasStepped, IsCursorOf, IsOver, IsOverPlace, LeafWasMarked, MarksKeptLeaf, epoch_or, place_behind, query_at, part_of}
+use Rattle.mt_tree.specs.Prelude.{Range, Cursor, HasStepped, IsCursorOf, IsOver, IsOverPlace, LeafWasMarked, MarksKeptLeaf, epoch_or, place_behind, find_at, part_of}
 use Rattle.mt_base.specs.Passes as known
-use Rattle.mt_tree.specs.declared.shapes.Read.{Read}
+use Rattle.mt_base.specs.declared.outcomes.Read.{Read}
 use Rattle.mt_tree.specs.declared.trees.Tree.{Tree}
 use Rattle.mt_tree.specs.Trees.{Pass, Takes, pass_in, steps_made, opened}
 
@@ -14,7 +14,7 @@ IsWalkOf p w = IsCursorOf (part_of p) w
 -- The walk went on by one range, read in a section that is then open, and is now after that range. It took few steps if it went
 -- on from a leaf that it kept, unless that was then found marked as dead.
 pub record HasWalked (t : Tree) (p : Pass) (w : Cursor) (r : Read (Option Range)) (q : Pass) (w' : Cursor) : Type 0 where
-  pub read : (k : ℕ) × known.Read (opened t) (pass_in p) r.lo r.hi k (query_at w.at w.max) r.value (pass_in q)
+  pub read : (k : ℕ) × known.Read (opened t) (pass_in p) r.lo r.hi k (find_at w.at w.max) r.value (pass_in q)
   pub section : HasStepped r.lo r.hi w.epoch (pass_in p) (pass_in q)
   pub at : w'.at ≡ place_behind r.value w.max
   pub max : w'.max ≡ w.max

@@ -1,14 +1,16 @@
 -- A call at work on the nodes of a tree: what it begins with, and what it leaves for the lock to protect.
 -- Source: this project's own.
-use Rattle.std.specs.Prelude.{◌≡◌, ◌≤◌, ◌<◌, Option, Some, None, List, [], ◌∷◌, length}
+use Rattle.std.specs.Prelude.{◌≡◌, ℕ, ◌≤◌, ◌<◌, Option, Some, None, List, [], ◌∷◌, length}
 use Rattle.std.specs.List.{AllByRecursion}
 use Rattle.atomic_table.specs.declared.badge.Badge.{Badge}
-use Rattle.mt_tree.specs.Prelude.{Record, Parts, unscanned, Told, Pass, PenPart, TurnView, IsScanOf, records_of, Identity, pass_in, turn_seat, seated, tries_in}
+use Rattle.mt_tree.specs.Prelude.{Record, Parts, unscanned, Told, Pass, PenPart, TurnView, IsScanOf, records_of, Identity, WasShown, pass_in, turn_seat, seated, tries_in}
 use Rattle.mt_base.specs.Passes as known
+use Rattle.mt_pen.specs.Sheets.{sheet_told}
 use Rattle.mt_tree.specs.declared.behind.Tools.{Tools}
 use Rattle.mt_tree.specs.declared.trees.Tree.{Tree}
-use Rattle.mt_tree.specs.Behind.{behind_lock, IsAtRest}
-use Rattle.mt_tree.specs.Trees.{opened, passes_of, place_of, IsPassOf}
+use Rattle.mt_tree.specs.Behind.{Behind, behind_lock, parts_of, IsAtRest, IsOnlyRead, IsPenAtRest}
+use Rattle.mt_tree.specs.Copies.{AreWordsOf}
+use Rattle.mt_tree.specs.Trees.{map_seen, opened, passes_of, place_of, IsPassOf, Rests}
 
 -- The tools are those that the tree's lock protects, and the handle, one of the tree's, is the one that works with them.
 pub record IsWorker (t : Tree) (tools : Option Tools) (p : Pass) (table : Identity) (turn : Badge TurnView) : Type 0 where
@@ -27,6 +29,20 @@ pub record IsSeatOf (t : Tree) (turn : Badge TurnView) : Type 0 where
 abbrev pub shown_pass : PenPart → known.Pass → known.Pass
 shown_pass p q = record q { seen = records_of p.history; ended = length p.history }
 
+-- A call of the handle is at work: these are the nodes with which it began, over the table of the tree, of what its lock protects.
+-- The handle, which is then away, was shown the whole history.
+pub record AtWork (t : Tree) (i : Identity) (b : Behind) (p : known.Pass) (e : Parts) : Type 0 where
+  pub place : i ≡ place_of t
+  pub shape : b.pen.shape ≡ i.shape
+  pub table : b.table ≡ place_of t
+  pub height : ℕ
+  pub kept : IsPenAtRest b.pen b.parts height
+  pub parts : b.parts ≡ parts_of b.pen b.parts.book
+  pub kind : e.kind ≡ b.parts.kind
+  pub book : e.book ≡ b.parts.book
+  pub sheet : e.sheet ≡ sheet_told i b.pen (shown_pass b.pen p)
+  pub shown : WasShown (opened t) b.pen p (shown_pass b.pen p)
+
 -- what a handle knows whose nodes have these records
 abbrev pub pass_of_told : Told → known.Pass
 pass_of_told t = record { number = t.caller.pass; seen = t.records; mine = known.places t.caller.pass t.records; opened = t.caller.opened; standing = t.caller.standing; begun = t.caller.begun; ended = length t.records }
@@ -35,6 +51,16 @@ pass_of_told t = record { number = t.caller.pass; seen = t.records; mine = known
 abbrev pub records_told : Option Told → List Record
 records_told None = []
 records_told (Some t) = t.records
+
+-- What the lock protects was only read, for a call of the handle, which made no step without the lock and has not gone for it. The
+-- handle then knows all calls, and the words represent the map after them.
+pub record LookedBehind (t : Tree) (b b' : Behind) (p q : Pass) : Type 0 where
+  pub state : IsOnlyRead b b'
+  pub of : IsPassOf t q
+  pub rests : Rests p q
+  pub seen : (pass_in q).seen ≡ records_of b'.pen.history
+  pub saw : known.Saw (opened t) (pass_in p) (pass_in q)
+  pub words : AreWordsOf (opened t).kind (opened t).rows (map_seen t (pass_in q)) b.parts.sheet.tree
 
 -- The tools are back under the tree's lock, with these nodes and their book. All calls are of the tree's handles, and the
 -- handle knows what its nodes showed. If scans were made, the section words loaded last are those of the last scan. If none was

@@ -2,7 +2,8 @@
 
 ghost use Rattle.std.specs.Prelude.{◌≡◌, ◌⊎◌, ℕ, ◌+◌, ◌<◌, ◌≤◌, Some, None, IfOk, IfErr, IfSome};
 ghost use Rattle.mt_base.specs.Passes as known;
-ghost use Rattle.mt_read.specs.Cursors.{HasStepped, IsOver, IsOverPlace, LeafWasMarked, MarksKeptLeaf, epoch_or, place_behind, query_at};
+ghost use Rattle.mt_read.specs.Cursors.{HasStepped, IsOver, IsOverPlace, LeafWasMarked, MarksKeptLeaf, epoch_or};
+ghost use Rattle.mt_base.specs.Places.{find_at, place_behind};
 ghost use Rattle.mt_read.specs.Neighbours.{WasLeftMarked, WasMoved};
 ghost use Rattle.mt_read.specs.Windows.{HasRead};
 ghost use Rattle.mt_rule.specs.Tokens.{part_of, pass_in};
@@ -10,9 +11,8 @@ ghost use Rattle.mt_tree.specs.Asks.{IsForNeighbour, most_made, unbounded};
 ghost use Rattle.mt_tree.specs.Trees.{opened, IsPassOf, Takes, steps_made};
 
 use crate::cursors::Cursor;
-use crate::shapes::Read;
 use crate::trees::Tree;
-use mt_base::{Query, Range, Steps};
+use mt_base::{Query, Range, Read, Steps};
 use mt_read::Moved;
 use mt_rule::Pass;
 use std::marker::Brand;
@@ -63,7 +63,8 @@ impl Tree {
         ensures moved { IfErr result (λ m. WasMoved (opened self.now) (pass_in pass.old) m.lo m.begun (pass_in pass.new)) }
         ensures given_up { IfErr result (λ m. HasRead m.lo m.begun (pass_in pass.old) (pass_in pass.new)) }
         ensures neighbour { IfErr result (λ _. IsForNeighbour query.now) }
-        ensures left { IfErr result (λ m. WasLeftMarked (unbounded (part_of pass.old).shape.kind query.now) m.lo m.begun (part_of pass.old) (part_of pass.new)) }
+        ensures left { IfErr result
+            (λ m. WasLeftMarked (unbounded (part_of pass.old).shape.kind query.now) m.lo m.begun (part_of pass.old) (part_of pass.new)) }
         ensures takes { Takes (most_made query.now) pass.old pass.new }
     {
         seek::<Brand>(self, pass, query, Blank::new(1))
@@ -78,7 +79,8 @@ fn step<L: Ledger>(cursor: &mut Cursor<'_>, blank: Blank) -> Read<Option<Range>>
     ensures same_reference { cursor.new.pass.ghost_name ≡ cursor.old.pass.ghost_name }
     ensures tree { cursor.new.tree ≡ cursor.old.tree }
     ensures of { IsPassOf cursor.old.tree.now cursor.new.pass.now }
-    ensures read { (k : ℕ) × known.Read (opened cursor.old.tree.now) (pass_in cursor.old.pass.now) result.lo result.hi k (query_at cursor.old.walk.at cursor.old.walk.max) result.value (pass_in cursor.new.pass.now) }
+    ensures read { (k : ℕ) × known.Read (opened cursor.old.tree.now) (pass_in cursor.old.pass.now) result.lo result.hi k
+        (find_at cursor.old.walk.at cursor.old.walk.max) result.value (pass_in cursor.new.pass.now) }
     ensures section { HasStepped result.lo result.hi cursor.old.walk.epoch (pass_in cursor.old.pass.now) (pass_in cursor.new.pass.now) }
     ensures at { cursor.new.walk.at ≡ place_behind result.value cursor.old.walk.max }
     ensures max { cursor.new.walk.max ≡ cursor.old.walk.max }
@@ -86,7 +88,8 @@ fn step<L: Ledger>(cursor: &mut Cursor<'_>, blank: Blank) -> Read<Option<Range>>
     ensures leaf { IfSome result.value (λ range. IsOver cursor.new.walk.leaf range.last) }
     ensures lo { (cursor.new.walk.leaf ≡ cursor.old.walk.leaf) ⊎ IfSome cursor.new.walk.leaf (λ kept. kept.lo ≡ result.lo) }
     ensures marks { MarksKeptLeaf cursor.old.walk.leaf cursor.old.walk.at result.hi (part_of cursor.old.pass.now) (part_of cursor.new.pass.now) }
-    ensures short { IsOverPlace cursor.old.walk.leaf cursor.old.walk.at → (steps_made cursor.new.pass.now ≤ steps_made cursor.old.pass.now + 40) ⊎ LeafWasMarked cursor.old.walk.leaf cursor.old.walk.at result.hi (part_of cursor.old.pass.now) (part_of cursor.new.pass.now) }
+    ensures short { IsOverPlace cursor.old.walk.leaf cursor.old.walk.at → (steps_made cursor.new.pass.now ≤ steps_made cursor.old.pass.now + 40)
+        ⊎ LeafWasMarked cursor.old.walk.leaf cursor.old.walk.at result.hi (part_of cursor.old.pass.now) (part_of cursor.new.pass.now) }
     ensures takes { Takes 220 cursor.old.pass.now cursor.new.pass.now }
 {
     let mut steps = Steps::<L>::new(blank);
@@ -112,7 +115,8 @@ fn pause<L: Ledger>(cursor: &mut Cursor<'_>, blank: Blank)
 impl<'a> Cursor<'a> {
     ghost use Rattle.std.specs.Prelude.{◌≡◌, ◌⊎◌, ℕ, ◌+◌, ◌≤◌, Some, None, IfSome};
     ghost use Rattle.mt_base.specs.Passes as known;
-    ghost use Rattle.mt_read.specs.Cursors.{HasStepped, IsOver, IsOverPlace, LeafWasMarked, MarksKeptLeaf, epoch_or, place_behind, query_at};
+    ghost use Rattle.mt_read.specs.Cursors.{HasStepped, IsOver, IsOverPlace, LeafWasMarked, MarksKeptLeaf, epoch_or};
+    ghost use Rattle.mt_base.specs.Places.{find_at, place_behind};
     ghost use Rattle.mt_rule.specs.Tokens.{part_of, pass_in};
     ghost use Rattle.mt_tree.specs.Trees.{opened, IsPassOf, Takes, steps_made};
 
@@ -121,7 +125,8 @@ impl<'a> Cursor<'a> {
         ensures same_reference { self.new.pass.ghost_name ≡ self.old.pass.ghost_name }
         ensures tree { self.new.tree ≡ self.old.tree }
         ensures of { IsPassOf self.old.tree.now self.new.pass.now }
-        ensures read { (k : ℕ) × known.Read (opened self.old.tree.now) (pass_in self.old.pass.now) result.lo result.hi k (query_at self.old.walk.at self.old.walk.max) result.value (pass_in self.new.pass.now) }
+        ensures read { (k : ℕ) × known.Read (opened self.old.tree.now) (pass_in self.old.pass.now) result.lo result.hi k
+            (find_at self.old.walk.at self.old.walk.max) result.value (pass_in self.new.pass.now) }
         ensures section { HasStepped result.lo result.hi self.old.walk.epoch (pass_in self.old.pass.now) (pass_in self.new.pass.now) }
         ensures at { self.new.walk.at ≡ place_behind result.value self.old.walk.max }
         ensures max { self.new.walk.max ≡ self.old.walk.max }
@@ -129,7 +134,8 @@ impl<'a> Cursor<'a> {
         ensures leaf { IfSome result.value (λ range. IsOver self.new.walk.leaf range.last) }
         ensures lo { (self.new.walk.leaf ≡ self.old.walk.leaf) ⊎ IfSome self.new.walk.leaf (λ kept. kept.lo ≡ result.lo) }
         ensures marks { MarksKeptLeaf self.old.walk.leaf self.old.walk.at result.hi (part_of self.old.pass.now) (part_of self.new.pass.now) }
-        ensures short { IsOverPlace self.old.walk.leaf self.old.walk.at → (steps_made self.new.pass.now ≤ steps_made self.old.pass.now + 40) ⊎ LeafWasMarked self.old.walk.leaf self.old.walk.at result.hi (part_of self.old.pass.now) (part_of self.new.pass.now) }
+        ensures short { IsOverPlace self.old.walk.leaf self.old.walk.at → (steps_made self.new.pass.now ≤ steps_made self.old.pass.now + 40)
+            ⊎ LeafWasMarked self.old.walk.leaf self.old.walk.at result.hi (part_of self.old.pass.now) (part_of self.new.pass.now) }
         ensures takes { Takes 220 self.old.pass.now self.new.pass.now }
     {
         step::<Brand>(self, Blank::new(1))

@@ -5,14 +5,13 @@ ghost use Rattle.mt_base.specs.declared.calls.Call.{Call};
 ghost use Rattle.mt_rule.specs.Tokens.{pass_in};
 ghost use Rattle.mt_rule.specs.Turns.{tried};
 ghost use Rattle.mt_tree.specs.Batches.{LacksCalls, WereMade};
-ghost use Rattle.mt_tree.specs.declared.shapes.Done.{Done};
+ghost use Rattle.mt_base.specs.declared.outcomes.Done.{Done};
 ghost use Rattle.mt_tree.specs.Trees.{limit_of, place_of, IsPassOf, Rests, TriesOnce};
 ghost use Rattle.mt_tree.specs.Tries.{IsBusyOf, WasMade};
 
 use crate::behind::WriterState;
-use crate::shapes::{Done, Worn};
 use crate::trees::Tree;
-use mt_base::Call;
+use mt_base::{Call, Done, Worn};
 use mt_rule::{Busy, Pass};
 
 /// A call that is asked for, and a place for its answer.
@@ -128,8 +127,10 @@ impl Tree {
     ) -> Result<Result<(), Worn>, Busy>
         requires { IsPassOf self.now pass.old }
         ensures of { IsPassOf self.now pass.new }
-        ensures made { IfOk result (λ each. IfOk each (λ _. (n : ℕ) × WereMade A.asks A.told self.now n (pass_in pass.old) asked.old asked.new (pass_in pass.new))) }
-        ensures worn { IfOk result (λ each. IfErr each (λ w. LacksCalls self.now (pass_in pass.old) (length asked.old) w (pass_in pass.new) × (asked.new ≡ asked.old))) }
+        ensures made { IfOk result
+            (λ each. IfOk each (λ _. (n : ℕ) × WereMade A.asks A.told self.now n (pass_in pass.old) asked.old asked.new (pass_in pass.new))) }
+        ensures worn { IfOk result
+            (λ each. IfErr each (λ w. LacksCalls self.now (pass_in pass.old) (length asked.old) w (pass_in pass.new) × (asked.new ≡ asked.old))) }
         ensures busy { IfErr result (IsBusyOf self.now) }
         ensures kept { IfErr result (λ _. (pass.new ≡ tried pass.old) × (asked.new ≡ asked.old)) }
         ensures tries { TriesOnce pass.old pass.new }

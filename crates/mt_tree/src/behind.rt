@@ -1,6 +1,6 @@
 //! What the lock of a tree protects.
 
-ghost use Rattle.std.specs.Prelude.{◌≡◌, ◌↔◌, ◌+◌, ◌<◌, ◌≤◌, Some, None, true, [], length, IsOk, IsTrue, IfOk, IfErr};
+ghost use Rattle.std.specs.Prelude.{◌≡◌, ◌↔◌, ◌+◌, ◌<◌, ◌≤◌, Some, None, true, false, [], length, IsOk, IsTrue, IfOk, IfErr};
 ghost use Rattle.std.specs.List.{AllByRecursion};
 ghost use Rattle.mt_base.specs.declared.calls.Call.TheVariants.{StorePre};
 ghost use Rattle.mt_base.specs.Passes as known;
@@ -8,13 +8,15 @@ ghost use Rattle.mt_base.specs.Passes.{Wrote};
 ghost use Rattle.mt_engine.specs.Engine.{is_refusal};
 ghost use Rattle.mt_rule.specs.Seats.{records_of};
 ghost use Rattle.mt_rule.specs.Tokens.{pass_in, WasShown};
-ghost use Rattle.mt_tree.specs.Behind.{after_show, IsReady, IsOnlyRead, IsStoreReply};
-ghost use Rattle.mt_tree.specs.Trees.{opened, limit_of, map_seen, passes_of, place_of, IsPassOf, IsShortNow, IsWorn, NamesPass, Rests, WasAnsweredBy, WasPrepared};
+ghost use Rattle.mt_tree.specs.Behind.{after_show, IsReady, IsStoreReply};
+ghost use Rattle.mt_tree.specs.Trees.{opened, limit_of, map_seen, passes_of, place_of, Acts, IsPassOf, IsShortNow};
+ghost use Rattle.mt_tree.specs.Trees.{IsWorn, NamesPass, Rests, WasAnsweredBy, WasPrepared};
+ghost use Rattle.mt_tree.specs.Works.{LookedBehind};
 
-use crate::shapes::{Done, Read, Worn};
+use crate::counts::counted;
 use crate::trees::Tree;
 use crate::works::{act, ask, by_width, list, preallocate, store_prealloc};
-use mt_base::{Call, NoMemory, Query, Range, Shortage, Width};
+use mt_base::{Call, Done, NoMemory, Query, Range, Read, Shortage, Width, Worn};
 use mt_free::RowBook;
 use mt_rule::{LongRows, OfTable, Pass, Pen, ShortRows};
 use std::alloc::Global;
@@ -29,21 +31,23 @@ pub struct Tools {
     pub(crate) height: u64,
 }
 
-/// The state of a tree's writers: the tools with which it is written. They are away only while a call is at work. While the
-/// lock is free, no handle is joined with the pen, and the words represent the map after all calls.
+/// The state of a tree's writers: the tools with which it is written, and how many ranges the tree has, if that is known. The
+/// tools are away only while a call is at work. While the lock is free, no handle is joined with the pen, and the words
+/// represent the map after all calls.
 #[derive(Drop)]
 pub struct WriterState {
     pub(crate) tools: Option<Tools>,
+    pub(crate) ranges: Option<u64>,
 }
 
 impl Model for WriterState {
-    ghost use Rattle.mt_tree.specs.Behind.{Behind, behind_lock, IsAtRest};
+    ghost use Rattle.mt_tree.specs.Behind.{Behind, behind_lock, IsAtRest, IsCounted};
 
     ghost Value = { Behind };
 
     ghost view = { λ s. behind_lock s.tools };
 
-    ghost invariant = { λ s. IsAtRest s.tools };
+    ghost invariant = { λ s. IsAtRest s.tools × IsCounted s.ranges (behind_lock s.tools) };
 }
 
 impl OfTable for WriterState {
@@ -91,6 +95,7 @@ impl WriterState {
     }
 
     /// Makes one call.
+    #[tactic(auto, using(crate::proofs::Keeping::counted_after))]
     pub(crate) fn act(&mut self, tree: &Tree, pass: &mut Pass, call: &Call) -> Result<Done, Worn>
         requires table { self.old.table ≡ place_of tree.now }
         requires pass { IsPassOf tree.now pass.old }
@@ -104,6 +109,7 @@ impl WriterState {
         ensures named { IfOk result (λ d. NamesPass tree.now d.reply) }
         ensures worn { IfErr result (λ w. IsWorn tree.now (pass_in pass.old) w (pass_in pass.new) × (self.new ≡ after_show self.old)) }
         ensures kept { IfOk result (λ d. is_refusal d.reply ≡ true → self.new.parts.sheet.tree ≡ self.old.parts.sheet.tree) }
+        ensures acts { IfOk result (λ d. is_refusal d.reply ≡ false → Acts self.old self.new call.now d.reply) }
         ensures answered { IfOk result (λ d. WasAnsweredBy tree.now (pass_in pass.new) self.old self.new call.now d) }
     {
         let calls = self.calls();
@@ -111,7 +117,9 @@ impl WriterState {
             self.show(tree, pass);
             return Err(Worn { calls });
         }
+        let before = self.ranges;
         let reply = by_width!(tree, act(&mut self.tools, tree, pass, call));
+        self.ranges = counted(None, before, call, reply);
         Ok(Done {
             call: calls + 1,
             reply,
@@ -134,7 +142,8 @@ impl WriterState {
         ensures of { IsPassOf tree.now pass.new }
         ensures rests { Rests pass.old pass.new }
         ensures seen { (pass_in pass.new).seen ≡ records_of self.new.pen.history }
-        ensures done { IfOk result (λ d. Wrote (opened tree.now) (pass_in pass.old) d.call (StorePre first last entry) d.reply (pass_in pass.new) × (d.call ≤ limit_of tree.now)) }
+        ensures done { IfOk result (λ d. Wrote (opened tree.now) (pass_in pass.old) d.call (StorePre first last entry) d.reply (pass_in pass.new)
+            × (d.call ≤ limit_of tree.now)) }
         ensures named { IfOk result (λ d. NamesPass tree.now d.reply) }
         ensures stored { IfOk result (λ d. IsStoreReply d.reply) }
         ensures worn { IfErr result (λ w. IsWorn tree.now (pass_in pass.old) w (pass_in pass.new) × (self.new ≡ after_show self.old)) }
@@ -150,6 +159,7 @@ impl WriterState {
             tree,
             store_prealloc(&mut self.tools, tree, pass, first, last, entry)
         );
+        self.ranges = None;
         Ok(Done {
             call: calls + 1,
             reply,
@@ -157,14 +167,11 @@ impl WriterState {
     }
 
     /// Answers one query.
+    #[tactic(auto, using(crate::proofs::Keeping::counted_looked))]
     pub(crate) fn ask(&mut self, tree: &Tree, pass: &mut Pass, query: &Query) -> Read<Option<Range>>
         requires table { self.old.table ≡ place_of tree.now }
         requires pass { IsPassOf tree.now pass.old }
-        ensures state { IsOnlyRead self.old self.new }
-        ensures of { IsPassOf tree.now pass.new }
-        ensures rests { Rests pass.old pass.new }
-        ensures seen { (pass_in pass.new).seen ≡ records_of self.new.pen.history }
-        ensures saw { known.Saw (opened tree.now) (pass_in pass.old) (pass_in pass.new) }
+        ensures looked { LookedBehind tree.now self.old self.new pass.old pass.new }
         ensures window { (result.lo ≡ length (pass_in pass.new).seen) × (result.hi ≡ result.lo) }
         ensures read { known.Read (opened tree.now) (pass_in pass.old) result.lo result.hi result.lo query.now result.value (pass_in pass.new) }
     {
@@ -177,6 +184,7 @@ impl WriterState {
     }
 
     /// Makes the tree ready for a store.
+    #[tactic(auto, using(crate::proofs::Keeping::counted_prepared))]
     pub(crate) fn preallocate(&mut self, tree: &Tree, pass: &mut Pass) -> Result<(), Shortage>
         requires table { self.old.table ≡ place_of tree.now }
         requires pass { IsPassOf tree.now pass.old }
@@ -192,6 +200,7 @@ impl WriterState {
     }
 
     /// Copies the ranges out.
+    #[tactic(auto, using(crate::proofs::Keeping::counted_looked))]
     pub(crate) fn list(
         &mut self,
         tree: &Tree,
@@ -200,11 +209,7 @@ impl WriterState {
     ) -> Result<Vec<Range>, NoMemory>
         requires table { self.old.table ≡ place_of tree.now }
         requires pass { IsPassOf tree.now pass.old }
-        ensures state { IsOnlyRead self.old self.new }
-        ensures of { IsPassOf tree.now pass.new }
-        ensures rests { Rests pass.old pass.new }
-        ensures seen { (pass_in pass.new).seen ≡ records_of self.new.pen.history }
-        ensures saw { known.Saw (opened tree.now) (pass_in pass.old) (pass_in pass.new) }
+        ensures looked { LookedBehind tree.now self.old self.new pass.old pass.new }
         ensures items { IfOk result (λ ranges. ranges.items ≡ map_seen tree.now (pass_in pass.new)) }
     {
         by_width!(tree, list(&mut self.tools, tree, pass, alloc))

@@ -13,17 +13,18 @@ ghost use Rattle.mt_rows.specs.Publish.{map_by, tree_as, IsLawfulOf};
 ghost use Rattle.mt_rows.specs.Sheet.{OnlyReads};
 ghost use Rattle.mt_rows.specs.Trees.{reached_in};
 ghost use Rattle.mt_check.specs.Check.{form_of};
-ghost use Rattle.mt_rule.specs.Seats.{records_of};
 ghost use Rattle.mt_rule.specs.Tokens.{pass_in};
 ghost use Rattle.mt_tree.specs.declared.shapes.Field.{Field};
 ghost use Rattle.mt_tree.specs.Behind.{behind_lock, IsAtRest, IsOnlyRead};
-ghost use Rattle.mt_tree.specs.Copies.{live_rows, AreWordsOf, IsCopyCounted, IsForRoom, IsFormOf, IsLiveCounted, IsReadyToOpen, IsRefusal, IsRowCount, WasCounted};
+ghost use Rattle.mt_tree.specs.Copies.{live_rows, AreWordsOf, IsForRoom, IsLiveCounted, IsReadyToOpen, IsRefusal};
+ghost use Rattle.mt_tree.specs.Looks.{words_in, IsCopyLooked, IsFormBehind, IsLookAt};
 ghost use Rattle.mt_tree.specs.Shapes.{first_bad};
 ghost use Rattle.mt_tree.specs.Trees.{opened, map_seen, place_of, IsPassOf, IsNew, IsOpen, Rests, TriesOnce, steps_made};
-ghost use Rattle.mt_tree.specs.Works.{IsWorker};
+ghost use Rattle.mt_tree.specs.Works.{IsWorker, LookedBehind};
 
 use crate::behind::{Tools, WriterState};
 use crate::locked::Locked;
+use crate::receipts::Look;
 use crate::shapes::{DupError, Shape};
 use crate::trees::Tree;
 use crate::works::{begin, by_width, end};
@@ -40,8 +41,13 @@ use std::marker::Brand;
 use std::sync::Wait;
 use std::sync::ledger::{Blank, Ledger};
 
-/// Copies a tree into new nodes of its width, and plants it there.
-fn copy_into<R: Rows, L: Ledger>(blank: Blank, src: &mut R, dst: &mut PlainRows, book: &mut RowBook)
+/// Copies a tree into new nodes of its width, and plants it there. The blank is for a count of the steps, which is not used.
+pub fn copy_into<R: Rows, L: Ledger>(
+    blank: Blank,
+    src: &mut R,
+    dst: &mut PlainRows,
+    book: &mut RowBook,
+)
     requires name { blank.name ≡ L.name }
     requires parts { blank.parts ≡ L.parts }
     requires some { 0 < blank.parts }
@@ -49,7 +55,8 @@ fn copy_into<R: Rows, L: Ledger>(blank: Blank, src: &mut R, dst: &mut PlainRows,
     requires rows { sheet_in dst.old ≡ new_sheet (R.sheet src.old).tree.table.width book.old.rows }
     requires book { book.old ≡ new_book book.old.rows }
     requires room { live_rows (R.sheet src.old).tree ≤ book.old.rows }
-    ensures copy { (kind : Kind) → IsLawfulOf (R.sheet src.old).tree kind → IsReadyToOpen kind book.old.rows (map_by (R.sheet src.old).tree) (sheet_in dst.new) book.new }
+    ensures copy { (kind : Kind) → IsLawfulOf (R.sheet src.old).tree kind
+        → IsReadyToOpen kind book.old.rows (map_by (R.sheet src.old).tree) (sheet_in dst.new) book.new }
     ensures rest { OnlyReads (R.sheet src.old) (R.sheet src.new) }
 {
     let mut steps = Steps::<L>::new(blank);
@@ -63,12 +70,53 @@ fn copy_out<R: Rows>(src: &mut R, live: u64, dst: &mut PlainRows, book: &mut Row
     requires live { live ≡ live_rows (R.sheet src.old).tree }
     requires rows { sheet_in dst.old ≡ new_sheet (R.sheet src.old).tree.table.width book.old.rows }
     requires book { book.old ≡ new_book book.old.rows }
-    ensures copy { live ≤ book.old.rows → (kind : Kind) → IsLawfulOf (R.sheet src.old).tree kind → IsReadyToOpen kind book.old.rows (map_by (R.sheet src.old).tree) (sheet_in dst.new) book.new }
+    ensures copy { live ≤ book.old.rows → (kind : Kind) → IsLawfulOf (R.sheet src.old).tree kind
+        → IsReadyToOpen kind book.old.rows (map_by (R.sheet src.old).tree) (sheet_in dst.new) book.new }
     ensures rest { OnlyReads (R.sheet src.old) (R.sheet src.new) }
 {
     if live <= book.rows() {
         copy_into::<R, Brand>(Blank::new(1), src, dst, book);
     }
+}
+
+/// The form of an engine's words, which are only read.
+#[tactic(auto, using(crate::proofs::Forms::lawful_as, crate::proofs::Forms::idle_as, crate::proofs::Forms::high_as))]
+fn form_in<R: Rows>(engine: Engine<R>, kind: Kind) -> (Engine<R>, Form)
+    requires { kind ≡ engine.kind }
+    ensures rest { OnlyReads engine.sheet result.0.sheet }
+    ensures book { result.0.book ≡ engine.book }
+    ensures kind { result.0.kind ≡ engine.kind }
+    ensures form { result.1 ≡ form_of (tree_as kind engine.sheet.tree) }
+{
+    let height = engine.height();
+    let (mut rows, book) = engine.parts();
+    let form = form_of(&mut rows, kind);
+    (Engine::of_height(rows, book, kind, height), form)
+}
+
+/// Copies an engine's tree, which is only read, into new nodes, where they are as many as it has in use. Answers how many it
+/// has.
+#[tactic(auto, using(crate::proofs::Forms::lawful_as, crate::proofs::Forms::idle_as, crate::proofs::Forms::high_as))]
+fn copied_out<R: Rows>(
+    engine: Engine<R>,
+    kind: Kind,
+    dst: &mut PlainRows,
+    own: &mut RowBook,
+) -> (Engine<R>, u64)
+    requires kind { kind ≡ engine.kind }
+    requires rows { sheet_in dst.old ≡ new_sheet (kind_width kind) own.old.rows }
+    requires book { own.old ≡ new_book own.old.rows }
+    ensures rest { OnlyReads engine.sheet result.0.sheet }
+    ensures book { result.0.book ≡ engine.book }
+    ensures kind { result.0.kind ≡ engine.kind }
+    ensures live { result.1 ≡ live_rows engine.sheet.tree }
+    ensures copy { result.1 ≤ own.old.rows → IsReadyToOpen kind own.old.rows (map_by engine.sheet.tree) (sheet_in dst.new) own.new }
+{
+    let height = engine.height();
+    let (mut rows, book) = engine.parts();
+    let live = book.live();
+    copy_out(&mut rows, live, dst, own);
+    (Engine::of_height(rows, book, kind, height), live)
 }
 
 /// The form of the tree's words.
@@ -81,19 +129,11 @@ fn check_at_work<W: Writer, K: OfWidth>(
     requires counted { W.steps ≡ steps_made pass.old }
     requires wide { K.wide ≡ kind_width W.table.shape.kind }
     ensures rest { IsAtRest tools.new }
-    ensures read { IsOnlyRead (behind_lock tools.old) (behind_lock tools.new) }
-    ensures of { IsPassOf tree.now pass.new }
-    ensures rests { Rests pass.old pass.new }
-    ensures seen { (pass_in pass.new).seen ≡ records_of (behind_lock tools.new).pen.history }
-    ensures saw { Saw (opened tree.now) (pass_in pass.old) (pass_in pass.new) }
-    ensures words { AreWordsOf (opened tree.now).kind (opened tree.now).rows (map_seen tree.now (pass_in pass.new)) (behind_lock tools.old).parts.sheet.tree }
+    ensures looked { LookedBehind tree.now (behind_lock tools.old) (behind_lock tools.new) pass.old pass.new }
     ensures form { result ≡ form_of (tree_as (opened tree.now).kind (behind_lock tools.old).parts.sheet.tree) }
 {
     let engine = begin::<W, K>(tools, tree, pass);
-    let height = engine.height();
-    let (mut rows, book) = engine.parts();
-    let form = form_of(&mut rows, tree.shape.kind);
-    let engine = Engine::of_height(rows, book, tree.shape.kind, height);
+    let (engine, form) = form_in(engine, tree.shape.kind);
     end(tools, tree, engine, pass);
     form
 }
@@ -112,21 +152,12 @@ fn copy_at_work<W: Writer, K: OfWidth>(
     requires rows { sheet_in dst.old ≡ new_sheet (kind_width (opened tree.now).kind) own.old.rows }
     requires book { own.old ≡ new_book own.old.rows }
     ensures rest { IsAtRest tools.new }
-    ensures read { IsOnlyRead (behind_lock tools.old) (behind_lock tools.new) }
-    ensures of { IsPassOf tree.now pass.new }
-    ensures rests { Rests pass.old pass.new }
-    ensures seen { (pass_in pass.new).seen ≡ records_of (behind_lock tools.new).pen.history }
-    ensures saw { Saw (opened tree.now) (pass_in pass.old) (pass_in pass.new) }
-    ensures words { AreWordsOf (opened tree.now).kind (opened tree.now).rows (map_seen tree.now (pass_in pass.new)) (behind_lock tools.old).parts.sheet.tree }
+    ensures looked { LookedBehind tree.now (behind_lock tools.old) (behind_lock tools.new) pass.old pass.new }
     ensures live { result ≡ live_rows (behind_lock tools.old).parts.sheet.tree }
     ensures copy { result ≤ own.old.rows → IsReadyToOpen (opened tree.now).kind own.old.rows (map_seen tree.now (pass_in pass.new)) (sheet_in dst.new) own.new }
 {
     let engine = begin::<W, K>(tools, tree, pass);
-    let height = engine.height();
-    let (mut rows, book) = engine.parts();
-    let live = book.live();
-    copy_out(&mut rows, live, dst, own);
-    let engine = Engine::of_height(rows, book, tree.shape.kind, height);
+    let (engine, live) = copied_out(engine, tree.shape.kind, dst, own);
     end(tools, tree, engine, pass);
     live
 }
@@ -167,7 +198,8 @@ pub(crate) fn open_copy(
 ) -> Result<(Tree, Vec<Pass>), DupError>
     requires shape { first_bad shape ≡ None }
     requires ready { (m : List Range) × (live ≤ shape.rows → IsReadyToOpen shape.kind shape.rows m (sheet_in rows) book) }
-    ensures new { (m : List Range) → (live ≤ shape.rows → IsReadyToOpen shape.kind shape.rows m (sheet_in rows) book) → IfOk result (λ r. IsNew shape m r.0 r.1.items) }
+    ensures new { (m : List Range) → (live ≤ shape.rows → IsReadyToOpen shape.kind shape.rows m (sheet_in rows) book)
+        → IfOk result (λ r. IsNew shape m r.0 r.1.items) }
     ensures counted { IsLiveCounted live shape.rows result }
     ensures room { IfErr result IsForRoom }
 {
@@ -207,21 +239,18 @@ fn copied_of(
 
 impl WriterState {
     /// The form of the tree's words.
+    #[tactic(auto, using(crate::proofs::Keeping::counted_looked))]
     pub(crate) fn check(&mut self, tree: &Tree, pass: &mut Pass) -> Form
         requires table { self.old.table ≡ place_of tree.now }
         requires pass { IsPassOf tree.now pass.old }
-        ensures state { IsOnlyRead self.old self.new }
-        ensures of { IsPassOf tree.now pass.new }
-        ensures rests { Rests pass.old pass.new }
-        ensures seen { (pass_in pass.new).seen ≡ records_of self.new.pen.history }
-        ensures saw { Saw (opened tree.now) (pass_in pass.old) (pass_in pass.new) }
-        ensures words { AreWordsOf (opened tree.now).kind (opened tree.now).rows (map_seen tree.now (pass_in pass.new)) self.old.parts.sheet.tree }
+        ensures looked { LookedBehind tree.now self.old self.new pass.old pass.new }
         ensures form { result ≡ form_of (tree_as (opened tree.now).kind self.old.parts.sheet.tree) }
     {
         by_width!(tree, check_at_work(&mut self.tools, tree, pass))
     }
 
     /// Copies the tree into new nodes, where they are as many as it has in use. Answers how many it has.
+    #[tactic(auto, using(crate::proofs::Keeping::counted_looked))]
     pub(crate) fn copy(
         &mut self,
         tree: &Tree,
@@ -233,14 +262,10 @@ impl WriterState {
         requires pass { IsPassOf tree.now pass.old }
         requires rows { sheet_in dst.old ≡ new_sheet (kind_width (opened tree.now).kind) own.old.rows }
         requires book { own.old ≡ new_book own.old.rows }
-        ensures state { IsOnlyRead self.old self.new }
-        ensures of { IsPassOf tree.now pass.new }
-        ensures rests { Rests pass.old pass.new }
-        ensures seen { (pass_in pass.new).seen ≡ records_of self.new.pen.history }
-        ensures saw { Saw (opened tree.now) (pass_in pass.old) (pass_in pass.new) }
-        ensures words { AreWordsOf (opened tree.now).kind (opened tree.now).rows (map_seen tree.now (pass_in pass.new)) self.old.parts.sheet.tree }
+        ensures looked { LookedBehind tree.now self.old self.new pass.old pass.new }
         ensures live { result ≡ live_rows self.old.parts.sheet.tree }
-        ensures copy { result ≤ own.old.rows → IsReadyToOpen (opened tree.now).kind own.old.rows (map_seen tree.now (pass_in pass.new)) (sheet_in dst.new) own.new }
+        ensures copy { result ≤ own.old.rows
+            → IsReadyToOpen (opened tree.now).kind own.old.rows (map_seen tree.now (pass_in pass.new)) (sheet_in dst.new) own.new }
     {
         by_width!(tree, copy_at_work(&mut self.tools, tree, pass, dst, own))
     }
@@ -289,7 +314,8 @@ impl<'a> Locked<'a, Taken<WriterState>> {
         ensures rests { Rests self.old.pass.now self.new.pass.now }
         ensures pass { pass_in self.new.pass.now ≡ pass_in self.old.pass.now }
         ensures behind { IsOnlyRead self.old.taken.value self.new.taken.value }
-        ensures words { AreWordsOf (opened self.old.tree.now).kind (opened self.old.tree.now).rows (map_seen self.old.tree.now (pass_in self.old.pass.now)) self.old.taken.value.parts.sheet.tree }
+        ensures words { AreWordsOf (opened self.old.tree.now).kind
+            (opened self.old.tree.now).rows (map_seen self.old.tree.now (pass_in self.old.pass.now)) self.old.taken.value.parts.sheet.tree }
         ensures form { result ≡ form_of (tree_as (opened self.old.tree.now).kind self.old.taken.value.parts.sheet.tree) }
     {
         check_under(&mut self.taken, self.tree, self.pass)
@@ -304,9 +330,11 @@ impl<'a> Locked<'a, Taken<WriterState>> {
         ensures rests { Rests self.old.pass.now self.new.pass.now }
         ensures pass { pass_in self.new.pass.now ≡ pass_in self.old.pass.now }
         ensures behind { IsOnlyRead self.old.taken.value self.new.taken.value }
-        ensures words { AreWordsOf (opened self.old.tree.now).kind (opened self.old.tree.now).rows (map_seen self.old.tree.now (pass_in self.old.pass.now)) self.old.taken.value.parts.sheet.tree }
+        ensures words { AreWordsOf (opened self.old.tree.now).kind
+            (opened self.old.tree.now).rows (map_seen self.old.tree.now (pass_in self.old.pass.now)) self.old.taken.value.parts.sheet.tree }
         ensures live { result ≡ live_rows self.old.taken.value.parts.sheet.tree }
-        ensures copy { result ≤ own.old.rows → IsReadyToOpen (opened self.old.tree.now).kind own.old.rows (map_seen self.old.tree.now (pass_in self.old.pass.now)) (sheet_in dst.new) own.new }
+        ensures copy { result ≤ own.old.rows
+            → IsReadyToOpen (opened self.old.tree.now).kind own.old.rows (map_seen self.old.tree.now (pass_in self.old.pass.now)) (sheet_in dst.new) own.new }
     {
         copy_under(&mut self.taken, self.tree, self.pass, dst, own)
     }
@@ -359,18 +387,19 @@ impl<'a> Locked<'a, Taken<WriterState>> {
 }
 
 impl Tree {
-    /// The form of the tree's words, whose map is that after all that the handle has then seen.
-    pub fn check(&self, rt: &impl Wait, pass: &mut Pass) -> Form
+    /// The form of the very words that the lock protected, whose map is that after all that the handle has then seen. The
+    /// receipt has these words.
+    pub fn check(&self, rt: &impl Wait, pass: &mut Pass) -> (Form, Look)
         requires { IsPassOf self.now pass.old }
         ensures of { IsPassOf self.now pass.new }
         ensures tries { TriesOnce pass.old pass.new }
         ensures saw { Saw (opened self.now) (pass_in pass.old) (pass_in pass.new) }
-        ensures form { IsFormOf (opened self.now).kind (opened self.now).rows (map_seen self.now (pass_in pass.new)) result }
+        ensures form { IsFormBehind self.now (pass_in pass.new) result }
     {
-        let mut write = self.lock(rt, pass);
-        let form = write.check();
-        write.unlock();
-        form
+        let mut taken = self.take(rt, pass);
+        let took = taken.value.snapshot(self);
+        let form = taken.value.check(self, pass);
+        (form, self.give_looked(taken, took))
     }
 
     /// Copies the nodes into new ones. Answers how many are in use.
@@ -380,77 +409,74 @@ impl Tree {
         pass: &mut Pass,
         dst: &mut PlainRows,
         book: &mut RowBook,
-    ) -> u64
+    ) -> (u64, Look)
         requires pass { IsPassOf self.now pass.old }
         requires rows { sheet_in dst.old ≡ new_sheet (kind_width (opened self.now).kind) book.old.rows }
         requires book { book.old ≡ new_book book.old.rows }
         ensures of { IsPassOf self.now pass.new }
         ensures tries { TriesOnce pass.old pass.new }
         ensures saw { Saw (opened self.now) (pass_in pass.old) (pass_in pass.new) }
-        ensures live { IsRowCount (opened self.now).kind (opened self.now).rows (map_seen self.now (pass_in pass.new)) result }
-        ensures copy { result ≤ book.old.rows → IsReadyToOpen (opened self.now).kind book.old.rows (map_seen self.now (pass_in pass.new)) (sheet_in dst.new) book.new }
+        ensures look { IsLookAt self.now (pass_in pass.new) result.1 }
+        ensures live { result.0 ≡ live_rows (words_in result.1) }
+        ensures copy { result.0 ≤ book.old.rows
+            → IsReadyToOpen (opened self.now).kind book.old.rows (map_seen self.now (pass_in pass.new)) (sheet_in dst.new) book.new }
     {
-        let mut write = self.lock(rt, pass);
-        let live = write.copy(dst, book);
-        write.unlock();
-        live
+        let mut taken = self.take(rt, pass);
+        let took = taken.value.snapshot(self);
+        let live = taken.value.copy(self, pass, dst, book);
+        (live, self.give_looked(taken, took))
     }
 
     /// As `dup`, where this shape is in range and of the tree's kind: a tree that opens with the copy.
-    #[tactic(auto, using(crate::proofs::Forms::uncounted, crate::proofs::Forms::counted_behind))]
     fn copied(
         &self,
         rt: &impl Wait,
         alloc: Global,
         pass: &mut Pass,
         shape: Shape,
-    ) -> Result<(Tree, Vec<Pass>), DupError>
+    ) -> (Result<(Tree, Vec<Pass>), DupError>, Option<Look>)
         requires pass { IsPassOf self.now pass.old }
         requires shape { first_bad shape ≡ None }
         requires kind { shape.kind ≡ (opened self.now).kind }
         ensures of { IsPassOf self.now pass.new }
-        ensures tries { (pass.new ≡ pass.old) ⊎ TriesOnce pass.old pass.new }
-        ensures pass { (pass_in pass.new ≡ pass_in pass.old) ⊎ Saw (opened self.now) (pass_in pass.old) (pass_in pass.new) }
-        ensures looked { WasCounted result → Saw (opened self.now) (pass_in pass.old) (pass_in pass.new) × TriesOnce pass.old pass.new }
-        ensures new { IfOk result (λ r. Saw (opened self.now) (pass_in pass.old) (pass_in pass.new) × IsNew shape (map_seen self.now (pass_in pass.new)) r.0 r.1.items) }
-        ensures counted { IsCopyCounted (opened self.now).kind (opened self.now).rows (map_seen self.now (pass_in pass.new)) shape.rows result }
-        ensures room { IfErr result IsForRoom }
+        ensures looked { IsCopyLooked self.now pass.old pass.new shape result.0 result.1 }
+        ensures new { IfOk result.0 (λ made. IsNew shape (map_seen self.now (pass_in pass.new)) made.0 made.1.items) }
+        ensures room { IfErr result.0 IsForRoom }
     {
         let Ok((mut rows, mut book)) = room(alloc, &shape) else {
-            return Err(DupError::NoMemory);
+            return (Err(DupError::NoMemory), None);
         };
-        let live = self.copy_rows(rt, pass, &mut rows, &mut book);
-        open_copy(alloc, shape, live, rows, book)
+        let (live, look) = self.copy_rows(rt, pass, &mut rows, &mut book);
+        (open_copy(alloc, shape, live, rows, book), Some(look))
     }
 
     /// A new tree of the same kind that opens with this tree's map, as it is after all that the handle has then seen, and the
     /// new tree's handles. A shape that is out of range is refused by its first such field, before any memory is taken. Then a
-    /// shape of another kind is refused, and then one of fewer nodes than this tree has in use.
+    /// shape of another kind is refused, and then one of fewer nodes than are in use. It does not go for the lock if the shape or
+    /// the kind is refused, or memory ran out for the new nodes: then there is no look. Else it waits for it once, and the
+    /// refusal for too few nodes is by those in use that the lock protected.
     ///
     /// # Errors
     ///
     /// `BadShape`; `Invalid` if the kind is another; `NoMemory` if there is none for the new nodes; `NoNodes` if they are too
     /// few; `NoMemory` if there is none for the new tree.
-    #[tactic(auto, using(crate::proofs::Forms::uncounted, crate::proofs::Forms::bad_refused, crate::proofs::Forms::invalid_refused, crate::proofs::Forms::refused_uncounted, crate::proofs::Forms::never_counted))]
+    #[tactic(auto, using(crate::proofs::Forms::bad_refused, crate::proofs::Forms::invalid_refused, crate::proofs::Forms::never_counted))]
     pub fn dup(
         &self,
         rt: &impl Wait,
         alloc: Global,
         pass: &mut Pass,
         shape: Shape,
-    ) -> Result<(Tree, Vec<Pass>), DupError>
+    ) -> (Result<(Tree, Vec<Pass>), DupError>, Option<Look>)
         requires { IsPassOf self.now pass.old }
         ensures of { IsPassOf self.now pass.new }
-        ensures tries { (pass.new ≡ pass.old) ⊎ TriesOnce pass.old pass.new }
-        ensures pass { (pass_in pass.new ≡ pass_in pass.old) ⊎ Saw (opened self.now) (pass_in pass.old) (pass_in pass.new) }
-        ensures bad { (field : Field) → (result ≡ Err (DupError.BadShape field)) ↔ (first_bad shape ≡ Some field) }
-        ensures invalid { (result ≡ Err DupError.Invalid) ↔ ((first_bad shape ≡ None) × (shape.kind ≢ (opened self.now).kind)) }
-        ensures counted { IsCopyCounted (opened self.now).kind (opened self.now).rows (map_seen self.now (pass_in pass.new)) shape.rows result }
-        ensures looked { WasCounted result → Saw (opened self.now) (pass_in pass.old) (pass_in pass.new) × TriesOnce pass.old pass.new }
-        ensures new { IfOk result (λ r. Saw (opened self.now) (pass_in pass.old) (pass_in pass.new) × IsNew shape (map_seen self.now (pass_in pass.new)) r.0 r.1.items) }
+        ensures bad { (field : Field) → (result.0 ≡ Err (DupError.BadShape field)) ↔ (first_bad shape ≡ Some field) }
+        ensures invalid { (result.0 ≡ Err DupError.Invalid) ↔ ((first_bad shape ≡ None) × (shape.kind ≢ (opened self.now).kind)) }
+        ensures looked { IsCopyLooked self.now pass.old pass.new shape result.0 result.1 }
+        ensures new { IfOk result.0 (λ made. IsNew shape (map_seen self.now (pass_in pass.new)) made.0 made.1.items) }
     {
         match refusal(&shape, self.shape.kind) {
-            Some(error) => Err(error),
+            Some(error) => (Err(error), None),
             None => self.copied(rt, alloc, pass, shape),
         }
     }

@@ -2,14 +2,14 @@
 
 ghost use Rattle.std.specs.Prelude.{◌≡◌, None};
 ghost use Rattle.std.proofs.Props.{props};
-ghost use Rattle.mt_read.specs.Cursors.{place_from, IsCursorOf};
+ghost use Rattle.mt_read.specs.Cursors.{IsCursorOf};
+ghost use Rattle.mt_base.specs.Places.{place_within};
 ghost use Rattle.mt_rule.specs.Tokens.{part_of};
 ghost use Rattle.mt_tree.specs.Cursors.{fills_prop, apart_prop, ends_prop};
 ghost use Rattle.mt_tree.specs.Trees.{IsPassOf};
 
-use crate::shapes::Read;
 use crate::trees::Tree;
-use mt_base::{Range, Steps};
+use mt_base::{Range, Read, Steps};
 use mt_rule::Pass;
 use std::sync::ledger::Ledger;
 
@@ -36,7 +36,7 @@ impl Tree {
         ensures same_reference { result.pass.ghost_name ≡ pass.entry.ghost_name }
         ensures tree { result.tree.now ≡ self.now }
         ensures pass { result.pass.now ≡ pass.old }
-        ensures at { result.walk.at ≡ place_from from max }
+        ensures at { result.walk.at ≡ place_within from max }
         ensures max { result.walk.max ≡ max }
         ensures leaf { result.walk.leaf ≡ None }
         ensures epoch { result.walk.epoch ≡ None }
@@ -52,7 +52,8 @@ impl Tree {
 impl<'a> Cursor<'a> {
     ghost use Rattle.std.specs.Prelude.{◌≡◌, ◌⊎◌, ℕ, ◌+◌, ◌≤◌, Some, None, IfSome};
     ghost use Rattle.mt_base.specs.Passes as known;
-    ghost use Rattle.mt_read.specs.Cursors.{HasStepped, IsOver, IsOverPlace, LeafWasMarked, MarksKeptLeaf, epoch_or, place_behind, query_at};
+    ghost use Rattle.mt_read.specs.Cursors.{HasStepped, IsOver, IsOverPlace, LeafWasMarked, MarksKeptLeaf, epoch_or};
+    ghost use Rattle.mt_base.specs.Places.{find_at, place_behind};
     ghost use Rattle.mt_rule.specs.Tokens.{part_of, pass_in, IsCounted};
     ghost use Rattle.mt_tree.specs.Trees.{opened, IsPassOf, Takes};
 
@@ -69,7 +70,8 @@ impl<'a> Cursor<'a> {
         ensures same_reference { self.new.pass.ghost_name ≡ self.old.pass.ghost_name }
         ensures tree { self.new.tree ≡ self.old.tree }
         ensures of { IsPassOf self.old.tree.now self.new.pass.now }
-        ensures read { (k : ℕ) × known.Read (opened self.old.tree.now) (pass_in self.old.pass.now) result.lo result.hi k (query_at self.old.walk.at self.old.walk.max) result.value (pass_in self.new.pass.now) }
+        ensures read { (k : ℕ) × known.Read (opened self.old.tree.now) (pass_in self.old.pass.now) result.lo result.hi k
+            (find_at self.old.walk.at self.old.walk.max) result.value (pass_in self.new.pass.now) }
         ensures section { HasStepped result.lo result.hi self.old.walk.epoch (pass_in self.old.pass.now) (pass_in self.new.pass.now) }
         ensures at { self.new.walk.at ≡ place_behind result.value self.old.walk.max }
         ensures max { self.new.walk.max ≡ self.old.walk.max }
@@ -77,17 +79,13 @@ impl<'a> Cursor<'a> {
         ensures leaf { IfSome result.value (λ range. IsOver self.new.walk.leaf range.last) }
         ensures lo { (self.new.walk.leaf ≡ self.old.walk.leaf) ⊎ IfSome self.new.walk.leaf (λ kept. kept.lo ≡ result.lo) }
         ensures marks { MarksKeptLeaf self.old.walk.leaf self.old.walk.at result.hi (part_of self.old.pass.now) (part_of self.new.pass.now) }
-        ensures short { IsOverPlace self.old.walk.leaf self.old.walk.at → (steps.new ≤ steps.old + 40) ⊎ LeafWasMarked self.old.walk.leaf self.old.walk.at result.hi (part_of self.old.pass.now) (part_of self.new.pass.now) }
+        ensures short { IsOverPlace self.old.walk.leaf self.old.walk.at → (steps.new ≤ steps.old + 40)
+            ⊎ LeafWasMarked self.old.walk.leaf self.old.walk.at result.hi (part_of self.old.pass.now) (part_of self.new.pass.now) }
         ensures counted { IsCounted self.old.pass.now self.new.pass.now steps.old steps.new }
         ensures takes { Takes 220 self.old.pass.now self.new.pass.now }
         ensures steps { steps.new ≤ steps.old + 220 }
     {
-        let answer = self.walk.step(&self.tree.table, self.pass, steps);
-        Read {
-            lo: answer.lo,
-            hi: answer.hi,
-            value: answer.value,
-        }
+        self.walk.step(&self.tree.table, self.pass, steps)
     }
 
     /// Closes the section, so that it holds no node, and keeps the place alone: the next step opens a section and walks again.

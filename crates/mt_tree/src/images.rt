@@ -4,25 +4,47 @@ ghost use Rattle.std.specs.Prelude.{◌≡◌, IfOk};
 ghost use Rattle.mt_base.specs.Passes.{Saw};
 ghost use Rattle.mt_base.specs.Width.{kind_width};
 ghost use Rattle.mt_image.specs.Images.{IsImageOf, IsImageOfMap};
-ghost use Rattle.mt_rule.specs.Seats.{records_of};
+ghost use Rattle.mt_rows.specs.Sheet.{OnlyReads};
 ghost use Rattle.mt_rule.specs.Tokens.{pass_in};
 ghost use Rattle.mt_tree.specs.Behind.{behind_lock, IsAtRest, IsOnlyRead};
-ghost use Rattle.mt_tree.specs.Copies.{AreWordsOf, IsImageIn};
+ghost use Rattle.mt_tree.specs.Copies.{AreWordsOf};
+ghost use Rattle.mt_tree.specs.Looks.{IsImagedBehind};
 ghost use Rattle.mt_tree.specs.Trees.{opened, map_seen, place_of, IsPassOf, IsOpen, Rests, TriesOnce, steps_made};
-ghost use Rattle.mt_tree.specs.Works.{IsWorker};
+ghost use Rattle.mt_tree.specs.Works.{IsWorker, LookedBehind};
 
 use crate::behind::{Tools, WriterState};
 use crate::locked::Locked;
+use crate::receipts::Look;
 use crate::trees::Tree;
 use crate::works::{begin, by_width, end};
-use mt_base::{NoMemory, Width};
+use mt_base::{Kind, NoMemory, Width};
 use mt_engine::Engine;
 use mt_image::write_image;
 use mt_pen::Writer;
+use mt_rows::Rows;
 use mt_rule::{LongRows, OfWidth, Pass, ShortRows, Taken};
 use std::alloc::Global;
 use std::marker::Brand;
 use std::sync::Wait;
+
+/// An image of an engine's tree, which is only read.
+#[tactic(auto, using(crate::proofs::Forms::lawful_as, crate::proofs::Forms::idle_as, crate::proofs::Forms::high_as))]
+pub fn image_of<R: Rows>(
+    engine: Engine<R>,
+    by: (Global, Kind),
+) -> (Engine<R>, Result<Vec<u8>, NoMemory>)
+    requires { by.1 ≡ engine.kind }
+    ensures rest { OnlyReads engine.sheet result.0.sheet }
+    ensures book { result.0.book ≡ engine.book }
+    ensures kind { result.0.kind ≡ engine.kind }
+    ensures image { IfOk result.1 (λ bytes. IsImageOf engine.kind engine.sheet.tree bytes.items) }
+{
+    let (alloc, kind) = by;
+    let height = engine.height();
+    let (mut rows, book) = engine.parts();
+    let image = write_image(alloc, &mut rows, kind);
+    (Engine::of_height(rows, book, kind, height), image)
+}
 
 /// The image of the tree's words.
 fn image_at_work<W: Writer, K: OfWidth>(
@@ -35,25 +57,18 @@ fn image_at_work<W: Writer, K: OfWidth>(
     requires counted { W.steps ≡ steps_made pass.old }
     requires wide { K.wide ≡ kind_width W.table.shape.kind }
     ensures rest { IsAtRest tools.new }
-    ensures read { IsOnlyRead (behind_lock tools.old) (behind_lock tools.new) }
-    ensures of { IsPassOf tree.now pass.new }
-    ensures rests { Rests pass.old pass.new }
-    ensures seen { (pass_in pass.new).seen ≡ records_of (behind_lock tools.new).pen.history }
-    ensures saw { Saw (opened tree.now) (pass_in pass.old) (pass_in pass.new) }
-    ensures words { AreWordsOf (opened tree.now).kind (opened tree.now).rows (map_seen tree.now (pass_in pass.new)) (behind_lock tools.old).parts.sheet.tree }
+    ensures looked { LookedBehind tree.now (behind_lock tools.old) (behind_lock tools.new) pass.old pass.new }
     ensures image { IfOk result (λ bytes. IsImageOf (opened tree.now).kind (behind_lock tools.old).parts.sheet.tree bytes.items) }
 {
     let engine = begin::<W, K>(tools, tree, pass);
-    let height = engine.height();
-    let (mut rows, book) = engine.parts();
-    let image = write_image(alloc, &mut rows, tree.shape.kind);
-    let engine = Engine::of_height(rows, book, tree.shape.kind, height);
+    let (engine, image) = image_of(engine, (alloc, tree.shape.kind));
     end(tools, tree, engine, pass);
     image
 }
 
 impl WriterState {
     /// The image of the tree's words.
+    #[tactic(auto, using(crate::proofs::Keeping::counted_looked))]
     pub(crate) fn image(
         &mut self,
         tree: &Tree,
@@ -62,12 +77,7 @@ impl WriterState {
     ) -> Result<Vec<u8>, NoMemory>
         requires table { self.old.table ≡ place_of tree.now }
         requires pass { IsPassOf tree.now pass.old }
-        ensures state { IsOnlyRead self.old self.new }
-        ensures of { IsPassOf tree.now pass.new }
-        ensures rests { Rests pass.old pass.new }
-        ensures seen { (pass_in pass.new).seen ≡ records_of self.new.pen.history }
-        ensures saw { Saw (opened tree.now) (pass_in pass.old) (pass_in pass.new) }
-        ensures words { AreWordsOf (opened tree.now).kind (opened tree.now).rows (map_seen tree.now (pass_in pass.new)) self.old.parts.sheet.tree }
+        ensures looked { LookedBehind tree.now self.old self.new pass.old pass.new }
         ensures image { IfOk result (λ bytes. IsImageOf (opened tree.now).kind self.old.parts.sheet.tree bytes.items) }
     {
         by_width!(tree, image_at_work(&mut self.tools, tree, pass, alloc))
@@ -104,7 +114,8 @@ impl<'a> Locked<'a, Taken<WriterState>> {
         ensures rests { Rests self.old.pass.now self.new.pass.now }
         ensures pass { pass_in self.new.pass.now ≡ pass_in self.old.pass.now }
         ensures behind { IsOnlyRead self.old.taken.value self.new.taken.value }
-        ensures words { AreWordsOf (opened self.old.tree.now).kind (opened self.old.tree.now).rows (map_seen self.old.tree.now (pass_in self.old.pass.now)) self.old.taken.value.parts.sheet.tree }
+        ensures words { AreWordsOf (opened self.old.tree.now).kind
+            (opened self.old.tree.now).rows (map_seen self.old.tree.now (pass_in self.old.pass.now)) self.old.taken.value.parts.sheet.tree }
         ensures image { IfOk result (λ bytes. IsImageOf (opened self.old.tree.now).kind self.old.taken.value.parts.sheet.tree bytes.items) }
     {
         image_under(&mut self.taken, self.tree, self.pass, alloc)
@@ -112,23 +123,28 @@ impl<'a> Locked<'a, Taken<WriterState>> {
 }
 
 impl Tree {
-    /// The image of the tree's words, whose map is that after all that the handle has then seen. They are copied into the order
-    /// of a walk from the root, so the tree has these nodes in another order.
+    /// The image of the very words that the lock protected, whose map is that after all that the handle has then seen. They are
+    /// copied into the order of a walk from the root, so the tree has these nodes in another order. The receipt has these words.
     ///
     /// # Errors
     ///
-    /// `NoMemory` where memory ran out.
-    pub fn image(&self, rt: &impl Wait, alloc: Global, pass: &mut Pass) -> Result<Vec<u8>, NoMemory>
+    /// The inner one, `NoMemory`, where memory ran out.
+    pub fn image(
+        &self,
+        rt: &impl Wait,
+        alloc: Global,
+        pass: &mut Pass,
+    ) -> (Result<Vec<u8>, NoMemory>, Look)
         requires { IsPassOf self.now pass.old }
         ensures of { IsPassOf self.now pass.new }
         ensures tries { TriesOnce pass.old pass.new }
         ensures saw { Saw (opened self.now) (pass_in pass.old) (pass_in pass.new) }
-        ensures map { IfOk result (λ bytes. IsImageOfMap (opened self.now).kind (map_seen self.now (pass_in pass.new)) bytes.items) }
-        ensures image { IfOk result (λ bytes. IsImageIn (opened self.now).kind (opened self.now).rows (map_seen self.now (pass_in pass.new)) bytes.items) }
+        ensures map { IfOk result.0 (λ bytes. IsImageOfMap (opened self.now).kind (map_seen self.now (pass_in pass.new)) bytes.items) }
+        ensures image { IsImagedBehind self.now (pass_in pass.new) result }
     {
-        let mut write = self.lock(rt, pass);
-        let image = write.image(alloc);
-        write.unlock();
-        image
+        let mut taken = self.take(rt, pass);
+        let took = taken.value.snapshot(self);
+        let image = taken.value.image(self, pass, alloc);
+        (image, self.give_looked(taken, took))
     }
 }

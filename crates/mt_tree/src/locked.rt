@@ -10,12 +10,12 @@ ghost use Rattle.mt_engine.specs.Engine.{is_refusal};
 ghost use Rattle.mt_rule.specs.declared.views.TurnView.{TurnView};
 ghost use Rattle.mt_rule.specs.Tokens.{pass_in};
 ghost use Rattle.mt_tree.specs.Behind.{Behind, after_show, IsReady, IsOnlyRead, IsStoreReply};
-ghost use Rattle.mt_tree.specs.Trees.{opened, limit_of, map_seen, passes_of, IsPassOf, IsOpen, IsShortNow, IsWorn, NamesPass, Rests, TriesOnce, WasAnsweredBy, WasPrepared};
+ghost use Rattle.mt_tree.specs.Trees.{opened, limit_of, map_seen, passes_of, IsPassOf, IsOpen, IsShortNow};
+ghost use Rattle.mt_tree.specs.Trees.{IsWorn, NamesPass, Rests, TriesOnce, WasAnsweredBy, WasPrepared};
 
 use crate::behind::WriterState;
-use crate::shapes::{Done, Read, Worn};
 use crate::trees::Tree;
-use mt_base::{Call, NoMemory, Query, Range, Shortage};
+use mt_base::{Call, Done, NoMemory, Query, Range, Read, Shortage, Worn};
 use mt_rule::{Pass, Taken};
 use std::alloc::Global;
 use std::sync::Wait;
@@ -100,7 +100,8 @@ fn store_under(
     requires ready { IsReady taken.old.value.parts }
     ensures open { IsOpen tree.now pass.new taken.new.value taken.new.seat }
     ensures rests { Rests pass.old pass.new }
-    ensures done { IfOk result (λ d. Wrote (opened tree.now) (pass_in pass.old) d.call (StorePre first last entry) d.reply (pass_in pass.new) × (d.call ≤ limit_of tree.now)) }
+    ensures done { IfOk result (λ d. Wrote (opened tree.now) (pass_in pass.old) d.call (StorePre first last entry) d.reply (pass_in pass.new)
+        × (d.call ≤ limit_of tree.now)) }
     ensures named { IfOk result (λ d. NamesPass tree.now d.reply) }
     ensures stored { IfOk result (λ d. IsStoreReply d.reply) }
     ensures worn { IfErr result (λ w. IsWorn tree.now (pass_in pass.old) w (pass_in pass.new) × (taken.new.value ≡ after_show taken.old.value)) }
@@ -167,12 +168,14 @@ impl<'a> Locked<'a, Taken<WriterState>> {
         ensures same_reference { self.new.pass.ghost_name ≡ self.old.pass.ghost_name }
         ensures tree { self.new.tree ≡ self.old.tree }
         ensures rests { Rests self.old.pass.now self.new.pass.now }
-        ensures done { IfOk result (λ d. Wrote (opened self.old.tree.now) (pass_in self.old.pass.now) d.call call.now d.reply (pass_in self.new.pass.now) × (d.call ≤ limit_of self.old.tree.now)) }
+        ensures done { IfOk result (λ d. Wrote (opened self.old.tree.now)
+            (pass_in self.old.pass.now) d.call call.now d.reply (pass_in self.new.pass.now) × (d.call ≤ limit_of self.old.tree.now)) }
         ensures number { IfOk result (λ d. d.call ≡ length (pass_in self.old.pass.now).seen + 1) }
         ensures callers { IfOk result (λ d. AllByRecursion (λ r. r.pass < passes_of self.old.tree.now) (pass_in self.new.pass.now).seen) }
         ensures still { IfErr result (λ w. (pass_in self.new.pass.now).seen ≡ (pass_in self.old.pass.now).seen) }
         ensures named { IfOk result (λ d. NamesPass self.old.tree.now d.reply) }
-        ensures worn { IfErr result (λ w. IsWorn self.old.tree.now (pass_in self.old.pass.now) w (pass_in self.new.pass.now) × (self.new.taken.value ≡ after_show self.old.taken.value)) }
+        ensures worn { IfErr result (λ w. IsWorn self.old.tree.now (pass_in self.old.pass.now) w (pass_in self.new.pass.now)
+            × (self.new.taken.value ≡ after_show self.old.taken.value)) }
         ensures kept { IfOk result (λ d. is_refusal d.reply ≡ true → self.new.taken.value.parts.sheet.tree ≡ self.old.taken.value.parts.sheet.tree) }
         ensures answered { IfOk result (λ d. WasAnsweredBy self.old.tree.now (pass_in self.new.pass.now) self.old.taken.value self.new.taken.value call.now d) }
     {
@@ -187,7 +190,8 @@ impl<'a> Locked<'a, Taken<WriterState>> {
         ensures behind { IsOnlyRead self.old.taken.value self.new.taken.value }
         ensures pass { pass_in self.new.pass.now ≡ pass_in self.old.pass.now }
         ensures window { (result.lo ≡ length (pass_in self.old.pass.now).seen) × (result.hi ≡ result.lo) }
-        ensures read { known.Read (opened self.old.tree.now) (pass_in self.old.pass.now) result.lo result.hi result.lo query.now result.value (pass_in self.new.pass.now) }
+        ensures read { known.Read (opened self.old.tree.now)
+            (pass_in self.old.pass.now) result.lo result.hi result.lo query.now result.value (pass_in self.new.pass.now) }
     {
         ask_under(&mut self.taken, self.tree, self.pass, query)
     }
@@ -220,10 +224,12 @@ impl<'a> Locked<'a, Taken<WriterState>> {
         ensures same_reference { self.new.pass.ghost_name ≡ self.old.pass.ghost_name }
         ensures tree { self.new.tree ≡ self.old.tree }
         ensures rests { Rests self.old.pass.now self.new.pass.now }
-        ensures done { IfOk result (λ d. Wrote (opened self.old.tree.now) (pass_in self.old.pass.now) d.call (StorePre first last entry) d.reply (pass_in self.new.pass.now) × (d.call ≤ limit_of self.old.tree.now)) }
+        ensures done { IfOk result (λ d. Wrote (opened self.old.tree.now) (pass_in self.old.pass.now) d.call
+            (StorePre first last entry) d.reply (pass_in self.new.pass.now) × (d.call ≤ limit_of self.old.tree.now)) }
         ensures named { IfOk result (λ d. NamesPass self.old.tree.now d.reply) }
         ensures stored { IfOk result (λ d. IsStoreReply d.reply) }
-        ensures worn { IfErr result (λ w. IsWorn self.old.tree.now (pass_in self.old.pass.now) w (pass_in self.new.pass.now) × (self.new.taken.value ≡ after_show self.old.taken.value)) }
+        ensures worn { IfErr result (λ w. IsWorn self.old.tree.now (pass_in self.old.pass.now) w (pass_in self.new.pass.now)
+            × (self.new.taken.value ≡ after_show self.old.taken.value)) }
         ensures kept { IfOk result (λ d. is_refusal d.reply ≡ true → self.new.taken.value.parts.sheet.tree ≡ self.old.taken.value.parts.sheet.tree) }
         ensures unscanned { self.new.taken.value.pen.sections ≡ [] }
     {

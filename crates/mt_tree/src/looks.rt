@@ -67,6 +67,7 @@ fn oldest_at_work<W: Writer, K: OfWidth>(
 
 impl WriterState {
     /// Frees the nodes that no section holds. Returns the least epoch at which a section is open.
+    #[tactic(auto, using(crate::proofs::Keeping::counted_least))]
     fn oldest(&mut self, tree: &Tree, pass: &mut Pass) -> u64
         requires table { self.old.table ≡ place_of tree.now }
         requires pass { IsPassOf tree.now pass.old }

@@ -140,8 +140,24 @@ impl Tree {
             shape.calls,
         )?;
         let tools = Some(Tools { pen, book, height });
-        let (turn, passes) = serve(alloc, &table, WriterState { tools }, passes)?;
-        Ok((Tree { table, turn, shape }, passes))
+        let (turn, passes) = serve(
+            alloc,
+            &table,
+            WriterState {
+                tools,
+                ranges: None,
+            },
+            passes,
+        )?;
+        Ok((
+            Tree {
+                apart: [0; 16],
+                table,
+                turn,
+                shape,
+            },
+            passes,
+        ))
     }
 }
 

@@ -6,9 +6,8 @@ ghost use Rattle.mt_tree.specs.Many.{HasLoadedMany, HasPutMany};
 ghost use Rattle.mt_tree.specs.Trees.{IsPassOf, Takes};
 ghost use Rattle.mt_tree.specs.Walks.{IsWalkOf};
 
-use crate::shapes::Read;
 use crate::trees::Tree;
-use mt_base::{Range, Steps};
+use mt_base::{Range, Read, Steps};
 use mt_read::Cursor;
 use mt_rule::Pass;
 use std::sync::ledger::Ledger;
@@ -31,12 +30,7 @@ impl Tree {
         ensures takes { Takes (91 * result.value + 4) pass.old pass.new }
         ensures steps { steps.new ≤ steps.old + 91 * result.value + 4 }
     {
-        let answer = mt_read::load_many(&self.table, pass, indexes, entries, steps);
-        Read {
-            lo: answer.lo,
-            hi: answer.hi,
-            value: answer.value,
-        }
+        mt_read::load_many(&self.table, pass, indexes, entries, steps)
     }
 
     /// Puts the next ranges of the walk into these places, and returns how many: fewer than there are places only if the walk
@@ -57,11 +51,6 @@ impl Tree {
         ensures counted { IsCounted pass.old pass.new steps.old steps.new }
         ensures steps { steps.new ≤ steps.old + 198 * length ranges.old + 3 }
     {
-        let answer = walk.step_many(&self.table, pass, ranges, steps);
-        Read {
-            lo: answer.lo,
-            hi: answer.hi,
-            value: answer.value,
-        }
+        walk.step_many(&self.table, pass, ranges, steps)
     }
 }

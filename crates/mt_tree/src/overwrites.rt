@@ -3,47 +3,26 @@
 ghost use Rattle.std.specs.Prelude.{◌≡◌, IfErr, IfOk, filter, length, set};
 ghost use Rattle.mt_base.specs.Map.{overlaps};
 ghost use Rattle.mt_base.specs.declared.calls.Call.TheVariants.{Store};
-ghost use Rattle.mt_base.specs.declared.ranges.Range.{Range};
-ghost use Rattle.mt_base.specs.Passes as known;
 ghost use Rattle.mt_base.specs.Width.{kind_width};
 ghost use Rattle.mt_rows.specs.Publish.{map_by};
 ghost use Rattle.mt_rows.specs.Sheet.{OnlyReads};
-ghost use Rattle.mt_rule.specs.Seats.{records_of};
 ghost use Rattle.mt_rule.specs.Tokens.{pass_in};
 ghost use Rattle.mt_rule.specs.Turns.{tried};
-ghost use Rattle.mt_tree.specs.Behind.{behind_lock, IsAtRest, IsOnlyRead};
+ghost use Rattle.mt_tree.specs.Behind.{behind_lock, IsAtRest};
 ghost use Rattle.mt_tree.specs.Overwrites.{TellsMet, map_met, ranges_met};
-ghost use Rattle.mt_tree.specs.Trees.{map_seen, opened, place_of, IsPassOf, Rests, TriesOnce, steps_made};
+ghost use Rattle.mt_tree.specs.Trees.{map_seen, place_of, IsPassOf, Rests, TriesOnce, steps_made};
 ghost use Rattle.mt_tree.specs.Tries.{IsBusyOf, WasMade};
-ghost use Rattle.mt_tree.specs.Works.{IsWorker};
+ghost use Rattle.mt_tree.specs.Works.{IsWorker, LookedBehind};
 
 use crate::behind::{Tools, WriterState};
-use crate::shapes::{Done, Worn};
 use crate::trees::Tree;
 use crate::works::{begin, end};
-use mt_base::{Call, Range, Width};
-use mt_engine::Engine;
+use mt_base::{Call, Done, Range, Width, Worn};
+use mt_engine::{Engine, RangePlace};
 use mt_pen::Writer;
 use mt_rows::Rows;
 use mt_rule::{Busy, LongRows, OfWidth, Pass, ShortRows};
 use std::marker::Brand;
-
-/// A place for a range.
-pub trait RangePlace {
-    ghost shows: { Range → Self };
-
-    /// Takes a range.
-    fn put(&mut self, range: Range)
-        ensures { self.new ≡ shows range };
-}
-
-impl RangePlace for Range {
-    ghost shows = { λ r. r };
-
-    fn put(&mut self, range: Range) {
-        *self = range;
-    }
-}
 
 /// Puts a range into the place of this number, if there is one.
 fn tell_at<P: RangePlace>(met: &mut [P], at: u64, range: Range)
@@ -113,11 +92,7 @@ fn tell_at_work<W: Writer, K: OfWidth, P: RangePlace>(
     requires counted { W.steps ≡ steps_made pass.old }
     requires wide { K.wide ≡ kind_width W.table.shape.kind }
     ensures rest { IsAtRest tools.new }
-    ensures read { IsOnlyRead (behind_lock tools.old) (behind_lock tools.new) }
-    ensures of { IsPassOf tree.now pass.new }
-    ensures rests { Rests pass.old pass.new }
-    ensures seen { (pass_in pass.new).seen ≡ records_of (behind_lock tools.new).pen.history }
-    ensures saw { known.Saw (opened tree.now) (pass_in pass.old) (pass_in pass.new) }
+    ensures looked { LookedBehind tree.now (behind_lock tools.old) (behind_lock tools.new) pass.old pass.new }
     ensures tells { TellsMet P.shows (ranges_met (map_seen tree.now (pass_in pass.new)) first last) met.old met.new result }
 {
     let mut engine = begin::<W, K>(tools, tree, pass);
@@ -129,6 +104,7 @@ fn tell_at_work<W: Writer, K: OfWidth, P: RangePlace>(
 impl WriterState {
     /// Puts the ranges that hold some index of `first` to `last` into the places, as far as there are places. Returns how many
     /// there are.
+    #[tactic(auto, using(crate::proofs::Keeping::counted_looked))]
     fn tell_met<P: RangePlace>(
         &mut self,
         tree: &Tree,
@@ -139,19 +115,16 @@ impl WriterState {
     ) -> u64
         requires table { self.old.table ≡ place_of tree.now }
         requires pass { IsPassOf tree.now pass.old }
-        ensures state { IsOnlyRead self.old self.new }
-        ensures of { IsPassOf tree.now pass.new }
-        ensures rests { Rests pass.old pass.new }
-        ensures seen { (pass_in pass.new).seen ≡ records_of self.new.pen.history }
-        ensures saw { known.Saw (opened tree.now) (pass_in pass.old) (pass_in pass.new) }
+        ensures looked { LookedBehind tree.now self.old self.new pass.old pass.new }
         ensures tells { TellsMet P.shows (ranges_met (map_seen tree.now (pass_in pass.new)) first last) met.old met.new result }
     {
-        let tools = &mut self.tools;
         match tree.table.width() {
-            Width::Long => tell_at_work::<Brand, LongRows, P>(tools, tree, pass, first, last, met),
-            Width::Short => tell_at_work::<Brand, ShortRows, P>(
-                tools, tree, pass, first, last, met,
-            ),
+            Width::Long => {
+                tell_at_work::<Brand, LongRows, P>(&mut self.tools, tree, pass, first, last, met)
+            }
+            Width::Short => {
+                tell_at_work::<Brand, ShortRows, P>(&mut self.tools, tree, pass, first, last, met)
+            }
         }
     }
 

@@ -10,10 +10,9 @@ ghost use Rattle.mt_read.specs.Windows.{HasRead};
 ghost use Rattle.mt_rule.specs.Tokens.{part_of, pass_in, IsCounted};
 ghost use Rattle.mt_tree.specs.Trees.{opened, IsPassOf, Takes};
 
-use crate::shapes::Read;
 use crate::trees::Tree;
-use mt_base::{Range, Steps};
-use mt_read::{Moved, ReadAnswer};
+use mt_base::{Range, Read, Steps};
+use mt_read::Moved;
 use mt_rule::Pass;
 use std::sync::ledger::Ledger;
 
@@ -34,8 +33,7 @@ impl Tree {
         ensures takes { Takes 170 pass.old pass.new }
         ensures steps { steps.new ≤ steps.old + 170 }
     {
-        let ReadAnswer { lo, hi, value } = mt_read::load_range(&self.table, pass, index, steps);
-        Read { lo, hi, value }
+        mt_read::load_range(&self.table, pass, index, steps)
     }
 
     /// The entry that an index holds. There is none if the index lies in a hole.
@@ -47,14 +45,14 @@ impl Tree {
     ) -> Read<Option<u64>>
         requires { IsPassOf self.now pass.old }
         ensures of { IsPassOf self.now pass.new }
-        ensures read { (k : ℕ) × (range : Option Range) × known.Read (opened self.now) (pass_in pass.old) result.lo result.hi k (Load index) range (pass_in pass.new) × (result.value ≡ option_map (λ r. r.entry) range) }
+        ensures read { (k : ℕ) × (range : Option Range) × known.Read (opened self.now) (pass_in pass.old) result.lo result.hi k
+            (Load index) range (pass_in pass.new) × (result.value ≡ option_map (λ r. r.entry) range) }
         ensures section { HasRead result.lo result.hi (pass_in pass.old) (pass_in pass.new) }
         ensures counted { IsCounted pass.old pass.new steps.old steps.new }
         ensures takes { Takes 95 pass.old pass.new }
         ensures steps { steps.new ≤ steps.old + 95 }
     {
-        let ReadAnswer { lo, hi, value } = mt_read::load(&self.table, pass, index, steps);
-        Read { lo, hi, value }
+        mt_read::load(&self.table, pass, index, steps)
     }
 
     /// The first range that ends at an index or above, and begins at `max` or below. There is none if the index is above `max`.
@@ -73,8 +71,7 @@ impl Tree {
         ensures takes { Takes 175 pass.old pass.new }
         ensures steps { steps.new ≤ steps.old + 175 }
     {
-        let ReadAnswer { lo, hi, value } = mt_read::find(&self.table, pass, index, max, steps);
-        Read { lo, hi, value }
+        mt_read::find(&self.table, pass, index, max, steps)
     }
 
     /// The first range that begins above an index, and at `max` or below.
@@ -97,13 +94,13 @@ impl Tree {
         ensures section { IfOk result (λ r. HasRead r.lo r.hi (pass_in pass.old) (pass_in pass.new)) }
         ensures moved { IfErr result (λ m. WasMoved (opened self.now) (pass_in pass.old) m.lo m.begun (pass_in pass.new)) }
         ensures given_up { IfErr result (λ m. HasRead m.lo m.begun (pass_in pass.old) (pass_in pass.new)) }
-        ensures left { IfErr result (λ m. WasLeftMarked (Next index (greatest_of (part_of pass.old).shape.kind)) m.lo m.begun (part_of pass.old) (part_of pass.new)) }
+        ensures left { IfErr result
+            (λ m. WasLeftMarked (Next index (greatest_of (part_of pass.old).shape.kind)) m.lo m.begun (part_of pass.old) (part_of pass.new)) }
         ensures counted { IsCounted pass.old pass.new steps.old steps.new }
         ensures takes { Takes 360 pass.old pass.new }
         ensures steps { steps.new ≤ steps.old + 360 }
     {
-        let ReadAnswer { lo, hi, value } = mt_read::next(&self.table, pass, index, max, steps)?;
-        Ok(Read { lo, hi, value })
+        mt_read::next(&self.table, pass, index, max, steps)
     }
 
     /// The last range that ends below an index, and at `min` or above.
@@ -131,8 +128,7 @@ impl Tree {
         ensures takes { Takes 360 pass.old pass.new }
         ensures steps { steps.new ≤ steps.old + 360 }
     {
-        let ReadAnswer { lo, hi, value } = mt_read::prev(&self.table, pass, index, min, steps)?;
-        Ok(Read { lo, hi, value })
+        mt_read::prev(&self.table, pass, index, min, steps)
     }
 
     /// The last range that begins at an index or below, and ends at `min` or above. There is none if the index is below `min`.
@@ -160,7 +156,6 @@ impl Tree {
         ensures takes { Takes 360 pass.old pass.new }
         ensures steps { steps.new ≤ steps.old + 360 }
     {
-        let ReadAnswer { lo, hi, value } = mt_read::rfind(&self.table, pass, index, min, steps)?;
-        Ok(Read { lo, hi, value })
+        mt_read::rfind(&self.table, pass, index, min, steps)
     }
 }

@@ -65,7 +65,8 @@ impl Tree {
         requires { AreAll self.now passes.old }
         ensures all { AreAll self.now passes.new }
         ensures settled { Settled (seen_by self.now (map pass_in passes.new)) (map pass_in passes.old) (map pass_in passes.new) }
-        ensures once { IsPermutation (range_with_len 1 (length (seen_by self.now (map pass_in passes.new)).records)) (flat_map (λ q. q.mine) (map pass_in passes.new)) }
+        ensures once { IsPermutation (range_with_len 1 (length (seen_by self.now (map pass_in passes.new)).records))
+            (flat_map (λ q. q.mine) (map pass_in passes.new)) }
         ensures tries { map turn_seat passes.new ≡ map turn_seat (first_tried passes.old) }
     {
         let mut taken = self.take_first(rt, passes);
@@ -82,7 +83,8 @@ impl Tree {
         requires { AreAll self.now passes.old }
         ensures all { AreAll self.now passes.new }
         ensures settled { IfOk result (λ _. Settled (seen_by self.now (map pass_in passes.new)) (map pass_in passes.old) (map pass_in passes.new)) }
-        ensures once { IfOk result (λ _. IsPermutation (range_with_len 1 (length (seen_by self.now (map pass_in passes.new)).records)) (flat_map (λ q. q.mine) (map pass_in passes.new))) }
+        ensures once { IfOk result (λ _. IsPermutation (range_with_len 1 (length (seen_by self.now (map pass_in passes.new)).records))
+            (flat_map (λ q. q.mine) (map pass_in passes.new))) }
         ensures busy { IfErr result (IsBusyOf self.now) }
         ensures kept { IfErr result (λ _. passes.new ≡ first_tried passes.old) }
         ensures tries { map turn_seat passes.new ≡ map turn_seat (first_tried passes.old) }

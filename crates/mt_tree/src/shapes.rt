@@ -6,9 +6,8 @@ ghost use Rattle.mt_rows.specs.Memory.{sheet_in};
 ghost use Rattle.mt_rows.specs.Plain.{new_sheet};
 ghost use Rattle.mt_tree.specs.Shapes as defined;
 
-use mt_base::{Kind, MOST_ROWS, NoMemory, Reply, width_of};
+use mt_base::{FEWEST_ROWS, Kind, MOST_CALLS, MOST_PASSES, MOST_ROWS, NoMemory, width_of};
 use mt_rows::PlainRows;
-use mt_rule::{MOST_CALLS, MOST_PASSES};
 use std::alloc::Global;
 use std::fmt;
 use thiserror::Error;
@@ -37,7 +36,7 @@ pub enum Field {
 impl fmt::Display for Field {
     fn fmt<W: fmt::Write>(&self, f: &mut fmt::Formatter<W>) -> fmt::Result {
         match self {
-            Field::Rows => write!(f, "a tree has 4 to {MOST_ROWS} rows"),
+            Field::Rows => write!(f, "a tree has {FEWEST_ROWS} to {MOST_ROWS} rows"),
             Field::Passes => write!(f, "a tree has 1 to {MOST_PASSES} passes"),
             Field::Calls => write!(f, "a tree has 1 to {MOST_CALLS} calls"),
         }
@@ -49,7 +48,7 @@ impl Shape {
     pub(crate) fn first_bad(&self) -> Option<Field>
         ensures { result ≡ defined.first_bad self.now }
     {
-        if !(4..=MOST_ROWS).contains(&self.rows) {
+        if !(FEWEST_ROWS..=MOST_ROWS).contains(&self.rows) {
             Some(Field::Rows)
         } else if !(1..=MOST_PASSES).contains(&self.passes) {
             Some(Field::Passes)
@@ -91,28 +90,6 @@ pub enum DupError {
     NoNodes { rows: u64, live: u64 },
     #[error("there is no memory for the copy")]
     NoMemory,
-}
-
-/// A call that was made: its number in the tree's history, and its reply.
-#[derive(Clone, Copy, Debug, PartialEq, Eq)]
-pub struct Done {
-    pub call: u64,
-    pub reply: Reply,
-}
-
-/// The tree has as many calls as it may have.
-#[derive(Clone, Copy, Debug, PartialEq, Eq, Error)]
-#[error("the tree has had all of its {calls} calls")]
-pub struct Worn {
-    pub calls: u64,
-}
-
-/// A read: its answer is that of the map after some number of calls from `lo` to `hi`.
-#[derive(Clone, Copy, Debug, PartialEq, Eq)]
-pub struct Read<T> {
-    pub lo: u64,
-    pub hi: u64,
-    pub value: T,
 }
 
 /// How a tree uses its nodes: how many it has, and how many of these are free, in use, and held back; how many levels it has,

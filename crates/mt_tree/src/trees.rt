@@ -1,7 +1,7 @@
 //! A tree.
 
 ghost use Rattle.std.specs.Prelude.{◌≡◌, ◌≤◌, None};
-ghost use Rattle.mt_rule.specs.Limits.{most_calls};
+ghost use Rattle.mt_base.specs.Limits.{most_calls};
 ghost use Rattle.mt_rule.specs.Tokens.{identity_of};
 ghost use Rattle.mt_rule.specs.Turns.{served};
 ghost use Rattle.mt_pen.specs.Works.{OpensSmall};
@@ -21,6 +21,9 @@ use mt_rule::{MtTable, Turn};
 /// `NoNodes`, which names that handle.
 #[derive(Drop)]
 pub struct Tree {
+    /// Never read. It keeps where the table's words are, which each load reads, out of the cache lines of what lies before the
+    /// tree in memory: that may be what the lock protects, which each call writes.
+    pub(crate) apart: [u64; 16],
     pub(crate) table: MtTable,
     pub(crate) turn: Turn<WriterState>,
     pub(crate) shape: Shape,

@@ -87,7 +87,8 @@ impl Tree {
         ensures saw { IfOk result (λ _. Saw (opened self.now) (pass_in pass.old) (pass_in pass.new)) }
         ensures look { IfOk result (λ r. IsLookAt self.now (pass_in pass.new) r.1) }
         ensures live { IfOk result (λ r. r.0 ≡ live_rows (words_in r.1)) }
-        ensures copy { IfOk result (λ r. r.0 ≤ book.old.rows → IsReadyToOpen (opened self.now).kind book.old.rows (map_seen self.now (pass_in pass.new)) (sheet_in dst.new) book.new) }
+        ensures copy { IfOk result (λ r. r.0 ≤ book.old.rows
+            → IsReadyToOpen (opened self.now).kind book.old.rows (map_seen self.now (pass_in pass.new)) (sheet_in dst.new) book.new) }
         ensures busy { IfErr result (IsBusyOf self.now) }
         ensures kept { IfErr result (λ _. pass.new ≡ tried pass.old) }
         ensures tries { TriesOnce pass.old pass.new }

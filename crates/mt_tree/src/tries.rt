@@ -7,9 +7,8 @@ ghost use Rattle.mt_rule.specs.Turns.{tried};
 ghost use Rattle.mt_tree.specs.Trees.{IsPassOf, TriesOnce};
 ghost use Rattle.mt_tree.specs.Tries.{IsBusyOf, WasMade};
 
-use crate::shapes::{Done, Worn};
 use crate::trees::Tree;
-use mt_base::Call;
+use mt_base::{Call, Done, Worn};
 use mt_rule::{Busy, Pass};
 
 impl Tree {

@@ -6,9 +6,8 @@ ghost use Rattle.mt_rule.specs.Tokens.{pass_in, IsCounted};
 ghost use Rattle.mt_tree.specs.Trees.{IsPassOf, Takes};
 ghost use Rattle.mt_tree.specs.Walks.{HasWalked, IsWalkOf};
 
-use crate::shapes::Read;
 use crate::trees::Tree;
-use mt_base::{Range, Steps};
+use mt_base::{Range, Read, Steps};
 use mt_read::Cursor;
 use mt_rule::Pass;
 use std::marker::Brand;
@@ -31,12 +30,7 @@ impl Tree {
         ensures counted { IsCounted pass.old pass.new steps.old steps.new }
         ensures steps { steps.new ≤ steps.old + 220 }
     {
-        let answer = walk.step(&self.table, pass, steps);
-        Read {
-            lo: answer.lo,
-            hi: answer.hi,
-            value: answer.value,
-        }
+        walk.step(&self.table, pass, steps)
     }
 
     /// Closes the section and keeps the place alone: the next step opens a section and walks again.

@@ -1,6 +1,6 @@
 //! Calls at work: the tools are taken from under the lock, an engine works on the table's nodes, and they are put back.
 
-ghost use Rattle.std.specs.Prelude.{◌≡◌, ◌↔◌, ◌+◌, ◌-◌, ◌^◌, ◌<◌, ◌≤◌, None, true, [], length, IsOk, IfOk, IfErr};
+ghost use Rattle.std.specs.Prelude.{◌≡◌, ◌↔◌, ◌+◌, ◌<◌, ◌≤◌, None, true, false, [], length, IsOk, IfOk, IfErr};
 ghost use Rattle.std.specs.List.{AllByRecursion};
 ghost use Rattle.mt_base.specs.declared.calls.Call.TheVariants.{StorePre};
 ghost use Rattle.mt_base.specs.Passes as known;
@@ -9,9 +9,11 @@ ghost use Rattle.mt_engine.specs.Engine.{is_refusal, IsApplied};
 ghost use Rattle.mt_rule.specs.Seats.{records_of};
 ghost use Rattle.mt_rule.specs.Tokens.{pass_in, turn_seat, WasShown};
 ghost use Rattle.mt_pen.specs.Sheets.{sheet_told};
-ghost use Rattle.mt_tree.specs.Behind.{behind_lock, IsAtRest, IsReady, IsOnlyRead, IsStoreReply};
-ghost use Rattle.mt_tree.specs.Trees.{opened, limit_of, map_seen, passes_of, place_of, IsPassOf, IsShortNow, NamesPass, Rests, WasAnsweredBy, WasPrepared, steps_made};
-ghost use Rattle.mt_tree.specs.Works.{AreBack, IsSeatOf, IsWorker, records_told, shown_pass};
+ghost use Rattle.mt_tree.specs.Behind.{behind_lock, IsAtRest, IsReady, IsStoreReply};
+ghost use Rattle.mt_tree.specs.Trees.{opened, limit_of, map_seen, passes_of, place_of, Acts, IsPassOf, IsShortNow};
+ghost use Rattle.mt_tree.specs.Trees.{NamesPass, Rests, WasAnsweredBy, WasPrepared, steps_made};
+ghost use Rattle.mt_tree.specs.Works.{AreBack, AtWork, IsSeatOf, IsWorker, LookedBehind, records_told, shown_pass};
+ghost use Rattle.mt_base.specs.Limits.{most_calls};
 
 use crate::behind::Tools;
 use crate::trees::Tree;
@@ -35,7 +37,7 @@ macro_rules! by_width {
 
 pub(crate) use by_width;
 
-/// Takes the tools, for a call of the handle, which is then away.
+/// Takes the tools, for a call of the handle, which is then away: an engine works on the table's nodes.
 pub(crate) fn begin<'a, W: Writer, K: OfWidth>(
     tools: &mut Option<Tools>,
     tree: &'a Tree,
@@ -45,10 +47,9 @@ pub(crate) fn begin<'a, W: Writer, K: OfWidth>(
     requires counted { W.steps ≡ steps_made pass.old }
     requires wide { K.wide ≡ kind_width W.table.shape.kind }
     ensures away { tools.new ≡ None }
-    ensures kind { result.kind ≡ (behind_lock tools.old).parts.kind }
-    ensures book { result.book ≡ (behind_lock tools.old).parts.book }
-    ensures sheet { result.sheet ≡ sheet_told W.table (behind_lock tools.old).pen (shown_pass (behind_lock tools.old).pen (pass_in pass.old)) }
-    ensures shown { WasShown (opened tree.now) (behind_lock tools.old).pen (pass_in pass.old) (shown_pass (behind_lock tools.old).pen (pass_in pass.old)) }
+    ensures seat { IsSeatOf tree.now W.turn }
+    ensures kind { tree.now.shape.kind ≡ result.kind }
+    ensures work { AtWork tree.now W.table (behind_lock tools.old) (pass_in pass.old) result }
 {
     let Some(Tools { pen, book, height }) = tools.take() else {
         unreachable!()
@@ -81,7 +82,7 @@ pub(crate) fn end<W: Writer, K: OfWidth>(
 /// Makes one call with an engine, and returns the engine. It is moved here once the handle is joined, so that the program
 /// writes it down where it stays. That makes a call a thirtieth faster.
 fn applied<R: Rows>(engine: Engine<R>, call: &Call) -> (Engine<R>, Reply)
-    requires { engine.sheet.ended < 2 ^ 62 - 1 }
+    requires { engine.sheet.ended < most_calls }
     ensures applied { IsApplied engine.kind engine.sheet result.0.sheet engine.book result.0.book call.now result.1 }
     ensures kind { result.0.kind ≡ engine.kind }
 {
@@ -110,7 +111,9 @@ pub(crate) fn act<W: Writer, K: OfWidth>(
     ensures callers { AllByRecursion (λ r. r.pass < passes_of tree.now) (pass_in pass.new).seen }
     ensures named { NamesPass tree.now result }
     ensures kept { is_refusal result ≡ true → (behind_lock tools.new).parts.sheet.tree ≡ (behind_lock tools.old).parts.sheet.tree }
-    ensures answered { WasAnsweredBy tree.now (pass_in pass.new) (behind_lock tools.old) (behind_lock tools.new) call.now (record { call = length (behind_lock tools.old).pen.history + 1; reply = result }) }
+    ensures acts { is_refusal result ≡ false → Acts (behind_lock tools.old) (behind_lock tools.new) call.now result }
+    ensures answered { WasAnsweredBy tree.now (pass_in pass.new) (behind_lock tools.old)
+        (behind_lock tools.new) call.now (record { call = length (behind_lock tools.old).pen.history + 1; reply = result }) }
 {
     let engine = begin::<W, K>(tools, tree, pass);
     let (engine, reply) = applied(engine, call);
@@ -137,7 +140,8 @@ pub(crate) fn store_prealloc<W: Writer, K: OfWidth>(
     ensures of { IsPassOf tree.now pass.new }
     ensures rests { Rests pass.old pass.new }
     ensures seen { (pass_in pass.new).seen ≡ records_of (behind_lock tools.new).pen.history }
-    ensures wrote { known.Wrote (opened tree.now) (pass_in pass.old) (length (behind_lock tools.old).pen.history + 1) (StorePre first last entry) result (pass_in pass.new) }
+    ensures wrote { known.Wrote (opened tree.now)
+        (pass_in pass.old) (length (behind_lock tools.old).pen.history + 1) (StorePre first last entry) result (pass_in pass.new) }
     ensures named { NamesPass tree.now result }
     ensures stored { IsStoreReply result }
     ensures kept { is_refusal result ≡ true → (behind_lock tools.new).parts.sheet.tree ≡ (behind_lock tools.old).parts.sheet.tree }
@@ -160,12 +164,9 @@ pub(crate) fn ask<W: Writer, K: OfWidth>(
     requires counted { W.steps ≡ steps_made pass.old }
     requires wide { K.wide ≡ kind_width W.table.shape.kind }
     ensures rest { IsAtRest tools.new }
-    ensures read { IsOnlyRead (behind_lock tools.old) (behind_lock tools.new) }
-    ensures of { IsPassOf tree.now pass.new }
-    ensures rests { Rests pass.old pass.new }
-    ensures seen { (pass_in pass.new).seen ≡ records_of (behind_lock tools.new).pen.history }
-    ensures saw { known.Saw (opened tree.now) (pass_in pass.old) (pass_in pass.new) }
-    ensures asked { known.Read (opened tree.now) (pass_in pass.old) (length (behind_lock tools.old).pen.history) (length (behind_lock tools.old).pen.history) (length (behind_lock tools.old).pen.history) query.now result (pass_in pass.new) }
+    ensures looked { LookedBehind tree.now (behind_lock tools.old) (behind_lock tools.new) pass.old pass.new }
+    ensures asked { known.Read (opened tree.now) (pass_in pass.old) (length (behind_lock tools.old).pen.history)
+        (length (behind_lock tools.old).pen.history) (length (behind_lock tools.old).pen.history) query.now result (pass_in pass.new) }
 {
     let mut engine = begin::<W, K>(tools, tree, pass);
     let range = engine.ask(query);
@@ -208,11 +209,7 @@ pub(crate) fn list<W: Writer, K: OfWidth>(
     requires counted { W.steps ≡ steps_made pass.old }
     requires wide { K.wide ≡ kind_width W.table.shape.kind }
     ensures rest { IsAtRest tools.new }
-    ensures read { IsOnlyRead (behind_lock tools.old) (behind_lock tools.new) }
-    ensures of { IsPassOf tree.now pass.new }
-    ensures rests { Rests pass.old pass.new }
-    ensures seen { (pass_in pass.new).seen ≡ records_of (behind_lock tools.new).pen.history }
-    ensures saw { known.Saw (opened tree.now) (pass_in pass.old) (pass_in pass.new) }
+    ensures looked { LookedBehind tree.now (behind_lock tools.old) (behind_lock tools.new) pass.old pass.new }
     ensures items { IfOk result (λ ranges. ranges.items ≡ map_seen tree.now (pass_in pass.new)) }
 {
     let mut engine = begin::<W, K>(tools, tree, pass);

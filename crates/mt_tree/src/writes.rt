@@ -6,9 +6,8 @@ ghost use Rattle.mt_base.specs.Passes.{Wrote, Learned};
 ghost use Rattle.mt_rule.specs.Tokens.{pass_in, note_in};
 ghost use Rattle.mt_tree.specs.Trees.{opened, limit_of, IsPassOf, IsNoteOf, IsWorn, NamesPass, TriesOnce, WasAnswered};
 
-use crate::shapes::{Done, Worn};
 use crate::trees::Tree;
-use mt_base::Call;
+use mt_base::{Call, Done, Worn};
 use mt_rule::{Note, Pass};
 use std::sync::Wait;
 
@@ -50,7 +49,8 @@ impl Tree {
     ) -> Result<Done, Worn>
         requires { IsPassOf self.now pass.old }
         ensures of { IsPassOf self.now pass.new }
-        ensures done { IfOk result (λ d. Wrote (opened self.now) (pass_in pass.old) d.call (calls.Store first last entry) d.reply (pass_in pass.new) × (d.call ≤ limit_of self.now)) }
+        ensures done { IfOk result (λ d. Wrote (opened self.now) (pass_in pass.old) d.call (calls.Store first last entry) d.reply (pass_in pass.new)
+            × (d.call ≤ limit_of self.now)) }
         ensures named { IfOk result (λ d. NamesPass self.now d.reply) }
         ensures answered { IfOk result (λ d. WasAnswered self.now (pass_in pass.new) (calls.Store first last entry) d) }
         ensures worn { IfErr result (λ w. IsWorn self.now (pass_in pass.old) w (pass_in pass.new)) }
@@ -75,7 +75,8 @@ impl Tree {
     ) -> Result<Done, Worn>
         requires { IsPassOf self.now pass.old }
         ensures of { IsPassOf self.now pass.new }
-        ensures done { IfOk result (λ d. Wrote (opened self.now) (pass_in pass.old) d.call (calls.StorePre first last entry) d.reply (pass_in pass.new) × (d.call ≤ limit_of self.now)) }
+        ensures done { IfOk result (λ d. Wrote (opened self.now) (pass_in pass.old) d.call (calls.StorePre first last entry) d.reply (pass_in pass.new)
+            × (d.call ≤ limit_of self.now)) }
         ensures named { IfOk result (λ d. NamesPass self.now d.reply) }
         ensures answered { IfOk result (λ d. WasAnswered self.now (pass_in pass.new) (calls.StorePre first last entry) d) }
         ensures worn { IfErr result (λ w. IsWorn self.now (pass_in pass.old) w (pass_in pass.new)) }
@@ -99,7 +100,8 @@ impl Tree {
     ) -> Result<Done, Worn>
         requires { IsPassOf self.now pass.old }
         ensures of { IsPassOf self.now pass.new }
-        ensures done { IfOk result (λ d. Wrote (opened self.now) (pass_in pass.old) d.call (calls.Insert first last entry) d.reply (pass_in pass.new) × (d.call ≤ limit_of self.now)) }
+        ensures done { IfOk result (λ d. Wrote (opened self.now) (pass_in pass.old) d.call (calls.Insert first last entry) d.reply (pass_in pass.new)
+            × (d.call ≤ limit_of self.now)) }
         ensures named { IfOk result (λ d. NamesPass self.now d.reply) }
         ensures answered { IfOk result (λ d. WasAnswered self.now (pass_in pass.new) (calls.Insert first last entry) d) }
         ensures worn { IfErr result (λ w. IsWorn self.now (pass_in pass.old) w (pass_in pass.new)) }
@@ -116,7 +118,8 @@ impl Tree {
     pub fn erase(&self, rt: &impl Wait, pass: &mut Pass, index: u64) -> Result<Done, Worn>
         requires { IsPassOf self.now pass.old }
         ensures of { IsPassOf self.now pass.new }
-        ensures done { IfOk result (λ d. Wrote (opened self.now) (pass_in pass.old) d.call (calls.Erase index) d.reply (pass_in pass.new) × (d.call ≤ limit_of self.now)) }
+        ensures done { IfOk result
+            (λ d. Wrote (opened self.now) (pass_in pass.old) d.call (calls.Erase index) d.reply (pass_in pass.new) × (d.call ≤ limit_of self.now)) }
         ensures named { IfOk result (λ d. NamesPass self.now d.reply) }
         ensures answered { IfOk result (λ d. WasAnswered self.now (pass_in pass.new) (calls.Erase index) d) }
         ensures worn { IfErr result (λ w. IsWorn self.now (pass_in pass.old) w (pass_in pass.new)) }
@@ -141,7 +144,8 @@ impl Tree {
     ) -> Result<Done, Worn>
         requires { IsPassOf self.now pass.old }
         ensures of { IsPassOf self.now pass.new }
-        ensures done { IfOk result (λ d. Wrote (opened self.now) (pass_in pass.old) d.call (calls.Alloc size min max entry) d.reply (pass_in pass.new) × (d.call ≤ limit_of self.now)) }
+        ensures done { IfOk result (λ d. Wrote (opened self.now) (pass_in pass.old) d.call (calls.Alloc size min max entry) d.reply (pass_in pass.new)
+            × (d.call ≤ limit_of self.now)) }
         ensures named { IfOk result (λ d. NamesPass self.now d.reply) }
         ensures answered { IfOk result (λ d. WasAnswered self.now (pass_in pass.new) (calls.Alloc size min max entry) d) }
         ensures worn { IfErr result (λ w. IsWorn self.now (pass_in pass.old) w (pass_in pass.new)) }
@@ -175,7 +179,8 @@ impl Tree {
     ) -> Result<Done, Worn>
         requires { IsPassOf self.now pass.old }
         ensures of { IsPassOf self.now pass.new }
-        ensures done { IfOk result (λ d. Wrote (opened self.now) (pass_in pass.old) d.call (calls.Ralloc size min max entry) d.reply (pass_in pass.new) × (d.call ≤ limit_of self.now)) }
+        ensures done { IfOk result (λ d. Wrote (opened self.now) (pass_in pass.old) d.call (calls.Ralloc size min max entry) d.reply (pass_in pass.new)
+            × (d.call ≤ limit_of self.now)) }
         ensures named { IfOk result (λ d. NamesPass self.now d.reply) }
         ensures answered { IfOk result (λ d. WasAnswered self.now (pass_in pass.new) (calls.Ralloc size min max entry) d) }
         ensures worn { IfErr result (λ w. IsWorn self.now (pass_in pass.old) w (pass_in pass.new)) }
@@ -209,7 +214,8 @@ impl Tree {
     ) -> Result<Done, Worn>
         requires { IsPassOf self.now pass.old }
         ensures of { IsPassOf self.now pass.new }
-        ensures done { IfOk result (λ d. Wrote (opened self.now) (pass_in pass.old) d.call (calls.Gap size min max) d.reply (pass_in pass.new) × (d.call ≤ limit_of self.now)) }
+        ensures done { IfOk result (λ d. Wrote (opened self.now) (pass_in pass.old) d.call (calls.Gap size min max) d.reply (pass_in pass.new)
+            × (d.call ≤ limit_of self.now)) }
         ensures named { IfOk result (λ d. NamesPass self.now d.reply) }
         ensures answered { IfOk result (λ d. WasAnswered self.now (pass_in pass.new) (calls.Gap size min max) d) }
         ensures worn { IfErr result (λ w. IsWorn self.now (pass_in pass.old) w (pass_in pass.new)) }
@@ -234,7 +240,8 @@ impl Tree {
     ) -> Result<Done, Worn>
         requires { IsPassOf self.now pass.old }
         ensures of { IsPassOf self.now pass.new }
-        ensures done { IfOk result (λ d. Wrote (opened self.now) (pass_in pass.old) d.call (calls.Rgap size min max) d.reply (pass_in pass.new) × (d.call ≤ limit_of self.now)) }
+        ensures done { IfOk result (λ d. Wrote (opened self.now) (pass_in pass.old) d.call (calls.Rgap size min max) d.reply (pass_in pass.new)
+            × (d.call ≤ limit_of self.now)) }
         ensures named { IfOk result (λ d. NamesPass self.now d.reply) }
         ensures answered { IfOk result (λ d. WasAnswered self.now (pass_in pass.new) (calls.Rgap size min max) d) }
         ensures worn { IfErr result (λ w. IsWorn self.now (pass_in pass.old) w (pass_in pass.new)) }
@@ -251,7 +258,8 @@ impl Tree {
     pub fn clear(&self, rt: &impl Wait, pass: &mut Pass) -> Result<Done, Worn>
         requires { IsPassOf self.now pass.old }
         ensures of { IsPassOf self.now pass.new }
-        ensures done { IfOk result (λ d. Wrote (opened self.now) (pass_in pass.old) d.call calls.Clear d.reply (pass_in pass.new) × (d.call ≤ limit_of self.now)) }
+        ensures done { IfOk result
+            (λ d. Wrote (opened self.now) (pass_in pass.old) d.call calls.Clear d.reply (pass_in pass.new) × (d.call ≤ limit_of self.now)) }
         ensures named { IfOk result (λ d. NamesPass self.now d.reply) }
         ensures answered { IfOk result (λ d. WasAnswered self.now (pass_in pass.new) calls.Clear d) }
         ensures worn { IfErr result (λ w. IsWorn self.now (pass_in pass.old) w (pass_in pass.new)) }

@@ -36,8 +36,10 @@ fn expect_again<R: Abort + Wait>(rt: &R, alloc: Global, filled: Filled) -> Resul
     let (tree, mut passes) = made(alloc, shape_of(filled.kind, 4096, 1, 1000))?;
     let mut pass = last_pass(&tree, &mut passes)?;
     fill(rt, &tree, &mut pass);
-    let live = tree.check(rt, &mut pass).rows;
-    let image = tree.image(rt, alloc, &mut pass)?;
+    let (form, _look) = tree.check(rt, &mut pass);
+    let live = form.rows;
+    let (image, _look) = tree.image(rt, alloc, &mut pass);
+    let image = image?;
     let (kind, mut rows) = read_image(alloc, &image)?;
     same(rt, kind, filled.kind, "the image");
     let why = not_made(alloc, &mut rows, kind, filled.other, 4);
@@ -61,7 +63,8 @@ fn expect_again<R: Abort + Wait>(rt: &R, alloc: Global, filled: Filled) -> Resul
     let same_ranges = listed(rt, alloc, &again, &mut other)?;
     same(rt, ranges.len(), 100, "the tree");
     same(rt, same_ranges.as_slice(), ranges.as_slice(), "the ranges");
-    let same_image = again.image(rt, alloc, &mut other)?;
+    let (same_image, _look) = again.image(rt, alloc, &mut other);
+    let same_image = same_image?;
     same(
         rt,
         same_image.as_slice(),

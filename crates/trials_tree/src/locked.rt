@@ -78,8 +78,10 @@ fn expect_told<R: Abort + Wait>(rt: &R, alloc: Global, filled: Filled) -> Result
     let mut pass = last_pass(&tree, &mut passes)?;
     fill(rt, &tree, &mut pass);
     let (form, image) = told(rt, alloc, &tree, &mut pass)?;
-    same(rt, tree.check(rt, &mut pass), form, "the form");
-    let same_image = tree.image(rt, alloc, &mut pass)?;
+    let (same_form, _look) = tree.check(rt, &mut pass);
+    same(rt, same_form, form, "the form");
+    let (same_image, _look) = tree.image(rt, alloc, &mut pass);
+    let same_image = same_image?;
     same(rt, same_image.as_slice(), image.as_slice(), "the image");
     expect_copied(rt, alloc, &tree, &mut pass, filled, form.rows)
 }

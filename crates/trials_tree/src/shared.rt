@@ -270,6 +270,22 @@ pub fn fill(rt: &impl Wait, tree: &Tree, pass: &mut Pass)
     }
 }
 
+/// What a copy of a tree comes to. The look at the tree is let go.
+fn duplicated(
+    rt: &impl Wait,
+    alloc: Global,
+    tree: &Tree,
+    pass: &mut Pass,
+    shape: Shape,
+) -> Result<(Tree, Vec<Pass>), DupError>
+    requires { IsPassOf tree.now pass.old }
+    ensures of { IsPassOf tree.now pass.new }
+    ensures copy { IfOk result (λ r. AreAll r.0 r.1.items) }
+{
+    let (made, _look) = tree.dup(rt, alloc, pass, shape);
+    made
+}
+
 /// Why no copy of this kind with this many nodes is made.
 fn not_copied(
     rt: &impl Wait,
@@ -288,7 +304,7 @@ fn not_copied(
         passes: 1,
         calls: 9,
     };
-    match tree.dup(rt, alloc, pass, shape) {
+    match duplicated(rt, alloc, tree, pass, shape) {
         Ok(_) => None,
         Err(why) => Some(why),
     }
@@ -306,7 +322,7 @@ fn copied(
     ensures of { IsPassOf tree.now pass.new }
     ensures copy { IfOk result (λ r. AreAll r.0 r.1.items) }
 {
-    match tree.dup(rt, alloc, pass, shape) {
+    match duplicated(rt, alloc, tree, pass, shape) {
         Ok(made) => Ok(made),
         Err(_) => Err("no copy was made".into()),
     }
@@ -347,7 +363,8 @@ fn expect_not_copied<R: Abort + Wait>(
     let why = not_copied(rt, alloc, tree, pass, filled.other, 3);
     let field = Field::Rows;
     same(rt, why, Some(DupError::BadShape { field }), 3);
-    let Form { rows, ranges, .. } = tree.check(rt, pass);
+    let (form, _look) = tree.check(rt, pass);
+    let Form { rows, ranges, .. } = form;
     same(rt, (rows >= filled.least, ranges), (true, 100), rows);
     let why = not_copied(rt, alloc, tree, pass, filled.kind, 4);
     let (rows, live) = (4, rows);
@@ -364,7 +381,7 @@ fn expect_copy<R: Abort + Wait>(
 ) -> Result<(), Fail>
     requires { IsPassOf tree.now pass.old }
 {
-    let form = tree.check(rt, pass);
+    let (form, _look) = tree.check(rt, pass);
     let (copy, mut others) = copied(rt, alloc, tree, pass, shape_of(kind, 4096, 1, 9))?;
     let mut other = last_pass(&copy, &mut others)?;
     let ranges = listed(rt, alloc, tree, pass)?;
@@ -374,7 +391,8 @@ fn expect_copy<R: Abort + Wait>(
     // The calls of the copy are numbered from 1, and the tree stays.
     let cleared = copy.clear(rt, &mut other);
     same(rt, cleared, done(1, Reply::Ok), "the clear");
-    same(rt, tree.check(rt, pass), form, "the end");
+    let (end, _look) = tree.check(rt, pass);
+    same(rt, end, form, "the end");
     Ok(())
 }
 

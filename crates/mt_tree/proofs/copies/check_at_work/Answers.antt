@@ -1,72 +1,13 @@
-use Rattle.mt_tree.proofs.Prelude.{sym, ap, ◌∙◌, Sheet}
-use Rattle.mt_tree.proofs.AtWork.{at_work, kind_still, seat_of, still_few}
-use Rattle.mt_tree.proofs.Calling.{map_still, only_read, saw_all, seen_still, told_still}
-use Rattle.mt_tree.proofs.Forms.{form_behind, high_as, idle_as, lawful_as, reads_through, words_behind}
+use Rattle.mt_tree.proofs.Prelude.{ap, ◌∙◌, form_of, tree_as, Sheet}
+use Rattle.mt_tree.proofs.AtWork.{still_few, tree_is}
+use Rattle.mt_tree.proofs.Forms.{looked}
 use Rattle.mt_tree.proofs.copies.check_at_work.Goals as goal
 
-pub form_of-form-requires : goal.form_of-form-requires
-form_of-form-requires g c =
-    let w = at_work c.args.tree.now c.args.tools.now c.args.pass.now g.W.Writer.table g.W.Writer.turn c.begin-engine.result c.requires.worker c.begin-engine.ensures.kind c.begin-engine.ensures.book c.begin-engine.ensures.sheet c.begin-engine.ensures.shown in
-    let kind = kind_still _ _ _ _ _ w ∙ sym c.args.tree.now.kind in
-    lawful_as _ _ _ _ _ c.parts-rows.ensures.rows kind c.parts-rows.ensures.idle
-
-pub of_height-engine-requires-clause-idle : goal.of_height-engine-requires-clause-idle
-of_height-engine-requires-clause-idle g c =
-    let w = at_work c.args.tree.now c.args.tools.now c.args.pass.now g.W.Writer.table g.W.Writer.turn c.begin-engine.result c.requires.worker c.begin-engine.ensures.kind c.begin-engine.ensures.book c.begin-engine.ensures.sheet c.begin-engine.ensures.shown in
-    let kind = kind_still _ _ _ _ _ w ∙ sym c.args.tree.now.kind in
-    idle_as _ _ _ _ _ _ c.parts-rows.ensures.rows kind c.form_of-form.ensures.rest c.parts-rows.ensures.idle
-
-pub of_height-engine-requires-clause-height : goal.of_height-engine-requires-clause-height
-of_height-engine-requires-clause-height g c =
-    let w = at_work c.args.tree.now c.args.tools.now c.args.pass.now g.W.Writer.table g.W.Writer.turn c.begin-engine.result c.requires.worker c.begin-engine.ensures.kind c.begin-engine.ensures.book c.begin-engine.ensures.sheet c.begin-engine.ensures.shown in
-    high_as _ _ _ c.height-height.result c.parts-rows.ensures.rows c.form_of-form.ensures.rest c.height-height.ensures
-
-pub end-requires-clause-turn : goal.end-requires-clause-turn
-end-requires-clause-turn g c = seat_of _ _ _ c.requires.worker.turn_is c.requires.worker.pass
-
 pub end-requires-clause-few : goal.end-requires-clause-few
-end-requires-clause-few g c =
-    let w = at_work c.args.tree.now c.args.tools.now c.args.pass.now g.W.Writer.table g.W.Writer.turn c.begin-engine.result c.requires.worker c.begin-engine.ensures.kind c.begin-engine.ensures.book c.begin-engine.ensures.sheet c.begin-engine.ensures.shown in
-    let reads = reads_through _ _ _ _ c.parts-rows.ensures.rows c.form_of-form.ensures.rest c.of_height-engine.ensures.sheet in
-    still_few _ _ _ _ _ w c.of_height-engine.result (ap (λ (s : Sheet). s.told) reads)
+end-requires-clause-few g c = still_few _ _ _ _ _ c.begin-engine.ensures.work c.form_in-engine.result.0 (ap (λ (s : Sheet). s.told) c.form_in-engine.ensures.rest)
 
-pub returns-clause-read : goal.returns-clause-read
-returns-clause-read g c =
-    let w = at_work c.args.tree.now c.args.tools.now c.args.pass.now g.W.Writer.table g.W.Writer.turn c.begin-engine.result c.requires.worker c.begin-engine.ensures.kind c.begin-engine.ensures.book c.begin-engine.ensures.sheet c.begin-engine.ensures.shown in
-    let kind = kind_still _ _ _ _ _ w ∙ sym c.args.tree.now.kind in
-    let reads = reads_through _ _ _ _ c.parts-rows.ensures.rows c.form_of-form.ensures.rest c.of_height-engine.ensures.sheet in
-    let book = c.of_height-engine.ensures.book ∙ c.parts-rows.ensures.book in
-    let kind' = c.of_height-engine.ensures.kind ∙ sym kind in
-    only_read _ _ _ _ _ _ _ _ w c.end.ensures.back reads book kind'
-
-pub returns-clause-seen : goal.returns-clause-seen
-returns-clause-seen g c =
-    let w = at_work c.args.tree.now c.args.tools.now c.args.pass.now g.W.Writer.table g.W.Writer.turn c.begin-engine.result c.requires.worker c.begin-engine.ensures.kind c.begin-engine.ensures.book c.begin-engine.ensures.sheet c.begin-engine.ensures.shown in
-    let kind = kind_still _ _ _ _ _ w ∙ sym c.args.tree.now.kind in
-    let reads = reads_through _ _ _ _ c.parts-rows.ensures.rows c.form_of-form.ensures.rest c.of_height-engine.ensures.sheet in
-    let book = c.of_height-engine.ensures.book ∙ c.parts-rows.ensures.book in
-    let kind' = c.of_height-engine.ensures.kind ∙ sym kind in
-    seen_still _ _ _ _ _ _ _ _ w c.end.ensures.back (told_still _ _ _ _ _ _ _ _ w c.end.ensures.back reads book kind')
-
-pub returns-clause-saw : goal.returns-clause-saw
-returns-clause-saw g c =
-    let w = at_work c.args.tree.now c.args.tools.now c.args.pass.now g.W.Writer.table g.W.Writer.turn c.begin-engine.result c.requires.worker c.begin-engine.ensures.kind c.begin-engine.ensures.book c.begin-engine.ensures.sheet c.begin-engine.ensures.shown in
-    let kind = kind_still _ _ _ _ _ w ∙ sym c.args.tree.now.kind in
-    let reads = reads_through _ _ _ _ c.parts-rows.ensures.rows c.form_of-form.ensures.rest c.of_height-engine.ensures.sheet in
-    let book = c.of_height-engine.ensures.book ∙ c.parts-rows.ensures.book in
-    let kind' = c.of_height-engine.ensures.kind ∙ sym kind in
-    saw_all _ _ _ _ _ _ _ _ w c.end.ensures.back (told_still _ _ _ _ _ _ _ _ w c.end.ensures.back reads book kind')
-
-pub returns-clause-words : goal.returns-clause-words
-returns-clause-words g c =
-    let w = at_work c.args.tree.now c.args.tools.now c.args.pass.now g.W.Writer.table g.W.Writer.turn c.begin-engine.result c.requires.worker c.begin-engine.ensures.kind c.begin-engine.ensures.book c.begin-engine.ensures.sheet c.begin-engine.ensures.shown in
-    let kind = kind_still _ _ _ _ _ w ∙ sym c.args.tree.now.kind in
-    let reads = reads_through _ _ _ _ c.parts-rows.ensures.rows c.form_of-form.ensures.rest c.of_height-engine.ensures.sheet in
-    let book = c.of_height-engine.ensures.book ∙ c.parts-rows.ensures.book in
-    let kind' = c.of_height-engine.ensures.kind ∙ sym kind in
-    words_behind _ _ _ _ _ w _ (map_still _ _ _ _ _ _ _ _ w c.end.ensures.back (told_still _ _ _ _ _ _ _ _ w c.end.ensures.back reads book kind'))
+pub returns-clause-looked : goal.returns-clause-looked
+returns-clause-looked g c = looked _ _ _ _ _ _ c.args.pass.now _ c.begin-engine.ensures.work c.end.ensures.back c.form_in-engine.ensures.rest c.form_in-engine.ensures.book c.form_in-engine.ensures.kind (c.end.ensures.counted ∙ c.requires.counted) (c.end.ensures.turn ∙ c.requires.worker.turn_is)
 
 pub returns-clause-form : goal.returns-clause-form
-returns-clause-form g c =
-    let w = at_work c.args.tree.now c.args.tools.now c.args.pass.now g.W.Writer.table g.W.Writer.turn c.begin-engine.result c.requires.worker c.begin-engine.ensures.kind c.begin-engine.ensures.book c.begin-engine.ensures.sheet c.begin-engine.ensures.shown in
-    form_behind _ _ _ _ _ w _ c.parts-rows.ensures.rows _ c.form_of-form.result c.args.tree.now.kind c.form_of-form.ensures.form
+returns-clause-form g c = c.form_in-engine.ensures.form ∙ (λ k. form_of (tree_as (c.args.tree.now.kind k) (tree_is _ _ _ _ _ c.begin-engine.ensures.work k)))

@@ -1,32 +1,14 @@
-use Rattle.mt_tree.proofs.Prelude.{ap, Sheet}
-use Rattle.mt_tree.proofs.AtWork.{at_work, seat_of, still_few}
-use Rattle.mt_tree.proofs.Calling.{answered, only_read, saw_all, seen_still, told_still}
+use Rattle.mt_tree.proofs.Prelude.{ap, ◌∙◌, Sheet}
+use Rattle.mt_tree.proofs.AtWork.{still_few}
+use Rattle.mt_tree.proofs.Calling.{answered}
+use Rattle.mt_tree.proofs.Forms.{looked}
 use Rattle.mt_tree.proofs.works.ask.Goals as goal
 
-pub end-requires-clause-turn : goal.end-requires-clause-turn
-end-requires-clause-turn g c = seat_of _ _ _ c.requires.worker.turn_is c.requires.worker.pass
-
 pub end-requires-clause-few : goal.end-requires-clause-few
-end-requires-clause-few g c =
-    let w = at_work c.args.tree.now c.args.tools.now c.args.pass.now g.W.Writer.table g.W.Writer.turn c.begin-engine.result c.requires.worker c.begin-engine.ensures.kind c.begin-engine.ensures.book c.begin-engine.ensures.sheet c.begin-engine.ensures.shown in
-    still_few _ _ _ _ _ w c.ask-range.new.self (ap (λ (s : Sheet). s.told) c.ask-range.ensures.rest)
+end-requires-clause-few g c = still_few _ _ _ _ _ c.begin-engine.ensures.work c.ask-range.new.self (ap (λ (s : Sheet). s.told) c.ask-range.ensures.rest)
 
-pub returns-clause-read : goal.returns-clause-read
-returns-clause-read g c =
-    let w = at_work c.args.tree.now c.args.tools.now c.args.pass.now g.W.Writer.table g.W.Writer.turn c.begin-engine.result c.requires.worker c.begin-engine.ensures.kind c.begin-engine.ensures.book c.begin-engine.ensures.sheet c.begin-engine.ensures.shown in
-    only_read _ _ _ _ _ _ _ _ w c.end.ensures.back c.ask-range.ensures.rest c.ask-range.ensures.book c.ask-range.ensures.kind
-
-pub returns-clause-seen : goal.returns-clause-seen
-returns-clause-seen g c =
-    let w = at_work c.args.tree.now c.args.tools.now c.args.pass.now g.W.Writer.table g.W.Writer.turn c.begin-engine.result c.requires.worker c.begin-engine.ensures.kind c.begin-engine.ensures.book c.begin-engine.ensures.sheet c.begin-engine.ensures.shown in
-    seen_still _ _ _ _ _ _ _ _ w c.end.ensures.back (told_still _ _ _ _ _ _ _ _ w c.end.ensures.back c.ask-range.ensures.rest c.ask-range.ensures.book c.ask-range.ensures.kind)
-
-pub returns-clause-saw : goal.returns-clause-saw
-returns-clause-saw g c =
-    let w = at_work c.args.tree.now c.args.tools.now c.args.pass.now g.W.Writer.table g.W.Writer.turn c.begin-engine.result c.requires.worker c.begin-engine.ensures.kind c.begin-engine.ensures.book c.begin-engine.ensures.sheet c.begin-engine.ensures.shown in
-    saw_all _ _ _ _ _ _ _ _ w c.end.ensures.back (told_still _ _ _ _ _ _ _ _ w c.end.ensures.back c.ask-range.ensures.rest c.ask-range.ensures.book c.ask-range.ensures.kind)
+pub returns-clause-looked : goal.returns-clause-looked
+returns-clause-looked g c = looked _ _ _ _ _ _ c.args.pass.now _ c.begin-engine.ensures.work c.end.ensures.back c.ask-range.ensures.rest c.ask-range.ensures.book c.ask-range.ensures.kind (c.end.ensures.counted ∙ c.requires.counted) (c.end.ensures.turn ∙ c.requires.worker.turn_is)
 
 pub returns-clause-asked : goal.returns-clause-asked
-returns-clause-asked g c =
-    let w = at_work c.args.tree.now c.args.tools.now c.args.pass.now g.W.Writer.table g.W.Writer.turn c.begin-engine.result c.requires.worker c.begin-engine.ensures.kind c.begin-engine.ensures.book c.begin-engine.ensures.sheet c.begin-engine.ensures.shown in
-    answered _ _ _ _ _ _ _ _ w c.end.ensures.back (told_still _ _ _ _ _ _ _ _ w c.end.ensures.back c.ask-range.ensures.rest c.ask-range.ensures.book c.ask-range.ensures.kind) c.args.query.now c.ask-range.result c.ask-range.ensures.answer
+returns-clause-asked g c = answered _ _ _ _ _ _ _ _ c.begin-engine.ensures.work c.end.ensures.back (ap (λ (s : Sheet). s.told) c.ask-range.ensures.rest) c.args.query.now c.ask-range.result c.ask-range.ensures.answer

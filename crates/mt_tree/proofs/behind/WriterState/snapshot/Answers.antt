@@ -5,4 +5,4 @@ use Rattle.mt_tree.proofs.behind.WriterState.snapshot.Goals as goal
 pub returns-clause-lies : goal.returns-clause-lies
 returns-clause-lies c =
     let view : behind_lock c.self.inside.tools ≡ c.args.self.now = search rules in
-    lies_there c.args.tree.now c.self.inside.tools c.args.self.now view c.self.invariant c.requires
+    lies_there c.args.tree.now c.self.inside.tools c.args.self.now view c.self.invariant.0 c.requires

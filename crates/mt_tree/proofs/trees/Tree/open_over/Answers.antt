@@ -4,9 +4,12 @@ use Rattle.mt_tree.proofs.trees.Tree.open_over.Goals as goal
 
 pub invariant_of-serve : goal.invariant_of-serve
 invariant_of-serve c = (
-  c.in_ok-table.ensures.pen.1,
-  open_kept c.args.shape.kind (sheet_in c.args.opening.value) c.args.shape.passes c.args.shape.calls c.args.book c.requires.idle c.requires.first (rows_whole c.args.opening.value) (pen_in c.in_ok-table.pen) (identity_of c.in_ok-table.table).shape c.args.height
-      c.in_ok-table.ensures.shape c.in_ok-table.ensures.pen.2 c.requires.height,
+  (
+    c.in_ok-table.ensures.pen.1,
+    open_kept c.args.shape.kind (sheet_in c.args.opening.value) c.args.shape.passes c.args.shape.calls c.args.book c.requires.idle c.requires.first (rows_whole c.args.opening.value) (pen_in c.in_ok-table.pen) (identity_of c.in_ok-table.table).shape c.args.height
+        c.in_ok-table.ensures.shape c.in_ok-table.ensures.pen.2 c.requires.height,
+  ),
+  tt,
 )
 
 pub invariant_of-result-clause-opens : goal.invariant_of-result-clause-opens

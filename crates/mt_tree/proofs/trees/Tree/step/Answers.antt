@@ -4,7 +4,7 @@ use Rattle.mt_tree.proofs.trees.Tree.step.Goals as goal
 
 pub returns-clause-walked : goal.returns-clause-walked
 returns-clause-walked g c =
-    let told = c.step-answer.ensures in let counted = told.counted in let most = told.steps in record {
+    let told = c.step.ensures in let counted = told.counted in let most = told.steps in record {
       read = told.read;
       section = told.section;
       at = told.at;

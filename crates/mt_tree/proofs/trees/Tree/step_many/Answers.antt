@@ -3,7 +3,7 @@ use Rattle.mt_tree.proofs.trees.Tree.step_many.Goals as goal
 
 pub returns-clause-walked : goal.returns-clause-walked
 returns-clause-walked g c =
-    let told = c.step_many-answer.ensures in let counted = told.counted in let most = told.steps in let few = told.few in
+    let told = c.step_many.ensures in let counted = told.counted in let most = told.steps in let few = told.few in
     let put = told.ranges in let count = put.count_is in record {
       found = put.found;
       walked = record {

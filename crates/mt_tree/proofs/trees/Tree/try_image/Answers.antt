@@ -7,14 +7,14 @@ use Rattle.mt_tree.proofs.Trying.{tries_once}
 use Rattle.mt_tree.proofs.trees.Tree.try_image.Goals as goal
 
 pub returns-clause-saw : goal.returns-clause-saw
-returns-clause-saw c = subst (λ (p : known.Pass). known.Saw (opened c.args.self.now) p (pass_in c.image-image.new.pass)) c.in_ok-taken.ensures.known c.image-image.ensures.saw
+returns-clause-saw c = subst (λ (p : known.Pass). known.Saw (opened c.args.self.now) p (pass_in c.image-image.new.pass)) c.in_ok-taken.ensures.known c.image-image.ensures.looked.saw
 
 pub returns-clause-tries : goal.returns-clause-tries
-returns-clause-tries c = tries_once _ _ _ c.in_ok-taken.ensures.tries c.image-image.ensures.rests
+returns-clause-tries c = tries_once _ _ _ c.in_ok-taken.ensures.tries c.image-image.ensures.looked.rests
 
 pub returns-clause-map : goal.returns-clause-map
-returns-clause-map c = IfOk-weaker c.image-image.result _ _ (λ bytes image. map_imaged _ _ _ _ bytes.items c.image-image.ensures.words image) c.image-image.ensures.image
+returns-clause-map c = IfOk-weaker c.image-image.result _ _ (λ bytes image. map_imaged _ _ _ _ bytes.items c.image-image.ensures.looked.words image) c.image-image.ensures.image
 
 pub returns-clause-image : goal.returns-clause-image
 returns-clause-image c =
-    image_there c.args.self.now (pass_in c.image-image.new.pass) _ c.give_looked.result (ap (λ (x : Snapshot Behind). x.value) c.give_looked.ensures.took ∙ c.snapshot-took.ensures.value) (c.image-image.ensures.seen ∙ c.image-image.ensures.state.records) c.snapshot-took.ensures.lies _ c.image-image.ensures.words c.image-image.ensures.image
+    image_there c.args.self.now (pass_in c.image-image.new.pass) _ c.give_looked.result (ap (λ (x : Snapshot Behind). x.value) c.give_looked.ensures.took ∙ c.snapshot-took.ensures.value) (c.image-image.ensures.looked.seen ∙ c.image-image.ensures.looked.state.records) c.snapshot-took.ensures.lies _ c.image-image.ensures.looked.words c.image-image.ensures.image
