@@ -31,6 +31,7 @@ pub use Rattle.std.specs.Str.Parse.{AllDigits, IsNumeral, digits_value, without_
 pub use Rattle.mt_base.specs.Width.{most_rows}
 pub use Rattle.mt_cli.specs.Commands.{IsWithin, bulk_of, command_of, ids_of, in_two_words, make_of, rows_said, rows_word, show_of, trial_of}
 pub use Rattle.mt_cli.specs.Grammar.{bulk_app, bulk_in, command_met, grammar, ids_app, ids_in, image_app, is_end_of_options, make_app, make_in, plain_app, replay_app, rows_app, rows_given, show_app, trial_app, trial_in, verify_app}
-pub use Rattle.mt_cli.specs.Numbers.{fewest_rows, greatest_number, is_number, most_index, most_lanes, most_steps, most_workers, number_in}
+pub use Rattle.mt_cli.specs.Numbers.{greatest_number, is_number, most_index, most_workers, number_in}
+pub use Rattle.mt_base.specs.Limits.{fewest_rows, most_lanes, most_steps}
 pub use Rattle.mt_cli.specs.declared.commands.Command.{Command}
 pub use Rattle.mt_cli.specs.declared.commands.Command.TheVariants.{Bulk, Ids, Image, Make, Replay, Show, Trial, Verify}

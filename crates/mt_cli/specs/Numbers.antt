@@ -1,9 +1,10 @@
 -- Which words are numbers, and the limits of the numbers of commands.
 -- Source: this project's own, the command line of its program.
-use Rattle.std.specs.Prelude.{◌&&◌, Bool, ℕ, List, Option, Some, None, length, if◌then◌else◌, nat_le}
+use Rattle.std.specs.Prelude.{◌-◌, ◌&&◌, Bool, ℕ, List, Option, Some, None, length, if◌then◌else◌, nat_le}
 use Rattle.std.specs.Char.{is_ascii_digit}
 use Rattle.std.specs.List.{list_all}
 use Rattle.std.specs.Str.Parse.{digits_value}
+use Rattle.mt_base.specs.Limits.{seed_end}
 
 -- 1 to 20 decimal digits and nothing else
 abbrev pub is_number : List ℕ → Bool
@@ -13,18 +14,9 @@ is_number word = list_all is_ascii_digit word && nat_le 1 (length word) && nat_l
 abbrev pub number_in : ℕ → ℕ → List ℕ → Option ℕ
 number_in least most word = if is_number word && nat_le least (digits_value 10 word) && nat_le (digits_value 10 word) most then Some (digits_value 10 word) else None
 
--- the least number of nodes of a tree
-abbrev pub fewest_rows : ℕ
-fewest_rows = 4
-
+-- the greatest number that a log is made of
 abbrev pub greatest_number : ℕ
-greatest_number = 2147483647
-
-abbrev pub most_steps : ℕ
-most_steps = 100000
-
-abbrev pub most_lanes : ℕ
-most_lanes = 16
+greatest_number = seed_end - 1
 
 abbrev pub most_workers : ℕ
 most_workers = 16

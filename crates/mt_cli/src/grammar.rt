@@ -9,20 +9,8 @@ ghost use Rattle.mt_cli.specs.Grammar.{rows_app, rows_given, show_app, trial_app
 use crate::commands::Command;
 use crate::numbers::number_in;
 use clap::{Arg, ArgMatches};
-use mt_base::MOST_ROWS;
+use mt_base::{FEWEST_ROWS, MOST_LANES, MOST_ROWS, MOST_STEPS, SEED_END};
 use std::alloc::{AllocError, Global};
-
-/// The fewest nodes that a tree may have.
-const FEWEST_ROWS: u64 = 4;
-
-/// The greatest number to draw from.
-const GREATEST_NUMBER: u64 = 2_147_483_647;
-
-/// The most steps of a log that is made.
-const MOST_STEPS: u64 = 100_000;
-
-/// The most lanes of a log that is made.
-const MOST_LANES: u64 = 16;
 
 /// The most workers of a build.
 const MOST_WORKERS: u64 = 16;
@@ -169,9 +157,9 @@ fn image_in(matches: &ArgMatches) -> Option<Command>
 fn make_with(number: &str, steps: &str, lanes: &str) -> Option<Command>
     ensures { result ≡ make_with number.now steps.now lanes.now }
 {
-    let number = number_in(number, 0, GREATEST_NUMBER)? as u32;
+    let number = number_in(number, 0, SEED_END - 1)? as u32;
     let steps = number_in(steps, 1, MOST_STEPS)? as u32;
-    let lanes = number_in(lanes, 1, MOST_LANES)? as u32;
+    let lanes = number_in(lanes, 1, MOST_LANES as u64)? as u32;
     Some(Command::Make {
         number,
         steps,
@@ -191,7 +179,7 @@ fn make_in(matches: &ArgMatches) -> Option<Command>
 fn trial_with(number: &str, steps: &str) -> Option<Command>
     ensures { result ≡ trial_with number.now steps.now }
 {
-    let number = number_in(number, 0, GREATEST_NUMBER)? as u32;
+    let number = number_in(number, 0, SEED_END - 1)? as u32;
     let steps = number_in(steps, 1, MOST_STEPS)? as u32;
     Some(Command::Trial { number, steps })
 }

@@ -2,8 +2,7 @@
 
 use crate::causes::{Cause, FoundFault};
 use crate::maps::TreeMap;
-use crate::trees::MOST_LANES;
-use mt_base::NoMemory;
+use mt_base::{MOST_LANES, NoMemory};
 use mt_told::{Told, What};
 use mt_verify::Look;
 use std::alloc::Global;

@@ -11,7 +11,7 @@ use std::marker::Model;
 /// No memory holds this many ranges, or this many calls.
 const MOST_RANGES: u64 = 1 << 61;
 
-const MOST_CALLS: u64 = 1 << 56;
+const MOST_ENDED: u64 = 1 << 56;
 
 /// The map of a tree, and its kind.
 #[derive(Drop)]
@@ -77,7 +77,7 @@ impl TreeMap {
         if !wants_rows(&mut self.map, self.kind, call)? {
             return Ok(false);
         }
-        let (rows, ended) = (room.rows.min(MOST_ROWS), room.ended.min(MOST_CALLS));
+        let (rows, ended) = (room.rows.min(MOST_ROWS), room.ended.min(MOST_ENDED));
         let opened = room.opened.min(MOST_RANGES);
         Ok(is_short(rows, opened, ended, self.map.count(), shortage))
     }

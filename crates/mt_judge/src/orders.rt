@@ -1,7 +1,8 @@
 //! Whether the call numbers and the windows of a transcript are in order, which needs no map.
 
 ghost use Rattle.std.specs.Prelude.{◌≡◌, ◌≤◌, ◌<◌, ◌+◌, ◌^◌, All, AllPairs, IfNone, IfOk, IfSome, false};
-ghost use Rattle.mt_log.specs.Trees.{most_lanes, most_trees};
+ghost use Rattle.mt_log.specs.Trees.{most_trees};
+ghost use Rattle.mt_base.specs.Limits.{most_lanes};
 ghost use Rattle.mt_judge.specs.Faults.{KeepsOrder, is_of_order, order_cause};
 ghost use Rattle.mt_judge.specs.Orders.{IsFirstOut, IsInOrder};
 

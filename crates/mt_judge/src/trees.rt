@@ -8,8 +8,6 @@ use std::alloc::Global;
 /// The greatest number of trees, and of lanes, of a log.
 pub const MOST_TREES: u32 = 16;
 
-pub const MOST_LANES: u32 = 16;
-
 /// A tree of a log: the number of the line that declares it, its name and its kind.
 #[derive(Clone, Copy)]
 pub struct DeclaredTree {

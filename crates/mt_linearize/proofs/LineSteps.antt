@@ -1,5 +1,5 @@
 -- The steps that came of a line are of its lane and its phase, on the tree that it names.
-use Rattle.mt_linearize.proofs.Prelude.{◌≡◌, ℕ, zero, suc, ◌<◌, true, false, List, [], ◌∷◌, Option, Some, None, refl, sym, subst, All, AllByRecursion, All-from_recursion, Query, Range, all_join, Item, Tree, Lane, Join, Dup, Check, Write, Ask, Scan, stepped_after, Asked, Outcome, Called, Looked, Counted, Step, IsDone, AreScanSteps, ScanGoesOnFrom, AreDone, find_at, place_behind, place_within, step_of, NamesBelow}
+use Rattle.mt_linearize.proofs.Prelude.{◌≡◌, ℕ, zero, suc, ◌<◌, true, false, List, [], ◌∷◌, Option, Some, None, refl, sym, subst, All, AllByRecursion, All-from_recursion, Query, Range, all_join, Item, Tree, Lane, Join, Dup, Check, Write, Ask, Scan, stepped_after, Asked, Outcome, Called, Looked, Counted, Step, IsDone, AreScanSteps, ScanGoesOnFrom, AreDone, find_at, place_after, place_within, step_of, NamesBelow}
 
 -- the tree on which a line's steps are
 abbrev IsOn : Item → ℕ → Type 0
@@ -18,7 +18,7 @@ no_step P steps e = subst (AllByRecursion P) (sym e) tt
 
 goes_each : (P : Step → Type 0) (a : Asked) (tree max count : ℕ) → ((at : Option ℕ) (steps : List Step) → AreScanSteps a tree max count at steps → AllByRecursion P steps) → (value : Option Range) (steps : List Step) → ScanGoesOnFrom (AreScanSteps a tree max count) max value steps → AllByRecursion P steps
 goes_each P a tree max count scans None steps g = no_step P steps g
-goes_each P a tree max count scans (Some r) steps g = scans (place_behind max r) steps g
+goes_each P a tree max count scans (Some r) steps g = scans (place_after max r) steps g
 
 pub scan_each : (P : Step → Type 0) (a : Asked) (tree max count : ℕ) → ((lo hi k : ℕ) (query : Query) (value : Option Range) → P (step_of a tree (Looked lo hi k query value))) → (at : Option ℕ) (steps : List Step) → AreScanSteps a tree max count at steps → AllByRecursion P steps
 scan_each P a tree max zero p at steps s = no_step P steps s

@@ -30,8 +30,10 @@ pub use Rattle.mt_base.specs.declared.replies.Reply.{Reply}
 pub use Rattle.mt_base.specs.declared.replies.Shortage.{Shortage}
 pub use Rattle.mt_log.specs.Phases.{AreInPlaceFrom, IsInPlace, stepped_after, stepped_from}
 pub use Rattle.mt_log.specs.Reader.{least_behind}
-pub use Rattle.mt_log.specs.Run.{AreDone, AreScanSteps, IsRun, IsTrueOf, OpensAs, ScanGoesOnFrom, StandsIn, asked_from, entry_of, find_at, holder_in, is_call, is_read_by, listings_of, numbered_on, place_behind, place_within, record_in, step_of, steps_of}
-pub use Rattle.mt_log.specs.Trees.{AreNamedFrom, IsReadable, NamesBelow, NumbersRiseFrom, count_after, declared_by, most_lanes, renamed, trees_from, trees_of}
+pub use Rattle.mt_log.specs.Run.{AreDone, AreScanSteps, IsRun, IsTrueOf, OpensAs, ScanGoesOnFrom, StandsIn, asked_from, entry_of, holder_in, is_call, is_read_by, listings_of, numbered_on, record_in, step_of, steps_of}
+pub use Rattle.mt_base.specs.Places.{find_at, place_after, place_within}
+pub use Rattle.mt_log.specs.Trees.{AreNamedFrom, IsReadable, NamesBelow, NumbersRiseFrom, count_after, declared_by, renamed, trees_from, trees_of}
+pub use Rattle.mt_base.specs.Limits.{most_lanes}
 pub use Rattle.mt_log.specs.declared.lines.Item.{Item}
 pub use Rattle.mt_log.specs.declared.lines.Item.TheVariants.{Ask, Check, Dup, Join, Lane, Scan, Tree, Write}
 pub use Rattle.mt_log.specs.declared.lines.Log.{Log}

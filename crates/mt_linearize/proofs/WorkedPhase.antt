@@ -1,5 +1,6 @@
 -- A worked phase of two lanes.
 use Rattle.mt_linearize.proofs.Prelude.{◌≡◌, ℕ, zero, suc, List, [], ◌∷◌, ◌++◌, Some, length, slice_get, arith, refl, sym, ne_eqb, All-from_recursion, Range, Record, History, Pass, IsSettled, Saw, Settled, begins_none, Asked, Called, Looked, Counted, Step, AreDone, HaveGone, CountsRanges, IsPhaseGone, Leads, outcomes_of, IsNext, informed, known_to_all, step_of_line, Tracked, IsPhase, asked_of_lane, AreDoneEach, answers_joined}
+use Rattle.mt_base.specs.Width.{most_rows}
 use Rattle.mt_base.specs.declared.calls.Call.TheVariants as calls
 use Rattle.mt_base.specs.declared.calls.Query.TheVariants as queries
 use Rattle.mt_base.specs.declared.kinds.Kind.TheVariants as kinds
@@ -25,7 +26,7 @@ abbrev later : Record
 later = record { pass = 1; call = calls.Store 5 5 3; reply = replies.Over 1 }
 
 abbrev tree_after : List Record → History
-tree_after records = record { kind = kinds.Range; rows = 65504; opening = []; records = records }
+tree_after records = record { kind = kinds.Range; rows = most_rows; opening = []; records = records }
 
 abbrev tree_before : History
 tree_before = tree_after (earlier ∷ [])

@@ -1,5 +1,6 @@
 -- A worked play, step by step.
 use Rattle.mt_linearize.proofs.Prelude.{true, false, List, [], ◌∷◌, Some, arith, refl, Range, Record, History, Log, Transcript, KnownTree, Called, Looked, Counted, Step, AreDone, IsRun, steps_of, Declared, Empty, CopyOf, HasPlayed, IsNext, step_of_line}
+use Rattle.mt_base.specs.Width.{most_rows}
 use Rattle.mt_base.specs.declared.kinds.Kind.TheVariants as kinds
 use Rattle.mt_base.specs.declared.calls.Call.TheVariants as calls
 use Rattle.mt_base.specs.declared.calls.Query.TheVariants as queries
@@ -29,10 +30,10 @@ abbrev three_ranges : List Range
 three_ranges = record { first = 0; last = 4; entry = 1 } ∷ record { first = 5; last = 5; entry = 3 } ∷ record { first = 6; last = 9; entry = 1 } ∷ []
 
 abbrev a_after : List Record → History
-a_after records = record { kind = kinds.Range; rows = 65504; opening = []; records = records }
+a_after records = record { kind = kinds.Range; rows = most_rows; opening = []; records = records }
 
 abbrev b_copied : History
-b_copied = record { kind = kinds.Range; rows = 65504; opening = one_range; records = [] }
+b_copied = record { kind = kinds.Range; rows = most_rows; opening = one_range; records = [] }
 
 abbrev a_declared : Declared
 a_declared = record { tree = tree_a; opening = Empty }
@@ -58,21 +59,21 @@ next_one = done_is_next (a_after []) 0 (calls.Store 0 9 1) one_range replies.Ok 
 next_two : IsNext (a_after (first_call ∷ [])) second_call three_ranges
 next_two = done_is_next (a_after (first_call ∷ [])) 0 (calls.Store 5 5 3) three_ranges (replies.Over 1) refl
 
-after_store : HasPlayed 1 65504 0 true (a_declared ∷ []) (stored ∷ []) (a_after (first_call ∷ []) ∷ [])
+after_store : HasPlayed 1 most_rows 0 true (a_declared ∷ []) (stored ∷ []) (a_after (first_call ∷ []) ∷ [])
 after_store =
-    let empty : HasPlayed 1 65504 0 false (a_declared ∷ []) [] (a_after [] ∷ []) = tree_played 1 65504 0 false [] [] [] tree_a (nothing_played 1 65504 (omega arith)) in
-    call_played 1 65504 0 false (a_declared ∷ []) [] (a_after [] ∷ []) 0 3 0 (a_after []) (calls.Store 0 9 1) replies.Ok one_range empty refl (omega arith) next_one
+    let empty : HasPlayed 1 most_rows 0 false (a_declared ∷ []) [] (a_after [] ∷ []) = tree_played 1 most_rows 0 false [] [] [] tree_a (nothing_played 1 most_rows (omega arith)) in
+    call_played 1 most_rows 0 false (a_declared ∷ []) [] (a_after [] ∷ []) 0 3 0 (a_after []) (calls.Store 0 9 1) replies.Ok one_range empty refl (omega arith) next_one
 
-after_dup : HasPlayed 1 65504 1 false (a_declared ∷ b_declared ∷ []) (stored ∷ copied ∷ []) (a_after (first_call ∷ []) ∷ b_copied ∷ [])
+after_dup : HasPlayed 1 most_rows 1 false (a_declared ∷ b_declared ∷ []) (stored ∷ copied ∷ []) (a_after (first_call ∷ []) ∷ b_copied ∷ [])
 after_dup =
-    let joined : HasPlayed 1 65504 1 false (a_declared ∷ []) (stored ∷ []) (a_after (first_call ∷ []) ∷ []) = phase_played 1 65504 0 true (a_declared ∷ []) (stored ∷ []) (a_after (first_call ∷ []) ∷ []) after_store in
-    let counted : HasPlayed 1 65504 1 false (a_declared ∷ []) (stored ∷ copied ∷ []) (a_after (first_call ∷ []) ∷ []) = count_played 1 65504 1 (a_declared ∷ []) (stored ∷ []) (a_after (first_call ∷ []) ∷ []) 5 0 (a_after (first_call ∷ [])) said.Copied joined refl in
-    copy_played 1 65504 1 (a_declared ∷ []) (stored ∷ copied ∷ []) (a_after (first_call ∷ []) ∷ []) tree_b 0 (a_after (first_call ∷ [])) counted refl refl
+    let joined : HasPlayed 1 most_rows 1 false (a_declared ∷ []) (stored ∷ []) (a_after (first_call ∷ []) ∷ []) = phase_played 1 most_rows 0 true (a_declared ∷ []) (stored ∷ []) (a_after (first_call ∷ []) ∷ []) after_store in
+    let counted : HasPlayed 1 most_rows 1 false (a_declared ∷ []) (stored ∷ copied ∷ []) (a_after (first_call ∷ []) ∷ []) = count_played 1 most_rows 1 (a_declared ∷ []) (stored ∷ []) (a_after (first_call ∷ []) ∷ []) 5 0 (a_after (first_call ∷ [])) said.Copied joined refl in
+    copy_played 1 most_rows 1 (a_declared ∷ []) (stored ∷ copied ∷ []) (a_after (first_call ∷ []) ∷ []) tree_b 0 (a_after (first_call ∷ [])) counted refl refl
 
-pub worked : HasPlayed 1 65504 1 true (a_declared ∷ b_declared ∷ []) (stored ∷ copied ∷ stored_again ∷ loaded ∷ []) (a_after (first_call ∷ second_call ∷ []) ∷ b_copied ∷ [])
+pub worked : HasPlayed 1 most_rows 1 true (a_declared ∷ b_declared ∷ []) (stored ∷ copied ∷ stored_again ∷ loaded ∷ []) (a_after (first_call ∷ second_call ∷ []) ∷ b_copied ∷ [])
 worked =
-    let called : HasPlayed 1 65504 1 true (a_declared ∷ b_declared ∷ []) (stored ∷ copied ∷ stored_again ∷ []) (a_after (first_call ∷ second_call ∷ []) ∷ b_copied ∷ []) = call_played 1 65504 1 false (a_declared ∷ b_declared ∷ []) (stored ∷ copied ∷ []) (a_after (first_call ∷ []) ∷ b_copied ∷ []) 0 6 0 (a_after (first_call ∷ [])) (calls.Store 5 5 3) (replies.Over 1) three_ranges after_dup refl (omega arith) next_two in
-    read_played 1 65504 1 true (a_declared ∷ b_declared ∷ []) (stored ∷ copied ∷ stored_again ∷ []) (a_after (first_call ∷ second_call ∷ []) ∷ b_copied ∷ []) 0 7 1 b_copied (queries.Load 5) called refl (omega arith)
+    let called : HasPlayed 1 most_rows 1 true (a_declared ∷ b_declared ∷ []) (stored ∷ copied ∷ stored_again ∷ []) (a_after (first_call ∷ second_call ∷ []) ∷ b_copied ∷ []) = call_played 1 most_rows 1 false (a_declared ∷ b_declared ∷ []) (stored ∷ copied ∷ []) (a_after (first_call ∷ []) ∷ b_copied ∷ []) 0 6 0 (a_after (first_call ∷ [])) (calls.Store 5 5 3) (replies.Over 1) three_ranges after_dup refl (omega arith) next_two in
+    read_played 1 most_rows 1 true (a_declared ∷ b_declared ∷ []) (stored ∷ copied ∷ stored_again ∷ []) (a_after (first_call ∷ second_call ∷ []) ∷ b_copied ∷ []) 0 7 1 b_copied (queries.Load 5) called refl (omega arith)
 
 -- ---- and the log of which it is a run
 
@@ -109,5 +110,5 @@ worked_done = (
   ),
 )
 
-pub worked_run : IsRun worked_log 65504 worked_transcript
-worked_run = played_is_run 1 65504 1 true worked_log worked_transcript (stored ∷ copied ∷ stored_again ∷ loaded ∷ []) (a_after (first_call ∷ second_call ∷ []) ∷ b_copied ∷ []) worked worked_done refl refl refl
+pub worked_run : IsRun worked_log most_rows worked_transcript
+worked_run = played_is_run 1 most_rows 1 true worked_log worked_transcript (stored ∷ copied ∷ stored_again ∷ loaded ∷ []) (a_after (first_call ∷ second_call ∷ []) ∷ b_copied ∷ []) worked worked_done refl refl refl

@@ -9,6 +9,7 @@ ghost use Rattle.mt_base.specs.declared.kinds.Kind.TheVariants as kinds;
 ghost use Rattle.mt_base.specs.declared.replies.Reply.TheVariants as replies;
 ghost use Rattle.mt_base.specs.History.{Record, History};
 ghost use Rattle.mt_base.specs.Passes.{Begins, IsSettled, Pass, Learned, Saw, Settled, with_records};
+ghost use Rattle.mt_base.specs.Width.{most_rows};
 ghost use Rattle.mt_log.specs.Phases.{stepped_after};
 ghost use Rattle.mt_log.specs.declared.transcripts.Said.TheVariants as said;
 ghost use Rattle.mt_log.specs.Run.{Asked, Outcome, Called, Looked, Counted, Step, AreDone, IsDone};
@@ -117,7 +118,9 @@ pub fn a_worked_phase()
         ∷ step_of_line 1 1 7 0 (Called 2 (calls.Store 5 5 3) (replies.Over 1))
         ∷ step_of_line 1 0 9 0 (Looked 1 1 1 (queries.Load 5) (Some (record { first = 0; last = 9; entry = 1 }))) ∷ [])
         (known_to_all 2
-        (record { kind = kinds.Range; rows = 65504; opening = []; records = record { pass = 0; call = calls.Store 0 9 1; reply = replies.Ok } ∷ [] }) ∷ [])
-        (known_to_all 2 (record { kind = kinds.Range; rows = 65504; opening = []; records = record { pass = 0; call = calls.Store 0 9 1; reply = replies.Ok } ∷ record { pass = 1; call = calls.Store 5 5 3; reply = replies.Over 1 } ∷ [] }) ∷ []) }
+        (record { kind = kinds.Range; rows = most_rows; opening = []; records = record { pass = 0; call = calls.Store 0 9 1; reply = replies.Ok } ∷ [] }) ∷ [])
+        (known_to_all 2
+        (record { kind = kinds.Range; rows = most_rows; opening = []; records = record { pass = 0; call = calls.Store 0 9 1; reply = replies.Ok } ∷ record { pass = 1; call = calls.Store 5 5 3; reply = replies.Over 1 } ∷ [] })
+        ∷ []) }
     ensures sum { sum_below 3 (λ n. n + 4) ≡ 15 }
 {}

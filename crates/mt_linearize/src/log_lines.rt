@@ -7,7 +7,8 @@ ghost use Rattle.std.specs.Option.{option_to_list};
 ghost use Rattle.mt_log.specs.declared.lines.Line.{Line};
 ghost use Rattle.mt_log.specs.Phases.{IsInPlace, phase_after, stepped_after, stepped_from};
 ghost use Rattle.mt_log.specs.Run.{Asked, Step, AreDone, asked_from, lane_after, steps_of};
-ghost use Rattle.mt_log.specs.Trees.{IsReadable, NamesBelow, NumbersRiseFrom, declared_by, most_lanes, trees_from, trees_of};
+ghost use Rattle.mt_log.specs.Trees.{IsReadable, NamesBelow, NumbersRiseFrom, declared_by, trees_from, trees_of};
+ghost use Rattle.mt_base.specs.Limits.{most_lanes};
 ghost use Rattle.mt_linearize.specs.Lines.{asked_by, lane_behind, phase_behind};
 ghost use Rattle.mt_linearize.specs.Tracks.{Pairs};
 

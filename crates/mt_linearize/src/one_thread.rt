@@ -14,6 +14,7 @@ ghost use Rattle.mt_base.specs.Call.{answer};
 ghost use Rattle.mt_base.specs.History.{Record, History, IsLegal, last_map};
 ghost use Rattle.mt_base.specs.Nodes.{Limits, IsMade, one_call_more};
 ghost use Rattle.mt_base.specs.Passes.{IsSettled, Read, Saw, Wrote};
+ghost use Rattle.mt_base.specs.Width.{most_rows};
 ghost use Rattle.mt_log.specs.declared.lines.Item.TheVariants as items;
 ghost use Rattle.mt_log.specs.declared.lines.Log.{Log};
 ghost use Rattle.mt_log.specs.declared.transcripts.Answer.TheVariants as answers;
@@ -123,7 +124,7 @@ pub fn what_was_played_is_a_run()
 /// A worked play: `tree a range / store a 0 9 1 / join / dup a b / store a 5 5 3 / load b 5`, from line 2 on, by lane 0. The
 /// copy has the range that its source had when its phase began, and the transcript of this is a run of the log.
 pub fn a_worked_play()
-    ensures played { HasPlayed 1 65504 1 true
+    ensures played { HasPlayed 1 most_rows 1 true
         (record { tree = record { name = 97 ∷ []; kind = kinds.Range }; opening = Empty }
         ∷ record { tree = record { name = 98 ∷ []; kind = kinds.Range }; opening = CopyOf 0 1 } ∷ [])
         (step_of_line 0 0 3 0 (Called 1 (calls.Store 0 9 1) replies.Ok)
@@ -132,12 +133,12 @@ pub fn a_worked_play()
         ∷ step_of_line 1 0 7 1 (Looked 0 0 0 (queries.Load 5) (Some (record { first = 0; last = 9; entry = 1 }))) ∷ [])
         (record {
           kind = kinds.Range;
-          rows = 65504;
+          rows = most_rows;
           opening = [];
           records = record { pass = 0; call = calls.Store 0 9 1; reply = replies.Ok }
               ∷ record { pass = 0; call = calls.Store 5 5 3; reply = replies.Over 1 } ∷ [];
         }
-        ∷ record { kind = kinds.Range; rows = 65504; opening = record { first = 0; last = 9; entry = 1 } ∷ []; records = [] } ∷ []) }
+        ∷ record { kind = kinds.Range; rows = most_rows; opening = record { first = 0; last = 9; entry = 1 } ∷ []; records = [] } ∷ []) }
     ensures run { IsRun
         (record {
           version = 2;
@@ -148,7 +149,7 @@ pub fn a_worked_play()
               ∷ record { number = 6; item = items.Write 0 (calls.Store 5 5 3) }
               ∷ record { number = 7; item = items.Ask 1 (queries.Load 5) } ∷ [];
         })
-        65504
+        most_rows
         (record {
           version = 2;
           entries = record { line = 3; said = said.Wrote 1 replies.Ok } ∷ record { line = 5; said = said.Copied 1 }

@@ -39,7 +39,8 @@ pub use Rattle.mt_log.specs.Reader.{HasTreeRoom, IsSoundReading, MayFollow, leas
 pub use Rattle.mt_log.specs.Reading.{ReadSoFar, after_item, after_line, after_pieces, after_skipped, as_count, as_lane, declared_place, fields_of, headed, is_skipped, log_of, log_of_pieces, most_scan_steps, nothing_read, tree_at, version_in}
 unfoldable pub use Rattle.mt_log.specs.Reading.{area_entry_item, area_item, area_of, before_steps, bound_item, check_item, count_read, decimal_read, dup_item, entry_number_read, hexadecimal_read, index_item, index_read, item_by, item_of, join_item, keyword_read, kind_read, lane_item, lane_number_read, new_name_read, number_read, range_item, room_for_scan, room_for_tree, scan_item, size_read, tree_item, tree_read, whole_item}
 pub use Rattle.mt_log.specs.Text.{entry_text, listing_text, range_line}
-pub use Rattle.mt_log.specs.Trees.{AreNamedFrom, Declared, IsReadable, NamesBelow, NumbersRiseFrom, Opening, count_after, declared_by, known_after, most_lanes, most_trees, opening_by, renamed, tree_declared_by, trees_from, trees_of}
+pub use Rattle.mt_log.specs.Trees.{AreNamedFrom, Declared, IsReadable, NamesBelow, NumbersRiseFrom, Opening, count_after, declared_by, known_after, most_trees, opening_by, renamed, tree_declared_by, trees_from, trees_of}
+pub use Rattle.mt_base.specs.Limits.{most_lanes}
 pub use Rattle.mt_log.specs.declared.areas.Area.{Area}
 pub use Rattle.mt_log.specs.declared.faults.Why.{Why}
 pub use Rattle.mt_log.specs.declared.faults.Why.TheVariants.{NoNewline}

@@ -11,7 +11,7 @@ use Rattle.mt_base.specs.declared.kinds.Kind.TheVariants as kinds
 use Rattle.mt_log.specs.Keywords.{keywords, named}
 use Rattle.mt_log.specs.Name.{is_name}
 use Rattle.mt_log.specs.Phases.{stepped_after}
-use Rattle.mt_log.specs.Trees.{known_after, most_lanes, most_trees}
+use Rattle.mt_log.specs.Trees.{known_after, most_trees}
 use Rattle.mt_log.specs.Fault.{Fault, fault_at, on_line, ◌>>=◌}
 use Rattle.mt_log.specs.declared.areas.Area.{Area}
 use Rattle.mt_log.specs.declared.faults.Why.{Why}
@@ -24,6 +24,7 @@ use Rattle.mt_log.specs.declared.lines.Line.{Line}
 use Rattle.mt_log.specs.declared.lines.Log.{Log}
 use Rattle.mt_log.specs.declared.trees.KnownTree.{KnownTree}
 use Rattle.mt_log.specs.declared.trees.NumberedTree.{NumberedTree}
+use Rattle.mt_base.specs.Limits.{most_lanes}
 
 -- 1 to 20 decimal digits, of a value below 2 ^ 64
 unfoldable pub decimal_read : List ℕ → Result ℕ Why

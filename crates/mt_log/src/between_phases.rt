@@ -5,7 +5,7 @@ ghost use Rattle.std.specs.Result.{result_map_both};
 ghost use Rattle.mt_log.specs.declared.lines.Item.TheVariants as items;
 ghost use Rattle.mt_log.specs.Reading.{tree_item, dup_item, check_item, lane_item, join_item};
 ghost use Rattle.mt_log.specs.Reader.{MayFollow};
-ghost use Rattle.mt_log.specs.Trees.{most_lanes};
+ghost use Rattle.mt_base.specs.Limits.{most_lanes};
 
 use crate::faults::Why;
 use crate::fields::{new_name_of, tree_of};

@@ -2,7 +2,7 @@ ghost use Rattle.std.specs.Prelude.{◌≡◌, ◌<◌, ◌≤◌, ◌+◌, ◌*
 ghost use Rattle.std.specs.Char.{digit_value};
 ghost use Rattle.std.specs.Str.Parse.{AllDigits, digits_value};
 ghost use Rattle.mt_log.specs.Reading.{decimal_read, hexadecimal_read, number_read, index_read, size_read, entry_number_read, lane_number_read, count_read};
-ghost use Rattle.mt_log.specs.Trees.{most_lanes};
+ghost use Rattle.mt_base.specs.Limits.{most_lanes};
 
 use crate::faults::Why;
 use mt_base::{Kind, top, width_of};

@@ -1,6 +1,7 @@
 -- What is played of one line more is what came of the lines.
-use Rattle.mt_sequential.proofs.Prelude.{◌≡◌, ℕ, zero, suc, ◌+◌, ◌<◌, Bool, true, false, List, [], ◌∷◌, ◌++◌, Option, Some, None, length, map, arith, ap, sym, ◌∙◌, refl, subst, append_assoc, length-append, slice_get, slice_set, option_map, option_to_list, append-nil, map-append, Kind, Range, Call, Query, answer, Record, History, last_map, Limits, IsMade, Item, Tree, Lane, Join, Dup, Check, Write, Ask, Scan, Line, Log, Word, Entry, Transcript, KnownTree, IsInPlace, phase_after, stepped_after, stepped_from, Asked, Step, Called, Looked, Counted, ScanGoesOnFrom, AreScanSteps, AreDone, IsRun, entry_of, find_at, listings_of, place_behind, place_within, shown, steps_of, Declared, Empty, CopyOf, declared_by, most_lanes, renamed, trees_of, asked_by, lane_behind, phase_behind, HasPlayed, MayLimit, IsNext, step_of_line, with_call, new_history, made_is_next, limits_next, call_played, count_played, phase_played, read_played, tree_played, copy_played, nothing_played, as_declared, as_large, played_is_run, asked_more, trees_more, phase_more, stepped_more, done_append, TreeState, PlayerState, Copies, Checks, Calls, Does, AreBoth, HasHistory, IsDeclaredSo, IsPlayedBy, IsPlayed, with_entry, read_entry, scan_entries, entries_behind, listing_of}
+use Rattle.mt_sequential.proofs.Prelude.{◌≡◌, ℕ, zero, suc, ◌+◌, ◌<◌, Bool, true, false, List, [], ◌∷◌, ◌++◌, Option, Some, None, length, map, arith, ap, sym, ◌∙◌, refl, subst, append_assoc, length-append, slice_get, slice_set, option_map, option_to_list, append-nil, map-append, Kind, Range, Call, Query, answer, Record, History, last_map, Limits, IsMade, Item, Tree, Lane, Join, Dup, Check, Write, Ask, Scan, Line, Log, Word, Entry, Transcript, KnownTree, IsInPlace, phase_after, stepped_after, stepped_from, Asked, Step, Called, Looked, Counted, ScanGoesOnFrom, AreScanSteps, AreDone, IsRun, entry_of, find_at, listings_of, place_after, place_within, shown, steps_of, Declared, Empty, CopyOf, declared_by, renamed, trees_of, asked_by, lane_behind, phase_behind, HasPlayed, MayLimit, IsNext, step_of_line, with_call, new_history, made_is_next, limits_next, call_played, count_played, phase_played, read_played, tree_played, copy_played, nothing_played, as_declared, as_large, played_is_run, asked_more, trees_more, phase_more, stepped_more, done_append, TreeState, PlayerState, Copies, Checks, Calls, Does, AreBoth, HasHistory, IsDeclaredSo, IsPlayedBy, IsPlayed, with_entry, read_entry, scan_entries, entries_behind, listing_of}
 use Rattle.mt_log.specs.declared.transcripts.Said.TheVariants as said
+use Rattle.mt_base.specs.Limits.{most_lanes}
 
 -- ---- two lists, place by place
 
@@ -210,7 +211,7 @@ module _ (rows : ℕ) (lines : List Line) (old : PlayerState) (steps : List Step
 
       goes_on : (item : Item) (max left : ℕ) (value : Option Range) (before : List Step) → HasPlayed most_lanes rows phase true declared before trees → ((place : Option ℕ) → HasScanned item max left place before) → HasGoneOn item max left value before
       goes_on item max left None before played scan = record { more = []; goes = refl; told = refl; played = none_behind before played }
-      goes_on item max left (Some r) before played scan = let rest = scan (place_behind max r) in record { more = rest.more; goes = rest.scan; told = rest.told; played = rest.played }
+      goes_on item max left (Some r) before played scan = let rest = scan (place_after max r) in record { more = rest.more; goes = rest.scan; told = rest.told; played = rest.played }
 
       scanned : (left : ℕ) (item : Item) (max : ℕ) (place : Option ℕ) (before : List Step) → HasPlayed most_lanes rows phase true declared before trees → HasScanned item max left place before
       unfolding read_step

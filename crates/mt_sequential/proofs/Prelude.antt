@@ -13,8 +13,10 @@ pub use Rattle.mt_base.specs.declared.calls.Query.{Query}
 pub use Rattle.mt_base.specs.declared.kinds.Kind.{Kind}
 pub use Rattle.mt_base.specs.declared.ranges.Range.{Range}
 pub use Rattle.mt_log.specs.Phases.{IsInPlace, phase_after, stepped_after, stepped_from}
-pub use Rattle.mt_log.specs.Run.{AreDone, AreScanSteps, Asked, Called, Counted, IsRun, Looked, ScanGoesOnFrom, Step, entry_of, find_at, listings_of, place_behind, place_within, shown, steps_of}
-pub use Rattle.mt_log.specs.Trees.{CopyOf, Declared, Empty, IsReadable, NamesBelow, declared_by, most_lanes, renamed, trees_of}
+pub use Rattle.mt_log.specs.Run.{AreDone, AreScanSteps, Asked, Called, Counted, IsRun, Looked, ScanGoesOnFrom, Step, entry_of, listings_of, shown, steps_of}
+pub use Rattle.mt_base.specs.Places.{find_at, place_after, place_within}
+pub use Rattle.mt_log.specs.Trees.{CopyOf, Declared, Empty, IsReadable, NamesBelow, declared_by, renamed, trees_of}
+pub use Rattle.mt_base.specs.Limits.{most_lanes}
 pub use Rattle.mt_log.specs.declared.lines.Item.{Item}
 pub use Rattle.mt_log.specs.declared.lines.Item.TheVariants.{Ask, Check, Dup, Join, Lane, Scan, Tree, Write}
 pub use Rattle.mt_log.specs.declared.lines.Line.{Line}

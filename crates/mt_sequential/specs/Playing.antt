@@ -18,11 +18,13 @@ use Rattle.mt_log.specs.declared.transcripts.Listing.{Listing}
 use Rattle.mt_log.specs.declared.transcripts.Said.{Said}
 use Rattle.mt_log.specs.declared.transcripts.Said.TheVariants as said
 use Rattle.mt_log.specs.Phases.{stepped_from}
-use Rattle.mt_log.specs.Run.{Step, AreDone, entry_of, find_at, place_behind, place_within, shown, steps_of}
-use Rattle.mt_log.specs.Trees.{Declared, most_lanes, trees_of}
+use Rattle.mt_log.specs.Run.{Step, AreDone, entry_of, shown, steps_of}
+use Rattle.mt_base.specs.Places.{find_at, place_after, place_within}
+use Rattle.mt_log.specs.Trees.{Declared, trees_of}
 use Rattle.mt_linearize.specs.Lines.{phase_behind}
 use Rattle.mt_linearize.specs.OneThread.{HasPlayed, MayLimit}
 use Rattle.mt_linearize.specs.Phases.{new_history}
+use Rattle.mt_base.specs.Limits.{most_lanes}
 
 -- ---- maps
 
@@ -87,7 +89,7 @@ read_entry line t query = record { line = line; said = said.Got t.calls t.calls 
 -- after a range a scan goes on; otherwise it ends
 abbrev pub entries_behind : (Option ℕ → List Entry) → ℕ → Option Range → List Entry
 entries_behind entries max None = []
-entries_behind entries max (Some r) = entries (place_behind max r)
+entries_behind entries max (Some r) = entries (place_after max r)
 
 -- the entries for a scan from this place on, of at most this many steps
 abbrev pub scan_entries : ℕ → TreeState → ℕ → ℕ → Option ℕ → List Entry

@@ -4,7 +4,6 @@
 mod lists;
 mod maps;
 mod player;
-mod scans;
 
 pub use maps::Plain;
 pub use player::play;

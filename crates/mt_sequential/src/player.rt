@@ -1,14 +1,14 @@
 //! One thread plays the lines of a log over the trees that they declare.
 
-ghost use Rattle.std.specs.Prelude.{◌≡◌, ◌<◌, ◌≤◌, ◌-◌, ◌^◌, ℕ, All, [], map, length, IfOk};
+ghost use Rattle.std.specs.Prelude.{◌≡◌, ◌<◌, ◌≤◌, ℕ, All, [], map, length, IfOk};
 ghost use Rattle.mt_base.specs.Width.{most_rows};
 ghost use Rattle.mt_log.specs.Run.{IsRun};
 ghost use Rattle.mt_log.specs.Trees.{IsReadable};
 ghost use Rattle.mt_sequential.specs.Playing.{IsPlayed, listing_of};
+ghost use Rattle.mt_base.specs.Limits.{most_calls};
 
 use crate::maps::Plain;
-use crate::scans::{find_at, place_behind, place_within};
-use mt_base::{Call, Kind, NoMemory, Query, Range};
+use mt_base::{Call, Kind, NoMemory, Query, Range, find_at, place_after, place_within};
 use mt_log::{
     Entries, Entry, Item, Line, Listing, Listings, Log, RangeList, Said, Transcript, Word, shown,
 };
@@ -41,15 +41,16 @@ impl<M: Plain> Model for Played<M> {
 }
 
 impl<M: Plain> Played<M> {
-    ghost use Rattle.std.specs.Prelude.{◌≡◌, ◌∷◌, ◌++◌, ◌+◌, ◌-◌, ◌<◌, ◌≤◌, ◌^◌, [], ℕ, length, IfOk, OnOk};
+    ghost use Rattle.std.specs.Prelude.{◌≡◌, ◌∷◌, ◌++◌, ◌+◌, ◌<◌, ◌≤◌, [], ℕ, length, IfOk, OnOk};
     ghost use Rattle.mt_base.specs.Call.{answer};
     ghost use Rattle.mt_base.specs.declared.replies.Reply.{Reply};
     ghost use Rattle.mt_base.specs.History.{History};
     ghost use Rattle.mt_base.specs.Width.{most_rows};
-    ghost use Rattle.mt_log.specs.Run.{place_within};
+    ghost use Rattle.mt_base.specs.Places.{place_within};
     ghost use Rattle.mt_log.specs.declared.transcripts.Said.TheVariants.{Wrote};
     ghost use Rattle.mt_linearize.specs.OneThread.{MayLimit};
     ghost use Rattle.mt_sequential.specs.Playing.{Declares, IsCalled, read_entry, scan_entries, listing_of};
+    ghost use Rattle.mt_base.specs.Limits.{most_calls};
 
     /// A new tree of this name and kind.
     fn new(alloc: Global, name: Word, kind: Kind, rows: u64) -> Result<Self, NoMemory>
@@ -85,7 +86,7 @@ impl<M: Plain> Played<M> {
 
     /// Makes a call, and writes its number and reply to the transcript.
     fn call(&mut self, line: u64, call: &Call, entries: &mut Vec<Entry>) -> Result<(), NoMemory>
-        requires used { self.old.map.used < 2 ^ 62 - 1 }
+        requires used { self.old.map.used < most_calls }
         requires calls { self.old.calls < u64.MAX }
         ensures { OnOk result ((reply : Reply) × IsCalled self.old self.new call.now reply
             × (entries.new.items ≡ entries.old.items ++ record { line = line; said = Wrote (self.old.calls + 1) reply } ∷ [])) }
@@ -139,7 +140,7 @@ impl<M: Plain> Played<M> {
         let mut at = place_within(index, max);
         for _step in 0..count {
             match self.ask(line, &find_at(at, max), entries)? {
-                Some(range) => at = place_behind(max, &range),
+                Some(range) => at = place_after(max, &range),
                 None => return Ok(()),
             }
         }
@@ -177,7 +178,8 @@ impl<M: Plain> Model for Player<M> {
 }
 
 impl<M: Plain> Player<M> {
-    ghost use Rattle.std.specs.Prelude.{◌≡◌, ◌∷◌, ◌++◌, ◌+◌, ◌-◌, ◌<◌, ◌≤◌, ◌^◌, [], ℕ, All, length, OnOk};
+    ghost use Rattle.std.specs.Prelude.{◌≡◌, ◌∷◌, ◌++◌, ◌+◌, ◌-◌, ◌<◌, ◌≤◌, [], ℕ, All, length, OnOk};
+    ghost use Rattle.mt_base.specs.Limits.{most_calls};
     ghost use Rattle.mt_base.specs.Width.{most_rows};
     ghost use Rattle.mt_log.specs.Trees.{NamesBelow};
     ghost use Rattle.mt_sequential.specs.Playing.{Does, Copies, Checks, IsCalledWithin};
@@ -186,7 +188,7 @@ impl<M: Plain> Player<M> {
     fn line(&mut self, alloc: Global, line: &Line) -> Result<(), NoMemory>
         requires rows { self.old.rows ≤ most_rows }
         requires named { NamesBelow (length self.old.trees) line.now.item }
-        requires calls { All (IsCalledWithin (2 ^ 62 - 2)) self.old.trees }
+        requires calls { All (IsCalledWithin (most_calls - 1)) self.old.trees }
         ensures does { OnOk result (Does self.old.rows self.old self.new line.now.number line.now.item) }
         ensures rows { self.new.rows ≡ self.old.rows }
     {
@@ -246,7 +248,7 @@ impl<M: Plain> Player<M> {
 fn play_lines<M: Plain>(alloc: Global, lines: &[Line], rows: u64) -> Result<Player<M>, NoMemory>
     requires rows { rows ≤ most_rows }
     requires readable { IsReadable lines.now }
-    requires count { length lines.now < 2 ^ 62 - 1 }
+    requires count { length lines.now < most_calls }
     ensures { IfOk result (λ p. IsPlayed rows lines.now p) }
 {
     let mut player = Player {
@@ -279,7 +281,7 @@ fn list_trees<M: Plain>(alloc: Global, trees: &mut [Played<M>]) -> Result<Vec<Li
 pub fn play<M: Plain>(alloc: Global, log: &Log, rows: u64) -> Result<Transcript, NoMemory>
     requires rows { rows ≤ most_rows }
     requires readable { IsReadable log.now.lines }
-    requires count { length log.now.lines < 2 ^ 62 - 1 }
+    requires count { length log.now.lines < most_calls }
     ensures { IfOk result (λ t. IsRun log.now rows t) }
 {
     let mut player = play_lines::<M>(alloc, log.lines.as_slice(), rows)?;

@@ -1,8 +1,9 @@
 -- What a text tells, line of the log by line.
-use Rattle.mt_told.proofs.Prelude.{◌≡◌, ℕ, ◌+◌, ◌<◌, ◌≤◌, Bool, true, false, cond, List, [], ◌∷◌, ◌++◌, length, length-append, get_or, drop, append_assoc, map, refl, sym, ap, ◌∙◌, subst, inl, inr, arith, ◌-◌, cases_lt, All, AllPairs, flat_map, option_to_list, append-nil, drop_all, drop_more, get_or_append_left, get_or-append-add, get_or-append_right, length-map, All-append, All-cons, All-get_or, All-nil, All-weaker, slice_get_cases, Call, Query, Item, Tree, Lane, Join, Dup, Check, Write, Ask, Scan, Line, Log, phase_after, AreDone, Asked, Called, Counted, IsDone, Looked, Outcome, Step, asked_from, is_answered, lane_after, lane_of, step_of, steps_of, AreNamedFrom, CopyOf, Declared, IsReadable, NamesBelow, count_after, declared_by, most_lanes, renamed, trees_from, trees_of, IsLaneLineDone, IsPlacedBy, IsScanAt, AddsTold, AllFit, IsOutcomeOf, IsStepAt, IsToldAt, TellsDone, TellsNotDone, steps_text, AreSpelled, FitsLine, HasForm, IsToldBy, Spelling, TellsNone, told_text, LinePlace, Told}
+use Rattle.mt_told.proofs.Prelude.{◌≡◌, ℕ, ◌+◌, ◌<◌, ◌≤◌, Bool, true, false, cond, List, [], ◌∷◌, ◌++◌, length, length-append, get_or, drop, append_assoc, map, refl, sym, ap, ◌∙◌, subst, inl, inr, arith, ◌-◌, cases_lt, All, AllPairs, flat_map, option_to_list, append-nil, drop_all, drop_more, get_or_append_left, get_or-append-add, get_or-append_right, length-map, All-append, All-cons, All-get_or, All-nil, All-weaker, slice_get_cases, Call, Query, Item, Tree, Lane, Join, Dup, Check, Write, Ask, Scan, Line, Log, phase_after, AreDone, Asked, Called, Counted, IsDone, Looked, Outcome, Step, asked_from, is_answered, lane_after, lane_of, step_of, steps_of, AreNamedFrom, CopyOf, Declared, IsReadable, NamesBelow, count_after, declared_by, renamed, trees_from, trees_of, IsLaneLineDone, IsPlacedBy, IsScanAt, AddsTold, AllFit, IsOutcomeOf, IsStepAt, IsToldAt, TellsDone, TellsNotDone, steps_text, AreSpelled, FitsLine, HasForm, IsToldBy, Spelling, TellsNone, told_text, LinePlace, Told}
 use Rattle.mt_log.specs.declared.transcripts.Said.TheVariants as said
 use Rattle.mt_told.proofs.Stepped.{nothing_told, steps_text-append, told_text-append}
 use Rattle.mt_told.specs.declared.steps.Deed.TheVariants as deeds
+use Rattle.mt_base.specs.Limits.{most_lanes}
 
 -- ---- steps that are done so, and so
 

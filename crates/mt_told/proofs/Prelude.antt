@@ -27,7 +27,8 @@ pub use Rattle.mt_base.specs.declared.calls.Query.TheVariants.{Find, Next, Prev,
 pub use Rattle.mt_log.proofs.Digits.{IsRead, one_more, stopped, tells_decimal}
 pub use Rattle.mt_log.proofs.PrintedLines.{are_above, name_is_field, number_is_field}
 pub use Rattle.mt_log.specs.Phases.{phase_after}
-pub use Rattle.mt_log.specs.Run.{IsDone, ScanGoesOnFrom, find_at, is_answered, lane_after, place_behind, step_of}
+pub use Rattle.mt_log.specs.Run.{IsDone, ScanGoesOnFrom, is_answered, lane_after, step_of}
+pub use Rattle.mt_base.specs.Places.{find_at, place_after}
 pub use Rattle.mt_log.specs.Text.{entry_text, said_text}
 pub use Rattle.mt_log.specs.Trees.{AreNamedFrom, CopyOf, Declared, IsReadable, count_after, declared_by, renamed, trees_from}
 pub use Rattle.mt_log.specs.declared.lines.Item.TheVariants.{Ask, Check, Dup, Join, Lane, Tree, Write}
@@ -38,7 +39,8 @@ pub use Rattle.mt_told.specs.Fronts.{HasNoByte, IsInLine, IsLineBefore, IsNumber
 pub use Rattle.mt_told.specs.ListingFronts.{AreRangesBefore, BeginsWithNoHead, BeginsWithNoRange, IsHead, IsHeadBefore, IsKindBefore, IsNameBefore, IsRangeLineBefore, IsWordBefore, head_text}
 pub use Rattle.mt_told.specs.Listings.{AreSmall, BeginsListing, IsBadAt, IsInForm, IsListing, ended_lines, first_lines}
 pub use Rattle.mt_told.specs.Numbers.{EndsNumber}
-pub use Rattle.mt_told.specs.Prelude.{Answer, AreDone, Asked, Called, Counted, Entry, Item, Kind, Line, Listing, Load, Log, Looked, NamesBelow, Outcome, Query, Range, Reply, Said, Scan, Step, asked_from, entry_of, is_name, kind_text, lane_of, listing_text, most_lanes, place_within, range_line, reply_text, shown, shown_range, steps_of, trees_of}
+pub use Rattle.mt_told.specs.Prelude.{Answer, AreDone, Asked, Called, Counted, Entry, Item, Kind, Line, Listing, Load, Log, Looked, NamesBelow, Outcome, Query, Range, Reply, Said, Scan, Step, asked_from, entry_of, is_name, kind_text, lane_of, listing_text, place_within, range_line, reply_text, shown, shown_range, steps_of, trees_of}
+pub use Rattle.mt_base.specs.Limits.{most_lanes}
 pub use Rattle.mt_told.specs.Scans.{IsScanAt, IsScanFrom, range_told}
 pub use Rattle.mt_told.specs.Steps.{AddsTold, AllFit, IsOutcomeOf, IsStepAt, IsToldAt, TellsDone, TellsNotDone, TellsNothingOf, TellsOf, TellsStepAt, outcome_text, step_at_place, steps_text, told_at}
 pub use Rattle.mt_told.specs.Telling.{AreSpelled, AreTold, FitsLine, HasForm, IsSmall, IsSmallRange, IsSpelled, IsSpelledOf, IsToldBy, Spelling, TellsNone, TellsSteps, spelled, spelled_line, spelling_of, told_text, what_text}

@@ -1,5 +1,5 @@
 -- The lines of a scan, from its steps: the text tells how many there are.
-use Rattle.mt_told.proofs.Prelude.{◌≡◌, ℕ, zero, suc, ◌+◌, ◌<◌, ◌≤◌, List, [], ◌∷◌, ◌++◌, Option, Some, None, get_or, append_assoc, refl, sym, ap, ◌∙◌, subst, arith, All, flat_map, append-nil, All-head, All-nil, All-push, All-tail, Range, ScanGoesOnFrom, Outcome, Called, Looked, Counted, Step, find_at, place_behind, place_within, shown, IsScanAt, IsScanFrom, range_told, AddsTold, AllFit, IsOutcomeOf, IsStepAt, IsToldAt, TellsDone, TellsNotDone, TellsStepAt, step_at_place, steps_text, AreSpelled, FitsLine, IsSpelled, IsSpelledOf, Spelling, told_text, Stretch, Look, LinePlace, Told, What, Wrote, Got, Copied, Lawful}
+use Rattle.mt_told.proofs.Prelude.{◌≡◌, ℕ, zero, suc, ◌+◌, ◌<◌, ◌≤◌, List, [], ◌∷◌, ◌++◌, Option, Some, None, get_or, append_assoc, refl, sym, ap, ◌∙◌, subst, arith, All, flat_map, append-nil, All-head, All-nil, All-push, All-tail, Range, ScanGoesOnFrom, Outcome, Called, Looked, Counted, Step, find_at, place_after, place_within, shown, IsScanAt, IsScanFrom, range_told, AddsTold, AllFit, IsOutcomeOf, IsStepAt, IsToldAt, TellsDone, TellsNotDone, TellsStepAt, step_at_place, steps_text, AreSpelled, FitsLine, IsSpelled, IsSpelledOf, Spelling, told_text, Stretch, Look, LinePlace, Told, What, Wrote, Got, Copied, Lawful}
 use Rattle.mt_log.specs.declared.transcripts.Answer.TheVariants as answers
 use Rattle.mt_told.proofs.Stepped.{nothing_told, steps_text-append, told_text-append}
 
@@ -78,16 +78,16 @@ module _ (place : LinePlace) (scan : Stretch) (count : ℕ) (at : Option ℕ) (t
 
   -- behind a range the scan goes on
   module _ (r : Range) (found : range_told t.what ≡ Some r) where
-    goes_on : (value : Option Range) (others : List Step) → value ≡ range_told t.what → ScanGoesOnFrom (IsScanFrom place scan count) scan.max value others → IsScanFrom place scan count (place_behind scan.max r) others
+    goes_on : (value : Option Range) (others : List Step) → value ≡ range_told t.what → ScanGoesOnFrom (IsScanFrom place scan count) scan.max value others → IsScanFrom place scan count (place_after scan.max r) others
     goes_on value others is goes = subst (λ (v : Option Range). ScanGoesOnFrom (IsScanFrom place scan count) scan.max v others) (is ∙ found) goes
 
-    pub no_more : TellsNotDone (IsScanFrom place scan count (place_behind scan.max r)) mid → TellsNotDone (IsScanFrom place scan (suc count) at) text
+    pub no_more : TellsNotDone (IsScanFrom place scan count (place_after scan.max r)) mid → TellsNotDone (IsScanFrom place scan (suc count) at) text
     no_more none sp steps after h small other =
         let first = first_told sp h.0 h.1 h.2 h.3 h.4 steps after h.5 small other in
         let others : AllFit sp h.4 = All-tail (λ (s : Step). FitsLine sp s.outcome) (FoundStep h.0 h.1 h.2 h.3) h.4 (subst (AllFit sp) h.5 small) in
         none sp h.4 after (goes_on h.3 h.4 first.found h.6) others first.behind
 
-    module _ (more : List Told) (end : List ℕ) (tail : TellsDone (IsScanFrom place scan count (place_behind scan.max r)) mid more end) where
+    module _ (more : List Told) (end : List ℕ) (tail : TellsDone (IsScanFrom place scan count (place_after scan.max r)) mid more end) where
       only_more : (sp : Spelling) (steps : List Step) (after : List ℕ) → IsScanFrom place scan (suc count) at steps → AllFit sp steps → text ≡ steps_text sp steps ++ after → AreSpelled sp (t ∷ more) steps × (end ≡ after)
       only_more sp steps after h small other =
           let first = first_told sp h.0 h.1 h.2 h.3 h.4 steps after h.5 small other in
@@ -219,7 +219,7 @@ module _ (place : LinePlace) (scan : Stretch) (text rest : List ℕ) (old new : 
             placed = All-push (IsToldAt place) so_far.mine t so_far.placed step.stands;
           }
 
-      pub goes_on_behind : (r : Range) → range_told t.what ≡ Some r → ScanGoesOn place scan text mid old (new ++ t ∷ []) (place_behind scan.max r) (i + 1)
+      pub goes_on_behind : (r : Range) → range_told t.what ≡ Some r → ScanGoesOn place scan text mid old (new ++ t ∷ []) (place_after scan.max r) (i + 1)
       goes_on_behind r found =
           let one = one_more below in
           record {

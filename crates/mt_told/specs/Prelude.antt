@@ -6,9 +6,11 @@ pub use Rattle.mt_base.specs.declared.kinds.Kind.{Kind}
 pub use Rattle.mt_base.specs.declared.ranges.Range.{Range}
 pub use Rattle.mt_base.specs.declared.replies.Reply.{Reply}
 pub use Rattle.mt_log.specs.Name.{is_name}
-pub use Rattle.mt_log.specs.Run.{AreDone, AreScanSteps, Asked, Called, Counted, Looked, Outcome, Step, asked_from, entry_of, lane_of, place_within, said_of, shown, shown_range, steps_of}
+pub use Rattle.mt_log.specs.Run.{AreDone, AreScanSteps, Asked, Called, Counted, Looked, Outcome, Step, asked_from, entry_of, lane_of, said_of, shown, shown_range, steps_of}
+pub use Rattle.mt_base.specs.Places.{place_within}
 pub use Rattle.mt_log.specs.Text.{answer_text, listing_text, range_line, reply_text}
-pub use Rattle.mt_log.specs.Trees.{NamesBelow, most_lanes, trees_of}
+pub use Rattle.mt_log.specs.Trees.{NamesBelow, trees_of}
+pub use Rattle.mt_base.specs.Limits.{most_lanes}
 pub use Rattle.mt_log.specs.declared.lines.Item.{Item}
 pub use Rattle.mt_log.specs.declared.lines.Item.TheVariants.{Scan}
 pub use Rattle.mt_log.specs.declared.lines.Line.{Line}

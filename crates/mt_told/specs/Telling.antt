@@ -3,12 +3,13 @@
 use Rattle.std.specs.Prelude.{◌≡◌, ℕ, ◌<◌, ◌≤◌, ◌^◌, List, [], ◌∷◌, ◌++◌, Option, Some, None, All, AllPairs, codes, length, map}
 use Rattle.std.specs.List.{flat_map}
 use Rattle.std.specs.Fmt.{decimal}
-use Rattle.mt_told.specs.Prelude.{Range, Reply, Log, Entry, Said, Outcome, Called, Looked, Counted, Step, AreDone, entry_of, shown, steps_of, answer_text, reply_text, most_lanes, trees_of}
+use Rattle.mt_told.specs.Prelude.{Range, Reply, Log, Entry, Said, Outcome, Called, Looked, Counted, Step, AreDone, entry_of, shown, steps_of, answer_text, reply_text, trees_of}
 use Rattle.mt_log.specs.declared.transcripts.Said.TheVariants as said
 use Rattle.mt_told.specs.Fronts.{IsInLine}
 use Rattle.mt_told.specs.declared.told.Told.{Told}
 use Rattle.mt_told.specs.declared.told.What.{What}
 use Rattle.mt_told.specs.declared.told.What.TheVariants.{Wrote, Got, Copied, Lawful}
+use Rattle.mt_base.specs.Limits.{most_lanes}
 
 -- ---- how it is written
 

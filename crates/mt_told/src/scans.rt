@@ -1,13 +1,12 @@
 //! The lines of a scan, whose number depends on the text.
 
 ghost use Rattle.std.specs.Prelude.{◌≡◌, IfNone, IfOk, IfSome};
-ghost use Rattle.mt_log.specs.Run.{find_at, place_behind, place_within};
 ghost use Rattle.mt_told.specs.Scans.{IsScanAt, range_told};
 ghost use Rattle.mt_told.specs.Steps.{AddsTold, IsToldAt, TellsNotDone};
 
 use crate::steps::{Deed, LinePlace, step_in_front};
 use crate::told::{Told, What};
-use mt_base::{Query, Range};
+use mt_base::{Range, find_at, place_after, place_within};
 use mt_log::Answer;
 use std::alloc::AllocError;
 
@@ -17,34 +16,6 @@ pub struct Stretch {
     pub index: u64,
     pub max: u64,
     pub count: u32,
-}
-
-/// Where a scan begins, if anywhere.
-fn place_within(index: u64, max: u64) -> Option<u64>
-    ensures { result ≡ place_within index max }
-{
-    if index <= max { Some(index) } else { None }
-}
-
-/// Where the scan goes on after a range, if anywhere.
-fn place_behind(max: u64, range: &Range) -> Option<u64>
-    ensures { result ≡ place_behind max range.now }
-{
-    if range.last < max {
-        Some(range.last + 1)
-    } else {
-        None
-    }
-}
-
-/// The find that a step of a scan is, from this place on.
-fn find_at(at: Option<u64>, max: u64) -> Query
-    ensures { result ≡ find_at at max }
-{
-    match at {
-        Some(index) => Query::Find { index, max },
-        None => Query::Find { index: 1, max: 0 },
-    }
 }
 
 /// The range that the line reports, if it reports one.
@@ -84,7 +55,7 @@ pub fn read_scan<'t>(
         let Some(range) = range_told(&step.what) else {
             return Ok(Some(rest));
         };
-        at = place_behind(scan.max, &range);
+        at = place_after(scan.max, &range);
     }
     Ok(Some(rest))
 }

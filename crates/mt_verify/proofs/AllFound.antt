@@ -1,5 +1,5 @@
 -- Trees that were gone through make what is found of a text.
-use Rattle.mt_verify.proofs.Prelude.{◌≡◌, ◌≢◌, ℕ, zero, suc, ◌+◌, ◌-◌, ◌<◌, ◌≤◌, ◌==◌, ◌&&◌, ◌||◌, true, false, List, [], ◌∷◌, Option, Some, None, length, map, nat_le, slice_get, get_or, refl, sym, ap, ◌∙◌, subst, inl, inr, arith, All, AllPairs, IfSome, IsPermutation, decimal, AllByRecursion, Contains, cons_option, enumerate_from, filter_map, list_any, option_map, unwrap_or, cases_Bool, cases_lt, eq-eqb, eqb-true, length-map, take_all, recursion_from_All, length-map-range_with_len, Contains-permutation, IsPermutation-map, IsPermutation-sym, same_Some, slice_get-map, slice_get_within, slice_get-get_or, Kind, Range, Call, Holder, Reply, Record, History, IsLegal, last_map, map_at, holder_of, Log, listings_of, reply_text, Declared, Opening, Empty, CopyOf, most_lanes, trees_of, Told, What, Wrote, Got, Copied, Lawful, IsToldBy, HaveGoneTo, OpensGone, listings_by, numbers_behind, reads_count, reads_told, own_points, Lane, GoneTree, HasGone, gone_map, IsReader, reads_by, AreNotedOf, IsHeardOf, IsNotedOf, AreRecordsOf, IsRecordOf, IsReplyOf, is_nomem, map_after_noted, record_noted, records_noted, AreLeastOf, calls_below, line_on, lines_on, looks_by_lane, stop_at, stops_told, EndsInTree, InPrintedOrder, calls_told, numbered_of, numbered_on_told, Numbered, Look, Heard, Short, Noted, Stop, history_of}
+use Rattle.mt_verify.proofs.Prelude.{◌≡◌, ◌≢◌, ℕ, zero, suc, ◌+◌, ◌-◌, ◌<◌, ◌≤◌, ◌==◌, ◌&&◌, ◌||◌, true, false, List, [], ◌∷◌, Option, Some, None, length, map, nat_le, slice_get, get_or, refl, sym, ap, ◌∙◌, subst, inl, inr, arith, All, AllPairs, IfSome, IsPermutation, decimal, AllByRecursion, Contains, cons_option, enumerate_from, filter_map, list_any, option_map, unwrap_or, cases_Bool, cases_lt, eq-eqb, eqb-true, length-map, take_all, recursion_from_All, length-map-range_with_len, Contains-permutation, IsPermutation-map, IsPermutation-sym, same_Some, slice_get-map, slice_get_within, slice_get-get_or, Kind, Range, Call, Holder, Reply, Record, History, IsLegal, last_map, map_at, holder_of, Log, listings_of, reply_text, Declared, Opening, Empty, CopyOf, trees_of, Told, What, Wrote, Got, Copied, Lawful, IsToldBy, HaveGoneTo, OpensGone, listings_by, numbers_behind, reads_count, reads_told, own_points, Lane, GoneTree, HasGone, gone_map, IsReader, reads_by, AreNotedOf, IsHeardOf, IsNotedOf, AreRecordsOf, IsRecordOf, IsReplyOf, is_nomem, map_after_noted, record_noted, records_noted, AreLeastOf, calls_below, line_on, lines_on, looks_by_lane, stop_at, stops_told, EndsInTree, InPrintedOrder, calls_told, numbered_of, numbered_on_told, Numbered, Look, Heard, Short, Noted, Stop, history_of}
 use Rattle.mt_base.specs.declared.replies.Reply.TheVariants as replies
 use Rattle.mt_base.specs.History as histories
 use Rattle.mt_verify.specs.ToldReads.{calls_of_phases_before as calls_lower, is_got as is_look}
@@ -16,6 +16,7 @@ use Rattle.mt_verify.proofs.OwnLines.{below_is, lane_is, own_is}
 use Rattle.mt_verify.proofs.OwnStops.{windows_within}
 use Rattle.mt_verify.proofs.RefusedTrees.{kept_in, lane_at}
 use Rattle.mt_verify.proofs.Runs.{all_at, some_at}
+use Rattle.mt_base.specs.Limits.{most_lanes}
 
 -- the history that a tree has gone through
 abbrev pub history_by : ℕ → GoneTree → History

@@ -1,5 +1,6 @@
 -- In which phase each lane reads each tree first.
-use Rattle.mt_verify.proofs.Prelude.{◌≡◌, ◌↔◌, ℕ, ◌+◌, ◌*◌, ◌<◌, ◌≤◌, true, false, List, [], ◌∷◌, Option, None, All, get_or, replicate, arith, subst, inl, inr, list_any, and_parts, cases_Bool, eqb-true, get_or-replicate, All-head, All-tail, most_lanes, most_trees, Told, HasReadBy, reads_by}
+use Rattle.mt_verify.proofs.Prelude.{◌≡◌, ◌↔◌, ℕ, ◌+◌, ◌*◌, ◌<◌, ◌≤◌, true, false, List, [], ◌∷◌, Option, None, All, get_or, replicate, arith, subst, inl, inr, list_any, and_parts, cases_Bool, eqb-true, get_or-replicate, All-head, All-tail, most_trees, Told, HasReadBy, reads_by}
+use Rattle.mt_base.specs.Limits.{most_lanes}
 
 pub none_read : (tree lane phase : ℕ) (other : Option ℕ) → tree < most_trees → lane < most_lanes → HasReadBy (get_or (replicate 256 None) (16 * tree + lane) other) phase ↔ (false ≡ true)
 none_read tree lane phase other below beside =

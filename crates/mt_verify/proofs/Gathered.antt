@@ -1,5 +1,6 @@
 -- Lines that are gone through one by one, and what is asked for by them.
-use Rattle.mt_verify.proofs.Prelude.{◌≡◌, ◌↔◌, ℕ, ◌<◌, ◌≤◌, List, [], ◌∷◌, ◌++◌, length, get_or, set, replicate, All, inl, inr, arith, refl, sym, ap, ◌∙◌, subst, get_or-set_same, get_or-set_other, length_push, length-set, get_or_default, length-replicate, get_or-replicate, get_or_append_left, get_or_push, cases_eq, All-push, most_lanes, Told, What, Mark, Marks, Admits, Gather, AreMarked, lane_place, KeepsTo}
+use Rattle.mt_verify.proofs.Prelude.{◌≡◌, ◌↔◌, ℕ, ◌<◌, ◌≤◌, List, [], ◌∷◌, ◌++◌, length, get_or, set, replicate, All, inl, inr, arith, refl, sym, ap, ◌∙◌, subst, get_or-set_same, get_or-set_other, length_push, length-set, get_or_default, length-replicate, get_or-replicate, get_or_append_left, get_or_push, cases_eq, All-push, Told, What, Mark, Marks, Admits, Gather, AreMarked, lane_place, KeepsTo}
+use Rattle.mt_base.specs.Limits.{most_lanes}
 
 module _ {X : Type 0} (P : X → Type 0) where
   pub all_but_last : (xs : List X) (y : X) → All P (xs ++ y ∷ []) → All P xs

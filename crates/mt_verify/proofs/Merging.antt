@@ -1,10 +1,11 @@
 -- The numbers of reads, put together line by line from those of each lane on each tree.
-use Rattle.mt_verify.proofs.Prelude.{◌≡◌, ◌⊎◌, ℕ, suc, ◌+◌, ◌*◌, ◌<◌, ◌==◌, true, false, List, [], ◌∷◌, ◌++◌, Option, Some, None, length, filter, map, replicate, set, slice_get, get_or, take, drop, refl, sym, ap, ◌∙◌, subst, inl, inr, arith, get_or-set_same, get_or-set_other, length-append, drop-cons, cons_option, slice_index, cases_Bool, eqb-false, eqb-true, eq-eqb, append-nil, get_or-replicate, length-map, length-replicate, length-set, take_all, take_more, take-append-drop, filter-append, filter_map-append, length-map-range_with_len, slice_get-get_or, slice_get_within, most_lanes, Told, What, Wrote, Got, Copied, Lawful, Look, is_got, number_for, numbers_behind, read_by, read_in, reads_count, reads_told, own_points, AreLanesDone, Lane, looks_of, GoneTree, lane_looks, look_by, look_told, looks_told, cell_of, points_at, lines_on, looks_by_lane}
+use Rattle.mt_verify.proofs.Prelude.{◌≡◌, ◌⊎◌, ℕ, suc, ◌+◌, ◌*◌, ◌<◌, ◌==◌, true, false, List, [], ◌∷◌, ◌++◌, Option, Some, None, length, filter, map, replicate, set, slice_get, get_or, take, drop, refl, sym, ap, ◌∙◌, subst, inl, inr, arith, get_or-set_same, get_or-set_other, length-append, drop-cons, cons_option, slice_index, cases_Bool, eqb-false, eqb-true, eq-eqb, append-nil, get_or-replicate, length-map, length-replicate, length-set, take_all, take_more, take-append-drop, filter-append, filter_map-append, length-map-range_with_len, slice_get-get_or, slice_get_within, Told, What, Wrote, Got, Copied, Lawful, Look, is_got, number_for, numbers_behind, read_by, read_in, reads_count, reads_told, own_points, AreLanesDone, Lane, looks_of, GoneTree, lane_looks, look_by, look_told, looks_told, cell_of, points_at, lines_on, looks_by_lane}
 use Rattle.mt_base.specs.declared.kinds.Kind.TheVariants as kinds
 use Rattle.mt_verify.proofs.Filled.{HasNumber}
 use Rattle.mt_verify.proofs.FilledReads.{has_number, second_of}
 use Rattle.mt_verify.proofs.OwnLines.{lane_is}
 use Rattle.mt_verify.proofs.RefusedTrees.{lane_at}
+use Rattle.mt_base.specs.Limits.{most_lanes}
 
 -- ---- one line more
 

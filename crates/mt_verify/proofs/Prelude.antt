@@ -22,11 +22,11 @@ pub use Rattle.mt_base.proofs.FirstMet.{is_held_where_met}
 pub use Rattle.mt_base.proofs.FreeAreas.{high_is_room, low_is_room, part_is_free}
 pub use Rattle.mt_base.proofs.Lists.{all_join, all_map, get_parts}
 pub use Rattle.mt_base.proofs.WidthBounds.{greatest_fits}
-pub use Rattle.mt_base.specs.Call.{erased, found, is_no_area, placed, replied}
+pub use Rattle.mt_base.specs.Call.{erased, found, is_no_area, placed}
 pub use Rattle.mt_base.specs.Entry.{reserved}
 pub use Rattle.mt_base.specs.History.{AreLegalFrom, IsAnswered, IsLegal, last_map, limits_after, map_after, map_by_reply}
 pub use Rattle.mt_base.specs.Holes.{IsRoom}
-pub use Rattle.mt_base.specs.Map.{IsMapFrom, cut_above, cut_below, first_met, first_range, holds, last_range, over, overlaps, part_stored, parts_above, parts_below, without}
+pub use Rattle.mt_base.specs.Map.{IsMapFrom, cut_above, cut_below, first_range, holds, last_range, over, overlaps, part_stored, parts_above, parts_below, without}
 pub use Rattle.mt_base.specs.Nodes.{IsShort, Wants, is_exact_store}
 pub use Rattle.mt_base.specs.Passes.{holder_of}
 pub use Rattle.mt_base.specs.Text.{range_text}
@@ -40,7 +40,8 @@ pub use Rattle.mt_log.proofs.Readable.{are_readable}
 pub use Rattle.mt_log.specs.LogText.{IsLog}
 pub use Rattle.mt_log.specs.Phases.{phase_after}
 pub use Rattle.mt_log.specs.Reading.{ReadSoFar, after_item, most_scan_steps, nothing_read, scan_steps_of}
-pub use Rattle.mt_log.specs.Run.{AreDone, AreScanSteps, Asked, Follows, InOrder, IsDone, IsHeldRightly, IsTrueOf, OpensAs, ScanGoesOnFrom, StandsIn, asked_from, calls_before, entry_of, find_at, holder_in, is_answered, is_call, is_read_by, lane_after, lane_of, listings_of, place_behind, place_within, record_in, step_of, steps_of}
+pub use Rattle.mt_log.specs.Run.{AreDone, AreScanSteps, Asked, Follows, InOrder, IsDone, IsHeldRightly, IsTrueOf, OpensAs, ScanGoesOnFrom, StandsIn, asked_from, calls_before, entry_of, holder_in, is_answered, is_call, is_read_by, lane_after, lane_of, listings_of, record_in, step_of, steps_of}
+pub use Rattle.mt_base.specs.Places.{find_at, place_after, place_within}
 pub use Rattle.mt_log.specs.Text.{entry_text}
 pub use Rattle.mt_log.specs.Trees.{AreNamedFrom, NamesBelow, count_after, declared_by, renamed, trees_from}
 pub use Rattle.mt_log.specs.declared.lines.Item.TheVariants.{Ask, Check, Dup, Join, Scan, Tree}
@@ -68,7 +69,8 @@ pub use Rattle.mt_verify.specs.Merging.{cell_of, points_at}
 pub use Rattle.mt_verify.specs.Openings.{OpensAsMap, just_opened}
 pub use Rattle.mt_verify.specs.OwnLines.{calls_below, calls_in, entered, line_on, lines_on, look_by_lane, looks_by_lane, stop_at, stops_told}
 pub use Rattle.mt_verify.specs.Points.{AreAlike, AreLeastPoints, AreToldAlike, AreUpTo, CopiesEarlier, GoAlike, HaveHistories, IsPointList, IsTrueAt, KnowsAt, OutcomesAlike, StepsAlike, TellsAt, at_place, hi_of, lo_of, map_part, numbered_part, point_of, points_of, read_number}
-pub use Rattle.mt_verify.specs.Prelude.{Alloc, Answer, AreTold, Call, Called, Clear, Contents, Copied, CopyOf, Counted, Declared, Empty, Erase, Gap, Got, History, Holder, Insert, IsMap, IsReadable, IsRefused, IsRun, IsRunBy, Item, Kind, Lawful, Limits, Listing, Log, Looked, NoNodes, Opening, Opens, Outcome, Ralloc, Range, Record, Reply, Rgap, Shortage, Step, Store, StorePre, Told, Transcript, What, Write, Wrote, acted, answer, high, holding, is_bad_area, is_exactly, is_held, is_invalid, is_read, listing_text, low, map_at, most_lanes, most_rows, most_trees, numbered_on, reply_text, shown, text_of, trees_of}
+pub use Rattle.mt_verify.specs.Prelude.{Alloc, Answer, AreTold, Call, Called, Clear, Contents, Copied, CopyOf, Counted, Declared, Empty, Erase, Gap, Got, History, Holder, Insert, IsMap, IsReadable, IsRefused, IsRun, IsRunBy, Item, Kind, Lawful, Limits, Listing, Log, Looked, NoNodes, Opening, Opens, Outcome, Ralloc, Range, Record, Reply, Rgap, Shortage, Step, Store, StorePre, Told, Transcript, What, Write, Wrote, acted, answer, high, holding, is_bad_area, is_exactly, is_held, is_invalid, is_read, listing_text, low, map_at, most_rows, most_trees, numbered_on, reply_text, shown, text_of, trees_of}
+pub use Rattle.mt_base.specs.Limits.{most_lanes}
 pub use Rattle.mt_verify.specs.PrintedOrder.{EndsInTree, EndsWithin, InPrintedOrder, KeepsTo}
 pub use Rattle.mt_verify.specs.Shortages.{shared_limits}
 pub use Rattle.mt_verify.specs.Stops.{AreCounted, AreStopped, DoNotFall, HasStopped, HasToldCount, HavePassedStops, Passing, SomeMiscounted, is_at}
@@ -88,4 +90,4 @@ pub use Rattle.mt_verify.specs.declared.stops.Stop.{Stop}
 pub use Rattle.mt_verify.specs.declared.tracks.Fate.{Fate}
 pub use Rattle.mt_verify.specs.declared.windows.Mark.{Mark}
 pub use Rattle.mt_verify.specs.declared.windows.Marks.{Marks}
-pub use Rattle.mt_list.proofs.StoreAtPlaces.{all_parts_above, no_part_below}
+pub use Rattle.mt_list.proofs.StoresBeside.{outside_hole, store_none_beside, stored_holds}

@@ -1,5 +1,5 @@
 -- Where a tree cannot be gone through, no run is told so.
-use Rattle.mt_verify.proofs.Prelude.{[], ◌≡◌, ℕ, zero, suc, ◌+◌, ◌<◌, ◌≤◌, ◌==◌, ◌&&◌, true, List, ◌∷◌, ◌++◌, Option, Some, None, length, nat_lt, slice_get, get_or, refl, sym, ap, ◌∙◌, subst, inl, inr, arith, codes, IfSome, decimal, Contains, cons_option, enumerate_from, filter_map, cases_Bool, eqb-true, eq-eqb, length-map, get_or-map, get_or-map-range_with_len, length-map-range_with_len, Contains-permutation, IsPermutation-sym, same_Some, slice_get_within, get_or_from_slice_get, Call, Range, Holder, Reply, answer, History, IsLegal, map_at, holder_of, most_rows, Log, Transcript, Outcome, Called, Looked, Counted, Step, IsHeldRightly, IsRunBy, IsTrueOf, StandsIn, calls_before, holder_in, is_call, numbered_on, shown, reply_text, most_lanes, Told, What, Wrote, Got, Copied, Lawful, AreTold, IsTold, Numbered, Look, Noted, Stop, is_wrote, AreAnswered, Lane, SomeHasNone, looks_of, AreMisheard, CannotGo, IsHindered, lane_looks, IsReader, AreHeard, map_of_noted, looks_on, points_on, MayHave, calls_below, line_on, lines_on, looks_by_lane, stop_at, stops_told, SomeMiscounted, calls_told, numbered_of, numbered_on_told}
+use Rattle.mt_verify.proofs.Prelude.{[], ◌≡◌, ℕ, zero, suc, ◌+◌, ◌<◌, ◌≤◌, ◌==◌, ◌&&◌, true, List, ◌∷◌, ◌++◌, Option, Some, None, length, nat_lt, slice_get, get_or, refl, sym, ap, ◌∙◌, subst, inl, inr, arith, codes, IfSome, decimal, Contains, cons_option, enumerate_from, filter_map, cases_Bool, eqb-true, eq-eqb, length-map, get_or-map, get_or-map-range_with_len, length-map-range_with_len, Contains-permutation, IsPermutation-sym, same_Some, slice_get_within, get_or_from_slice_get, Call, Range, Holder, Reply, answer, History, IsLegal, map_at, holder_of, most_rows, Log, Transcript, Outcome, Called, Looked, Counted, Step, IsHeldRightly, IsRunBy, IsTrueOf, StandsIn, calls_before, holder_in, is_call, numbered_on, shown, reply_text, Told, What, Wrote, Got, Copied, Lawful, AreTold, IsTold, Numbered, Look, Noted, Stop, is_wrote, AreAnswered, Lane, SomeHasNone, looks_of, AreMisheard, CannotGo, IsHindered, lane_looks, IsReader, AreHeard, map_of_noted, looks_on, points_on, MayHave, calls_below, line_on, lines_on, looks_by_lane, stop_at, stops_told, SomeMiscounted, calls_told, numbered_of, numbered_on_told}
 use Rattle.mt_verify.specs.ToldReads.{calls_of_phases_before as calls_before_told}
 use Rattle.mt_verify.proofs.ToldSteps.{IsToldOf, by_kind}
 use Rattle.mt_verify.proofs.Answered.{heard_maps, legal_is_answered}
@@ -11,6 +11,7 @@ use Rattle.mt_verify.proofs.ToldLooks.{looks_are_told}
 use Rattle.mt_verify.proofs.ToldAlike.{nomem_text, third_m}
 use Rattle.mt_verify.proofs.ToldHolders.{holders_told}
 use Rattle.mt_verify.proofs.ToldRuns.{counted, heard_so, refusal_of, small_replies}
+use Rattle.mt_base.specs.Limits.{most_lanes}
 
 -- ---- places
 

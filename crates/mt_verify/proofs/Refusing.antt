@@ -1,46 +1,17 @@
 -- No call is answered by a map as one that is refused for want of rows, and when one is refused.
-use Rattle.mt_verify.proofs.Prelude.{◌≡◌, ◌↔◌, ℕ, ◌==◌, ◌||◌, Bool, true, false, List, Option, Some, None, refl, sym, ap, ◌∙◌, subst, IsTrue, cond_both, Range, Kind, Call, Store, StorePre, Insert, Erase, Alloc, Ralloc, Gap, Rgap, Clear, Reply, Shortage, acted, erased, found, is_bad_area, is_invalid, is_no_area, placed, replied, high, low, IsMap, first_met, holding, is_held, Limits, Wants, IsShort, IsRefused, is_nomem, wants}
+use Rattle.mt_verify.proofs.Prelude.{◌≡◌, ◌↔◌, Bool, true, false, List, refl, sym, ap, ◌∙◌, subst, IsTrue, Range, Kind, Call, Reply, Shortage, acted, IsMap, Limits, Wants, IsShort, IsRefused, is_nomem, wants}
+use Rattle.mt_base.proofs.PlainReplies.{IsPlain, acted_plainly as replies_plainly}
 use Rattle.mt_base.specs.declared.replies.Reply.TheVariants as reply
 use Rattle.mt_verify.proofs.Wanted.{wants_is}
 
 -- ---- no call is answered so
 
-abbrev IsPlain : Reply → Type 0
-IsPlain r = is_nomem r ≡ false
+no_nomem : (r : Reply) → IsPlain r → is_nomem r ≡ false
+no_nomem (reply.NoNodes shortage) plain = absurd plain
+no_nomem r plain = refl
 
-replied_plainly : (met : Option Range) → IsPlain (replied met)
-replied_plainly None = refl
-replied_plainly (Some r) = refl
-
-erased_plainly : (m : List Range) (index : ℕ) (held : Option Range) → IsPlain (erased m index held).1
-erased_plainly m index None = refl
-erased_plainly m index (Some r) = refl
-
-placed_plainly : (m : List Range) (size entry : ℕ) (start : Option ℕ) → IsPlain (placed m size entry start).1
-placed_plainly m size entry None = refl
-placed_plainly m size entry (Some start) = refl
-
-found_plainly : (start : Option ℕ) → IsPlain (found start)
-found_plainly None = refl
-found_plainly (Some start) = refl
-
-pub acted_plainly : (kind : Kind) (m : List Range) (call : Call) → IsPlain (acted kind m call).1
-acted_plainly kind m (Store first last entry) =
-    cond_both (is_invalid kind first last entry) _ _ (λ (after : List Range × Reply). IsPlain after.1) (λ invalid. refl) (λ valid. replied_plainly (first_met m first last))
-acted_plainly kind m (StorePre first last entry) =
-    cond_both (is_invalid kind first last entry) _ _ (λ (after : List Range × Reply). IsPlain after.1) (λ invalid. refl) (λ valid. replied_plainly (first_met m first last))
-acted_plainly kind m (Insert first last entry) =
-    cond_both (is_invalid kind first last entry || (entry == 0)) _ _ (λ (after : List Range × Reply). IsPlain after.1)
-    (λ invalid. refl)
-    (λ valid. cond_both (is_held m first last) _ _ (λ (after : List Range × Reply). IsPlain after.1) (λ held. refl) (λ free. refl))
-acted_plainly kind m (Erase index) = erased_plainly m index (holding m index)
-acted_plainly kind m (Alloc size lo hi entry) =
-    cond_both (is_bad_area kind size lo hi entry) _ _ (λ (after : List Range × Reply). IsPlain after.1) (λ bad. refl) (λ good. placed_plainly m size entry (low kind m size lo hi))
-acted_plainly kind m (Ralloc size lo hi entry) =
-    cond_both (is_bad_area kind size lo hi entry) _ _ (λ (after : List Range × Reply). IsPlain after.1) (λ bad. refl) (λ good. placed_plainly m size entry (high kind m size lo hi))
-acted_plainly kind m (Gap size lo hi) = cond_both (is_no_area kind size lo hi) _ _ IsPlain (λ bad. refl) (λ good. found_plainly (low kind m size lo hi))
-acted_plainly kind m (Rgap size lo hi) = cond_both (is_no_area kind size lo hi) _ _ IsPlain (λ bad. refl) (λ good. found_plainly (high kind m size lo hi))
-acted_plainly kind m Clear = refl
+pub acted_plainly : (kind : Kind) (m : List Range) (call : Call) → is_nomem (acted kind m call).1 ≡ false
+acted_plainly kind m call = no_nomem (acted kind m call).1 (replies_plainly kind m call)
 
 -- ---- a refusal
 

@@ -1,5 +1,5 @@
 -- The numbers of a run of a log that can be read are of 64 bits.
-use Rattle.mt_verify.proofs.Prelude.{◌≡◌, ℕ, zero, suc, ◌+◌, ◌-◌, ◌==◌, ◌<◌, ◌≤◌, ◌^◌, if◌then◌else◌, Bool, true, false, List, [], ◌∷◌, ◌++◌, Option, Some, None, IfSome, All, length, get_or, slice_get, arith, refl, sym, subst, length-append, AllByRecursion, cons_option, enumerate_from, filter_map, cond_both, All-from_recursion, recursion_from_All, length-enumerate_from, All-permutation, IsPermutation-sym, length_permutation, slice_get_within, Kind, Range, Call, Store, StorePre, Insert, Erase, Alloc, Ralloc, Gap, Rgap, Clear, Record, History, map_at, IsLog, phase_after, ReadSoFar, after_item, most_scan_steps, nothing_read, scan_steps_of, Asked, Outcome, Called, Looked, Counted, Step, AreDone, ScanGoesOnFrom, IsDone, IsRunBy, AreScanSteps, IsTrueOf, OpensAs, asked_from, calls_before, is_answered, lane_after, lane_of, numbered_on, place_behind, place_within, record_in, Opening, Empty, CopyOf, Declared, trees_of, Item, Tree, Join, Dup, Check, Write, Ask, Scan, Line, Log, Transcript, CallSays, CanAllFollow, ItemSays, at_line, log_follows, IsSmall, IsSmallRange}
+use Rattle.mt_verify.proofs.Prelude.{◌≡◌, ℕ, zero, suc, ◌+◌, ◌-◌, ◌==◌, ◌<◌, ◌≤◌, ◌^◌, if◌then◌else◌, Bool, true, false, List, [], ◌∷◌, ◌++◌, Option, Some, None, IfSome, All, length, get_or, slice_get, arith, refl, sym, subst, length-append, AllByRecursion, cons_option, enumerate_from, filter_map, cond_both, All-from_recursion, recursion_from_All, length-enumerate_from, All-permutation, IsPermutation-sym, length_permutation, slice_get_within, Kind, Range, Call, Store, StorePre, Insert, Erase, Alloc, Ralloc, Gap, Rgap, Clear, Record, History, map_at, IsLog, phase_after, ReadSoFar, after_item, most_scan_steps, nothing_read, scan_steps_of, Asked, Outcome, Called, Looked, Counted, Step, AreDone, ScanGoesOnFrom, IsDone, IsRunBy, AreScanSteps, IsTrueOf, OpensAs, asked_from, calls_before, is_answered, lane_after, lane_of, numbered_on, place_after, place_within, record_in, Opening, Empty, CopyOf, Declared, trees_of, Item, Tree, Join, Dup, Check, Write, Ask, Scan, Line, Log, Transcript, CallSays, CanAllFollow, ItemSays, at_line, log_follows, IsSmall, IsSmallRange}
 use Rattle.mt_log.specs.declared.lines.Item.TheVariants.{Lane}
 use Rattle.mt_verify.proofs.Placed.{same_number}
 use Rattle.mt_verify.proofs.Runs.{some_at}
@@ -102,7 +102,7 @@ one_known steps s is fits = subst (Known 1) (sym is) ((fits, tt), omega arith)
 
 goes_known : (scans : Option ℕ → List Step → Type 0) (max count : ℕ) → ((at : Option ℕ) (steps : List Step) → scans at steps → Known count steps) → (value : Option Range) (rest : List Step) → ScanGoesOnFrom scans max value rest → Known count rest
 goes_known scans max count each None rest none = none_known count rest none
-goes_known scans max count each (Some r) rest scan = each (place_behind max r) rest scan
+goes_known scans max count each (Some r) rest scan = each (place_after max r) rest scan
 
 scan_known : (a : Asked) (tree max count : ℕ) (at : Option ℕ) (steps : List Step) → AreScanSteps a tree max count at steps → Known count steps
 scan_known a tree max zero at steps done = none_known 0 steps done

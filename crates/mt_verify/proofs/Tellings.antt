@@ -1,5 +1,5 @@
 -- A transcript of a run tells as many calls as its log asks for, and as many reads as there are points.
-use Rattle.mt_verify.proofs.Prelude.{◌≡◌, ◌∙◌, ◌+◌, ◌++◌, ℕ, zero, suc, Bool, true, false, List, [], ◌∷◌, length, map, Option, Some, None, refl, sym, ap, subst, arith, length-append, if◌then◌else◌, filter, map-append, filter-append, filter_map-append, Range, Item, Tree, Join, Dup, Check, Write, Ask, Scan, Line, Log, Entry, Transcript, phase_after, AreDone, Asked, ScanGoesOnFrom, IsDone, IsRun, AreScanSteps, Looked, Step, asked_from, entry_of, find_at, is_answered, lane_after, lane_of, place_behind, place_within, step_of, steps_of, asks_call, count_of_calls, tells_call, tells_read, IsPointList, point_of, points_of}
+use Rattle.mt_verify.proofs.Prelude.{◌≡◌, ◌∙◌, ◌+◌, ◌++◌, ℕ, zero, suc, Bool, true, false, List, [], ◌∷◌, length, map, Option, Some, None, refl, sym, ap, subst, arith, length-append, if◌then◌else◌, filter, map-append, filter-append, filter_map-append, Range, Item, Tree, Join, Dup, Check, Write, Ask, Scan, Line, Log, Entry, Transcript, phase_after, AreDone, Asked, ScanGoesOnFrom, IsDone, IsRun, AreScanSteps, Looked, Step, asked_from, entry_of, find_at, is_answered, lane_after, lane_of, place_after, place_within, step_of, steps_of, asks_call, count_of_calls, tells_call, tells_read, IsPointList, point_of, points_of}
 use Rattle.mt_log.specs.declared.lines.Item.TheVariants.{Lane}
 use Rattle.mt_verify.specs.Tellings.{reads_told}
 
@@ -37,7 +37,7 @@ none_counted steps is = subst (IsCounted 0) (sym is) (refl, refl)
 goes_on : (a : Asked) (tree max count : ℕ) (value : Option Range) (rest : List Step) → ((at : Option ℕ) (steps : List Step) → AreScanSteps a tree max count at steps → IsCounted 0 steps)
     → ScanGoesOnFrom (AreScanSteps a tree max count) max value rest → IsCounted 0 rest
 goes_on a tree max count None rest counted on = none_counted rest on
-goes_on a tree max count (Some r) rest counted on = counted (place_behind max r) rest on
+goes_on a tree max count (Some r) rest counted on = counted (place_after max r) rest on
 
 scan_counted : (a : Asked) (tree max count : ℕ) (at : Option ℕ) (steps : List Step) → AreScanSteps a tree max count at steps → IsCounted 0 steps
 scan_counted a tree max zero at steps is = none_counted steps is

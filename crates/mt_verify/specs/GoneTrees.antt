@@ -2,7 +2,7 @@
 -- Source: this project's own.
 use Rattle.std.specs.Prelude.{◌≡◌, ◌⊎◌, ℕ, List, length, map}
 use Rattle.std.specs.List.{range_with_len}
-use Rattle.mt_verify.specs.Prelude.{Kind, Range, Contents, most_lanes, Told}
+use Rattle.mt_verify.specs.Prelude.{Kind, Range, Contents, Told}
 use Rattle.mt_verify.specs.declared.calls.Numbered.{Numbered}
 use Rattle.mt_verify.specs.declared.looks.Look.{Look}
 use Rattle.mt_verify.specs.declared.noted.Noted.{Noted}
@@ -12,6 +12,7 @@ use Rattle.mt_verify.specs.Histories.{map_of_noted}
 use Rattle.mt_verify.specs.OwnLines.{lines_on, looks_by_lane, stops_told}
 use Rattle.mt_verify.specs.Stops.{SomeMiscounted}
 use Rattle.mt_verify.specs.ToldCalls.{AreCallsOf}
+use Rattle.mt_base.specs.Limits.{most_lanes}
 
 -- a tree: its kind, the map with which it opened, its calls, and the reads of each lane with their numbers
 pub record GoneTree : Type 0 where

@@ -3,9 +3,10 @@
 use Rattle.std.specs.Prelude.{◌≡◌, ◌≢◌, ◌↔◌, ℕ, ◌+◌, ◌*◌, ◌==◌, ◌&&◌, ◌<◌, ◌≤◌, ◌^◌, Bool, true, false, List, Option, None, IsSome, IfSome, IsSomeAnd, nat_le, slice_index_or}
 use Rattle.std.specs.Fmt.{decimal}
 use Rattle.std.specs.List.{list_any}
-use Rattle.mt_verify.specs.Prelude.{Shortage, NoNodes, reply_text, most_lanes, most_trees, Told, What, Wrote, Got, Copied, Lawful}
+use Rattle.mt_verify.specs.Prelude.{Shortage, NoNodes, reply_text, most_trees, Told, What, Wrote, Got, Copied, Lawful}
 use Rattle.mt_verify.specs.declared.calls.Numbered.{Numbered}
 use Rattle.mt_verify.specs.declared.heard.Readers.{Readers}
+use Rattle.mt_base.specs.Limits.{most_lanes}
 
 abbrev pub is_got : What → Bool
 is_got (Wrote number call reply) = false

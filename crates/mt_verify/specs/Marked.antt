@@ -1,10 +1,11 @@
 -- What lines ask for of those that know of them, gathered in marks.
 -- Source: this project's own.
 use Rattle.std.specs.Prelude.{◌≡◌, ◌↔◌, ℕ, ◌+◌, ◌*◌, ◌<◌, ◌≤◌, List, length, slice_index_or, All, IfSome}
-use Rattle.mt_verify.specs.Prelude.{most_lanes, Told, What, Wrote, Got, Copied, Lawful}
+use Rattle.mt_verify.specs.Prelude.{Told, What, Wrote, Got, Copied, Lawful}
 use Rattle.mt_verify.specs.declared.windows.Mark.{Mark}
 use Rattle.mt_verify.specs.declared.windows.Marks.{Marks}
 use Rattle.mt_verify.specs.PrintedOrder.{KeepsTo}
+use Rattle.mt_base.specs.Limits.{most_lanes}
 
 -- the line has what the mark asks for
 abbrev pub Admits : Mark → What → Type 0

@@ -15,7 +15,8 @@ pub use Rattle.mt_base.specs.declared.replies.Reply.TheVariants.{NoNodes}
 pub use Rattle.mt_base.specs.declared.replies.Shortage.{Shortage}
 pub use Rattle.mt_log.specs.Run.{Called, Counted, IsRun, IsRunBy, Knows, Looked, Opens, Outcome, Step, is_read, numbered_on, shown}
 pub use Rattle.mt_log.specs.Text.{listing_text, reply_text, text_of}
-pub use Rattle.mt_log.specs.Trees.{CopyOf, Declared, Empty, IsReadable, Opening, most_lanes, most_trees, trees_of}
+pub use Rattle.mt_log.specs.Trees.{CopyOf, Declared, Empty, IsReadable, Opening, most_trees, trees_of}
+pub use Rattle.mt_base.specs.Limits.{most_lanes}
 pub use Rattle.mt_log.specs.declared.lines.Item.{Item}
 pub use Rattle.mt_log.specs.declared.lines.Item.TheVariants.{Write}
 pub use Rattle.mt_log.specs.declared.lines.Log.{Log}

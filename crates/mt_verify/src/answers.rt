@@ -8,6 +8,7 @@ ghost use Rattle.mt_log.specs.Text.{reply_text};
 ghost use Rattle.mt_verify.specs.Going.{IsAnsweredAt};
 ghost use Rattle.mt_verify.specs.Histories.{map_after_noted};
 ghost use Rattle.mt_verify.specs.Shortages.{shared_limits};
+ghost use Rattle.mt_base.specs.Width.{most_rows};
 
 use crate::noted::{Heard, Noted};
 use crate::shortages::is_short;
@@ -41,7 +42,7 @@ fn is_refused(
 ) -> Result<bool, NoMemory>
     requires kind { kind ≡ map.old.kind }
     requires map { IsMap map.old.kind map.old.ranges }
-    requires rows { rows ≤ 65504 }
+    requires rows { rows ≤ most_rows }
     requires opened { opened < 2 ^ 62 }
     requires ended { ended < 2 ^ 57 }
     ensures kind { map.new.kind ≡ map.old.kind }
@@ -67,7 +68,7 @@ pub fn agrees(
 ) -> Result<bool, NoMemory>
     requires kind { kind ≡ map.old.kind }
     requires map { IsMap map.old.kind map.old.ranges }
-    requires rows { rows ≤ 65504 }
+    requires rows { rows ≤ most_rows }
     requires opened { opened < 2 ^ 62 }
     requires ended { ended < 2 ^ 57 }
     ensures kind { map.new.kind ≡ map.old.kind }

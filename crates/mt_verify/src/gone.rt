@@ -3,7 +3,8 @@
 ghost use Rattle.std.specs.Prelude.{◌≡◌, ◌<◌, ◌≤◌, ◌^◌, All, AllPairs, IfNone, IfOk, IfSome, length};
 ghost use Rattle.mt_base.specs.Map.{IsMap};
 ghost use Rattle.mt_base.specs.Width.{most_rows};
-ghost use Rattle.mt_log.specs.Trees.{most_lanes, most_trees};
+ghost use Rattle.mt_log.specs.Trees.{most_trees};
+ghost use Rattle.mt_base.specs.Limits.{most_lanes};
 ghost use Rattle.mt_verify.specs.GoneTrees.{CannotGo, IsGoneFrom};
 ghost use Rattle.mt_verify.specs.Heard.{AreReaders};
 ghost use Rattle.mt_verify.specs.Hearing.{AreNotedOf};

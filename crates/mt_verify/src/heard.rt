@@ -3,7 +3,8 @@
 ghost use Rattle.std.specs.Prelude.{◌≡◌, ◌≢◌, ◌↔◌, ◌⊎◌, ◌<◌, ◌≤◌, ◌^◌, ℕ, List, true, All, IfSome, IfNone, IsTrue};
 ghost use Rattle.std.specs.Fmt.{decimal};
 ghost use Rattle.std.specs.List.{list_any};
-ghost use Rattle.mt_log.specs.Trees.{most_lanes, most_trees};
+ghost use Rattle.mt_log.specs.Trees.{most_trees};
+ghost use Rattle.mt_base.specs.Limits.{most_lanes};
 ghost use Rattle.mt_told.specs.declared.told.Told.{Told};
 ghost use Rattle.mt_base.specs.declared.replies.Shortage.{Shortage};
 ghost use Rattle.mt_verify.specs.Heard.{AreReaders, IsHeard, IsNumberAlone, IsSmallShortage, IsToldShortage, HasReadBy, SaysShortage, reads_by};
@@ -32,7 +33,8 @@ fn lower(first: Option<u64>, phase: u64) -> Option<u64>
 impl Readers {
     ghost use Rattle.std.specs.Prelude.{◌≡◌, ◌≢◌, ◌↔◌, ◌<◌, ◌++◌, ℕ, List, [], ◌∷◌, true, All, IfSome, IfNone, IsTrue};
     ghost use Rattle.std.specs.List.{list_any};
-    ghost use Rattle.mt_log.specs.Trees.{most_lanes, most_trees};
+    ghost use Rattle.mt_log.specs.Trees.{most_trees};
+    ghost use Rattle.mt_base.specs.Limits.{most_lanes};
     ghost use Rattle.mt_told.specs.declared.told.Told.{Told};
     ghost use Rattle.mt_verify.specs.Heard.{AreReaders, reads_by};
 

@@ -2,7 +2,8 @@
 
 ghost use Rattle.std.specs.Prelude.{◌≡◌, ◌<◌, ◌++◌, ℕ, List, All, IfSome, IfNone, IfOk, codes, length};
 ghost use Rattle.std.specs.Bool.{OnTrue, OnFalse};
-ghost use Rattle.mt_log.specs.Trees.{most_lanes, most_trees};
+ghost use Rattle.mt_log.specs.Trees.{most_trees};
+ghost use Rattle.mt_base.specs.Limits.{most_lanes};
 ghost use Rattle.mt_told.specs.declared.told.Told.{Told};
 ghost use Rattle.mt_verify.specs.Heard.{AreReaders};
 ghost use Rattle.mt_verify.specs.Hearing.{AreNotedOf, IsHeardOf, IsMisheard, IsNotedOf, SomeMisheard};

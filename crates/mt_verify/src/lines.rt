@@ -2,18 +2,15 @@
 
 ghost use Rattle.std.specs.Prelude.{◌≡◌, IfOk, map};
 ghost use Rattle.std.specs.List.{range_with_len};
-ghost use Rattle.mt_log.specs.Trees.{most_lanes};
+ghost use Rattle.mt_base.specs.Limits.{most_lanes};
 ghost use Rattle.mt_verify.specs.Going.{AreFresh, looks_of};
 ghost use Rattle.mt_verify.specs.OwnLines.{line_on, lines_on, look_by_lane, looks_by_lane};
 
 use crate::lanes::Track;
 use crate::looks::Look;
-use mt_base::NoMemory;
+use mt_base::{MOST_LANES, NoMemory};
 use mt_told::{Told, What};
 use std::alloc::Global;
-
-/// The greatest number of lanes (threads) of a log.
-pub const MOST_LANES: u32 = 16;
 
 /// The line, if it is of this tree.
 fn line_on<'t>(told: &Told<'t>, tree: u32) -> Option<Told<'t>>

@@ -1,15 +1,14 @@
 //! The numbers of all reads of a text, put together in its order.
 
 ghost use Rattle.std.specs.Prelude.{◌≡◌, ◌+◌, ◌*◌, ◌<◌, ℕ, true, All, IfOk, IsTrue, Some, length, slice_get, slice_index, slice_set};
-ghost use Rattle.mt_log.specs.Trees.{most_lanes};
+ghost use Rattle.mt_base.specs.Limits.{most_lanes};
 ghost use Rattle.mt_verify.specs.ToldReads.{is_got, own_points, reads_count};
 ghost use Rattle.mt_verify.specs.Going.{AreLanesDone, Lane, looks_of};
 ghost use Rattle.mt_verify.specs.GoneTrees.{GoneTree, lane_looks};
 ghost use Rattle.mt_verify.specs.Merging.{cell_of, points_at};
 
 use crate::gone::Gone;
-use crate::lines::MOST_LANES;
-use mt_base::NoMemory;
+use mt_base::{MOST_LANES, NoMemory};
 use mt_told::{Told, What};
 use std::alloc::Global;
 

@@ -4,6 +4,7 @@ ghost use Rattle.std.specs.Prelude.{◌≡◌, ◌↔◌, ◌+◌, ◌-◌, ◌*
 ghost use Rattle.mt_base.specs.declared.ranges.Range.{Range};
 ghost use Rattle.mt_base.specs.Nodes.{IsShort};
 ghost use Rattle.mt_verify.specs.Shortages.{shared_limits, MayStand, MayHold};
+ghost use Rattle.mt_base.specs.Width.{most_rows};
 
 use mt_base::{Holder, Shortage};
 
@@ -81,7 +82,7 @@ fn are_all(rows: u64, shortage: &Shortage) -> bool
 /// Whether nodes may be short with these numbers: in a tree of `rows` nodes that opened with at most `opened`, after `ended`
 /// calls, with `count` ranges.
 pub fn is_short(rows: u64, opened: u64, ended: u64, count: u64, shortage: &Shortage) -> bool
-    requires rows { rows ≤ 65504 }
+    requires rows { rows ≤ most_rows }
     requires opened { opened < 2 ^ 62 }
     requires ended { ended < 2 ^ 57 }
     ensures { (m : List Range) → length m ≡ count → IsTrue result

@@ -4,6 +4,7 @@ ghost use Rattle.std.specs.Prelude.{◌≡◌, ◌≤◌, ◌<◌, ◌^◌, ℕ,
 ghost use Rattle.mt_base.specs.declared.ranges.Range.{Range};
 ghost use Rattle.mt_base.specs.Map.{IsMap};
 ghost use Rattle.mt_verify.specs.Going.{AreAt, AreFresh, AreFreshStops, AreStopsWithin, AreWithin, HavePassedAll, IsGone, IsLastMap, looks_of};
+ghost use Rattle.mt_base.specs.Width.{most_rows};
 
 use crate::answers::agrees;
 use crate::lanes::{Track, advance_all, are_done};
@@ -50,7 +51,7 @@ pub fn go_through(
 ) -> Result<bool, NoMemory>
     requires kind { kind ≡ map.old.kind }
     requires map { IsMap map.old.kind map.old.ranges }
-    requires rows { rows ≤ 65504 }
+    requires rows { rows ≤ most_rows }
     requires opened { length map.old.ranges < 2 ^ 62 }
     requires calls { length noted.now < 2 ^ 57 }
     requires fresh { AreFresh tracks.old }

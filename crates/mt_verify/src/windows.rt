@@ -1,7 +1,8 @@
 //! Whether the call numbers and the windows that a text reports are in order. This is tested before any map is made.
 
 ghost use Rattle.std.specs.Prelude.{◌≡◌, ◌↔◌, ◌≤◌, ◌<◌, ℕ, List, All, AllPairs, IsTrue, IfSome, length, slice_index};
-ghost use Rattle.mt_log.specs.Trees.{most_lanes, most_trees};
+ghost use Rattle.mt_log.specs.Trees.{most_trees};
+ghost use Rattle.mt_base.specs.Limits.{most_lanes};
 ghost use Rattle.mt_told.specs.declared.told.Told.{Told};
 ghost use Rattle.mt_told.specs.declared.told.What.{What};
 ghost use Rattle.mt_verify.specs.Marked.{Admits, lane_place};
@@ -95,7 +96,8 @@ fn place_of(told: &Told) -> usize
 
 impl Marks {
     ghost use Rattle.std.specs.Prelude.{◌≡◌, ◌↔◌, ◌≤◌, ◌<◌, ◌++◌, List, [], ◌∷◌, All, IsTrue};
-    ghost use Rattle.mt_log.specs.Trees.{most_lanes, most_trees};
+    ghost use Rattle.mt_log.specs.Trees.{most_trees};
+    ghost use Rattle.mt_base.specs.Limits.{most_lanes};
     ghost use Rattle.mt_told.specs.declared.told.Told.{Told};
     ghost use Rattle.mt_verify.specs.Marked.{AreMarked};
     ghost use Rattle.mt_verify.specs.PrintedOrder.{InPrintedOrder};

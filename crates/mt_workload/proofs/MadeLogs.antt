@@ -1,8 +1,9 @@
 -- The log that is made of a number is one that can be read, and has as many lines as it is asked for.
-use Rattle.mt_workload.proofs.Prelude.{◌≡◌, ℕ, zero, suc, ◌+◌, ◌*◌, ◌/◌, ◌%◌, ◌≤◌, ◌<◌, Bool, true, false, List, [], ◌∷◌, ◌++◌, None, length, min, cond, codes, arith, inl, inr, refl, sym, ap, ◌∙◌, subst, ◌==◌, nat_le, cases_lt, le-ltb, lt-ltb, append-nil, length-append, Call, Erase, Alloc, Ralloc, Load, Find, IsInPlace, HasTreeRoom, ReadSoFar, after_item, most_scan_steps, nothing_read, scan_steps_of, IsReadable, NamesBelow, known_after, tree_declared_by, most_lanes, Item, Tree, Lane, Write, Ask, Scan, KnownTree, CallSays, CanAllFollow, CanFollow, IsNumber, ItemSays, at_line, are_readable, Drawing, draw_below, area_step, drawn_entry, drawn_size, index_step, lanes_from, last_index, made, numbered, step, step_by, steps, steps_of_lane, store_step}
+use Rattle.mt_workload.proofs.Prelude.{◌≡◌, ℕ, zero, suc, ◌+◌, ◌*◌, ◌/◌, ◌%◌, ◌≤◌, ◌<◌, Bool, true, false, List, [], ◌∷◌, ◌++◌, None, length, min, cond, codes, arith, inl, inr, refl, sym, ap, ◌∙◌, subst, ◌==◌, nat_le, cases_lt, le-ltb, lt-ltb, append-nil, length-append, Call, Erase, Alloc, Ralloc, Load, Find, IsInPlace, HasTreeRoom, ReadSoFar, after_item, most_scan_steps, nothing_read, scan_steps_of, IsReadable, NamesBelow, known_after, tree_declared_by, Item, Tree, Lane, Write, Ask, Scan, KnownTree, CallSays, CanAllFollow, CanFollow, IsNumber, ItemSays, at_line, are_readable, Drawing, draw_below, area_step, drawn_entry, drawn_size, index_step, lanes_from, last_index, made, numbered, step, step_by, steps, steps_of_lane, store_step}
 use Rattle.mt_base.specs.declared.kinds.Kind.TheVariants as kinds
 use Rattle.mt_workload.proofs.Drawn.{below_below}
 use Rattle.mt_workload.proofs.Numbered.{length-numbered}
+use Rattle.mt_base.specs.Limits.{most_lanes, most_steps}
 
 -- ---- lines of one tree
 
@@ -135,7 +136,7 @@ so_many_lines all lanes x some = let all_dealt = dealt all lanes 0 lanes x in om
 
 -- ---- the log
 
-pub made_follows : (number all lanes : ℕ) → all ≤ 100000 → 1 ≤ lanes → lanes ≤ most_lanes → CanAllFollow nothing_read (made number all lanes).lines
+pub made_follows : (number all lanes : ℕ) → all ≤ most_steps → 1 ≤ lanes → lanes ≤ most_lanes → CanAllFollow nothing_read (made number all lanes).lines
 unfolding made
 made_follows number all lanes few some lane_room =
     let items : List Item = (lanes_from (steps_of_lane all lanes) 0 lanes number).0 in
@@ -143,7 +144,7 @@ made_follows number all lanes few some lane_room =
     let can : CanFollow nothing_read (Tree (codes "a") kinds.Alloc) = record { follows = record { named = tt; placed = refl; trees = (omega arith, refl); scans = omega arith }; says = refl } in
     (omega arith, can, all_follow items (after_item (at_line 2 nothing_read) (Tree (codes "a") kinds.Alloc)) 3 (lanes_anywhere (steps_of_lane all lanes) 0 lanes number (omega arith)) refl (omega arith) (omega arith))
 
-pub made_is_readable : (number all lanes : ℕ) → all ≤ 100000 → 1 ≤ lanes → lanes ≤ most_lanes → IsReadable (made number all lanes).lines
+pub made_is_readable : (number all lanes : ℕ) → all ≤ most_steps → 1 ≤ lanes → lanes ≤ most_lanes → IsReadable (made number all lanes).lines
 made_is_readable number all lanes few some lane_room = are_readable (made number all lanes).lines (made_follows number all lanes few some lane_room)
 
 pub made_long : (number all lanes : ℕ) → 1 ≤ lanes → length (made number all lanes).lines ≡ 1 + lanes + all

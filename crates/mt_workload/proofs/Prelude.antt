@@ -12,7 +12,8 @@ pub use Rattle.mt_log.proofs.Readable.{are_readable, is_log}
 pub use Rattle.mt_log.specs.Phases.{IsInPlace}
 pub use Rattle.mt_log.specs.Reader.{HasTreeRoom}
 pub use Rattle.mt_log.specs.Reading.{ReadSoFar, after_item, most_scan_steps, nothing_read, scan_steps_of}
-pub use Rattle.mt_log.specs.Trees.{IsReadable, NamesBelow, known_after, most_lanes, tree_declared_by}
+pub use Rattle.mt_log.specs.Trees.{IsReadable, NamesBelow, known_after, tree_declared_by}
+pub use Rattle.mt_base.specs.Limits.{most_lanes}
 pub use Rattle.mt_log.specs.declared.trees.KnownTree.{KnownTree}
 pub use Rattle.mt_workload.specs.Counting.{AreBelow, with_one_counted}
 pub use Rattle.mt_workload.specs.Draws.{Drawing, next_state}

@@ -1,11 +1,9 @@
+use mt_base::SEED_END;
 use std::marker::Model;
 
 const MULTIPLIER: u64 = 1_103_515_245;
 
 const INCREMENT: u64 = 12_345;
-
-/// How many states there are.
-const STATES: u64 = 2_147_483_648;
 
 /// Numbers that are drawn, one after another.
 #[derive(Drop)]
@@ -14,22 +12,24 @@ pub struct Draws {
 }
 
 impl Model for Draws {
-    ghost use Rattle.std.specs.Prelude.{ℕ, ◌<◌, ◌^◌};
+    ghost use Rattle.std.specs.Prelude.{ℕ, ◌<◌};
+    ghost use Rattle.mt_base.specs.Limits.{seed_end};
 
     ghost Value = { ℕ };
 
     ghost view = { λ d. d.state };
 
-    ghost invariant = { λ d. d.state < 2 ^ 31 };
+    ghost invariant = { λ d. d.state < seed_end };
 }
 
 impl Draws {
-    ghost use Rattle.std.specs.Prelude.{◌≡◌, ◌<◌, ◌^◌};
+    ghost use Rattle.std.specs.Prelude.{◌≡◌, ◌<◌};
     ghost use Rattle.mt_workload.specs.Draws.{draw_below};
+    ghost use Rattle.mt_base.specs.Limits.{seed_end};
 
     /// Draws from this number on.
     pub fn new(number: u32) -> Self
-        requires { number < 2 ^ 31 }
+        requires { number < seed_end }
         ensures { result ≡ number }
     {
         Draws {
@@ -44,7 +44,7 @@ impl Draws {
         ensures drawn { (result, self.new) ≡ draw_below count self.old }
         ensures below { result < count }
     {
-        self.state = (MULTIPLIER * self.state + INCREMENT) % STATES;
-        self.state * u64::from(count) / STATES
+        self.state = (MULTIPLIER * self.state + INCREMENT) % SEED_END;
+        self.state * u64::from(count) / SEED_END
     }
 }

@@ -1,6 +1,7 @@
-ghost use Rattle.std.specs.Prelude.{◌≡◌, ◌≤◌, ◌<◌, ◌+◌, ◌++◌, ◌∷◌, ◌^◌, IfOk, OnOk, codes, length};
+ghost use Rattle.std.specs.Prelude.{◌≡◌, ◌≤◌, ◌<◌, ◌+◌, ◌++◌, ◌∷◌, IfOk, OnOk, codes, length};
 ghost use Rattle.mt_log.specs.LogText.{IsLog};
-ghost use Rattle.mt_log.specs.Trees.{IsReadable, most_lanes};
+ghost use Rattle.mt_log.specs.Trees.{IsReadable};
+ghost use Rattle.mt_base.specs.Limits.{most_lanes, most_steps, seed_end};
 ghost use Rattle.mt_log.specs.declared.lines.Item.TheVariants as items;
 ghost use Rattle.mt_workload.specs.Made.{steps, steps_of_lane, lanes_from, made};
 
@@ -79,8 +80,8 @@ fn push_lanes(
 /// The lines of the log that is made from this number (seed).
 #[tactic(auto, unfolding(crate::specs::Made::made))]
 fn made_lines(alloc: Global, number: u32, steps: u32, lanes: u32) -> Result<Lines, NoMemory>
-    requires number { number < 2 ^ 31 }
-    requires steps { steps ≤ 100000 }
+    requires number { number < seed_end }
+    requires steps { steps ≤ most_steps }
     requires lanes { 1 ≤ lanes }
     requires few_lanes { lanes ≤ most_lanes }
     ensures { IfOk result (λ lines. lines ≡ (made number steps lanes).lines) }
@@ -100,8 +101,8 @@ fn made_lines(alloc: Global, number: u32, steps: u32, lanes: u32) -> Result<Line
 /// `NoMemory` where memory ran out.
 #[tactic(auto, using(crate::proofs::MadeLogs::made_is_readable, crate::proofs::MadeLogs::made_long), unfolding(crate::specs::Made::made))]
 pub fn made_log(alloc: Global, number: u32, steps: u32, lanes: u32) -> Result<Log, NoMemory>
-    requires number { number < 2 ^ 31 }
-    requires steps { steps ≤ 100000 }
+    requires number { number < seed_end }
+    requires steps { steps ≤ most_steps }
     requires lanes { 1 ≤ lanes }
     requires few_lanes { lanes ≤ most_lanes }
     ensures made { IfOk result (λ log. log ≡ made number steps lanes) }

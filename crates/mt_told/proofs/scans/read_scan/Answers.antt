@@ -23,7 +23,7 @@ loop-step-preserved c =
     let l = c.loop-step in
     let step : TellsStepAt c.args.place.now (Look (find_at l.at c.args.scan.now.max)) l.rest.now c.in-Some.step c.in-Some.behind.now = subst (λ (q : Query). TellsStepAt c.args.place.now (Look q) l.rest.now c.in-Some.step c.in-Some.behind.now) c.find_at.ensures c.in-Some.ensures.some in
     let found : range_told c.in-Some.step.what ≡ Some c.in-Some-range_told.range = sym c.in-Some-range_told.ensures in
-    rw (c.in_ok-push.ensures.items, c.place_behind-at.ensures) (goes_on_behind c.args.place.now c.args.scan.now c.args.text.now l.rest.now c.args.told.now.items l.told.items l.at l._step l.invariant c.loop-step-test.true c.in-Some.step c.in-Some.behind.now step c.in-Some-range_told.range found)
+    rw (c.in_ok-push.ensures.items, c.place_after-at.ensures) (goes_on_behind c.args.place.now c.args.scan.now c.args.text.now l.rest.now c.args.told.now.items l.told.items l.at l._step l.invariant c.loop-step-test.true c.in-Some.step c.in-Some.behind.now step c.in-Some-range_told.range found)
 
 pub returns-clause-some : goal.returns-clause-some
 returns-clause-some c =

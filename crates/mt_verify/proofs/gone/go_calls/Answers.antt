@@ -1,8 +1,9 @@
-use Rattle.mt_verify.proofs.Prelude.{◌≡◌, Bool, true, false, List, drop, length, map, sym, ap, ◌∙◌, subst, arith, AllPairs, range_with_len, most_lanes, length-map, Contents, Told, Noted, AreStopsWithin, IsGone, IsLastMap, Lane, looks_of, lane_looks, lines_on, looks_by_lane, stops_told, DoNotFall, calls_told}
+use Rattle.mt_verify.proofs.Prelude.{◌≡◌, Bool, true, false, List, drop, length, map, sym, ap, ◌∙◌, subst, arith, AllPairs, range_with_len, length-map, Contents, Told, Noted, AreStopsWithin, IsGone, IsLastMap, Lane, looks_of, lane_looks, lines_on, looks_by_lane, stops_told, DoNotFall, calls_told}
 use Rattle.mt_verify.proofs.GoneTree.{front_is, gone_from, hindered_by, many_noted}
 use Rattle.mt_verify.proofs.OwnStops.{NoLower, own_rises, stops_rise, stops_within, windows_within}
 use Rattle.mt_verify.proofs.gone.go_calls.Goals.{After-deref_mut}
 use Rattle.mt_verify.proofs.gone.go_calls.Goals as goal
+use Rattle.mt_base.specs.Limits.{most_lanes}
 
 -- what is gone through is the tree's own lines: their looks, their stops and as many notes as calls
 looks_are : (c : After-deref_mut) → looks_of c.deref_mut.result.now ≡ lane_looks c.args.tree c.args.told.now

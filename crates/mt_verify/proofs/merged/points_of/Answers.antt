@@ -1,7 +1,8 @@
-use Rattle.mt_verify.proofs.Prelude.{◌≡◌, ◌+◌, ◌<◌, ℕ, List, ◌++◌, [], ◌∷◌, true, length, set, take, get_or, sym, ap, ◌∙◌, subst, Vec, Global, slice_index, with_items, take_all, take_more, with_items_is, Store, most_lanes, Told, Wrote, is_got, cell_of, points_at}
+use Rattle.mt_verify.proofs.Prelude.{◌≡◌, ◌+◌, ◌<◌, ℕ, List, ◌++◌, [], ◌∷◌, true, length, set, take, get_or, sym, ap, ◌∙◌, subst, Vec, Global, slice_index, with_items, take_all, take_more, with_items_is, Store, Told, Wrote, is_got, cell_of, points_at}
 use Rattle.mt_verify.proofs.Merging.{IsMerged, all_own, has_next, have_all, idle, merged_by, one_more}
 use Rattle.mt_verify.proofs.merged.points_of.Goals as goal
 use Rattle.mt_verify.proofs.merged.points_of.Goals.{then-is_read+in_ok-push, else-is_read}
+use Rattle.mt_base.specs.Limits.{most_lanes}
 
 -- what the code reads where no line stands
 abbrev no_line : Told

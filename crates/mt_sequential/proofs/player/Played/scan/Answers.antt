@@ -21,7 +21,7 @@ loop-step-preserved g c =
     let told : c.ask.new.entries.items ≡ c.loop-step.entries.items ++ read_entry c.args.line t (find_at c.loop-step.at c.args.max) ∷ [] = subst (λ (x : TreeState). c.ask.new.entries.items ≡ c.loop-step.entries.items ++ read_entry c.args.line x (find_at c.loop-step.at c.args.max) ∷ []) same (rw c.find_at.ensures at c.in_ok-range.ensures.told) in
     let found : Some c.in-Some.range ≡ answer t.map.ranges (find_at c.loop-step.at c.args.max) = sym c.in-Some.is ∙ ((rw c.find_at.ensures at c.in_ok-range.ensures.value) ∙ ap (λ (x : TreeState). answer x.map.ranges (find_at c.loop-step.at c.args.max)) same) in (
       c.in_ok-range.ensures.kept ∙ same,
-      λ all behind. c.loop-step.invariant.1 all (scan_goes_on c.args.line t c.args.max (c.args.count - c.loop-step._step) left c.loop-step.at more c.loop-step.entries.items c.ask.new.entries.items told c.in-Some.range all found (rw c.place_behind-at.ensures at behind)),
+      λ all behind. c.loop-step.invariant.1 all (scan_goes_on c.args.line t c.args.max (c.args.count - c.loop-step._step) left c.loop-step.at more c.loop-step.entries.items c.ask.new.entries.items told c.in-Some.range all found (rw c.place_after-at.ensures at behind)),
     )
 
 pub returns-clause-told : goal.returns-clause-told
