@@ -1,9 +1,11 @@
 -- What a draw, and a number that is given back, make of the tree with one pass: no row is held there, and so none is lacked.
-use Rattle.mt_commands.proofs.Prelude.{◌≡◌, ◌⊎◌, ℕ, zero, suc, ◌+◌, ◌-◌, ◌^◌, ◌<◌, ◌≤◌, ◌==◌, ◌||◌, Bool, true, false, not, nat_lt, List, [], ◌∷◌, ◌++◌, Option, Some, None, Result, Ok, Err, IfOk, IfErr, length, inl, inr, refl, sym, ap, ◌∙◌, subst, arith, length-append, AllByRecursion, unwrap_or, ◌↔◌, IsSome, if◌then◌else◌, le-ltb, eqb-suc-zero, Call, Erase, Kind, Range, Reply, NoNodes, Shortage, acted, finds_room, reserved, History, IsAnswered, Record, limits_after, map_after, map_by_reply, over, IsRefused, Wrote, greatest_of, most_rows, was_acted, Found, IsDrawn, LacksCalls, position_behind, calls_of, drawn, is_bad_draw, is_twofold, Draws, Drawn, Number, Busy, Invalid, Worn, none_lacked, none_short, Done, Tree, allocation_of, is_alone, HasCalled, most_calls, IsWorn, NamesPass, limit_of, map_seen, opened, passes_of, has_called, map_next, none_held, seen_next, was_legal, HasOnePass, found_in, turns_at, Tally, Turns, draws_behind, number_due, map_behind, map_without, tallied, turn}
+use Rattle.mt_commands.proofs.Prelude.{◌≡◌, ℕ, zero, suc, ◌+◌, ◌^◌, ◌<◌, ◌≤◌, ◌==◌, Bool, true, false, nat_lt, List, [], ◌∷◌, Option, None, Result, Ok, Err, IfOk, IfErr, length, inl, inr, refl, sym, ap, ◌∙◌, arith, length-append, AllByRecursion, if◌then◌else◌, le-ltb, eqb-suc-zero, Erase, Kind, Reply, acted, reserved, History, IsAnswered, Record, limits_after, map_after, Wrote, greatest_of, most_rows, was_acted, Found, IsDrawn, calls_of, drawn, is_bad_draw, is_twofold, Draws, Drawn, Number, Busy, Invalid, Worn, none_lacked, none_short, Done, Tree, allocation_of, is_alone, HasCalled, IsWorn, NamesPass, limit_of, map_seen, opened, passes_of, has_called, map_next, none_held, seen_next, was_legal, HasOnePass, found_in, turns_at, Tally, draws_behind, number_due, map_behind, map_without, tallied, turn}
 use Rattle.mt_base.specs.declared.kinds.Kind.TheVariants as kinds
 use Rattle.mt_base.specs.Passes as known
 use Rattle.mt_ids.specs.declared.ids.Drawn.TheVariants.{NoNodes as Lacks}
-use Rattle.mt_tree.specs.declared.shapes.Worn as worn
+use Rattle.mt_base.specs.declared.outcomes.Worn as worn
+use Rattle.mt_base.specs.Limits.{most_calls}
+use Rattle.mt_ids.specs.Draws.{AreMade}
 
 not_zero : (n : ℕ) → 1 ≤ n → (n == 0) ≡ false
 not_zero zero low = absurd (omega arith)
@@ -41,24 +43,20 @@ module _ (t : Tree) (p q : known.Pass) (only : HasOnePass t) (shut : p.standing 
       by_fold true = omega arith
       by_fold false = omega arith
 
+  gives : (d d' : Draws) (entry : ℕ) (reply : Reply) (o : Option Found) → AreMade d (allocation_of t p) entry reply (allocation_of t q) → drawn (opened t).kind (map_seen t p) d ≡ o → map_seen t q ≡ map_behind entry (map_seen t p) o → d' ≡ draws_behind d o → Gives d d' entry o
+  gives d d' entry reply o all found map draws =
+      let made = all.calls in
+      record {
+        found = sym found ∙ ap (λ (k : Kind). drawn k (map_seen t p) d) kind_is;
+        map = map;
+        draws = draws;
+        calls = omega (arith, made, most_two d entry);
+      }
+
   pub drawn_is : (d d' : Draws) (entry : ℕ) (answer : Drawn) → length p.seen + 2 ≤ most_calls → 1 ≤ entry → reserved entry ≡ false → d.hi < 2 ^ 64
       → IsDrawn d (allocation_of t p) entry answer d' (allocation_of t q) → Gives d d' entry (found_in answer)
-  drawn_is d d' entry (Number at wrapped) room some fair high is =
-      let made = is.0.calls in
-      record {
-        found = sym is.2 ∙ ap (λ (k : Kind). drawn k (map_seen t p) d) kind_is;
-        map = is.3;
-        draws = is.4;
-        calls = omega (arith, made, most_two d entry);
-      }
-  drawn_is d d' entry Busy room some fair high is =
-      let made = is.0.calls in
-      record {
-        found = sym is.2 ∙ ap (λ (k : Kind). drawn k (map_seen t p) d) kind_is;
-        map = is.3;
-        draws = is.4;
-        calls = omega (arith, made, most_two d entry);
-      }
+  drawn_is d d' entry (Number at wrapped) room some fair high is = gives d d' entry _ _ is.0 is.2 is.3 is.4
+  drawn_is d d' entry Busy room some fair high is = gives d d' entry _ _ is.0 is.2 is.3 is.4
   drawn_is d d' entry Invalid room some fair high is =
       let fine = ap (λ (k : Kind). is_bad_draw k d.hi entry) kind_is ∙ good d.hi entry high some fair in
       absurd (let both : true ≡ false = sym is.1 ∙ fine in cc)

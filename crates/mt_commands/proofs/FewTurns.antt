@@ -1,5 +1,5 @@
 -- So many turns leave no more ranges than these, and the window as it was.
-use Rattle.mt_commands.proofs.Prelude.{◌≡◌, ◌⊎◌, ℕ, zero, suc, ◌+◌, ◌^◌, ◌<◌, ◌≤◌, Bool, true, false, not, List, [], ◌∷◌, ◌++◌, Option, Some, None, length, filter, fold, refl, sym, ap, ◌∙◌, subst, inl, inr, arith, range_with_len, cond_both, fold-append, Kind, Erase, Range, acted, erased, low, IsMap, holding, holds, greatest_of, acted_is_map, over_is_map, Found, drawn, first_found, from_position, Draws, new_draws, found_is_free, one_range_more, lies_in, IsFew, Turns, draws_behind, number_due, map_behind, map_without, new_turns, tallied, turn, turns, holes}
+use Rattle.mt_commands.proofs.Prelude.{◌≡◌, ◌⊎◌, ℕ, zero, suc, ◌+◌, ◌^◌, ◌<◌, ◌≤◌, Bool, true, false, not, List, [], ◌∷◌, ◌++◌, Option, Some, None, length, filter, fold, refl, sym, ap, ◌∙◌, subst, inl, inr, arith, range_with_len, cond_both, fold-append, Kind, Erase, Range, erased, low, holding, holds, acted_is_map, over_is_map, Found, drawn, first_found, from_position, Draws, found_is_free, one_range_more, lies_in, IsFew, Turns, draws_behind, number_due, map_behind, map_without, new_turns, tallied, turn, turns, holes}
 use Rattle.mt_base.specs.declared.kinds.Kind.TheVariants as kinds
 
 -- ---- a draw

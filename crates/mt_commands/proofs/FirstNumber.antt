@@ -1,5 +1,5 @@
 -- The first number that is drawn of an empty map is the window's first index.
-use Rattle.mt_commands.proofs.Prelude.{◌≡◌, ◌≢◌, ℕ, zero, suc, ◌+◌, ◌-◌, ◌^◌, ◌<◌, ◌≤◌, Bool, true, false, List, [], ◌∷◌, Option, Some, None, max, min, nat_le, refl, sym, ap, ◌∙◌, subst, arith, IsSome, if◌then◌else◌, le-leb, Hole, lowest_in, low, Found, drawn, first_found, Draws, new_draws, Tally, Turns, new_turns, or_this, tallied, turn, turns}
+use Rattle.mt_commands.proofs.Prelude.{◌≡◌, ℕ, zero, suc, ◌+◌, ◌^◌, ◌<◌, ◌≤◌, Bool, true, false, [], ◌∷◌, Option, Some, None, max, min, nat_le, refl, sym, ap, ◌∙◌, subst, arith, IsSome, if◌then◌else◌, le-leb, lowest_in, low, Found, drawn, first_found, new_draws, Tally, Turns, new_turns, or_this, tallied, turn, turns}
 use Rattle.mt_base.specs.declared.kinds.Kind.TheVariants as kinds
 use Rattle.mt_commands.proofs.FewTurns.{turns_more}
 

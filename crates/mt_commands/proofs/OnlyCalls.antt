@@ -1,5 +1,5 @@
 -- The only pass of a tree has made all calls of the history.
-use Rattle.mt_commands.proofs.Prelude.{◌≡◌, ℕ, zero, suc, ◌+◌, ◌==◌, ◌<◌, ◌≤◌, Bool, true, false, List, [], ◌∷◌, ◌++◌, length, refl, sym, ap, ◌∙◌, subst, arith, length-append, if◌then◌else◌, AllByRecursion, range_with_len, eq-eqb, append-nil, length-range_with_len, History, Record, Saw, places, places_from, Tree, HasCalled, map_seen, opened, IsOnlyPass}
+use Rattle.mt_commands.proofs.Prelude.{◌≡◌, ℕ, suc, ◌+◌, ◌==◌, ◌<◌, Bool, true, false, List, [], ◌∷◌, ◌++◌, length, refl, sym, ap, ◌∙◌, subst, arith, length-append, if◌then◌else◌, AllByRecursion, range_with_len, eq-eqb, append-nil, length-range_with_len, History, Record, Saw, places, places_from, HasCalled, IsOnlyPass}
 use Rattle.mt_base.specs.Passes as known
 
 places_joined : (n pass : ℕ) (xs ys : List Record) → places_from n pass (xs ++ ys) ≡ places_from n pass xs ++ places_from (n + length xs) pass ys

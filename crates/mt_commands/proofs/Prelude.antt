@@ -37,18 +37,20 @@ pub use Rattle.mt_ids.specs.Draws.{IsDrawn, LacksCalls, calls_of, first_found, f
 pub use Rattle.mt_tree.proofs.Allocations.{has_called, map_next, none_held, seen_next, was_legal}
 pub use Rattle.mt_tree.proofs.Lending.{still_of}
 pub use Rattle.mt_tree.specs.Allocations.{allocation_of, is_alone}
-pub use Rattle.mt_tree.specs.Asks.{HasStepped, most_made, opened_with, place_behind, query_at}
+pub use Rattle.mt_tree.specs.Asks.{HasStepped, most_made, opened_with}
+pub use Rattle.mt_base.specs.Places.{find_at, place_behind}
 pub use Rattle.mt_tree.specs.Calls.{HasCalled}
 pub use Rattle.mt_tree.specs.Shapes.{first_bad}
 pub use Rattle.mt_tree.specs.Trees.{IsNew, IsPassOf, IsWorn, NamesPass, Pass}
-pub use Rattle.mt_tree.specs.declared.shapes.Done.{Done}
+pub use Rattle.mt_base.specs.declared.outcomes.Done.{Done}
 pub use Rattle.mt_tree.specs.declared.shapes.Shape.{Shape}
-pub use Rattle.mt_log.specs.Run.{Asked, find_at}
+pub use Rattle.mt_log.specs.Run.{Asked}
 pub use Rattle.mt_log.specs.declared.lines.Item.TheVariants.{Scan}
 pub use Rattle.mt_desks.specs.Scans.{IsScanDone}
-pub use Rattle.mt_desks.specs.Walks.{HasWalkedOn, opened_at, place_after}
-pub use Rattle.mt_replay.specs.Trees.{IsNewTree, calls_taken, fewest_rows, most_passes}
+pub use Rattle.mt_desks.specs.Walks.{HasWalkedOn, opened_at}
+pub use Rattle.mt_replay.specs.Trees.{IsNewTree, player_passes}
+pub use Rattle.mt_base.specs.Limits.{fewest_rows, most_calls}
 pub use Rattle.mt_commands.specs.Only.{HasOnePass, IsFew, IsOnlyPass, found_in, turns_at}
-pub use Rattle.mt_commands.specs.Prelude.{Busy, Drawn, Draws, Erase, Found, Invalid, IsImageOf, IsMap, Kind, Number, Range, Rooted, Tree, Walk, Worn, acted, drawn, limit_of, map_by, map_seen, most_calls, most_rows, new_draws, opened, over, pass_in, passes_of, places, position_behind, steps_made}
+pub use Rattle.mt_commands.specs.Prelude.{Busy, Drawn, Draws, Erase, Found, Invalid, IsImageOf, IsMap, Kind, Number, Range, Rooted, Tree, Walk, Worn, acted, drawn, limit_of, map_by, map_seen, most_rows, new_draws, opened, over, pass_in, passes_of, places, position_behind, steps_made}
 pub use Rattle.mt_commands.specs.Texts.{IsBulkImage, bulk_tree}
 pub use Rattle.mt_commands.specs.Turns.{Tally, Turns, draws_behind, map_behind, map_without, new_turns, no_tally, number_due, or_this, tallied, turn, turns}

@@ -1,5 +1,5 @@
 -- A turn under the lock, and the lock.
-use Rattle.mt_commands.proofs.Prelude.{◌≡◌, ℕ, ◌+◌, ◌<◌, ◌≤◌, List, Option, length, refl, sym, ap, ◌∙◌, subst, arith, AllByRecursion, Range, Record, last_map, Saw, with_records, Tree, map_seen, opened, passes_of, HasOnePass, IsOnlyPass}
+use Rattle.mt_commands.proofs.Prelude.{◌≡◌, ℕ, ◌<◌, List, ap, subst, AllByRecursion, Record, last_map, Saw, with_records, Tree, map_seen, opened, passes_of, HasOnePass, IsOnlyPass}
 use Rattle.mt_base.specs.Passes as known
 use Rattle.mt_commands.proofs.OnlyCalls.{nothing_new, only_locked}
 

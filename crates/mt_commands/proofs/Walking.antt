@@ -1,5 +1,5 @@
 -- A step of a cursor is one of a lane's walk.
-use Rattle.mt_commands.proofs.Prelude.{◌≡◌, ℕ, ◌+◌, ◌≤◌, List, Option, Some, None, refl, sym, ap, ◌∙◌, subst, arith, Range, Query, Load, Find, Next, Prev, Rfind, History, Read, find_at, HasStepped, most_made, opened_with, place_behind, query_at, Walk, HasWalkedOn, opened_at, place_after}
+use Rattle.mt_commands.proofs.Prelude.{◌≡◌, ℕ, ◌+◌, ◌≤◌, List, Option, Some, None, refl, sym, ap, ◌∙◌, arith, Range, Query, Load, Find, Next, Prev, Rfind, History, Read, find_at, HasStepped, most_made, opened_with, place_behind, Walk, HasWalkedOn, opened_at}
 use Rattle.mt_base.specs.Passes.{Pass}
 
 -- any query is answered in so many steps at the most
@@ -9,14 +9,6 @@ few_steps (Find index max) = omega arith
 few_steps (Next index max) = omega arith
 few_steps (Prev index min) = omega arith
 few_steps (Rfind index min) = omega arith
-
-same_query : (at : Option ℕ) (max : ℕ) → query_at at max ≡ find_at at max
-same_query None max = refl
-same_query (Some index) max = refl
-
-same_place : (value : Option Range) (max : ℕ) → place_behind value max ≡ place_after max value
-same_place None max = refl
-same_place (Some r) max = refl
 
 same_opened : (epoch : Option ℕ) (opened : List ℕ) (lo : ℕ) → opened_with epoch opened lo ≡ opened_at lo epoch opened
 same_opened None opened lo = refl
@@ -30,13 +22,12 @@ module _ (history history' : History) (reference reference' : ℕ) (p q : Pass) 
   after = record { history = history'; reference = reference'; pass = q; steps = steps'; at = at'; max = max' }
 
   -- the section that stands open for the pass is the cursor's own
-  pub walked : history' ≡ history → reference' ≡ reference → ((k : ℕ) × Read history p lo hi k (query_at at max) value q) → HasStepped lo hi epoch p q → at' ≡ place_behind value max → max' ≡ max → epoch ≡ p.standing → steps' ≤ steps + 220 → HasWalkedOn lo hi value before after
+  pub walked : history' ≡ history → reference' ≡ reference → ((k : ℕ) × Read history p lo hi k (find_at at max) value q) → HasStepped lo hi epoch p q → at' ≡ place_behind value max → max' ≡ max → epoch ≡ p.standing → steps' ≤ steps + 220 → HasWalkedOn lo hi value before after
   walked same_history same_reference read stepped at_is max_is own few =
-      let place : at' ≡ place_after max value = at_is ∙ same_place value max in
       record {
-        is = λ i. record { history = same_history i; reference = same_reference i; pass = q; steps = steps'; at = place i; max = max_is i };
+        is = λ i. record { history = same_history i; reference = same_reference i; pass = q; steps = steps'; at = at_is i; max = max_is i };
         k = read.0;
-        read = subst (λ (z : Query). Read history p lo hi read.0 z value q) (same_query at max) read.1;
+        read = read.1;
         few = few;
         opened = ap (λ (z : Pass). z.opened) stepped.pass ∙ (same_opened epoch p.opened lo ∙ ap (λ (z : Option ℕ). opened_at lo z p.opened) own);
         stands = λ none. absurd (let some = sym (ap (λ (z : Pass). z.standing) stepped.pass) ∙ none in cc);

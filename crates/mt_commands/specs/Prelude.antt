@@ -16,7 +16,7 @@ pub use Rattle.mt_ids.specs.Draws.{Found, drawn, position_behind}
 pub use Rattle.mt_ids.specs.Window.{Draws, new_draws}
 pub use Rattle.mt_ids.specs.declared.ids.Drawn.{Drawn}
 pub use Rattle.mt_ids.specs.declared.ids.Drawn.TheVariants.{Busy, Invalid, NoNodes, Number, Worn}
-pub use Rattle.mt_tree.specs.Shapes.{most_calls}
+pub use Rattle.mt_base.specs.Limits.{most_calls}
 pub use Rattle.mt_tree.specs.Trees.{limit_of, map_seen, opened, pass_in, passes_of, steps_made}
 pub use Rattle.mt_tree.specs.declared.cursors.Cursor.{Cursor}
 pub use Rattle.mt_tree.specs.declared.trees.Tree.{Tree}

@@ -1,15 +1,15 @@
 //! The texts that the program prints: of a run of a log, of a log that is made from a number (seed), and of the result of a run
 //! of that.
 
-ghost use Rattle.std.specs.Prelude.{◌≡◌, ◌≢◌, ◌≤◌, ◌<◌, ◌-◌, ◌^◌, [], IfOk, length, string_bytes};
+ghost use Rattle.std.specs.Prelude.{◌≡◌, ◌≢◌, ◌≤◌, ◌<◌, [], IfOk, length, string_bytes};
 ghost use Rattle.mt_base.specs.Width.{most_rows};
 ghost use Rattle.mt_log.specs.Run.{IsRun, TellsRun};
-ghost use Rattle.mt_log.specs.Trees.{IsReadable, most_lanes, trees_of};
+ghost use Rattle.mt_log.specs.Trees.{IsReadable, trees_of};
+ghost use Rattle.mt_base.specs.Limits.{fewest_rows, most_calls, most_lanes, most_steps, seed_end};
 ghost use Rattle.mt_workload.specs.Made.{made};
 ghost use Rattle.mt_workload.specs.Summary.{counted};
 ghost use Rattle.mt_log.specs.declared.transcripts.Transcript.{Transcript};
 ghost use Rattle.mt_replay.specs.Images.{IsImageOfRun};
-ghost use Rattle.mt_replay.specs.Trees.{fewest_rows};
 ghost use Rattle.mt_replay.specs.Turns.{AllTurned};
 ghost use Rattle.mt_commands.specs.Texts.{IsMadeText, IsTrialText, IsTurnedTrial};
 
@@ -35,7 +35,7 @@ fn played<R: Threads + Wait + Sync, G: Gate + Sync>(
     requires few_rows { fewest_rows ≤ rows }
     requires rows { rows ≤ most_rows }
     requires readable { IsReadable log.lines }
-    requires count { length log.lines < 2 ^ 62 - 1 }
+    requires count { length log.lines < most_calls }
     ensures run { IfOk result (λ t. IsRun log rows t) }
     ensures turns { IfOk result (λ t. AllTurned (G.passed gate.now) log.lines) }
 {
@@ -57,7 +57,7 @@ pub fn answers<R: Threads + Wait + Sync, G: Gate + Sync>(
     requires few_rows { fewest_rows ≤ rows }
     requires rows { rows ≤ most_rows }
     requires readable { IsReadable log.lines }
-    requires count { length log.lines < 2 ^ 62 - 1 }
+    requires count { length log.lines < most_calls }
     ensures text { IfOk result (λ text. TellsRun rows log text.items) }
     ensures turns { IfOk result (λ text. AllTurned (G.passed gate.now) log.lines) }
 {
@@ -80,7 +80,7 @@ pub fn image_of_run<R: Threads + Wait + Sync, G: Gate + Sync>(
     requires few_rows { fewest_rows ≤ rows }
     requires rows { rows ≤ most_rows }
     requires readable { IsReadable log.lines }
-    requires count { length log.lines < 2 ^ 62 - 1 }
+    requires count { length log.lines < most_calls }
     requires tree { trees_of log.lines ≢ [] }
     ensures image { IfOk result (λ bytes. IsImageOfRun rows log bytes.items) }
     ensures turns { IfOk result (λ bytes. AllTurned (G.passed gate.now) log.lines) }
@@ -94,8 +94,8 @@ pub fn image_of_run<R: Threads + Wait + Sync, G: Gate + Sync>(
 ///
 /// `NoMemory` where memory ran out.
 pub fn made_text(alloc: Global, number: u32, steps: u32, lanes: u32) -> Result<Vec<u8>, NoMemory>
-    requires number { number < 2 ^ 31 }
-    requires steps { steps ≤ 100000 }
+    requires number { number < seed_end }
+    requires steps { steps ≤ most_steps }
     requires lanes { 1 ≤ lanes }
     requires few_lanes { lanes ≤ most_lanes }
     ensures { IfOk result (λ text. IsMadeText number steps lanes text.items) }
@@ -112,8 +112,8 @@ fn tried<R: Threads + Wait + Sync, G: Gate + Sync>(
     steps: u32,
     gate: &G,
 ) -> Result<Summary, NoMemory>
-    requires number { number < 2 ^ 31 }
-    requires steps { steps ≤ 100000 }
+    requires number { number < seed_end }
+    requires steps { steps ≤ most_steps }
     ensures summary { IfOk result (λ summary. (t : Transcript) × IsRun (made number steps 1) most_rows t × (summary ≡ counted steps t)) }
     ensures turns { IfOk result (λ summary. IsTurnedTrial (G.passed gate.now) number steps) }
 {
@@ -135,8 +135,8 @@ pub fn trial_text<R: Threads + Wait + Sync, G: Gate + Sync>(
     steps: u32,
     gate: &G,
 ) -> Result<String, NoMemory>
-    requires number { number < 2 ^ 31 }
-    requires steps { steps ≤ 100000 }
+    requires number { number < seed_end }
+    requires steps { steps ≤ most_steps }
     ensures text { IfOk result (λ text. IsTrialText number steps (string_bytes text)) }
     ensures turns { IfOk result (λ text. IsTurnedTrial (G.passed gate.now) number steps) }
 {

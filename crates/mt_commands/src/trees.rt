@@ -1,21 +1,24 @@
 //! Trees of nodes that threads share, as a player makes them.
 
-ghost use Rattle.std.specs.Prelude.{◌≡◌, ℕ, ◌+◌, ◌≤◌, None, IfOk};
+ghost use Rattle.std.specs.Prelude.{◌≡◌, ◌≢◌, ◌↔◌, ◌⊎◌, ◌<◌, ℕ, ◌+◌, ◌≤◌, Err, None, Some, IfOk};
 ghost use Rattle.mt_base.specs.Passes as known;
 ghost use Rattle.mt_base.specs.Width.{most_rows};
 ghost use Rattle.mt_rows.specs.Memory.{sheet_in};
 ghost use Rattle.mt_rows.specs.Publish.{map_by, IsLawfulOf};
 ghost use Rattle.mt_rows.specs.Sheet.{OnlyReads};
-ghost use Rattle.mt_replay.specs.Trees.{calls_taken, fewest_rows, most_passes};
-ghost use Rattle.mt_tree.specs.Trees.{IsPassOf, limit_of, opened, pass_in, passes_of, steps_made};
+ghost use Rattle.mt_replay.specs.Trees.{player_passes};
+ghost use Rattle.mt_base.specs.Limits.{fewest_rows, most_calls};
+ghost use Rattle.mt_tree.specs.Trees.{IsNew, IsPassOf, limit_of, map_seen, opened, pass_in, passes_of, steps_made};
+ghost use Rattle.mt_tree.specs.declared.shapes.Field.{Field};
+ghost use Rattle.mt_tree.specs.Shapes.{first_bad};
 ghost use Rattle.mt_tree.specs.Zeros.{Serve};
 
 use crate::walks::scan_by;
-use mt_base::{Call, Kind, MOST_ROWS, NoMemory, Query, Range};
-use mt_desks::{CallDone, Looked, Passage, Shared, TreeWorn};
+use mt_base::{Call, Done, Kind, MOST_ROWS, NoMemory, Query, Range, Read, Worn};
+use mt_desks::{Passage, Shared};
 use mt_log::Entry;
 use mt_replay::Plays;
-use mt_tree::{DupError, MOST_CALLS, MakeError, Pass, PlainRows, Read, Shape, Tree, Zeros};
+use mt_tree::{DupError, MOST_CALLS, MakeError, Pass, PlainRows, Shape, Tree, Zeros};
 use std::alloc::Global;
 use std::sync::Wait;
 
@@ -23,7 +26,7 @@ use std::sync::Wait;
 #[derive(Drop)]
 pub struct LaneTree {
     pub tree: Tree,
-    ghost calls: { limit_of tree ≡ calls_taken },
+    ghost calls: { limit_of tree ≡ most_calls },
 }
 
 /// What a query finds, without the lock. A neighbour is looked for under it where the leaf of the index was found marked as dead.
@@ -57,6 +60,26 @@ fn ask_under_lock(
     let read = write.ask(query);
     write.unlock();
     read
+}
+
+/// A copy of a tree of this shape, and its handles. What the look at the tree showed beside that is let go.
+fn duplicated(
+    tree: &Tree,
+    rt: &impl Wait,
+    alloc: Global,
+    pass: &mut Pass,
+    shape: Shape,
+) -> Result<(Tree, Vec<Pass>), DupError>
+    requires { IsPassOf tree.now pass.old }
+    ensures of { IsPassOf tree.now pass.new }
+    ensures pass { (pass_in pass.new ≡ pass_in pass.old) ⊎ known.Saw (opened tree.now) (pass_in pass.old) (pass_in pass.new) }
+    ensures bad { (field : Field) → (result ≡ Err (DupError.BadShape field)) ↔ (first_bad shape ≡ Some field) }
+    ensures invalid { (result ≡ Err DupError.Invalid) ↔ ((first_bad shape ≡ None) × (shape.kind ≢ (opened tree.now).kind)) }
+    ensures enough { (told live : ℕ) → result ≡ Err (DupError.NoNodes told live) → shape.rows < (opened tree.now).rows }
+    ensures new { IfOk result (λ made. IsNew shape (map_seen tree.now (pass_in pass.new)) made.0 made.1.items) }
+{
+    let (made, _look) = tree.dup(rt, alloc, pass, shape);
+    made
 }
 
 impl LaneTree {
@@ -102,23 +125,12 @@ impl Shared<Pass> for LaneTree {
 
     ghost serves = { λ t p. IsPassOf t.tree p };
 
-    fn act<R: Wait>(&self, rt: &R, pass: &mut Pass, call: &Call) -> Result<CallDone, TreeWorn> {
-        match self.tree.act(rt, pass, call) {
-            Ok(done) => Ok(CallDone {
-                call: done.call,
-                reply: done.reply,
-            }),
-            Err(_) => Err(TreeWorn),
-        }
+    fn act<R: Wait>(&self, rt: &R, pass: &mut Pass, call: &Call) -> Result<Done, Worn> {
+        self.tree.act(rt, pass, call)
     }
 
-    fn ask<R: Wait>(&self, rt: &R, pass: &mut Pass, query: &Query) -> Looked {
-        let read = look(&self.tree, rt, pass, query);
-        Looked {
-            lo: read.lo,
-            hi: read.hi,
-            value: read.value,
-        }
+    fn ask<R: Wait>(&self, rt: &R, pass: &mut Pass, query: &Query) -> Read<Option<Range>> {
+        look(&self.tree, rt, pass, query)
     }
 
     fn scan(
@@ -172,7 +184,7 @@ impl Plays<Pass> for LaneTree {
         alloc: Global,
         pass: &mut Pass,
     ) -> Result<(Self, Vec<Pass>), NoMemory> {
-        match self.tree.dup(rt, alloc, pass, self.tree.shape()) {
+        match duplicated(&self.tree, rt, alloc, pass, self.tree.shape()) {
             Ok((tree, passes)) => Ok((LaneTree { tree }, passes)),
             Err(DupError::NoMemory) => Err(NoMemory),
             Err(DupError::BadShape { .. }) => unreachable!(),
@@ -182,7 +194,8 @@ impl Plays<Pass> for LaneTree {
     }
 
     fn check<R: Wait>(&self, rt: &R, pass: &mut Pass) -> u64 {
-        self.tree.check(rt, pass).ranges
+        let (form, _look) = self.tree.check(rt, pass);
+        form.ranges
     }
 
     fn calls<R: Wait>(&self, rt: &R, pass: &mut Pass) -> u64 {
@@ -205,7 +218,8 @@ impl Plays<Pass> for LaneTree {
     }
 
     fn image<R: Wait>(&self, rt: &R, alloc: Global, pass: &mut Pass) -> Result<Vec<u8>, NoMemory> {
-        self.tree.image(rt, alloc, pass)
+        let (image, _look) = self.tree.image(rt, alloc, pass);
+        image
     }
 
     fn settle<R: Wait>(&self, rt: &R, passes: &mut [Pass]) {

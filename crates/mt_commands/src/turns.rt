@@ -8,7 +8,7 @@ ghost use Rattle.mt_base.specs.Entry.{reserved};
 ghost use Rattle.mt_ids.specs.Draws.{drawn};
 ghost use Rattle.mt_ids.specs.Window.{new_draws};
 ghost use Rattle.mt_tree.specs.Calls.{HasCalled};
-ghost use Rattle.mt_tree.specs.Shapes.{most_calls};
+ghost use Rattle.mt_base.specs.Limits.{most_calls, most_steps};
 ghost use Rattle.mt_tree.specs.Trees.{IsPassOf, map_seen, pass_in};
 ghost use Rattle.mt_commands.specs.Only.{HasOnePass, IsFew, IsOnlyPass, found_in, turns_at};
 ghost use Rattle.mt_commands.specs.Turns.{draws_behind, map_behind};
@@ -61,10 +61,10 @@ fn give_back(write: &mut Write<'_>, number: u64)
 fn turn_under(write: &mut Write<'_>, ids: &mut Ids, tally: &mut Tally, n: u64, drops: u32)
     requires only { HasOnePass write.old.tree.now }
     requires pass { IsOnlyPass (pass_in write.old.pass.now) }
-    requires few { IsFew (map_seen write.old.tree.now (pass_in write.old.pass.now)) 100000 }
+    requires few { IsFew (map_seen write.old.tree.now (pass_in write.old.pass.now)) most_steps }
     requires calls { length (pass_in write.old.pass.now).seen + 3 ≤ most_calls }
     requires room { 1 ≤ tally.old.room }
-    requires turn { (1 ≤ n) × (n ≤ 100000) }
+    requires turn { (1 ≤ n) × (n ≤ most_steps) }
     requires window { ids.old.hi < 2 ^ 64 }
     ensures same_reference { write.new.pass.ghost_name ≡ write.old.pass.ghost_name }
     ensures tree { write.new.tree ≡ write.old.tree }
@@ -94,10 +94,10 @@ fn turn<R: Wait>(
     requires only { HasOnePass tree.now }
     requires of { IsPassOf tree.now pass.old }
     requires pass { IsOnlyPass (pass_in pass.old) }
-    requires few { IsFew (map_seen tree.now (pass_in pass.old)) 100000 }
+    requires few { IsFew (map_seen tree.now (pass_in pass.old)) most_steps }
     requires calls { length (pass_in pass.old).seen + 3 ≤ most_calls }
     requires room { 1 ≤ tally.old.room }
-    requires turn { (1 ≤ n) × (n ≤ 100000) }
+    requires turn { (1 ≤ n) × (n ≤ most_steps) }
     requires window { ids.old.hi < 2 ^ 64 }
     ensures of { IsPassOf tree.now pass.new }
     ensures pass { IsOnlyPass (pass_in pass.new) }
@@ -126,7 +126,7 @@ fn run<R: Wait>(
     requires pass { IsOnlyPass (pass_in pass.old) }
     requires empty { (pass_in pass.old).seen ≡ [] }
     requires room { steps ≤ tally.old.room }
-    requires steps { steps ≤ 100000 }
+    requires steps { steps ≤ most_steps }
     requires window { (ids.old ≡ new_draws ids.old.lo ids.old.hi) × (ids.old.hi < 2 ^ 64) }
     requires tally { tally.old.tally ≡ spec.no_tally }
     ensures { tally.new.tally ≡ (spec.turns ids.old.lo ids.old.hi steps drops).tally }
@@ -183,7 +183,7 @@ pub fn ids_text<R: Wait>(
     drops: u32,
 ) -> Result<String, NoMemory>
     requires window { lo ≤ hi }
-    requires steps { steps ≤ 100000 }
+    requires steps { steps ≤ most_steps }
     ensures { IfOk result (λ text. spec.IsIdsText lo hi steps drops (string_bytes text)) }
 {
     let (tree, mut pass) = make(alloc)?;

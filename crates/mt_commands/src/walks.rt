@@ -9,7 +9,8 @@ ghost use Rattle.mt_desks.specs.Walks.{OpensOnce};
 ghost use Rattle.mt_commands.specs.Walks.{walk_of};
 
 use crate::trees::LaneTree;
-use mt_desks::{Looked, Walks, scan};
+use mt_base::{Range, Read};
+use mt_desks::{Walks, scan};
 use mt_log::Entry;
 use mt_tree::Cursor;
 
@@ -20,13 +21,8 @@ impl<'a> Walks<LaneTree> for Cursor<'a> {
 
     ghost own = { λ c. OwnsSection c };
 
-    fn step(&mut self) -> Looked {
-        let read = self.advance();
-        Looked {
-            lo: read.lo,
-            hi: read.hi,
-            value: read.value,
-        }
+    fn step(&mut self) -> Read<Option<Range>> {
+        self.advance()
     }
 
     fn close(&mut self) {

@@ -47,7 +47,7 @@ lane_went knows items lane n rows rows' desk desk' passes passes' ran count coun
 abbrev pub IsKept : {R P T : Type 0} → Lane (LaneDesk R P T) → Lane (LaneDesk R P T) → Type 0
 IsKept l m = m ≡ record l { desk = record l.desk { passes = m.desk.passes } }
 
-abbrev shown : {R P T : Type 0} → (T → SharedTree) → (P → Pass) → LaneDesk R P T → DeskState
+abbrev pub shown : {R P T : Type 0} → (T → SharedTree) → (P → Pass) → LaneDesk R P T → DeskState
 shown tree knows d = desk_of tree knows d.lane d.phase d.trees.now d.lines.all d.passes.items d.room.items
 
 -- a desk has its passes

@@ -13,8 +13,10 @@ pub use Rattle.mt_base.proofs.Goings.{begins_long}
 pub use Rattle.mt_base.proofs.Lists.{all_join}
 pub use Rattle.mt_base.specs.Passes.{Saw}
 pub use Rattle.mt_log.specs.Phases.{AreInPlaceFrom, IsInPlace, phase_after, stepped_from}
-pub use Rattle.mt_log.specs.Run.{Called, Looked, Outcome, asked_from, is_answered, lane_of, place_within, step_of}
-pub use Rattle.mt_log.specs.Trees.{AreNamedFrom, Declared, IsReadable, count_after, declared_by, most_lanes, trees_from, trees_of}
+pub use Rattle.mt_log.specs.Run.{Called, Looked, Outcome, asked_from, is_answered, lane_of, step_of}
+pub use Rattle.mt_base.specs.Places.{place_behind, place_within}
+pub use Rattle.mt_log.specs.Trees.{AreNamedFrom, Declared, IsReadable, count_after, declared_by, trees_from, trees_of}
+pub use Rattle.mt_base.specs.Limits.{most_lanes}
 pub use Rattle.mt_log.specs.declared.lines.Item.TheVariants.{Tree}
 pub use Rattle.mt_linearize.proofs.FewCalls.{line_calls, lines_of_lanes, numbers_long_on}
 pub use Rattle.mt_linearize.proofs.Knowing.{leads_onward}
@@ -35,8 +37,8 @@ pub use Rattle.mt_desks.specs.Dealing.{IsOnePhase, asked_of, counts_in, is_count
 pub use Rattle.mt_desks.specs.Desks.{AreAnsweredUnless, AreLines, DeskDid, DeskState, IsDeskReady, IsDoneOn, IsDoneUnless, IsLineDone, IsManned, IsSomeWorn, LaneRan, SharedTree, StillManned, desk_of}
 pub use Rattle.mt_desks.specs.Passing.{AllHaveSwapped, HasSwapped}
 pub use Rattle.mt_desks.specs.Phases.{CanPass, IsLaid, LaneWent, pass_at}
-pub use Rattle.mt_desks.specs.Prelude.{AreScanSteps, Ask, Asked, Check, Dup, Entry, History, IsDone, Item, Join, Leads, Line, NamesBelow, Pass, Query, Range, Scan, Step, Write, answers_joined, entry_of, find_at, lane_after, outcomes_of, place_behind, stepped_after}
+pub use Rattle.mt_desks.specs.Prelude.{AreScanSteps, Ask, Asked, Check, Dup, Entry, History, IsDone, Item, Join, Leads, Line, NamesBelow, Pass, Query, Range, Scan, Step, Write, answers_joined, entry_of, find_at, lane_after, outcomes_of, place_after, stepped_after}
 pub use Rattle.mt_desks.specs.Scans.{IsLooked, IsScanDone, KeepsOne}
 pub use Rattle.mt_desks.specs.Turns.{RoomsHold, first_entries, front_len, in_turn, rest_of, room_at}
-pub use Rattle.mt_desks.specs.Walks.{HasWalkedOn, OpensOnce, Walk, opened_at, place_after}
+pub use Rattle.mt_desks.specs.Walks.{HasWalkedOn, OpensOnce, Walk, opened_at}
 pub use Rattle.mt_desks.specs.declared.desks.LaneDesk.{LaneDesk}

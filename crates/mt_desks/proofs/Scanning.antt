@@ -1,5 +1,5 @@
 -- A scan goes on read after read.
-use Rattle.mt_desks.proofs.Prelude.{◌≡◌, ℕ, zero, suc, List, [], ◌∷◌, ◌++◌, Option, Some, None, map, refl, sym, ap, ◌∙◌, subst, append_assoc, arith, eq-eqb, append-nil, map-append, filter_map-append, Range, History, Pass, Entry, Asked, Step, Outcome, Looked, AreScanSteps, entry_of, step_of, find_at, place_behind, Does, Leads, Learns, by_lane_on, outcomes_of, learns_none, leads_last, leads_one, leads_on, stands_otherwise, IsLooked, IsScanDone, KeepsOne, Walk, HasWalkedOn, OpensOnce, opened_at, place_after}
+use Rattle.mt_desks.proofs.Prelude.{◌≡◌, ℕ, zero, suc, List, [], ◌∷◌, ◌++◌, Option, Some, None, map, refl, sym, ap, ◌∙◌, subst, append_assoc, arith, eq-eqb, append-nil, map-append, filter_map-append, Range, History, Pass, Entry, Asked, Step, Outcome, Looked, AreScanSteps, entry_of, step_of, find_at, place_after, Does, Leads, Learns, by_lane_on, outcomes_of, learns_none, leads_last, leads_one, leads_on, stands_otherwise, IsLooked, IsScanDone, KeepsOne, Walk, HasWalkedOn, OpensOnce, opened_at, place_behind}
 
 -- one step of a line, on its tree
 pub step_leads : (tree : History) (number : ℕ) (a : Asked) (p q : Pass) (o : Outcome) → Does tree p o q → Leads tree p (outcomes_of number a.lane (step_of a number o ∷ [])) q
@@ -26,7 +26,7 @@ more_leads tree number a p q r steps o leads does =
 pub more_told : (room room' room'' : List Entry) (steps more : List Step) → room' ≡ room ++ map entry_of steps → room'' ≡ room' ++ map entry_of more → room'' ≡ room ++ map entry_of (steps ++ more)
 more_told room room' room'' steps more e f = f ∙ (ap (λ z. z ++ map entry_of more) e ∙ (append_assoc room (map entry_of steps) (map entry_of more) ∙ ap (λ z. room ++ z) (sym (map-append entry_of steps more))))
 
-pub scan_goes_on : (a : Asked) (number max count : ℕ) (at : Option ℕ) (left : ℕ) (here : Option ℕ) (tree : History) (p q r : Pass) (room room' room'' : List Entry) (x : Range) → ScansSoFar a number max count at (suc left) here tree p q room room' → IsLooked a.line tree (find_at here max) (Some x) q r room' room'' → ScansSoFar a number max count at left (place_behind max x) tree p r room room''
+pub scan_goes_on : (a : Asked) (number max count : ℕ) (at : Option ℕ) (left : ℕ) (here : Option ℕ) (tree : History) (p q r : Pass) (room room' room'' : List Entry) (x : Range) → ScansSoFar a number max count at (suc left) here tree p q room room' → IsLooked a.line tree (find_at here max) (Some x) q r room' room'' → ScansSoFar a number max count at left (place_after max x) tree p r room room''
 scan_goes_on a number max count at left here tree p q r room room' room'' x f s =
     let step : Step = step_of a number (Looked s.lo s.hi s.k (find_at here max) (Some x)) in
     record {
@@ -62,7 +62,7 @@ IsSameWalk w w' = w' ≡ record w { pass = w'.pass; steps = w'.steps; at = w'.at
 
 -- a walk that has made a step
 abbrev pub HasGoneOn : Walk → Option Range → Walk → Type 0
-HasGoneOn w value w' = w' ≡ record w { pass = w'.pass; steps = w'.steps; at = place_after w.max value }
+HasGoneOn w value w' = w' ≡ record w { pass = w'.pass; steps = w'.steps; at = place_behind value w.max }
 
 pub walk_starts : (w : Walk) → KeepsOne w.pass w
 walk_starts w = record { once = record { epochs = []; opened = sym (append-nil w.pass.opened); once = omega arith }; none = λ shut. refl }
@@ -95,7 +95,7 @@ looked_there line w here value q room room' same looked = subst (λ (z : Walk). 
 pub walk_scans_on : (a : Asked) (number count left : ℕ) (w here next : Walk) (room room' room'' : List Entry) (x : Range) → IsSameWalk w here → HasGoneOn here (Some x) next → ScansSoFar a number w.max count w.at (suc left) here.at w.history w.pass here.pass room room'
     → IsLooked a.line here.history (find_at here.at here.max) (Some x) here.pass next.pass room' room'' → ScansSoFar a number w.max count w.at left next.at w.history w.pass next.pass room room''
 walk_scans_on a number count left w here next room room' room'' x same gone so_far looked =
-    let at : next.at ≡ place_behind w.max x = ap (λ (z : Walk). z.at) gone ∙ ap (λ (z : Walk). place_behind z.max x) same in
+    let at : next.at ≡ place_after w.max x = ap (λ (z : Walk). z.at) gone ∙ ap (λ (z : Walk). place_after z.max x) same in
     subst (λ (z : Option ℕ). ScansSoFar a number w.max count w.at left z w.history w.pass next.pass room room'') (sym at)
     (scan_goes_on a number w.max count w.at left here.at w.history w.pass here.pass next.pass room room' room'' x so_far (looked_there a.line w here (Some x) next.pass room' room'' same looked))
 

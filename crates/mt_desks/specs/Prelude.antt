@@ -4,7 +4,8 @@ pub use Rattle.mt_base.specs.Passes.{Pass, Read}
 pub use Rattle.mt_base.specs.declared.calls.Query.{Query}
 pub use Rattle.mt_base.specs.declared.ranges.Range.{Range}
 pub use Rattle.mt_log.specs.Phases.{stepped_after}
-pub use Rattle.mt_log.specs.Run.{AreScanSteps, Asked, IsDone, Step, entry_of, find_at, lane_after, place_behind, shown}
+pub use Rattle.mt_log.specs.Run.{AreScanSteps, Asked, IsDone, Step, entry_of, lane_after, shown}
+pub use Rattle.mt_base.specs.Places.{find_at, place_after}
 pub use Rattle.mt_log.specs.Trees.{NamesBelow}
 pub use Rattle.mt_log.specs.declared.lines.Item.{Item}
 pub use Rattle.mt_log.specs.declared.lines.Item.TheVariants.{Ask, Check, Dup, Join, Scan, Write}

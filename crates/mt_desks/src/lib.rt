@@ -19,6 +19,6 @@ pub use desks::LaneDesk;
 pub use own_lines::{Needs, OwnLines, needs_of};
 pub use phases::run_phase;
 pub use scans::scan;
-pub use shared::{CallDone, Looked, Passage, Shared, TreeWorn};
+pub use shared::{Passage, Shared};
 pub use turns::put_back;
 pub use walks::Walks;

@@ -3,9 +3,10 @@
 ghost use Rattle.std.specs.Prelude.{◌≡◌, ℕ, ◌+◌, ◌*◌, ◌<◌, ◌≤◌, None, Option, vec_len, vec_capacity};
 ghost use Rattle.mt_base.specs.Passes.{Pass};
 ghost use Rattle.mt_log.specs.declared.lines.Item.{Item};
-ghost use Rattle.mt_log.specs.Run.{find_at, shown};
+ghost use Rattle.mt_log.specs.Run.{shown};
+ghost use Rattle.mt_base.specs.Places.{find_at, place_behind};
 ghost use Rattle.mt_desks.specs.Scans.{IsLooked, IsScanDone, KeepsOne};
-ghost use Rattle.mt_desks.specs.Walks.{OpensOnce, place_after};
+ghost use Rattle.mt_desks.specs.Walks.{OpensOnce};
 
 use crate::shared::{Passage, Shared};
 use crate::walks::Walks;
@@ -61,7 +62,7 @@ fn look_on<T, W: Walks<T>>(walk: &mut W, line: u64, room: &mut Vec<Entry>) -> Op
     ensures is { W.walk walk.new ≡ record (W.walk walk.old) {
       pass = (W.walk walk.new).pass;
       steps = (W.walk walk.new).steps;
-      at = place_after (W.walk walk.old).max result;
+      at = place_behind result (W.walk walk.old).max;
     } }
     ensures looked { IsLooked line (W.walk walk.old).history (find_at (W.walk walk.old).at (W.walk walk.old).max) result
         (W.walk walk.old).pass (W.walk walk.new).pass room.old.items room.new.items }

@@ -1,35 +1,17 @@
 //! What a lane does on a tree that several share.
 
 ghost use Rattle.std.specs.Prelude.{◌≡◌, ◌+◌, ◌≤◌, ℕ, ◌*◌, None, length, vec_len, vec_capacity, IfOk, IfErr};
-ghost use Rattle.mt_base.specs.Passes.{Pass, Wrote, Read, Saw};
+ghost use Rattle.mt_base.specs.Passes as known;
+ghost use Rattle.mt_base.specs.Passes.{Pass, Wrote, Saw};
 ghost use Rattle.mt_log.specs.declared.lines.Item.TheVariants.{Scan};
-ghost use Rattle.mt_log.specs.Run.{place_within};
+ghost use Rattle.mt_base.specs.Places.{place_within};
 ghost use Rattle.mt_desks.specs.Desks.{SharedTree};
 ghost use Rattle.mt_desks.specs.Scans.{IsScanDone};
 ghost use Rattle.mt_desks.specs.Walks.{OpensOnce};
 
-use mt_base::{Call, Query, Range, Reply};
+use mt_base::{Call, Done, Query, Range, Read, Worn};
 use mt_log::Entry;
 use std::sync::Wait;
-
-/// A call that was made: its number in the tree's history, and its reply.
-#[derive(Clone, Copy, Debug, PartialEq, Eq)]
-pub struct CallDone {
-    pub call: u64,
-    pub reply: Reply,
-}
-
-/// The tree has as many calls as it takes.
-#[derive(Clone, Copy, Debug, PartialEq, Eq)]
-pub struct TreeWorn;
-
-/// A read: its answer is that of the map after some number of calls from `lo` to `hi`.
-#[derive(Clone, Copy, Debug, PartialEq, Eq)]
-pub struct Looked {
-    pub lo: u64,
-    pub hi: u64,
-    pub value: Option<Range>,
-}
 
 /// A caller's token on a tree that several share.
 ///
@@ -60,8 +42,8 @@ pub trait Shared<P: Passage> {
     ///
     /// # Errors
     ///
-    /// `TreeWorn` if the tree has had as many calls as it takes. The handle has then seen them all.
-    fn act<R: Wait>(&self, rt: &R, pass: &mut P, call: &Call) -> Result<CallDone, TreeWorn>
+    /// `Worn` if the tree has had as many calls as it takes. The handle has then seen them all.
+    fn act<R: Wait>(&self, rt: &R, pass: &mut P, call: &Call) -> Result<Done, Worn>
         requires of { serves self.now pass.old }
         requires closed { (P.knows pass.old).standing ≡ None }
         ensures of { serves self.now pass.new }
@@ -71,13 +53,13 @@ pub trait Shared<P: Passage> {
             × (length (P.knows pass.new).seen ≡ (tree self.now).most)) };
 
     /// Makes a read, in few steps without the lock. It leaves no section open.
-    fn ask<R: Wait>(&self, rt: &R, pass: &mut P, query: &Query) -> Looked
+    fn ask<R: Wait>(&self, rt: &R, pass: &mut P, query: &Query) -> Read<Option<Range>>
         requires of { serves self.now pass.old }
         requires closed { (P.knows pass.old).standing ≡ None }
         ensures of { serves self.now pass.new }
         ensures closed { (P.knows pass.new).standing ≡ None }
         ensures few { P.steps pass.new ≤ P.steps pass.old + 360 }
-        ensures read { (k : ℕ) × Read (tree self.now).history (P.knows pass.old) result.lo result.hi k query.now result.value (P.knows pass.new) };
+        ensures read { (k : ℕ) × known.Read (tree self.now).history (P.knows pass.old) result.lo result.hi k query.now result.value (P.knows pass.new) };
 
     /// Makes a scan from an index up to a bound: finds, each after the range of the one before, at most `count`, and none after
     /// the first that finds nothing. Each answer follows what the room holds. All finds are made in one section, which is then

@@ -3,7 +3,7 @@
 ghost use Rattle.std.specs.Prelude.{◌≡◌, ◌+◌, ◌≤◌, None};
 ghost use Rattle.mt_desks.specs.Walks.{Walk, HasWalkedOn};
 
-use crate::shared::Looked;
+use mt_base::{Range, Read};
 
 /// A walk over the ranges of a tree `T`, from an index up to a bound, by one handle and in one section.
 ///
@@ -17,7 +17,7 @@ pub trait Walks<T> {
     ghost own: { Self → Type 0 };
 
     /// Reads the first range from the walk's place on, and moves the place after it. The section is open then.
-    fn step(&mut self) -> Looked
+    fn step(&mut self) -> Read<Option<Range>>
         requires { own self.old }
         ensures own { own self.new }
         ensures on { (tree : T) → on self.old tree → on self.new tree }

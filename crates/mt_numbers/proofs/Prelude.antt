@@ -17,8 +17,8 @@ pub use Rattle.mt_base.specs.declared.replies.Reply.{Reply}
 pub use Rattle.mt_tree.proofs.Allocations.{last_is_answered}
 pub use Rattle.mt_tree.proofs.Lending.{still_of}
 pub use Rattle.mt_tree.specs.Trees.{IsWorn, limit_of, opened, pass_in}
-pub use Rattle.mt_tree.specs.declared.shapes.Done.{Done}
-pub use Rattle.mt_tree.specs.declared.shapes.Worn.{Worn}
+pub use Rattle.mt_base.specs.declared.outcomes.Done.{Done}
+pub use Rattle.mt_base.specs.declared.outcomes.Worn.{Worn}
 pub use Rattle.mt_tree.specs.declared.trees.Tree.{Tree}
 pub use Rattle.mt_numbers.specs.Calls.{AskedForNumber, GaveBack, KnowsItsOwn, TellsLowest, TellsTaken, asking, count_of, gave_one, given_back_by, lowest_free, number_taken, removed, started, taken_by, took_one, was_there}
 pub use Rattle.mt_numbers.specs.Tallies.{IsTallied}

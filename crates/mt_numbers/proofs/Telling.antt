@@ -1,5 +1,5 @@
 -- What the reply of a call tells, which the map before it answered.
-use Rattle.mt_numbers.proofs.Prelude.{Option, Some, None, take, fold, ◌≡◌, ℕ, ◌+◌, ◌-◌, List, [], ◌∷◌, ◌++◌, length, inl, inr, refl, sym, ap, ◌∙◌, subst, arith, take-append_seam, Call, Erase, Kind, Range, Reply, acted, erased, placed, AreLegalFrom, History, IsAnswered, IsLegal, Record, limits_after, map_after, map_at, holding, Limits, Pass, Wrote, with_records, last_is_answered, asking, lowest_free, number_taken, was_there, TellsLowest, TellsTaken, TAKEN}
+use Rattle.mt_numbers.proofs.Prelude.{Option, Some, None, take, fold, ◌≡◌, ℕ, ◌-◌, List, [], ◌∷◌, ◌++◌, length, inl, inr, refl, sym, ap, ◌∙◌, subst, arith, take-append_seam, Call, Erase, Kind, Range, Reply, acted, erased, placed, History, IsAnswered, IsLegal, Record, limits_after, map_after, map_at, holding, Limits, Pass, Wrote, with_records, last_is_answered, asking, lowest_free, number_taken, was_there, TellsLowest, TellsTaken, TAKEN}
 use Rattle.mt_base.specs.declared.kinds.Kind.TheVariants as kinds
 
 -- ---- the map before the last call

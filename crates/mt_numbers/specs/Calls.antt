@@ -15,8 +15,8 @@ use Rattle.mt_base.specs.Nodes.{Limits, IsShort}
 use Rattle.mt_base.specs.Passes.{Pass, Wrote, places, with_records}
 use Rattle.mt_numbers.specs.declared.numbers.TheConstants.{NUMBERS}
 use Rattle.mt_numbers.specs.declared.shared.TheConstants.{TAKEN}
-use Rattle.mt_tree.specs.declared.shapes.Done.{Done}
-use Rattle.mt_tree.specs.declared.shapes.Worn.{Worn}
+use Rattle.mt_base.specs.declared.outcomes.Done.{Done}
+use Rattle.mt_base.specs.declared.outcomes.Worn.{Worn}
 use Rattle.mt_tree.specs.declared.trees.Tree.{Tree}
 use Rattle.mt_tree.specs.Trees.{opened, IsWorn}
 

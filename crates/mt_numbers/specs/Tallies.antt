@@ -13,11 +13,11 @@ pub record Balances (held : ℕ) (t : Tally) : Type 0 where
   pub each : t.taken ≡ held + t.given_back + t.lost
   pub moments : t.clashes ≤ t.taken + t.given_back + t.lost
 
--- From one tally to another, exactly as many numbers were taken and given back as the counts before and after say.
-pub record IsTallied (t u : Tally) (took took' gave gave' : ℕ) : Type 0 where
+-- From one tally to another, exactly as many numbers were taken and given back as these counts say of the caller before and after.
+pub record IsTallied {N : Type 0} (took gave : N → ℕ) (t u : Tally) (n m : N) : Type 0 where
   pub more : t.taken ≤ u.taken
-  pub taken : took' + t.taken ≡ took + u.taken
-  pub given_back : gave' + t.given_back ≡ gave + u.given_back
+  pub taken : took m + t.taken ≡ took n + u.taken
+  pub given_back : gave m + t.given_back ≡ gave n + u.given_back
 
 -- the line of a thread, after its number
 abbrev pub thread_text : ThreadOutcome → List ℕ

@@ -165,6 +165,7 @@ pub fn at_work<R: Threads + Wait + Print + Sync>(rt: &R, alloc: Global) -> io::R
     let mut tasks = tasks_of(alloc, rt, &tree, passes)?;
     run(rt, tasks.as_mut_slice(), &marks);
     let outcomes = outcomes_of(alloc, tasks.as_slice())?;
-    let left = tree.check(rt, &mut last).ranges;
+    let (form, _look) = tree.check(rt, &mut last);
+    let left = form.ranges;
     print!(rt; "{}", Report { outcomes, left })
 }

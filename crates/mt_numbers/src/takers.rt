@@ -54,7 +54,7 @@ impl<N: Numbers + Drop> Taker<N> {
         requires few { self.old.tally.taken < MOST }
         ensures held { vec_len self.new.held ≤ vec_len self.old.held + 1 }
         ensures taken { self.new.tally.taken ≤ self.old.tally.taken + 1 }
-        ensures told { IsTallied self.old.tally self.new.tally (N.taken self.old.numbers) (N.taken self.new.numbers) (N.given_back self.old.numbers) (N.given_back self.new.numbers) }
+        ensures told { IsTallied N.taken N.given_back self.old.tally self.new.tally self.old.numbers self.new.numbers }
     {
         let Some(number) = self.numbers.take() else {
             return;
@@ -71,7 +71,7 @@ impl<N: Numbers + Drop> Taker<N> {
         requires few { self.old.tally.taken ≤ MOST }
         ensures held { vec_len self.new.held ≡ vec_len self.old.held - 1 }
         ensures taken { self.new.tally.taken ≡ self.old.tally.taken }
-        ensures told { IsTallied self.old.tally self.new.tally (N.taken self.old.numbers) (N.taken self.new.numbers) (N.given_back self.old.numbers) (N.given_back self.new.numbers) }
+        ensures told { IsTallied N.taken N.given_back self.old.tally self.new.tally self.old.numbers self.new.numbers }
     {
         let Some(number) = self.held.pop() else {
             return;
@@ -91,7 +91,7 @@ impl<N: Numbers + Drop> Taker<N> {
         requires none { vec_len self.old.held ≡ 0 }
         requires few { self.old.tally.taken + HELD ≤ MOST }
         ensures taken { self.new.tally.taken ≤ self.old.tally.taken + HELD }
-        ensures told { IsTallied self.old.tally self.new.tally (N.taken self.old.numbers) (N.taken self.new.numbers) (N.given_back self.old.numbers) (N.given_back self.new.numbers) }
+        ensures told { IsTallied N.taken N.given_back self.old.tally self.new.tally self.old.numbers self.new.numbers }
     {
         for _taken in 0..HELD {
             self.take(marks);
@@ -103,7 +103,7 @@ impl<N: Numbers + Drop> Taker<N> {
         requires few { self.old.tally.taken ≤ MOST }
         ensures none { vec_len self.new.held ≡ 0 }
         ensures taken { self.new.tally.taken ≡ self.old.tally.taken }
-        ensures told { IsTallied self.old.tally self.new.tally (N.taken self.old.numbers) (N.taken self.new.numbers) (N.given_back self.old.numbers) (N.given_back self.new.numbers) }
+        ensures told { IsTallied N.taken N.given_back self.old.tally self.new.tally self.old.numbers self.new.numbers }
     {
         for _given in 0..HELD {
             self.give_back(marks);

@@ -6,8 +6,8 @@ ghost use Rattle.mt_image.specs.Reading.{image_in};
 ghost use Rattle.mt_io.specs.Faults.{Rose};
 ghost use Rattle.mt_log.specs.Fault.{ReadsAs};
 ghost use Rattle.mt_log.specs.Reading.{log_of};
-ghost use Rattle.mt_log.specs.Trees.{IsReadable, most_lanes};
-ghost use Rattle.mt_replay.specs.Trees.{fewest_rows};
+ghost use Rattle.mt_log.specs.Trees.{IsReadable};
+ghost use Rattle.mt_base.specs.Limits.{fewest_rows, most_lanes, most_steps, seed_end};
 ghost use Rattle.mt_cli.specs.Commands.{IsWithin, command_of};
 ghost use Rattle.mt_program.specs.Causes.{FailsOn, EndsMaking, EndsPrint, EndsReading, HasEnded, streams};
 ghost use Rattle.mt_program.specs.Command.{input_limit, longest, reads};
@@ -217,8 +217,8 @@ fn make<O: Sink>(
     lanes: u32,
     out: &mut O,
 ) -> Result<(), Failure>
-    requires number { number < 2 ^ 31 }
-    requires steps { steps ≤ 100000 }
+    requires number { number < seed_end }
+    requires steps { steps ≤ most_steps }
     requires lanes { 1 ≤ lanes }
     requires few_lanes { lanes ≤ most_lanes }
     ensures ends { EndsMaking (IsMadeText number steps lanes) result (O.written out.old) (O.written out.new) (O.faults out.old) (O.faults out.new) }
@@ -239,8 +239,8 @@ fn trial<R: Threads + Wait + Sync, O: Sink, G: Gate + Sync>(
     out: &mut O,
     gate: &G,
 ) -> Result<(), Failure>
-    requires number { number < 2 ^ 31 }
-    requires steps { steps ≤ 100000 }
+    requires number { number < seed_end }
+    requires steps { steps ≤ most_steps }
     ensures ends { EndsMaking (IsTrialText number steps) result (O.written out.old) (O.written out.new) (O.faults out.old) (O.faults out.new) }
     ensures turns { OnOk result (IsTurnedTrial (G.passed gate.now) number steps) }
     ensures out_kept { IfErr result (λ e. e ≢ Failure.WriteFault → out.new ≡ out.old) }
@@ -261,7 +261,7 @@ fn cycle<R: Threads + Wait + Sync, O: Sink>(
     out: &mut O,
 ) -> Result<(), Failure>
     requires window { window.0 ≤ window.1 }
-    requires steps { steps ≤ 100000 }
+    requires steps { steps ≤ most_steps }
     ensures ends { EndsMaking (IsIdsText window.0 window.1 steps drops) result (O.written out.old) (O.written out.new) (O.faults out.old) (O.faults out.new) }
     ensures out_kept { IfErr result (λ e. e ≢ Failure.WriteFault → out.new ≡ out.old) }
     ensures out_quiet { OnOk result (O.faults out.new ≡ O.faults out.old) }

@@ -1,5 +1,6 @@
 -- The phases of a log, one behind another.
-use Rattle.mt_replay.proofs.Prelude.{◌≡◌, ℕ, zero, suc, ◌+◌, ◌-◌, ◌<◌, ◌≤◌, Bool, true, false, List, [], ◌∷◌, ◌++◌, Some, length, map, take, drop, get_or, slice_get, slice_range, arith, refl, sym, ap, ◌∙◌, subst, append_assoc, length-append, false≢true, append-nil, take-append-drop, slice_get_within, get_or_from_slice_get, Item, Join, Line, AreInPlaceFrom, stepped_from, Log, Transcript, Step, AreDone, IsRun, listings_of, steps_of, IsReadable, most_lanes, trees_from, trees_of, lane_behind, phase_behind, Ran, histories_of, some_at, ran_is_run, asked_more, lane_more, phase_append, phase_more, stepped_more, stretch_apart, trees_behind, trees_more, IsOnePhase, is_join, lanes_in, same_phase, few_lanes, lanes_before, lanes_behind, some_lane, own_lines, phase_named, phase_placed, CanDo, IsPhaseBehind, NoJoinBetween, IsBegun, IsPlayed, PlayerState, calls_taken}
+use Rattle.mt_replay.proofs.Prelude.{◌≡◌, ℕ, zero, suc, ◌+◌, ◌-◌, ◌<◌, ◌≤◌, Bool, true, false, List, [], ◌∷◌, ◌++◌, Some, length, map, take, drop, get_or, slice_get, slice_range, arith, refl, sym, ap, ◌∙◌, subst, append_assoc, length-append, false≢true, append-nil, take-append-drop, slice_get_within, get_or_from_slice_get, Item, Join, Line, AreInPlaceFrom, stepped_from, Log, Transcript, Step, AreDone, IsRun, listings_of, steps_of, IsReadable, trees_from, trees_of, lane_behind, phase_behind, Ran, histories_of, some_at, ran_is_run, asked_more, lane_more, phase_append, phase_more, stepped_more, stretch_apart, trees_behind, trees_more, IsOnePhase, is_join, lanes_in, same_phase, few_lanes, lanes_before, lanes_behind, some_lane, own_lines, phase_named, phase_placed, CanDo, IsPhaseBehind, NoJoinBetween, IsBegun, IsPlayed, PlayerState, most_calls}
+use Rattle.mt_base.specs.Limits.{most_lanes}
 
 -- A phase of this number begins at this place of a log.
 pub record BeginsAt (log : List Line) (from phase : ℕ) : Type 0 where
@@ -48,7 +49,7 @@ no_joins log from to high none = λ i d within. let (is, below) = slice_at log f
 
 -- ---- a phase of a readable log
 
-pub phase_ready : (log : List Line) (lanes from to phase : ℕ) → IsReadable log → BeginsAt log from phase → from ≤ to → to ≤ length log → NoJoinBetween log from to → lanes_in 0 log ≤ lanes → length log < calls_taken
+pub phase_ready : (log : List Line) (lanes from to phase : ℕ) → IsReadable log → BeginsAt log from phase → from ≤ to → to ≤ length log → NoJoinBetween log from to → lanes_in 0 log ≤ lanes → length log < most_calls
     → IsPhaseBehind lanes phase (take from log) (slice_range log from to)
 phase_ready log lanes from to phase readable begins low high none lanes_are few =
     let front : List Line = take from log in

@@ -1,5 +1,5 @@
 -- Where the lanes of a phase have run and then all passes are settled, the phase's lines are played.
-use Rattle.mt_replay.proofs.Prelude.{◌≡◌, ℕ, ◌+◌, ◌<◌, ◌≤◌, true, false, List, [], ◌∷◌, ◌++◌, Some, length, map, slice_get, arith, sym, ap, ◌∙◌, subst, inl, inr, append_assoc, length-append, AllByRecursion, cases_Bool, map-append, slice_get_within, Pass, IsSettled, Line, Entry, KnownTree, stepped_after, Asked, Step, AreDone, entry_of, lane_after, steps_of, NamesBelow, trees_from, trees_of, IsPhaseGone, IsPhase, Tracked, asked_of_lane, AreDoneEach, take_turns, lanes_of, answers_joined, all_at, some_at, phase_ran, asked_behind, done_append, trees_behind, counts_in, is_step, steps_in, IsSomeWorn, SharedTree, AreSettled, HaveRun, IsPhaseBehind, IsPhaseBegun, IsPlayed, PlayerState, tracked_in, calls_taken, seen_by, tracked_of, lanes_phase, seen_within, none_worn, counts_first, all_placed, all_named}
+use Rattle.mt_replay.proofs.Prelude.{◌≡◌, ℕ, ◌+◌, ◌<◌, ◌≤◌, true, false, List, [], ◌∷◌, ◌++◌, Some, length, map, slice_get, arith, sym, ap, ◌∙◌, subst, inl, inr, append_assoc, length-append, AllByRecursion, cases_Bool, map-append, slice_get_within, Pass, IsSettled, Line, Entry, KnownTree, stepped_after, Asked, Step, AreDone, entry_of, lane_after, steps_of, NamesBelow, trees_from, trees_of, IsPhaseGone, IsPhase, Tracked, asked_of_lane, AreDoneEach, take_turns, lanes_of, answers_joined, all_at, some_at, phase_ran, asked_behind, done_append, trees_behind, counts_in, is_step, steps_in, IsSomeWorn, SharedTree, AreSettled, HaveRun, IsPhaseBehind, IsPhaseBegun, IsPlayed, PlayerState, tracked_in, seen_by, tracked_of, lanes_phase, seen_within, none_worn, counts_first, all_placed, all_named, most_calls}
 use Rattle.mt_replay.proofs.FewCalls.{few_calls}
 use Rattle.mt_replay.proofs.Seating.{tracked_at, tracked_long}
 use Rattle.mt_replay.proofs.TreeRows.{Found, all_from, found, leads_seen, seen_otherwise}
@@ -18,7 +18,7 @@ stands rows passes known trees seats entries = record { rows = rows; passes = pa
 module _ (lanes phase rows : ℕ) (front lines : List Line) (known : List KnownTree) (trees : List SharedTree) (before between after : List (List Pass)) (entries entries' : List Entry) (steps counted : List Step)
     (ready : IsPhaseBehind lanes phase front lines)
     (long : length before ≡ length trees)
-    (most : (number : ℕ) (tree : SharedTree) → slice_get trees number ≡ Some tree → tree.most ≡ calls_taken)
+    (most : (number : ℕ) (tree : SharedTree) → slice_get trees number ≡ Some tree → tree.most ≡ most_calls)
     (begun : IsPhaseBegun phase front lines (stands rows (lanes + 1) known trees before entries) steps counted)
     (run : HaveRun phase lines trees before between entries entries')
     (settled : AreSettled trees between after) where

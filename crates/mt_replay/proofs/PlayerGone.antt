@@ -1,5 +1,5 @@
 -- A player behind the lanes of a phase.
-use Rattle.mt_replay.proofs.Prelude.{◌≡◌, ℕ, ◌+◌, ◌<◌, List, ◌++◌, Some, None, length, map, get_or, slice_get, arith, sym, ap, ◌∙◌, subst, Vec, Global, All, length-map, slice_get_within, Begins, Pass, IsSettled, Settled, Record, begins_on, Line, Entry, Step, Tracked, outcomes_of, answers_joined, leads_onward, all_at, some_at, seen_begins, SharedTree, Player, AreManned, AreSettled, HaveGoneBy, IsPhaseBehind, IsBetweenPhases, IsBegun, IsPhaseBegun, IsClosed, IsPlayed, rows_known, player_state, tracked_in, AreAll, calls_taken, seen_by, tracked_of}
+use Rattle.mt_replay.proofs.Prelude.{◌≡◌, ℕ, ◌+◌, ◌<◌, List, ◌++◌, Some, None, length, map, get_or, slice_get, arith, sym, ap, ◌∙◌, subst, Vec, Global, All, length-map, slice_get_within, Begins, Pass, IsSettled, Settled, Record, begins_on, Line, Entry, Step, Tracked, outcomes_of, answers_joined, leads_onward, all_at, some_at, seen_begins, SharedTree, Player, AreManned, AreSettled, HaveGoneBy, IsPhaseBehind, IsBetweenPhases, IsBegun, IsPhaseBegun, IsClosed, IsPlayed, rows_known, player_state, tracked_in, AreAll, seen_by, tracked_of, most_calls}
 use Rattle.mt_replay.proofs.LanesRun.{mapped_at, of_mapped, within_mapped}
 use Rattle.mt_replay.proofs.PhasePlayed.{phase_played, stands}
 use Rattle.mt_replay.proofs.Recounting.{HasGrown, counts_grow}
@@ -138,11 +138,11 @@ module _ {P T : Type 0} (tree : T → SharedTree) (knows : P → Pass) (serves :
             grown_at rest.counted;
       }
 
-      most_there : (number : ℕ) (t : SharedTree) → slice_get (map tree p.trees.items) number ≡ Some t → t.most ≡ calls_taken
+      most_there : (number : ℕ) (t : SharedTree) → slice_get (map tree p.trees.items) number ≡ Some t → t.most ≡ most_calls
       most_there number t is =
           let within : number < length p.trees.items = within_mapped tree p.trees.items number t is in
           let (x, x_is) = some_at p.trees.items number within in
-          subst (λ (z : SharedTree). z.most ≡ calls_taken) (of_mapped tree p.trees.items number x t within is) (rest.seated.most number x within)
+          subst (λ (z : SharedTree). z.most ≡ most_calls) (of_mapped tree p.trees.items number x t within is) (rest.seated.most number x within)
 
       pub played_gone : (front : List Line) (steps : List Step) → IsPhaseBehind lanes phase front lines → IsBegun phase front lines (player_state tree knows p) steps → IsPlayed (phase + 1) (front ++ lines) (player_state tree knows after)
       played_gone front steps ready (counted, begun) =

@@ -51,7 +51,8 @@ pub use Rattle.mt_replay.specs.Lanes.{AreLanesFor, AreManned, AreSettled, CanDo,
 pub use Rattle.mt_replay.specs.Makes.{AreMade, BeginAs, IsMade, declared_kind, kinds_in}
 pub use Rattle.mt_replay.specs.Phases.{NoJoinBetween}
 pub use Rattle.mt_replay.specs.Players.{BeginsPhase, Checks, Copies, HasImage, HasRanges, IsBegun, IsBetweenPhases, IsClosed, IsCopyIn, IsPhaseBegun, IsPlayed, IsPlayedBy, PlayerState, player_state, rows_known, tracked_in}
-pub use Rattle.mt_replay.specs.Prelude.{AreAnsweredUnless, AreDone, AreDoneEach, AreInPlaceFrom, AreNamedFrom, AtEach, Check, CountsRanges, Dup, Entry, HaveGone, History, IsImageOfMap, IsOnePhase, IsRun, IsSettled, IsSomeWorn, Item, Kind, KnownTree, Lane, LaneDesk, Line, Listing, Log, Pairs, Pass, Ran, Range, Settled, SharedTree, Step, Tracked, Transcript, Tree, answers_joined, asked_of_lane, counts_in, entry_of, is_join, is_step, lane_after, lane_behind, lanes_in, lanes_of, last_map, lines_of_lane, map_at, most_lanes, new_history, new_pass, new_tracked, phase_behind, renamed, steps_in, steps_of, take_turns, trees_of, with_records}
-pub use Rattle.mt_replay.specs.Trees.{AreAll, IsNewTree, calls_taken, seen_by, tracked_of}
+pub use Rattle.mt_replay.specs.Prelude.{AreAnsweredUnless, AreDone, AreDoneEach, AreInPlaceFrom, AreNamedFrom, AtEach, Check, CountsRanges, Dup, Entry, HaveGone, History, IsImageOfMap, IsOnePhase, IsRun, IsSettled, IsSomeWorn, Item, Kind, KnownTree, Lane, LaneDesk, Line, Listing, Log, Pairs, Pass, Ran, Range, Settled, SharedTree, Step, Tracked, Transcript, Tree, answers_joined, asked_of_lane, counts_in, entry_of, is_join, is_step, lane_after, lane_behind, lanes_in, lanes_of, last_map, lines_of_lane, map_at, new_history, new_pass, new_tracked, phase_behind, renamed, steps_in, steps_of, take_turns, trees_of, with_records}
+pub use Rattle.mt_base.specs.Limits.{most_calls, most_lanes}
+pub use Rattle.mt_replay.specs.Trees.{AreAll, IsNewTree, seen_by, tracked_of}
 pub use Rattle.mt_replay.specs.Turns.{AllTurned, AreTurned, PhaseTurned, done_behind}
 pub use Rattle.mt_replay.specs.declared.players.Player.{Player}

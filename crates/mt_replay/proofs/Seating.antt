@@ -1,5 +1,5 @@
 -- A player's trees, and the rows of seats beside them.
-use Rattle.mt_replay.proofs.Prelude.{◌≡◌, ℕ, zero, Result, Ok, Err, IfOk, suc, ◌+◌, ◌<◌, ◌≤◌, List, [], ◌∷◌, ◌++◌, Some, None, length, map, All, slice_get, slice_set, get_or, arith, refl, sym, ap, ◌∙◌, subst, inl, inr, length-append, Vec, Global, AllByRecursion, range_with_len, option_map, with_item, map-set_same, cases_eq, get_or_default, get_or-set_other, get_or-set_same, length-map, length-set, map-append, All-from_recursion, All-push, slice_get_read, slice_get-map, Kind, Range, History, last_map, Pass, IsSettled, new_pass, Entry, KnownTree, renamed, Tracked, new_history, new_tracked, all_at, new_is_settled, SharedTree, Player, AreCounts, IsCountOf, AreAll, IsNewTree, calls_taken, seen_by, tracked_of, PlayerState, Checks, Copies, HasRanges, IsBetweenPhases, IsClosed, IsCopyIn, rows_known, player_state, tracked_in}
+use Rattle.mt_replay.proofs.Prelude.{◌≡◌, ℕ, zero, Result, Ok, Err, IfOk, suc, ◌+◌, ◌<◌, ◌≤◌, List, [], ◌∷◌, ◌++◌, Some, None, length, map, All, slice_get, slice_set, get_or, arith, refl, sym, ap, ◌∙◌, subst, inl, inr, length-append, Vec, Global, AllByRecursion, range_with_len, option_map, with_item, map-set_same, cases_eq, get_or_default, get_or-set_other, get_or-set_same, length-map, length-set, map-append, All-from_recursion, All-push, slice_get_read, slice_get-map, Kind, Range, History, last_map, Pass, IsSettled, new_pass, Entry, KnownTree, renamed, Tracked, new_history, new_tracked, all_at, new_is_settled, SharedTree, Player, AreCounts, IsCountOf, AreAll, IsNewTree, seen_by, tracked_of, PlayerState, Checks, Copies, HasRanges, IsBetweenPhases, IsClosed, IsCopyIn, rows_known, player_state, tracked_in, most_calls}
 use Rattle.mt_log.specs.declared.transcripts.Said.TheVariants as said
 use Rattle.mt_replay.specs.declared.counts.Counted.{Counted}
 use Rattle.mt_replay.proofs.Recounting.{count_at, counts_long, counts_push, counts_set}
@@ -191,7 +191,7 @@ module _ {P T : Type 0} (tree : T → SharedTree) (knows : P → Pass) (serves :
             names = omega (arith, more_known, more_trees, r.seated.names);
             count = omega (arith, more_seats, more_trees, r.seated.count);
             many_are = subst (λ (n : ℕ). All (λ (x : T). many x ≡ n) q.trees.items) (sym passes_are) (subst (λ (xs : List T). All (λ (x : T). many x ≡ p.passes) xs) (sym trees) (All-push (λ (x : T). many x ≡ p.passes) p.trees.items t r.seated.many_are many_is));
-            most = subst (λ (xs : List T). All (λ (x : T). (tree x).most ≡ calls_taken) xs) (sym trees) (All-push (λ (x : T). (tree x).most ≡ calls_taken) p.trees.items t r.seated.most new.most);
+            most = subst (λ (xs : List T). All (λ (x : T). (tree x).most ≡ most_calls) xs) (sym trees) (All-push (λ (x : T). (tree x).most ≡ most_calls) p.trees.items t r.seated.most new.most);
             all = all_are passes_are;
           };
           settled = subst (All (λ (z : Tracked). IsSettled z.history z.passes)) (sym tracked_are) (All-push (λ (z : Tracked). IsSettled z.history z.passes) (tracked p) (new_tracked p.passes rows kind opening) r.settled (new_is_settled p.passes rows kind opening));

@@ -38,10 +38,10 @@ pass_stays h (o ∷ old) (n ∷ new) at p q is start one end =
     (s.2, ap (λ (z : Pass). with_records h z.seen) same ∙ ap (with_records h) all)
 
 -- a row of passes one of which has seen the whole history, or is as it was, before all were settled
-pub row_stays : {P : Type 0} (knows : P → Pass) (h : History) (row : Vec P Global) (n : ℕ) (p q : P) (between after : List P) → 1 ≤ length row.items → n ≡ row.len → p ≡ get_or row.items (n - 1) p → IsSettled (seen_by h (map knows row.items)) (map knows row.items)
+pub row_stays : {P : Type 0} (knows : P → Pass) {h : History} (row : Vec P Global) {n : ℕ} {p q : P} {between : List P} (after : List P) → 1 ≤ length row.items → n ≡ row.len → p ≡ get_or row.items (n - 1) p → IsSettled (seen_by h (map knows row.items)) (map knows row.items)
     → ((knows q ≡ knows p) ⊎ Saw h (knows p) (knows q)) → between ≡ slice_set row.items (n - 1) q → Settled (seen_by h (map knows after)) (map knows between) (map knows after)
     → (map knows (take row.len (after ++ drop (length after) (slice_set row.items (n - 1) q))) ≡ map knows row.items) × (with_records h (knows q).seen ≡ seen_by h (map knows row.items))
-row_stays knows h row n p q between after some long is start one set end =
+row_stays {P} knows {h} row {n} {p} {q} {between} after some long is start one set end =
     let within : n - 1 < length row.items = omega (arith, row.ok.0) in
     let here : slice_get (map knows row.items) (n - 1) ≡ Some (knows p) = slice_get-map knows row.items (n - 1) ∙ ap (option_map knows) (slice_get_read row.items (length row.items) (n - 1) p refl within is) in
     let s = pass_stays h (map knows row.items) (map knows after) (n - 1) (knows p) (knows q) here start one (subst (λ z. Settled (seen_by h (map knows after)) z (map knows after)) (ap (map knows) set ∙ map-set knows row.items (n - 1) q) end) in

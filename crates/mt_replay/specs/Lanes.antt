@@ -2,9 +2,10 @@
 -- Source: this project's own.
 use Rattle.std.specs.Prelude.{◌≡◌, ◌≢◌, ◌+◌, ◌<◌, ◌≤◌, ◌++◌, ℕ, zero, suc, Some, None, false, All, List, [], length, map, slice_get, slice_index_or, vec_len, vec_capacity, Vec}
 use Rattle.std.specs.Global.{Global}
-use Rattle.mt_replay.specs.Prelude.{Pass, Settled, Line, Entry, AreInPlaceFrom, Step, entry_of, AreNamedFrom, most_lanes, trees_of, HaveGone, lane_behind, phase_behind, asked_of_lane, AreDoneEach, take_turns, lanes_of, answers_joined, Pairs, Lane, LaneDesk, IsOnePhase, lanes_in, lines_of_lane, room_of, steps_in, AreAnsweredUnless, AreLines, IsSomeWorn, SharedTree, AtEach}
+use Rattle.mt_replay.specs.Prelude.{Pass, Settled, Line, Entry, AreInPlaceFrom, Step, entry_of, AreNamedFrom, trees_of, HaveGone, lane_behind, phase_behind, asked_of_lane, AreDoneEach, take_turns, lanes_of, answers_joined, Pairs, Lane, LaneDesk, IsOnePhase, lanes_in, lines_of_lane, room_of, steps_in, AreAnsweredUnless, AreLines, IsSomeWorn, SharedTree, AtEach}
 use Rattle.mt_replay.specs.Players.{rows_known}
-use Rattle.mt_replay.specs.Trees.{AreAll, calls_taken, seen_by}
+use Rattle.mt_replay.specs.Trees.{AreAll, seen_by}
+use Rattle.mt_base.specs.Limits.{most_calls, most_lanes}
 
 -- this lane's pass (handle) in the row of the tree of this number
 pub record IsPassAt (rows : List (List Pass)) (number lane : ℕ) (p : Pass) : Type 0 where
@@ -37,7 +38,7 @@ pub record IsPhaseBehind (lanes phase : ℕ) (front lines : List Line) : Type 0 
   pub lanes_are : lanes_in 0 lines ≤ lanes
   pub lane_is : lane_behind 0 front ≡ 0
   pub phase_is : phase_behind 0 front ≡ phase
-  pub few : length front + length lines < calls_taken
+  pub few : length front + length lines < most_calls
 
 -- ---- the desks of the lanes
 
@@ -79,7 +80,7 @@ pub record CanDo (lanes trees : ℕ) (lines : List Line) : Type 0 where
   pub lanes_are : lanes_in 0 lines ≤ lanes
   pub own : (lane : ℕ) → AreLines trees (lines_of_lane lane 0 lines)
   pub numbered : Pairs (λ (a b : Line). b.number ≢ a.number) lines
-  pub short : length lines < calls_taken
+  pub short : length lines < most_calls
 
 -- The lanes of a phase have run, and then all handles of each tree were settled.
 pub record HaveGoneBy {P T : Type 0} (tree : T → SharedTree) (knows : P → Pass) (serves : T → P → Type 0) (passes phase : ℕ) (lines : List Line) (trees : List T) (seats seats' : List (Vec P Global)) (entries entries' : List Entry) : Type 0 where

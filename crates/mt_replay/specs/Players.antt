@@ -6,7 +6,8 @@ use Rattle.mt_replay.specs.Prelude.{Kind, Range, last_map, Pass, IsSettled, most
 use Rattle.mt_log.specs.declared.transcripts.Said.TheVariants as said
 use Rattle.mt_replay.specs.declared.players.Player.{Player}
 use Rattle.mt_replay.specs.Counts.{AreCounts}
-use Rattle.mt_replay.specs.Trees.{AreAll, IsNewTree, calls_taken, fewest_rows, most_passes, tracked_of}
+use Rattle.mt_replay.specs.Trees.{AreAll, IsNewTree, player_passes, tracked_of}
+use Rattle.mt_base.specs.Limits.{fewest_rows, most_calls}
 
 -- how many nodes and handles each tree has; the declared trees, with their names and as they are; and the entries (answers)
 pub record PlayerState : Type 0 where
@@ -45,11 +46,11 @@ pub record IsSeated {P T : Type 0} (tree : T → SharedTree) (knows : P → Pass
   pub few_rows : fewest_rows ≤ p.rows
   pub rows : p.rows ≤ most_rows
   pub some_pass : 1 ≤ p.passes
-  pub passes : p.passes ≤ most_passes
+  pub passes : p.passes ≤ player_passes
   pub names : length p.known.items ≡ length p.trees.items
   pub count : length p.seats.items ≡ length p.trees.items
   pub many_are : All (λ t. many t ≡ p.passes) p.trees.items
-  pub most : All (λ t. (tree t).most ≡ calls_taken) p.trees.items
+  pub most : All (λ t. (tree t).most ≡ most_calls) p.trees.items
   pub all : (at : ℕ) (t : T) (row : Vec P Global) → at < length p.trees.items → AreAll knows serves p.passes (slice_index_or p.trees.items at t) (slice_index_or p.seats.items at row).items
 
 -- no handle of the tree has a section open

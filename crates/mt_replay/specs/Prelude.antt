@@ -7,7 +7,8 @@ pub use Rattle.mt_base.specs.declared.ranges.Range.{Range}
 pub use Rattle.mt_image.specs.Images.{IsImageOfMap}
 pub use Rattle.mt_log.specs.Phases.{AreInPlaceFrom}
 pub use Rattle.mt_log.specs.Run.{AreDone, IsRun, Step, entry_of, lane_after, steps_of}
-pub use Rattle.mt_log.specs.Trees.{AreNamedFrom, most_lanes, renamed, trees_of}
+pub use Rattle.mt_log.specs.Trees.{AreNamedFrom, renamed, trees_of}
+pub use Rattle.mt_base.specs.Limits.{most_lanes}
 pub use Rattle.mt_log.specs.declared.lines.Item.{Item}
 pub use Rattle.mt_log.specs.declared.lines.Item.TheVariants.{Check, Dup, Tree}
 pub use Rattle.mt_log.specs.declared.lines.Line.{Line}

@@ -1,20 +1,13 @@
 -- The trees that a player makes, copies, checks, lists and settles, each with all its passes (handles).
 -- Source: this project's own.
-use Rattle.std.specs.Prelude.{◌≡◌, ◌+◌, ◌-◌, ◌^◌, ℕ, Some, All, List, [], ◌∷◌, length, map, slice_get}
+use Rattle.std.specs.Prelude.{◌≡◌, ◌+◌, ℕ, Some, All, List, [], ◌∷◌, length, map, slice_get}
 use Rattle.std.specs.List.{range_with_len}
-use Rattle.mt_replay.specs.Prelude.{Kind, Range, History, last_map, Pass, new_pass, with_records, most_lanes, Tracked, new_history, SharedTree}
+use Rattle.mt_replay.specs.Prelude.{Kind, Range, History, last_map, Pass, new_pass, with_records, Tracked, new_history, SharedTree}
+use Rattle.mt_base.specs.Limits.{most_calls, most_lanes}
 
--- a tree of a player has four nodes at least, as many as the first call may need
-abbrev pub fewest_rows : ℕ
-fewest_rows = 4
-
--- it has a handle for each lane, and one of the player's own
-abbrev pub most_passes : ℕ
-most_passes = most_lanes + 1
-
--- and it takes as many calls as a tree may have
-abbrev pub calls_taken : ℕ
-calls_taken = 2 ^ 62 - 1
+-- a tree of a player has a handle for each lane, and one of the player's own; it takes as many calls as a tree may have
+abbrev pub player_passes : ℕ
+player_passes = most_lanes + 1
 
 -- the tree with the calls that the first of these handles has seen
 abbrev pub seen_by : History → List Pass → History
@@ -38,5 +31,5 @@ pub record AreAll {T P : Type 0} (knows : P → Pass) (serves : T → P → Type
 -- A new tree of this kind with this many nodes, which opens with these ranges, and its handles, which have seen nothing.
 pub record IsNewTree (kind : Kind) (rows : ℕ) (opening : List Range) (many : ℕ) (t : SharedTree) (passes : List Pass) : Type 0 where
   pub history : t.history ≡ new_history kind rows opening
-  pub most : t.most ≡ calls_taken
+  pub most : t.most ≡ most_calls
   pub passes_are : passes ≡ map new_pass (range_with_len 0 many)

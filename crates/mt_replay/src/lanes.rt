@@ -22,6 +22,14 @@ use std::mem;
 use std::sync::Wait;
 use std::thread::Threads;
 
+/// A phase of a log: how many lanes (threads) the log has, the phase's number, and its lines.
+#[derive(Clone, Copy)]
+pub(crate) struct Phase<'l> {
+    pub(crate) lanes: u32,
+    pub(crate) number: u64,
+    pub(crate) lines: &'l [Line],
+}
+
 /// Settles all handles of each tree, which sit in the row beside it.
 fn settle_all<R: Wait, P: Passage + Drop, T: Plays<P>>(rt: &R, trees: &[T], seats: &mut [Vec<P>])
     requires count { length seats.old ≡ length trees.now }
@@ -159,26 +167,32 @@ fn run_lanes<
 >(
     rt: &R,
     alloc: Global,
-    lanes: u32,
-    phase: u64,
-    lines: &[Line],
+    phase: Phase<'_>,
     trees: &[T],
     seats: &mut [Vec<P>],
     entries: &mut Vec<Entry>,
     gate: &G,
 ) -> Result<(), NoMemory>
-    requires can { CanDo lanes (length trees.now) lines.now }
-    requires manned { AreManned P.knows T.serves (lanes + 1) trees.now seats.old }
-    ensures manned { OnOk result (AreManned P.knows T.serves (lanes + 1) trees.now seats.new) }
-    ensures run { OnOk result (HaveRun phase lines.now (map T.tree trees.now) (rows_known P.knows seats.old)
+    requires can { CanDo phase.lanes (length trees.now) phase.lines.now }
+    requires manned { AreManned P.knows T.serves (phase.lanes + 1) trees.now seats.old }
+    ensures manned { OnOk result (AreManned P.knows T.serves (phase.entry.lanes + 1) trees.now seats.new) }
+    ensures run { OnOk result (HaveRun phase.entry.number phase.entry.lines.now (map T.tree trees.now) (rows_known P.knows seats.old)
         (rows_known P.knows seats.new) entries.old.items entries.new.items) }
-    ensures turns { OnOk result (PhaseTurned (G.passed gate.now) lines.now) }
+    ensures turns { OnOk result (PhaseTurned (G.passed gate.now) phase.entry.lines.now) }
 {
-    let first = first_room(alloc, lanes == 1, entries);
-    let mut laid = lay_lanes(alloc, rt, lanes, phase, trees, lines, first)?;
+    let first = first_room(alloc, phase.lanes == 1, entries);
+    let mut laid = lay_lanes(
+        alloc,
+        rt,
+        phase.lanes,
+        phase.number,
+        trees,
+        phase.lines,
+        first,
+    )?;
     reserve_all(laid.as_slice(), entries)?;
     run_phase(rt, seats, laid.as_mut_slice(), gate);
-    tell(alloc, lines, laid.as_mut_slice(), entries)
+    tell(alloc, phase.lines, laid.as_mut_slice(), entries)
 }
 
 /// Runs the lanes of a phase on these trees, and then settles all handles of each tree.
@@ -194,22 +208,21 @@ pub(crate) fn run_and_settle<
 >(
     rt: &R,
     alloc: Global,
-    lanes: u32,
-    phase: u64,
-    lines: &[Line],
+    phase: Phase<'_>,
     trees: &[T],
     seats: &mut [Vec<P>],
     entries: &mut Vec<Entry>,
     gate: &G,
 ) -> Result<(), NoMemory>
-    requires can { CanDo lanes (length trees.now) lines.now }
-    requires many { All (λ t. T.many t ≡ lanes + 1) trees.now }
-    requires manned { AreManned P.knows T.serves (lanes + 1) trees.now seats.old }
-    ensures gone { OnOk result (HaveGoneBy T.tree P.knows T.serves (lanes + 1) phase lines.now trees.now seats.old seats.new
+    requires can { CanDo phase.lanes (length trees.now) phase.lines.now }
+    requires many { All (λ t. T.many t ≡ phase.lanes + 1) trees.now }
+    requires manned { AreManned P.knows T.serves (phase.lanes + 1) trees.now seats.old }
+    ensures gone { OnOk result
+        (HaveGoneBy T.tree P.knows T.serves (phase.entry.lanes + 1) phase.entry.number phase.entry.lines.now trees.now seats.old seats.new
         entries.old.items entries.new.items) }
-    ensures turns { OnOk result (PhaseTurned (G.passed gate.now) lines.now) }
+    ensures turns { OnOk result (PhaseTurned (G.passed gate.now) phase.entry.lines.now) }
 {
-    run_lanes(rt, alloc, lanes, phase, lines, trees, seats, entries, gate)?;
+    run_lanes(rt, alloc, phase, trees, seats, entries, gate)?;
     settle_all(rt, trees, seats);
     Ok(())
 }

@@ -4,7 +4,8 @@ ghost use Rattle.std.specs.Prelude.{◌≡◌, ◌<◌, ◌≤◌, All, IfOk, le
 ghost use Rattle.mt_base.specs.Width.{most_rows};
 ghost use Rattle.mt_base.specs.declared.kinds.Kind.{Kind};
 ghost use Rattle.mt_replay.specs.Makes.{AreMade, IsMade, kinds_in};
-ghost use Rattle.mt_replay.specs.Trees.{fewest_rows, most_passes};
+ghost use Rattle.mt_replay.specs.Trees.{player_passes};
+ghost use Rattle.mt_base.specs.Limits.{fewest_rows};
 
 use crate::trees::Plays;
 use mt_base::{Kind, NoMemory};
@@ -50,13 +51,13 @@ fn make_at_once<R: Threads + Sync, P: Passage + Drop + Send, T: Plays<P> + Send>
     requires few_rows { fewest_rows ≤ rows }
     requires rows { rows ≤ most_rows }
     requires some_pass { 1 ≤ passes }
-    requires passes { passes ≤ most_passes }
+    requires passes { passes ≤ player_passes }
     requires zeros { All (λ kind. T.zeros_serve zeros.now kind rows) kinds.now }
     ensures count { IfOk result (λ made. vec_len made ≡ length kinds.now) }
     ensures made { IfOk result (λ made. AreMade T.tree P.knows T.serves T.many rows passes kinds.now made.items) }
 {
     let make = |at: usize| -> Made<P, T>
-        requires { (at < length kinds.now) × (fewest_rows ≤ rows) × (rows ≤ most_rows) × (1 ≤ passes) × (passes ≤ most_passes)
+        requires { (at < length kinds.now) × (fewest_rows ≤ rows) × (rows ≤ most_rows) × (1 ≤ passes) × (passes ≤ player_passes)
             × All (λ kind. T.zeros_serve zeros.now kind rows) kinds.now }
         ensures { (kind : Kind) → IfOk result (IsMade T.tree P.knows T.serves T.many rows passes (slice_index_or kinds.entry.now at kind)) }
     { T::make(alloc, kinds[at], rows, passes, zeros) };
@@ -80,7 +81,7 @@ fn make_all<R: Threads + Sync, P: Passage + Drop + Send, T: Plays<P> + Send>(
     requires few_rows { fewest_rows ≤ rows }
     requires rows { rows ≤ most_rows }
     requires some_pass { 1 ≤ passes }
-    requires passes { passes ≤ most_passes }
+    requires passes { passes ≤ player_passes }
     ensures { IfOk result (λ made. AreMade T.tree P.knows T.serves T.many rows passes kinds.now made.items) }
 {
     let mut made = Vec::with_capacity(alloc, kinds.len())?;
@@ -112,7 +113,7 @@ pub(crate) fn make_declared<R: Threads + Sync, P: Passage + Drop + Send, T: Play
     requires few_rows { fewest_rows ≤ rows }
     requires rows { rows ≤ most_rows }
     requires some_pass { 1 ≤ passes }
-    requires passes { passes ≤ most_passes }
+    requires passes { passes ≤ player_passes }
     ensures { IfOk result (λ made. AreMade T.tree P.knows T.serves T.many rows passes (kinds_in lines.now) made.items) }
 {
     let kinds = kinds_of(alloc, lines)?;

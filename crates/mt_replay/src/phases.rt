@@ -1,19 +1,19 @@
 //! A log is played phase by phase.
 
-ghost use Rattle.std.specs.Prelude.{◌≡◌, ◌≢◌, ◌<◌, ◌≤◌, ◌+◌, ◌-◌, ◌^◌, ◌++◌, ℕ, true, List, [], length, take, slice_index_or, slice_range, IfOk, OnOk};
+ghost use Rattle.std.specs.Prelude.{◌≡◌, ◌≢◌, ◌<◌, ◌≤◌, ◌+◌, ◌++◌, ℕ, true, List, [], length, take, slice_index_or, slice_range, IfOk, OnOk};
 ghost use Rattle.mt_base.specs.Width.{most_rows};
 ghost use Rattle.mt_log.specs.declared.lines.Line.{Line};
 ghost use Rattle.mt_log.specs.Run.{IsRun, Step};
-ghost use Rattle.mt_log.specs.Trees.{IsReadable, most_lanes, trees_of};
+ghost use Rattle.mt_log.specs.Trees.{IsReadable, trees_of};
+ghost use Rattle.mt_base.specs.Limits.{fewest_rows, most_calls, most_lanes};
 ghost use Rattle.mt_desks.specs.Dealing.{is_join, lanes_in};
-ghost use Rattle.mt_replay.specs.Trees.{calls_taken, fewest_rows};
 ghost use Rattle.mt_replay.specs.Images.{IsImageOfRun};
 ghost use Rattle.mt_replay.specs.Lanes.{CanDo, IsPhaseBehind};
 ghost use Rattle.mt_replay.specs.Phases.{NoJoinBetween};
 ghost use Rattle.mt_replay.specs.Players.{IsBetweenPhases, IsBegun, IsPlayed, player_state};
 ghost use Rattle.mt_replay.specs.Turns.{AllTurned, PhaseTurned};
 
-use crate::lanes::run_and_settle;
+use crate::lanes::{Phase, run_and_settle};
 use crate::players::Player;
 use crate::trees::Plays;
 use mt_base::NoMemory;
@@ -23,6 +23,15 @@ use mt_log::{Entries, Item, Line, Listings, Log, Transcript};
 use std::alloc::Global;
 use std::sync::Wait;
 use std::thread::Threads;
+
+/// The place of a phase in a log: how many lanes (threads) the log has, the phase's number, and where its lines begin and end.
+#[derive(Clone, Copy)]
+struct PhasePlace {
+    lanes: u32,
+    number: u64,
+    from: usize,
+    to: usize,
+}
 
 /// Runs the lanes of a phase that has begun, and settles all trees.
 fn play_lanes<
@@ -34,28 +43,24 @@ fn play_lanes<
     player: &mut Player<P, T>,
     rt: &R,
     alloc: Global,
-    lanes: u32,
-    phase: u64,
-    lines: &[Line],
+    phase: Phase<'_>,
     gate: &G,
 ) -> Result<(), NoMemory>
     requires rest { IsBetweenPhases T.tree P.knows T.serves T.many player.old }
-    requires passes { player.old.passes ≡ lanes + 1 }
-    requires can { CanDo lanes (length player.old.trees.items) lines.now }
+    requires passes { player.old.passes ≡ phase.lanes + 1 }
+    requires can { CanDo phase.lanes (length player.old.trees.items) phase.lines.now }
     ensures rest { OnOk result (IsBetweenPhases T.tree P.knows T.serves T.many player.new) }
-    ensures played { OnOk result ((front : List Line) (steps : List Step) → IsPhaseBehind lanes phase front lines.now
-        → IsBegun phase front lines.now (player_state T.tree P.knows player.old) steps
-        → IsPlayed (phase + 1) (front ++ lines.now) (player_state T.tree P.knows player.new)) }
+    ensures played { OnOk result ((front : List Line) (steps : List Step) → IsPhaseBehind phase.entry.lanes phase.entry.number front phase.entry.lines.now
+        → IsBegun phase.entry.number front phase.entry.lines.now (player_state T.tree P.knows player.old) steps
+        → IsPlayed (phase.entry.number + 1) (front ++ phase.entry.lines.now) (player_state T.tree P.knows player.new)) }
     ensures rows { OnOk result (player.new.rows ≡ player.old.rows) }
     ensures passes { OnOk result (player.new.passes ≡ player.old.passes) }
-    ensures turns { OnOk result (PhaseTurned (G.passed gate.now) lines.now) }
+    ensures turns { OnOk result (PhaseTurned (G.passed gate.now) phase.entry.lines.now) }
 {
     run_and_settle(
         rt,
         alloc,
-        lanes,
         phase,
-        lines,
         player.trees.as_slice(),
         player.seats.as_mut_slice(),
         &mut player.entries,
@@ -74,28 +79,30 @@ fn play_phase<
     player: &mut Player<P, T>,
     rt: &R,
     alloc: Global,
-    lanes: u32,
-    phase: u64,
     log: &[Line],
-    from: usize,
-    to: usize,
+    place: PhasePlace,
     gate: &G,
 ) -> Result<(), NoMemory>
-    requires within { (from ≤ to) × (to ≤ length log.now) }
+    requires within { (place.from ≤ place.to) × (place.to ≤ length log.now) }
     requires rest { IsBetweenPhases T.tree P.knows T.serves T.many player.old }
-    requires passes { player.old.passes ≡ lanes + 1 }
-    requires lanes { (1 ≤ lanes) × (lanes ≤ most_lanes) }
-    requires ready { IsPhaseBehind lanes phase (take from log.now) (slice_range log.now from to) }
-    requires played { IsPlayed phase (take from log.now) (player_state T.tree P.knows player.old) }
+    requires passes { player.old.passes ≡ place.lanes + 1 }
+    requires lanes { (1 ≤ place.lanes) × (place.lanes ≤ most_lanes) }
+    requires ready { IsPhaseBehind place.lanes place.number (take place.from log.now) (slice_range log.now place.from place.to) }
+    requires played { IsPlayed place.number (take place.from log.now) (player_state T.tree P.knows player.old) }
     ensures rest { OnOk result (IsBetweenPhases T.tree P.knows T.serves T.many player.new) }
     ensures passes { OnOk result (player.new.passes ≡ player.old.passes) }
     ensures rows { OnOk result (player.new.rows ≡ player.old.rows) }
-    ensures played { OnOk result (IsPlayed (phase + 1) (take to log.now) (player_state T.tree P.knows player.new)) }
-    ensures turns { OnOk result (PhaseTurned (G.passed gate.now) (slice_range log.now from to)) }
+    ensures played { OnOk result (IsPlayed (place.number + 1) (take place.to log.now) (player_state T.tree P.knows player.new)) }
+    ensures turns { OnOk result (PhaseTurned (G.passed gate.now) (slice_range log.now place.from place.to)) }
 {
-    let lines = &log[from..to];
+    let lines = &log[place.from..place.to];
     player.begin(rt, alloc, lines)?;
-    play_lanes(player, rt, alloc, lanes, phase, lines, gate)
+    let phase = Phase {
+        lanes: place.lanes,
+        number: place.number,
+        lines,
+    };
+    play_lanes(player, rt, alloc, phase, gate)
 }
 
 /// Whether a line ends a phase.
@@ -150,7 +157,7 @@ fn play_lines<
     requires lanes { (1 ≤ lanes) × (lanes ≤ most_lanes) }
     requires all_lanes { lanes_in 0 log.now ≤ lanes }
     requires readable { IsReadable log.now }
-    requires count { length log.now < calls_taken }
+    requires count { length log.now < most_calls }
     requires none { IsPlayed 0 [] (player_state T.tree P.knows player.old) }
     ensures rest { OnOk result (IsBetweenPhases T.tree P.knows T.serves T.many player.new) }
     ensures rows { OnOk result (player.new.rows ≡ player.old.rows) }
@@ -161,7 +168,13 @@ fn play_lines<
     let mut phase = 0;
     while from < log.len() {
         let to = phase_end(log, from);
-        play_phase(player, rt, alloc, lanes, phase, log, from, to, gate)?;
+        let place = PhasePlace {
+            lanes,
+            number: phase,
+            from,
+            to,
+        };
+        play_phase(player, rt, alloc, log, place, gate)?;
         if to == log.len() {
             return Ok(());
         }
@@ -191,7 +204,7 @@ fn played<
     requires few_rows { fewest_rows ≤ rows }
     requires rows { rows ≤ most_rows }
     requires readable { IsReadable log.now.lines }
-    requires count { length log.now.lines < calls_taken }
+    requires count { length log.now.lines < most_calls }
     ensures rest { IfOk result (IsBetweenPhases T.tree P.knows T.serves T.many) }
     ensures rows { IfOk result (λ player. player.rows ≡ rows) }
     ensures played { IfOk result (λ player. (phase : ℕ) × IsPlayed phase log.now.lines (player_state T.tree P.knows player)) }
@@ -219,7 +232,7 @@ pub fn play<
     requires few_rows { fewest_rows ≤ rows }
     requires rows { rows ≤ most_rows }
     requires readable { IsReadable log.now.lines }
-    requires count { length log.now.lines < 2 ^ 62 - 1 }
+    requires count { length log.now.lines < most_calls }
     ensures run { IfOk result (λ t. IsRun log.now rows t) }
     ensures turns { IfOk result (λ t. AllTurned (G.passed gate.now) log.now.lines) }
 {
@@ -247,7 +260,7 @@ pub fn play_image<
     requires few_rows { fewest_rows ≤ rows }
     requires rows { rows ≤ most_rows }
     requires readable { IsReadable log.now.lines }
-    requires count { length log.now.lines < 2 ^ 62 - 1 }
+    requires count { length log.now.lines < most_calls }
     requires tree { trees_of log.now.lines ≢ [] }
     ensures image { IfOk result (λ bytes. IsImageOfRun rows log.now bytes.items) }
     ensures turns { IfOk result (λ bytes. AllTurned (G.passed gate.now) log.now.lines) }

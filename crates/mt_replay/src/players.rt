@@ -10,7 +10,8 @@ ghost use Rattle.mt_linearize.specs.Lines.{phase_behind};
 ghost use Rattle.mt_linearize.specs.Phases.{histories_of};
 ghost use Rattle.mt_desks.specs.Dealing.{IsOnePhase};
 ghost use Rattle.mt_replay.specs.Makes.{BeginAs, declared_kind};
-ghost use Rattle.mt_replay.specs.Trees.{AreAll, fewest_rows, most_passes};
+ghost use Rattle.mt_replay.specs.Trees.{AreAll, player_passes};
+ghost use Rattle.mt_base.specs.Limits.{fewest_rows};
 ghost use Rattle.mt_replay.specs.Players.{BeginsPhase, Checks, Copies, HasImage, HasRanges, IsBetweenPhases, IsBegun, IsCopyIn, IsPlayedBy};
 ghost use Rattle.mt_replay.specs.Players.{OpensTree, rows_known, player_state};
 
@@ -44,7 +45,7 @@ impl<P: Passage + Drop + Send, T: Plays<P> + Send> Player<P, T> {
         requires few_rows { fewest_rows ≤ rows }
         requires rows { rows ≤ most_rows }
         requires some_pass { 1 ≤ passes }
-        requires passes { passes ≤ most_passes }
+        requires passes { passes ≤ player_passes }
         ensures rest { IsBetweenPhases T.tree P.knows T.serves T.many result }
         ensures played { IsPlayedBy 0 [] (player_state T.tree P.knows result) [] }
         ensures none { result.trees.items ≡ [] }

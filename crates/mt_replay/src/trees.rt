@@ -5,7 +5,8 @@ ghost use Rattle.mt_base.specs.declared.kinds.Kind.{Kind};
 ghost use Rattle.mt_base.specs.Width.{most_rows};
 ghost use Rattle.mt_base.specs.Passes.{Saw, Settled};
 ghost use Rattle.mt_image.specs.Images.{IsImageOfMap};
-ghost use Rattle.mt_replay.specs.Trees.{AreAll, IsNewTree, fewest_rows, map_seen, most_passes, seen_by};
+ghost use Rattle.mt_replay.specs.Trees.{AreAll, IsNewTree, map_seen, player_passes, seen_by};
+ghost use Rattle.mt_base.specs.Limits.{fewest_rows};
 
 use mt_base::{Kind, NoMemory, Range};
 use mt_desks::{Passage, Shared};
@@ -48,7 +49,7 @@ pub trait Plays<P: Passage>: Shared<P> + Drop + Sized {
         requires few_rows { fewest_rows ≤ rows }
         requires rows { rows ≤ most_rows }
         requires some_pass { 1 ≤ passes }
-        requires passes { passes ≤ most_passes }
+        requires passes { passes ≤ player_passes }
         requires zeros { zeros_serve zeros.now kind rows }
         ensures new { IfOk result (λ made. IsNewTree kind rows [] passes (Self.tree made.0) (map P.knows made.1.items)) }
         ensures all { IfOk result (λ made. AreAll P.knows Self.serves passes made.0 made.1.items) }

@@ -1,7 +1,8 @@
 //! The tree on one thread beside a sorted list, and stories of calls.
 
-ghost use Rattle.std.specs.Prelude.{◌≡◌, ◌<◌, ◌+◌, ◌-◌, ◌^◌, ◌≤◌, IfOk, length};
+ghost use Rattle.std.specs.Prelude.{◌≡◌, ◌<◌, ◌+◌, ◌≤◌, IfOk, length};
 ghost use Rattle.mt_base.specs.Width.{most_rows};
+ghost use Rattle.mt_base.specs.Limits.{most_calls};
 
 /// A call, by its verb and its numbers. What seeks room stores the entry 1.
 macro_rules! call {
@@ -101,7 +102,7 @@ fn expect_walk(rt: &impl Abort, engine: &mut Engine<PlainRows>, index: u64, rang
 
 /// Makes these calls, which are answered so.
 fn expect_replies(rt: &impl Abort, engine: &mut Engine<PlainRows>, calls: &[(Call, Reply)])
-    requires few { engine.old.sheet.ended + length calls.now < 2 ^ 62 - 1 }
+    requires few { engine.old.sheet.ended + length calls.now < most_calls }
 {
     for (call, want) in calls {
         same(rt, engine.apply(call), *want, *call);
@@ -117,7 +118,7 @@ fn expect_same(
     list: &mut ListMap,
     call: &Call,
 ) -> Result<(), NoMemory>
-    requires { engine.old.sheet.ended < 2 ^ 62 - 1 }
+    requires { engine.old.sheet.ended < most_calls }
     ensures { engine.new.sheet.ended ≡ engine.old.sheet.ended + 1 }
 {
     let reply = engine.apply(call);
@@ -192,7 +193,7 @@ fn expect_all_same(
     list: &mut ListMap,
     calls: &[Call],
 ) -> Result<(), NoMemory>
-    requires few { engine.old.sheet.ended + length calls.now < 2 ^ 62 - 1 }
+    requires few { engine.old.sheet.ended + length calls.now < most_calls }
     ensures { engine.new.sheet.ended ≤ engine.old.sheet.ended + length calls.now }
 {
     for call in calls {

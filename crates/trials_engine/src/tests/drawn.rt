@@ -1,4 +1,5 @@
 ghost use Rattle.std.specs.Prelude.{◌≡◌, ◌<◌, ◌+◌, ◌-◌, ◌^◌, OnOk};
+ghost use Rattle.mt_base.specs.Limits.{most_calls};
 
 use crate::tests::{TOP, TOP32, expect_answers, fresh_of, same};
 use mt_base::{Call, Kind, MOST_ROWS, NoMemory, Query, Reply};
@@ -116,7 +117,7 @@ fn expect_call(
     list: &mut ListMap,
     draws: &mut Draws,
 ) -> Result<(), NoMemory>
-    requires { engine.old.sheet.ended < 2 ^ 62 - 1 }
+    requires { engine.old.sheet.ended < most_calls }
     ensures { engine.new.sheet.ended ≡ engine.old.sheet.ended + 1 }
 {
     let call = draws.call(list);

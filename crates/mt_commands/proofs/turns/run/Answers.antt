@@ -1,5 +1,5 @@
-use Rattle.mt_commands.proofs.Prelude.{rules, ◌≡◌, ◌≤◌, ◌+◌, ◌*◌, ◌<◌, ◌^◌, ℕ, length, refl, sym, ap, ◌∙◌, subst, arith, map_seen, pass_in, turns_at, turns}
-use Rattle.mt_commands.proofs.Running.{at_start, few_now, one_turn_more, tally_now, window_now}
+use Rattle.mt_commands.proofs.Prelude.{rules, length, ap, arith, pass_in, turns_at}
+use Rattle.mt_commands.proofs.Running.{at_start, few_now, one_turn_more, window_now}
 use Rattle.mt_commands.proofs.turns.run.Goals as goal
 
 pub loop-i-init : goal.loop-i-init

@@ -1,7 +1,7 @@
-use Rattle.mt_commands.proofs.Prelude.{rules, ◌≡◌, ◌≤◌, ◌+◌, ℕ, List, length, refl, sym, ap, ◌∙◌, subst, arith, Range, Record, Tree, most_calls, map_seen, pass_in, still_of, HasOnePass, IsFew, turns_at, Turns, turn}
-use Rattle.mt_base.specs.Passes as known
+use Rattle.mt_commands.proofs.Prelude.{rules, ◌≡◌, ◌≤◌, ◌+◌, List, length, sym, ap, ◌∙◌, subst, arith, Range, Record, Tree, map_seen, pass_in, still_of, HasOnePass, IsFew, turns_at, turn}
 use Rattle.mt_commands.proofs.Turning.{shows_same}
 use Rattle.mt_commands.proofs.turns.turn.Goals as goal
+use Rattle.mt_base.specs.Limits.{most_calls, most_steps}
 
 pub turn_under-requires-clause-only : goal.turn_under-requires-clause-only
 turn_under-requires-clause-only g c = subst HasOnePass (sym c.lock-write.ensures.tree) c.requires.only
@@ -12,7 +12,7 @@ turn_under-requires-clause-pass g c = (shows_same c.args.tree.now (pass_in c.arg
 pub turn_under-requires-clause-few : goal.turn_under-requires-clause-few
 turn_under-requires-clause-few g c =
     let same = shows_same c.args.tree.now (pass_in c.args.pass.now) (pass_in c.lock-write.result.pass.now) c.requires.only c.requires.pass c.lock-write.ensures.saw c.lock-write.ensures.callers in
-    subst (λ (t : Tree). IsFew (map_seen t (pass_in c.lock-write.result.pass.now)) 100000) (sym c.lock-write.ensures.tree) (subst (λ (m : List Range). IsFew m 100000) (sym same.map) c.requires.few)
+    subst (λ (t : Tree). IsFew (map_seen t (pass_in c.lock-write.result.pass.now)) most_steps) (sym c.lock-write.ensures.tree) (subst (λ (m : List Range). IsFew m most_steps) (sym same.map) c.requires.few)
 
 pub turn_under-requires-clause-calls : goal.turn_under-requires-clause-calls
 turn_under-requires-clause-calls g c =

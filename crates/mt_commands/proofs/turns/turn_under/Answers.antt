@@ -1,10 +1,10 @@
-use Rattle.mt_commands.proofs.Prelude.{◌≡◌, ◌≤◌, ◌+◌, ℕ, List, Some, length, refl, sym, ap, ◌∙◌, subst, arith, Erase, Range, acted, Tree, map_seen, pass_in, HasOnePass, IsFew, found_in, map_behind, map_without}
+use Rattle.mt_commands.proofs.Prelude.{◌≡◌, ◌≤◌, ◌+◌, List, Some, length, sym, ap, ◌∙◌, subst, Erase, Range, acted, Tree, map_seen, pass_in, HasOnePass, found_in, map_behind}
 use Rattle.mt_base.specs.declared.kinds.Kind.TheVariants as kinds
-use Rattle.mt_base.specs.Passes as known
 use Rattle.mt_commands.proofs.Drawing.{turned}
 use Rattle.mt_commands.proofs.FewTurns.{drawn_few}
 use Rattle.mt_commands.proofs.OnlyCalls.{only_on}
 use Rattle.mt_commands.proofs.turns.turn_under.Goals as goal
+use Rattle.mt_base.specs.Limits.{most_steps}
 
 pub give_back-requires-clause-only : goal.give_back-requires-clause-only
 give_back-requires-clause-only c = subst HasOnePass (sym (ap (λ r. r.now) c.draw-drawn.ensures.tree)) c.requires.only
@@ -15,7 +15,7 @@ give_back-requires-clause-few c =
     let p = pass_in c.args.write.now.pass.now in
     let q = pass_in c.draw-drawn.new.write.pass.now in
     let found = found_in c.draw-drawn.result in
-    let few = drawn_few (map_seen t p) 100000 (4096 + c.args.n) c.args.ids.now found c.requires.window c.requires.few (sym c.draw-drawn.ensures.drawn) in
+    let few = drawn_few (map_seen t p) most_steps (4096 + c.args.n) c.args.ids.now found c.requires.window c.requires.few (sym c.draw-drawn.ensures.drawn) in
     let map_is : map_seen c.draw-drawn.new.write.tree.now q ≡ map_behind (4096 + c.args.n) (map_seen t p) found = ap (λ (x : Tree). map_seen x q) (ap (λ r. r.now) c.draw-drawn.ensures.tree) ∙ c.draw-drawn.ensures.map in
     subst (λ (m : List Range). length m ≤ 100001) (sym map_is) few.few
 

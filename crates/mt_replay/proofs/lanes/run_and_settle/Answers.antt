@@ -7,7 +7,7 @@ returns-clause-gone g c = record {
   between = rows_known g.P.Passage.knows c.run_lanes.new.seats;
   run = c.in_ok-run_lanes.ensures.run;
   settled = c.settle_all.ensures.settled;
-  manned = manned_settled g.T.Shared.tree g.P.Passage.knows g.T.Shared.serves g.T.Plays.many (c.args.lanes + 1) c.args.trees.now c.run_lanes.new.seats c.settle_all.new.seats c.requires.many c.in_ok-run_lanes.ensures.manned c.settle_all.ensures.settled c.settle_all.ensures.all;
+  manned = manned_settled g.T.Shared.tree g.P.Passage.knows g.T.Shared.serves g.T.Plays.many (c.args.phase.lanes + 1) c.args.trees.now c.run_lanes.new.seats c.settle_all.new.seats c.requires.many c.in_ok-run_lanes.ensures.manned c.settle_all.ensures.settled c.settle_all.ensures.all;
 }
 
 pub settle_all-requires-clause-all : goal.settle_all-requires-clause-all

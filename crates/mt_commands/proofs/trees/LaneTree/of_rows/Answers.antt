@@ -1,11 +1,11 @@
-use Rattle.mt_commands.proofs.Prelude.{Err, refl, sym, ap, ◌∙◌, arith, most_rows, few_reached, sheet_in, calls_taken}
+use Rattle.mt_commands.proofs.Prelude.{Err, refl, sym, ap, ◌∙◌, arith, most_rows, few_reached, sheet_in, most_calls}
 use Rattle.mt_commands.proofs.Lanes.{in_range, many, new_tree}
 use Rattle.mt_commands.proofs.trees.LaneTree.of_rows.Goals as goal
 
 pub unreachable-requires : goal.unreachable-requires
 unreachable-requires c =
     let bad = (c.of_rows.ensures.bad c.in-Err-BadShape.field-0-0).0 (c.in-Err-BadShape.is ∙ ap Err c.in-Err-BadShape.field-0-is) in
-    let good = in_range (record { kind = c.args.kind; rows = most_rows; passes = 1; calls = calls_taken }) (omega arith) (omega arith) (omega arith) (omega arith) refl in
+    let good = in_range (record { kind = c.args.kind; rows = most_rows; passes = 1; calls = most_calls }) (omega arith) (omega arith) (omega arith) (omega arith) refl in
     absurd (let clash = sym good ∙ bad in cc)
 
 pub unreachable-requires-in-Err-NoNodes : goal.unreachable-requires-in-Err-NoNodes

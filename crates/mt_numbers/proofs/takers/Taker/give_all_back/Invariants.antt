@@ -6,4 +6,4 @@ abbrev pub invariant-loop-given : goal.invariant-loop-given
 invariant-loop-given g l =
     (vec_len l.self.held ≡ vec_len l.initial.self.held - l._given)
     × (l.self.tally.taken ≡ l.initial.self.tally.taken)
-    × IsTallied l.initial.self.tally l.self.tally (g.N.Numbers.taken l.initial.self.numbers) (g.N.Numbers.taken l.self.numbers) (g.N.Numbers.given_back l.initial.self.numbers) (g.N.Numbers.given_back l.self.numbers)
+    × IsTallied g.N.Numbers.taken g.N.Numbers.given_back l.initial.self.tally l.self.tally l.initial.self.numbers l.self.numbers

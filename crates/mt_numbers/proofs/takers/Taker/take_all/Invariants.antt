@@ -6,4 +6,4 @@ abbrev pub invariant-loop-taken : goal.invariant-loop-taken
 invariant-loop-taken g l =
     (vec_len l.self.held ≤ l._taken)
     × (l.self.tally.taken ≤ l.initial.self.tally.taken + l._taken)
-    × IsTallied l.initial.self.tally l.self.tally (g.N.Numbers.taken l.initial.self.numbers) (g.N.Numbers.taken l.self.numbers) (g.N.Numbers.given_back l.initial.self.numbers) (g.N.Numbers.given_back l.self.numbers)
+    × IsTallied g.N.Numbers.taken g.N.Numbers.given_back l.initial.self.tally l.self.tally l.initial.self.numbers l.self.numbers
