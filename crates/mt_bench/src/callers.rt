@@ -5,7 +5,7 @@ ghost use Rattle.std.specs.Arc.{arc_value};
 ghost use Rattle.mt_tree.specs.Trees.{IsPassOf};
 
 use crate::trees::{TimedTree, Visit};
-use mt_base::{Call, Kind, MOST_ROWS, Reply, Steps};
+use mt_base::{Call, Kind, Reply, Steps};
 use mt_tree::{Cursor, Form, MOST_CALLS, Pass, Shape};
 use std::alloc::Global;
 use std::marker::Brand;
@@ -22,6 +22,24 @@ fn load_counted<L: Ledger>(tree: &mt_tree::Tree, pass: &mut Pass, index: u64, bl
 {
     let mut steps = Steps::<L>::new(blank);
     tree.load(pass, index, &mut steps).value.unwrap_or(0)
+}
+
+/// Puts the entries at these indexes, by one batch, in a number of steps that is counted.
+fn load_many_counted<L: Ledger>(
+    tree: &mt_tree::Tree,
+    pass: &mut Pass,
+    indexes: &[u64],
+    entries: &mut [u64],
+    blank: Blank,
+)
+    requires of { IsPassOf tree.now pass.old }
+    requires name { blank.name ≡ L.name }
+    requires parts { blank.parts ≡ L.parts }
+    requires some { 0 < blank.parts }
+    ensures { IsPassOf tree.now pass.new }
+{
+    let mut steps = Steps::<L>::new(blank);
+    tree.load_many(pass, indexes, entries, &mut steps);
 }
 
 /// Takes each range that a cursor finds, until it finds none.
@@ -115,9 +133,9 @@ impl<'a, R> TimedCaller<'a, R> {
         TimedCaller::each(rt, alloc, &shared, passes)
     }
 
-    /// So many callers of an empty tree of this kind, or none where there is no memory.
-    pub fn all(rt: &'a R, alloc: Global, kind: Kind, passes: u32) -> Option<Vec<Self>> {
-        let shape = shape_of(kind, MOST_ROWS, passes);
+    /// So many callers of an empty tree of this kind with so many nodes, or none where there is no memory.
+    pub fn all(rt: &'a R, alloc: Global, kind: Kind, rows: u64, passes: u32) -> Option<Vec<Self>> {
+        let shape = shape_of(kind, rows, passes);
         let Ok((tree, passes)) = mt_tree::Tree::make(alloc, shape) else {
             return None;
         };
@@ -128,19 +146,21 @@ impl<'a, R> TimedCaller<'a, R> {
 impl<'a, R: Wait> TimedCaller<'a, R> {
     /// The form of the tree's words.
     pub fn check(&mut self) -> Form {
-        self.tree.check(self.rt, &mut self.pass)
+        let (form, _look) = self.tree.check(self.rt, &mut self.pass);
+        form
     }
 
     /// A copy in `rows` nodes, or none if there was no room.
     pub fn dup(&mut self, alloc: Global, rows: u64) -> Option<mt_tree::Tree> {
         let shape = shape_of(self.tree.shape().kind, rows, 1);
-        let copied = self.tree.dup(self.rt, alloc, &mut self.pass, shape);
+        let (copied, _look) = self.tree.dup(self.rt, alloc, &mut self.pass, shape);
         Some(copied.ok()?.0)
     }
 
     /// An image of the tree, or none where there was no room.
     pub fn image(&mut self, alloc: Global) -> Option<Vec<u8>> {
-        self.tree.image(self.rt, alloc, &mut self.pass).ok()
+        let (image, _look) = self.tree.image(self.rt, alloc, &mut self.pass);
+        image.ok()
     }
 }
 
@@ -157,11 +177,8 @@ impl<'a, R: Wait> TimedTree for TimedCaller<'a, R> {
         load_counted::<Brand>(&self.tree, &mut self.pass, index, Blank::new(1))
     }
 
-    /// One load after the other.
     fn load_many(&mut self, indexes: &[u64], entries: &mut [u64]) {
-        for (index, entry) in indexes.iter().zip(entries) {
-            *entry = self.load(*index);
-        }
+        load_many_counted::<Brand>(&self.tree, &mut self.pass, indexes, entries, Blank::new(1));
     }
 
     fn visit(&mut self) -> Visit {

@@ -4,9 +4,10 @@ use crate::callers::TimedCaller;
 use crate::draws::DrawnIndexes;
 use crate::figures::{BenchOutcome, Figure, TimedReport};
 use crate::jobs::{Setting, nanos_since};
-use crate::tasks::{Job, MapSize, TimedTask};
+use crate::tasks::{Bench, Job};
 use crate::trees::TimedTree;
 use crate::works::{entry_of, erase, first_of, load, store, store_all};
+use mt_base::MOST_ROWS;
 use std::alloc::Global;
 use std::rt::Clock;
 use std::sync::Wait;
@@ -128,14 +129,13 @@ impl<T: TimedTree + Drop> Worker<T> {
 
 /// The workers on one tree with all ranges: the writer first, where there is one, and then the readers.
 fn crew<'a, R: Wait>(
-    rt: &'a R,
-    alloc: Global,
-    task: TimedTask,
-    extent: MapSize,
+    bench: &Bench<'a, R>,
     order: &[u32],
 ) -> Option<Vec<Worker<TimedCaller<'a, R>>>> {
+    let (alloc, task) = (bench.alloc, bench.task);
     let writers = u32::from(matches!(task.job, Job::Conc));
-    let mut callers = TimedCaller::all(rt, alloc, task.kind, task.threads.saturating_add(writers))?;
+    let threads = task.threads.saturating_add(writers);
+    let mut callers = TimedCaller::all(bench.rt, alloc, task.kind, MOST_ROWS, threads)?;
     if !store_all(callers.first_mut()?, order) {
         return None;
     }
@@ -145,7 +145,7 @@ fn crew<'a, R: Wait>(
         let worker = if seed < 100 {
             Worker::new(alloc, tree, task.ranges, true, 9, u64::MAX)?
         } else {
-            Worker::new(alloc, tree, task.ranges, false, seed, extent.loads)?
+            Worker::new(alloc, tree, task.ranges, false, seed, bench.extent.loads)?
         };
         workers.push(worker).ok()?;
         seed = seed.saturating_add(1);
@@ -155,20 +155,18 @@ fn crew<'a, R: Wait>(
 
 /// The workers of lanes, each on a tree of its own with all ranges.
 fn lanes<'a, R: Wait>(
-    rt: &'a R,
-    alloc: Global,
-    task: TimedTask,
-    extent: MapSize,
+    bench: &Bench<'a, R>,
     order: &[u32],
 ) -> Option<Vec<Worker<TimedCaller<'a, R>>>> {
+    let (alloc, ranges, calls) = (bench.alloc, bench.task.ranges, bench.extent.calls);
     let mut workers = Vec::new(alloc);
     for number in 0..TREES {
-        let mut callers = TimedCaller::all(rt, alloc, task.kind, 1)?;
+        let mut callers = TimedCaller::all(bench.rt, alloc, bench.task.kind, MOST_ROWS, 1)?;
         let mut tree = callers.pop()?;
         if !store_all(&mut tree, order) {
             return None;
         }
-        let worker = Worker::new(alloc, tree, task.ranges, true, 200 + number, extent.calls)?;
+        let worker = Worker::new(alloc, tree, ranges, true, 200 + number, calls)?;
         workers.push(worker).ok()?;
     }
     Some(workers)
@@ -205,26 +203,21 @@ fn sums_of<T: TimedTree + Drop>(workers: &mut [Worker<T>]) -> Option<(u64, u64)>
 }
 
 /// The results of readers on one tree, beside a thread that writes if the job has one.
-pub fn together<R: Threads + Wait + Clock + Sync>(
-    rt: &R,
-    alloc: Global,
-    task: TimedTask,
-    extent: MapSize,
-) -> Option<BenchOutcome> {
-    let setting = Setting::new(alloc, task)?;
-    let mut workers = crew(rt, alloc, task, extent, &setting.rand)?;
+pub fn together<R: Threads + Wait + Clock + Sync>(bench: &Bench<'_, R>) -> Option<BenchOutcome> {
+    let setting = Setting::new(bench.alloc, bench.task)?;
+    let mut workers = crew(bench, &setting.rand)?;
     let threads = workers.len();
-    let nanos = at_once(rt, &mut workers, threads, task.threads)?;
+    let readers = bench.task.threads;
+    let nanos = at_once(bench.rt, &mut workers, threads, readers)?;
     let (sum, writes) = sums_of(&mut workers)?;
-    let readers = task.threads;
-    let loads = extent.loads.saturating_mul(u64::from(readers));
+    let loads = bench.extent.loads.saturating_mul(u64::from(readers));
     let reads = Figure::of(loads.saturating_mul(1000), nanos);
     let report = TimedReport::Rates {
         readers,
         reads,
         writes: Figure::of(writes.saturating_mul(1000), nanos),
     };
-    let number = if matches!(task.job, Job::Conc) {
+    let number = if matches!(bench.task.job, Job::Conc) {
         1
     } else {
         sum
@@ -237,16 +230,11 @@ pub fn together<R: Threads + Wait + Clock + Sync>(
 }
 
 /// The results of calls on four trees, each at work in one of the threads.
-pub fn apart<R: Threads + Wait + Clock + Sync>(
-    rt: &R,
-    alloc: Global,
-    task: TimedTask,
-    extent: MapSize,
-) -> Option<BenchOutcome> {
-    let setting = Setting::new(alloc, task)?;
-    let mut workers = lanes(rt, alloc, task, extent, &setting.rand)?;
-    let threads = task.threads;
-    let nanos = at_once(rt, &mut workers, threads as usize, 1)?;
+pub fn apart<R: Threads + Wait + Clock + Sync>(bench: &Bench<'_, R>) -> Option<BenchOutcome> {
+    let setting = Setting::new(bench.alloc, bench.task)?;
+    let mut workers = lanes(bench, &setting.rand)?;
+    let threads = bench.task.threads;
+    let nanos = at_once(bench.rt, &mut workers, threads as usize, 1)?;
     let (held, number) = sums_of(&mut workers)?;
     let report = TimedReport::Whole {
         threads,

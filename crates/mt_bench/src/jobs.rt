@@ -4,8 +4,8 @@
 use crate::callers::TimedCaller;
 use crate::draws::shuffled;
 use crate::figures::{BenchOutcome, Figure, TimedReport};
-use crate::tasks::{Job, MapSize, TimedTask};
-use crate::trees::{Nodes, TimedTree};
+use crate::tasks::{Bench, Job, MapSize, TimedTask};
+use crate::trees::{Nodes, TimedTree, rows_for};
 use crate::works::{
     End, allocate_all, churn, erase_all, fill_holes, highest_of, load, load_many, overwrite,
     store_all, store_wide, visit, visit_many, wide_stores,
@@ -126,10 +126,10 @@ fn one_round<R: Clock + Wait>(
     setting: &mut Setting,
 ) -> Option<Round> {
     if task.shared {
-        let mut callers = TimedCaller::all(rt, alloc, task.kind, 1)?;
+        let mut callers = TimedCaller::all(rt, alloc, task.kind, rows_for(task.ranges), 1)?;
         return round_on(rt, callers.first_mut()?, task.job, times, setting);
     }
-    let mut tree = Nodes::new(alloc, task.kind).ok()?;
+    let mut tree = Nodes::new(alloc, task.kind, task.ranges).ok()?;
     round_on(rt, &mut tree, task.job, times, setting)
 }
 
@@ -167,12 +167,8 @@ fn nanos_of_all<R: Clock + Wait>(
 }
 
 /// The mean time of an operation, over all rounds but the first.
-pub fn alone<R: Clock + Wait>(
-    rt: &R,
-    alloc: Global,
-    task: TimedTask,
-    extent: MapSize,
-) -> Option<BenchOutcome> {
+pub fn alone<R: Clock + Wait>(bench: &Bench<'_, R>) -> Option<BenchOutcome> {
+    let (rt, alloc, task, extent) = (bench.rt, bench.alloc, bench.task, bench.extent);
     let mut setting = Setting::new(alloc, task)?;
     let Round { number, held, .. } = one_round(rt, alloc, task, extent.times, &mut setting)?;
     let (rounds, operations) = rounds_of(task, extent);

@@ -34,7 +34,7 @@ use crate::crews::{apart, together};
 use crate::figures::BenchOutcome;
 use crate::jobs::alone;
 use crate::sweeps::swept;
-use crate::tasks::{Job, MapSize, TimedTask, task_of};
+use crate::tasks::{Bench, Job, MapSize, TimedTask, task_of};
 use std::alloc::{AllocError, Global};
 use std::process::ExitCode;
 use std::rt::{Clock, Env};
@@ -53,9 +53,15 @@ fn outcome_of<R: Threads + Wait + Clock + Sync>(
     task: TimedTask,
     extent: MapSize,
 ) -> Option<BenchOutcome> {
+    let bench = Bench {
+        rt,
+        alloc,
+        task,
+        extent,
+    };
     match task.job {
-        Job::Readers | Job::Conc => together(rt, alloc, task, extent),
-        Job::Lanes => apart(rt, alloc, task, extent),
+        Job::Readers | Job::Conc => together(&bench),
+        Job::Lanes => apart(&bench),
         Job::Build => build_times(rt, alloc, task),
         Job::NodesSeq
         | Job::NodesRand
@@ -63,8 +69,8 @@ fn outcome_of<R: Threads + Wait + Clock + Sync>(
         | Job::Dup
         | Job::DupMost
         | Job::Image
-        | Job::Read => swept(rt, alloc, task, extent),
-        _ => alone(rt, alloc, task, extent),
+        | Job::Read => swept(&bench),
+        _ => alone(&bench),
     }
 }
 

@@ -3,7 +3,7 @@
 use crate::callers::TimedCaller;
 use crate::figures::{BenchOutcome, Figure, TimedReport};
 use crate::jobs::{Setting, nanos_since};
-use crate::tasks::{Job, MapSize, TimedTask};
+use crate::tasks::{Bench, Job};
 use crate::trees::TimedTree;
 use crate::works::store_all;
 use mt_base::MOST_ROWS;
@@ -67,14 +67,10 @@ fn nanos_of_all<R: Wait + Clock>(
 }
 
 /// The result of a job on a tree with all ranges, stored in random order unless the nodes of the other order are counted.
-pub fn swept<R: Wait + Clock>(
-    rt: &R,
-    alloc: Global,
-    task: TimedTask,
-    extent: MapSize,
-) -> Option<BenchOutcome> {
+pub fn swept<R: Wait + Clock>(bench: &Bench<'_, R>) -> Option<BenchOutcome> {
+    let (rt, alloc, task) = (bench.rt, bench.alloc, bench.task);
     let setting = Setting::new(alloc, task)?;
-    let mut callers = TimedCaller::all(rt, alloc, task.kind, 1)?;
+    let mut callers = TimedCaller::all(rt, alloc, task.kind, MOST_ROWS, 1)?;
     let caller = callers.first_mut()?;
     let stored = match task.job {
         Job::NodesSeq => store_all(caller, &setting.seq),
@@ -87,8 +83,8 @@ pub fn swept<R: Wait + Clock>(
     let figure = match task.job {
         Job::NodesSeq | Job::NodesRand => Figure::of(form.rows, u64::from(task.ranges)),
         job => {
-            let nanos = nanos_of_all(rt, caller, alloc, job, form.rows, extent.rounds)?;
-            Figure::of(nanos, extent.rounds)
+            let nanos = nanos_of_all(rt, caller, alloc, job, form.rows, bench.extent.rounds)?;
+            Figure::of(nanos, bench.extent.rounds)
         }
     };
     Some(BenchOutcome {

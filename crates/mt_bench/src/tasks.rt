@@ -1,6 +1,7 @@
 //! What words ask for.
 
 use mt_base::Kind;
+use std::alloc::Global;
 
 /// What is done.
 #[derive(Clone, Copy)]
@@ -89,6 +90,15 @@ pub struct MapSize {
     pub loads: u64,
     /// Each of the trees of lanes is called so often.
     pub calls: u64,
+}
+
+/// A task at hand: by whom its threads run and time is told, its memory, and how much is done.
+#[derive(Drop)]
+pub struct Bench<'a, R> {
+    pub rt: &'a R,
+    pub alloc: Global,
+    pub task: TimedTask,
+    pub extent: MapSize,
 }
 
 /// The job of a word.

@@ -1,16 +1,15 @@
 //! The trees that works are done on.
 
+ghost use Rattle.std.specs.Prelude.{◌≤◌};
+ghost use Rattle.mt_base.specs.Width.{most_rows};
 ghost use Rattle.mt_rows.specs.Sheet.{OnlyReads};
 
-use mt_base::{Call, Kind, MOST_ROWS, NoMemory, Range, Reply, width_of};
+use mt_base::{Call, Kind, MOST_CALLS, MOST_ROWS, NoMemory, Range, Reply, width_of};
 use mt_engine::Engine;
 use mt_free::RowBook;
 use mt_rows::PlainRows;
 use std::alloc::Global;
 use std::marker::Model;
-
-/// So many calls are made on one tree at most.
-const MOST_CALLS: u64 = 1 << 60;
 
 /// This many loads or steps are one batch.
 pub const BATCH: usize = 64;
@@ -55,6 +54,14 @@ impl Visit {
     }
 }
 
+/// How many nodes a tree has on which one thread does a work with so many ranges: more than it uses. A table with as
+/// many as there can be would take 16 MB, and its zeros would push the first nodes out of the cache.
+pub fn rows_for(ranges: u32) -> u64
+    ensures { result ≤ most_rows }
+{
+    MOST_ROWS.min(u64::from(ranges) + 128)
+}
+
 /// A tree of nodes, and how many calls were made on it.
 #[derive(Drop)]
 pub struct Nodes {
@@ -73,10 +80,11 @@ impl Model for Nodes {
 }
 
 impl Nodes {
-    /// An empty tree of this kind, or none where there is no memory.
-    pub fn new(alloc: Global, kind: Kind) -> Result<Self, NoMemory> {
-        let rows = PlainRows::of_width(alloc, width_of(kind), MOST_ROWS)?;
-        let book = RowBook::new(alloc, MOST_ROWS)?;
+    /// An empty tree of this kind for so many ranges, or none where there is no memory.
+    pub fn new(alloc: Global, kind: Kind, ranges: u32) -> Result<Self, NoMemory> {
+        let size = rows_for(ranges);
+        let rows = PlainRows::of_width(alloc, width_of(kind), size)?;
+        let book = RowBook::new(alloc, size)?;
         Ok(Nodes {
             engine: Engine::new(rows, book, kind),
             calls: 0,

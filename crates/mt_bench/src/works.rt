@@ -131,32 +131,30 @@ pub fn load_many(tree: &mut impl TimedTree, ranges: u32, times: u64, seed: u64) 
     sum
 }
 
+/// Visits all ranges by a call of the tree until `times` ranges were visited, and sums them up: the loop stands in each caller.
+macro_rules! visited_by {
+    ($tree:expr, $call:ident, $times:expr) => {{
+        let (mut count, mut sum) = (0_u64, 0_u64);
+        for _ in 0..$times {
+            if $times <= count {
+                break;
+            }
+            let visited = $tree.$call();
+            count = count.wrapping_add(visited.count);
+            sum = sum.wrapping_add(visited.sum);
+        }
+        sum
+    }};
+}
+
 /// Visits all ranges in order, in batches, until `times` ranges were visited, and sums them up.
 pub fn visit_many(tree: &mut impl TimedTree, times: u64) -> u64 {
-    let (mut count, mut sum) = (0_u64, 0_u64);
-    for _ in 0..times {
-        if times <= count {
-            break;
-        }
-        let visited = tree.visit_many();
-        count = count.wrapping_add(visited.count);
-        sum = sum.wrapping_add(visited.sum);
-    }
-    sum
+    visited_by!(tree, visit_many, times)
 }
 
 /// Visits all ranges in order, until `times` ranges were visited, and sums them up.
 pub fn visit(tree: &mut impl TimedTree, times: u64) -> u64 {
-    let (mut count, mut sum) = (0_u64, 0_u64);
-    for _ in 0..times {
-        if times <= count {
-            break;
-        }
-        let visited = tree.visit();
-        count = count.wrapping_add(visited.count);
-        sum = sum.wrapping_add(visited.sum);
-    }
-    sum
+    visited_by!(tree, visit, times)
 }
 
 /// The erase of range number `i`.

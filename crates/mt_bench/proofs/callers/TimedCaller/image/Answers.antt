@@ -1,8 +1,8 @@
 use Rattle.mt_bench.proofs.Prelude.{sym, still_of}
 use Rattle.mt_bench.proofs.callers.TimedCaller.image.Goals as goal
 
-pub image-requires : goal.image-requires
-image-requires g c = still_of _ _ _ (sym c.deref.ensures) c.args.self.now.of
+pub image-image-requires : goal.image-image-requires
+image-image-requires g c = still_of _ _ _ (sym c.deref.ensures) c.args.self.now.of
 
 pub invariant_of-self : goal.invariant_of-self
-invariant_of-self g c = record { of = still_of _ _ _ c.deref.ensures c.image.ensures.of }
+invariant_of-self g c = record { of = still_of _ _ _ c.deref.ensures c.image-image.ensures.of }
