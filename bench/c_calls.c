@@ -149,16 +149,68 @@ static void enough_rows(uint32_t kind) {
     count = 0;
 }
 
-/* Opens another tree with the same map, in one of three ways, each refused first where it has to be. */
-/* A tree that keeps its reserve is emptied in any order, and refuses nothing that adds no range. */
+/* A store that keeps the reserve is refused where it adds ranges and the nodes are too few for them, and only there. */
+static void store_in_reserve(struct maple_tree *t, uint64_t rows, uint64_t *calls) {
+    static struct maple_range was[MOST];
+    uint64_t first = draw(SPAN), last = first + draw(draw(5) ? 9 : 300), entry = draw(4) ? 4 * draw(2000) + 1 : 0, old, met = 7;
+    size_t before = count;
+    memcpy(was, list, before * sizeof *was);
+    old = over(first, last, entry);
+    if (count > before && maple_rows_for(count) > rows) {
+        SAME("too many", maple_store_kept(t, first, last, entry, &met), ENOMEM); SAME("no entry", met, 0);
+        memcpy(list, was, before * sizeof *was); count = before;
+    } else {
+        SAME("a store", draw(9) || count > before ? maple_store_kept(t, first, last, entry, &met) : maple_store(t, first, last, entry, &met), 0);
+        SAME("over", met, old); ++*calls;
+    }
+}
+
+/* A tree that keeps its reserve is filled until it refuses a range more, and no sooner. Then it is emptied in any order, and refuses
+ * nothing that adds no range. A store by another export, after which the ranges are counted again, changes nothing of that. */
+static void in_reserve(uint32_t kind) {
+    struct maple_tree t = {0};
+    struct maple_range was;
+    struct maple_stats stats;
+    uint64_t rows = 6 + draw(60), start = 7, calls = 0;
+    SAME("closed", maple_store_kept(&t, 1, 2, 3, &start), EBADF); SAME("closed", start, 0); SAME("closed", maple_insert_kept(&t, 1, 2, 3), EBADF);
+    SAME("closed", maple_alloc_kept(&t, 1, 0, 9, 4, &start), EBADF); SAME("closed", maple_ralloc_kept(&t, 1, 0, 9, 4, &start), EBADF);
+    SAME("open", maple_open(&t, kind, rows), 0);
+    for (int step = 0; step < 4000; step++) {
+        uint64_t index = draw(SPAN);
+        uint32_t more = maple_rows_for(count + 1) <= rows ? 0 : ENOMEM;
+        if (!draw(50)) { SAME("no index", maple_store_kept(&t, index + 1, index, 8, &start), EINVAL); SAME("no entry", start, 0); calls++; }
+        switch (draw(4)) {
+        case 0:
+            if (count) { size_t at = draw(count); SAME("an erase", maple_erase(&t, list[at].first, &was), 0); drop(at); calls++; }
+            break;
+        case 1:
+            SAME("an insert", maple_insert_kept(&t, index, index, 8), more ? more : load(index) ? EEXIST : 0);
+            if (!more) { calls++; if (!load(index)) over(index, index, 8); }
+            break;
+        case 2:
+            if (kind == MAPLE_RANGE || kind == MAPLE_RANGE32) { store_in_reserve(&t, rows, &calls); break; }
+            SAME("an allocation", draw(2) ? maple_alloc_kept(&t, 1, 0, SPAN, 8, &start) : maple_ralloc_kept(&t, 1, 0, SPAN, 8, &start), more);
+            if (!more) { SAME("it was free", load(start) == 0, 1); over(start, start, 8); calls++; }
+            break;
+        default:
+            store_in_reserve(&t, rows, &calls);
+        }
+        SAME("in reserve", count == 0 || maple_rows_for(count) <= rows, 1);
+    }
+    whole(&t);
+    SAME("stats", maple_stats(&t, &stats), 0); SAME("no call more", stats.calls, calls);
+    while (count) { size_t at = draw(count); SAME("emptied", maple_erase(&t, list[at].first, &was), 0); drop(at); }
+    maple_close(&t);
+}
+
+/* A tree that keeps its reserve by the program is emptied in any order, and refuses nothing that adds no range. */
 static void emptied(uint32_t kind) {
     struct maple_tree t = {0};
     struct maple_range was;
     uint64_t rows = 20 + draw(40), old;
-    SAME("nothing for ever", maple_may_add(UINT64_MAX - 1, UINT64_MAX), 0);
     SAME("open", maple_open(&t, kind, rows), 0);
     for (int round = 0; round < 20; round++) {
-        while (maple_may_add(rows, count)) {
+        while (maple_rows_for(count + 2) <= rows) {
             uint64_t first = draw(SPAN), last = first + draw(9);
             SAME("a store in reserve", maple_store(&t, first, last, 8, &old), 0); over(first, last, 8);
         }
@@ -180,6 +232,7 @@ static void emptied(uint32_t kind) {
     maple_close(&t);
 }
 
+/* Opens another tree with the same map, in one of three ways, each refused first where it has to be. */
 static void again(struct maple_tree *t, struct maple_tree *other, uint32_t kind) {
     static uint8_t bytes[1 << 22], more[1 << 22];
     struct maple_form form, read;
@@ -404,7 +457,7 @@ int main(int argc, char **argv) {
     for (uint32_t kind = 0; kind < 4; kind++) {
         struct maple_tree trees[2] = {{0}, {0}}, *t = trees, *other = trees + 1;
         enough_rows(kind);
-        for (int n = 0; n < 20; n++) emptied(kind);
+        for (int n = 0; n < 20; n++) emptied(kind), in_reserve(kind);
         SAME("open", maple_open(t, kind, 4096), 0);
         rows_in(t, 4096);
         for (uint64_t step = 0; step < steps; step++) {

@@ -16,6 +16,8 @@
 
 typedef uint64_t u64;
 
+// as many nodes as the trees of mt_bench have
+#define ROWS (ranges + 128 < MAPLE_MOST_ROWS ? ranges + 128 : MAPLE_MOST_ROWS)
 static u64 ranges, times, *order, *starts;
 static volatile u64 sink;
 
@@ -180,6 +182,36 @@ static void own_step_many(struct maple_tree *tree)
     sink = sum;
 }
 
+/* The same of a shared tree. */
+static void shared_load_many(struct maple_user *user)
+{
+    u64 x = 7, sum = 0, indexes[BATCH], entries[BATCH];
+    struct maple_window window;
+
+    for (u64 left = times, n; left; left -= n) {
+        n = left < BATCH ? left : BATCH;
+        for (u64 k = 0; k < n; k++)
+            indexes[k] = draw(&x, 16 * ranges);
+        must(maple_shared_load_many(user, indexes, n, entries, n, &window));
+        for (u64 k = 0; k < n; k++)
+            sum += entries[k];
+    }
+    sink = sum;
+}
+
+static void shared_step_many(struct maple_user *user)
+{
+    struct maple_range found[MAPLE_MOST_STEPS];
+    struct maple_window window;
+    u64 sum = 0, count;
+
+    for (u64 n = 0; n < times;)
+        for (struct maple_walk walk = {0, 0}; maple_shared_step_many(user, &walk, found, MAPLE_MOST_STEPS, &count, &window) == 0; n += count)
+            for (u64 k = 0; k < count; k++)
+                sum += found[k].entry + found[k].first;
+    sink = sum;
+}
+
 /* A work: what stands before it, untimed, and whether it is done `times` times or once for each range. */
 #define WORK(name, before, for_each) \
     {#name, for_each, own_##before, own_##name, shared_##before, shared_##name}
@@ -192,7 +224,7 @@ static const struct work {
     void (*shared_before)(struct maple_user *), (*shared_work)(struct maple_user *);
 } works[] = {
     WORK(load, store_rand, 0), WORK(iter, store_rand, 0), WORK(overwrite, store_rand, 0),
-    {"load_many", 0, own_store_rand, own_load_many, NULL, NULL}, {"step_many", 0, own_store_rand, own_step_many, NULL, NULL},
+    WORK(load_many, store_rand, 0), WORK(step_many, store_rand, 0),
     WORK(store_seq, nothing, 1), WORK(store_rand, nothing, 1), WORK(erase, store_rand, 1),
     WORK(alloc, nothing, 1), WORK(ralloc, nothing, 1), WORK(holes, store_seq, 1), WORK(churn, alloc, 0),
 };
@@ -203,7 +235,7 @@ static double own_round(const struct work *work, uint32_t kind)
     struct maple_tree tree = {0};
     double start, took;
 
-    must(maple_open(&tree, kind, MAPLE_MOST_ROWS));
+    must(maple_open(&tree, kind, ROWS));
     work->own_before(&tree);
     start = now();
     work->own_work(&tree);
@@ -219,7 +251,7 @@ static double shared_round(const struct work *work, uint32_t kind)
     struct maple_user user = {0};
     double start, took;
 
-    must(maple_shared_open(&user, kind, MAPLE_MOST_ROWS, 1, MOST_CALLS));
+    must(maple_shared_open(&user, kind, ROWS, 1, MOST_CALLS));
     work->shared_before(&user);
     start = now();
     work->shared_work(&user);
@@ -332,7 +364,7 @@ static void shuffle(void)
 
 static int usage(void)
 {
-    fprintf(stderr, "usage: c_speed [ra]{load_many,step_many} N, [t][ra]{load,iter,store_seq,store_rand,overwrite,erase} N, [t]a{alloc,ralloc,holes,churn} N, [ra]{readers,conc} N READERS\n");
+    fprintf(stderr, "usage: c_speed [t][ra]{load,load_many,iter,step_many,store_seq,store_rand,overwrite,erase} N, [t]a{alloc,ralloc,holes,churn} N, [ra]{readers,conc} N READERS\n");
     return 2;
 }
 

@@ -284,6 +284,61 @@ static void batch(struct maple_user *u, uint32_t kind) {
     }
 }
 
+/* A store that keeps the reserve is refused where it adds ranges and the nodes are too few for them, and only there. Then it is no call. */
+static void store_in_reserve(struct maple_user *u, uint64_t rows) {
+    static struct maple_range was[MOST];
+    uint64_t first = draw(SPAN), last = first + draw(draw(5) ? 9 : 300), entry = draw(4) ? 4 * draw(2000) + 1 : 0, old;
+    struct maple_done done;
+    size_t before = count;
+    memcpy(was, list, before * sizeof *was);
+    old = over(first, last, entry);
+    if (count > before && maple_rows_for(count) > rows) {
+        SAME("too many", EITHER(store_kept, u, first, last, entry, &done), ENOMEM); none_done(&done, __LINE__);
+        memcpy(list, was, before * sizeof *was); count = before;
+    } else if (draw(9) || count > before) {
+        SAME("a store", EITHER(store_kept, u, first, last, entry, &done), 0); same_done(&done, old, 0, __LINE__);
+    } else {
+        SAME("a store", EITHER(store, u, first, last, entry, &done), 0); same_done(&done, old, 0, __LINE__);
+    }
+}
+
+/* One insert, or one allocation, that keeps the reserve: it is taken to add a range. */
+static void add_in_reserve(struct maple_user *u, uint32_t kind, uint64_t rows) {
+    uint64_t index = draw(SPAN);
+    int more = maple_rows_for(count + 1) <= rows, placed = kind % 2 && draw(2), there = !placed && load(index);
+    struct maple_done done = {0};
+    uint32_t status = !placed ? EITHER(insert_kept, u, index, index, 8, &done)
+                      : draw(2) ? EITHER(alloc_kept, u, 1, 0, SPAN, 8, &done) : EITHER(ralloc_kept, u, 1, 0, SPAN, 8, &done);
+    SAME("one more", status, more ? there ? EEXIST : 0 : ENOMEM);
+    if (!more) { none_done(&done, __LINE__); return; }
+    if (placed) { index = done.word; SAME("it was free", load(index) == 0, 1); }
+    same_done(&done, placed ? index : 0, 0, __LINE__);
+    if (!there) over(index, index, 8);
+}
+
+/* A tree whose users keep its reserve is filled until it refuses a range more, and no sooner. Then it is emptied in any order, and
+ * refuses nothing that adds no range. */
+static void in_reserve(uint32_t kind) {
+    struct maple_user u[2] = {{0}, {0}};
+    uint64_t rows = 6 + draw(60), before = made;
+    count = made = 0;
+    SAME("open", maple_shared_open(u, kind, rows, 2, 9999), 0); SAME("another user", maple_share(u, u + 1), 0);
+    for (int step = 0; step < 1500; step++) {
+        struct maple_user *one = u + draw(2);
+        if (step && draw(4) == 0) {
+            if (count) erase(one, list[draw(count)].first);
+        } else if (draw(2)) {
+            add_in_reserve(one, kind, rows);
+        } else {
+            store_in_reserve(one, rows);
+        }
+        SAME("in reserve", count == 0 || maple_rows_for(count) <= rows, 1);
+    }
+    while (count) erase(u + draw(2), list[draw(count)].first);
+    maple_shared_close(u); maple_shared_close(u + 1);
+    made = before;
+}
+
 static void act(struct maple_user *u, uint32_t kind) {
     uint64_t first = draw(SPAN), last = first + draw(12), entry = draw(5) ? draw(9000) : 0;
     if (draw(60) == 0) { uint64_t x = first; first = last + 1; last = x; }
@@ -485,6 +540,8 @@ static void closed(struct maple_user *u) {
     NO_CALL(maple_try_erase(u, 1, &d)); NO_CALL(maple_try_alloc(u, 1, 0, 9, 4, &d)); NO_CALL(maple_try_ralloc(u, 1, 0, 9, 4, &d));
     NO_CALL(maple_try_gap(u, 1, 0, 9, &d)); NO_CALL(maple_try_rgap(u, 1, 0, 9, &d)); NO_CALL(maple_try_clear(u, &d));
     NO_CALL(maple_wait_store(u, 1, 2, 3, &d)); NO_CALL(maple_wait_clear(u, &d));
+    NO_CALL(maple_try_store_kept(u, 1, 2, 3, &d)); NO_CALL(maple_try_insert_kept(u, 1, 2, 3, &d)); NO_CALL(maple_wait_store_kept(u, 1, 2, 3, &d));
+    NO_CALL(maple_try_alloc_kept(u, 1, 0, 9, 4, &d)); NO_CALL(maple_try_ralloc_kept(u, 1, 0, 9, 4, &d));
     CLOSED(maple_try_batch(u, &call, 1)); SAME("as it was", call.status, 77); none_done(&call.done, __LINE__);
     NO_CALL(maple_try_store_over(u, 1, 2, 3, &range, 1, &calls, &d)); SAME("none met", calls, 0); SAME("as before", range.entry, 7); calls = 7;
     CLOSED(maple_share(u, &other)); CLOSED(maple_leave(&other)); CLOSED(maple_leave(u)); CLOSED(maple_learn(u, 0));
@@ -557,13 +614,41 @@ static void holds(void) {
     maple_shared_close(&u);
 }
 
+/* In a tree that has its reserve a call lacks nodes only while a reader holds some. Then it is a call, and says so. */
+static void held_in_reserve(void) {
+    struct maple_user u = {0}, other = {0};
+    struct maple_walk walk = {0};
+    struct maple_read read;
+    struct maple_done done;
+    uint32_t status = 0;
+    uint64_t ranges = 0, at = 0, i;
+    SAME("a small tree", maple_shared_open(&u, MAPLE_RANGE, 20, 2, 1000), 0); SAME("another user", maple_share(&u, &other), 0);
+    while (!(status = maple_try_store_kept(&u, 10 * ranges, 10 * ranges + 4, 8, &done))) ranges++;
+    SAME("as many as it has nodes for", maple_rows_for(ranges) <= 20 && maple_rows_for(ranges + 1) > 20, 1);
+    SAME("in reserve", status, ENOMEM); none_done(&done, __LINE__);
+    SAME("a step", maple_shared_step(&other, &walk, &read), 0);
+    for (i = status = 0; i < 200 && !status; i++) {
+        at = i / 2 % ranges;
+        status = i % 2 ? maple_try_store_kept(&u, 10 * at, 10 * at + 4, 8, &done) : maple_try_erase(&u, 10 * at, &done);
+    }
+    SAME("some are held", status, ENOMEM); SAME("by a reader", done.held > 0 && done.by > 0, 1); SAME("a call all the same", done.call, ranges + i);
+    SAME("it gives up its walk", maple_pause(&other), 0);
+    for (uint64_t n = 0; n < ranges; n++) {
+        uint64_t place = n % 2 ? ranges - 1 - n / 2 : n / 2;
+        SAME("emptied", maple_try_erase(&u, 10 * place, &done), place == at && i % 2 == 0 ? ENOENT : 0);
+    }
+    maple_shared_close(&other); maple_shared_close(&u);
+}
+
 int main(int argc, char **argv) {
     uint64_t steps = argc > 1 ? strtoull(argv[1], 0, 10) : 20000;
     state = argc > 2 ? strtoull(argv[2], 0, 10) : 1;
     opens();
     holds();
+    held_in_reserve();
     for (uint32_t kind = 0; kind < 4; kind++) {
         struct maple_done done;
+        for (int n = 0; n < 10; n++) in_reserve(kind);
         count = made = 0;
         SAME("open", maple_shared_open(users, kind, 4096, USERS, MAPLE_MOST_CALLS), 0);
         for (int i = 1; i < USERS - 1; i++) SAME("another user", maple_share(users + draw(i), users + i), 0);

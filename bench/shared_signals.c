@@ -225,6 +225,10 @@ DOES(try_insert, &user, at(), at(), maple_value(at()), &done)
 DOES(try_erase, &user, at(), &done)
 DOES(try_alloc, &user, 1 + at() % 9, 0, 9000, maple_value(at()), &done)
 DOES(try_ralloc, &user, 1 + at() % 9, 0, 9000, maple_value(at()), &done)
+DOES(try_store_kept, &user, at(), 3000 + at(), maple_value(at()), &done)
+DOES(try_insert_kept, &user, at(), at(), maple_value(at()), &done)
+DOES(try_alloc_kept, &user, 1 + at() % 9, 0, 9000, maple_value(at()), &done)
+DOES(try_ralloc_kept, &user, 1 + at() % 9, 0, 9000, maple_value(at()), &done)
 DOES(try_gap, &user, 1 + at() % 9, 0, 9000, &done)
 DOES(try_rgap, &user, 1 + at() % 9, 0, 9000, &done)
 DOES(try_clear, &user, &done)
@@ -246,6 +250,10 @@ DOES(insert, &tree, at(), at(), maple_value(at()))
 DOES(erase, &tree, at(), &range)
 DOES(alloc, &tree, 1 + at() % 9, 0, 9000, maple_value(at()), &word)
 DOES(ralloc, &tree, 1 + at() % 9, 0, 9000, maple_value(at()), &word)
+DOES(store_kept, &tree, at(), 3000 + at(), maple_value(at()), &word)
+DOES(insert_kept, &tree, at(), at(), maple_value(at()))
+DOES(alloc_kept, &tree, 1 + at() % 9, 0, 9000, maple_value(at()), &word)
+DOES(ralloc_kept, &tree, 1 + at() % 9, 0, 9000, maple_value(at()), &word)
 DOES(gap, &tree, 1 + at() % 9, 0, 9000, &word)
 DOES(rgap, &tree, 1 + at() % 9, 0, 9000, &word)
 DOES(clear, &tree)
@@ -265,10 +273,11 @@ static const struct verb verbs[] = {
     READ(shared_load), READ(shared_entry), READ(shared_load_many), READ(shared_find), READ(shared_next), READ(shared_prev),
     READ(shared_rfind), READ(shared_step), READ(shared_step_many), READ(learn),
     CALL(try_store), CALL(try_store_over), CALL(try_store_pre), CALL(try_insert), CALL(try_erase), CALL(try_alloc), CALL(try_ralloc),
-    CALL(try_gap),
+    CALL(try_store_kept), CALL(try_insert_kept), CALL(try_alloc_kept), CALL(try_ralloc_kept), CALL(try_gap),
     CALL(try_rgap), CALL(try_clear), CALL(try_batch), CALL(sync), CALL(settle), CALL(share), CALL(leave),
     CALL(load), CALL(find), CALL(next), CALL(prev), CALL(rfind), CALL(step), CALL(store), CALL(store_pre), CALL(store_over), CALL(insert),
-    CALL(erase), CALL(alloc), CALL(ralloc), CALL(gap), CALL(rgap), CALL(clear), CALL(preallocate), CALL(store_prealloc), CALL(check), CALL(image),
+    CALL(erase), CALL(alloc), CALL(ralloc), CALL(store_kept), CALL(insert_kept), CALL(alloc_kept), CALL(ralloc_kept), CALL(gap), CALL(rgap),
+    CALL(clear), CALL(preallocate), CALL(store_prealloc), CALL(check), CALL(image),
     CALL(copy), CALL(close), CALL(open_image), CALL(close), CALL(build), CALL(close),
 };
 enum { VERBS = sizeof verbs / sizeof *verbs };

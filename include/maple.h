@@ -96,23 +96,20 @@ enum {
 /* A tree has at most this many nodes. A node has 256 bytes, or 512 where indexes have 32 bits. */
 #define MAPLE_MOST_ROWS 65504
 
-/* The capacity: how many nodes surely hold this many ranges. A tree with that many nodes refuses no write (ENOMEM) that finds at most this
- * many ranges in it, where no walk or read of another user holds nodes. UINT64_MAX: no tree has so many nodes. The result is half the
- * ranges and some, for trees at their worst; mostly a node has 4 to 10 ranges. */
+/* The capacity: how many nodes surely hold this many ranges. A tree with that many nodes lacks none for a write (ENOMEM) that finds at most
+ * this many ranges in it, where no walk or read of another user holds nodes. UINT64_MAX: no tree has so many nodes. The result is half
+ * the ranges and some, for trees at their worst, and so for all kinds. Measured: mostly a node has 4 to 10 ranges, and about twice as
+ * many where indexes have 32 bits. */
 uint64_t maple_rows_for(uint64_t ranges);
 
-/* The reserve of a tree that can always be emptied: whether a call that may add ranges keeps it. In a full tree an erase may be refused too
- * (ENOMEM), because it may need nodes. So ask this before each call that may add ranges, and make the call only where the answer is yes.
- * Then no erase is refused for lack of nodes, in any order down to the empty map. Nor is any of the calls that were asked about, a store
- * over exactly one range, or a store of 0 that adds no range. In a shared tree this holds while no walk or read of another user holds nodes.
- * ranges: how many there are now. maple_check returns their number; insert and alloc add one, an erase removes one, a store adds at most
- * two, and a store of 0 at most one.
+/* The reserve of a tree that can always be emptied. In a full tree an erase may be refused too (ENOMEM), because it may need nodes. A tree
+ * has its reserve where maple_rows_for of its ranges is at most its nodes. Then no call of it is refused for lack of nodes, whichever it is.
+ * The calls maple_store_kept, maple_insert_kept, maple_alloc_kept and maple_ralloc_kept keep it. So a tree whose ranges came by these calls
+ * takes every erase, in any order down to the empty map, every overwrite, and every store of 0 that adds no range. A shared tree has the same
+ * calls, maple_try_store_kept, .. and maple_wait_store_kept, .. (maple_shared.h), and takes all these while no walk or read of another user
+ * holds nodes. A tree of fewer than 6 nodes never has its reserve.
  * It costs room: such a tree is full at two ranges a node. A tree without this reserve still never refuses a maple_clear or an overwrite of
  * exactly one range for lack of nodes, and maple_copy continues its map in more nodes. */
-static inline int maple_may_add(uint64_t rows, uint64_t ranges)
-{
-    return ranges < UINT64_MAX - 1 && maple_rows_for(ranges + 2) <= rows;
-}
 
 /* ---- entries: any number but 0 and the reserved ones, which are below 4096 and 2 above a multiple of 4. These functions make neither. */
 
@@ -175,8 +172,8 @@ void maple_close(struct maple_tree *tree) MAPLE_NONNULL;
 /* ---- writes (calls). None takes memory.
  *
  * Besides what each says: EBADF: the tree is closed. EINVAL: the call means nothing. ENOMEM: the call needs nodes, and fewer than 3 a
- * level and 1 are free. EOVERFLOW: the tree had 2^62 - 1 calls. Where a call returns anything but 0, each index holds what it held
- * before. */
+ * level and 1 are free; or it is one that keeps the reserve, and would break it. EOVERFLOW: the tree had 2^62 - 1 calls. Where a call
+ * returns anything but 0, each index holds what it held before. */
 
 /* Stores an entry over first .. last; 0 makes a gap there. old: the entry of the first range that it met, and 0 where it met none.
  * EINVAL: first is above last, last above the greatest index, or the entry is reserved. A store of an entry that is not 0 over exactly
@@ -209,6 +206,27 @@ uint32_t maple_alloc(struct maple_tree *tree, uint64_t size, uint64_t min, uint6
 uint32_t maple_ralloc(struct maple_tree *tree, uint64_t size, uint64_t min, uint64_t max, uint64_t entry, uint64_t *start)
     MAPLE_NONNULL MAPLE_CHECKED;
 
+/* The four calls that keep the reserve (above). A call that would break it is not made: it gets no number (calls of maple_stats stays),
+ * nothing is changed, and it returns ENOMEM. It would break it where it adds ranges, and the tree has fewer nodes than maple_rows_for of
+ * those that there are then. Where it adds none, and the tree has no reserve, it may lack nodes: then ENOMEM has a number, as of
+ * maple_store. An insert and an allocation count as one range more, whether or not they find their place. A store over ranges looks at
+ * them first. After a maple_store, maple_store_over, maple_store_pre or a preallocated store that was made, the next of these calls that
+ * may add ranges counts those of the whole tree, once. */
+
+/* As maple_store, and keeps the reserve. */
+uint32_t maple_store_kept(struct maple_tree *tree, uint64_t first, uint64_t last, uint64_t entry, uint64_t *old) MAPLE_NONNULL MAPLE_CHECKED;
+
+/* As maple_insert, and keeps the reserve. ENOMEM may come where it would be EEXIST, or EINVAL. */
+uint32_t maple_insert_kept(struct maple_tree *tree, uint64_t first, uint64_t last, uint64_t entry) MAPLE_NONNULL MAPLE_CHECKED;
+
+/* As maple_alloc, and keeps the reserve. ENOMEM may come where it would be EBUSY, or EINVAL. */
+uint32_t maple_alloc_kept(struct maple_tree *tree, uint64_t size, uint64_t min, uint64_t max, uint64_t entry, uint64_t *start)
+    MAPLE_NONNULL MAPLE_CHECKED;
+
+/* As maple_ralloc, and keeps the reserve, as maple_alloc_kept. */
+uint32_t maple_ralloc_kept(struct maple_tree *tree, uint64_t size, uint64_t min, uint64_t max, uint64_t entry, uint64_t *start)
+    MAPLE_NONNULL MAPLE_CHECKED;
+
 /* Returns the start that maple_alloc would have, and stores nothing. EBUSY and EINVAL as there, but for the entry; no ENOMEM. */
 uint32_t maple_gap(struct maple_tree *tree, uint64_t size, uint64_t min, uint64_t max, uint64_t *start) MAPLE_NONNULL MAPLE_CHECKED;
 
@@ -232,8 +250,8 @@ uint32_t maple_store_prealloc(struct maple_tree *tree, uint64_t first, uint64_t 
 uint64_t maple_entry(struct maple_tree *tree, uint64_t index) MAPLE_NONNULL;
 
 /* The entries at count indexes, in the first places of entries: what maple_entry returns for each, 0 where there is none. If there are
- * fewer places than indexes, the indexes after them are not read. The other places keep what they had.
- * 0; EBADF: the tree is closed, and no place is written. */
+ * fewer places than indexes, the indexes after them are not read. The other places keep what they had. With no index or no place nothing
+ * is read. 0; EBADF: the tree is closed, and no place is written. */
 uint32_t maple_load_many(struct maple_tree *tree, const uint64_t *indexes, size_t count, uint64_t *entries, size_t places) MAPLE_NONNULL;
 
 /* The range that holds index. */
@@ -257,9 +275,10 @@ uint32_t maple_rfind(struct maple_tree *tree, uint64_t index, uint64_t min, stru
 uint32_t maple_step(struct maple_tree *tree, struct maple_walk *walk, struct maple_range *range) MAPLE_NONNULL;
 
 /* As many steps in one call as there are places. ranges: what each step finds, in the first places; the other places keep what they had.
- * count: how many ranges it found. These are fewer than places only if there are no more, and then the walk has ended. 0; ENOENT: it found
- * none, and the walk has ended. With 0 places it finds none, and the walk continues from where it was, or has ended if that is above the
- * tree's greatest index. EBADF: the tree is closed, no place is written, and the walk is as it was. */
+ * count: how many ranges it found. These are fewer than places only if there are no more, and then the walk has ended. Where they fill all
+ * places the walk continues after the last, also if there are no more: it has ended only where that one holds the tree's greatest index.
+ * 0; ENOENT: it found none, and the walk has ended. With 0 places it finds none, and the walk continues from where it was, or has ended if
+ * that is above the tree's greatest index. EBADF: the tree is closed, no place is written, and the walk is as it was. */
 uint32_t maple_step_many(struct maple_tree *tree, struct maple_walk *walk, struct maple_range *ranges, size_t places, size_t *count)
     MAPLE_NONNULL;
 

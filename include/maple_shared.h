@@ -223,8 +223,9 @@ uint32_t maple_shared_step_to(struct maple_user *user, struct maple_walk *walk, 
 /* The next ranges of a walk: as many as there are places, and at most MAPLE_MOST_STEPS; the walk continues after them. The other places
  * keep what they had. All are of versions in the one window, and none is of an earlier version than the range before it. The user keeps
  * the leaf of the last, as after maple_shared_step.
- * 0: *count were found. Where these are fewer than both numbers, the walk has ended. With no place it finds none, and the walk is as it
- * was. ENOENT: none was found, and the walk has ended. EBADF: the user is closed, and the walk and every place are as they were. */
+ * 0: *count were found. Where these are fewer than both numbers, the walk has ended. Where they are as many, it continues after the last, also
+ * if there are no more; it has ended only where that one holds the index 2^64 - 1. With no place it finds none, and the walk is as it was.
+ * ENOENT: none was found, and the walk has ended. EBADF: the user is closed, and the walk and every place are as they were. */
 #define MAPLE_MOST_STEPS 32
 uint32_t maple_shared_step_many(struct maple_user *user, struct maple_walk *walk, struct maple_range *ranges, size_t places, uint64_t *count,
                                 struct maple_window *window) MAPLE_NONNULL;
@@ -269,6 +270,28 @@ uint32_t maple_try_alloc(struct maple_user *user, uint64_t size, uint64_t min, u
 
 /* As maple_ralloc: done->word is the start. EBUSY: no gap there is large enough. */
 uint32_t maple_try_ralloc(struct maple_user *user, uint64_t size, uint64_t min, uint64_t max, uint64_t entry, struct maple_done *done)
+    MAPLE_NONNULL MAPLE_CHECKED;
+
+/* The four calls that keep the reserve, as maple_store_kept, .. of maple.h: they are made as maple_try_store, .. above, but a call that would
+ * break it is not made. It gets no number (done->call is 0), nothing is changed, and it returns ENOMEM; done has no counts of nodes. The
+ * ranges are those that the tree has under the lock. A call of a tree that has its reserve is refused for lack of nodes only while readers
+ * hold some: then it has a number, and done->held is not 0. After a store by another call that was made, the next of these calls that may
+ * add ranges counts the ranges of the whole tree, once. */
+
+/* As maple_try_store, and keeps the reserve. */
+uint32_t maple_try_store_kept(struct maple_user *user, uint64_t first, uint64_t last, uint64_t entry, struct maple_done *done)
+    MAPLE_NONNULL MAPLE_CHECKED;
+
+/* As maple_try_insert, and keeps the reserve. */
+uint32_t maple_try_insert_kept(struct maple_user *user, uint64_t first, uint64_t last, uint64_t entry, struct maple_done *done)
+    MAPLE_NONNULL MAPLE_CHECKED;
+
+/* As maple_try_alloc, and keeps the reserve. */
+uint32_t maple_try_alloc_kept(struct maple_user *user, uint64_t size, uint64_t min, uint64_t max, uint64_t entry, struct maple_done *done)
+    MAPLE_NONNULL MAPLE_CHECKED;
+
+/* As maple_try_ralloc, and keeps the reserve. */
+uint32_t maple_try_ralloc_kept(struct maple_user *user, uint64_t size, uint64_t min, uint64_t max, uint64_t entry, struct maple_done *done)
     MAPLE_NONNULL MAPLE_CHECKED;
 
 /* As maple_gap: done->word is the start. EBUSY: no gap there is large enough. It is a call too, with a number. */
@@ -332,34 +355,76 @@ uint32_t maple_shared_image(struct maple_user *user, uint8_t *out, size_t room, 
  * waits costs the others little, and may be late by that much when what it waits for is done. The lock is not fair: whoever tries first
  * gets it, there is no queue, and no bound is known on how often a thread finds it taken. None is made from a signal handler. */
 
-/* As maple_try_store, .., but they wait for the lock. */
+/* As maple_try_store, waiting for the lock. */
 uint32_t maple_wait_store(struct maple_user *user, uint64_t first, uint64_t last, uint64_t entry, struct maple_done *done)
     MAPLE_NONNULL MAPLE_CHECKED;
+
+/* As maple_try_store_over, waiting for the lock. */
 uint32_t maple_wait_store_over(struct maple_user *user, uint64_t first, uint64_t last, uint64_t entry, struct maple_range *met, size_t room,
                                uint64_t *count, struct maple_done *done) MAPLE_NONNULL MAPLE_CHECKED;
+
+/* As maple_try_store_pre, waiting for the lock. */
 uint32_t maple_wait_store_pre(struct maple_user *user, uint64_t first, uint64_t last, uint64_t entry, struct maple_done *done)
     MAPLE_NONNULL MAPLE_CHECKED;
+
+/* As maple_try_insert, waiting for the lock. */
 uint32_t maple_wait_insert(struct maple_user *user, uint64_t first, uint64_t last, uint64_t entry, struct maple_done *done)
     MAPLE_NONNULL MAPLE_CHECKED;
+
+/* As maple_try_erase, waiting for the lock. */
 uint32_t maple_wait_erase(struct maple_user *user, uint64_t index, struct maple_done *done) MAPLE_NONNULL MAPLE_CHECKED;
+
+/* As maple_try_alloc, waiting for the lock. */
 uint32_t maple_wait_alloc(struct maple_user *user, uint64_t size, uint64_t min, uint64_t max, uint64_t entry, struct maple_done *done)
     MAPLE_NONNULL MAPLE_CHECKED;
+
+/* As maple_try_ralloc, waiting for the lock. */
 uint32_t maple_wait_ralloc(struct maple_user *user, uint64_t size, uint64_t min, uint64_t max, uint64_t entry, struct maple_done *done)
     MAPLE_NONNULL MAPLE_CHECKED;
+
+/* As maple_try_store_kept, waiting for the lock. */
+uint32_t maple_wait_store_kept(struct maple_user *user, uint64_t first, uint64_t last, uint64_t entry, struct maple_done *done)
+    MAPLE_NONNULL MAPLE_CHECKED;
+
+/* As maple_try_insert_kept, waiting for the lock. */
+uint32_t maple_wait_insert_kept(struct maple_user *user, uint64_t first, uint64_t last, uint64_t entry, struct maple_done *done)
+    MAPLE_NONNULL MAPLE_CHECKED;
+
+/* As maple_try_alloc_kept, waiting for the lock. */
+uint32_t maple_wait_alloc_kept(struct maple_user *user, uint64_t size, uint64_t min, uint64_t max, uint64_t entry, struct maple_done *done)
+    MAPLE_NONNULL MAPLE_CHECKED;
+
+/* As maple_try_ralloc_kept, waiting for the lock. */
+uint32_t maple_wait_ralloc_kept(struct maple_user *user, uint64_t size, uint64_t min, uint64_t max, uint64_t entry, struct maple_done *done)
+    MAPLE_NONNULL MAPLE_CHECKED;
+
+/* As maple_try_gap, waiting for the lock. */
 uint32_t maple_wait_gap(struct maple_user *user, uint64_t size, uint64_t min, uint64_t max, struct maple_done *done)
     MAPLE_NONNULL MAPLE_CHECKED;
+
+/* As maple_try_rgap, waiting for the lock. */
 uint32_t maple_wait_rgap(struct maple_user *user, uint64_t size, uint64_t min, uint64_t max, struct maple_done *done)
     MAPLE_NONNULL MAPLE_CHECKED;
+
+/* As maple_try_clear, waiting for the lock. */
 uint32_t maple_wait_clear(struct maple_user *user, struct maple_done *done) MAPLE_NONNULL MAPLE_CHECKED;
+
+/* As maple_try_batch, waiting for the lock. */
 uint32_t maple_wait_batch(struct maple_user *user, struct maple_call *calls, size_t count) MAPLE_NONNULL MAPLE_CHECKED;
 
-/* As maple_shared_next, maple_shared_prev and maple_shared_rfind, but they read again where the leaf was replaced. */
+/* As maple_shared_next, but it reads again where the leaf was replaced. */
 uint32_t maple_wait_next(struct maple_user *user, uint64_t index, uint64_t max, struct maple_read *read) MAPLE_NONNULL;
+
+/* As maple_shared_prev, reading again so. */
 uint32_t maple_wait_prev(struct maple_user *user, uint64_t index, uint64_t min, struct maple_read *read) MAPLE_NONNULL;
+
+/* As maple_shared_rfind, reading again so. */
 uint32_t maple_wait_rfind(struct maple_user *user, uint64_t index, uint64_t min, struct maple_read *read) MAPLE_NONNULL;
 
-/* As maple_share and maple_leave, but they wait until no other user is at the places. */
+/* As maple_share, but it waits until no other user is at the places. */
 uint32_t maple_wait_share(struct maple_user *user, struct maple_user *other) MAPLE_NONNULL MAPLE_CHECKED;
+
+/* As maple_leave, waiting so. */
 uint32_t maple_wait_leave(struct maple_user *user) MAPLE_NONNULL MAPLE_CHECKED;
 
 /* As maple_shared_copy, waiting for the lock. */
@@ -369,14 +434,22 @@ uint32_t maple_wait_copy(struct maple_user *user, struct maple_user *copy, uint6
 /* As maple_learn, but it waits until that many calls have ended: for ever, where that many are never made. */
 uint32_t maple_wait_learn(struct maple_user *user, uint64_t calls) MAPLE_NONNULL MAPLE_CHECKED;
 
-/* As maple_sync and maple_settle, but they wait for the lock, and for the places. */
+/* As maple_sync, waiting for the lock. */
 uint32_t maple_wait_sync(struct maple_user *user, uint64_t *calls) MAPLE_NONNULL MAPLE_CHECKED;
+
+/* As maple_settle, waiting for the lock, and for the places. */
 uint32_t maple_wait_settle(struct maple_user *user, uint64_t *calls, uint64_t *places) MAPLE_NONNULL MAPLE_CHECKED;
 
-/* As maple_oldest, maple_shared_check, maple_shared_stats and maple_shared_image, waiting for the lock. */
+/* As maple_oldest, waiting for the lock. */
 uint32_t maple_wait_oldest(struct maple_user *user, uint64_t *calls) MAPLE_NONNULL MAPLE_CHECKED;
+
+/* As maple_shared_check, waiting for the lock. */
 uint32_t maple_wait_check(struct maple_user *user, struct maple_form *form) MAPLE_NONNULL MAPLE_CHECKED;
+
+/* As maple_shared_stats, waiting for the lock. */
 uint32_t maple_wait_stats(struct maple_user *user, struct maple_stats *stats) MAPLE_NONNULL MAPLE_CHECKED;
+
+/* As maple_shared_image, waiting for the lock. */
 uint32_t maple_wait_image(struct maple_user *user, uint8_t *out, size_t room, size_t *used) MAPLE_NONNULL MAPLE_CHECKED;
 
 #if defined(__SANITIZE_THREAD__)

@@ -7,7 +7,8 @@
  *     that is done.
  *   - Walks. What a reader does before it gives its walk up happens before what is after a maple_oldest that is done.
  * It knows neither trees nor the numbers of calls. Entries that are the same modulo 251, and the calls of all trees, are one to it. So it
- * assumes some orders that do not hold, and misses none that holds. */
+ * assumes some orders that do not hold. Of those that hold it misses one, between a call and a read whose lo is no less than the call's
+ * number, where the read returns another entry: a maple_learn of that number reports it. */
 #ifndef MAPLE_TSAN_H
 #define MAPLE_TSAN_H
 
@@ -106,6 +107,10 @@ MAPLE_TSAN_CALLS(insert, (MAPLE_AT, struct maple_done *done), (user, first, last
 MAPLE_TSAN_CALLS(erase, (struct maple_user *user, uint64_t index, struct maple_done *done), (user, index, done), 0)
 MAPLE_TSAN_CALLS(alloc, (MAPLE_IN, uint64_t entry, struct maple_done *done), (user, size, min, max, entry, done), entry)
 MAPLE_TSAN_CALLS(ralloc, (MAPLE_IN, uint64_t entry, struct maple_done *done), (user, size, min, max, entry, done), entry)
+MAPLE_TSAN_CALLS(store_kept, (MAPLE_AT, struct maple_done *done), (user, first, last, entry, done), entry)
+MAPLE_TSAN_CALLS(insert_kept, (MAPLE_AT, struct maple_done *done), (user, first, last, entry, done), entry)
+MAPLE_TSAN_CALLS(alloc_kept, (MAPLE_IN, uint64_t entry, struct maple_done *done), (user, size, min, max, entry, done), entry)
+MAPLE_TSAN_CALLS(ralloc_kept, (MAPLE_IN, uint64_t entry, struct maple_done *done), (user, size, min, max, entry, done), entry)
 MAPLE_TSAN_CALLS(gap, (MAPLE_IN, struct maple_done *done), (user, size, min, max, done), 0)
 MAPLE_TSAN_CALLS(rgap, (MAPLE_IN, struct maple_done *done), (user, size, min, max, done), 0)
 MAPLE_TSAN_CALLS(clear, (struct maple_user *user, struct maple_done *done), (user, done), 0)
@@ -138,6 +143,8 @@ MAPLE_TSAN_SEEN(shared_stats, (struct maple_user *user, struct maple_stats *stat
 MAPLE_TSAN_SEEN(wait_stats, (struct maple_user *user, struct maple_stats *stats), (user, stats))
 MAPLE_TSAN_SEEN(shared_image, (struct maple_user *user, uint8_t *out, size_t room, size_t *used), (user, out, room, used))
 MAPLE_TSAN_SEEN(wait_image, (struct maple_user *user, uint8_t *out, size_t room, size_t *used), (user, out, room, used))
+MAPLE_TSAN_SEEN(shared_copy, (struct maple_user *user, struct maple_user *copy, uint64_t rows, uint32_t users, uint64_t calls), (user, copy, rows, users, calls))
+MAPLE_TSAN_SEEN(wait_copy, (struct maple_user *user, struct maple_user *copy, uint64_t rows, uint32_t users, uint64_t calls), (user, copy, rows, users, calls))
 MAPLE_TSAN_OLDEST(oldest, (struct maple_user *user, uint64_t *calls), (user, calls))
 MAPLE_TSAN_OLDEST(wait_oldest, (struct maple_user *user, uint64_t *calls), (user, calls))
 MAPLE_TSAN_END(pause, (struct maple_user *user), (user))
@@ -167,6 +174,10 @@ static inline void maple_tsan_shared_close(struct maple_user *user)
 #define maple_try_erase(...) maple_tsan_try_erase(__VA_ARGS__)
 #define maple_try_alloc(...) maple_tsan_try_alloc(__VA_ARGS__)
 #define maple_try_ralloc(...) maple_tsan_try_ralloc(__VA_ARGS__)
+#define maple_try_store_kept(...) maple_tsan_try_store_kept(__VA_ARGS__)
+#define maple_try_insert_kept(...) maple_tsan_try_insert_kept(__VA_ARGS__)
+#define maple_try_alloc_kept(...) maple_tsan_try_alloc_kept(__VA_ARGS__)
+#define maple_try_ralloc_kept(...) maple_tsan_try_ralloc_kept(__VA_ARGS__)
 #define maple_try_gap(...) maple_tsan_try_gap(__VA_ARGS__)
 #define maple_try_rgap(...) maple_tsan_try_rgap(__VA_ARGS__)
 #define maple_try_clear(...) maple_tsan_try_clear(__VA_ARGS__)
@@ -191,6 +202,10 @@ static inline void maple_tsan_shared_close(struct maple_user *user)
 #define maple_wait_erase(...) maple_tsan_wait_erase(__VA_ARGS__)
 #define maple_wait_alloc(...) maple_tsan_wait_alloc(__VA_ARGS__)
 #define maple_wait_ralloc(...) maple_tsan_wait_ralloc(__VA_ARGS__)
+#define maple_wait_store_kept(...) maple_tsan_wait_store_kept(__VA_ARGS__)
+#define maple_wait_insert_kept(...) maple_tsan_wait_insert_kept(__VA_ARGS__)
+#define maple_wait_alloc_kept(...) maple_tsan_wait_alloc_kept(__VA_ARGS__)
+#define maple_wait_ralloc_kept(...) maple_tsan_wait_ralloc_kept(__VA_ARGS__)
 #define maple_wait_gap(...) maple_tsan_wait_gap(__VA_ARGS__)
 #define maple_wait_rgap(...) maple_tsan_wait_rgap(__VA_ARGS__)
 #define maple_wait_clear(...) maple_tsan_wait_clear(__VA_ARGS__)
@@ -209,6 +224,8 @@ static inline void maple_tsan_shared_close(struct maple_user *user)
 #define maple_wait_stats(...) maple_tsan_wait_stats(__VA_ARGS__)
 #define maple_shared_image(...) maple_tsan_shared_image(__VA_ARGS__)
 #define maple_wait_image(...) maple_tsan_wait_image(__VA_ARGS__)
+#define maple_shared_copy(...) maple_tsan_shared_copy(__VA_ARGS__)
+#define maple_wait_copy(...) maple_tsan_wait_copy(__VA_ARGS__)
 #define maple_shared_close(...) maple_tsan_shared_close(__VA_ARGS__)
 #define maple_pause(...) maple_tsan_pause(__VA_ARGS__)
 #define maple_leave(...) maple_tsan_leave(__VA_ARGS__)

@@ -1,11 +1,12 @@
 -- A copy of a shared tree that was made under its lock, or why there is none.
-use Rattle.mt_c.proofs.Prelude.{◌≡◌, ◌≢◌, ◌∙◌, ◌++◌, ◌∷◌, [], ℕ, List, Option, Some, None, refl, sym, ap, subst, inl, inr, ◌↔◌, IfErr, IfOk, Result, Ok, Err, Range, History, Busy, DupError, Field, Look, Shape, Tree, IsCopyLooked, IsFit, IsLiveCounted, WasCounted, first_bad, IsNew, Pass, live_rows, map_seen, opened, words_in, pass_in, steps_made, turn_seat, IsBusyOf, User, UserHandle, Walker, CopiesTo, HasCopied, HasMade, IsMadeBy, IsMadeIn, HasLooked, KeepsOff, IsTriedCopy, IsUnmade, Made, SharedCopied, when_looked, refusal, unopened, first_in, no_receipts, IsFirstUser, SharedKept, StaysAs, dup_status, shape_for, common_of, cuts, user_tree, Took, IsLeftClosed, IsPaused, halted, knows, known_to}
+use Rattle.mt_c.proofs.Prelude.{◌≡◌, ◌≢◌, ◌∙◌, ◌++◌, ◌∷◌, [], ℕ, List, Option, Some, None, refl, sym, ap, subst, inl, inr, ◌↔◌, IfErr, IfOk, Result, Ok, Err, Range, History, Busy, DupError, Field, Look, Shape, Tree, IsCopyLooked, IsFit, IsLiveCounted, WasCounted, first_bad, IsNew, Pass, live_rows, map_seen, opened, words_in, pass_in, steps_made, turn_seat, IsBusyOf, User, UserHandle, Walker, CopiesTo, HasCopied, HasMade, IsMadeBy, IsMadeIn, HasLooked, KeepsOff, IsTriedCopy, IsUnmade, Made, SharedCopied, when_looked, refusal, unopened, first_in, no_receipts, IsFirstUser, SharedKept, StaysAs, dup_status, shape_for, common_of, cuts, user_tree, Takes, IsLeftClosed, IsOnNoWalk, knows, known_to}
+use Rattle.mt_c.specs.Walkers.{shut}
 use Rattle.std.specs.Global.{Global}
 use Rattle.std.specs.Prelude.{Vec}
 use Rattle.mt_base.specs.Passes as known
 use Rattle.mt_rule.specs.Turns as turns
 use Rattle.mt_tree.specs.declared.shapes.DupError.TheVariants as errors
-use Rattle.mt_c.proofs.Using.{is_first, tried_once}
+use Rattle.mt_c.proofs.Using.{is_first, tried_shut}
 use Rattle.mt_c.proofs.Sharing.{left_none, left_some}
 
 -- ---- what a handle's try came to
@@ -38,13 +39,13 @@ module _ (shape : Shape) (t : Tree) (same : shape.kind ≡ (opened t).kind) wher
   made_by q look (Err (errors.NoNodes rows live)) good bad kind counted new = (counted.few rows live refl).2
   made_by q look (Err errors.NoMemory) good bad kind counted new = tt
 
-  module _ (w v w' : Walker) (before : Took 0 w v.pass) (was : knows v ≡ halted w) where
+  module _ (w v w' : Walker) (before : Takes 1 w.pass v.pass) (was : knows v ≡ shut w) where
     made_in : (made : Made) (look : Option Look) → SaysBad made → SaysKind made → IsCopyLooked t v.pass w'.pass shape made look → IfOk made (λ r. IsNew shape (map_seen t (knows w')) r.0 r.1.items) → IsMadeIn shape t w made look w'
-    made_in made None bad kind looked new = ((subst (Took 0 w) (sym looked.0) before, ap pass_in looked.0 ∙ was), unmade made bad kind looked.1)
+    made_in made None bad kind looked new = ((subst (Takes 1 w.pass) (sym looked.0) before, ap pass_in looked.0 ∙ was), unmade made bad kind looked.1)
     made_in made (Some look) bad kind looked new =
         let fit : IsFit shape (opened t).kind = looked.0 in
         record {
-          looked = (tried_once w v w' before looked.1, subst (λ (p : known.Pass). known.Saw (opened t) p (knows w')) was looked.2, looked.3);
+          looked = (tried_shut w v w' before looked.1, subst (λ (p : known.Pass). known.Saw (opened t) p (knows w')) was looked.2, looked.3);
           good = fit.0;
           by = made_by (knows w') look made fit.0 bad kind looked.4 new;
         }
@@ -52,7 +53,16 @@ module _ (shape : Shape) (t : Tree) (same : shape.kind ≡ (opened t).kind) wher
     pub tried_copy : (found : Result (Made × Option Look) Busy) → IfOk found (λ r. SaysBad r.0) → IfOk found (λ r. SaysKind r.0) → IfOk found (λ r. IsCopyLooked t v.pass w'.pass shape r.0 r.1) → IfOk found (λ r. IfOk r.0 (λ made. IsNew shape (map_seen t (pass_in w'.pass)) made.0 made.1.items))
         → IfErr found (λ _. IsFit shape (opened t).kind) → IfErr found (IsBusyOf t) → IfErr found (λ _. w'.pass ≡ turns.tried v.pass) → IsTriedCopy shape t w found w'
     tried_copy (Ok r) bad kind looked new fit busy kept = made_in r.0 r.1 bad kind looked new
-    tried_copy (Err why) bad kind looked new fit busy kept = ((tried_once w v w' before (record { steps = ap steps_made kept; turn = ap turn_seat kept }), busy, ap pass_in kept ∙ was), fit.0)
+    tried_copy (Err why) bad kind looked new fit busy kept = ((tried_shut w v w' before (record { steps = ap steps_made kept; turn = ap turn_seat kept }), busy, ap pass_in kept ∙ was), fit.0)
+
+-- a copy opens no section
+pub copy_shut : (t : Tree) (a b : Pass) (shape : Shape) (found : Result (Made × Option Look) Busy) → IfOk found (λ r. IsCopyLooked t a b shape r.0 r.1) → IfErr found (λ _. b ≡ turns.tried a) → (pass_in a).standing ≡ None → (pass_in b).standing ≡ None
+copy_shut t a b shape (Ok r) looked kept off = by r.1 looked
+  where
+    by : (look : Option Look) → IsCopyLooked t a b shape r.0 look → (pass_in b).standing ≡ None
+    by None none = ap (λ (x : Pass). (pass_in x).standing) none.0 ∙ off
+    by (Some look) looked = ap (λ (x : known.Pass). x.standing) looked.2.pass ∙ off
+copy_shut t a b shape (Err busy) looked kept off = ap (λ (x : Pass). (pass_in x).standing) kept ∙ off
 
 -- ---- a new tree, and its first user
 
@@ -136,7 +146,7 @@ module _ (rows passes calls : ℕ) (before after other other' : UserHandle) (sta
   pub copied_busy : (u : User) (number : ℕ) → before.kept.value ≡ Some u → after.kept.value ≡ Some u → unopened other.state ≡ Some number → other' ≡ other → status ≡ number → SharedCopied rows passes calls before after other other' status
   copied_busy u number was is taken same told = copied_kept u u was is (subst (λ (o : Option ℕ). CopiesTo o (shape_for (opened (user_tree u)).kind rows passes calls) u u other other' status) (sym taken) (refl, same, told))
 
-  module _ (u v : User) (was : before.kept.value ≡ Some u) (is : after.kept.value ≡ Some v) (closed : other.state ≡ 0) (common : common_of v ≡ common_of u) (chair : v.chair ≡ u.chair) (off : IsPaused v.walker) where
+  module _ (u v : User) (was : before.kept.value ≡ Some u) (is : after.kept.value ≡ Some v) (closed : other.state ≡ 0) (common : common_of v ≡ common_of u) (chair : v.chair ≡ u.chair) (off : IsOnNoWalk v.walker) where
     opens : (o : Option User) → other'.kept.value ≡ o → IsLeftClosed other' → HasCopied (shape_for (opened (user_tree u)).kind rows passes calls) o status u v → SharedCopied rows passes calls before after other other' status
     opens o made left has =
         copied_kept u v was is (subst (λ (x : Option ℕ). CopiesTo x (shape_for (opened (user_tree u)).kind rows passes calls) u v other other' status) (sym (ap unopened closed))

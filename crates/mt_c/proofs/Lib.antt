@@ -18,8 +18,10 @@ mod ManySteps
 mod Placing
 mod Sharing
 mod SharedImages
+mod SharedKeeping
 mod SharingMany
 mod SharedMaps
-mod RowsFor
+mod RangeCounts
+mod Reserving
 mod Using
 mod Prelude

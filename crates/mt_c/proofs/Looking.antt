@@ -1,13 +1,20 @@
 -- What a user finds under the lock of its tree, and what C is told of it.
-use Rattle.mt_c.proofs.Prelude.{◌≡◌, ◌∙◌, ℕ, ◌<◌, ◌≤◌, ◌++◌, List, Option, Some, None, drop, length, ap, subst, inl, inr, IfErr, IfOk, Result, Ok, Err, Form, Busy, Look, Stats, Tree, IsFormBehind, IsImagedBehind, IsOldest, IsStatsOf, Pass, opened, pass_in, IsBusyOf, OutForm, OutStats, User, UserHandle, no_form, refusal, Found, HasFound, IsFoundIn, MadeImage, PutsBytes, SharedChecked, SharedImaged, SharedOldest, SharedStats, TellsBytes, TellsCalls, TellsForm, TellsStats, when_found, no_stats, common_of, known_to, paused, user_tree, IsPaused, TriedOnce}
+use Rattle.mt_c.proofs.Prelude.{◌≡◌, ◌∙◌, ℕ, ◌<◌, ◌≤◌, ◌++◌, List, Option, Some, None, drop, length, refl, ap, subst, inl, inr, IfErr, IfOk, Result, Ok, Err, Form, Busy, Look, Stats, Tree, IsFormBehind, IsImagedBehind, IsOldest, IsStatsOf, Pass, opened, pass_in, IsBusyOf, OutForm, OutStats, User, UserHandle, no_form, refusal, Found, HasFound, IsFoundIn, MadeImage, PutsBytes, SharedChecked, SharedImaged, SharedOldest, SharedStats, TellsBytes, TellsCalls, TellsForm, TellsStats, when_found, no_stats, common_of, known_to, user_tree, IsPaused}
 use Rattle.mt_base.specs.Passes as known
 use Rattle.mt_rule.specs.Turns as turns
+use Rattle.mt_c.specs.Users.{rested}
+use Rattle.mt_c.specs.Walkers.{TriedShut}
 use Rattle.mt_c.proofs.Sharing.{on_closed, on_open}
 
 found_in : {A : Type 0} (is : Tree → known.Pass → A × Look → Type 0) (t : Tree) (p : known.Pass) (a b : Pass) (found : Found A) → pass_in a ≡ p → IfOk found (λ _. known.Saw (opened t) (pass_in a) (pass_in b)) → IfOk found (is t (pass_in b)) → IfErr found (IsBusyOf t)
     → IfErr found (λ _. b ≡ turns.tried a) → IsFoundIn is t p found (pass_in b)
 found_in is t p a b (Ok x) was saw so busy kept = (subst (λ (y : known.Pass). known.Saw (opened t) y (pass_in b)) was saw, so)
 found_in is t p a b (Err why) was saw so busy kept = (busy, ap pass_in kept ∙ was)
+
+-- one that had no section open has none then
+found_shut : {A : Type 0} (is : Tree → known.Pass → A × Look → Type 0) (t : Tree) (q p : known.Pass) (found : Found A) → IsFoundIn is t p found q → p.standing ≡ None → q.standing ≡ None
+found_shut is t q p (Ok x) said off = ap (λ (y : known.Pass). y.standing) said.0.pass ∙ off
+found_shut is t q p (Err why) said off = ap (λ (y : known.Pass). y.standing) said.1 ∙ off
 
 -- ---- what a pass found
 
@@ -26,19 +33,19 @@ module _ (t : Tree) (p : known.Pass) (a b : Pass) (was : pass_in a ≡ p) where
 
 -- ---- what a user was told
 
-module _ (u v : User) (status : ℕ) (once : TriedOnce u.walker v.walker) (off : IsPaused v.walker) (chair : v.chair ≡ u.chair) where
-  pub form_told : (found : Found Form) (out : OutForm) → IsFoundIn IsFormBehind (user_tree u) (paused u) found (known_to v) → v.receipts ≡ when_found found u.receipts → TellsForm status out found → HasFound IsFormBehind (TellsForm status out) u v
-  form_told found out said kept told = (found, said, once, off, chair, kept, told)
+module _ (u v : User) (status : ℕ) (once : TriedShut u.walker v.walker) (off : IsPaused v.walker) (chair : v.chair ≡ u.chair) where
+  pub form_told : (found : Found Form) (out : OutForm) → IsFoundIn IsFormBehind (user_tree u) (rested u) found (known_to v) → v.receipts ≡ when_found found u.receipts → TellsForm status out found → HasFound IsFormBehind (TellsForm status out) u v
+  form_told found out said kept told = (found, said, once, (off, found_shut IsFormBehind (user_tree u) (known_to v) (rested u) found said refl), chair, kept, told)
 
-  pub stats_told : (found : Found Stats) (out : OutStats) → IsFoundIn IsStatsOf (user_tree u) (paused u) found (known_to v) → v.receipts ≡ when_found found u.receipts → TellsStats status out found → HasFound IsStatsOf (TellsStats status out) u v
-  stats_told found out said kept told = (found, said, once, off, chair, kept, told)
+  pub stats_told : (found : Found Stats) (out : OutStats) → IsFoundIn IsStatsOf (user_tree u) (rested u) found (known_to v) → v.receipts ≡ when_found found u.receipts → TellsStats status out found → HasFound IsStatsOf (TellsStats status out) u v
+  stats_told found out said kept told = (found, said, once, (off, found_shut IsStatsOf (user_tree u) (known_to v) (rested u) found said refl), chair, kept, told)
 
-  pub calls_told : (found : Found ℕ) (out : ℕ) → IsFoundIn IsOldest (user_tree u) (paused u) found (known_to v) → v.receipts ≡ when_found found u.receipts → TellsCalls status out found → HasFound IsOldest (TellsCalls status out) u v
-  calls_told found out said kept told = (found, said, once, off, chair, kept, told)
+  pub calls_told : (found : Found ℕ) (out : ℕ) → IsFoundIn IsOldest (user_tree u) (rested u) found (known_to v) → v.receipts ≡ when_found found u.receipts → TellsCalls status out found → HasFound IsOldest (TellsCalls status out) u v
+  calls_told found out said kept told = (found, said, once, (off, found_shut IsOldest (user_tree u) (known_to v) (rested u) found said refl), chair, kept, told)
 
-  pub image_told : (found : Found MadeImage) (out out' : List ℕ) (used : ℕ) → IsFoundIn IsImagedBehind (user_tree u) (paused u) found (known_to v) → v.receipts ≡ when_found found u.receipts → TellsBytes out out' used status found
+  pub image_told : (found : Found MadeImage) (out out' : List ℕ) (used : ℕ) → IsFoundIn IsImagedBehind (user_tree u) (rested u) found (known_to v) → v.receipts ≡ when_found found u.receipts → TellsBytes out out' used status found
       → HasFound IsImagedBehind (TellsBytes out out' used status) u v
-  image_told found out out' used said kept told = (found, said, once, off, chair, kept, told)
+  image_told found out out' used said kept told = (found, said, once, (off, found_shut IsImagedBehind (user_tree u) (known_to v) (rested u) found said refl), chair, kept, told)
 
 -- ---- images
 

@@ -21,7 +21,7 @@ pub use denote.RawPtr.{Ptr}
 pub use denote.Struct.Owning.{fields, shape, to}
 pub use denote.Struct.Struct.{exits_of}
 pub use mir.Raw.{raw}
-pub use Rattle.mt_base.proofs.Shortages.{few_unheld}
+pub use Rattle.mt_base.specs.Map.{entry_or_zero}
 pub use Rattle.mt_base.specs.History.{History}
 pub use Rattle.mt_base.specs.Nodes.{IsShort, Limits}
 pub use Rattle.mt_base.specs.declared.calls.Call.TheVariants.{StorePre}
@@ -35,16 +35,15 @@ pub use Rattle.mt_free.specs.Book.{Book, live_count}
 pub use Rattle.mt_check.proofs.Forms.{form_by}
 pub use Rattle.mt_check.specs.Check.{checked}
 pub use Rattle.mt_check.specs.declared.faults.Fault.{Fault}
-pub use Rattle.mt_dup.proofs.NewTables.{new_long}
 pub use Rattle.mt_image.proofs.FewReached.{few_reached}
 pub use Rattle.mt_image.specs.declared.errors.ImageError.{ImageError}
 pub use Rattle.mt_bulk.specs.Builds.{IsBuilt, refused_by, too_many}
 pub use Rattle.mt_engine.proofs.FreshEngine.{fresh_is_idle}
 pub use Rattle.mt_engine.specs.Engine.{IsIdle}
 pub use Rattle.mt_rule.specs.declared.views.TurnView.{TurnView}
-pub use Rattle.mt_read.specs.Cursors.{IsOnKeptLeaf, place_from}
+pub use Rattle.mt_read.specs.Cursors.{IsOnKeptLeaf}
+pub use Rattle.mt_base.specs.Places.{place_within}
 pub use Rattle.mt_read.specs.declared.cursor.KeptLeaf.{KeptLeaf}
-pub use Rattle.mt_tree.proofs.Copying.{ready}
 pub use Rattle.mt_tree.proofs.Forms.{high_as, live_as, reads_through}
 pub use Rattle.mt_tree.specs.Copies.{IsFit, IsLiveCounted, IsReadyToOpen, WasCounted}
 pub use Rattle.mt_tree.specs.Looks.{IsCopyLooked}
@@ -57,7 +56,7 @@ pub use Rattle.mt_verify.specs.declared.verdicts.Verdict.TheVariants.{No, Yes}
 pub use Rattle.mt_c.specs.Batch.{IsBufferShort, IsNoRun, IsTextOfRun, IsVerified, WritesText}
 pub use Rattle.mt_c.specs.Bounded.{IsLeftTo, SharedSteppedTo, SteppedTo, StepsTo, place_to}
 pub use Rattle.mt_c.specs.Building.{Builds, IsOfRanges, LacksAnyhow, LacksOf, LacksRanges, why_of}
-pub use Rattle.mt_c.specs.Calls.{AnswersCall, AnswersQuery, CalledAlone, CalledRange, CalledWord, EntryTold, IsAsked, MadeOrSpent, entry_or_none, found_status, no_range, no_told, out_of, told_in_c}
+pub use Rattle.mt_c.specs.Calls.{AnswersCall, AnswersQuery, CalledAlone, CalledRange, CalledWord, EntryTold, IsAsked, MadeOrSpent, found_status, no_range, no_told, out_of, told_in_c}
 unfoldable pub use Rattle.mt_c.specs.Calls.{answered}
 pub use Rattle.mt_c.specs.Copying.{Checked, Copied, FitsRows, IsCopyInRows, IsOpenedWith, LacksTree, OpensHandle, no_form, out_form}
 pub use Rattle.mt_c.specs.Duplicates.{CopiesTo, HasCopied, HasLooked, HasMade, IsMadeBy, IsMadeIn, IsTriedCopy, IsUnmade, KeepsOff, Made, SharedCopied, when_looked}
@@ -67,11 +66,10 @@ pub use Rattle.mt_c.specs.Looks.{Found, HasFound, IsFoundIn, MadeImage, PutsByte
 pub use Rattle.mt_c.specs.Own.{OwnTree, own_of}
 pub use Rattle.mt_c.specs.Owned.{IsOpenHandle, is_kept, kept_owns, open_count, refusal, unopened}
 pub use Rattle.mt_c.specs.Places.{SharedPlaced}
-pub use Rattle.mt_c.specs.Prelude.{BulkError, Busy, Call, Cursor, DupError, Field, Form, Given, HasHeight, HasRead, HasWalked, HaveMet, Image, IsBusyOf, IsForNeighbour, IsFormBehind, IsImageOf, IsImagedBehind, IsLawfulOf, IsLookAt, IsNew, IsOldest, IsPassOf, IsReady, IsRun, IsStatsOf, IsWalkOf, Kind, Load, Log, Look, NoMemory, OnlyReads, Order, Parts, Pass, Query, Range, RangeWalk, Read, Reply, Rooted, Shape, Shortage, Sight, Stats, StepsWithin, Takes, TooMany, Transcript, Tree, WalksFrom, WasLeftMarked, WasMade, WasMoved, count_of_calls, cuts_of, first_bad, form_of, found_from, greatest, image_in, index_behind, kind_code, limit_of, live_rows, log_of, map_by, map_seen, misplaced, most_made, most_rows, new_sheet, opened, part_of, pass_in, passes_of, place_behind, query_at, rows_in, steps_made, tree_as, turn_seat, unbounded, up_to, words_in}
+pub use Rattle.mt_c.specs.Prelude.{BulkError, Busy, Call, Cursor, DupError, Field, Form, Given, HasHeight, HasRead, HasWalked, HaveMet, Image, IsBusyOf, IsForNeighbour, IsFormBehind, IsImageOf, IsImagedBehind, IsLawfulOf, IsLookAt, IsNew, IsOldest, IsPassOf, IsReady, IsRun, IsStatsOf, IsWalkOf, Kind, Load, Log, Look, NoMemory, OnlyReads, Order, Parts, Pass, Query, Range, RangeWalk, Read, Reply, Rooted, Shape, Shortage, Sight, Stats, StepsWithin, Takes, TooMany, Transcript, Tree, WalksFrom, WasLeftMarked, WasMade, WasMoved, count_of_calls, cuts_of, first_bad, form_of, found_from, greatest, image_in, index_behind, kind_code, limit_of, live_rows, log_of, map_by, map_seen, misplaced, most_made, most_rows, new_sheet, opened, part_of, pass_in, passes_of, place_behind, find_at, rows_in, steps_made, tree_as, turn_seat, unbounded, up_to, words_in}
 pub use Rattle.mt_c.specs.Preparing.{IsPreCalled, PreCalled, PreMade, pre_status, pre_word}
 pub use Rattle.mt_c.specs.Purses.{IsChairAtPurse, IsPurseBusy, RestsInPurse, WasGiven, WasKept, first_in, known_in}
 pub use Rattle.mt_c.specs.Receipts.{no_receipts, when_given, when_settled, when_synced, when_tried, when_unchanged}
-pub use Rattle.mt_c.specs.RowsFor.{level_from, levels_for, levels_from, rows_for, rows_told}
 pub use Rattle.mt_c.specs.Shared.{HasSettled, HasShared, HasSynced, HasTried, IfClosed, IsBadShape, IsFirstUser, IsLeftClosed, IsMeant, IsOfPurse, IsSettledUser, IsShape, IsShut, IsSynced, IsUnchanged, IsWhy, LeftBy, OnKept, OnUser, OpensBeside, OpensOther, SettleResult, SharedAsked, SharedClosed, SharedKept, SharedLearned, SharedLeft, SharedNew, SharedOpened, SharedPaused, SharedSettled, SharedStepped, SharedSynced, SharedTried, SharedWith, StaysAs, WantsNoPlace, WentToSettle, answer_status, calls_in_c, field_status, no_outcome, no_window, outcome_of, rested, settled_status, settled_told, synced_status, tried_status, unchanged_status, went_on, window_of}
 pub use Rattle.mt_c.specs.SharedImages.{BuildsIf, BuildsSo, IsFirstOfImage, IsFirstOfRanges, LacksFirstOfImage, LacksFirstOfRanges, LacksMany, OpensSo, OpensUser, SharedBuilds}
 pub use Rattle.mt_c.specs.SharedMaps.{IsFirstWith, LacksWith, OpensFirst, OpensWith, SharedOfTree, dup_status, shape_for}

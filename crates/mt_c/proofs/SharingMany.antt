@@ -8,7 +8,7 @@ use Rattle.mt_base.specs.Passes as known
 use Rattle.mt_read.proofs.Batching.{unwrapped}
 use Rattle.mt_tree.specs.Many.{HasLoadedMany, HasPutMany, HasWalkedMany}
 use Rattle.mt_c.specs.Walkers.{IsEntry}
-use Rattle.mt_c.specs.SharedMany.{HasWalkedOut, IsLeftAt, PutsMany, most_steps, SharedEntry, SharedLoadedMany, SharedSteppedMany, no_times, place_in, times_of}
+use Rattle.mt_c.specs.SharedMany.{HasWalkedOut, IsLeftAt, PutsMany, most_found, SharedEntry, SharedLoadedMany, SharedSteppedMany, no_times, place_in, times_of}
 use Rattle.mt_c.specs.declared.shared_many.OutWindow.{OutWindow}
 use Rattle.mt_c.specs.declared.told.OutRange.{OutRange}
 use Rattle.mt_c.specs.Calls.{many_status, range_out}
@@ -92,13 +92,13 @@ many_fit t p q None walk' buffer buffer' r some some' put = absurd (true≢false
 many_fit t p q (Some w) None buffer buffer' r some some' put = absurd (true≢false (sym some'))
 many_fit t p q (Some w) (Some w') buffer buffer' r some some' put = (fits_in t p q w w' buffer buffer' r put).1
 
-pub many_room : (t : Tree) (p q : Pass) (walk walk' : Option Cursor) (buffer buffer' : List Range) (r : Read ℕ) (room : ℕ) → length buffer ≡ min most_steps room → IsSome walk → IsSome walk' → IfSome walk (λ w. IfSome walk' (HasPutMany t p w buffer r buffer' q)) → r.value ≤ room
+pub many_room : (t : Tree) (p q : Pass) (walk walk' : Option Cursor) (buffer buffer' : List Range) (r : Read ℕ) (room : ℕ) → length buffer ≡ min most_found room → IsSome walk → IsSome walk' → IfSome walk (λ w. IfSome walk' (HasPutMany t p w buffer r buffer' q)) → r.value ≤ room
 many_room t p q None walk' buffer buffer' r room long some some' put = absurd (true≢false (sym some))
 many_room t p q (Some w) None buffer buffer' r room long some some' put = absurd (true≢false (sym some'))
 many_room t p q (Some w) (Some w') buffer buffer' r room long some some' put = let fits = (fits_in t p q w w' buffer buffer' r put).0 in omega arith
 
 -- what a batch has put into the buffer is put into the places of C
-walked_out : (t : Tree) (p q : Pass) (w w' : Cursor) (buffer buffer' : List Range) (old new : List OutRange) (r : Read ℕ) → length buffer ≡ min most_steps (length old) → new ≡ map range_out (take r.value buffer') ++ drop r.value old
+walked_out : (t : Tree) (p q : Pass) (w w' : Cursor) (buffer buffer' : List Range) (old new : List OutRange) (r : Read ℕ) → length buffer ≡ min most_found (length old) → new ≡ map range_out (take r.value buffer') ++ drop r.value old
     → HasPutMany t p w buffer r buffer' q w' → HasWalkedOut t p w old new r q w'
 walked_out t p q w w' buffer buffer' old new r long put many =
     let count = many.walked.count in
@@ -109,7 +109,7 @@ walked_out t p q w w' buffer buffer' old new r long put many =
       put = put ∙ (λ i. map range_out (first i) ++ drop (count i) old);
     }
 
-pub on_out : (t : Tree) (p q : Pass) (walk walk' : Option Cursor) (buffer buffer' : List Range) (old new : List OutRange) (r : Read ℕ) → length buffer ≡ min most_steps (length old) → new ≡ map range_out (take r.value buffer') ++ drop r.value old
+pub on_out : (t : Tree) (p q : Pass) (walk walk' : Option Cursor) (buffer buffer' : List Range) (old new : List OutRange) (r : Read ℕ) → length buffer ≡ min most_found (length old) → new ≡ map range_out (take r.value buffer') ++ drop r.value old
     → IfSome walk (λ w. IfSome walk' (HasPutMany t p w buffer r buffer' q)) → IfSome walk (λ w. IfSome walk' (HasWalkedOut t p w old new r q))
 on_out t p q None walk' buffer buffer' old new r long put many = tt
 on_out t p q (Some w) None buffer buffer' old new r long put many = tt

@@ -1,5 +1,5 @@
 -- What C is told of a call, read off all that is told.
-use Rattle.mt_c.proofs.Prelude.{◌≡◌, ◌∙◌, ℕ, ap, refl, sym, subst, Option, Some, None, option_map, unwrap_or, Call, Query, Load, Range, Reply, OwnTree, OutRange, ToldCall, PreCalled, PreMade, pre_status, pre_word, AnswersQuery, AnswersCall, CalledAlone, CalledWord, CalledRange, EntryTold, IsAsked, MadeOrSpent, answered, entry_or_none, found_status, no_range, no_told, out_of, told_in_c}
+use Rattle.mt_c.proofs.Prelude.{◌≡◌, ◌∙◌, ℕ, ap, refl, sym, subst, Option, Some, None, option_map, unwrap_or, Call, Query, Load, Range, Reply, OwnTree, OutRange, ToldCall, PreCalled, PreMade, pre_status, pre_word, AnswersQuery, AnswersCall, CalledAlone, CalledWord, CalledRange, EntryTold, IsAsked, MadeOrSpent, answered, entry_or_zero, found_status, no_range, no_told, out_of, told_in_c}
 
 -- ---- all that is told
 
@@ -25,7 +25,7 @@ pub entry_open : (index : ℕ) (before after : Option OwnTree) (t t' : OwnTree) 
 entry_open index before after t t' found entry was is rest answers told =
     subst (λ (x : Option OwnTree × Option OwnTree). EntryTold index x.0 x.1 entry) (λ i. (sym was i, sym is i)) (rest, told ∙ (ap (λ (o : Option ℕ). unwrap_or o 0) answers ∙ or_none (answered t.engine (Load index))))
   where
-    or_none : (o : Option Range) → unwrap_or (option_map (λ (r : Range). r.entry) o) 0 ≡ entry_or_none o
+    or_none : (o : Option Range) → unwrap_or (option_map (λ (r : Range). r.entry) o) 0 ≡ entry_or_zero o
     or_none None = refl
     or_none (Some r) = refl
 

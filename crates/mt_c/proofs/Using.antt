@@ -1,6 +1,7 @@
 -- What a user of a shared tree does: which section stands open is no part of what a read says, and where a walk goes on.
-use Rattle.mt_c.proofs.Prelude.{◌≡◌, ◌∙◌, ℕ, suc, get_or, List, [], ◌∷◌, ◌++◌, ◌<◌, ◌^◌, length, map, refl, sym, ap, subst, arith, Bool, true, false, true≢false, Option, Some, None, eqb-true, le-leb, length-map, map-append, length-map-range_with_len, slice_get-get_or, slice_get-map, ◌↔◌, ◌+◌, ◌≤◌, All, Ok, Err, Result, IfOk, IfErr, IfSome, IsSome, if◌then◌else◌, option_map, slice_get, Snapshot, Badge, Call, Query, Load, Range, History, Cursor, KeptLeaf, IsOnKeptLeaf, place_behind, place_from, query_at, WasLeftMarked, WasMoved, HasRead, Given, cuts_of, Sight, Busy, TurnView, part_of, turn_seat, Read, Tree, IsForNeighbour, unbounded, HaveMet, IsNew, IsPassOf, Pass, Takes, TriesOnce, limit_of, passes_of, pass_in, steps_made, opened, IsBusyOf, WasMade, HasWalked, IsWalkOf, Field, MakeError, Shape, first_bad, Common, Purse, User, Left, Walker, IsPurseBusy, IsChairAtPurse, RestsInPurse, WasGiven, WasKept, first_in, no_receipts, IsSparePass, IsKeptWalk, last_index, HasLeft, IsFirstUser, IsOfPurse, IsSettledUser, IsSynced, IsWhy, common_of, cuts, known_to, user_tree, Answer, Continues, GaveUp, GoesFrom, WalkGoesOn, IsWalkAnswer, IsOnNoWalk, IsLeftBy, IsOnAt, IsReadBy, IsStep, IsTried, KnowsAs, Took, Tried, TriedOnce, WentOnce, closed_by, halted, walk_is_at, knows, new_walk, pausing, stands_at}
+use Rattle.mt_c.proofs.Prelude.{◌≡◌, ◌∙◌, ℕ, suc, get_or, List, [], ◌∷◌, ◌++◌, ◌<◌, ◌^◌, length, map, refl, sym, ap, subst, arith, Bool, true, false, true≢false, Option, Some, None, eqb-true, le-leb, length-map, map-append, length-map-range_with_len, slice_get-get_or, slice_get-map, ◌↔◌, ◌+◌, ◌≤◌, All, Ok, Err, Result, IfOk, IfErr, IfSome, IsSome, if◌then◌else◌, option_map, slice_get, Snapshot, Badge, Call, Query, Load, Range, History, Cursor, KeptLeaf, IsOnKeptLeaf, place_behind, place_within, find_at, WasLeftMarked, WasMoved, HasRead, Given, cuts_of, Sight, Busy, TurnView, part_of, turn_seat, Read, Tree, IsForNeighbour, unbounded, HaveMet, IsNew, IsPassOf, Pass, Takes, TriesOnce, limit_of, passes_of, pass_in, steps_made, opened, IsBusyOf, WasMade, HasWalked, IsWalkOf, Field, MakeError, Shape, first_bad, Common, Purse, User, Left, Walker, IsPurseBusy, IsChairAtPurse, RestsInPurse, WasGiven, WasKept, first_in, no_receipts, IsSparePass, IsKeptWalk, last_index, HasLeft, IsFirstUser, IsOfPurse, IsSettledUser, IsSynced, IsWhy, common_of, cuts, known_to, user_tree, Answer, Continues, GaveUp, GoesFrom, WalkGoesOn, IsWalkAnswer, IsOnNoWalk, IsLeftBy, IsOnAt, IsReadBy, IsStep, IsTried, KnowsAs, Took, Tried, TriedOnce, WentOnce, closed_by, halted, walk_is_at, knows, new_walk, pausing, stands_at}
 use Rattle.mt_base.specs.Passes as known
+use Rattle.mt_c.specs.Walkers.{TriedShut}
 use Rattle.mt_keep.specs.declared.keep.Busy as away
 use Rattle.mt_rule.specs.Turns as turns
 use Rattle.mt_tree.specs.declared.shapes.MakeError.TheVariants as make_error
@@ -27,6 +28,9 @@ tried_seat p q same = ap (λ (seat : Badge TurnView). record seat { views = map 
 
 pub tried_once : (w v w' : Walker) → Took 0 w v.pass → TriesOnce v.pass w'.pass → TriedOnce w w'
 tried_once w v w' before tries = record { steps = (let a = before.steps in let b = tries.steps in omega (arith, a, b)); went = tries.turn ∙ tried_seat w.pass v.pass before.turn }
+
+pub tried_shut : (w v w' : Walker) → Takes 1 w.pass v.pass → TriesOnce v.pass w'.pass → TriedShut w w'
+tried_shut w v w' before tries = record { steps = (let a = before.steps in let b = tries.steps in omega (arith, a, b)); went = tries.turn ∙ tried_seat w.pass v.pass before.turn }
 
 pub went_after : (w v w' : Walker) → Took 0 w v.pass → WentOnce v w' → WentOnce w w'
 went_after w v w' before went = went ∙ tried_seat w.pass v.pass before.turn
@@ -68,33 +72,13 @@ closed_knows None p q is = same_knows p q is
 closed_knows (Some w) p q is = halted_knows p q is
 
 module _ (tree : History) (lo hi k : ℕ) (query : Query) (value : Option Range) where
-  into_closed : (p q : known.Pass) → known.Read tree p lo hi k query value q → known.Read tree (record p { standing = None }) lo hi k query value (record q { standing = None })
-  into_closed p q r = record {
-    grows = record { number = r.grows.number; seen = r.grows.seen; mine = r.grows.mine; opened = r.grows.opened; begun = r.grows.begun; ended = r.grows.ended };
-    true = r.true;
-    from = r.from;
-    floor = r.floor;
-    before = r.before;
-    lo_known = r.lo_known;
-    hi_known = r.hi_known;
-    sound = record { own = r.sound.own; legal = r.sound.legal };
-  }
-
-  out_of_closed : (p q : known.Pass) → known.Read tree (record p { standing = None }) lo hi k query value (record q { standing = None }) → known.Read tree p lo hi k query value q
-  out_of_closed p q r = record {
-    grows = record { number = r.grows.number; seen = r.grows.seen; mine = r.grows.mine; opened = r.grows.opened; begun = r.grows.begun; ended = r.grows.ended };
-    true = r.true;
-    from = r.from;
-    floor = r.floor;
-    before = r.before;
-    lo_known = r.lo_known;
-    hi_known = r.hi_known;
-    sound = record { own = r.sound.own; legal = r.sound.legal };
-  }
+  -- whichever section stands open at either end
+  with_standing : (s s' : Option ℕ) (p q : known.Pass) → known.Read tree p lo hi k query value q → known.Read tree (record p { standing = s }) lo hi k query value (record q { standing = s' })
+  with_standing s s' p q r = record { grows = record { number = r.grows.number; seen = r.grows.seen; mine = r.grows.mine; opened = r.grows.opened; begun = r.grows.begun; ended = r.grows.ended }; true = r.true; from = r.from; floor = r.floor; before = r.before; lo_known = r.lo_known; hi_known = r.hi_known; sound = record { own = r.sound.own; legal = r.sound.legal } }
 
   reads_as : (p p' q q' : known.Pass) → KnowsAs p p' → KnowsAs q' q → known.Read tree p' lo hi k query value q' → known.Read tree p lo hi k query value q
   reads_as p p' q q' before after r =
-      out_of_closed p q (subst (λ (x : known.Pass × known.Pass). known.Read tree x.0 lo hi k query value x.1) (λ i. (sym before.same i, after.same i)) (into_closed p' q' r))
+      with_standing p.standing q.standing (record p { standing = None }) (record q { standing = None }) (subst (λ (x : known.Pass × known.Pass). known.Read tree x.0 lo hi k query value x.1) (λ i. (sym before.same i, after.same i)) (with_standing None None p' q' r))
 
 read_before : (lo hi : ℕ) (p q : known.Pass) → HasRead lo hi (record p { standing = None }) q → HasRead lo hi p q
 read_before lo hi p q r = record { seen = r.seen; pass = r.pass; window = r.window }
@@ -177,7 +161,7 @@ ends_walk v v' found is at closed none =
 pub paused_knows : (v v' : Walker) → knows v' ≡ halted v → KnowsAs (knows v) (knows v')
 paused_knows v v' is = closed_knows v.walk (knows v) (knows v') is
 
-pub from_any : (from : ℕ) → from < 2 ^ 64 → place_from from last_index ≡ Some from
+pub from_any : (from : ℕ) → from < 2 ^ 64 → place_within from last_index ≡ Some from
 from_any from few = ap (λ (b : Bool). if b then Some from else None) (le-leb from last_index (omega arith))
 
 pub begins_walk : (p : Pass) (w : Cursor) → w.leaf ≡ None → w.epoch ≡ None → w.max ≡ last_index → IsKeptWalk p w
@@ -195,10 +179,10 @@ goes_on t r p q w w' kept walked of = record { of = of; max = walked.max ∙ kep
 
 -- a step of a walk answers the find from its place
 pub on_answer : (t : Tree) (r : Read (Option Range)) (p q : Pass) (walk : Option Cursor) (w w' : Cursor) → walk ≡ Some w → IsKeptWalk p w → HasWalked t p w r q w'
-    → IfSome walk (λ v. IsReadBy t (pass_in p) (query_at v.at last_index) r (pass_in q))
+    → IfSome walk (λ v. IsReadBy t (pass_in p) (find_at v.at last_index) r (pass_in q))
 on_answer t r p q walk w w' is kept walked =
-    let read : IsReadBy t (pass_in p) (query_at w.at last_index) r (pass_in q) = subst (λ (m : ℕ). IsReadBy t (pass_in p) (query_at w.at m) r (pass_in q)) kept.max walked.read in
-    subst (λ (o : Option Cursor). IfSome o (λ v. IsReadBy t (pass_in p) (query_at v.at last_index) r (pass_in q))) (sym is) read
+    let read : IsReadBy t (pass_in p) (find_at w.at last_index) r (pass_in q) = subst (λ (m : ℕ). IsReadBy t (pass_in p) (find_at w.at m) r (pass_in q)) kept.max walked.read in
+    subst (λ (o : Option Cursor). IfSome o (λ v. IsReadBy t (pass_in p) (find_at v.at last_index) r (pass_in q))) (sym is) read
 
 pub on_walked : (t : Tree) (r : Read (Option Range)) (p q : Pass) (walk walk' : Option Cursor) (w w' : Cursor) → walk ≡ Some w → walk' ≡ Some w' → HasWalked t p w r q w' → IfSome walk (λ v. IfSome walk' (HasWalked t p v r q))
 on_walked t r p q walk walk' w w' is is' walked = subst (λ (o : Option Cursor × Option Cursor). IfSome o.0 (λ v. IfSome o.1 (HasWalked t p v r q))) (λ i. (sym is i, sym is' i)) walked
@@ -206,10 +190,10 @@ on_walked t r p q walk walk' w w' is is' walked = subst (λ (o : Option Cursor �
 pub on_place : (t : Tree) (r : Read (Option Range)) (p q : Pass) (walk : Option Cursor) (w w' : Cursor) → walk ≡ Some w' → IsKeptWalk p w → HasWalked t p w r q w' → IsOnAt walk (place_behind r.value last_index)
 on_place t r p q walk w w' is kept walked = stands_on walk w' (place_behind r.value last_index) is (walked.at ∙ ap (place_behind r.value) kept.max)
 
-step_read : (t : Tree) (walk : Option Cursor) (from : ℕ) (r : Read (Option Range)) (p p' q q' : known.Pass) → IsOnAt walk (Some from) → KnowsAs p p' → KnowsAs q' q → IfSome walk (λ v. IsReadBy t p' (query_at v.at last_index) r q')
-    → IsReadBy t p (query_at (Some from) last_index) r q
+step_read : (t : Tree) (walk : Option Cursor) (from : ℕ) (r : Read (Option Range)) (p p' q q' : known.Pass) → IsOnAt walk (Some from) → KnowsAs p p' → KnowsAs q' q → IfSome walk (λ v. IsReadBy t p' (find_at v.at last_index) r q')
+    → IsReadBy t p (find_at (Some from) last_index) r q
 step_read t None from r p p' q q' at before after said = elim at [ ]
-step_read t (Some w) from r p p' q q' at before after said = read_as t (query_at (Some from) last_index) r p p' q q' before after (subst (λ (o : Option ℕ). IsReadBy t p' (query_at o last_index) r q') at said)
+step_read t (Some w) from r p p' q q' at before after said = read_as t (find_at (Some from) last_index) r p p' q q' before after (subst (λ (o : Option ℕ). IsReadBy t p' (find_at o last_index) r q') at said)
 
 -- one that stands at an index
 pub at_index : (walk : Option Cursor) (from : ℕ) → stands_at walk from ≡ true → IsOnAt walk (Some from)
@@ -231,15 +215,15 @@ goes_kept from v is = by_walk v.walk refl
 pub goes_anew : (from : ℕ) (v v' : Walker) (w : Cursor) → stands_at v.walk from ≡ false → knows v' ≡ halted v → Took 0 v v'.pass → v'.walk ≡ Some w → w ≡ new_walk from → IfSome v'.walk (Continues from v v'.pass)
 goes_anew from v v' w off closed took is new = subst (λ (o : Option Cursor). IfSome o (Continues from v v'.pass)) (sym is) (subst (λ (b : Bool). GoesFrom b from v v'.pass w) (sym off) (closed, took, new))
 
-pub is_new_walk : (from : ℕ) (w : Cursor) → from < 2 ^ 64 → w.at ≡ place_from from last_index → w.max ≡ last_index → w.leaf ≡ None → w.epoch ≡ None → w ≡ new_walk from
+pub is_new_walk : (from : ℕ) (w : Cursor) → from < 2 ^ 64 → w.at ≡ place_within from last_index → w.max ≡ last_index → w.leaf ≡ None → w.epoch ≡ None → w ≡ new_walk from
 is_new_walk from w few at max leaf epoch = λ i. record { at = (at ∙ from_any from few) i; max = max i; leaf = leaf i; epoch = epoch i }
 
 -- a step: the walk went on by one range
-pub is_step : (t : Tree) (v m n v' : Walker) (from : ℕ) (r : Read (Option Range)) → IsOnAt m.walk (Some from) → KnowsAs (knows v) (knows m) → IfSome m.walk (Continues from v m.pass) → IfSome m.walk (λ w. IsReadBy t (knows m) (query_at w.at last_index) r (knows n))
+pub is_step : (t : Tree) (v m n v' : Walker) (from : ℕ) (r : Read (Option Range)) → IsOnAt m.walk (Some from) → KnowsAs (knows v) (knows m) → IfSome m.walk (Continues from v m.pass) → IfSome m.walk (λ w. IsReadBy t (knows m) (find_at w.at last_index) r (knows n))
     → IfSome m.walk (λ w. IfSome n.walk (HasWalked t m.pass w r n.pass)) → IsOnAt n.walk (place_behind r.value last_index) → KnowsAs (knows n) (knows v') → WalkGoesOn r.value v' → ((w : Cursor) → n.walk ≡ Some w → IsLeftBy r.value n.pass w v') → Took 0 v m.pass → Takes 1 n.pass v'.pass → IsStep t v from r v'
 is_step t v m n v' from r at known begins read walked behind after goes left before last = by_walks m.walk n.walk refl refl at begins read walked behind
   where
-    by_walks : (o o' : Option Cursor) → m.walk ≡ o → n.walk ≡ o' → IsOnAt o (Some from) → IfSome o (Continues from v m.pass) → IfSome o (λ w. IsReadBy t (knows m) (query_at w.at last_index) r (knows n))
+    by_walks : (o o' : Option Cursor) → m.walk ≡ o → n.walk ≡ o' → IsOnAt o (Some from) → IfSome o (Continues from v m.pass) → IfSome o (λ w. IsReadBy t (knows m) (find_at w.at last_index) r (knows n))
         → IfSome o (λ w. IfSome o' (HasWalked t m.pass w r n.pass)) → IsOnAt o' (place_behind r.value last_index) → IsStep t v from r v'
     by_walks None o' e e' at begins read walked behind = elim at [ ]
     by_walks (Some w) None e e' at begins read walked behind = elim behind [ ]

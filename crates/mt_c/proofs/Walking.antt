@@ -1,5 +1,7 @@
 -- A step of a walk that C keeps.
-use Rattle.mt_c.proofs.Prelude.{◌≡◌, ◌∙◌, ℕ, ◌≤◌, Option, Some, None, refl, sym, ap, subst, IfSome, le-leb, Range, greatest, map_by, OnlyReads, Rooted, Sheet, Parts, RangeWalk, WalksFrom, StepsWithin, found_from, index_behind, OwnTree, IsAsked, found_status, no_range, out_of, IsStepped, HasSteppedOn, walk_index, walk_start, last_index_of, walk_from, OutRange, OutWalk}
+use Rattle.mt_c.proofs.Prelude.{◌≡◌, ◌∙◌, ℕ, ◌≤◌, false, Option, Some, None, refl, sym, ap, subst, IfSome, le-leb, Kind, Range, Call, Reply, Book, greatest, map_by, OnlyReads, Rooted, Sheet, Parts, RangeWalk, WalksFrom, StepsWithin, found_from, index_behind, OwnTree, IsAsked, found_status, no_range, out_of, IsStepped, HasSteppedOn, walk_index, walk_start, last_index_of, walk_from, OutRange, OutWalk}
+use Rattle.mt_engine.specs.Engine.{IsEnded}
+use Rattle.mt_engine.specs.Rooms.{IsScanned}
 
 -- a walk goes on where a tree was only read
 pub walks_if_read : (s s' : Sheet) (walk : RangeWalk) → OnlyReads s s' → WalksFrom s.tree walk → WalksFrom s'.tree walk
@@ -10,6 +12,19 @@ walks_if_asked e e' walk asked is = walks_if_read e.sheet e'.sheet walk asked.re
 
 pub ended_if_asked : (e e' : Parts) (calls : ℕ) → IsAsked e e' → calls ≡ e.sheet.ended → calls ≡ e'.sheet.ended
 ended_if_asked e e' calls asked count = count ∙ sym (ap (λ (x : Sheet). x.ended) asked.rest)
+
+-- no other reads the nodes of a tree that was read, scanned, or called
+pub alone_if_read : (s s' : Sheet) → OnlyReads s s' → s.shared ≡ false → s'.shared ≡ false
+alone_if_read s s' reads alone = ap (λ (x : Sheet). x.shared) reads ∙ alone
+
+pub alone_if_asked : (e e' : Parts) → IsAsked e e' → e.sheet.shared ≡ false → e'.sheet.shared ≡ false
+alone_if_asked e e' asked alone = alone_if_read e.sheet e'.sheet asked.rest alone
+
+pub alone_if_scanned : (kind : Kind) (s s' : Sheet) (book book' : Book) → IsScanned kind s s' book book' → s.shared ≡ false → s'.shared ≡ false
+alone_if_scanned kind s s' book book' scan alone = ap (λ (x : Sheet). x.shared) scan.rest ∙ alone
+
+pub alone_if_ended : (kind : Kind) (s s' : Sheet) (book' : Book) (call : Call) (reply : Reply) → IsEnded kind s s' book' call reply → s.shared ≡ false → s'.shared ≡ false
+alone_if_ended kind s s' book' call reply ended alone = ended.shared ∙ alone
 
 -- an index that is kept is one of the tree
 start_is : (top : ℕ) (index : Option ℕ) → IfSome index (λ i. i ≤ top) → index ≡ walk_start top index

@@ -1,12 +1,14 @@
 -- What C gets of calls and of queries, and what they do to the tree that it keeps.
 -- Source: the kernel's include/uapi/asm-generic/errno-base.h and errno.h: ENOENT, EBADF, ENOMEM, EBUSY, EEXIST, EINVAL
 -- and EOVERFLOW.
-use Rattle.std.specs.Prelude.{◌≡◌, ℕ, ◌-◌, ◌^◌, ◌<◌, ◌≤◌, ◌==◌, Option, Some, None, if◌then◌else◌}
-use Rattle.mt_c.specs.Prelude.{Call, Query, Load, Range, Reply, Shortage, answer, map_by, OnlyReads, Parts, IsApplied, most_calls}
+use Rattle.std.specs.Prelude.{◌≡◌, ℕ, ◌<◌, ◌≤◌, ◌==◌, false, Option, Some, None, if◌then◌else◌}
+use Rattle.mt_c.specs.Prelude.{Call, Query, Load, Range, Reply, Shortage, answer, map_by, OnlyReads, Parts, IsApplied}
+use Rattle.mt_base.specs.Map.{entry_or_zero}
 use Rattle.mt_base.specs.declared.replies.Reply.TheVariants as answers
 use Rattle.mt_c.specs.Own.{OwnTree}
 use Rattle.mt_c.specs.declared.told.OutRange.{OutRange}
 use Rattle.mt_c.specs.declared.told.ToldCall.{ToldCall}
+use Rattle.mt_base.specs.Limits.{most_calls}
 
 -- ---- numbers and answers
 
@@ -74,8 +76,9 @@ many_status count (Some next) = 0
 
 -- ---- trees
 
--- a call was made, and this is the reply
+-- A call was made, and this is the reply. No other reads the nodes, so that none is held back for it.
 pub record IsCallMade (t t' : Parts) (call : Call) (reply : Reply) : Type 0 where
+  pub alone : t.sheet.shared ≡ false
   pub few : t.sheet.ended < most_calls
   pub applied : IsApplied t.kind t.sheet t'.sheet t.book t'.book call reply
   pub kind : t'.kind ≡ t.kind
@@ -121,13 +124,8 @@ AnswersQuery query (Some t) None status out = ⊥
 AnswersQuery query (Some t) (Some t') status out =
     IsAsked t.engine t'.engine × (status ≡ found_status (answered t.engine query)) × (out ≡ out_of (answered t.engine query))
 
--- the entry of a range, and 0 if there is none
-abbrev pub entry_or_none : Option Range → ℕ
-entry_or_none None = 0
-entry_or_none (Some r) = r.entry
-
 -- The entry that an index holds is returned: 0 if it lies in a hole, or the tree is closed.
 abbrev pub EntryTold : ℕ → Option OwnTree → Option OwnTree → ℕ → Type 0
 EntryTold index None after entry = (after ≡ None) × (entry ≡ 0)
 EntryTold index (Some t) None entry = ⊥
-EntryTold index (Some t) (Some t') entry = IsAsked t.engine t'.engine × (entry ≡ entry_or_none (answered t.engine (Load index)))
+EntryTold index (Some t) (Some t') entry = IsAsked t.engine t'.engine × (entry ≡ entry_or_zero (answered t.engine (Load index)))

@@ -3,7 +3,7 @@
 use Rattle.std.specs.Prelude.{◌≡◌, ◌⊎◌, ℕ, ◌<◌, ◌≤◌, List, Option, Some, None, Result, Ok, Err, Vec}
 use Rattle.std.specs.Global.{Global}
 use Rattle.mt_base.specs.Passes as known
-use Rattle.mt_c.specs.Prelude.{Busy, DupError, Look, Shape, Tree, IsLookAt, first_bad, IsNew, Pass, live_rows, map_seen, opened, words_in, IsBusyOf}
+use Rattle.mt_c.specs.Prelude.{Busy, DupError, Look, Shape, Tree, IsLookAt, first_bad, IsNew, Pass, Takes, live_rows, map_seen, opened, words_in, IsBusyOf}
 use Rattle.mt_tree.specs.declared.shapes.DupError.TheVariants as errors
 use Rattle.mt_c.specs.declared.receipts.Receipts.{Receipts}
 use Rattle.mt_c.specs.declared.user.User.{User}
@@ -13,7 +13,7 @@ use Rattle.mt_c.specs.Owned.{unopened}
 use Rattle.mt_c.specs.Shared.{IsBadShape, IsLeftClosed, SharedKept, StaysAs}
 use Rattle.mt_c.specs.SharedMaps.{IsFirstWith, shape_for}
 use Rattle.mt_c.specs.Users.{common_of, known_to, user_tree}
-use Rattle.mt_c.specs.Walkers.{IsPaused, Took, TriedOnce, halted, knows}
+use Rattle.mt_c.specs.Walkers.{IsOnNoWalk, TriedShut, knows, shut}
 
 -- ---- under the lock
 
@@ -21,17 +21,17 @@ use Rattle.mt_c.specs.Walkers.{IsPaused, Took, TriedOnce, halted, knows}
 abbrev pub Made : Type 0
 Made = Result (Tree × Vec Pass Global) DupError
 
--- The handle has not gone for the lock, and knows what it knew. Its walk is paused.
+-- The handle has not gone for the lock, and knows what it knew. Its section is closed.
 abbrev pub KeptOff : Walker → Walker → Type 0
-KeptOff w w' = Took 0 w w'.pass × (knows w' ≡ halted w)
+KeptOff w w' = Takes 1 w.pass w'.pass × (knows w' ≡ shut w)
 
 -- It has gone for the lock once, and seen the whole history: the tree after that is what it looked at.
 abbrev pub LookedOnce : Tree → Walker → Look → Walker → Type 0
-LookedOnce t w look w' = TriedOnce w w' × known.Saw (opened t) (halted w) (knows w') × IsLookAt t (knows w') look
+LookedOnce t w look w' = TriedShut w w' × known.Saw (opened t) (shut w) (knows w') × IsLookAt t (knows w') look
 
 -- It has gone for the lock once, and found it taken.
 abbrev pub FoundIt : Tree → Walker → Busy → Walker → Type 0
-FoundIt t w busy w' = TriedOnce w w' × IsBusyOf t busy × (knows w' ≡ halted w)
+FoundIt t w busy w' = TriedShut w w' × IsBusyOf t busy × (knows w' ≡ shut w)
 
 -- Why no copy of this shape was begun: the first field that is out of range; or memory ran out for one that is in range.
 abbrev pub IsUnmade : Shape → Made → Type 0
@@ -104,10 +104,10 @@ abbrev pub HasCopied : Shape → Option User → ℕ → User → User → Type 
 HasCopied shape (Some w) status u v = (status ≡ 0) × HasOpened shape w u v
 HasCopied shape None status u v = (IsBadShape shape status × KeepsOff u v) ⊎ ((first_bad shape ≡ None) × LacksCopy shape status u v)
 
--- An open of one user with a copy of the tree of another, which makes no step at the purse (the pool of free handles). Where
--- the first is not closed all stay as they were.
+-- An open of one user with a copy of the tree of another, which makes no step at the purse (the pool of free handles), and then has
+-- no section open. Where the first is not closed all stay as they were.
 abbrev pub CopiesTo : Option ℕ → Shape → User → User → UserHandle → UserHandle → ℕ → Type 0
-CopiesTo None shape u v other other' status = IsLeftClosed other' × (common_of v ≡ common_of u) × (v.chair ≡ u.chair) × IsPaused v.walker × HasCopied shape other'.kept.value status u v
+CopiesTo None shape u v other other' status = IsLeftClosed other' × (common_of v ≡ common_of u) × (v.chair ≡ u.chair) × IsOnNoWalk v.walker × HasCopied shape other'.kept.value status u v
 CopiesTo (Some number) shape u v other other' status = (v ≡ u) × (other' ≡ other) × (status ≡ number)
 
 abbrev pub SharedCopied : ℕ → ℕ → ℕ → UserHandle → UserHandle → UserHandle → UserHandle → ℕ → Type 0

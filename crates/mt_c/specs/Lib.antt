@@ -19,9 +19,10 @@ pub mod Shared
 pub mod Bounded
 pub mod Places
 pub mod SharedMany
+pub mod SharedKept
 pub mod SharedMaps
 pub mod SharedImages
-pub mod RowsFor
+pub mod Reserve
 pub mod Stats
 pub mod Looks
 pub mod CallLists

@@ -13,8 +13,8 @@ use Rattle.mt_c.specs.declared.user_handle.UserHandle.{UserHandle}
 use Rattle.mt_c.specs.Copying.{no_form, out_form}
 use Rattle.mt_c.specs.Shared.{OnUser}
 use Rattle.mt_c.specs.Stats.{no_stats}
-use Rattle.mt_c.specs.Users.{known_to, paused, user_tree}
-use Rattle.mt_c.specs.Walkers.{IsPaused, TriedOnce}
+use Rattle.mt_c.specs.Users.{known_to, rested, user_tree}
+use Rattle.mt_c.specs.Walkers.{IsOnNoWalk, TriedShut}
 
 -- ---- a look under the lock
 
@@ -33,16 +33,21 @@ abbrev pub when_found : {A : Type 0} → Found A → Receipts → Receipts
 when_found (Ok found) r = record r { looked = Some found.1 }
 when_found (Err busy) r = record r { locked = Some busy }
 
--- A user has looked so, for which it went for the lock once. It keeps no walk, and makes no step at the purse.
+-- What was found is told as C has it (0), or that the lock was taken (EAGAIN).
+abbrev pub TellsFound : {A B : Type 0} → (A → B) → B → ℕ → B → Found A → Type 0
+TellsFound shown none status out (Ok found) = (status ≡ 0) × (out ≡ shown found.0)
+TellsFound shown none status out (Err busy) = (status ≡ 11) × (out ≡ none)
+
+-- A user has looked so, for which it closed its section and went for the lock once. It keeps no walk and has no section open, and
+-- makes no step at the purse.
 abbrev pub HasFound : {A : Type 0} → (Tree → known.Pass → A × Look → Type 0) → (Found A → Type 0) → User → User → Type 0
 HasFound {A} is tells u v =
-    (found : Found A) × IsFoundIn is (user_tree u) (paused u) found (known_to v) × TriedOnce u.walker v.walker × IsPaused v.walker × (v.chair ≡ u.chair) × (v.receipts ≡ when_found found u.receipts) × tells found
+    (found : Found A) × IsFoundIn is (user_tree u) (rested u) found (known_to v) × TriedShut u.walker v.walker × IsOnNoWalk v.walker × (v.chair ≡ u.chair) × (v.receipts ≡ when_found found u.receipts) × tells found
 
 -- ---- a check: the form is that of the words that the lock protects
 
 abbrev pub TellsForm : ℕ → OutForm → Found Form → Type 0
-TellsForm status out (Ok found) = (status ≡ 0) × (out ≡ out_form found.0)
-TellsForm status out (Err busy) = (status ≡ 11) × (out ≡ no_form)
+TellsForm status out found = TellsFound out_form no_form status out found
 
 abbrev pub SharedChecked : UserHandle → UserHandle → ℕ → OutForm → Type 0
 SharedChecked before after status out = OnUser before after status (out ≡ no_form) (HasFound IsFormBehind (TellsForm status out))
@@ -53,8 +58,7 @@ abbrev pub out_stats : Stats → OutStats
 out_stats s = record { rows = s.rows; free = s.free; live = s.live; held = s.held; height = s.height; calls = s.calls }
 
 abbrev pub TellsStats : ℕ → OutStats → Found Stats → Type 0
-TellsStats status out (Ok found) = (status ≡ 0) × (out ≡ out_stats found.0)
-TellsStats status out (Err busy) = (status ≡ 11) × (out ≡ no_stats)
+TellsStats status out found = TellsFound out_stats no_stats status out found
 
 abbrev pub SharedStats : UserHandle → UserHandle → ℕ → OutStats → Type 0
 SharedStats before after status out = OnUser before after status (out ≡ no_stats) (HasFound IsStatsOf (TellsStats status out))
@@ -62,8 +66,7 @@ SharedStats before after status out = OnUser before after status (out ≡ no_sta
 -- ---- since when sections are open
 
 abbrev pub TellsCalls : ℕ → ℕ → Found ℕ → Type 0
-TellsCalls status out (Ok found) = (status ≡ 0) × (out ≡ found.0)
-TellsCalls status out (Err busy) = (status ≡ 11) × (out ≡ 0)
+TellsCalls status out found = TellsFound (λ (calls : ℕ). calls) 0 status out found
 
 -- how many calls had ended at least when a section that is open was opened
 abbrev pub SharedOldest : UserHandle → UserHandle → ℕ → ℕ → Type 0

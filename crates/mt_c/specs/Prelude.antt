@@ -28,10 +28,10 @@ pub use Rattle.mt_engine.specs.Prepared.{IsPrestored}
 pub use Rattle.mt_engine.specs.RangeWalks.{StepsWithin, WalksFrom, found_from, index_behind, index_in}
 pub use Rattle.mt_engine.specs.Rooms.{HasRoom, IsScanned}
 pub use Rattle.mt_engine.specs.declared.range_walk.RangeWalk.{RangeWalk}
-pub use Rattle.mt_rule.specs.Limits.{most_calls}
+pub use Rattle.mt_base.specs.Limits.{most_calls}
 pub use Rattle.mt_rule.specs.Tokens.{part_of, turn_seat}
 pub use Rattle.mt_rule.specs.declared.busy.Busy.{Busy}
-pub use Rattle.mt_read.specs.Cursors.{place_behind, query_at}
+pub use Rattle.mt_base.specs.Places.{find_at, place_behind}
 pub use Rattle.mt_read.specs.Neighbours.{WasLeftMarked, WasMoved}
 pub use Rattle.mt_read.specs.Windows.{HasRead}
 pub use Rattle.mt_read.specs.declared.cursor.Cursor.{Cursor}
@@ -48,13 +48,13 @@ pub use Rattle.mt_tree.specs.Trees.{IsNew, IsPassOf, Pass, Takes, limit_of, map_
 pub use Rattle.mt_tree.specs.Tries.{IsBusyOf, WasMade}
 pub use Rattle.mt_tree.specs.Walks.{HasWalked, IsWalkOf}
 pub use Rattle.mt_tree.specs.declared.receipts.Look.{Look}
-pub use Rattle.mt_tree.specs.declared.shapes.Done.{Done}
+pub use Rattle.mt_base.specs.declared.outcomes.Done.{Done}
 pub use Rattle.mt_tree.specs.declared.shapes.DupError.{DupError}
 pub use Rattle.mt_tree.specs.declared.shapes.Field.{Field}
-pub use Rattle.mt_tree.specs.declared.shapes.Read.{Read}
+pub use Rattle.mt_base.specs.declared.outcomes.Read.{Read}
 pub use Rattle.mt_tree.specs.declared.shapes.Shape.{Shape}
 pub use Rattle.mt_tree.specs.declared.shapes.Stats.{Stats}
-pub use Rattle.mt_tree.specs.declared.shapes.Worn.{Worn}
+pub use Rattle.mt_base.specs.declared.outcomes.Worn.{Worn}
 pub use Rattle.mt_tree.specs.declared.trees.Tree.{Tree}
 pub use Rattle.mt_keep.specs.Keeping.{cuts_of}
 pub use Rattle.mt_keep.specs.declared.keep.Given.{Given}

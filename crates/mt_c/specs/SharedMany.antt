@@ -1,7 +1,7 @@
 -- What the calls of C on a shared tree say that read an entry alone, many entries, or many ranges.
 -- Source: this project's own; the kernel's readers ask for one index, or one range, at a time.
 use Rattle.std.specs.Prelude.{◌≡◌, ◌+◌, ◌*◌, ℕ, List, [], ◌∷◌, ◌++◌, Option, Some, None, Ok, length, min, drop, map}
-use Rattle.mt_c.specs.Prelude.{Range, Cursor, query_at, Pass, Takes, pass_in, Read, Tree}
+use Rattle.mt_c.specs.Prelude.{Range, Cursor, find_at, Pass, Takes, pass_in, Read, Tree}
 use Rattle.mt_tree.specs.Many.{HasLoadedMany, HasWalkedMany}
 use Rattle.mt_c.specs.declared.shared_many.OutWindow.{OutWindow}
 use Rattle.mt_c.specs.declared.steps.OutWalk.{OutWalk}
@@ -39,13 +39,13 @@ SharedLoadedMany indexes old new before after status out =
 -- ---- many steps of a walk
 
 -- one call finds at most this many ranges
-abbrev pub most_steps : ℕ
-most_steps = 32
+abbrev pub most_found : ℕ
+most_found = 32
 
 -- The walk found ranges by one batch. They are in the first places of C's, whose others are unchanged.
 pub record HasWalkedOut (t : Tree) (p : Pass) (w : Cursor) (old new : List OutRange) (r : Read ℕ) (q : Pass) (w' : Cursor) : Type 0 where
   pub found : List Range
-  pub walked : HasWalkedMany t p w (min most_steps (length old)) found r q w'
+  pub walked : HasWalkedMany t p w (min most_found (length old)) found r q w'
   pub put : new ≡ map range_out found ++ drop (length found) old
 
 -- If the walk is at a place, it is kept as it is; if it has ended, it is paused.
@@ -68,7 +68,7 @@ pub record IsStepMany (t : Tree) (w : Walker) (from room : ℕ) (found : List Ra
 -- If there is no place, nothing is found, by a read.
 abbrev pub StepsMany : Tree → Walker → Option ℕ → ℕ → List Range → Read ℕ → Option ℕ → Walker → Type 0
 StepsMany t w None room found r at w' =
-    IsWalkAnswer t (knows w) (query_at None last_index) (Ok (record { lo = r.lo; hi = r.hi; value = None })) (knows w') × IsOnNoWalk w' × Took 175 w w'.pass × (found ≡ []) × (r.value ≡ 0) × (at ≡ None)
+    IsWalkAnswer t (knows w) (find_at None last_index) (Ok (record { lo = r.lo; hi = r.hi; value = None })) (knows w') × IsOnNoWalk w' × Took 175 w w'.pass × (found ≡ []) × (r.value ≡ 0) × (at ≡ None)
 StepsMany t w (Some from) room found r at w' = IsStepMany t w from room found r at w'
 
 -- where a walk goes on; no walk, no place
@@ -78,7 +78,7 @@ place_in (Some walk) = walk.at
 
 -- The ranges that were found are in the first places of C's, whose others are unchanged.
 abbrev pub PutsMany : Tree → Walker → Option ℕ → List OutRange → List OutRange → Read ℕ → Option ℕ → Walker → Type 0
-PutsMany t w place old new r at w' = (found : List Range) × StepsMany t w place (min most_steps (length old)) found r at w' × (r.value ≡ length found) × (new ≡ map range_out found ++ drop (length found) old)
+PutsMany t w place old new r at w' = (found : List Range) × StepsMany t w place (min most_found (length old)) found r at w' × (r.value ≡ length found) × (new ≡ map range_out found ++ drop (length found) old)
 
 -- A batch of steps of a walk of C's, which goes on after what was found.
 abbrev pub SharedSteppedMany : OutWalk → OutWalk → List OutRange → List OutRange → UserHandle → UserHandle → ℕ → ℕ → OutWindow → Type 0

@@ -1,9 +1,9 @@
 -- What a pass (handle) of a shared tree does on its walk and off it: reads without the lock, and calls that try for it.
 -- Source: this project's own; the kernel's documentation of the maple tree, mas_find over a struct ma_state that the caller keeps.
 use Rattle.std.specs.Prelude.{◌≡◌, ℕ, ◌+◌, ◌≤◌, ◌==◌, Bool, true, false, Option, Some, None, Result, Ok, Err}
-use Rattle.mt_c.specs.Prelude.{Call, Query, Load, Range, Cursor, Moved, place_behind, query_at, WasLeftMarked, WasMoved, HasRead, Busy, part_of, turn_seat, Done, Read, Worn, Tree, IsForNeighbour, unbounded, Pass, Takes, pass_in, steps_made, opened, IsBusyOf, WasMade, HasWalked}
+use Rattle.mt_c.specs.Prelude.{Call, Query, Load, Range, Cursor, Moved, place_behind, find_at, WasLeftMarked, WasMoved, HasRead, Busy, part_of, turn_seat, Done, Read, Worn, Tree, IsForNeighbour, unbounded, Pass, Takes, pass_in, steps_made, opened, IsBusyOf, WasMade, HasWalked}
+use Rattle.mt_base.specs.Map.{entry_or_zero}
 use Rattle.mt_base.specs.Passes as known
-use Rattle.mt_read.specs.Many.{entry_or_zero}
 use Rattle.mt_rule.specs.Turns as turns
 use Rattle.mt_c.specs.declared.walker.Walker.{Walker}
 pub use Rattle.mt_c.specs.KeptWalks.{IsKeptWalk, last_index, walks_coded}
@@ -22,6 +22,10 @@ closed_by (Some w) p = record p { standing = None }
 -- what it knows when its walk is paused: each of its calls but a step pauses that first
 abbrev pub halted : Walker → known.Pass
 halted w = closed_by w.walk (knows w)
+
+-- what it knows once no section of it is open, whichever was: a look at the whole tree closes that first
+abbrev pub shut : Walker → known.Pass
+shut w = record (knows w) { standing = None }
 
 -- a handle knows what another does, whichever section is open
 pub record KnowsAs (p q : known.Pass) : Type 0 where
@@ -45,6 +49,11 @@ WentOnce w w' = turn_seat w'.pass ≡ turn_seat (turns.tried w.pass)
 -- It has gone for the lock once, and made no step but the one that pauses its walk.
 pub record TriedOnce (w w' : Walker) : Type 0 where
   pub steps : steps_made w'.pass ≤ steps_made w.pass + pausing w.walk
+  pub went : WentOnce w w'
+
+-- It has gone for the lock once, and made at most one step beside that, which closes its section.
+pub record TriedShut (w w' : Walker) : Type 0 where
+  pub steps : steps_made w'.pass ≤ steps_made w.pass + 1
   pub went : WentOnce w w'
 
 -- ---- reads
@@ -132,7 +141,7 @@ IsReadBy t p query r q = (k : ℕ) × known.Read (opened t) p r.lo r.hi k query 
 -- One step from an index: the find from there, by one step of the walk that is there, or of a new one. One more step closes the
 -- section at the end of the walk.
 pub record IsStep (t : Tree) (w : Walker) (from : ℕ) (r : Read (Option Range)) (w' : Walker) : Type 0 where
-  pub read : IsReadBy t (knows w) (query_at (Some from) last_index) r (knows w')
+  pub read : IsReadBy t (knows w) (find_at (Some from) last_index) r (knows w')
   pub goes : WalkGoesOn r.value w'
   pub pass : Pass
   pub walk : Cursor
@@ -145,7 +154,7 @@ pub record IsStep (t : Tree) (w : Walker) (from : ℕ) (r : Read (Option Range))
 
 -- A step from a place. Where there is no place nothing is found, by a read.
 abbrev pub StepsFrom : Tree → Walker → Option ℕ → Read (Option Range) → Walker → Type 0
-StepsFrom t w None r w' = IsWalkAnswer t (knows w) (query_at None last_index) (Ok r) (knows w') × IsOnNoWalk w' × Took 175 w w'.pass
+StepsFrom t w None r w' = IsWalkAnswer t (knows w) (find_at None last_index) (Ok r) (knows w') × IsOnNoWalk w' × Took 175 w w'.pass
 StepsFrom t w (Some from) r w' = IsStep t w from r w'
 
 -- ---- calls

@@ -8,13 +8,13 @@ ghost use Rattle.mt_c.specs.Bounded.{SharedSteppedTo, SteppedTo, StepsTo};
 ghost use Rattle.mt_c.specs.Users.{common_of, user_tree};
 
 use crate::handle::Handle;
-use crate::shared_told::{CallWindow, answer_told, place_behind, seen};
+use crate::shared_told::{CallWindow, answer_told, seen};
 use crate::steps::{OutWalk, tell};
 use crate::told::{EBADF, OutRange, no_range};
 use crate::user::User;
 use crate::user_handle::UserHandle;
 use crate::walker::Walker;
-use mt_base::Range;
+use mt_base::{Range, place_behind};
 use mt_tree::{Read, Tree};
 use std::alloc::Global;
 

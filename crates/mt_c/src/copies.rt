@@ -1,13 +1,10 @@
 //! Trees that open with a copy of nodes.
 
-ghost use Rattle.std.specs.Prelude.{◌≡◌, ◌↔◌, ◌<◌, ◌≤◌, IfOk, IfErr, IsTrue};
-ghost use Rattle.mt_base.specs.declared.kinds.Kind.{Kind};
-ghost use Rattle.mt_free.specs.Book.{new_book};
+ghost use Rattle.std.specs.Prelude.{◌≡◌, ◌↔◌, ◌≤◌, false, IfOk, IfErr, IsTrue};
 ghost use Rattle.mt_rows.specs.Memory.{sheet_in};
-ghost use Rattle.mt_rows.specs.Plain.{new_sheet};
 ghost use Rattle.mt_rows.specs.Publish.{IsLawfulOf, map_by};
 ghost use Rattle.mt_rows.specs.Sheet.{OnlyReads};
-ghost use Rattle.mt_tree.specs.Copies.{IsReadyToOpen, live_rows};
+ghost use Rattle.mt_tree.specs.Copies.{live_rows};
 ghost use Rattle.mt_c.specs.Calls.{IsAsked};
 ghost use Rattle.mt_c.specs.Copying.{Copied, FitsRows, IsCopyInRows, IsOpenedWith, LacksTree};
 
@@ -15,31 +12,14 @@ use crate::handle::Handle;
 use crate::own_tree::OwnTree;
 use crate::told::{EALREADY, EBADF, EDOM, ENOMEM};
 use core::mem::replace_with;
-use mt_base::{Kind, MOST_ROWS, NoMemory, Steps, width_of};
-use mt_dup::copy_rows;
+use mt_base::{Kind, MOST_ROWS, NoMemory, width_of};
 use mt_engine::Engine;
 use mt_free::RowBook;
 use mt_rows::{PlainRows, Rows};
+use mt_tree::copy_into;
 use std::alloc::Global;
 use std::marker::Brand;
-use std::sync::ledger::{Blank, Ledger};
-
-/// Copies well-formed nodes into new nodes of their width, and plants them there.
-fn copy_into<L: Ledger>(blank: Blank, src: &mut PlainRows, dst: &mut PlainRows, book: &mut RowBook)
-    requires name { blank.name ≡ L.name }
-    requires parts { blank.parts ≡ L.parts }
-    requires some { 0 < blank.parts }
-    requires lawful { (kind : Kind) × IsLawfulOf (sheet_in src.old).tree kind }
-    requires rows { sheet_in dst.old ≡ new_sheet (sheet_in src.old).tree.table.width book.old.rows }
-    requires book { book.old ≡ new_book book.old.rows }
-    requires room { live_rows (sheet_in src.old).tree ≤ book.old.rows }
-    ensures copy { (kind : Kind) → IsLawfulOf (sheet_in src.old).tree kind → IsReadyToOpen kind book.old.rows (map_by (sheet_in src.old).tree) (sheet_in dst.new) book.new }
-    ensures rest { OnlyReads (sheet_in src.old) (sheet_in src.new) }
-{
-    let mut steps = Steps::<L>::new(blank);
-    let root = copy_rows(src, dst, book, &mut steps);
-    dst.plant(root);
-}
+use std::sync::ledger::Blank;
 
 /// An engine of this kind, with `rows` nodes, with a copy of well-formed nodes.
 fn engine_with(
@@ -51,11 +31,12 @@ fn engine_with(
     requires lawful { IsLawfulOf (sheet_in src.old).tree kind }
     requires fits { FitsRows (live_rows (sheet_in src.old).tree) rows }
     ensures engine { IfOk result (IsOpenedWith kind rows (map_by (sheet_in src.old).tree)) }
+    ensures alone { IfOk result (λ engine. engine.sheet.shared ≡ false) }
     ensures rest { OnlyReads (sheet_in src.old) (sheet_in src.new) }
 {
     let mut book = RowBook::new(alloc, rows)?;
     let mut dst = PlainRows::of_width(alloc, width_of(kind), rows)?;
-    copy_into::<Brand>(Blank::new(1), src, &mut dst, &mut book);
+    copy_into::<PlainRows, Brand>(Blank::new(1), src, &mut dst, &mut book);
     Ok(Engine::new(dst, book, kind))
 }
 
@@ -160,7 +141,6 @@ fn copy_in(engine: &mut Engine<PlainRows>, wanted: Wanted) -> Result<Box<OwnTree
 
 impl OwnTree {
     /// A copy with `rows` nodes; or the number that says why there is none.
-    #[tactic(auto, using(crate::proofs::Walking::walks_if_asked, crate::proofs::Walking::ended_if_asked))]
     fn copy(&mut self, alloc: Global, rows: u64) -> Result<Box<OwnTree>, u32>
         ensures rest { IsAsked self.old.engine self.new.engine }
         ensures copy { IfOk result (λ whole. IsCopyInRows rows self.old.engine whole.value.engine) }

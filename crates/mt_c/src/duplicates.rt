@@ -6,7 +6,7 @@ ghost use Rattle.mt_c.specs.Duplicates.{HasCopied, HasMade, IsTriedCopy, SharedC
 ghost use Rattle.mt_c.specs.Shared.{IsFirstUser};
 ghost use Rattle.mt_c.specs.SharedMaps.{shape_for};
 ghost use Rattle.mt_c.specs.Users.{common_of, user_tree};
-ghost use Rattle.mt_c.specs.Walkers.{IsPaused};
+ghost use Rattle.mt_c.specs.Walkers.{IsOnNoWalk};
 
 use crate::receipts::Receipts;
 use crate::shared_maps::status_for;
@@ -48,7 +48,7 @@ fn boxed_first(
 
 impl Walker {
     /// A tree of this shape with the map of the tree, and its handles, if the lock is free.
-    #[tactic(auto, using(crate::proofs::Duplicating::tried_copy))]
+    #[tactic(auto, using(crate::proofs::Duplicating::tried_copy, crate::proofs::Duplicating::copy_shut))]
     fn try_dup(
         &mut self,
         tree: &Tree,
@@ -59,9 +59,9 @@ impl Walker {
         requires kind { shape.kind ≡ (opened tree.now).kind }
         ensures of { IsPassOf tree.now self.new.pass }
         ensures tried { IsTriedCopy shape tree.now self.old result self.new }
-        ensures paused { IsPaused self.new }
+        ensures paused { IsOnNoWalk self.new }
     {
-        self.pause(tree);
+        self.rest(tree);
         tree.try_dup(alloc, &mut self.pass, shape)
     }
 }
@@ -101,7 +101,7 @@ impl User {
         ensures chair { self.new.chair ≡ self.old.chair }
         ensures receipts { self.new.receipts ≡ self.old.receipts }
         ensures tried { IsTriedCopy shape (user_tree self.old) self.old.walker result self.new.walker }
-        ensures paused { IsPaused self.new.walker }
+        ensures paused { IsOnNoWalk self.new.walker }
     {
         self.walker.try_dup(&self.common.tree, alloc, shape)
     }
@@ -113,7 +113,7 @@ impl User {
         requires { shape.kind ≡ (opened (user_tree self.old)).kind }
         ensures common { common_of self.new ≡ common_of self.old }
         ensures chair { self.new.chair ≡ self.old.chair }
-        ensures paused { IsPaused self.new.walker }
+        ensures paused { IsOnNoWalk self.new.walker }
         ensures copied { IfOk result (λ r. HasMade shape r.0 r.1.items self.old self.new) }
         ensures lacks { IfErr result (λ status. HasCopied shape None status self.old self.new) }
     {
@@ -145,8 +145,9 @@ impl User {
     ) -> Result<Box<User>, u32>
         ensures common { common_of self.new ≡ common_of self.old }
         ensures chair { self.new.chair ≡ self.old.chair }
-        ensures paused { IsPaused self.new.walker }
-        ensures copied { IfOk result (λ whole. HasCopied (shape_for (opened (user_tree self.old)).kind rows passes calls) (Some whole.value) 0 self.old self.new) }
+        ensures paused { IsOnNoWalk self.new.walker }
+        ensures copied { IfOk result
+            (λ whole. HasCopied (shape_for (opened (user_tree self.old)).kind rows passes calls) (Some whole.value) 0 self.old self.new) }
         ensures lacks { IfErr result (λ status. HasCopied (shape_for (opened (user_tree self.old)).kind rows passes calls) None status self.old self.new) }
     {
         let shape = self.shape_of(rows, passes, calls);

@@ -86,7 +86,6 @@ fn check_in(engine: &mut Engine<PlainRows>, kind: Kind) -> Result<Form, Fault>
 
 impl OwnTree {
     /// The form of its words.
-    #[tactic(auto, using(crate::proofs::Walking::walks_if_asked, crate::proofs::Walking::ended_if_asked))]
     fn check(&mut self) -> Result<Form, Fault>
         ensures rest { IsAsked self.old.engine self.new.engine }
         ensures lawful { IsLawfulOf self.old.engine.sheet.tree self.old.engine.kind }

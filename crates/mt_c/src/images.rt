@@ -15,12 +15,11 @@ use crate::told::{EALREADY, EBADF, EBADMSG, ENOMEM, ERANGE};
 use core::mem::replace_with;
 use mt_base::{Kind, NoMemory};
 use mt_engine::Engine;
-use mt_image::{ImageError, read_image, write_image};
+use mt_image::{ImageError, read_image};
 use mt_rows::PlainRows;
 use std::alloc::Global;
 
 /// An image of a tree, which is only read.
-#[tactic(auto, using(mt_tree::proofs::Forms::lawful_as, mt_tree::proofs::Forms::idle_as, mt_tree::proofs::Forms::high_as, crate::proofs::Reading::asked_as))]
 fn image_of(
     engine: Engine<PlainRows>,
     by: (Global, Kind),
@@ -29,21 +28,25 @@ fn image_of(
     ensures rest { IsAsked engine result.0 }
     ensures image { IfOk result.1 (λ bytes. IsImageOf engine.kind engine.sheet.tree bytes.items) }
 {
-    let (alloc, kind) = by;
-    let height = engine.height();
-    let (mut rows, book) = engine.parts();
-    let image = write_image(alloc, &mut rows, kind);
-    (Engine::of_height(rows, book, kind, height), image)
+    mt_tree::image_of::<PlainRows>(engine, by)
+}
+
+/// As `image_of`, of an engine that stays in its place.
+fn image_in(engine: &mut Engine<PlainRows>, by: (Global, Kind)) -> Result<Vec<u8>, NoMemory>
+    requires { by.1 ≡ engine.old.kind }
+    ensures rest { IsAsked engine.old engine.new }
+    ensures image { IfOk result (λ bytes. IsImageOf engine.old.kind engine.old.sheet.tree bytes.items) }
+{
+    replace_with(engine, by, image_of)
 }
 
 impl OwnTree {
     /// An image of its words.
-    #[tactic(auto, using(crate::proofs::Walking::walks_if_asked, crate::proofs::Walking::ended_if_asked))]
     fn image(&mut self, alloc: Global) -> Result<Vec<u8>, NoMemory>
         ensures rest { IsAsked self.old.engine self.new.engine }
         ensures image { IfOk result (λ bytes. IsImageOf self.old.engine.kind self.old.engine.sheet.tree bytes.items) }
     {
-        replace_with(&mut self.engine, (alloc, self.kind), image_of)
+        image_in(&mut self.engine, (alloc, self.kind))
     }
 }
 

@@ -5,8 +5,8 @@ ghost use Rattle.mt_tree.specs.Looks.{IsFormBehind, IsOldest, IsStatsOf};
 ghost use Rattle.mt_tree.specs.Trees.{IsPassOf};
 ghost use Rattle.mt_c.specs.Looks as defined;
 ghost use Rattle.mt_c.specs.Looks.{HasFound, IsFoundIn, SharedChecked, SharedOldest, SharedStats, TellsCalls, TellsForm, TellsStats, when_found};
-ghost use Rattle.mt_c.specs.Users.{common_of, known_to, paused, user_tree};
-ghost use Rattle.mt_c.specs.Walkers.{IsPaused, TriedOnce, halted, knows};
+ghost use Rattle.mt_c.specs.Users.{common_of, known_to, rested, user_tree};
+ghost use Rattle.mt_c.specs.Walkers.{IsPaused, TriedShut, knows, shut};
 
 use crate::forms::{OutForm, no_form, out_form};
 use crate::receipts::Receipts;
@@ -21,41 +21,41 @@ use std::alloc::Global;
 
 impl Walker {
     /// The form of the tree's words, if the lock is free.
-    #[tactic(auto, using(crate::proofs::Looking::form_found, crate::proofs::Using::tried_once))]
+    #[tactic(auto, using(crate::proofs::Looking::form_found, crate::proofs::Using::tried_shut))]
     fn try_check(&mut self, tree: &Tree) -> Result<(Form, Look), Busy>
         requires { IsPassOf tree.now self.old.pass }
         ensures of { IsPassOf tree.now self.new.pass }
-        ensures found { IsFoundIn IsFormBehind tree.now (halted self.old) result (knows self.new) }
-        ensures once { TriedOnce self.old self.new }
+        ensures found { IsFoundIn IsFormBehind tree.now (shut self.old) result (knows self.new) }
+        ensures once { TriedShut self.old self.new }
         ensures paused { IsPaused self.new }
     {
-        self.pause(tree);
+        self.rest(tree);
         tree.try_check(&mut self.pass)
     }
 
     /// How the tree uses its nodes, if the lock is free.
-    #[tactic(auto, using(crate::proofs::Looking::stats_found, crate::proofs::Using::tried_once))]
+    #[tactic(auto, using(crate::proofs::Looking::stats_found, crate::proofs::Using::tried_shut))]
     fn try_stats(&mut self, tree: &Tree) -> Result<(Stats, Look), Busy>
         requires { IsPassOf tree.now self.old.pass }
         ensures of { IsPassOf tree.now self.new.pass }
-        ensures found { IsFoundIn IsStatsOf tree.now (halted self.old) result (knows self.new) }
-        ensures once { TriedOnce self.old self.new }
+        ensures found { IsFoundIn IsStatsOf tree.now (shut self.old) result (knows self.new) }
+        ensures once { TriedShut self.old self.new }
         ensures paused { IsPaused self.new }
     {
-        self.pause(tree);
+        self.rest(tree);
         tree.try_stats(&mut self.pass)
     }
 
     /// How many calls had ended at least when a section that is open was opened, if the lock is free.
-    #[tactic(auto, using(crate::proofs::Looking::calls_found, crate::proofs::Using::tried_once))]
+    #[tactic(auto, using(crate::proofs::Looking::calls_found, crate::proofs::Using::tried_shut))]
     fn try_oldest(&mut self, tree: &Tree) -> Result<(u64, Look), Busy>
         requires { IsPassOf tree.now self.old.pass }
         ensures of { IsPassOf tree.now self.new.pass }
-        ensures found { IsFoundIn IsOldest tree.now (halted self.old) result (knows self.new) }
-        ensures once { TriedOnce self.old self.new }
+        ensures found { IsFoundIn IsOldest tree.now (shut self.old) result (knows self.new) }
+        ensures once { TriedShut self.old self.new }
         ensures paused { IsPaused self.new }
     {
-        self.pause(tree);
+        self.rest(tree);
         tree.try_oldest(&mut self.pass)
     }
 }
@@ -66,8 +66,8 @@ impl User {
         ensures common { common_of self.new ≡ common_of self.old }
         ensures chair { self.new.chair ≡ self.old.chair }
         ensures receipts { self.new.receipts ≡ self.old.receipts }
-        ensures found { IsFoundIn IsFormBehind (user_tree self.old) (paused self.old) result (known_to self.new) }
-        ensures once { TriedOnce self.old.walker self.new.walker }
+        ensures found { IsFoundIn IsFormBehind (user_tree self.old) (rested self.old) result (known_to self.new) }
+        ensures once { TriedShut self.old.walker self.new.walker }
         ensures paused { IsPaused self.new.walker }
     {
         self.walker.try_check(&self.common.tree)
@@ -78,8 +78,8 @@ impl User {
         ensures common { common_of self.new ≡ common_of self.old }
         ensures chair { self.new.chair ≡ self.old.chair }
         ensures receipts { self.new.receipts ≡ self.old.receipts }
-        ensures found { IsFoundIn IsStatsOf (user_tree self.old) (paused self.old) result (known_to self.new) }
-        ensures once { TriedOnce self.old.walker self.new.walker }
+        ensures found { IsFoundIn IsStatsOf (user_tree self.old) (rested self.old) result (known_to self.new) }
+        ensures once { TriedShut self.old.walker self.new.walker }
         ensures paused { IsPaused self.new.walker }
     {
         self.walker.try_stats(&self.common.tree)
@@ -90,8 +90,8 @@ impl User {
         ensures common { common_of self.new ≡ common_of self.old }
         ensures chair { self.new.chair ≡ self.old.chair }
         ensures receipts { self.new.receipts ≡ self.old.receipts }
-        ensures found { IsFoundIn IsOldest (user_tree self.old) (paused self.old) result (known_to self.new) }
-        ensures once { TriedOnce self.old.walker self.new.walker }
+        ensures found { IsFoundIn IsOldest (user_tree self.old) (rested self.old) result (known_to self.new) }
+        ensures once { TriedShut self.old.walker self.new.walker }
         ensures paused { IsPaused self.new.walker }
     {
         self.walker.try_oldest(&self.common.tree)

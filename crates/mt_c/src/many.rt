@@ -11,30 +11,24 @@ ghost use Rattle.mt_c.specs.Many.{HasSteppedMany, LoadedMany, SteppedMany};
 use crate::handle::Handle;
 use crate::own_tree::OwnTree;
 use crate::steps::OutWalk;
-use crate::told::{EBADF, OutRange, many_status, out_of};
+use crate::told::{EBADF, OutRange, many_status};
 use mt_engine::{Engine, RangeWalk};
 use mt_rows::PlainRows;
 use std::alloc::Global;
 
-/// Puts the ranges that a walk finds next into the places, as many as there are places for, and returns how many. It is inlined
-/// into its caller, so that the walk is kept in registers.
-#[inline(always)]
-#[tactic(auto, using(mt_engine::proofs::Batching::put_begin))]
+/// Puts the ranges that a walk finds next into the places, as many as there are places for, and returns how many.
 fn put_steps(engine: &mut Engine<PlainRows>, walk: &mut RangeWalk, ranges: &mut [OutRange]) -> usize
     requires { WalksFrom engine.old.sheet.tree walk.old }
-    ensures ranges { ranges.new ≡ put_first (map range_out (steps_from (map_by engine.old.sheet.tree) (greatest engine.old.sheet.tree.table.width) (length ranges.old) walk.old.next).found) ranges.old }
-    ensures count { result ≡ length (steps_from (map_by engine.old.sheet.tree) (greatest engine.old.sheet.tree.table.width) (length ranges.old) walk.old.next).found }
-    ensures next { walk.new.next ≡ (steps_from (map_by engine.old.sheet.tree) (greatest engine.old.sheet.tree.table.width) (length ranges.old) walk.old.next).next }
+    ensures ranges { ranges.new ≡ put_first (map range_out
+        (steps_from (map_by engine.old.sheet.tree) (greatest engine.old.sheet.tree.table.width) (length ranges.old) walk.old.next).found) ranges.old }
+    ensures count { result ≡ length
+        (steps_from (map_by engine.old.sheet.tree) (greatest engine.old.sheet.tree.table.width) (length ranges.old) walk.old.next).found }
+    ensures next { walk.new.next
+        ≡ (steps_from (map_by engine.old.sheet.tree) (greatest engine.old.sheet.tree.table.width) (length ranges.old) walk.old.next).next }
     ensures walk { WalksFrom engine.new.sheet.tree walk.new }
     ensures rest { IsAsked engine.old engine.new }
 {
-    for i in 0..ranges.len() {
-        let Some(range) = engine.next_range(walk) else {
-            return i;
-        };
-        ranges[i] = out_of(Some(range));
-    }
-    ranges.len()
+    engine.step_many(walk, ranges)
 }
 
 impl OwnTree {

@@ -22,7 +22,6 @@ impl RangePlace for OutRange {
 
 impl OwnTree {
     /// Writes what a store over `first` to `last` meets, and returns how many ranges these are.
-    #[tactic(auto, using(crate::proofs::Walking::walks_if_asked, crate::proofs::Walking::ended_if_asked))]
     fn tell_met(&mut self, first: u64, last: u64, met: &mut [OutRange]) -> u64
         ensures tells { TellsMet range_out (ranges_met (map_by self.old.engine.sheet.tree) first last) met.old met.new result }
         ensures rest { IsAsked self.old.engine self.new.engine }

@@ -10,7 +10,7 @@ use mt_base::Reply;
 use std::alloc::Global;
 
 /// The number that C gets for a store for which nodes were to be at hand.
-fn pre_status(made: Option<Option<Reply>>) -> u32
+pub fn pre_status(made: Option<Option<Reply>>) -> u32
     ensures { result ≡ pre_status made }
 {
     match made {
@@ -20,7 +20,7 @@ fn pre_status(made: Option<Option<Reply>>) -> u32
 }
 
 /// The word of such a store, or 0.
-fn pre_word(made: Option<Option<Reply>>) -> u64
+pub fn pre_word(made: Option<Option<Reply>>) -> u64
     ensures { result ≡ pre_word made }
 {
     match made {

@@ -3,13 +3,11 @@
 ghost use Rattle.mt_base.specs.declared.calls.Query.TheVariants.{Load};
 ghost use Rattle.mt_c.specs.Shared.{SharedAsked, SharedLearned, SharedPaused, SharedSettled, SharedStepped, SharedSynced, SharedTried};
 
-use crate::shared_told::{
-    CallWindow, EINPROGRESS, Outcome, answer_told, no_outcome, place_behind, seen,
-};
+use crate::shared_told::{CallWindow, EINPROGRESS, Outcome, answer_told, no_outcome, seen};
 use crate::steps::OutWalk;
 use crate::told::no_range;
 use crate::user_handle::UserHandle;
-use mt_base::{Call, Query};
+use mt_base::{Call, Query, place_behind};
 use std::alloc::Global;
 
 /// Asks one query of what C keeps.

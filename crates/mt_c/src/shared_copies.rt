@@ -4,8 +4,8 @@ ghost use Rattle.std.specs.Prelude.{◌≡◌};
 ghost use Rattle.mt_tree.specs.Looks.{IsImagedBehind};
 ghost use Rattle.mt_tree.specs.Trees.{IsPassOf};
 ghost use Rattle.mt_c.specs.Looks.{HasFound, IsFoundIn, SharedImaged, TellsBytes, TellsMade, when_found};
-ghost use Rattle.mt_c.specs.Users.{common_of, known_to, paused, user_tree};
-ghost use Rattle.mt_c.specs.Walkers.{IsPaused, TriedOnce, halted, knows};
+ghost use Rattle.mt_c.specs.Users.{common_of, known_to, rested, user_tree};
+ghost use Rattle.mt_c.specs.Walkers.{IsPaused, TriedShut, knows, shut};
 
 use crate::receipts::Receipts;
 use crate::replay::put;
@@ -20,7 +20,7 @@ use std::alloc::Global;
 
 impl Walker {
     /// An image of the tree's words, if the lock is free.
-    #[tactic(auto, using(crate::proofs::Looking::image_found, crate::proofs::Using::tried_once))]
+    #[tactic(auto, using(crate::proofs::Looking::image_found, crate::proofs::Using::tried_shut))]
     fn try_image(
         &mut self,
         tree: &Tree,
@@ -28,11 +28,11 @@ impl Walker {
     ) -> Result<(Result<Vec<u8>, NoMemory>, Look), Busy>
         requires { IsPassOf tree.now self.old.pass }
         ensures of { IsPassOf tree.now self.new.pass }
-        ensures found { IsFoundIn IsImagedBehind tree.now (halted self.old) result (knows self.new) }
-        ensures once { TriedOnce self.old self.new }
+        ensures found { IsFoundIn IsImagedBehind tree.now (shut self.old) result (knows self.new) }
+        ensures once { TriedShut self.old self.new }
         ensures paused { IsPaused self.new }
     {
-        self.pause(tree);
+        self.rest(tree);
         tree.try_image(alloc, &mut self.pass)
     }
 }
@@ -83,8 +83,8 @@ impl User {
         ensures common { common_of self.new ≡ common_of self.old }
         ensures chair { self.new.chair ≡ self.old.chair }
         ensures receipts { self.new.receipts ≡ self.old.receipts }
-        ensures found { IsFoundIn IsImagedBehind (user_tree self.old) (paused self.old) result (known_to self.new) }
-        ensures once { TriedOnce self.old.walker self.new.walker }
+        ensures found { IsFoundIn IsImagedBehind (user_tree self.old) (rested self.old) result (known_to self.new) }
+        ensures once { TriedShut self.old.walker self.new.walker }
         ensures paused { IsPaused self.new.walker }
     {
         self.walker.try_image(&self.common.tree, alloc)

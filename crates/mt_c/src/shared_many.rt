@@ -39,7 +39,7 @@ impl OutWindow {
 }
 
 /// One call finds at most this many ranges.
-const MOST_STEPS: usize = 32;
+const MOST_FOUND: usize = 32;
 
 /// The entry that an index holds, or 0, in a counted number of steps.
 #[tactic(auto, using(crate::proofs::SharingMany::is_entry))]
@@ -147,7 +147,8 @@ impl Walker {
         requires walk { IsSome self.old.walk }
         ensures of { IsPassOf tree.now self.new.pass }
         ensures walk { IsSome self.new.walk }
-        ensures walked { IfSome self.old.walk (λ walk. IfSome self.new.walk (HasPutMany tree.now self.old.pass walk ranges.old result ranges.new self.new.pass)) }
+        ensures walked { IfSome self.old.walk
+            (λ walk. IfSome self.new.walk (HasPutMany tree.now self.old.pass walk ranges.old result ranges.new self.new.pass)) }
     {
         let Some(walk) = &mut self.walk else {
             unreachable!()
@@ -155,21 +156,22 @@ impl Walker {
         step_ranges::<Brand>(tree, &mut self.pass, walk, ranges, Blank::new(1))
     }
 
-    /// The next ranges of the walk that it is on, as many as there are places for, and at most `MOST_STEPS`.
+    /// The next ranges of the walk that it is on, as many as there are places for, and at most `MOST_FOUND`.
     #[tactic(auto, using(crate::proofs::SharingMany::many_fit, crate::proofs::SharingMany::many_room))]
     fn walk_out(&mut self, tree: &Tree, ranges: &mut [OutRange]) -> Read<usize>
         requires of { IsPassOf tree.now self.old.pass }
         requires walk { IsSome self.old.walk }
         ensures of { IsPassOf tree.now self.new.pass }
         ensures walk { IsSome self.new.walk }
-        ensures walked { IfSome self.old.walk (λ walk. IfSome self.new.walk (HasWalkedOut tree.now self.old.pass walk ranges.old ranges.new result self.new.pass)) }
+        ensures walked { IfSome self.old.walk
+            (λ walk. IfSome self.new.walk (HasWalkedOut tree.now self.old.pass walk ranges.old ranges.new result self.new.pass)) }
     {
         let mut found = [Range {
             first: 0,
             last: 0,
             entry: 0,
-        }; MOST_STEPS];
-        let part = &mut found[..ranges.len().min(MOST_STEPS)];
+        }; MOST_FOUND];
+        let part = &mut found[..ranges.len().min(MOST_FOUND)];
         let read = self.walk_many(tree, part);
         put_ranges(part, read.value, ranges);
         read
@@ -185,7 +187,7 @@ impl Walker {
         }
     }
 
-    /// The ranges from an index on, as many as there are places for, and at most `MOST_STEPS`. The leaf of the last is kept,
+    /// The ranges from an index on, as many as there are places for, and at most `MOST_FOUND`. The leaf of the last is kept,
     /// with its section, unless the walk has ended.
     fn step_many(
         &mut self,

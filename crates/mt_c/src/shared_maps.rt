@@ -100,7 +100,6 @@ fn first_in(engine: &mut Engine<PlainRows>, by: (Global, Shape)) -> Result<Box<U
 impl OwnTree {
     /// The first user of a shared tree with its map, with this many nodes, for this many users and calls; or the number that
     /// says why there is none.
-    #[tactic(auto, using(crate::proofs::Walking::walks_if_asked, crate::proofs::Walking::ended_if_asked))]
     fn share(&mut self, alloc: Global, rows: u64, passes: u32, calls: u64) -> Result<Box<User>, u32>
         ensures rest { IsAsked self.old.engine self.new.engine }
         ensures user { IfOk result (λ whole. IsFirstWith (shape_for self.old.engine.kind rows passes calls) (map_by self.old.engine.sheet.tree) whole.value) }

@@ -1,7 +1,6 @@
 //! What C gets of a shared tree.
 
 ghost use Rattle.std.specs.Prelude.{◌≡◌};
-ghost use Rattle.mt_read.specs.Cursors as cursors;
 ghost use Rattle.mt_c.specs.Receipts.{when_settled, when_synced, when_tried, when_unchanged};
 ghost use Rattle.mt_c.specs.Shared as defined;
 
@@ -53,16 +52,6 @@ pub struct Outcome {
     pub held: u64,
     pub by: u64,
     pub epoch: u64,
-}
-
-/// Where a walk up to an index goes on after what a step found.
-pub fn place_behind(found: Option<Range>, max: u64) -> Option<u64>
-    ensures { result ≡ cursors.place_behind found max }
-{
-    match found {
-        Some(range) if range.last < max => Some(range.last + 1),
-        _ => None,
-    }
 }
 
 /// A window, and a range that was found there.

@@ -74,7 +74,6 @@ fn stats_in(engine: &mut Engine<PlainRows>, by: (Kind, u64)) -> OutStats
 
 impl OwnTree {
     /// How it uses its nodes.
-    #[tactic(auto, using(crate::proofs::Walking::walks_if_asked, crate::proofs::Walking::ended_if_asked))]
     fn stats(&mut self) -> OutStats
         ensures rest { IsAsked self.old.engine self.new.engine }
         ensures stats { TellsTree self.old.engine result }

@@ -3,7 +3,7 @@
 ghost use Rattle.std.specs.Prelude.{◌≡◌, ◌<◌, ℕ, All, IfErr, IfOk, IfSome, IsSome, None, Ok, Some, map, ◌∷◌};
 ghost use Rattle.mt_base.specs.declared.calls.Query.TheVariants.{Load};
 ghost use Rattle.mt_base.specs.Passes as known;
-ghost use Rattle.mt_read.specs.Cursors.{place_behind, query_at};
+ghost use Rattle.mt_base.specs.Places.{find_at, place_behind};
 ghost use Rattle.mt_read.specs.Windows.{HasRead};
 ghost use Rattle.mt_tree.specs.Meeting.{HaveMet};
 ghost use Rattle.mt_rule.specs.Tokens.{turn_seat};
@@ -13,7 +13,8 @@ ghost use Rattle.mt_tree.specs.Tries.{IsBusyOf};
 ghost use Rattle.mt_c.specs.KeptWalks.{last_index};
 ghost use Rattle.mt_c.specs.Spares.{IsSparePass};
 ghost use Rattle.mt_tree.specs.Walks.{HasWalked};
-ghost use Rattle.mt_c.specs.Walkers.{Continues, GaveUp, IsWalkAnswer, IsOnNoWalk, IsOnAt, IsReadBy, IsStep, IsTried, KnowsAs, StepsFrom, Took, TriedOnce, WentOnce, halted, knows, stands_at};
+ghost use Rattle.mt_c.specs.Walkers.{Continues, GaveUp, IsWalkAnswer, IsOnNoWalk, IsOnAt, IsReadBy, IsStep, IsTried};
+ghost use Rattle.mt_c.specs.Walkers.{KnowsAs, StepsFrom, Took, TriedOnce, WentOnce, halted, knows, stands_at};
 
 use crate::walker::Walker;
 use mt_base::{Call, Query, Range, Steps};
@@ -157,7 +158,7 @@ impl Walker {
         requires of { IsPassOf tree.now self.old.pass }
         requires walk { IsSome self.old.walk }
         ensures of { IsPassOf tree.now self.new.pass }
-        ensures read { IfSome self.old.walk (λ walk. IsReadBy tree.now (knows self.old) (query_at walk.at last_index) result (knows self.new)) }
+        ensures read { IfSome self.old.walk (λ walk. IsReadBy tree.now (knows self.old) (find_at walk.at last_index) result (knows self.new)) }
         ensures walked { IfSome self.old.walk (λ walk. IfSome self.new.walk (HasWalked tree.now self.old.pass walk result self.new.pass)) }
         ensures at { IsOnAt self.new.walk (place_behind result.value last_index) }
     {

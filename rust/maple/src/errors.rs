@@ -16,6 +16,10 @@ pub(crate) const EBADMSG: u32 = 74;
 pub(crate) const EUSERS: u32 = 87;
 
 /// Why a call was not done. Nothing was changed.
+///
+/// ```
+/// assert_eq!(maple::Error::NoRoom.to_string(), "no hole has room");
+/// ```
 #[derive(Clone, Copy, Debug, PartialEq, Eq)]
 pub enum Error {
     /// The call means nothing: a range that ends before it begins or above the greatest index, a reserved entry (below
@@ -63,6 +67,10 @@ pub(crate) fn done(status: u32) -> std::result::Result<(), Error> {
 }
 
 /// Why no tree was made, or no reader or writer of one.
+///
+/// ```
+/// assert_eq!(maple::OpenError::NoImage.to_string(), "the bytes are no image");
+/// ```
 #[derive(Clone, Copy, Debug, PartialEq, Eq)]
 pub enum OpenError {
     /// There are more nodes than a tree may have, or fewer than this one needs.
@@ -106,6 +114,10 @@ pub(crate) fn opened(status: u32) -> std::result::Result<(), OpenError> {
 }
 
 /// The words of a tree are not well-formed: something else wrote over them, since every call keeps them so.
+///
+/// ```
+/// assert_eq!(maple::CheckError::Broken.to_string(), "something wrote over the tree's words");
+/// ```
 #[derive(Clone, Copy, Debug, PartialEq, Eq)]
 pub enum CheckError {
     /// They are not.
@@ -121,6 +133,10 @@ impl Display for CheckError {
 impl error::Error for CheckError {}
 
 /// Why a log was not played, or a transcript not verified.
+///
+/// ```
+/// assert_eq!(maple::LogError::BadLog.to_string(), "the bytes are no log");
+/// ```
 #[derive(Clone, Copy, Debug, PartialEq, Eq)]
 pub enum LogError {
     /// The bytes are no log.

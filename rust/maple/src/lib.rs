@@ -70,6 +70,12 @@ pub enum Kind {
 }
 
 /// The indexes from `first` to `last`, both included, and the entry that they hold.
+///
+/// ```
+/// use maple::{entries::of_value, Range};
+/// let range = Range { first: 3, last: 11, entry: of_value(1).unwrap() };
+/// assert_eq!(range.last - range.first + 1, 9);
+/// ```
 #[derive(Clone, Copy, Debug, PartialEq, Eq, Hash)]
 #[repr(C)]
 pub struct Range {
@@ -107,27 +113,12 @@ pub fn rows_for(ranges: u64) -> Option<u64> {
     Some(unsafe { raw::maple_rows_for(ranges) }).filter(|rows| *rows <= MOST_ROWS)
 }
 
-/// The reserve of a tree that can always be emptied: whether a tree with this many nodes (`rows`) and ranges keeps it
-/// where a call adds at most two ranges, as a store does. In a full tree an erase may be refused too ([`Error::NoRows`]).
-/// So ask this before each call that may add ranges, and make it only where the answer is yes. Then no erase is refused,
-/// in any order, nor a store over exactly one range, nor a store of `None` that adds no range. In a shared tree this
-/// holds while no reader holds nodes. It costs room: such a tree is full at two ranges a node.
+/// How a tree uses its nodes.
 ///
 /// ```
-/// use maple::{entries::of_value, may_add, Kind, Tree};
-/// let mut tree = Tree::new(Kind::Range, 20).unwrap();
-/// let mut ranges = 0;
-/// while may_add(20, ranges) {
-///     tree.store(10 * ranges..10 * ranges + 5, of_value(ranges)).unwrap();
-///     ranges += 1;
-/// }
-/// assert!((0..ranges).rev().all(|n| tree.erase(10 * n).is_ok()));
+/// let stats = maple::Tree::new(maple::Kind::Range, 100).unwrap().stats();
+/// assert_eq!(stats.free + stats.live + stats.held, stats.rows);
 /// ```
-pub fn may_add(rows: u64, ranges: u64) -> bool {
-    ranges.checked_add(2).and_then(rows_for).is_some_and(|least| least <= rows)
-}
-
-/// How a tree uses its nodes.
 #[derive(Clone, Copy, Debug, PartialEq, Eq)]
 pub struct Stats {
     /// How many nodes it has.
@@ -145,6 +136,11 @@ pub struct Stats {
 }
 
 /// Why a write of a [`Writer`] was refused with [`Error::NoRows`]: too few nodes were free.
+///
+/// ```
+/// let shortage = maple::Shortage { need: 4, free: 3, live: 97, held: 0, by: 0, epoch: 0 };
+/// assert!(shortage.free < shortage.need && shortage.held == 0); // the tree is full
+/// ```
 #[derive(Clone, Copy, Debug, PartialEq, Eq)]
 pub struct Shortage {
     /// How many nodes a write needs.
@@ -155,9 +151,18 @@ pub struct Shortage {
     pub live: u64,
     /// How many are held, since a read of another reader or writer may still be in them. Where it is 0, the tree is full.
     pub held: u64,
+    /// The place of the one whose read or iterator holds them ([`Reader::place`]); 0 where none are held.
+    pub by: u64,
+    /// How many writes had ended when that began.
+    pub epoch: u64,
 }
 
 /// The form of a tree.
+///
+/// ```
+/// let form = maple::Tree::new(maple::Kind::Range, 100).unwrap().check().unwrap();
+/// assert_eq!(form.ranges, 0);
+/// ```
 #[derive(Clone, Copy, Debug, PartialEq, Eq)]
 pub struct Form {
     /// Its levels.

@@ -38,6 +38,12 @@ pub struct Map<T> {
 }
 
 /// A value that was not stored, and why. Nothing was changed.
+///
+/// ```
+/// use maple::{Error, Refused};
+/// let refused = Refused { error: Error::NoRows, value: 'a' };
+/// assert_eq!(refused.to_string(), "a value cannot be stored: too few rows are free");
+/// ```
 #[derive(Clone, Debug, PartialEq, Eq)]
 pub struct Refused<T> {
     /// Why.
@@ -84,6 +90,14 @@ impl<T> Map<T> {
     }
 
     /// Whether it has none.
+    ///
+    /// ```
+    /// let mut map = maple::Map::new()?;
+    /// assert!(map.is_empty());
+    /// map.insert(3..12, 'a').unwrap();
+    /// assert!(!map.is_empty());
+    /// # Ok::<(), maple::OpenError>(())
+    /// ```
     pub fn is_empty(&self) -> bool {
         self.ranges == 0
     }
@@ -197,6 +211,11 @@ impl<T> Map<T> {
     }
 
     /// All ranges with their values, in rising order.
+    ///
+    /// ```
+    /// let map: maple::Map<char> = [(3..=11, 'a'), (20..=29, 'b')].into_iter().collect();
+    /// assert_eq!(map.iter().map(|(_, value)| *value).collect::<String>(), "ab");
+    /// ```
     pub fn iter(&self) -> Values<'_, T> {
         self.range(..)
     }
@@ -238,6 +257,12 @@ impl<'a, T> IntoIterator for &'a Map<T> {
 }
 
 /// The ranges of a window of a map that were not yet given, as [`Map::range`] gives them.
+///
+/// ```
+/// let map: maple::Map<char> = [(3..=11, 'a')].into_iter().collect();
+/// let mut values: maple::Values<'_, char> = map.iter();
+/// assert_eq!(values.next(), Some((3..=11, &'a')));
+/// ```
 #[derive(Clone, Debug)]
 pub struct Values<'a, T> {
     map: &'a Map<T>,

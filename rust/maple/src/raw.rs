@@ -149,6 +149,10 @@ extern "C" {
     pub fn maple_erase(tree: Tree, index: u64, was: *mut RawRange) -> u32;
     pub fn maple_alloc(tree: Tree, size: u64, min: u64, max: u64, entry: u64, start: *mut u64) -> u32;
     pub fn maple_ralloc(tree: Tree, size: u64, min: u64, max: u64, entry: u64, start: *mut u64) -> u32;
+    pub fn maple_store_kept(tree: Tree, first: u64, last: u64, entry: u64, old: *mut u64) -> u32;
+    pub fn maple_insert_kept(tree: Tree, first: u64, last: u64, entry: u64) -> u32;
+    pub fn maple_alloc_kept(tree: Tree, size: u64, min: u64, max: u64, entry: u64, start: *mut u64) -> u32;
+    pub fn maple_ralloc_kept(tree: Tree, size: u64, min: u64, max: u64, entry: u64, start: *mut u64) -> u32;
     pub fn maple_gap(tree: Tree, size: u64, min: u64, max: u64, start: *mut u64) -> u32;
     pub fn maple_rgap(tree: Tree, size: u64, min: u64, max: u64, start: *mut u64) -> u32;
     pub fn maple_clear(tree: Tree) -> u32;
@@ -222,11 +226,16 @@ extern "C" {
     pub fn maple_try_erase(user: User, index: u64, done: *mut RawDone) -> u32;
     pub fn maple_try_alloc(user: User, size: u64, min: u64, max: u64, entry: u64, done: *mut RawDone) -> u32;
     pub fn maple_try_ralloc(user: User, size: u64, min: u64, max: u64, entry: u64, done: *mut RawDone) -> u32;
+    pub fn maple_try_store_kept(user: User, first: u64, last: u64, entry: u64, done: *mut RawDone) -> u32;
+    pub fn maple_try_insert_kept(user: User, first: u64, last: u64, entry: u64, done: *mut RawDone) -> u32;
+    pub fn maple_try_alloc_kept(user: User, size: u64, min: u64, max: u64, entry: u64, done: *mut RawDone) -> u32;
+    pub fn maple_try_ralloc_kept(user: User, size: u64, min: u64, max: u64, entry: u64, done: *mut RawDone) -> u32;
     pub fn maple_try_gap(user: User, size: u64, min: u64, max: u64, done: *mut RawDone) -> u32;
     pub fn maple_try_rgap(user: User, size: u64, min: u64, max: u64, done: *mut RawDone) -> u32;
     pub fn maple_try_clear(user: User, done: *mut RawDone) -> u32;
     pub fn maple_try_batch(user: User, calls: *mut RawCall, count: usize) -> u32;
     pub fn maple_learn(user: User, calls: u64) -> u32;
+    pub fn maple_place(user: User, place: *mut u64) -> u32;
     pub fn maple_sync(user: User, calls: *mut u64) -> u32;
     pub fn maple_settle(user: User, calls: *mut u64, places: *mut u64) -> u32;
     pub fn maple_oldest(user: User, calls: *mut u64) -> u32;

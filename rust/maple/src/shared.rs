@@ -90,6 +90,13 @@ impl Shared {
     }
 
     /// A reader, which may go to another thread.
+    ///
+    /// ```
+    /// use maple::{Kind, Shared};
+    /// let mut reader = Shared::new(Kind::Range, 100, 1)?.reader()?;
+    /// assert!(reader.is_empty());
+    /// # Ok::<(), maple::OpenError>(())
+    /// ```
     pub fn reader(&self) -> Result<Reader, OpenError> {
         let (mut first, mut user) = (self.first(), RawUser::CLOSED);
         // SAFETY: the first user is open, the other closed, and nobody else uses them now.
@@ -98,6 +105,13 @@ impl Shared {
     }
 
     /// A writer, which may go to another thread, and what its calls do where another thread has the lock.
+    ///
+    /// ```
+    /// use maple::{Kind, Lock, Shared};
+    /// let mut writer = Shared::new(Kind::Range, 100, 1)?.writer(Lock::Tries)?;
+    /// assert_eq!(writer.clear(), Ok(()));
+    /// # Ok::<(), maple::OpenError>(())
+    /// ```
     pub fn writer(&self, lock: Lock) -> Result<Writer, OpenError> {
         Ok(Writer { reader: self.reader()?, lock, number: 0, shortage: None })
     }
@@ -274,6 +288,14 @@ impl Reader {
     }
 
     /// The version interval of the last read: its answer was that of the tree at one of these versions.
+    ///
+    /// ```
+    /// use maple::{Kind, Shared};
+    /// let mut reader = Shared::new(Kind::Range, 100, 1)?.reader()?;
+    /// assert_eq!(reader.load(5), None);
+    /// assert_eq!(reader.window(), 0..=0);
+    /// # Ok::<(), maple::OpenError>(())
+    /// ```
     pub fn window(&self) -> RangeInclusive<u64> {
         self.window.clone()
     }
@@ -297,6 +319,14 @@ impl Reader {
     }
 
     /// The entry at an index, of the range that [`load`](Reader::load) returns, without its ends.
+    ///
+    /// ```
+    /// use maple::{entries::of_value, Kind, Lock, Shared};
+    /// let mut writer = Shared::new(Kind::Range, 100, 1)?.writer(Lock::Waits)?;
+    /// writer.store(3..12, of_value(1)).unwrap();
+    /// assert_eq!((writer.reader().get(3), writer.reader().get(12)), (of_value(1), None));
+    /// # Ok::<(), maple::OpenError>(())
+    /// ```
     pub fn get(&mut self, index: u64) -> Option<NonZeroU64> {
         let mut told = RawWindow::default();
         // SAFETY: as of `load`.
@@ -337,6 +367,15 @@ impl Reader {
     }
 
     /// Whether the tree had no range.
+    ///
+    /// ```
+    /// use maple::{entries::of_value, Kind, Lock, Shared};
+    /// let mut writer = Shared::new(Kind::Range, 100, 1)?.writer(Lock::Waits)?;
+    /// assert!(writer.reader().is_empty());
+    /// writer.store(3..12, of_value(1)).unwrap();
+    /// assert!(!writer.reader().is_empty());
+    /// # Ok::<(), maple::OpenError>(())
+    /// ```
     pub fn is_empty(&mut self) -> bool {
         self.first_in(..).is_none()
     }
@@ -367,6 +406,15 @@ impl Reader {
 
     /// The last range that has an index in the window. Where the leaf of its place is replaced meanwhile it reads again, and no
     /// bound on how often is known. The same holds for `next_in` and `prev_in`.
+    ///
+    /// ```
+    /// use maple::{entries::of_value, Kind, Lock, Shared};
+    /// let mut writer = Shared::new(Kind::Range, 100, 1)?.writer(Lock::Waits)?;
+    /// writer.store(0..5, of_value(1)).unwrap();
+    /// writer.store(10..15, of_value(2)).unwrap();
+    /// assert_eq!(writer.reader().last_in(..12).unwrap().indexes(), 10..=14);
+    /// # Ok::<(), maple::OpenError>(())
+    /// ```
     pub fn last_in(&mut self, window: impl RangeBounds<u64>) -> Option<Range> {
         let (first, last) = ends(window);
         // SAFETY: as of `load`.
@@ -374,6 +422,15 @@ impl Reader {
     }
 
     /// The first range that begins in the window, after its first index.
+    ///
+    /// ```
+    /// use maple::{entries::of_value, Kind, Lock, Shared};
+    /// let mut writer = Shared::new(Kind::Range, 100, 1)?.writer(Lock::Waits)?;
+    /// writer.store(0..5, of_value(1)).unwrap();
+    /// writer.store(10..15, of_value(2)).unwrap();
+    /// assert_eq!(writer.reader().next_in(2..).unwrap().indexes(), 10..=14);
+    /// # Ok::<(), maple::OpenError>(())
+    /// ```
     pub fn next_in(&mut self, window: impl RangeBounds<u64>) -> Option<Range> {
         let (first, last) = ends(window);
         // SAFETY: as of `load`.
@@ -381,6 +438,15 @@ impl Reader {
     }
 
     /// The last range that ends in the window, before its last index.
+    ///
+    /// ```
+    /// use maple::{entries::of_value, Kind, Lock, Shared};
+    /// let mut writer = Shared::new(Kind::Range, 100, 1)?.writer(Lock::Waits)?;
+    /// writer.store(0..5, of_value(1)).unwrap();
+    /// writer.store(10..15, of_value(2)).unwrap();
+    /// assert_eq!(writer.reader().prev_in(..=12).unwrap().indexes(), 0..=4);
+    /// # Ok::<(), maple::OpenError>(())
+    /// ```
     pub fn prev_in(&mut self, window: impl RangeBounds<u64>) -> Option<Range> {
         let (first, last) = ends(window);
         // SAFETY: as of `load`.
@@ -409,6 +475,16 @@ impl Reader {
     }
 
     /// All ranges, in rising order: [`range`](Reader::range) of the window `..`.
+    ///
+    /// ```
+    /// use maple::{entries::of_value, Kind, Lock, Shared};
+    /// let mut writer = Shared::new(Kind::Range, 100, 1)?.writer(Lock::Waits)?;
+    /// writer.store(0..5, of_value(1)).unwrap();
+    /// writer.store(10..15, of_value(2)).unwrap();
+    /// let firsts: Vec<u64> = writer.reader().iter().map(|range| range.first).collect();
+    /// assert_eq!(firsts, [0, 10]);
+    /// # Ok::<(), maple::OpenError>(())
+    /// ```
     pub fn iter(&mut self) -> Steps<'_> {
         self.range(..)
     }
@@ -416,9 +492,35 @@ impl Reader {
     /// Whether it has now seen at least that many writes: what it reads is then of no older version. Takes no lock. The number
     /// is that of another thread's write, or the end of the window of its read, handed over. False: a write that had begun has
     /// not ended yet.
+    ///
+    /// ```
+    /// use maple::{Kind, Lock, Shared};
+    /// let shared = Shared::new(Kind::Range, 100, 2)?;
+    /// let (mut writer, mut reader) = (shared.writer(Lock::Waits)?, shared.reader()?);
+    /// writer.clear().unwrap();
+    /// assert!(reader.learn(writer.number()));
+    /// assert!(!reader.learn(2));
+    /// # Ok::<(), maple::OpenError>(())
+    /// ```
     pub fn learn(&mut self, calls: u64) -> bool {
         // SAFETY: the user is open, and nobody else uses it now.
         unsafe { raw::maple_learn(&mut self.user, calls) == 0 }
+    }
+
+    /// Its place in the tree, from 1: by it a shortage names who holds nodes ([`Shortage::by`]).
+    ///
+    /// ```
+    /// use maple::{Kind, Shared};
+    /// let shared = Shared::new(Kind::Range, 100, 2)?;
+    /// let (mut one, mut other) = (shared.reader()?, shared.reader()?);
+    /// assert_ne!(one.place(), other.place());
+    /// # Ok::<(), maple::OpenError>(())
+    /// ```
+    pub fn place(&mut self) -> u64 {
+        let mut place = 0;
+        // SAFETY: the user is open, and the pointers are of two objects that nobody else uses now.
+        unsafe { raw::maple_place(&mut self.user, &mut place) };
+        place
     }
 
     /// Sees the whole history, under the lock as soon as it is free, and returns its length. Readers and writers that get the
@@ -479,6 +581,15 @@ pub struct Steps<'a> {
 
 impl Steps<'_> {
     /// As [`Reader::window`], of the last step.
+    ///
+    /// ```
+    /// use maple::{Kind, Shared};
+    /// let mut reader = Shared::new(Kind::Range, 100, 1)?.reader()?;
+    /// let mut steps = reader.iter();
+    /// assert_eq!(steps.next(), None);
+    /// assert_eq!(steps.window(), 0..=0);
+    /// # Ok::<(), maple::OpenError>(())
+    /// ```
     pub fn window(&self) -> RangeInclusive<u64> {
         self.reader.window()
     }
@@ -517,6 +628,13 @@ impl fmt::Debug for Steps<'_> {
 }
 
 /// What a write does where another thread has the tree's lock.
+///
+/// ```
+/// use maple::{Kind, Lock, Shared};
+/// let mut writer = Shared::new(Kind::Range, 100, 1)?.writer(Lock::Tries)?;
+/// writer.set_lock(Lock::Waits);
+/// # Ok::<(), maple::OpenError>(())
+/// ```
 #[derive(Clone, Copy, Debug, PartialEq, Eq)]
 pub enum Lock {
     /// It rests and tries again: it spins shortly, then yields, and at last sleeps, up to a millisecond at a time. The lock is
@@ -569,8 +687,8 @@ impl Writer {
     /// Notes what its last call came to.
     pub(crate) fn made(&mut self, told: &RawDone) {
         self.number = self.number.max(told.call);
-        let RawDone { need, free, live, held, .. } = *told;
-        self.shortage = (need > 0).then_some(Shortage { need, free, live, held });
+        let RawDone { need, free, live, held, by, epoch, .. } = *told;
+        self.shortage = (need > 0).then_some(Shortage { need, free, live, held, by, epoch });
     }
 
     fn call(&mut self, mut call: impl FnMut(&mut RawUser, &mut RawDone) -> u32) -> (u32, RawDone) {
@@ -587,6 +705,15 @@ impl Writer {
 
     /// The number of its last write in the tree's history, refused or not; 0 before the first. A write that found the lock
     /// taken has no number.
+    ///
+    /// ```
+    /// use maple::{entries::of_value, Kind, Lock, Shared};
+    /// let mut writer = Shared::new(Kind::Range, 100, 1)?.writer(Lock::Waits)?;
+    /// assert_eq!(writer.number(), 0);
+    /// writer.store(3..12, of_value(1)).unwrap();
+    /// assert_eq!(writer.number(), 1);
+    /// # Ok::<(), maple::OpenError>(())
+    /// ```
     pub fn number(&self) -> u64 {
         self.number
     }
@@ -607,6 +734,14 @@ impl Writer {
     }
 
     /// Its reader, which has seen its writes.
+    ///
+    /// ```
+    /// use maple::{entries::of_value, Kind, Lock, Shared};
+    /// let mut writer = Shared::new(Kind::Range, 100, 1)?.writer(Lock::Waits)?;
+    /// writer.store(3..12, of_value(1)).unwrap();
+    /// assert_eq!(writer.reader().get(5), of_value(1));
+    /// # Ok::<(), maple::OpenError>(())
+    /// ```
     pub fn reader(&mut self) -> &mut Reader {
         &mut self.reader
     }
@@ -633,6 +768,14 @@ impl Writer {
     }
 
     /// Stores an entry over a range, or makes a gap there, and gives the entry of the first range that it met.
+    ///
+    /// ```
+    /// use maple::{entries::of_value, Kind, Lock, Shared};
+    /// let mut writer = Shared::new(Kind::Range, 100, 1)?.writer(Lock::Waits)?;
+    /// assert_eq!(writer.store(0..100, of_value(1)), Ok(None));
+    /// assert_eq!(writer.store(40..50, None), Ok(of_value(1)));
+    /// # Ok::<(), maple::OpenError>(())
+    /// ```
     pub fn store(&mut self, at: impl RangeBounds<u64>, entry: Option<NonZeroU64>) -> Result<Option<NonZeroU64>, Error> {
         let ((first, last), entry) = (ends(at), entry.map_or(0, NonZeroU64::get));
         // SAFETY: the user is open, and the pointers are of two objects that nobody else uses now.
@@ -670,6 +813,15 @@ impl Writer {
     }
 
     /// Stores an entry over a range where no range holds any of its indexes.
+    ///
+    /// ```
+    /// use maple::{entries::of_value, Error, Kind, Lock, Shared};
+    /// let mut writer = Shared::new(Kind::Range, 100, 1)?.writer(Lock::Waits)?;
+    /// let entry = of_value(1).unwrap();
+    /// assert_eq!(writer.insert(0..10, entry), Ok(()));
+    /// assert_eq!(writer.insert(9..12, entry), Err(Error::Exists));
+    /// # Ok::<(), maple::OpenError>(())
+    /// ```
     pub fn insert(&mut self, at: impl RangeBounds<u64>, entry: NonZeroU64) -> Result<(), Error> {
         let ((first, last), entry) = (ends(at), entry.get());
         // SAFETY: as of `store`.
@@ -677,6 +829,15 @@ impl Writer {
     }
 
     /// Removes the whole range that holds an index, and gives it; none where no range does.
+    ///
+    /// ```
+    /// use maple::{entries::of_value, Kind, Lock, Shared};
+    /// let mut writer = Shared::new(Kind::Range, 100, 1)?.writer(Lock::Waits)?;
+    /// writer.store(3..12, of_value(1)).unwrap();
+    /// assert_eq!(writer.erase(5).unwrap().unwrap().indexes(), 3..=11);
+    /// assert_eq!(writer.erase(5), Ok(None));
+    /// # Ok::<(), maple::OpenError>(())
+    /// ```
     pub fn erase(&mut self, index: u64) -> Result<Option<Range>, Error> {
         // SAFETY: as of `store`.
         let (status, told) = self.call(|user, done| unsafe { raw::maple_try_erase(user, index, done) });
@@ -687,6 +848,15 @@ impl Writer {
     }
 
     /// Stores an entry over `size` indexes at the lowest start at which they lie in one gap of the window, and gives the start.
+    ///
+    /// ```
+    /// use maple::{entries::of_value, Kind, Lock, Shared};
+    /// let mut writer = Shared::new(Kind::Alloc, 100, 1)?.writer(Lock::Waits)?;
+    /// let entry = of_value(1).unwrap();
+    /// assert_eq!(writer.alloc(8, 1..100, entry), Ok(1));
+    /// assert_eq!(writer.alloc(8, 1..100, entry), Ok(9));
+    /// # Ok::<(), maple::OpenError>(())
+    /// ```
     pub fn alloc(&mut self, size: u64, window: impl RangeBounds<u64>, entry: NonZeroU64) -> Result<u64, Error> {
         let ((min, max), entry) = (ends(window), entry.get());
         // SAFETY: as of `store`.
@@ -694,13 +864,105 @@ impl Writer {
     }
 
     /// As [`alloc`](Writer::alloc), at the highest start.
+    ///
+    /// ```
+    /// use maple::{entries::of_value, Kind, Lock, Shared};
+    /// let mut writer = Shared::new(Kind::Alloc, 100, 1)?.writer(Lock::Waits)?;
+    /// assert_eq!(writer.alloc_highest(8, 1..100, of_value(1).unwrap()), Ok(92));
+    /// # Ok::<(), maple::OpenError>(())
+    /// ```
     pub fn alloc_highest(&mut self, size: u64, window: impl RangeBounds<u64>, entry: NonZeroU64) -> Result<u64, Error> {
         let ((min, max), entry) = (ends(window), entry.get());
         // SAFETY: as of `store`.
         self.word(|user, done| unsafe { raw::maple_try_ralloc(user, size, min, max, entry, done) })
     }
 
+    /// Stores as [`store`](Writer::store), and keeps the reserve of [`Tree::store_kept`](crate::Tree::store_kept): a call that would
+    /// break it is not made. It has no number, and is refused with [`Error::NoRows`] without a [`shortage`](Writer::shortage). A
+    /// tree whose ranges came by the calls `.._kept` alone refuses no erase, in any order, nor any other call that adds no range,
+    /// while no reader holds nodes.
+    ///
+    /// ```
+    /// use maple::{entries::of_value, Error, Kind, Lock, Shared};
+    /// let mut writer = Shared::new(Kind::Range, 20, 1)?.writer(Lock::Waits)?;
+    /// let mut ranges = 0;
+    /// while writer.store_kept(10 * ranges..10 * ranges + 5, of_value(ranges)).is_ok() {
+    ///     ranges += 1;
+    /// }
+    /// assert_eq!((writer.number(), writer.shortage()), (ranges, None));
+    /// assert_eq!(writer.insert_kept(7..8, of_value(1).unwrap()), Err(Error::NoRows));
+    /// assert!((0..ranges).rev().all(|n| matches!(writer.erase(10 * n), Ok(Some(_)))));
+    /// # Ok::<(), maple::OpenError>(())
+    /// ```
+    pub fn store_kept(
+        &mut self,
+        at: impl RangeBounds<u64>,
+        entry: Option<NonZeroU64>,
+    ) -> Result<Option<NonZeroU64>, Error> {
+        let ((first, last), entry) = (ends(at), entry.map_or(0, NonZeroU64::get));
+        // SAFETY: as of `store`.
+        self.word(|user, done| unsafe { raw::maple_try_store_kept(user, first, last, entry, done) })
+            .map(NonZeroU64::new)
+    }
+
+    /// As [`insert`](Writer::insert), and keeps the reserve of [`store_kept`](Writer::store_kept) for a range more.
+    ///
+    /// ```
+    /// use maple::{entries::of_value, Kind, Lock, Shared};
+    /// let mut writer = Shared::new(Kind::Range, 100, 1)?.writer(Lock::Waits)?;
+    /// assert_eq!(writer.insert_kept(0..10, of_value(1).unwrap()), Ok(()));
+    /// # Ok::<(), maple::OpenError>(())
+    /// ```
+    pub fn insert_kept(&mut self, at: impl RangeBounds<u64>, entry: NonZeroU64) -> Result<(), Error> {
+        let ((first, last), entry) = (ends(at), entry.get());
+        // SAFETY: as of `store`.
+        self.word(|user, done| unsafe { raw::maple_try_insert_kept(user, first, last, entry, done) }).map(|_| ())
+    }
+
+    /// As [`alloc`](Writer::alloc), and keeps the reserve of [`store_kept`](Writer::store_kept) for a range more.
+    ///
+    /// ```
+    /// use maple::{entries::of_value, Error, Kind, Lock, Shared};
+    /// let mut writer = Shared::new(Kind::Alloc, 20, 1)?.writer(Lock::Waits)?;
+    /// let entry = of_value(1).unwrap();
+    /// let starts: Vec<u64> = std::iter::from_fn(|| writer.alloc_kept(1, 0..1000, entry).ok()).collect();
+    /// assert_eq!(writer.alloc_highest_kept(1, 0..1000, entry), Err(Error::NoRows));
+    /// assert!(starts.iter().all(|start| matches!(writer.erase(*start), Ok(Some(_)))));
+    /// # Ok::<(), maple::OpenError>(())
+    /// ```
+    pub fn alloc_kept(&mut self, size: u64, window: impl RangeBounds<u64>, entry: NonZeroU64) -> Result<u64, Error> {
+        let ((min, max), entry) = (ends(window), entry.get());
+        // SAFETY: as of `store`.
+        self.word(|user, done| unsafe { raw::maple_try_alloc_kept(user, size, min, max, entry, done) })
+    }
+
+    /// As [`alloc_kept`](Writer::alloc_kept), at the highest start.
+    ///
+    /// ```
+    /// use maple::{entries::of_value, Kind, Lock, Shared};
+    /// let mut writer = Shared::new(Kind::Alloc, 100, 1)?.writer(Lock::Waits)?;
+    /// assert_eq!(writer.alloc_highest_kept(8, 1..100, of_value(1).unwrap()), Ok(92));
+    /// # Ok::<(), maple::OpenError>(())
+    /// ```
+    pub fn alloc_highest_kept(
+        &mut self,
+        size: u64,
+        window: impl RangeBounds<u64>,
+        entry: NonZeroU64,
+    ) -> Result<u64, Error> {
+        let ((min, max), entry) = (ends(window), entry.get());
+        // SAFETY: as of `store`.
+        self.word(|user, done| unsafe { raw::maple_try_ralloc_kept(user, size, min, max, entry, done) })
+    }
+
     /// The lowest start at which `size` indexes lie in one gap of the window.
+    ///
+    /// ```
+    /// use maple::{Kind, Lock, Shared};
+    /// let mut writer = Shared::new(Kind::Alloc, 100, 1)?.writer(Lock::Waits)?;
+    /// assert_eq!(writer.gap(8, 1..100), Ok(1));
+    /// # Ok::<(), maple::OpenError>(())
+    /// ```
     pub fn gap(&mut self, size: u64, window: impl RangeBounds<u64>) -> Result<u64, Error> {
         let (min, max) = ends(window);
         // SAFETY: as of `store`.
@@ -708,6 +970,13 @@ impl Writer {
     }
 
     /// The highest start at which `size` indexes lie in one gap of the window.
+    ///
+    /// ```
+    /// use maple::{Kind, Lock, Shared};
+    /// let mut writer = Shared::new(Kind::Alloc, 100, 1)?.writer(Lock::Waits)?;
+    /// assert_eq!(writer.gap_highest(8, 1..100), Ok(92));
+    /// # Ok::<(), maple::OpenError>(())
+    /// ```
     pub fn gap_highest(&mut self, size: u64, window: impl RangeBounds<u64>) -> Result<u64, Error> {
         let (min, max) = ends(window);
         // SAFETY: as of `store`.
@@ -715,6 +984,15 @@ impl Writer {
     }
 
     /// Removes every range.
+    ///
+    /// ```
+    /// use maple::{entries::of_value, Kind, Lock, Shared};
+    /// let mut writer = Shared::new(Kind::Range, 100, 1)?.writer(Lock::Waits)?;
+    /// writer.store(3..12, of_value(1)).unwrap();
+    /// assert_eq!(writer.clear(), Ok(()));
+    /// assert!(writer.reader().is_empty());
+    /// # Ok::<(), maple::OpenError>(())
+    /// ```
     pub fn clear(&mut self) -> Result<(), Error> {
         // SAFETY: as of `store`.
         self.word(|user, done| unsafe { raw::maple_try_clear(user, done) }).map(|_| ())

@@ -27,8 +27,8 @@ use std::ops::RangeBounds;
 /// for a store that is above the greatest index of a tree with indexes of 32 bits. A window without an index has no range, and a
 /// store over one is [`Error::Invalid`].
 ///
-/// It has no `len`: the tree does not count its ranges. `iter().count()` walks them, and [`check`](Tree::check) counts them and
-/// tests every word.
+/// It has no `len`: the tree counts its ranges only for the calls that keep its reserve, and returns no number. `iter().count()`
+/// walks them, and [`check`](Tree::check) counts them and tests every word.
 ///
 /// `collect`, `extend` and `clone` cannot return an error: they panic where a call would be refused or memory runs out. The number
 /// of nodes grows with what is collected, up to 65,504.
@@ -348,13 +348,99 @@ impl Tree {
     }
 
     /// As [`alloc`](Tree::alloc), at the highest start. There is an example of both, and of the two that follow.
+    ///
+    /// ```
+    /// use maple::{entries::of_value, Kind, Tree};
+    /// let mut tree = Tree::new(Kind::Alloc, 100).unwrap();
+    /// assert_eq!(tree.alloc_highest(8, 1..100, of_value(1).unwrap()), Ok(92));
+    /// ```
     pub fn alloc_highest(&mut self, size: u64, window: impl RangeBounds<u64>, entry: NonZeroU64) -> Result<u64, Error> {
         let ((min, max), entry) = (ends(window), entry.get());
         // SAFETY: as of `store`.
         self.word(|tree, start| unsafe { raw::maple_ralloc(tree, size, min, max, entry, start) })
     }
 
+    /// As [`store`](Tree::store), and keeps the reserve by which the tree can always be emptied: it is refused, and no write is
+    /// made, where it adds ranges and the nodes are fewer than [`rows_for`](crate::rows_for) gives for those that there are then.
+    /// A tree whose ranges came by the calls `.._kept` alone refuses no erase for lack of nodes, in any order, nor any other
+    /// write that adds no range. It is full at two ranges a node.
+    ///
+    /// ```
+    /// use maple::{entries::of_value, Error, Kind, Tree};
+    /// let mut tree = Tree::new(Kind::Range, 20).unwrap();
+    /// let mut ranges = 0;
+    /// while tree.store_kept(10 * ranges..10 * ranges + 5, of_value(ranges)).is_ok() {
+    ///     ranges += 1;
+    /// }
+    /// assert_eq!(tree.insert_kept(7..8, of_value(1).unwrap()), Err(Error::NoRows));
+    /// assert!((0..ranges).rev().all(|n| tree.store_kept(10 * n..10 * n + 5, of_value(n + 1)).is_ok()));
+    /// assert!((0..ranges).rev().all(|n| tree.erase(10 * n).is_ok()));
+    /// ```
+    pub fn store_kept(
+        &mut self,
+        at: impl RangeBounds<u64>,
+        entry: Option<NonZeroU64>,
+    ) -> Result<Option<NonZeroU64>, Error> {
+        let ((first, last), entry) = (ends(at), entry.map_or(0, NonZeroU64::get));
+        // SAFETY: as of `store`.
+        let old = self.word(|tree, old| unsafe { raw::maple_store_kept(tree, first, last, entry, old) })?;
+        Ok(NonZeroU64::new(old))
+    }
+
+    /// As [`insert`](Tree::insert), and keeps the reserve of [`store_kept`](Tree::store_kept) for a range more.
+    ///
+    /// ```
+    /// use maple::{entries::of_value, Kind, Tree};
+    /// let mut tree = Tree::new(Kind::Range, 100).unwrap();
+    /// assert_eq!(tree.insert_kept(0..10, of_value(1).unwrap()), Ok(()));
+    /// ```
+    pub fn insert_kept(&mut self, at: impl RangeBounds<u64>, entry: NonZeroU64) -> Result<(), Error> {
+        let (first, last) = ends(at);
+        // SAFETY: as of `store`.
+        done(unsafe { raw::maple_insert_kept(self.raw.get_mut(), first, last, entry.get()) })
+    }
+
+    /// As [`alloc`](Tree::alloc), and keeps the reserve of [`store_kept`](Tree::store_kept) for a range more.
+    ///
+    /// ```
+    /// use maple::{entries::of_value, Error, Kind, Tree};
+    /// let mut tree = Tree::new(Kind::Alloc, 20).unwrap();
+    /// let entry = of_value(1).unwrap();
+    /// let starts: Vec<u64> = std::iter::from_fn(|| tree.alloc_kept(1, 0..1000, entry).ok()).collect();
+    /// assert_eq!(tree.alloc_highest_kept(1, 0..1000, entry), Err(Error::NoRows));
+    /// assert!(starts.into_iter().all(|start| tree.erase(start).is_ok()));
+    /// ```
+    pub fn alloc_kept(&mut self, size: u64, window: impl RangeBounds<u64>, entry: NonZeroU64) -> Result<u64, Error> {
+        let ((min, max), entry) = (ends(window), entry.get());
+        // SAFETY: as of `store`.
+        self.word(|tree, start| unsafe { raw::maple_alloc_kept(tree, size, min, max, entry, start) })
+    }
+
+    /// As [`alloc_kept`](Tree::alloc_kept), at the highest start.
+    ///
+    /// ```
+    /// use maple::{entries::of_value, Kind, Tree};
+    /// let mut tree = Tree::new(Kind::Alloc, 100).unwrap();
+    /// assert_eq!(tree.alloc_highest_kept(8, 1..100, of_value(1).unwrap()), Ok(92));
+    /// ```
+    pub fn alloc_highest_kept(
+        &mut self,
+        size: u64,
+        window: impl RangeBounds<u64>,
+        entry: NonZeroU64,
+    ) -> Result<u64, Error> {
+        let ((min, max), entry) = (ends(window), entry.get());
+        // SAFETY: as of `store`.
+        self.word(|tree, start| unsafe { raw::maple_ralloc_kept(tree, size, min, max, entry, start) })
+    }
+
     /// The lowest start at which `size` indexes lie in one gap of the window.
+    ///
+    /// ```
+    /// use maple::{Kind, Tree};
+    /// let mut tree = Tree::new(Kind::Alloc, 100).unwrap();
+    /// assert_eq!(tree.gap(8, 1..100), Ok(1));
+    /// ```
     pub fn gap(&mut self, size: u64, window: impl RangeBounds<u64>) -> Result<u64, Error> {
         let (min, max) = ends(window);
         // SAFETY: as of `store`.
@@ -362,6 +448,12 @@ impl Tree {
     }
 
     /// The highest start at which `size` indexes lie in one gap of the window.
+    ///
+    /// ```
+    /// use maple::{Kind, Tree};
+    /// let mut tree = Tree::new(Kind::Alloc, 100).unwrap();
+    /// assert_eq!(tree.gap_highest(8, 1..100), Ok(92));
+    /// ```
     pub fn gap_highest(&mut self, size: u64, window: impl RangeBounds<u64>) -> Result<u64, Error> {
         let (min, max) = ends(window);
         // SAFETY: as of `store`.
@@ -400,6 +492,12 @@ impl Tree {
 
     /// A store for which [`preallocate`](Tree::preallocate) made the tree ready: it has its nodes. `NoRows` where the tree was not
     /// ready.
+    ///
+    /// ```
+    /// use maple::{entries::of_value, Error, Kind, Tree};
+    /// let mut tree = Tree::new(Kind::Range, 0).unwrap();
+    /// assert_eq!(tree.store_prealloc(3..12, of_value(1)), Err(Error::NoRows));
+    /// ```
     pub fn store_prealloc(
         &mut self,
         at: impl RangeBounds<u64>,
@@ -434,6 +532,14 @@ impl Tree {
     }
 
     /// The entry at an index, of the range that [`load`](Tree::load) returns, without its ends.
+    ///
+    /// ```
+    /// use maple::{entries::of_value, Kind, Tree};
+    /// let mut tree = Tree::new(Kind::Range, 100).unwrap();
+    /// tree.store(3..12, of_value(1))?;
+    /// assert_eq!((tree.get(3), tree.get(12)), (of_value(1), None));
+    /// # Ok::<(), maple::Error>(())
+    /// ```
     pub fn get(&self, index: u64) -> Option<NonZeroU64> {
         // SAFETY: the tree is open, and nobody else uses it now.
         NonZeroU64::new(unsafe { raw::maple_entry(&mut *self.raw.borrow_mut(), index) })
@@ -490,6 +596,15 @@ impl Tree {
     }
 
     /// The last range that has an index in the window. [`first_in`](Tree::first_in) has an example of it and of its sisters.
+    ///
+    /// ```
+    /// use maple::{entries::of_value, Kind, Tree};
+    /// let mut tree = Tree::new(Kind::Range, 100).unwrap();
+    /// tree.store(0..5, of_value(1))?;
+    /// tree.store(10..15, of_value(2))?;
+    /// assert_eq!(tree.last_in(..12).unwrap().indexes(), 10..=14);
+    /// # Ok::<(), maple::Error>(())
+    /// ```
     pub fn last_in(&self, window: impl RangeBounds<u64>) -> Option<Range> {
         let (first, last) = ends(window);
         // SAFETY: as of `load`.
@@ -497,6 +612,15 @@ impl Tree {
     }
 
     /// The first range that begins in the window, after its first index.
+    ///
+    /// ```
+    /// use maple::{entries::of_value, Kind, Tree};
+    /// let mut tree = Tree::new(Kind::Range, 100).unwrap();
+    /// tree.store(0..5, of_value(1))?;
+    /// tree.store(10..15, of_value(2))?;
+    /// assert_eq!(tree.next_in(2..).unwrap().indexes(), 10..=14);
+    /// # Ok::<(), maple::Error>(())
+    /// ```
     pub fn next_in(&self, window: impl RangeBounds<u64>) -> Option<Range> {
         let (first, last) = ends(window);
         // SAFETY: as of `load`.
@@ -504,6 +628,15 @@ impl Tree {
     }
 
     /// The last range that ends in the window, before its last index.
+    ///
+    /// ```
+    /// use maple::{entries::of_value, Kind, Tree};
+    /// let mut tree = Tree::new(Kind::Range, 100).unwrap();
+    /// tree.store(0..5, of_value(1))?;
+    /// tree.store(10..15, of_value(2))?;
+    /// assert_eq!(tree.prev_in(..=12).unwrap().indexes(), 0..=4);
+    /// # Ok::<(), maple::Error>(())
+    /// ```
     pub fn prev_in(&self, window: impl RangeBounds<u64>) -> Option<Range> {
         let (first, last) = ends(window);
         // SAFETY: as of `load`.
@@ -541,6 +674,15 @@ impl Tree {
     }
 
     /// All ranges, in rising order: [`range`](Tree::range) of the window `..`.
+    ///
+    /// ```
+    /// use maple::{entries::of_value, Kind, Tree};
+    /// let mut tree = Tree::new(Kind::Range, 100).unwrap();
+    /// tree.store(0..5, of_value(1))?;
+    /// tree.store(10..15, of_value(2))?;
+    /// assert!(tree.iter().map(|range| range.first).eq([0_u64, 10]));
+    /// # Ok::<(), maple::Error>(())
+    /// ```
     pub fn iter(&self) -> Ranges<'_> {
         self.range(..)
     }
@@ -614,6 +756,13 @@ impl IntoIterator for Tree {
 }
 
 /// The ranges of a window of a tree that were not yet given, as [`Tree::range`] gives them.
+///
+/// ```
+/// use maple::{Kind, Ranges, Tree};
+/// let tree = Tree::new(Kind::Range, 100).unwrap();
+/// let ranges: Ranges<'_> = tree.iter();
+/// assert_eq!(ranges.count(), 0);
+/// ```
 #[derive(Clone)]
 pub struct Ranges<'a> {
     tree: &'a Tree,
@@ -643,6 +792,12 @@ impl fmt::Debug for Ranges<'_> {
 }
 
 /// The ranges of a tree that `into_iter` took, in the order in which it gives them.
+///
+/// ```
+/// use maple::{IntoIter, Kind, Tree};
+/// let mut ranges: IntoIter = Tree::new(Kind::Range, 100).unwrap().into_iter();
+/// assert_eq!(ranges.next(), None);
+/// ```
 pub struct IntoIter {
     tree: Tree,
     walk: Batches,

@@ -77,6 +77,7 @@ fn an_iterator_that_is_gone_holds_no_rows() {
     (0..20).for_each(|n| assert!(tree.store(10 * n..10 * n + 5, Some(entry(4096))).is_ok()));
     let shared = tree.share(40, 2).unwrap();
     let (mut writer, mut reader) = (shared.writer(Lock::Waits).unwrap(), shared.reader().unwrap());
+    let place = reader.place();
     let mut steps = reader.range(..);
     assert_eq!(steps.by_ref().take(3).count(), 3);
     let replace = |writer: &mut maple::Writer, n: u64| {
@@ -84,7 +85,7 @@ fn an_iterator_that_is_gone_holds_no_rows() {
         writer.store(at + 6..at + 9, there.then(|| entry(4096)))
     };
     assert_eq!((0..1000).find_map(|n| replace(&mut writer, n).err()), Some(Error::NoRows));
-    assert!(writer.shortage().unwrap().held > 0);
+    assert!(writer.shortage().is_some_and(|it| it.held > 0 && it.by == place && it.epoch >= 20));
     drop(steps);
     assert_eq!((0..1000).find_map(|n| replace(&mut writer, n).err()), None);
     assert_eq!(writer.shortage(), None);

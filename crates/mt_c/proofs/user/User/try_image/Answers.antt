@@ -1,4 +1,5 @@
-use Rattle.mt_c.proofs.Prelude.{subst, sym, Common, IsFoundIn, IsImagedBehind, halted, knows}
+use Rattle.mt_c.proofs.Prelude.{subst, sym, Common, IsFoundIn, IsImagedBehind, knows}
+use Rattle.mt_c.specs.Walkers.{shut}
 use Rattle.mt_c.proofs.Using.{on}
 use Rattle.mt_c.proofs.user.User.try_image.Goals as goal
 
@@ -9,4 +10,4 @@ pub invariant_of-self : goal.invariant_of-self
 invariant_of-self c = record { of = on (sym c.deref.ensures) c.try_image.ensures.of; seated = c.args.self.now.seated }
 
 pub returns-clause-found : goal.returns-clause-found
-returns-clause-found c = subst (λ (x : Common). IsFoundIn IsImagedBehind x.tree (halted c.args.self.now.walker) c.try_image.result (knows c.try_image.new.self)) c.deref.ensures c.try_image.ensures.found
+returns-clause-found c = subst (λ (x : Common). IsFoundIn IsImagedBehind x.tree (shut c.args.self.now.walker) c.try_image.result (knows c.try_image.new.self)) c.deref.ensures c.try_image.ensures.found

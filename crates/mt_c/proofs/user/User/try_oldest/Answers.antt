@@ -1,4 +1,5 @@
-use Rattle.mt_c.proofs.Prelude.{subst, sym, Common, IsOldest, IsFoundIn, halted, knows}
+use Rattle.mt_c.proofs.Prelude.{subst, sym, Common, IsOldest, IsFoundIn, knows}
+use Rattle.mt_c.specs.Walkers.{shut}
 use Rattle.mt_c.proofs.Using.{on}
 use Rattle.mt_c.proofs.user.User.try_oldest.Goals as goal
 
@@ -9,4 +10,4 @@ pub invariant_of-self : goal.invariant_of-self
 invariant_of-self c = record { of = on (sym c.deref.ensures) c.try_oldest.ensures.of; seated = c.args.self.now.seated }
 
 pub returns-clause-found : goal.returns-clause-found
-returns-clause-found c = subst (λ (x : Common). IsFoundIn IsOldest x.tree (halted c.args.self.now.walker) c.try_oldest.result (knows c.try_oldest.new.self)) c.deref.ensures c.try_oldest.ensures.found
+returns-clause-found c = subst (λ (x : Common). IsFoundIn IsOldest x.tree (shut c.args.self.now.walker) c.try_oldest.result (knows c.try_oldest.new.self)) c.deref.ensures c.try_oldest.ensures.found
