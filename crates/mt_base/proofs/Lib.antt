@@ -14,3 +14,5 @@ pub mod Shortages
 pub mod StoredOrder
 pub mod WidthBounds
 mod Prelude
+pub mod Lemmas
+pub mod Std

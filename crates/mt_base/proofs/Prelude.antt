@@ -1,13 +1,9 @@
 -- What the proofs beside this file take from the toolchain, from the crates below and from this crate's definitions, under one name. Declares nothing.
-pub use Rattle.std.proofs.Common.{Bool, List, None, Option, Some, [], ap, append_assoc, arith, cond, false, fold, inl, inr, length, length-append, map, max, min, nat_le, nat_lt, not, refl, subst, suc, sym, take, true, zero, ℕ, ◌*◌, ◌++◌, ◌+◌, ◌-◌, ◌/◌, ◌<◌, ◌==◌, ◌^◌, ◌||◌, ◌↔◌, ◌∙◌, ◌∷◌, ◌≡◌, ◌≢◌, ◌≤◌}
+pub use Rattle.std.proofs.Common.{Bool, IfSome, IsPermutation, List, None, Option, Some, [], ap, append-nil, append_assoc, arith, cond, false, filter, find, fold, if◌then◌else◌, inl, inr, is_some, length, length-append, map, max, min, nat_le, nat_lt, not, option_map, refl, subst, suc, sym, take, true, zero, ℕ, ◌&&◌, ◌*◌, ◌++◌, ◌+◌, ◌-◌, ◌/◌, ◌<◌, ◌==◌, ◌^◌, ◌||◌, ◌↔◌, ◌∙◌, ◌∷◌, ◌≡◌, ◌≢◌, ◌≤◌, ◌⊎◌}
 pub use Rattle.std.proofs.lemmas.Bool.{and_left, and_parts, and_right, cases_Bool, cases_lt, cond_both, eqb-false, eqb-true, le-leb, le-ltb, leb-false, leb-true, lt-leb, lt-ltb, ltb-false, ltb-true, or_parts}
-pub use Rattle.std.proofs.lemmas.List.{append-nil}
 pub use Rattle.std.proofs.lemmas.List.Elements.{recursion_from_All}
 pub use Rattle.std.proofs.lemmas.List.Sorted.{IsPermutation-append_right, IsPermutation-cons, IsPermutation-middle, IsPermutation-refl, IsPermutation-sym, IsPermutation-trans}
 pub use Rattle.std.specs.List.{AllByRecursion, flat_map, list_any, range_with_len, slice_get}
-pub use Rattle.std.specs.List.Sorted.{IsPermutation}
-pub use Rattle.std.specs.Option.{is_some, option_map}
-pub use Rattle.std.specs.Prelude.{IfSome, filter, find, if◌then◌else◌, ◌&&◌, ◌⊎◌}
 pub use Rattle.mt_base.specs.Call.{acted, answer, erased, finds_room, found, is_bad_area, is_invalid, is_no_area, placed, replied}
 pub use Rattle.mt_base.specs.Entry.{reserved}
 pub use Rattle.mt_base.specs.History.{AreLegalFrom, History, IsAnswered, IsLegal, Record, limits_after, map_after, map_at, map_by_reply}

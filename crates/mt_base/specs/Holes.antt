@@ -1,7 +1,6 @@
 -- The holes (gaps) of a map, and where a search finds room for `n` indexes in a window.
 -- Source: the kernel's lib/maple_tree.c, mas_empty_area and mas_empty_area_rev.
-use Rattle.std.specs.Prelude.{◌≡◌, ℕ, Bool, false, List, [], ◌∷◌, ◌++◌, Option, ◌+◌, ◌-◌, ◌≤◌, nat_lt, nat_le, min, max, map, filter, length, slice_get, if◌then◌else◌}
-use Rattle.std.specs.Option.{option_map}
+use Rattle.std.specs.Prelude.{◌≡◌, ℕ, Bool, false, List, [], ◌∷◌, ◌++◌, Option, ◌+◌, ◌-◌, ◌≤◌, nat_lt, nat_le, min, max, map, filter, length, slice_get, if◌then◌else◌, option_map}
 use Rattle.mt_base.specs.declared.kinds.Kind.{Kind}
 use Rattle.mt_base.specs.declared.ranges.Range.{Range}
 use Rattle.mt_base.specs.Width.{greatest_of}

@@ -1,3 +1,4 @@
+pub mod Blanks
 pub mod Call
 pub mod Entry
 pub mod Errno
@@ -10,3 +11,4 @@ pub mod Passes
 pub mod Places
 pub mod Text
 pub mod Width
+pub mod Names

@@ -2,8 +2,7 @@
 -- add to that.
 -- Source: this project's own. No two handles are compared: each is compared with the history. Of `tree` all but the settling
 -- reads only the kind, the number of nodes and the opening map.
-use Rattle.std.specs.Prelude.{◌≡◌, ◌≢◌, ℕ, ◌+◌, ◌==◌, ◌<◌, ◌≤◌, nat_lt, max, List, [], ◌∷◌, ◌++◌, Option, Some, None, All, IfSome, length, slice_get, if◌then◌else◌}
-use Rattle.std.specs.List.{Contains}
+use Rattle.std.specs.Prelude.{◌≡◌, ◌≢◌, ℕ, ◌+◌, ◌==◌, ◌<◌, ◌≤◌, nat_lt, max, List, [], ◌∷◌, ◌++◌, Option, Some, None, All, IfSome, length, slice_get, if◌then◌else◌, Contains}
 use Rattle.mt_base.specs.declared.ranges.Range.{Range}
 use Rattle.mt_base.specs.declared.calls.Call.{Call}
 use Rattle.mt_base.specs.declared.calls.Query.{Query}

@@ -1,9 +1,9 @@
 -- Each change of a book leaves a book.
-use Rattle.mt_free.proofs.Prelude.{◌≡◌, ◌≢◌, ℕ, ◌+◌, ◌<◌, ◌≤◌, suc, zero, List, [], ◌∷◌, ◌++◌, length, map, get_or, arith, refl, ap, append_assoc, append-nil, add-one, length-append, All, AllPairs, slice_get, IfSome, le-leb, lt-leb, le-ltb, lt-ltb, get_or_append_left, length-map, map_push, All-nil, All-cons, All-head, All-tail, All-weaker, All-append, All-push, All-map, All-contains, Contains-push, AllPairs-cons, all_pairs_push, all_pairs_remove, Held, Book, rows_down, IsRowOf, held_rows, IsOut, IsBook, new_book, after_retire, reclaimable, still_held, after_reclaim}
+use Rattle.mt_free.proofs.Prelude.{◌≡◌, ◌≢◌, ℕ, ◌+◌, ◌<◌, ◌≤◌, suc, zero, List, [], ◌∷◌, ◌++◌, length, map, get_or, arith, refl, ap, append_assoc, append-nil, add-one, length-append, All, AllPairs, slice_get, IfSome, le-leb, lt-leb, le-ltb, lt-ltb, get_or_append_left, length-map, map_push, All-nil, All-cons, All-head, All-tail, All-weaker, All-append, All-push, All-map, All-contains, Contains-push, AllPairs-cons, all_pairs_push, all_pairs_remove, StampedRow, Book, rows_down, IsRowOf, held_rows, IsOut, IsBook, new_book, after_retire, reclaimable, still_held, after_reclaim}
 use Rattle.mt_free.proofs.Rows.{AreApart, not_before, not_behind, apart_without, apart_with, apart_are_few}
 use Rattle.mt_base.specs.Width.{most_rows}
 
-abbrev pub book : ℕ → List ℕ → List Held → Book
+abbrev pub book : ℕ → List ℕ → List StampedRow → Book
 book rows free held = record { rows = rows; free = free; held = held }
 
 abbrev IsRowBelow : ℕ → ℕ → Type 0
@@ -38,7 +38,7 @@ new_is_book rows few = record {
 }
 
 -- the book without its last free row, which then is out
-pub take_leaves_book : (rows : ℕ) (free : List ℕ) (row : ℕ) (held : List Held) → IsBook (book rows (free ++ row ∷ []) held) → IsBook (book rows free held)
+pub take_leaves_book : (rows : ℕ) (free : List ℕ) (row : ℕ) (held : List StampedRow) → IsBook (book rows (free ++ row ∷ []) held) → IsBook (book rows free held)
 take_leaves_book rows free row held b = record {
   few = b.few;
   counted = omega (arith, b.counted, length-append free (row ∷ []));
@@ -48,7 +48,7 @@ take_leaves_book rows free row held b = record {
   in_order = b.in_order;
 }
 
-pub taken_is_out : (rows : ℕ) (free : List ℕ) (row : ℕ) (held : List Held) → IsBook (book rows (free ++ row ∷ []) held) → IsOut (book rows free held) row
+pub taken_is_out : (rows : ℕ) (free : List ℕ) (row : ℕ) (held : List StampedRow) → IsBook (book rows (free ++ row ∷ []) held) → IsOut (book rows free held) row
 taken_is_out rows free row held b =
     let apart : AreApart (free ++ row ∷ map (λ h. h.row) held) = rw append_assoc at b.once in
     record {
@@ -60,14 +60,14 @@ taken_is_out rows free row held b =
 -- a row that is out stands beside those that are free or held
 out_is_beside : (b : Book) (row stamp : ℕ) → IsBook b → IsOut b row → AreApart (b.free ++ held_rows (after_retire b row stamp))
 out_is_beside b row stamp is out =
-    rw (map_push (λ (h : Held). h.row) b.held (record { row = row; stamp = stamp })) (apart_with b.free (held_rows b) row is.once out.not_free out.not_held)
+    rw (map_push (λ (h : StampedRow). h.row) b.held (record { row = row; stamp = stamp })) (apart_with b.free (held_rows b) row is.once out.not_free out.not_held)
 
 retired_are_rows : (b : Book) (row stamp : ℕ) → IsBook b → IsOut b row → All (λ h. IsRowOf b h.row) (after_retire b row stamp).held
 retired_are_rows b row stamp is out = All-push (λ h. IsRowOf b h.row) b.held (record { row = row; stamp = stamp }) is.waiting_rows out.here
 
 pub out_has_room : (b : Book) (row : ℕ) → IsBook b → IsOut b row → length b.free + length b.held < b.rows
 out_has_room b row is out =
-    let held : List Held = (after_retire b row 0).held in
+    let held : List StampedRow = (after_retire b row 0).held in
     let rows : List ℕ = map (λ h. h.row) held in
     let few : length (b.free ++ rows) ≤ b.rows = apart_are_few 16 b.rows (b.free ++ rows) (All-append (IsRowOf b) b.free rows is.free_rows (All-map (IsRowOf b) (λ h. h.row) held (retired_are_rows b row 0 is out))) (out_is_beside b row 0 is out) in
     omega (arith, few, length-append b.free rows, length-map held (λ h. h.row), length-append b.held (record { row = row; stamp = 0 } ∷ []))
@@ -83,7 +83,7 @@ retire_leaves_book b row stamp is out order = record {
 }
 
 -- the book whose first held row is free again
-pub reclaim_leaves_book : (rows : ℕ) (free : List ℕ) (h : Held) (held : List Held) → IsBook (book rows free (h ∷ held)) → IsBook (book rows (free ++ h.row ∷ []) held)
+pub reclaim_leaves_book : (rows : ℕ) (free : List ℕ) (h : StampedRow) (held : List StampedRow) → IsBook (book rows free (h ∷ held)) → IsBook (book rows (free ++ h.row ∷ []) held)
 reclaim_leaves_book rows free h held b = record {
   few = b.few;
   counted = omega (arith, b.counted, length-append free (h.row ∷ []));
@@ -94,18 +94,18 @@ reclaim_leaves_book rows free h held b = record {
 }
 
 -- a row that is due may be freed first
-pub first_due : (rows : ℕ) (free : List ℕ) (h : Held) (held : List Held) (least : ℕ) → h.stamp ≤ least → after_reclaim (book rows (free ++ h.row ∷ []) held) least ≡ after_reclaim (book rows free (h ∷ held)) least
+pub first_due : (rows : ℕ) (free : List ℕ) (h : StampedRow) (held : List StampedRow) (least : ℕ) → h.stamp ≤ least → after_reclaim (book rows (free ++ h.row ∷ []) held) least ≡ after_reclaim (book rows free (h ∷ held)) least
 first_due rows free h held least le = rw (le-leb h.stamp least le, le-ltb least h.stamp le, append_assoc) refl
 
-pub count_first_due : (h : Held) (held : List Held) (least : ℕ) → h.stamp ≤ least → length (reclaimable least (h ∷ held)) ≡ suc (length (reclaimable least held))
+pub count_first_due : (h : StampedRow) (held : List StampedRow) (least : ℕ) → h.stamp ≤ least → length (reclaimable least (h ∷ held)) ≡ suc (length (reclaimable least held))
 count_first_due h held least le = rw (le-leb h.stamp least le) refl
 
-all_later : (held : List Held) (least : ℕ) → AllPairs (λ g h. g.stamp ≤ h.stamp) held → IfSome (slice_get held 0) (λ h. least < h.stamp) → All (λ h. least < h.stamp) held
+all_later : (held : List StampedRow) (least : ℕ) → AllPairs (λ g h. g.stamp ≤ h.stamp) held → IfSome (slice_get held 0) (λ h. least < h.stamp) → All (λ h. least < h.stamp) held
 all_later [] least order first = All-nil (λ h. least < h.stamp)
 all_later (h ∷ held) least order first =
     All-cons (λ g. least < g.stamp) h held first (λ k d within. (let le : h.stamp ≤ (get_or held k d).stamp = order 0 (suc k) d (omega arith) (omega arith) in omega (arith, le, first)))
 
-later_stay : (held : List Held) (least : ℕ) → All (λ h. least < h.stamp) held → (reclaimable least held ≡ []) × (still_held least held ≡ held)
+later_stay : (held : List StampedRow) (least : ℕ) → All (λ h. least < h.stamp) held → (reclaimable least held ≡ []) × (still_held least held ≡ held)
 later_stay [] least later = (refl, refl)
 later_stay (h ∷ held) least later =
     let lt : least < h.stamp = All-head (λ g. least < g.stamp) h held later in

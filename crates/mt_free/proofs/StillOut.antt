@@ -1,5 +1,5 @@
 -- A row that is out stays out until it is retired.
-use Rattle.mt_free.proofs.Prelude.{◌≢◌, ℕ, Bool, List, [], ◌∷◌, ◌++◌, map, arith, refl, sym, nat_le, nat_lt, ◌∙◌, subst, inl, inr, All, Contains, filter, length-map, get_or-map, map_push, All-filter, All-map, All-contains, Contains-append_left, Contains-append_cases, Contains-push, Contains-push_cases, Held, Book, held_rows, IsOut, after_retire, reclaimable, after_reclaim}
+use Rattle.mt_free.proofs.Prelude.{◌≢◌, ℕ, Bool, List, [], ◌∷◌, ◌++◌, map, arith, refl, sym, nat_le, nat_lt, ◌∙◌, subst, inl, inr, All, Contains, filter, length-map, get_or-map, map_push, All-filter, All-map, All-contains, Contains-append_left, Contains-append_cases, Contains-push, Contains-push_cases, StampedRow, Book, held_rows, IsOut, after_retire, reclaimable, after_reclaim}
 
 pub out_after_take : (b : Book) (taken row : ℕ) → IsOut (record b { free = b.free ++ taken ∷ [] }) row → IsOut b row × (row ≢ taken)
 out_after_take b taken row out = (
@@ -17,9 +17,9 @@ out_after_retire b retired stamp row apart out = record {
 }
 
 -- a row that no held row is, is none of those that a test keeps
-not_among : (held : List Held) (row : ℕ) (p : Held → Bool) → ¬ Contains (map (λ h. h.row) held) row → ¬ Contains (map (λ h. h.row) (filter p held)) row
+not_among : (held : List StampedRow) (row : ℕ) (p : StampedRow → Bool) → ¬ Contains (map (λ h. h.row) held) row → ¬ Contains (map (λ h. h.row) (filter p held)) row
 not_among held row p not_held among =
-    let row_of : Held → ℕ = λ h. h.row in
+    let row_of : StampedRow → ℕ = λ h. h.row in
     let others : All (λ h. h.row ≢ row) held = λ k d within is. not_held (k, omega (arith, length-map held row_of, within), get_or-map row_of held k d row within ∙ is) in
     All-contains (λ r. r ≢ row) (map row_of (filter p held)) row (All-map (λ r. r ≢ row) row_of (filter p held) (All-filter p (λ h. h.row ≢ row) held others)) among refl
 

@@ -4,7 +4,7 @@ use Rattle.std.specs.Prelude.{◌≢◌, ℕ, zero, suc, ◌+◌, ◌-◌, ◌<�
 use Rattle.mt_base.specs.Width.{first_row, most_rows}
 
 -- a held node, and the number of the call that replaced it
-pub record Held : Type 0 where
+pub record StampedRow : Type 0 where
   pub row : ℕ
   pub stamp : ℕ
 
@@ -12,7 +12,7 @@ pub record Held : Type 0 where
 pub record Book : Type 0 where
   pub rows : ℕ
   pub free : List ℕ
-  pub held : List Held
+  pub held : List StampedRow
 
 -- `n` nodes, from the last one down
 abbrev pub rows_down : ℕ → List ℕ
@@ -52,10 +52,10 @@ abbrev pub after_retire : Book → ℕ → ℕ → Book
 after_retire b row stamp = record { rows = b.rows; free = b.free; held = b.held ++ record { row = row; stamp = stamp } ∷ [] }
 
 -- the held nodes that were replaced by the call `least` at the latest, and those replaced later
-abbrev pub reclaimable : ℕ → List Held → List Held
+abbrev pub reclaimable : ℕ → List StampedRow → List StampedRow
 reclaimable least held = filter (λ h. nat_le h.stamp least) held
 
-abbrev pub still_held : ℕ → List Held → List Held
+abbrev pub still_held : ℕ → List StampedRow → List StampedRow
 still_held least held = filter (λ h. nat_lt least h.stamp) held
 
 abbrev pub after_reclaim : Book → ℕ → Book

@@ -1,6 +1,5 @@
 -- What the fields of a `RowBook` say.
-use Rattle.std.specs.Prelude.{◌≡◌, ◌≤◌}
-use Rattle.std.specs.Vec.{vec_capacity}
+use Rattle.std.specs.Prelude.{◌≡◌, ◌≤◌, vec_capacity}
 use Rattle.mt_free.specs.Book.{Book, IsBook}
 use Rattle.mt_free.specs.declared.book.RowBook.TheInside.{Inside}
 

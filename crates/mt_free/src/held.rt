@@ -11,9 +11,9 @@ pub struct HeldRow {
 }
 
 impl Model for HeldRow {
-    ghost use Rattle.mt_free.specs.Book.{Held};
+    ghost use Rattle.mt_free.specs.Book.{StampedRow};
 
-    ghost Value = { Held };
+    ghost Value = { StampedRow };
 
     ghost view = { λ h. record { row = h.row; stamp = h.stamp } };
 }

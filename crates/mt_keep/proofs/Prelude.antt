@@ -1,8 +1,7 @@
 -- What the proofs beside this file take from the toolchain, from the crates below and from this crate's definitions, under one name. Declares nothing.
 pub use Rattle.atomic_table.proofs.Lists.{at_longer, set_else}
 pub use Rattle.atomic_table.specs.Table.{Act, Allows, Me, Splits, State, Valid, carried_after, gives, keeps, opening, rest, step, stepped, takes}
-pub use Rattle.std.proofs.Common.{Bool, List, None, Option, Some, [], ap, arith, false, get_or, refl, rules, set, subst, suc, sym, true, true≢false, zero, ℕ, ◌++◌, ◌∙◌, ◌∷◌, ◌≡◌, ◌≢◌}
-pub use Rattle.std.proofs.lemmas.Bool.{eqb-true}
+pub use Rattle.std.proofs.Common.{Bool, List, None, Option, Some, [], ap, arith, eqb-true, false, get_or, refl, rules, set, subst, suc, sym, true, true≢false, zero, ℕ, ◌++◌, ◌∙◌, ◌∷◌, ◌≡◌, ◌≢◌}
 pub use Rattle.std.proofs.lemmas.Option.{none-some}
 pub use Rattle.std.specs.declared.snapshot.Snapshot.{Snapshot}
 pub use lib.ListN.{get_elem?}

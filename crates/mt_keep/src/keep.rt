@@ -57,9 +57,9 @@ pub struct Given<C, K> {
 }
 
 /// The value is with one seat, or in the slot.
-pub struct Kept;
+pub struct KeepRule;
 
-impl<C: Placed<K>, K> TableRule<Option<C>, Sight<C, K>, Start<C, K>> for Kept {
+impl<C: Placed<K>, K> TableRule<Option<C>, Sight<C, K>, Start<C, K>> for KeepRule {
     ghost use Rattle.mt_keep.specs.Keeping.{HasOneHolder, first_chair};
 
     ghost holds = { HasOneHolder C.fits };
@@ -99,7 +99,7 @@ impl<C, K> Split<Sight<C, K>> for Sits {
 /// A value of one place. Whoever takes it has it until he gives it back; nobody waits for it.
 #[derive(Drop)]
 pub struct Keep<C: Placed<K>, K> {
-    table: Table<Option<C>, Sight<C, K>, Start<C, K>, Kept, Global>,
+    table: Table<Option<C>, Sight<C, K>, Start<C, K>, KeepRule, Global>,
     ghost one: { (table.shared.table_id.words ≡ 1) × (table.shared.table_id.slots ≡ 1) },
 }
 

@@ -9,3 +9,4 @@ pub mod RowWords
 pub mod SpanLists
 pub mod Writing
 mod Prelude
+pub mod Lemmas

@@ -32,12 +32,7 @@ no_gaps_of Short kinds.Inner other = refl
 no_gaps_of Short kinds.Gapped other = absurd (other refl)
 
 pub few_slots_of : (width : Width) (kind : RowKind) → slots_of width kind ≤ 32
-few_slots_of Long kinds.Leaf = omega arith
-few_slots_of Long kinds.Inner = omega arith
-few_slots_of Long kinds.Gapped = omega arith
-few_slots_of Short kinds.Leaf = omega arith
-few_slots_of Short kinds.Inner = omega arith
-few_slots_of Short kinds.Gapped = omega arith
+few_slots_of width kind = let room = (sizes width kind).room in omega arith
 
 pub least_four : (width : Width) (kind : RowKind) → 4 ≤ least_items width kind
 least_four Long kinds.Leaf = omega arith

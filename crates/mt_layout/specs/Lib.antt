@@ -3,3 +3,4 @@ pub mod Rows
 pub mod Sizes
 pub mod Spans
 pub mod Prelude
+pub mod Names

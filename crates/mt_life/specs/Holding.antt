@@ -1,14 +1,7 @@
 -- A node that a section holds (retired or live): what a pass (handle) knows of it, and when that is true.
 -- Source: this project's own; the kernel's readers hold nodes by RCU.
 use Rattle.std.specs.Prelude.{◌≡◌, ℕ, ◌+◌, ◌<◌, ◌≤◌, Option, Some, None}
-use Rattle.mt_base.specs.declared.kinds.Kind.{Kind}
-use Rattle.mt_base.specs.Width.{columns}
-use Rattle.mt_layout.specs.Rows.{row_in, named_kind}
-use Rattle.mt_rows.specs.declared.rows.Life.{Life}
-use Rattle.mt_rows.specs.declared.rows.Life.TheVariants.{New, Draft, Live, Dead}
-use Rattle.mt_rows.specs.Spans.{Table, column}
-use Rattle.mt_rows.specs.Laws.{kind_at}
-use Rattle.mt_rows.specs.Sheet.{life_of}
+use Rattle.mt_life.specs.Prelude.{columns, Kind, row_in, named_kind, kind_at, life_of, Table, column, Life, New, Draft, Live, Dead}
 use Rattle.mt_life.specs.declared.views.Extent.{Extent}
 use Rattle.mt_life.specs.declared.views.Held.{Held}
 use Rattle.mt_life.specs.declared.views.Moment.{Moment}

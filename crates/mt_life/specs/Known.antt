@@ -3,22 +3,8 @@
 -- Source: this project's own; the kernel's readers may be at nodes that are replaced, until a grace period is over.
 use Rattle.std.specs.Prelude.{◌≡◌, ◌≢◌, ℕ, suc, ◌+◌, ◌-◌, ◌*◌, ◌<◌, ◌≤◌, ◌==◌, Bool, true, false, List, Some, length, slice_index_or}
 use Rattle.std.specs.List.{AllByRecursion, flat_map}
-use Rattle.mt_base.specs.declared.kinds.Kind.{Kind}
-use Rattle.mt_base.specs.Map.{IsMap}
-use Rattle.mt_base.specs.Width.{kind_width, columns, greatest, deepest, first_row}
-use Rattle.mt_layout.specs.declared.names.RowKind.{RowKind}
-use Rattle.mt_layout.specs.Rows.{row_in, named_kind, dead_mark}
-use Rattle.mt_layout.specs.Columns.{pivot_column}
-use Rattle.mt_layout.specs.Sizes.{slots_of}
-use Rattle.mt_layout.specs.declared.spans.Span.{Span}
-use Rattle.mt_layout.specs.Spans.{leaf_range, Fills, Apart, EndsFull}
-use Rattle.mt_rows.specs.declared.rows.Life.{Life}
-use Rattle.mt_rows.specs.declared.rows.Life.TheVariants.{New, Draft, Live, Dead}
-use Rattle.mt_rows.specs.Spans.{Table, column, row_spans, root_span}
-use Rattle.mt_rows.specs.Levels.{one_if}
-use Rattle.mt_rows.specs.Laws.{kind_at}
-use Rattle.mt_rows.specs.Sheet.{Rooted, Sheet, life_of, is_buried, word_at}
-use Rattle.mt_rows.specs.Publish.{map_by, is_reached, StandsAt}
+use Rattle.mt_rows.specs.Names.{IsMap, RowKind, pivot_column, slots_of, leaf_range, Fills, Apart, EndsFull}
+use Rattle.mt_life.specs.Prelude.{kind_width, columns, greatest, deepest, first_row, Kind, row_in, named_kind, dead_mark, Span, kind_at, one_if, map_by, is_reached, StandsAt, Rooted, Sheet, life_of, is_buried, word_at, Table, column, row_spans, root_span, Life, New, Draft, Live, Dead}
 use Rattle.mt_life.specs.declared.views.Extent.{Extent}
 use Rattle.mt_life.specs.declared.views.Moment.{Moment}
 use Rattle.mt_life.specs.Moments.{PartOf}

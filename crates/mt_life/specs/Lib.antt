@@ -1,3 +1,4 @@
 pub mod Holding
 pub mod Known
 pub mod Moments
+mod Prelude

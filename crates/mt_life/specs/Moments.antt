@@ -3,13 +3,8 @@
 use Rattle.std.specs.Prelude.{◌≡◌, ◌⊎◌, ℕ, ◌-◌, ◌<◌, ◌≤◌, List, [], ◌∷◌, ◌++◌, map}
 use Rattle.std.specs.List.{AllByRecursion}
 use Rattle.mt_base.specs.declared.ranges.Range.{Range}
-use Rattle.mt_layout.specs.declared.spans.Span.{Span}
+use Rattle.mt_life.specs.Prelude.{Span, level, map_by, Rooted, root_span, height_in}
 use Rattle.mt_life.specs.declared.views.Moment.{Moment}
-use Rattle.mt_rows.specs.Spans.{root_span}
-use Rattle.mt_rows.specs.Levels.{level}
-use Rattle.mt_rows.specs.Trees.{height_in}
-use Rattle.mt_rows.specs.Sheet.{Rooted}
-use Rattle.mt_rows.specs.Publish.{map_by}
 
 abbrev pub first_index : Span → ℕ
 first_index x = x.first

@@ -1,24 +1,10 @@
 -- What the proofs beside this file take from the toolchain, from the crates below and from this crate's definitions, under one name. Declares nothing.
-pub use Rattle.std.proofs.Common.{Bool, IfSome, List, None, Option, Some, [], ap, append-nil, append_assoc, arith, false, if◌then◌else◌, inl, inr, length, length-append, length-set, map, min, nat_lt, refl, subst, suc, sym, true, zero, ℕ, ◌&&◌, ◌*◌, ◌++◌, ◌+◌, ◌-◌, ◌/◌, ◌<◌, ◌==◌, ◌^◌, ◌||◌, ◌∙◌, ◌∷◌, ◌≡◌, ◌≢◌, ◌≤◌, ◌⊎◌}
-pub use Rattle.std.proofs.Math.Seq.{drop-append_seam}
-pub use Rattle.std.proofs.lemmas.Bool.{eqb-false, eqb-true}
-pub use Rattle.std.proofs.lemmas.Bool.Decides.{eqb_tells, nat_tests}
-pub use Rattle.std.proofs.lemmas.List.{get_or-set_same, map-append}
-pub use Rattle.std.specs.List.{Contains}
-pub use Rattle.std.specs.Prelude.{drop, slice_index, slice_set}
+pub use Rattle.std.proofs.Common.{Bool, Contains, IfSome, List, None, Option, Some, [], ap, append-nil, append_assoc, arith, drop, false, if◌then◌else◌, inl, inr, length, length-append, length-set, map, min, nat_lt, refl, slice_index, slice_set, subst, suc, sym, true, zero, ℕ, ◌&&◌, ◌*◌, ◌++◌, ◌+◌, ◌-◌, ◌/◌, ◌<◌, ◌==◌, ◌^◌, ◌||◌, ◌∙◌, ◌∷◌, ◌≡◌, ◌≢◌, ◌≤◌, ◌⊎◌}
+pub use Rattle.mt_base.proofs.Std.{drop-append_seam, eqb-false, eqb-true, eqb_tells, get_or-set_same, map-append, nat_tests}
 pub use Rattle.mt_base.proofs.Shortages.{still_short}
-pub use Rattle.mt_base.specs.Call.{acted}
-pub use Rattle.mt_base.specs.declared.calls.Call.{Call}
-pub use Rattle.mt_base.specs.declared.kinds.Kind.{Kind}
-pub use Rattle.mt_base.specs.declared.replies.Reply.{Reply}
 pub use Rattle.mt_rows.proofs.ColumnByColumn.{AreDraftedFirst, all_drafted, first_drafted, free_next, next_drafted, place_next}
-pub use Rattle.mt_rows.specs.Publish.{LeavesMap, MayFinish, finished, map_by, with_record}
-pub use Rattle.mt_rows.specs.Sheet.{IsScan}
-pub use Rattle.mt_rule.specs.Ends.{EndsQuietly, MayEnd}
-pub use Rattle.mt_rule.specs.Scans.{last_loaded, last_words, least_from, lesser, loaded_word}
-pub use Rattle.mt_rule.specs.Seats.{known_by, moment, record_of, rooted_in}
-pub use Rattle.mt_rule.specs.Steps.{pass_ended, pass_recorded, pen_drafted, pen_ended, pen_scanned, pen_tended, quiet_moment}
-pub use Rattle.mt_rule.specs.Tokens.{KeepsPassOf, identity_of, joined_in, joined_part, pen_in}
+pub use Rattle.mt_rows.specs.Names.{Call, IsScan, Kind, LeavesMap, MayFinish, Reply, acted, finished, map_by, with_record}
+pub use Rattle.mt_rule.specs.Names.{EndsQuietly, KeepsPassOf, MayEnd, identity_of, joined_in, joined_part, known_by, last_loaded, last_words, least_from, lesser, loaded_word, moment, pass_ended, pass_recorded, pen_drafted, pen_ended, pen_in, pen_scanned, pen_tended, quiet_moment, record_of, rooted_in}
 pub use Rattle.mt_rule.specs.declared.pens.Pen.{Pen}
 pub use Rattle.mt_rule.specs.declared.views.Moment.{Moment}
 pub use Rattle.mt_rule.specs.declared.views.SectionWord.{SectionWord}

@@ -35,3 +35,4 @@ pub mod SlotEntry
 pub mod SlotStore
 pub mod SlotWords
 mod Prelude
+pub mod Lemmas

@@ -1,6 +1,5 @@
 -- What has become of the rows of a table, and what each change makes of them. Source: this project's own.
-use Rattle.std.specs.Prelude.{ℕ, List, length, replicate, slice_set}
-use Rattle.std.specs.List.{fold}
+use Rattle.std.specs.Prelude.{ℕ, List, length, replicate, slice_set, fold}
 use Rattle.mt_rows.specs.Prelude.{Width}
 use Rattle.mt_rows.specs.declared.fates.Fate.{Fate}
 use Rattle.mt_rows.specs.declared.fates.Fate.TheVariants.{New, Live}

@@ -15,3 +15,4 @@ pub mod Spans
 pub mod Trees
 pub mod Words
 pub mod Prelude
+pub mod Names

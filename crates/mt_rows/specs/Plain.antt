@@ -1,7 +1,7 @@
 -- What rows in memory stand for. Source: this project's own.
 use Rattle.std.specs.Prelude.{◌≡◌, ◌≢◌, ℕ, ◌+◌, ◌*◌, ◌<◌, ◌≤◌, Bool, true, false, Some, None, List, [], length, map, replicate, nat_le, nat_lt, slice_index_or, if◌then◌else◌}
 use Rattle.std.specs.List.{slice_range}
-use Rattle.mt_rows.specs.Prelude.{Width, columns, most_rows, first_row, RowKind, slots_of}
+use Rattle.mt_rows.specs.Prelude.{Width, columns, most_rows, first_row, RowKind, slots_of, most_calls}
 use Rattle.mt_layout.specs.declared.names.RowKind.TheVariants as kinds
 use Rattle.mt_rows.specs.declared.rows.Place.{Place}
 use Rattle.mt_rows.specs.declared.rows.Place.TheVariants.{Root, Slot}
@@ -13,7 +13,6 @@ use Rattle.mt_rows.specs.declared.plain.State.{State}
 use Rattle.mt_rows.specs.Spans.{Table, base_of}
 use Rattle.mt_rows.specs.Levels.{one_if}
 use Rattle.mt_rows.specs.Sheet.{Rooted, Sheet, IsPlace}
-use Rattle.mt_base.specs.Limits.{most_calls}
 
 -- A node that a call buried is dead once that call has published or ended, as the first `past` calls have.
 abbrev pub life_in : ℕ → Fate → Life

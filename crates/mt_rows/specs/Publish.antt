@@ -1,7 +1,6 @@
 -- What a publishing store and the end of a call are asked for, and what they leave.
 -- Source: this project's own; the kernel's mas_replace_node publishes a subtree by one store of its parent's slot.
-use Rattle.std.specs.Prelude.{◌≡◌, ◌≢◌, ◌⊎◌, ℕ, ◌+◌, ◌*◌, ◌<◌, ◌≤◌, ◌==◌, Bool, true, false, List, [], ◌∷◌, ◌++◌, All, AllPairs, Option, Some, None, IfSome, length, map, nat_lt, if◌then◌else◌}
-use Rattle.std.specs.Option.{option_map}
+use Rattle.std.specs.Prelude.{◌≡◌, ◌≢◌, ◌⊎◌, ℕ, ◌+◌, ◌*◌, ◌<◌, ◌≤◌, ◌==◌, Bool, true, false, List, [], ◌∷◌, ◌++◌, All, AllPairs, Option, Some, None, IfSome, length, map, nat_lt, if◌then◌else◌, option_map}
 use Rattle.mt_rows.specs.Prelude.{Kind, Range, Call, Reply, Shortage, kind_width, first_row, acted, finds_room, IsRefused, RowKind, Span, row_in, named_kind, dead_mark, slots_of, slot_column}
 use Rattle.mt_rows.specs.declared.rows.Life.{Life}
 use Rattle.mt_rows.specs.declared.rows.Life.TheVariants.{Draft, Live, Dead}

@@ -1,14 +1,12 @@
 -- All meanings of a tree's nodes in one record, and what each call does to it.
 -- Source: this project's own; the kernel's writers replace nodes under a lock, and free them after a grace period.
-use Rattle.std.specs.Prelude.{◌≡◌, ◌≢◌, ◌⊎◌, ℕ, ◌+◌, ◌-◌, ◌*◌, ◌^◌, ◌<◌, ◌≤◌, Bool, true, false, List, Option, Some, None, length, min, slice_index_or, slice_set}
-use Rattle.std.specs.Option.{option_map}
-use Rattle.mt_rows.specs.Prelude.{Kind, Holder, columns, most_rows, first_row, Limits, Record, Gapped, row_in, named_kind, dead_mark, slots_of, gap_column, Span}
+use Rattle.std.specs.Prelude.{◌≡◌, ◌≢◌, ◌⊎◌, ℕ, ◌+◌, ◌-◌, ◌*◌, ◌^◌, ◌<◌, ◌≤◌, Bool, true, false, List, Option, Some, None, length, min, slice_index_or, slice_set, option_map}
+use Rattle.mt_rows.specs.Prelude.{Kind, Holder, columns, most_rows, first_row, Limits, Record, Gapped, row_in, named_kind, dead_mark, slots_of, gap_column, Span, most_calls}
 use Rattle.mt_rows.specs.Spans.{Table, column, base_of, spans_in, root_span}
 use Rattle.mt_rows.specs.Levels.{IsBelow, one_if}
 use Rattle.mt_rows.specs.declared.rows.Life.{Life}
 use Rattle.mt_rows.specs.declared.rows.Life.TheVariants.{New, Draft, Live, Dead}
 use Rattle.mt_rows.specs.declared.rows.Scan.{Scan}
-use Rattle.mt_base.specs.Limits.{most_calls}
 
 -- Who calls, if that is given: the tree's table and the number of its handles. Of the joined handle: its number, the epochs at
 -- which it opened sections, the epoch of the one that is open, and the greatest call seen begun.

@@ -1,7 +1,6 @@
 -- What the words of a tree represent, by depth: the ranges in its leaves, the nodes that are reached, and the height.
 -- Source: the kernel's core-api/maple_tree: a tree of nodes whose leaves hold the entries.
-use Rattle.std.specs.Prelude.{ℕ, zero, suc, ◌+◌, List, [], ◌∷◌, Option, Some, None}
-use Rattle.std.specs.List.{flat_map}
+use Rattle.std.specs.Prelude.{ℕ, zero, suc, ◌+◌, List, [], ◌∷◌, Option, Some, None, flat_map}
 use Rattle.mt_rows.specs.Prelude.{Range, deepest, RowKind, Leaf, Inner, Gapped, row_in, named_kind, Span, leaf_range}
 use Rattle.mt_rows.specs.Spans.{Table, spans_in, root_span}
 

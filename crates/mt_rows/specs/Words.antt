@@ -1,7 +1,6 @@
 -- A list of numbers of which only the first are stored: those after them are 0.
 -- Source: this project's own.
-use Rattle.std.specs.Prelude.{◌≡◌, ◌⊎◌, ℕ, zero, suc, ◌+◌, ◌<◌, ◌≤◌, List, [], ◌∷◌, length, slice_index}
-use Rattle.std.specs.Vec.{vec_capacity}
+use Rattle.std.specs.Prelude.{◌≡◌, ◌⊎◌, ℕ, zero, suc, ◌+◌, ◌<◌, ◌≤◌, List, [], ◌∷◌, length, slice_index, vec_capacity}
 use Rattle.mt_rows.specs.declared.words.Words.TheInside.{Inside}
 
 pub record Listed : Type 0 where

@@ -1,7 +1,6 @@
 -- A step of the pen carries what every seat knows: what it has to show, and that the rule is then kept.
-use Rattle.mt_rule.proofs.Prelude.{◌≡◌, ◌≢◌, ℕ, zero, suc, ◌+◌, ◌*◌, ◌<◌, ◌≤◌, List, [], ◌∷◌, length, set, refl, sym, ap, ◌∙◌, subst, inl, inr, ⊎_elim, arith, append-nil, length-set, get_or-set_other, get_or-set_same, Some, false, cases_eq, some, get_elem?, slice_index, slice_set, Contains, State, Holder, Begins, places, begins_on, Extent, Held, Goes, Known, holds_on, one_if, HasDied, life_of, Moment, TableStart, View, PenPart, PassPart, Width, kind_width, words_before, commits_at, begun_at, root_at, section_at, first_row_column, table_size, section_word, IsSectionWord, least_number, moment_at, records_of, shape_told, state_in, begun_by, IsOneHistory, IsSoundPen, WordsFit, HasFloor, IsHeldBy, PassFits, ViewFits, IsKept}
+use Rattle.mt_rule.proofs.Prelude.{◌≡◌, ◌≢◌, ℕ, zero, suc, ◌+◌, ◌*◌, ◌<◌, ◌≤◌, List, [], ◌∷◌, length, set, refl, sym, ap, ◌∙◌, subst, inl, inr, ⊎_elim, arith, append-nil, length-set, get_or-set_other, get_or-set_same, Some, false, cases_eq, some, get_elem?, slice_index, slice_set, Contains, State, Holder, Begins, places, begins_on, Extent, Held, Goes, Known, holds_on, one_if, HasDied, life_of, Moment, TableStart, View, PenPart, PassPart, Width, kind_width, words_before, commits_at, begun_at, root_at, section_at, first_row_column, table_size, section_word, IsSectionWord, least_number, moment_at, records_of, shape_told, state_in, begun_by, IsOneHistory, IsSoundPen, WordsFit, HasFloor, IsHeldBy, PassFits, ViewFits, IsKept, most_calls, most_passes}
 use Rattle.mt_rule.proofs.Viewing.{each_set, pen_is, seat_fits}
-use Rattle.mt_base.specs.Limits.{most_calls, most_passes}
 
 abbrev pub St : Type 0
 St = State (Unit {0}) View

@@ -1,12 +1,11 @@
 -- A call begins, and a call ends: where it has published nothing its end is its event, which leaves the map.
-use Rattle.mt_rule.proofs.Prelude.{◌≡◌, ℕ, ◌+◌, ◌<◌, ◌≤◌, List, [], ◌∷◌, ◌++◌, Bool, true, false, true≢false, length, refl, sym, ap, ◌∙◌, subst, inl, inr, ⊎_elim, arith, append-nil, Some, None, Option, slice_set, IfSome, if◌then◌else◌, nat_lt, Contains, none, Me, step, keeps, Allows, Range, Call, Gap, Holder, Reply, acted, IsAnswered, last_map, limits_after, map_after, map_by_reply, IsRefused, holder_of, was_acted, begins_none, Extent, Goes, Known, calls, begin_turns, finish_turns, one_if, MayFinish, NoneBuried, map_by, life_of, Moment, TableStart, View, PenPart, PassPart, EndsQuietly, IsPenShort, MayEnd, IsKept, IsSoundPen, PassFits, WordsFit, HasPass, HasPen, cuts_at, moment_at, pass_of, pen_of, record_of, rooted_in, pen_sheet, state_in, tree_of, begins_call, ends_call, pass_recorded, pen_begun, quiet_moment}
+use Rattle.mt_rule.proofs.Prelude.{◌≡◌, ℕ, ◌+◌, ◌<◌, ◌≤◌, List, [], ◌∷◌, ◌++◌, Bool, true, false, true≢false, length, refl, sym, ap, ◌∙◌, subst, inl, inr, ⊎_elim, arith, append-nil, Some, None, Option, slice_set, IfSome, if◌then◌else◌, nat_lt, Contains, none, Me, step, keeps, Allows, Range, Call, Gap, Holder, Reply, acted, IsAnswered, last_map, limits_after, map_after, map_by_reply, IsRefused, holder_of, was_acted, begins_none, Extent, Goes, Known, calls, begin_turns, finish_turns, one_if, MayFinish, NoneBuried, map_by, life_of, Moment, TableStart, View, PenPart, PassPart, EndsQuietly, IsPenShort, MayEnd, IsKept, IsSoundPen, PassFits, WordsFit, HasPass, HasPen, cuts_at, moment_at, pass_of, pen_of, record_of, rooted_in, pen_sheet, state_in, tree_of, begins_call, ends_call, pass_recorded, pen_begun, quiet_moment, most_calls}
 use Rattle.mt_rule.proofs.Carrying.{Carries, carries_life, carry, carry_pair, pass_carried, recast, shaped_as, stays_put, still_history, still_sound}
 use Rattle.mt_rule.proofs.Counting.{counter_sections, counter_set, here, there}
 use Rattle.mt_rule.proofs.Lives.{died_later}
 use Rattle.mt_rule.proofs.Moments.{map_now, moment_before, moment_more}
 use Rattle.mt_rule.proofs.Recording.{map_told, others_stay, recorded_fits, recorded_history}
 use Rattle.mt_rule.proofs.Viewing.{seen_fits}
-use Rattle.mt_base.specs.Limits.{most_calls}
 
 -- ---- a call begins
 

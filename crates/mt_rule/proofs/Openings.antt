@@ -1,8 +1,7 @@
 -- The rule holds at the start: the table's words are the rows that the tree opens with, and there is no call and no pass.
-use Rattle.mt_rule.proofs.Prelude.{◌≡◌, ◌≢◌, ℕ, zero, suc, ◌+◌, ◌*◌, ◌<◌, ◌≤◌, List, [], ◌∷◌, Bool, true, false, length, map, replicate, refl, sym, ap, ◌∙◌, subst, inl, arith, slice_index, if◌then◌else◌, range_with_len, length-replicate, get_or-map-range_with_len, length-map-range_with_len, none-some, some, some-ne-none, some-injective, get_elem?, opening, Kind, Width, columns, first_row, most_rows, words_before, Extent, Known, nowhere, moment_of, follow, starts, Life, New, Draft, Live, Dead, IsTree, sheet_in, rows_whole, IsLawfulOf, LiveAreReached, is_reached, tree_as, HasDied, Rooted, life_of, TableStart, Shape, View, PenPart, AreOpening, first_row_column, root_at, section_at, IsKept, IsSoundPen, ViewFits, WordsFit, moment_at, new_pen, opening_life, opening_view, rooted_in, shape_opening, shape_told, state_in, MayOpen, lawful_tree}
+use Rattle.mt_rule.proofs.Prelude.{◌≡◌, ◌≢◌, ℕ, zero, suc, ◌+◌, ◌*◌, ◌<◌, ◌≤◌, List, [], ◌∷◌, Bool, true, false, length, map, replicate, refl, sym, ap, ◌∙◌, subst, inl, arith, slice_index, if◌then◌else◌, range_with_len, length-replicate, get_or-map-range_with_len, length-map-range_with_len, none-some, some, some-ne-none, some-injective, get_elem?, opening, Kind, Width, columns, first_row, most_rows, words_before, Extent, Known, nowhere, moment_of, follow, starts, Life, New, Draft, Live, Dead, IsTree, sheet_in, rows_whole, IsLawfulOf, LiveAreReached, is_reached, tree_as, HasDied, Rooted, life_of, TableStart, Shape, View, PenPart, AreOpening, first_row_column, root_at, section_at, IsKept, IsSoundPen, ViewFits, WordsFit, moment_at, new_pen, opening_life, opening_view, rooted_in, shape_opening, shape_told, state_in, MayOpen, lawful_tree, most_passes}
 use Rattle.mt_rule.proofs.Lives.{every_life, none_marked}
 use Rattle.mt_rule.proofs.Viewing.{pen_is}
-use Rattle.mt_base.specs.Limits.{most_passes}
 
 -- ---- rows that no call has used
 

@@ -2,46 +2,16 @@
 pub use Rattle.atomic_table.proofs.Lists.{at_longer, at_set, set_else}
 pub use Rattle.atomic_table.specs.Table.{Act, Allows, Joins, Me, Splits, State, Valid, carried_after, gives, keeps, opening, rest, step, stepped, takes}
 pub use Rattle.atomic_table.specs.declared.badge.Badge.{Badge}
-pub use Rattle.std.proofs.Common.{Bool, IfOk, List, None, Option, Some, [], ap, append-nil, arith, drop, false, get_or, get_or-set_other, get_or-set_same, inl, inr, length, length-append, length-set, map, max, nat_le, refl, replicate, rules, set, subst, suc, sym, take, true, true≢false, vec_capacity, zero, ℕ, ⊎_elim, ◌*◌, ◌++◌, ◌+◌, ◌-◌, ◌/◌, ◌<◌, ◌==◌, ◌^◌, ◌∙◌, ◌∷◌, ◌≡◌, ◌≢◌, ◌≤◌, ◌⊎◌}
-pub use Rattle.std.proofs.Math.Seq.{get_or-append_seam}
-pub use Rattle.std.proofs.lemmas.Bool.{cases_Bool, cases_eq, eq-eqb, eqb-true, ne_eqb}
-pub use Rattle.std.proofs.lemmas.List.{get_or_append_left, length-map, length-replicate, map-append, take-append-le, take_all}
-pub use Rattle.std.proofs.lemmas.List.Elements.{All-push, All-set, Contains-append_left, Contains-push}
-pub use Rattle.std.proofs.lemmas.List.FromFn.{get_or-map-range_with_len, length-map-range_with_len, map-range_with_len_more}
-pub use Rattle.std.proofs.lemmas.List.Sums.{fold-append}
-pub use Rattle.std.proofs.lemmas.Option.{IfSome_then, none-some}
-pub use Rattle.std.specs.List.{AllByRecursion, Contains, flat_map, range_with_len, slice_get}
-pub use Rattle.std.specs.Prelude.{All, IfSome, fold, if◌then◌else◌, nat_lt, slice_index, slice_set}
+pub use Rattle.std.proofs.Common.{All, Bool, IfOk, IfSome, List, None, Option, Some, [], ap, append-nil, arith, drop, false, fold, get_or, get_or-set_other, get_or-set_same, if◌then◌else◌, inl, inr, length, length-append, length-set, map, max, nat_le, nat_lt, refl, replicate, rules, set, slice_index, slice_set, subst, suc, sym, take, true, true≢false, vec_capacity, zero, ℕ, ⊎_elim, ◌*◌, ◌++◌, ◌+◌, ◌-◌, ◌/◌, ◌<◌, ◌==◌, ◌^◌, ◌∙◌, ◌∷◌, ◌≡◌, ◌≢◌, ◌≤◌, ◌⊎◌}
+pub use Rattle.mt_base.proofs.Std.{All-push, All-set, AllByRecursion, Contains, Contains-append_left, Contains-push, IfSome_then, cases_Bool, cases_eq, eq-eqb, eqb-true, flat_map, fold-append, get_or-append_seam, get_or-map-range_with_len, get_or_append_left, length-map, length-map-range_with_len, length-replicate, map-append, map-range_with_len_more, ne_eqb, none-some, range_with_len, slice_get, take-append-le, take_all}
 pub use lib.ListN.{get_elem?}
 pub use lib.Seq.{set-get_or}
 pub use mathlib.Core.Option.{none, some, some-injective, some-ne-none}
 pub use native.Mathlib.Decide.{dec_le}
-pub use Rattle.mt_base.proofs.Goings.{begins_long, begins_none, begins_on}
-pub use Rattle.mt_base.proofs.Lists.{all_join, all_map}
-pub use Rattle.mt_base.proofs.PlainReplies.{IsActed, was_acted}
-pub use Rattle.mt_base.specs.Call.{finds_room}
-pub use Rattle.mt_base.specs.History.{AreLegalFrom, IsAnswered, last_map, map_after, map_by_reply}
-pub use Rattle.mt_base.specs.Passes.{longer, new_pass, places_from}
-pub use Rattle.mt_base.specs.declared.calls.Call.TheVariants.{Gap}
-pub use Rattle.mt_base.specs.declared.ranges.Range.{Range}
-pub use Rattle.mt_layout.proofs.Places.{place_behind, place_within, words_before, words_in_all}
-pub use Rattle.mt_layout.proofs.Reading.{few_items}
-pub use Rattle.mt_layout.proofs.RowSizes.{gap_above, slots_of-columns}
-pub use Rattle.mt_layout.proofs.SpanLists.{length-spans_from}
-pub use Rattle.mt_layout.specs.Columns.{item_at, items_at, items_from, pivot_column}
-pub use Rattle.mt_layout.specs.Sizes.{gaps_of}
-pub use Rattle.mt_layout.specs.Spans.{spans_from}
-pub use Rattle.mt_layout.specs.declared.items.Item.{Item}
-pub use Rattle.mt_rows.proofs.Depth.{by_inner, by_leaf}
-pub use Rattle.mt_rows.proofs.PlainMade.{lawful_tree}
-pub use Rattle.mt_rows.proofs.Reached.{one_of_get}
-pub use Rattle.mt_rows.specs.Laws.{IsTree}
-pub use Rattle.mt_rows.specs.Levels.{tally}
-pub use Rattle.mt_rows.specs.PlainWhole.{rows_whole}
-pub use Rattle.mt_rows.specs.Publish.{IsPlaceToPublish, MayFinish, MayPublish, life_after, tree_as, with_published}
-pub use Rattle.mt_rows.specs.Sheet.{IsFree, IsGapOf, MayBury, MayTend, is_buried}
-pub use Rattle.mt_rows.specs.Spans.{Table, root_span, spans_in}
-pub use Rattle.mt_rows.specs.Trees.{map_in, rows_of}
+pub use Rattle.mt_base.proofs.Lemmas.{IsActed, all_join, all_map, begins_long, begins_none, begins_on, was_acted}
+pub use Rattle.mt_layout.proofs.Lemmas.{few_items, gap_above, length-spans_from, place_behind, place_within, slots_of-columns, words_before, words_in_all}
+pub use Rattle.mt_rows.proofs.Lemmas.{by_inner, by_leaf, lawful_tree, one_of_get}
+pub use Rattle.mt_rows.specs.Names.{AreLegalFrom, Gap, IsAnswered, IsFree, IsGapOf, IsPlaceToPublish, IsTree, Item, MayBury, MayFinish, MayPublish, MayTend, Range, Table, finds_room, gaps_of, is_buried, item_at, items_at, items_from, last_map, life_after, longer, map_after, map_by_reply, map_in, most_calls, most_passes, new_pass, pivot_column, places_from, root_span, rows_of, rows_whole, spans_from, spans_in, tally, tree_as, with_published}
 pub use Rattle.mt_rows.specs.declared.plain.PlainRows.{PlainRows}
 pub use Rattle.mt_rows.specs.declared.rows.Life.TheVariants.{Dead}
 pub use Rattle.mt_life.proofs.Alike.{SameSlots, same_spans_at, spans_named, two_slots}
@@ -59,7 +29,6 @@ pub use Rattle.mt_life.specs.Holding.{as_known_now, come}
 pub use Rattle.mt_life.specs.Known.{Child, Goes, HasExtentsOf, IsFull, IsLive, Later, calls, extent_at, nowhere}
 pub use Rattle.mt_life.specs.Moments.{moment_of}
 pub use Rattle.mt_rule.specs.Ends.{EndsQuietly, IsPenShort, MayEnd}
-pub use Rattle.mt_base.specs.Limits.{most_calls, most_passes}
 pub use Rattle.mt_rule.specs.Places.{AreOpening, IsRowAt, IsSectionWord, IsUnnamed, IsWordPlace, begun_at, column_at, commits_at, first_row_column, root_at, section_at, section_word, table_size}
 pub use Rattle.mt_rule.specs.Prelude.{Begins, Call, Draft, Extent, HasDied, HasRow, Held, History, Holder, HoldsRow, IsLawfulOf, IsLegal, IsPlace, IsRefused, IsTreeOf, IsWhole, Kind, Known, Life, Live, LiveAreReached, New, NoneBuried, Place, Published, Record, Reply, Root, Rooted, RowKind, SameForm, Sheet, Slot, Snapshot, Span, Width, acted, columns, cuts_by, dead_mark, deepest, first_row, holder_of, inner_kind, is_reached, kind_at, kind_width, life_of, limits_after, map_at, map_by, most_rows, named_kind, one_if, places, reached_in, row_in, sheet_in, slot_column, slots_of, spans_at, word_at}
 pub use Rattle.mt_rule.specs.Rule.{HasFloor, IsHeldBy, IsKept, IsOneHistory, IsOpenAt, IsSoundPen, PassFits, ViewFits, WordsFit, begun_by}

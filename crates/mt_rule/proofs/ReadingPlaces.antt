@@ -1,6 +1,5 @@
 -- The words that a pass loads and stores stand in its table.
-use Rattle.mt_rule.proofs.Prelude.{◌≡◌, ℕ, ◌+◌, ◌*◌, ◌<◌, List, length, sym, ap, ◌∙◌, subst, arith, Kind, Width, columns, first_row, kind_width, RowKind, pivot_column, slot_column, slots_of, gaps_of, place_within, words_in_all, few_items, slots_of-columns, length-spans_from, items_at, kind_at, Extent, Held, HasRow, spans_at, Pass, RowAt, MtTable, Shape, column_at, section_at, table_size, IsRowAt, shape_told, slots_in, spans_here, Identity, identity_of, part_of, IsPassOf}
-use Rattle.mt_base.specs.Limits.{most_passes}
+use Rattle.mt_rule.proofs.Prelude.{◌≡◌, ℕ, ◌+◌, ◌*◌, ◌<◌, List, length, sym, ap, ◌∙◌, subst, arith, Kind, Width, columns, first_row, kind_width, RowKind, pivot_column, slot_column, slots_of, gaps_of, place_within, words_in_all, few_items, slots_of-columns, length-spans_from, items_at, kind_at, Extent, Held, HasRow, spans_at, Pass, RowAt, MtTable, Shape, column_at, section_at, table_size, IsRowAt, shape_told, slots_in, spans_here, Identity, identity_of, part_of, IsPassOf, most_passes}
 
 pivot_within : (width : Width) (kind : RowKind) (i : ℕ) → i + 1 < slots_of width kind → pivot_column i < columns width
 pivot_within width kind i low = omega (arith, slots_of-columns width kind)

@@ -1,8 +1,7 @@
 -- The pen's loads, and its stores that publish nothing, keep the rule and tell what they are said to tell.
-use Rattle.mt_rule.proofs.Prelude.{◌≡◌, ℕ, ◌+◌, ◌<◌, ◌≤◌, List, set, refl, sym, ap, ◌∙◌, subst, arith, some, none, get_elem?, set-get_or, slice_index, slice_set, Me, step, keeps, Allows, Width, kind_width, first_row, place_behind, place_within, words_in_all, IsPlace, TableStart, View, PenPart, Shape, MtTable, Pen, root_at, first_row_column, section_at, table_size, column_at, HasPen, pen_of, rooted_in, shape_told, Identity, identity_of, IsPenOf, pen_in, IsKept, ViewFits, looks, looks_at_root}
+use Rattle.mt_rule.proofs.Prelude.{◌≡◌, ℕ, ◌+◌, ◌<◌, ◌≤◌, List, set, refl, sym, ap, ◌∙◌, subst, arith, some, none, get_elem?, set-get_or, slice_index, slice_set, Me, step, keeps, Allows, Width, kind_width, first_row, place_behind, place_within, words_in_all, IsPlace, TableStart, View, PenPart, Shape, MtTable, Pen, root_at, first_row_column, section_at, table_size, column_at, HasPen, pen_of, rooted_in, shape_told, Identity, identity_of, IsPenOf, pen_in, IsKept, ViewFits, looks, looks_at_root, most_passes}
 use Rattle.mt_rule.proofs.Carrying.{St, recast, reseated}
 use Rattle.mt_rule.proofs.Viewing.{each_set}
-use Rattle.mt_base.specs.Limits.{most_passes}
 
 abbrev pub M : Type 0
 M = Me (Unit {0}) View

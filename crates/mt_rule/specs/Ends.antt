@@ -1,7 +1,6 @@
 -- How a call of a shared tree may end.
 -- Source: this project's own.
-use Rattle.std.specs.Prelude.{◌≡◌, ◌⊎◌, ◌-◌, ◌^◌, true, false, Some, None, IfSome}
-use Rattle.std.specs.List.{Contains}
+use Rattle.std.specs.Prelude.{◌≡◌, ◌⊎◌, ◌-◌, ◌^◌, true, false, Some, None, IfSome, Contains}
 use Rattle.mt_rule.specs.Prelude.{Call, Holder, Reply, acted, limits_after, IsRefused, Scan, IsRealShortage, NoneBuried, map_by}
 use Rattle.mt_rule.specs.declared.views.PenPart.{PenPart}
 use Rattle.mt_rule.specs.Scans.{IsScanOf}

@@ -8,3 +8,4 @@ pub mod Steps
 pub mod Tokens
 pub mod Turns
 pub mod Prelude
+pub mod Names

@@ -6,7 +6,7 @@ use Rattle.std.specs.List.{AllByRecursion, Contains}
 use mathlib.Core.Option.{some}
 use lib.ListN.{get_elem?}
 use Rattle.atomic_table.specs.Table.{State}
-use Rattle.mt_rule.specs.Prelude.{Holder, Record, IsLegal, Begins, places, holder_of, kind_width, first_row, most_rows, Extent, Held, Known, HoldsRow, one_if, IsTreeOf, LiveAreReached, HasDied, life_of}
+use Rattle.mt_rule.specs.Prelude.{Holder, Record, IsLegal, Begins, places, holder_of, kind_width, first_row, most_rows, Extent, Held, Known, HoldsRow, one_if, IsTreeOf, LiveAreReached, HasDied, life_of, most_calls, most_passes}
 use Rattle.mt_rule.specs.declared.views.TableStart.{TableStart}
 use Rattle.mt_rule.specs.declared.views.View.{View}
 use Rattle.mt_rule.specs.declared.views.PenPart.{PenPart}
@@ -14,7 +14,6 @@ use Rattle.mt_rule.specs.declared.views.PassPart.{PassPart}
 use Rattle.mt_rule.specs.declared.views.NotePart.{NotePart}
 use Rattle.mt_rule.specs.Places.{commits_at, begun_at, root_at, section_at, first_row_column, table_size, section_word, IsSectionWord, IsUnnamed}
 use Rattle.mt_rule.specs.Seats.{moment_at, records_of, rooted_in, shape_told, state_in, tree_of}
-use Rattle.mt_base.specs.Limits.{most_calls, most_passes}
 
 -- how many calls have begun
 abbrev pub begun_by : PenPart → ℕ

@@ -4,8 +4,7 @@ use Rattle.std.specs.Prelude.{◌≡◌, ◌≢◌, ℕ, ◌+◌, ◌*◌, ◌<�
 use mathlib.Core.Option.{some}
 use lib.ListN.{get_elem?}
 use Rattle.atomic_table.specs.Table.{Step}
-use Rattle.mt_rule.specs.Prelude.{Long, IsMap, Begins, kind_width, greatest, deepest, RowKind, Span, slot_column, dead_mark, named_kind, row_in, slots_of, Held, Snapshot, copy_of, HasPart, HasRow, SameForm, Shape, spans_at, kind_at, inner_kind}
-use Rattle.mt_base.specs.Limits.{most_calls}
+use Rattle.mt_rule.specs.Prelude.{Long, IsMap, Begins, kind_width, greatest, deepest, RowKind, Span, slot_column, dead_mark, named_kind, row_in, slots_of, Held, Snapshot, copy_of, HasPart, HasRow, SameForm, Shape, spans_at, kind_at, inner_kind, most_calls}
 use Rattle.mt_base.specs.Passes as known
 use Rattle.mt_life.specs.declared.views.Moment as life
 use Rattle.mt_rule.specs.declared.views.Moment.{Moment}

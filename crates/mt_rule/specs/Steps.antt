@@ -2,7 +2,7 @@
 -- Source: this project's own; the order of a write's steps is that of the kernel's mas_replace_node.
 use Rattle.std.specs.Prelude.{◌≡◌, ◌≢◌, ℕ, ◌+◌, ◌/◌, ◌≤◌, ◌==◌, ◌∷◌, ◌++◌, [], List, Some, None, max, length, slice_index, slice_set, true, false, if◌then◌else◌}
 use Rattle.atomic_table.specs.Table.{Me, Step}
-use Rattle.mt_rule.specs.Prelude.{Call, Holder, Reply, Begins, kind_width, dead_mark, Extent, cuts_by, Draft, Place, Published, IsWhole}
+use Rattle.mt_rule.specs.Prelude.{Call, Holder, Reply, Begins, kind_width, dead_mark, Extent, cuts_by, Draft, Place, Published, IsWhole, most_calls}
 use Rattle.mt_base.specs.Passes as known
 use Rattle.mt_rule.specs.declared.views.Moment.{Moment}
 use Rattle.mt_rule.specs.declared.views.View.{View}
@@ -12,7 +12,6 @@ use Rattle.mt_rule.specs.declared.views.NotePart.{NotePart}
 use Rattle.mt_rule.specs.Places.{column_at, section_word, IsSectionWord}
 use Rattle.mt_rule.specs.Seats.{moment, pen_of, pass_of, note_of, known_by, longer_history, records_of, tree_of, rooted_in, pen_sheet, cuts_at, HasPass}
 use Rattle.mt_rule.specs.Rule.{IsSoundPen, PassFits}
-use Rattle.mt_base.specs.Limits.{most_calls}
 
 -- ---- what steps make of the parts
 

@@ -1,10 +1,9 @@
 -- Whose a pass (handle), a pen and a note are, and what they represent.
 -- Source: this project's own.
-use Rattle.std.specs.Prelude.{◌≡◌, ℕ, ◌+◌, ◌≤◌, List, [], false, Some, None}
-use Rattle.std.specs.List.{Contains}
+use Rattle.std.specs.Prelude.{◌≡◌, ℕ, ◌+◌, ◌≤◌, List, [], false, Some, None, Contains}
 use Rattle.atomic_table.specs.Seated.{TableId}
 use Rattle.atomic_table.specs.declared.badge.Badge.{Badge}
-use Rattle.mt_rule.specs.Prelude.{Kind, Record, History, Sheet, Holder, Extent, IsLawfulOf}
+use Rattle.mt_rule.specs.Prelude.{Kind, Record, History, Sheet, Holder, Extent, IsLawfulOf, most_calls, most_passes}
 use Rattle.mt_base.specs.Passes as known
 use Rattle.mt_rule.specs.declared.views.Shape.{Shape}
 use Rattle.mt_rule.specs.declared.views.PenPart.{PenPart}
@@ -17,7 +16,6 @@ use Rattle.mt_rule.specs.declared.pens.Pen.{Pen}
 use Rattle.mt_rule.specs.declared.notes.Note.{Note}
 use Rattle.mt_rule.specs.Seats.{shape_told, shape_opening, records_of, tree_of, known_by, pen_of, pass_of, note_of, pass_or, part_in, HasPass}
 use Rattle.mt_rule.specs.Rule.{IsSoundPen}
-use Rattle.mt_base.specs.Limits.{most_calls, most_passes}
 
 -- ---- tables
 

@@ -150,7 +150,13 @@ impl MtTable {
         ensures passes { IfOk result (λ r. map pass_in r.2.items ≡ map new_pass (range_with_len 0 passes)) }
     {
         let mut dealt = Vec::with_capacity(alloc, passes as usize)?;
-        let (table, mut pen) = MtTable::with_pen(alloc, kind, opening, rows, words, passes, calls)?;
+        let told = TableStart {
+            kind,
+            passes,
+            calls,
+            rows: opening,
+        };
+        let (table, mut pen) = MtTable::with_pen(alloc, &told, rows, words)?;
         for number in 0..passes {
             dealt.push_reserved(table.deal(&mut pen, number));
         }
@@ -160,31 +166,23 @@ impl MtTable {
     /// A table of these words, and its pen. No handle is dealt yet.
     fn with_pen(
         alloc: Global,
-        kind: Kind,
-        opening: Snapshot<PlainRows>,
+        told: &TableStart,
         rows: u64,
         words: &[u64],
-        passes: u32,
-        calls: u64,
     ) -> Result<(MtTable, Pen), NoMemory>
-        requires may { MayOpen kind (sheet_in opening.value) passes calls }
-        requires rows { rows ≡ (sheet_in opening.value).tree.rows }
-        requires words { AreOpening (sheet_in opening.value).tree words.now }
-        ensures shape { IfOk result (λ r. (identity_of r.0).shape ≡ shape_opened kind (sheet_in opening.value) passes calls) }
-        ensures pen { IfOk result
-            (λ r. IsPenOf (identity_of r.0) r.1 × IsAlone r.1 × (pen_in r.1 ≡ new_pen (identity_of r.0).shape (sheet_in opening.value).tree)) }
+        requires may { MayOpen told.now.kind (sheet_in told.now.rows.value) told.now.passes told.now.calls }
+        requires rows { rows ≡ (sheet_in told.now.rows.value).tree.rows }
+        requires words { AreOpening (sheet_in told.now.rows.value).tree words.now }
+        ensures shape { IfOk result
+            (λ r. (identity_of r.0).shape ≡ shape_opened told.now.kind (sheet_in told.now.rows.value) told.now.passes told.now.calls) }
+        ensures pen { IfOk result (λ r. IsPenOf (identity_of r.0) r.1
+            × IsAlone r.1 × (pen_in r.1 ≡ new_pen (identity_of r.0).shape (sheet_in told.now.rows.value).tree)) }
     {
-        let told = TableStart {
-            kind,
-            passes,
-            calls,
-            rows: opening,
-        };
-        let (table, seat) = Table::of_words(alloc, words, &told)?;
+        let (table, seat) = Table::of_words(alloc, words, told)?;
         let table = MtTable {
             table,
-            width: width_of(kind),
-            passes,
+            width: width_of(told.kind),
+            passes: told.passes,
             rows,
         };
         Ok((table, Pen::of_seat(seat)))

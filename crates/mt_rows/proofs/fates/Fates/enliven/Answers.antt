@@ -1,5 +1,4 @@
-use Rattle.mt_rows.proofs.Prelude.{ap, ◌∙◌, Listed}
-use Rattle.mt_rows.specs.Fates.{table_of, with_reached}
+use Rattle.mt_rows.proofs.Prelude.{ap, ◌∙◌, Listed, table_of, with_reached}
 use Rattle.mt_rows.proofs.fates.Fates.enliven.Goals as goal
 
 pub returns : goal.returns

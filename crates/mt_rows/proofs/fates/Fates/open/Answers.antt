@@ -1,5 +1,4 @@
-use Rattle.mt_rows.proofs.Prelude.{ap, ◌∙◌, Listed}
-use Rattle.mt_rows.specs.Fates.{opened_with, table_of}
+use Rattle.mt_rows.proofs.Prelude.{ap, ◌∙◌, Listed, opened_with, table_of}
 use Rattle.mt_rows.proofs.fates.Fates.open.Goals as goal
 
 pub returns : goal.returns

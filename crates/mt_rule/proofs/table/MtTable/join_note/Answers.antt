@@ -1,6 +1,5 @@
 use Rattle.mt_rule.proofs.Prelude.{rules}
-use Rattle.mt_rule.proofs.Moving.{learning}
-use Rattle.mt_rule.proofs.Moving.{note_joining}
+use Rattle.mt_rule.proofs.Moving.{learning, note_joining}
 use Rattle.mt_rule.proofs.table.MtTable.join_note.Goals as goal
 
 pub join_seat-requires : goal.join_seat-requires
