@@ -39,33 +39,30 @@ no_heads_left : (whole : ChunkView) (from to : ℕ) → from ≡ to → [] ≡ h
 no_heads_left whole from to same = let none : 0 ≡ to - from = omega arith in ap (λ (n : ℕ). heads (finds_room whole.tree) whole.kind (begins_at whole.items (chunk_part whole from to).from) (whole.number + from) (rows_between whole.items (chunk_part whole from to).from (take n (drop from whole.ends)))) none
 
 module _ (whole : ChunkView) (can : AreRows whole) (start : whole.from ≡ 0) (passed : ℕ → ℕ → Type 0) where
-  pub laid_words : (from to : ℕ) (xs ys : List (Lane LeafDesk)) → to ≤ length whole.ends → AreLaid whole from to xs → length ys ≡ length xs → EachPlace (RanSteps Did passed) xs ys → words_made ys ≡ chunk_words (chunk_part whole from to)
-  laid_words from to [] [] inside laid same each = no_words_left whole from to laid
-  laid_words from to [] (y ∷ ys) inside laid same each = absurd (omega arith)
-  laid_words from to (x ∷ xs) [] inside laid same each = absurd (omega arith)
-  laid_words from to (x ∷ xs) (y ∷ ys) inside laid same each =
+  -- What the lanes have made of the leaves from one on, one lane behind another, is what these leaves make, if it is so for the leaves of one lane.
+  laid_all : {A : Type 0} (made : LeafDesk → List A) (part : ChunkView → List A) → ((from to : ℕ) → from ≡ to → [] ≡ part (chunk_part whole from to))
+      → ((from middle to : ℕ) → from ≤ middle → middle ≤ to → to ≤ length whole.ends → part (chunk_part whole from to) ≡ part (chunk_part whole from middle) ++ part (chunk_part whole middle to))
+      → ((from to : ℕ) (x y : Lane LeafDesk) → IsLeafLane whole from to x → Did x.desk 0 y.desk → made y.desk ≡ part (chunk_part whole from to))
+      → (from to : ℕ) (xs ys : List (Lane LeafDesk)) → to ≤ length whole.ends → AreLaid whole from to xs → length ys ≡ length xs → EachPlace (RanSteps Did passed) xs ys → flat_map (λ (l : Lane LeafDesk). made l.desk) ys ≡ part (chunk_part whole from to)
+  laid_all made part none parts own from to [] [] inside laid same each = none from to laid
+  laid_all made part none parts own from to [] (y ∷ ys) inside laid same each = absurd (omega arith)
+  laid_all made part none parts own from to (x ∷ xs) [] inside laid same each = absurd (omega arith)
+  laid_all made part none parts own from to (x ∷ xs) (y ∷ ys) inside laid same each =
       let middle = laid.0 in
       let low = laid.1 in
       let high = laid_order whole middle to xs laid.3 in
       let ran = each 0 x (omega arith) in
-      let done = one_step_done x.steps x.desk y.desk laid.2.steps ran.desk in
-      let own : y.desk.words.items ≡ chunk_words (chunk_part whole from middle) = done.0.words ∙ (ap (λ (l : List ℕ). l ++ chunk_words (view_of x.desk.chunk)) laid.2.words ∙ ap chunk_words laid.2.chunk) in
-      let behind = laid_words middle to xs ys inside laid.3 (omega arith) (λ place none within. each (suc place) none (omega arith)) in
-      (λ i. own i ++ behind i) ∙ sym (words_parts whole can start from middle to low high inside)
+      let mine = own from middle x y laid.2 (one_step_done x.steps x.desk y.desk laid.2.steps ran.desk) in
+      let behind = laid_all made part none parts own middle to xs ys inside laid.3 (omega arith) (λ place other within. each (suc place) other (omega arith)) in
+      (λ i. mine i ++ behind i) ∙ sym (parts from middle to low high inside)
+
+  pub laid_words : (from to : ℕ) (xs ys : List (Lane LeafDesk)) → to ≤ length whole.ends → AreLaid whole from to xs → length ys ≡ length xs → EachPlace (RanSteps Did passed) xs ys → words_made ys ≡ chunk_words (chunk_part whole from to)
+  laid_words = laid_all (λ (d : LeafDesk). d.words.items) chunk_words (no_words_left whole) (words_parts whole can start)
+      (λ from to x y lane done. done.0.words ∙ (ap (λ (l : List ℕ). l ++ chunk_words (view_of x.desk.chunk)) lane.words ∙ ap chunk_words lane.chunk))
 
   pub laid_heads : (from to : ℕ) (xs ys : List (Lane LeafDesk)) → to ≤ length whole.ends → AreLaid whole from to xs → length ys ≡ length xs → EachPlace (RanSteps Did passed) xs ys → heads_made ys ≡ heads_in (chunk_part whole from to)
-  laid_heads from to [] [] inside laid same each = no_heads_left whole from to laid
-  laid_heads from to [] (y ∷ ys) inside laid same each = absurd (omega arith)
-  laid_heads from to (x ∷ xs) [] inside laid same each = absurd (omega arith)
-  laid_heads from to (x ∷ xs) (y ∷ ys) inside laid same each =
-      let middle = laid.0 in
-      let low = laid.1 in
-      let high = laid_order whole middle to xs laid.3 in
-      let ran = each 0 x (omega arith) in
-      let done = one_step_done x.steps x.desk y.desk laid.2.steps ran.desk in
-      let own : y.desk.heads.items ≡ heads_in (chunk_part whole from middle) = done.0.above ∙ (ap (λ (l : List Item). l ++ heads_in (view_of x.desk.chunk)) laid.2.heads ∙ ap heads_in laid.2.chunk) in
-      let behind = laid_heads middle to xs ys inside laid.3 (omega arith) (λ place none within. each (suc place) none (omega arith)) in
-      (λ i. own i ++ behind i) ∙ sym (heads_parts whole can start from middle to low high inside)
+  laid_heads = laid_all (λ (d : LeafDesk). d.heads.items) heads_in (no_heads_left whole) (heads_parts whole can start)
+      (λ from to x y lane done. done.0.above ∙ (ap (λ (l : List Item). l ++ heads_in (view_of x.desk.chunk)) lane.heads ∙ ap heads_in lane.chunk))
 
   -- all leaves
   pub words_all : chunk_words (chunk_part whole 0 (length whole.ends)) ≡ chunk_words whole

@@ -1,5 +1,5 @@
 -- The levels above the leaves, laid before their items are known.
-use Rattle.mt_bulk.proofs.Prelude.{◌≡◌, ◌≢◌, ℕ, suc, ◌+◌, ◌*◌, ◌<◌, ◌≤◌, List, [], ◌∷◌, ◌++◌, length, replicate, refl, ap, ◌∙◌, subst, arith, append_assoc, length-append, length-replicate, Result, Ok, Err, OnOk, div_ceil, Kind, finds_room, kind_width, Item, RowKind, inner_kind, Leaves, Level, Built, inner_slots, HasLeafFacts, AreLevels, HavePushed, IsLevelOf, above_leaves, whole_of, words_room, ChunkView, IsLevel, heads_in, rows_between, chunk_words, cut, ends_from, inner_size}
+use Rattle.mt_bulk.proofs.Prelude.{◌≡◌, ◌≢◌, ℕ, suc, ◌+◌, ◌*◌, ◌<◌, ◌≤◌, List, [], ◌∷◌, ◌++◌, length, replicate, refl, ap, ◌∙◌, subst, arith, append_assoc, length-append, length-replicate, Result, Ok, Err, OnOk, div_ceil, Kind, finds_room, kind_width, Item, RowKind, inner_kind, Leaves, LevelToFill, Built, inner_slots, HasLeafFacts, AreLevels, HavePushed, IsLevelOf, above_leaves, whole_of, words_room, ChunkView, IsLevelToNumber, heads_in, rows_between, chunk_words, cut, ends_from, inner_size}
 use Rattle.mt_bulk.proofs.Counts.{half_at_most, length_cut, some_rows}
 use Rattle.mt_bulk.proofs.Raised.{length_ends}
 use Rattle.mt_bulk.proofs.Raising.{LevelFacts, ends_are, raise_facts}
@@ -28,34 +28,34 @@ few_over tree count most ends most_is each two =
 
 -- ---- levels are pushed
 
-pub pushed_top : (tree : Kind) (number count : ℕ) (before after : List Level) (l : Level) → IsLevelOf tree number count l → length l.ends.items ≡ 1 → after ≡ before ++ l ∷ [] → HavePushed tree number count before after
+pub pushed_top : (tree : Kind) (number count : ℕ) (before after : List LevelToFill) (l : LevelToFill) → IsLevelOf tree number count l → length l.ends.items ≡ 1 → after ≡ before ++ l ∷ [] → HavePushed tree number count before after
 pushed_top tree number count before after l is one pushed = (l ∷ [], pushed, (is, λ other. absurd (other one)))
 
-pushed_more : (tree : Kind) (number count : ℕ) (before middle after : List Level) (l : Level) → IsLevelOf tree number count l → middle ≡ before ++ l ∷ [] → HavePushed tree (number + length l.ends.items) (length l.ends.items) middle after → HavePushed tree number count before after
+pushed_more : (tree : Kind) (number count : ℕ) (before middle after : List LevelToFill) (l : LevelToFill) → IsLevelOf tree number count l → middle ≡ before ++ l ∷ [] → HavePushed tree (number + length l.ends.items) (length l.ends.items) middle after → HavePushed tree number count before after
 pushed_more tree number count before middle after l is pushed more = (
   l ∷ more.0,
-  more.1 ∙ (ap (λ (x : List Level). x ++ more.0) pushed ∙ append_assoc before (l ∷ []) more.0),
+  more.1 ∙ (ap (λ (x : List LevelToFill). x ++ more.0) pushed ∙ append_assoc before (l ∷ []) more.0),
   (is, λ other. more.2),
 )
 
-pub then_pushed : {A E : Type 0} → (r : Result A E) (tree : Kind) (number count rows : ℕ) (before middle after : List Level) (l : Level) → IsLevelOf tree number count l → rows ≡ length l.ends.items → middle ≡ before ++ l ∷ []
+pub then_pushed : {A E : Type 0} → (r : Result A E) (tree : Kind) (number count rows : ℕ) (before middle after : List LevelToFill) (l : LevelToFill) → IsLevelOf tree number count l → rows ≡ length l.ends.items → middle ≡ before ++ l ∷ []
     → OnOk r (HavePushed tree (number + rows) rows middle after) → OnOk r (HavePushed tree number count before after)
 then_pushed (Ok x) tree number count rows before middle after l is rows_is pushed told = pushed_more tree number count before middle after l is pushed (subst (λ (n : ℕ). HavePushed tree (number + n) n middle after) rows_is told)
 then_pushed (Err e) tree number count rows before middle after l is rows_is pushed told = told
 
 -- ---- a level whose items are known now
 
-pub known_level : (tree : Kind) (number : ℕ) (items : List Item) (kind : RowKind) (l : Level) (ends parents : List ℕ) → kind ≡ inner_kind tree → IsLevel tree number items → IsLevelOf tree number (length items) l → ends ≡ l.ends.items → parents ≡ l.parents.items
+pub known_level : (tree : Kind) (number : ℕ) (items : List Item) (kind : RowKind) (l : LevelToFill) (ends parents : List ℕ) → kind ≡ inner_kind tree → IsLevelToNumber tree number items → IsLevelOf tree number (length items) l → ends ≡ l.ends.items → parents ≡ l.parents.items
     → LevelFacts tree 1 number items kind ends parents
 known_level tree number items kind l ends parents kind_is level is ends_is parents_is =
     raise_facts tree number items kind l.ends.items ends l.parents.items parents (length l.ends.items) kind_is level
     (ends_are tree items (inner_slots (kind_width tree) (finds_room tree)) l.ends.items refl (is.ends items refl)) ends_is parents_is refl is.parents
 
-pub some_levels : (tree : Kind) (number count : ℕ) (levels : List Level) → AreLevels tree number count levels → 0 < length levels
+pub some_levels : (tree : Kind) (number count : ℕ) (levels : List LevelToFill) → AreLevels tree number count levels → 0 < length levels
 some_levels tree number count [] are = absurd are
 some_levels tree number count (l ∷ levels) are = omega arith
 
-pub first_level : (tree : Kind) (number count : ℕ) (levels above : List Level) (l : Level) → levels ≡ l ∷ above → AreLevels tree number count levels
+pub first_level : (tree : Kind) (number count : ℕ) (levels above : List LevelToFill) (l : LevelToFill) → levels ≡ l ∷ above → AreLevels tree number count levels
     → IsLevelOf tree number count l × (length l.ends.items ≢ 1 → AreLevels tree (number + length l.ends.items) (length l.ends.items) above)
 first_level tree number count levels above l is are = subst (AreLevels tree number count) is are
 

@@ -1,5 +1,5 @@
 -- The rows of a level of inner rows: that they can be filled, what the level above is, and what they are with the rows above them.
-use Rattle.mt_bulk.proofs.Prelude.{◌≡◌, ℕ, suc, ◌+◌, ◌*◌, ◌<◌, ◌≤◌, ◌==◌, Bool, true, false, List, [], ◌∷◌, ◌++◌, length, refl, sym, ap, ◌∙◌, subst, inl, inr, arith, length-append, eq-eqb, ne_eqb, cases_Bool, eqb-true, eqb-false, Any, AllByRecursion, Kind, Width, finds_room, columns, first_row, kind_width, most_rows, Item, RowKind, NoGaps, RiseFrom, name_at, gaps_of, spans_from, Apart, kind_at, inner_kind, inner_of, Built, heads, inner_slots, parents_in, parents_over, levels_built, size_in, words_of, AreRows, CanFill, ChunkView, IsLevel, heads_in, rows_between, chunk_words, AreCut, cut, ends_from, inner_size}
+use Rattle.mt_bulk.proofs.Prelude.{◌≡◌, ℕ, suc, ◌+◌, ◌*◌, ◌<◌, ◌≤◌, ◌==◌, Bool, true, false, List, [], ◌∷◌, ◌++◌, length, refl, sym, ap, ◌∙◌, subst, inl, inr, arith, length-append, eq-eqb, ne_eqb, cases_Bool, eqb-true, eqb-false, Any, AllByRecursion, Kind, Width, finds_room, columns, first_row, kind_width, most_rows, Item, RowKind, NoGaps, RiseFrom, name_at, gaps_of, spans_from, Apart, kind_at, inner_kind, inner_of, Built, heads, inner_slots, parents_in, parents_over, levels_built, size_in, words_of, AreRows, CanFill, ChunkView, IsLevelToNumber, heads_in, rows_between, chunk_words, AreCut, cut, ends_from, inner_size}
 use Rattle.mt_bulk.proofs.Built.{EndsOf, Least, Most, above_of, both_words, length_parents, level_cut, no_gap_heads, rows_of, rows_within}
 use Rattle.mt_bulk.proofs.Counts.{length_words_few, rows_fewer}
 use Rattle.mt_bulk.proofs.Raised.{IsEntry, can_fill, heads_are_named, length_ends, raised_more, raised_top, rows_back, rows_hold}
@@ -118,7 +118,7 @@ module _ (tree : Kind) (h number : ℕ) (items : List Item) (level : IsCutLevel 
   heads_are ends ps ends_are = (λ i. heads (finds_room tree) kind 0 number (rows_between items 0 (ends_are i))) ∙ ap (heads (finds_room tree) kind 0 number) (rows_back items 0 rows (omega arith) the_cut.joined)
 
   -- the level above, where there is one
-  pub next_level : (length rows ≡ 1 → ⊥) → IsLevel tree next above
+  pub next_level : (length rows ≡ 1 → ⊥) → IsLevelToNumber tree next above
   next_level several =
       let c = the_cut in
       let fewer = rows_fewer tree h items level.some level.apart (ne_eqb (length rows) 1 several) in
@@ -133,7 +133,7 @@ module _ (tree : Kind) (h number : ℕ) (items : List Item) (level : IsCutLevel 
         last = omega (arith, level.last, ap (λ (b : Built). length b.words) is, length-append words upper.words, long_words, both_words width number (length rows));
       }
 
-pub inner_level_cut : (tree : Kind) (h number : ℕ) (items : List Item) → IsLevel tree number items → IsCutLevel tree (suc h) number items
+pub inner_level_cut : (tree : Kind) (h number : ℕ) (items : List Item) → IsLevelToNumber tree number items → IsCutLevel tree (suc h) number items
 inner_level_cut tree h number items level =
     let c = level_cut tree (suc h) items (λ is_zero. absurd (omega arith)) in
     record {
@@ -175,7 +175,7 @@ pub record LevelFacts (tree : Kind) (h number : ℕ) (items : List Item) (kind :
   pub within : number + length ends ≤ first_row + most_rows
   pub room : columns (kind_width tree) * length ends ≤ length (levels_built tree (kind_at tree h) number items).words
   pub alone : length ends ≡ 1 → levels_built tree (kind_at tree h) number items ≡ made_of (name_at number kind) (chunk_words (view_with tree kind number items ends ps))
-  pub level : (length ends ≡ 1 → ⊥) → IsLevel tree (number + length ends) (heads_in (view_with tree kind number items ends ps))
+  pub level : (length ends ≡ 1 → ⊥) → IsLevelToNumber tree (number + length ends) (heads_in (view_with tree kind number items ends ps))
   pub several : (length ends ≡ 1 → ⊥) → levels_built tree (kind_at tree h) number items ≡ made_of (above_with tree kind number items ends ps).root (chunk_words (view_with tree kind number items ends ps) ++ (above_with tree kind number items ends ps).words)
   pub fewer : (length ends ≡ 1 → ⊥) → length (heads_in (view_with tree kind number items ends ps)) < length items
 
@@ -198,19 +198,19 @@ level_facts tree h number items kind ends ps kind_is level ends_is parents_is = 
       within = omega (arith, next, numbers_within tree h number items level);
       room = subst (λ (n : ℕ). columns (kind_width tree) * n ≤ length (levels_built tree (kind_at tree h) number items).words) (sym many) (words_below tree h number items level);
       alone = λ one. top tree h number items level (sym many ∙ one) ∙ ap (made_of (name_at number (kind_at tree h))) (sym words);
-      level = λ other. subst (λ (n : ℕ). IsLevel tree n (heads_in (view_with tree (kind_at tree h) number items ends ps))) (sym next) (subst (IsLevel tree (number + length rows)) (sym top_heads) (next_level tree h number items level (λ one. other (many ∙ one))));
+      level = λ other. subst (λ (n : ℕ). IsLevelToNumber tree n (heads_in (view_with tree (kind_at tree h) number items ends ps))) (sym next) (subst (IsLevelToNumber tree (number + length rows)) (sym top_heads) (next_level tree h number items level (λ one. other (many ∙ one))));
       several = λ other. more tree h number items level (λ one. other (many ∙ one))
           ∙ (λ i. made_of (levels_built tree (inner_kind tree) (sym next i) (sym top_heads i)).root (sym words i ++ (levels_built tree (inner_kind tree) (sym next i) (sym top_heads i)).words));
       fewer = λ other. let less = (rows_fewer tree h items level.some level.apart (ne_eqb (length rows) 1 (λ one. other (many ∙ one)))).1 in omega (arith, ap length top_heads, as_many, less);
     })
 
-pub few_ends : (tree : Kind) (number : ℕ) (items : List Item) (ends : List ℕ) → IsLevel tree number items → ends ≡ ends_from 0 (rows_of tree 1 items) → number + length ends ≤ first_row + most_rows
+pub few_ends : (tree : Kind) (number : ℕ) (items : List Item) (ends : List ℕ) → IsLevelToNumber tree number items → ends ≡ ends_from 0 (rows_of tree 1 items) → number + length ends ≤ first_row + most_rows
 few_ends tree number items ends level is =
     let many : length ends ≡ length (rows_of tree 1 items) = ap length is ∙ length_ends 0 (rows_of tree 1 items) in
     omega (arith, many, numbers_within tree 1 number items (inner_level_cut tree 0 number items level))
 
 -- of inner rows, as the code has them: in a slice of the ends, where `count` of them were counted
-pub raise_facts : (tree : Kind) (number : ℕ) (items : List Item) (kind : RowKind) (ends seen ps ps_seen : List ℕ) (count : ℕ) → kind ≡ inner_kind tree → IsLevel tree number items → ends ≡ ends_from 0 (rows_of tree 1 items)
+pub raise_facts : (tree : Kind) (number : ℕ) (items : List Item) (kind : RowKind) (ends seen ps ps_seen : List ℕ) (count : ℕ) → kind ≡ inner_kind tree → IsLevelToNumber tree number items → ends ≡ ends_from 0 (rows_of tree 1 items)
     → seen ≡ ends → ps_seen ≡ ps → count ≡ length ends → ((xs : List Item) → length xs ≡ count → ps ≡ parents_over tree (number + count) xs) → LevelFacts tree 1 number items kind seen ps_seen
 raise_facts tree number items kind ends seen ps ps_seen count kind_is level ends_is seen_is ps_is count_is parents_is =
     let many : length seen ≡ count = ap length seen_is ∙ sym count_is in

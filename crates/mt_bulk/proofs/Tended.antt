@@ -2,37 +2,40 @@
 use Rattle.mt_bulk.proofs.Prelude.{◌≡◌, ℕ, zero, suc, ◌+◌, ◌*◌, ◌≤◌, Bool, List, [], ◌∷◌, ◌++◌, length, map, max, refl, sym, ap, ◌∙◌, subst, arith, length-append, append_assoc, slice_index, AllByRecursion, range_with_len, Width, columns, Item, RowKind, Span, end_of, row_words, FitRow, name_at, parent_at, row_in, slots_of, gaps_of, spans_from, longest_in, row_in-name_at, layout_of, some_columns, length-row_words, Table, column, expand, ParentsFrom, longest_below, expand-append, greatest_gap, heads, words_of}
 use Rattle.mt_bulk.proofs.Placed.{in_middle, next_row}
 
--- ---- names one after another
+-- ---- one after another
+
+-- this holds of each, and of the number that is one above that of the one before
+abbrev pub HoldFrom : {A : Type 0} → (ℕ → A → Type 0) → ℕ → List A → Type 0
+HoldFrom P number [] = Unit {0}
+HoldFrom P number (x ∷ xs) = P number x × HoldFrom P (number + 1) xs
+
+pub hold_front : {A : Type 0} (P : ℕ → A → Type 0) (number : ℕ) (xs ys : List A) → HoldFrom P number (xs ++ ys) → HoldFrom P number xs
+hold_front P number [] ys holds = tt
+hold_front P number (x ∷ xs) ys holds = (holds.0, hold_front P (number + 1) xs ys holds.1)
+
+pub hold_back : {A : Type 0} (P : ℕ → A → Type 0) (number : ℕ) (xs ys : List A) → HoldFrom P number (xs ++ ys) → HoldFrom P (number + length xs) ys
+hold_back P number [] ys holds = let same : number ≡ number + zero = omega arith in subst (λ (n : ℕ). HoldFrom P n ys) same holds
+hold_back P number (x ∷ xs) ys holds = let same : number + 1 + length xs ≡ number + suc (length xs) = omega arith in subst (λ (n : ℕ). HoldFrom P n ys) same (hold_back P (number + 1) xs ys holds.1)
+
+-- ---- names
+
+abbrev pub IsNamed : RowKind → ℕ → Item → Type 0
+IsNamed kind number x = x.word ≡ name_at number kind
 
 abbrev pub AreNamed : RowKind → ℕ → List Item → Type 0
-AreNamed kind number [] = Unit {0}
-AreNamed kind number (x ∷ items) = (x.word ≡ name_at number kind) × AreNamed kind (number + 1) items
+AreNamed kind = HoldFrom (IsNamed kind)
 
 pub heads_named : (gapped : Bool) (kind : RowKind) (first number : ℕ) (rows : List (List Item)) → AreNamed kind number (heads gapped kind first number rows)
 heads_named gapped kind first number [] = tt
 heads_named gapped kind first number (row ∷ rows) = (refl, heads_named gapped kind (end_of first row + 1) (number + 1) rows)
 
-pub named_front : (kind : RowKind) (number : ℕ) (xs ys : List Item) → AreNamed kind number (xs ++ ys) → AreNamed kind number xs
-named_front kind number [] ys named = tt
-named_front kind number (x ∷ xs) ys named = (named.0, named_front kind (number + 1) xs ys named.1)
+-- ---- parent words
 
-pub named_back : (kind : RowKind) (number : ℕ) (xs ys : List Item) → AreNamed kind number (xs ++ ys) → AreNamed kind (number + length xs) ys
-named_back kind number [] ys named = let same : number ≡ number + zero = omega arith in subst (λ (n : ℕ). AreNamed kind n ys) same named
-named_back kind number (x ∷ xs) ys named = let same : number + 1 + length xs ≡ number + suc (length xs) = omega arith in subst (λ (n : ℕ). AreNamed kind n ys) same (named_back kind (number + 1) xs ys named.1)
-
--- ---- parent words one after another
+abbrev pub HasParent : Table → ℕ → ℕ → Type 0
+HasParent t number parent = column t number 0 ≡ parent
 
 abbrev pub HaveParents : Table → ℕ → List ℕ → Type 0
-HaveParents t number [] = Unit {0}
-HaveParents t number (parent ∷ parents) = (column t number 0 ≡ parent) × HaveParents t (number + 1) parents
-
-pub have_front : (t : Table) (number : ℕ) (ps qs : List ℕ) → HaveParents t number (ps ++ qs) → HaveParents t number ps
-have_front t number [] qs have = tt
-have_front t number (p ∷ ps) qs have = (have.0, have_front t (number + 1) ps qs have.1)
-
-pub have_back : (t : Table) (number : ℕ) (ps qs : List ℕ) → HaveParents t number (ps ++ qs) → HaveParents t (number + length ps) qs
-have_back t number [] qs have = let same : number ≡ number + zero = omega arith in subst (λ (n : ℕ). HaveParents t n qs) same have
-have_back t number (p ∷ ps) qs have = let same : number + 1 + length ps ≡ number + suc (length ps) = omega arith in subst (λ (n : ℕ). HaveParents t n qs) same (have_back t (number + 1) ps qs have.1)
+HaveParents t = HoldFrom (HasParent t)
 
 -- the rows that are named have the parent words of the slots of a row, from one on
 pub parents_from : (t : Table) (kind : RowKind) (number row slot first : ℕ) (items : List Item) → AreNamed kind number items → HaveParents t number (map (parent_at row) (range_with_len slot (length items))) → ParentsFrom t row slot (spans_from first items)

@@ -3,7 +3,7 @@ use Rattle.mt_bulk.proofs.Prelude.{◌≡◌, ℕ, zero, suc, ◌+◌, ◌-◌, 
 use Rattle.mt_layout.specs.declared.names.RowKind.TheVariants as kinds
 use Rattle.mt_bulk.proofs.Facts.{AreFit, AreWritten, IsWritten}
 use Rattle.mt_bulk.proofs.Rows.{flat}
-use Rattle.mt_bulk.proofs.Tended.{AreNamed, AreTold, HaveParents, greatest_told, have_back, have_front, named_back, named_front, parents_from, told_back, told_front}
+use Rattle.mt_bulk.proofs.Tended.{AreNamed, AreTold, HasParent, HaveParents, IsNamed, greatest_told, hold_back, hold_front, parents_from, told_back, told_front}
 use Rattle.mt_bulk.proofs.Written.{spans_read}
 
 -- ---- one row
@@ -70,10 +70,10 @@ rows_tended t h first number below [] written fit low high names have told = tt
 rows_tended t h first number below (row ∷ rows) written fit low high names have told =
     let own = map (parent_at number) (range_with_len 0 (length row)) in
     let long : length own ≡ length row = omega (arith, length-map (range_with_len 0 (length row)) (parent_at number), length-range_with_len 0 (length row)) in (
-      row_tended t h first number written.0.0 below row written.0.1 fit.0 (omega arith, omega arith) (named_front (kind_on t.gapped h) below row (flat rows) names)
-          (have_front t.table below own (parents_in (number + 1) rows) have) (λ g. told_front t.table h first row (flat rows) (told g)),
-      rows_tended t h (end_of first row + 1) (number + 1) (below + length row) rows written.1 fit.1 (omega arith) (omega arith) (named_back (kind_on t.gapped h) below row (flat rows) names)
-          (subst (λ (n : ℕ). HaveParents t.table (below + n) (parents_in (number + 1) rows)) long (have_back t.table below own (parents_in (number + 1) rows) have))
+      row_tended t h first number written.0.0 below row written.0.1 fit.0 (omega arith, omega arith) (hold_front (IsNamed (kind_on t.gapped h)) below row (flat rows) names)
+          (hold_front (HasParent t.table) below own (parents_in (number + 1) rows) have) (λ g. told_front t.table h first row (flat rows) (told g)),
+      rows_tended t h (end_of first row + 1) (number + 1) (below + length row) rows written.1 fit.1 (omega arith) (omega arith) (hold_back (IsNamed (kind_on t.gapped h)) below row (flat rows) names)
+          (subst (λ (n : ℕ). HaveParents t.table (below + n) (parents_in (number + 1) rows)) long (hold_back (HasParent t.table) below own (parents_in (number + 1) rows) have))
           (λ g. told_back t.table h first first row (flat rows) fit.0.some (told g)),
     )
 

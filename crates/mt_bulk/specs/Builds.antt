@@ -1,16 +1,15 @@
 -- What a bulk build gives, why it refuses, and what it knows of the leaves before their nodes are filled.
 -- Source: this project's own.
-use Rattle.std.specs.Prelude.{◌≡◌, ◌≢◌, ℕ, ◌+◌, ◌*◌, ◌<◌, ◌≤◌, List, [], ◌∷◌, ◌++◌, Option, Some, None, nat_lt, length, vec_len, vec_capacity, if◌then◌else◌}
-use Rattle.std.specs.List.{flat_map}
+use Rattle.std.specs.Prelude.{◌≡◌, ◌≢◌, ℕ, ◌+◌, ◌*◌, ◌<◌, ◌≤◌, List, [], ◌∷◌, ◌++◌, Option, Some, None, nat_lt, length, vec_len, vec_capacity, if◌then◌else◌, flat_map}
 use Rattle.mt_bulk.specs.Prelude.{Kind, Range, finds_room, columns, first_row, kind_width, most_rows, Item, Leaf, name_at, Lane, sheet_in, IsMadeOf, new_sheet, IsLawfulOf, map_by, Sheet, inner_kind}
 use Rattle.mt_bulk.specs.declared.building.Upper.{Upper}
 use Rattle.mt_bulk.specs.declared.desks.LeafDesk.{LeafDesk}
 use Rattle.mt_bulk.specs.declared.errors.BulkError.{BulkError}
 use Rattle.mt_bulk.specs.declared.errors.BulkError.TheVariants as errors
 use Rattle.mt_bulk.specs.declared.leaves.Leaves.{Leaves}
-use Rattle.mt_bulk.specs.declared.levels.Level.{Level}
+use Rattle.mt_bulk.specs.declared.levels.LevelToFill.{LevelToFill}
 use Rattle.mt_bulk.specs.Bulk.{Built, bulk, inner_slots, parents_over, levels_built, rows_in}
-use Rattle.mt_bulk.specs.Chunks.{AreRows, ChunkView, IsLevel, IsFillable, heads_in, chunk_part, view_of, chunk_words}
+use Rattle.mt_bulk.specs.Chunks.{AreRows, ChunkView, IsLevelToNumber, IsFillable, heads_in, chunk_part, view_of, chunk_words}
 use Rattle.mt_bulk.specs.Cuts.{cut, ends_from, inner_size}
 use Rattle.mt_bulk.specs.Items.{misplaced}
 
@@ -59,7 +58,7 @@ pub record LeafFacts (kind : Kind) (ranges : List Range) (items : List Item) (en
   pub whole : AreRows (leaf_view kind items ends parents)
   pub long : length (chunk_words (leaf_view kind items ends parents)) ≡ columns (kind_width kind) * length ends
   pub alone : length ends ≡ 1 → bulk kind ranges ≡ record { root = name_at first_row Leaf; words = chunk_words (leaf_view kind items ends parents) }
-  pub level : length ends ≢ 1 → IsLevel kind (first_row + length ends) (heads_in (leaf_view kind items ends parents))
+  pub level : length ends ≢ 1 → IsLevelToNumber kind (first_row + length ends) (heads_in (leaf_view kind items ends parents))
   pub several : length ends ≢ 1 → bulk kind ranges ≡ record { root = (above_leaves kind items ends parents).root; words = chunk_words (leaf_view kind items ends parents) ++ (above_leaves kind items ends parents).words }
 
 abbrev pub HasLeafFacts : Leaves → Type 0
@@ -109,19 +108,19 @@ FirstHasRoom words heads (lane ∷ lanes) = (words ≤ vec_capacity lane.desk.wo
 
 -- Inner nodes for `count` items; the first node has this number. Where each ends and the parent word of each, whatever the
 -- items are, and room for their items on the level above.
-pub record IsLevelOf (tree : Kind) (number count : ℕ) (l : Level) : Type 0 where
+pub record IsLevelOf (tree : Kind) (number count : ℕ) (l : LevelToFill) : Type 0 where
   pub ends : (items : List Item) → length items ≡ count → l.ends.items ≡ ends_from 0 (cut (inner_size (inner_slots (kind_width tree) (finds_room tree))) items)
   pub parents : (items : List Item) → length items ≡ length l.ends.items → l.parents.items ≡ parents_over tree (number + length l.ends.items) items
   pub heads : l.heads.items ≡ []
   pub room : vec_len l.heads + length l.ends.items ≤ vec_capacity l.heads
 
 -- the levels above this many items, up to that of one node
-abbrev pub AreLevels : Kind → ℕ → ℕ → List Level → Type 0
+abbrev pub AreLevels : Kind → ℕ → ℕ → List LevelToFill → Type 0
 AreLevels tree number count [] = ⊥
 AreLevels tree number count (l ∷ levels) = IsLevelOf tree number count l × (length l.ends.items ≢ 1 → AreLevels tree (number + length l.ends.items) (length l.ends.items) levels)
 
-abbrev pub HavePushed : Kind → ℕ → ℕ → List Level → List Level → Type 0
-HavePushed tree number count before after = (made : List Level) × (after ≡ before ++ made) × AreLevels tree number count made
+abbrev pub HavePushed : Kind → ℕ → ℕ → List LevelToFill → List LevelToFill → Type 0
+HavePushed tree number count before after = (made : List LevelToFill) × (after ≡ before ++ made) × AreLevels tree number count made
 
 -- what is made after the workers are done has its memory: the levels above the leaves, and a table for all nodes
 pub record IsUpperOf (l : Leaves) (u : Upper) : Type 0 where

@@ -77,7 +77,7 @@ pub record HasFilled (c : ChunkView) (before after : List ℕ) (heads heads' : L
 
 -- Items of inner nodes that are to be numbered from here on. They rise, each is named, and only nodes with gaps have gaps.
 -- There are enough numbers for these nodes and for those above them.
-pub record IsLevel (tree : Kind) (number : ℕ) (items : List Item) : Type 0 where
+pub record IsLevelToNumber (tree : Kind) (number : ℕ) (items : List Item) : Type 0 where
   pub some : 1 ≤ length items
   pub rise : RiseFrom 0 items
   pub named : AllByRecursion (λ (x : Item). x.word ≢ 0) items

@@ -1,7 +1,6 @@
 -- How the program says why it builds no tree from ranges.
 -- Source: this project's own.
-use Rattle.std.specs.Prelude.{ℕ, List, ◌++◌, codes}
-use Rattle.std.specs.Fmt.{decimal}
+use Rattle.std.specs.Prelude.{ℕ, List, ◌++◌, codes, decimal}
 use Rattle.mt_bulk.specs.declared.errors.BulkError.{BulkError}
 use Rattle.mt_bulk.specs.declared.errors.BulkError.TheVariants.{Order, TooMany, NoMemory}
 

@@ -11,7 +11,7 @@ use crate::chunks::fill_rows;
 use crate::desks::LeafDesk;
 use crate::errors::BulkError;
 use crate::leaves::{Leaves, leaves_of};
-use crate::levels::{Level, levels_over, raise};
+use crate::levels::{LevelToFill, levels_over, raise};
 use mt_base::{FIRST_ROW, Kind, NoMemory, Range, cols, width_of};
 use mt_io::Gate;
 use mt_lanes::{Lane, run_lanes};
@@ -33,7 +33,7 @@ fn no_rows(alloc: Global, kind: Kind) -> Result<PlainRows, NoMemory>
 /// nodes.
 #[derive(Drop)]
 pub struct Upper {
-    pub(crate) levels: Vec<Level>,
+    pub(crate) levels: Vec<LevelToFill>,
     pub(crate) table: PlainRows,
 }
 
@@ -49,7 +49,12 @@ fn upper_of(alloc: Global, leaves: &Leaves) -> Result<Upper, NoMemory>
 }
 
 /// Appends the words of the nodes above the leaves, and answers the root word.
-fn raise_all(leaves: &Leaves, levels: &mut [Level], heads: &[Item], words: &mut Vec<u64>) -> u64
+fn raise_all(
+    leaves: &Leaves,
+    levels: &mut [LevelToFill],
+    heads: &[Item],
+    words: &mut Vec<u64>,
+) -> u64
     requires leaves { HasLeafFacts leaves.now }
     requires levels { length leaves.now.ends.items ≢ 1
         → AreLevels leaves.now.kind (first_row + length leaves.now.ends.items) (length leaves.now.ends.items) levels.old }

@@ -10,7 +10,7 @@ ghost use Rattle.mt_bulk.specs.Builds.{AreLevels, HavePushed, IsLevelOf};
 ghost use Rattle.mt_bulk.specs.Bulk as defined;
 ghost use Rattle.mt_rows.specs.Spans.{inner_kind};
 ghost use Rattle.mt_bulk.specs.Bulk.{parents_in, levels_built, rows_up};
-ghost use Rattle.mt_bulk.specs.Chunks.{IsLevel};
+ghost use Rattle.mt_bulk.specs.Chunks.{IsLevelToNumber};
 ghost use Rattle.mt_bulk.specs.Cuts as cuts;
 ghost use Rattle.mt_bulk.specs.Cuts.{cut, ends_from, inner_size};
 
@@ -136,14 +136,14 @@ pub(crate) fn parents_over(
 /// A level of inner nodes before its items are known: where its nodes end, the parent word of each, and room for the items that
 /// they are on the level above.
 #[derive(Drop)]
-pub struct Level {
+pub struct LevelToFill {
     pub(crate) ends: Vec<usize>,
     pub(crate) parents: Vec<u64>,
     pub(crate) heads: Vec<Item>,
 }
 
 /// The level of the inner nodes that hold `count` items; the first node has this number.
-fn level_over(alloc: Global, tree: Kind, number: u32, count: usize) -> Result<Level, NoMemory>
+fn level_over(alloc: Global, tree: Kind, number: u32, count: usize) -> Result<LevelToFill, NoMemory>
     requires two { 2 ≤ count }
     requires room { number + 2 * count < 2 ^ 32 }
     ensures level { IfOk result (IsLevelOf tree number count) }
@@ -153,7 +153,7 @@ fn level_over(alloc: Global, tree: Kind, number: u32, count: usize) -> Result<Le
     let ends = inner_ends(alloc, inner_slots(tree), count)?;
     let parents = parents_over(alloc, number + ends.len() as u32, tree, ends.len())?;
     let heads = Vec::with_capacity(alloc, ends.len())?;
-    Ok(Level {
+    Ok(LevelToFill {
         ends,
         parents,
         heads,
@@ -166,7 +166,7 @@ fn push_levels(
     tree: Kind,
     number: u32,
     count: usize,
-    levels: &mut Vec<Level>,
+    levels: &mut Vec<LevelToFill>,
 ) -> Result<(), NoMemory>
     requires two { 2 ≤ count }
     requires room { number + 2 * count < 2 ^ 32 }
@@ -191,7 +191,7 @@ pub(crate) fn levels_over(
     tree: Kind,
     number: u32,
     count: usize,
-) -> Result<Vec<Level>, NoMemory>
+) -> Result<Vec<LevelToFill>, NoMemory>
     requires some { 1 ≤ count }
     requires room { number + 2 * count < 2 ^ 32 }
     ensures { IfOk result (λ levels. count ≢ 1 → AreLevels tree number count levels.items) }
@@ -208,10 +208,10 @@ pub(crate) fn raise(
     tree: Kind,
     number: u32,
     items: &[Item],
-    levels: &mut [Level],
+    levels: &mut [LevelToFill],
     words: &mut Vec<u64>,
 ) -> u64
-    requires level { IsLevel tree number items.now }
+    requires level { IsLevelToNumber tree number items.now }
     requires levels { AreLevels tree number (length items.now) levels.old }
     requires room { vec_len words.old + length (levels_built tree (inner_kind tree) number items.now).words ≤ vec_capacity words.old }
     ensures root { result ≡ (levels_built tree (inner_kind tree) number items.now).root }

@@ -1,7 +1,6 @@
 -- A walk through a tree: what it knows when it reaches a node, and what it returns.
 -- Source: this project's own.
-use Rattle.std.specs.Prelude.{◌≡◌, ℕ, ◌+◌, ◌-◌, List, [], Option, Some, None, Result, Ok, Err, length, unwrap_or}
-use Rattle.std.specs.List.{slice_get}
+use Rattle.std.specs.Prelude.{◌≡◌, ℕ, ◌+◌, ◌-◌, List, [], Option, Some, None, Result, Ok, Err, length, unwrap_or, slice_get}
 use Rattle.mt_check.specs.Prelude.{finds_room, deepest, RowKind, Leaf, Inner, Gapped, Item, Span, row_in, named_kind, ranges_of, rows_of, height_of, height_in, Tree, items_in, Rooted}
 use Rattle.mt_check.specs.declared.faults.Fault.{Fault}
 use Rattle.mt_check.specs.declared.walks.Walk.{Walk}

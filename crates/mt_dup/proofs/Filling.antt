@@ -1,5 +1,5 @@
 -- A book whose rows are taken one by one.
-use Rattle.mt_dup.proofs.Prelude.{◌≡◌, ◌≢◌, ℕ, zero, suc, ◌+◌, ◌<◌, ◌≤◌, List, [], ◌∷◌, ◌++◌, length, map, refl, sym, ap, ◌∙◌, subst, arith, length-append, append-nil, All, AllPairs, same_from_push, All-nil, All-cons, All-weaker, AllPairs-cons, most_rows, Held, Book, IsBook, IsRowOf, rows_above, next_row, IsFilling, HasTaken}
+use Rattle.mt_dup.proofs.Prelude.{◌≡◌, ◌≢◌, ℕ, zero, suc, ◌+◌, ◌<◌, ◌≤◌, List, [], ◌∷◌, ◌++◌, length, map, refl, sym, ap, ◌∙◌, subst, arith, length-append, append-nil, All, AllPairs, same_from_push, All-nil, All-cons, All-weaker, AllPairs-cons, most_rows, StampedRow, Book, IsBook, IsRowOf, rows_above, next_row, IsFilling, HasTaken}
 
 -- the least of the rows is the last
 lowest_last : (low n : ℕ) → rows_above low (suc n) ≡ rows_above (low + 1) n ++ (low ∷ [])
@@ -58,13 +58,13 @@ rows_apart low (suc n) =
 pub filling_is_book : (b : Book) → b.rows ≤ most_rows → IsFilling b → IsBook b
 filling_is_book b few filling = record {
   few = few;
-  counted = let none = ap (λ (l : List Held). length l) filling.held in let fit = filling.fit in omega arith;
+  counted = let none = ap (λ (l : List StampedRow). length l) filling.held in let fit = filling.fit in omega arith;
   free_rows =
       subst (All (IsRowOf b)) (sym filling.free)
       (All-weaker (λ r. (next_row b ≤ r) × (r < next_row b + length b.free)) (IsRowOf b) (λ r within. (omega (arith, within.0), let fit = filling.fit in omega (arith, within.1))) (rows_above (next_row b) (length b.free)) (rows_within (next_row b) (length b.free)));
-  waiting_rows = subst (All (λ (h : Held). IsRowOf b h.row)) (sym filling.held) (All-nil (λ (h : Held). IsRowOf b h.row));
+  waiting_rows = subst (All (λ (h : StampedRow). IsRowOf b h.row)) (sym filling.held) (All-nil (λ (h : StampedRow). IsRowOf b h.row));
   once =
-      subst (AllPairs (λ (r s : ℕ). r ≢ s)) (sym (ap (λ (l : List Held). b.free ++ map (λ (h : Held). h.row) l) filling.held ∙ (append-nil b.free ∙ filling.free)))
+      subst (AllPairs (λ (r s : ℕ). r ≢ s)) (sym (ap (λ (l : List StampedRow). b.free ++ map (λ (h : StampedRow). h.row) l) filling.held ∙ (append-nil b.free ∙ filling.free)))
       (rows_apart (next_row b) (length b.free));
-  in_order = subst (AllPairs (λ (g h : Held). g.stamp ≤ h.stamp)) (sym filling.held) (λ i j d lt within. absurd (omega arith));
+  in_order = subst (AllPairs (λ (g h : StampedRow). g.stamp ≤ h.stamp)) (sym filling.held) (λ i j d lt within. absurd (omega arith));
 }

@@ -1,5 +1,5 @@
 -- New rows and a new book, before a copy and behind it.
-use Rattle.mt_dup.proofs.Prelude.{◌≡◌, ℕ, zero, suc, ◌+◌, ◌-◌, ◌*◌, ◌<◌, ◌≤◌, List, [], ◌∷◌, false, Option, length, map, get_or, refl, sym, ap, ◌∙◌, subst, inl, inr, arith, replicate, slice_index, range_with_len, Contains, cases_lt, length-range_with_len, Kind, Width, columns, first_row, most_rows, deepest, Book, rows_down, new_book, held_rows, Held, IsOut, New, column, new_sheet, Sheet, life_of, IsWhole, OnlyReads, loaded, is_reached, IsReached, IsToldKind, MayPlant, IsLawfulOf, map_by, reached_in, AreInOrder, IsNewBut, IsBookOfCopy, IsCopy, rows_above, next_row, IsFilling, HasTaken, IsOpenCopy, IsOutside, IsWritten, LeavesCopy, names_from, one_read}
+use Rattle.mt_dup.proofs.Prelude.{◌≡◌, ℕ, zero, suc, ◌+◌, ◌-◌, ◌*◌, ◌<◌, ◌≤◌, List, [], ◌∷◌, false, Option, length, map, get_or, refl, sym, ap, ◌∙◌, subst, inl, inr, arith, replicate, slice_index, range_with_len, Contains, cases_lt, length-range_with_len, Kind, Width, columns, first_row, most_rows, deepest, Book, rows_down, new_book, held_rows, StampedRow, IsOut, New, column, new_sheet, Sheet, life_of, IsWhole, OnlyReads, loaded, is_reached, IsReached, IsToldKind, MayPlant, IsLawfulOf, map_by, reached_in, AreInOrder, IsNewBut, IsBookOfCopy, IsCopy, rows_above, next_row, IsFilling, HasTaken, IsOpenCopy, IsOutside, IsWritten, LeavesCopy, names_from, one_read}
 use Rattle.mt_dup.proofs.Filling.{length-rows_above, filling_is_book}
 use Rattle.mt_dup.proofs.Going.{next_after}
 use Rattle.mt_dup.proofs.WholeCopies.{copied_to, Facts, all_names, facts_of, names_many, names_same}
@@ -120,7 +120,7 @@ module _ (kind : Kind) (width : Width) (s d₀ d : Sheet) (b₀ b : Book) (n roo
   fits = let less = taken.taken in let long = ap (λ (x : Book). length x.free) new_is in omega (arith, new_long n)
 
   none_held : held_rows b ≡ []
-  none_held = ap (λ (l : List Held). map (λ (h : Held). h.row) l) taken.filling.held
+  none_held = ap (λ (l : List StampedRow). map (λ (h : StampedRow). h.row) l) taken.filling.held
 
   out_reached : (row : ℕ) → IsOut b row → IsReached (copied_to d root) row
   out_reached row out = facts.inside row out.here.0 (elim (cases_lt row (first_row + count)) [
@@ -145,42 +145,58 @@ module _ (kind : Kind) (width : Width) (s d₀ d : Sheet) (b₀ b : Book) (n roo
 
 -- ---- what a copy of a whole tree leaves
 
-module _ (s s₁ d₀ d : Sheet) (b₀ b : Book) (word root : ℕ) (whole : IsWhole s) (new_whole : IsWhole d) (loads : s₁ ≡ loaded s) (word_is : word ≡ s.tree.root) (new_rows : d₀ ≡ new_sheet s.tree.table.width b₀.rows) (new_free : b₀ ≡ new_book b₀.rows)
-    (some : (kind : Kind) × IsLawfulOf s.tree kind) (asked : length (reached_in s.tree.table s.tree.root) ≤ length b₀.free) (copy : LeavesCopy s₁.tree.table d.tree.table (next_row b₀) (record { depth = deepest; word = word; parent = 1 }) root)
-    (took : HasTaken (length (names_from s₁.tree.table deepest word)) b₀ b) (wrote : IsWritten (next_row b₀) (next_row b) d₀ d) where
+-- a tree is lawful, and rows and a book that are new have room for it
+pub record MayCopyWhole (s d₀ : Sheet) (b₀ : Book) : Type 0 where
+  pub new_rows : d₀ ≡ new_sheet s.tree.table.width b₀.rows
+  pub new_free : b₀ ≡ new_book b₀.rows
+  pub some : (kind : Kind) × IsLawfulOf s.tree kind
+  pub asked : length (reached_in s.tree.table s.tree.root) ≤ length b₀.free
+
+-- and what the copy of its root leaves
+pub record WholeCopy (s s₁ d₀ d : Sheet) (b₀ b : Book) (word root : ℕ) : Type 0 where
+  pub whole : IsWhole s
+  pub new_whole : IsWhole d
+  pub loads : s₁ ≡ loaded s
+  pub word_is : word ≡ s.tree.root
+  pub may : MayCopyWhole s d₀ b₀
+  pub copy : LeavesCopy s₁.tree.table d.tree.table (next_row b₀) (record { depth = deepest; word = word; parent = 1 }) root
+  pub took : HasTaken (length (names_from s₁.tree.table deepest word)) b₀ b
+  pub wrote : IsWritten (next_row b₀) (next_row b) d₀ d
+
+module _ {s s₁ d₀ d : Sheet} {b₀ b : Book} {word root : ℕ} (w : WholeCopy s s₁ d₀ d b₀ b word root) where
   reads : OnlyReads s s₁
-  reads = one_read s s₁ loads
+  reads = one_read s s₁ w.loads
 
   took_all : HasTaken (length (all_names s)) b₀ b
-  took_all = subst (λ (l : List ℕ). HasTaken (length l) b₀ b) (names_same s s₁ word reads word_is) took
+  took_all = subst (λ (l : List ℕ). HasTaken (length l) b₀ b) (names_same s s₁ word reads w.word_is) w.took
 
   room : length (all_names s) ≤ d.tree.rows
   room =
-      let rows : d.tree.rows ≡ b₀.rows = written_rows (next_row b₀) (next_row b) d₀ d wrote ∙ ap (λ (x : Sheet). x.tree.rows) new_rows in
-      let many = names_many some.0 s whole some.1 in
-      let free = ap (λ (x : Book). length x.free) new_free in
-      omega (arith, asked, rows, many, free, new_long b₀.rows)
+      let rows : d.tree.rows ≡ b₀.rows = written_rows (next_row b₀) (next_row b) d₀ d w.wrote ∙ ap (λ (x : Sheet). x.tree.rows) w.may.new_rows in
+      let many = names_many w.may.some.0 s w.whole w.may.some.1 in
+      let free = ap (λ (x : Book). length x.free) w.may.new_free in
+      omega (arith, w.may.asked, rows, many, free, new_long b₀.rows)
 
   facts : (kind : Kind) → IsLawfulOf s.tree kind → Facts kind s d root (length (all_names s))
-  facts kind lawful = facts_of s s₁ word reads word_is kind d (next_row b₀) root whole new_whole lawful (written_width (next_row b₀) (next_row b) d₀ d wrote ∙ ap (λ (x : Sheet). x.tree.table.width) new_rows) room (ap next_row new_free ∙ new_next b₀.rows) copy
+  facts kind lawful = facts_of s s₁ word reads w.word_is kind d (next_row b₀) root w.whole w.new_whole lawful (written_width (next_row b₀) (next_row b) d₀ d w.wrote ∙ ap (λ (x : Sheet). x.tree.table.width) w.may.new_rows) room (ap next_row w.may.new_free ∙ new_next b₀.rows) w.copy
 
   pub is_copy : IsCopy s.tree (copied_to d root)
-  is_copy = (facts some.0 some.1).copy
+  is_copy = (facts w.may.some.0 w.may.some.1).copy
 
   pub in_order : AreInOrder (copied_to d root)
-  in_order = by_count (facts some.0 some.1).order
+  in_order = by_count (facts w.may.some.0 w.may.some.1).order
     where
       by_count : reached_in d.tree.table root ≡ range_with_len first_row (length (all_names s)) → AreInOrder (copied_to d root)
       by_count rows = rows ∙ ap (range_with_len first_row) (sym (ap length rows ∙ length-range_with_len first_row (length (all_names s))))
 
   pub same_map : map_by (copied_to d root) ≡ map_by s.tree
-  same_map = (facts some.0 some.1).same_map
+  same_map = (facts w.may.some.0 w.may.some.1).same_map
 
   pub may_be_planted : (kind : Kind) → IsLawfulOf s.tree kind → MayPlant kind d root
-  may_be_planted kind lawful = may_plant kind s.tree.table.width s d₀ d b₀ b b₀.rows root (length (all_names s)) new_rows new_free (facts kind lawful) took_all wrote
+  may_be_planted kind lawful = may_plant kind s.tree.table.width s d₀ d b₀ b b₀.rows root (length (all_names s)) w.may.new_rows w.may.new_free (facts kind lawful) took_all w.wrote
 
   pub others_new : IsNewBut (copied_to d root) b₀.rows d
-  others_new = is_new_but some.0 s.tree.table.width s d₀ d b₀ b b₀.rows root (length (all_names s)) new_rows new_free (facts some.0 some.1) took_all wrote
+  others_new = is_new_but w.may.some.0 s.tree.table.width s d₀ d b₀ b b₀.rows root (length (all_names s)) w.may.new_rows w.may.new_free (facts w.may.some.0 w.may.some.1) took_all w.wrote
 
   pub has_book : b₀.rows ≤ most_rows → IsBookOfCopy (copied_to d root) b
-  has_book few = book_of_copy some.0 s.tree.table.width s d₀ d b₀ b b₀.rows root (length (all_names s)) new_rows new_free (facts some.0 some.1) took_all wrote few
+  has_book few = book_of_copy w.may.some.0 s.tree.table.width s d₀ d b₀ b b₀.rows root (length (all_names s)) w.may.new_rows w.may.new_free (facts w.may.some.0 w.may.some.1) took_all w.wrote few

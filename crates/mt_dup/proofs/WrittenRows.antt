@@ -1,5 +1,5 @@
 -- The columns of one row of a copy, read one by one and written at once.
-use Rattle.mt_dup.proofs.Prelude.{◌≡◌, ℕ, ◌+◌, ◌*◌, ◌<◌, ◌≤◌, ◌⊎◌, List, length, add-zero, refl, sym, ap, ◌∙◌, subst, inl, inr, arith, length-set, get_or-set_other, get_or-set_same, replicate, slice_index, slice_set, cases_eq, cases_lt, get_or-replicate, length-replicate, Width, columns, place_within, row_within, Life, New, Draft, AreDrafted, column, Rooted, Sheet, OnlyReads, IsPlace, life_of, IsFree, Pair, IsOutside, IsWritten, HasOwn, reads_on, same_tree, some_columns}
+use Rattle.mt_dup.proofs.Prelude.{◌≡◌, ℕ, ◌+◌, ◌*◌, ◌<◌, ◌≤◌, ◌⊎◌, List, length, add-zero, refl, sym, ap, ◌∙◌, subst, inl, inr, arith, length-set, get_or-set_other, get_or-set_same, replicate, slice_index, slice_set, cases_eq, cases_lt, get_or-replicate, length-replicate, Width, columns, place_within, row_within, Life, New, Draft, AreDrafted, column, Rooted, Sheet, OnlyReads, IsPlace, life_of, IsFree, Pair, IsOutside, IsWritten, HasOwn, reads_on, same_tree, some_columns, one_read}
 
 -- ---- rows that are written
 
@@ -135,3 +135,6 @@ module _ (pair : Pair) (s s' d d' : Sheet) (parent col : ℕ) (words : List ℕ)
         other : (row : ℕ) → IsOutside pair.to (pair.to + 1) row → row ≡ pair.to → ⊥
         other row (inl below) e = omega arith
         other row (inr above) e = omega arith
+
+-- a row is read word by word and written at once
+pub ruleset copying = (none_read, one_read, read_place, read_next, own_copied, row_written)

@@ -31,7 +31,7 @@ pub(crate) fn write(rows: &mut PlainRows, row: u32, col: u32, word: u64)
 
 /// Writes a node of the copy, with this parent word and `COLS` columns. The names in its slots are still those of the original
 /// tree.
-#[tactic(auto, using(crate::proofs::WrittenRows::none_read, mt_rows::proofs::Loads::one_read, crate::proofs::WrittenRows::read_place, crate::proofs::WrittenRows::read_next, crate::proofs::WrittenRows::own_copied, crate::proofs::WrittenRows::row_written))]
+#[tactic(auto, using(crate::proofs::WrittenRows::copying))]
 fn copy_by<R: Rows, const COLS: usize>(src: &mut R, dst: &mut PlainRows, pair: Pair, parent: u64)
     requires columns { COLS ≡ columns (R.sheet src.old).tree.table.width }
     requires row { IsPlace (R.sheet src.old).tree pair.row 0 }

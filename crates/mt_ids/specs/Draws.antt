@@ -1,8 +1,7 @@
 -- Numbers drawn in turn from a window of indexes (cyclic allocation). Each draw takes the lowest index that is free from the
 -- position on. If there is none, it begins again at the window's first index.
 -- Source: the kernel's lib/maple_tree.c, mtree_alloc_cyclic.
-use Rattle.std.specs.Prelude.{◌≡◌, ℕ, ◌+◌, ◌-◌, ◌<◌, ◌≤◌, ◌==◌, ◌&&◌, ◌||◌, not, nat_lt, Bool, true, false, List, Option, Some, None, if◌then◌else◌}
-use Rattle.std.specs.Option.{unwrap_or}
+use Rattle.std.specs.Prelude.{◌≡◌, ℕ, ◌+◌, ◌-◌, ◌<◌, ◌≤◌, ◌==◌, ◌&&◌, ◌||◌, not, nat_lt, Bool, true, false, List, Option, Some, None, if◌then◌else◌, unwrap_or}
 use Rattle.mt_ids.specs.Prelude.{Kind, Range, Alloc, Reply, Shortage, finds_room, reserved, low, over, IsRefused, greatest_of}
 use Rattle.mt_base.specs.declared.replies.Reply.TheVariants as reply
 use Rattle.mt_ids.specs.Allocation.{Allocation, limits_at}

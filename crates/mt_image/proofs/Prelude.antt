@@ -1,43 +1,11 @@
 -- What the proofs beside this file take from the toolchain, from the crates below and from this crate's definitions, under one name. Declares nothing.
-pub use Rattle.std.proofs.Common.{Bool, Err, List, None, Ok, Option, Result, Some, [], ap, append-nil, append_assoc, arith, codes, drop, eq-eqb, false, get_or, inl, inr, le-ltb, length, length-append, length-drop, length-take, map, nat_lt, ne_eqb, refl, replicate, subst, suc, sym, take, true, zero, ℕ, ◌%◌, ◌*◌, ◌++◌, ◌+◌, ◌-◌, ◌/◌, ◌<◌, ◌==◌, ◌^◌, ◌∙◌, ◌∷◌, ◌≡◌, ◌≢◌, ◌≤◌, ◌⊎◌}
-pub use Rattle.std.proofs.lemmas.Bool.{and_parts, cases_Bool, cases_eq, cases_lt, eqb-true, ltb-false, ltb-true}
-pub use Rattle.std.proofs.lemmas.List.{drop-drop, drop_all, drop_at, ext_get_or, get_or-drop, length-map, length-replicate, take-append-drop, take_all}
-pub use Rattle.std.proofs.lemmas.List.Elements.{All-from_recursion}
-pub use Rattle.std.proofs.lemmas.List.Kept.{AllPairs-cons}
+pub use Rattle.std.proofs.Common.{Bool, Err, IsOk, List, None, Ok, Option, Result, Some, [], ap, append-nil, append_assoc, arith, bytes_eq, codes, drop, eq-eqb, false, get_or, inl, inr, le-ltb, length, length-append, length-drop, length-take, map, nat_lt, ne_eqb, refl, replicate, slice_index, subst, suc, sym, take, true, zero, ℕ, ◌%◌, ◌*◌, ◌++◌, ◌+◌, ◌-◌, ◌/◌, ◌<◌, ◌==◌, ◌^◌, ◌∙◌, ◌∷◌, ◌≡◌, ◌≢◌, ◌≤◌, ◌⊎◌}
+pub use Rattle.mt_base.proofs.Std.{All-from_recursion, AllByRecursion, AllPairs, AllPairs-cons, and_parts, cases_Bool, cases_eq, cases_lt, drop-drop, drop_all, drop_at, eqb-true, err_from_is_err_and, ext_get_or, find, flat_map, get_or-drop, length-map, length-replicate, ltb-false, ltb-true, range_with_len, slice_get, slice_range, take-append-drop, take_all}
 pub use Rattle.std.proofs.lemmas.Nat.{from_le_bytes-to_le_bytes_8, le_bytes_8}
-pub use Rattle.std.proofs.lemmas.Result.{err_from_is_err_and}
 pub use Rattle.std.specs.Int.{from_le_bytes, to_le_bytes, w64}
-pub use Rattle.std.specs.List.{AllByRecursion, AllPairs, find, flat_map, range_with_len, slice_get, slice_range}
-pub use Rattle.std.specs.Prelude.{IsOk, slice_index}
-pub use Rattle.std.specs.Str.{bytes_eq}
-pub use Rattle.mt_base.specs.declared.widths.Width.{Width}
-pub use Rattle.mt_base.specs.declared.widths.Width.TheVariants.{Long, Short}
-pub use Rattle.mt_layout.proofs.NameLaws.{Names-named_kind}
-pub use Rattle.mt_layout.proofs.RowSizes.{few_slots_of, layout_of, slot_within}
-pub use Rattle.mt_layout.proofs.RowWords.{get_or-padded, item_or, used, used-slot}
-pub use Rattle.mt_layout.proofs.SpanLists.{length-spans_from}
-pub use Rattle.mt_layout.specs.Columns.{IsLayout, row_words, slot_column}
-pub use Rattle.mt_layout.specs.Rows.{parent_at, row_in}
-pub use Rattle.mt_layout.specs.Sizes.{gaps_of, slots_of}
-pub use Rattle.mt_layout.specs.Spans.{spans_from}
-pub use Rattle.mt_layout.specs.declared.items.Item.{Item}
-pub use Rattle.mt_layout.specs.declared.names.RowKind.{RowKind}
-pub use Rattle.mt_layout.specs.declared.names.RowKind.TheVariants.{Gapped, Inner, Leaf}
-pub use Rattle.mt_layout.specs.declared.spans.Span.{Span}
-pub use Rattle.mt_rows.proofs.FewSpans.{row_most}
-pub use Rattle.mt_rows.proofs.Heights.{level_next}
-pub use Rattle.mt_rows.proofs.InnerKinds.{inner_no_leaf}
-pub use Rattle.mt_rows.proofs.Lists.{tally-append}
-pub use Rattle.mt_rows.proofs.Once.{once_in}
-pub use Rattle.mt_rows.specs.Laws.{IsRow, IsTended, ParentsFrom, Stands, Tree, items_in, kind_on}
-pub use Rattle.mt_rows.specs.Levels.{Levels, level, one_if, tally}
-pub use Rattle.mt_rows.specs.Memory.{sheet_in}
-pub use Rattle.mt_rows.specs.OfWords.{tree_made}
-pub use Rattle.mt_rows.specs.PlainWhole.{rows_whole}
-pub use Rattle.mt_rows.specs.Publish.{MayPlant, StandsAt, is_reached, with_published}
-pub use Rattle.mt_rows.specs.Replacement.{root_of}
-pub use Rattle.mt_rows.specs.Sheet.{IsWhole, OnlyReads}
-pub use Rattle.mt_rows.specs.Spans.{Table, column, inner_of, root_span, spans_by, spans_in}
+pub use Rattle.mt_layout.proofs.Lemmas.{Names-named_kind, few_slots_of, get_or-padded, item_or, layout_of, length-spans_from, slot_within, used, used-slot}
+pub use Rattle.mt_rows.proofs.Lemmas.{inner_no_leaf, level_next, once_in, row_most, tally-append}
+pub use Rattle.mt_rows.specs.Names.{Gapped, Inner, IsLayout, IsRow, IsTended, IsWhole, Item, Leaf, Levels, Long, MayPlant, OnlyReads, ParentsFrom, RowKind, Short, Span, Stands, StandsAt, Table, Tree, Width, column, gaps_of, inner_of, is_reached, items_in, kind_on, level, one_if, parent_at, root_of, root_span, row_in, row_words, rows_whole, sheet_in, slot_column, slots_of, spans_by, spans_from, spans_in, tally, tree_made, with_published}
 pub use Rattle.mt_rows.specs.declared.rows.Place.TheVariants.{Root}
 pub use Rattle.mt_free.proofs.Rows.{apart_are_few}
 pub use Rattle.mt_free.specs.Book.{Book}

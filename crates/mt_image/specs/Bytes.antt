@@ -1,7 +1,6 @@
 -- An image of a tree: its kind, the number of its nodes, its root word and the words of its nodes, as bytes.
 -- Source: this project's own.
-use Rattle.std.specs.Prelude.{ℕ, ◌*◌, List, ◌∷◌, ◌++◌, codes, drop}
-use Rattle.std.specs.List.{flat_map}
+use Rattle.std.specs.Prelude.{ℕ, ◌*◌, List, ◌∷◌, ◌++◌, codes, drop, flat_map}
 use Rattle.std.specs.Int.{w64, to_le_bytes}
 use Rattle.mt_image.specs.Prelude.{Kind, columns, first_row, kind_width, Rooted}
 use Rattle.mt_base.specs.declared.kinds.Kind.TheVariants as kinds

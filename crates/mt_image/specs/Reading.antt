@@ -1,9 +1,8 @@
 -- Of what tree or map bytes are an image (a serialised tree), or the first reason why they are none, in this order.
 -- Source: this project's own.
-use Rattle.std.specs.Prelude.{ℕ, zero, suc, ◌+◌, ◌*◌, ◌==◌, ◌<◌, nat_lt, slice_index, List, [], ◌∷◌, ◌++◌, Option, Some, None, Result, Ok, Err, length, take, replicate, codes, if◌then◌else◌}
+use Rattle.std.specs.Prelude.{ℕ, zero, suc, ◌+◌, ◌*◌, ◌==◌, ◌<◌, nat_lt, slice_index, List, [], ◌∷◌, ◌++◌, Option, Some, None, Result, Ok, Err, length, take, replicate, codes, if◌then◌else◌, bytes_eq}
 use Rattle.std.specs.List.{find, slice_range}
 use Rattle.std.specs.Int.{w64, from_le_bytes}
-use Rattle.std.specs.Str.{bytes_eq}
 use Rattle.mt_image.specs.Prelude.{Kind, columns, first_row, kind_width, most_rows, Fault, Form, checked, IsMadeOf, Rooted, Sheet, tree_as}
 use Rattle.mt_base.specs.declared.kinds.Kind.TheVariants as kinds
 use Rattle.mt_image.specs.Bytes.{kind_code, tree_with_words}

@@ -1,7 +1,6 @@
 -- How the program says why bytes are no image.
 -- Source: this project's own.
-use Rattle.std.specs.Prelude.{ℕ, List, ◌++◌, codes}
-use Rattle.std.specs.Fmt.{decimal}
+use Rattle.std.specs.Prelude.{ℕ, List, ◌++◌, codes, decimal}
 use Rattle.mt_image.specs.Prelude.{Law, Name, Depth, Parent, Pivots, Count, Entries, Holes, Gaps}
 use Rattle.mt_image.specs.declared.errors.ImageError.{ImageError}
 use Rattle.mt_image.specs.declared.errors.ImageError.TheVariants.{Length, Head, Broken, Stray, NoMemory}

@@ -49,7 +49,7 @@ impl From<Fault> for ImageError {
 }
 
 /// The name of a law, in lower case.
-fn law_text(law: Law) -> &'static str
+pub fn law_text(law: Law) -> &'static str
     ensures { result.now ≡ law_text law }
 {
     match law {

@@ -7,6 +7,6 @@ pub mod laws;
 mod reading;
 mod writing;
 
-pub use errors::ImageError;
+pub use errors::{ImageError, law_text};
 pub use reading::read_image;
 pub use writing::write_image;

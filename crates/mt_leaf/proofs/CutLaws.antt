@@ -1,5 +1,5 @@
 -- Where rows end: beside a hole stands an entry, and where two or three rows are given, fewer would not do.
-use Rattle.mt_leaf.proofs.Prelude.{◌≡◌, ◌≢◌, ℕ, zero, suc, ◌+◌, ◌-◌, ◌*◌, ◌/◌, ◌<◌, ◌≤◌, List, [], ◌∷◌, Bool, true, false, length, max, refl, sym, subst, arith, inl, inr, ◌∙◌, ⊎_elim, cases_Bool, cases_lt, Item, spans_from, Apart, Towards, word_of, IsEnd, IsLaterEnd, IsPiece, ArePieces, IsCut, MeetAt, first_place, half_place, last_place}
+use Rattle.mt_leaf.proofs.Prelude.{◌≡◌, ◌≢◌, ℕ, zero, suc, ◌+◌, ◌-◌, ◌*◌, ◌/◌, ◌<◌, ◌≤◌, List, [], ◌∷◌, Bool, true, false, length, max, refl, sym, subst, arith, inl, inr, ◌∙◌, ⊎_elim, cases_Bool, cases_lt, Item, spans_from, Apart, Towards, word_of, IsEnd, IsLaterEnd, IsMovedEnd, IsPiece, ArePieces, IsCut, MeetAt, first_place, half_place, last_place}
 use Rattle.mt_leaf.specs.declared.cuts.Towards.TheVariants as towards
 
 -- in front of a hole stands an entry
@@ -15,31 +15,22 @@ full_before (x ∷ y ∷ items) first (suc i) apart within hole =
 full_behind : (items : List Item) (first i : ℕ) → Apart (spans_from first items) → i + 1 < length items → word_of items i ≡ 0 → word_of items (i + 1) ≢ 0
 full_behind items first i apart within hole = λ other. full_before items first i apart within other hole
 
+moved : (leaf : Bool) (items : List Item) (end to : ℕ) → leaf ≡ true → word_of items (end - 1) ≡ 0 → (leaf ≡ true → word_of items (to - 1) ≢ 0) → IsMovedEnd leaf items end to
+moved leaf items end to is hole full = record { full = full; kept = λ entry. absurd (entry hole); inner = λ other. absurd (other is) }
+
 -- where the row would end with a hole it ends one item before
 pub one_before : (leaf : Bool) (items : List Item) (end : ℕ) → 2 ≤ end → end < length items → (leaf ≡ true → Apart (spans_from 0 items)) → leaf ≡ true → word_of items (end - 1) ≡ 0
     → IsEnd leaf items end (end - 1)
 one_before leaf items end some inside apart is hole =
     let before : end - 1 ≡ end - 1 - 1 + 1 = omega arith in
-    record {
-      most = omega arith;
-      least = omega arith;
-      full = λ l. full_before items 0 (end - 1 - 1) (apart l) (omega arith) (rw before at hole);
-      kept = λ entry. absurd (entry hole);
-      inner = λ other. absurd (other is);
-    }
+    record { most = omega arith; least = omega arith; moved = moved leaf items end (end - 1) is hole (λ l. full_before items 0 (end - 1 - 1) (apart l) (omega arith) (rw before at hole)) }
 
 -- or one item behind
 pub one_behind : (leaf : Bool) (items : List Item) (end : ℕ) → 1 ≤ end → end < length items → (leaf ≡ true → Apart (spans_from 0 items)) → leaf ≡ true → word_of items (end - 1) ≡ 0
     → IsLaterEnd leaf items end (end + 1)
 one_behind leaf items end some inside apart is hole =
     let here : end - 1 + 1 ≡ end + 1 - 1 = omega arith in
-    record {
-      least = omega arith;
-      most = omega arith;
-      full = λ l. rw here at (full_behind items 0 (end - 1) (apart l) (omega arith) hole);
-      kept = λ entry. absurd (entry hole);
-      inner = λ other. absurd (other is);
-    }
+    record { least = omega arith; most = omega arith; moved = moved leaf items end (end + 1) is hole (λ l. rw here at (full_behind items 0 (end - 1) (apart l) (omega arith) hole)) }
 
 -- ---- where two rows meet
 
@@ -47,14 +38,8 @@ false_is_not_true : (b : Bool) → b ≡ false → b ≢ true
 false_is_not_true b is = λ other. absurd (let both : false ≡ true = sym is ∙ other in cc)
 
 -- a row that ends at the place itself shows that it was not moved
-not_before : (leaf : Bool) (items : List Item) (end to other : ℕ) → IsEnd leaf items end to → (leaf ≡ true → word_of items (other - 1) ≢ 0) → other ≡ end → to ≡ end
-not_before leaf items end to other is full same = elim (cases_Bool leaf) [
-  | inl t ↦ is.kept (subst (λ (n : ℕ). word_of items (n - 1) ≢ 0) same (full t))
-  | inr n ↦ is.inner (false_is_not_true leaf n)
-]
-
-not_behind : (leaf : Bool) (items : List Item) (end to other : ℕ) → IsLaterEnd leaf items end to → (leaf ≡ true → word_of items (other - 1) ≢ 0) → other ≡ end → to ≡ end
-not_behind leaf items end to other is full same = elim (cases_Bool leaf) [
+not_moved : (leaf : Bool) (items : List Item) (end to other : ℕ) → IsMovedEnd leaf items end to → (leaf ≡ true → word_of items (other - 1) ≢ 0) → other ≡ end → to ≡ end
+not_moved leaf items end to other is full same = elim (cases_Bool leaf) [
   | inl t ↦ is.kept (subst (λ (n : ℕ). word_of items (n - 1) ≢ 0) same (full t))
   | inr n ↦ is.inner (false_is_not_true leaf n)
 ]
@@ -73,7 +58,7 @@ module _ (leaf : Bool) (least most : ℕ) (items : List Item) (sizes : 2 * least
   meets_first place end =
       let low = end.least in let near = end.most in
       record {
-        full = end.full;
+        full = end.moved.full;
         some = omega arith;
         many = omega arith;
         rest = omega arith;
@@ -81,7 +66,7 @@ module _ (leaf : Bool) (least most : ℕ) (items : List Item) (sizes : 2 * least
         only = λ more a front back.
             let few = front.few in let rest = back.few in let inside = back.some in
             let at : a ≡ first_place least most (length items) = omega arith in
-            let same = not_behind leaf items (first_place least most (length items)) place a end (λ l. front.full l inside) at in
+            let same = not_moved leaf items (first_place least most (length items)) place a end.moved (λ l. front.full l inside) at in
             omega arith;
       }
 
@@ -95,10 +80,10 @@ module _ (leaf : Bool) (least most : ℕ) (items : List Item) (sizes : 2 * least
         many = omega arith;
         rest = omega arith;
         inside = omega arith;
-        full = is.full;
+        full = is.moved.full;
         only = λ more a front back.
             let at = only a more (omega (arith, front.few)) (omega (arith, back.few)) in
-            let same = not_before leaf items end place a is (λ l. front.full l (omega (arith, back.some))) at.0 in
+            let same = not_moved leaf items end place a is.moved (λ l. front.full l (omega (arith, back.some))) at.0 in
             omega (arith, at.1, same);
       }
 
@@ -124,12 +109,12 @@ refuted a b not = ⊎_elim (λ (less : a < b). absurd (not less)) (λ (more : b 
 pub nearest_first : (leaf : Bool) (least most : ℕ) (items : List Item) (to other : ℕ) → MeetAt towards.First leaf least most items to → ArePieces leaf least most items 0 (other ∷ length items ∷ []) → to ≤ other
 nearest_first leaf least most items to other at pieces =
     let many = pieces.0.many in let rest = pieces.1.0.few in let inside = pieces.1.0.some in let near = at.most in
-    refuted other to (λ less. let here : other ≡ first_place least most (length items) = omega arith in let same = not_behind leaf items (first_place least most (length items)) to other at (λ l. pieces.0.full l inside) here in omega arith)
+    refuted other to (λ less. let here : other ≡ first_place least most (length items) = omega arith in let same = not_moved leaf items (first_place least most (length items)) to other at.moved (λ l. pieces.0.full l inside) here in omega arith)
 
 pub nearest_last : (leaf : Bool) (least most : ℕ) (items : List Item) (to other : ℕ) → MeetAt towards.Last leaf least most items to → ArePieces leaf least most items 0 (other ∷ length items ∷ []) → other ≤ to
 nearest_last leaf least most items to other at pieces =
     let few = pieces.0.few in let rest = pieces.1.0.many in let inside = pieces.1.0.some in let near = at.least in
-    refuted to other (λ less. let here : other ≡ last_place least most (length items) = omega arith in let same = not_before leaf items (last_place least most (length items)) to other at (λ l. pieces.0.full l inside) here in omega arith)
+    refuted to other (λ less. let here : other ≡ last_place least most (length items) = omega arith in let same = not_moved leaf items (last_place least most (length items)) to other at.moved (λ l. pieces.0.full l inside) here in omega arith)
 
 -- ---- the cuts
 
@@ -175,9 +160,9 @@ module _ (leaf : Bool) (least most : ℕ) (items : List Item) (side : Towards) w
         one = λ short. absurd (omega arith);
         more = λ _. record {
           pieces = (
-            record { some = omega arith; many = omega arith; few = omega arith; full = λ l _. one.full l },
+            record { some = omega arith; many = omega arith; few = omega arith; full = λ l _. one.moved.full l },
             (
-              record { some = omega arith; many = omega arith; few = omega arith; full = λ l _. two.full l },
+              record { some = omega arith; many = omega arith; few = omega arith; full = λ l _. two.moved.full l },
               (record { some = omega arith; many = omega arith; few = omega arith; full = λ l past. absurd (omega arith) }, refl),
             ),
           );

@@ -16,21 +16,24 @@ pub record IsPiece (leaf : Bool) (least most : ℕ) (items : List Item) (from to
   pub few : to ≤ from + most
   pub full : leaf ≡ true → to < length items → word_of items (to - 1) ≢ 0
 
--- The end of a node that should end at `end`. In a leaf it may be one item earlier, so that the node does not end with a hole.
-pub record IsEnd (leaf : Bool) (items : List Item) (end to : ℕ) : Type 0 where
-  pub most : to ≤ end
-  pub least : end ≤ to + 1
+-- The end of a node that should end at `end`. In a leaf it is another one only where the node would end with a hole, and never
+-- one where it does.
+pub record IsMovedEnd (leaf : Bool) (items : List Item) (end to : ℕ) : Type 0 where
   pub full : leaf ≡ true → word_of items (to - 1) ≢ 0
   pub kept : word_of items (end - 1) ≢ 0 → to ≡ end
   pub inner : leaf ≢ true → to ≡ end
 
--- The end of a node that should end at `end`. In a leaf it may be one item later, so that the node does not end with a hole.
+-- it may be one item earlier
+pub record IsEnd (leaf : Bool) (items : List Item) (end to : ℕ) : Type 0 where
+  pub most : to ≤ end
+  pub least : end ≤ to + 1
+  pub moved : IsMovedEnd leaf items end to
+
+-- it may be one item later
 pub record IsLaterEnd (leaf : Bool) (items : List Item) (end to : ℕ) : Type 0 where
   pub least : end ≤ to
   pub most : to ≤ end + 1
-  pub full : leaf ≡ true → word_of items (to - 1) ≢ 0
-  pub kept : word_of items (end - 1) ≢ 0 → to ≡ end
-  pub inner : leaf ≢ true → to ≡ end
+  pub moved : IsMovedEnd leaf items end to
 
 -- nodes that end at these places, end to end: the first begins at `from`, and the last ends with the items
 abbrev pub ArePieces : Bool → ℕ → ℕ → List Item → ℕ → List ℕ → Type 0

@@ -1,18 +1,8 @@
 -- What the proofs beside this file take from the toolchain, from the crates below and from this crate's definitions, under one name. Declares nothing.
-pub use Rattle.std.proofs.Common.{Bool, IfNone, List, None, OnSome, Option, Some, [], add-one, ap, append_assoc, arith, drop, false, filter, find, get_or, inl, inr, insert, length, length-append, map, max, min, nat_le, nat_lt, not, refl, remove, set, subst, suc, sym, take, true, zero, ℕ, ◌&&◌, ◌++◌, ◌+◌, ◌-◌, ◌<◌, ◌==◌, ◌^◌, ◌∙◌, ◌∷◌, ◌≡◌, ◌≤◌}
-pub use Rattle.std.proofs.Math.Seq.{drop-append-add, take-append_seam}
-pub use Rattle.std.proofs.lemmas.Bool.{and_left, and_right, cases_Bool, cond_both, eqb-false, eqb-true, le-ltb, leb-false, lt-leb, lt-ltb, ltb-false, ltb-true}
-pub use Rattle.std.proofs.lemmas.Grind.{common_steps, flat_map-append}
-pub use Rattle.std.proofs.lemmas.List.{append-nil, drop-drop, drop-set-lt, drop_all, drop_more, get_or_default, length-map, length-take-le, map-append, take-append-drop, take-set, take_more, take_more_set}
-pub use Rattle.std.proofs.lemmas.List.Elements.{filter-append}
-pub use Rattle.std.specs.List.{AllByRecursion, slice_get, slice_range}
-pub use Rattle.std.specs.Option.{is_some}
-pub use Rattle.mt_base.proofs.StoredOrder.{IsMapFrom-lower, over_is_map}
-pub use Rattle.mt_base.proofs.WidthBounds.{greatest_fits}
-pub use Rattle.mt_base.specs.Call.{answer}
-pub use Rattle.mt_base.specs.Holes.{Hole, clip, fits, high, highest_in, hole_between, holes_from, kept, low, lowest_in}
-pub use Rattle.mt_base.specs.Map.{IsMap, IsMapFrom, cut_above, cut_below, first_range, holding, holds, last_range, over, part_stored, parts_above, parts_below, without}
-pub use Rattle.mt_base.specs.Width.{greatest_of, kind_width}
+pub use Rattle.std.proofs.Common.{Bool, IfNone, List, None, OnSome, Option, Some, [], add-one, ap, append_assoc, arith, drop, false, filter, find, get_or, inl, inr, insert, is_some, length, length-append, map, max, min, nat_le, nat_lt, not, refl, remove, set, subst, suc, sym, take, true, zero, ℕ, ◌&&◌, ◌++◌, ◌+◌, ◌-◌, ◌<◌, ◌==◌, ◌^◌, ◌∙◌, ◌∷◌, ◌≡◌, ◌≤◌}
+pub use Rattle.mt_base.proofs.Std.{AllByRecursion, and_left, and_right, append-nil, cases_Bool, common_steps, cond_both, drop-append-add, drop-drop, drop-set-lt, drop_all, drop_more, eqb-false, eqb-true, filter-append, flat_map-append, get_or_default, le-ltb, leb-false, length-map, length-take-le, lt-leb, lt-ltb, ltb-false, ltb-true, map-append, slice_get, slice_range, take-append-drop, take-append_seam, take-set, take_more, take_more_set}
+pub use Rattle.mt_base.proofs.Lemmas.{IsMapFrom-lower, greatest_fits, over_is_map}
+pub use Rattle.mt_base.specs.Names.{Hole, IsMap, IsMapFrom, answer, clip, cut_above, cut_below, first_range, fits, greatest_of, high, highest_in, holding, holds, hole_between, holes_from, kept, kind_width, last_range, low, lowest_in, over, part_stored, parts_above, parts_below, without}
 pub use Rattle.mt_base.specs.declared.calls.Query.{Query}
 pub use Rattle.mt_base.specs.declared.calls.Query.TheVariants.{Find, Load, Next, Prev, Rfind}
 pub use Rattle.mt_base.specs.declared.kinds.Kind.{Kind}

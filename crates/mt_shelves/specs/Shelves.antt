@@ -6,8 +6,7 @@ use Rattle.mt_base.specs.declared.calls.Query.{Query}
 use Rattle.mt_base.specs.declared.calls.Query.TheVariants.{Load, Find, Next, Prev, Rfind}
 use Rattle.mt_base.specs.declared.kinds.Kind.{Kind}
 use Rattle.mt_base.specs.declared.ranges.Range.{Range}
-use Rattle.mt_base.specs.Holes.{Hole, hole_between}
-use Rattle.mt_base.specs.Map.{IsMap, IsMapFrom, first_range}
+use Rattle.mt_base.specs.Names.{Hole, hole_between, IsMap, IsMapFrom, first_range}
 use Rattle.mt_list.specs.Places.{last_of}
 use Rattle.mt_shelves.specs.declared.extents.ShelfExtent.{ShelfExtent}
 

@@ -1,4 +1,4 @@
-use Rattle.mt_bulk.proofs.Prelude.{◌≡◌, ◌≢◌, ◌+◌, ◌++◌, ℕ, List, length, sym, ap, ◌∙◌, subst, arith, first_row, inner_kind, AreLevels, above_leaves, whole_of, Built, levels_built, IsLevel, heads_in, chunk_words}
+use Rattle.mt_bulk.proofs.Prelude.{◌≡◌, ◌≢◌, ◌+◌, ◌++◌, ℕ, List, length, sym, ap, ◌∙◌, subst, arith, first_row, inner_kind, AreLevels, above_leaves, whole_of, Built, levels_built, IsLevelToNumber, heads_in, chunk_words}
 use Rattle.mt_bulk.proofs.Leveling.{length_heads_in, words_above}
 use Rattle.mt_bulk.proofs.building.raise_all.Goals.{After-len-count}
 use Rattle.mt_bulk.proofs.building.raise_all.Goals as goal
@@ -26,8 +26,8 @@ raise-requires-clause-level c =
     let l = c.args.leaves.now in
     let count = as_many (goal.at.raise-requires-clause-level c).After-len-count in
     let next : first_row + c.len-count.result ≡ first_row + length l.ends.items = ap (λ (n : ℕ). first_row + n) count in
-    subst (IsLevel l.kind (first_row + c.len-count.result)) (sym c.requires.heads)
-    (subst (λ (n : ℕ). IsLevel l.kind n (heads_in (whole_of l))) (sym next) (c.requires.leaves.level (λ one. c.if-count-eq1.false (count ∙ one))))
+    subst (IsLevelToNumber l.kind (first_row + c.len-count.result)) (sym c.requires.heads)
+    (subst (λ (n : ℕ). IsLevelToNumber l.kind n (heads_in (whole_of l))) (sym next) (c.requires.leaves.level (λ one. c.if-count-eq1.false (count ∙ one))))
 
 pub raise-requires-clause-levels : goal.raise-requires-clause-levels
 raise-requires-clause-levels c =

@@ -1,4 +1,4 @@
-use Rattle.mt_bulk.proofs.Prelude.{◌≡◌, ◌≢◌, ◌+◌, ◌++◌, ℕ, List, length, sym, ap, ◌∙◌, subst, arith, length-append, append_assoc, Item, inner_kind, AreLevels, Built, levels_built, IsLevel, heads_in, chunk_words}
+use Rattle.mt_bulk.proofs.Prelude.{◌≡◌, ◌≢◌, ◌+◌, ◌++◌, ℕ, List, length, sym, ap, ◌∙◌, subst, arith, length-append, append_assoc, Item, inner_kind, AreLevels, Built, levels_built, IsLevelToNumber, heads_in, chunk_words}
 use Rattle.mt_bulk.proofs.Leveling.{first_level, known_level, length_heads_in, some_levels}
 use Rattle.mt_bulk.proofs.Raising.{LevelFacts, above_with, view_with}
 use Rattle.mt_bulk.proofs.levels.+raise.Goals.{After-deref-2, After-len-rows, After-deref-3}
@@ -109,7 +109,7 @@ raise-requires t c =
     let own : c.len-rows.result ≡ length level.ends.items = c.len-rows.ensures ∙ level.ends.ok.0 in (
       omega arith,
       (
-        subst (λ (n : ℕ). IsLevel tree n c.deref-3.result.now) (sym next) (subst (IsLevel tree (number + length c.deref.result.now)) (sym above) (facts.level more)),
+        subst (λ (n : ℕ). IsLevelToNumber tree n c.deref-3.result.now) (sym next) (subst (IsLevelToNumber tree (number + length c.deref.result.now)) (sym above) (facts.level more)),
         (
           subst (λ (n : ℕ). AreLevels tree (number + c.len-rows.result) n c.in-Some.above.now) count (subst (λ (n : ℕ). AreLevels tree (number + n) n c.in-Some.above.now) (sym own) (laid.1 (λ one. c.if-rows-eq1.false (own ∙ one)))),
           omega (arith, all, both, same_words, room, filled, front, old, new, capacity),
