@@ -1,6 +1,5 @@
 -- A slot of a row that begins at an index is the slot of that index; and a walk down by such slots.
-use Rattle.mt_path.proofs.Prelude.{◌≡◌, ◌≢◌, ℕ, ◌+◌, ◌-◌, ◌*◌, ◌<◌, ◌≤◌, List, [], ◌∷◌, ◌++◌, Some, length, sym, ap, ◌∙◌, subst, arith, le-max_left, length_push, Kind, greatest, Leaf, Span, Fills, IsTreeOf, Rooted, Sheet, loaded, ReadsUpTo, Table, PathStep, Row, Found, IsLawfulRow, slot_for, span_at, loads_at, row_for, spans_of, found_span, IsFoundSlot}
-use Rattle.mt_path.specs.Walks.{BeginsAt}
+use Rattle.mt_path.proofs.Prelude.{◌≡◌, ◌≢◌, ℕ, ◌+◌, ◌-◌, ◌*◌, ◌<◌, ◌≤◌, List, [], ◌∷◌, ◌++◌, Some, length, sym, ap, ◌∙◌, subst, arith, le-max_left, length_push, Kind, greatest, Leaf, Span, Fills, IsTreeOf, Rooted, Sheet, loaded, ReadsUpTo, Table, PathStep, Row, Found, IsLawfulRow, slot_for, span_at, loads_at, row_for, spans_of, found_span, IsFoundSlot, BeginsAt}
 use Rattle.mt_path.proofs.Descents.{Descends, descent_goes_on}
 use Rattle.mt_path.proofs.Groups.{found_here, sought}
 use Rattle.mt_path.proofs.Kept.{tree_kept}

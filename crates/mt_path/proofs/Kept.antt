@@ -1,11 +1,15 @@
 -- What stays where rows were only read. For the proofs of the crates above, too.
-use Rattle.mt_path.proofs.Prelude.{◌≡◌, ◌<◌, ℕ, List, sym, ap, ◌∙◌, subst, Kind, Width, columns, Rooted, Sheet, IsPlace, word_at, OnlyReads, ReadsUpTo, IsTreeOf, Handle, PathStep, IsHandleOf, IsStepOfLeaf, path_in, same_tree}
+use Rattle.mt_path.proofs.Prelude.{◌≡◌, ◌<◌, ℕ, List, sym, ap, ◌∙◌, subst, Kind, Width, columns, Rooted, Sheet, IsPlace, word_at, OnlyReads, ReadsUpTo, IsTreeOf, Handle, PathStep, IsHandleOf, IsStepOfLeaf, path_in, same_tree, IsTreeOfWidth}
 
 pub tree_kept : (n : ℕ) (s s' : Sheet) → ReadsUpTo n s s' → s'.tree ≡ s.tree
 tree_kept n s s' reads = same_tree s s' reads.rest
 
 pub width_kept : (n : ℕ) (s s' : Sheet) (width : Width) → ReadsUpTo n s s' → width ≡ s.tree.table.width → width ≡ s'.tree.table.width
 width_kept n s s' width reads is = is ∙ ap (λ (t : Rooted). t.table.width) (sym (tree_kept n s s' reads))
+
+-- after two calls that load
+pub width_then : (n m : ℕ) (s s' s'' : Sheet) (width : Width) → ReadsUpTo n s s' → ReadsUpTo m s' s'' → width ≡ s.tree.table.width → width ≡ s''.tree.table.width
+width_then n m s s' s'' width first second is = width_kept m s' s'' width second (width_kept n s s' width first is)
 
 pub is_tree_kept : (s s' : Sheet) (kind : Kind) → OnlyReads s s' → IsTreeOf s.tree kind → IsTreeOf s'.tree kind
 is_tree_kept s s' kind only tree = subst (λ (t : Rooted). IsTreeOf t kind) (sym (same_tree s s' only)) tree
@@ -28,3 +32,7 @@ column_place t row col place low = record { first = place.first; last = place.la
 
 pub word_kept : (n : ℕ) (s s' : Sheet) (row col word : ℕ) → ReadsUpTo n s s' → word ≡ word_at s'.tree row col → word ≡ word_at s.tree row col
 word_kept n s s' row col word reads is = is ∙ ap (λ (t : Rooted). word_at t row col) (tree_kept n s s' reads)
+
+-- a tree of a width that was only read is one still
+pub tree_over : (s s' : Sheet) (width : Width) → OnlyReads s s' → IsTreeOfWidth s.tree width → IsTreeOfWidth s'.tree width
+tree_over s s' width only over = subst (λ (t : Rooted). IsTreeOfWidth t width) (sym (same_tree s s' only)) over

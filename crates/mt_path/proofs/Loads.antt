@@ -1,7 +1,6 @@
 -- How many words were loaded. For the proofs of the crates above, too.
-use Rattle.mt_path.proofs.Prelude.{◌≡◌, ℕ, ◌+◌, ◌-◌, ◌<◌, ◌≤◌, List, [], ◌∷◌, ◌++◌, Option, Some, None, length, take, drop, map, sum, refl, sym, ap, ◌∙◌, subst, arith, option_map, le-max_left, le-max_right, map-append, take-append-drop, sum_by-append, Sheet, loaded, one_more, RoseUpTo, ReadsUpTo, PathStep, last_step, word_at, loads_at, loads_in, no_step, reads_on, step_at}
+use Rattle.mt_path.proofs.Prelude.{◌≡◌, ℕ, ◌+◌, ◌-◌, ◌<◌, ◌≤◌, List, [], ◌∷◌, ◌++◌, Option, Some, None, length, take, drop, map, sum, refl, sym, ap, ◌∙◌, subst, arith, option_map, le-max_left, le-max_right, map-append, take-append-drop, sum_by-append, Sheet, loaded, one_more, RoseUpTo, ReadsUpTo, PathStep, last_step, word_at, loads_at, loads_in, no_step, reads_on, step_at, drop_all, drop_more}
 use Rattle.mt_path.proofs.Kept.{word_kept}
-use Rattle.std.proofs.lemmas.List.{drop_all, drop_more}
 
 -- ---- counts
 

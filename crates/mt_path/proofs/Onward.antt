@@ -1,5 +1,5 @@
 -- A path that goes on to another index from a row which covers both.
-use Rattle.mt_path.proofs.Prelude.{◌≡◌, ◌≢◌, ◌==◌, ℕ, zero, suc, ◌+◌, ◌-◌, ◌<◌, ◌≤◌, List, [], ◌∷◌, ◌++◌, Some, Bool, true, false, length, take, drop, get_or, refl, sym, ap, ◌∙◌, subst, inl, inr, arith, length-append, eq-eqb, ne_eqb, IsSome, is_some, AllByRecursion, cases_lt, ext_get_or, get_or-take, get_or_append_left, get_or-append_right, get_or_at, length-take-le, take-take, Kind, greatest, RowKind, Leaf, Span, Fills, named_kind, IsTreeOf, tree_as, Rooted, Sheet, ReadsUpTo, PathStep, step_in, slot_for, span_at, spans_in, spans_of, path_in, step_at, no_step, loads_in, loads_on, Covers, IsDeepestOver, ReadsBelow, row_as, row_for, Row, IsOnWay, all_at}
+use Rattle.mt_path.proofs.Prelude.{◌≡◌, ◌≢◌, ◌==◌, ℕ, zero, suc, ◌+◌, ◌-◌, ◌<◌, ◌≤◌, List, [], ◌∷◌, ◌++◌, Some, Bool, true, false, length, take, drop, get_or, refl, sym, ap, ◌∙◌, subst, inl, inr, arith, length-append, eq-eqb, ne_eqb, IsSome, is_some, AllByRecursion, cases_lt, ext_get_or, get_or-take, get_or_append_left, get_or-append_right, get_or_at, length-take-le, take-take, Kind, greatest, RowKind, Leaf, Span, Fills, named_kind, IsTreeOf, tree_as, Rooted, Sheet, ReadsUpTo, PathStep, step_in, slot_for, span_at, spans_in, spans_of, path_in, step_at, no_step, loads_in, loads_on, Covers, IsDeepestOver, ReadsBelow, row_as, row_for, Row, IsOnWay, all_at, last_step, BeginsAt}
 use Rattle.mt_rows.specs.Laws as laws
 use Rattle.mt_path.proofs.Kept.{tree_kept}
 use Rattle.mt_path.proofs.Loads.{reads_more, reads_up, loads_in-parts, loads_in-take}
@@ -8,8 +8,6 @@ use Rattle.mt_path.proofs.LeafSlots.{fills_more, fills_next}
 use Rattle.mt_path.proofs.Steps.{row_next}
 use Rattle.mt_path.proofs.TreePaths.{rooted, top_row, rows_at, row_of, step_of, levels, step, place, child, slot_used, lawful, inside_agree}
 use Rattle.mt_path.proofs.Ways.{row_on_top, row_named, some_root, some_tree, root_named, empty_path, spans_same}
-use Rattle.mt_path.specs.Handles.{last_step}
-use Rattle.mt_path.specs.Walks.{BeginsAt}
 
 -- ---- steps taken off the end
 

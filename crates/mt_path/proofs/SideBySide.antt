@@ -1,17 +1,17 @@
 -- Ways to many indexes, level by level: which words they come to, and when these are the words of leaves.
-use Rattle.mt_path.proofs.Prelude.{◌≡◌, ◌≢◌, ℕ, suc, ◌+◌, ◌-◌, ◌<◌, ◌≤◌, List, [], ◌∷◌, ◌++◌, Some, IsSome, is_some, take, drop, append_assoc, length, refl, sym, ap, ◌∙◌, subst, arith, Kind, greatest, deepest, RowKind, Leaf, Span, named_kind, slots_of, slot_column, column, IsTreeOf, tree_as, Rooted, Sheet, loaded, root_span, IsPlace, Row, Found, handle_in, Handle, path_in, slot_for, span_at, row_on, row_as, spans_of, IsFoundSlot, IsOnWay, IsLawfulRow, get_or_at}
-use Rattle.std.specs.Prelude.{All, replicate, slice_index, slice_index_or, slice_set}
-use Rattle.std.proofs.lemmas.List.{drop_more, get_or-map, length-map, length-take-le, set_at, take_more}
+use Rattle.mt_path.proofs.Prelude.{◌≡◌, ◌≢◌, OnlyReads, ℕ, suc, ◌+◌, ◌-◌, ◌<◌, ◌≤◌, List, [], ◌∷◌, ◌++◌, Some, IsSome, is_some, take, drop, append_assoc, length, refl, sym, ap, ◌∙◌, subst, arith, Kind, greatest, deepest, RowKind, Leaf, Span, named_kind, slots_of, slot_column, column, IsTreeOf, tree_as, Rooted, Sheet, loaded, root_span, IsPlace, Row, Found, handle_in, Handle, path_in, slot_for, span_at, row_on, row_as, spans_of, IsFoundSlot, IsOnWay, IsLawfulRow, get_or_at, IsLevel, word_on, words_in, words_on, IsSlotFor, row_at, drop_more, get_or-map, length-map, length-take-le, set_at, take_more, All, replicate, slice_index, slice_index_or, slice_set}
 use Rattle.std.proofs.lemmas.List.Elements.{All-tail}
 use Rattle.mt_rows.specs.Laws as laws
-use Rattle.mt_path.specs.Middles.{IsSlotFor}
-use Rattle.mt_path.specs.Walks.{row_at}
-use Rattle.mt_path.specs.Batches.{IsLevel, word_on, words_in, words_on}
 use Rattle.mt_path.proofs.Groups.{found_here, sought}
 use Rattle.mt_path.proofs.Middles.{lawful_row}
 use Rattle.mt_path.proofs.Steps.{row_next}
 use Rattle.mt_path.proofs.TreePaths.{levels, lawful}
 use Rattle.mt_path.proofs.Ways.{at_end, covers, place, row_named, row_on_top, some_root, some_tree, span_same, inner_above}
+
+-- nodes were only read, and there are as many words as indexes
+pub record OnlyReadsFor (s s' : Sheet) (words indexes : List ℕ) : Type 0 where
+  pub reads : OnlyReads s s'
+  pub size : length words ≡ length indexes
 
 -- ---- the words of a level
 

@@ -1,8 +1,7 @@
 -- What a walk finds in a node, and which node it is in.
 -- Source: the kernel's lib/maple_tree.c, mtree_range_walk.
-use Rattle.std.specs.Prelude.{◌≡◌, ℕ, ◌<◌, List, length, take, Option, Some}
-use Rattle.std.specs.Option.{option_map}
-use Rattle.mt_path.specs.Prelude.{RowKind, Leaf, Span, row_in, named_kind, slots_of, slot_column, Rooted, IsPlace, Table, column, row_spans, root_span}
+use Rattle.std.specs.Prelude.{◌≡◌, ℕ, ◌<◌, ◌≤◌, List, length, take, Option, Some, option_map}
+use Rattle.mt_path.specs.Prelude.{greatest, RowKind, Leaf, Span, row_in, named_kind, slots_of, slot_column, Rooted, IsPlace, Table, column, row_spans, root_span}
 use Rattle.mt_path.specs.declared.paths.PathStep.{PathStep}
 use Rattle.mt_path.specs.declared.rows.Row.{Row}
 use Rattle.mt_path.specs.declared.rows.Found.{Found}
@@ -46,6 +45,12 @@ pub record BeginsAt (t : Table) (row : Row) (slot index : ℕ) : Type 0 where
 pub record IsOnWay (t : Rooted) (index depth : ℕ) (row : Row) : Type 0 where
   pub low : depth < length (path_in t.table t.root index)
   pub named : Some row ≡ row_for (row_on t.table depth (root_span t.table t.root) index)
+
+-- A walk to the index has gone by these steps, and enters this node next.
+pub record WalksTo (t : Rooted) (index : ℕ) (steps : List PathStep) (row : Row) : Type 0 where
+  pub within : index ≤ greatest t.table.width
+  pub front : steps ≡ take (length steps) (path_in t.table t.root index)
+  pub way : IsOnWay t index (length steps) row
 
 -- the step of an index in its leaf, and what its slot holds
 pub record IsAtEnd (t : Rooted) (index : ℕ) (found : Found) : Type 0 where

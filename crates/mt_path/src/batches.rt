@@ -9,7 +9,7 @@ ghost use Rattle.mt_layout.specs.Sizes.{slots_of};
 ghost use Rattle.mt_rows.specs.Publish.{IsTreeOf};
 ghost use Rattle.mt_rows.specs.Sheet.{IsPlace, OnlyReads, loaded};
 ghost use Rattle.mt_rows.specs.Spans.{column};
-ghost use Rattle.mt_path.specs.Batches.{IsLevel, word_on, words_in, words_on};
+ghost use Rattle.mt_path.specs.Batches.{IsLevel, IsTreeOfWidth, word_on, words_in, words_on};
 
 use crate::seeks::seek_groups;
 use mt_base::{DEEPEST, Width};
@@ -50,8 +50,7 @@ fn word_below<R: Rows>(
     index: u64,
     depth: usize,
 ) -> u64
-    requires width { width ≡ (R.sheet rows.old).tree.table.width }
-    requires tree { (kind : Kind) × IsTreeOf (R.sheet rows.old).tree kind }
+    requires over { IsTreeOfWidth (R.sheet rows.old).tree width }
     requires index { index ≤ greatest (R.sheet rows.old).tree.table.width }
     requires level { IsLevel (R.sheet rows.old).tree depth kind }
     requires name { name ≡ word_on (R.sheet rows.old).tree depth index }
@@ -73,8 +72,7 @@ fn words_below<R: Rows>(
     words: &mut [u64],
     depth: usize,
 )
-    requires width { width ≡ (R.sheet rows.old).tree.table.width }
-    requires tree { (kind : Kind) × IsTreeOf (R.sheet rows.old).tree kind }
+    requires over { IsTreeOfWidth (R.sheet rows.old).tree width }
     requires indexes { All (λ index. index ≤ greatest (R.sheet rows.old).tree.table.width) indexes.now }
     requires level { IsLevel (R.sheet rows.old).tree depth kind }
     requires names { words.old ≡ words_on (R.sheet rows.old).tree depth indexes.now }
@@ -89,8 +87,7 @@ fn words_below<R: Rows>(
 /// Puts the words that these indexes hold, in nodes of this width.
 #[inline(always)]
 fn words_by<R: Rows>(rows: &mut R, width: Width, indexes: &[u64], words: &mut [u64])
-    requires width { width ≡ (R.sheet rows.old).tree.table.width }
-    requires tree { (kind : Kind) × IsTreeOf (R.sheet rows.old).tree kind }
+    requires over { IsTreeOfWidth (R.sheet rows.old).tree width }
     requires root { (R.sheet rows.old).tree.root ≢ 0 }
     requires some { 0 < length indexes.now }
     requires indexes { All (λ index. index ≤ greatest (R.sheet rows.old).tree.table.width) indexes.now }

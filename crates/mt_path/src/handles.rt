@@ -5,7 +5,7 @@ ghost use Rattle.mt_base.specs.declared.kinds.Kind.{Kind};
 ghost use Rattle.mt_base.specs.Width.{greatest};
 ghost use Rattle.mt_rows.specs.Publish.{IsTreeOf};
 ghost use Rattle.mt_rows.specs.Sheet.{OnlyReads, ReadsUpTo, loaded};
-ghost use Rattle.mt_path.specs.Handles.{leaf_spans, handle_in, last_step, IsHandleOf, IsStepOfLeaf};
+ghost use Rattle.mt_path.specs.Handles.{leaf_spans, handle_in, last_step, FindsHandle, IsHandleOf, IsStepOfLeaf};
 ghost use Rattle.mt_path.specs.Paths.{path_in, span_at, loads_at, loads_on};
 ghost use Rattle.mt_path.specs.Walks.{EntersLeaf};
 
@@ -31,10 +31,7 @@ fn handle_by<R: Rows>(rows: &mut R, width: Width, how: SlotSearch, index: u64) -
     requires width { width ≡ (R.sheet rows.old).tree.table.width }
     requires tree { (kind : Kind) × IsTreeOf (R.sheet rows.old).tree kind }
     requires index { index ≤ greatest (R.sheet rows.old).tree.table.width }
-    ensures none { IsNone result ↔ ((R.sheet rows.old).tree.root ≡ 0) }
-    ensures some { IfSome result (λ handle. handle ≡ handle_in (R.sheet rows.old).tree index) }
-    ensures rest { OnlyReads (R.sheet rows.old) (R.sheet rows.new) }
-    ensures reads { ReadsUpTo (loads_on (path_in (R.sheet rows.old).tree.table (R.sheet rows.old).tree.root index)) (R.sheet rows.old) (R.sheet rows.new) }
+    ensures { FindsHandle (R.sheet rows.old) (R.sheet rows.new) index result }
 {
     let mut row = root_row(rows)?;
     for _ in 0..DEEPEST {
@@ -56,10 +53,7 @@ fn handle_by<R: Rows>(rows: &mut R, width: Width, how: SlotSearch, index: u64) -
 fn handle_for<R: Rows>(rows: &mut R, index: u64) -> Option<Handle>
     requires tree { (kind : Kind) × IsTreeOf (R.sheet rows.old).tree kind }
     requires index { index ≤ greatest (R.sheet rows.old).tree.table.width }
-    ensures none { IsNone result ↔ ((R.sheet rows.old).tree.root ≡ 0) }
-    ensures some { IfSome result (λ handle. handle ≡ handle_in (R.sheet rows.old).tree index) }
-    ensures rest { OnlyReads (R.sheet rows.old) (R.sheet rows.new) }
-    ensures reads { ReadsUpTo (loads_on (path_in (R.sheet rows.old).tree.table (R.sheet rows.old).tree.root index)) (R.sheet rows.old) (R.sheet rows.new) }
+    ensures { FindsHandle (R.sheet rows.old) (R.sheet rows.new) index result }
 {
     match rows.width() {
         Width::Long => handle_by(rows, Width::Long, SlotSearch::Groups, index),
@@ -72,10 +66,7 @@ fn handle_for<R: Rows>(rows: &mut R, index: u64) -> Option<Handle>
 fn handle_apart<R: Rows>(rows: &mut R, index: u64) -> Option<Handle>
     requires tree { (kind : Kind) × IsTreeOf (R.sheet rows.old).tree kind }
     requires index { index ≤ greatest (R.sheet rows.old).tree.table.width }
-    ensures none { IsNone result ↔ ((R.sheet rows.old).tree.root ≡ 0) }
-    ensures some { IfSome result (λ handle. handle ≡ handle_in (R.sheet rows.old).tree index) }
-    ensures rest { OnlyReads (R.sheet rows.old) (R.sheet rows.new) }
-    ensures reads { ReadsUpTo (loads_on (path_in (R.sheet rows.old).tree.table (R.sheet rows.old).tree.root index)) (R.sheet rows.old) (R.sheet rows.new) }
+    ensures { FindsHandle (R.sheet rows.old) (R.sheet rows.new) index result }
 {
     handle_for(rows, index)
 }
@@ -229,10 +220,7 @@ fn load_word<R: Rows>(rows: &mut R, leaf: PathStep) -> u64
 fn walk_far<R: Rows>(rows: &mut R, index: u64) -> Option<Handle>
     requires tree { (kind : Kind) × IsTreeOf (R.sheet rows.old).tree kind }
     requires index { index ≤ greatest (R.sheet rows.old).tree.table.width }
-    ensures none { IsNone result ↔ ((R.sheet rows.old).tree.root ≡ 0) }
-    ensures some { IfSome result (λ handle. handle ≡ handle_in (R.sheet rows.old).tree index) }
-    ensures rest { OnlyReads (R.sheet rows.old) (R.sheet rows.new) }
-    ensures reads { ReadsUpTo (loads_on (path_in (R.sheet rows.old).tree.table (R.sheet rows.old).tree.root index)) (R.sheet rows.old) (R.sheet rows.new) }
+    ensures { FindsHandle (R.sheet rows.old) (R.sheet rows.new) index result }
 {
     let width = rows.width();
     handle_by(rows, width, SlotSearch::Along, index)
@@ -244,10 +232,7 @@ fn walk_far<R: Rows>(rows: &mut R, index: u64) -> Option<Handle>
 fn handle_far<R: Rows>(rows: &mut R, index: u64) -> Option<Handle>
     requires tree { (kind : Kind) × IsTreeOf (R.sheet rows.old).tree kind }
     requires index { index ≤ greatest (R.sheet rows.old).tree.table.width }
-    ensures none { IsNone result ↔ ((R.sheet rows.old).tree.root ≡ 0) }
-    ensures some { IfSome result (λ handle. handle ≡ handle_in (R.sheet rows.old).tree index) }
-    ensures rest { OnlyReads (R.sheet rows.old) (R.sheet rows.new) }
-    ensures reads { ReadsUpTo (loads_on (path_in (R.sheet rows.old).tree.table (R.sheet rows.old).tree.root index)) (R.sheet rows.old) (R.sheet rows.new) }
+    ensures { FindsHandle (R.sheet rows.old) (R.sheet rows.new) index result }
 {
     let far = walk_far(rows, index)?;
     Some(far)

@@ -1,6 +1,6 @@
 //! From leaf to leaf: a path goes on to the leaf after its own by the next slot of the node above. Nothing is searched.
 
-ghost use Rattle.std.specs.Prelude.{◌≡◌, ◌≢◌, ◌+◌, ◌-◌, ◌*◌, ◌<◌, ◌≤◌, ℕ, length, take};
+ghost use Rattle.std.specs.Prelude.{◌≡◌, ◌≢◌, ◌+◌, ◌-◌, ◌*◌, ◌<◌, ◌≤◌, ℕ, length};
 ghost use Rattle.mt_base.specs.declared.kinds.Kind.{Kind};
 ghost use Rattle.mt_base.specs.Width.{greatest};
 ghost use Rattle.mt_rows.specs.Publish.{IsTreeOf};
@@ -8,12 +8,12 @@ ghost use Rattle.mt_rows.specs.Sheet.{IsPlace, ReadsUpTo};
 ghost use Rattle.mt_path.specs.Handles.{handle_in, last_step};
 ghost use Rattle.mt_path.specs.Middles.{IsLawfulRow};
 ghost use Rattle.mt_path.specs.Paths.{path_in};
-ghost use Rattle.mt_path.specs.Walks.{BeginsAt, IsAtEnd, IsFoundSlot, IsOnWay};
+ghost use Rattle.mt_path.specs.Walks.{BeginsAt, IsAtEnd, IsFoundSlot, WalksTo};
 
 use crate::handles::{Handle, end_of};
 use crate::paths::{Path, pop_to};
 use crate::rows::{Found, Row, child_for, found_in, last_in, load_found};
-use crate::walks::kind_on;
+use crate::walks::row_of_step;
 use mt_base::{DEEPEST, Width};
 use mt_layout::RowKind;
 use mt_rows::Rows;
@@ -45,9 +45,7 @@ fn descend_first<R: Rows>(
 ) -> Found
     requires width { width ≡ (R.sheet rows.old).tree.table.width }
     requires tree { (kind : Kind) × IsTreeOf (R.sheet rows.old).tree kind }
-    requires index { index ≤ greatest (R.sheet rows.old).tree.table.width }
-    requires front { path.old.items ≡ take (length path.old.items) (path_in (R.sheet rows.old).tree.table (R.sheet rows.old).tree.root index) }
-    requires way { IsOnWay (R.sheet rows.old).tree index (length path.old.items) row }
+    requires way { WalksTo (R.sheet rows.old).tree index path.old.items row }
     requires begins { BeginsAt (R.sheet rows.old).tree.table row slot index }
     ensures path { path.new.items ≡ path_in (R.sheet rows.old).tree.table (R.sheet rows.old).tree.root index }
     ensures end { IsAtEnd (R.sheet rows.old).tree index result }
@@ -85,13 +83,7 @@ pub fn leaf_behind<R: Rows>(rows: &mut R, path: &mut Path) -> Handle
     let Some(step) = pop_to(path, index) else {
         unreachable!();
     };
-    let kind = kind_on(rows, path.len() + 1 == levels);
-    let row = Row {
-        number: step.row,
-        kind,
-        min: step.min,
-        max: step.max,
-    };
+    let row = row_of_step(rows, step, path.len() + 1 == levels);
     let slot = step.slot + 1;
     let width = rows.width();
     let found = descend_first(rows, width, row, slot, index, path);

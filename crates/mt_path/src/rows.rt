@@ -7,7 +7,7 @@ ghost use Rattle.mt_layout.specs.Rows.{named_kind};
 ghost use Rattle.mt_layout.specs.Sizes.{slots_of};
 ghost use Rattle.mt_rows.specs.Publish.{IsTreeOf};
 ghost use Rattle.mt_rows.specs.Sheet.{IsPlace, ReadsUpTo, loaded};
-ghost use Rattle.mt_path.specs.Middles.{IsLawfulRow};
+ghost use Rattle.mt_path.specs.Middles.{IsLawfulRow, MaySeek};
 ghost use Rattle.mt_path.specs.Paths.{loads_at, span_at};
 ghost use Rattle.mt_path.specs.Walks.{row_for, spans_of, found_span, IsFoundSlot, IsOnWay};
 
@@ -149,10 +149,7 @@ fn find_along<R: Rows>(rows: &mut R, row: Row, index: u64) -> Found
 /// branch on a pivot, and by no more loads than thirteen.
 #[inline(always)]
 pub(crate) fn find_slot<R: Rows>(rows: &mut R, width: Width, row: Row, index: u64) -> Found
-    requires width { width ≡ (R.sheet rows.old).tree.table.width }
-    requires row { IsPlace (R.sheet rows.old).tree row.number 0 }
-    requires lawful { IsLawfulRow (R.sheet rows.old).tree.table row }
-    requires index { index ≤ row.max }
+    requires { MaySeek (R.sheet rows.old).tree width row index }
     ensures found { IsFoundSlot (R.sheet rows.old).tree.table row index result }
     ensures reads { ReadsUpTo (loads_at result.step) (R.sheet rows.old) (R.sheet rows.new) }
 {
@@ -179,10 +176,7 @@ pub(crate) fn find_by<R: Rows>(
     row: Row,
     index: u64,
 ) -> Found
-    requires width { width ≡ (R.sheet rows.old).tree.table.width }
-    requires row { IsPlace (R.sheet rows.old).tree row.number 0 }
-    requires lawful { IsLawfulRow (R.sheet rows.old).tree.table row }
-    requires index { index ≤ row.max }
+    requires { MaySeek (R.sheet rows.old).tree width row index }
     ensures found { IsFoundSlot (R.sheet rows.old).tree.table row index result }
     ensures reads { ReadsUpTo (loads_at result.step) (R.sheet rows.old) (R.sheet rows.new) }
 {

@@ -6,7 +6,7 @@ ghost use Rattle.mt_base.specs.declared.widths.Width.TheVariants.{Long};
 ghost use Rattle.mt_layout.specs.Sizes.{slots_of};
 ghost use Rattle.mt_layout.specs.declared.names.RowKind.{RowKind};
 ghost use Rattle.mt_rows.specs.Sheet.{IsPlace, ReadsUpTo, loaded};
-ghost use Rattle.mt_path.specs.Middles.{IsLawfulRow, IsSlotFor};
+ghost use Rattle.mt_path.specs.Middles.{IsLawfulRow, IsSlotFor, MaySeek};
 ghost use Rattle.mt_path.specs.Paths.{slot_for};
 ghost use Rattle.mt_path.specs.Walks.{spans_of};
 
@@ -215,10 +215,7 @@ fn touch_lines<R: Rows>(rows: &mut R, width: Width, row: Row) -> bool
 /// The slot of a node that holds an index. Its slots are touched first.
 #[inline(always)]
 pub(crate) fn seek<R: Rows>(rows: &mut R, width: Width, row: Row, index: u64) -> u32
-    requires width { width ≡ (R.sheet rows.old).tree.table.width }
-    requires row { IsPlace (R.sheet rows.old).tree row.number 0 }
-    requires lawful { IsLawfulRow (R.sheet rows.old).tree.table row }
-    requires index { index ≤ row.max }
+    requires { MaySeek (R.sheet rows.old).tree width row index }
     ensures slot { result ≡ slot_for (spans_of (R.sheet rows.old).tree.table row) index }
     ensures reads { ReadsUpTo 11 (R.sheet rows.old) (R.sheet rows.new) }
 {

@@ -1,6 +1,6 @@
 //! Walks down to the leaf of an index: from the root, or from a node of the path to another index.
 
-ghost use Rattle.std.specs.Prelude.{◌≡◌, ◌+◌, ◌-◌, ◌<◌, ◌≤◌, ◌↔◌, ℕ, Some, IsSome, true, false, [], length, take};
+ghost use Rattle.std.specs.Prelude.{◌≡◌, ◌+◌, ◌-◌, ◌<◌, ◌≤◌, ◌↔◌, ℕ, Some, IsSome, true, false, []};
 ghost use Rattle.mt_base.specs.declared.kinds.Kind.{Kind};
 ghost use Rattle.mt_base.specs.Width.{greatest};
 ghost use Rattle.mt_layout.specs.declared.names.RowKind.{RowKind};
@@ -9,9 +9,9 @@ ghost use Rattle.mt_rows.specs.Trees.{map_in};
 ghost use Rattle.mt_rows.specs.Sheet.{ReadsUpTo};
 ghost use Rattle.mt_rows.specs.Publish.{IsTreeOf};
 ghost use Rattle.mt_path.specs.Paths.{path_in, loads_in, loads_on, ReadsBelow};
-ghost use Rattle.mt_path.specs.Walks.{IsOnWay, IsAtEnd};
+ghost use Rattle.mt_path.specs.Walks.{IsAtEnd, WalksTo, row_at};
 
-use crate::paths::{Path, pop_to};
+use crate::paths::{Path, PathStep, pop_to};
 use crate::rows::{Found, Row, child_for, find_slot, load_found, root_row};
 use mt_base::{DEEPEST, Width};
 use mt_layout::{RowKind, kind_of};
@@ -22,9 +22,7 @@ use mt_rows::Rows;
 fn descend_by<R: Rows>(rows: &mut R, width: Width, row: Row, index: u64, path: &mut Path) -> Found
     requires width { width ≡ (R.sheet rows.old).tree.table.width }
     requires tree { (kind : Kind) × IsTreeOf (R.sheet rows.old).tree kind }
-    requires index { index ≤ greatest (R.sheet rows.old).tree.table.width }
-    requires front { path.old.items ≡ take (length path.old.items) (path_in (R.sheet rows.old).tree.table (R.sheet rows.old).tree.root index) }
-    requires way { IsOnWay (R.sheet rows.old).tree index (length path.old.items) row }
+    requires way { WalksTo (R.sheet rows.old).tree index path.old.items row }
     ensures path { path.new.items ≡ path_in (R.sheet rows.old).tree.table (R.sheet rows.old).tree.root index }
     ensures end { IsAtEnd (R.sheet rows.old).tree index result }
     ensures reads { ReadsUpTo (loads_in path.new.items - loads_in path.old.items - 1) (R.sheet rows.old) (R.sheet rows.new) }
@@ -45,9 +43,7 @@ fn descend_by<R: Rows>(rows: &mut R, width: Width, row: Row, index: u64, path: &
 /// whose slot is not loaded. The width is looked at once, and not in each node.
 pub(crate) fn descend<R: Rows>(rows: &mut R, row: Row, index: u64, path: &mut Path) -> Found
     requires tree { (kind : Kind) × IsTreeOf (R.sheet rows.old).tree kind }
-    requires index { index ≤ greatest (R.sheet rows.old).tree.table.width }
-    requires front { path.old.items ≡ take (length path.old.items) (path_in (R.sheet rows.old).tree.table (R.sheet rows.old).tree.root index) }
-    requires way { IsOnWay (R.sheet rows.old).tree index (length path.old.items) row }
+    requires way { WalksTo (R.sheet rows.old).tree index path.old.items row }
     ensures path { path.new.items ≡ path_in (R.sheet rows.old).tree.table (R.sheet rows.old).tree.root index }
     ensures end { IsAtEnd (R.sheet rows.old).tree index result }
     ensures reads { ReadsUpTo (loads_in path.new.items - loads_in path.old.items - 1) (R.sheet rows.old) (R.sheet rows.new) }
@@ -74,7 +70,7 @@ pub fn walk<R: Rows>(rows: &mut R, index: u64) -> Path
 }
 
 /// The kind of a node of a path. Its last is a leaf. All others of a tree are of one kind, which the root's name gives.
-pub(crate) fn kind_on<R: Rows>(rows: &mut R, is_last: bool) -> RowKind
+fn kind_on<R: Rows>(rows: &mut R, is_last: bool) -> RowKind
     requires { is_last ≡ false → IsSome (named_kind (R.sheet rows.old).tree.root) }
     ensures leaf { is_last ≡ true → result ≡ RowKind.Leaf }
     ensures inner { is_last ≡ false → Some result ≡ named_kind (R.sheet rows.old).tree.root }
@@ -86,6 +82,23 @@ pub(crate) fn kind_on<R: Rows>(rows: &mut R, is_last: bool) -> RowKind
     match kind_of(rows.root()) {
         Some(kind) => kind,
         None => unreachable!(),
+    }
+}
+
+/// The node that a step of a path is in.
+pub(crate) fn row_of_step<R: Rows>(rows: &mut R, step: PathStep, is_last: bool) -> Row
+    requires { is_last ≡ false → IsSome (named_kind (R.sheet rows.old).tree.root) }
+    ensures row { result ≡ row_at step.row result.kind step.min step.max }
+    ensures leaf { is_last ≡ true → result.kind ≡ RowKind.Leaf }
+    ensures inner { is_last ≡ false → Some result.kind ≡ named_kind (R.sheet rows.old).tree.root }
+    ensures reads { ReadsUpTo 1 (R.sheet rows.old) (R.sheet rows.new) }
+{
+    let kind = kind_on(rows, is_last);
+    Row {
+        number: step.row,
+        kind,
+        min: step.min,
+        max: step.max,
     }
 }
 
@@ -103,12 +116,6 @@ pub fn walk_on<R: Rows>(rows: &mut R, path: &mut Path, index: u64)
     let Some(step) = pop_to(path, index) else {
         return;
     };
-    let kind = kind_on(rows, path.len() + 1 == levels);
-    let row = Row {
-        number: step.row,
-        kind,
-        min: step.min,
-        max: step.max,
-    };
+    let row = row_of_step(rows, step, path.len() + 1 == levels);
     descend(rows, row, index, path);
 }

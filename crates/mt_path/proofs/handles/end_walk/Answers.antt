@@ -3,11 +3,12 @@ use Rattle.mt_path.proofs.Loads.{leaf_reads}
 use Rattle.mt_path.proofs.Ways as ways
 use Rattle.mt_path.proofs.handles.end_walk.Goals as goal
 
-pub descend-found-requires-clause-front : goal.descend-found-requires-clause-front
-descend-found-requires-clause-front g c = c.requires.way.front
-
 pub descend-found-requires-clause-way : goal.descend-found-requires-clause-way
-descend-found-requires-clause-way g c = record { low = c.requires.way.low; named = c.child_for.ensures ∙ ap row_for (sym c.requires.way.enters) }
+descend-found-requires-clause-way g c = record {
+  within = c.requires.index;
+  front = c.requires.way.front;
+  way = record { low = c.requires.way.low; named = c.child_for.ensures ∙ ap row_for (sym c.requires.way.enters) };
+}
 
 -- the leaf is the one node that is entered
 pub returns-clause-reads : goal.returns-clause-reads

@@ -8,7 +8,7 @@ pub first_in-first-requires-clause-slot : goal.first_in-first-requires-clause-sl
 first_in-first-requires-clause-slot g c =
     let s = g.R.Rows.sheet c.args.rows.now in
     let s₁ = g.R.Rows.sheet c.seek-slot.new.rows in
-    let used = here_used s.tree.table c.args.row (sought s.tree.table c.args.row c.requires.lawful) c.args.index c.requires.index in
+    let used = here_used s.tree.table c.args.row (sought s.tree.table c.args.row c.requires.lawful) c.args.index c.requires.reaches in
     let slot = c.seek-slot.ensures.slot in
     subst (λ (t : Rooted). c.seek-slot.result < length (spans_of t.table c.args.row)) (sym (tree_kept 11 s s₁ c.seek-slot.ensures.reads)) (omega arith)
 
@@ -17,14 +17,14 @@ last_in-last-requires-clause-width g c =
     let s = g.R.Rows.sheet c.args.rows.now in
     let s₁ = g.R.Rows.sheet c.seek-slot.new.rows in
     let s₂ = g.R.Rows.sheet c.first_in-first.new.rows in
-    width_kept 12 s s₂ c.args.width (reads_more 11 1 s s₁ s₂ c.seek-slot.ensures.reads c.first_in-first.ensures.reads) c.requires.width
+    width_kept 12 s s₂ c.args.width (reads_more 11 1 s s₁ s₂ c.seek-slot.ensures.reads c.first_in-first.ensures.reads) c.requires.wide
 
 pub last_in-last-requires-clause-slot : goal.last_in-last-requires-clause-slot
 last_in-last-requires-clause-slot g c =
     let s = g.R.Rows.sheet c.args.rows.now in
     let s₁ = g.R.Rows.sheet c.seek-slot.new.rows in
     let s₂ = g.R.Rows.sheet c.first_in-first.new.rows in
-    let used = here_used s.tree.table c.args.row (sought s.tree.table c.args.row c.requires.lawful) c.args.index c.requires.index in
+    let used = here_used s.tree.table c.args.row (sought s.tree.table c.args.row c.requires.lawful) c.args.index c.requires.reaches in
     let slot = c.seek-slot.ensures.slot in
     subst (λ (t : Rooted). c.seek-slot.result < length (spans_of t.table c.args.row)) (sym (tree_kept 12 s s₂ (reads_more 11 1 s s₁ s₂ c.seek-slot.ensures.reads c.first_in-first.ensures.reads))) (omega arith)
 
@@ -36,7 +36,7 @@ returns-clause-found g c =
     let k₁ = tree_kept 11 s s₁ c.seek-slot.ensures.reads in
     let k₂ = tree_kept 12 s s₂ (reads_more 11 1 s s₁ s₂ c.seek-slot.ensures.reads c.first_in-first.ensures.reads) in
     let slot = c.seek-slot.result in
-    found_here s.tree.table c.args.row (sought s.tree.table c.args.row c.requires.lawful) c.args.index c.requires.index slot c.first_in-first.result c.last_in-last.result c.found_in.result c.seek-slot.ensures.slot
+    found_here s.tree.table c.args.row (sought s.tree.table c.args.row c.requires.lawful) c.args.index c.requires.reaches slot c.first_in-first.result c.last_in-last.result c.found_in.result c.seek-slot.ensures.slot
     (c.first_in-first.ensures.first ∙ ap (λ (t : Rooted). (span_at (spans_of t.table c.args.row) slot).first) k₁)
     (c.last_in-last.ensures.last ∙ ap (λ (t : Rooted). (span_at (spans_of t.table c.args.row) slot).last) k₂)
     c.found_in.ensures

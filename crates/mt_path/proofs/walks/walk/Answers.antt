@@ -1,7 +1,13 @@
-use Rattle.mt_path.proofs.Prelude.{refl, sym, ap, ◌∙◌, Sheet, path_in}
+use Rattle.mt_path.proofs.Prelude.{refl, sym, ap, ◌∙◌, subst, List, PathStep, Sheet, path_in, WalksTo}
 use Rattle.mt_path.proofs.Empty.{empty_together}
 use Rattle.mt_path.proofs.Ways.{empty_path}
 use Rattle.mt_path.proofs.walks.walk.Goals as goal
+
+-- the walk begins at the root
+pub descend-requires-clause-way : goal.descend-requires-clause-way
+descend-requires-clause-way g c =
+    subst (λ (x : Sheet × List PathStep). WalksTo x.0.tree c.args.index x.1 c.in-Some.row) (λ i. (sym c.root_row.ensures.rest i, sym c.new-path.ensures i))
+    (record { within = c.requires.index; front = refl; way = c.in-Some.ensures.some c.args.index c.requires.index })
 
 pub returns-in-Some-clause-empty : goal.returns-in-Some-clause-empty
 returns-in-Some-clause-empty g c =
