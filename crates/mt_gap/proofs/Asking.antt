@@ -29,6 +29,10 @@ pub room_some : (b : Bool) (x y : Child) → Some y ≡ (if b then Some x else N
 room_some true x y is = (refl, cc)
 room_some false x y is = absurd (cc)
 
+pub room_none : (b : Bool) (x : Child) → None ≡ (if b then Some x else None) → b ≡ false
+room_none true x is = absurd (cc)
+room_none false x is = refl
+
 -- a child that may have room is asked
 pub one_asked : (n lo hi : ℕ) (asked after : List Child) (x : Child) → may_have n lo hi x ≡ true → after ≡ asked ++ (x ∷ []) → (after ≡ asked ++ narrow n lo hi (x ∷ [])) × (inside lo hi x ≡ has_sure n lo hi (x ∷ []))
 one_asked n lo hi asked after x may is = elim (cases_Bool (inside lo hi x)) [ inl in_it ↦ rw (may, in_it) (is, refl) | inr over ↦ rw (may, over) (is, refl) ]

@@ -1,6 +1,5 @@
 -- How far the rows of a path are dealt with: one row further up, and after one gap word more is stored.
-use Rattle.mt_gap.proofs.Prelude.{◌≡◌, ℕ, zero, suc, ◌+◌, ◌<◌, ◌≤◌, List, [], ◌∷◌, Option, true, length, refl, sym, ap, ◌∙◌, subst, arith, append-nil, slice_set, AllByRecursion, Width, deepest, greatest, RowKind, Gapped, Span, gap_column, row_in, slots_of, PathStep, step_in, slot_for, span_at, path_in, path_of, below, Leads, path_of_leaf, path_of_inner, row_here, child_at, child_leads, top_row, root_leads, Tree, Stands, kind_on, top_of, expand, Levels, SameSpans, tree_on, root_of, Rooted, Sheet, IsWhole, with_word, Table, base_of, root_span, spans_in, all_spans_stay, still_stands, inner_no_leaf, Shared, expand_shared, levels_front, levels_back, OnLevel, OnlyWords}
-use Rattle.mt_gap.specs.Mended.{IsAtLevel}
+use Rattle.mt_gap.proofs.Prelude.{◌≡◌, ℕ, zero, suc, ◌+◌, ◌<◌, ◌≤◌, List, [], ◌∷◌, Option, true, length, refl, sym, ap, ◌∙◌, subst, arith, append-nil, slice_set, AllByRecursion, Width, deepest, greatest, RowKind, Gapped, Span, gap_column, row_in, slots_of, PathStep, step_in, slot_for, span_at, path_in, path_of, below, Leads, path_of_leaf, path_of_inner, row_here, child_at, child_leads, top_row, root_leads, Tree, Stands, kind_on, top_of, expand, Levels, SameSpans, tree_on, root_of, Rooted, Sheet, IsWhole, with_word, Table, base_of, root_span, spans_in, all_spans_stay, still_stands, inner_no_leaf, Shared, expand_shared, levels_front, levels_back, OnLevel, OnlyWords, IsAtLevel}
 
 -- ---- paths by two tables that share their spans
 

@@ -1,9 +1,10 @@
 -- A search from level to level: what it asks keeps the answer, and at most two rows of a level are asked.
-use Rattle.mt_gap.proofs.Prelude.{◌≡◌, ◌≢◌, ℕ, zero, suc, ◌+◌, ◌-◌, ◌*◌, ◌<◌, ◌≤◌, Bool, true, All, List, [], ◌∷◌, Option, length, take, refl, sym, ap, ◌∙◌, subst, inl, inr, arith, AllByRecursion, flat_map, cases_Bool, All-nil, All-cons, Hole, low_to, high_to, lowest_in, highest_in, holes_to, holes_from, columns, deepest, greatest, Span, Names-named_kind, some_columns, Table, root_span, map_of, Levels, Tree, IsRow, IsTended, IsLawful, Stands, tree_on, map_by, Rooted, Sheet, ReadsUpTo, loaded, map_in, height_in, ranges_by_depth, height_by_depth, inner_not_named, levels_join, levels_front, levels_back, levels_here, levels_none, rows_filled, tree_kept, no_reads, one_read, reads_more, reads_up, Child, Window, leaf_hole, child_hole, children_below, root_child, IsGapped, MayLoad, picked, place_in, LoadedUpTo, Visited, Arrives, AreLeaves, may_have, inside, narrow, narrow_up}
+use Rattle.mt_gap.proofs.Prelude.{◌≡◌, ◌≢◌, ℕ, zero, suc, ◌+◌, ◌-◌, ◌*◌, ◌<◌, ◌≤◌, Bool, true, All, List, [], ◌∷◌, Option, length, take, refl, sym, ap, ◌∙◌, subst, inl, inr, arith, AllByRecursion, flat_map, cases_Bool, All-nil, All-cons, Hole, low_to, high_to, lowest_in, highest_in, holes_to, holes_from, columns, deepest, greatest, Span, Names-named_kind, some_columns, Table, root_span, map_of, Levels, Tree, IsRow, IsTended, IsLawful, Stands, tree_on, map_by, Rooted, Sheet, ReadsUpTo, loaded, map_in, height_in, ranges_by_depth, height_by_depth, inner_not_named, levels_join, levels_front, levels_back, levels_here, levels_none, rows_filled, tree_kept, no_reads, one_read, reads_more, reads_up, Child, Window, leaf_hole, child_hole, children_below, root_child, IsGapped, MayLoad, picked, place_in, LoadedUpTo, Visited, Arrives, AreLeaves, may_have, inside, narrow, narrow_up, Side, HasRoomFor, asked_for, pick_for}
 use Rattle.mt_gap.proofs.HolesBelow.{holes_below, holes_are, one_hole}
 use Rattle.mt_gap.proofs.ChildLists.{spans, spans_below, gaps_below, holes_of_children}
 use Rattle.mt_gap.proofs.Narrowed.{Rising, narrow_keeps, narrow_two, rising_narrow, rising_expand}
 use Rattle.mt_gap.proofs.NarrowedUp.{levels_up, rising_up, up_two, up_keeps}
+use Rattle.mt_gap.specs.declared.ways.Side.TheVariants as sides
 
 -- The rows that are asked so many levels below the root, and the answer that is found below them.
 pub record Asks (t : Tree) (pick : List Hole → Option ℕ) (w : Window) (answer : Option ℕ) (level : ℕ) (asked : List Child) : Type 0 where
@@ -86,7 +87,7 @@ module _ (t : Tree) (w : Window) (gapped : t.gapped ≡ true) (some : 1 ≤ w.si
           found = subst (λ (h : ℕ). picked pick w (holes_below t.table h (spans xs)) ≡ answer) is.1 asks.found;
         }
 
-    pub low_next : Asks t lowest_in w answer level xs → (AreLeaves xs → ⊥) → Asks t lowest_in w answer (level + 1) (narrow w.size w.lo w.hi children)
+    low_next : Asks t lowest_in w answer level xs → (AreLeaves xs → ⊥) → Asks t lowest_in w answer (level + 1) (narrow w.size w.lo w.hi children)
     low_next asks not =
         let is = inner lowest_in asks not in
         let height = is.height in let low = is.low in
@@ -101,7 +102,7 @@ module _ (t : Tree) (w : Window) (gapped : t.gapped ≡ true) (some : 1 ≤ w.si
           found = low_there is.k is.rows is.tended asks.rising ∙ is.found;
         }
 
-    pub high_next : Asks t (highest_in w.size) w answer level xs → (AreLeaves xs → ⊥) → Asks t (highest_in w.size) w answer (level + 1) (narrow_up w.size w.lo w.hi [] children)
+    high_next : Asks t (highest_in w.size) w answer level xs → (AreLeaves xs → ⊥) → Asks t (highest_in w.size) w answer (level + 1) (narrow_up w.size w.lo w.hi [] children)
     high_next asks not =
         let is = inner (highest_in w.size) asks not in
         let height = is.height in let low = is.low in
@@ -116,12 +117,12 @@ module _ (t : Tree) (w : Window) (gapped : t.gapped ≡ true) (some : 1 ≤ w.si
           found = high_there is.k is.rows is.tended asks.rising ∙ is.found;
         }
 
-    pub low_few : (pick : List Hole → Option ℕ) → Asks t pick w answer level xs → (AreLeaves xs → ⊥) → length (narrow w.size w.lo w.hi children) ≤ 3
+    low_few : (pick : List Hole → Option ℕ) → Asks t pick w answer level xs → (AreLeaves xs → ⊥) → length (narrow w.size w.lo w.hi children) ≤ 3
     low_few pick asks not =
         let is = inner pick asks not in
         let few = narrow_two w.size w.lo w.hi 0 children (rising_there is.k is.rows is.tended asks.rising) in omega arith
 
-    pub high_few : (pick : List Hole → Option ℕ) → Asks t pick w answer level xs → (AreLeaves xs → ⊥) → (k : ℕ) → length (narrow_up w.size w.lo w.hi [] (take k children)) ≤ 3
+    high_few : (pick : List Hole → Option ℕ) → Asks t pick w answer level xs → (AreLeaves xs → ⊥) → (k : ℕ) → length (narrow_up w.size w.lo w.hi [] (take k children)) ≤ 3
     high_few pick asks not k =
         let is = inner pick asks not in
         let few = up_two w.size w.lo w.hi 0 (take k children) (rising_take 0 children k (rising_there is.k is.rows is.tended asks.rising)) in omega arith
@@ -131,6 +132,15 @@ module _ (t : Tree) (w : Window) (gapped : t.gapped ≡ true) (some : 1 ≤ w.si
         rising_take a [] (suc k) rising = tt
         rising_take a (y ∷ ys) zero rising = tt
         rising_take a (y ∷ ys) (suc k) rising = (rising.0, rising.1, rising_take (y.span.last + 1) ys k rising.2)
+
+-- for the lowest place and for the highest
+pub next_for : (side : Side) (t : Tree) (w : Window) → t.gapped ≡ true → 1 ≤ w.size → (xs : List Child) (answer : Option ℕ) (level : ℕ) → Asks t (pick_for side w) w answer level xs → (AreLeaves xs → ⊥) → Asks t (pick_for side w) w answer (level + 1) (asked_for side w (children_below t.table xs))
+next_for sides.Low t w gapped some xs answer level asks not = low_next t w gapped some xs answer level asks not
+next_for sides.High t w gapped some xs answer level asks not = high_next t w gapped some xs answer level asks not
+
+few_for : (side : Side) (t : Tree) (w : Window) → t.gapped ≡ true → 1 ≤ w.size → (xs : List Child) (answer : Option ℕ) (level : ℕ) → Asks t (pick_for side w) w answer level xs → (AreLeaves xs → ⊥) → HasRoomFor side w [] (children_below t.table xs)
+few_for sides.Low t w gapped some xs answer level asks not = let few = low_few t w gapped some xs answer level lowest_in asks not in omega arith
+few_for sides.High t w gapped some xs answer level asks not = high_few t w gapped some xs answer level (highest_in w.size) asks not
 
 -- ---- at the root
 
@@ -220,33 +230,19 @@ module _ (s s' : Sheet) (pick : List Hole → Option ℕ) (w : Window) (answer :
       sums : (a b c : ℕ) → a * b + a * c ≤ a * (b + c)
       sums a b c = grind arith
 
-pub low_come : (s s' s'' : Sheet) (w : Window) (answer : Option ℕ) (old new newer level : ℕ) (asked next : List Child) → 1 ≤ w.size → HasCome s s' lowest_in w answer old new level asked → (AreLeaves asked → ⊥)
-    → next ≡ narrow w.size w.lo w.hi (children_below s'.tree.table asked) → LoadedUpTo (length asked) s' s'' new newer
-    → HasCome s s'' lowest_in w answer old newer (level + 1) next
-low_come s s' s'' w answer old new newer level asked next some come not is more =
-    let there = is ∙ ap (λ (t : Rooted). narrow w.size w.lo w.hi (children_below t.table asked)) (same_there s s' lowest_in w answer old new level asked come) in
-    let asks = subst (Asks (tree_on true s.tree) lowest_in w answer (level + 1)) (sym there) (low_next (tree_on true s.tree) w refl some asked answer level come.asks not) in
-    record { asks = asks; visited = visited_next s s' lowest_in w answer old new level asked come s'' newer next more asks.few }
+pub level_come : (side : Side) (s s' s'' : Sheet) (w : Window) (answer : Option ℕ) (old new newer level : ℕ) (asked next : List Child) → 1 ≤ w.size → HasCome s s' (pick_for side w) w answer old new level asked → (AreLeaves asked → ⊥)
+    → next ≡ asked_for side w (children_below s'.tree.table asked) → LoadedUpTo (length asked) s' s'' new newer
+    → HasCome s s'' (pick_for side w) w answer old newer (level + 1) next
+level_come side s s' s'' w answer old new newer level asked next some come not is more =
+    let there = is ∙ ap (λ (t : Rooted). asked_for side w (children_below t.table asked)) (same_there s s' (pick_for side w) w answer old new level asked come) in
+    let asks = subst (Asks (tree_on true s.tree) (pick_for side w) w answer (level + 1)) (sym there) (next_for side (tree_on true s.tree) w refl some asked answer level come.asks not) in
+    record { asks = asks; visited = visited_next s s' (pick_for side w) w answer old new level asked come s'' newer next more asks.few }
 
-pub high_come : (s s' s'' : Sheet) (w : Window) (answer : Option ℕ) (old new newer level : ℕ) (asked next : List Child) → 1 ≤ w.size → HasCome s s' (highest_in w.size) w answer old new level asked → (AreLeaves asked → ⊥)
-    → next ≡ narrow_up w.size w.lo w.hi [] (children_below s'.tree.table asked) → LoadedUpTo (length asked) s' s'' new newer
-    → HasCome s s'' (highest_in w.size) w answer old newer (level + 1) next
-high_come s s' s'' w answer old new newer level asked next some come not is more =
-    let there = is ∙ ap (λ (t : Rooted). narrow_up w.size w.lo w.hi [] (children_below t.table asked)) (same_there s s' (highest_in w.size) w answer old new level asked come) in
-    let asks = subst (Asks (tree_on true s.tree) (highest_in w.size) w answer (level + 1)) (sym there) (high_next (tree_on true s.tree) w refl some asked answer level come.asks not) in
-    record { asks = asks; visited = visited_next s s' (highest_in w.size) w answer old new level asked come s'' newer next more asks.few }
-
-pub come_low_few : (s s' : Sheet) (w : Window) (answer : Option ℕ) (old new level : ℕ) (asked : List Child) → 1 ≤ w.size → HasCome s s' lowest_in w answer old new level asked → (AreLeaves asked → ⊥)
-    → length (narrow w.size w.lo w.hi (children_below s'.tree.table asked)) ≤ 3
-come_low_few s s' w answer old new level asked some come not =
-    subst (λ (t : Rooted). length (narrow w.size w.lo w.hi (children_below t.table asked)) ≤ 3) (sym (same_there s s' lowest_in w answer old new level asked come))
-    (low_few (tree_on true s.tree) w refl some asked answer level lowest_in come.asks not)
-
-pub come_high_few : (s s' : Sheet) (w : Window) (answer : Option ℕ) (old new level : ℕ) (asked : List Child) → 1 ≤ w.size → HasCome s s' (highest_in w.size) w answer old new level asked → (AreLeaves asked → ⊥)
-    → (k : ℕ) → length (narrow_up w.size w.lo w.hi [] (take k (children_below s'.tree.table asked))) ≤ 3
-come_high_few s s' w answer old new level asked some come not k =
-    subst (λ (t : Rooted). length (narrow_up w.size w.lo w.hi [] (take k (children_below t.table asked))) ≤ 3) (sym (same_there s s' (highest_in w.size) w answer old new level asked come))
-    (high_few (tree_on true s.tree) w refl some asked answer level (highest_in w.size) come.asks not k)
+pub level_few : (side : Side) (s s' : Sheet) (w : Window) (answer : Option ℕ) (old new level : ℕ) (asked : List Child) → 1 ≤ w.size → HasCome s s' (pick_for side w) w answer old new level asked → (AreLeaves asked → ⊥)
+    → HasRoomFor side w [] (children_below s'.tree.table asked)
+level_few side s s' w answer old new level asked some come not =
+    subst (λ (t : Rooted). HasRoomFor side w [] (children_below t.table asked)) (sym (same_there s s' (pick_for side w) w answer old new level asked come))
+    (few_for side (tree_on true s.tree) w refl some asked answer level come.asks not)
 
 pub come_root : (s : Sheet) (w : Window) (pick : List Hole → Option ℕ) (steps : ℕ) (asked : List Child) → IsGapped s.tree → s.tree.root ≢ 0 → asked ≡ root_child s.tree.table s.tree.root ∷ []
     → HasCome s s pick w (place_in pick w s.tree) steps steps 0 asked

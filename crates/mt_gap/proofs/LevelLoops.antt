@@ -1,9 +1,10 @@
 -- One level lower, row by row.
-use Rattle.mt_gap.proofs.Prelude.{◌≡◌, ℕ, zero, suc, ◌+◌, ◌-◌, ◌*◌, ◌<◌, ◌≤◌, List, [], ◌∷◌, ◌++◌, true, false, Option, Some, None, length, drop, take, refl, sym, ap, ◌∙◌, subst, inl, inr, arith, append_assoc, append-nil, length-append, slice_index_or, flat_map, option_or, is_some, cases_Bool, take-append-drop, flat_map-append, Hole, kept, lowest_in, highest_in, columns, one_row_more, Table, Rooted, Sheet, ReadsUpTo, tree_kept, no_reads, reads_more, reads_up, Child, Window, child_hole, children_in, children_below, LoadedUpTo, picked, narrow, narrow_up, has_sure}
+use Rattle.mt_gap.proofs.Prelude.{◌≡◌, ℕ, zero, suc, ◌+◌, ◌-◌, ◌*◌, ◌<◌, ◌≤◌, List, [], ◌∷◌, ◌++◌, true, false, Option, Some, None, length, drop, take, refl, sym, ap, ◌∙◌, subst, inl, inr, arith, append_assoc, append-nil, length-append, slice_index_or, flat_map, option_or, is_some, cases_Bool, take-append-drop, flat_map-append, Hole, kept, lowest_in, highest_in, columns, one_row_more, Table, Rooted, Sheet, ReadsUpTo, tree_kept, no_reads, reads_more, reads_up, Child, Window, child_hole, children_in, children_below, LoadedUpTo, picked, narrow, narrow_up, has_sure, Side, HasRoomFor, asked_for, asked_from, ends_where}
 use Rattle.mt_gap.proofs.Kept.{kept-append}
 use Rattle.mt_gap.proofs.NarrowedUp.{highest_back, highest_more}
 use Rattle.mt_gap.proofs.RowLoops.{drop_at, narrow_stops, narrow_goes_on}
 use Rattle.mt_gap.proofs.Asking.{up-append}
+use Rattle.mt_gap.specs.declared.ways.Side.TheVariants as sides
 
 pub loaded_none : (s : Sheet) (steps : ℕ) → LoadedUpTo 0 s s steps steps
 loaded_none s steps = record { count = 0; few = omega arith; steps = omega arith; reads = reads_up 0 (columns s.tree.table.width * 0) s s (omega arith) (no_reads s) }
@@ -34,7 +35,7 @@ narrow_front n lo hi xs ys = elim (cases_Bool (has_sure n lo hi xs)) [
 ]
 
 -- what is asked below the rows before row i, and what is to be asked below the others
-abbrev pub AskedLower : Table → ℕ → ℕ → ℕ → List Child → ℕ → List Child → Type 0
+abbrev AskedLower : Table → ℕ → ℕ → ℕ → List Child → ℕ → List Child → Type 0
 AskedLower t n lo hi asked i next = next ++ narrow n lo hi (children_below t (drop i asked)) ≡ narrow n lo hi (children_below t asked)
 
 module _ (t : Table) (n lo hi : ℕ) (asked : List Child) (i : ℕ) (d : Child) (next : List Child) (items : AskedLower t n lo hi asked i next) (within : i < length asked) where
@@ -47,16 +48,16 @@ module _ (t : Table) (n lo hi : ℕ) (asked : List Child) (i : ℕ) (d : Child) 
   whole : next ++ narrow n lo hi (here ++ behind) ≡ narrow n lo hi (children_below t asked)
   whole = ap (λ (l : List Child). next ++ narrow n lo hi l) (sym (ap (children_below t) (drop_at asked i d within))) ∙ items
 
-  pub lower_room : length (narrow n lo hi (children_below t asked)) ≤ 3 → length next + length (narrow n lo hi here) ≤ 3
+  lower_room : length (narrow n lo hi (children_below t asked)) ≤ 3 → length next + length (narrow n lo hi here) ≤ 3
   lower_room few =
       let front = narrow_front n lo hi here behind in
       let all = sym (length-append next (narrow n lo hi (here ++ behind))) ∙ ap length whole in
       omega arith
 
-  pub lower_stops : (after : List Child) → after ≡ next ++ narrow n lo hi here → has_sure n lo hi here ≡ true → after ≡ narrow n lo hi (children_below t asked)
+  lower_stops : (after : List Child) → after ≡ next ++ narrow n lo hi here → has_sure n lo hi here ≡ true → after ≡ narrow n lo hi (children_below t asked)
   lower_stops after is sure = is ∙ (ap (λ (l : List Child). next ++ l) (sym (narrow_stops n lo hi here behind sure)) ∙ whole)
 
-  pub lower_on : (after : List Child) → after ≡ next ++ narrow n lo hi here → has_sure n lo hi here ≡ false → AskedLower t n lo hi asked (i + 1) after
+  lower_on : (after : List Child) → after ≡ next ++ narrow n lo hi here → has_sure n lo hi here ≡ false → AskedLower t n lo hi asked (i + 1) after
   lower_on after is none =
       let at : suc i ≡ i + 1 = omega arith in
       subst (λ (k : ℕ). AskedLower t n lo hi asked k after) at
@@ -64,7 +65,7 @@ module _ (t : Table) (n lo hi : ℕ) (asked : List Child) (i : ℕ) (d : Child) 
       ∙ (append_assoc next (narrow n lo hi here) (narrow n lo hi behind)
       ∙ (ap (λ (l : List Child). next ++ l) (sym (narrow_goes_on n lo hi here behind none)) ∙ whole)))
 
-pub lower_all : (t : Table) (n lo hi : ℕ) (asked : List Child) (i : ℕ) (next : List Child) → AskedLower t n lo hi asked i next → length asked ≤ i → next ≡ narrow n lo hi (children_below t asked)
+lower_all : (t : Table) (n lo hi : ℕ) (asked : List Child) (i : ℕ) (next : List Child) → AskedLower t n lo hi asked i next → length asked ≤ i → next ≡ narrow n lo hi (children_below t asked)
 lower_all t n lo hi asked i next items all = sym (append-nil next) ∙ (ap (λ (l : List Child). next ++ narrow n lo hi (children_below t l)) (sym (drop_all asked i all)) ∙ items)
   where
     drop_all : (xs : List Child) (i : ℕ) → length xs ≤ i → drop i xs ≡ []
@@ -97,7 +98,7 @@ shorter (y ∷ ys) zs zero = (0, refl)
 shorter (y ∷ ys) zs (suc k) = let rest = shorter ys zs k in (suc rest.0, ap (λ (l : List Child). y ∷ l) rest.1)
 
 -- what is asked below the rows before row i
-abbrev pub AskedHigher : Table → ℕ → ℕ → ℕ → List Child → ℕ → List Child → Type 0
+abbrev AskedHigher : Table → ℕ → ℕ → ℕ → List Child → ℕ → List Child → Type 0
 AskedHigher t n lo hi asked i next = next ≡ narrow_up n lo hi [] (children_below t (take i asked))
 
 module _ (t : Table) (n lo hi : ℕ) (asked : List Child) (i : ℕ) (d : Child) (next : List Child) (items : AskedHigher t n lo hi asked i next) (within : i < length asked) where
@@ -119,7 +120,7 @@ module _ (t : Table) (n lo hi : ℕ) (asked : List Child) (i : ℕ) (d : Child) 
   all_parts = ap (children_below t) (parts asked i within) ∙ below-append t (take i asked) (slice_index_or asked i d ∷ drop (suc i) asked)
 
   -- there is room for what is asked
-  pub higher_room : ((k : ℕ) → length (narrow_up n lo hi [] (take k (children_below t asked))) ≤ 3) → (k : ℕ) → length (narrow_up n lo hi next (take k this)) ≤ 3
+  higher_room : ((k : ℕ) → length (narrow_up n lo hi [] (take k (children_below t asked))) ≤ 3) → (k : ℕ) → length (narrow_up n lo hi next (take k this)) ≤ 3
   higher_room few k =
       let rest = children_below t (drop (suc i) asked) in
       let j = shorter this rest k in
@@ -129,7 +130,7 @@ module _ (t : Table) (n lo hi : ℕ) (asked : List Child) (i : ℕ) (d : Child) 
       (ap (narrow_up n lo hi []) taken ∙ (up-append n lo hi [] front (take k this) ∙ ap (λ (l : List Child). narrow_up n lo hi l (take k this)) (sym items)))
       (few (length front + j.0))
 
-  pub higher_on : (after : List Child) → after ≡ narrow_up n lo hi next this → AskedHigher t n lo hi asked (i + 1) after
+  higher_on : (after : List Child) → after ≡ narrow_up n lo hi next this → AskedHigher t n lo hi asked (i + 1) after
   higher_on after is =
       let at : suc i ≡ i + 1 = omega arith in
       subst (λ (k : ℕ). AskedHigher t n lo hi asked k after) at
@@ -142,8 +143,39 @@ take_all [] (suc i) all = refl
 take_all (x ∷ xs) zero all = absurd (omega arith)
 take_all (x ∷ xs) (suc i) all = ap (λ (l : List Child). x ∷ l) (take_all xs i (omega arith))
 
-pub higher_all : (t : Table) (n lo hi : ℕ) (asked : List Child) (i : ℕ) (next : List Child) → AskedHigher t n lo hi asked i next → length asked ≤ i → next ≡ narrow_up n lo hi [] (children_below t asked)
+higher_all : (t : Table) (n lo hi : ℕ) (asked : List Child) (i : ℕ) (next : List Child) → AskedHigher t n lo hi asked i next → length asked ≤ i → next ≡ narrow_up n lo hi [] (children_below t asked)
 higher_all t n lo hi asked i next items all = items ∙ ap (λ (l : List Child). narrow_up n lo hi [] (children_below t l)) (take_all asked i all)
+
+-- ---- for the lowest place and for the highest
+
+abbrev pub HasAskedBelow : Side → Window → Table → List Child → ℕ → List Child → Type 0
+HasAskedBelow sides.Low w t asked i next = AskedLower t w.size w.lo w.hi asked i next
+HasAskedBelow sides.High w t asked i next = AskedHigher t w.size w.lo w.hi asked i next
+
+pub level_begins : (side : Side) (w : Window) (t : Table) (asked next : List Child) → next ≡ [] → HasAskedBelow side w t asked 0 next
+level_begins sides.Low w t asked next empty = ap (λ (l : List Child). l ++ narrow w.size w.lo w.hi (children_below t asked)) empty
+level_begins sides.High w t asked next empty = empty
+
+pub level_room : (side : Side) (w : Window) (t : Table) (asked : List Child) (i : ℕ) (d : Child) (next : List Child) → HasAskedBelow side w t asked i next → i < length asked → HasRoomFor side w [] (children_below t asked)
+    → HasRoomFor side w next (children_in t (slice_index_or asked i d).span)
+level_room sides.Low w t asked i d next items within few = lower_room t w.size w.lo w.hi asked i d next items within (omega (arith, few))
+level_room sides.High w t asked i d next items within few = higher_room t w.size w.lo w.hi asked i d next items within few
+
+pub level_stops : (side : Side) (w : Window) (t : Table) (asked : List Child) (i : ℕ) (d : Child) (next : List Child) → HasAskedBelow side w t asked i next → i < length asked
+    → (after : List Child) → after ≡ asked_from side w next (children_in t (slice_index_or asked i d).span) → ends_where side (has_sure w.size w.lo w.hi (children_in t (slice_index_or asked i d).span)) ≡ true
+    → after ≡ asked_for side w (children_below t asked)
+level_stops sides.Low w t asked i d next items within after is sure = lower_stops t w.size w.lo w.hi asked i d next items within after is sure
+level_stops sides.High w t asked i d next items within after is sure = absurd (cc)
+
+pub level_on : (side : Side) (w : Window) (t : Table) (asked : List Child) (i : ℕ) (d : Child) (next : List Child) → HasAskedBelow side w t asked i next → i < length asked
+    → (after : List Child) → after ≡ asked_from side w next (children_in t (slice_index_or asked i d).span) → ends_where side (has_sure w.size w.lo w.hi (children_in t (slice_index_or asked i d).span)) ≡ false
+    → HasAskedBelow side w t asked (i + 1) after
+level_on sides.Low w t asked i d next items within after is none = lower_on t w.size w.lo w.hi asked i d next items within after is none
+level_on sides.High w t asked i d next items within after is none = higher_on t w.size w.lo w.hi asked i d next items within after is
+
+pub level_all : (side : Side) (w : Window) (t : Table) (asked : List Child) (i : ℕ) (next : List Child) → HasAskedBelow side w t asked i next → length asked ≤ i → next ≡ asked_for side w (children_below t asked)
+level_all sides.Low w t asked i next items all = lower_all t w.size w.lo w.hi asked i next items all
+level_all sides.High w t asked i next items all = higher_all t w.size w.lo w.hi asked i next items all
 
 -- ---- leaves
 

@@ -1,8 +1,7 @@
 -- Gap words mended on the way to an index: what holds from one row to the next.
-use Rattle.mt_gap.proofs.Prelude.{◌≡◌, ◌≢◌, ℕ, zero, suc, ◌+◌, ◌-◌, ◌*◌, ◌^◌, ◌<◌, ◌≤◌, ◌==◌, List, [], ◌∷◌, Bool, true, false, Some, length, refl, sym, ap, ◌∙◌, subst, ⊎_elim, inl, inr, arith, get_or-set_other, ◌⊎◌, slice_index, slice_set, AllByRecursion, flat_map, cases_Bool, cases_eq, Width, columns, deepest, greatest, first_row, greatest_fits, RowKind, Leaf, Gapped, Span, gap_column, row_in, named_kind, slots_of, Fills, leaf_range, longest_in, Names-named_kind, same_place, some_columns, some_slots_of, gap_within, fills_le, PathStep, step_in, slot_for, step_at, path_in, row_of, step_of, levels, step, place, lawful, reached, HasGaps, Tree, IsRow, Stands, GapLaw, kind_on, longest_below, top_of, Levels, times, is_row_of, tree_on, LiveAreReached, NoneBuried, root_of, Rooted, Sheet, MayTend, IsWhole, life_of, is_buried, with_word, word_at, loaded, root_span, spans_in, spans_by, row_spans, row_most, height_by_depth, levels_here, levels_map, Shared, times_shared, OnLevel, on_level_reached, times_reached, reached_number, Live, told_by, IsGapOn, KeepsWordsBut, OnlyWords, IsWay, MayTell, MayMend, IsMended}
+use Rattle.mt_gap.proofs.Prelude.{◌≡◌, ◌≢◌, ℕ, zero, suc, ◌+◌, ◌-◌, ◌*◌, ◌^◌, ◌<◌, ◌≤◌, ◌==◌, List, [], ◌∷◌, Bool, true, false, Some, length, refl, sym, ap, ◌∙◌, subst, ⊎_elim, inl, inr, arith, get_or-set_other, ◌⊎◌, slice_index, slice_set, AllByRecursion, flat_map, cases_Bool, cases_eq, Width, columns, deepest, greatest, first_row, greatest_fits, RowKind, Leaf, Gapped, Span, gap_column, row_in, named_kind, slots_of, Fills, leaf_range, longest_in, Names-named_kind, same_place, some_columns, some_slots_of, gap_within, fills_le, PathStep, step_in, slot_for, step_at, path_in, row_of, step_of, levels, step, place, lawful, reached, HasGaps, Tree, IsRow, Stands, GapLaw, kind_on, longest_below, top_of, Levels, times, is_row_of, tree_on, LiveAreReached, NoneBuried, root_of, Rooted, Sheet, MayTend, IsWhole, life_of, is_buried, with_word, word_at, loaded, root_span, spans_in, spans_by, row_spans, row_most, height_by_depth, levels_here, levels_map, Shared, times_shared, OnLevel, on_level_reached, times_reached, reached_number, Live, told_by, IsGapOn, KeepsWordsBut, OnlyWords, IsWay, MayTell, MayMend, IsMended, IsAtLevel}
 use Rattle.mt_gap.proofs.Mending.{IsMendedUpTo, on, is_step, is_used, told, mended_next, begun_mending, all_mended}
 use Rattle.mt_gap.proofs.GapWords.{tells_all}
-use Rattle.mt_gap.specs.Mended.{IsAtLevel}
 use Rattle.mt_gap.proofs.AtLevel.{width_same, within_then, one_up, at_stored}
 
 pub other_word : (width : Width) (words : List ℕ) (row col arow acol word : ℕ) → col < columns width → acol < columns width → (row ≡ arow → col ≡ acol → ⊥)

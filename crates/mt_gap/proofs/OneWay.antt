@@ -1,12 +1,12 @@
 -- A search that goes into one row in each level: what it has seen of a row, and how far it has come.
-use Rattle.mt_gap.proofs.Prelude.{◌≡◌, ◌≢◌, ℕ, zero, suc, ◌+◌, ◌-◌, ◌*◌, ◌<◌, ◌≤◌, ◌⊎◌, List, [], ◌∷◌, ◌++◌, Bool, true, false, Option, Some, None, length, max, min, take, refl, sym, ap, ◌∙◌, subst, inl, inr, arith, append_assoc, append-nil, length-append, AllByRecursion, flat_map, cases_Bool, take_more, Kind, Hole, clip, kept, lowest_in, highest_in, columns, deepest, greatest, RowKind, Leaf, Gapped, Span, row_in, named_kind, Fills, one_row_more, Tree, IsRow, Stands, top_of, tree_on, IsTreeOf, Rooted, Sheet, ReadsUpTo, loaded, root_span, spans_in, height_in, height_by_depth, levels_here, Handle, PathStep, handle_in, path_in, step_at, no_step, row_on, below, slot_for, span_at, step_in, EntersLeaf, tree_kept, no_reads, one_read, reads_more, reads_up, at_slot, at_parts, at_once, at_within, At, row_next, row_of, levels, step, row_on_top, some_root, Child, Below, Side, Window, leaf_hole, child_hole, children_in, children_by, children_below, row_children, root_child, IsGapped, MayLoad, picked, AreLeaves, may_have, inside, narrow, narrow_up, next_up, has_sure, into_one_more, with_room, with_room_up, asked_for, pick_for, sought_in, sought_to, StandsInSlot, AreAsked, IsSearchedBelow, IsWayTo, EndsInLeaf, IsAreaAt}
+use Rattle.mt_gap.proofs.Prelude.{◌≡◌, ◌≢◌, ℕ, zero, suc, ◌+◌, ◌-◌, ◌*◌, ◌<◌, ◌≤◌, ◌⊎◌, List, [], ◌∷◌, ◌++◌, Bool, true, false, Option, Some, None, length, max, min, take, refl, sym, ap, ◌∙◌, subst, inl, inr, arith, append_assoc, append-nil, length-append, AllByRecursion, flat_map, cases_Bool, take_more, Kind, Hole, clip, kept, lowest_in, highest_in, columns, deepest, greatest, RowKind, Leaf, Gapped, Span, row_in, named_kind, Fills, one_row_more, Tree, IsRow, Stands, top_of, tree_on, IsTreeOf, Rooted, Sheet, ReadsUpTo, loaded, root_span, spans_in, height_in, height_by_depth, levels_here, Handle, PathStep, handle_in, path_in, step_at, no_step, row_on, below, slot_for, span_at, step_in, EntersLeaf, tree_kept, no_reads, one_read, reads_more, reads_up, at_slot, at_parts, at_once, at_within, At, row_next, row_of, levels, step, row_on_top, some_root, Child, Below, Side, Window, leaf_hole, child_hole, children_in, children_by, children_below, row_children, root_child, IsGapped, MayLoad, picked, AreLeaves, may_have, inside, narrow, narrow_up, next_up, has_sure, into_one_more, with_room, with_room_up, asked_for, pick_for, sought_in, sought_to, StandsInSlot, AreAsked, IsSearchedBelow, IsWayTo, EndsInLeaf, IsAreaAt, with_child, ends_with, ends_where, forgets_where, if◌then◌else◌}
 use Rattle.mt_path.proofs.Places as places
 use Rattle.mt_gap.specs.declared.ways.Below.TheVariants as below_row
 use Rattle.mt_gap.specs.declared.ways.Side.TheVariants as sides
 use Rattle.mt_gap.proofs.Asking.{ask_on, ask_stops, one_asked, up-append}
 use Rattle.mt_gap.proofs.HolesBelow.{holes_below}
 use Rattle.mt_gap.proofs.ChildLists.{spans, spans-append, spans_of_row, holes_of_children}
-use Rattle.mt_gap.proofs.Descents.{Asks, asks_root, come_root, gapped_words, high_empty, high_in_tree, high_next, low_empty, low_in_tree, low_next, leaves_have, row_may_load}
+use Rattle.mt_gap.proofs.Descents.{Asks, asks_root, come_root, gapped_words, high_empty, high_in_tree, low_empty, low_in_tree, leaves_have, next_for, row_may_load}
 use Rattle.mt_gap.proofs.Kept.{Between, kept_either, leaf_between, holes_between, lowest_between}
 use Rattle.mt_gap.proofs.NarrowedUp.{highest_more}
 
@@ -53,7 +53,7 @@ module _ (w : Window) (before : List Child) (x : Child) (slot : ℕ) (count : le
 -- ---- from the right
 
 -- what is gone into of these
-abbrev pub HasSeenUp : Window → Below → List Child → Type 0
+abbrev HasSeenUp : Window → Below → List Child → Type 0
 HasSeenUp w b before = AreAsked before (narrow_up w.size w.lo w.hi [] before) b
 
 module _ (w : Window) (b : Below) (before : List Child) (seen : HasSeenUp w b before) (x : Child) (slot : ℕ) (count : length before ≡ slot) where
@@ -74,18 +74,18 @@ module _ (w : Window) (b : Below) (before : List Child) (seen : HasSeenUp w b be
     | inr not ↦ (rw not (widen before (x ∷ []) taken_up b seen))
   ]
 
-  pub seen_up : (after : Below) → after ≡ with_room_up w slot x b → HasSeenUp w after (before ++ (x ∷ []))
+  seen_up : (after : Below) → after ≡ with_room_up w slot x b → HasSeenUp w after (before ++ (x ∷ []))
   seen_up after is =
       subst (λ (l : List Child). AreAsked (before ++ (x ∷ [])) l after) (sym (up-append w.size w.lo w.hi [] before (x ∷ [])))
       (subst (AreAsked (before ++ (x ∷ [])) (next_up w.size w.lo w.hi taken_up x)) (sym is) with_one_up)
 
-pub seen_all_up : (w : Window) (b : Below) (before all : List Child) → HasSeenUp w b before → before ≡ all → IsSearchedBelow sides.High w all b
+seen_all_up : (w : Window) (b : Below) (before all : List Child) → HasSeenUp w b before → before ≡ all → IsSearchedBelow sides.High w all b
 seen_all_up w b before all seen same = subst (λ (l : List Child). IsSearchedBelow sides.High w l b) same seen
 
 -- ---- from the left
 
 -- none of these is sure, and what is gone into of them
-abbrev pub HasSeen : Window → Below → List Child → Type 0
+abbrev HasSeen : Window → Below → List Child → Type 0
 HasSeen w b before = AreAsked before (narrow w.size w.lo w.hi before) b × (has_sure w.size w.lo w.hi before ≡ false)
 
 module _ (w : Window) (b : Below) (before : List Child) (seen : HasSeen w b before) (x : Child) (slot : ℕ) (count : length before ≡ slot) (after : Below) (is : after ≡ with_room w slot x b) (sure : Bool) (found : sure ≡ has_sure w.size w.lo w.hi (x ∷ [])) where
@@ -98,19 +98,58 @@ module _ (w : Window) (b : Below) (before : List Child) (seen : HasSeen w b befo
   here : AreAsked (before ++ (x ∷ [])) more after
   here = subst (AreAsked (before ++ (x ∷ [])) more) (sym is) (with_one w before x slot count asked b seen.0)
 
-  pub seen_on : sure ≡ false → HasSeen w after (before ++ (x ∷ []))
+  seen_on : sure ≡ false → HasSeen w after (before ++ (x ∷ []))
   seen_on not =
       let on = ask_on w.size w.lo w.hi [] asked before (refl, seen.1) x more sure refl found not in
       (subst (λ (l : List Child). AreAsked (before ++ (x ∷ [])) l after) on.0 here, on.1)
 
-  pub seen_stops : (rest all : List Child) → before ++ (x ∷ rest) ≡ all → sure ≡ true → IsSearchedBelow sides.Low w all after
+  seen_stops : (rest all : List Child) → before ++ (x ∷ rest) ≡ all → sure ≡ true → IsSearchedBelow sides.Low w all after
   seen_stops rest all all_is stops =
       let on = ask_stops w.size w.lo w.hi [] asked before (refl, seen.1) x more rest all sure all_is refl found stops in
       let parts : (before ++ (x ∷ [])) ++ rest ≡ all = append_assoc before (x ∷ []) rest ∙ all_is in
       subst (λ (l : List Child). AreAsked all l after) on.0 (subst (λ (l : List Child). AreAsked l more after) parts (widen (before ++ (x ∷ [])) rest more after here))
 
-pub seen_all : (w : Window) (b : Below) (before all : List Child) → HasSeen w b before → before ≡ all → IsSearchedBelow sides.Low w all b
+seen_all : (w : Window) (b : Below) (before all : List Child) → HasSeen w b before → before ≡ all → IsSearchedBelow sides.Low w all b
 seen_all w b before all seen same = subst (λ (l : List Child). IsSearchedBelow sides.Low w l b) same seen.0
+
+-- ---- from either side
+
+-- a slot that can have no room adds nothing
+pub passes : (side : Side) (w : Window) (slot : ℕ) (x : Child) (b : Below) → may_have w.size w.lo w.hi x ≡ false → (b ≡ with_child side w slot x b) × (false ≡ ends_with side w x)
+passes sides.Low w slot x b not = rw not (refl, refl)
+passes sides.High w slot x b not = rw not (refl, refl)
+
+-- and what is added of another
+pub adds : (side : Side) (w : Window) (slot : ℕ) (x : Child) (b : Below) → may_have w.size w.lo w.hi x ≡ true → (sure : Bool) → sure ≡ inside w.lo w.hi x
+    → ((if forgets_where side sure then below_row.One slot x.span else into_one_more slot x.span b) ≡ with_child side w slot x b) × (ends_where side sure ≡ ends_with side w x)
+adds side w slot x b may sure is = subst (λ (s : Bool). ((if forgets_where side s then below_row.One slot x.span else into_one_more slot x.span b) ≡ with_child side w slot x b) × (ends_where side s ≡ ends_with side w x)) (sym is)
+    (one side, ap (ends_where side) (one_asked w.size w.lo w.hi [] (x ∷ []) x may refl).1)
+  where
+    one : (side : Side) → (if forgets_where side (inside w.lo w.hi x) then below_row.One slot x.span else into_one_more slot x.span b) ≡ with_child side w slot x b
+    one sides.Low = rw may refl
+    one sides.High = rw may refl
+
+abbrev pub HasLooked : Side → Window → Below → List Child → Type 0
+HasLooked sides.Low w b before = HasSeen w b before
+HasLooked sides.High w b before = HasSeenUp w b before
+
+pub looked_none : (side : Side) (w : Window) → HasLooked side w below_row.Nothing []
+looked_none sides.Low w = (refl, refl)
+looked_none sides.High w = refl
+
+pub looked_on : (side : Side) (w : Window) (b : Below) (before : List Child) → HasLooked side w b before → (x : Child) (slot : ℕ) → length before ≡ slot → (after : Below) → after ≡ with_child side w slot x b
+    → (ends : Bool) → ends ≡ ends_with side w x → ends ≡ false → HasLooked side w after (before ++ (x ∷ []))
+looked_on sides.Low w b before seen x slot count after is ends found not = seen_on w b before seen x slot count after is ends found not
+looked_on sides.High w b before seen x slot count after is ends found not = seen_up w b before seen x slot count after is
+
+pub looked_stops : (side : Side) (w : Window) (b : Below) (before : List Child) → HasLooked side w b before → (x : Child) (slot : ℕ) → length before ≡ slot → (after : Below) → after ≡ with_child side w slot x b
+    → (ends : Bool) → ends ≡ ends_with side w x → (rest all : List Child) → before ++ (x ∷ rest) ≡ all → ends ≡ true → IsSearchedBelow side w all after
+looked_stops sides.Low w b before seen x slot count after is ends found rest all parts stops = seen_stops w b before seen x slot count after is ends found rest all parts stops
+looked_stops sides.High w b before seen x slot count after is ends found rest all parts stops = absurd (cc)
+
+pub looked_all : (side : Side) (w : Window) (b : Below) (before all : List Child) → HasLooked side w b before → before ≡ all → IsSearchedBelow side w all b
+looked_all sides.Low w b before all seen same = seen_all w b before all seen same
+looked_all sides.High w b before all seen same = seen_all_up w b before all seen same
 
 -- ---- from level to level
 
@@ -198,11 +237,6 @@ module _ (t : Rooted) (h : ℕ) (stands : Stands (tree_on true t) h) where
       low = low_on;
       enters = enters_on;
     }
-
--- one level lower
-next_for : (side : Side) (t : Tree) (w : Window) → t.gapped ≡ true → 1 ≤ w.size → (xs : List Child) (answer : Option ℕ) (level : ℕ) → Asks t (pick_for side w) w answer level xs → (AreLeaves xs → ⊥) → Asks t (pick_for side w) w answer (level + 1) (asked_for side w (children_below t.table xs))
-next_for sides.Low t w gapped some xs answer level asks not = low_next t w gapped some xs answer level asks not
-next_for sides.High t w gapped some xs answer level asks not = high_next t w gapped some xs answer level asks not
 
 -- of no holes none is picked
 none_picked : (side : Side) (w : Window) → pick_for side w [] ≡ None

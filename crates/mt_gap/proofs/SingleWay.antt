@@ -1,8 +1,6 @@
 -- A search that goes into one row of each level meets no row with none to go into, or with more.
-use Rattle.mt_gap.proofs.Prelude.{◌≡◌, ◌≢◌, ℕ, zero, suc, List, [], ◌∷◌, Option, Some, None, length, sym, ap, ◌∙◌, subst, arith, RowKind, Leaf, Gapped, Span, Rooted, row_in, named_kind, root_span, Child, Side, Window, children_in, children_by, row_children, asked_for, IsSearchedBelow}
-use Rattle.std.specs.Option.{IfSome}
+use Rattle.mt_gap.proofs.Prelude.{◌≡◌, ◌≢◌, ℕ, zero, suc, List, [], ◌∷◌, Option, Some, None, length, sym, ap, ◌∙◌, subst, arith, RowKind, Leaf, Gapped, Span, Rooted, row_in, named_kind, root_span, Child, Side, Window, children_in, children_by, row_children, asked_for, IsSearchedBelow, GoesOneWay, IsOneWay, IfSome}
 use Rattle.mt_gap.specs.declared.ways.Below.TheVariants as below_row
-use Rattle.mt_gap.specs.Ways.{GoesOneWay, IsOneWay}
 
 module _ (side : Side) (w : Window) (t t' : Rooted) (same : t' ≡ t) (x : Span) (gapped : named_kind x.word ≡ Some Gapped) (row : ℕ) (number : row ≡ row_in x.word) where
   abbrev xs : List Child

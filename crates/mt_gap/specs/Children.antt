@@ -1,7 +1,6 @@
 -- What the slots of a node hold, each with its gap word.
 -- Source: the kernel's include/linux/maple_tree.h, the gaps of maple_arange_64 beside its slots.
-use Rattle.std.specs.Prelude.{ℕ, ◌+◌, List, [], ◌∷◌, Option, Some, None}
-use Rattle.std.specs.List.{flat_map}
+use Rattle.std.specs.Prelude.{ℕ, ◌+◌, List, [], ◌∷◌, Option, Some, None, flat_map}
 use Rattle.mt_gap.specs.Prelude.{Item, RowKind, Span, items_at, row_in, named_kind, slots_of, gaps_of, Table, base_of, root_span}
 use Rattle.mt_gap.specs.declared.children.Child.{Child}
 

@@ -1,7 +1,6 @@
 -- How far a search has come: the nodes of a level that it goes into, what is found below them, and what they cost.
 -- Source: this project's own.
-use Rattle.std.specs.Prelude.{◌≡◌, ℕ, ◌+◌, ◌*◌, ◌≤◌, true, All, List, [], ◌∷◌, Option, Some, length}
-use Rattle.std.specs.List.{flat_map}
+use Rattle.std.specs.Prelude.{◌≡◌, ℕ, ◌+◌, ◌*◌, ◌≤◌, true, All, List, [], ◌∷◌, Option, Some, length, flat_map}
 use Rattle.mt_gap.specs.Prelude.{Kind, finds_room, Hole, kept, holes_to, columns, greatest, RowKind, Leaf, Span, row_in, named_kind, IsLawfulOf, map_by, Sheet, Rooted, IsPlace, ReadsUpTo, height_in}
 use Rattle.mt_gap.specs.declared.children.Child.{Child}
 use Rattle.mt_gap.specs.declared.windows.Window.{Window}

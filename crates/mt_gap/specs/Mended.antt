@@ -1,10 +1,10 @@
 -- How far the gap words of a path's nodes are mended: those of the nodes up to a height, and of the next node some from the
 -- left.
 -- Source: this project's own.
-use Rattle.std.specs.Prelude.{◌≡◌, ◌⊎◌, ℕ, zero, suc, ◌+◌, ◌<◌, ◌≤◌, true, false, List, [], ◌∷◌, length}
+use Rattle.std.specs.Prelude.{◌≡◌, ◌≢◌, ◌⊎◌, ℕ, zero, suc, ◌+◌, ◌<◌, ◌≤◌, Bool, Some, true, false, List, [], ◌∷◌, length}
 use Rattle.std.specs.List.{AllByRecursion}
-use Rattle.mt_gap.specs.Prelude.{greatest, RowKind, Gapped, Span, gap_column, row_in, slots_of, PathStep, span_at, path_in, covers, Tree, Stands, longest_below, kind_on, Levels, SameSpans, tree_on, root_of, Sheet, column, spans_in}
-use Rattle.mt_gap.specs.Mending.{OnlyWords, KeepsOtherWords, IsLiveRow}
+use Rattle.mt_gap.specs.Prelude.{greatest, RowKind, Gapped, Span, gap_column, row_in, slots_of, PathStep, span_at, path_in, covers, Tree, Stands, longest_below, kind_on, Levels, SameSpans, tree_on, root_of, Sheet, column, spans_in, named_kind, Rooted, HasGaps, loaded}
+use Rattle.mt_gap.specs.Mending.{IsToldWay, IsWay, KeepsWordsBut, MayMendGaps, OnlyWords, KeepsOtherWords, IsLiveRow}
 
 -- the gap word of a slot is the longest hole below it; a leaf has no gap words
 abbrev pub IsRight : Tree → ℕ → Span → ℕ → Type 0
@@ -47,3 +47,23 @@ pub record HasMendedRows (before s : Sheet) (path : List PathStep) (kind : RowKi
   pub right : Levels (AreRight (IsMendedSlot index done slots) (tree_on true s.tree)) s.tree.table height (root_of (tree_on true s.tree))
   pub words : KeepsOtherWords before.tree s.tree path
   pub kept : AllByRecursion (IsLiveRow before) path
+
+-- Gap words were mended, and all are right where the mend may be made. All words are kept but those of the path that may change,
+-- and each node holds what it held. In a tree without gaps the root word alone was loaded.
+pub record MendsGaps (May : Bool → Type 0) (Kept : Rooted → Rooted → List PathStep → Type 0) (s s' : Sheet) (path : List PathStep) : Type 0 where
+  pub gaps : (gapped : Bool) → May gapped → HasGaps (tree_on gapped s'.tree)
+  pub rest : OnlyWords s s'
+  pub words : Kept s.tree s'.tree path
+  pub plain : named_kind s.tree.root ≢ Some Gapped → s' ≡ loaded s
+  pub spans : (gapped : Bool) (h : ℕ) → Stands (tree_on gapped s.tree) h
+      → Levels (λ (_ : ℕ) (x : Span). SameSpans s.tree.table s'.tree.table x) s.tree.table h (root_of (tree_on gapped s.tree))
+
+-- on the way to a leaf, on the way of a path whose leaf is told the length of its longest hole, and in all nodes of a path
+abbrev pub MendsWay : ℕ → Sheet → Sheet → List PathStep → Type 0
+MendsWay leaf s s' path = MendsGaps (λ gapped. IsWay gapped s path leaf) KeepsWordsBut s s' path
+
+abbrev pub MendsToldWay : ℕ → Sheet → Sheet → List PathStep → Type 0
+MendsToldWay gap s s' path = MendsGaps (λ gapped. IsToldWay gapped s path gap) KeepsWordsBut s s' path
+
+abbrev pub MendsPath : Sheet → Sheet → List PathStep → Type 0
+MendsPath s s' path = MendsGaps (λ gapped. MayMendGaps gapped s path) KeepsOtherWords s s' path

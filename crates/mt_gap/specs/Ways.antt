@@ -1,7 +1,6 @@
 -- A search that goes into one node in each level: what it goes into below a node, and where it ends, with the way there.
 -- Source: the kernel's lib/maple_tree.c, mas_empty_area and mas_empty_area_rev, which keep the place that their search reached.
-use Rattle.std.specs.Prelude.{◌≡◌, ℕ, zero, suc, ◌+◌, ◌<◌, ◌≤◌, ◌↔◌, ◌++◌, List, [], ◌∷◌, Option, Some, None, IsNone, IfSome, length, take, if◌then◌else◌}
-use Rattle.std.specs.List.{flat_map}
+use Rattle.std.specs.Prelude.{◌≡◌, ℕ, Bool, false, zero, suc, ◌+◌, ◌<◌, ◌≤◌, ◌↔◌, ◌++◌, List, [], ◌∷◌, Option, Some, None, IsNone, IfSome, length, take, if◌then◌else◌, flat_map}
 use Rattle.mt_gap.specs.Prelude.{Hole, holes_to, lowest_in, highest_in, greatest, Gapped, Leaf, Span, Table, named_kind, Fills, map_by, Rooted, root_span, spans_in, PathStep, handle_in, path_in, row_on}
 use Rattle.mt_gap.specs.declared.children.Child.{Child}
 use Rattle.mt_gap.specs.declared.searches.SoughtArea.{SoughtArea}
@@ -15,7 +14,7 @@ use Rattle.mt_gap.specs.declared.windows.Window.{Window}
 use Rattle.mt_gap.specs.Below.{child_hole}
 use Rattle.mt_gap.specs.Children.{children_in}
 use Rattle.mt_gap.specs.Descents.{MayLoad, picked, place_in}
-use Rattle.mt_gap.specs.Narrow.{may_have, inside, narrow, narrow_up}
+use Rattle.mt_gap.specs.Narrow.{has_sure, may_have, inside, narrow, narrow_up}
 
 -- what is gone into, with one more
 abbrev pub into_one_more : ℕ → Span → Below → Below
@@ -30,6 +29,24 @@ with_room w slot x b = if may_have w.size w.lo w.hi x then into_one_more slot x.
 -- from the right: one that lies in the window replaces all before it
 abbrev pub with_room_up : Window → ℕ → Child → Below → Below
 with_room_up w slot x b = if may_have w.size w.lo w.hi x then (if inside w.lo w.hi x then below.One slot x.span else into_one_more slot x.span b) else b
+
+-- A child that is sure to have room ends a search for the lowest place, and stands for all before it in one for the highest.
+abbrev pub ends_where : Side → Bool → Bool
+ends_where side.Low sure = sure
+ends_where side.High sure = false
+
+abbrev pub forgets_where : Side → Bool → Bool
+forgets_where side.Low sure = false
+forgets_where side.High sure = sure
+
+-- for the lowest place, and for the highest
+abbrev pub with_child : Side → Window → ℕ → Child → Below → Below
+with_child side.Low w slot x b = with_room w slot x b
+with_child side.High w slot x b = with_room_up w slot x b
+
+-- the search ends with this child
+abbrev pub ends_with : Side → Window → Child → Bool
+ends_with side w x = ends_where side (has_sure w.size w.lo w.hi (x ∷ []))
 
 -- this slot holds the child
 pub record StandsInSlot (xs : List Child) (slot : ℕ) (x : Child) : Type 0 where
@@ -55,6 +72,16 @@ AreAsked xs asked below.More = 2 ≤ length asked
 abbrev pub asked_for : Side → Window → List Child → List Child
 asked_for side.Low w xs = narrow w.size w.lo w.hi xs
 asked_for side.High w xs = narrow_up w.size w.lo w.hi [] xs
+
+-- those that are asked with these, which were asked before
+abbrev pub asked_from : Side → Window → List Child → List Child → List Child
+asked_from side.Low w before xs = before ++ narrow w.size w.lo w.hi xs
+asked_from side.High w before xs = narrow_up w.size w.lo w.hi before xs
+
+-- There is room for them, whenever one of them is taken.
+abbrev pub HasRoomFor : Side → Window → List Child → List Child → Type 0
+HasRoomFor side.Low w before xs = length before + length (narrow w.size w.lo w.hi xs) ≤ 3
+HasRoomFor side.High w before xs = (k : ℕ) → length (narrow_up w.size w.lo w.hi before (take k xs)) ≤ 3
 
 -- which of the holes that have room is picked, and where in it
 abbrev pub pick_for : Side → Window → List Hole → Option ℕ

@@ -1,14 +1,16 @@
 //! From level to level: the nodes that a search goes into one level lower.
 
-ghost use Rattle.std.specs.Prelude.{◌≡◌, ◌+◌, ◌*◌, ◌≤◌, ◌++◌, ℕ, All, [], length, take};
+ghost use Rattle.std.specs.Prelude.{◌≡◌, ◌+◌, ◌≤◌, ◌++◌, ℕ, All, [], length, take};
 ghost use Rattle.mt_base.specs.Width.{columns};
 ghost use Rattle.mt_rows.specs.Sheet.{ReadsUpTo};
 ghost use Rattle.mt_gap.specs.declared.children.Child.{Child};
 ghost use Rattle.mt_gap.specs.Children.{children_in, children_below};
 ghost use Rattle.mt_gap.specs.Descents.{LoadedUpTo, MayLoad};
 ghost use Rattle.mt_gap.specs.Narrow.{narrow, narrow_up, has_sure};
+ghost use Rattle.mt_gap.specs.Ways.{HasRoomFor, asked_for, asked_from, ends_where};
 
 use crate::children::Child;
+use crate::ways::Side;
 use crate::windows::{Asked, Window, ask_row, ask_row_up};
 use mt_base::Steps;
 use mt_layout::{RowKind, Span, kind_of, row_of};
@@ -33,30 +35,6 @@ fn ask_lower<R: Rows>(rows: &mut R, row: Span, window: Window, next: &mut Asked)
     }
 }
 
-/// Fills an empty list with the nodes to be asked one level below these, for the lowest place. Each of these is a step.
-#[tactic(auto, using(crate::proofs::LevelLoops::lower_all, crate::proofs::LevelLoops::loaded_none, crate::proofs::LevelLoops::loaded_few))]
-pub(crate) fn next_lower<R: Rows, L: Ledger>(
-    rows: &mut R,
-    asked: &[Child],
-    window: Window,
-    steps: &mut Steps<L>,
-    next: &mut Asked,
-)
-    requires rows { All (λ (x : Child). MayLoad (R.sheet rows.old).tree x.span) asked.now }
-    requires empty { next.old.items ≡ [] }
-    requires size { 1 ≤ window.size }
-    requires few { length (narrow window.size window.lo window.hi (children_below (R.sheet rows.old).tree.table asked.now)) ≤ 3 }
-    ensures items { next.new.items ≡ narrow window.size window.lo window.hi (children_below (R.sheet rows.old).tree.table asked.now) }
-    ensures loaded { LoadedUpTo (length asked.now) (R.sheet rows.old) (R.sheet rows.new) steps.old steps.new }
-{
-    for row in asked {
-        steps.tick();
-        if ask_lower(rows, row.span, window, next) {
-            return;
-        }
-    }
-}
-
 /// Takes what has to be asked below one more node. A node without gaps shows no room.
 #[tactic(auto, using(crate::proofs::Asking::without_asked_up))]
 fn ask_higher<R: Rows>(rows: &mut R, row: Span, window: Window, next: &mut Asked)
@@ -74,10 +52,29 @@ fn ask_higher<R: Rows>(rows: &mut R, row: Span, window: Window, next: &mut Asked
     }
 }
 
-/// Fills an empty list with the nodes to be asked one level below these, for the highest place. Each of these is a step.
-#[tactic(auto, using(crate::proofs::LevelLoops::higher_all, crate::proofs::LevelLoops::loaded_none, crate::proofs::LevelLoops::loaded_few))]
-pub(crate) fn next_higher<R: Rows, L: Ledger>(
+/// Takes what has to be asked below one more node, and returns whether nothing after it has.
+fn ask_below<R: Rows>(rows: &mut R, side: Side, row: Span, window: Window, next: &mut Asked) -> bool
+    requires row { MayLoad (R.sheet rows.old).tree row }
+    requires size { 1 ≤ window.size }
+    requires room { HasRoomFor side window next.old.items (children_in (R.sheet rows.old).tree.table row) }
+    ensures items { next.new.items ≡ asked_from side window next.old.items (children_in (R.sheet rows.old).tree.table row) }
+    ensures ends { result ≡ ends_where side (has_sure window.size window.lo window.hi (children_in (R.sheet rows.old).tree.table row)) }
+    ensures reads { ReadsUpTo (columns (R.sheet rows.old).tree.table.width) (R.sheet rows.old) (R.sheet rows.new) }
+{
+    match side {
+        Side::Low => ask_lower(rows, row, window, next),
+        Side::High => {
+            ask_higher(rows, row, window, next);
+            false
+        }
+    }
+}
+
+/// Fills an empty list with the nodes to be asked one level below these. Each of these that is loaded is a step.
+#[tactic(auto, using(crate::proofs::LevelLoops::level_all, crate::proofs::LevelLoops::loaded_none, crate::proofs::LevelLoops::loaded_few))]
+pub(crate) fn next_level<R: Rows, L: Ledger>(
     rows: &mut R,
+    side: Side,
     asked: &[Child],
     window: Window,
     steps: &mut Steps<L>,
@@ -86,12 +83,14 @@ pub(crate) fn next_higher<R: Rows, L: Ledger>(
     requires rows { All (λ (x : Child). MayLoad (R.sheet rows.old).tree x.span) asked.now }
     requires empty { next.old.items ≡ [] }
     requires size { 1 ≤ window.size }
-    requires few { (k : ℕ) → length (narrow_up window.size window.lo window.hi [] (take k (children_below (R.sheet rows.old).tree.table asked.now))) ≤ 3 }
-    ensures items { next.new.items ≡ narrow_up window.size window.lo window.hi [] (children_below (R.sheet rows.old).tree.table asked.now) }
+    requires few { HasRoomFor side window [] (children_below (R.sheet rows.old).tree.table asked.now) }
+    ensures items { next.new.items ≡ asked_for side window (children_below (R.sheet rows.old).tree.table asked.now) }
     ensures loaded { LoadedUpTo (length asked.now) (R.sheet rows.old) (R.sheet rows.new) steps.old steps.new }
 {
     for row in asked {
-        ask_higher(rows, row.span, window, next);
         steps.tick();
+        if ask_below(rows, side, row.span, window, next) {
+            return;
+        }
     }
 }

@@ -1,6 +1,6 @@
 //! Gap words mended on the way to an index: in the slots on the way, or in all slots of the nodes there.
 
-ghost use Rattle.std.specs.Prelude.{◌≡◌, ◌≢◌, ◌↔◌, ◌+◌, ◌^◌, ◌<◌, ◌≤◌, ℕ, Bool, IsTrue, None, Some};
+ghost use Rattle.std.specs.Prelude.{◌≡◌, ◌≢◌, ◌↔◌, ◌+◌, ◌^◌, ◌<◌, ◌≤◌, Bool, IsTrue, None, Some};
 ghost use Rattle.std.specs.List.{AllByRecursion};
 ghost use Rattle.mt_base.specs.Width.{columns};
 ghost use Rattle.mt_layout.specs.declared.names.RowKind.{RowKind};
@@ -9,18 +9,13 @@ ghost use Rattle.mt_layout.specs.Columns.{gap_column};
 ghost use Rattle.mt_layout.specs.Rows.{row_in, named_kind};
 ghost use Rattle.mt_layout.specs.Sizes.{slots_of};
 ghost use Rattle.mt_layout.specs.Spans.{hole_length, longest_in};
-ghost use Rattle.mt_rows.specs.Gaps.{HasGaps};
-ghost use Rattle.mt_rows.specs.Laws.{Stands};
-ghost use Rattle.mt_rows.specs.Levels.{Levels, SameSpans};
-ghost use Rattle.mt_rows.specs.Publish.{tree_on};
-ghost use Rattle.mt_rows.specs.Replacement.{root_of};
 ghost use Rattle.mt_rows.specs.Spans.{row_spans};
 ghost use Rattle.mt_layout.specs.declared.names.RowKind.TheVariants.{Leaf, Gapped};
 ghost use Rattle.mt_rows.specs.Sheet.{Sheet, IsPlace, MayTend, ReadsUpTo, loaded, tended};
-ghost use Rattle.mt_gap.specs.Mending.{most_gap, told_by, KeepsWordsBut, OnlyWords, KeepsOtherWords, IsWay, IsToldWay, MayTell, MayMend, MayMendGaps, IsMended};
-ghost use Rattle.mt_gap.specs.Mended.{HasMendedRows};
+ghost use Rattle.mt_gap.specs.Mending.{most_gap, told_by, IsWay, IsToldWay, MayTell, MayMend, MayMendGaps, IsMended};
+ghost use Rattle.mt_gap.specs.Mended.{HasMendedRows, MendsPath, MendsToldWay, MendsWay};
 
-use crate::children::{load_children, load_gap, load_last, load_word};
+use crate::children::{SlotAt, load_children, load_gap, load_last, load_word};
 use mt_layout::{RowKind, Span, kind_of, row_of, slots};
 use mt_path::{Path, PathStep};
 use mt_rows::Rows;
@@ -50,8 +45,9 @@ fn longest_of<R: Rows>(rows: &mut R, row: u32, first: u64, max: u64) -> u64
     let mut longest = 0;
     let mut begin = first;
     for slot in 0..slots(width, RowKind::Leaf) {
-        let last = load_last(rows, width, RowKind::Leaf, row, max, slot);
-        let word = load_word(rows, width, RowKind::Leaf, row, slot);
+        let at = SlotAt { width, row, slot };
+        let last = load_last(rows, RowKind::Leaf, at, max);
+        let word = load_word(rows, RowKind::Leaf, at);
         longest = longest.max(hole_length(Span {
             first: begin,
             last,
@@ -74,7 +70,7 @@ fn greatest_of<R: Rows>(rows: &mut R, row: u32) -> u64
     let width = rows.width();
     let mut greatest = 0;
     for slot in 0..slots(width, RowKind::Gapped) {
-        greatest = greatest.max(load_gap(rows, width, row, slot));
+        greatest = greatest.max(load_gap(rows, SlotAt { width, row, slot }));
     }
     greatest
 }
@@ -127,13 +123,7 @@ fn has_gaps<R: Rows>(rows: &mut R) -> bool
 /// be the one that it has replaced.
 pub fn mend_way<R: Rows>(rows: &mut R, path: &Path, leaf: u32)
     requires way { (gapped : Bool) × IsWay gapped (R.sheet rows.old) path.now.items leaf }
-    ensures gaps { (gapped : Bool) → IsWay gapped (R.sheet rows.old) path.now.items leaf → HasGaps (tree_on gapped (R.sheet rows.new).tree) }
-    ensures rest { OnlyWords (R.sheet rows.old) (R.sheet rows.new) }
-    ensures words { KeepsWordsBut (R.sheet rows.old).tree (R.sheet rows.new).tree path.now.items }
-    ensures plain { named_kind (R.sheet rows.old).tree.root ≢ Some RowKind.Gapped → R.sheet rows.new ≡ loaded (R.sheet rows.old) }
-    ensures spans { (gapped : Bool) (h : ℕ) → Stands (tree_on gapped (R.sheet rows.old).tree) h
-        → Levels (λ (_ : ℕ) (x : Span). SameSpans (R.sheet rows.old).tree.table (R.sheet rows.new).tree.table x)
-        (R.sheet rows.old).tree.table h (root_of (tree_on gapped (R.sheet rows.old).tree)) }
+    ensures { MendsWay leaf (R.sheet rows.old) (R.sheet rows.new) path.now.items }
 {
     if !has_gaps(rows) {
         return;
@@ -154,13 +144,7 @@ pub fn mend_way<R: Rows>(rows: &mut R, path: &Path, leaf: u32)
 /// Mends the gap words along a path whose leaf is replaced by one whose longest hole is `gap`. No word of that leaf is loaded.
 pub fn mend_along<R: Rows>(rows: &mut R, path: &Path, gap: u64)
     requires way { (gapped : Bool) × IsToldWay gapped (R.sheet rows.old) path.now.items gap }
-    ensures gaps { (gapped : Bool) → IsToldWay gapped (R.sheet rows.old) path.now.items gap → HasGaps (tree_on gapped (R.sheet rows.new).tree) }
-    ensures rest { OnlyWords (R.sheet rows.old) (R.sheet rows.new) }
-    ensures words { KeepsWordsBut (R.sheet rows.old).tree (R.sheet rows.new).tree path.now.items }
-    ensures plain { named_kind (R.sheet rows.old).tree.root ≢ Some RowKind.Gapped → R.sheet rows.new ≡ loaded (R.sheet rows.old) }
-    ensures spans { (gapped : Bool) (h : ℕ) → Stands (tree_on gapped (R.sheet rows.old).tree) h
-        → Levels (λ (_ : ℕ) (x : Span). SameSpans (R.sheet rows.old).tree.table (R.sheet rows.new).tree.table x)
-        (R.sheet rows.old).tree.table h (root_of (tree_on gapped (R.sheet rows.old).tree)) }
+    ensures { MendsToldWay gap (R.sheet rows.old) (R.sheet rows.new) path.now.items }
 {
     if !has_gaps(rows) {
         return;
@@ -210,13 +194,7 @@ fn mend_row<R: Rows>(rows: &mut R, kind: RowKind, path: &Path, level: usize)
 /// the gap word of each slot is tended by what the node there gives. In a tree without gaps no node is loaded.
 pub fn mend_gaps<R: Rows>(rows: &mut R, path: &Path)
     requires may { (gapped : Bool) × MayMendGaps gapped (R.sheet rows.old) path.now.items }
-    ensures gaps { (gapped : Bool) → MayMendGaps gapped (R.sheet rows.old) path.now.items → HasGaps (tree_on gapped (R.sheet rows.new).tree) }
-    ensures rest { OnlyWords (R.sheet rows.old) (R.sheet rows.new) }
-    ensures words { KeepsOtherWords (R.sheet rows.old).tree (R.sheet rows.new).tree path.now.items }
-    ensures plain { named_kind (R.sheet rows.old).tree.root ≢ Some RowKind.Gapped → R.sheet rows.new ≡ loaded (R.sheet rows.old) }
-    ensures spans { (gapped : Bool) (h : ℕ) → Stands (tree_on gapped (R.sheet rows.old).tree) h
-        → Levels (λ (_ : ℕ) (x : Span). SameSpans (R.sheet rows.old).tree.table (R.sheet rows.new).tree.table x)
-        (R.sheet rows.old).tree.table h (root_of (tree_on gapped (R.sheet rows.old).tree)) }
+    ensures { MendsPath (R.sheet rows.old) (R.sheet rows.new) path.now.items }
 {
     if !has_gaps(rows) {
         return;

@@ -1,6 +1,6 @@
 //! The lowest and the highest place with room for `size` indexes.
 
-ghost use Rattle.std.specs.Prelude.{◌≡◌, ◌≢◌, ◌↔◌, ◌+◌, ◌-◌, ◌*◌, ◌<◌, ◌≤◌, ℕ, All, IsTrue, [], ◌∷◌, length, IsNone, IfSome};
+ghost use Rattle.std.specs.Prelude.{◌≡◌, ◌≢◌, ◌↔◌, ◌+◌, ◌-◌, ◌*◌, ◌<◌, ◌≤◌, All, IsTrue, [], length, IsNone, IfSome};
 ghost use Rattle.std.specs.List.{flat_map};
 ghost use Rattle.std.specs.Option.{option_map};
 ghost use Rattle.mt_base.specs.Holes.{low_to, high_to, lowest_in, highest_in};
@@ -9,9 +9,9 @@ ghost use Rattle.mt_rows.specs.Publish.{map_by};
 ghost use Rattle.mt_rows.specs.Sheet.{OnlyReads, ReadsUpTo};
 ghost use Rattle.mt_rows.specs.Trees.{height_in};
 ghost use Rattle.mt_gap.specs.declared.children.Child.{Child};
-ghost use Rattle.mt_gap.specs.Below.{child_hole};
+ghost use Rattle.mt_gap.specs.Below.{child_hole, leaf_hole};
 ghost use Rattle.mt_gap.specs.Children.{children_in, children_below, root_child};
-ghost use Rattle.mt_gap.specs.Descents.{IsGapped, LoadedUpTo, MayLoad, picked, place_in, Arrives, AreLeaves};
+ghost use Rattle.mt_gap.specs.Descents.{IsGapped, LoadedUpTo, MayLoad, picked, Arrives, AreLeaves};
 ghost use Rattle.mt_gap.specs.Ways.{pick_for, sought_in, sought_to, EndsInLeaf, IsAreaAt, IsOneWay};
 ghost use Rattle.mt_gap.specs.declared.ways.Side.TheVariants as sides;
 ghost use Rattle.mt_path.specs.Handles.{last_step};
@@ -19,7 +19,7 @@ ghost use Rattle.mt_path.specs.Paths.{loads_at, loads_on};
 ghost use Rattle.mt_gap.specs.declared.searches.SoughtArea.{SoughtArea};
 
 use crate::children::Child;
-use crate::levels::{next_higher, next_lower};
+use crate::levels::next_level;
 use crate::ways::{End, Side, go_one_way};
 use crate::windows::{Asked, Window, high_place, highest_of, low_place, lowest_of};
 use mt_base::{DEEPEST, Steps, Width, top};
@@ -59,9 +59,10 @@ fn are_leaves(asked: &[Child]) -> bool
     }
 }
 
-/// Goes down from the root to the leaves that have the lowest place, if there is one.
-fn to_lowest<R: Rows, L: Ledger>(
+/// Goes down from the root to the leaves that have the place that is sought, if there is one.
+fn to_leaves<R: Rows, L: Ledger>(
     rows: &mut R,
+    side: Side,
     root: Child,
     window: Window,
     steps: &mut Steps<L>,
@@ -70,8 +71,8 @@ fn to_lowest<R: Rows, L: Ledger>(
     requires some { (R.sheet rows.old).tree.root ≢ 0 }
     requires root { root ≡ root_child (R.sheet rows.old).tree.table (R.sheet rows.old).tree.root }
     requires size { 1 ≤ window.size }
-    ensures { Arrives (R.sheet rows.old)
-        (R.sheet rows.new) lowest_in window (place_in lowest_in window (R.sheet rows.old).tree) steps.old steps.new result.items }
+    ensures { Arrives (R.sheet rows.old) (R.sheet rows.new)
+        (pick_for side window) window (sought_in side window (R.sheet rows.old).tree) steps.old steps.new result.items }
 {
     let mut asked = Asked::new();
     asked.push(root);
@@ -80,34 +81,7 @@ fn to_lowest<R: Rows, L: Ledger>(
             return asked;
         }
         let mut next = Asked::new();
-        next_lower(rows, &asked, window, steps, &mut next);
-        asked = next;
-    }
-    unreachable!()
-}
-
-/// Goes down from the root to the leaves that have the highest place, if there is one.
-fn to_highest<R: Rows, L: Ledger>(
-    rows: &mut R,
-    root: Child,
-    window: Window,
-    steps: &mut Steps<L>,
-) -> Asked
-    requires tree { IsGapped (R.sheet rows.old).tree }
-    requires some { (R.sheet rows.old).tree.root ≢ 0 }
-    requires root { root ≡ root_child (R.sheet rows.old).tree.table (R.sheet rows.old).tree.root }
-    requires size { 1 ≤ window.size }
-    ensures { Arrives (R.sheet rows.old) (R.sheet rows.new) (highest_in window.size) window
-        (place_in (highest_in window.size) window (R.sheet rows.old).tree) steps.old steps.new result.items }
-{
-    let mut asked = Asked::new();
-    asked.push(root);
-    for _ in 0..DEEPEST {
-        if are_leaves(&asked) {
-            return asked;
-        }
-        let mut next = Asked::new();
-        next_higher(rows, &asked, window, steps, &mut next);
+        next_level(rows, side, &asked, window, steps, &mut next);
         asked = next;
     }
     unreachable!()
@@ -198,14 +172,7 @@ pub fn lowest<R: Rows, L: Ledger>(
     ensures steps { steps.new ≤ steps.old + 3 * height_in (R.sheet rows.old).tree.table (R.sheet rows.old).tree.root }
     ensures reads { ReadsUpTo (columns (R.sheet rows.old).tree.table.width * (steps.new - steps.old) + 1) (R.sheet rows.old) (R.sheet rows.new) }
 {
-    let window = Window { size, lo, hi };
-    let word = rows.root();
-    let root = whole(rows.width(), word);
-    if word == 0 {
-        return low_place(window, root.span);
-    }
-    let leaves = to_lowest(rows, root, window, steps);
-    lowest_in_leaves(rows, &leaves, window, steps)
+    place_by_levels(rows, Side::Low, Window { size, lo, hi }, steps)
 }
 
 /// The highest start of `size` indexes that lie in one hole and in the window `lo` to `hi`, and none if no hole has room. Each
@@ -223,14 +190,7 @@ pub fn highest<R: Rows, L: Ledger>(
     ensures steps { steps.new ≤ steps.old + 3 * height_in (R.sheet rows.old).tree.table (R.sheet rows.old).tree.root }
     ensures reads { ReadsUpTo (columns (R.sheet rows.old).tree.table.width * (steps.new - steps.old) + 1) (R.sheet rows.old) (R.sheet rows.new) }
 {
-    let window = Window { size, lo, hi };
-    let word = rows.root();
-    let root = whole(rows.width(), word);
-    if word == 0 {
-        return high_place(window, root.span);
-    }
-    let leaves = to_highest(rows, root, window, steps);
-    highest_in_leaves(rows, &leaves, window, steps)
+    place_by_levels(rows, Side::High, Window { size, lo, hi }, steps)
 }
 
 /// The place in a leaf that is sought.
@@ -273,6 +233,36 @@ fn area_in_leaf<R: Rows>(
     })
 }
 
+/// The place that is sought in a span of a leaf.
+fn place_for(side: Side, window: Window, span: Span) -> Option<u64>
+    requires size { 1 ≤ window.size }
+    ensures place { result ≡ picked (pick_for side window) window (leaf_hole span) }
+{
+    match side {
+        Side::Low => low_place(window, span),
+        Side::High => high_place(window, span),
+    }
+}
+
+/// The place that is sought in leaves side by side. Each that is loaded is a step.
+fn place_in_leaves<R: Rows, L: Ledger>(
+    rows: &mut R,
+    side: Side,
+    leaves: &[Child],
+    window: Window,
+    steps: &mut Steps<L>,
+) -> Option<u64>
+    requires rows { All (λ (x : Child). MayLoad (R.sheet rows.old).tree x.span) leaves.now }
+    requires size { 1 ≤ window.size }
+    ensures place { result ≡ picked (pick_for side window) window (flat_map child_hole (children_below (R.sheet rows.old).tree.table leaves.now)) }
+    ensures loaded { LoadedUpTo (length leaves.now) (R.sheet rows.old) (R.sheet rows.new) steps.old steps.new }
+{
+    match side {
+        Side::Low => lowest_in_leaves(rows, leaves, window, steps),
+        Side::High => highest_in_leaves(rows, leaves, window, steps),
+    }
+}
+
 /// The place that is sought, by a search from level to level.
 fn place_by_levels<R: Rows, L: Ledger>(
     rows: &mut R,
@@ -286,10 +276,13 @@ fn place_by_levels<R: Rows, L: Ledger>(
     ensures steps { steps.new ≤ steps.old + 3 * height_in (R.sheet rows.old).tree.table (R.sheet rows.old).tree.root }
     ensures reads { ReadsUpTo (columns (R.sheet rows.old).tree.table.width * (steps.new - steps.old) + 1) (R.sheet rows.old) (R.sheet rows.new) }
 {
-    match side {
-        Side::Low => lowest(rows, window.size, window.lo, window.hi, steps),
-        Side::High => highest(rows, window.size, window.lo, window.hi, steps),
+    let word = rows.root();
+    let root = whole(rows.width(), word);
+    if word == 0 {
+        return place_for(side, window, root.span);
     }
+    let leaves = to_leaves(rows, side, root, window, steps);
+    place_in_leaves(rows, side, &leaves, window, steps)
 }
 
 /// The place where a search goes into more than one node of a level, and the way there, which is walked then.

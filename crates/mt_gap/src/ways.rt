@@ -1,6 +1,6 @@
 //! A search that goes into one node in each level, and keeps the way that it goes.
 
-ghost use Rattle.std.specs.Prelude.{◌≡◌, ◌≢◌, ◌<◌, ◌≤◌, ◌+◌, ◌-◌, ◌*◌, ◌∷◌, [], IfSome, IfNone, Some, if◌then◌else◌};
+ghost use Rattle.std.specs.Prelude.{◌≡◌, ◌≢◌, ◌<◌, ◌≤◌, ◌+◌, ◌-◌, ◌*◌, [], IfSome, IfNone, Some, if◌then◌else◌};
 ghost use Rattle.mt_base.specs.Width.{columns};
 ghost use Rattle.mt_layout.specs.declared.names.RowKind.TheVariants.{Gapped};
 ghost use Rattle.mt_layout.specs.Rows.{row_in, named_kind};
@@ -10,12 +10,10 @@ ghost use Rattle.mt_rows.specs.Spans.{root_span};
 ghost use Rattle.mt_rows.specs.Trees.{height_in};
 ghost use Rattle.mt_gap.specs.Children.{row_children};
 ghost use Rattle.mt_gap.specs.Descents.{IsGapped};
-ghost use Rattle.mt_gap.specs.Narrow.{has_sure};
 ghost use Rattle.mt_gap.specs.Slots.{child_in};
-ghost use Rattle.mt_gap.specs.declared.ways.Side.TheVariants as sides;
-ghost use Rattle.mt_gap.specs.Ways.{into_one_more, with_room, with_room_up, IsSearchedBelow, EndsIn, IsLeafEnd, IsOneWay};
+ghost use Rattle.mt_gap.specs.Ways.{ends_where, ends_with, forgets_where, into_one_more, with_child, IsSearchedBelow, EndsIn, IsLeafEnd, IsOneWay};
 
-use crate::children::load_last;
+use crate::children::{SlotAt, load_last};
 use crate::windows::{Window, is_inside, room_in_slot};
 use mt_base::{DEEPEST, Width};
 use mt_layout::{RowKind, Span, kind_of, row_of, slots};
@@ -37,6 +35,28 @@ pub(crate) enum Side {
     High,
 }
 
+impl Side {
+    /// Whether nothing is looked at after what is sure to have room.
+    fn ends(self, sure: bool) -> bool
+        ensures { result ≡ ends_where self sure }
+    {
+        match self {
+            Side::Low => sure,
+            Side::High => false,
+        }
+    }
+
+    /// Whether what is sure to have room stands for all before it.
+    fn forgets(self, sure: bool) -> bool
+        ensures { result ≡ forgets_where self sure }
+    {
+        match self {
+            Side::Low => false,
+            Side::High => sure,
+        }
+    }
+}
+
 /// How far a search gets that goes into one node in each level: nowhere, to a leaf, or to a node below which it goes into more.
 #[derive(Clone, Copy, Debug, PartialEq, Eq)]
 pub(crate) enum End {
@@ -56,7 +76,7 @@ fn one_more(below: Below, slot: u32, span: Span) -> Below
     }
 }
 
-/// What is gone into from the right: what a slot that lies in the window holds replaces all before it.
+/// What is gone into, with what one more slot holds, which may stand for all before it.
 fn one_more_up(below: Below, slot: u32, span: Span, sure: bool) -> Below
     ensures { result ≡ (if sure then Below.One slot span else into_one_more slot span below) }
 {
@@ -66,97 +86,32 @@ fn one_more_up(below: Below, slot: u32, span: Span, sure: bool) -> Below
     one_more(below, slot, span)
 }
 
-/// Takes what a slot of a node with gaps holds, if it may have room. Returns whether it lies in the window.
+/// Takes what a slot of a node with gaps holds, if it may have room. Returns whether nothing after it has to be looked at.
 fn take_slot<R: Rows>(
     rows: &mut R,
-    width: Width,
-    row: u32,
-    slot: u32,
+    side: Side,
+    at: SlotAt,
     first: u64,
     last: u64,
     window: Window,
     below: &mut Below,
 ) -> bool
-    requires width { width ≡ (R.sheet rows.old).tree.table.width }
-    requires row { IsPlace (R.sheet rows.old).tree row 0 }
-    requires slot { slot < slots_of (R.sheet rows.old).tree.table.width Gapped }
-    ensures below { below.new ≡ with_room window slot (child_in (R.sheet rows.old).tree.table Gapped row slot first last) below.old }
-    ensures found { result ≡ has_sure window.size window.lo window.hi (child_in (R.sheet rows.old).tree.table Gapped row slot first last ∷ []) }
+    requires width { at.width ≡ (R.sheet rows.old).tree.table.width }
+    requires row { IsPlace (R.sheet rows.old).tree at.row 0 }
+    requires slot { at.slot < slots_of (R.sheet rows.old).tree.table.width Gapped }
+    ensures below { below.new ≡ with_child side window at.slot (child_in (R.sheet rows.old).tree.table Gapped at.row at.slot first last) below.old }
+    ensures ends { result ≡ ends_with side window (child_in (R.sheet rows.old).tree.table Gapped at.row at.slot first last) }
     ensures reads { ReadsUpTo 2 (R.sheet rows.old) (R.sheet rows.new) }
 {
-    let Some(child) = room_in_slot(rows, width, row, slot, first, last, window) else {
+    let Some(child) = room_in_slot(rows, at, first, last, window) else {
         return false;
     };
-    *below = one_more(*below, slot, child.span);
-    is_inside(window, first, last)
+    let sure = is_inside(window, first, last);
+    *below = one_more_up(*below, at.slot, child.span, side.forgets(sure));
+    side.ends(sure)
 }
 
-/// What a search for the lowest place goes into below a node with gaps, which covers the indexes from `first` to `max`.
-fn look_low<R: Rows>(rows: &mut R, row: u32, first: u64, max: u64, window: Window) -> Below
-    requires row { IsPlace (R.sheet rows.old).tree row 0 }
-    ensures below { IsSearchedBelow sides.Low window (row_children (R.sheet rows.old).tree.table row Gapped first max) result }
-    ensures reads { ReadsUpTo (columns (R.sheet rows.old).tree.table.width) (R.sheet rows.old) (R.sheet rows.new) }
-{
-    let width = rows.width();
-    let mut below = Below::Nothing;
-    let mut begin = first;
-    for slot in 0..slots(width, RowKind::Gapped) {
-        let last = load_last(rows, width, RowKind::Gapped, row, max, slot);
-        if take_slot(rows, width, row, slot, begin, last, window, &mut below) {
-            return below;
-        }
-        if max <= last {
-            return below;
-        }
-        begin = last + 1;
-    }
-    below
-}
-
-/// Takes what a slot of a node with gaps holds, if it may have room: if it lies in the window, it replaces all before it.
-fn take_slot_up<R: Rows>(
-    rows: &mut R,
-    width: Width,
-    row: u32,
-    slot: u32,
-    first: u64,
-    last: u64,
-    window: Window,
-    below: &mut Below,
-)
-    requires width { width ≡ (R.sheet rows.old).tree.table.width }
-    requires row { IsPlace (R.sheet rows.old).tree row 0 }
-    requires slot { slot < slots_of (R.sheet rows.old).tree.table.width Gapped }
-    ensures below { below.new ≡ with_room_up window slot (child_in (R.sheet rows.old).tree.table Gapped row slot first last) below.old }
-    ensures reads { ReadsUpTo 2 (R.sheet rows.old) (R.sheet rows.new) }
-{
-    let Some(child) = room_in_slot(rows, width, row, slot, first, last, window) else {
-        return;
-    };
-    *below = one_more_up(*below, slot, child.span, is_inside(window, first, last));
-}
-
-/// What a search for the highest place goes into below a node with gaps, which covers the indexes from `first` to `max`.
-fn look_high<R: Rows>(rows: &mut R, row: u32, first: u64, max: u64, window: Window) -> Below
-    requires row { IsPlace (R.sheet rows.old).tree row 0 }
-    ensures below { IsSearchedBelow sides.High window (row_children (R.sheet rows.old).tree.table row Gapped first max) result }
-    ensures reads { ReadsUpTo (columns (R.sheet rows.old).tree.table.width) (R.sheet rows.old) (R.sheet rows.new) }
-{
-    let width = rows.width();
-    let mut below = Below::Nothing;
-    let mut begin = first;
-    for slot in 0..slots(width, RowKind::Gapped) {
-        let last = load_last(rows, width, RowKind::Gapped, row, max, slot);
-        take_slot_up(rows, width, row, slot, begin, last, window, &mut below);
-        if max <= last {
-            return below;
-        }
-        begin = last + 1;
-    }
-    below
-}
-
-/// What a search goes into below a node with gaps.
+/// What a search goes into below a node with gaps, which covers the indexes from `first` to `max`.
 fn look_below<R: Rows>(
     rows: &mut R,
     side: Side,
@@ -169,10 +124,21 @@ fn look_below<R: Rows>(
     ensures below { IsSearchedBelow side window (row_children (R.sheet rows.old).tree.table row Gapped first max) result }
     ensures reads { ReadsUpTo (columns (R.sheet rows.old).tree.table.width) (R.sheet rows.old) (R.sheet rows.new) }
 {
-    match side {
-        Side::Low => look_low(rows, row, first, max, window),
-        Side::High => look_high(rows, row, first, max, window),
+    let width = rows.width();
+    let mut below = Below::Nothing;
+    let mut begin = first;
+    for slot in 0..slots(width, RowKind::Gapped) {
+        let at = SlotAt { width, row, slot };
+        let last = load_last(rows, RowKind::Gapped, at, max);
+        if take_slot(rows, side, at, begin, last, window, &mut below) {
+            return below;
+        }
+        if max <= last {
+            return below;
+        }
+        begin = last + 1;
     }
+    below
 }
 
 /// The node that a span names, if it is one with gaps.

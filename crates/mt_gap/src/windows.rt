@@ -1,10 +1,10 @@
 //! What a search takes of a node: the children that may have room, and the room in a leaf. Each slot is looked at once, and the
 //! words of slots that are not taken are not loaded.
 
-ghost use Rattle.std.specs.Prelude.{◌≡◌, ◌+◌, ◌<◌, ◌≤◌, ◌++◌, ℕ, IfSome, Some, None, List, [], ◌∷◌, false, length, slice_get, take, if◌then◌else◌};
+ghost use Rattle.std.specs.Prelude.{◌≡◌, ◌+◌, ◌<◌, ◌≤◌, ◌++◌, ℕ, IfSome, Some, None, [], ◌∷◌, false, length, slice_get, take, if◌then◌else◌};
 ghost use Rattle.std.specs.List.{flat_map};
 ghost use Rattle.std.specs.Option.{option_map};
-ghost use Rattle.mt_base.specs.Holes.{Hole, kept, lowest_in, highest_in};
+ghost use Rattle.mt_base.specs.Holes.{kept, lowest_in, highest_in};
 ghost use Rattle.mt_base.specs.Width.{columns};
 ghost use Rattle.mt_layout.specs.declared.names.RowKind.TheVariants.{Gapped};
 ghost use Rattle.mt_layout.specs.Sizes.{slots_of};
@@ -15,7 +15,7 @@ ghost use Rattle.mt_gap.specs.Descents.{picked};
 ghost use Rattle.mt_gap.specs.Narrow.{may_have, inside, narrow, has_sure, next_up, narrow_up};
 ghost use Rattle.mt_gap.specs.Slots.{child_in};
 
-use crate::children::{Child, load_gap, load_last, load_word};
+use crate::children::{Child, SlotAt, load_gap, load_last, load_word};
 use arrayvec::ArrayVec;
 use mt_base::Width;
 use mt_layout::{RowKind, Span, slots};
@@ -52,25 +52,23 @@ pub(crate) fn is_inside(window: Window, first: u64, last: u64) -> bool
 /// What a slot of a node with gaps holds, if it may have room. Its word is loaded only then.
 pub(crate) fn room_in_slot<R: Rows>(
     rows: &mut R,
-    width: Width,
-    row: u32,
-    slot: u32,
+    at: SlotAt,
     first: u64,
     last: u64,
     window: Window,
 ) -> Option<Child>
-    requires width { width ≡ (R.sheet rows.old).tree.table.width }
-    requires row { IsPlace (R.sheet rows.old).tree row 0 }
-    requires slot { slot < slots_of (R.sheet rows.old).tree.table.width Gapped }
-    ensures child { let x = child_in (R.sheet rows.old).tree.table Gapped row slot first last in
+    requires width { at.width ≡ (R.sheet rows.old).tree.table.width }
+    requires row { IsPlace (R.sheet rows.old).tree at.row 0 }
+    requires slot { at.slot < slots_of (R.sheet rows.old).tree.table.width Gapped }
+    ensures child { let x = child_in (R.sheet rows.old).tree.table Gapped at.row at.slot first last in
         result ≡ (if may_have window.size window.lo window.hi x then Some x else None) }
     ensures reads { ReadsUpTo 2 (R.sheet rows.old) (R.sheet rows.new) }
 {
-    let gap = load_gap(rows, width, row, slot);
+    let gap = load_gap(rows, at);
     if !may_have(window, first, last, gap) {
         return None;
     }
-    let word = load_word(rows, width, RowKind::Gapped, row, slot);
+    let word = load_word(rows, RowKind::Gapped, at);
     Some(Child {
         span: Span { first, last, word },
         gap,
@@ -81,25 +79,23 @@ pub(crate) fn room_in_slot<R: Rows>(
 /// window.
 fn ask_slot<R: Rows>(
     rows: &mut R,
-    width: Width,
-    row: u32,
-    slot: u32,
+    at: SlotAt,
     first: u64,
     last: u64,
     window: Window,
     asked: &mut Asked,
 ) -> bool
-    requires width { width ≡ (R.sheet rows.old).tree.table.width }
-    requires row { IsPlace (R.sheet rows.old).tree row 0 }
-    requires slot { slot < slots_of (R.sheet rows.old).tree.table.width Gapped }
+    requires width { at.width ≡ (R.sheet rows.old).tree.table.width }
+    requires row { IsPlace (R.sheet rows.old).tree at.row 0 }
+    requires slot { at.slot < slots_of (R.sheet rows.old).tree.table.width Gapped }
     requires room { length asked.old.items
-        + length (narrow window.size window.lo window.hi (child_in (R.sheet rows.old).tree.table Gapped row slot first last ∷ [])) ≤ 3 }
+        + length (narrow window.size window.lo window.hi (child_in (R.sheet rows.old).tree.table Gapped at.row at.slot first last ∷ [])) ≤ 3 }
     ensures items { asked.new.items ≡ asked.old.items
-        ++ narrow window.size window.lo window.hi (child_in (R.sheet rows.old).tree.table Gapped row slot first last ∷ []) }
-    ensures found { result ≡ has_sure window.size window.lo window.hi (child_in (R.sheet rows.old).tree.table Gapped row slot first last ∷ []) }
+        ++ narrow window.size window.lo window.hi (child_in (R.sheet rows.old).tree.table Gapped at.row at.slot first last ∷ []) }
+    ensures found { result ≡ has_sure window.size window.lo window.hi (child_in (R.sheet rows.old).tree.table Gapped at.row at.slot first last ∷ []) }
     ensures reads { ReadsUpTo 2 (R.sheet rows.old) (R.sheet rows.new) }
 {
-    let Some(child) = room_in_slot(rows, width, row, slot, first, last, window) else {
+    let Some(child) = room_in_slot(rows, at, first, last, window) else {
         return false;
     };
     asked.push(child);
@@ -127,8 +123,9 @@ pub(crate) fn ask_row<R: Rows>(
     let width = rows.width();
     let mut begin = first;
     for slot in 0..slots(width, RowKind::Gapped) {
-        let last = load_last(rows, width, RowKind::Gapped, row, max, slot);
-        if ask_slot(rows, width, row, slot, begin, last, window, asked) {
+        let at = SlotAt { width, row, slot };
+        let last = load_last(rows, RowKind::Gapped, at, max);
+        if ask_slot(rows, at, begin, last, window, asked) {
             return true;
         }
         if max <= last {
@@ -153,23 +150,22 @@ fn take_up(child: Child, is_inside: bool, asked: &mut Asked)
 /// Takes what a slot of a node with gaps holds, if it may have room: if it lies in the window, it replaces all before it.
 fn ask_slot_up<R: Rows>(
     rows: &mut R,
-    width: Width,
-    row: u32,
-    slot: u32,
+    at: SlotAt,
     first: u64,
     last: u64,
     window: Window,
     asked: &mut Asked,
 )
-    requires width { width ≡ (R.sheet rows.old).tree.table.width }
-    requires row { IsPlace (R.sheet rows.old).tree row 0 }
-    requires slot { slot < slots_of (R.sheet rows.old).tree.table.width Gapped }
-    requires room { length (next_up window.size window.lo window.hi asked.old.items (child_in (R.sheet rows.old).tree.table Gapped row slot first last)) ≤ 3 }
+    requires width { at.width ≡ (R.sheet rows.old).tree.table.width }
+    requires row { IsPlace (R.sheet rows.old).tree at.row 0 }
+    requires slot { at.slot < slots_of (R.sheet rows.old).tree.table.width Gapped }
+    requires room { length (next_up window.size window.lo window.hi asked.old.items
+        (child_in (R.sheet rows.old).tree.table Gapped at.row at.slot first last)) ≤ 3 }
     ensures items { asked.new.items
-        ≡ next_up window.size window.lo window.hi asked.old.items (child_in (R.sheet rows.old).tree.table Gapped row slot first last) }
+        ≡ next_up window.size window.lo window.hi asked.old.items (child_in (R.sheet rows.old).tree.table Gapped at.row at.slot first last) }
     ensures reads { ReadsUpTo 2 (R.sheet rows.old) (R.sheet rows.new) }
 {
-    if let Some(child) = room_in_slot(rows, width, row, slot, first, last, window) {
+    if let Some(child) = room_in_slot(rows, at, first, last, window) {
         take_up(child, is_inside(window, first, last), asked);
     }
 }
@@ -194,8 +190,9 @@ pub(crate) fn ask_row_up<R: Rows>(
     let width = rows.width();
     let mut begin = first;
     for slot in 0..slots(width, RowKind::Gapped) {
-        let last = load_last(rows, width, RowKind::Gapped, row, max, slot);
-        ask_slot_up(rows, width, row, slot, begin, last, window, asked);
+        let at = SlotAt { width, row, slot };
+        let last = load_last(rows, RowKind::Gapped, at, max);
+        ask_slot_up(rows, at, begin, last, window, asked);
         if max <= last {
             return;
         }
@@ -261,8 +258,9 @@ pub(crate) fn lowest_of<R: Rows>(
     let width = rows.width();
     let mut begin = first;
     for slot in 0..slots(width, kind) {
-        let last = load_last(rows, width, kind, row, max, slot);
-        let word = load_word(rows, width, kind, row, slot);
+        let at = SlotAt { width, row, slot };
+        let last = load_last(rows, kind, at, max);
+        let word = load_word(rows, kind, at);
         let place = low_place(
             window,
             Span {
@@ -301,8 +299,9 @@ pub(crate) fn highest_of<R: Rows>(
     let mut found = None;
     let mut begin = first;
     for slot in 0..slots(width, kind) {
-        let last = load_last(rows, width, kind, row, max, slot);
-        let word = load_word(rows, width, kind, row, slot);
+        let at = SlotAt { width, row, slot };
+        let last = load_last(rows, kind, at, max);
+        let word = load_word(rows, kind, at);
         found = high_place(
             window,
             Span {

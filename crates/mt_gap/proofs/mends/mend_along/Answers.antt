@@ -3,13 +3,15 @@ use Rattle.mt_gap.proofs.Along.{HasMendedOn, level_within, words_on, may_mend_on
 use Rattle.mt_gap.proofs.MendWay.{end_way, nothing_to_mend, spans_loaded}
 use Rattle.mt_gap.proofs.mends.mend_along.Goals as goal
 
-pub returns-then-not-has_gaps-clause-gaps : goal.returns-then-not-has_gaps-clause-gaps
-returns-then-not-has_gaps-clause-gaps g c gapped told =
-    nothing_to_mend gapped (g.R.Rows.sheet c.args.rows.now) (g.R.Rows.sheet c.has_gaps.new.rows) c.args.path.now.items told.leaf told.way
-    (λ root. let is : IsTrue c.has_gaps.result = c.has_gaps.ensures.gapped.1 root in absurd (search rules)) c.has_gaps.ensures.rest
-
-pub returns-then-not-has_gaps-clause-spans : goal.returns-then-not-has_gaps-clause-spans
-returns-then-not-has_gaps-clause-spans g c gapped h stands = spans_loaded (g.R.Rows.sheet c.args.rows.now) (g.R.Rows.sheet c.has_gaps.new.rows) gapped h c.has_gaps.ensures.rest stands
+pub returns-then-not-has_gaps : goal.returns-then-not-has_gaps
+returns-then-not-has_gaps g c = record {
+  gaps = λ gapped told. nothing_to_mend gapped (g.R.Rows.sheet c.args.rows.now) (g.R.Rows.sheet c.has_gaps.new.rows) c.args.path.now.items told.leaf told.way
+      (λ root. let is : IsTrue c.has_gaps.result = c.has_gaps.ensures.gapped.1 root in absurd (search rules)) c.has_gaps.ensures.rest;
+  rest = search rules;
+  words = search rules;
+  plain = search rules;
+  spans = λ gapped h stands. spans_loaded (g.R.Rows.sheet c.args.rows.now) (g.R.Rows.sheet c.has_gaps.new.rows) gapped h c.has_gaps.ensures.rest stands;
+}
 
 pub overflow_sub-level : goal.overflow_sub-level
 overflow_sub-level g c =
@@ -95,19 +97,16 @@ loop-level-preserved g c =
           (λ i. (c.deref-in-loop-level.ensures.0 i, c.deref-in-loop-level-2.ensures.0 i)) c.mend_slot.ensures),
     )
 
-pub returns-clause-gaps : goal.returns-clause-gaps
-returns-clause-gaps g c gapped told =
-    let l = c.loop-level in
-    let root : named_kind (g.R.Rows.sheet c.args.rows.now).tree.root ≡ Some Gapped = c.has_gaps.ensures.gapped.0 (search rules) in
-    let last = c.loop-level-test.false in
-    end_way gapped (g.R.Rows.sheet c.args.rows.now) (g.R.Rows.sheet l.rows) c.args.path.now.items told.leaf l.invariant.1.way Gapped l.level told.way root l.invariant.1.mended (omega arith)
-
-pub returns-clause-words : goal.returns-clause-words
-returns-clause-words g c =
-    let l = c.loop-level in
-    words_on (g.R.Rows.sheet c.args.rows.now) (g.R.Rows.sheet l.rows) c.args.path.now.items l.invariant.0 Gapped l.level (step_at c.args.path.now.items (l.level - 1)) l.invariant.1
-
-pub returns-clause-spans : goal.returns-clause-spans
-returns-clause-spans g c gapped h stands =
-    let l = c.loop-level in
-    spans_on gapped (g.R.Rows.sheet c.args.rows.now) (g.R.Rows.sheet l.rows) c.args.path.now.items l.invariant.0 Gapped l.level (step_at c.args.path.now.items (l.level - 1)) h l.invariant.1 stands
+pub returns : goal.returns
+returns g c = record {
+  gaps = λ gapped told. let l = c.loop-level in
+      let root : named_kind (g.R.Rows.sheet c.args.rows.now).tree.root ≡ Some Gapped = c.has_gaps.ensures.gapped.0 (search rules) in
+      let last = c.loop-level-test.false in
+      end_way gapped (g.R.Rows.sheet c.args.rows.now) (g.R.Rows.sheet l.rows) c.args.path.now.items told.leaf l.invariant.1.way Gapped l.level told.way root l.invariant.1.mended (omega arith);
+  rest = search rules;
+  words = let l = c.loop-level in
+      words_on (g.R.Rows.sheet c.args.rows.now) (g.R.Rows.sheet l.rows) c.args.path.now.items l.invariant.0 Gapped l.level (step_at c.args.path.now.items (l.level - 1)) l.invariant.1;
+  plain = search rules;
+  spans = λ gapped h stands. let l = c.loop-level in
+      spans_on gapped (g.R.Rows.sheet c.args.rows.now) (g.R.Rows.sheet l.rows) c.args.path.now.items l.invariant.0 Gapped l.level (step_at c.args.path.now.items (l.level - 1)) h l.invariant.1 stands;
+}

@@ -5,13 +5,15 @@ use Rattle.mt_gap.proofs.mends.mend_way.Given.{Over}
 use Rattle.mt_gap.proofs.mends.mend_way.Goals.{After-len-level}
 use Rattle.mt_gap.proofs.mends.mend_way.Goals as goal
 
-pub returns-then-not-has_gaps-clause-gaps : goal.returns-then-not-has_gaps-clause-gaps
-returns-then-not-has_gaps-clause-gaps g c gapped way =
-    nothing_to_mend gapped (g.R.Rows.sheet c.args.rows.now) (g.R.Rows.sheet c.has_gaps.new.rows) c.args.path.now.items c.args.leaf way
-    (λ root. let is : IsTrue c.has_gaps.result = c.has_gaps.ensures.gapped.1 root in absurd (search rules)) c.has_gaps.ensures.rest
-
-pub returns-then-not-has_gaps-clause-spans : goal.returns-then-not-has_gaps-clause-spans
-returns-then-not-has_gaps-clause-spans g c gapped h stands = spans_loaded (g.R.Rows.sheet c.args.rows.now) (g.R.Rows.sheet c.has_gaps.new.rows) gapped h c.has_gaps.ensures.rest stands
+pub returns-then-not-has_gaps : goal.returns-then-not-has_gaps
+returns-then-not-has_gaps g c = record {
+  gaps = λ gapped way. nothing_to_mend gapped (g.R.Rows.sheet c.args.rows.now) (g.R.Rows.sheet c.has_gaps.new.rows) c.args.path.now.items c.args.leaf way
+      (λ root. let is : IsTrue c.has_gaps.result = c.has_gaps.ensures.gapped.1 root in absurd (search rules)) c.has_gaps.ensures.rest;
+  rest = search rules;
+  words = search rules;
+  plain = search rules;
+  spans = λ gapped h stands. spans_loaded (g.R.Rows.sheet c.args.rows.now) (g.R.Rows.sheet c.has_gaps.new.rows) gapped h c.has_gaps.ensures.rest stands;
+}
 
 -- there is a level at least
 some_levels : (g : Over) (c : After-len-level g) → 1 ≤ c.len-level.result
@@ -61,19 +63,16 @@ loop-level-preserved g c =
     (mended_on s s' c.args.path.now.items c.args.leaf l.kind l.level l.below l.invariant c.loop-level-test.true (g.met.R.Rows.whole c.loop-level.rows) s''
     (subst (λ (steps : List PathStep). IsMended s' s'' c.loop-level.kind (step_at steps (c.loop-level.level - 1 - 1)) c.loop-level.below) c.deref-in-loop-level.ensures.0 c.mend_slot.ensures))
 
-pub returns-clause-gaps : goal.returns-clause-gaps
-returns-clause-gaps g c gapped way =
-    let l = c.loop-level in
-    let root : named_kind (g.R.Rows.sheet c.args.rows.now).tree.root ≡ Some Gapped = c.has_gaps.ensures.gapped.0 (search rules) in
-    let last = c.loop-level-test.false in
-    end_on gapped (g.R.Rows.sheet c.args.rows.now) (g.R.Rows.sheet l.rows) c.args.path.now.items c.args.leaf l.kind l.level l.below way root l.invariant (omega arith)
-
-pub returns-clause-words : goal.returns-clause-words
-returns-clause-words g c =
-    let l = c.loop-level in
-    words_on (g.R.Rows.sheet c.args.rows.now) (g.R.Rows.sheet l.rows) c.args.path.now.items c.args.leaf l.kind l.level l.below l.invariant
-
-pub returns-clause-spans : goal.returns-clause-spans
-returns-clause-spans g c gapped h stands =
-    let l = c.loop-level in
-    spans_on gapped (g.R.Rows.sheet c.args.rows.now) (g.R.Rows.sheet l.rows) c.args.path.now.items c.args.leaf l.kind l.level l.below h l.invariant stands
+pub returns : goal.returns
+returns g c = record {
+  gaps = λ gapped way. let l = c.loop-level in
+      let root : named_kind (g.R.Rows.sheet c.args.rows.now).tree.root ≡ Some Gapped = c.has_gaps.ensures.gapped.0 (search rules) in
+      let last = c.loop-level-test.false in
+      end_on gapped (g.R.Rows.sheet c.args.rows.now) (g.R.Rows.sheet l.rows) c.args.path.now.items c.args.leaf l.kind l.level l.below way root l.invariant (omega arith);
+  rest = search rules;
+  words = let l = c.loop-level in
+      words_on (g.R.Rows.sheet c.args.rows.now) (g.R.Rows.sheet l.rows) c.args.path.now.items c.args.leaf l.kind l.level l.below l.invariant;
+  plain = search rules;
+  spans = λ gapped h stands. let l = c.loop-level in
+      spans_on gapped (g.R.Rows.sheet c.args.rows.now) (g.R.Rows.sheet l.rows) c.args.path.now.items c.args.leaf l.kind l.level l.below h l.invariant stands;
+}

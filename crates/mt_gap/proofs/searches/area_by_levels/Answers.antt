@@ -1,5 +1,4 @@
-use Rattle.mt_gap.proofs.Prelude.{◌+◌, ◌*◌, ◌≤◌, sym, ap, subst, columns, height_in, reads_more, Kind, greatest, IsTreeOf, Rooted, Sheet}
-use Rattle.mt_path.specs.Paths.{loads_on}
+use Rattle.mt_gap.proofs.Prelude.{◌+◌, ◌*◌, ◌≤◌, sym, ap, subst, columns, height_in, reads_more, Kind, greatest, IsTreeOf, Rooted, Sheet, loads_on}
 use Rattle.mt_gap.proofs.Readings.{within_steps}
 use Rattle.mt_gap.proofs.OneWay.{some_kind, place_within}
 use Rattle.mt_gap.proofs.searches.area_by_levels.Goals as goal

@@ -1,6 +1,4 @@
-use Rattle.mt_gap.proofs.Prelude.{◌+◌, ◌≤◌, length, sym, ap, ◌∙◌, subst, arith, reads_more, columns, Kind, greatest, IsTreeOf, Rooted, Sheet, handle_in, path_in, EntersLeaf}
-use Rattle.mt_path.specs.Handles.{last_step}
-use Rattle.mt_path.specs.Paths.{loads_at}
+use Rattle.mt_gap.proofs.Prelude.{◌+◌, ◌≤◌, length, sym, ap, ◌∙◌, subst, arith, reads_more, columns, Kind, greatest, IsTreeOf, Rooted, Sheet, handle_in, path_in, EntersLeaf, last_step, loads_at}
 use Rattle.mt_gap.proofs.OneWay.{some_kind, start_within, enters_leaf, is_area}
 use Rattle.mt_gap.proofs.searches.area_in_leaf.Goals as goal
 

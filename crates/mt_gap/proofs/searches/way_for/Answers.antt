@@ -1,8 +1,4 @@
-use Rattle.mt_gap.proofs.Prelude.{◌+◌, ◌*◌, ◌≤◌, rules, sym, ap, ◌∙◌, subst, arith, Rooted, Sheet, height_in, sought_to}
-use Rattle.mt_path.proofs.Loads.{last_loads}
-use Rattle.mt_path.specs.Handles.{last_step}
-use Rattle.mt_path.specs.Paths.{loads_at, loads_on}
-use Rattle.mt_gap.specs.Ways.{IsOneWay}
+use Rattle.mt_gap.proofs.Prelude.{◌+◌, ◌*◌, ◌≤◌, rules, sym, ap, ◌∙◌, subst, arith, Rooted, Sheet, height_in, sought_to, IsOneWay, last_loads, last_step, loads_at, loads_on}
 use Rattle.mt_gap.proofs.OneWay.{sought_is, same_begin, same_end, few_nowhere, few_leaf, few_levels, found_empty, found_leaf, found_levels, one_leaf}
 use Rattle.mt_gap.proofs.SingleWay.{one_way_full, some_if, some_two}
 use Rattle.mt_gap.proofs.searches.way_for.Goals as goal

@@ -1,7 +1,6 @@
-use Rattle.mt_gap.specs.Ways.{GoesOneWay}
 use Rattle.mt_gap.proofs.OneWay.{goes_root, ends_in_leaf, may_load_it, goes_nowhere, goes_below, reads_above}
 use Rattle.mt_gap.proofs.SingleWay.{one_goes_on, one_not_more, one_not_none}
-use Rattle.mt_gap.proofs.Prelude.{ℕ, subst, sym, Gapped, IsPlace, Span, tree_kept}
+use Rattle.mt_gap.proofs.Prelude.{ℕ, subst, sym, Gapped, IsPlace, Span, tree_kept, GoesOneWay}
 use Rattle.mt_gap.proofs.ways.go_one_way.Goals as goal
 
 pub loop-init : goal.loop-init

@@ -1,5 +1,4 @@
-use Rattle.mt_gap.proofs.Prelude.{ℕ}
-use Rattle.mt_gap.specs.Ways.{GoesOneWay, IsOneWay}
+use Rattle.mt_gap.proofs.Prelude.{ℕ, GoesOneWay, IsOneWay}
 use Rattle.mt_gap.proofs.OneWay.{GoesOn}
 use Rattle.mt_gap.proofs.ways.go_one_way.Given as goal
 

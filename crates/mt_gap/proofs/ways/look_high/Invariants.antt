@@ -1,7 +1,0 @@
-use Rattle.mt_gap.proofs.Prelude.{Gapped}
-use Rattle.mt_gap.proofs.OneWay.{HasSeenUp}
-use Rattle.mt_gap.proofs.RowReads.{IsReadTo}
-use Rattle.mt_gap.proofs.ways.look_high.Given as goal
-
-abbrev pub invariant-loop-slot : goal.invariant-loop-slot
-invariant-loop-slot g l = IsReadTo (HasSeenUp l.window l.below) (g.R.Rows.sheet l.fn.rows) (g.R.Rows.sheet l.rows) Gapped l.row l.first l.max l.slot l.begin
