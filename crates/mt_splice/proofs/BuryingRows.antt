@@ -1,7 +1,5 @@
 -- The rows of windows buried along one walk each.
-use Rattle.mt_splice.proofs.Prelude.{[], ◌≡◌, ℕ, ◌+◌, ◌-◌, ◌<◌, ◌≤◌, List, ◌∷◌, ◌++◌, length, map, refl, sym, ap, ◌∙◌, subst, ⊎_elim, arith, inl, inr, is_some, Some, cases_lt, map-append, Kind, Width, greatest, Book, after_retire, RowKind, Span, row_in, named_kind, fills_le, PathStep, path_in, step_at, step_in, levels, step, place, Tree, Stands, top_of, top_row, IsTreeOf, tree_as, Rooted, Sheet, OnlyReads, same_tree, reads_on, after_bury, Window, MayBeBuried, MayBeBuriedInTurn, numbers_between, numbers_in, numbers_in_all, Child, IsWindowOn, IsSlotOfChild, IsChildOn, IsStretchOn, LeadsTo, AreWindowsOn, span_on, between, row_at, low_of, high_of, rows_at}
-use Rattle.std.specs.Prelude.{IsSome}
-use Rattle.mt_path.proofs.Ways.{root_named, row_on_top}
+use Rattle.mt_splice.proofs.Prelude.{[], ◌≡◌, ℕ, ◌+◌, ◌-◌, ◌<◌, ◌≤◌, List, ◌∷◌, ◌++◌, length, map, refl, sym, ap, ◌∙◌, subst, ⊎_elim, arith, inl, inr, is_some, Some, cases_lt, map-append, Kind, Width, greatest, Book, after_retire, RowKind, Span, row_in, named_kind, fills_le, PathStep, path_in, step_at, step_in, levels, step, place, Tree, Stands, top_of, top_row, IsTreeOf, tree_as, Rooted, Sheet, OnlyReads, same_tree, reads_on, after_bury, Window, MayBeBuried, MayBeBuriedInTurn, numbers_between, numbers_in, numbers_in_all, Child, IsWindowOn, IsSlotOfChild, IsChildOn, IsStretchOn, LeadsTo, AreWindowsOn, span_on, between, row_at, low_of, high_of, rows_at, root_named, row_on_top, IsSome}
 use Rattle.mt_splice.proofs.Burials.{AreBuried, may_front, may_then, may_later, reads_buried, one_buried, more_buried}
 use Rattle.mt_splice.proofs.Children.{standing_at, may_load_child, number_of_child, end_of_child}
 use Rattle.mt_splice.proofs.KeptTrees.{SameTree, buried_tree, same_kind}

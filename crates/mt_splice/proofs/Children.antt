@@ -1,11 +1,6 @@
 -- The nodes of a level by the slots of the nodes above them.
-use Rattle.std.specs.Prelude.{IsSome}
-use Rattle.mt_splice.proofs.Prelude.{◌≡◌, ◌↔◌, ℕ, suc, ◌+◌, ◌-◌, ◌<◌, ◌≤◌, List, Option, Some, None, Bool, true, false, OnTrue, length, nat_lt, if◌then◌else◌, is_some, refl, sym, ap, ◌∙◌, subst, arith, Kind, greatest, columns, first_row, some_columns, Item, item_at, items_at, pivot_column, RowKind, Span, row_in, named_kind, named_row, slots_of, gaps_of, Names-named_kind, length-spans_from, Table, base_of, column, spans_in, root_span, inner_of, kind_on, Tree, IsRow, Stands, top_of, IsTreeOf, tree_as, Rooted, Sheet, OnlyReads, same_tree, row_most, PathStep, At, at_within, path_in, step_at, step_in, slot_for, span_at, levels, step, place, child, lawful, slot_used, inside_agree, some_root, some_tree, rows_at, row_at, Child, IsSlotOfChild, IsChildOn, LeadsTo, spans_on, span_on}
-use Rattle.mt_layout.proofs.RowSizes.{slots_of-columns}
+use Rattle.mt_splice.proofs.Prelude.{◌≡◌, ◌↔◌, ℕ, suc, ◌+◌, ◌-◌, ◌<◌, ◌≤◌, List, Option, Some, None, Bool, true, false, OnTrue, length, nat_lt, if◌then◌else◌, is_some, refl, sym, ap, ◌∙◌, subst, arith, Kind, greatest, columns, first_row, some_columns, Item, item_at, items_at, pivot_column, RowKind, Span, row_in, named_kind, named_row, slots_of, gaps_of, Names-named_kind, length-spans_from, Table, base_of, column, spans_in, root_span, inner_of, kind_on, Tree, IsRow, Stands, top_of, IsTreeOf, tree_as, Rooted, Sheet, OnlyReads, same_tree, row_most, PathStep, At, at_within, path_in, step_at, step_in, slot_for, span_at, levels, step, place, child, lawful, slot_used, inside_agree, some_root, some_tree, rows_at, row_at, Child, IsSlotOfChild, IsChildOn, LeadsTo, spans_on, span_on, slots_of-columns, row_next, rooted, root_named, IsSome}
 use Rattle.mt_path.proofs.LeafSlots.{stands_in, fills_within, fills_next, fills_more, fills_slot}
-use Rattle.mt_path.proofs.Steps.{row_next}
-use Rattle.mt_path.proofs.TreePaths.{rooted}
-use Rattle.mt_path.proofs.Ways.{root_named}
 use Rattle.mt_splice.proofs.PathRows.{spans_of_step}
 
 -- a tree with a path that reaches so deep stands, and is as high

@@ -1,5 +1,5 @@
 -- What a replacement leaves in lives and in the book, and where it published.
-use Rattle.mt_splice.proofs.Prelude.{◌≡◌, ◌≢◌, ℕ, zero, suc, ◌+◌, ◌*◌, ◌<◌, ◌≤◌, List, ◌++◌, Option, Some, None, Bool, true, false, map, refl, sym, ap, ◌∙◌, subst, inl, inr, arith, append_assoc, if◌then◌else◌, All, AllPairs, Contains, cases_Bool, cases_eq, length-map, map-append, All-weaker, All-append, All-contains, Contains-append_left, Contains-append_right, Contains-append_cases, Range, Reply, Width, acted, columns, first_row, row_in, dead_mark, Book, Held, IsBook, IsOut, held_rows, Live, Dead, Place, Root, Slot, column, root_span, Span, KeepsGaps, HasGapsBut, Levels, is_row_of, levels_pair, height_in, Rooted, Sheet, life_of, is_buried, word_at, tree_as, IsTreeOf, LiveAreReached, NoneBuried, is_reached, IsReached, map_by, with_published, life_after, IsPlaceToPublish, passing, now, Before, row_seen, stamped, root_of, Shared, levels_from, name_some, WasPublishedAt, IsBooked, HasParents, HasFewest, IsSpliced, is_unreached, GapsBeside, IsUnheld, IsBookOf, StandsAs, FewestAs, count_in, IsChildSlot, IsEndPlace, IsTop, was_seen}
+use Rattle.mt_splice.proofs.Prelude.{◌≡◌, ◌≢◌, ℕ, zero, suc, ◌+◌, ◌*◌, ◌<◌, ◌≤◌, List, ◌++◌, Option, Some, None, Bool, true, false, map, refl, sym, ap, ◌∙◌, subst, inl, inr, arith, append_assoc, if◌then◌else◌, All, AllPairs, Contains, cases_Bool, cases_eq, length-map, map-append, All-weaker, All-append, All-contains, Contains-append_left, Contains-append_right, Contains-append_cases, Range, Reply, Width, acted, columns, first_row, row_in, dead_mark, Book, StampedRow, IsBook, IsOut, held_rows, Live, Dead, Place, Root, Slot, column, root_span, Span, KeepsGaps, HasGapsBut, Levels, is_row_of, levels_pair, height_in, Rooted, Sheet, life_of, is_buried, word_at, tree_as, IsTreeOf, LiveAreReached, NoneBuried, is_reached, IsReached, map_by, with_published, life_after, IsPlaceToPublish, passing, now, Before, row_seen, stamped, root_of, Shared, levels_from, name_some, WasPublishedAt, IsBooked, HasParents, HasFewest, IsSpliced, is_unreached, GapsBeside, IsUnheld, IsBookOf, StandsAs, FewestAs, count_in, IsChildSlot, IsEndPlace, IsTop, was_seen}
 use Rattle.mt_rows.specs.Laws as laws
 use Rattle.mt_rows.proofs.Reached as reached
 use Rattle.mt_splice.proofs.FewestRows.{SameNews, fewest_later}
@@ -140,7 +140,7 @@ module _ (f : ends.Finish) (s' : Sheet) (o : Outcome f s') where
     few = let few = f.may.few in omega (arith, length-map f.may.taken row_seen);
     used = all_ones (IsReached s'.tree) taken (λ row one. is_reached_later row (taken_reached row (one_contains taken row one)));
     gone = gone;
-    held = (ends.ledger f).held ∙ ap (λ (l : List Held). b.book.held ++ l) (sym (stamped_rows b.number f.may.gone));
+    held = (ends.ledger f).held ∙ ap (λ (l : List StampedRow). b.book.held ++ l) (sym (stamped_rows b.number f.may.gone));
     were_reached = all_ones (IsReached b.sheet.tree) gone (λ row one. ends.reached_was f row (gone_fate row (one_contains gone row one)).0);
     are_not = all_ones (λ (row : ℕ). is_reached s'.tree row ≡ false) gone (λ row one. not_reached_later row (gone_fate row (one_contains gone row one)).1);
     all = λ row was not. seen_contains row f.may.gone (ends.was_gone f row (ends.was_reached f row was) (unreached_later row not));
@@ -148,8 +148,8 @@ module _ (f : ends.Finish) (s' : Sheet) (o : Outcome f s') where
 
   held_later : held_rows book ≡ held_rows b.book ++ gone
   held_later =
-      ap (map (λ (h : Held). h.row)) (ends.ledger f).held
-      ∙ (map-append (λ (h : Held). h.row) b.book.held (map (stamped b.number) f.may.gone)
+      ap (map (λ (h : StampedRow). h.row)) (ends.ledger f).held
+      ∙ (map-append (λ (h : StampedRow). h.row) b.book.held (map (stamped b.number) f.may.gone)
       ∙ ap (λ (l : List ℕ). held_rows b.book ++ l) (rows_stamped b.number f.may.gone))
 
   still_free : (row : ℕ) → Contains book.free row → Contains b.book.free row
@@ -240,14 +240,14 @@ module _ (f : ends.Finish) (s' : Sheet) (o : Outcome f s') where
       subst (λ (n : ℕ). IsUnheld n (life_of s'.lives row)) (sym (ap (λ (x : Sheet). x.cleared) o.rest))
       (subst (IsUnheld b.sheet.cleared) (sym (untouched row number.0 last fate.0 fate.1)) was))
 
-  stamps : All (λ (h : Held). h.stamp < b.number + 1) book.held
+  stamps : All (λ (h : StampedRow). h.stamp < b.number + 1) book.held
   stamps =
-      subst (All (λ (h : Held). h.stamp < b.number + 1)) (sym (ends.ledger f).held)
-      (All-append (λ (h : Held). h.stamp < b.number + 1) b.book.held (map (stamped b.number) f.may.gone)
-      (All-weaker (λ (h : Held). h.stamp < b.number) (λ (h : Held). h.stamp < b.number + 1) (λ h low. omega arith) b.book.held f.may.case.was.kept.booked.stamps)
-      (all_ones (λ (h : Held). h.stamp < b.number + 1) (map (stamped b.number) f.may.gone) (λ h one.
+      subst (All (λ (h : StampedRow). h.stamp < b.number + 1)) (sym (ends.ledger f).held)
+      (All-append (λ (h : StampedRow). h.stamp < b.number + 1) b.book.held (map (stamped b.number) f.may.gone)
+      (All-weaker (λ (h : StampedRow). h.stamp < b.number) (λ (h : StampedRow). h.stamp < b.number + 1) (λ h low. omega arith) b.book.held f.may.case.was.kept.booked.stamps)
+      (all_ones (λ (h : StampedRow). h.stamp < b.number + 1) (map (stamped b.number) f.may.gone) (λ h one.
       (let at = map_one (stamped b.number) f.may.gone h one in
-      subst (λ (g : Held). g.stamp < b.number + 1) at.2 (omega arith)))))
+      subst (λ (g : StampedRow). g.stamp < b.number + 1) at.2 (omega arith)))))
 
   -- the book of these rows, of which some are taken and others retired
   sound : IsBook book
@@ -255,7 +255,7 @@ module _ (f : ends.Finish) (s' : Sheet) (o : Outcome f s') where
       let was = f.may.case.was.kept.booked in
       let free : IsBook (record { rows = b.book.rows; free = book.free ++ taken; held = b.book.held }) = subst (λ (l : List ℕ). IsBook (record { rows = b.book.rows; free = l; held = b.book.held })) (ends.ledger f).free was.sound in
       let held = retired_leave_book (record { rows = b.book.rows; free = book.free; held = b.book.held }) b.number f.may.gone (taken_leave_book b.book.rows book.free taken b.book.held free)
-      (All-weaker (λ (h : Held). h.stamp < b.number) (λ (h : Held). h.stamp ≤ b.number) (λ h low. omega arith) b.book.held was.stamps)
+      (All-weaker (λ (h : StampedRow). h.stamp < b.number) (λ (h : StampedRow). h.stamp ≤ b.number) (λ h low. omega arith) b.book.held was.stamps)
       (λ row. (let c = ends.counts f row in let were = c.were in let once = c.once in omega arith))
       (λ seen one.
       (let out = was_out (row_seen seen) (ends.gone_was f (row_seen seen) (seen_some f.may.gone seen one)).0 in

@@ -1,5 +1,5 @@
 -- The rows that were seen, as a list of numbers, and rows of the book.
-use Rattle.mt_splice.proofs.Prelude.{◌≡◌, ◌≢◌, ℕ, zero, suc, ◌+◌, ◌<◌, ◌≤◌, ◌==◌, List, [], ◌∷◌, ◌++◌, Bool, length, map, refl, sym, ap, ◌∙◌, subst, inl, inr, arith, eq-eqb, length-append, slice_index_or, All, AllPairs, Contains, eqb-true, get_or_append_left, get_or-append-add, All-from_recursion, row_in, Held, is_row_of, IsOneOf, tally_some, tally_place, all_of_each, Seen, passing, row_seen, stamped}
+use Rattle.mt_splice.proofs.Prelude.{◌≡◌, ◌≢◌, ℕ, zero, suc, ◌+◌, ◌<◌, ◌≤◌, ◌==◌, List, [], ◌∷◌, ◌++◌, Bool, length, map, refl, sym, ap, ◌∙◌, subst, inl, inr, arith, eq-eqb, length-append, slice_index_or, All, AllPairs, Contains, eqb-true, get_or_append_left, get_or-append-add, All-from_recursion, row_in, StampedRow, is_row_of, IsOneOf, tally_some, tally_place, all_of_each, Seen, passing, row_seen, stamped}
 
 -- ---- one of a list
 
@@ -60,4 +60,4 @@ contains_seen row seen has =
 
 pub stamped_rows : (number : ℕ) (seen : List Seen) → map (λ (row : ℕ). record { row = row; stamp = number }) (map row_seen seen) ≡ map (stamped number) seen
 stamped_rows number [] = refl
-stamped_rows number (s ∷ seen) = ap (λ (l : List Held). stamped number s ∷ l) (stamped_rows number seen)
+stamped_rows number (s ∷ seen) = ap (λ (l : List StampedRow). stamped number s ∷ l) (stamped_rows number seen)

@@ -1,5 +1,5 @@
 -- Rows and a book of which nothing was used yet stand for the empty map, and are ready for a call.
-use Rattle.mt_splice.proofs.Prelude.{◌≡◌, ℕ, zero, suc, ◌+◌, ◌-◌, ◌<◌, ◌≤◌, false, refl, sym, subst, inl, ⊎_elim, arith, replicate, Contains, slice_index_or, cases_lt, All-nil, Kind, kind_width, first_row, Held, rows_down, IsBook, new_book, new_sheet, IsUnheld}
+use Rattle.mt_splice.proofs.Prelude.{◌≡◌, ℕ, zero, suc, ◌+◌, ◌-◌, ◌<◌, ◌≤◌, false, refl, sym, subst, inl, ⊎_elim, arith, replicate, Contains, slice_index_or, cases_lt, All-nil, Kind, kind_width, first_row, StampedRow, rows_down, IsBook, new_book, new_sheet, IsUnheld}
 use Rattle.mt_rows.specs.declared.rows.Life.TheVariants as lives
 use Rattle.mt_splice.proofs.BetweenCalls.{IsBetweenCalls}
 
@@ -29,7 +29,7 @@ fresh_is_ready kind n sound = record {
       out = λ row low high is. absurd (is.not_free (let m : row ≡ first_row + (row - first_row) = omega arith in subst (Contains (rows_down n)) (sym m) (in_down n (row - first_row) (omega arith))));
       reached = λ row is. absurd (cc);
       spare = λ k d within. subst (IsUnheld 0) (sym (same_anywhere (first_row + n) (slice_index_or (rows_down n) k d) lives.New)) tt;
-      stamps = All-nil (λ (h : Held). h.stamp < 1);
+      stamps = All-nil (λ (h : StampedRow). h.stamp < 1);
     };
   };
 }

@@ -1,5 +1,5 @@
 -- The rows that a book counts as live are those that are reached.
-use Rattle.mt_splice.proofs.Prelude.{◌≡◌, ℕ, zero, suc, ◌+◌, ◌<◌, ◌≤◌, ◌==◌, List, ◌++◌, length, refl, ap, inl, inr, arith, length-append, All, Contains, ltb-true, lt-ltb, length-map, All-map, All-append, All-contains, Contains-append_left, Contains-append_right, Contains-append_cases, Kind, first_row, Book, Held, IsOut, IsRowOf, held_rows, live_count, reached_in, Life, Rooted, tree_as, IsTreeOf, IsReached, tally-append, once_in, IsBookOf}
+use Rattle.mt_splice.proofs.Prelude.{◌≡◌, ℕ, zero, suc, ◌+◌, ◌<◌, ◌≤◌, ◌==◌, List, ◌++◌, length, refl, ap, inl, inr, arith, length-append, All, Contains, ltb-true, lt-ltb, length-map, All-map, All-append, All-contains, Contains-append_left, Contains-append_right, Contains-append_cases, Kind, first_row, Book, StampedRow, IsOut, IsRowOf, held_rows, live_count, reached_in, Life, Rooted, tree_as, IsTreeOf, IsReached, tally-append, once_in, IsBookOf}
 use Rattle.mt_splice.proofs.Counting.{times_of, contains_times, times_contains, apart_once, span_length}
 
 -- no row is reached twice, also where the tree is empty
@@ -24,7 +24,7 @@ module _ (t : Rooted) (lives : List Life) (cleared : ℕ) (kind : Kind) (book : 
   times_reached row some = lt-ltb 0 (times_of row reached) (omega arith)
 
   inside_rows : All (IsRowOf book) inside
-  inside_rows = All-append (IsRowOf book) book.free (held_rows book) of.sound.free_rows (All-map (IsRowOf book) (λ (h : Held). h.row) book.held of.sound.waiting_rows)
+  inside_rows = All-append (IsRowOf book) book.free (held_rows book) of.sound.free_rows (All-map (IsRowOf book) (λ (h : StampedRow). h.row) book.held of.sound.waiting_rows)
 
   not_both : (row : ℕ) → Contains inside row → IsOut book row → ⊥
   not_both row has out = elim (Contains-append_cases book.free (held_rows book) row has) [ inl free ↦ out.not_free free | inr held ↦ out.not_held held ]
@@ -72,5 +72,5 @@ module _ (t : Rooted) (lives : List Life) (cleared : ℕ) (kind : Kind) (book : 
       let all = span_length first_row book.rows (inside ++ reached) all_inside each_once in
       let outer = length-append inside reached in
       let inner = length-append book.free (held_rows book) in
-      let held = length-map book.held (λ (h : Held). h.row) in
+      let held = length-map book.held (λ (h : StampedRow). h.row) in
       omega arith

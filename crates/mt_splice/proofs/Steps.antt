@@ -1,5 +1,5 @@
 -- One step of a replacement: a row is written, or is buried and retired, or words are loaded.
-use Rattle.mt_splice.proofs.Prelude.{◌≡◌, ◌≢◌, ℕ, ◌+◌, ◌<◌, ◌≤◌, List, ◌∷◌, ◌++◌, Bool, true, false, Option, length, map, refl, sym, ap, ◌∙◌, subst, ⊎_elim, arith, get_or, get_or-set_same, get_or-set_other, set, length-set, append_assoc, length-append, Contains, All, slice_index_or, if◌then◌else◌, cases_Bool, cases_eq, map_push, map-append, get_or_append_left, get_or-append-add, get_or_default, All-contains, All-append, All-map, Contains-append_left, Contains-append_right, Contains-append_cases, Width, columns, first_row, Item, RowKind, row_in, dead_mark, name_at, row_in-name_at, some_columns, Book, Held, IsRowOf, IsOut, held_rows, after_retire, AreApart, Life, New, Draft, Live, Dead, column, base_of, Rooted, Sheet, IsFree, MayBury, OnlyReads, life_of, is_buried, after_bury, is_reached, Tree, Seen, Start, table_with, with_words, no_parent, IsRowDrafted, IsUnheld, IsUnpublished, Before, IsStartOf, row_seen, stamped, IsLedger, [], was_seen}
+use Rattle.mt_splice.proofs.Prelude.{◌≡◌, ◌≢◌, ℕ, ◌+◌, ◌<◌, ◌≤◌, List, ◌∷◌, ◌++◌, Bool, true, false, Option, length, map, refl, sym, ap, ◌∙◌, subst, ⊎_elim, arith, get_or, get_or-set_same, get_or-set_other, set, length-set, append_assoc, length-append, Contains, All, slice_index_or, if◌then◌else◌, cases_Bool, cases_eq, map_push, map-append, get_or_append_left, get_or-append-add, get_or_default, All-contains, All-append, All-map, Contains-append_left, Contains-append_right, Contains-append_cases, Width, columns, first_row, Item, RowKind, row_in, dead_mark, name_at, row_in-name_at, some_columns, Book, StampedRow, IsRowOf, IsOut, held_rows, after_retire, AreApart, Life, New, Draft, Live, Dead, column, base_of, Rooted, Sheet, IsFree, MayBury, OnlyReads, life_of, is_buried, after_bury, is_reached, Tree, Seen, Start, table_with, with_words, no_parent, IsRowDrafted, IsUnheld, IsUnpublished, Before, IsStartOf, row_seen, stamped, IsLedger, [], was_seen}
 use Rattle.mt_splice.proofs.Drafts.{other_row, other_column, same_column, is_draft, other_life, whole_then}
 use Rattle.mt_splice.proofs.StepSeen.{not_both, seen_here, seen_other, seen_before, seen_not_here, seen_last, seen_not_last, seen_front, seen_front_not_last, listed_seen, not_listed}
 
@@ -23,7 +23,7 @@ spare_is_free cleared Draft spare = tt
 spare_is_free cleared Live spare = spare
 spare_is_free cleared (Dead call) spare = spare
 
-pub rows_stamped : (number : ℕ) (gone : List Seen) → map (λ (h : Held). h.row) (map (stamped number) gone) ≡ map row_seen gone
+pub rows_stamped : (number : ℕ) (gone : List Seen) → map (λ (h : StampedRow). h.row) (map (stamped number) gone) ≡ map row_seen gone
 rows_stamped number [] = refl
 rows_stamped number (s ∷ gone) = ap (λ (l : List ℕ). row_seen s ∷ l) (rows_stamped number gone)
 
@@ -187,7 +187,7 @@ module _ {b : Before} {start : Start} {s : Sheet} {book : Book} {taken gone : Li
   not_held_now : ¬ Contains (held_rows book) row
   not_held_now here =
       let listed : Contains (held_rows b.book ++ map row_seen gone) row = subst (λ (l : List ℕ). Contains l row)
-      (ap (map (λ (h : Held). h.row)) ledger.held ∙ (map-append (λ (h : Held). h.row) b.book.held (map (stamped b.number) gone) ∙ ap (λ (l : List ℕ). held_rows b.book ++ l) (rows_stamped b.number gone))) here in
+      (ap (map (λ (h : StampedRow). h.row)) ledger.held ∙ (map-append (λ (h : StampedRow). h.row) b.book.held (map (stamped b.number) gone) ∙ ap (λ (l : List ℕ). held_rows b.book ++ l) (rows_stamped b.number gone))) here in
       ⊎_elim (λ (held : Contains (held_rows b.book) row). (before.kept.booked.reached row reached).not_held held)
       (λ (again : Contains (map row_seen gone) row). not_both (was_seen gone row) (listed_seen gone row again) stays)
       (Contains-append_cases (held_rows b.book) (map row_seen gone) row listed)
@@ -239,8 +239,8 @@ module _ {b : Before} {start : Start} {s : Sheet} {book : Book} {taken gone : Li
       dead = ledger.whole.dead;
     };
     free = ledger.free;
-    held = ap (λ (l : List Held). l ++ stamped b.number seen ∷ []) ledger.held
-        ∙ (append_assoc b.book.held (map (stamped b.number) gone) (stamped b.number seen ∷ []) ∙ ap (λ (l : List Held). b.book.held ++ l) (sym (map_push (stamped b.number) gone seen)));
+    held = ap (λ (l : List StampedRow). l ++ stamped b.number seen ∷ []) ledger.held
+        ∙ (append_assoc b.book.held (map (stamped b.number) gone) (stamped b.number seen ∷ []) ∙ ap (λ (l : List StampedRow). b.book.held ++ l) (sym (map_push (stamped b.number) gone seen)));
     rows = ledger.rows;
     lives = ledger.lives;
     buried = buried_then;
@@ -251,10 +251,10 @@ module _ {b : Before} {start : Start} {s : Sheet} {book : Book} {taken gone : Li
   }
 
 -- the stamps of the rows that are held do not fall
-pub in_order : {b : Before} {start : Start} {s : Sheet} {book : Book} {taken gone : List Seen} → IsStartOf b start → IsLedger b s book taken gone → All (λ (h : Held). h.stamp ≤ b.number) book.held
-in_order {b} {start} {s} {book} {taken} {gone} before ledger = subst (All (λ (h : Held). h.stamp ≤ b.number)) (sym ledger.held)
-    (All-append (λ (h : Held). h.stamp ≤ b.number) b.book.held (map (stamped b.number) gone) (λ k d within. let below = before.kept.booked.stamps k d within in omega arith)
-    (All-map (λ (h : Held). h.stamp ≤ b.number) (stamped b.number) gone (λ k d within. omega arith)))
+pub in_order : {b : Before} {start : Start} {s : Sheet} {book : Book} {taken gone : List Seen} → IsStartOf b start → IsLedger b s book taken gone → All (λ (h : StampedRow). h.stamp ≤ b.number) book.held
+in_order {b} {start} {s} {book} {taken} {gone} before ledger = subst (All (λ (h : StampedRow). h.stamp ≤ b.number)) (sym ledger.held)
+    (All-append (λ (h : StampedRow). h.stamp ≤ b.number) b.book.held (map (stamped b.number) gone) (λ k d within. let below = before.kept.booked.stamps k d within in omega arith)
+    (All-map (λ (h : StampedRow). h.stamp ≤ b.number) (stamped b.number) gone (λ k d within. omega arith)))
 
 -- ---- words are loaded
 

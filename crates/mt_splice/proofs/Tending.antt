@@ -108,3 +108,6 @@ module _ (s t : Sheet) (kind : RowKind) (row count slot : ℕ) (whole : IsWhole 
   one_more_tended read is found named =
       subst (λ (r : Sheet). AreTendedUpTo s (tended r found 0 (parent_at row slot)) kind row count (slot + 1)) (sym is)
       (subst (λ (k : ℕ). AreTendedUpTo s (tended (loaded t) k 0 (parent_at row slot)) kind row count (slot + 1)) (sym (same_child found named)) at_child)
+
+-- what the loop over the children cites
+pub ruleset tends = (none_tended, is_named, may_tend, one_more_tended)

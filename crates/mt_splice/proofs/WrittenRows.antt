@@ -1,6 +1,5 @@
 -- What stands in a row that was written: its items, and the words that they make.
-use Rattle.mt_splice.proofs.Prelude.{◌≡◌, ℕ, zero, suc, ◌+◌, ◌*◌, ◌<◌, ◌≤◌, List, [], ◌∷◌, ◌++◌, Option, Some, length, map, take, ◌-◌, refl, sym, ap, ◌∙◌, subst, arith, zero-add, slice_index, columns, Item, Span, RowKind, name_at, named_kind, row_in, FitRow, NoGaps, RiseFrom, end_of, padded_to, row_words, items_at, slots_of, gaps_of, spans_from, no_gaps-cons, named_kind-name_at, row_in-name_at, same_items, reads_back, row_words-hold, layout_of, some_columns, Table, column, spans_by, spans_in, items_in, words_in, IsNewRow, no_parent, new_words}
-use Rattle.mt_layout.proofs.ReadBack.{Holds}
+use Rattle.mt_splice.proofs.Prelude.{◌≡◌, ℕ, zero, suc, ◌+◌, ◌*◌, ◌<◌, ◌≤◌, List, [], ◌∷◌, ◌++◌, Option, Some, length, map, take, ◌-◌, refl, sym, ap, ◌∙◌, subst, arith, zero-add, slice_index, columns, Item, Span, RowKind, name_at, named_kind, row_in, FitRow, NoGaps, RiseFrom, end_of, padded_to, row_words, items_at, slots_of, gaps_of, spans_from, no_gaps-cons, named_kind-name_at, row_in-name_at, same_items, reads_back, row_words-hold, layout_of, some_columns, Table, column, spans_by, spans_in, items_in, words_in, IsNewRow, no_parent, new_words, Holds}
 
 -- ---- items as a row holds them that has so many columns of gaps
 

@@ -1,7 +1,7 @@
 -- A tree whose words, nodes and book agree, and a call in flight on it.
 -- Source: this project's own; the kernel's writers hold the tree's lock, and free nodes after a grace period.
 use Rattle.std.specs.Prelude.{◌≡◌, ◌+◌, ◌<◌, ◌≤◌, ℕ, Bool, true, false, List, All}
-use Rattle.mt_splice.specs.Prelude.{Kind, first_row, Book, Held, IsBook, IsOut, Life, New, Draft, Live, Dead, Rooted, life_of, IsLawfulOf, IsReached, LiveAreReached, NoneBuried}
+use Rattle.mt_splice.specs.Prelude.{Kind, first_row, Book, StampedRow, IsBook, IsOut, Life, New, Draft, Live, Dead, Rooted, life_of, IsLawfulOf, IsReached, LiveAreReached, NoneBuried}
 
 -- a node that no reader can hold: it was never used, or its death is cleared
 abbrev pub IsUnheld : ℕ → Life → Type 0
@@ -18,7 +18,7 @@ pub record IsBookOf (t : Rooted) (lives : List Life) (cleared : ℕ) (book : Boo
   pub out : (row : ℕ) → first_row ≤ row → row < first_row + t.rows → IsOut book row → IsReached t row
   pub reached : (row : ℕ) → IsReached t row → IsOut book row
   pub spare : All (λ row. IsUnheld cleared (life_of lives row)) book.free
-  pub stamps : All (λ (h : Held). h.stamp < number) book.held
+  pub stamps : All (λ (h : StampedRow). h.stamp < number) book.held
 
 -- The words of a tree of this kind are well-formed, the live nodes are those that are reached, none is marked dead, and the
 -- book is of these nodes.

@@ -6,7 +6,7 @@ use mt_layout::{RowKind, parent_word, row_of, slots};
 use mt_rows::Rows;
 
 /// Writes the parent words of the children in the first slots of an inner node.
-#[tactic(auto, using(crate::proofs::Tending::none_tended, crate::proofs::Tending::is_named, crate::proofs::Tending::may_tend, crate::proofs::Tending::one_more_tended))]
+#[tactic(auto, using(crate::proofs::Tending::tends))]
 pub fn tend_children<R: Rows>(rows: &mut R, kind: RowKind, row: u32, count: u32)
     requires { AreChildren (R.sheet rows.old) kind row count }
     ensures { AreTended (R.sheet rows.old) (R.sheet rows.new) kind row count }

@@ -1,10 +1,7 @@
 -- Nodes buried and retired one after the other: what is done to the nodes and to the book.
 -- Source: the kernel's lib/maple_tree.c, mas_topiary_replace, which marks the nodes that a new subtree replaces.
 use Rattle.std.specs.Prelude.{◌≡◌, ℕ, ◌+◌, ◌-◌, ◌<◌, ◌≤◌, List, [], ◌∷◌, ◌++◌, All, IsSome, length, map}
-use Rattle.mt_layout.specs.Rows.{named_kind}
-use Rattle.mt_path.specs.Paths.{span_at}
-use Rattle.mt_rows.specs.Spans.{row_spans}
-use Rattle.mt_splice.specs.Prelude.{greatest, Book, Held, IsOut, after_retire, RowKind, Span, row_in, slots_of, PathStep, path_in, step_at, level, Table, root_span, Rooted, Sheet, IsPlace, MayBury, after_bury}
+use Rattle.mt_splice.specs.Prelude.{greatest, Book, StampedRow, IsOut, after_retire, RowKind, Span, row_in, slots_of, PathStep, path_in, step_at, level, Table, root_span, Rooted, Sheet, IsPlace, MayBury, after_bury, named_kind, span_at, row_spans}
 use Rattle.mt_splice.specs.declared.burying.Child.{Child}
 use Rattle.mt_splice.specs.declared.ways.Window.{Window}
 use Rattle.mt_splice.specs.steps.Windows.{between}
@@ -23,7 +20,7 @@ after_retirals book (row ∷ rows) number = after_retirals (after_retire book ro
 pub record MayBeBuried (s : Sheet) (book : Book) (row number : ℕ) : Type 0 where
   pub live : MayBury s row
   pub out : IsOut book row
-  pub in_order : All (λ (h : Held). h.stamp ≤ number) book.held
+  pub in_order : All (λ (h : StampedRow). h.stamp ≤ number) book.held
 
 -- so may each of these rows, when those in front of it were
 abbrev pub EachInTurn : Sheet → Book → List ℕ → ℕ → Type 0

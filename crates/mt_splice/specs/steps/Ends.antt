@@ -2,8 +2,7 @@
 -- by.
 -- Source: this project's own; the kernel's lib/maple_tree.c, mas_wmb_replace and mas_adopt_children, which set the parents
 -- of children that have moved.
-use Rattle.std.specs.Prelude.{◌≡◌, ◌≢◌, ℕ, suc, ◌+◌, ◌-◌, ◌*◌, ◌<◌, ◌≤◌, true, List, Option, Some, None, length}
-use Rattle.std.specs.List.{slice_get}
+use Rattle.std.specs.Prelude.{◌≡◌, ◌≢◌, ℕ, suc, ◌+◌, ◌-◌, ◌*◌, ◌<◌, ◌≤◌, true, List, Option, Some, None, length, slice_get}
 use Rattle.mt_splice.specs.Prelude.{Call, Reply, acted, columns, RowKind, Span, row_in, parent_at, slot_column, Book, Place, Root, Slot, column, is_row_of, height_in, Tree, kind_on, Sheet, MayTend, tended, tree_as, map_by, with_published, IsSlotAt, slots_of}
 use Rattle.mt_splice.specs.declared.climbing.Top.{Top}
 use Rattle.mt_splice.specs.declared.writes.NewRow.{NewRow}

@@ -1,7 +1,7 @@
 -- The ledger of a replacement: which nodes it has taken, and which are gone.
 -- Source: this project's own; the kernel keeps the old and the new nodes in lib/maple_tree.c, struct maple_subtree_state.
 use Rattle.std.specs.Prelude.{◌≡◌, ℕ, zero, suc, ◌+◌, ◌<◌, ◌≤◌, true, false, List, ◌∷◌, ◌++◌, length, map, if◌then◌else◌, []}
-use Rattle.mt_splice.specs.Prelude.{Kind, columns, first_row, row_in, dead_mark, Book, Held, Draft, Table, column, spans_in, Sheet, IsWhole, life_of, is_buried, tree_as, IsToldKind, is_reached}
+use Rattle.mt_splice.specs.Prelude.{Kind, columns, first_row, row_in, dead_mark, Book, StampedRow, Draft, Table, column, spans_in, Sheet, IsWhole, life_of, is_buried, tree_as, IsToldKind, is_reached}
 use Rattle.mt_splice.specs.declared.writes.NewRow.{NewRow}
 use Rattle.mt_splice.specs.steps.Seen.{Seen, was_seen}
 use Rattle.mt_splice.specs.steps.Starts.{Start, with_words}
@@ -30,7 +30,7 @@ pub record IsInFlight (b : Before) (start : Start) : Type 0 where
 abbrev pub row_seen : Seen → ℕ
 row_seen s = row_in s.at.word
 
-abbrev pub stamped : ℕ → Seen → Held
+abbrev pub stamped : ℕ → Seen → StampedRow
 stamped number s = record { row = row_seen s; stamp = number }
 
 -- The rows taken are drafts, from the end of the free rows; those gone are buried, and retired in their order; every other

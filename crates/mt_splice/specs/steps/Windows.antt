@@ -1,8 +1,7 @@
 -- The window of a level: the nodes from the one that holds an index to the one that holds another, and what comes before them
 -- and after.
 -- Source: the kernel's lib/maple_tree.c, mas_wr_spanning_store, which goes by a left and a right state.
-use Rattle.std.specs.Prelude.{◌≡◌, ℕ, zero, suc, ◌+◌, ◌-◌, ◌<◌, ◌≤◌, List, ◌++◌, take, drop}
-use Rattle.std.specs.List.{flat_map}
+use Rattle.std.specs.Prelude.{◌≡◌, ℕ, zero, suc, ◌+◌, ◌-◌, ◌<◌, ◌≤◌, List, ◌++◌, take, drop, flat_map}
 use Rattle.mt_splice.specs.Prelude.{Range, Span, leaf_range, Fills, root_span, expand, Tree, Stands, top_of, slot_for, row_on}
 use Rattle.mt_splice.specs.steps.Starts.{Start, rows_at}
 use Rattle.mt_splice.specs.steps.Runs.{MayBeIn}
