@@ -1,7 +1,5 @@
 -- What a batch of reads comes to in worked cases.
-use Rattle.mt_read.proofs.Prelude.{◌≡◌, ◌<◌, ℕ, zero, suc, ◌≤◌, List, [], ◌∷◌, Option, refl, sym, ap, ◌∙◌, arith, Range, Load, answer}
-use Rattle.std.specs.Prelude.{map}
-use Rattle.mt_read.specs.Many.{AreEntries, AtStore, InMap, entry_in, entry_or_zero, map_with_seven}
+use Rattle.mt_read.proofs.Prelude.{◌≡◌, ◌<◌, ℕ, zero, suc, ◌≤◌, List, [], ◌∷◌, Option, refl, sym, ap, ◌∙◌, arith, Range, Load, answer, AreEntries, AtStore, InMap, entry_in, entry_or_zero, map_with_seven, map}
 
 pub quiet : (m : List Range) (from to : ℕ) (indexes entries : List ℕ) → AreEntries (InMap m) from indexes entries to → entries ≡ map (entry_in m) indexes
 quiet m from to [] [] are = refl

@@ -1,10 +1,6 @@
 -- Batches: what was read so far, and one read more.
-use Rattle.mt_read.proofs.Prelude.{◌≡◌, ℕ, ◌+◌, ◌<◌, ◌≤◌, List, [], ◌∷◌, ◌++◌, Option, Some, None, length, refl, sym, ap, ◌∙◌, subst, arith, append_assoc, option_map, slice_index, Range, Query, Load, answer, Begins, begins_long, PassPart, find_at, KeptLeaf, IfSome, ◌⊎◌, inl, inr, Answers, GoesOn}
-use Rattle.std.specs.Prelude.{take, drop, slice_set, slice_index_or, unwrap_or}
-use Rattle.std.proofs.lemmas.List.{drop_more, take_more, set_at, length_push}
+use Rattle.mt_read.proofs.Prelude.{◌≡◌, ℕ, ◌+◌, ◌<◌, ◌≤◌, List, [], ◌∷◌, ◌++◌, Option, Some, None, length, refl, sym, ap, ◌∙◌, subst, arith, append_assoc, option_map, slice_index, Range, Query, Load, answer, Begins, begins_long, PassPart, find_at, KeptLeaf, IfSome, ◌⊎◌, inl, inr, Answers, GoesOn, place_behind, AreEntries, AreSteps, EntriesPut, HasFound, IsSeenFrom, RangesPut, SeenAt, entry_or_zero, drop_more, take_more, set_at, length_push, take, drop, slice_set, slice_index_or, unwrap_or}
 use Rattle.mt_life.specs.declared.views.Moment as life
-use Rattle.mt_base.specs.Places.{place_behind}
-use Rattle.mt_read.specs.Many.{AreEntries, AreSteps, EntriesPut, HasFound, IsSeenFrom, RangesPut, SeenAt, entry_or_zero}
 use Rattle.mt_read.proofs.Moments.{moment_stays}
 
 -- what a pass has seen at a version, it has seen when it has seen more

@@ -1,5 +1,5 @@
 -- A walk that keeps no ends of the rows that it comes to.
-use Rattle.mt_read.proofs.Prelude.{◌≡◌, ◌≢◌, ℕ, ◌+◌, ◌*◌, ◌<◌, ◌≤◌, ◌==◌, Option, Some, None, nat_le, inl, inr, refl, sym, ap, ◌∙◌, subst, arith, min, slice_get, option_map, cases_Bool, cases_lt, and_right, eqb-true, eqb-false, lt-leb, le-leb, Range, Width, Long, Short, greatest_of, deepest, RowKind, slots_of, Held, copy_of, spans_at, slot_for, span_at, PassPart, IsLeafRead, here, spans_here, SlotPlace, Spot, not_below, CoversHere, IsAtLeaf, IsAtSpot, row_here, row_steps, touches, GoesOn, IsOnLeaf, IsPlaceIn, SeesMore, WasRead, range_or_hole}
+use Rattle.mt_read.proofs.Prelude.{◌≡◌, ◌≢◌, ℕ, ◌+◌, ◌*◌, ◌<◌, ◌≤◌, ◌==◌, Option, Some, None, nat_le, inl, inr, refl, sym, ap, ◌∙◌, subst, arith, min, slice_get, option_map, cases_Bool, cases_lt, and_right, eqb-true, eqb-false, lt-leb, le-leb, Range, Width, Long, Short, greatest_of, deepest, RowKind, slots_of, Held, copy_of, spans_at, slot_for, span_at, PassPart, IsLeafRead, here, spans_here, SlotPlace, Spot, not_below, CoversHere, IsAtLeaf, IsAtSpot, row_here, row_steps, lines_touched, GoesOn, IsOnLeaf, IsPlaceIn, SeesMore, WasRead, range_or_hole}
 use Rattle.std.proofs.Common.{mul-add}
 use Rattle.mt_layout.specs.declared.names.RowKind.TheVariants as kinds
 use Rattle.mt_read.proofs.Descending.{here_more, place_within}
@@ -67,23 +67,23 @@ entry_is place entry index to end result goes within high none above some = elim
 
 -- ---- steps
 
-pub touches_few : (w : Width) → touches w ≤ 4
+pub touches_few : (w : Width) → lines_touched w ≤ 4
 touches_few Long = omega arith
 touches_few Short = omega arith
 
-pub lines_few : (w : Width) (before middle after : ℕ) → middle ≡ before + 2 → after ≤ middle + 2 → (w ≡ Long → after ≡ middle) → after ≤ before + touches w
+pub lines_few : (w : Width) (before middle after : ℕ) → middle ≡ before + 2 → after ≤ middle + 2 → (w ≡ Long → after ≡ middle) → after ≤ before + lines_touched w
 lines_few Long before middle after first more none = let same = none refl in omega arith
 lines_few Short before middle after first more none = omega arith
 
 -- a search with its touches is shorter than a walk along the slots
-pub seek_few : (w : Width) (kind : RowKind) (before middle after : ℕ) → middle ≤ before + touches w → after + 5 ≤ middle + slots_of w kind → after ≤ middle + 7 → after + 3 ≤ before + slots_of w kind
+pub seek_few : (w : Width) (kind : RowKind) (before middle after : ℕ) → middle ≤ before + lines_touched w → after + 5 ≤ middle + slots_of w kind → after ≤ middle + 7 → after + 3 ≤ before + slots_of w kind
 seek_few Long kind before middle after first few seven = omega arith
 seek_few Short kinds.Leaf before middle after first few seven = omega arith
 seek_few Short kinds.Inner before middle after first few seven = omega arith
 seek_few Short kinds.Gapped before middle after first few seven = omega arith
 
 -- from the root to a leaf, and in the leaf
-pub steps_root : (w : Width) (kind : RowKind) (level : ℕ) → slots_of w kind * level ≤ 128 → level < deepest → (touches w + 8) * level + (touches w + 8) ≤ 90
+pub steps_root : (w : Width) (kind : RowKind) (level : ℕ) → slots_of w kind * level ≤ 128 → level < deepest → (lines_touched w + 8) * level + (lines_touched w + 8) ≤ 90
 steps_root Long kind level all low = omega arith
 steps_root Short kinds.Leaf level all low = omega arith
 steps_root Short kinds.Inner level all low = omega arith

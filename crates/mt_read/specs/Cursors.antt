@@ -1,11 +1,12 @@
 -- What a cursor keeps from step to step, and what a step does to a pass (handle).
 -- Source: the kernel's documentation of the maple tree, mas_find, which goes on from the node that it is at, and mas_pause.
-use Rattle.std.specs.Prelude.{◌≡◌, ◌⊎◌, ℕ, ◌+◌, ◌<◌, ◌≤◌, List, [], ◌∷◌, ◌++◌, Option, Some, None, IfSome, length}
-use Rattle.mt_read.specs.Prelude.{PassPart, HasBecome, here, opened_section, with_seen}
+use Rattle.std.specs.Prelude.{◌≡◌, ◌≢◌, ◌⊎◌, ℕ, ◌+◌, ◌<◌, ◌≤◌, List, [], ◌∷◌, ◌++◌, Option, Some, None, IfSome, length}
+use Rattle.mt_read.specs.Prelude.{PassPart, HasBecome, here, opened_section, with_seen, Identity, IsPassOf, Stepped, part_of}
 use Rattle.mt_base.specs.Passes as known
 use Rattle.mt_read.specs.declared.cursor.KeptLeaf.{KeptLeaf}
 use Rattle.mt_read.specs.declared.cursor.Cursor.{Cursor}
-use Rattle.mt_read.specs.Walks.{IsOnLeaf}
+use Rattle.mt_rule.specs.declared.passes.Pass.{Pass}
+use Rattle.mt_read.specs.Walks.{GoesOnTo, IsOnLeaf}
 
 -- ---- the leaf
 
@@ -13,6 +14,21 @@ use Rattle.mt_read.specs.Walks.{IsOnLeaf}
 pub record IsOnKeptLeaf (q : PassPart) (kept : KeptLeaf) : Type 0 where
   pub leaf : IsOnLeaf q kept.leaf
   pub lo : kept.lo ≤ (here q).since
+
+-- A range may be looked for from the leaf that is kept, if one is: a section of the handle is open, and is at the leaf. So many
+-- calls had ended before.
+pub record MayStepOn (t : Identity) (p : Pass) (ended : ℕ) (kept_leaf : Option KeptLeaf) : Type 0 where
+  pub pass : IsPassOf t p
+  pub opened : (part_of p).standing ≢ None
+  pub kept : IfSome kept_leaf (IsOnKeptLeaf (part_of p))
+  pub lo : ended ≤ length (part_of p).seen
+
+-- The handle has gone on in its section, from the leaf that was kept to the one that is kept now, which it may have walked to.
+pub record GoesKept (t : Identity) (ended : ℕ) (before after : Option KeptLeaf) (p p' : Pass) : Type 0 where
+  pub stepped : Stepped t p p'
+  pub goes : GoesOnTo (part_of p) (part_of p') (part_of p').marks
+  pub kept : IfSome after (IsOnKeptLeaf (part_of p'))
+  pub lo : (after ≡ before) ⊎ IfSome after (λ kept. kept.lo ≡ ended)
 
 -- a leaf is kept, and covers the index
 abbrev pub IsOver : Option KeptLeaf → ℕ → Type 0
@@ -56,9 +72,9 @@ epoch_or None lo = lo
 epoch_or (Some epoch) lo = epoch
 
 -- the epochs of the handle's sections then: a step opens one only if none is open
-abbrev pub opened_with : Option ℕ → List ℕ → ℕ → List ℕ
-opened_with None opened lo = opened ++ lo ∷ []
-opened_with (Some epoch) opened lo = opened
+abbrev pub epochs_opened : Option ℕ → List ℕ → ℕ → List ℕ
+epochs_opened None opened lo = opened ++ lo ∷ []
+epochs_opened (Some epoch) opened lo = opened
 
 -- a section that was not open is opened
 abbrev pub resumed_section : Option ℕ → PassPart → PassPart
@@ -77,5 +93,5 @@ pub record Resumed (lo : ℕ) (epoch : Option ℕ) (q q' : PassPart) : Type 0 wh
 -- that hi calls have begun and lo have ended.
 pub record HasStepped (lo hi : ℕ) (epoch : Option ℕ) (p q : known.Pass) : Type 0 where
   pub seen : known.Begins p.seen q.seen
-  pub pass : q ≡ record p { seen = q.seen; opened = opened_with epoch p.opened lo; standing = Some (epoch_or epoch lo); begun = hi; ended = lo }
+  pub pass : q ≡ record p { seen = q.seen; opened = epochs_opened epoch p.opened lo; standing = Some (epoch_or epoch lo); begun = hi; ended = lo }
   pub window : (lo ≤ length q.seen) × (length q.seen ≤ hi)

@@ -1,10 +1,9 @@
 -- Many look-ups in one read-side section, and many steps of a walk in one, with one window (version interval) for all.
 -- Source: this project's own; the kernel's readers ask for one index, or one range, at a time.
 use Rattle.std.specs.Prelude.{◌≡◌, ℕ, zero, suc, ◌<◌, ◌≤◌, List, [], ◌∷◌, ◌++◌, Option, Some, None, length, take, drop}
-use Rattle.mt_read.specs.Prelude.{Range, Query, Load, History, answer, PassPart, moment_seen}
+use Rattle.mt_read.specs.Prelude.{Range, Query, Load, History, answer, PassPart, moment_seen, find_at, place_behind}
 pub use Rattle.mt_base.specs.Map.{entry_or_zero}
 use Rattle.mt_base.specs.Passes as known
-use Rattle.mt_base.specs.Places.{find_at, place_behind}
 
 -- ---- reads at a version
 

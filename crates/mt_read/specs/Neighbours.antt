@@ -1,7 +1,6 @@
 -- Why a read is given up, and what is left of it.
 -- Source: this project's own; the kernel's mas_next begins again at the root where it finds a node dead.
-use Rattle.std.specs.Prelude.{◌≡◌, ◌≢◌, ℕ, ◌+◌, ◌-◌, ◌<◌, ◌≤◌, List, ◌∷◌, None, length, nat_lt, if◌then◌else◌}
-use Rattle.std.specs.List.{flat_map}
+use Rattle.std.specs.Prelude.{◌≡◌, ◌≢◌, ℕ, ◌+◌, ◌-◌, ◌<◌, ◌≤◌, List, ◌∷◌, None, length, nat_lt, if◌then◌else◌, flat_map}
 use Rattle.mt_read.specs.Prelude.{Kind, Range, Query, Load, Find, Next, Prev, Rfind, answer, History, greatest_of, leaf_range, Held, PassPart, here, spans_here}
 use Rattle.mt_base.specs.Passes as known
 use Rattle.mt_read.specs.declared.descent.SlotPlace.{SlotPlace}

@@ -20,13 +20,13 @@ abbrev pub CoversHere : PassPart → ℕ → Type 0
 CoversHere q index = ((here q).extent.first ≤ index) × (index ≤ (here q).extent.last)
 
 -- how many cache lines of a node of this width are touched before it is searched
-abbrev pub touches : Width → ℕ
-touches Long = 2
-touches Short = 4
+abbrev pub lines_touched : Width → ℕ
+lines_touched Long = 2
+lines_touched Short = 4
 
 -- A walk that keeps no ends takes at most this many steps for a node,
 abbrev pub row_steps : PassPart → ℕ
-row_steps q = touches (kind_width q.shape.kind) + 8
+row_steps q = lines_touched (kind_width q.shape.kind) + 8
 
 -- and this many down from the node that the section is at to a leaf.
 abbrev pub steps_below : PassPart → ℕ

@@ -1,7 +1,6 @@
 -- What a pass (handle) knows of the node that its section is at, and how far a walk brings it.
 -- Source: the kernel's lib/maple_tree.c, mtree_range_walk, by which readers walk beside a writer.
-use Rattle.std.specs.Prelude.{◌≡◌, ℕ, suc, ◌*◌, ◌<◌, ◌≤◌, ◌==◌, List, ◌∷◌, Option, Some, None, length, min, if◌then◌else◌}
-use Rattle.std.specs.List.{slice_get}
+use Rattle.std.specs.Prelude.{◌≡◌, ℕ, suc, ◌*◌, ◌<◌, ◌≤◌, ◌==◌, List, ◌∷◌, Option, Some, None, length, min, if◌then◌else◌, slice_get}
 use mathlib.Core.Option.{some}
 use lib.ListN.{get_elem?}
 use Rattle.mt_read.specs.Prelude.{Kind, Range, Begins, greatest_of, kind_width, slots_of, Held, copy_of, HasRow, Shape, spans_at, inner_kind, PassPart, IsRowAt, IsAt, IsLeafRead, Reads, here, kind_of, spans_here, with_seen}

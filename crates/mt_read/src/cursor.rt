@@ -7,8 +7,9 @@ ghost use Rattle.mt_base.specs.Passes as known;
 ghost use Rattle.mt_rule.specs.Sections.{closed_section, here};
 ghost use Rattle.mt_rule.specs.Tokens.{identity_of, part_of, pass_in, tree_in, IsPassOf, Stepped, IsCounted};
 ghost use Rattle.mt_read.specs.Answers.{Answers};
-ghost use Rattle.mt_read.specs.Cursors.{HasStepped, IsCursorOf, IsOnKeptLeaf, IsOver, IsOverPlace, LeafWasMarked, MarksKeptLeaf, Resumed, epoch_or};
-ghost use Rattle.mt_read.specs.Walks.{GoesOn, GoesOnTo, WasMarked};
+ghost use Rattle.mt_read.specs.Cursors.{GoesKept, HasStepped, IsCursorOf, IsOnKeptLeaf, IsOver, IsOverPlace};
+ghost use Rattle.mt_read.specs.Cursors.{LeafWasMarked, MarksKeptLeaf, MayStepOn, Resumed, epoch_or};
+ghost use Rattle.mt_read.specs.Walks.{GoesOn, WasMarked};
 
 use crate::bounds::{not_below, within};
 use crate::descent::{Row, find_along, sought, walk_along};
@@ -25,15 +26,9 @@ pub struct KeptLeaf {
     lo: u64,
 }
 
-/// What a step finds, and the leaf that it is at then.
-#[derive(Clone, Copy)]
-struct Found {
-    range: Option<Range>,
-    leaf: Option<KeptLeaf>,
-}
-
 /// The first range that ends at an index or above, in the leaf that is kept and covers the index. There is no answer where the
 /// leaf is found marked.
+#[inline(always)]
 fn first_at_kept<L: Ledger>(
     table: &MtTable,
     pass: &mut Pass,
@@ -63,76 +58,70 @@ fn first_at_kept<L: Ledger>(
     Some(range)
 }
 
-/// The first range that ends at an index or above, by a walk from the root.
+/// The first range that ends at an index or above, by a walk from the root: the leaf that it is in is kept then. It is not
+/// inlined: most steps stay in a leaf.
+#[inline(never)]
 fn first_anew<L: Ledger>(
     table: &MtTable,
     pass: &mut Pass,
+    leaf: &mut Option<KeptLeaf>,
     lo: u64,
     index: u64,
     steps: &mut Steps<L>,
-) -> Found
+) -> Option<Range>
     requires pass { IsPassOf (identity_of table.now) pass.old }
     requires open { (part_of pass.old).standing ≢ None }
     requires lo { lo ≤ length (part_of pass.old).seen }
     ensures stepped { Stepped (identity_of table.now) pass.old pass.new }
     ensures goes { GoesOn (part_of pass.old) (part_of pass.new) }
-    ensures kept { IfSome result.leaf (IsOnKeptLeaf (part_of pass.new)) }
-    ensures lo { IfSome result.leaf (λ kept. kept.lo ≡ lo) }
-    ensures answer { Answers (part_of pass.new) (length (part_of pass.old).seen) (Find index (greatest_of (part_of pass.old).shape.kind)) result.range }
-    ensures within { IfSome result.range (λ range. IsOver result.leaf range.last) }
+    ensures kept { IfSome leaf.new (IsOnKeptLeaf (part_of pass.new)) }
+    ensures lo { IfSome leaf.new (λ kept. kept.lo ≡ lo) }
+    ensures answer { Answers (part_of pass.new) (length (part_of pass.old).seen) (Find index (greatest_of (part_of pass.old).shape.kind)) result }
+    ensures within { IfSome result (λ range. IsOver leaf.new range.last) }
     ensures counted { IsCounted pass.old pass.new steps.old steps.new }
     ensures steps { steps.new ≤ steps.old + 163 }
 {
     let to = sought(table, index);
-    let Some(leaf) = walk_along(table, pass, to, steps) else {
-        return Found {
-            range: None,
-            leaf: None,
-        };
+    let Some(found) = walk_along(table, pass, to, steps) else {
+        *leaf = None;
+        return None;
     };
-    let place = find_along(table, pass, &leaf, to, steps);
-    let range = first_at(table, pass, &leaf, &place, to, steps);
-    Found {
-        range: not_below(range, index, index),
-        leaf: Some(KeptLeaf { leaf, lo }),
-    }
+    let place = find_along(table, pass, &found, to, steps);
+    let range = first_at(table, pass, &found, &place, to, steps);
+    *leaf = Some(KeptLeaf { leaf: found, lo });
+    not_below(range, index, index)
 }
 
 /// The first range that ends at an index or above: from the leaf that is kept, where that covers the index and is not found
-/// marked, and else by a walk from the root.
+/// marked, and else by a walk from the root. It is inlined into its caller, so that a leaf that stays is not written.
+#[inline(always)]
 fn first_behind<L: Ledger>(
     table: &MtTable,
     pass: &mut Pass,
-    leaf: Option<KeptLeaf>,
+    leaf: &mut Option<KeptLeaf>,
     lo: u64,
     index: u64,
     steps: &mut Steps<L>,
-) -> Found
-    requires pass { IsPassOf (identity_of table.now) pass.old }
-    requires open { (part_of pass.old).standing ≢ None }
-    requires kept { IfSome leaf (IsOnKeptLeaf (part_of pass.old)) }
-    requires lo { lo ≤ length (part_of pass.old).seen }
-    ensures stepped { Stepped (identity_of table.now) pass.old pass.new }
-    ensures goes { GoesOnTo (part_of pass.old) (part_of pass.new) (part_of pass.new).marks }
-    ensures kept { IfSome result.leaf (IsOnKeptLeaf (part_of pass.new)) }
-    ensures lo { (result.leaf ≡ leaf) ⊎ IfSome result.leaf (λ kept. kept.lo ≡ lo) }
-    ensures answer { Answers (part_of pass.new) (length (part_of pass.old).seen) (Find index (greatest_of (part_of pass.old).shape.kind)) result.range }
-    ensures within { IfSome result.range (λ range. IsOver result.leaf range.last) }
-    ensures marks { MarksKeptLeaf leaf (Some index) (part_of pass.new).risen (part_of pass.old) (part_of pass.new) }
-    ensures short { IsOver leaf index
-        → (steps.new ≤ steps.old + 35) ⊎ LeafWasMarked leaf (Some index) (part_of pass.new).risen (part_of pass.old) (part_of pass.new) }
+) -> Option<Range>
+    requires { MayStepOn (identity_of table.now) pass.old lo leaf.old }
+    ensures gone { GoesKept (identity_of table.now) lo leaf.old leaf.new pass.old pass.new }
+    ensures answer { Answers (part_of pass.new) (length (part_of pass.old).seen) (Find index (greatest_of (part_of pass.old).shape.kind)) result }
+    ensures within { IfSome result (λ range. IsOver leaf.new range.last) }
+    ensures marks { MarksKeptLeaf leaf.old (Some index) (part_of pass.new).risen (part_of pass.old) (part_of pass.new) }
+    ensures short { IsOver leaf.old index
+        → (steps.new ≤ steps.old + 35) ⊎ LeafWasMarked leaf.old (Some index) (part_of pass.new).risen (part_of pass.old) (part_of pass.new) }
     ensures counted { IsCounted pass.old pass.new steps.old steps.new }
     ensures steps { steps.new ≤ steps.old + 198 }
 {
-    let Some(kept) = leaf else {
-        return first_anew(table, pass, lo, index, steps);
+    let Some(kept) = *leaf else {
+        return first_anew(table, pass, leaf, lo, index, steps);
     };
     if index < kept.leaf.min || kept.leaf.max < index {
-        return first_anew(table, pass, lo, index, steps);
+        return first_anew(table, pass, leaf, lo, index, steps);
     }
     match first_at_kept(table, pass, &kept, index, steps) {
-        Some(range) => Found { range, leaf },
-        None => first_anew(table, pass, lo, index, steps),
+        Some(range) => range,
+        None => first_anew(table, pass, leaf, lo, index, steps),
     }
 }
 
@@ -155,9 +144,9 @@ impl Cursor {
     ghost use Rattle.mt_rule.specs.Sections.{closed_section};
     ghost use Rattle.mt_rule.specs.Tokens.{identity_of, part_of, pass_in, tree_in, IsPassOf, Stepped, IsCounted};
     ghost use Rattle.mt_read.specs.Answers.{Answers};
-    ghost use Rattle.mt_read.specs.Cursors.{HasStepped, IsCursorOf, IsOnKeptLeaf, IsOver, IsOverPlace, LeafWasMarked, MarksKeptLeaf, Resumed, epoch_or};
+    ghost use Rattle.mt_read.specs.Cursors.{GoesKept, HasStepped, IsCursorOf, IsOnKeptLeaf, IsOver, IsOverPlace};
+    ghost use Rattle.mt_read.specs.Cursors.{LeafWasMarked, MarksKeptLeaf, MayStepOn, Resumed, epoch_or};
     ghost use Rattle.mt_base.specs.Places.{find_at, place_behind, place_within};
-    ghost use Rattle.mt_read.specs.Walks.{GoesOnTo};
 
     /// A walk from an index up to a bound. It opens no section yet.
     pub fn new(from: u64, max: u64) -> Cursor
@@ -207,6 +196,7 @@ impl Cursor {
     }
 
     /// The first range from an index on, up to the bound, and the leaf that it was found in is kept.
+    #[inline(always)]
     pub(crate) fn look<L: Ledger>(
         &mut self,
         table: &MtTable,
@@ -215,15 +205,9 @@ impl Cursor {
         index: u64,
         steps: &mut Steps<L>,
     ) -> Option<Range>
-        requires pass { IsPassOf (identity_of table.now) pass.old }
-        requires open { (part_of pass.old).standing ≢ None }
-        requires kept { IfSome self.old.leaf (IsOnKeptLeaf (part_of pass.old)) }
-        requires lo { lo ≤ length (part_of pass.old).seen }
-        ensures stepped { Stepped (identity_of table.now) pass.old pass.new }
-        ensures goes { GoesOnTo (part_of pass.old) (part_of pass.new) (part_of pass.new).marks }
-        ensures kept { IfSome self.new.leaf (IsOnKeptLeaf (part_of pass.new)) }
+        requires { MayStepOn (identity_of table.now) pass.old lo self.old.leaf }
+        ensures gone { GoesKept (identity_of table.now) lo self.old.leaf self.new.leaf pass.old pass.new }
         ensures same { self.new ≡ record self.old { leaf = self.new.leaf } }
-        ensures lo { (self.new.leaf ≡ self.old.leaf) ⊎ IfSome self.new.leaf (λ kept. kept.lo ≡ lo) }
         ensures answer { Answers (part_of pass.new) (length (part_of pass.old).seen) (Find index self.old.max) result }
         ensures within { IfSome result (λ range. IsOver self.new.leaf range.last) }
         ensures marks { MarksKeptLeaf self.old.leaf (Some index) (part_of pass.new).risen (part_of pass.old) (part_of pass.new) }
@@ -232,9 +216,8 @@ impl Cursor {
         ensures counted { IsCounted pass.old pass.new steps.old steps.new }
         ensures steps { steps.new ≤ steps.old + 198 }
     {
-        let found = first_behind(table, pass, self.leaf, lo, index, steps);
-        self.leaf = found.leaf;
-        within(found.range, index, self.max)
+        let found = first_behind(table, pass, &mut self.leaf, lo, index, steps);
+        within(found, index, self.max)
     }
 
     /// The next range of the walk. There is none if the walk has ended, or ends here.

@@ -68,10 +68,9 @@ pub fn load_many<L: Ledger>(
 impl Cursor {
     ghost use Rattle.std.specs.Prelude.{◌≡◌, ◌≢◌, ◌⊎◌, ◌+◌, ◌*◌, ◌≤◌, Some, None, IfSome, length};
     ghost use Rattle.mt_rule.specs.Tokens.{identity_of, part_of, pass_in, tree_in, IsPassOf, Stepped, IsCounted};
-    ghost use Rattle.mt_read.specs.Cursors.{HasStepped, IsCursorOf, IsOnKeptLeaf, IsOver, epoch_or};
+    ghost use Rattle.mt_read.specs.Cursors.{GoesKept, HasStepped, IsCursorOf, IsOver, MayStepOn, epoch_or};
     ghost use Rattle.mt_base.specs.Places.{find_at, place_behind};
     ghost use Rattle.mt_read.specs.Many.{IsSeenFrom, RangesPut, ReadAt, SeenAt};
-    ghost use Rattle.mt_read.specs.Walks.{GoesOnTo};
 
     /// The next range of the walk, found in the open section. There is none if the walk has ended, or ends here.
     fn go_on<L: Ledger>(
@@ -81,15 +80,9 @@ impl Cursor {
         lo: u64,
         steps: &mut Steps<L>,
     ) -> Option<Range>
-        requires pass { IsPassOf (identity_of table.now) pass.old }
-        requires open { (part_of pass.old).standing ≢ None }
-        requires kept { IfSome self.old.leaf (IsOnKeptLeaf (part_of pass.old)) }
-        requires lo { lo ≤ length (part_of pass.old).seen }
-        ensures stepped { Stepped (identity_of table.now) pass.old pass.new }
-        ensures goes { GoesOnTo (part_of pass.old) (part_of pass.new) (part_of pass.new).marks }
-        ensures kept { IfSome self.new.leaf (IsOnKeptLeaf (part_of pass.new)) }
+        requires { MayStepOn (identity_of table.now) pass.old lo self.old.leaf }
+        ensures gone { GoesKept (identity_of table.now) lo self.old.leaf self.new.leaf pass.old pass.new }
         ensures same { self.new ≡ record self.old { at = place_behind result self.old.max; leaf = self.new.leaf } }
-        ensures lo { (self.new.leaf ≡ self.old.leaf) ⊎ IfSome self.new.leaf (λ kept. kept.lo ≡ lo) }
         ensures read { IsSeenFrom (part_of pass.new) (length (part_of pass.old).seen) (find_at self.old.at self.old.max) result }
         ensures within { IfSome result (λ range. IsOver self.new.leaf range.last) }
         ensures counted { IsCounted pass.old pass.new steps.old steps.new }
@@ -113,15 +106,9 @@ impl Cursor {
         ranges: &mut [Range],
         steps: &mut Steps<L>,
     ) -> usize
-        requires pass { IsPassOf (identity_of table.now) pass.old }
-        requires open { (part_of pass.old).standing ≢ None }
-        requires kept { IfSome self.old.leaf (IsOnKeptLeaf (part_of pass.old)) }
-        requires lo { lo ≤ length (part_of pass.old).seen }
-        ensures stepped { Stepped (identity_of table.now) pass.old pass.new }
-        ensures goes { GoesOnTo (part_of pass.old) (part_of pass.new) (part_of pass.new).marks }
-        ensures kept { IfSome self.new.leaf (IsOnKeptLeaf (part_of pass.new)) }
+        requires { MayStepOn (identity_of table.now) pass.old lo self.old.leaf }
+        ensures gone { GoesKept (identity_of table.now) lo self.old.leaf self.new.leaf pass.old pass.new }
         ensures same { self.new ≡ record self.old { at = self.new.at; leaf = self.new.leaf } }
-        ensures lo { (self.new.leaf ≡ self.old.leaf) ⊎ IfSome self.new.leaf (λ kept. kept.lo ≡ lo) }
         ensures ranges { RangesPut (SeenAt (part_of pass.new)) self.old.max
             (length (part_of pass.old).seen) (length (part_of pass.new).seen) self.old.at ranges.old ranges.new result self.new.at }
         ensures counted { IsCounted pass.old pass.new steps.old steps.new }

@@ -9,7 +9,7 @@ ghost use Rattle.mt_path.specs.Paths.{slot_for, span_at};
 ghost use Rattle.mt_rows.specs.Spans.{column};
 ghost use Rattle.mt_rule.specs.Sections.{here, spans_here};
 ghost use Rattle.mt_rule.specs.Tokens.{identity_of, part_of, IsCounted, IsPassOf, Stepped};
-ghost use Rattle.mt_read.specs.Seeks.{IsAtSpot, touches};
+ghost use Rattle.mt_read.specs.Seeks.{IsAtSpot, lines_touched};
 ghost use Rattle.mt_read.specs.Walks.{SeesMore};
 
 use mt_base::{Steps, Width};
@@ -263,7 +263,7 @@ fn touch_lines<L: Ledger>(table: &MtTable, pass: &mut Pass, spot: Spot, steps: &
     ensures sees { SeesMore (part_of pass.old) (part_of pass.new) }
     ensures on { IsAtSpot (part_of pass.new) spot }
     ensures counted { IsCounted pass.old pass.new steps.old steps.new }
-    ensures steps { steps.new ≤ steps.old + touches spot.width }
+    ensures steps { steps.new ≤ steps.old + lines_touched spot.width }
 {
     touch_slots(table, pass, spot, steps);
     touch_ends(table, pass, spot, steps);
@@ -287,7 +287,7 @@ pub fn seek<L: Ledger>(
     ensures slot { result ≡ slot_for (spans_here (part_of pass.old) (here (part_of pass.old))) index }
     ensures counted { IsCounted pass.old pass.new steps.old steps.new }
     ensures few { steps.new + 3 ≤ steps.old + slots_of spot.width spot.kind }
-    ensures steps { steps.new ≤ steps.old + touches spot.width + 7 }
+    ensures steps { steps.new ≤ steps.old + lines_touched spot.width + 7 }
 {
     touch_lines(table, pass, spot, steps);
     seek_groups(table, pass, spot, index, steps)

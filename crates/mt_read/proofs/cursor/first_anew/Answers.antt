@@ -14,7 +14,7 @@ returns-clause-answer g c =
 
 pub returns-clause-within : goal.returns-clause-within
 returns-clause-within g c =
-    let P : Range → Type 0 = λ r. (c.in-Some.leaf.min ≤ r.last) × (r.last ≤ c.in-Some.leaf.max) in
+    let P : Range → Type 0 = λ r. (c.in-Some.found.min ≤ r.last) × (r.last ≤ c.in-Some.found.max) in
     subst (λ (v : Option Range). IfSome v P) (sym c.not_below.ensures) (some_not_below P c.args.index c.args.index c.first_at-range.result c.first_at-range.ensures.within)
 
 pub returns-clause-goes : goal.returns-clause-goes

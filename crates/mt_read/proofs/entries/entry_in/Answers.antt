@@ -1,4 +1,4 @@
-use Rattle.mt_read.proofs.Prelude.{◌≡◌, ◌≤◌, arith, refl, ap, ◌∙◌, subst, sym, greatest_of, RowKind, slots_of, PassPart, part_of, row_here, touches, range_or_hole}
+use Rattle.mt_read.proofs.Prelude.{◌≡◌, ◌≤◌, arith, refl, ap, ◌∙◌, subst, sym, greatest_of, RowKind, slots_of, PassPart, part_of, row_here, lines_touched, range_or_hole}
 use Rattle.mt_read.proofs.Descending.{slot_is, slot_fits, column_of_slot, goes_entry, goes_sees, goes_on, here_more}
 use Rattle.mt_read.proofs.Reading.{leaf_kind, was_read}
 use Rattle.mt_read.proofs.Spots.{covers_more, leaf_more, on_leaf, place_at, place_low, placed, slot_more, was_before}
@@ -62,6 +62,6 @@ returns-clause-read g c =
 
 pub returns-clause-steps : goal.returns-clause-steps
 returns-clause-steps g c =
-    let wide = ap touches c.requires.leaf.on.wide in
+    let wide = ap lines_touched c.requires.leaf.on.wide in
     let sought = c.seek-slot.ensures.steps in let last = c.load_slot.ensures.steps in
     omega arith

@@ -1,4 +1,4 @@
-use Rattle.mt_read.proofs.Prelude.{◌≡◌, ◌+◌, ◌≤◌, Option, arith, refl, ap, ◌∙◌, subst, sym, IsSome, kind_width, RowKind, Held, column_at, LoadedChild, here, part_of, row_here, row_steps, slot_column, slot_for, slots_in, spans_here, touches, CoversHere, IsPlaceIn, PassPart, SlotPlace}
+use Rattle.mt_read.proofs.Prelude.{◌≡◌, ◌+◌, ◌≤◌, Option, arith, refl, ap, ◌∙◌, subst, sym, IsSome, kind_width, RowKind, Held, column_at, LoadedChild, here, part_of, row_here, row_steps, slot_column, slot_for, slots_in, spans_here, lines_touched, CoversHere, IsPlaceIn, PassPart, SlotPlace}
 use Rattle.mt_read.proofs.Descending.{slot_is, slot_fits, column_of_slot, inner_level, child_ends, child_on, goes_sees, goes_down, goes_on, here_more}
 use Rattle.mt_read.proofs.Spots.{covers_more, one_down, place_at, placed, row_steps_kept, slot_more}
 use Rattle.mt_read.proofs.entries.spot_below.Given.{Over}
@@ -100,6 +100,6 @@ returns-clause-steps g c =
     c.load_slot-name.ensures.told.child (inner_level q₁ (row_here q₁ c.args.spot) c.seek-slot.ensures.on c.requires.inner) in
     let level = told.level ∙ ap (λ (x : Held). x.extent.level) (here_more q q₁ c.seek-slot.ensures.sees) in
     let goes = goes_on q q₁ q₂ (goes_sees _ _ c.seek-slot.ensures.sees) (goes_down _ _ _ _ told) in
-    let wide = ap touches c.requires.on.wide in
+    let wide = ap lines_touched c.requires.on.wide in
     let sought = c.seek-slot.ensures.steps in let last = c.load_slot-name.ensures.steps in
     one_down (row_steps q₂) (row_steps q) (here q₂).extent.level (here q).extent.level c.args.steps.now c.load_slot-name.new.steps level (row_steps_kept q q₂ goes) (omega arith)

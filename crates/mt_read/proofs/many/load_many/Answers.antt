@@ -1,5 +1,4 @@
-use Rattle.mt_read.proofs.Prelude.{arith, ℕ, sym, subst, length, identity_of, part_of, tree_in, known_by, Began}
-use Rattle.mt_read.specs.Many.{ReadAt, SeenAt}
+use Rattle.mt_read.proofs.Prelude.{arith, ℕ, sym, subst, length, identity_of, part_of, tree_in, known_by, Began, ReadAt, SeenAt}
 use Rattle.mt_read.proofs.Batching.{entries_as}
 use Rattle.mt_read.proofs.Finding.{shape_is}
 use Rattle.mt_read.proofs.Windows.{read_at}

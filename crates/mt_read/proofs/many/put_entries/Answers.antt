@@ -1,5 +1,4 @@
-use Rattle.mt_read.proofs.Prelude.{rules, arith, refl, length, part_of}
-use Rattle.mt_read.specs.Many.{SeenAt}
+use Rattle.mt_read.proofs.Prelude.{rules, arith, refl, length, part_of, SeenAt}
 use Rattle.mt_read.proofs.Batching.{entries_begin, entry_put}
 use Rattle.mt_read.proofs.Descending.{goes_on}
 use Rattle.mt_read.proofs.Keeping.{nothing_goes}

@@ -1,5 +1,4 @@
-use Rattle.mt_read.proofs.Prelude.{◌≡◌, ◌+◌, ◌*◌, ◌≤◌, length, identity_of, part_of, IsCounted, Stepped, GoesOn}
-use Rattle.mt_read.specs.Many.{EntriesPut, SeenAt}
+use Rattle.mt_read.proofs.Prelude.{◌≡◌, ◌+◌, ◌*◌, ◌≤◌, length, identity_of, part_of, IsCounted, Stepped, GoesOn, EntriesPut, SeenAt}
 use Rattle.mt_read.proofs.many.put_entries.Given as goal
 
 abbrev pub invariant-loop-i : goal.invariant-loop-i

@@ -1,7 +1,4 @@
-use Rattle.mt_read.proofs.Prelude.{rules, arith, ◌≡◌, ◌∙◌, ◌+◌, ℕ, Option, Some, ap, refl, sym, subst, inl, length, Range, part_of, PassPart, Cursor, find_at}
-use Rattle.std.specs.Prelude.{slice_set}
-use Rattle.mt_base.specs.Places.{place_behind}
-use Rattle.mt_read.specs.Many.{IsSeenFrom, SeenAt}
+use Rattle.mt_read.proofs.Prelude.{rules, arith, ◌≡◌, ◌∙◌, ◌+◌, ℕ, Option, Some, ap, refl, sym, subst, inl, length, Range, part_of, PassPart, Cursor, find_at, place_behind, IsSeenFrom, SeenAt, slice_set}
 use Rattle.mt_read.proofs.Batching.{HasPut, all_put, kept_since, none_left, seen_on, steps_begin, steps_next}
 use Rattle.mt_read.proofs.Descending.{goes_to}
 use Rattle.mt_read.proofs.Keeping.{nothing_goes}
@@ -26,20 +23,20 @@ loop-i-preserved g c =
     let q = part_of c.args.pass.now in let q₁ = part_of c.loop-i.pass in let q₂ = part_of c.go_on.new.pass in
     let s = c.args.self.now in let s₁ = c.loop-i.self in
     let inv = c.loop-i.invariant in let told = c.go_on.ensures in
-    let shape : q₂.shape ≡ q₁.shape = ap (λ (z : PassPart). z.shape) told.goes.is in
+    let shape : q₂.shape ≡ q₁.shape = ap (λ (z : PassPart). z.shape) told.gone.goes.is in
     let max : s₁.max ≡ s.max = ap (λ (x : Cursor). x.max) inv.same in
     let read : IsSeenFrom q₂ (length q₁.seen) (find_at s₁.at s.max) (Some c.in-Some.range) =
     subst (λ (x : ℕ × Option Range). IsSeenFrom q₂ (length q₁.seen) (find_at s₁.at x.0) x.1) (λ i. (max i, c.in-Some.is i)) told.read in
     let behind : place_behind (Some c.in-Some.range) s.max ≡ c.go_on.new.self.at = sym (ap (λ (x : Cursor). x.at) told.same ∙ (λ i. place_behind (c.in-Some.is i) (max i))) in
     let put = subst (λ (o : Option ℕ). HasPut (SeenAt q₂) s.max (length q.seen) (length q₂.seen) s.at c.args.ranges.now (slice_set c.loop-i.ranges c.loop-i.i c.in-Some.range) (c.loop-i.i + 1) o) behind
-    (steps_next (SeenAt q₁) (SeenAt q₂) (λ k query value at. seen_on q₁ q₂ k query value shape told.goes.seen at) s.max (length q.seen) (length q₁.seen) (length q₂.seen) s.at c.args.ranges.now c.loop-i.ranges c.loop-i.i s₁.at inv.put
+    (steps_next (SeenAt q₁) (SeenAt q₂) (λ k query value at. seen_on q₁ q₂ k query value shape told.gone.goes.seen at) s.max (length q.seen) (length q₁.seen) (length q₂.seen) s.at c.args.ranges.now c.loop-i.ranges c.loop-i.i s₁.at inv.put
     (search rules) c.in-Some.range read.0 read.1 read.2.high read.2) in
     record {
       stepped = search rules;
-      goes = goes_to q q₁ q₂ q₁.marks q₂.marks inv.goes told.goes;
-      kept = told.kept;
+      goes = goes_to q q₁ q₂ q₁.marks q₂.marks inv.goes told.gone.goes;
+      kept = told.gone.kept;
       same = told.same ∙ (λ i. record { at = sym (ap (λ (x : Cursor). x.at) told.same) i; max = max i; leaf = c.go_on.new.self.leaf; epoch = ap (λ (x : Cursor). x.epoch) inv.same i });
-      since = kept_since s.leaf s₁.leaf c.go_on.new.self.leaf c.args.lo inv.since told.lo;
+      since = kept_since s.leaf s₁.leaf c.go_on.new.self.leaf c.args.lo inv.since told.gone.lo;
       put = put;
       long = search rules;
       counted = omega arith;
@@ -51,11 +48,26 @@ returns-in_default-clause-ranges g c =
     let q = part_of c.args.pass.now in let q₁ = part_of c.loop-i.pass in let q₂ = part_of c.go_on.new.pass in
     let s = c.args.self.now in let s₁ = c.loop-i.self in
     let inv = c.loop-i.invariant in let told = c.go_on.ensures in
-    let shape : q₂.shape ≡ q₁.shape = ap (λ (z : PassPart). z.shape) told.goes.is in
+    let shape : q₂.shape ≡ q₁.shape = ap (λ (z : PassPart). z.shape) told.gone.goes.is in
     let max : s₁.max ≡ s.max = ap (λ (x : Cursor). x.max) inv.same in
     let read = subst (λ (x : ℕ × Option Range). IsSeenFrom q₂ (length q₁.seen) (find_at s₁.at x.0) x.1) (λ i. (max i, c.in_default.is i)) told.read in
-    none_left q₁ q₂ shape told.goes.seen s.max (length q.seen) s.at c.args.ranges.now c.loop-i.ranges c.loop-i.i s₁.at inv.put (search rules) read c.go_on.new.self.at
+    none_left q₁ q₂ shape told.gone.goes.seen s.max (length q.seen) s.at c.args.ranges.now c.loop-i.ranges c.loop-i.i s₁.at inv.put (search rules) read c.go_on.new.self.at
     (ap (λ (x : Cursor). x.at) told.same ∙ ap (λ (o : Option Range). place_behind o s₁.max) c.in_default.is)
+
+-- it has gone on to the leaf that is kept then
+pub returns-in_default-clause-gone : goal.returns-in_default-clause-gone
+returns-in_default-clause-gone g c =
+    let q = part_of c.args.pass.now in let q₁ = part_of c.loop-i.pass in let q₂ = part_of c.go_on.new.pass in
+    let inv = c.loop-i.invariant in let told = c.go_on.ensures.gone in
+    record {
+      stepped = search rules;
+      goes = goes_to q q₁ q₂ q₁.marks q₂.marks inv.goes told.goes;
+      kept = told.kept;
+      lo = kept_since c.args.self.now.leaf c.loop-i.self.leaf c.go_on.new.self.leaf c.args.lo inv.since told.lo;
+    }
+
+pub returns-clause-gone : goal.returns-clause-gone
+returns-clause-gone g c = let inv = c.loop-i.invariant in record { stepped = inv.stepped; goes = inv.goes; kept = inv.kept; lo = inv.since }
 
 pub returns-clause-ranges : goal.returns-clause-ranges
 returns-clause-ranges g c =

@@ -1,5 +1,4 @@
-use Rattle.mt_read.proofs.Prelude.{◌≡◌, ◌⊎◌, ◌+◌, ◌*◌, ◌≤◌, IfSome, length, identity_of, part_of, IsCounted, Stepped, GoesOnTo, IsOnKeptLeaf}
-use Rattle.mt_read.specs.Many.{SeenAt}
+use Rattle.mt_read.proofs.Prelude.{◌≡◌, ◌⊎◌, ◌+◌, ◌*◌, ◌≤◌, IfSome, length, identity_of, part_of, IsCounted, Stepped, GoesOnTo, IsOnKeptLeaf, SeenAt}
 use Rattle.mt_read.proofs.Batching.{HasPut}
 use Rattle.mt_read.proofs.cursor.Cursor.fill.Given as goal
 

@@ -1,4 +1,5 @@
-use Rattle.mt_read.proofs.Prelude.{arith, ◌∙◌, length, refl, part_of, moment_seen}
+use Rattle.mt_read.proofs.Prelude.{arith, ◌∙◌, inl, length, refl, part_of, moment_seen}
+use Rattle.mt_read.proofs.Keeping.{nothing_goes}
 use Rattle.mt_read.proofs.Stepping.{asks_nothing, asks_there}
 use Rattle.mt_read.proofs.cursor.Cursor.go_on.Goals as goal
 
@@ -12,3 +13,14 @@ returns-clause-read g c =
     let q₁ = part_of c.look-range.new.pass in let s = c.args.self.now in
     let a = c.look-range.ensures.answer in
     (a.k, a.low, record { high = a.high; is = a.is ∙ asks_there (moment_seen q₁ a.k).ranges s.at c.in-Some.index s.max s.max c.in-Some.is refl })
+
+pub returns-in_default-clause-gone : goal.returns-in_default-clause-gone
+returns-in_default-clause-gone g c = record {
+  stepped = record { of = c.requires.pass; turn = refl };
+  goes = nothing_goes (part_of c.args.pass.now);
+  kept = c.requires.kept;
+  lo = inl refl;
+}
+
+pub returns-clause-gone : goal.returns-clause-gone
+returns-clause-gone g c = c.look-range.ensures.gone

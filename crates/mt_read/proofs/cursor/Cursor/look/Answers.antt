@@ -6,4 +6,7 @@ pub returns-clause-answer : goal.returns-clause-answer
 returns-clause-answer g c =
     let q = part_of c.args.pass.now in let q' = part_of c.first_behind-found.new.pass in
     subst (λ (v : Option Range). Answers q' (length q.seen) (Find c.args.index c.args.self.now.max) v) (sym c.within.ensures)
-    (bounded q' q.shape.kind (length q.seen) c.args.index c.args.self.now.max c.first_behind-found.result.range (ap (λ (z : PassPart). z.shape.kind) c.first_behind-found.ensures.goes.is) c.first_behind-found.ensures.answer)
+    (bounded q' q.shape.kind (length q.seen) c.args.index c.args.self.now.max c.first_behind-found.result (ap (λ (z : PassPart). z.shape.kind) c.first_behind-found.ensures.gone.goes.is) c.first_behind-found.ensures.answer)
+
+pub returns-clause-gone : goal.returns-clause-gone
+returns-clause-gone g c = c.first_behind-found.ensures.gone
