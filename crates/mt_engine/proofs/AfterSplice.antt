@@ -1,5 +1,5 @@
 -- A call that has replaced rows: the rows and the book by its end.
-use Rattle.mt_engine.proofs.Prelude.{◌≡◌, ℕ, ◌+◌, ◌*◌, ◌-◌, ◌<◌, ◌≤◌, ◌++◌, List, Bool, Option, true, false, length, map, get_or, refl, sym, ap, ◌∙◌, subst, inl, inr, arith, length-append, All, Contains, cases_Bool, get_or-map, get_or_append_left, length-map, All-append, All-map, Kind, Call, Reply, Range, acted, deepest, most_taken, first_row, Book, Held, IsRowOf, held_rows, live_count, Life, Dead, Place, height_in, Rooted, Sheet, life_of, IsLawfulOf, LiveAreReached, is_reached, finished, map_by, with_record, IsBookOf, IsSpliced, IsEngineState, IsIdle, TookRows, IsDoneByStore}
+use Rattle.mt_engine.proofs.Prelude.{◌≡◌, ℕ, ◌+◌, ◌*◌, ◌-◌, ◌<◌, ◌≤◌, ◌++◌, List, Bool, Option, true, false, length, map, get_or, refl, sym, ap, ◌∙◌, subst, inl, inr, arith, length-append, All, Contains, cases_Bool, get_or-map, get_or_append_left, length-map, All-append, All-map, Kind, Call, Reply, Range, acted, deepest, most_taken, first_row, Book, StampedRow, IsRowOf, held_rows, live_count, Life, Dead, Place, height_in, Rooted, Sheet, life_of, IsLawfulOf, LiveAreReached, is_reached, finished, map_by, with_record, IsBookOf, IsSpliced, IsEngineState, IsIdle, TookRows, IsDoneByStore}
 use Rattle.mt_engine.proofs.Levelled.{levelled}
 use Rattle.mt_engine.proofs.Moments.{tree_if_lawful}
 
@@ -14,16 +14,16 @@ not_reached : (t : Rooted) (lives : List Life) (cleared : ℕ) (book : Book) (nu
 not_reached t lives cleared book number row booked held = elim (cases_Bool (is_reached t row)) [ inl reached ↦ absurd ((booked.reached row reached).not_held held) | inr apart ↦ apart ]
 
 -- what stands in the list of held rows is a held row
-holds : (book : Book) (k : ℕ) (d : Held) → k < length book.held → Contains (held_rows book) (get_or book.held k d).row
+holds : (book : Book) (k : ℕ) (d : StampedRow) → k < length book.held → Contains (held_rows book) (get_or book.held k d).row
 holds book k d within =
-    let f : Held → ℕ = λ h. h.row in
+    let f : StampedRow → ℕ = λ h. h.row in
     (k, omega (arith, length-map book.held f, within), get_or-map f book.held k d (get_or book.held k d).row within)
 
 -- what stands in a list stands in the same place when more is behind it
-at_front : (xs more ys : List Held) → ys ≡ xs ++ more → (k : ℕ) (d : Held) → k < length xs → (k < length ys) × (get_or ys k d ≡ get_or xs k d)
+at_front : (xs more ys : List StampedRow) → ys ≡ xs ++ more → (k : ℕ) (d : StampedRow) → k < length xs → (k < length ys) × (get_or ys k d ≡ get_or xs k d)
 at_front xs more ys is k d within = (
   omega (arith, ap length is, length-append xs more),
-  ap (λ (l : List Held). get_or l k d) is ∙ get_or_append_left xs more d k within,
+  ap (λ (l : List StampedRow). get_or l k d) is ∙ get_or_append_left xs more d k within,
 )
 
 -- ---- the numbers of rows
@@ -54,28 +54,28 @@ module _ (kind : Kind) (s s₁ : Sheet) (book book' : Book) (call : Call) (reply
   lives = s₁.lives
 
   -- an old held row keeps its life: it was not reached, and is not
-  old_held : All (λ (h : Held). life_of lives h.row ≡ Dead h.stamp) book.held
+  old_held : All (λ (h : StampedRow). life_of lives h.row ≡ Dead h.stamp) book.held
   old_held = λ k d within.
       (let row : ℕ = (get_or book.held k d).row in
       let here : Contains (held_rows book) row = holds book k d within in
       let front = at_front book.held (map (λ (r : ℕ). record { row = r; stamp = s.ended + 1 }) spliced.moved.gone) book'.held spliced.moved.held k d within in
-      let there : Contains (held_rows book') row = subst (λ (h : Held). Contains (held_rows book') h.row) front.1 (holds book' k d front.0) in
+      let there : Contains (held_rows book') row = subst (λ (h : StampedRow). Contains (held_rows book') h.row) front.1 (holds book' k d front.0) in
       let at : IsRowOf book row = state.kept.booked.sound.waiting_rows k d within in
       let from = at.0 in let below = at.1 in
       let rows = state.kept.booked.rows in
       spliced.others row (omega arith) (omega arith) (not_reached s.tree s.lives s.cleared book (s.ended + 1) row state.kept.booked here) (not_reached s₁.tree lives s₁.cleared book' (s.ended + 1 + 1) row spliced.booked there) ∙ state.held k d within)
 
   -- a row that went died by this call
-  new_held : All (λ (h : Held). life_of lives h.row ≡ Dead h.stamp) (map (λ (r : ℕ). record { row = r; stamp = s.ended + 1 }) spliced.moved.gone)
+  new_held : All (λ (h : StampedRow). life_of lives h.row ≡ Dead h.stamp) (map (λ (r : ℕ). record { row = r; stamp = s.ended + 1 }) spliced.moved.gone)
   new_held =
       let gone = spliced.moved.gone in
-      let held : ℕ → Held = λ (r : ℕ). record { row = r; stamp = s.ended + 1 } in
-      All-map (λ (h : Held). life_of lives h.row ≡ Dead h.stamp) held gone
+      let held : ℕ → StampedRow = λ (r : ℕ). record { row = r; stamp = s.ended + 1 } in
+      All-map (λ (h : StampedRow). life_of lives h.row ≡ Dead h.stamp) held gone
       (λ k d within. spliced.dead (get_or gone k d) (spliced.moved.were_reached k d within) (spliced.moved.are_not k d within))
 
-  held_after : All (λ (h : Held). life_of lives h.row ≡ Dead h.stamp) book'.held
+  held_after : All (λ (h : StampedRow). life_of lives h.row ≡ Dead h.stamp) book'.held
   held_after =
-      let P : Held → Type 0 = λ (h : Held). life_of lives h.row ≡ Dead h.stamp in
+      let P : StampedRow → Type 0 = λ (h : StampedRow). life_of lives h.row ≡ Dead h.stamp in
       subst (All P) (sym spliced.moved.held) (All-append P book.held _ old_held new_held)
 
   grown_after : length book'.held + live_count book' ≤ s.opened + most_taken * (s.ended + 1)

@@ -1,9 +1,6 @@
 -- Batches: what so many look-ups have put, and so many steps have found.
-use Rattle.mt_engine.proofs.Prelude.{All, All-tail, IsTreeOf, Kind, handle_in, inl, inr, None, Option, Some, [], ap, append-nil, append_assoc, arith, length, length-append, length-map, get_or-map, length-drop, length_push, map, min, refl, subst, suc, sym, take, ℕ, ◌++◌, ◌+◌, ◌-◌, ◌<◌, ◌∙◌, ◌∷◌, ◌≡◌, ◌≢◌, ◌≤◌, List, drop, option_map, slice_index, slice_index_or, slice_set, Load, Range, answer, greatest, Rooted, Sheet, OnlyReads, map_by, same_tree, RangeWalk, WalksFrom, reads_on, Stepped, entries_at, entry_or_zero, found_from, found_then, index_behind, put_first, steps_from}
+use Rattle.mt_engine.proofs.Prelude.{All, All-tail, IsTreeOf, Kind, handle_in, inl, inr, None, Option, Some, [], ap, append-nil, append_assoc, arith, length, length-append, length-map, get_or-map, length-drop, length_push, map, min, refl, subst, suc, sym, take, ℕ, ◌++◌, ◌+◌, ◌-◌, ◌<◌, ◌∙◌, ◌∷◌, ◌≡◌, ◌≢◌, ◌≤◌, List, drop, option_map, slice_index, slice_index_or, slice_set, Load, Range, answer, greatest, Rooted, Sheet, OnlyReads, map_by, same_tree, RangeWalk, WalksFrom, reads_on, PutSteps, Stepped, entries_at, entry_or_zero, found_from, found_then, index_behind, put_first, steps_by, steps_from, words_in, cases_eq, drop_all, length-take-le, map-append, take_all, take_min, take_more}
 use Rattle.std.specs.Option.{unwrap_or}
-use Rattle.std.proofs.lemmas.Bool.{cases_eq}
-use Rattle.std.proofs.lemmas.List.{drop_all, length-take-le, map-append, take_all, take_min, take_more}
-use Rattle.mt_path.specs.Batches.{words_in}
 use Rattle.mt_engine.proofs.SlotQueries.{IsHandleAt, load_held, load_hole}
 
 -- ---- the first places of a list
@@ -148,20 +145,20 @@ module _ {A : Type 0} {f : Range → A} {m : List Range} {top most : ℕ} {first
   ends found = (has.put ∙ ap (λ (l : List Range). put_first (map f l) old) (sym found), sym has.long ∙ ap length (sym found))
 
   -- a step finds none: these are all
-  pub steps_end : made < most → found_from m top next ≡ None → (new ≡ put_first (map f whole.found) old) × (made ≡ length whole.found) × (None ≡ whole.next)
+  pub steps_end : made < most → found_from m top next ≡ None → PutSteps f whole old new made None
   steps_end low is =
       let left : most - made ≡ suc (most - (made + 1)) = omega arith in
       let goes = ap (λ (n : ℕ). steps_from m top n next) left ∙ left_none m top (most - (made + 1)) next is in
       let all = ends (has.found ∙ (ap (λ (x : Stepped). has.done ++ x.found) goes ∙ append-nil has.done)) in
-      (all.0, all.1, sym (has.goes ∙ ap (λ (x : Stepped). x.next) goes))
+      record { put = all.0; many = all.1; goes = sym (has.goes ∙ ap (λ (x : Stepped). x.next) goes) }
 
   -- there is no place left: these are as many as were asked for
-  pub steps_full : most ≤ made → (new ≡ put_first (map f whole.found) old) × (made ≡ length whole.found) × (next ≡ whole.next)
+  pub steps_full : most ≤ made → PutSteps f whole old new made next
   steps_full high =
       let left : most - made ≡ 0 = omega arith in
       let goes = ap (λ (n : ℕ). steps_from m top n next) left ∙ left_all m top next in
       let all = ends (has.found ∙ (ap (λ (x : Stepped). has.done ++ x.found) goes ∙ append-nil has.done)) in
-      (all.0, all.1, sym (has.goes ∙ ap (λ (x : Stepped). x.next) goes))
+      record { put = all.0; many = all.1; goes = sym (has.goes ∙ ap (λ (x : Stepped). x.next) goes) }
 
   -- so many places are there as before
   pub steps_long : most ≡ length old → length new ≡ length old
@@ -185,7 +182,7 @@ module _ {A : Type 0} {f : Range → A} {s s' : Sheet} {walk walk' : RangeWalk} 
   same = same_tree s s' put.reads
 
   abbrev pub steps : Stepped
-  steps = steps_from (map_by s.tree) (greatest s.tree.table.width) (length old) walk.next
+  steps = steps_by s.tree (length old) walk.next
 
   found_there : (o : Option Range) → o ≡ found_from (map_by s'.tree) (greatest s'.tree.table.width) walk'.next → found_from (map_by s.tree) (greatest s.tree.table.width) walk'.next ≡ o
   found_there o is = ap (λ (t : Rooted). found_from (map_by t) (greatest t.table.width) walk'.next) (sym same) ∙ sym is
@@ -199,10 +196,10 @@ module _ {A : Type 0} {f : Range → A} {s s' : Sheet} {walk walk' : RangeWalk} 
         (behind ∙ ap (λ (t : Rooted). index_behind (greatest t.table.width) (Some r)) same);
   }
 
-  pub put_end : made < length old → None ≡ found_from (map_by s'.tree) (greatest s'.tree.table.width) walk'.next → (new ≡ put_first (map f steps.found) old) × (made ≡ length steps.found) × (None ≡ steps.next)
+  pub put_end : made < length old → None ≡ found_from (map_by s'.tree) (greatest s'.tree.table.width) walk'.next → PutSteps f steps old new made None
   put_end low is = steps_end put.stepped low (found_there None is)
 
-  pub put_full : length old ≤ made → (new ≡ put_first (map f steps.found) old) × (made ≡ length steps.found) × (walk'.next ≡ steps.next)
+  pub put_full : length old ≤ made → PutSteps f steps old new made walk'.next
   put_full high = steps_full put.stepped high
 
   pub put_long : length new ≡ length old

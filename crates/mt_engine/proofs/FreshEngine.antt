@@ -1,5 +1,5 @@
 -- Rows and a book of which nothing was used yet make an engine.
-use Rattle.mt_engine.proofs.Prelude.{◌≡◌, ℕ, zero, suc, length, refl, ap, arith, All-nil, Kind, kind_width, Held, IsBook, new_book, rows_down, Dead, new_sheet, life_of, fresh_is_ready, IsIdle}
+use Rattle.mt_engine.proofs.Prelude.{◌≡◌, ℕ, zero, suc, length, refl, ap, arith, All-nil, Kind, kind_width, StampedRow, IsBook, new_book, rows_down, Dead, new_sheet, life_of, fresh_is_ready, IsIdle}
 
 length-rows_down : (n : ℕ) → length (rows_down n) ≡ n
 length-rows_down zero = refl
@@ -13,7 +13,7 @@ fresh_is_idle kind n sound =
       state = record {
         told = ready.told;
         kept = ready.kept;
-        held = All-nil (λ (h : Held). life_of (new_sheet (kind_width kind) n).lives h.row ≡ Dead h.stamp);
+        held = All-nil (λ (h : StampedRow). life_of (new_sheet (kind_width kind) n).lives h.row ≡ Dead h.stamp);
         grown = let all = length-rows_down n in omega arith;
       };
     }

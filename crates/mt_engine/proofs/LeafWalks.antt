@@ -1,6 +1,5 @@
 -- Steps of a walk from leaf to leaf: what is found behind a slot, and the way that is kept.
-use Rattle.mt_engine.proofs.Prelude.{◌≡◌, ◌≢◌, ◌==◌, ℕ, ◌+◌, ◌<◌, ◌≤◌, List, [], Option, Some, None, true, false, length, refl, sym, ap, ◌∙◌, subst, inl, inr, arith, eq-eqb, ne_eqb, IfSome, slice_set, Kind, Range, greatest, IsTreeOf, map_by, Rooted, Sheet, OnlyReads, Handle, PathStep, handle_in, IsHandleOf, last_step, path_in, range_of, nearest_from, range_at, found_from, index_behind, RangeWalk, WalksFrom, same_tree}
-use Rattle.mt_engine.specs.RangeWalks.{IsWayOrNone, LeadsToLeaf, walk_after}
+use Rattle.mt_engine.proofs.Prelude.{◌≡◌, ◌≢◌, ◌==◌, ℕ, ◌+◌, ◌<◌, ◌≤◌, List, [], Option, Some, None, true, false, length, refl, sym, ap, ◌∙◌, subst, inl, inr, arith, eq-eqb, ne_eqb, IfSome, slice_set, Kind, Range, greatest, IsTreeOf, map_by, Rooted, Sheet, OnlyReads, Handle, PathStep, handle_in, IsHandleOf, last_step, path_in, range_of, nearest_from, range_at, found_from, index_behind, RangeWalk, WalksFrom, same_tree, IsWayOrNone, LeadsToLeaf, walk_after}
 use Rattle.mt_engine.proofs.Batching.{HasPut, put_begin, put_on}
 use Rattle.mt_engine.proofs.Slots.{tree_map, tree_within}
 use Rattle.mt_engine.proofs.Walking.{find_nearest, walks_on}

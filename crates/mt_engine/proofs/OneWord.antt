@@ -1,5 +1,5 @@
 -- Another entry of one range, published by one word in the slot of its leaf: the rows stay as they are.
-use Rattle.mt_engine.proofs.Prelude.{◌≡◌, ◌≢◌, ℕ, zero, suc, ◌+◌, ◌*◌, ◌<◌, ◌≤◌, ◌==◌, ◌++◌, List, [], ◌∷◌, Bool, true, false, All, nat_lt, length, max, refl, sym, ap, ◌∙◌, subst, inl, inr, arith, append-nil, get_or-set_other, le-ltb, ne_eqb, slice_index, slice_set, slice_index_or, AllByRecursion, Contains, cases_Bool, eqb-false, All-weaker, All-contains, All-contains_itself, Width, Kind, Range, Call, Store, Reply, acted, finds_room, reserved, over, all_front, all_back, all_join, columns, greatest, greatest_of, first_row, Book, Held, IsRowOf, Leaf, Gapped, Span, slot_column, gap_column, row_in, slots_of, hole_length, longest_in, other_place, other_column, some_columns, slot_above, slot_within, gap_within, Life, New, Dead, Place, Slot, Table, column, spans_in, Levels, is_row_of, height_in, Rooted, Sheet, IsWhole, life_of, with_word, tree_as, map_by, is_reached, MayPublish, Published, with_record, life_after, finished, root_of, IsSlotAt, ReplacesEntry, may_publish, levels_upper, levels_both, levels_pair, level_rows, all_both, upper_both, upper_shared, levels_map, Handle, IsHandleOf, handle_in, slot_for, below, step_in, at_get, row_of, place, IsBookOf, IsUnheld, IsStoreBy, SameHeight, ChangesEntry, IsInCall, IsIdle, IsDoneByStore, row_most, longest_in-append}
+use Rattle.mt_engine.proofs.Prelude.{◌≡◌, ◌≢◌, ℕ, zero, suc, ◌+◌, ◌*◌, ◌<◌, ◌≤◌, ◌==◌, ◌++◌, List, [], ◌∷◌, Bool, true, false, All, nat_lt, length, max, refl, sym, ap, ◌∙◌, subst, inl, inr, arith, append-nil, get_or-set_other, le-ltb, ne_eqb, slice_index, slice_set, slice_index_or, AllByRecursion, Contains, cases_Bool, eqb-false, All-weaker, All-contains, All-contains_itself, Width, Kind, Range, Call, Store, Reply, acted, finds_room, reserved, over, all_front, all_back, all_join, columns, greatest, greatest_of, first_row, Book, StampedRow, IsRowOf, Leaf, Gapped, Span, slot_column, gap_column, row_in, slots_of, hole_length, longest_in, other_place, other_column, some_columns, slot_above, slot_within, gap_within, Life, New, Dead, Place, Slot, Table, column, spans_in, Levels, is_row_of, height_in, Rooted, Sheet, IsWhole, life_of, with_word, tree_as, map_by, is_reached, MayPublish, Published, with_record, life_after, finished, root_of, IsSlotAt, ReplacesEntry, may_publish, levels_upper, levels_both, levels_pair, level_rows, all_both, upper_both, upper_shared, levels_map, Handle, IsHandleOf, handle_in, slot_for, below, step_in, at_get, row_of, place, IsBookOf, IsUnheld, IsStoreBy, SameHeight, ChangesEntry, IsInCall, IsIdle, IsDoneByStore, row_most, longest_in-append}
 use Rattle.mt_rows.specs.Laws as laws
 use Rattle.mt_rows.proofs.Reached as reached
 use Rattle.mt_rows.proofs.SlotEntry as exact
@@ -219,7 +219,7 @@ module _ (kind : Kind) (s : Sheet) (book : Book) (after : Rooted) (lives : List 
         out = λ row low high out. reached_same row ∙ was.out row low (subst (λ (n : ℕ). row < first_row + n) rows high) out;
         reached = λ row is. was.reached row (sym (reached_same row) ∙ is);
         spare = all_with (IsRowOf book) (λ row. IsUnheld s.cleared (life_of s.lives row)) (λ row. IsUnheld s.cleared (life_of lives row)) (λ row is spare. subst (IsUnheld s.cleared) (sym (same_of_book row is)) spare) book.free was.sound.free_rows was.spare;
-        stamps = All-weaker (λ (h : Held). h.stamp < s.ended + 1) (λ (h : Held). h.stamp < s.ended + 1 + 1) (λ h below. omega arith) book.held was.stamps;
+        stamps = All-weaker (λ (h : StampedRow). h.stamp < s.ended + 1) (λ (h : StampedRow). h.stamp < s.ended + 1 + 1) (λ h below. omega arith) book.held was.stamps;
       }
 
   rested : IsIdle kind ended book
@@ -238,7 +238,7 @@ module _ (kind : Kind) (s : Sheet) (book : Book) (after : Rooted) (lives : List 
             none_buried = λ row low below. kept row low (subst (λ (n : ℕ). row < first_row + n) rows below);
             booked = booked;
           };
-          held = all_with (λ (h : Held). IsRowOf book h.row) (λ (h : Held). life_of s.lives h.row ≡ Dead h.stamp) (λ (h : Held). life_of lives h.row ≡ Dead h.stamp) (λ h is dead. same_of_book h.row is ∙ dead) book.held state.kept.booked.sound.waiting_rows state.held;
+          held = all_with (λ (h : StampedRow). IsRowOf book h.row) (λ (h : StampedRow). life_of s.lives h.row ≡ Dead h.stamp) (λ (h : StampedRow). life_of lives h.row ≡ Dead h.stamp) (λ h is dead. same_of_book h.row is ∙ dead) book.held state.kept.booked.sound.waiting_rows state.held;
           grown = let grown = state.grown in omega arith;
         };
       }

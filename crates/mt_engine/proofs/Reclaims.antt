@@ -1,8 +1,8 @@
 -- What the freeing of held rows that were replaced early enough leaves of a book.
-use Rattle.mt_engine.proofs.Prelude.{◌≡◌, ℕ, ◌+◌, ◌<◌, ◌≤◌, List, [], ◌∷◌, ◌++◌, true, length, map, nat_le, nat_lt, sym, subst, inl, inr, arith, append-nil, length-append, min, All, cases_Bool, leb-true, leb-false, ltb-true, All-head, All-tail, All-push, All-weaker, Contains-append_left, Contains-append_right, Contains-append_cases, filter_passes, Held, Book, IsBook, IsOut, still_held, after_reclaim, book, reclaim_leaves_book, first_due, none_due, Life, New, Draft, Live, Dead, life_of, IsUnheld}
+use Rattle.mt_engine.proofs.Prelude.{◌≡◌, ℕ, ◌+◌, ◌<◌, ◌≤◌, List, [], ◌∷◌, ◌++◌, true, length, map, nat_le, nat_lt, sym, subst, inl, inr, arith, append-nil, length-append, min, All, cases_Bool, leb-true, leb-false, ltb-true, All-head, All-tail, All-push, All-weaker, Contains-append_left, Contains-append_right, Contains-append_cases, filter_passes, StampedRow, Book, IsBook, IsOut, still_held, after_reclaim, book, reclaim_leaves_book, first_due, none_due, Life, New, Draft, Live, Dead, life_of, IsUnheld}
 
 -- the held row died by the call that the book tells, which has ended
-pub record DiedBy (lives : List Life) (all : ℕ) (h : Held) : Type 0 where
+pub record DiedBy (lives : List Life) (all : ℕ) (h : StampedRow) : Type 0 where
   pub dead : life_of lives h.row ≡ Dead h.stamp
   pub ended : h.stamp ≤ all
 
@@ -22,7 +22,7 @@ spare_rises was cleared Draft rises spare = spare
 spare_rises was cleared Live rises spare = spare
 spare_rises was cleared (Dead call) rises spare = omega (arith, rises, spare)
 
-out_before : (rows : ℕ) (free : List ℕ) (h : Held) (held : List Held) (row : ℕ) → IsOut (book rows (free ++ h.row ∷ []) held) row → IsOut (book rows free (h ∷ held)) row
+out_before : (rows : ℕ) (free : List ℕ) (h : StampedRow) (held : List StampedRow) (row : ℕ) → IsOut (book rows (free ++ h.row ∷ []) held) row → IsOut (book rows free (h ∷ held)) row
 out_before rows free h held row out = record {
   here = out.here;
   not_free = λ c. out.not_free (Contains-append_left free (h.row ∷ []) row c);
@@ -33,7 +33,7 @@ out_before rows free h held row out = record {
 }
 
 module _ (lives : List Life) (all cleared least : ℕ) (reach : min least all ≤ cleared) (was : Book) where
-  one_freed : (rows : ℕ) (free : List ℕ) (h : Held) (held : List Held) → h.stamp ≤ least → Freed lives all cleared was (book rows free (h ∷ held)) → Freed lives all cleared was (book rows (free ++ h.row ∷ []) held)
+  one_freed : (rows : ℕ) (free : List ℕ) (h : StampedRow) (held : List StampedRow) → h.stamp ≤ least → Freed lives all cleared was (book rows free (h ∷ held)) → Freed lives all cleared was (book rows (free ++ h.row ∷ []) held)
   one_freed rows free h held due k =
       let first : DiedBy lives all h = All-head (DiedBy lives all) h held k.dead in
       record {
@@ -46,7 +46,7 @@ module _ (lives : List Life) (all cleared least : ℕ) (reach : min least all �
         dead = All-tail (DiedBy lives all) h held k.dead;
       }
 
-  by_recursion : (rows : ℕ) (free : List ℕ) (held : List Held) → Freed lives all cleared was (book rows free held) → Freed lives all cleared was (after_reclaim (book rows free held) least)
+  by_recursion : (rows : ℕ) (free : List ℕ) (held : List StampedRow) → Freed lives all cleared was (book rows free held) → Freed lives all cleared was (after_reclaim (book rows free held) least)
   by_recursion rows free [] k = rw append-nil k
   by_recursion rows free (h ∷ held) k = elim (cases_Bool (nat_le h.stamp least)) [
     | inl is_due ↦
@@ -61,5 +61,5 @@ module _ (lives : List Life) (all cleared least : ℕ) (reach : min least all �
   reclaimed k = by_recursion was.rows was.free was.held k
 
 -- the held rows left were replaced later
-pub left_later : (least : ℕ) (held : List Held) → All (λ (h : Held). least < h.stamp) (still_held least held)
-left_later least held = All-weaker (λ (h : Held). nat_lt least h.stamp ≡ true) (λ (h : Held). least < h.stamp) (λ h is. ltb-true least h.stamp is) (still_held least held) (filter_passes (λ (h : Held). nat_lt least h.stamp) held)
+pub left_later : (least : ℕ) (held : List StampedRow) → All (λ (h : StampedRow). least < h.stamp) (still_held least held)
+left_later least held = All-weaker (λ (h : StampedRow). nat_lt least h.stamp ≡ true) (λ (h : StampedRow). least < h.stamp) (λ h is. ltb-true least h.stamp is) (still_held least held) (filter_passes (λ (h : StampedRow). nat_lt least h.stamp) held)

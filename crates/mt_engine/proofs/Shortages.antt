@@ -1,5 +1,5 @@
 -- What is true of a tree in which too few rows are free, when the rows that no section holds were freed.
-use Rattle.mt_engine.proofs.Prelude.{◌≡◌, ◌≢◌, ℕ, zero, suc, ◌+◌, ◌-◌, ◌*◌, ◌^◌, ◌<◌, ◌≤◌, List, [], ◌∷◌, ◌++◌, Bool, false, Option, Some, None, length, get_or, refl, sym, ◌∙◌, subst, inl, inr, arith, length-append, nat_lt, ◌↔◌, IsSome, IfSome, if◌then◌else◌, All, AllPairs, false≢true, lt-ltb, length-map, get_or-append-add, All-map, All-head, Kind, Holder, Shortage, IsShort, deepest, Held, Book, held_rows, Scan, reached_in, height_in, Told, Sheet, IsScan, scanned, limits_of, IsHeldBack, IsRealShortage, map_by, live_is_reached, IsEngineState, TellsBook, IsScanned, IsShortOf}
+use Rattle.mt_engine.proofs.Prelude.{◌≡◌, ◌≢◌, ℕ, zero, suc, ◌+◌, ◌-◌, ◌*◌, ◌^◌, ◌<◌, ◌≤◌, List, [], ◌∷◌, ◌++◌, Bool, false, Option, Some, None, length, get_or, refl, sym, ◌∙◌, subst, inl, inr, arith, length-append, nat_lt, ◌↔◌, IsSome, IfSome, if◌then◌else◌, All, AllPairs, false≢true, lt-ltb, length-map, get_or-append-add, All-map, All-head, Kind, Holder, Shortage, IsShort, deepest, StampedRow, Book, held_rows, Scan, reached_in, height_in, Told, Sheet, IsScan, scanned, limits_of, IsHeldBack, IsRealShortage, map_by, live_is_reached, IsEngineState, TellsBook, IsScanned, IsShortOf}
 use Rattle.mt_engine.proofs.Levelled.{Levelled, levelled}
 use Rattle.mt_engine.proofs.Moments.{tree_if_lawful}
 use Rattle.mt_engine.proofs.Reclaims.{left_later}
@@ -41,11 +41,11 @@ holder_told : (by : Option Holder) (held ended : ℕ) → (0 < held → HolderTo
 holder_told by zero ended some = record { holder = (λ is. absurd (false≢true is), λ some. absurd (omega (arith, some))); epoch = tt }
 holder_told by (suc n) ended some = rw (lt-ltb 0 (suc n) (omega arith)) (some (omega arith))
 
-held_later : (least ended : ℕ) (held : List Held) → All (λ (h : Held). least < h.stamp) held → All (λ (h : Held). h.stamp < ended + 1) held → 0 < length held → least < ended
+held_later : (least ended : ℕ) (held : List StampedRow) → All (λ (h : StampedRow). least < h.stamp) held → All (λ (h : StampedRow). h.stamp < ended + 1) held → 0 < length held → least < ended
 held_later least ended [] later stamps some = absurd (omega (arith, some))
 held_later least ended (h ∷ held) later stamps some =
-    let after : least < h.stamp = All-head (λ (h : Held). least < h.stamp) h held later in
-    let below : h.stamp < ended + 1 = All-head (λ (h : Held). h.stamp < ended + 1) h held stamps in
+    let after : least < h.stamp = All-head (λ (h : StampedRow). least < h.stamp) h held later in
+    let below : h.stamp < ended + 1 = All-head (λ (h : StampedRow). h.stamp < ended + 1) h held stamps in
     omega (arith, after, below)
 
 -- the later ones of rows that stand apart stand apart
@@ -55,7 +55,7 @@ back_apart xs ys apart i j d lt within is =
 
 -- ---- a shortage
 
-module _ (kind : Kind) (s : Sheet) (book : Book) (shortage : Shortage) (is : IsEngineState kind s book) (scan : IsScan s.shared s.told s.scan) (few : s.ended < 2 ^ 64) (later : All (λ (h : Held). s.scan.least < h.stamp) book.held) (tells : TellsBook book shortage)
+module _ (kind : Kind) (s : Sheet) (book : Book) (shortage : Shortage) (is : IsEngineState kind s book) (scan : IsScan s.shared s.told s.scan) (few : s.ended < 2 ^ 64) (later : All (λ (h : StampedRow). s.scan.least < h.stamp) book.held) (tells : TellsBook book shortage)
     (need : shortage.need ≡ 3 * height_in s.tree.table s.tree.root + 1) (by : shortage.by ≡ (if nat_lt 0 shortage.held then s.scan.by else None)) (less : shortage.free < shortage.need) where
   live : shortage.live ≡ length (reached_in s.tree.table s.tree.root)
   live = tells.live ∙ live_is_reached s.tree s.lives s.cleared kind book (s.ended + 1) (tree_if_lawful s.tree kind is.kept.lawful) is.kept.booked
@@ -88,7 +88,7 @@ module _ (kind : Kind) (s : Sheet) (book : Book) (shortage : Shortage) (is : IsE
     unheld = none_held s.shared s.told s.scan scan shortage.held s.ended early few;
   }
 
-  held_back : All (λ (h : Held). IsHeldBack s.lives s.scan.least h.row) book.held
+  held_back : All (λ (h : StampedRow). IsHeldBack s.lives s.scan.least h.row) book.held
   held_back = λ k d within. record { call = (get_or book.held k d).stamp; dead = is.held k d within; after = later k d within }
 
   counted : IsRealShortage s shortage
@@ -96,9 +96,9 @@ module _ (kind : Kind) (s : Sheet) (book : Book) (shortage : Shortage) (is : IsE
     need = need;
     live = live;
     rows = held_rows book;
-    many = length-map book.held (λ (h : Held). h.row) ∙ sym tells.held;
+    many = length-map book.held (λ (h : StampedRow). h.row) ∙ sym tells.held;
     apart = back_apart book.free (held_rows book) is.kept.booked.sound.once;
-    held = All-map (IsHeldBack s.lives s.scan.least) (λ (h : Held). h.row) book.held held_back;
+    held = All-map (IsHeldBack s.lives s.scan.least) (λ (h : StampedRow). h.row) book.held held_back;
     by = by;
   }
 
@@ -110,6 +110,6 @@ pub short_after : (kind : Kind) (s s' : Sheet) (answer : Scan) (book book' : Boo
     → TellsBook book' shortage → shortage.need ≡ 3 * height_in s.tree.table s.tree.root + 1 → shortage.by ≡ (if nat_lt 0 shortage.held then answer.by else None) → shortage.free < shortage.need → IsShortOf s' book' shortage
 short_after kind s s' answer book book' shortage is rest scan few tells need by less =
     short_of kind s' book' shortage is.state (subst (λ (x : Sheet). IsScan x.shared x.told x.scan) (sym rest) scan) (subst (λ (x : Sheet). x.ended < 2 ^ 64) (sym rest) few)
-    (subst (λ (b : Book). All (λ (h : Held). s'.scan.least < h.stamp) b.held) (sym is.freed) (left_later s'.scan.least book.held)) tells
+    (subst (λ (b : Book). All (λ (h : StampedRow). s'.scan.least < h.stamp) b.held) (sym is.freed) (left_later s'.scan.least book.held)) tells
     (subst (λ (x : Sheet). shortage.need ≡ 3 * height_in x.tree.table x.tree.root + 1) (sym rest) need)
     (subst (λ (x : Sheet). shortage.by ≡ (if nat_lt 0 shortage.held then x.scan.by else None)) (sym rest) by) less

@@ -21,6 +21,13 @@ not_none a P both holds = absurd (let none = both.1 holds in cc)
 pub handle_of : (t : Rooted) (index : ℕ) (h : Handle) → index ≤ greatest t.table.width → IsNone (Some h) ↔ (t.root ≡ 0) → h ≡ handle_in t index → IsHandleAt t index h
 handle_of t index h within none is = record { some = not_none h (t.root ≡ 0) none; within = within; is = is }
 
+-- and so it is of an index that is no greater than the greatest
+pub handle_up_to : (t : Rooted) (index top : ℕ) (h : Handle) → top ≡ greatest t.table.width → index ≤ top → IsNone (Some h) ↔ (t.root ≡ 0) → h ≡ handle_in t index → IsHandleAt t index h
+handle_up_to t index top h is within none at = handle_of t index h (subst (λ (n : ℕ). index ≤ n) is within) none at
+
+pub handle_found : (s s' : Sheet) (index top : ℕ) (h : Handle) → OnlyReads s s' → top ≡ greatest s.tree.table.width → index ≤ top → IsNone (Some h) ↔ (s.tree.root ≡ 0) → h ≡ handle_in s.tree index → IsHandleOf s'.tree h
+handle_found s s' index top h reads is within none at = handle_kept s s' index h reads (handle_up_to s.tree index top h is within none at)
+
 -- ---- at the slot of a handle
 
 module _ (t : Rooted) (tree : (kind : Kind) × IsTreeOf t kind) where

@@ -1,8 +1,8 @@
 -- Many look-ups and many steps of a walk in one call: they return what that many single calls return.
 -- Source: this project's own; the kernel is asked for one index, or one range, at a time.
-use Rattle.std.specs.Prelude.{ℕ, zero, suc, List, [], ◌∷◌, ◌++◌, Option, Some, None, length, drop, map}
+use Rattle.std.specs.Prelude.{◌≡◌, ℕ, zero, suc, List, [], ◌∷◌, ◌++◌, Option, Some, None, length, drop, map}
 pub use Rattle.mt_base.specs.Map.{entry_or_zero}
-use Rattle.mt_engine.specs.Prelude.{Range, Load, answer}
+use Rattle.mt_engine.specs.Prelude.{Range, Load, Rooted, answer, greatest, map_by}
 use Rattle.mt_engine.specs.RangeWalks.{found_from, index_behind}
 
 -- these are the first elements of a list, whose others are unchanged
@@ -32,6 +32,17 @@ found_then (Some r) behind = record { found = r ∷ (behind r).found; next = (be
 unfoldable pub steps_from : List Range → ℕ → ℕ → Option ℕ → Stepped
 steps_from m top zero next = record { found = []; next = next }
 steps_from m top (suc n) next = found_then (found_from m top next) (λ r. steps_from m top n (index_behind top (Some r)))
+
+-- this many steps in a tree
+abbrev pub steps_by : Rooted → ℕ → Option ℕ → Stepped
+steps_by t most next = steps_from (map_by t) (greatest t.table.width) most next
+
+-- What the steps found was put by f into the first places, and was counted; the other places are unchanged. The walk goes on
+-- where the steps left it.
+pub record PutSteps {A : Type 0} (f : Range → A) (steps : Stepped) (old new : List A) (count : ℕ) (next : Option ℕ) : Type 0 where
+  pub put : new ≡ put_first (map f steps.found) old
+  pub many : count ≡ length steps.found
+  pub goes : next ≡ steps.next
 
 -- the three ranges of the worked batches
 abbrev pub three_ranges : List Range

@@ -1,11 +1,8 @@
 -- The nodes of a tree and the book of them, between two calls of an engine and within one; and what a call does to them.
 -- Source: this project's own.
 use Rattle.std.specs.Prelude.{◌≡◌, ◌⊎◌, ℕ, ◌+◌, ◌*◌, ◌<◌, ◌≤◌, Bool, true, false, List, [], ◌++◌, All, Option, length}
-use Rattle.mt_engine.specs.Prelude.{Call, Store, StorePre, Insert, Erase, Alloc, Ralloc, Gap, Rgap, Clear, Kind, Range, Reply, Shortage, acted, Wants, IsRefused, is_exact_store, columns, most_taken, first_row, Book, Held, live_count, after_reclaim, Leaf, slot_column, slots_of, leaf_in, Life, Dead, height_in, Rooted, Sheet, IsScan, RoseUpTo, life_of, limits_of, with_word, IsToldKind, MayFinish, IsRealShortage, WasScanned, finished, map_by, with_record, IsConsistent}
-use Rattle.mt_base.specs.Width.{greatest}
+use Rattle.mt_engine.specs.Prelude.{Call, Store, StorePre, Insert, Erase, Alloc, Ralloc, Gap, Rgap, Clear, Kind, Range, Reply, Shortage, acted, Wants, IsRefused, is_exact_store, columns, most_taken, first_row, Book, StampedRow, live_count, after_reclaim, Leaf, slot_column, slots_of, leaf_in, Life, Dead, height_in, Rooted, Sheet, IsScan, RoseUpTo, life_of, limits_of, with_word, IsToldKind, MayFinish, IsRealShortage, WasScanned, finished, map_by, with_record, IsConsistent, greatest, path_in, loads_on, ReadsUpTo}
 use Rattle.mt_base.specs.declared.replies.Reply.TheVariants as answers
-use Rattle.mt_path.specs.Paths.{path_in, loads_on}
-use Rattle.mt_rows.specs.Sheet.{ReadsUpTo}
 
 -- what an engine represents
 pub record Parts : Type 0 where
@@ -20,7 +17,7 @@ pub record Parts : Type 0 where
 pub record IsState (kind : Kind) (known : Option Kind) (t : Rooted) (lives : List Life) (buried : List Bool) (cleared ended opened : ℕ) (book : Book) : Type 0 where
   pub told : IsToldKind known kind
   pub kept : IsConsistent kind t lives buried cleared book (ended + 1)
-  pub held : All (λ (h : Held). life_of lives h.row ≡ Dead h.stamp) book.held
+  pub held : All (λ (h : StampedRow). life_of lives h.row ≡ Dead h.stamp) book.held
   pub grown : length book.held + live_count book ≤ opened + most_taken * ended
 
 abbrev pub IsEngineState : Kind → Sheet → Book → Type 0

@@ -1,9 +1,7 @@
 -- A walk over the ranges of a tree, in rising order: which range comes next, and where the walk then is.
 -- Source: the kernel's include/linux/maple_tree.h, mas_for_each, whose mas_find goes on in the leaf where it is.
-use Rattle.std.specs.Prelude.{◌≡◌, ◌≢◌, ◌⊎◌, ◌==◌, ℕ, ◌+◌, ◌≤◌, nat_le, List, [], Option, Some, None, IfSome, if◌then◌else◌}
-use Rattle.std.specs.Option.{option_map}
-use Rattle.mt_engine.specs.Prelude.{Range, Find, answer, greatest, Rooted, Sheet, ReadsUpTo, Handle, PathStep, IsHandleOf, path_in}
-use Rattle.mt_path.specs.Handles.{last_step}
+use Rattle.std.specs.Prelude.{◌≡◌, ◌≢◌, ◌⊎◌, ◌==◌, ℕ, ◌+◌, ◌≤◌, nat_le, List, [], Option, Some, None, IfSome, if◌then◌else◌, option_map}
+use Rattle.mt_engine.specs.Prelude.{Range, Find, answer, greatest, Rooted, Sheet, ReadsUpTo, Handle, PathStep, IsHandleOf, path_in, last_step}
 use Rattle.mt_engine.specs.MapSpans.{range_of}
 use Rattle.mt_engine.specs.declared.range_walk.RangeWalk.{RangeWalk}
 

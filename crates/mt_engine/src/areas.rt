@@ -1,17 +1,14 @@
 //! The result of a search for room, and of a call that stores where it finds some.
 
-ghost use Rattle.std.specs.Prelude.{◌≡◌, ◌+◌, ◌*◌, ◌<◌, ◌≤◌, List, [], IsNone, IfSome};
-ghost use Rattle.std.specs.Option.{option_map};
+ghost use Rattle.std.specs.Prelude.{◌≡◌, ◌+◌, ◌*◌, ◌≤◌, List, []};
+ghost use Rattle.mt_base.specs.Blanks.{IsBlankOf};
 ghost use Rattle.mt_base.specs.Width.{columns, greatest};
 ghost use Rattle.mt_rows.specs.Publish.{IsLawfulOf, map_by};
 ghost use Rattle.mt_rows.specs.Sheet.{OnlyReads, ReadsUpTo};
 ghost use Rattle.mt_rows.specs.Trees.{height_in};
 ghost use Rattle.mt_path.specs.declared.paths.PathStep.{PathStep};
-ghost use Rattle.mt_gap.specs.declared.searches.SoughtArea.{SoughtArea};
 ghost use Rattle.mt_gap.specs.Descents.{IsGapped};
-ghost use Rattle.mt_gap.specs.Ways.{IsAreaAt};
-ghost use Rattle.mt_engine.specs.Areas.{start_to, allocation, search};
-ghost use Rattle.mt_engine.specs.Engine.{most_searched};
+ghost use Rattle.mt_engine.specs.Areas.{FindsArea, start_to, allocation, search};
 ghost use Rattle.mt_engine.specs.Plans.{IsPlan, IsSearched};
 
 use crate::plans::Plan;
@@ -47,9 +44,7 @@ fn start_by<R: Rows, L: Ledger>(
     wanted: Wanted,
     blank: Blank,
 ) -> Option<u64>
-    requires name { blank.name ≡ L.name }
-    requires parts { blank.parts ≡ L.parts }
-    requires some { 0 < blank.parts }
+    requires blank { IsBlankOf L.name L.parts blank.name blank.parts }
     requires tree { IsGapped (R.sheet rows.old).tree }
     requires size { 1 ≤ wanted.size }
     ensures start { result ≡ start_to sought (greatest (R.sheet rows.old).tree.table.width) (map_by (R.sheet rows.old).tree) wanted.size wanted.min wanted.max }
@@ -82,17 +77,11 @@ fn area_by<R: Rows, L: Ledger>(
     path: &mut Path,
     blank: Blank,
 ) -> Option<SoughtArea>
-    requires name { blank.name ≡ L.name }
-    requires parts { blank.parts ≡ L.parts }
-    requires some { 0 < blank.parts }
+    requires blank { IsBlankOf L.name L.parts blank.name blank.parts }
     requires tree { IsGapped (R.sheet rows.old).tree }
     requires size { 1 ≤ wanted.size }
     requires empty { path.old.items ≡ [] }
-    ensures start { option_map (λ (area : SoughtArea). area.start) result
-        ≡ start_to sought (greatest (R.sheet rows.old).tree.table.width) (map_by (R.sheet rows.old).tree) wanted.size wanted.min wanted.max }
-    ensures way { IfSome result (λ area. IsAreaAt (R.sheet rows.old).tree path.new.items area) }
-    ensures rest { OnlyReads (R.sheet rows.old) (R.sheet rows.new) }
-    ensures reads { IsNone result → ReadsUpTo (most_searched (R.sheet rows.old).tree) (R.sheet rows.old) (R.sheet rows.new) }
+    ensures { FindsArea (R.sheet rows.old) (R.sheet rows.new) sought wanted path.new.items result }
 {
     let mut steps = Steps::<L>::new(blank);
     let Wanted { size, min, max } = wanted;
@@ -112,11 +101,7 @@ fn area_of<R: Rows>(
     requires tree { IsGapped (R.sheet rows.old).tree }
     requires size { 1 ≤ wanted.size }
     requires empty { path.old.items ≡ [] }
-    ensures start { option_map (λ (area : SoughtArea). area.start) result
-        ≡ start_to sought (greatest (R.sheet rows.old).tree.table.width) (map_by (R.sheet rows.old).tree) wanted.size wanted.min wanted.max }
-    ensures way { IfSome result (λ area. IsAreaAt (R.sheet rows.old).tree path.new.items area) }
-    ensures rest { OnlyReads (R.sheet rows.old) (R.sheet rows.new) }
-    ensures reads { IsNone result → ReadsUpTo (most_searched (R.sheet rows.old).tree) (R.sheet rows.old) (R.sheet rows.new) }
+    ensures { FindsArea (R.sheet rows.old) (R.sheet rows.new) sought wanted path.new.items result }
 {
     area_by::<R, Brand>(rows, sought, wanted, path, Blank::new(1))
 }

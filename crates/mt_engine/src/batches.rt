@@ -1,12 +1,12 @@
 //! Many look-ups and many steps of a walk in one call.
 
-ghost use Rattle.std.specs.Prelude.{◌≡◌, ◌≢◌, ◌<◌, ◌≤◌, Some, All, IsTrue, length, map, min, take};
+ghost use Rattle.std.specs.Prelude.{◌≡◌, ◌≢◌, ◌<◌, ◌≤◌, Some, All, IsTrue, length, min, take};
 ghost use Rattle.mt_base.specs.declared.kinds.Kind.{Kind};
 ghost use Rattle.mt_base.specs.Width.{greatest};
 ghost use Rattle.mt_rows.specs.Publish.{IsTreeOf, map_by};
 ghost use Rattle.mt_rows.specs.Sheet.{OnlyReads};
 ghost use Rattle.mt_path.specs.Handles.{IsHandleOf};
-ghost use Rattle.mt_engine.specs.Batches.{entries_at, put_first, steps_from};
+ghost use Rattle.mt_engine.specs.Batches.{PutSteps, entries_at, put_first, steps_by};
 ghost use Rattle.mt_engine.specs.RangeWalks.{found_from, range_at, WalksFrom};
 
 use crate::leaf_steps::range_after;
@@ -94,12 +94,8 @@ fn put_from<R: Rows, P: RangePlace>(
     requires first { IsHandleOf (R.sheet rows.old).tree first }
     requires found { range_at (Some first) ≡ found_from (map_by (R.sheet rows.old).tree) (greatest (R.sheet rows.old).tree.table.width) walk.old.next }
     requires some { 0 < length ranges.old }
-    ensures ranges { ranges.new ≡ put_first (map P.shows
-        (steps_from (map_by (R.sheet rows.old).tree) (greatest (R.sheet rows.old).tree.table.width) (length ranges.old) walk.old.next).found) ranges.old }
-    ensures count { result ≡ length
-        (steps_from (map_by (R.sheet rows.old).tree) (greatest (R.sheet rows.old).tree.table.width) (length ranges.old) walk.old.next).found }
-    ensures next { walk.new.next
-        ≡ (steps_from (map_by (R.sheet rows.old).tree) (greatest (R.sheet rows.old).tree.table.width) (length ranges.old) walk.old.next).next }
+    ensures put { PutSteps P.shows (steps_by (R.sheet rows.old).tree (length ranges.old) walk.old.next)
+        ranges.old ranges.new result walk.new.next }
     ensures walk { WalksFrom (R.sheet rows.old).tree walk.new }
     ensures rest { OnlyReads (R.sheet rows.old) (R.sheet rows.new) }
 {
@@ -130,12 +126,8 @@ pub fn step_many<R: Rows, P: RangePlace>(
 ) -> usize
     requires tree { (kind : Kind) × IsTreeOf (R.sheet rows.old).tree kind }
     requires walk { WalksFrom (R.sheet rows.old).tree walk.old }
-    ensures ranges { ranges.new ≡ put_first (map P.shows
-        (steps_from (map_by (R.sheet rows.old).tree) (greatest (R.sheet rows.old).tree.table.width) (length ranges.old) walk.old.next).found) ranges.old }
-    ensures count { result ≡ length
-        (steps_from (map_by (R.sheet rows.old).tree) (greatest (R.sheet rows.old).tree.table.width) (length ranges.old) walk.old.next).found }
-    ensures next { walk.new.next
-        ≡ (steps_from (map_by (R.sheet rows.old).tree) (greatest (R.sheet rows.old).tree.table.width) (length ranges.old) walk.old.next).next }
+    ensures put { PutSteps P.shows (steps_by (R.sheet rows.old).tree (length ranges.old) walk.old.next)
+        ranges.old ranges.new result walk.new.next }
     ensures walk { WalksFrom (R.sheet rows.old).tree walk.new }
     ensures rest { OnlyReads (R.sheet rows.old) (R.sheet rows.new) }
 {

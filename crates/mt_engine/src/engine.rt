@@ -1,7 +1,7 @@
 //! A tree on one thread.
 
 ghost use Rattle.std.specs.Prelude.{◌≡◌, ◌↔◌, ◌+◌, ◌*◌, ◌^◌, ◌<◌, ◌≤◌, Some, IsTrue, IsOk, IfOk, IfErr};
-ghost use Rattle.std.specs.Prelude.{IfSome, OnOk, OnErr, length, map, min, option_map, take};
+ghost use Rattle.std.specs.Prelude.{IfSome, OnOk, OnErr, length, min, option_map, take};
 ghost use Rattle.mt_base.specs.declared.calls.Call.TheVariants.{StorePre};
 ghost use Rattle.mt_base.specs.declared.calls.Query.TheVariants.{Load};
 ghost use Rattle.mt_base.specs.Call.{answer};
@@ -10,7 +10,7 @@ ghost use Rattle.mt_base.specs.Width.{greatest};
 ghost use Rattle.mt_rows.specs.Publish.{IsLawfulOf, map_by};
 ghost use Rattle.mt_rows.specs.Sheet.{OnlyReads, ReadsUpTo, limits_of};
 ghost use Rattle.mt_rows.specs.Trees.{height_in};
-ghost use Rattle.mt_engine.specs.Batches.{entries_at, put_first, steps_from};
+ghost use Rattle.mt_engine.specs.Batches.{PutSteps, entries_at, put_first, steps_by};
 ghost use Rattle.mt_engine.specs.Engine.{IsIdle, IsApplied, LoadsItsWay};
 ghost use Rattle.mt_engine.specs.Heights.{HasHeight};
 ghost use Rattle.mt_engine.specs.Prepared.{IsPrestored};
@@ -204,12 +204,8 @@ impl<R: Rows> Engine<R> {
     /// has no more, and then the walk has ended. The other places are unchanged. With no place the walk stays.
     pub fn step_many<P: RangePlace>(&mut self, walk: &mut RangeWalk, ranges: &mut [P]) -> usize
         requires { WalksFrom self.old.sheet.tree walk.old }
-        ensures ranges { ranges.new ≡ put_first (map P.shows
-            (steps_from (map_by self.old.sheet.tree) (greatest self.old.sheet.tree.table.width) (length ranges.old) walk.old.next).found) ranges.old }
-        ensures count { result ≡ length
-            (steps_from (map_by self.old.sheet.tree) (greatest self.old.sheet.tree.table.width) (length ranges.old) walk.old.next).found }
-        ensures next { walk.new.next
-            ≡ (steps_from (map_by self.old.sheet.tree) (greatest self.old.sheet.tree.table.width) (length ranges.old) walk.old.next).next }
+        ensures put { PutSteps P.shows (steps_by self.old.sheet.tree (length ranges.old) walk.old.next)
+            ranges.old ranges.new result walk.new.next }
         ensures walk { WalksFrom self.new.sheet.tree walk.new }
         ensures rest { OnlyReads self.old.sheet self.new.sheet }
         ensures book { self.new.book ≡ self.old.book }
@@ -228,6 +224,7 @@ impl<R: Rows> Engine<R> {
 
     /// The first range at a walk's index or above; the walk then goes on after it. The walk is one of the tree as it is. There
     /// is none if no range ends there or above.
+    #[inline(always)]
     pub fn next_range(&mut self, walk: &mut RangeWalk) -> Option<Range>
         requires { WalksFrom self.old.sheet.tree walk.old }
         ensures range { result ≡ found_from (map_by self.old.sheet.tree) (greatest self.old.sheet.tree.table.width) walk.old.next }

@@ -1,143 +1,64 @@
 use crate::asserts::same;
-use crate::small_trees::{ELEVEN, LONGEST, LONGEST32, TOP, TOP32, TWENTY_SEVEN};
+use crate::small_trees::{
+    ELEVEN, LONGEST, LONGEST32, Node, TOP, TOP32, TWENTY_SEVEN, UNUSED, words_of,
+};
 use mt_base::{FIRST_ROW, Kind, MOST_ROWS, NoMemory, cols, width_of};
 use mt_check::{Fault, Form, Law, check};
+use mt_layout::RowKind;
 use mt_rows::PlainRows;
 use std::alloc::Global;
 use std::process::Abort;
 use std::test::Fail;
 
 /// The range 10 to 19 with the entry 5 in a leaf, and an unused node.
-#[rattlefmt::skip]
-const LONE: [u64; 64] = [
-    1,
-    9, 19, TOP, 0, 0, 0, 0, 0, 0, 0, 0, 0, 0, 0, 0,
-    0, 5, 0, 0, 0, 0, 0, 0, 0, 0, 0, 0, 0, 0, 0, 0,
-    0, 0, 0, 0, 0, 0, 0, 0, 0, 0, 0, 0, 0, 0, 0, 0,
-    0, 0, 0, 0, 0, 0, 0, 0, 0, 0, 0, 0, 0, 0, 0, 0,
-];
+const LONE: &[Node] = &[(RowKind::Leaf, 1, &[9, 19, TOP], &[0, 5], &[]), UNUSED];
 
 /// An inner node with one child.
-#[rattlefmt::skip]
-const ONE_CHILD: [u64; 64] = [
-    1,
-    TOP, 0, 0, 0, 0, 0, 0, 0, 0, 0, 0, 0, 0, 0, 0,
-    4364, 0, 0, 0, 0, 0, 0, 0, 0, 0, 0, 0, 0, 0, 0, 0,
-    0, 0, 0, 0, 0, 0, 0, 0, 0, 0, 0, 0, 0, 0, 0, 0,
-    0, 0, 0, 0, 0, 0, 0, 0, 0, 0, 0, 0, 0, 0, 0, 0,
-];
+const ONE_CHILD: &[Node] = &[(RowKind::Inner, 1, &[TOP], &[4364], &[]), UNUSED];
 
 /// The tree of eleven ranges, except that an inner node is beside the first leaf, and leaves below it.
 #[rattlefmt::skip]
-const UNEVEN: [u64; 128] = [
-    1,
-    11, TOP, 0, 0, 0, 0, 0, 0, 0,
-    4364, 4636, 0, 0, 0, 0, 0, 0, 0, 0,
-    0, LONGEST, 0, 0, 0, 0, 0, 0, 0, 0,
-    0, 0,
-
-    4096,
-    0, 1, 2, 3, 4, 11, 0, 0, 0, 0, 0, 0, 0, 0, 0,
-    4096, 4096, 4096, 4096, 4096, 4096, 0, 0, 0, 0, 0, 0, 0, 0, 0, 0,
-
-    4097,
-    12, 13, 14, TOP, 0, 0, 0, 0, 0,
-    4876, 4876, 4876, 4876, 0, 0, 0, 0, 0, 0,
-    0, 0, 0, LONGEST, 0, 0, 0, 0, 0, 0,
-    0, 0,
-
-    4608,
-    12, 0, 0, 0, 0, 0, 0, 0, 0, 0, 0, 0, 0, 0, 0,
-    4096, 0, 0, 0, 0, 0, 0, 0, 0, 0, 0, 0, 0, 0, 0, 0,
+const UNEVEN: &[Node] = &[
+    (RowKind::Gapped, 1, &[11, TOP], &[4364, 4636], &[0, LONGEST]),
+    (RowKind::Leaf, 4096, &[0, 1, 2, 3, 4, 11], &[4096; 6], &[]),
+    (RowKind::Gapped, 4097, &[12, 13, 14, TOP], &[4876; 4], &[0, 0, 0, LONGEST]),
+    (RowKind::Leaf, 4608, &[12], &[4096], &[]),
 ];
 
 /// Ten levels. Each node has its first child alone, and the last is a leaf.
 #[rattlefmt::skip]
-const DEEP: [u64; 320] = [
-    1, 40, TOP, 0, 0, 0, 0, 0, 0, 0, 0, 0, 0, 0, 0, 0,
-    4372, 0, 0, 0, 0, 0, 0, 0, 0, 0, 0, 0, 0, 0, 0, 0,
-    4096, 35, 36, 37, 38, 39, 40, 0, 0, 0, 0, 0, 0, 0, 0, 0,
-    4628, 0, 0, 0, 0, 0, 0, 0, 0, 0, 0, 0, 0, 0, 0, 0,
-    4352, 30, 31, 32, 33, 34, 35, 0, 0, 0, 0, 0, 0, 0, 0, 0,
-    4884, 0, 0, 0, 0, 0, 0, 0, 0, 0, 0, 0, 0, 0, 0, 0,
-    4608, 25, 26, 27, 28, 29, 30, 0, 0, 0, 0, 0, 0, 0, 0, 0,
-    5140, 0, 0, 0, 0, 0, 0, 0, 0, 0, 0, 0, 0, 0, 0, 0,
-    4864, 20, 21, 22, 23, 24, 25, 0, 0, 0, 0, 0, 0, 0, 0, 0,
-    5396, 0, 0, 0, 0, 0, 0, 0, 0, 0, 0, 0, 0, 0, 0, 0,
-    5120, 15, 16, 17, 18, 19, 20, 0, 0, 0, 0, 0, 0, 0, 0, 0,
-    5652, 0, 0, 0, 0, 0, 0, 0, 0, 0, 0, 0, 0, 0, 0, 0,
-    5376, 10, 11, 12, 13, 14, 15, 0, 0, 0, 0, 0, 0, 0, 0, 0,
-    5908, 0, 0, 0, 0, 0, 0, 0, 0, 0, 0, 0, 0, 0, 0, 0,
-    5632, 5, 6, 7, 8, 9, 10, 0, 0, 0, 0, 0, 0, 0, 0, 0,
-    6164, 0, 0, 0, 0, 0, 0, 0, 0, 0, 0, 0, 0, 0, 0, 0,
-    5888, 0, 1, 2, 3, 4, 5, 0, 0, 0, 0, 0, 0, 0, 0, 0,
-    6412, 0, 0, 0, 0, 0, 0, 0, 0, 0, 0, 0, 0, 0, 0, 0,
-    6144, 0, 0, 0, 0, 0, 0, 0, 0, 0, 0, 0, 0, 0, 0, 0,
-    4096, 0, 0, 0, 0, 0, 0, 0, 0, 0, 0, 0, 0, 0, 0, 0,
+const DEEP: &[Node] = &[
+    (RowKind::Inner, 1, &[40, TOP], &[4372], &[]),
+    (RowKind::Inner, 4096, &[35, 36, 37, 38, 39, 40], &[4628], &[]),
+    (RowKind::Inner, 4352, &[30, 31, 32, 33, 34, 35], &[4884], &[]),
+    (RowKind::Inner, 4608, &[25, 26, 27, 28, 29, 30], &[5140], &[]),
+    (RowKind::Inner, 4864, &[20, 21, 22, 23, 24, 25], &[5396], &[]),
+    (RowKind::Inner, 5120, &[15, 16, 17, 18, 19, 20], &[5652], &[]),
+    (RowKind::Inner, 5376, &[10, 11, 12, 13, 14, 15], &[5908], &[]),
+    (RowKind::Inner, 5632, &[5, 6, 7, 8, 9, 10], &[6164], &[]),
+    (RowKind::Inner, 5888, &[0, 1, 2, 3, 4, 5], &[6412], &[]),
+    (RowKind::Leaf, 6144, &[], &[4096], &[]),
 ];
 
 /// A narrow leaf with the range 10 to 19 and the entry 5, and an unused node.
-#[rattlefmt::skip]
-const NARROW_LONE: [u64; 128] = [
-    1,
-    9, 19, TOP32, 0, 0, 0, 0, 0, 0, 0, 0, 0, 0, 0, 0,
-    0, 0, 0, 0, 0, 0, 0, 0, 0, 0, 0, 0, 0, 0, 0, 0,
-    0, 5, 0, 0, 0, 0, 0, 0, 0, 0, 0, 0, 0, 0, 0, 0,
-    0, 0, 0, 0, 0, 0, 0, 0, 0, 0, 0, 0, 0, 0, 0, 0,
-
-    0, 0, 0, 0, 0, 0, 0, 0, 0, 0, 0, 0, 0, 0, 0, 0,
-    0, 0, 0, 0, 0, 0, 0, 0, 0, 0, 0, 0, 0, 0, 0, 0,
-    0, 0, 0, 0, 0, 0, 0, 0, 0, 0, 0, 0, 0, 0, 0, 0,
-    0, 0, 0, 0, 0, 0, 0, 0, 0, 0, 0, 0, 0, 0, 0, 0,
-];
+const NARROW_LONE: &[Node] = &[(RowKind::Leaf, 1, &[9, 19, TOP32], &[0, 5], &[]), UNUSED];
 
 /// A narrow inner node with one child.
-#[rattlefmt::skip]
-const NARROW_ONE_CHILD: [u64; 128] = [
-    1,
-    TOP32, 0, 0, 0, 0, 0, 0, 0, 0, 0, 0, 0, 0, 0, 0,
-    0, 0, 0, 0, 0, 0, 0, 0, 0, 0, 0, 0, 0, 0, 0, 0,
-    4364, 0, 0, 0, 0, 0, 0, 0, 0, 0, 0, 0, 0, 0, 0, 0,
-    0, 0, 0, 0, 0, 0, 0, 0, 0, 0, 0, 0, 0, 0, 0, 0,
-
-    0, 0, 0, 0, 0, 0, 0, 0, 0, 0, 0, 0, 0, 0, 0, 0,
-    0, 0, 0, 0, 0, 0, 0, 0, 0, 0, 0, 0, 0, 0, 0, 0,
-    0, 0, 0, 0, 0, 0, 0, 0, 0, 0, 0, 0, 0, 0, 0, 0,
-    0, 0, 0, 0, 0, 0, 0, 0, 0, 0, 0, 0, 0, 0, 0, 0,
-];
+const NARROW_ONE_CHILD: &[Node] = &[(RowKind::Inner, 1, &[TOP32], &[4364], &[]), UNUSED];
 
 /// The narrow tree of 27 ranges, except that an inner node is beside the first leaf, and leaves below it.
 #[rattlefmt::skip]
-const NARROW_UNEVEN: [u64; 256] = [
-    1,
-    23, TOP32, 0, 0, 0, 0, 0, 0, 0, 0, 0, 0, 0, 0, 0, 0, 0, 0, 0, 0,
-    4364, 4636, 0, 0, 0, 0, 0, 0, 0, 0, 0, 0, 0, 0, 0, 0, 0, 0, 0, 0, 0,
-    0, LONGEST32, 0, 0, 0, 0, 0, 0, 0, 0, 0, 0, 0, 0, 0, 0, 0, 0, 0, 0, 0,
-    0,
-
-    4096,
-    0, 1, 2, 3, 4, 5, 6, 7, 8, 9, 10, 11, 12, 23, 0,
-    0, 0, 0, 0, 0, 0, 0, 0, 0, 0, 0, 0, 0, 0, 0, 0,
-    4096, 4096, 4096, 4096, 4096, 4096, 4096, 4096, 4096, 4096, 4096, 4096, 4096, 4096, 0, 0,
-    0, 0, 0, 0, 0, 0, 0, 0, 0, 0, 0, 0, 0, 0, 0, 0,
-
-    4097,
-    24, 25, 26, 27, 28, 29, 30, 31, TOP32, 0, 0, 0, 0, 0, 0, 0, 0, 0, 0, 0,
-    4876, 4876, 4876, 4876, 4876, 4876, 4876, 4876, 4876, 0, 0, 0, 0, 0, 0, 0, 0, 0, 0, 0, 0,
-    0, 0, 0, 0, 0, 0, 0, 0, LONGEST32, 0, 0, 0, 0, 0, 0, 0, 0, 0, 0, 0, 0,
-    0,
-
-    4608,
-    24, 0, 0, 0, 0, 0, 0, 0, 0, 0, 0, 0, 0, 0, 0,
-    0, 0, 0, 0, 0, 0, 0, 0, 0, 0, 0, 0, 0, 0, 0, 0,
-    4096, 0, 0, 0, 0, 0, 0, 0, 0, 0, 0, 0, 0, 0, 0, 0,
-    0, 0, 0, 0, 0, 0, 0, 0, 0, 0, 0, 0, 0, 0, 0, 0,
+const NARROW_UNEVEN: &[Node] = &[
+    (RowKind::Gapped, 1, &[23, TOP32], &[4364, 4636], &[0, LONGEST32]),
+    (RowKind::Leaf, 4096, &[0, 1, 2, 3, 4, 5, 6, 7, 8, 9, 10, 11, 12, 23], &[4096; 14], &[]),
+    (RowKind::Gapped, 4097, &[24, 25, 26, 27, 28, 29, 30, 31, TOP32], &[4876; 9], &[0, 0, 0, 0, 0, 0, 0, 0, LONGEST32]),
+    (RowKind::Leaf, 4608, &[24], &[4096], &[]),
 ];
 
-/// A tree's words, of which those are changed whose nodes and columns are given with other words; the root word; the kind; and
-/// what a check answers.
+/// A tree's nodes, of whose words those are changed whose nodes and columns are given with other words; the root word; the kind;
+/// and what a check answers.
 struct Case {
-    words: &'static [u64],
+    nodes: &'static [Node],
     changes: &'static [(u32, u32, u64)],
     root: u64,
     kind: Kind,
@@ -146,9 +67,9 @@ struct Case {
 
 /// Trees, each with other words in columns of nodes, if any, the root word, the kind and what a check answers.
 macro_rules! cases {
-    ($($words:ident $([$row:literal, $col:literal] = $word:tt)*, $root:literal, $kind:ident => $want:expr;)*) => {
+    ($($nodes:ident $([$row:literal, $col:literal] = $word:tt)*, $root:literal, $kind:ident => $want:expr;)*) => {
         &[$(Case {
-            words: &$words,
+            nodes: $nodes,
             changes: &[$(($row, $col, $word)),*],
             root: $root,
             kind: Kind::$kind,
@@ -240,7 +161,7 @@ const BROKEN_BELOW: &[Case] = cases! {
 /// What a check answers of the tree of a case.
 fn answer(rt: &impl Abort, alloc: Global, case: &Case) -> Result<Result<Form, Fault>, NoMemory> {
     let columns = cols(width_of(case.kind)) as usize;
-    let mut words = Vec::from_slice(alloc, case.words)?;
+    let mut words = words_of(alloc, width_of(case.kind), case.nodes)?;
     for &(row, col, word) in case.changes {
         assert!(rt; FIRST_ROW <= row);
         let at = columns * (row - FIRST_ROW) as usize + col as usize;

@@ -3,8 +3,8 @@
 
 use crate::asserts::same;
 use crate::copies::{CASES, Case, TWO_LEAVES, first_words};
-use crate::small_trees::{LONE, checked_rows};
-use mt_base::{Kind, NoMemory, cols, width_of};
+use crate::small_trees::{LONE, Node, checked_rows, words_of};
+use mt_base::{Kind, NoMemory, Width, cols, width_of};
 use mt_check::{Law, form_of};
 use mt_image::{ImageError, read_image, write_image};
 use std::alloc::Global;
@@ -27,6 +27,12 @@ fn image(alloc: Global, head: [u64; 3], words: &[u64]) -> Result<Vec<u8>, NoMemo
     Ok(bytes)
 }
 
+/// The image of the tree of one leaf, with this number of nodes.
+fn lone_image(alloc: Global, rows: u64) -> Result<Vec<u8>, NoMemory> {
+    let words = words_of(alloc, Width::Long, LONE)?;
+    image(alloc, [0, rows, 4108], &words)
+}
+
 /// What these bytes are read as.
 fn answer(alloc: Global, bytes: &[u8]) -> Answer {
     let (kind, mut rows) = read_image(alloc, bytes)?;
@@ -46,9 +52,10 @@ fn number_of(kind: Kind) -> u64 {
 
 /// The image of a case's tree.
 fn written(rt: &impl Abort, alloc: Global, case: &Case) -> Result<Vec<u8>, Fail> {
+    let words = words_of(alloc, width_of(case.kind), case.nodes)?;
     let columns = cols(width_of(case.kind)) as usize;
-    assert!(rt; case.words.len() % columns == 0 && case.words.len() / columns <= 4);
-    let (mut rows, _) = checked_rows(alloc, case.words, case.root, case.kind)?;
+    assert!(rt; words.len() % columns == 0 && words.len() / columns <= 4);
+    let (mut rows, _) = checked_rows(alloc, &words, case.root, case.kind)?;
     Ok(write_image(alloc, &mut rows, case.kind)?)
 }
 
@@ -62,13 +69,14 @@ fn read(alloc: Global, bytes: &[u8], count: u32) -> Result<(Kind, Vec<u64>), Fai
 fn expect_image(rt: &impl Abort, alloc: Global, case: &Case) -> Result<(), Fail> {
     let bytes = written(rt, alloc, case)?;
     let head = [number_of(case.kind), u64::from(case.rows), case.copy];
-    let want = image(alloc, head, case.copied)?;
+    let copied = words_of(alloc, width_of(case.kind), case.copied)?;
+    let want = image(alloc, head, &copied)?;
     same(rt, bytes.as_slice(), want.as_slice(), case.root);
     let (kind, words) = read(alloc, &want, case.rows)?;
     same(
         rt,
         (kind, words.as_slice()),
-        (case.kind, case.copied),
+        (case.kind, copied.as_slice()),
         case.root,
     );
     Ok(())
@@ -125,7 +133,7 @@ fn expect_changed(
 
 #[test]
 fn changed_bytes_are_refused_or_read(rt: HostRuntime) -> Result<(), Fail> {
-    let mut bytes = image(rt.alloc(), [0, 1, 4108], &LONE)?;
+    let mut bytes = lone_image(rt.alloc(), 1)?;
     for (from, to, want) in &CHANGED {
         for at in *from..*to {
             expect_changed(&rt, rt.alloc(), &mut bytes, at, *want)?;
@@ -153,34 +161,35 @@ fn expect_cut(rt: &impl Abort, alloc: Global, bytes: &[u8], got: usize) {
 
 #[test]
 fn cut_images_are_refused(rt: HostRuntime) -> Result<(), Fail> {
-    let bytes = image(rt.alloc(), [0, 1, 4108], &LONE)?;
+    let bytes = lone_image(rt.alloc(), 1)?;
     for got in 0..288 {
         expect_cut(&rt, rt.alloc(), &bytes, got);
     }
     Ok(())
 }
 
-/// The numbers of an image, and the answer to them.
-struct Told {
+/// The numbers of an image, of nodes that are wide, and the answer to them.
+struct ToldImage {
     head: [u64; 3],
-    words: &'static [u64],
+    nodes: &'static [Node],
     want: Answer,
 }
 
 #[rattlefmt::skip]
-const TOLD: [Told; 6] = [
-    Told { head: [0, 0, 0], words: &[], want: Ok((Kind::Range, 0)) },
-    Told { head: [0, 0, 4108], words: &[], want: Err(ImageError::Broken { row: 0, law: Law::Name }) },
-    Told { head: [4, 1, 4108], words: &LONE, want: Err(ImageError::Head { at: 8 }) },
-    Told { head: [0, 65_505, 4108], words: &LONE, want: Err(ImageError::Head { at: 16 }) },
-    Told { head: [2, 1, 4108], words: &LONE, want: Err(ImageError::Length { want: 544, got: 288 }) },
-    Told { head: [1, 4, 4892], words: &TWO_LEAVES, want: Err(ImageError::Stray { row: 16 }) },
+const TOLD: [ToldImage; 6] = [
+    ToldImage { head: [0, 0, 0], nodes: &[], want: Ok((Kind::Range, 0)) },
+    ToldImage { head: [0, 0, 4108], nodes: &[], want: Err(ImageError::Broken { row: 0, law: Law::Name }) },
+    ToldImage { head: [4, 1, 4108], nodes: LONE, want: Err(ImageError::Head { at: 8 }) },
+    ToldImage { head: [0, 65_505, 4108], nodes: LONE, want: Err(ImageError::Head { at: 16 }) },
+    ToldImage { head: [2, 1, 4108], nodes: LONE, want: Err(ImageError::Length { want: 544, got: 288 }) },
+    ToldImage { head: [1, 4, 4892], nodes: TWO_LEAVES, want: Err(ImageError::Stray { row: 16 }) },
 ];
 
 #[test]
 fn images_of_other_trees_are_refused(rt: HostRuntime) -> Result<(), Fail> {
     for told in &TOLD {
-        let bytes = image(rt.alloc(), told.head, told.words)?;
+        let words = words_of(rt.alloc(), Width::Long, told.nodes)?;
+        let bytes = image(rt.alloc(), told.head, &words)?;
         same(&rt, answer(rt.alloc(), &bytes), told.want, told.head[2]);
     }
     Ok(())
@@ -189,7 +198,7 @@ fn images_of_other_trees_are_refused(rt: HostRuntime) -> Result<(), Fail> {
 /// A node that no walk reaches, whatever its words.
 #[test]
 fn rows_that_are_not_reached_are_stray(rt: HostRuntime) -> Result<(), Fail> {
-    let mut bytes = image(rt.alloc(), [0, 2, 4108], &LONE)?;
+    let mut bytes = lone_image(rt.alloc(), 2)?;
     for _ in 0..32 {
         bytes.extend_from_slice(&9_u64.to_le_bytes())?;
     }

@@ -14,8 +14,6 @@ mod images;
 #[cfg(test)]
 mod leaf;
 #[cfg(test)]
-mod lists;
-#[cfg(test)]
 mod names;
 #[cfg(test)]
 mod paths;

@@ -4,7 +4,7 @@ ghost use Rattle.mt_rows.specs.Memory.{sheet_in};
 ghost use Rattle.mt_rows.specs.Publish.{IsTreeOf};
 
 use crate::asserts::same;
-use crate::small_trees::{ELEVEN, TOP, TOP32, TWENTY_SEVEN, checked_rows};
+use crate::small_trees::{ELEVEN, TOP, TOP32, TWENTY_SEVEN, checked_rows, words_of};
 use mt_base::{Kind, cols, top, width_of};
 use mt_layout::Span;
 use mt_path::{Handle, Path, PathStep, walk_to};
@@ -17,13 +17,14 @@ use std::test::Fail;
 fn two_leaves(rt: &impl Abort, alloc: Global, kind: Kind) -> Result<PlainRows, Fail>
     ensures { IfOk result (λ rows. IsTreeOf (sheet_in rows).tree kind) }
 {
-    let words = match kind {
-        Kind::Range | Kind::Alloc => &ELEVEN[..],
-        Kind::Range32 | Kind::Alloc32 => &TWENTY_SEVEN[..],
+    let nodes = match kind {
+        Kind::Range | Kind::Alloc => ELEVEN,
+        Kind::Range32 | Kind::Alloc32 => TWENTY_SEVEN,
     };
+    let words = words_of(alloc, width_of(kind), nodes)?;
     let columns = cols(width_of(kind)) as usize;
     assert!(rt; words.len() % columns == 0 && words.len() / columns <= 3);
-    let (rows, _) = checked_rows(alloc, words, 4124, kind)?;
+    let (rows, _) = checked_rows(alloc, &words, 4124, kind)?;
     Ok(rows)
 }
 
@@ -85,93 +86,36 @@ struct Way {
     here: Handle,
 }
 
+/// Indexes, each with the path to it and what is there.
+macro_rules! ways {
+    ($($index:expr => $path:expr, $here:expr;)*) => {
+        &[$(Way { index: $index, path: $path, here: $here }),*]
+    };
+}
+
 /// Ways in the wide tree.
-const WAYS: &[Way] = &[
-    Way {
-        index: 0,
-        path: in_left!(0),
-        here: held_left!(0, 0, 0),
-    },
-    Way {
-        index: 4,
-        path: in_left!(4),
-        here: held_left!(4, 4, 4),
-    },
-    Way {
-        index: 5,
-        path: in_left!(5),
-        here: held_left!(5, 5, 11),
-    },
-    Way {
-        index: 11,
-        path: in_left!(5),
-        here: held_left!(5, 5, 11),
-    },
-    Way {
-        index: 12,
-        path: in_right!(0),
-        here: held_right!(0, 12, 12, 4096),
-    },
-    Way {
-        index: 16,
-        path: in_right!(4),
-        here: held_right!(4, 16, 16, 4096),
-    },
-    Way {
-        index: 17,
-        path: in_right!(5),
-        here: held_right!(5, 17, TOP, 0),
-    },
-    Way {
-        index: TOP,
-        path: in_right!(5),
-        here: held_right!(5, 17, TOP, 0),
-    },
-];
+const WAYS: &[Way] = ways! {
+    0 => in_left!(0), held_left!(0, 0, 0);
+    4 => in_left!(4), held_left!(4, 4, 4);
+    5 => in_left!(5), held_left!(5, 5, 11);
+    11 => in_left!(5), held_left!(5, 5, 11);
+    12 => in_right!(0), held_right!(0, 12, 12, 4096);
+    16 => in_right!(4), held_right!(4, 16, 16, 4096);
+    17 => in_right!(5), held_right!(5, 17, TOP, 0);
+    TOP => in_right!(5), held_right!(5, 17, TOP, 0);
+};
 
 /// Ways in the narrow tree.
-const NARROW_WAYS: &[Way] = &[
-    Way {
-        index: 0,
-        path: in_left!(narrow 0),
-        here: held_left!(narrow 0, 0, 0),
-    },
-    Way {
-        index: 12,
-        path: in_left!(narrow 12),
-        here: held_left!(narrow 12, 12, 12),
-    },
-    Way {
-        index: 13,
-        path: in_left!(narrow 13),
-        here: held_left!(narrow 13, 13, 23),
-    },
-    Way {
-        index: 23,
-        path: in_left!(narrow 13),
-        here: held_left!(narrow 13, 13, 23),
-    },
-    Way {
-        index: 24,
-        path: in_right!(narrow 0),
-        here: held_right!(narrow 0, 24, 24, 4096),
-    },
-    Way {
-        index: 36,
-        path: in_right!(narrow 12),
-        here: held_right!(narrow 12, 36, 36, 4096),
-    },
-    Way {
-        index: 37,
-        path: in_right!(narrow 13),
-        here: held_right!(narrow 13, 37, TOP32, 0),
-    },
-    Way {
-        index: TOP32,
-        path: in_right!(narrow 13),
-        here: held_right!(narrow 13, 37, TOP32, 0),
-    },
-];
+const NARROW_WAYS: &[Way] = ways! {
+    0 => in_left!(narrow 0), held_left!(narrow 0, 0, 0);
+    12 => in_left!(narrow 12), held_left!(narrow 12, 12, 12);
+    13 => in_left!(narrow 13), held_left!(narrow 13, 13, 23);
+    23 => in_left!(narrow 13), held_left!(narrow 13, 13, 23);
+    24 => in_right!(narrow 0), held_right!(narrow 0, 24, 24, 4096);
+    36 => in_right!(narrow 12), held_right!(narrow 12, 36, 36, 4096);
+    37 => in_right!(narrow 13), held_right!(narrow 13, 37, TOP32, 0);
+    TOP32 => in_right!(narrow 13), held_right!(narrow 13, 37, TOP32, 0);
+};
 
 const TREES: [(Kind, &[Way]); 2] = [(Kind::Alloc, WAYS), (Kind::Alloc32, NARROW_WAYS)];
 

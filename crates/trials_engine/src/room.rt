@@ -1,12 +1,16 @@
-ghost use Rattle.std.specs.Prelude.{◌≡◌, ◌+◌, ◌<◌, ◌≤◌};
+ghost use Rattle.std.specs.Prelude.{◌+◌, ◌≤◌};
+ghost use Rattle.mt_base.specs.Blanks.{IsBlankOf};
 ghost use Rattle.mt_rows.specs.Memory.{sheet_in};
 ghost use Rattle.mt_rows.specs.Trees.{height_in};
 ghost use Rattle.mt_gap.specs.Descents.{IsGapped};
 
 use crate::asserts::same;
-use crate::small_trees::{ELEVEN, LONGEST, LONGEST32, TOP, TOP32, TWENTY_SEVEN, checked_rows};
+use crate::small_trees::{
+    ELEVEN, LONGEST, LONGEST32, Node, TOP, TOP32, TWENTY_SEVEN, UNUSED, checked_rows, words_of,
+};
 use mt_base::{Kind, Steps, cols, finds_room, width_of};
 use mt_gap::{highest, lowest};
+use mt_layout::RowKind;
 use mt_rows::PlainRows;
 use std::alloc::Global;
 use std::marker::Brand;
@@ -16,48 +20,26 @@ use std::test::Fail;
 
 /// An allocation tree of the same form with seven holes: 0 to 1, 3 to 5, 7 to 8, 12 to 15, 17, 19 to 20, and the last index.
 #[rattlefmt::skip]
-const HOLES: [u64; 96] = [
-    1,
-    11, TOP, 0, 0, 0, 0, 0, 0, 0,
-    4364, 4620, 0, 0, 0, 0, 0, 0, 0, 0,
-    3, 4, 0, 0, 0, 0, 0, 0, 0, 0,
-    0, 0,
-
-    4096,
-    1, 2, 5, 6, 8, 11, 0, 0, 0, 0, 0, 0, 0, 0, 0,
-    0, 4096, 0, 4096, 0, 4096, 0, 0, 0, 0, 0, 0, 0, 0, 0, 0,
-
-    4097,
-    15, 16, 17, 18, 20, TOP - 1, TOP, 0, 0, 0, 0, 0, 0, 0, 0,
-    0, 4096, 0, 4096, 0, 4096, 0, 0, 0, 0, 0, 0, 0, 0, 0, 0,
+const HOLES: &[Node] = &[
+    (RowKind::Gapped, 1, &[11, TOP], &[4364, 4620], &[3, 4]),
+    (RowKind::Leaf, 4096, &[1, 2, 5, 6, 8, 11], &[0, 4096, 0, 4096, 0, 4096], &[]),
+    (RowKind::Leaf, 4097, &[15, 16, 17, 18, 20, TOP - 1, TOP], &[0, 4096, 0, 4096, 0, 4096], &[]),
 ];
 
 /// A narrow tree of the same form with seven holes: 0 to 1, 3 to 5, 7 to 8, 24 to 27, 29, 31 to 32, and the last index.
 #[rattlefmt::skip]
-const NARROW_HOLES: [u64; 192] = [
-    1,
-    23, TOP32, 0, 0, 0, 0, 0, 0, 0, 0, 0, 0, 0, 0, 0, 0, 0, 0, 0, 0,
-    4364, 4620, 0, 0, 0, 0, 0, 0, 0, 0, 0, 0, 0, 0, 0, 0, 0, 0, 0, 0, 0,
-    3, 4, 0, 0, 0, 0, 0, 0, 0, 0, 0, 0, 0, 0, 0, 0, 0, 0, 0, 0, 0,
-    0,
-
-    4096,
-    1, 2, 5, 6, 8, 11, 12, 13, 14, 15, 16, 17, 18, 23, 0,
-    0, 0, 0, 0, 0, 0, 0, 0, 0, 0, 0, 0, 0, 0, 0, 0,
-    0, 4096, 0, 4096, 0, 4096, 4096, 4096, 4096, 4096, 4096, 4096, 4096, 4096, 0, 0,
-    0, 0, 0, 0, 0, 0, 0, 0, 0, 0, 0, 0, 0, 0, 0, 0,
-
-    4097,
-    27, 28, 29, 30, 32, 40, 41, 42, 43, 44, 45, 46, TOP32 - 1, TOP32, 0,
-    0, 0, 0, 0, 0, 0, 0, 0, 0, 0, 0, 0, 0, 0, 0, 0,
-    0, 4096, 0, 4096, 0, 4096, 4096, 4096, 4096, 4096, 4096, 4096, 4096, 0, 0, 0,
-    0, 0, 0, 0, 0, 0, 0, 0, 0, 0, 0, 0, 0, 0, 0, 0,
+const NARROW_HOLES: &[Node] = &[
+    (RowKind::Gapped, 1, &[23, TOP32], &[4364, 4620], &[3, 4]),
+    (RowKind::Leaf, 4096, &[1, 2, 5, 6, 8, 11, 12, 13, 14, 15, 16, 17, 18, 23],
+        &[0, 4096, 0, 4096, 0, 4096, 4096, 4096, 4096, 4096, 4096, 4096, 4096, 4096], &[]),
+    (RowKind::Leaf, 4097, &[27, 28, 29, 30, 32, 40, 41, 42, 43, 44, 45, 46, TOP32 - 1, TOP32],
+        &[0, 4096, 0, 4096, 0, 4096, 4096, 4096, 4096, 4096, 4096, 4096, 4096], &[]),
 ];
 
 /// The empty tree, in nodes of no use: three wide ones, or a narrow one.
-const NONE: [u64; 96] = [0; 96];
+const NONE: &[Node] = &[UNUSED, UNUSED, UNUSED];
 
-const NARROW_NONE: [u64; 64] = [0; 64];
+const NARROW_NONE: &[Node] = &[UNUSED];
 
 /// The lowest place in a tree of two levels, or the highest, in six steps at most.
 fn place<L: Ledger>(
@@ -89,9 +71,7 @@ fn placed<L: Ledger>(
     lo: u64,
     hi: u64,
 ) -> Option<u64>
-    requires name { blank.name ≡ L.name }
-    requires parts { blank.parts ≡ L.parts }
-    requires some { 0 < blank.parts }
+    requires blank { IsBlankOf L.name L.parts blank.name blank.parts }
     requires tree { IsGapped (sheet_in rows).tree }
     requires levels { height_in (sheet_in rows).tree.table (sheet_in rows).tree.root ≤ 2 }
     requires size { 1 ≤ size }
@@ -193,21 +173,22 @@ const IN_NARROW_NONE: &[Window] = windows! {
     TOP32 + 2, 0, TOP => None, None;
 };
 
-/// The places in these windows of the tree of this kind with these words.
+/// The places in these windows of the tree of this kind with these nodes.
 fn expect_places(
     rt: &impl Abort,
     alloc: Global,
     kind: Kind,
-    words: &[u64],
+    nodes: &[Node],
     root: u64,
     windows: &[Window],
 ) -> Result<(), Fail> {
+    let words = words_of(alloc, width_of(kind), nodes)?;
     let columns = cols(width_of(kind)) as usize;
     assert!(rt; words.len() % columns == 0 && words.len() / columns <= 3 && finds_room(kind));
     for &((size, lo, hi), (low, high)) in windows {
         assert!(rt; 1 <= size);
         for (is_lowest, want) in [(true, low), (false, high)] {
-            let (rows, form) = checked_rows(alloc, words, root, kind)?;
+            let (rows, form) = checked_rows(alloc, &words, root, kind)?;
             assert!(rt; form.height <= 2);
             let found = placed::<Brand>(Blank::new(1), rows, is_lowest, size, lo, hi);
             same(rt, found, want, (kind, size, lo, hi, is_lowest));
@@ -218,19 +199,19 @@ fn expect_places(
 
 #[test]
 fn places_in_trees(rt: HostRuntime) -> Result<(), Fail> {
-    expect_places(&rt, rt.alloc(), Kind::Alloc, &ELEVEN, 4124, IN_TWO_LEAVES)?;
-    expect_places(&rt, rt.alloc(), Kind::Alloc, &HOLES, 4124, BETWEEN_ENTRIES)?;
-    expect_places(&rt, rt.alloc(), Kind::Alloc, &NONE, 0, IN_NONE)
+    expect_places(&rt, rt.alloc(), Kind::Alloc, ELEVEN, 4124, IN_TWO_LEAVES)?;
+    expect_places(&rt, rt.alloc(), Kind::Alloc, HOLES, 4124, BETWEEN_ENTRIES)?;
+    expect_places(&rt, rt.alloc(), Kind::Alloc, NONE, 0, IN_NONE)
 }
 
 #[test]
 fn places_in_narrow_trees(rt: HostRuntime) -> Result<(), Fail> {
-    for (words, root, windows) in [
-        (&TWENTY_SEVEN[..], 4124, IN_NARROW_LEAVES),
-        (&NARROW_HOLES[..], 4124, BETWEEN_NARROW_ENTRIES),
-        (&NARROW_NONE[..], 0, IN_NARROW_NONE),
+    for (nodes, root, windows) in [
+        (TWENTY_SEVEN, 4124, IN_NARROW_LEAVES),
+        (NARROW_HOLES, 4124, BETWEEN_NARROW_ENTRIES),
+        (NARROW_NONE, 0, IN_NARROW_NONE),
     ] {
-        expect_places(&rt, rt.alloc(), Kind::Alloc32, words, root, windows)?;
+        expect_places(&rt, rt.alloc(), Kind::Alloc32, nodes, root, windows)?;
     }
     Ok(())
 }

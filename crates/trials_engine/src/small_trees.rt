@@ -7,8 +7,9 @@ ghost use Rattle.mt_rows.specs.Memory.{sheet_in};
 ghost use Rattle.mt_rows.specs.Publish.{IsLawfulOf, tree_as};
 ghost use Rattle.mt_rows.specs.Sheet.{IsPlace, OnlyReads};
 
-use mt_base::{Kind, NoMemory, cols, width_of};
+use mt_base::{Kind, NoMemory, Width, cols, width_of};
 use mt_check::{Form, check};
+use mt_layout::{RowKind, slots};
 use mt_rows::{PlainRows, Rows};
 use std::alloc::Global;
 use std::test::Fail;
@@ -25,65 +26,61 @@ pub const TOP32: u64 = 4_294_967_295;
 /// The hole after the last entry of a narrow tree whose entries end at the index 36.
 pub const LONGEST32: u64 = 4_294_967_259;
 
-/// A leaf, whose only range is 10 to 19 with the entry 5: a parent word, 15 pivots and 16 slots.
+/// A node by its kind, its parent word, and its pivots, slots and gaps up to the last of each that is not 0.
+pub type Node = (RowKind, u64, &'static [u64], &'static [u64], &'static [u64]);
+
+/// A node that is not used.
+pub const UNUSED: Node = (RowKind::Leaf, 0, &[], &[], &[]);
+
+/// A leaf, whose only range is 10 to 19 with the entry 5.
+pub const LONE: &[Node] = &[(RowKind::Leaf, 1, &[9, 19, TOP], &[0, 5], &[])];
+
+/// An allocation tree: the node 16 over the leaves 17 and 18, with eleven ranges up to the index 16.
 #[rattlefmt::skip]
-pub const LONE: [u64; 32] = [
-    1,
-    9, 19, TOP, 0, 0, 0, 0, 0, 0, 0, 0, 0, 0, 0, 0,
-    0, 5, 0, 0, 0, 0, 0, 0, 0, 0, 0, 0, 0, 0, 0, 0,
+pub const ELEVEN: &[Node] = &[
+    (RowKind::Gapped, 1, &[11, TOP], &[4364, 4620], &[0, LONGEST]),
+    (RowKind::Leaf, 4096, &[0, 1, 2, 3, 4, 11], &[4096; 6], &[]),
+    (RowKind::Leaf, 4097, &[12, 13, 14, 15, 16, TOP], &[4096; 5], &[]),
 ];
 
-/// An allocation tree: the node 16 over the leaves 17 and 18, with eleven ranges up to the index 16. The inner node has a
-/// parent word, 9 pivots, 10 slots and 10 gaps, and two words that are not used.
+/// A narrow leaf with the same range.
+pub const LONE32: &[Node] = &[(RowKind::Leaf, 1, &[9, 19, TOP32], &[0, 5], &[])];
+
+/// A narrow allocation tree: the node 16 over the leaves 17 and 18, with 27 ranges up to the index 36.
 #[rattlefmt::skip]
-pub const ELEVEN: [u64; 96] = [
-    1,
-    11, TOP, 0, 0, 0, 0, 0, 0, 0,
-    4364, 4620, 0, 0, 0, 0, 0, 0, 0, 0,
-    0, LONGEST, 0, 0, 0, 0, 0, 0, 0, 0,
-    0, 0,
-
-    4096,
-    0, 1, 2, 3, 4, 11, 0, 0, 0, 0, 0, 0, 0, 0, 0,
-    4096, 4096, 4096, 4096, 4096, 4096, 0, 0, 0, 0, 0, 0, 0, 0, 0, 0,
-
-    4097,
-    12, 13, 14, 15, 16, TOP, 0, 0, 0, 0, 0, 0, 0, 0, 0,
-    4096, 4096, 4096, 4096, 4096, 0, 0, 0, 0, 0, 0, 0, 0, 0, 0, 0,
+pub const TWENTY_SEVEN: &[Node] = &[
+    (RowKind::Gapped, 1, &[23, TOP32], &[4364, 4620], &[0, LONGEST32]),
+    (RowKind::Leaf, 4096, &[0, 1, 2, 3, 4, 5, 6, 7, 8, 9, 10, 11, 12, 23], &[4096; 14], &[]),
+    (RowKind::Leaf, 4097, &[24, 25, 26, 27, 28, 29, 30, 31, 32, 33, 34, 35, 36, TOP32], &[4096; 13], &[]),
 ];
 
-/// A narrow leaf with the same range: a parent word, 31 pivots and 32 slots.
-#[rattlefmt::skip]
-pub const LONE32: [u64; 64] = [
-    1,
-    9, 19, TOP32, 0, 0, 0, 0, 0, 0, 0, 0, 0, 0, 0, 0,
-    0, 0, 0, 0, 0, 0, 0, 0, 0, 0, 0, 0, 0, 0, 0, 0,
-    0, 5, 0, 0, 0, 0, 0, 0, 0, 0, 0, 0, 0, 0, 0, 0,
-    0, 0, 0, 0, 0, 0, 0, 0, 0, 0, 0, 0, 0, 0, 0, 0,
-];
+/// Appends these words, and zeros after them up to this many.
+fn push_part(words: &mut Vec<u64>, part: &[u64], count: usize) -> Result<(), NoMemory> {
+    words.extend_from_slice(part)?;
+    for _ in part.len()..count {
+        words.push(0)?;
+    }
+    Ok(())
+}
 
-/// A narrow allocation tree: the node 16 over the leaves 17 and 18, with 27 ranges up to the index 36. The inner node has a
-/// parent word, 20 pivots, 21 slots and 21 gaps, and a word that is not used.
-#[rattlefmt::skip]
-pub const TWENTY_SEVEN: [u64; 192] = [
-    1,
-    23, TOP32, 0, 0, 0, 0, 0, 0, 0, 0, 0, 0, 0, 0, 0, 0, 0, 0, 0, 0,
-    4364, 4620, 0, 0, 0, 0, 0, 0, 0, 0, 0, 0, 0, 0, 0, 0, 0, 0, 0, 0, 0,
-    0, LONGEST32, 0, 0, 0, 0, 0, 0, 0, 0, 0, 0, 0, 0, 0, 0, 0, 0, 0, 0, 0,
-    0,
-
-    4096,
-    0, 1, 2, 3, 4, 5, 6, 7, 8, 9, 10, 11, 12, 23, 0,
-    0, 0, 0, 0, 0, 0, 0, 0, 0, 0, 0, 0, 0, 0, 0, 0,
-    4096, 4096, 4096, 4096, 4096, 4096, 4096, 4096, 4096, 4096, 4096, 4096, 4096, 4096, 0, 0,
-    0, 0, 0, 0, 0, 0, 0, 0, 0, 0, 0, 0, 0, 0, 0, 0,
-
-    4097,
-    24, 25, 26, 27, 28, 29, 30, 31, 32, 33, 34, 35, 36, TOP32, 0,
-    0, 0, 0, 0, 0, 0, 0, 0, 0, 0, 0, 0, 0, 0, 0, 0,
-    4096, 4096, 4096, 4096, 4096, 4096, 4096, 4096, 4096, 4096, 4096, 4096, 4096, 0, 0, 0,
-    0, 0, 0, 0, 0, 0, 0, 0, 0, 0, 0, 0, 0, 0, 0, 0,
-];
+/// The words of these nodes: a wide leaf has a parent word, 15 pivots and 16 slots, a wide node with gaps a parent word, 9 pivots,
+/// 10 slots and 10 gaps, and two words that are not used. A narrow leaf has 31 pivots and 32 slots, and a narrow node with gaps
+/// 20 pivots, 21 slots and 21 gaps, and a word that is not used.
+pub fn words_of(alloc: Global, width: Width, nodes: &[Node]) -> Result<Vec<u64>, NoMemory> {
+    let mut words = Vec::new(alloc);
+    for &(kind, parent, pivots, held, gaps) in nodes {
+        let (columns, count) = (cols(width) as usize, slots(width, kind) as usize);
+        words.push(parent)?;
+        push_part(&mut words, pivots, count.saturating_sub(1))?;
+        push_part(&mut words, held, count)?;
+        push_part(
+            &mut words,
+            gaps,
+            columns.saturating_sub(count).saturating_sub(count),
+        )?;
+    }
+    Ok(words)
+}
 
 /// The nodes of these words, which are a well-formed tree of this kind, and its form.
 pub fn checked_rows(

@@ -4,7 +4,7 @@ ghost use Rattle.std.specs.Prelude.{◌≡◌, ◌<◌, ◌+◌, ◌≤◌, IfOk
 ghost use Rattle.mt_base.specs.Width.{most_rows};
 ghost use Rattle.mt_base.specs.Limits.{most_calls};
 
-/// A call, by its verb and its numbers. What seeks room stores the entry 1.
+/// A call, by its verb and its numbers. What seeks room stores the entry 1 if no other is given.
 macro_rules! call {
     (store $first:expr, $last:expr, $entry:expr) => {
         Call::Store { first: $first, last: $last, entry: $entry }
@@ -21,8 +21,14 @@ macro_rules! call {
     (alloc $size:expr, $min:expr, $max:expr) => {
         Call::Alloc { size: $size, min: $min, max: $max, entry: 1 }
     };
+    (alloc $size:expr, $min:expr, $max:expr, $entry:expr) => {
+        Call::Alloc { size: $size, min: $min, max: $max, entry: $entry }
+    };
     (ralloc $size:expr, $min:expr, $max:expr) => {
         Call::Ralloc { size: $size, min: $min, max: $max, entry: 1 }
+    };
+    (ralloc $size:expr, $min:expr, $max:expr, $entry:expr) => {
+        Call::Ralloc { size: $size, min: $min, max: $max, entry: $entry }
     };
     (gap $size:expr, $min:expr, $max:expr) => {
         Call::Gap { size: $size, min: $min, max: $max }
@@ -39,6 +45,7 @@ macro_rules! range {
 }
 
 mod drawn;
+mod lists;
 mod noted;
 mod replaced;
 mod shapes;

@@ -1,8 +1,8 @@
-ghost use Rattle.std.specs.Prelude.{◌≡◌, ◌<◌, ◌+◌, ◌-◌, ◌^◌, OnOk};
+ghost use Rattle.std.specs.Prelude.{◌≡◌, ◌<◌, ◌≤◌, ◌+◌, ◌-◌, ◌^◌, OnOk};
 ghost use Rattle.mt_base.specs.Limits.{most_calls};
 
 use crate::tests::{TOP, TOP32, expect_answers, fresh_of, same};
-use mt_base::{Call, Kind, MOST_ROWS, NoMemory, Query, Reply};
+use mt_base::{Call, Kind, MOST_ROWS, NoMemory, Query, Reply, finds_room};
 use mt_engine::Engine;
 use mt_list::{ListMap, Ranges};
 use mt_rows::PlainRows;
@@ -152,36 +152,6 @@ fn expect_calls(
     Ok(())
 }
 
-/// A hundred thousand drawn calls on a tree of this kind, with this last index.
-fn expect_ranges(
-    rt: &impl Abort,
-    alloc: Global,
-    kind: Kind,
-    draws: &mut Draws,
-) -> Result<(), NoMemory> {
-    let mut engine = fresh_of(alloc, kind, MOST_ROWS)?;
-    let mut list = ListMap::new(alloc, kind);
-    for _ in 0..100_u64 {
-        expect_calls(rt, alloc, &mut engine, &mut list, draws)?;
-    }
-    Ok(())
-}
-
-#[test]
-fn a_hundred_thousand_calls_are_answered_as_by_a_list(rt: HostRuntime) -> Result<(), Fail> {
-    let mut wide = Draws {
-        state: 1,
-        last: TOP,
-    };
-    expect_ranges(&rt, rt.alloc(), Kind::Range, &mut wide)?;
-    let mut narrow = Draws {
-        state: 4,
-        last: TOP32,
-    };
-    expect_ranges(&rt, rt.alloc(), Kind::Range32, &mut narrow)?;
-    Ok(())
-}
-
 /// Stores a thousand ranges of ten indexes, each after a hole of ten.
 fn fill(rt: &impl Abort, engine: &mut Engine<PlainRows>, list: &mut ListMap) -> Result<(), NoMemory>
     requires { engine.old.sheet.ended + 1000 < 2 ^ 62 }
@@ -195,33 +165,53 @@ fn fill(rt: &impl Abort, engine: &mut Engine<PlainRows>, list: &mut ListMap) -> 
     Ok(())
 }
 
-/// Ten thousand drawn calls on a tree of this kind, with a thousand ranges.
-fn expect_areas(
+/// Makes so many thousand drawn calls, where at most a thousand were made before.
+fn expect_thousands(
+    rt: &impl Abort,
+    alloc: Global,
+    engine: &mut Engine<PlainRows>,
+    list: &mut ListMap,
+    draws: &mut Draws,
+    thousands: u64,
+) -> Result<(), NoMemory>
+    requires few { engine.old.sheet.ended ≤ 1000 }
+    requires thousands { thousands ≤ 100 }
+{
+    for _ in 0..thousands {
+        expect_calls(rt, alloc, engine, list, draws)?;
+    }
+    Ok(())
+}
+
+/// A hundred thousand drawn calls on an empty tree of ranges, or ten thousand on an allocation tree with a thousand ranges: of
+/// this kind, with this last index, drawn from this state on.
+fn expect_drawn(
     rt: &impl Abort,
     alloc: Global,
     kind: Kind,
-    draws: &mut Draws,
+    last: u64,
+    state: u64,
 ) -> Result<(), NoMemory> {
+    let mut draws = Draws { state, last };
     let mut engine = fresh_of(alloc, kind, MOST_ROWS)?;
     let mut list = ListMap::new(alloc, kind);
-    fill(rt, &mut engine, &mut list)?;
-    for _ in 0..10_u64 {
-        expect_calls(rt, alloc, &mut engine, &mut list, draws)?;
+    if finds_room(kind) {
+        fill(rt, &mut engine, &mut list)?;
+        return expect_thousands(rt, alloc, &mut engine, &mut list, &mut draws, 10);
     }
+    expect_thousands(rt, alloc, &mut engine, &mut list, &mut draws, 100)
+}
+
+#[test]
+fn a_hundred_thousand_calls_are_answered_as_by_a_list(rt: HostRuntime) -> Result<(), Fail> {
+    expect_drawn(&rt, rt.alloc(), Kind::Range, TOP, 1)?;
+    expect_drawn(&rt, rt.alloc(), Kind::Range32, TOP32, 4)?;
     Ok(())
 }
 
 #[test]
 fn ten_thousand_calls_on_areas_are_answered_as_by_a_list(rt: HostRuntime) -> Result<(), Fail> {
-    let mut wide = Draws {
-        state: 3,
-        last: TOP,
-    };
-    expect_areas(&rt, rt.alloc(), Kind::Alloc, &mut wide)?;
-    let mut narrow = Draws {
-        state: 5,
-        last: TOP32,
-    };
-    expect_areas(&rt, rt.alloc(), Kind::Alloc32, &mut narrow)?;
+    expect_drawn(&rt, rt.alloc(), Kind::Alloc, TOP, 3)?;
+    expect_drawn(&rt, rt.alloc(), Kind::Alloc32, TOP32, 5)?;
     Ok(())
 }

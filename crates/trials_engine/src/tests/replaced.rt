@@ -1,9 +1,8 @@
 //! Stores into trees of each kind: the nodes that each takes and leaves, and the gap words afterwards.
 
 ghost use Rattle.std.specs.Prelude.{◌≡◌, ◌<◌, ◌+◌, ◌-◌, ◌^◌, ◌≤◌, length};
-ghost use Rattle.mt_rows.specs.Memory.{sheet_in};
-ghost use Rattle.mt_rows.specs.Sheet.{IsPlace, OnlyReads};
 
+use crate::small_trees::push_row;
 use crate::tests::shapes::{
     Case, FILLING, NARROW, NARROW_FILLING, NARROW_SPLIT, SPLIT, Shape, TRIALS, WIDE,
 };
@@ -20,17 +19,6 @@ use std::test::Fail;
 
 /// As many nodes as the trees of these tests have.
 const ROWS: u64 = 400;
-
-/// Appends the words of a node.
-fn push_row(rows: &mut PlainRows, row: u32, words: &mut Vec<u64>) -> Result<(), NoMemory>
-    requires { IsPlace (sheet_in rows.old).tree row 0 }
-    ensures { OnlyReads (sheet_in rows.old) (sheet_in rows.new) }
-{
-    for col in 0..cols(rows.width()) {
-        words.push(rows.load(row, col))?;
-    }
-    Ok(())
-}
 
 /// All words of the nodes, with those of the numbers below the first node's.
 fn words_of(rows: &mut PlainRows, alloc: Global) -> Result<Vec<u64>, NoMemory> {

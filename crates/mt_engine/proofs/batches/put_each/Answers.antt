@@ -1,5 +1,4 @@
-use Rattle.mt_engine.proofs.Prelude.{arith, refl, ◌∙◌, map_by, reads_on}
-use Rattle.std.proofs.lemmas.List.{length-set}
+use Rattle.mt_engine.proofs.Prelude.{arith, refl, ◌∙◌, map_by, reads_on, length-set}
 use Rattle.mt_engine.proofs.Batching.{look_all, look_more}
 use Rattle.mt_engine.proofs.batches.put_each.Goals as goal
 

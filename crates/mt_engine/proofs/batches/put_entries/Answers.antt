@@ -1,6 +1,4 @@
-use Rattle.std.proofs.Common.{rules}
-use Rattle.mt_engine.proofs.Prelude.{ap, ◌∙◌, Rooted, map_by, entries_at, same_tree}
-use Rattle.mt_path.specs.Batches.{words_in}
+use Rattle.mt_engine.proofs.Prelude.{ap, ◌∙◌, Rooted, map_by, entries_at, same_tree, words_in, rules}
 use Rattle.mt_engine.proofs.Batching.{words_are}
 use Rattle.mt_engine.proofs.batches.put_entries.Goals as goal
 

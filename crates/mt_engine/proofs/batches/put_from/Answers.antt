@@ -1,11 +1,7 @@
-use Rattle.mt_engine.proofs.Prelude.{◌≡◌, ◌<◌, ◌≤◌, ◌∙◌, None, Some, ap, sym, subst, arith, length, map, map_by, slice_set, Range, Rooted, RangeWalk, IsHandleOf, WalksFrom, Width, greatest, index_behind, range_at, same_tree}
-use Rattle.mt_engine.specs.Batches.{put_first, steps_from}
-use Rattle.mt_engine.specs.RangeWalks.{IsWayOrNone}
+use Rattle.mt_engine.proofs.Prelude.{◌<◌, ◌≤◌, ◌∙◌, None, Some, ap, sym, subst, arith, length, slice_set, Range, Rooted, RangeWalk, IsHandleOf, WalksFrom, Width, greatest, index_behind, range_at, same_tree, IsWayOrNone}
 use Rattle.mt_engine.proofs.Batching.{put_end, put_full, put_long}
 use Rattle.mt_engine.proofs.LeafWalks.{ended_walk, first_put, found_next, next_put}
 use Rattle.mt_engine.proofs.Walking.{ends_within}
-use Rattle.mt_engine.proofs.batches.put_from.Given.{Over}
-use Rattle.mt_engine.proofs.batches.put_from.Goals.{In_default}
 use Rattle.mt_engine.proofs.batches.put_from.Goals as goal
 
 pub loop-i-init : goal.loop-i-init
@@ -38,22 +34,12 @@ loop-i-preserved g c =
 
 -- the walk has ended before the last place: what was put is all that it finds
 
-all_found : (g : Over) (c : In_default g) → let s = g.R.Rows.sheet c.args.rows.now in let all = steps_from (map_by s.tree) (greatest s.tree.table.width) (length c.args.ranges.now) c.args.walk.now.next in
-    (c.loop-i.ranges ≡ put_first (map g.P.RangePlace.shows all.found) c.args.ranges.now) × (c.loop-i.i ≡ length all.found) × (None ≡ all.next)
-all_found g c =
+pub returns-in_default-clause-put : goal.returns-in_default-clause-put
+returns-in_default-clause-put g c =
     let s = g.R.Rows.sheet c.args.rows.now in
     let before = c.loop-i.invariant.put in
     let low : c.loop-i.i < length c.args.ranges.now = omega (arith, c.loop-i-test.true, c.loop-i.invariant.size) in
     put_end before.put low (found_next g.P.RangePlace.shows s c.requires.tree.0 c.requires.tree.1 c.args.walk.now c.args.ranges.now (g.R.Rows.sheet c.loop-i.rows) c.loop-i.here c.loop-i.way.items c.loop-i.way.items c.loop-i.ranges c.loop-i.i before None c.in_default.ensures.range)
-
-pub returns-in_default-clause-ranges : goal.returns-in_default-clause-ranges
-returns-in_default-clause-ranges g c = (all_found g (goal.at.returns-in_default-clause-ranges g c).In_default).0
-
-pub returns-in_default-clause-count : goal.returns-in_default-clause-count
-returns-in_default-clause-count g c = (all_found g (goal.at.returns-in_default-clause-count g c).In_default).1
-
-pub returns-in_default-clause-next : goal.returns-in_default-clause-next
-returns-in_default-clause-next g c = (all_found g (goal.at.returns-in_default-clause-next g c).In_default).2
 
 pub returns-in_default-clause-walk : goal.returns-in_default-clause-walk
 returns-in_default-clause-walk g c = ended_walk (g.R.Rows.sheet c.args.rows.now).tree c.loop-i.here c.loop-i.invariant.put.at
@@ -67,29 +53,21 @@ walk_after-requires g c =
     let width = c.width.ensures ∙ ap (λ (t : Rooted). t.table.width) (same_tree s (g.R.Rows.sheet c.loop-i.rows) before.put.reads) in
     subst (λ (w : Width). c.loop-i.here.span.last ≤ greatest w) (sym width) (ends_within s.tree c.requires.tree.0 c.loop-i.here c.requires.tree.1 before.at)
 
-pub returns-clause-ranges : goal.returns-clause-ranges
-returns-clause-ranges g c =
-    let before = c.loop-i.invariant.put in
-    let all : length c.args.ranges.now ≤ c.loop-i.i = omega (arith, c.loop-i-test.false, c.loop-i.invariant.size) in
-    (put_full before.put all).0
-
-pub returns-clause-count : goal.returns-clause-count
-returns-clause-count g c =
-    let before = c.loop-i.invariant.put in
-    let all : length c.args.ranges.now ≤ c.loop-i.i = omega (arith, c.loop-i-test.false, c.loop-i.invariant.size) in
-    let many = (put_full before.put all).1 in
-    let long = put_long before.put in
-    let end = c.loop-i.auto.i-end in
-    grind (arith, many, long, end)
-
-pub returns-clause-next : goal.returns-clause-next
-returns-clause-next g c =
+pub returns-clause-put : goal.returns-clause-put
+returns-clause-put g c =
     let s = g.R.Rows.sheet c.args.rows.now in
     let before = c.loop-i.invariant.put in
     let all : length c.args.ranges.now ≤ c.loop-i.i = omega (arith, c.loop-i-test.false, c.loop-i.invariant.size) in
     let width = c.width.ensures ∙ ap (λ (t : Rooted). t.table.width) (same_tree s (g.R.Rows.sheet c.loop-i.rows) before.put.reads) in
-    ap (λ (w : RangeWalk). w.next) c.walk_after.ensures
-    ∙ (ap (λ (w : Width). index_behind (greatest w) (range_at (Some c.loop-i.here))) width ∙ (put_full before.put all).2)
+    let full = put_full before.put all in
+    let many = full.many in
+    let long = put_long before.put in
+    let end = c.loop-i.auto.i-end in
+    record {
+      put = full.put;
+      many = grind (arith, many, long, end);
+      goes = ap (λ (w : RangeWalk). w.next) c.walk_after.ensures ∙ (ap (λ (w : Width). index_behind (greatest w) (range_at (Some c.loop-i.here))) width ∙ full.goes);
+    }
 
 pub returns-clause-walk : goal.returns-clause-walk
 returns-clause-walk g c =

@@ -1,6 +1,4 @@
-use Rattle.mt_engine.proofs.Prelude.{◌+◌, ◌∙◌, ℕ, ap, sym, refl, length, arith, eqb-true, eqb-false, greatest_fits, handle_in}
-use Rattle.std.proofs.lemmas.List.{nil_from_length}
-use Rattle.mt_engine.specs.RangeWalks.{LeadsToLeaf}
+use Rattle.mt_engine.proofs.Prelude.{◌+◌, ◌∙◌, ℕ, ap, sym, refl, length, arith, eqb-true, eqb-false, greatest_fits, handle_in, LeadsToLeaf, nil_from_length}
 use Rattle.mt_engine.proofs.LeafWalks.{way_of, way_to}
 use Rattle.mt_engine.proofs.leaf_steps.first_of_next.Given.{Over}
 use Rattle.mt_engine.proofs.leaf_steps.first_of_next.Goals.{Else-is_empty}

@@ -1,5 +1,4 @@
-use Rattle.mt_engine.proofs.Prelude.{◌+◌, ◌≤◌, ◌∙◌, ap, sym, subst, IfSome, greatest, map_by, PathStep, Rooted, IsHandleOf, handle_in, nearest_from, range_at, reads_more, same_tree}
-use Rattle.mt_path.proofs.HandleSteps.{inner_behind}
+use Rattle.mt_engine.proofs.Prelude.{◌+◌, ◌≤◌, ◌∙◌, ap, sym, subst, IfSome, greatest, map_by, PathStep, Rooted, IsHandleOf, handle_in, nearest_from, range_at, reads_more, same_tree, inner_behind}
 use Rattle.mt_engine.proofs.LeafWalks.{found_after, way_if, way_stays}
 use Rattle.mt_engine.proofs.leaf_steps.range_after.Goals as goal
 

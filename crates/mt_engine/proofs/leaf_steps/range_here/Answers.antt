@@ -1,5 +1,4 @@
-use Rattle.mt_engine.proofs.Prelude.{◌+◌, refl, ap, arith, PathStep, no_reads, reads_up}
-use Rattle.mt_path.proofs.HandleSteps.{inner_behind}
+use Rattle.mt_engine.proofs.Prelude.{◌+◌, refl, ap, arith, PathStep, no_reads, reads_up, inner_behind}
 use Rattle.mt_engine.proofs.LeafEnds.{hole_ends}
 use Rattle.mt_engine.proofs.SlotQueries.{first_behind, first_here, first_none}
 use Rattle.mt_engine.proofs.leaf_steps.range_here.Goals as goal

@@ -1,5 +1,4 @@
-use Rattle.mt_engine.proofs.Prelude.{ap, subst, ◌∙◌, option_map, Range, Load, answer, map_by, Parts}
-use Rattle.mt_engine.specs.Engine.{LoadsItsWay}
+use Rattle.mt_engine.proofs.Prelude.{ap, subst, ◌∙◌, option_map, Range, Load, answer, map_by, Parts, LoadsItsWay}
 use Rattle.mt_engine.proofs.Measured.{measured_if_read}
 use Rattle.mt_engine.proofs.engine.Engine.load.Goals as goal
 

@@ -1,32 +1,9 @@
-/// A call, by its verb and its numbers.
-macro_rules! call {
-    (store $first:expr, $last:expr, $entry:expr) => {
-        Call::Store { first: $first, last: $last, entry: $entry }
-    };
-    (insert $first:expr, $last:expr, $entry:expr) => {
-        Call::Insert { first: $first, last: $last, entry: $entry }
-    };
-    (erase $index:expr) => {
-        Call::Erase { index: $index }
-    };
-    (alloc $size:expr, $min:expr, $max:expr, $entry:expr) => {
-        Call::Alloc { size: $size, min: $min, max: $max, entry: $entry }
-    };
-    (ralloc $size:expr, $min:expr, $max:expr, $entry:expr) => {
-        Call::Ralloc { size: $size, min: $min, max: $max, entry: $entry }
-    };
-    (gap $size:expr, $min:expr, $max:expr) => {
-        Call::Gap { size: $size, min: $min, max: $max }
-    };
-    (rgap $size:expr, $min:expr, $max:expr) => {
-        Call::Rgap { size: $size, min: $min, max: $max }
-    };
-}
+//! Stories of calls on a sorted list.
 
 mod stories;
 
 use crate::asserts::same;
-use crate::lists::stories::{ABOVE, NARROW, Story, WIDE};
+use crate::tests::lists::stories::{ABOVE, NARROW, Story, WIDE};
 use mt_base::NoMemory;
 use mt_list::{ListMap, Ranges};
 use std::alloc::Global;

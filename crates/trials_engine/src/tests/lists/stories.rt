@@ -12,12 +12,6 @@ pub struct Story {
     pub queries: &'static [(Query, Option<Range>)],
 }
 
-macro_rules! range {
-    ($first:expr, $last:expr, $entry:expr) => {
-        Range { first: $first, last: $last, entry: $entry }
-    };
-}
-
 /// A query, by its verb and its numbers.
 macro_rules! query {
     (load $index:expr) => { Query::Load { index: $index } };
