@@ -1,14 +1,7 @@
 -- What the proofs beside this file take from the toolchain, from the crates below and from this crate's definitions, under one name. Declares nothing.
-pub use Rattle.std.proofs.Common.{Bool, List, [], ap, arith, eq-eqb, if◌then◌else◌, inl, inr, length, length-append, refl, rules, subst, sym, true, vec_len, ℕ, ◌*◌, ◌++◌, ◌+◌, ◌-◌, ◌==◌, ◌∙◌, ◌∷◌, ◌≡◌, ◌≤◌}
-pub use Rattle.std.proofs.Math.Seq.{take-append_seam}
-pub use Rattle.std.proofs.lemmas.List.Elements.{All-from_recursion}
-pub use Rattle.std.specs.List.{AllByRecursion, range_with_len}
-pub use Rattle.std.specs.Prelude.{All, Err, IfErr, IfOk, MatchOption, None, Ok, Option, Result, Some, fold, is_some, map, take}
-pub use Rattle.mt_base.specs.Call.{acted, erased, placed}
-pub use Rattle.mt_base.specs.History.{AreLegalFrom, History, IsAnswered, IsLegal, Record, limits_after, map_after, map_at}
-pub use Rattle.mt_base.specs.Map.{holding}
-pub use Rattle.mt_base.specs.Nodes.{Limits}
-pub use Rattle.mt_base.specs.Passes.{Pass, Saw, Wrote, new_pass, places, places_from, with_records}
+pub use Rattle.std.proofs.Common.{All, Bool, Err, IfErr, IfOk, List, MatchOption, None, Ok, Option, Result, Some, [], ap, arith, eq-eqb, fold, if◌then◌else◌, inl, inr, is_some, length, length-append, map, refl, rules, subst, sym, take, true, vec_len, ℕ, ◌*◌, ◌++◌, ◌+◌, ◌-◌, ◌==◌, ◌∙◌, ◌∷◌, ◌≡◌, ◌≤◌}
+pub use Rattle.mt_base.proofs.Std.{All-from_recursion, AllByRecursion, range_with_len, take-append_seam}
+pub use Rattle.mt_base.specs.Names.{AreLegalFrom, History, IsAnswered, IsLegal, Limits, Pass, Record, Saw, Wrote, acted, erased, holding, limits_after, map_after, map_at, new_pass, placed, places, places_from, with_records}
 pub use Rattle.mt_base.specs.declared.calls.Call.{Call}
 pub use Rattle.mt_base.specs.declared.calls.Call.TheVariants.{Erase}
 pub use Rattle.mt_base.specs.declared.kinds.Kind.{Kind}

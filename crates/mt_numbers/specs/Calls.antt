@@ -8,11 +8,7 @@ use Rattle.mt_base.specs.declared.replies.Reply.{Reply}
 use Rattle.mt_base.specs.declared.replies.Reply.TheVariants as replies
 use Rattle.mt_base.specs.declared.kinds.Kind.TheVariants as kinds
 use Rattle.mt_base.specs.declared.ranges.Range.{Range}
-use Rattle.mt_base.specs.History.{Record, limits_after, map_at}
-use Rattle.mt_base.specs.Holes.{low}
-use Rattle.mt_base.specs.Map.{holding}
-use Rattle.mt_base.specs.Nodes.{Limits, IsShort}
-use Rattle.mt_base.specs.Passes.{Pass, Wrote, places, with_records}
+use Rattle.mt_base.specs.Names.{Record, limits_after, map_at, low, holding, Limits, IsShort, Pass, Wrote, places, with_records}
 use Rattle.mt_numbers.specs.declared.numbers.TheConstants.{NUMBERS}
 use Rattle.mt_numbers.specs.declared.shared.TheConstants.{TAKEN}
 use Rattle.mt_base.specs.declared.outcomes.Done.{Done}

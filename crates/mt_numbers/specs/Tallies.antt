@@ -1,7 +1,6 @@
 -- What a taker's tally says, and what is printed of a thread's work.
 -- Source: this project's own.
-use Rattle.std.specs.Prelude.{◌≡◌, ℕ, ◌+◌, ◌≤◌, List, ◌++◌, codes}
-use Rattle.std.specs.Fmt.{decimal}
+use Rattle.std.specs.Prelude.{◌≡◌, ℕ, ◌+◌, ◌≤◌, List, ◌++◌, codes, decimal}
 use Rattle.mt_numbers.specs.declared.crews.ThreadOutcome.{ThreadOutcome}
 use Rattle.mt_numbers.specs.declared.crews.ThreadOutcome.TheVariants.{Took, Read}
 use Rattle.mt_numbers.specs.declared.readers.TheConstants.{READS}

@@ -1,8 +1,7 @@
 -- A call at work: the rows that it begins with, and what they tell.
-use Rattle.mt_tree.proofs.Prelude.{◌≡◌, ℕ, ◌≤◌, ◌<◌, ◌∷◌, ◌++◌, [], Option, Some, None, length, refl, sym, ap, ◌∙◌, subst, arith, length-map, length-append, Badge, Call, Reply, History, last_map, with_records, Parts, sheet_told, shown_all, told_of, map_by, with_record, Rooted, Sheet, Told, Pass, PenPart, Shape, TurnView, record_of, records_of, Identity, pass_in, turn_seat, WasShown, Tools, Tree, Behind, behind_lock, parts_of, IsAtRest, IsPenAtRest, limit_of, opened, passes_of, place_of, IsPassOf, records_told, shown_pass, IsSeatOf, IsWorker, AtWork}
+use Rattle.mt_tree.proofs.Prelude.{◌≡◌, ℕ, ◌≤◌, ◌<◌, ◌∷◌, ◌++◌, [], Option, Some, None, length, refl, sym, ap, ◌∙◌, subst, arith, length-map, length-append, Badge, Call, Reply, History, last_map, with_records, Parts, sheet_told, shown_all, told_of, map_by, with_record, Rooted, Sheet, Told, Pass, PenPart, Shape, TurnView, record_of, records_of, Identity, pass_in, turn_seat, WasShown, Tools, Tree, Behind, behind_lock, parts_of, IsAtRest, IsPenAtRest, limit_of, opened, passes_of, place_of, IsPassOf, records_told, shown_pass, IsSeatOf, IsWorker, AtWork, most_calls}
 use Rattle.mt_base.specs.Passes as known
 use Rattle.mt_tree.proofs.Reading.{map_is}
-use Rattle.mt_base.specs.Limits.{most_calls}
 
 -- the seat of the pass that works
 pub seat_of : (t : Tree) (p : Pass) (turn : Badge TurnView) → turn ≡ turn_seat p → IsPassOf t p → IsSeatOf t turn

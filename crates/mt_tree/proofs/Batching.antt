@@ -1,6 +1,5 @@
 -- Calls that are made one after another under one lock: what holds when some of them have been made.
-use Rattle.std.proofs.lemmas.List.{get_or-map, get_or_default, take_more}
-use Rattle.mt_tree.proofs.Prelude.{◌≡◌, ℕ, suc, ◌+◌, ◌-◌, ◌<◌, ◌≤◌, List, [], ◌∷◌, ◌++◌, Result, Ok, IfOk, IfErr, length, map, set, get_or, take, take_all, refl, sym, ap, ◌∙◌, subst, arith, length-append, length-map, Call, record_of, records_of, Done, Worn, Tree, Behind, after_show, opened, limit_of, IsWorn, WasMade, WasShown, Wrote}
+use Rattle.mt_tree.proofs.Prelude.{◌≡◌, ℕ, suc, ◌+◌, ◌-◌, ◌<◌, ◌≤◌, List, [], ◌∷◌, ◌++◌, Result, Ok, IfOk, IfErr, length, map, set, get_or, take, take_all, refl, sym, ap, ◌∙◌, subst, arith, length-append, length-map, Call, record_of, records_of, Done, Worn, Tree, Behind, after_show, opened, limit_of, IsWorn, WasMade, WasShown, Wrote, get_or-map, get_or_default, take_more}
 use Rattle.mt_base.specs.Passes as known
 use Rattle.mt_tree.specs.Batches.{AreMadeFrom, LacksCalls, WereMade, told_each}
 

@@ -1,5 +1,5 @@
 -- A copy of a tree is ready to open a tree with.
-use Rattle.mt_tree.proofs.Prelude.{◌≡◌, ℕ, zero, suc, ◌+◌, ◌<◌, ◌≤◌, Bool, true, false, List, [], length, get_or, replicate, refl, sym, ap, ◌∙◌, subst, arith, All, Contains, slice_index_or, if◌then◌else◌, All-nil, Contains-get_or, Kind, Range, first_row, Book, Held, IsBook, live_count, New, Live, Dead, Root, Rooted, Sheet, life_of, LiveAreReached, MayPlant, Planted, is_reached, map_by, with_published, reached_in, IsNewBut, IsBookOfCopy, IsUnheld, IsBookOf, live_is_reached, IsIdle, levelled, tree_if_lawful, IsReadyToOpen}
+use Rattle.mt_tree.proofs.Prelude.{◌≡◌, ℕ, zero, suc, ◌+◌, ◌<◌, ◌≤◌, Bool, true, false, List, [], length, get_or, replicate, refl, sym, ap, ◌∙◌, subst, arith, All, Contains, slice_index_or, if◌then◌else◌, All-nil, Contains-get_or, Kind, Range, first_row, Book, StampedRow, IsBook, live_count, New, Live, Dead, Root, Rooted, Sheet, life_of, LiveAreReached, MayPlant, Planted, is_reached, map_by, with_published, reached_in, IsNewBut, IsBookOfCopy, IsUnheld, IsBookOf, live_is_reached, IsIdle, levelled, tree_if_lawful, IsReadyToOpen}
 
 same_anywhere : {X : Type 0} (n i : ℕ) (x : X) → slice_index_or (replicate n x) i x ≡ x
 same_anywhere zero i x = refl
@@ -48,7 +48,7 @@ module _ (kind : Kind) (rows : ℕ) (s s' : Sheet) (root : ℕ) (book : Book) (s
     spare = λ i d low.
         let here = sound.free_rows i d low in
         subst (IsUnheld s.cleared) (sym (free_new (get_or book.free i d) (Contains-get_or book.free i d low) here.0 here.1)) tt;
-    stamps = subst (All (λ (h : Held). h.stamp < s.ended + 1)) (sym none_held) (All-nil (λ (h : Held). h.stamp < s.ended + 1));
+    stamps = subst (All (λ (h : StampedRow). h.stamp < s.ended + 1)) (sym none_held) (All-nil (λ (h : StampedRow). h.stamp < s.ended + 1));
   }
 
   idle : IsIdle kind s' book
@@ -62,7 +62,7 @@ module _ (kind : Kind) (rows : ℕ) (s s' : Sheet) (root : ℕ) (book : Book) (s
         none_buried = λ row low high. ap (λ (x : Sheet). slice_index_or x.buried row false) new.rest ∙ same_anywhere (first_row + rows) row false;
         booked = booked;
       };
-      held = subst (All (λ (h : Held). life_of s'.lives h.row ≡ Dead h.stamp)) (sym none_held) (All-nil (λ (h : Held). life_of s'.lives h.row ≡ Dead h.stamp));
+      held = subst (All (λ (h : StampedRow). life_of s'.lives h.row ≡ Dead h.stamp)) (sym none_held) (All-nil (λ (h : StampedRow). life_of s'.lives h.row ≡ Dead h.stamp));
       grown = (let live = live_is_reached copy s'.lives s.cleared kind book (s.ended + 1) (tree_if_lawful copy kind may.lawful) booked in omega (arith, live, ap length none_held));
     };
   })

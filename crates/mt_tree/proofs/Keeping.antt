@@ -1,19 +1,9 @@
 -- Calls that keep the reserve of a tree, and how the number of its ranges is kept under its lock.
-use Rattle.mt_tree.proofs.Prelude.{◌≡◌, ◌≤◌, ◌≢◌, ◌⊎◌, inl, inr, cases_lt, ℕ, true, false, List, Option, Result, Ok, Err, IfSome, length, refl, sym, ap, ◌∙◌, subst, arith, Call, Range, Reply, Record, acted, is_refusal, saw_wrote, tree_if_lawful, map_by, Parts, Rooted, Wrote, limits_after, records_of, Done, Worn, Look, Tools, Tree, Acts, Behind, IsAtRest, IsWorn, LacksRows, LeavesRoom, NoNodes, Wants, Shape, Shortage, LiesBehind, LookedBehind, NamesPass, Pass, WasAnsweredBy, WasPrepared, IsLeastBy, after_show, behind_lock, limit_of, opened}
-use Rattle.mt_base.proofs.PlainReplies.{IsPlain, acted_plainly}
-use Rattle.mt_base.specs.Map.{IsMap}
+use Rattle.mt_tree.proofs.Prelude.{◌≡◌, ◌≤◌, ◌≢◌, ◌⊎◌, inl, inr, cases_lt, ℕ, true, false, List, Option, Result, Ok, Err, IfSome, length, refl, sym, ap, ◌∙◌, subst, arith, Call, Range, Reply, Record, acted, is_refusal, saw_wrote, tree_if_lawful, map_by, Parts, Rooted, Wrote, limits_after, records_of, Done, Worn, Look, Tools, Tree, Acts, Behind, IsAtRest, IsWorn, LacksRows, LeavesRoom, NoNodes, Wants, Shape, Shortage, LiesBehind, LookedBehind, NamesPass, Pass, WasAnsweredBy, WasPrepared, IsLeastBy, after_show, behind_lock, limit_of, opened, IsCountBehind, IsPlain, acted_plainly, IsMap, tree_map, IsLookAt, Scan, BreaksReserve, HasReserve, IsCountAfter, IsReserveVerdict, most_after, range_count, rows_for, IsDecided, ReserveVerdict}
 use Rattle.mt_base.specs.Passes as known
-use Rattle.mt_engine.proofs.Slots.{tree_map}
-use Rattle.mt_tree.specs.Behind.{IsCounted}
 use Rattle.mt_tree.specs.Kept.{MadeKept, WasKept}
-use Rattle.mt_tree.specs.Looks.{IsLookAt}
-use Rattle.mt_tree.specs.Prelude.{Scan}
-use Rattle.mt_tree.specs.Reserve.{BreaksReserve, HasReserve, IsCountAfter, IsVerdict, most_after, ranges_of}
-use Rattle.mt_tree.specs.RowsFor.{rows_for}
-use Rattle.mt_tree.specs.Trees.{IsDecided}
 use Rattle.mt_tree.specs.declared.kept.Kept.{Kept}
 use Rattle.mt_tree.specs.declared.kept.Kept.TheVariants as kept
-use Rattle.mt_tree.specs.declared.reserve.Verdict.{Verdict}
 use Rattle.mt_tree.proofs.AtWork.{at_rest}
 use Rattle.mt_tree.proofs.Overwriting.{saw_on}
 use Rattle.mt_tree.proofs.RangeCounts.{few_acted, made_counts}
@@ -21,16 +11,16 @@ use Rattle.mt_tree.proofs.Reserving.{kept_through, never_short}
 
 -- ---- words that were only read
 
-pub counted_as : (ranges : Option ℕ) (b b' : Behind) → b'.parts.sheet.tree ≡ b.parts.sheet.tree → IsCounted ranges b → IsCounted ranges b'
+pub counted_as : (ranges : Option ℕ) (b b' : Behind) → b'.parts.sheet.tree ≡ b.parts.sheet.tree → IsCountBehind ranges b → IsCountBehind ranges b'
 counted_as ranges b b' same known = subst (λ (t : Rooted). IfSome ranges (λ n. n ≡ length (map_by t))) (sym same) known
 
-pub counted_looked : (t : Tree) (b b' : Behind) (p q : Pass) (ranges : Option ℕ) → LookedBehind t b b' p q → IsCounted ranges b → IsCounted ranges b'
+pub counted_looked : (t : Tree) (b b' : Behind) (p q : Pass) (ranges : Option ℕ) → LookedBehind t b b' p q → IsCountBehind ranges b → IsCountBehind ranges b'
 counted_looked t b b' p q ranges looked known = counted_as ranges b b' (ap (λ (x : Parts). x.sheet.tree) looked.state.parts) known
 
-pub counted_prepared : (t : Tree) (b b' : Behind) (ranges : Option ℕ) → WasPrepared t b b' → IsCounted ranges b → IsCounted ranges b'
+pub counted_prepared : (t : Tree) (b b' : Behind) (ranges : Option ℕ) → WasPrepared t b b' → IsCountBehind ranges b → IsCountBehind ranges b'
 counted_prepared t b b' ranges prepared known = counted_as ranges b b' (λ i. (prepared.sheet i).tree) known
 
-pub counted_least : (t : Tree) (calls : List Record) (b b' : Behind) (least : ℕ) (ranges : Option ℕ) → IsLeastBy t calls b b' least → IsCounted ranges b → IsCounted ranges b'
+pub counted_least : (t : Tree) (calls : List Record) (b b' : Behind) (least : ℕ) (ranges : Option ℕ) → IsLeastBy t calls b b' least → IsCountBehind ranges b → IsCountBehind ranges b'
 counted_least t calls b b' least ranges is known = counted_prepared t b b' ranges is.prepared known
 
 -- ---- a call that was made
@@ -42,7 +32,7 @@ map_at_rest tools rest =
 
 pub counted_after : (tools : Option Tools) (b' : Behind) (call : Call) (reply : Reply) (given before after : Option ℕ) → IsAtRest tools → (is_refusal reply ≡ true → b'.parts.sheet.tree ≡ (behind_lock tools).parts.sheet.tree)
     → (is_refusal reply ≡ false → Acts (behind_lock tools) b' call reply) → IfSome given (λ n. n ≡ length (acted (behind_lock tools).parts.kind (map_by (behind_lock tools).parts.sheet.tree) call).0)
-    → IsCounted before (behind_lock tools) → IsCountAfter given before call reply after → IsCounted after b'
+    → IsCountBehind before (behind_lock tools) → IsCountAfter given before call reply after → IsCountBehind after b'
 counted_after tools b' call reply given before after rest kept acts told known count =
     let b = behind_lock tools in
     made_counts b.parts.kind (map_by b.parts.sheet.tree) (map_by b'.parts.sheet.tree) call reply given before after (map_at_rest tools rest) (λ is. ap map_by (kept is)) acts told known count
@@ -52,14 +42,14 @@ map_behind t calls b lies = tree_map b.parts.sheet.tree b.parts.kind (tree_if_la
 
 -- by what the call says of what the lock protected
 pub counted_answered : (t : Tree) (q : known.Pass) (b b' : Behind) (call : Call) (d : Done) (given before after : Option ℕ) → WasAnsweredBy t q b b' call d → (is_refusal d.reply ≡ true → b'.parts.sheet.tree ≡ b.parts.sheet.tree)
-    → (is_refusal d.reply ≡ false → Acts b b' call d.reply) → IfSome given (λ n. n ≡ length (acted b.parts.kind (map_by b.parts.sheet.tree) call).0) → IsCounted before b → IsCountAfter given before call d.reply after → IsCounted after b'
+    → (is_refusal d.reply ≡ false → Acts b b' call d.reply) → IfSome given (λ n. n ≡ length (acted b.parts.kind (map_by b.parts.sheet.tree) call).0) → IsCountBehind before b → IsCountAfter given before call d.reply after → IsCountBehind after b'
 counted_answered t q b b' call d given before after was kept acts told known count =
     made_counts b.parts.kind (map_by b.parts.sheet.tree) (map_by b'.parts.sheet.tree) call d.reply given before after (map_behind t _ b was.before) (λ is. ap map_by (kept is)) acts told known count
 
 -- ---- what a verdict knows
 
-pub verdict_then : (t : Tree) (b b' : Behind) (p q : Pass) (call : Call) (v : Verdict) → LookedBehind t b b' p q → IsVerdict b.parts call v → IsVerdict b'.parts call v
-verdict_then t b b' p q call v looked is = subst (λ (e : Parts). IsVerdict e call v) (sym looked.state.parts) is
+pub verdict_then : (t : Tree) (b b' : Behind) (p q : Pass) (call : Call) (v : ReserveVerdict) → LookedBehind t b b' p q → IsReserveVerdict b.parts call v → IsReserveVerdict b'.parts call v
+verdict_then t b b' p q call v looked is = subst (λ (e : Parts). IsReserveVerdict e call v) (sym looked.state.parts) is
 
 -- ---- what came of it
 
@@ -91,10 +81,10 @@ module _ (t : Tree) (p m q : known.Pass) (b b' : Behind) (call : Call) (look : L
     keeps_there is.2,
   )
 
-pub counted_found : (b b' : Behind) (call : Call) (v : Verdict) → b'.parts ≡ b.parts → IsVerdict b.parts call v → IsCounted v.before b'
+pub counted_found : (b b' : Behind) (call : Call) (v : ReserveVerdict) → b'.parts ≡ b.parts → IsReserveVerdict b.parts call v → IsCountBehind v.before b'
 counted_found b b' call v same is = counted_as v.before b b' (ap (λ (x : Parts). x.sheet.tree) same) is.before
 
-pub broken_kept : (t : Tree) (p : known.Pass) (b : Behind) (call : Call) (v : Verdict) → v.breaks ≡ true → IsVerdict b.parts call v → MadeKept t p b b call (Ok kept.Broken) p
+pub broken_kept : (t : Tree) (p : known.Pass) (b : Behind) (call : Call) (v : ReserveVerdict) → v.breaks ≡ true → IsReserveVerdict b.parts call v → MadeKept t p b b call (Ok kept.Broken) p
 broken_kept t p b call v breaks is = (refl, refl, is.breaks.0 breaks)
 
 -- a call under the lock that was made, or that the tree has no place for
@@ -122,7 +112,7 @@ module _ (t : Tree) (q : known.Pass) (b b' : Behind) (call : Call) (d : Done) (w
       let same : lacks.refused.shortage ≡ s = cc in
       let rows = rows_behind t _ b was.before in
       subst (λ (x : Shortage). x.held ≢ 0) same
-      (never_short (limits_after (opened t) (length b.pen.history)) (map_by b.parts.sheet.tree) lacks.refused.shortage (subst (λ (n : ℕ). rows_for (ranges_of b.parts) ≤ n) rows has) lacks.refused.short)
+      (never_short (limits_after (opened t) (length b.pen.history)) (map_by b.parts.sheet.tree) lacks.refused.shortage (subst (λ (n : ℕ). rows_for (range_count b.parts) ≤ n) rows has) lacks.refused.short)
 
   acts_not : (s : Shortage) → d.reply ≡ NoNodes s → Acts b b' call d.reply → ⊥
   acts_not s told acts = acts_plainly b b' call s (subst (Acts b b' call) told acts)
@@ -133,19 +123,19 @@ module _ (t : Tree) (q : known.Pass) (b b' : Behind) (call : Call) (d : Done) (w
       let decided = was.answer.wants wants in
       lacks_held decided.scan s told (decided.lacks (λ room. acts_not s told (decided.room room))) none)).0
 
-  few_acts : Acts b b' call d.reply → ranges_of b'.parts ≤ most_after b.parts call
+  few_acts : Acts b b' call d.reply → range_count b'.parts ≤ most_after b.parts call
   few_acts acts =
       let few = few_acted b.parts.kind (map_by b.parts.sheet.tree) (map_behind t _ b was.before) call in
-      let all : length (acted b.parts.kind (map_by b.parts.sheet.tree) call).0 ≡ ranges_of b'.parts = ap (λ (x : List Range × Reply). length x.0) acts in
+      let all : length (acted b.parts.kind (map_by b.parts.sheet.tree) call).0 ≡ range_count b'.parts = ap (λ (x : List Range × Reply). length x.0) acts in
       omega (arith, few, all)
 
-  same_kept : b'.parts.sheet.tree ≡ b.parts.sheet.tree → ranges_of b'.parts ≤ ranges_of b.parts
+  same_kept : b'.parts.sheet.tree ≡ b.parts.sheet.tree → range_count b'.parts ≤ range_count b.parts
   same_kept kept = let all = ap (λ (x : Rooted). length (map_by x)) kept in omega (arith, all)
 
   module _ (not : BreaksReserve b.parts call → ⊥) where
-    still : (ranges_of b'.parts ≤ most_after b.parts call) ⊎ (ranges_of b'.parts ≤ ranges_of b.parts) → HasReserve b'.parts
+    still : (range_count b'.parts ≤ most_after b.parts call) ⊎ (range_count b'.parts ≤ range_count b.parts) → HasReserve b'.parts
     still few =
-        let kept = kept_through (ranges_of b.parts) (most_after b.parts call) (ranges_of b'.parts) b.parts.sheet.tree.rows has few (λ both. not (record { adds = both.0; few = both.1 })) in
+        let kept = kept_through (range_count b.parts) (most_after b.parts call) (range_count b'.parts) b.parts.sheet.tree.rows has few (λ both. not (record { adds = both.0; few = both.1 })) in
         let rows = rows_behind t _ b was.before in
         let rows' = rows_behind t _ b' was.after in
         omega (arith, kept, rows, rows')
@@ -163,7 +153,7 @@ module _ (t : Tree) (q : known.Pass) (b b' : Behind) (call : Call) (d : Done) (w
         lost (still (inl (few_acts acts.0)))
 
     pub reserve_lasts : HasReserve b'.parts
-    reserve_lasts = elim (cases_lt b'.parts.sheet.tree.rows (rows_for (ranges_of b'.parts))) [
+    reserve_lasts = elim (cases_lt b'.parts.sheet.tree.rows (rows_for (range_count b'.parts))) [
       | inr enough ↦ enough
       | inl few ↦ absurd (keeps (λ has'. omega (arith, few, has')))
     ]

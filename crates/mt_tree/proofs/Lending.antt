@@ -1,5 +1,5 @@
 -- A tree that was lent is the same tree, of which its passes are; and one that is locked goes on from what its pass has seen.
-use Rattle.mt_tree.proofs.Prelude.{◌≡◌, ◌+◌, List, Option, Result, Ok, Err, IfOk, IfErr, length, sym, ap, ◌∙◌, arith, subst, length-map, Seat, Record, Pass, TurnView, record_of, records_of, pass_in, Done, Worn, Tree, Behind, after_show, IsOpen, IsPassOf, IsWorn}
+use Rattle.mt_tree.proofs.Prelude.{◌≡◌, ◌+◌, List, Option, Result, Ok, Err, IfOk, IfErr, length, sym, ap, ◌∙◌, arith, subst, length-map, Seat, Record, Pass, TurnView, record_of, records_of, pass_in, Done, Worn, Tree, Behind, after_show, IsOpen, IsPassOf, IsWorn, LookedBehind, LookedUnder}
 
 pub still_of : (t t' : Tree) (p : Pass) → t ≡ t' → IsPassOf t p → IsPassOf t' p
 still_of t t' p same of = subst (λ (x : Tree). IsPassOf x p) same of
@@ -15,3 +15,10 @@ pub none_since : (p q : Pass) (t : Tree) (b b' : Behind) (seat : Seat (Option Be
     → IfErr made (λ w. IsWorn t (pass_in p) w (pass_in q) × (b' ≡ after_show b)) → IfErr made (λ w. (pass_in q).seen ≡ (pass_in p).seen)
 none_since p q t b b' seat (Ok d) here seen is = tt
 none_since p q t b b' seat (Err w) here seen is = seen ∙ (ap (λ (x : Behind). records_of x.pen.history) is.1 ∙ sym here.seen)
+
+-- a look by a handle that holds the lock leaves what that knows
+pub looked_under : (t : Tree) (p q : Pass) (b b' : Behind) (seat : Seat (Option Behind) TurnView) → IsOpen t p b seat → LookedBehind t b b' p q → LookedUnder t b b' p q
+looked_under t p q b b' seat here looked =
+    let seen : (pass_in q).seen ≡ (pass_in p).seen = looked.seen ∙ (looked.state.records ∙ sym here.seen) in
+    let ended : length (pass_in q).seen ≡ (pass_in p).ended = ap (λ (rs : List Record). length rs) seen ∙ sym here.ended in
+    record { behind = looked.state; rests = looked.rests; pass = looked.saw.pass ∙ (λ i. record (pass_in p) { seen = seen i; ended = ended i }); words = looked.words }

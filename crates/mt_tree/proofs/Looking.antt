@@ -1,8 +1,6 @@
 -- What is told of a tree that was looked at under its lock: how it uses its rows, the least epoch at which a section stood open,
 -- and the form and the image of its words.
-use Rattle.mt_tree.proofs.Prelude.{◌≡◌, ℕ, ◌≤◌, List, Option, None, Some, Result, IfOk, IfOk-weaker, length, min, sym, ap, refl, ◌∙◌, subst, length-map, Kind, Record, IsIdle, HasHeight, IsScanned, Book, live_count, Sheet, Identity, Shape, Form, form_of, tree_as, IsImageOf, few_reached, live_rows, record_of, records_of, Tools, Stats, Look, Tree, Behind, behind_lock, IsAtRest, IsPenAtRest, AreWordsOf, LiesBehind, IsFormBehind, IsImagedBehind, IsLeastBy, IsLookAt, IsOldest, IsStatsOf, TellsRows, map_seen, opened, place_of, words_in}
-use Rattle.std.specs.Global.{Global}
-use Rattle.std.specs.Prelude.{Vec}
+use Rattle.mt_tree.proofs.Prelude.{◌≡◌, ℕ, ◌≤◌, List, Option, None, Some, Result, IfOk, IfOk-weaker, length, min, sym, ap, refl, ◌∙◌, subst, length-map, Kind, Record, IsIdle, HasHeight, IsScanned, Book, live_count, Sheet, Identity, Shape, Form, form_of, tree_as, IsImageOf, few_reached, live_rows, record_of, records_of, Tools, Stats, Look, Tree, Behind, behind_lock, IsAtRest, IsPenAtRest, AreWordsOf, LiesBehind, IsFormBehind, IsImagedBehind, IsLeastBy, IsLookAt, IsOldest, IsStatsOf, TellsRows, map_seen, opened, place_of, looked_words, Global, Vec}
 use Rattle.mt_base.specs.declared.memory.NoMemory.{NoMemory}
 use Rattle.mt_base.specs.Passes as known
 use Rattle.mt_tree.proofs.AtWork.{same_shape}
@@ -22,9 +20,9 @@ scanned_as kind e s s' e' b book book' b' one two three four scan = subst (λ (x
 
 -- ---- the least epoch
 
-pub is_oldest : (t : Tree) (p : known.Pass) (b b' : Behind) (look : Look) (least ended calls : ℕ) → look.took.value ≡ b → look.left.value ≡ b' → IsLeastBy t p.seen b b' least → p.seen ≡ records_of b'.pen.history → ended ≡ length b'.pen.history → calls ≡ min least ended → IsOldest t p (calls, look)
-is_oldest t p b b' look least ended calls took left is seen count told =
-    let all : ended ≡ length p.seen = count ∙ (sym (length-map b'.pen.history record_of) ∙ ap (λ (rs : List Record). length rs) (sym seen)) in
+pub is_oldest : (t : Tree) (p : known.Pass) (b b' : Behind) (look : Look) (least ended calls : ℕ) → look.took.value ≡ b → look.left.value ≡ b' → IsLeastBy t p.seen b b' least → ended ≡ length b'.pen.history → calls ≡ min least ended → IsOldest t p (calls, look)
+is_oldest t p b b' look least ended calls took left is count told =
+    let all : ended ≡ length p.seen = count ∙ (sym (length-map b'.pen.history record_of) ∙ ap (λ (rs : List Record). length rs) is.after.records) in
     record {
       least = least;
       by = subst (λ (x : Behind × Behind). IsLeastBy t p.seen x.0 x.1 least) (λ k. (sym took k, sym left k)) is;
@@ -49,11 +47,11 @@ tells_rows tools s rows rest many all free live held height calls =
 -- ---- what the lock protected when it was taken
 
 -- as many nodes were in use as the tree has, at the most
-pub looked_few : (t : Tree) (q : known.Pass) (look : Look) → IsLookAt t q look → live_rows (words_in look) ≤ (opened t).rows
+pub looked_few : (t : Tree) (q : known.Pass) (look : Look) → IsLookAt t q look → live_rows (looked_words look) ≤ (opened t).rows
 looked_few t q look at =
-    let few = few_reached look.took.value.parts.kind (words_in look) at.kept.idle.state.kept.lawful in
-    let many : (words_in look).rows ≡ (opened t).rows = at.kept.of.rows ∙ ap (λ (s : Shape). s.rows) at.shape in
-    subst (λ (n : ℕ). live_rows (words_in look) ≤ n) many few
+    let few = few_reached look.took.value.parts.kind (looked_words look) at.kept.idle.state.kept.lawful in
+    let many : (looked_words look).rows ≡ (opened t).rows = at.kept.of.rows ∙ ap (λ (s : Shape). s.rows) at.shape in
+    subst (λ (n : ℕ). live_rows (looked_words look) ≤ n) many few
 
 pub lies_there : (t : Tree) (tools : Option Tools) (b : Behind) → behind_lock tools ≡ b → IsAtRest tools → b.table ≡ place_of t → LiesBehind t (records_of b.pen.history) b
 lies_there t None b is rest table = absurd rest
@@ -72,7 +70,7 @@ module _ (t : Tree) (q : known.Pass) (b : Behind) (look : Look) (took : look.too
   pub is_stats : (s : Stats) → TellsRows b s → IsStatsOf t q (s, look)
   is_stats s tells = (look_at, subst (λ (x : Behind). TellsRows x s) (sym took) tells)
 
-  words_there : words_in look ≡ b.parts.sheet.tree
+  words_there : looked_words look ≡ b.parts.sheet.tree
   words_there = ap (λ (x : Behind). x.parts.sheet.tree) took
 
   pub form_there : (form : Form) → AreWordsOf (opened t).kind (opened t).rows (map_seen t q) b.parts.sheet.tree → form ≡ form_of (tree_as (opened t).kind b.parts.sheet.tree) → IsFormBehind t q (form, look)

@@ -1,5 +1,5 @@
 -- A tree that opens: its pen, its rows and its passes.
-use Rattle.mt_tree.proofs.Prelude.{◌≡◌, ℕ, zero, suc, ◌+◌, ◌<◌, ◌≤◌, Bool, true, false, List, [], ◌∷◌, Option, Some, length, map, get_or, replicate, refl, sym, ap, ◌∙◌, subst, arith, All, Contains, slice_get, slice_index_or, option_map, unwrap_or, if◌then◌else◌, range_with_len, zero-min, length-map, All-nil, Contains-get_or, slice_get-map, slice_get-get_or, slice_get_within, get_or-map-range_with_len, Kind, new_pass, first_row, Book, Held, live_count, Life, New, Live, Dead, one_if, HasDied, IsWhole, Rooted, Sheet, life_of, IsLawfulOf, LiveAreReached, is_reached, map_by, IsUnheld, IsBookOf, live_is_reached, IsEngineState, IsIdle, IsState, HasHeight, levelled, tree_if_lawful, OpensSmall, Pass, PenPart, Shape, least_number, new_pen, opening_life, rooted_in, pen_sheet, tree_of, shape_opened, pass_in, IsSeatedAt, parts_of, IsPenAtRest, Tree, passes_of, place_of, AreAll, IsNew}
+use Rattle.mt_tree.proofs.Prelude.{◌≡◌, ℕ, zero, suc, ◌+◌, ◌<◌, ◌≤◌, Bool, true, false, List, [], ◌∷◌, Option, Some, length, map, get_or, replicate, refl, sym, ap, ◌∙◌, subst, arith, All, Contains, slice_get, slice_index_or, option_map, unwrap_or, if◌then◌else◌, range_with_len, zero-min, length-map, All-nil, Contains-get_or, slice_get-map, slice_get-get_or, slice_get_within, get_or-map-range_with_len, Kind, new_pass, first_row, Book, StampedRow, live_count, Life, New, Live, Dead, one_if, HasDied, IsWhole, Rooted, Sheet, life_of, IsLawfulOf, LiveAreReached, is_reached, map_by, IsUnheld, IsBookOf, live_is_reached, IsEngineState, IsIdle, IsState, HasHeight, levelled, tree_if_lawful, OpensSmall, Pass, PenPart, Shape, least_number, new_pen, opening_life, rooted_in, pen_sheet, tree_of, shape_opened, pass_in, IsSeatedAt, parts_of, IsPenAtRest, Tree, passes_of, place_of, AreAll, IsNew}
 use Rattle.mt_base.specs.Passes as known
 use Rattle.mt_rule.specs.Tokens as rule
 use Rattle.mt_tree.specs.declared.shapes.Shape.{Shape as Shape'}
@@ -58,7 +58,7 @@ module _ (kind : Kind) (s : Sheet) (passes calls : ℕ) (book : Book) (idle : Is
       let low = d.0 in
       omega (arith, low, high, none, ap one_if idle.idle)
 
-  held_of : (held : List Held) → All (λ (h : Held). life_of s.lives h.row ≡ Dead h.stamp) held → held ≡ []
+  held_of : (held : List StampedRow) → All (λ (h : StampedRow). life_of s.lives h.row ≡ Dead h.stamp) held → held ≡ []
   held_of [] dead = refl
   held_of (h ∷ held) dead = absurd (dead_none (life_of s.lives h.row) h.stamp (whole.dead h.row) (dead 0 h (omega arith)))
 
@@ -74,7 +74,7 @@ module _ (kind : Kind) (s : Sheet) (passes calls : ℕ) (book : Book) (idle : Is
     spare = λ i d low.
         let here = booked.sound.free_rows i d low in
         subst (IsUnheld 0) (sym (free_new (get_or book.free i d) (Contains-get_or book.free i d low) (let h = here.1 in let r = booked.rows in omega (arith, h, r)))) tt;
-    stamps = subst (All (λ (h : Held). h.stamp < 1)) (sym none_held) (All-nil (λ (h : Held). h.stamp < 1));
+    stamps = subst (All (λ (h : StampedRow). h.stamp < 1)) (sym none_held) (All-nil (λ (h : StampedRow). h.stamp < 1));
   }
 
   grown : length book.held + live_count book ≤ shape.opened
@@ -94,7 +94,7 @@ module _ (kind : Kind) (s : Sheet) (passes calls : ℕ) (book : Book) (idle : Is
       none_buried = λ row low high. same_anywhere (first_row + s.tree.rows) row false;
       booked = booked_there;
     };
-    held = subst (All (λ (h : Held). life_of pen.lives h.row ≡ Dead h.stamp)) (sym none_held) (All-nil (λ (h : Held). life_of pen.lives h.row ≡ Dead h.stamp));
+    held = subst (All (λ (h : StampedRow). life_of pen.lives h.row ≡ Dead h.stamp)) (sym none_held) (All-nil (λ (h : StampedRow). life_of pen.lives h.row ≡ Dead h.stamp));
     grown = (let g = grown in omega (arith, g));
   })
 

@@ -1,21 +1,10 @@
 -- The ranges that a store meets, as a walk tells them, and the store behind it.
-use Rattle.mt_tree.proofs.Prelude.{◌≡◌, ◌∙◌, ◌+◌, ◌-◌, ◌<◌, ◌≤◌, ℕ, Bool, true, List, [], ◌∷◌, ◌++◌, Option, Some, None, Result, Ok, Err, IfOk, IfErr, length, map, set, take, take-append_seam, refl, sym, ap, subst, arith, inl, inr, nat_le, if◌then◌else◌, length-append, length-map, append-nil, AllByRecursion, History, Kind, Range, Call, Record, OnlyReads, Rooted, Sheet, deepest, map_by, record_of, records_of, saw_wrote, Done, Worn, Tree, Behind, after_show, opened, limit_of, map_seen, IsWorn, NamesPass, WasAnsweredBy, WasMade, Wrote}
+use Rattle.mt_tree.proofs.Prelude.{◌≡◌, ◌∙◌, ◌+◌, ◌-◌, ◌<◌, ◌≤◌, ℕ, Bool, true, List, [], ◌∷◌, ◌++◌, Option, Some, None, Result, Ok, Err, IfOk, IfErr, length, map, set, take, take-append_seam, refl, sym, ap, subst, arith, inl, inr, nat_le, if◌then◌else◌, length-append, length-map, append-nil, AllByRecursion, History, Kind, Range, Call, Record, OnlyReads, Rooted, Sheet, deepest, map_by, record_of, records_of, saw_wrote, Done, Worn, Tree, Behind, after_show, opened, limit_of, map_seen, IsWorn, NamesPass, WasAnsweredBy, WasMade, Wrote, begins_long, begins_on, IsMapFrom, overlaps, greatest, tree_map, tree_within, none_given, one_given, ranges_from, reads_on, IsTreeOf, TellsMet, map_met, ranges_met, cases_Bool, le-leb, leb-false, lt-leb, append_assoc, map-append, root_span}
 use Rattle.std.specs.Prelude.{◌^◌, drop, filter}
-use Rattle.std.proofs.lemmas.Bool.{cases_Bool, le-leb, leb-false, lt-leb}
-use Rattle.std.proofs.lemmas.List.{append_assoc, map-append}
-use Rattle.mt_base.proofs.Goings.{begins_long, begins_on}
-use Rattle.mt_base.specs.Map.{IsMapFrom, overlaps}
 use Rattle.mt_base.specs.Passes as known
-use Rattle.mt_base.specs.Width.{greatest}
-use Rattle.mt_rows.proofs.Loads.{reads_on}
-use Rattle.mt_rows.specs.Publish.{IsTreeOf}
-use Rattle.mt_rows.specs.Spans.{root_span}
 use Rattle.mt_check.proofs.Counts.{ranges_fit}
-use Rattle.mt_engine.proofs.Slots.{tree_map, tree_within}
-use Rattle.mt_engine.proofs.Walking.{none_given, one_given, ranges_from}
 use Rattle.mt_engine.specs.RangeWalks.{WalksFrom, found_from, index_behind, index_in}
 use Rattle.mt_engine.specs.declared.range_walk.RangeWalk.{RangeWalk}
-use Rattle.mt_tree.specs.Overwrites.{TellsMet, map_met, ranges_met}
 
 -- ---- a buffer
 

@@ -1,22 +1,6 @@
 -- How many ranges there are after a call.
-use Rattle.mt_tree.proofs.Prelude.{◌≡◌, ◌∙◌, ℕ, suc, ◌+◌, ◌-◌, ◌<◌, ◌≤◌, Bool, true, false, List, [], ◌∷◌, ◌++◌, Option, Some, None, IfSome, length, nat_lt, nat_le, refl, sym, ap, subst, arith, inl, inr, Range, Kind, Call, Reply}
-use Rattle.std.specs.Prelude.{◌==◌}
-use Rattle.std.proofs.lemmas.Bool.{cases_Bool, le-leb, lt-leb}
-use Rattle.std.specs.Prelude.{filter, not, ◌||◌, ◌&&◌}
-use Rattle.std.proofs.lemmas.Bool.{cases_lt, cond_both, le-ltb, lt-ltb, or_parts}
-use Rattle.std.proofs.lemmas.List.{length-append}
-use Rattle.mt_base.proofs.CallsKeepOrder.{stored_area, valid_order}
-use Rattle.mt_base.proofs.FreeAreas.{high_is_room, low_is_room}
-use Rattle.mt_base.specs.Call.{acted, erased, is_bad_area, is_invalid, is_no_area, placed}
-use Rattle.mt_base.specs.Entry.{reserved}
-use Rattle.mt_base.specs.Holes.{IsRoom, high, low}
-use Rattle.mt_base.specs.Map.{IsMap, IsMapFrom, holding, holds, is_held, over, overlaps, part_stored, parts_above, parts_below, without}
-use Rattle.mt_base.specs.declared.calls.Call.TheVariants.{Store, StorePre, Insert, Erase, Alloc, Ralloc, Gap, Rgap, Clear}
+use Rattle.mt_tree.proofs.Prelude.{◌≡◌, ◌∙◌, ℕ, suc, ◌+◌, ◌-◌, ◌<◌, ◌≤◌, Bool, true, false, List, [], ◌∷◌, ◌++◌, Option, Some, None, IfSome, length, nat_lt, nat_le, refl, sym, ap, subst, arith, inl, inr, Range, Kind, Call, Reply, stored_area, valid_order, acted, erased, is_bad_area, is_invalid, is_no_area, placed, IsRoom, high, low, IsMap, IsMapFrom, holding, holds, is_held, over, overlaps, part_stored, parts_above, parts_below, without, Store, StorePre, Insert, Erase, Alloc, Ralloc, Gap, Rgap, Clear, is_refusal, ranges_met, IsChange, IsCountAfter, IsCountBy, IsCountDone, IsCountGiven, part_before, part_behind, part_own, ranges_after, Change, ◌==◌, filter, not, ◌||◌, ◌&&◌, length-append, cases_Bool, le-leb, lt-leb, cases_lt, cond_both, le-ltb, lt-ltb, or_parts, high_is_room, low_is_room, reserved}
 use Rattle.mt_base.specs.declared.replies.Reply.TheVariants as answers
-use Rattle.mt_engine.specs.Engine.{is_refusal}
-use Rattle.mt_tree.specs.Overwrites.{ranges_met}
-use Rattle.mt_tree.specs.Reserve.{IsChange, IsCountAfter, IsCountBy, IsCountDone, IsCountGiven, part_before, part_behind, part_own, ranges_after}
-use Rattle.mt_tree.specs.declared.counts.Change.{Change}
 
 -- ---- a store where no range is
 

@@ -1,12 +1,5 @@
 -- The rows that surely hold so many ranges.
-use Rattle.mt_tree.proofs.Prelude.{◌≡◌, ℕ, zero, suc, ◌<◌, ◌≤◌, List, Bool, length, refl, sym, ap, subst, ◌∙◌, arith, ◌+◌, ◌-◌, ◌*◌, if◌then◌else◌, Range, Shortage, IsShort}
-use Rattle.std.proofs.Common.{◌^◌}
-use Rattle.std.proofs.lemmas.Bool.{le-leb, lt-leb}
-use Rattle.std.proofs.Math.Nat.{mul_assoc, mul_comm, pow-succ'}
-use Rattle.mt_base.specs.Nodes.{Limits}
-use Rattle.mt_tree.specs.Prelude.{most_rows}
-use Rattle.mt_base.proofs.Shortages.{few_unheld}
-use Rattle.mt_tree.specs.RowsFor.{level_from, levels_for, levels_from, rows_for, rows_told}
+use Rattle.mt_tree.proofs.Prelude.{◌≡◌, ℕ, zero, suc, ◌<◌, ◌≤◌, List, Bool, length, refl, sym, ap, subst, ◌∙◌, arith, ◌+◌, ◌-◌, ◌*◌, if◌then◌else◌, Range, Shortage, IsShort, few_unheld, Limits, most_rows, level_from, levels_for, levels_from, rows_for, rows_told, ◌^◌, mul_assoc, mul_comm, pow-succ', le-leb, lt-leb}
 
 -- ---- levels
 
@@ -73,3 +66,6 @@ module _ (ranges : ℕ) where
 
   pub told_far : 2 * most_rows < ranges → 2 ^ 64 - 1 ≡ rows_told ranges
   told_far far = told_many (omega (arith, far))
+
+-- what `rows_enough` goes by
+pub ruleset telling = (enough, enough_far, told_rows, told_many, told_far)

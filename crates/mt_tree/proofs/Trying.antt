@@ -1,5 +1,5 @@
 -- A pass that has gone for the lock is one of its tree's, and knows what it knew.
-use Rattle.mt_tree.proofs.Prelude.{◌≡◌, ℕ, zero, suc, ◌≤◌, ◌<◌, List, [], ◌∷◌, Some, Result, Ok, Err, IfOk, IfErr, length, map, set, get_or, refl, sym, ap, ◌∙◌, subst, arith, slice_get, Call, Pass, pass_in, steps_made, turn_seat, IsSeatedAt, tried, Done, Worn, Tree, Behind, after_show, opened, limit_of, AreAll, IsPassOf, IsWorn, NamesPass, Rests, TriesOnce, WasAnsweredBy, WasMade, first_tried}
+use Rattle.mt_tree.proofs.Prelude.{◌≡◌, ℕ, zero, suc, ◌≤◌, ◌<◌, List, [], ◌∷◌, Some, Result, Ok, Err, IfOk, IfErr, length, map, set, get_or, refl, sym, ap, ◌∙◌, subst, arith, slice_get, Call, Pass, pass_in, steps_made, turn_seat, IsSeatedAt, tried, Done, Worn, Tree, Behind, after_show, opened, limit_of, AreAll, IsPassOf, IsWorn, NamesPass, Rests, TriesOnce, WasAnsweredBy, WasMade, first_tried, Look, WasFound}
 use Rattle.mt_base.specs.Passes as known
 use Rattle.mt_tree.proofs.Lists.{some_same}
 
@@ -32,6 +32,11 @@ was_made t p q r call made b b' is done named answered worn = subst (λ (x : kno
         → IfErr made (λ w. IsWorn t q w r × (b' ≡ after_show b)) → WasMade t q call made r
     by (Ok d) done named answered worn = record { done = done; named = named; answered = (b, b', answered); worn = tt }
     by (Err w) done named answered worn = record { done = tt; named = tt; answered = tt; worn = worn.0 }
+
+-- what was found under the lock
+pub found_at : {A : Type 0} (is : Tree → known.Pass → A × Look → Type 0) (t : Tree) (p m q : Pass) (found : A × Look) → TriesOnce p m → pass_in m ≡ pass_in p → IsPassOf t q → known.Saw (opened t) (pass_in m) (pass_in q) → Rests m q → is t (pass_in q) found → WasFound is t p (Ok found) q
+found_at is t p m q found tries knows of saw rests said =
+    record { of = of; saw = subst (λ (x : known.Pass). known.Saw (opened t) x (pass_in q)) knows saw; said = said; busy = tt; kept = tt; tries = tries_once p m q tries rests }
 
 -- ---- the first of some passes
 

@@ -1,7 +1,6 @@
 -- A locked tree as one that gives single indexes.
 -- Source: this project's own; the kernel's mtree_alloc_cyclic makes its calls under one lock.
-use Rattle.std.specs.Prelude.{ℕ, ◌-◌, ◌==◌, Bool, false, List, Option, Some, None, length, slice_get}
-use Rattle.std.specs.Option.{option_map}
+use Rattle.std.specs.Prelude.{ℕ, ◌-◌, ◌==◌, Bool, false, List, Option, Some, None, length, slice_get, option_map}
 use Rattle.mt_tree.specs.Prelude.{Record, Allocation, Made}
 use Rattle.mt_base.specs.Passes as known
 use Rattle.mt_tree.specs.declared.trees.Tree.{Tree}

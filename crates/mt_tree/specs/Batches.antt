@@ -1,10 +1,8 @@
 -- Several calls of one pass (handle) that are made under one lock, and the answer of each.
 -- Source: this project's own; the kernel's mas_lock, under which a caller makes several calls.
 use Rattle.std.specs.Prelude.{◌≡◌, ℕ, ◌+◌, ◌<◌, List, [], ◌∷◌, Ok, length, map}
-use Rattle.mt_tree.specs.Prelude.{Call}
+use Rattle.mt_tree.specs.Prelude.{Call, Done, Worn}
 use Rattle.mt_base.specs.Passes as known
-use Rattle.mt_base.specs.declared.outcomes.Done.{Done}
-use Rattle.mt_base.specs.declared.outcomes.Worn.{Worn}
 use Rattle.mt_tree.specs.declared.trees.Tree.{Tree}
 use Rattle.mt_tree.specs.Trees.{opened, limit_of}
 use Rattle.mt_tree.specs.Tries.{WasMade}

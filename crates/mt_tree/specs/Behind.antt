@@ -45,8 +45,8 @@ IsAtRest (Some t) = IsAlone t.pen × IsPenAtRest (pen_in t.pen) (parts_of (pen_i
 IsAtRest None = ⊥
 
 -- how many ranges there are, if that is known
-abbrev pub IsCounted : Option ℕ → Behind → Type 0
-IsCounted ranges b = IfSome ranges (λ n. n ≡ length (map_by b.parts.sheet.tree))
+abbrev pub IsCountBehind : Option ℕ → Behind → Type 0
+IsCountBehind ranges b = IfSome ranges (λ n. n ≡ length (map_by b.parts.sheet.tree))
 
 -- what the lock protects when a handle was shown the history: no section word was loaded since
 abbrev pub after_show : Behind → Behind

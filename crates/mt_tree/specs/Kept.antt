@@ -2,8 +2,7 @@
 -- Source: this project's own.
 use Rattle.std.specs.Prelude.{◌≡◌, Result, Ok, Err}
 use Rattle.mt_base.specs.Passes as known
-use Rattle.mt_base.specs.declared.outcomes.Worn.{Worn}
-use Rattle.mt_tree.specs.Prelude.{Call, records_of}
+use Rattle.mt_tree.specs.Prelude.{Call, records_of, Worn}
 use Rattle.mt_tree.specs.Behind.{Behind}
 use Rattle.mt_tree.specs.Looks.{IsLookAt}
 use Rattle.mt_tree.specs.Reserve.{BreaksReserve}

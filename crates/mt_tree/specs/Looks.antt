@@ -1,12 +1,11 @@
 -- What is known of a tree by a look under its lock: how it uses its nodes, since when its sections are open, and the form and
 -- the image of its words.
 -- Source: this project's own; the kernel frees nodes when every reader has left its RCU read-side section.
-use Rattle.std.specs.Prelude.{◌≡◌, ℕ, List, Option, None, Some, Result, IfOk, Vec, length, min}
+use Rattle.std.specs.Prelude.{◌≡◌, ℕ, List, Option, None, Some, Result, IfErr, IfOk, Vec, length, min}
 use Rattle.std.specs.Global.{Global}
 use Rattle.mt_base.specs.declared.memory.NoMemory.{NoMemory}
-use Rattle.mt_tree.specs.Prelude.{Record, HasHeight, Form, Rooted}
+use Rattle.mt_tree.specs.Prelude.{Record, HasHeight, Form, Rooted, Busy, tried, Saw}
 use Rattle.mt_base.specs.Passes as known
-use Rattle.mt_base.specs.Passes.{Saw}
 use Rattle.mt_tree.specs.declared.receipts.Look.{Look}
 use Rattle.mt_tree.specs.declared.shapes.DupError.{DupError}
 use Rattle.mt_tree.specs.declared.shapes.Shape.{Shape}
@@ -14,7 +13,8 @@ use Rattle.mt_tree.specs.declared.shapes.Stats.{Stats}
 use Rattle.mt_tree.specs.declared.trees.Tree.{Tree}
 use Rattle.mt_tree.specs.Behind.{Behind}
 use Rattle.mt_tree.specs.Copies.{IsFit, IsFormOf, IsImageIn, IsLiveCounted, WasCounted, live_rows}
-use Rattle.mt_tree.specs.Trees.{LiesBehind, Pass, TriesOnce, WasPrepared, map_seen, opened, pass_in}
+use Rattle.mt_tree.specs.Trees.{IsPassOf, LiesBehind, Pass, TriesOnce, WasPrepared, map_seen, opened, pass_in}
+use Rattle.mt_tree.specs.Tries.{IsBusyOf}
 
 -- The look was at this tree: what the lock protected when it was taken is what it protects after all that the handle has then
 -- seen.
@@ -22,8 +22,18 @@ abbrev pub IsLookAt : Tree → known.Pass → Look → Type 0
 IsLookAt t q look = LiesBehind t q.seen look.took.value
 
 -- the words that the lock protected when it was taken
-abbrev pub words_in : Look → Rooted
-words_in look = look.took.value.parts.sheet.tree
+abbrev pub looked_words : Look → Rooted
+looked_words look = look.took.value.parts.sheet.tree
+
+-- A look that was tried. Where the lock was free, the handle has then seen the whole history, and this was found of what the lock
+-- protected. Else the lock was found taken, and the handle has seen no more. It went for the lock once.
+pub record WasFound {A : Type 0} (is : Tree → known.Pass → A × Look → Type 0) (t : Tree) (p : Pass) (found : Result (A × Look) Busy) (q : Pass) : Type 0 where
+  pub of : IsPassOf t q
+  pub saw : IfOk found (λ _. Saw (opened t) (pass_in p) (pass_in q))
+  pub said : IfOk found (is t (pass_in q))
+  pub busy : IfErr found (IsBusyOf t)
+  pub kept : IfErr found (λ _. q ≡ tried p)
+  pub tries : TriesOnce p q
 
 -- ---- how the nodes are used
 
@@ -63,12 +73,12 @@ pub record IsOldest (t : Tree) (q : known.Pass) (found : ℕ × Look) : Type 0 w
 pub record IsFormBehind (t : Tree) (q : known.Pass) (found : Form × Look) : Type 0 where
   pub behind : IsLookAt t q found.1
   pub form : IsFormOf (opened t).kind (opened t).rows (map_seen t q) found.0
-  pub of : form.words ≡ words_in found.1
+  pub of : form.words ≡ looked_words found.1
 
 -- The bytes are the image of these words.
 pub record IsImageBehind (t : Tree) (q : known.Pass) (look : Look) (bytes : List ℕ) : Type 0 where
   pub image : IsImageIn (opened t).kind (opened t).rows (map_seen t q) bytes
-  pub of : image.words ≡ words_in look
+  pub of : image.words ≡ looked_words look
 
 -- An image, if memory did not run out.
 abbrev pub IsImagedBehind : Tree → known.Pass → Result (Vec ℕ Global) NoMemory × Look → Type 0
@@ -82,4 +92,4 @@ IsImagedBehind t q found = IsLookAt t q found.1 × IfOk found.0 (λ bytes. IsIma
 abbrev pub IsCopyLooked : {X : Type 0} → Tree → Pass → Pass → Shape → Result X DupError → Option Look → Type 0
 IsCopyLooked t p q shape made None = (q ≡ p) × ¬ WasCounted made
 IsCopyLooked t p q shape made (Some look) =
-    IsFit shape (opened t).kind × TriesOnce p q × Saw (opened t) (pass_in p) (pass_in q) × IsLookAt t (pass_in q) look × IsLiveCounted (live_rows (words_in look)) shape.rows made
+    IsFit shape (opened t).kind × TriesOnce p q × Saw (opened t) (pass_in p) (pass_in q) × IsLookAt t (pass_in q) look × IsLiveCounted (live_rows (looked_words look)) shape.rows made

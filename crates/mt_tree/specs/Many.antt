@@ -1,11 +1,9 @@
 -- Many look-ups in one read-side section, and many steps of a walk in one, each with one window (version interval) for all.
 -- Source: this project's own; the kernel's readers ask for one index, or one range, at a time.
 use Rattle.std.specs.Prelude.{◌≡◌, ◌⊎◌, ℕ, ◌+◌, ◌*◌, ◌++◌, List, IfSome, Some, length, min, drop}
-use Rattle.mt_tree.specs.Prelude.{Range, Cursor, HasStepped, epoch_or}
+use Rattle.mt_tree.specs.Prelude.{Range, Cursor, HasStepped, epoch_or, Read, HasRead}
 use Rattle.mt_base.specs.Passes as known
 use Rattle.mt_read.specs.Many.{EntriesPut, HasFound, ReadAt}
-use Rattle.mt_read.specs.Windows.{HasRead}
-use Rattle.mt_base.specs.declared.outcomes.Read.{Read}
 use Rattle.mt_tree.specs.declared.trees.Tree.{Tree}
 use Rattle.mt_tree.specs.Trees.{Pass, Takes, pass_in, opened}
 

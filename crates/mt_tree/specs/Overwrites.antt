@@ -2,11 +2,8 @@
 -- Source: this project's own; the kernel's mas_store returns the first entry that it overwrites, and mas_for_each visits the
 -- others.
 use Rattle.std.specs.Prelude.{◌≡◌, ℕ, ◌-◌, List, [], ◌++◌, Result, Ok, Err, drop, filter, if◌then◌else◌, length, map, nat_le, take}
-use Rattle.mt_tree.specs.Prelude.{Range}
-use Rattle.mt_base.specs.Map.{overlaps}
+use Rattle.mt_tree.specs.Prelude.{Range, overlaps, Done, Worn}
 use Rattle.mt_base.specs.Passes as known
-use Rattle.mt_base.specs.declared.outcomes.Done.{Done}
-use Rattle.mt_base.specs.declared.outcomes.Worn.{Worn}
 use Rattle.mt_tree.specs.declared.trees.Tree.{Tree}
 use Rattle.mt_tree.specs.Trees.{map_seen}
 

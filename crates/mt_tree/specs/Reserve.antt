@@ -1,21 +1,19 @@
 -- The reserve of a tree that can always be emptied: nodes that are surely enough for all its ranges.
 -- Source: this project's own; the kernel's trees take a node from memory whenever a call needs one.
 use Rattle.std.specs.Prelude.{◌≡◌, ◌↔◌, ℕ, ◌+◌, ◌-◌, ◌<◌, ◌≤◌, ◌==◌, Bool, true, false, IsTrue, List, Option, Some, None, IfSome, length, nat_lt, if◌then◌else◌}
-use Rattle.mt_base.specs.Map.{over}
 use Rattle.mt_base.specs.declared.calls.Call.TheVariants.{Store, StorePre, Insert, Erase, Alloc, Ralloc, Gap, Rgap, Clear}
-use Rattle.mt_engine.specs.Engine.{is_refusal}
-use Rattle.mt_tree.specs.Prelude.{Call, Kind, Range, Reply, Parts, acted, map_by}
+use Rattle.mt_tree.specs.Prelude.{Call, Kind, Range, Reply, Parts, acted, map_by, over, is_refusal}
 use Rattle.mt_tree.specs.RowsFor.{rows_for}
 use Rattle.mt_tree.specs.declared.counts.Change.{Change}
-use Rattle.mt_tree.specs.declared.reserve.Verdict.{Verdict}
+use Rattle.mt_tree.specs.declared.reserve.ReserveVerdict.{ReserveVerdict}
 
 -- how many ranges a tree has
-abbrev pub ranges_of : Parts → ℕ
-ranges_of t = length (map_by t.sheet.tree)
+abbrev pub range_count : Parts → ℕ
+range_count t = length (map_by t.sheet.tree)
 
 -- A tree has its reserve: its nodes are surely enough for all its ranges. Then no call of it lacks nodes while none is held.
 abbrev pub HasReserve : Parts → Type 0
-HasReserve t = rows_for (ranges_of t) ≤ t.sheet.tree.rows
+HasReserve t = rows_for (range_count t) ≤ t.sheet.tree.rows
 
 -- How many ranges there may be after a call: those that it leaves. An insert and an allocation are taken to find their place.
 abbrev pub ranges_after : Kind → List Range → Call → ℕ
@@ -35,21 +33,21 @@ most_after t call = ranges_after t.kind (map_by t.sheet.tree) call
 
 -- A call breaks the reserve: it may add ranges, and the nodes are not surely enough for those that there may be then.
 pub record BreaksReserve (t : Parts) (call : Call) : Type 0 where
-  pub adds : ranges_of t < most_after t call
+  pub adds : range_count t < most_after t call
   pub few : t.sheet.tree.rows < rows_for (most_after t call)
 
 -- What is found before a call: whether it breaks the reserve, and how many ranges there are, and will be if it is made, where these
 -- numbers are known.
-pub record IsVerdict (t : Parts) (call : Call) (v : Verdict) : Type 0 where
+pub record IsReserveVerdict (t : Parts) (call : Call) (v : ReserveVerdict) : Type 0 where
   pub breaks : IsTrue v.breaks ↔ BreaksReserve t call
-  pub before : IfSome v.before (λ n. n ≡ ranges_of t)
+  pub before : IfSome v.before (λ n. n ≡ range_count t)
   pub after : IfSome v.after (λ n. n ≡ length (acted t.kind (map_by t.sheet.tree) call).0)
 
 -- ---- how many ranges a call adds
 
 -- so many may be added by it, and at most three
 abbrev pub IsGain : Parts → Call → ℕ → Type 0
-IsGain t call gain = (gain ≡ most_after t call - ranges_of t) × (gain ≤ 3)
+IsGain t call gain = (gain ≡ most_after t call - range_count t) × (gain ≤ 3)
 
 -- one, if the range that holds an index begins below it, or ends above it
 abbrev pub part_before : ℕ → Option Range → ℕ
@@ -71,11 +69,11 @@ pub record IsChange (m : List Range) (first last entry : ℕ) (c : Change) : Typ
   pub all : length (over m first last entry) + c.gone ≡ length m + c.kept
 
 -- So many are gone by a call that is such a store, and so many are there in their place.
-pub record Changes (t : Parts) (call : Call) (c : Change) : Type 0 where
-  pub gone : c.gone ≤ ranges_of t
+pub record TellsChange (t : Parts) (call : Call) (c : Change) : Type 0 where
+  pub gone : c.gone ≤ range_count t
   pub kept : c.kept ≤ 3
   pub most : most_after t call ≡ length (acted t.kind (map_by t.sheet.tree) call).0
-  pub all : length (acted t.kind (map_by t.sheet.tree) call).0 + c.gone ≡ ranges_of t + c.kept
+  pub all : length (acted t.kind (map_by t.sheet.tree) call).0 + c.gone ≡ range_count t + c.kept
 
 -- ---- how their number is kept
 

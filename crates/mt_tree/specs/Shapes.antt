@@ -1,8 +1,7 @@
 -- Which trees may be made: the first field of a shape that is out of range.
 -- Source: this project's own; the kernel's trees grow as memory lasts.
 use Rattle.std.specs.Prelude.{ℕ, ◌&&◌, not, nat_le, Bool, Option, Some, None, if◌then◌else◌}
-use Rattle.mt_tree.specs.Prelude.{most_rows}
-use Rattle.mt_base.specs.Limits.{fewest_rows, most_calls, most_passes}
+use Rattle.mt_tree.specs.Prelude.{most_rows, fewest_rows, most_calls, most_passes}
 use Rattle.mt_tree.specs.declared.shapes.Field.{Field}
 use Rattle.mt_tree.specs.declared.shapes.Field.TheVariants.{Rows, Passes, Calls}
 use Rattle.mt_tree.specs.declared.shapes.Shape.{Shape}

@@ -3,14 +3,12 @@
 use Rattle.std.specs.Prelude.{◌≡◌, ◌≢◌, ◌⊎◌, ℕ, ◌+◌, ◌-◌, ◌^◌, ◌≤◌, ◌<◌, Option, Some, None, IfSome, List, [], ◌∷◌, All, length, map, slice_get, take}
 use Rattle.std.specs.List.{range_with_len}
 use Rattle.atomic_table.specs.declared.shared.Seat.{Seat}
-use Rattle.mt_tree.specs.Prelude.{Call, Range, Holder, Reply, Shortage, acted, History, Record, last_map, limits_after, IsRefused, IsShort, Wants, holder_of, with_records, new_pass, TellsBook, HasRoom, after_reclaim, Scan, IsRealShortage, map_by, Note, TurnView, IsScanOf, records_of, Identity, identity_of, tree_in, turn_seat, IsSeatedAt, IsTakenOf, tried}
+use Rattle.mt_tree.specs.Prelude.{Call, Range, Holder, Reply, Shortage, acted, History, Record, last_map, limits_after, IsRefused, IsShort, Wants, holder_of, with_records, new_pass, TellsBook, HasRoom, after_reclaim, Scan, IsRealShortage, map_by, Note, TurnView, IsScanOf, records_of, Identity, identity_of, tree_in, turn_seat, IsSeatedAt, IsTakenOf, tried, Done, Worn}
 use Rattle.mt_base.specs.Passes as known
 pub use Rattle.mt_rule.specs.declared.passes.Pass.{Pass}
 use Rattle.mt_rule.specs.Tokens as rule
 pub use Rattle.mt_rule.specs.Tokens.{pass_in, steps_made}
-use Rattle.mt_base.specs.declared.outcomes.Done.{Done}
 use Rattle.mt_tree.specs.declared.shapes.Shape.{Shape}
-use Rattle.mt_base.specs.declared.outcomes.Worn.{Worn}
 use Rattle.mt_tree.specs.declared.trees.Tree.{Tree}
 use Rattle.mt_tree.specs.Behind.{Behind, IsPenAtRest}
 

@@ -1,9 +1,8 @@
--- What a step over a handle and a walk, each kept by the caller, does to both.
+-- What a step of a walk does to its handle and to the walk, whether the caller keeps both or a cursor does.
 -- Source: the kernel's documentation of the maple tree, mas_find over a struct ma_state that the caller keeps.
-use Rattle.std.specs.Prelude.{◌≡◌, ◌⊎◌, ℕ, ◌+◌, ◌≤◌, IfSome, Option, Some}
-use Rattle.mt_tree.specs.Prelude.{Range, Cursor, HasStepped, IsCursorOf, IsOver, IsOverPlace, LeafWasMarked, MarksKeptLeaf, epoch_or, place_behind, find_at, part_of}
+use Rattle.std.specs.Prelude.{◌≡◌, ◌⊎◌, ℕ, ◌+◌, ◌≤◌, IfSome, Option, None, Some}
+use Rattle.mt_tree.specs.Prelude.{Range, Cursor, HasStepped, IsCursorOf, IsOver, IsOverPlace, LeafWasMarked, MarksKeptLeaf, epoch_or, place_behind, find_at, part_of, Read}
 use Rattle.mt_base.specs.Passes as known
-use Rattle.mt_base.specs.declared.outcomes.Read.{Read}
 use Rattle.mt_tree.specs.declared.trees.Tree.{Tree}
 use Rattle.mt_tree.specs.Trees.{Pass, Takes, pass_in, steps_made, opened}
 
@@ -24,3 +23,9 @@ pub record HasWalked (t : Tree) (p : Pass) (w : Cursor) (r : Read (Option Range)
   pub marks : MarksKeptLeaf w.leaf w.at r.hi (part_of p) (part_of q)
   pub short : IsOverPlace w.leaf w.at → (steps_made q ≤ steps_made p + 40) ⊎ LeafWasMarked w.leaf w.at r.hi (part_of p) (part_of q)
   pub takes : Takes 220 p q
+
+-- The section of the walk was closed by one step, and its place is kept alone.
+pub record HasHalted (p : Pass) (w : Cursor) (q : Pass) (w' : Cursor) : Type 0 where
+  pub closed : pass_in q ≡ record (pass_in p) { standing = None }
+  pub same : w' ≡ record w { leaf = None; epoch = None }
+  pub takes : Takes 1 p q

@@ -3,9 +3,8 @@
 use Rattle.std.specs.Prelude.{◌≡◌, ℕ, ◌≤◌, ◌<◌, Option, Some, None, List, [], ◌∷◌, length}
 use Rattle.std.specs.List.{AllByRecursion}
 use Rattle.atomic_table.specs.declared.badge.Badge.{Badge}
-use Rattle.mt_tree.specs.Prelude.{Record, Parts, unscanned, Told, Pass, PenPart, TurnView, IsScanOf, records_of, Identity, WasShown, pass_in, turn_seat, seated, tries_in}
+use Rattle.mt_tree.specs.Prelude.{Record, Parts, unscanned, Told, Pass, PenPart, TurnView, IsScanOf, records_of, Identity, WasShown, pass_in, turn_seat, seated, tries_in, sheet_told}
 use Rattle.mt_base.specs.Passes as known
-use Rattle.mt_pen.specs.Sheets.{sheet_told}
 use Rattle.mt_tree.specs.declared.behind.Tools.{Tools}
 use Rattle.mt_tree.specs.declared.trees.Tree.{Tree}
 use Rattle.mt_tree.specs.Behind.{Behind, behind_lock, parts_of, IsAtRest, IsOnlyRead, IsPenAtRest}
@@ -60,6 +59,14 @@ pub record LookedBehind (t : Tree) (b b' : Behind) (p q : Pass) : Type 0 where
   pub rests : Rests p q
   pub seen : (pass_in q).seen ≡ records_of b'.pen.history
   pub saw : known.Saw (opened t) (pass_in p) (pass_in q)
+  pub words : AreWordsOf (opened t).kind (opened t).rows (map_seen t (pass_in q)) b.parts.sheet.tree
+
+-- What the lock protects was only read, for the handle that holds it: that knows what it knew, made no step without the lock, and has
+-- not gone for it again. The words represent the map after all calls.
+pub record LookedUnder (t : Tree) (b b' : Behind) (p q : Pass) : Type 0 where
+  pub behind : IsOnlyRead b b'
+  pub rests : Rests p q
+  pub pass : pass_in q ≡ pass_in p
   pub words : AreWordsOf (opened t).kind (opened t).rows (map_seen t (pass_in q)) b.parts.sheet.tree
 
 -- The tools are back under the tree's lock, with these nodes and their book. All calls are of the tree's handles, and the

@@ -41,13 +41,13 @@ pub struct WriterState {
 }
 
 impl Model for WriterState {
-    ghost use Rattle.mt_tree.specs.Behind.{Behind, behind_lock, IsAtRest, IsCounted};
+    ghost use Rattle.mt_tree.specs.Behind.{Behind, behind_lock, IsAtRest, IsCountBehind};
 
     ghost Value = { Behind };
 
     ghost view = { λ s. behind_lock s.tools };
 
-    ghost invariant = { λ s. IsAtRest s.tools × IsCounted s.ranges (behind_lock s.tools) };
+    ghost invariant = { λ s. IsAtRest s.tools × IsCountBehind s.ranges (behind_lock s.tools) };
 }
 
 impl OfTable for WriterState {
@@ -103,7 +103,8 @@ impl WriterState {
         ensures of { IsPassOf tree.now pass.new }
         ensures rests { Rests pass.old pass.new }
         ensures seen { (pass_in pass.new).seen ≡ records_of self.new.pen.history }
-        ensures done { IfOk result (λ d. Wrote (opened tree.now) (pass_in pass.old) d.call call.now d.reply (pass_in pass.new) × (d.call ≤ limit_of tree.now)) }
+        ensures done { IfOk result
+            (λ d. Wrote (opened tree.now) (pass_in pass.old) d.call call.now d.reply (pass_in pass.new) × (d.call ≤ limit_of tree.now)) }
         ensures number { IfOk result (λ d. d.call ≡ length self.old.pen.history + 1) }
         ensures callers { IfOk result (λ d. AllByRecursion (λ r. r.pass < passes_of tree.now) (pass_in pass.new).seen) }
         ensures named { IfOk result (λ d. NamesPass tree.now d.reply) }

@@ -1,6 +1,6 @@
 //! Checks and copies of a tree's words.
 
-ghost use Rattle.std.specs.Prelude.{◌≡◌, ◌≢◌, ◌↔◌, ◌⊎◌, ◌<◌, ◌≤◌, ℕ, List, Some, None, length, IfOk, IfErr, IsTrue};
+ghost use Rattle.std.specs.Prelude.{◌≡◌, ◌≢◌, ◌↔◌, ◌⊎◌, ◌≤◌, ℕ, List, Some, None, length, IfOk, IfErr, IsTrue};
 ghost use Rattle.mt_base.specs.History.{last_map};
 ghost use Rattle.mt_base.specs.Passes.{Saw, with_records};
 ghost use Rattle.mt_base.specs.Width.{kind_width};
@@ -15,12 +15,13 @@ ghost use Rattle.mt_rows.specs.Trees.{reached_in};
 ghost use Rattle.mt_check.specs.Check.{form_of};
 ghost use Rattle.mt_rule.specs.Tokens.{pass_in};
 ghost use Rattle.mt_tree.specs.declared.shapes.Field.{Field};
+ghost use Rattle.mt_base.specs.Blanks.{IsBlankOf};
 ghost use Rattle.mt_tree.specs.Behind.{behind_lock, IsAtRest, IsOnlyRead};
-ghost use Rattle.mt_tree.specs.Copies.{live_rows, AreWordsOf, IsForRoom, IsLiveCounted, IsReadyToOpen, IsRefusal};
-ghost use Rattle.mt_tree.specs.Looks.{words_in, IsCopyLooked, IsFormBehind, IsLookAt};
+ghost use Rattle.mt_tree.specs.Copies.{live_rows, IsForRoom, IsLiveCounted, IsReadyToOpen, IsRefusal};
+ghost use Rattle.mt_tree.specs.Looks.{looked_words, IsCopyLooked, IsFormBehind, IsLookAt};
 ghost use Rattle.mt_tree.specs.Shapes.{first_bad};
 ghost use Rattle.mt_tree.specs.Trees.{opened, map_seen, place_of, IsPassOf, IsNew, IsOpen, Rests, TriesOnce, steps_made};
-ghost use Rattle.mt_tree.specs.Works.{IsWorker, LookedBehind};
+ghost use Rattle.mt_tree.specs.Works.{IsWorker, LookedBehind, LookedUnder};
 
 use crate::behind::{Tools, WriterState};
 use crate::locked::Locked;
@@ -48,9 +49,7 @@ pub fn copy_into<R: Rows, L: Ledger>(
     dst: &mut PlainRows,
     book: &mut RowBook,
 )
-    requires name { blank.name ≡ L.name }
-    requires parts { blank.parts ≡ L.parts }
-    requires some { 0 < blank.parts }
+    requires blank { IsBlankOf L.name L.parts blank.name blank.parts }
     requires lawful { (kind : Kind) × IsLawfulOf (R.sheet src.old).tree kind }
     requires rows { sheet_in dst.old ≡ new_sheet (R.sheet src.old).tree.table.width book.old.rows }
     requires book { book.old ≡ new_book book.old.rows }
@@ -154,7 +153,8 @@ fn copy_at_work<W: Writer, K: OfWidth>(
     ensures rest { IsAtRest tools.new }
     ensures looked { LookedBehind tree.now (behind_lock tools.old) (behind_lock tools.new) pass.old pass.new }
     ensures live { result ≡ live_rows (behind_lock tools.old).parts.sheet.tree }
-    ensures copy { result ≤ own.old.rows → IsReadyToOpen (opened tree.now).kind own.old.rows (map_seen tree.now (pass_in pass.new)) (sheet_in dst.new) own.new }
+    ensures copy { result ≤ own.old.rows
+        → IsReadyToOpen (opened tree.now).kind own.old.rows (map_seen tree.now (pass_in pass.new)) (sheet_in dst.new) own.new }
 {
     let engine = begin::<W, K>(tools, tree, pass);
     let (engine, live) = copied_out(engine, tree.shape.kind, dst, own);
@@ -272,19 +272,18 @@ impl WriterState {
 }
 
 /// The form of the words of a locked tree.
+#[tactic(auto, using(crate::proofs::Lending::looked_under))]
 fn check_under(taken: &mut Taken<WriterState>, tree: &Tree, pass: &mut Pass) -> Form
     requires { IsOpen tree.now pass.old taken.old.value taken.old.seat }
     ensures open { IsOpen tree.now pass.new taken.new.value taken.new.seat }
-    ensures rests { Rests pass.old pass.new }
-    ensures behind { IsOnlyRead taken.old.value taken.new.value }
-    ensures pass { pass_in pass.new ≡ pass_in pass.old }
-    ensures words { AreWordsOf (opened tree.now).kind (opened tree.now).rows (map_seen tree.now (pass_in pass.new)) taken.old.value.parts.sheet.tree }
+    ensures looked { LookedUnder tree.now taken.old.value taken.new.value pass.old pass.new }
     ensures form { result ≡ form_of (tree_as (opened tree.now).kind taken.old.value.parts.sheet.tree) }
 {
     taken.value.check(tree, pass)
 }
 
 /// Copies a locked tree into new nodes, where they are as many as it has in use. Answers how many it has.
+#[tactic(auto, using(crate::proofs::Lending::looked_under))]
 fn copy_under(
     taken: &mut Taken<WriterState>,
     tree: &Tree,
@@ -296,12 +295,10 @@ fn copy_under(
     requires rows { sheet_in dst.old ≡ new_sheet (kind_width (opened tree.now).kind) own.old.rows }
     requires book { own.old ≡ new_book own.old.rows }
     ensures open { IsOpen tree.now pass.new taken.new.value taken.new.seat }
-    ensures rests { Rests pass.old pass.new }
-    ensures behind { IsOnlyRead taken.old.value taken.new.value }
-    ensures pass { pass_in pass.new ≡ pass_in pass.old }
-    ensures words { AreWordsOf (opened tree.now).kind (opened tree.now).rows (map_seen tree.now (pass_in pass.new)) taken.old.value.parts.sheet.tree }
+    ensures looked { LookedUnder tree.now taken.old.value taken.new.value pass.old pass.new }
     ensures live { result ≡ live_rows taken.old.value.parts.sheet.tree }
-    ensures copy { result ≤ own.old.rows → IsReadyToOpen (opened tree.now).kind own.old.rows (map_seen tree.now (pass_in pass.new)) (sheet_in dst.new) own.new }
+    ensures copy { result ≤ own.old.rows
+        → IsReadyToOpen (opened tree.now).kind own.old.rows (map_seen tree.now (pass_in pass.new)) (sheet_in dst.new) own.new }
 {
     taken.value.copy(tree, pass, dst, own)
 }
@@ -311,11 +308,7 @@ impl<'a> Locked<'a, Taken<WriterState>> {
     pub fn check(&mut self) -> Form
         ensures same_reference { self.new.pass.ghost_name ≡ self.old.pass.ghost_name }
         ensures tree { self.new.tree ≡ self.old.tree }
-        ensures rests { Rests self.old.pass.now self.new.pass.now }
-        ensures pass { pass_in self.new.pass.now ≡ pass_in self.old.pass.now }
-        ensures behind { IsOnlyRead self.old.taken.value self.new.taken.value }
-        ensures words { AreWordsOf (opened self.old.tree.now).kind
-            (opened self.old.tree.now).rows (map_seen self.old.tree.now (pass_in self.old.pass.now)) self.old.taken.value.parts.sheet.tree }
+        ensures looked { LookedUnder self.old.tree.now self.old.taken.value self.new.taken.value self.old.pass.now self.new.pass.now }
         ensures form { result ≡ form_of (tree_as (opened self.old.tree.now).kind self.old.taken.value.parts.sheet.tree) }
     {
         check_under(&mut self.taken, self.tree, self.pass)
@@ -327,11 +320,7 @@ impl<'a> Locked<'a, Taken<WriterState>> {
         requires book { own.old ≡ new_book own.old.rows }
         ensures same_reference { self.new.pass.ghost_name ≡ self.old.pass.ghost_name }
         ensures tree { self.new.tree ≡ self.old.tree }
-        ensures rests { Rests self.old.pass.now self.new.pass.now }
-        ensures pass { pass_in self.new.pass.now ≡ pass_in self.old.pass.now }
-        ensures behind { IsOnlyRead self.old.taken.value self.new.taken.value }
-        ensures words { AreWordsOf (opened self.old.tree.now).kind
-            (opened self.old.tree.now).rows (map_seen self.old.tree.now (pass_in self.old.pass.now)) self.old.taken.value.parts.sheet.tree }
+        ensures looked { LookedUnder self.old.tree.now self.old.taken.value self.new.taken.value self.old.pass.now self.new.pass.now }
         ensures live { result ≡ live_rows self.old.taken.value.parts.sheet.tree }
         ensures copy { result ≤ own.old.rows
             → IsReadyToOpen (opened self.old.tree.now).kind own.old.rows (map_seen self.old.tree.now (pass_in self.old.pass.now)) (sheet_in dst.new) own.new }
@@ -417,7 +406,7 @@ impl Tree {
         ensures tries { TriesOnce pass.old pass.new }
         ensures saw { Saw (opened self.now) (pass_in pass.old) (pass_in pass.new) }
         ensures look { IsLookAt self.now (pass_in pass.new) result.1 }
-        ensures live { result.0 ≡ live_rows (words_in result.1) }
+        ensures live { result.0 ≡ live_rows (looked_words result.1) }
         ensures copy { result.0 ≤ book.old.rows
             → IsReadyToOpen (opened self.now).kind book.old.rows (map_seen self.now (pass_in pass.new)) (sheet_in dst.new) book.new }
     {

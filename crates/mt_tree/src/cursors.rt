@@ -50,12 +50,10 @@ impl Tree {
 }
 
 impl<'a> Cursor<'a> {
-    ghost use Rattle.std.specs.Prelude.{◌≡◌, ◌⊎◌, ℕ, ◌+◌, ◌≤◌, Some, None, IfSome};
-    ghost use Rattle.mt_base.specs.Passes as known;
-    ghost use Rattle.mt_read.specs.Cursors.{HasStepped, IsOver, IsOverPlace, LeafWasMarked, MarksKeptLeaf, epoch_or};
-    ghost use Rattle.mt_base.specs.Places.{find_at, place_behind};
-    ghost use Rattle.mt_rule.specs.Tokens.{part_of, pass_in, IsCounted};
-    ghost use Rattle.mt_tree.specs.Trees.{opened, IsPassOf, Takes};
+    ghost use Rattle.std.specs.Prelude.{◌≡◌, ◌+◌, ◌≤◌, None};
+    ghost use Rattle.mt_rule.specs.Tokens.{pass_in, IsCounted};
+    ghost use Rattle.mt_tree.specs.Trees.{IsPassOf, Takes};
+    ghost use Rattle.mt_tree.specs.Walks.{HasHalted, HasWalked};
 
     /// Where the next step looks from. There is no place once the walk has ended.
     pub fn at(&self) -> Option<u64>
@@ -70,19 +68,8 @@ impl<'a> Cursor<'a> {
         ensures same_reference { self.new.pass.ghost_name ≡ self.old.pass.ghost_name }
         ensures tree { self.new.tree ≡ self.old.tree }
         ensures of { IsPassOf self.old.tree.now self.new.pass.now }
-        ensures read { (k : ℕ) × known.Read (opened self.old.tree.now) (pass_in self.old.pass.now) result.lo result.hi k
-            (find_at self.old.walk.at self.old.walk.max) result.value (pass_in self.new.pass.now) }
-        ensures section { HasStepped result.lo result.hi self.old.walk.epoch (pass_in self.old.pass.now) (pass_in self.new.pass.now) }
-        ensures at { self.new.walk.at ≡ place_behind result.value self.old.walk.max }
-        ensures max { self.new.walk.max ≡ self.old.walk.max }
-        ensures epoch { self.new.walk.epoch ≡ Some (epoch_or self.old.walk.epoch result.lo) }
-        ensures leaf { IfSome result.value (λ range. IsOver self.new.walk.leaf range.last) }
-        ensures lo { (self.new.walk.leaf ≡ self.old.walk.leaf) ⊎ IfSome self.new.walk.leaf (λ kept. kept.lo ≡ result.lo) }
-        ensures marks { MarksKeptLeaf self.old.walk.leaf self.old.walk.at result.hi (part_of self.old.pass.now) (part_of self.new.pass.now) }
-        ensures short { IsOverPlace self.old.walk.leaf self.old.walk.at → (steps.new ≤ steps.old + 40)
-            ⊎ LeafWasMarked self.old.walk.leaf self.old.walk.at result.hi (part_of self.old.pass.now) (part_of self.new.pass.now) }
+        ensures walked { HasWalked self.old.tree.now self.old.pass.now self.old.walk result self.new.pass.now self.new.walk }
         ensures counted { IsCounted self.old.pass.now self.new.pass.now steps.old steps.new }
-        ensures takes { Takes 220 self.old.pass.now self.new.pass.now }
         ensures steps { steps.new ≤ steps.old + 220 }
     {
         self.walk.step(&self.tree.table, self.pass, steps)
@@ -93,10 +80,8 @@ impl<'a> Cursor<'a> {
         ensures same_reference { self.new.pass.ghost_name ≡ self.old.pass.ghost_name }
         ensures tree { self.new.tree ≡ self.old.tree }
         ensures of { IsPassOf self.old.tree.now self.new.pass.now }
-        ensures closed { pass_in self.new.pass.now ≡ record (pass_in self.old.pass.now) { standing = None } }
-        ensures same { self.new.walk ≡ record self.old.walk { leaf = None; epoch = None } }
+        ensures halted { HasHalted self.old.pass.now self.old.walk self.new.pass.now self.new.walk }
         ensures counted { IsCounted self.old.pass.now self.new.pass.now steps.old steps.new }
-        ensures takes { Takes 1 self.old.pass.now self.new.pass.now }
         ensures steps { steps.new ≡ steps.old + 1 }
     {
         self.walk.pause(&self.tree.table, self.pass, steps);

@@ -6,11 +6,10 @@ ghost use Rattle.mt_base.specs.Width.{kind_width};
 ghost use Rattle.mt_image.specs.Images.{IsImageOf, IsImageOfMap};
 ghost use Rattle.mt_rows.specs.Sheet.{OnlyReads};
 ghost use Rattle.mt_rule.specs.Tokens.{pass_in};
-ghost use Rattle.mt_tree.specs.Behind.{behind_lock, IsAtRest, IsOnlyRead};
-ghost use Rattle.mt_tree.specs.Copies.{AreWordsOf};
+ghost use Rattle.mt_tree.specs.Behind.{behind_lock, IsAtRest};
 ghost use Rattle.mt_tree.specs.Looks.{IsImagedBehind};
-ghost use Rattle.mt_tree.specs.Trees.{opened, map_seen, place_of, IsPassOf, IsOpen, Rests, TriesOnce, steps_made};
-ghost use Rattle.mt_tree.specs.Works.{IsWorker, LookedBehind};
+ghost use Rattle.mt_tree.specs.Trees.{opened, map_seen, place_of, IsPassOf, IsOpen, TriesOnce, steps_made};
+ghost use Rattle.mt_tree.specs.Works.{IsWorker, LookedBehind, LookedUnder};
 
 use crate::behind::{Tools, WriterState};
 use crate::locked::Locked;
@@ -85,6 +84,7 @@ impl WriterState {
 }
 
 /// The image of the words of a locked tree.
+#[tactic(auto, using(crate::proofs::Lending::looked_under))]
 fn image_under(
     taken: &mut Taken<WriterState>,
     tree: &Tree,
@@ -93,10 +93,7 @@ fn image_under(
 ) -> Result<Vec<u8>, NoMemory>
     requires { IsOpen tree.now pass.old taken.old.value taken.old.seat }
     ensures open { IsOpen tree.now pass.new taken.new.value taken.new.seat }
-    ensures rests { Rests pass.old pass.new }
-    ensures behind { IsOnlyRead taken.old.value taken.new.value }
-    ensures pass { pass_in pass.new ≡ pass_in pass.old }
-    ensures words { AreWordsOf (opened tree.now).kind (opened tree.now).rows (map_seen tree.now (pass_in pass.new)) taken.old.value.parts.sheet.tree }
+    ensures looked { LookedUnder tree.now taken.old.value taken.new.value pass.old pass.new }
     ensures image { IfOk result (λ bytes. IsImageOf (opened tree.now).kind taken.old.value.parts.sheet.tree bytes.items) }
 {
     taken.value.image(tree, pass, alloc)
@@ -111,11 +108,7 @@ impl<'a> Locked<'a, Taken<WriterState>> {
     pub fn image(&mut self, alloc: Global) -> Result<Vec<u8>, NoMemory>
         ensures same_reference { self.new.pass.ghost_name ≡ self.old.pass.ghost_name }
         ensures tree { self.new.tree ≡ self.old.tree }
-        ensures rests { Rests self.old.pass.now self.new.pass.now }
-        ensures pass { pass_in self.new.pass.now ≡ pass_in self.old.pass.now }
-        ensures behind { IsOnlyRead self.old.taken.value self.new.taken.value }
-        ensures words { AreWordsOf (opened self.old.tree.now).kind
-            (opened self.old.tree.now).rows (map_seen self.old.tree.now (pass_in self.old.pass.now)) self.old.taken.value.parts.sheet.tree }
+        ensures looked { LookedUnder self.old.tree.now self.old.taken.value self.new.taken.value self.old.pass.now self.new.pass.now }
         ensures image { IfOk result (λ bytes. IsImageOf (opened self.old.tree.now).kind self.old.taken.value.parts.sheet.tree bytes.items) }
     {
         image_under(&mut self.taken, self.tree, self.pass, alloc)

@@ -4,9 +4,9 @@ ghost use Rattle.std.specs.Prelude.{◌≡◌, IfErr, IfOk, IfSome};
 ghost use Rattle.mt_base.specs.Width.{kind_width};
 ghost use Rattle.mt_rule.specs.Tokens.{pass_in};
 ghost use Rattle.mt_rule.specs.Turns.{tried};
-ghost use Rattle.mt_tree.specs.Behind.{behind_lock, IsAtRest, IsCounted};
+ghost use Rattle.mt_tree.specs.Behind.{behind_lock, IsAtRest, IsCountBehind};
 ghost use Rattle.mt_tree.specs.Kept.{MadeKept, WasKept};
-ghost use Rattle.mt_tree.specs.Reserve.{IsVerdict, ranges_of};
+ghost use Rattle.mt_tree.specs.Reserve.{IsReserveVerdict, range_count};
 ghost use Rattle.mt_tree.specs.Trees.{place_of, IsPassOf, Rests, TriesOnce, steps_made};
 ghost use Rattle.mt_tree.specs.Tries.{IsBusyOf};
 ghost use Rattle.mt_tree.specs.Works.{IsWorker, LookedBehind};
@@ -14,7 +14,7 @@ ghost use Rattle.mt_tree.specs.Works.{IsWorker, LookedBehind};
 use crate::behind::{Tools, WriterState};
 use crate::counts::counted;
 use crate::receipts::Look;
-use crate::reserve::{Verdict, verdict_of};
+use crate::reserve::{ReserveVerdict, verdict_of};
 use crate::trees::Tree;
 use crate::works::{begin, by_width, end};
 use mt_base::{Call, Done, Width, Worn};
@@ -38,14 +38,14 @@ fn verdict_at_work<W: Writer, K: OfWidth>(
     pass: &mut Pass,
     known: Option<u64>,
     call: &Call,
-) -> Verdict
+) -> ReserveVerdict
     requires worker { IsWorker tree.now tools.old pass.old W.table W.turn }
     requires counted { W.steps ≡ steps_made pass.old }
     requires wide { K.wide ≡ kind_width W.table.shape.kind }
-    requires known { IfSome known (λ n. n ≡ ranges_of (behind_lock tools.old).parts) }
+    requires known { IfSome known (λ n. n ≡ range_count (behind_lock tools.old).parts) }
     ensures rest { IsAtRest tools.new }
     ensures looked { LookedBehind tree.now (behind_lock tools.old) (behind_lock tools.new) pass.old pass.new }
-    ensures verdict { IsVerdict (behind_lock tools.old).parts call.now result }
+    ensures verdict { IsReserveVerdict (behind_lock tools.old).parts call.now result }
 {
     let engine = begin::<W, K>(tools, tree, pass);
     let (engine, verdict) = verdict_of(engine, tree.shape.kind, known, call);
@@ -56,7 +56,7 @@ fn verdict_at_work<W: Writer, K: OfWidth>(
 impl WriterState {
     /// Keeps how many ranges there are, where that is known.
     fn keep(&mut self, ranges: Option<u64>)
-        requires { IsCounted ranges self.old }
+        requires { IsCountBehind ranges self.old }
         ensures { self.new ≡ self.old }
     {
         self.ranges = ranges;
@@ -64,11 +64,11 @@ impl WriterState {
 
     /// The verdict on a call, by what the lock protects, which is only read.
     #[tactic(auto, using(crate::proofs::Keeping::counted_looked))]
-    fn judge(&mut self, tree: &Tree, pass: &mut Pass, call: &Call) -> Verdict
+    fn judge(&mut self, tree: &Tree, pass: &mut Pass, call: &Call) -> ReserveVerdict
         requires table { self.old.table ≡ place_of tree.now }
         requires pass { IsPassOf tree.now pass.old }
         ensures looked { LookedBehind tree.now self.old self.new pass.old pass.new }
-        ensures verdict { IsVerdict self.old.parts call.now result }
+        ensures verdict { IsReserveVerdict self.old.parts call.now result }
     {
         let known = self.ranges;
         by_width!(
@@ -78,11 +78,11 @@ impl WriterState {
     }
 
     /// As `judge`. What is found of the number of ranges is kept.
-    fn verdict(&mut self, tree: &Tree, pass: &mut Pass, call: &Call) -> Verdict
+    fn verdict(&mut self, tree: &Tree, pass: &mut Pass, call: &Call) -> ReserveVerdict
         requires table { self.old.table ≡ place_of tree.now }
         requires pass { IsPassOf tree.now pass.old }
         ensures looked { LookedBehind tree.now self.old self.new pass.old pass.new }
-        ensures verdict { IsVerdict self.new.parts call.now result }
+        ensures verdict { IsReserveVerdict self.new.parts call.now result }
     {
         let verdict = self.judge(tree, pass, call);
         self.keep(verdict.before);
@@ -95,11 +95,11 @@ impl WriterState {
         tree: &Tree,
         pass: &mut Pass,
         call: &Call,
-        verdict: Verdict,
+        verdict: ReserveVerdict,
     ) -> Result<Kept, Worn>
         requires table { self.old.table ≡ place_of tree.now }
         requires pass { IsPassOf tree.now pass.old }
-        requires verdict { IsVerdict self.old.parts call.now verdict }
+        requires verdict { IsReserveVerdict self.old.parts call.now verdict }
         ensures table { self.new.table ≡ place_of tree.now }
         ensures of { IsPassOf tree.now pass.new }
         ensures rests { Rests pass.old pass.new }

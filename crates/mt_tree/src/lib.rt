@@ -74,7 +74,7 @@ pub use mt_rows::PlainRows;
 pub use mt_rule::{Busy, Note, Pass};
 pub use overwrites::tell_met;
 pub use receipts::Look;
-pub use reserve::{Verdict, is_reserve, verdict_of};
+pub use reserve::{ReserveVerdict, is_reserve, verdict_of};
 pub use rows_for::rows_enough;
 pub use shapes::{DupError, Field, MakeError, Shape, Stats};
 pub use trees::Tree;

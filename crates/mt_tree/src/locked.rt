@@ -9,9 +9,10 @@ ghost use Rattle.mt_base.specs.Passes.{Saw, Wrote};
 ghost use Rattle.mt_engine.specs.Engine.{is_refusal};
 ghost use Rattle.mt_rule.specs.declared.views.TurnView.{TurnView};
 ghost use Rattle.mt_rule.specs.Tokens.{pass_in};
-ghost use Rattle.mt_tree.specs.Behind.{Behind, after_show, IsReady, IsOnlyRead, IsStoreReply};
+ghost use Rattle.mt_tree.specs.Behind.{Behind, after_show, IsReady, IsStoreReply};
 ghost use Rattle.mt_tree.specs.Trees.{opened, limit_of, map_seen, passes_of, IsPassOf, IsOpen, IsShortNow};
 ghost use Rattle.mt_tree.specs.Trees.{IsWorn, NamesPass, Rests, TriesOnce, WasAnsweredBy, WasPrepared};
+ghost use Rattle.mt_tree.specs.Works.{LookedUnder};
 
 use crate::behind::WriterState;
 use crate::trees::Tree;
@@ -111,6 +112,7 @@ fn store_under(
     taken.value.store_prealloc(tree, pass, first, last, entry)
 }
 
+#[tactic(auto, using(crate::proofs::Lending::looked_under))]
 fn ask_under(
     taken: &mut Taken<WriterState>,
     tree: &Tree,
@@ -119,9 +121,7 @@ fn ask_under(
 ) -> Read<Option<Range>>
     requires { IsOpen tree.now pass.old taken.old.value taken.old.seat }
     ensures open { IsOpen tree.now pass.new taken.new.value taken.new.seat }
-    ensures rests { Rests pass.old pass.new }
-    ensures behind { IsOnlyRead taken.old.value taken.new.value }
-    ensures pass { pass_in pass.new ≡ pass_in pass.old }
+    ensures looked { LookedUnder tree.now taken.old.value taken.new.value pass.old pass.new }
     ensures window { (result.lo ≡ length (pass_in pass.old).seen) × (result.hi ≡ result.lo) }
     ensures read { known.Read (opened tree.now) (pass_in pass.old) result.lo result.hi result.lo query.now result.value (pass_in pass.new) }
 {
@@ -144,6 +144,7 @@ fn preallocate_under(
     taken.value.preallocate(tree, pass)
 }
 
+#[tactic(auto, using(crate::proofs::Lending::looked_under))]
 fn list_under(
     taken: &mut Taken<WriterState>,
     tree: &Tree,
@@ -152,9 +153,7 @@ fn list_under(
 ) -> Result<Vec<Range>, NoMemory>
     requires { IsOpen tree.now pass.old taken.old.value taken.old.seat }
     ensures open { IsOpen tree.now pass.new taken.new.value taken.new.seat }
-    ensures rests { Rests pass.old pass.new }
-    ensures behind { IsOnlyRead taken.old.value taken.new.value }
-    ensures pass { pass_in pass.new ≡ pass_in pass.old }
+    ensures looked { LookedUnder tree.now taken.old.value taken.new.value pass.old pass.new }
     ensures items { IfOk result (λ ranges. ranges.items ≡ map_seen tree.now (pass_in pass.new)) }
 {
     taken.value.list(tree, pass, alloc)
@@ -177,7 +176,8 @@ impl<'a> Locked<'a, Taken<WriterState>> {
         ensures worn { IfErr result (λ w. IsWorn self.old.tree.now (pass_in self.old.pass.now) w (pass_in self.new.pass.now)
             × (self.new.taken.value ≡ after_show self.old.taken.value)) }
         ensures kept { IfOk result (λ d. is_refusal d.reply ≡ true → self.new.taken.value.parts.sheet.tree ≡ self.old.taken.value.parts.sheet.tree) }
-        ensures answered { IfOk result (λ d. WasAnsweredBy self.old.tree.now (pass_in self.new.pass.now) self.old.taken.value self.new.taken.value call.now d) }
+        ensures answered { IfOk result
+            (λ d. WasAnsweredBy self.old.tree.now (pass_in self.new.pass.now) self.old.taken.value self.new.taken.value call.now d) }
     {
         act_under(&mut self.taken, self.tree, self.pass, call)
     }
@@ -186,9 +186,7 @@ impl<'a> Locked<'a, Taken<WriterState>> {
     pub fn ask(&mut self, query: &Query) -> Read<Option<Range>>
         ensures same_reference { self.new.pass.ghost_name ≡ self.old.pass.ghost_name }
         ensures tree { self.new.tree ≡ self.old.tree }
-        ensures rests { Rests self.old.pass.now self.new.pass.now }
-        ensures behind { IsOnlyRead self.old.taken.value self.new.taken.value }
-        ensures pass { pass_in self.new.pass.now ≡ pass_in self.old.pass.now }
+        ensures looked { LookedUnder self.old.tree.now self.old.taken.value self.new.taken.value self.old.pass.now self.new.pass.now }
         ensures window { (result.lo ≡ length (pass_in self.old.pass.now).seen) × (result.hi ≡ result.lo) }
         ensures read { known.Read (opened self.old.tree.now)
             (pass_in self.old.pass.now) result.lo result.hi result.lo query.now result.value (pass_in self.new.pass.now) }
@@ -206,7 +204,8 @@ impl<'a> Locked<'a, Taken<WriterState>> {
         ensures pass { pass_in self.new.pass.now ≡ pass_in self.old.pass.now }
         ensures prepared { WasPrepared self.old.tree.now self.old.taken.value self.new.taken.value }
         ensures ready { IsOk result ↔ IsReady self.new.taken.value.parts }
-        ensures short { IfErr result (λ shortage. IsShortNow self.old.tree.now (pass_in self.old.pass.now) self.old.taken.value self.new.taken.value shortage) }
+        ensures short { IfErr result
+            (λ shortage. IsShortNow self.old.tree.now (pass_in self.old.pass.now) self.old.taken.value self.new.taken.value shortage) }
     {
         preallocate_under(&mut self.taken, self.tree, self.pass)
     }
@@ -240,9 +239,7 @@ impl<'a> Locked<'a, Taken<WriterState>> {
     pub fn list(&mut self, alloc: Global) -> Result<Vec<Range>, NoMemory>
         ensures same_reference { self.new.pass.ghost_name ≡ self.old.pass.ghost_name }
         ensures tree { self.new.tree ≡ self.old.tree }
-        ensures rests { Rests self.old.pass.now self.new.pass.now }
-        ensures pass { pass_in self.new.pass.now ≡ pass_in self.old.pass.now }
-        ensures behind { IsOnlyRead self.old.taken.value self.new.taken.value }
+        ensures looked { LookedUnder self.old.tree.now self.old.taken.value self.new.taken.value self.old.pass.now self.new.pass.now }
         ensures items { IfOk result (λ ranges. ranges.items ≡ map_seen self.old.tree.now (pass_in self.old.pass.now)) }
     {
         list_under(&mut self.taken, self.tree, self.pass, alloc)

@@ -1,6 +1,6 @@
 //! How a tree uses its nodes, and since when its sections are open, for a program that cannot wait.
 
-ghost use Rattle.std.specs.Prelude.{◌≡◌, IfErr, IfOk};
+ghost use Rattle.std.specs.Prelude.{◌≡◌};
 ghost use Rattle.mt_base.specs.Passes.{Saw};
 ghost use Rattle.mt_base.specs.Width.{kind_width};
 ghost use Rattle.mt_base.specs.declared.kinds.Kind.{Kind};
@@ -8,11 +8,9 @@ ghost use Rattle.mt_engine.specs.Engine.{IsEngineState};
 ghost use Rattle.mt_engine.specs.Rooms.{IsScanned};
 ghost use Rattle.mt_rule.specs.Seats.{records_of};
 ghost use Rattle.mt_rule.specs.Tokens.{pass_in};
-ghost use Rattle.mt_rule.specs.Turns.{tried};
 ghost use Rattle.mt_tree.specs.Behind.{behind_lock, IsAtRest};
-ghost use Rattle.mt_tree.specs.Looks.{IsLeastBy, IsOldest, IsStatsOf, TellsRows};
-ghost use Rattle.mt_tree.specs.Trees.{opened, place_of, IsPassOf, Rests, TriesOnce, steps_made};
-ghost use Rattle.mt_tree.specs.Tries.{IsBusyOf};
+ghost use Rattle.mt_tree.specs.Looks.{IsLeastBy, IsOldest, IsStatsOf, TellsRows, WasFound};
+ghost use Rattle.mt_tree.specs.Trees.{opened, place_of, IsPassOf, Rests, steps_made};
 ghost use Rattle.mt_tree.specs.Works.{IsWorker};
 
 use crate::behind::{Tools, WriterState};
@@ -31,7 +29,8 @@ use std::marker::Brand;
 /// Loads the section words, and frees the nodes that no section holds. Returns the least epoch at which a section is open.
 fn clear_old<R: Rows>(rows: &mut R, book: &mut RowBook) -> u64
     requires { (kind : Kind) × IsEngineState kind (R.sheet rows.old) book.old }
-    ensures scanned { (kind : Kind) → IsEngineState kind (R.sheet rows.old) book.old → IsScanned kind (R.sheet rows.old) (R.sheet rows.new) book.old book.new }
+    ensures scanned { (kind : Kind) → IsEngineState kind (R.sheet rows.old) book.old
+        → IsScanned kind (R.sheet rows.old) (R.sheet rows.new) book.old book.new }
     ensures least { result ≡ (R.sheet rows.new).scan.least }
 {
     let scan = rows.scan();
@@ -74,7 +73,6 @@ impl WriterState {
         ensures table { self.new.table ≡ place_of tree.now }
         ensures of { IsPassOf tree.now pass.new }
         ensures rests { Rests pass.old pass.new }
-        ensures seen { (pass_in pass.new).seen ≡ records_of self.new.pen.history }
         ensures saw { Saw (opened tree.now) (pass_in pass.old) (pass_in pass.new) }
         ensures least { IsLeastBy tree.now (pass_in pass.new).seen self.old self.new result }
     {
@@ -110,12 +108,7 @@ impl Tree {
     /// `Busy` if the one try found the lock taken. Nothing is changed, and the handle has seen no more.
     pub fn try_stats(&self, pass: &mut Pass) -> Result<(Stats, Look), Busy>
         requires { IsPassOf self.now pass.old }
-        ensures of { IsPassOf self.now pass.new }
-        ensures saw { IfOk result (λ _. Saw (opened self.now) (pass_in pass.old) (pass_in pass.new)) }
-        ensures stats { IfOk result (IsStatsOf self.now (pass_in pass.new)) }
-        ensures busy { IfErr result (IsBusyOf self.now) }
-        ensures kept { IfErr result (λ _. pass.new ≡ tried pass.old) }
-        ensures tries { TriesOnce pass.old pass.new }
+        ensures found { WasFound IsStatsOf self.now pass.old result pass.new }
     {
         let mut taken = self.try_take(pass)?;
         let took = taken.value.snapshot(self);
@@ -133,12 +126,7 @@ impl Tree {
     /// `Busy` if the one try found the lock taken. Nothing is changed, and the handle has seen no more.
     pub fn try_oldest(&self, pass: &mut Pass) -> Result<(u64, Look), Busy>
         requires { IsPassOf self.now pass.old }
-        ensures of { IsPassOf self.now pass.new }
-        ensures saw { IfOk result (λ _. Saw (opened self.now) (pass_in pass.old) (pass_in pass.new)) }
-        ensures oldest { IfOk result (IsOldest self.now (pass_in pass.new)) }
-        ensures busy { IfErr result (IsBusyOf self.now) }
-        ensures kept { IfErr result (λ _. pass.new ≡ tried pass.old) }
-        ensures tries { TriesOnce pass.old pass.new }
+        ensures found { WasFound IsOldest self.now pass.old result pass.new }
     {
         let mut taken = self.try_take(pass)?;
         let took = taken.value.snapshot(self);

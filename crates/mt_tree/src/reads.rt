@@ -1,13 +1,12 @@
 //! The reads of a tree, without its lock.
 
-ghost use Rattle.std.specs.Prelude.{◌≡◌, ℕ, ◌+◌, ◌≤◌, IfOk, IfErr, Option, option_map};
+ghost use Rattle.std.specs.Prelude.{◌≡◌, ℕ, ◌+◌, ◌≤◌, Option, option_map};
 ghost use Rattle.mt_base.specs.declared.calls.Query.TheVariants.{Load, Find, Next, Prev, Rfind};
 ghost use Rattle.mt_base.specs.declared.ranges.Range.{Range};
 ghost use Rattle.mt_base.specs.Passes as known;
-ghost use Rattle.mt_base.specs.Width.{greatest_of};
-ghost use Rattle.mt_read.specs.Neighbours.{WasLeftMarked, WasMoved};
 ghost use Rattle.mt_read.specs.Windows.{HasRead};
-ghost use Rattle.mt_rule.specs.Tokens.{part_of, pass_in, IsCounted};
+ghost use Rattle.mt_rule.specs.Tokens.{pass_in, IsCounted};
+ghost use Rattle.mt_tree.specs.Asks.{HasSought};
 ghost use Rattle.mt_tree.specs.Trees.{opened, IsPassOf, Takes};
 
 use crate::trees::Tree;
@@ -90,14 +89,8 @@ impl Tree {
     ) -> Result<Read<Option<Range>>, Moved>
         requires { IsPassOf self.now pass.old }
         ensures of { IsPassOf self.now pass.new }
-        ensures read { IfOk result (λ r. (k : ℕ) × known.Read (opened self.now) (pass_in pass.old) r.lo r.hi k (Next index max) r.value (pass_in pass.new)) }
-        ensures section { IfOk result (λ r. HasRead r.lo r.hi (pass_in pass.old) (pass_in pass.new)) }
-        ensures moved { IfErr result (λ m. WasMoved (opened self.now) (pass_in pass.old) m.lo m.begun (pass_in pass.new)) }
-        ensures given_up { IfErr result (λ m. HasRead m.lo m.begun (pass_in pass.old) (pass_in pass.new)) }
-        ensures left { IfErr result
-            (λ m. WasLeftMarked (Next index (greatest_of (part_of pass.old).shape.kind)) m.lo m.begun (part_of pass.old) (part_of pass.new)) }
+        ensures sought { HasSought self.now pass.old (Next index max) result pass.new }
         ensures counted { IsCounted pass.old pass.new steps.old steps.new }
-        ensures takes { Takes 360 pass.old pass.new }
         ensures steps { steps.new ≤ steps.old + 360 }
     {
         mt_read::next(&self.table, pass, index, max, steps)
@@ -119,13 +112,8 @@ impl Tree {
     ) -> Result<Read<Option<Range>>, Moved>
         requires { IsPassOf self.now pass.old }
         ensures of { IsPassOf self.now pass.new }
-        ensures read { IfOk result (λ r. (k : ℕ) × known.Read (opened self.now) (pass_in pass.old) r.lo r.hi k (Prev index min) r.value (pass_in pass.new)) }
-        ensures section { IfOk result (λ r. HasRead r.lo r.hi (pass_in pass.old) (pass_in pass.new)) }
-        ensures moved { IfErr result (λ m. WasMoved (opened self.now) (pass_in pass.old) m.lo m.begun (pass_in pass.new)) }
-        ensures given_up { IfErr result (λ m. HasRead m.lo m.begun (pass_in pass.old) (pass_in pass.new)) }
-        ensures left { IfErr result (λ m. WasLeftMarked (Prev index 0) m.lo m.begun (part_of pass.old) (part_of pass.new)) }
+        ensures sought { HasSought self.now pass.old (Prev index min) result pass.new }
         ensures counted { IsCounted pass.old pass.new steps.old steps.new }
-        ensures takes { Takes 360 pass.old pass.new }
         ensures steps { steps.new ≤ steps.old + 360 }
     {
         mt_read::prev(&self.table, pass, index, min, steps)
@@ -147,13 +135,8 @@ impl Tree {
     ) -> Result<Read<Option<Range>>, Moved>
         requires { IsPassOf self.now pass.old }
         ensures of { IsPassOf self.now pass.new }
-        ensures read { IfOk result (λ r. (k : ℕ) × known.Read (opened self.now) (pass_in pass.old) r.lo r.hi k (Rfind index min) r.value (pass_in pass.new)) }
-        ensures section { IfOk result (λ r. HasRead r.lo r.hi (pass_in pass.old) (pass_in pass.new)) }
-        ensures moved { IfErr result (λ m. WasMoved (opened self.now) (pass_in pass.old) m.lo m.begun (pass_in pass.new)) }
-        ensures given_up { IfErr result (λ m. HasRead m.lo m.begun (pass_in pass.old) (pass_in pass.new)) }
-        ensures left { IfErr result (λ m. WasLeftMarked (Rfind index 0) m.lo m.begun (part_of pass.old) (part_of pass.new)) }
+        ensures sought { HasSought self.now pass.old (Rfind index min) result pass.new }
         ensures counted { IsCounted pass.old pass.new steps.old steps.new }
-        ensures takes { Takes 360 pass.old pass.new }
         ensures steps { steps.new ≤ steps.old + 360 }
     {
         mt_read::rfind(&self.table, pass, index, min, steps)

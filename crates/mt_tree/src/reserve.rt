@@ -5,7 +5,7 @@ ghost use Rattle.mt_base.specs.Width.{most_rows};
 ghost use Rattle.mt_base.specs.declared.calls.Call.TheVariants.{Store};
 ghost use Rattle.mt_rows.specs.Publish.{map_by, IsLawfulOf};
 ghost use Rattle.mt_rows.specs.Sheet.{OnlyReads};
-ghost use Rattle.mt_tree.specs.Reserve.{Changes, IsGain, IsVerdict, ranges_of};
+ghost use Rattle.mt_tree.specs.Reserve.{TellsChange, IsGain, IsReserveVerdict, range_count};
 ghost use Rattle.mt_tree.specs.RowsFor.{rows_for};
 
 use crate::counts::{Change, change_of};
@@ -18,18 +18,18 @@ use mt_rows::Rows;
 /// What is found before a call: whether it breaks the reserve, and how many ranges there are, and will be if it is made, where
 /// these numbers are known.
 #[derive(Clone, Copy)]
-pub struct Verdict {
+pub struct ReserveVerdict {
     pub breaks: bool,
     pub before: Option<u64>,
     pub after: Option<u64>,
 }
 
-impl Verdict {
+impl ReserveVerdict {
     /// That on a call that adds no range.
     fn never(known: Option<u64>) -> Self
         ensures { result ≡ record { breaks = false; before = known; after = None } }
     {
-        Verdict {
+        ReserveVerdict {
             breaks: false,
             before: known,
             after: None,
@@ -73,13 +73,13 @@ fn lacks_room<R: Rows>(
     gain: u64,
 ) -> (Engine<R>, bool, u64)
     requires kind { kind ≡ engine.kind }
-    requires known { IfSome known (λ n. n ≡ ranges_of engine) }
+    requires known { IfSome known (λ n. n ≡ range_count engine) }
     requires gain { gain ≤ 3 }
     ensures rest { OnlyReads engine.sheet result.0.sheet }
     ensures book { result.0.book ≡ engine.book }
     ensures kind { result.0.kind ≡ engine.kind }
-    ensures lacks { IsTrue result.1 ↔ (engine.sheet.tree.rows < rows_for (ranges_of engine + gain)) }
-    ensures ranges { result.2 ≡ ranges_of engine }
+    ensures lacks { IsTrue result.1 ↔ (engine.sheet.tree.rows < rows_for (range_count engine + gain)) }
+    ensures ranges { result.2 ≡ range_count engine }
 {
     let height = engine.height();
     let (mut rows, book) = engine.parts();
@@ -95,17 +95,17 @@ fn add_verdict<R: Rows>(
     kind: Kind,
     known: Option<u64>,
     call: &Call,
-) -> (Engine<R>, Verdict)
+) -> (Engine<R>, ReserveVerdict)
     requires kind { kind ≡ engine.kind }
-    requires known { IfSome known (λ n. n ≡ ranges_of engine) }
+    requires known { IfSome known (λ n. n ≡ range_count engine) }
     requires gain { IsGain engine call.now 1 }
     ensures rest { OnlyReads engine.sheet result.0.sheet }
     ensures book { result.0.book ≡ engine.book }
     ensures kind { result.0.kind ≡ engine.kind }
-    ensures verdict { IsVerdict engine call.now result.1 }
+    ensures verdict { IsReserveVerdict engine call.now result.1 }
 {
     let (engine, breaks, ranges) = lacks_room(engine, kind, known, 1);
-    let verdict = Verdict {
+    let verdict = ReserveVerdict {
         breaks,
         before: Some(ranges),
         after: None,
@@ -121,18 +121,18 @@ fn change_verdict<R: Rows>(
     known: Option<u64>,
     call: &Call,
     change: Change,
-) -> (Engine<R>, Verdict)
+) -> (Engine<R>, ReserveVerdict)
     requires kind { kind ≡ engine.kind }
-    requires known { IfSome known (λ n. n ≡ ranges_of engine) }
-    requires change { Changes engine call.now change }
+    requires known { IfSome known (λ n. n ≡ range_count engine) }
+    requires change { TellsChange engine call.now change }
     ensures rest { OnlyReads engine.sheet result.0.sheet }
     ensures book { result.0.book ≡ engine.book }
     ensures kind { result.0.kind ≡ engine.kind }
-    ensures verdict { IsVerdict engine call.now result.1 }
+    ensures verdict { IsReserveVerdict engine call.now result.1 }
 {
     let gain = change.gain();
     if gain == 0 {
-        let verdict = Verdict {
+        let verdict = ReserveVerdict {
             breaks: false,
             before: known,
             after: change.after_known(known),
@@ -140,7 +140,7 @@ fn change_verdict<R: Rows>(
         return (engine, verdict);
     }
     let (engine, breaks, ranges) = lacks_room(engine, kind, known, gain);
-    let verdict = Verdict {
+    let verdict = ReserveVerdict {
         breaks,
         before: Some(ranges),
         after: change.after(ranges),
@@ -157,16 +157,16 @@ fn store_verdict<R: Rows>(
     first: u64,
     last: u64,
     entry: u64,
-) -> (Engine<R>, Verdict)
+) -> (Engine<R>, ReserveVerdict)
     requires kind { kind ≡ engine.kind }
-    requires known { IfSome known (λ n. n ≡ ranges_of engine) }
+    requires known { IfSome known (λ n. n ≡ range_count engine) }
     ensures rest { OnlyReads engine.sheet result.0.sheet }
     ensures book { result.0.book ≡ engine.book }
     ensures kind { result.0.kind ≡ engine.kind }
-    ensures verdict { IsVerdict engine (Store first last entry) result.1 }
+    ensures verdict { IsReserveVerdict engine (Store first last entry) result.1 }
 {
     if is_invalid(kind, first, last, entry) {
-        return (engine, Verdict::never(known));
+        return (engine, ReserveVerdict::never(known));
     }
     let mut engine = engine;
     let change = change_of(&mut engine, first, last, entry);
@@ -181,13 +181,13 @@ pub fn verdict_of<R: Rows>(
     kind: Kind,
     known: Option<u64>,
     call: &Call,
-) -> (Engine<R>, Verdict)
+) -> (Engine<R>, ReserveVerdict)
     requires kind { kind ≡ engine.kind }
-    requires known { IfSome known (λ n. n ≡ ranges_of engine) }
+    requires known { IfSome known (λ n. n ≡ range_count engine) }
     ensures rest { OnlyReads engine.sheet result.0.sheet }
     ensures book { result.0.book ≡ engine.book }
     ensures kind { result.0.kind ≡ engine.kind }
-    ensures verdict { IsVerdict engine call.now result.1 }
+    ensures verdict { IsReserveVerdict engine call.now result.1 }
 {
     match *call {
         Call::Store { first, last, entry } | Call::StorePre { first, last, entry } => {
@@ -197,7 +197,7 @@ pub fn verdict_of<R: Rows>(
             add_verdict(engine, kind, known, call)
         }
         Call::Erase { .. } | Call::Gap { .. } | Call::Rgap { .. } | Call::Clear => {
-            (engine, Verdict::never(known))
+            (engine, ReserveVerdict::never(known))
         }
     }
 }

@@ -36,7 +36,7 @@ fn levels_for(ranges: u64) -> u64
 
 /// How many nodes are surely enough for `ranges` ranges. A tree of that many nodes, none of which is held back, refuses no call
 /// because nodes are short while it has at most that many ranges. The greatest number if a tree cannot have that many nodes.
-#[tactic(auto, using(crate::proofs::RowsFor::enough, crate::proofs::RowsFor::enough_far, crate::proofs::RowsFor::told_rows, crate::proofs::RowsFor::told_many, crate::proofs::RowsFor::told_far))]
+#[tactic(auto, using(crate::proofs::RowsFor::telling))]
 pub fn rows_enough(ranges: u64) -> u64
     ensures rows { result ≡ defined.rows_told ranges }
     ensures enough { (l : Limits) (m : List Range) (s : Shortage) → length m ≤ ranges → IsShort l m s → s.held ≡ 0 → l.rows < result }

@@ -11,7 +11,7 @@ ghost use Rattle.mt_rule.specs.Tokens.{pass_in};
 ghost use Rattle.mt_rule.specs.Turns.{tried};
 ghost use Rattle.mt_tree.specs.declared.shapes.Field.{Field};
 ghost use Rattle.mt_tree.specs.Copies.{live_rows, IsFit, IsForRoom, IsReadyToOpen};
-ghost use Rattle.mt_tree.specs.Looks.{words_in, IsCopyLooked, IsFormBehind, IsImagedBehind, IsLookAt};
+ghost use Rattle.mt_tree.specs.Looks.{looked_words, IsCopyLooked, IsFormBehind, IsImagedBehind, IsLookAt, WasFound};
 ghost use Rattle.mt_tree.specs.Shapes.{first_bad};
 ghost use Rattle.mt_tree.specs.Trees.{IsNew, IsPassOf, TriesOnce, map_seen, opened};
 ghost use Rattle.mt_tree.specs.Tries.{IsBusyOf};
@@ -35,12 +35,7 @@ impl Tree {
     /// `Busy` if the one try found the lock taken. Nothing is changed, and the handle has seen no more.
     pub fn try_check(&self, pass: &mut Pass) -> Result<(Form, Look), Busy>
         requires { IsPassOf self.now pass.old }
-        ensures of { IsPassOf self.now pass.new }
-        ensures saw { IfOk result (λ _. Saw (opened self.now) (pass_in pass.old) (pass_in pass.new)) }
-        ensures form { IfOk result (IsFormBehind self.now (pass_in pass.new)) }
-        ensures busy { IfErr result (IsBusyOf self.now) }
-        ensures kept { IfErr result (λ _. pass.new ≡ tried pass.old) }
-        ensures tries { TriesOnce pass.old pass.new }
+        ensures found { WasFound IsFormBehind self.now pass.old result pass.new }
     {
         let mut taken = self.try_take(pass)?;
         let took = taken.value.snapshot(self);
@@ -59,13 +54,8 @@ impl Tree {
         pass: &mut Pass,
     ) -> Result<(Result<Vec<u8>, NoMemory>, Look), Busy>
         requires { IsPassOf self.now pass.old }
-        ensures of { IsPassOf self.now pass.new }
-        ensures saw { IfOk result (λ _. Saw (opened self.now) (pass_in pass.old) (pass_in pass.new)) }
+        ensures found { WasFound IsImagedBehind self.now pass.old result pass.new }
         ensures map { IfOk result (λ r. IfOk r.0 (λ bytes. IsImageOfMap (opened self.now).kind (map_seen self.now (pass_in pass.new)) bytes.items)) }
-        ensures image { IfOk result (IsImagedBehind self.now (pass_in pass.new)) }
-        ensures busy { IfErr result (IsBusyOf self.now) }
-        ensures kept { IfErr result (λ _. pass.new ≡ tried pass.old) }
-        ensures tries { TriesOnce pass.old pass.new }
     {
         let mut taken = self.try_take(pass)?;
         let took = taken.value.snapshot(self);
@@ -86,7 +76,7 @@ impl Tree {
         ensures of { IsPassOf self.now pass.new }
         ensures saw { IfOk result (λ _. Saw (opened self.now) (pass_in pass.old) (pass_in pass.new)) }
         ensures look { IfOk result (λ r. IsLookAt self.now (pass_in pass.new) r.1) }
-        ensures live { IfOk result (λ r. r.0 ≡ live_rows (words_in r.1)) }
+        ensures live { IfOk result (λ r. r.0 ≡ live_rows (looked_words r.1)) }
         ensures copy { IfOk result (λ r. r.0 ≤ book.old.rows
             → IsReadyToOpen (opened self.now).kind book.old.rows (map_seen self.now (pass_in pass.new)) (sheet_in dst.new) book.new) }
         ensures busy { IfErr result (IsBusyOf self.now) }

@@ -1,10 +1,11 @@
 //! Walks whose handle and place the caller keeps, each as a value: a [`Cursor`](crate::Cursor) borrows both a tree and a
 //! handle.
 
-ghost use Rattle.std.specs.Prelude.{◌≡◌, ◌+◌, ◌≤◌, ◌<◌, None};
-ghost use Rattle.mt_rule.specs.Tokens.{pass_in, IsCounted};
-ghost use Rattle.mt_tree.specs.Trees.{IsPassOf, Takes};
-ghost use Rattle.mt_tree.specs.Walks.{HasWalked, IsWalkOf};
+ghost use Rattle.std.specs.Prelude.{◌≡◌, ◌+◌, ◌≤◌};
+ghost use Rattle.mt_rule.specs.Tokens.{IsCounted};
+ghost use Rattle.mt_base.specs.Blanks.{IsBlankOf};
+ghost use Rattle.mt_tree.specs.Trees.{IsPassOf};
+ghost use Rattle.mt_tree.specs.Walks.{HasHalted, HasWalked, IsWalkOf};
 
 use crate::trees::Tree;
 use mt_base::{Range, Read, Steps};
@@ -38,9 +39,7 @@ impl Tree {
         requires pass { IsPassOf self.now pass.old }
         ensures of { IsPassOf self.now pass.new }
         ensures walk { IsWalkOf pass.new walk.new }
-        ensures closed { pass_in pass.new ≡ record (pass_in pass.old) { standing = None } }
-        ensures same { walk.new ≡ record walk.old { leaf = None; epoch = None } }
-        ensures takes { Takes 1 pass.old pass.new }
+        ensures halted { HasHalted pass.old walk.old pass.new walk.new }
         ensures counted { IsCounted pass.old pass.new steps.old steps.new }
         ensures steps { steps.new ≡ steps.old + 1 }
     {
@@ -63,9 +62,7 @@ impl Tree {
         requires pass { IsPassOf self.now pass.old }
         ensures of { IsPassOf self.now pass.new }
         ensures walk { IsWalkOf pass.new walk.new }
-        ensures closed { pass_in pass.new ≡ record (pass_in pass.old) { standing = None } }
-        ensures same { walk.new ≡ record walk.old { leaf = None; epoch = None } }
-        ensures takes { Takes 1 pass.old pass.new }
+        ensures halted { HasHalted pass.old walk.old pass.new walk.new }
     {
         stand::<Brand>(self, pass, walk, Blank::new(1));
     }
@@ -78,9 +75,7 @@ fn go_on<L: Ledger>(
     walk: &mut Cursor,
     blank: Blank,
 ) -> Read<Option<Range>>
-    requires name { blank.name ≡ L.name }
-    requires parts { blank.parts ≡ L.parts }
-    requires some { 0 < blank.parts }
+    requires blank { IsBlankOf L.name L.parts blank.name blank.parts }
     requires pass { IsPassOf tree.now pass.old }
     requires walk { IsWalkOf pass.old walk.old }
     ensures of { IsPassOf tree.now pass.new }
@@ -93,15 +88,11 @@ fn go_on<L: Ledger>(
 
 /// Closes the section.
 fn stand<L: Ledger>(tree: &Tree, pass: &mut Pass, walk: &mut Cursor, blank: Blank)
-    requires name { blank.name ≡ L.name }
-    requires parts { blank.parts ≡ L.parts }
-    requires some { 0 < blank.parts }
+    requires blank { IsBlankOf L.name L.parts blank.name blank.parts }
     requires pass { IsPassOf tree.now pass.old }
     ensures of { IsPassOf tree.now pass.new }
     ensures walk { IsWalkOf pass.new walk.new }
-    ensures closed { pass_in pass.new ≡ record (pass_in pass.old) { standing = None } }
-    ensures same { walk.new ≡ record walk.old { leaf = None; epoch = None } }
-    ensures takes { Takes 1 pass.old pass.new }
+    ensures halted { HasHalted pass.old walk.old pass.new walk.new }
 {
     let mut steps = Steps::<L>::new(blank);
     tree.pause(pass, walk, &mut steps);

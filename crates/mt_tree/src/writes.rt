@@ -1,10 +1,11 @@
 //! The calls of a tree, each under a lock of its own.
 
-ghost use Rattle.std.specs.Prelude.{◌≡◌, ◌≤◌, IfOk, IfErr};
+ghost use Rattle.std.specs.Prelude.{◌≡◌};
 ghost use Rattle.mt_base.specs.declared.calls.Call.TheVariants as calls;
-ghost use Rattle.mt_base.specs.Passes.{Wrote, Learned};
+ghost use Rattle.mt_base.specs.Passes.{Learned};
 ghost use Rattle.mt_rule.specs.Tokens.{pass_in, note_in};
-ghost use Rattle.mt_tree.specs.Trees.{opened, limit_of, IsPassOf, IsNoteOf, IsWorn, NamesPass, TriesOnce, WasAnswered};
+ghost use Rattle.mt_tree.specs.Trees.{opened, IsPassOf, IsNoteOf, TriesOnce};
+ghost use Rattle.mt_tree.specs.Tries.{WasMade};
 
 use crate::trees::Tree;
 use mt_base::{Call, Done, Worn};
@@ -22,10 +23,7 @@ impl Tree {
     pub fn act(&self, rt: &impl Wait, pass: &mut Pass, call: &Call) -> Result<Done, Worn>
         requires { IsPassOf self.now pass.old }
         ensures of { IsPassOf self.now pass.new }
-        ensures done { IfOk result (λ d. Wrote (opened self.now) (pass_in pass.old) d.call call.now d.reply (pass_in pass.new) × (d.call ≤ limit_of self.now)) }
-        ensures named { IfOk result (λ d. NamesPass self.now d.reply) }
-        ensures answered { IfOk result (λ d. WasAnswered self.now (pass_in pass.new) call.now d) }
-        ensures worn { IfErr result (λ w. IsWorn self.now (pass_in pass.old) w (pass_in pass.new)) }
+        ensures made { WasMade self.now (pass_in pass.old) call.now result (pass_in pass.new) }
         ensures tries { TriesOnce pass.old pass.new }
     {
         let mut taken = self.take(rt, pass);
@@ -49,11 +47,7 @@ impl Tree {
     ) -> Result<Done, Worn>
         requires { IsPassOf self.now pass.old }
         ensures of { IsPassOf self.now pass.new }
-        ensures done { IfOk result (λ d. Wrote (opened self.now) (pass_in pass.old) d.call (calls.Store first last entry) d.reply (pass_in pass.new)
-            × (d.call ≤ limit_of self.now)) }
-        ensures named { IfOk result (λ d. NamesPass self.now d.reply) }
-        ensures answered { IfOk result (λ d. WasAnswered self.now (pass_in pass.new) (calls.Store first last entry) d) }
-        ensures worn { IfErr result (λ w. IsWorn self.now (pass_in pass.old) w (pass_in pass.new)) }
+        ensures made { WasMade self.now (pass_in pass.old) (calls.Store first last entry) result (pass_in pass.new) }
         ensures tries { TriesOnce pass.old pass.new }
     {
         self.act(rt, pass, &Call::Store { first, last, entry })
@@ -75,11 +69,7 @@ impl Tree {
     ) -> Result<Done, Worn>
         requires { IsPassOf self.now pass.old }
         ensures of { IsPassOf self.now pass.new }
-        ensures done { IfOk result (λ d. Wrote (opened self.now) (pass_in pass.old) d.call (calls.StorePre first last entry) d.reply (pass_in pass.new)
-            × (d.call ≤ limit_of self.now)) }
-        ensures named { IfOk result (λ d. NamesPass self.now d.reply) }
-        ensures answered { IfOk result (λ d. WasAnswered self.now (pass_in pass.new) (calls.StorePre first last entry) d) }
-        ensures worn { IfErr result (λ w. IsWorn self.now (pass_in pass.old) w (pass_in pass.new)) }
+        ensures made { WasMade self.now (pass_in pass.old) (calls.StorePre first last entry) result (pass_in pass.new) }
         ensures tries { TriesOnce pass.old pass.new }
     {
         self.act(rt, pass, &Call::StorePre { first, last, entry })
@@ -100,11 +90,7 @@ impl Tree {
     ) -> Result<Done, Worn>
         requires { IsPassOf self.now pass.old }
         ensures of { IsPassOf self.now pass.new }
-        ensures done { IfOk result (λ d. Wrote (opened self.now) (pass_in pass.old) d.call (calls.Insert first last entry) d.reply (pass_in pass.new)
-            × (d.call ≤ limit_of self.now)) }
-        ensures named { IfOk result (λ d. NamesPass self.now d.reply) }
-        ensures answered { IfOk result (λ d. WasAnswered self.now (pass_in pass.new) (calls.Insert first last entry) d) }
-        ensures worn { IfErr result (λ w. IsWorn self.now (pass_in pass.old) w (pass_in pass.new)) }
+        ensures made { WasMade self.now (pass_in pass.old) (calls.Insert first last entry) result (pass_in pass.new) }
         ensures tries { TriesOnce pass.old pass.new }
     {
         self.act(rt, pass, &Call::Insert { first, last, entry })
@@ -118,11 +104,7 @@ impl Tree {
     pub fn erase(&self, rt: &impl Wait, pass: &mut Pass, index: u64) -> Result<Done, Worn>
         requires { IsPassOf self.now pass.old }
         ensures of { IsPassOf self.now pass.new }
-        ensures done { IfOk result
-            (λ d. Wrote (opened self.now) (pass_in pass.old) d.call (calls.Erase index) d.reply (pass_in pass.new) × (d.call ≤ limit_of self.now)) }
-        ensures named { IfOk result (λ d. NamesPass self.now d.reply) }
-        ensures answered { IfOk result (λ d. WasAnswered self.now (pass_in pass.new) (calls.Erase index) d) }
-        ensures worn { IfErr result (λ w. IsWorn self.now (pass_in pass.old) w (pass_in pass.new)) }
+        ensures made { WasMade self.now (pass_in pass.old) (calls.Erase index) result (pass_in pass.new) }
         ensures tries { TriesOnce pass.old pass.new }
     {
         self.act(rt, pass, &Call::Erase { index })
@@ -144,11 +126,7 @@ impl Tree {
     ) -> Result<Done, Worn>
         requires { IsPassOf self.now pass.old }
         ensures of { IsPassOf self.now pass.new }
-        ensures done { IfOk result (λ d. Wrote (opened self.now) (pass_in pass.old) d.call (calls.Alloc size min max entry) d.reply (pass_in pass.new)
-            × (d.call ≤ limit_of self.now)) }
-        ensures named { IfOk result (λ d. NamesPass self.now d.reply) }
-        ensures answered { IfOk result (λ d. WasAnswered self.now (pass_in pass.new) (calls.Alloc size min max entry) d) }
-        ensures worn { IfErr result (λ w. IsWorn self.now (pass_in pass.old) w (pass_in pass.new)) }
+        ensures made { WasMade self.now (pass_in pass.old) (calls.Alloc size min max entry) result (pass_in pass.new) }
         ensures tries { TriesOnce pass.old pass.new }
     {
         self.act(
@@ -179,11 +157,7 @@ impl Tree {
     ) -> Result<Done, Worn>
         requires { IsPassOf self.now pass.old }
         ensures of { IsPassOf self.now pass.new }
-        ensures done { IfOk result (λ d. Wrote (opened self.now) (pass_in pass.old) d.call (calls.Ralloc size min max entry) d.reply (pass_in pass.new)
-            × (d.call ≤ limit_of self.now)) }
-        ensures named { IfOk result (λ d. NamesPass self.now d.reply) }
-        ensures answered { IfOk result (λ d. WasAnswered self.now (pass_in pass.new) (calls.Ralloc size min max entry) d) }
-        ensures worn { IfErr result (λ w. IsWorn self.now (pass_in pass.old) w (pass_in pass.new)) }
+        ensures made { WasMade self.now (pass_in pass.old) (calls.Ralloc size min max entry) result (pass_in pass.new) }
         ensures tries { TriesOnce pass.old pass.new }
     {
         self.act(
@@ -214,11 +188,7 @@ impl Tree {
     ) -> Result<Done, Worn>
         requires { IsPassOf self.now pass.old }
         ensures of { IsPassOf self.now pass.new }
-        ensures done { IfOk result (λ d. Wrote (opened self.now) (pass_in pass.old) d.call (calls.Gap size min max) d.reply (pass_in pass.new)
-            × (d.call ≤ limit_of self.now)) }
-        ensures named { IfOk result (λ d. NamesPass self.now d.reply) }
-        ensures answered { IfOk result (λ d. WasAnswered self.now (pass_in pass.new) (calls.Gap size min max) d) }
-        ensures worn { IfErr result (λ w. IsWorn self.now (pass_in pass.old) w (pass_in pass.new)) }
+        ensures made { WasMade self.now (pass_in pass.old) (calls.Gap size min max) result (pass_in pass.new) }
         ensures tries { TriesOnce pass.old pass.new }
     {
         self.act(rt, pass, &Call::Gap { size, min, max })
@@ -240,11 +210,7 @@ impl Tree {
     ) -> Result<Done, Worn>
         requires { IsPassOf self.now pass.old }
         ensures of { IsPassOf self.now pass.new }
-        ensures done { IfOk result (λ d. Wrote (opened self.now) (pass_in pass.old) d.call (calls.Rgap size min max) d.reply (pass_in pass.new)
-            × (d.call ≤ limit_of self.now)) }
-        ensures named { IfOk result (λ d. NamesPass self.now d.reply) }
-        ensures answered { IfOk result (λ d. WasAnswered self.now (pass_in pass.new) (calls.Rgap size min max) d) }
-        ensures worn { IfErr result (λ w. IsWorn self.now (pass_in pass.old) w (pass_in pass.new)) }
+        ensures made { WasMade self.now (pass_in pass.old) (calls.Rgap size min max) result (pass_in pass.new) }
         ensures tries { TriesOnce pass.old pass.new }
     {
         self.act(rt, pass, &Call::Rgap { size, min, max })
@@ -258,11 +224,7 @@ impl Tree {
     pub fn clear(&self, rt: &impl Wait, pass: &mut Pass) -> Result<Done, Worn>
         requires { IsPassOf self.now pass.old }
         ensures of { IsPassOf self.now pass.new }
-        ensures done { IfOk result
-            (λ d. Wrote (opened self.now) (pass_in pass.old) d.call calls.Clear d.reply (pass_in pass.new) × (d.call ≤ limit_of self.now)) }
-        ensures named { IfOk result (λ d. NamesPass self.now d.reply) }
-        ensures answered { IfOk result (λ d. WasAnswered self.now (pass_in pass.new) calls.Clear d) }
-        ensures worn { IfErr result (λ w. IsWorn self.now (pass_in pass.old) w (pass_in pass.new)) }
+        ensures made { WasMade self.now (pass_in pass.old) calls.Clear result (pass_in pass.new) }
         ensures tries { TriesOnce pass.old pass.new }
     {
         self.act(rt, pass, &Call::Clear)

@@ -298,33 +298,9 @@ fn not_copied(
     requires { IsPassOf tree.now pass.old }
     ensures { IsPassOf tree.now pass.new }
 {
-    let shape = Shape {
-        kind,
-        rows,
-        passes: 1,
-        calls: 9,
-    };
-    match duplicated(rt, alloc, tree, pass, shape) {
+    match duplicated(rt, alloc, tree, pass, shape_of(kind, rows, 1, 9)) {
         Ok(_) => None,
         Err(why) => Some(why),
-    }
-}
-
-/// A copy of a tree of ranges, and its handles.
-fn copied(
-    rt: &impl Wait,
-    alloc: Global,
-    tree: &Tree,
-    pass: &mut Pass,
-    shape: Shape,
-) -> Result<(Tree, Vec<Pass>), Fail>
-    requires { IsPassOf tree.now pass.old }
-    ensures of { IsPassOf tree.now pass.new }
-    ensures copy { IfOk result (λ r. AreAll r.0 r.1.items) }
-{
-    match duplicated(rt, alloc, tree, pass, shape) {
-        Ok(made) => Ok(made),
-        Err(_) => Err("no copy was made".into()),
     }
 }
 
@@ -382,7 +358,10 @@ fn expect_copy<R: Abort + Wait>(
     requires { IsPassOf tree.now pass.old }
 {
     let (form, _look) = tree.check(rt, pass);
-    let (copy, mut others) = copied(rt, alloc, tree, pass, shape_of(kind, 4096, 1, 9))?;
+    let Ok((copy, mut others)) = duplicated(rt, alloc, tree, pass, shape_of(kind, 4096, 1, 9))
+    else {
+        return Err("no copy was made".into());
+    };
     let mut other = last_pass(&copy, &mut others)?;
     let ranges = listed(rt, alloc, tree, pass)?;
     let copied = listed(rt, alloc, &copy, &mut other)?;

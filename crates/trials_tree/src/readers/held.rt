@@ -1,6 +1,6 @@
 //! The nodes that an open section of a cursor holds.
 
-ghost use Rattle.std.specs.Prelude.{◌≡◌, ◌<◌};
+ghost use Rattle.mt_base.specs.Blanks.{IsBlankOf};
 ghost use Rattle.mt_tree.specs.Trees.{IsPassOf};
 
 use crate::asserts::{KINDS, same};
@@ -93,7 +93,7 @@ fn change_the_entry<R: Wait + Abort>(rt: &R, tree: &Tree, writer: &mut Pass, sto
 /// What becomes of a cursor that holds the nodes: it is closed, or dropped, or kept while an entry is changed, before the tree
 /// is asked for more or after that.
 #[derive(Clone, Copy, PartialEq)]
-enum Held {
+enum Until {
     Closed,
     Dropped,
     StoredFirst,
@@ -107,28 +107,26 @@ fn hold<R: Wait + Abort, L: Ledger>(
     tree: &Tree,
     writer: &mut Pass,
     reader: &mut Pass,
-    held: Held,
+    held: Until,
 )
-    requires name { blank.name ≡ L.name }
-    requires parts { blank.parts ≡ L.parts }
-    requires some { 0 < blank.parts }
+    requires blank { IsBlankOf L.name L.parts blank.name blank.parts }
     requires passes { IsPassOf tree.now writer.old × IsPassOf tree.now reader.old }
 {
     let mut steps = Steps::<L>::new(blank);
     store_range(rt, tree, writer, 10, 10, 5, 1, Reply::Ok);
-    if held == Held::Dropped {
+    if held == Until::Dropped {
         drop_the_cursor(rt, tree, writer, reader, &mut steps);
         return;
     }
     let mut cursor = tree.cursor(reader, 0, u64::MAX);
     same(rt, cursor.step(&mut steps), read(1, Some((10, 10, 5))), 1);
     fill(rt, tree, writer);
-    if held == Held::Closed {
+    if held == Until::Closed {
         cursor.close(&mut steps);
         store(rt, tree, writer, 60, 7, Reply::Ok);
         return;
     }
-    change_the_entry(rt, tree, writer, held == Held::StoredFirst);
+    change_the_entry(rt, tree, writer, held == Until::StoredFirst);
     cursor.close(&mut steps);
 }
 
@@ -141,9 +139,7 @@ fn close_the_older_cursor<R: Wait + Abort, L: Ledger>(
     younger: &mut Pass,
     older: &mut Pass,
 )
-    requires name { blank.name ≡ L.name }
-    requires parts { blank.parts ≡ L.parts }
-    requires some { 0 < blank.parts }
+    requires blank { IsBlankOf L.name L.parts blank.name blank.parts }
     requires passes { IsPassOf tree.now writer.old × IsPassOf tree.now younger.old × IsPassOf tree.now older.old }
 {
     let mut steps = Steps::<L>::new(blank);
@@ -164,7 +160,12 @@ fn close_the_older_cursor<R: Wait + Abort, L: Ledger>(
 }
 
 /// The nodes of a tree of this kind are held by one cursor.
-fn hold_by_one<R: Wait + Abort>(rt: &R, alloc: Global, kind: Kind, held: Held) -> Result<(), Fail> {
+fn hold_by_one<R: Wait + Abort>(
+    rt: &R,
+    alloc: Global,
+    kind: Kind,
+    held: Until,
+) -> Result<(), Fail> {
     let (tree, mut passes) = made(alloc, shape_of(kind, 8, 2, 9))?;
     let mut reader = last_pass(&tree, &mut passes)?;
     let mut writer = last_pass(&tree, &mut passes)?;
@@ -175,10 +176,10 @@ fn hold_by_one<R: Wait + Abort>(rt: &R, alloc: Global, kind: Kind, held: Held) -
 #[test]
 fn rows_are_held_by_an_open_section(rt: HostRuntime) -> Result<(), Fail> {
     for &kind in KINDS {
-        hold_by_one(&rt, rt.alloc(), kind, Held::Closed)?;
-        hold_by_one(&rt, rt.alloc(), kind, Held::Dropped)?;
-        hold_by_one(&rt, rt.alloc(), kind, Held::StoredFirst)?;
-        hold_by_one(&rt, rt.alloc(), kind, Held::StoredLast)?;
+        hold_by_one(&rt, rt.alloc(), kind, Until::Closed)?;
+        hold_by_one(&rt, rt.alloc(), kind, Until::Dropped)?;
+        hold_by_one(&rt, rt.alloc(), kind, Until::StoredFirst)?;
+        hold_by_one(&rt, rt.alloc(), kind, Until::StoredLast)?;
     }
     Ok(())
 }

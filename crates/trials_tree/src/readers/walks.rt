@@ -1,6 +1,6 @@
 //! A walk that goes on while ranges are stored.
 
-ghost use Rattle.std.specs.Prelude.{◌≡◌, ◌<◌};
+ghost use Rattle.mt_base.specs.Blanks.{IsBlankOf};
 ghost use Rattle.mt_tree.specs.Trees.{IsPassOf};
 
 use crate::asserts::{KINDS, same};
@@ -23,9 +23,7 @@ fn walk<R: Wait + Abort, L: Ledger>(
     writer: &mut Pass,
     reader: &mut Pass,
 )
-    requires name { blank.name ≡ L.name }
-    requires parts { blank.parts ≡ L.parts }
-    requires some { 0 < blank.parts }
+    requires blank { IsBlankOf L.name L.parts blank.name blank.parts }
     requires passes { IsPassOf tree.now writer.old × IsPassOf tree.now reader.old }
 {
     let mut steps = Steps::<L>::new(blank);
@@ -98,9 +96,7 @@ fn walk_to_the_end<R: Wait + Abort, L: Ledger>(
     reader: &mut Pass,
     end: End,
 )
-    requires name { blank.name ≡ L.name }
-    requires parts { blank.parts ≡ L.parts }
-    requires some { 0 < blank.parts }
+    requires blank { IsBlankOf L.name L.parts blank.name blank.parts }
     requires passes { IsPassOf tree.now writer.old × IsPassOf tree.now reader.old }
 {
     let (_, top, from, max, found) = end;

@@ -1,9 +1,4 @@
-use Rattle.mt_tree.proofs.Prelude.{◌≡◌, ◌∙◌, ◌+◌, ◌≤◌, ℕ, ap, refl, subst, Sheet, map_by}
-use Rattle.mt_base.specs.Map.{holding}
-use Rattle.mt_rows.proofs.Loads.{reads_on}
-use Rattle.mt_engine.proofs.Moments.{tree_if_lawful}
-use Rattle.mt_engine.proofs.Slots.{tree_map}
-use Rattle.mt_tree.specs.Reserve.{part_before, part_behind}
+use Rattle.mt_tree.proofs.Prelude.{◌≡◌, ◌∙◌, ◌+◌, ◌≤◌, ℕ, ap, refl, subst, Sheet, map_by, holding, tree_if_lawful, tree_map, reads_on, part_before, part_behind}
 use Rattle.mt_tree.proofs.RangeCounts.{change_is}
 use Rattle.mt_tree.proofs.counts.change_of.Goals as goal
 

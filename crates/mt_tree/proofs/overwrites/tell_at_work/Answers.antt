@@ -1,5 +1,4 @@
-use Rattle.mt_tree.proofs.Prelude.{List, ap, ◌∙◌, subst, Range, Sheet}
-use Rattle.mt_tree.specs.Overwrites.{TellsMet, ranges_met}
+use Rattle.mt_tree.proofs.Prelude.{List, ap, ◌∙◌, subst, Range, Sheet, TellsMet, ranges_met}
 use Rattle.mt_tree.proofs.AtWork.{still_few}
 use Rattle.mt_tree.proofs.Calling.{map_still}
 use Rattle.mt_tree.proofs.Forms.{looked}

@@ -1,6 +1,4 @@
-use Rattle.mt_tree.proofs.Prelude.{sym, ◌∙◌, ◌+◌, arith, refl}
-use Rattle.mt_rows.proofs.Loads.{reads_on}
-use Rattle.mt_engine.proofs.Moments.{tree_if_lawful}
+use Rattle.mt_tree.proofs.Prelude.{sym, ◌∙◌, ◌+◌, arith, refl, tree_if_lawful, reads_on}
 use Rattle.mt_tree.proofs.Overwriting.{all_told, few_told, fewer_left, none_told, one_told, rest_above}
 use Rattle.mt_tree.proofs.overwrites.tell_from.Goals as goal
 

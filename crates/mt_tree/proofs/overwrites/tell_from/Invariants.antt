@@ -1,6 +1,4 @@
-use Rattle.mt_tree.proofs.Prelude.{◌≡◌, length}
-use Rattle.mt_rows.specs.Publish.{map_by}
-use Rattle.mt_engine.proofs.Walking.{ranges_from}
+use Rattle.mt_tree.proofs.Prelude.{◌≡◌, length, ranges_from, map_by}
 use Rattle.mt_tree.proofs.Overwriting.{AreTold}
 use Rattle.mt_tree.proofs.overwrites.tell_from.Given as goal
 

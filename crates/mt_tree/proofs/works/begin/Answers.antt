@@ -1,8 +1,7 @@
-use Rattle.mt_tree.proofs.Prelude.{◌≡◌, rules, Some, sym, subst, HasHeight, Sheet, sheet_told, pass_in, WasShown, IsAtRest, behind_lock, opened, shown_pass}
+use Rattle.mt_tree.proofs.Prelude.{◌≡◌, rules, Some, sym, subst, HasHeight, Sheet, sheet_told, pass_in, WasShown, IsAtRest, behind_lock, opened, shown_pass, AtWork}
 use Rattle.mt_tree.proofs.AtWork.{at_work, seat_of}
 use Rattle.mt_tree.proofs.works.begin.Given.{Over}
 use Rattle.mt_tree.proofs.works.begin.Goals.{After-of_height}
-use Rattle.mt_tree.specs.Works.{AtWork}
 use Rattle.mt_tree.proofs.works.begin.Goals as goal
 
 pub of_height-requires-clause-height : goal.of_height-requires-clause-height

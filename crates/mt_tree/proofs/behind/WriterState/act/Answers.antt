@@ -1,6 +1,4 @@
-use Rattle.mt_tree.proofs.Prelude.{rules, ◌≡◌, false, Option, None, sym, subst, Reply, Tools, is_refusal, Acts, Behind, IsAtRest, behind_lock}
-use Rattle.mt_tree.specs.Behind.{IsCounted}
-use Rattle.mt_tree.specs.Reserve.{IsCountAfter}
+use Rattle.mt_tree.proofs.Prelude.{rules, ◌≡◌, false, Option, None, sym, subst, Reply, Tools, is_refusal, Acts, Behind, IsAtRest, behind_lock, IsCountBehind, IsCountAfter}
 use Rattle.mt_tree.proofs.Keeping.{counted_after}
 use Rattle.mt_tree.proofs.behind.WriterState.act.Goals as goal
 use Rattle.mt_tree.proofs.behind.WriterState.act.Goals.{in-Long, in-Short}
@@ -16,11 +14,11 @@ invariant_of-self c = elim c.match-width.branch [
   | in-Long w ↦
       let count = subst (λ (r : Reply). IsCountAfter None c.self.inside.ranges c.args.call.now r c.counted-self-inside.result) w.reply-is c.counted-self-inside.ensures in
       let known = counted_after c.self.inside.tools (behind_lock w.act-reply.new.tools) c.args.call.now w.act-reply.result None c.self.inside.ranges c.counted-self-inside.result c.self.invariant.0 w.act-reply.ensures.kept w.act-reply.ensures.acts tt c.self.invariant.1 count in
-      subst (λ (x : Option Tools). IsAtRest x × IsCounted c.counted-self-inside.result (behind_lock x)) (λ k. (sym w.self-inside-is k).tools) (w.act-reply.ensures.rest, known)
+      subst (λ (x : Option Tools). IsAtRest x × IsCountBehind c.counted-self-inside.result (behind_lock x)) (λ k. (sym w.self-inside-is k).tools) (w.act-reply.ensures.rest, known)
   | in-Short w ↦
       let count = subst (λ (r : Reply). IsCountAfter None c.self.inside.ranges c.args.call.now r c.counted-self-inside.result) w.reply-is c.counted-self-inside.ensures in
       let known = counted_after c.self.inside.tools (behind_lock w.act-reply-in-Short.new.tools) c.args.call.now w.act-reply-in-Short.result None c.self.inside.ranges c.counted-self-inside.result c.self.invariant.0 w.act-reply-in-Short.ensures.kept w.act-reply-in-Short.ensures.acts tt c.self.invariant.1 count in
-      subst (λ (x : Option Tools). IsAtRest x × IsCounted c.counted-self-inside.result (behind_lock x)) (λ k. (sym w.self-inside-is k).tools) (w.act-reply-in-Short.ensures.rest, known)
+      subst (λ (x : Option Tools). IsAtRest x × IsCountBehind c.counted-self-inside.result (behind_lock x)) (λ k. (sym w.self-inside-is k).tools) (w.act-reply-in-Short.ensures.rest, known)
 ]
 
 pub returns-clause-acts : goal.returns-clause-acts

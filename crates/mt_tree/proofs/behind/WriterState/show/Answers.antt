@@ -1,13 +1,12 @@
-use Rattle.mt_tree.proofs.Prelude.{rules, ◌≡◌, Some, IfSome, length, map_by, sym, ap, ◌∙◌, subst, PenPart, identity_of_pen, Behind, after_show, behind_lock, parts_of, pen_sheet, IsAtRest, IsPenAtRest}
+use Rattle.mt_tree.proofs.Prelude.{rules, ◌≡◌, Some, IfSome, length, map_by, sym, ap, ◌∙◌, subst, PenPart, identity_of_pen, Behind, after_show, behind_lock, parts_of, pen_sheet, IsAtRest, IsPenAtRest, IsCountBehind}
 use Rattle.mt_tree.proofs.Ending.{kept_shown}
-use Rattle.mt_tree.specs.Behind.{IsCounted}
 use Rattle.mt_tree.proofs.behind.WriterState.show.Goals as goal
 
 pub invariant_of-self : goal.invariant_of-self
 invariant_of-self c =
     let t = c.in-Some.field-0 in
     let rest : IsAtRest (Some t) = search rules in
-    let known : IsCounted c.self.inside.ranges (behind_lock (Some t)) = search rules in
+    let known : IsCountBehind c.self.inside.ranges (behind_lock (Some t)) = search rules in
     let same = c.split_pen.ensures.pen ∙ c.join_pen-calls.ensures.pen in
     ((c.split_pen.ensures.alone, subst (λ (p : PenPart). IsPenAtRest p (parts_of p t.book) t.height) (sym same) (kept_shown _ _ _ rest.1)), subst (λ (p : PenPart). IfSome c.self.inside.ranges (λ n. n ≡ length (map_by (pen_sheet p).tree))) (sym same) known)
 

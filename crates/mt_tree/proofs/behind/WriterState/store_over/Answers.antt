@@ -1,5 +1,4 @@
-use Rattle.mt_tree.proofs.Prelude.{pass_in}
-use Rattle.mt_base.specs.declared.calls.Call.TheVariants.{Store}
+use Rattle.mt_tree.proofs.Prelude.{pass_in, Store}
 use Rattle.mt_tree.proofs.Overwriting.{made_then, tells_then}
 use Rattle.mt_tree.proofs.behind.WriterState.store_over.Goals as goal
 

@@ -1,5 +1,4 @@
-use Rattle.mt_tree.proofs.Prelude.{◌∙◌, sym, ap, subst, Behind, Parts, LookedBehind}
-use Rattle.mt_tree.specs.Reserve.{IsVerdict}
+use Rattle.mt_tree.proofs.Prelude.{◌∙◌, sym, ap, subst, Behind, Parts, LookedBehind, IsReserveVerdict}
 use Rattle.mt_tree.proofs.Keeping.{counted_found}
 use Rattle.mt_tree.proofs.behind.WriterState.verdict.Goals as goal
 
@@ -11,4 +10,4 @@ returns-clause-looked c = subst (λ (b : Behind). LookedBehind c.args.tree.now c
 
 pub returns-clause-verdict : goal.returns-clause-verdict
 returns-clause-verdict c =
-    subst (λ (e : Parts). IsVerdict e c.args.call.now c.judge-verdict.result) (sym (ap (λ (b : Behind). b.parts) c.keep.ensures ∙ c.judge-verdict.ensures.looked.state.parts)) c.judge-verdict.ensures.verdict
+    subst (λ (e : Parts). IsReserveVerdict e c.args.call.now c.judge-verdict.result) (sym (ap (λ (b : Behind). b.parts) c.keep.ensures ∙ c.judge-verdict.ensures.looked.state.parts)) c.judge-verdict.ensures.verdict

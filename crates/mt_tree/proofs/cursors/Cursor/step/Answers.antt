@@ -1,23 +1,10 @@
 use Rattle.mt_tree.proofs.Prelude.{rules}
+use Rattle.mt_tree.proofs.Counting.{walked}
 use Rattle.mt_tree.proofs.cursors.Cursor.step.Goals as goal
 
 pub invariant_of-self : goal.invariant_of-self
 invariant_of-self g c = search rules
 
-pub returns-clause-read : goal.returns-clause-read
-returns-clause-read g c = search rules
-
-pub returns-clause-section : goal.returns-clause-section
-returns-clause-section g c = search rules
-
-pub returns-clause-at : goal.returns-clause-at
-returns-clause-at g c = search rules
-
-pub returns-clause-epoch : goal.returns-clause-epoch
-returns-clause-epoch g c = search rules
-
-pub returns-clause-leaf : goal.returns-clause-leaf
-returns-clause-leaf g c = search rules
-
-pub returns-clause-short : goal.returns-clause-short
-returns-clause-short g c = search rules
+pub returns-clause-walked : goal.returns-clause-walked
+returns-clause-walked g c =
+    let told = c.step.ensures in walked _ _ _ _ _ _ _ _ told.read told.section told.at told.max told.epoch told.leaf told.lo told.marks told.short told.counted told.stepped.turn told.steps

@@ -1,5 +1,4 @@
-use Rattle.std.specs.declared.snapshot.Snapshot.{Snapshot}
-use Rattle.mt_tree.proofs.Prelude.{ap, ◌∙◌, subst, IfOk-weaker, Behind, opened, pass_in}
+use Rattle.mt_tree.proofs.Prelude.{ap, ◌∙◌, subst, IfOk-weaker, Behind, opened, pass_in, Snapshot}
 use Rattle.mt_base.specs.Passes as known
 use Rattle.mt_tree.proofs.Forms.{map_imaged}
 use Rattle.mt_tree.proofs.Looking.{image_there}

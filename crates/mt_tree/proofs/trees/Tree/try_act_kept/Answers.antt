@@ -1,5 +1,4 @@
-use Rattle.std.specs.declared.snapshot.Snapshot.{Snapshot}
-use Rattle.mt_tree.proofs.Prelude.{ap, ◌∙◌, subst, Behind, opened, pass_in}
+use Rattle.mt_tree.proofs.Prelude.{ap, ◌∙◌, subst, Behind, opened, pass_in, Snapshot}
 use Rattle.mt_base.specs.Passes as known
 use Rattle.mt_tree.proofs.Keeping.{was_kept}
 use Rattle.mt_tree.proofs.Trying.{tries_once}

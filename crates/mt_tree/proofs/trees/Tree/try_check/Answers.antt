@@ -1,16 +1,12 @@
-use Rattle.std.specs.declared.snapshot.Snapshot.{Snapshot}
-use Rattle.mt_tree.proofs.Prelude.{ap, ◌∙◌, subst, Behind, opened, pass_in}
-use Rattle.mt_base.specs.Passes as known
+use Rattle.mt_tree.proofs.Prelude.{IsFormBehind, ap, ◌∙◌, Behind, Snapshot}
 use Rattle.mt_tree.proofs.Looking.{form_there}
-use Rattle.mt_tree.proofs.Trying.{tries_once}
+use Rattle.mt_tree.proofs.Trying.{found_at}
 use Rattle.mt_tree.proofs.trees.Tree.try_check.Goals as goal
 
-pub returns-clause-saw : goal.returns-clause-saw
-returns-clause-saw c = subst (λ (p : known.Pass). known.Saw (opened c.args.self.now) p (pass_in c.check-form.new.pass)) c.in_ok-taken.ensures.known c.check-form.ensures.looked.saw
-
-pub returns-clause-tries : goal.returns-clause-tries
-returns-clause-tries c = tries_once _ _ _ c.in_ok-taken.ensures.tries c.check-form.ensures.looked.rests
-
-pub returns-clause-form : goal.returns-clause-form
-returns-clause-form c =
-    form_there _ _ _ _ (ap (λ (x : Snapshot Behind). x.value) c.give_looked.ensures.took ∙ c.snapshot-took.ensures.value) (c.check-form.ensures.looked.seen ∙ c.check-form.ensures.looked.state.records) c.snapshot-took.ensures.lies _ c.check-form.ensures.looked.words c.check-form.ensures.form
+pub returns : goal.returns
+returns c =
+    let after = c.check-form.ensures.looked in
+    record {
+      found = found_at IsFormBehind _ _ _ _ _ c.in_ok-taken.ensures.tries c.in_ok-taken.ensures.known after.of after.saw after.rests
+          (form_there _ _ _ _ (ap (λ (x : Snapshot Behind). x.value) c.give_looked.ensures.took ∙ c.snapshot-took.ensures.value) (c.check-form.ensures.looked.seen ∙ c.check-form.ensures.looked.state.records) c.snapshot-took.ensures.lies _ c.check-form.ensures.looked.words c.check-form.ensures.form);
+    }

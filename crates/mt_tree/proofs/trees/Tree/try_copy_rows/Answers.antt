@@ -1,5 +1,4 @@
-use Rattle.std.specs.declared.snapshot.Snapshot.{Snapshot}
-use Rattle.mt_tree.proofs.Prelude.{ap, sym, ◌∙◌, subst, Behind, live_rows, opened, pass_in}
+use Rattle.mt_tree.proofs.Prelude.{ap, sym, ◌∙◌, subst, Behind, live_rows, opened, pass_in, Snapshot}
 use Rattle.mt_base.specs.Passes as known
 use Rattle.mt_tree.proofs.Looking.{look_at}
 use Rattle.mt_tree.proofs.Trying.{tries_once}

@@ -1,20 +1,14 @@
-use Rattle.std.specs.declared.snapshot.Snapshot.{Snapshot}
-use Rattle.mt_tree.proofs.Prelude.{ap, ◌∙◌, subst, IfOk-weaker, Behind, opened, pass_in}
-use Rattle.mt_base.specs.Passes as known
+use Rattle.mt_tree.proofs.Prelude.{IsImagedBehind, ap, ◌∙◌, IfOk-weaker, Behind, pass_in, Snapshot}
 use Rattle.mt_tree.proofs.Forms.{map_imaged}
 use Rattle.mt_tree.proofs.Looking.{image_there}
-use Rattle.mt_tree.proofs.Trying.{tries_once}
+use Rattle.mt_tree.proofs.Trying.{found_at}
 use Rattle.mt_tree.proofs.trees.Tree.try_image.Goals as goal
-
-pub returns-clause-saw : goal.returns-clause-saw
-returns-clause-saw c = subst (λ (p : known.Pass). known.Saw (opened c.args.self.now) p (pass_in c.image-image.new.pass)) c.in_ok-taken.ensures.known c.image-image.ensures.looked.saw
-
-pub returns-clause-tries : goal.returns-clause-tries
-returns-clause-tries c = tries_once _ _ _ c.in_ok-taken.ensures.tries c.image-image.ensures.looked.rests
 
 pub returns-clause-map : goal.returns-clause-map
 returns-clause-map c = IfOk-weaker c.image-image.result _ _ (λ bytes image. map_imaged _ _ _ _ bytes.items c.image-image.ensures.looked.words image) c.image-image.ensures.image
 
-pub returns-clause-image : goal.returns-clause-image
-returns-clause-image c =
-    image_there c.args.self.now (pass_in c.image-image.new.pass) _ c.give_looked.result (ap (λ (x : Snapshot Behind). x.value) c.give_looked.ensures.took ∙ c.snapshot-took.ensures.value) (c.image-image.ensures.looked.seen ∙ c.image-image.ensures.looked.state.records) c.snapshot-took.ensures.lies _ c.image-image.ensures.looked.words c.image-image.ensures.image
+pub returns-clause-found : goal.returns-clause-found
+returns-clause-found c =
+    let after = c.image-image.ensures.looked in
+    found_at IsImagedBehind _ _ _ _ _ c.in_ok-taken.ensures.tries c.in_ok-taken.ensures.known after.of after.saw after.rests
+    (image_there c.args.self.now (pass_in c.image-image.new.pass) _ c.give_looked.result (ap (λ (x : Snapshot Behind). x.value) c.give_looked.ensures.took ∙ c.snapshot-took.ensures.value) (c.image-image.ensures.looked.seen ∙ c.image-image.ensures.looked.state.records) c.snapshot-took.ensures.lies _ c.image-image.ensures.looked.words c.image-image.ensures.image)
