@@ -1,6 +1,5 @@
 -- The numbers of a command lie within their limits.
-use Rattle.mt_cli.proofs.Prelude.{◌≡◌, ◌≤◌, ◌&&◌, ℕ, Bool, true, false, List, [], ◌∷◌, Option, Some, None, drop, take, refl, subst, sym, codes, IfSome, if◌then◌else◌, nat_le, option_and_then, option_map, bytes_eq, digits_value, leb-true, most_rows, IsWithin, bulk_of, command_of, ids_of, make_of, rows_said, rows_word, show_of, trial_of, greatest_number, is_number, most_index, most_workers, number_in, Command, Bulk, Ids, Image, Make, Replay, Trial, Verify}
-use Rattle.mt_base.specs.Limits.{fewest_rows, most_lanes, most_steps}
+use Rattle.mt_cli.proofs.Prelude.{◌≡◌, ◌≤◌, ◌&&◌, ℕ, Bool, true, false, List, [], ◌∷◌, Option, Some, None, drop, take, refl, subst, sym, codes, IfSome, if◌then◌else◌, nat_le, option_and_then, option_map, bytes_eq, digits_value, leb-true, most_rows, IsWithin, bulk_of, command_of, ids_of, make_of, rows_said, rows_word, show_of, trial_of, greatest_number, is_number, most_index, most_workers, number_in, Command, Bulk, Ids, Image, Make, Replay, Trial, Verify, fewest_rows, most_lanes, most_steps}
 
 abbrev IsBetween : ℕ → ℕ → ℕ → Type 0
 IsBetween least most n = (least ≤ n) × (n ≤ most)

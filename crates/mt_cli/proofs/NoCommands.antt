@@ -1,6 +1,5 @@
 -- Lists of words that are no command for a word in them.
-use Rattle.mt_cli.proofs.Prelude.{◌≡◌, ◌⊎◌, ◌||◌, ℕ, Bool, true, false, List, [], ◌∷◌, Option, Some, None, refl, ap, subst, sym, inl, inr, codes, true≢false, if◌then◌else◌, option_and_then, option_map, list_any, bytes_eq, bytes_eq-Decides, bulk_of, command_of, ids_of, in_two_words, make_of, rows_said, rows_word, show_of, trial_of, is_end_of_options, greatest_number, is_number, most_index, number_in, Ids, Image, Make, Replay, Trial, Verify}
-use Rattle.mt_base.specs.Limits.{most_lanes, most_steps}
+use Rattle.mt_cli.proofs.Prelude.{◌≡◌, ◌⊎◌, ◌||◌, ℕ, Bool, true, false, List, [], ◌∷◌, Option, Some, None, refl, ap, subst, sym, inl, inr, codes, true≢false, if◌then◌else◌, option_and_then, option_map, list_any, bytes_eq, bytes_eq-Decides, bulk_of, command_of, ids_of, in_two_words, make_of, rows_said, rows_word, show_of, trial_of, is_end_of_options, greatest_number, is_number, most_index, number_in, Ids, Image, Make, Replay, Trial, Verify, most_lanes, most_steps}
 
 abbrev Text : Type 0
 Text = List ℕ

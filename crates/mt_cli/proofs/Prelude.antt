@@ -16,22 +16,13 @@ pub use Rattle.clap.specs.declared.error.Error.{Error}
 pub use Rattle.clap.specs.declared.error.kind.ErrorKind.TheVariants.{OutOfMemory}
 pub use Rattle.clap.specs.declared.parser.matches.ArgMatches.{ArgMatches}
 pub use Rattle.clap.specs.declared.parser.matches.ValueSource.TheVariants.{CommandLine}
-pub use Rattle.std.proofs.Common.{Bool, List, None, Option, Result, Some, [], ap, ap₂, arith, codes, drop, false, fold, inl, inr, is_some, length, map, refl, string_bytes, subst, suc, sym, take, take-append-drop, true, true≢false, zero, ℕ, ◌&&◌, ◌++◌, ◌<◌, ◌^◌, ◌||◌, ◌∙◌, ◌∷◌, ◌≡◌, ◌≢◌, ◌≤◌, ◌⊎◌}
-pub use Rattle.std.proofs.lemmas.Bool.{and_parts, cases_lt, eqb-true, leb-true, ltb-true, or_parts}
-pub use Rattle.std.proofs.lemmas.Bool.Decides.{nat_tests}
-pub use Rattle.std.proofs.lemmas.List.{take_all}
-pub use Rattle.std.proofs.lemmas.List.Sums.{passes_at_first, split_at_first}
-pub use Rattle.std.proofs.lemmas.Result.{IfOk-weaker}
-pub use Rattle.std.proofs.lemmas.Slice.Eq.{bytes_eq-Decides}
+pub use Rattle.std.proofs.Common.{Bool, IfOk, IfSome, List, None, Option, Result, Some, [], ap, ap₂, arith, bytes_eq, chars, codes, drop, false, fold, if◌then◌else◌, inl, inr, is_some, length, map, nat_le, nat_lt, option_and_then, option_map, refl, slice_get, string_bytes, subst, suc, sym, take, take-append-drop, take_all, true, true≢false, zero, ℕ, ◌&&◌, ◌++◌, ◌<◌, ◌==◌, ◌^◌, ◌||◌, ◌∙◌, ◌∷◌, ◌≡◌, ◌≢◌, ◌≤◌, ◌⊎◌}
+pub use Rattle.mt_base.proofs.Std.{IfOk-weaker, after_first, and_parts, before_first, bytes_eq-Decides, cases_lt, eqb-true, leb-true, list_all, list_any, ltb-true, nat_tests, or_parts, passes_at_first, position_or_len, split_at_first}
 pub use Rattle.std.specs.Char.{digit_value, is_ascii_digit}
-pub use Rattle.std.specs.List.{after_first, before_first, list_all, list_any, position_or_len}
-pub use Rattle.std.specs.Prelude.{IfOk, IfSome, if◌then◌else◌, nat_le, nat_lt, option_and_then, option_map, slice_get, ◌==◌}
-pub use Rattle.std.specs.Str.{bytes_eq, chars}
 pub use Rattle.std.specs.Str.Parse.{AllDigits, IsNumeral, digits_value, without_leading_plus}
-pub use Rattle.mt_base.specs.Width.{most_rows}
+pub use Rattle.mt_base.specs.Names.{fewest_rows, most_lanes, most_rows, most_steps}
 pub use Rattle.mt_cli.specs.Commands.{IsWithin, bulk_of, command_of, ids_of, in_two_words, make_of, rows_said, rows_word, show_of, trial_of}
 pub use Rattle.mt_cli.specs.Grammar.{bulk_app, bulk_in, command_met, grammar, ids_app, ids_in, image_app, is_end_of_options, make_app, make_in, plain_app, replay_app, rows_app, rows_given, show_app, trial_app, trial_in, verify_app}
 pub use Rattle.mt_cli.specs.Numbers.{greatest_number, is_number, most_index, most_workers, number_in}
-pub use Rattle.mt_base.specs.Limits.{fewest_rows, most_lanes, most_steps}
 pub use Rattle.mt_cli.specs.declared.commands.Command.{Command}
 pub use Rattle.mt_cli.specs.declared.commands.Command.TheVariants.{Bulk, Ids, Image, Make, Replay, Show, Trial, Verify}

@@ -1,12 +1,10 @@
 -- Which lists of words are commands, and which commands they are.
 -- Source: this project's own, the command line of its program.
-use Rattle.std.specs.Prelude.{◌≤◌, ℕ, List, [], ◌∷◌, Option, Some, None, drop, take, codes, if◌then◌else◌, option_map, option_and_then}
-use Rattle.std.specs.Str.{bytes_eq}
-use Rattle.mt_base.specs.Width.{most_rows}
+use Rattle.std.specs.Prelude.{◌≤◌, ℕ, List, [], ◌∷◌, Option, Some, None, drop, take, codes, if◌then◌else◌, option_map, option_and_then, bytes_eq}
+use Rattle.mt_base.specs.Names.{most_rows, fewest_rows, most_lanes, most_steps}
 use Rattle.mt_cli.specs.Numbers.{greatest_number, most_index, most_workers, number_in}
 use Rattle.mt_cli.specs.declared.commands.Command.{Command}
 use Rattle.mt_cli.specs.declared.commands.Command.TheVariants.{Bulk, Ids, Image, Make, Replay, Show, Trial, Verify}
-use Rattle.mt_base.specs.Limits.{fewest_rows, most_lanes, most_steps}
 
 -- as many nodes as a word says
 abbrev pub rows_word : List ℕ → Option ℕ

@@ -1,7 +1,6 @@
 -- What `clap` knows of the program's words, and what its answer says.
 -- Source: this project's own, the command line of its program; the crate `clap`.
-use Rattle.std.specs.Prelude.{true, Bool, ℕ, List, Option, Some, None, codes, if◌then◌else◌, option_and_then, option_map}
-use Rattle.std.specs.Str.{bytes_eq}
+use Rattle.std.specs.Prelude.{true, Bool, ℕ, List, Option, Some, None, codes, if◌then◌else◌, option_and_then, option_map, bytes_eq}
 use Rattle.clap.specs.Words.{App, Row, Rule, Text, first_of, new_app, new_rule, with_rule, with_subcommand}
 use Rattle.mt_base.specs.Width.{most_rows}
 use Rattle.mt_cli.specs.Commands.{bulk_with, ids_with, make_with, rows_word, trial_with}

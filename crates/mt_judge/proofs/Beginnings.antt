@@ -1,5 +1,5 @@
 -- The log of the first lines of another can be read, and nothing is told of no lines.
-use Rattle.mt_judge.proofs.Prelude.{◌≡◌, ℕ, zero, suc, ◌+◌, ◌≤◌, ◌<◌, Bool, List, [], ◌∷◌, ◌++◌, length, length-append, take, subst, sym, refl, inl, inr, arith, option_to_list, cases_lt, take_all, All-nil, All, Line, Log, AreInPlaceFrom, phase_after, stepped_after, Step, AreNamedFrom, Declared, IsReadable, NumbersRiseFrom, count_after, declared_by, most_trees, trees_from, trees_of, Told, FitsLine, IsToldBy, TellsNone, spelling_of, lines_begin, told_by, StopsAt, log_of_first}
+use Rattle.mt_judge.proofs.Prelude.{◌≡◌, ℕ, zero, suc, ◌+◌, ◌≤◌, ◌<◌, Bool, List, [], ◌∷◌, ◌++◌, length, length-append, take, subst, sym, refl, inl, inr, arith, option_to_list, cases_lt, take_all, All-nil, All, Line, Log, AreInPlaceFrom, phase_after, stepped_after, Step, AreNamedFrom, Declared, IsReadable, NumbersRiseFrom, count_after, declared_by, most_trees, trees_from, trees_of, ToldLine, FitsLine, IsToldBy, TellsNone, spelling_of, lines_begin, told_by, StopsAt, log_of_first}
 
 named_first : (k count : ℕ) (lines : List Line) → AreNamedFrom count lines → AreNamedFrom count (take k lines)
 named_first zero count lines named = tt
@@ -54,7 +54,7 @@ some_line log text n all none = elim (cases_lt 0 n) [
 ]
 
 -- so many lines are told, and not so many
-pub record StopsWithin (log : Log) (text : List ℕ) (count above : ℕ) (told : List Told) (rest : List ℕ) : Type 0 where
+pub record StopsWithin (log : Log) (text : List ℕ) (count above : ℕ) (told : List ToldLine) (rest : List ℕ) : Type 0 where
   pub first : IsToldBy (log_of_first count log) text told rest
   pub up : count < above
   pub within : above ≤ length log.lines
@@ -63,11 +63,11 @@ pub record StopsWithin (log : Log) (text : List ℕ) (count above : ℕ) (told :
 pub stops_within : (log : Log) (text : List ℕ) (n : ℕ) → n ≡ length log.lines → TellsNone log text → StopsWithin log text 0 n [] text
 stops_within log text n all none = record { first = nothing_told log text; up = some_line log text n all none; within = omega (arith, all); none = all_untold log text n all none }
 
-pub stops_at : (log : Log) (text rest : List ℕ) (told : List Told) (count above : ℕ) → StopsWithin log text count above told rest → above ≤ count + 1 → StopsAt log text count told rest
+pub stops_at : (log : Log) (text rest : List ℕ) (told : List ToldLine) (count above : ℕ) → StopsWithin log text count above told rest → above ≤ count + 1 → StopsAt log text count told rest
 stops_at log text rest told count above h near =
     let next : above ≡ count + 1 = omega (arith, h.up, near) in
     record { first = h.first; within = omega (arith, h.up, h.within); none = subst (λ (k : ℕ). TellsNone (log_of_first k log) text) next h.none }
 
 -- the trees that are told of are those that a log may have
-pub few_trees : (log : Log) (text rest : List ℕ) (told : List Told) → IsReadable log.lines → IsToldBy log text told rest → All (λ t. t.tree < most_trees) told
+pub few_trees : (log : Log) (text rest : List ℕ) (told : List ToldLine) → IsReadable log.lines → IsToldBy log text told rest → All (λ t. t.tree < most_trees) told
 few_trees log text rest told readable h k d within = let below = h.trees k d within in omega (arith, below, readable.few)

@@ -1,7 +1,7 @@
 -- Which lines are reported as wrong, and for which causes.
 -- Source: this project's own.
 use Rattle.std.specs.Prelude.{◌≡◌, ℕ, ◌+◌, ◌≤◌, Bool, true, false, List, Option, Some, None, IfSome, if◌then◌else◌, nat_lt, slice_get}
-use Rattle.mt_judge.specs.Prelude.{Told, What, Wrote, Got, Copied, Lawful}
+use Rattle.mt_judge.specs.Prelude.{ToldLine, What, Wrote, Got, Copied, Lawful}
 use Rattle.mt_judge.specs.Orders.{IsFirstOut, IsInOrder}
 use Rattle.mt_judge.specs.declared.causes.Cause.{Cause}
 use Rattle.mt_judge.specs.declared.causes.Cause.TheVariants.{Below, Form, NoEntry, Order}
@@ -36,13 +36,13 @@ order_cause (Copied count) = Below
 order_cause (Lawful count) = Below
 
 -- the first line that is out of order is reported, with what is wrong with it
-pub record IsOrderFault (told : List Told) (fault : FoundFault) : Type 0 where
+pub record IsOrderFault (told : List ToldLine) (fault : FoundFault) : Type 0 where
   pub place : ℕ
   pub first : IsFirstOut told place
   pub line : fault.line ≡ place + 1
   pub cause : IfSome (slice_get told place) (λ t. fault.cause ≡ order_cause t.what)
 
 -- If a line is out of order, one is reported, none after the first. And what is reported as out of order is the first.
-abbrev pub KeepsOrder : List Told → Option FoundFault → Type 0
+abbrev pub KeepsOrder : List ToldLine → Option FoundFault → Type 0
 KeepsOrder told None = IsInOrder told
 KeepsOrder told (Some fault) = ((place : ℕ) → IsFirstOut told place → fault.line ≤ place + 1) × (is_of_order fault.cause ≡ true → IsOrderFault told fault)

@@ -1,7 +1,6 @@
 -- What is printed of a judgment.
 -- Source: this project's own.
-use Rattle.std.specs.Prelude.{ℕ, List, ◌∷◌, [], ◌++◌, Option, Some, None, codes}
-use Rattle.std.specs.Fmt.{decimal}
+use Rattle.std.specs.Prelude.{ℕ, List, ◌∷◌, [], ◌++◌, Option, Some, None, codes, decimal}
 use Rattle.mt_judge.specs.declared.causes.Cause.{Cause}
 use Rattle.mt_judge.specs.declared.causes.Cause.TheVariants.{NoEntry, Form, Number, Order, Below, Beyond, Nowhere, Reply, Shortage, Count, Listing}
 use Rattle.mt_judge.specs.declared.causes.FoundFault.{FoundFault}

@@ -8,7 +8,7 @@ ghost use Rattle.mt_judge.specs.Judged.{StopsAt, log_of_first};
 
 use crate::causes::{Cause, FoundFault};
 use mt_base::NoMemory;
-use mt_log::{Item, Line, Lines, Log};
+use mt_log::{Item, Line, ListOf, Log};
 use mt_told::{Account, behind_word, number_before, read_told};
 use std::alloc::Global;
 
@@ -21,7 +21,7 @@ fn first_lines(alloc: Global, log: &Log, count: usize) -> Result<Log, NoMemory>
     items.extend_from_slice(&lines[..count.min(lines.len())])?;
     Ok(Log {
         version: log.version,
-        lines: Lines::new(items),
+        lines: ListOf::new(items),
     })
 }
 

@@ -7,7 +7,7 @@ use crate::maps::{Room, TreeMap};
 use crate::trees::{DeclaredTree, MOST_TREES, is_call_on, trees_of};
 use mt_base::{Call, Holder, NoMemory, Shortage};
 use mt_log::Log;
-use mt_told::{Account, Told, What, behind_word};
+use mt_told::{Account, ToldLine, What, behind_word};
 use mt_verify::shortage_in;
 use std::alloc::Global;
 
@@ -64,7 +64,7 @@ struct Copy {
 }
 
 /// The places of the calls on a tree, by their numbers.
-fn calls_on(alloc: Global, told: &[Told], tree: u32) -> Result<Vec<usize>, NoMemory> {
+fn calls_on(alloc: Global, told: &[ToldLine], tree: u32) -> Result<Vec<usize>, NoMemory> {
     let count = told.iter().filter(|one| is_call_on(one, tree)).count();
     let mut places = vec![in alloc; 0_usize; count]?;
     for (place, one) in told.iter().enumerate() {
@@ -80,7 +80,7 @@ fn calls_on(alloc: Global, told: &[Told], tree: u32) -> Result<Vec<usize>, NoMem
 }
 
 /// The places of the copies and checks of a tree, each with how many of its calls come before.
-fn stops_on(alloc: Global, told: &[Told], tree: u32) -> Result<Vec<(u64, usize)>, NoMemory> {
+fn stops_on(alloc: Global, told: &[ToldLine], tree: u32) -> Result<Vec<(u64, usize)>, NoMemory> {
     let mut stops = Vec::new(alloc);
     let mut calls = 0_u64;
     for (place, one) in told.iter().enumerate() {
@@ -110,7 +110,7 @@ fn opening_of(
 }
 
 /// The refusal of a call because nodes are short, with a lane that may have held nodes if some were held.
-fn shortage_of(lanes: &Lanes, told: &Told, reply: &[u8]) -> Option<Shortage> {
+fn shortage_of(lanes: &Lanes, told: &ToldLine, reply: &[u8]) -> Option<Shortage> {
     let short = shortage_in(reply)?;
     if short.held == 0 {
         return Some(short);
@@ -139,7 +139,7 @@ impl Way {
     fn new(
         alloc: Global,
         rules: OrderRules,
-        told: &[Told],
+        told: &[ToldLine],
         tree: u32,
         map: TreeMap,
     ) -> Result<Self, NoMemory> {
@@ -159,7 +159,7 @@ impl Way {
     fn stop(
         &mut self,
         alloc: Global,
-        told: &Told,
+        told: &ToldLine,
         place: usize,
         copies: &mut Vec<Copy>,
     ) -> Result<(), NoMemory> {
@@ -193,7 +193,7 @@ impl Way {
     fn pass(
         &mut self,
         alloc: Global,
-        told: &[Told],
+        told: &[ToldLine],
         number: u64,
         copies: &mut Vec<Copy>,
     ) -> Result<(), NoMemory> {
@@ -213,7 +213,7 @@ impl Way {
     /// nodes are short.
     fn wrong(
         &mut self,
-        told: &Told,
+        told: &ToldLine,
         call: &Call,
         reply: &[u8],
         ended: u64,
@@ -235,7 +235,7 @@ impl Way {
     }
 
     /// Makes the call at this place, after `ended` calls, unless one went wrong.
-    fn call(&mut self, told: &Told, place: usize, ended: u64) -> Result<(), NoMemory> {
+    fn call(&mut self, told: &ToldLine, place: usize, ended: u64) -> Result<(), NoMemory> {
         if self.faults.calls.is_some() {
             return Ok(());
         }
@@ -253,7 +253,7 @@ impl Way {
 fn go(
     alloc: Global,
     rules: OrderRules,
-    told: &[Told],
+    told: &[ToldLine],
     tree: u32,
     map: TreeMap,
     copies: &mut Vec<Copy>,

@@ -7,7 +7,7 @@ ghost use Rattle.mt_log.specs.Trees.{IsReadable};
 ghost use Rattle.mt_told.specs.Telling.{IsToldBy, TellsNone};
 ghost use Rattle.mt_verify.specs.Points.{IsVerdict};
 ghost use Rattle.mt_judge.specs.Faults.{KeepsOrder};
-ghost use Rattle.mt_judge.specs.Judged.{IsFound, IsJudged, KeepsOrderIn, StopsAt, TellsForm};
+ghost use Rattle.mt_judge.specs.Judged.{IsFound, IsJudged, KeepsOrderIn, StopsAt, TellsStop};
 ghost use Rattle.mt_judge.specs.Orders.{IsInOrder};
 
 use crate::causes::FoundFault;
@@ -126,7 +126,7 @@ fn found_behind(log: &Log, rows: u64, text: &[u8], part: &Part, verdict: &Verdic
     requires stops { StopsAt log.now text.now part.now.count part.now.account.told.items part.now.account.rest.now }
     requires verdict { IsVerdict log.now rows text.now verdict.now }
     ensures found { IsFound log.now rows text.now result }
-    ensures form { TellsForm part.now.account.told.items result }
+    ensures form { TellsStop part.now.account.told.items result }
 {
     match verdict {
         Verdict::Yes { .. } => Found::Verified,

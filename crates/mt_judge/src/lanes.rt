@@ -3,15 +3,15 @@
 use crate::causes::{Cause, FoundFault};
 use crate::maps::TreeMap;
 use mt_base::{MOST_LANES, NoMemory};
-use mt_told::{Told, What};
-use mt_verify::Look;
+use mt_told::ToldLine;
+use mt_verify::{ToldRead, look_told};
 use std::alloc::Global;
 
 /// A read, and its place in the transcript.
 #[derive(Clone, Copy)]
 struct Read {
     place: usize,
-    look: Look,
+    look: ToldRead,
 }
 
 /// The reads of a lane on a tree, how many of them were found true, and the phase of the first.
@@ -23,27 +23,14 @@ pub struct LaneReads {
     first: Option<u64>,
 }
 
-/// The read that a line reports, if it is one.
-fn look_of(told: &Told) -> Option<Look> {
-    match told.what {
-        What::Got {
-            lo,
-            hi,
-            query,
-            answer,
-        } => Some(Look {
-            lo,
-            hi,
-            query,
-            told: answer,
-        }),
-        What::Wrote { .. } | What::Copied { .. } | What::Lawful { .. } => None,
-    }
-}
-
 impl LaneReads {
     /// The reads of a lane on a tree, none of which was found true.
-    fn new(alloc: Global, told: &[Told], tree: u32, number: u32) -> Result<LaneReads, NoMemory> {
+    fn new(
+        alloc: Global,
+        told: &[ToldLine],
+        tree: u32,
+        number: u32,
+    ) -> Result<LaneReads, NoMemory> {
         let mut lane = LaneReads {
             number,
             reads: Vec::new(alloc),
@@ -52,7 +39,7 @@ impl LaneReads {
         };
         for (place, one) in told.iter().enumerate() {
             if one.tree == tree && one.lane == number {
-                if let Some(look) = look_of(one) {
+                if let Some(look) = look_told(one) {
                     lane.reads.push(Read { place, look })?;
                     lane.first = lane.first.or(Some(one.phase));
                 }
@@ -107,7 +94,7 @@ pub struct Lanes {
 
 impl Lanes {
     /// The reads of a tree that the transcript reports.
-    pub fn new(alloc: Global, told: &[Told], tree: u32) -> Result<Lanes, NoMemory> {
+    pub fn new(alloc: Global, told: &[ToldLine], tree: u32) -> Result<Lanes, NoMemory> {
         let mut lanes = Vec::new(alloc);
         for number in 0..MOST_LANES {
             lanes.push(LaneReads::new(alloc, told, tree, number)?)?;

@@ -3,7 +3,7 @@
 use crate::causes::{Cause, FoundFault};
 use crate::trees::DeclaredTree;
 use mt_base::{NoMemory, Range};
-use mt_log::{Entries, Listing, Listings, RangeList, Transcript, render};
+use mt_log::{ListOf, Listing, Transcript, render};
 use mt_told::Account;
 use std::alloc::Global;
 
@@ -12,7 +12,7 @@ pub fn listing_of(declared: &DeclaredTree, ranges: Vec<Range>) -> Listing {
     Listing {
         name: declared.name,
         kind: declared.kind,
-        ranges: RangeList::new(ranges),
+        ranges: ListOf::new(ranges),
     }
 }
 
@@ -39,8 +39,8 @@ pub fn listing_fault(
 ) -> Result<Option<FoundFault>, NoMemory> {
     let listed = Transcript {
         version,
-        entries: Entries::new(Vec::new(alloc)),
-        lists: Listings::new(lists),
+        entries: ListOf::new(Vec::new(alloc)),
+        lists: ListOf::new(lists),
     };
     let text = render(alloc, &listed)?;
     if text.as_slice() == account.rest {

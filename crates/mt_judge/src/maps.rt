@@ -4,7 +4,7 @@ use mt_base::{Call, Kind, MOST_ROWS, NoMemory, Range, Shortage};
 use mt_list::Ranges;
 use mt_shelves::ShelfMap;
 use mt_told::{is_number, is_reply};
-use mt_verify::{Look, is_short, is_true, wants_rows};
+use mt_verify::{ToldRead, is_short, is_true, wants_rows};
 use std::alloc::Global;
 use std::marker::Model;
 
@@ -83,7 +83,7 @@ impl TreeMap {
     }
 
     /// Whether a read is true of the map.
-    pub fn is_true(&mut self, look: &Look) -> bool {
+    pub fn is_true(&mut self, look: &ToldRead) -> bool {
         is_true(&mut self.map, look)
     }
 

@@ -9,13 +9,13 @@ ghost use Rattle.mt_judge.specs.Orders.{IsFirstOut, IsInOrder};
 use crate::causes::{Cause, FoundFault};
 use crate::trees::{MOST_TREES, is_call_on};
 use mt_base::NoMemory;
-use mt_told::{Told, What};
+use mt_told::{ToldLine, What};
 use mt_verify::windows_keep;
 use std::alloc::Global;
 
 /// The place of the first line that does not keep to those that it knows of, if one does not.
 #[tactic(auto, using(crate::proofs::Firsts::order_of_none, crate::proofs::Firsts::first_found))]
-fn first_out(told: &[Told]) -> Option<usize>
+fn first_out(told: &[ToldLine]) -> Option<usize>
     requires trees { All (λ t. t.tree < most_trees) told.now }
     requires lanes { All (λ t. t.lane < most_lanes) told.now }
     requires phases { AllPairs (λ s t. s.phase ≤ t.phase) told.now }
@@ -44,7 +44,7 @@ fn first_out(told: &[Told]) -> Option<usize>
 }
 
 /// What is wrong at a line that does not keep to those before it: a call's number, or where a read's window begins.
-fn cause_of(told: &Told) -> Cause
+fn cause_of(told: &ToldLine) -> Cause
     ensures { result ≡ order_cause told.now.what }
 {
     match told.what {
@@ -55,7 +55,7 @@ fn cause_of(told: &Told) -> Cause
 
 /// The first line that does not keep to those that it knows of.
 #[tactic(auto, using(crate::proofs::Firsts::first_told))]
-fn order_fault(told: &[Told]) -> Option<FoundFault>
+fn order_fault(told: &[ToldLine]) -> Option<FoundFault>
     requires trees { All (λ t. t.tree < most_trees) told.now }
     requires lanes { All (λ t. t.lane < most_lanes) told.now }
     requires phases { AllPairs (λ s t. s.phase ≤ t.phase) told.now }
@@ -66,7 +66,7 @@ fn order_fault(told: &[Told]) -> Option<FoundFault>
 }
 
 /// How many calls on a tree there are.
-fn count_calls(told: &[Told], tree: u32) -> usize {
+fn count_calls(told: &[ToldLine], tree: u32) -> usize {
     told.iter().filter(|one| is_call_on(one, tree)).count()
 }
 
@@ -85,7 +85,7 @@ fn takes(taken: &mut [bool], number: u64) -> bool {
 }
 
 /// The first call on a tree whose number is 0, is above the number of calls, or was taken before.
-fn number_fault(alloc: Global, told: &[Told], tree: u32) -> Result<Option<FoundFault>, NoMemory>
+fn number_fault(alloc: Global, told: &[ToldLine], tree: u32) -> Result<Option<FoundFault>, NoMemory>
     ensures { IfOk result (λ found. IfSome found (λ fault. is_of_order fault.cause ≡ false)) }
 {
     let mut taken = vec![in alloc; false; count_calls(told, tree)]?;
@@ -102,7 +102,7 @@ fn number_fault(alloc: Global, told: &[Told], tree: u32) -> Result<Option<FoundF
 }
 
 /// The first read on a tree whose window ends after the last call.
-fn end_fault(told: &[Told], tree: u32) -> Option<FoundFault>
+fn end_fault(told: &[ToldLine], tree: u32) -> Option<FoundFault>
     ensures { IfSome result (λ fault. is_of_order fault.cause ≡ false) }
 {
     let count = count_calls(told, tree) as u64;
@@ -121,7 +121,7 @@ fn end_fault(told: &[Told], tree: u32) -> Option<FoundFault>
 /// The earlier of two faults, the first of which may be of order and the other is not.
 #[tactic(auto, using(crate::proofs::Firsts::told_earlier))]
 fn or_earlier(
-    told: &[Told],
+    told: &[ToldLine],
     found: Option<FoundFault>,
     other: Option<FoundFault>,
 ) -> Option<FoundFault>
@@ -136,7 +136,7 @@ fn or_earlier(
 }
 
 /// The first line whose number or window cannot be.
-pub fn window_fault(alloc: Global, told: &[Told]) -> Result<Option<FoundFault>, NoMemory>
+pub fn window_fault(alloc: Global, told: &[ToldLine]) -> Result<Option<FoundFault>, NoMemory>
     requires trees { All (λ t. t.tree < most_trees) told.now }
     requires lanes { All (λ t. t.lane < most_lanes) told.now }
     requires phases { AllPairs (λ s t. s.phase ≤ t.phase) told.now }

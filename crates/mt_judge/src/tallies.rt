@@ -4,7 +4,7 @@ ghost use Rattle.std.specs.Prelude.{◌≡◌};
 ghost use Rattle.mt_verify.specs.ToldReads.{is_got, is_wrote};
 ghost use Rattle.mt_judge.specs.Judged.{how_many, is_overlapped, tally_of};
 
-use mt_told::{Told, What};
+use mt_told::{ToldLine, What};
 use std::fmt;
 
 /// How many calls and how many reads a transcript reports, and how many of the reads met a call on their tree: their windows
@@ -33,21 +33,21 @@ impl fmt::Display for ReadTally {
 }
 
 /// Whether a line reports a call.
-fn is_call(told: &Told) -> bool
+fn is_call(told: &ToldLine) -> bool
     ensures { result ≡ is_wrote told.now.what }
 {
     matches!(told.what, What::Wrote { .. })
 }
 
 /// Whether it reports a read.
-fn is_read(told: &Told) -> bool
+fn is_read(told: &ToldLine) -> bool
     ensures { result ≡ is_got told.now.what }
 {
     matches!(told.what, What::Got { .. })
 }
 
 /// Whether it reports a read that met a call.
-fn overlaps(told: &Told) -> bool
+fn overlaps(told: &ToldLine) -> bool
     ensures { result ≡ is_overlapped told.now.what }
 {
     match told.what {
@@ -57,28 +57,28 @@ fn overlaps(told: &Told) -> bool
 }
 
 /// How many of these lines report a call.
-fn count_calls(told: &[Told]) -> u64
+fn count_calls(told: &[ToldLine]) -> u64
     ensures { result ≡ how_many is_wrote told.now }
 {
     told.iter().filter(|one| is_call(one)).count() as u64
 }
 
 /// How many report a read.
-fn count_reads(told: &[Told]) -> u64
+fn count_reads(told: &[ToldLine]) -> u64
     ensures { result ≡ how_many is_got told.now }
 {
     told.iter().filter(|one| is_read(one)).count() as u64
 }
 
 /// How many report a read that met a call.
-fn count_overlapped(told: &[Told]) -> u64
+fn count_overlapped(told: &[ToldLine]) -> u64
     ensures { result ≡ how_many is_overlapped told.now }
 {
     told.iter().filter(|one| overlaps(one)).count() as u64
 }
 
 /// How much these lines report.
-pub fn tally_of(told: &[Told]) -> ReadTally
+pub fn tally_of(told: &[ToldLine]) -> ReadTally
     ensures { result ≡ tally_of told.now }
 {
     ReadTally {

@@ -2,7 +2,7 @@
 
 use mt_base::{Kind, NoMemory};
 use mt_log::{Item, Line, Word};
-use mt_told::{Told, What};
+use mt_told::{ToldLine, What};
 use std::alloc::Global;
 
 /// The greatest number of trees, and of lanes, of a log.
@@ -42,6 +42,6 @@ pub fn trees_of(alloc: Global, lines: &[Line]) -> Result<Vec<DeclaredTree>, NoMe
 }
 
 /// Whether a line reports a call on a tree.
-pub fn is_call_on(told: &Told, tree: u32) -> bool {
+pub fn is_call_on(told: &ToldLine, tree: u32) -> bool {
     told.tree == tree && matches!(told.what, What::Wrote { .. })
 }

@@ -1,10 +1,9 @@
 -- A log that can be read has lines that can follow, one behind the other.
-use Rattle.mt_log.proofs.Prelude.{◌≡◌, inl, inr, ℕ, ◌+◌, ◌-◌, ◌≤◌, ◌<◌, ◌^◌, Bool, true, false, List, [], ◌∷◌, ◌++◌, Option, Some, None, Ok, Err, Result, length, slice_get, take, drop, codes, cond, append_assoc, arith, refl, sym, ap, ◌∙◌, subst, ◌==◌, ◌&&◌, is_some, nat_le, nat_lt, is_ascii_digit, is_ascii_hexdigit, slice_split, list_all, ok_or, option_and_then, option_map, bytes_eq, digits_value, and_parts, leb-true, ltb-true, append-nil, slice_get_within, greatest_of, kind_width, Call, Store, StorePre, Insert, Erase, Alloc, Ralloc, Gap, Rgap, Clear, Query, Load, Find, Next, Prev, Rfind, Kind, greatest_fits, Fault, on_line, ◌>>=◌, IsLog, is_name, ReadSoFar, after_item, after_line, after_pieces, after_skipped, before_steps, room_for_tree, room_for_scan, most_scan_steps, declared_place, tree_at, tree_read, new_name_read, kind_read, number_read, decimal_read, hexadecimal_read, index_read, size_read, entry_number_read, as_count, count_read, as_lane, lane_number_read, keyword_read, is_skipped, item_of, item_by, fields_of, tree_item, dup_item, check_item, lane_item, join_item, range_item, area_of, area_item, area_entry_item, index_item, bound_item, scan_item, whole_item, log_of_pieces, headed, nothing_read, most_trees, Area, Why, Keyword, Item, Tree, Lane, Join, Dup, Check, Write, Ask, Scan, Line, Log, KnownTree, NumberedTree}
+use Rattle.mt_log.proofs.Prelude.{◌≡◌, inl, inr, ℕ, ◌+◌, ◌-◌, ◌≤◌, ◌<◌, ◌^◌, Bool, true, false, List, [], ◌∷◌, ◌++◌, Option, Some, None, Ok, Err, Result, length, slice_get, take, drop, codes, cond, append_assoc, arith, refl, sym, ap, ◌∙◌, subst, ◌==◌, ◌&&◌, is_some, nat_le, nat_lt, is_ascii_digit, is_ascii_hexdigit, slice_split, list_all, ok_or, option_and_then, option_map, bytes_eq, digits_value, and_parts, leb-true, ltb-true, append-nil, slice_get_within, greatest_of, kind_width, Call, Store, StorePre, Insert, Erase, Alloc, Ralloc, Gap, Rgap, Clear, Query, Load, Find, Next, Prev, Rfind, Kind, greatest_fits, Fault, on_line, ◌>>=◌, IsLog, is_name, ReadSoFar, after_item, after_line, after_pieces, after_skipped, before_steps, room_for_tree, room_for_scan, most_scan_steps, declared_place, tree_at, tree_read, new_name_read, kind_read, number_read, decimal_read, hexadecimal_read, index_read, size_read, entry_number_read, as_count, count_read, as_lane, lane_number_read, keyword_read, is_skipped, item_of, item_by, fields_of, tree_item, dup_item, check_item, lane_item, join_item, range_item, area_of, area_item, area_entry_item, index_item, bound_item, scan_item, whole_item, log_of_pieces, headed, nothing_read, most_trees, Area, Why, Keyword, Item, Tree, Lane, Join, Dup, Check, Write, Ask, Scan, Line, Log, KnownTree, NumberedTree, most_lanes}
 use Rattle.mt_log.specs.declared.keywords.Keyword.TheVariants as keyword
 use Rattle.mt_log.proofs.Digits.{all_told, hexadecimal_is_short, tells_hexadecimal}
 use Rattle.mt_log.proofs.Following.{CallSays, CanAllFollow, CanFollow, IsNumber, QuerySays}
 use Rattle.mt_log.proofs.Pieces.{IsVersion}
-use Rattle.mt_base.specs.Limits.{most_lanes}
 
 -- ---- what was read was read in each of its parts
 

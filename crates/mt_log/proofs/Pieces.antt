@@ -47,3 +47,6 @@ grown r s false (Err why) h = (cc)
 -- a line that is read counts, and says one thing at the most
 pub one_more : (r s : ReadSoFar) (line : List ℕ) → after_line r line ≡ Ok s → (s.next ≡ r.next + 1) × (length s.lines ≤ length r.lines + 1)
 one_more r s line h = grown r s (is_skipped line) (item_of r (fields_of line)) h
+
+-- what is read of the pieces, from the first to the last
+pub ruleset pieces_read = (first_line, one_more, last_piece, left_over)

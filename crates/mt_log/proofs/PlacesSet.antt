@@ -1,6 +1,5 @@
 -- One place of a list is set: what stands there, and what stands elsewhere.
-use Rattle.mt_log.proofs.Prelude.{◌≡◌, ℕ, List, [], ◌∷◌, Some, slice_get, refl, ap}
-use Rattle.std.proofs.Common.{◌≢◌, zero, suc, slice_set}
+use Rattle.mt_log.proofs.Prelude.{◌≡◌, ℕ, List, [], ◌∷◌, Some, slice_get, refl, ap, ◌≢◌, zero, suc, slice_set}
 
 pub set_here : {X : Type 0} (xs : List X) (i : ℕ) (x y : X) → slice_get xs i ≡ Some x → slice_get (slice_set xs i y) i ≡ Some y
 set_here [] i x y is = absurd (cc)

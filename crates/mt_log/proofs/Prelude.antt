@@ -2,33 +2,19 @@
 pub use Rattle.indexmap.proofs.MapLemmas.{Missing-position, insert_entry-absent}
 pub use Rattle.indexmap.specs.IndexMap.{insert_entry}
 pub use Rattle.memchr.specs.Find.{IsFirstByte}
-pub use Rattle.std.proofs.Common.{Bool, Err, List, None, Ok, Option, Result, Some, [], add-zero, ap, append_assoc, arith, codes, cond, drop, false, get_or, inl, inr, length, length-append, length-drop, lit<, map, not, position, refl, replicate, rules, slice_get, subst, suc, sym, take, true, zero, ℕ, ◌*◌, ◌++◌, ◌+◌, ◌-◌, ◌<◌, ◌^◌, ◌∙◌, ◌∷◌, ◌≡◌, ◌≤◌, ◌⊎◌}
-pub use Rattle.std.proofs.Math.Nat.{pow-le-pow_right}
-pub use Rattle.std.proofs.lemmas.Bool.{and_parts, cases_lt, eq-eqb, eqb-true, le-leb, le-ltb, leb-true, lt-ltb, ltb-true}
-pub use Rattle.std.proofs.lemmas.Bool.Decides.{nat_tests}
+pub use Rattle.std.proofs.Common.{Bool, Err, IsAscii, IsUtf8, List, None, Ok, Option, Result, Some, SomeIff, [], add-zero, ap, append_assoc, arith, bytes_eq, codes, cond, decimal, drop, false, get_or, inl, inr, is_some, length, length-append, length-drop, lit<, map, nat_eq, nat_le, nat_lt, not, ok_or, option_and_then, option_map, option_to_list, position, refl, replicate, rules, slice_get, slice_set, subst, suc, sym, take, true, zero, ℕ, ◌&&◌, ◌*◌, ◌++◌, ◌+◌, ◌-◌, ◌<◌, ◌==◌, ◌^◌, ◌∙◌, ◌∷◌, ◌≡◌, ◌≢◌, ◌≤◌, ◌⊎◌}
+pub use Rattle.mt_base.proofs.Std.{and_parts, append-nil, bytes_eq-Decides, cases_lt, common_steps, drop-replicate, eq-eqb, eqb-true, fails_before_first, flat_map, join_with_byte, le-leb, le-ltb, leb-true, length-map, length-take, length_push, list_all, lt-ltb, ltb-true, map-append, nat_tests, nil_from_length, onto_first, position-Some, position_or_len, position_or_len_push, pow-le-pow_right, prefix_len-le-length, slice_get-map, slice_get_cases, slice_get_within, slice_split, take_all, take_at, take_rest}
 pub use Rattle.std.proofs.lemmas.Fmt.{decimal_digit, decimal_is_IsNumeral, length-decimal-le}
-pub use Rattle.std.proofs.lemmas.Grind.{common_steps}
 pub use Rattle.std.proofs.lemmas.Int.Digits.{digits_more, digits_value-lt, digits_value_more}
-pub use Rattle.std.proofs.lemmas.List.{append-nil, drop-replicate, length-map, length-take, length_push, map-append, nil_from_length, take_all, take_at, take_rest}
-pub use Rattle.std.proofs.lemmas.List.Folds.{position_or_len_push}
-pub use Rattle.std.proofs.lemmas.List.Quantifiers.{position-Some}
 pub use Rattle.std.proofs.lemmas.List.Splits.{slice_split_first, slice_split_none}
-pub use Rattle.std.proofs.lemmas.List.Sums.{fails_before_first, prefix_len-le-length}
-pub use Rattle.std.proofs.lemmas.Option.{slice_get-map, slice_get_cases, slice_get_within}
-pub use Rattle.std.proofs.lemmas.Slice.Eq.{bytes_eq-Decides}
 pub use Rattle.std.proofs.lemmas.Str.{IsUtf8-from_ascii}
 pub use Rattle.std.proofs.lemmas.Str.Ascii.{IsAscii-cons, IsAscii-nil}
 pub use Rattle.std.proofs.lemmas.Str.Parse.{digit_from_value, digits_value-take-le}
 pub use Rattle.std.specs.Char.{digit_value, is_ascii_digit, is_ascii_hexdigit}
-pub use Rattle.std.specs.Fmt.{decimal}
-pub use Rattle.std.specs.List.{flat_map, join_with_byte, list_all, onto_first, position_or_len, slice_split}
 pub use Rattle.std.specs.Map.{keys_of}
-pub use Rattle.std.specs.Option.{ok_or, option_and_then, option_map, option_to_list}
-pub use Rattle.std.specs.Prelude.{SomeIff, is_some, nat_eq, nat_le, nat_lt, ◌&&◌, ◌==◌}
-pub use Rattle.std.specs.Str.{IsAscii, IsUtf8, bytes_eq}
 pub use Rattle.std.specs.Str.Parse.{AllDigits, digits_value}
 pub use Rattle.mt_base.proofs.WidthBounds.{greatest_fits}
-pub use Rattle.mt_base.specs.Width.{kind_width}
+pub use Rattle.mt_base.specs.Names.{kind_width, most_lanes}
 pub use Rattle.mt_log.specs.Fault.{Fault, fault_at, on_line, ◌>>=◌}
 pub use Rattle.mt_log.specs.Indexed.{known}
 pub use Rattle.mt_log.specs.LogText.{IsLog, call_fields, item_fields, line_text, lines_text, log_text, names_after, query_fields, tree_name}
@@ -40,7 +26,6 @@ pub use Rattle.mt_log.specs.Reading.{ReadSoFar, after_item, after_line, after_pi
 unfoldable pub use Rattle.mt_log.specs.Reading.{area_entry_item, area_item, area_of, before_steps, bound_item, check_item, count_read, decimal_read, dup_item, entry_number_read, hexadecimal_read, index_item, index_read, item_by, item_of, join_item, keyword_read, kind_read, lane_item, lane_number_read, new_name_read, number_read, range_item, room_for_scan, room_for_tree, scan_item, size_read, tree_item, tree_read, whole_item}
 pub use Rattle.mt_log.specs.Text.{entry_text, listing_text, range_line}
 pub use Rattle.mt_log.specs.Trees.{AreNamedFrom, Declared, IsReadable, NamesBelow, NumbersRiseFrom, Opening, count_after, declared_by, known_after, most_trees, opening_by, renamed, tree_declared_by, trees_from, trees_of}
-pub use Rattle.mt_base.specs.Limits.{most_lanes}
 pub use Rattle.mt_log.specs.declared.areas.Area.{Area}
 pub use Rattle.mt_log.specs.declared.faults.Why.{Why}
 pub use Rattle.mt_log.specs.declared.faults.Why.TheVariants.{NoNewline}

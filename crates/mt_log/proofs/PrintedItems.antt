@@ -1,9 +1,8 @@
 -- The fields of a line that can follow are read as this line.
-use Rattle.mt_log.proofs.Prelude.{◌≡◌, ℕ, ◌+◌, ◌-◌, ◌≤◌, ◌<◌, true, false, List, [], ◌∷◌, Some, None, Ok, length, map, slice_get, codes, arith, refl, inl, inr, decimal, le-leb, lt-ltb, slice_get-map, slice_get_cases, kind_text, Call, Store, StorePre, Insert, Erase, Alloc, Ralloc, Gap, Rgap, Clear, Query, Load, Find, Next, Prev, Rfind, Kind, call_fields, query_fields, item_fields, tree_name, is_name, ReadSoFar, before_steps, room_for_tree, room_for_scan, most_scan_steps, declared_place, tree_read, new_name_read, kind_read, keyword_read, item_of, item_by, tree_item, dup_item, check_item, lane_item, join_item, range_item, area_of, area_item, area_entry_item, index_item, bound_item, scan_item, whole_item, most_trees, Item, Tree, Lane, Join, Dup, Check, Write, Ask, Scan, KnownTree, NumberedTree}
+use Rattle.mt_log.proofs.Prelude.{◌≡◌, ℕ, ◌+◌, ◌-◌, ◌≤◌, ◌<◌, true, false, List, [], ◌∷◌, Some, None, Ok, length, map, slice_get, codes, arith, refl, inl, inr, decimal, le-leb, lt-ltb, slice_get-map, slice_get_cases, kind_text, Call, Store, StorePre, Insert, Erase, Alloc, Ralloc, Gap, Rgap, Clear, Query, Load, Find, Next, Prev, Rfind, Kind, call_fields, query_fields, item_fields, tree_name, is_name, ReadSoFar, before_steps, room_for_tree, room_for_scan, most_scan_steps, declared_place, tree_read, new_name_read, kind_read, keyword_read, item_of, item_by, tree_item, dup_item, check_item, lane_item, join_item, range_item, area_of, area_item, area_entry_item, index_item, bound_item, scan_item, whole_item, most_trees, Item, Tree, Lane, Join, Dup, Check, Write, Ask, Scan, KnownTree, NumberedTree, most_lanes}
 use Rattle.mt_base.specs.declared.kinds.Kind.TheVariants as kinds
 use Rattle.mt_log.proofs.Following.{AreNamed, CallSays, CanFollow, IsNumber, QuerySays}
 use Rattle.mt_log.proofs.PrintedNumbers.{count_reads, entry_reads, index_reads, lane_reads, size_reads}
-use Rattle.mt_base.specs.Limits.{most_lanes}
 
 -- ---- names
 

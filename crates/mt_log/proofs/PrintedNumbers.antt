@@ -1,7 +1,6 @@
 -- A number in print reads as this number.
-use Rattle.mt_log.proofs.Prelude.{◌≡◌, ℕ, ◌-◌, ◌≤◌, ◌<◌, ◌^◌, Bool, true, false, List, [], ◌∷◌, Ok, length, take, codes, arith, refl, ◌&&◌, nat_eq, digit_value, is_ascii_digit, decimal, bytes_eq, AllDigits, digits_value, le-leb, lt-ltb, nat_tests, decimal_is_IsNumeral, length-decimal-le, digit_from_value, Kind, greatest_of, decimal_read, number_read, index_read, size_read, entry_number_read, count_read, lane_number_read}
+use Rattle.mt_log.proofs.Prelude.{◌≡◌, ℕ, ◌-◌, ◌≤◌, ◌<◌, ◌^◌, Bool, true, false, List, [], ◌∷◌, Ok, length, take, codes, arith, refl, ◌&&◌, nat_eq, digit_value, is_ascii_digit, decimal, bytes_eq, AllDigits, digits_value, le-leb, lt-ltb, nat_tests, decimal_is_IsNumeral, length-decimal-le, digit_from_value, Kind, greatest_of, decimal_read, number_read, index_read, size_read, entry_number_read, count_read, lane_number_read, most_lanes}
 use Rattle.mt_log.proofs.Digits.{tells_decimal, told_all}
-use Rattle.mt_base.specs.Limits.{most_lanes}
 
 -- ---- digits are no word
 

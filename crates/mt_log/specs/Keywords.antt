@@ -1,8 +1,6 @@
 -- The keywords, and the word of each.
 -- Source: this project's own, the language of logs.
-use Rattle.std.specs.Prelude.{ℕ, List, [], ◌∷◌, Option, codes}
-use Rattle.std.specs.List.{find}
-use Rattle.std.specs.Str.{bytes_eq}
+use Rattle.std.specs.Prelude.{ℕ, List, [], ◌∷◌, Option, codes, find, bytes_eq}
 use Rattle.mt_log.specs.declared.keywords.Keyword.{Keyword}
 use Rattle.mt_log.specs.declared.keywords.Keyword.TheVariants as keyword
 

@@ -1,7 +1,6 @@
 -- How a log is printed: each line at its number, blank lines between, numbers in decimal. And which logs there are.
 -- Source: this project's own, the language of logs.
-use Rattle.std.specs.Prelude.{◌≡◌, ℕ, List, [], ◌∷◌, ◌++◌, ◌-◌, Ok, replicate, slice_get, codes, unwrap_or}
-use Rattle.std.specs.Fmt.{decimal}
+use Rattle.std.specs.Prelude.{◌≡◌, ℕ, List, [], ◌∷◌, ◌++◌, ◌-◌, Ok, replicate, slice_get, codes, unwrap_or, decimal}
 use Rattle.std.specs.List.{join_with_byte}
 use Rattle.mt_log.specs.Prelude.{kind_text, Call, Store, StorePre, Insert, Erase, Alloc, Ralloc, Gap, Rgap, Clear, Query, Load, Find, Next, Prev, Rfind}
 use Rattle.mt_log.specs.Reading.{log_of}

@@ -1,8 +1,5 @@
 -- What the definitions beside this file take from the toolchain and from the crates below, under one name. Declares nothing.
-pub use Rattle.mt_base.specs.History.{History, IsLegal, IsTrueRead, Record, last_map, map_at}
-pub use Rattle.mt_base.specs.Passes.{holder_of}
-pub use Rattle.mt_base.specs.Text.{kind_text, range_text}
-pub use Rattle.mt_base.specs.Width.{greatest_of}
+pub use Rattle.mt_base.specs.Names.{History, IsLegal, IsTrueRead, Record, find_at, greatest_of, holder_of, kind_text, last_map, map_at, most_lanes, place_after, place_within, range_text}
 pub use Rattle.mt_base.specs.declared.calls.Call.{Call}
 pub use Rattle.mt_base.specs.declared.calls.Call.TheVariants.{Alloc, Clear, Erase, Gap, Insert, Ralloc, Rgap, Store, StorePre}
 pub use Rattle.mt_base.specs.declared.calls.Query.{Query}

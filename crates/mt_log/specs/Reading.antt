@@ -1,12 +1,10 @@
 -- The log that bytes are, or the first line that is bad and why. It is read off the list of lines, cut at each LF,
 -- and the list of a line's fields, cut at each space.
-use Rattle.std.specs.Prelude.{ℕ, Bool, true, false, List, [], ◌∷◌, ◌++◌, Option, Result, Some, None, Ok, Err, ◌+◌, ◌-◌, ◌^◌, ◌==◌, ◌&&◌, nat_lt, nat_le, is_some, length, map, take, drop, position, slice_get, codes, if◌then◌else◌}
+use Rattle.std.specs.Prelude.{ℕ, Bool, true, false, List, [], ◌∷◌, ◌++◌, Option, Result, Some, None, Ok, Err, ◌+◌, ◌-◌, ◌^◌, ◌==◌, ◌&&◌, nat_lt, nat_le, is_some, length, map, take, drop, position, slice_get, codes, if◌then◌else◌, ok_or, option_map, option_and_then, bytes_eq}
 use Rattle.std.specs.List.{find, slice_split, list_all}
-use Rattle.std.specs.Option.{ok_or, option_map, option_and_then}
 use Rattle.std.specs.Char.{is_ascii_digit, is_ascii_hexdigit}
-use Rattle.std.specs.Str.{bytes_eq}
 use Rattle.std.specs.Str.Parse.{digits_value}
-use Rattle.mt_log.specs.Prelude.{Kind, Call, Store, StorePre, Insert, Erase, Alloc, Ralloc, Gap, Rgap, Clear, Query, Load, Find, Next, Prev, Rfind, kind_text, greatest_of}
+use Rattle.mt_log.specs.Prelude.{Kind, Call, Store, StorePre, Insert, Erase, Alloc, Ralloc, Gap, Rgap, Clear, Query, Load, Find, Next, Prev, Rfind, kind_text, greatest_of, most_lanes}
 use Rattle.mt_base.specs.declared.kinds.Kind.TheVariants as kinds
 use Rattle.mt_log.specs.Keywords.{keywords, named}
 use Rattle.mt_log.specs.Name.{is_name}
@@ -24,7 +22,6 @@ use Rattle.mt_log.specs.declared.lines.Line.{Line}
 use Rattle.mt_log.specs.declared.lines.Log.{Log}
 use Rattle.mt_log.specs.declared.trees.KnownTree.{KnownTree}
 use Rattle.mt_log.specs.declared.trees.NumberedTree.{NumberedTree}
-use Rattle.mt_base.specs.Limits.{most_lanes}
 
 -- 1 to 20 decimal digits, of a value below 2 ^ 64
 unfoldable pub decimal_read : List ℕ → Result ℕ Why

@@ -7,7 +7,7 @@ use crate::transcripts::Answer;
 use mt_base::{Query, Range};
 
 /// What a query is told of a range: a load is told its entry alone.
-fn told_of(query: &Query, range: Range) -> Answer
+fn shown_range(query: &Query, range: Range) -> Answer
     ensures { result ≡ shown_range query.now range }
 {
     match query {
@@ -23,7 +23,7 @@ pub fn shown(query: &Query, found: Option<Range>) -> Answer
     ensures { result ≡ shown query.now found }
 {
     match found {
-        Some(range) => told_of(query, range),
+        Some(range) => shown_range(query, range),
         None => Answer::None,
     }
 }

@@ -1,7 +1,7 @@
+use crate::lists::ListOf;
 use crate::names::Word;
 use crate::trees::{KnownTree, Trees};
 use mt_base::{Call, Kind, Query};
-use std::marker::Model;
 
 /// What a line of a log says. Trees are numbered from 0 in the order of their lines, copies among them.
 #[derive(Clone, Copy)]
@@ -98,42 +98,9 @@ pub struct Line {
     pub item: Item,
 }
 
-/// The lines of a log.
-#[derive(Drop)]
-pub struct Lines {
-    items: Vec<Line>,
-}
-
-impl Model for Lines {
-    ghost use Rattle.std.specs.Prelude.{List};
-    ghost use Rattle.mt_log.specs.declared.lines.Line.{Line};
-
-    ghost Value = { List Line };
-
-    ghost view = { λ l. l.items.items };
-}
-
-impl Lines {
-    ghost use Rattle.std.specs.Prelude.{◌≡◌};
-
-    /// These items, in order.
-    pub fn new(items: Vec<Line>) -> Self
-        ensures { result ≡ items.items }
-    {
-        Lines { items }
-    }
-
-    /// The items, in order.
-    pub fn as_slice(&self) -> &[Line]
-        ensures { result.now ≡ self.now }
-    {
-        &self.items
-    }
-}
-
 /// A log: the lines that say something, in order.
 #[derive(Drop)]
 pub struct Log {
     pub version: u32,
-    pub lines: Lines,
+    pub lines: ListOf<Line>,
 }

@@ -9,7 +9,8 @@ use crate::cuts::cut_line;
 use crate::faults::{LogError, Why};
 use crate::fields::{Fields, gather};
 use crate::items::item_of;
-use crate::lines::{Item, Lines, Log};
+use crate::lines::{Item, Log};
+use crate::lists::ListOf;
 use crate::reader::Reader;
 use std::alloc::Global;
 
@@ -58,7 +59,7 @@ fn read_line(reader: &mut Reader, line: &[u8]) -> Result<(), LogError>
 }
 
 /// Reads the lines after the first.
-#[tactic(auto, using(crate::proofs::Pieces::first_line, crate::proofs::Pieces::one_more, crate::proofs::Pieces::last_piece, crate::proofs::Pieces::left_over, crate::proofs::Soundness::sound_nothing))]
+#[tactic(auto, using(crate::proofs::Pieces::pieces_read, crate::proofs::Soundness::sound_nothing))]
 fn read_lines(alloc: Global, text: &[u8]) -> Result<Reader, LogError>
     ensures lines { ReadsAs (λ r. r) result (after_pieces nothing_read (slice_split (λ b. b == 10) text.now)) }
     ensures sound { IfOk result (λ r. IsSoundReading r) }
@@ -120,6 +121,6 @@ pub fn read_log(alloc: Global, bytes: &[u8]) -> Result<Log, LogError>
     let reader = read_lines(alloc, text)?;
     Ok(Log {
         version,
-        lines: Lines::new(reader.into_lines()),
+        lines: ListOf::new(reader.into_lines()),
     })
 }

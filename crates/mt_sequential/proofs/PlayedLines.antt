@@ -1,7 +1,6 @@
 -- What is played of one line more is what came of the lines.
-use Rattle.mt_sequential.proofs.Prelude.{◌≡◌, ℕ, zero, suc, ◌+◌, ◌<◌, Bool, true, false, List, [], ◌∷◌, ◌++◌, Option, Some, None, length, map, arith, ap, sym, ◌∙◌, refl, subst, append_assoc, length-append, slice_get, slice_set, option_map, option_to_list, append-nil, map-append, Kind, Range, Call, Query, answer, Record, History, last_map, Limits, IsMade, Item, Tree, Lane, Join, Dup, Check, Write, Ask, Scan, Line, Log, Word, Entry, Transcript, KnownTree, IsInPlace, phase_after, stepped_after, stepped_from, Asked, Step, Called, Looked, Counted, ScanGoesOnFrom, AreScanSteps, AreDone, IsRun, entry_of, find_at, listings_of, place_after, place_within, shown, steps_of, Declared, Empty, CopyOf, declared_by, renamed, trees_of, asked_by, lane_behind, phase_behind, HasPlayed, MayLimit, IsNext, step_of_line, with_call, new_history, made_is_next, limits_next, call_played, count_played, phase_played, read_played, tree_played, copy_played, nothing_played, as_declared, as_large, played_is_run, asked_more, trees_more, phase_more, stepped_more, done_append, TreeState, PlayerState, Copies, Checks, Calls, Does, AreBoth, HasHistory, IsDeclaredSo, IsPlayedBy, IsPlayed, with_entry, read_entry, scan_entries, entries_behind, listing_of}
+use Rattle.mt_sequential.proofs.Prelude.{◌≡◌, ℕ, zero, suc, ◌+◌, ◌<◌, Bool, true, false, List, [], ◌∷◌, ◌++◌, Option, Some, None, length, map, arith, ap, sym, ◌∙◌, refl, subst, append_assoc, length-append, slice_get, slice_set, option_map, option_to_list, append-nil, map-append, Kind, Range, Call, Query, answer, Record, History, last_map, Limits, IsMade, Item, Tree, Lane, Join, Dup, Check, Write, Ask, Scan, Line, Log, Word, Entry, Transcript, KnownTree, IsInPlace, phase_after, stepped_after, stepped_from, Asked, Step, Called, Looked, Counted, ScanGoesOnFrom, AreScanSteps, AreDone, IsRun, entry_of, find_at, listings_of, place_after, place_within, shown, steps_of, Declared, Empty, CopyOf, declared_by, renamed, trees_of, asked_by, lane_behind, phase_behind, HasPlayed, MayLimit, IsNext, step_of_line, with_call, new_history, made_is_next, limits_next, call_played, count_played, phase_played, read_played, tree_played, copy_played, nothing_played, as_declared, as_large, played_is_run, asked_more, trees_more, phase_more, stepped_more, done_append, TreeState, PlayerState, Copies, Checks, Calls, Does, AreBoth, HasHistory, IsDeclaredSo, IsPlayedBy, IsPlayed, with_entry, read_entry, scan_entries, entries_behind, listing_of, most_lanes}
 use Rattle.mt_log.specs.declared.transcripts.Said.TheVariants as said
-use Rattle.mt_base.specs.Limits.{most_lanes}
 
 -- ---- two lists, place by place
 

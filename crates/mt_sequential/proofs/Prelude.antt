@@ -1,22 +1,7 @@
 -- What the proofs beside this file take from the toolchain, from the crates below and from this crate's definitions, under one name. Declares nothing.
-pub use Rattle.std.proofs.Common.{All, Bool, List, None, Option, Some, [], ap, append_assoc, arith, drop, false, get_or, length, length-append, map, refl, subst, suc, sym, take, true, zero, ℕ, ◌++◌, ◌+◌, ◌-◌, ◌<◌, ◌∙◌, ◌∷◌, ◌≡◌}
-pub use Rattle.std.proofs.lemmas.List.{append-nil, map-append, take_more}
-pub use Rattle.std.proofs.lemmas.List.Elements.{All-nil, All-push, All-set, All-weaker, recursion_from_All}
-pub use Rattle.std.specs.List.{AllByRecursion}
-pub use Rattle.std.specs.Option.{option_map, option_to_list}
-pub use Rattle.std.specs.Prelude.{insert, remove, slice_get, slice_set}
-pub use Rattle.mt_base.specs.Call.{answer}
-pub use Rattle.mt_base.specs.History.{History, Record, last_map}
-pub use Rattle.mt_base.specs.Nodes.{IsMade, Limits}
-pub use Rattle.mt_base.specs.declared.calls.Call.{Call}
-pub use Rattle.mt_base.specs.declared.calls.Query.{Query}
-pub use Rattle.mt_base.specs.declared.kinds.Kind.{Kind}
-pub use Rattle.mt_base.specs.declared.ranges.Range.{Range}
-pub use Rattle.mt_log.specs.Phases.{IsInPlace, phase_after, stepped_after, stepped_from}
-pub use Rattle.mt_log.specs.Run.{AreDone, AreScanSteps, Asked, Called, Counted, IsRun, Looked, ScanGoesOnFrom, Step, entry_of, listings_of, shown, steps_of}
-pub use Rattle.mt_base.specs.Places.{find_at, place_after, place_within}
-pub use Rattle.mt_log.specs.Trees.{CopyOf, Declared, Empty, IsReadable, NamesBelow, declared_by, renamed, trees_of}
-pub use Rattle.mt_base.specs.Limits.{most_lanes}
+pub use Rattle.std.proofs.Common.{All, Bool, List, None, Option, Some, [], ap, append_assoc, arith, drop, false, get_or, insert, length, length-append, map, option_map, option_to_list, refl, remove, slice_get, slice_set, subst, suc, sym, take, true, zero, ℕ, ◌++◌, ◌+◌, ◌-◌, ◌<◌, ◌∙◌, ◌∷◌, ◌≡◌}
+pub use Rattle.mt_base.proofs.Std.{All-nil, All-push, All-set, All-weaker, AllByRecursion, append-nil, map-append, recursion_from_All, take_more}
+pub use Rattle.mt_log.specs.Names.{AreDone, AreScanSteps, Asked, Call, Called, CopyOf, Counted, Declared, Empty, History, IsInPlace, IsMade, IsReadable, IsRun, Kind, Limits, Looked, NamesBelow, Query, Range, Record, ScanGoesOnFrom, Step, answer, declared_by, entry_of, find_at, last_map, listings_of, most_lanes, phase_after, place_after, place_within, renamed, shown, stepped_after, stepped_from, steps_of, trees_of}
 pub use Rattle.mt_log.specs.declared.lines.Item.{Item}
 pub use Rattle.mt_log.specs.declared.lines.Item.TheVariants.{Ask, Check, Dup, Join, Lane, Scan, Tree, Write}
 pub use Rattle.mt_log.specs.declared.lines.Line.{Line}

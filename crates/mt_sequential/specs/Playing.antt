@@ -1,14 +1,6 @@
 -- What one thread makes of the lines of a log, one after another, over the trees that they declare.
 -- Source: this project's own.
 use Rattle.std.specs.Prelude.{◌≡◌, ℕ, zero, suc, List, [], ◌∷◌, ◌++◌, Option, Some, None, ◌+◌, ◌≤◌, false, length, map, slice_get, slice_set}
-use Rattle.mt_base.specs.declared.kinds.Kind.{Kind}
-use Rattle.mt_base.specs.declared.ranges.Range.{Range}
-use Rattle.mt_base.specs.declared.calls.Call.{Call}
-use Rattle.mt_base.specs.declared.calls.Query.{Query}
-use Rattle.mt_base.specs.declared.replies.Reply.{Reply}
-use Rattle.mt_base.specs.Call.{answer}
-use Rattle.mt_base.specs.History.{History, last_map}
-use Rattle.mt_base.specs.Nodes.{Limits, IsMade, one_call_more}
 use Rattle.mt_log.specs.declared.lines.Item.{Item}
 use Rattle.mt_log.specs.declared.lines.Item.TheVariants.{Tree, Lane, Join, Dup, Check, Write, Ask, Scan}
 use Rattle.mt_log.specs.declared.lines.Line.{Line}
@@ -17,14 +9,10 @@ use Rattle.mt_log.specs.declared.transcripts.Entry.{Entry}
 use Rattle.mt_log.specs.declared.transcripts.Listing.{Listing}
 use Rattle.mt_log.specs.declared.transcripts.Said.{Said}
 use Rattle.mt_log.specs.declared.transcripts.Said.TheVariants as said
-use Rattle.mt_log.specs.Phases.{stepped_from}
-use Rattle.mt_log.specs.Run.{Step, AreDone, entry_of, shown, steps_of}
-use Rattle.mt_base.specs.Places.{find_at, place_after, place_within}
-use Rattle.mt_log.specs.Trees.{Declared, trees_of}
+use Rattle.mt_log.specs.Names.{stepped_from, Step, AreDone, entry_of, shown, steps_of, Declared, trees_of, Kind, Range, Call, Query, Reply, answer, History, last_map, Limits, IsMade, one_call_more, find_at, place_after, place_within, most_lanes}
 use Rattle.mt_linearize.specs.Lines.{phase_behind}
 use Rattle.mt_linearize.specs.OneThread.{HasPlayed, MayLimit}
 use Rattle.mt_linearize.specs.Phases.{new_history}
-use Rattle.mt_base.specs.Limits.{most_lanes}
 
 -- ---- maps
 

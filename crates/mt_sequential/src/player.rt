@@ -9,9 +9,7 @@ ghost use Rattle.mt_base.specs.Limits.{most_calls};
 
 use crate::maps::Plain;
 use mt_base::{Call, Kind, NoMemory, Query, Range, find_at, place_after, place_within};
-use mt_log::{
-    Entries, Entry, Item, Line, Listing, Listings, Log, RangeList, Said, Transcript, Word, shown,
-};
+use mt_log::{Entry, Item, Line, ListOf, Listing, Log, Said, Transcript, Word, shown};
 use std::alloc::Global;
 use std::marker::Model;
 
@@ -152,7 +150,7 @@ impl<M: Plain> Played<M> {
         ensures listing { IfOk result (λ l. l ≡ listing_of self.old) }
         ensures kept { self.new ≡ self.old }
     {
-        let ranges = RangeList::new(self.map.list(alloc)?);
+        let ranges = ListOf::new(self.map.list(alloc)?);
         Ok(Listing {
             name: self.name,
             kind: self.kind,
@@ -288,7 +286,7 @@ pub fn play<M: Plain>(alloc: Global, log: &Log, rows: u64) -> Result<Transcript,
     let lists = list_trees(alloc, &mut player.trees)?;
     Ok(Transcript {
         version: log.version,
-        entries: Entries::new(player.entries),
-        lists: Listings::new(lists),
+        entries: ListOf::new(player.entries),
+        lists: ListOf::new(lists),
     })
 }

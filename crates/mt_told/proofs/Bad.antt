@@ -1,5 +1,5 @@
 -- Where what is read ends, it shows that the text is no listing.
-use Rattle.mt_told.proofs.Prelude.{◌≡◌, ◌≢◌, ℕ, zero, suc, ◌+◌, ◌-◌, ◌≤◌, ◌<◌, ◌^◌, true, List, [], ◌∷◌, ◌++◌, codes, length, take, drop, append_assoc, refl, sym, ap, ◌∙◌, subst, inl, inr, arith, replicate, take-append-drop, ◌==◌, flat_map, eqb-true, ltb-true, flat_map-append, append-nil, length-append, length-replicate, Range, range_text, Listing, listing_text, range_line, AreRangesBefore, BeginsWithNoHead, BeginsWithNoRange, IsHead, IsHeadBefore, HasNoByte, head_text, AreSmall, BeginsListing, IsBadAt, IsInForm, IsListing, ended_lines, first_lines, Head}
+use Rattle.mt_told.proofs.Prelude.{◌≡◌, ◌≢◌, ℕ, zero, suc, ◌+◌, ◌-◌, ◌≤◌, ◌<◌, ◌^◌, true, List, [], ◌∷◌, ◌++◌, codes, length, take, drop, append_assoc, refl, sym, ap, ◌∙◌, subst, inl, inr, arith, replicate, take-append-drop, ◌==◌, flat_map, eqb-true, ltb-true, flat_map-append, append-nil, length-append, length-replicate, Range, range_text, Listing, listing_text, range_line, AreRangesBefore, BeginsWithNoHead, BeginsWithNoRange, IsHead, IsHeadBefore, HasNoByte, head_text, AreSmall, BeginsListing, IsBadAt, IsInForm, IsListing, ended_lines, first_lines, ListingHead}
 use Rattle.mt_base.specs.declared.kinds.Kind.TheVariants as kinds
 use Rattle.mt_told.proofs.FirstLines.{head_in_line, head_is_line, head_words, heads_apart}
 use Rattle.mt_told.proofs.Lines.{HasLine, ended_behind, ended_of_ranges, few_of_ranges, first_line, first_of_piece, firsts_behind, firsts_of_ranges, none_ended}
@@ -8,10 +8,10 @@ use Rattle.mt_told.proofs.Words.{apart}
 
 -- ---- a listing's text
 
-abbrev pub head_of : Listing → Head
+abbrev pub head_of : Listing → ListingHead
 head_of l = record { name = l.name; kind = l.kind; count = length l.ranges }
 
-abbrev listed : Head → List Range → Listing
+abbrev listed : ListingHead → List Range → Listing
 listed h ranges = record { name = h.name; kind = h.kind; ranges = ranges }
 
 pub head_good : (l : Listing) → IsInForm l → IsHead (head_of l)
@@ -40,7 +40,7 @@ ranges_go_on (r ∷ done) (s ∷ all) behind small all_small is =
     record { left = more.left; counted = omega (arith, more.counted); small = more.small; is = more.is }
 
 -- a listing whose text begins with a first line and these ranges
-goes_on : (h : Head) (done : List Range) (behind : List ℕ) → IsHead h → AreSmall done → IsListing (head_text h ++ (flat_map range_line done ++ behind)) → GoesOn h.count done behind
+goes_on : (h : ListingHead) (done : List Range) (behind : List ℕ) → IsHead h → AreSmall done → IsListing (head_text h ++ (flat_map range_line done ++ behind)) → GoesOn h.count done behind
 goes_on h done behind good small (l, (form, is)) =
     let one = heads_apart h (head_of l) _ _ good (head_good l form) (is ∙ whole l) in
     subst (λ (n : ℕ). GoesOn n done behind) (sym one.count) (ranges_go_on done l.ranges behind small form.small one.rest)
@@ -106,7 +106,7 @@ small_append : (a b : List Range) → AreSmall a → AreSmall b → AreSmall (a 
 small_append [] b left right = right
 small_append (r ∷ a) b left right = (left.0, small_append a b left.1 right)
 
-module _ (text lines rest : List ℕ) (h : Head) (done : List Range) (head : IsHeadBefore text h lines) (read : AreRangesBefore lines done rest) (few : length done ≤ h.count) where
+module _ (text lines rest : List ℕ) (h : ListingHead) (done : List Range) (head : IsHeadBefore text h lines) (read : AreRangesBefore lines done rest) (few : length done ≤ h.count) where
   is_text : text ≡ head_text h ++ (flat_map range_line done ++ rest)
   is_text = head.printed ∙ ap (λ (t : List ℕ). head_text h ++ t) read.printed
 
@@ -218,7 +218,7 @@ gone : (rest : List ℕ) → true ≡ (length rest == 0) → rest ≡ []
 gone [] empty = refl
 gone (byte ∷ rest) empty = let none : length (byte ∷ rest) ≡ 0 = eqb-true (length (byte ∷ rest)) 0 (sym empty) in absurd (omega (arith, none))
 
-pub in_form : (text lines rest : List ℕ) (h : Head) (done ranges : List Range) → IsHeadBefore text h lines → AreRangesBefore lines done rest → true ≡ (length rest == 0) → length done ≡ h.count → ranges ≡ done
+pub in_form : (text lines rest : List ℕ) (h : ListingHead) (done ranges : List Range) → IsHeadBefore text h lines → AreRangesBefore lines done rest → true ≡ (length rest == 0) → length done ≡ h.count → ranges ≡ done
     → IsInForm (listed h ranges) × (text ≡ listing_text (listed h ranges))
 in_form text lines rest h done ranges head read empty all are =
     let heads : head_text h ≡ head_text (head_of (listed h done)) = ap (λ (n : ℕ). head_text (record { name = h.name; kind = h.kind; count = n })) (sym all) in

@@ -1,5 +1,5 @@
 -- First lines stand at the front of a text in one way.
-use Rattle.mt_told.proofs.Prelude.{◌≡◌, ◌≢◌, ℕ, ◌<◌, ◌^◌, true, List, [], ◌∷◌, ◌++◌, append_assoc, codes, refl, sym, ap, ◌∙◌, arith, decimal, append_cancel_left, Kind, kind_text, is_name, number_is_field, IsNumberBefore, head_line, BeginsWithNoHead, IsHead, IsHeadBefore, IsKindBefore, IsNameBefore, HasNoByte, head_text, Head}
+use Rattle.mt_told.proofs.Prelude.{◌≡◌, ◌≢◌, ℕ, ◌<◌, ◌^◌, true, List, [], ◌∷◌, ◌++◌, append_assoc, codes, refl, sym, ap, ◌∙◌, arith, decimal, append_cancel_left, Kind, kind_text, is_name, number_is_field, IsNumberBefore, head_line, BeginsWithNoHead, IsHead, IsHeadBefore, IsKindBefore, IsNameBefore, HasNoByte, head_text, ListingHead}
 use Rattle.mt_told.proofs.OneWay.{numbers_apart}
 use Rattle.mt_told.proofs.Words.{kind_lacks, kinds_apart, lacked, lacked_by_both, name_lacks, names_apart}
 
@@ -22,14 +22,14 @@ module _ (text named_text kind_part count_part : List ℕ) (is : text ≡ tree +
   }
 
   -- what stands behind `tree ` in a text with a first line
-  behind_tree : (h : Head) (rest : List ℕ) → text ≡ head_text h ++ rest → named_text ≡ h.name ++ (32 ∷ (kind_text h.kind ++ (32 ∷ (decimal h.count ++ (10 ∷ rest)))))
+  behind_tree : (h : ListingHead) (rest : List ℕ) → text ≡ head_text h ++ rest → named_text ≡ h.name ++ (32 ∷ (kind_text h.kind ++ (32 ∷ (decimal h.count ++ (10 ∷ rest)))))
   behind_tree h rest other = append_cancel_left tree named_text _ (sym is ∙ (other ∙ right h.name h.kind h.count rest))
 
   pub no_name : ((name rest : List ℕ) → is_name name ≡ true → named_text ≡ name ++ (32 ∷ rest) → ⊥) → BeginsWithNoHead text
   no_name none h rest good other = none h.name _ good.named (behind_tree h rest other)
 
   module _ (name : List ℕ) (n : IsNameBefore named_text name kind_part) where
-    behind_name : (h : Head) (rest : List ℕ) → IsHead h → text ≡ head_text h ++ rest → kind_part ≡ kind_text h.kind ++ (32 ∷ (decimal h.count ++ (10 ∷ rest)))
+    behind_name : (h : ListingHead) (rest : List ℕ) → IsHead h → text ≡ head_text h ++ rest → kind_part ≡ kind_text h.kind ++ (32 ∷ (decimal h.count ++ (10 ∷ rest)))
     behind_name h rest good other = sym (n.only h.name _ good.named (behind_tree h rest other)).1
 
     pub no_kind : ((kind : Kind) (rest : List ℕ) → kind_part ≡ kind_text kind ++ (32 ∷ rest) → ⊥) → BeginsWithNoHead text
@@ -41,16 +41,19 @@ module _ (text named_text kind_part count_part : List ℕ) (is : text ≡ tree +
 pub no_tree : (text : List ℕ) → ((rest : List ℕ) → text ≡ codes "tree " ++ rest → ⊥) → BeginsWithNoHead text
 no_tree text none h rest good other = none _ (other ∙ right h.name h.kind h.count rest)
 
+-- the first line in front, or none
+pub ruleset head_or_none = (head_before, no_tree, no_name, no_kind, no_count)
+
 -- ---- two first lines
 
-pub record AreOneHead (a b : Head) (r s : List ℕ) : Type 0 where
+pub record AreOneHead (a b : ListingHead) (r s : List ℕ) : Type 0 where
   pub name : a.name ≡ b.name
   pub kind : a.kind ≡ b.kind
   pub count : a.count ≡ b.count
   pub rest : r ≡ s
 
 -- two first lines in front are one where the texts are one
-pub heads_apart : (a b : Head) (r s : List ℕ) → IsHead a → IsHead b → head_text a ++ r ≡ head_text b ++ s → AreOneHead a b r s
+pub heads_apart : (a b : ListingHead) (r s : List ℕ) → IsHead a → IsHead b → head_text a ++ r ≡ head_text b ++ s → AreOneHead a b r s
 heads_apart a b r s left right_good same =
     let trees = append_cancel_left tree _ _ (sym (right a.name a.kind a.count r) ∙ (same ∙ right b.name b.kind b.count s)) in
     let names = names_apart a.name b.name _ _ left.named right_good.named trees in
@@ -61,10 +64,10 @@ heads_apart a b r s left right_good same =
 
 -- ---- a first line is one line
 
-abbrev pub head_words : Head → List ℕ
+abbrev pub head_words : ListingHead → List ℕ
 head_words h = tree ++ (h.name ++ (32 ∷ (kind_text h.kind ++ (32 ∷ decimal h.count))))
 
-pub head_is_line : (h : Head) → head_text h ≡ head_words h ++ (10 ∷ [])
+pub head_is_line : (h : ListingHead) → head_text h ≡ head_words h ++ (10 ∷ [])
 head_is_line h = simp append_assoc
 
 pub number_lacks : (n : ℕ) → n < 2 ^ 64 → HasNoByte 10 (decimal n)
@@ -73,7 +76,7 @@ number_lacks n fits = lacked 32 10 (omega arith) (decimal n) (number_is_field n 
 pub space : ◌≢◌ {A = ℕ} 32 10
 space is = absurd (omega (arith, is))
 
-pub head_in_line : (h : Head) → IsHead h → HasNoByte 10 (head_words h)
+pub head_in_line : (h : ListingHead) → IsHead h → HasNoByte 10 (head_words h)
 head_in_line h good =
     lacked_by_both 10 tree _ (lacked 31 10 (omega arith) tree refl)
     (lacked_by_both 10 h.name _ (name_lacks 10 (omega arith) h.name good.named)

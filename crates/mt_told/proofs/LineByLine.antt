@@ -1,13 +1,12 @@
 -- What a text tells, line of the log by line.
-use Rattle.mt_told.proofs.Prelude.{◌≡◌, ℕ, ◌+◌, ◌<◌, ◌≤◌, Bool, true, false, cond, List, [], ◌∷◌, ◌++◌, length, length-append, get_or, drop, append_assoc, map, refl, sym, ap, ◌∙◌, subst, inl, inr, arith, ◌-◌, cases_lt, All, AllPairs, flat_map, option_to_list, append-nil, drop_all, drop_more, get_or_append_left, get_or-append-add, get_or-append_right, length-map, All-append, All-cons, All-get_or, All-nil, All-weaker, slice_get_cases, Call, Query, Item, Tree, Lane, Join, Dup, Check, Write, Ask, Scan, Line, Log, phase_after, AreDone, Asked, Called, Counted, IsDone, Looked, Outcome, Step, asked_from, is_answered, lane_after, lane_of, step_of, steps_of, AreNamedFrom, CopyOf, Declared, IsReadable, NamesBelow, count_after, declared_by, renamed, trees_from, trees_of, IsLaneLineDone, IsPlacedBy, IsScanAt, AddsTold, AllFit, IsOutcomeOf, IsStepAt, IsToldAt, TellsDone, TellsNotDone, steps_text, AreSpelled, FitsLine, HasForm, IsToldBy, Spelling, TellsNone, told_text, LinePlace, Told}
+use Rattle.mt_told.proofs.Prelude.{◌≡◌, ℕ, ◌+◌, ◌<◌, ◌≤◌, Bool, true, false, cond, List, [], ◌∷◌, ◌++◌, length, length-append, get_or, drop, append_assoc, map, refl, sym, ap, ◌∙◌, subst, inl, inr, arith, ◌-◌, cases_lt, All, AllPairs, flat_map, option_to_list, append-nil, drop_all, drop_more, get_or_append_left, get_or-append-add, get_or-append_right, length-map, All-append, All-cons, All-get_or, All-nil, All-weaker, slice_get_cases, Call, Query, Item, Tree, Lane, Join, Dup, Check, Write, Ask, Scan, Line, Log, phase_after, AreDone, Asked, Called, Counted, IsDone, Looked, Outcome, Step, asked_from, is_answered, lane_after, lane_of, step_of, steps_of, AreNamedFrom, CopyOf, Declared, IsReadable, NamesBelow, count_after, declared_by, renamed, trees_from, trees_of, IsLaneLineDone, IsPlacedBy, IsScanAt, AddsTold, AllFit, IsOutcomeOf, IsStepAt, IsToldAt, TellsDone, TellsNotDone, steps_text, AreSpelled, FitsLine, HasForm, IsToldBy, Spelling, TellsNone, told_text, LinePlace, ToldLine, most_lanes}
 use Rattle.mt_log.specs.declared.transcripts.Said.TheVariants as said
 use Rattle.mt_told.proofs.Stepped.{nothing_told, steps_text-append, told_text-append}
 use Rattle.mt_told.specs.declared.steps.Deed.TheVariants as deeds
-use Rattle.mt_base.specs.Limits.{most_lanes}
 
 -- ---- steps that are done so, and so
 
-tells_so : (D E : List Step → Type 0) (text rest : List ℕ) (told : List Told) → ((steps : List Step) → D steps → E steps) → ((steps : List Step) → E steps → D steps) → TellsDone D text told rest → TellsDone E text told rest
+tells_so : (D E : List Step → Type 0) (text rest : List ℕ) (told : List ToldLine) → ((steps : List Step) → D steps → E steps) → ((steps : List Step) → E steps → D steps) → TellsDone D text told rest → TellsDone E text told rest
 tells_so D E text rest told to from h =
     record {
       only = λ sp steps after done small is. h.only sp steps after (from steps done) small is;
@@ -26,13 +25,13 @@ Both D E steps = (first second : List Step) × (steps ≡ first ++ second) × D 
 
 -- ---- lists of steps
 
-told-append : (sp : Spelling) (mine more : List Told) (first second : List Step) → AreSpelled sp mine first → AreSpelled sp more second → AreSpelled sp (mine ++ more) (first ++ second)
+told-append : (sp : Spelling) (mine more : List ToldLine) (first second : List Step) → AreSpelled sp mine first → AreSpelled sp more second → AreSpelled sp (mine ++ more) (first ++ second)
 told-append sp [] more [] second h k = k
 told-append sp [] more (s ∷ first) second h k = absurd h
 told-append sp (t ∷ mine) more [] second h k = absurd h
 told-append sp (t ∷ mine) more (s ∷ first) second h k = (h.0, told-append sp mine more first second h.1 k)
 
-told_parts : (sp : Spelling) (mine more : List Told) (steps : List Step) → AreSpelled sp (mine ++ more) steps → Both (AreSpelled sp mine) (AreSpelled sp more) steps
+told_parts : (sp : Spelling) (mine more : List ToldLine) (steps : List Step) → AreSpelled sp (mine ++ more) steps → Both (AreSpelled sp mine) (AreSpelled sp more) steps
 told_parts sp [] more steps h = ([], steps, refl, tt, h)
 told_parts sp (t ∷ mine) more [] h = absurd h
 told_parts sp (t ∷ mine) more (s ∷ steps) h =
@@ -47,7 +46,7 @@ small_second sp first second h k d within = subst (λ (s : Step). FitsLine sp s.
 
 -- ---- one behind the other
 
-module _ (D E : List Step → Type 0) (text mid : List ℕ) (mine : List Told) (first : TellsDone D text mine mid) where
+module _ (D E : List Step → Type 0) (text mid : List ℕ) (mine : List ToldLine) (first : TellsDone D text mine mid) where
   -- the first of them are told, and the text goes on with the second
   record FirstPart (sp : Spelling) (ones others : List Step) (after : List ℕ) : Type 0 where
     told : AreSpelled sp mine ones
@@ -65,7 +64,7 @@ module _ (D E : List Step → Type 0) (text mid : List ℕ) (mine : List Told) (
       let part = first_part sp steps h.0 h.1 after h.2 h.3 small whole in
       none sp h.1 after h.4 (small_second sp h.0 h.1 (subst (AllFit sp) h.2 small)) part.behind
 
-  module _ (end : List ℕ) (more : List Told) (second : TellsDone E mid more end) where
+  module _ (end : List ℕ) (more : List ToldLine) (second : TellsDone E mid more end) where
     only_both : (sp : Spelling) (steps : List Step) (after : List ℕ) → Both D E steps → AllFit sp steps → text ≡ steps_text sp steps ++ after → AreSpelled sp (mine ++ more) steps × (end ≡ after)
     only_both sp steps after h small whole =
         let part = first_part sp steps h.0 h.1 after h.2 h.3 small whole in
@@ -156,7 +155,7 @@ check_done a tree steps h = of_outcome h.0 h.1 h.2
     of_outcome (Looked lo hi k q v) is h = absurd h
     of_outcome (Counted s ranges) is same = (ranges, is ∙ ap (λ s. step_of a tree (Counted s ranges) ∷ []) same)
 
-adds_so : (D E : List Step → Type 0) (P Q : Told → Type 0) (text rest : List ℕ) (old new : List Told) → ((steps : List Step) → D steps → E steps) → ((steps : List Step) → E steps → D steps) → ((t : Told) → P t → Q t) → AddsTold D P text old new rest → AddsTold E Q text old new rest
+adds_so : (D E : List Step → Type 0) (P Q : ToldLine → Type 0) (text rest : List ℕ) (old new : List ToldLine) → ((steps : List Step) → D steps → E steps) → ((steps : List Step) → E steps → D steps) → ((t : ToldLine) → P t → Q t) → AddsTold D P text old new rest → AddsTold E Q text old new rest
 adds_so D E P Q text rest old new to from placed h =
     record { mine = h.mine; whole = h.whole; told = tells_so D E text rest h.mine to from h.told; placed = All-weaker P Q placed h.mine h.placed }
 
@@ -174,10 +173,10 @@ module _ (lane phase number tree : ℕ) (item : Item) (answered : is_answered it
   only_asked : asked_from lane phase (line ∷ []) ≡ asked ∷ []
   only_asked = ap (λ (b : Bool). cond b (asked ∷ []) []) answered
 
-  stands_so : (t : Told) → IsToldAt here t → IsPlacedBy lane phase line t
+  stands_so : (t : ToldLine) → IsToldAt here t → IsPlacedBy lane phase line t
   stands_so t h = record { form = h.form; done_in = h.lane; done_at = h.phase; done_on = λ count named. subst (λ (n : ℕ). n < count) (sym h.tree) (names count named) }
 
-  pub line_added : ((steps : List Step) → D steps → IsDone asked item steps) → ((steps : List Step) → IsDone asked item steps → D steps) → (text rest : List ℕ) (old new : List Told) → AddsTold D (IsToldAt here) text old new rest → AddsTold (IsLaneLineDone lane phase line) (IsPlacedBy lane phase line) text old new rest
+  pub line_added : ((steps : List Step) → D steps → IsDone asked item steps) → ((steps : List Step) → IsDone asked item steps → D steps) → (text rest : List ℕ) (old new : List ToldLine) → AddsTold D (IsToldAt here) text old new rest → AddsTold (IsLaneLineDone lane phase line) (IsPlacedBy lane phase line) text old new rest
   line_added to from text rest old new h =
       adds_so D (IsLaneLineDone lane phase line) (IsToldAt here) (IsPlacedBy lane phase line) text rest old new
       (λ steps d. subst (λ (xs : List Asked). AreDone xs steps) (sym only_asked) (done_one asked steps (to steps d)))
@@ -185,7 +184,7 @@ module _ (lane phase number tree : ℕ) (item : Item) (answered : is_answered it
       stands_so h
 
 -- a line that is not answered
-pub quiet_line : (lane phase : ℕ) (line : Line) (text : List ℕ) (old : List Told) → is_answered line.item ≡ false → AddsTold (IsLaneLineDone lane phase line) (IsPlacedBy lane phase line) text old old text
+pub quiet_line : (lane phase : ℕ) (line : Line) (text : List ℕ) (old : List ToldLine) → is_answered line.item ≡ false → AddsTold (IsLaneLineDone lane phase line) (IsPlacedBy lane phase line) text old old text
 quiet_line lane phase line text old quiet =
     record {
       mine = [];
@@ -204,10 +203,10 @@ abbrev asked_so : ℕ → ℕ → ℕ → Item → Asked
 asked_so number lane phase item = record { line = number; lane = lane_of lane item; phase = phase; item = item }
 
 -- the line says this
-abbrev LineAdds : ℕ → ℕ → ℕ → List ℕ → List ℕ → List Told → List Told → Item → Type 0
+abbrev LineAdds : ℕ → ℕ → ℕ → List ℕ → List ℕ → List ToldLine → List ToldLine → Item → Type 0
 LineAdds lane phase number text rest old new item = AddsTold (IsLaneLineDone lane phase (record { number = number; item = item })) (IsPlacedBy lane phase (record { number = number; item = item })) text old new rest
 
-module _ (lane phase : ℕ) (line : Line) (text rest : List ℕ) (old new : List Told) where
+module _ (lane phase : ℕ) (line : Line) (text rest : List ℕ) (old new : List ToldLine) where
   is_line : (item : Item) → line.item ≡ item → LineAdds lane phase line.number text rest old new item → LineAdds lane phase line.number text rest old new line.item
   is_line item is h = subst (LineAdds lane phase line.number text rest old new) (sym is) h
 
@@ -304,33 +303,33 @@ phase_there phase item = (omega arith, omega arith)
 
 -- ---- phase by phase
 
-all_pairs_append : (xs ys : List Told) (phase : ℕ) → AllPairs (λ (s t : Told). s.phase ≤ t.phase) xs → All (λ (s : Told). s.phase ≤ phase) xs → All (λ (t : Told). t.phase ≡ phase) ys → AllPairs (λ (s t : Told). s.phase ≤ t.phase) (xs ++ ys)
+all_pairs_append : (xs ys : List ToldLine) (phase : ℕ) → AllPairs (λ (s t : ToldLine). s.phase ≤ t.phase) xs → All (λ (s : ToldLine). s.phase ≤ phase) xs → All (λ (t : ToldLine). t.phase ≡ phase) ys → AllPairs (λ (s t : ToldLine). s.phase ≤ t.phase) (xs ++ ys)
 all_pairs_append xs ys phase rises upto same i j d before within =
-    let all : All (λ (s : Told). s.phase ≤ phase) (xs ++ ys) = All-append (λ (s : Told). s.phase ≤ phase) xs ys upto (All-weaker (λ (t : Told). t.phase ≡ phase) (λ (t : Told). t.phase ≤ phase) (λ t is. omega (arith, is)) ys same) in
+    let all : All (λ (s : ToldLine). s.phase ≤ phase) (xs ++ ys) = All-append (λ (s : ToldLine). s.phase ≤ phase) xs ys upto (All-weaker (λ (t : ToldLine). t.phase ≡ phase) (λ (t : ToldLine). t.phase ≤ phase) (λ t is. omega (arith, is)) ys same) in
     elim (cases_lt j (length xs)) [
       | inl low ↦ subst2 (get_or_append_left xs ys d i (omega arith)) (get_or_append_left xs ys d j low) (rises i j d before low)
       | inr high ↦
-          (let is : (get_or (xs ++ ys) j d).phase ≡ phase = subst (λ (t : Told). t.phase ≡ phase) (sym (get_or-append_right xs ys (length xs) j d refl high)) (same (j - length xs) d (omega (arith, length-append xs ys))) in
+          (let is : (get_or (xs ++ ys) j d).phase ≡ phase = subst (λ (t : ToldLine). t.phase ≡ phase) (sym (get_or-append_right xs ys (length xs) j d refl high)) (same (j - length xs) d (omega (arith, length-append xs ys))) in
           omega (arith, is, all i d (omega arith)))
     ]
   where
-    subst2 : {a b c e : Told} → a ≡ b → c ≡ e → b.phase ≤ e.phase → a.phase ≤ c.phase
-    subst2 ab ce h = omega (arith, ap (λ (t : Told). t.phase) ab, ap (λ (t : Told). t.phase) ce, h)
+    subst2 : {a b c e : ToldLine} → a ≡ b → c ≡ e → b.phase ≤ e.phase → a.phase ≤ c.phase
+    subst2 ab ce h = omega (arith, ap (λ (t : ToldLine). t.phase) ab, ap (λ (t : ToldLine). t.phase) ce, h)
 
 -- ---- so far
 
 -- Some lines of the log are gone along, and these are told; what the text goes on with, if it is of the lines that are left, is of
 -- all lines with what was told before it, and if it is not, the text tells of no steps of the log.
-pub record LinesGoOn (lines : List Line) (text rest : List ℕ) (told : List Told) (lane phase i : ℕ) : Type 0 where
-  pub some : (more : List Told) (end : List ℕ) → TellsDone (AreDone (asked_from lane phase (drop i lines))) rest more end → TellsDone (AreDone (steps_of lines)) text (told ++ more) end
+pub record LinesGoOn (lines : List Line) (text rest : List ℕ) (told : List ToldLine) (lane phase i : ℕ) : Type 0 where
+  pub some : (more : List ToldLine) (end : List ℕ) → TellsDone (AreDone (asked_from lane phase (drop i lines))) rest more end → TellsDone (AreDone (steps_of lines)) text (told ++ more) end
   pub none : TellsNotDone (AreDone (asked_from lane phase (drop i lines))) rest → TellsNotDone (AreDone (steps_of lines)) text
   pub in_lane : lane < most_lanes
   pub in_phase : phase ≤ i
-  pub form : All (λ (t : Told). HasForm t.what) told
-  pub trees : All (λ (t : Told). t.tree < length (trees_of lines)) told
-  pub lanes : All (λ (t : Told). t.lane < most_lanes) told
-  pub phases : AllPairs (λ (s t : Told). s.phase ≤ t.phase) told
-  pub upto : All (λ (t : Told). t.phase ≤ phase) told
+  pub form : All (λ (t : ToldLine). HasForm t.what) told
+  pub trees : All (λ (t : ToldLine). t.tree < length (trees_of lines)) told
+  pub lanes : All (λ (t : ToldLine). t.lane < most_lanes) told
+  pub phases : AllPairs (λ (s t : ToldLine). s.phase ≤ t.phase) told
+  pub upto : All (λ (t : ToldLine). t.phase ≤ phase) told
 
 pub lines_begin : (lines : List Line) (text : List ℕ) → LinesGoOn lines text text [] 0 0 0
 lines_begin lines text = record {
@@ -338,18 +337,18 @@ lines_begin lines text = record {
   none = λ h. h;
   in_lane = omega arith;
   in_phase = omega arith;
-  form = All-nil (λ (t : Told). HasForm t.what);
-  trees = All-nil (λ (t : Told). t.tree < length (trees_of lines));
-  lanes = All-nil (λ (t : Told). t.lane < most_lanes);
+  form = All-nil (λ (t : ToldLine). HasForm t.what);
+  trees = All-nil (λ (t : ToldLine). t.tree < length (trees_of lines));
+  lanes = All-nil (λ (t : ToldLine). t.lane < most_lanes);
   phases = λ k j d before within. absurd (omega (arith, within));
-  upto = All-nil (λ (t : Told). t.phase ≤ 0);
+  upto = All-nil (λ (t : ToldLine). t.phase ≤ 0);
 }
 
-module _ (lines : List Line) (text rest : List ℕ) (told : List Told) (lane phase i : ℕ) (so_far : LinesGoOn lines text rest told lane phase i) where
+module _ (lines : List Line) (text rest : List ℕ) (told : List ToldLine) (lane phase i : ℕ) (so_far : LinesGoOn lines text rest told lane phase i) where
   pub lines_end : length lines ≤ i → TellsDone (AreDone (steps_of lines)) text told rest
   lines_end past =
       let over : drop i lines ≡ [] = drop_all i lines past in
-      subst (λ (ts : List Told). TellsDone (AreDone (steps_of lines)) text ts rest) (append-nil told)
+      subst (λ (ts : List ToldLine). TellsDone (AreDone (steps_of lines)) text ts rest) (append-nil told)
       (so_far.some [] rest (subst (λ (ls : List Line). TellsDone (AreDone (asked_from lane phase ls)) rest [] rest) (sym over) (nothing_told rest)))
 
   module _ (line : Line) (within : i < length lines) (is : line ≡ get_or lines i line) where
@@ -378,7 +377,7 @@ module _ (lines : List Line) (text rest : List ℕ) (told : List Told) (lane pha
         so_far.none (tells_not_so (Both (IsLaneLineDone lane phase line) Left) (AreDone (asked_from lane phase (drop i lines))) rest done_left
         (not_first (IsLaneLineDone lane phase line) Left rest none))
 
-    module _ (readable : IsReadable lines) (new : List Told) (mid : List ℕ) (added : AddsTold (IsLaneLineDone lane phase line) (IsPlacedBy lane phase line) rest told new mid) where
+    module _ (readable : IsReadable lines) (new : List ToldLine) (mid : List ℕ) (added : AddsTold (IsLaneLineDone lane phase line) (IsPlacedBy lane phase line) rest told new mid) where
       named : NamesBelow (length (trees_of lines)) line.item
       named = named_line lines i line readable within is
 
@@ -388,9 +387,9 @@ module _ (lines : List Line) (text rest : List ℕ) (told : List Told) (lane pha
       later : (phase ≤ phase') × (phase' ≤ phase + 1)
       later = phase_there phase line.item
 
-      some_more : (more : List Told) (end : List ℕ) → TellsDone Left mid more end → TellsDone (AreDone (steps_of lines)) text ((told ++ added.mine) ++ more) end
+      some_more : (more : List ToldLine) (end : List ℕ) → TellsDone Left mid more end → TellsDone (AreDone (steps_of lines)) text ((told ++ added.mine) ++ more) end
       some_more more end h =
-          subst (λ (ts : List Told). TellsDone (AreDone (steps_of lines)) text ts end) (sym (append_assoc told added.mine more))
+          subst (λ (ts : List ToldLine). TellsDone (AreDone (steps_of lines)) text ts end) (sym (append_assoc told added.mine more))
           (so_far.some (added.mine ++ more) end (tells_so (Both (IsLaneLineDone lane phase line) Left) (AreDone (asked_from lane phase (drop i lines))) rest end (added.mine ++ more) left_done done_left
           (both_told (IsLaneLineDone lane phase line) Left rest mid added.mine added.told end more h)))
 
@@ -399,13 +398,13 @@ module _ (lines : List Line) (text rest : List ℕ) (told : List Told) (lane pha
           so_far.none (tells_not_so (Both (IsLaneLineDone lane phase line) Left) (AreDone (asked_from lane phase (drop i lines))) rest done_left
           (not_second (IsLaneLineDone lane phase line) Left rest mid added.mine added.told none))
 
-      of_mine : (P : Told → Type 0) → ((t : Told) → IsPlacedBy lane phase line t → P t) → All P added.mine
+      of_mine : (P : ToldLine → Type 0) → ((t : ToldLine) → IsPlacedBy lane phase line t → P t) → All P added.mine
       of_mine P h = All-weaker (IsPlacedBy lane phase line) P h added.mine added.placed
 
-      upto_phase : All (λ (t : Told). t.phase ≤ phase') (told ++ added.mine)
-      upto_phase = All-append (λ (t : Told). t.phase ≤ phase') told added.mine
-          (All-weaker (λ (t : Told). t.phase ≤ phase) (λ (t : Told). t.phase ≤ phase') (λ t h. omega (arith, h, later.0)) told so_far.upto)
-          (of_mine (λ (t : Told). t.phase ≤ phase') (λ t h. omega (arith, h.done_at, later.0)))
+      upto_phase : All (λ (t : ToldLine). t.phase ≤ phase') (told ++ added.mine)
+      upto_phase = All-append (λ (t : ToldLine). t.phase ≤ phase') told added.mine
+          (All-weaker (λ (t : ToldLine). t.phase ≤ phase) (λ (t : ToldLine). t.phase ≤ phase') (λ t h. omega (arith, h, later.0)) told so_far.upto)
+          (of_mine (λ (t : ToldLine). t.phase ≤ phase') (λ t h. omega (arith, h.done_at, later.0)))
 
       gone_on : LinesGoOn lines text mid (told ++ added.mine) lane' phase' (i + 1)
       gone_on = record {
@@ -413,19 +412,19 @@ module _ (lines : List Line) (text rest : List ℕ) (told : List Told) (lane pha
         none = none_more;
         in_lane = there.1;
         in_phase = omega (arith, later.1, so_far.in_phase);
-        form = All-append (λ (t : Told). HasForm t.what) told added.mine so_far.form (of_mine (λ (t : Told). HasForm t.what) (λ t h. h.form));
-        trees = All-append (λ (t : Told). t.tree < length (trees_of lines)) told added.mine so_far.trees (of_mine (λ (t : Told). t.tree < length (trees_of lines)) (λ t h. h.done_on (length (trees_of lines)) named));
-        lanes = All-append (λ (t : Told). t.lane < most_lanes) told added.mine so_far.lanes (of_mine (λ (t : Told). t.lane < most_lanes) (λ t h. omega (arith, h.done_in, there.0)));
-        phases = all_pairs_append told added.mine phase so_far.phases so_far.upto (of_mine (λ (t : Told). t.phase ≡ phase) (λ t h. h.done_at));
+        form = All-append (λ (t : ToldLine). HasForm t.what) told added.mine so_far.form (of_mine (λ (t : ToldLine). HasForm t.what) (λ t h. h.form));
+        trees = All-append (λ (t : ToldLine). t.tree < length (trees_of lines)) told added.mine so_far.trees (of_mine (λ (t : ToldLine). t.tree < length (trees_of lines)) (λ t h. h.done_on (length (trees_of lines)) named));
+        lanes = All-append (λ (t : ToldLine). t.lane < most_lanes) told added.mine so_far.lanes (of_mine (λ (t : ToldLine). t.lane < most_lanes) (λ t h. omega (arith, h.done_in, there.0)));
+        phases = all_pairs_append told added.mine phase so_far.phases so_far.upto (of_mine (λ (t : ToldLine). t.phase ≡ phase) (λ t h. h.done_at));
         upto = upto_phase;
       }
 
       pub line_goes_on : LinesGoOn lines text mid new lane' phase' (i + 1)
-      line_goes_on = subst (λ (ts : List Told). LinesGoOn lines text mid ts lane' phase' (i + 1)) (sym added.whole) gone_on
+      line_goes_on = subst (λ (ts : List ToldLine). LinesGoOn lines text mid ts lane' phase' (i + 1)) (sym added.whole) gone_on
 
 -- ---- the whole text
 
-pub told_by : (log : Log) (text rest : List ℕ) (told : List Told) (lane phase i : ℕ) → LinesGoOn log.lines text rest told lane phase i → length log.lines ≤ i → IsToldBy log text told rest
+pub told_by : (log : Log) (text rest : List ℕ) (told : List ToldLine) (lane phase i : ℕ) → LinesGoOn log.lines text rest told lane phase i → length log.lines ≤ i → IsToldBy log text told rest
 told_by log text rest told lane phase i so_far past =
     let all = lines_end log.lines text rest told lane phase i so_far past in
     record {

@@ -33,6 +33,9 @@ module _ (text behind : List ℕ) (first : ℕ) (one : IsNumberBefore text 32 fi
       → ((number : ℕ) (rest : List ℕ) → number < 2 ^ 64 → behind_both ≡ decimal number ++ (10 ∷ rest) → ⊥) → BeginsWithNoRange text
   no_entry behind_both last two none r rest small is = none r.entry rest small.2 (sym (two.only r.last _ small.1 (behind_first r rest small is)).1)
 
+-- the range in front, or none
+pub ruleset range_or_none = (range_before, no_first, no_last, no_entry)
+
 -- ---- one range more
 
 small_push : (ranges : List Range) (r : Range) → AreSmall ranges → IsSmallRange (Some r) → AreSmall (ranges ++ r ∷ [])

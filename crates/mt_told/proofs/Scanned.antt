@@ -1,5 +1,5 @@
 -- The lines of a scan, from its steps: the text tells how many there are.
-use Rattle.mt_told.proofs.Prelude.{◌≡◌, ℕ, zero, suc, ◌+◌, ◌<◌, ◌≤◌, List, [], ◌∷◌, ◌++◌, Option, Some, None, get_or, append_assoc, refl, sym, ap, ◌∙◌, subst, arith, All, flat_map, append-nil, All-head, All-nil, All-push, All-tail, Range, ScanGoesOnFrom, Outcome, Called, Looked, Counted, Step, find_at, place_after, place_within, shown, IsScanAt, IsScanFrom, range_told, AddsTold, AllFit, IsOutcomeOf, IsStepAt, IsToldAt, TellsDone, TellsNotDone, TellsStepAt, step_at_place, steps_text, AreSpelled, FitsLine, IsSpelled, IsSpelledOf, Spelling, told_text, Stretch, Look, LinePlace, Told, What, Wrote, Got, Copied, Lawful}
+use Rattle.mt_told.proofs.Prelude.{◌≡◌, ℕ, zero, suc, ◌+◌, ◌<◌, ◌≤◌, List, [], ◌∷◌, ◌++◌, Option, Some, None, get_or, append_assoc, refl, sym, ap, ◌∙◌, subst, arith, All, flat_map, append-nil, All-head, All-nil, All-push, All-tail, Range, ScanGoesOnFrom, Outcome, Called, Looked, Counted, Step, find_at, place_after, place_within, shown, IsScanAt, IsScanFrom, range_told, AddsTold, AllFit, IsOutcomeOf, IsStepAt, IsToldAt, TellsDone, TellsNotDone, TellsStepAt, step_at_place, steps_text, AreSpelled, FitsLine, IsSpelled, IsSpelledOf, Spelling, told_text, Stretch, Look, LinePlace, ToldLine, What, Wrote, Got, Copied, Lawful}
 use Rattle.mt_log.specs.declared.transcripts.Answer.TheVariants as answers
 use Rattle.mt_told.proofs.Stepped.{nothing_told, steps_text-append, told_text-append}
 
@@ -31,7 +31,7 @@ value_told sp (Lawful count) at max lo hi k value h = absurd h
 
 -- ---- one step of a scan, and those behind it
 
-module _ (place : LinePlace) (scan : Stretch) (count : ℕ) (at : Option ℕ) (text mid : List ℕ) (t : Told) (step : TellsDone (IsStepAt place (Look (find_at at scan.max))) text (t ∷ []) mid) where
+module _ (place : LinePlace) (scan : Stretch) (count : ℕ) (at : Option ℕ) (text mid : List ℕ) (t : ToldLine) (step : TellsDone (IsStepAt place (Look (find_at at scan.max))) text (t ∷ []) mid) where
   abbrev FoundStep : ℕ → ℕ → ℕ → Option Range → Step
   FoundStep lo hi k value = step_at_place place (Looked lo hi k (find_at at scan.max) value)
 
@@ -87,7 +87,7 @@ module _ (place : LinePlace) (scan : Stretch) (count : ℕ) (at : Option ℕ) (t
         let others : AllFit sp h.4 = All-tail (λ (s : Step). FitsLine sp s.outcome) (FoundStep h.0 h.1 h.2 h.3) h.4 (subst (AllFit sp) h.5 small) in
         none sp h.4 after (goes_on h.3 h.4 first.found h.6) others first.behind
 
-    module _ (more : List Told) (end : List ℕ) (tail : TellsDone (IsScanFrom place scan count (place_after scan.max r)) mid more end) where
+    module _ (more : List ToldLine) (end : List ℕ) (tail : TellsDone (IsScanFrom place scan count (place_after scan.max r)) mid more end) where
       only_more : (sp : Spelling) (steps : List Step) (after : List ℕ) → IsScanFrom place scan (suc count) at steps → AllFit sp steps → text ≡ steps_text sp steps ++ after → AreSpelled sp (t ∷ more) steps × (end ≡ after)
       only_more sp steps after h small other =
           let first = first_told sp h.0 h.1 h.2 h.3 h.4 steps after h.5 small other in
@@ -150,16 +150,16 @@ no_first place scan count at text none sp steps after h small other =
 
 -- Some steps of the scan are read, and these are told; what the text goes on with, if it is the rest of the scan, is the scan's
 -- with what was told before it, and if it is not, the text tells of no scan.
-pub record ScanGoesOn (place : LinePlace) (scan : Stretch) (text rest : List ℕ) (old new : List Told) (at : Option ℕ) (i : ℕ) : Type 0 where
+pub record ScanGoesOn (place : LinePlace) (scan : Stretch) (text rest : List ℕ) (old new : List ToldLine) (at : Option ℕ) (i : ℕ) : Type 0 where
   pub left : ℕ
   pub sum : i + left ≡ scan.count
-  pub mine : List Told
+  pub mine : List ToldLine
   pub whole : new ≡ old ++ mine
   pub placed : All (IsToldAt place) mine
-  pub some : (more : List Told) (end : List ℕ) → TellsDone (IsScanFrom place scan left at) rest more end → TellsDone (IsScanAt place scan) text (mine ++ more) end
+  pub some : (more : List ToldLine) (end : List ℕ) → TellsDone (IsScanFrom place scan left at) rest more end → TellsDone (IsScanAt place scan) text (mine ++ more) end
   pub none : TellsNotDone (IsScanFrom place scan left at) rest → TellsNotDone (IsScanAt place scan) text
 
-pub scan_begins : (place : LinePlace) (scan : Stretch) (text : List ℕ) (old : List Told) → ScanGoesOn place scan text text old old (place_within scan.index scan.max) 0
+pub scan_begins : (place : LinePlace) (scan : Stretch) (text : List ℕ) (old : List ToldLine) → ScanGoesOn place scan text text old old (place_within scan.index scan.max) 0
 scan_begins place scan text old = record {
   left = scan.count;
   sum = omega arith;
@@ -170,7 +170,7 @@ scan_begins place scan text old = record {
   none = λ h. h;
 }
 
-module _ (place : LinePlace) (scan : Stretch) (text rest : List ℕ) (old new : List Told) (at : Option ℕ) (i : ℕ) (so_far : ScanGoesOn place scan text rest old new at i) where
+module _ (place : LinePlace) (scan : Stretch) (text rest : List ℕ) (old new : List ToldLine) (at : Option ℕ) (i : ℕ) (so_far : ScanGoesOn place scan text rest old new at i) where
   -- at the end so many steps were told
   pub all_told : scan.count ≤ i → AddsTold (IsScanAt place scan) (IsToldAt place) text old new rest
   all_told past =
@@ -178,7 +178,7 @@ module _ (place : LinePlace) (scan : Stretch) (text rest : List ℕ) (old new : 
       record {
         mine = so_far.mine;
         whole = so_far.whole;
-        told = subst (λ (ts : List Told). TellsDone (IsScanAt place scan) text ts rest) (append-nil so_far.mine) (so_far.some [] rest (subst (λ (n : ℕ). TellsDone (IsScanFrom place scan n at) rest [] rest) (sym over) (nothing_told rest)));
+        told = subst (λ (ts : List ToldLine). TellsDone (IsScanAt place scan) text ts rest) (append-nil so_far.mine) (so_far.some [] rest (subst (λ (n : ℕ). TellsDone (IsScanFrom place scan n at) rest [] rest) (sym over) (nothing_told rest)));
         placed = so_far.placed;
       }
 
@@ -196,7 +196,7 @@ module _ (place : LinePlace) (scan : Stretch) (text rest : List ℕ) (old new : 
       of_left (suc n) sum is = record { left = n; is = is; sum = omega (arith, sum) }
 
   module _ (below : i < scan.count) where
-    from_left : (n : ℕ) → so_far.left ≡ suc n → (more : List Told) (end : List ℕ) → TellsDone (IsScanFrom place scan (suc n) at) rest more end → TellsDone (IsScanAt place scan) text (so_far.mine ++ more) end
+    from_left : (n : ℕ) → so_far.left ≡ suc n → (more : List ToldLine) (end : List ℕ) → TellsDone (IsScanFrom place scan (suc n) at) rest more end → TellsDone (IsScanAt place scan) text (so_far.mine ++ more) end
     from_left n is more end h = so_far.some more end (subst (λ (m : ℕ). TellsDone (IsScanFrom place scan m at) rest more end) (sym is) h)
 
     none_left : (n : ℕ) → so_far.left ≡ suc n → TellsNotDone (IsScanFrom place scan (suc n) at) rest → TellsNotDone (IsScanAt place scan) text
@@ -205,9 +205,9 @@ module _ (place : LinePlace) (scan : Stretch) (text rest : List ℕ) (old new : 
     pub stops : TellsNotDone (IsStepAt place (Look (find_at at scan.max))) rest → TellsNotDone (IsScanAt place scan) text
     stops none = let one = one_more below in none_left one.left one.is (no_first place scan one.left at rest none)
 
-    module _ (t : Told) (mid : List ℕ) (step : TellsStepAt place (Look (find_at at scan.max)) rest t mid) where
+    module _ (t : ToldLine) (mid : List ℕ) (step : TellsStepAt place (Look (find_at at scan.max)) rest t mid) where
       pushed : new ++ t ∷ [] ≡ old ++ (so_far.mine ++ t ∷ [])
-      pushed = ap (λ (ts : List Told). ts ++ t ∷ []) so_far.whole ∙ append_assoc old so_far.mine (t ∷ [])
+      pushed = ap (λ (ts : List ToldLine). ts ++ t ∷ []) so_far.whole ∙ append_assoc old so_far.mine (t ∷ [])
 
       pub last_told : range_told t.what ≡ None → AddsTold (IsScanAt place scan) (IsToldAt place) text old (new ++ t ∷ []) mid
       last_told found =
@@ -228,7 +228,7 @@ module _ (place : LinePlace) (scan : Stretch) (text rest : List ℕ) (old new : 
             mine = so_far.mine ++ t ∷ [];
             whole = pushed;
             placed = All-push (IsToldAt place) so_far.mine t so_far.placed step.stands;
-            some = λ more end h. subst (λ (ts : List Told). TellsDone (IsScanAt place scan) text ts end) (sym (append_assoc so_far.mine (t ∷ []) more))
+            some = λ more end h. subst (λ (ts : List ToldLine). TellsDone (IsScanAt place scan) text ts end) (sym (append_assoc so_far.mine (t ∷ []) more))
                 (from_left one.left one.is (t ∷ more) end (scan_more place scan one.left at rest mid t step.told r found more end h));
             none = λ h. none_left one.left one.is (no_more place scan one.left at rest mid t step.told r found h);
           }

@@ -1,5 +1,5 @@
 -- A step's line stands at the front of a text in one way.
-use Rattle.mt_told.proofs.Prelude.{◌≡◌, ℕ, List, [], ◌∷◌, ◌++◌, length, length-append, append_assoc, refl, sym, ap, ◌∙◌, subst, arith, flat_map, decimal, append-nil, append_cancel_left, Outcome, Step, entry_of, AllFit, IsStepAt, TellsDone, TellsNotDone, TellsNothingOf, TellsOf, TellsStepAt, outcome_text, step_at_place, steps_text, told_at, AreSpelled, FitsLine, HasForm, IsSpelled, Spelling, spelled_line, told_text, what_text, Deed, LinePlace, Told, What}
+use Rattle.mt_told.proofs.Prelude.{◌≡◌, ℕ, List, [], ◌∷◌, ◌++◌, length, length-append, append_assoc, refl, sym, ap, ◌∙◌, subst, arith, flat_map, decimal, append-nil, append_cancel_left, Outcome, Step, entry_of, AllFit, IsStepAt, TellsDone, TellsNotDone, TellsNothingOf, TellsOf, TellsStepAt, outcome_text, step_at_place, steps_text, told_at, AreSpelled, FitsLine, HasForm, IsSpelled, Spelling, spelled_line, told_text, what_text, Deed, LinePlace, ToldLine, What}
 
 pub steps_text-append : (sp : Spelling) (first second : List Step) (after : List ℕ) → steps_text sp (first ++ second) ++ after ≡ steps_text sp first ++ (steps_text sp second ++ after)
 steps_text-append sp [] second after = refl
@@ -8,7 +8,7 @@ steps_text-append sp (s ∷ first) second after =
     ∙ (ap (λ (t : List ℕ). spelled_line sp (entry_of s) ++ t) (steps_text-append sp first second after)
     ∙ sym (append_assoc (spelled_line sp (entry_of s)) (steps_text sp first) (steps_text sp second ++ after)))
 
-pub told_text-append : (mine more : List Told) (after : List ℕ) → flat_map told_text (mine ++ more) ++ after ≡ flat_map told_text mine ++ (flat_map told_text more ++ after)
+pub told_text-append : (mine more : List ToldLine) (after : List ℕ) → flat_map told_text (mine ++ more) ++ after ≡ flat_map told_text mine ++ (flat_map told_text more ++ after)
 told_text-append [] more after = refl
 told_text-append (t ∷ mine) more after =
     append_assoc (told_text t) (flat_map told_text (mine ++ more)) after
@@ -39,7 +39,7 @@ written_text : (p : LinePlace) (what : What) (rest : List ℕ) → flat_map told
 written_text p what rest = simp (append_assoc, append-nil)
 
 -- it is told of one step
-pub one_told : (sp : Spelling) (t : Told) (steps : List Step) → AreSpelled sp (t ∷ []) steps → (s : Step) × (steps ≡ s ∷ []) × IsSpelled sp t s
+pub one_told : (sp : Spelling) (t : ToldLine) (steps : List Step) → AreSpelled sp (t ∷ []) steps → (s : Step) × (steps ≡ s ∷ []) × IsSpelled sp t s
 one_told sp t [] h = absurd h
 one_told sp t (s ∷ []) h = (s, refl, h.0)
 one_told sp t (s ∷ other ∷ steps) h = absurd h.1

@@ -1,5 +1,5 @@
 -- What a text tells of a log, as the log's version writes it.
-use Rattle.mt_told.proofs.Prelude.{◌≡◌, ℕ, List, [], ◌∷◌, ◌++◌, length, map, refl, sym, ap, ◌∙◌, All, flat_map, decimal, All-weaker, Log, Entry, Said, Outcome, Called, Looked, Counted, Step, AreDone, entry_of, steps_of, entry_text, said_text, Told, AreTold, FitsLine, IsSmall, IsToldBy, TellsNone, TellsSteps, spelled, spelled_line, spelling_of}
+use Rattle.mt_told.proofs.Prelude.{◌≡◌, ℕ, List, [], ◌∷◌, ◌++◌, length, map, refl, sym, ap, ◌∙◌, All, flat_map, decimal, All-weaker, Log, Entry, Said, Outcome, Called, Looked, Counted, Step, AreDone, entry_of, steps_of, entry_text, said_text, ToldLine, AreTold, FitsLine, IsSmall, IsToldBy, TellsNone, TellsSteps, spelled, spelled_line, spelling_of}
 use Rattle.mt_log.specs.declared.transcripts.Said.TheVariants as said
 use Rattle.mt_told.proofs.Outcomes.{number_in_line, reply_in_line}
 
@@ -29,9 +29,9 @@ module _ (log : Log) (text : List ℕ) (steps : List Step) (rest : List ℕ) whe
   pub none_told : TellsNone log text → AreDone (steps_of log.lines) steps → All (λ (s : Step). IsSmall s.outcome) steps → text ≡ flat_map (entry_text log.version) (map entry_of steps) ++ rest → ⊥
   none_told none done small printed = none (spelling_of log.version) steps rest (tells_so done small printed)
 
-  module _ (told : List Told) (behind : List ℕ) (by : IsToldBy log text told behind) where
+  module _ (told : List ToldLine) (behind : List ℕ) (by : IsToldBy log text told behind) where
     pub only_told : AreDone (steps_of log.lines) steps → All (λ (s : Step). IsSmall s.outcome) steps → text ≡ flat_map (entry_text log.version) (map entry_of steps) ++ rest → AreTold log.version told steps × (behind ≡ rest)
     only_told done small printed = by.only (spelling_of log.version) steps rest (tells_so done small printed)
 
-pub printed_told : (log : Log) (text behind : List ℕ) (told : List Told) (steps : List Step) → IsToldBy log text told behind → AreTold log.version told steps → text ≡ flat_map (entry_text log.version) (map entry_of steps) ++ behind
+pub printed_told : (log : Log) (text behind : List ℕ) (told : List ToldLine) (steps : List Step) → IsToldBy log text told behind → AreTold log.version told steps → text ≡ flat_map (entry_text log.version) (map entry_of steps) ++ behind
 printed_told log text behind told steps by are = by.printed (spelling_of log.version) steps are ∙ ap (λ (t : List ℕ). t ++ behind) (written_so log.version (map entry_of steps))

@@ -1,6 +1,5 @@
 -- Words at the front of a text stand there in one way.
-use Rattle.mt_told.proofs.Prelude.{◌≡◌, ◌≢◌, ℕ, suc, ◌+◌, ◌-◌, ◌<◌, ◌≤◌, Bool, true, false, List, [], ◌∷◌, ◌++◌, Some, None, codes, length, get_or, take, drop, refl, sym, ap, ◌∙◌, inl, inr, arith, true≢false, ◌==◌, nat_lt, position, if◌then◌else◌, position_or_len, bytes_eq, and_parts, cases_lt, eqb-true, lt-ltb, ltb-true, drop_more, get_or-take, get_or_at, length-append, length-take, take-append-drop, take_rest, position-Some, fails_before_first, bytes_eq-Decides, Kind, kind_text, is_name, are_above, name_is_field, IsKindBefore, IsNameBefore, IsWordBefore, HasNoByte}
-use Rattle.std.proofs.lemmas.Bool.{eq-eqb}
+use Rattle.mt_told.proofs.Prelude.{◌≡◌, ◌≢◌, ℕ, suc, ◌+◌, ◌-◌, ◌<◌, ◌≤◌, Bool, true, false, List, [], ◌∷◌, ◌++◌, Some, None, codes, length, get_or, take, drop, refl, sym, ap, ◌∙◌, inl, inr, arith, true≢false, ◌==◌, nat_lt, position, if◌then◌else◌, position_or_len, bytes_eq, and_parts, cases_lt, eqb-true, lt-ltb, ltb-true, drop_more, get_or-take, get_or_at, length-append, length-take, take-append-drop, take_rest, position-Some, fails_before_first, bytes_eq-Decides, Kind, kind_text, is_name, are_above, name_is_field, IsKindBefore, IsNameBefore, IsWordBefore, HasNoByte, eq-eqb}
 use Rattle.mt_base.specs.declared.kinds.Kind.TheVariants as kinds
 
 cons_is : (a b : ℕ) (xs ys : List ℕ) → a ≡ b → xs ≡ ys → a ∷ xs ≡ b ∷ ys

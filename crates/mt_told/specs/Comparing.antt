@@ -1,7 +1,6 @@
 -- The first line of a listing.
 -- Source: this project's own.
-use Rattle.std.specs.Prelude.{ℕ, List, [], ◌∷◌, ◌++◌, codes}
-use Rattle.std.specs.Fmt.{decimal}
+use Rattle.std.specs.Prelude.{ℕ, List, [], ◌∷◌, ◌++◌, codes, decimal}
 use Rattle.mt_told.specs.Prelude.{Kind, kind_text}
 
 -- the first line of the listing of a tree with this many ranges

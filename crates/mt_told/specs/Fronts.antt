@@ -1,7 +1,6 @@
 -- What a text begins with: a number and the byte after it, or a line.
 -- Source: this project's own.
-use Rattle.std.specs.Prelude.{◌≡◌, ◌≢◌, ℕ, ◌<◌, ◌^◌, List, ◌∷◌, ◌++◌}
-use Rattle.std.specs.Fmt.{decimal}
+use Rattle.std.specs.Prelude.{◌≡◌, ◌≢◌, ℕ, ◌<◌, ◌^◌, List, ◌∷◌, ◌++◌, decimal}
 use Rattle.std.specs.List.{AllByRecursion}
 
 -- the text begins with the number, before this byte and the rest, and with no other number below 2^64

@@ -1,13 +1,12 @@
 -- What the text of a listing begins with: words, the first line, and lines of ranges.
 -- Source: this project's own.
-use Rattle.std.specs.Prelude.{◌≡◌, ℕ, ◌<◌, ◌^◌, true, List, ◌∷◌, ◌++◌, Some}
-use Rattle.std.specs.List.{flat_map}
+use Rattle.std.specs.Prelude.{◌≡◌, ℕ, ◌<◌, ◌^◌, true, List, ◌∷◌, ◌++◌, Some, flat_map}
 use Rattle.mt_told.specs.Prelude.{Kind, Range, kind_text, is_name, range_line}
 use Rattle.mt_told.specs.Comparing.{head_line}
 use Rattle.mt_told.specs.Fronts.{HasNoByte}
 use Rattle.mt_told.specs.Telling.{IsSmallRange}
 use Rattle.mt_told.specs.Listings.{AreSmall}
-use Rattle.mt_told.specs.declared.heads.Head.{Head}
+use Rattle.mt_told.specs.declared.heads.ListingHead.{ListingHead}
 
 -- a word without spaces stands in front, before a space and the rest
 pub record IsWordBefore (text word rest : List ℕ) : Type 0 where
@@ -27,20 +26,20 @@ pub record IsKindBefore (text : List ℕ) (kind : Kind) (rest : List ℕ) : Type
 
 -- ---- lines
 
-abbrev pub head_text : Head → List ℕ
+abbrev pub head_text : ListingHead → List ℕ
 head_text h = head_line h.name h.kind h.count
 
-pub record IsHead (h : Head) : Type 0 where
+pub record IsHead (h : ListingHead) : Type 0 where
   pub named : is_name h.name ≡ true
   pub small : h.count < 2 ^ 64
 
 -- the text begins with the first line of a listing, before the rest
-pub record IsHeadBefore (text : List ℕ) (h : Head) (rest : List ℕ) : Type 0 where
+pub record IsHeadBefore (text : List ℕ) (h : ListingHead) (rest : List ℕ) : Type 0 where
   pub head : IsHead h
   pub printed : text ≡ head_text h ++ rest
 
 abbrev pub BeginsWithNoHead : List ℕ → Type 0
-BeginsWithNoHead text = (h : Head) (rest : List ℕ) → IsHead h → text ≡ head_text h ++ rest → ⊥
+BeginsWithNoHead text = (h : ListingHead) (rest : List ℕ) → IsHead h → text ≡ head_text h ++ rest → ⊥
 
 -- the line of a range does
 pub record IsRangeLineBefore (text : List ℕ) (r : Range) (rest : List ℕ) : Type 0 where

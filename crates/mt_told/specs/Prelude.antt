@@ -1,16 +1,5 @@
 -- What the definitions beside this file take from the toolchain and from the crates below, under one name. Declares nothing.
-pub use Rattle.mt_base.specs.Text.{kind_text}
-pub use Rattle.mt_base.specs.declared.calls.Query.{Query}
-pub use Rattle.mt_base.specs.declared.calls.Query.TheVariants.{Load}
-pub use Rattle.mt_base.specs.declared.kinds.Kind.{Kind}
-pub use Rattle.mt_base.specs.declared.ranges.Range.{Range}
-pub use Rattle.mt_base.specs.declared.replies.Reply.{Reply}
-pub use Rattle.mt_log.specs.Name.{is_name}
-pub use Rattle.mt_log.specs.Run.{AreDone, AreScanSteps, Asked, Called, Counted, Looked, Outcome, Step, asked_from, entry_of, lane_of, said_of, shown, shown_range, steps_of}
-pub use Rattle.mt_base.specs.Places.{place_within}
-pub use Rattle.mt_log.specs.Text.{answer_text, listing_text, range_line, reply_text}
-pub use Rattle.mt_log.specs.Trees.{NamesBelow, trees_of}
-pub use Rattle.mt_base.specs.Limits.{most_lanes}
+pub use Rattle.mt_log.specs.Names.{AreDone, AreScanSteps, Asked, Called, Counted, Kind, Load, Looked, NamesBelow, Outcome, Query, Range, Reply, Step, answer_text, asked_from, entry_of, is_name, kind_text, lane_of, listing_text, most_lanes, place_within, range_line, reply_text, said_of, shown, shown_range, steps_of, trees_of}
 pub use Rattle.mt_log.specs.declared.lines.Item.{Item}
 pub use Rattle.mt_log.specs.declared.lines.Item.TheVariants.{Scan}
 pub use Rattle.mt_log.specs.declared.lines.Line.{Line}

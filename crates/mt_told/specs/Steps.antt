@@ -1,13 +1,12 @@
 -- What is read off a text of one step, and of the steps of several lines.
 -- Source: this project's own.
-use Rattle.std.specs.Prelude.{◌≡◌, ℕ, ◌+◌, ◌≤◌, List, [], ◌∷◌, ◌++◌, All, length, map}
-use Rattle.std.specs.List.{flat_map}
+use Rattle.std.specs.Prelude.{◌≡◌, ℕ, ◌+◌, ◌≤◌, List, [], ◌∷◌, ◌++◌, All, length, map, flat_map}
 use Rattle.mt_told.specs.Prelude.{Item, Asked, Outcome, Called, Looked, Counted, Step, entry_of, said_of}
 use Rattle.mt_log.specs.declared.transcripts.Said.TheVariants as said
 use Rattle.mt_told.specs.declared.steps.Deed.{Deed}
 use Rattle.mt_told.specs.declared.steps.Deed.TheVariants.{Call, Look, Copy, Check}
 use Rattle.mt_told.specs.declared.steps.LinePlace.{LinePlace}
-use Rattle.mt_told.specs.declared.told.Told.{Told}
+use Rattle.mt_told.specs.declared.told.ToldLine.{ToldLine}
 use Rattle.mt_told.specs.declared.told.What.{What}
 use Rattle.mt_told.specs.Telling.{AreSpelled, FitsLine, HasForm, IsSpelledOf, Spelling, spelled, spelled_line, told_text, what_text}
 
@@ -53,7 +52,7 @@ abbrev pub step_at_place : LinePlace → Outcome → Step
 step_at_place p o = record { line = p.line; lane = p.lane; phase = p.phase; tree = p.tree; outcome = o }
 
 -- what the text says of a step at this place
-abbrev pub told_at : LinePlace → What → Told
+abbrev pub told_at : LinePlace → What → ToldLine
 told_at p what = record { line = p.line; lane = p.lane; phase = p.phase; tree = p.tree; what = what }
 
 -- these steps are one of this deed at this place
@@ -69,7 +68,7 @@ AllFit sp steps = All (λ s. FitsLine sp s.outcome) steps
 
 -- The text begins with the lines of steps that are done so, whichever steps it reports, and goes on with the rest. And any
 -- steps that are done so, with whose lines the text begins, are the ones that it reports.
-pub record TellsDone (IsDoneSo : List Step → Type 0) (text : List ℕ) (told : List Told) (rest : List ℕ) : Type 0 where
+pub record TellsDone (IsDoneSo : List Step → Type 0) (text : List ℕ) (told : List ToldLine) (rest : List ℕ) : Type 0 where
   pub only : (sp : Spelling) (steps : List Step) (after : List ℕ) → IsDoneSo steps → AllFit sp steps → text ≡ steps_text sp steps ++ after → AreSpelled sp told steps × (rest ≡ after)
   pub its : (sp : Spelling) (steps : List Step) → AreSpelled sp told steps → IsDoneSo steps
   pub printed : (sp : Spelling) (steps : List Step) → AreSpelled sp told steps → text ≡ steps_text sp steps ++ rest
@@ -81,7 +80,7 @@ abbrev pub TellsNotDone : (List Step → Type 0) → List ℕ → Type 0
 TellsNotDone IsDoneSo text = (sp : Spelling) (steps : List Step) (after : List ℕ) → IsDoneSo steps → AllFit sp steps → text ≡ steps_text sp steps ++ after → ⊥
 
 -- what the text says is of this place
-pub record IsToldAt (place : LinePlace) (t : Told) : Type 0 where
+pub record IsToldAt (place : LinePlace) (t : ToldLine) : Type 0 where
   pub line : t.line ≡ place.line
   pub lane : t.lane ≡ place.lane
   pub phase : t.phase ≡ place.phase
@@ -89,7 +88,7 @@ pub record IsToldAt (place : LinePlace) (t : Told) : Type 0 where
   pub form : HasForm t.what
 
 -- the text begins with a line of this deed at this place, and this is what the line says
-pub record TellsStepAt (place : LinePlace) (deed : Deed) (text : List ℕ) (t : Told) (rest : List ℕ) : Type 0 where
+pub record TellsStepAt (place : LinePlace) (deed : Deed) (text : List ℕ) (t : ToldLine) (rest : List ℕ) : Type 0 where
   pub told : TellsDone (IsStepAt place deed) text (t ∷ []) rest
   pub stands : IsToldAt place t
 
@@ -98,8 +97,8 @@ abbrev pub asked_at : LinePlace → Item → Asked
 asked_at p item = record { line = p.line; lane = p.lane; phase = p.phase; item = item }
 
 -- After what was read before comes what the text says of steps that are done so, each in its place, up to the rest.
-pub record AddsTold (IsDoneSo : List Step → Type 0) (IsPlaced : Told → Type 0) (text : List ℕ) (old new : List Told) (rest : List ℕ) : Type 0 where
-  pub mine : List Told
+pub record AddsTold (IsDoneSo : List Step → Type 0) (IsPlaced : ToldLine → Type 0) (text : List ℕ) (old new : List ToldLine) (rest : List ℕ) : Type 0 where
+  pub mine : List ToldLine
   pub whole : new ≡ old ++ mine
   pub told : TellsDone IsDoneSo text mine rest
   pub placed : All IsPlaced mine

@@ -1,15 +1,12 @@
 -- Which steps of a log a text reports.
 -- Source: this project's own.
-use Rattle.std.specs.Prelude.{◌≡◌, ℕ, ◌<◌, ◌≤◌, ◌^◌, List, [], ◌∷◌, ◌++◌, Option, Some, None, All, AllPairs, codes, length, map}
-use Rattle.std.specs.List.{flat_map}
-use Rattle.std.specs.Fmt.{decimal}
-use Rattle.mt_told.specs.Prelude.{Range, Reply, Log, Entry, Said, Outcome, Called, Looked, Counted, Step, AreDone, entry_of, shown, steps_of, answer_text, reply_text, trees_of}
+use Rattle.std.specs.Prelude.{◌≡◌, ℕ, ◌<◌, ◌≤◌, ◌^◌, List, [], ◌∷◌, ◌++◌, Option, Some, None, All, AllPairs, codes, length, map, flat_map, decimal}
+use Rattle.mt_told.specs.Prelude.{Range, Reply, Log, Entry, Said, Outcome, Called, Looked, Counted, Step, AreDone, entry_of, shown, steps_of, answer_text, reply_text, trees_of, most_lanes}
 use Rattle.mt_log.specs.declared.transcripts.Said.TheVariants as said
 use Rattle.mt_told.specs.Fronts.{IsInLine}
-use Rattle.mt_told.specs.declared.told.Told.{Told}
+use Rattle.mt_told.specs.declared.told.ToldLine.{ToldLine}
 use Rattle.mt_told.specs.declared.told.What.{What}
 use Rattle.mt_told.specs.declared.told.What.TheVariants.{Wrote, Got, Copied, Lawful}
-use Rattle.mt_base.specs.Limits.{most_lanes}
 
 -- ---- how it is written
 
@@ -51,7 +48,7 @@ IsSpelledOf sp (Lawful count) (Called n c r) = ⊥
 IsSpelledOf sp (Lawful count) (Looked lo hi k q v) = ⊥
 IsSpelledOf sp (Lawful count) (Counted s ranges) = (s ≡ said.Lawful) × (sp.count (length ranges) ≡ count.now)
 
-pub record IsSpelled (sp : Spelling) (t : Told) (s : Step) : Type 0 where
+pub record IsSpelled (sp : Spelling) (t : ToldLine) (s : Step) : Type 0 where
   pub line : s.line ≡ t.line
   pub lane : s.lane ≡ t.lane
   pub phase : s.phase ≡ t.phase
@@ -59,16 +56,16 @@ pub record IsSpelled (sp : Spelling) (t : Told) (s : Step) : Type 0 where
   pub outcome : IsSpelledOf sp t.what s.outcome
 
 -- the lines report these steps, one by one
-abbrev pub AreSpelled : Spelling → List Told → List Step → Type 0
+abbrev pub AreSpelled : Spelling → List ToldLine → List Step → Type 0
 AreSpelled sp [] [] = Unit {0}
 AreSpelled sp [] (s ∷ steps) = ⊥
 AreSpelled sp (t ∷ told) [] = ⊥
 AreSpelled sp (t ∷ told) (s ∷ steps) = IsSpelled sp t s × AreSpelled sp told steps
 
-abbrev pub IsTold : ℕ → Told → Step → Type 0
+abbrev pub IsTold : ℕ → ToldLine → Step → Type 0
 IsTold version t s = IsSpelled (spelling_of version) t s
 
-abbrev pub AreTold : ℕ → List Told → List Step → Type 0
+abbrev pub AreTold : ℕ → List ToldLine → List Step → Type 0
 AreTold version told steps = AreSpelled (spelling_of version) told steps
 
 -- it has the form of its line: a query returned some range or none, and no reply or count has an LF
@@ -87,7 +84,7 @@ what_text (Got lo hi query answer) = decimal lo ++ (codes " " ++ (decimal hi ++ 
 what_text (Copied count) = codes "copied " ++ count.now
 what_text (Lawful count) = codes "lawful " ++ count.now
 
-abbrev pub told_text : Told → List ℕ
+abbrev pub told_text : ToldLine → List ℕ
 told_text t = decimal t.line ++ (codes " " ++ (what_text t.what ++ 10 ∷ []))
 
 -- ---- numbers
@@ -118,7 +115,7 @@ pub record TellsSteps (sp : Spelling) (log : Log) (text : List ℕ) (steps : Lis
 
 -- The text is these lines and then the rest. All steps that the text can report are reported by these lines, before the same
 -- rest. And steps that these lines report are steps of the log, with whose lines the text begins.
-pub record IsToldBy (log : Log) (text : List ℕ) (told : List Told) (rest : List ℕ) : Type 0 where
+pub record IsToldBy (log : Log) (text : List ℕ) (told : List ToldLine) (rest : List ℕ) : Type 0 where
   pub written : text ≡ flat_map told_text told ++ rest
   pub only : (sp : Spelling) (steps : List Step) (after : List ℕ) → TellsSteps sp log text steps after → AreSpelled sp told steps × (rest ≡ after)
   pub done : (sp : Spelling) (steps : List Step) → AreSpelled sp told steps → AreDone (steps_of log.lines) steps

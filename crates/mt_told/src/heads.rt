@@ -12,7 +12,7 @@ use mt_log::Word;
 
 /// The first line of a listing: a tree, and how many ranges it has.
 #[derive(Clone, Copy)]
-pub struct Head {
+pub struct ListingHead {
     pub name: Word,
     pub kind: Kind,
     pub count: u64,
@@ -79,8 +79,8 @@ fn kind_before(text: &[u8]) -> Option<(Kind, &[u8])>
 }
 
 /// The first line of a listing, if the text begins with one, and the text after it.
-#[tactic(auto, using(crate::proofs::FirstLines::head_before, crate::proofs::FirstLines::no_tree, crate::proofs::FirstLines::no_name, crate::proofs::FirstLines::no_kind, crate::proofs::FirstLines::no_count))]
-pub fn head_in_front(text: &[u8]) -> Option<(Head, &[u8])>
+#[tactic(auto, using(crate::proofs::FirstLines::head_or_none))]
+pub fn head_in_front(text: &[u8]) -> Option<(ListingHead, &[u8])>
     ensures some { IfSome result (λ found. IsHeadBefore text.now found.0 found.1.now) }
     ensures none { IfNone result (BeginsWithNoHead text.now) }
 {
@@ -90,5 +90,5 @@ pub fn head_in_front(text: &[u8]) -> Option<(Head, &[u8])>
     };
     let (kind, counted) = kind_before(named)?;
     let (count, rest) = number_before(counted, b'\n')?;
-    Some((Head { name, kind, count }, rest))
+    Some((ListingHead { name, kind, count }, rest))
 }

@@ -21,4 +21,4 @@ pub use fronts::{behind_word, number_before};
 pub use listings::read_listing;
 pub use numbers::number_in_front;
 pub use reading::{Account, read_told};
-pub use told::{Told, What};
+pub use told::{ToldLine, What};

@@ -5,7 +5,7 @@ ghost use Rattle.mt_told.specs.Listings.{IsInForm, IsRefusedListing};
 use crate::errors::ListingError;
 use crate::heads::head_in_front;
 use crate::ranges::ranges_in_front;
-use mt_log::{Listing, RangeList};
+use mt_log::{ListOf, Listing};
 use std::alloc::Global;
 
 /// The listing that the text is.
@@ -30,6 +30,6 @@ pub fn read_listing(alloc: Global, text: &[u8]) -> Result<Listing, ListingError>
     Ok(Listing {
         name: head.name,
         kind: head.kind,
-        ranges: RangeList::new(ranges),
+        ranges: ListOf::new(ranges),
     })
 }

@@ -8,7 +8,7 @@ use mt_base::Range;
 use std::alloc::{AllocError, Global};
 
 /// The range whose line the text begins with, and the text after it.
-#[tactic(auto, using(crate::proofs::RangeLines::range_before, crate::proofs::RangeLines::no_first, crate::proofs::RangeLines::no_last, crate::proofs::RangeLines::no_entry))]
+#[tactic(auto, using(crate::proofs::RangeLines::range_or_none))]
 fn range_in_front(text: &[u8]) -> Option<(Range, &[u8])>
     ensures some { IfSome result (λ found. IsRangeLineBefore text.now found.0 found.1.now) }
     ensures none { IfNone result (BeginsWithNoRange text.now) }

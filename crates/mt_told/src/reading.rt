@@ -10,7 +10,7 @@ ghost use Rattle.mt_told.specs.Telling.{IsToldBy, TellsNone};
 
 use crate::scans::{Stretch, read_scan};
 use crate::steps::{Deed, LinePlace, step_in_front};
-use crate::told::Told;
+use crate::told::ToldLine;
 use mt_base::NoMemory;
 use mt_log::{Item, Line, Log};
 use std::alloc::{AllocError, Global};
@@ -18,7 +18,7 @@ use std::alloc::{AllocError, Global};
 /// What a text says of the steps of a log, in order, and the rest of the text.
 #[derive(Drop)]
 pub struct Account<'t> {
-    pub told: Vec<Told<'t>>,
+    pub told: Vec<ToldLine<'t>>,
     pub rest: &'t [u8],
 }
 
@@ -82,7 +82,7 @@ impl Stand {
 
 /// Reads the line of a deed at this place. Returns the text after it, if the text begins with such a line.
 fn read_step<'t>(
-    told: &mut Vec<Told<'t>>,
+    told: &mut Vec<ToldLine<'t>>,
     text: &'t [u8],
     place: &LinePlace,
     deed: &Deed,
@@ -100,7 +100,7 @@ fn read_step<'t>(
 
 /// Reads what the text says of a line of the log in this lane and phase. Returns the text after it, if it says something.
 fn read_line<'t>(
-    told: &mut Vec<Told<'t>>,
+    told: &mut Vec<ToldLine<'t>>,
     text: &'t [u8],
     line: &Line,
     stand: &Stand,

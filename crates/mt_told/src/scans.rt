@@ -5,7 +5,7 @@ ghost use Rattle.mt_told.specs.Scans.{IsScanAt, range_told};
 ghost use Rattle.mt_told.specs.Steps.{AddsTold, IsToldAt, TellsNotDone};
 
 use crate::steps::{Deed, LinePlace, step_in_front};
-use crate::told::{Told, What};
+use crate::told::{ToldLine, What};
 use mt_base::{Range, find_at, place_after, place_within};
 use mt_log::Answer;
 use std::alloc::AllocError;
@@ -34,7 +34,7 @@ fn range_told(what: &What<'_>) -> Option<Range>
 /// Reads the lines of a scan: at most `count`, and none after the first that reports no range. Returns the text after them, if
 /// it reports a scan.
 pub fn read_scan<'t>(
-    told: &mut Vec<Told<'t>>,
+    told: &mut Vec<ToldLine<'t>>,
     text: &'t [u8],
     place: &LinePlace,
     scan: &Stretch,

@@ -6,7 +6,7 @@ ghost use Rattle.mt_told.specs.Steps.{IsStepAt, TellsNotDone, TellsNothingOf, Te
 
 use crate::answers::answer_in_front;
 use crate::fronts::{behind_number, behind_word, line_in_front, number_before};
-use crate::told::{Told, What};
+use crate::told::{ToldLine, What};
 use mt_base::{Call, Query};
 
 /// What is done in a step: a call, a read, or a tree is copied or checked.
@@ -32,10 +32,10 @@ impl LinePlace {
     ghost use Rattle.mt_told.specs.Steps.{told_at};
 
     /// This result of a step at this place.
-    fn tells<'t>(&self, what: What<'t>) -> Told<'t>
+    fn tells<'t>(&self, what: What<'t>) -> ToldLine<'t>
         ensures { result ≡ told_at self.now what.entry }
     {
-        Told {
+        ToldLine {
             line: self.line,
             lane: self.lane,
             phase: self.phase,
@@ -115,7 +115,7 @@ pub fn step_in_front<'t>(
     text: &'t [u8],
     place: &LinePlace,
     deed: &Deed,
-) -> Option<(Told<'t>, &'t [u8])>
+) -> Option<(ToldLine<'t>, &'t [u8])>
     ensures some { IfSome result (λ found. TellsStepAt place.now deed.now text.now found.0 found.1.now) }
     ensures none { IfNone result (TellsNotDone (IsStepAt place.now deed.now) text.now) }
 {

@@ -30,7 +30,7 @@ pub enum What<'t> {
 /// A line of a transcript: the number of the log's line that it answers, that line's lane and phase, the tree that it names,
 /// and what it reports.
 #[derive(Clone, Copy)]
-pub struct Told<'t> {
+pub struct ToldLine<'t> {
     pub line: u64,
     pub lane: u32,
     pub phase: u64,

@@ -1,9 +1,8 @@
 -- Trees that were gone through make what is found of a text.
-use Rattle.mt_verify.proofs.Prelude.{◌≡◌, ◌≢◌, ℕ, zero, suc, ◌+◌, ◌-◌, ◌<◌, ◌≤◌, ◌==◌, ◌&&◌, ◌||◌, true, false, List, [], ◌∷◌, Option, Some, None, length, map, nat_le, slice_get, get_or, refl, sym, ap, ◌∙◌, subst, inl, inr, arith, All, AllPairs, IfSome, IsPermutation, decimal, AllByRecursion, Contains, cons_option, enumerate_from, filter_map, list_any, option_map, unwrap_or, cases_Bool, cases_lt, eq-eqb, eqb-true, length-map, take_all, recursion_from_All, length-map-range_with_len, Contains-permutation, IsPermutation-map, IsPermutation-sym, same_Some, slice_get-map, slice_get_within, slice_get-get_or, Kind, Range, Call, Holder, Reply, Record, History, IsLegal, last_map, map_at, holder_of, Log, listings_of, reply_text, Declared, Opening, Empty, CopyOf, trees_of, Told, What, Wrote, Got, Copied, Lawful, IsToldBy, HaveGoneTo, OpensGone, listings_by, numbers_behind, reads_count, reads_told, own_points, Lane, GoneTree, HasGone, gone_map, IsReader, reads_by, AreNotedOf, IsHeardOf, IsNotedOf, AreRecordsOf, IsRecordOf, IsReplyOf, is_nomem, map_after_noted, record_noted, records_noted, AreLeastOf, calls_below, line_on, lines_on, looks_by_lane, stop_at, stops_told, EndsInTree, InPrintedOrder, calls_told, numbered_of, numbered_on_told, Numbered, Look, Heard, Short, Noted, Stop, history_of}
+use Rattle.mt_verify.proofs.Prelude.{◌≡◌, ◌≢◌, ℕ, zero, suc, ◌+◌, ◌-◌, ◌<◌, ◌≤◌, ◌==◌, ◌&&◌, ◌||◌, true, false, List, [], ◌∷◌, Option, Some, None, length, map, nat_le, slice_get, get_or, refl, sym, ap, ◌∙◌, subst, inl, inr, arith, All, AllPairs, IfSome, IsPermutation, decimal, AllByRecursion, Contains, cons_option, enumerate_from, filter_map, list_any, option_map, unwrap_or, cases_Bool, cases_lt, eq-eqb, eqb-true, length-map, take_all, recursion_from_All, length-map-range_with_len, Contains-permutation, IsPermutation-map, IsPermutation-sym, same_Some, slice_get-map, slice_get_within, slice_get-get_or, Kind, Range, Call, Holder, Reply, Record, History, IsLegal, last_map, map_at, holder_of, Log, listings_of, reply_text, Declared, Opening, Empty, CopyOf, trees_of, ToldLine, What, Wrote, Got, Copied, Lawful, IsToldBy, HaveGoneTo, OpensGone, listings_by, numbers_behind, reads_count, reads_told, own_points, Lane, GoneTree, HasGone, gone_map, IsReader, reads_by, AreNotedOf, IsHeardOf, IsNotedOf, AreRecordsOf, IsRecordOf, IsReplyOf, is_nomem, map_after_noted, record_noted, records_noted, AreLeastOf, calls_below, line_on, lines_on, looks_by_lane, stop_at, stops_told, EndsInTree, InPrintedOrder, calls_told, numbered_of, numbered_on_told, Numbered, ToldRead, Heard, Short, Noted, Stop, history_of, most_lanes}
 use Rattle.mt_base.specs.declared.replies.Reply.TheVariants as replies
 use Rattle.mt_base.specs.History as histories
-use Rattle.mt_verify.specs.ToldReads.{calls_of_phases_before as calls_lower, is_got as is_look}
-use Rattle.mt_verify.specs.Heard.{is_got}
+use Rattle.mt_verify.specs.ToldReads.{calls_of_phases_before as calls_lower, is_got}
 use Rattle.mt_verify.specs.declared.noted.Heard.TheVariants.{Reply as Printed}
 use Rattle.mt_verify.proofs.Filled.{history_in, numbered_by, numbered_in, reply_in}
 use Rattle.mt_verify.proofs.Found.{IsFound, IsHeldTold, IsOpened, IsRightCall, IsRightLine, OpensTold, holder_told, is_told_read, own_looks}
@@ -16,7 +15,6 @@ use Rattle.mt_verify.proofs.OwnLines.{below_is, lane_is, own_is}
 use Rattle.mt_verify.proofs.OwnStops.{windows_within}
 use Rattle.mt_verify.proofs.RefusedTrees.{kept_in, lane_at}
 use Rattle.mt_verify.proofs.Runs.{all_at, some_at}
-use Rattle.mt_base.specs.Limits.{most_lanes}
 
 -- the history that a tree has gone through
 abbrev pub history_by : ℕ → GoneTree → History
@@ -63,7 +61,7 @@ reply_at h i r is =
 abbrev recorded : History → ℕ × Numbered → ℕ × Record
 recorded h e = (e.0, record { pass = e.1.lane; call = e.1.call; reply = reply_in h e.0 })
 
-calls_recorded : (h : History) (tree : ℕ) (told : List Told) → map (recorded h) (calls_told tree told) ≡ filter_map (numbered_in h tree) told
+calls_recorded : (h : History) (tree : ℕ) (told : List ToldLine) → map (recorded h) (calls_told tree told) ≡ filter_map (numbered_in h tree) told
 calls_recorded h tree [] = refl
 calls_recorded h tree (t ∷ told) =
     let rest = calls_recorded h tree told in
@@ -78,7 +76,7 @@ calls_recorded h tree (t ∷ told) =
     by_what (Copied count) rest = rest
     by_what (Lawful count) rest = rest
 
-records_numbered : (told : List Told) (tree : ℕ) (h : History) (n : ℕ) (kind : Kind) (m : List Range) (calls : List Numbered) (noted : List Noted) → AreNotedOf told tree calls noted
+records_numbered : (told : List ToldLine) (tree : ℕ) (h : History) (n : ℕ) (kind : Kind) (m : List Range) (calls : List Numbered) (noted : List Noted) → AreNotedOf told tree calls noted
     → ((i : ℕ) (r : Record) → slice_get (records_noted kind m noted) i ≡ Some r → reply_in h (n + i) ≡ r.reply) → map (recorded h) (enumerate_from n calls) ≡ enumerate_from n (records_noted kind m noted)
 records_numbered told tree h n kind m [] [] are replied = refl
 records_numbered told tree h n kind m [] (x ∷ noted) are replied = absurd are
@@ -91,7 +89,7 @@ records_numbered told tree h n kind m (c ∷ calls) (x ∷ noted) are replied =
     ap (reply_in h) next ∙ replied (suc i) r is)) in
     λ i. (n, record { pass = sym are.0.lane i; call = sym are.0.call_is i; reply = first i }) ∷ rest i
 
-noted_at : (told : List Told) (tree : ℕ) (calls : List Numbered) (noted : List Noted) (i : ℕ) (c : Numbered) → AreNotedOf told tree calls noted → slice_get calls i ≡ Some c → (n : Noted) × (slice_get noted i ≡ Some n) × IsNotedOf told tree c n
+noted_at : (told : List ToldLine) (tree : ℕ) (calls : List Numbered) (noted : List Noted) (i : ℕ) (c : Numbered) → AreNotedOf told tree calls noted → slice_get calls i ≡ Some c → (n : Noted) × (slice_get noted i ≡ Some n) × IsNotedOf told tree c n
 noted_at told tree [] noted i c are is = absurd (cc)
 noted_at told tree (x ∷ calls) [] i c are is = absurd are
 noted_at told tree (x ∷ calls) (n ∷ noted) zero c are is = (n, refl, subst (λ (y : Numbered). IsNotedOf told tree y n) (same_Some x c is) are.0)
@@ -106,12 +104,12 @@ record_at version (x ∷ noted) (r ∷ records) (suc i) n are is = record_at ver
 -- ---- the reply of a call
 
 -- a call that is told is one of the tree's, and its reply is the history's of that number
-pub record IsRepliedIn (version : ℕ) (told : List Told) (tree : ℕ) (h : History) (e : ℕ × Numbered) : Type 0 where
+pub record IsRepliedIn (version : ℕ) (told : List ToldLine) (tree : ℕ) (h : History) (e : ℕ × Numbered) : Type 0 where
   pub noted : Noted
   pub of : IsNotedOf told tree e.1 noted
   pub reply : IsReplyOf version noted.heard (reply_in h e.0)
 
-printed_so : (version : ℕ) (told : List Told) (tree : ℕ) (call : Numbered) (heard : Heard) (r : Reply) → IsHeardOf told tree call heard → IsReplyOf version heard r → reply_text version r ≡ call.reply.now
+printed_so : (version : ℕ) (told : List ToldLine) (tree : ℕ) (call : Numbered) (heard : Heard) (r : Reply) → IsHeardOf told tree call heard → IsReplyOf version heard r → reply_text version r ≡ call.reply.now
 printed_so version told tree call (Printed bytes) r of is = is.1 ∙ of.0
 printed_so version told tree call (Short s) r of is = ap (reply_text version) is ∙ sym of.0.is.printed
 
@@ -126,24 +124,18 @@ no_holder replies.Exists plain = refl
 no_holder replies.Invalid plain = refl
 no_holder replies.Busy plain = refl
 
-held_so : (version : ℕ) (told : List Told) (tree : ℕ) (call : Numbered) (heard : Heard) (r : Reply) → IsHeardOf told tree call heard → IsReplyOf version heard r → IfSome (holder_of r) (λ holder. IsReader told tree call holder.pass)
+held_so : (version : ℕ) (told : List ToldLine) (tree : ℕ) (call : Numbered) (heard : Heard) (r : Reply) → IsHeardOf told tree call heard → IsReplyOf version heard r → IfSome (holder_of r) (λ holder. IsReader told tree call holder.pass)
 held_so version told tree call (Printed bytes) r of is = subst (λ (o : Option Holder). IfSome o (λ holder. IsReader told tree call holder.pass)) (sym (no_holder r is.0)) tt
 held_so version told tree call (Short s) r of is = subst (λ (o : Option Holder). IfSome o (λ holder. IsReader told tree call holder.pass)) (sym (ap holder_of is)) of.0.is.by
 
 -- what is told of readers is one, and the same
-look_alike : (w : What) → is_got w ≡ is_look w
-look_alike (Wrote number call reply) = refl
-look_alike (Got lo hi query a) = refl
-look_alike (Copied count) = refl
-look_alike (Lawful count) = refl
-
-readers_alike : (lane : ℕ) (t : Told) (told : List Told) → list_any (is_told_read lane t) told ≡ list_any (reads_by t.tree lane t.phase) told
+readers_alike : (lane : ℕ) (t : ToldLine) (told : List ToldLine) → list_any (is_told_read lane t) told ≡ list_any (reads_by t.tree lane t.phase) told
 readers_alike lane t [] = refl
-readers_alike lane t (r ∷ told) = λ i. ((r.lane == lane) && ((r.tree == t.tree) && (nat_le r.phase t.phase && sym (look_alike r.what) i))) || readers_alike lane t told i
+readers_alike lane t (r ∷ told) = λ i. ((r.lane == lane) && ((r.tree == t.tree) && (nat_le r.phase t.phase && is_got r.what))) || readers_alike lane t told i
 
 -- ---- a tree that was gone through
 
-module _ (version rows : ℕ) (told : List Told) (tree : ℕ) (g : GoneTree) (has : HasGone version rows told tree g) where
+module _ (version rows : ℕ) (told : List ToldLine) (tree : ℕ) (g : GoneTree) (has : HasGone version rows told tree g) where
   abbrev own : History
   own = history_by rows g
 
@@ -168,23 +160,23 @@ module _ (version rows : ℕ) (told : List Told) (tree : ℕ) (g : GoneTree) (ha
       record { noted = n.0; of = n.2; reply = subst (IsReplyOf version n.0.heard) (sym replied) r.2.reply }
 
   -- the call of a line
-  line_reply : (place : ℕ) (t : Told) (number : ℕ) (call : Call) (reply : _) → slice_get told place ≡ Some t → t.tree ≡ tree → t.what ≡ Wrote number call reply → IsRepliedIn version told tree own (number, record { lane = t.lane; phase = t.phase; call = call; reply = reply })
+  line_reply : (place : ℕ) (t : ToldLine) (number : ℕ) (call : Call) (reply : _) → slice_get told place ≡ Some t → t.tree ≡ tree → t.what ≡ Wrote number call reply → IsRepliedIn version told tree own (number, record { lane = t.lane; phase = t.phase; call = call; reply = reply })
   line_reply place t number call reply is on what =
       let kept : numbered_on_told tree t ≡ Some (number, record { lane = t.lane; phase = t.phase; call = call; reply = reply }) = rw (eq-eqb t.tree tree on, what) refl in
       own_reply (number, record { lane = t.lane; phase = t.phase; call = call; reply = reply }) (kept_in (numbered_on_told tree) told place t (number, record { lane = t.lane; phase = t.phase; call = call; reply = reply }) is kept)
 
   -- the stop of a line
-  line_stop : (place : ℕ) (t : Told) (s : Stop) → slice_get told place ≡ Some t → t.tree ≡ tree → stop_at (calls_below (lines_on tree told) t.phase) t.what ≡ Some s → decimal (length (gone_map g s.at)) ≡ s.count.now
+  line_stop : (place : ℕ) (t : ToldLine) (s : Stop) → slice_get told place ≡ Some t → t.tree ≡ tree → stop_at (calls_below (lines_on tree told) t.phase) t.what ≡ Some s → decimal (length (gone_map g s.at)) ≡ s.count.now
   line_stop place t s is on of =
       let kept : line_on tree t ≡ Some t = rw (eq-eqb t.tree tree on) refl in
       let line = contained (lines_on tree told) t (kept_in (line_on tree) told place t t is kept) in
-      let stop = contained (stops_told (lines_on tree told)) s (kept_in (λ (u : Told). stop_at (calls_below (lines_on tree told) u.phase) u.what) (lines_on tree told) line.place t s line.is of) in
+      let stop = contained (stops_told (lines_on tree told)) s (kept_in (λ (u : ToldLine). stop_at (calls_below (lines_on tree told) u.phase) u.what) (lines_on tree told) line.place t s line.is of) in
       has.counted stop.place s (slice_get_within (stops_told (lines_on tree told)) stop.place s stop.is) stop.is
 
-  counted_so : (t : Told) → decimal (length (gone_map g (calls_below (lines_on tree told) t.phase))) ≡ decimal (length (map_at own (calls_lower told tree t.phase)))
+  counted_so : (t : ToldLine) → decimal (length (gone_map g (calls_below (lines_on tree told) t.phase))) ≡ decimal (length (map_at own (calls_lower told tree t.phase)))
   counted_so t = ap (λ (m : List Range). decimal (length m)) (ap (gone_map g) (below_is tree t.phase told) ∙ sym (maps_are g.kind rows g.opening g.noted (calls_lower told tree t.phase)))
 
-  line_right : (place : ℕ) (t : Told) (w : What) → slice_get told place ≡ Some t → t.tree ≡ tree → t.what ≡ w → IsRightCall version own (calls_lower told tree t.phase) w
+  line_right : (place : ℕ) (t : ToldLine) (w : What) → slice_get told place ≡ Some t → t.tree ≡ tree → t.what ≡ w → IsRightCall version own (calls_lower told tree t.phase) w
   line_right place t (Wrote number call reply) is on what =
       let r = line_reply place t number call reply is on what in
       printed_so version told tree (record { lane = t.lane; phase = t.phase; call = call; reply = reply }) r.noted.heard (reply_in own number) r.of.heard r.reply
@@ -196,7 +188,7 @@ module _ (version rows : ℕ) (told : List Told) (tree : ℕ) (g : GoneTree) (ha
       let stop : stop_at (calls_below (lines_on tree told) t.phase) t.what ≡ Some (record { at = calls_below (lines_on tree told) t.phase; count = count }) = ap (stop_at (calls_below (lines_on tree told) t.phase)) what in
       sym (counted_so t) ∙ line_stop place t (record { at = calls_below (lines_on tree told) t.phase; count = count }) is on stop
 
-  line_held : (place : ℕ) (t : Told) (w : What) → slice_get told place ≡ Some t → t.tree ≡ tree → t.what ≡ w → IfSome (holder_told own w) (λ holder. (holder.pass ≢ t.lane) × (list_any (is_told_read holder.pass t) told ≡ true))
+  line_held : (place : ℕ) (t : ToldLine) (w : What) → slice_get told place ≡ Some t → t.tree ≡ tree → t.what ≡ w → IfSome (holder_told own w) (λ holder. (holder.pass ≢ t.lane) × (list_any (is_told_read holder.pass t) told ≡ true))
   line_held place t (Got lo hi query a) is on what = tt
   line_held place t (Copied count) is on what = tt
   line_held place t (Lawful count) is on what = tt
@@ -224,16 +216,16 @@ module _ (version rows : ℕ) (told : List Told) (tree : ℕ) (g : GoneTree) (ha
   own_least lane l points is same =
       subst (λ (m : ℕ → List Range). AreLeastOf m (own_looks tree lane told points) (own_points tree lane told points)) (sym own_maps)
       (subst (λ (k : List ℕ). AreLeastOf (gone_map g) (own_looks tree lane told points) k) (sym same)
-      (subst (λ (x : List Look). AreLeastOf (gone_map g) x l.points) (sym (looks_are lane l points is)) (has.least lane l is)))
+      (subst (λ (x : List ToldRead). AreLeastOf (gone_map g) x l.points) (sym (looks_are lane l points is)) (has.least lane l is)))
 
-  own_within : (lane : ℕ) (l : Lane) (points : List ℕ) → slice_get g.lanes lane ≡ Some l → All (EndsInTree told) told → All (λ (x : Look). x.hi ≤ length own.records) (own_looks tree lane told points)
-  own_within lane l points is ends = all_by (λ (x : Look). x.hi ≤ length own.records) (own_looks tree lane told points) (λ i x at.
-      (let high : x.hi ≤ length g.noted = windows_within tree told g.lanes (length g.noted) has.looks ends (many_noted told tree has.calls g.noted has.are has.heard) lane l i x is (ap (λ (y : List Look). slice_get y i) (sym (looks_are lane l points is)) ∙ at) in
+  own_within : (lane : ℕ) (l : Lane) (points : List ℕ) → slice_get g.lanes lane ≡ Some l → All (EndsInTree told) told → All (λ (x : ToldRead). x.hi ≤ length own.records) (own_looks tree lane told points)
+  own_within lane l points is ends = all_by (λ (x : ToldRead). x.hi ≤ length own.records) (own_looks tree lane told points) (λ i x at.
+      (let high : x.hi ≤ length g.noted = windows_within tree told g.lanes (length g.noted) has.looks ends (many_noted told tree has.calls g.noted has.are has.heard) lane l i x is (ap (λ (y : List ToldRead). slice_get y i) (sym (looks_are lane l points is)) ∙ at) in
       omega (arith, high, as_many_records g.kind g.opening g.noted)))
 
 -- ---- lanes that there are not
 
-no_reads : (tree lane : ℕ) (told : List Told) (points : List ℕ) → most_lanes ≤ lane → AllByRecursion (λ (t : Told). t.lane < most_lanes) told → reads_told tree lane told points ≡ []
+no_reads : (tree lane : ℕ) (told : List ToldLine) (points : List ℕ) → most_lanes ≤ lane → AllByRecursion (λ (t : ToldLine). t.lane < most_lanes) told → reads_told tree lane told points ≡ []
 no_reads tree lane [] points high below = refl
 no_reads tree lane (t ∷ told) points high below =
     let rest = no_reads tree lane told (numbers_behind t.what points) high below.1 in
@@ -249,15 +241,15 @@ no_reads tree lane (t ∷ told) points high below =
 none_picked : (m : ℕ → List Range) → AreLeastOf m [] []
 none_picked m = picked_is_least m [] [] (record { few = omega arith; each = λ i l within is. absurd (omega (arith, within)) }) refl
 
-no_least : (m : ℕ → List Range) (reads : List (Look × ℕ)) → reads ≡ [] → AreLeastOf m (map (λ (r : Look × ℕ). r.0) reads) (map (λ (r : Look × ℕ). r.1) reads)
-no_least m reads none = subst (λ (l : List (Look × ℕ)). AreLeastOf m (map (λ (r : Look × ℕ). r.0) l) (map (λ (r : Look × ℕ). r.1) l)) (sym none) (none_picked m)
+no_least : (m : ℕ → List Range) (reads : List (ToldRead × ℕ)) → reads ≡ [] → AreLeastOf m (map (λ (r : ToldRead × ℕ). r.0) reads) (map (λ (r : ToldRead × ℕ). r.1) reads)
+no_least m reads none = subst (λ (l : List (ToldRead × ℕ)). AreLeastOf m (map (λ (r : ToldRead × ℕ). r.0) l) (map (λ (r : ToldRead × ℕ). r.1) l)) (sym none) (none_picked m)
 
-no_within : (n : ℕ) (reads : List (Look × ℕ)) → reads ≡ [] → All (λ (x : Look). x.hi ≤ n) (map (λ (r : Look × ℕ). r.0) reads)
-no_within n reads none = subst (λ (l : List (Look × ℕ)). All (λ (x : Look). x.hi ≤ n) (map (λ (r : Look × ℕ). r.0) l)) (sym none) (λ i d within. absurd (omega (arith, within)))
+no_within : (n : ℕ) (reads : List (ToldRead × ℕ)) → reads ≡ [] → All (λ (x : ToldRead). x.hi ≤ n) (map (λ (r : ToldRead × ℕ). r.0) reads)
+no_within n reads none = subst (λ (l : List (ToldRead × ℕ)). All (λ (x : ToldRead). x.hi ≤ n) (map (λ (r : ToldRead × ℕ). r.0) l)) (sym none) (λ i d within. absurd (omega (arith, within)))
 
 -- ---- all together
 
-module _ (log : Log) (rows : ℕ) (text : List ℕ) (told : List Told) (behind : List ℕ) (gone : List GoneTree) (points : List ℕ)
+module _ (log : Log) (rows : ℕ) (text : List ℕ) (told : List ToldLine) (behind : List ℕ) (gone : List GoneTree) (points : List ℕ)
     (told_by : IsToldBy log text told behind) (to : HaveGoneTo log rows told behind gone []) (count : length gone ≡ length (trees_of log.lines)) where
   abbrev trees : List History
   trees = map (history_by rows) gone
@@ -298,16 +290,16 @@ module _ (log : Log) (rows : ℕ) (text : List ℕ) (told : List Told) (behind :
       subst IsLegal g.2 (own_legal log.version rows told tree g.0 (has_gone tree g.0 g.1))))
 
   -- the tree of a line
-  tree_of : (place : ℕ) (t : Told) → slice_get told place ≡ Some t → (g : GoneTree) × (slice_get gone t.tree ≡ Some g) × (history_by rows g ≡ history_in trees t.tree)
+  tree_of : (place : ℕ) (t : ToldLine) → slice_get told place ≡ Some t → (g : GoneTree) × (slice_get gone t.tree ≡ Some g) × (history_by rows g ≡ history_in trees t.tree)
   tree_of place t is =
-      let below : t.tree < length (trees_of log.lines) = all_at (λ (x : Told). x.tree < length (trees_of log.lines)) told place t told_by.trees is in
+      let below : t.tree < length (trees_of log.lines) = all_at (λ (x : ToldLine). x.tree < length (trees_of log.lines)) told place t told_by.trees is in
       let g = some_at gone t.tree (omega (arith, below, count)) in
       (g.0, g.1, sym (history_at trees t.tree (history_by rows g.0) (mapped (history_by rows) gone t.tree g.0 g.1)))
 
   all_lines : All (IsRightLine log.version trees told) told
   all_lines = all_by (IsRightLine log.version trees told) told (λ place t is.
       (let g = tree_of place t is in
-      let below : t.tree < length (trees_of log.lines) = all_at (λ (x : Told). x.tree < length (trees_of log.lines)) told place t told_by.trees is in
+      let below : t.tree < length (trees_of log.lines) = all_at (λ (x : ToldLine). x.tree < length (trees_of log.lines)) told place t told_by.trees is in
       record {
         tree = omega (arith, below, many);
         right = subst (λ (h : History). IsRightCall log.version h (calls_lower told t.tree t.phase) t.what) g.2 (line_right log.version rows told t.tree g.0 (has_gone t.tree g.0 g.1) place t t.what is refl refl);
@@ -326,17 +318,17 @@ module _ (log : Log) (rows : ℕ) (text : List ℕ) (told : List Told) (behind :
         | inl below ↦
             let l = lane_of log.version rows told tree g.0 (has_gone tree g.0 g.1) lane below in
             subst (λ (x : History). AreLeastOf (map_at x) (own_looks tree lane told points) (own_points tree lane told points)) g.2 (own_least log.version rows told tree g.0 (has_gone tree g.0 g.1) lane l.0 points l.1 (own tree lane g.0 l.0 g.1 l.1))
-        | inr high ↦ no_least (map_at h) (reads_told tree lane told points) (no_reads tree lane told points high (recursion_from_All (λ (t : Told). t.lane < most_lanes) told told_by.lanes))
+        | inr high ↦ no_least (map_at h) (reads_told tree lane told points) (no_reads tree lane told points high (recursion_from_All (λ (t : ToldLine). t.lane < most_lanes) told told_by.lanes))
       ]
 
-  all_within : All (EndsInTree told) told → (tree lane : ℕ) (h : History) → slice_get trees tree ≡ Some h → All (λ (x : Look). x.hi ≤ length h.records) (own_looks tree lane told points)
+  all_within : All (EndsInTree told) told → (tree lane : ℕ) (h : History) → slice_get trees tree ≡ Some h → All (λ (x : ToldRead). x.hi ≤ length h.records) (own_looks tree lane told points)
   all_within ends tree lane h is =
       let g = from_mapped (history_by rows) gone tree h is in
       elim (cases_lt lane most_lanes) [
         | inl below ↦
             let l = lane_of log.version rows told tree g.0 (has_gone tree g.0 g.1) lane below in
-            subst (λ (y : History). All (λ (x : Look). x.hi ≤ length y.records) (own_looks tree lane told points)) g.2 (own_within log.version rows told tree g.0 (has_gone tree g.0 g.1) lane l.0 points l.1 ends)
-        | inr high ↦ no_within (length h.records) (reads_told tree lane told points) (no_reads tree lane told points high (recursion_from_All (λ (t : Told). t.lane < most_lanes) told told_by.lanes))
+            subst (λ (y : History). All (λ (x : ToldRead). x.hi ≤ length y.records) (own_looks tree lane told points)) g.2 (own_within log.version rows told tree g.0 (has_gone tree g.0 g.1) lane l.0 points l.1 ends)
+        | inr high ↦ no_within (length h.records) (reads_told tree lane told points) (no_reads tree lane told points high (recursion_from_All (λ (t : ToldLine). t.lane < most_lanes) told told_by.lanes))
       ]
 
   pub all_found : AllPairs InPrintedOrder told → All (EndsInTree told) told → length points ≡ reads_count told

@@ -1,5 +1,5 @@
 -- Where each lane's reads on each tree have the first numbers that do for the lane by itself, all reads of a run have.
-use Rattle.mt_verify.proofs.Prelude.{[], ◌≡◌, ℕ, zero, suc, ◌+◌, ◌<◌, ◌≤◌, ◌==◌, true, List, ◌∷◌, ◌++◌, Option, Some, None, length, get_or, slice_get, refl, sym, ap, ◌∙◌, subst, inl, inr, arith, cons_option, cases_Bool, eq-eqb, eqb-true, get_or_append_left, get_or_at, length-append, filter_map-append, slice_get_within, same_Some, History, map_at, get_parts, Log, Transcript, Outcome, Called, Looked, Counted, Step, IsRunBy, StandsIn, is_read, shown, Look, AreFirst, look_of, by_lane, looks_on, points_on, LanesArePicked, floor_at, IsFirstPoint, point_of, lo_of, read_number, at_place, TellsAt, IsTrueAt, KnowsAt}
+use Rattle.mt_verify.proofs.Prelude.{[], ◌≡◌, ℕ, zero, suc, ◌+◌, ◌<◌, ◌≤◌, ◌==◌, true, List, ◌∷◌, ◌++◌, Option, Some, None, length, get_or, slice_get, refl, sym, ap, ◌∙◌, subst, inl, inr, arith, cons_option, cases_Bool, eq-eqb, eqb-true, get_or_append_left, get_or_at, length-append, filter_map-append, slice_get_within, same_Some, History, map_at, get_parts, Log, Transcript, Outcome, Called, Looked, Counted, Step, IsRunBy, StandsIn, is_read, shown, ToldRead, AreFirst, look_of, by_lane, looks_on, points_on, LanesArePicked, floor_at, IsFirstPoint, point_of, lo_of, read_number, at_place, TellsAt, IsTrueAt, KnowsAt}
 use Rattle.mt_verify.proofs.CopiedKinds.{still_there}
 use Rattle.mt_verify.proofs.Runs.{all_at, some_at, placed}
 
@@ -68,7 +68,7 @@ both_none tree lane s is = elim (cases_Bool (s.tree == tree)) [
     none (Looked lo hi k q v) told = absurd (cc)
     none (Counted said ranges) told = refl
 
-pub both_some : (tree lane : ℕ) (s : Step) (l : Look) → by_lane look_of tree lane s ≡ Some l → (k : ℕ) × (by_lane point_of tree lane s ≡ Some k)
+pub both_some : (tree lane : ℕ) (s : Step) (l : ToldRead) → by_lane look_of tree lane s ≡ Some l → (k : ℕ) × (by_lane point_of tree lane s ≡ Some k)
 both_some tree lane s l is =
     let own = own_of look_of tree lane s l is in
     let k = some s.outcome own.is in
@@ -114,14 +114,14 @@ module _ (log : Log) (rows : ℕ) (t : Transcript) (steps : List Step) (trees : 
       let parts = get_parts steps i s is in
       let front : List Step = parts.0 in
       let back : List Step = parts.1 in
-      let look : Look = record { lo = lo; hi = hi; query = q; told = shown q v } in
+      let look : ToldRead = record { lo = lo; hi = hi; query = q; told = shown q v } in
       let looks : looks_on s.tree s.lane steps ≡ looks_on s.tree s.lane front ++ look ∷ looks_on s.tree s.lane back =
-      ap (looks_on s.tree s.lane) parts.2 ∙ (filter_map-append (by_lane look_of s.tree s.lane) front (s ∷ back) ∙ ap (λ (o : Option Look). looks_on s.tree s.lane front ++ cons_option o (looks_on s.tree s.lane back)) (own_step look_of s ∙ ap look_of same)) in
+      ap (looks_on s.tree s.lane) parts.2 ∙ (filter_map-append (by_lane look_of s.tree s.lane) front (s ∷ back) ∙ ap (λ (o : Option ToldRead). looks_on s.tree s.lane front ++ cons_option o (looks_on s.tree s.lane back)) (own_step look_of s ∙ ap look_of same)) in
       let points : points_on s.tree s.lane steps ≡ points_on s.tree s.lane front ++ k ∷ points_on s.tree s.lane back =
       ap (points_on s.tree s.lane) parts.2 ∙ (filter_map-append (by_lane point_of s.tree s.lane) front (s ∷ back) ∙ ap (λ (o : Option ℕ). points_on s.tree s.lane front ++ cons_option o (points_on s.tree s.lane back)) (own_step point_of s ∙ ap point_of same)) in
       let p : ℕ = length (points_on s.tree s.lane front) in
       let there : slice_get (looks_on s.tree s.lane steps) p ≡ Some look =
-      ap (λ (ls : List Look). slice_get ls p) looks ∙ (ap (slice_get (looks_on s.tree s.lane front ++ look ∷ looks_on s.tree s.lane back)) (sym (as_many s.tree s.lane front)) ∙ get_mid (looks_on s.tree s.lane front) look (looks_on s.tree s.lane back)) in
+      ap (λ (ls : List ToldRead). slice_get ls p) looks ∙ (ap (slice_get (looks_on s.tree s.lane front ++ look ∷ looks_on s.tree s.lane back)) (sym (as_many s.tree s.lane front)) ∙ get_mid (looks_on s.tree s.lane front) look (looks_on s.tree s.lane back)) in
       let number : get_or (points_on s.tree s.lane steps) p 0 ≡ k = ap (λ (ps : List ℕ). get_or ps p 0) points ∙ get_or_at (points_on s.tree s.lane front) k (points_on s.tree s.lane back) 0 p refl in
       let long : length (points_on s.tree s.lane steps) ≡ p + suc (length (points_on s.tree s.lane back)) = ap length points ∙ length-append (points_on s.tree s.lane front) (k ∷ points_on s.tree s.lane back) in
       let one : IsFirstPoint (map_at h.0) (floor_at (points_on s.tree s.lane steps) p) look (get_or (points_on s.tree s.lane steps) p 0) = (picked s.tree s.lane h.0 h.1).each p look (omega arith) there in

@@ -1,5 +1,5 @@
 -- In every run that is told so the trees are those that were gone through: where that goes no further, there is no run.
-use Rattle.mt_verify.proofs.Prelude.{◌≡◌, ℕ, zero, suc, ◌<◌, ◌≤◌, List, [], ◌∷◌, ◌++◌, Some, length, drop, slice_get, refl, sym, ap, ◌∙◌, subst, arith, flat_map, append_assoc, take_all, same_Some, slice_get_within, Kind, Range, History, last_map, map_at, most_rows, Log, Listing, Transcript, IsRunBy, OpensAs, Step, listings_of, listing_text, Declared, Opening, Empty, CopyOf, trees_of, Told, HaveGoneTo, IsGoneTree, IsToldRun, OpensGone, listing_by, listings_by, CannotGo, GoneTree, gone_map, AreHeard, map_of_noted, CopiesEarlier}
+use Rattle.mt_verify.proofs.Prelude.{◌≡◌, ℕ, zero, suc, ◌<◌, ◌≤◌, List, [], ◌∷◌, ◌++◌, Some, length, drop, slice_get, refl, sym, ap, ◌∙◌, subst, arith, flat_map, append_assoc, take_all, same_Some, slice_get_within, Kind, Range, History, last_map, map_at, most_rows, Log, Listing, Transcript, IsRunBy, OpensAs, Step, listings_of, listing_text, Declared, Opening, Empty, CopyOf, trees_of, ToldLine, HaveGoneTo, IsGoneTree, IsToldRun, OpensGone, listing_by, listings_by, CannotGo, GoneTree, gone_map, AreHeard, map_of_noted, CopiesEarlier}
 use Rattle.mt_verify.specs.ToldReads.{calls_of_phases_before as calls_before_told}
 use Rattle.mt_verify.proofs.Answered.{heard_maps}
 use Rattle.mt_verify.proofs.OwnStops.{as_many_noted}
@@ -50,7 +50,7 @@ split_listings (d ∷ declared) (h ∷ trees) (g ∷ gone) same many enough =
     (λ k. listing_text (head k) ++ rest k)
     ∙ sym (append_assoc (listing_text (listing_by d g)) (flat_map listing_text (listings_by declared gone)) (flat_map listing_text (listings_of (drop (length gone) declared) (drop (length gone) trees))))
 
-module _ (log : Log) (rows : ℕ) (told : List Told) (behind : List ℕ) (gone : List GoneTree) (rest : List ℕ) (to : HaveGoneTo log rows told behind gone rest) (few : rows ≤ most_rows) (earlier : CopiesEarlier (trees_of log.lines))
+module _ (log : Log) (rows : ℕ) (told : List ToldLine) (behind : List ℕ) (gone : List GoneTree) (rest : List ℕ) (to : HaveGoneTo log rows told behind gone rest) (few : rows ≤ most_rows) (earlier : CopiesEarlier (trees_of log.lines))
     (t : Transcript) (steps : List Step) (trees : List History) (is : IsToldRun log rows told behind t steps trees) where
   run : IsRunBy log rows t steps trees
   run = is.run

@@ -1,17 +1,17 @@
 -- Calls of a tree that are told, each once, in the order of their numbers.
-use Rattle.mt_verify.proofs.Prelude.{◌≡◌, ℕ, zero, suc, ◌+◌, ◌<◌, List, [], ◌∷◌, ◌++◌, Option, Some, None, length, map, get_or, take, drop, Contains, IsPermutation, arith, refl, sym, ap, ◌∙◌, subst, inl, inr, cons_option, enumerate_from, length-map, take-append-drop, take_more, drop_more, append-nil, filter_map-append, length-enumerate_from, IsPermutation-sym, IsPermutation-trans, IsPermutation-cons, IsPermutation-to_front, length_permutation, Told, Numbered, AreCallsOf, HasNoPlace, calls_told, filled_from, numbered_on_told, times_numbered}
+use Rattle.mt_verify.proofs.Prelude.{◌≡◌, ℕ, zero, suc, ◌+◌, ◌<◌, List, [], ◌∷◌, ◌++◌, Option, Some, None, length, map, get_or, take, drop, Contains, IsPermutation, arith, refl, sym, ap, ◌∙◌, subst, inl, inr, cons_option, enumerate_from, length-map, take-append-drop, take_more, drop_more, append-nil, filter_map-append, length-enumerate_from, IsPermutation-sym, IsPermutation-trans, IsPermutation-cons, IsPermutation-to_front, length_permutation, ToldLine, Numbered, AreCallsOf, HasNoPlace, calls_told, filled_from, numbered_on_told, times_numbered}
 use Rattle.mt_verify.proofs.Placed.{filled_all, times-append, times-permutation, times_below, times_behind, times_free, times_once, times_taken, times_yes}
 
 -- ---- the calls that lines tell, one line after another
 
-module _ (tree : ℕ) (told : List Told) (i : ℕ) (d : Told) (within : i < length told) where
+module _ (tree : ℕ) (told : List ToldLine) (i : ℕ) (d : ToldLine) (within : i < length told) where
   calls_more : calls_told tree (take (i + 1) told) ≡ calls_told tree (take i told) ++ cons_option (numbered_on_told tree (get_or told i d)) []
   calls_more = ap (calls_told tree) (take_more told i d within) ∙ filter_map-append (numbered_on_told tree) (take i told) (get_or told i d ∷ [])
 
   calls_split : calls_told tree told ≡ calls_told tree (take i told) ++ cons_option (numbered_on_told tree (get_or told i d)) (calls_told tree (drop (i + 1) told))
   calls_split =
       ap (calls_told tree) (sym (take-append-drop i told)) ∙ (filter_map-append (numbered_on_told tree) (take i told) (drop i told)
-      ∙ ap (λ (rest : List Told). calls_told tree (take i told) ++ calls_told tree rest) (drop_more told i d within))
+      ∙ ap (λ (rest : List ToldLine). calls_told tree (take i told) ++ calls_told tree rest) (drop_more told i d within))
 
   pub call_less : numbered_on_told tree (get_or told i d) ≡ None → (placed : List (ℕ × Numbered)) → IsPermutation placed (calls_told tree (take i told)) → IsPermutation placed (calls_told tree (take (i + 1) told))
   call_less none placed are =
@@ -35,7 +35,7 @@ module _ (tree : ℕ) (told : List Told) (i : ℕ) (d : Told) (within : i < leng
 
 -- ---- calls in the order of their numbers
 
-module _ (tree : ℕ) (told : List Told) (list : List Numbered) (are : AreCallsOf tree told list) where
+module _ (tree : ℕ) (told : List ToldLine) (list : List Numbered) (are : AreCallsOf tree told list) where
   times_listed : (number : ℕ) → times_numbered number (calls_told tree told) ≡ times_numbered number (filled_from 1 (map Some list))
   times_listed number = times-permutation number (enumerate_from 1 list) (calls_told tree told) are ∙ ap (times_numbered number) (sym (filled_all 1 list))
 
@@ -43,7 +43,7 @@ module _ (tree : ℕ) (told : List Told) (list : List Numbered) (are : AreCallsO
   as_many = length_permutation (enumerate_from 1 list) (calls_told tree told) are ∙ length-enumerate_from 1 list
 
   -- a call whose number has no place is not one of them
-  pub none_without_place : (i number : ℕ) (d : Told) (call : Numbered) (places : List (Option Numbered)) → i < length told → numbered_on_told tree (get_or told i d) ≡ Some (number, call)
+  pub none_without_place : (i number : ℕ) (d : ToldLine) (call : Numbered) (places : List (Option Numbered)) → i < length told → numbered_on_told tree (get_or told i d) ≡ Some (number, call)
       → IsPermutation (filled_from 1 places) (calls_told tree (take i told)) → length list ≡ length places → HasNoPlace number places → ⊥
   none_without_place i number d call places within is placed long lacks =
       let with = times_with tree told i d within number call is in

@@ -1,6 +1,6 @@
 -- The steps of a run, put together from what a text tells, from the histories of its trees and from numbers for its
 -- reads; and when what is told is right.
-use Rattle.mt_verify.proofs.Prelude.{◌≡◌, ℕ, ◌+◌, ◌-◌, ◌<◌, ◌≤◌, ◌==◌, true, List, [], ◌∷◌, Option, Some, None, length, option_map, slice_get, unwrap_or, if◌then◌else◌, decimal, AllByRecursion, Reply, answer, Record, History, map_at, Outcome, Called, Looked, Counted, Step, shown, reply_text, Told, What, Wrote, Got, Copied, Lawful, Look, IsTrueOn, calls_of_phases_before, number_for, numbers_behind}
+use Rattle.mt_verify.proofs.Prelude.{◌≡◌, ℕ, ◌+◌, ◌-◌, ◌<◌, ◌≤◌, ◌==◌, true, List, [], ◌∷◌, Option, Some, None, length, option_map, slice_get, unwrap_or, if◌then◌else◌, decimal, AllByRecursion, Reply, answer, Record, History, map_at, Outcome, Called, Looked, Counted, Step, shown, reply_text, ToldLine, What, Wrote, Got, Copied, Lawful, ToldRead, IsTrueOn, calls_of_phases_before, number_for, numbers_behind}
 use Rattle.mt_base.specs.declared.kinds.Kind.TheVariants as kinds
 use Rattle.mt_base.specs.declared.replies.Reply.TheVariants as replies
 use Rattle.mt_log.specs.declared.transcripts.Said.TheVariants as said
@@ -22,7 +22,7 @@ abbrev pub history_in : List History → ℕ → History
 history_in trees tree =
     unwrap_or (slice_get trees tree) (record { kind = kinds.Range; rows = 0; opening = []; records = [] })
 
-abbrev pub step_in : List History → List Told → ℕ → Told → Step
+abbrev pub step_in : List History → List ToldLine → ℕ → ToldLine → Step
 step_in trees all k t =
     record {
       line = t.line;
@@ -33,7 +33,7 @@ step_in trees all k t =
     }
 
 -- the steps that are told so, where these are the numbers of the reads
-abbrev pub filled : List History → List Told → List Told → List ℕ → List Step
+abbrev pub filled : List History → List ToldLine → List ToldLine → List ℕ → List Step
 filled trees all [] points = []
 filled trees all (t ∷ told) points =
     step_in trees all (number_for t.what points) t ∷ filled trees all told (numbers_behind t.what points)
@@ -46,7 +46,7 @@ numbered_by h lane (Got lo hi query told) = None
 numbered_by h lane (Copied count) = None
 numbered_by h lane (Lawful count) = None
 
-abbrev pub numbered_in : History → ℕ → Told → Option (ℕ × Record)
+abbrev pub numbered_in : History → ℕ → ToldLine → Option (ℕ × Record)
 numbered_in h tree t = if t.tree == tree then numbered_by h t.lane t.what else None
 
 -- The reply is printed so; the read's window ends in the history, and what it was told is what is true after k calls,
@@ -64,14 +64,14 @@ HasNumber (Got lo hi query told) [] = ⊥
 HasNumber what points = Unit {0}
 
 -- these lines are right, with just these numbers for their reads
-abbrev pub AreRight : ℕ → List History → List Told → List Told → List ℕ → Type 0
+abbrev pub AreRight : ℕ → List History → List ToldLine → List ToldLine → List ℕ → Type 0
 AreRight version trees all [] points = points ≡ []
 AreRight version trees all (t ∷ told) points = HasNumber t.what points × (t.tree < length trees)
     × IsRight version (history_in trees t.tree) (calls_of_phases_before all t.tree t.phase) (number_for t.what points) t.what
     × AreRight version trees all told (numbers_behind t.what points)
 
 -- a read of the history: its window ends in it and holds the number, at which it is true
-pub record IsReadOn (h : History) (read : Look × ℕ) : Type 0 where
+pub record IsReadOn (h : History) (read : ToldRead × ℕ) : Type 0 where
   pub from : read.0.lo ≤ read.1
   pub to : read.1 ≤ read.0.hi
   pub within : read.0.hi ≤ length h.records
@@ -79,7 +79,7 @@ pub record IsReadOn (h : History) (read : Look × ℕ) : Type 0 where
 
 -- of two reads of a lane the later has no lower number, and its window begins no more than one below that of the
 -- earlier
-pub record ReadsRise (r s : Look × ℕ) : Type 0 where
+pub record ReadsRise (r s : ToldRead × ℕ) : Type 0 where
   pub rise : r.1 ≤ s.1
   pub floor : r.1 ≤ s.0.lo + 1
 
@@ -98,5 +98,5 @@ EndsIn (Wrote number call reply) what = Unit {0}
 EndsIn (Copied count) what = Unit {0}
 EndsIn (Lawful count) what = Unit {0}
 
-abbrev pub EndsBefore : Told → Told → Type 0
+abbrev pub EndsBefore : ToldLine → ToldLine → Type 0
 EndsBefore s t = s.tree ≡ t.tree → s.phase < t.phase → EndsIn s.what t.what

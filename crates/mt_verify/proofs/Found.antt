@@ -1,15 +1,15 @@
 -- What is found of a text that tells a run: histories of the log's trees, and numbers of the reads.
-use Rattle.mt_verify.proofs.Prelude.{◌≡◌, ◌≢◌, ℕ, ◌<◌, ◌≤◌, ◌==◌, ◌&&◌, Bool, true, List, [], Option, Some, None, All, AllPairs, IfSome, IsPermutation, length, map, nat_le, slice_get, AllByRecursion, enumerate_from, filter_map, list_any, Holder, History, IsLegal, map_at, holder_of, Log, Declared, Opening, Empty, CopyOf, trees_of, Told, What, Wrote, Got, Copied, Lawful, calls_of_phases_before, is_got, reads_count, reads_told, own_points, Look, AreLeastOf, InPrintedOrder}
+use Rattle.mt_verify.proofs.Prelude.{◌≡◌, ◌≢◌, ℕ, ◌<◌, ◌≤◌, ◌==◌, ◌&&◌, Bool, true, List, [], Option, Some, None, All, AllPairs, IfSome, IsPermutation, length, map, nat_le, slice_get, AllByRecursion, enumerate_from, filter_map, list_any, Holder, History, IsLegal, map_at, holder_of, Log, Declared, Opening, Empty, CopyOf, trees_of, ToldLine, What, Wrote, Got, Copied, Lawful, calls_of_phases_before, is_got, reads_count, reads_told, own_points, ToldRead, AreLeastOf, InPrintedOrder}
 use Rattle.mt_verify.proofs.Filled.{EachLater, IsReadOn, IsRight, ReadsRise, history_in, numbered_in, reply_in}
 
 -- how a history opens: empty, or with the map of another tree after the calls that are told of earlier phases
-abbrev pub OpensTold : List Told → List History → Opening → History → Type 0
+abbrev pub OpensTold : List ToldLine → List History → Opening → History → Type 0
 OpensTold told trees Empty h = h.opening ≡ []
 OpensTold told trees (CopyOf tree phase) h = (source : History) × (slice_get trees tree ≡ Some source)
     × (h.kind ≡ source.kind) × (h.opening ≡ map_at source (calls_of_phases_before told tree phase))
 
 -- it is the history of a tree that is declared so
-pub record IsOpened (told : List Told) (trees : List History) (d : Declared) (h : History) : Type 0 where
+pub record IsOpened (told : List ToldLine) (trees : List History) (d : Declared) (h : History) : Type 0 where
   pub kind : h.kind ≡ d.tree.kind
   pub opening : OpensTold told trees d.opening h
 
@@ -20,25 +20,25 @@ IsRightCall version h before (Got lo hi query told) = Unit {0}
 IsRightCall version h before (Copied count) = IsRight version h before 0 (Copied count)
 IsRightCall version h before (Lawful count) = IsRight version h before 0 (Lawful count)
 
-pub record IsRightLine (version : ℕ) (trees : List History) (all : List Told) (t : Told) : Type 0 where
+pub record IsRightLine (version : ℕ) (trees : List History) (all : List ToldLine) (t : ToldLine) : Type 0 where
   pub tree : t.tree < length trees
   pub right : IsRightCall version (history_in trees t.tree) (calls_of_phases_before all t.tree t.phase) t.what
 
 -- each lane's reads on each tree are reads of its history, and keep the order of their numbers
-abbrev pub AllReadsOn : List History → List Told → List ℕ → Type 0
+abbrev pub AllReadsOn : List History → List ToldLine → List ℕ → Type 0
 AllReadsOn trees told points = (tree lane : ℕ) → tree < length trees
     → AllByRecursion (IsReadOn (history_in trees tree)) (reads_told tree lane told points)
 
-abbrev pub AllReadsRise : List History → List Told → List ℕ → Type 0
+abbrev pub AllReadsRise : List History → List ToldLine → List ℕ → Type 0
 AllReadsRise trees told points = (tree lane : ℕ) → tree < length trees
     → EachLater ReadsRise (reads_told tree lane told points)
 
 -- what a lane is told of its reads on a tree, and their numbers
-abbrev pub own_looks : ℕ → ℕ → List Told → List ℕ → List Look
-own_looks tree lane told points = map (λ (r : Look × ℕ). r.0) (reads_told tree lane told points)
+abbrev pub own_looks : ℕ → ℕ → List ToldLine → List ℕ → List ToldRead
+own_looks tree lane told points = map (λ (r : ToldRead × ℕ). r.0) (reads_told tree lane told points)
 
 -- this lane has read the line's tree in a phase that is not later
-abbrev pub is_told_read : ℕ → Told → Told → Bool
+abbrev pub is_told_read : ℕ → ToldLine → ToldLine → Bool
 is_told_read lane t r = (r.lane == lane) && ((r.tree == t.tree) && (nat_le r.phase t.phase && is_got r.what))
 
 -- who holds rows by what the call was answered
@@ -49,12 +49,12 @@ holder_told h (Copied count) = None
 holder_told h (Lawful count) = None
 
 -- where rows were held, another lane held them, which read this tree in a phase that was not later
-abbrev pub IsHeldTold : List Told → List History → Told → Type 0
+abbrev pub IsHeldTold : List ToldLine → List History → ToldLine → Type 0
 IsHeldTold told trees t =
     IfSome (holder_told (history_in trees t.tree) t.what)
     (λ holder. (holder.pass ≢ t.lane) × (list_any (is_told_read holder.pass t) told ≡ true))
 
-pub record IsFound (log : Log) (rows : ℕ) (told : List Told) (trees : List History) (points : List ℕ) : Type 0 where
+pub record IsFound (log : Log) (rows : ℕ) (told : List ToldLine) (trees : List History) (points : List ℕ) : Type 0 where
   -- each declared tree has a history, from its opening map, and so many rows, in which its calls stand by their numbers
   pub count : length trees ≡ length (trees_of log.lines)
   pub opened : (tree : ℕ) (d : Declared) (h : History) → slice_get (trees_of log.lines) tree ≡ Some d

@@ -1,5 +1,5 @@
 -- What is found of a text makes a run of it.
-use Rattle.mt_verify.proofs.Prelude.{◌≡◌, ◌≢◌, ℕ, zero, suc, ◌+◌, ◌-◌, ◌<◌, ◌≤◌, ◌==◌, true, List, [], ◌∷◌, Option, Some, None, length, map, slice_get, get_or, refl, sym, ap, ◌∙◌, subst, inl, inr, arith, IfSome, All, AllPairs, AllByRecursion, Contains, enumerate_from, filter_map, list_any, cons_option, IsPermutation, cases_Bool, eqb-true, same_Some, slice_get_cases, get_or_from_slice_get, slice_get-get_or, All-from_recursion, recursion_from_All, Contains-get_or, length-enumerate_from, get_or-enumerate_from, Contains-permutation, Clear, Query, Ok, Answer, Holder, all_map, Record, History, map_at, Log, Transcript, Step, IsHeldRightly, IsRunBy, IsTrueOf, Opens, OpensAs, StandsIn, InOrder, calls_before, entry_of, holder_in, is_read, is_read_by, listings_of, numbered_on, AreDone, steps_of, Declared, IsReadable, Opening, Empty, CopyOf, trees_of, Told, What, Wrote, Got, Copied, Lawful, AreTold, IsTold, calls_of_phases_before, is_got, number_for, numbers_behind, reads_told, Look, ArePicked, LanesArePicked, points_on, AreUpTo, lo_of, read_number, points_of}
+use Rattle.mt_verify.proofs.Prelude.{◌≡◌, ◌≢◌, ℕ, zero, suc, ◌+◌, ◌-◌, ◌<◌, ◌≤◌, ◌==◌, true, List, [], ◌∷◌, Option, Some, None, length, map, slice_get, get_or, refl, sym, ap, ◌∙◌, subst, inl, inr, arith, IfSome, All, AllPairs, AllByRecursion, Contains, enumerate_from, filter_map, list_any, cons_option, IsPermutation, cases_Bool, eqb-true, same_Some, slice_get_cases, get_or_from_slice_get, slice_get-get_or, All-from_recursion, recursion_from_All, Contains-get_or, length-enumerate_from, get_or-enumerate_from, Contains-permutation, Clear, Query, Ok, Answer, Holder, all_map, Record, History, map_at, Log, Transcript, Step, IsHeldRightly, IsRunBy, IsTrueOf, Opens, OpensAs, StandsIn, InOrder, calls_before, entry_of, holder_in, is_read, is_read_by, listings_of, numbered_on, AreDone, steps_of, Declared, IsReadable, Opening, Empty, CopyOf, trees_of, ToldLine, What, Wrote, Got, Copied, Lawful, AreTold, IsTold, calls_of_phases_before, is_got, number_for, numbers_behind, reads_told, ToldRead, ArePicked, LanesArePicked, points_on, AreUpTo, lo_of, read_number, points_of}
 use Rattle.mt_verify.specs.Windows as windows
 use Rattle.mt_verify.proofs.Filled.{AreRight, IsRight, EachLater, EndsBefore, EndsIn, filled, history_in, numbered_by, numbered_in, outcome_in, step_in}
 use Rattle.mt_verify.proofs.Found.{AllReadsOn, AllReadsRise, IsFound, own_looks, IsHeldTold, IsOpened, IsRightLine, OpensTold, holder_told, is_told_read}
@@ -23,7 +23,7 @@ some_history trees tree within = elim (slice_get_cases trees tree).1 [
   | inr past ↦ absurd (omega (arith, past.0))
 ]
 
-opens : (told : List Told) (trees : List History) (steps : List Step) (d : Declared) (h : History) → ((tree phase : ℕ) → calls_before steps tree phase ≡ calls_of_phases_before told tree phase) → IsOpened told trees d h → Opens steps trees d h
+opens : (told : List ToldLine) (trees : List History) (steps : List Step) (d : Declared) (h : History) → ((tree phase : ℕ) → calls_before steps tree phase ≡ calls_of_phases_before told tree phase) → IsOpened told trees d h → Opens steps trees d h
 opens told trees steps d h same is = record { kind = is.kind; opening = opens_as d.opening is.opening }
   where
     opens_as : (o : Opening) → OpensTold told trees o h → OpensAs steps trees o h
@@ -39,16 +39,16 @@ called_by h lane number r (Copied count) is = absurd (cc)
 called_by h lane number r (Lawful count) is = absurd (cc)
 
 -- where a list of such items has one, some line has it
-behind : (told : List Told) (t : Told) (tree number : ℕ) → IsCalled told tree number → IsCalled (t ∷ told) tree number
+behind : (told : List ToldLine) (t : ToldLine) (tree number : ℕ) → IsCalled told tree number → IsCalled (t ∷ told) tree number
 behind told t tree number c = record { place = suc c.place; told_so = c.told_so; is = c.is; on = c.on; calls = c.calls }
 
-line_here : (h : History) (tree number : ℕ) (r : Record) (t : Told) (told : List Told) → t.tree ≡ tree → ((j : ℕ) → slice_get (filter_map (numbered_in h tree) told) j ≡ Some (number, r) → IsCalled told tree number)
+line_here : (h : History) (tree number : ℕ) (r : Record) (t : ToldLine) (told : List ToldLine) → t.tree ≡ tree → ((j : ℕ) → slice_get (filter_map (numbered_in h tree) told) j ≡ Some (number, r) → IsCalled told tree number)
     → (item : Option (ℕ × Record)) → numbered_by h t.lane t.what ≡ item → (i : ℕ) → slice_get (cons_option item (filter_map (numbered_in h tree) told)) i ≡ Some (number, r) → IsCalled (t ∷ told) tree number
 line_here h tree number r t told here rest None none i at = behind told t tree number (rest i at)
 line_here h tree number r t told here rest (Some x) has zero at = record { place = 0; told_so = t; is = refl; on = here; calls = called_by h t.lane number r t.what (has ∙ at) }
 line_here h tree number r t told here rest (Some x) has (suc i) at = behind told t tree number (rest i at)
 
-pub has_line : (h : History) (tree number i : ℕ) (r : Record) (told : List Told) → slice_get (filter_map (numbered_in h tree) told) i ≡ Some (number, r) → IsCalled told tree number
+pub has_line : (h : History) (tree number i : ℕ) (r : Record) (told : List ToldLine) → slice_get (filter_map (numbered_in h tree) told) i ≡ Some (number, r) → IsCalled told tree number
 has_line h tree number i r [] is = absurd (cc)
 has_line h tree number i r (t ∷ told) is = elim (cases_Bool (t.tree == tree)) [
   | inr other ↦
@@ -60,7 +60,7 @@ has_line h tree number i r (t ∷ told) is = elim (cases_Bool (t.tree == tree)) 
 ]
 
 -- each number of a history is that of a call that is told
-each_is_called : (told : List Told) (tree : ℕ) (h : History) → IsPermutation (enumerate_from 1 h.records) (filter_map (numbered_in h tree) told) → (n : ℕ) → 1 ≤ n → n ≤ length h.records → IsCalled told tree n
+each_is_called : (told : List ToldLine) (tree : ℕ) (h : History) → IsPermutation (enumerate_from 1 h.records) (filter_map (numbered_in h tree) told) → (n : ℕ) → 1 ≤ n → n ≤ length h.records → IsCalled told tree n
 each_is_called told tree h once n low high =
     let d : ℕ × Record = (0, record { pass = 0; call = Clear; reply = Ok }) in
     let i : ℕ = n - 1 in
@@ -78,16 +78,16 @@ each_is_called told tree h once n low high =
 -- ---- reads of lower phases end before
 
 -- the window of a read ends in its tree's history
-within_at : (version : ℕ) (trees : List History) (all told : List Told) (points : List ℕ) (i : ℕ) (s : Told) (lo hi : ℕ) (q : Query) (a : Answer) → AreRight version trees all told points → slice_get told i ≡ Some s → s.what ≡ Got lo hi q a → hi ≤ length (history_in trees s.tree).records
+within_at : (version : ℕ) (trees : List History) (all told : List ToldLine) (points : List ℕ) (i : ℕ) (s : ToldLine) (lo hi : ℕ) (q : Query) (a : Answer) → AreRight version trees all told points → slice_get told i ≡ Some s → s.what ≡ Got lo hi q a → hi ≤ length (history_in trees s.tree).records
 within_at version trees all [] points i s lo hi q a right is what = absurd (cc)
 within_at version trees all (t ∷ told) points (suc i) s lo hi q a right is what = within_at version trees all told (numbers_behind t.what points) i s lo hi q a right.3 is what
 within_at version trees all (t ∷ told) points zero s lo hi q a right is what =
     let same : t ≡ s = same_Some t s is in
-    let got : t.what ≡ Got lo hi q a = ap (λ (x : Told). x.what) same ∙ what in
+    let got : t.what ≡ Got lo hi q a = ap (λ (x : ToldLine). x.what) same ∙ what in
     let read = subst (λ (w : What). IsRight version (history_in trees t.tree) (calls_of_phases_before all t.tree t.phase) (number_for t.what points) w) got right.2 in
-    subst (λ (x : Told). hi ≤ length (history_in trees x.tree).records) same read.2
+    subst (λ (x : ToldLine). hi ≤ length (history_in trees x.tree).records) same read.2
 
-module _ (log : Log) (rows : ℕ) (told : List Told) (trees : List History) (points : List ℕ) (found : IsFound log rows told trees points) where
+module _ (log : Log) (rows : ℕ) (told : List ToldLine) (trees : List History) (points : List ℕ) (found : IsFound log rows told trees points) where
   each_on : AllReadsOn trees told points
   each_on tree lane within = let some = some_history trees tree within in least_reads (history_in trees tree) (reads_told tree lane told points) (found.least tree lane (history_in trees tree) some) (found.within tree lane (history_in trees tree) some)
 
@@ -97,7 +97,7 @@ module _ (log : Log) (rows : ℕ) (told : List Told) (trees : List History) (poi
   pub each_right : AreRight log.version trees told told points
   each_right = lines_right log.version trees told told points (recursion_from_All _ told found.lines) each_on found.numbered
 
-  ends_by : (i j : ℕ) (s t : Told) (w w' : What) → slice_get told i ≡ Some s → slice_get told j ≡ Some t → s.what ≡ w → t.what ≡ w' → s.tree ≡ t.tree → s.phase < t.phase → EndsIn w w'
+  ends_by : (i j : ℕ) (s t : ToldLine) (w w' : What) → slice_get told i ≡ Some s → slice_get told j ≡ Some t → s.what ≡ w → t.what ≡ w' → s.tree ≡ t.tree → s.phase < t.phase → EndsIn w w'
   ends_by i j s t (Wrote number call reply) w' is at what what' tree lower = tt
   ends_by i j s t (Copied count) w' is at what what' tree lower = tt
   ends_by i j s t (Lawful count) w' is at what what' tree lower = tt
@@ -143,10 +143,10 @@ module _ (log : Log) (rows : ℕ) (told : List Told) (trees : List History) (poi
   -- ---- holders
 
   -- whether a lane reads the tree is told of it
-  read_told : (lane : ℕ) (s : Step) (t r : Told) (q : Step) → IsTold log.version t s → IsTold log.version r q → is_read q.outcome ≡ is_got r.what → is_read_by lane s q ≡ is_told_read lane t r
+  read_told : (lane : ℕ) (s : Step) (t r : ToldLine) (q : Step) → IsTold log.version t s → IsTold log.version r q → is_read q.outcome ≡ is_got r.what → is_read_by lane s q ≡ is_told_read lane t r
   read_told lane s t r q told told' same = rw (told'.lane, told'.tree, told.tree, told'.phase, told.phase, same) refl
 
-  any_told : (lane : ℕ) (s : Step) (t : Told) → IsTold log.version t s → (some : List Told) (points : List ℕ) → AreTold log.version some (filled trees told some points) → list_any (is_read_by lane s) (filled trees told some points) ≡ list_any (is_told_read lane t) some
+  any_told : (lane : ℕ) (s : Step) (t : ToldLine) → IsTold log.version t s → (some : List ToldLine) (points : List ℕ) → AreTold log.version some (filled trees told some points) → list_any (is_read_by lane s) (filled trees told some points) ≡ list_any (is_told_read lane t) some
   any_told lane s t is [] points are = refl
   any_told lane s t is (r ∷ some) points are =
       let q : Step = step_in trees told (number_for r.what points) r in
@@ -160,7 +160,7 @@ module _ (log : Log) (rows : ℕ) (told : List Told) (trees : List History) (poi
   holder_is h before k (Copied count) = refl
   holder_is h before k (Lawful count) = refl
 
-  held_by : (t : Told) (k : ℕ) → IsTold log.version t (step_in trees told k t) → IsHeldTold told trees t → IsHeldRightly steps (step_in trees told k t)
+  held_by : (t : ToldLine) (k : ℕ) → IsTold log.version t (step_in trees told k t) → IsHeldTold told trees t → IsHeldRightly steps (step_in trees told k t)
   held_by t k is held =
       subst (λ (o : Option Holder). IfSome o (λ holder. (holder.pass ≢ t.lane) × (list_any (is_read_by holder.pass (step_in trees told k t)) steps ≡ true))) (sym (holder_is (history_in trees t.tree) (calls_of_phases_before told t.tree t.phase) k t.what))
       (if_some_map (holder_told (history_in trees t.tree) t.what) (λ holder both. (both.0, any_told holder.pass (step_in trees told k t) t is told points are_told ∙ both.1)) held)
@@ -169,7 +169,7 @@ module _ (log : Log) (rows : ℕ) (told : List Told) (trees : List History) (poi
       if_some_map None f is = tt
       if_some_map (Some x) f is = f x is
 
-  each_held : (some : List Told) (points : List ℕ) → AreTold log.version some (filled trees told some points) → AllByRecursion (IsHeldTold told trees) some → AllByRecursion (IsHeldRightly steps) (filled trees told some points)
+  each_held : (some : List ToldLine) (points : List ℕ) → AreTold log.version some (filled trees told some points) → AllByRecursion (IsHeldTold told trees) some → AllByRecursion (IsHeldRightly steps) (filled trees told some points)
   each_held [] points are held = tt
   each_held (t ∷ some) points are held = (held_by t (number_for t.what points) are.0 held.0, each_held some (numbers_behind t.what points) are.1 held.1)
 
@@ -200,7 +200,7 @@ module _ (log : Log) (rows : ℕ) (told : List Told) (trees : List History) (poi
 
   picked : LanesArePicked steps trees
   picked tree lane h is =
-      subst (λ (l : List Look). ArePicked (map_at h) l (points_on tree lane steps)) (sym (filled_looks log.version trees told told points tree lane each_right))
+      subst (λ (l : List ToldRead). ArePicked (map_at h) l (points_on tree lane steps)) (sym (filled_looks log.version trees told told points tree lane each_right))
       (subst (ArePicked (map_at h) (own_looks tree lane told points)) (sym (filled_points trees told told points tree lane)) (found.least tree lane h is).picked)
 
   -- the points of the run are these, and no other run that is told so has lower ones

@@ -1,5 +1,5 @@
 -- What is found of a text is the verdict on it.
-use Rattle.mt_verify.proofs.Prelude.{◌≡◌, ℕ, List, [], ◌++◌, length, map, get_or, sym, ap, ◌∙◌, subst, arith, IsPermutation, All, AllPairs, enumerate_from, flat_map, filter_map, append-nil, length-enumerate_from, length_permutation, History, Record, Log, Transcript, Outcome, Called, Looked, Counted, Step, IsRun, IsRunBy, IsTrueOf, calls_before, entry_of, listings_of, numbered_on, entry_text, listing_text, text_of, IsReadable, trees_of, Told, none_told, only_told, printed_told, AreTold, IsSmall, IsToldBy, TellsNone, spelling_of, HaveGoneTo, IsToldRun, NoneIsTold, listings_by, GoneTree, AreLeastPoints, AreUpTo, EndsInTree, InPrintedOrder}
+use Rattle.mt_verify.proofs.Prelude.{◌≡◌, ℕ, List, [], ◌++◌, length, map, get_or, sym, ap, ◌∙◌, subst, arith, IsPermutation, All, AllPairs, enumerate_from, flat_map, filter_map, append-nil, length-enumerate_from, length_permutation, History, Record, Log, Transcript, Outcome, Called, Looked, Counted, Step, IsRun, IsRunBy, IsTrueOf, calls_before, entry_of, listings_of, numbered_on, entry_text, listing_text, text_of, IsReadable, trees_of, ToldLine, none_told, only_told, printed_told, AreTold, IsSmall, IsToldBy, TellsNone, spelling_of, HaveGoneTo, IsToldRun, NoneIsTold, listings_by, GoneTree, AreLeastPoints, AreUpTo, EndsInTree, InPrintedOrder}
 use Rattle.mt_verify.specs.Windows as of_steps
 use Rattle.mt_verify.proofs.AllFound.{history_by, listings_are}
 use Rattle.mt_verify.proofs.Filled.{filled}
@@ -34,7 +34,7 @@ module _ (log : Log) (rows : ℕ) (text : List ℕ) (small : (t : Transcript) (s
       let run = is.2 in
       none_told log text is.0 (flat_map listing_text t.lists) none run.asked (small t is.0 is.1 run) (printed ∙ printed_so t is.0 run.version run.told)
 
-  module _ (told : List Told) (behind : List ℕ) (told_by : IsToldBy log text told behind) where
+  module _ (told : List ToldLine) (behind : List ℕ) (told_by : IsToldBy log text told behind) where
     told_run : (t : Transcript) (steps : List Step) (trees : List History) → text ≡ text_of t → IsRunBy log rows t steps trees → IsToldRun log rows told behind t steps trees
     told_run t steps trees printed run =
         let only = only_told log text steps (flat_map listing_text t.lists) told behind told_by run.asked (small t steps trees run) (printed ∙ printed_so t steps run.version run.told) in

@@ -1,5 +1,5 @@
 -- The tree of a log that comes next is gone through, behind those that were.
-use Rattle.mt_verify.proofs.Prelude.{◌≡◌, ℕ, ◌<◌, List, [], ◌∷◌, ◌++◌, Some, length, take, slice_get, refl, sym, ap, ◌∙◌, subst, inl, inr, arith, flat_map, flat_map-append, append-nil, append_assoc, same_Some, slice_get_within, Kind, Range, IsMap, Contents, Log, Listing, listing_text, Declared, Opening, Empty, CopyOf, trees_of, Told, HaveGoneTo, IsGoneTree, NoneIsTold, OpensGone, listing_by, listings_by, calls_of_phases_before, CannotGo, GoneTree, IsGoneFrom, OpensAsMap, just_opened, IsOfLog}
+use Rattle.mt_verify.proofs.Prelude.{◌≡◌, ℕ, ◌<◌, List, [], ◌∷◌, ◌++◌, Some, length, take, slice_get, refl, sym, ap, ◌∙◌, subst, inl, inr, arith, flat_map, flat_map-append, append-nil, append_assoc, same_Some, slice_get_within, Kind, Range, IsMap, Contents, Log, Listing, listing_text, Declared, Opening, Empty, CopyOf, trees_of, ToldLine, HaveGoneTo, IsGoneTree, NoneIsTold, OpensGone, listing_by, listings_by, calls_of_phases_before, CannotGo, GoneTree, IsGoneFrom, OpensAsMap, just_opened, IsOfLog}
 use Rattle.mt_verify.proofs.AllRefused.{ends_so, next_goes, next_listed, none_left}
 use Rattle.mt_verify.proofs.CopiedKinds.{copies_are_alike, still_there}
 use Rattle.mt_verify.proofs.CopiedTrees.{copies_are_earlier, split_get}
@@ -19,20 +19,20 @@ listings_more (e ∷ declared) [] d g at = first declared ∙ ap (λ (x : Declar
 listings_more (e ∷ declared) (x ∷ gone) d g at = ap (λ l. listing_by e x ∷ l) (listings_more declared gone d g at)
 
 -- how a tree opens by more trees
-opens_still : (told : List Told) (gone : List GoneTree) (more : List GoneTree) (o : Opening) (g : GoneTree) → OpensGone told gone o g → OpensGone told (gone ++ more) o g
+opens_still : (told : List ToldLine) (gone : List GoneTree) (more : List GoneTree) (o : Opening) (g : GoneTree) → OpensGone told gone o g → OpensGone told (gone ++ more) o g
 opens_still told gone more Empty g is = is
 opens_still told gone more (CopyOf tree phase) g is = (is.0, still_there gone more tree is.0 is.1, is.2, is.3)
 
-gone_still : (version rows : ℕ) (told : List Told) (gone more : List GoneTree) (tree : ℕ) (d : Declared) (g : GoneTree) → IsGoneTree version rows told gone tree d g → IsGoneTree version rows told (gone ++ more) tree d g
+gone_still : (version rows : ℕ) (told : List ToldLine) (gone more : List GoneTree) (tree : ℕ) (d : Declared) (g : GoneTree) → IsGoneTree version rows told gone tree d g → IsGoneTree version rows told (gone ++ more) tree d g
 gone_still version rows told gone more tree d g is = record { kind = is.kind; opening = opens_still told gone more d.opening g is.opening; has = is.has }
 
 -- a tree opens as another one of its kind with its map does
-opens_like : (told : List Told) (gone : List GoneTree) (o : Opening) (f g : GoneTree) → g.kind ≡ f.kind → g.opening ≡ f.opening → OpensGone told gone o f → OpensGone told gone o g
+opens_like : (told : List ToldLine) (gone : List GoneTree) (o : Opening) (f g : GoneTree) → g.kind ≡ f.kind → g.opening ≡ f.opening → OpensGone told gone o f → OpensGone told gone o g
 opens_like told gone Empty f g kind opening is = opening ∙ is
 opens_like told gone (CopyOf tree phase) f g kind opening is = (is.0, is.1, kind ∙ is.2, opening ∙ is.3)
 
 -- before the first tree
-pub starts : (log : Log) (rows : ℕ) (told : List Told) (behind : List ℕ) → HaveGoneTo log rows told behind [] behind
+pub starts : (log : Log) (rows : ℕ) (told : List ToldLine) (behind : List ℕ) → HaveGoneTo log rows told behind [] behind
 starts log rows told behind = record {
   each = λ tree d g of at. absurd (cc);
   listed = ap (λ (l : List Listing). flat_map listing_text l ++ behind) (sym (nothing (trees_of log.lines)));
@@ -43,7 +43,7 @@ starts log rows told behind = record {
     nothing [] = refl
     nothing (d ∷ declared) = refl
 
-module _ (log : Log) (rows : ℕ) (told : List Told) (behind : List ℕ) (gone : List GoneTree) (rest : List ℕ) (case : IsOfLog log rows told) (to : HaveGoneTo log rows told behind gone rest) where
+module _ (log : Log) (rows : ℕ) (told : List ToldLine) (behind : List ℕ) (gone : List GoneTree) (rest : List ℕ) (case : IsOfLog log rows told) (to : HaveGoneTo log rows told behind gone rest) where
   -- behind the last tree
   pub nothing_behind : length gone ≡ length (trees_of log.lines) → (rest ≡ [] → ⊥) → NoneIsTold log rows told behind
   nothing_behind all some t steps trees is = some (none_left log rows told behind gone rest to case.few_rows (copies_are_earlier log.lines case.readable) t steps trees is all)

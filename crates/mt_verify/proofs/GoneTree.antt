@@ -1,11 +1,11 @@
 -- What a tree comes to that was gone through, put together.
-use Rattle.mt_verify.proofs.Prelude.{◌≡◌, ◌⊎◌, ℕ, zero, suc, List, [], ◌∷◌, ◌++◌, length, take, false, true, refl, sym, ap, ◌∙◌, subst, inr, arith, enumerate_from, length-enumerate_from, length_permutation, Contents, Told, Numbered, Noted, Stop, AreAnswered, AllStopped, IsGone, IsLastMap, Lane, SomeHasNone, looks_of, CannotGo, GoneTree, IsGoneFrom, lane_looks, AreNotedOf, map_of_noted, lines_on, stops_told, Passing, SomeMiscounted, AreCallsOf, calls_told}
+use Rattle.mt_verify.proofs.Prelude.{◌≡◌, ◌⊎◌, ℕ, zero, suc, List, [], ◌∷◌, ◌++◌, length, take, false, true, refl, sym, ap, ◌∙◌, subst, inr, arith, enumerate_from, length-enumerate_from, length_permutation, Contents, ToldLine, Numbered, Noted, Stop, AreAnswered, AllStopped, IsGone, IsLastMap, Lane, SomeHasNone, looks_of, CannotGo, GoneTree, IsGoneFrom, lane_looks, AreNotedOf, map_of_noted, lines_on, stops_told, Passing, SomeMiscounted, AreCallsOf, calls_told}
 use Rattle.mt_verify.proofs.OwnStops.{as_many_noted}
 
-pub many_noted : (told : List Told) (tree : ℕ) (calls : List Numbered) (noted : List Noted) → AreCallsOf tree told calls → AreNotedOf told tree calls noted → length noted ≡ length (calls_told tree told)
+pub many_noted : (told : List ToldLine) (tree : ℕ) (calls : List Numbered) (noted : List Noted) → AreCallsOf tree told calls → AreNotedOf told tree calls noted → length noted ≡ length (calls_told tree told)
 many_noted told tree calls noted are heard = omega (arith, as_many_noted told tree calls noted heard, length-enumerate_from 1 calls, length_permutation (enumerate_from 1 calls) (calls_told tree told) are)
 
-module _ (version rows : ℕ) (told : List Told) (tree : ℕ) (from to : Contents) (calls : List Numbered) (noted : List Noted) (before lanes : List Lane) (old new : Passing)
+module _ (version rows : ℕ) (told : List ToldLine) (tree : ℕ) (from to : Contents) (calls : List Numbered) (noted : List Noted) (before lanes : List Lane) (old new : Passing)
     (are : AreCallsOf tree told calls) (heard : AreNotedOf told tree calls noted) (given : looks_of before ≡ lane_looks tree told) (same : looks_of lanes ≡ looks_of before)
     (told_stops : old.stops ≡ stops_told (lines_on tree told)) (same_stops : new.stops ≡ old.stops) where
   pub hindered_by : IsGone from.kind version rows from.ranges noted lanes new false → CannotGo version rows told tree from.kind from.ranges

@@ -1,5 +1,5 @@
 -- The calls of a history stand by their numbers as they are told.
-use Rattle.mt_verify.proofs.Prelude.{◌≡◌, ℕ, zero, suc, ◌+◌, ◌<◌, List, [], ◌∷◌, Some, length, slice_get, get_or, refl, sym, ap, ◌∙◌, subst, arith, Contains, enumerate_from, filter_map, IsPermutation, same_Some, slice_get_within, get_or_from_slice_get, slice_get-get_or, Contains-get_or, length-enumerate_from, get_or-enumerate_from, Contains-permutation, IsPermutation-sym, length_permutation, Record, Step, numbered_on, reply_text, Told, Numbered, AreCallsOf, AreRecordsTold, IsRecordTold, calls_told}
+use Rattle.mt_verify.proofs.Prelude.{◌≡◌, ℕ, zero, suc, ◌+◌, ◌<◌, List, [], ◌∷◌, Some, length, slice_get, get_or, refl, sym, ap, ◌∙◌, subst, arith, Contains, enumerate_from, filter_map, IsPermutation, same_Some, slice_get_within, get_or_from_slice_get, slice_get-get_or, Contains-get_or, length-enumerate_from, get_or-enumerate_from, Contains-permutation, IsPermutation-sym, length_permutation, Record, Step, numbered_on, reply_text, ToldLine, Numbered, AreCallsOf, AreRecordsTold, IsRecordTold, calls_told}
 use Rattle.mt_verify.proofs.ToldSteps.{as_many_told}
 
 -- ---- places
@@ -34,7 +34,7 @@ told_at version (x ∷ calls) [] i e are is = absurd are
 told_at version (x ∷ calls) (r ∷ records) zero e are is = (r, refl, subst (λ (y : ℕ × Numbered). IsRecordTold version y r) (same_Some x e is) are.0)
 told_at version (x ∷ calls) (r ∷ records) (suc i) e are is = told_at version calls records i e are.1 is
 
-module _ (version tree : ℕ) (told : List Told) (steps : List Step) (numbered : List Numbered) (records : List Record)
+module _ (version tree : ℕ) (told : List ToldLine) (steps : List Step) (numbered : List Numbered) (records : List Record)
     (calls : AreCallsOf tree told numbered) (once : IsPermutation (enumerate_from 1 records) (filter_map (numbered_on tree) steps)) (are : AreRecordsTold version (calls_told tree told) (filter_map (numbered_on tree) steps)) where
   pub as_many_records : length records ≡ length numbered
   as_many_records = omega (

@@ -1,5 +1,5 @@
 -- All lanes go through the maps of a tree.
-use Rattle.mt_verify.proofs.Prelude.{◌≡◌, ◌≢◌, ℕ, zero, suc, ◌+◌, ◌<◌, ◌≤◌, true, List, [], ◌∷◌, Option, Some, None, length, slice_get, slice_set, refl, sym, ap, ◌∙◌, subst, inl, inr, arith, option_map, cases_lt, fold_more, slice_get_within, slice_get-map, none-some, same_Some, get_or_from_slice_get, Kind, Range, Contents, Look, Noted, map_after_noted, map_of_noted, ArePickedBelow, IsStuck, Lane, opened_of, IsAnsweredAt, AreAnswered, AreOn, SomeStuck, looks_of, AllLeast, SomeHasNone, AreWithin, SomeWaits, AreLanesDone, AreFresh}
+use Rattle.mt_verify.proofs.Prelude.{◌≡◌, ◌≢◌, ℕ, zero, suc, ◌+◌, ◌<◌, ◌≤◌, true, List, [], ◌∷◌, Option, Some, None, length, slice_get, slice_set, refl, sym, ap, ◌∙◌, subst, inl, inr, arith, option_map, cases_lt, fold_more, slice_get_within, slice_get-map, none-some, same_Some, get_or_from_slice_get, Kind, Range, Contents, ToldRead, Noted, map_after_noted, map_of_noted, ArePickedBelow, IsStuck, Lane, opened_of, IsAnsweredAt, AreAnswered, AreOn, SomeStuck, looks_of, AllLeast, SomeHasNone, AreWithin, SomeWaits, AreLanesDone, AreFresh}
 use Rattle.mt_log.proofs.PlacesSet.{set_here, set_there}
 use Rattle.mt_verify.proofs.LeastNumbers.{picked_is_least, stuck_has_none}
 
@@ -13,8 +13,8 @@ pub looks_stay : (lanes : List Lane) (i : ℕ) (t t' : Lane) → slice_get lanes
 looks_stay [] i t t' is same = refl
 looks_stay (u ∷ lanes) zero t t' is same =
     let one : u ≡ t = same_Some u t is in
-    ap (λ (ls : List Look). ls ∷ looks_of lanes) (same ∙ ap (λ (x : Lane). x.looks) (sym one))
-looks_stay (u ∷ lanes) (suc i) t t' is same = ap (λ (rest : List (List Look)). u.looks ∷ rest) (looks_stay lanes i t t' is same)
+    ap (λ (ls : List ToldRead). ls ∷ looks_of lanes) (same ∙ ap (λ (x : Lane). x.looks) (sym one))
+looks_stay (u ∷ lanes) (suc i) t t' is same = ap (λ (rest : List (List ToldRead)). u.looks ∷ rest) (looks_stay lanes i t t' is same)
 
 -- ---- all lanes go through a number
 
@@ -34,14 +34,14 @@ module _ (m : ℕ → List Range) (number i : ℕ) (lanes : List Lane) (t t' : L
         | inr above ↦
             (let here : j ≡ i = omega arith in
             let one : u ≡ t' = same_Some u t' (sym at ∙ (ap (slice_get (slice_set lanes i t')) here ∙ set_here lanes i t t' is)) in
-            subst (λ (x : Lane). ArePickedBelow m (number + 1) (number + 1) x.looks x.points) (sym one) (subst (λ (ls : List Look). ArePickedBelow m (number + 1) (number + 1) ls t'.points) (sym same) on))
+            subst (λ (x : Lane). ArePickedBelow m (number + 1) (number + 1) x.looks x.points) (sym one) (subst (λ (ls : List ToldRead). ArePickedBelow m (number + 1) (number + 1) ls t'.points) (sym same) on))
       ]
 
       rest : (j : ℕ) (u : Lane) → i + 1 ≤ j → slice_get (slice_set lanes i t') j ≡ Some u → ArePickedBelow m number number u.looks u.points
       rest j u above at = let apart : j ≢ i = omega arith in going.rest j u (omega arith) (sym (set_there lanes i j t' apart) ∙ at)
 
   pub stuck_there : IsStuck m t.looks t'.points → SomeStuck m (slice_set lanes i t')
-  stuck_there stuck = record { place = i; lane = t'; is = set_here lanes i t t' is; stuck = subst (λ (ls : List Look). IsStuck m ls t'.points) (sym same) stuck }
+  stuck_there stuck = record { place = i; lane = t'; is = set_here lanes i t t' is; stuck = subst (λ (ls : List ToldRead). IsStuck m ls t'.points) (sym same) stuck }
 
 -- ---- the maps of a tree
 
@@ -102,7 +102,7 @@ module _ (kind : Kind) (version rows : ℕ) (opening : List Range) (noted : List
       less : {a b : ℕ} → a ≤ b → (a ≡ b → ⊥) → a < b
       less le apart = omega arith
 
-      some_look : (looks : List Look) (i : ℕ) → i < length looks → (l : Look) × (slice_get looks i ≡ Some l)
+      some_look : (looks : List ToldRead) (i : ℕ) → i < length looks → (l : ToldRead) × (slice_get looks i ≡ Some l)
       some_look [] i below = absurd (omega arith)
       some_look (l ∷ looks) zero below = (l, refl)
       some_look (l ∷ looks) (suc i) below = some_look looks i (omega arith)
@@ -121,11 +121,11 @@ pub record AllGoOn (number : ℕ) (map : Contents) (before : List Lane) (map' : 
 -- windows are those of the looks
 pub within_still : (count : ℕ) (before lanes : List Lane) → looks_of lanes ≡ looks_of before → AreWithin count before → AreWithin count lanes
 within_still count before lanes same within j t i l is at =
-    let told : slice_get (looks_of before) j ≡ Some t.looks = ap (λ (xs : List (List Look)). slice_get xs j) (sym same) ∙ (slice_get-map (λ (x : Lane). x.looks) lanes j ∙ ap (option_map (λ (x : Lane). x.looks)) is) in
+    let told : slice_get (looks_of before) j ≡ Some t.looks = ap (λ (xs : List (List ToldRead)). slice_get xs j) (sym same) ∙ (slice_get-map (λ (x : Lane). x.looks) lanes j ∙ ap (option_map (λ (x : Lane). x.looks)) is) in
     found (slice_get before j) refl (sym (slice_get-map (λ (x : Lane). x.looks) before j) ∙ told)
   where
     found : (o : Option Lane) → slice_get before j ≡ o → option_map (λ (x : Lane). x.looks) (slice_get before j) ≡ Some t.looks → l.hi ≤ count
     found None was told = absurd (none-some t.looks (sym (ap (option_map (λ (x : Lane). x.looks)) was) ∙ told))
     found (Some u) was told =
         let same_looks : u.looks ≡ t.looks = same_Some u.looks t.looks (sym (ap (option_map (λ (x : Lane). x.looks)) was) ∙ told) in
-        within j u i l was (ap (λ (ls : List Look). slice_get ls i) same_looks ∙ at)
+        within j u i l was (ap (λ (ls : List ToldRead). slice_get ls i) same_looks ∙ at)

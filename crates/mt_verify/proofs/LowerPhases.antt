@@ -1,6 +1,6 @@
 -- A read of a lower phase ends where no read of a higher phase begins below it: between them would stand a call that the one of
 -- them should know of.
-use Rattle.mt_verify.proofs.Prelude.{◌≡◌, ℕ, ◌+◌, ◌<◌, ◌≤◌, List, Some, slice_get, refl, sym, ap, ◌∙◌, subst, inl, inr, arith, AllPairs, cases_lt, Query, Answer, Told, What, Wrote, Got, Copied, Lawful, InPrintedOrder, KeepsTo}
+use Rattle.mt_verify.proofs.Prelude.{◌≡◌, ℕ, ◌+◌, ◌<◌, ◌≤◌, List, Some, slice_get, refl, sym, ap, ◌∙◌, subst, inl, inr, arith, AllPairs, cases_lt, Query, Answer, ToldLine, What, Wrote, Got, Copied, Lawful, InPrintedOrder, KeepsTo}
 use Rattle.mt_verify.proofs.Runs.{pairs_at}
 
 abbrev pub call_of : What → ℕ
@@ -10,36 +10,36 @@ call_of (Copied count) = 0
 call_of (Lawful count) = 0
 
 -- a call of this number is told on the tree
-pub record IsCalled (told : List Told) (tree number : ℕ) : Type 0 where
+pub record IsCalled (told : List ToldLine) (tree number : ℕ) : Type 0 where
   pub place : ℕ
-  pub told_so : Told
+  pub told_so : ToldLine
   pub is : slice_get told place ≡ Some told_so
   pub on : told_so.tree ≡ tree
   pub calls : call_of told_so.what ≡ number
 
 -- a read at this place, with its window
-pub record IsReadAt (told : List Told) (tree place phase lo hi : ℕ) : Type 0 where
-  pub told_so : Told
+pub record IsReadAt (told : List ToldLine) (tree place phase lo hi : ℕ) : Type 0 where
+  pub told_so : ToldLine
   pub is : slice_get told place ≡ Some told_so
   pub on : told_so.tree ≡ tree
   pub in_phase : told_so.phase ≡ phase
   pub reads : (w : What) → (KeepsTo w told_so.what → 1 ≤ call_of w → call_of w ≤ lo) × (KeepsTo told_so.what w → 1 ≤ call_of w → hi < call_of w)
 
-same_place : (told : List Told) (i j : ℕ) (s t : Told) → slice_get told i ≡ Some s → slice_get told j ≡ Some t → s.phase < t.phase → AllPairs (λ (a : Told) (b : Told). a.phase ≤ b.phase) told → i < j
+same_place : (told : List ToldLine) (i j : ℕ) (s t : ToldLine) → slice_get told i ≡ Some s → slice_get told j ≡ Some t → s.phase < t.phase → AllPairs (λ (a : ToldLine) (b : ToldLine). a.phase ≤ b.phase) told → i < j
 same_place told i j s t is at lower rising = elim (cases_lt i j) [
   | inl before ↦ before
   | inr behind ↦
       elim (cases_lt j i) [
-        | inl after ↦ let le : t.phase ≤ s.phase = pairs_at (λ (a : Told) (b : Told). a.phase ≤ b.phase) told j i t s rising after at is in absurd (omega (arith, le, lower))
+        | inl after ↦ let le : t.phase ≤ s.phase = pairs_at (λ (a : ToldLine) (b : ToldLine). a.phase ≤ b.phase) told j i t s rising after at is in absurd (omega (arith, le, lower))
         | inr both ↦
             let e : i ≡ j = omega (arith, behind, both) in
             let same : Some s ≡ Some t = sym is ∙ (ap (slice_get told) e ∙ at) in
             let one : s ≡ t = cc in
-            absurd (omega (arith, lower, ap (λ (x : Told). x.phase) one))
+            absurd (omega (arith, lower, ap (λ (x : ToldLine). x.phase) one))
       ]
 ]
 
-pub ends_before : (told : List Told) (tree count i j lo hi lo' hi' phase phase' : ℕ) → AllPairs InPrintedOrder told → AllPairs (λ (a : Told) (b : Told). a.phase ≤ b.phase) told → ((n : ℕ) → 1 ≤ n → n ≤ count → IsCalled told tree n)
+pub ends_before : (told : List ToldLine) (tree count i j lo hi lo' hi' phase phase' : ℕ) → AllPairs InPrintedOrder told → AllPairs (λ (a : ToldLine) (b : ToldLine). a.phase ≤ b.phase) told → ((n : ℕ) → 1 ≤ n → n ≤ count → IsCalled told tree n)
     → IsReadAt told tree i phase lo hi → IsReadAt told tree j phase' lo' hi' → phase < phase' → hi ≤ count → hi ≤ lo'
 ends_before told tree count i j lo hi lo' hi' phase phase' order rising calls r s lower within = elim (cases_lt lo' hi) [
   | inr le ↦ le
@@ -62,7 +62,7 @@ ends_before told tree count i j lo hi lo' hi' phase phase' order rising calls r 
 ]
 
 -- a read that is told is a read at its place
-pub read_at : (told : List Told) (tree place : ℕ) (t : Told) (lo hi : ℕ) (query : Query) (answer : Answer) → slice_get told place ≡ Some t → t.tree ≡ tree → t.what ≡ Got lo hi query answer → IsReadAt told tree place t.phase lo hi
+pub read_at : (told : List ToldLine) (tree place : ℕ) (t : ToldLine) (lo hi : ℕ) (query : Query) (answer : Answer) → slice_get told place ≡ Some t → t.tree ≡ tree → t.what ≡ Got lo hi query answer → IsReadAt told tree place t.phase lo hi
 read_at told tree place t lo hi query answer is on got = record {
   told_so = t;
   is = is;

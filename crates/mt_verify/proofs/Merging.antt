@@ -1,11 +1,10 @@
 -- The numbers of reads, put together line by line from those of each lane on each tree.
-use Rattle.mt_verify.proofs.Prelude.{◌≡◌, ◌⊎◌, ℕ, suc, ◌+◌, ◌*◌, ◌<◌, ◌==◌, true, false, List, [], ◌∷◌, ◌++◌, Option, Some, None, length, filter, map, replicate, set, slice_get, get_or, take, drop, refl, sym, ap, ◌∙◌, subst, inl, inr, arith, get_or-set_same, get_or-set_other, length-append, drop-cons, cons_option, slice_index, cases_Bool, eqb-false, eqb-true, eq-eqb, append-nil, get_or-replicate, length-map, length-replicate, length-set, take_all, take_more, take-append-drop, filter-append, filter_map-append, length-map-range_with_len, slice_get-get_or, slice_get_within, Told, What, Wrote, Got, Copied, Lawful, Look, is_got, number_for, numbers_behind, read_by, read_in, reads_count, reads_told, own_points, AreLanesDone, Lane, looks_of, GoneTree, lane_looks, look_by, look_told, looks_told, cell_of, points_at, lines_on, looks_by_lane}
+use Rattle.mt_verify.proofs.Prelude.{◌≡◌, ◌⊎◌, ℕ, suc, ◌+◌, ◌*◌, ◌<◌, ◌==◌, true, false, List, [], ◌∷◌, ◌++◌, Option, Some, None, length, filter, map, replicate, set, slice_get, get_or, take, drop, refl, sym, ap, ◌∙◌, subst, inl, inr, arith, get_or-set_same, get_or-set_other, length-append, drop-cons, cons_option, slice_index, cases_Bool, eqb-false, eqb-true, eq-eqb, append-nil, get_or-replicate, length-map, length-replicate, length-set, take_all, take_more, take-append-drop, filter-append, filter_map-append, length-map-range_with_len, slice_get-get_or, slice_get_within, ToldLine, What, Wrote, Got, Copied, Lawful, ToldRead, is_got, number_for, numbers_behind, read_by, read_in, reads_count, reads_told, own_points, AreLanesDone, Lane, looks_of, GoneTree, lane_looks, look_by, look_told, looks_told, cell_of, points_at, lines_on, looks_by_lane, most_lanes}
 use Rattle.mt_base.specs.declared.kinds.Kind.TheVariants as kinds
 use Rattle.mt_verify.proofs.Filled.{HasNumber}
 use Rattle.mt_verify.proofs.FilledReads.{has_number, second_of}
 use Rattle.mt_verify.proofs.OwnLines.{lane_is}
 use Rattle.mt_verify.proofs.RefusedTrees.{lane_at}
-use Rattle.mt_base.specs.Limits.{most_lanes}
 
 -- ---- one line more
 
@@ -16,15 +15,15 @@ number_same (Lawful count) points more has = (refl, refl)
 number_same (Got lo hi query told) [] more has = absurd has
 number_same (Got lo hi query told) (k ∷ points) more has = (refl, refl)
 
-points_over : (read : Option (Look × ℕ)) (all some : List (Look × ℕ)) (more : List ℕ) → map second_of all ≡ map second_of some ++ more → map second_of (cons_option read all) ≡ map second_of (cons_option read some) ++ more
+points_over : (read : Option (ToldRead × ℕ)) (all some : List (ToldRead × ℕ)) (more : List ℕ) → map second_of all ≡ map second_of some ++ more → map second_of (cons_option read all) ≡ map second_of (cons_option read some) ++ more
 points_over None all some more same = same
 points_over (Some r) all some more same = ap (λ (l : List ℕ). r.1 ∷ l) same
 
 -- of a lane's numbers, what the last line adds
-abbrev point_in : ℕ → ℕ → ℕ → Told → List ℕ
+abbrev point_in : ℕ → ℕ → ℕ → ToldLine → List ℕ
 point_in tree lane k t = map second_of (cons_option (read_in tree lane k t) [])
 
-points_more : (tree lane : ℕ) (xs : List Told) (t : Told) (points more : List ℕ) → length points ≡ reads_count xs → own_points tree lane (xs ++ t ∷ []) (points ++ more) ≡ own_points tree lane xs points ++ point_in tree lane (number_for t.what more) t
+points_more : (tree lane : ℕ) (xs : List ToldLine) (t : ToldLine) (points more : List ℕ) → length points ≡ reads_count xs → own_points tree lane (xs ++ t ∷ []) (points ++ more) ≡ own_points tree lane xs points ++ point_in tree lane (number_for t.what more) t
 points_more tree lane [] t [] more count = refl
 points_more tree lane [] t (k ∷ points) more count = absurd (omega (arith, count))
 points_more tree lane (x ∷ xs) t points more count =
@@ -35,11 +34,11 @@ points_more tree lane (x ∷ xs) t points more count =
     ap (λ (n : ℕ). map second_of (cons_option (read_in tree lane n x) (reads_told tree lane (xs ++ t ∷ []) (numbers_behind x.what (points ++ more))))) same.0
     ∙ (ap (λ (l : List ℕ). map second_of (cons_option (read_in tree lane (number_for x.what points) x) (reads_told tree lane (xs ++ t ∷ []) l))) same.1 ∙ over)
 
-looks_more : (tree lane : ℕ) (xs : List Told) (t : Told) → length (looks_told tree lane (xs ++ t ∷ [])) ≡ length (looks_told tree lane xs) + length (looks_told tree lane (t ∷ []))
+looks_more : (tree lane : ℕ) (xs : List ToldLine) (t : ToldLine) → length (looks_told tree lane (xs ++ t ∷ [])) ≡ length (looks_told tree lane xs) + length (looks_told tree lane (t ∷ []))
 looks_more tree lane xs t = ap length (filter_map-append (look_by tree lane) xs (t ∷ [])) ∙ length-append (looks_told tree lane xs) (looks_told tree lane (t ∷ []))
 
-count_more : (xs : List Told) (t : Told) → reads_count (xs ++ t ∷ []) ≡ reads_count xs + reads_count (t ∷ [])
-count_more xs t = ap length (filter-append (λ (u : Told). is_got u.what) xs (t ∷ [])) ∙ length-append (filter (λ (u : Told). is_got u.what) xs) (filter (λ (u : Told). is_got u.what) (t ∷ []))
+count_more : (xs : List ToldLine) (t : ToldLine) → reads_count (xs ++ t ∷ []) ≡ reads_count xs + reads_count (t ∷ [])
+count_more xs t = ap length (filter-append (λ (u : ToldLine). is_got u.what) xs (t ∷ [])) ∙ length-append (filter (λ (u : ToldLine). is_got u.what) xs) (filter (λ (u : ToldLine). is_got u.what) (t ∷ []))
 
 -- what a line adds to a lane on a tree: a read with its number, or nothing
 adds_by : (k : ℕ) (what : What) → is_got what ≡ true → (map second_of (cons_option (read_by what k) []) ≡ k ∷ []) × (length (cons_option (look_told what) []) ≡ 1)
@@ -54,10 +53,10 @@ adds_none_by k (Copied count) other = (refl, refl)
 adds_none_by k (Lawful count) other = (refl, refl)
 adds_none_by k (Got lo hi query told) other = absurd (cc)
 
-adds_one : (tree lane k : ℕ) (t : Told) → (t.tree == tree) ≡ true → (t.lane == lane) ≡ true → is_got t.what ≡ true → (point_in tree lane k t ≡ k ∷ []) × (length (looks_told tree lane (t ∷ [])) ≡ 1)
+adds_one : (tree lane k : ℕ) (t : ToldLine) → (t.tree == tree) ≡ true → (t.lane == lane) ≡ true → is_got t.what ≡ true → (point_in tree lane k t ≡ k ∷ []) × (length (looks_told tree lane (t ∷ [])) ≡ 1)
 adds_one tree lane k t here own got = rw (here, own) (adds_by k t.what got)
 
-adds_none : (tree lane k : ℕ) (t : Told) → is_got t.what ≡ false → (point_in tree lane k t ≡ []) × (length (looks_told tree lane (t ∷ [])) ≡ 0)
+adds_none : (tree lane k : ℕ) (t : ToldLine) → is_got t.what ≡ false → (point_in tree lane k t ≡ []) × (length (looks_told tree lane (t ∷ [])) ≡ 0)
 adds_none tree lane k t other = elim (cases_Bool (t.tree == tree)) [
   | inr off ↦ rw off (refl, refl)
   | inl here ↦
@@ -69,7 +68,7 @@ adds_none tree lane k t other = elim (cases_Bool (t.tree == tree)) [
 
 -- ---- what was put together so far
 
-pub record IsMerged (gone : List GoneTree) (told : List Told) (used points : List ℕ) : Type 0 where
+pub record IsMerged (gone : List GoneTree) (told : List ToldLine) (used points : List ℕ) : Type 0 where
   pub count : length points ≡ reads_count told
   pub cells : length used ≡ length gone * most_lanes
   -- so many of a lane's numbers were used as it has reads so far, and these are its numbers so far
@@ -77,10 +76,10 @@ pub record IsMerged (gone : List GoneTree) (told : List Told) (used points : Lis
   pub own : (tree lane : ℕ) → tree < length gone → lane < most_lanes → own_points tree lane told points ≡ take (length (looks_told tree lane told)) (points_at gone tree lane)
 
 -- each lane has as many numbers as reads
-abbrev pub HaveAll : List GoneTree → List Told → Type 0
+abbrev pub HaveAll : List GoneTree → List ToldLine → Type 0
 HaveAll gone told = (tree lane : ℕ) → tree < length gone → lane < most_lanes → length (points_at gone tree lane) ≡ length (looks_told tree lane told)
 
-pub idle : (gone : List GoneTree) (xs : List Told) (t : Told) (used points : List ℕ) → is_got t.what ≡ false → IsMerged gone xs used points → IsMerged gone (xs ++ t ∷ []) used points
+pub idle : (gone : List GoneTree) (xs : List ToldLine) (t : ToldLine) (used points : List ℕ) → is_got t.what ≡ false → IsMerged gone xs used points → IsMerged gone (xs ++ t ∷ []) used points
 idle gone xs t used points other m = record {
   count = m.count ∙ (sym (count_more xs t ∙ (ap (λ n. reads_count xs + n) none ∙ omega arith)));
   cells = m.cells;
@@ -98,9 +97,9 @@ idle gone xs t used points other m = record {
     same : (tree lane : ℕ) → length (looks_told tree lane (xs ++ t ∷ [])) ≡ length (looks_told tree lane xs)
     same tree lane = looks_more tree lane xs t ∙ (ap (λ n. length (looks_told tree lane xs) + n) (adds_none tree lane 0 t other).1 ∙ omega arith)
 
-pub merged_by : (gone : List GoneTree) (xs ys : List Told) (used used' points points' : List ℕ) → xs ≡ ys → used ≡ used' → points ≡ points' → IsMerged gone xs used points → IsMerged gone ys used' points'
+pub merged_by : (gone : List GoneTree) (xs ys : List ToldLine) (used used' points points' : List ℕ) → xs ≡ ys → used ≡ used' → points ≡ points' → IsMerged gone xs used points → IsMerged gone ys used' points'
 merged_by gone xs ys used used' points points' lines places numbers m =
-    subst (λ (l : List Told). IsMerged gone l used' points') lines (subst (λ (l : List ℕ). IsMerged gone xs l points') places (subst (λ (l : List ℕ). IsMerged gone xs used l) numbers m))
+    subst (λ (l : List ToldLine). IsMerged gone l used' points') lines (subst (λ (l : List ℕ). IsMerged gone xs l points') places (subst (λ (l : List ℕ). IsMerged gone xs used l) numbers m))
 
 pub none_yet : (gone : List GoneTree) → IsMerged gone [] (replicate (length gone * most_lanes) 0) []
 none_yet gone = record {
@@ -111,7 +110,7 @@ none_yet gone = record {
 }
 
 -- the read of this line takes the next number of its lane on its tree
-module _ (gone : List GoneTree) (xs : List Told) (t : Told) (used points : List ℕ) (m : IsMerged gone xs used points) (got : is_got t.what ≡ true) (there : t.tree < length gone) (on : t.lane < most_lanes)
+module _ (gone : List GoneTree) (xs : List ToldLine) (t : ToldLine) (used points : List ℕ) (m : IsMerged gone xs used points) (got : is_got t.what ≡ true) (there : t.tree < length gone) (on : t.lane < most_lanes)
     (room : slice_index used (cell_of t.tree t.lane) < length (points_at gone t.tree t.lane)) where
   abbrev place : ℕ
   place = slice_index used (cell_of t.tree t.lane)
@@ -203,7 +202,7 @@ no_tree = record { kind = kinds.Range; opening = []; noted = []; lanes = [] }
 no_lane : Lane
 no_lane = record { looks = []; points = [] }
 
-module _ (gone : List GoneTree) (told : List Told) (looks : (tree : ℕ) (g : GoneTree) → slice_get gone tree ≡ Some g → looks_of g.lanes ≡ lane_looks tree told) where
+module _ (gone : List GoneTree) (told : List ToldLine) (looks : (tree : ℕ) (g : GoneTree) → slice_get gone tree ≡ Some g → looks_of g.lanes ≡ lane_looks tree told) where
   as_many_lanes : (tree : ℕ) (g : GoneTree) → slice_get gone tree ≡ Some g → length g.lanes ≡ most_lanes
   as_many_lanes tree g is = omega (arith, length-map g.lanes (λ (t : Lane). t.looks), ap length (looks tree g is), length-map-range_with_len (looks_by_lane (lines_on tree told)) 0 most_lanes)
 
@@ -227,17 +226,17 @@ module _ (gone : List GoneTree) (told : List Told) (looks : (tree : ℕ) (g : Go
       m.own tree lane below within ∙ (take_all (length (looks_told tree lane told)) (points_at gone tree lane) (omega (arith, have_all done tree lane below within)) ∙ points_are tree lane g l is at)
 
 -- the line that comes next finds a number of its lane, where it tells a read
-pub has_next : (gone : List GoneTree) (told : List Told) (i : ℕ) (d : Told) (used points : List ℕ) → i < length told → HaveAll gone told → IsMerged gone (take i told) used points → (get_or told i d).tree < length gone → (get_or told i d).lane < most_lanes → is_got (get_or told i d).what ≡ true
+pub has_next : (gone : List GoneTree) (told : List ToldLine) (i : ℕ) (d : ToldLine) (used points : List ℕ) → i < length told → HaveAll gone told → IsMerged gone (take i told) used points → (get_or told i d).tree < length gone → (get_or told i d).lane < most_lanes → is_got (get_or told i d).what ≡ true
     → (cell_of (get_or told i d).tree (get_or told i d).lane < length used) × (slice_index used (cell_of (get_or told i d).tree (get_or told i d).lane) < length (points_at gone (get_or told i d).tree (get_or told i d).lane))
 has_next gone told i d used points before all m there on got =
-    let t : Told = get_or told i d in
-    let parts : take i told ++ t ∷ drop (suc i) told ≡ told = ap (λ (l : List Told). take i told ++ l) (sym (drop-cons told i d before)) ∙ take-append-drop i told in
+    let t : ToldLine = get_or told i d in
+    let parts : take i told ++ t ∷ drop (suc i) told ≡ told = ap (λ (l : List ToldLine). take i told ++ l) (sym (drop-cons told i d before)) ∙ take-append-drop i told in
     let split : length (looks_told t.tree t.lane told) ≡ length (looks_told t.tree t.lane (take i told)) + length (looks_told t.tree t.lane (t ∷ drop (suc i) told)) =
-    ap (λ (l : List Told). length (looks_told t.tree t.lane l)) (sym parts) ∙ (ap length (filter_map-append (look_by t.tree t.lane) (take i told) (t ∷ drop (suc i) told)) ∙ length-append (looks_told t.tree t.lane (take i told)) (looks_told t.tree t.lane (t ∷ drop (suc i) told))) in
+    ap (λ (l : List ToldLine). length (looks_told t.tree t.lane l)) (sym parts) ∙ (ap length (filter_map-append (look_by t.tree t.lane) (take i told) (t ∷ drop (suc i) told)) ∙ length-append (looks_told t.tree t.lane (take i told)) (looks_told t.tree t.lane (t ∷ drop (suc i) told))) in
     let some : 0 < length (looks_told t.tree t.lane (t ∷ drop (suc i) told)) = rw (eq-eqb t.tree t.tree refl, eq-eqb t.lane t.lane refl) (look_first t.what got (looks_told t.tree t.lane (drop (suc i) told))) in
     (omega (arith, m.cells, there, on), omega (arith, m.taken t.tree t.lane there on, all t.tree t.lane there on, split, some))
   where
-    look_first : (what : What) → is_got what ≡ true → (rest : List Look) → 0 < length (cons_option (look_told what) rest)
+    look_first : (what : What) → is_got what ≡ true → (rest : List ToldRead) → 0 < length (cons_option (look_told what) rest)
     look_first (Wrote number call reply) got rest = absurd (cc)
     look_first (Copied count) got rest = absurd (cc)
     look_first (Lawful count) got rest = absurd (cc)

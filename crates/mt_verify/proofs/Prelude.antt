@@ -1,49 +1,12 @@
 -- What the proofs beside this file take from the toolchain, from the crates below and from this crate's definitions, under one name. Declares nothing.
-pub use Rattle.std.proofs.Common.{Bool, Bor, Err, Global, List, MatchOption, None, Option, Result, Some, Vec, [], ap, arith, below_more, codes, cond, drop, drop-cons, false, filter, find, get_or, get_or-set_other, get_or-set_same, inl, inr, length, length-append, map, max, min, nat_le, nat_lt, not, refl, replicate, rules, set, slice_get, slice_set, subst, suc, sym, take, true, zero, ℕ, ◌&&◌, ◌*◌, ◌++◌, ◌+◌, ◌-◌, ◌/◌, ◌<◌, ◌==◌, ◌^◌, ◌||◌, ◌↔◌, ◌∙◌, ◌∷◌, ◌≡◌, ◌≢◌, ◌≤◌, ◌⊎◌}
-pub use Rattle.std.proofs.Math.Seq.{take-nil}
-pub use Rattle.std.proofs.lemmas.Bool.{and_from, and_left, and_parts, and_right, cases_Bool, cases_eq, cases_lt, cond_both, eq-eqb, eqb-false, eqb-true, iff_false, le-leb, le-ltb, leb-true, lt-leb, lt-ltb, ltb-true, or_parts, true≢false}
-pub use Rattle.std.proofs.lemmas.Bool.Decides.{nat_tests}
-pub use Rattle.std.proofs.lemmas.Grind.{flat_map-append}
-pub use Rattle.std.proofs.lemmas.List.{append-nil, append_assoc, drop_more, get_or-drop, get_or-map, get_or-replicate, get_or-take, get_or_append_left, get_or_at, get_or_default, get_or_push, length-drop, length-map, length-replicate, length-set, length-take, length_push, map-append, map-set, same_lists, take-append-drop, take_all, take_more, with_items_is}
-pub use Rattle.std.proofs.lemmas.List.Elements.{All-from_recursion, All-head, All-push, All-tail, Contains-get_or, filter-append, filter_map-append, recursion_from_All}
-pub use Rattle.std.proofs.lemmas.List.FromFn.{get_or-enumerate_from, get_or-map-range_with_len, length-enumerate_from, length-map-range_with_len, map-range_with_len_more}
-pub use Rattle.std.proofs.lemmas.List.Quantifiers.{all_pairs_push}
-pub use Rattle.std.proofs.lemmas.List.Sorted.{All-permutation, Contains-permutation, IsPermutation-cons, IsPermutation-keeps, IsPermutation-map, IsPermutation-refl, IsPermutation-swap, IsPermutation-sym, IsPermutation-to_front, IsPermutation-trans, length_permutation, sum_by-IsPermutation}
-pub use Rattle.std.proofs.lemmas.List.Sums.{fold_more, sum_by-append, sum_by-cons}
-pub use Rattle.std.proofs.lemmas.Option.{get_or_from_slice_get, none-some, same_Some, slice_get-get_or, slice_get-map, slice_get_cases, slice_get_within}
-pub use Rattle.std.specs.Fmt.{decimal}
-pub use Rattle.std.specs.List.{All, AllByRecursion, AllPairs, Contains, cons_option, enumerate_from, filter_map, flat_map, list_any, range_with_len, slice_index, swap}
-pub use Rattle.std.specs.List.Sorted.{IsPermutation}
-pub use Rattle.std.specs.Option.{unwrap_or}
-pub use Rattle.std.specs.Prelude.{IfNone, IfOk, IfSome, IsSome, IsTrue, fold, if◌then◌else◌, is_some, option_map, option_to_list}
+pub use Rattle.std.proofs.Common.{Bool, Bor, Err, Global, IfNone, IfOk, IfSome, IsPermutation, IsSome, IsTrue, List, MatchOption, None, Option, Result, Some, Vec, [], ap, arith, below_more, codes, cond, decimal, drop, drop-cons, false, filter, find, fold, get_or, get_or-set_other, get_or-set_same, if◌then◌else◌, inl, inr, is_some, length, length-append, map, max, min, nat_le, nat_lt, not, option_map, option_to_list, refl, replicate, rules, set, slice_get, slice_set, subst, suc, sym, take, true, unwrap_or, zero, ℕ, ◌&&◌, ◌*◌, ◌++◌, ◌+◌, ◌-◌, ◌/◌, ◌<◌, ◌==◌, ◌^◌, ◌||◌, ◌↔◌, ◌∙◌, ◌∷◌, ◌≡◌, ◌≢◌, ◌≤◌, ◌⊎◌}
+pub use Rattle.mt_base.proofs.Std.{All, All-from_recursion, All-head, All-permutation, All-push, All-tail, AllByRecursion, AllPairs, Contains, Contains-get_or, Contains-permutation, IsPermutation-cons, IsPermutation-keeps, IsPermutation-map, IsPermutation-refl, IsPermutation-swap, IsPermutation-sym, IsPermutation-to_front, IsPermutation-trans, all_pairs_push, and_from, and_left, and_parts, and_right, append-nil, append_assoc, cases_Bool, cases_eq, cases_lt, cond_both, cons_option, drop_more, enumerate_from, eq-eqb, eqb-false, eqb-true, filter-append, filter_map, filter_map-append, flat_map, flat_map-append, fold_more, get_or-drop, get_or-enumerate_from, get_or-map, get_or-map-range_with_len, get_or-replicate, get_or-take, get_or_append_left, get_or_at, get_or_default, get_or_from_slice_get, get_or_push, iff_false, le-leb, le-ltb, leb-true, length-drop, length-enumerate_from, length-map, length-map-range_with_len, length-replicate, length-set, length-take, length_permutation, length_push, list_any, lt-leb, lt-ltb, ltb-true, map-append, map-range_with_len_more, map-set, nat_tests, none-some, or_parts, range_with_len, recursion_from_All, same_Some, same_lists, slice_get-get_or, slice_get-map, slice_get_cases, slice_get_within, slice_index, sum_by-IsPermutation, sum_by-append, sum_by-cons, swap, take-append-drop, take-nil, take_all, take_more, true≢false, with_items_is}
 pub use Rattle.std.specs.Vec.{with_items}
-pub use Rattle.mt_base.proofs.CallsKeepOrder.{acted_is_map, stored_area, valid_order}
-pub use Rattle.mt_base.proofs.FirstMet.{is_held_where_met}
-pub use Rattle.mt_base.proofs.FreeAreas.{high_is_room, low_is_room, part_is_free}
-pub use Rattle.mt_base.proofs.Lists.{all_join, all_map, get_parts}
-pub use Rattle.mt_base.proofs.WidthBounds.{greatest_fits}
-pub use Rattle.mt_base.specs.Call.{erased, found, is_no_area, placed}
-pub use Rattle.mt_base.specs.Entry.{reserved}
-pub use Rattle.mt_base.specs.History.{AreLegalFrom, IsAnswered, IsLegal, last_map, limits_after, map_after, map_by_reply}
-pub use Rattle.mt_base.specs.Holes.{IsRoom}
-pub use Rattle.mt_base.specs.Map.{IsMapFrom, cut_above, cut_below, first_range, holds, last_range, over, overlaps, part_stored, parts_above, parts_below, without}
-pub use Rattle.mt_base.specs.Nodes.{IsShort, Wants, is_exact_store}
-pub use Rattle.mt_base.specs.Passes.{holder_of}
-pub use Rattle.mt_base.specs.Text.{range_text}
-pub use Rattle.mt_base.specs.Width.{greatest_of, kind_width}
-pub use Rattle.mt_base.specs.declared.calls.Query.{Query}
-pub use Rattle.mt_base.specs.declared.calls.Query.TheVariants.{Find, Load, Next, Prev, Rfind}
-pub use Rattle.mt_base.specs.declared.replies.Reply.TheVariants.{Ok}
+pub use Rattle.mt_base.proofs.Lemmas.{acted_is_map, all_join, all_map, get_parts, greatest_fits, high_is_room, is_held_where_met, low_is_room, part_is_free, stored_area, valid_order}
 pub use Rattle.mt_log.proofs.Following.{CallSays, CanAllFollow, ItemSays, at_line}
 pub use Rattle.mt_log.proofs.LogsRead.{log_follows}
 pub use Rattle.mt_log.proofs.Readable.{are_readable}
-pub use Rattle.mt_log.specs.LogText.{IsLog}
-pub use Rattle.mt_log.specs.Phases.{phase_after}
-pub use Rattle.mt_log.specs.Reading.{ReadSoFar, after_item, most_scan_steps, nothing_read, scan_steps_of}
-pub use Rattle.mt_log.specs.Run.{AreDone, AreScanSteps, Asked, Follows, InOrder, IsDone, IsHeldRightly, IsTrueOf, OpensAs, ScanGoesOnFrom, StandsIn, asked_from, calls_before, entry_of, holder_in, is_answered, is_call, is_read_by, lane_after, lane_of, listings_of, record_in, step_of, steps_of}
-pub use Rattle.mt_base.specs.Places.{find_at, place_after, place_within}
-pub use Rattle.mt_log.specs.Text.{entry_text}
-pub use Rattle.mt_log.specs.Trees.{AreNamedFrom, NamesBelow, count_after, declared_by, renamed, trees_from}
+pub use Rattle.mt_log.specs.Names.{AreDone, AreLegalFrom, AreNamedFrom, AreScanSteps, Asked, Find, Follows, InOrder, IsAnswered, IsDone, IsHeldRightly, IsLegal, IsLog, IsMapFrom, IsRoom, IsShort, IsTrueOf, Load, NamesBelow, Next, Ok, OpensAs, Prev, Query, ReadSoFar, Rfind, ScanGoesOnFrom, StandsIn, Wants, after_item, asked_from, calls_before, count_after, cut_above, cut_below, declared_by, entry_of, entry_text, erased, find_at, first_range, found, greatest_of, holder_in, holder_of, holds, is_answered, is_call, is_exact_store, is_no_area, is_read_by, kind_width, lane_after, lane_of, last_map, last_range, limits_after, listings_of, map_after, map_by_reply, most_lanes, most_scan_steps, nothing_read, over, overlaps, part_stored, parts_above, parts_below, phase_after, place_after, place_within, placed, range_text, record_in, renamed, reserved, scan_steps_of, step_of, steps_of, trees_from, without}
 pub use Rattle.mt_log.specs.declared.lines.Item.TheVariants.{Ask, Check, Dup, Join, Scan, Tree}
 pub use Rattle.mt_log.specs.declared.lines.Line.{Line}
 pub use Rattle.mt_log.specs.declared.transcripts.Entry.{Entry}
@@ -69,8 +32,7 @@ pub use Rattle.mt_verify.specs.Merging.{cell_of, points_at}
 pub use Rattle.mt_verify.specs.Openings.{OpensAsMap, just_opened}
 pub use Rattle.mt_verify.specs.OwnLines.{calls_below, calls_in, entered, line_on, lines_on, look_by_lane, looks_by_lane, stop_at, stops_told}
 pub use Rattle.mt_verify.specs.Points.{AreAlike, AreLeastPoints, AreToldAlike, AreUpTo, CopiesEarlier, GoAlike, HaveHistories, IsPointList, IsTrueAt, KnowsAt, OutcomesAlike, StepsAlike, TellsAt, at_place, hi_of, lo_of, map_part, numbered_part, point_of, points_of, read_number}
-pub use Rattle.mt_verify.specs.Prelude.{Alloc, Answer, AreTold, Call, Called, Clear, Contents, Copied, CopyOf, Counted, Declared, Empty, Erase, Gap, Got, History, Holder, Insert, IsMap, IsReadable, IsRefused, IsRun, IsRunBy, Item, Kind, Lawful, Limits, Listing, Log, Looked, NoNodes, Opening, Opens, Outcome, Ralloc, Range, Record, Reply, Rgap, Shortage, Step, Store, StorePre, Told, Transcript, What, Write, Wrote, acted, answer, high, holding, is_bad_area, is_exactly, is_held, is_invalid, is_read, listing_text, low, map_at, most_rows, most_trees, numbered_on, reply_text, shown, text_of, trees_of}
-pub use Rattle.mt_base.specs.Limits.{most_lanes}
+pub use Rattle.mt_verify.specs.Prelude.{Alloc, Answer, AreTold, Call, Called, Clear, Contents, Copied, CopyOf, Counted, Declared, Empty, Erase, Gap, Got, History, Holder, Insert, IsMap, IsReadable, IsRefused, IsRun, IsRunBy, Item, Kind, Lawful, Limits, Listing, Log, Looked, NoNodes, Opening, Opens, Outcome, Ralloc, Range, Record, Reply, Rgap, Said, Shortage, Step, Store, StorePre, ToldLine, Transcript, What, Write, Wrote, acted, answer, high, holding, is_bad_area, is_exactly, is_held, is_invalid, is_read, listing_text, low, map_at, most_rows, most_trees, numbered_on, reply_text, shown, text_of, trees_of}
 pub use Rattle.mt_verify.specs.PrintedOrder.{EndsInTree, EndsWithin, InPrintedOrder, KeepsTo}
 pub use Rattle.mt_verify.specs.Shortages.{shared_limits}
 pub use Rattle.mt_verify.specs.Stops.{AreCounted, AreStopped, DoNotFall, HasStopped, HasToldCount, HavePassedStops, Passing, SomeMiscounted, is_at}
@@ -82,7 +44,7 @@ pub use Rattle.mt_verify.specs.Wanting.{is_start, wants}
 pub use Rattle.mt_verify.specs.Windows.{InBoth, InNumbers}
 pub use Rattle.mt_verify.specs.declared.calls.Numbered.{Numbered}
 pub use Rattle.mt_verify.specs.declared.counts.Counting.{Counting}
-pub use Rattle.mt_verify.specs.declared.looks.Look.{Look}
+pub use Rattle.mt_verify.specs.declared.looks.ToldRead.{ToldRead}
 pub use Rattle.mt_verify.specs.declared.noted.Heard.{Heard}
 pub use Rattle.mt_verify.specs.declared.noted.Heard.TheVariants.{Short}
 pub use Rattle.mt_verify.specs.declared.noted.Noted.{Noted}

@@ -1,5 +1,5 @@
 -- Where a lane can have no numbers, no run is told alike; and a run whose lanes are picked has the least points of all that are.
-use Rattle.mt_verify.proofs.Prelude.{◌≡◌, ℕ, suc, ◌==◌, List, [], ◌∷◌, Some, None, get_or, slice_get, cond, refl, sym, subst, arith, cons_option, slice_get_within, Range, History, map_at, Log, Transcript, Outcome, Called, Looked, Counted, Step, IsRunBy, IsReadable, Look, LanesArePicked, look_of, by_lane, looks_on, points_on, MayHave, points_of, AreUpTo, OutcomesAlike, StepsAlike, AreToldAlike, HaveHistories}
+use Rattle.mt_verify.proofs.Prelude.{◌≡◌, ℕ, suc, ◌==◌, List, [], ◌∷◌, Some, None, get_or, slice_get, cond, refl, sym, subst, arith, cons_option, slice_get_within, Range, History, map_at, Log, Transcript, Outcome, Called, Looked, Counted, Step, IsRunBy, IsReadable, ToldRead, LanesArePicked, look_of, by_lane, looks_on, points_on, MayHave, points_of, AreUpTo, OutcomesAlike, StepsAlike, AreToldAlike, HaveHistories}
 use Rattle.mt_verify.proofs.Alike.{run_histories, same_below, way_maps}
 use Rattle.mt_verify.proofs.AllLanes.{all_first}
 use Rattle.mt_verify.proofs.CopiedTrees.{copies_are_earlier}
@@ -36,7 +36,7 @@ none_refuses log rows t' steps steps' trees trees' readable have tree lane h is 
     let maps : map_at h ≡ map_at g.0 = λ i k. way_maps h g.0 k way i in
     let looks = looks_same tree lane steps steps' told in
     none (λ i. get_or (points_on tree lane steps') i 0)
-    (subst (λ (x : (ℕ → List Range) × List Look). MayHave x.0 x.1 (λ i. get_or (points_on tree lane steps') i 0)) (λ i. (sym maps i, sym looks i)) (lane_may_have log rows t' steps' trees' run' tree lane g.0 g.1))
+    (subst (λ (x : (ℕ → List Range) × List ToldRead). MayHave x.0 x.1 (λ i. get_or (points_on tree lane steps') i 0)) (λ i. (sym maps i, sym looks i)) (lane_may_have log rows t' steps' trees' run' tree lane g.0 g.1))
 
 pub picked_is_the_least : (log : Log) (rows : ℕ) (t t' : Transcript) (steps steps' : List Step) (trees trees' : List History) → IsReadable log.lines → IsRunBy log rows t steps trees → LanesArePicked steps trees
     → IsRunBy log rows t' steps' trees' → AreToldAlike steps steps' → AreUpTo (points_of steps) (points_of steps')

@@ -1,5 +1,5 @@
 -- Where a tree cannot be gone through, no run is told so.
-use Rattle.mt_verify.proofs.Prelude.{[], ◌≡◌, ℕ, zero, suc, ◌+◌, ◌<◌, ◌≤◌, ◌==◌, ◌&&◌, true, List, ◌∷◌, ◌++◌, Option, Some, None, length, nat_lt, slice_get, get_or, refl, sym, ap, ◌∙◌, subst, inl, inr, arith, codes, IfSome, decimal, Contains, cons_option, enumerate_from, filter_map, cases_Bool, eqb-true, eq-eqb, length-map, get_or-map, get_or-map-range_with_len, length-map-range_with_len, Contains-permutation, IsPermutation-sym, same_Some, slice_get_within, get_or_from_slice_get, Call, Range, Holder, Reply, answer, History, IsLegal, map_at, holder_of, most_rows, Log, Transcript, Outcome, Called, Looked, Counted, Step, IsHeldRightly, IsRunBy, IsTrueOf, StandsIn, calls_before, holder_in, is_call, numbered_on, shown, reply_text, Told, What, Wrote, Got, Copied, Lawful, AreTold, IsTold, Numbered, Look, Noted, Stop, is_wrote, AreAnswered, Lane, SomeHasNone, looks_of, AreMisheard, CannotGo, IsHindered, lane_looks, IsReader, AreHeard, map_of_noted, looks_on, points_on, MayHave, calls_below, line_on, lines_on, looks_by_lane, stop_at, stops_told, SomeMiscounted, calls_told, numbered_of, numbered_on_told}
+use Rattle.mt_verify.proofs.Prelude.{[], ◌≡◌, ℕ, zero, suc, ◌+◌, ◌<◌, ◌≤◌, ◌==◌, ◌&&◌, true, List, ◌∷◌, ◌++◌, Option, Some, None, length, nat_lt, slice_get, get_or, refl, sym, ap, ◌∙◌, subst, inl, inr, arith, codes, IfSome, decimal, Contains, cons_option, enumerate_from, filter_map, cases_Bool, eqb-true, eq-eqb, length-map, get_or-map, get_or-map-range_with_len, length-map-range_with_len, Contains-permutation, IsPermutation-sym, same_Some, slice_get_within, get_or_from_slice_get, Call, Range, Holder, Reply, answer, History, IsLegal, map_at, holder_of, most_rows, Log, Transcript, Outcome, Called, Looked, Counted, Step, IsHeldRightly, IsRunBy, IsTrueOf, StandsIn, calls_before, holder_in, is_call, numbered_on, shown, reply_text, ToldLine, What, Wrote, Got, Copied, Lawful, AreTold, IsTold, Numbered, ToldRead, Noted, Stop, is_wrote, AreAnswered, Lane, SomeHasNone, looks_of, AreMisheard, CannotGo, IsHindered, lane_looks, IsReader, AreHeard, map_of_noted, looks_on, points_on, MayHave, calls_below, line_on, lines_on, looks_by_lane, stop_at, stops_told, SomeMiscounted, calls_told, numbered_of, numbered_on_told, most_lanes}
 use Rattle.mt_verify.specs.ToldReads.{calls_of_phases_before as calls_before_told}
 use Rattle.mt_verify.proofs.ToldSteps.{IsToldOf, by_kind}
 use Rattle.mt_verify.proofs.Answered.{heard_maps, legal_is_answered}
@@ -11,7 +11,6 @@ use Rattle.mt_verify.proofs.ToldLooks.{looks_are_told}
 use Rattle.mt_verify.proofs.ToldAlike.{nomem_text, third_m}
 use Rattle.mt_verify.proofs.ToldHolders.{holders_told}
 use Rattle.mt_verify.proofs.ToldRuns.{counted, heard_so, refusal_of, small_replies}
-use Rattle.mt_base.specs.Limits.{most_lanes}
 
 -- ---- places
 
@@ -37,7 +36,7 @@ from_kept f (x ∷ xs) i y is = kept_by f x xs y (f x) refl (λ j at. from_kept 
 -- ---- lanes
 
 -- what may have numbers on some maps may have them on the same maps
-may_move : (m m' : ℕ → List Range) (looks : List Look) (k : ℕ → ℕ) → ((n : ℕ) → m n ≡ m' n) → MayHave m looks k → MayHave m' looks k
+may_move : (m m' : ℕ → List Range) (looks : List ToldRead) (k : ℕ → ℕ) → ((n : ℕ) → m n ≡ m' n) → MayHave m looks k → MayHave m' looks k
 may_move m m' looks k same may = record {
   from = may.from;
   to = may.to;
@@ -47,42 +46,42 @@ may_move m m' looks k same may = record {
 }
 
 -- the looks of a lane of a tree are those that are told of it
-pub lane_at : (tree place : ℕ) (told : List Told) (lanes : List Lane) (lane : Lane) → looks_of lanes ≡ lane_looks tree told → slice_get lanes place ≡ Some lane → lane.looks ≡ looks_by_lane (lines_on tree told) place
+pub lane_at : (tree place : ℕ) (told : List ToldLine) (lanes : List Lane) (lane : Lane) → looks_of lanes ≡ lane_looks tree told → slice_get lanes place ≡ Some lane → lane.looks ≡ looks_by_lane (lines_on tree told) place
 lane_at tree place told lanes lane same is =
     let within : place < length lanes = slice_get_within lanes place lane is in
     let many : length lanes ≡ most_lanes = omega (arith, length-map lanes (λ (t : Lane). t.looks), ap length same, length-map-range_with_len (looks_by_lane (lines_on tree told)) 0 most_lanes) in
     let here : get_or (looks_of lanes) place [] ≡ lane.looks = get_or-map (λ (t : Lane). t.looks) lanes place lane [] within ∙ ap (λ (t : Lane). t.looks) (get_or_from_slice_get lanes place lane lane is) in
-    sym here ∙ (ap (λ (l : List (List Look)). get_or l place []) same ∙ get_or-map-range_with_len (looks_by_lane (lines_on tree told)) 0 most_lanes place place [] (omega (arith, within, many)) (omega arith))
+    sym here ∙ (ap (λ (l : List (List ToldRead)). get_or l place []) same ∙ get_or-map-range_with_len (looks_by_lane (lines_on tree told)) 0 most_lanes place place [] (omega (arith, within, many)) (omega arith))
 
 -- ---- stops
 
 -- a line of a tree that tells how many ranges it had
-pub record IsStopOf (tree : ℕ) (told : List Told) (s : Stop) : Type 0 where
+pub record IsStopOf (tree : ℕ) (told : List ToldLine) (s : Stop) : Type 0 where
   pub place : ℕ
-  pub line : Told
+  pub line : ToldLine
   pub is : slice_get told place ≡ Some line
   pub on : line.tree ≡ tree
   pub stop : stop_at (calls_below (lines_on tree told) line.phase) line.what ≡ Some s
 
-pub line_of : (tree : ℕ) (t u : Told) → line_on tree t ≡ Some u → (t.tree ≡ tree) × (t ≡ u)
+pub line_of : (tree : ℕ) (t u : ToldLine) → line_on tree t ≡ Some u → (t.tree ≡ tree) × (t ≡ u)
 line_of tree t u of = elim (cases_Bool (t.tree == tree)) [
   | inl here ↦ (let some : Some t ≡ Some u = sym (rw here refl) ∙ of in (eqb-true t.tree tree here, cc))
   | inr other ↦ (let none : None ≡ Some u = sym (rw other refl) ∙ of in absurd (cc))
 ]
 
-pub stop_is : (tree : ℕ) (told : List Told) (i : ℕ) (s : Stop) → slice_get (stops_told (lines_on tree told)) i ≡ Some s → IsStopOf tree told s
+pub stop_is : (tree : ℕ) (told : List ToldLine) (i : ℕ) (s : Stop) → slice_get (stops_told (lines_on tree told)) i ≡ Some s → IsStopOf tree told s
 stop_is tree told i s is =
-    let own = from_kept (λ (t : Told). stop_at (calls_below (lines_on tree told) t.phase) t.what) (lines_on tree told) i s is in
+    let own = from_kept (λ (t : ToldLine). stop_at (calls_below (lines_on tree told) t.phase) t.what) (lines_on tree told) i s is in
     let line = from_kept (line_on tree) told own.place own.item own.is in
     let both = line_of tree line.item own.item line.of in
-    record { place = line.place; line = line.item; is = line.is; on = both.0; stop = subst (λ (t : Told). stop_at (calls_below (lines_on tree told) t.phase) t.what ≡ Some s) (sym both.1) own.of }
+    record { place = line.place; line = line.item; is = line.is; on = both.0; stop = subst (λ (t : ToldLine). stop_at (calls_below (lines_on tree told) t.phase) t.what ≡ Some s) (sym both.1) own.of }
 
 -- ---- steps that are told
 
-step_at : (version : ℕ) (told : List Told) (steps : List Step) (i : ℕ) (t : Told) → AreTold version told steps → slice_get told i ≡ Some t → (s : Step) × (slice_get steps i ≡ Some s) × IsTold version t s
+step_at : (version : ℕ) (told : List ToldLine) (steps : List Step) (i : ℕ) (t : ToldLine) → AreTold version told steps → slice_get told i ≡ Some t → (s : Step) × (slice_get steps i ≡ Some s) × IsTold version t s
 step_at version [] steps i t are is = absurd (cc)
 step_at version (x ∷ told) [] i t are is = absurd are
-step_at version (x ∷ told) (s ∷ steps) zero t are is = (s, refl, subst (λ (y : Told). IsTold version y s) (same_Some x t is) are.0)
+step_at version (x ∷ told) (s ∷ steps) zero t are is = (s, refl, subst (λ (y : ToldLine). IsTold version y s) (same_Some x t is) are.0)
 step_at version (x ∷ told) (s ∷ steps) (suc i) t are is = step_at version told steps i t are.1 is
 
 -- calls of earlier phases are as many as the tree's own lines tell
@@ -90,7 +89,7 @@ call_told : (version : ℕ) (w : What) (o : Outcome) → IsToldOf version w o �
 call_told version = by_kind version (λ w o. is_call o ≡ is_wrote w)
     (λ number call reply n c r is. refl) (λ lo hi query answer l h k q v is. refl) (λ count s ranges. refl) (λ count s ranges. refl)
 
-pub as_many_before : (version tree phase : ℕ) (told : List Told) (steps : List Step) → AreTold version told steps → calls_before steps tree phase ≡ calls_before_told told tree phase
+pub as_many_before : (version tree phase : ℕ) (told : List ToldLine) (steps : List Step) → AreTold version told steps → calls_before steps tree phase ≡ calls_before_told told tree phase
 as_many_before version tree phase [] [] are = refl
 as_many_before version tree phase [] (s ∷ steps) are = absurd are
 as_many_before version tree phase (t ∷ told) [] are = absurd are
@@ -132,13 +131,13 @@ kept_in f (z ∷ xs) (suc e) x y is of = later (f z) (kept_in f xs e x y is of)
     later None c = c
     later (Some w) c = (suc c.0, omega (arith, c.1), c.2)
 
-on_tree : (tree : ℕ) (t : Told) (item : ℕ × Numbered) → numbered_on_told tree t ≡ Some item → t.tree ≡ tree
+on_tree : (tree : ℕ) (t : ToldLine) (item : ℕ × Numbered) → numbered_on_told tree t ≡ Some item → t.tree ≡ tree
 on_tree tree t item is = elim (cases_Bool (t.tree == tree)) [
   | inl here ↦ eqb-true t.tree tree here
   | inr other ↦ (let none : None ≡ Some item = sym (rw other refl) ∙ is in absurd (cc))
 ]
 
-numbered_so : (tree : ℕ) (t : Told) (item : ℕ × Numbered) → numbered_on_told tree t ≡ Some item → numbered_of t.lane t.phase t.what ≡ Some item
+numbered_so : (tree : ℕ) (t : ToldLine) (item : ℕ × Numbered) → numbered_on_told tree t ≡ Some item → numbered_of t.lane t.phase t.what ≡ Some item
 numbered_so tree t item is = let here : (t.tree == tree) ≡ true = eq-eqb t.tree tree (on_tree tree t item is) in sym (rw here refl) ∙ is
 
 called_so : (version lane phase : ℕ) (w : What) (o : Outcome) (item : ℕ × Numbered) → numbered_of lane phase w ≡ Some item → IsToldOf version w o → (r : Reply) × (o ≡ Called item.0 item.1.call r) × (reply_text version r ≡ item.1.reply.now)
@@ -156,13 +155,13 @@ numbered_step tree s number call r on is = rw (eq-eqb s.tree tree on, is) refl
 
 -- ---- a tree of a run
 
-module _ (log : Log) (rows : ℕ) (t : Transcript) (steps : List Step) (trees : List History) (run : IsRunBy log rows t steps trees) (told : List Told) (are : AreTold log.version told steps) (few : rows ≤ most_rows)
+module _ (log : Log) (rows : ℕ) (t : Transcript) (steps : List Step) (trees : List History) (run : IsRunBy log rows t steps trees) (told : List ToldLine) (are : AreTold log.version told steps) (few : rows ≤ most_rows)
     (tree : ℕ) (h : History) (is : slice_get trees tree ≡ Some h) where
   -- its lanes may have numbers
   no_lane : (noted : List Noted) (lanes : List Lane) → AreHeard log.version noted h.records → looks_of lanes ≡ lane_looks tree told → SomeHasNone (map_of_noted h.kind h.opening noted) lanes → ⊥
   no_lane noted lanes heard looks some =
       let own : some.lane.looks ≡ looks_on tree some.place steps = lane_at tree some.place told lanes some.lane looks some.is ∙ (lane_is tree some.place told ∙ sym (looks_are_told log.version tree some.place told steps are)) in
-      some.none (λ i. get_or (points_on tree some.place steps) i 0) (subst (λ (l : List Look). MayHave (map_of_noted h.kind h.opening noted) l (λ i. get_or (points_on tree some.place steps) i 0)) (sym own)
+      some.none (λ i. get_or (points_on tree some.place steps) i 0) (subst (λ (l : List ToldRead). MayHave (map_of_noted h.kind h.opening noted) l (λ i. get_or (points_on tree some.place steps) i 0)) (sym own)
       (may_move (map_at h) (map_of_noted h.kind h.opening noted) (looks_on tree some.place steps) (λ i. get_or (points_on tree some.place steps) i 0) (λ n. heard_maps log.version h noted n heard) (lane_may_have log rows t steps trees run tree some.place h is)))
 
   -- its checks and copies tell how many ranges it had

@@ -67,6 +67,10 @@ module _ (log : Log) (rows : ℕ) (t : Transcript) (steps : List Step) (trees : 
   follows : (j i : ℕ) → j < i → (known : KnowsAt steps i j) → Follows known.earlier.outcome known.later.outcome
   follows j i before known = pairs_at InOrder steps j i known.earlier known.later run.order before known.before known.at known.tree known.knows
 
+  -- the number of the earlier of them, and what is read off the later
+  placed_both : (f : Outcome → ℕ) (j i : ℕ) (known : KnowsAt steps i j) → (at_place read_number steps j ≡ read_number known.earlier.outcome) × (at_place f steps i ≡ f known.later.outcome)
+  placed_both f j i known = (placed read_number steps j known.earlier known.before, placed f steps i known.later known.at)
+
   pub chosen : AreChosen (length steps) (at_place lo_of steps) (at_place hi_of steps) (IsTrueAt steps trees) (KnowsAt steps) (at_place read_number steps)
   chosen = record {
     from = λ i within. let s = some_at steps i within in let h = stands i s.0 s.1 in
@@ -77,20 +81,10 @@ module _ (log : Log) (rows : ℕ) (t : Transcript) (steps : List Step) (trees : 
         let g = stands i s is in
         let same : g.0 ≡ h = same_Some g.0 h (sym g.1 ∙ at) in
         subst (λ (n : ℕ). TellsAt h n s.outcome) (sym (placed read_number steps i s is)) (subst (λ (x : History). TellsAt x (read_number s.outcome) s.outcome) same (tells_of g.0 _ s.outcome g.2));
-    rise = λ j i before within known.
-        omega (
-          arith,
-          placed read_number steps j known.earlier known.before,
-          placed read_number steps i known.later known.at,
-          rise_of known.earlier.outcome known.later.outcome known.read_before known.reads (follows j i before known),
-        );
-    floor = λ j i before within known.
-        omega (
-          arith,
-          placed read_number steps j known.earlier known.before,
-          placed lo_of steps i known.later known.at,
-          floor_of known.earlier.outcome known.later.outcome known.read_before known.reads (follows j i before known),
-        );
+    rise = λ j i before within known. let both = placed_both read_number j i known in
+        omega (arith, both.0, both.1, rise_of known.earlier.outcome known.later.outcome known.read_before known.reads (follows j i before known));
+    floor = λ j i before within known. let both = placed_both lo_of j i known in
+        omega (arith, both.0, both.1, floor_of known.earlier.outcome known.later.outcome known.read_before known.reads (follows j i before known));
   }
 
 -- ---- two runs whose reads are alike

@@ -1,5 +1,5 @@
 -- Runs that are told by one list are told alike.
-use Rattle.mt_verify.proofs.Prelude.{◌≡◌, ℕ, ◌==◌, ◌++◌, Bool, false, List, [], ◌∷◌, codes, refl, sym, ap, ◌∙◌, decimal, cond_both, Reply, range_text, Outcome, Called, Looked, Counted, Step, reply_text, Told, What, Wrote, Got, Copied, Lawful, AreTold, is_nomem, OutcomesAlike, AreToldAlike}
+use Rattle.mt_verify.proofs.Prelude.{◌≡◌, ℕ, ◌==◌, ◌++◌, Bool, false, List, [], ◌∷◌, codes, refl, sym, ap, ◌∙◌, decimal, cond_both, Reply, range_text, Outcome, Called, Looked, Counted, Step, reply_text, ToldLine, What, Wrote, Got, Copied, Lawful, AreTold, is_nomem, OutcomesAlike, AreToldAlike}
 use Rattle.mt_base.specs.declared.replies.Reply.TheVariants as replies
 use Rattle.mt_verify.proofs.ToldSteps.{IsToldOf}
 
@@ -48,7 +48,7 @@ module _ (version : ℕ) where
   outcomes_alike (Lawful count) (Counted s ranges) (Looked lo hi k q v) a b = absurd b
   outcomes_alike (Lawful count) (Counted s ranges) (Counted s' ranges') a b = tt
 
-  pub told_alike_by_one : (told : List Told) (steps steps' : List Step) → AreTold version told steps → AreTold version told steps' → AreToldAlike steps steps'
+  pub told_alike_by_one : (told : List ToldLine) (steps steps' : List Step) → AreTold version told steps → AreTold version told steps' → AreToldAlike steps steps'
   told_alike_by_one [] [] [] a b = tt
   told_alike_by_one [] [] (s' ∷ steps') a b = absurd b
   told_alike_by_one [] (s ∷ steps) steps' a b = absurd a

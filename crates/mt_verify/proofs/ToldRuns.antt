@@ -1,5 +1,5 @@
 -- What is found of a tree holds of its history in every run that is told so.
-use Rattle.mt_verify.proofs.Prelude.{◌≡◌, ◌⊎◌, ℕ, zero, suc, ◌+◌, ◌<◌, ◌≤◌, Bool, true, false, List, [], ◌∷◌, ◌++◌, Some, length, slice_get, refl, sym, ap, ◌∙◌, subst, inl, inr, arith, codes, ◌↔◌, IsSome, filter_map, same_Some, Reply, NoNodes, Shortage, Range, acted, Record, History, IsLegal, AreLegalFrom, limits_after, map_after, Limits, IsShort, IsRefused, most_rows, Log, Transcript, IsRunBy, Step, numbered_on, reply_text, Told, AreTold, Numbered, Heard, Short, Noted, IsSmallShortage, shortage_printed, AreNotedOf, IsHeardOf, AreHeard, IsHeard, is_nomem, AreCallsOf, AreRecordsTold, IsRecordTold, calls_told}
+use Rattle.mt_verify.proofs.Prelude.{◌≡◌, ◌⊎◌, ℕ, zero, suc, ◌+◌, ◌<◌, ◌≤◌, Bool, true, false, List, [], ◌∷◌, ◌++◌, Some, length, slice_get, refl, sym, ap, ◌∙◌, subst, inl, inr, arith, codes, ◌↔◌, IsSome, filter_map, same_Some, Reply, NoNodes, Shortage, Range, acted, Record, History, IsLegal, AreLegalFrom, limits_after, map_after, Limits, IsShort, IsRefused, most_rows, Log, Transcript, IsRunBy, Step, numbered_on, reply_text, ToldLine, AreTold, Numbered, Heard, Short, Noted, IsSmallShortage, shortage_printed, AreNotedOf, IsHeardOf, AreHeard, IsHeard, is_nomem, AreCallsOf, AreRecordsTold, IsRecordTold, calls_told}
 use Rattle.mt_verify.specs.declared.noted.Heard.TheVariants.{Reply as Printed}
 use Rattle.mt_verify.proofs.HeardCalls.{as_many_records, record_told}
 use Rattle.mt_verify.proofs.Refusing.{acted_plainly}
@@ -21,7 +21,7 @@ refusal_of (NoNodes s) short = (s, refl)
 refusal_of r short = absurd (cc)
 
 -- what is heard of a reply may be told of the reply of a history, where that is short of small numbers alone
-heard_of : (version tree : ℕ) (told : List Told) (x : Numbered) (heard : Heard) (r : Reply) → IsHeardOf told tree x heard → reply_text version r ≡ x.reply.now → ((s : Shortage) → r ≡ NoNodes s → IsSmallShortage s) → IsHeard version heard r
+heard_of : (version tree : ℕ) (told : List ToldLine) (x : Numbered) (heard : Heard) (r : Reply) → IsHeardOf told tree x heard → reply_text version r ≡ x.reply.now → ((s : Shortage) → r ≡ NoNodes s → IsSmallShortage s) → IsHeard version heard r
 heard_of version tree told x (Printed bytes) r is prints small =
     (no (is_nomem r) refl, prints ∙ sym is.0)
   where
@@ -43,7 +43,7 @@ heard_of version tree told x (Short s) r is prints small =
 
 -- ---- all calls of a tree
 
-pub all_heard : (version tree : ℕ) (told : List Told) (numbered : List Numbered) (noted : List Noted) (records : List Record) → AreNotedOf told tree numbered noted → length records ≡ length numbered
+pub all_heard : (version tree : ℕ) (told : List ToldLine) (numbered : List Numbered) (noted : List Noted) (records : List Record) → AreNotedOf told tree numbered noted → length records ≡ length numbered
     → ((i : ℕ) (x : Numbered) (r : Record) → slice_get numbered i ≡ Some x → slice_get records i ≡ Some r → (r.call ≡ x.call) × (reply_text version r.reply ≡ x.reply.now) × ((s : Shortage) → r.reply ≡ NoNodes s → IsSmallShortage s))
     → AreHeard version noted records
 all_heard version tree told [] [] [] are many each = tt
@@ -94,7 +94,7 @@ small_replies h few ended m (x ∷ records) legal zero r s is short = here legal
 
 -- ---- a tree of a run
 
-module _ (log : Log) (rows : ℕ) (t : Transcript) (steps : List Step) (trees : List History) (run : IsRunBy log rows t steps trees) (told : List Told) (are : AreTold log.version told steps) (few : rows ≤ most_rows)
+module _ (log : Log) (rows : ℕ) (t : Transcript) (steps : List Step) (trees : List History) (run : IsRunBy log rows t steps trees) (told : List ToldLine) (are : AreTold log.version told steps) (few : rows ≤ most_rows)
     (tree : ℕ) (h : History) (is : slice_get trees tree ≡ Some h) where
   recorded : AreRecordsTold log.version (calls_told tree told) (filter_map (numbered_on tree) steps)
   recorded = calls_of_steps log.version tree told steps are

@@ -1,6 +1,5 @@
 -- Steps that are told so: their order and their calls are those of the text.
-use Rattle.mt_verify.proofs.Prelude.{[], ◌≡◌, ◌↔◌, ◌⊎◌, ℕ, zero, suc, ◌==◌, ◌<◌, ◌≤◌, Bool, true, false, List, ◌∷◌, Option, Some, None, All, AllPairs, length, get_or, filter_map, if◌then◌else◌, arith, refl, sym, ap, ◌∙◌, subst, inl, inr, cons_option, Record, Outcome, Called, Looked, Counted, Step, numbered_on, record_in, Told, What, Wrote, Got, Copied, Lawful, AreTold, IsSpelledOf, IsTold, spelling_of, Numbered, AreRecordsTold, IsRecordTold, calls_told, numbered_of, numbered_on_told, Bor, Call, Query, Range, Reply, Answer}
-use Rattle.mt_log.specs.declared.transcripts.Said.{Said}
+use Rattle.mt_verify.proofs.Prelude.{[], ◌≡◌, ◌↔◌, ◌⊎◌, ℕ, zero, suc, ◌==◌, ◌<◌, ◌≤◌, Bool, true, false, List, ◌∷◌, Option, Some, None, All, AllPairs, length, get_or, filter_map, if◌then◌else◌, arith, refl, sym, ap, ◌∙◌, subst, inl, inr, cons_option, Record, Outcome, Called, Looked, Counted, Step, numbered_on, record_in, ToldLine, What, Wrote, Got, Copied, Lawful, AreTold, IsSpelledOf, IsTold, spelling_of, Numbered, AreRecordsTold, IsRecordTold, calls_told, numbered_of, numbered_on_told, Bor, Call, Query, Range, Reply, Answer, Said}
 use Rattle.mt_verify.specs.PrintedOrder as of_text
 use Rattle.mt_verify.specs.Windows as of_steps
 
@@ -82,20 +81,20 @@ module _ (version : ℕ) where
 
   -- ---- one by one
 
-  pub as_many_steps : (told : List Told) (steps : List Step) → AreTold version told steps → length told ≡ length steps
+  pub as_many_steps : (told : List ToldLine) (steps : List Step) → AreTold version told steps → length told ≡ length steps
   as_many_steps [] [] are = refl
   as_many_steps [] (s ∷ steps) are = absurd are
   as_many_steps (t ∷ told) [] are = absurd are
   as_many_steps (t ∷ told) (s ∷ steps) are = ap suc (as_many_steps told steps are.1)
 
-  pub told_at : (told : List Told) (steps : List Step) (i : ℕ) (d : Told) (e : Step) → AreTold version told steps → i < length told → IsTold version (get_or told i d) (get_or steps i e)
+  pub told_at : (told : List ToldLine) (steps : List Step) (i : ℕ) (d : ToldLine) (e : Step) → AreTold version told steps → i < length told → IsTold version (get_or told i d) (get_or steps i e)
   told_at [] steps i d e are within = absurd (omega arith)
   told_at (t ∷ told) [] i d e are within = absurd are
   told_at (t ∷ told) (s ∷ steps) zero d e are within = are.0
   told_at (t ∷ told) (s ∷ steps) (suc i) d e are within = told_at told steps i d e are.1 (omega arith)
 
   -- a step and a line, where there is some
-  some_told : (told : List Told) (i : ℕ) → i < length told → Told
+  some_told : (told : List ToldLine) (i : ℕ) → i < length told → ToldLine
   some_told [] i within = absurd (omega arith)
   some_told (t ∷ told) i within = t
 
@@ -105,22 +104,22 @@ module _ (version : ℕ) where
 
   -- ---- the order
 
-  order_of_steps : (s t : Told) (s' t' : Step) → IsTold version s s' → IsTold version t t' → of_text.InPrintedOrder s t → of_steps.InPrintedOrder s' t'
+  order_of_steps : (s t : ToldLine) (s' t' : Step) → IsTold version s s' → IsTold version t t' → of_text.InPrintedOrder s t → of_steps.InPrintedOrder s' t'
   order_of_steps s t s' t' first second order tree knows =
       let known : of_text.Knows s t = elim knows [ inl lane ↦ inl (sym first.lane ∙ (lane ∙ second.lane)) | inr phase ↦ inr (omega (arith, phase, first.phase, second.phase)) ] in
       let keeps = (keeps_told s.what t.what).0 (order (sym first.tree ∙ (tree ∙ second.tree)) known) in
       (keeps_done s'.outcome t'.outcome).1 (subst (λ (p : Part). Keeps p (step_part t'.outcome)) (same_part s.what s'.outcome first.outcome) (subst (Keeps (told_part s.what)) (same_part t.what t'.outcome second.outcome) keeps))
 
-  order_of_text : (s t : Told) (s' t' : Step) → IsTold version s s' → IsTold version t t' → of_steps.InPrintedOrder s' t' → of_text.InPrintedOrder s t
+  order_of_text : (s t : ToldLine) (s' t' : Step) → IsTold version s s' → IsTold version t t' → of_steps.InPrintedOrder s' t' → of_text.InPrintedOrder s t
   order_of_text s t s' t' first second order tree knows =
       let keeps = (keeps_done s'.outcome t'.outcome).0 (order (first.tree ∙ (tree ∙ sym second.tree)) (elim knows [ inl lane ↦ inl (first.lane ∙ (lane ∙ sym second.lane)) | inr phase ↦ inr (omega (arith, phase, first.phase, second.phase)) ])) in
       (keeps_told s.what t.what).1 (subst (λ (p : Part). Keeps p (told_part t.what)) (sym (same_part s.what s'.outcome first.outcome)) (subst (Keeps (step_part s'.outcome)) (sym (same_part t.what t'.outcome second.outcome)) keeps))
 
-pub order_told : (version : ℕ) (told : List Told) (steps : List Step) → AreTold version told steps → AllPairs of_text.InPrintedOrder told ↔ AllPairs of_steps.InPrintedOrder steps
+pub order_told : (version : ℕ) (told : List ToldLine) (steps : List Step) → AreTold version told steps → AllPairs of_text.InPrintedOrder told ↔ AllPairs of_steps.InPrintedOrder steps
 order_told version told steps are =
     let long = as_many_steps version told steps are in (
       λ pairs i j e before within.
-          (let d : Told = some_told version told j (omega (arith, long)) in
+          (let d : ToldLine = some_told version told j (omega (arith, long)) in
           order_of_steps version (get_or told i d) (get_or told j d) (get_or steps i e) (get_or steps j e) (told_at version told steps i d e are (omega (arith, long))) (told_at version told steps j d e are (omega (arith, long))) (pairs i j d before (omega (arith, long)))),
       λ pairs i j d before within.
           (let e : Step = some_step version steps j (omega (arith, long)) in
@@ -145,7 +144,7 @@ module _ (version tree : ℕ) where
   on_tree true o p are = are
   on_tree false o p are = tt
 
-  one_line : (t : Told) (s : Step) → IsTold version t s → AreTellable (numbered_on_told tree t) (numbered_on tree s)
+  one_line : (t : ToldLine) (s : Step) → IsTold version t s → AreTellable (numbered_on_told tree t) (numbered_on tree s)
   one_line t s is =
       let call = one_call t.lane s.lane t.phase t.what s.outcome is.lane is.outcome in
       subst (λ (n : ℕ). AreTellable (numbered_on_told tree t) (if n == tree then record_in s.lane s.outcome else None)) (sym is.tree) (on_tree (t.tree == tree) (numbered_of t.lane t.phase t.what) (record_in s.lane s.outcome) call)
@@ -156,7 +155,7 @@ module _ (version tree : ℕ) where
   one_more_call (Some e) None calls records one rest = absurd one
   one_more_call (Some e) (Some r) calls records one rest = (one, rest)
 
-  pub calls_of_steps : (told : List Told) (steps : List Step) → AreTold version told steps → AreRecordsTold version (calls_told tree told) (filter_map (numbered_on tree) steps)
+  pub calls_of_steps : (told : List ToldLine) (steps : List Step) → AreTold version told steps → AreRecordsTold version (calls_told tree told) (filter_map (numbered_on tree) steps)
   calls_of_steps [] [] are = tt
   calls_of_steps [] (s ∷ steps) are = absurd are
   calls_of_steps (t ∷ told) [] are = absurd are
@@ -186,11 +185,11 @@ ends_as_done calls (Called number call reply) = (λ h. h, λ h. h)
 ends_as_done calls (Looked lo hi k query value) = (λ h. h, λ h. h)
 ends_as_done calls (Counted said ranges) = (λ h. h, λ h. h)
 
-module _ (version : ℕ) (told : List Told) (steps : List Step) (are : AreTold version told steps) where
-  same_count : (t : Told) (s : Step) → IsTold version t s → length (calls_told t.tree told) ≡ length (filter_map (numbered_on s.tree) steps)
+module _ (version : ℕ) (told : List ToldLine) (steps : List Step) (are : AreTold version told steps) where
+  same_count : (t : ToldLine) (s : Step) → IsTold version t s → length (calls_told t.tree told) ≡ length (filter_map (numbered_on s.tree) steps)
   same_count t s is = as_many_told version (calls_told t.tree told) (filter_map (numbered_on t.tree) steps) (calls_of_steps version t.tree told steps are) ∙ ap (λ (n : ℕ). length (filter_map (numbered_on n) steps)) (sym is.tree)
 
-  ends_at : (t : Told) (s : Step) → IsTold version t s → of_text.EndsInTree told t ↔ of_steps.EndsInTree steps s
+  ends_at : (t : ToldLine) (s : Step) → IsTold version t s → of_text.EndsInTree told t ↔ of_steps.EndsInTree steps s
   ends_at t s is =
       let count = same_count t s is in
       let part = same_part version t.what s.outcome is.outcome in
@@ -200,11 +199,11 @@ module _ (version : ℕ) (told : List Told) (steps : List Step) (are : AreTold v
         λ h. text.1 (subst (Ends (length (calls_told t.tree told))) (sym part) (subst (λ (n : ℕ). Ends n (step_part s.outcome)) (sym count) (done.0 h))),
       )
 
-pub ends_told : (version : ℕ) (told : List Told) (steps : List Step) → AreTold version told steps → All (of_text.EndsInTree told) told ↔ All (of_steps.EndsInTree steps) steps
+pub ends_told : (version : ℕ) (told : List ToldLine) (steps : List Step) → AreTold version told steps → All (of_text.EndsInTree told) told ↔ All (of_steps.EndsInTree steps) steps
 ends_told version told steps are =
     let long = as_many_steps version told steps are in (
       λ all k e within.
-          (let d : Told = some_told version told k (omega (arith, long)) in
+          (let d : ToldLine = some_told version told k (omega (arith, long)) in
           (ends_at version told steps are (get_or told k d) (get_or steps k e) (told_at version told steps k d e are (omega (arith, long)))).0 (all k d (omega (arith, long)))),
       λ all k d within.
           (let e : Step = some_step version steps k (omega (arith, long)) in

@@ -2,7 +2,7 @@
 -- Source: this project's own.
 use Rattle.std.specs.Prelude.{◌≡◌, ◌⊎◌, ℕ, ◌+◌, ◌/◌, ◌<◌, ◌≤◌, Bool, true, false, List, [], Some, length, map, slice_get}
 use Rattle.mt_verify.specs.Prelude.{Kind, Range, Contents}
-use Rattle.mt_verify.specs.declared.looks.Look.{Look}
+use Rattle.mt_verify.specs.declared.looks.ToldRead.{ToldRead}
 use Rattle.mt_verify.specs.declared.noted.Noted.{Noted}
 use Rattle.mt_verify.specs.declared.stops.Stop.{Stop}
 use Rattle.mt_verify.specs.Histories.{IsHeardAt, map_of_noted}
@@ -12,7 +12,7 @@ use Rattle.mt_verify.specs.Stops.{Passing, AreCounted, AreStopped, DoNotFall, So
 
 -- the looks of a lane on a tree, and the numbers that the first of them have
 pub record Lane : Type 0 where
-  pub looks : List Look
+  pub looks : List ToldRead
   pub points : List ℕ
 
 -- ---- the calls of a tree
@@ -48,7 +48,7 @@ HavePassed m number lanes true = AreOn m (number + 1) lanes
 HavePassed m number lanes false = SomeStuck m lanes
 
 -- the looks of lanes
-abbrev pub looks_of : List Lane → List (List Look)
+abbrev pub looks_of : List Lane → List (List ToldRead)
 looks_of lanes = map (λ t. t.looks) lanes
 
 -- ---- a whole tree
@@ -90,7 +90,7 @@ AreStopsWithin count stops = (i : ℕ) (s : Stop) → slice_get stops i ≡ Some
 
 -- no window ends after the last call
 abbrev pub AreWithin : ℕ → List Lane → Type 0
-AreWithin count lanes = (j : ℕ) (t : Lane) (i : ℕ) (l : Look) → slice_get lanes j ≡ Some t
+AreWithin count lanes = (j : ℕ) (t : Lane) (i : ℕ) (l : ToldRead) → slice_get lanes j ≡ Some t
     → slice_get t.looks i ≡ Some l → l.hi ≤ count
 
 -- whether all lanes' looks have their numbers

@@ -1,25 +1,18 @@
 -- What is heard of a call that was refused for lack of nodes, and who may have held nodes.
 -- Source: this project's own.
-use Rattle.std.specs.Prelude.{◌≡◌, ◌≢◌, ◌↔◌, ℕ, ◌+◌, ◌*◌, ◌==◌, ◌&&◌, ◌<◌, ◌≤◌, ◌^◌, Bool, true, false, List, Option, None, IsSome, IfSome, IsSomeAnd, nat_le, slice_index_or}
-use Rattle.std.specs.Fmt.{decimal}
+use Rattle.std.specs.Prelude.{◌≡◌, ◌≢◌, ◌↔◌, ℕ, ◌+◌, ◌*◌, ◌==◌, ◌&&◌, ◌<◌, ◌≤◌, ◌^◌, Bool, true, false, List, Option, None, IsSome, IfSome, IsSomeAnd, nat_le, slice_index_or, decimal}
 use Rattle.std.specs.List.{list_any}
-use Rattle.mt_verify.specs.Prelude.{Shortage, NoNodes, reply_text, most_trees, Told, What, Wrote, Got, Copied, Lawful}
+use Rattle.mt_verify.specs.Prelude.{Shortage, NoNodes, reply_text, most_trees, ToldLine, What, Wrote, Got, Copied, Lawful, most_lanes}
 use Rattle.mt_verify.specs.declared.calls.Numbered.{Numbered}
 use Rattle.mt_verify.specs.declared.heard.Readers.{Readers}
-use Rattle.mt_base.specs.Limits.{most_lanes}
-
-abbrev pub is_got : What → Bool
-is_got (Wrote number call reply) = false
-is_got (Got lo hi query answer) = true
-is_got (Copied count) = false
-is_got (Lawful count) = false
+use Rattle.mt_verify.specs.ToldReads.{is_got}
 
 -- the line reports that this lane read this tree, in a phase that was not later
-abbrev pub reads_by : ℕ → ℕ → ℕ → Told → Bool
+abbrev pub reads_by : ℕ → ℕ → ℕ → ToldLine → Bool
 reads_by tree lane phase r = (r.lane == lane) && ((r.tree == tree) && (nat_le r.phase phase && is_got r.what))
 
 -- another lane than a call's, which read the tree in a phase that was not later
-pub record IsReader (told : List Told) (tree : ℕ) (call : Numbered) (lane : ℕ) : Type 0 where
+pub record IsReader (told : List ToldLine) (tree : ℕ) (call : Numbered) (lane : ℕ) : Type 0 where
   pub other : lane ≢ call.lane
   pub reads : list_any (reads_by tree lane call.phase) told ≡ true
 
@@ -49,13 +42,13 @@ pub record SaysShortage (text : List ℕ) (s : Shortage) : Type 0 where
 
 -- The reply in the text is this shortage. If nodes were held, and only then, a reader is named: another lane that had read the
 -- tree.
-pub record IsToldShortage (told : List Told) (tree : ℕ) (call : Numbered) (s : Shortage) : Type 0 where
+pub record IsToldShortage (told : List ToldLine) (tree : ℕ) (call : Numbered) (s : Shortage) : Type 0 where
   pub printed : call.reply.now ≡ shortage_printed s
   pub some : IsSome s.by ↔ (0 < s.held)
   pub by : IfSome s.by (λ holder. IsReader told tree call holder.pass)
 
 -- what is heard of it: someone who read before any call is named
-pub record IsHeard (told : List Told) (tree : ℕ) (call : Numbered) (s : Shortage) : Type 0 where
+pub record IsHeard (told : List ToldLine) (tree : ℕ) (call : Numbered) (s : Shortage) : Type 0 where
   pub is : IsToldShortage told tree call s
   pub epoch : IfSome s.by (λ holder. holder.epoch ≡ 0)
 
@@ -65,7 +58,7 @@ abbrev pub HasReadBy : Option ℕ → ℕ → Type 0
 HasReadBy first phase = IsSomeAnd first (λ p. p ≤ phase)
 
 -- each lane has read a tree by a phase exactly where its first phase there is that one or lower
-abbrev pub AreReaders : Readers → List Told → Type 0
+abbrev pub AreReaders : Readers → List ToldLine → Type 0
 AreReaders readers told = (tree lane phase : ℕ) (other : Option ℕ) → tree < most_trees → lane < most_lanes
     → HasReadBy (slice_index_or readers.first (16 * tree + lane) other) phase
     ↔ (list_any (reads_by tree lane phase) told ≡ true)

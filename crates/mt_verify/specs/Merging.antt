@@ -4,7 +4,7 @@
 use Rattle.std.specs.Prelude.{ℕ, ◌+◌, ◌*◌, List, [], option_map, slice_get, unwrap_or}
 use Rattle.mt_verify.specs.Going.{Lane}
 use Rattle.mt_verify.specs.GoneTrees.{GoneTree}
-use Rattle.mt_base.specs.Limits.{most_lanes}
+use Rattle.mt_verify.specs.Prelude.{most_lanes}
 
 -- the numbers of a lane's reads on a tree
 abbrev pub points_in : List Lane → ℕ → List ℕ

@@ -1,11 +1,11 @@
 -- The order of what a text reports, by call numbers and windows. It is tested before any map is made.
 -- Source: this project's own.
 use Rattle.std.specs.Prelude.{◌≡◌, ◌⊎◌, ℕ, ◌<◌, ◌≤◌, List, length}
-use Rattle.mt_verify.specs.Prelude.{Told, What, Wrote, Got, Copied, Lawful}
+use Rattle.mt_verify.specs.Prelude.{ToldLine, What, Wrote, Got, Copied, Lawful}
 use Rattle.mt_verify.specs.ToldCalls.{calls_told}
 
 -- Of two lines on one tree the later knows of the earlier where both are of one lane, or the earlier's phase is lower.
-abbrev pub Knows : Told → Told → Type 0
+abbrev pub Knows : ToldLine → ToldLine → Type 0
 Knows s t = (s.lane ≡ t.lane) ⊎ (s.phase < t.phase)
 
 -- The later line keeps to the earlier: a call has a higher number than a call, and than the end of a read's window; a
@@ -22,7 +22,7 @@ KeepsTo (Got lo hi q a) (Lawful count) = Unit {0}
 KeepsTo (Copied count) other = Unit {0}
 KeepsTo (Lawful count) other = Unit {0}
 
-abbrev pub InPrintedOrder : Told → Told → Type 0
+abbrev pub InPrintedOrder : ToldLine → ToldLine → Type 0
 InPrintedOrder s t = s.tree ≡ t.tree → Knows s t → KeepsTo s.what t.what
 
 -- ---- the ends of windows
@@ -35,5 +35,5 @@ EndsWithin calls (Copied count) = Unit {0}
 EndsWithin calls (Lawful count) = Unit {0}
 
 -- its window ends within the calls that the text reports on its tree
-abbrev pub EndsInTree : List Told → Told → Type 0
+abbrev pub EndsInTree : List ToldLine → ToldLine → Type 0
 EndsInTree told t = EndsWithin (length (calls_told t.tree told)) t.what

@@ -1,7 +1,6 @@
 -- The places where a text reports how many ranges a tree had, while its history is gone through.
 -- Source: this project's own.
-use Rattle.std.specs.Prelude.{◌≡◌, ℕ, ◌+◌, ◌==◌, ◌<◌, ◌≤◌, Bool, true, false, List, Option, Some, None, length, slice_get}
-use Rattle.std.specs.Fmt.{decimal}
+use Rattle.std.specs.Prelude.{◌≡◌, ℕ, ◌+◌, ◌==◌, ◌<◌, ◌≤◌, Bool, true, false, List, Option, Some, None, length, slice_get, decimal}
 use Rattle.mt_verify.specs.Prelude.{Range}
 use Rattle.mt_verify.specs.declared.stops.Stop.{Stop}
 

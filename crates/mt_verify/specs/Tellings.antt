@@ -1,7 +1,6 @@
 -- How many calls and how many reads a transcript reports.
 -- Source: this project's own.
-use Rattle.std.specs.Prelude.{ℕ, Bool, true, false, length}
-use Rattle.std.specs.List.{filter}
+use Rattle.std.specs.Prelude.{ℕ, Bool, true, false, length, filter}
 use Rattle.mt_verify.specs.Prelude.{Item, Write, Said, Transcript}
 use Rattle.mt_log.specs.declared.transcripts.Said.TheVariants as said
 

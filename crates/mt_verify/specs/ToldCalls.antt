@@ -2,7 +2,7 @@
 -- Source: this project's own.
 use Rattle.std.specs.Prelude.{◌≡◌, ◌⊎◌, ℕ, ◌+◌, ◌==◌, ◌<◌, List, [], ◌∷◌, Option, Some, None, IsPermutation, count_by, length, if◌then◌else◌}
 use Rattle.std.specs.List.{enumerate_from, filter_map}
-use Rattle.mt_verify.specs.Prelude.{Record, reply_text, Told, What, Wrote, Got, Copied, Lawful}
+use Rattle.mt_verify.specs.Prelude.{Record, reply_text, ToldLine, What, Wrote, Got, Copied, Lawful}
 use Rattle.mt_verify.specs.declared.calls.Numbered.{Numbered}
 
 -- a call, by its number
@@ -14,14 +14,14 @@ numbered_of lane phase (Copied count) = None
 numbered_of lane phase (Lawful count) = None
 
 -- where it is one on this tree
-abbrev pub numbered_on_told : ℕ → Told → Option (ℕ × Numbered)
+abbrev pub numbered_on_told : ℕ → ToldLine → Option (ℕ × Numbered)
 numbered_on_told tree t = if t.tree == tree then numbered_of t.lane t.phase t.what else None
 
-abbrev pub calls_told : ℕ → List Told → List (ℕ × Numbered)
+abbrev pub calls_told : ℕ → List ToldLine → List (ℕ × Numbered)
 calls_told tree told = filter_map (numbered_on_told tree) told
 
 -- these are the calls on a tree in the order of their numbers, which are 1 and on, each once
-abbrev pub AreCallsOf : ℕ → List Told → List Numbered → Type 0
+abbrev pub AreCallsOf : ℕ → List ToldLine → List Numbered → Type 0
 AreCallsOf tree told list = IsPermutation (enumerate_from 1 list) (calls_told tree told)
 
 -- ---- a table of places, the first of which has this number

@@ -1,12 +1,11 @@
 -- What is known of the lines of a text when the trees of its log are gone through.
 -- Source: this project's own.
 use Rattle.std.specs.Prelude.{◌<◌, ◌≤◌, ◌^◌, ℕ, List, All, AllPairs, length}
-use Rattle.mt_verify.specs.Prelude.{most_rows, Log, IsReadable, trees_of, Told}
+use Rattle.mt_verify.specs.Prelude.{most_rows, Log, IsReadable, trees_of, ToldLine, most_lanes}
 use Rattle.mt_verify.specs.PrintedOrder.{EndsInTree}
-use Rattle.mt_base.specs.Limits.{most_lanes}
 
 -- The lines are of the log's trees and lanes, phase by phase, and no window ends after the last call on its tree.
-pub record IsOfLog (log : Log) (rows : ℕ) (told : List Told) : Type 0 where
+pub record IsOfLog (log : Log) (rows : ℕ) (told : List ToldLine) : Type 0 where
   pub readable : IsReadable log.lines
   pub few_rows : rows ≤ most_rows
   pub few : length told < 2 ^ 57

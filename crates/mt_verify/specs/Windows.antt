@@ -1,7 +1,6 @@
 -- The order of steps without the numbers at which reads are true: what is tested before any map is made.
 -- Source: this project's own.
-use Rattle.std.specs.Prelude.{◌≡◌, ℕ, ◌+◌, ◌<◌, ◌≤◌, true, List, AllPairs, length}
-use Rattle.std.specs.List.{filter_map}
+use Rattle.std.specs.Prelude.{◌≡◌, ℕ, ◌+◌, ◌<◌, ◌≤◌, true, List, AllPairs, length, filter_map}
 use Rattle.mt_verify.specs.Prelude.{Outcome, Called, Looked, Counted, Step, Knows, is_read, numbered_on}
 use Rattle.mt_verify.specs.Points.{lo_of, read_number}
 

@@ -6,7 +6,7 @@ ghost use Rattle.mt_verify.specs.declared.calls.Numbered.{Numbered};
 ghost use Rattle.mt_verify.specs.ToldCalls.{AreCallsOf, HasNoPlace, calls_told, filled_from, numbered_on_told};
 
 use mt_base::{Call, NoMemory};
-use mt_told::{Told, What};
+use mt_told::{ToldLine, What};
 use std::alloc::Global;
 
 /// A call in a text, without its number and its tree: who made it and when, what it was, and the bytes of its reply.
@@ -19,7 +19,7 @@ pub struct Numbered<'t> {
 }
 
 /// The call that a line reports, with its number, if it is a call on this tree.
-fn numbered_on<'t>(told: &Told<'t>, tree: u32) -> Option<(u64, Numbered<'t>)>
+fn numbered_on<'t>(told: &ToldLine<'t>, tree: u32) -> Option<(u64, Numbered<'t>)>
     ensures { result ≡ numbered_on_told tree told.now }
 {
     if told.tree != tree {
@@ -44,7 +44,7 @@ fn numbered_on<'t>(told: &Told<'t>, tree: u32) -> Option<(u64, Numbered<'t>)>
 }
 
 /// How many calls on a tree the text reports.
-pub fn count_calls(told: &[Told], tree: u32) -> usize
+pub fn count_calls(told: &[ToldLine], tree: u32) -> usize
     ensures { result ≡ length (calls_told tree told.now) }
 {
     told.iter().filter_map(|one| numbered_on(one, tree)).count()
@@ -68,7 +68,7 @@ fn put<'t>(places: &mut [Option<Numbered<'t>>], number: u64, call: Numbered<'t>)
 }
 
 /// Puts each call on a tree in the place of its number. Returns whether each had one.
-fn fill<'t>(told: &[Told<'t>], tree: u32, places: &mut [Option<Numbered<'t>>]) -> bool
+fn fill<'t>(told: &[ToldLine<'t>], tree: u32, places: &mut [Option<Numbered<'t>>]) -> bool
     requires { filled_from 1 places.old ≡ [] }
     ensures filled { OnTrue result (IsPermutation (filled_from 1 places.new) (calls_told tree told.now)) }
     ensures not { OnFalse result ((list : List Numbered) → length list ≡ length places.old
@@ -117,7 +117,7 @@ fn places<'t>(alloc: Global, count: usize) -> Result<Vec<Option<Numbered<'t>>>, 
 /// The calls on a tree that the text reports, found by putting them into as many free places.
 fn calls_in<'t>(
     alloc: Global,
-    told: &[Told<'t>],
+    told: &[ToldLine<'t>],
     tree: u32,
     places: &mut [Option<Numbered<'t>>],
 ) -> Result<Option<Vec<Numbered<'t>>>, NoMemory>
@@ -136,7 +136,7 @@ fn calls_in<'t>(
 /// The calls on a tree that the text reports, in the order of their numbers, from 1 on. None if their numbers are others.
 pub fn calls_on<'t>(
     alloc: Global,
-    told: &[Told<'t>],
+    told: &[ToldLine<'t>],
     tree: u32,
 ) -> Result<Option<Vec<Numbered<'t>>>, NoMemory>
     ensures { IfOk result (λ found. MatchOption found

@@ -6,11 +6,11 @@ ghost use Rattle.mt_verify.specs.OwnLines.{stop_at, stops_told};
 
 use crate::stops::Stop;
 use mt_base::NoMemory;
-use mt_told::{Told, What};
+use mt_told::{ToldLine, What};
 use std::alloc::Global;
 
 /// The stop (check or copy) of a line, after this many calls.
-fn stop_of<'t>(told: &Told<'t>, at: u64) -> Option<Stop<'t>>
+fn stop_of<'t>(told: &ToldLine<'t>, at: u64) -> Option<Stop<'t>>
     ensures { result ≡ stop_at at told.now.what }
 {
     match told.what {
@@ -20,7 +20,7 @@ fn stop_of<'t>(told: &Told<'t>, at: u64) -> Option<Stop<'t>>
 }
 
 /// Adds the stop that a line is, if it is one.
-fn push_stop<'t>(stops: &mut Vec<Stop<'t>>, told: &Told<'t>, at: u64) -> Result<(), NoMemory>
+fn push_stop<'t>(stops: &mut Vec<Stop<'t>>, told: &ToldLine<'t>, at: u64) -> Result<(), NoMemory>
     ensures { OnOk result (stops.new.items ≡ stops.old.items ++ option_to_list (stop_at at told.now.what)) }
 {
     if let Some(stop) = stop_of(told, at) {
@@ -63,7 +63,7 @@ impl Counting {
 }
 
 /// The numbers of ranges that these lines of a tree report, in order.
-pub fn stops_of<'t>(alloc: Global, own: &[Told<'t>]) -> Result<Vec<Stop<'t>>, NoMemory>
+pub fn stops_of<'t>(alloc: Global, own: &[ToldLine<'t>]) -> Result<Vec<Stop<'t>>, NoMemory>
     requires { AllPairs (λ s t. s.phase ≤ t.phase) own.now }
     ensures { IfOk result (λ stops. stops.items ≡ stops_told own.now) }
 {

@@ -22,7 +22,7 @@ use crate::stops::Stops;
 use crate::trees::go_through;
 use mt_base::{Kind, NoMemory};
 use mt_shelves::ShelfMap;
-use mt_told::Told;
+use mt_told::ToldLine;
 use std::alloc::Global;
 use std::marker::Model;
 
@@ -74,7 +74,7 @@ pub struct Rules {
 fn go_calls<'t>(
     alloc: Global,
     rules: Rules,
-    told: &[Told<'t>],
+    told: &[ToldLine<'t>],
     tree: u32,
     kind: Kind,
     map: &mut ShelfMap,
@@ -122,7 +122,7 @@ fn go_calls<'t>(
 pub fn go_tree<'t>(
     alloc: Global,
     rules: Rules,
-    told: &[Told<'t>],
+    told: &[ToldLine<'t>],
     readers: &Readers,
     tree: u32,
     kind: Kind,

@@ -5,14 +5,14 @@ ghost use Rattle.std.specs.Fmt.{decimal};
 ghost use Rattle.std.specs.List.{list_any};
 ghost use Rattle.mt_log.specs.Trees.{most_trees};
 ghost use Rattle.mt_base.specs.Limits.{most_lanes};
-ghost use Rattle.mt_told.specs.declared.told.Told.{Told};
+ghost use Rattle.mt_told.specs.declared.told.ToldLine.{ToldLine};
 ghost use Rattle.mt_base.specs.declared.replies.Shortage.{Shortage};
 ghost use Rattle.mt_verify.specs.Heard.{AreReaders, IsHeard, IsNumberAlone, IsSmallShortage, IsToldShortage, HasReadBy, SaysShortage, reads_by};
 ghost use Rattle.mt_verify.specs.Heard.{shortage_printed};
 
 use crate::calls::Numbered;
 use mt_base::{Holder, Shortage};
-use mt_told::{Told, What, behind_word, number_before, number_in_front};
+use mt_told::{ToldLine, What, behind_word, number_before, number_in_front};
 
 /// For each lane on each tree the first phase in which it reads, if it does.
 #[derive(Drop)]
@@ -35,7 +35,7 @@ impl Readers {
     ghost use Rattle.std.specs.List.{list_any};
     ghost use Rattle.mt_log.specs.Trees.{most_trees};
     ghost use Rattle.mt_base.specs.Limits.{most_lanes};
-    ghost use Rattle.mt_told.specs.declared.told.Told.{Told};
+    ghost use Rattle.mt_told.specs.declared.told.ToldLine.{ToldLine};
     ghost use Rattle.mt_verify.specs.Heard.{AreReaders, reads_by};
 
     /// No line was gone through.
@@ -46,10 +46,10 @@ impl Readers {
     }
 
     /// A line is gone through.
-    fn add(&mut self, told: &Told)
+    fn add(&mut self, told: &ToldLine)
         requires tree { told.now.tree < most_trees }
         requires lane { told.now.lane < most_lanes }
-        ensures { (earlier : List Told) → AreReaders self.old earlier → AreReaders self.new (earlier ++ told.now ∷ []) }
+        ensures { (earlier : List ToldLine) → AreReaders self.old earlier → AreReaders self.new (earlier ++ told.now ∷ []) }
     {
         if let What::Got { .. } = told.what {
             let place = 16 * told.tree as usize + told.lane as usize;
@@ -61,7 +61,7 @@ impl Readers {
     fn has_read(&self, tree: u32, lane: u32, phase: u64) -> bool
         requires tree { tree < most_trees }
         requires lane { lane < most_lanes }
-        ensures { (told : List Told) → AreReaders self.now told → IsTrue result
+        ensures { (told : List ToldLine) → AreReaders self.now told → IsTrue result
             ↔ (list_any (reads_by tree lane phase) told ≡ true) }
     {
         match self.first[16 * tree as usize + lane as usize] {
@@ -73,9 +73,9 @@ impl Readers {
     /// The lowest lane beside this one that has read a tree by the end of a phase.
     fn beside(&self, tree: u32, lane: u32, phase: u64) -> Option<u32>
         requires { tree < most_trees }
-        ensures some { (told : List Told) → AreReaders self.now told
+        ensures some { (told : List ToldLine) → AreReaders self.now told
             → IfSome result (λ l. (l ≢ lane) × (list_any (reads_by tree l phase) told ≡ true)) }
-        ensures none { (told : List Told) → AreReaders self.now told → All (λ t. t.lane < most_lanes) told
+        ensures none { (told : List ToldLine) → AreReaders self.now told → All (λ t. t.lane < most_lanes) told
             → IfNone result ((l : ℕ) → l ≢ lane → list_any (reads_by tree l phase) told ≡ true → ⊥) }
     {
         for other in 0..16 {
@@ -88,7 +88,7 @@ impl Readers {
 }
 
 /// The lanes that read trees, and from which phase on.
-pub fn readers_of(told: &[Told]) -> Readers
+pub fn readers_of(told: &[ToldLine]) -> Readers
     requires trees { All (λ t. t.tree < most_trees) told.now }
     requires lanes { All (λ t. t.lane < most_lanes) told.now }
     ensures { AreReaders result told.now }
@@ -138,10 +138,10 @@ pub fn shortage_in(text: &[u8]) -> Option<Shortage>
 /// another lane is named that had read the tree by then. None where it was not refused so, or nobody can be named.
 pub fn shortage_heard(readers: &Readers, tree: u32, call: &Numbered) -> Option<Shortage>
     requires { tree < most_trees }
-    ensures some { (told : List Told) → AreReaders readers.now told
+    ensures some { (told : List ToldLine) → AreReaders readers.now told
         → IfSome result (λ s. IsHeard told tree call.now s) }
     ensures small { IfSome result (λ s. IsSmallShortage s) }
-    ensures none { (told : List Told) → AreReaders readers.now told → All (λ t. t.lane < most_lanes) told
+    ensures none { (told : List ToldLine) → AreReaders readers.now told → All (λ t. t.lane < most_lanes) told
         → IfNone result ((s : Shortage) → IsSmallShortage s → IsToldShortage told tree call.now s → ⊥) }
 {
     let short = shortage_in(call.reply)?;

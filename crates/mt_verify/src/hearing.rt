@@ -4,7 +4,7 @@ ghost use Rattle.std.specs.Prelude.{◌≡◌, ◌<◌, ◌++◌, ℕ, List, All
 ghost use Rattle.std.specs.Bool.{OnTrue, OnFalse};
 ghost use Rattle.mt_log.specs.Trees.{most_trees};
 ghost use Rattle.mt_base.specs.Limits.{most_lanes};
-ghost use Rattle.mt_told.specs.declared.told.Told.{Told};
+ghost use Rattle.mt_told.specs.declared.told.ToldLine.{ToldLine};
 ghost use Rattle.mt_verify.specs.Heard.{AreReaders};
 ghost use Rattle.mt_verify.specs.Hearing.{AreNotedOf, IsHeardOf, IsMisheard, IsNotedOf, SomeMisheard};
 
@@ -26,9 +26,9 @@ fn is_refusal(reply: &[u8]) -> bool
 /// What is known of a call on a tree. Nothing if its reply begins as a refusal because nodes are short, and is none.
 fn heard<'t>(readers: &Readers, tree: u32, call: &Numbered<'t>) -> Option<Heard<'t>>
     requires { tree < most_trees }
-    ensures some { (told : List Told) → AreReaders readers.now told
+    ensures some { (told : List ToldLine) → AreReaders readers.now told
         → IfSome result (λ heard. IsHeardOf told tree call.now heard) }
-    ensures none { (told : List Told) → AreReaders readers.now told → All (λ t. t.lane < most_lanes) told
+    ensures none { (told : List ToldLine) → AreReaders readers.now told → All (λ t. t.lane < most_lanes) told
         → IfNone result (IsMisheard told tree call.now) }
 {
     if !is_refusal(call.reply) {
@@ -41,9 +41,9 @@ fn heard<'t>(readers: &Readers, tree: u32, call: &Numbered<'t>) -> Option<Heard<
 /// A call with what is heard of it.
 fn noted<'t>(readers: &Readers, tree: u32, call: &Numbered<'t>) -> Option<Noted<'t>>
     requires { tree < most_trees }
-    ensures some { (told : List Told) → AreReaders readers.now told
+    ensures some { (told : List ToldLine) → AreReaders readers.now told
         → IfSome result (λ n. IsNotedOf told tree call.now n) }
-    ensures none { (told : List Told) → AreReaders readers.now told → All (λ t. t.lane < most_lanes) told
+    ensures none { (told : List ToldLine) → AreReaders readers.now told → All (λ t. t.lane < most_lanes) told
         → IfNone result (IsMisheard told tree call.now) }
 {
     let heard = heard(readers, tree, call)?;
@@ -64,9 +64,9 @@ pub fn all_noted<'t>(
     calls: &[Numbered<'t>],
 ) -> Result<Option<Vec<Noted<'t>>>, NoMemory>
     requires { tree < most_trees }
-    ensures some { IfOk result (λ found. (told : List Told) → AreReaders readers.now told
+    ensures some { IfOk result (λ found. (told : List ToldLine) → AreReaders readers.now told
         → IfSome found (λ noted. AreNotedOf told tree calls.now noted.items)) }
-    ensures none { IfOk result (λ found. (told : List Told) → AreReaders readers.now told
+    ensures none { IfOk result (λ found. (told : List ToldLine) → AreReaders readers.now told
         → All (λ t. t.lane < most_lanes) told → IfNone found (SomeMisheard told tree calls.now)) }
 {
     let mut all = Vec::with_capacity(alloc, calls.len())?;

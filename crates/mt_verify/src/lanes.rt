@@ -4,7 +4,7 @@ ghost use Rattle.std.specs.Prelude.{◌≡◌, ℕ, List, IfOk};
 ghost use Rattle.mt_base.specs.declared.ranges.Range.{Range};
 ghost use Rattle.mt_verify.specs.Going.{AreLanesDone, AreOn, HavePassed, looks_of};
 
-use crate::looks::Look;
+use crate::looks::ToldRead;
 use crate::tracks::advance;
 use mt_base::NoMemory;
 use mt_shelves::ShelfMap;
@@ -14,7 +14,7 @@ use std::marker::Model;
 /// The looks of a lane on a tree, in the order of the log, and the numbers that the first of them have.
 #[derive(Drop)]
 pub struct Track {
-    looks: Vec<Look>,
+    looks: Vec<ToldRead>,
     points: Vec<u64>,
 }
 
@@ -43,7 +43,7 @@ impl Track {
     }
 
     /// These looks, none of which has a number.
-    pub fn new(alloc: Global, looks: Vec<Look>) -> Self
+    pub fn new(alloc: Global, looks: Vec<ToldRead>) -> Self
         ensures looks { result.looks ≡ looks.items }
         ensures points { result.points ≡ [] }
     {

@@ -13,10 +13,10 @@ ghost use Rattle.mt_log.specs.declared.lines.Log.{Log};
 ghost use Rattle.mt_log.specs.declared.transcripts.Transcript.{Transcript};
 ghost use Rattle.mt_log.specs.Run.{Step, InOrder, IsHeldRightly, IsRunBy, holder_in, numbered_on};
 ghost use Rattle.mt_log.specs.Trees.{IsReadable, trees_of};
-ghost use Rattle.mt_told.specs.declared.told.Told.{Told};
+ghost use Rattle.mt_told.specs.declared.told.ToldLine.{ToldLine};
 ghost use Rattle.mt_told.specs.Telling.{AreTold, IsTold};
 ghost use Rattle.mt_verify.specs.declared.calls.Numbered.{Numbered};
-ghost use Rattle.mt_verify.specs.declared.looks.Look.{Look};
+ghost use Rattle.mt_verify.specs.declared.looks.ToldRead.{ToldRead};
 ghost use Rattle.mt_verify.specs.declared.noted.Noted.{Noted};
 ghost use Rattle.mt_verify.specs.Choices.{AreChosen, AreClosed, AreFirst, IsLate, IsNowhere, Passes};
 ghost use Rattle.mt_verify.specs.Going.{AreAnswered};
@@ -55,9 +55,9 @@ pub fn the_first_numbers_are_the_least()
 /// A lane whose looks have the first numbers that do has the least that they may have; one that is stuck can have none.
 #[tactic(auto, using(crate::proofs::LeastNumbers::picked_is_least, crate::proofs::LeastNumbers::stuck_has_none))]
 pub fn a_lane_has_the_least_numbers_or_none()
-    ensures picked { (m : ℕ → List Range) (looks : List Look) (points : List ℕ) → ArePicked m looks points
+    ensures picked { (m : ℕ → List Range) (looks : List ToldRead) (points : List ℕ) → ArePicked m looks points
         → length points ≡ length looks → AreLeastOf m looks points }
-    ensures stuck { (m : ℕ → List Range) (looks : List Look) (points : List ℕ) → IsStuck m looks points → (k : ℕ → ℕ)
+    ensures stuck { (m : ℕ → List Range) (looks : List ToldRead) (points : List ℕ) → IsStuck m looks points → (k : ℕ → ℕ)
         → MayHave m looks k → ⊥ }
 {}
 
@@ -182,7 +182,7 @@ pub fn a_lane_without_numbers_refuses_the_text()
 
 /// The reads of steps with this text are those of the text.
 pub fn the_looks_of_steps_are_told()
-    ensures { (version tree lane : ℕ) (told : List Told) (steps : List Step) → AreTold version told steps
+    ensures { (version tree lane : ℕ) (told : List ToldLine) (steps : List Step) → AreTold version told steps
         → looks_on tree lane steps ≡ looks_told tree lane told }
 {}
 
@@ -196,27 +196,27 @@ pub fn a_picked_run_has_the_least_points()
 
 /// Runs with the same lines have the same text: what is printed shows whether a call was refused because nodes are short.
 pub fn runs_told_by_one_list_are_told_alike()
-    ensures { (version : ℕ) (told : List Told) (steps steps' : List Step) → AreTold version told steps
+    ensures { (version : ℕ) (told : List ToldLine) (steps steps' : List Step) → AreTold version told steps
         → AreTold version told steps' → AreToldAlike steps steps' }
 {}
 
 /// The order of steps with this text is that of the text, and so are the ends of windows.
 pub fn the_order_of_steps_is_told()
-    ensures order { (version : ℕ) (told : List Told) (steps : List Step) → AreTold version told steps
+    ensures order { (version : ℕ) (told : List ToldLine) (steps : List Step) → AreTold version told steps
         → AllPairs InPrintedOrder told ↔ AllPairs of_steps.InPrintedOrder steps }
-    ensures ends { (version : ℕ) (told : List Told) (steps : List Step) → AreTold version told steps
+    ensures ends { (version : ℕ) (told : List ToldLine) (steps : List Step) → AreTold version told steps
         → All (EndsInTree told) told ↔ All (of_steps.EndsInTree steps) steps }
 {}
 
 /// The calls of steps with this text are those of the text, each of its lane, and with a reply that prints as in the text.
 pub fn the_calls_of_steps_are_told()
-    ensures { (version : ℕ) (tree : ℕ) (told : List Told) (steps : List Step) → AreTold version told steps
+    ensures { (version : ℕ) (tree : ℕ) (told : List ToldLine) (steps : List Step) → AreTold version told steps
         → AreRecordsTold version (calls_told tree told) (filter_map (numbered_on tree) steps) }
 {}
 
 /// In steps with this text a holder is named rightly exactly if the text says that it is another lane, which had read the tree.
 pub fn the_holders_of_steps_are_told()
-    ensures { (version : ℕ) (told : List Told) (steps : List Step) (t : Told) (s : Step) (number : ℕ) (call : Numbered)
+    ensures { (version : ℕ) (told : List ToldLine) (steps : List Step) (t : ToldLine) (s : Step) (number : ℕ) (call : Numbered)
         → AreTold version told steps → IsTold version t s → numbered_on_told t.tree t ≡ Some (number, call)
         → IsHeldRightly steps s ↔ IfSome (holder_in s.outcome) (λ holder. IsReader told t.tree call holder.pass) }
 {}

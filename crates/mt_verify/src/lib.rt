@@ -29,9 +29,10 @@ mod windows;
 
 pub use asking::calls_of;
 pub use heard::shortage_in;
-pub use looks::{Look, is_true};
+pub use lines::look_told;
+pub use looks::{ToldRead, is_true};
 pub use shortages::is_short;
-pub use verdicts::{Points, Verdict};
+pub use verdicts::Verdict;
 pub use verifying::verify;
 pub use wants::wants_rows;
 pub use windows::windows_keep;

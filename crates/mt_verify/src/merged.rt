@@ -9,7 +9,7 @@ ghost use Rattle.mt_verify.specs.Merging.{cell_of, points_at};
 
 use crate::gone::Gone;
 use mt_base::{MOST_LANES, NoMemory};
-use mt_told::{Told, What};
+use mt_told::{ToldLine, What};
 use std::alloc::Global;
 
 /// Whether a line reports a read.
@@ -36,7 +36,7 @@ fn points_at<'a>(gone: &'a [Gone], tree: u32, lane: u32) -> &'a [u64]
 }
 
 /// The number of the read that a line reports, which is the next one of its lane on its tree.
-fn next_point(used: &mut [usize], gone: &[Gone], told: &Told) -> u64
+fn next_point(used: &mut [usize], gone: &[Gone], told: &ToldLine) -> u64
     requires lane { told.now.lane < most_lanes }
     requires cell { cell_of told.now.tree told.now.lane < length used.old }
     requires room { slice_index used.old (cell_of told.now.tree told.now.lane)
@@ -58,7 +58,7 @@ fn next_point(used: &mut [usize], gone: &[Gone], told: &Told) -> u64
 /// # Errors
 ///
 /// `NoMemory` where memory ran out.
-pub fn points_of(alloc: Global, told: &[Told], gone: &[Gone]) -> Result<Vec<u64>, NoMemory>
+pub fn points_of(alloc: Global, told: &[ToldLine], gone: &[Gone]) -> Result<Vec<u64>, NoMemory>
     requires trees { All (λ t. t.tree < length gone.now) told.now }
     requires lanes { All (λ t. t.lane < most_lanes) told.now }
     requires looks { (tree : ℕ) (g : GoneTree) → slice_get gone.now tree ≡ Some g

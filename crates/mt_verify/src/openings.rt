@@ -11,11 +11,11 @@ use crate::gone::Gone;
 use crate::replays::make_all_again;
 use mt_base::NoMemory;
 use mt_shelves::ShelfMap;
-use mt_told::{Told, What};
+use mt_told::{ToldLine, What};
 use std::alloc::Global;
 
 /// Whether a line reports a call on a tree in a phase before this one.
-fn is_call_before(told: &Told, tree: u32, phase: u64) -> bool
+fn is_call_before(told: &ToldLine, tree: u32, phase: u64) -> bool
     ensures { result ≡ is_call_before tree phase told.now }
 {
     if told.tree != tree || told.phase >= phase {
@@ -28,7 +28,7 @@ fn is_call_before(told: &Told, tree: u32, phase: u64) -> bool
 }
 
 /// How many calls on a tree the text reports in phases before this one.
-fn calls_before(told: &[Told], tree: u32, phase: u64) -> usize
+fn calls_before(told: &[ToldLine], tree: u32, phase: u64) -> usize
     ensures { result ≡ calls_of_phases_before told.now tree phase }
 {
     told.iter()
@@ -55,7 +55,7 @@ fn map_after(alloc: Global, gone: &Gone, calls: usize) -> Result<ShelfMap, NoMem
 pub fn opening_of(
     alloc: Global,
     declared: &Declared,
-    told: &[Told],
+    told: &[ToldLine],
     gone: &[Gone],
 ) -> Result<ShelfMap, NoMemory>
     requires { (tree phase : ℕ) → declared.now.opening ≡ CopyOf tree phase → tree < length gone.now }

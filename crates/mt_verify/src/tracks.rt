@@ -2,7 +2,7 @@ ghost use Rattle.std.specs.Prelude.{◌≡◌, ◌+◌, ◌<◌, ◌≤◌, ℕ,
 ghost use Rattle.mt_base.specs.declared.ranges.Range.{Range};
 ghost use Rattle.mt_verify.specs.Looks.{ArePickedBelow, CanTake, ComesTo, Passed, is_took};
 
-use crate::looks::{Look, is_true};
+use crate::looks::{ToldRead, is_true};
 use mt_base::NoMemory;
 use mt_shelves::ShelfMap;
 
@@ -15,7 +15,7 @@ pub enum Fate {
 }
 
 /// The next look takes the number, unless the look after it then has none.
-fn take(looks: &[Look], points: &mut Vec<u64>, number: u64) -> Result<Fate, NoMemory>
+fn take(looks: &[ToldRead], points: &mut Vec<u64>, number: u64) -> Result<Fate, NoMemory>
     requires { length points.old.items < length looks.now }
     ensures longer { IfOk result (λ fate. length points.new.items ≡ length points.old.items + 1) }
     ensures fate { IfOk result (λ fate. (m : ℕ → List Range) → CanTake m number looks.now points.old.items
@@ -32,7 +32,7 @@ fn take(looks: &[Look], points: &mut Vec<u64>, number: u64) -> Result<Fate, NoMe
 /// One try of the look that comes next at a number, whose map this is.
 fn try_next(
     map: &mut ShelfMap,
-    looks: &[Look],
+    looks: &[ToldRead],
     points: &mut Vec<u64>,
     number: u64,
 ) -> Result<Fate, NoMemory>
@@ -59,7 +59,7 @@ fn try_next(
 /// one. Returns whether none of them is stuck.
 pub fn advance(
     map: &mut ShelfMap,
-    looks: &[Look],
+    looks: &[ToldRead],
     points: &mut Vec<u64>,
     number: u64,
 ) -> Result<bool, NoMemory>

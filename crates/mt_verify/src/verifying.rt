@@ -20,11 +20,11 @@ use crate::gone::{Gone, Rules, go_tree};
 use crate::heard::{Readers, readers_of};
 use crate::merged::points_of;
 use crate::openings::opening_of;
-use crate::verdicts::{Points, Verdict};
+use crate::verdicts::Verdict;
 use crate::windows::{windows_end, windows_keep};
 use mt_base::NoMemory;
 use mt_list::Ranges;
-use mt_log::Log;
+use mt_log::{ListOf, Log};
 use mt_told::{Account, listing_in_front, read_told};
 use std::alloc::Global;
 
@@ -131,7 +131,7 @@ fn judge(
     };
     let points = points_of(alloc, told, &gone)?;
     Ok(Verdict::Yes {
-        points: Points::new(points),
+        points: ListOf::new(points),
     })
 }
 

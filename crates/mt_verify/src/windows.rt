@@ -3,14 +3,14 @@
 ghost use Rattle.std.specs.Prelude.{◌≡◌, ◌↔◌, ◌≤◌, ◌<◌, ℕ, List, All, AllPairs, IsTrue, IfSome, length, slice_index};
 ghost use Rattle.mt_log.specs.Trees.{most_trees};
 ghost use Rattle.mt_base.specs.Limits.{most_lanes};
-ghost use Rattle.mt_told.specs.declared.told.Told.{Told};
+ghost use Rattle.mt_told.specs.declared.told.ToldLine.{ToldLine};
 ghost use Rattle.mt_told.specs.declared.told.What.{What};
 ghost use Rattle.mt_verify.specs.Marked.{Admits, lane_place};
 ghost use Rattle.mt_verify.specs.PrintedOrder.{EndsInTree, EndsWithin, InPrintedOrder, KeepsTo};
 ghost use Rattle.mt_verify.specs.ToldCalls.{calls_told};
 
 use crate::calls::count_calls;
-use mt_told::{Told, What};
+use mt_told::{ToldLine, What};
 
 /// What lines demand of those that know of them: a call's number is above `above`, if there is one, and a read's window begins
 /// at `from` or above.
@@ -85,7 +85,7 @@ struct Marks {
 }
 
 /// The place of a lane on a tree among all.
-fn place_of(told: &Told) -> usize
+fn place_of(told: &ToldLine) -> usize
     requires tree { told.now.tree < most_trees }
     requires lane { told.now.lane < most_lanes }
     ensures place { result ≡ lane_place told.now }
@@ -98,7 +98,7 @@ impl Marks {
     ghost use Rattle.std.specs.Prelude.{◌≡◌, ◌↔◌, ◌≤◌, ◌<◌, ◌++◌, List, [], ◌∷◌, All, IsTrue};
     ghost use Rattle.mt_log.specs.Trees.{most_trees};
     ghost use Rattle.mt_base.specs.Limits.{most_lanes};
-    ghost use Rattle.mt_told.specs.declared.told.Told.{Told};
+    ghost use Rattle.mt_told.specs.declared.told.ToldLine.{ToldLine};
     ghost use Rattle.mt_verify.specs.Marked.{AreMarked};
     ghost use Rattle.mt_verify.specs.PrintedOrder.{InPrintedOrder};
 
@@ -120,7 +120,7 @@ impl Marks {
     fn enter(&mut self, phase: u64)
         requires { self.old.phase ≤ phase }
         ensures phase { self.new.phase ≡ phase }
-        ensures marked { (told : List Told) → AreMarked self.old told → AreMarked self.new told }
+        ensures marked { (told : List ToldLine) → AreMarked self.old told → AreMarked self.new told }
     {
         if self.phase < phase {
             self.before = self.trees;
@@ -129,10 +129,10 @@ impl Marks {
     }
 
     /// Whether a line of this phase keeps to those that it knows of.
-    fn admit(&self, told: &Told) -> bool
+    fn admit(&self, told: &ToldLine) -> bool
         requires tree { told.now.tree < most_trees }
         requires lane { told.now.lane < most_lanes }
-        ensures { (earlier : List Told) → AreMarked self.now earlier → self.now.phase ≡ told.now.phase → IsTrue result
+        ensures { (earlier : List ToldLine) → AreMarked self.now earlier → self.now.phase ≡ told.now.phase → IsTrue result
             ↔ All (λ s. InPrintedOrder s told.now) earlier }
     {
         let place = place_of(told);
@@ -140,11 +140,11 @@ impl Marks {
     }
 
     /// A line of this phase is gone through.
-    fn add(&mut self, told: &Told)
+    fn add(&mut self, told: &ToldLine)
         requires tree { told.now.tree < most_trees }
         requires lane { told.now.lane < most_lanes }
         ensures phase { self.new.phase ≡ self.old.phase }
-        ensures marked { (earlier : List Told) → AreMarked self.old earlier → self.old.phase ≡ told.now.phase
+        ensures marked { (earlier : List ToldLine) → AreMarked self.old earlier → self.old.phase ≡ told.now.phase
             → AreMarked self.new (earlier ++ told.now ∷ []) }
     {
         let place = place_of(told);
@@ -155,7 +155,7 @@ impl Marks {
 }
 
 /// Whether the call numbers and the windows are in order.
-pub fn windows_keep(told: &[Told]) -> bool
+pub fn windows_keep(told: &[ToldLine]) -> bool
     requires trees { All (λ t. t.tree < most_trees) told.now }
     requires lanes { All (λ t. t.lane < most_lanes) told.now }
     requires phases { AllPairs (λ s t. s.phase ≤ t.phase) told.now }
@@ -173,7 +173,7 @@ pub fn windows_keep(told: &[Told]) -> bool
 }
 
 /// How many calls the text reports on each tree.
-fn counts_of(told: &[Told]) -> [usize; 16]
+fn counts_of(told: &[ToldLine]) -> [usize; 16]
     ensures { (tree : ℕ) → tree < most_trees → slice_index result tree ≡ length (calls_told tree told.now) }
 {
     let mut counts = [0; 16];
@@ -194,7 +194,7 @@ fn ends_within(calls: usize, what: &What) -> bool
 }
 
 /// Whether each read's window ends within the calls that the text reports on its tree.
-pub fn windows_end(told: &[Told]) -> bool
+pub fn windows_end(told: &[ToldLine]) -> bool
     requires { All (λ t. t.tree < most_trees) told.now }
     ensures { IsTrue result ↔ All (EndsInTree told.now) told.now }
 {

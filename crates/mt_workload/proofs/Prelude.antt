@@ -1,19 +1,10 @@
 -- What the proofs beside this file take from the toolchain, from the crates below and from this crate's definitions, under one name. Declares nothing.
-pub use Rattle.std.proofs.Common.{Bool, List, None, [], add-zero, ap, append_assoc, arith, codes, cond, false, get_or, inl, inr, length, map, min, refl, subst, suc, sym, take, true, zero, ℕ, ◌%◌, ◌*◌, ◌++◌, ◌+◌, ◌-◌, ◌/◌, ◌<◌, ◌^◌, ◌∙◌, ◌∷◌, ◌≡◌, ◌≤◌}
-pub use Rattle.std.proofs.Math.Nat.{div-lt_iff_lt-mul, mul-lt-mul_of_pos_right, mul_comm}
-pub use Rattle.std.proofs.lemmas.Bool.{cases_lt, le-ltb, lt-ltb}
-pub use Rattle.std.proofs.lemmas.List.{append-nil, length-append, length-map, map-append}
-pub use Rattle.std.proofs.lemmas.List.Sums.{count_by-le-length, count_by_more_no, count_by_more_yes}
+pub use Rattle.std.proofs.Common.{Bool, List, None, [], add-zero, ap, append_assoc, arith, bytes_eq, codes, cond, false, get_or, inl, inr, length, map, min, nat_le, refl, subst, suc, sum_by, sym, take, true, zero, ℕ, ◌%◌, ◌*◌, ◌++◌, ◌+◌, ◌-◌, ◌/◌, ◌<◌, ◌==◌, ◌^◌, ◌∙◌, ◌∷◌, ◌≡◌, ◌≤◌}
+pub use Rattle.mt_base.proofs.Std.{append-nil, cases_lt, count_by-le-length, count_by_more_no, count_by_more_yes, div-lt_iff_lt-mul, le-ltb, length-append, length-map, lt-ltb, map-append, mul-lt-mul_of_pos_right, mul_comm}
 pub use Rattle.std.proofs.lemmas.Nat.{mul-lt}
-pub use Rattle.std.specs.Prelude.{nat_le, sum_by, ◌==◌}
-pub use Rattle.std.specs.Str.{bytes_eq}
 pub use Rattle.mt_log.proofs.Following.{CallSays, CanAllFollow, CanFollow, IsNumber, ItemSays, at_line}
 pub use Rattle.mt_log.proofs.Readable.{are_readable, is_log}
-pub use Rattle.mt_log.specs.Phases.{IsInPlace}
-pub use Rattle.mt_log.specs.Reader.{HasTreeRoom}
-pub use Rattle.mt_log.specs.Reading.{ReadSoFar, after_item, most_scan_steps, nothing_read, scan_steps_of}
-pub use Rattle.mt_log.specs.Trees.{IsReadable, NamesBelow, known_after, tree_declared_by}
-pub use Rattle.mt_base.specs.Limits.{most_lanes}
+pub use Rattle.mt_log.specs.Names.{HasTreeRoom, IsInPlace, IsReadable, NamesBelow, ReadSoFar, after_item, known_after, most_lanes, most_scan_steps, nothing_read, scan_steps_of, tree_declared_by}
 pub use Rattle.mt_log.specs.declared.trees.KnownTree.{KnownTree}
 pub use Rattle.mt_workload.specs.Counting.{AreBelow, with_one_counted}
 pub use Rattle.mt_workload.specs.Draws.{Drawing, next_state}

@@ -1,7 +1,6 @@
 -- A summary that is counted entry by entry.
 -- Source: this project's own.
-use Rattle.std.specs.Prelude.{ℕ, List, ◌+◌, ◌<◌, codes, if◌then◌else◌}
-use Rattle.std.specs.Str.{bytes_eq}
+use Rattle.std.specs.Prelude.{ℕ, List, ◌+◌, ◌<◌, codes, if◌then◌else◌, bytes_eq}
 use Rattle.mt_workload.specs.declared.summaries.Summary.{Summary}
 
 -- with one more entry of this word

@@ -1,8 +1,5 @@
 -- What the definitions beside this file take from the toolchain and from the crates below, under one name. Declares nothing.
-pub use Rattle.mt_base.specs.declared.calls.Call.{Call}
-pub use Rattle.mt_base.specs.declared.calls.Call.TheVariants.{Alloc, Erase, Ralloc, Store}
-pub use Rattle.mt_base.specs.declared.calls.Query.TheVariants.{Find, Load}
-pub use Rattle.mt_base.specs.declared.replies.Reply.{Reply}
+pub use Rattle.mt_log.specs.Names.{Alloc, Call, Erase, Find, Load, Ralloc, Reply, Store}
 pub use Rattle.mt_log.specs.declared.lines.Item.{Item}
 pub use Rattle.mt_log.specs.declared.lines.Item.TheVariants.{Ask, Lane, Scan, Tree, Write}
 pub use Rattle.mt_log.specs.declared.lines.Line.{Line}

@@ -1,8 +1,6 @@
 -- The result of a run, in one line: how often each word was returned, and how many ranges there are at the end.
 -- Source: this project's own.
-use Rattle.std.specs.Prelude.{ℕ, List, ◌++◌, count_by, sum_by, length, codes}
-use Rattle.std.specs.Fmt.{decimal}
-use Rattle.std.specs.Str.{bytes_eq}
+use Rattle.std.specs.Prelude.{ℕ, List, ◌++◌, count_by, sum_by, length, codes, decimal, bytes_eq}
 use Rattle.mt_workload.specs.Prelude.{Reply, Answer, Entry, Said, Wrote, Got, Lawful, Copied, Transcript}
 use Rattle.mt_base.specs.declared.replies.Reply.TheVariants as replies
 use Rattle.mt_log.specs.declared.transcripts.Answer.TheVariants as answers

@@ -1,4 +1,4 @@
-use mt_log::{Item, Line, Lines};
+use mt_log::{Item, Line, ListOf};
 use std::alloc::{AllocError, Global};
 use std::marker::Model;
 
@@ -44,9 +44,9 @@ impl MadeLines {
     }
 
     /// The lines.
-    pub fn into_lines(self) -> Lines
+    pub fn into_lines(self) -> ListOf<Line>
         ensures { result ≡ numbered 2 self }
     {
-        Lines::new(self.lines)
+        ListOf::new(self.lines)
     }
 }

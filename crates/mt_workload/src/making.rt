@@ -9,7 +9,7 @@ use crate::draws::Draws;
 use crate::made_lines::MadeLines;
 use crate::steps::step;
 use mt_base::{Kind, NoMemory};
-use mt_log::{Item, Lines, Log, Word};
+use mt_log::{Item, Line, ListOf, Log, Word};
 use std::alloc::{AllocError, Global};
 
 /// Adds `count` steps.
@@ -79,7 +79,7 @@ fn push_lanes(
 
 /// The lines of the log that is made from this number (seed).
 #[tactic(auto, unfolding(crate::specs::Made::made))]
-fn made_lines(alloc: Global, number: u32, steps: u32, lanes: u32) -> Result<Lines, NoMemory>
+fn made_lines(alloc: Global, number: u32, steps: u32, lanes: u32) -> Result<ListOf<Line>, NoMemory>
     requires number { number < seed_end }
     requires steps { steps ≤ most_steps }
     requires lanes { 1 ≤ lanes }

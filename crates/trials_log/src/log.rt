@@ -62,17 +62,29 @@ fn a_line_is_read_or_refused(rt: HostRuntime) -> Result<(), Fail> {
     expect_tables(&rt, rt.alloc(), TABLES)
 }
 
-/// Each of these logs is printed so.
-fn expect_printed(rt: &impl Abort, alloc: Global, logs: &[(&str, &str)]) -> Result<(), Fail> {
-    for (log, want) in logs {
-        same(rt, outcome(alloc, log)?.as_str(), *want, *log);
+/// A log of these lines and what stands behind them is printed as the lines say, and that is printed as it is. A line that is
+/// printed otherwise has what is printed of it after an arrow; what stands behind the lines is not printed.
+fn expect_lines(rt: &impl Abort, alloc: Global, lines: &str, behind: &str) -> Result<(), Fail> {
+    let (mut log, mut want) = (String::new(alloc), String::new(alloc));
+    for row in lines.lines() {
+        let (line, print) = row.split_once(" -> ").unwrap_or((row, row));
+        log.push_str(line)?;
+        log.push_str("\n")?;
+        want.push_str(print)?;
+        want.push_str("\n")?;
     }
+    same(rt, outcome(alloc, &want)?.as_str(), &want, "printed again");
+    log.push_str(behind)?;
+    same(rt, outcome(alloc, &log)?.as_str(), &want, "the table");
     Ok(())
 }
 
 #[test]
 fn logs_are_read_and_printed(rt: HostRuntime) -> Result<(), Fail> {
-    expect_printed(&rt, rt.alloc(), LOGS)
+    for lines in LOGS {
+        expect_lines(&rt, rt.alloc(), lines, "")?;
+    }
+    expect_lines(&rt, rt.alloc(), "mtlog 1", "\n#\n")
 }
 
 #[test]
@@ -102,17 +114,5 @@ fn all_scans_have_a_million_steps_at_the_most(rt: HostRuntime) -> Result<(), Fai
 
 #[test]
 fn each_line_is_printed_at_its_number(rt: HostRuntime) -> Result<(), Fail> {
-    let alloc = rt.alloc();
-    let (mut log, mut want) = (String::new(alloc), String::new(alloc));
-    for row in PRINTED.lines() {
-        let (line, print) = row.split_once(" -> ").unwrap_or((row, row));
-        log.push_str(line)?;
-        log.push_str("\n")?;
-        want.push_str(print)?;
-        want.push_str("\n")?;
-    }
-    same(&rt, outcome(alloc, &want)?.as_str(), &want, "printed again");
-    log.push_str("# the end\n")?;
-    same(&rt, outcome(alloc, &log)?.as_str(), &want, "the table");
-    Ok(())
+    expect_lines(&rt, rt.alloc(), PRINTED, "# the end\n")
 }

@@ -1,64 +1,33 @@
 //! Logs, what is printed of them again, and why a line is refused.
 
-/// Logs, and what is printed of them.
-pub const LOGS: &[(&str, &str)] = &[
+/// Logs by their lines, each line with what is printed of it after an arrow, if that is another text.
+pub const LOGS: &[&str] = &[
     // Each word is read with its fields.
-    (
-        "mtlog 1
-# one tree
+    "mtlog 1
+# one tree ->\x20
 
 tree abcdefghijklm_16 range
 store abcdefghijklm_16 10 19 5
-insert abcdefghijklm_16 0x14 0x1d max
+insert abcdefghijklm_16 0x14 0x1d max -> insert abcdefghijklm_16 20 29 18446744073709551615
 erase abcdefghijklm_16 3
-#
+# ->\x20
 clear abcdefghijklm_16
 load abcdefghijklm_16 7
 find abcdefghijklm_16 1 2
 next abcdefghijklm_16 3 4
 prev abcdefghijklm_16 6 5
 rfind abcdefghijklm_16 8 7
-scan abcdefghijklm_16 5 0x9 6
-",
-        "mtlog 1
-
-
-tree abcdefghijklm_16 range
-store abcdefghijklm_16 10 19 5
-insert abcdefghijklm_16 20 29 18446744073709551615
-erase abcdefghijklm_16 3
-
-clear abcdefghijklm_16
-load abcdefghijklm_16 7
-find abcdefghijklm_16 1 2
-next abcdefghijklm_16 3 4
-prev abcdefghijklm_16 6 5
-rfind abcdefghijklm_16 8 7
-scan abcdefghijklm_16 5 9 6
-",
-    ),
+scan abcdefghijklm_16 5 0x9 6 -> scan abcdefghijklm_16 5 9 6",
     // An area has its size before its bounds.
-    (
-        "mtlog 1
+    "mtlog 1
 tree b alloc
 alloc b 1 2 3 4
-ralloc b 0x5 6 7 max
-gap b max 8 9
-rgap b 10 11 max
-store b 0 9 1
-",
-        "mtlog 1
-tree b alloc
-alloc b 1 2 3 4
-ralloc b 5 6 7 18446744073709551615
-gap b 18446744073709551615 8 9
-rgap b 10 11 18446744073709551615
-store b 0 9 1
-",
-    ),
+ralloc b 0x5 6 7 max -> ralloc b 5 6 7 18446744073709551615
+gap b max 8 9 -> gap b 18446744073709551615 8 9
+rgap b 10 11 max -> rgap b 10 11 18446744073709551615
+store b 0 9 1",
     // A phase begins with trees that are declared, copied and checked.
-    (
-        "mtlog 1
+    "mtlog 1
 tree a range
 dup a b
 check b
@@ -72,70 +41,26 @@ join
 join
 tree d range
 dup c e
-load e 2
-",
-        "mtlog 1
-tree a range
-dup a b
-check b
-store a 1 1 5
-pstore a 0 9 7
-join
-check a
-dup b c
-load c 1
-join
-join
-tree d range
-dup c e
-load e 2
-",
-    ),
+load e 2",
     // A lane may be named anywhere in a phase.
-    (
-        "mtlog 1
-lane 0xF
+    "mtlog 1
+lane 0xF -> lane 15
 tree a range
 lane 0
 load a 1
-lane 00000000000000000007
+lane 00000000000000000007 -> lane 7
 lane 15
 load a 2
 join
 lane 3
-check a
-",
-        "mtlog 1
-lane 15
-tree a range
-lane 0
-load a 1
-lane 7
-lane 15
-load a 2
-join
-lane 3
-check a
-",
-    ),
+check a",
     // A log of the second version.
-    (
-        "mtlog 2
+    "mtlog 2
 
 tree a range
-# a range
-store a 0x0 9 5
-erase a 010
-",
-        "mtlog 2
-
-tree a range
-
-store a 0 9 5
-erase a 10
-",
-    ),
-    ("mtlog 1\n\n#\n", "mtlog 1\n"),
+# a range ->\x20
+store a 0x0 9 5 -> store a 0 9 5
+erase a 010 -> erase a 10",
 ];
 
 /// Tables. Each node is what a log has between the text before the table and the text after it. After an arrow comes the last

@@ -44,8 +44,10 @@ mtlog 1/tree a range/store a 5 4 1/store a 1 1 2/insert a 1 2 4098/insert a 2 3 
 3 1 invalid/4 2 invalid/5 3 ok/6 4 ok/7 5 invalid/8 6 none/tree a range 2/1 2 4098/3 3 1/ -> no
 # Room that is sought, low and high.
 mtlog 1/tree a alloc/store a 0 9 1/store a 20 29 1/alloc a 10 0 max 3/ralloc a 10 0 max 4/gap a 11 5 25/gap a 0 0 9/
-3 1 ok/4 2 ok/5 3 start 10/6 4 start 18446744073709551606/7 5 busy/8 6 invalid/tree a alloc 4/0 9 1/10 19 3/20 29 1/18446744073709551606 18446744073709551615 4/ -> yes
-3 1 ok/4 2 ok/5 3 start 30/6 4 start 18446744073709551606/7 5 busy/8 6 invalid/tree a alloc 4/0 9 1/20 29 1/30 39 3/18446744073709551606 18446744073709551615 4/ -> no
+3 1 ok/4 2 ok/5 3 start 10/6 4 start 18446744073709551606/7 5 busy/8 6 invalid/tree a alloc 4/0 9 1/10 19 3/20 29 1/\
+    18446744073709551606 18446744073709551615 4/ -> yes
+3 1 ok/4 2 ok/5 3 start 30/6 4 start 18446744073709551606/7 5 busy/8 6 invalid/tree a alloc 4/0 9 1/20 29 1/30 39 3/\
+    18446744073709551606 18446744073709551615 4/ -> no
 # The greatest index of a narrow tree, and one above it.
 mtlog 1/tree a range32/store a 5 max 7/load a 4294967295/load a 4294967296/
 3 1 ok/4 1 1 entry 7/5 1 1 none/tree a range32 1/5 4294967295 7/ -> yes 1 1
@@ -191,15 +193,49 @@ mtlog 1/tree a range/store a 1 1 1/store a 2 2 1/store a 3 3 1/store a 4 4 1/sto
 3 1 ok/4 2 ok/5 3 ok/6 4 ok/7 5 ok/8 6 nomem 4 3 5 0/9 7 was 1/tree a range 4/2 2 1/3 3 1/4 4 1/5 5 1/ -> no
 # Four lanes on trees of all kinds, which are copied and checked between their phases: other lanes hold rows of a tree and of a
 # copy.
-mtlog 2/tree a range/tree b alloc/tree n range32/tree m alloc32/lane 0/store a 1 1 5/store b 1 1 5/store n 0 max 5/store m 1 1 5/lane 1/store a 2 2 7/load b 1/scan n 9 max 2/lane 2/find a 0 9/alloc m 1 0 9 9/load n max/lane 3/next a 1 9/prev m max 0/store b 1 1 9/join/dup a c/check b/dup m d/lane 1/store c 1 1 9/store c 3 3 9/load d 1/lane 2/load c 2/erase d 1/lane 3/erase a 2/load c 3/lane 0/rfind d 9 0/insert a 1 2 5/
-7 1 ok/8 1 ok/9 1 ok/10 2 ok/12 2 nomem 4 3 1 4/13 0 2 entry 9/14 0 1 range 0 4294967295 5/14 0 1 none/16 0 2 range 1 1 5/17 1 start 0/18 0 1 none/20 0 1 none/21 1 2 range 1 1 5/22 2 over 5/24 copied 1/25 lawful 1/26 copied 2/28 1 over 5/29 2 nomem 4 3 1 4/30 0 1 entry 5/32 0 1 none/33 1 was 1 1 5/35 3 none/36 0 1 none/38 0 1 range 0 0 9/39 4 exists/tree a range 1/1 1 5/tree b alloc 1/1 1 9/tree n range32 1/0 4294967295 5/tree m alloc32 2/0 0 9/1 1 5/tree c range 1/1 1 9/tree d alloc32 1/0 0 9/ -> yes 2 1 1 1 0 0 2 0 0 0 1
-7 1 ok/8 1 ok/9 1 ok/10 2 ok/12 2 nomem 4 3 1 4/13 0 2 entry 9/14 0 1 range 0 4294967295 5/14 0 1 none/16 0 2 range 1 1 5/17 1 start 0/18 0 1 none/20 0 1 none/21 1 2 range 1 1 5/22 2 over 5/24 copied 1/25 lawful 2/26 copied 2/28 1 over 5/29 2 nomem 4 3 1 4/30 0 1 entry 5/32 0 1 none/33 1 was 1 1 5/35 3 none/36 0 1 none/38 0 1 range 0 0 9/39 4 exists/tree a range 1/1 1 5/tree b alloc 1/1 1 9/tree n range32 1/0 4294967295 5/tree m alloc32 2/0 0 9/1 1 5/tree c range 1/1 1 9/tree d alloc32 1/0 0 9/ -> no
-7 1 ok/8 1 ok/9 1 ok/10 2 ok/12 2 nomem 4 3 1 4/13 0 2 entry 9/14 0 1 range 0 4294967295 5/14 0 1 none/16 0 2 range 1 1 5/17 1 start 0/18 0 1 none/20 0 1 none/21 1 2 range 1 1 5/22 2 over 5/24 copied 1/25 lawful 1/26 copied 2/28 1 over 5/29 2 nomem 4 3 1 4/30 0 1 entry 5/32 0 1 none/33 1 was 1 1 5/35 3 none/36 0 1 none/38 0 0 range 0 0 9/39 4 exists/tree a range 1/1 1 5/tree b alloc 1/1 1 9/tree n range32 1/0 4294967295 5/tree m alloc32 2/0 0 9/1 1 5/tree c range 1/1 1 9/tree d alloc32 1/0 0 9/ -> no
-7 1 ok/8 1 ok/9 1 ok/10 2 ok/12 2 nomem 4 3 1 4/13 0 2 entry 9/14 0 1 range 0 4294967295 5/14 0 1 none/16 0 2 range 1 1 5/17 1 start 0/18 0 1 none/20 0 1 none/21 1 2 range 1 1 5/22 2 over 5/24 copied 1/25 lawful 1/26 copied 2/28 1 over 5/29 2 nomem 4 2 1 5/30 0 1 entry 5/32 0 1 none/33 1 was 1 1 5/35 3 none/36 0 1 none/38 0 1 range 0 0 9/39 4 exists/tree a range 1/1 1 5/tree b alloc 1/1 1 9/tree n range32 1/0 4294967295 5/tree m alloc32 2/0 0 9/1 1 5/tree c range 1/1 1 9/tree d alloc32 1/0 0 9/ -> yes 2 1 1 1 0 0 2 0 0 0 1
-7 1 ok/8 1 ok/9 1 ok/10 2 ok/12 2 nomem 4 3 1 4/13 0 2 entry 9/14 0 1 range 0 4294967295 5/14 0 1 none/16 0 2 range 1 1 5/17 1 start 0/18 0 1 none/20 0 1 none/21 1 2 range 1 1 5/22 2 over 5/24 copied 1/25 lawful 1/26 copied 2/28 1 over 5/29 2 nomem 4 3 0 5/30 0 1 entry 5/32 0 1 none/33 1 was 1 1 5/35 3 none/36 0 1 none/38 0 1 range 0 0 9/39 4 exists/tree a range 1/1 1 5/tree b alloc 1/1 1 9/tree n range32 1/0 4294967295 5/tree m alloc32 2/0 0 9/1 1 5/tree c range 1/1 1 9/tree d alloc32 1/0 0 9/ -> no
-mtlog 1/tree a range/tree b alloc/tree n range32/tree m alloc32/lane 0/store a 1 1 5/store b 1 1 5/store n 0 max 5/store m 1 1 5/lane 1/store a 2 2 7/load b 1/scan n 9 max 2/lane 2/find a 0 9/alloc m 1 0 9 9/load n max/lane 3/next a 1 9/prev m max 0/store b 1 1 9/join/dup a c/check b/dup m d/lane 1/store c 1 1 9/store c 3 3 9/load d 1/lane 2/load c 2/erase d 1/lane 3/erase a 2/load c 3/lane 0/rfind d 9 0/insert a 1 2 5/
-7 1 ok/8 1 ok/9 1 ok/10 2 ok/12 2 nomem 4 3 1 4/13 0 2 entry 9/14 0 1 range 0 4294967295 5/14 0 1 none/16 0 2 range 1 1 5/17 1 start 0/18 0 1 none/20 0 1 none/21 1 2 range 1 1 5/22 2 ok/24 copied 1/25 lawful 1/26 copied 2/28 1 ok/29 2 nomem 4 3 1 4/30 0 1 entry 5/32 0 1 none/33 1 was 5/35 3 none/36 0 1 none/38 0 1 range 0 0 9/39 4 exists/tree a range 1/1 1 5/tree b alloc 1/1 1 9/tree n range32 1/0 4294967295 5/tree m alloc32 2/0 0 9/1 1 5/tree c range 1/1 1 9/tree d alloc32 1/0 0 9/ -> yes 2 1 1 1 0 0 2 0 0 0 1
-7 1 ok/8 1 ok/9 1 ok/10 2 ok/12 2 nomem 4 3 1 4/13 0 2 entry 9/14 0 1 range 0 4294967295 5/14 0 1 none/16 0 2 range 1 1 5/17 1 start 0/18 0 1 none/20 0 1 none/21 1 2 range 1 1 5/22 2 over 5/24 copied 1/25 lawful 1/26 copied 2/28 1 over 5/29 2 nomem 4 3 1 4/30 0 1 entry 5/32 0 1 none/33 1 was 1 1 5/35 3 none/36 0 1 none/38 0 1 range 0 0 9/39 4 exists/tree a range 1/1 1 5/tree b alloc 1/1 1 9/tree n range32 1/0 4294967295 5/tree m alloc32 2/0 0 9/1 1 5/tree c range 1/1 1 9/tree d alloc32 1/0 0 9/ -> no
+mtlog 2/tree a range/tree b alloc/tree n range32/tree m alloc32/lane 0/store a 1 1 5/store b 1 1 5/store n 0 max 5/\
+    store m 1 1 5/lane 1/store a 2 2 7/load b 1/scan n 9 max 2/lane 2/find a 0 9/alloc m 1 0 9 9/load n max/lane 3/\
+    next a 1 9/prev m max 0/store b 1 1 9/join/dup a c/check b/dup m d/lane 1/store c 1 1 9/store c 3 3 9/load d 1/\
+    lane 2/load c 2/erase d 1/lane 3/erase a 2/load c 3/lane 0/rfind d 9 0/insert a 1 2 5/
+7 1 ok/8 1 ok/9 1 ok/10 2 ok/12 2 nomem 4 3 1 4/13 0 2 entry 9/14 0 1 range 0 4294967295 5/14 0 1 none/\
+    16 0 2 range 1 1 5/17 1 start 0/18 0 1 none/20 0 1 none/21 1 2 range 1 1 5/22 2 over 5/24 copied 1/25 lawful 1/\
+    26 copied 2/28 1 over 5/29 2 nomem 4 3 1 4/30 0 1 entry 5/32 0 1 none/33 1 was 1 1 5/35 3 none/36 0 1 none/\
+    38 0 1 range 0 0 9/39 4 exists/tree a range 1/1 1 5/tree b alloc 1/1 1 9/tree n range32 1/0 4294967295 5/\
+    tree m alloc32 2/0 0 9/1 1 5/tree c range 1/1 1 9/tree d alloc32 1/0 0 9/ -> yes 2 1 1 1 0 0 2 0 0 0 1
+7 1 ok/8 1 ok/9 1 ok/10 2 ok/12 2 nomem 4 3 1 4/13 0 2 entry 9/14 0 1 range 0 4294967295 5/14 0 1 none/\
+    16 0 2 range 1 1 5/17 1 start 0/18 0 1 none/20 0 1 none/21 1 2 range 1 1 5/22 2 over 5/24 copied 1/25 lawful 2/\
+    26 copied 2/28 1 over 5/29 2 nomem 4 3 1 4/30 0 1 entry 5/32 0 1 none/33 1 was 1 1 5/35 3 none/36 0 1 none/\
+    38 0 1 range 0 0 9/39 4 exists/tree a range 1/1 1 5/tree b alloc 1/1 1 9/tree n range32 1/0 4294967295 5/\
+    tree m alloc32 2/0 0 9/1 1 5/tree c range 1/1 1 9/tree d alloc32 1/0 0 9/ -> no
+7 1 ok/8 1 ok/9 1 ok/10 2 ok/12 2 nomem 4 3 1 4/13 0 2 entry 9/14 0 1 range 0 4294967295 5/14 0 1 none/\
+    16 0 2 range 1 1 5/17 1 start 0/18 0 1 none/20 0 1 none/21 1 2 range 1 1 5/22 2 over 5/24 copied 1/25 lawful 1/\
+    26 copied 2/28 1 over 5/29 2 nomem 4 3 1 4/30 0 1 entry 5/32 0 1 none/33 1 was 1 1 5/35 3 none/36 0 1 none/\
+    38 0 0 range 0 0 9/39 4 exists/tree a range 1/1 1 5/tree b alloc 1/1 1 9/tree n range32 1/0 4294967295 5/\
+    tree m alloc32 2/0 0 9/1 1 5/tree c range 1/1 1 9/tree d alloc32 1/0 0 9/ -> no
+7 1 ok/8 1 ok/9 1 ok/10 2 ok/12 2 nomem 4 3 1 4/13 0 2 entry 9/14 0 1 range 0 4294967295 5/14 0 1 none/\
+    16 0 2 range 1 1 5/17 1 start 0/18 0 1 none/20 0 1 none/21 1 2 range 1 1 5/22 2 over 5/24 copied 1/25 lawful 1/\
+    26 copied 2/28 1 over 5/29 2 nomem 4 2 1 5/30 0 1 entry 5/32 0 1 none/33 1 was 1 1 5/35 3 none/36 0 1 none/\
+    38 0 1 range 0 0 9/39 4 exists/tree a range 1/1 1 5/tree b alloc 1/1 1 9/tree n range32 1/0 4294967295 5/\
+    tree m alloc32 2/0 0 9/1 1 5/tree c range 1/1 1 9/tree d alloc32 1/0 0 9/ -> yes 2 1 1 1 0 0 2 0 0 0 1
+7 1 ok/8 1 ok/9 1 ok/10 2 ok/12 2 nomem 4 3 1 4/13 0 2 entry 9/14 0 1 range 0 4294967295 5/14 0 1 none/\
+    16 0 2 range 1 1 5/17 1 start 0/18 0 1 none/20 0 1 none/21 1 2 range 1 1 5/22 2 over 5/24 copied 1/25 lawful 1/\
+    26 copied 2/28 1 over 5/29 2 nomem 4 3 0 5/30 0 1 entry 5/32 0 1 none/33 1 was 1 1 5/35 3 none/36 0 1 none/\
+    38 0 1 range 0 0 9/39 4 exists/tree a range 1/1 1 5/tree b alloc 1/1 1 9/tree n range32 1/0 4294967295 5/\
+    tree m alloc32 2/0 0 9/1 1 5/tree c range 1/1 1 9/tree d alloc32 1/0 0 9/ -> no
+mtlog 1/tree a range/tree b alloc/tree n range32/tree m alloc32/lane 0/store a 1 1 5/store b 1 1 5/store n 0 max 5/\
+    store m 1 1 5/lane 1/store a 2 2 7/load b 1/scan n 9 max 2/lane 2/find a 0 9/alloc m 1 0 9 9/load n max/lane 3/\
+    next a 1 9/prev m max 0/store b 1 1 9/join/dup a c/check b/dup m d/lane 1/store c 1 1 9/store c 3 3 9/load d 1/\
+    lane 2/load c 2/erase d 1/lane 3/erase a 2/load c 3/lane 0/rfind d 9 0/insert a 1 2 5/
+7 1 ok/8 1 ok/9 1 ok/10 2 ok/12 2 nomem 4 3 1 4/13 0 2 entry 9/14 0 1 range 0 4294967295 5/14 0 1 none/\
+    16 0 2 range 1 1 5/17 1 start 0/18 0 1 none/20 0 1 none/21 1 2 range 1 1 5/22 2 ok/24 copied 1/25 lawful 1/\
+    26 copied 2/28 1 ok/29 2 nomem 4 3 1 4/30 0 1 entry 5/32 0 1 none/33 1 was 5/35 3 none/36 0 1 none/\
+    38 0 1 range 0 0 9/39 4 exists/tree a range 1/1 1 5/tree b alloc 1/1 1 9/tree n range32 1/0 4294967295 5/\
+    tree m alloc32 2/0 0 9/1 1 5/tree c range 1/1 1 9/tree d alloc32 1/0 0 9/ -> yes 2 1 1 1 0 0 2 0 0 0 1
+7 1 ok/8 1 ok/9 1 ok/10 2 ok/12 2 nomem 4 3 1 4/13 0 2 entry 9/14 0 1 range 0 4294967295 5/14 0 1 none/\
+    16 0 2 range 1 1 5/17 1 start 0/18 0 1 none/20 0 1 none/21 1 2 range 1 1 5/22 2 over 5/24 copied 1/25 lawful 1/\
+    26 copied 2/28 1 over 5/29 2 nomem 4 3 1 4/30 0 1 entry 5/32 0 1 none/33 1 was 1 1 5/35 3 none/36 0 1 none/\
+    38 0 1 range 0 0 9/39 4 exists/tree a range 1/1 1 5/tree b alloc 1/1 1 9/tree n range32 1/0 4294967295 5/\
+    tree m alloc32 2/0 0 9/1 1 5/tree c range 1/1 1 9/tree d alloc32 1/0 0 9/ -> no
 ";
 
 /// Verdicts on trees of 33 nodes. A tree that opened empty has at most two nodes, and 28 for each call before, that are live or

@@ -1,15 +1,14 @@
-use Rattle.mt_verify.proofs.Prelude.{◌≡◌, Bool, true, false, List, drop, length, map, sym, ap, ◌∙◌, subst, arith, AllPairs, range_with_len, length-map, Contents, Told, Noted, AreStopsWithin, IsGone, IsLastMap, Lane, looks_of, lane_looks, lines_on, looks_by_lane, stops_told, DoNotFall, calls_told}
+use Rattle.mt_verify.proofs.Prelude.{◌≡◌, Bool, true, false, List, drop, length, map, sym, ap, ◌∙◌, subst, arith, AllPairs, range_with_len, length-map, Contents, ToldLine, Noted, AreStopsWithin, IsGone, IsLastMap, Lane, looks_of, lane_looks, lines_on, looks_by_lane, stops_told, DoNotFall, calls_told, most_lanes}
 use Rattle.mt_verify.proofs.GoneTree.{front_is, gone_from, hindered_by, many_noted}
 use Rattle.mt_verify.proofs.OwnStops.{NoLower, own_rises, stops_rise, stops_within, windows_within}
 use Rattle.mt_verify.proofs.gone.go_calls.Goals.{After-deref_mut}
 use Rattle.mt_verify.proofs.gone.go_calls.Goals as goal
-use Rattle.mt_base.specs.Limits.{most_lanes}
 
 -- what is gone through is the tree's own lines: their looks, their stops and as many notes as calls
 looks_are : (c : After-deref_mut) → looks_of c.deref_mut.result.now ≡ lane_looks c.args.tree c.args.told.now
 looks_are c =
     let own : c.deref.result.now ≡ lines_on c.args.tree c.args.told.now = c.deref.ensures.value ∙ c.in_ok-own.ensures in
-    ap looks_of c.deref_mut.ensures.value ∙ (c.in_ok-tracks.ensures.looks ∙ ap (λ (l : List Told). map (looks_by_lane l) (range_with_len 0 most_lanes)) own)
+    ap looks_of c.deref_mut.ensures.value ∙ (c.in_ok-tracks.ensures.looks ∙ ap (λ (l : List ToldLine). map (looks_by_lane l) (range_with_len 0 most_lanes)) own)
 
 stops_are : (c : After-deref_mut) → c.new-stops.result.stops ≡ stops_told (lines_on c.args.tree c.args.told.now)
 stops_are c = c.new-stops.ensures.stops ∙ (c.in_ok-stops_of.ensures ∙ ap stops_told (c.deref-2.ensures.value ∙ c.in_ok-own.ensures))

@@ -1,16 +1,15 @@
-use Rattle.mt_verify.proofs.Prelude.{◌≡◌, ◌+◌, ◌<◌, ℕ, List, ◌++◌, [], ◌∷◌, true, length, set, take, get_or, sym, ap, ◌∙◌, subst, Vec, Global, slice_index, with_items, take_all, take_more, with_items_is, Store, Told, Wrote, is_got, cell_of, points_at}
+use Rattle.mt_verify.proofs.Prelude.{◌≡◌, ◌+◌, ◌<◌, ℕ, List, ◌++◌, [], ◌∷◌, true, length, set, take, get_or, sym, ap, ◌∙◌, subst, Vec, Global, slice_index, with_items, take_all, take_more, with_items_is, Store, ToldLine, Wrote, is_got, cell_of, points_at, most_lanes}
 use Rattle.mt_verify.proofs.Merging.{IsMerged, all_own, has_next, have_all, idle, merged_by, one_more}
 use Rattle.mt_verify.proofs.merged.points_of.Goals as goal
 use Rattle.mt_verify.proofs.merged.points_of.Goals.{then-is_read+in_ok-push, else-is_read}
-use Rattle.mt_base.specs.Limits.{most_lanes}
 
 -- what the code reads where no line stands
-abbrev no_line : Told
+abbrev no_line : ToldLine
 no_line = record { line = 0; lane = 0; phase = 0; tree = 0; what = Wrote 0 (Store 0 0 0) (record { ref_ptr = (0, 0); now = [] }) }
 
 pub next_point-requires-clause-room : goal.next_point-requires-clause-room
 next_point-requires-clause-room c =
-    let t : Told = get_or c.args.told.now c.loop-one.one-index no_line in
+    let t : ToldLine = get_or c.args.told.now c.loop-one.one-index no_line in
     let before : c.loop-one.one-index < length c.args.told.now = c.loop-one-test.true in
     let got : is_got t.what ≡ true = sym c.is_read.ensures ∙ c.if-is_read.true in
     subst (λ (u : List ℕ). slice_index u (cell_of t.tree t.lane) < length (points_at c.args.gone.now t.tree t.lane)) (sym c.deref_mut.ensures.value)
@@ -18,7 +17,7 @@ next_point-requires-clause-room c =
 
 pub loop-one-preserved : goal.loop-one-preserved
 loop-one-preserved c =
-    let t : Told = get_or c.args.told.now c.loop-one.one-index no_line in
+    let t : ToldLine = get_or c.args.told.now c.loop-one.one-index no_line in
     let before : c.loop-one.one-index < length c.args.told.now = c.loop-one-test.true in
     let next : take c.loop-one.one-index c.args.told.now ++ t ∷ [] ≡ take (c.loop-one.one-index + 1) c.args.told.now = sym (take_more c.args.told.now c.loop-one.one-index no_line before) in
     elim c.if-is_read.branch [
@@ -47,4 +46,4 @@ loop-one-preserved c =
 pub returns-clause-lanes : goal.returns-clause-lanes
 returns-clause-lanes c =
     all_own c.args.gone.now c.args.told.now c.requires.looks c.requires.done c.loop-one.used.items c.loop-one.points.items
-    (subst (λ (l : List Told). IsMerged c.args.gone.now l c.loop-one.used.items c.loop-one.points.items) (take_all c.loop-one.one-index c.args.told.now c.loop-one-test.false) c.loop-one.invariant)
+    (subst (λ (l : List ToldLine). IsMerged c.args.gone.now l c.loop-one.used.items c.loop-one.points.items) (take_all c.loop-one.one-index c.args.told.now c.loop-one-test.false) c.loop-one.invariant)

@@ -1,4 +1,4 @@
-use Rattle.mt_verify.proofs.Prelude.{◌≡◌, ℕ, List, [], Option, Some, Vec, Global, length, slice_get, sym, ap, ◌∙◌, subst, IfNone, IfSome, All, AllPairs, true≢false, trees_of, Told, HaveGoneTo, NoneIsTold, reads_count, own_points, Lane, GoneTree, HasGone, lane_looks, AreLeastPoints, EndsInTree, InPrintedOrder}
+use Rattle.mt_verify.proofs.Prelude.{◌≡◌, ℕ, List, [], Option, Some, Vec, Global, length, slice_get, sym, ap, ◌∙◌, subst, IfNone, IfSome, All, AllPairs, true≢false, trees_of, ToldLine, HaveGoneTo, NoneIsTold, reads_count, own_points, Lane, GoneTree, HasGone, lane_looks, AreLeastPoints, EndsInTree, InPrintedOrder}
 use Rattle.mt_verify.proofs.AllFound.{all_found, has_gone}
 use Rattle.mt_verify.proofs.FoundVerdict.{is_least, no_run, not_ended, not_in_order}
 use Rattle.mt_verify.proofs.verifying.judge.Goals as goal
@@ -26,7 +26,7 @@ go_all-requires-clause-case c = record {
   trees = c.requires.told.trees;
   lanes = c.requires.told.lanes;
   phases = c.requires.told.phases;
-  within = subst (λ (l : List Told). All (EndsInTree l) l) c.deref-else-not-windows_keep.ensures.value (c.windows_end.ensures.0 c.if-not-windows_end.false);
+  within = subst (λ (l : List ToldLine). All (EndsInTree l) l) c.deref-else-not-windows_keep.ensures.value (c.windows_end.ensures.0 c.if-not-windows_end.false);
 }
 
 pub returns-then-not-windows_keep : goal.returns-then-not-windows_keep
@@ -38,7 +38,7 @@ returns-then-not-windows_keep c = elim c.then-not-windows_keep.branch [
   | then-not-windows_keep-via-else-not-windows_keep+then-not-windows_end w ↦
       no_run c.args.log.now c.args.rows c.args.text.now c.requires.small c.args.account.now.told.items c.args.account.now.rest.now c.requires.told
       (not_ended c.args.log.now c.args.rows c.args.text.now c.requires.small c.args.account.now.told.items c.args.account.now.rest.now c.requires.told
-      (λ all. true≢false (sym (w.windows_end.ensures.1 (subst (λ (l : List Told). All (EndsInTree l) l) (sym w.deref-else-not-windows_keep.ensures.value) all)) ∙ w.if-not-windows_end.true)))
+      (λ all. true≢false (sym (w.windows_end.ensures.1 (subst (λ (l : List ToldLine). All (EndsInTree l) l) (sym w.deref-else-not-windows_keep.ensures.value) all)) ∙ w.if-not-windows_end.true)))
 ]
 
 pub returns-in_default : goal.returns-in_default
@@ -58,10 +58,10 @@ pub returns : goal.returns
 returns c =
     let at = (goal.at.returns c).After-deref-4 in
     let order : AllPairs InPrintedOrder c.args.account.now.told.items = subst (AllPairs InPrintedOrder) c.deref.ensures.value (c.windows_keep.ensures.0 c.if-not-windows_keep.false) in
-    let ends : All (EndsInTree c.args.account.now.told.items) c.args.account.now.told.items = subst (λ (l : List Told). All (EndsInTree l) l) c.deref-else-not-windows_keep.ensures.value (c.windows_end.ensures.0 c.if-not-windows_end.false) in
+    let ends : All (EndsInTree c.args.account.now.told.items) c.args.account.now.told.items = subst (λ (l : List ToldLine). All (EndsInTree l) l) c.deref-else-not-windows_keep.ensures.value (c.windows_end.ensures.0 c.if-not-windows_end.false) in
     let numbered : length c.in_ok-points.points.items ≡ reads_count c.args.account.now.told.items = c.in_ok-points.ensures.count ∙ ap reads_count c.deref-3.ensures.value in
     let own : (tree lane : ℕ) (g : GoneTree) (l : Lane) → slice_get c.in-Some.gone.items tree ≡ Some g → slice_get g.lanes lane ≡ Some l → own_points tree lane c.args.account.now.told.items c.in_ok-points.points.items ≡ l.points =
-    λ tree lane g l is at. ap (λ (t : List Told). own_points tree lane t c.in_ok-points.points.items) (sym c.deref-3.ensures.value) ∙ c.in_ok-points.ensures.lanes tree lane g l (ap (λ (x : List GoneTree). slice_get x tree) c.deref-4.ensures.value ∙ is) at in
+    λ tree lane g l is at. ap (λ (t : List ToldLine). own_points tree lane t c.in_ok-points.points.items) (sym c.deref-3.ensures.value) ∙ c.in_ok-points.ensures.lanes tree lane g l (ap (λ (x : List GoneTree). slice_get x tree) c.deref-4.ensures.value ∙ is) at in
     let found = all_found c.args.log.now c.args.rows c.args.text.now c.args.account.now.told.items c.args.account.now.rest.now c.in-Some.gone.items c.in_ok-points.points.items c.requires.told (to at) (count at) order ends numbered own in
     subst (AreLeastPoints c.args.log.now c.args.rows c.args.text.now) (sym c.new.ensures)
     (is_least c.args.log.now c.args.rows c.args.text.now c.requires.small c.args.account.now.told.items c.args.account.now.rest.now c.requires.told c.requires.log c.in-Some.gone.items c.in_ok-points.points.items (to at) found)

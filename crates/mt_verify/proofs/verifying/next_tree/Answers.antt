@@ -1,11 +1,11 @@
-use Rattle.mt_verify.proofs.Prelude.{◌≡◌, ℕ, List, ◌++◌, Option, length, sym, ap, ◌∙◌, subst, arith, IfNone, IfSome, slice_get_within, Declared, trees_of, Told, listing_text, HaveGoneTo, CannotGo, GoneTree, IsGoneFrom, OpensAsMap}
+use Rattle.mt_verify.proofs.Prelude.{◌≡◌, ℕ, List, ◌++◌, Option, length, sym, ap, ◌∙◌, subst, arith, IfNone, IfSome, slice_get_within, Declared, trees_of, ToldLine, listing_text, HaveGoneTo, CannotGo, GoneTree, IsGoneFrom, OpensAsMap}
 use Rattle.mt_verify.proofs.GoingOn.{goes_on, has_source, not_gone, not_listed, opened_kind}
 use Rattle.mt_verify.proofs.verifying.next_tree.Goals.{In_ok-map, After-listing_in_front}
 use Rattle.mt_verify.proofs.verifying.next_tree.Goals as goal
 
 -- the map that was opened
 opens : (c : In_ok-map) → OpensAsMap c.args.account.now.told.items c.args.gone.now.items c.args.declared.now c.in_ok-map.map
-opens c = subst (λ (x : List Told × List GoneTree). OpensAsMap x.0 x.1 c.args.declared.now c.in_ok-map.map) (λ i. (c.deref.ensures.value i, c.deref-2.ensures.value i)) c.in_ok-map.ensures.map
+opens c = subst (λ (x : List ToldLine × List GoneTree). OpensAsMap x.0 x.1 c.args.declared.now c.in_ok-map.map) (λ i. (c.deref.ensures.value i, c.deref-2.ensures.value i)) c.in_ok-map.ensures.map
 
 kind_is : (c : In_ok-map) → c.in_ok-map.map.kind ≡ c.args.declared.now.tree.kind
 kind_is c = opened_kind c.args.log.now c.args.rows c.args.account.now.told.items c.args.account.now.rest.now c.args.gone.now.items c.args.rest.now c.requires.case c.requires.gone c.args.declared.now c.requires.next c.in_ok-map.map (opens c) c.in_ok-map.ensures.empty
@@ -14,7 +14,7 @@ kind_is c = opened_kind c.args.log.now c.args.rows c.args.account.now.told.items
 goes : (c : After-listing_in_front) → IsGoneFrom c.args.log.now.version c.args.rows c.args.account.now.told.items (length c.args.gone.now.items) c.in_ok-map.map c.in-Some.one c.go_tree.new.map
 goes c =
     let place : c.len-tree.result ≡ length c.args.gone.now.items = omega (arith, c.len-tree.ensures) in
-    subst (λ (x : List Told × ℕ). IsGoneFrom c.args.log.now.version c.args.rows x.0 x.1 c.in_ok-map.map c.in-Some.one c.go_tree.new.map) (λ i. (c.deref-3.ensures.value i, place i))
+    subst (λ (x : List ToldLine × ℕ). IsGoneFrom c.args.log.now.version c.args.rows x.0 x.1 c.in_ok-map.map c.in-Some.one c.go_tree.new.map) (λ i. (c.deref-3.ensures.value i, place i))
     (subst (λ (o : Option GoneTree). IfSome o (λ (g : GoneTree). IsGoneFrom c.args.log.now.version c.args.rows c.deref-3.result.now c.len-tree.result c.in_ok-map.map g c.go_tree.new.map)) c.in-Some.is c.in_ok-one.ensures.some)
 
 listing : (c : After-listing_in_front) → listing_text (record { name = c.args.declared.now.tree.name; kind = c.args.declared.now.tree.kind; ranges = c.go_tree.new.map.ranges }) ≡ listing_text (record { name = c.declared.inside.name; kind = c.declared.inside.kind; ranges = c.deref-4.result.now })
@@ -38,7 +38,7 @@ returns-in_default-clause-none c =
     let at = (goal.at.returns-in_default-clause-none c).In_ok-map in
     let place : c.len-tree.result ≡ length c.args.gone.now.items = omega (arith, c.len-tree.ensures) in
     let cannot : CannotGo c.args.log.now.version c.args.rows c.args.account.now.told.items (length c.args.gone.now.items) c.in_ok-map.map.kind c.in_ok-map.map.ranges =
-    subst (λ (x : List Told × ℕ). CannotGo c.args.log.now.version c.args.rows x.0 x.1 c.in_ok-map.map.kind c.in_ok-map.map.ranges) (λ i. (c.deref-3.ensures.value i, place i))
+    subst (λ (x : List ToldLine × ℕ). CannotGo c.args.log.now.version c.args.rows x.0 x.1 c.in_ok-map.map.kind c.in_ok-map.map.ranges) (λ i. (c.deref-3.ensures.value i, place i))
     (subst (λ (o : Option GoneTree). IfNone o (CannotGo c.args.log.now.version c.args.rows c.deref-3.result.now c.len-tree.result c.in_ok-map.map.kind c.in_ok-map.map.ranges)) c.in_default.is c.in_ok-one.ensures.none) in
     not_gone c.args.log.now c.args.rows c.args.account.now.told.items c.args.account.now.rest.now c.args.gone.now.items c.args.rest.now c.requires.case c.requires.gone c.args.declared.now c.requires.next c.in_ok-map.map (opens at) (kind_is at) cannot
 

@@ -1,10 +1,10 @@
-use Rattle.mt_verify.proofs.Prelude.{◌≡◌, ℕ, ◌<◌, ◌≤◌, List, AllPairs, length, take, get_or, arith, refl, sym, subst, IsTrue, take_more, Told, AreMarked, InPrintedOrder}
+use Rattle.mt_verify.proofs.Prelude.{◌≡◌, ℕ, ◌<◌, ◌≤◌, List, AllPairs, length, take, get_or, arith, refl, sym, subst, IsTrue, take_more, ToldLine, AreMarked, InPrintedOrder}
 use Rattle.mt_verify.proofs.InOrder.{pairs_at, pairs_more, pairs_before}
 use Rattle.mt_verify.proofs.windows.windows_keep.Goals as goal
 
 -- behind a line the phases are no lower than its own
-phase_rises : (told : List Told) (i k : ℕ) (d e : Told) (p q : ℕ) → AllPairs (λ s t. s.phase ≤ t.phase) told → i < k → k < length told → p ≡ (get_or told i d).phase → q ≡ p → q ≤ (get_or told k e).phase
-phase_rises told i k d e p q rising before within is same = omega (arith, is, same, pairs_at (λ (s t : Told). s.phase ≤ t.phase) told i k d e before within rising)
+phase_rises : (told : List ToldLine) (i k : ℕ) (d e : ToldLine) (p q : ℕ) → AllPairs (λ s t. s.phase ≤ t.phase) told → i < k → k < length told → p ≡ (get_or told i d).phase → q ≡ p → q ≤ (get_or told k e).phase
+phase_rises told i k d e p q rising before within is same = omega (arith, is, same, pairs_at (λ (s t : ToldLine). s.phase ≤ t.phase) told i k d e before within rising)
 
 pub returns-then-not-admit : goal.returns-then-not-admit
 returns-then-not-admit c =
