@@ -1,11 +1,9 @@
 -- What a draw, and a number that is given back, make of the tree with one pass: no row is held there, and so none is lacked.
-use Rattle.mt_commands.proofs.Prelude.{◌≡◌, ℕ, zero, suc, ◌+◌, ◌^◌, ◌<◌, ◌≤◌, ◌==◌, Bool, true, false, nat_lt, List, [], ◌∷◌, Option, None, Result, Ok, Err, IfOk, IfErr, length, inl, inr, refl, sym, ap, ◌∙◌, arith, length-append, AllByRecursion, if◌then◌else◌, le-ltb, eqb-suc-zero, Erase, Kind, Reply, acted, reserved, History, IsAnswered, Record, limits_after, map_after, Wrote, greatest_of, most_rows, was_acted, Found, IsDrawn, calls_of, drawn, is_bad_draw, is_twofold, Draws, Drawn, Number, Busy, Invalid, Worn, none_lacked, none_short, Done, Tree, allocation_of, is_alone, HasCalled, IsWorn, NamesPass, limit_of, map_seen, opened, passes_of, has_called, map_next, none_held, seen_next, was_legal, HasOnePass, found_in, turns_at, Tally, draws_behind, number_due, map_behind, map_without, tallied, turn}
+use Rattle.mt_commands.proofs.Prelude.{◌≡◌, ℕ, zero, suc, ◌+◌, ◌^◌, ◌<◌, ◌≤◌, ◌==◌, Bool, true, false, nat_lt, List, [], ◌∷◌, Option, None, Result, Ok, Err, IfOk, IfErr, length, inl, inr, refl, sym, ap, ◌∙◌, arith, length-append, AllByRecursion, if◌then◌else◌, le-ltb, eqb-suc-zero, Erase, Kind, Reply, acted, reserved, History, IsAnswered, Record, limits_after, map_after, Wrote, greatest_of, most_rows, was_acted, Found, IsDrawn, calls_of, drawn, is_bad_draw, is_twofold, Draws, Drawn, Number, Busy, Invalid, Worn, none_lacked, none_short, Done, Tree, allocation_of, is_alone, HasCalled, IsWorn, NamesPass, limit_of, map_seen, opened, passes_of, has_called, map_next, none_held, seen_next, was_legal, HasOnePass, found_in, turns_at, Tally, draws_behind, number_due, map_behind, map_without, tallied, turn, most_calls, AreMade}
 use Rattle.mt_base.specs.declared.kinds.Kind.TheVariants as kinds
 use Rattle.mt_base.specs.Passes as known
 use Rattle.mt_ids.specs.declared.ids.Drawn.TheVariants.{NoNodes as Lacks}
 use Rattle.mt_base.specs.declared.outcomes.Worn as worn
-use Rattle.mt_base.specs.Limits.{most_calls}
-use Rattle.mt_ids.specs.Draws.{AreMade}
 
 not_zero : (n : ℕ) → 1 ≤ n → (n == 0) ≡ false
 not_zero zero low = absurd (omega arith)

@@ -1,9 +1,8 @@
 -- A tree of nodes, as its player knows it.
-use Rattle.mt_commands.proofs.Prelude.{◌≡◌, ℕ, zero, suc, ◌+◌, ◌<◌, ◌≤◌, ◌⊎◌, List, length, map, Option, None, Some, refl, sym, ap, subst, ◌∙◌, inl, inr, arith, range_with_len, length-map, le-leb, Range, new_pass, most_rows, IsNewTree, player_passes, Shape, Tree, first_bad, IsNew, Pass, limit_of, opened, pass_in, passes_of, most_calls, Result, Err, IfOk, IfErr, Call, Done, Wrote, Saw, IsWorn}
+use Rattle.mt_commands.proofs.Prelude.{◌≡◌, ℕ, zero, suc, ◌+◌, ◌<◌, ◌≤◌, ◌⊎◌, List, length, map, Option, None, Some, refl, sym, ap, subst, ◌∙◌, inl, inr, arith, range_with_len, length-map, le-leb, Range, new_pass, most_rows, IsNewTree, player_passes, Shape, Tree, first_bad, IsNew, Pass, limit_of, opened, pass_in, passes_of, most_calls, Result, Err, IfOk, IfErr, Call, Done, Wrote, Saw, IsWorn, fewest_rows, most_passes}
 use Rattle.std.proofs.lemmas.Result.{IfErr-weaker, IfOk-weaker}
 use Rattle.mt_base.specs.Passes as known
 use Rattle.mt_base.specs.declared.outcomes.Worn.{Worn as TreeWorn}
-use Rattle.mt_base.specs.Limits.{fewest_rows, most_passes}
 use Rattle.mt_tree.proofs.Looking.{looked_few}
 use Rattle.mt_tree.specs.Copies.{WasCounted}
 use Rattle.mt_tree.specs.Looks.{IsCopyLooked}

@@ -1,9 +1,8 @@
 -- Turns one after another, from a tree that was just made.
-use Rattle.mt_commands.proofs.Prelude.{◌≡◌, ℕ, ◌+◌, ◌^◌, ◌<◌, ◌≤◌, List, [], ◌∷◌, All, length, map, refl, sym, ap, ◌∙◌, subst, arith, length-map, History, Record, last_map, new_pass, with_records, most_rows, Draws, new_draws, Tree, Pass, IsNew, IsPassOf, map_seen, opened, pass_in, HasOnePass, IsFew, IsOnlyPass, turns_at, Tally, Turns, no_tally, turn, turns}
+use Rattle.mt_commands.proofs.Prelude.{◌≡◌, ℕ, ◌+◌, ◌^◌, ◌<◌, ◌≤◌, List, [], ◌∷◌, All, length, map, refl, sym, ap, ◌∙◌, subst, arith, length-map, History, Record, last_map, new_pass, with_records, most_rows, Draws, new_draws, Tree, Pass, IsNew, IsPassOf, map_seen, opened, pass_in, HasOnePass, IsFew, IsOnlyPass, turns_at, Tally, Turns, no_tally, turn, turns, most_calls, most_steps}
 use Rattle.mt_base.specs.declared.kinds.Kind.TheVariants as kinds
 use Rattle.mt_base.specs.Passes as known
 use Rattle.mt_commands.proofs.FewTurns.{few_after, turns_more, window_after}
-use Rattle.mt_base.specs.Limits.{most_calls, most_steps}
 
 module _ (t : Tree) (p : known.Pass) (d : Draws) (tally : Tally) (lo hi i drops : ℕ) (here : turns_at t p d tally ≡ turns lo hi i drops) where
   pub few_now : i ≤ most_steps → hi < 2 ^ 64 → IsFew (map_seen t p) most_steps

@@ -1,5 +1,5 @@
 -- A step of a cursor is one of a lane's walk.
-use Rattle.mt_commands.proofs.Prelude.{◌≡◌, ℕ, ◌+◌, ◌≤◌, List, Option, Some, None, refl, sym, ap, ◌∙◌, arith, Range, Query, Load, Find, Next, Prev, Rfind, History, Read, find_at, HasStepped, most_made, opened_with, place_behind, Walk, HasWalkedOn, opened_at}
+use Rattle.mt_commands.proofs.Prelude.{◌≡◌, ℕ, ◌+◌, ◌≤◌, List, Option, Some, None, refl, sym, ap, ◌∙◌, arith, Range, Query, Load, Find, Next, Prev, Rfind, History, Read, find_at, HasStepped, most_made, epochs_opened, place_behind, Walk, HasWalkedOn, opened_at}
 use Rattle.mt_base.specs.Passes.{Pass}
 
 -- any query is answered in so many steps at the most
@@ -10,7 +10,7 @@ few_steps (Next index max) = omega arith
 few_steps (Prev index min) = omega arith
 few_steps (Rfind index min) = omega arith
 
-same_opened : (epoch : Option ℕ) (opened : List ℕ) (lo : ℕ) → opened_with epoch opened lo ≡ opened_at lo epoch opened
+same_opened : (epoch : Option ℕ) (opened : List ℕ) (lo : ℕ) → epochs_opened epoch opened lo ≡ opened_at lo epoch opened
 same_opened None opened lo = refl
 same_opened (Some epoch) opened lo = refl
 

@@ -2,10 +2,9 @@
 -- Source: this project's own.
 use Rattle.std.specs.Prelude.{◌≡◌, ℕ, ◌≤◌, List, [], Option, Some, None, length}
 use Rattle.mt_base.specs.declared.kinds.Kind.TheVariants as kinds
-use Rattle.mt_commands.specs.Prelude.{Range, IsMap, places, most_rows, Found, Draws, Drawn, Number, Busy, Invalid, NoNodes, Worn, Tree, limit_of, map_seen, opened, passes_of}
+use Rattle.mt_commands.specs.Prelude.{Range, IsMap, places, most_rows, Found, Draws, Drawn, Number, Busy, Invalid, NoNodes, Worn, Tree, limit_of, map_seen, opened, passes_of, most_calls}
 use Rattle.mt_base.specs.Passes as known
 use Rattle.mt_commands.specs.Turns.{Tally, Turns}
-use Rattle.mt_base.specs.Limits.{most_calls}
 
 -- An allocation tree with as many nodes and calls as a tree may have, which opened empty and has one handle.
 pub record HasOnePass (t : Tree) : Type 0 where

@@ -1,8 +1,7 @@
 -- Numbers drawn in turn on an empty tree (cyclic allocation), each given back after more draws, and the result of that in one
 -- line.
 -- Source: this project's own; a draw is the kernel's mtree_alloc_cyclic.
-use Rattle.std.specs.Prelude.{◌≡◌, ℕ, ◌+◌, ◌-◌, nat_lt, List, [], ◌∷◌, ◌++◌, Option, Some, None, length, codes, if◌then◌else◌}
-use Rattle.std.specs.Fmt.{decimal}
+use Rattle.std.specs.Prelude.{◌≡◌, ℕ, ◌+◌, ◌-◌, nat_lt, List, [], ◌∷◌, ◌++◌, Option, Some, None, length, codes, if◌then◌else◌, decimal}
 use Rattle.std.specs.List.{fold, range_with_len, slice_get}
 use Rattle.std.specs.Option.{option_flatten, unwrap_or}
 use Rattle.mt_base.specs.declared.kinds.Kind.TheVariants as kinds

@@ -10,7 +10,7 @@ ghost use Rattle.mt_commands.specs.Texts.{IsImageListing};
 use crate::trees::LaneTree;
 use mt_base::{Kind, NoMemory, Range};
 use mt_image::{ImageError, read_image};
-use mt_log::{Entries, Listing, Listings, RangeList, Transcript, Word, render};
+use mt_log::{ListOf, Listing, Transcript, Word, render};
 use mt_replay::list_settled;
 use mt_tree::PlainRows;
 use std::alloc::Global;
@@ -48,12 +48,12 @@ fn listing(alloc: Global, kind: Kind, ranges: Vec<Range>) -> Result<Vec<u8>, NoM
     lists.push(Listing {
         name: image_name(),
         kind,
-        ranges: RangeList::new(ranges),
+        ranges: ListOf::new(ranges),
     })?;
     let alone = Transcript {
         version: 1,
-        entries: Entries::new(Vec::new(alloc)),
-        lists: Listings::new(lists),
+        entries: ListOf::new(Vec::new(alloc)),
+        lists: ListOf::new(lists),
     };
     render(alloc, &alone)
 }

@@ -44,18 +44,18 @@ lane_went knows items lane n rows rows' desk desk' passes passes' ran count coun
 
 -- ---- a lane with its desk
 
-abbrev pub IsKept : {R P T : Type 0} → Lane (LaneDesk R P T) → Lane (LaneDesk R P T) → Type 0
-IsKept l m = m ≡ record l { desk = record l.desk { passes = m.desk.passes } }
+abbrev pub KeepsButPasses : {R P T : Type 0} → Lane (LaneDesk R P T) → Lane (LaneDesk R P T) → Type 0
+KeepsButPasses l m = m ≡ record l { desk = record l.desk { passes = m.desk.passes } }
 
 abbrev pub shown : {R P T : Type 0} → (T → SharedTree) → (P → Pass) → LaneDesk R P T → DeskState
 shown tree knows d = desk_of tree knows d.lane d.phase d.trees.now d.lines.all d.passes.items d.room.items
 
 -- a desk has its passes
-pub mans : {R P T V : Type 0} (knows : P → Pass) (serves : T → P → Type 0) (items : V → List P) (i : ℕ) (rows : List V) (l m : Lane (LaneDesk R P T)) → IsKept l m → CanPass knows serves items i l.desk.trees.now rows → length m.desk.passes.items ≡ length rows
+pub mans : {R P T V : Type 0} (knows : P → Pass) (serves : T → P → Type 0) (items : V → List P) (i : ℕ) (rows : List V) (l m : Lane (LaneDesk R P T)) → KeepsButPasses l m → CanPass knows serves items i l.desk.trees.now rows → length m.desk.passes.items ≡ length rows
     → ((tree : ℕ) (v : V) (p : P) → tree < length rows → get_or m.desk.passes.items tree p ≡ pass_at items rows tree i v p) → IsManned knows serves m.desk.trees.now m.desk.passes.items
 mans {R} {P} {T} {V} knows serves items i rows l m kept can count taken = subst (λ (z : Lane (LaneDesk R P T)). IsManned knows serves z.desk.trees.now m.desk.passes.items) (sym kept) (is_manned knows serves items i l.desk.trees.now rows m.desk.passes.items can count taken)
 
-pub can_run : {R P T V : Type 0} (knows : P → Pass) (serves : T → P → Type 0) (items : V → List P) (i : ℕ) (rows : List V) (l m : Lane (LaneDesk R P T)) → IsKept l m
+pub can_run : {R P T V : Type 0} (knows : P → Pass) (serves : T → P → Type 0) (items : V → List P) (i : ℕ) (rows : List V) (l m : Lane (LaneDesk R P T)) → KeepsButPasses l m
     → IsLaid l.steps (length l.desk.trees.now) l.desk.lines.all l.desk.lines.left (vec_len l.desk.passes) (vec_len l.desk.room) (vec_capacity l.desk.room) → CanPass knows serves items i l.desk.trees.now rows → length m.desk.passes.items ≡ length rows
     → ((tree : ℕ) (v : V) (p : P) → tree < length rows → get_or m.desk.passes.items tree p ≡ pass_at items rows tree i v p)
     → CanRun (λ d. length d.lines.all) (λ d s. IsDeskReady knows serves d.trees.now d.lines.all d.lines.left s d.passes.items (vec_len d.room) (vec_capacity d.room)) m
@@ -73,20 +73,20 @@ can_run {R} {P} {T} {V} knows serves items i rows l m kept laid can count taken 
 abbrev pub Did : {R P T : Type 0} → (T → SharedTree) → (P → Pass) → (T → P → Type 0) → LaneDesk R P T → ℕ → LaneDesk R P T → Type 0
 Did tree knows serves x s y = DeskDid (shown tree knows x) s (shown tree knows y) × StillManned knows serves x.trees.now y.trees.now y.passes.items
 
-pub has_run : {R P T V : Type 0} (tree : T → SharedTree) (knows : P → Pass) (serves : T → P → Type 0) (items : V → List P) (i : ℕ) (rows : List V) (l m n : Lane (LaneDesk R P T)) → IsKept l m → CanPass knows serves items i l.desk.trees.now rows → length m.desk.passes.items ≡ length rows
+pub has_run : {R P T V : Type 0} (tree : T → SharedTree) (knows : P → Pass) (serves : T → P → Type 0) (items : V → List P) (i : ℕ) (rows : List V) (l m n : Lane (LaneDesk R P T)) → KeepsButPasses l m → CanPass knows serves items i l.desk.trees.now rows → length m.desk.passes.items ≡ length rows
     → ((number : ℕ) (v : V) (p : P) → number < length rows → get_or m.desk.passes.items number p ≡ pass_at items rows number i v p) → Chain (Did tree knows serves) m.steps m.desk n.desk
     → LaneRan l.steps (shown tree knows m.desk) (shown tree knows n.desk) × StillManned knows serves m.desk.trees.now n.desk.trees.now n.desk.passes.items
 has_run {R} {P} {T} {V} tree knows serves items i rows l m n kept can count taken chain =
     let ran = desk_ran (shown tree knows) (λ (d : LaneDesk R P T). d.trees.now) (λ (d : LaneDesk R P T). d.passes.items) knows serves m.steps m.desk n.desk (mans knows serves items i rows l m kept can count taken) chain in
     (subst (λ (z : ℕ). LaneRan z (shown tree knows m.desk) (shown tree knows n.desk)) (ap (λ z. z.steps) kept) ran.0, ran.1)
 
-pub still_passes : {R P T V : Type 0} (knows : P → Pass) (serves : T → P → Type 0) (items : V → List P) (i : ℕ) (rows rows' : List V) (l m n : Lane (LaneDesk R P T)) → IsKept l m → CanPass knows serves items i l.desk.trees.now rows → StillManned knows serves m.desk.trees.now n.desk.trees.now n.desk.passes.items → length rows' ≡ length rows
+pub still_passes : {R P T V : Type 0} (knows : P → Pass) (serves : T → P → Type 0) (items : V → List P) (i : ℕ) (rows rows' : List V) (l m n : Lane (LaneDesk R P T)) → KeepsButPasses l m → CanPass knows serves items i l.desk.trees.now rows → StillManned knows serves m.desk.trees.now n.desk.trees.now n.desk.passes.items → length rows' ≡ length rows
     → ((tree : ℕ) (v : V) (p : P) → tree < length rows' → pass_at items rows' tree i v p ≡ get_or n.desk.passes.items tree p) → CanPass knows serves items i l.desk.trees.now rows'
 still_passes {R} {P} {T} {V} knows serves items i rows rows' l m n kept can still count given =
     let trees : n.desk.trees.now ≡ l.desk.trees.now = still.trees_stay ∙ ap (λ (z : Lane (LaneDesk R P T)). z.desk.trees.now) kept in
     can_pass knows serves items i l.desk.trees.now rows' n.desk.passes.items (subst (λ (z : List T). IsManned knows serves z n.desk.passes.items) trees still.manned) (count ∙ can.count) given
 
-pub lane_goes : {R P T V : Type 0} (tree : T → SharedTree) (knows : P → Pass) (items : V → List P) (i : ℕ) (rows rows' : List V) (l m n k : Lane (LaneDesk R P T)) → IsKept l m → IsKept n k → LaneRan l.steps (shown tree knows m.desk) (shown tree knows n.desk) → length m.desk.passes.items ≡ length rows → length n.desk.passes.items ≡ length rows
+pub lane_goes : {R P T V : Type 0} (tree : T → SharedTree) (knows : P → Pass) (items : V → List P) (i : ℕ) (rows rows' : List V) (l m n k : Lane (LaneDesk R P T)) → KeepsButPasses l m → KeepsButPasses n k → LaneRan l.steps (shown tree knows m.desk) (shown tree knows n.desk) → length m.desk.passes.items ≡ length rows → length n.desk.passes.items ≡ length rows
     → ((number : ℕ) (v : V) (p : P) → number < length rows → get_or m.desk.passes.items number p ≡ pass_at items rows number i v p) → ((number : ℕ) (v : V) (p : P) → number < length rows → pass_at items rows' number i v p ≡ get_or n.desk.passes.items number p)
     → LaneWent knows items i l.steps rows rows' (shown tree knows l.desk) (shown tree knows k.desk)
 lane_goes {R} {P} {T} {V} tree knows items i rows rows' l m n k kept kept' ran count count' taken given =

@@ -1,7 +1,6 @@
 -- How many lanes a log has.
-use Rattle.mt_desks.proofs.Prelude.{◌≡◌, ℕ, ◌+◌, ◌<◌, ◌≤◌, true, false, List, [], ◌∷◌, ◌++◌, arith, refl, inl, inr, max, AllByRecursion, cases_Bool, false≢true, all_join, Item, Dup, Check, Write, Ask, Scan, Line, phase_after, Asked, asked_from, is_answered, lane_after, lane_of, AreNamedFrom, count_after, lane_behind, both, every, next_lane, counts_in, is_step, lanes_in, steps_in}
+use Rattle.mt_desks.proofs.Prelude.{◌≡◌, ℕ, ◌+◌, ◌<◌, ◌≤◌, true, false, List, [], ◌∷◌, ◌++◌, arith, refl, inl, inr, max, AllByRecursion, cases_Bool, false≢true, all_join, Item, Dup, Check, Write, Ask, Scan, Line, phase_after, Asked, asked_from, is_answered, lane_after, lane_of, AreNamedFrom, count_after, lane_behind, both, every, next_lane, counts_in, is_step, lanes_in, steps_in, most_lanes}
 use Rattle.mt_desks.proofs.Asking.{counts_placed, steps_of_phase}
-use Rattle.mt_base.specs.Limits.{most_lanes}
 
 pub some_lane : (here : ℕ) (lines : List Line) → 1 ≤ lanes_in here lines
 some_lane here [] = omega arith

@@ -1,22 +1,9 @@
 -- What the proofs beside this file take from the toolchain, from the crates below and from this crate's definitions, under one name. Declares nothing.
-pub use Rattle.std.proofs.Common.{Bool, Bor, Global, List, None, Option, Some, Vec, [], ap, append_assoc, arith, drop, drop-cons, false, get_or, inl, inr, length, length-append, map, refl, slice_get, slice_set, subst, suc, sym, take, true, zero, ℕ, ◌&&◌, ◌*◌, ◌++◌, ◌+◌, ◌-◌, ◌<◌, ◌==◌, ◌∙◌, ◌∷◌, ◌≡◌, ◌≢◌, ◌≤◌, ◌⊎◌}
-pub use Rattle.std.proofs.lemmas.Bool.{and_parts, cases_Bool, cases_eq, cases_lt, eq-eqb, eqb-false, eqb-true, false≢true, ne_eqb, true≢false}
-pub use Rattle.std.proofs.lemmas.List.{append-nil, get_or-map, get_or-set_other, get_or-set_same, get_or_default, length-map, length-set, map-append, map-set, take-append-le, take_all}
+pub use Rattle.std.proofs.Common.{Bool, Bor, Global, List, None, Option, Some, Vec, [], ap, append_assoc, arith, drop, drop-cons, false, get_or, inl, inr, length, length-append, map, max, option_map, option_to_list, refl, slice_get, slice_set, subst, suc, sym, take, true, vec_capacity, vec_len, zero, ℕ, ◌&&◌, ◌*◌, ◌++◌, ◌+◌, ◌-◌, ◌<◌, ◌==◌, ◌∙◌, ◌∷◌, ◌≡◌, ◌≢◌, ◌≤◌, ◌⊎◌}
+pub use Rattle.mt_base.proofs.Std.{All-from_recursion, AllByRecursion, and_parts, append-nil, cases_Bool, cases_eq, cases_lt, eq-eqb, eqb-false, eqb-true, false≢true, filter, filter_map-append, get_or-map, get_or-set_other, get_or-set_same, get_or_default, get_or_from_slice_get, length-map, length-set, map-append, map-set, ne_eqb, recursion_from_All, slice_get-get_or, slice_get-map, slice_get_read, slice_get_within, take-append-le, take_all, true≢false}
 pub use Rattle.std.proofs.lemmas.List.Concat.{flat_map-append}
-pub use Rattle.std.proofs.lemmas.List.Elements.{All-from_recursion, filter_map-append, recursion_from_All}
-pub use Rattle.std.proofs.lemmas.Option.{get_or_from_slice_get, slice_get-get_or, slice_get-map, slice_get_read, slice_get_within}
-pub use Rattle.std.specs.List.{AllByRecursion, filter}
-pub use Rattle.std.specs.Option.{option_map, option_to_list}
-pub use Rattle.std.specs.Prelude.{max}
-pub use Rattle.std.specs.Vec.{vec_capacity, vec_len}
-pub use Rattle.mt_base.proofs.Goings.{begins_long}
-pub use Rattle.mt_base.proofs.Lists.{all_join}
-pub use Rattle.mt_base.specs.Passes.{Saw}
-pub use Rattle.mt_log.specs.Phases.{AreInPlaceFrom, IsInPlace, phase_after, stepped_from}
-pub use Rattle.mt_log.specs.Run.{Called, Looked, Outcome, asked_from, is_answered, lane_of, step_of}
-pub use Rattle.mt_base.specs.Places.{place_behind, place_within}
-pub use Rattle.mt_log.specs.Trees.{AreNamedFrom, Declared, IsReadable, count_after, declared_by, trees_from, trees_of}
-pub use Rattle.mt_base.specs.Limits.{most_lanes}
+pub use Rattle.mt_base.proofs.Lemmas.{all_join, begins_long}
+pub use Rattle.mt_log.specs.Names.{AreInPlaceFrom, AreNamedFrom, Called, Declared, IsInPlace, IsReadable, Looked, Outcome, Saw, asked_from, count_after, declared_by, is_answered, lane_of, most_lanes, phase_after, place_behind, place_within, step_of, stepped_from, trees_from, trees_of}
 pub use Rattle.mt_log.specs.declared.lines.Item.TheVariants.{Tree}
 pub use Rattle.mt_linearize.proofs.FewCalls.{line_calls, lines_of_lanes, numbers_long_on}
 pub use Rattle.mt_linearize.proofs.Knowing.{leads_onward}

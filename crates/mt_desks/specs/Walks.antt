@@ -1,8 +1,7 @@
 -- How far a walk over a shared tree's ranges has come, and what a step does to it.
 -- Source: the kernel's documentation of the maple tree, mas_for_each, whose state is kept from range to range.
 use Rattle.std.specs.Prelude.{◌≡◌, ◌≢◌, ℕ, ◌+◌, ◌≤◌, List, [], ◌∷◌, ◌++◌, Option, Some, None, length}
-use Rattle.mt_desks.specs.Prelude.{Range, History, Pass, Read, find_at}
-use Rattle.mt_base.specs.Places.{place_behind}
+use Rattle.mt_desks.specs.Prelude.{Range, History, Pass, Read, find_at, place_behind}
 
 -- The tree as it opened. Which reference to its handle the walk has, what that handle knows, and how many steps it has made
 -- without the lock. Where the walk goes on, and its bound. The section that is open for the handle is the walk's own.

@@ -1,17 +1,10 @@
 -- What the proofs beside this file take from the toolchain, from the crates below and from this crate's definitions, under one name. Declares nothing.
-pub use Rattle.std.proofs.Common.{List, Option, Some, [], ap, append_assoc, arith, codes, inl, inr, length, refl, replicate, rules, string_bytes, subst, suc, sym, take, zero, ℕ, ◌*◌, ◌++◌, ◌+◌, ◌-◌, ◌<◌, ◌∙◌, ◌∷◌, ◌≡◌, ◌≢◌, ◌≤◌}
+pub use Rattle.std.proofs.Common.{List, Option, Some, [], ap, append_assoc, arith, codes, inl, inr, length, refl, replicate, rules, slice_index, string_bytes, subst, suc, sym, take, zero, ℕ, ◌*◌, ◌++◌, ◌+◌, ◌-◌, ◌<◌, ◌∙◌, ◌∷◌, ◌≡◌, ◌≢◌, ◌≤◌}
 pub use Rattle.std.proofs.Output.{has_written_append, has_written_of_eq}
-pub use Rattle.std.proofs.lemmas.Bool.{cases_lt}
-pub use Rattle.std.proofs.lemmas.List.{ext_get_or, flat_map_more, map-id, take_all}
-pub use Rattle.std.proofs.lemmas.List.FromFn.{map-range_with_len_more}
-pub use Rattle.std.proofs.lemmas.List.Sums.{fold-append}
+pub use Rattle.mt_base.proofs.Std.{cases_lt, ext_get_or, flat_map, flat_map_more, fold, fold-append, map-id, map-range_with_len_more, range_with_len, take_all}
 pub use Rattle.std.specs.Fmt.{HasWritten, IsPlainFormatter, decimal}
-pub use Rattle.std.specs.List.{flat_map, fold, range_with_len}
-pub use Rattle.std.specs.Prelude.{slice_index}
-pub use Rattle.mt_base.specs.Width.{columns, first_row, greatest}
 pub use Rattle.mt_rows.proofs.Deeper.{row_named}
-pub use Rattle.mt_rows.specs.Memory.{sheet_in}
-pub use Rattle.mt_rows.specs.Sheet.{Rooted, Sheet}
+pub use Rattle.mt_rows.specs.Names.{Rooted, Sheet, columns, first_row, greatest, sheet_in}
 pub use Rattle.mt_image.proofs.Rewritten.{read_is_good}
 pub use Rattle.mt_image.specs.Bytes.{words_of}
 pub use Rattle.mt_image.specs.Orders.{IsTable}

@@ -1,7 +1,6 @@
 -- What is asked for by words, and what the statuses mean.
 -- Source: this project's own.
-use Rattle.std.specs.Prelude.{ℕ, List, [], ◌∷◌, ◌++◌, Option, Some, None, codes, if◌then◌else◌}
-use Rattle.std.specs.Str.{bytes_eq}
+use Rattle.std.specs.Prelude.{ℕ, List, [], ◌∷◌, ◌++◌, Option, Some, None, codes, if◌then◌else◌, bytes_eq}
 use Rattle.mt_draw.specs.Prelude.{error_text, ImageError}
 use Rattle.mt_image.specs.declared.errors.ImageError.TheVariants as errors
 use Rattle.mt_draw.specs.declared.forms.PictureForm.{PictureForm}

@@ -1,7 +1,6 @@
 -- The nodes of a tree in the order of a walk, with the indexes that each covers.
 -- Source: this project's own.
-use Rattle.std.specs.Prelude.{ℕ, zero, suc, ◌+◌, List, [], ◌∷◌, Option, Some, None}
-use Rattle.std.specs.List.{flat_map}
+use Rattle.std.specs.Prelude.{ℕ, zero, suc, ◌+◌, List, [], ◌∷◌, Option, Some, None, flat_map}
 use Rattle.mt_draw.specs.Prelude.{deepest, kind_width, RowKind, Leaf, Inner, Gapped, Span, gap_column, row_in, named_kind, slots_of, Table, column, spans_in, root_span}
 use Rattle.mt_draw.specs.declared.trees.Node.{Node}
 use Rattle.mt_draw.specs.declared.trees.DrawnTree.{DrawnTree}

@@ -68,20 +68,20 @@ impl fmt::Display for Mark {
 
 /// A kind of nodes, in a word, and the colours of such a box.
 #[derive(Clone, Copy)]
-struct Look {
+struct BoxStyle {
     name: &'static str,
     title: &'static str,
     line: &'static str,
 }
 
-fn look_of(kind: RowKind) -> Look {
+fn style_of(kind: RowKind) -> BoxStyle {
     match kind {
-        RowKind::Leaf => Look {
+        RowKind::Leaf => BoxStyle {
             name: "leaf",
             title: "#d5e8d4",
             line: "#6c9a5f",
         },
-        RowKind::Inner | RowKind::Gapped => Look {
+        RowKind::Inner | RowKind::Gapped => BoxStyle {
             name: "inner",
             title: "#dae8fc",
             line: "#6c8ebf",
@@ -196,7 +196,7 @@ struct Row<'a> {
 impl<'a> Row<'a> {
     /// Writes the box.
     fn write_box<W: fmt::Write>(&self, f: &mut fmt::Formatter<W>) -> fmt::Result {
-        let (frame, look) = (self.frame, look_of(self.node.kind));
+        let (frame, look) = (self.frame, style_of(self.node.kind));
         let (title, line) = (look.title, look.line);
         let head = Frame {
             height: TITLE,
@@ -208,7 +208,7 @@ impl<'a> Row<'a> {
 
     /// Writes its name, and how many of its slots are used.
     fn write_name<W: fmt::Write>(&self, f: &mut fmt::Formatter<W>, used: usize) -> fmt::Result {
-        let (frame, row, name) = (self.frame, self.node.row, look_of(self.node.kind).name);
+        let (frame, row, name) = (self.frame, self.node.row, style_of(self.node.kind).name);
         let (right, y) = (frame.x + frame.width, frame.y + Px(16));
         let (near, far) = (Point(frame.x + Px(8), y), Point(right - Px(8), y));
         let all = self.tree.slots(self.node);

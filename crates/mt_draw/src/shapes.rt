@@ -164,11 +164,13 @@ impl<'a> fmt::Display for PictureHead<'a> {
         let (width, height, note) = (self.width, self.height, self.note);
         writeln!(
             f,
-            "<svg xmlns='http://www.w3.org/2000/svg' width='{width}' height='{height}' viewBox='0 0 {width} {height}' font-family='DejaVu Sans Mono, Menlo, Consolas, monospace' font-size='12' fill='#222'>"
+            "<svg xmlns='http://www.w3.org/2000/svg' width='{width}' height='{height}' viewBox='0 0 {width} {height}' \
+             font-family='DejaVu Sans Mono, Menlo, Consolas, monospace' font-size='12' fill='#222'>"
         )?;
         writeln!(
             f,
-            "<defs><pattern id='hole' width='6' height='6' patternUnits='userSpaceOnUse'><rect width='6' height='6' fill='#f3f3f3'/><path d='M0 6L6 0' stroke='#cfcfcf'/></pattern></defs>"
+            "<defs><pattern id='hole' width='6' height='6' patternUnits='userSpaceOnUse'>\
+             <rect width='6' height='6' fill='#f3f3f3'/><path d='M0 6L6 0' stroke='#cfcfcf'/></pattern></defs>"
         )?;
         writeln!(f, "<rect width='{width}' height='{height}' fill='#fff'/>")?;
         writeln!(

@@ -1,5 +1,6 @@
 -- The steps of a phase's lanes, behind those that count, are a phase.
-use Rattle.mt_linearize.proofs.Prelude.{◌≡◌, ℕ, ◌<◌, ◌==◌, true, false, List, [], ◌∷◌, ◌++◌, Some, length, slice_get, sym, ap, ◌∙◌, subst, inl, inr, All, AllByRecursion, cases_Bool, All-from_recursion, recursion_from_All, filter_map-append, History, last_map, Pass, all_join, stepped_after, Asked, Outcome, Called, Looked, Counted, Step, AreDone, NamesBelow, CountsRanges, IsPhaseGone, Leads, by_lane_on, outcomes_of, Tracked, IsPhase, IsPhaseOn, Counts, asked_of_lane, AreDoneEach, take_turns, lanes_of, answers_joined}
+use Rattle.mt_linearize.proofs.Prelude.{◌≡◌, ℕ, ◌==◌, List, [], ◌∷◌, ◌++◌, Some, length, slice_get, sym, ap, ◌∙◌, subst, inl, inr, All, AllByRecursion, cases_Bool, All-from_recursion, recursion_from_All, filter_map-append, History, last_map, Pass, all_join, Asked, Outcome, Called, Looked, Counted, Step, AreDone, CountsRanges, IsPhaseGone, Leads, by_lane_on, outcomes_of, Tracked, IsPhase, IsPhaseOn, Counts, take_turns, lanes_of, answers_joined}
+use Rattle.mt_linearize.specs.Laned.{IsLaned}
 use Rattle.mt_linearize.proofs.Leading.{learns_none, leads_on, phase_settled}
 use Rattle.mt_linearize.proofs.LineSteps.{IsUncounted, steps_named, steps_placed, steps_uncounted}
 use Rattle.mt_linearize.proofs.Lists.{every, same_some}
@@ -28,20 +29,14 @@ uncounted_counts h (Looked lo hi k query value) u = tt
 uncounted_counts h (Counted said ranges) u = absurd u
 
 pub lanes_phase : (passes phase : ℕ) (asked counted : List Asked) (csteps : List Step) (answers : ℕ → List (List Step)) (before after : List Tracked)
-    → AllByRecursion (λ (a : Asked). (a.phase ≡ phase) × (a.lane < passes)) (counted ++ asked)
-    → AllByRecursion (λ (a : Asked). NamesBelow (length before) a.item) (counted ++ asked)
-    → AllByRecursion (λ (a : Asked). stepped_after false a.item ≡ true) asked
-    → AreDone counted csteps → All (λ (s : Step). CountsRanges before s) csteps
-    → ((lane : ℕ) → AreDoneEach (asked_of_lane lane asked) (answers lane))
-    → length after ≡ length before
-    → ((tree : ℕ) (b a : Tracked) → slice_get before tree ≡ Some b → slice_get after tree ≡ Some a → (length b.passes ≡ passes) × IsPhaseGone tree b a answers)
+    → IsLaned passes phase asked counted csteps answers before after
     → IsPhase passes phase (csteps ++ answers_joined (take_turns (lanes_of asked) answers)) before after
     × AreDone (counted ++ asked) (csteps ++ answers_joined (take_turns (lanes_of asked) answers))
-lanes_phase passes phase asked counted csteps answers before after placed named lanes cdone ccounts answered count gone = (
+lanes_phase passes phase asked counted csteps answers before after laned = (
   record {
-    count = count;
-    placed = steps_placed passes phase (counted ++ asked) steps placed done;
-    named = steps_named (length before) (counted ++ asked) steps named done;
+    count = laned.count;
+    placed = steps_placed passes phase (counted ++ asked) steps laned.placed done;
+    named = steps_named (length before) (counted ++ asked) steps laned.named done;
     each = on_each;
   },
   done,
@@ -54,29 +49,29 @@ lanes_phase passes phase asked counted csteps answers before after placed named 
     steps = csteps ++ lsteps
 
     ldone : AreDone asked lsteps
-    ldone = back_done asked answers answered
+    ldone = back_done asked answers laned.answered
 
     done : AreDone (counted ++ asked) steps
-    done = done_append counted asked csteps lsteps cdone ldone
+    done = done_append counted asked csteps lsteps laned.done ldone
 
     all_counted : AllByRecursion (CountsRanges before) csteps
-    all_counted = recursion_from_All _ csteps ccounts
+    all_counted = recursion_from_All _ csteps laned.counts
 
     counts : (tree : ℕ) (b : Tracked) → slice_get before tree ≡ Some b → All (λ (s : Step). s.tree ≡ tree → Counts b.history s.outcome) steps
     counts tree b was =
         let On : Step → Type 0 = λ s. s.tree ≡ tree → Counts b.history s.outcome in
         All-from_recursion On steps (all_join On csteps lsteps
         (every (CountsRanges before) On csteps (λ s c. counted_counts before tree b s was c) all_counted)
-        (every (λ (s : Step). IsUncounted s.outcome) On lsteps (λ s u on. uncounted_counts b.history s.outcome u) (steps_uncounted asked lsteps lanes ldone)))
+        (every (λ (s : Step). IsUncounted s.outcome) On lsteps (λ s u on. uncounted_counts b.history s.outcome u) (steps_uncounted asked lsteps laned.stepped ldone)))
 
     lane_leads : (tree lane : ℕ) (h : History) (p m : Pass) → Leads h p (outcomes_of tree lane (answers_joined (answers lane))) m → Leads h p (outcomes_of tree lane steps) m
     lane_leads tree lane h p m l =
         let mine : List Outcome = outcomes_of tree lane csteps in
         let theirs : List Outcome = outcomes_of tree lane (answers_joined (answers lane)) in
-        let all : outcomes_of tree lane steps ≡ mine ++ theirs = filter_map-append (by_lane_on tree lane) csteps lsteps ∙ ap (λ (z : List Outcome). mine ++ z) (back_in_lanes asked answers answered tree lane) in
+        let all : outcomes_of tree lane steps ≡ mine ++ theirs = filter_map-append (by_lane_on tree lane) csteps lsteps ∙ ap (λ (z : List Outcome). mine ++ z) (back_in_lanes asked answers laned.answered tree lane) in
         subst (λ (z : List Outcome). Leads h p z m) (sym all) (leads_on h p mine p theirs m (counted_leads h before tree lane p csteps all_counted) l)
 
     on_each : (tree : ℕ) (b a : Tracked) → slice_get before tree ≡ Some b → slice_get after tree ≡ Some a → IsPhaseOn tree steps b a
     on_each tree b a was is =
-        let g : IsPhaseGone tree b a answers = (gone tree b a was is).1 in
+        let g : IsPhaseGone tree b a answers = (laned.gone tree b a was is).1 in
         phase_settled tree steps b.history a.history b.passes g.between a.passes g.tree g.gone.count (λ lane p m had has. lane_leads tree lane b.history p m (g.gone.leads lane p m had has)) (counts tree b was) g.settled

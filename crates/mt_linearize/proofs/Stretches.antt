@@ -1,7 +1,6 @@
 -- A log by stretches of its lines, one behind another.
-use Rattle.mt_linearize.proofs.Prelude.{◌≡◌, ◌≢◌, ℕ, ◌+◌, ◌<◌, Bool, false, List, [], ◌∷◌, ◌++◌, Option, Some, length, map, arith, refl, sym, ap, ◌∙◌, subst, append_assoc, length-append, inl, inr, AllByRecursion, option_to_list, cases_Bool, length-map, Item, Tree, Lane, Join, Dup, Line, AreInPlaceFrom, IsInPlace, phase_after, stepped_after, stepped_from, least_behind, Asked, Step, AreDone, asked_from, is_answered, lane_after, lane_of, steps_of, AreNamedFrom, CopyOf, Declared, Empty, IsReadable, NamesBelow, NumbersRiseFrom, count_after, declared_by, renamed, trees_from, trees_of, asked_by, lane_behind, phase_behind, Pairs}
+use Rattle.mt_linearize.proofs.Prelude.{◌≡◌, ◌≢◌, ℕ, ◌+◌, ◌<◌, Bool, false, List, [], ◌∷◌, ◌++◌, Option, Some, length, map, arith, refl, sym, ap, ◌∙◌, subst, append_assoc, length-append, inl, inr, AllByRecursion, option_to_list, cases_Bool, length-map, Item, Tree, Lane, Join, Dup, Line, AreInPlaceFrom, IsInPlace, phase_after, stepped_after, stepped_from, least_behind, Asked, Step, AreDone, asked_from, is_answered, lane_after, lane_of, steps_of, AreNamedFrom, CopyOf, Declared, Empty, IsReadable, NamesBelow, NumbersRiseFrom, count_after, declared_by, renamed, trees_from, trees_of, asked_by, lane_behind, phase_behind, Pairs, most_lanes}
 use Rattle.mt_linearize.proofs.LanePasses.{some_at}
-use Rattle.mt_base.specs.Limits.{most_lanes}
 
 -- ---- one stretch behind another
 

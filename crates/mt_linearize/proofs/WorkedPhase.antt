@@ -1,6 +1,5 @@
 -- A worked phase of two lanes.
-use Rattle.mt_linearize.proofs.Prelude.{◌≡◌, ℕ, zero, suc, List, [], ◌∷◌, ◌++◌, Some, length, slice_get, arith, refl, sym, ne_eqb, All-from_recursion, Range, Record, History, Pass, IsSettled, Saw, Settled, begins_none, Asked, Called, Looked, Counted, Step, AreDone, HaveGone, CountsRanges, IsPhaseGone, Leads, outcomes_of, IsNext, informed, known_to_all, step_of_line, Tracked, IsPhase, asked_of_lane, AreDoneEach, answers_joined}
-use Rattle.mt_base.specs.Width.{most_rows}
+use Rattle.mt_linearize.proofs.Prelude.{◌≡◌, ℕ, zero, suc, List, [], ◌∷◌, ◌++◌, Some, length, slice_get, arith, refl, sym, ne_eqb, All-from_recursion, Range, Record, History, Pass, IsSettled, Saw, Settled, begins_none, Asked, Called, Looked, Counted, Step, AreDone, HaveGone, CountsRanges, IsPhaseGone, Leads, outcomes_of, IsNext, informed, known_to_all, step_of_line, Tracked, IsPhase, asked_of_lane, AreDoneEach, answers_joined, most_rows}
 use Rattle.mt_base.specs.declared.calls.Call.TheVariants as calls
 use Rattle.mt_base.specs.declared.calls.Query.TheVariants as queries
 use Rattle.mt_base.specs.declared.kinds.Kind.TheVariants as kinds
@@ -108,13 +107,16 @@ of_tree zero b a was is = rw (same_some b (known_to_all 2 tree_before) (sym was)
 of_tree (suc tree) b a was is = cc
 
 the_phase : IsPhase 2 1 (checked ∷ stored ∷ loaded ∷ []) (known_to_all 2 tree_before ∷ []) (known_to_all 2 tree_behind ∷ []) × AreDone (the_check ++ the_steps) (checked ∷ stored ∷ loaded ∷ [])
-the_phase = lanes_phase 2 1 the_steps the_check (checked ∷ []) told (known_to_all 2 tree_before ∷ []) (known_to_all 2 tree_behind ∷ [])
-    ((refl, omega arith), ((refl, omega arith), ((refl, omega arith), tt)))
-    (omega arith, (omega arith, (omega arith, tt)))
-    (refl, (refl, tt))
-    (checked ∷ [], [], refl, (one_range, refl), refl)
-    (All-from_recursion (CountsRanges (known_to_all 2 tree_before ∷ [])) (checked ∷ []) (record { said = said.Lawful; ranges = one_range; tracked = known_to_all 2 tree_before; outcome = refl; is = refl; counts = refl }, tt))
-    answered refl of_tree
+the_phase = lanes_phase 2 1 the_steps the_check (checked ∷ []) told (known_to_all 2 tree_before ∷ []) (known_to_all 2 tree_behind ∷ []) (record {
+  placed = ((refl, omega arith), ((refl, omega arith), ((refl, omega arith), tt)));
+  named = (omega arith, (omega arith, (omega arith, tt)));
+  stepped = (refl, (refl, tt));
+  done = (checked ∷ [], [], refl, (one_range, refl), refl);
+  counts = All-from_recursion (CountsRanges (known_to_all 2 tree_before ∷ [])) (checked ∷ []) (record { said = said.Lawful; ranges = one_range; tracked = known_to_all 2 tree_before; outcome = refl; is = refl; counts = refl }, tt);
+  answered = answered;
+  count = refl;
+  gone = of_tree;
+})
 
 pub worked_phase : IsPhase 2 1 (checked ∷ stored ∷ loaded ∷ []) (known_to_all 2 tree_before ∷ []) (known_to_all 2 tree_behind ∷ [])
 worked_phase = the_phase.0

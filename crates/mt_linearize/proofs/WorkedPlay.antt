@@ -1,13 +1,12 @@
 -- A worked play, step by step.
-use Rattle.mt_linearize.proofs.Prelude.{true, false, List, [], ◌∷◌, Some, arith, refl, Range, Record, History, Log, Transcript, KnownTree, Called, Looked, Counted, Step, AreDone, IsRun, steps_of, Declared, Empty, CopyOf, HasPlayed, IsNext, step_of_line}
-use Rattle.mt_base.specs.Width.{most_rows}
+use Rattle.mt_linearize.proofs.Prelude.{true, false, List, [], ◌∷◌, Some, arith, refl, Range, Record, History, Transcript, KnownTree, Called, Looked, Counted, Step, AreDone, IsRun, steps_of, Declared, Empty, CopyOf, HasPlayed, IsNext, step_of_line, most_rows}
 use Rattle.mt_base.specs.declared.kinds.Kind.TheVariants as kinds
 use Rattle.mt_base.specs.declared.calls.Call.TheVariants as calls
 use Rattle.mt_base.specs.declared.calls.Query.TheVariants as queries
 use Rattle.mt_base.specs.declared.replies.Reply.TheVariants as replies
-use Rattle.mt_log.specs.declared.lines.Item.TheVariants as items
 use Rattle.mt_log.specs.declared.transcripts.Answer.TheVariants as answers
 use Rattle.mt_log.specs.declared.transcripts.Said.TheVariants as said
+use Rattle.mt_linearize.specs.Worked.{worked_log}
 use Rattle.mt_linearize.proofs.Answered.{done_is_next}
 use Rattle.mt_linearize.proofs.Played.{call_played, copy_played, count_played, nothing_played, phase_played, played_is_run, read_played, tree_played}
 
@@ -75,18 +74,7 @@ worked =
     let called : HasPlayed 1 most_rows 1 true (a_declared ∷ b_declared ∷ []) (stored ∷ copied ∷ stored_again ∷ []) (a_after (first_call ∷ second_call ∷ []) ∷ b_copied ∷ []) = call_played 1 most_rows 1 false (a_declared ∷ b_declared ∷ []) (stored ∷ copied ∷ []) (a_after (first_call ∷ []) ∷ b_copied ∷ []) 0 6 0 (a_after (first_call ∷ [])) (calls.Store 5 5 3) (replies.Over 1) three_ranges after_dup refl (omega arith) next_two in
     read_played 1 most_rows 1 true (a_declared ∷ b_declared ∷ []) (stored ∷ copied ∷ stored_again ∷ []) (a_after (first_call ∷ second_call ∷ []) ∷ b_copied ∷ []) 0 7 1 b_copied (queries.Load 5) called refl (omega arith)
 
--- ---- and the log of which it is a run
-
-abbrev worked_log : Log
-worked_log = record {
-  version = 2;
-  lines = record { number = 2; item = items.Tree (97 ∷ []) kinds.Range }
-      ∷ record { number = 3; item = items.Write 0 (calls.Store 0 9 1) }
-      ∷ record { number = 4; item = items.Join }
-      ∷ record { number = 5; item = items.Dup 0 (98 ∷ []) }
-      ∷ record { number = 6; item = items.Write 0 (calls.Store 5 5 3) }
-      ∷ record { number = 7; item = items.Ask 1 (queries.Load 5) } ∷ [];
-}
+-- ---- and what is told of it
 
 abbrev worked_transcript : Transcript
 worked_transcript = record {

@@ -1,8 +1,10 @@
 pub mod Gone
+pub mod Laned
 pub mod Leads
 pub mod Lines
 pub mod OneThread
 pub mod Phases
 pub mod Rooms
 pub mod Tracks
+pub mod Worked
 pub mod Prelude

@@ -1,8 +1,7 @@
 //! What lanes do with a log, each with a pass (handle) of its own on each tree, in threads or not. Each law (lemma) is the
 //! contract of a function that does nothing.
 
-ghost use Rattle.std.specs.Prelude.{◌≡◌, ◌<◌, ◌≤◌, ◌+◌, ℕ, true, false, Option, All, List, [], ◌∷◌, ◌++◌, Some, length, slice_get};
-ghost use Rattle.std.specs.List.{AllByRecursion};
+ghost use Rattle.std.specs.Prelude.{◌≡◌, ◌<◌, ◌≤◌, ◌+◌, ℕ, Option, All, List, [], ◌∷◌, ◌++◌, Some, length, slice_get};
 ghost use Rattle.mt_base.specs.declared.calls.Call.TheVariants as calls;
 ghost use Rattle.mt_base.specs.declared.calls.Query.TheVariants as queries;
 ghost use Rattle.mt_base.specs.declared.kinds.Kind.TheVariants as kinds;
@@ -10,11 +9,10 @@ ghost use Rattle.mt_base.specs.declared.replies.Reply.TheVariants as replies;
 ghost use Rattle.mt_base.specs.History.{Record, History};
 ghost use Rattle.mt_base.specs.Passes.{Begins, IsSettled, Pass, Learned, Saw, Settled, with_records};
 ghost use Rattle.mt_base.specs.Width.{most_rows};
-ghost use Rattle.mt_log.specs.Phases.{stepped_after};
 ghost use Rattle.mt_log.specs.declared.transcripts.Said.TheVariants as said;
 ghost use Rattle.mt_log.specs.Run.{Asked, Outcome, Called, Looked, Counted, Step, AreDone, IsDone};
-ghost use Rattle.mt_log.specs.Trees.{NamesBelow};
-ghost use Rattle.mt_linearize.specs.Gone.{HaveGone, CountsRanges, IsPhaseGone, OnlySaw, sum_below};
+ghost use Rattle.mt_linearize.specs.Gone.{HaveGone, OnlySaw, sum_below};
+ghost use Rattle.mt_linearize.specs.Laned.{IsLaned};
 ghost use Rattle.mt_linearize.specs.Leads.{Learns, Does, Leads, outcomes_of};
 ghost use Rattle.mt_linearize.specs.OneThread.{known_to_all, step_of_line};
 ghost use Rattle.mt_linearize.specs.Phases.{Tracked, IsPhase, IsPhaseOn, Counts};
@@ -86,14 +84,7 @@ pub fn calls_are_those_of_the_lanes()
 /// They are the outcome of the phase's lines. The lines that are counted are not the lanes'.
 pub fn lanes_make_a_phase()
     ensures { (passes phase : ℕ) (asked counted : List Asked) (csteps : List Step) (answers : ℕ → List (List Step)) (before after : List Tracked)
-        → AllByRecursion (λ (a : Asked). (a.phase ≡ phase) × (a.lane < passes)) (counted ++ asked)
-        → AllByRecursion (λ (a : Asked). NamesBelow (length before) a.item) (counted ++ asked)
-        → AllByRecursion (λ (a : Asked). stepped_after false a.item ≡ true) asked
-        → AreDone counted csteps → All (λ (s : Step). CountsRanges before s) csteps
-        → ((lane : ℕ) → AreDoneEach (asked_of_lane lane asked) (answers lane))
-        → length after ≡ length before
-        → ((tree : ℕ) (b a : Tracked) → slice_get before tree ≡ Some b → slice_get after tree ≡ Some a
-        → (length b.passes ≡ passes) × IsPhaseGone tree b a answers)
+        → IsLaned passes phase asked counted csteps answers before after
         → IsPhase passes phase (csteps ++ answers_joined (take_turns (lanes_of asked) answers)) before after
         × AreDone (counted ++ asked) (csteps ++ answers_joined (take_turns (lanes_of asked) answers)) }
 {}
@@ -120,7 +111,12 @@ pub fn a_worked_phase()
         (known_to_all 2
         (record { kind = kinds.Range; rows = most_rows; opening = []; records = record { pass = 0; call = calls.Store 0 9 1; reply = replies.Ok } ∷ [] }) ∷ [])
         (known_to_all 2
-        (record { kind = kinds.Range; rows = most_rows; opening = []; records = record { pass = 0; call = calls.Store 0 9 1; reply = replies.Ok } ∷ record { pass = 1; call = calls.Store 5 5 3; reply = replies.Over 1 } ∷ [] })
-        ∷ []) }
+        (record {
+          kind = kinds.Range;
+          rows = most_rows;
+          opening = [];
+          records = record { pass = 0; call = calls.Store 0 9 1; reply = replies.Ok }
+              ∷ record { pass = 1; call = calls.Store 5 5 3; reply = replies.Over 1 } ∷ [];
+        }) ∷ []) }
     ensures sum { sum_below 3 (λ n. n + 4) ≡ 15 }
 {}

@@ -15,7 +15,6 @@ ghost use Rattle.mt_base.specs.History.{Record, History, IsLegal, last_map};
 ghost use Rattle.mt_base.specs.Nodes.{Limits, IsMade, one_call_more};
 ghost use Rattle.mt_base.specs.Passes.{IsSettled, Read, Saw, Wrote};
 ghost use Rattle.mt_base.specs.Width.{most_rows};
-ghost use Rattle.mt_log.specs.declared.lines.Item.TheVariants as items;
 ghost use Rattle.mt_log.specs.declared.lines.Log.{Log};
 ghost use Rattle.mt_log.specs.declared.transcripts.Answer.TheVariants as answers;
 ghost use Rattle.mt_log.specs.declared.transcripts.Said.{Said};
@@ -26,6 +25,7 @@ ghost use Rattle.mt_log.specs.Run.{Called, Looked, Counted, Step, AreDone, IsRun
 ghost use Rattle.mt_log.specs.Trees.{Declared, Empty, CopyOf, trees_of};
 ghost use Rattle.mt_linearize.specs.OneThread.{HasPlayed, MayLimit, IsNext, informed, known_to_all, step_of_line, with_call};
 ghost use Rattle.mt_linearize.specs.Phases.{new_history};
+ghost use Rattle.mt_linearize.specs.Worked.{worked_log};
 
 /// A call of a map with such limits is the next of its tree's history, and the limits afterwards are those of the history with
 /// it.
@@ -139,17 +139,7 @@ pub fn a_worked_play()
               ∷ record { pass = 0; call = calls.Store 5 5 3; reply = replies.Over 1 } ∷ [];
         }
         ∷ record { kind = kinds.Range; rows = most_rows; opening = record { first = 0; last = 9; entry = 1 } ∷ []; records = [] } ∷ []) }
-    ensures run { IsRun
-        (record {
-          version = 2;
-          lines = record { number = 2; item = items.Tree (97 ∷ []) kinds.Range }
-              ∷ record { number = 3; item = items.Write 0 (calls.Store 0 9 1) }
-              ∷ record { number = 4; item = items.Join }
-              ∷ record { number = 5; item = items.Dup 0 (98 ∷ []) }
-              ∷ record { number = 6; item = items.Write 0 (calls.Store 5 5 3) }
-              ∷ record { number = 7; item = items.Ask 1 (queries.Load 5) } ∷ [];
-        })
-        most_rows
+    ensures run { IsRun worked_log most_rows
         (record {
           version = 2;
           entries = record { line = 3; said = said.Wrote 1 replies.Ok } ∷ record { line = 5; said = said.Copied 1 }

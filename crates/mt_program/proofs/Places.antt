@@ -48,3 +48,6 @@ too_many_rows l bytes rows form text is = (l, rows, record { form = form; text =
 pub no_listing : (bytes : List ℕ) (error : ListingError) → IsRefusedListing bytes error → FailsOn IsUnbuilt bytes (failure_of_listing error)
 no_listing bytes (listings.Bad line) is = is
 no_listing bytes listings.NoMemory is = tt
+
+-- what building a tree of a listing asks for
+pub ruleset building = (place_fits, is_built, is_built_by, out_of_order, too_many_rows, no_listing)

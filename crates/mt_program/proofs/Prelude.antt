@@ -1,24 +1,13 @@
 -- What the proofs beside this file take from the toolchain, from the crates below and from this crate's definitions, under one name. Declares nothing.
-pub use Rattle.std.proofs.Common.{Bool, Err, IfErr, IsErrAnd, List, None, Ok, Option, Result, Some, [], ap, append-nil, append_assoc, ap₂, arith, drop, drop-cons, false, get_or, inl, inr, length, length-append, refl, rules, slice_get, subst, suc, sym, take, take-append-drop, true, true≢false, ℕ, ◌++◌, ◌+◌, ◌<◌, ◌^◌, ◌∙◌, ◌∷◌, ◌≡◌, ◌≢◌, ◌≤◌, ◌⊎◌}
+pub use Rattle.std.proofs.Common.{Bool, Err, IfErr, IfSome, IsErrAnd, List, None, Ok, OnOk, Option, Result, Some, [], ap, append-nil, append_assoc, ap₂, arith, drop, drop-cons, false, get_or, if◌then◌else◌, inl, inr, is_ok, is_some, length, length-append, nat_lt, option_map, option_to_list, refl, rules, slice_get, subst, suc, sym, take, take-append-drop, true, true≢false, ℕ, ◌&&◌, ◌++◌, ◌+◌, ◌<◌, ◌==◌, ◌^◌, ◌||◌, ◌∙◌, ◌∷◌, ◌≡◌, ◌≢◌, ◌≤◌, ◌⊎◌}
 pub use Rattle.std.proofs.KnownBytes.{Appends-kept, Appends-nil, Appends-trans, Consumes-kept, Consumes-nil, Consumes-trans}
-pub use Rattle.std.proofs.Math.Seq.{drop-length, take-suc}
-pub use Rattle.std.proofs.lemmas.Grind.{common_steps}
-pub use Rattle.std.proofs.lemmas.List.{take_rest}
+pub use Rattle.mt_base.proofs.Std.{common_steps, drop-length, list_any, take-suc, take_rest}
 pub use Rattle.std.specs.Io.KnownBytes.{Appends, Consumes, IsAtEnd, Keeps}
-pub use Rattle.std.specs.List.{list_any}
-pub use Rattle.std.specs.Option.{is_some, option_to_list}
-pub use Rattle.std.specs.Prelude.{IfSome, OnOk, if◌then◌else◌, is_ok, nat_lt, option_map, ◌&&◌, ◌==◌, ◌||◌}
-pub use Rattle.mt_base.specs.History.{History}
-pub use Rattle.mt_base.specs.Width.{most_rows}
-pub use Rattle.mt_base.specs.declared.kinds.Kind.{Kind}
-pub use Rattle.mt_base.specs.declared.ranges.Range.{Range}
 pub use Rattle.mt_bulk.specs.Builds.{refused_by}
 unfoldable pub use Rattle.mt_bulk.specs.Builds.{refusal}
 pub use Rattle.mt_bulk.specs.Bulk.{rows_in}
 pub use Rattle.mt_bulk.specs.Items.{is_misplaced, misplaced, misplaced_from}
-pub use Rattle.mt_log.specs.Phases.{phase_after}
-pub use Rattle.mt_log.specs.Run.{listings_of}
-pub use Rattle.mt_log.specs.Trees.{Declared, declared_by, tree_declared_by, trees_from}
+pub use Rattle.mt_log.specs.Names.{Declared, History, Kind, Range, declared_by, listings_of, most_rows, phase_after, tree_declared_by, trees_from}
 pub use Rattle.mt_log.specs.declared.lines.Item.{Item}
 pub use Rattle.mt_log.specs.declared.lines.Item.TheVariants.{Ask, Check, Dup, Join, Lane, Scan, Tree, Write}
 pub use Rattle.mt_log.specs.declared.lines.Line.{Line}

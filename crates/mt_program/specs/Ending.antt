@@ -1,6 +1,5 @@
 -- Why a run ends without its whole output: the status and the text of each cause.
-use Rattle.std.specs.Prelude.{◌≡◌, ◌⊎◌, ℕ, List, [], ◌∷◌, ◌++◌, Option, ◌+◌, ◌≤◌, length, codes}
-use Rattle.std.specs.Fmt.{decimal}
+use Rattle.std.specs.Prelude.{◌≡◌, ◌⊎◌, ℕ, List, [], ◌∷◌, ◌++◌, Option, ◌+◌, ◌≤◌, length, codes, decimal}
 use Rattle.std.specs.Io.KnownBytes.{Appends, Consumes}
 use Rattle.mt_program.specs.Prelude.{Rose, ImageError, error_text, why_text}
 use Rattle.mt_program.specs.declared.failures.Failure.{Failure}

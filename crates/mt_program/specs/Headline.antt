@@ -1,8 +1,7 @@
 -- What the program promises. It prints the text of a run of the log that it read, or an image of that run's first tree. Or what
 -- its command makes from a number (seed), or how much a transcript of a run reports, or the listing of the tree whose image it
 -- read.
-use Rattle.std.specs.Prelude.{◌≡◌, ℕ, List, [], ◌∷◌, ◌++◌, Option, Some, None, Ok, IfSome, codes}
-use Rattle.std.specs.Fmt.{decimal}
+use Rattle.std.specs.Prelude.{◌≡◌, ℕ, List, [], ◌∷◌, ◌++◌, Option, Some, None, Ok, IfSome, codes, decimal}
 use Rattle.mt_program.specs.Prelude.{Log, refusal, IsInForm, log_of, IsRun, TellsRun, listing_text, text_of, Listing, Transcript, IsImageOfRun, IsIdsText, IsBulkImage, IsImageListing, IsMadeText, IsTrialText, count_of_calls, reads_told, Command, Replay, Make, Trial, Verify, Image, Show, Bulk, Ids}
 use Rattle.mt_program.specs.Parts.{AreParts}
 

@@ -3,11 +3,7 @@ pub use Rattle.mt_image.specs.Reading.{image_in}
 pub use Rattle.mt_image.specs.Texts.{error_text}
 pub use Rattle.mt_image.specs.declared.errors.ImageError.{ImageError}
 pub use Rattle.mt_bulk.specs.Builds.{TookTurns, refusal}
-pub use Rattle.mt_log.specs.Fault.{fault_at, why_text}
-pub use Rattle.mt_log.specs.Reading.{log_of}
-pub use Rattle.mt_log.specs.Run.{IsRun, TellsRun}
-pub use Rattle.mt_log.specs.Text.{listing_text, text_of}
-pub use Rattle.mt_log.specs.Trees.{trees_of}
+pub use Rattle.mt_log.specs.Names.{IsRun, TellsRun, fault_at, listing_text, log_of, text_of, trees_of, why_text}
 pub use Rattle.mt_log.specs.declared.faults.LogError.{LogError}
 pub use Rattle.mt_log.specs.declared.lines.Log.{Log}
 pub use Rattle.mt_log.specs.declared.transcripts.Listing.{Listing}

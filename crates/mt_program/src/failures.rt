@@ -1,13 +1,12 @@
 ghost use Rattle.std.specs.Prelude.{◌≡◌, ◌≤◌, ◌+◌, ◌++◌, [], length};
-ghost use Rattle.mt_image.specs.Texts.{error_text, law_text};
+ghost use Rattle.mt_image.specs.Texts.{error_text};
 ghost use Rattle.mt_program.specs.Ending.{TellsText, failure_text, faulty_line, refusal_text};
 
 use crate::streams::{ReadError, write_output};
 use arrayvec::ArrayString;
 use itoa::Buffer;
 use mt_base::NoMemory;
-use mt_check::Law;
-use mt_image::ImageError;
+use mt_image::{ImageError, law_text};
 use mt_io::Sink;
 use mt_log::{LogError, Why};
 use mt_told::ListingError;
@@ -103,7 +102,8 @@ impl Failure {
             Failure::NoTree { line } => push_line(&mut text, line, "no tree"),
             Failure::NotBuilt { line, why } => push_line(&mut text, line, why.text()),
             Failure::Usage => text.push_str(
-                "mtreplay: usage: replay [--rows N], make NUMBER STEPS LANES, trial NUMBER STEPS, verify [--rows N], image [--rows N], show, bulk WORKERS, ids LO HI STEPS DROP\n",
+                "mtreplay: usage: replay [--rows N], make NUMBER STEPS LANES, trial NUMBER STEPS, verify [--rows N], \
+                 image [--rows N], show, bulk WORKERS, ids LO HI STEPS DROP\n",
             ),
             Failure::ReadFault => text.push_str("mtreplay: read fault\n"),
             Failure::WriteFault => text.push_str("mtreplay: write fault\n"),
@@ -127,22 +127,6 @@ fn push_line(text: &mut ArrayString<TEXT_ROOM>, line: u64, why: &str)
     text.push_str(": ");
     text.push_str(why);
     text.push_str("\n");
-}
-
-/// The name of a law, in lower case.
-fn law_text(law: Law) -> &'static str
-    ensures { result.now ≡ law_text law }
-{
-    match law {
-        Law::Name => "name",
-        Law::Depth => "depth",
-        Law::Parent => "parent",
-        Law::Pivots => "pivots",
-        Law::Count => "count",
-        Law::Entries => "entries",
-        Law::Holes => "holes",
-        Law::Gaps => "gaps",
-    }
 }
 
 /// Why the input is no image.

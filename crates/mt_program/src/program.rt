@@ -107,7 +107,7 @@ fn listed<R: Wait>(rt: &R, alloc: Global, bytes: &[u8]) -> Result<Vec<u8>, Failu
 }
 
 /// An image of a tree with exactly the ranges of the listing that the bytes are, built by `workers` threads at once.
-#[tactic(auto, using(crate::proofs::Places::place_fits, crate::proofs::Places::is_built, crate::proofs::Places::is_built_by, crate::proofs::Places::out_of_order, crate::proofs::Places::too_many_rows, crate::proofs::Places::no_listing))]
+#[tactic(auto, using(crate::proofs::Places::building))]
 fn built<R: Threads + Wait + Sync, G: Gate + Sync>(
     rt: &R,
     alloc: Global,

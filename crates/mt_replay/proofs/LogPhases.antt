@@ -1,6 +1,5 @@
 -- The phases of a log, one behind another.
-use Rattle.mt_replay.proofs.Prelude.{◌≡◌, ℕ, zero, suc, ◌+◌, ◌-◌, ◌<◌, ◌≤◌, Bool, true, false, List, [], ◌∷◌, ◌++◌, Some, length, map, take, drop, get_or, slice_get, slice_range, arith, refl, sym, ap, ◌∙◌, subst, append_assoc, length-append, false≢true, append-nil, take-append-drop, slice_get_within, get_or_from_slice_get, Item, Join, Line, AreInPlaceFrom, stepped_from, Log, Transcript, Step, AreDone, IsRun, listings_of, steps_of, IsReadable, trees_from, trees_of, lane_behind, phase_behind, Ran, histories_of, some_at, ran_is_run, asked_more, lane_more, phase_append, phase_more, stepped_more, stretch_apart, trees_behind, trees_more, IsOnePhase, is_join, lanes_in, same_phase, few_lanes, lanes_before, lanes_behind, some_lane, own_lines, phase_named, phase_placed, CanDo, IsPhaseBehind, NoJoinBetween, IsBegun, IsPlayed, PlayerState, most_calls}
-use Rattle.mt_base.specs.Limits.{most_lanes}
+use Rattle.mt_replay.proofs.Prelude.{◌≡◌, ℕ, zero, suc, ◌+◌, ◌-◌, ◌<◌, ◌≤◌, Bool, true, false, List, [], ◌∷◌, ◌++◌, Some, length, map, take, drop, get_or, slice_get, slice_range, arith, refl, sym, ap, ◌∙◌, subst, append_assoc, length-append, false≢true, append-nil, take-append-drop, slice_get_within, get_or_from_slice_get, Item, Join, Line, AreInPlaceFrom, stepped_from, Log, Transcript, Step, AreDone, IsRun, listings_of, steps_of, IsReadable, trees_from, trees_of, lane_behind, phase_behind, Ran, histories_of, some_at, ran_is_run, asked_more, lane_more, phase_append, phase_more, stepped_more, stretch_apart, trees_behind, trees_more, IsOnePhase, is_join, lanes_in, same_phase, few_lanes, lanes_before, lanes_behind, some_lane, own_lines, phase_named, phase_placed, CanDo, IsPhaseBehind, NoJoinBetween, IsBegun, IsPlayed, PlayerState, most_calls, most_lanes}
 
 -- A phase of this number begins at this place of a log.
 pub record BeginsAt (log : List Line) (from phase : ℕ) : Type 0 where

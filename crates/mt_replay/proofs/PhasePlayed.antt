@@ -109,10 +109,16 @@ module _ (lanes phase rows : ℕ) (front lines : List Line) (known : List KnownT
   all_declared = subst (λ (n : ℕ). AllByRecursion (λ (a : Asked). NamesBelow n a.item) (counts_in phase lines ++ asked)) (sym (begun.ran.count ∙ ap length declared_here)) (all_named (trees_of front) 0 phase lines ready.named)
 
   gone_by : IsPhase (lanes + 1) phase (counted ++ came) olds news × AreDone (counts_in phase lines ++ asked) (counted ++ came)
-  gone_by = lanes_phase (lanes + 1) phase asked (counts_in phase lines) counted run.answers olds news
-      (all_placed (lanes + 1) 0 phase lines (omega (arith, ready.lanes_are)))
-      all_declared (all_steps 0 phase lines) begun.counted_are begun.each all_answered
-      (tracked_long trees after long' ∙ sym (tracked_long trees before long)) gone_at
+  gone_by = lanes_phase (lanes + 1) phase asked (counts_in phase lines) counted run.answers olds news (record {
+    placed = all_placed (lanes + 1) 0 phase lines (omega (arith, ready.lanes_are));
+    named = all_declared;
+    stepped = all_steps 0 phase lines;
+    done = begun.counted_are;
+    counts = begun.each;
+    answered = all_answered;
+    count = tracked_long trees after long' ∙ sym (tracked_long trees before long);
+    gone = gone_at;
+  })
 
   asked_here : steps_of (front ++ lines) ≡ steps_of front ++ (counts_in phase lines ++ asked)
   asked_here = asked_behind front lines ∙ ap (λ z. steps_of front ++ z) (rw (ready.lane_is, ready.phase_is) (counts_first false 0 phase lines ready.one ready.placed))

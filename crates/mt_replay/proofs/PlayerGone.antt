@@ -3,7 +3,7 @@ use Rattle.mt_replay.proofs.Prelude.{◌≡◌, ℕ, ◌+◌, ◌<◌, List, ◌
 use Rattle.mt_replay.proofs.LanesRun.{mapped_at, of_mapped, within_mapped}
 use Rattle.mt_replay.proofs.PhasePlayed.{phase_played, stands}
 use Rattle.mt_replay.proofs.Recounting.{HasGrown, counts_grow}
-use Rattle.mt_replay.proofs.Seating.{tracked_at, tracked_long}
+use Rattle.mt_replay.proofs.Seating.{seated_by, tracked_at, tracked_long}
 use Rattle.mt_replay.proofs.TreeRows.{Found, all_from, found, seen_otherwise}
 
 module _ {P T : Type 0} (tree : T → SharedTree) (knows : P → Pass) (serves : T → P → Type 0) where
@@ -120,17 +120,8 @@ module _ {P T : Type 0} (tree : T → SharedTree) (knows : P → Pass) (serves :
 
       pub rests_gone : IsBetweenPhases tree knows serves many after
       rests_gone = record {
-        seated = record {
-          few_rows = rest.seated.few_rows;
-          rows = rest.seated.rows;
-          some_pass = rest.seated.some_pass;
-          passes = rest.seated.passes;
-          names = rest.seated.names;
-          count = gone.manned.count;
-          many_are = rest.seated.many_are;
-          most = rest.seated.most;
-          all = λ at t row within. subst (λ (n : ℕ). AreAll knows serves n (get_or p.trees.items at t) (get_or seats'.items at row).items) (sym passes) (gone.manned.all at t row within);
-        };
+        seated = seated_by tree knows serves many p seats' p.counts entries' rest.seated gone.manned.count
+            (λ at t row within. subst (λ (n : ℕ). AreAll knows serves n (get_or p.trees.items at t) (get_or seats'.items at row).items) (sym passes) (gone.manned.all at t row within));
         settled = all_from (λ (t : Tracked). IsSettled t.history t.passes) tracked' settled_at;
         closed = all_from IsClosed tracked' closed_now;
         counted = counts_grow tracked tracked' p.counts.items

@@ -1,22 +1,10 @@
 -- What the proofs beside this file take from the toolchain, from the crates below and from this crate's definitions, under one name. Declares nothing.
-pub use Rattle.std.proofs.Common.{Bool, Err, Global, IfOk, List, None, Ok, Option, Result, Some, Vec, [], ap, append_assoc, arith, drop, drop-cons, false, get_or, inl, inr, length, length-append, length-drop, length-take, map, max, refl, rules, slice_get, slice_range, slice_set, subst, suc, sym, take, true, zero, ℕ, ◌&&◌, ◌*◌, ◌++◌, ◌+◌, ◌-◌, ◌/◌, ◌<◌, ◌==◌, ◌∙◌, ◌∷◌, ◌≡◌, ◌≢◌, ◌≤◌, ◌⊎◌}
-pub use Rattle.std.proofs.Math.Seq.{map-set_same}
-pub use Rattle.std.proofs.lemmas.Bool.{cases_Bool, cases_eq, cases_lt, eq-eqb, false≢true, ne_eqb}
-pub use Rattle.std.proofs.lemmas.List.{append-nil, drop_more, get_or-map, get_or-set_other, get_or-set_same, get_or_default, length-map, length-set, map-append, map-set, take-append-drop, take-append-le, take_all, take_more}
-pub use Rattle.std.proofs.lemmas.List.Elements.{All-append, All-from_recursion, All-nil, All-push, recursion_from_All}
-pub use Rattle.std.proofs.lemmas.Option.{get_or_from_slice_get, slice_get-get_or, slice_get-map, slice_get_read, slice_get_within}
-pub use Rattle.std.proofs.lemmas.Result.{on_ok_weaker}
-pub use Rattle.std.specs.List.{All, AllByRecursion, range_with_len}
-pub use Rattle.std.specs.Option.{option_map, option_to_list}
-pub use Rattle.std.specs.Result.{OnOk}
+pub use Rattle.std.proofs.Common.{Bool, Err, Global, IfOk, List, None, Ok, OnOk, Option, Result, Some, Vec, [], ap, append_assoc, arith, drop, drop-cons, false, get_or, inl, inr, length, length-append, length-drop, length-take, map, max, option_map, option_to_list, refl, rules, slice_get, slice_range, slice_set, subst, suc, sym, take, true, zero, ℕ, ◌&&◌, ◌*◌, ◌++◌, ◌+◌, ◌-◌, ◌/◌, ◌<◌, ◌==◌, ◌∙◌, ◌∷◌, ◌≡◌, ◌≢◌, ◌≤◌, ◌⊎◌}
+pub use Rattle.mt_base.proofs.Std.{All, All-append, All-from_recursion, All-nil, All-push, AllByRecursion, append-nil, cases_Bool, cases_eq, cases_lt, drop_more, eq-eqb, false≢true, get_or-map, get_or-set_other, get_or-set_same, get_or_default, get_or_from_slice_get, length-map, length-set, map-append, map-set, map-set_same, ne_eqb, on_ok_weaker, range_with_len, recursion_from_All, slice_get-get_or, slice_get-map, slice_get_read, slice_get_within, take-append-drop, take-append-le, take_all, take_more}
 pub use Rattle.std.specs.Vec.{vec_capacity, vec_len, with_item, with_items}
 pub use Rattle.std.specs.Vec.Iter.{into_iter_items}
 pub use Rattle.mt_base.proofs.Goings.{begins_long, begins_on}
-pub use Rattle.mt_base.specs.History.{Record}
-pub use Rattle.mt_base.specs.Passes.{Begins, Saw}
-pub use Rattle.mt_log.specs.Phases.{stepped_after, stepped_from}
-pub use Rattle.mt_log.specs.Run.{Asked, Called, Counted, Looked, Outcome, listings_of}
-pub use Rattle.mt_log.specs.Trees.{CopyOf, Declared, Empty, IsReadable, NamesBelow, count_after, declared_by, trees_from}
+pub use Rattle.mt_log.specs.Names.{Asked, Begins, Called, CopyOf, Counted, Declared, Empty, IsReadable, Looked, NamesBelow, Outcome, Record, Saw, count_after, declared_by, listings_of, most_calls, most_lanes, stepped_after, stepped_from, trees_from}
 pub use Rattle.mt_log.specs.declared.lines.Item.TheVariants.{Ask, Join, Scan, Write}
 pub use Rattle.mt_linearize.proofs.Counting.{map_stays}
 pub use Rattle.mt_linearize.proofs.FewCalls.{lines_of_lanes, sum_upto}
@@ -50,9 +38,8 @@ pub use Rattle.mt_replay.specs.Images.{IsImageOfRun}
 pub use Rattle.mt_replay.specs.Lanes.{AreLanesFor, AreManned, AreSettled, CanDo, HaveGoneBy, HaveRun, IsLaneFor, IsPassAt, IsPhaseBehind, room_before}
 pub use Rattle.mt_replay.specs.Makes.{AreMade, BeginAs, IsMade, declared_kind, kinds_in}
 pub use Rattle.mt_replay.specs.Phases.{NoJoinBetween}
-pub use Rattle.mt_replay.specs.Players.{BeginsPhase, Checks, Copies, HasImage, HasRanges, IsBegun, IsBetweenPhases, IsClosed, IsCopyIn, IsPhaseBegun, IsPlayed, IsPlayedBy, PlayerState, player_state, rows_known, tracked_in}
+pub use Rattle.mt_replay.specs.Players.{BeginsPhase, Checks, Copies, HasImage, HasRanges, IsBegun, IsBetweenPhases, IsClosed, IsCopyIn, IsPhaseBegun, IsPlayed, IsPlayedBy, IsSeated, PlayerState, player_state, rows_known, tracked_in}
 pub use Rattle.mt_replay.specs.Prelude.{AreAnsweredUnless, AreDone, AreDoneEach, AreInPlaceFrom, AreNamedFrom, AtEach, Check, CountsRanges, Dup, Entry, HaveGone, History, IsImageOfMap, IsOnePhase, IsRun, IsSettled, IsSomeWorn, Item, Kind, KnownTree, Lane, LaneDesk, Line, Listing, Log, Pairs, Pass, Ran, Range, Settled, SharedTree, Step, Tracked, Transcript, Tree, answers_joined, asked_of_lane, counts_in, entry_of, is_join, is_step, lane_after, lane_behind, lanes_in, lanes_of, last_map, lines_of_lane, map_at, new_history, new_pass, new_tracked, phase_behind, renamed, steps_in, steps_of, take_turns, trees_of, with_records}
-pub use Rattle.mt_base.specs.Limits.{most_calls, most_lanes}
 pub use Rattle.mt_replay.specs.Trees.{AreAll, IsNewTree, seen_by, tracked_of}
 pub use Rattle.mt_replay.specs.Turns.{AllTurned, AreTurned, PhaseTurned, done_behind}
 pub use Rattle.mt_replay.specs.declared.players.Player.{Player}

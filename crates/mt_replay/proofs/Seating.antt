@@ -1,5 +1,5 @@
 -- A player's trees, and the rows of seats beside them.
-use Rattle.mt_replay.proofs.Prelude.{◌≡◌, ℕ, zero, Result, Ok, Err, IfOk, suc, ◌+◌, ◌<◌, ◌≤◌, List, [], ◌∷◌, ◌++◌, Some, None, length, map, All, slice_get, slice_set, get_or, arith, refl, sym, ap, ◌∙◌, subst, inl, inr, length-append, Vec, Global, AllByRecursion, range_with_len, option_map, with_item, map-set_same, cases_eq, get_or_default, get_or-set_other, get_or-set_same, length-map, length-set, map-append, All-from_recursion, All-push, slice_get_read, slice_get-map, Kind, Range, History, last_map, Pass, IsSettled, new_pass, Entry, KnownTree, renamed, Tracked, new_history, new_tracked, all_at, new_is_settled, SharedTree, Player, AreCounts, IsCountOf, AreAll, IsNewTree, seen_by, tracked_of, PlayerState, Checks, Copies, HasRanges, IsBetweenPhases, IsClosed, IsCopyIn, rows_known, player_state, tracked_in, most_calls}
+use Rattle.mt_replay.proofs.Prelude.{◌≡◌, ℕ, zero, Result, Ok, Err, IfOk, suc, ◌+◌, ◌<◌, ◌≤◌, List, [], ◌∷◌, ◌++◌, Some, None, length, map, All, slice_get, slice_set, get_or, arith, refl, sym, ap, ◌∙◌, subst, inl, inr, length-append, Vec, Global, AllByRecursion, range_with_len, option_map, with_item, map-set_same, cases_eq, get_or_default, get_or-set_other, get_or-set_same, length-map, length-set, map-append, All-from_recursion, All-push, slice_get_read, slice_get-map, Kind, Range, History, last_map, Pass, IsSettled, new_pass, Entry, KnownTree, renamed, Tracked, new_history, new_tracked, all_at, new_is_settled, SharedTree, Player, AreCounts, IsCountOf, AreAll, IsNewTree, seen_by, tracked_of, PlayerState, Checks, Copies, HasRanges, IsBetweenPhases, IsClosed, IsCopyIn, IsSeated, rows_known, player_state, tracked_in, most_calls}
 use Rattle.mt_log.specs.declared.transcripts.Said.TheVariants as said
 use Rattle.mt_replay.specs.declared.counts.Counted.{Counted}
 use Rattle.mt_replay.proofs.Recounting.{count_at, counts_long, counts_push, counts_set}
@@ -108,10 +108,16 @@ module _ {P T : Type 0} (tree : T → SharedTree) (knows : P → Pass) (serves :
         is = is;
       }
 
+  -- a row of seats beside each tree, in place of those that were there
+  pub seated_by : (p : Player P T) (seats : Vec (Vec P Global) Global) (counts : Vec Counted Global) (entries : Vec Entry Global) → IsSeated tree knows serves many p → length seats.items ≡ length p.trees.items
+      → ((at : ℕ) (t : T) (row : Vec P Global) → at < length p.trees.items → AreAll knows serves p.passes (get_or p.trees.items at t) (get_or seats.items at row).items)
+      → IsSeated tree knows serves many (record p { seats = seats; counts = counts; entries = entries })
+  seated_by p seats counts entries s count all = record { few_rows = s.few_rows; rows = s.rows; some_pass = s.some_pass; passes = s.passes; names = s.names; count = count; many_are = s.many_are; most = s.most; all = all }
+
   -- the entries are no part of it
   pub still_rests : (p : Player P T) (entries : Vec Entry Global) → AtRest p → AtRest (record p { entries = entries })
   still_rests p entries r = record {
-    seated = record { few_rows = r.seated.few_rows; rows = r.seated.rows; some_pass = r.seated.some_pass; passes = r.seated.passes; names = r.seated.names; count = r.seated.count; many_are = r.seated.many_are; most = r.seated.most; all = r.seated.all };
+    seated = seated_by p p.seats p.counts entries r.seated r.seated.count r.seated.all;
     settled = r.settled;
     closed = r.closed;
     counted = r.counted;
@@ -126,17 +132,8 @@ module _ {P T : Type 0} (tree : T → SharedTree) (knows : P → Pass) (serves :
       let all_is : AreAll knows serves p.passes t row'.items = subst (λ n. AreAll knows serves n t row'.items) s.many_is all in
       let at_place : (d : T) → get_or p.trees.items at d ≡ t = λ d. get_or_default p.trees.items at d t within ∙ sym t_is in (
         record {
-          seated = record {
-            few_rows = r.seated.few_rows;
-            rows = r.seated.rows;
-            some_pass = r.seated.some_pass;
-            passes = r.seated.passes;
-            names = r.seated.names;
-            count = length-set p.seats.items at row' ∙ r.seated.count;
-            many_are = r.seated.many_are;
-            most = r.seated.most;
-            all = pair_set (λ x (v : Vec P Global). AreAll knows serves p.passes x v.items) p.trees.items p.seats.items at row' r.seated.count r.seated.all within (λ d. subst (λ x. AreAll knows serves p.passes x row'.items) (sym (at_place d)) all_is);
-          };
+          seated = seated_by p (with_item p.seats at row') p.counts p.entries r.seated (length-set p.seats.items at row' ∙ r.seated.count)
+              (pair_set (λ x (v : Vec P Global). AreAll knows serves p.passes x v.items) p.trees.items p.seats.items at row' r.seated.count r.seated.all within (λ d. subst (λ x. AreAll knows serves p.passes x row'.items) (sym (at_place d)) all_is));
           settled = subst (λ (rows : List (List Pass)). All (λ (z : Tracked). IsSettled z.history z.passes) (tracked_in (map tree p.trees.items) rows)) (sym same) r.settled;
           closed = subst (λ (rows : List (List Pass)). All IsClosed (tracked_in (map tree p.trees.items) rows)) (sym same) r.closed;
           counted = subst (λ (rows : List (List Pass)). AreCounts (tracked_in (map tree p.trees.items) rows) p.counts.items) (sym same) r.counted;
@@ -151,7 +148,7 @@ module _ {P T : Type 0} (tree : T → SharedTree) (knows : P → Pass) (serves :
       let (again, same) = rests_again p at t row row' r within t_is row_is all stays in
       let s = stands p at t row r within t_is row_is in (
         record {
-          seated = record { few_rows = again.seated.few_rows; rows = again.seated.rows; some_pass = again.seated.some_pass; passes = again.seated.passes; names = again.seated.names; count = again.seated.count; many_are = again.seated.many_are; most = again.seated.most; all = again.seated.all };
+          seated = seated_by p (with_item p.seats at row') (with_item p.counts at c) p.entries r.seated again.seated.count again.seated.all;
           settled = again.settled;
           closed = again.closed;
           counted = counts_set (tracked (record p { seats = with_item p.seats at row' })) p.counts.items at (tracked_of (tree t) (map knows row.items)) c again.counted

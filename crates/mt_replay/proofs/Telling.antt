@@ -9,12 +9,12 @@ empty_before (suc lane) = refl
 pub room_behind : (first : List Entry) (lane : ℕ) → room_before first (lane + 1) ≡ []
 room_behind first lane = let next : suc lane ≡ lane + 1 = omega arith in subst (λ (n : ℕ). room_before first n ≡ []) next refl
 
-abbrev pub told_of : ℕ → List Line → (ℕ → List (List Step)) → List Entry
-told_of phase lines answers = map entry_of (answers_joined (take_turns (lanes_of (steps_in 0 phase lines)) answers))
+abbrev pub told_in_turn : ℕ → List Line → (ℕ → List (List Step)) → List Entry
+told_in_turn phase lines answers = map entry_of (answers_joined (take_turns (lanes_of (steps_in 0 phase lines)) answers))
 
 -- one lane: its room has been that of the program
 pub told_alone : (phase : ℕ) (lines : List Line) (answers : ℕ → List (List Step)) (entries room : List Entry) → AllByRecursion (λ (a : Asked). a.lane < 1) (steps_in 0 phase lines)
-    → ((lane : ℕ) → AreDoneEach (asked_of_lane lane (steps_in 0 phase lines)) (answers lane)) → room ≡ entries ++ map entry_of (answers_joined (answers 0)) → room ≡ entries ++ told_of phase lines answers
+    → ((lane : ℕ) → AreDoneEach (asked_of_lane lane (steps_in 0 phase lines)) (answers lane)) → room ≡ entries ++ map entry_of (answers_joined (answers 0)) → room ≡ entries ++ told_in_turn phase lines answers
 told_alone phase lines answers entries room alone answered is =
     let asked : List Asked = steps_in 0 phase lines in
     is ∙ ap (λ (steps : List Step). entries ++ map entry_of steps) (sym (in_order asked answers alone (subst (λ (z : List Asked). AreDoneEach z (answers 0)) (all_its_own asked alone) (answered 0))))
@@ -22,7 +22,7 @@ told_alone phase lines answers entries room alone answered is =
 -- several lanes, each with a room of its own
 pub told_together : {L : Type 0} (room : L → List Entry) (lanes phase : ℕ) (lines : List Line) (answers : ℕ → List (List Step)) (entries entries' : List Entry) (ls : List L) → length ls ≡ lanes → AllByRecursion (λ (a : Asked). a.lane < lanes) (steps_in 0 phase lines) → Pairs (λ (a b : Line). b.number ≢ a.number) lines
     → ((lane : ℕ) → AreDoneEach (asked_of_lane lane (steps_in 0 phase lines)) (answers lane)) → ((lane : ℕ) (d : L) → lane < lanes → room (get_or ls lane d) ≡ room_before [] lane ++ map entry_of (answers_joined (answers lane)))
-    → entries' ≡ entries ++ in_turn 0 lines (map room ls) → entries' ≡ entries ++ told_of phase lines answers
+    → entries' ≡ entries ++ in_turn 0 lines (map room ls) → entries' ≡ entries ++ told_in_turn phase lines answers
 told_together {L} room lanes phase lines answers entries entries' ls count within apart answered rooms is =
     let long : length (map room ls) ≡ lanes = length-map ls room ∙ count in
     is ∙ ap (λ (es : List Entry). entries ++ es) (answers_told phase lines (map room ls) answers

@@ -2,10 +2,9 @@
 -- Source: this project's own.
 use Rattle.std.specs.Prelude.{◌≡◌, ◌≢◌, ◌+◌, ◌<◌, ◌≤◌, ◌++◌, ℕ, zero, suc, Some, None, false, All, List, [], length, map, slice_get, slice_index_or, vec_len, vec_capacity, Vec}
 use Rattle.std.specs.Global.{Global}
-use Rattle.mt_replay.specs.Prelude.{Pass, Settled, Line, Entry, AreInPlaceFrom, Step, entry_of, AreNamedFrom, trees_of, HaveGone, lane_behind, phase_behind, asked_of_lane, AreDoneEach, take_turns, lanes_of, answers_joined, Pairs, Lane, LaneDesk, IsOnePhase, lanes_in, lines_of_lane, room_of, steps_in, AreAnsweredUnless, AreLines, IsSomeWorn, SharedTree, AtEach}
+use Rattle.mt_replay.specs.Prelude.{Pass, Settled, Line, Entry, AreInPlaceFrom, Step, entry_of, AreNamedFrom, trees_of, HaveGone, lane_behind, phase_behind, asked_of_lane, AreDoneEach, take_turns, lanes_of, answers_joined, Pairs, Lane, LaneDesk, IsOnePhase, lanes_in, lines_of_lane, room_of, steps_in, AreAnsweredUnless, AreLines, IsSomeWorn, SharedTree, AtEach, most_calls, most_lanes}
 use Rattle.mt_replay.specs.Players.{rows_known}
 use Rattle.mt_replay.specs.Trees.{AreAll, seen_by}
-use Rattle.mt_base.specs.Limits.{most_calls, most_lanes}
 
 -- this lane's pass (handle) in the row of the tree of this number
 pub record IsPassAt (rows : List (List Pass)) (number lane : ℕ) (p : Pass) : Type 0 where

@@ -1,8 +1,7 @@
 -- The empty trees that the lines of a phase declare, which are made before the lines are gone through.
 -- Source: this project's own.
-use Rattle.std.specs.Prelude.{◌≡◌, ℕ, IfOk, List, [], ◌∷◌, Result, length, map, take, Vec}
+use Rattle.std.specs.Prelude.{◌≡◌, ℕ, IfOk, List, [], ◌∷◌, Result, length, map, take, Vec, flat_map}
 use Rattle.std.specs.Global.{Global}
-use Rattle.std.specs.List.{flat_map}
 use Rattle.mt_replay.specs.Prelude.{Kind, Pass, Item, Tree, Line, SharedTree}
 use Rattle.mt_replay.specs.Trees.{AreAll, IsNewTree}
 

@@ -2,12 +2,11 @@
 -- Source: this project's own.
 use Rattle.std.specs.Prelude.{◌≡◌, ◌<◌, ◌≤◌, ℕ, All, List, [], ◌∷◌, ◌++◌, Some, None, length, map, slice_get, slice_index_or, Vec}
 use Rattle.std.specs.Global.{Global}
-use Rattle.mt_replay.specs.Prelude.{Kind, Range, last_map, Pass, IsSettled, most_rows, IsImageOfMap, Item, Tree, Dup, Check, Line, Entry, Said, KnownTree, Step, AreDone, entry_of, steps_of, renamed, trees_of, CountsRanges, Tracked, new_tracked, Ran, counts_in, SharedTree}
+use Rattle.mt_replay.specs.Prelude.{Kind, Range, last_map, Pass, IsSettled, most_rows, IsImageOfMap, Item, Tree, Dup, Check, Line, Entry, Said, KnownTree, Step, AreDone, entry_of, steps_of, renamed, trees_of, CountsRanges, Tracked, new_tracked, Ran, counts_in, SharedTree, fewest_rows, most_calls}
 use Rattle.mt_log.specs.declared.transcripts.Said.TheVariants as said
 use Rattle.mt_replay.specs.declared.players.Player.{Player}
 use Rattle.mt_replay.specs.Counts.{AreCounts}
 use Rattle.mt_replay.specs.Trees.{AreAll, IsNewTree, player_passes, tracked_of}
-use Rattle.mt_base.specs.Limits.{fewest_rows, most_calls}
 
 -- how many nodes and handles each tree has; the declared trees, with their names and as they are; and the entries (answers)
 pub record PlayerState : Type 0 where

@@ -1,14 +1,6 @@
 -- What the definitions beside this file take from the toolchain and from the crates below, under one name. Declares nothing.
-pub use Rattle.mt_base.specs.History.{History, last_map, map_at}
-pub use Rattle.mt_base.specs.Passes.{IsSettled, Pass, Settled, new_pass, with_records}
-pub use Rattle.mt_base.specs.Width.{most_rows}
-pub use Rattle.mt_base.specs.declared.kinds.Kind.{Kind}
-pub use Rattle.mt_base.specs.declared.ranges.Range.{Range}
 pub use Rattle.mt_image.specs.Images.{IsImageOfMap}
-pub use Rattle.mt_log.specs.Phases.{AreInPlaceFrom}
-pub use Rattle.mt_log.specs.Run.{AreDone, IsRun, Step, entry_of, lane_after, steps_of}
-pub use Rattle.mt_log.specs.Trees.{AreNamedFrom, renamed, trees_of}
-pub use Rattle.mt_base.specs.Limits.{most_lanes}
+pub use Rattle.mt_log.specs.Names.{AreDone, AreInPlaceFrom, AreNamedFrom, History, IsRun, IsSettled, Kind, Pass, Range, Settled, Step, entry_of, fewest_rows, lane_after, last_map, map_at, most_calls, most_lanes, most_rows, new_pass, renamed, steps_of, trees_of, with_records}
 pub use Rattle.mt_log.specs.declared.lines.Item.{Item}
 pub use Rattle.mt_log.specs.declared.lines.Item.TheVariants.{Check, Dup, Tree}
 pub use Rattle.mt_log.specs.declared.lines.Line.{Line}

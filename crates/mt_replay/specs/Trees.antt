@@ -2,8 +2,7 @@
 -- Source: this project's own.
 use Rattle.std.specs.Prelude.{◌≡◌, ◌+◌, ℕ, Some, All, List, [], ◌∷◌, length, map, slice_get}
 use Rattle.std.specs.List.{range_with_len}
-use Rattle.mt_replay.specs.Prelude.{Kind, Range, History, last_map, Pass, new_pass, with_records, Tracked, new_history, SharedTree}
-use Rattle.mt_base.specs.Limits.{most_calls, most_lanes}
+use Rattle.mt_replay.specs.Prelude.{Kind, Range, History, last_map, Pass, new_pass, with_records, Tracked, new_history, SharedTree, most_calls, most_lanes}
 
 -- a tree of a player has a handle for each lane, and one of the player's own; it takes as many calls as a tree may have
 abbrev pub player_passes : ℕ

@@ -19,7 +19,7 @@ use crate::trees::Plays;
 use mt_base::NoMemory;
 use mt_desks::{Passage, lanes_in};
 use mt_io::Gate;
-use mt_log::{Entries, Item, Line, Listings, Log, Transcript};
+use mt_log::{Item, Line, ListOf, Log, Transcript};
 use std::alloc::Global;
 use std::sync::Wait;
 use std::thread::Threads;
@@ -240,8 +240,8 @@ pub fn play<
     let lists = player.list(rt, alloc)?;
     Ok(Transcript {
         version: log.version,
-        entries: Entries::new(player.entries),
-        lists: Listings::new(lists),
+        entries: ListOf::new(player.entries),
+        lists: ListOf::new(lists),
     })
 }
 

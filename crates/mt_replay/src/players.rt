@@ -21,7 +21,7 @@ use crate::rows::{copy_settled, count_settled, image_settled, list_settled};
 use crate::trees::Plays;
 use mt_base::{Kind, NoMemory, Range};
 use mt_desks::Passage;
-use mt_log::{Entry, Item, KnownTree, Line, Listing, RangeList, Said, Word};
+use mt_log::{Entry, Item, KnownTree, Line, ListOf, Listing, Said, Word};
 use std::alloc::Global;
 use std::sync::Wait;
 use std::thread::Threads;
@@ -283,7 +283,7 @@ impl<P: Passage + Drop + Send, T: Plays<P> + Send> Player<P, T> {
             lists.push(Listing {
                 name: known.name,
                 kind: known.kind,
-                ranges: RangeList::new(ranges),
+                ranges: ListOf::new(ranges),
             })?;
         }
         Ok(lists)

@@ -2,7 +2,7 @@
 
 ghost use Rattle.std.specs.Prelude.{◌≡◌, ◌≤◌, length, map, IfOk};
 ghost use Rattle.mt_base.specs.History.{last_map};
-ghost use Rattle.mt_base.specs.Passes.{IsSettled, Settled};
+ghost use Rattle.mt_base.specs.Passes.{IsSettled};
 ghost use Rattle.mt_image.specs.Images.{IsImageOfMap};
 ghost use Rattle.mt_replay.specs.Trees.{AreAll, IsNewTree, seen_by};
 
@@ -11,19 +11,6 @@ use mt_base::{NoMemory, Range};
 use mt_desks::Passage;
 use std::alloc::Global;
 use std::sync::Wait;
-
-/// Settles all handles of a tree.
-pub(crate) fn settle_row<R: Wait, P: Passage + Drop, T: Plays<P>>(
-    rt: &R,
-    tree: &T,
-    row: &mut Vec<P>,
-)
-    requires { AreAll P.knows T.serves (T.many tree.now) tree.now row.old.items }
-    ensures all { AreAll P.knows T.serves (T.many tree.now) tree.now row.new.items }
-    ensures settled { Settled (seen_by (T.tree tree.now).history (map P.knows row.new.items)) (map P.knows row.old.items) (map P.knows row.new.items) }
-{
-    tree.settle(rt, row.as_mut_slice());
-}
 
 /// Checks a tree, and returns how many ranges it has.
 pub(crate) fn count_settled<R: Wait, P: Passage + Drop, T: Plays<P>>(

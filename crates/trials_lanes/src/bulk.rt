@@ -2,13 +2,12 @@
 //! of mt_bulk defines.
 
 use crate::asserts::same;
+use crate::meetings::Meeting;
 use mt_base::{Kind, Range};
 use mt_bulk::{BulkError, build};
-use mt_io::Gate;
 use mt_rows::{PlainRows, Rows};
 use std::alloc::Global;
 use std::process::Abort;
-use std::sync::atomic::{AtomicU64, Ordering};
 use std::test::Fail;
 
 macro_rules! r {
@@ -56,39 +55,10 @@ fn errors_are_told(rt: HostRuntime) -> Result<(), Fail> {
     expect_texts(&rt, rt.alloc(), TEXTS)
 }
 
-/// Where two workers meet: each is held in its turn 1 until both have reached theirs.
-#[derive(Drop)]
-struct Meeting {
-    come: AtomicU64,
-    missed: AtomicU64,
-}
-
-impl Gate for Meeting {
-    fn turn(&self, _lane: u32, number: u64) {
-        if number != 1 {
-            return;
-        }
-        self.come.fetch_add(1, Ordering::SeqCst);
-        for _ in 0..200_000_000u64 {
-            if self.come.load(Ordering::SeqCst) == 2 {
-                return;
-            }
-        }
-        self.missed.fetch_add(1, Ordering::SeqCst);
-    }
-}
-
 #[test]
 fn workers_build_at_once(rt: HostRuntime) {
-    let gate = Meeting {
-        come: AtomicU64::new(0),
-        missed: AtomicU64::new(0),
-    };
+    let gate = Meeting::of(2);
     let built = build(&rt, rt.alloc(), Kind::Range, &EVERY_OTHER, 2, &gate);
     same(&rt, answer(built), Ok((4, 4884)), "the tree");
-    let met = (
-        gate.come.load(Ordering::SeqCst),
-        gate.missed.load(Ordering::SeqCst),
-    );
-    same(&rt, met, (2, 0), "the workers");
+    same(&rt, gate.met(), (2, 0), "the workers");
 }

@@ -2,6 +2,7 @@ ghost use Rattle.std.specs.Prelude.{IfOk};
 ghost use Rattle.mt_lanes.specs.Lanes.{CanRun};
 
 use crate::asserts::same;
+use crate::meetings::Meeting;
 use mt_io::Gate;
 use mt_lanes::{Desk, Lane, run_lanes};
 use std::alloc::{AllocError, Global};
@@ -48,28 +49,6 @@ fn lane(alloc: Global, lane: u32, steps: u32) -> Result<Lane<Journal>, AllocErro
     })
 }
 
-/// Where three lanes meet: each is held in its turn 1 until all have reached theirs.
-#[derive(Drop)]
-struct Meeting {
-    come: AtomicU64,
-    missed: AtomicU64,
-}
-
-impl Gate for Meeting {
-    fn turn(&self, _lane: u32, number: u64) {
-        if number != 1 {
-            return;
-        }
-        self.come.fetch_add(1, Ordering::SeqCst);
-        for _ in 0..200_000_000u64 {
-            if self.come.load(Ordering::SeqCst) == 3 {
-                return;
-            }
-        }
-        self.missed.fetch_add(1, Ordering::SeqCst);
-    }
-}
-
 #[test]
 fn lanes_run_at_once(rt: HostRuntime) -> Result<(), Fail> {
     let mut lanes = [
@@ -77,16 +56,9 @@ fn lanes_run_at_once(rt: HostRuntime) -> Result<(), Fail> {
         lane(rt.alloc(), 1, 3)?,
         lane(rt.alloc(), 2, 2)?,
     ];
-    let gate = Meeting {
-        come: AtomicU64::new(0),
-        missed: AtomicU64::new(0),
-    };
+    let gate = Meeting::of(3);
     run_lanes(&rt, &mut lanes, &gate);
-    let met = (
-        gate.come.load(Ordering::SeqCst),
-        gate.missed.load(Ordering::SeqCst),
-    );
-    same(&rt, met, (3, 0), "the lanes");
+    same(&rt, gate.met(), (3, 0), "the lanes");
     Ok(())
 }
 

@@ -11,4 +11,6 @@ mod lanes;
 #[cfg(test)]
 mod locked;
 #[cfg(test)]
+mod meetings;
+#[cfg(test)]
 mod streams;

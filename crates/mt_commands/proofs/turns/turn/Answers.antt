@@ -1,7 +1,6 @@
-use Rattle.mt_commands.proofs.Prelude.{rules, ◌≡◌, ◌≤◌, ◌+◌, List, length, sym, ap, ◌∙◌, subst, arith, Range, Record, Tree, map_seen, pass_in, still_of, HasOnePass, IsFew, turns_at, turn}
+use Rattle.mt_commands.proofs.Prelude.{rules, ◌≡◌, ◌≤◌, ◌+◌, List, length, sym, ap, ◌∙◌, subst, arith, Range, Record, Tree, map_seen, pass_in, still_of, HasOnePass, IsFew, turns_at, turn, most_calls, most_steps}
 use Rattle.mt_commands.proofs.Turning.{shows_same}
 use Rattle.mt_commands.proofs.turns.turn.Goals as goal
-use Rattle.mt_base.specs.Limits.{most_calls, most_steps}
 
 pub turn_under-requires-clause-only : goal.turn_under-requires-clause-only
 turn_under-requires-clause-only g c = subst HasOnePass (sym c.lock-write.ensures.tree) c.requires.only

@@ -1,10 +1,9 @@
-use Rattle.mt_commands.proofs.Prelude.{◌≡◌, ◌≤◌, ◌+◌, List, Some, length, sym, ap, ◌∙◌, subst, Erase, Range, acted, Tree, map_seen, pass_in, HasOnePass, found_in, map_behind}
+use Rattle.mt_commands.proofs.Prelude.{◌≡◌, ◌≤◌, ◌+◌, List, Some, length, sym, ap, ◌∙◌, subst, Erase, Range, acted, Tree, map_seen, pass_in, HasOnePass, found_in, map_behind, most_steps}
 use Rattle.mt_base.specs.declared.kinds.Kind.TheVariants as kinds
 use Rattle.mt_commands.proofs.Drawing.{turned}
 use Rattle.mt_commands.proofs.FewTurns.{drawn_few}
 use Rattle.mt_commands.proofs.OnlyCalls.{only_on}
 use Rattle.mt_commands.proofs.turns.turn_under.Goals as goal
-use Rattle.mt_base.specs.Limits.{most_steps}
 
 pub give_back-requires-clause-only : goal.give_back-requires-clause-only
 give_back-requires-clause-only c = subst HasOnePass (sym (ap (λ r. r.now) c.draw-drawn.ensures.tree)) c.requires.only

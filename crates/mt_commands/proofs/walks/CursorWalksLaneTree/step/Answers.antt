@@ -10,7 +10,7 @@ returns-clause-walked c =
     let read = c.advance.result in
     let ensured = c.advance.ensures in
     walked (opened old.tree.now) (opened new.tree.now) old.pass.ghost_name new.pass.ghost_name (pass_in old.pass.now) (pass_in new.pass.now) old.walk.epoch old.walk.at new.walk.at old.walk.max new.walk.max read.lo read.hi (steps_made old.pass.now) (steps_made new.pass.now) read.value
-    (ap (λ t. opened t.now) ensured.tree) ensured.same_reference ensured.read ensured.section ensured.at ensured.max c.requires ensured.takes.steps
+    (ap (λ t. opened t.now) ensured.tree) ensured.same_reference ensured.walked.read ensured.walked.section ensured.walked.at ensured.walked.max c.requires ensured.walked.takes.steps
 
 pub returns-clause-own : goal.returns-clause-own
-returns-clause-own c = c.advance.ensures.epoch ∙ sym (ap (λ (p : Pass). p.standing) c.advance.ensures.section.pass)
+returns-clause-own c = c.advance.ensures.walked.epoch ∙ sym (ap (λ (p : Pass). p.standing) c.advance.ensures.walked.section.pass)

@@ -1,6 +1,5 @@
 use Rattle.mt_replay.proofs.Prelude.{◌≡◌, IfOk, map, subst, last_map, AreAll, IsNewTree, seen_by, IsCopyIn, player_state}
-use Rattle.mt_replay.proofs.Seating.{if_ok}
-use Rattle.mt_replay.proofs.Seating.{stands, rests_again, copy_in}
+use Rattle.mt_replay.proofs.Seating.{if_ok, stands, rests_again, copy_in}
 use Rattle.mt_replay.proofs.players.Player.copy_of.Goals as goal
 
 pub copy_settled-requires-clause-all : goal.copy_settled-requires-clause-all

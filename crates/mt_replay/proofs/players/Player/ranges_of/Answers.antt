@@ -1,6 +1,5 @@
 use Rattle.mt_replay.proofs.Prelude.{◌≡◌, map, last_map, seen_by, tracked_of, HasRanges, player_state}
-use Rattle.mt_replay.proofs.Seating.{if_ok}
-use Rattle.mt_replay.proofs.Seating.{stands, rests_again}
+use Rattle.mt_replay.proofs.Seating.{if_ok, stands, rests_again}
 use Rattle.mt_replay.proofs.players.Player.ranges_of.Goals as goal
 
 pub list_settled-requires-clause-all : goal.list_settled-requires-clause-all
