@@ -48,7 +48,7 @@ static void must(uint32_t status)
 #define ALLOCATED 4096
 #define HIGHEST ((UINT64_C(1) << 48) - 1)
 
-#define WORKS(P, HANDLE, CALLS, ANSWERS, READ, START)                                                   \
+#define WORKS(P, HANDLE, CALLS, ANSWERS, READ, START, WINDOW, ENTRY)                                    \
     static void P##store(HANDLE *tree, u64 i, u64 entry)                                                \
     {                                                                                                   \
         ANSWERS;                                                                                        \
@@ -75,11 +75,9 @@ static void must(uint32_t status)
     static u64 P##loads(HANDLE *tree, u64 x, u64 count)                                                 \
     {                                                                                                   \
         u64 sum = 0;                                                                                    \
-        READ;                                                                                           \
-        for (u64 n = 0; n < count; n++) {                                                               \
-            CALLS(load)(tree, draw(&x, 16 * ranges), &read);                                            \
-            sum += read.entry;                                                                          \
-        }                                                                                               \
+        WINDOW;                                                                                         \
+        for (u64 n = 0; n < count; n++)                                                                 \
+            sum += ENTRY(tree, draw(&x, 16 * ranges));                                                  \
         return sum;                                                                                     \
     }                                                                                                   \
     static void P##load(HANDLE *tree) { sink = P##loads(tree, 7, times); }                              \
@@ -141,7 +139,6 @@ static void must(uint32_t status)
 
 #define OWN(call) maple_##call
 #define SHARED(call) SHARED_##call
-#define SHARED_load maple_shared_load
 #define SHARED_step maple_shared_step
 #define SHARED_store maple_wait_store
 #define SHARED_erase maple_wait_erase
@@ -149,8 +146,9 @@ static void must(uint32_t status)
 #define SHARED_ralloc maple_wait_ralloc
 struct own_erased { struct maple_range it; };
 struct shared_erased { struct maple_done it; };
-WORKS(own_, struct maple_tree, OWN, u64 answer, struct maple_range read, answer)
-WORKS(shared_, struct maple_user, SHARED, struct maple_done answer, struct maple_read read, answer.word)
+#define SHARED_ENTRY(user, index) maple_shared_entry(user, index, &window)
+WORKS(own_, struct maple_tree, OWN, u64 answer, struct maple_range read, answer, , maple_entry)
+WORKS(shared_, struct maple_user, SHARED, struct maple_done answer, struct maple_read read, answer.word, struct maple_window window, SHARED_ENTRY)
 
 /* Loads and steps in batches, of a tree of one's own. */
 #define BATCH 64

@@ -2,6 +2,7 @@
 
 ghost use Rattle.std.specs.Prelude.{◌≡◌, ◌<◌, All};
 ghost use Rattle.std.specs.Arc.{arc_value};
+ghost use Rattle.mt_base.specs.Blanks.{IsBlankOf};
 ghost use Rattle.mt_tree.specs.Trees.{IsPassOf};
 
 use crate::trees::{TimedTree, Visit};
@@ -15,9 +16,7 @@ use std::sync::{Arc, Wait};
 /// The entry at an index, or 0, in a number of steps that is counted.
 fn load_counted<L: Ledger>(tree: &mt_tree::Tree, pass: &mut Pass, index: u64, blank: Blank) -> u64
     requires of { IsPassOf tree.now pass.old }
-    requires name { blank.name ≡ L.name }
-    requires parts { blank.parts ≡ L.parts }
-    requires some { 0 < blank.parts }
+    requires blank { IsBlankOf L.name L.parts blank.name blank.parts }
     ensures { IsPassOf tree.now pass.new }
 {
     let mut steps = Steps::<L>::new(blank);
@@ -60,9 +59,7 @@ fn take_all<L: Ledger>(cursor: &mut Cursor<'_>, steps: &mut Steps<L>) -> Visit
 /// Visits all ranges in order by one cursor, in a number of steps that is counted.
 fn visit_counted<L: Ledger>(tree: &mt_tree::Tree, pass: &mut Pass, blank: Blank) -> Visit
     requires of { IsPassOf tree.now pass.old }
-    requires name { blank.name ≡ L.name }
-    requires parts { blank.parts ≡ L.parts }
-    requires some { 0 < blank.parts }
+    requires blank { IsBlankOf L.name L.parts blank.name blank.parts }
     ensures { IsPassOf tree.now pass.new }
 {
     let mut steps = Steps::<L>::new(blank);

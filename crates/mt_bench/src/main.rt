@@ -44,7 +44,9 @@ use std::{env, io};
 
 /// What is written where the words are no command.
 const USAGE: &str =
-    "usage: mt_bench [t][n][ra]{load,load_many,iter,step_many,store_seq,store_rand,overwrite,wide,erase} N, [t][n]a{alloc,ralloc,holes,churn} N, [n][ra]{nodes_seq,nodes_rand,check,dup,dup_most,image,read} N, [n][ra]{readers,conc} N READERS, [n][ra]lanes N LANES, [n][ra]build N WORKERS, sums";
+    "usage: mt_bench [t][n][ra]{load,load_many,iter,step_many,store_seq,store_rand,overwrite,wide,erase} N, \
+    [t][n]a{alloc,ralloc,holes,churn} N, [n][ra]{nodes_seq,nodes_rand,check,dup,dup_most,image,read} N, \
+    [n][ra]{readers,conc} N READERS, [n][ra]lanes N LANES, [n][ra]build N WORKERS, sums";
 
 /// The time and the check sum of a task, or none if a call was not done.
 fn outcome_of<R: Threads + Wait + Clock + Sync>(
